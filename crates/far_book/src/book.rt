@@ -57,7 +57,7 @@ use far_core::{Kind, Shape};
 use far_device::Device;
 use far_hand::Hand;
 use far_log::{LogRow, Span, WalkFault, walk};
-use far_word::{HeadWord, LOG_WORDS, Place, PtrWord, Refused, size_of, words_for};
+use far_word::{HeadWord, LOG_WORDS, LONGEST, Place, PtrWord, Refused, size_of, words_for};
 use std::alloc::Global;
 use std::marker::Model;
 
@@ -71,6 +71,8 @@ pub struct Book<N: Hand + Drop, D: Device + Drop> {
     device: D,
     alloc: Global,
     ledger: Ledger,
+    // Where the bytes of far objects are read to.
+    buffer: Vec<u8>,
 }
 
 impl<N: Hand + Drop, D: Device + Drop> Model for Book<N, D> {
@@ -100,11 +102,15 @@ impl<N: Hand + Drop, D: Device + Drop> Book<N, D> {
         let Ok(ledger) = Ledger::new(alloc, shape) else {
             return Err(Refused::Memory);
         };
+        let Ok(buffer) = Vec::with_capacity(alloc, LONGEST as usize) else {
+            return Err(Refused::Memory);
+        };
         Ok(Book {
             near,
             device,
             alloc,
             ledger,
+            buffer,
         })
     }
 

@@ -49,6 +49,16 @@ pub trait Device {
         ensures given { honest self.old ≡ true → IfOk result (λ bytes. IfSome (contents self.old id) (λ stored. bytes.items ≡ stored)) }
         ensures kept { contents self.new ≡ contents self.old };
 
+    /// One read, as [`Device::read`], whose answer may stand in a buffer that the caller gives up for it: a device may take no memory
+    /// then.
+    fn read_into(&mut self, id: u32, _buffer: Vec<u8>) -> Result<Vec<u8>, DeviceFault>
+        ensures called { reads self.old id (given result) self.new }
+        ensures given { honest self.old ≡ true → IfOk result (λ bytes. IfSome (contents self.old id) (λ stored. bytes.items ≡ stored)) }
+        ensures kept { contents self.new ≡ contents self.old }
+    {
+        self.read(id)
+    }
+
     /// Takes the key away, with what is under it, or leaves all as it was.
     fn forget(&mut self, id: u32)
         ensures called { lets_go self.old id self.new }

@@ -1,14 +1,14 @@
 //! A device in memory.
 
-ghost use Rattle.std.specs.Prelude.{ℕ, ◌≡◌, ◌+◌, ◌%◌, ◌^◌, ◌<◌, ◌≤◌, true, IsTrue, Some, None, IfOk, IfErr, IfNone, IfSome, OnOk, OnErr};
-ghost use Rattle.std.specs.Vec.{vec_len};
+ghost use Rattle.std.specs.Prelude.{ℕ, ◌≡◌, ◌+◌, ◌%◌, ◌^◌, ◌<◌, ◌≤◌, true, IsTrue, length, Some, None, IfOk, IfErr, IfNone, IfSome, OnOk, OnErr};
+ghost use Rattle.std.specs.Vec.{vec_capacity, vec_len};
 ghost use Rattle.far_device.specs.Contents.{KeepsOthers};
 ghost use Rattle.far_device.specs.Row.{bytes_in};
 ghost use Rattle.far_device.specs.declared.fault.DeviceFault.TheVariants.{Memory, Device as Failed};
 
 use crate::device::Device;
 use crate::fault::DeviceFault;
-use crate::spares::Spares;
+use crate::spares::{Spares, refill};
 use std::alloc::Global;
 use std::collections::HashMap;
 use std::collections::hash_map::Entry;
@@ -46,7 +46,7 @@ impl MemDevice {
     }
 
     // What is under a key.
-    #[inline]
+    #[inline(always)]
     fn stored(&self, id: u32) -> Option<&[u8]>
         ensures some { IfSome result (λ stored. bytes_at self.now id ≡ Some stored.now) }
         ensures none { IfNone result (bytes_at self.now id ≡ None) }
@@ -185,17 +185,32 @@ impl Device for MemDevice {
         ensures counted { IfNone (bytes_at self.old id) (faults_of self.new ≡ (faults_of self.old + 1) % 2 ^ 64) }
         ensures uncounted { IfSome (bytes_at self.old id) (λ _. faults_of self.new ≡ faults_of self.old) }
     {
+        self.read_into(id, Vec::new(self.alloc))
+    }
+
+    /// As [`MemDevice::read`]. Takes no memory where the buffer has room for the bytes.
+    #[inline(always)]
+    fn read_into(&mut self, id: u32, buffer: Vec<u8>) -> Result<Vec<u8>, DeviceFault>
+        ensures given { IfOk result (λ bytes. bytes_at self.old id ≡ Some bytes.items) }
+        ensures nothing { IfNone (bytes_at self.old id) (result ≡ Err Failed) }
+        ensures refused { IfSome (bytes_at self.old id) (λ _. IfErr result (λ why. why ≡ Memory)) }
+        ensures room { IfSome (bytes_at self.old id) (λ stored. length stored ≤ vec_capacity buffer → IfErr result (λ _. ⊥)) }
+        ensures kept { bytes_at self.new ≡ bytes_at self.old }
+        ensures counted { IfNone (bytes_at self.old id) (faults_of self.new ≡ (faults_of self.old + 1) % 2 ^ 64) }
+        ensures uncounted { IfSome (bytes_at self.old id) (λ _. faults_of self.new ≡ faults_of self.old) }
+    {
         let Some(held) = self.stored(id) else {
             self.faults = self.faults.wrapping_add(1);
             return Err(DeviceFault::Device);
         };
-        let Ok(bytes) = Vec::from_slice(self.alloc, held) else {
+        let mut bytes = buffer;
+        if !refill(&mut bytes, held) {
             return Err(DeviceFault::Memory);
-        };
+        }
         Ok(bytes)
     }
 
-    #[inline]
+    #[inline(always)]
     fn forget(&mut self, id: u32)
         ensures gone { bytes_at self.new id ≡ None }
         ensures others { KeepsOthers (bytes_at self.old) (bytes_at self.new) id }

@@ -30,7 +30,7 @@ impl Spares {
     }
 
     /// A buffer with these bytes, a spare one if they are few. `None` where memory was refused.
-    #[inline]
+    #[inline(always)]
     pub(crate) fn copied(&mut self, bytes: &[u8]) -> Option<Vec<u8>>
         ensures { IfSome result (λ stored. stored.items ≡ bytes.now) }
     {
@@ -94,8 +94,8 @@ impl Spares {
 }
 
 /// Empties the buffer and copies these bytes into it. `false` where they had no room and memory was refused.
-#[inline]
-fn refill(buffer: &mut Vec<u8>, bytes: &[u8]) -> bool
+#[inline(always)]
+pub(crate) fn refill(buffer: &mut Vec<u8>, bytes: &[u8]) -> bool
     ensures filled { IsTrue result → buffer.new.items ≡ bytes.now }
     ensures room { length bytes.now ≤ vec_capacity buffer.old → IsTrue result }
 {

@@ -1,11 +1,13 @@
 -- MOVE set anew, and then again.
-use Rattle.std.proofs.Common.{◌≡◌, ℕ, ◌+◌, ◌%◌, true, false, List, length, get_or, set, refl, sym, ap, subst, ◌∙◌, inl, inr, arith}
+use Rattle.std.proofs.Common.{◌≡◌, ℕ, ◌+◌, ◌%◌, true, false, Option, None, List, length, get_or, set, refl, sym, ap, subst, ◌∙◌, inl, inr, arith}
+use Rattle.std.specs.Prelude.{IfNone}
 use Rattle.std.proofs.lemmas.Bool.{cases_lt}
 use Rattle.std.proofs.lemmas.Grind.{get_or-set_at}
 use Rattle.std.proofs.lemmas.List.{length-set, set-get_or, set-set, set_past}
 use Rattle.far_word.specs.declared.sizes.TheConstants.{CELLS}
 use Rattle.far_word.specs.declared.refused.Refused.{Refused}
 use Rattle.far_word.specs.declared.refused.Refused.TheVariants.{NotHeld}
+use Rattle.far_heap.specs.declared.view.Tried.{Tried}
 use Rattle.far_heap.specs.declared.view.Tried.TheVariants.{View as Viewed, Slow}
 use Rattle.far_heap.specs.declared.view.View.{View}
 use Rattle.far_heap.specs.Mine.{Asks, AsksToView, IsNoView, IsRefusedView, IsUnbrought, Mine, TriedSo, asking, uses, view_of, viewing, views}
@@ -43,8 +45,19 @@ module _ (p : ℕ) (a b n : Mine) (x : Asks p a b) where
   asks_refused why (unbrought, asks) = (unbrought, asks_then p a b n x asks)
 
 -- ---- a try before the lock is taken
-pub tried_views : (p : ℕ) (m n : Mine) (view : View) → (uses m p ≡ true) × TriedSo p m (Viewed view) n → (uses m p ≡ true) × (view ≡ view_of p m) × AsksToView p m n
-tried_views p m n view (used, viewed) = (used, viewed.0, asks_to_view p m m n (asks_none p m) viewed.1)
-
 pub tried_unheld : (p : ℕ) (m n : Mine) (why : Refused) → (why ≡ NotHeld) × (uses m p ≡ false) × (n ≡ m) → IsNoView m p why × Asks p m n
 tried_unheld p m n why (is, unused, same) = (subst (λ b. IsRefusedView b (views m p) why) (sym unused) is, subst (Asks p m) (sym same) (asks_none p m))
+
+-- it gave a view; or it gave none, and the object was brought
+pub quick_views : (p : ℕ) (m n : Mine) (tried : Tried) → TriedSo p m tried n → ((word : ℕ) → tried ≡ Slow word → ⊥) → AsksToView p m n
+quick_views p m n (Viewed view) so other = asks_to_view p m m n (asks_none p m) so.1
+quick_views p m n (Slow word) so other = absurd (other word refl)
+
+pub slow_views : (p : ℕ) (m b n : Mine) (tried : Tried) (word : ℕ) (why : Option Refused) → TriedSo p m tried b → tried ≡ Slow word → why ≡ None → IfNone why (AsksToView p b n) → AsksToView p m n
+slow_views p m b n tried word why so is none brought =
+    let slow = subst (λ (t : Tried). TriedSo p m t b) is so in
+    subst (λ (x : Mine). AsksToView p x n) slow.1 (subst (λ (o : Option Refused). IfNone o (AsksToView p b n)) none brought)
+
+-- the view that is made then
+pub view_made : (p : ℕ) (m n : Mine) (view : View) → uses m p ≡ true → AsksToView p m n → view ≡ view_of p n → (uses m p ≡ true) × (view ≡ view_of p m) × AsksToView p m n
+view_made p m n view used asks is = (used, is ∙ ap (view_of p) asks.1, asks)

@@ -13,6 +13,8 @@ use Rattle.far_table.specs.View.{ObjectView, OwnerView}
 use Rattle.far_table.specs.Seats.{Seated}
 use Rattle.far_table.specs.Views.{asked_at, held_at, len_of as seat_len, object_at, uses as seat_uses, word_of}
 use Rattle.far_heap.specs.HeapId.{HeapId}
+use Rattle.far_heap.specs.declared.view.Brought.{Brought}
+use Rattle.far_heap.specs.declared.view.Brought.TheVariants as brought
 use Rattle.far_heap.specs.declared.view.Tried.{Tried}
 use Rattle.far_heap.specs.declared.view.Tried.TheVariants.{View as Viewed, Slow}
 use Rattle.far_heap.specs.declared.view.View.{View}
@@ -148,6 +150,14 @@ IsRefusedView false viewed why = why ≡ NotHeld
 
 abbrev pub IsNoView : Mine → ℕ → Refused → Type 0
 IsNoView m p why = IsRefusedView (uses m p) (views m p) why
+
+-- why an object wasn't brought under the lock
+abbrev pub refusal_of : Brought → Option Refused
+refusal_of brought.Viewed = None
+refusal_of brought.NoRoom = Some NoRoom
+refusal_of brought.Memory = Some Memory
+refusal_of brought.Device = Some Device
+refusal_of brought.Damaged = Some Damaged
 
 -- ---- what a dereference answers
 -- a word of an object of this length and data structure on which no view may rest: it is far, or has EVAC or MOVE. It isn't dropped

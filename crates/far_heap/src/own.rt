@@ -186,6 +186,18 @@ impl<K: HeapName, D: Device> Own<K, D> {
         self.viewed_len(p).is_some()
     }
 
+    // A view of an object that the mutator uses.
+    #[inline(always)]
+    pub(crate) fn view_of(&self, p: u16) -> View
+        requires { uses self.now p ≡ true }
+        ensures { result ≡ view_of p self.now }
+    {
+        View {
+            pointer: p,
+            len: self.lens[(p % CELLS) as usize],
+        }
+    }
+
     // A view of a pointer's object, by one pin, unless the scope has it already.
     #[inline(always)]
     pub(crate) fn try_view(&mut self, p: u16) -> Result<Tried, Refused>

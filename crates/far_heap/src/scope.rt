@@ -117,16 +117,17 @@ impl<K: HeapName, D: Device + Drop> Scope<K, D> {
         ensures quick { views self.old p ≡ false → IfOk result (λ _. (self.new ≡ viewing p self.old) ⊎ IsFoundSlow p self.old) }
         ensures slow { uses self.old p ≡ true → IfErr result (λ _. IsFoundSlow p self.old) }
     {
-        match self.own.try_view(p) {
-            Ok(Tried::View(view)) => return Ok(view),
-            Ok(Tried::Slow(_)) => {}
+        let tried = match self.own.try_view(p) {
+            Ok(tried) => tried,
             Err(why) => return Err(why),
+        };
+        if let Tried::Slow(_) = tried {
+            let brought = under_lock::view(rt, &self.lock, &mut self.own, p);
+            if let Some(why) = brought.refusal() {
+                return Err(why);
+            }
         }
-        let brought = under_lock::view(rt, &self.lock, &mut self.own, p);
-        match brought {
-            Ok(view) => Ok(view),
-            Err(why) => Err(why),
-        }
+        Ok(self.own.view_of(p))
     }
 
     /// Dereferences a pointer without the lock. Refused [`Refused::NotHeld`] exactly where this mutator doesn't use it. An object that the

@@ -1,6 +1,6 @@
 // What a mutator does with the lock.
-ghost use Rattle.std.specs.Prelude.{◌≡◌, ◌⊎◌, ◌/◌, ◌<◌, ◌≤◌, true, false, Ok, Err, Some, None, IfOk, IfErr};
-ghost use Rattle.far_heap.specs.Mine.{Asks, AsksToView, IsNoObject, IsUnbrought, Mine, TriedSo, adopting, drop_refusal, dropping, is_length, owns, uses, view_of, viewing, views};
+ghost use Rattle.std.specs.Prelude.{◌≡◌, ◌⊎◌, ◌/◌, ◌<◌, ◌≤◌, true, false, Ok, Err, Some, None, IfOk, IfErr, IfSome, IfNone};
+ghost use Rattle.far_heap.specs.Mine.{Asks, AsksToView, IsNoObject, IsUnbrought, Mine, TriedSo, adopting, drop_refusal, dropping, is_length, owns, refusal_of, uses, views};
 ghost use Rattle.far_heap.specs.BookHad.{BookHad, HasRoom, LacksRoom, NoneFree, Unbrought};
 ghost use Rattle.far_word.specs.declared.refused.Refused.{Refused as any_refusal};
 ghost use Rattle.far_word.specs.declared.refused.Refused.TheVariants.{NoPointer, NoRoom};
@@ -10,7 +10,7 @@ use crate::evacuator::Evacuator;
 use crate::heap::Lock;
 use crate::name::HeapName;
 use crate::own::Own;
-use crate::view::{Tried, View};
+use crate::view::{Brought, Tried};
 use far_device::Device;
 use far_word::{LONGEST, Refused};
 use std::sync::Wait;
@@ -94,27 +94,27 @@ pub(crate) fn drop_object<K: HeapName, D: Device + Drop, R: Wait>(
     Ok(())
 }
 
-// A view of an object that isn't viewed, which is brought where it can be.
+// Has an object that isn't viewed brought where it can be, and views it.
 #[inline(never)]
 pub(crate) fn view<K: HeapName, D: Device + Drop, R: Wait>(
     rt: &R,
     lock: &Lock<K, D>,
     own: &mut Own<K, D>,
     p: u16,
-) -> Result<View, Refused>
+) -> Brought
     requires one { own.old.number < K.heap.mutators }
     requires opened { own.old.opened ≡ true }
     requires used { uses own.old p ≡ true }
     requires unviewed { views own.old p ≡ false }
-    ensures refused { IfErr result (λ why. IsUnbrought why × Asks p own.old own.new) }
-    ensures cause { IfErr result (λ why. BookHad D K.heap (Unbrought p why)) }
-    ensures viewed { IfOk result (λ view. (view ≡ view_of p own.old) × AsksToView p own.old own.new) }
+    ensures refused { IfSome (refusal_of result) (λ why. IsUnbrought why × Asks p own.old own.new) }
+    ensures cause { IfSome (refusal_of result) (λ why. BookHad D K.heap (Unbrought p why)) }
+    ensures viewed { IfNone (refusal_of result) (AsksToView p own.old own.new) }
 {
     for _ in rt.forever() {
         match bring(&mut *lock.lock(rt), own, p) {
-            Ok(Tried::View(view)) => return Ok(view),
+            Ok(Tried::View(_)) => return Brought::Viewed,
             Ok(Tried::Slow(_)) => {}
-            Err(why) => return Err(why),
+            Err(why) => return Brought::of(why),
         }
     }
     unreachable!()

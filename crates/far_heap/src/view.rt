@@ -1,5 +1,8 @@
 // Views, and what a dereference answers.
-ghost use Rattle.std.specs.Prelude.{◌≡◌};
+ghost use Rattle.std.specs.Prelude.{◌≡◌, Some};
+ghost use Rattle.far_heap.specs.Mine.{IsUnbrought, refusal_of};
+
+use far_word::Refused;
 
 /// An object that a scope views: its pointer, and its length when it was viewed. It is plain data: the scope knows what it views.
 #[derive(Clone, Copy, Debug, PartialEq, Eq)]
@@ -29,4 +32,45 @@ impl View {
 pub enum Tried {
     View(View),
     Slow(u64),
+}
+
+// What came of a dereference under the lock: the object is viewed, or why it isn't. It is one byte, which a call answers in a register: a whole [`Refused`]
+// would have its place in memory zeroed by each view, also of what is viewed already.
+#[derive(Clone, Copy)]
+pub(crate) enum Brought {
+    Viewed,
+    NoRoom,
+    Memory,
+    Device,
+    Damaged,
+}
+
+impl Brought {
+    // The object isn't viewed, for this reason.
+    #[inline(always)]
+    pub(crate) fn of(why: Refused) -> Brought
+        requires { IsUnbrought why }
+        ensures { refusal_of result ≡ Some why }
+    {
+        match why {
+            Refused::NoRoom => Brought::NoRoom,
+            Refused::Memory => Brought::Memory,
+            Refused::Device => Brought::Device,
+            _ => Brought::Damaged,
+        }
+    }
+
+    // Why the object isn't viewed.
+    #[inline(always)]
+    pub(crate) fn refusal(self) -> Option<Refused>
+        ensures { result ≡ refusal_of self }
+    {
+        match self {
+            Brought::Viewed => None,
+            Brought::NoRoom => Some(Refused::NoRoom),
+            Brought::Memory => Some(Refused::Memory),
+            Brought::Device => Some(Refused::Device),
+            Brought::Damaged => Some(Refused::Damaged),
+        }
+    }
 }

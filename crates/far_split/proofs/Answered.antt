@@ -27,11 +27,11 @@ module _ (m : Mine) (honest : m.honest ≡ true) (opened : m.opened ≡ true) (p
     (honestly : why ≡ Damaged → m.honest ≡ false) where
   unbrought : (request : Request) → KnowsHere m.number (own_in m) (Mutator m.number request) (Refused NoRoom) (own_in m) → KnowsHere m.number (own_in m) (Mutator m.number request) (Refused Memory) (own_in m)
       → KnowsHere m.number (own_in m) (Mutator m.number request) (Refused Device) (own_in m) → KnowsHere m.number (own_in m) (Mutator m.number request) (Refused why) (own_in m)
-  unbrought request room memory device =
+  unbrought request buffer memory device =
       let by : (other : Refusal) → why ≡ other → KnowsHere m.number (own_in m) (Mutator m.number request) (Refused other) (own_in m) → KnowsHere m.number (own_in m) (Mutator m.number request) (Refused why) (own_in m)
       = λ other e k. subst (λ (x : Refusal). KnowsHere m.number (own_in m) (Mutator m.number request) (Refused x) (own_in m)) (sym e) k in
       elim is [
-        | inl e ↦ by NoRoom e room
+        | inl e ↦ by NoRoom e buffer
         | inr (inl e) ↦ by Memory e memory
         | inr (inr (inl e)) ↦ by Device e device
         | inr (inr (inr e)) ↦ absurd (false≢true (sym (honestly e) ∙ honest))
@@ -167,11 +167,11 @@ module _ (m : Mine) (law : MineLaw m) (honest : m.honest ≡ true) (opened : m.o
         unread m law honest opened p n why (subst (λ q. IsNoView m q why) is.0 failed) (subst (λ q. Asks q m n) is.0 asks) honestly is.3 from count is.4 is.5
 
     -- the room has as many bytes as were asked for
-    pub read_at : (v room k : ℕ) (out items : List ℕ) (later : Mine) → AsksToView a.pointer m n → v ≡ a.pointer → room ≡ a.count → length out ≡ room → k ≡ room → later ≡ n
-        → IfSome (bytes_in n v) (λ all. out ≡ slice_range all a.from (a.from + room)) → Answers m (Read p from count) (Data (take k (out ++ drop (length out) items))) later
-    read_at v room k out items later views at many long wide same are =
-        let there = subst (λ q. IfSome (bytes_in n q) (λ all. out ≡ slice_range all a.from (a.from + room))) (at ∙ is.0) are in
-        let begun = subst (λ f. IfSome (bytes_in n p) (λ all. out ≡ slice_range all f (f + room))) is.1 there in
+    pub read_at : (v buffer k : ℕ) (out items : List ℕ) (later : Mine) → AsksToView a.pointer m n → v ≡ a.pointer → buffer ≡ a.count → length out ≡ buffer → k ≡ buffer → later ≡ n
+        → IfSome (bytes_in n v) (λ all. out ≡ slice_range all a.from (a.from + buffer)) → Answers m (Read p from count) (Data (take k (out ++ drop (length out) items))) later
+    read_at v buffer k out items later views at many long wide same are =
+        let there = subst (λ q. IfSome (bytes_in n q) (λ all. out ≡ slice_range all a.from (a.from + buffer))) (at ∙ is.0) are in
+        let begun = subst (λ f. IfSome (bytes_in n p) (λ all. out ≡ slice_range all f (f + buffer))) is.1 there in
         let ended = subst (λ c. IfSome (bytes_in n p) (λ all. out ≡ slice_range all from (from + c))) (many ∙ is.2) begun in
         subst (λ (z : Mine). Answers m (Read p from count) (Data (take k (out ++ drop (length out) items))) z) (sym same)
         (subst (λ bytes. Answers m (Read p from count) (Data bytes) n) (sym (whole out items k (long ∙ sym wide)))

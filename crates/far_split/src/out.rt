@@ -29,80 +29,80 @@ pub enum SplitOut {
 }
 
 // Adds the line of a step that was refused in its midst.
-fn push_halted(why: Refused, so_far: &Progress, room: &mut Output)
-    requires { length room.old + LONGEST_REPLY ≤ Output.ROOM }
-    ensures { room.new ≡ room.old ++ halted_text why so_far.now }
+fn push_halted(why: Refused, so_far: &Progress, buffer: &mut Output)
+    requires { length buffer.old + LONGEST_REPLY ≤ Output.CAPACITY }
+    ensures { buffer.new ≡ buffer.old ++ halted_text why so_far.now }
 {
-    room.push(b"refused ");
-    room.push_number(u64::from(why.number()));
-    push_counted(so_far, room);
-    room.push(b"\n");
+    buffer.push(b"refused ");
+    buffer.push_number(u64::from(why.number()));
+    push_counted(so_far, buffer);
+    buffer.push(b"\n");
 }
 
 // Adds the lines of a reply.
-fn push_told(told: &Told, room: &mut Output)
+fn push_told(told: &Told, buffer: &mut Output)
     requires short { IsShort (as_reply told.now) }
-    requires room { length room.old + LONGEST_REPLY ≤ Output.ROOM }
-    ensures { room.new ≡ room.old ++ reply_text (as_reply told.now) }
+    requires room { length buffer.old + LONGEST_REPLY ≤ Output.CAPACITY }
+    ensures { buffer.new ≡ buffer.old ++ reply_text (as_reply told.now) }
 {
     match told {
-        Told::Done => Reply::Done.print_to(room),
-        Told::Pointer(pointer) => Reply::Pointer(*pointer).print_to(room),
-        Told::Data(bytes) => Reply::Data(bytes).print_to(room),
-        Told::Logs(lines) => Reply::Logs(lines).print_to(room),
-        Told::Audited(counts) => Reply::Audited(*counts).print_to(room),
-        Told::Ended(end) => Reply::Ended(end).print_to(room),
-        Told::Refused(why) => Reply::Refused(*why).print_to(room),
-        Told::Halted { why, so_far } => push_halted(*why, so_far, room),
+        Told::Done => Reply::Done.print_to(buffer),
+        Told::Pointer(pointer) => Reply::Pointer(*pointer).print_to(buffer),
+        Told::Data(bytes) => Reply::Data(bytes).print_to(buffer),
+        Told::Logs(lines) => Reply::Logs(lines).print_to(buffer),
+        Told::Audited(counts) => Reply::Audited(*counts).print_to(buffer),
+        Told::Ended(end) => Reply::Ended(end).print_to(buffer),
+        Told::Refused(why) => Reply::Refused(*why).print_to(buffer),
+        Told::Halted { why, so_far } => push_halted(*why, so_far, buffer),
     }
 }
 
 // Makes room for one more reply.
-fn make_room<W: Write>(room: &mut Output, writer: &mut W) -> Result<(), WriteFault>
-    ensures printed { Prints (W.contents writer.old) room.old (W.contents writer.new) room.new result [] }
-    ensures room { OnOk result (length room.new + LONGEST_REPLY ≤ Output.ROOM) }
+fn make_room<W: Write>(buffer: &mut Output, writer: &mut W) -> Result<(), WriteFault>
+    ensures printed { Prints (W.contents writer.old) buffer.old (W.contents writer.new) buffer.new result [] }
+    ensures room { OnOk result (length buffer.new + LONGEST_REPLY ≤ Output.CAPACITY) }
 {
-    if room.len() > Output::ROOM - LONGEST_REPLY {
-        write_whole(writer, room.as_slice())?;
-        room.clear();
+    if buffer.len() > Output::CAPACITY - LONGEST_REPLY {
+        write_whole(writer, buffer.as_slice())?;
+        buffer.clear();
     }
     Ok(())
 }
 
 fn print_heading<W: Write>(
     number: usize,
-    room: &mut Output,
+    buffer: &mut Output,
     writer: &mut W,
 ) -> Result<(), WriteFault>
-    ensures { Prints (W.contents writer.old) room.old (W.contents writer.new) room.new result (heading number) }
+    ensures { Prints (W.contents writer.old) buffer.old (W.contents writer.new) buffer.new result (heading number) }
 {
-    make_room(room, writer)?;
-    room.push(b"mutator ");
-    room.push_number(number as u64);
-    room.push(b"\n");
+    make_room(buffer, writer)?;
+    buffer.push(b"mutator ");
+    buffer.push_number(number as u64);
+    buffer.push(b"\n");
     Ok(())
 }
 
-fn print_told<W: Write>(told: &Told, room: &mut Output, writer: &mut W) -> Result<(), WriteFault>
+fn print_told<W: Write>(told: &Told, buffer: &mut Output, writer: &mut W) -> Result<(), WriteFault>
     requires { IsShort (as_reply told.now) }
-    ensures { Prints (W.contents writer.old) room.old (W.contents writer.new) room.new result (reply_text (as_reply told.now)) }
+    ensures { Prints (W.contents writer.old) buffer.old (W.contents writer.new) buffer.new result (reply_text (as_reply told.now)) }
 {
-    make_room(room, writer)?;
-    push_told(told, room);
+    make_room(buffer, writer)?;
+    push_told(told, buffer);
     Ok(())
 }
 
 // Prints the replies of one thread.
 fn print_all<W: Write>(
     replies: &[Told],
-    room: &mut Output,
+    buffer: &mut Output,
     writer: &mut W,
 ) -> Result<(), WriteFault>
     requires { AllByRecursion IsShort (map as_reply replies.now) }
-    ensures { Prints (W.contents writer.old) room.old (W.contents writer.new) room.new result (flat_map reply_text (map as_reply replies.now)) }
+    ensures { Prints (W.contents writer.old) buffer.old (W.contents writer.new) buffer.new result (flat_map reply_text (map as_reply replies.now)) }
 {
     for told in replies {
-        print_told(told, room, writer)?;
+        print_told(told, buffer, writer)?;
     }
     Ok(())
 }
@@ -110,45 +110,45 @@ fn print_all<W: Write>(
 // Prints the line and the replies of each mutator, by number.
 fn print_mutators<W: Write>(
     mutators: &[Vec<Told>],
-    room: &mut Output,
+    buffer: &mut Output,
     writer: &mut W,
 ) -> Result<(), WriteFault>
     requires { AllByRecursion (AllByRecursion IsShort) (map replies_of mutators.now) }
-    ensures { Prints (W.contents writer.old) room.old (W.contents writer.new) room.new result (parts_text 0 (map replies_of mutators.now)) }
+    ensures { Prints (W.contents writer.old) buffer.old (W.contents writer.new) buffer.new result (parts_text 0 (map replies_of mutators.now)) }
 {
     for (number, replies) in mutators.iter().enumerate() {
-        print_heading(number, room, writer)?;
-        print_all(replies, room, writer)?;
+        print_heading(number, buffer, writer)?;
+        print_all(replies, buffer, writer)?;
     }
     Ok(())
 }
 
 // Prints the line and the replies of the book.
-fn print_book<W: Write>(book: &[Told], room: &mut Output, writer: &mut W) -> Result<(), WriteFault>
+fn print_book<W: Write>(book: &[Told], buffer: &mut Output, writer: &mut W) -> Result<(), WriteFault>
     requires { AllByRecursion IsShort (map as_reply book.now) }
-    ensures { Prints (W.contents writer.old) room.old (W.contents writer.new) room.new result (codes "book\n" ++ flat_map reply_text (map as_reply book.now)) }
+    ensures { Prints (W.contents writer.old) buffer.old (W.contents writer.new) buffer.new result (codes "book\n" ++ flat_map reply_text (map as_reply book.now)) }
 {
-    make_room(room, writer)?;
-    room.push(b"book\n");
-    print_all(book, room, writer)
+    make_room(buffer, writer)?;
+    buffer.push(b"book\n");
+    print_all(book, buffer, writer)
 }
 
 impl SplitOut {
     /// Writes the text: for each mutator by number the line `mutator M` and its replies, then the line `book` and the book's; or the one line of the
     /// refusal. What was in the room is taken away; it is written as often as it is full, and at the end. Refused [`WriteFault`] where the writer
     /// fails or takes nothing: what was written is a proper prefix of the text.
-    pub fn print<W: Write>(&self, room: &mut Output, writer: &mut W) -> Result<(), WriteFault>
+    pub fn print<W: Write>(&self, buffer: &mut Output, writer: &mut W) -> Result<(), WriteFault>
         requires short { AreShort (as_joined self.now) }
         ensures { Writes (W.contents writer.old) (W.contents writer.new) result (split_text (as_joined self.now)) }
     {
-        room.clear();
+        buffer.clear();
         match self {
-            SplitOut::Refused(why) => Reply::Refused(*why).print_to(room),
+            SplitOut::Refused(why) => Reply::Refused(*why).print_to(buffer),
             SplitOut::Ran { mutators, book } => {
-                print_mutators(mutators, room, writer)?;
-                print_book(book, room, writer)?;
+                print_mutators(mutators, buffer, writer)?;
+                print_book(book, buffer, writer)?;
             }
         }
-        write_whole(writer, room.as_slice())
+        write_whole(writer, buffer.as_slice())
     }
 }

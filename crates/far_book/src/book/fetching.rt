@@ -30,6 +30,7 @@ use crate::book::words::near_word;
 use far_device::{Device, DeviceFault};
 use far_hand::Hand;
 use far_word::{HeadWord, LOG_WORDS, Place, PtrWord, Refused, pack_bytes, size_of, words_for};
+use std::mem;
 
 impl<N: Hand + Drop, D: Device + Drop> Book<N, D> {
     /// Brings a far object near, and answers where it lies; the device forgets its bytes then. Where its owner has dropped
@@ -72,12 +73,14 @@ impl<N: Hand + Drop, D: Device + Drop> Book<N, D> {
         let Some(place) = self.ledger.room(size, true) else {
             return Err(Refused::NoRoom);
         };
-        let bytes = match self.device.read(pointer as u32) {
+        let buffer = mem::replace(&mut self.buffer, Vec::new(self.alloc));
+        let bytes = match self.device.read_into(pointer as u32, buffer) {
             Ok(bytes) => bytes,
             Err(DeviceFault::Memory) => return Err(Refused::Memory),
             Err(DeviceFault::Device) => return Err(Refused::Device),
         };
         if bytes.len() != len as usize {
+            self.buffer = bytes;
             return Err(Refused::Damaged);
         }
         let Ok(()) = come_near(
@@ -89,9 +92,11 @@ impl<N: Hand + Drop, D: Device + Drop> Book<N, D> {
             place,
             bytes.as_slice(),
         ) else {
+            self.buffer = bytes;
             self.retire(pointer);
             return Ok(None);
         };
+        self.buffer = bytes;
         self.ledger.take(pointer, size, place);
         self.device.forget(pointer as u32);
         Ok(Some(place))

@@ -147,6 +147,48 @@ fn faults_wrap(rt: HostRuntime) {
     assert_eq!(rt; device.faults(), 0);
 }
 
+// What is read into a buffer under key 1 is this; the buffer comes back.
+fn reads_into<D: Device + Drop>(
+    rt: &impl Abort,
+    device: &mut D,
+    buffer: Vec<u8>,
+    wanted: &[u8],
+) -> Result<Vec<u8>, Fail> {
+    let bytes = device.read_into(1, buffer)?;
+    assert!(rt; bytes.as_slice() == wanted, "of {} bytes", wanted.len());
+    Ok(bytes)
+}
+
+#[test]
+fn a_buffer_is_read_into(rt: HostRuntime) -> Result<(), Fail> {
+    let mut device = MemDevice::new(rt.alloc());
+    let mut buffer = Vec::with_capacity(rt.alloc(), 1016)?;
+    let room = buffer.capacity();
+    for len in 0..1017usize {
+        let row = [(len % 256) as u8; 1016];
+        device.write(1, &row[..len])?;
+        buffer = reads_into(&rt, &mut device, buffer, &row[..len])?;
+        assert!(rt; buffer.capacity() == room);
+    }
+    buffer = reads_into(&rt, &mut device, Vec::new(rt.alloc()), &[248; 1016])?;
+    assert!(rt;
+        device.read_into(2, buffer).err() == Some(DeviceFault::Device) && device.faults() == 1
+    );
+    Ok(())
+}
+
+#[test]
+fn a_read_into_a_buffer_is_counted(rt: HostRuntime) -> Result<(), Fail> {
+    let alloc = rt.alloc();
+    let mut device = Liar::short(FailAt::new(MemDevice::new(alloc), 2), 2);
+    device.write(1, &[1, 2])?;
+    let failed = device.read_into(1, Vec::new(alloc)).err();
+    assert!(rt; failed == Some(DeviceFault::Device) && device.faults() == 1);
+    let buffer = reads_into(&rt, &mut device, vec![in alloc; 9, 9, 9]?, &[1])?;
+    reads_into(&rt, &mut device, buffer, &[1, 2])?;
+    Ok(())
+}
+
 #[test]
 fn other_devices(rt: HostRuntime) -> Result<(), Fail> {
     let mut broken = Broken { faults: 0 };

@@ -13,14 +13,14 @@ pub(super) fn printed<R: Threads + Wait + Sync, G: Gate>(
     text: &str,
     gate: &G,
 ) -> Option<Vec<u8>> {
-    let Ok(mut room) = Output::new(alloc) else {
+    let Ok(mut buffer) = Output::new(alloc) else {
         return None;
     };
     let Ok(told) = run_split(alloc, rt, text.as_bytes(), gate) else {
         return None;
     };
     let mut written = Vec::new(alloc);
-    match told.print(&mut room, &mut written) {
+    match told.print(&mut buffer, &mut written) {
         Ok(()) => Some(written),
         Err(_) => None,
     }

@@ -15,5 +15,5 @@ invariant-loop-at g l = record {
   own : AreOwn g.K.HeapName.heap.mutators OfBook (drop l.at l.lines);
   short : AllByRecursion IsShort (map as_reply l.told.items);
   many : vec_len l.told ≡ l.at;
-  room : l.at-end ≤ vec_capacity l.told;
+  buffer : l.at-end ≤ vec_capacity l.told;
 }

@@ -22,5 +22,5 @@ loop-log-preserved g c =
           ∙ sym (map-range_with_len_more line first (log - first) log (omega arith))
           ∙ ap (λ n. map line (range_with_len first n)) (omega arith);
       many = omega arith;
-      room = omega arith;
+      buffer = omega arith;
     }

@@ -9,5 +9,5 @@ abbrev pub invariant-loop-log : goal.invariant-loop-log
 invariant-loop-log g l = record {
   lines : l.lines.items ≡ map (log_line (moment seat_view l.book)) (range_with_len l.fn.first (l.log - l.fn.first));
   many : vec_len l.lines + l.fn.first ≡ l.log;
-  room : l.end ≤ vec_capacity l.lines + l.fn.first;
+  buffer : l.end ≤ vec_capacity l.lines + l.fn.first;
 }

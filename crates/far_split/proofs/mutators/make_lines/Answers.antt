@@ -15,7 +15,7 @@ pub loop-at-init : goal.loop-at-init
 loop-at-init g c = record {
   honest = ap (λ (m : Mine). m.honest) c.requires.new;
   number = ap (λ (m : Mine). m.number) c.requires.new;
-  room = omega (arith, ap length c.in-Ok.ensures.items, c.in-Ok.ensures.capacity, c.len.ensures);
+  buffer = omega (arith, ap length c.in-Ok.ensures.items, c.in-Ok.ensures.capacity, c.len.ensures);
   short = subst (λ (told : List Told). AllByRecursion IsShort (map as_reply told)) (sym c.in-Ok.ensures.items) tt;
   ran = λ rest alone. alone_first g.K.HeapName.heap c.args.number c.args.mutator (commands_of c.args.lines.now) c.in-Ok.told.items rest c.requires.new c.in-Ok.ensures.items alone;
 }
@@ -39,7 +39,7 @@ loop-at-preserved g c =
     record {
       honest = answers.honest ∙ c.loop-at.invariant.honest;
       number = answers.number ∙ c.loop-at.invariant.number;
-      room = omega (arith, ap {A = List Told} {B = ℕ} length {x = all} {y = told ++ one ∷ []} are, length-append told (one ∷ []), c.push_reserved.ensures.capacity, c.loop-at.invariant.room, c.loop-at-test.true, c.len-at-end.ensures);
+      buffer = omega (arith, ap {A = List Told} {B = ℕ} length {x = all} {y = told ++ one ∷ []} are, length-append told (one ∷ []), c.push_reserved.ensures.capacity, c.loop-at.invariant.buffer, c.loop-at-test.true, c.len-at-end.ensures);
       short = all_short told all one are c.loop-at.invariant.short answers.short;
       ran = λ rest alone. all_alone told all one are c.args.number (commands_of c.args.lines.now) rest (c.loop-at.invariant.ran (as_reply one ∷ rest)
           (answered_line g.K.HeapName.heap.mutators c.args.number c.loop-at.at c.at.result.0 c.at.result.1 c.in-Mutator.mutator c.in-Mutator.request c.args.lines.now

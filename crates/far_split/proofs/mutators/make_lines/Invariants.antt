@@ -11,7 +11,7 @@ abbrev pub invariant-loop-at : goal.invariant-loop-at
 invariant-loop-at g l = record {
   honest : (mine_in l.slot).honest ≡ true;
   number : (mine_in l.slot).number ≡ l.number;
-  room : length l.told.items + (length l.lines - l.at) ≤ l.told.cap;
+  buffer : length l.told.items + (length l.lines - l.at) ≤ l.told.cap;
   short : AllByRecursion IsShort (map as_reply l.told.items);
   ran : (rest : List Reply) → AloneHere l.number (own_in (mine_in l.slot)) (commands_of (drop l.at l.lines)) rest
       → AloneHere l.number nothing (commands_of l.lines) (map as_reply l.told.items ++ rest);

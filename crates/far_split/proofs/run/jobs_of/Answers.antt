@@ -16,7 +16,7 @@ loop-number-init g c =
       jobs = record { many = ap length c.in_ok-jobs.ensures.items; each = λ at other lt. absurd (omega (arith, lt)) };
       sum = omega (arith, c.len-many.ensures);
       many = omega (arith, c.len-many.ensures, c.args.mutators.ok.0, ap length c.requires.new, many);
-      room = omega (arith, c.in_ok-jobs.ensures.capacity);
+      buffer = omega (arith, c.in_ok-jobs.ensures.capacity);
     }
 
 pub loop-number-preserved : goal.loop-number-preserved
@@ -33,5 +33,5 @@ loop-number-preserved g c =
           (jobs_more heap n c.loop-number.jobs.items i.jobs (MutatorJob c.remove.result n) (refl, omega (arith, lt, i.many), first.first ∙ ap (newcomer heap.table n) c.requires.honest));
       sum = omega (arith, i.sum, c.remove.ensures.len);
       many = i.many;
-      room = omega (arith, i.room, c.push_reserved.ensures.capacity);
+      buffer = omega (arith, i.buffer, c.push_reserved.ensures.capacity);
     }

@@ -8,5 +8,5 @@ invariant-loop-number g l = record {
   jobs : JobsBefore g.K.HeapName.heap l.number l.jobs.items;
   sum : vec_len l.mutators + l.number ≡ l.many;
   many : l.many ≡ g.K.HeapName.heap.mutators;
-  room : l.many + 1 ≤ vec_capacity l.jobs;
+  buffer : l.many + 1 ≤ vec_capacity l.jobs;
 }

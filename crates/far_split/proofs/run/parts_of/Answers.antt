@@ -19,5 +19,5 @@ loop-preserved c =
           ∙ ap (λ xs. map Ok xs ++ c.remove.new.self.items) (sym c.push_reserved.ensures.items);
       sum = omega (arith, i.sum, c.remove.ensures.len);
       many = omega (arith, i.many, c.push_reserved.ensures.len);
-      room = omega (arith, i.room, c.push_reserved.ensures.capacity);
+      buffer = omega (arith, i.buffer, c.push_reserved.ensures.capacity);
     }

@@ -6,5 +6,5 @@ invariant-loop l = record {
   parts : l.fn.ends.items ≡ map Ok l.parts.items ++ l.ends.items;
   sum : vec_len l.ends + l.counter ≡ l.many;
   many : vec_len l.parts ≡ l.counter;
-  room : l.many ≤ vec_capacity l.parts;
+  buffer : l.many ≤ vec_capacity l.parts;
 }

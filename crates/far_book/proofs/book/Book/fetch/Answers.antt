@@ -146,10 +146,10 @@ invariant_of-self-in_default-come_near g c =
     let y = c.in_default-come_near in
     let held = g.D.Device.contents c.self.inside.device in
     let is_honest = g.D.Device.honest c.self.inside.device in
-    let law = g.met.D.Device.read_follows _ _ _ _ c.read.ensures.called in
-    subst (λ (u : State). InOrder u c.self.inside.ledger (g.D.Device.contents c.read.new.self) (g.D.Device.honest c.read.new.self)) (sym y.ensures.kept)
-    (subst (λ h. InOrder (seen (with_written_span s p f.len f.ds c.in-Some.place row) p y.field-0) c.self.inside.ledger (g.D.Device.contents c.read.new.self) h) (sym law.honest)
-    (subst (λ h. InOrder (seen (with_written_span s p f.len f.ds c.in-Some.place row) p y.field-0) c.self.inside.ledger h is_honest) (sym c.read.ensures.kept)
+    let law = g.met.D.Device.read_follows _ _ _ _ c.read_into.ensures.called in
+    subst (λ (u : State). InOrder u c.self.inside.ledger (g.D.Device.contents c.read_into.new.self) (g.D.Device.honest c.read_into.new.self)) (sym y.ensures.kept)
+    (subst (λ h. InOrder (seen (with_written_span s p f.len f.ds c.in-Some.place row) p y.field-0) c.self.inside.ledger (g.D.Device.contents c.read_into.new.self) h) (sym law.honest)
+    (subst (λ h. InOrder (seen (with_written_span s p f.len f.ds c.in-Some.place row) p y.field-0) c.self.inside.ledger h is_honest) (sym c.read_into.ensures.kept)
     (written_in_order s c.self.invariant.notes.law p f.len f.ds c.in-Some.place row (able s0 s p c.see-word.result f.len f.ds f.marks x c.self.inside.ledger (g.D.Device.contents c.self.inside.device) (g.D.Device.honest c.self.inside.device) c.self.invariant c.size_of-size.result c.size_of-size.ensures c.room.result (c.room.ensures (own_part s) c.self.invariant.notes) c.in-Some.place c.in-Some.is) c.self.inside.ledger held is_honest c.self.invariant y.field-0 y.ensures.fits
     (finds_more (s.cell p) c.see-word.result y.field-0 (finds_now s0 s p c.see-word.result f.len f.ds f.marks x) y.ensures.found))))
 
@@ -214,8 +214,8 @@ invariant_of-self-2 g c =
     let t = g.N.Hand.view c.come_near.new.near in
     let takes : Takes c.self.inside.ledger c.take.new.self p (size_of f.len) c.in-Some.place = subst (λ n. Takes c.self.inside.ledger c.take.new.self p n c.in-Some.place) c.size_of-size.ensures c.take.ensures in
     let law = g.met.D.Device.forget_follows _ _ _ c.forget.ensures.called in
-    let others : KeepsOthers (g.D.Device.contents c.self.inside.device) (g.D.Device.contents c.forget.new.self) p = (λ q ne. law.others q ne ∙ ap (λ (h : ℕ → Option (List ℕ)). h q) c.read.ensures.kept) in
-    subst (λ h. InOrder t c.take.new.self (g.D.Device.contents c.forget.new.self) h) (sym (law.honest ∙ (g.met.D.Device.read_follows _ _ _ _ c.read.ensures.called).honest))
+    let others : KeepsOthers (g.D.Device.contents c.self.inside.device) (g.D.Device.contents c.forget.new.self) p = (λ q ne. law.others q ne ∙ ap (λ (h : ℕ → Option (List ℕ)). h q) c.read_into.ensures.kept) in
+    subst (λ h. InOrder t c.take.new.self (g.D.Device.contents c.forget.new.self) h) (sym (law.honest ∙ (g.met.D.Device.read_follows _ _ _ _ c.read_into.ensures.called).honest))
     (come_in_order s t p f.len f.ds c.in-Some.place row f.marks (now s0 s p c.see-word.result f.len f.ds f.marks x) c.if-marks.false (able s0 s p c.see-word.result f.len f.ds f.marks x c.self.inside.ledger (g.D.Device.contents c.self.inside.device) (g.D.Device.honest c.self.inside.device) c.self.invariant c.size_of-size.result c.size_of-size.ensures c.room.result (c.room.ensures (own_part s) c.self.invariant.notes) c.in-Some.place c.in-Some.is).layout c.in-Ok-come_near.ensures.done c.self.inside.ledger c.take.new.self (g.D.Device.contents c.self.inside.device) (g.D.Device.contents c.forget.new.self)
     (g.D.Device.honest c.self.inside.device) c.self.invariant (able s0 s p c.see-word.result f.len f.ds f.marks x c.self.inside.ledger (g.D.Device.contents c.self.inside.device) (g.D.Device.honest c.self.inside.device) c.self.invariant c.size_of-size.result c.size_of-size.ensures c.room.result (c.room.ensures (own_part s) c.self.invariant.notes) c.in-Some.place c.in-Some.is) takes others)
 
@@ -331,10 +331,10 @@ returns-in-Err-Memory-clause-follows g c =
     let f = c.in-Far in
     let x : FarFound s0 s p c.see-word.result f.len f.ds f.marks = record { finds = c.see-word.ensures.found; fits = c.see-word.type_inv; far = c.known.ensures ∙ ap (λ v. Some v) f.is; same = ap (λ (b : BookOf g.row.N.Denot g.row.D.Denot). g.N.Hand.view b.near) c.self.view_is ∙ c.see-word.ensures.kept; pointer = c.requires.pointer } in
     let device : c.self.inside.device ≡ c.args.self.now.device = ap (λ (b : BookOf g.row.N.Denot g.row.D.Denot). b.device) c.self.view_is ∙ c.see-word.ensures.device in
-    let law = subst (λ (why : DeviceFault). Follows g.D.Device.contents g.D.Device.honest g.D.Device.faults (λ e n. IsSome (g.D.Device.contents c.self.inside.device p) × g.D.Device.fails_at_most e n) any_key (is_fault {A = List ℕ} (Err why)) c.self.inside.device c.read.new.self) c.in-Err-Memory.field-0-is
+    let law = subst (λ (why : DeviceFault). Follows g.D.Device.contents g.D.Device.honest g.D.Device.faults (λ e n. IsSome (g.D.Device.contents c.self.inside.device p) × g.D.Device.fails_at_most e n) any_key (is_fault {A = List ℕ} (Err why)) c.self.inside.device c.read_into.new.self) c.in-Err-Memory.field-0-is
     (g.met.D.Device.read_follows _ _ _ _ c.in-Err-Memory.ensures.called) in
-    let read = subst (λ (d : g.row.D.Denot). Follows g.D.Device.contents g.D.Device.honest g.D.Device.faults g.D.Device.fails_at_most (other_than p) false d c.read.new.self) device
-    (follows_held g.D.Device.contents g.D.Device.honest g.D.Device.faults g.D.Device.fails_at_most (IsSome (g.D.Device.contents c.self.inside.device p)) (other_than p) false c.self.inside.device c.read.new.self
+    let read = subst (λ (d : g.row.D.Denot). Follows g.D.Device.contents g.D.Device.honest g.D.Device.faults g.D.Device.fails_at_most (other_than p) false d c.read_into.new.self) device
+    (follows_held g.D.Device.contents g.D.Device.honest g.D.Device.faults g.D.Device.fails_at_most (IsSome (g.D.Device.contents c.self.inside.device p)) (other_than p) false c.self.inside.device c.read_into.new.self
     (is_held s0 s p c.see-word.result f.len f.ds f.marks x c.self.inside.ledger (g.D.Device.contents c.self.inside.device) (g.D.Device.honest c.self.inside.device) c.self.invariant c.size_of-size.result c.size_of-size.ensures c.room.result (c.room.ensures (own_part s) c.self.invariant.notes)) law) in
     read
 
@@ -346,10 +346,10 @@ returns-in-Err-Device-clause-follows g c =
     let f = c.in-Far in
     let x : FarFound s0 s p c.see-word.result f.len f.ds f.marks = record { finds = c.see-word.ensures.found; fits = c.see-word.type_inv; far = c.known.ensures ∙ ap (λ v. Some v) f.is; same = ap (λ (b : BookOf g.row.N.Denot g.row.D.Denot). g.N.Hand.view b.near) c.self.view_is ∙ c.see-word.ensures.kept; pointer = c.requires.pointer } in
     let device : c.self.inside.device ≡ c.args.self.now.device = ap (λ (b : BookOf g.row.N.Denot g.row.D.Denot). b.device) c.self.view_is ∙ c.see-word.ensures.device in
-    let law = subst (λ (why : DeviceFault). Follows g.D.Device.contents g.D.Device.honest g.D.Device.faults (λ e n. IsSome (g.D.Device.contents c.self.inside.device p) × g.D.Device.fails_at_most e n) any_key (is_fault {A = List ℕ} (Err why)) c.self.inside.device c.read.new.self) c.in-Err-Device.field-0-is
+    let law = subst (λ (why : DeviceFault). Follows g.D.Device.contents g.D.Device.honest g.D.Device.faults (λ e n. IsSome (g.D.Device.contents c.self.inside.device p) × g.D.Device.fails_at_most e n) any_key (is_fault {A = List ℕ} (Err why)) c.self.inside.device c.read_into.new.self) c.in-Err-Device.field-0-is
     (g.met.D.Device.read_follows _ _ _ _ c.in-Err-Device.ensures.called) in
-    let read = subst (λ (d : g.row.D.Denot). Follows g.D.Device.contents g.D.Device.honest g.D.Device.faults g.D.Device.fails_at_most (other_than p) true d c.read.new.self) device
-    (follows_held g.D.Device.contents g.D.Device.honest g.D.Device.faults g.D.Device.fails_at_most (IsSome (g.D.Device.contents c.self.inside.device p)) (other_than p) true c.self.inside.device c.read.new.self
+    let read = subst (λ (d : g.row.D.Denot). Follows g.D.Device.contents g.D.Device.honest g.D.Device.faults g.D.Device.fails_at_most (other_than p) true d c.read_into.new.self) device
+    (follows_held g.D.Device.contents g.D.Device.honest g.D.Device.faults g.D.Device.fails_at_most (IsSome (g.D.Device.contents c.self.inside.device p)) (other_than p) true c.self.inside.device c.read_into.new.self
     (is_held s0 s p c.see-word.result f.len f.ds f.marks x c.self.inside.ledger (g.D.Device.contents c.self.inside.device) (g.D.Device.honest c.self.inside.device) c.self.invariant c.size_of-size.result c.size_of-size.ensures c.room.result (c.room.ensures (own_part s) c.self.invariant.notes)) law) in
     read
 
@@ -362,8 +362,8 @@ returns-then-len-clause-follows g c =
     let x : FarFound s0 s p c.see-word.result f.len f.ds f.marks = record { finds = c.see-word.ensures.found; fits = c.see-word.type_inv; far = c.known.ensures ∙ ap (λ v. Some v) f.is; same = ap (λ (b : BookOf g.row.N.Denot g.row.D.Denot). g.N.Hand.view b.near) c.self.view_is ∙ c.see-word.ensures.kept; pointer = c.requires.pointer } in
     let device : c.self.inside.device ≡ c.args.self.now.device = ap (λ (b : BookOf g.row.N.Denot g.row.D.Denot). b.device) c.self.view_is ∙ c.see-word.ensures.device in
     let law = g.met.D.Device.read_follows _ _ _ _ c.in-Ok.ensures.called in
-    let read = subst (λ (d : g.row.D.Denot). Follows g.D.Device.contents g.D.Device.honest g.D.Device.faults g.D.Device.fails_at_most (other_than p) false d c.read.new.self) device
-    (follows_held g.D.Device.contents g.D.Device.honest g.D.Device.faults g.D.Device.fails_at_most (IsSome (g.D.Device.contents c.self.inside.device p)) (other_than p) false c.self.inside.device c.read.new.self
+    let read = subst (λ (d : g.row.D.Denot). Follows g.D.Device.contents g.D.Device.honest g.D.Device.faults g.D.Device.fails_at_most (other_than p) false d c.read_into.new.self) device
+    (follows_held g.D.Device.contents g.D.Device.honest g.D.Device.faults g.D.Device.fails_at_most (IsSome (g.D.Device.contents c.self.inside.device p)) (other_than p) false c.self.inside.device c.read_into.new.self
     (is_held s0 s p c.see-word.result f.len f.ds f.marks x c.self.inside.ledger (g.D.Device.contents c.self.inside.device) (g.D.Device.honest c.self.inside.device) c.self.invariant c.size_of-size.result c.size_of-size.ensures c.room.result (c.room.ensures (own_part s) c.self.invariant.notes)) law) in
     read
 
@@ -376,8 +376,8 @@ returns-in_default-come_near-clause-follows g c =
     let x : FarFound s0 s p c.see-word.result f.len f.ds f.marks = record { finds = c.see-word.ensures.found; fits = c.see-word.type_inv; far = c.known.ensures ∙ ap (λ v. Some v) f.is; same = ap (λ (b : BookOf g.row.N.Denot g.row.D.Denot). g.N.Hand.view b.near) c.self.view_is ∙ c.see-word.ensures.kept; pointer = c.requires.pointer } in
     let device : c.self.inside.device ≡ c.args.self.now.device = ap (λ (b : BookOf g.row.N.Denot g.row.D.Denot). b.device) c.self.view_is ∙ c.see-word.ensures.device in
     let law = g.met.D.Device.read_follows _ _ _ _ c.in-Ok.ensures.called in
-    let read = subst (λ (d : g.row.D.Denot). Follows g.D.Device.contents g.D.Device.honest g.D.Device.faults g.D.Device.fails_at_most (other_than p) false d c.read.new.self) device
-    (follows_held g.D.Device.contents g.D.Device.honest g.D.Device.faults g.D.Device.fails_at_most (IsSome (g.D.Device.contents c.self.inside.device p)) (other_than p) false c.self.inside.device c.read.new.self
+    let read = subst (λ (d : g.row.D.Denot). Follows g.D.Device.contents g.D.Device.honest g.D.Device.faults g.D.Device.fails_at_most (other_than p) false d c.read_into.new.self) device
+    (follows_held g.D.Device.contents g.D.Device.honest g.D.Device.faults g.D.Device.fails_at_most (IsSome (g.D.Device.contents c.self.inside.device p)) (other_than p) false c.self.inside.device c.read_into.new.self
     (is_held s0 s p c.see-word.result f.len f.ds f.marks x c.self.inside.ledger (g.D.Device.contents c.self.inside.device) (g.D.Device.honest c.self.inside.device) c.self.invariant c.size_of-size.result c.size_of-size.ensures c.room.result (c.room.ensures (own_part s) c.self.invariant.notes)) law) in
     follows_on g.D.Device.contents g.D.Device.honest g.D.Device.faults g.D.Device.fails_at_most (other_than p) false _ _ _ read c.retire-in_default-come_near.ensures.follows
 
@@ -390,8 +390,8 @@ returns-clause-follows g c =
     let x : FarFound s0 s p c.see-word.result f.len f.ds f.marks = record { finds = c.see-word.ensures.found; fits = c.see-word.type_inv; far = c.known.ensures ∙ ap (λ v. Some v) f.is; same = ap (λ (b : BookOf g.row.N.Denot g.row.D.Denot). g.N.Hand.view b.near) c.self.view_is ∙ c.see-word.ensures.kept; pointer = c.requires.pointer } in
     let device : c.self.inside.device ≡ c.args.self.now.device = ap (λ (b : BookOf g.row.N.Denot g.row.D.Denot). b.device) c.self.view_is ∙ c.see-word.ensures.device in
     let law = g.met.D.Device.read_follows _ _ _ _ c.in-Ok.ensures.called in
-    let read = subst (λ (d : g.row.D.Denot). Follows g.D.Device.contents g.D.Device.honest g.D.Device.faults g.D.Device.fails_at_most (other_than p) false d c.read.new.self) device
-    (follows_held g.D.Device.contents g.D.Device.honest g.D.Device.faults g.D.Device.fails_at_most (IsSome (g.D.Device.contents c.self.inside.device p)) (other_than p) false c.self.inside.device c.read.new.self
+    let read = subst (λ (d : g.row.D.Denot). Follows g.D.Device.contents g.D.Device.honest g.D.Device.faults g.D.Device.fails_at_most (other_than p) false d c.read_into.new.self) device
+    (follows_held g.D.Device.contents g.D.Device.honest g.D.Device.faults g.D.Device.fails_at_most (IsSome (g.D.Device.contents c.self.inside.device p)) (other_than p) false c.self.inside.device c.read_into.new.self
     (is_held s0 s p c.see-word.result f.len f.ds f.marks x c.self.inside.ledger (g.D.Device.contents c.self.inside.device) (g.D.Device.honest c.self.inside.device) c.self.invariant c.size_of-size.result c.size_of-size.ensures c.room.result (c.room.ensures (own_part s) c.self.invariant.notes)) law) in
     follows_on g.D.Device.contents g.D.Device.honest g.D.Device.faults g.D.Device.fails_at_most (other_than p) false _ _ _ read (g.met.D.Device.forget_follows _ _ _ c.forget.ensures.called)
 
@@ -437,14 +437,14 @@ returns-then-marks-clause-called g c = inl (subst (λ (d : g.row.D.Denot). g.D.D
 pub returns-in-Err-Memory-clause-called : goal.returns-in-Err-Memory-clause-called
 returns-in-Err-Memory-clause-called g c =
     let device : c.self.inside.device ≡ c.args.self.now.device = ap (λ (b : BookOf g.row.N.Denot g.row.D.Denot). b.device) c.self.view_is ∙ c.see-word.ensures.device in
-    subst (λ (d : g.row.D.Denot). g.D.Device.reads d c.args.pointer (Err Memory) c.read.new.self) device
-    (subst (λ (w : DeviceFault). g.D.Device.reads c.self.inside.device c.args.pointer (Err w) c.read.new.self) c.in-Err-Memory.field-0-is c.in-Err-Memory.ensures.called)
+    subst (λ (d : g.row.D.Denot). g.D.Device.reads d c.args.pointer (Err Memory) c.read_into.new.self) device
+    (subst (λ (w : DeviceFault). g.D.Device.reads c.self.inside.device c.args.pointer (Err w) c.read_into.new.self) c.in-Err-Memory.field-0-is c.in-Err-Memory.ensures.called)
 
 pub returns-in-Err-Device-clause-called : goal.returns-in-Err-Device-clause-called
 returns-in-Err-Device-clause-called g c =
     let device : c.self.inside.device ≡ c.args.self.now.device = ap (λ (b : BookOf g.row.N.Denot g.row.D.Denot). b.device) c.self.view_is ∙ c.see-word.ensures.device in
-    subst (λ (d : g.row.D.Denot). g.D.Device.reads d c.args.pointer (Err Device) c.read.new.self) device
-    (subst (λ (w : DeviceFault). g.D.Device.reads c.self.inside.device c.args.pointer (Err w) c.read.new.self) c.in-Err-Device.field-0-is c.in-Err-Device.ensures.called)
+    subst (λ (d : g.row.D.Denot). g.D.Device.reads d c.args.pointer (Err Device) c.read_into.new.self) device
+    (subst (λ (w : DeviceFault). g.D.Device.reads c.self.inside.device c.args.pointer (Err w) c.read_into.new.self) c.in-Err-Device.field-0-is c.in-Err-Device.ensures.called)
 
 pub returns-then-len-clause-called : goal.returns-then-len-clause-called
 returns-then-len-clause-called g c =
@@ -454,7 +454,7 @@ returns-then-len-clause-called g c =
     let f = c.in-Far in
     let x : FarFound s0 s p c.see-word.result f.len f.ds f.marks = record { finds = c.see-word.ensures.found; fits = c.see-word.type_inv; far = c.known.ensures ∙ ap (λ v. Some v) f.is; same = ap (λ (b : BookOf g.row.N.Denot g.row.D.Denot). g.N.Hand.view b.near) c.self.view_is ∙ c.see-word.ensures.kept; pointer = c.requires.pointer } in
     let device : c.self.inside.device ≡ c.args.self.now.device = ap (λ (b : BookOf g.row.N.Denot g.row.D.Denot). b.device) c.self.view_is ∙ c.see-word.ensures.device in
-    let read = subst (λ (d : g.row.D.Denot). g.D.Device.reads d c.args.pointer (Ok c.in-Ok.bytes.items) c.read.new.self) device c.in-Ok.ensures.called in
+    let read = subst (λ (d : g.row.D.Denot). g.D.Device.reads d c.args.pointer (Ok c.in-Ok.bytes.items) c.read_into.new.self) device c.in-Ok.ensures.called in
     let was = known s0 p c.see-word.result c.see-word.ensures.found f.len f.ds f.marks x.far in
     (c.in-Ok.bytes.items, read, λ (e : length c.in-Ok.bytes.items ≡ far_len (read_of (s0.cell p))). let long : length c.in-Ok.bytes.items ≡ f.len = e ∙ ap far_len was.1 in absurd (omega arith))
 
@@ -466,9 +466,9 @@ returns-in_default-come_near-clause-called g c =
     let f = c.in-Far in
     let x : FarFound s0 s p c.see-word.result f.len f.ds f.marks = record { finds = c.see-word.ensures.found; fits = c.see-word.type_inv; far = c.known.ensures ∙ ap (λ v. Some v) f.is; same = ap (λ (b : BookOf g.row.N.Denot g.row.D.Denot). g.N.Hand.view b.near) c.self.view_is ∙ c.see-word.ensures.kept; pointer = c.requires.pointer } in
     let device : c.self.inside.device ≡ c.args.self.now.device = ap (λ (b : BookOf g.row.N.Denot g.row.D.Denot). b.device) c.self.view_is ∙ c.see-word.ensures.device in
-    let read = subst (λ (d : g.row.D.Denot). g.D.Device.reads d c.args.pointer (Ok c.in-Ok.bytes.items) c.read.new.self) device c.in-Ok.ensures.called in
+    let read = subst (λ (d : g.row.D.Denot). g.D.Device.reads d c.args.pointer (Ok c.in-Ok.bytes.items) c.read_into.new.self) device c.in-Ok.ensures.called in
     let alive = false_from_ne_true (is_dropped (read_of (s0.cell p))) (λ h. unasked s0 s p c.see-word.result f.len f.ds f.marks x c.if-marks.false h) in
-    inr (c.in-Ok.bytes.items, c.read.new.self, read, c.retire-in_default-come_near.ensures.called, alive)
+    inr (c.in-Ok.bytes.items, c.read_into.new.self, read, c.retire-in_default-come_near.ensures.called, alive)
 
 pub returns-clause-called : goal.returns-clause-called
 returns-clause-called g c =
@@ -478,7 +478,7 @@ returns-clause-called g c =
     let f = c.in-Far in
     let x : FarFound s0 s p c.see-word.result f.len f.ds f.marks = record { finds = c.see-word.ensures.found; fits = c.see-word.type_inv; far = c.known.ensures ∙ ap (λ v. Some v) f.is; same = ap (λ (b : BookOf g.row.N.Denot g.row.D.Denot). g.N.Hand.view b.near) c.self.view_is ∙ c.see-word.ensures.kept; pointer = c.requires.pointer } in
     let device : c.self.inside.device ≡ c.args.self.now.device = ap (λ (b : BookOf g.row.N.Denot g.row.D.Denot). b.device) c.self.view_is ∙ c.see-word.ensures.device in
-    let read = subst (λ (d : g.row.D.Denot). g.D.Device.reads d c.args.pointer (Ok c.in-Ok.bytes.items) c.read.new.self) device c.in-Ok.ensures.called in
+    let read = subst (λ (d : g.row.D.Denot). g.D.Device.reads d c.args.pointer (Ok c.in-Ok.bytes.items) c.read_into.new.self) device c.in-Ok.ensures.called in
     let row = packed_word c.as_slice.result.now in
     let y = c.in-Ok-come_near in
     let t = g.N.Hand.view c.come_near.new.near in
@@ -497,7 +497,7 @@ returns-clause-called g c =
       forgot = subst (λ (u : State). Forgets u t) as_seen forgot;
       exact = λ still. y.ensures.set still ∙ as_seen;
     } in
-    (c.in-Ok.bytes.items, c.read.new.self, read, c.forget.ensures.called, subst (λ (b : List ℕ). HasGiven g.N.Hand.still s0 t p c.in-Some.place b) c.as_slice.ensures.value has)
+    (c.in-Ok.bytes.items, c.read_into.new.self, read, c.forget.ensures.called, subst (λ (b : List ℕ). HasGiven g.N.Hand.still s0 t p c.in-Some.place b) c.as_slice.ensures.value has)
 
 pub returns-then-marks-clause-came : goal.returns-then-marks-clause-came
 returns-then-marks-clause-came g c = then_came c.see-word.ensures.came c.retire.ensures.came
