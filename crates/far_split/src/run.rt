@@ -240,7 +240,7 @@ fn run_on<R: Threads + Wait + Sync, G: Gate>(
 /// Faults, once all threads have ended: [`SplitFault::Gate`] where the gate ended threads, with the least of them; else [`SplitFault::Memory`] where memory was
 /// refused to the call itself, for the heap, lists or replies. Where a line can't be made without memory, that is the line's reply.
 ///
-/// Where the system can't begin a thread, its lines are made in the thread of others, after theirs.
+/// Where the system can't begin a thread, its lines are made in another's, before or after that one's.
 pub fn run_split<R: Threads + Wait + Sync, G: Gate>(
     alloc: Global,
     rt: &R,
