@@ -1,6 +1,6 @@
 //! What a split text comes to, and how it is printed.
 
-ghost use Rattle.std.specs.Prelude.{◌≡◌, ◌≤◌, ◌+◌, ◌++◌, ℕ, List, Option, [], codes, length, map, OnOk};
+ghost use Rattle.std.specs.Prelude.{◌≡◌, ◌≤◌, ◌+◌, ◌++◌, [], codes, length, map, OnOk};
 ghost use Rattle.std.specs.List.{AllByRecursion, flat_map};
 ghost use Rattle.far_replay.specs.Reply.{IsShort, halted_text, reply_text};
 ghost use Rattle.far_replay.specs.Stream.{Writes};
