@@ -49,8 +49,11 @@ def command(line: bytes):
     return None if None in operands else (name.decode(), operands)
 
 
-def parse(text: bytes):
-    """The commands of a text, or the number of its first line off the grammar, 0 for a text that is too long."""
+def parse(text: bytes, may_stand=lambda found, made: True):
+    """The commands of a text, or the number of its first line off the grammar, 0 for a text that is too long.
+
+    A command that may not stand after those before it is off the grammar too.
+    """
     found, lines = [], text.split(b"\n")
     if len(text) > TEXT_LIMIT:
         return 0
@@ -59,7 +62,7 @@ def parse(text: bytes):
             return number
         if line and not line.startswith(b"#"):
             made = command(line)
-            if made is None or (made[0] == "heap") == bool(found):
+            if made is None or (made[0] == "heap") == bool(found) or not may_stand(found, made):
                 return number
             found.append(made)
     return found
@@ -329,6 +332,10 @@ class Heap:
         return getattr(self, {"read": "access", "write": "access", "try": "pin"}.get(name, name))(*operands)
 
 
+def is_shape(logs: int, mutators: int, epoch: int = 0) -> bool:
+    return 2 <= logs <= 64 and 1 <= mutators <= 8 and epoch <= LAST_EPOCH
+
+
 def interpret(text: bytes) -> tuple[int, bytes]:
     """The status and the output that a text must have."""
     commands = parse(text)
@@ -336,10 +343,9 @@ def interpret(text: bytes) -> tuple[int, bytes]:
         return 2, b"refused 16 %d\n" % commands
     if not commands:
         return 0, b""
-    logs, mutators, epoch = (*commands[0][1], 0)[:3]
-    if not (2 <= logs <= 64 and 1 <= mutators <= 8 and epoch <= LAST_EPOCH):
+    if not is_shape(*commands[0][1]):
         return 2, b"refused 15\n"
-    heap = Heap(logs, mutators, epoch)
+    heap = Heap(*commands[0][1])
     return 0, "\n".join(["ok", *(heap.answer(*made) for made in commands[1:]), ""]).encode()
 
 
@@ -471,4 +477,5 @@ def main() -> int:
     return 0
 
 
-sys.exit(main())
+if __name__ == "__main__":
+    sys.exit(main())

@@ -28,37 +28,63 @@ given ''
 expect 'empty input' 0 '' ''
 given '# a comment alone\n'
 expect 'a comment alone' 0 '' ''
-given 'heap 4 1\n' split
-expect 'an argument' 2 '' "$usage"
+given 'heap 4 1\n' -- split
+expect 'another argument before split' 2 '' "$usage"
+given 'heap 4 1\n' split split
+expect 'split twice' 2 '' "$usage"
+given 'heap 4 1\n' split ''
+expect 'an empty argument after split' 2 '' "$usage"
+given 'heap 4 1\n' Split
+expect 'another argument' 2 '' "$usage"
 given 'heap 4 1\n' ''
 expect 'an empty argument' 2 '' "$usage"
 given 'heap 4 1\n' $'\xff'
 expect 'an argument that is no text' 2 '' "$usage"
-given 'heap 1 1\n'
-expect 'a shape' 2 'refused 15' ''
+given 'heap 4 1\n' split $'\xff'
+expect 'one that is no text after split' 2 '' "$usage"
 given 'heap 1 1\nx'
 expect 'a line before a shape' 2 'refused 16 2' ''
-given 'heap 4 1\nopen\n'
-expect 'a line' 2 'refused 16 2' ''
 given 'heap 4 1\nselect script 1\n'
 expect 'a script without logs' 2 'refused 16 2' ''
 given 'heap 4 1\nnew 0 8 1\nnew 0 1016 1\nopen 0\nround oldest 1 18446744073709551615\nwait\nabort\nabort\n'
 expect 'commands of rounds, refused and not' 0 "$(printf 'ok\npointer 0\npointer 1\nok\nround limit waiting\nrefused 18 0 0\nok\nrefused 12')" ''
 
-got=0
-head -c 1048577 /dev/zero | tr '\0' '\n' | "$program" >"$work/out" 2>"$work/err" || got=$?
-expect 'a text that is too long' 2 'refused 16 0' ''
-got=0
-"$program" </ >"$work/out" 2>"$work/err" || got=$?
-expect 'a folder as standard input' 1 '' 'read fault'
-got=0
-"$program" <&- >"$work/out" 2>"$work/err" || got=$?
-expect 'no standard input' 1 '' 'read fault'
-: >"$work/out"
-got=0
-printf 'heap 4 1\n' | "$program" >/dev/full 2>"$work/err" || got=$?
-expect 'a full device' 1 '' 'write fault'
-got=0
-printf 'heap 4 1\n' | "$program" >&- 2>"$work/err" || got=$?
-expect 'no standard output' 1 '' 'write fault'
+given '' split
+expect 'empty input, split' 0 'book' ''
+given '# a comment alone\n' split
+expect 'a comment alone, split' 0 'book' ''
+given 'heap 4 2\nnew 0 8 1\nnew 1 8 1\nopen 0\nwrite 0 0 0 0a\nread 0 0 0 1\nopen 1\nread 1 128 0 1\n' split
+expect 'two mutators, split' 0 "$(printf 'mutator 0\npointer 0\nok\nok\ndata 0a\nmutator 1\npointer 128\nok\ndata 00\nbook')" ''
+given 'heap 4 1\nclose 0\nlog 4\nround oldest 1 9' split
+expect 'refused lines, split' 0 "$(printf 'mutator 0\nrefused 5\nbook\nrefused 8\nround none')" ''
+given 'heap 4 1\nnew 0 8 1\nround oldest 1 9\nepoch 0\n' split
+expect 'a line of no thread' 2 'refused 16 4' ''
+given 'heap 1 1\nopen 1\n' split
+expect 'a mutator that the heap has not, before a shape' 2 'refused 16 2' ''
+
+for way in '' split; do # without and with the argument
+    # shellcheck disable=SC2086
+    {
+        given 'heap 1 1\n' $way
+        expect "a shape, $way" 2 'refused 15' ''
+        given 'heap 4 1\nopen\n' $way
+        expect "a line, $way" 2 'refused 16 2' ''
+        got=0
+        head -c 1048577 /dev/zero | tr '\0' '\n' | "$program" $way >"$work/out" 2>"$work/err" || got=$?
+        expect "a text that is too long, $way" 2 'refused 16 0' ''
+        got=0
+        "$program" $way </ >"$work/out" 2>"$work/err" || got=$?
+        expect "a folder as standard input, $way" 1 '' 'read fault'
+        got=0
+        "$program" $way <&- >"$work/out" 2>"$work/err" || got=$?
+        expect "no standard input, $way" 1 '' 'read fault'
+        : >"$work/out"
+        got=0
+        printf 'heap 4 1\n' | "$program" $way >/dev/full 2>"$work/err" || got=$?
+        expect "a full device, $way" 1 '' 'write fault'
+        got=0
+        printf 'heap 4 1\n' | "$program" $way >&- 2>"$work/err" || got=$?
+        expect "no standard output, $way" 1 '' 'write fault'
+    }
+done
 exit "$wrong"

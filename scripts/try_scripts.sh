@@ -26,7 +26,7 @@ ln -s "$launcher" "$work/linked/trace"
 printf '%s\n' 'far_word:' 'far_evac may_wait=2: far_word  thiserror' 'far_text: hex' 'far_laws: far_trace' 'far_trace: far_evac far_text' >"$tree/crates.txt"
 cat >"$work/bin/rt" <<'END'
 #!/usr/bin/env bash
-# Answers as rt does, proves nothing, and makes a program that prints its input; where REFUSE is set, nothing is proved.
+# Answers as rt does, proves nothing, and makes a program that prints its input where its arguments are WORDS; where REFUSE is set, nothing is proved.
 name="$(basename "$PWD")"
 echo "$1 $name" >>"$CALLS"
 if [[ -n "${REFUSE:-}" ]]; then
@@ -36,7 +36,7 @@ fi
 [[ -d out ]] || printf '%s\n' "rt: chose --jobs 2 for $name" 'so far: 3 of 9 functions checked' 'fn f: proved'
 mkdir -p out
 if [[ "$1" == run && ! -e out/far_trace ]]; then
-    printf '#!/usr/bin/env bash\nexec cat\n' >out/far_trace
+    printf '#!/usr/bin/env bash\n[[ "$*" == "${WORDS:-}" ]] && exec cat\n' >out/far_trace
     chmod +x out/far_trace
 fi
 END
@@ -65,6 +65,10 @@ launch 'an argument, not built' 2 '' "$launcher" --help
 tells 'usage: far_trace [split]'
 launch 'an empty argument, not built' 2 '' "$launcher" ''
 tells 'usage: far_trace [split]'
+launch 'split twice, not built' 2 '' "$launcher" split split
+tells 'usage: far_trace [split]'
+launch 'an empty argument after split, not built' 2 '' "$launcher" split ''
+tells 'usage: far_trace [split]'
 REFUSE=1 launch 'a refused proof' 1 'lib far_evac,lib far_text' "$launcher"
 tells 'fn far_evac::f: not proved'
 rm "$(sed -n 's/.*; its log is //p' "$work/err")"
@@ -74,6 +78,8 @@ tells 'far_trace: far_text (3 of 4): so far: 3 of 9 functions checked'
 tells 'far_trace: far_trace (4 of 4): is being proved and built'
 launch 'a second call' 0 '' "$launcher"
 silent 'a second call'
+WORDS='split' launch 'a call with split' 0 '' "$launcher" split
+silent 'a call with split'
 touch "$tree/crates/far_text/src/lib.rt"
 launch 'a call after a touch' 0 'run far_trace' "$launcher"
 launch 'a call after that' 0 '' "$launcher"

@@ -75,8 +75,10 @@ impl From<AllocError> for RunFault {
     }
 }
 
-// All that the reader has, as far as `most` bytes. All room is taken before the first read.
-fn read_whole<R: Read>(alloc: Global, reader: &mut R, most: usize) -> Result<Vec<u8>, RunFault>
+/// All that the reader has, as far as `most` bytes. All room is taken before the first read.
+///
+/// Faults: [`RunFault::Memory`] where room is refused, and [`RunFault::Read`] where the reader fails, any error of it.
+pub fn read_whole<R: Read>(alloc: Global, reader: &mut R, most: usize) -> Result<Vec<u8>, RunFault>
     ensures read { IfOk result (λ v. IfSome (R.remaining reader.old) (λ text. v.items ≡ take most text)) }
     ensures fault { result ≢ Err RunFault.Write }
 {

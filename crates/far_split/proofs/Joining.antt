@@ -15,8 +15,8 @@ use Rattle.far_split.specs.Jobs.{AreEnds, EndsSo, IsPart, Joins}
 use Rattle.far_split.specs.Joined.{AllRan, AreShort, IsFault, MayStop, RanSo, as_joined, commands_in, replies_of, who_at}
 use Rattle.far_split.specs.declared.gate.TheConstants.{THE_BOOK}
 use Rattle.far_split.specs.declared.mutators.Stop.{Stop}
-use Rattle.far_split.specs.declared.out.SplitOut.{SplitOut}
-use Rattle.far_split.specs.declared.out.SplitOut.TheVariants.{Refused as OutRefused, Ran as OutRan}
+use Rattle.far_split.specs.declared.split_out.SplitOut.{SplitOut}
+use Rattle.far_split.specs.declared.split_out.SplitOut.TheVariants.{Refused as OutRefused, Ran as OutRan}
 use Rattle.far_split.specs.declared.run.SplitFault.{SplitFault}
 use Rattle.far_split.specs.declared.run.SplitFault.TheVariants as faults
 use Rattle.far_split.specs.declared.told.Told.{Told}

@@ -12,7 +12,7 @@ ghost use Rattle.far_split.specs.Jobs.{AreEnds, AreJobs, EndsSo, IsJobAt, Joins}
 use crate::books::make_book_lines;
 use crate::gate::{Gate, THE_BOOK};
 use crate::mutators::{Stop, make_lines};
-use crate::out::SplitOut;
+use crate::split_out::SplitOut;
 use crate::told::Told;
 use far_core::Shape;
 use far_device::MemDevice;

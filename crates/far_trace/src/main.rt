@@ -1,26 +1,108 @@
-//! Reads a trace of a far memory heap from standard input, and writes the replies to standard output.
+//! Reads a trace of a far memory heap from standard input, and writes the replies to standard output. With the argument `split` each mutator's lines
+//! are run in a thread of its own.
 #![tactic(auto)]
 
 #[cfg(test)]
 mod tests;
 
-use far_replay::{End, RunFault, run};
+use far_replay::{End, Output, RunFault, WriteFault, read_whole, run};
+use far_split::{NoGate, SplitFault, SplitOut, run_split};
+use far_text::LONGEST_TEXT;
+use std::alloc::AllocError;
 use std::process::ExitCode;
+use std::sync::Wait;
+use std::thread::Threads;
 use std::{env, io};
+use thiserror::Error;
 
-// Whether the program was given an argument. One that is no text is an argument too.
-fn has_argument(rt: &HostRuntime) -> Result<bool, RunFault> {
-    match env::args(rt) {
-        Ok(words) => Ok(words.count() > 1),
-        Err(e) if e.kind() == io::ErrorKind::OutOfMemory => Err(RunFault::Memory),
-        Err(_) => Ok(true),
+/// What the arguments ask for.
+#[derive(Clone, Copy)]
+enum Asked {
+    /// A run whose lines are made in turn.
+    Whole,
+    /// A run whose lines are split among threads.
+    Split,
+    /// Nothing that there is.
+    Unknown,
+}
+
+/// Why nothing, or not all, was answered.
+#[derive(Clone, Copy, Debug, Error)]
+enum Fault {
+    #[error("{0}")]
+    Run(RunFault),
+    #[error("gate")]
+    Gate,
+}
+
+impl From<RunFault> for Fault {
+    fn from(fault: RunFault) -> Fault {
+        Fault::Run(fault)
     }
 }
 
-fn answer(rt: &(impl Input + Print + AllocGlobal)) -> Result<End, RunFault> {
+impl From<SplitFault> for Fault {
+    fn from(fault: SplitFault) -> Fault {
+        match fault {
+            SplitFault::Gate(_) => Fault::Gate,
+            SplitFault::Memory => Fault::Run(RunFault::Memory),
+        }
+    }
+}
+
+impl From<WriteFault> for Fault {
+    fn from(_fault: WriteFault) -> Fault {
+        Fault::Run(RunFault::Write)
+    }
+}
+
+impl From<AllocError> for Fault {
+    fn from(_error: AllocError) -> Fault {
+        Fault::Run(RunFault::Memory)
+    }
+}
+
+// An argument that is no text is an argument too.
+fn arguments(rt: &HostRuntime) -> Result<Asked, Fault> {
+    let mut words = match env::args(rt) {
+        Ok(words) => words,
+        Err(e) if e.kind() == io::ErrorKind::OutOfMemory => return Err(Fault::Run(
+            RunFault::Memory,
+        )),
+        Err(_) => return Ok(Asked::Unknown),
+    };
+    let _program = words.next();
+    let Some(word) = words.next() else {
+        return Ok(Asked::Whole);
+    };
+    if words.next().is_none() && word.as_str() == "split" {
+        Ok(Asked::Split)
+    } else {
+        Ok(Asked::Unknown)
+    }
+}
+
+fn answer(rt: &(impl Input + Print + AllocGlobal)) -> Result<End, Fault> {
     let mut reader = rt.reader();
     let mut writer = io::writer(rt);
-    run(rt.alloc(), &mut reader, &mut writer)
+    Ok(run(rt.alloc(), &mut reader, &mut writer)?)
+}
+
+// All room for the text and for what is written is taken before the text is read.
+fn answer_split<R: Input + Print + AllocGlobal + Threads + Wait + Sync>(
+    rt: &R,
+) -> Result<End, Fault> {
+    let mut room = Output::new(rt.alloc())?;
+    let text = read_whole(rt.alloc(), &mut rt.reader(), LONGEST_TEXT + 1)?;
+    let told = match run_split(rt.alloc(), rt, &text, &NoGate) {
+        Ok(told) => told,
+        Err(fault) => return Err(fault.into()),
+    };
+    told.print(&mut room, &mut io::writer(rt))?;
+    match told {
+        SplitOut::Refused(_) => Ok(End::Refused),
+        SplitOut::Ran { .. } => Ok(End::Ran),
+    }
 }
 
 fn usage(rt: &impl Eprint) -> ExitCode {
@@ -28,20 +110,22 @@ fn usage(rt: &impl Eprint) -> ExitCode {
     ExitCode::from(2)
 }
 
-fn failure(rt: &impl Eprint, fault: RunFault) -> ExitCode {
-    let _ = eprintln!(rt; "{fault}");
-    ExitCode::FAILURE
+fn status(rt: &impl Eprint, ended: Result<End, Fault>) -> ExitCode {
+    match ended {
+        Ok(End::Ran) => ExitCode::SUCCESS,
+        Ok(End::Refused) => ExitCode::from(2),
+        Err(fault) => {
+            let _ = eprintln!(rt; "{fault}");
+            ExitCode::FAILURE
+        }
+    }
 }
 
 fn main(rt: HostRuntime) -> ExitCode {
-    match has_argument(&rt) {
-        Ok(true) => return usage(&rt),
-        Ok(false) => {}
-        Err(fault) => return failure(&rt, fault),
-    }
-    match answer(&rt) {
-        Ok(End::Ran) => ExitCode::SUCCESS,
-        Ok(End::Refused) => ExitCode::from(2),
-        Err(fault) => failure(&rt, fault),
+    match arguments(&rt) {
+        Ok(Asked::Whole) => status(&rt, answer(&rt)),
+        Ok(Asked::Split) => status(&rt, answer_split(&rt)),
+        Ok(Asked::Unknown) => usage(&rt),
+        Err(fault) => status(&rt, Err(fault)),
     }
 }

@@ -1,0 +1,170 @@
+//! Lines that are made in the order of their text, each in its thread, so that all replies are known, also those of rounds.
+
+use super::talk::prints;
+use super::turns::Turns;
+use far_split::THE_BOOK;
+use std::alloc::Global;
+use std::sync::Wait;
+use std::thread::Threads;
+
+const B: u8 = THE_BOOK;
+
+/// A text, the thread of each of its lines after the first, and what is printed.
+#[derive(Clone, Copy)]
+struct Row {
+    text: &'static str,
+    order: &'static [u8],
+    told: &'static str,
+}
+
+fn is_told<R: Threads + Wait + Sync>(rt: &R, alloc: Global, row: Row) -> bool {
+    let gate = Turns::new(row.order);
+    prints(rt, alloc, row.text, &gate, row.told) && gate.are_over()
+}
+
+// A round moves an object, and sends another far, which comes back.
+const FETCH: Row = Row {
+    text: "\
+heap 4 1
+new 0 8 1
+new 0 8 1
+open 0
+write 0 0 0 0102030405060708
+close 0
+new 0 1016 1
+round oldest 1 9
+log 0
+log 1
+log 2
+audit
+open 0
+try 0 1
+read 0 0 0 8
+read 0 1 0 8
+try 0 1
+logs
+round leastlive 0 9
+",
+    order: &[0, 0, 0, 0, 0, 0, B, B, B, B, B, 0, 0, 0, 0, 0, B, B],
+    told: "\
+mutator 0
+pointer 0
+pointer 1
+ok
+ok
+ok
+pointer 2
+ok
+refused 14 0400000000010008
+data 0102030405060708
+data 0000000000000000
+ok
+book
+round done moved 1 far 1 dropped 0 freed 1
+log 0 free live 0 dead 0 unused 1024
+log 1 sealed live 1024 dead 0 unused 0
+log 2 open live 16 dead 0 unused 1008
+audit near 2 far 1 live 1040
+log 0 free live 0 dead 0 unused 1024
+log 1 sealed live 1024 dead 0 unused 0
+log 2 open live 32 dead 0 unused 992
+log 3 free live 0 dead 0 unused 1024
+round none
+",
+};
+
+// For an object that is far no log is left but the one that is kept free.
+const NO_ROOM: Row = Row {
+    text: "\
+heap 3 1
+new 0 8 1
+new 0 1016 1
+round oldest 1 9
+new 0 1016 1
+open 0
+read 0 0 0 9
+read 0 0 0 8
+write 0 0 0 ff
+view 0 0
+try 0 0
+new 0 8 1
+audit
+",
+    order: &[0, 0, B, 0, 0, 0, 0, 0, 0, 0, 0, B],
+    told: "\
+mutator 0
+pointer 0
+pointer 1
+pointer 2
+ok
+refused 8
+refused 2
+refused 2
+refused 2
+refused 14 4400000000010008
+refused 2
+book
+round done moved 0 far 1 dropped 0 freed 1
+audit near 2 far 1 live 2048
+",
+};
+
+// A round waits for a scope, and another can't begin.
+const WAITING: Row = Row {
+    text: "\
+heap 4 2
+new 0 8 1
+new 1 1016 1
+open 0
+view 0 0
+round oldest 1 9
+round leastlive 1 9
+log 0
+log 4
+log 18446744073709551615
+write 0 0 0 bb
+close 0
+",
+    order: &[0, 1, 0, 0, B, B, B, B, B, 0, 0],
+    told: "\
+mutator 0
+pointer 0
+ok
+ok
+ok
+ok
+mutator 1
+pointer 128
+book
+round limit waiting
+refused 12
+log 0 chosen live 16 dead 0 unused 1008
+refused 8
+refused 8
+",
+};
+
+// After the last epoch no round begins.
+const LAST_EPOCH: Row = Row {
+    text: "\
+heap 4 1 4611686018427387903
+new 0 8 1
+new 0 1016 1
+round oldest 1 9
+",
+    order: &[0, 0, B],
+    told: "\
+mutator 0
+pointer 0
+pointer 1
+book
+refused 13
+",
+};
+
+#[test]
+fn lines_in_order_are_answered_as_in_one_thread(rt: HostRuntime) {
+    for (at, row) in [FETCH, NO_ROOM, WAITING, LAST_EPOCH].iter().enumerate() {
+        assert!(rt; is_told(&rt, rt.alloc(), *row), "row {at}");
+    }
+}

@@ -1,0 +1,110 @@
+//! Texts that are refused, and texts that say nothing.
+
+use super::talk::prints;
+use far_split::NoGate;
+use std::test::Fail;
+
+#[test]
+fn no_commands_have_no_mutators(rt: HostRuntime) {
+    for text in ["", "\n", "\n\n\n", "#", "# alone\n", "\n# one\n\n#two\n#"] {
+        assert!(rt;
+            prints(&rt, rt.alloc(), text, &NoGate, "book\n"),
+            "at {text}"
+        );
+    }
+}
+
+#[test]
+fn a_heap_alone_has_its_mutators(rt: HostRuntime) {
+    assert!(rt; prints(&rt, rt.alloc(), "heap 2 1", &NoGate, "mutator 0\nbook\n"));
+    let three = "mutator 0\nmutator 1\nmutator 2\nbook\n";
+    assert!(rt; prints(&rt, rt.alloc(), "# words\n\nheap 64 3 9\n", &NoGate, three));
+}
+
+// Shapes out of range, also where a mutator has lines that the heap would have.
+const BAD_SHAPES: [&str; 12] = [
+    "heap 1 1",
+    "heap 65 1",
+    "heap 4 0",
+    "heap 4 9",
+    "heap 0 0",
+    "heap 260 257",
+    "heap 4 4294967297",
+    "heap 4 18446744073709551615",
+    "heap 18446744073709551615 1",
+    "heap 4 1 4611686018427387904",
+    "heap 4 9\nnew 8 8 1",
+    "heap 1 18446744073709551615\nopen 18446744073709551614\nlogs",
+];
+
+#[test]
+fn shapes_out_of_range_are_refused(rt: HostRuntime) {
+    for text in BAD_SHAPES {
+        assert!(rt;
+            prints(&rt, rt.alloc(), text, &NoGate, "refused 15\n"),
+            "at {text}"
+        );
+    }
+}
+
+// The number of the first line off the grammar, and the text, with / for a newline: what no thread runs, mutators that the heap hasn't, words
+// that say nothing. A shape out of range is beside it in some.
+const BAD_TEXTS: &str = "\
+4 heap 4 1/new 0 8 1/round oldest 1 9/epoch 0
+2 heap 4 1/epoch 0
+2 heap 4 1/where 0 0
+2 heap 4 1/select oldest 1
+2 heap 4 1/select script 1 0
+2 heap 4 1/mark 1
+2 heap 4 1/wait
+2 heap 4 1/evacuate 1
+2 heap 4 1/abort
+2 heap 4 1/round script 1 0 9
+2 heap 4 1/round oldest 65 9
+2 heap 4 1/device fail 1
+2 heap 4 1/open 1
+3 heap 4 2/open 1/open 2
+2 heap 4 8/new 8 8 1
+2 heap 4 1/close 256
+2 heap 4 1/drop 18446744073709551615 0
+2 heap 4 1/view 1 0
+2 heap 4 1/try 1 0
+2 heap 4 1/read 1 0 0 1
+2 heap 4 1/write 1 0 0 ff
+2 heap 4 1/open
+2 heap 4 1/write 0 0 0 f
+5 heap 4 1//# words/open 0/logs 1/bad
+1 open 0/heap 4 1
+3 heap 4 1/logs/heap 4 1
+2 heap 1 1/x
+2 heap 1 1/new 1 8 1
+2 heap 4 0/open 0
+3 heap 4 9/open 8/open 9
+2 heap 4 18446744073709551615/open 18446744073709551615
+";
+
+#[test]
+fn one_bad_line_refuses_the_whole_text(rt: HostRuntime) -> Result<(), Fail> {
+    for row in BAD_TEXTS.lines() {
+        let (number, text) = row.split_once(' ').unwrap_or(("", row));
+        let text = text.replace(rt.alloc(), "/", "\n")?;
+        let answer = format!(in rt.alloc(); "refused 16 {number}\n")?;
+        assert!(rt;
+            prints(&rt, rt.alloc(), &text, &NoGate, &answer),
+            "at {row}"
+        );
+    }
+    Ok(())
+}
+
+#[test]
+fn a_text_has_so_many_bytes_at_most(rt: HostRuntime) -> Result<(), Fail> {
+    let mut text = String::new(rt.alloc());
+    for _ in 0..1_048_576u64 {
+        text.push('\n')?;
+    }
+    assert!(rt; prints(&rt, rt.alloc(), &text, &NoGate, "book\n"));
+    text.push('\n')?;
+    assert!(rt; prints(&rt, rt.alloc(), &text, &NoGate, "refused 16 0\n"));
+    Ok(())
+}

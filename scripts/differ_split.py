@@ -1,0 +1,215 @@
+#!/usr/bin/env python3
+"""Holds `far_trace split` against the interpreter of differ.py, on random split traces.
+
+usage: differ_split.py PROGRAM SEED TRACES
+Each mutator's replies must follow from its own lines, whatever other threads do: only where there is no room for an object
+that it doesn't view, or `try` finds it far or marked, may a line be refused that else is served. What the book is told must
+be true of some heap. Where one thread has all the lines, each reply is the plain program's.
+Prints nothing and ends with 0 where that always holds; else prints the first reply that is wrong and ends with 1.
+"""
+import re
+import subprocess
+import sys
+
+sys.dont_write_bytecode = True
+from differ import CELLS, LAST_EPOCH, LAST_NUMBER, LOG_BYTES, MARKS, MOST, Heap, Thing, Writer, command, is_shape, parse, taken  # noqa: E402
+
+OWN = ("new", "open", "close", "read", "write", "drop", "view", "try")
+BOOK = ("round", "log", "logs", "audit")
+LOG = re.compile(r"log (\d+) (free|open|sealed|chosen) live (\d+) dead (\d+) unused (\d+)")
+AUDIT = re.compile(r"audit near (\d+) far (\d+) live (\d+)")
+DONE = re.compile(r"round done moved (\d+) far (\d+) dropped (\d+) freed (\d+)")
+LIMIT = re.compile(r"round limit (marking|waiting|evacuating)")
+
+
+def has_thread(found: list, made: tuple) -> bool:
+    """Whether a command is the heap's, the book's, or that of a mutator which the heap has."""
+    name, operands = made
+    return name == "heap" or name in BOOK or (name in OWN and operands[0] < found[0][1][1])
+
+
+def is_slow(word: int, found: Thing, logs: int) -> bool:
+    """Whether a cell's word names this object, but no place that a scope may view at once."""
+    marks = {mark for mark, bit in MARKS.items() if word >> bit & 1}
+    at, log, is_near = word >> 24 & 0x3FF, word >> 34 & 0xFF, word >> 63
+    if word & 0xFFFF != len(found.bytes) or word >> 16 & 0xFF != found.ds or word >> 42 & 0x3FFFF != 1 << 16:
+        return False
+    if is_near:
+        return bool(marks & {"e", "m"}) and log < logs and 8 * at + taken(len(found.bytes)) <= LOG_BYTES
+    return "e" not in marks and (at, log) == (0, 0)
+
+
+class Alone(Heap):
+    """A mutator as its own lines tell it. Room is what others leave: a reply tells whether there was any."""
+
+    def __init__(self, logs: int, mutators: int):
+        super().__init__(logs, mutators)
+        self.logs, self.reply = logs, ""
+
+    def place(self, found: Thing, kept: int) -> bool:
+        return self.reply != "refused 2"
+
+    def pin(self, m: int, p: int) -> str:
+        if isinstance(found := self.find_open(m, p), str):
+            return found
+        slow = re.fullmatch("refused 14 ([0-9a-f]{16})", self.reply)
+        if p not in self.views[m] and slow and is_slow(int(slow[1], 16), found, self.logs):
+            return self.reply
+        self.views[m].add(p)
+        return "ok"
+
+    def expected(self, name: str, operands: list, reply: str) -> str:
+        """The reply, where it may come; else one that may."""
+        self.reply = reply
+        return self.answer(name, operands)
+
+
+class Told:
+    """What the book's thread is told, as far as it hangs on that thread alone."""
+
+    def __init__(self, logs: int, mutators: int, epoch: int = 0):
+        self.logs, self.mutators, self.epoch, self.is_idle = logs, mutators, epoch, True
+
+    def is_log(self, line: str, number: int) -> bool:
+        if not (found := LOG.fullmatch(line)):
+            return False
+        live, dead, unused = map(int, found.groups()[2:])
+        is_free = found[2] != "free" or unused == LOG_BYTES
+        return int(found[1]) == number and live + dead + unused == LOG_BYTES and live % 8 == dead % 8 == 0 and is_free
+
+    def is_log_answered(self, lines: list, log: int) -> bool:
+        return lines == ["refused 8"] if log >= self.logs else self.is_log(lines[0], log)
+
+    def are_logs_answered(self, lines: list) -> bool:
+        return all(self.is_log(line, log) for log, line in enumerate(lines)) and sum(" open " in line for line in lines) == 1
+
+    def is_audit_answered(self, lines: list) -> bool:
+        if not (found := AUDIT.fullmatch(lines[0])):
+            return False
+        near, far, live = map(int, found.groups())  # (a dropped object lives in its log until its owner gets the lock)
+        return near + far <= CELLS * self.mutators and 16 * near <= live <= LOG_BYTES * self.logs and live % 8 == 0
+
+    def is_round_answered(self, lines: list, policy: str, most: int, turns: int) -> bool:
+        if not self.is_idle or self.epoch == LAST_EPOCH:
+            return lines == ["refused 12" if not self.is_idle else "refused 13"]
+        if lines == ["round none"]:
+            return True
+        if limit := LIMIT.fullmatch(lines[0]):
+            self.is_idle = False
+            self.epoch += limit[1] != "marking"
+            return most > 0
+        self.epoch += 1
+        return bool(done := DONE.fullmatch(lines[0])) and 1 <= int(done[4]) <= most and turns >= 3
+
+    def is_answered(self, name: str, operands: list, lines: list) -> bool:
+        if name == "logs":
+            return self.are_logs_answered(lines)
+        return {"log": self.is_log_answered, "audit": self.is_audit_answered, "round": self.is_round_answered}[name](lines, *operands)
+
+
+def wrong_reply(shape: list, commands: list, output: str):
+    """The first reply that mustn't come, and what was asked, after commands whose shape is none out of range."""
+    lines = iter(output.split("\n"))
+    own = [[made for made in commands if made[0] in OWN and made[1][0] == m] for m in range(shape[1])]
+    asked = [made for made in commands if made[0] in BOOK]
+    plain = Heap(*shape) if sum(map(bool, [*own, asked])) == 1 else None
+    for m, mine in enumerate(own):
+        if (line := next(lines, None)) != f"mutator {m}":
+            return line, f"mutator {m}"
+        alone = Alone(*shape[:2])
+        for made in mine:
+            line = next(lines, "")
+            if line != (plain.answer(*made) if plain else alone.expected(*made, line)):
+                return line, made
+    if (line := next(lines, None)) != "book":
+        return line, "book"
+    told = Told(*shape)
+    for made in asked:
+        found = [next(lines, "") for _ in range(shape[0] if made[0] == "logs" else 1)]
+        if not told.is_answered(*made, found) or (plain and "\n".join(found) != plain.answer(*made)):
+            return found, made
+    return None if [*lines] == [""] else ([*lines], "the end")
+
+
+def wrong(text: bytes, status: int, output: bytes):
+    """What is wrong with the status and the output of a text; None where nothing is."""
+    commands = parse(text, has_thread)
+    due = None
+    if isinstance(commands, int):
+        due = 2, b"refused 16 %d\n" % commands
+    elif not commands:
+        due = 0, b"book\n"
+    elif not is_shape(*commands[0][1]):
+        due = 2, b"refused 15\n"
+    if due:
+        return None if (status, output) == due else (status, output[:200], due)
+    return wrong_reply(commands[0][1], commands[1:], output.decode()) if status == 0 else status
+
+
+class SplitWriter(Writer):
+    """Makes one random split trace; most of its numbers are good where there is room for all objects."""
+
+    WEIGHTS = {"new": 9, "access": 40, "open": 8, "close": 5, "drop": 5, "view": 4, "try": 8, "round": 8, "log": 2, "logs": 1, "audit": 3, "": 1, "# words": 1}
+
+    def __init__(self, seed: str):
+        super().__init__(seed)
+        shape = self.choice.choice((2, 3, 4, 5, 9, 16, 64, 64)), self.choice.choice((1, 2, 3, 4, 8))
+        self.heap, self.largest = Alone(*shape), self.choice.choice((1, 9, 40, 100, 300, MOST))
+        if self.choice.random() > 0.03:
+            self.shape = (*shape, *self.shape[2:])
+        asked = self.choice.choices(((), BOOK, ("round",), ("audit", "logs", "log"), ("all",)), (60, 15, 10, 10, 5))[0]
+        self.weights = {kind: weight for kind, weight in self.WEIGHTS.items() if kind not in asked}
+        if asked == ("all",):
+            self.weights = {kind: self.WEIGHTS[kind] for kind in BOOK}
+
+    def round(self) -> str:
+        policy = self.policy(self.choice.choice(("oldest", "leastlive")))
+        turns = self.choice.choice((0, 1, 2, 3, 4, 9, 100)) if self.choice.random() < 0.02 else 1_000  # (each lets other threads run)
+        return f"round {policy} {turns}"
+
+    def line(self) -> str:
+        m = self.choice.randrange(len(self.heap.scopes))
+        kind = self.choice.choices([*self.weights], [*self.weights.values()])[0]
+        if kind in ("", "# words"):
+            return kind
+        made = self.round() if kind == "round" else kind if kind in ("logs", "audit") else self.operands(kind, m)
+        if kind not in BOOK:
+            name, _, *rest = made.split(" ")
+            made = " ".join([name, str(m), *rest])
+            self.heap.answer(*command(made.encode()))
+        return made
+
+    def spoiled(self, text: bytes) -> bytes:
+        """The text with a line changed, or with one more that no thread runs."""
+        if self.choice.random() < 0.5:
+            return super().spoiled(text)
+        m = self.choice.choice((len(self.heap.scopes), 8, 255, LAST_NUMBER))
+        others = f"open {m}|new {m} 8 1|try {m} 0|epoch 0|where 0 0|select oldest 1|mark 1|wait|evacuate 1|abort|select script 1 0"
+        lines = text.split(b"\n")
+        lines.insert(self.choice.randrange(1, len(lines) + 1), self.choice.choice(others.split("|")).encode())
+        return b"\n".join(lines)
+
+    def text(self) -> bytes:
+        lines = [*self.choice.choice(([], [], ["# first", ""])), " ".join(["heap", *map(str, self.shape)])]
+        if "audit" in self.weights:  # so that the book's thread doesn't run ahead of all others
+            lines += ["audit"] * self.choice.choice((0, 20, 100))
+        lines += [self.line() for _ in range(self.choice.choice((4, 40, 400, 2_000)))]
+        if "close" in self.weights and self.choice.random() < 0.9:
+            lines += [f"close {m}" for m in range(len(self.heap.scopes))]
+        text = ("\n".join(lines) + self.choice.choice(("\n", "\n", "", "\n\n"))).encode()
+        return self.spoiled(text) if self.choice.random() < 0.12 else text
+
+
+def main() -> int:
+    program, seed, count = sys.argv[1], sys.argv[2], int(sys.argv[3])
+    for number in range(count):
+        text = SplitWriter(f"{seed} {number}").text()
+        ran = subprocess.run([program, "split"], input=text, capture_output=True, timeout=60, check=False)
+        if ran.stderr or (found := wrong(text, ran.returncode, ran.stdout)):
+            print(f"trace {number} of seed {seed}:\n{text!r}\nwrong: {ran.stderr or found!r}")
+            return 1
+    return 0
+
+
+if __name__ == "__main__":
+    sys.exit(main())
