@@ -19,6 +19,7 @@ BOOK = ("round", "log", "logs", "audit")
 LOG = re.compile(r"log (\d+) (free|open|sealed|chosen) live (\d+) dead (\d+) unused (\d+)")
 AUDIT = re.compile(r"audit near (\d+) far (\d+) live (\d+)")
 DONE = re.compile(r"round done moved (\d+) far (\d+) dropped (\d+) freed (\d+)")
+HALTED = re.compile(r"refused 1 moved (\d+) far (\d+) dropped (\d+) freed (\d+)")
 LIMIT = re.compile(r"round limit (marking|waiting|evacuating)")
 
 
@@ -40,14 +41,14 @@ def is_slow(word: int, found: Thing, logs: int) -> bool:
 
 
 class Alone(Heap):
-    """A mutator as its own lines tell it. Room is what others leave: a reply tells whether there was any."""
+    """A mutator as its own lines tell it. Room is what others leave: a reply tells whether there was any, or enough memory."""
 
-    def __init__(self, logs: int, mutators: int):
+    def __init__(self, logs: int, mutators: int, is_short: bool = False):
         super().__init__(logs, mutators)
-        self.logs, self.reply = logs, ""
+        self.logs, self.reply, self.lacks = logs, "", ("refused 2", "refused 1")[: 1 + is_short]
 
     def place(self, found: Thing, kept: int) -> bool:
-        return self.reply != "refused 2"
+        return self.reply not in self.lacks
 
     def pin(self, m: int, p: int) -> str:
         if isinstance(found := self.find_open(m, p), str):
@@ -61,14 +62,15 @@ class Alone(Heap):
     def expected(self, name: str, operands: list, reply: str) -> str:
         """The reply, where it may come; else one that may."""
         self.reply = reply
-        return self.answer(name, operands)
+        said = self.answer(name, operands)
+        return reply if said == "refused 2" and reply in self.lacks else said
 
 
 class Told:
     """What the book's thread is told, as far as it hangs on that thread alone."""
 
-    def __init__(self, logs: int, mutators: int, epoch: int = 0):
-        self.logs, self.mutators, self.epoch, self.is_idle = logs, mutators, epoch, True
+    def __init__(self, is_short: bool, logs: int, mutators: int, epoch: int = 0):
+        self.is_short, self.logs, self.mutators, self.epoch, self.is_idle = is_short, logs, mutators, epoch, True
 
     def is_log(self, line: str, number: int) -> bool:
         if not (found := LOG.fullmatch(line)):
@@ -85,14 +87,17 @@ class Told:
 
     def is_audit_answered(self, lines: list) -> bool:
         if not (found := AUDIT.fullmatch(lines[0])):
-            return False
+            return self.is_short and lines == ["refused 1"]
         near, far, live = map(int, found.groups())  # (a dropped object lives in its log until its owner gets the lock)
         return near + far <= CELLS * self.mutators and 16 * near <= live <= LOG_BYTES * self.logs and live % 8 == 0
 
     def is_round_answered(self, lines: list, policy: str, most: int, turns: int) -> bool:
         if not self.is_idle or self.epoch == LAST_EPOCH:
             return lines == ["refused 12" if not self.is_idle else "refused 13"]
-        if lines == ["round none"]:
+        if lines == ["round none"] or (self.is_short and lines == ["refused 1"]):
+            return True
+        if self.is_short and HALTED.fullmatch(lines[0]):
+            self.is_idle = False
             return True
         if limit := LIMIT.fullmatch(lines[0]):
             self.is_idle = False
@@ -107,23 +112,23 @@ class Told:
         return {"log": self.is_log_answered, "audit": self.is_audit_answered, "round": self.is_round_answered}[name](lines, *operands)
 
 
-def wrong_reply(shape: list, commands: list, output: str):
+def wrong_reply(shape: list, commands: list, output: str, is_short: bool):
     """The first reply that mustn't come, and what was asked, after commands whose shape is none out of range."""
     lines = iter(output.split("\n"))
     own = [[made for made in commands if made[0] in OWN and made[1][0] == m] for m in range(shape[1])]
     asked = [made for made in commands if made[0] in BOOK]
-    plain = Heap(*shape) if sum(map(bool, [*own, asked])) == 1 else None
+    plain = Heap(*shape) if sum(map(bool, [*own, asked])) == 1 and not is_short else None
     for m, mine in enumerate(own):
         if (line := next(lines, None)) != f"mutator {m}":
             return line, f"mutator {m}"
-        alone = Alone(*shape[:2])
+        alone = Alone(*shape[:2], is_short)
         for made in mine:
             line = next(lines, "")
             if line != (plain.answer(*made) if plain else alone.expected(*made, line)):
                 return line, made
     if (line := next(lines, None)) != "book":
         return line, "book"
-    told = Told(*shape)
+    told = Told(is_short, *shape)
     for made in asked:
         found = [next(lines, "") for _ in range(shape[0] if made[0] == "logs" else 1)]
         if not told.is_answered(*made, found) or (plain and "\n".join(found) != plain.answer(*made)):
@@ -131,8 +136,8 @@ def wrong_reply(shape: list, commands: list, output: str):
     return None if [*lines] == [""] else ([*lines], "the end")
 
 
-def wrong(text: bytes, status: int, output: bytes):
-    """What is wrong with the status and the output of a text; None where nothing is."""
+def wrong(text: bytes, status: int, output: bytes, is_short: bool = False):
+    """What is wrong with the status and the output of a text, where memory may be short or not; None where nothing is."""
     commands = parse(text, has_thread)
     due = None
     if isinstance(commands, int):
@@ -143,7 +148,7 @@ def wrong(text: bytes, status: int, output: bytes):
         due = 2, b"refused 15\n"
     if due:
         return None if (status, output) == due else (status, output[:200], due)
-    return wrong_reply(commands[0][1], commands[1:], output.decode()) if status == 0 else status
+    return wrong_reply(commands[0][1], commands[1:], output.decode(), is_short) if status == 0 else status
 
 
 class SplitWriter(Writer):

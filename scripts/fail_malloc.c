@@ -25,8 +25,9 @@ static int refused(void) {
         const char *value = getenv("FAIL_ALLOC");
         nth = value ? atol(value) : 0;
     }
-    count += 1;
-    return count == nth;
+    if (__atomic_add_fetch(&count, 1, __ATOMIC_SEQ_CST) != nth) return 0;
+    errno = ENOMEM; // as the C library does, which asks for it where it makes a thread
+    return 1;
 }
 
 void *malloc(size_t size) {

@@ -39,8 +39,8 @@ module _ {K : Type 0} (heap : HeapId) (number : ℕ) (jobs : List (Job K)) (befo
         subst (IsJobAt heap at) (sym (get_or_push jobs job other at (before.many ∙ sym here))) (subst (λ k. IsJobAt heap k job) (sym here) is)
   ]
 
-  pub jobs_more : (job : Job K) → IsJobAt heap number job → JobsBefore heap (number + 1) (jobs ++ job ∷ [])
-  jobs_more job is = record { many = omega (arith, length-append jobs (job ∷ []), before.many); each = each_more job is }
+  pub jobs_more : (job : Job K) (more : List (Job K)) → IsJobAt heap number job → more ≡ jobs ++ job ∷ [] → JobsBefore heap (number + 1) more
+  jobs_more job more is pushed = subst (JobsBefore heap (number + 1)) (sym pushed) record { many = omega (arith, length-append jobs (job ∷ []), before.many); each = each_more job is }
 
   pub jobs_all : (job : Job K) → number ≡ heap.mutators → IsJobAt heap number job → AreJobs heap (jobs ++ job ∷ [])
   jobs_all job all is = record {

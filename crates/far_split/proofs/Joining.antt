@@ -15,8 +15,8 @@ use Rattle.far_split.specs.Jobs.{AreEnds, EndsSo, IsPart, Joins}
 use Rattle.far_split.specs.Joined.{AllRan, AreShort, IsFault, MayStop, RanSo, as_joined, commands_in, replies_of, who_at}
 use Rattle.far_split.specs.declared.gate.TheConstants.{THE_BOOK}
 use Rattle.far_split.specs.declared.mutators.Stop.{Stop}
-use Rattle.far_split.specs.declared.out.SplitOut.{SplitOut}
-use Rattle.far_split.specs.declared.out.SplitOut.TheVariants.{Refused as OutRefused, Ran as OutRan}
+use Rattle.far_split.specs.declared.split_out.SplitOut.{SplitOut}
+use Rattle.far_split.specs.declared.split_out.SplitOut.TheVariants.{Refused as OutRefused, Ran as OutRan}
 use Rattle.far_split.specs.declared.run.SplitFault.{SplitFault}
 use Rattle.far_split.specs.declared.run.SplitFault.TheVariants as faults
 use Rattle.far_split.specs.declared.told.Told.{Told}
@@ -127,7 +127,8 @@ never_stopped ends rest parts end why none so_far some first is =
     λ other. ap (λ xs. get_or xs at other) so_far ∙ get_or-append-add front rest 0 other ∙ get_or_default rest 0 other end some ∙ sym first ∙ is in
     none at why (below, found)
 
-pub parts_more : (ends rest left : List End) (parts : List (Vec Told)) (end : End) (told : Vec Told) → ends ≡ map answered parts ++ rest → rest ≡ end ∷ left → end ≡ answered told
-    → ends ≡ map answered (parts ++ told ∷ []) ++ left
-parts_more ends rest left parts end told so_far first is =
+pub parts_more : (ends rest left : List End) (parts more : List (Vec Told)) (end : End) (told : Vec Told) → ends ≡ map answered parts ++ rest → rest ≡ end ∷ left → end ≡ answered told → more ≡ parts ++ told ∷ []
+    → ends ≡ map answered more ++ left
+parts_more ends rest left parts more end told so_far first is pushed =
     so_far ∙ ap (λ xs. map answered parts ++ xs) (first ∙ ap (λ x. x ∷ left) is) ∙ sym (append_assoc (map answered parts) (answered told ∷ []) left) ∙ ap (λ xs. xs ++ left) (sym (map-append answered parts (told ∷ [])))
+    ∙ ap (λ xs. map answered xs ++ left) (sym pushed)

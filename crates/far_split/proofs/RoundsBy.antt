@@ -1,15 +1,17 @@
 -- A round of a policy is one of the policy's name.
-use Rattle.std.proofs.Common.{◌≡◌, inl, inr, ℕ, List, Result, Ok, Err, subst, refl}
+use Rattle.std.proofs.Common.{◌≡◌, ◌≢◌, inl, inr, ℕ, false, List, Result, Ok, Err, ap, sym, subst, ◌∙◌, refl}
 use Rattle.std.specs.Prelude.{IfErr}
 use Rattle.far_word.specs.declared.refused.Refused.{Refused as Refusal}
 use Rattle.far_log.specs.declared.row.LogRow.{LogRow}
 use Rattle.far_device.specs.declared.mem.MemDevice.{MemDevice}
 use Rattle.far_evac.specs.declared.answers.EvacFault.{EvacFault}
+use Rattle.far_evac.specs.declared.answers.Progress.{Progress}
 use Rattle.far_evac.specs.declared.answers.RoundEnd.{RoundEnd}
+use Rattle.far_evac.specs.Moment.{nothing, progress_of}
 use Rattle.far_heap.specs.HeapId.{HeapId}
 use Rattle.far_heap.specs.Rounds.{Chose, IsUnchosen, RefusesRound}
 use Rattle.far_text.specs.Command.{Policy}
-use Rattle.far_split.specs.BookTold.{Gives, StopsRound}
+use Rattle.far_split.specs.BookTold.{Gives, StopsRound, none_done}
 
 module _ {P : Type 0} (gives : P → List LogRow → ℕ → Result (List ℕ) Refusal → P → Type 0) (policy : Policy)
     (is : (before after : P) (rows : List LogRow) (most : ℕ) (outcome : Result (List ℕ) Refusal) → gives before rows most outcome after → Gives policy tt rows most outcome tt) where
@@ -29,3 +31,17 @@ module _ {P : Type 0} (gives : P → List LogRow → ℕ → Result (List ℕ) R
   pub all_stopped_by : (heap : HeapId) (before after : P) (most n turns : ℕ) (result : Result RoundEnd EvacFault) → most ≡ n → IfErr result (RefusesRound gives MemDevice heap before most after turns) → IfErr result (λ fault. StopsRound heap policy n turns fault.why fault.so_far)
   all_stopped_by heap before after most n turns (Ok end) same refused = tt
   all_stopped_by heap before after most n turns (Err fault) same refused = stopped_by heap before after most n turns fault same refused
+
+-- ---- what was done
+undone : (heap : HeapId) (policy : Policy) (most turns : ℕ) (why : Refusal) (so_far : Progress) → StopsRound heap policy most turns why so_far → so_far.done ≡ false
+undone heap policy most turns why so_far (inl (none, unchosen)) = ap (λ (p : Progress). p.done) none
+undone heap policy most turns why so_far (inr (logs, chose, some, stops)) = ap (λ (p : Progress). p.done) stops.sum
+
+-- a round that did nothing is refused so
+pub stopped_at_once : (heap : HeapId) (policy : Policy) (most turns : ℕ) (why : Refusal) (so_far : Progress) → StopsRound heap policy most turns why so_far → so_far ≡ progress_of nothing so_far.done → StopsRound heap policy most turns why none_done
+stopped_at_once heap policy most turns why so_far stops same =
+    subst (StopsRound heap policy most turns why) (same ∙ ap (progress_of nothing) (undone heap policy most turns why so_far stops)) stops
+
+-- and one that did something did not
+pub did_some : (so_far : Progress) → ¬ (so_far ≡ progress_of nothing so_far.done) → so_far ≢ none_done
+did_some so_far some none = some (none ∙ ap (progress_of nothing) (sym (ap (λ (p : Progress). p.done) none)))

@@ -1,8 +1,8 @@
 -- What the book is told to tell is whole, and short.
-use Rattle.std.proofs.Common.{◌≡◌, ℕ, zero, suc, ◌+◌, ◌*◌, ◌<◌, ◌≤◌, Bool, true, false, cond, Option, Some, None, List, [], ◌∷◌, length, length-append, ap, arith}
+use Rattle.std.proofs.Common.{◌≡◌, ℕ, zero, suc, ◌+◌, ◌*◌, ◌<◌, ◌≤◌, Bool, true, false, cond, Option, Some, None, List, [], ◌∷◌, length, length-append, ap, arith, ◌-◌, ◌++◌, ◌∙◌, sym}
 use Rattle.std.specs.Prelude.{map}
 use Rattle.std.specs.List.{AllByRecursion, flat_map, range_with_len}
-use Rattle.std.proofs.lemmas.List.FromFn.{length-map-range_with_len}
+use Rattle.std.proofs.lemmas.List.FromFn.{length-map-range_with_len, map-range_with_len_more}
 use Rattle.far_word.specs.declared.sizes.TheConstants.{CELLS}
 use Rattle.far_word.specs.Pointer.{read_of}
 use Rattle.far_core.specs.events.Naming.{is_dropped}
@@ -17,6 +17,7 @@ use Rattle.far_evac.specs.declared.census.Housed.{Housed}
 use Rattle.far_evac.specs.declared.census.LogState.{LogState}
 use Rattle.far_evac.specs.Census.{homes_of, housed_at, housed_in, kind_in, logs_of}
 use Rattle.far_evac.specs.Moment.{Moment}
+use Rattle.far_replay.specs.declared.reply.LogLine.{LogLine}
 use Rattle.far_replay.specs.Turn.{log_line}
 use Rattle.far_split.specs.BookTold.{MakesLog}
 
@@ -24,6 +25,15 @@ use Rattle.far_split.specs.BookTold.{MakesLog}
 pub lines_whole : (now : Moment) → Law (own_part now.core) → (logs : List ℕ) → AllByRecursion MakesLog (map (log_line now) logs)
 lines_whole now law [] = tt
 lines_whole now law (log ∷ logs) = (bytes_make_log now.core law log, lines_whole now law logs)
+
+-- one line more
+pub lines_more : (now : Moment) (first log : ℕ) (lines new : List LogLine) (line : LogLine) → first ≤ log → lines ≡ map (log_line now) (range_with_len first (log - first)) → new ≡ lines ++ line ∷ [] → line ≡ log_line now log
+    → new ≡ map (log_line now) (range_with_len first (log + 1 - first))
+lines_more now first log lines new line begins so_far is told =
+    is
+    ∙ (λ i. so_far i ++ told i ∷ [])
+    ∙ sym (map-range_with_len_more (log_line now) first (log - first) log (omega (arith, begins)))
+    ∙ ap (λ n. map (log_line now) (range_with_len first n)) (omega (arith, begins))
 
 -- ---- a census is short
 at_most : (p : ℕ) (home : Option Home) → length (housed_at p home) ≤ 1

@@ -1,5 +1,5 @@
 -- What the book's lines are told: one reply to each, by what was so of the heap's book while its lock was held.
-use Rattle.std.specs.Prelude.{◌≡◌, ◌⊎◌, ℕ, ◌+◌, ◌<◌, ◌≤◌, Bool, true, false, List, [], ◌∷◌, filter, length, map, sum, take, Result, Ok}
+use Rattle.std.specs.Prelude.{◌≡◌, ◌≢◌, ◌⊎◌, ℕ, ◌+◌, ◌<◌, ◌≤◌, Bool, true, false, List, [], ◌∷◌, filter, length, map, sum, take, Result, Ok}
 use Rattle.std.specs.List.{AllByRecursion, range_with_len}
 use Rattle.far_word.specs.declared.refused.Refused.{Refused as Refusal}
 use Rattle.far_word.specs.declared.refused.Refused.TheVariants.{Device, Memory, Range}
@@ -17,7 +17,7 @@ use Rattle.far_evac.specs.declared.census.Housed.{Housed}
 use Rattle.far_evac.specs.declared.census.LogState.{LogState}
 use Rattle.far_evac.specs.EvacOf.{EvacOf, moment}
 use Rattle.far_evac.specs.Listing.{ListsEach}
-use Rattle.far_evac.specs.Moment.{Moment}
+use Rattle.far_evac.specs.Moment.{Moment, nothing, progress_of}
 use Rattle.far_evac.specs.MomentLaw.{IsLawful}
 use Rattle.far_heap.specs.HeapId.{HeapId, heap_of}
 use Rattle.far_heap.specs.Rounds.{Chose, EndsAfter, RefusesRound}
@@ -88,9 +88,13 @@ EndsRound heap policy most turns end = (logs : List ℕ) × Chose (Gives policy)
 abbrev pub StopsRound : HeapId → Policy → ℕ → ℕ → Refusal → Progress → Type 0
 StopsRound heap policy most turns why so_far = RefusesRound (Gives policy) MemDevice heap tt most tt turns record { so_far = so_far; why = why }
 
+-- nothing was done
+abbrev pub none_done : Progress
+none_done = progress_of nothing false
+
 -- ---- lines
--- a line was answered so. One log is refused where the heap has no such log; an audit where memory is; what a round did before it was refused is told where the
--- device, or memory for it, was refused in one of its turns
+-- a line was answered so. One log is refused where the heap has no such log; an audit where memory is. A refusal of a round tells what it had done, where that is
+-- anything, or where the device, or memory for it, was refused
 abbrev pub TellsLine : HeapId → Command → Reply → Type 0
 TellsLine heap (Book AsksLogs) (Logs lines) = TellsLogs heap (range_with_len 0 heap.logs) lines
 TellsLine heap (Book (AsksLog log)) (Logs lines) = (log < heap.logs) × TellsLogs heap (log ∷ []) lines
@@ -98,8 +102,8 @@ TellsLine heap (Book (AsksLog log)) (Refused Range) = heap.logs ≤ log
 TellsLine heap (Book AsksAudit) (Audited counts) = TellsCensus heap counts
 TellsLine heap (Book AsksAudit) (Refused Memory) = Unit {0}
 TellsLine heap (Evacuator (Round policy most turns)) (Ended end) = EndsRound heap policy most turns end
-TellsLine heap (Evacuator (Round policy most turns)) (Refused why) = (so_far : Progress) × StopsRound heap policy most turns why so_far
-TellsLine heap (Evacuator (Round policy most turns)) (Halted why so_far) = ((why ≡ Memory) ⊎ (why ≡ Device)) × StopsRound heap policy most turns why so_far
+TellsLine heap (Evacuator (Round policy most turns)) (Refused why) = StopsRound heap policy most turns why none_done
+TellsLine heap (Evacuator (Round policy most turns)) (Halted why so_far) = StopsRound heap policy most turns why so_far × ((so_far ≢ none_done) ⊎ (why ≡ Memory) ⊎ (why ≡ Device))
 TellsLine heap _ _ = ⊥
 
 -- one reply to each line, in order

@@ -12,8 +12,8 @@ use Rattle.far_split.specs.BookTold.{BookTold}
 use Rattle.far_split.specs.Here.{AloneHere}
 use Rattle.far_split.specs.Joined.{commands_in, replies_of}
 use Rattle.far_split.specs.declared.mutators.Stop.{Stop}
-use Rattle.far_split.specs.declared.out.SplitOut.{SplitOut}
-use Rattle.far_split.specs.declared.out.SplitOut.TheVariants.{Refused as OutRefused, Ran as OutRan}
+use Rattle.far_split.specs.declared.split_out.SplitOut.{SplitOut}
+use Rattle.far_split.specs.declared.split_out.SplitOut.TheVariants.{Refused as OutRefused, Ran as OutRan}
 use Rattle.far_split.specs.declared.run.Job.{Job}
 use Rattle.far_split.specs.declared.run.Job.TheVariants.{Mutator as MutatorJob, Book as BookJob}
 use Rattle.far_split.specs.declared.told.Told.{Told}

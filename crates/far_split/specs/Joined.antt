@@ -19,8 +19,8 @@ use Rattle.far_split.specs.Told.{as_reply}
 use Rattle.far_split.specs.declared.mutators.Stop.{Stop}
 use Rattle.far_split.specs.declared.mutators.Stop.TheVariants as stops
 use Rattle.far_split.specs.declared.gate.TheConstants.{THE_BOOK}
-use Rattle.far_split.specs.declared.out.SplitOut.{SplitOut}
-use Rattle.far_split.specs.declared.out.SplitOut.TheVariants.{Refused as OutRefused, Ran as OutRan}
+use Rattle.far_split.specs.declared.split_out.SplitOut.{SplitOut}
+use Rattle.far_split.specs.declared.split_out.SplitOut.TheVariants.{Refused as OutRefused, Ran as OutRan}
 use Rattle.far_split.specs.declared.run.SplitFault.{SplitFault}
 use Rattle.far_split.specs.declared.run.SplitFault.TheVariants as faults
 use Rattle.far_split.specs.declared.told.Told.{Told}

@@ -9,14 +9,14 @@ mod gate;
 mod inquiries;
 mod laws;
 mod mutators;
-mod out;
 mod rounds;
 mod run;
 mod slot;
+mod split_out;
 mod told;
 
 pub use gate::{Gate, NoGate, THE_BOOK};
 pub use laws::mutators_are_alone;
-pub use out::SplitOut;
 pub use run::{SplitFault, run_split};
+pub use split_out::SplitOut;
 pub use told::Told;

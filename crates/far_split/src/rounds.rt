@@ -1,7 +1,8 @@
 //! Rounds that the book's lines ask for, beside the mutators.
 
-ghost use Rattle.std.specs.Prelude.{◌≡◌, ◌⊎◌, true, IfErr, IfOk};
+ghost use Rattle.std.specs.Prelude.{◌≡◌, ◌⊎◌, ◌↔◌, true, IfErr, IfOk, IsTrue};
 ghost use Rattle.far_word.specs.declared.refused.Refused.TheVariants.{Device as Failed, Memory};
+ghost use Rattle.far_evac.specs.Moment.{nothing, progress_of};
 ghost use Rattle.far_text.specs.Command.{Evacuator, Round, as_policy};
 ghost use Rattle.far_replay.specs.Reply.{IsShort};
 ghost use Rattle.far_split.specs.BookTold.{EndsRound, StopsRound, TellsLine};
@@ -9,7 +10,7 @@ ghost use Rattle.far_split.specs.Told.{as_reply};
 
 use crate::told::Told;
 use far_device::MemDevice;
-use far_evac::{EvacFault, Phase, RoundEnd};
+use far_evac::{EvacFault, Phase, Progress, RoundEnd};
 use far_heap::{Heap, HeapName};
 use far_policy::{LeastLive, Oldest};
 use far_text::Policy;
@@ -41,6 +42,13 @@ fn stands_after<K: HeapName, R: Wait>(rt: &R, heap: &Heap<K, MemDevice>, why: Re
     matches!(why, Refused::Memory | Refused::Device) && heap.book(rt).phase() != Phase::Idle
 }
 
+// Whether a round did nothing.
+fn did_nothing(so_far: &Progress) -> bool
+    ensures { IsTrue result ↔ (so_far.now ≡ progress_of nothing so_far.now.done) }
+{
+    so_far.moved == 0 && so_far.far == 0 && so_far.dropped == 0 && so_far.freed == 0
+}
+
 /// Makes a round, turn by turn, each under the heap's lock anew, and tells how it ends. Where the device, or memory for it, is refused in a turn, it tells
 /// what had been done; the round stands then.
 pub(crate) fn make_round<K: HeapName, R: Wait>(
@@ -56,10 +64,10 @@ pub(crate) fn make_round<K: HeapName, R: Wait>(
     match run_by(rt, heap, policy, most, turns) {
         Ok(end) => Told::Ended(end),
         Err(EvacFault { so_far, why }) => {
-            if stands_after(rt, heap, why) {
-                Told::Halted { why, so_far }
-            } else {
+            if did_nothing(&so_far) && !stands_after(rt, heap, why) {
                 Told::Refused(why)
+            } else {
+                Told::Halted { why, so_far }
             }
         }
     }

@@ -1,6 +1,7 @@
 //! A split text is run: each mutator's lines in a thread of its own, the book's in another.
 
-ghost use Rattle.std.specs.Prelude.{◌≡◌, ◌⊎◌, ◌<◌, ◌≤◌, ℕ, true, length, map, None, Some, Ok, IfErr, IfOk};
+ghost use Rattle.std.specs.Prelude.{◌≡◌, ◌⊎◌, ◌<◌, ◌≤◌, ℕ, true, length, map, None, Some, Ok, IfErr, IfOk, IsOk};
+ghost use Rattle.far_text.specs.declared.text.TheConstants.{LONGEST_TEXT};
 ghost use Rattle.far_text.specs.Split.{split_of, SplitHeap};
 ghost use Rattle.far_text.specs.SplitText.{AreOwn};
 ghost use Rattle.far_text.specs.Threads.{Thread as AnyThread, lines_in};
@@ -11,7 +12,7 @@ ghost use Rattle.far_split.specs.Jobs.{AreEnds, AreJobs, EndsSo, IsJobAt, Joins}
 use crate::books::make_book_lines;
 use crate::gate::{Gate, THE_BOOK};
 use crate::mutators::{Stop, make_lines};
-use crate::out::SplitOut;
+use crate::split_out::SplitOut;
 use crate::told::Told;
 use far_core::Shape;
 use far_device::MemDevice;
@@ -59,7 +60,7 @@ type End = Result<Vec<Told>, Stop>;
 // A job for each mutator, by number, and the book's.
 fn jobs_of<K: HeapName>(
     alloc: Global,
-    mutators: Vec<Mutator<K, MemDevice>>,
+    mut mutators: Vec<Mutator<K, MemDevice>>,
 ) -> Result<Vec<Job<K>>, AllocError>
     requires new { mutators.items ≡ newcomers K.heap }
     requires few { K.heap.mutators ≤ 8 }
@@ -67,7 +68,6 @@ fn jobs_of<K: HeapName>(
     ensures { IfOk result (λ jobs. AreJobs K.heap jobs.items) }
 {
     let many = mutators.len();
-    let mut mutators = mutators;
     let mut jobs = Vec::with_capacity(alloc, many + 1)?;
     for number in 0..many {
         jobs.push_reserved(Job::Mutator(mutators.remove(0), number as u8));
@@ -152,12 +152,11 @@ fn fault_of(ends: &[End]) -> Option<SplitFault>
 }
 
 // The replies to all threads' lines, none of which was stopped.
-fn parts_of(alloc: Global, ends: Vec<End>) -> Result<Vec<Vec<Told>>, AllocError>
+fn parts_of(alloc: Global, mut ends: Vec<End>) -> Result<Vec<Vec<Told>>, AllocError>
     requires { IsFault ends.items None }
     ensures { IfOk result (λ parts. ends.items ≡ map Ok parts.items) }
 {
     let many = ends.len();
-    let mut ends = ends;
     let mut parts = Vec::with_capacity(alloc, many)?;
     for _ in 0..many {
         let Ok(told) = ends.remove(0) else {
@@ -235,10 +234,13 @@ fn run_on<R: Threads + Wait + Sync, G: Gate>(
 /// Runs a text whose commands are split among threads: each mutator's lines in a thread of its own, in order, and the book's in another, all on one running
 /// heap. The gate is asked in each thread before each of its lines. A text that says nothing has no mutators and no replies.
 ///
-/// A text off the grammar is answered by [`Refused::Syntax`] alone, one whose heap's shape is out of range by [`Refused::Shape`], and nothing runs.
+/// A text off the grammar is answered by [`Refused::Syntax`] alone, one whose heap's shape is out of range by [`Refused::Shape`], and nothing runs. A text that
+/// is too long is off the grammar, and takes no memory.
 ///
-/// Faults, once all threads have ended: [`SplitFault::Gate`] where gates ended threads, with the least of them; else [`SplitFault::Memory`] where memory was
-/// refused. Memory that a line alone wants is that line's refusal.
+/// Faults, once all threads have ended: [`SplitFault::Gate`] where the gate ended threads, with the least of them; else [`SplitFault::Memory`] where memory was
+/// refused to the call itself, for the heap, lists or replies. Where a line can't be made without memory, that is the line's reply.
+///
+/// Where the system can't begin a thread, its lines are made in another's, before or after that one's.
 pub fn run_split<R: Threads + Wait + Sync, G: Gate>(
     alloc: Global,
     rt: &R,
@@ -248,6 +250,7 @@ pub fn run_split<R: Threads + Wait + Sync, G: Gate>(
     ensures answered { IfOk result (λ out. SplitAnswers (split_of text.now) (as_joined out)) }
     ensures short { IfOk result (λ out. AreShort (as_joined out)) }
     ensures fault { IfErr result (MayEnd (split_of text.now)) }
+    ensures long { LONGEST_TEXT < length text.now → IsOk result }
 {
     splitting_is_said();
     match parse_split(alloc, text) {

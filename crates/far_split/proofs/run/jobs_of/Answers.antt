@@ -1,9 +1,9 @@
-use Rattle.std.proofs.Common.{◌+◌, ◌∙◌, ap, arith, length, map, refl, subst, sym, ℕ}
+use Rattle.std.proofs.Common.{◌∙◌, ap, arith, length, map, refl, ℕ}
 use Rattle.std.specs.List.{range_with_len}
 use Rattle.std.proofs.lemmas.List.FromFn.{length-map-range_with_len}
 use Rattle.far_heap.specs.Mine.{newcomer}
 use Rattle.far_split.specs.declared.run.Job.TheVariants.{Mutator as MutatorJob}
-use Rattle.far_split.proofs.Beginning.{JobsBefore, first_is, jobs_more}
+use Rattle.far_split.proofs.Beginning.{first_is, jobs_more}
 use Rattle.far_split.proofs.run.jobs_of.Goals as goal
 
 pub loop-number-init : goal.loop-number-init
@@ -29,8 +29,8 @@ loop-number-preserved g c =
     record {
       left = c.remove.ensures.items ∙ first.rest;
       jobs =
-          subst (JobsBefore heap (n + 1)) (sym c.push_reserved.ensures.items)
-          (jobs_more heap n c.loop-number.jobs.items i.jobs (MutatorJob c.remove.result n) (refl, omega (arith, lt, i.many), first.first ∙ ap (newcomer heap.table n) c.requires.honest));
+          jobs_more heap n c.loop-number.jobs.items i.jobs (MutatorJob c.remove.result n) c.push_reserved.new.self.items
+          (refl, omega (arith, lt, i.many), first.first ∙ ap (newcomer heap.table n) c.requires.honest) c.push_reserved.ensures.items;
       sum = omega (arith, i.sum, c.remove.ensures.len);
       many = i.many;
       buffer = omega (arith, i.buffer, c.push_reserved.ensures.capacity);

@@ -1,4 +1,4 @@
-use Rattle.std.proofs.Common.{◌<◌, ◌++◌, ◌∙◌, Ok, ap, arith, length, map, sym}
+use Rattle.std.proofs.Common.{◌<◌, arith, length}
 use Rattle.far_split.proofs.Joining.{never_stopped, parts_more, took_first}
 use Rattle.far_split.proofs.run.parts_of.Goals as goal
 
@@ -15,8 +15,8 @@ loop-preserved c =
     let first = took_first c.loop.ends.items c.remove.new.self.items c.remove.result some c.remove.ensures.value c.remove.ensures.items in
     record {
       parts =
-          parts_more c.args.ends.items c.loop.ends.items c.remove.new.self.items c.loop.parts.items c.remove.result c.in-Ok.told i.parts first c.in-Ok.is
-          ∙ ap (λ xs. map Ok xs ++ c.remove.new.self.items) (sym c.push_reserved.ensures.items);
+          parts_more c.args.ends.items c.loop.ends.items c.remove.new.self.items c.loop.parts.items c.push_reserved.new.self.items c.remove.result c.in-Ok.told i.parts first c.in-Ok.is
+          c.push_reserved.ensures.items;
       sum = omega (arith, i.sum, c.remove.ensures.len);
       many = omega (arith, i.many, c.push_reserved.ensures.len);
       buffer = omega (arith, i.buffer, c.push_reserved.ensures.capacity);

@@ -1,6 +1,6 @@
 //! What a split text comes to, and how it is printed.
 
-ghost use Rattle.std.specs.Prelude.{◌≡◌, ◌≤◌, ◌+◌, ◌++◌, ℕ, List, Option, [], codes, length, map, OnOk};
+ghost use Rattle.std.specs.Prelude.{◌≡◌, ◌≤◌, ◌+◌, ◌++◌, [], codes, length, map, OnOk};
 ghost use Rattle.std.specs.List.{AllByRecursion, flat_map};
 ghost use Rattle.far_replay.specs.Reply.{IsShort, halted_text, reply_text};
 ghost use Rattle.far_replay.specs.Stream.{Writes};
@@ -124,7 +124,11 @@ fn print_mutators<W: Write>(
 }
 
 // Prints the line and the replies of the book.
-fn print_book<W: Write>(book: &[Told], buffer: &mut Output, writer: &mut W) -> Result<(), WriteFault>
+fn print_book<W: Write>(
+    book: &[Told],
+    buffer: &mut Output,
+    writer: &mut W,
+) -> Result<(), WriteFault>
     requires { AllByRecursion IsShort (map as_reply book.now) }
     ensures { Prints (W.contents writer.old) buffer.old (W.contents writer.new) buffer.new result (codes "book\n" ++ flat_map reply_text (map as_reply book.now)) }
 {

@@ -1,0 +1,70 @@
+#!/usr/bin/env python3
+"""Refuses each growth of `far_trace split` in turn, on a text whose round and fetch take memory.
+
+usage: refuse_split.py PROGRAM
+A run must end with status 0 and replies that follow from each mutator's own lines, of which some may be refused for want of
+memory; or with `memory`, status 1, and nothing written. Both must come, and the whole output. Prints only what is wrong.
+"""
+import os
+import subprocess
+import sys
+import tempfile
+
+sys.dont_write_bytecode = True
+from differ_split import wrong  # noqa: E402
+
+HERE = os.path.dirname(os.path.abspath(__file__))
+TEXT = b"""heap 6 2
+new 0 8 1
+new 0 1016 1
+new 1 16 2
+new 1 1016 2
+audit
+round oldest 1 1000
+open 0
+write 0 0 0 0102030405060708
+read 0 0 0 8
+view 0 1
+close 0
+open 1
+read 1 128 0 16
+try 1 129
+close 1
+logs
+round leastlive 2 1000
+audit
+"""
+RUNS = 4  # of each growth, since threads come in any order
+
+
+def run(program: str, library: str, count: str, refused: int) -> tuple:
+    env = {**os.environ, "FAIL_ALLOC": str(refused), "COUNT_ALLOC": count, "LD_PRELOAD": library}
+    ran = subprocess.run([program, "split"], input=TEXT, capture_output=True, timeout=60, check=False, env=env)
+    return ran.returncode, ran.stdout, ran.stderr
+
+
+def main() -> int:
+    program, endings = sys.argv[1], {"whole": 0, "refused": 0, "memory": 0}
+    with tempfile.TemporaryDirectory() as work:
+        library, count = f"{work}/fail_malloc.so", f"{work}/count"
+        subprocess.run(["cc", "-O2", "-shared", "-fPIC", "-o", library, f"{HERE}/fail_malloc.c", "-ldl"], check=True)
+        run(program, library, count, 0)
+        with open(count, encoding="ascii") as it:
+            asked = int(it.read())
+        for refused in range(RUNS * (asked + 2)):
+            status, output, said = run(program, library, count, refused // RUNS)
+            if (status, output, said) == (1, b"", b"memory\n"):
+                endings["memory"] += 1
+            elif said or (found := wrong(TEXT, status, output, is_short=True)):
+                print(f"refuse_split: growth {refused // RUNS} of {asked}: status {status}, {said or found}:\n{output.decode()}")
+                return 1
+            else:
+                endings["refused" if b"refused 1" in output else "whole"] += 1
+    if 0 in endings.values():
+        print(f"refuse_split: of {asked} growths: {endings}")
+        return 1
+    return 0
+
+
+if __name__ == "__main__":
+    sys.exit(main())
