@@ -112,22 +112,36 @@ impl MemDevice {
         ensures others { KeepsOthers (bytes_at self.old) (bytes_at self.new) id }
         ensures faults { faults_of self.new ≡ faults_of self.old }
     {
+        if id >= ROW {
+            return self.let_go_other(id);
+        }
         if let Some(buffer) = self.taken(id) {
             self.spares.keep(buffer);
         }
     }
 
-    // Takes the key away, with what is under it.
-    #[inline]
+    // Takes a key of the row away, with what is under it.
+    #[inline(always)]
     fn taken(&mut self, id: u32) -> Option<Vec<u8>>
+        requires { id < 1024 }
         ensures gone { bytes_at self.new id ≡ None }
         ensures others { KeepsOthers (bytes_at self.old) (bytes_at self.new) id }
         ensures faults { faults_of self.new ≡ faults_of self.old }
     {
-        if id < ROW {
-            return self.row.get_mut(id as usize)?.take();
+        self.row.get_mut(id as usize)?.take()
+    }
+
+    // As `let_go`, of any other key.
+    #[inline(never)]
+    fn let_go_other(&mut self, id: u32)
+        requires { 1024 ≤ id }
+        ensures gone { bytes_at self.new id ≡ None }
+        ensures others { KeepsOthers (bytes_at self.old) (bytes_at self.new) id }
+        ensures faults { faults_of self.new ≡ faults_of self.old }
+    {
+        if let Some(buffer) = self.others.remove(&id) {
+            self.spares.keep(buffer);
         }
-        self.others.remove(&id)
     }
 }
 
