@@ -25,12 +25,12 @@ loop-number-preserved g c =
     let n : ℕ = c.loop-number.number in
     let i = c.loop-number.invariant in
     let lt = c.loop-number-test.true in
-    let first = first_is heap n c.loop-number.mutators.items c.remove.result (omega (arith, lt, i.many)) i.left c.remove.ensures.value in
+    let first = first_is heap n c.loop-number.mutators.items c.remove.result c.remove.new.self.items (omega (arith, lt, i.many)) c.requires.honest i.left c.remove.ensures.value c.remove.ensures.items in
     record {
-      left = c.remove.ensures.items ∙ first.rest;
+      left = first.rest;
       jobs =
           jobs_more heap n c.loop-number.jobs.items i.jobs (MutatorJob c.remove.result n) c.push_reserved.new.self.items
-          (refl, omega (arith, lt, i.many), first.first ∙ ap (newcomer heap.table n) c.requires.honest) c.push_reserved.ensures.items;
+          (refl, omega (arith, lt, i.many), first.first) c.push_reserved.ensures.items;
       sum = omega (arith, i.sum, c.remove.ensures.len);
       many = i.many;
       room = omega (arith, i.room, c.push_reserved.ensures.capacity);
