@@ -12,10 +12,14 @@ use Rattle.std.proofs.lemmas.Grind.{flat_map-append}
 use Rattle.std.proofs.lemmas.List.{take-append-le}
 use Rattle.far_core.specs.state.Law.{Law}
 use Rattle.far_replay.specs.Moment.{Moment}
-use Rattle.far_replay.specs.Answers.{AllServed, Answered, AnsweredBy, CommandedBy, Outside, Serves, Refuses}
+use Rattle.far_hand.specs.declared.plain.Plain.{Plain}
+use Rattle.far_evac.specs.EvacOf.{EvacOf}
+use Rattle.far_replay.specs.Moment.{FarSide}
+use Rattle.far_replay.specs.Spent.{SpentBy, may_fail}
+use Rattle.far_replay.specs.Answers.{AllServed, Answered, AnsweredBy, CommandedBy, FailsAtMost, Outside, Serves, Refuses}
 use Rattle.far_text.specs.Command.{Command, New, Open, Write, Read, Close, Where, Drop, View, Try, Epoch, Logs, Log, Audit, Mutator, Book, Evacuator, Select, Mark, Wait, Evacuate, Abort, Round}
 use Rattle.far_replay.specs.Objects.{lowest_cell}
-use Rattle.far_replay.specs.Reply.{Reply, Done, Logs as Told, Refused, reply_text}
+use Rattle.far_replay.specs.Reply.{Reply, Logs as Told, Refused, reply_text}
 use Rattle.far_replay.specs.Stream.{AppendsPart, Holds}
 use Rattle.far_replay.specs.Turn.{effect, home_reply, log_line, pointer_reply, refusal, reply_to, turn_reply, unless}
 
@@ -55,11 +59,21 @@ answers_all now (c ∷ cs) =
     let rest = answers_all (effect now c) cs in
     (Serves ∷ rest.0, reply_to now c ∷ rest.1, effect now c ∷ rest.2, rest.3, (record { reply = refl; moment = refl }, rest.4))
 
--- one command more that is served, and more of them
-pub served_more : (xs ys : List Outside) → AllServed xs → AllServed ys → AllServed (xs ++ ys)
-served_more [] ys h k = k
-served_more (Serves ∷ xs) ys h k = served_more xs ys h k
-served_more (Refuses why turns objects ∷ xs) ys h k = absurd h
+-- ---- how often the outside refuses
+-- where it refuses nothing, it refuses no more than so many
+pub few_refused : (n : ℕ) (os : List Outside) → AllServed os → FailsAtMost n os
+few_refused n [] h = tt
+few_refused n (Serves ∷ os) h = few_refused n os h
+few_refused n (Refuses why turns objects ∷ os) h = absurd h
+
+-- one command more, by what was spent of the device
+pub refused_more : (n left : ℕ) (outside : List Outside) (o : Outside) (old new : EvacOf Plain FarSide) → SpentBy o old new → may_fail old left → ((os : List Outside) → FailsAtMost left os → FailsAtMost n (outside ++ os)) →
+    (rest : ℕ) × may_fail new rest × ((os : List Outside) → FailsAtMost rest os → FailsAtMost n ((outside ++ o ∷ []) ++ os))
+refused_more n left outside Serves old new spent few go =
+    (left, spent left few, λ os h. subst (FailsAtMost n) (sym (append_assoc outside (Serves ∷ []) os)) (go (Serves ∷ os) h))
+refused_more n zero outside (Refuses why turns objects) old new (failed, (none, less)) few go = absurd (none few)
+refused_more n (suc left) outside (Refuses why turns objects) old new (failed, (none, less)) few go =
+    (left, less left few, λ os h. subst (FailsAtMost n) (sym (append_assoc outside (Refuses why turns objects ∷ []) os)) (go (Refuses why turns objects ∷ os) (failed, h)))
 
 -- ---- each reply has a line
 abbrev HasBytes : List ℕ → Type 0
@@ -120,22 +134,22 @@ held_part start now waiting (Err e) bytes more some (n, lt, added) =
     (n, omega (arith, lt, some, length-append bytes more), subst (Appends start now) (sym (take-append-le n bytes more (omega (arith, lt)))) added)
 
 -- that of the replies so far is one of all that there would be, since the next has a line
-pub led_part : {A E : Type 0} (start end : Option (List ℕ)) (waiting : List ℕ) (written : Result A E) (replies : List Reply) (now : Moment) (cs : List Command) → Law now.core → 0 < length cs →
-    Holds start end waiting written (flat_map reply_text (Done ∷ replies)) → AppendsPart start end (flat_map reply_text (Done ∷ (replies ++ (answers_all now cs).1)))
+pub led_part : {A E : Type 0} (start end : Option (List ℕ)) (waiting : List ℕ) (written : Result A E) (front replies : List Reply) (now : Moment) (cs : List Command) → Law now.core → 0 < length cs →
+    Holds start end waiting written (flat_map reply_text (front ++ replies)) → AppendsPart start end (flat_map reply_text (front ++ (replies ++ (answers_all now cs).1)))
 unfolding answers_all
-led_part start end waiting written replies now [] law some holds = absurd (omega (arith, some))
-led_part start end waiting written replies now (c ∷ cs) law some holds =
-    let bytes : List ℕ = flat_map reply_text (Done ∷ replies) in
+led_part start end waiting written front replies now [] law some holds = absurd (omega (arith, some))
+led_part start end waiting written front replies now (c ∷ cs) law some holds =
+    let bytes : List ℕ = flat_map reply_text (front ++ replies) in
     let rest : List Reply = (answers_all now (c ∷ cs)).1 in
     let first : List ℕ = reply_text (reply_to now c) in
     let last : List ℕ = flat_map reply_text (answers_all (effect now c) cs).1 in
     let more : 0 < length (first ++ last) = omega (arith, has_some first (some_reply now c (refusal now c) law), length-append first last) in
-    let all : flat_map reply_text (Done ∷ (replies ++ rest)) ≡ bytes ++ flat_map reply_text rest =
-    ap (λ xs. reply_text Done ++ xs) (flat_map-append reply_text replies rest) ∙ sym (append_assoc (reply_text Done) (flat_map reply_text replies) (flat_map reply_text rest)) in
+    let all : flat_map reply_text (front ++ (replies ++ rest)) ≡ bytes ++ flat_map reply_text rest =
+    ap (flat_map reply_text) (sym (append_assoc front replies rest)) ∙ flat_map-append reply_text (front ++ replies) rest in
     subst (AppendsPart start end) (sym all) (held_part start end waiting written bytes (flat_map reply_text rest) more holds)
 
 -- what is printed of one reply more
-pub printed_more : (first : Reply) (replies : List Reply) (r : Reply) → flat_map reply_text (first ∷ (replies ++ r ∷ [])) ≡ flat_map reply_text (first ∷ replies) ++ reply_text r
-printed_more first replies r =
+pub printed_more : (front replies : List Reply) (r : Reply) → flat_map reply_text (front ++ (replies ++ r ∷ [])) ≡ flat_map reply_text (front ++ replies) ++ reply_text r
+printed_more front replies r =
     let one : flat_map reply_text (r ∷ []) ≡ reply_text r = append-nil (reply_text r) in
-    ap (λ xs. reply_text first ++ xs) (flat_map-append reply_text replies (r ∷ []) ∙ ap (λ xs. flat_map reply_text replies ++ xs) one) ∙ sym (append_assoc (reply_text first) (flat_map reply_text replies) (reply_text r))
+    ap (flat_map reply_text) (sym (append_assoc front replies (r ∷ []))) ∙ flat_map-append reply_text (front ++ replies) (r ∷ []) ∙ ap (λ xs. flat_map reply_text (front ++ replies) ++ xs) one

@@ -1,5 +1,5 @@
 -- A dereference whose pin gives no view: the object is asked for, comes to where a view may rest, and owners stay as they are.
-use Rattle.std.proofs.Common.{◌≡◌, ◌≢◌, ℕ, ◌*◌, ◌/◌, ◌<◌, ◌&&◌, ◌==◌, Bool, true, false, not, nat_lt, refl, sym, ap, subst, ◌∙◌, if◌then◌else◌, Option, Some, None, IsSome, is_some, List, Result, Err}
+use Rattle.std.proofs.Common.{◌≡◌, ◌≢◌, ℕ, ◌*◌, ◌/◌, ◌<◌, ◌&&◌, ◌==◌, Bool, true, false, not, nat_lt, refl, sym, ap, subst, ◌∙◌, if◌then◌else◌, Option, Some, None, IsSome, is_some, List}
 use Rattle.std.specs.Prelude.{IfSome, MatchOption}
 use Rattle.std.proofs.lemmas.Bool.{cond_both, false≢true, true≢false}
 use Rattle.far_word.specs.declared.mark.Mark.TheVariants.{Moved}
@@ -25,8 +25,7 @@ use Rattle.far_core.proofs.Guards.{open_fact}
 use Rattle.far_core.proofs.KeepOwner.{nonzero}
 use Rattle.far_core.proofs.Marking.{read_mark}
 use Rattle.far_core.proofs.Put.{put_same, put_other}
-use Rattle.far_device.specs.Faults.{SpendsFault}
-use Rattle.far_book.specs.book.Dealing.{goal, has_evac, is_failure, moved_now, order_moved}
+use Rattle.far_book.specs.book.Dealing.{goal, has_evac, moved_now, order_moved}
 use Rattle.far_hand.specs.Quiet.{IsQuietNear}
 use Rattle.far_core.specs.events.Copies.{Alike, data_at}
 use Rattle.far_book.specs.book.Effects.{fetched, fetched_of, moved, moved_of, near_word, stayed, stayed_of, with_written_span}
@@ -54,13 +53,13 @@ near_is (Some Free) e = absurd (false≢true e)
 near_is (Some (Near len ds place marks)) e = record { len = len; ds = ds; place = place; marks = marks; is = refl }
 near_is (Some (Far len ds marks)) e = absurd (false≢true e)
 
-record SaysFar (o : Option PtrWord) : Type 0 where
+pub record SaysFar (o : Option PtrWord) : Type 0 where
   pub len : ℕ
   pub ds : ℕ
   pub marks : Marks
   pub is : o ≡ Some (Far len ds marks)
 
-far_is : (o : Option PtrWord) → says_near o ≡ false → in_use o ≡ true → SaysFar o
+pub far_is : (o : Option PtrWord) → says_near o ≡ false → in_use o ≡ true → SaysFar o
 far_is None e u = absurd (false≢true u)
 far_is (Some Free) e u = absurd (false≢true u)
 far_is (Some (Near len ds place marks)) e u = absurd (true≢false e)
@@ -173,16 +172,12 @@ module _ (s : State) (m p : ℕ) (law : Law s) (used : s.used p ≡ true) (far :
   pub far_room : (o : Option Place) (place : Place) → o ≡ Some place → IfSome o (λ found. room_for s p ≡ Some found) → IsSome (comes_to (asked_for s m p) p)
   far_room o place e found = ap is_some (far_here ∙ subst (λ x. IfSome x (λ y. room_for s p ≡ Some y)) e found)
 
-  pub far_refused : (t : State) (why : Refusal) → RefusesFetch why (room_for s p) true → why ≢ Device → t ≡ s → RefusesBringing (asked_for s m p) p why t
-  far_refused t NoRoom h sound same = (far_here ∙ h, same ∙ sym far_unasked)
-  far_refused t Memory h sound same = (ap is_some far_here ∙ h, same ∙ sym far_unasked)
-  far_refused t Device h sound same = absurd (sound refl)
-  far_refused t Damaged h sound same = absurd (true≢false h.1)
-  far_refused t why h sound same = absurd h
-
--- the device never fails
-pub never_fails : {A : Type 0} (result : Result A Refusal) (why : Refusal) → result ≡ Err why → SpendsFault (is_failure result) (λ _. Unit {0}) (λ _. Unit {0}) → why ≢ Device
-never_fails {A = A} result why is spent e = (subst (λ (r : Result A Refusal). SpendsFault (is_failure r) (λ _. Unit {0}) (λ _. Unit {0})) (is ∙ ap Err e) spent).0 tt
+  pub far_refused : (t : State) (why : Refusal) → RefusesFetch why (room_for s p) true → t ≡ s → RefusesBringing (asked_for s m p) p why t
+  far_refused t NoRoom h same = (far_here ∙ h, same ∙ sym far_unasked)
+  far_refused t Memory h same = (ap is_some far_here ∙ h, same ∙ sym far_unasked)
+  far_refused t Device h same = (ap is_some far_here ∙ h, same ∙ sym far_unasked)
+  far_refused t Damaged h same = absurd (true≢false h.1)
+  far_refused t why h same = absurd h
 
 -- ---- owners stay as they are, and so do all cells but p's
 pub record KeepsOwners (p : ℕ) (s t : State) : Type 0 where

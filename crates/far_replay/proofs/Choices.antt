@@ -108,6 +108,15 @@ module _ (now : Moment) (law : Law now.core) (agrees : MomentLaw now) where
       ap Ended ((ran_so now logs turns end t ran).0 ∙ ap (λ ls. round_told now ls turns) is)
   oldest_ends policy n most turns (Err fault) t chosen same runs = tt
 
+  -- what is given is what its function says
+  pub least_chosen : (policy : Policy) (n most : ℕ) → policy ≡ LeastLive → n ≡ most → (logs : List ℕ) → Least now n logs → logs ≡ chosen_by policy (rows_in now) most
+  least_chosen policy n most chosen same logs gives =
+      sym (least_are most logs (subst (λ k. Least now k logs) same gives)) ∙ ap (λ (x : Policy). chosen_by x (rows_in now) most) (sym chosen)
+
+  pub oldest_chosen : (policy : Policy) (n most : ℕ) → policy ≡ Oldest → n ≡ most → (logs : List ℕ) → Same (Ok logs) (Ok (take n (logs_of (rows_in now)))) → logs ≡ chosen_by policy (rows_in now) most
+  oldest_chosen policy n most chosen same logs gives =
+      ok_alike logs (take n (logs_of (rows_in now))) gives ∙ ap (λ k. take k (logs_of (rows_in now))) same ∙ ap (λ (x : Policy). chosen_by x (rows_in now) most) (sym chosen)
+
 -- ---- a script gives what its function says
 -- no step is barred, or its first cause is why
 unbarred : (idle spent : Bool) (causes : List (Bool × Refusal)) → ((why : Refusal) → barring idle spent ≡ Some why → ⊥) → first_cause causes ≡ None → first_cause ((not idle, WrongPhase) ∷ (spent, EpochsSpent) ∷ causes) ≡ None

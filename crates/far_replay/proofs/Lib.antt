@@ -16,6 +16,7 @@ pub mod Leading
 pub mod LoadWords
 pub mod LogBytes
 pub mod Lowest
+pub mod Made
 pub mod MadeLemmas
 pub mod NewTurns
 pub mod Opened
@@ -27,12 +28,14 @@ pub mod RoundChoices
 pub mod RoundLeads
 pub mod Runs
 pub mod Spliced
+pub mod Stopping
 pub mod StoreTurns
 pub mod Strays
 pub mod Streams
 pub mod TakingView
 pub mod ToldRounds
 pub mod Turns
+pub mod Unbrought
 pub mod Views
 pub mod ViewsRest
 pub mod WithCore

@@ -11,7 +11,7 @@ use Rattle.far_word.specs.Sizes.{words_for}
 use Rattle.far_word.specs.declared.pointer.PtrWord.{PtrWord}
 use Rattle.far_word.specs.declared.pointer.PtrWord.TheVariants.{Free, Near, Far}
 use Rattle.far_word.specs.declared.refused.Refused.{Refused as Refusal}
-use Rattle.far_word.specs.declared.refused.Refused.TheVariants.{Memory, NoRoom, Closed, NotHeld, Range}
+use Rattle.far_word.specs.declared.refused.Refused.TheVariants.{Device, Memory, NoRoom, Closed, NotHeld, Range}
 use Rattle.far_word.specs.declared.sizes.TheConstants.{CELLS, LONGEST}
 use Rattle.far_word.proofs.ByteLaws.{length-bytes_of}
 use Rattle.far_word.proofs.PointerLaws.{read_says}
@@ -62,7 +62,7 @@ pub uses_own : (s : State) (m p : ℕ) → p / CELLS ≡ m → s.used p ≡ true
 uses_own s m p own used = rw (eq-eqb (p / CELLS) m own, used) refl
 
 -- an access is reached
-opened_inside : (s : State) (m : ℕ) → is_opened s m ≡ true → nat_lt m s.mutators ≡ true
+pub opened_inside : (s : State) (m : ℕ) → is_opened s m ≡ true → nat_lt m s.mutators ≡ true
 opened_inside s m h = (and_parts (nat_lt m s.mutators) (not (nat_eq (s.scope m) 0)) h).0
 
 is_range_in : (n from count : ℕ) → 0 < count → from + count ≤ n → is_range n from count ≡ true
@@ -151,15 +151,16 @@ module _ (s t u : State) (a : Access) (new : List ℕ) (law : Law s) (is : IsAcc
       ∙ (stores_lead s a.owner a.pointer a.from new law here small).ends
 
 -- ---- what is refused for want of room, or for want of memory
--- what isn't want of memory is want of room
-only_room : (s : State) (m p : ℕ) (why : Refusal) (t : State) → RefusesView s m p why t → why ≢ Memory → (why ≡ NoRoom) × (t ≡ sought s m p) × (has_no_room s m p ≡ true)
-only_room s m p NoRoom t h other = (refl, h.1.1, rw (h.0, h.1.0) refl)
-only_room s m p Memory t h other = absurd (other refl)
-only_room s m p why t h other = absurd h.1
+-- what isn't want of memory, nor the device's, is want of room
+only_room : (s : State) (m p : ℕ) (why : Refusal) (t : State) → RefusesView s m p why t → why ≢ Memory → why ≢ Device → (why ≡ NoRoom) × (t ≡ sought s m p) × (has_no_room s m p ≡ true)
+only_room s m p NoRoom t h other sound = (refl, h.1.1, rw (h.0, h.1.0) refl)
+only_room s m p Memory t h other sound = absurd (other refl)
+only_room s m p Device t h other sound = absurd (sound refl)
+only_room s m p why t h other sound = absurd h.1
 
-module _ (now : Moment) (t : State) (a : Access) (why : Refusal) (is : IsAccess now.core a.owner a.pointer a.from a.count a) (refuses : RefusesView now.core a.owner a.pointer why t) (other : why ≢ Memory) where
+module _ (now : Moment) (t : State) (a : Access) (why : Refusal) (is : IsAccess now.core a.owner a.pointer a.from a.count a) (refuses : RefusesView now.core a.owner a.pointer why t) (other : why ≢ Memory) (sound : why ≢ Device) where
   wants : (why ≡ NoRoom) × (t ≡ sought now.core a.owner a.pointer) × (has_no_room now.core a.owner a.pointer ≡ true)
-  wants = only_room now.core a.owner a.pointer why t refuses other
+  wants = only_room now.core a.owner a.pointer why t refuses other sound
 
   cause : first_cause (access_causes now a.owner a.pointer a.from a.count ++ (has_no_room now.core a.owner a.pointer, NoRoom) ∷ []) ≡ Some NoRoom
   cause = wants_room now a is true wants.2
@@ -201,7 +202,7 @@ module _ (now : Moment) (a : Access) (is : IsAccess now.core a.owner a.pointer a
       ∙ ap (λ o. unless o Refused (turn_reply now (Mutator a.owner (Read a.pointer a.from a.count)))) (sym (wants_room now a is false room))
 
   module _ (new : List ℕ) (long : length new ≡ a.count) where
-    none : first_cause (access_causes now a.owner a.pointer a.from (length new) ++ (has_no_room now.core a.owner a.pointer, NoRoom) ∷ []) ≡ None
+    pub none : first_cause (access_causes now a.owner a.pointer a.from (length new) ++ (has_no_room now.core a.owner a.pointer, NoRoom) ∷ []) ≡ None
     none = ap (λ n. first_cause (access_causes now a.owner a.pointer a.from n ++ (has_no_room now.core a.owner a.pointer, NoRoom) ∷ [])) long ∙ wants_room now a is false room
 
     pub write_made : (next : Moment) → next ≡ with_core now (with_data (dereferenced now.core a.owner a.pointer) a.pointer a.from new) → next ≡ effect now (Mutator a.owner (Write a.pointer a.from new))
@@ -213,13 +214,13 @@ module _ (now : Moment) (a : Access) (is : IsAccess now.core a.owner a.pointer a
     write_told = ap (λ o. unless o Refused Done) (sym none)
 
 -- ---- a refused dereference, by what stands then
-module _ (now next : Moment) (a : Access) (why : Refusal) (is : IsAccess now.core a.owner a.pointer a.from a.count a) (refuses : RefusesView now.core a.owner a.pointer why next.core) (other : why ≢ Memory)
+module _ (now next : Moment) (a : Access) (why : Refusal) (is : IsAccess now.core a.owner a.pointer a.from a.count a) (refuses : RefusesView now.core a.owner a.pointer why next.core) (other : why ≢ Memory) (sound : why ≢ Device)
     (order : next.order ≡ now.order) (phase : next.phase ≡ now.phase) (held : next.collection ≡ now.collection) where
   pub refused_read : next ≡ effect now (Mutator a.owner (Read a.pointer a.from a.count))
-  refused_read = read_refused now next.core a why is refuses other next (asked_at now next.core a why is refuses other next refl order phase held)
+  refused_read = read_refused now next.core a why is refuses other sound next (asked_at now next.core a why is refuses other sound next refl order phase held)
 
   pub refused_write : (new : List ℕ) → length new ≡ a.count → next ≡ effect now (Mutator a.owner (Write a.pointer a.from new))
-  refused_write new long = write_refused now next.core a why is refuses other new long next (asked_at now next.core a why is refuses other next refl order phase held)
+  refused_write new long = write_refused now next.core a why is refuses other sound new long next (asked_at now next.core a why is refuses other sound next refl order phase held)
 
 -- ---- a view
 by_view : (a b c d : Bool) → a ≡ true → b ≡ true → c ≡ true → first_cause ((not a, Range) ∷ (not b, Closed) ∷ (not c, NotHeld) ∷ (d, NoRoom) ∷ []) ≡ (if d then Some NoRoom else None)
@@ -229,7 +230,7 @@ by_view true false c d x y z = absurd (false≢true y)
 by_view false b c d x y z = absurd (false≢true x)
 
 module _ (now next : Moment) (m p : ℕ) (opened : is_opened now.core m ≡ true) (own : p / CELLS ≡ m) (used : now.core.used p ≡ true) where
-  view_cause : (b : Bool) → has_no_room now.core m p ≡ b → refusal now (Mutator m (View p)) ≡ (if b then Some NoRoom else None)
+  pub view_cause : (b : Bool) → has_no_room now.core m p ≡ b → refusal now (Mutator m (View p)) ≡ (if b then Some NoRoom else None)
   view_cause b e = by_view (nat_lt m now.core.mutators) (is_opened now.core m) (uses now.core m p) (has_no_room now.core m p) (opened_inside now.core m opened) opened (uses_own now.core m p own used)
       ∙ ap (λ x. if x then Some NoRoom else None) e
 
@@ -238,9 +239,9 @@ module _ (now next : Moment) (m p : ℕ) (opened : is_opened now.core m ≡ true
       let c : Command = Mutator m (View p) in
       to ∙ ap (λ o. unless o (refused_effect now c) (turn_effect now c)) (sym (view_cause false room))
 
-  pub refused_view : (why : Refusal) → RefusesView now.core m p why next.core → why ≢ Memory → next.order ≡ now.order → next.phase ≡ now.phase → next.collection ≡ now.collection → next ≡ effect now (Mutator m (View p))
-  refused_view why refuses other order phase held =
+  pub refused_view : (why : Refusal) → RefusesView now.core m p why next.core → why ≢ Memory → why ≢ Device → next.order ≡ now.order → next.phase ≡ now.phase → next.collection ≡ now.collection → next ≡ effect now (Mutator m (View p))
+  refused_view why refuses other sound order phase held =
       let c : Command = Mutator m (View p) in
-      let wants = only_room now.core m p why next.core refuses other in
+      let wants = only_room now.core m p why next.core refuses other sound in
       moment_joined now next (sought now.core m p) wants.1 (order ∙ sym (same_order now (sought now.core m p) (sought_current now.core m p))) phase held
       ∙ ap (λ o. unless o (refused_effect now c) (turn_effect now c)) (sym (view_cause true wants.2))

@@ -1,13 +1,13 @@
 -- What is written for a text.
-use Rattle.std.specs.Prelude.{◌≡◌, ◌⊎◌, ℕ, true, Option, List, [], ◌∷◌, Result, Ok, Err, if◌then◌else◌}
+use Rattle.std.specs.Prelude.{◌≡◌, ◌⊎◌, ℕ, zero, suc, true, Option, Some, None, List, [], ◌∷◌, ◌++◌, Result, Ok, Err, if◌then◌else◌}
 use Rattle.std.specs.Bool.{MatchBool}
 use Rattle.std.specs.List.{flat_map}
 use Rattle.std.specs.Io.KnownBytes.{Appends, Keeps}
-use Rattle.far_word.specs.declared.refused.Refused.TheVariants.{Memory, Shape, Syntax}
+use Rattle.far_word.specs.declared.refused.Refused.TheVariants.{Device as Failed, Memory, Shape, Syntax}
 use Rattle.far_core.specs.declared.shape.Shape.{Shape as Size}
 use Rattle.far_core.specs.state.Opening.{opening}
 use Rattle.far_core.specs.state.Shape.{is_shape}
-use Rattle.far_text.specs.Command.{Command, Trace, Nothing, Heap}
+use Rattle.far_text.specs.Command.{Command, Device, Flawed, Fail, Trace, Nothing, Heap}
 use Rattle.far_text.specs.Grammar.{trace_of}
 pub use Rattle.far_replay.specs.Commanded.{Commanded, CommandedBy, Outside, Serves, Refuses, Served, Stopped, Unbrought, StopsLeaving, StopsRound}
 use Rattle.far_replay.specs.Moment.{Moment, moment_of}
@@ -32,11 +32,27 @@ AnsweredBy [] now [] [] [] = Unit {0}
 AnsweredBy (o ∷ os) now (c ∷ cs) (r ∷ rs) (after ∷ moments) = CommandedBy o now c r after × AnsweredBy os after cs rs moments
 AnsweredBy _ now _ _ _ = ⊥
 
--- the outside refuses nothing
+-- the outside refuses no more than so many commands, and each as the device failed
+abbrev pub FailsAtMost : ℕ → List Outside → Type 0
+FailsAtMost n [] = Unit {0}
+FailsAtMost n (Serves ∷ os) = FailsAtMost n os
+FailsAtMost zero (Refuses why turns objects ∷ os) = ⊥
+FailsAtMost (suc n) (Refuses why turns objects ∷ os) = (why ≡ Failed) × FailsAtMost n os
+
+-- it refuses nothing
 abbrev pub AllServed : List Outside → Type 0
-AllServed [] = Unit {0}
-AllServed (Serves ∷ os) = AllServed os
-AllServed (o ∷ os) = ⊥
+AllServed outside = FailsAtMost 0 outside
+
+-- how many calls of a heap's device are to fail
+abbrev pub to_fail : Option Device → ℕ
+to_fail None = 0
+to_fail (Some (Flawed Fail zero)) = 0
+to_fail (Some (Flawed Fail (suc call))) = 1
+
+-- the replies before those of commands: to the heap, and to its device if it is said
+abbrev pub opened : Option Device → List Reply
+opened None = Done ∷ []
+opened (Some device) = Done ∷ Done ∷ []
 
 -- the shape that a heap line says
 abbrev pub shape_of : ℕ → ℕ → ℕ → Size
@@ -56,19 +72,20 @@ abbrev pub IsMoment : Moment → Type 0
 IsMoment now = (logs mutators epoch : ℕ) × (cs : List Command) × (is_shape (shape_of logs mutators epoch) ≡ true) × AllWriteBytes cs × (now ≡ moment_after (first_moment logs mutators epoch) cs)
 
 -- the output of what a text is read as: off the grammar that refusal alone; for nothing nothing; for a heap out of range its
--- refusal alone; else `ok` and the lines of the replies, from the heap's first moment on
+-- refusal alone; else `ok`, another for its device if it is said, and the lines of the replies, from the heap's first moment on; the outside refuses what the device is said to
 abbrev pub IsOutput : Result Trace ℕ → List ℕ → Type 0
 IsOutput (Err line) output = output ≡ reply_text (Refused (Syntax line))
 IsOutput (Ok Nothing) output = output ≡ []
-IsOutput (Ok (Heap logs mutators epoch commands)) output =
+IsOutput (Ok (Heap logs mutators epoch device commands)) output =
     MatchBool (is_shape (shape_of logs mutators epoch))
-    ((outside : List Outside) × (replies : List Reply) × (moments : List Moment) × AllServed outside × AnsweredBy outside (first_moment logs mutators epoch) commands replies moments × (output ≡ flat_map reply_text (Done ∷ replies)))
+    ((outside : List Outside) × (replies : List Reply) × (moments : List Moment) × FailsAtMost (to_fail device) outside × AnsweredBy outside (first_moment logs mutators epoch) commands replies moments
+    × (output ≡ flat_map reply_text (opened device ++ replies)))
     (output ≡ reply_text (Refused Shape))
 
 -- how a text ends that is read so: `Ran` for nothing and for a heap in range
 abbrev pub end_of : Result Trace ℕ → End
 end_of (Ok Nothing) = Ran
-end_of (Ok (Heap logs mutators epoch commands)) = if is_shape (shape_of logs mutators epoch) then Ran else Turned
+end_of (Ok (Heap logs mutators epoch device commands)) = if is_shape (shape_of logs mutators epoch) then Ran else Turned
 end_of (Err line) = Turned
 
 -- what was written is the output of what was read
@@ -84,7 +101,7 @@ Leads old new (Err faults.Read) bytes = ⊥
 
 -- a heap of this shape may be refused memory
 abbrev pub MayMakeHeap : Result Trace ℕ → Type 0
-MayMakeHeap (Ok (Heap logs mutators epoch commands)) = is_shape (shape_of logs mutators epoch) ≡ true
+MayMakeHeap (Ok (Heap logs mutators epoch device commands)) = is_shape (shape_of logs mutators epoch) ≡ true
 MayMakeHeap _ = ⊥
 
 -- what a fault leaves: a failed write, a proper prefix of the output; out of memory, nothing, or where there is a heap a prefix of the one line that says so,

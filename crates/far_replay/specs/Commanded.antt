@@ -80,6 +80,10 @@ Stopped why turns objects now (Evacuator (Evacuate count)) r after = StopsLeavin
 Stopped why turns objects now (Evacuator (Round policy most count)) r after = StopsRound why turns objects now policy most count r after
 Stopped why turns objects now c r after = ⊥
 
+-- so it is, at some turn and after some objects
+abbrev pub StopsSo : Refusal → Moment → Command → Reply → Moment → Type 0
+StopsSo why now c r after = (turns objects : ℕ) × Stopped why turns objects now c r after
+
 -- ---- either
 abbrev pub CommandedBy : Outside → Moment → Command → Reply → Moment → Type 0
 CommandedBy Serves now c r after = Served now c r after

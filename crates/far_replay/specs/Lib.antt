@@ -16,6 +16,7 @@ pub mod Outcome
 pub mod Reply
 pub mod ReplyWords
 pub mod Rounds
+pub mod Spent
 pub mod Stays
 pub mod Stream
 pub mod Taking

@@ -2,6 +2,7 @@
 use Rattle.std.specs.Prelude.{◌≡◌, []}
 use Rattle.far_core.specs.state.CoreState.{core_state}
 use Rattle.far_core.specs.state.State.{State}
+use Rattle.far_device.specs.declared.fail_at.FailAt.{FailAt}
 use Rattle.far_device.specs.declared.mem.MemDevice.{MemDevice}
 use Rattle.far_hand.specs.declared.plain.Plain.{Plain}
 use Rattle.far_evac.specs.EvacOf.{EvacOf}
@@ -12,12 +13,16 @@ use Rattle.far_evac.specs.declared.phase.Phase.TheVariants.{Idle}
 abbrev pub moment_of : State → Moment
 moment_of s = record { core = s; order = []; phase = Idle; collection = [] }
 
+-- the far side: a device in memory, of which one call may fail
+abbrev pub FarSide : Type 0
+FarSide = FailAt MemDevice
+
 -- the state of the core that an evacuator's book has in its hand
-abbrev pub state_in : EvacOf Plain MemDevice → State
+abbrev pub state_in : EvacOf Plain FarSide → State
 state_in evac = core_state evac.book.near.core
 
 -- where an evacuator stands
-abbrev pub moment_in : EvacOf Plain MemDevice → Moment
+abbrev pub moment_in : EvacOf Plain FarSide → Moment
 moment_in evac = record { core = state_in evac; order = evac.book.order; phase = evac.phase; collection = evac.collection }
 
 -- from one evacuator to another the round stays as it was

@@ -21,7 +21,7 @@ use Rattle.far_book.specs.declared.home.Home.TheVariants.{Near, Far}
 pub use Rattle.far_replay.specs.declared.reply.Counts.{Counts}
 pub use Rattle.far_replay.specs.declared.reply.LogLine.{LogLine}
 use Rattle.far_replay.specs.declared.reply.Reply.{Reply as Given}
-use Rattle.far_replay.specs.declared.reply.Reply.TheVariants.{Done as GivenDone, Pointer as GivenPointer, Data as GivenData, Logs as GivenLogs, Lies as GivenLies, Audited as GivenAudited, EpochRead as GivenEpochRead, Selected as GivenSelected, Marked as GivenMarked, Clear as GivenClear, Evacuated as GivenEvacuated, Ended as GivenEnded, Refused as GivenRefused}
+use Rattle.far_replay.specs.declared.reply.Reply.TheVariants.{Done as GivenDone, Pointer as GivenPointer, Data as GivenData, Logs as GivenLogs, Lies as GivenLies, Audited as GivenAudited, EpochRead as GivenEpochRead, Selected as GivenSelected, Marked as GivenMarked, Clear as GivenClear, Evacuated as GivenEvacuated, Ended as GivenEnded, Refused as GivenRefused, Halted as GivenHalted}
 
 pub data Reply : Type 0 where
   Done : Reply
@@ -149,6 +149,7 @@ reply_of GivenClear = Clear
 reply_of (GivenEvacuated progress) = Evacuated progress.now
 reply_of (GivenEnded end) = Ended end.now
 reply_of (GivenRefused why) = Refused why
+reply_of (GivenHalted why progress) = Halted why progress.now
 
 -- no more bytes than an object has, no more lines than a heap has logs, and few logs that were chosen
 abbrev pub IsShort : Reply → Type 0

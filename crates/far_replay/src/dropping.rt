@@ -1,25 +1,25 @@
 //! Objects are dropped.
 
-ghost use Rattle.std.specs.Prelude.{◌≡◌, ◌<◌};
+ghost use Rattle.std.specs.Prelude.{◌≡◌, ◌<◌, false};
 ghost use Rattle.far_core.specs.state.Law.{Law};
 ghost use Rattle.far_text.specs.Command.{Mutator, Drop};
 ghost use Rattle.far_replay.specs.Events.{events_for};
 ghost use Rattle.far_replay.specs.EventRows.{after_events};
 ghost use Rattle.far_replay.specs.Interpreter.{StandsFor};
 ghost use Rattle.far_replay.specs.Moment.{KeepsRound, moment_in, state_in};
+ghost use Rattle.far_replay.specs.Spent.{Spends};
 ghost use Rattle.far_replay.specs.Outcome.{IsInScratch};
 ghost use Rattle.far_replay.specs.Turn.{reply_to};
 
 use crate::outcome::Outcome;
-use crate::owners::{core_of, own_pointer};
+use crate::owners::{FarSide, core_of, own_pointer};
 use far_book::Plain;
 use far_core::Event;
-use far_device::MemDevice;
 use far_evac::Evac;
 use far_word::{Mark, Refused};
 
 /// Drops an owner's object: its owner asks, and the book retires it.
-pub fn drop_object(evac: &mut Evac<Plain, MemDevice>, owner: u8, pointer: u64) -> Outcome
+pub fn drop_object(evac: &mut Evac<Plain, FarSide>, owner: u8, pointer: u64) -> Outcome
     requires known { owner < (state_in evac.old).mutators }
     requires law { Law (state_in evac.old) }
     ensures state { state_in evac.new ≡ after_events (state_in evac.old) (events_for (moment_in evac.old) (Mutator owner (Drop pointer))) }
@@ -27,6 +27,7 @@ pub fn drop_object(evac: &mut Evac<Plain, MemDevice>, owner: u8, pointer: u64) -
     ensures fits { IsInScratch result }
     ensures order { evac.new.book.order ≡ evac.old.book.order }
     ensures round { KeepsRound evac.old evac.new }
+    ensures spent { Spends false evac.old evac.new }
 {
     let Some(pointer) = own_pointer(evac, owner, pointer) else {
         return Outcome::Refused(Refused::NotHeld);

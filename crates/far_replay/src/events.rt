@@ -1,6 +1,7 @@
 //! How an owner opens its scope and views an object.
 
-ghost use Rattle.std.specs.Prelude.{◌≡◌, ◌/◌, ℕ, true, false, None, IsSome, IfOk, IfErr};
+ghost use Rattle.far_word.specs.declared.refused.Refused.TheVariants.{Device as Failed};
+ghost use Rattle.std.specs.Prelude.{◌≡◌, ◌/◌, ℕ, true, false, Err, None, IsSome, IfOk, IfErr};
 ghost use Rattle.far_word.specs.declared.sizes.TheConstants.{CELLS};
 ghost use Rattle.far_core.specs.events.Step.{is_opened};
 ghost use Rattle.far_word.specs.Pointer.{read_of};
@@ -10,19 +11,21 @@ ghost use Rattle.far_replay.specs.EventRows.{after_events};
 ghost use Rattle.far_replay.specs.Events.{open_events};
 ghost use Rattle.far_replay.specs.Interpreter.{Brings, order_come, order_dereferenced};
 ghost use Rattle.far_replay.specs.Moment.{KeepsRound, state_in};
+ghost use Rattle.far_replay.specs.Spent.{Spends};
+ghost use Rattle.far_book.specs.book.Dealing.{is_failure};
 
-use crate::owners::core_of;
+use crate::owners::{FarSide, core_of};
 use far_book::Plain;
 use far_core::Event;
-use far_device::MemDevice;
 use far_evac::Evac;
 use far_word::{Mark, PtrWord, Refused};
 
 /// Opens an owner's scope, at the epoch that it reads unless it has read one already.
-pub fn open(evac: &mut Evac<Plain, MemDevice>, owner: u8)
+pub fn open(evac: &mut Evac<Plain, FarSide>, owner: u8)
     ensures state { state_in evac.new ≡ after_events (state_in evac.old) (open_events (state_in evac.old) owner) }
     ensures order { evac.new.book.order ≡ evac.old.book.order }
     ensures round { KeepsRound evac.old evac.new }
+    ensures device { evac.new.book.device ≡ evac.old.book.device }
 {
     if !core_of(evac).has_epoch(owner) {
         evac.owner(Event::ReadEpoch { owner });
@@ -32,7 +35,7 @@ pub fn open(evac: &mut Evac<Plain, MemDevice>, owner: u8)
 
 /// Pins an owner's object, unless it is held already. `Err` with the cell as it was, where the pin gave no view.
 #[inline]
-pub fn try_view(evac: &mut Evac<Plain, MemDevice>, owner: u8, pointer: u16) -> Result<(), u64>
+pub fn try_view(evac: &mut Evac<Plain, FarSide>, owner: u8, pointer: u16) -> Result<(), u64>
     requires opened { is_opened (state_in evac.old) owner ≡ true }
     requires own { pointer / CELLS ≡ owner }
     requires used { (state_in evac.old).used pointer ≡ true }
@@ -41,6 +44,7 @@ pub fn try_view(evac: &mut Evac<Plain, MemDevice>, owner: u8, pointer: u16) -> R
     ensures word { IfErr result (λ word. (is_slow (state_in evac.old) pointer ≡ true) × (word ≡ (state_in evac.old).cell pointer)) }
     ensures order { evac.new.book.order ≡ evac.old.book.order }
     ensures round { KeepsRound evac.old evac.new }
+    ensures device { evac.new.book.device ≡ evac.old.book.device }
 {
     if core_of(evac).is_held(pointer) {
         return Ok(());
@@ -57,11 +61,7 @@ pub fn try_view(evac: &mut Evac<Plain, MemDevice>, owner: u8, pointer: u16) -> R
 /// Refused [`Refused::NoRoom`] where there is no place for it, or as the device refuses: HOT is left then, and, where the
 /// object is near, MOVE.
 #[inline]
-pub fn dereference(
-    evac: &mut Evac<Plain, MemDevice>,
-    owner: u8,
-    pointer: u16,
-) -> Result<(), Refused>
+pub fn dereference(evac: &mut Evac<Plain, FarSide>, owner: u8, pointer: u16) -> Result<(), Refused>
     requires opened { is_opened (state_in evac.old) owner ≡ true }
     requires own { pointer / CELLS ≡ owner }
     requires used { (state_in evac.old).used pointer ≡ true }
@@ -71,6 +71,8 @@ pub fn dereference(
     ensures order { IfOk result (λ _. evac.new.book.order ≡ order_dereferenced (state_in evac.old) evac.old.book.order owner pointer) }
     ensures shut { IfErr result (λ _. evac.new.book.order ≡ evac.old.book.order) }
     ensures round { KeepsRound evac.old evac.new }
+    ensures spent { Spends (is_failure result) evac.old evac.new }
+    ensures far { result ≡ Err Failed → says_near (read_of ((state_in evac.old).cell pointer)) ≡ false }
 {
     let Err(_) = try_view(evac, owner, pointer) else {
         return Ok(());
@@ -80,7 +82,7 @@ pub fn dereference(
 
 // Brings an object to where a view may rest, and pins it there. It stands apart from the common case, which is made in place.
 #[inline(never)]
-fn bring_and_view(evac: &mut Evac<Plain, MemDevice>, owner: u8, pointer: u16) -> Result<(), Refused>
+fn bring_and_view(evac: &mut Evac<Plain, FarSide>, owner: u8, pointer: u16) -> Result<(), Refused>
     requires opened { is_opened (state_in evac.old) owner ≡ true }
     requires own { pointer / CELLS ≡ owner }
     requires used { (state_in evac.old).used pointer ≡ true }
@@ -91,6 +93,8 @@ fn bring_and_view(evac: &mut Evac<Plain, MemDevice>, owner: u8, pointer: u16) ->
     ensures order { IfOk result (λ _. evac.new.book.order ≡ order_come (asked_for (state_in evac.old) owner pointer) evac.old.book.order pointer) }
     ensures shut { IfErr result (λ _. evac.new.book.order ≡ evac.old.book.order) }
     ensures round { KeepsRound evac.old evac.new }
+    ensures spent { Spends (is_failure result) evac.old evac.new }
+    ensures far { result ≡ Err Failed → says_near (read_of ((state_in evac.old).cell pointer)) ≡ false }
 {
     match bring(evac, owner, pointer) {
         Ok(()) => {
@@ -112,12 +116,14 @@ fn is_near(word: u64) -> bool
 }
 
 // Brings an object to where a view may rest.
-fn bring(evac: &mut Evac<Plain, MemDevice>, owner: u8, pointer: u16) -> Result<(), Refused>
+fn bring(evac: &mut Evac<Plain, FarSide>, owner: u8, pointer: u16) -> Result<(), Refused>
     requires opened { is_opened (state_in evac.old) owner ≡ true }
     requires own { pointer / CELLS ≡ owner }
     requires used { (state_in evac.old).used pointer ≡ true }
     requires unheld { (state_in evac.old).held pointer ≡ None }
-    ensures { Brings evac.old evac.new owner pointer result }
+    ensures brought { Brings evac.old evac.new owner pointer result }
+    ensures spent { Spends (is_failure result) evac.old evac.new }
+    ensures far { result ≡ Err Failed → says_near (read_of ((state_in evac.old).cell pointer)) ≡ false }
 {
     if is_near(core_of(evac).cell(pointer)) {
         move_near(evac, owner, pointer)
@@ -127,13 +133,15 @@ fn bring(evac: &mut Evac<Plain, MemDevice>, owner: u8, pointer: u16) -> Result<(
 }
 
 // Has a near object moved, or its marks taken where it lies.
-fn move_near(evac: &mut Evac<Plain, MemDevice>, owner: u8, pointer: u16) -> Result<(), Refused>
+fn move_near(evac: &mut Evac<Plain, FarSide>, owner: u8, pointer: u16) -> Result<(), Refused>
     requires opened { is_opened (state_in evac.old) owner ≡ true }
     requires own { pointer / CELLS ≡ owner }
     requires used { (state_in evac.old).used pointer ≡ true }
     requires unheld { (state_in evac.old).held pointer ≡ None }
     requires near { says_near (read_of ((state_in evac.old).cell pointer)) ≡ true }
-    ensures { Brings evac.old evac.new owner pointer result }
+    ensures brought { Brings evac.old evac.new owner pointer result }
+    ensures spent { Spends (is_failure result) evac.old evac.new }
+    ensures far { result ≡ Err Failed → says_near (read_of ((state_in evac.old).cell pointer)) ≡ false }
 {
     evac.owner(Event::Ask {
         owner,
@@ -148,10 +156,12 @@ fn move_near(evac: &mut Evac<Plain, MemDevice>, owner: u8, pointer: u16) -> Resu
 }
 
 // Has a far object fetched.
-fn fetch_far(evac: &mut Evac<Plain, MemDevice>, owner: u8, pointer: u16) -> Result<(), Refused>
+fn fetch_far(evac: &mut Evac<Plain, FarSide>, owner: u8, pointer: u16) -> Result<(), Refused>
     requires used { (state_in evac.old).used pointer ≡ true }
     requires far { says_near (read_of ((state_in evac.old).cell pointer)) ≡ false }
-    ensures { Brings evac.old evac.new owner pointer result }
+    ensures brought { Brings evac.old evac.new owner pointer result }
+    ensures spent { Spends (is_failure result) evac.old evac.new }
+    ensures far { result ≡ Err Failed → says_near (read_of ((state_in evac.old).cell pointer)) ≡ false }
 {
     let _ = owner;
     match evac.fetch(pointer) {

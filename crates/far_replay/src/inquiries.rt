@@ -14,15 +14,14 @@ ghost use Rattle.far_replay.specs.Outcome.{reply_by, IsInScratch};
 ghost use Rattle.far_replay.specs.Turn.{log_line, reply_to};
 
 use crate::outcome::{Outcome, Scratch};
-use crate::owners::{core_of, own_pointer};
+use crate::owners::{FarSide, core_of, own_pointer};
 use crate::reply::{Counts, LogLine};
 use far_book::Plain;
-use far_device::MemDevice;
 use far_evac::{Evac, LogState};
 use far_word::{Refused, object_counts};
 
 /// Tells where an owner's object is.
-pub fn find_object(evac: &mut Evac<Plain, MemDevice>, owner: u8, pointer: u64) -> Outcome
+pub fn find_object(evac: &mut Evac<Plain, FarSide>, owner: u8, pointer: u64) -> Outcome
     requires known { owner < (state_in evac.old).mutators }
     requires law { Law (state_in evac.old) }
     ensures state { state_in evac.new ≡ after_events (state_in evac.old) (events_for (moment_in evac.old) (Mutator owner (Where pointer))) }
@@ -30,6 +29,7 @@ pub fn find_object(evac: &mut Evac<Plain, MemDevice>, owner: u8, pointer: u64) -
     ensures fits { IsInScratch result }
     ensures order { evac.new.book.order ≡ evac.old.book.order }
     ensures round { KeepsRound evac.old evac.new }
+    ensures device { evac.new.book.device ≡ evac.old.book.device }
 {
     let Some(pointer) = own_pointer(evac, owner, pointer) else {
         return Outcome::Refused(Refused::NotHeld);
@@ -41,7 +41,7 @@ pub fn find_object(evac: &mut Evac<Plain, MemDevice>, owner: u8, pointer: u64) -
 }
 
 // What is told of a log.
-fn log_told(evac: &Evac<Plain, MemDevice>, log: u8) -> LogLine
+fn log_told(evac: &Evac<Plain, FarSide>, log: u8) -> LogLine
     requires log { log < (state_in evac.now).logs }
     ensures { result ≡ log_line (moment_in evac.now) log }
 {
@@ -56,7 +56,7 @@ fn log_told(evac: &Evac<Plain, MemDevice>, log: u8) -> LogLine
 }
 
 /// Fills the buffer with a line of each log, by number.
-pub fn tell_logs(evac: &Evac<Plain, MemDevice>, lines: &mut [LogLine])
+pub fn tell_logs(evac: &Evac<Plain, FarSide>, lines: &mut [LogLine])
     requires room { length lines.old ≡ MOST_LOGS }
     ensures { take (state_in evac.now).logs lines.new ≡ map (log_line (moment_in evac.now)) (range_with_len 0 (state_in evac.now).logs) }
 {
@@ -66,7 +66,7 @@ pub fn tell_logs(evac: &Evac<Plain, MemDevice>, lines: &mut [LogLine])
 }
 
 /// Tells the line of one log.
-pub fn tell_log(evac: &Evac<Plain, MemDevice>, scratch: &mut Scratch, log: u64) -> Outcome
+pub fn tell_log(evac: &Evac<Plain, FarSide>, scratch: &mut Scratch, log: u64) -> Outcome
     ensures reply { reply_by scratch.new result ≡ reply_to (moment_in evac.now) (AsksBook (Log log)) }
     ensures fits { IsInScratch result }
 {
@@ -78,7 +78,7 @@ pub fn tell_log(evac: &Evac<Plain, MemDevice>, scratch: &mut Scratch, log: u64) 
 }
 
 // How many objects are near, and how many are far.
-fn count_objects(evac: &Evac<Plain, MemDevice>) -> (u16, u16)
+fn count_objects(evac: &Evac<Plain, FarSide>) -> (u16, u16)
     ensures near { result.0 ≡ length (pointers_by lies_near (state_in evac.now)) }
     ensures far { result.1 ≡ length (pointers_by lies_far (state_in evac.now)) }
 {
@@ -94,7 +94,7 @@ fn count_objects(evac: &Evac<Plain, MemDevice>) -> (u16, u16)
 }
 
 // The bytes that live spans take in all logs.
-fn count_bytes(evac: &Evac<Plain, MemDevice>) -> u64
+fn count_bytes(evac: &Evac<Plain, FarSide>) -> u64
     ensures { result ≡ sum (bytes_by_log (state_in evac.now)) }
 {
     let mut live = 0;
@@ -105,7 +105,7 @@ fn count_bytes(evac: &Evac<Plain, MemDevice>) -> u64
 }
 
 /// Counts all objects, and the bytes that they take.
-pub fn audit(evac: &Evac<Plain, MemDevice>) -> Outcome
+pub fn audit(evac: &Evac<Plain, FarSide>) -> Outcome
     ensures reply { StandsFor result (reply_to (moment_in evac.now) (AsksBook Audit)) }
     ensures fits { IsInScratch result }
 {

@@ -2,7 +2,7 @@
 
 ghost use Rattle.std.specs.Prelude.{◌≡◌, ◌≢◌, IfErr, IfOk};
 ghost use Rattle.far_replay.specs.Reply.{reply_of, IsShort};
-ghost use Rattle.far_replay.specs.Outcome.{reply_by, told_by, IsInScratch};
+ghost use Rattle.far_replay.specs.Outcome.{reply_by, told_by, IsInScratch, IsOutside};
 
 use crate::reply::{Counts, LogLine, Reply};
 use far_book::Home;
@@ -43,29 +43,43 @@ pub enum Stepped {
     /// How the round ended stands in the buffers.
     Ended,
     Refused(Refused),
+    /// The step was refused in its midst; what was done before stands in the buffers.
+    Halted(Refused),
 }
 
 impl Stepped {
-    /// What a refusal of the evacuator comes to: a reply; but want of memory is none, and ends the run.
-    pub fn refused(why: Refused) -> Result<Stepped, AllocError>
+    /// What a refusal of the evacuator to choose comes to: a reply; but want of memory is none.
+    pub fn refused(why: Refused) -> Result<Stepped, Refused>
         ensures told { IfOk result (λ stepped. (stepped ≡ Stepped.Refused why) × (why ≢ Refused.Memory)) }
-        ensures wanted { IfErr result (λ _. why ≡ Refused.Memory) }
+        ensures wanted { IfErr result (λ by. (by ≡ Refused.Memory) × (why ≡ Refused.Memory)) }
     {
         match why {
-            Refused::Memory => Err(AllocError),
+            Refused::Memory => Err(Refused::Memory),
             why => Ok(Stepped::Refused(why)),
         }
     }
 }
 
 impl Outcome {
-    /// What a refusal of the book comes to: a reply; but want of memory is none, and ends the run.
-    pub fn refused(why: Refused) -> Result<Outcome, AllocError>
+    /// What it comes to that a command was refused in its midst: a reply; but want of memory is none, and ends the run.
+    pub fn stopped(why: Refused) -> Result<Outcome, AllocError>
         ensures told { IfOk result (λ outcome. (outcome ≡ Outcome.Refused why) × (why ≢ Refused.Memory)) }
-        ensures wanted { IfErr result (λ _. why ≡ Refused.Memory) }
     {
         match why {
             Refused::Memory => Err(AllocError),
+            why => Ok(Outcome::Refused(why)),
+        }
+    }
+
+    /// What a refusal of the book comes to: a reply; but the device's, and want of memory, is none of the command that was
+    /// served.
+    pub fn refused(why: Refused) -> Result<Outcome, Refused>
+        ensures told { IfOk result (λ outcome. (outcome ≡ Outcome.Refused why) × (why ≢ Refused.Memory) × (why ≢ Refused.Device)) }
+        ensures stops { IfErr result (λ by. (by ≡ why) × IsOutside why) }
+    {
+        match why {
+            Refused::Memory => Err(Refused::Memory),
+            Refused::Device => Err(Refused::Device),
             why => Ok(Outcome::Refused(why)),
         }
     }
@@ -150,6 +164,7 @@ impl Scratch {
             Stepped::Evacuated => Reply::Evacuated(&self.progress),
             Stepped::Ended => Reply::Ended(&self.end),
             Stepped::Refused(why) => Reply::Refused(why),
+            Stepped::Halted(why) => Reply::Halted(why, &self.progress),
         }
     }
 }

@@ -8,20 +8,23 @@ ghost use Rattle.far_replay.specs.Objects.{uses};
 
 use far_book::Plain;
 use far_core::Core;
-use far_device::MemDevice;
+use far_device::{FailAt, MemDevice};
 use far_evac::Evac;
 use far_word::CELLS;
 
+/// The far side of the heap.
+pub type FarSide = FailAt<MemDevice>;
+
 /// The core of the heap.
 #[inline(always)]
-pub fn core_of(evac: &Evac<Plain, MemDevice>) -> &Core
+pub fn core_of(evac: &Evac<Plain, FarSide>) -> &Core
     ensures { result.now ≡ evac.now.book.near.core }
 {
     evac.book().core()
 }
 
 /// The lowest free cell of an owner; `None` where it uses all of them.
-pub fn free_cell(evac: &Evac<Plain, MemDevice>, owner: u8) -> Option<u16>
+pub fn free_cell(evac: &Evac<Plain, FarSide>, owner: u8) -> Option<u16>
     requires owner { owner < (state_in evac.now).mutators }
     ensures { IsLowestFree (state_in evac.now) owner result }
 {
@@ -29,7 +32,7 @@ pub fn free_cell(evac: &Evac<Plain, MemDevice>, owner: u8) -> Option<u16>
 }
 
 /// The owner that a line's number of a mutator is, if the heap has it.
-pub fn owner_of(evac: &Evac<Plain, MemDevice>, mutator: u64) -> Option<u8>
+pub fn owner_of(evac: &Evac<Plain, FarSide>, mutator: u64) -> Option<u8>
     ensures owner { IfSome result (λ owner. (owner ≡ mutator) × (mutator < (state_in evac.now).mutators)) }
     ensures unknown { IfNone result ((state_in evac.now).mutators ≤ mutator) }
 {
@@ -40,7 +43,7 @@ pub fn owner_of(evac: &Evac<Plain, MemDevice>, mutator: u64) -> Option<u8>
 }
 
 /// The pointer that a number is, if the owner uses it.
-pub fn own_pointer(evac: &Evac<Plain, MemDevice>, owner: u8, pointer: u64) -> Option<u16>
+pub fn own_pointer(evac: &Evac<Plain, FarSide>, owner: u8, pointer: u64) -> Option<u16>
     requires owner { owner < (state_in evac.now).mutators }
     ensures own { IfSome result (λ p. (p ≡ pointer) × (pointer / CELLS ≡ owner) × ((state_in evac.now).used pointer ≡ true)) }
     ensures other { IfNone result (uses (state_in evac.now) owner pointer ≡ false) }

@@ -5,7 +5,7 @@ ghost use Rattle.std.specs.List.{flat_map};
 ghost use Rattle.far_word.specs.declared.sizes.TheConstants.{MOST_LOGS};
 ghost use Rattle.far_replay.specs.declared.reply.TheConstants.{LONGEST_REPLY};
 ghost use Rattle.far_word.specs.Refused.{refusal_number};
-ghost use Rattle.far_replay.specs.Reply.{IsShort, chosen_text, counted_text, counts_printed, detail, done_text, end_text, home_printed, kind_word, letters_of, log_listed, log_text, mark_letter, phase_word, reply_text, refusal_text, reply_of, waiting_text};
+ghost use Rattle.far_replay.specs.Reply.{IsShort, chosen_text, counted_text, counts_printed, detail, done_text, end_text, halted_text, home_printed, kind_word, letters_of, log_listed, log_text, mark_letter, phase_word, reply_text, refusal_text, reply_of, waiting_text};
 
 use crate::output::Output;
 use far_book::Home;
@@ -63,6 +63,8 @@ pub enum Reply<'a> {
     Ended(&'a RoundEnd),
     /// The command is refused, and why.
     Refused(Refused),
+    /// A step was refused in its midst, and why; what became of a round's objects before.
+    Halted(Refused, &'a Progress),
 }
 
 fn push_kind(kind: LogKind, out: &mut Output)
@@ -223,6 +225,16 @@ pub fn push_counted(progress: &Progress, out: &mut Output)
     out.push_number(progress.freed);
 }
 
+fn push_halted(why: Refused, progress: &Progress, out: &mut Output)
+    requires { length out.old + LONGEST_REPLY ≤ Output.CAPACITY }
+    ensures { out.new ≡ out.old ++ halted_text why progress.now }
+{
+    out.push(b"refused ");
+    out.push_number(u64::from(why.number()));
+    push_counted(progress, out);
+    out.push(b"\n");
+}
+
 fn push_evacuated(progress: &Progress, out: &mut Output)
     requires { length out.old + 300 ≤ Output.CAPACITY }
     ensures { out.new ≡ out.old ++ codes "evacuated" ++ counted_text progress.now ++ done_text progress.now.done ++ codes "\n" }
@@ -332,6 +344,7 @@ impl Reply<'_> {
             Reply::Evacuated(progress) => push_evacuated(progress, out),
             Reply::Ended(end) => push_ended(end, out),
             Reply::Refused(why) => push_refused(*why, out),
+            Reply::Halted(why, progress) => push_halted(*why, progress, out),
         }
     }
 }

@@ -2,20 +2,24 @@
 
 ghost use Rattle.std.specs.Prelude.{◌≡◌, ◌≢◌, ◌≤◌, None, Some, length, take, IfErr, IfOk, OnOk};
 ghost use Rattle.far_word.specs.declared.sizes.TheConstants.{MOST_LOGS};
-ghost use Rattle.far_word.specs.declared.refused.Refused.TheVariants.{Memory};
+ghost use Rattle.far_replay.specs.Spent.{Makes, Spends};
+ghost use Rattle.far_book.specs.book.Dealing.{is_failure};
+ghost use Rattle.far_replay.specs.Commanded.{StopsSo};
+ghost use Rattle.far_word.specs.declared.refused.Refused.TheVariants.{Device as Failed, Memory};
 ghost use Rattle.far_evac.specs.Choosing.{after_selecting};
 ghost use Rattle.far_text.specs.Command.{Abort, Evacuate, Evacuator, Mark, Round, Select, Wait, as_choice, as_policy, as_step};
 ghost use Rattle.far_text.specs.Written.{WritesBytes};
 ghost use Rattle.far_replay.specs.Moment.{moment_in};
 ghost use Rattle.far_replay.specs.declared.outcome.Scratch.{Scratch};
-ghost use Rattle.far_replay.specs.Outcome.{told_by};
+ghost use Rattle.far_replay.specs.Outcome.{IsOutside, told_by};
+ghost use Rattle.far_evac.specs.Failing.{fails};
 ghost use Rattle.far_replay.specs.Rounds.{given_by, logs_given, rows_in, step_effect, step_reply};
-ghost use Rattle.far_replay.specs.Reply.{Ended};
+ghost use Rattle.far_replay.specs.Reply.{Ended, Halted};
 ghost use Rattle.far_replay.specs.Turn.{effect, refusal, reply_to};
 
 use crate::outcome::{Scratch, Stepped};
+use crate::owners::FarSide;
 use far_book::Plain;
-use far_device::MemDevice;
 use far_evac::{Evac, EvacFault, Polled, RoundEnd};
 use far_policy::{Chosen, LeastLive, Oldest, Scripted};
 use far_text::{Choice, Policy, Step};
@@ -23,13 +27,14 @@ use far_word::Refused;
 use std::alloc::AllocError;
 
 // Begins a round of the logs that a choice gives, at most so many.
-fn choose(evac: &mut Evac<Plain, MemDevice>, choice: Choice, most: u8) -> Result<Chosen, Refused>
+fn choose(evac: &mut Evac<Plain, FarSide>, choice: Choice, most: u8) -> Result<Chosen, Refused>
     ensures allowed { IfOk result (λ _. refusal (moment_in evac.old) (Evacuator (Select (as_choice choice.entry) most)) ≡ None) }
     ensures given { IfOk result (λ chosen. logs_given (given_by (as_choice choice.entry) (rows_in (moment_in evac.old)) most) ≡ chosen) }
     ensures few { IfOk result (λ chosen. length chosen ≤ MOST_LOGS) }
     ensures begun { IfOk result (λ chosen. moment_in evac.new ≡ after_selecting (moment_in evac.old) chosen) }
     ensures refused { IfErr result (λ why. why ≢ Memory → refusal (moment_in evac.old) (Evacuator (Select (as_choice choice.entry) most)) ≡ Some why) }
     ensures unchanged { IfErr result (λ _. moment_in evac.new ≡ moment_in evac.old) }
+    ensures device { evac.new.book.device ≡ evac.old.book.device }
 {
     evac.keeps_law();
     let most = usize::from(most);
@@ -56,13 +61,15 @@ fn list_chosen(chosen: &Chosen, bytes: &mut [u8]) -> u8
 
 // Begins a round of the logs that a choice gives, and tells them. `Err` where it is refused memory.
 fn select(
-    evac: &mut Evac<Plain, MemDevice>,
+    evac: &mut Evac<Plain, FarSide>,
     scratch: &mut Scratch,
     choice: Choice,
     most: u8,
-) -> Result<Stepped, AllocError>
+) -> Result<Stepped, Refused>
     ensures moment { OnOk result (moment_in evac.new ≡ effect (moment_in evac.old) (Evacuator (Select (as_choice choice.entry) most))) }
     ensures reply { IfOk result (λ stepped. told_by scratch.new stepped ≡ reply_to (moment_in evac.old) (Evacuator (Select (as_choice choice.entry) most))) }
+    ensures memory { IfErr result (λ why. why ≡ Memory) }
+    ensures device { evac.new.book.device ≡ evac.old.book.device }
 {
     match choose(evac, choice, most) {
         Ok(chosen) => {
@@ -74,9 +81,10 @@ fn select(
 }
 
 // Marks so many objects, or all that are left.
-fn mark(evac: &mut Evac<Plain, MemDevice>, scratch: &mut Scratch, count: u64) -> Stepped
+fn mark(evac: &mut Evac<Plain, FarSide>, scratch: &mut Scratch, count: u64) -> Stepped
     ensures moment { moment_in evac.new ≡ effect (moment_in evac.old) (Evacuator (Mark count)) }
     ensures reply { told_by scratch.new result ≡ reply_to (moment_in evac.old) (Evacuator (Mark count)) }
+    ensures device { evac.new.book.device ≡ evac.old.book.device }
 {
     match evac.mark_some(count) {
         Ok(marked) => {
@@ -88,9 +96,10 @@ fn mark(evac: &mut Evac<Plain, MemDevice>, scratch: &mut Scratch, count: u64) ->
 }
 
 // Looks whether each older scope is closed.
-fn wait(evac: &mut Evac<Plain, MemDevice>) -> Stepped
+fn wait(evac: &mut Evac<Plain, FarSide>) -> Stepped
     ensures moment { moment_in evac.new ≡ effect (moment_in evac.old) (Evacuator Wait) }
     ensures reply { (scratch : Scratch) → told_by scratch result ≡ (reply_to (moment_in evac.old) (Evacuator Wait)) }
+    ensures device { evac.new.book.device ≡ evac.old.book.device }
 {
     match evac.poll_wait() {
         Ok(Polled::Clear) => Stepped::Clear,
@@ -99,28 +108,45 @@ fn wait(evac: &mut Evac<Plain, MemDevice>) -> Stepped
     }
 }
 
-// Has so many objects leave, or all that are left. `Err` where the device is refused memory.
+// What a refusal of the evacuator comes to: a reply; but the device's, and want of memory, is none of the step that was served.
+// What was done before stands in the buffers then.
+fn refused_step(scratch: &mut Scratch, fault: EvacFault) -> Result<Stepped, Refused>
+    ensures told { IfOk result (λ stepped. (stepped ≡ Stepped.Refused fault.why) × (fault.why ≢ Memory) × (fault.why ≢ Failed)) }
+    ensures stops { IfErr result (λ by. (by ≡ fault.why) × IsOutside fault.why × (scratch.new.progress ≡ fault.so_far)) }
+{
+    scratch.progress = fault.so_far;
+    match fault.why {
+        Refused::Memory => Err(Refused::Memory),
+        Refused::Device => Err(Refused::Device),
+        why => Ok(Stepped::Refused(why)),
+    }
+}
+
+// Has so many objects leave, or all that are left. `Err` where the device fails, or is refused memory.
 fn evacuate(
-    evac: &mut Evac<Plain, MemDevice>,
+    evac: &mut Evac<Plain, FarSide>,
     scratch: &mut Scratch,
     count: u64,
-) -> Result<Stepped, AllocError>
+) -> Result<Stepped, Refused>
     ensures moment { OnOk result (moment_in evac.new ≡ effect (moment_in evac.old) (Evacuator (Evacuate count))) }
     ensures reply { IfOk result (λ stepped. told_by scratch.new stepped ≡ reply_to (moment_in evac.old) (Evacuator (Evacuate count))) }
+    ensures stopped { IfErr result (λ why. why ≢ Memory → (why ≡ Failed) × StopsSo why (moment_in evac.old) (Evacuator (Evacuate count)) (Halted why scratch.new.progress) (moment_in evac.new)) }
+    ensures spent { Spends (is_failure result) evac.old evac.new }
 {
     match evac.evacuate_some(count) {
         Ok(progress) => {
             scratch.progress = progress;
             Ok(Stepped::Evacuated)
         }
-        Err(EvacFault { why, .. }) => Stepped::refused(why),
+        Err(fault) => refused_step(scratch, fault),
     }
 }
 
 // Gives the round up.
-fn abort(evac: &mut Evac<Plain, MemDevice>) -> Stepped
+fn abort(evac: &mut Evac<Plain, FarSide>) -> Stepped
     ensures moment { moment_in evac.new ≡ effect (moment_in evac.old) (Evacuator Abort) }
     ensures reply { (scratch : Scratch) → told_by scratch result ≡ (reply_to (moment_in evac.old) (Evacuator Abort)) }
+    ensures device { evac.new.book.device ≡ evac.old.book.device }
 {
     match evac.abort() {
         Ok(()) => Stepped::Done,
@@ -130,7 +156,7 @@ fn abort(evac: &mut Evac<Plain, MemDevice>) -> Stepped
 
 // Makes a round of the logs that a policy chooses.
 fn run_by(
-    evac: &mut Evac<Plain, MemDevice>,
+    evac: &mut Evac<Plain, FarSide>,
     policy: Policy,
     most: u8,
     turns: u64,
@@ -138,8 +164,10 @@ fn run_by(
     ensures allowed { IfOk result (λ _. refusal (moment_in evac.old) (Evacuator (Round (as_policy policy) most turns)) ≡ None) }
     ensures moment { OnOk result (moment_in evac.new ≡ step_effect (moment_in evac.old) (Round (as_policy policy) most turns)) }
     ensures end { IfOk result (λ end. Ended end ≡ step_reply (moment_in evac.old) (Round (as_policy policy) most turns)) }
-    ensures refused { IfErr result (λ fault. fault.why ≢ Memory → refusal (moment_in evac.old) (Evacuator (Round (as_policy policy) most turns)) ≡ Some fault.why) }
-    ensures unchanged { IfErr result (λ fault. fault.why ≢ Memory → moment_in evac.new ≡ moment_in evac.old) }
+    ensures refused { IfErr result (λ fault. fault.why ≢ Memory → fault.why ≢ Failed → refusal (moment_in evac.old) (Evacuator (Round (as_policy policy) most turns)) ≡ Some fault.why) }
+    ensures unchanged { IfErr result (λ fault. fault.why ≢ Memory → fault.why ≢ Failed → moment_in evac.new ≡ moment_in evac.old) }
+    ensures stopped { IfErr result (λ fault. fault.why ≡ Failed → StopsSo Failed (moment_in evac.old) (Evacuator (Round (as_policy policy) most turns)) (Halted Failed fault.so_far) (moment_in evac.new)) }
+    ensures spent { Spends (fails result) evac.old evac.new }
 {
     evac.keeps_law();
     let most = usize::from(most);
@@ -149,35 +177,39 @@ fn run_by(
     }
 }
 
-// Makes a round, and tells how it ends. `Err` where it is refused memory.
+// Makes a round, and tells how it ends. `Err` where the device fails, or is refused memory.
 fn round(
-    evac: &mut Evac<Plain, MemDevice>,
+    evac: &mut Evac<Plain, FarSide>,
     scratch: &mut Scratch,
     policy: Policy,
     most: u8,
     turns: u64,
-) -> Result<Stepped, AllocError>
+) -> Result<Stepped, Refused>
     ensures moment { OnOk result (moment_in evac.new ≡ effect (moment_in evac.old) (Evacuator (Round (as_policy policy) most turns))) }
     ensures reply { IfOk result (λ stepped. told_by scratch.new stepped ≡ reply_to (moment_in evac.old) (Evacuator (Round (as_policy policy) most turns))) }
+    ensures stopped { IfErr result (λ why. why ≢ Memory → (why ≡ Failed) × StopsSo why (moment_in evac.old) (Evacuator (Round (as_policy policy) most turns)) (Halted why scratch.new.progress) (moment_in evac.new)) }
+    ensures spent { Spends (is_failure result) evac.old evac.new }
 {
     match run_by(evac, policy, most, turns) {
         Ok(end) => {
             scratch.end = end;
             Ok(Stepped::Ended)
         }
-        Err(EvacFault { why, .. }) => Stepped::refused(why),
+        Err(fault) => refused_step(scratch, fault),
     }
 }
 
-// Makes a step of the evacuator, and answers what it comes to. `Err` where it is refused memory.
+// Makes a step of the evacuator, and answers what it comes to. `Err` where the device fails, or it is refused memory.
 fn step_made(
-    evac: &mut Evac<Plain, MemDevice>,
+    evac: &mut Evac<Plain, FarSide>,
     scratch: &mut Scratch,
     step: Step,
-) -> Result<Stepped, AllocError>
+) -> Result<Stepped, Refused>
     requires small { WritesBytes (Evacuator (as_step step)) }
     ensures moment { OnOk result (moment_in evac.new ≡ effect (moment_in evac.old) (Evacuator (as_step step.entry))) }
     ensures reply { IfOk result (λ stepped. told_by scratch.new stepped ≡ reply_to (moment_in evac.old) (Evacuator (as_step step.entry))) }
+    ensures stopped { IfErr result (λ why. why ≢ Memory → (why ≡ Failed) × StopsSo why (moment_in evac.old) (Evacuator (as_step step.entry)) (Halted why scratch.new.progress) (moment_in evac.new)) }
+    ensures spent { Spends (is_failure result) evac.old evac.new }
 {
     match step {
         Step::Select { choice, most } => select(evac, scratch, choice, most),
@@ -193,22 +225,28 @@ fn step_made(
     }
 }
 
-/// Makes a step of the evacuator; what it comes to stands in the buffers then. `Err` where it is refused memory.
+/// Makes a step of the evacuator; what it comes to stands in the buffers then, also where the device fails in its midst. `Err`
+/// where it is refused memory.
 #[inline(never)]
 pub fn make_step(
-    evac: &mut Evac<Plain, MemDevice>,
+    evac: &mut Evac<Plain, FarSide>,
     scratch: &mut Scratch,
     step: Step,
 ) -> Result<(), AllocError>
     requires small { WritesBytes (Evacuator (as_step step)) }
-    ensures moment { OnOk result (moment_in evac.new ≡ effect (moment_in evac.old) (Evacuator (as_step step.entry))) }
-    ensures reply { IfOk result (λ _. told_by scratch.new scratch.new.stepped ≡ reply_to (moment_in evac.old) (Evacuator (as_step step.entry))) }
+    ensures made { IfOk result (λ _. Makes evac.old (Evacuator (as_step step.entry)) (told_by scratch.new scratch.new.stepped) evac.new) }
 {
     match step_made(evac, scratch, step) {
         Ok(stepped) => {
             scratch.stepped = stepped;
             Ok(())
         }
-        Err(e) => Err(e),
+        Err(why) => match why {
+            Refused::Memory => Err(AllocError),
+            why => {
+                scratch.stepped = Stepped::Halted(why);
+                Ok(())
+            }
+        },
     }
 }

@@ -8,26 +8,31 @@ ghost use Rattle.std.specs.List.{flat_map};
 ghost use Rattle.far_core.specs.state.Opening.{opening};
 ghost use Rattle.far_core.specs.state.Shape.{is_shape};
 ghost use Rattle.far_replay.specs.Moment.{Moment, moment_in, moment_of, state_in};
-ghost use Rattle.far_replay.specs.Answers.{AllServed, AnsweredBy, Outside, MayMakeHeap, Leads, WritesOutput, WritesAnswer, LeavesBehind, Leaves, end_of};
+ghost use Rattle.std.specs.Option.{option_map};
+ghost use Rattle.far_device.specs.FailAt.{MayFail};
+ghost use Rattle.far_text.specs.Command.{as_device};
+ghost use Rattle.far_replay.specs.Spent.{may_fail};
+ghost use Rattle.far_replay.specs.Answers.{AnsweredBy, FailsAtMost, opened, to_fail, Outside, MayMakeHeap, Leads, WritesOutput, WritesAnswer, LeavesBehind, Leaves, end_of};
 ghost use Rattle.far_text.specs.declared.text.TheConstants.{LONGEST_TEXT};
 ghost use Rattle.far_text.specs.Grammar.{trace_of};
 ghost use Rattle.far_text.specs.Command.{Heap};
 ghost use Rattle.far_text.specs.Parsed.{as_trace};
-ghost use Rattle.far_replay.specs.Reply.{Reply as Answer, Done, reply_text};
+ghost use Rattle.far_replay.specs.Reply.{Reply as Answer, reply_text};
 ghost use Rattle.far_replay.specs.Between.{Between};
 ghost use Rattle.far_evac.specs.MomentLaw.{MomentLaw};
 ghost use Rattle.far_evac.specs.Strays.{NoneStrays};
 
 use crate::outcome::{Outcome, Scratch};
+use crate::owners::FarSide;
 use crate::reply::Reply;
 use crate::reply_writer::ReplyWriter;
 use crate::stream::{WriteFault, read_text};
 use crate::turn::turn;
 use far_book::{Book, Plain};
 use far_core::{Core, Shape};
-use far_device::MemDevice;
+use far_device::{FailAt, MemDevice};
 use far_evac::Evac;
-use far_text::{Commands, LONGEST_TEXT, ParseError, Trace, parse};
+use far_text::{Commands, Device, Flaw, LONGEST_TEXT, ParseError, Trace, parse};
 use far_word::Refused;
 use std::alloc::{AllocError, Global};
 use std::io::{Read, Write};
@@ -128,24 +133,36 @@ fn answer_one<W: Write>(
     }
 }
 
+// Begins the replies with that to the heap, and that to its device if it was said.
+fn answer_opening<W: Write>(writer: &mut W, replies: &mut ReplyWriter, device: Option<Device>)
+    ensures { Holds (W.contents writer.old) (W.contents writer.new) replies.new.waiting replies.new.written (flat_map reply_text (opened (option_map as_device device))) }
+{
+    replies.clear();
+    replies.add(writer, &Reply::Done);
+    if let Some(_) = device {
+        replies.add(writer, &Reply::Done);
+    }
+}
+
 // Makes the commands after the heap, and writes their replies. Once a write has failed it makes them without writing. Where
 // one wants memory and is refused it, no other is made, and replies that wait aren't written.
 fn answer_commands<W: Write>(
     writer: &mut W,
     replies: &mut ReplyWriter,
-    evac: Evac<Plain, MemDevice>,
+    evac: Evac<Plain, FarSide>,
     scratch: &mut Scratch,
+    device: Option<Device>,
     commands: &Commands,
 ) -> Result<(), RunFault>
     requires between { Between (state_in evac) }
     requires round { MomentLaw (moment_in evac) }
     requires strays { NoneStrays (moment_in evac) }
-    ensures { (outside : List Outside) × (replies : List Answer) × (moments : List Moment) × AllServed outside × AnsweredBy outside (moment_in evac) commands.now replies moments
-        × Leads (W.contents writer.old) (W.contents writer.new) result (flat_map reply_text (Done ∷ replies)) }
+    requires few { may_fail evac (to_fail (option_map as_device device)) }
+    ensures { (outside : List Outside) × (replies : List Answer) × (moments : List Moment) × FailsAtMost (to_fail (option_map as_device device)) outside × AnsweredBy outside (moment_in evac) commands.now replies moments
+        × Leads (W.contents writer.old) (W.contents writer.new) result (flat_map reply_text (opened (option_map as_device device) ++ replies)) }
 {
     let mut evac = evac;
-    replies.clear();
-    replies.add(writer, &Reply::Done);
+    answer_opening(writer, replies, device);
     for at in 0..commands.len() {
         let command = commands.at(at);
         let Ok(outcome) = turn(&mut evac, scratch, &command) else {
@@ -159,14 +176,32 @@ fn answer_commands<W: Write>(
     }
 }
 
-// An evacuator over a new heap, whose far side is honest.
-fn new_heap(alloc: Global, shape: Shape) -> Result<Evac<Plain, MemDevice>, Refused>
+// Which write or read of a heap's device is to fail; 0 is none.
+fn failing_call(device: Option<Device>) -> u64
+    ensures { MayFail result (λ n. Unit {0}) (to_fail (option_map as_device device)) }
+{
+    match device {
+        Some(device) => match device.flaw {
+            Flaw::Fail => device.call,
+        },
+        None => 0,
+    }
+}
+
+// An evacuator over a new heap, whose far side is honest, and fails where its device is said to.
+fn new_heap(
+    alloc: Global,
+    shape: Shape,
+    device: Option<Device>,
+) -> Result<Evac<Plain, FarSide>, Refused>
+    ensures few { IfOk result (λ evac. may_fail evac (to_fail (option_map as_device device))) }
     ensures moment { IfOk result (λ evac. moment_in evac ≡ moment_of (opening shape true)) }
     ensures range { IfOk result (λ _. is_shape shape ≡ true) }
     ensures refused { IfErr result (λ why. why ≡ cond (is_shape shape) Refused.Memory Refused.Shape) }
 {
     let core = Core::new(alloc, shape, true)?;
-    let book = Book::new(alloc, Plain { core }, MemDevice::new(alloc))?;
+    let far = FailAt::new(MemDevice::new(alloc), failing_call(device));
+    let book = Book::new(alloc, Plain { core }, far)?;
     Ok(Evac::new(book))
 }
 
@@ -176,18 +211,19 @@ fn answer_heap<W: Write>(
     writer: &mut W,
     replies: &mut ReplyWriter,
     shape: Shape,
+    device: Option<Device>,
     commands: &Commands,
 ) -> Result<End, RunFault>
-    ensures answered { OnOk result (WritesOutput (W.contents writer.old) (W.contents writer.new) (Ok (Heap shape.logs shape.mutators shape.epoch commands.now))) }
-    ensures end { IfOk result (λ end. end ≡ end_of (Ok (Heap shape.logs shape.mutators shape.epoch commands.now))) }
-    ensures fault { IfErr result (λ fault. LeavesBehind fault (W.contents writer.old) (W.contents writer.new) (Ok (Heap shape.logs shape.mutators shape.epoch commands.now))) }
+    ensures answered { OnOk result (WritesOutput (W.contents writer.old) (W.contents writer.new) (Ok (Heap shape.logs shape.mutators shape.epoch (option_map as_device device) commands.now))) }
+    ensures end { IfOk result (λ end. end ≡ end_of (Ok (Heap shape.logs shape.mutators shape.epoch (option_map as_device device) commands.now))) }
+    ensures fault { IfErr result (λ fault. LeavesBehind fault (W.contents writer.old) (W.contents writer.new) (Ok (Heap shape.logs shape.mutators shape.epoch (option_map as_device device) commands.now))) }
     ensures unread { result ≢ Err RunFault.Read }
     ensures memory { result ≡ Err RunFault.Memory → is_shape shape ≡ true }
 {
-    match new_heap(alloc, shape) {
+    match new_heap(alloc, shape, device) {
         Ok(evac) => {
             let mut scratch = Scratch::new();
-            match answer_commands(writer, replies, evac, &mut scratch, commands) {
+            match answer_commands(writer, replies, evac, &mut scratch, device, commands) {
                 Ok(()) => Ok(End::Ran),
                 Err(fault) => Err(fault),
             }
@@ -222,6 +258,7 @@ fn answer<W: Write>(
             logs,
             mutators,
             epoch,
+            device,
             commands,
         } => {
             let shape = Shape {
@@ -229,7 +266,7 @@ fn answer<W: Write>(
                 mutators: *mutators,
                 epoch: *epoch,
             };
-            answer_heap(alloc, writer, replies, shape, commands)
+            answer_heap(alloc, writer, replies, shape, *device, commands)
         }
     }
 }

@@ -1,6 +1,6 @@
 //! Commands, each made by calls of the evacuator and events of owners.
 
-ghost use Rattle.std.specs.Prelude.{◌≡◌, ◌+◌, ◌*◌, ◌<◌, ◌≤◌, ◌-◌, ◌/◌, ◌^◌, ℕ, true, Some, Ok, take, drop, length, slice_index, slice_range, IfOk, IfErr, IsSome, OnOk};
+ghost use Rattle.std.specs.Prelude.{◌≡◌, ◌≢◌, ◌+◌, ◌*◌, ◌<◌, ◌≤◌, ◌-◌, ◌/◌, ◌^◌, ℕ, true, Some, Ok, take, drop, length, slice_index, slice_range, IfOk, IfErr, IsSome, OnOk};
 ghost use Rattle.far_word.specs.Sizes.{size_of};
 ghost use Rattle.far_word.specs.Bytes.{bytes_of, packed_word, words_of};
 ghost use Rattle.far_word.specs.Pointer.{read_of};
@@ -16,7 +16,11 @@ ghost use Rattle.hex.specs.Hex.{IsBytes};
 ghost use Rattle.far_text.specs.Written.{WritesBytes};
 ghost use Rattle.far_replay.specs.EventRows.{after_events};
 ghost use Rattle.far_text.specs.Command.{Mutator, Book, New, Open, Write, Read, Close, Where, Drop, View, Try, Logs, Log, Audit};
-ghost use Rattle.far_replay.specs.Reply.{Data};
+ghost use Rattle.far_replay.specs.Reply.{Data, Refused as Refusal};
+ghost use Rattle.far_replay.specs.Spent.{Makes, Spends};
+ghost use Rattle.far_book.specs.book.Dealing.{is_failure};
+ghost use Rattle.far_replay.specs.Commanded.{StopsSo};
+ghost use Rattle.far_word.specs.declared.refused.Refused.TheVariants.{Device as Failed, Memory};
 ghost use Rattle.far_replay.specs.Outcome.{reply_by, IsInScratch};
 ghost use Rattle.far_replay.specs.Between.{Between};
 ghost use Rattle.far_replay.specs.Events.{events_for, first_word, store_events, words_touched, starts_inside, ends_inside};
@@ -29,12 +33,11 @@ use crate::epochs::read_epoch;
 use crate::events::{dereference, open};
 use crate::inquiries::{audit, find_object, tell_log, tell_logs};
 use crate::outcome::{Outcome, Scratch};
-use crate::owners::{core_of, free_cell, own_pointer, owner_of};
+use crate::owners::{FarSide, core_of, free_cell, own_pointer, owner_of};
 use crate::rounds::make_step;
 use crate::viewing::{try_object, view_object};
 use far_book::Plain;
 use far_core::Event;
-use far_device::MemDevice;
 use far_evac::Evac;
 use far_text::{Command, Inquiry, Request};
 use far_word::{LOG_WORDS, LONGEST, Refused, pack_bytes, pointer_len, unpack_bytes};
@@ -60,7 +63,7 @@ fn object_len(cell: u64) -> u16
 
 // Whether an owner may reach some bytes of a pointer's object, or why not.
 fn reach(
-    evac: &Evac<Plain, MemDevice>,
+    evac: &Evac<Plain, FarSide>,
     owner: u8,
     pointer: u64,
     from: u64,
@@ -125,7 +128,7 @@ impl Access {
 }
 
 // Loads the words that a range touches, in front of the buffer of words.
-fn load_front(evac: &Evac<Plain, MemDevice>, access: Access, words: &mut [u64])
+fn load_front(evac: &Evac<Plain, FarSide>, access: Access, words: &mut [u64])
     requires viewed { IsViewed (state_in evac.now) access }
     requires room { length words.old ≡ LOG_WORDS }
     ensures { (k : ℕ) → k < words_touched access.from access.count → slice_index words.new k ≡ (state_in evac.now).word (data_word (state_in evac.now) access.pointer (first_word access.from + k)) }
@@ -140,7 +143,7 @@ fn load_front(evac: &Evac<Plain, MemDevice>, access: Access, words: &mut [u64])
 }
 
 // Reads a range of bytes of an object that is viewed.
-fn read_viewed(evac: &Evac<Plain, MemDevice>, scratch: &mut Scratch, access: Access) -> Outcome
+fn read_viewed(evac: &Evac<Plain, FarSide>, scratch: &mut Scratch, access: Access) -> Outcome
     requires viewed { IsViewed (state_in evac.now) access }
     ensures reply { reply_by scratch.new result ≡ Data (slice_range (data_of (state_in evac.now) access.pointer) access.from (access.from + access.count)) }
     ensures fits { IsInScratch result }
@@ -154,16 +157,18 @@ fn read_viewed(evac: &Evac<Plain, MemDevice>, scratch: &mut Scratch, access: Acc
     }
 }
 
-// Reads a range of bytes. `Err` where the object is far and its words are refused memory.
+// Reads a range of bytes. `Err` where the object is far, and the device fails, or its words are refused memory.
 fn read(
-    evac: &mut Evac<Plain, MemDevice>,
+    evac: &mut Evac<Plain, FarSide>,
     scratch: &mut Scratch,
     access: Access,
-) -> Result<Outcome, AllocError>
+) -> Result<Outcome, Refused>
     requires access { IsAccess (state_in evac.old) access.owner access.pointer access.from access.count access }
     ensures moment { OnOk result (moment_in evac.new ≡ effect (moment_in evac.old) (Mutator access.owner (Read access.pointer access.from access.count))) }
     ensures reply { IfOk result (λ outcome. reply_by scratch.new outcome ≡ reply_to (moment_in evac.old) (Mutator access.owner (Read access.pointer access.from access.count))) }
     ensures fits { IfOk result (λ outcome. IsInScratch outcome) }
+    ensures stopped { IfErr result (λ why. why ≢ Memory → (why ≡ Failed) × StopsSo why (moment_in evac.old) (Mutator access.owner (Read access.pointer access.from access.count)) (Refusal why) (moment_in evac.new)) }
+    ensures spent { Spends (is_failure result) evac.old evac.new }
 {
     match dereference(evac, access.owner, access.pointer) {
         Ok(()) => Ok(read_viewed(evac, scratch, access)),
@@ -190,7 +195,7 @@ impl Access {
 }
 
 // Loads the first word that a range touches, if the range is a part of it alone.
-fn load_first(evac: &Evac<Plain, MemDevice>, access: Access, words: &mut [u64])
+fn load_first(evac: &Evac<Plain, FarSide>, access: Access, words: &mut [u64])
     requires viewed { IsViewed (state_in evac.now) access }
     requires room { length words.old ≡ LOG_WORDS }
     ensures first { starts_inside access.from access.count ≡ true → slice_index words.new 0 ≡ (state_in evac.now).word (data_word (state_in evac.now) access.pointer (access.from / 8)) }
@@ -201,7 +206,7 @@ fn load_first(evac: &Evac<Plain, MemDevice>, access: Access, words: &mut [u64])
 }
 
 // Loads the last word that a range touches, if it touches others and is a part of it alone.
-fn load_last(evac: &Evac<Plain, MemDevice>, access: Access, words: &mut [u64])
+fn load_last(evac: &Evac<Plain, FarSide>, access: Access, words: &mut [u64])
     requires viewed { IsViewed (state_in evac.now) access }
     requires room { length words.old ≡ LOG_WORDS }
     ensures first { slice_index words.new 0 ≡ slice_index words.old 0 }
@@ -218,7 +223,7 @@ fn load_last(evac: &Evac<Plain, MemDevice>, access: Access, words: &mut [u64])
 }
 
 // Puts bytes over a range in the words that it touches, in front of the buffer of words.
-fn splice(evac: &Evac<Plain, MemDevice>, scratch: &mut Scratch, access: Access, bytes: &[u8])
+fn splice(evac: &Evac<Plain, FarSide>, scratch: &mut Scratch, access: Access, bytes: &[u8])
     requires law { Law (state_in evac.now) }
     requires viewed { IsViewed (state_in evac.now) access }
     requires bytes { length bytes.now ≡ access.count }
@@ -235,13 +240,14 @@ fn splice(evac: &Evac<Plain, MemDevice>, scratch: &mut Scratch, access: Access, 
 }
 
 // Stores the words in front over those that a range touches.
-fn store_front(evac: &mut Evac<Plain, MemDevice>, access: Access, words: &[u64])
+fn store_front(evac: &mut Evac<Plain, FarSide>, access: Access, words: &[u64])
     requires viewed { IsViewed (state_in evac.old) access }
     requires room { length words.now ≡ LOG_WORDS }
     requires padding { (k : ℕ) → k < words_touched access.from access.count → slice_index words.now k < 2 ^ (8 * (data_len (state_in evac.old) access.pointer - 8 * (first_word access.from + k))) }
     ensures state { state_in evac.new ≡ after_events (state_in evac.old) (stores access.owner access.pointer (first_word access.from) (take (words_touched access.from access.count) words.now)) }
     ensures order { evac.new.book.order ≡ evac.old.book.order }
     ensures round { KeepsRound evac.old evac.new }
+    ensures device { evac.new.book.device ≡ evac.old.book.device }
 {
     let count = access.touched() as usize;
     evac.store_all(
@@ -254,7 +260,7 @@ fn store_front(evac: &mut Evac<Plain, MemDevice>, access: Access, words: &[u64])
 
 // Writes bytes over a range of an object that is viewed.
 fn write_viewed(
-    evac: &mut Evac<Plain, MemDevice>,
+    evac: &mut Evac<Plain, FarSide>,
     scratch: &mut Scratch,
     access: Access,
     bytes: &[u8],
@@ -266,24 +272,27 @@ fn write_viewed(
     ensures state { state_in evac.new ≡ after_events (state_in evac.old) (store_events access.owner access.pointer (first_word access.from) (words_touched access.from access.count) (with_range (data_of (state_in evac.old) access.pointer) access.from bytes.now)) }
     ensures order { evac.new.book.order ≡ evac.old.book.order }
     ensures round { KeepsRound evac.old evac.new }
+    ensures device { evac.new.book.device ≡ evac.old.book.device }
 {
     splice(evac, scratch, access, bytes);
     store_front(evac, access, &scratch.words);
 }
 
-// Writes bytes over a range. `Err` where the object is far and its words are refused memory.
+// Writes bytes over a range. `Err` where the object is far, and the device fails, or its words are refused memory.
 fn write(
-    evac: &mut Evac<Plain, MemDevice>,
+    evac: &mut Evac<Plain, FarSide>,
     scratch: &mut Scratch,
     access: Access,
     bytes: &[u8],
-) -> Result<Outcome, AllocError>
+) -> Result<Outcome, Refused>
     requires access { IsAccess (state_in evac.old) access.owner access.pointer access.from access.count access }
     requires bytes { length bytes.now ≡ access.count }
     requires small { IsBytes bytes.now }
     ensures moment { OnOk result (moment_in evac.new ≡ effect (moment_in evac.old) (Mutator access.owner (Write access.pointer access.from bytes.now))) }
     ensures reply { IfOk result (λ outcome. StandsFor outcome (reply_to (moment_in evac.old) (Mutator access.owner (Write access.pointer access.from bytes.now)))) }
     ensures fits { IfOk result (λ outcome. IsInScratch outcome) }
+    ensures stopped { IfErr result (λ why. why ≢ Memory → (why ≡ Failed) × StopsSo why (moment_in evac.old) (Mutator access.owner (Write access.pointer access.from bytes.now)) (Refusal why) (moment_in evac.new)) }
+    ensures spent { Spends (is_failure result) evac.old evac.new }
 {
     match dereference(evac, access.owner, access.pointer) {
         Ok(()) => {
@@ -295,12 +304,7 @@ fn write(
 }
 
 // Makes a new object, or answers why not: its pointer.
-fn place_new(
-    evac: &mut Evac<Plain, MemDevice>,
-    owner: u8,
-    len: u64,
-    ds: u64,
-) -> Result<u16, Refused>
+fn place_new(evac: &mut Evac<Plain, FarSide>, owner: u8, len: u64, ds: u64) -> Result<u16, Refused>
     requires known { owner < (state_in evac.old).mutators }
     ensures refusal { refused_in result ≡ refusal (moment_in evac.old) (Mutator owner (New len ds)) }
     ensures cell { IfOk result (λ pointer. lowest_cell (state_in evac.old) owner ≡ Some pointer) }
@@ -309,6 +313,7 @@ fn place_new(
     ensures order { IfOk result (λ _. evac.new.book.order ≡ order_fetched (state_in evac.old) evac.old.book.order (room (state_in evac.old) (size_of len) true)) }
     ensures shut { IfErr result (λ _. evac.new.book.order ≡ evac.old.book.order) }
     ensures round { KeepsRound evac.old evac.new }
+    ensures device { evac.new.book.device ≡ evac.old.book.device }
 {
     if ds >= 256 {
         return Err(Refused::Range);
@@ -327,7 +332,7 @@ fn place_new(
 }
 
 // Makes a new object.
-fn make_object(evac: &mut Evac<Plain, MemDevice>, owner: u8, len: u64, ds: u64) -> Outcome
+fn make_object(evac: &mut Evac<Plain, FarSide>, owner: u8, len: u64, ds: u64) -> Outcome
     requires known { owner < (state_in evac.old).mutators }
     requires between { Between (state_in evac.old) }
     requires law { Law (state_in evac.old) }
@@ -336,6 +341,7 @@ fn make_object(evac: &mut Evac<Plain, MemDevice>, owner: u8, len: u64, ds: u64) 
     ensures fits { IsInScratch result }
     ensures order { evac.new.book.order ≡ (effect (moment_in evac.old) (Mutator owner (New len ds))).order }
     ensures round { KeepsRound evac.old evac.new }
+    ensures device { evac.new.book.device ≡ evac.old.book.device }
 {
     match place_new(evac, owner, len, ds) {
         Ok(pointer) => Outcome::Pointer(pointer),
@@ -344,13 +350,14 @@ fn make_object(evac: &mut Evac<Plain, MemDevice>, owner: u8, len: u64, ds: u64) 
 }
 
 // Opens an owner's scope.
-fn open_scope(evac: &mut Evac<Plain, MemDevice>, owner: u8) -> Outcome
+fn open_scope(evac: &mut Evac<Plain, FarSide>, owner: u8) -> Outcome
     requires known { owner < (state_in evac.old).mutators }
     ensures state { state_in evac.new ≡ after_events (state_in evac.old) (events_for (moment_in evac.old) (Mutator owner Open)) }
     ensures reply { StandsFor result (reply_to (moment_in evac.old) (Mutator owner Open)) }
     ensures fits { IsInScratch result }
     ensures order { evac.new.book.order ≡ evac.old.book.order }
     ensures round { KeepsRound evac.old evac.new }
+    ensures device { evac.new.book.device ≡ evac.old.book.device }
 {
     if core_of(evac).is_open(owner) {
         return Outcome::Refused(Refused::AlreadyOpen);
@@ -360,13 +367,14 @@ fn open_scope(evac: &mut Evac<Plain, MemDevice>, owner: u8) -> Outcome
 }
 
 // Closes an owner's scope.
-fn close_scope(evac: &mut Evac<Plain, MemDevice>, owner: u8) -> Outcome
+fn close_scope(evac: &mut Evac<Plain, FarSide>, owner: u8) -> Outcome
     requires known { owner < (state_in evac.old).mutators }
     ensures state { state_in evac.new ≡ after_events (state_in evac.old) (events_for (moment_in evac.old) (Mutator owner Close)) }
     ensures reply { StandsFor result (reply_to (moment_in evac.old) (Mutator owner Close)) }
     ensures fits { IsInScratch result }
     ensures order { evac.new.book.order ≡ evac.old.book.order }
     ensures round { KeepsRound evac.old evac.new }
+    ensures device { evac.new.book.device ≡ evac.old.book.device }
 {
     if !core_of(evac).is_open(owner) {
         return Outcome::Refused(Refused::Closed);
@@ -377,18 +385,20 @@ fn close_scope(evac: &mut Evac<Plain, MemDevice>, owner: u8) -> Outcome
 
 // Reads a range of an owner's object.
 fn read_range(
-    evac: &mut Evac<Plain, MemDevice>,
+    evac: &mut Evac<Plain, FarSide>,
     scratch: &mut Scratch,
     owner: u8,
     pointer: u64,
     from: u64,
     len: u64,
-) -> Result<Outcome, AllocError>
+) -> Result<Outcome, Refused>
     requires known { owner < (state_in evac.old).mutators }
     requires law { Law (state_in evac.old) }
     ensures moment { OnOk result (moment_in evac.new ≡ effect (moment_in evac.old) (Mutator owner (Read pointer from len))) }
     ensures reply { IfOk result (λ outcome. reply_by scratch.new outcome ≡ reply_to (moment_in evac.old) (Mutator owner (Read pointer from len))) }
     ensures fits { IfOk result (λ outcome. IsInScratch outcome) }
+    ensures stopped { IfErr result (λ why. why ≢ Memory → (why ≡ Failed) × StopsSo why (moment_in evac.old) (Mutator owner (Read pointer from len)) (Refusal why) (moment_in evac.new)) }
+    ensures spent { Spends (is_failure result) evac.old evac.new }
 {
     match reach(evac, owner, pointer, from, len) {
         Ok(access) => read(evac, scratch, access),
@@ -398,19 +408,21 @@ fn read_range(
 
 // Writes bytes over a range of an owner's object.
 fn write_range(
-    evac: &mut Evac<Plain, MemDevice>,
+    evac: &mut Evac<Plain, FarSide>,
     scratch: &mut Scratch,
     owner: u8,
     pointer: u64,
     from: u64,
     bytes: &[u8],
-) -> Result<Outcome, AllocError>
+) -> Result<Outcome, Refused>
     requires known { owner < (state_in evac.old).mutators }
     requires law { Law (state_in evac.old) }
     requires small { IsBytes bytes.now }
     ensures moment { OnOk result (moment_in evac.new ≡ effect (moment_in evac.old) (Mutator owner (Write pointer from bytes.now))) }
     ensures reply { IfOk result (λ outcome. StandsFor outcome (reply_to (moment_in evac.old) (Mutator owner (Write pointer from bytes.now)))) }
     ensures fits { IfOk result (λ outcome. IsInScratch outcome) }
+    ensures stopped { IfErr result (λ why. why ≢ Memory → (why ≡ Failed) × StopsSo why (moment_in evac.old) (Mutator owner (Write pointer from bytes.now)) (Refusal why) (moment_in evac.new)) }
+    ensures spent { Spends (is_failure result) evac.old evac.new }
 {
     match reach(evac, owner, pointer, from, bytes.len() as u64) {
         Ok(access) => write(evac, scratch, access, bytes),
@@ -418,14 +430,14 @@ fn write_range(
     }
 }
 
-// Makes the events of an owner's request, and answers what it comes to. `Err` where an object is far and its words are
-// refused memory.
+// Makes the events of an owner's request, and answers what it comes to. `Err` where an object is far, and the device fails, or
+// its words are refused memory.
 fn make_request(
-    evac: &mut Evac<Plain, MemDevice>,
+    evac: &mut Evac<Plain, FarSide>,
     scratch: &mut Scratch,
     owner: u8,
     request: Request,
-) -> Result<Outcome, AllocError>
+) -> Result<Outcome, Refused>
     requires known { owner < (state_in evac.old).mutators }
     requires between { Between (state_in evac.old) }
     requires law { Law (state_in evac.old) }
@@ -433,6 +445,8 @@ fn make_request(
     ensures moment { OnOk result (moment_in evac.new ≡ effect (moment_in evac.old) (Mutator owner (as_request request.entry))) }
     ensures reply { IfOk result (λ outcome. reply_by scratch.new outcome ≡ reply_to (moment_in evac.old) (Mutator owner (as_request request.entry))) }
     ensures fits { IfOk result (λ outcome. IsInScratch outcome) }
+    ensures stopped { IfErr result (λ why. why ≢ Memory → (why ≡ Failed) × StopsSo why (moment_in evac.old) (Mutator owner (as_request request.entry)) (Refusal why) (moment_in evac.new)) }
+    ensures spent { Spends (is_failure result) evac.old evac.new }
 {
     match request {
         Request::New { len, structure } => Ok(make_object(evac, owner, len, structure)),
@@ -454,17 +468,37 @@ fn make_request(
     }
 }
 
+// Makes the events of an owner's request, and answers what it comes to. `Err` where an object is far and its words are
+// refused memory.
+fn request_made(
+    evac: &mut Evac<Plain, FarSide>,
+    scratch: &mut Scratch,
+    owner: u8,
+    request: Request,
+) -> Result<Outcome, AllocError>
+    requires known { owner < (state_in evac.old).mutators }
+    requires between { Between (state_in evac.old) }
+    requires law { Law (state_in evac.old) }
+    requires small { WritesBytes (Mutator owner (as_request request)) }
+    ensures made { IfOk result (λ outcome. Makes evac.old (Mutator owner (as_request request.entry)) (reply_by scratch.new outcome) evac.new) }
+    ensures fits { IfOk result (λ outcome. IsInScratch outcome) }
+{
+    match make_request(evac, scratch, owner, request) {
+        Ok(outcome) => Ok(outcome),
+        Err(why) => Outcome::stopped(why),
+    }
+}
+
 // Makes the events of one command, and answers what it comes to.
 fn make_events(
-    evac: &mut Evac<Plain, MemDevice>,
+    evac: &mut Evac<Plain, FarSide>,
     scratch: &mut Scratch,
     command: &Command,
 ) -> Result<Outcome, AllocError>
     requires between { Between (state_in evac.old) }
     requires law { Law (state_in evac.old) }
     requires small { WritesBytes (as_command command.now) }
-    ensures moment { OnOk result (moment_in evac.new ≡ effect (moment_in evac.old) (as_command command.now)) }
-    ensures reply { IfOk result (λ outcome. reply_by scratch.new outcome ≡ reply_to (moment_in evac.old) (as_command command.now)) }
+    ensures made { IfOk result (λ outcome. Makes evac.old (as_command command.now) (reply_by scratch.new outcome) evac.new) }
     ensures fits { IfOk result (λ outcome. IsInScratch outcome) }
 {
     match *command {
@@ -472,7 +506,7 @@ fn make_events(
             let Some(owner) = owner_of(evac, mutator) else {
                 return Ok(Outcome::Refused(Refused::Range));
             };
-            make_request(evac, scratch, owner, request)
+            request_made(evac, scratch, owner, request)
         }
         Command::Book(Inquiry::Logs) => {
             tell_logs(evac, &mut scratch.lines);
@@ -487,18 +521,17 @@ fn make_events(
     }
 }
 
-/// Makes one command, and answers what it comes to. `Err` where an object is far and its words are refused memory: that is
-/// no reply, and no command is made after it.
+/// Makes one command, and answers what it comes to, also where the device fails in its midst. `Err` where an object is far and
+/// its words are refused memory: that is no reply, and no command is made after it.
 pub fn turn(
-    evac: &mut Evac<Plain, MemDevice>,
+    evac: &mut Evac<Plain, FarSide>,
     scratch: &mut Scratch,
     command: &Command,
 ) -> Result<Outcome, AllocError>
     requires between { Between (state_in evac.old) }
     requires law { Law (state_in evac.old) }
     requires small { WritesBytes (as_command command.now) }
-    ensures moment { OnOk result (moment_in evac.new ≡ effect (moment_in evac.old) (as_command command.now)) }
-    ensures reply { IfOk result (λ outcome. reply_by scratch.new outcome ≡ reply_to (moment_in evac.old) (as_command command.now)) }
+    ensures made { IfOk result (λ outcome. Makes evac.old (as_command command.now) (reply_by scratch.new outcome) evac.new) }
     ensures fits { IfOk result (λ outcome. IsInScratch outcome) }
 {
     make_events(evac, scratch, command)

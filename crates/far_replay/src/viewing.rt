@@ -1,27 +1,31 @@
 //! Objects are viewed, or tried: pinned, and not asked for.
 
-ghost use Rattle.std.specs.Prelude.{◌≡◌, ◌<◌, IfOk, OnOk};
+ghost use Rattle.std.specs.Prelude.{◌≡◌, ◌≢◌, ◌<◌, IfErr, IfOk, OnOk};
+ghost use Rattle.far_replay.specs.Spent.{Spends};
+ghost use Rattle.far_book.specs.book.Dealing.{is_failure};
+ghost use Rattle.far_replay.specs.Commanded.{StopsSo};
+ghost use Rattle.far_word.specs.declared.refused.Refused.TheVariants.{Device as Failed, Memory};
 ghost use Rattle.far_text.specs.Command.{Mutator, Try, View};
 ghost use Rattle.far_replay.specs.Interpreter.{StandsFor};
 ghost use Rattle.far_replay.specs.Moment.{moment_in, state_in};
 ghost use Rattle.far_replay.specs.Outcome.{IsInScratch};
+ghost use Rattle.far_replay.specs.Reply.{Refused as Refusal};
 ghost use Rattle.far_replay.specs.Turn.{effect, reply_to};
 
 use crate::events::{dereference, try_view};
 use crate::outcome::Outcome;
-use crate::owners::{core_of, own_pointer};
+use crate::owners::{FarSide, core_of, own_pointer};
 use far_book::Plain;
-use far_device::MemDevice;
 use far_evac::Evac;
 use far_word::Refused;
-use std::alloc::AllocError;
 
 /// Views an owner's object where one pin does, and else answers the cell that the pin found.
-pub fn try_object(evac: &mut Evac<Plain, MemDevice>, owner: u8, pointer: u64) -> Outcome
+pub fn try_object(evac: &mut Evac<Plain, FarSide>, owner: u8, pointer: u64) -> Outcome
     requires known { owner < (state_in evac.old).mutators }
     ensures moment { moment_in evac.new ≡ effect (moment_in evac.old) (Mutator owner (Try pointer)) }
     ensures reply { StandsFor result (reply_to (moment_in evac.old) (Mutator owner (Try pointer))) }
     ensures fits { IsInScratch result }
+    ensures device { evac.new.book.device ≡ evac.old.book.device }
 {
     if !core_of(evac).is_open(owner) {
         return Outcome::Refused(Refused::Closed);
@@ -35,16 +39,18 @@ pub fn try_object(evac: &mut Evac<Plain, MemDevice>, owner: u8, pointer: u64) ->
     }
 }
 
-/// Views an owner's object, whatever marks it has. `Err` where it is far and its words are refused memory.
+/// Views an owner's object, whatever marks it has. `Err` where it is far, and the device fails, or its words are refused memory.
 pub fn view_object(
-    evac: &mut Evac<Plain, MemDevice>,
+    evac: &mut Evac<Plain, FarSide>,
     owner: u8,
     pointer: u64,
-) -> Result<Outcome, AllocError>
+) -> Result<Outcome, Refused>
     requires known { owner < (state_in evac.old).mutators }
     ensures moment { OnOk result (moment_in evac.new ≡ effect (moment_in evac.old) (Mutator owner (View pointer))) }
     ensures reply { IfOk result (λ outcome. StandsFor outcome (reply_to (moment_in evac.old) (Mutator owner (View pointer)))) }
     ensures fits { IfOk result (λ outcome. IsInScratch outcome) }
+    ensures stopped { IfErr result (λ why. why ≢ Memory → (why ≡ Failed) × StopsSo why (moment_in evac.old) (Mutator owner (View pointer)) (Refusal why) (moment_in evac.new)) }
+    ensures spent { Spends (is_failure result) evac.old evac.new }
 {
     if !core_of(evac).is_open(owner) {
         return Ok(Outcome::Refused(Refused::Closed));

@@ -11,8 +11,8 @@ use Rattle.std.proofs.lemmas.List.Splits.{join_with_byte-slice_split}
 use Rattle.std.proofs.Math.Seq.{drop-cons, drop-length, take-length}
 use Rattle.hex.specs.Hex.{is_hex_digit, IsBytes}
 use Rattle.hex.proofs.HexLemmas.{decode_of-ok}
-use Rattle.far_text.specs.Command.{Entry, HeapLine, CommandLine, New, Open, Write, Read, Close, Where, Drop, View, Try, Epoch, Logs, Log, Audit, Mutator, Book, Evacuator, Policy, Oldest, LeastLive, By, Script, Select, Mark, Wait, Evacuate, Abort, Round}
-use Rattle.far_text.specs.Says.{Says, Spells, policy_name}
+use Rattle.far_text.specs.Command.{Entry, HeapLine, DeviceLine, Flawed, Flaw, Fail, CommandLine, New, Open, Write, Read, Close, Where, Drop, View, Try, Epoch, Logs, Log, Audit, Mutator, Book, Evacuator, Policy, Oldest, LeastLive, By, Script, Select, Mark, Wait, Evacuate, Abort, Round}
+use Rattle.far_text.specs.Says.{Says, Spells, flaw_name, policy_name}
 use Rattle.far_text.specs.Grammar.{Line, Skipped, Saying, Bad, saying, line_of, is_plain, is_skipped, entry_of, lines_of, line_words}
 use Rattle.far_text.specs.Cursor.{front_of, first_line, lines_after_first, words_in}
 use Rattle.far_text.proofs.Cuts.{split_on, line_at}
@@ -49,6 +49,9 @@ policy_ascii : (policy : Policy) → list_all is_ascii (policy_name policy) ≡ 
 policy_ascii Oldest = refl
 policy_ascii LeastLive = refl
 
+flaw_ascii : (flaw : Flaw) → list_all is_ascii (flaw_name flaw) ≡ true
+flaw_ascii Fail = refl
+
 logs_ascii : (logs : List ℕ) → IsBytes logs → list_all (list_all is_ascii) (map decimal logs) ≡ true
 logs_ascii [] small = refl
 logs_ascii (log ∷ logs) small =
@@ -59,6 +62,7 @@ logs_ascii (log ∷ logs) small =
 said_ascii : (words : List (List ℕ)) (c : Entry) → Says words c → list_all (list_all is_ascii) words ≡ true
 said_ascii words (HeapLine l m e) (inl h, first, second, third) = ap (list_all (list_all is_ascii)) h ∙ rw (decimal_ascii l first, decimal_ascii m second, decimal_ascii e third) refl
 said_ascii words (HeapLine l m e) (inr h, first, second, third) = ap (list_all (list_all is_ascii)) h.0 ∙ rw (decimal_ascii l first, decimal_ascii m second) refl
+said_ascii words (DeviceLine (Flawed flaw call)) h = ap (list_all (list_all is_ascii)) h.0 ∙ rw (flaw_ascii flaw, decimal_ascii call h.1) refl
 said_ascii words (CommandLine (Mutator m (New l s))) h = ap (list_all (list_all is_ascii)) h.0 ∙ rw (decimal_ascii m h.1, decimal_ascii l h.2, decimal_ascii s h.3) refl
 said_ascii words (CommandLine (Mutator m Open)) h = ap (list_all (list_all is_ascii)) h.0 ∙ rw (decimal_ascii m h.1) refl
 said_ascii words (CommandLine (Mutator m (Write p f b))) h =

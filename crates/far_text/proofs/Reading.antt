@@ -8,9 +8,9 @@ use Rattle.far_text.specs.declared.text.ParseError.{ParseError}
 use Rattle.far_text.specs.declared.text.ParseError.TheVariants.{Memory, Syntax}
 use Rattle.std.specs.Option.{option_map}
 use Rattle.std.proofs.lemmas.Option.{none-some, same_Some}
-use Rattle.far_text.specs.Command.{Command, HeapLine, CommandLine, Trace, Nothing}
+use Rattle.far_text.specs.Command.{Command, HeapLine, DeviceLine, CommandLine, Trace, Nothing}
 use Rattle.far_text.specs.Cursor.{first_line, lines_after_first}
-use Rattle.far_text.specs.Grammar.{Line, Skipped, Saying, Bad, saying, onto, line_of, lines_of, read_command, read_commands, read_heap, read_lines, trace_of, with_heap, IsFault}
+use Rattle.far_text.specs.Grammar.{Line, Skipped, Saying, Bad, beside, device_at, device_sought, saying, onto, line_of, lines_of, read_after, read_command, read_commands, read_heap, read_lines, trace_of, IsFault}
 use Rattle.far_text.specs.Parsed.{with_line}
 use Rattle.far_text.specs.HeapSought.{Found, NoHeap, HeapAt, found_at, heap_sought}
 use Rattle.far_text.proofs.Cuts.{split_some}
@@ -43,17 +43,23 @@ pub after_sought : (number : ℕ) (text : List ℕ) (line : Line) (lines : List 
     → heap_sought number (lines_of text) ≡ found_at number line lines (heap_sought (number + 1) lines)
 after_sought number text line lines is same = ap (heap_sought number) (split_some (λ b. b == 10) text) ∙ rw (is, same) refl
 
+-- and where its device's is
+pub after_device : (number : ℕ) (text : List ℕ) (line : Line) (lines : List (List ℕ)) → line ≡ line_of (first_line text) → lines ≡ lines_after_first text
+    → device_sought number (lines_of text) ≡ device_at number line lines (device_sought (number + 1) lines)
+after_device number text line lines is same = ap (device_sought number) (split_some (λ b. b == 10) text) ∙ rw (is, same) refl
+
 -- a text, by what is found of a heap in it
 abbrev pub trace_from : Result Found ℕ → Result Trace ℕ
 trace_from (Ok NoHeap) = Ok Nothing
-trace_from (Ok (HeapAt logs mutators epoch number after)) = with_heap logs mutators epoch (read_commands (number + 1) after)
+trace_from (Ok (HeapAt logs mutators epoch number after)) = read_after logs mutators epoch (beside (number + 1) after)
 trace_from (Err number) = Err number
 
 -- what a line makes of what is found after it, it makes of what is read after it
 found_first : (number : ℕ) (line : Line) (lines : List (List ℕ)) (found : Result Found ℕ) (later : Result Trace ℕ) → later ≡ trace_from found
-    → read_heap number line later (read_commands (number + 1) lines) ≡ trace_from (found_at number line lines found)
+    → read_heap number line later (beside (number + 1) lines) ≡ trace_from (found_at number line lines found)
 found_first number Skipped lines found later e = e
 found_first number (Saying (HeapLine logs mutators epoch)) lines found later e = refl
+found_first number (Saying (DeviceLine device)) lines found later e = refl
 found_first number (Saying (CommandLine c)) lines found later e = refl
 found_first number Bad lines found later e = refl
 
@@ -98,6 +104,7 @@ pub line_added : (old new : List Command) (line : Line) → with_line old line �
     (number : ℕ) (later : Result (List Command) ℕ) → onto_all new later ≡ onto_all old (read_command number line later)
 line_added old new Skipped e number later = ap (λ cs. onto_all cs later) (sym (same_Some old new e))
 line_added old new (Saying (HeapLine logs mutators epoch)) e number later = absurd (none-some new e)
+line_added old new (Saying (DeviceLine device)) e number later = absurd (none-some new e)
 line_added old new (Saying (CommandLine c)) e number later = ap (λ cs. onto_all cs later) (sym (same_Some (old ++ c ∷ []) new e)) ∙ onto_one_more old c later
 line_added old new Bad e number later = absurd (none-some new e)
 
@@ -105,6 +112,7 @@ line_added old new Bad e number later = absurd (none-some new e)
 pub line_refused : (old : List Command) (line : Line) → with_line old line ≡ None → (number : ℕ) (later : Result (List Command) ℕ) → read_command number line later ≡ Err number
 line_refused old Skipped e number later = absurd (none-some old (sym e))
 line_refused old (Saying (HeapLine logs mutators epoch)) e number later = refl
+line_refused old (Saying (DeviceLine device)) e number later = refl
 line_refused old (Saying (CommandLine c)) e number later = absurd (none-some (old ++ c ∷ []) (sym e))
 line_refused old Bad e number later = refl
 
@@ -117,5 +125,6 @@ one_longer old new (Some c) e = let same = ap length (same_Some (old ++ c ∷ []
 pub no_longer : (old new : List Command) (line : Line) → with_line old line ≡ Some new → length new ≤ length old + 1
 no_longer old new Skipped e = let same = ap length (same_Some old new e) in omega arith
 no_longer old new (Saying (HeapLine logs mutators epoch)) e = absurd (none-some new e)
+no_longer old new (Saying (DeviceLine device)) e = absurd (none-some new e)
 no_longer old new (Saying (CommandLine c)) e = let same = ap length (same_Some (old ++ c ∷ []) new e) in omega (arith, length-append old (c ∷ []))
 no_longer old new Bad e = absurd (none-some new e)

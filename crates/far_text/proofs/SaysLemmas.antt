@@ -7,9 +7,9 @@ use Rattle.std.proofs.lemmas.Bool.Decides.{Decides-ltb}
 use Rattle.std.proofs.lemmas.List.{length-map}
 use Rattle.hex.specs.Hex.{IsBytes}
 use Rattle.std.proofs.lemmas.Slice.Eq.{bytes_eq-Decides}
-use Rattle.far_text.specs.Command.{Entry, HeapLine, CommandLine, New, Open, Write, Read, Close, Where, Drop, View, Try, Epoch, Logs, Log, Audit, Mutator, Book, Evacuator, Policy, Oldest, LeastLive, By, Script, Step, Select, Mark, Wait, Evacuate, Abort, Round}
-use Rattle.far_text.specs.Says.{Says, Spells, AreLogs, policy_name}
-use Rattle.far_text.specs.Grammar.{says_heap, asks_read, asks_write, asks_open, asks_close, asks_new, asks_where, asks_drop, asks_view, asks_try, asks_epoch, asks_log, asks_mark, asks_evacuate, asks_select, asks_round, asks_script, select_by, round_by, policy_of, log_of, each_log, logs_of, limited, step_line, perhaps, From, Operands, Numbers, NumbersAndOneOr, NumbersAndBytes, WordThen, number_of, bytes_in, next_number, last_bytes, numbers_then, one_or, entry_at_end, entry_from, steps, table, found_in, entry_of, ◌>>=◌}
+use Rattle.far_text.specs.Command.{Entry, HeapLine, DeviceLine, Flawed, Flaw, Fail, CommandLine, New, Open, Write, Read, Close, Where, Drop, View, Try, Epoch, Logs, Log, Audit, Mutator, Book, Evacuator, Policy, Oldest, LeastLive, By, Script, Step, Select, Mark, Wait, Evacuate, Abort, Round}
+use Rattle.far_text.specs.Says.{Says, Spells, AreLogs, flaw_name, policy_name}
+use Rattle.far_text.specs.Grammar.{says_heap, asks_read, asks_write, asks_open, asks_close, asks_new, asks_where, asks_drop, asks_view, asks_try, asks_epoch, asks_log, asks_mark, asks_evacuate, asks_select, asks_round, asks_script, select_by, round_by, device_by, flaw_of, says_device, policy_of, log_of, each_log, logs_of, limited, step_line, perhaps, From, Operands, Numbers, NumbersAndOneOr, NumbersAndBytes, WordThen, number_of, bytes_in, next_number, last_bytes, numbers_then, one_or, entry_at_end, entry_from, steps, table, found_in, entry_of, ◌>>=◌}
 use Rattle.far_text.proofs.Each.{Each}
 use Rattle.far_text.proofs.HexLemmas.{spelled_is_hex, hex_is_spelled}
 use Rattle.far_text.proofs.Numbers.{number_is, number_only}
@@ -33,6 +33,9 @@ policy_read : (policy : Policy) → policy_of (policy_name policy) ≡ Some poli
 policy_read Oldest = refl
 policy_read LeastLive = refl
 
+flaw_read : (flaw : Flaw) → flaw_of (flaw_name flaw) ≡ Some flaw
+flaw_read Fail = refl
+
 no_script : (policy : Policy) → bytes_eq (policy_name policy) (codes "script") ≡ false
 no_script Oldest = refl
 no_script LeastLive = refl
@@ -46,6 +49,7 @@ said_is_read words (CommandLine (Mutator m (New l k))) h = ap entry_of h.0 ∙ r
 said_is_read words (HeapLine l m e) (inl h, first, second, third) = ap entry_of h ∙ rw (number_is (decimal l) l first refl, number_is (decimal m) m second refl, number_is (decimal e) e third refl) refl
 said_is_read words (HeapLine l m e) (inr h, first, second, third) =
     ap entry_of h.0 ∙ rw (number_is (decimal l) l first refl, number_is (decimal m) m second refl) (ap (λ n. Some (HeapLine l m n)) (sym h.1))
+said_is_read words (DeviceLine (Flawed flaw call)) h = ap entry_of h.0 ∙ rw (flaw_read flaw, number_is (decimal call) call h.1 refl) refl
 said_is_read words (CommandLine (Mutator m (Where p))) h = ap entry_of h.0 ∙ rw (number_is (decimal m) m h.1 refl, number_is (decimal p) p h.2 refl) refl
 said_is_read words (CommandLine (Mutator m (Drop p))) h = ap entry_of h.0 ∙ rw (number_is (decimal m) m h.1 refl, number_is (decimal p) p h.2 refl) refl
 said_is_read words (CommandLine (Mutator m (View p))) h = ap entry_of h.0 ∙ rw (number_is (decimal m) m h.1 refl, number_is (decimal p) p h.2 refl) refl
@@ -365,11 +369,32 @@ round_said (word ∷ words) c e =
     let made : CommandLine (Evacuator (Round policy t.0 t.1.0)) ≡ c = cc in
     subst (Says (codes "round" ∷ word ∷ words)) made (ap (λ w. codes "round" ∷ w ∷ words) name ∙ ap (λ ws. codes "round" ∷ policy_name policy ∷ ws) is, few, b.1.0)
 
+-- a word that is read as a flaw is its name
+flaw_only : (word : List ℕ) (flaw : Flaw) → flaw_of word ≡ Some flaw → word ≡ flaw_name flaw
+flaw_only word flaw e = elim (chosen (bytes_eq word (codes "fail")) _ _ (Some flaw) e) [
+  | inl k ↦ let same : Fail ≡ flaw = cc k.1 in (bytes_eq-Decides word (codes "fail")).0 k.0 ∙ ap flaw_name same
+  | inr k ↦ absurd (cc k.1)
+]
+
+flaw_then : (word : List ℕ) (f : Flaw → Option Entry) (c : Entry) → (flaw_of word >>= f) ≡ Some c → (flaw : Flaw) × (word ≡ flaw_name flaw) × (f flaw ≡ Some c)
+flaw_then word f c e = elim (flaw_of word) as (λ o. flaw_of word ≡ o → (o >>= f) ≡ Some c → (flaw : Flaw) × (word ≡ flaw_name flaw) × (f flaw ≡ Some c)) [
+  | Some flaw ↦ λ is k. (flaw, flaw_only word flaw is, k)
+  | None ↦ λ is k. absurd (cc k)
+] refl e
+
+device_said : IsSaid (codes "device", WordThen device_by)
+device_said [] c e = absurd (cc e)
+device_said (word ∷ words) c e =
+    let (flaw, name, more) = flaw_then word (λ flaw. perhaps 1 (says_device flaw) words) c e in
+    let (t, b, is, same) = perhaps_said 1 (says_device flaw) words c more in
+    let made : DeviceLine (Flawed flaw t.0) ≡ c = cc in
+    subst (Says (codes "device" ∷ word ∷ words)) made (ap (λ w. codes "device" ∷ w ∷ words) name ∙ ap (λ ws. codes "device" ∷ flaw_name flaw ∷ ws) is, b.0)
+
 steps_said : Each IsSaid steps
 steps_said = (select_said, (mark_said, (wait_said, (evacuate_said, (abort_said, (round_said, tt))))))
 
 rows_said : Each IsSaid table
-rows_said = (read_said, (write_said, (open_said, (close_said, (new_said, (heap_said, (logs_said, (where_said, (drop_said, (view_said, (try_said, (epoch_said, (log_said, (audit_said, steps_said))))))))))))))
+rows_said = (read_said, (write_said, (open_said, (close_said, (new_said, (heap_said, (logs_said, (where_said, (drop_said, (view_said, (try_said, (epoch_said, (log_said, (audit_said, (device_said, steps_said)))))))))))))))
 
 -- words that begin with a command's name
 named : (name word : List ℕ) (args : List (List ℕ)) (c : Entry) → bytes_eq name word ≡ true → Says (word ∷ args) c → Says (name ∷ args) c

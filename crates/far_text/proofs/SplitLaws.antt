@@ -4,14 +4,14 @@ use Rattle.std.specs.Prelude.{◌↔◌}
 use Rattle.std.proofs.lemmas.Bool.{and_parts, le-leb, lt-leb, cond_both}
 use Rattle.std.proofs.lemmas.Bool.Decides.{nat_tests}
 use Rattle.far_text.specs.declared.text.TheConstants.{LONGEST_TEXT}
-use Rattle.far_text.specs.Command.{Command, HeapLine, CommandLine, Heap, Request, New, Open, Write, Read, Close, Where, Drop, View, Try, Epoch, Mutator, Book, Evacuator, Select, Mark, Wait, Evacuate, Abort, Round}
-use Rattle.far_text.specs.Grammar.{Line, Skipped, Saying, Bad, line_of, lines_of, trace_of}
+use Rattle.far_text.specs.Command.{Command, Device, HeapLine, DeviceLine, CommandLine, Heap, Request, New, Open, Write, Read, Close, Where, Drop, View, Try, Epoch, Mutator, Book, Evacuator, Select, Mark, Wait, Evacuate, Abort, Round}
+use Rattle.far_text.specs.Grammar.{Line, Skipped, Saying, Bad, beside, line_of, lines_of, trace_of}
 use Rattle.far_text.specs.HeapSought.{Found, NoHeap, HeapAt, found_at, heap_sought}
-use Rattle.far_text.specs.Split.{SplitTrace, NothingSplit, SplitHeap, threaded, onto_lines, threaded_onto, split_command, split_commands, with_lines, split_from, split_of}
+use Rattle.far_text.specs.Split.{SplitTrace, NothingSplit, SplitHeap, threaded, onto_lines, threaded_onto, split_command, split_commands, with_lines, split_after, split_from, split_of}
 use Rattle.far_text.specs.SplitText.{HasThread, LinesSplit, LinesAreSplit, TextSaysSplit, CantBeSplit, FirstUnsplit, AreOwn, IsThread}
 use Rattle.far_text.specs.Threads.{Thread, OfMutator, OfBook, has_thread, is_own, is_of, lines_in}
-use Rattle.far_text.specs.TraceText.{IsPassed, Speaks, LinesSay}
-use Rattle.far_text.proofs.TextLaws.{passed_is, is_passed, speaks_is, is_speaks, not_passed, texts_read}
+use Rattle.far_text.specs.TraceText.{IsPassed, LinesSay, Speaks}
+use Rattle.far_text.proofs.TextLaws.{bad_beside, beside_is, is_beside, passed_is, is_passed, speaks_is, is_speaks, not_passed, texts_read}
 
 -- ---- threads
 own_from : (request : Request) → ((p : ℕ) → request ≢ Where p) → request ≢ Epoch → is_own request ≡ true
@@ -105,6 +105,7 @@ module _ (mutators number : ℕ) (line : List ℕ) (lines : List (List ℕ)) whe
       split_command mutators number l later ≡ Ok said → LinesSplit mutators number (line ∷ lines) said
   line_split said Skipped is rest e = inl (is_passed line is, rest said e)
   line_split said (Saying (HeapLine logs more epoch)) is rest e = absurd cc
+  line_split said (Saying (DeviceLine device)) is rest e = absurd cc
   line_split said (Saying (CommandLine c)) is rest e =
       cond_both (has_thread mutators c) (Some c) None (λ (o : Option Command). threaded_onto number o later ≡ Ok said → LinesSplit mutators number (line ∷ lines) said)
       (λ has f. let x = lines_ok (number, c) later said f in inr (c, x.0, x.1, is_speaks line (CommandLine c) is, thread_is mutators c has, rest x.0 x.2))
@@ -168,6 +169,7 @@ found_line number line lines f Skipped is rest e = found_after number line lines
 found_line number line lines f (Saying (HeapLine logs mutators epoch)) is rest e =
     let same : HeapAt logs mutators epoch number lines ≡ f = cc in
     subst (FoundIs number (line ∷ lines)) same ([], line, refl, omega arith, tt, is_speaks line (HeapLine logs mutators epoch) is)
+found_line number line lines f (Saying (DeviceLine device)) is rest e = absurd cc
 found_line number line lines f (Saying (CommandLine c)) is rest e = absurd cc
 found_line number line lines f Bad is rest e = absurd cc
 
@@ -176,30 +178,42 @@ found_said number [] f e = let same : NoHeap ≡ f = cc in subst (FoundIs number
 found_said number (line ∷ lines) f e = found_line number line lines f (line_of line) refl (λ h. found_said (number + 1) lines f h) e
 
 -- ---- whole texts
-with_ok : (logs mutators epoch : ℕ) (later : Result (List (ℕ × Command)) ℕ) (t : SplitTrace) → with_lines logs mutators epoch later ≡ Ok t → (said : List (ℕ × Command)) × (SplitHeap logs mutators epoch said ≡ t) × (later ≡ Ok said)
-with_ok logs mutators epoch (Ok said) t e = (said, cc, refl)
-with_ok logs mutators epoch (Err n) t e = absurd cc
+with_ok : (logs mutators epoch : ℕ) (device : Option Device) (later : Result (List (ℕ × Command)) ℕ) (t : SplitTrace) → with_lines logs mutators epoch device later ≡ Ok t →
+    (said : List (ℕ × Command)) × (SplitHeap logs mutators epoch device said ≡ t) × (later ≡ Ok said)
+with_ok logs mutators epoch device (Ok said) t e = (said, cc, refl)
+with_ok logs mutators epoch device (Err n) t e = absurd cc
 
-with_err : (logs mutators epoch : ℕ) (later : Result (List (ℕ × Command)) ℕ) (n : ℕ) → with_lines logs mutators epoch later ≡ Err n → later ≡ Err n
-with_err logs mutators epoch (Ok said) n e = absurd cc
-with_err logs mutators epoch (Err m) n e = let same : m ≡ n = cc in ap Err same
+with_err : (logs mutators epoch : ℕ) (device : Option Device) (later : Result (List (ℕ × Command)) ℕ) (n : ℕ) → with_lines logs mutators epoch device later ≡ Err n → later ≡ Err n
+with_err logs mutators epoch device (Ok said) n e = absurd cc
+with_err logs mutators epoch device (Err m) n e = let same : m ≡ n = cc in ap Err same
 
 said_all : (number : ℕ) (lines : List (List ℕ)) (t : SplitTrace) → LinesAreSplit number lines t → split_from (heap_sought number lines) ≡ Ok t
 said_all number lines NothingSplit h = ap split_from (sought_nothing number lines h)
-said_all number lines (SplitHeap logs mutators epoch said) (front, line, rest, whole, none, speaks, says) =
+said_all number lines (SplitHeap logs mutators epoch device said) (front, line, rest, more, whole, none, speaks, by, first, sum, says) =
+    let (k, total, stands) = beside_is (number + length front + 1) rest more device (map (λ (line : ℕ × Command). line.1) said) by (plainly_said mutators first more said says) in
+    let all = ap length whole in
+    let parts = length-append front (line ∷ rest) in
+    let at : k ≡ first = omega (arith, sum, total, all, parts) in
     ap (λ ls. split_from (heap_sought number ls)) whole
     ∙ ap split_from (sought_heap number front line rest logs mutators epoch none speaks)
-    ∙ ap (with_lines logs mutators epoch) (said_split mutators (number + length front + 1) rest said says)
+    ∙ ap (split_after logs mutators epoch) stands
+    ∙ ap (λ j. with_lines logs mutators epoch device (split_commands mutators j more)) at
+    ∙ ap (with_lines logs mutators epoch device) (said_split mutators first more said says)
 
 heap_split : (number : ℕ) (lines : List (List ℕ)) (logs mutators epoch n : ℕ) (after : List (List ℕ)) (said : List (ℕ × Command)) → FoundIs number lines (HeapAt logs mutators epoch n after)
-    → split_commands mutators (n + 1) after ≡ Ok said → LinesAreSplit number lines (SplitHeap logs mutators epoch said)
+    → split_commands mutators (beside (n + 1) after).1 (beside (n + 1) after).2 ≡ Ok said → LinesAreSplit number lines (SplitHeap logs mutators epoch (beside (n + 1) after).0 said)
 heap_split number lines logs mutators epoch n after said (front, line, whole, is, none, speaks) e =
-    (front, line, after, whole, none, speaks, subst (λ k. LinesSplit mutators (k + 1) after said) is (split_said mutators (n + 1) after said e))
+    let first = (beside (n + 1) after).1 in
+    let more = (beside (n + 1) after).2 in
+    let by = is_beside (n + 1) after in
+    let all = ap length whole in
+    let parts = length-append front (line ∷ after) in
+    (front, line, after, more, whole, none, speaks, by.0, first, omega (arith, by.1, is, all, parts), split_said mutators first more said e)
 
 all_said : (number : ℕ) (lines : List (List ℕ)) (t : SplitTrace) (found : Result Found ℕ) → heap_sought number lines ≡ found → split_from found ≡ Ok t → LinesAreSplit number lines t
 all_said number lines t (Ok NoHeap) is e = let same : NothingSplit ≡ t = cc in subst (LinesAreSplit number lines) same (found_said number lines NoHeap is)
 all_said number lines t (Ok (HeapAt logs mutators epoch n after)) is e =
-    let (said, same, reads) = with_ok logs mutators epoch (split_commands mutators (n + 1) after) t e in
+    let (said, same, reads) = with_ok logs mutators epoch (beside (n + 1) after).0 (split_commands mutators (beside (n + 1) after).1 (beside (n + 1) after).2) t e in
     subst (LinesAreSplit number lines) same (heap_split number lines logs mutators epoch n after said (found_said number lines (HeapAt logs mutators epoch n after) is) reads)
 all_said number lines t (Err n) is e = absurd cc
 
@@ -220,18 +234,18 @@ splits_read text t = (
       (λ _ e. absurd cc) (λ within e. (inside LONGEST_TEXT (length text) within, all_said 1 (lines_of text) t (heap_sought 1 (lines_of text)) refl e)),
 )
 
-pub splits_are_traces : (text : List ℕ) (logs mutators epoch : ℕ) (said : List (ℕ × Command))
-    → split_of text ≡ Ok (SplitHeap logs mutators epoch said) → trace_of text ≡ Ok (Heap logs mutators epoch (map (λ (line : ℕ × Command). line.1) said))
-splits_are_traces text logs mutators epoch said e =
-    let (short, (front, line, rest, whole, none, speaks, says)) = (splits_read text (SplitHeap logs mutators epoch said)).1 e in
-    (texts_read text (Heap logs mutators epoch (map (λ (line : ℕ × Command). line.1) said))).0
-    (short, (front, line, rest, whole, none, speaks, plainly_said mutators (1 + length front + 1) rest said says))
+pub splits_are_traces : (text : List ℕ) (logs mutators epoch : ℕ) (device : Option Device) (said : List (ℕ × Command))
+    → split_of text ≡ Ok (SplitHeap logs mutators epoch device said) → trace_of text ≡ Ok (Heap logs mutators epoch device (map (λ (line : ℕ × Command). line.1) said))
+splits_are_traces text logs mutators epoch device said e =
+    let (short, (front, line, rest, more, whole, none, speaks, by, first, sum, says)) = (splits_read text (SplitHeap logs mutators epoch device said)).1 e in
+    (texts_read text (Heap logs mutators epoch device (map (λ (line : ℕ × Command). line.1) said))).0
+    (short, (front, line, rest, more, whole, none, speaks, by, plainly_said mutators first more said says))
 
-pub threads_run_their_own : (text : List ℕ) (logs mutators epoch : ℕ) (said : List (ℕ × Command)) (thread : Thread)
-    → split_of text ≡ Ok (SplitHeap logs mutators epoch said) → AreOwn mutators thread (lines_in thread said)
-threads_run_their_own text logs mutators epoch said thread e =
-    let (short, (front, line, rest, whole, none, speaks, says)) = (splits_read text (SplitHeap logs mutators epoch said)).1 e in
-    own_lines mutators (1 + length front + 1) rest said thread says
+pub threads_run_their_own : (text : List ℕ) (logs mutators epoch : ℕ) (device : Option Device) (said : List (ℕ × Command)) (thread : Thread)
+    → split_of text ≡ Ok (SplitHeap logs mutators epoch device said) → AreOwn mutators thread (lines_in thread said)
+threads_run_their_own text logs mutators epoch device said thread e =
+    let (short, (front, line, rest, more, whole, none, speaks, by, first, sum, says)) = (splits_read text (SplitHeap logs mutators epoch device said)).1 e in
+    own_lines mutators first more said thread says
 
 -- ---- the first line that can't be split
 -- among the lines after the heap's
@@ -262,6 +276,7 @@ module _ (mutators number : ℕ) (line : List ℕ) (lines : List (List ℕ)) (n 
       let (front, bad, more, said, whole, at, says, unpassed, unsaid) = rest e in
       (line ∷ front, bad, more, said, ap (λ ls. line ∷ ls) whole, omega (arith, at), inl (is_passed line is, says), unpassed, unsaid)
   unsplit_command (Saying (HeapLine logs others epoch)) is rest e = here (Saying (HeapLine logs others epoch)) is (λ odd. cc) (λ c has odd. cc) cc
+  unsplit_command (Saying (DeviceLine device)) is rest e = here (Saying (DeviceLine device)) is (λ odd. cc) (λ c has odd. cc) cc
   unsplit_command (Saying (CommandLine c)) is rest e =
       cond_both (has_thread mutators c) (Some c) None (λ (o : Option Command). threaded_onto number o after ≡ Err n → UnsplitAfter mutators number (line ∷ lines) n)
       (λ has f. let (front, bad, more, said, whole, at, says, unpassed, unsaid) = rest (lines_err (number, c) after n f) in
@@ -283,6 +298,19 @@ unsought_line number line lines n Skipped is rest e =
     let (front, bad, more, whole, at, none, nothing) = rest e in
     (line ∷ front, bad, more, ap (λ ls. line ∷ ls) whole, omega (arith, at), inl (is_passed line is, none), nothing)
 unsought_line number line lines n (Saying (HeapLine logs mutators epoch)) is rest e = absurd cc
+unsought_line number line lines n (Saying (DeviceLine device)) is rest e =
+    let at : number ≡ n = cc in (
+      [],
+      line,
+      lines,
+      refl,
+      omega (arith, at),
+      tt,
+      (
+        not_passed line (Saying (DeviceLine device)) is (λ odd. cc),
+        λ logs mutators epoch s. let odd : Saying (DeviceLine device) ≡ Saying (HeapLine logs mutators epoch) = sym is ∙ speaks_is line (HeapLine logs mutators epoch) s in cc,
+      ),
+    )
 unsought_line number line lines n (Saying (CommandLine c)) is rest e =
     let at : number ≡ n = cc in (
       [],
@@ -316,23 +344,27 @@ unsought number (line ∷ lines) n e = unsought_line number line lines n (line_o
 
 -- after it
 unsplit_heap : (number : ℕ) (lines : List (List ℕ)) (logs mutators epoch k : ℕ) (after : List (List ℕ)) (n : ℕ) → FoundIs number lines (HeapAt logs mutators epoch k after)
-    → UnsplitAfter mutators (k + 1) after n → FirstUnsplit number lines n
-unsplit_heap number lines logs mutators epoch k after n (before, line, whole, is, none, speaks) (front, bad, rest, said, later, at, says, unpassed, unsaid) = (
-  before ++ line ∷ front,
-  bad,
-  rest,
-  SplitHeap logs mutators epoch said,
-  whole ∙ ap (λ ls. before ++ line ∷ ls) later ∙ sym (append_assoc before (line ∷ front) (bad ∷ rest)),
-  omega (arith, at, is, length-append before (line ∷ front)),
-  (before, line, front, refl, none, speaks, subst (λ j. LinesSplit mutators (j + 1) front said) is says),
-  (unpassed, unsaid),
-)
+    → UnsplitAfter mutators (beside (k + 1) after).1 (beside (k + 1) after).2 n → FirstUnsplit number lines n
+unsplit_heap number lines logs mutators epoch k after n (before, line, whole, is, none, speaks) (front, bad, rest, said, later, at, says, unpassed, unsaid) =
+    let first = (beside (k + 1) after).1 in
+    let (between, all, from, by, undeviced) = bad_beside (k + 1) after front bad rest (map (λ (line : ℕ × Command). line.1) said) n later at (plainly_said mutators first front said says) in
+    let sum = length-append before (line ∷ between) in (
+      before ++ line ∷ between,
+      bad,
+      rest,
+      SplitHeap logs mutators epoch (beside (k + 1) after).0 said,
+      whole ∙ ap (λ ls. before ++ line ∷ ls) all ∙ sym (append_assoc before (line ∷ between) (bad ∷ rest)),
+      omega (arith, from, is, sum),
+      (before, line, between, front, refl, none, speaks, by, first, omega (arith, at, from, is, sum), says),
+      (unpassed, unsaid, undeviced),
+    )
 
 unsplit_from : (number : ℕ) (lines : List (List ℕ)) (n : ℕ) (found : Result Found ℕ) → heap_sought number lines ≡ found → split_from found ≡ Err n → FirstUnsplit number lines n
 unsplit_from number lines n (Ok NoHeap) is e = absurd cc
 unsplit_from number lines n (Ok (HeapAt logs mutators epoch k after)) is e =
     unsplit_heap number lines logs mutators epoch k after n (found_said number lines (HeapAt logs mutators epoch k after) is)
-    (unsplit_commands mutators (k + 1) after n (with_err logs mutators epoch (split_commands mutators (k + 1) after) n e))
+    (unsplit_commands mutators (beside (k + 1) after).1 (beside (k + 1) after).2 n
+    (with_err logs mutators epoch (beside (k + 1) after).0 (split_commands mutators (beside (k + 1) after).1 (beside (k + 1) after).2) n e))
 unsplit_from number lines n (Err m) is e =
     let same : m ≡ n = cc in
     let (front, bad, rest, whole, at, none, nothing) = unsought number lines n (is ∙ ap Err same) in

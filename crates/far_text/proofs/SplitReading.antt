@@ -9,6 +9,10 @@ use Rattle.far_text.specs.Cursor.{first_line, lines_after_first}
 use Rattle.far_text.specs.Grammar.{Line, saying, line_of, lines_of}
 use Rattle.far_text.specs.HeapSought.{heap_sought}
 use Rattle.far_text.specs.Split.{threaded, onto_lines, threaded_onto, split_command, split_commands, split_from, split_of}
+use Rattle.far_text.specs.Spelled.{entry_spelled}
+use Rattle.far_text.specs.declared.command.Command.{Command as SpelledCommand}
+use Rattle.far_text.specs.declared.command.Entry.{Entry as SpelledEntry}
+use Rattle.far_text.specs.declared.command.Entry.TheVariants.{Heap as SpelledHeapLine, Device as SpelledDeviceLine, Command as SpelledCommandLine}
 use Rattle.far_text.proofs.Cuts.{split_some}
 
 abbrev pub onto_all_lines : List (ℕ × Command) → Result (List (ℕ × Command)) ℕ → Result (List (ℕ × Command)) ℕ
@@ -34,6 +38,13 @@ split_short text h = rw (within LONGEST_TEXT (length text) h) refl
 pub after_split : (mutators number : ℕ) (text : List ℕ) (line : Line) (lines : List (List ℕ)) → line ≡ line_of (first_line text) → lines ≡ lines_after_first text
     → split_commands mutators number (lines_of text) ≡ split_command mutators number line (split_commands mutators (number + 1) lines)
 after_split mutators number text line lines is same = ap (split_commands mutators number) (split_some (λ b. b == 10) text) ∙ rw (is, same) refl
+
+-- a line that says no command
+pub other_split : (mutators number : ℕ) (entry : SpelledEntry) → ((command : SpelledCommand) → entry ≡ SpelledCommandLine command → ⊥) → (later : Result (List (ℕ × Command)) ℕ) →
+    split_command mutators number (saying (entry_spelled entry)) later ≡ Err number
+other_split mutators number (SpelledHeapLine logs others epoch) other later = refl
+other_split mutators number (SpelledDeviceLine device) other later = refl
+other_split mutators number (SpelledCommandLine command) other later = absurd (other command refl)
 
 module _ (mutators number : ℕ) (old : List (ℕ × Command)) where
   abbrev more : Command → List (ℕ × Command)

@@ -1,5 +1,5 @@
 -- A text is read as what its lines say.
-use Rattle.std.proofs.Common.{◌≢◌, ◌≡◌, ◌⊎◌, inl, inr, ℕ, ◌<◌, ◌≤◌, ◌+◌, ◌==◌, ◌&&◌, suc, zero, nat_lt, nat_le, Bool, true, false, cond, not, List, [], ◌∷◌, ◌++◌, length, get_or, Option, Some, None, Result, Ok, Err, sym, ◌∙◌, ap, refl, subst, arith}
+use Rattle.std.proofs.Common.{◌≢◌, ◌≡◌, ◌⊎◌, inl, inr, ℕ, ◌<◌, ◌≤◌, ◌+◌, ◌==◌, ◌&&◌, suc, zero, nat_lt, nat_le, Bool, true, false, cond, not, List, [], ◌∷◌, ◌++◌, length, get_or, length-append, append_assoc, Option, Some, None, Result, Ok, Err, sym, ◌∙◌, ap, refl, subst, arith}
 use Rattle.std.specs.Prelude.{◌↔◌}
 use Rattle.std.specs.List.{list_all, join_with_byte, slice_split, onto_first}
 use Rattle.std.proofs.lemmas.Bool.{and_parts, le-leb, lt-leb, cond_both}
@@ -7,9 +7,9 @@ use Rattle.std.proofs.lemmas.Bool.Decides.{nat_tests}
 use Rattle.std.proofs.lemmas.List.Splits.{join_with_byte-slice_split}
 use Rattle.hex.proofs.HexLemmas.{decode_of-ok}
 use Rattle.far_text.specs.declared.text.TheConstants.{LONGEST_TEXT}
-use Rattle.far_text.specs.Command.{Command, Entry, HeapLine, CommandLine, Trace, Nothing, Heap, New, Open, Write, Read, Close, Where, Drop, View, Try, Epoch, Mutator, Book, Evacuator, By, Script, Select, Mark, Wait, Evacuate, Abort, Round}
-use Rattle.far_text.specs.Grammar.{Line, Skipped, Saying, Bad, line_of, lines_of, line_words, is_plain, is_skipped, saying, entry_of, trace_of, onto, with_heap, read_command, read_commands, read_heap, read_lines}
-use Rattle.far_text.specs.TraceText.{IsPassed, Speaks, LinesSay, LinesAre, TextSays, FirstBad, HaveNone}
+use Rattle.far_text.specs.Command.{Command, Device, Entry, HeapLine, DeviceLine, CommandLine, Trace, Nothing, Heap, New, Open, Write, Read, Close, Where, Drop, View, Try, Epoch, Mutator, Book, Evacuator, By, Script, Select, Mark, Wait, Evacuate, Abort, Round}
+use Rattle.far_text.specs.Grammar.{Line, Skipped, Saying, Bad, line_of, lines_of, line_words, is_plain, is_skipped, saying, entry_of, trace_of, onto, Sought, NoDevice, DeviceAt, device_at, device_sought, stands, beside, with_heap, read_after, read_command, read_commands, read_heap, read_lines}
+use Rattle.far_text.specs.TraceText.{Beside, IsPassed, Speaks, LinesSay, LinesAre, TextSays, FirstBad, HaveNone, MaySayDevice}
 use Rattle.far_text.specs.Says.{Says}
 use Rattle.far_text.specs.Written.{WritesBytes, AllWriteBytes}
 use Rattle.far_text.proofs.Cuts.{split_on}
@@ -97,13 +97,14 @@ onto_err : (c : Command) (later : Result (List Command) ℕ) (n : ℕ) → onto 
 onto_err c (Ok ds) n e = absurd cc
 onto_err c (Err m) n e = let same : m ≡ n = cc in ap Err same
 
-heap_ok : (logs mutators epoch : ℕ) (later : Result (List Command) ℕ) (t : Trace) → with_heap logs mutators epoch later ≡ Ok t → (cs : List Command) × (t ≡ Heap logs mutators epoch cs) × (later ≡ Ok cs)
-heap_ok logs mutators epoch (Ok cs) t e = (cs, cc, refl)
-heap_ok logs mutators epoch (Err n) t e = absurd cc
+heap_ok : (logs mutators epoch : ℕ) (device : Option Device) (later : Result (List Command) ℕ) (t : Trace) → with_heap logs mutators epoch device later ≡ Ok t →
+    (cs : List Command) × (t ≡ Heap logs mutators epoch device cs) × (later ≡ Ok cs)
+heap_ok logs mutators epoch device (Ok cs) t e = (cs, cc, refl)
+heap_ok logs mutators epoch device (Err n) t e = absurd cc
 
-heap_err : (logs mutators epoch : ℕ) (later : Result (List Command) ℕ) (n : ℕ) → with_heap logs mutators epoch later ≡ Err n → later ≡ Err n
-heap_err logs mutators epoch (Ok cs) n e = absurd cc
-heap_err logs mutators epoch (Err m) n e = let same : m ≡ n = cc in ap Err same
+heap_err : (logs mutators epoch : ℕ) (device : Option Device) (later : Result (List Command) ℕ) (n : ℕ) → with_heap logs mutators epoch device later ≡ Err n → later ≡ Err n
+heap_err logs mutators epoch device (Ok cs) n e = absurd cc
+heap_err logs mutators epoch device (Err m) n e = let same : m ≡ n = cc in ap Err same
 
 -- the commands that lines say are read
 said_commands : (number : ℕ) (lines : List (List ℕ)) (cs : List Command) → LinesSay lines cs → read_commands number lines ≡ Ok cs
@@ -115,29 +116,122 @@ said_commands number (line ∷ lines) cs (inr h) =
     ap (λ l. read_command number l (read_commands (number + 1) lines)) (speaks_is line (CommandLine h.0) h.3)
     ∙ ap (onto h.0) (said_commands (number + 1) lines h.1 h.4) ∙ ap Ok (sym h.2)
 
+-- lines that say commands say no device first
+sought_none : (number : ℕ) (lines : List (List ℕ)) (cs : List Command) → LinesSay lines cs → device_sought number lines ≡ NoDevice
+sought_none number [] cs h = refl
+sought_none number (line ∷ lines) cs (inl h) = ap (λ l. device_at number l lines (device_sought (number + 1) lines)) (passed_is line h.0) ∙ sought_none (number + 1) lines cs h.1
+sought_none number (line ∷ lines) cs (inr h) = ap (λ l. device_at number l lines (device_sought (number + 1) lines)) (speaks_is line (CommandLine h.0) h.3)
+
+-- a device's line after lines that say nothing
+sought_device : (number : ℕ) (between : List (List ℕ)) (line : List ℕ) (more : List (List ℕ)) (device : Device) → LinesSay between [] → Speaks line (DeviceLine device) →
+    device_sought number (between ++ line ∷ more) ≡ DeviceAt device (number + length between) more
+sought_device number [] line more device h speaks =
+    let at : number ≡ number + 0 = omega arith in
+    ap (λ l. device_at number l more (device_sought (number + 1) more)) (speaks_is line (DeviceLine device) speaks) ∙ ap (λ k. DeviceAt device k more) at
+sought_device number (first ∷ between) line more device (inl h) speaks =
+    let at : number + 1 + length between ≡ number + suc (length between) = omega arith in
+    ap (λ l. device_at number l (between ++ line ∷ more) (device_sought (number + 1) (between ++ line ∷ more))) (passed_is first h.0)
+    ∙ sought_device (number + 1) between line more device h.1 speaks ∙ ap (λ k. DeviceAt device k more) at
+sought_device number (first ∷ between) line more device (inr h) speaks = let odd : [] ≡ h.0 ∷ h.1 = h.2 in absurd cc
+
+-- where commands stand
+pub beside_is : (number : ℕ) (rest more : List (List ℕ)) (device : Option Device) (cs : List Command) → Beside device rest more → LinesSay more cs →
+    (first : ℕ) × (number + length rest ≡ first + length more) × (beside number rest ≡ (device, first, more))
+beside_is number rest more None cs is says =
+    let here : LinesSay rest cs = subst (λ ls. LinesSay ls cs) is says in
+    let same = ap length is in
+    (number, omega (arith, same), ap (stands number rest) (sought_none number rest cs here) ∙ ap (λ ls. (None, number, ls)) (sym is))
+beside_is number rest more (Some device) cs (between, line, whole, none, speaks) says =
+    let all = ap length whole in
+    let sum = length-append between (line ∷ more) in (
+      number + length between + 1,
+      omega (arith, all, sum),
+      ap (beside number) whole ∙ ap (stands number (between ++ line ∷ more)) (sought_device number between line more device none speaks),
+    )
+
+-- what is found of a device, the lines say
+abbrev DeviceIs : ℕ → List (List ℕ) → Sought → Type 0
+DeviceIs number lines NoDevice = Unit {0}
+DeviceIs number lines (DeviceAt device n after) = (between : List (List ℕ)) × (line : List ℕ) × (lines ≡ between ++ line ∷ after) × (n ≡ number + length between)
+    × LinesSay between [] × Speaks line (DeviceLine device)
+
+device_behind : (number : ℕ) (line : List ℕ) (lines : List (List ℕ)) (s : Sought) → IsPassed line → DeviceIs (number + 1) lines s → DeviceIs number (line ∷ lines) s
+device_behind number line lines NoDevice passed h = tt
+device_behind number line lines (DeviceAt device n after) passed (between, at, whole, is, none, speaks) =
+    (line ∷ between, at, ap (λ ls. line ∷ ls) whole, omega (arith, is), inl (passed, none), speaks)
+
+device_line : (number : ℕ) (line : List ℕ) (lines : List (List ℕ)) (l : Line) → line_of line ≡ l → DeviceIs (number + 1) lines (device_sought (number + 1) lines) →
+    DeviceIs number (line ∷ lines) (device_at number l lines (device_sought (number + 1) lines))
+device_line number line lines Skipped is rest = device_behind number line lines (device_sought (number + 1) lines) (is_passed line is) rest
+device_line number line lines (Saying (HeapLine logs mutators epoch)) is rest = tt
+device_line number line lines (Saying (DeviceLine device)) is rest = ([], line, refl, omega arith, tt, is_speaks line (DeviceLine device) is)
+device_line number line lines (Saying (CommandLine c)) is rest = tt
+device_line number line lines Bad is rest = tt
+
+device_is : (number : ℕ) (lines : List (List ℕ)) → DeviceIs number lines (device_sought number lines)
+device_is number [] = tt
+device_is number (line ∷ lines) = device_line number line lines (line_of line) refl (device_is (number + 1) lines)
+
+stands_beside : (number : ℕ) (rest : List (List ℕ)) (s : Sought) → DeviceIs number rest s →
+    Beside (stands number rest s).0 rest (stands number rest s).2 × (number + length rest ≡ (stands number rest s).1 + length (stands number rest s).2)
+stands_beside number rest NoDevice h = (refl, refl)
+stands_beside number rest (DeviceAt device n after) (between, line, whole, at, none, speaks) =
+    let all = ap length whole in
+    let sum = length-append between (line ∷ after) in
+    ((between, line, whole, none, speaks), omega (arith, at, all, sum))
+
+pub is_beside : (number : ℕ) (rest : List (List ℕ)) → Beside (beside number rest).0 rest (beside number rest).2 × (number + length rest ≡ (beside number rest).1 + length (beside number rest).2)
+is_beside number rest = stands_beside number rest (device_sought number rest) (device_is number rest)
+
+-- the lines before one that says nothing, from the heap's on
+abbrev pub BadBeside : ℕ → List (List ℕ) → Option Device → List (List ℕ) → List ℕ → List (List ℕ) → List Command → ℕ → Type 0
+BadBeside number rest device front bad more cs n = (before : List (List ℕ)) × (rest ≡ before ++ bad ∷ more) × (n ≡ number + length before) × Beside device before front × (¬ MaySayDevice device cs bad)
+
+no_device : (number : ℕ) (rest front : List (List ℕ)) (bad : List ℕ) (more : List (List ℕ)) (cs : List Command) → device_sought number rest ≡ NoDevice → rest ≡ front ++ bad ∷ more → LinesSay front cs → ¬ MaySayDevice None cs bad
+no_device number rest front bad more [] none whole says (device, speaks) =
+    let odd : NoDevice ≡ DeviceAt device (number + length front) more = sym none ∙ ap (device_sought number) whole ∙ sought_device number front bad more device says speaks in cc
+no_device number rest front bad more (c ∷ cs) none whole says odd = odd
+
+bad_stands : (number : ℕ) (rest front : List (List ℕ)) (bad : List ℕ) (more : List (List ℕ)) (cs : List Command) (n : ℕ) (s : Sought) → device_sought number rest ≡ s → DeviceIs number rest s →
+    (stands number rest s).2 ≡ front ++ bad ∷ more → n ≡ (stands number rest s).1 + length front → LinesSay front cs → BadBeside number rest (stands number rest s).0 front bad more cs n
+bad_stands number rest front bad more cs n NoDevice is h whole at says = (front, whole, at, refl, no_device number rest front bad more cs is whole says)
+bad_stands number rest front bad more cs n (DeviceAt device k after) is (between, line, all, found, none, speaks) whole at says =
+    let sum = length-append between (line ∷ front) in (
+      between ++ line ∷ front,
+      all ∙ ap (λ ls. between ++ line ∷ ls) whole ∙ sym (append_assoc between (line ∷ front) (bad ∷ more)),
+      omega (arith, at, found, sum),
+      (between, line, refl, none, speaks),
+      λ odd. odd,
+    )
+
+pub bad_beside : (number : ℕ) (rest front : List (List ℕ)) (bad : List ℕ) (more : List (List ℕ)) (cs : List Command) (n : ℕ) → (beside number rest).2 ≡ front ++ bad ∷ more →
+    n ≡ (beside number rest).1 + length front → LinesSay front cs → BadBeside number rest (beside number rest).0 front bad more cs n
+bad_beside number rest front bad more cs n = bad_stands number rest front bad more cs n (device_sought number rest) refl (device_is number rest)
+
 -- lines that say nothing
 said_nothing : (number : ℕ) (lines : List (List ℕ)) → LinesSay lines [] → read_lines number lines ≡ Ok Nothing
 said_nothing number [] h = refl
 said_nothing number (line ∷ lines) (inl h) =
-    ap (λ l. read_heap number l (read_lines (number + 1) lines) (read_commands (number + 1) lines)) (passed_is line h.0) ∙ said_nothing (number + 1) lines h.1
+    ap (λ l. read_heap number l (read_lines (number + 1) lines) (beside (number + 1) lines)) (passed_is line h.0) ∙ said_nothing (number + 1) lines h.1
 said_nothing number (line ∷ lines) (inr h) = let odd : [] ≡ h.0 ∷ h.1 = h.2 in absurd cc
 
 -- a heap's line after them
-said_heap : (number : ℕ) (front : List (List ℕ)) (line : List ℕ) (rest : List (List ℕ)) (logs mutators epoch : ℕ) (cs : List Command) → LinesSay front [] → Speaks line (HeapLine logs mutators epoch) → LinesSay rest cs →
-    read_lines number (front ++ line ∷ rest) ≡ Ok (Heap logs mutators epoch cs)
-said_heap number [] line rest logs mutators epoch cs h speaks says =
-    ap (λ l. read_heap number l (read_lines (number + 1) rest) (read_commands (number + 1) rest)) (speaks_is line (HeapLine logs mutators epoch) speaks)
-    ∙ ap (with_heap logs mutators epoch) (said_commands (number + 1) rest cs says)
-said_heap number (first ∷ front) line rest logs mutators epoch cs (inl h) speaks says =
-    ap (λ l. read_heap number l (read_lines (number + 1) (front ++ line ∷ rest)) (read_commands (number + 1) (front ++ line ∷ rest))) (passed_is first h.0)
-    ∙ said_heap (number + 1) front line rest logs mutators epoch cs h.1 speaks says
-said_heap number (first ∷ front) line rest logs mutators epoch cs (inr h) speaks says = let odd : [] ≡ h.0 ∷ h.1 = h.2 in absurd cc
+said_heap : (number : ℕ) (front : List (List ℕ)) (line : List ℕ) (rest more : List (List ℕ)) (logs mutators epoch : ℕ) (device : Option Device) (cs : List Command) → LinesSay front [] →
+    Speaks line (HeapLine logs mutators epoch) → Beside device rest more → LinesSay more cs → read_lines number (front ++ line ∷ rest) ≡ Ok (Heap logs mutators epoch device cs)
+said_heap number [] line rest more logs mutators epoch device cs h speaks by says =
+    let (first, sum, stands) = beside_is (number + 1) rest more device cs by says in
+    ap (λ l. read_heap number l (read_lines (number + 1) rest) (beside (number + 1) rest)) (speaks_is line (HeapLine logs mutators epoch) speaks)
+    ∙ ap (read_after logs mutators epoch) stands ∙ ap (with_heap logs mutators epoch device) (said_commands first more cs says)
+said_heap number (first ∷ front) line rest more logs mutators epoch device cs (inl h) speaks by says =
+    ap (λ l. read_heap number l (read_lines (number + 1) (front ++ line ∷ rest)) (beside (number + 1) (front ++ line ∷ rest))) (passed_is first h.0)
+    ∙ said_heap (number + 1) front line rest more logs mutators epoch device cs h.1 speaks by says
+said_heap number (first ∷ front) line rest more logs mutators epoch device cs (inr h) speaks by says = let odd : [] ≡ h.0 ∷ h.1 = h.2 in absurd cc
 
 -- what lines say is read
 said_lines : (number : ℕ) (lines : List (List ℕ)) (t : Trace) → LinesAre lines t → read_lines number lines ≡ Ok t
 said_lines number lines Nothing h = said_nothing number lines h
-said_lines number lines (Heap logs mutators epoch cs) (front, line, rest, whole, none, speaks, says) =
-    ap (read_lines number) whole ∙ said_heap number front line rest logs mutators epoch cs none speaks says
+said_lines number lines (Heap logs mutators epoch device cs) (front, line, rest, more, whole, none, speaks, by, says) =
+    ap (read_lines number) whole ∙ said_heap number front line rest more logs mutators epoch device cs none speaks by says
 
 -- the commands that are read of lines, they say
 command_said : (number : ℕ) (line : List ℕ) (lines : List (List ℕ)) (cs : List Command) (l : Line) → line_of line ≡ l →
@@ -145,6 +239,7 @@ command_said : (number : ℕ) (line : List ℕ) (lines : List (List ℕ)) (cs : 
     read_command number l (read_commands (number + 1) lines) ≡ Ok cs → LinesSay (line ∷ lines) cs
 command_said number line lines cs Skipped is rest e = inl (is_passed line is, rest cs e)
 command_said number line lines cs (Saying (HeapLine logs mutators epoch)) is rest e = absurd cc
+command_said number line lines cs (Saying (DeviceLine device)) is rest e = absurd cc
 command_said number line lines cs (Saying (CommandLine c)) is rest e =
     let x = onto_ok c (read_commands (number + 1) lines) cs e in inr (c, x.0, x.1, is_speaks line (CommandLine c) is, rest x.0 x.2)
 command_said number line lines cs Bad is rest e = absurd cc
@@ -157,23 +252,27 @@ commands_said number (line ∷ lines) cs e = command_said number line lines cs (
 -- one line more in front, passed over
 passed_front : (line : List ℕ) (lines : List (List ℕ)) (t : Trace) → IsPassed line → LinesAre lines t → LinesAre (line ∷ lines) t
 passed_front line lines Nothing passed h = inl (passed, h)
-passed_front line lines (Heap logs mutators epoch cs) passed (front, at, rest, whole, none, speaks, says) =
-    (line ∷ front, at, rest, ap (λ ls. line ∷ ls) whole, inl (passed, none), speaks, says)
+passed_front line lines (Heap logs mutators epoch device cs) passed (front, at, rest, more, whole, none, speaks, by, says) =
+    (line ∷ front, at, rest, more, ap (λ ls. line ∷ ls) whole, inl (passed, none), speaks, by, says)
 
 -- what is read of lines, they say
 line_said : (number : ℕ) (line : List ℕ) (lines : List (List ℕ)) (t : Trace) (l : Line) → line_of line ≡ l →
     ((u : Trace) → read_lines (number + 1) lines ≡ Ok u → LinesAre lines u) →
-    read_heap number l (read_lines (number + 1) lines) (read_commands (number + 1) lines) ≡ Ok t → LinesAre (line ∷ lines) t
+    read_heap number l (read_lines (number + 1) lines) (beside (number + 1) lines) ≡ Ok t → LinesAre (line ∷ lines) t
 line_said number line lines t Skipped is rest e = passed_front line lines t (is_passed line is) (rest t e)
 line_said number line lines t (Saying (HeapLine logs mutators epoch)) is rest e =
-    let x = heap_ok logs mutators epoch (read_commands (number + 1) lines) t e in
-    subst (LinesAre (line ∷ lines)) (sym x.1) ([], line, lines, refl, tt, is_speaks line (HeapLine logs mutators epoch) is, commands_said (number + 1) lines x.0 x.2)
+    let first = (beside (number + 1) lines).1 in
+    let more = (beside (number + 1) lines).2 in
+    let x = heap_ok logs mutators epoch (beside (number + 1) lines).0 (read_commands first more) t e in
+    subst (LinesAre (line ∷ lines)) (sym x.1)
+    ([], line, lines, more, refl, tt, is_speaks line (HeapLine logs mutators epoch) is, (is_beside (number + 1) lines).0, commands_said first more x.0 x.2)
+line_said number line lines t (Saying (DeviceLine device)) is rest e = absurd cc
 line_said number line lines t (Saying (CommandLine c)) is rest e = absurd cc
 line_said number line lines t Bad is rest e = absurd cc
 
 lines_said : (number : ℕ) (lines : List (List ℕ)) (t : Trace) → read_lines number lines ≡ Ok t → LinesAre lines t
 lines_said number [] Nothing e = tt
-lines_said number [] (Heap logs mutators epoch cs) e = absurd cc
+lines_said number [] (Heap logs mutators epoch device cs) e = absurd cc
 lines_said number (line ∷ lines) t e = line_said number line lines t (line_of line) refl (λ u h. lines_said (number + 1) lines u h) e
 
 -- ---- whole texts
@@ -218,6 +317,18 @@ bad_command number line lines n (Saying (HeapLine logs mutators epoch)) is rest 
       not_passed line (Saying (HeapLine logs mutators epoch)) is (λ odd. cc),
       λ c s. let odd : Saying (HeapLine logs mutators epoch) ≡ Saying (CommandLine c) = sym is ∙ speaks_is line (CommandLine c) s in cc,
     )
+bad_command number line lines n (Saying (DeviceLine device)) is rest e =
+    let at : number ≡ n = cc in (
+      [],
+      line,
+      lines,
+      [],
+      refl,
+      omega (arith, at),
+      tt,
+      not_passed line (Saying (DeviceLine device)) is (λ odd. cc),
+      λ c s. let odd : Saying (DeviceLine device) ≡ Saying (CommandLine c) = sym is ∙ speaks_is line (CommandLine c) s in cc,
+    )
 bad_command number line lines n (Saying (CommandLine c)) is rest e =
     let (front, bad, more, cs, whole, at, says, unpassed, unsaid) = rest (onto_err c (read_commands (number + 1) lines) n e) in
     (line ∷ front, bad, more, c ∷ cs, ap (λ ls. line ∷ ls) whole, omega (arith, at), inr (c, cs, refl, is_speaks line (CommandLine c) is, says), unpassed, unsaid)
@@ -231,13 +342,39 @@ bad_commands number (line ∷ lines) n e = bad_command number line lines n (line
 
 bad_line : (number : ℕ) (line : List ℕ) (lines : List (List ℕ)) (n : ℕ) (l : Line) → line_of line ≡ l →
     (read_lines (number + 1) lines ≡ Err n → FirstBad (number + 1) lines n) →
-    read_heap number l (read_lines (number + 1) lines) (read_commands (number + 1) lines) ≡ Err n → FirstBad number (line ∷ lines) n
+    read_heap number l (read_lines (number + 1) lines) (beside (number + 1) lines) ≡ Err n → FirstBad number (line ∷ lines) n
 bad_line number line lines n Skipped is rest e =
     let (front, bad, more, t, whole, at, says, nothing) = rest e in
     (line ∷ front, bad, more, t, ap (λ ls. line ∷ ls) whole, omega (arith, at), passed_front line front t (is_passed line is) says, nothing)
 bad_line number line lines n (Saying (HeapLine logs mutators epoch)) is rest e =
-    let (front, bad, more, cs, whole, at, says, unpassed, unsaid) = bad_commands (number + 1) lines n (heap_err logs mutators epoch (read_commands (number + 1) lines) n e) in
-    (line ∷ front, bad, more, Heap logs mutators epoch cs, ap (λ ls. line ∷ ls) whole, omega (arith, at), ([], line, front, refl, tt, is_speaks line (HeapLine logs mutators epoch) is, says), (unpassed, unsaid))
+    let device = (beside (number + 1) lines).0 in
+    let first = (beside (number + 1) lines).1 in
+    let after = (beside (number + 1) lines).2 in
+    let (front, bad, more, cs, whole, at, says, unpassed, unsaid) = bad_commands first after n (heap_err logs mutators epoch device (read_commands first after) n e) in
+    let (before, all, from, by, undeviced) = bad_beside (number + 1) lines front bad more cs n whole at says in (
+      line ∷ before,
+      bad,
+      more,
+      Heap logs mutators epoch device cs,
+      ap (λ ls. line ∷ ls) all,
+      omega (arith, from),
+      ([], line, before, front, refl, tt, is_speaks line (HeapLine logs mutators epoch) is, by, says),
+      (unpassed, unsaid, undeviced),
+    )
+bad_line number line lines n (Saying (DeviceLine device)) is rest e =
+    let at : number ≡ n = cc in (
+      [],
+      line,
+      lines,
+      Nothing,
+      refl,
+      omega (arith, at),
+      tt,
+      (
+        not_passed line (Saying (DeviceLine device)) is (λ odd. cc),
+        λ logs mutators epoch s. let odd : Saying (DeviceLine device) ≡ Saying (HeapLine logs mutators epoch) = sym is ∙ speaks_is line (HeapLine logs mutators epoch) s in cc,
+      ),
+    )
 bad_line number line lines n (Saying (CommandLine c)) is rest e =
     let at : number ≡ n = cc in (
       [],
@@ -299,8 +436,8 @@ lines_write [] (c ∷ cs) h = absurd h
 lines_write (line ∷ lines) cs (inl h) = lines_write lines cs h.1
 lines_write (line ∷ lines) cs (inr h) = subst AllWriteBytes (sym h.2) (words_write (line_words line) h.0 h.3.1, lines_write lines h.1 h.4)
 
-pub texts_write : (text : List ℕ) (logs mutators epoch : ℕ) (cs : List Command) → trace_of text ≡ Ok (Heap logs mutators epoch cs) → AllWriteBytes cs
-texts_write text logs mutators epoch cs e = let x = (texts_read text (Heap logs mutators epoch cs)).1 e in lines_write x.1.2 cs x.1.6
+pub texts_write : (text : List ℕ) (logs mutators epoch : ℕ) (device : Option Device) (cs : List Command) → trace_of text ≡ Ok (Heap logs mutators epoch device cs) → AllWriteBytes cs
+texts_write text logs mutators epoch device cs e = let x = (texts_read text (Heap logs mutators epoch device cs)).1 e in lines_write x.1.3 cs x.1.8
 
 -- ---- cuts
 -- the parts of a cut have no byte that cuts

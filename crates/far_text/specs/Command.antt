@@ -1,9 +1,12 @@
--- What a trace says: nothing, or a heap and commands: the requests of a mutator, the inquiries of the book, and the steps of the evacuator; with the bytes of a write as they are stored.
-use Rattle.std.specs.Prelude.{ℕ, List}
+-- What a trace says: nothing, or a heap, what its device does wrong, and commands: the requests of a mutator, the inquiries of the book, and the steps of the evacuator; with the bytes of a write as they are stored.
+use Rattle.std.specs.Prelude.{ℕ, List, Option}
 use Rattle.far_text.specs.declared.command.Choice.{Choice as SpelledChoice}
 use Rattle.far_text.specs.declared.command.Choice.TheVariants.{By as SpelledBy, Script as SpelledScript}
 use Rattle.far_text.specs.declared.command.Command.{Command as Spelled}
 use Rattle.far_text.specs.declared.command.Command.TheVariants.{Mutator as SpelledMutator, Book as SpelledBook, Evacuator as SpelledEvacuator}
+use Rattle.far_text.specs.declared.command.Device.{Device as SpelledDevice}
+use Rattle.far_text.specs.declared.command.Flaw.{Flaw as SpelledFlaw}
+use Rattle.far_text.specs.declared.command.Flaw.TheVariants.{Fail as SpelledFail}
 use Rattle.far_text.specs.declared.command.Inquiry.{Inquiry as SpelledInquiry}
 use Rattle.far_text.specs.declared.command.Inquiry.TheVariants.{Logs as SpelledLogs, Log as SpelledLog, Audit as SpelledAudit}
 use Rattle.far_text.specs.declared.command.Policy.{Policy as SpelledPolicy}
@@ -56,15 +59,24 @@ pub data Command : Type 0 where
   Book : (inquiry : Inquiry) → Command
   Evacuator : (step : Step) → Command
 
+-- what is wrong in one call of a heap's device: it fails
+pub data Flaw : Type 0 where
+  Fail : Flaw
+
+-- a heap's device: what is wrong, and in which of the calls that are counted for it, from 1; 0 is none
+pub data Device : Type 0 where
+  Flawed : (flaw : Flaw) (call : ℕ) → Device
+
 -- what the words of a line say
 pub data Entry : Type 0 where
   HeapLine : (logs mutators epoch : ℕ) → Entry
+  DeviceLine : (device : Device) → Entry
   CommandLine : (command : Command) → Entry
 
 -- what a text says
 pub data Trace : Type 0 where
   Nothing : Trace
-  Heap : (logs mutators epoch : ℕ) (commands : List Command) → Trace
+  Heap : (logs mutators epoch : ℕ) (device : Option Device) (commands : List Command) → Trace
 
 -- what is asked so
 abbrev pub as_request : SpelledRequest → Request
@@ -87,6 +99,12 @@ as_inquiry SpelledAudit = Audit
 abbrev pub as_policy : SpelledPolicy → Policy
 as_policy SpelledOldest = Oldest
 as_policy SpelledLeastLive = LeastLive
+
+abbrev pub as_flaw : SpelledFlaw → Flaw
+as_flaw SpelledFail = Fail
+
+abbrev pub as_device : SpelledDevice → Device
+as_device device = Flawed (as_flaw device.flaw) device.call
 
 abbrev pub as_choice : SpelledChoice → Choice
 as_choice (SpelledBy policy) = By (as_policy policy)

@@ -4,7 +4,7 @@ use Rattle.std.specs.Str.{bytes_eq}
 use Rattle.std.specs.Str.Parse.{digits_value}
 use Rattle.std.specs.List.{slice_split, list_all}
 use Rattle.std.specs.Option.{option_map, option_and_then}
-use Rattle.far_text.specs.Command.{Command, Entry, HeapLine, CommandLine, Trace, Nothing, Heap, New, Open, Write, Read, Close, Where, Drop, View, Try, Epoch, Logs, Log, Audit, Mutator, Book, Evacuator, Policy, Oldest, LeastLive, By, Script, Step, Select, Mark, Wait, Evacuate, Abort, Round}
+use Rattle.far_text.specs.Command.{Command, Entry, HeapLine, DeviceLine, Device, Flawed, Flaw, Fail, CommandLine, Trace, Nothing, Heap, New, Open, Write, Read, Close, Where, Drop, View, Try, Epoch, Logs, Log, Audit, Mutator, Book, Evacuator, Policy, Oldest, LeastLive, By, Script, Step, Select, Mark, Wait, Evacuate, Abort, Round}
 use Rattle.far_text.specs.HexWord.{is_hex_word, hex_bytes}
 use Rattle.far_text.specs.declared.command.TheConstants.{MOST_CHOSEN, LOG_NAMES}
 use Rattle.far_text.specs.declared.hex_word.TheConstants.{LONGEST_LINE, LONGEST_BYTES}
@@ -119,6 +119,16 @@ asks_epoch m = CommandLine (Mutator m Epoch)
 abbrev pub asks_log : From 1 Entry
 asks_log log = CommandLine (Book (Log log))
 
+-- what is wrong in a call of the device, as a word names it
+abbrev pub flaw_of : List ℕ → Option Flaw
+flaw_of word = if bytes_eq word (codes "fail") then Some Fail else None
+
+abbrev pub says_device : Flaw → From 1 (Option Entry)
+says_device flaw call = Some (DeviceLine (Flawed flaw call))
+
+abbrev pub device_by : List ℕ → List (List ℕ) → Option Entry
+device_by word words = flaw_of word >>= λ flaw. perhaps 1 (says_device flaw) words
+
 -- ---- the steps of the evacuator
 -- the policy that a word names
 abbrev pub policy_of : List ℕ → Option Policy
@@ -194,6 +204,7 @@ table =
     ∷ (codes "epoch", Numbers 1 asks_epoch)
     ∷ (codes "log", Numbers 1 asks_log)
     ∷ (codes "audit", Numbers 0 (CommandLine (Book Audit)))
+    ∷ (codes "device", WordThen device_by)
     ∷ steps
 
 -- the entry of this name in a table, by the words after the name
@@ -242,6 +253,7 @@ onto command (Err number) = Err number
 abbrev pub read_command : ℕ → Line → Result (List Command) ℕ → Result (List Command) ℕ
 read_command number Skipped later = later
 read_command number (Saying (HeapLine logs mutators epoch)) later = Err number
+read_command number (Saying (DeviceLine device)) later = Err number
 read_command number (Saying (CommandLine command)) later = onto command later
 read_command number Bad later = Err number
 
@@ -250,21 +262,52 @@ abbrev pub read_commands : ℕ → List (List ℕ) → Result (List Command) ℕ
 read_commands number [] = Ok []
 read_commands number (line ∷ lines) = read_command number (line_of line) (read_commands (number + 1) lines)
 
-abbrev pub with_heap : ℕ → ℕ → ℕ → Result (List Command) ℕ → Result Trace ℕ
-with_heap logs mutators epoch (Ok commands) = Ok (Heap logs mutators epoch commands)
-with_heap logs mutators epoch (Err number) = Err number
+-- ---- the device's line, directly the first after the heap's that says something
+-- these lines say no device first; or this line says one, and these stand after it
+pub data Sought : Type 0 where
+  NoDevice : Sought
+  DeviceAt : (device : Device) (number : ℕ) (after : List (List ℕ)) → Sought
+
+-- what a line makes of what is found after it
+abbrev pub device_at : ℕ → Line → List (List ℕ) → Sought → Sought
+device_at number Skipped after later = later
+device_at number (Saying (HeapLine logs mutators epoch)) after later = NoDevice
+device_at number (Saying (DeviceLine device)) after later = DeviceAt device number after
+device_at number (Saying (CommandLine command)) after later = NoDevice
+device_at number Bad after later = NoDevice
+
+abbrev pub device_sought : ℕ → List (List ℕ) → Sought
+device_sought number [] = NoDevice
+device_sought number (line ∷ lines) = device_at number (line_of line) lines (device_sought (number + 1) lines)
+
+-- the device that is said first, if one is, the number of the line from which on commands stand, and the lines from there on
+abbrev pub stands : ℕ → List (List ℕ) → Sought → Option Device × ℕ × List (List ℕ)
+stands number lines NoDevice = (None, number, lines)
+stands number lines (DeviceAt device at after) = (Some device, at + 1, after)
+
+abbrev pub beside : ℕ → List (List ℕ) → Option Device × ℕ × List (List ℕ)
+beside number lines = stands number lines (device_sought number lines)
+
+abbrev pub with_heap : ℕ → ℕ → ℕ → Option Device → Result (List Command) ℕ → Result Trace ℕ
+with_heap logs mutators epoch device (Ok commands) = Ok (Heap logs mutators epoch device commands)
+with_heap logs mutators epoch device (Err number) = Err number
+
+-- what the lines after a heap's say, the device's first if it is said
+abbrev pub read_after : ℕ → ℕ → ℕ → Option Device × ℕ × List (List ℕ) → Result Trace ℕ
+read_after logs mutators epoch after = with_heap logs mutators epoch after.0 (read_commands after.1 after.2)
 
 -- what a line before any command makes of what the lines after it are read as, before a heap and after one: it is the heap's, or passed over
-abbrev pub read_heap : ℕ → Line → Result Trace ℕ → Result (List Command) ℕ → Result Trace ℕ
-read_heap number Skipped same later = same
-read_heap number (Saying (HeapLine logs mutators epoch)) same later = with_heap logs mutators epoch later
-read_heap number (Saying (CommandLine command)) same later = Err number
-read_heap number Bad same later = Err number
+abbrev pub read_heap : ℕ → Line → Result Trace ℕ → Option Device × ℕ × List (List ℕ) → Result Trace ℕ
+read_heap number Skipped same after = same
+read_heap number (Saying (HeapLine logs mutators epoch)) same after = read_after logs mutators epoch after
+read_heap number (Saying (DeviceLine device)) same after = Err number
+read_heap number (Saying (CommandLine command)) same after = Err number
+read_heap number Bad same after = Err number
 
 -- what the lines from this number on say, with nothing said before them
 abbrev pub read_lines : ℕ → List (List ℕ) → Result Trace ℕ
 read_lines number [] = Ok Nothing
-read_lines number (line ∷ lines) = read_heap number (line_of line) (read_lines (number + 1) lines) (read_commands (number + 1) lines)
+read_lines number (line ∷ lines) = read_heap number (line_of line) (read_lines (number + 1) lines) (beside (number + 1) lines)
 
 -- a text as its lines; what follows a last newline is one more line, which is empty
 abbrev pub lines_of : List ℕ → List (List ℕ)

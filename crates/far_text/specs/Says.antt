@@ -1,9 +1,9 @@
--- Which words say the heap's line, and which a command: its name, its numbers as they are printed, its bytes in hex, its policy by name.
+-- Which words say the heap's line, which its device's, and which a command: its name, its numbers as they are printed, its bytes in hex, its policy by name.
 use Rattle.std.specs.Prelude.{◌≡◌, ◌⊎◌, ℕ, ◌<◌, ◌≤◌, ◌^◌, List, [], ◌∷◌, length, map, codes, decimal, Ok}
 use Rattle.hex.specs.Hex.{decode_of, IsBytes}
 use Rattle.far_text.specs.declared.command.TheConstants.{MOST_CHOSEN}
 use Rattle.far_text.specs.declared.hex_word.TheConstants.{LONGEST_LINE, LONGEST_BYTES}
-use Rattle.far_text.specs.Command.{Entry, HeapLine, CommandLine, New, Open, Write, Read, Close, Where, Drop, View, Try, Epoch, Logs, Log, Audit, Mutator, Book, Evacuator, Policy, Oldest, LeastLive, By, Script, Select, Mark, Wait, Evacuate, Abort, Round}
+use Rattle.far_text.specs.Command.{Entry, HeapLine, DeviceLine, Flawed, Flaw, Fail, CommandLine, New, Open, Write, Read, Close, Where, Drop, View, Try, Epoch, Logs, Log, Audit, Mutator, Book, Evacuator, Policy, Oldest, LeastLive, By, Script, Select, Mark, Wait, Evacuate, Abort, Round}
 
 -- A word in hex stands for these bytes, one at least; a word is no longer than a line.
 abbrev pub Spells : List ℕ → List ℕ → Type 0
@@ -14,6 +14,10 @@ abbrev pub policy_name : Policy → List ℕ
 policy_name Oldest = codes "oldest"
 policy_name LeastLive = codes "leastlive"
 
+-- The name of what is wrong in a call of a device.
+abbrev pub flaw_name : Flaw → List ℕ
+flaw_name Fail = codes "fail"
+
 -- Numbers that a script may name as logs: bytes, one at least, and no more than a line has room for.
 abbrev pub AreLogs : List ℕ → Type 0
 AreLogs logs = IsBytes logs × (0 < length logs) × (length logs ≤ LONGEST_BYTES)
@@ -23,6 +27,7 @@ abbrev pub Says : List (List ℕ) → Entry → Type 0
 Says words (HeapLine logs mutators epoch) =
     ((words ≡ codes "heap" ∷ decimal logs ∷ decimal mutators ∷ decimal epoch ∷ []) ⊎ ((words ≡ codes "heap" ∷ decimal logs ∷ decimal mutators ∷ []) × (epoch ≡ 0)))
     × (logs < 2 ^ 64) × (mutators < 2 ^ 64) × (epoch < 2 ^ 64)
+Says words (DeviceLine (Flawed flaw call)) = (words ≡ codes "device" ∷ flaw_name flaw ∷ decimal call ∷ []) × (call < 2 ^ 64)
 Says words (CommandLine (Mutator mutator (New len structure))) =
     (words ≡ codes "new" ∷ decimal mutator ∷ decimal len ∷ decimal structure ∷ [])
     × (mutator < 2 ^ 64) × (len < 2 ^ 64) × (structure < 2 ^ 64)

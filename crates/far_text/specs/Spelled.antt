@@ -1,7 +1,7 @@
 -- What the words of a line spell as they are read, the bytes of a write still in hex, and the logs of a script still printed: nothing, where these are no bytes, or no logs.
 use Rattle.std.specs.Prelude.{Option, Some}
 use Rattle.std.specs.Option.{option_map}
-use Rattle.far_text.specs.Command.{Command, Entry, HeapLine, CommandLine, Mutator, Book, Request, New, Open, Write, Read, Close, Where, Drop, View, Try, Epoch, Evacuator, Choice, By, Script, Step, Select, Mark, Wait, Evacuate, Abort, Round, as_inquiry, as_policy}
+use Rattle.far_text.specs.Command.{Command, Entry, HeapLine, DeviceLine, CommandLine, Mutator, Book, Request, New, Open, Write, Read, Close, Where, Drop, View, Try, Epoch, Evacuator, Choice, By, Script, Step, Select, Mark, Wait, Evacuate, Abort, Round, as_device, as_inquiry, as_policy}
 use Rattle.far_text.specs.Cursor.{words_in}
 use Rattle.far_text.specs.Grammar.{bytes_in, logs_of, limited, Line, Skipped, saying}
 use Rattle.far_text.specs.declared.command.Choice.{Choice as SpelledChoice}
@@ -9,7 +9,7 @@ use Rattle.far_text.specs.declared.command.Choice.TheVariants.{By as SpelledBy, 
 use Rattle.far_text.specs.declared.command.Command.{Command as SpelledCommand}
 use Rattle.far_text.specs.declared.command.Command.TheVariants.{Mutator as SpelledMutator, Book as SpelledBook, Evacuator as SpelledEvacuator}
 use Rattle.far_text.specs.declared.command.Entry.{Entry as SpelledEntry}
-use Rattle.far_text.specs.declared.command.Entry.TheVariants.{Heap as SpelledHeapLine, Command as SpelledCommandLine}
+use Rattle.far_text.specs.declared.command.Entry.TheVariants.{Heap as SpelledHeapLine, Device as SpelledDeviceLine, Command as SpelledCommandLine}
 use Rattle.far_text.specs.declared.command.Request.{Request as SpelledRequest}
 use Rattle.far_text.specs.declared.command.Request.TheVariants.{New as SpelledNew, Open as SpelledOpen, Write as SpelledWrite, Read as SpelledRead, Close as SpelledClose, Where as SpelledWhere, Drop as SpelledDrop, View as SpelledView, Try as SpelledTry, Epoch as SpelledEpoch}
 use Rattle.far_text.specs.declared.command.Step.{Step as SpelledStep}
@@ -48,6 +48,7 @@ command_spelled (SpelledEvacuator step) = option_map Evacuator (step_spelled ste
 
 abbrev pub entry_spelled : SpelledEntry → Option Entry
 entry_spelled (SpelledHeapLine logs mutators epoch) = Some (HeapLine logs mutators epoch)
+entry_spelled (SpelledDeviceLine device) = Some (DeviceLine (as_device device))
 entry_spelled (SpelledCommandLine command) = option_map CommandLine (command_spelled command)
 
 -- the line that is spelled so

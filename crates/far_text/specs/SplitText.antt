@@ -1,10 +1,10 @@
 -- What a whole text says whose commands are split among threads, line by line; which line is the first that can't be; and that each command has one thread.
-use Rattle.std.specs.Prelude.{◌≡◌, ◌≢◌, ◌⊎◌, ◌↔◌, ℕ, ◌+◌, ◌<◌, ◌≤◌, true, Ok, Err, List, [], ◌∷◌, ◌++◌, length, map}
-use Rattle.far_text.specs.Command.{Command, HeapLine, CommandLine, Heap, Request, Where, Epoch, Inquiry, Policy, Mutator, Book, Evacuator, Round}
+use Rattle.std.specs.Prelude.{◌≡◌, ◌≢◌, ◌⊎◌, ◌↔◌, ℕ, ◌+◌, ◌<◌, ◌≤◌, true, Ok, Err, List, [], ◌∷◌, ◌++◌, Option, length, map}
+use Rattle.far_text.specs.Command.{Command, Device, HeapLine, CommandLine, Heap, Request, Where, Epoch, Inquiry, Policy, Mutator, Book, Evacuator, Round}
 use Rattle.far_text.specs.Grammar.{lines_of, trace_of}
 use Rattle.far_text.specs.Split.{SplitTrace, NothingSplit, SplitHeap, split_of}
 use Rattle.far_text.specs.Threads.{Thread, OfMutator, OfBook, is_of, lines_in}
-use Rattle.far_text.specs.TraceText.{IsPassed, Speaks, LinesSay}
+use Rattle.far_text.specs.TraceText.{Beside, IsPassed, LinesSay, MaySayDevice, Speaks}
 use Rattle.far_text.specs.declared.text.TheConstants.{LONGEST_TEXT}
 
 -- a mutator of so many asks for something else than where an object is, or the epoch
@@ -27,20 +27,21 @@ LinesSplit mutators number (line ∷ lines) said =
     (IsPassed line × LinesSplit mutators (number + 1) lines said)
     ⊎ ((c : Command) × (later : List (ℕ × Command)) × (said ≡ (number, c) ∷ later) × Speaks line (CommandLine c) × HasThread mutators c × LinesSplit mutators (number + 1) lines later)
 
--- these lines, counted from a number on, say nothing; or one says the heap, those before it say nothing, and those after it say the commands
+-- these lines, counted from a number on, say nothing; or one says the heap, those before it say nothing, and those after it say its device, if that is said, and then the commands
 abbrev pub LinesAreSplit : ℕ → List (List ℕ) → SplitTrace → Type 0
 LinesAreSplit number lines NothingSplit = LinesSay lines []
-LinesAreSplit number lines (SplitHeap logs mutators epoch said) = (front : List (List ℕ)) × (line : List ℕ) × (rest : List (List ℕ)) × (lines ≡ front ++ line ∷ rest)
-    × LinesSay front [] × Speaks line (HeapLine logs mutators epoch) × LinesSplit mutators (number + length front + 1) rest said
+LinesAreSplit number lines (SplitHeap logs mutators epoch device said) = (front : List (List ℕ)) × (line : List ℕ) × (rest more : List (List ℕ)) × (lines ≡ front ++ line ∷ rest)
+    × LinesSay front [] × Speaks line (HeapLine logs mutators epoch) × Beside device rest more × (first : ℕ) × (number + length lines ≡ first + length more) × LinesSplit mutators first more said
 
 -- a text that is not too long and whose lines say this
 abbrev pub TextSaysSplit : List ℕ → SplitTrace → Type 0
 TextSaysSplit text t = (length text ≤ LONGEST_TEXT) × LinesAreSplit 1 (lines_of text) t
 
--- a line that is neither passed over nor says what may stand here: the heap where nothing was said, a command with a thread after it
+-- a line that is neither passed over nor says what may stand here: the heap where nothing was said, after it a command with a thread, or first its device
 abbrev pub CantBeSplit : SplitTrace → List ℕ → Type 0
 CantBeSplit NothingSplit line = (¬ IsPassed line) × ((logs mutators epoch : ℕ) → ¬ Speaks line (HeapLine logs mutators epoch))
-CantBeSplit (SplitHeap logs mutators epoch said) line = (¬ IsPassed line) × ((c : Command) → HasThread mutators c → ¬ Speaks line (CommandLine c))
+CantBeSplit (SplitHeap logs mutators epoch device said) line = (¬ IsPassed line) × ((c : Command) → HasThread mutators c → ¬ Speaks line (CommandLine c))
+    × (¬ MaySayDevice device (map (λ (line : ℕ × Command). line.1) said) line)
 
 -- line n of these, counted from a number on, is the first of that kind
 abbrev pub FirstUnsplit : ℕ → List (List ℕ) → ℕ → Type 0
@@ -58,8 +59,8 @@ FirstUnsplitLines = (text : List ℕ) (n : ℕ) → split_of text ≡ Err n → 
 
 -- the commands are those of the text where it isn't split
 abbrev pub SplitsAreTraces : Type 0
-SplitsAreTraces = (text : List ℕ) (logs mutators epoch : ℕ) (said : List (ℕ × Command))
-    → split_of text ≡ Ok (SplitHeap logs mutators epoch said) → trace_of text ≡ Ok (Heap logs mutators epoch (map (λ (line : ℕ × Command). line.1) said))
+SplitsAreTraces = (text : List ℕ) (logs mutators epoch : ℕ) (device : Option Device) (said : List (ℕ × Command))
+    → split_of text ≡ Ok (SplitHeap logs mutators epoch device said) → trace_of text ≡ Ok (Heap logs mutators epoch device (map (λ (line : ℕ × Command). line.1) said))
 
 -- these lines are a thread's own, each with a command that one of the threads runs
 abbrev pub AreOwn : ℕ → Thread → List (ℕ × Command) → Type 0
@@ -68,8 +69,8 @@ AreOwn mutators thread (line ∷ lines) = (is_of thread line.1 ≡ true) × HasT
 
 -- a thread runs its own lines alone
 abbrev pub ThreadsRunTheirOwn : Type 0
-ThreadsRunTheirOwn = (text : List ℕ) (logs mutators epoch : ℕ) (said : List (ℕ × Command)) (thread : Thread)
-    → split_of text ≡ Ok (SplitHeap logs mutators epoch said) → AreOwn mutators thread (lines_in thread said)
+ThreadsRunTheirOwn = (text : List ℕ) (logs mutators epoch : ℕ) (device : Option Device) (said : List (ℕ × Command)) (thread : Thread)
+    → split_of text ≡ Ok (SplitHeap logs mutators epoch device said) → AreOwn mutators thread (lines_in thread said)
 
 -- the threads of so many mutators, and of the book
 abbrev pub IsThread : ℕ → Thread → Type 0

@@ -1,11 +1,11 @@
-//! Commands and the heap's line, and which words spell them.
+//! Commands, the lines of the heap and of its device, and which words spell them.
 
 ghost use Rattle.std.specs.Prelude.{◌≡◌, ◌<◌, ◌∷◌, IfSome, IfNone};
 ghost use Rattle.std.specs.Str.{bytes_eq};
 ghost use Rattle.std.specs.Option.{option_and_then, option_map};
-ghost use Rattle.far_text.specs.Command.{HeapLine, CommandLine, Book, Logs, Audit, Evacuator, Wait, Abort, as_policy};
+ghost use Rattle.far_text.specs.Command.{HeapLine, CommandLine, Book, Logs, Audit, Evacuator, Wait, Abort, as_flaw, as_policy};
 ghost use Rattle.far_text.specs.Spelled.{entry_spelled};
-ghost use Rattle.far_text.specs.Grammar.{Numbers, NumbersAndBytes, NumbersAndOneOr, says_heap, asks_read, asks_write, asks_open, asks_close, asks_new, asks_where, asks_drop, asks_view, asks_try, asks_epoch, asks_log, asks_mark, asks_evacuate, asks_select, asks_round, asks_script, policy_of, select_by, round_by, perhaps, word_then, steps, entry_from, entry_of, entry_at_end, found_in, one_or};
+ghost use Rattle.far_text.specs.Grammar.{Numbers, NumbersAndBytes, NumbersAndOneOr, says_heap, asks_read, asks_write, asks_open, asks_close, asks_new, asks_where, asks_drop, asks_view, asks_try, asks_epoch, asks_log, asks_mark, asks_evacuate, asks_select, asks_round, asks_script, device_by, flaw_of, says_device, policy_of, select_by, round_by, perhaps, word_then, steps, entry_from, entry_of, entry_at_end, found_in, one_or};
 ghost use Rattle.far_text.specs.Cursor.{words_in, words_left, lines_after_first, lines_after, lines_left};
 
 use crate::cursor::{
@@ -108,7 +108,21 @@ pub enum Command<'a> {
     Evacuator(Step<'a>),
 }
 
-/// What a line of a trace says: the heap's numbers, or a command.
+/// What is wrong in one call of a heap's device.
+#[derive(Clone, Copy)]
+pub enum Flaw {
+    /// The device fails, in a write or a read, counted together.
+    Fail,
+}
+
+/// A heap's device: what is wrong, and in which of the calls that are counted for it, from 1; 0 is none.
+#[derive(Clone, Copy)]
+pub struct Device {
+    pub flaw: Flaw,
+    pub call: u64,
+}
+
+/// What a line of a trace says: the heap's numbers, its device, or a command.
 #[derive(Clone, Copy)]
 pub enum Entry<'a> {
     Heap {
@@ -116,6 +130,7 @@ pub enum Entry<'a> {
         mutators: u64,
         epoch: u64,
     },
+    Device(Device),
     Command(Command<'a>),
 }
 
@@ -398,6 +413,31 @@ fn evacuate_spelled(rest: Rest<'_>) -> Option<Spelled<'_>>
     at_end(Entry::Command(Command::Evacuator(step)), rest)
 }
 
+fn flaw_named(word: &[u8]) -> Option<Flaw>
+    ensures { option_map as_flaw result ≡ flaw_of word.now }
+{
+    if is_name(word, b"fail") {
+        return Some(Flaw::Fail);
+    }
+    None
+}
+
+fn flaw_spelled(flaw: Flaw, rest: Rest<'_>) -> Option<Spelled<'_>>
+    ensures value { option_and_then (λ found. entry_spelled found.0) result ≡ perhaps 1 (says_device (as_flaw flaw)) (words_left rest.entry) }
+    ensures lines { IfSome result (λ found. lines_left found.1 ≡ lines_after rest.entry) }
+{
+    let (call, rest) = next_number_of(rest)?;
+    at_end(Entry::Device(Device { flaw, call }), rest)
+}
+
+fn device_spelled(rest: Rest<'_>) -> Option<Spelled<'_>>
+    ensures value { option_and_then (λ found. entry_spelled found.0) result ≡ word_then device_by (words_left rest.entry) }
+    ensures lines { IfSome result (λ found. lines_left found.1 ≡ lines_after rest.entry) }
+{
+    let (word, rest) = next_word_of(rest)?;
+    flaw_spelled(flaw_named(word)?, rest)
+}
+
 // The step of this name, by the words after it. It stands apart, so that no other line pays for it.
 #[inline(never)]
 fn step_by_name<'a>(name: &[u8], rest: Rest<'a>) -> Option<Spelled<'a>>
@@ -471,6 +511,9 @@ fn entry_by_name<'a>(name: &[u8], rest: Rest<'a>) -> Option<Spelled<'a>>
     }
     if is_name(name, b"audit") {
         return at_end(Entry::Command(Command::Book(Inquiry::Audit)), rest);
+    }
+    if is_name(name, b"device") {
+        return device_spelled(rest);
     }
     step_by_name(name, rest)
 }

@@ -10,8 +10,8 @@ ghost use Rattle.far_text.specs.Says.{Says};
 ghost use Rattle.far_text.specs.TraceText.{TextsAreRead, FirstBadLines, CutsJoin};
 ghost use Rattle.far_text.specs.SplitText.{SplitsAreRead, FirstUnsplitLines, SplitsAreTraces, ThreadsRunTheirOwn, ThreadsShareNone};
 
-/// Words are read as a heap or a command exactly where they say it, and a text as nothing, or a heap and commands, exactly
-/// where its lines say so: all its lines, in order, comments and empty lines passed over. The number that is refused is
+/// Words are read as a heap, a device or a command exactly where they say it, and a text as nothing, or a heap, perhaps its
+/// device, and commands, exactly where its lines say so: all its lines, in order, comments and empty lines passed over. The number that is refused is
 /// that of the first line that says nothing, from 1; 0 where the text is too long. Lines joined by newlines are the text,
 /// and words joined by spaces the line.
 pub fn grammar_is_said()
@@ -31,7 +31,7 @@ pub fn limits_are()
     ensures logs { LOG_NAMES ≡ 256 }
 {}
 
-/// A text is split among threads exactly where each line after the heap's says a command that one of them runs: a mutator's
+/// A text is split among threads exactly where each line after those of the heap and of its device says a command that one of them runs: a mutator's
 /// of this heap, but for its `where` and `epoch`; of the book's the inquiries, and of the evacuator's the rounds. Each
 /// command stands beside the number of its line; without those they are what the text says as a trace. The number that is
 /// refused is that of the first other line, from 1; 0 where the text is too long. A thread's lines are its own, and a command

@@ -1,4 +1,5 @@
-//! A whole text whose commands are split among threads: nothing, or a heap and commands that one of its threads runs.
+//! A whole text whose commands are split among threads: nothing, or a heap, its device if that is said, and commands that one of
+//! its threads runs.
 
 ghost use Rattle.std.specs.Prelude.{◌≡◌, ◌<◌, ◌≤◌, ◌+◌, length, Err, Ok, IfOk, IfErr};
 ghost use Rattle.far_text.specs.Cursor.{lines_left};
@@ -8,10 +9,10 @@ ghost use Rattle.far_text.specs.SplitParsed.{as_split};
 ghost use Rattle.far_text.specs.declared.text.TheConstants.{LONGEST_TEXT};
 ghost use Rattle.far_text.specs.declared.text.ParseError;
 
-use crate::command::Entry;
+use crate::command::{Device, Entry};
 use crate::line::{Line, Part, line_first};
 use crate::split_text::SplitText;
-use crate::text::{LONGEST_TEXT, ParseError, heap_line};
+use crate::text::{LONGEST_TEXT, ParseError, device_line, heap_line};
 use std::alloc::Global;
 
 /// What a text says whose commands are split among threads.
@@ -19,11 +20,12 @@ use std::alloc::Global;
 pub enum SplitTrace {
     /// No line says anything.
     Nothing,
-    /// A heap, and the commands after it.
+    /// A heap, its device if that is said, and the commands after it.
     Heap {
         logs: u64,
         mutators: u64,
         epoch: u64,
+        device: Option<Device>,
         lines: SplitText,
     },
 }
@@ -73,10 +75,12 @@ pub fn parse_split(alloc: Global, text: &[u8]) -> Result<SplitTrace, ParseError>
     let Some(heap) = heap_line(text)? else {
         return Ok(SplitTrace::Nothing);
     };
+    let (device, number, lines) = device_line(heap.number, heap.lines);
     Ok(SplitTrace::Heap {
         logs: heap.logs,
         mutators: heap.mutators,
         epoch: heap.epoch,
-        lines: split_after(alloc, heap.mutators, heap.number, heap.lines)?,
+        device,
+        lines: split_after(alloc, heap.mutators, number, lines)?,
     })
 }

@@ -1,14 +1,16 @@
-//! A whole text: nothing, or a heap and commands.
+//! A whole text: nothing, or a heap, its device if that is said, and commands.
 
 ghost use Rattle.std.specs.Prelude.{◌≡◌, ◌<◌, ◌≤◌, ◌+◌, length, Ok, Err, None, IfOk, IfErr, IfSome};
 ghost use Rattle.far_text.specs.Parsed.{as_trace};
 ghost use Rattle.far_text.specs.Cursor.{lines_left};
 ghost use Rattle.far_text.specs.declared.text.TheConstants.{LONGEST_TEXT};
-ghost use Rattle.far_text.specs.Grammar.{trace_of, lines_of, read_commands, IsFault};
+ghost use Rattle.std.specs.Option.{option_map};
+ghost use Rattle.far_text.specs.Command.{as_device};
+ghost use Rattle.far_text.specs.Grammar.{beside, trace_of, lines_of, read_commands, IsFault};
 ghost use Rattle.far_text.specs.HeapSought.{NoHeap, HeapAt, heap_sought};
 
 use crate::adding::add_line;
-use crate::command::Entry;
+use crate::command::{Device, Entry};
 use crate::commands::Commands;
 use crate::line::{Line, Part, line_first};
 use std::alloc::{AllocError, AllocFailed, Global};
@@ -54,11 +56,12 @@ impl<T: Drop> From<AllocFailed<T>> for ParseError {
 pub enum Trace {
     /// No line says anything.
     Nothing,
-    /// A heap, and the commands after it.
+    /// A heap, its device if that is said, and the commands after it.
     Heap {
         logs: u64,
         mutators: u64,
         epoch: u64,
+        device: Option<Device>,
         commands: Commands,
     },
 }
@@ -101,12 +104,38 @@ pub fn heap_line(text: &[u8]) -> Result<Option<HeapLine<'_>>, ParseError>
                     number,
                     lines: after,
                 })),
+                Entry::Device(_) => Err(ParseError::Syntax(number)),
                 Entry::Command(_) => Err(ParseError::Syntax(number)),
             };
         }
         lines = after;
     }
     Ok(None)
+}
+
+/// What the first lines after the heap's say: its device, if they do; the number of the last line before the commands, and
+/// the lines after it.
+pub fn device_line(number: u64, lines: Option<&[u8]>) -> (Option<Device>, u64, Option<&[u8]>)
+    requires counted { number + length (lines_left lines) ≤ LONGEST_TEXT + 1 }
+    ensures value { beside (number + 1) (lines_left lines.entry) ≡ (option_map as_device result.0, result.1 + 1, lines_left result.2) }
+    ensures counted { result.1 + length (lines_left result.2) ≤ LONGEST_TEXT + 1 }
+{
+    let mut at = number;
+    let mut left = lines;
+    while let Some(text) = left {
+        at += 1;
+        let Some((line, after)) = line_first(text, Part::AsFarAsTheHeap) else {
+            return (None, number, lines);
+        };
+        if let Line::Said(entry) = line {
+            return match entry {
+                Entry::Device(device) => (Some(device), at, after),
+                Entry::Heap { .. } | Entry::Command(_) => (None, number, lines),
+            };
+        }
+        left = after;
+    }
+    (None, number, lines)
 }
 
 // The commands of the lines after this number, or the first of them that says none.
@@ -128,7 +157,7 @@ fn commands_after(alloc: Global, number: u64, lines: Option<&[u8]>) -> Result<Co
     Ok(commands)
 }
 
-/// What a text says, or its first line off the grammar: a heap comes first, and nowhere else.
+/// What a text says, or its first line off the grammar: a heap comes first, and nowhere else; directly after it its device may.
 pub fn parse(alloc: Global, text: &[u8]) -> Result<Trace, ParseError>
     ensures trace { IfOk result (λ trace. trace_of text.now ≡ Ok (as_trace trace)) }
     ensures fault { IfErr result (λ e. IsFault e (trace_of text.now)) }
@@ -140,10 +169,12 @@ pub fn parse(alloc: Global, text: &[u8]) -> Result<Trace, ParseError>
     let Some(heap) = heap_line(text)? else {
         return Ok(Trace::Nothing);
     };
+    let (device, number, lines) = device_line(heap.number, heap.lines);
     Ok(Trace::Heap {
         logs: heap.logs,
         mutators: heap.mutators,
         epoch: heap.epoch,
-        commands: commands_after(alloc, heap.number, heap.lines)?,
+        device,
+        commands: commands_after(alloc, number, lines)?,
     })
 }

@@ -14,8 +14,8 @@ move_now-requires-clause-quiet c =
     subst (λ (x : State). IsQuietNear x c.args.pointer) (sym (c.owner.ensures.legal refl (may_ask s c.args.owner c.args.pointer law c.requires.opened c.requires.own c.requires.used c.requires.unheld c.requires.near)).0)
     (asked_quiet s c.args.owner c.args.pointer law c.requires.opened c.requires.own c.requires.used c.requires.unheld c.requires.near)
 
-pub returns-in-Ok-Some : goal.returns-in-Ok-Some
-returns-in-Ok-Some c =
+pub returns-in-Ok-Some-clause-brought : goal.returns-in-Ok-Some-clause-brought
+returns-in-Ok-Some-clause-brought c =
     let s : State = state_in c.args.evac.now in
     let law = c.args.evac.now.book.near.core.law in
     let asked = (c.owner.ensures.legal refl (may_ask s c.args.owner c.args.pointer law c.requires.opened c.requires.own c.requires.used c.requires.unheld c.requires.near)).0 in
@@ -32,8 +32,8 @@ returns-in-Ok-Some c =
       round = search rules;
     }
 
-pub returns-in-Err : goal.returns-in-Err
-returns-in-Err c =
+pub returns-in-Err-clause-brought : goal.returns-in-Err-clause-brought
+returns-in-Err-clause-brought c =
     let s : State = state_in c.args.evac.now in
     let law = c.args.evac.now.book.near.core.law in
     record {

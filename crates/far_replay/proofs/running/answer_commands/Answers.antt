@@ -1,13 +1,14 @@
-use Rattle.std.proofs.Common.{◌≡◌, ◌+◌, [], ◌∷◌, ◌++◌, drop, length-drop, sym, ap, ◌∙◌, subst, arith, refl}
+use Rattle.std.proofs.Common.{◌≡◌, ◌+◌, List, [], ◌∷◌, ◌++◌, append-nil, drop, length-drop, sym, subst, arith}
 use Rattle.std.specs.List.{flat_map}
+use Rattle.std.specs.Option.{option_map}
 use Rattle.std.proofs.lemmas.List.{drop_all}
 use Rattle.far_replay.specs.Moment.{Moment, moment_in}
-use Rattle.far_replay.specs.Answers.{AnsweredBy, Served, Serves}
-use Rattle.far_text.specs.Command.{Command, as_command}
-use Rattle.far_replay.specs.Reply.{Reply, Done, reply_text}
+use Rattle.far_replay.specs.Answers.{AnsweredBy, FailsAtMost, opened, to_fail}
+use Rattle.far_text.specs.Command.{Command, as_command, as_device}
+use Rattle.far_replay.specs.Outcome.{reply_by}
+use Rattle.far_replay.specs.Reply.{Reply, reply_text}
 use Rattle.far_replay.specs.Stream.{Holds}
-use Rattle.far_replay.specs.Turn.{reply_to}
-use Rattle.far_replay.proofs.Answering.{answers_all, led_part, answered_more, answered_all, printed_more, served_more}
+use Rattle.far_replay.proofs.Answering.{answers_all, led_part, answered_more, answered_all, few_refused, printed_more, refused_more}
 use Rattle.far_replay.proofs.Lasting.{still_lasts}
 use Rattle.far_replay.proofs.running.answer_commands.Goals as goal
 
@@ -17,79 +18,96 @@ turn-requires-clause-law g c = c.loop-at.evac.book.near.core.law
 pub loop-at-init : goal.loop-at-init
 loop-at-init g c =
     let start = g.W.Write.contents c.args.writer.now in
+    let device = option_map as_device c.args.device in
     record {
       between = c.requires.between;
       round = c.requires.round;
       strays = c.requires.strays;
-      ran = ([], [], [], tt, (λ os rest more h. h), c.add.ensures start [] (c.clear.ensures start));
+      ran = (
+        [],
+        [],
+        [],
+        to_fail device,
+        c.requires.few,
+        (λ os h. h),
+        (λ os rest more h. h),
+        subst (λ (front : List Reply). Holds start (g.W.Write.contents c.answer_opening.new.writer) c.answer_opening.new.replies.waiting c.answer_opening.new.replies.written (flat_map reply_text front)) (sym (append-nil (opened device)))
+            c.answer_opening.ensures,
+      );
     }
 
 pub loop-at-preserved : goal.loop-at-preserved
 loop-at-preserved g c =
     let start = g.W.Write.contents c.args.writer.now in
     let end = g.W.Write.contents c.answer_one.new.writer in
+    let device = option_map as_device c.args.device in
     let now : Moment = moment_in c.loop-at.evac in
     let next : Moment = moment_in c.turn.new.evac in
     let command : Command = as_command c.at-command.result in
-    let (outside, replies, moments, served, goes, holds) = c.loop-at.invariant.ran in
-    let r : Reply = reply_to now command in
+    let (outside, replies, moments, left, few, allowed, goes, holds) = c.loop-at.invariant.ran in
+    let r : Reply = reply_by c.turn.new.scratch c.in-Ok.outcome in
     let here = c.at-command.ensures.value in
-    let made : Served now command r next = record { reply = refl; moment = c.in-Ok.ensures.moment } in
-    let held = c.answer_one.ensures start (flat_map reply_text (Done ∷ replies)) holds in
+    let (o, made, spent) = c.in-Ok.ensures.made in
+    let spared = refused_more (to_fail device) left outside o c.loop-at.evac c.turn.new.evac spent few allowed in
+    let held = c.answer_one.ensures start (flat_map reply_text (opened device ++ replies)) holds in
     let lasts = still_lasts now command r next (record { law = c.loop-at.evac.book.near.core.law; round = c.loop-at.invariant.round; between = c.loop-at.invariant.between; strays = c.loop-at.invariant.strays })
-    c.at-command.ensures.bytes (Serves, made) in
+    c.at-command.ensures.bytes (o, made) in
     record {
       between = lasts.between;
       round = lasts.round;
       strays = lasts.strays;
       ran = (
-        outside ++ Serves ∷ [],
+        outside ++ o ∷ [],
         replies ++ r ∷ [],
         moments ++ next ∷ [],
-        served_more outside (Serves ∷ []) served tt,
-        answered_more (moment_in c.args.evac) now c.args.commands.now (drop (c.loop-at.at + 1) c.args.commands.now) outside replies moments Serves command r next
+        spared.0,
+        spared.1,
+        spared.2,
+        answered_more (moment_in c.args.evac) now c.args.commands.now (drop (c.loop-at.at + 1) c.args.commands.now) outside replies moments o command r next
             (λ os rest more h. goes os rest more (subst (λ cs. AnsweredBy os now cs rest more) (sym here) h)) made,
-        subst (λ bytes. Holds start end c.answer_one.new.replies.waiting c.answer_one.new.replies.written bytes)
-            (ap (λ x. flat_map reply_text (Done ∷ replies) ++ reply_text x) c.in-Ok.ensures.reply ∙ sym (printed_more Done replies r)) held,
+        subst (λ bytes. Holds start end c.answer_one.new.replies.waiting c.answer_one.new.replies.written bytes) (sym (printed_more (opened device) replies r)) held,
       );
     }
 
 pub returns-in_default : goal.returns-in_default
 returns-in_default g c =
     let start = g.W.Write.contents c.args.writer.now in
-    let (outside, replies, moments, served, goes, holds) = c.loop-at.invariant.ran in
+    let device = option_map as_device c.args.device in
+    let (outside, replies, moments, left, few, allowed, goes, holds) = c.loop-at.invariant.ran in
     let rest = answers_all (moment_in c.loop-at.evac) (drop c.loop-at.at c.args.commands.now) in (
       outside ++ rest.0,
       replies ++ rest.1,
       moments ++ rest.2,
-      served_more outside rest.0 served rest.3,
+      allowed rest.0 (few_refused left rest.0 rest.3),
       goes rest.0 rest.1 rest.2 rest.4,
-      led_part start (g.W.Write.contents c.loop-at.writer) c.loop-at.replies.waiting c.loop-at.replies.written replies (moment_in c.loop-at.evac) (drop c.loop-at.at c.args.commands.now) c.loop-at.evac.book.near.core.law
+      led_part start (g.W.Write.contents c.loop-at.writer) c.loop-at.replies.waiting c.loop-at.replies.written (opened device) replies (moment_in c.loop-at.evac) (drop c.loop-at.at c.args.commands.now) c.loop-at.evac.book.near.core.law
           (omega (arith, c.loop-at-test.true, c.len-at-end.ensures, length-drop c.loop-at.at c.args.commands.now)) holds,
     )
 
 pub returns-in-Ok-finish : goal.returns-in-Ok-finish
 returns-in-Ok-finish g c =
     let start = g.W.Write.contents c.args.writer.now in
-    let (outside, replies, moments, served, goes, holds) = c.loop-at.invariant.ran in
+    let device = option_map as_device c.args.device in
+    let (outside, replies, moments, left, few, allowed, goes, holds) = c.loop-at.invariant.ran in
     let none : drop c.loop-at.at c.args.commands.now ≡ [] = drop_all c.loop-at.at c.args.commands.now (omega (arith, c.loop-at-test.false, c.len-at-end.ensures)) in (
       outside,
       replies,
       moments,
-      served,
+      subst (FailsAtMost (to_fail device)) (append-nil outside) (allowed [] tt),
       answered_all (moment_in c.args.evac) (moment_in c.loop-at.evac) c.args.commands.now outside replies moments (drop c.loop-at.at c.args.commands.now) none goes,
-      c.in-Ok-finish.ensures start (flat_map reply_text (Done ∷ replies)) holds,
+      c.in-Ok-finish.ensures start (flat_map reply_text (opened device ++ replies)) holds,
     )
 
 pub returns : goal.returns
 returns g c =
     let start = g.W.Write.contents c.args.writer.now in
-    let (outside, replies, moments, served, goes, holds) = c.loop-at.invariant.ran in
+    let device = option_map as_device c.args.device in
+    let (outside, replies, moments, left, few, allowed, goes, holds) = c.loop-at.invariant.ran in
     let none : drop c.loop-at.at c.args.commands.now ≡ [] = drop_all c.loop-at.at c.args.commands.now (omega (arith, c.loop-at-test.false, c.len-at-end.ensures)) in (
       outside,
       replies,
       moments,
-      served,
+      subst (FailsAtMost (to_fail device)) (append-nil outside) (allowed [] tt),
       answered_all (moment_in c.args.evac) (moment_in c.loop-at.evac) c.args.commands.now outside replies moments (drop c.loop-at.at c.args.commands.now) none goes,
-      c.in-Err.ensures start (flat_map reply_text (Done ∷ replies)) holds,
+      c.in-Err.ensures start (flat_map reply_text (opened device ++ replies)) holds,
     )

@@ -1,21 +1,24 @@
-use Rattle.std.proofs.Common.{List, ◌∷◌, ◌++◌, drop}
+use Rattle.std.proofs.Common.{ℕ, List, ◌++◌, drop}
+use Rattle.std.specs.Option.{option_map}
 use Rattle.std.specs.List.{flat_map}
 use Rattle.far_evac.specs.MomentLaw.{MomentLaw}
 use Rattle.far_evac.specs.Strays.{NoneStrays}
-use Rattle.far_replay.specs.Answers.{AllServed, AnsweredBy, Outside}
+use Rattle.far_replay.specs.Answers.{AnsweredBy, FailsAtMost, Outside, opened, to_fail}
+use Rattle.far_replay.specs.Spent.{may_fail}
+use Rattle.far_text.specs.Command.{as_device}
 use Rattle.far_replay.specs.Moment.{Moment, moment_in, state_in}
-use Rattle.far_replay.specs.Reply.{Reply, Done, reply_text}
+use Rattle.far_replay.specs.Reply.{Reply, reply_text}
 use Rattle.far_replay.specs.Stream.{Holds}
 use Rattle.far_replay.specs.Between.{Between}
 use Rattle.far_replay.proofs.running.answer_commands.Given as goal
 
 abbrev pub invariant-loop-at : goal.invariant-loop-at
-invariant-loop-at g l = let contents = g.W.Write.contents in record {
+invariant-loop-at g l = let contents = g.W.Write.contents in let device = option_map as_device l.fn.device in record {
   between : Between (state_in l.evac);
   round : MomentLaw (moment_in l.evac);
   strays : NoneStrays (moment_in l.evac);
-  ran : (outside : List Outside) × (replies : List Reply) × (moments : List Moment) × AllServed outside
+  ran : (outside : List Outside) × (replies : List Reply) × (moments : List Moment) × (left : ℕ) × may_fail l.evac left × ((os : List Outside) → FailsAtMost left os → FailsAtMost (to_fail device) (outside ++ os))
       × ((os : List Outside) (rest : List Reply) (more : List Moment) → AnsweredBy os (moment_in l.evac) (drop l.at l.commands) rest more
       → AnsweredBy (outside ++ os) (moment_in l.fn.evac) l.commands (replies ++ rest) (moments ++ more))
-      × Holds (contents l.fn.writer) (contents l.writer) l.replies.waiting l.replies.written (flat_map reply_text (Done ∷ replies));
+      × Holds (contents l.fn.writer) (contents l.writer) l.replies.waiting l.replies.written (flat_map reply_text (opened device ++ replies));
 }

@@ -1,12 +1,12 @@
 use Rattle.std.proofs.Common.{arith, sym, subst, ap, refl, ◌≡◌, ◌+◌, ◌<◌, ◌++◌, ◌∷◌, [], ◌∙◌, length, Some, None, cond}
 use Rattle.std.specs.Option.{option_map, option_and_then}
-use Rattle.far_text.specs.Command.{HeapLine, CommandLine}
+use Rattle.far_text.specs.Command.{CommandLine}
 use Rattle.far_text.specs.Cursor.{lines_left, lines_after_first}
-use Rattle.far_text.specs.Grammar.{Skipped, Saying, Bad, saying, lines_of}
-use Rattle.far_text.specs.Spelled.{command_spelled}
+use Rattle.far_text.specs.Grammar.{Skipped, Bad, saying, lines_of}
+use Rattle.far_text.specs.Spelled.{command_spelled, entry_spelled}
 use Rattle.far_text.specs.Split.{threaded, split_commands}
 use Rattle.far_text.proofs.Reading.{fewer_lines}
-use Rattle.far_text.proofs.SplitReading.{onto_all_lines, after_split, one_split, none_split, one_line_more}
+use Rattle.far_text.proofs.SplitReading.{onto_all_lines, after_split, one_split, none_split, one_line_more, other_split}
 use Rattle.far_text.proofs.split.split_after.Goals as goal
 
 pub returns-in_default-line_first-clause-fault : goal.returns-in_default-line_first-clause-fault
@@ -17,12 +17,13 @@ returns-in_default-line_first-clause-fault c =
 
 pub returns-in_default-entry-clause-fault : goal.returns-in_default-entry-clause-fault
 returns-in_default-entry-clause-fault c =
+    let number = c.loop-lines.number + 1 in
+    let entry = c.in-Said.entry in
     let reads = rw c.in-Some.is at c.loop-lines.invariant.reads in
-    let entry = rw c.in-Said.is at c.in-Some-line_first.ensures.line in
-    let line = rw c.in_default-entry.is at entry in
-    let heap = HeapLine c.in_default-entry.field-0 c.in_default-entry.field-1 c.in_default-entry.field-2 in
+    let line = rw c.in-Said.is at c.in-Some-line_first.ensures.line in
     sym reads ∙ ap (onto_all_lines c.loop-lines.split)
-    (after_split c.args.mutators (c.loop-lines.number + 1) c.in-Some.text.now (Saying heap) (lines_left c.in-Some-line_first.after) line c.in-Some-line_first.ensures.lines)
+    (after_split c.args.mutators number c.in-Some.text.now (saying (entry_spelled entry)) (lines_left c.in-Some-line_first.after) line c.in-Some-line_first.ensures.lines
+    ∙ other_split c.args.mutators number entry c.in_default-entry.not-Command _)
 
 pub push-requires : goal.push-requires
 push-requires c =

@@ -1,4 +1,4 @@
-use Rattle.std.proofs.Common.{arith, refl, sym, subst, ap, ◌≡◌, ◌+◌, ◌<◌, ◌∙◌, length}
+use Rattle.std.proofs.Common.{arith, refl, sym, subst, ap, ◌+◌, ◌<◌, ◌∙◌, length}
 use Rattle.far_text.specs.Cursor.{first_line, lines_left, lines_after_first}
 use Rattle.far_text.specs.Grammar.{line_of, lines_of, read_commands}
 use Rattle.far_text.proofs.Reading.{onto_all, after_line, fewer_lines, line_added, line_refused, no_longer}

@@ -1,7 +1,7 @@
 use Rattle.std.proofs.Common.{arith, refl, sym, subst, ◌+◌, ◌<◌, ◌∙◌, length}
 use Rattle.std.specs.Option.{option_map}
 use Rattle.far_text.specs.Spelled.{command_spelled}
-use Rattle.far_text.specs.Command.{HeapLine, CommandLine}
+use Rattle.far_text.specs.Command.{HeapLine, DeviceLine, CommandLine, as_device}
 use Rattle.far_text.specs.Cursor.{lines_left, lines_after_first}
 use Rattle.far_text.specs.Grammar.{Skipped, Saying, Bad, saying, lines_of}
 use Rattle.far_text.proofs.Reading.{few_lines, fewer_lines, after_sought, none_first}
@@ -44,6 +44,13 @@ returns-in-Command-clause-fault c =
     let spelled = command_spelled c.in-Command.field-0 in
     sym reads ∙ after_sought (c.loop-lines.number + 1) c.in-Some.text.now (saying (option_map CommandLine spelled)) (lines_left c.in-Some-line_first.after) line c.in-Some-line_first.ensures.lines
     ∙ none_first spelled _ _ _
+
+pub returns-in-Device-clause-fault : goal.returns-in-Device-clause-fault
+returns-in-Device-clause-fault c =
+    let reads = rw c.in-Some.is at c.loop-lines.invariant.reads in
+    let entry = rw c.in-Said.is at c.in-Some-line_first.ensures.line in
+    let line = rw c.in-Device.is at entry in
+    sym reads ∙ after_sought (c.loop-lines.number + 1) c.in-Some.text.now (Saying (DeviceLine (as_device c.in-Device.field-0))) (lines_left c.in-Some-line_first.after) line c.in-Some-line_first.ensures.lines
 
 pub returns-in-Heap-clause-heap : goal.returns-in-Heap-clause-heap
 returns-in-Heap-clause-heap c =
