@@ -9,7 +9,6 @@ use Rattle.far_word.specs.Pointer.{read_of}
 use Rattle.far_book.specs.book.Dealing.{order_moved}
 use Rattle.far_book.specs.book.Effects.{order_after}
 use Rattle.far_core.specs.state.State.{State}
-use Rattle.far_device.specs.declared.mem.MemDevice.{MemDevice}
 use Rattle.far_evac.specs.EvacOf.{EvacOf}
 use Rattle.far_hand.specs.declared.plain.Plain.{Plain}
 use Rattle.far_core.specs.events.Step.{data_len, is_opened}
@@ -68,7 +67,7 @@ abbrev pub order_dereferenced : State → List ℕ → ℕ → ℕ → List ℕ
 order_dereferenced s order m p = if is_slow s p then order_come (sought s m p) order p else order
 
 -- from one evacuator to another an object that its owner asked for has come to where a view may rest, or is refused a place or memory, and nothing has changed but that it was asked for
-pub record Brings (old new : EvacOf Plain MemDevice) (m p : ℕ) (result : Result (Unit {0}) Refusal) : Type 0 where
+pub record Brings (old new : EvacOf Plain FarSide) (m p : ℕ) (result : Result (Unit {0}) Refusal) : Type 0 where
   pub state : IfOk result (λ _. state_in new ≡ come (asked_for (state_in old) m p) p)
   pub room : IfOk result (λ _. IsSome (comes_to (asked_for (state_in old) m p) p))
   pub refused : IfErr result (λ why. RefusesBringing (asked_for (state_in old) m p) p why (state_in new))

@@ -26,5 +26,5 @@ abbrev pub moment_in : EvacOf Plain FarSide → Moment
 moment_in evac = record { core = state_in evac; order = evac.book.order; phase = evac.phase; collection = evac.collection }
 
 -- from one evacuator to another the round stays as it was
-abbrev pub KeepsRound : EvacOf Plain MemDevice → EvacOf Plain MemDevice → Type 0
+abbrev pub KeepsRound : EvacOf Plain FarSide → EvacOf Plain FarSide → Type 0
 KeepsRound old new = (new.phase ≡ old.phase) × (new.collection ≡ old.collection)

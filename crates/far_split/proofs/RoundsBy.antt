@@ -3,7 +3,6 @@ use Rattle.std.proofs.Common.{◌≡◌, ◌≢◌, inl, inr, ℕ, false, List, 
 use Rattle.std.specs.Prelude.{IfErr}
 use Rattle.far_word.specs.declared.refused.Refused.{Refused as Refusal}
 use Rattle.far_log.specs.declared.row.LogRow.{LogRow}
-use Rattle.far_device.specs.declared.mem.MemDevice.{MemDevice}
 use Rattle.far_evac.specs.declared.answers.EvacFault.{EvacFault}
 use Rattle.far_evac.specs.declared.answers.Progress.{Progress}
 use Rattle.far_evac.specs.declared.answers.RoundEnd.{RoundEnd}
@@ -11,6 +10,7 @@ use Rattle.far_evac.specs.Moment.{nothing, progress_of}
 use Rattle.far_heap.specs.HeapId.{HeapId}
 use Rattle.far_heap.specs.Rounds.{Chose, IsUnchosen, RefusesRound}
 use Rattle.far_text.specs.Command.{Policy}
+use Rattle.far_replay.specs.Moment.{FarSide}
 use Rattle.far_split.specs.BookTold.{Gives, StopsRound, none_done}
 
 module _ {P : Type 0} (gives : P → List LogRow → ℕ → Result (List ℕ) Refusal → P → Type 0) (policy : Policy)
@@ -22,13 +22,13 @@ module _ {P : Type 0} (gives : P → List LogRow → ℕ → Result (List ℕ) R
   unchosen_by before after most why (inl (cause, same)) = inl (cause, refl)
   unchosen_by before after most why (inr (bad, (rows, given))) = inr (bad, (rows, is before after rows most (Err why) given))
 
-  stopped_by : (heap : HeapId) (before after : P) (most n turns : ℕ) (fault : EvacFault) → most ≡ n → RefusesRound gives MemDevice heap before most after turns fault → StopsRound heap policy n turns fault.why fault.so_far
+  stopped_by : (heap : HeapId) (before after : P) (most n turns : ℕ) (fault : EvacFault) → most ≡ n → RefusesRound gives FarSide heap before most after turns fault → StopsRound heap policy n turns fault.why fault.so_far
   stopped_by heap before after most n turns fault same (inl (nothing, unchosen)) =
       subst (λ k. StopsRound heap policy k turns fault.why fault.so_far) same (inl (nothing, unchosen_by before after most fault.why unchosen))
   stopped_by heap before after most n turns fault same (inr (logs, chose, some, stops)) =
       subst (λ k. StopsRound heap policy k turns fault.why fault.so_far) same (inr (logs, chosen_by before after most logs chose, some, stops))
 
-  pub all_stopped_by : (heap : HeapId) (before after : P) (most n turns : ℕ) (result : Result RoundEnd EvacFault) → most ≡ n → IfErr result (RefusesRound gives MemDevice heap before most after turns) → IfErr result (λ fault. StopsRound heap policy n turns fault.why fault.so_far)
+  pub all_stopped_by : (heap : HeapId) (before after : P) (most n turns : ℕ) (result : Result RoundEnd EvacFault) → most ≡ n → IfErr result (RefusesRound gives FarSide heap before most after turns) → IfErr result (λ fault. StopsRound heap policy n turns fault.why fault.so_far)
   all_stopped_by heap before after most n turns (Ok end) same refused = tt
   all_stopped_by heap before after most n turns (Err fault) same refused = stopped_by heap before after most n turns fault same refused
 

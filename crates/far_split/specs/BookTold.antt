@@ -4,7 +4,6 @@ use Rattle.std.specs.List.{AllByRecursion, range_with_len}
 use Rattle.far_word.specs.declared.refused.Refused.{Refused as Refusal}
 use Rattle.far_word.specs.declared.refused.Refused.TheVariants.{Device, Memory, Range}
 use Rattle.far_log.specs.declared.row.LogRow.{LogRow}
-use Rattle.far_device.specs.declared.mem.MemDevice.{MemDevice}
 use Rattle.far_policy.specs.LeastLive.{TakesLeast}
 use Rattle.far_policy.specs.Logs.{logs_of}
 use Rattle.far_table.specs.declared.book.BookSeat.{BookSeat}
@@ -25,11 +24,12 @@ use Rattle.far_text.specs.Command.{Command, Book, Evacuator, Logs as AsksLogs, L
 use Rattle.far_replay.specs.declared.reply.Counts.{Counts}
 use Rattle.far_replay.specs.declared.reply.LogLine.{LogLine}
 use Rattle.far_replay.specs.Reply.{Reply, Audited, Ended, Halted, Logs, Refused}
+use Rattle.far_replay.specs.Moment.{FarSide}
 use Rattle.far_replay.specs.Turn.{log_line}
 
 -- at some moment, while the lock was held, this was so of the heap's book. It was lawful then
 pub record BookStood (heap : HeapId) (P : Moment → Type 0) : Type 0 where
-  pub book : EvacOf (BookSeat MemDevice) MemDevice
+  pub book : EvacOf (BookSeat FarSide) FarSide
   pub named : heap_of book.book.near ≡ heap
   pub lawful : IsLawful (moment seat_view book)
   pub is : P (moment seat_view book)
@@ -82,11 +82,11 @@ Gives LeastLive before rows most outcome after = (taken : List LogRow) × TakesL
 
 -- a round of the logs that the policy chose ended so
 abbrev pub EndsRound : HeapId → Policy → ℕ → ℕ → RoundEnd → Type 0
-EndsRound heap policy most turns end = (logs : List ℕ) × Chose (Gives policy) tt most tt logs × EndsAfter MemDevice heap logs turns end
+EndsRound heap policy most turns end = (logs : List ℕ) × Chose (Gives policy) tt most tt logs × EndsAfter FarSide heap logs turns end
 
 -- no logs were chosen; or some were, and one of the turns was refused: this was done until then
 abbrev pub StopsRound : HeapId → Policy → ℕ → ℕ → Refusal → Progress → Type 0
-StopsRound heap policy most turns why so_far = RefusesRound (Gives policy) MemDevice heap tt most tt turns record { so_far = so_far; why = why }
+StopsRound heap policy most turns why so_far = RefusesRound (Gives policy) FarSide heap tt most tt turns record { so_far = so_far; why = why }
 
 -- nothing was done
 abbrev pub none_done : Progress

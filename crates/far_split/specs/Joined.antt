@@ -66,7 +66,7 @@ RanSo logs mutators lines (Ran replies book) = AllRan logs mutators lines replie
 abbrev pub SplitAnswers : Result SplitTrace ℕ → Joined → Type 0
 SplitAnswers (Err line) joined = joined ≡ Refused (Syntax line)
 SplitAnswers (Ok NothingSplit) joined = joined ≡ Ran [] []
-SplitAnswers (Ok (SplitHeap logs mutators epoch lines)) joined = MatchBool (is_shape (shape_of logs mutators epoch)) (RanSo logs mutators lines joined) (joined ≡ Refused Shape)
+SplitAnswers (Ok (SplitHeap logs mutators epoch device lines)) joined = MatchBool (is_shape (shape_of logs mutators epoch)) (RanSo logs mutators lines joined) (joined ≡ Refused Shape)
 
 -- ---- faults
 -- a thread of so many mutators, or the book's, was stopped by its gate; or memory was refused
@@ -77,7 +77,7 @@ MayStop mutators faults.Memory = Unit {0}
 -- there are threads on a heap in range alone; memory may be refused of any text
 abbrev pub MayEnd : Result SplitTrace ℕ → SplitFault → Type 0
 MayEnd read faults.Memory = Unit {0}
-MayEnd (Ok (SplitHeap logs mutators epoch lines)) (faults.Gate who) = (is_shape (shape_of logs mutators epoch) ≡ true) × MayStop mutators (faults.Gate who)
+MayEnd (Ok (SplitHeap logs mutators epoch device lines)) (faults.Gate who) = (is_shape (shape_of logs mutators epoch) ≡ true) × MayStop mutators (faults.Gate who)
 MayEnd (Ok NothingSplit) (faults.Gate who) = ⊥
 MayEnd (Err line) (faults.Gate who) = ⊥
 

@@ -1,3 +1,4 @@
+pub mod FarSides
 pub mod BookTold
 pub mod Here
 pub mod Jobs

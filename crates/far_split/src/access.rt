@@ -4,7 +4,7 @@ ghost use Rattle.std.specs.Prelude.{◌≡◌, ◌<◌, IfErr, IfOk, IfNone, IfS
 ghost use Rattle.far_split.specs.Slots.{AreNoSizes, AreSizes, IsReached, IsUnreached};
 ghost use Rattle.far_word.specs.declared.refused.Refused.{Refused as any_refusal};
 
-use far_device::MemDevice;
+use crate::far_side::FarSide;
 use far_heap::{HeapName, Scope};
 use far_word::{LONGEST, Refused};
 
@@ -30,7 +30,7 @@ pub(crate) fn pointer_of(number: u64) -> Option<u16>
 /// The range of an object's bytes that a line names, if the mutator uses the pointer and the object has them.
 #[tactic(auto, using(crate::proofs::Owns::unused_beyond))]
 pub(crate) fn reach<K: HeapName>(
-    scope: &Scope<K, MemDevice>,
+    scope: &Scope<K, FarSide>,
     pointer: u64,
     from: u64,
     count: u64,

@@ -10,12 +10,12 @@ ghost use Rattle.far_split.specs.BookTold.{BookTold, TellsLine};
 ghost use Rattle.far_split.specs.Here.{commands_of};
 ghost use Rattle.far_split.specs.Told.{as_reply};
 
+use crate::far_side::FarSide;
 use crate::gate::{Gate, THE_BOOK};
 use crate::inquiries::inquire;
 use crate::mutators::Stop;
 use crate::rounds::make_round;
 use crate::told::Told;
-use far_device::MemDevice;
 use far_heap::{Heap, HeapName};
 use far_text::{Command, Lines, Step};
 use std::alloc::{AllocError, Global};
@@ -25,7 +25,7 @@ use std::sync::Wait;
 fn make_line<K: HeapName, R: Wait>(
     alloc: Global,
     rt: &R,
-    heap: &Heap<K, MemDevice>,
+    heap: &Heap<K, FarSide>,
     command: Command<'_>,
 ) -> Result<Told, AllocError>
     requires own { is_of OfBook (as_command command) ≡ true }
@@ -51,7 +51,7 @@ fn make_line<K: HeapName, R: Wait>(
 pub(crate) fn make_book_lines<K: HeapName, R: Wait, G: Gate>(
     alloc: Global,
     rt: &R,
-    heap: &Heap<K, MemDevice>,
+    heap: &Heap<K, FarSide>,
     lines: &Lines<'_>,
     gate: &G,
 ) -> Result<Vec<Told>, Stop>

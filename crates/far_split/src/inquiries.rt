@@ -11,9 +11,9 @@ ghost use Rattle.far_replay.specs.Turn.{log_line};
 ghost use Rattle.far_split.specs.BookTold.{TellsLine, TellsRange, lies_far, lies_near, live_in};
 ghost use Rattle.far_split.specs.Told.{as_reply};
 
+use crate::far_side::FarSide;
 use crate::told::Told;
 use far_book::Home;
-use far_device::MemDevice;
 use far_evac::{Housed, LogState};
 use far_heap::{Evacuator, Heap, HeapName};
 use far_replay::{Counts, LogLine};
@@ -23,7 +23,7 @@ use std::alloc::{AllocError, Global};
 use std::sync::Wait;
 
 // What is told of a log.
-fn line_of<K: HeapName>(book: &Evacuator<K, MemDevice>, log: u8) -> LogLine
+fn line_of<K: HeapName>(book: &Evacuator<K, FarSide>, log: u8) -> LogLine
     requires log { log < (seat_view book.now.book.near).logs }
     ensures { result ≡ log_line (moment seat_view book.now) log }
 {
@@ -40,7 +40,7 @@ fn line_of<K: HeapName>(book: &Evacuator<K, MemDevice>, log: u8) -> LogLine
 // A line of each log, from one on, so many.
 fn lines_of<K: HeapName>(
     alloc: Global,
-    book: &Evacuator<K, MemDevice>,
+    book: &Evacuator<K, FarSide>,
     first: u8,
     end: u8,
 ) -> Result<Vec<LogLine>, AllocError>
@@ -57,7 +57,7 @@ fn lines_of<K: HeapName>(
 // Tells each log from one on, before another. `Err` where there is no memory for their lines.
 fn logs_told<K: HeapName>(
     alloc: Global,
-    book: &Evacuator<K, MemDevice>,
+    book: &Evacuator<K, FarSide>,
     first: u8,
     end: u8,
 ) -> Result<Told, AllocError>
@@ -73,7 +73,7 @@ fn logs_told<K: HeapName>(
 // Tells one log, if the heap has it. `Err` where there is no memory for its line.
 fn log_told<K: HeapName>(
     alloc: Global,
-    book: &Evacuator<K, MemDevice>,
+    book: &Evacuator<K, FarSide>,
     log: u64,
 ) -> Result<Told, AllocError>
     ensures told { IfOk result (λ told. TellsLine K.heap (Book (Log log)) (as_reply told)) }
@@ -117,7 +117,7 @@ fn count_bytes(logs: &[LogState]) -> u64
 }
 
 // Counts all objects, and the bytes that they take.
-fn audit_told<K: HeapName>(book: &mut Evacuator<K, MemDevice>) -> Told
+fn audit_told<K: HeapName>(book: &mut Evacuator<K, FarSide>) -> Told
     ensures told { TellsLine K.heap (Book Audit) (as_reply result) }
     ensures short { IsShort (as_reply result) }
 {
@@ -136,7 +136,7 @@ fn audit_told<K: HeapName>(book: &mut Evacuator<K, MemDevice>) -> Told
 pub(crate) fn inquire<K: HeapName, R: Wait>(
     alloc: Global,
     rt: &R,
-    heap: &Heap<K, MemDevice>,
+    heap: &Heap<K, FarSide>,
     inquiry: Inquiry,
 ) -> Result<Told, AllocError>
     ensures told { IfOk result (λ told. TellsLine K.heap (Book (as_inquiry inquiry)) (as_reply told)) }

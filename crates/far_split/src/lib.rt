@@ -5,6 +5,7 @@
 
 mod access;
 mod books;
+mod far_side;
 mod gate;
 mod inquiries;
 mod laws;

@@ -10,10 +10,10 @@ ghost use Rattle.far_text.specs.Threads.{OfMutator};
 ghost use Rattle.far_split.specs.Here.{AloneHere, commands_of};
 ghost use Rattle.far_split.specs.Told.{as_reply};
 
+use crate::far_side::FarSide;
 use crate::gate::Gate;
 use crate::slot::Slot;
 use crate::told::Told;
-use far_device::MemDevice;
 use far_heap::{HeapName, Mutator};
 use far_text::{Command, Lines};
 use std::alloc::Global;
@@ -34,7 +34,7 @@ pub(crate) enum Stop {
 pub(crate) fn make_lines<K: HeapName, R: Wait, G: Gate>(
     alloc: Global,
     rt: &R,
-    mutator: Mutator<K, MemDevice>,
+    mutator: Mutator<K, FarSide>,
     number: u8,
     lines: &Lines<'_>,
     gate: &G,

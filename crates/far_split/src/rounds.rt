@@ -8,8 +8,8 @@ ghost use Rattle.far_replay.specs.Reply.{IsShort};
 ghost use Rattle.far_split.specs.BookTold.{EndsRound, StopsRound, TellsLine};
 ghost use Rattle.far_split.specs.Told.{as_reply};
 
+use crate::far_side::FarSide;
 use crate::told::Told;
-use far_device::MemDevice;
 use far_evac::{EvacFault, Phase, Progress, RoundEnd};
 use far_heap::{Heap, HeapName};
 use far_policy::{LeastLive, Oldest};
@@ -20,7 +20,7 @@ use std::sync::Wait;
 // Makes a round of the logs that a policy chooses.
 fn run_by<K: HeapName, R: Wait>(
     rt: &R,
-    heap: &Heap<K, MemDevice>,
+    heap: &Heap<K, FarSide>,
     policy: Policy,
     most: u8,
     turns: u64,
@@ -36,7 +36,7 @@ fn run_by<K: HeapName, R: Wait>(
 }
 
 // Whether a round was refused in one of its turns, and not while its logs were chosen: a turn leaves it standing, and no other thread makes rounds.
-fn stands_after<K: HeapName, R: Wait>(rt: &R, heap: &Heap<K, MemDevice>, why: Refused) -> bool
+fn stands_after<K: HeapName, R: Wait>(rt: &R, heap: &Heap<K, FarSide>, why: Refused) -> bool
     ensures { result ≡ true → (why ≡ Memory) ⊎ (why ≡ Failed) }
 {
     matches!(why, Refused::Memory | Refused::Device) && heap.book(rt).phase() != Phase::Idle
@@ -53,7 +53,7 @@ fn did_nothing(so_far: &Progress) -> bool
 /// what had been done; the round stands then.
 pub(crate) fn make_round<K: HeapName, R: Wait>(
     rt: &R,
-    heap: &Heap<K, MemDevice>,
+    heap: &Heap<K, FarSide>,
     policy: Policy,
     most: u8,
     turns: u64,

@@ -2,6 +2,8 @@
 
 ghost use Rattle.std.specs.Prelude.{◌≡◌, ◌⊎◌, ◌<◌, ◌≤◌, ℕ, true, length, map, None, Some, Ok, IfErr, IfOk, IsOk};
 ghost use Rattle.far_text.specs.declared.text.TheConstants.{LONGEST_TEXT};
+ghost use Rattle.std.specs.Option.{option_map};
+ghost use Rattle.far_text.specs.Command.{as_device};
 ghost use Rattle.far_text.specs.Split.{split_of, SplitHeap};
 ghost use Rattle.far_text.specs.SplitText.{AreOwn};
 ghost use Rattle.far_text.specs.Threads.{Thread as AnyThread, lines_in};
@@ -10,14 +12,14 @@ ghost use Rattle.far_split.specs.Joined.{AreShort, IsFault, MayEnd, MayStop, Ran
 ghost use Rattle.far_split.specs.Jobs.{AreEnds, AreJobs, EndsSo, IsJobAt, Joins};
 
 use crate::books::make_book_lines;
+use crate::far_side::{FarSide, far_side_of};
 use crate::gate::{Gate, THE_BOOK};
 use crate::mutators::{Stop, make_lines};
 use crate::split_out::SplitOut;
 use crate::told::Told;
 use far_core::Shape;
-use far_device::MemDevice;
 use far_heap::{Blank, Heap, HeapName, Mutator};
-use far_text::{ParseError, SplitText, SplitTrace, Thread, parse_split, splitting_is_said};
+use far_text::{Device, ParseError, SplitText, SplitTrace, Thread, parse_split, splitting_is_said};
 use far_word::Refused;
 use std::alloc::{AllocError, Global};
 use std::marker::Brand;
@@ -49,7 +51,7 @@ impl From<AllocError> for SplitFault {
 #[derive(Drop)]
 enum Job<K: HeapName> {
     /// It makes the lines of this mutator, which has this number.
-    Mutator(Mutator<K, MemDevice>, u8),
+    Mutator(Mutator<K, FarSide>, u8),
     /// It makes the book's.
     Book,
 }
@@ -60,7 +62,7 @@ type End = Result<Vec<Told>, Stop>;
 // A job for each mutator, by number, and the book's.
 fn jobs_of<K: HeapName>(
     alloc: Global,
-    mut mutators: Vec<Mutator<K, MemDevice>>,
+    mut mutators: Vec<Mutator<K, FarSide>>,
 ) -> Result<Vec<Job<K>>, AllocError>
     requires new { mutators.items ≡ newcomers K.heap }
     requires few { K.heap.mutators ≤ 8 }
@@ -80,7 +82,7 @@ fn jobs_of<K: HeapName>(
 fn run_job<K: HeapName, R: Wait, G: Gate>(
     alloc: Global,
     rt: &R,
-    heap: &Heap<K, MemDevice>,
+    heap: &Heap<K, FarSide>,
     text: &SplitText,
     gate: &G,
     job: Job<K>,
@@ -110,7 +112,7 @@ fn run_job<K: HeapName, R: Wait, G: Gate>(
 fn run_jobs<K: HeapName + Send + Sync, R: Threads + Wait + Sync, G: Gate>(
     alloc: Global,
     rt: &R,
-    heap: &Heap<K, MemDevice>,
+    heap: &Heap<K, FarSide>,
     text: &SplitText,
     gate: &G,
     jobs: Vec<Job<K>>,
@@ -191,7 +193,7 @@ fn join(alloc: Global, ends: Vec<End>) -> Result<SplitOut, SplitFault>
 fn run_named<K: HeapName + Send + Sync, R: Threads + Wait + Sync, G: Gate>(
     alloc: Global,
     rt: &R,
-    blank: Blank<MemDevice>,
+    blank: Blank<FarSide>,
     text: &SplitText,
     gate: &G,
 ) -> Result<SplitOut, SplitFault>
@@ -203,7 +205,7 @@ fn run_named<K: HeapName + Send + Sync, R: Threads + Wait + Sync, G: Gate>(
     ensures short { IfOk result (λ out. AreShort (as_joined out)) }
     ensures fault { IfErr result (MayStop K.heap.mutators) }
 {
-    let Ok((heap, mutators)) = Heap::<K, MemDevice>::new(alloc, blank) else {
+    let Ok((heap, mutators)) = Heap::<K, FarSide>::new(alloc, blank) else {
         return Err(SplitFault::Memory);
     };
     let jobs = jobs_of(alloc, mutators)?;
@@ -216,15 +218,16 @@ fn run_on<R: Threads + Wait + Sync, G: Gate>(
     alloc: Global,
     rt: &R,
     shape: Shape,
+    device: Option<Device>,
     text: &SplitText,
     gate: &G,
 ) -> Result<SplitOut, SplitFault>
     requires own { (thread : AnyThread) → AreOwn shape.mutators thread (lines_in thread text.now) }
-    ensures answered { IfOk result (λ out. SplitAnswers (Ok (SplitHeap shape.logs shape.mutators shape.epoch text.now)) (as_joined out)) }
+    ensures answered { IfOk result (λ out. SplitAnswers (Ok (SplitHeap shape.logs shape.mutators shape.epoch (option_map as_device device) text.now)) (as_joined out)) }
     ensures short { IfOk result (λ out. AreShort (as_joined out)) }
-    ensures fault { IfErr result (MayEnd (Ok (SplitHeap shape.logs shape.mutators shape.epoch text.now))) }
+    ensures fault { IfErr result (MayEnd (Ok (SplitHeap shape.logs shape.mutators shape.epoch (option_map as_device device) text.now))) }
 {
-    match Blank::new(alloc, shape, MemDevice::new(alloc)) {
+    match Blank::new(alloc, shape, far_side_of(alloc, device)) {
         Ok(blank) => run_named::<Brand, R, G>(alloc, rt, blank, text, gate),
         Err(Refused::Shape) => Ok(SplitOut::Refused(Refused::Shape)),
         Err(_) => Err(SplitFault::Memory),
@@ -263,6 +266,7 @@ pub fn run_split<R: Threads + Wait + Sync, G: Gate>(
                 logs,
                 mutators,
                 epoch,
+                device,
                 lines,
             },
         ) => {
@@ -271,7 +275,7 @@ pub fn run_split<R: Threads + Wait + Sync, G: Gate>(
                 mutators,
                 epoch,
             };
-            run_on(alloc, rt, shape, &lines, gate)
+            run_on(alloc, rt, shape, device, &lines, gate)
         }
         Err(ParseError::Syntax(line)) => Ok(SplitOut::Refused(Refused::Syntax(line))),
         Err(ParseError::Memory) => Err(SplitFault::Memory),

@@ -7,8 +7,8 @@ ghost use Rattle.far_split.specs.Slots.{Answers, mine_in};
 ghost use Rattle.far_split.specs.Told.{as_reply};
 
 use crate::access::{pointer_of, reach, sizes_of};
+use crate::far_side::FarSide;
 use crate::told::Told;
-use far_device::MemDevice;
 use far_heap::{HeapName, Mutator, Scope, Tried};
 use far_text::Request;
 use far_word::Refused;
@@ -18,14 +18,14 @@ use std::sync::Wait;
 /// A mutator whose scope is closed or open.
 #[derive(Drop)]
 pub(crate) enum Slot<K: HeapName> {
-    Closed(Mutator<K, MemDevice>),
-    Open(Scope<K, MemDevice>),
+    Closed(Mutator<K, FarSide>),
+    Open(Scope<K, FarSide>),
 }
 
 // Makes a new object.
 fn make_closed<K: HeapName, R: Wait>(
     rt: &R,
-    mutator: &mut Mutator<K, MemDevice>,
+    mutator: &mut Mutator<K, FarSide>,
     len: u64,
     structure: u64,
 ) -> Told
@@ -46,7 +46,7 @@ fn make_closed<K: HeapName, R: Wait>(
 // Makes a new object, which the open scope doesn't view yet.
 fn make_open<K: HeapName, R: Wait>(
     rt: &R,
-    scope: &mut Scope<K, MemDevice>,
+    scope: &mut Scope<K, FarSide>,
     len: u64,
     structure: u64,
 ) -> Told
@@ -67,7 +67,7 @@ fn make_open<K: HeapName, R: Wait>(
 // Drops an object.
 fn drop_closed<K: HeapName, R: Wait>(
     rt: &R,
-    mutator: &mut Mutator<K, MemDevice>,
+    mutator: &mut Mutator<K, FarSide>,
     pointer: u64,
 ) -> Told
     requires honest { mutator.old.honest ≡ true }
@@ -84,7 +84,7 @@ fn drop_closed<K: HeapName, R: Wait>(
 }
 
 // Drops an object that the open scope doesn't view.
-fn drop_open<K: HeapName, R: Wait>(rt: &R, scope: &mut Scope<K, MemDevice>, pointer: u64) -> Told
+fn drop_open<K: HeapName, R: Wait>(rt: &R, scope: &mut Scope<K, FarSide>, pointer: u64) -> Told
     requires honest { scope.old.honest ≡ true }
     ensures { Answers scope.old (Drop pointer) (as_reply result) scope.new }
 {
@@ -99,7 +99,7 @@ fn drop_open<K: HeapName, R: Wait>(rt: &R, scope: &mut Scope<K, MemDevice>, poin
 }
 
 // Views an object, wherever it is.
-fn view<K: HeapName, R: Wait>(rt: &R, scope: &mut Scope<K, MemDevice>, pointer: u64) -> Told
+fn view<K: HeapName, R: Wait>(rt: &R, scope: &mut Scope<K, FarSide>, pointer: u64) -> Told
     requires honest { scope.old.honest ≡ true }
     ensures { Answers scope.old (View pointer) (as_reply result) scope.new }
 {
@@ -114,7 +114,7 @@ fn view<K: HeapName, R: Wait>(rt: &R, scope: &mut Scope<K, MemDevice>, pointer: 
 }
 
 // Views an object, if no mark and no way from the far side hinders it.
-fn try_view<K: HeapName>(scope: &mut Scope<K, MemDevice>, pointer: u64) -> Told
+fn try_view<K: HeapName>(scope: &mut Scope<K, FarSide>, pointer: u64) -> Told
     requires honest { scope.old.honest ≡ true }
     ensures { Answers scope.old (Try pointer) (as_reply result) scope.new }
 {
@@ -133,7 +133,7 @@ fn try_view<K: HeapName>(scope: &mut Scope<K, MemDevice>, pointer: u64) -> Told
 fn read<K: HeapName, R: Wait>(
     alloc: Global,
     rt: &R,
-    scope: &mut Scope<K, MemDevice>,
+    scope: &mut Scope<K, FarSide>,
     pointer: u64,
     from: u64,
     len: u64,
@@ -160,7 +160,7 @@ fn read<K: HeapName, R: Wait>(
 // Writes bytes over some of an object's.
 fn write<K: HeapName, R: Wait>(
     rt: &R,
-    scope: &mut Scope<K, MemDevice>,
+    scope: &mut Scope<K, FarSide>,
     pointer: u64,
     from: u64,
     bytes: &[u8],
@@ -186,7 +186,7 @@ fn write<K: HeapName, R: Wait>(
 // Answers a mutator's request while its scope is closed.
 fn answer_closed<K: HeapName, R: Wait>(
     rt: &R,
-    mut mutator: Mutator<K, MemDevice>,
+    mut mutator: Mutator<K, FarSide>,
     request: Request<'_>,
 ) -> (Slot<K>, Told)
     requires honest { mutator.honest ≡ true }
@@ -212,7 +212,7 @@ fn answer_closed<K: HeapName, R: Wait>(
 fn answer_open<K: HeapName, R: Wait>(
     alloc: Global,
     rt: &R,
-    mut scope: Scope<K, MemDevice>,
+    mut scope: Scope<K, FarSide>,
     request: Request<'_>,
 ) -> Result<(Slot<K>, Told), AllocError>
     requires honest { scope.honest ≡ true }

@@ -4,8 +4,8 @@ use Rattle.far_replay.proofs.events.bring_and_view.Goals as goal
 
 pub try_view-requires-clause-opened : goal.try_view-requires-clause-opened
 try_view-requires-clause-opened c =
-    came_opened (state_in c.args.evac.now) (state_in c.bring.new.evac) c.args.owner c.args.pointer c.in-Ok.ensures.state c.requires.opened
+    came_opened (state_in c.args.evac.now) (state_in c.bring.new.evac) c.args.owner c.args.pointer c.in-Ok.ensures.brought.state c.requires.opened
 
 pub try_view-requires-clause-used : goal.try_view-requires-clause-used
 try_view-requires-clause-used c =
-    came_used (state_in c.args.evac.now) (state_in c.bring.new.evac) c.args.owner c.args.pointer c.in-Ok.ensures.state c.requires.used
+    came_used (state_in c.args.evac.now) (state_in c.bring.new.evac) c.args.owner c.args.pointer c.in-Ok.ensures.brought.state c.requires.used
