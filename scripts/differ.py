@@ -15,14 +15,15 @@ NUMBER = re.compile(rb"0|[1-9][0-9]{0,19}")
 HEX = re.compile(rb"([0-9a-fA-F]{2})+")
 COMMANDS = {b"heap": "nn", b"new": "nnn", b"open": "n", b"close": "n", b"read": "nnnn", b"write": "nnnh", b"where": "nn", b"drop": "nn", b"view": "nn", b"try": "nn"}
 COMMANDS |= {b"logs": "", b"log": "n", b"audit": "", b"epoch": "n"}
+COMMANDS |= {b"device": "fn"}
 COMMANDS |= {b"select": "pm", b"mark": "n", b"wait": "", b"evacuate": "n", b"abort": "", b"round": "pmn"}
 LARGEST = {"n": LAST_NUMBER, "m": 64, "l": 255}
-POLICIES = {"p": (b"oldest", b"leastlive"), "s": (b"script",)}
+POLICIES = {"p": (b"oldest", b"leastlive"), "s": (b"script",), "f": (b"fail",)}
 MARKS = {"h": 62, "e": 61, "m": 60}
 
 
 def operand(kind: str, word: bytes):
-    """A number, a policy or a run of bytes; None where the word is none of its kind."""
+    """A number, a name or a run of bytes; None where the word is none of its kind."""
     if kind == "h":
         return bytes.fromhex(word.decode()) if HEX.fullmatch(word) else None
     if kind in POLICIES:
@@ -62,7 +63,9 @@ def parse(text: bytes, may_stand=lambda found, made: True):
             return number
         if line and not line.startswith(b"#"):
             made = command(line)
-            if made is None or (made[0] == "heap") == bool(found) or not may_stand(found, made):
+            if made is None or (made[0] == "heap") == bool(found) or (made[0] == "device" and len(found) != 1):
+                return number
+            if not may_stand(found, made):
                 return number
             found.append(made)
     return found
@@ -98,13 +101,28 @@ class Heap:
         self.objects, self.scopes, self.told = [{} for _ in range(mutators)], [None] * mutators, [None] * mutators
         self.views = [set() for _ in range(mutators)]
         self.phase, self.collection, self.clear = "idle", [], set()
+        self.left, self.failed, self.counts = 0, False, (0, 0, 0)
+
+    def device(self, flaw: str, call: int) -> str:
+        """Of its writes and reads this one fails, counted from 1."""
+        self.left = call
+        return "ok"
+
+    def fails(self) -> bool:
+        """Counts a write or read; whether it is the one that fails."""
+        self.left, failing = max(0, self.left - 1), self.left == 1
+        return failing
+
+    def has_room(self, found: Thing, kept: int) -> bool:
+        """Whether it can be placed where more than so many logs are free."""
+        return self.placed[self.newest] + taken(len(found.bytes)) <= LOG_BYTES or self.placed.count(None) > kept
 
     def place(self, found: Thing, kept: int) -> bool:
         """Places it after what was placed last, or in a new log where more than so many are free; answers whether it could."""
         size = taken(len(found.bytes))
+        if not self.has_room(found, kept):
+            return False
         if self.placed[self.newest] + size > LOG_BYTES:
-            if self.placed.count(None) <= kept:
-                return False
             self.sealed.append(self.newest)
             self.newest = self.placed.index(None)
             self.placed[self.newest] = 0
@@ -170,6 +188,8 @@ class Heap:
         found.marks.add("h")
         if "e" in found.marks:
             found.marks.add("m")
+        if found.log is None and self.has_room(found, 1) and self.fails():
+            return "refused 10"
         if (found.log is None or "e" in found.marks) and not self.place(found, 1 if found.log is None else 0):
             return "refused 2"
         found.marks = {"h"}
@@ -281,7 +301,7 @@ class Heap:
         return "clear"
 
     def deal(self, most: int):
-        """Deals with so many objects; gives how many were moved and sent far and how many logs were given back."""
+        """Deals with so many objects, or as far as the device fails; gives how many were moved and sent far and how many logs were given back."""
         moved, far, freed = 0, 0, 0
         while self.collection:
             for found in (found for found in self.residents() if found.log == self.collection[0]):
@@ -289,6 +309,9 @@ class Heap:
                     return moved, far, freed
                 if "h" in found.marks and self.place(found, 0):
                     moved += 1
+                elif self.fails():
+                    self.failed = True
+                    return moved, far, freed
                 else:
                     found.lies(None)
                     far += 1
@@ -301,7 +324,12 @@ class Heap:
     def evacuate(self, most: int) -> str:
         if self.phase != "evacuating":
             return "refused 12"
-        return "evacuated moved %d far %d dropped 0 freed %d" % self.deal(most) + (" done" if self.phase == "idle" else "")
+        return self.dealt(self.deal(most)) or "evacuated moved %d far %d dropped 0 freed %d" % self.counts + (" done" if self.phase == "idle" else "")
+
+    def dealt(self, counts) -> str:
+        """What is said of so many objects where the device failed at the next one; nothing where it didn't."""
+        self.counts, failed, self.failed = tuple(counts), self.failed, False
+        return "refused 10 moved %d far %d dropped 0 freed %d" % self.counts if failed else ""
 
     def abort(self) -> str:
         if self.phase == "idle":
@@ -324,6 +352,8 @@ class Heap:
                     break
             else:
                 counts = [sum(pair) for pair in zip(counts, self.deal(16))]
+                if said := self.dealt(counts):
+                    return said
                 if self.phase == "idle":
                     return "round done moved %d far %d dropped 0 freed %d" % tuple(counts)
         return f"round limit {self.phase}"
@@ -452,12 +482,21 @@ class Writer:
         others += b"|select oldest 65|select leastlive|select oldest 1 0|select script 1|select script 1 256|select script 65 0|select newest 1|select 1|select"
         others += b"|round script 1 9|round script 1 0 9|round oldest 65 1|round oldest 1|round oldest 1 1 1|round leastlive 1 %d|round 1 9|round" % 2**64
         others += b"|mark|mark 1 1|mark -1|wait 0|evacuate|evacuate 0 0|evacuate done|abort 0|device fail 1"
+        others += b"|device fail|device|device 1|device fail 1 1|device fail -1|device short 1|device flip 1|device fail %d" % 2**64
         long = [b"#" * wide, (b"write 0 0 0 " + b"ab" * LINE_LIMIT)[: wide + self.choice.randrange(2)]]
         lines[at] = self.choice.choice([b" " + line, byte + line, line[:-1], line.upper(), *signs, *ends, *others.split(b"|"), *long])
         return b"\n".join(lines)
 
+    def device(self) -> str:
+        """A device's line, most often of one that fails soon."""
+        call = self.choice.choice((0, 1, 1, 2, 3, self.choice.randint(1, 30), self.choice.randint(1, 300), LAST_NUMBER))
+        self.heap.device("fail", call)
+        return f"device fail {call}"
+
     def text(self) -> bytes:
         lines = [*self.choice.choice(([], [], ["# first", ""])), " ".join(["heap", *map(str, self.shape)])]
+        if self.choice.random() < 0.4:
+            lines += self.choice.choice(([], [], ["# its device", ""])) + [self.device()]
         lines += [self.line() for _ in range(self.choice.choice((4, 40, 200, 1_000)))]
         text = ("\n".join(lines) + self.choice.choice(("\n", "\n", "", "\n\n"))).encode()
         if self.choice.random() < 0.02:

@@ -58,6 +58,6 @@ all_said now (c ∷ cs) (r ∷ rs) [] is bytes h = absurd h
 all_said now (c ∷ cs) (r ∷ rs) (next ∷ ms) is bytes h = (said now c r next is bytes.0 h.0, all_said next cs rs ms (next_is_moment now c r next is bytes.0 h.0) bytes.1 h.1)
 
 pub texts_say_all : TextsSayAll
-texts_say_all text output logs mutators epoch cs answers reads fits =
-    let x = outputs_sound text output logs mutators epoch cs answers reads fits in
+texts_say_all text output logs mutators epoch device cs answers reads fits =
+    let x = outputs_sound text output logs mutators epoch device cs answers reads fits in
     (x.replies, x.moments, x.answered, x.printed_so, all_said (first_moment logs mutators epoch) cs x.replies x.moments (first_is_moment logs mutators epoch fits) x.bytes x.answered)

@@ -1,5 +1,5 @@
 -- A text has one output; and what the outside makes of its commands decides their replies.
-use Rattle.std.proofs.Common.{◌≡◌, ℕ, Bool, true, false, sym, ◌∙◌, ap, refl, subst, Result, Ok, Err, List, [], ◌∷◌}
+use Rattle.std.proofs.Common.{◌≡◌, ℕ, Bool, true, false, sym, ◌∙◌, ap, refl, subst, Result, Ok, Err, List, [], ◌∷◌, ◌++◌, Option}
 use Rattle.std.specs.Bool.{MatchBool}
 use Rattle.std.specs.List.{flat_map}
 use Rattle.far_word.specs.declared.refused.Refused.{Refused as Refusal}
@@ -9,14 +9,14 @@ use Rattle.far_evac.specs.declared.answers.Progress.{Progress}
 use Rattle.far_evac.specs.Choosing.{after_selecting}
 use Rattle.far_evac.specs.Moment.{Tally, plus, progress_of, tally_of}
 use Rattle.far_evac.specs.Turns.{turns_made}
-use Rattle.far_replay.specs.Answers.{AllServed, AnsweredBy, CommandedBy, Outside, Serves, Refuses, Served, Stopped, Unbrought, StopsLeaving, StopsRound, Answers, IsOutput, shape_of, first_moment}
+use Rattle.far_replay.specs.Answers.{AllServed, AnsweredBy, FailsAtMost, opened, to_fail, CommandedBy, Outside, Serves, Refuses, Served, Stopped, Unbrought, StopsLeaving, StopsRound, IsOutput, shape_of, first_moment}
 use Rattle.far_replay.specs.Rounds.{chosen_by, rows_in}
 use Rattle.far_replay.proofs.Outcomes.{by_stop}
-use Rattle.far_replay_laws.specs.Headline.{OutsideDecides}
-use Rattle.far_text.specs.Command.{Command, Trace, Nothing, Heap, Mutator, Evacuator, Write, Read, View, Evacuate, Policy}
+use Rattle.far_replay_laws.specs.Headline.{NeverFails, OneOutput, OutsideDecides, OutsideDecidesOutput}
+use Rattle.far_text.specs.Command.{Command, Device, Trace, Nothing, Heap, Mutator, Evacuator, Write, Read, View, Evacuate, Policy}
 use Rattle.far_text.specs.Grammar.{trace_of}
 use Rattle.far_replay.specs.Moment.{Moment}
-use Rattle.far_replay.specs.Reply.{Reply, Done, Evacuated, Halted, Refused, reply_text}
+use Rattle.far_replay.specs.Reply.{Reply, Evacuated, Halted, Refused, reply_text}
 
 -- one command that is served has one reply and one moment after it
 one_reply : (s : Moment) (c : Command) (r q : Reply) (t u : Moment) → Served s c r t → Served s c q u → (r ≡ q) × (t ≡ u)
@@ -89,20 +89,25 @@ served_same (Serves ∷ os) (Serves ∷ ws) s (c ∷ cs) (r ∷ rs) (q ∷ qs) (
     ap (λ xs. Serves ∷ xs) (served_same os ws t cs rs qs ts us a b h.1 (subst (λ x. AnsweredBy ws x cs qs us) (sym one.1) k.1))
 
 -- what is written for a shape, with a heap or refused
-heap_once : (s : Moment) (cs : List Command) (b : Bool) (x y : List ℕ) →
-    MatchBool b ((os : List Outside) × (rs : List Reply) × (ts : List Moment) × AllServed os × AnsweredBy os s cs rs ts × (x ≡ flat_map reply_text (Done ∷ rs))) (x ≡ reply_text (Refused Shape)) →
-    MatchBool b ((os : List Outside) × (rs : List Reply) × (ts : List Moment) × AllServed os × AnsweredBy os s cs rs ts × (y ≡ flat_map reply_text (Done ∷ rs))) (y ≡ reply_text (Refused Shape)) → x ≡ y
-heap_once s cs true x y (os, rs, ts, a, h, e) (ws, qs, us, b, k, f) =
-    let same : ws ≡ os = served_same os ws s cs rs qs ts us a b h k in
-    e ∙ ap (λ l. flat_map reply_text (Done ∷ l)) (answers_are_one os s cs rs qs ts us h (subst (λ xs. AnsweredBy xs s cs qs us) same k)).0 ∙ sym f
-heap_once s cs false x y e f = e ∙ sym f
+heap_once : (s : Moment) (device : Option Device) (cs : List Command) (b : Bool) (x y : List ℕ) → to_fail device ≡ 0 →
+    MatchBool b ((os : List Outside) × (rs : List Reply) × (ts : List Moment) × FailsAtMost (to_fail device) os × AnsweredBy os s cs rs ts × (x ≡ flat_map reply_text (opened device ++ rs))) (x ≡ reply_text (Refused Shape)) →
+    MatchBool b ((os : List Outside) × (rs : List Reply) × (ts : List Moment) × FailsAtMost (to_fail device) os × AnsweredBy os s cs rs ts × (y ≡ flat_map reply_text (opened device ++ rs))) (y ≡ reply_text (Refused Shape)) → x ≡ y
+heap_once s device cs true x y never (os, rs, ts, a, h, e) (ws, qs, us, b, k, f) =
+    let same : ws ≡ os = served_same os ws s cs rs qs ts us (subst (λ n. FailsAtMost n os) never a) (subst (λ n. FailsAtMost n ws) never b) h k in
+    e ∙ ap (λ l. flat_map reply_text (opened device ++ l)) (answers_are_one os s cs rs qs ts us h (subst (λ xs. AnsweredBy xs s cs qs us) same k)).0 ∙ sym f
+heap_once s device cs false x y never e f = e ∙ sym f
 
 -- what is written for what was read
-output_once : (read : Result Trace ℕ) (x y : List ℕ) → IsOutput read x → IsOutput read y → x ≡ y
-output_once (Err line) x y h k = h ∙ sym k
-output_once (Ok Nothing) x y h k = h ∙ sym k
-output_once (Ok (Heap logs mutators epoch cs)) x y h k = heap_once (first_moment logs mutators epoch) cs (is_shape (shape_of logs mutators epoch)) x y h k
+output_once : (read : Result Trace ℕ) (x y : List ℕ) → NeverFails read → IsOutput read x → IsOutput read y → x ≡ y
+output_once (Err line) x y never h k = h ∙ sym k
+output_once (Ok Nothing) x y never h k = h ∙ sym k
+output_once (Ok (Heap logs mutators epoch device cs)) x y never h k = heap_once (first_moment logs mutators epoch) device cs (is_shape (shape_of logs mutators epoch)) x y never h k
 
 -- two outputs of one text are equal
-pub answers_once : (text a b : List ℕ) → Answers text a → Answers text b → a ≡ b
-answers_once text a b h k = output_once (trace_of text) a b h k
+pub answers_once : OneOutput
+answers_once text a b never h k = output_once (trace_of text) a b never h k
+
+-- and two that the same outside made
+pub outside_decides_output : OutsideDecidesOutput
+outside_decides_output outside logs mutators epoch device cs a b (rs, ts, h, e) (qs, us, k, f) =
+    e ∙ ap (λ l. flat_map reply_text (opened device ++ l)) (answers_are_one outside (first_moment logs mutators epoch) cs rs qs ts us h k).0 ∙ sym f

@@ -62,7 +62,7 @@ command_never now (Book (Log l)) = ((λ _ k. k), λ _. tt)
 command_never now (Book Audit) = tt
 command_never now (Evacuator step) = step_never now step
 
-served_never : (now : Moment) (c : Command) (r : Reply) (next : Moment) (why : Refusal) → Served now c r next → r ≡ Refused why → ¬ KeepsFar why
+pub served_never : (now : Moment) (c : Command) (r : Reply) (next : Moment) (why : Refusal) → Served now c r next → r ≡ Refused why → ¬ KeepsFar why
 served_never now c r next why h e = among NeverFar (causes now c) why (command_never now c) (from_cause (refusal now c) (turn_reply now c) why (turn_is_no_refusal now c why) (sym h.reply ∙ e))
 
 -- ---- and what is far stays so, with HOT

@@ -1,5 +1,5 @@
 -- A log that a walk or a round has given back is free, or something came to it since.
-use Rattle.std.proofs.Common.{◌+◌, cond, ◌≡◌, ℕ, zero, suc, ◌<◌, true, false, ◌||◌, List, [], ◌∷◌, ◌++◌, inl, inr, arith, ap, sym, refl, ◌∙◌, subst}
+use Rattle.std.proofs.Common.{◌+◌, cond, ◌≡◌, ℕ, ◌<◌, true, false, ◌||◌, List, [], ◌∷◌, inl, inr, arith, ap, sym, refl, ◌∙◌, subst}
 use Rattle.std.specs.Prelude.{◌⊎◌}
 use Rattle.std.proofs.lemmas.Bool.{cases_eq, cond_both, ne_eqb, true≢false}
 use Rattle.far_core.specs.declared.event.Kind.{Kind}

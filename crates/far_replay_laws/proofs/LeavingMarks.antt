@@ -19,7 +19,7 @@ use Rattle.far_core.proofs.Cells.{map_mark, read_hot}
 use Rattle.far_core.proofs.Put.{put_other, put_same}
 use Rattle.far_core.proofs.Bounds.{some_of}
 use Rattle.far_log.proofs.Members.{All-from}
-use Rattle.far_text.specs.Command.{Command, Heap, New, Open, Write, Read, Close, Where, Drop, View, Try, Epoch, Mutator, Book, Evacuator}
+use Rattle.far_text.specs.Command.{Command, Heap, New, Open, Write, Read, Close, Where, Drop, View, Try, Epoch, Mutator, Book, Evacuator, Device as SaidDevice}
 use Rattle.far_text.specs.Grammar.{trace_of}
 use Rattle.far_text.specs.Written.{AllWriteBytes}
 use Rattle.far_replay.specs.Answers.{Answered, Answers, Commanded, Served, Unbrought, IsMoment, first_moment, shape_of}
@@ -283,10 +283,10 @@ all_leave now (c ∷ cs) (r ∷ rs) [] is bytes h = tt
 all_leave now (c ∷ cs) (r ∷ rs) (next ∷ moments) is bytes h =
     (commands_leave now c r next is h.0, all_leave next cs rs moments (next_is_moment now c r next is bytes.0 h.0) bytes.1 h.1)
 
-pub texts_leave : (text output : List ℕ) (logs mutators epoch : ℕ) (cs : List Command) → Answers text output → trace_of text ≡ Ok (Heap logs mutators epoch cs) →
-    is_shape (shape_of logs mutators epoch) ≡ true → MarksAreLeft logs mutators epoch cs output
-texts_leave text output logs mutators epoch cs answers reads fits =
-    let x = outputs_sound text output logs mutators epoch cs answers reads fits in
+pub texts_leave : (text output : List ℕ) (logs mutators epoch : ℕ) (device : Option SaidDevice) (cs : List Command) → Answers text output → trace_of text ≡ Ok (Heap logs mutators epoch device cs) →
+    is_shape (shape_of logs mutators epoch) ≡ true → MarksAreLeft logs mutators epoch device cs output
+texts_leave text output logs mutators epoch device cs answers reads fits =
+    let x = outputs_sound text output logs mutators epoch device cs answers reads fits in
     let first : Moment = first_moment logs mutators epoch in
     let is = first_is_moment logs mutators epoch fits in
     record {

@@ -13,6 +13,7 @@ pub mod Determined
 pub mod EndsTold
 pub mod EpochLaws
 pub mod EpochsSpent
+pub mod Failures
 pub mod FarRefusals
 pub mod GivenFree
 pub mod HotViews

@@ -1,5 +1,5 @@
 -- Each text has an output; refused commands change nothing; unknown mutators are refused; what logs tell makes 1,024.
-use Rattle.std.proofs.Common.{◌≡◌, ◌≢◌, ℕ, nat_eq, ◌+◌, ◌-◌, ◌*◌, ◌<◌, ◌≤◌, Bool, true, false, cond, not, ◌&&◌, nat_lt, length, get_or, is_some, sym, ap, refl, subst, ◌∙◌, arith, suc, Option, Some, None, Result, Ok, Err, List, [], ◌∷◌, inl, inr}
+use Rattle.std.proofs.Common.{◌≡◌, ◌≢◌, ℕ, nat_eq, ◌+◌, ◌-◌, ◌*◌, ◌<◌, ◌≤◌, Bool, true, false, cond, not, ◌&&◌, nat_lt, length, get_or, is_some, sym, ap, refl, subst, ◌∙◌, arith, suc, Option, Some, None, Result, Ok, Err, List, [], ◌∷◌, inl, inr, ◌++◌}
 use Rattle.std.specs.Prelude.{map, replicate, nat_le, ◌/◌, ◌^◌, ◌⊎◌, ◌↔◌, bit_or, All, Contains}
 use Rattle.std.specs.Bool.{MatchBool}
 use Rattle.std.specs.List.{flat_map, range_with_len}
@@ -37,16 +37,16 @@ use Rattle.far_replay.specs.Effects.{is_slow, with_view}
 use Rattle.far_replay.proofs.AloneRuns.{quiet_run, quiet_view}
 use Rattle.far_replay.specs.Moment.{Moment, with_core}
 use Rattle.far_replay.specs.Alone.{Alone, Knows, Own}
-use Rattle.far_replay.specs.Answers.{AllServed, Answered, AnsweredBy, Answers, Commanded, Outside, Served, IsMoment, IsOutput, shape_of, first_moment}
+use Rattle.far_replay.specs.Answers.{Answered, AnsweredBy, Answers, Commanded, Outside, Served, IsMoment, IsOutput, shape_of, first_moment, FailsAtMost, opened, to_fail}
 use Rattle.far_replay.specs.Commanded.{KeepsFar}
-use Rattle.far_text.specs.Command.{Command, Trace, Nothing, Heap, New, Open, Write, Read, Close, Where, Drop, View, Try, Epoch, Logs, Mutator, Book, Evacuator, Step, Wait}
+use Rattle.far_text.specs.Command.{Command, Trace, Nothing, Heap, New, Open, Write, Read, Close, Where, Drop, View, Try, Epoch, Logs, Mutator, Book, Evacuator, Step, Wait, Device as SaidDevice}
 use Rattle.far_text.specs.Grammar.{trace_of}
 use Rattle.far_replay_laws.specs.Headline.{IsSound, IsWhole, IsSaidBy, TellsAll, TellsLog}
 use Rattle.far_replay.specs.Lawful.{Lawful}
 use Rattle.far_text.specs.Written.{AllWriteBytes}
 use Rattle.far_replay.specs.EventRows.{after_events, AllSucceed}
 use Rattle.far_replay.specs.declared.reply.LogLine.{LogLine}
-use Rattle.far_replay.specs.Reply.{Reply, Done, Pointer, Refused, Halted, reply_text}
+use Rattle.far_replay.specs.Reply.{Reply, Pointer, Refused, Halted, reply_text}
 use Rattle.far_replay.specs.Events.{turn_events, view_events, events_for, new_events}
 use Rattle.far_replay.specs.Objects.{is_range, lowest_cell, object_len, uses, with_range}
 use Rattle.far_word.specs.declared.mark.Marks.{Marks}
@@ -58,7 +58,7 @@ use Rattle.far_replay.specs.Rounds.{refused_step}
 use Rattle.far_replay.specs.Turn.{turn_effect, refused_effect, causes, first_cause, refusal, unless, turn_reply, reply_to, log_line, pointer_reply}
 use Rattle.far_replay_laws.proofs.AloneNew.{new_run, is_structure, is_length}
 use Rattle.far_replay_laws.proofs.AloneFirst.{alone_first}
-use Rattle.far_replay.proofs.Answering.{answered_by, answers_all}
+use Rattle.far_replay.proofs.Answering.{answered_by, answers_all, few_refused}
 use Rattle.far_replay.proofs.Outcomes.{by_outcome}
 use Rattle.far_replay_laws.proofs.Kept.{whole}
 use Rattle.far_replay.proofs.Lasting.{first_lasts, first_lawful, command_carried, moment_lasts, moments_last, each_is_moment, first_is_moment}
@@ -77,15 +77,16 @@ use Rattle.far_replay.proofs.Turns.{marked_last, room_lacks, room_last, new_test
 use Rattle.far_replay.proofs.Views.{view_is, view_law, slow_view}
 
 -- ---- each text has an output
-heap_answered : (logs mutators epoch : ℕ) (cs : List Command) (b : Bool) →
-    (output : List ℕ) × MatchBool b ((os : List Outside) × (rs : List Reply) × (moments : List Moment) × AllServed os × AnsweredBy os (first_moment logs mutators epoch) cs rs moments × (output ≡ flat_map reply_text (Done ∷ rs))) (output ≡ reply_text (Refused Shape))
-heap_answered logs mutators epoch cs true = let x = answers_all (first_moment logs mutators epoch) cs in (flat_map reply_text (Done ∷ x.1), (x.0, x.1, x.2, x.3, x.4, refl))
-heap_answered logs mutators epoch cs false = (reply_text (Refused Shape), refl)
+heap_answered : (logs mutators epoch : ℕ) (device : Option SaidDevice) (cs : List Command) (b : Bool) →
+    (output : List ℕ) × MatchBool b ((os : List Outside) × (rs : List Reply) × (moments : List Moment) × FailsAtMost (to_fail device) os × AnsweredBy os (first_moment logs mutators epoch) cs rs moments × (output ≡ flat_map reply_text (opened device ++ rs))) (output ≡ reply_text (Refused Shape))
+heap_answered logs mutators epoch device cs true =
+    let x = answers_all (first_moment logs mutators epoch) cs in (flat_map reply_text (opened device ++ x.1), (x.0, x.1, x.2, few_refused (to_fail device) x.0 x.3, x.4, refl))
+heap_answered logs mutators epoch device cs false = (reply_text (Refused Shape), refl)
 
 read_answered : (read : Result Trace ℕ) → (output : List ℕ) × IsOutput read output
 read_answered (Err line) = (reply_text (Refused (Syntax line)), refl)
 read_answered (Ok Nothing) = ([], refl)
-read_answered (Ok (Heap logs mutators epoch cs)) = heap_answered logs mutators epoch cs (is_shape (shape_of logs mutators epoch))
+read_answered (Ok (Heap logs mutators epoch device cs)) = heap_answered logs mutators epoch device cs (is_shape (shape_of logs mutators epoch))
 
 pub each_answered : (text : List ℕ) → (output : List ℕ) × Answers text output
 each_answered text = read_answered (trace_of text)
@@ -517,18 +518,18 @@ pub objects_whole : (now : Moment) (cs : List Command) (rs : List Reply) (moment
 objects_whole now cs rs moments is bytes h =
     All-from (λ (x : Moment). IsWhole x.core) (now ∷ moments) (λ x c. whole x.core (moment_lasts x (each_is_moment now cs rs moments is bytes h x c)).law)
 
-in_shape : (logs mutators epoch : ℕ) (cs : List Command) (output : List ℕ) (b : Bool) → b ≡ true →
-    MatchBool b ((os : List Outside) × (rs : List Reply) × (moments : List Moment) × AllServed os × AnsweredBy os (first_moment logs mutators epoch) cs rs moments × (output ≡ flat_map reply_text (Done ∷ rs))) (output ≡ reply_text (Refused Shape)) →
-    (rs : List Reply) × (moments : List Moment) × Answered (first_moment logs mutators epoch) cs rs moments × (output ≡ flat_map reply_text (Done ∷ rs))
-in_shape logs mutators epoch cs output true e (os, rs, moments, served, h, is) = (rs, moments, answered_by os (first_moment logs mutators epoch) cs rs moments h, is)
-in_shape logs mutators epoch cs output false e h = absurd cc
+in_shape : (logs mutators epoch : ℕ) (device : Option SaidDevice) (cs : List Command) (output : List ℕ) (b : Bool) → b ≡ true →
+    MatchBool b ((os : List Outside) × (rs : List Reply) × (moments : List Moment) × FailsAtMost (to_fail device) os × AnsweredBy os (first_moment logs mutators epoch) cs rs moments × (output ≡ flat_map reply_text (opened device ++ rs))) (output ≡ reply_text (Refused Shape)) →
+    (rs : List Reply) × (moments : List Moment) × Answered (first_moment logs mutators epoch) cs rs moments × (output ≡ flat_map reply_text (opened device ++ rs))
+in_shape logs mutators epoch device cs output true e (os, rs, moments, served, h, is) = (rs, moments, answered_by os (first_moment logs mutators epoch) cs rs moments h, is)
+in_shape logs mutators epoch device cs output false e h = absurd cc
 
-pub outputs_sound : (text output : List ℕ) (logs mutators epoch : ℕ) (cs : List Command) → Answers text output → trace_of text ≡ Ok (Heap logs mutators epoch cs) →
-    is_shape (shape_of logs mutators epoch) ≡ true → IsSound logs mutators epoch cs output
-outputs_sound text output logs mutators epoch cs answers reads fits =
-    let bytes : AllWriteBytes cs = texts_write text logs mutators epoch cs reads in
+pub outputs_sound : (text output : List ℕ) (logs mutators epoch : ℕ) (device : Option SaidDevice) (cs : List Command) → Answers text output → trace_of text ≡ Ok (Heap logs mutators epoch device cs) →
+    is_shape (shape_of logs mutators epoch) ≡ true → IsSound logs mutators epoch device cs output
+outputs_sound text output logs mutators epoch device cs answers reads fits =
+    let bytes : AllWriteBytes cs = texts_write text logs mutators epoch device cs reads in
     let is : IsMoment (first_moment logs mutators epoch) = first_is_moment logs mutators epoch fits in
-    let (rs, moments, h, e) = in_shape logs mutators epoch cs output (is_shape (shape_of logs mutators epoch)) fits (subst (λ (x : Result Trace ℕ). IsOutput x output) reads answers) in
+    let (rs, moments, h, e) = in_shape logs mutators epoch device cs output (is_shape (shape_of logs mutators epoch)) fits (subst (λ (x : Result Trace ℕ). IsOutput x output) reads answers) in
     record {
       replies = rs;
       moments = moments;

@@ -47,7 +47,7 @@ use Rattle.far_evac.specs.Moment.{Moment, progress_of}
 use Rattle.far_evac.specs.MomentLaw.{MomentLaw, has_risen, is_idle}
 use Rattle.far_evac.specs.RoundSteps.{advanced, among}
 use Rattle.far_evac.specs.Waiting.{first_open, holds_up, polled, polled_at}
-use Rattle.far_evac.specs.Walk.{Walked, ended, is_done, left, walked}
+use Rattle.far_evac.specs.Walk.{Walked, ended, is_done, walked}
 use Rattle.far_evac.specs.declared.answers.Polled.TheVariants as polls
 use Rattle.far_evac.specs.declared.census.LogKind.TheVariants.{Chosen}
 use Rattle.far_evac.specs.declared.phase.Phase.TheVariants.{Idle, Marking, Waiting, Evacuating}

@@ -1,5 +1,5 @@
 -- What a trace program's outputs say: the laws over whole texts and whole lists of commands.
-use Rattle.std.specs.Prelude.{◌≡◌, ◌≢◌, ◌↔◌, ℕ, ◌+◌, ◌*◌, ◌/◌, ◌^◌, ◌<◌, ◌≤◌, ◌||◌, ◌⊎◌, true, false, sum, codes, decimal, Option, Some, None, Ok, List, [], ◌∷◌, length, replicate, slice_index, map, All, Contains}
+use Rattle.std.specs.Prelude.{◌≡◌, ◌≢◌, ◌↔◌, ℕ, ◌+◌, ◌*◌, ◌/◌, ◌^◌, ◌<◌, ◌≤◌, ◌||◌, ◌⊎◌, true, false, sum, codes, decimal, Option, Some, None, Ok, List, [], ◌∷◌, length, replicate, slice_index, map, All, Contains, ◌++◌, Result}
 use Rattle.std.specs.List.{flat_map, range_with_len}
 use Rattle.hex.specs.Hex.{IsBytes}
 use Rattle.far_word.specs.declared.mark.Mark.TheVariants.{Hot}
@@ -29,8 +29,8 @@ use Rattle.far_evac.specs.declared.answers.Progress.{Progress}
 use Rattle.far_evac.specs.declared.answers.RoundEnd.{RoundEnd}
 use Rattle.far_evac.specs.declared.answers.RoundEnd.TheVariants as ends
 use Rattle.far_replay.specs.Alone.{Alone, Knows, Learns, Own, nothing}
-use Rattle.far_replay.specs.Answers.{Answered, AnsweredBy, Answers, Commanded, IsMoment, Outside, Served, shape_of, first_moment}
-use Rattle.far_text.specs.Command.{Command, Heap, CommandLine, New, Open, Write, Read, Close, Where, Drop, View, Try, Epoch, Logs as AsksLogs, Log, Audit, Mutator, Book, Evacuator, By, Script, Select, Mark, Wait, Evacuate, Abort, Round}
+use Rattle.far_replay.specs.Answers.{Answered, AnsweredBy, Answers, Commanded, IsMoment, Outside, Served, shape_of, first_moment, opened, to_fail}
+use Rattle.far_text.specs.Command.{Command, Heap, CommandLine, New, Open, Write, Read, Close, Where, Drop, View, Try, Epoch, Logs as AsksLogs, Log, Audit, Mutator, Book, Evacuator, By, Script, Select, Mark, Wait, Evacuate, Abort, Round, Device as SaidDevice, Trace}
 use Rattle.far_text.specs.Grammar.{trace_of}
 use Rattle.far_replay.specs.Commanded.{KeepsNear}
 use Rattle.far_replay.specs.Moment.{Moment}
@@ -291,12 +291,12 @@ LinesAreNumbered = (words : List (List ℕ)) (c : Command) (m : ℕ) → m < 2 ^
 -- the replies in full; each moment has the law, and in it objects are whole; the logs in which views rest stay; the replies to each mutator's lines are what its own
 -- lines alone say; each step of the evacuator tells what has happened, and leaves objects elsewhere, and any other command leaves the round; and each audit counts a
 -- list of all objects and logs
-pub record IsSound (logs mutators epoch : ℕ) (cs : List Command) (output : List ℕ) : Type 0 where
+pub record IsSound (logs mutators epoch : ℕ) (device : Option SaidDevice) (cs : List Command) (output : List ℕ) : Type 0 where
   pub replies : List Reply
   pub moments : List Moment
   pub bytes : AllWriteBytes cs
   pub answered : Answered (first_moment logs mutators epoch) cs replies moments
-  pub printed_so : output ≡ flat_map reply_text (Done ∷ replies)
+  pub printed_so : output ≡ flat_map reply_text (opened device ++ replies)
   pub plain : All IsToldInFull replies
   pub lawful : All Lawful (first_moment logs mutators epoch ∷ moments)
   pub whole : All (λ (now : Moment). IsWhole now.core) (first_moment logs mutators epoch ∷ moments)
@@ -307,16 +307,31 @@ pub record IsSound (logs mutators epoch : ℕ) (cs : List Command) (output : Lis
   pub counted : AllCounted (first_moment logs mutators epoch) cs replies moments
 
 abbrev pub OutputsAreSound : Type 0
-OutputsAreSound = (text output : List ℕ) (logs mutators epoch : ℕ) (cs : List Command) → Answers text output → trace_of text ≡ Ok (Heap logs mutators epoch cs) →
-    is_shape (shape_of logs mutators epoch) ≡ true → IsSound logs mutators epoch cs output
+OutputsAreSound = (text output : List ℕ) (logs mutators epoch : ℕ) (device : Option SaidDevice) (cs : List Command) → Answers text output → trace_of text ≡ Ok (Heap logs mutators epoch device cs) →
+    is_shape (shape_of logs mutators epoch) ≡ true → IsSound logs mutators epoch device cs output
 
 -- each text has an output
 abbrev pub EachTextIsAnswered : Type 0
 EachTextIsAnswered = (text : List ℕ) → (output : List ℕ) × Answers text output
 
--- two outputs of one text are equal
+-- no device is said that is to fail
+abbrev pub NeverFails : Result Trace ℕ → Type 0
+NeverFails (Ok (Heap logs mutators epoch device cs)) = to_fail device ≡ 0
+NeverFails read = Unit {0}
+
+-- two outputs of one text are equal, where no device is said that is to fail
 abbrev pub OneOutput : Type 0
-OneOutput = (text a b : List ℕ) → Answers text a → Answers text b → a ≡ b
+OneOutput = (text a b : List ℕ) → NeverFails (trace_of text) → Answers text a → Answers text b → a ≡ b
+
+-- an output of commands of which the outside made this
+abbrev pub IsMadeBy : List Outside → ℕ → ℕ → ℕ → Option SaidDevice → List Command → List ℕ → Type 0
+IsMadeBy outside logs mutators epoch device cs output = (replies : List Reply) × (moments : List Moment) × AnsweredBy outside (first_moment logs mutators epoch) cs replies moments
+    × (output ≡ flat_map reply_text (opened device ++ replies))
+
+-- and where one is, each text has an output, made by an outside that refuses no more than is said; by that they are equal
+abbrev pub OutsideDecidesOutput : Type 0
+OutsideDecidesOutput = (outside : List Outside) (logs mutators epoch : ℕ) (device : Option SaidDevice) (cs : List Command) (a b : List ℕ) →
+    IsMadeBy outside logs mutators epoch device cs a → IsMadeBy outside logs mutators epoch device cs b → a ≡ b
 
 -- whatever the outside makes of each command, its commands have one list of replies and one of moments
 abbrev pub OutsideDecides : Type 0
@@ -324,7 +339,7 @@ OutsideDecides = (outside : List Outside) (now : Moment) (cs : List Command) (rs
 
 -- what the commands of a text write is bytes
 abbrev pub TextsWriteBytes : Type 0
-TextsWriteBytes = (text : List ℕ) (logs mutators epoch : ℕ) (cs : List Command) → trace_of text ≡ Ok (Heap logs mutators epoch cs) → AllWriteBytes cs
+TextsWriteBytes = (text : List ℕ) (logs mutators epoch : ℕ) (device : Option SaidDevice) (cs : List Command) → trace_of text ≡ Ok (Heap logs mutators epoch device cs) → AllWriteBytes cs
 
 -- what lasts: each moment after a heap and commands has the law, and what it names is used
 abbrev pub MomentsLast : Type 0

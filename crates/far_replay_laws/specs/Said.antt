@@ -1,16 +1,16 @@
 -- All that is promised of each command of a text: what the laws a command each say, together.
-use Rattle.std.specs.Prelude.{◌≡◌, ℕ, ◌<◌, ◌≤◌, true, false, Ok, List, ◌∷◌}
+use Rattle.std.specs.Prelude.{◌≡◌, ℕ, ◌<◌, ◌≤◌, true, false, Ok, List, ◌∷◌, Option, ◌++◌}
 use Rattle.std.specs.List.{flat_map}
 use Rattle.far_word.specs.declared.refused.Refused.{Refused as Refusal}
 use Rattle.far_word.specs.declared.sizes.TheConstants.{LONGEST}
 use Rattle.far_core.specs.events.Step.{is_opened}
 use Rattle.far_core.specs.state.Shape.{is_shape}
-use Rattle.far_text.specs.Command.{Command, Heap, New, Open, Where, Drop, Try, Epoch, Logs as AsksLogs, Log, Mutator, Book, Evacuator, Step}
+use Rattle.far_text.specs.Command.{Command, Heap, New, Open, Where, Drop, Try, Epoch, Logs as AsksLogs, Log, Mutator, Book, Evacuator, Step, Device}
 use Rattle.far_text.specs.Grammar.{trace_of}
-use Rattle.far_replay.specs.Answers.{Answered, Answers, first_moment, shape_of}
+use Rattle.far_replay.specs.Answers.{Answered, Answers, first_moment, shape_of, opened}
 use Rattle.far_replay.specs.Moment.{Moment}
 use Rattle.far_replay.specs.Objects.{uses}
-use Rattle.far_replay.specs.Reply.{Reply, Done, Pointer, Refused, reply_text}
+use Rattle.far_replay.specs.Reply.{Reply, Pointer, Refused, reply_text}
 use Rattle.far_replay.specs.Stays.{Stays}
 use Rattle.far_replay_laws.specs.Ages.{KeepsAges}
 use Rattle.far_replay_laws.specs.Epochs.{StepSpends}
@@ -42,6 +42,6 @@ AllSaid now cs rs moments = Unit {0}
 
 -- of each text that is read as a heap in range and commands: its output is the lines of replies, each after its command from moment to moment, of which all this is so
 abbrev pub TextsSayAll : Type 0
-TextsSayAll = (text output : List ℕ) (logs mutators epoch : ℕ) (cs : List Command) → Answers text output → trace_of text ≡ Ok (Heap logs mutators epoch cs) → is_shape (shape_of logs mutators epoch) ≡ true →
-    (replies : List Reply) × (moments : List Moment) × Answered (first_moment logs mutators epoch) cs replies moments × (output ≡ flat_map reply_text (Done ∷ replies))
+TextsSayAll = (text output : List ℕ) (logs mutators epoch : ℕ) (device : Option Device) (cs : List Command) → Answers text output → trace_of text ≡ Ok (Heap logs mutators epoch device cs) → is_shape (shape_of logs mutators epoch) ≡ true →
+    (replies : List Reply) × (moments : List Moment) × Answered (first_moment logs mutators epoch) cs replies moments × (output ≡ flat_map reply_text (opened device ++ replies))
     × AllSaid (first_moment logs mutators epoch) cs replies moments

@@ -5,9 +5,9 @@ ghost use Rattle.far_replay_laws.specs.Ends.{EndsAreTold};
 ghost use Rattle.far_replay_laws.specs.Census.{AuditsByCensus};
 ghost use Rattle.far_replay_laws.specs.Chosen.{RoundsAreChosen};
 ghost use Rattle.far_replay_laws.specs.Epochs.{StepsSpendEpochs};
-ghost use Rattle.far_replay_laws.specs.FromOutside.{DeviceRefusesFar};
+ghost use Rattle.far_replay_laws.specs.FromOutside.{DeviceRefusesFar, FailuresAreSaid};
 ghost use Rattle.far_replay_laws.specs.Listed.{AuditCountsList};
-ghost use Rattle.far_replay_laws.specs.Headline.{OutputsAreSound, OneOutput, OutsideDecides, EachTextIsAnswered, TextsWriteBytes, LinesAreNumbered, MomentsLast, EventsReach, ShapesAre, HeapsBeginLawful, ObjectsStayWhole, ViewedLogsStay, ViewsLast, RefusalsStay, RefusalsChangeNothing, TriesAreAnswered, UnknownMutatorsAreRefused, NearRefusals, MutatorsAreAlone, OwnLinesCount, MutatorsLearn, NewTakesTheLowest, NoneIsLeft, NewIsMade, NewMakesItsObject, CommandsTakeRoom, WritesChangeTheirRange, LogsAreTold, WhereTells, LogTellsItsLine, AuditCounts, DropEndsObject, EpochsAreTold, ScopesOpenAtEpochs, ClosesForget, PrintedAlike};
+ghost use Rattle.far_replay_laws.specs.Headline.{OutputsAreSound, OneOutput, OutsideDecides, OutsideDecidesOutput, EachTextIsAnswered, TextsWriteBytes, LinesAreNumbered, MomentsLast, EventsReach, ShapesAre, HeapsBeginLawful, ObjectsStayWhole, ViewedLogsStay, ViewsLast, RefusalsStay, RefusalsChangeNothing, TriesAreAnswered, UnknownMutatorsAreRefused, NearRefusals, MutatorsAreAlone, OwnLinesCount, MutatorsLearn, NewTakesTheLowest, NoneIsLeft, NewIsMade, NewMakesItsObject, CommandsTakeRoom, WritesChangeTheirRange, LogsAreTold, WhereTells, LogTellsItsLine, AuditCounts, DropEndsObject, EpochsAreTold, ScopesOpenAtEpochs, ClosesForget, PrintedAlike};
 ghost use Rattle.far_replay_laws.specs.Ages.{AgesStay};
 ghost use Rattle.far_replay_laws.specs.Left.{StepsLeave};
 ghost use Rattle.far_replay_laws.specs.Stands.{RoundsStand};
@@ -24,13 +24,14 @@ pub fn outputs_are_sound()
     ensures each { TextsSayAll }
 {}
 
-/// Each text has an output, and one alone. Whatever the outside makes of commands, which it may refuse in their midst, their replies follow from it. A text that ends as refused begins it with `refused`; one that ran has none, or begins with `ok`. Its commands that write, write bytes. Among lines that say commands, a
+/// Each text has an output, and one alone, unless it says a device that is to fail: then one by what the outside made of its commands. Whatever the outside makes of commands, which it may refuse in their midst, their replies follow from it. A text that ends as refused begins it with `refused`; one that ran has none, or begins with `ok`. Its commands that write, write bytes. Among lines that say commands, a
 /// mutator's are those that have its number after the name, but for `log`, after which a log's number stands, and for `mark` and
 /// `evacuate`, after which a number of objects stands.
 pub fn texts_are_answered()
     ensures answered { EachTextIsAnswered }
     ensures once { OneOutput }
     ensures decided { OutsideDecides }
+    ensures made { OutsideDecidesOutput }
     ensures bytes { TextsWriteBytes }
     ensures numbered { LinesAreNumbered }
     ensures ends { EndsAreTold }
@@ -67,13 +68,15 @@ pub fn views_last()
 /// no others; any other refusal leaves the moment as it is. A line of a
 /// mutator that the heap hasn't is refused 8. Where the object that it reads, writes, views or tries is near and unmarked, no command after the
 /// heap is refused for want of memory, by a device or for a mark; for want of a pointer or of room a new object alone is
-/// refused. As the device failed, or gave another number of bytes, a command is refused only where its object is far, which it stays.
+/// refused. As the device failed, or gave another number of bytes, a command is refused only where its object is far, which it stays. No more
+/// replies say that the device failed than its line says, one at most; none says that it gave another number of bytes.
 pub fn refusals_leave_all()
     ensures stay { RefusalsStay }
     ensures nothing { RefusalsChangeNothing }
     ensures unknown { UnknownMutatorsAreRefused }
     ensures near { NearRefusals }
     ensures far { DeviceRefusesFar }
+    ensures few { FailuresAreSaid }
 {}
 
 /// The replies to one mutator's lines are what its own lines alone say: its own, and no others, say what it knows. What

@@ -10,6 +10,7 @@ fn a_text_is_read(rt: HostRuntime) -> Result<(), Fail> {
         logs,
         mutators,
         epoch,
+        device: None,
         commands,
     } = parse(rt.alloc(), text)?
     else {

@@ -1,5 +1,6 @@
 // Whether the definition of an output is what was meant: talks, texts that are refused, readers and writers that fail.
 
+mod devices;
 mod differing;
 mod limits;
 mod refusing;

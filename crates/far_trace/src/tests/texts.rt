@@ -94,7 +94,22 @@ const BAD_TEXTS: &str = "\
 2 heap 4 1/round leastlive 1 18446744073709551616
 2 heap 4 1/round script 1 0
 2 heap 4 1/round script 1 0 0
-2 heap 4 1/device fail 1
+2 heap 4 1/device
+2 heap 4 1/device fail
+2 heap 4 1/device 1
+2 heap 4 1/device fail -1
+2 heap 4 1/device fail 01
+2 heap 4 1/device fail 1 1
+2 heap 4 1/device fail 18446744073709551616
+2 heap 4 1/device short 1
+2 heap 4 1/device flip 1
+2 heap 4 1/device Fail 1
+3 heap 4 1/device fail 0/device fail 0
+3 heap 4 1/device fail 1/heap 4 1
+3 heap 4 1/open 0/device fail 1
+5 heap 4 1/# its device//new 0 8 1/device fail 1
+1 device fail 1/heap 4 1
+1 device fail 1
 2 heap 4 1/LOGS
 2 heap 4 1/log
 2 heap 4 1/logss
