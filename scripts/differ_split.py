@@ -19,14 +19,14 @@ BOOK = ("round", "log", "logs", "audit")
 LOG = re.compile(r"log (\d+) (free|open|sealed|chosen) live (\d+) dead (\d+) unused (\d+)")
 AUDIT = re.compile(r"audit near (\d+) far (\d+) live (\d+)")
 DONE = re.compile(r"round done moved (\d+) far (\d+) dropped (\d+) freed (\d+)")
-HALTED = re.compile(r"refused 1 moved (\d+) far (\d+) dropped (\d+) freed (\d+)")
+HALTED = re.compile(r"refused (1|10) moved (\d+) far (\d+) dropped (\d+) freed (\d+)")
 LIMIT = re.compile(r"round limit (marking|waiting|evacuating)")
 
 
 def has_thread(found: list, made: tuple) -> bool:
-    """Whether a command is the heap's, the book's, or that of a mutator which the heap has."""
+    """Whether a command is the heap's, its device's, the book's, or that of a mutator which the heap has."""
     name, operands = made
-    return name == "heap" or name in BOOK or (name in OWN and operands[0] < found[0][1][1])
+    return name in ("heap", "device") or name in BOOK or (name in OWN and operands[0] < found[0][1][1])
 
 
 def is_slow(word: int, found: Thing, logs: int) -> bool:
@@ -41,11 +41,12 @@ def is_slow(word: int, found: Thing, logs: int) -> bool:
 
 
 class Alone(Heap):
-    """A mutator as its own lines tell it. Room is what others leave: a reply tells whether there was any, or enough memory."""
+    """A mutator as its own lines tell it. Room is what others leave: a reply tells whether there was any, or enough memory, or whether the device failed."""
 
-    def __init__(self, logs: int, mutators: int, is_short: bool = False):
+    def __init__(self, logs: int, mutators: int, is_short: bool = False, fails: bool = False):
         super().__init__(logs, mutators)
-        self.logs, self.reply, self.lacks = logs, "", ("refused 2", "refused 1")[: 1 + is_short]
+        self.logs, self.reply, self.may_lack, self.lacks = logs, "", ("refused 2", "refused 1")[: 1 + is_short], ()
+        self.may_fail = ("refused 10",) if fails else ()
 
     def place(self, found: Thing, kept: int) -> bool:
         return self.reply not in self.lacks
@@ -61,7 +62,7 @@ class Alone(Heap):
 
     def expected(self, name: str, operands: list, reply: str) -> str:
         """The reply, where it may come; else one that may."""
-        self.reply = reply
+        self.reply, self.lacks = reply, self.may_lack + (self.may_fail if name != "new" else ())
         said = self.answer(name, operands)
         return reply if said == "refused 2" and reply in self.lacks else said
 
@@ -69,8 +70,9 @@ class Alone(Heap):
 class Told:
     """What the book's thread is told, as far as it hangs on that thread alone."""
 
-    def __init__(self, is_short: bool, logs: int, mutators: int, epoch: int = 0):
+    def __init__(self, is_short: bool, fails: bool, logs: int, mutators: int, epoch: int = 0):
         self.is_short, self.logs, self.mutators, self.epoch, self.is_idle = is_short, logs, mutators, epoch, True
+        self.halts = ("1",) * is_short + ("10",) * fails
 
     def is_log(self, line: str, number: int) -> bool:
         if not (found := LOG.fullmatch(line)):
@@ -96,7 +98,7 @@ class Told:
             return lines == ["refused 12" if not self.is_idle else "refused 13"]
         if lines == ["round none"] or (self.is_short and lines == ["refused 1"]):
             return True
-        if self.is_short and HALTED.fullmatch(lines[0]):
+        if (halted := HALTED.fullmatch(lines[0])) and halted[1] in self.halts:
             self.is_idle = False
             return True
         if limit := LIMIT.fullmatch(lines[0]):
@@ -117,18 +119,24 @@ def wrong_reply(shape: list, commands: list, output: str, is_short: bool):
     lines = iter(output.split("\n"))
     own = [[made for made in commands if made[0] in OWN and made[1][0] == m] for m in range(shape[1])]
     asked = [made for made in commands if made[0] in BOOK]
+    device = next((operands for name, operands in commands if name == "device"), ["fail", 0])
+    fails = device[1] > 0
+    if output.count("refused 10") > fails:
+        return "refused 10", device
     plain = Heap(*shape) if sum(map(bool, [*own, asked])) == 1 and not is_short else None
+    if plain:
+        plain.device(*device)
     for m, mine in enumerate(own):
         if (line := next(lines, None)) != f"mutator {m}":
             return line, f"mutator {m}"
-        alone = Alone(*shape[:2], is_short)
+        alone = Alone(*shape[:2], is_short, fails)
         for made in mine:
             line = next(lines, "")
             if line != (plain.answer(*made) if plain else alone.expected(*made, line)):
                 return line, made
     if (line := next(lines, None)) != "book":
         return line, "book"
-    told = Told(is_short, *shape)
+    told = Told(is_short, fails, *shape)
     for made in asked:
         found = [next(lines, "") for _ in range(shape[0] if made[0] == "logs" else 1)]
         if not told.is_answered(*made, found) or (plain and "\n".join(found) != plain.answer(*made)):
@@ -196,6 +204,8 @@ class SplitWriter(Writer):
 
     def text(self) -> bytes:
         lines = [*self.choice.choice(([], [], ["# first", ""])), " ".join(["heap", *map(str, self.shape)])]
+        if self.choice.random() < 0.2:
+            lines.append(f"device fail {self.choice.choice((0, 1, 2, 3, 9, 40))}")
         if "audit" in self.weights:  # so that the book's thread doesn't run ahead of all others
             lines += ["audit"] * self.choice.choice((0, 20, 100))
         lines += [self.line() for _ in range(self.choice.choice((4, 40, 400, 2_000)))]
