@@ -489,7 +489,8 @@ class Writer:
 
     def device(self) -> str:
         """A device's line, most often of one that fails soon."""
-        call = self.choice.choice((0, 1, 1, 2, 3, self.choice.randint(1, 30), self.choice.randint(1, 300), LAST_NUMBER))
+        soon, late = self.choice.randint(1, 30), self.choice.randint(1, 300)
+        call = self.choice.choice((0, 1, 2, soon, soon, late, late, LAST_NUMBER))
         self.heap.device("fail", call)
         return f"device fail {call}"
 

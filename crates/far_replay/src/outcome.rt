@@ -67,7 +67,7 @@ impl Outcome {
     {
         match why {
             Refused::Memory => Err(AllocError),
-            why => Ok(Outcome::Refused(why)),
+            failed => Ok(Outcome::Refused(failed)),
         }
     }
 
