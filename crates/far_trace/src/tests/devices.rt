@@ -185,18 +185,19 @@ fn fails_at(
     Ok(told.contains("refused 10"))
 }
 
-/// In how many calls, one after the other, the device of a row may fail.
+/// In how many calls, one after the other, the device of a row may fail: fewer than nine.
 fn fail_each(
     rt: &(impl Abort + AllocGlobal),
     row: &str,
     reads: &str,
     bytes: &str,
 ) -> Result<u64, Fail> {
-    let mut calls = 0;
-    while fails_at(rt, row, reads, bytes, calls + 1)? {
-        calls += 1;
+    for call in 1..9u64 {
+        if !fails_at(rt, row, reads, bytes, call)? {
+            return Ok(call - 1);
+        }
     }
-    Ok(calls)
+    Err("it fails nine times".into())
 }
 
 /// The plain round.
