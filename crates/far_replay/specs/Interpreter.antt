@@ -19,7 +19,7 @@ use Rattle.far_replay.specs.declared.outcome.Outcome.{Outcome}
 use Rattle.far_replay.specs.declared.outcome.Scratch.{Scratch}
 use Rattle.far_replay.specs.Dereference.{RefusesBringing, asked_for, come, comes_to, sought}
 use Rattle.far_replay.specs.Effects.{is_slow}
-use Rattle.far_replay.specs.Moment.{KeepsRound, state_in}
+use Rattle.far_replay.specs.Moment.{FarSide, KeepsRound, state_in}
 use Rattle.far_replay.specs.Objects.{object_len}
 
 -- why a call was refused, if it was
