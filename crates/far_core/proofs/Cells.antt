@@ -15,7 +15,7 @@ use Rattle.far_word.specs.Header.{head_word}
 use Rattle.far_word.specs.Mark.{position, marks_with}
 use Rattle.far_word.specs.Pointer.{read_of, takes_mark, with_mark}
 use Rattle.far_word.proofs.PointerLaws.{with_mark_read, with_mark_fits}
-use Rattle.far_core.specs.state.Law.{HasEvac, Heads, held_place, in_use, Blank}
+use Rattle.far_core.specs.state.Law.{HasEvac, Heads, held_place, in_use}
 use Rattle.far_core.specs.state.Spans.{names_place}
 use Rattle.far_core.specs.state.State.{addr}
 use Rattle.far_core.specs.events.Step.{place_to_view}
@@ -160,21 +160,12 @@ Heads-same word starts p len ds n d place other a b c h = record {
   head = ap (λ x. word (addr x)) (sym c) ∙ h.head ∙ ap (λ x. head_word p x ds) a ∙ ap (λ x. head_word p n x) b;
 }
 
-pub Blank-same : (word : ℕ → ℕ) (len n : ℕ) (place other : Place) → len ≡ n → place ≡ other → Blank word len place → Blank word n other
-Blank-same word len n place other a b h i lt = ap (λ x. word (addr x + 1 + i)) (sym b) ∙ h i (omega arith)
-
 -- ---- what a look-up implies
 pub held_place-place_to_view : (o : Option PtrWord) (place : Place) → place_to_view o ≡ Some place → held_place o ≡ Some place
 held_place-place_to_view None place e = e
 held_place-place_to_view (Some Free) place e = e
 held_place-place_to_view (Some (Near len ds at m)) place e = grind (arith, nat_tests)
 held_place-place_to_view (Some (Far len ds m)) place e = e
-
-pub place_to_view-used : (o : Option PtrWord) (place : Place) → place_to_view o ≡ Some place → in_use o ≡ true
-place_to_view-used None place e = absurd cc
-place_to_view-used (Some Free) place e = absurd cc
-place_to_view-used (Some (Near len ds at m)) place e = grind (arith, nat_tests)
-place_to_view-used (Some (Far len ds m)) place e = absurd cc
 
 -- what is held is near, with neither MOVE nor DROP
 pub record IsHeld (o : Option PtrWord) (place : Place) : Type 0 where

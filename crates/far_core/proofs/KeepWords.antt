@@ -3,7 +3,7 @@ use Rattle.std.proofs.Common.{◌≡◌, ◌≢◌, ℕ, ◌+◌, ◌-◌, ◌*�
 use Rattle.far_word.specs.declared.pointer.PtrWord.{PtrWord}
 use Rattle.far_word.specs.declared.sizes.TheConstants.{LOG_WORDS}
 use Rattle.far_word.specs.Header.{head_of}
-use Rattle.far_word.specs.Sizes.{size_of, words_for}
+use Rattle.far_word.specs.Sizes.{words_for}
 use Rattle.far_core.specs.state.Law.{Law, SpanAt, Padded, NamesBack, BlankLaw, head_len}
 use Rattle.far_core.specs.state.State.{State, put}
 use Rattle.far_core.proofs.Put.{put_both, put_other}
@@ -72,10 +72,6 @@ module _ (s : State) (law : Law s) (a : ℕ) (placed : s.starts a ≡ true) (i :
 module _ (s : State) (law : Law s) (l at w : ℕ) (past : s.tail l ≤ at) (inside : at < LOG_WORDS) (wide : w < 2 ^ 64) where
   abbrev written : ℕ → ℕ
   written = put s.word (l * LOG_WORDS + at) w
-
-  -- every word of a span stays
-  pub span_stays : (b j : ℕ) → s.starts b ≡ true → j < size_of (head_len (s.word b)) → written (b + j) ≡ s.word (b + j)
-  span_stays b j h lt = put_other s.word (l * LOG_WORDS + at) w (b + j) (past_tail s law l at b j past inside h lt)
 
   pub head_kept : (b : ℕ) → s.starts b ≡ true → written b ≡ s.word b
   head_kept b h = put_other s.word (l * LOG_WORDS + at) w b (λ e. past_tail s law l at b 0 past inside h (omega arith) (omega arith))

@@ -1,13 +1,10 @@
 -- Spans of one memory: none begins inside another, and a word outside a span leaves it as it was.
-use Rattle.std.proofs.Common.{◌≡◌, ◌≢◌, ℕ, ◌+◌, ◌-◌, ◌*◌, ◌/◌, ◌<◌, ◌≤◌, Bool, true, arith, sym, refl, ap, ◌∙◌, inl, inr}
+use Rattle.std.proofs.Common.{◌≡◌, ◌≢◌, ℕ, ◌+◌, ◌-◌, ◌*◌, ◌/◌, ◌<◌, ◌≤◌, Bool, true, arith, sym, ap, ◌∙◌, inl, inr}
 use Rattle.std.proofs.lemmas.Bool.{false≢true, cases_order, cases_lt}
 use Rattle.far_word.specs.declared.sizes.TheConstants.{LOG_WORDS}
 use Rattle.far_word.specs.Sizes.{size_of}
 use Rattle.far_core.specs.state.Law.{Law, SpanAt, head_len}
 use Rattle.far_core.specs.state.State.{State}
-
-pub words_is : LOG_WORDS ≡ 128
-words_is = refl
 
 module _ (tail : ℕ → ℕ) (starts : ℕ → Bool) where
   -- no span begins inside another

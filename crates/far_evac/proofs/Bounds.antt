@@ -139,8 +139,6 @@ stop_bounded m t law agrees total tally within leaves (k, w, walks, few, more, k
     subst IsBounded (ap (plus total) (sym counts)) (walk_bounded m total within (risen_is_ready m law agrees (ap has_risen leaves)) k w walks)
 
 -- ---- what a call tells by itself: whether the round goes on, and how much was done at most
-pub nothing_bounded : IsBounded nothing
-nothing_bounded = record { objects = omega arith; logs = omega arith }
 
 module _ (m : Moment) (law : Law (own_part m.core)) (agrees : MomentLaw m) (leaves : m.phase ≡ Evacuating) where
   pub walk_counts : (k : ℕ) (w : Walked) → WalksTo m k w → IsBounded w.tally

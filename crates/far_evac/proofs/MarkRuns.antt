@@ -40,11 +40,6 @@ drop_none k [] e = omega arith
 drop_none zero (x ∷ xs) e = absurd cc
 drop_none (suc k) (x ∷ xs) e = let h = drop_none k xs e in omega (arith, h)
 
-take_len : (n : ℕ) (xs : List ℕ) → n ≤ length xs → length (take n xs) ≡ n
-take_len zero xs le = refl
-take_len (suc n) [] le = absurd (omega (arith, le))
-take_len (suc n) (x ∷ xs) le = let h = take_len n xs (omega (arith, le)) in omega (arith, h)
-
 empty_is : (xs : List ℕ) → false ≡ not (is_empty xs) → xs ≡ []
 empty_is [] e = refl
 empty_is (x ∷ xs) e = absurd (false≢true e)
@@ -116,9 +111,6 @@ module _ (m : Moment) (once : IsDistinct eqb m.collection) (fits : (q : ℕ) →
         let few = drop_none k all none in
         let same : length (take n all) ≡ length all = ap length (all_taken n (omega (arith, lt))) in
         omega (arith, few, le, same)
-
-  pub full_count : (n : ℕ) → n ≤ length all → n ≡ length (newly_marked m n)
-  full_count n le = sym (take_len n all le)
 
   -- ---- the end of a call
   module _ (n : ℕ) (a b : Moment) (known : KnowsMoment (after_steps n) a) (then : KnowsMoment a b) where

@@ -37,9 +37,6 @@ spot_but (Some Free) = refl
 spot_but (Some (Near len ds place marks)) = refl
 spot_but (Some (Far len ds marks)) = refl
 
-alike_more : (s t u : State) → Alike s t → Alike t u → Alike s u
-alike_more s t u a b = record { spots = λ p. b.spots p ∙ a.spots p; spans = λ l. b.spans l ∙ a.spans l; tail = b.tail ∙ a.tail; kind = b.kind ∙ a.kind; logs = b.logs ∙ a.logs }
-
 -- of these parts alone it hangs
 alike_parts : (s t : State) → ((p : ℕ) → spot_of (read_of (t.cell p)) ≡ spot_of (read_of (s.cell p))) → t.word ≡ s.word → t.tail ≡ s.tail → t.kind ≡ s.kind → t.logs ≡ s.logs → Alike s t
 unfolding spans_of

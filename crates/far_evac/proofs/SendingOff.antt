@@ -31,19 +31,16 @@ use Rattle.far_book.proofs.region.SealedKept.{sealed_logs_kept}
 use Rattle.far_evac.specs.declared.evac.evacuating.Fate.{Fate}
 use Rattle.far_evac.specs.declared.evac.evacuating.Fate.TheVariants as fates
 use Rattle.far_evac.specs.declared.phase.Phase.TheVariants.{Evacuating}
-use Rattle.far_evac.specs.declared.round.Round.{Round}
 use Rattle.far_evac.specs.AnyHand.{Knows}
 use Rattle.far_evac.specs.Leaving.{GoesAway, LeavesBy, core_by, fate_by, goes_near, near_fate, order_by}
 use Rattle.far_evac.specs.Live.{live_in, live_among}
 use Rattle.far_evac.specs.Moment.{Moment}
 use Rattle.far_evac.specs.MomentLaw.{MomentLaw, has_risen}
 use Rattle.far_evac.specs.RoundSteps.{among}
-use Rattle.far_evac.specs.Standing.{InRound}
 use Rattle.far_evac.specs.Walk.{Way, Drops, Goes, Moves, hot_way, way_of}
 use Rattle.far_evac.proofs.Bools.{neither}
 use Rattle.far_evac.proofs.Dealt.{NewPlace, room_new}
 use Rattle.far_evac.proofs.Hands.{evicted_seen, freed_seen, knows_far, knows_left, knows_more, knows_seen, knows_spans, knows_words, moved_seen}
-use Rattle.far_evac.proofs.Keeping.{round_called, round_found}
 use Rattle.far_evac.proofs.LiveOnce.{LivesIn, first_named, near_at}
 use Rattle.far_evac.proofs.Tours.{goes_when, moves_when}
 
@@ -301,8 +298,3 @@ module _ (s : State) (p : ℕ) (q : IsQuietNear s p) (law : Law (own_part s)) (e
       let why = goes_when f.marks.dropped f.marks.hot (room s (size_of q.len) false) (sym (ap (way_of s) f.near) ∙ e) in
       (sealed_logs_kept s p q.len q.ds law).goes q.place q.marks q.near (wanted s p q law evac) (alive_before s p q law evac w finds why)
 
-pub round_sent : (s t : State) (r : Round) → InRound s r → (p : ℕ) (q : IsQuietNear s p) → Law (own_part s) → has_evac (read_of (s.cell p)) ≡ true → (order after : List ℕ) (result : Result Fate Refused) →
-    IfOk result (λ fate. LeavesBy s order t after p fate) → IfErr result (λ _. Knows s t) → InRound t r
-round_sent s t r in_round p q law evac order after (Ok fate) leaves kept =
-    round_called s (core_by s p (way_of s (read_of leaves.word))) t r in_round (sealed_kept s p q law evac leaves.word leaves.found (way_of s (read_of leaves.word)) refl) leaves.core
-round_sent s t r in_round p q law evac order after (Err why) leaves kept = round_found s t r in_round kept

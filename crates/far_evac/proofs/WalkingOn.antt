@@ -1,6 +1,5 @@
 -- The walk goes on behind the object that left.
 use Rattle.std.proofs.Common.{◌≡◌, ◌≢◌, ℕ, ◌+◌, ◌≤◌, true, false, ◌&&◌, nat_eq, Some, List, ◌∷◌, inl, inr, ap, sym, refl, ◌∙◌, subst}
-use Rattle.std.specs.Prelude.{IsSome}
 use Rattle.std.proofs.lemmas.Bool.{cases_eq, eq-eqb, true≢false}
 use Rattle.far_word.specs.declared.mark.Marks.{Marks}
 use Rattle.far_word.specs.declared.pointer.Place.{Place}
@@ -12,7 +11,6 @@ use Rattle.far_log.specs.declared.span.Span.{Span}
 use Rattle.far_core.specs.state.Law.{Law}
 use Rattle.far_core.specs.state.Spans.{names_place}
 use Rattle.far_core.specs.state.State.{State}
-use Rattle.far_hand.specs.Finds.{Finds}
 use Rattle.far_book.specs.book.Dealing.{has_evac}
 use Rattle.far_hand.specs.Quiet.{IsQuietNear}
 use Rattle.far_book.specs.book.NextLive.{IsBoundary, live_from}
@@ -145,6 +143,3 @@ pub dealt_exact : (w v : Walked) (p word : ℕ) (fate : Fate) → LeavesAs w.mom
     v.tally ≡ counted_as w.tally fate → v ≡ dealt_as w p (read_of word)
 dealt_exact w v p word fate leaves phase held counted = exact_way w v p fate (way_of w.moment.core (read_of word)) leaves.core leaves.sealed leaves.is phase held counted
 
--- ---- what is found in a near object's cell can be read
-pub quiet_reads : (s : State) (p : ℕ) (q : IsQuietNear s p) → Law (own_part s) → has_evac (read_of (s.cell p)) ≡ true → (w : ℕ) → Finds (s.cell p) w → IsSome (read_of w)
-quiet_reads s p q law evac w finds = subst IsSome (sym (found s p q law evac w finds).near) refl

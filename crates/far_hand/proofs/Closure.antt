@@ -28,10 +28,6 @@ module _ {S E R : Type 0} where
   call_result {A} {B} {makes} {s} {t} e f h (Ok x) a b = first_call e (f x) a
   call_result {A} {B} {makes} {s} {t} e f h (Err y) a b = first_call e (h y) b
 
-  -- the earlier one under another name
-  pub since_same : {makes : S → E → R → S → Type 0} {s s' t : S} → s ≡ s' → Came makes s t → Came makes s' t
-  since_same {makes} {s} {s'} {t} e a = subst (λ z. Came makes z t) e a
-
   -- what each call keeps, they all keep
   keeps_along : (makes : S → E → R → S → Type 0) (P : S → Type 0) → ((s t : S) (e : E) (r : R) → makes s e r t → P s → P t) →
       (s t : S) (xs : List (E × R)) → Runs makes s xs t → P s → P t
@@ -55,6 +51,3 @@ module _ {S E R : Type 0} where
   pub came_only : {makes : S → E → R → S → Type 0} {s t : S} → (P : E → Type 0) → Came (only P makes) s t → Came makes s t
   came_only {makes} {s} {t} P c = came_more (only P makes) makes (λ u v e r h. h.1) s t c
 
-  -- of fewer kinds, so of more
-  pub only_more : {makes : S → E → R → S → Type 0} {s t : S} → (P Q : E → Type 0) → ((e : E) → P e → Q e) → Came (only P makes) s t → Came (only Q makes) s t
-  only_more {makes} {s} {t} P Q f c = came_more (only P makes) (only Q makes) (λ u v e r h. (f e h.0, h.1)) s t c

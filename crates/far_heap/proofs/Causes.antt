@@ -163,6 +163,3 @@ module _ {D : Type 0} (heap : HeapId) (seat : BookSeat D) (named : heap_of seat 
   move_cause p (Ok found) is why none = tt
   move_cause p (Err r) is why none = subst (λ w. BookHad D heap (Unbrought p w)) (sym why) (unbrought p NoRoom (near_cause (seat_view seat) (read_of ((seat_view seat).cell p)) is none))
 
--- of a dishonest heap alone
-pub dishonest : {D : Type 0} (heap : HeapId) (p : ℕ) → BookHad D heap (Unbrought p Damaged) → heap.honest ≡ false
-dishonest heap p had = ap (λ (h : HeapId). h.honest) (sym had.named) ∙ had.known.1

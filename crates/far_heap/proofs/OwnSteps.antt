@@ -12,7 +12,6 @@ use Rattle.far_table.specs.View.{OwnerView}
 use Rattle.far_table.specs.Seats.{Seated}
 use Rattle.far_table.specs.Views.{closed_view, held_at, held_view, len_of as seat_len, object_at, uses as seat_uses}
 use Rattle.far_heap.specs.Mine.{IsNew, OwnOk, len_in, mine_of, uses, views}
-use Rattle.far_table.specs.Ranges.{Wrote}
 use Rattle.far_heap.proofs.Mines.{len_own, uses_own, views_own, views_so}
 
 pub seated_is : (t : Seated) (id : TableId) (v : OwnerView) → t.table ≡ id → t.view ≡ v → t ≡ record { table = id; view = v }
@@ -76,12 +75,6 @@ module _ (s : Seated) (name : TableId) (number : ℕ) (lens stamps : List ℕ) (
   pub viewed_used : (p : ℕ) → views (mine_of s) p ≡ true → uses (mine_of s) p ≡ true
   viewed_used p h = let so = views_so s p h in uses_own s p so.0 ∙ ok.held_used p (so.0 ∙ ok.number_is) so.1
 
-  pub stamp_views : (p x : ℕ) → p / CELLS ≡ number → x ≡ slice_index_or stamps (p % CELLS) x → x ≡ scope → views (mine_of s) p ≡ true
-  stamp_views p x own is e = views_own s p (own ∙ sym ok.number_is) ∙ stamp_held p x own is e
-
-  pub stamp_unviewed : (p x : ℕ) → p / CELLS ≡ number → x ≡ slice_index_or stamps (p % CELLS) x → x ≢ scope → views (mine_of s) p ≡ false
-  stamp_unviewed p x own is ne = views_own s p (own ∙ sym ok.number_is) ∙ stamp_free p x own is ne
-
   -- ---- a pin that held a place
   pub pinned_ok : (p : ℕ) (place : Place) → p / CELLS ≡ number → seat_uses s.view p ≡ true → is_some s.view.open_at ≡ true → OwnOk (record { table = s.table; view = held_view p place s.view }) name number lens (slice_set stamps (p % CELLS) scope) scope
   pinned_ok p place own used opened = record {
@@ -127,29 +120,3 @@ module _ (s : Seated) (name : TableId) (number : ℕ) (lens stamps : List ℕ) (
     past = λ k. omega (arith, less k);
   }
 
-  -- ---- bytes that were stored
-  pub wrote_ok : (t : Seated) (p from : ℕ) (bytes : List ℕ) → t.table ≡ s.table → Wrote p from bytes s.view t.view → OwnOk t name number lens stamps scope
-  wrote_ok t p from bytes same w =
-      let number : t.view.number ≡ s.view.number = ap (λ (o : OwnerView). o.number) w.rest in
-      let held : held_at t.view ≡ held_at s.view = ap held_at w.rest in
-      let long : (q : ℕ) → seat_len (object_at t.view q) ≡ seat_len (object_at s.view q) = λ q. elim (cases_eq q p) [
-        | inl e ↦ ap (λ z. seat_len (object_at t.view z)) e ∙ w.len ∙ sym (ap (λ z. seat_len (object_at s.view z)) e)
-        | inr ne ↦ ap seat_len (w.others q ne)
-      ] in
-      let used : (q : ℕ) → seat_uses t.view q ≡ seat_uses s.view q = λ q. elim (cases_eq q p) [
-        | inl e ↦ ap (seat_uses t.view) e ∙ w.there ∙ sym (ap (seat_uses s.view) e)
-        | inr ne ↦ ap is_some (w.others q ne)
-      ] in record {
-        table = same ∙ ok.table;
-        number_is = number ∙ ok.number_is;
-        few = ok.few;
-        many_lens = ok.many_lens;
-        many_stamps = ok.many_stamps;
-        lens_are = λ q mine. ok.lens_are q mine ∙ sym (long q);
-        used_are = λ q mine. used q ∙ ok.used_are q mine ∙ ap (nat_lt 0) (sym (long q));
-        short = λ q mine. omega (arith, long q, ok.short q mine);
-        views_are = λ q mine. ap (λ f. is_some (f q)) held ∙ ok.views_are q mine;
-        held_used = λ q mine h. used q ∙ ok.held_used q mine (sym (ap (λ f. is_some (f q)) held) ∙ h);
-        held_open = λ q mine h. ap (λ (o : OwnerView). is_some o.open_at) w.rest ∙ ok.held_open q mine (sym (ap (λ f. is_some (f q)) held) ∙ h);
-        past = ok.past;
-      }

@@ -121,13 +121,6 @@ module _ (word at room past low w : ℕ) (bytes zeros new : List ℕ) (few : at 
 pub part_padding : (w room len i : ℕ) → w < 2 ^ (8 * room) → room ≤ len - 8 * i → w < 2 ^ (8 * (len - 8 * i))
 part_padding w room len i wide fits = let more : 8 * room ≤ 8 * (len - 8 * i) = omega arith in let most : 2 ^ (8 * room) ≤ 2 ^ (8 * (len - 8 * i)) = pow_mono more in omega (arith, wide, most)
 
--- bytes of a row, counted from one word on
-pub shifted : (f : ℕ → ℕ) (first k : ℕ) → byte_at (λ q. f (first + q)) k ≡ byte_at f (8 * first + k)
-shifted f first k =
-    let word : first + k / 8 ≡ (8 * first + k) / 8 = omega arith in
-    let rest : k % 8 ≡ (8 * first + k) % 8 = omega arith in
-    ap (λ q. f q / 2 ^ (8 * (k % 8)) % 256) word ∙ ap (λ r. f ((8 * first + k) / 8) / 2 ^ (8 * r) % 256) rest
-
 -- ---- a range in three parts: up to a word, whole words, and the rest
 pub range_read : (f : ℕ → ℕ) (from head whole first : ℕ) (out a b c : List ℕ) → head ≤ whole → whole ≤ length out → 8 * first ≡ from + head → length a ≡ length (take head out) →
     length b ≡ length (take (whole - head) (drop head (put_mid 0 head out a))) →
@@ -153,12 +146,6 @@ range_read f from head whole first out a b c le fits at sa sb sc ha hb hc k lt =
       | inr high ↦ (let e : from + whole + (k - whole) ≡ from + k = omega arith in
           put_inside whole (length two - whole) two c lc (omega arith) k high (omega arith) ∙ hc (k - whole) (omega arith) ∙ ap (byte_at f) e)
     ]
-
--- all of it is the part before a word
-pub front_read : (f : ℕ → ℕ) (from head : ℕ) (out a : List ℕ) → head ≡ length out → length a ≡ head → HasBytes f from a → HasBytes f from (put_mid 0 head out a)
-front_read f from head out a all la ha k lt =
-    let l1 : length (put_mid 0 head out a) ≡ length out = put_long 0 head out a la (omega arith) in
-    put_inside 0 head out a la (omega arith) k (omega arith) (omega arith) ∙ (let e : k - 0 ≡ k = omega arith in ap (λ q. get_or a q 0) e) ∙ ha k (omega arith)
 
 pub range_wrote : (p from head whole first : ℕ) (bs : List ℕ) (o u v z : OwnerView) → head ≤ whole → whole ≤ length bs → 8 * first ≡ from + head → from + length bs ≤ len_of (object_at o p) →
     (a b c : List ℕ) → a ≡ take head bs → b ≡ take (whole - head) (drop head bs) → c ≡ take (length bs - whole) (drop whole bs) →

@@ -6,7 +6,7 @@ use Rattle.std.proofs.lemmas.Cmp.{nat_eq_equiv}
 use Rattle.std.proofs.lemmas.Grind.{common_steps}
 use Rattle.std.proofs.lemmas.List.{length-map, length-take, length-take-le, get_or-take, take_more, take_all, take_min, take-map, map-append}
 use Rattle.std.proofs.lemmas.List.Folds.{list_any-append}
-use Rattle.std.proofs.lemmas.List.Recursion.{or_at, or_from_places}
+use Rattle.std.proofs.lemmas.List.Recursion.{or_at}
 use Rattle.std.proofs.lemmas.List.Sorted.{IsPermutation-map, list_any-IsPermutation}
 use Rattle.std.proofs.lemmas.Map.Keys.{apart_from_distinct, IsDistinct-from_apart, IsDistinct-IsPermutation, IsDistinct-push}
 use Rattle.std.proofs.lemmas.Map.Steps.{length-le_from_distinct_below}
@@ -76,10 +76,6 @@ first_more rows i d lt = ap logs_of (take_more rows i d lt) ∙ map-append (λ (
 -- a row has the log
 pub among_rows : (rows : List LogRow) (l i : ℕ) (d : LogRow) → i < length rows → eqb l (get_or rows i d).log ≡ true → is_among (logs_of rows) l ≡ true
 among_rows rows l = or_at (λ (xs : List LogRow). is_among (logs_of xs) l) (λ (row : LogRow). eqb l row.log) refl (λ _ _. refl) rows
-
--- none of the rows has it
-pub among_none : (rows : List LogRow) (l : ℕ) (d : LogRow) → ((i : ℕ) → i < length rows → eqb l (get_or rows i d).log ≡ false) → is_among (logs_of rows) l ≡ false
-among_none rows l = or_from_places (λ (xs : List LogRow). is_among (logs_of xs) l) (λ (row : LogRow). eqb l row.log) refl (λ _ _. refl) rows
 
 -- no row, and one row more
 pub no_rows : AreRows []

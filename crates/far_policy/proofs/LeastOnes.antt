@@ -37,8 +37,6 @@ not_below : (a b c d : ℕ) → is_lt (ordering_then (nat_cmp a b) (nat_cmp c d)
 not_below a b c d h ne = grind (arith, nat_tests)
 
 -- ---- the list of the order is the least list
-takes_from_least : (rows taken : List LogRow) (most : ℕ) → length taken ≡ min most (length rows) → IsLeast GoesBefore (Contains rows) taken → TakesLeast rows most taken
-takes_from_least rows taken most count least = record { count = count; ordered = least.ordered; members = least.members; least = least.least }
 
 least_from_takes : (rows taken : List LogRow) (most : ℕ) → TakesLeast rows most taken → IsLeast GoesBefore (Contains rows) taken
 least_from_takes rows taken most takes = record { ordered = takes.ordered; members = takes.members; least = takes.least }

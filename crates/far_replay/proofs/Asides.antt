@@ -35,7 +35,6 @@ use Rattle.far_replay.proofs.Brought.{MayBring}
 use Rattle.far_replay.proofs.Dereferences.{sought_law, sought_may}
 use Rattle.far_replay.proofs.Drops.{retired_either}
 use Rattle.far_replay.proofs.Lowest.{lowest_cell_is}
-use Rattle.far_replay.proofs.WithCore.{same_order}
 
 -- ---- the order, by which log is open
 -- where the open log was another, it is the youngest of the sealed ones
@@ -57,28 +56,6 @@ asked_current s m p (Some (Far len ds marks)) = refl
 
 pub sought_current : (s : State) (m p : ℕ) → (sought s m p).current ≡ s.current
 sought_current s m p = asked_current (with_view s p) m p (read_of ((with_view s p).cell p)) ∙ view_current s p
-
-pub without_current : (s : State) (m p : ℕ) → (without_object s m p).current ≡ s.current
-without_current s m p = retired_either (λ (t : State). t.current ≡ s.current) (after s (Ask m p Dropped)) p refl refl
-
--- so that the order stays
-pub scope_order : (now : Moment) (m : ℕ) → (with_core now (with_scope now.core m)).order ≡ now.order
-scope_order now m = same_order now (with_scope now.core m) refl
-
-pub epoch_order : (now : Moment) (m : ℕ) → (with_core now (with_epoch now.core m)).order ≡ now.order
-epoch_order now m = same_order now (with_epoch now.core m) refl
-
-pub close_order : (now : Moment) (m : ℕ) → (with_core now (after_close now.core m)).order ≡ now.order
-close_order now m = same_order now (after_close now.core m) refl
-
-pub view_order : (now : Moment) (p : ℕ) → (with_core now (with_view now.core p)).order ≡ now.order
-view_order now p = same_order now (with_view now.core p) (view_current now.core p)
-
-pub sought_order : (now : Moment) (m p : ℕ) → (with_core now (sought now.core m p)).order ≡ now.order
-sought_order now m p = same_order now (sought now.core m p) (sought_current now.core m p)
-
-pub drop_order : (now : Moment) (m p : ℕ) → (with_core now (without_object now.core m p)).order ≡ now.order
-drop_order now m p = same_order now (without_object now.core m p) (without_current now.core m p)
 
 -- ---- and the round is left alone
 pub same_aside : (s : State) → StepsAside s s
@@ -217,11 +194,6 @@ module _ (s : State) (m p : ℕ) (law : Law s) (opened : is_opened s m ≡ true)
 pub order_derefs : (now : Moment) (m p : ℕ) → Law now.core → is_opened now.core m ≡ true → uses now.core m p ≡ true → has_no_room now.core m p ≡ false →
     (with_core now (dereferenced now.core m p)).order ≡ order_dereferenced now.core now.order m p
 order_derefs now m p law opened ours found = deref_order now.core m p law opened ours now.order found
-
--- a write goes on from there
-pub order_writes : (now : Moment) (m p from : ℕ) (bytes : List ℕ) → Law now.core → is_opened now.core m ≡ true → uses now.core m p ≡ true → has_no_room now.core m p ≡ false →
-    (with_core now (with_data (dereferenced now.core m p) p from bytes)).order ≡ order_dereferenced now.core now.order m p
-order_writes now m p from bytes law opened ours found = order_derefs now m p law opened ours found
 
 pub writes_aside : (s : State) (m p from : ℕ) (bytes : List ℕ) → Law s → is_opened s m ≡ true → uses s m p ≡ true → has_no_room s m p ≡ false → StepsAside s (with_data (dereferenced s m p) p from bytes)
 writes_aside s m p from bytes law opened ours found =

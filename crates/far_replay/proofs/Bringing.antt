@@ -1,5 +1,5 @@
 -- A dereference whose pin gives no view: the object is asked for, comes to where a view may rest, and owners stay as they are.
-use Rattle.std.proofs.Common.{◌≡◌, ◌≢◌, ℕ, ◌*◌, ◌/◌, ◌<◌, ◌&&◌, ◌==◌, Bool, true, false, not, nat_lt, refl, sym, ap, subst, ◌∙◌, if◌then◌else◌, Option, Some, None, IsSome, is_some, List}
+use Rattle.std.proofs.Common.{◌≡◌, ◌≢◌, ℕ, ◌*◌, ◌/◌, ◌<◌, ◌&&◌, ◌==◌, Bool, true, false, not, nat_lt, refl, sym, ap, subst, ◌∙◌, Option, Some, None, IsSome, is_some, List}
 use Rattle.std.specs.Prelude.{IfSome, MatchOption}
 use Rattle.std.proofs.lemmas.Bool.{cond_both, false≢true, true≢false}
 use Rattle.far_word.specs.declared.mark.Mark.TheVariants.{Moved}
@@ -16,7 +16,7 @@ use Rattle.far_core.specs.declared.naming.Naming.{Naming}
 use Rattle.far_core.specs.declared.naming.Naming.TheVariants.{Places, Retires, Evicts, Stays, Moves, Fetches}
 use Rattle.far_core.specs.events.Legal.{Legal}
 use Rattle.far_core.specs.events.Name.{after_naming}
-use Rattle.far_core.specs.events.Naming.{is_dropped, naming_of, naming_row}
+use Rattle.far_core.specs.events.Naming.{naming_of, naming_row}
 use Rattle.far_core.specs.events.Step.{after, after_pin, is_opened}
 use Rattle.far_core.specs.state.Law.{Law, in_use}
 use Rattle.far_core.specs.state.State.{State}
@@ -32,7 +32,7 @@ use Rattle.far_book.specs.book.Effects.{fetched, fetched_of, moved, moved_of, ne
 use Rattle.far_book.specs.book.Fetching.{IsFar, IsFetched, RefusesFetch, far_len, room_for}
 use Rattle.far_word.specs.declared.refused.Refused.{Refused as Refusal}
 use Rattle.far_word.specs.declared.refused.Refused.TheVariants.{NoRoom, Memory, Device, Damaged}
-use Rattle.far_replay.specs.Dereference.{RefusesBringing, RefusesView, asked_for, come, come_of, comes_to, comes_to_of, dereferenced, has_no_room, says_near, sought, sought_of}
+use Rattle.far_replay.specs.Dereference.{RefusesBringing, asked_for, come, come_of, comes_to, comes_to_of, says_near, sought_of}
 use Rattle.far_replay.specs.Effects.{is_slow, with_view}
 use Rattle.far_replay.specs.Interpreter.{order_come, order_come_of}
 use Rattle.far_book.proofs.region.Coming.{fetched_alike}
@@ -65,20 +65,6 @@ far_is (Some Free) e u = absurd (false≢true u)
 far_is (Some (Near len ds place marks)) e u = absurd (true≢false e)
 far_is (Some (Far len ds marks)) e u = record { len = len; ds = ds; marks = marks; is = refl }
 
-not_both : (b : Bool) → not b ≡ true → b ≡ true → ⊥
-not_both true e f = false≢true e
-not_both false e f = false≢true f
-
-in_use_alive : (o : Option PtrWord) → in_use o ≡ true → is_dropped o ≡ true → ⊥
-in_use_alive None e f = false≢true e
-in_use_alive (Some Free) e f = false≢true e
-in_use_alive (Some (Near len ds place marks)) e f = not_both marks.dropped e f
-in_use_alive (Some (Far len ds marks)) e f = not_both marks.dropped e f
-
--- what its owner uses wasn't dropped
-pub used_alive : (s : State) (p : ℕ) → Law s → s.used p ≡ true → is_dropped (read_of (s.cell p)) ≡ true → ⊥
-used_alive s p law used = in_use_alive (read_of (s.cell p)) (law.views.used_cell p used)
-
 -- ---- a near object
 module _ (s : State) (m p : ℕ) (law : Law s) (opened : is_opened s m ≡ true) (own : p / CELLS ≡ m) (used : s.used p ≡ true) (unheld : s.held p ≡ None) (near : says_near (read_of (s.cell p)) ≡ true) where
   said : SaysNear (read_of (s.cell p))
@@ -98,9 +84,6 @@ module _ (s : State) (m p : ℕ) (law : Law s) (opened : is_opened s m ≡ true)
 
   pub asked_quiet : IsQuietNear asks p
   asked_quiet = record { len = said.len; ds = said.ds; place = said.place; marks = marks_with Moved said.marks; near = asked_read; quiet = refl }
-
-  pub asked_inside : p < CELLS * asks.mutators
-  asked_inside = law.cells.cell_range p (nonzero s law p used)
 
   -- it comes to its goal
   pub near_comes : comes_to asks p ≡ goal asks p
@@ -271,25 +254,6 @@ module _ (s t : State) (m p : ℕ) (pinned : t ≡ with_view s p) (slow : is_slo
 
   pub slow_unheld : t.held p ≡ None
   slow_unheld = ap (λ (x : State). x.held p) pin_is ∙ unheld_is (s.held p) (slow_parts s p slow).0
-
-  pub slow_sought : asked_for t m p ≡ sought s m p
-  slow_sought = ap (λ (x : State). asked_for x m p) pinned
-
-  pub slow_dereference : (u v : State) → u ≡ come (asked_for t m p) p → v ≡ with_view u p → v ≡ dereferenced s m p
-  slow_dereference u v came again = again ∙ ap (λ (x : State). with_view x p) (came ∙ ap (λ (x : State). come x p) slow_sought)
-      ∙ sym (ap (λ b. if b then with_view (come (sought s m p) p) p else with_view s p) slow)
-
-  pub slow_room : IsSome (comes_to (asked_for t m p) p) → has_no_room s m p ≡ false
-  slow_room found = ap (λ b. b && not (is_some (comes_to (sought s m p) p))) slow ∙ some_found (comes_to (sought s m p) p) (subst (λ (x : State). IsSome (comes_to x p)) slow_sought found) where
-    some_found : (o : Option Place) → IsSome o → not (is_some o) ≡ false
-    some_found None h = absurd (false≢true h)
-    some_found (Some place) h = refl
-
-  pub slow_refused : (why : Refusal) (u : State) → RefusesBringing (asked_for t m p) p why u → RefusesView s m p why u
-  slow_refused why u h = (slow, subst (λ (x : State). RefusesBringing x p why u) slow_sought h)
-
-pub fast_room : (s : State) (m p : ℕ) → is_slow s p ≡ false → has_no_room s m p ≡ false
-fast_room s m p fast = ap (λ b. b && not (is_some (comes_to (sought s m p) p))) fast
 
 pub came_opened : (t u : State) (m p : ℕ) → u ≡ come (asked_for t m p) p → is_opened t m ≡ true → is_opened u m ≡ true
 came_opened t u m p came opened =

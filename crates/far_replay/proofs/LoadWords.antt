@@ -1,16 +1,13 @@
 -- The words that are loaded from a view: those of the state before it.
 use Rattle.std.proofs.Common.{◌≡◌, ℕ, zero, suc, ◌+◌, ◌<◌, true, refl, ap, subst, ◌∙◌, arith}
-use Rattle.far_word.specs.Pointer.{read_of}
 use Rattle.far_word.specs.Sizes.{words_for}
 use Rattle.far_core.specs.declared.event.Event.TheVariants.{Load}
-use Rattle.far_core.specs.declared.event.Reply.{Reply}
-use Rattle.far_core.specs.declared.event.Reply.TheVariants.{Word}
 use Rattle.far_core.specs.state.State.{State}
-use Rattle.far_core.specs.events.Step.{step_of, is_legal, near_data, data_len}
+use Rattle.far_core.specs.events.Step.{is_legal, data_len}
 use Rattle.far_core.proofs.Owing.{is_test}
 use Rattle.far_replay.specs.EventRows.{after_events, AllSucceed}
 use Rattle.far_replay.specs.Events.{load_events}
-use Rattle.far_replay.proofs.MadeLemmas.{legal_step, load_stays, first_succeeds}
+use Rattle.far_replay.proofs.MadeLemmas.{load_stays, first_succeeds}
 use Rattle.far_replay.proofs.Views.{Viewed}
 
 -- loads leave the state
@@ -22,11 +19,6 @@ module _ (s t : State) (m p : ℕ) (view : Viewed s t m p) where
   -- a load of a word of a held object is legal
   pub load_legal : (i : ℕ) → i < words_for (data_len s p) → is_legal t (Load m p i) ≡ true
   load_legal i lt = is_test t (Load m p i) (view.len, (view.place, view.holds, subst (λ n. i < words_for n) view.long lt))
-
-  -- it answers the word that stood there before the view
-  pub load_gives : (i : ℕ) → i < words_for (data_len s p) → (step_of t (Load m p i)).1 ≡ Word (s.word (near_data (read_of (s.cell p)) + i))
-  load_gives i lt = ap (λ (x : State × Reply). x.1) (legal_step t (Load m p i) (load_legal i lt))
-      ∙ ap (λ a. Word (t.word (a + i))) view.same_data ∙ ap (λ (f : ℕ → ℕ). Word (f (near_data (read_of (s.cell p)) + i))) view.words
 
   -- loads of words of a held object succeed
   pub loads_succeed : (first count : ℕ) → ((i : ℕ) → i < count → first + i < words_for (data_len s p)) → AllSucceed t (load_events m p first count)

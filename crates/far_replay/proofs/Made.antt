@@ -1,14 +1,12 @@
 -- A command was made: served, or refused in its midst.
-use Rattle.std.proofs.Common.{◌≡◌, ◌≢◌, inl, inr, ℕ, false, Result, Ok, Err, refl, sym, ap, subst, ◌∙◌}
+use Rattle.std.proofs.Common.{◌≡◌, ◌≢◌, inl, inr, Result, Ok, Err, sym, subst, ◌∙◌}
 use Rattle.std.specs.Prelude.{IfErr, IfOk}
 use Rattle.far_word.specs.declared.refused.Refused.{Refused as Refusal}
 use Rattle.far_word.specs.declared.refused.Refused.TheVariants.{Device, Memory}
-use Rattle.far_device.specs.Faults.{SpendsFault}
 use Rattle.far_hand.specs.declared.plain.Plain.{Plain}
 use Rattle.far_book.specs.book.Dealing.{is_failure}
 use Rattle.far_evac.specs.declared.answers.EvacFault.{EvacFault}
 use Rattle.far_evac.specs.EvacOf.{EvacOf}
-use Rattle.far_evac.specs.Failing.{fails, is_of_device}
 use Rattle.far_text.specs.Command.{Command}
 use Rattle.far_replay.specs.Commanded.{Refuses, StopsSo}
 use Rattle.far_replay.specs.Moment.{FarSide, Moment, moment_in}
@@ -35,19 +33,6 @@ made_or_wanted A old new c scratch (Ok outcome) why (is, other) stops spent =
 made_or_wanted A old new c scratch (Err e) why told stops spent = tt
 
 -- ---- steps
-no_step : (A : Type 0) (why : Refusal) → is_failure {A = A} (Err why) ≡ is_of_device why
-no_step A Device = refl
-no_step A why = refl
-
-not_of_device : (why : Refusal) → why ≢ Device → is_of_device why ≡ false
-not_of_device Device other = absurd (other refl)
-not_of_device why other = refl
-
--- what a step spent, by what its refusal comes to
-pub step_spends : (A B : Type 0) (r : Result A Refusal) (fault : EvacFault) (old new : ℕ → Type 0) → IfOk r (λ _. fault.why ≢ Device) → IfErr r (λ by. by ≡ fault.why) →
-    SpendsFault (fails {A = B} (Err fault)) old new → SpendsFault (is_failure r) old new
-step_spends A B (Ok x) fault old new other is h = subst (λ b. SpendsFault b old new) (not_of_device fault.why other) h
-step_spends A B (Err by) fault old new other is h = subst (λ b. SpendsFault b old new) (ap is_of_device (sym is) ∙ sym (no_step A by)) h
 
 -- what stands then
 pub step_stops : (now t : Moment) (c : Command) (r : Result Stepped Refusal) (fault : EvacFault) (scratch : Scratch) → IfErr r (λ by. (by ≡ fault.why) × IsOutside fault.why × (scratch.progress ≡ fault.so_far)) →

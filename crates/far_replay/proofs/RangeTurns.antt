@@ -29,16 +29,14 @@ use Rattle.far_replay.specs.Events.{first_word, store_events, words_touched}
 use Rattle.far_replay.specs.Interpreter.{IsAccess, IsViewed}
 use Rattle.far_replay.specs.Moment.{Moment, with_core}
 use Rattle.far_replay.specs.Objects.{data_of, is_range, named_len, object_len, with_range, uses}
-use Rattle.far_replay.specs.Reply.{Reply, Data, Done, Refused}
+use Rattle.far_replay.specs.Reply.{Reply, Data, Refused}
 use Rattle.far_replay.specs.Turn.{access_causes, effect, first_cause, refusal, refused_effect, reply_to, turn_effect, turn_reply, unless}
 use Rattle.far_replay.specs.declared.turn.Access.{Access}
 use Rattle.far_replay.proofs.AloneStates.{data_small}
 use Rattle.far_replay.proofs.Dereferences.{Derefs, derefs}
 use Rattle.far_replay.proofs.RangeWrites.{rows_same}
 use Rattle.far_replay.proofs.Spliced.{AreBytes, length-with_range, packed_padded, with_range_bytes}
-use Rattle.far_replay.proofs.Asides.{sought_current}
 use Rattle.far_replay.proofs.Turns.{stores_lead}
-use Rattle.far_replay.proofs.WithCore.{moment_joined, same_order}
 use Rattle.far_replay.proofs.Turns.{Access as Reached}
 
 -- the length that a cell on the layout says
@@ -165,30 +163,7 @@ module _ (now : Moment) (t : State) (a : Access) (why : Refusal) (is : IsAccess 
   cause : first_cause (access_causes now a.owner a.pointer a.from a.count ++ (has_no_room now.core a.owner a.pointer, NoRoom) ∷ []) ≡ Some NoRoom
   cause = wants_room now a is true wants.2
 
-  -- the moment then, by its parts
-  pub asked_at : (next : Moment) → next.core ≡ t → next.order ≡ now.order → next.phase ≡ now.phase → next.collection ≡ now.collection → next ≡ with_core now (sought now.core a.owner a.pointer)
-  asked_at next core order phase held =
-      moment_joined now next (sought now.core a.owner a.pointer) (core ∙ wants.1) (order ∙ sym (same_order now (sought now.core a.owner a.pointer) (sought_current now.core a.owner a.pointer))) phase held
-
-  pub read_refused : (next : Moment) → next ≡ with_core now (sought now.core a.owner a.pointer) → next ≡ effect now (Mutator a.owner (Read a.pointer a.from a.count))
-  read_refused next is_asked =
-      let c : Command = Mutator a.owner (Read a.pointer a.from a.count) in
-      is_asked ∙ ap (λ o. unless o (refused_effect now c) (turn_effect now c)) (sym cause)
-
-  pub read_refusal : Refused why ≡ reply_to now (Mutator a.owner (Read a.pointer a.from a.count))
-  read_refusal = ap Refused wants.0 ∙ ap (λ o. unless o Refused (turn_reply now (Mutator a.owner (Read a.pointer a.from a.count)))) (sym cause)
-
   module _ (new : List ℕ) (long : length new ≡ a.count) where
-    cause_long : first_cause (access_causes now a.owner a.pointer a.from (length new) ++ (has_no_room now.core a.owner a.pointer, NoRoom) ∷ []) ≡ Some NoRoom
-    cause_long = ap (λ n. first_cause (access_causes now a.owner a.pointer a.from n ++ (has_no_room now.core a.owner a.pointer, NoRoom) ∷ [])) long ∙ cause
-
-    pub write_refused : (next : Moment) → next ≡ with_core now (sought now.core a.owner a.pointer) → next ≡ effect now (Mutator a.owner (Write a.pointer a.from new))
-    write_refused next is_asked =
-        let c : Command = Mutator a.owner (Write a.pointer a.from new) in
-        is_asked ∙ ap (λ o. unless o (refused_effect now c) (turn_effect now c)) (sym cause_long)
-
-    pub write_refusal : Refused why ≡ reply_to now (Mutator a.owner (Write a.pointer a.from new))
-    write_refusal = ap Refused wants.0 ∙ ap (λ o. unless o Refused Done) (sym cause_long)
 
 -- ---- what isn't
 module _ (now : Moment) (a : Access) (is : IsAccess now.core a.owner a.pointer a.from a.count a) (room : has_no_room now.core a.owner a.pointer ≡ false) where
@@ -210,17 +185,9 @@ module _ (now : Moment) (a : Access) (is : IsAccess now.core a.owner a.pointer a
         let c : Command = Mutator a.owner (Write a.pointer a.from new) in
         to ∙ ap (λ o. unless o (refused_effect now c) (turn_effect now c)) (sym none)
 
-    pub write_told : Done ≡ reply_to now (Mutator a.owner (Write a.pointer a.from new))
-    write_told = ap (λ o. unless o Refused Done) (sym none)
-
 -- ---- a refused dereference, by what stands then
 module _ (now next : Moment) (a : Access) (why : Refusal) (is : IsAccess now.core a.owner a.pointer a.from a.count a) (refuses : RefusesView now.core a.owner a.pointer why next.core) (other : why ≢ Memory) (sound : why ≢ Device)
     (order : next.order ≡ now.order) (phase : next.phase ≡ now.phase) (held : next.collection ≡ now.collection) where
-  pub refused_read : next ≡ effect now (Mutator a.owner (Read a.pointer a.from a.count))
-  refused_read = read_refused now next.core a why is refuses other sound next (asked_at now next.core a why is refuses other sound next refl order phase held)
-
-  pub refused_write : (new : List ℕ) → length new ≡ a.count → next ≡ effect now (Mutator a.owner (Write a.pointer a.from new))
-  refused_write new long = write_refused now next.core a why is refuses other sound new long next (asked_at now next.core a why is refuses other sound next refl order phase held)
 
 -- ---- a view
 by_view : (a b c d : Bool) → a ≡ true → b ≡ true → c ≡ true → first_cause ((not a, Range) ∷ (not b, Closed) ∷ (not c, NotHeld) ∷ (d, NoRoom) ∷ []) ≡ (if d then Some NoRoom else None)
@@ -239,9 +206,3 @@ module _ (now next : Moment) (m p : ℕ) (opened : is_opened now.core m ≡ true
       let c : Command = Mutator m (View p) in
       to ∙ ap (λ o. unless o (refused_effect now c) (turn_effect now c)) (sym (view_cause false room))
 
-  pub refused_view : (why : Refusal) → RefusesView now.core m p why next.core → why ≢ Memory → why ≢ Device → next.order ≡ now.order → next.phase ≡ now.phase → next.collection ≡ now.collection → next ≡ effect now (Mutator m (View p))
-  refused_view why refuses other sound order phase held =
-      let c : Command = Mutator m (View p) in
-      let wants = only_room now.core m p why next.core refuses other sound in
-      moment_joined now next (sought now.core m p) wants.1 (order ∙ sym (same_order now (sought now.core m p) (sought_current now.core m p))) phase held
-      ∙ ap (λ o. unless o (refused_effect now c) (turn_effect now c)) (sym (view_cause true wants.2))

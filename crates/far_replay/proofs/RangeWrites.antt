@@ -1,8 +1,8 @@
 -- The words that a write stores are those of the object with the new bytes in place.
-use Rattle.std.proofs.Common.{◌≡◌, ◌≢◌, ℕ, ◌+◌, ◌-◌, ◌*◌, ◌/◌, ◌%◌, ◌^◌, ◌<◌, ◌≤◌, true, false, List, ◌++◌, length, take, drop, get_or, refl, ap, sym, ◌∙◌, arith, inl, inr, length-take-le, subst, Option, Some, None}
+use Rattle.std.proofs.Common.{◌≡◌, ℕ, ◌+◌, ◌-◌, ◌*◌, ◌/◌, ◌%◌, ◌^◌, ◌<◌, ◌≤◌, true, List, ◌++◌, length, take, drop, get_or, refl, ap, sym, ◌∙◌, arith, inl, inr, length-take-le, subst, Option, Some, None}
 use Rattle.std.specs.Prelude.{map}
 use Rattle.std.specs.List.{range_with_len}
-use Rattle.std.proofs.lemmas.Bool.{cases_lt, false≢true}
+use Rattle.std.proofs.lemmas.Bool.{cases_lt}
 use Rattle.std.proofs.lemmas.Bool.Decides.{nat_tests}
 use Rattle.std.proofs.lemmas.List.{ext_get_or, get_or_past, get_or-take, get_or-drop, get_or_append_left}
 use Rattle.std.proofs.Math.Seq.{get_or-append_right}
@@ -151,8 +151,3 @@ at_cell s law p (Some (Far len ds m)) e i lt = absurd (omega arith)
 pub object_padded : (s : State) → Law s → (p i : ℕ) → i < words_for (data_len s p) → s.word (near_data (read_of (s.cell p)) + i) < 2 ^ (8 * (data_len s p - 8 * i))
 object_padded s law p i lt = at_cell s law p (read_of (s.cell p)) refl i lt
 
--- the word in which a range ends is a word of the object
-pub past_word : (from count len : ℕ) → from + count ≤ len → ends_inside from count ≡ true → (from + count) / 8 < words_for len
-past_word from count len inside h = let odd : (from + count) % 8 ≢ 0 = (λ z. false≢true (sym (closed z) ∙ h)) in omega arith where
-  closed : (from + count) % 8 ≡ 0 → ends_inside from count ≡ false
-  closed z = grind (arith, nat_tests)

@@ -1,5 +1,5 @@
 -- One more read or write.
-use Rattle.std.proofs.Common.{◌≡◌, ℕ, ◌≤◌, ◌+◌, ◌-◌, List, ◌++◌, Result, Ok, Err, MatchResult, length, take, drop, Option, sym, ◌∙◌, ap, refl, arith, subst, append_assoc, append-nil, []}
+use Rattle.std.proofs.Common.{◌≡◌, ℕ, ◌≤◌, ◌+◌, ◌-◌, List, ◌++◌, Result, Ok, Err, length, take, drop, Option, sym, ◌∙◌, ap, refl, arith, subst, append_assoc, append-nil, []}
 use Rattle.std.specs.Io.KnownBytes.{Appends, Consumes}
 use Rattle.std.proofs.KnownBytes.{Appends-trans, Consumes-trans}
 use Rattle.std.proofs.Math.Seq.{take-add, take-append-add, take-length}
@@ -46,9 +46,6 @@ kept_after first now new tail m n before is inside whole =
     let all : take n now ≡ now = take_all n now whole in
     ap (take m) (is ∙ ap (λ l. l ++ tail) all) ∙ take-append-le m now tail inside ∙ before
 
-pub read_fits : (a k n : ℕ) (xs ys : List ℕ) → a ≤ length xs → n ≤ length ys → a + n ≤ length (put_mid a k xs ys)
-read_fits a k n xs ys h m = omega (arith, length-append (take a xs) (ys ++ post_of a k xs), length-append ys (post_of a k xs), length-take-le a xs h)
-
 pub write_fits : (d n : ℕ) (bs : List ℕ) → d ≤ length bs → n ≤ length (take (length bs - d) (drop d bs)) → d + n ≤ length bs
 write_fits d n bs h m = omega (arith, length-take (length bs - d) (drop d bs), length-drop d bs)
 
@@ -61,14 +58,6 @@ front_longer a b xs ys f =
 front_after : (a b c : Option (List ℕ)) (xs ys : List ℕ) → Appends a b xs → AppendsPart b c ys → AppendsPart a c (xs ++ ys)
 front_after a b c xs ys h f =
     (length xs + f.0, omega (arith, f.1, length-append xs ys), subst (Appends a c) (sym (take-append-add xs ys f.0)) (Appends-trans a b c xs (take f.0 ys) h f.2))
-
--- one more piece, unless an earlier one failed
-pub writes_more : {A E : Type 0} (a b c : Option (List ℕ)) (earlier result : Result A E) (xs ys : List ℕ) → Writes a b earlier xs
-    → MatchResult earlier (λ _. Writes b c result ys) (λ e. (result ≡ Err e) × (c ≡ b)) → Writes a c result (xs ++ ys)
-writes_more a b c (Ok u) (Ok v) xs ys h m = Appends-trans a b c xs ys h m
-writes_more a b c (Ok u) (Err e) xs ys h m = front_after a b c xs ys h m
-writes_more a b c (Err d) (Ok v) xs ys h m = absurd (cc m.0)
-writes_more a b c (Err d) (Err e) xs ys h m = subst (λ o. AppendsPart a o (xs ++ ys)) (sym m.1) (front_longer a b xs ys h)
 
 -- what waited is written
 pub held_written : {A E : Type 0} (start old now : Option (List ℕ)) (waiting bytes : List ℕ) (earlier result : Result A E) → ((d : E) → earlier ≡ Err d → ⊥) → Writes old now result waiting → Holds start old waiting earlier bytes → Holds start now [] result bytes

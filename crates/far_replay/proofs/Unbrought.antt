@@ -1,6 +1,6 @@
 -- Where the device fails, a command that is to reach a far object is left with what a try of that object leaves.
 use Rattle.std.proofs.Common.{◌≡◌, ◌≢◌, inl, inr, ℕ, ◌/◌, Bool, true, false, not, List, [], ◌∷◌, length, Option, Some, None, Result, Ok, Err, refl, sym, ap, subst, ◌∙◌}
-use Rattle.std.specs.Prelude.{IfErr, IfOk}
+use Rattle.std.specs.Prelude.{IfErr}
 use Rattle.std.proofs.lemmas.Bool.{false≢true}
 use Rattle.far_word.specs.declared.mark.Mark.TheVariants.{Hot}
 use Rattle.far_word.specs.declared.pointer.PtrWord.{PtrWord}
@@ -13,7 +13,6 @@ use Rattle.far_core.specs.events.Step.{is_opened}
 use Rattle.far_core.specs.state.Law.{Law}
 use Rattle.far_core.specs.state.State.{State}
 use Rattle.far_core.proofs.Cells.{map_mark}
-use Rattle.far_device.specs.Faults.{SpendsFault}
 use Rattle.far_book.specs.book.Dealing.{is_failure}
 use Rattle.far_text.specs.Command.{Command, Mutator, Read, Try, View, Write}
 use Rattle.far_replay.specs.Commanded.{StopsSo, Unbrought}
@@ -105,9 +104,6 @@ module _ (now next : Moment) (a : Access) (law : Law now.core) (is : IsAccess no
   write_stops new long = (0, 0, unbrought now next a.owner a.pointer law is.opened is.own is.used refuses far order phase held (Mutator a.owner (Write a.pointer a.from new)) (none now a is room new long))
 
 -- ---- by what the refusal comes to
-no_failure : (A : Type 0) (why : Refusal) → why ≢ Device → is_failure {A = A} (Err why) ≡ false
-no_failure A Device other = absurd (other refl)
-no_failure A why other = refl
 
 alike : (A B : Type 0) (why : Refusal) → is_failure {A = B} (Err why) ≡ is_failure {A = A} (Err why)
 alike A B Device = refl
@@ -119,7 +115,3 @@ stops_by now next c (Ok x) why h stops = tt
 stops_by now next c (Err by) why (is, inl memory) stops = λ other. absurd (other (is ∙ memory))
 stops_by now next c (Err by) why (is, inr failed) stops = λ other. (is ∙ failed, subst (λ w. StopsSo w now c (Refused w) next) (sym (is ∙ failed)) (stops failed))
 
-pub spent_by : (A B : Type 0) (r : Result A Refusal) (why : Refusal) (old new : ℕ → Type 0) → IfOk r (λ _. why ≢ Device) → IfErr r (λ by. by ≡ why) →
-    SpendsFault (is_failure {A = B} (Err why)) old new → SpendsFault (is_failure r) old new
-spent_by A B (Ok x) why old new other is h = subst (λ b. SpendsFault b old new) (no_failure B why other) h
-spent_by A B (Err by) why old new other is h = subst (λ b. SpendsFault b old new) (alike A B why ∙ ap (λ w. is_failure {A = A} (Err w)) (sym is)) h

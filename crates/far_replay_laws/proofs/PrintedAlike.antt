@@ -51,12 +51,6 @@ cut b (x ∷ xs) (y ∷ ys) us vs f g e =
     let (others, behind) = cut b xs ys us vs f.1 g.1 (ap (drop 1) e) in
     ((λ i. first i ∷ others i), behind)
 
-none_inside : (b : ℕ) (xs ys zs : List ℕ) → Free b xs → xs ≢ ys ++ (b ∷ zs)
-none_inside b [] [] zs f e = absurd cc
-none_inside b [] (y ∷ ys) zs f e = absurd cc
-none_inside b (x ∷ xs) [] zs f e = f.0 (ap head_of e)
-none_inside b (x ∷ xs) (y ∷ ys) zs f e = none_inside b xs ys zs f.1 (ap (drop 1) e)
-
 -- ---- numbers and kinds
 decimal_free : (b n : ℕ) → b < 48 → n < 2 ^ 64 → Free b (decimal n)
 decimal_free b n low small = free_at b (decimal n) (λ k lt e. let d = digit_at (decimal n) k (decimal_is_IsNumeral n small).0.1 lt in omega (arith, d.0, e))

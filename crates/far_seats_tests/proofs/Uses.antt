@@ -1,27 +1,23 @@
 -- What a caller of the book needs: what follows from where an object was found.
-use Rattle.std.proofs.Common.{◌≡◌, ℕ, ◌+◌, ◌*◌, ◌/◌, ◌<◌, true, sym, refl, ap, subst, ◌∙◌, arith, inl, inr, Option, Some, None}
+use Rattle.std.proofs.Common.{◌≡◌, ℕ, ◌*◌, ◌/◌, ◌<◌, true, sym, refl, ap, ◌∙◌, arith, inl, inr, Option, Some, None}
 use Rattle.far_word.specs.declared.mark.Marks.{Marks}
 use Rattle.far_word.specs.declared.pointer.Place.{Place}
 use Rattle.far_word.specs.declared.pointer.PtrWord.{PtrWord}
 use Rattle.far_word.specs.declared.pointer.PtrWord.TheVariants as pointer
-use Rattle.std.specs.Prelude.{◌==◌, ◌||◌, ◌&&◌, not}
+use Rattle.std.specs.Prelude.{◌||◌, ◌&&◌}
 use Rattle.std.proofs.lemmas.Bool.{cases_lt}
-use Rattle.std.proofs.lemmas.Bool.Decides.{nat_tests}
 use native.Mathlib.Decide.{ℕ_discrete}
 use Rattle.far_word.specs.declared.sizes.TheConstants.{CELLS}
 use Rattle.far_word.specs.Pointer.{read_of}
 use Rattle.far_core.specs.declared.event.Kind.TheVariants.{Sealed}
-use Rattle.far_core.specs.events.Advance.{is_among}
 use Rattle.far_core.specs.events.Naming.{is_dropped}
 use Rattle.far_core.specs.laws.Rounds.{OneLogIsABit}
-use Rattle.far_core.specs.state.Law.{HasEvac, Law}
-use Rattle.far_core.specs.state.State.{State, put}
+use Rattle.far_core.specs.state.Law.{Law}
+use Rattle.far_core.specs.state.State.{State}
 use Rattle.far_core.proofs.Cells.{unused}
-use Rattle.far_core.proofs.Put.{put_both}
 use Rattle.far_book.specs.declared.home.Home.TheVariants.{Near, Far}
 use Rattle.far_book.specs.book.Dealing.{has_evac}
 use Rattle.far_hand.specs.Quiet.{IsQuietNear}
-use Rattle.far_hand.specs.Rounds.{MayChoose}
 use Rattle.far_book.specs.book.Fetching.{IsFar}
 use Rattle.far_book.specs.book.Home.{home_of}
 use Rattle.far_book.specs.book.Own.{own_part}
@@ -63,24 +59,6 @@ far_home s p marks is = far_cell s p (read_of (s.cell p)) refl marks is
 
 -- ---- a round of log 0
 module _ (one : OneLogIsABit) (s : State) (some : 0 < s.logs) (sealed : s.kind 0 ≡ Sealed) (all : (p : ℕ) → evac_in (read_of (s.cell p)) ≡ true) where
-  first_log : (l : ℕ) → is_among 1 l ≡ true → l ≡ 0
-  first_log l e = let same : (l == 0) ≡ true = sym (one 0 l (omega arith)) ∙ e in grind (arith, nat_tests)
-
-  evac_of : (o : Option PtrWord) → evac_in o ≡ true → HasEvac (is_among 1) o
-  evac_of (Some (pointer.Near len' ds' place' m')) h len ds place m e among =
-      let same : m ≡ m' = cc in
-      let here : place ≡ place' = cc in
-      let zero : place'.log ≡ 0 = ap (λ (x : Place). x.log) (sym here) ∙ first_log place.log among in
-      ap (λ (x : Marks). x.evac) same ∙ (ap (λ k. not (k == 0) || m'.evac) (sym zero) ∙ h)
-  evac_of None h len ds place m e among = absurd cc
-  evac_of (Some pointer.Free) h len ds place m e among = absurd cc
-  evac_of (Some (pointer.Far len' ds' m')) h len ds place m e among = absurd cc
-
-  pub first_chosen : MayChoose s 1
-  first_chosen = record {
-    shut = λ l e. let z = first_log l e in (subst (λ k. k < s.logs) (sym z) some, ap s.kind z ∙ sealed);
-    marked = λ p. evac_of (read_of (s.cell p)) (all p);
-  }
 
 -- the cells of a heap are marked where those of its pointers are
 pub marked_all : (s : State) → Law (own_part s) → (n : ℕ) → n ≡ CELLS * s.mutators → ((p : ℕ) → p < n → evac_in (read_of (s.cell p)) ≡ true) → (p : ℕ) → evac_in (read_of (s.cell p)) ≡ true
@@ -92,6 +70,3 @@ marked_all s law n is low p = elim (cases_lt p n) [
   ]
 ]
 
-pub marked_more : (s t : State) (k found : ℕ) → t ≡ record s { cell = put s.cell k found } → evac_in (read_of found) ≡ true → ((p : ℕ) → p < k → evac_in (read_of (s.cell p)) ≡ true) →
-    (p : ℕ) → p < k + 1 → evac_in (read_of (t.cell p)) ≡ true
-marked_more s t k found e here low p lt = ap (λ (u : State). evac_in (read_of (u.cell p))) e ∙ put_both (λ w. evac_in (read_of w) ≡ true) s.cell k found p (λ _. here) (λ ne. low p (omega arith))

@@ -6,7 +6,7 @@ use Rattle.std.proofs.lemmas.Bool.{cases_lt}
 use Rattle.std.proofs.lemmas.List.{get_or_append_left, get_or_push}
 use Rattle.far_heap.specs.HeapId.{HeapId}
 use Rattle.far_heap.specs.Mine.{Mine, newcomer}
-use Rattle.far_split.specs.Jobs.{AreJobs, IsJobAt}
+use Rattle.far_split.specs.Jobs.{IsJobAt}
 use Rattle.far_split.specs.declared.run.Job.{Job}
 
 -- the mutators from this one on, of so many
@@ -43,8 +43,3 @@ module _ {K : Type 0} (heap : HeapId) (number : ℕ) (jobs : List (Job K)) (befo
   pub jobs_more : (job : Job K) (more : List (Job K)) → IsJobAt heap number job → more ≡ jobs ++ job ∷ [] → JobsBefore heap (number + 1) more
   jobs_more job more is pushed = subst (JobsBefore heap (number + 1)) (sym pushed) record { many = omega (arith, length-append jobs (job ∷ []), before.many); each = each_more job is }
 
-  pub jobs_all : (job : Job K) → number ≡ heap.mutators → IsJobAt heap number job → AreJobs heap (jobs ++ job ∷ [])
-  jobs_all job all is = record {
-    many = omega (arith, length-append jobs (job ∷ []), before.many, all);
-    each = λ at other lt. each_more job is at other (omega (arith, lt, length-append jobs (job ∷ []), before.many));
-  }

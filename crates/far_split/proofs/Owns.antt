@@ -50,9 +50,6 @@ module _ (m : Mine) (law : MineLaw m) (p : ℕ) (own : owns m p ≡ true) where
     | inr ne ↦ row_other m.number m.viewed law.many.1 p own true false q ne ∙ sym (put_other (own_in m).viewed p true q ne)
   ]))
 
-  pub views_viewing : (k : ℕ) → views (viewing p (asking p k m)) p ≡ true
-  views_viewing k = row_here m.number m.viewed law.many.1 p own true false
-
   pub own_adopting : m.honest ≡ true → (len ds : ℕ) → own_in (adopting p len ds m) ≡ record (own_in m) { object = put (own_in m).object p (Some (replicate len 0)) }
   own_adopting honest len ds = own_with (Some record { len = len; ds = ds; bytes = zeros_known m.honest len })
       ∙ ap (λ h. record (own_in m) { object = put (own_in m).object p (zeros_known h len) }) honest

@@ -29,10 +29,6 @@ part_longer : (a b : Option (List ℕ)) (xs ys : List ℕ) → AppendsPart a b x
 part_longer a b xs ys (n, below, part) =
     (n, omega (arith, below, length-append xs ys), subst (Appends a b) (sym (take-append-le n xs ys (omega (arith, below)))) part)
 
--- nothing was printed
-pub prints_nothing : (a : Option (List ℕ)) (r : List ℕ) → Prints a r a r fine []
-prints_nothing a r = λ start bytes held. subst (Holds start a r fine) (sym (append-nil bytes)) held
-
 -- a text waits
 pub prints_pushed : (a : Option (List ℕ)) (r s text : List ℕ) → s ≡ r ++ text → Prints a r a s fine text
 prints_pushed a r s text is = λ start bytes held. subst (λ w. Holds start a w fine (bytes ++ text)) (sym is) (held_more start a r text bytes fine held)

@@ -122,17 +122,6 @@ module _ (o : OwnerView) (p i w from : ℕ) (bytes : List ℕ) (at_word : i ≡ 
   }
 
 -- ---- parts after one another
-pub wrote_none : (p from : ℕ) (bytes : List ℕ) (o : OwnerView) → length bytes ≡ 0 → Wrote p from bytes o o
-wrote_none p from bytes o none = record {
-  rest = refl;
-  others = λ q ne. refl;
-  there = refl;
-  len = refl;
-  ds = refl;
-  inside = λ h k lt. absurd (omega arith);
-  before = λ h k lt. refl;
-  after = λ h k le lt. refl;
-}
 
 pub wrote_join : (p from next : ℕ) (xs ys zs : List ℕ) (o u v : OwnerView) → length zs ≡ length xs + length ys → next ≡ from + length xs → next + length ys ≤ len_of (object_at o p) →
     ((k : ℕ) → k < length xs → get_or zs k 0 ≡ get_or xs k 0) → ((k : ℕ) → k < length ys → get_or zs (length xs + k) 0 ≡ get_or ys k 0) →

@@ -1,7 +1,7 @@
 -- What the book's view says stays said.
-use Rattle.std.proofs.Common.{◌≡◌, ◌<◌, ◌^◌, ℕ, Bool, true, false, Option, Some, None, refl, sym, ap, ◌∙◌, arith, bit_or}
-use Rattle.std.specs.Prelude.{◌&&◌, nat_lt, if◌then◌else◌}
-use Rattle.std.proofs.lemmas.Bool.{false≢true, ltb-true, eq-eqb}
+use Rattle.std.proofs.Common.{◌≡◌, ◌<◌, ◌^◌, ℕ, Bool, true, false, Option, Some, None, refl, sym, ap, ◌∙◌, bit_or}
+use Rattle.std.specs.Prelude.{◌&&◌, nat_lt}
+use Rattle.std.proofs.lemmas.Bool.{false≢true, ltb-true}
 use Rattle.std.proofs.Math.Nat.{zero-div}
 use Rattle.far_word.specs.declared.mark.Mark.TheVariants.{Evac}
 use Rattle.far_word.specs.declared.mark.Marks.{Marks}
@@ -12,17 +12,13 @@ use Rattle.far_word.specs.declared.sizes.TheConstants.{MOST_LOGS}
 use Rattle.far_word.specs.Mark.{position}
 use Rattle.far_word.specs.Pointer.{read_of}
 use Rattle.far_word.proofs.PointerLaws.{with_mark_read, without_evac_read}
-use Rattle.far_core.specs.declared.event.Event.TheVariants.{Mark, Clear, Put, Name}
+use Rattle.far_core.specs.declared.event.Event.TheVariants.{Mark}
 use Rattle.far_core.specs.declared.event.Kind.{Kind}
 use Rattle.far_core.specs.declared.event.Kind.TheVariants as kinds
-use Rattle.far_core.specs.declared.naming.Naming.TheVariants.{Stays}
 use Rattle.far_core.specs.events.Advance.{is_among}
 use Rattle.far_core.specs.events.Clear.{evac_cleared}
 use Rattle.far_core.specs.events.Legal.{Legal}
 use Rattle.far_core.specs.events.Mark.{is_sealed}
-use Rattle.far_core.specs.events.Name.{after_naming}
-use Rattle.far_core.specs.events.Naming.{naming_of}
-use Rattle.far_core.specs.events.Step.{after}
 use Rattle.far_core.specs.state.State.{State, put}
 use Rattle.far_core.proofs.Put.{put_same}
 use Rattle.far_hand.specs.Finds.{Finds, body_of}
@@ -76,12 +72,6 @@ module _ (s : State) (p l m : ℕ) (r : IsReady s p l m) where
   pub may_mark : Legal s (Mark p)
   may_mark = (r.few, (here.len, here.ds, here.place, here.marks, here.near, here.within, here.shut))
 
-  pub may_clear : Legal s (Clear p)
-  may_clear = (r.few, (here.len, here.ds, here.place, here.marks, here.near))
-
-  pub may_put : (at word : ℕ) → at < 8 → Legal s (Put l at word)
-  may_put at word low = (r.some_log, r.unsealed, omega (arith, r.empty), omega arith)
-
   -- another word in the cell
   ready_at : (w : ℕ) → lies_sealed s.logs s.kind (read_of w) ≡ true → ReadyBy s.mutators s.logs s.kind s.tail (put s.cell p w) p l m
   ready_at w near = record {
@@ -95,9 +85,6 @@ module _ (s : State) (p l m : ℕ) (r : IsReady s p l m) where
 
   found_lies : (w : ℕ) → Finds (s.cell p) w → lies_sealed s.logs s.kind (read_of w) ≡ true
   found_lies w f = sym (same_body s.logs s.kind (read_of w)) ∙ (ap (lies_sealed s.logs s.kind) f.body ∙ (same_body s.logs s.kind (read_of (s.cell p)) ∙ r.near))
-
-  pub ready_found : (w : ℕ) → Finds (s.cell p) w → ReadyBy s.mutators s.logs s.kind s.tail (put s.cell p w) p l m
-  ready_found w f = ready_at w (found_lies w f)
 
   pub ready_marked : (w : ℕ) → w < 2 ^ 64 → Finds (s.cell p) w → ReadyBy s.mutators s.logs s.kind s.tail (put s.cell p (bit_or w (2 ^ position Evac))) p l m
   ready_marked w fits f =
@@ -113,17 +100,6 @@ module _ (s : State) (p l m : ℕ) (r : IsReady s p l m) where
 
   -- a naming by which the object stays
   module _ (old new : ℕ) (seen : s.cell p ≡ old) (stay : IsStay old new) where
-    pub may_stay : Legal s (Name p old new)
-    may_stay = (r.few, (Stays, stay.says, tt))
-
-    pub after_stay : after s (Name p old new) ≡ record s { cell = put s.cell p new }
-    after_stay = ap (λ b. if b then after_naming s p new (naming_of (read_of old) (read_of new)) else s) (eq-eqb (s.cell p) old seen) ∙ ap (after_naming s p new) stay.form
-
-    pub ready_stay : ReadyBy s.mutators s.logs s.kind s.tail (put s.cell p new) p l m
-    ready_stay =
-        let y = stay.says in
-        let near = ap (lies_sealed s.logs s.kind) y.8 ∙ (sym (ap (lies_sealed s.logs s.kind) y.4) ∙ (ap (λ w. lies_sealed s.logs s.kind (read_of w)) (sym seen) ∙ r.near)) in
-        ready_at new near
 
 -- no logs may always be a round's
 none_among : (l : ℕ) → is_among 0 l ≡ false

@@ -23,10 +23,6 @@ pub onto_one_more : (front : List Command) (command : Command) (rest : Result (L
 onto_one_more front command (Ok commands) = ap Ok (append_assoc front (command ∷ []) commands)
 onto_one_more front command (Err number) = refl
 
-pub onto_none : (rest : Result (List Command) ℕ) → onto_all [] rest ≡ rest
-onto_none (Ok commands) = refl
-onto_none (Err number) = refl
-
 pub few_lines : (text : List ℕ) → length (lines_of text) ≤ length text + 1
 few_lines text = omega (arith, length-slice_split (λ b. b == 10) text, count_by-le-length (λ b. b == 10) text)
 
@@ -88,16 +84,6 @@ map_append f (x ∷ xs) ys = ap (λ l. f x ∷ l) (map_append f xs ys)
 pub none_first : (command : Option Command) (number : ℕ) (lines : List (List ℕ)) (later : Result Found ℕ) → found_at number (saying (option_map CommandLine command)) lines later ≡ Err number
 none_first None number lines later = refl
 none_first (Some c) number lines later = refl
-
--- a command that can be kept, as it is spelled
-pub kept_line : (old new : List Command) (command : Option Command) → option_map (λ c. old ++ c ∷ []) command ≡ Some new → with_line old (saying (option_map CommandLine command)) ≡ Some new
-kept_line old new None e = absurd (none-some new e)
-kept_line old new (Some c) e = e
-
--- and one that can't
-pub other_line : (old : List Command) (command : Option Command) → option_map (λ c. old ++ c ∷ []) command ≡ None → with_line old (saying (option_map CommandLine command)) ≡ None
-other_line old None e = refl
-other_line old (Some c) e = e
 
 -- a line that was read
 pub line_added : (old new : List Command) (line : Line) → with_line old line ≡ Some new →

@@ -23,10 +23,6 @@ pub onto_one_line : (front : List (ℕ × Command)) (line : ℕ × Command) (res
 onto_one_line front line (Ok lines) = ap Ok (append_assoc front (line ∷ []) lines)
 onto_one_line front line (Err number) = refl
 
-pub onto_no_line : (rest : Result (List (ℕ × Command)) ℕ) → onto_all_lines [] rest ≡ rest
-onto_no_line (Ok lines) = refl
-onto_no_line (Err number) = refl
-
 -- a text that is not too long is its lines
 pub split_short : (text : List ℕ) → length text ≤ LONGEST_TEXT → split_of text ≡ split_from (heap_sought 1 (lines_of text))
 split_short text h = rw (within LONGEST_TEXT (length text) h) refl

@@ -130,10 +130,6 @@ bit b = cond b 1 0
 abbrev pub count : Option PtrWord → ℕ
 count o = bit (marks_in o).hot + bit (marks_in o).moved + bit (marks_in o).dropped
 
-bit_most : (b : Bool) → bit b ≤ 1
-bit_most true = omega arith
-bit_most false = omega arith
-
 bit_grows : (a b : Bool) → (a ≡ true → b ≡ true) → bit a ≤ bit b
 bit_grows true b h = let e : bit b ≡ 1 = ap bit (h refl) in omega arith
 bit_grows false b h = omega arith
@@ -174,9 +170,6 @@ some_dropped (Some v) h = refl
 same_word : (v w : ℕ) (o : Option PtrWord) → v < 2 ^ 64 → w < 2 ^ 64 → read_of v ≡ o → read_of w ≡ o → IsSome o → w ≡ v
 same_word v w None fv fw ev ew some = absurd (false≢true some)
 same_word v w (Some u) fv fw ev ew some = sym (read_says w u fw ew).1 ∙ (read_says v u fv ev).1
-
-pub count_most : (o : Option PtrWord) → count o ≤ 3
-count_most o = omega (arith, bit_most (marks_in o).hot, bit_most (marks_in o).moved, bit_most (marks_in o).dropped)
 
 pub count_more : (v w : ℕ) → v < 2 ^ 64 → w < 2 ^ 64 → IsSome (read_of v) → Finds v w → w ≢ v → count (read_of v) < count (read_of w)
 count_more v w fv fw some f other = elim (cases_lt (count (read_of v)) (count (read_of w))) [

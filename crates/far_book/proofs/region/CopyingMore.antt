@@ -14,11 +14,6 @@ module _ (t u : State) (from to : Place) where
       let far : m + j ≤ words_for len = omega (arith, fits, few) in
       (s, p, len, ds, may, subst (Copying s u p len ds from to) same (copied s p len ds may le (subst (Copying s t p len ds from to) (sym first) copying)), far)
 
-  -- the first ones alone
-  pub may_few : (n r m j : ℕ) → m ≡ n → j ≤ r → CopiesMore t from to n r → CopiesMore t from to m j
-  may_few n r m j first fits (s, p, len, ds, may, copying, few) =
-      let far : m + j ≤ words_for len = omega (arith, first, fits, few) in (s, p, len, ds, may, subst (Copying s t p len ds from to) (sym first) copying, far)
-
 module _ (t u v : State) (from to : Place) (n k m j r : ℕ) (next : m ≡ n + k) (sum : r ≡ k + j) where
   pub copied_both : HasCopied t u from to n k → HasCopied u v from to m j → HasCopied t v from to n r
   copied_both a b s p len ds may few copying =

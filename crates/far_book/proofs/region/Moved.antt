@@ -102,9 +102,6 @@ module _ (s : State) (p : ℕ) (q : IsQuietNear s p) (len ds : ℕ) (place : Pla
   pub goal_there : m.evac ≡ true → goal s p ≡ room s (size_of len) false
   goal_there wanted = ap (goal_of s) near ∙ ap (λ b. cond b (room s (size_of len) false) (Some place)) wanted
 
-  pub goal_here : m.evac ≡ false → goal s p ≡ Some place
-  goal_here unwanted = ap (goal_of s) near ∙ ap (λ b. cond b (room s (size_of len) false) (Some place)) unwanted
-
 -- ---- a word with DROP was found, and nothing was written but words past the tails
 pub drop_found : (s t u : State) (p w : ℕ) → t ≡ record s { word = t.word } → ((a : ℕ) → a % LOG_WORDS < s.tail (a / LOG_WORDS) → IsKnown (s.word a) → IsKnown (t.word a) → t.word a ≡ s.word a) →
     ((a : ℕ) → s.starts a ≡ true → t.word a ≡ s.word a) → w < 2 ^ 64 → Finds (t.cell p) w → is_dropped (read_of w) ≡ true → u ≡ seen t p w → FindsDrop s u p
