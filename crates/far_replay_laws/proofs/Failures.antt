@@ -131,4 +131,4 @@ failures_are_said text output logs mutators epoch device cs answers reads fits =
     let first = first_moment logs mutators epoch in
     let (os, rs, ms, a, h, is) = in_range first device cs output (is_shape (shape_of logs mutators epoch)) fits (subst (λ (x : Result Trace ℕ). IsOutput x output) reads answers) in
     let said = few (to_fail device) os first cs rs ms a h in
-    (rs, ms, answered_by os first cs rs ms h, is, said.0, at_most_one device, said.1)
+    (rs, ms, answered_by os first cs rs ms h, is, (said.0, at_most_one device, said.1))

@@ -1,5 +1,5 @@
 -- Which marks a dereference leaves, whether it is refused or not.
-use Rattle.std.proofs.Common.{◌≡◌, ◌≢◌, ℕ, ◌/◌, ◌^◌, Bool, true, false, not, nat_lt, nat_eq, refl, sym, ap, subst, ◌∙◌, is_some, Option, Some, None, Ok, List, [], ◌∷◌, ◌++◌, length, bit_or, if◌then◌else◌}
+use Rattle.std.proofs.Common.{◌≡◌, ◌≢◌, ℕ, ◌/◌, ◌^◌, Bool, true, false, not, nat_lt, nat_eq, refl, sym, ap, subst, ◌∙◌, is_some, Option, Some, None, List, [], ◌∷◌, ◌++◌, length, bit_or, if◌then◌else◌}
 use Rattle.std.specs.Prelude.{◌&&◌, ◌||◌}
 use Rattle.std.proofs.lemmas.Bool.{and_parts, cond_both, false≢true, not-false, not-true}
 use Rattle.far_word.specs.declared.mark.Mark.TheVariants.{Hot}
@@ -13,23 +13,20 @@ use Rattle.far_word.specs.Mark.{position}
 use Rattle.far_word.specs.Pointer.{read_of}
 use Rattle.far_core.specs.events.Step.{after_pin, is_opened, place_to_view}
 use Rattle.far_core.specs.state.Law.{Law, in_use}
-use Rattle.far_core.specs.state.Shape.{is_shape}
 use Rattle.far_core.specs.state.State.{State}
 use Rattle.far_core.proofs.Cells.{map_mark, read_hot}
 use Rattle.far_core.proofs.Put.{put_other, put_same}
 use Rattle.far_core.proofs.Bounds.{some_of}
-use Rattle.far_log.proofs.Members.{All-from}
-use Rattle.far_text.specs.Command.{Command, Heap, New, Open, Write, Read, Close, Where, Drop, View, Try, Epoch, Mutator, Book, Evacuator, Device as SaidDevice}
-use Rattle.far_text.specs.Grammar.{trace_of}
+use Rattle.far_text.specs.Command.{Command, New, Open, Write, Read, Close, Where, Drop, View, Try, Epoch, Mutator, Book, Evacuator}
 use Rattle.far_text.specs.Written.{AllWriteBytes}
-use Rattle.far_replay.specs.Answers.{Answered, Answers, Commanded, Served, Unbrought, IsMoment, first_moment, shape_of}
+use Rattle.far_replay.specs.Answers.{Answered, Commanded, Served, Unbrought, IsMoment}
 use Rattle.far_replay.specs.Commanded.{KeepsFar}
 use Rattle.far_replay.proofs.Outcomes.{by_outcome}
 use Rattle.far_replay.specs.Dereference.{come, comes_to, dereferenced, has_no_room, sought}
 use Rattle.far_replay.specs.Effects.{is_slow, with_data, with_view}
 use Rattle.far_replay.specs.Events.{come_events}
 use Rattle.far_replay.specs.Taking.{LacksRoom}
-use Rattle.far_replay_laws.specs.LeftMarks.{AllLeaveMarks, GainsForRoom, GainsHot, IsHotAlone, LeavesHot, LeavesMarks, MarksAreLeft, OthersStay, RefusedLeaves, TryLeaves, ViewedAreHot, is_hot}
+use Rattle.far_replay_laws.specs.LeftMarks.{AllLeaveMarks, GainsForRoom, GainsHot, IsHotAlone, LeavesHot, LeavesMarks, OthersStay, RefusedLeaves, TryLeaves, is_hot}
 use Rattle.far_replay.specs.Moment.{Moment}
 use Rattle.far_replay.specs.Objects.{uses}
 use Rattle.far_replay.specs.Reply.{Reply, Refused}
@@ -38,10 +35,9 @@ use Rattle.far_replay.proofs.Bringing.{asked_keeps, brought_keeps, slow_unheld}
 use Rattle.far_replay.proofs.Brought.{brought}
 use Rattle.far_replay.proofs.Dereferences.{sought_lacks, sought_law, sought_may, sought_word}
 use Rattle.far_replay.proofs.Drops.{unheld_is, viewed_is}
-use Rattle.far_replay_laws.proofs.HotViews.{moment_hot, views_are_hot}
-use Rattle.far_replay.proofs.Lasting.{each_is_moment, first_is_moment, moment_lasts, next_is_moment}
+use Rattle.far_replay_laws.proofs.HotViews.{moment_hot}
+use Rattle.far_replay.proofs.Lasting.{moment_lasts, next_is_moment}
 use Rattle.far_replay.proofs.Leading.{leads_law}
-use Rattle.far_replay_laws.proofs.OutputLaws.{outputs_sound}
 use Rattle.far_replay_laws.proofs.Refusals.{EachFirst, among}
 use Rattle.far_replay.proofs.TakingView.{asked_word}
 use Rattle.far_replay.proofs.Turns.{access_fact, tried}
@@ -276,25 +272,9 @@ commands_leave now c r next is h = by_outcome now r next (λ d. LeavesMarks now.
     (λ why turns objects policy most count h. tt)
     c h
 
-all_leave : (now : Moment) (cs : List Command) (rs : List Reply) (moments : List Moment) → IsMoment now → AllWriteBytes cs → Answered now cs rs moments → AllLeaveMarks now cs rs moments
+pub all_leave : (now : Moment) (cs : List Command) (rs : List Reply) (moments : List Moment) → IsMoment now → AllWriteBytes cs → Answered now cs rs moments → AllLeaveMarks now cs rs moments
 all_leave now [] rs moments is bytes h = tt
 all_leave now (c ∷ cs) [] moments is bytes h = tt
 all_leave now (c ∷ cs) (r ∷ rs) [] is bytes h = tt
 all_leave now (c ∷ cs) (r ∷ rs) (next ∷ moments) is bytes h =
     (commands_leave now c r next is h.0, all_leave next cs rs moments (next_is_moment now c r next is bytes.0 h.0) bytes.1 h.1)
-
-pub texts_leave : (text output : List ℕ) (logs mutators epoch : ℕ) (device : Option SaidDevice) (cs : List Command) → Answers text output → trace_of text ≡ Ok (Heap logs mutators epoch device cs) →
-    is_shape (shape_of logs mutators epoch) ≡ true → MarksAreLeft logs mutators epoch device cs output
-texts_leave text output logs mutators epoch device cs answers reads fits =
-    let x = outputs_sound text output logs mutators epoch device cs answers reads fits in
-    let first : Moment = first_moment logs mutators epoch in
-    let is = first_is_moment logs mutators epoch fits in
-    record {
-      replies = x.replies;
-      moments = x.moments;
-      answered = x.answered;
-      printed_so = x.printed_so;
-      left = all_leave first cs x.replies x.moments is x.bytes x.answered;
-      hot = All-from (λ (now : Moment). ViewedAreHot now.core) (first ∷ x.moments)
-          (λ y c. views_are_hot y (each_is_moment first cs x.replies x.moments is x.bytes x.answered y c));
-    }

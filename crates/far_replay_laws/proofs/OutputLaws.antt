@@ -41,7 +41,7 @@ use Rattle.far_replay.specs.Answers.{Answered, AnsweredBy, Answers, Commanded, O
 use Rattle.far_replay.specs.Commanded.{KeepsFar}
 use Rattle.far_text.specs.Command.{Command, Trace, Nothing, Heap, New, Open, Write, Read, Close, Where, Drop, View, Try, Epoch, Logs, Mutator, Book, Evacuator, Step, Wait, Device as SaidDevice}
 use Rattle.far_text.specs.Grammar.{trace_of}
-use Rattle.far_replay_laws.specs.Headline.{IsSound, IsWhole, IsSaidBy, TellsAll, TellsLog}
+use Rattle.far_replay_laws.specs.Headline.{IsWhole, IsSaidBy, TellsAll, TellsLog}
 use Rattle.far_replay.specs.Lawful.{Lawful}
 use Rattle.far_text.specs.Written.{AllWriteBytes}
 use Rattle.far_replay.specs.EventRows.{after_events, AllSucceed}
@@ -57,17 +57,10 @@ use Rattle.far_replay.specs.Stays.{MayGain, CellStays, MayMark, MaySee, Sees, St
 use Rattle.far_replay.specs.Rounds.{refused_step}
 use Rattle.far_replay.specs.Turn.{turn_effect, refused_effect, causes, first_cause, refusal, unless, turn_reply, reply_to, log_line, pointer_reply}
 use Rattle.far_replay_laws.proofs.AloneNew.{new_run, is_structure, is_length}
-use Rattle.far_replay_laws.proofs.AloneFirst.{alone_first}
-use Rattle.far_replay.proofs.Answering.{answered_by, answers_all, few_refused}
+use Rattle.far_replay.proofs.Answering.{answers_all, few_refused}
 use Rattle.far_replay.proofs.Outcomes.{by_outcome}
 use Rattle.far_replay_laws.proofs.Kept.{whole}
-use Rattle.far_replay.proofs.Lasting.{first_lasts, first_lawful, command_carried, moment_lasts, moments_last, each_is_moment, first_is_moment}
-use Rattle.far_replay_laws.proofs.Listed.{all_counted}
-use Rattle.far_replay_laws.proofs.PlainReplies.{replies_plain}
-use Rattle.far_replay_laws.proofs.LeftBySteps.{all_leave}
-use Rattle.far_replay_laws.proofs.TurnsTell.{all_told}
-use Rattle.far_replay_laws.proofs.ViewLaws.{logs_stay}
-use Rattle.far_text.proofs.TextLaws.{texts_write}
+use Rattle.far_replay.proofs.Lasting.{first_lawful, command_carried, moment_lasts, each_is_moment}
 use Rattle.far_replay.proofs.Lowest.{lowest_cell_is, no_cell_is}
 use Rattle.far_replay_laws.proofs.Refusals.{turn_is_no_refusal, from_cause}
 use Rattle.far_replay.proofs.RoundLeads.{cell_same, same_clear, stays_same, step_stays}
@@ -517,31 +510,3 @@ pub objects_whole : (now : Moment) (cs : List Command) (rs : List Reply) (moment
     All (λ (x : Moment). IsWhole x.core) (now ∷ moments)
 objects_whole now cs rs moments is bytes h =
     All-from (λ (x : Moment). IsWhole x.core) (now ∷ moments) (λ x c. whole x.core (moment_lasts x (each_is_moment now cs rs moments is bytes h x c)).law)
-
-in_shape : (logs mutators epoch : ℕ) (device : Option SaidDevice) (cs : List Command) (output : List ℕ) (b : Bool) → b ≡ true →
-    MatchBool b ((os : List Outside) × (rs : List Reply) × (moments : List Moment) × FailsAtMost (to_fail device) os × AnsweredBy os (first_moment logs mutators epoch) cs rs moments × (output ≡ flat_map reply_text (opened device ++ rs))) (output ≡ reply_text (Refused Shape)) →
-    (rs : List Reply) × (moments : List Moment) × Answered (first_moment logs mutators epoch) cs rs moments × (output ≡ flat_map reply_text (opened device ++ rs))
-in_shape logs mutators epoch device cs output true e (os, rs, moments, served, h, is) = (rs, moments, answered_by os (first_moment logs mutators epoch) cs rs moments h, is)
-in_shape logs mutators epoch device cs output false e h = absurd cc
-
-pub outputs_sound : (text output : List ℕ) (logs mutators epoch : ℕ) (device : Option SaidDevice) (cs : List Command) → Answers text output → trace_of text ≡ Ok (Heap logs mutators epoch device cs) →
-    is_shape (shape_of logs mutators epoch) ≡ true → IsSound logs mutators epoch device cs output
-outputs_sound text output logs mutators epoch device cs answers reads fits =
-    let bytes : AllWriteBytes cs = texts_write text logs mutators epoch device cs reads in
-    let is : IsMoment (first_moment logs mutators epoch) = first_is_moment logs mutators epoch fits in
-    let (rs, moments, h, e) = in_shape logs mutators epoch device cs output (is_shape (shape_of logs mutators epoch)) fits (subst (λ (x : Result Trace ℕ). IsOutput x output) reads answers) in
-    record {
-      replies = rs;
-      moments = moments;
-      bytes = bytes;
-      answered = h;
-      printed_so = e;
-      plain = replies_plain (first_moment logs mutators epoch) cs rs moments (first_lasts logs mutators epoch fits) bytes h;
-      lawful = moments_last (first_moment logs mutators epoch) cs rs moments is bytes h;
-      whole = objects_whole (first_moment logs mutators epoch) cs rs moments is bytes h;
-      stay = logs_stay (first_moment logs mutators epoch) cs rs moments is bytes h;
-      alone = λ m within. alone_first logs mutators epoch m cs rs moments fits within bytes h;
-      told = all_told (first_moment logs mutators epoch) cs rs moments (first_lasts logs mutators epoch fits) bytes h;
-      left = all_leave (first_moment logs mutators epoch) cs rs moments (first_lasts logs mutators epoch fits) bytes h;
-      counted = all_counted (first_moment logs mutators epoch) cs rs moments (first_lasts logs mutators epoch fits) bytes h;
-    }
