@@ -104,7 +104,7 @@ sound_hot : (logs mutators epoch : ℕ) (device : Option Device) (cs : List Comm
 sound_hot logs mutators epoch device cs output fits x =
     let first = first_moment logs mutators epoch in
     All-from (λ (now : Moment). ViewedAreHot now.core) (first ∷ x.moments)
-        (λ y c. views_are_hot y (each_is_moment first cs x.replies x.moments (first_is_moment logs mutators epoch fits) x.bytes x.answered y c))
+    (λ y c. views_are_hot y (each_is_moment first cs x.replies x.moments (first_is_moment logs mutators epoch fits) x.bytes x.answered y c))
 
 pub texts_say_all : TextsSayAll
 texts_say_all text output logs mutators epoch device cs answers reads fits =
