@@ -267,10 +267,9 @@ turns_try s k p law between = four_causes (Turns s k (Mutator k (Try p))) (not (
 -- where an object is that the mutator uses: that it has one, and near where it is viewed
 tells_home : (s : State) (k p : ℕ) (o : Option PtrWord) (all : List ℕ) → in_use o ≡ true → ((own_of (world_of s) k).viewed p ≡ true → (place : Place) × (held_place o ≡ Some place)) →
     (own_of (world_of s) k).object p ≡ Some all → Knows k (own_of (world_of s) k) (Mutator k (Where p)) (home_reply (home_of o)) (own_of (world_of s) k)
-tells_home s k p None all u viewed is = absurd (false≢true u)
-tells_home s k p (Some Free) all u viewed is = absurd (false≢true u)
 tells_home s k p (Some (Near len ds place marks)) all u viewed is = (refl, (λ _. tt), (all, is))
 tells_home s k p (Some (Far len ds marks)) all u viewed is = (refl, (λ v. let odd : None ≡ Some (viewed v).0 = (viewed v).1 in absurd cc), (all, is))
+tells_home s k p _ all u viewed is = absurd (false≢true u)
 
 -- where it is viewed its cell names the place
 rests_at : (s : State) (k p : ℕ) (o : Option Place) → Law s → uses s k p ≡ true → s.held p ≡ o → (own_of (world_of s) k).viewed p ≡ true → (place : Place) × (held_place (read_of (s.cell p)) ≡ Some place)

@@ -42,16 +42,14 @@ left_out lists housed true e = refl
 left_out lists housed false e = ap (λ b. length (cond b (housed ∷ []) [])) e
 
 one_near : (p : ℕ) (cell : Option PtrWord) → length (filter near_listed (housed_in p cell)) ≡ length (cond (lies_near cell) (p ∷ []) [])
-one_near p None = refl
-one_near p (Some Free) = refl
 one_near p (Some (Near len ds place marks)) = kept near_listed (record { pointer = p; home = homes.Near place marks }) p marks.dropped refl
 one_near p (Some (Far len ds marks)) = left_out near_listed (record { pointer = p; home = homes.Far marks }) marks.dropped refl
+one_near p _ = refl
 
 one_far : (p : ℕ) (cell : Option PtrWord) → length (filter far_listed (housed_in p cell)) ≡ length (cond (lies_far cell) (p ∷ []) [])
-one_far p None = refl
-one_far p (Some Free) = refl
 one_far p (Some (Near len ds place marks)) = left_out far_listed (record { pointer = p; home = homes.Near place marks }) marks.dropped refl
 one_far p (Some (Far len ds marks)) = kept far_listed (record { pointer = p; home = homes.Far marks }) p marks.dropped refl
+one_far p _ = refl
 
 -- ---- all pointers
 module _ (says : Option PtrWord → Bool) (lists : Housed → Bool) (one : (p : ℕ) (cell : Option PtrWord) → length (filter lists (housed_in p cell)) ≡ length (cond (says cell) (p ∷ []) [])) (s : State) where

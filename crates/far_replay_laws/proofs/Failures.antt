@@ -32,24 +32,10 @@ home_unhalted (Some home) why progress e = cc
 
 turn_unhalted : (now : Moment) (c : Command) (why : Refusal) (progress : Progress) → turn_reply now c ≢ Halted why progress
 turn_unhalted now (Mutator m (New len ds)) why progress e = pointer_unhalted (lowest_cell now.core m) why progress e
-turn_unhalted now (Mutator m Open) why progress e = cc
-turn_unhalted now (Mutator m (Write p from bytes)) why progress e = cc
-turn_unhalted now (Mutator m (Read p from len)) why progress e = cc
-turn_unhalted now (Mutator m Close) why progress e = cc
 turn_unhalted now (Mutator m (Where p)) why progress e = home_unhalted (home_of (read_of (now.core.cell p))) why progress e
-turn_unhalted now (Mutator m (Drop p)) why progress e = cc
-turn_unhalted now (Mutator m (View p)) why progress e = cc
-turn_unhalted now (Mutator m (Try p)) why progress e = cc
-turn_unhalted now (Mutator m Epoch) why progress e = cc
 turn_unhalted now (Book Logs) why progress e = cc
-turn_unhalted now (Book (Log l)) why progress e = cc
-turn_unhalted now (Book Audit) why progress e = cc
 turn_unhalted now (Evacuator (Select choice most)) why progress e = cc
-turn_unhalted now (Evacuator (Mark count)) why progress e = cc
-turn_unhalted now (Evacuator Wait) why progress e = cc
-turn_unhalted now (Evacuator (Evacuate count)) why progress e = cc
-turn_unhalted now (Evacuator Abort) why progress e = cc
-turn_unhalted now (Evacuator (Round policy most turns)) why progress e = cc
+turn_unhalted now _ why progress e = cc
 
 unless_unhalted : (o : Option Refusal) (r : Reply) (why : Refusal) (progress : Progress) → r ≢ Halted why progress → unless o Refused r ≢ Halted why progress
 unless_unhalted None r why progress other e = other e
@@ -60,20 +46,9 @@ refused_says Failed other = absurd (other refl)
 refused_says why other = refl
 
 says_of : (r : Reply) → ((why : Refusal) → r ≡ Refused why → why ≢ Failed) → ((why : Refusal) (progress : Progress) → r ≢ Halted why progress) → says_failed r ≡ false
-says_of Done refused halted = refl
-says_of (Pointer p) refused halted = refl
-says_of (Data bytes) refused halted = refl
-says_of (Told lines) refused halted = refl
-says_of (Lies home) refused halted = refl
-says_of (Audited counts) refused halted = refl
-says_of (EpochRead epoch) refused halted = refl
-says_of (Selected logs) refused halted = refl
-says_of (Marked count waiting) refused halted = refl
-says_of Clear refused halted = refl
-says_of (Evacuated progress) refused halted = refl
-says_of (Ended end) refused halted = refl
 says_of (Refused why) refused halted = refused_says why (refused why refl)
 says_of (Halted why progress) refused halted = absurd (halted why progress refl)
+says_of _ refused halted = refl
 
 served_says : (now : Moment) (c : Command) (r : Reply) (next : Moment) → Served now c r next → says_failed r ≡ false
 served_says now c r next h = says_of r

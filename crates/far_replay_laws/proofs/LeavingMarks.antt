@@ -45,27 +45,21 @@ use Rattle.far_replay.proofs.Views.{anew_is, fast_dereference, fast_seen, Alread
 
 -- ---- what a cell says with HOT, and with MOVE
 hot_gained : (o n : Option PtrWord) → in_use o ≡ true → n ≡ map_mark Hot o → GainsHot o n
-hot_gained None n used e = absurd (false≢true used)
-hot_gained (Some Free) n used e = absurd (false≢true used)
 hot_gained (Some (Near len ds place m)) n used e = e
 hot_gained (Some (Far len ds m)) n used e = e
+hot_gained _ n used e = absurd (false≢true used)
 
 wanted : (s : State) (o n : Option PtrWord) → LacksRoom s o → n ≡ asked_word o → GainsForRoom o n
-wanted s None n h e = absurd h
-wanted s (Some Free) n h e = absurd h
 wanted s (Some (Near len ds place m)) n h e = (h.0, e ∙ ap (λ b. Some (Near len ds place record { hot = true; evac = b; moved = true; dropped = m.dropped })) h.0)
 wanted s (Some (Far len ds m)) n h e = e
+wanted s _ n h e = absurd h
 
 -- a pin gives a view of what has no mark but HOT
 bare : (a b c : Bool) (at place : Place) → (if a || b || c then None else Some at) ≡ Some place → (a ≡ false) × (b ≡ false) × (c ≡ false)
-bare true b c at place e = absurd cc
-bare false true c at place e = absurd cc
-bare false false true at place e = absurd cc
 bare false false false at place e = (refl, refl, refl)
+bare _ _ _ at place e = absurd cc
 
 pinned_alone : (o : Option PtrWord) (place : Place) → place_to_view o ≡ Some place → IsHotAlone (map_mark Hot o)
-pinned_alone None place e = absurd cc
-pinned_alone (Some Free) place e = absurd cc
 pinned_alone (Some (Near len ds at m)) place e =
     let none = bare m.evac m.moved m.dropped at place e in (
       len,
@@ -75,7 +69,7 @@ pinned_alone (Some (Near len ds at m)) place e =
           ∙ ap (λ b. Some (Near len ds at record { hot = true; evac = false; moved = b; dropped = m.dropped })) none.1
           ∙ ap (λ b. Some (Near len ds at record { hot = true; evac = false; moved = false; dropped = b })) none.2,
     )
-pinned_alone (Some (Far len ds m)) place e = absurd cc
+pinned_alone _ place e = absurd cc
 
 -- ---- the cells after a view
 view_cells : (s : State) (p q : ℕ) → q ≢ p → (with_view s p).cell q ≡ s.cell q
@@ -219,8 +213,6 @@ try_refused now m p why law e = among (λ x. TryLeaves now.core p x (refused_eff
 
 leaves : (now : Moment) (c : Command) (o : Option Refusal) → IsMoment now → refusal now c ≡ o →
     LeavesMarks now.core c (unless o Refused (turn_reply now c)) (unless o (refused_effect now c) (turn_effect now c)).core
-leaves now (Mutator m (New len ds)) o is e = tt
-leaves now (Mutator m Open) o is e = tt
 leaves now (Mutator m (Write p from bytes)) None is e =
     let access = access_fact now.core m p from (length bytes) e in
     leaves_hot now.core (with_data (dereferenced now.core m p) p from bytes) p (left now.core m p (moment_lasts now is).law access.opened access.ours access.room) (moment_hot now is p)
@@ -231,9 +223,6 @@ leaves now (Mutator m (Read p from len)) None is e =
     leaves_hot now.core (dereferenced now.core m p) p (left now.core m p (moment_lasts now is).law access.opened access.ours access.room) (moment_hot now is p)
 leaves now (Mutator m (Read p from len)) (Some why) is e =
     access_refused now m p from len why (refused_effect now (Mutator m (Read p from len))) (moment_lasts now is).law refl refl refl refl e
-leaves now (Mutator m Close) o is e = tt
-leaves now (Mutator m (Where p)) o is e = tt
-leaves now (Mutator m (Drop p)) o is e = tt
 leaves now (Mutator m (View p)) None is e =
     let h = tried (nat_lt m now.core.mutators) (is_opened now.core m) (uses now.core m p) (has_no_room now.core m p) Range Closed NotHeld NoRoom e in
     leaves_hot now.core (dereferenced now.core m p) p (left now.core m p (moment_lasts now is).law h.1 h.2 h.3) (moment_hot now is p)
@@ -242,9 +231,7 @@ leaves now (Mutator m (Try p)) None is e =
     let h = tried (nat_lt m now.core.mutators) (is_opened now.core m) (uses now.core m p) (is_slow now.core p) Range Closed NotHeld (MarkFound (now.core.cell p)) e in
     leaves_hot now.core (with_view now.core p) p (fast_left now.core m p (moment_lasts now is).law h.1 h.2 h.3) (moment_hot now is p)
 leaves now (Mutator m (Try p)) (Some why) is e = try_refused now m p why (moment_lasts now is).law e
-leaves now (Mutator m Epoch) o is e = tt
-leaves now (Book inquiry) o is e = tt
-leaves now (Evacuator step) o is e = tt
+leaves now _ o is e = tt
 
 pub served_leaves : (now : Moment) (c : Command) (r : Reply) (next : Moment) → IsMoment now → Served now c r next → LeavesMarks now.core c r next.core
 served_leaves now c r next is h =
@@ -273,8 +260,6 @@ commands_leave now c r next is h = by_outcome now r next (λ d. LeavesMarks now.
     c h
 
 pub all_leave : (now : Moment) (cs : List Command) (rs : List Reply) (moments : List Moment) → IsMoment now → AllWriteBytes cs → Answered now cs rs moments → AllLeaveMarks now cs rs moments
-all_leave now [] rs moments is bytes h = tt
-all_leave now (c ∷ cs) [] moments is bytes h = tt
-all_leave now (c ∷ cs) (r ∷ rs) [] is bytes h = tt
 all_leave now (c ∷ cs) (r ∷ rs) (next ∷ moments) is bytes h =
     (commands_leave now c r next is h.0, all_leave next cs rs moments (next_is_moment now c r next is bytes.0 h.0) bytes.1 h.1)
+all_leave now _ _ _ is bytes h = tt

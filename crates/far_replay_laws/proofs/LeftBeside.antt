@@ -62,11 +62,7 @@ both s t u p a b = record {
 -- a cell is named anew
 named_form : (s : State) (p new : ℕ) (form : Naming) → AllButObject s (naming_row s p new form).after p
 named_form s p new (Places len ds place) = record { cells = λ q ne. put_other s.cell p new q ne; used = λ q ne. refl; views = λ q ne. refl; scopes = λ m. refl; remembered = λ m. refl }
-named_form s p new (Moves len ds from to) = record { cells = λ q ne. put_other s.cell p new q ne; used = λ q ne. refl; views = λ q ne. refl; scopes = λ m. refl; remembered = λ m. refl }
-named_form s p new (Evicts len place) = record { cells = λ q ne. put_other s.cell p new q ne; used = λ q ne. refl; views = λ q ne. refl; scopes = λ m. refl; remembered = λ m. refl }
-named_form s p new (Fetches len ds place) = record { cells = λ q ne. put_other s.cell p new q ne; used = λ q ne. refl; views = λ q ne. refl; scopes = λ m. refl; remembered = λ m. refl }
-named_form s p new Stays = record { cells = λ q ne. put_other s.cell p new q ne; used = λ q ne. refl; views = λ q ne. refl; scopes = λ m. refl; remembered = λ m. refl }
-named_form s p new Retires = record { cells = λ q ne. put_other s.cell p new q ne; used = λ q ne. refl; views = λ q ne. refl; scopes = λ m. refl; remembered = λ m. refl }
+named_form s p new _ = record { cells = λ q ne. put_other s.cell p new q ne; used = λ q ne. refl; views = λ q ne. refl; scopes = λ m. refl; remembered = λ m. refl }
 
 named_by : (s : State) (p new : ℕ) (o : Option Naming) → AllButObject s (after_naming s p new o) p
 named_by s p new None = same s p
@@ -82,43 +78,31 @@ written s p old len ds place row new = let k = named (with_written_span s p len 
     record { cells = k.cells; used = k.used; views = k.views; scopes = k.scopes; remembered = k.remembered }
 
 moved_beside : (s : State) (p : ℕ) (place : Place) (o : Option PtrWord) → AllButObject s (moved_of s p place o) p
-moved_beside s p place None = same s p
-moved_beside s p place (Some Free) = same s p
 moved_beside s p place (Some (Near len ds from marks)) = written s p (s.cell p) len ds place (data_at s.word from) (near_word len ds place)
-moved_beside s p place (Some (Far len ds marks)) = same s p
+moved_beside s p place _ = same s p
 
 stayed_beside : (s : State) (p : ℕ) (o : Option PtrWord) → AllButObject s (stayed_of s p o) p
-stayed_beside s p None = same s p
-stayed_beside s p (Some Free) = same s p
 stayed_beside s p (Some (Near len ds place marks)) = named s p (s.cell p) (near_word len ds place)
-stayed_beside s p (Some (Far len ds marks)) = same s p
+stayed_beside s p _ = same s p
 
 fetched_beside : (s : State) (p : ℕ) (place : Place) (row : ℕ → ℕ) (o : Option PtrWord) → AllButObject s (fetched_of s p place row o) p
-fetched_beside s p place row None = same s p
-fetched_beside s p place row (Some Free) = same s p
-fetched_beside s p place row (Some (Near len ds from marks)) = same s p
 fetched_beside s p place row (Some (Far len ds marks)) = written s p (s.cell p) len ds place row (near_word len ds place)
+fetched_beside s p place row _ = same s p
 
 come_beside : (s : State) (p : ℕ) (x : Option Place) (o : Option PtrWord) → AllButObject s (come_of s p x o) p
-come_beside s p None o = same s p
-come_beside s p (Some place) None = same s p
-come_beside s p (Some place) (Some Free) = same s p
 come_beside s p (Some place) (Some (Near len ds from marks)) = cond_both (has_evac (read_of (s.cell p))) (moved s p place) (stayed s p) (λ (t : State). AllButObject s t p)
     (λ _. moved_beside s p place (read_of (s.cell p))) (λ _. stayed_beside s p (read_of (s.cell p)))
 come_beside s p (Some place) (Some (Far len ds marks)) = fetched_beside s p place (s.stored p) (read_of (s.cell p))
+come_beside s p _ _ = same s p
 
 -- the owner asks
 asked_mark : (s : State) (m p : ℕ) (k : Mark) → AllButObject s (after s (Ask m p k)) p
-asked_mark s m p Hot = record { cells = λ q ne. put_other s.cell p _ q ne; used = λ q ne. refl; views = λ q ne. refl; scopes = λ m. refl; remembered = λ m. refl }
-asked_mark s m p Evac = record { cells = λ q ne. put_other s.cell p _ q ne; used = λ q ne. refl; views = λ q ne. refl; scopes = λ m. refl; remembered = λ m. refl }
-asked_mark s m p Moved = record { cells = λ q ne. put_other s.cell p _ q ne; used = λ q ne. refl; views = λ q ne. refl; scopes = λ m. refl; remembered = λ m. refl }
 asked_mark s m p Dropped = record { cells = λ q ne. put_other s.cell p _ q ne; used = λ q ne. put_other s.used p false q ne; views = λ q ne. refl; scopes = λ m. refl; remembered = λ m. refl }
+asked_mark s m p _ = record { cells = λ q ne. put_other s.cell p _ q ne; used = λ q ne. refl; views = λ q ne. refl; scopes = λ m. refl; remembered = λ m. refl }
 
 asked_beside : (s : State) (m p : ℕ) (o : Option PtrWord) → AllButObject s (sought_of s m p o) p
-asked_beside s m p None = same s p
-asked_beside s m p (Some Free) = same s p
 asked_beside s m p (Some (Near len ds place marks)) = asked_mark s m p Moved
-asked_beside s m p (Some (Far len ds marks)) = same s p
+asked_beside s m p _ = same s p
 
 -- a pin
 hold_other : (held : ℕ → Option Place) (p : ℕ) (o : Option Place) (q : ℕ) → q ≢ p → with_hold held p o q ≡ held q

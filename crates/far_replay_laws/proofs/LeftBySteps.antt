@@ -47,11 +47,10 @@ use Rattle.far_replay_laws.proofs.TurnsTell.{made_so}
 -- ---- each object is what it was
 anywhere_is : (o x : Option Object) → anywhere x ≡ anywhere o → IsAnywhere o x
 anywhere_is None None e = tt
-anywhere_is None (Some x) e = absurd cc
-anywhere_is (Some o) None e = absurd cc
 anywhere_is (Some o) (Some x) e =
     let same : with_home x FarSide ≡ with_home o FarSide = cc in
     (ap (λ (y : Object). y.owner) same, ap (λ (y : Object). y.ds) same, ap (λ (y : Object). y.bytes) same)
+anywhere_is _ _ e = absurd cc
 
 objects_are : (now : Moment) (step : Step) → Law now.core → MomentLaw now → (p : ℕ) → IsAnywhere ((world_of now.core).object p) ((world_of (effect now (Evacuator step)).core).object p)
 objects_are now step law moment p = anywhere_is ((world_of now.core).object p) ((world_of (effect now (Evacuator step)).core).object p) ((step_keeps now step law moment).object p)
@@ -80,12 +79,8 @@ refused_wait now (StillOpen mutator epoch) = polled_still now (first_open now.co
 refused_wait now why = refl
 
 refused_still : (now : Moment) (step : Step) (why : Refusal) → (refused_step now step why).core ≡ record now.core { clear = (refused_step now step why).core.clear }
-refused_still now (Select choice most) why = refl
-refused_still now (Mark count) why = refl
 refused_still now Wait why = refused_wait now why
-refused_still now (Evacuate count) why = refl
-refused_still now Abort why = refl
-refused_still now (Round policy most turns) why = refl
+refused_still now _ why = refl
 
 -- ---- a step that is refused
 refused_rest : (now : Moment) (step : Step) (why : Refusal) → LeavesRest now step (Refused why) (refused_step now step why)
@@ -224,11 +219,10 @@ served_left now step r next lasts h =
 -- ---- one that the device stops
 anywhere_more : (o x y : Option Object) → IsAnywhere o x → IsAnywhere x y → IsAnywhere o y
 anywhere_more None None None h k = tt
-anywhere_more None None (Some y) h k = absurd k
 anywhere_more None (Some x) y h k = absurd h
 anywhere_more (Some o) None y h k = absurd h
-anywhere_more (Some o) (Some x) None h k = absurd k
 anywhere_more (Some o) (Some x) (Some y) h k = (k.0 ∙ h.0, k.1 ∙ h.1, k.2 ∙ h.2)
+anywhere_more _ _ _ h k = absurd k
 
 stop_left : (now : Moment) (why : Refusal) (objects count : ℕ) (r : Reply) (next : Moment) → Lasts now → StopsLeaving why objects now count r next → StepLeaves now (Evacuate count) r next
 stop_left now why objects count r next lasts h =

@@ -167,10 +167,9 @@ gains_hot : (a : Marks) → MayGain a (marks_with Hot a)
 gains_hot a = record { hot = λ _. refl; moved = λ h. h; evac = refl; dropped = refl }
 
 cell_hot : (o : Option PtrWord) → CellStays o (map_mark Hot o)
-cell_hot None = tt
-cell_hot (Some Free) = tt
 cell_hot (Some (Near len ds place marks)) = (refl, refl, refl, gains_hot marks)
 cell_hot (Some (Far len ds marks)) = (refl, refl, gains_hot marks)
+cell_hot _ = tt
 
 -- a try that found a mark leaves HOT
 stays_hot : (s : State) (m p word : ℕ) → Law s → is_opened s m ≡ true → uses s m p ≡ true → is_slow s p ≡ true → CoreStays (Mutator m (Try p)) (Marked word) s (with_view s p)
@@ -204,10 +203,9 @@ gains_both : (a : Marks) → MayGain a (marks_with Moved (marks_with Hot a))
 gains_both a = record { hot = λ _. refl; moved = λ _. refl; evac = refl; dropped = refl }
 
 cell_asked : (o : Option PtrWord) → CellStays o (map_mark Moved (map_mark Hot o))
-cell_asked None = tt
-cell_asked (Some Free) = tt
 cell_asked (Some (Near len ds place marks)) = (refl, refl, refl, gains_both marks)
 cell_asked (Some (Far len ds marks)) = (refl, refl, gains_both marks)
+cell_asked _ = tt
 
 hot_stays : (f g : ℕ → ℕ) (q : ℕ) (o n : Option PtrWord) → n ≡ map_mark Hot o → object_of f g q n ≡ object_of f g q o
 hot_stays f g q o n is = ap (object_of f g q) is ∙ object_of-mark Hot f g q o (λ e. absurd cc)
@@ -236,10 +234,8 @@ module _ (c : Command) (s : State) (m p hot : ℕ) (may : MayMark c NoRoom p) (a
   both = marked_stays c NoRoom s p asked may apart (subst (CellStays (read_of (s.cell p))) (sym asked_is) (cell_asked (read_of (s.cell p)))) (λ f g q. asked_stays f g q (read_of (s.cell p)) (read_of asked) asked_is)
 
   pub stays_asked : (o : Option PtrWord) → CoreStays c NoRoom s (sought_of pinned m p o)
-  stays_asked None = only_hot
-  stays_asked (Some Free) = only_hot
   stays_asked (Some (Near len ds place marks)) = subst (λ (f : ℕ → ℕ). CoreStays c NoRoom s (record s { cell = f })) (sym (put_put s.cell p hot asked)) both
-  stays_asked (Some (Far len ds marks)) = only_hot
+  stays_asked _ = only_hot
 
 stays_sought : (c : Command) (s : State) (m p : ℕ) → MayMark c NoRoom p → ((q : ℕ) → ¬ MayMark c NoRoom q → q ≢ p) → Law s → is_opened s m ≡ true → uses s m p ≡ true → is_slow s p ≡ true → CoreStays c NoRoom s (sought s m p)
 stays_sought c s m p may apart law opened ours slow =
@@ -332,8 +328,7 @@ refuses_unknown now (Mutator k (Drop p)) m e h = first_holds now (Mutator k (Dro
 refuses_unknown now (Mutator k (View p)) m e h = first_holds now (Mutator k (View p)) (not (nat_lt k now.core.mutators)) _ refl (ap not (past now.core m k e h))
 refuses_unknown now (Mutator k (Try p)) m e h = first_holds now (Mutator k (Try p)) (not (nat_lt k now.core.mutators)) _ refl (ap not (past now.core m k e h))
 refuses_unknown now (Mutator k Epoch) m e h = first_holds now (Mutator k Epoch) (not (nat_lt k now.core.mutators)) _ refl (ap not (past now.core m k e h))
-refuses_unknown now (Book inquiry) m e h = absurd e
-refuses_unknown now (Evacuator step) m e h = absurd e
+refuses_unknown now _ m e h = absurd e
 
 unknown_allowed : (now : Moment) (c : Command) (m : ℕ) → IsSaidBy m c → now.core.mutators ≤ m → refusal now c ≢ None
 unknown_allowed now c m e h none =
@@ -371,9 +366,8 @@ logs_tell now r next law h =
 
 -- ---- the lowest cell that is free
 told_pointer : (o : Option Refusal) (x : Option ℕ) (p : ℕ) → Pointer p ≡ unless o Refused (pointer_reply x) → x ≡ Some p
-told_pointer None None p e = absurd cc
 told_pointer None (Some q) p e = let same : p ≡ q = cc in ap Some (sym same)
-told_pointer (Some why) x p e = absurd cc
+told_pointer _ _ p e = absurd cc
 
 pub takes_lowest : (now : Moment) (m len ds p : ℕ) (next : Moment) → Served now (Mutator m (New len ds)) (Pointer p) next →
     (m * CELLS ≤ p) × (p < m * CELLS + CELLS) × (now.core.cell p ≡ 0) × ((q : ℕ) → m * CELLS ≤ q → q < p → now.core.cell q ≢ 0)
@@ -470,8 +464,7 @@ at_number k m A B false e x = ((λ same. absurd (eqb-false k m e (sym same))), (
 pub own_lines : (m : ℕ) (o : Own) (c : Command) (r : Reply) (cs : List Command) (rs : List Reply) → Alone m o (c ∷ cs) (r ∷ rs) →
     (IsSaidBy m c → (q : Own) × Knows m o c r q × Alone m q cs rs) × (¬ IsSaidBy m c → Alone m o cs rs)
 own_lines m o (Mutator k request) r cs rs h = at_number k m _ _ (nat_eq k m) refl h
-own_lines m o (Book inquiry) r cs rs h = ((λ no. absurd no), (λ _. h))
-own_lines m o (Evacuator step) r cs rs h = ((λ no. absurd no), (λ _. h))
+own_lines m o _ r cs rs h = ((λ no. absurd no), (λ _. h))
 
 -- ---- what a new object is
 not_refused : (o : Option Refusal) (x : Option ℕ) (p : ℕ) → Pointer p ≡ unless o Refused (pointer_reply x) → o ≡ None

@@ -84,11 +84,9 @@ module _ (now : Moment) (law : Law now.core) where
   pub plain_step_causes : (step : Step) → ChoosesFew step → EachCause IsRefusalToldInFull (step_causes now step)
   plain_step_causes (Select (By policy) most) bytes = (tt, (tt, tt))
   plain_step_causes (Select (Script logs) most) bytes = (tt, (tt, plain_judged logs (find (is_bad (rows_in now) most logs) (range_with_len 0 (length logs))) bytes.0))
-  plain_step_causes (Mark count) bytes = (tt, tt)
   plain_step_causes Wait bytes = (tt, plain_wait (polled now.core) (polls_is now))
-  plain_step_causes (Evacuate count) bytes = (tt, tt)
-  plain_step_causes Abort bytes = (tt, tt)
   plain_step_causes (Round policy most turns) bytes = (tt, (tt, tt))
+  plain_step_causes _ bytes = (tt, tt)
 
 -- ---- rounds: no sum of turns is too large
 record Stands (r : Turned) : Type 0 where
@@ -179,16 +177,15 @@ module _ (now : Moment) (law : Law now.core) (moment : MomentLaw now) where
       let may = begins now (choice_causes given) e in
       plain_chosen (logs_given given) (chooses now given choice most moment refl may.1)
   plain_step (Mark count) e = (few_marked count, plain_waiting count)
-  plain_step Wait e = tt
   plain_step (Evacuate count) e =
       let w = walked now count in
       let walks = walk_is now count in
       let leaves = evacuating_is now.phase (none_first (not (is_evacuating now.phase)) WrongPhase [] e).0 in
       let ready = risen_is_ready now (own_law now.core law) moment (ap has_risen leaves) in
       plain_tally w.tally (is_done w) (bounded_alone w.tally (walk_bounded now nothing within ready walks.0 w walks.1.walks))
-  plain_step Abort e = tt
   plain_step (Round policy most turns) e =
       let logs = chosen_by policy (rows_in now) most in
       let may = begins now [] e in
       let chosen = policy_chooses now policy most moment in
       plain_round now logs turns (selecting now logs law moment may.0.idle may.0.left chosen.once chosen.of_order)
+  plain_step _ e = tt

@@ -73,28 +73,23 @@ step_listed : (now : Moment) (step : Step) → EachFirst (MayRefuse (Evacuator s
 step_listed now (Select (By policy) most) = ((λ _. tt), λ _. ((λ _. tt), λ _. tt))
 step_listed now (Select (Script logs) most) =
     ((λ _. tt), λ _. ((λ _. tt), λ _. judged_listed logs most (find (is_bad (rows_in now) most logs) (range_with_len 0 (length logs)))))
-step_listed now (Mark count) = ((λ _. tt), λ _. tt)
 step_listed now Wait = ((λ _. tt), λ _. polled_listed (polled now.core))
-step_listed now (Evacuate count) = ((λ _. tt), λ _. tt)
-step_listed now Abort = ((λ _. tt), λ _. tt)
 step_listed now (Round policy most turns) = ((λ _. tt), λ _. ((λ _. tt), λ _. tt))
+step_listed now _ = ((λ _. tt), λ _. tt)
 
 -- the causes of each command are those that it may be refused for, where its object is at hand
 causes_listed : (now : Moment) (c : Command) → Law now.core → IsAtHandFor now c → EachFirst (MayRefuse c) (causes now c)
 causes_listed now (Mutator m (New len ds)) law hand = ((λ _. tt), λ _. ((λ _. tt), λ _. ((λ _. tt), λ _. ((λ _. tt), λ _. tt))))
-causes_listed now (Mutator m Open) law hand = ((λ _. tt), λ _. ((λ _. tt), λ _. tt))
 causes_listed now (Mutator m (Write p from bytes)) law hand = ((λ _. tt), λ _. ((λ _. tt), λ _. ((λ _. tt), λ used. ((λ _. tt), λ _. ((λ full. absurd (true≢false (sym full ∙ room_at now.core m p law hand used))), λ _. tt)))))
 causes_listed now (Mutator m (Read p from len)) law hand = ((λ _. tt), λ _. ((λ _. tt), λ _. ((λ _. tt), λ used. ((λ _. tt), λ _. ((λ full. absurd (true≢false (sym full ∙ room_at now.core m p law hand used))), λ _. tt)))))
-causes_listed now (Mutator m Close) law hand = ((λ _. tt), λ _. ((λ _. tt), λ _. tt))
-causes_listed now (Mutator m (Where p)) law hand = ((λ _. tt), λ _. ((λ _. tt), λ _. tt))
 causes_listed now (Mutator m (Drop p)) law hand = ((λ _. tt), λ _. ((λ _. tt), λ _. ((λ _. tt), λ _. tt)))
 causes_listed now (Mutator m (View p)) law hand = ((λ _. tt), λ _. ((λ _. tt), λ _. ((λ _. tt), λ used. ((λ full. absurd (true≢false (sym full ∙ room_at now.core m p law hand used))), λ _. tt))))
 causes_listed now (Mutator m (Try p)) law hand = ((λ _. tt), λ _. ((λ _. tt), λ _. ((λ _. tt), λ used. ((λ slow. absurd (true≢false (sym slow ∙ fast_at now.core m p law hand used))), λ _. tt))))
-causes_listed now (Mutator m Epoch) law hand = ((λ _. tt), λ _. ((λ _. tt), λ _. tt))
 causes_listed now (Book Logs) law hand = tt
 causes_listed now (Book (Log l)) law hand = ((λ _. tt), λ _. tt)
 causes_listed now (Book Audit) law hand = tt
 causes_listed now (Evacuator step) law hand = step_listed now step
+causes_listed now _ law hand = ((λ _. tt), λ _. ((λ _. tt), λ _. tt))
 
 -- what isn't refused is no refusal
 pointer_is_no_refusal : (o : Option ℕ) (why : Refusal) → pointer_reply o ≢ Refused why
@@ -107,24 +102,10 @@ home_is_no_refusal (Some home) why e = cc
 
 pub turn_is_no_refusal : (now : Moment) (c : Command) (why : Refusal) → turn_reply now c ≢ Refused why
 turn_is_no_refusal now (Mutator m (New len ds)) why e = pointer_is_no_refusal (lowest_cell now.core m) why e
-turn_is_no_refusal now (Mutator m Open) why e = cc
-turn_is_no_refusal now (Mutator m (Write p from bytes)) why e = cc
-turn_is_no_refusal now (Mutator m (Read p from len)) why e = cc
-turn_is_no_refusal now (Mutator m Close) why e = cc
 turn_is_no_refusal now (Mutator m (Where p)) why e = home_is_no_refusal (home_of (read_of (now.core.cell p))) why e
-turn_is_no_refusal now (Mutator m (Drop p)) why e = cc
-turn_is_no_refusal now (Mutator m (View p)) why e = cc
-turn_is_no_refusal now (Mutator m (Try p)) why e = cc
-turn_is_no_refusal now (Mutator m Epoch) why e = cc
 turn_is_no_refusal now (Book Logs) why e = cc
-turn_is_no_refusal now (Book (Log l)) why e = cc
-turn_is_no_refusal now (Book Audit) why e = cc
 turn_is_no_refusal now (Evacuator (Select choice most)) why e = cc
-turn_is_no_refusal now (Evacuator (Mark count)) why e = cc
-turn_is_no_refusal now (Evacuator Wait) why e = cc
-turn_is_no_refusal now (Evacuator (Evacuate count)) why e = cc
-turn_is_no_refusal now (Evacuator Abort) why e = cc
-turn_is_no_refusal now (Evacuator (Round policy most turns)) why e = cc
+turn_is_no_refusal now _ why e = cc
 
 pub from_cause : (o : Option Refusal) (r : Reply) (why : Refusal) → (r ≢ Refused why) → unless o Refused r ≡ Refused why → o ≡ Some why
 from_cause None r why none e = absurd (none e)

@@ -31,10 +31,8 @@ use Rattle.far_replay_laws.proofs.StepsTell.{all_freed, ended_phase, place_or, t
 -- ---- where the cells say the same but for EVAC, the same lies in each log
 module _ (s u : State) (p : ℕ) (same : but_evac (read_of (u.cell p)) ≡ but_evac (read_of (s.cell p))) where
   lies_by : (l len ds : ℕ) (place : Place) (marks : Marks) (o : Option PtrWord) → read_of (s.cell p) ≡ o → but_evac (Some (Near len ds place marks)) ≡ but_evac o → place.log ≡ l → LiesIn s p l
-  lies_by l len ds place marks None was e log = absurd (true≢false (ap is_near e))
-  lies_by l len ds place marks (Some Free) was e log = absurd (true≢false (ap is_near e))
   lies_by l len ds place marks (Some (Near n d at old)) was e log = (n, d, at, old, was, sym (ap (λ (x : Place). x.log) (ap (place_or place) e)) ∙ log)
-  lies_by l len ds place marks (Some (Far n d old)) was e log = absurd (true≢false (ap is_near e))
+  lies_by l len ds place marks _ was e log = absurd (true≢false (ap is_near e))
 
   lay : (l : ℕ) → LiesIn u p l → LiesIn s p l
   lay l (len, ds, place, marks, near, log) = lies_by l len ds place marks (read_of (s.cell p)) refl (ap but_evac (sym near) ∙ same) log

@@ -123,9 +123,7 @@ takes now (Mutator m (New len ds)) None law moment e = new_takes now.core m len 
     let parts = new_tests now.core m len ds (subst (λ r. refusal now (Mutator m (New len ds)) ≡ r) none e) in
     (parts.2, parts.3))
     (λ none p place cell found. new_taken now.core m len ds p place law (subst (λ r. refusal now (Mutator m (New len ds)) ≡ r) none e) cell found)
-takes now (Mutator m (New len ds)) (Some why) law moment e = none_taken now.core
 takes now (Mutator m Open) None law moment e = celled_takes now.core (with_scope now.core m) refl refl refl refl
-takes now (Mutator m Open) (Some why) law moment e = none_taken now.core
 takes now (Mutator m (Write p from bytes)) None law moment e =
     let at = led now.core m p from (length bytes) law (access_fact now.core m p from (length bytes) e) in
     let t : State = dereferenced now.core m p in
@@ -133,39 +131,31 @@ takes now (Mutator m (Write p from bytes)) None law moment e =
 takes now (Mutator m (Write p from bytes)) (Some NoRoom) law moment e =
     let h = room_lacks (nat_lt m now.core.mutators) (is_opened now.core m) (uses now.core m p) (is_range (object_len now.core p) from (length bytes)) (has_no_room now.core m p) e in
     none_takes now.core m p law h.1 h.2 h.3
-takes now (Mutator m (Write p from bytes)) (Some why) law moment e = none_taken now.core
 takes now (Mutator m (Read p from len)) None law moment e = (led now.core m p from len law (access_fact now.core m p from len e)).takes
 takes now (Mutator m (Read p from len)) (Some NoRoom) law moment e =
     let h = room_lacks (nat_lt m now.core.mutators) (is_opened now.core m) (uses now.core m p) (is_range (object_len now.core p) from len) (has_no_room now.core m p) e in
     none_takes now.core m p law h.1 h.2 h.3
-takes now (Mutator m (Read p from len)) (Some why) law moment e = none_taken now.core
 takes now (Mutator m Close) None law moment e = celled_takes now.core (after_close now.core m) refl refl refl refl
-takes now (Mutator m Close) (Some why) law moment e = none_taken now.core
 takes now (Mutator m (Where p)) None law moment e = none_taken now.core
-takes now (Mutator m (Where p)) (Some why) law moment e = none_taken now.core
 takes now (Mutator m (Drop p)) None law moment e =
     let h = three (nat_lt m now.core.mutators) (uses now.core m p) (is_some (now.core.held p)) Range NotHeld Held e in
     drop_takes now.core m p law (ltb-true m now.core.mutators h.0) h.1 (unheld_is (now.core.held p) h.2) (read_of (now.core.cell p)) refl
-takes now (Mutator m (Drop p)) (Some why) law moment e = none_taken now.core
 takes now (Mutator m (View p)) None law moment e =
     let h = tried (nat_lt m now.core.mutators) (is_opened now.core m) (uses now.core m p) (has_no_room now.core m p) Range Closed NotHeld NoRoom e in
     (derefs now.core m p law h.1 h.2 h.3).takes
 takes now (Mutator m (View p)) (Some NoRoom) law moment e =
     let h = room_last (nat_lt m now.core.mutators) (is_opened now.core m) (uses now.core m p) (has_no_room now.core m p) e in
     none_takes now.core m p law h.1 h.2 h.3
-takes now (Mutator m (View p)) (Some why) law moment e = none_taken now.core
 takes now (Mutator m (Try p)) None law moment e =
     let h = tried (nat_lt m now.core.mutators) (is_opened now.core m) (uses now.core m p) (is_slow now.core p) Range Closed NotHeld (Marked (now.core.cell p)) e in
     view_takes now.core m p law h.1 h.2
 takes now (Mutator m (Try p)) (Some (Marked word)) law moment e =
     let h = marked_last (nat_lt m now.core.mutators) (is_opened now.core m) (uses now.core m p) (is_slow now.core p) (now.core.cell p) word e in
     view_takes now.core m p law h.1 h.2
-takes now (Mutator m (Try p)) (Some why) law moment e = none_taken now.core
 takes now (Mutator m Epoch) None law moment e = celled_takes now.core (with_epoch now.core m) refl refl refl refl
-takes now (Mutator m Epoch) (Some why) law moment e = none_taken now.core
 takes now (Book inquiry) None law moment e = none_taken now.core
-takes now (Book inquiry) (Some why) law moment e = none_taken now.core
 takes now (Evacuator step) o law moment e = step_takes now step o law moment e
+takes now _ (Some why) law moment e = none_taken now.core
 
 served_take : (now : Moment) (c : Command) (r : Reply) (next : Moment) → IsMoment now → Served now c r next → TakesRoom now c r next
 served_take now c r next is h =

@@ -153,9 +153,7 @@ runs_on m (suc n) =
 -- ---- a round
 idle_phase : (phase : Phase) → is_idle phase ≡ true → phase ≡ Idle
 idle_phase Idle h = refl
-idle_phase Marking h = absurd (false≢true h)
-idle_phase Waiting h = absurd (false≢true h)
-idle_phase Evacuating h = absurd (false≢true h)
+idle_phase _ h = absurd (false≢true h)
 
 module _ (now : Moment) (law : Law now.core) (moment : MomentLaw now) (policy : Policy) (most turns : ℕ) (may : refusal now (Evacuator (Round policy most turns)) ≡ None) where
   idle : now.phase ≡ Idle

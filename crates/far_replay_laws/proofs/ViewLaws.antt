@@ -83,12 +83,11 @@ pub reads : (m : ℕ) → Each LeavesViews (ReadsEpoch m ∷ [])
 reads m = (((λ _ _ e. absurd cc), (λ _ e. absurd cc)), tt)
 
 pub news : (m len ds : ℕ) (x : Option ℕ) (y : Option Place) → Each LeavesViews (new_events m len ds x y)
-news m len ds None y = tt
-news m len ds (Some p) None = tt
 news m len ds (Some p) (Some place) =
     Each-append LeavesViews (Puts place.log place.at (head_word p len ds) ∷ zero_puts place (words_for len)) (Names p 0 (near_word len ds place) ∷ Adopts m p ∷ [])
     (((λ _ _ e. absurd cc), (λ _ e. absurd cc)), Each-row LeavesViews (λ i. Puts place.log (place.at + 1 + i) 0) 0 (words_for len) (λ i _. ((λ _ _ e. absurd cc), (λ _ e. absurd cc))))
     (((λ _ _ e. absurd cc), (λ _ e. absurd cc)), (((λ _ _ e. absurd cc), (λ _ e. absurd cc)), tt))
+news m len ds _ _ = tt
 
 pub drop_leaves_views : (s : State) (m p : ℕ) → Each LeavesViews (drop_events s m p)
 drop_leaves_views s m p = (((λ _ _ e. absurd cc), (λ _ e. absurd cc)), (((λ _ _ e. absurd cc), (λ _ e. absurd cc)), (((λ _ _ e. absurd cc), (λ _ e. absurd cc)), tt)))
@@ -116,7 +115,6 @@ made_views now (Mutator m (Read p from len)) told law e small ok =
     let access = access_fact now.core m p from len e in
     subst (λ (t : State). ViewsObject now.core t p) (sym (read_leads now.core m p from len law access).ends) (led now.core m p from len law access).views
 made_views now (Mutator m Close) told law e small ok = close_views now.core m ok.0
-made_views now (Mutator m (Where p)) told law e small ok = refl
 made_views now (Mutator m (Drop p)) told law e small ok = row_stays now.core (drop_events now.core m p) (drop_leaves_views now.core m p)
 made_views now (Mutator m (View p)) told law e small ok =
     let h = tried (nat_lt m now.core.mutators) (is_opened now.core m) (uses now.core m p) (has_no_room now.core m p) Range Closed NotHeld NoRoom e in
@@ -126,8 +124,8 @@ made_views now (Mutator m (Try p)) told law e small ok =
     let h = tried (nat_lt m now.core.mutators) (is_opened now.core m) (uses now.core m p) (is_slow now.core p) Range Closed NotHeld (Marked (now.core.cell p)) e in
     subst (λ (t : State). ViewsObject now.core t p) (sym (view_is now.core m p law h.1 h.2)) (view_views now.core m p law h.1 h.2 (fast_seen now.core p h.3))
 made_views now (Mutator m Epoch) told law e small ok = row_stays now.core (ReadsEpoch m ∷ []) (reads m)
-made_views now (Book inquiry) told law e small ok = refl
 made_views now (Evacuator step) told law e small ok = absurd told
+made_views now _ told law e small ok = refl
 
 -- the pin that found a mark leaves the views
 slow_stays : (s : State) (m p : ℕ) → Law s → is_opened s m ≡ true → uses s m p ≡ true → is_slow s p ≡ true → (after_events s (view_events s m p)).held ≡ s.held
@@ -142,30 +140,19 @@ asked_stays s m p law opened ours full =
 -- what a refusal leaves
 refused_views : (now : Moment) (c : Command) (why : Refusal) → Law now.core → refusal now c ≡ Some why →
     ViewsAfter now.core c (Refused why) (after_events now.core (refused_events now c why))
-refused_views now (Mutator m (New len ds)) why law e = refl
-refused_views now (Mutator m Open) why law e = refl
 refused_views now (Mutator m (Write p from bytes)) NoRoom law e =
     let h = room_lacks (nat_lt m now.core.mutators) (is_opened now.core m) (uses now.core m p) (is_range (object_len now.core p) from (length bytes)) (has_no_room now.core m p) e in
     asked_stays now.core m p law h.1 h.2 h.3
-refused_views now (Mutator m (Write p from bytes)) why law e = refl
 refused_views now (Mutator m (Read p from len)) NoRoom law e =
     let h = room_lacks (nat_lt m now.core.mutators) (is_opened now.core m) (uses now.core m p) (is_range (object_len now.core p) from len) (has_no_room now.core m p) e in
     asked_stays now.core m p law h.1 h.2 h.3
-refused_views now (Mutator m (Read p from len)) why law e = refl
-refused_views now (Mutator m Close) why law e = refl
-refused_views now (Mutator m (Where p)) why law e = refl
-refused_views now (Mutator m (Drop p)) why law e = refl
 refused_views now (Mutator m (View p)) NoRoom law e =
     let h = room_last (nat_lt m now.core.mutators) (is_opened now.core m) (uses now.core m p) (has_no_room now.core m p) e in
     asked_stays now.core m p law h.1 h.2 h.3
-refused_views now (Mutator m (View p)) why law e = refl
 refused_views now (Mutator m (Try p)) (Marked word) law e =
     let h = marked_last (nat_lt m now.core.mutators) (is_opened now.core m) (uses now.core m p) (is_slow now.core p) (now.core.cell p) word e in
     slow_stays now.core m p law h.1 h.2 h.3
-refused_views now (Mutator m (Try p)) why law e = refl
-refused_views now (Mutator m Epoch) why law e = refl
-refused_views now (Book inquiry) why law e = refl
-refused_views now (Evacuator step) why law e = refl
+refused_views now _ why law e = refl
 
 views_after : (now : Moment) (c : Command) (o : Option Refusal) → IsNoStep c → Law now.core → refusal now c ≡ o → WritesBytes c → AllSucceed now.core (unless o (refused_events now c) (turn_events now c)) →
     ViewsAfter now.core c (unless o Refused (turn_reply now c)) (after_events now.core (unless o (refused_events now c) (turn_events now c)))
@@ -210,10 +197,8 @@ view_no_close : (s : State) (m p : ℕ) → Each NoClose (view_events s m p)
 view_no_close s m p = cond_both (is_some (s.held p)) [] (Pins m p ∷ []) (Each NoClose) (λ _. tt) (λ _. ((λ _ e. absurd cc), tt))
 
 asked_no_close : (m p : ℕ) (o : Option PtrWord) → Each NoClose (asked_events_of m p o)
-asked_no_close m p None = tt
-asked_no_close m p (Some Free) = tt
 asked_no_close m p (Some (Near len ds place marks)) = ((λ _ e. absurd cc), tt)
-asked_no_close m p (Some (Far len ds marks)) = tt
+asked_no_close m p _ = tt
 
 sought_no_close : (s : State) (m p : ℕ) → Each NoClose (sought_events s m p)
 sought_no_close s m p = Each-append NoClose (view_events s m p) (asked_events (with_view s p) m p) (view_no_close s m p) (asked_no_close m p (read_of ((with_view s p).cell p)))
@@ -223,13 +208,11 @@ span_no_close s p len ds place row = Each-append NoClose (span_events p len ds p
     ((λ _ e. absurd cc), Each-row NoClose (λ i. Puts place.log (place.at + 1 + i) (row i)) 0 (words_for len) (λ i _ _ e. absurd cc)) ((λ _ e. absurd cc), tt)
 
 come_no_close : (s : State) (p : ℕ) (x : Option Place) (o : Option PtrWord) → Each NoClose (come_events_of s p x o)
-come_no_close s p None o = tt
-come_no_close s p (Some place) None = tt
-come_no_close s p (Some place) (Some Free) = tt
 come_no_close s p (Some place) (Some (Near len ds from marks)) =
     cond_both marks.evac (span_events p len ds place (data_at s.word from) ++ name_events s p len ds place) (name_events s p len ds place) (Each NoClose)
     (λ _. span_no_close s p len ds place (data_at s.word from)) (λ _. ((λ _ e. absurd cc), tt))
 come_no_close s p (Some place) (Some (Far len ds marks)) = span_no_close s p len ds place (s.stored p)
+come_no_close s p _ _ = tt
 
 deref_no_close : (s : State) (m p : ℕ) → Each NoClose (dereference_events s m p)
 deref_no_close s m p =
@@ -252,14 +235,10 @@ closes_last now (Mutator m (Write p from bytes)) =
 closes_last now (Mutator m (Read p from len)) =
     let loaded : List Event = load_events m p (first_word from) (words_touched from len) in
     none_closes (dereference_events now.core m p ++ loaded) (Each-append NoClose (dereference_events now.core m p) loaded (deref_no_close now.core m p) (no_close loaded (loads m p (first_word from) (words_touched from len))))
-closes_last now (Mutator m Close) = tt
-closes_last now (Mutator m (Where p)) = tt
 closes_last now (Mutator m (Drop p)) = none_closes (drop_events now.core m p) (no_close (drop_events now.core m p) (drop_leaves_views now.core m p))
 closes_last now (Mutator m (View p)) = none_closes (dereference_events now.core m p) (deref_no_close now.core m p)
 closes_last now (Mutator m (Try p)) = none_closes (view_events now.core m p) (view_no_close now.core m p)
-closes_last now (Mutator m Epoch) = tt
-closes_last now (Book inquiry) = tt
-closes_last now (Evacuator step) = tt
+closes_last now _ = tt
 
 refused_closes_last : (now : Moment) (c : Command) (why : Refusal) → ClosesLast (refused_events now c why)
 refused_closes_last now (Mutator m (Write p from bytes)) NoRoom = none_closes (sought_events now.core m p) (sought_no_close now.core m p)
@@ -285,9 +264,7 @@ each_as now c = each_first (λ why. carried_as c (Refused why) ≡ c) (causes no
 
 turn_as : (now : Moment) (c : Command) → carried_as c (turn_reply now c) ≡ c
 turn_as now (Mutator m (Write p from bytes)) = refl
-turn_as now (Mutator m (Read p from len)) = refl
-turn_as now (Mutator m (View p)) = refl
-turn_as now c = refl
+turn_as now _ = refl
 
 reply_as : (now : Moment) (c : Command) (o : Option Refusal) → refusal now c ≡ o → carried_as c (unless o Refused (turn_reply now c)) ≡ c
 reply_as now c None e = turn_as now c
