@@ -13,7 +13,7 @@ use Rattle.far_evac.specs.MomentLaw.{MomentLaw}
 use Rattle.far_evac.specs.RoundSteps.{advanced, among}
 use Rattle.far_evac.specs.Turns.{Turned, turn_size, turned, turns_made}
 use Rattle.far_evac.specs.Waiting.{after_polling, first_open, polled_to}
-use Rattle.far_evac.specs.Walk.{Walked, Way, Drops, Goes, Moves, ended, is_done, walked}
+use Rattle.far_evac.specs.Walk.{Walked, Way, Moves, ended, is_done, walked}
 use Rattle.far_evac.specs.declared.phase.Phase.{Phase}
 use Rattle.far_evac.specs.declared.phase.Phase.TheVariants.{Idle, Marking, Waiting, Evacuating}
 use Rattle.far_evac.proofs.Bools.{or_left, or_right}

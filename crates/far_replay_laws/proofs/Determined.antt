@@ -1,5 +1,5 @@
 -- A text has one output; and what the outside makes of its commands decides their replies.
-use Rattle.std.proofs.Common.{◌≡◌, ℕ, Bool, true, false, sym, ◌∙◌, ap, refl, subst, Result, Ok, Err, List, [], ◌∷◌, ◌++◌, Option}
+use Rattle.std.proofs.Common.{◌≡◌, ℕ, Bool, true, false, sym, ◌∙◌, ap, refl, subst, Result, Ok, List, [], ◌∷◌, ◌++◌, Option}
 use Rattle.std.specs.Bool.{MatchBool}
 use Rattle.std.specs.List.{flat_map}
 use Rattle.far_word.specs.declared.refused.Refused.{Refused as Refusal}
@@ -13,7 +13,7 @@ use Rattle.far_replay.specs.Answers.{AllServed, AnsweredBy, FailsAtMost, opened,
 use Rattle.far_replay.specs.Rounds.{chosen_by, rows_in}
 use Rattle.far_replay.proofs.Outcomes.{by_stop}
 use Rattle.far_replay_laws.specs.Headline.{NeverFails, OneOutput, OutsideDecides, OutsideDecidesOutput}
-use Rattle.far_text.specs.Command.{Command, Device, Trace, Nothing, Heap, Mutator, Evacuator, Write, Read, View, Evacuate, Policy}
+use Rattle.far_text.specs.Command.{Command, Device, Trace, Heap, Mutator, Evacuator, Write, Read, View, Evacuate, Policy}
 use Rattle.far_text.specs.Grammar.{trace_of}
 use Rattle.far_replay.specs.Moment.{Moment}
 use Rattle.far_replay.specs.Reply.{Reply, Evacuated, Halted, Refused, reply_text}

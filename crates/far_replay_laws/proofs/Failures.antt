@@ -9,12 +9,12 @@ use Rattle.far_book.specs.declared.home.Home.{Home}
 use Rattle.far_word.specs.Pointer.{read_of}
 use Rattle.far_book.specs.book.Home.{home_of}
 use Rattle.far_evac.specs.declared.answers.Progress.{Progress}
-use Rattle.far_text.specs.Command.{Command, Device, Flawed, Fail, Trace, New, Open, Write, Read, Close, Where, Drop, View, Try, Epoch, Logs, Log, Audit, Mutator, Book, Evacuator, Select, Mark, Wait, Evacuate, Abort, Round}
+use Rattle.far_text.specs.Command.{Command, Device, Flawed, Fail, Trace, New, Where, Logs, Mutator, Book, Evacuator, Select}
 use Rattle.far_replay.specs.Answers.{AnsweredBy, FailsAtMost, IsOutput, Outside, Serves, Refuses, Served, Stopped, first_moment, opened, shape_of, to_fail}
 use Rattle.far_replay.specs.Commanded.{KeepsFar}
 use Rattle.far_replay.specs.Moment.{Moment}
 use Rattle.far_replay.specs.Objects.{lowest_cell}
-use Rattle.far_replay.specs.Reply.{Reply, Done, Pointer, Data, Logs as Told, Lies, Audited, EpochRead, Selected, Marked, Clear, Evacuated, Ended, Refused, Halted, reply_text}
+use Rattle.far_replay.specs.Reply.{Reply, Refused, Halted, reply_text}
 use Rattle.far_replay.specs.Turn.{home_reply, pointer_reply, refusal, turn_reply, unless}
 use Rattle.far_replay.proofs.Answering.{answered_by}
 use Rattle.far_replay.proofs.Outcomes.{by_stop}

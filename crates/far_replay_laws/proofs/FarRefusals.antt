@@ -11,7 +11,7 @@ use Rattle.far_evac.specs.declared.answers.Polled.{Polled}
 use Rattle.far_evac.specs.declared.answers.Polled.TheVariants as polls
 use Rattle.far_evac.specs.Waiting.{polled}
 use Rattle.far_policy.specs.Scripted.{is_bad, judged}
-use Rattle.far_text.specs.Command.{Command, New, Open, Write, Read, Close, Where, Drop, View, Try, Epoch, Logs, Log, Audit, Mutator, Book, Evacuator, Step, By, Script, Select, Mark, Wait, Evacuate, Abort, Round}
+use Rattle.far_text.specs.Command.{Command, New, Write, Read, Drop, View, Try, Logs, Log, Audit, Mutator, Book, Evacuator, Step, By, Script, Select, Wait, Round}
 use Rattle.far_replay.specs.Answers.{IsMoment, Served, Unbrought}
 use Rattle.far_replay.specs.Commanded.{KeepsFar, LiesFar}
 use Rattle.far_replay.specs.Moment.{Moment}

@@ -5,7 +5,7 @@ use Rattle.std.proofs.lemmas.Bool.{and_parts, cond_both, false≢true, not-false
 use Rattle.far_word.specs.declared.mark.Mark.TheVariants.{Hot}
 use Rattle.far_word.specs.declared.pointer.Place.{Place}
 use Rattle.far_word.specs.declared.pointer.PtrWord.{PtrWord}
-use Rattle.far_word.specs.declared.pointer.PtrWord.TheVariants.{Free, Near, Far}
+use Rattle.far_word.specs.declared.pointer.PtrWord.TheVariants.{Near, Far}
 use Rattle.far_word.specs.declared.refused.Refused.{Refused as Refusal}
 use Rattle.far_word.specs.declared.refused.Refused.TheVariants.{NoRoom, Closed, NotHeld, Range, Device, Damaged, Marked as MarkFound}
 use Rattle.far_word.specs.declared.sizes.TheConstants.{CELLS}
@@ -17,7 +17,7 @@ use Rattle.far_core.specs.state.State.{State}
 use Rattle.far_core.proofs.Cells.{map_mark, read_hot}
 use Rattle.far_core.proofs.Put.{put_other, put_same}
 use Rattle.far_core.proofs.Bounds.{some_of}
-use Rattle.far_text.specs.Command.{Command, New, Open, Write, Read, Close, Where, Drop, View, Try, Epoch, Mutator, Book, Evacuator}
+use Rattle.far_text.specs.Command.{Command, Write, Read, View, Try, Mutator}
 use Rattle.far_text.specs.Written.{AllWriteBytes}
 use Rattle.far_replay.specs.Answers.{Answered, Commanded, Served, Unbrought, IsMoment}
 use Rattle.far_replay.specs.Commanded.{KeepsFar}

@@ -51,7 +51,7 @@ use Rattle.far_replay.specs.Events.{turn_events, view_events, events_for, new_ev
 use Rattle.far_replay.specs.Objects.{is_range, lowest_cell, object_len, uses, with_range}
 use Rattle.far_word.specs.declared.mark.Marks.{Marks}
 use Rattle.far_word.specs.declared.pointer.PtrWord.{PtrWord}
-use Rattle.far_word.specs.declared.pointer.PtrWord.TheVariants.{Free, Near, Far}
+use Rattle.far_word.specs.declared.pointer.PtrWord.TheVariants.{Near, Far}
 use Rattle.far_word.specs.Pointer.{read_of}
 use Rattle.far_replay.specs.Stays.{MayGain, CellStays, MayMark, MaySee, Sees, Stays}
 use Rattle.far_replay.specs.Rounds.{refused_step}

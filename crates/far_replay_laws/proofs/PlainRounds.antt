@@ -41,7 +41,7 @@ use Rattle.far_evac.proofs.Readiness.{risen_is_ready}
 use Rattle.far_evac.proofs.Rounds.{polls_is}
 use Rattle.far_evac.proofs.Walks.{walk_is}
 use Rattle.far_policy.specs.Scripted.{is_bad, judged}
-use Rattle.far_text.specs.Command.{By, Script, Policy, Step, Select, Mark, Wait, Evacuate, Abort, Round, Evacuator}
+use Rattle.far_text.specs.Command.{By, Script, Policy, Step, Select, Mark, Wait, Evacuate, Round, Evacuator}
 use Rattle.far_text.specs.Written.{ChoosesFew}
 use Rattle.far_replay_laws.specs.Headline.{IsToldInFull, IsRefusalToldInFull, IsWaitToldInFull, AreToldAsNumbers, IsProgressToldInFull, IsEndToldInFull}
 use Rattle.far_replay.specs.Rounds.{choice_causes, chosen_by, given_by, is_evacuating, logs_given, round_told, rows_in, step_causes, step_reply, wait_causes}

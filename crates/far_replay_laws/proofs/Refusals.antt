@@ -17,7 +17,7 @@ use Rattle.far_replay.specs.Moment.{Moment}
 use Rattle.far_replay.specs.Answers.{Commanded, Served}
 use Rattle.far_replay.specs.Commanded.{LiesFar}
 use Rattle.far_replay.proofs.Outcomes.{by_outcome}
-use Rattle.far_text.specs.Command.{Command, New, Open, Write, Read, Close, Where, Drop, View, Try, Epoch, Logs, Log, Audit, Mutator, Book, Evacuator, Step, By, Script, Select, Mark, Wait, Evacuate, Abort, Round}
+use Rattle.far_text.specs.Command.{Command, New, Write, Read, Where, Drop, View, Try, Logs, Log, Audit, Mutator, Book, Evacuator, Step, By, Script, Select, Wait, Round}
 use Rattle.far_replay_laws.specs.Headline.{IsAtHandFor, MayRefuse}
 use Rattle.far_replay.specs.Reply.{Reply, Refused, Halted}
 use Rattle.far_replay.specs.Dereference.{has_no_room}

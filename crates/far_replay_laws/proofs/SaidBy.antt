@@ -2,7 +2,7 @@
 use Rattle.std.proofs.Common.{◌≡◌, ◌≢◌, ℕ, ◌<◌, ◌≤◌, ◌^◌, List, [], ◌∷◌, codes, decimal, get_or, arith, sym, ap, refl, inl, inr, ◌∙◌}
 use Rattle.std.proofs.lemmas.Fmt.{decimal_injective, decimal_is_IsNumeral}
 use Rattle.std.proofs.lemmas.Str.Parse.{digit_at}
-use Rattle.far_text.specs.Command.{Command, CommandLine, New, Open, Write, Read, Close, Where, Drop, View, Try, Epoch, Logs, Log, Audit, Mutator, Book, Evacuator, Policy, Oldest, LeastLive, By, Script, Select, Mark, Wait, Evacuate, Abort, Round}
+use Rattle.far_text.specs.Command.{Command, CommandLine, New, Open, Write, Read, Close, Where, Drop, View, Try, Epoch, Log, Mutator, Book, Evacuator, Policy, Oldest, LeastLive, By, Script, Select, Mark, Evacuate, Round}
 use Rattle.far_replay_laws.specs.Headline.{CountsOthers, IsSaidBy}
 use Rattle.far_text.specs.Says.{Says, policy_name}
 

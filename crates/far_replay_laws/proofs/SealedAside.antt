@@ -3,11 +3,11 @@ use Rattle.std.proofs.Common.{◌≡◌, ℕ, ◌+◌, ◌*◌, ◌/◌, ◌^◌
 use Rattle.std.proofs.lemmas.Bool.{and_parts, cond_both, false≢true}
 use Rattle.std.proofs.lemmas.Bool.Decides.{nat_tests}
 use Rattle.far_word.specs.declared.mark.Mark.{Mark}
-use Rattle.far_word.specs.declared.mark.Mark.TheVariants.{Hot, Evac, Moved, Dropped}
+use Rattle.far_word.specs.declared.mark.Mark.TheVariants.{Hot, Evac, Moved}
 use Rattle.far_word.specs.declared.mark.Marks.{Marks}
 use Rattle.far_word.specs.declared.pointer.Place.{Place}
 use Rattle.far_word.specs.declared.pointer.PtrWord.{PtrWord}
-use Rattle.far_word.specs.declared.pointer.PtrWord.TheVariants.{Free, Near, Far}
+use Rattle.far_word.specs.declared.pointer.PtrWord.TheVariants.{Near, Far}
 use Rattle.far_word.specs.declared.refused.Refused.{Refused as Refusal}
 use Rattle.far_word.specs.declared.refused.Refused.TheVariants.{NoRoom, NoPointer, Length, Closed, NotHeld, Range, Held, Marked}
 use Rattle.far_word.specs.declared.sizes.TheConstants.{CELLS, LOG_WORDS, LONGEST}
@@ -27,7 +27,7 @@ use Rattle.far_book.specs.book.SealedLogs.{KeepsSealed}
 use Rattle.far_book.specs.book.Fetching.{far_len}
 use Rattle.far_book.proofs.region.Owns.{own_law}
 use Rattle.far_book.proofs.region.SealedKept.{one_cell, sealed_logs_kept}
-use Rattle.far_text.specs.Command.{Command, New, Open, Write, Read, Close, Where, Drop, View, Try, Epoch, Mutator, Book, Evacuator}
+use Rattle.far_text.specs.Command.{Command, New, Open, Write, Read, Close, Drop, View, Try, Epoch, Mutator, Evacuator}
 use Rattle.far_replay.specs.Dereference.{come, come_of, comes_to, comes_to_of, dereferenced, has_no_room, sought, sought_of}
 use Rattle.far_replay.specs.Effects.{is_slow, with_data, with_epoch, with_object, with_scope, with_view, without_object}
 use Rattle.far_replay.specs.Events.{IsNoStep, come_events, view_events}

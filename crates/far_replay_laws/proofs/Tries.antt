@@ -6,7 +6,7 @@ use Rattle.far_word.specs.declared.mark.Mark.TheVariants.{Hot}
 use Rattle.far_word.specs.declared.mark.Marks.{Marks}
 use Rattle.far_word.specs.declared.pointer.Place.{Place}
 use Rattle.far_word.specs.declared.pointer.PtrWord.{PtrWord}
-use Rattle.far_word.specs.declared.pointer.PtrWord.TheVariants.{Free, Near, Far}
+use Rattle.far_word.specs.declared.pointer.PtrWord.TheVariants.{Near}
 use Rattle.far_word.specs.declared.refused.Refused.TheVariants.{Closed, NotHeld, Range, Marked}
 use Rattle.far_word.specs.Pointer.{read_of}
 use Rattle.far_core.specs.events.Step.{after_pin, is_opened, place_to_view}
