@@ -1,5 +1,5 @@
 -- Which marks a dereference leaves, whether it is refused or not.
-use Rattle.std.proofs.Common.{◌≡◌, ◌≢◌, ℕ, ◌/◌, ◌^◌, Bool, true, false, not, nat_lt, nat_eq, refl, sym, ap, subst, ◌∙◌, is_some, Option, Some, None, List, [], ◌∷◌, ◌++◌, length, bit_or, if◌then◌else◌}
+use Rattle.std.proofs.Common.{◌≡◌, ◌≢◌, ℕ, ◌/◌, ◌^◌, Bool, true, false, not, nat_lt, nat_eq, refl, sym, ap, subst, ◌∙◌, is_some, Option, Some, None, [], ◌∷◌, ◌++◌, length, bit_or, if◌then◌else◌}
 use Rattle.std.specs.Prelude.{◌&&◌, ◌||◌}
 use Rattle.std.proofs.lemmas.Bool.{and_parts, cond_both, false≢true, not-false, not-true}
 use Rattle.far_word.specs.declared.mark.Mark.TheVariants.{Hot}
@@ -18,15 +18,14 @@ use Rattle.far_core.proofs.Cells.{map_mark, read_hot}
 use Rattle.far_core.proofs.Put.{put_other, put_same}
 use Rattle.far_core.proofs.Bounds.{some_of}
 use Rattle.far_text.specs.Command.{Command, Write, Read, View, Try, Mutator}
-use Rattle.far_text.specs.Written.{AllWriteBytes}
-use Rattle.far_replay.specs.Answers.{Answered, Commanded, Served, Unbrought, IsMoment}
+use Rattle.far_replay.specs.Answers.{Commanded, Served, Unbrought, IsMoment}
 use Rattle.far_replay.specs.Commanded.{KeepsFar}
 use Rattle.far_replay.proofs.Outcomes.{by_outcome}
 use Rattle.far_replay.specs.Dereference.{come, comes_to, dereferenced, has_no_room, sought}
 use Rattle.far_replay.specs.Effects.{is_slow, with_data, with_view}
 use Rattle.far_replay.specs.Events.{come_events}
 use Rattle.far_replay.specs.Taking.{LacksRoom}
-use Rattle.far_replay_laws.specs.LeftMarks.{AllLeaveMarks, GainsForRoom, GainsHot, IsHotAlone, LeavesHot, LeavesMarks, OthersStay, RefusedLeaves, TryLeaves, is_hot}
+use Rattle.far_replay_laws.specs.LeftMarks.{GainsForRoom, GainsHot, IsHotAlone, LeavesHot, LeavesMarks, OthersStay, RefusedLeaves, TryLeaves, is_hot}
 use Rattle.far_replay.specs.Moment.{Moment}
 use Rattle.far_replay.specs.Objects.{uses}
 use Rattle.far_replay.specs.Reply.{Reply, Refused}
@@ -36,7 +35,7 @@ use Rattle.far_replay.proofs.Brought.{brought}
 use Rattle.far_replay.proofs.Dereferences.{sought_lacks, sought_law, sought_may, sought_word}
 use Rattle.far_replay.proofs.Drops.{unheld_is, viewed_is}
 use Rattle.far_replay_laws.proofs.HotViews.{moment_hot}
-use Rattle.far_replay.proofs.Lasting.{moment_lasts, next_is_moment}
+use Rattle.far_replay.proofs.Lasting.{moment_lasts}
 use Rattle.far_replay.proofs.Leading.{leads_law}
 use Rattle.far_replay_laws.proofs.Refusals.{EachFirst, among}
 use Rattle.far_replay.proofs.TakingView.{asked_word}
@@ -258,8 +257,3 @@ commands_leave now c r next is h = by_outcome now r next (λ d. LeavesMarks now.
     (λ why objects count h. tt)
     (λ why turns objects policy most count h. tt)
     c h
-
-pub all_leave : (now : Moment) (cs : List Command) (rs : List Reply) (moments : List Moment) → IsMoment now → AllWriteBytes cs → Answered now cs rs moments → AllLeaveMarks now cs rs moments
-all_leave now (c ∷ cs) (r ∷ rs) (next ∷ moments) is bytes h =
-    (commands_leave now c r next is h.0, all_leave next cs rs moments (next_is_moment now c r next is bytes.0 h.0) bytes.1 h.1)
-all_leave now _ _ _ is bytes h = tt

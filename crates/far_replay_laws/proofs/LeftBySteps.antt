@@ -23,18 +23,17 @@ use Rattle.far_evac.specs.declared.phase.Phase.TheVariants.{Evacuating, Idle}
 use Rattle.far_evac.proofs.Leading.{selecting}
 use Rattle.far_evac.proofs.Marks.{is_given_up, is_marked}
 use Rattle.far_text.specs.Command.{Command, Write, Read, View, Mutator, Book, Evacuator, By, Policy, Step, Select, Mark, Wait, Evacuate, Abort, Round}
-use Rattle.far_text.specs.Written.{AllWriteBytes}
-use Rattle.far_replay.specs.Answers.{Answered, Commanded, Refuses, Served, Serves, StopsLeaving, StopsRound, IsMoment}
+use Rattle.far_replay.specs.Answers.{Commanded, Refuses, Served, Serves, StopsLeaving, StopsRound, IsMoment}
 use Rattle.far_evac.specs.declared.answers.RoundEnd.TheVariants.{Limit}
 use Rattle.far_replay.proofs.Outcomes.{by_outcome}
 use Rattle.far_replay_laws.proofs.Stops.{begun, left_some, stood_so}
-use Rattle.far_replay_laws.specs.Left.{AllLeave, AllStayPut, CellBy, DealsWith, IsAnywhere, Leaves, LeavesRest, MarksBy, SomeStay, StaysMarked, StaysPut, StepLeaves}
+use Rattle.far_replay_laws.specs.Left.{AllStayPut, CellBy, DealsWith, IsAnywhere, Leaves, LeavesRest, MarksBy, SomeStay, StaysMarked, StaysPut, StepLeaves}
 use Rattle.far_replay.specs.Reply.{Reply, Done, Ended, Evacuated, Refused, Selected}
 use Rattle.far_replay.specs.Rounds.{after_round, chosen_by, given_by, is_evacuating, logs_given, refused_step, rows_in, step_effect, step_reply}
 use Rattle.far_replay_laws.specs.Steps.{IsChosen, LiesIn}
 use Rattle.far_replay.specs.Turn.{effect, reply_to, refusal, refused_effect, turn_effect, turn_reply, unless}
 use Rattle.far_replay_laws.proofs.CountedOnce.{all_at, among_in, in_among, member_or_apart}
-use Rattle.far_replay.proofs.Lasting.{Lasts, after_step, moment_lasts, still_lasts}
+use Rattle.far_replay.proofs.Lasting.{Lasts, after_step, moment_lasts}
 use Rattle.far_replay_laws.proofs.LeftByWalks.{IsApart, apart_from, ended_put, framed_put, lay_there, marked_frame, marking_frame, marking_put, polling_put, put_more, put_none, turns_put}
 use Rattle.far_replay_laws.proofs.Unreached.{EvacIs, Fate, cell_still, ended_fate, evac_alone, evac_object, fate_marked, has_stayed, marked_fate, marked_none, turns_fate}
 use Rattle.far_replay.proofs.RoundChoices.{policy_chooses}
@@ -268,7 +267,7 @@ served_so now (Mutator m request) r next lasts h = stands now (Mutator m request
 served_so now (Book inquiry) r next lasts h = stands now (Book inquiry) r next lasts (Serves, h)
 served_so now (Evacuator step) r next lasts h = served_left now step r next lasts h
 
-left_so : (now : Moment) (c : Command) (r : Reply) (next : Moment) → Lasts now → Commanded now c r next → Leaves now c r next
+pub left_so : (now : Moment) (c : Command) (r : Reply) (next : Moment) → Lasts now → Commanded now c r next → Leaves now c r next
 left_so now c r next lasts h = by_outcome now r next (λ d. Leaves now d r next)
     (λ d h. served_so now d r next lasts h)
     (λ why m p from new h. stands now (Mutator m (Write p from new)) r next lasts (Refuses why 0 0, h))
@@ -280,12 +279,3 @@ left_so now c r next lasts h = by_outcome now r next (λ d. Leaves now d r next)
 
 pub steps_left : (now : Moment) (step : Step) (r : Reply) (next : Moment) → IsMoment now → Commanded now (Evacuator step) r next → StepLeaves now step r next
 steps_left now step r next is h = left_so now (Evacuator step) r next (moment_lasts now is) h
-
-pub all_leave : (now : Moment) (cs : List Command) (rs : List Reply) (moments : List Moment) → Lasts now → AllWriteBytes cs → Answered now cs rs moments → AllLeave now cs rs moments
-all_leave now [] [] [] lasts bytes h = tt
-all_leave now [] [] (m ∷ ms) lasts bytes h = absurd h
-all_leave now [] (r ∷ rs) ms lasts bytes h = absurd h
-all_leave now (c ∷ cs) [] ms lasts bytes h = absurd h
-all_leave now (c ∷ cs) (r ∷ rs) [] lasts bytes h = absurd h
-all_leave now (c ∷ cs) (r ∷ rs) (next ∷ ms) lasts bytes h =
-    (left_so now c r next lasts h.0, all_leave next cs rs ms (still_lasts now c r next lasts bytes.0 h.0) bytes.1 h.1)

@@ -12,6 +12,7 @@ use Rattle.far_core.specs.world.WorldOf.{world_of}
 use Rattle.far_replay.specs.Answers.{Answers, Commanded, IsMoment, first_moment, shape_of}
 use Rattle.far_replay.specs.Moment.{Moment}
 use Rattle.far_replay.specs.Reply.{Reply, Done, Data, Refused}
+use Rattle.far_replay_laws.specs.Along.{AllAlong}
 use Rattle.far_text.specs.Command.{Command, Heap, Write, Read, View, Try, Mutator, Device as SaidDevice}
 use Rattle.far_text.specs.Grammar.{trace_of}
 use Rattle.far_replay_laws.specs.Headline.{IsSound}
@@ -89,8 +90,7 @@ LeavesMarks s (Mutator m (Try p)) r t = ⊥
 LeavesMarks s c r t = Unit {0}
 
 abbrev pub AllLeaveMarks : Moment → List Command → List Reply → List Moment → Type 0
-AllLeaveMarks now (c ∷ cs) (r ∷ rs) (after ∷ moments) = LeavesMarks now.core c r after.core × AllLeaveMarks after cs rs moments
-AllLeaveMarks now cs rs moments = Unit {0}
+AllLeaveMarks = AllAlong (λ now c r after. LeavesMarks now.core c r after.core)
 
 -- what is viewed has HOT
 abbrev pub ViewedAreHot : State → Type 0

@@ -11,6 +11,7 @@ use Rattle.far_replay.specs.Moment.{Moment}
 use Rattle.far_replay.specs.Objects.{uses}
 use Rattle.far_replay.specs.Reply.{Reply, Done, Pointer, Refused}
 use Rattle.far_replay.specs.Stays.{Stays}
+use Rattle.far_replay_laws.specs.Along.{AllAlong}
 use Rattle.far_replay_laws.specs.Ages.{KeepsAges}
 use Rattle.far_replay_laws.specs.Epochs.{StepSpends}
 use Rattle.far_replay_laws.specs.Headline.{AnswersDrop, AnswersEpoch, AnswersLog, AnswersNew, AnswersTry, AnswersWhere, IsAtHandFor, IsLowest, IsSound, MakesObject, MayRefuse, OpensAt, TakesRoom, TellsAll, ViewsAfter}
@@ -39,8 +40,7 @@ pub record Said (now : Moment) (c : Command) (r : Reply) (after : Moment) : Type
   pub causes : (why : Refusal) → IsAtHandFor now c → r ≡ Refused why → MayRefuse c why
 
 abbrev pub AllSaid : Moment → List Command → List Reply → List Moment → Type 0
-AllSaid now (c ∷ cs) (r ∷ rs) (after ∷ moments) = Said now c r after × AllSaid after cs rs moments
-AllSaid now cs rs moments = Unit {0}
+AllSaid = AllAlong Said
 
 -- of each text that is read as a heap in range and commands: its output is sound; of each command of that same reading all this is so; and in each of its moments what is viewed has HOT
 abbrev pub TextsSayAll : Type 0
