@@ -7,7 +7,7 @@ use Rattle.far_word.specs.declared.pointer.Place.{Place}
 use Rattle.far_word.specs.declared.pointer.PtrWord.{PtrWord}
 use Rattle.far_word.specs.declared.pointer.PtrWord.TheVariants.{Near, Far}
 use Rattle.far_word.specs.declared.refused.Refused.{Refused as Refusal}
-use Rattle.far_word.specs.declared.refused.Refused.TheVariants.{NoRoom, Closed, NotHeld, Range, Device, Damaged, Marked as MarkFound}
+use Rattle.far_word.specs.declared.refused.Refused.TheVariants.{NoRoom, Closed, NotHeld, Range, Marked as MarkFound}
 use Rattle.far_word.specs.declared.sizes.TheConstants.{CELLS}
 use Rattle.far_word.specs.Mark.{position}
 use Rattle.far_word.specs.Pointer.{read_of}
@@ -37,7 +37,7 @@ use Rattle.far_replay.proofs.Drops.{unheld_is, viewed_is}
 use Rattle.far_replay_laws.proofs.HotViews.{moment_hot}
 use Rattle.far_replay.proofs.Lasting.{moment_lasts}
 use Rattle.far_replay.proofs.Leading.{leads_law}
-use Rattle.far_replay_laws.proofs.Refusals.{EachFirst, among}
+use Rattle.far_replay_laws.proofs.Refusals.{EachFirst, among, of_far}
 use Rattle.far_replay.proofs.TakingView.{asked_word}
 use Rattle.far_replay.proofs.Turns.{access_fact, tried}
 use Rattle.far_replay.proofs.Views.{anew_is, fast_dereference, fast_seen, Already, Anew, Seen, pin_read, slow_parts}
@@ -239,9 +239,7 @@ served_leaves now c r next is h =
 
 -- one that the device refuses leaves HOT, as a try does
 far_leaves : (s t : State) (p : ℕ) (why : Refusal) → KeepsFar why → GainsHot (read_of (s.cell p)) (read_of (t.cell p)) × OthersStay s t p → RefusedLeaves s p why t
-far_leaves s t p Device h gains = gains
-far_leaves s t p Damaged h gains = gains
-far_leaves s t p why h gains = absurd h
+far_leaves s t p why h gains = of_far (λ x. RefusedLeaves s p x t) why h gains gains
 
 tried_leaves : (now : Moment) (c : Command) (why : Refusal) (m p : ℕ) (r : Reply) (next : Moment) → IsMoment now → Unbrought why now c m p r next → RefusedLeaves now.core p why next.core
 tried_leaves now c why m p r next is h =

@@ -6,7 +6,7 @@ use Rattle.std.specs.List.{flat_map, range_with_len}
 use Rattle.std.proofs.lemmas.Bool.{lt-leb, eqb-true, eqb-false}
 use Rattle.std.proofs.lemmas.Bool.Decides.{nat_tests}
 use Rattle.far_word.specs.declared.refused.Refused.{Refused as Refusal}
-use Rattle.far_word.specs.declared.refused.Refused.TheVariants.{Range, Length, NoPointer, NoRoom, Device, Damaged, Marked, Shape, StillOpen, Syntax}
+use Rattle.far_word.specs.declared.refused.Refused.TheVariants.{Range, Length, NoPointer, NoRoom, Marked, Shape, StillOpen, Syntax}
 use Rattle.far_word.specs.declared.sizes.TheConstants.{CELLS, LONGEST}
 use Rattle.far_word.specs.Sizes.{size_of}
 use Rattle.far_log.proofs.Members.{split, none_in, All-from}
@@ -62,7 +62,7 @@ use Rattle.far_replay.proofs.Outcomes.{by_outcome}
 use Rattle.far_replay_laws.proofs.Kept.{whole}
 use Rattle.far_replay.proofs.Lasting.{first_lawful, command_carried, moment_lasts, each_is_moment}
 use Rattle.far_replay.proofs.Lowest.{lowest_cell_is, no_cell_is}
-use Rattle.far_replay_laws.proofs.Refusals.{turn_is_no_refusal, from_cause}
+use Rattle.far_replay_laws.proofs.Refusals.{turn_is_no_refusal, from_cause, of_far}
 use Rattle.far_replay.proofs.RoundLeads.{cell_same, same_clear, stays_same, step_stays}
 use Rattle.far_replay.proofs.WithCore.{same_order}
 use Rattle.far_replay.proofs.Spliced.{length-with_range, with_range_before, with_range_inside, with_range_after}
@@ -118,19 +118,13 @@ pub not_halted : (why cause : Refusal) (progress : Progress) (r : Reply) → r �
 not_halted why cause progress r h e = let odd : Halted cause progress ≡ Refused why = sym h ∙ e in cc
 
 write_marks : (why : Refusal) (m p from : ℕ) (bytes : List ℕ) → KeepsFar why → MayMark (Mutator m (Write p from bytes)) why p
-write_marks Device m p from bytes h = refl
-write_marks Damaged m p from bytes h = refl
-write_marks why m p from bytes h = absurd h
+write_marks why m p from bytes h = of_far (λ x. MayMark (Mutator m (Write p from bytes)) x p) why h refl refl
 
 read_marks : (why : Refusal) (m p from len : ℕ) → KeepsFar why → MayMark (Mutator m (Read p from len)) why p
-read_marks Device m p from len h = refl
-read_marks Damaged m p from len h = refl
-read_marks why m p from len h = absurd h
+read_marks why m p from len h = of_far (λ x. MayMark (Mutator m (Read p from len)) x p) why h refl refl
 
 view_marks : (why : Refusal) (m p : ℕ) → KeepsFar why → MayMark (Mutator m (View p)) why p
-view_marks Device m p h = refl
-view_marks Damaged m p h = refl
-view_marks why m p h = absurd h
+view_marks why m p h = of_far (λ x. MayMark (Mutator m (View p)) x p) why h refl refl
 
 pub refused_stays : (now : Moment) (c : Command) (r : Reply) (next : Moment) (why : Refusal) → ((p : ℕ) → ¬ MayMark c why p) → ¬ MaySee c why → Commanded now c r next → r ≡ Refused why → next ≡ now
 refused_stays now c r next why none blind h e = by_outcome now r next (λ d. ((p : ℕ) → ¬ MayMark d why p) → ¬ MaySee d why → next ≡ now)

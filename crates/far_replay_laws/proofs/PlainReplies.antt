@@ -11,7 +11,7 @@ use Rattle.std.proofs.lemmas.List.{get_or_past, length-take}
 use Rattle.std.proofs.lemmas.List.Elements.{All-from_recursion}
 use Rattle.hex.specs.Hex.{IsBytes}
 use Rattle.far_word.specs.declared.refused.Refused.{Refused as Refusal}
-use Rattle.far_word.specs.declared.refused.Refused.TheVariants.{Range, Device, Damaged}
+use Rattle.far_word.specs.declared.refused.Refused.TheVariants.{Range}
 use Rattle.far_word.specs.declared.pointer.PtrWord.{PtrWord}
 use Rattle.far_word.specs.declared.pointer.PtrWord.TheVariants.{Near}
 use Rattle.far_word.specs.declared.sizes.TheConstants.{CELLS}
@@ -43,7 +43,7 @@ use Rattle.far_text.proofs.Parts.{range_get}
 use Rattle.far_replay.proofs.Lasting.{Lasts, still_lasts}
 use Rattle.far_replay_laws.proofs.PlainRounds.{filter_shorter, plain_step, plain_step_causes, plain_stop}
 use Rattle.far_replay_laws.proofs.Stops.{left_some, stood_so}
-use Rattle.far_replay_laws.proofs.Refusals.{EachCause, each_first, among}
+use Rattle.far_replay_laws.proofs.Refusals.{EachCause, each_first, among, of_far}
 use Rattle.far_replay.proofs.Turns.{new_tests}
 
 -- a pointer is a number of a cell
@@ -135,9 +135,7 @@ plain_reply now c law moment bytes = plain_unless now c (refusal now c) law mome
 
 -- of a command that was served or refused in its midst
 far_told : (why : Refusal) → KeepsFar why → IsRefusalToldInFull why
-far_told Device h = tt
-far_told Damaged h = tt
-far_told why h = absurd h
+far_told why h = of_far IsRefusalToldInFull why h tt tt
 
 served_plain : (now : Moment) (c : Command) (r : Reply) (next : Moment) → Lasts now → WritesBytes c → Served now c r next → IsToldInFull r
 served_plain now c r next lasts bytes h = subst IsToldInFull (sym h.reply) (plain_reply now c lasts.law lasts.round bytes)
@@ -156,12 +154,9 @@ outcome_plain now c r next lasts bytes h = by_outcome now r next (λ d. WritesBy
 -- each reply to a list of commands
 each_plain : (now : Moment) (cs : List Command) (rs : List Reply) (moments : List Moment) → Lasts now → AllWriteBytes cs → Answered now cs rs moments → AllByRecursion IsToldInFull rs
 each_plain now [] [] [] lasts bytes h = tt
-each_plain now [] [] (m ∷ ms) lasts bytes h = absurd h
-each_plain now [] (r ∷ rs) ms lasts bytes h = absurd h
-each_plain now (c ∷ cs) [] ms lasts bytes h = absurd h
-each_plain now (c ∷ cs) (r ∷ rs) [] lasts bytes h = absurd h
 each_plain now (c ∷ cs) (r ∷ rs) (next ∷ ms) lasts bytes h =
     (outcome_plain now c r next lasts bytes.0 h.0, each_plain next cs rs ms (still_lasts now c r next lasts bytes.0 h.0) bytes.1 h.1)
+each_plain now _ _ _ lasts bytes h = absurd h
 
 pub replies_plain : (now : Moment) (cs : List Command) (rs : List Reply) (moments : List Moment) → Lasts now → AllWriteBytes cs → Answered now cs rs moments → All IsToldInFull rs
 replies_plain now cs rs moments lasts bytes h = All-from_recursion IsToldInFull rs (each_plain now cs rs moments lasts bytes h)

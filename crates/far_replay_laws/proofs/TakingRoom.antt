@@ -9,7 +9,7 @@ use Rattle.far_word.specs.declared.pointer.PtrWord.TheVariants.{Free, Near, Far}
 use Rattle.far_word.specs.Bytes.{packed_word}
 use Rattle.far_word.specs.Pointer.{read_of}
 use Rattle.far_word.specs.declared.refused.Refused.{Refused as Refusal}
-use Rattle.far_word.specs.declared.refused.Refused.TheVariants.{NoRoom, Closed, Held, NotHeld, Range, Device, Damaged, Marked}
+use Rattle.far_word.specs.declared.refused.Refused.TheVariants.{NoRoom, Closed, Held, NotHeld, Range, Marked}
 use Rattle.far_word.specs.Sizes.{size_of, words_for}
 use Rattle.far_core.specs.state.Room.{room}
 use Rattle.far_core.specs.state.Shape.{is_shape}
@@ -48,6 +48,7 @@ use Rattle.far_replay_laws.proofs.MovesTaken.{step_takes, stop_takes}
 use Rattle.far_replay.proofs.TakingView.{deref_more, view_takes}
 use Rattle.far_replay.proofs.Turns.{access_fact, led, marked_last, new_object_is, new_parts, new_tests, room_lacks, room_last, three, tried}
 use Rattle.far_replay.proofs.Views.{Viewed}
+use Rattle.far_replay_laws.proofs.Refusals.{of_far}
 
 pub shapes_are : (logs mutators epoch : ℕ) → (is_shape (shape_of logs mutators epoch) ≡ true) ↔ ((2 ≤ logs) × (logs ≤ 64) × (1 ≤ mutators) × (mutators ≤ 8) × (epoch < 2 ^ 62))
 shapes_are logs mutators epoch = ((λ h. (grind (arith, nat_tests), grind (arith, nat_tests), grind (arith, nat_tests), grind (arith, nat_tests), grind (arith, nat_tests))), (λ h. grind (arith, nat_tests)))
@@ -168,19 +169,13 @@ far_takes : (now : Moment) (c : Command) (m p : ℕ) (why : Refusal) (r : Reply)
 far_takes now c m p why r next is h = served_take now (Mutator m (Try p)) (Refused (Marked (now.core.cell p))) next is h.tried
 
 write_takes_none : (now next : Moment) (m p from : ℕ) (bytes : List ℕ) (why : Refusal) → KeepsFar why → TakesNone now.core next.core → TakesRoom now (Mutator m (Write p from bytes)) (Refused why) next
-write_takes_none now next m p from bytes Device h none = none
-write_takes_none now next m p from bytes Damaged h none = none
-write_takes_none now next m p from bytes why h none = absurd h
+write_takes_none now next m p from bytes why h none = of_far (λ x. TakesRoom now (Mutator m (Write p from bytes)) (Refused x) next) why h none none
 
 read_takes_none : (now next : Moment) (m p from len : ℕ) (why : Refusal) → KeepsFar why → TakesNone now.core next.core → TakesRoom now (Mutator m (Read p from len)) (Refused why) next
-read_takes_none now next m p from len Device h none = none
-read_takes_none now next m p from len Damaged h none = none
-read_takes_none now next m p from len why h none = absurd h
+read_takes_none now next m p from len why h none = of_far (λ x. TakesRoom now (Mutator m (Read p from len)) (Refused x) next) why h none none
 
 view_takes_none : (now next : Moment) (m p : ℕ) (why : Refusal) → KeepsFar why → TakesNone now.core next.core → TakesRoom now (Mutator m (View p)) (Refused why) next
-view_takes_none now next m p Device h none = none
-view_takes_none now next m p Damaged h none = none
-view_takes_none now next m p why h none = absurd h
+view_takes_none now next m p why h none = of_far (λ x. TakesRoom now (Mutator m (View p)) (Refused x) next) why h none none
 
 pub commands_take : (now : Moment) (c : Command) (r : Reply) (next : Moment) → IsMoment now → Commanded now c r next → TakesRoom now c r next
 commands_take now c r next is h =

@@ -3,7 +3,7 @@ use Rattle.std.proofs.Common.{◌≢◌, ◌≡◌, ℕ, ◌+◌, ◌/◌, Bool,
 use Rattle.std.proofs.lemmas.Bool.{and_parts, cond_both, eq-eqb, ne_eqb}
 use Rattle.far_word.specs.declared.pointer.Place.{Place}
 use Rattle.far_word.specs.declared.refused.Refused.{Refused as Refusal}
-use Rattle.far_word.specs.declared.refused.Refused.TheVariants.{NoRoom, Closed, NotHeld, Range, Device, Damaged, Marked}
+use Rattle.far_word.specs.declared.refused.Refused.TheVariants.{NoRoom, Closed, NotHeld, Range, Marked}
 use Rattle.far_word.specs.declared.pointer.PtrWord.{PtrWord}
 use Rattle.far_word.specs.declared.pointer.PtrWord.TheVariants.{Near, Far}
 use Rattle.far_word.specs.declared.sizes.TheConstants.{CELLS}
@@ -43,7 +43,7 @@ use Rattle.far_replay.specs.Turn.{causes, refusal, unless, turn_reply, reply_to}
 use Rattle.far_replay_laws.proofs.Coming.{all_come}
 use Rattle.far_replay.proofs.Lasting.{Lasts, all_pass, command_carried, moment_lasts, served_lasts, still_lasts}
 use Rattle.far_replay.proofs.Outcomes.{by_outcome}
-use Rattle.far_replay_laws.proofs.Refusals.{EachCause, EachFirst, among, each_first, far_away}
+use Rattle.far_replay_laws.proofs.Refusals.{EachCause, EachFirst, among, each_first, far_away, of_far}
 use Rattle.far_replay.proofs.RoundLeads.{reached_reaches, step_keeps, step_leads}
 use Rattle.far_replay.proofs.Turns.{access_fact, led, marked_last, read_leads, room_lacks, room_last, tried, write_leads}
 use Rattle.far_replay.proofs.Dereferences.{derefs, sought_held, sought_leads, view_views}
@@ -329,19 +329,13 @@ module _ (why : Refusal) (now : Moment) (c : Command) (m p : ℕ) (r : Reply) (n
       }
 
 write_as : (why : Refusal) (m p from : ℕ) (bytes : List ℕ) → KeepsFar why → carried_as (Mutator m (Write p from bytes)) (Refused why) ≡ Mutator m (Try p)
-write_as Device m p from bytes h = refl
-write_as Damaged m p from bytes h = refl
-write_as why m p from bytes h = absurd h
+write_as why m p from bytes h = of_far (λ x. carried_as (Mutator m (Write p from bytes)) (Refused x) ≡ Mutator m (Try p)) why h refl refl
 
 read_as : (why : Refusal) (m p from len : ℕ) → KeepsFar why → carried_as (Mutator m (Read p from len)) (Refused why) ≡ Mutator m (Try p)
-read_as Device m p from len h = refl
-read_as Damaged m p from len h = refl
-read_as why m p from len h = absurd h
+read_as why m p from len h = of_far (λ x. carried_as (Mutator m (Read p from len)) (Refused x) ≡ Mutator m (Try p)) why h refl refl
 
 view_as : (why : Refusal) (m p : ℕ) → KeepsFar why → carried_as (Mutator m (View p)) (Refused why) ≡ Mutator m (Try p)
-view_as Device m p h = refl
-view_as Damaged m p h = refl
-view_as why m p h = absurd h
+view_as why m p h = of_far (λ x. carried_as (Mutator m (View p)) (Refused x) ≡ Mutator m (Try p)) why h refl refl
 
 reach : (now : Moment) (c : Command) (r : Reply) (next : Moment) → Lasts now → WritesBytes c → Commanded now c r next → Reaches now c r next
 reach now c r next lasts bytes h = by_outcome now r next (λ d. WritesBytes d → Reaches now d r next)
@@ -362,12 +356,9 @@ events_reach now c r next is bytes h = reach now c r next (moment_lasts now is) 
 -- the logs in which views rest stay through each command
 stay_all : (now : Moment) (cs : List Command) (rs : List Reply) (moments : List Moment) → Lasts now → AllWriteBytes cs → Answered now cs rs moments → LogsStay now cs rs moments
 stay_all now [] [] [] lasts later h = held_now now.core lasts.law
-stay_all now [] [] (m ∷ ms) lasts later h = absurd h
-stay_all now [] (r ∷ rs) ms lasts later h = absurd h
-stay_all now (c ∷ cs) [] ms lasts later h = absurd h
-stay_all now (c ∷ cs) (r ∷ rs) [] lasts later h = absurd h
 stay_all now (c ∷ cs) (r ∷ rs) (next ∷ ms) lasts later h =
     (reach now c r next lasts later.0 h.0, stay_all next cs rs ms (still_lasts now c r next lasts later.0 h.0) later.1 h.1)
+stay_all now _ _ _ lasts later h = absurd h
 
 pub logs_stay : (now : Moment) (cs : List Command) (rs : List Reply) (moments : List Moment) → IsMoment now → AllWriteBytes cs → Answered now cs rs moments → LogsStay now cs rs moments
 logs_stay now cs rs moments is later h = stay_all now cs rs moments (moment_lasts now is) later h
