@@ -37,7 +37,7 @@ use Rattle.far_replay.proofs.Drops.{unheld_is, viewed_is}
 use Rattle.far_replay_laws.proofs.HotViews.{moment_hot}
 use Rattle.far_replay.proofs.Lasting.{moment_lasts}
 use Rattle.far_replay.proofs.Leading.{leads_law}
-use Rattle.far_replay_laws.proofs.Refusals.{EachFirst, among, of_far}
+use Rattle.far_replay_laws.proofs.Refusals.{among, of_far}
 use Rattle.far_replay.proofs.TakingView.{asked_word}
 use Rattle.far_replay.proofs.Turns.{access_fact, tried}
 use Rattle.far_replay.proofs.Views.{anew_is, fast_dereference, fast_seen, Already, Anew, Seen, pin_read, slow_parts}
@@ -154,44 +154,29 @@ access_refused : (now : Moment) (m p from count : ℕ) (why : Refusal) (after : 
     ((after NoRoom).core ≡ sought now.core m p) → first_cause (access_causes now m p from count ++ (has_no_room now.core m p, NoRoom) ∷ []) ≡ Some why →
     RefusedLeaves now.core p why (after why).core
 access_refused now m p from count why after law range closed unused full e =
-    among (λ x. RefusedLeaves now.core p x (after x).core) (access_causes now m p from count ++ (has_no_room now.core m p, NoRoom) ∷ []) why each e where
-      each : EachFirst (λ x. RefusedLeaves now.core p x (after x).core) (access_causes now m p from count ++ (has_no_room now.core m p, NoRoom) ∷ [])
-      each =
-          let cells : (x : Moment) → x ≡ now → x.core.cell ≡ now.core.cell = λ x e. ap (λ (y : Moment). y.core.cell) e in (
+    let cells : (x : Moment) → x ≡ now → x.core.cell ≡ now.core.cell = λ x e. ap (λ (y : Moment). y.core.cell) e in
+    among (λ x. RefusedLeaves now.core p x (after x).core) (access_causes now m p from count ++ (has_no_room now.core m p, NoRoom) ∷ []) why (
+      (λ _. cells (after Range) range),
+      λ _. (
+        (λ _. cells (after Closed) closed),
+        λ shut. (
+          (λ _. cells (after NotHeld) unused),
+          λ other. (
             (λ _. cells (after Range) range),
             λ _. (
-              (λ _. cells (after Closed) closed),
-              λ shut. (
-                (λ _. cells (after NotHeld) unused),
-                λ other. (
-                  (λ _. cells (after Range) range),
-                  λ _. (
-                    (λ lacks.
-                        subst (λ (t : State). GainsForRoom (read_of (now.core.cell p)) (read_of (t.cell p)) × OthersStay now.core t p) (sym full)
-                        (room_gains now.core m p law (not-false (is_opened now.core m) shut) (not-false (uses now.core m p) other) lacks)),
-                    λ _. tt,
-                  ),
-                ),
-              ),
+              (λ lacks. subst (λ (t : State). GainsForRoom (read_of (now.core.cell p)) (read_of (t.cell p)) × OthersStay now.core t p) (sym full)
+                  (room_gains now.core m p law (not-false (is_opened now.core m) shut) (not-false (uses now.core m p) other) lacks)),
+              λ _. tt,
             ),
-          )
+          ),
+        ),
+      ),
+    ) e
 
 view_refused : (now : Moment) (m p : ℕ) (why : Refusal) → Law now.core → refusal now (Mutator m (View p)) ≡ Some why →
     RefusedLeaves now.core p why (refused_effect now (Mutator m (View p)) why).core
-view_refused now m p why law e = among (λ x. RefusedLeaves now.core p x (refused_effect now (Mutator m (View p)) x).core) (causes now (Mutator m (View p))) why (
-  (λ _. refl),
-  λ _. (
-    (λ _. refl),
-    λ shut. (
-      (λ _. refl),
-      λ other. (
-        (λ lacks.
-            room_gains now.core m p law (not-false (is_opened now.core m) shut) (not-false (uses now.core m p) other) lacks),
-        λ _. tt,
-      ),
-    ),
-  ),
-) e
+view_refused now m p why law e = among (λ x. RefusedLeaves now.core p x (refused_effect now (Mutator m (View p)) x).core) (causes now (Mutator m (View p))) why
+    ((λ _. refl), λ _. ((λ _. refl), λ shut. ((λ _. refl), λ other. (room_gains now.core m p law (not-false (is_opened now.core m) shut) (not-false (uses now.core m p) other), λ _. tt)))) e
 
 try_refused : (now : Moment) (m p : ℕ) (why : Refusal) → Law now.core → refusal now (Mutator m (Try p)) ≡ Some why →
     TryLeaves now.core p why (refused_effect now (Mutator m (Try p)) why).core
@@ -202,8 +187,7 @@ try_refused now m p why law e = among (λ x. TryLeaves now.core p x (refused_eff
     λ shut. (
       (λ _. refl),
       λ other. (
-        (λ slow.
-            (refl, found_gains now.core m p law (not-false (is_opened now.core m) shut) (not-false (uses now.core m p) other) slow, view_cells now.core p)),
+        (λ slow. (refl, found_gains now.core m p law (not-false (is_opened now.core m) shut) (not-false (uses now.core m p) other) slow, view_cells now.core p)),
         λ _. tt,
       ),
     ),

@@ -20,13 +20,12 @@ use Rattle.far_evac.specs.Owned.{anywhere}
 use Rattle.far_evac.specs.Waiting.{first_open, polled_to}
 use Rattle.far_evac.specs.Walk.{ended, walked}
 use Rattle.far_evac.specs.declared.phase.Phase.TheVariants.{Evacuating, Idle}
-use Rattle.far_evac.proofs.Leading.{selecting}
 use Rattle.far_evac.proofs.Marks.{is_given_up, is_marked}
 use Rattle.far_text.specs.Command.{Command, Write, Read, View, Mutator, Book, Evacuator, By, Policy, Step, Select, Mark, Wait, Evacuate, Abort, Round}
 use Rattle.far_replay.specs.Answers.{Commanded, Refuses, Served, Serves, StopsLeaving, StopsRound, IsMoment}
 use Rattle.far_evac.specs.declared.answers.RoundEnd.TheVariants.{Limit}
 use Rattle.far_replay.proofs.Outcomes.{by_outcome}
-use Rattle.far_replay_laws.proofs.Stops.{begun, left_some, stood_so}
+use Rattle.far_replay_laws.proofs.Stops.{begun, left_some, starts, stood_so}
 use Rattle.far_replay_laws.specs.Left.{AllStayPut, CellBy, DealsWith, IsAnywhere, Leaves, LeavesRest, MarksBy, SomeStay, StaysMarked, StaysPut, StepLeaves}
 use Rattle.far_replay.specs.Reply.{Reply, Done, Ended, Evacuated, Refused, Selected}
 use Rattle.far_replay.specs.Rounds.{after_round, chosen_by, given_by, is_evacuating, logs_given, refused_step, rows_in, step_effect, step_reply}
@@ -36,8 +35,7 @@ use Rattle.far_replay_laws.proofs.CountedOnce.{all_at, among_in, in_among, membe
 use Rattle.far_replay.proofs.Lasting.{Lasts, after_step, moment_lasts}
 use Rattle.far_replay_laws.proofs.LeftByWalks.{IsApart, apart_from, ended_put, framed_put, lay_there, marked_frame, marking_frame, marking_put, polling_put, put_more, put_none, turns_put}
 use Rattle.far_replay_laws.proofs.Unreached.{EvacIs, Fate, cell_still, ended_fate, evac_alone, evac_object, fate_marked, has_stayed, marked_fate, marked_none, turns_fate}
-use Rattle.far_replay.proofs.RoundChoices.{policy_chooses}
-use Rattle.far_replay.proofs.RoundLeads.{begins, evacuating_is, made_leaves, none_first, step_keeps}
+use Rattle.far_replay.proofs.RoundLeads.{evacuating_is, made_leaves, none_first, step_keeps}
 use Rattle.far_replay_laws.proofs.Standing.{stands}
 use Rattle.far_replay_laws.proofs.StepsTell.{held_chosen}
 use Rattle.far_replay_laws.proofs.MovesTaken.{chosen_held}
@@ -145,12 +143,10 @@ module _ (now : Moment) (law : Law now.core) (moment : MomentLaw now) where
     by_logs [] e = put_none now.core q
     by_logs (l ∷ ls) e =
         let m : Moment = after_selecting now (l ∷ ls) in
-        let chosen = policy_chooses now policy most moment in
-        let begun = selecting now (chosen_by policy (rows_in now) most) law moment (begins now [] may).0.idle (begins now [] may).0.left chosen.once chosen.of_order in
         let tells : Served now (Evacuator (Select (By policy) most)) (Selected (l ∷ ls)) m =
         subst (λ (xs : List ℕ). Served now (Evacuator (Select (By policy) most)) (Selected xs) (after_selecting now xs)) e (made_so now (Select (By policy) most) may) in
         let apart : IsApart m.core m.collection q = λ k c. none k (l ∷ ls, m, tells, c) in
-        (turns_put m q law (subst (λ (xs : List ℕ). MomentLaw (after_selecting now xs)) e begun.moment) refl apart turns).put_there
+        (turns_put m q law (starts now law moment policy most turns may (l ∷ ls) e).moment refl apart turns).put_there
 
   -- what lies where it lay
   round_marked : (policy : Policy) (most turns : ℕ) → refusal now (Evacuator (Round policy most turns)) ≡ None → (q l : ℕ) → LiesIn now.core q l →
@@ -160,10 +156,8 @@ module _ (now : Moment) (law : Law now.core) (moment : MomentLaw now) where
     by_logs [] e is = marked_none now.core q
     by_logs (k ∷ ks) e is =
         let m : Moment = after_selecting now (k ∷ ks) in
-        let chosen = policy_chooses now policy most moment in
-        let begun = selecting now (chosen_by policy (rows_in now) most) law moment (begins now [] may).0.idle (begins now [] may).0.left chosen.once chosen.of_order in
         let t : Moment = after_round now (k ∷ ks) turns in
-        has_stayed StaysMarked m.core m.collection q t.core t.collection (turns_fate m q law (subst (λ (xs : List ℕ). MomentLaw (after_selecting now xs)) e begun.moment) refl turns) l was is
+        has_stayed StaysMarked m.core m.collection q t.core t.collection (turns_fate m q law (starts now law moment policy most turns may (k ∷ ks) e).moment refl turns) l was is
 
   some_stay : (Stays : State → State → ℕ → Type 0) (step : Step) → ((p l : ℕ) → LiesIn now.core p l → LiesIn (step_effect now step).core p l → Stays now.core (step_effect now step).core p) →
       refusal now (Evacuator step) ≡ None → SomeStay Stays now.core (step_effect now step).core

@@ -1,5 +1,5 @@
 -- What the evacuator's steps tell, and their refusals, are told in full by their lines.
-use Rattle.std.proofs.Common.{◌≡◌, ◌≢◌, ℕ, zero, suc, ◌+◌, ◌<◌, ◌≤◌, ◌^◌, Bool, true, false, cond, refl, sym, subst, ap, ◌∙◌, arith, not, Option, Some, None, List, [], ◌∷◌, length, filter, eqb}
+use Rattle.std.proofs.Common.{◌≡◌, ◌≢◌, ℕ, ◌+◌, ◌<◌, ◌≤◌, ◌^◌, Bool, true, false, cond, refl, sym, subst, ap, ◌∙◌, arith, not, Option, Some, None, List, [], ◌∷◌, length, filter, eqb}
 use Rattle.std.specs.List.{find, range_with_len}
 use Rattle.std.proofs.Math.Nat.{min-le_right}
 use Rattle.std.proofs.lemmas.Bool.{cond_both, eq-eqb, true≢false}
@@ -34,9 +34,8 @@ use Rattle.far_evac.specs.Waiting.{after_polling, polled}
 use Rattle.far_evac.specs.Walk.{ended, is_done, walked}
 use Rattle.far_evac.proofs.Bools.{or_left, or_right}
 use Rattle.far_evac.proofs.Bounds.{starts_within, walk_bounded, walk_within}
-use Rattle.far_evac.proofs.Leading.{polling, selecting}
+use Rattle.far_evac.proofs.Leading.{polling}
 use Rattle.far_evac.proofs.LeadingMarks.{marking}
-use Rattle.far_evac.proofs.LeadingTurns.{turns_lead}
 use Rattle.far_evac.proofs.Readiness.{risen_is_ready}
 use Rattle.far_evac.proofs.Rounds.{polls_is}
 use Rattle.far_evac.proofs.Walks.{walk_is}
@@ -47,8 +46,8 @@ use Rattle.far_replay_laws.specs.Headline.{IsToldInFull, IsRefusalToldInFull, Is
 use Rattle.far_replay.specs.Rounds.{choice_causes, chosen_by, given_by, is_evacuating, logs_given, round_told, rows_in, step_causes, step_reply, wait_causes}
 use Rattle.far_replay.specs.Turn.{refusal}
 use Rattle.far_replay_laws.proofs.Refusals.{EachCause}
-use Rattle.far_replay_laws.proofs.Stops.{LeftSome, Stood, begun, turns_led}
-use Rattle.far_replay.proofs.RoundChoices.{Chooses, policy_chooses}
+use Rattle.far_replay_laws.proofs.Stops.{LeftSome, Stood, begun, starts, through_turns, turns_led}
+use Rattle.far_replay.proofs.RoundChoices.{Chooses}
 use Rattle.far_replay.proofs.RoundLeads.{begins, chooses, evacuating_is, none_first}
 
 pub filter_shorter : (f : ℕ → Bool) (xs : List ℕ) → length (filter f xs) ≤ length xs
@@ -120,12 +119,8 @@ module _ (r : Turned) (law : Law r.moment.core) (moment : MomentLaw r.moment) (h
       }
 
 turns_stand : (m : Moment) → Law m.core → MomentLaw m → is_idle m.phase ≡ false → (n : ℕ) → Stands (turns_made m n)
-turns_stand m law moment runs zero = record { bounded = record { objects = omega arith; logs = omega arith }; within = λ _. starts_within m (own_law m.core law) moment }
-turns_stand m law moment runs (suc n) =
-    let r = turns_made m n in
-    let leads = turns_lead m n law moment runs in
-    let h = turns_stand m law moment runs n in
-    cond_both r.over r (turned r r.moment.phase) Stands (λ _. h) (λ goes. turn_stands r leads.law leads.moment h goes r.moment.phase refl)
+turns_stand m law moment runs = through_turns Stands m law moment runs (record { bounded = record { objects = omega arith; logs = omega arith }; within = λ _. starts_within m (own_law m.core law) moment })
+    (λ r own stands goes h. turn_stands r own stands h goes r.moment.phase refl)
 
 plain_end : (r : Turned) → Stands r → IsEndToldInFull (round_end r)
 plain_end r h = cond_both r.over (ends.Done (progress_of r.tally true)) (ends.Limit r.moment.phase) IsEndToldInFull (λ _. (plain_tally r.tally true h.bounded, refl)) (λ _. tt)
@@ -185,7 +180,5 @@ module _ (now : Moment) (law : Law now.core) (moment : MomentLaw now) where
       plain_tally w.tally (is_done w) (bounded_alone w.tally (walk_bounded now nothing within ready walks.0 w walks.1.walks))
   plain_step (Round policy most turns) e =
       let logs = chosen_by policy (rows_in now) most in
-      let may = begins now [] e in
-      let chosen = policy_chooses now policy most moment in
-      plain_round now logs turns (selecting now logs law moment may.0.idle may.0.left chosen.once chosen.of_order)
+      plain_round now logs turns (starts now law moment policy most turns e logs refl)
   plain_step _ e = tt
