@@ -1,43 +1,22 @@
 -- What an owner's calls keep of what is known.
-use Rattle.std.proofs.Common.{◌≡◌, ◌+◌, ◌*◌, ◌/◌, ◌%◌, ◌≤◌, ℕ, Bool, true, false, cond, List, [], ◌∷◌, length, get_or, sym, refl, ap, ◌∙◌, subst, arith, Option, Some, None, take}
-use Rattle.std.specs.Prelude.{is_some, slice_index_or, map}
+use Rattle.std.proofs.Common.{◌≡◌, ◌+◌, ◌*◌, ◌≤◌, ℕ, Bool, false, cond, List, length, sym, refl, ap, ◌∙◌, subst, arith, Some, None, take}
+use Rattle.std.specs.Prelude.{slice_index_or, map}
 use Rattle.std.specs.List.{range_with_len}
-use Rattle.std.proofs.lemmas.Bool.{false≢true}
-use Rattle.std.proofs.lemmas.List.FromFn.{get_or-map-range_with_len, length-map-range_with_len, map-range_with_len_more, take-map-range_with_len}
+use Rattle.std.proofs.lemmas.List.FromFn.{get_or-map-range_with_len, length-map-range_with_len, take-map-range_with_len}
 use Rattle.atomic_table.specs.Seated.{TableId}
-use Rattle.far_word.specs.declared.mark.Mark.{Mark}
-use Rattle.far_word.specs.declared.mark.Mark.TheVariants.{Dropped}
 use Rattle.far_word.specs.declared.sizes.TheConstants.{CELLS, MOST_MUTATORS}
 use Rattle.far_core.specs.declared.shape.Shape.{Shape}
 use Rattle.far_core.specs.state.Opening.{opening}
 use Rattle.far_core.specs.state.State.{State}
 use Rattle.far_core.specs.world.WorldOf.{world_of}
 use Rattle.far_core.proofs.KeepOwner.{closed_word}
-use Rattle.far_table.specs.View.{ObjectView, OwnerView}
 use Rattle.far_hand.specs.Masked.{masked}
 use Rattle.far_book.specs.book.Own.{IsAtStart}
 use Rattle.far_table.specs.First.{first_owner, open_epoch, seen_object}
 use Rattle.far_table.specs.Seats.{Seated}
 use Rattle.far_table.specs.Stands.{Seats}
 use Rattle.far_table.proofs.FirstViews.{over_within}
-use Rattle.far_table.specs.Views.{adopted_view, fresh, len_of}
-use Rattle.far_owner.specs.Fits.{Fits, Fresh, IsNew, len_in}
-
--- ---- rows of which one is another
-module _ {X Y : Type 0} (f : ℕ → X) (g : X → Y) (rows : List Y) (me : ℕ) (d : Y) (all : length rows ≡ CELLS)
-    (same : (q : ℕ) → q / CELLS ≡ me → g (f q) ≡ slice_index_or rows (q % CELLS) d) where
-
--- ---- an option that is there, or isn't
-
-used_len : (o : Option ObjectView) (len : ℕ) → len_in o ≡ Some len → (is_some o ≡ true) × (len_of o ≡ len)
-used_len None len e = absurd cc
-used_len (Some x) len e = (refl, cc)
-
-module _ (v : OwnerView) (me : ℕ) (opened read : Bool) (lens : List (Option ℕ)) (held : List Bool) (f : Fits v me opened read lens held) where
-  -- ---- what the view says of a pointer
-  module _ (p : ℕ) (own : p / CELLS ≡ me) where
-
-    -- ---- after a call
+use Rattle.far_owner.specs.Fits.{Fresh, IsNew}
 
 -- ---- seats of a new heap
 new_owner : (shape : Shape) (honest : Bool) (m : ℕ) → IsNew (first_owner (opening shape honest) honest m) m

@@ -1,5 +1,5 @@
 -- Reads and writes of a range: what the calls of the core ask for, and what the commands come to.
-use Rattle.std.proofs.Common.{◌≡◌, ◌≢◌, ℕ, ◌+◌, ◌-◌, ◌*◌, ◌/◌, ◌^◌, ◌<◌, ◌≤◌, Bool, true, false, not, nat_eq, nat_lt, List, [], ◌∷◌, ◌++◌, length, take, get_or, refl, sym, ap, subst, ◌∙◌, arith, is_some, length-take-le, Option, Some, None, if◌then◌else◌}
+use Rattle.std.proofs.Common.{[], ◌≡◌, ◌≢◌, ℕ, ◌+◌, ◌-◌, ◌*◌, ◌/◌, ◌^◌, ◌<◌, ◌≤◌, Bool, true, false, not, nat_eq, nat_lt, List, ◌∷◌, ◌++◌, length, take, get_or, refl, sym, ap, subst, ◌∙◌, arith, is_some, length-take-le, Option, Some, None, if◌then◌else◌}
 use Rattle.std.specs.Prelude.{slice_index, slice_range, IsSome, map}
 use Rattle.std.specs.List.{range_with_len}
 use Rattle.std.proofs.lemmas.Bool.{and_parts, eq-eqb, false≢true}
@@ -10,8 +10,7 @@ use Rattle.far_word.specs.Pointer.{IsPtr, pointer_len, read_of}
 use Rattle.far_word.specs.Sizes.{words_for}
 use Rattle.far_word.specs.declared.pointer.PtrWord.{PtrWord}
 use Rattle.far_word.specs.declared.pointer.PtrWord.TheVariants.{Free, Near, Far}
-use Rattle.far_word.specs.declared.refused.Refused.{Refused as Refusal}
-use Rattle.far_word.specs.declared.refused.Refused.TheVariants.{Device, Memory, NoRoom, Closed, NotHeld, Range}
+use Rattle.far_word.specs.declared.refused.Refused.TheVariants.{NoRoom, Closed, NotHeld, Range}
 use Rattle.far_word.specs.declared.sizes.TheConstants.{CELLS, LONGEST}
 use Rattle.far_word.proofs.ByteLaws.{length-bytes_of}
 use Rattle.far_word.proofs.PointerLaws.{read_says}
@@ -22,7 +21,7 @@ use Rattle.far_core.specs.events.Step.{data_len, is_opened, near_data}
 use Rattle.far_core.specs.state.Law.{Law}
 use Rattle.far_core.specs.state.State.{State}
 use Rattle.far_text.specs.Command.{Command, Mutator, Read, View, Write}
-use Rattle.far_replay.specs.Dereference.{RefusesView, dereferenced, has_no_room, sought}
+use Rattle.far_replay.specs.Dereference.{dereferenced, has_no_room}
 use Rattle.far_replay.specs.Effects.{with_data}
 use Rattle.far_replay.specs.EventRows.{after_events}
 use Rattle.far_replay.specs.Events.{first_word, store_events, words_touched}
@@ -148,23 +147,6 @@ module _ (s t u : State) (a : Access) (new : List ℕ) (law : Law s) (is : IsAcc
       ∙ ap (λ n. after_events (dereferenced s a.owner a.pointer) (store_events a.owner a.pointer (first_word a.from) (words_touched a.from n) (with_range (data_of (dereferenced s a.owner a.pointer) a.pointer) a.from new))) (sym long)
       ∙ (stores_lead s a.owner a.pointer a.from new law here small).ends
 
--- ---- what is refused for want of room, or for want of memory
--- what isn't want of memory, nor the device's, is want of room
-only_room : (s : State) (m p : ℕ) (why : Refusal) (t : State) → RefusesView s m p why t → why ≢ Memory → why ≢ Device → (why ≡ NoRoom) × (t ≡ sought s m p) × (has_no_room s m p ≡ true)
-only_room s m p NoRoom t h other sound = (refl, h.1.1, rw (h.0, h.1.0) refl)
-only_room s m p Memory t h other sound = absurd (other refl)
-only_room s m p Device t h other sound = absurd (sound refl)
-only_room s m p why t h other sound = absurd h.1
-
-module _ (now : Moment) (t : State) (a : Access) (why : Refusal) (is : IsAccess now.core a.owner a.pointer a.from a.count a) (refuses : RefusesView now.core a.owner a.pointer why t) (other : why ≢ Memory) (sound : why ≢ Device) where
-  wants : (why ≡ NoRoom) × (t ≡ sought now.core a.owner a.pointer) × (has_no_room now.core a.owner a.pointer ≡ true)
-  wants = only_room now.core a.owner a.pointer why t refuses other sound
-
-  cause : first_cause (access_causes now a.owner a.pointer a.from a.count ++ (has_no_room now.core a.owner a.pointer, NoRoom) ∷ []) ≡ Some NoRoom
-  cause = wants_room now a is true wants.2
-
-  module _ (new : List ℕ) (long : length new ≡ a.count) where
-
 -- ---- what isn't
 module _ (now : Moment) (a : Access) (is : IsAccess now.core a.owner a.pointer a.from a.count a) (room : has_no_room now.core a.owner a.pointer ≡ false) where
   pub read_made : (next : Moment) → next ≡ with_core now (dereferenced now.core a.owner a.pointer) → next ≡ effect now (Mutator a.owner (Read a.pointer a.from a.count))
@@ -184,10 +166,6 @@ module _ (now : Moment) (a : Access) (is : IsAccess now.core a.owner a.pointer a
     write_made next to =
         let c : Command = Mutator a.owner (Write a.pointer a.from new) in
         to ∙ ap (λ o. unless o (refused_effect now c) (turn_effect now c)) (sym none)
-
--- ---- a refused dereference, by what stands then
-module _ (now next : Moment) (a : Access) (why : Refusal) (is : IsAccess now.core a.owner a.pointer a.from a.count a) (refuses : RefusesView now.core a.owner a.pointer why next.core) (other : why ≢ Memory) (sound : why ≢ Device)
-    (order : next.order ≡ now.order) (phase : next.phase ≡ now.phase) (held : next.collection ≡ now.collection) where
 
 -- ---- a view
 by_view : (a b c d : Bool) → a ≡ true → b ≡ true → c ≡ true → first_cause ((not a, Range) ∷ (not b, Closed) ∷ (not c, NotHeld) ∷ (d, NoRoom) ∷ []) ≡ (if d then Some NoRoom else None)

@@ -9,9 +9,7 @@ use Rattle.std.proofs.lemmas.Bool.{cases_lt}
 use native.Mathlib.Decide.{ℕ_discrete}
 use Rattle.far_word.specs.declared.sizes.TheConstants.{CELLS}
 use Rattle.far_word.specs.Pointer.{read_of}
-use Rattle.far_core.specs.declared.event.Kind.TheVariants.{Sealed}
 use Rattle.far_core.specs.events.Naming.{is_dropped}
-use Rattle.far_core.specs.laws.Rounds.{OneLogIsABit}
 use Rattle.far_core.specs.state.Law.{Law}
 use Rattle.far_core.specs.state.State.{State}
 use Rattle.far_core.proofs.Cells.{unused}
@@ -56,9 +54,6 @@ far_cell s p (Some (pointer.Far len ds m)) e marks is = record { len = len; ds =
 
 pub far_home : (s : State) (p : ℕ) (marks : Marks) → Some (Far marks) ≡ home_of (read_of (s.cell p)) → IsFar s p
 far_home s p marks is = far_cell s p (read_of (s.cell p)) refl marks is
-
--- ---- a round of log 0
-module _ (one : OneLogIsABit) (s : State) (some : 0 < s.logs) (sealed : s.kind 0 ≡ Sealed) (all : (p : ℕ) → evac_in (read_of (s.cell p)) ≡ true) where
 
 -- the cells of a heap are marked where those of its pointers are
 pub marked_all : (s : State) → Law (own_part s) → (n : ℕ) → n ≡ CELLS * s.mutators → ((p : ℕ) → p < n → evac_in (read_of (s.cell p)) ≡ true) → (p : ℕ) → evac_in (read_of (s.cell p)) ≡ true

@@ -23,7 +23,7 @@ use Rattle.far_core.specs.state.State.{State, put}
 use Rattle.far_core.proofs.Put.{put_same}
 use Rattle.far_hand.specs.Finds.{Finds, body_of}
 use Rattle.far_hand.specs.Rounds.{MayChoose}
-use Rattle.far_table_bench.specs.Hands.{IsReady, IsStay, ReadyBy, lies_sealed}
+use Rattle.far_table_bench.specs.Hands.{IsReady, ReadyBy, lies_sealed}
 
 sealed_is : (k : Kind) → is_sealed k ≡ true → k ≡ kinds.Sealed
 sealed_is kinds.Free e = absurd (false≢true e)
@@ -97,9 +97,6 @@ module _ (s : State) (p l m : ℕ) (r : IsReady s p l m) where
       let x = lies s.logs s.kind (read_of w) (found_lies w f) in
       ready_at (evac_cleared w) (ap (lies_sealed s.logs s.kind) (without_evac_read w (Near x.len x.ds x.place x.marks) fits x.near)
       ∙ (ap (lies_sealed s.logs s.kind) (sym x.near) ∙ found_lies w f))
-
-  -- a naming by which the object stays
-  module _ (old new : ℕ) (seen : s.cell p ≡ old) (stay : IsStay old new) where
 
 -- no logs may always be a round's
 none_among : (l : ℕ) → is_among 0 l ≡ false
