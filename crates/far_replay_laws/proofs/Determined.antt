@@ -17,15 +17,13 @@ use Rattle.far_text.specs.Command.{Command, Device, Trace, Heap, Mutator, Evacua
 use Rattle.far_text.specs.Grammar.{trace_of}
 use Rattle.far_replay.specs.Moment.{Moment}
 use Rattle.far_replay.specs.Reply.{Reply, Evacuated, Halted, Refused, reply_text}
+use Rattle.far_replay_laws.proofs.Stops.{same_progress}
 
 -- one command that is served has one reply and one moment after it
 one_reply : (s : Moment) (c : Command) (r q : Reply) (t u : Moment) → Served s c r t → Served s c q u → (r ≡ q) × (t ≡ u)
 one_reply s c r q t u h k = (h.reply ∙ sym k.reply, h.moment ∙ sym k.moment)
 
 -- and so has one that is refused in its midst, by what the outside made of it
-same_progress : (p q : Progress) → Evacuated p ≡ Evacuated q → p ≡ q
-same_progress p q e = cc
-
 tried_once : (why : Refusal) (s : Moment) (c : Command) (m p : ℕ) (r q : Reply) (t u : Moment) → Unbrought why s c m p r t → Unbrought why s c m p q u → (r ≡ q) × (t ≡ u)
 tried_once why s c m p r q t u h k = (h.reply ∙ sym k.reply, h.tried.moment ∙ sym k.tried.moment)
 

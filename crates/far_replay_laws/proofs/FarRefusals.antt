@@ -22,8 +22,7 @@ use Rattle.far_replay.proofs.Outcomes.{by_outcome}
 use Rattle.far_replay_laws.specs.FromOutside.{DeviceRefusesFar, IsFarFor}
 use Rattle.far_replay_laws.specs.LeftMarks.{GainsHot}
 use Rattle.far_replay_laws.proofs.LeavingMarks.{served_leaves}
-use Rattle.far_replay_laws.proofs.OutputLaws.{not_halted}
-use Rattle.far_replay_laws.proofs.Refusals.{EachFirst, among, from_cause, turn_is_no_refusal}
+use Rattle.far_replay_laws.proofs.Refusals.{not_halted, EachFirst, among, from_cause, turn_is_no_refusal}
 
 -- ---- a command that is served is never refused so
 abbrev NeverFar : Refusal → Type 0

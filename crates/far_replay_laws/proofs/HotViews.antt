@@ -96,7 +96,7 @@ module _ (s : State) (law : Law s) (p old new : ℕ) (is : s.cell p ≡ old) (he
   no_form (Fetches len ds place) ((m, was, alive), now) legal = let odd : Some (Far len ds m) ≡ Some (Near says.0 says.1 says.2 says.5) = sym was ∙ says.6 in cc
 
 -- ---- each event
-held_other : (held : ℕ → Option Place) (p : ℕ) (o : Option Place) (q : ℕ) → q ≢ p → with_hold held p o q ≡ held q
+pub held_other : (held : ℕ → Option Place) (p : ℕ) (o : Option Place) (q : ℕ) → q ≢ p → with_hold held p o q ≡ held q
 held_other held p None q ne = refl
 held_other held p (Some place) q ne = put_other held p (Some place) q ne
 

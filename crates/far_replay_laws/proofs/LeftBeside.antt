@@ -1,5 +1,5 @@
 -- A command that is no step of the evacuator leaves what isn't of its own object or scope.
-use Rattle.std.proofs.Common.{◌≡◌, ◌≢◌, ℕ, ◌/◌, ◌^◌, true, false, not, refl, sym, ap, subst, ◌∙◌, is_some, Option, Some, None, List, length, ◌==◌, ◌++◌, bit_or, [], ◌∷◌}
+use Rattle.std.proofs.Common.{◌≡◌, ℕ, ◌/◌, ◌^◌, true, false, not, refl, sym, ap, subst, ◌∙◌, is_some, Option, Some, None, List, length, ◌==◌, ◌++◌, bit_or, [], ◌∷◌}
 use Rattle.std.proofs.lemmas.Bool.{cond-false, cond_both, ne_eqb}
 use Rattle.far_word.specs.declared.mark.Mark.{Mark}
 use Rattle.far_word.specs.declared.mark.Mark.TheVariants.{Hot, Moved, Dropped}
@@ -20,7 +20,6 @@ use Rattle.far_core.specs.events.Copies.{data_at}
 use Rattle.far_core.specs.events.Name.{after_naming}
 use Rattle.far_core.specs.events.Naming.{naming_of, naming_row, no_marks}
 use Rattle.far_core.specs.events.Step.{after, after_close, after_pin, place_to_view}
-use Rattle.far_core.specs.events.Pin.{with_hold}
 use Rattle.far_core.specs.state.Law.{Law}
 use Rattle.far_core.specs.state.Room.{room}
 use Rattle.far_core.specs.state.State.{State}
@@ -45,6 +44,7 @@ use Rattle.far_text.specs.Command.{Command, New, Open, Write, Read, Close, Where
 use Rattle.far_replay_laws.specs.LeftBeside.{AllButObject, AllButScope, LeavesBeside, NewLeaves}
 use Rattle.far_replay_laws.proofs.AloneNew.{is_length, is_structure}
 use Rattle.far_replay_laws.proofs.Refusals.{among}
+use Rattle.far_replay_laws.proofs.HotViews.{held_other}
 
 -- ---- one object
 same : (s : State) (p : ℕ) → AllButObject s s p
@@ -105,15 +105,11 @@ asked_beside s m p (Some (Near len ds place marks)) = asked_mark s m p Moved
 asked_beside s m p _ = same s p
 
 -- a pin
-hold_other : (held : ℕ → Option Place) (p : ℕ) (o : Option Place) (q : ℕ) → q ≢ p → with_hold held p o q ≡ held q
-hold_other held p None q ne = refl
-hold_other held p (Some place) q ne = put_other held p (Some place) q ne
-
 pinned_beside : (s : State) (p : ℕ) → AllButObject s (after_pin s p) p
 pinned_beside s p = record {
   cells = λ q ne. put_other s.cell p (bit_or (s.cell p) (2 ^ position Hot)) q ne;
   used = λ q ne. refl;
-  views = λ q ne. hold_other s.held p (place_to_view (read_of (s.cell p))) q ne;
+  views = λ q ne. held_other s.held p (place_to_view (read_of (s.cell p))) q ne;
   scopes = λ m. refl;
   remembered = λ m. refl;
 }

@@ -21,7 +21,6 @@ use Rattle.far_core.proofs.Bounds.{some_of}
 use Rattle.far_core.proofs.Guards.{none_from}
 use Rattle.far_core.proofs.Observations.{bytes_make_log}
 use Rattle.std.proofs.lemmas.Bool.{and_parts}
-use Rattle.far_evac.specs.declared.answers.Progress.{Progress}
 use Rattle.far_word.specs.declared.mark.Mark.TheVariants.{Hot, Moved}
 use Rattle.far_word.specs.Mark.{position, marks_with}
 use Rattle.far_core.specs.events.Step.{after_pin, is_opened}
@@ -46,7 +45,7 @@ use Rattle.far_replay.specs.Lawful.{Lawful}
 use Rattle.far_text.specs.Written.{AllWriteBytes}
 use Rattle.far_replay.specs.EventRows.{after_events, AllSucceed}
 use Rattle.far_replay.specs.declared.reply.LogLine.{LogLine}
-use Rattle.far_replay.specs.Reply.{Reply, Pointer, Refused, Halted, reply_text}
+use Rattle.far_replay.specs.Reply.{Reply, Pointer, Refused, reply_text}
 use Rattle.far_replay.specs.Events.{turn_events, view_events, events_for, new_events}
 use Rattle.far_replay.specs.Objects.{is_range, lowest_cell, object_len, uses, with_range}
 use Rattle.far_word.specs.declared.mark.Marks.{Marks}
@@ -62,7 +61,7 @@ use Rattle.far_replay.proofs.Outcomes.{by_outcome}
 use Rattle.far_replay_laws.proofs.Kept.{whole}
 use Rattle.far_replay.proofs.Lasting.{first_lawful, command_carried, moment_lasts, each_is_moment}
 use Rattle.far_replay.proofs.Lowest.{lowest_cell_is, no_cell_is}
-use Rattle.far_replay_laws.proofs.Refusals.{turn_is_no_refusal, from_cause, of_far}
+use Rattle.far_replay_laws.proofs.Refusals.{not_halted, turn_is_no_refusal, from_cause, of_far}
 use Rattle.far_replay.proofs.RoundLeads.{cell_same, same_clear, stays_same, step_stays}
 use Rattle.far_replay.proofs.WithCore.{same_order}
 use Rattle.far_replay.proofs.Spliced.{length-with_range, with_range_before, with_range_inside, with_range_after}
@@ -113,9 +112,6 @@ same_refusal : (why cause : Refusal) (r : Reply) → r ≡ Refused cause → r �
 same_refusal why cause r h e = refusals_alike cause why (sym h ∙ e) where
   refusals_alike : (a b : Refusal) → Refused a ≡ Refused b → a ≡ b
   refusals_alike a b e = cc
-
-pub not_halted : (why cause : Refusal) (progress : Progress) (r : Reply) → r ≡ Halted cause progress → r ≢ Refused why
-not_halted why cause progress r h e = let odd : Halted cause progress ≡ Refused why = sym h ∙ e in cc
 
 write_marks : (why : Refusal) (m p from : ℕ) (bytes : List ℕ) → KeepsFar why → MayMark (Mutator m (Write p from bytes)) why p
 write_marks why m p from bytes h = of_far (λ x. MayMark (Mutator m (Write p from bytes)) x p) why h refl refl

@@ -2,15 +2,13 @@
 use Rattle.std.proofs.Common.{◌≡◌, ◌≢◌, ℕ, ◌+◌, ◌<◌, ◌≤◌, ◌^◌, Bool, true, false, cond, refl, sym, subst, ap, ◌∙◌, arith, not, Option, Some, None, List, [], ◌∷◌, length, filter, eqb}
 use Rattle.std.specs.List.{find, range_with_len}
 use Rattle.std.proofs.Math.Nat.{min-le_right}
-use Rattle.std.proofs.lemmas.Bool.{cond_both, eq-eqb, true≢false}
+use Rattle.std.proofs.lemmas.Bool.{cond_both, eq-eqb}
 use Rattle.std.proofs.lemmas.List.{length-take}
 use Rattle.std.proofs.lemmas.List.Sums.{length-filter, count_by-le-length}
 use Rattle.hex.specs.Hex.{IsBytes}
 use Rattle.far_word.specs.declared.refused.Refused.TheVariants.{Phase as WrongPhase}
 use Rattle.far_word.specs.Pointer.{read_of}
-use Rattle.far_core.specs.declared.event.Kind.{Kind}
 use Rattle.far_core.specs.declared.event.Kind.TheVariants as kinds
-use Rattle.far_core.specs.events.Mark.{is_sealed}
 use Rattle.far_core.specs.state.Law.{Law}
 use Rattle.far_book.proofs.region.Owns.{own_law}
 use Rattle.far_book.specs.book.Dealing.{has_evac}
@@ -49,6 +47,7 @@ use Rattle.far_replay_laws.proofs.Refusals.{EachCause}
 use Rattle.far_replay_laws.proofs.Stops.{LeftSome, Stood, begun, starts, through_turns, turns_led}
 use Rattle.far_replay.proofs.RoundChoices.{Chooses}
 use Rattle.far_replay.proofs.RoundLeads.{begins, chooses, evacuating_is, none_first}
+use Rattle.far_replay_laws.proofs.StepsTell.{sealed_used}
 
 pub filter_shorter : (f : ℕ → Bool) (xs : List ℕ) → length (filter f xs) ≤ length xs
 filter_shorter f xs = omega (arith, length-filter f xs, count_by-le-length f xs)
@@ -62,9 +61,6 @@ bounded_alone : (tally : Tally) → IsBounded (plus nothing tally) → IsBounded
 bounded_alone tally h = record { objects = omega (arith, h.objects); logs = omega (arith, h.logs) }
 
 -- ---- logs
-sealed_used : (kind : Kind) → is_sealed kind ≡ true → kind ≢ kinds.Free
-sealed_used kind shut free = true≢false (sym shut ∙ ap is_sealed free)
-
 told_logs : (logs : List ℕ) → ((l : ℕ) → among logs l ≡ true → l < 2 ^ 64) → AreToldAsNumbers logs
 told_logs [] h = tt
 told_logs (l ∷ ls) h = (h l (or_left (eqb l l) (among ls l) (eq-eqb l l refl)), told_logs ls (λ k there. h k (or_right (eqb k l) (among ls k) there)))

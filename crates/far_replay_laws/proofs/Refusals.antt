@@ -129,15 +129,15 @@ far_named s p far none = let free : Some Free ≡ Some (Far far.0 far.1 far.2) =
 pub far_away : (s : State) (p : ℕ) → LiesFar s p → ¬ (s.cell p ≢ 0 → AtHand s p)
 far_away s p far hand = let at = hand (far_named s p far) in let odd : Some (Near at.len at.ds at.place at.marks) ≡ Some (Far far.0 far.1 far.2) = sym at.near ∙ far.3 in cc
 
+pub not_halted : (why cause : Refusal) (progress : Progress) (r : Reply) → r ≡ Halted cause progress → r ≢ Refused why
+not_halted why cause progress r h e = let odd : Halted cause progress ≡ Refused why = sym h ∙ e in cc
+
 pub near_refusals : (now : Moment) (c : Command) (r : Reply) (next : Moment) (why : Refusal) → Law now.core → IsAtHandFor now c → Commanded now c r next → r ≡ Refused why → MayRefuse c why
 near_refusals now c r next why law hand h e = by_outcome now r next (λ d. IsAtHandFor now d → MayRefuse d why)
     (λ d h hand. served_near now d r next why law hand h e)
     (λ cause m p from bytes h hand. absurd (far_away now.core p h.far hand))
     (λ cause m p from len h hand. absurd (far_away now.core p h.far hand))
     (λ cause m p h hand. absurd (far_away now.core p h.far hand))
-    (λ cause objects count h hand. absurd (halts cause why h.progress r h.reply e))
-    (λ cause turns objects policy most count h hand. absurd (halts cause why _ r h.reply e))
+    (λ cause objects count h hand. absurd (not_halted why cause h.progress r h.reply e))
+    (λ cause turns objects policy most count h hand. absurd (not_halted why cause _ r h.reply e))
     c h hand
-  where
-    halts : (cause why : Refusal) (progress : Progress) (r : Reply) → r ≡ Halted cause progress → r ≢ Refused why
-    halts cause why progress r h e = let odd : Halted cause progress ≡ Refused why = sym h ∙ e in cc

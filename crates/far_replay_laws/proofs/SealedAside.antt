@@ -1,6 +1,7 @@
 -- Each command that is told by events leaves the sealed logs: nothing comes to lie there, and what lies there has EVAC where it had it.
 use Rattle.std.proofs.Common.{◌≡◌, ℕ, ◌+◌, ◌*◌, ◌/◌, ◌^◌, ◌<◌, ◌≤◌, ◌&&◌, Bool, true, false, not, cond, nat_eq, nat_lt, nat_le, Option, Some, None, is_some, List, length, bit_or, arith, ap, sym, refl, ◌∙◌, subst}
-use Rattle.std.proofs.lemmas.Bool.{and_parts, cond_both, false≢true}
+use Rattle.std.proofs.lemmas.Bool.{and_parts, cond_both, false≢true, not-false}
+use Rattle.far_core.proofs.Bounds.{some_of}
 use Rattle.std.proofs.lemmas.Bool.Decides.{nat_tests}
 use Rattle.far_word.specs.declared.mark.Mark.{Mark}
 use Rattle.far_word.specs.declared.mark.Mark.TheVariants.{Hot, Evac, Moved}
@@ -138,10 +139,6 @@ come_sealed s law p place may found = subst (λ x. KeepsSealed s (come_of s p x 
 
 -- ---- a dereference
 module _ (s : State) (m p : ℕ) (law : Law s) (opened : is_opened s m ≡ true) (ours : uses s m p ≡ true) where
-  place_of : (o : Option Place) → not (is_some o) ≡ false → (place : Place) × (o ≡ Some place)
-  place_of None e = absurd cc
-  place_of (Some place) e = (place, refl)
-
   slow_sealed : is_slow s p ≡ true → (place : Place) → comes_to (sought s m p) p ≡ Some place → KeepsSealed s (with_view (come (sought s m p) p) p)
   slow_sealed slow place found =
       let u : State = sought s m p in
@@ -154,7 +151,7 @@ module _ (s : State) (m p : ℕ) (law : Law s) (opened : is_opened s m ≡ true)
       (sealed_more u v (with_view v p) (come_sealed u first p place may found) (view_sealed v p then (ap in_use comes.near)))
 
   derefs_by : (b : Bool) → is_slow s p ≡ b → (b && not (is_some (comes_to (sought s m p) p))) ≡ false → KeepsSealed s (cond b (with_view (come (sought s m p) p) p) (with_view s p))
-  derefs_by true slow found = let there = place_of (comes_to (sought s m p) p) found in slow_sealed slow there.0 there.1
+  derefs_by true slow found = let there = some_of (comes_to (sought s m p) p) (not-false (is_some (comes_to (sought s m p) p)) found) in slow_sealed slow there.0 there.1
   derefs_by false fast found = view_sealed s p law (live s m p law opened ours)
 
   pub derefs_sealed : has_no_room s m p ≡ false → KeepsSealed s (dereferenced s m p)

@@ -60,6 +60,8 @@ use Rattle.far_evac.proofs.LiveOnce.{LivesIn, first_named, live_named, near_at}
 use Rattle.far_evac.proofs.LiveOrder.{live_in_order}
 use Rattle.far_evac.proofs.Marks.{is_given_up, is_marked, mark_sets, marks_cells, others_stay}
 use Rattle.far_evac.proofs.SmallSteps.{walks_left}
+pub use Rattle.far_evac.proofs.SmallSteps.{none_there as none_held}
+pub use Rattle.far_replay.proofs.Strays.{chosen_held as held_by}
 use Rattle.far_evac.proofs.Readiness.{risen_is_ready}
 use Rattle.far_evac.proofs.Rounds.{found_in, walked_phase}
 use Rattle.far_evac.proofs.Unviewed.{none_found}
@@ -99,18 +101,8 @@ shows_evac s p (Some (Near len ds place marks)) e h = (len, ds, place, marks, e,
 shows_evac s p _ e h = absurd (false≢true h)
 
 -- ---- which logs are chosen
-pub held_by : (held : Bool) (kind : Kind) → kind_named held kind ≡ Chosen → held ≡ true
-held_by held kinds.Free e = absurd cc
-held_by held kinds.Open e = absurd cc
-held_by true kinds.Sealed e = refl
-held_by false kinds.Sealed e = absurd cc
-
 pub chosen_by_both : (held : Bool) (kind : Kind) → held ≡ true → kind ≡ kinds.Sealed → kind_named held kind ≡ Chosen
 chosen_by_both held kind h e = ap (λ b. kind_named b kind) h ∙ ap (kind_named true) e
-
-pub none_held : (held : List ℕ) → is_empty held ≡ true → held ≡ []
-none_held [] e = refl
-none_held (l ∷ ls) e = absurd (false≢true e)
 
 pub held_chosen : (now : Moment) → MomentLaw now → (l : ℕ) → among now.collection l ≡ true → IsChosen now l
 held_chosen now moment l h = chosen_by_both (among now.collection l) (now.core.kind l) h (moment.sealed l h)
@@ -511,14 +503,13 @@ pub tells_open : (s : State) → Law s → (m epoch : ℕ) → polled s ≡ poll
 tells_open s law m epoch e = somebody s law (first_open s) refl m epoch e
 
 -- ---- choosing
-module _ (now : Moment) (law : Law now.core) (moment : MomentLaw now) where
-  not_free : (kind : Kind) → is_sealed kind ≡ true → kind ≢ kinds.Free
-  not_free kinds.Free h e = absurd (false≢true h)
-  not_free _ h e = cc
+pub sealed_used : (kind : Kind) → is_sealed kind ≡ true → kind ≢ kinds.Free
+sealed_used kind shut free = true≢false (sym shut ∙ ap is_sealed free)
 
+module _ (now : Moment) (law : Law now.core) (moment : MomentLaw now) where
   are_rows : AreRows (rows_in now)
   are_rows = (rows_told now.order (row_of now.core) (λ l. refl) moment.order_once
-      (λ l there. omega (arith, law.logs.log_range l (not_free (now.core.kind l) (sym (moment.order l) ∙ there)), law.shape.few_logs))).0
+      (λ l there. omega (arith, law.logs.log_range l (sealed_used (now.core.kind l) (sym (moment.order l) ∙ there)), law.shape.few_logs))).0
 
   pub policy_takes : (policy : Policy) (most : ℕ) → Takes now (By policy) most (chosen_by policy (rows_in now) most)
   policy_takes Oldest most = ap (take most) (rows_are now.core now.order)

@@ -41,7 +41,7 @@ evacuated_no progress why e = cc
 ended_no : (end : RoundEnd) (why : Refusal) → Ended end ≢ Refused why
 ended_no end why e = cc
 
-same_progress : (p q : Progress) → Evacuated p ≡ Evacuated q → p ≡ q
+pub same_progress : (p q : Progress) → Evacuated p ≡ Evacuated q → p ≡ q
 same_progress p q e = cc
 
 same_end : (p q : RoundEnd) → Ended p ≡ Ended q → p ≡ q
