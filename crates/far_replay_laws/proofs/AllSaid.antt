@@ -24,6 +24,8 @@ use Rattle.far_replay_laws.proofs.AloneFirst.{alone_first}
 use Rattle.far_replay_laws.proofs.EpochLaws.{closes_forget, epochs_told, scopes_open}
 use Rattle.far_replay_laws.proofs.EpochsSpent.{steps_spend}
 use Rattle.far_replay_laws.proofs.Failures.{failures_are_said}
+use Rattle.far_replay_laws.proofs.FarRefusals.{device_refuses_far}
+use Rattle.far_replay_laws.proofs.LeftBeside.{commands_beside}
 use Rattle.far_replay_laws.proofs.HotViews.{views_are_hot}
 use Rattle.far_replay_laws.proofs.InquiryLaws.{log_tells, where_tells}
 use Rattle.far_replay_laws.proofs.LeavingMarks.{commands_leave}
@@ -62,10 +64,12 @@ module _ (now : Moment) (c : Command) (r : Reply) (next : Moment) (is : IsMoment
     logs = λ e. logs_tell now r next law (by (Book Logs) tt e);
     views = views_last now c r next is bytes h;
     marks = commands_leave now c r next is h;
+    beside = commands_beside now c r next is h;
     room = commands_take now c r next is h;
     ages = ages_stay now c r next is h;
     spends = λ step e. steps_spend now step r next is (at (Evacuator step) e);
     stays = λ why f. refusals_stay now c r next why law h f;
+    far = λ why f keeps. device_refuses_far now c r next why is h f keeps;
     causes = λ why near f. near_refusals now c r next why law near h f;
   }
 

@@ -7,6 +7,7 @@ use Rattle.far_core.specs.state.Shape.{is_shape}
 use Rattle.far_text.specs.Command.{Command, Heap, New, Open, Close, Where, Drop, Try, Epoch, Logs as AsksLogs, Log, Mutator, Book, Evacuator, Step, Device}
 use Rattle.far_text.specs.Grammar.{trace_of}
 use Rattle.far_replay.specs.Answers.{Answers, first_moment, shape_of}
+use Rattle.far_replay.specs.Commanded.{KeepsFar}
 use Rattle.far_replay.specs.Moment.{Moment}
 use Rattle.far_replay.specs.Objects.{uses}
 use Rattle.far_replay.specs.Reply.{Reply, Done, Pointer, Refused}
@@ -15,9 +16,11 @@ use Rattle.far_replay_laws.specs.Along.{AllAlong}
 use Rattle.far_replay_laws.specs.Ages.{KeepsAges}
 use Rattle.far_replay_laws.specs.Epochs.{StepSpends}
 use Rattle.far_replay_laws.specs.Headline.{AnswersDrop, AnswersEpoch, AnswersLog, AnswersNew, AnswersTry, AnswersWhere, IsAtHandFor, IsLowest, IsSound, MakesObject, MayRefuse, OpensAt, TakesRoom, TellsAll, ViewsAfter}
+use Rattle.far_replay_laws.specs.FromOutside.{IsFarFor}
+use Rattle.far_replay_laws.specs.LeftBeside.{LeavesBeside}
 use Rattle.far_replay_laws.specs.LeftMarks.{LeavesMarks, ViewedAreHot}
 
--- of one command, its reply and the moment after it: what is asked for and told; which views there are then, and which marks; what it takes of the logs; in
+-- of one command, its reply and the moment after it: what is asked for and told; which views there are then, and which marks; what it leaves beside; what it takes of the logs; in
 -- which order logs were sealed; which epoch a step spends; what a refusal leaves, and which may come where the object is at hand
 pub record Said (now : Moment) (c : Command) (r : Reply) (after : Moment) : Type 0 where
   pub new : (m len ds : ℕ) → c ≡ Mutator m (New len ds) → m < now.core.mutators → ds < 256 → 0 < len → len ≤ LONGEST → AnswersNew now m len r
@@ -33,10 +36,12 @@ pub record Said (now : Moment) (c : Command) (r : Reply) (after : Moment) : Type
   pub logs : c ≡ Book AsksLogs → TellsAll now r
   pub views : ViewsAfter now.core c r after.core
   pub marks : LeavesMarks now.core c r after.core
+  pub beside : LeavesBeside now c r after
   pub room : TakesRoom now c r after
   pub ages : KeepsAges now c after
   pub spends : (step : Step) → c ≡ Evacuator step → StepSpends now step r after
   pub stays : (why : Refusal) → r ≡ Refused why → Stays c why now after
+  pub far : (why : Refusal) → r ≡ Refused why → KeepsFar why → IsFarFor now.core c × IsFarFor after.core c
   pub causes : (why : Refusal) → IsAtHandFor now c → r ≡ Refused why → MayRefuse c why
 
 abbrev pub AllSaid : Moment → List Command → List Reply → List Moment → Type 0

@@ -18,7 +18,7 @@ ghost use Rattle.far_replay_laws.specs.Steps.{StepsAreTold};
 /// views rest stay; each mutator's replies are what its own lines alone say; each step of the evacuator tells what has happened,
 /// and leaves objects as `steps_leave` says; and any other command leaves the round, as `rounds_stand` says.
 /// The device fails no more often than it is said to. Of the same replies and moments all is so that the laws below say of one command: what it is
-/// answered, which views there are then, and which marks, what it takes of the logs, what a refusal leaves; and in each moment what is viewed has HOT.
+/// answered, which views there are then, and which marks, what it leaves beside, what it takes of the logs, what a refusal leaves; and in each moment what is viewed has HOT.
 pub fn outputs_are_sound()
     ensures sound { OutputsAreSound }
     ensures each { TextsSayAll }
