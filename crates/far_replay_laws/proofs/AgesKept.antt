@@ -13,7 +13,7 @@ use Rattle.far_evac.specs.MomentLaw.{MomentLaw}
 use Rattle.far_evac.specs.RoundSteps.{advanced, among}
 use Rattle.far_evac.specs.Turns.{Turned, turn_size, turned, turns_made}
 use Rattle.far_evac.specs.Waiting.{after_polling, first_open, polled_to}
-use Rattle.far_evac.specs.Walk.{Walked, Way, Drops, Goes, Moves, ended, is_done, walked}
+use Rattle.far_evac.specs.Walk.{Walked, Way, Moves, ended, is_done, walked}
 use Rattle.far_evac.specs.declared.phase.Phase.{Phase}
 use Rattle.far_evac.specs.declared.phase.Phase.TheVariants.{Idle, Marking, Waiting, Evacuating}
 use Rattle.far_evac.proofs.Bools.{or_left, or_right}
@@ -97,9 +97,8 @@ record Walks (logs : List ℕ) (order : List ℕ) (w : Walked) : Type 0 where
   within : (l : ℕ) → among w.moment.collection l ≡ true → among logs l ≡ true
 
 order_ages : (logs : List ℕ) (s : State) (order : List ℕ) (way : Way) → Ages logs order (order_by s order way)
-order_ages logs s order Drops = same_ages logs order order refl
 order_ages logs s order (Moves place) = cond_both (place.log == s.current) order (order ++ s.current ∷ []) (Ages logs order) (λ _. same_ages logs order order refl) (λ _. more_ages logs order (s.current ∷ []))
-order_ages logs s order Goes = same_ages logs order order refl
+order_ages logs s order _ = same_ages logs order order refl
 
 keeps_walks : (logs order : List ℕ) → KeepsAlways (λ k w. Walks logs order w)
 keeps_walks logs order = record {

@@ -1,23 +1,43 @@
 -- Of each command of a text all is so that is promised of it.
-use Rattle.std.proofs.Common.{◌≡◌, subst, List, [], ◌∷◌}
-use Rattle.far_text.specs.Command.{Command, New, Open, Where, Drop, Try, Epoch, Logs, Log, Mutator, Book, Evacuator}
+use Rattle.std.proofs.Common.{◌≡◌, ℕ, true, subst, Option, List, ◌∷◌}
+use Rattle.std.specs.Prelude.{All}
+use Rattle.far_log.proofs.Members.{All-from}
+use Rattle.far_core.specs.state.Shape.{is_shape}
+use Rattle.far_text.specs.Command.{Command, Device, New, Open, Close, Where, Drop, Try, Epoch, Logs, Log, Mutator, Book, Evacuator}
 use Rattle.far_text.specs.Written.{AllWriteBytes, WritesBytes}
-use Rattle.far_replay.specs.Answers.{Answered, Commanded, Served, IsMoment, first_moment}
+use Rattle.far_replay.specs.Answers.{Commanded, Served, IsMoment, first_moment, shape_of}
 use Rattle.far_replay.proofs.Outcomes.{AsksNothing, is_served}
 use Rattle.far_replay.specs.Moment.{Moment}
 use Rattle.far_replay.specs.Reply.{Reply, Pointer}
 use Rattle.far_replay.proofs.Drops.{drop_ends_object}
-use Rattle.far_replay.proofs.Lasting.{first_is_moment, moment_lasts, next_is_moment}
-use Rattle.far_replay_laws.specs.Said.{AllSaid, Said, TextsSayAll}
+use Rattle.far_replay.proofs.Lasting.{each_is_moment, first_is_moment, first_lasts, moment_lasts, moments_last}
+use Rattle.far_text.proofs.TextLaws.{texts_write}
+use Rattle.far_replay_laws.specs.Headline.{IsSound, OutputsAreSound}
+use Rattle.far_replay_laws.specs.LeftMarks.{LeavesMarks, TextsLeaveMarks, ViewedAreHot}
+use Rattle.far_replay_laws.specs.Said.{Said, TextsSayAll}
+use Rattle.far_replay_laws.specs.Left.{Leaves}
+use Rattle.far_replay_laws.specs.Listed.{Counted}
+use Rattle.far_replay_laws.specs.Steps.{Told}
 use Rattle.far_replay_laws.proofs.AgesKept.{ages_stay}
-use Rattle.far_replay_laws.proofs.EpochLaws.{epochs_told, scopes_open}
+use Rattle.far_replay_laws.proofs.Along.{along}
+use Rattle.far_replay_laws.proofs.AloneFirst.{alone_first}
+use Rattle.far_replay_laws.proofs.EpochLaws.{closes_forget, epochs_told, scopes_open}
 use Rattle.far_replay_laws.proofs.EpochsSpent.{steps_spend}
+use Rattle.far_replay_laws.proofs.Failures.{failures_are_said}
+use Rattle.far_replay_laws.proofs.FarRefusals.{device_refuses_far}
+use Rattle.far_replay_laws.proofs.LeftBeside.{commands_beside}
+use Rattle.far_replay_laws.proofs.HotViews.{views_are_hot}
 use Rattle.far_replay_laws.proofs.InquiryLaws.{log_tells, where_tells}
-use Rattle.far_replay_laws.proofs.OutputLaws.{is_made, logs_tell, makes_its_object, outputs_sound, refusals_stay, takes_lowest}
+use Rattle.far_replay_laws.proofs.LeavingMarks.{commands_leave}
+use Rattle.far_replay_laws.proofs.LeftBySteps.{left_so}
+use Rattle.far_replay_laws.proofs.Listed.{counted}
+use Rattle.far_replay_laws.proofs.OutputLaws.{is_made, logs_tell, makes_its_object, objects_whole, refusals_stay, takes_lowest}
+use Rattle.far_replay_laws.proofs.PlainReplies.{replies_plain}
 use Rattle.far_replay_laws.proofs.Refusals.{near_refusals}
 use Rattle.far_replay_laws.proofs.TakingRoom.{commands_take}
 use Rattle.far_replay_laws.proofs.Tries.{tries_answered}
-use Rattle.far_replay_laws.proofs.ViewLaws.{views_last}
+use Rattle.far_replay_laws.proofs.TurnsTell.{told_so}
+use Rattle.far_replay_laws.proofs.ViewLaws.{logs_stay, views_last}
 
 module _ (now : Moment) (c : Command) (r : Reply) (next : Moment) (is : IsMoment now) (bytes : WritesBytes c) (h : Commanded now c r next) where
   at : (d : Command) → c ≡ d → Commanded now d r next
@@ -37,27 +57,61 @@ module _ (now : Moment) (c : Command) (r : Reply) (next : Moment) (is : IsMoment
     place = λ m p e own. where_tells now m p r next law own (by (Mutator m (Where p)) tt e);
     epoch = λ m e own. epochs_told now m r next own (at (Mutator m Epoch) e);
     opens = λ m e own closed. scopes_open now m r next own closed (at (Mutator m Open) e);
+    forgets = λ m e f. closes_forget now m next (subst (λ x. Commanded now (Mutator m Close) x next) f (at (Mutator m Close) e));
     tries = λ m p e own opened used. tries_answered now m p r next law own opened used (by (Mutator m (Try p)) tt e);
     drops = λ m p e own. drop_ends_object now m p r next law own (by (Mutator m (Drop p)) tt e);
     log = λ l e. log_tells now l r next (by (Book (Log l)) tt e);
     logs = λ e. logs_tell now r next law (by (Book Logs) tt e);
     views = views_last now c r next is bytes h;
+    marks = commands_leave now c r next is h;
+    beside = commands_beside now c r next is h;
     room = commands_take now c r next is h;
     ages = ages_stay now c r next is h;
     spends = λ step e. steps_spend now step r next is (at (Evacuator step) e);
     stays = λ why f. refusals_stay now c r next why law h f;
+    far = λ why f keeps. device_refuses_far now c r next why is h f keeps;
     causes = λ why near f. near_refusals now c r next why law near h f;
   }
 
-all_said : (now : Moment) (cs : List Command) (rs : List Reply) (moments : List Moment) → IsMoment now → AllWriteBytes cs → Answered now cs rs moments → AllSaid now cs rs moments
-all_said now [] [] [] is bytes h = tt
-all_said now [] [] (m ∷ ms) is bytes h = absurd h
-all_said now [] (r ∷ rs) ms is bytes h = absurd h
-all_said now (c ∷ cs) [] ms is bytes h = absurd h
-all_said now (c ∷ cs) (r ∷ rs) [] is bytes h = absurd h
-all_said now (c ∷ cs) (r ∷ rs) (next ∷ ms) is bytes h = (said now c r next is bytes.0 h.0, all_said next cs rs ms (next_is_moment now c r next is bytes.0 h.0) bytes.1 h.1)
+-- ---- from the text on
+pub outputs_sound : OutputsAreSound
+outputs_sound text output logs mutators epoch device cs answers reads fits =
+    let first = first_moment logs mutators epoch in
+    let bytes : AllWriteBytes cs = texts_write text logs mutators epoch device cs reads in
+    let is : IsMoment first = first_is_moment logs mutators epoch fits in
+    let lasts = first_lasts logs mutators epoch fits in
+    let (rs, moments, h, e, fails) = failures_are_said text output logs mutators epoch device cs answers reads fits in
+    record {
+      replies = rs;
+      moments = moments;
+      bytes = bytes;
+      answered = h;
+      printed_so = e;
+      plain = replies_plain first cs rs moments lasts bytes h;
+      lawful = moments_last first cs rs moments is bytes h;
+      whole = objects_whole first cs rs moments is bytes h;
+      stay = logs_stay first cs rs moments is bytes h;
+      alone = λ m within. alone_first logs mutators epoch m cs rs moments fits within bytes h;
+      told = along Told (λ now c r next is bytes h. told_so now c r next (moment_lasts now is) h) first cs rs moments is bytes h;
+      left = along Leaves (λ now c r next is bytes h. left_so now c r next (moment_lasts now is) h) first cs rs moments is bytes h;
+      counted = along (λ now c r next. Counted now c r) (λ now c r next is bytes h. counted now c r next (moment_lasts now is).law h) first cs rs moments is bytes h;
+      fails = fails;
+    }
+
+-- what is viewed has HOT in each of its moments
+sound_hot : (logs mutators epoch : ℕ) (device : Option Device) (cs : List Command) (output : List ℕ) → is_shape (shape_of logs mutators epoch) ≡ true → (x : IsSound logs mutators epoch device cs output) →
+    All (λ (now : Moment). ViewedAreHot now.core) (first_moment logs mutators epoch ∷ x.moments)
+sound_hot logs mutators epoch device cs output fits x =
+    let first = first_moment logs mutators epoch in
+    All-from (λ (now : Moment). ViewedAreHot now.core) (first ∷ x.moments)
+    (λ y c. views_are_hot y (each_is_moment first cs x.replies x.moments (first_is_moment logs mutators epoch fits) x.bytes x.answered y c))
 
 pub texts_say_all : TextsSayAll
 texts_say_all text output logs mutators epoch device cs answers reads fits =
     let x = outputs_sound text output logs mutators epoch device cs answers reads fits in
-    (x.replies, x.moments, x.answered, x.printed_so, all_said (first_moment logs mutators epoch) cs x.replies x.moments (first_is_moment logs mutators epoch fits) x.bytes x.answered)
+    (x, along Said said (first_moment logs mutators epoch) cs x.replies x.moments (first_is_moment logs mutators epoch fits) x.bytes x.answered, sound_hot logs mutators epoch device cs output fits x)
+
+pub texts_leave : TextsLeaveMarks
+texts_leave text output logs mutators epoch device cs answers reads fits =
+    let x = outputs_sound text output logs mutators epoch device cs answers reads fits in
+    (x, along (λ now c r next. LeavesMarks now.core c r next.core) (λ now c r next is bytes h. commands_leave now c r next is h) (first_moment logs mutators epoch) cs x.replies x.moments (first_is_moment logs mutators epoch fits) x.bytes x.answered, sound_hot logs mutators epoch device cs output fits x)

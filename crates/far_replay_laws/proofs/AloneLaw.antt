@@ -16,7 +16,7 @@ use Rattle.far_replay.specs.Commanded.{KeepsFar}
 use Rattle.far_replay.specs.Objects.{object_len}
 use Rattle.far_evac.specs.declared.answers.RoundEnd.TheVariants.{Limit}
 use Rattle.far_evac.specs.declared.phase.Phase.TheVariants.{Evacuating}
-use Rattle.far_word.specs.declared.refused.Refused.TheVariants.{Device, Damaged, Marked}
+use Rattle.far_word.specs.declared.refused.Refused.TheVariants.{Marked}
 use Rattle.far_replay.proofs.AloneStates.{own_used}
 use Rattle.far_replay.proofs.Outcomes.{by_outcome}
 use Rattle.far_replay.proofs.Turns.{access_fact}
@@ -31,6 +31,7 @@ use Rattle.far_replay.proofs.Lasting.{Lasts, IsCarriedOut, after_step, command_c
 use Rattle.far_replay_laws.proofs.AloneNew.{turns_new}
 use Rattle.far_replay.proofs.RoundLeads.{owned_same, step_keeps}
 use Rattle.far_replay_laws.proofs.AloneTurns.{Teaches, Turns, turns_open, turns_epoch, turns_close, turns_read, turns_write, turns_where, turns_drop, turns_try, turns_view}
+use Rattle.far_replay_laws.proofs.Refusals.{of_far}
 
 -- ---- no event changes how many mutators there are
 step_mutators : (s : State) (e : Event) → (step_of s e).0.mutators ≡ s.mutators
@@ -92,19 +93,13 @@ served_learns now m (Evacuator step) r next lasts within small h =
 
 -- one that the device refuses tells what a try would, and that nothing else refuses it
 known_write : (k : ℕ) (o q : Own) (p from : ℕ) (new all : List ℕ) (why : Refusal) → KeepsFar why → o.opened ≡ true → o.viewed p ≡ false → q ≡ o → o.object p ≡ Some all → IsIn all from (length new) → Knows k o (Mutator k (Write p from new)) (Refused why) q
-known_write k o q p from new all Device h opened free same is inside = (opened, free, same, (all, is, inside))
-known_write k o q p from new all Damaged h opened free same is inside = (opened, free, same, (all, is, inside))
-known_write k o q p from new all why h opened free same is inside = absurd h
+known_write k o q p from new all why h opened free same is inside = of_far (λ x. Knows k o (Mutator k (Write p from new)) (Refused x) q) why h (opened, free, same, (all, is, inside)) (opened, free, same, (all, is, inside))
 
 known_read : (k : ℕ) (o q : Own) (p from len : ℕ) (all : List ℕ) (why : Refusal) → KeepsFar why → o.opened ≡ true → o.viewed p ≡ false → q ≡ o → o.object p ≡ Some all → IsIn all from len → Knows k o (Mutator k (Read p from len)) (Refused why) q
-known_read k o q p from len all Device h opened free same is inside = (opened, free, same, (all, is, inside))
-known_read k o q p from len all Damaged h opened free same is inside = (opened, free, same, (all, is, inside))
-known_read k o q p from len all why h opened free same is inside = absurd h
+known_read k o q p from len all why h opened free same is inside = of_far (λ x. Knows k o (Mutator k (Read p from len)) (Refused x) q) why h (opened, free, same, (all, is, inside)) (opened, free, same, (all, is, inside))
 
 known_view : (k : ℕ) (o q : Own) (p : ℕ) (all : List ℕ) (why : Refusal) → KeepsFar why → o.opened ≡ true → o.viewed p ≡ false → q ≡ o → o.object p ≡ Some all → Knows k o (Mutator k (View p)) (Refused why) q
-known_view k o q p all Device h opened free same is = (opened, free, same, (all, is))
-known_view k o q p all Damaged h opened free same is = (opened, free, same, (all, is))
-known_view k o q p all why h opened free same is = absurd h
+known_view k o q p all why h opened free same is = of_far (λ x. Knows k o (Mutator k (View p)) (Refused x) q) why h (opened, free, same, (all, is)) (opened, free, same, (all, is))
 
 try_teaches : (why : Refusal) (now : Moment) (c : Command) (k p : ℕ) (r : Reply) (next : Moment) → Lasts now → Unbrought why now c k p r next → Teaches now.core k (Mutator k (Try p)) (Refused (Marked (now.core.cell p))) next.core
 try_teaches why now c k p r next lasts h =
@@ -185,11 +180,8 @@ one_more m o q c r cs rs false h rest = subst (λ x. Alone m x cs rs) h rest
 pub alone : (now : Moment) (cs : List Command) (rs : List Reply) (moments : List Moment) (m : ℕ) → Lasts now → m < now.core.mutators → AllWriteBytes cs → Answered now cs rs moments →
     Alone m (own_of (world_of now.core) m) cs rs
 alone now [] [] [] m lasts within small h = tt
-alone now [] [] (x ∷ xs) m lasts within small h = absurd h
-alone now [] (r ∷ rs) xs m lasts within small h = absurd h
-alone now (c ∷ cs) [] xs m lasts within small h = absurd h
-alone now (c ∷ cs) (r ∷ rs) [] m lasts within small h = absurd h
 alone now (c ∷ cs) (r ∷ rs) (next ∷ xs) m lasts within small h =
     let same : next.core.mutators ≡ now.core.mutators = next_mutators now c r next lasts small.0 h.0 in
     one_more m (own_of (world_of now.core) m) (own_of (world_of next.core) m) c r cs rs (is_by m (speaker c)) (each_learns now m c r next lasts within small.0 h.0)
     (alone next cs rs xs m (still_lasts now c r next lasts small.0 h.0) (subst (λ n. m < n) (sym same) within) small.1 h.1)
+alone now _ _ _ m lasts within small h = absurd h

@@ -5,7 +5,7 @@ use Rattle.std.proofs.lemmas.Bool.{and_parts, cond_both, eqb-true, eq-eqb, false
 use Rattle.far_word.specs.declared.refused.Refused.{Refused as Refusal}
 use Rattle.far_word.specs.declared.refused.Refused.TheVariants.{NoRoom, Closed, AlreadyOpen, NotHeld, Range, Held, Marked}
 use Rattle.far_word.specs.declared.pointer.Place.{Place}
-use Rattle.far_word.specs.declared.pointer.PtrWord.TheVariants.{Free, Near, Far}
+use Rattle.far_word.specs.declared.pointer.PtrWord.TheVariants.{Near, Far}
 use Rattle.far_word.specs.declared.sizes.TheConstants.{CELLS}
 use Rattle.far_word.specs.Pointer.{read_of}
 use Rattle.far_word.specs.declared.pointer.PtrWord.{PtrWord}
@@ -53,35 +53,21 @@ Turns s k c o = AllSucceed s (unless o (refused_events (moment_of s) c) (turn_ev
 -- ---- which cause comes first
 pub two_causes : (P : Option Refusal → Type 0) (a b : Bool) (x y : Refusal) → (a ≡ true → P (Some x)) → (a ≡ false → b ≡ true → P (Some y)) → (a ≡ false → b ≡ false → P None) →
     P (first_cause ((a, x) ∷ (b, y) ∷ []))
-two_causes P true b x y h k l = h refl
-two_causes P false true x y h k l = k refl refl
-two_causes P false false x y h k l = l refl refl
+two_causes P a b x y h k l = cond_both a (Some x) (first_cause ((b, y) ∷ [])) P h (λ first. cond_both b (Some y) None P (k first) (l first))
 
 pub three_causes : (P : Option Refusal → Type 0) (a b c : Bool) (x y z : Refusal) → (a ≡ true → P (Some x)) → (a ≡ false → b ≡ true → P (Some y)) → (a ≡ false → b ≡ false → c ≡ true → P (Some z)) →
     (a ≡ false → b ≡ false → c ≡ false → P None) → P (first_cause ((a, x) ∷ (b, y) ∷ (c, z) ∷ []))
-three_causes P true b c x y z h k l m = h refl
-three_causes P false true c x y z h k l m = k refl refl
-three_causes P false false true x y z h k l m = l refl refl refl
-three_causes P false false false x y z h k l m = m refl refl refl
+three_causes P a b c x y z h k l m = cond_both a (Some x) (first_cause ((b, y) ∷ (c, z) ∷ [])) P h (λ first. two_causes P b c y z (k first) (l first) (m first))
 
 pub four_causes : (P : Option Refusal → Type 0) (a b c d : Bool) (x y z w : Refusal) → (a ≡ true → P (Some x)) → (a ≡ false → b ≡ true → P (Some y)) →
     (a ≡ false → b ≡ false → c ≡ true → P (Some z)) → (a ≡ false → b ≡ false → c ≡ false → d ≡ true → P (Some w)) → (a ≡ false → b ≡ false → c ≡ false → d ≡ false → P None) →
     P (first_cause ((a, x) ∷ (b, y) ∷ (c, z) ∷ (d, w) ∷ []))
-four_causes P true b c d x y z w h k l m n = h refl
-four_causes P false true c d x y z w h k l m n = k refl refl
-four_causes P false false true d x y z w h k l m n = l refl refl refl
-four_causes P false false false true x y z w h k l m n = m refl refl refl refl
-four_causes P false false false false x y z w h k l m n = n refl refl refl refl
+four_causes P a b c d x y z w h k l m n = cond_both a (Some x) (first_cause ((b, y) ∷ (c, z) ∷ (d, w) ∷ [])) P h (λ first. three_causes P b c d y z w (k first) (l first) (m first) (n first))
 
 pub five_causes : (P : Option Refusal → Type 0) (a b c d e : Bool) (x y z w v : Refusal) → (a ≡ true → P (Some x)) → (a ≡ false → b ≡ true → P (Some y)) →
     (a ≡ false → b ≡ false → c ≡ true → P (Some z)) → (a ≡ false → b ≡ false → c ≡ false → d ≡ true → P (Some w)) → (a ≡ false → b ≡ false → c ≡ false → d ≡ false → e ≡ true → P (Some v)) →
     (a ≡ false → b ≡ false → c ≡ false → d ≡ false → e ≡ false → P None) → P (first_cause ((a, x) ∷ (b, y) ∷ (c, z) ∷ (d, w) ∷ (e, v) ∷ []))
-five_causes P true b c d e x y z w v h k l m n o = h refl
-five_causes P false true c d e x y z w v h k l m n o = k refl refl
-five_causes P false false true d e x y z w v h k l m n o = l refl refl refl
-five_causes P false false false true e x y z w v h k l m n o = m refl refl refl refl
-five_causes P false false false false true x y z w v h k l m n o = n refl refl refl refl refl
-five_causes P false false false false false x y z w v h k l m n o = o refl refl refl refl refl
+five_causes P a b c d e x y z w v h k l m n o = cond_both a (Some x) (first_cause ((b, y) ∷ (c, z) ∷ (d, w) ∷ (e, v) ∷ [])) P h (λ first. four_causes P b c d e y z w v (k first) (l first) (m first) (n first) (o first))
 
 -- ---- scopes
 open_run : (s : State) (k : ℕ) → Law s → AllSucceed s (open_events s k) → Scoped (world_of s) (world_of (after_events s (open_events s k))) k true
@@ -267,10 +253,9 @@ turns_try s k p law between = four_causes (Turns s k (Mutator k (Try p))) (not (
 -- where an object is that the mutator uses: that it has one, and near where it is viewed
 tells_home : (s : State) (k p : ℕ) (o : Option PtrWord) (all : List ℕ) → in_use o ≡ true → ((own_of (world_of s) k).viewed p ≡ true → (place : Place) × (held_place o ≡ Some place)) →
     (own_of (world_of s) k).object p ≡ Some all → Knows k (own_of (world_of s) k) (Mutator k (Where p)) (home_reply (home_of o)) (own_of (world_of s) k)
-tells_home s k p None all u viewed is = absurd (false≢true u)
-tells_home s k p (Some Free) all u viewed is = absurd (false≢true u)
 tells_home s k p (Some (Near len ds place marks)) all u viewed is = (refl, (λ _. tt), (all, is))
 tells_home s k p (Some (Far len ds marks)) all u viewed is = (refl, (λ v. let odd : None ≡ Some (viewed v).0 = (viewed v).1 in absurd cc), (all, is))
+tells_home s k p _ all u viewed is = absurd (false≢true u)
 
 -- where it is viewed its cell names the place
 rests_at : (s : State) (k p : ℕ) (o : Option Place) → Law s → uses s k p ≡ true → s.held p ≡ o → (own_of (world_of s) k).viewed p ≡ true → (place : Place) × (held_place (read_of (s.cell p)) ≡ Some place)

@@ -1,12 +1,12 @@
 -- What an audit counts is what the evacuator's census lists.
-use Rattle.std.proofs.Common.{◌≡◌, ℕ, ◌+◌, ◌*◌, Bool, true, false, cond, not, filter, Option, Some, None, List, [], ◌∷◌, length, map, refl, ap, sym, ◌∙◌}
+use Rattle.std.proofs.Common.{◌≡◌, ℕ, ◌+◌, ◌*◌, Bool, true, false, cond, not, filter, Option, Some, List, [], ◌∷◌, length, map, refl, ap, sym, ◌∙◌}
 use Rattle.std.specs.Prelude.{sum}
 use Rattle.std.specs.List.{flat_map, range_with_len}
 use Rattle.std.proofs.lemmas.List.{length-append}
 use Rattle.std.proofs.lemmas.List.Concat.{flat_map-cons}
 use Rattle.std.proofs.lemmas.List.Elements.{filter-append}
 use Rattle.far_word.specs.declared.pointer.PtrWord.{PtrWord}
-use Rattle.far_word.specs.declared.pointer.PtrWord.TheVariants.{Free, Near, Far}
+use Rattle.far_word.specs.declared.pointer.PtrWord.TheVariants.{Near, Far}
 use Rattle.far_word.specs.declared.sizes.TheConstants.{CELLS}
 use Rattle.far_word.specs.Pointer.{read_of}
 use Rattle.far_book.specs.declared.home.Home.TheVariants as homes
@@ -42,16 +42,14 @@ left_out lists housed true e = refl
 left_out lists housed false e = ap (λ b. length (cond b (housed ∷ []) [])) e
 
 one_near : (p : ℕ) (cell : Option PtrWord) → length (filter near_listed (housed_in p cell)) ≡ length (cond (lies_near cell) (p ∷ []) [])
-one_near p None = refl
-one_near p (Some Free) = refl
 one_near p (Some (Near len ds place marks)) = kept near_listed (record { pointer = p; home = homes.Near place marks }) p marks.dropped refl
 one_near p (Some (Far len ds marks)) = left_out near_listed (record { pointer = p; home = homes.Far marks }) marks.dropped refl
+one_near p _ = refl
 
 one_far : (p : ℕ) (cell : Option PtrWord) → length (filter far_listed (housed_in p cell)) ≡ length (cond (lies_far cell) (p ∷ []) [])
-one_far p None = refl
-one_far p (Some Free) = refl
 one_far p (Some (Near len ds place marks)) = left_out far_listed (record { pointer = p; home = homes.Near place marks }) marks.dropped refl
 one_far p (Some (Far len ds marks)) = kept far_listed (record { pointer = p; home = homes.Far marks }) p marks.dropped refl
+one_far p _ = refl
 
 -- ---- all pointers
 module _ (says : Option PtrWord → Bool) (lists : Housed → Bool) (one : (p : ℕ) (cell : Option PtrWord) → length (filter lists (housed_in p cell)) ≡ length (cond (says cell) (p ∷ []) [])) (s : State) where

@@ -84,8 +84,6 @@ naming_wins s p new free = cond_both (is_legal s (Names p 0 new)) (after s (Name
     (λ _. subst (ComesToPass (Names p 0 new)) (sym (ap (λ b. cond b Wins (Word (s.cell p))) (eq-eqb (s.cell p) 0 free))) tt) (λ _. tt)
 
 pub new_comes : (s : State) (m len ds : ℕ) (o : Option ℕ) (x : Option Place) → ((p : ℕ) → o ≡ Some p → s.cell p ≡ 0) → AllComeToPass s (new_events m len ds o x)
-new_comes s m len ds None x free = tt
-new_comes s m len ds (Some p) None free = tt
 new_comes s m len ds (Some p) (Some place) free =
     let puts : List Event = Puts place.log place.at (head_word p len ds) ∷ zero_puts place (words_for len) in
     let sure : Each IsSure puts = ((λ r. tt), Each-row IsSure (λ i. Puts place.log (place.at + 1 + i) 0) 0 (words_for len) (λ i _ r. tt)) in
@@ -93,6 +91,7 @@ new_comes s m len ds (Some p) (Some place) free =
     (put_leaves place.log place.at (head_word p len ds), Each-row LeavesCells (λ i. Puts place.log (place.at + 1 + i) 0) 0 (words_for len) (λ i _. put_leaves place.log (place.at + 1 + (0 + i)) 0)) in
     let still : (after_events s puts).cell p ≡ 0 = ap (λ (f : ℕ → ℕ). f p) (cells_stay s puts kept) ∙ free p refl in
     AllComeToPass-append s puts (Names p 0 (near_word len ds place) ∷ Adopts m p ∷ []) (all_sure s puts sure) (naming_wins (after_events s puts) p (near_word len ds place) still, (tt, tt))
+new_comes s m len ds _ _ free = tt
 
 -- ---- each command
 -- an object that is used is named

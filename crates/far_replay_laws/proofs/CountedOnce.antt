@@ -1,8 +1,8 @@
 -- How many of a list, in which each is once, have a property.
 use Rattle.std.proofs.Common.{◌≡◌, ◌≢◌, ℕ, zero, suc, ◌<◌, arith, Bool, true, sym, refl, ap, subst, ◌∙◌, List, [], ◌∷◌, length, filter, take, drop, eqb, inl, inr}
 use Rattle.std.specs.Prelude.{◌⊎◌, Contains, count_by}
-use Rattle.std.specs.List.{AllByRecursion, IsDistinct}
-use Rattle.std.proofs.lemmas.Bool.{cond_both, cases_eq, ne_eqb, eqb-true, eq-eqb}
+use Rattle.std.specs.List.{AllByRecursion}
+use Rattle.std.proofs.lemmas.Bool.{cond_both, cases_eq, eqb-true, eq-eqb}
 use Rattle.std.proofs.lemmas.List.Sums.{length-filter}
 use Rattle.far_log.proofs.Members.{here, there, split, none_in}
 use Rattle.far_evac.specs.LiveLaws.{IsInTurn}
@@ -10,8 +10,8 @@ use Rattle.far_evac.specs.RoundSteps.{among}
 use Rattle.far_evac.proofs.Bools.{or_left, or_right}
 use Rattle.far_evac.proofs.Fronts.{kept_in}
 use Rattle.far_evac.proofs.Lacking.{Once}
-pub use Rattle.far_evac.proofs.Lacking.{all_at}
-use Rattle.far_evac.proofs.LiveOnce.{each_map}
+use Rattle.far_evac.proofs.Counted.{distinct_of}
+pub use Rattle.far_evac.proofs.Lacking.{all_at, once_filter}
 use Rattle.far_evac.proofs.Marks.{all_filter, all_take}
 use Rattle.far_evac.proofs.Onward.{or_split}
 use Rattle.far_replay_laws.specs.HowMany.{IsHowMany}
@@ -69,15 +69,6 @@ filtered f (x ∷ xs) k c = cond_both (f x) (x ∷ filter f xs) (filter f xs) (�
     (λ _ h. let rest = filtered f xs k h in (there k x xs rest.0, rest.1)) c
 
 -- ---- lists in which each is once
-distinct_of : (xs : List ℕ) → Once xs → IsDistinct eqb xs
-unfolding IsDistinct
-distinct_of [] h = tt
-distinct_of (x ∷ xs) h = (each_map (λ q (ne : q ≢ x). ne_eqb x q (λ e. ne (sym e))) xs h.0, distinct_of xs h.1)
-
-pub once_filter : (f : ℕ → Bool) (xs : List ℕ) → Once xs → Once (filter f xs)
-once_filter f [] h = tt
-once_filter f (x ∷ xs) h = cond_both (f x) (x ∷ filter f xs) (filter f xs) Once (λ _. (all_filter (λ q. q ≢ x) f xs h.0, once_filter f xs h.1)) (λ _. once_filter f xs h.1)
-
 pub once_take : (n : ℕ) (xs : List ℕ) → Once xs → Once (take n xs)
 once_take zero xs h = tt
 once_take (suc n) [] h = tt

@@ -1,5 +1,5 @@
 -- A text has one output; and what the outside makes of its commands decides their replies.
-use Rattle.std.proofs.Common.{◌≡◌, ℕ, Bool, true, false, sym, ◌∙◌, ap, refl, subst, Result, Ok, Err, List, [], ◌∷◌, ◌++◌, Option}
+use Rattle.std.proofs.Common.{◌≡◌, ℕ, Bool, true, false, sym, ◌∙◌, ap, refl, subst, Result, Ok, List, [], ◌∷◌, ◌++◌, Option}
 use Rattle.std.specs.Bool.{MatchBool}
 use Rattle.std.specs.List.{flat_map}
 use Rattle.far_word.specs.declared.refused.Refused.{Refused as Refusal}
@@ -13,19 +13,17 @@ use Rattle.far_replay.specs.Answers.{AllServed, AnsweredBy, FailsAtMost, opened,
 use Rattle.far_replay.specs.Rounds.{chosen_by, rows_in}
 use Rattle.far_replay.proofs.Outcomes.{by_stop}
 use Rattle.far_replay_laws.specs.Headline.{NeverFails, OneOutput, OutsideDecides, OutsideDecidesOutput}
-use Rattle.far_text.specs.Command.{Command, Device, Trace, Nothing, Heap, Mutator, Evacuator, Write, Read, View, Evacuate, Policy}
+use Rattle.far_text.specs.Command.{Command, Device, Trace, Heap, Mutator, Evacuator, Write, Read, View, Evacuate, Policy}
 use Rattle.far_text.specs.Grammar.{trace_of}
 use Rattle.far_replay.specs.Moment.{Moment}
 use Rattle.far_replay.specs.Reply.{Reply, Evacuated, Halted, Refused, reply_text}
+use Rattle.far_replay_laws.proofs.Stops.{same_progress}
 
 -- one command that is served has one reply and one moment after it
 one_reply : (s : Moment) (c : Command) (r q : Reply) (t u : Moment) → Served s c r t → Served s c q u → (r ≡ q) × (t ≡ u)
 one_reply s c r q t u h k = (h.reply ∙ sym k.reply, h.moment ∙ sym k.moment)
 
 -- and so has one that is refused in its midst, by what the outside made of it
-same_progress : (p q : Progress) → Evacuated p ≡ Evacuated q → p ≡ q
-same_progress p q e = cc
-
 tried_once : (why : Refusal) (s : Moment) (c : Command) (m p : ℕ) (r q : Reply) (t u : Moment) → Unbrought why s c m p r t → Unbrought why s c m p q u → (r ≡ q) × (t ≡ u)
 tried_once why s c m p r q t u h k = (h.reply ∙ sym k.reply, h.tried.moment ∙ sym k.tried.moment)
 
@@ -57,36 +55,27 @@ pub answers_are_one : OutsideDecides
 answers_are_one [] s [] [] [] [] [] h k = (refl, refl)
 answers_are_one [] s [] [] [] [] (u ∷ us) h k = absurd k
 answers_are_one [] s [] [] (q ∷ qs) [] us h k = absurd k
-answers_are_one [] s [] [] qs (t ∷ ts) us h k = absurd h
-answers_are_one [] s [] (r ∷ rs) qs ts us h k = absurd h
-answers_are_one [] s (c ∷ cs) rs qs ts us h k = absurd h
-answers_are_one (o ∷ os) s [] rs qs ts us h k = absurd h
-answers_are_one (o ∷ os) s (c ∷ cs) [] qs ts us h k = absurd h
-answers_are_one (o ∷ os) s (c ∷ cs) (r ∷ rs) qs [] us h k = absurd h
 answers_are_one (o ∷ os) s (c ∷ cs) (r ∷ rs) [] (t ∷ ts) us h k = absurd k
 answers_are_one (o ∷ os) s (c ∷ cs) (r ∷ rs) (q ∷ qs) (t ∷ ts) [] h k = absurd k
 answers_are_one (o ∷ os) s (c ∷ cs) (r ∷ rs) (q ∷ qs) (t ∷ ts) (u ∷ us) h k =
     let one = one_outcome o s c r q t u h.0 k.0 in
     let rest = answers_are_one os t cs rs qs ts us h.1 (subst (λ x. AnsweredBy os x cs qs us) (sym one.1) k.1) in
     (λ i. one.0 i ∷ rest.0 i, λ i. one.1 i ∷ rest.1 i)
+answers_are_one _ s _ _ qs _ us h k = absurd h
 
 -- where the outside refuses nothing, it made the same of as many commands
 served_same : (os ws : List Outside) (s : Moment) (cs : List Command) (rs qs : List Reply) (ts us : List Moment) → AllServed os → AllServed ws → AnsweredBy os s cs rs ts → AnsweredBy ws s cs qs us → ws ≡ os
 served_same [] [] s cs rs qs ts us a b h k = refl
 served_same [] (w ∷ ws) s [] rs qs ts us a b h k = absurd k
-served_same [] (w ∷ ws) s (c ∷ cs) rs qs ts us a b h k = absurd h
-served_same (o ∷ os) [] s [] rs qs ts us a b h k = absurd h
 served_same (o ∷ os) [] s (c ∷ cs) rs qs ts us a b h k = absurd k
 served_same (Refuses why turns objects ∷ os) (w ∷ ws) s cs rs qs ts us a b h k = absurd a
 served_same (Serves ∷ os) (Refuses why turns objects ∷ ws) s cs rs qs ts us a b h k = absurd b
-served_same (Serves ∷ os) (Serves ∷ ws) s [] rs qs ts us a b h k = absurd h
-served_same (Serves ∷ os) (Serves ∷ ws) s (c ∷ cs) [] qs ts us a b h k = absurd h
 served_same (Serves ∷ os) (Serves ∷ ws) s (c ∷ cs) (r ∷ rs) [] ts us a b h k = absurd k
-served_same (Serves ∷ os) (Serves ∷ ws) s (c ∷ cs) (r ∷ rs) (q ∷ qs) [] us a b h k = absurd h
 served_same (Serves ∷ os) (Serves ∷ ws) s (c ∷ cs) (r ∷ rs) (q ∷ qs) (t ∷ ts) [] a b h k = absurd k
 served_same (Serves ∷ os) (Serves ∷ ws) s (c ∷ cs) (r ∷ rs) (q ∷ qs) (t ∷ ts) (u ∷ us) a b h k =
     let one = one_reply s c r q t u h.0 k.0 in
     ap (λ xs. Serves ∷ xs) (served_same os ws t cs rs qs ts us a b h.1 (subst (λ x. AnsweredBy ws x cs qs us) (sym one.1) k.1))
+served_same _ _ s _ _ _ _ us a b h k = absurd h
 
 -- what is written for a shape, with a heap or refused
 heap_once : (s : Moment) (device : Option Device) (cs : List Command) (b : Bool) (x y : List ℕ) → to_fail device ≡ 0 →
@@ -99,9 +88,8 @@ heap_once s device cs false x y never e f = e ∙ sym f
 
 -- what is written for what was read
 output_once : (read : Result Trace ℕ) (x y : List ℕ) → NeverFails read → IsOutput read x → IsOutput read y → x ≡ y
-output_once (Err line) x y never h k = h ∙ sym k
-output_once (Ok Nothing) x y never h k = h ∙ sym k
 output_once (Ok (Heap logs mutators epoch device cs)) x y never h k = heap_once (first_moment logs mutators epoch) device cs (is_shape (shape_of logs mutators epoch)) x y never h k
+output_once _ x y never h k = h ∙ sym k
 
 -- two outputs of one text are equal
 pub answers_once : OneOutput

@@ -60,10 +60,7 @@ last_refused now (Select choice most) r next h chooses rests e =
     h.reply ∙ ap (λ o. unless o Refused (turn_reply now (Evacuator (Select choice most)))) (spent_cause now.phase (is_spent now.core) (choice_causes (given_by choice (rows_in now) most)) rests (eq-eqb (now.core.epoch + 1) EPOCH_END e))
 last_refused now (Round policy most turns) r next h chooses rests e =
     h.reply ∙ ap (λ o. unless o Refused (turn_reply now (Evacuator (Round policy most turns)))) (spent_cause now.phase (is_spent now.core) [] rests (eq-eqb (now.core.epoch + 1) EPOCH_END e))
-last_refused now (Mark count) r next h chooses rests e = absurd chooses
-last_refused now Wait r next h chooses rests e = absurd chooses
-last_refused now (Evacuate count) r next h chooses rests e = absurd chooses
-last_refused now Abort r next h chooses rests e = absurd chooses
+last_refused now _ r next h chooses rests e = absurd chooses
 
 -- ---- each step
 refused_epoch : (now : Moment) (step : Step) (why : Refusal) → refusal now (Evacuator step) ≡ Some why → (refused_step now step why).core.epoch ≡ now.core.epoch

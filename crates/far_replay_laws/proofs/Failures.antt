@@ -9,12 +9,12 @@ use Rattle.far_book.specs.declared.home.Home.{Home}
 use Rattle.far_word.specs.Pointer.{read_of}
 use Rattle.far_book.specs.book.Home.{home_of}
 use Rattle.far_evac.specs.declared.answers.Progress.{Progress}
-use Rattle.far_text.specs.Command.{Command, Device, Flawed, Fail, Trace, New, Open, Write, Read, Close, Where, Drop, View, Try, Epoch, Logs, Log, Audit, Mutator, Book, Evacuator, Select, Mark, Wait, Evacuate, Abort, Round}
+use Rattle.far_text.specs.Command.{Command, Device, Flawed, Fail, Trace, New, Where, Logs, Mutator, Book, Evacuator, Select}
 use Rattle.far_replay.specs.Answers.{AnsweredBy, FailsAtMost, IsOutput, Outside, Serves, Refuses, Served, Stopped, first_moment, opened, shape_of, to_fail}
 use Rattle.far_replay.specs.Commanded.{KeepsFar}
 use Rattle.far_replay.specs.Moment.{Moment}
 use Rattle.far_replay.specs.Objects.{lowest_cell}
-use Rattle.far_replay.specs.Reply.{Reply, Done, Pointer, Data, Logs as Told, Lies, Audited, EpochRead, Selected, Marked, Clear, Evacuated, Ended, Refused, Halted, reply_text}
+use Rattle.far_replay.specs.Reply.{Reply, Refused, Halted, reply_text}
 use Rattle.far_replay.specs.Turn.{home_reply, pointer_reply, refusal, turn_reply, unless}
 use Rattle.far_replay.proofs.Answering.{answered_by}
 use Rattle.far_replay.proofs.Outcomes.{by_stop}
@@ -32,24 +32,10 @@ home_unhalted (Some home) why progress e = cc
 
 turn_unhalted : (now : Moment) (c : Command) (why : Refusal) (progress : Progress) → turn_reply now c ≢ Halted why progress
 turn_unhalted now (Mutator m (New len ds)) why progress e = pointer_unhalted (lowest_cell now.core m) why progress e
-turn_unhalted now (Mutator m Open) why progress e = cc
-turn_unhalted now (Mutator m (Write p from bytes)) why progress e = cc
-turn_unhalted now (Mutator m (Read p from len)) why progress e = cc
-turn_unhalted now (Mutator m Close) why progress e = cc
 turn_unhalted now (Mutator m (Where p)) why progress e = home_unhalted (home_of (read_of (now.core.cell p))) why progress e
-turn_unhalted now (Mutator m (Drop p)) why progress e = cc
-turn_unhalted now (Mutator m (View p)) why progress e = cc
-turn_unhalted now (Mutator m (Try p)) why progress e = cc
-turn_unhalted now (Mutator m Epoch) why progress e = cc
 turn_unhalted now (Book Logs) why progress e = cc
-turn_unhalted now (Book (Log l)) why progress e = cc
-turn_unhalted now (Book Audit) why progress e = cc
 turn_unhalted now (Evacuator (Select choice most)) why progress e = cc
-turn_unhalted now (Evacuator (Mark count)) why progress e = cc
-turn_unhalted now (Evacuator Wait) why progress e = cc
-turn_unhalted now (Evacuator (Evacuate count)) why progress e = cc
-turn_unhalted now (Evacuator Abort) why progress e = cc
-turn_unhalted now (Evacuator (Round policy most turns)) why progress e = cc
+turn_unhalted now _ why progress e = cc
 
 unless_unhalted : (o : Option Refusal) (r : Reply) (why : Refusal) (progress : Progress) → r ≢ Halted why progress → unless o Refused r ≢ Halted why progress
 unless_unhalted None r why progress other e = other e
@@ -60,20 +46,9 @@ refused_says Failed other = absurd (other refl)
 refused_says why other = refl
 
 says_of : (r : Reply) → ((why : Refusal) → r ≡ Refused why → why ≢ Failed) → ((why : Refusal) (progress : Progress) → r ≢ Halted why progress) → says_failed r ≡ false
-says_of Done refused halted = refl
-says_of (Pointer p) refused halted = refl
-says_of (Data bytes) refused halted = refl
-says_of (Told lines) refused halted = refl
-says_of (Lies home) refused halted = refl
-says_of (Audited counts) refused halted = refl
-says_of (EpochRead epoch) refused halted = refl
-says_of (Selected logs) refused halted = refl
-says_of (Marked count waiting) refused halted = refl
-says_of Clear refused halted = refl
-says_of (Evacuated progress) refused halted = refl
-says_of (Ended end) refused halted = refl
 says_of (Refused why) refused halted = refused_says why (refused why refl)
 says_of (Halted why progress) refused halted = absurd (halted why progress refl)
+says_of _ refused halted = refl
 
 served_says : (now : Moment) (c : Command) (r : Reply) (next : Moment) → Served now c r next → says_failed r ≡ false
 served_says now c r next h = says_of r
@@ -131,4 +106,4 @@ failures_are_said text output logs mutators epoch device cs answers reads fits =
     let first = first_moment logs mutators epoch in
     let (os, rs, ms, a, h, is) = in_range first device cs output (is_shape (shape_of logs mutators epoch)) fits (subst (λ (x : Result Trace ℕ). IsOutput x output) reads answers) in
     let said = few (to_fail device) os first cs rs ms a h in
-    (rs, ms, answered_by os first cs rs ms h, is, said.0, at_most_one device, said.1)
+    (rs, ms, answered_by os first cs rs ms h, is, (said.0, at_most_one device, said.1))

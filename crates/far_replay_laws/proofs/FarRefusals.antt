@@ -11,7 +11,7 @@ use Rattle.far_evac.specs.declared.answers.Polled.{Polled}
 use Rattle.far_evac.specs.declared.answers.Polled.TheVariants as polls
 use Rattle.far_evac.specs.Waiting.{polled}
 use Rattle.far_policy.specs.Scripted.{is_bad, judged}
-use Rattle.far_text.specs.Command.{Command, New, Open, Write, Read, Close, Where, Drop, View, Try, Epoch, Logs, Log, Audit, Mutator, Book, Evacuator, Step, By, Script, Select, Mark, Wait, Evacuate, Abort, Round}
+use Rattle.far_text.specs.Command.{Command, New, Write, Read, Drop, View, Try, Logs, Log, Audit, Mutator, Book, Evacuator, Step, By, Script, Select, Wait, Round}
 use Rattle.far_replay.specs.Answers.{IsMoment, Served, Unbrought}
 use Rattle.far_replay.specs.Commanded.{KeepsFar, LiesFar}
 use Rattle.far_replay.specs.Moment.{Moment}
@@ -22,8 +22,7 @@ use Rattle.far_replay.proofs.Outcomes.{by_outcome}
 use Rattle.far_replay_laws.specs.FromOutside.{DeviceRefusesFar, IsFarFor}
 use Rattle.far_replay_laws.specs.LeftMarks.{GainsHot}
 use Rattle.far_replay_laws.proofs.LeavingMarks.{served_leaves}
-use Rattle.far_replay_laws.proofs.OutputLaws.{not_halted}
-use Rattle.far_replay_laws.proofs.Refusals.{EachFirst, among, from_cause, turn_is_no_refusal}
+use Rattle.far_replay_laws.proofs.Refusals.{not_halted, EachFirst, among, from_cause, turn_is_no_refusal}
 
 -- ---- a command that is served is never refused so
 abbrev NeverFar : Refusal → Type 0
@@ -40,27 +39,22 @@ judged_never logs (Some log) = ((λ _ k. k), λ _. tt)
 step_never : (now : Moment) (step : Step) → EachFirst NeverFar (step_causes now step)
 step_never now (Select (By policy) most) = ((λ _ k. k), λ _. ((λ _ k. k), λ _. tt))
 step_never now (Select (Script logs) most) = ((λ _ k. k), λ _. ((λ _ k. k), λ _. judged_never logs (find (is_bad (rows_in now) most logs) (range_with_len 0 (length logs)))))
-step_never now (Mark count) = ((λ _ k. k), λ _. tt)
 step_never now Wait = ((λ _ k. k), λ _. wait_never (polled now.core))
-step_never now (Evacuate count) = ((λ _ k. k), λ _. tt)
-step_never now Abort = ((λ _ k. k), λ _. tt)
 step_never now (Round policy most turns) = ((λ _ k. k), λ _. ((λ _ k. k), λ _. tt))
+step_never now _ = ((λ _ k. k), λ _. tt)
 
 command_never : (now : Moment) (c : Command) → EachFirst NeverFar (causes now c)
 command_never now (Mutator m (New len ds)) = ((λ _ k. k), λ _. ((λ _ k. k), λ _. ((λ _ k. k), λ _. ((λ _ k. k), λ _. tt))))
-command_never now (Mutator m Open) = ((λ _ k. k), λ _. ((λ _ k. k), λ _. tt))
 command_never now (Mutator m (Write p from bytes)) = ((λ _ k. k), λ _. ((λ _ k. k), λ _. ((λ _ k. k), λ _. ((λ _ k. k), λ _. ((λ _ k. k), λ _. tt)))))
 command_never now (Mutator m (Read p from len)) = ((λ _ k. k), λ _. ((λ _ k. k), λ _. ((λ _ k. k), λ _. ((λ _ k. k), λ _. ((λ _ k. k), λ _. tt)))))
-command_never now (Mutator m Close) = ((λ _ k. k), λ _. ((λ _ k. k), λ _. tt))
-command_never now (Mutator m (Where p)) = ((λ _ k. k), λ _. ((λ _ k. k), λ _. tt))
 command_never now (Mutator m (Drop p)) = ((λ _ k. k), λ _. ((λ _ k. k), λ _. ((λ _ k. k), λ _. tt)))
 command_never now (Mutator m (View p)) = ((λ _ k. k), λ _. ((λ _ k. k), λ _. ((λ _ k. k), λ _. ((λ _ k. k), λ _. tt))))
 command_never now (Mutator m (Try p)) = ((λ _ k. k), λ _. ((λ _ k. k), λ _. ((λ _ k. k), λ _. ((λ _ k. k), λ _. tt))))
-command_never now (Mutator m Epoch) = ((λ _ k. k), λ _. ((λ _ k. k), λ _. tt))
 command_never now (Book Logs) = tt
 command_never now (Book (Log l)) = ((λ _ k. k), λ _. tt)
 command_never now (Book Audit) = tt
 command_never now (Evacuator step) = step_never now step
+command_never now _ = ((λ _ k. k), λ _. ((λ _ k. k), λ _. tt))
 
 pub served_never : (now : Moment) (c : Command) (r : Reply) (next : Moment) (why : Refusal) → Served now c r next → r ≡ Refused why → ¬ KeepsFar why
 served_never now c r next why h e = among NeverFar (causes now c) why (command_never now c) (from_cause (refusal now c) (turn_reply now c) why (turn_is_no_refusal now c why) (sym h.reply ∙ e))

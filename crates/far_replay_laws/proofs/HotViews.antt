@@ -10,7 +10,7 @@ use Rattle.far_word.specs.declared.sizes.TheConstants.{CELLS}
 use Rattle.far_word.specs.Mark.{position}
 use Rattle.far_word.specs.Pointer.{read_of, with_mark, without_evac}
 use Rattle.far_core.specs.declared.event.Event.{Event}
-use Rattle.far_core.specs.declared.event.Event.TheVariants.{ReadEpoch, Open, Pin, Load, Store, Close, Adopt, Put, Name, See, Mark, Ask, Get, Clear, Advance, Look}
+use Rattle.far_core.specs.declared.event.Event.TheVariants.{Pin, Close, Name, Mark, Ask, Get, Clear}
 use Rattle.far_core.specs.declared.event.Reply.{Reply as Answer}
 use Rattle.far_core.specs.declared.naming.Naming.{Naming}
 use Rattle.far_core.specs.declared.naming.Naming.TheVariants.{Places, Retires, Evicts, Stays, Moves, Fetches}
@@ -46,22 +46,16 @@ AllHot s = (p : ℕ) → is_some (s.held p) ≡ true → is_hot (read_of (s.cell
 
 -- ---- what a mark more, or EVAC less, leaves
 held_hot : (o : Option PtrWord) (place : Place) → held_place (map_mark Hot o) ≡ Some place → is_hot (map_mark Hot o) ≡ true
-held_hot None place e = absurd cc
-held_hot (Some Free) place e = absurd cc
 held_hot (Some (Near len ds at m)) place e = refl
-held_hot (Some (Far len ds m)) place e = absurd cc
+held_hot _ place e = absurd cc
 
 marked_hot : (o n : Option PtrWord) → is_hot o ≡ true → ((v : PtrWord) → o ≡ Some v → n ≡ Some (with_mark Evac v)) → is_hot n ≡ true
-marked_hot None n h r = absurd (false≢true h)
-marked_hot (Some Free) n h r = absurd (false≢true h)
 marked_hot (Some (Near len ds place m)) n h r = ap is_hot (r (Near len ds place m) refl) ∙ h
-marked_hot (Some (Far len ds m)) n h r = absurd (false≢true h)
+marked_hot _ n h r = absurd (false≢true h)
 
 cleared_hot : (o n : Option PtrWord) → is_hot o ≡ true → ((v : PtrWord) → o ≡ Some v → n ≡ Some (without_evac v)) → is_hot n ≡ true
-cleared_hot None n h r = absurd (false≢true h)
-cleared_hot (Some Free) n h r = absurd (false≢true h)
 cleared_hot (Some (Near len ds place m)) n h r = ap is_hot (r (Near len ds place m) refl) ∙ h
-cleared_hot (Some (Far len ds m)) n h r = absurd (false≢true h)
+cleared_hot _ n h r = absurd (false≢true h)
 
 -- ---- one cell is another word
 cell_hot : (s : State) (p new : ℕ) → AllHot s → (is_some (s.held p) ≡ true → is_hot (read_of new) ≡ true) → (q : ℕ) → is_some (s.held q) ≡ true → is_hot (read_of (put s.cell p new q)) ≡ true
@@ -74,11 +68,7 @@ no_view o e h = false≢true (sym (ap is_some e) ∙ h)
 named_hot : (s : State) (p new : ℕ) (o : Option Naming) → AllHot s → (is_some (s.held p) ≡ true → ⊥) → AllHot (after_naming s p new o)
 named_hot s p new None hot none = hot
 named_hot s p new (Some (Places len ds place)) hot none = cell_hot s p new hot (λ h. absurd (none h))
-named_hot s p new (Some Retires) hot none = cell_hot s p new hot (λ h. absurd (none h))
-named_hot s p new (Some (Evicts len place)) hot none = cell_hot s p new hot (λ h. absurd (none h))
-named_hot s p new (Some Stays) hot none = cell_hot s p new hot (λ h. absurd (none h))
-named_hot s p new (Some (Moves len ds from to)) hot none = cell_hot s p new hot (λ h. absurd (none h))
-named_hot s p new (Some (Fetches len ds place)) hot none = cell_hot s p new hot (λ h. absurd (none h))
+named_hot s p new _ hot none = cell_hot s p new hot (λ h. absurd (none h))
 
 -- no form names what is held
 module _ (s : State) (law : Law s) (p old new : ℕ) (is : s.cell p ≡ old) (held : is_some (s.held p) ≡ true) where
@@ -106,7 +96,7 @@ module _ (s : State) (law : Law s) (p old new : ℕ) (is : s.cell p ≡ old) (he
   no_form (Fetches len ds place) ((m, was, alive), now) legal = let odd : Some (Far len ds m) ≡ Some (Near says.0 says.1 says.2 says.5) = sym was ∙ says.6 in cc
 
 -- ---- each event
-held_other : (held : ℕ → Option Place) (p : ℕ) (o : Option Place) (q : ℕ) → q ≢ p → with_hold held p o q ≡ held q
+pub held_other : (held : ℕ → Option Place) (p : ℕ) (o : Option Place) (q : ℕ) → q ≢ p → with_hold held p o q ≡ held q
 held_other held p None q ne = refl
 held_other held p (Some place) q ne = put_other held p (Some place) q ne
 
@@ -146,23 +136,14 @@ module _ (s : State) (law : Law s) (hot : AllHot s) where
       ∙ cleared_hot (read_of (s.cell p)) (read_of (put s.cell p new p)) (hot p h) (replies_report s law (Clear p) legal).1)
 
   after_hot : (e : Event) → Legal s e → Law (after s e) → AllHot (after s e)
-  after_hot (ReadEpoch m) legal next = hot
-  after_hot (Open m) legal next = hot
   after_hot (Pin m p) legal next = pin_hot m p legal next
-  after_hot (Load m p i) legal next = hot
-  after_hot (Store m p i w) legal next = hot
   after_hot (Close m) legal next = λ p h. hot p (held_yet (p / CELLS == m) (s.held p) h)
-  after_hot (Adopt m p) legal next = hot
-  after_hot (Put l at w) legal next = hot
   after_hot (Name p old new) legal next = name_hot p old new legal
-  after_hot (See p) legal next = hot
   after_hot (Mark p) legal next = mark_hot p legal
   after_hot (Ask m p k) legal next = cell_hot s p (bit_or (s.cell p) (2 ^ position k)) hot (λ h. absurd (no_view (s.held p) legal.4 h))
   after_hot (Get l at true) legal next = hot
-  after_hot (Get l at false) legal next = hot
   after_hot (Clear p) legal next = clear_hot p legal
-  after_hot (Advance logs) legal next = hot
-  after_hot (Look m) legal next = hot
+  after_hot _ legal next = hot
 
 -- ---- rows of events, and commands
 row_hot : (s : State) (es : List Event) → Law s → AllPass s es → AllHot s → AllHot (after_events s es)

@@ -46,8 +46,6 @@ answer false b x e = absurd (false≢true e)
 -- where a pointer in use is
 at_home : (s : State) (law : Law s) (p : ℕ) (o : Option PtrWord) → read_of (s.cell p) ≡ o → in_use o ≡ true → (home : Home) × (home_reply (home_of o) ≡ Lies home) × TellsHome s p home
 unfolding world_of
-at_home s law p None e u = absurd (false≢true u)
-at_home s law p (Some pointer.Free) e u = absurd (false≢true u)
 at_home s law p (Some (pointer.Near len ds place marks)) e u =
     let o : Object = record { owner = p / CELLS; ds = ds; bytes = bytes_of (λ i. s.word (addr place + 1 + i)) len; home = Group place.log } in
     let there_is : object_of s.word (s.stored p) p (read_of (s.cell p)) ≡ Some o = ap (object_of s.word (s.stored p) p) e ∙ ap (λ b. cond b None (Some o)) (not-true marks.dropped u) in
@@ -56,6 +54,7 @@ at_home s law p (Some (pointer.Far len ds marks)) e u =
     let o : Object = record { owner = p / CELLS; ds = ds; bytes = bytes_of (s.stored p) len; home = FarSide } in
     let there_is : object_of s.word (s.stored p) p (read_of (s.cell p)) ≡ Some o = ap (object_of s.word (s.stored p) p) e ∙ ap (λ b. cond b None (Some o)) (not-true marks.dropped u) in
     (Far marks, refl, (len, ds, o, e, there_is, refl))
+at_home s law p _ e u = absurd (false≢true u)
 
 pub where_tells : (now : Moment) (m p : ℕ) (r : Reply) (after : Moment) → Law now.core → m < now.core.mutators → Served now (Mutator m (Where p)) r after →
     (uses now.core m p ≡ true → (home : Home) × (r ≡ Lies home) × TellsHome now.core p home) × (uses now.core m p ≢ true → r ≡ Refused NotHeld)
@@ -145,22 +144,18 @@ module _ (s : State) (law : Law s) where
   -- what lies near is an object in a group
   near_object : (p : ℕ) (o : Option PtrWord) → read_of (s.cell p) ≡ o → lies_near o ≡ true → IsNearObject s p
   unfolding world_of
-  near_object p None e n = absurd (false≢true n)
-  near_object p (Some pointer.Free) e n = absurd (false≢true n)
   near_object p (Some (pointer.Near len ds place marks)) e n =
       let o : Object = record { owner = p / CELLS; ds = ds; bytes = bytes_of (λ i. s.word (addr place + 1 + i)) len; home = Group place.log } in
       (o, place.log, ap (object_of s.word (s.stored p) p) e ∙ ap (λ b. cond b None (Some o)) (not-true marks.dropped n), refl)
-  near_object p (Some (pointer.Far len ds marks)) e n = absurd (false≢true n)
+  near_object p _ e n = absurd (false≢true n)
 
   -- what lies far is one on the far side
   far_object : (p : ℕ) (o : Option PtrWord) → read_of (s.cell p) ≡ o → lies_far o ≡ true → IsFarObject s p
   unfolding world_of
-  far_object p None e n = absurd (false≢true n)
-  far_object p (Some pointer.Free) e n = absurd (false≢true n)
-  far_object p (Some (pointer.Near len ds place marks)) e n = absurd (false≢true n)
   far_object p (Some (pointer.Far len ds marks)) e n =
       let o : Object = record { owner = p / CELLS; ds = ds; bytes = bytes_of (s.stored p) len; home = FarSide } in
       (o, ap (object_of s.word (s.stored p) p) e ∙ ap (λ b. cond b None (Some o)) (not-true marks.dropped n), refl)
+  far_object p _ e n = absurd (false≢true n)
 
   -- and there is no other object
   in_group : (word stored : ℕ → ℕ) (p : ℕ) (o : Option PtrWord) (x : Object) (group : ℕ) → object_of word stored p o ≡ Some x → x.home ≡ Group group → lies_near o ≡ true

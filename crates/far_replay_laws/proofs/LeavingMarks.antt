@@ -1,35 +1,31 @@
 -- Which marks a dereference leaves, whether it is refused or not.
-use Rattle.std.proofs.Common.{◌≡◌, ◌≢◌, ℕ, ◌/◌, ◌^◌, Bool, true, false, not, nat_lt, nat_eq, refl, sym, ap, subst, ◌∙◌, is_some, Option, Some, None, Ok, List, [], ◌∷◌, ◌++◌, length, bit_or, if◌then◌else◌}
+use Rattle.std.proofs.Common.{◌≡◌, ◌≢◌, ℕ, ◌/◌, ◌^◌, Bool, true, false, not, nat_lt, nat_eq, refl, sym, ap, subst, ◌∙◌, is_some, Option, Some, None, [], ◌∷◌, ◌++◌, length, bit_or, if◌then◌else◌}
 use Rattle.std.specs.Prelude.{◌&&◌, ◌||◌}
 use Rattle.std.proofs.lemmas.Bool.{and_parts, cond_both, false≢true, not-false, not-true}
 use Rattle.far_word.specs.declared.mark.Mark.TheVariants.{Hot}
 use Rattle.far_word.specs.declared.pointer.Place.{Place}
 use Rattle.far_word.specs.declared.pointer.PtrWord.{PtrWord}
-use Rattle.far_word.specs.declared.pointer.PtrWord.TheVariants.{Free, Near, Far}
+use Rattle.far_word.specs.declared.pointer.PtrWord.TheVariants.{Near, Far}
 use Rattle.far_word.specs.declared.refused.Refused.{Refused as Refusal}
-use Rattle.far_word.specs.declared.refused.Refused.TheVariants.{NoRoom, Closed, NotHeld, Range, Device, Damaged, Marked as MarkFound}
+use Rattle.far_word.specs.declared.refused.Refused.TheVariants.{NoRoom, Closed, NotHeld, Range, Marked as MarkFound}
 use Rattle.far_word.specs.declared.sizes.TheConstants.{CELLS}
 use Rattle.far_word.specs.Mark.{position}
 use Rattle.far_word.specs.Pointer.{read_of}
 use Rattle.far_core.specs.events.Step.{after_pin, is_opened, place_to_view}
 use Rattle.far_core.specs.state.Law.{Law, in_use}
-use Rattle.far_core.specs.state.Shape.{is_shape}
 use Rattle.far_core.specs.state.State.{State}
 use Rattle.far_core.proofs.Cells.{map_mark, read_hot}
 use Rattle.far_core.proofs.Put.{put_other, put_same}
 use Rattle.far_core.proofs.Bounds.{some_of}
-use Rattle.far_log.proofs.Members.{All-from}
-use Rattle.far_text.specs.Command.{Command, Heap, New, Open, Write, Read, Close, Where, Drop, View, Try, Epoch, Mutator, Book, Evacuator, Device as SaidDevice}
-use Rattle.far_text.specs.Grammar.{trace_of}
-use Rattle.far_text.specs.Written.{AllWriteBytes}
-use Rattle.far_replay.specs.Answers.{Answered, Answers, Commanded, Served, Unbrought, IsMoment, first_moment, shape_of}
+use Rattle.far_text.specs.Command.{Command, Write, Read, View, Try, Mutator}
+use Rattle.far_replay.specs.Answers.{Commanded, Served, Unbrought, IsMoment}
 use Rattle.far_replay.specs.Commanded.{KeepsFar}
 use Rattle.far_replay.proofs.Outcomes.{by_outcome}
 use Rattle.far_replay.specs.Dereference.{come, comes_to, dereferenced, has_no_room, sought}
 use Rattle.far_replay.specs.Effects.{is_slow, with_data, with_view}
 use Rattle.far_replay.specs.Events.{come_events}
 use Rattle.far_replay.specs.Taking.{LacksRoom}
-use Rattle.far_replay_laws.specs.LeftMarks.{AllLeaveMarks, GainsForRoom, GainsHot, IsHotAlone, LeavesHot, LeavesMarks, MarksAreLeft, OthersStay, RefusedLeaves, TryLeaves, ViewedAreHot, is_hot}
+use Rattle.far_replay_laws.specs.LeftMarks.{GainsForRoom, GainsHot, IsHotAlone, LeavesHot, LeavesMarks, OthersStay, RefusedLeaves, TryLeaves, is_hot}
 use Rattle.far_replay.specs.Moment.{Moment}
 use Rattle.far_replay.specs.Objects.{uses}
 use Rattle.far_replay.specs.Reply.{Reply, Refused}
@@ -38,38 +34,31 @@ use Rattle.far_replay.proofs.Bringing.{asked_keeps, brought_keeps, slow_unheld}
 use Rattle.far_replay.proofs.Brought.{brought}
 use Rattle.far_replay.proofs.Dereferences.{sought_lacks, sought_law, sought_may, sought_word}
 use Rattle.far_replay.proofs.Drops.{unheld_is, viewed_is}
-use Rattle.far_replay_laws.proofs.HotViews.{moment_hot, views_are_hot}
-use Rattle.far_replay.proofs.Lasting.{each_is_moment, first_is_moment, moment_lasts, next_is_moment}
+use Rattle.far_replay_laws.proofs.HotViews.{moment_hot}
+use Rattle.far_replay.proofs.Lasting.{moment_lasts}
 use Rattle.far_replay.proofs.Leading.{leads_law}
-use Rattle.far_replay_laws.proofs.OutputLaws.{outputs_sound}
-use Rattle.far_replay_laws.proofs.Refusals.{EachFirst, among}
+use Rattle.far_replay_laws.proofs.Refusals.{among, of_far}
 use Rattle.far_replay.proofs.TakingView.{asked_word}
 use Rattle.far_replay.proofs.Turns.{access_fact, tried}
 use Rattle.far_replay.proofs.Views.{anew_is, fast_dereference, fast_seen, Already, Anew, Seen, pin_read, slow_parts}
 
 -- ---- what a cell says with HOT, and with MOVE
 hot_gained : (o n : Option PtrWord) → in_use o ≡ true → n ≡ map_mark Hot o → GainsHot o n
-hot_gained None n used e = absurd (false≢true used)
-hot_gained (Some Free) n used e = absurd (false≢true used)
 hot_gained (Some (Near len ds place m)) n used e = e
 hot_gained (Some (Far len ds m)) n used e = e
+hot_gained _ n used e = absurd (false≢true used)
 
 wanted : (s : State) (o n : Option PtrWord) → LacksRoom s o → n ≡ asked_word o → GainsForRoom o n
-wanted s None n h e = absurd h
-wanted s (Some Free) n h e = absurd h
 wanted s (Some (Near len ds place m)) n h e = (h.0, e ∙ ap (λ b. Some (Near len ds place record { hot = true; evac = b; moved = true; dropped = m.dropped })) h.0)
 wanted s (Some (Far len ds m)) n h e = e
+wanted s _ n h e = absurd h
 
 -- a pin gives a view of what has no mark but HOT
 bare : (a b c : Bool) (at place : Place) → (if a || b || c then None else Some at) ≡ Some place → (a ≡ false) × (b ≡ false) × (c ≡ false)
-bare true b c at place e = absurd cc
-bare false true c at place e = absurd cc
-bare false false true at place e = absurd cc
 bare false false false at place e = (refl, refl, refl)
+bare _ _ _ at place e = absurd cc
 
 pinned_alone : (o : Option PtrWord) (place : Place) → place_to_view o ≡ Some place → IsHotAlone (map_mark Hot o)
-pinned_alone None place e = absurd cc
-pinned_alone (Some Free) place e = absurd cc
 pinned_alone (Some (Near len ds at m)) place e =
     let none = bare m.evac m.moved m.dropped at place e in (
       len,
@@ -79,7 +68,7 @@ pinned_alone (Some (Near len ds at m)) place e =
           ∙ ap (λ b. Some (Near len ds at record { hot = true; evac = false; moved = b; dropped = m.dropped })) none.1
           ∙ ap (λ b. Some (Near len ds at record { hot = true; evac = false; moved = false; dropped = b })) none.2,
     )
-pinned_alone (Some (Far len ds m)) place e = absurd cc
+pinned_alone _ place e = absurd cc
 
 -- ---- the cells after a view
 view_cells : (s : State) (p q : ℕ) → q ≢ p → (with_view s p).cell q ≡ s.cell q
@@ -165,44 +154,29 @@ access_refused : (now : Moment) (m p from count : ℕ) (why : Refusal) (after : 
     ((after NoRoom).core ≡ sought now.core m p) → first_cause (access_causes now m p from count ++ (has_no_room now.core m p, NoRoom) ∷ []) ≡ Some why →
     RefusedLeaves now.core p why (after why).core
 access_refused now m p from count why after law range closed unused full e =
-    among (λ x. RefusedLeaves now.core p x (after x).core) (access_causes now m p from count ++ (has_no_room now.core m p, NoRoom) ∷ []) why each e where
-      each : EachFirst (λ x. RefusedLeaves now.core p x (after x).core) (access_causes now m p from count ++ (has_no_room now.core m p, NoRoom) ∷ [])
-      each =
-          let cells : (x : Moment) → x ≡ now → x.core.cell ≡ now.core.cell = λ x e. ap (λ (y : Moment). y.core.cell) e in (
+    let cells : (x : Moment) → x ≡ now → x.core.cell ≡ now.core.cell = λ x e. ap (λ (y : Moment). y.core.cell) e in
+    among (λ x. RefusedLeaves now.core p x (after x).core) (access_causes now m p from count ++ (has_no_room now.core m p, NoRoom) ∷ []) why (
+      (λ _. cells (after Range) range),
+      λ _. (
+        (λ _. cells (after Closed) closed),
+        λ shut. (
+          (λ _. cells (after NotHeld) unused),
+          λ other. (
             (λ _. cells (after Range) range),
             λ _. (
-              (λ _. cells (after Closed) closed),
-              λ shut. (
-                (λ _. cells (after NotHeld) unused),
-                λ other. (
-                  (λ _. cells (after Range) range),
-                  λ _. (
-                    (λ lacks.
-                        subst (λ (t : State). GainsForRoom (read_of (now.core.cell p)) (read_of (t.cell p)) × OthersStay now.core t p) (sym full)
-                        (room_gains now.core m p law (not-false (is_opened now.core m) shut) (not-false (uses now.core m p) other) lacks)),
-                    λ _. tt,
-                  ),
-                ),
-              ),
+              (λ lacks. subst (λ (t : State). GainsForRoom (read_of (now.core.cell p)) (read_of (t.cell p)) × OthersStay now.core t p) (sym full)
+                  (room_gains now.core m p law (not-false (is_opened now.core m) shut) (not-false (uses now.core m p) other) lacks)),
+              λ _. tt,
             ),
-          )
+          ),
+        ),
+      ),
+    ) e
 
 view_refused : (now : Moment) (m p : ℕ) (why : Refusal) → Law now.core → refusal now (Mutator m (View p)) ≡ Some why →
     RefusedLeaves now.core p why (refused_effect now (Mutator m (View p)) why).core
-view_refused now m p why law e = among (λ x. RefusedLeaves now.core p x (refused_effect now (Mutator m (View p)) x).core) (causes now (Mutator m (View p))) why (
-  (λ _. refl),
-  λ _. (
-    (λ _. refl),
-    λ shut. (
-      (λ _. refl),
-      λ other. (
-        (λ lacks.
-            room_gains now.core m p law (not-false (is_opened now.core m) shut) (not-false (uses now.core m p) other) lacks),
-        λ _. tt,
-      ),
-    ),
-  ),
-) e
+view_refused now m p why law e = among (λ x. RefusedLeaves now.core p x (refused_effect now (Mutator m (View p)) x).core) (causes now (Mutator m (View p))) why
+    ((λ _. refl), λ _. ((λ _. refl), λ shut. ((λ _. refl), λ other. (room_gains now.core m p law (not-false (is_opened now.core m) shut) (not-false (uses now.core m p) other), λ _. tt)))) e
 
 try_refused : (now : Moment) (m p : ℕ) (why : Refusal) → Law now.core → refusal now (Mutator m (Try p)) ≡ Some why →
     TryLeaves now.core p why (refused_effect now (Mutator m (Try p)) why).core
@@ -213,8 +187,7 @@ try_refused now m p why law e = among (λ x. TryLeaves now.core p x (refused_eff
     λ shut. (
       (λ _. refl),
       λ other. (
-        (λ slow.
-            (refl, found_gains now.core m p law (not-false (is_opened now.core m) shut) (not-false (uses now.core m p) other) slow, view_cells now.core p)),
+        (λ slow. (refl, found_gains now.core m p law (not-false (is_opened now.core m) shut) (not-false (uses now.core m p) other) slow, view_cells now.core p)),
         λ _. tt,
       ),
     ),
@@ -223,8 +196,6 @@ try_refused now m p why law e = among (λ x. TryLeaves now.core p x (refused_eff
 
 leaves : (now : Moment) (c : Command) (o : Option Refusal) → IsMoment now → refusal now c ≡ o →
     LeavesMarks now.core c (unless o Refused (turn_reply now c)) (unless o (refused_effect now c) (turn_effect now c)).core
-leaves now (Mutator m (New len ds)) o is e = tt
-leaves now (Mutator m Open) o is e = tt
 leaves now (Mutator m (Write p from bytes)) None is e =
     let access = access_fact now.core m p from (length bytes) e in
     leaves_hot now.core (with_data (dereferenced now.core m p) p from bytes) p (left now.core m p (moment_lasts now is).law access.opened access.ours access.room) (moment_hot now is p)
@@ -235,9 +206,6 @@ leaves now (Mutator m (Read p from len)) None is e =
     leaves_hot now.core (dereferenced now.core m p) p (left now.core m p (moment_lasts now is).law access.opened access.ours access.room) (moment_hot now is p)
 leaves now (Mutator m (Read p from len)) (Some why) is e =
     access_refused now m p from len why (refused_effect now (Mutator m (Read p from len))) (moment_lasts now is).law refl refl refl refl e
-leaves now (Mutator m Close) o is e = tt
-leaves now (Mutator m (Where p)) o is e = tt
-leaves now (Mutator m (Drop p)) o is e = tt
 leaves now (Mutator m (View p)) None is e =
     let h = tried (nat_lt m now.core.mutators) (is_opened now.core m) (uses now.core m p) (has_no_room now.core m p) Range Closed NotHeld NoRoom e in
     leaves_hot now.core (dereferenced now.core m p) p (left now.core m p (moment_lasts now is).law h.1 h.2 h.3) (moment_hot now is p)
@@ -246,9 +214,7 @@ leaves now (Mutator m (Try p)) None is e =
     let h = tried (nat_lt m now.core.mutators) (is_opened now.core m) (uses now.core m p) (is_slow now.core p) Range Closed NotHeld (MarkFound (now.core.cell p)) e in
     leaves_hot now.core (with_view now.core p) p (fast_left now.core m p (moment_lasts now is).law h.1 h.2 h.3) (moment_hot now is p)
 leaves now (Mutator m (Try p)) (Some why) is e = try_refused now m p why (moment_lasts now is).law e
-leaves now (Mutator m Epoch) o is e = tt
-leaves now (Book inquiry) o is e = tt
-leaves now (Evacuator step) o is e = tt
+leaves now _ o is e = tt
 
 pub served_leaves : (now : Moment) (c : Command) (r : Reply) (next : Moment) → IsMoment now → Served now c r next → LeavesMarks now.core c r next.core
 served_leaves now c r next is h =
@@ -257,9 +223,7 @@ served_leaves now c r next is h =
 
 -- one that the device refuses leaves HOT, as a try does
 far_leaves : (s t : State) (p : ℕ) (why : Refusal) → KeepsFar why → GainsHot (read_of (s.cell p)) (read_of (t.cell p)) × OthersStay s t p → RefusedLeaves s p why t
-far_leaves s t p Device h gains = gains
-far_leaves s t p Damaged h gains = gains
-far_leaves s t p why h gains = absurd h
+far_leaves s t p why h gains = of_far (λ x. RefusedLeaves s p x t) why h gains gains
 
 tried_leaves : (now : Moment) (c : Command) (why : Refusal) (m p : ℕ) (r : Reply) (next : Moment) → IsMoment now → Unbrought why now c m p r next → RefusedLeaves now.core p why next.core
 tried_leaves now c why m p r next is h =
@@ -275,26 +239,3 @@ commands_leave now c r next is h = by_outcome now r next (λ d. LeavesMarks now.
     (λ why objects count h. tt)
     (λ why turns objects policy most count h. tt)
     c h
-
-all_leave : (now : Moment) (cs : List Command) (rs : List Reply) (moments : List Moment) → IsMoment now → AllWriteBytes cs → Answered now cs rs moments → AllLeaveMarks now cs rs moments
-all_leave now [] rs moments is bytes h = tt
-all_leave now (c ∷ cs) [] moments is bytes h = tt
-all_leave now (c ∷ cs) (r ∷ rs) [] is bytes h = tt
-all_leave now (c ∷ cs) (r ∷ rs) (next ∷ moments) is bytes h =
-    (commands_leave now c r next is h.0, all_leave next cs rs moments (next_is_moment now c r next is bytes.0 h.0) bytes.1 h.1)
-
-pub texts_leave : (text output : List ℕ) (logs mutators epoch : ℕ) (device : Option SaidDevice) (cs : List Command) → Answers text output → trace_of text ≡ Ok (Heap logs mutators epoch device cs) →
-    is_shape (shape_of logs mutators epoch) ≡ true → MarksAreLeft logs mutators epoch device cs output
-texts_leave text output logs mutators epoch device cs answers reads fits =
-    let x = outputs_sound text output logs mutators epoch device cs answers reads fits in
-    let first : Moment = first_moment logs mutators epoch in
-    let is = first_is_moment logs mutators epoch fits in
-    record {
-      replies = x.replies;
-      moments = x.moments;
-      answered = x.answered;
-      printed_so = x.printed_so;
-      left = all_leave first cs x.replies x.moments is x.bytes x.answered;
-      hot = All-from (λ (now : Moment). ViewedAreHot now.core) (first ∷ x.moments)
-          (λ y c. views_are_hot y (each_is_moment first cs x.replies x.moments is x.bytes x.answered y c));
-    }

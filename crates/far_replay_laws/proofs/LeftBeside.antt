@@ -1,11 +1,11 @@
 -- A command that is no step of the evacuator leaves what isn't of its own object or scope.
-use Rattle.std.proofs.Common.{◌≡◌, ◌≢◌, ℕ, ◌/◌, ◌^◌, true, false, not, refl, sym, ap, subst, ◌∙◌, is_some, Option, Some, None, List, length, ◌==◌, ◌++◌, bit_or, [], ◌∷◌}
+use Rattle.std.proofs.Common.{◌≡◌, ℕ, ◌/◌, ◌^◌, true, false, not, refl, sym, ap, subst, ◌∙◌, is_some, Option, Some, None, List, length, ◌==◌, ◌++◌, bit_or, [], ◌∷◌}
 use Rattle.std.proofs.lemmas.Bool.{cond-false, cond_both, ne_eqb}
 use Rattle.far_word.specs.declared.mark.Mark.{Mark}
-use Rattle.far_word.specs.declared.mark.Mark.TheVariants.{Hot, Evac, Moved, Dropped}
+use Rattle.far_word.specs.declared.mark.Mark.TheVariants.{Hot, Moved, Dropped}
 use Rattle.far_word.specs.declared.pointer.Place.{Place}
 use Rattle.far_word.specs.declared.pointer.PtrWord.{PtrWord}
-use Rattle.far_word.specs.declared.pointer.PtrWord.TheVariants.{Free, Near, Far}
+use Rattle.far_word.specs.declared.pointer.PtrWord.TheVariants.{Near, Far}
 use Rattle.far_word.specs.declared.refused.Refused.{Refused as Refusal}
 use Rattle.far_word.specs.declared.refused.Refused.TheVariants.{NoRoom, Closed, NotHeld, Range, Marked}
 use Rattle.far_word.specs.declared.sizes.TheConstants.{CELLS}
@@ -15,12 +15,11 @@ use Rattle.far_word.specs.Sizes.{size_of}
 use Rattle.far_word.proofs.PointerLaws.{read_back}
 use Rattle.far_core.specs.declared.event.Event.TheVariants.{Ask, Name}
 use Rattle.far_core.specs.declared.naming.Naming.{Naming}
-use Rattle.far_core.specs.declared.naming.Naming.TheVariants.{Places, Retires, Evicts, Stays, Moves, Fetches}
+use Rattle.far_core.specs.declared.naming.Naming.TheVariants.{Places}
 use Rattle.far_core.specs.events.Copies.{data_at}
 use Rattle.far_core.specs.events.Name.{after_naming}
 use Rattle.far_core.specs.events.Naming.{naming_of, naming_row, no_marks}
 use Rattle.far_core.specs.events.Step.{after, after_close, after_pin, place_to_view}
-use Rattle.far_core.specs.events.Pin.{with_hold}
 use Rattle.far_core.specs.state.Law.{Law}
 use Rattle.far_core.specs.state.Room.{room}
 use Rattle.far_core.specs.state.State.{State}
@@ -45,6 +44,7 @@ use Rattle.far_text.specs.Command.{Command, New, Open, Write, Read, Close, Where
 use Rattle.far_replay_laws.specs.LeftBeside.{AllButObject, AllButScope, LeavesBeside, NewLeaves}
 use Rattle.far_replay_laws.proofs.AloneNew.{is_length, is_structure}
 use Rattle.far_replay_laws.proofs.Refusals.{among}
+use Rattle.far_replay_laws.proofs.HotViews.{held_other}
 
 -- ---- one object
 same : (s : State) (p : ℕ) → AllButObject s s p
@@ -62,11 +62,7 @@ both s t u p a b = record {
 -- a cell is named anew
 named_form : (s : State) (p new : ℕ) (form : Naming) → AllButObject s (naming_row s p new form).after p
 named_form s p new (Places len ds place) = record { cells = λ q ne. put_other s.cell p new q ne; used = λ q ne. refl; views = λ q ne. refl; scopes = λ m. refl; remembered = λ m. refl }
-named_form s p new (Moves len ds from to) = record { cells = λ q ne. put_other s.cell p new q ne; used = λ q ne. refl; views = λ q ne. refl; scopes = λ m. refl; remembered = λ m. refl }
-named_form s p new (Evicts len place) = record { cells = λ q ne. put_other s.cell p new q ne; used = λ q ne. refl; views = λ q ne. refl; scopes = λ m. refl; remembered = λ m. refl }
-named_form s p new (Fetches len ds place) = record { cells = λ q ne. put_other s.cell p new q ne; used = λ q ne. refl; views = λ q ne. refl; scopes = λ m. refl; remembered = λ m. refl }
-named_form s p new Stays = record { cells = λ q ne. put_other s.cell p new q ne; used = λ q ne. refl; views = λ q ne. refl; scopes = λ m. refl; remembered = λ m. refl }
-named_form s p new Retires = record { cells = λ q ne. put_other s.cell p new q ne; used = λ q ne. refl; views = λ q ne. refl; scopes = λ m. refl; remembered = λ m. refl }
+named_form s p new _ = record { cells = λ q ne. put_other s.cell p new q ne; used = λ q ne. refl; views = λ q ne. refl; scopes = λ m. refl; remembered = λ m. refl }
 
 named_by : (s : State) (p new : ℕ) (o : Option Naming) → AllButObject s (after_naming s p new o) p
 named_by s p new None = same s p
@@ -82,54 +78,38 @@ written s p old len ds place row new = let k = named (with_written_span s p len 
     record { cells = k.cells; used = k.used; views = k.views; scopes = k.scopes; remembered = k.remembered }
 
 moved_beside : (s : State) (p : ℕ) (place : Place) (o : Option PtrWord) → AllButObject s (moved_of s p place o) p
-moved_beside s p place None = same s p
-moved_beside s p place (Some Free) = same s p
 moved_beside s p place (Some (Near len ds from marks)) = written s p (s.cell p) len ds place (data_at s.word from) (near_word len ds place)
-moved_beside s p place (Some (Far len ds marks)) = same s p
+moved_beside s p place _ = same s p
 
 stayed_beside : (s : State) (p : ℕ) (o : Option PtrWord) → AllButObject s (stayed_of s p o) p
-stayed_beside s p None = same s p
-stayed_beside s p (Some Free) = same s p
 stayed_beside s p (Some (Near len ds place marks)) = named s p (s.cell p) (near_word len ds place)
-stayed_beside s p (Some (Far len ds marks)) = same s p
+stayed_beside s p _ = same s p
 
 fetched_beside : (s : State) (p : ℕ) (place : Place) (row : ℕ → ℕ) (o : Option PtrWord) → AllButObject s (fetched_of s p place row o) p
-fetched_beside s p place row None = same s p
-fetched_beside s p place row (Some Free) = same s p
-fetched_beside s p place row (Some (Near len ds from marks)) = same s p
 fetched_beside s p place row (Some (Far len ds marks)) = written s p (s.cell p) len ds place row (near_word len ds place)
+fetched_beside s p place row _ = same s p
 
 come_beside : (s : State) (p : ℕ) (x : Option Place) (o : Option PtrWord) → AllButObject s (come_of s p x o) p
-come_beside s p None o = same s p
-come_beside s p (Some place) None = same s p
-come_beside s p (Some place) (Some Free) = same s p
 come_beside s p (Some place) (Some (Near len ds from marks)) = cond_both (has_evac (read_of (s.cell p))) (moved s p place) (stayed s p) (λ (t : State). AllButObject s t p)
     (λ _. moved_beside s p place (read_of (s.cell p))) (λ _. stayed_beside s p (read_of (s.cell p)))
 come_beside s p (Some place) (Some (Far len ds marks)) = fetched_beside s p place (s.stored p) (read_of (s.cell p))
+come_beside s p _ _ = same s p
 
 -- the owner asks
 asked_mark : (s : State) (m p : ℕ) (k : Mark) → AllButObject s (after s (Ask m p k)) p
-asked_mark s m p Hot = record { cells = λ q ne. put_other s.cell p _ q ne; used = λ q ne. refl; views = λ q ne. refl; scopes = λ m. refl; remembered = λ m. refl }
-asked_mark s m p Evac = record { cells = λ q ne. put_other s.cell p _ q ne; used = λ q ne. refl; views = λ q ne. refl; scopes = λ m. refl; remembered = λ m. refl }
-asked_mark s m p Moved = record { cells = λ q ne. put_other s.cell p _ q ne; used = λ q ne. refl; views = λ q ne. refl; scopes = λ m. refl; remembered = λ m. refl }
 asked_mark s m p Dropped = record { cells = λ q ne. put_other s.cell p _ q ne; used = λ q ne. put_other s.used p false q ne; views = λ q ne. refl; scopes = λ m. refl; remembered = λ m. refl }
+asked_mark s m p _ = record { cells = λ q ne. put_other s.cell p _ q ne; used = λ q ne. refl; views = λ q ne. refl; scopes = λ m. refl; remembered = λ m. refl }
 
 asked_beside : (s : State) (m p : ℕ) (o : Option PtrWord) → AllButObject s (sought_of s m p o) p
-asked_beside s m p None = same s p
-asked_beside s m p (Some Free) = same s p
 asked_beside s m p (Some (Near len ds place marks)) = asked_mark s m p Moved
-asked_beside s m p (Some (Far len ds marks)) = same s p
+asked_beside s m p _ = same s p
 
 -- a pin
-hold_other : (held : ℕ → Option Place) (p : ℕ) (o : Option Place) (q : ℕ) → q ≢ p → with_hold held p o q ≡ held q
-hold_other held p None q ne = refl
-hold_other held p (Some place) q ne = put_other held p (Some place) q ne
-
 pinned_beside : (s : State) (p : ℕ) → AllButObject s (after_pin s p) p
 pinned_beside s p = record {
   cells = λ q ne. put_other s.cell p (bit_or (s.cell p) (2 ^ position Hot)) q ne;
   used = λ q ne. refl;
-  views = λ q ne. hold_other s.held p (place_to_view (read_of (s.cell p))) q ne;
+  views = λ q ne. held_other s.held p (place_to_view (read_of (s.cell p))) q ne;
   scopes = λ m. refl;
   remembered = λ m. refl;
 }

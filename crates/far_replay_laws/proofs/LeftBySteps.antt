@@ -20,25 +20,22 @@ use Rattle.far_evac.specs.Owned.{anywhere}
 use Rattle.far_evac.specs.Waiting.{first_open, polled_to}
 use Rattle.far_evac.specs.Walk.{ended, walked}
 use Rattle.far_evac.specs.declared.phase.Phase.TheVariants.{Evacuating, Idle}
-use Rattle.far_evac.proofs.Leading.{selecting}
 use Rattle.far_evac.proofs.Marks.{is_given_up, is_marked}
 use Rattle.far_text.specs.Command.{Command, Write, Read, View, Mutator, Book, Evacuator, By, Policy, Step, Select, Mark, Wait, Evacuate, Abort, Round}
-use Rattle.far_text.specs.Written.{AllWriteBytes}
-use Rattle.far_replay.specs.Answers.{Answered, Commanded, Refuses, Served, Serves, StopsLeaving, StopsRound, IsMoment}
+use Rattle.far_replay.specs.Answers.{Commanded, Refuses, Served, Serves, StopsLeaving, StopsRound, IsMoment}
 use Rattle.far_evac.specs.declared.answers.RoundEnd.TheVariants.{Limit}
 use Rattle.far_replay.proofs.Outcomes.{by_outcome}
-use Rattle.far_replay_laws.proofs.Stops.{begun, left_some, stood_so}
-use Rattle.far_replay_laws.specs.Left.{AllLeave, AllStayPut, CellBy, DealsWith, IsAnywhere, Leaves, LeavesRest, MarksBy, SomeStay, StaysMarked, StaysPut, StepLeaves}
+use Rattle.far_replay_laws.proofs.Stops.{begun, left_some, starts, stood_so}
+use Rattle.far_replay_laws.specs.Left.{AllStayPut, CellBy, DealsWith, IsAnywhere, Leaves, LeavesRest, MarksBy, SomeStay, StaysMarked, StaysPut, StepLeaves}
 use Rattle.far_replay.specs.Reply.{Reply, Done, Ended, Evacuated, Refused, Selected}
 use Rattle.far_replay.specs.Rounds.{after_round, chosen_by, given_by, is_evacuating, logs_given, refused_step, rows_in, step_effect, step_reply}
 use Rattle.far_replay_laws.specs.Steps.{IsChosen, LiesIn}
 use Rattle.far_replay.specs.Turn.{effect, reply_to, refusal, refused_effect, turn_effect, turn_reply, unless}
 use Rattle.far_replay_laws.proofs.CountedOnce.{all_at, among_in, in_among, member_or_apart}
-use Rattle.far_replay.proofs.Lasting.{Lasts, after_step, moment_lasts, still_lasts}
+use Rattle.far_replay.proofs.Lasting.{Lasts, after_step, moment_lasts}
 use Rattle.far_replay_laws.proofs.LeftByWalks.{IsApart, apart_from, ended_put, framed_put, lay_there, marked_frame, marking_frame, marking_put, polling_put, put_more, put_none, turns_put}
 use Rattle.far_replay_laws.proofs.Unreached.{EvacIs, Fate, cell_still, ended_fate, evac_alone, evac_object, fate_marked, has_stayed, marked_fate, marked_none, turns_fate}
-use Rattle.far_replay.proofs.RoundChoices.{policy_chooses}
-use Rattle.far_replay.proofs.RoundLeads.{begins, evacuating_is, made_leaves, none_first, step_keeps}
+use Rattle.far_replay.proofs.RoundLeads.{evacuating_is, made_leaves, none_first, step_keeps}
 use Rattle.far_replay_laws.proofs.Standing.{stands}
 use Rattle.far_replay_laws.proofs.StepsTell.{held_chosen}
 use Rattle.far_replay_laws.proofs.MovesTaken.{chosen_held}
@@ -47,11 +44,10 @@ use Rattle.far_replay_laws.proofs.TurnsTell.{made_so}
 -- ---- each object is what it was
 anywhere_is : (o x : Option Object) → anywhere x ≡ anywhere o → IsAnywhere o x
 anywhere_is None None e = tt
-anywhere_is None (Some x) e = absurd cc
-anywhere_is (Some o) None e = absurd cc
 anywhere_is (Some o) (Some x) e =
     let same : with_home x FarSide ≡ with_home o FarSide = cc in
     (ap (λ (y : Object). y.owner) same, ap (λ (y : Object). y.ds) same, ap (λ (y : Object). y.bytes) same)
+anywhere_is _ _ e = absurd cc
 
 objects_are : (now : Moment) (step : Step) → Law now.core → MomentLaw now → (p : ℕ) → IsAnywhere ((world_of now.core).object p) ((world_of (effect now (Evacuator step)).core).object p)
 objects_are now step law moment p = anywhere_is ((world_of now.core).object p) ((world_of (effect now (Evacuator step)).core).object p) ((step_keeps now step law moment).object p)
@@ -80,12 +76,8 @@ refused_wait now (StillOpen mutator epoch) = polled_still now (first_open now.co
 refused_wait now why = refl
 
 refused_still : (now : Moment) (step : Step) (why : Refusal) → (refused_step now step why).core ≡ record now.core { clear = (refused_step now step why).core.clear }
-refused_still now (Select choice most) why = refl
-refused_still now (Mark count) why = refl
 refused_still now Wait why = refused_wait now why
-refused_still now (Evacuate count) why = refl
-refused_still now Abort why = refl
-refused_still now (Round policy most turns) why = refl
+refused_still now _ why = refl
 
 -- ---- a step that is refused
 refused_rest : (now : Moment) (step : Step) (why : Refusal) → LeavesRest now step (Refused why) (refused_step now step why)
@@ -151,12 +143,10 @@ module _ (now : Moment) (law : Law now.core) (moment : MomentLaw now) where
     by_logs [] e = put_none now.core q
     by_logs (l ∷ ls) e =
         let m : Moment = after_selecting now (l ∷ ls) in
-        let chosen = policy_chooses now policy most moment in
-        let begun = selecting now (chosen_by policy (rows_in now) most) law moment (begins now [] may).0.idle (begins now [] may).0.left chosen.once chosen.of_order in
         let tells : Served now (Evacuator (Select (By policy) most)) (Selected (l ∷ ls)) m =
         subst (λ (xs : List ℕ). Served now (Evacuator (Select (By policy) most)) (Selected xs) (after_selecting now xs)) e (made_so now (Select (By policy) most) may) in
         let apart : IsApart m.core m.collection q = λ k c. none k (l ∷ ls, m, tells, c) in
-        (turns_put m q law (subst (λ (xs : List ℕ). MomentLaw (after_selecting now xs)) e begun.moment) refl apart turns).put_there
+        (turns_put m q law (starts now law moment policy most turns may (l ∷ ls) e).moment refl apart turns).put_there
 
   -- what lies where it lay
   round_marked : (policy : Policy) (most turns : ℕ) → refusal now (Evacuator (Round policy most turns)) ≡ None → (q l : ℕ) → LiesIn now.core q l →
@@ -166,10 +156,8 @@ module _ (now : Moment) (law : Law now.core) (moment : MomentLaw now) where
     by_logs [] e is = marked_none now.core q
     by_logs (k ∷ ks) e is =
         let m : Moment = after_selecting now (k ∷ ks) in
-        let chosen = policy_chooses now policy most moment in
-        let begun = selecting now (chosen_by policy (rows_in now) most) law moment (begins now [] may).0.idle (begins now [] may).0.left chosen.once chosen.of_order in
         let t : Moment = after_round now (k ∷ ks) turns in
-        has_stayed StaysMarked m.core m.collection q t.core t.collection (turns_fate m q law (subst (λ (xs : List ℕ). MomentLaw (after_selecting now xs)) e begun.moment) refl turns) l was is
+        has_stayed StaysMarked m.core m.collection q t.core t.collection (turns_fate m q law (starts now law moment policy most turns may (k ∷ ks) e).moment refl turns) l was is
 
   some_stay : (Stays : State → State → ℕ → Type 0) (step : Step) → ((p l : ℕ) → LiesIn now.core p l → LiesIn (step_effect now step).core p l → Stays now.core (step_effect now step).core p) →
       refusal now (Evacuator step) ≡ None → SomeStay Stays now.core (step_effect now step).core
@@ -224,11 +212,10 @@ served_left now step r next lasts h =
 -- ---- one that the device stops
 anywhere_more : (o x y : Option Object) → IsAnywhere o x → IsAnywhere x y → IsAnywhere o y
 anywhere_more None None None h k = tt
-anywhere_more None None (Some y) h k = absurd k
 anywhere_more None (Some x) y h k = absurd h
 anywhere_more (Some o) None y h k = absurd h
-anywhere_more (Some o) (Some x) None h k = absurd k
 anywhere_more (Some o) (Some x) (Some y) h k = (k.0 ∙ h.0, k.1 ∙ h.1, k.2 ∙ h.2)
+anywhere_more _ _ _ h k = absurd k
 
 stop_left : (now : Moment) (why : Refusal) (objects count : ℕ) (r : Reply) (next : Moment) → Lasts now → StopsLeaving why objects now count r next → StepLeaves now (Evacuate count) r next
 stop_left now why objects count r next lasts h =
@@ -274,7 +261,7 @@ served_so now (Mutator m request) r next lasts h = stands now (Mutator m request
 served_so now (Book inquiry) r next lasts h = stands now (Book inquiry) r next lasts (Serves, h)
 served_so now (Evacuator step) r next lasts h = served_left now step r next lasts h
 
-left_so : (now : Moment) (c : Command) (r : Reply) (next : Moment) → Lasts now → Commanded now c r next → Leaves now c r next
+pub left_so : (now : Moment) (c : Command) (r : Reply) (next : Moment) → Lasts now → Commanded now c r next → Leaves now c r next
 left_so now c r next lasts h = by_outcome now r next (λ d. Leaves now d r next)
     (λ d h. served_so now d r next lasts h)
     (λ why m p from new h. stands now (Mutator m (Write p from new)) r next lasts (Refuses why 0 0, h))
@@ -286,12 +273,3 @@ left_so now c r next lasts h = by_outcome now r next (λ d. Leaves now d r next)
 
 pub steps_left : (now : Moment) (step : Step) (r : Reply) (next : Moment) → IsMoment now → Commanded now (Evacuator step) r next → StepLeaves now step r next
 steps_left now step r next is h = left_so now (Evacuator step) r next (moment_lasts now is) h
-
-pub all_leave : (now : Moment) (cs : List Command) (rs : List Reply) (moments : List Moment) → Lasts now → AllWriteBytes cs → Answered now cs rs moments → AllLeave now cs rs moments
-all_leave now [] [] [] lasts bytes h = tt
-all_leave now [] [] (m ∷ ms) lasts bytes h = absurd h
-all_leave now [] (r ∷ rs) ms lasts bytes h = absurd h
-all_leave now (c ∷ cs) [] ms lasts bytes h = absurd h
-all_leave now (c ∷ cs) (r ∷ rs) [] lasts bytes h = absurd h
-all_leave now (c ∷ cs) (r ∷ rs) (next ∷ ms) lasts bytes h =
-    (left_so now c r next lasts h.0, all_leave next cs rs ms (still_lasts now c r next lasts bytes.0 h.0) bytes.1 h.1)

@@ -6,6 +6,7 @@ pub mod AloneLaw
 pub mod AloneNew
 pub mod AloneTurns
 pub mod AloneViews
+pub mod Along
 pub mod Censused
 pub mod Coming
 pub mod CountedOnce

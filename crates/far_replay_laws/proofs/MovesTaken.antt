@@ -51,28 +51,22 @@ use Rattle.far_replay_laws.proofs.StepsTell.{held_by, held_chosen, names_there, 
 
 -- ---- what lies in a log, as a test
 abbrev in_log : ℕ → Option PtrWord → Bool
-in_log l None = false
-in_log l (Some Free) = false
 in_log l (Some (Near len ds place marks)) = place.log == l
-in_log l (Some (Far len ds marks)) = false
+in_log l _ = false
 
 at_log : (l : ℕ) (o : Option PtrWord) → bytes_at l o ≡ cond (in_log l o) (bytes_near o) 0
 at_log l None = refl
 at_log l (Some Free) = refl
-at_log l (Some (Near len ds place marks)) = refl
-at_log l (Some (Far len ds marks)) = refl
+at_log l _ = refl
 
 in_spot : (l : ℕ) (o : Option PtrWord) → in_log l o ≡ in_log l (spot_of o)
 in_spot l None = refl
 in_spot l (Some Free) = refl
-in_spot l (Some (Near len ds place marks)) = refl
-in_spot l (Some (Far len ds marks)) = refl
+in_spot l _ = refl
 
 lies_by : (s : State) (p l : ℕ) (o : Option PtrWord) → read_of (s.cell p) ≡ o → in_log l o ≡ true → LiesIn s p l
-lies_by s p l None e h = absurd (false≢true h)
-lies_by s p l (Some Free) e h = absurd (false≢true h)
 lies_by s p l (Some (Near len ds place marks)) e h = (len, ds, place, marks, e, eqb-true place.log l h)
-lies_by s p l (Some (Far len ds marks)) e h = absurd (false≢true h)
+lies_by s p l _ e h = absurd (false≢true h)
 
 in_lies : (s : State) (p l : ℕ) → LiesIn s p l → in_log l (read_of (s.cell p)) ≡ true
 in_lies s p l (len, ds, place, marks, near, log) = ap (in_log l) near ∙ eq-eqb place.log l log
@@ -337,17 +331,13 @@ module _ (now : Moment) (law : Law now.core) where
   takes_step : (step : Step) (o : Option Refusal) → refusal now (Evacuator step) ≡ o → MovesTakeFor now step o →
       TakesRoom now (Evacuator step) (unless o Refused (turn_reply now (Evacuator step))) (unless o (refused_effect now (Evacuator step)) (turn_effect now (Evacuator step)))
   takes_step (Select choice most) None e moves = select_takes (logs_given (given_by choice (rows_in now) most))
-  takes_step (Select choice most) (Some why) e moves = none_taken now.core
   takes_step (Mark count) None e moves = mark_takes count
-  takes_step (Mark count) (Some why) e moves = none_taken now.core
   takes_step Wait None e moves = polled_takes (first_open now.core)
   takes_step Wait (Some why) e moves = wait_takes why
   takes_step (Evacuate count) None e moves = moves
-  takes_step (Evacuate count) (Some why) e moves = none_taken now.core
   takes_step Abort None e moves = abort_takes
-  takes_step Abort (Some why) e moves = none_taken now.core
   takes_step (Round policy most turns) None e moves = moves
-  takes_step (Round policy most turns) (Some why) e moves = none_taken now.core
+  takes_step _ (Some why) e moves = none_taken now.core
 
 pub step_takes : (now : Moment) (step : Step) (o : Option Refusal) → Law now.core → MomentLaw now → refusal now (Evacuator step) ≡ o →
     TakesRoom now (Evacuator step) (unless o Refused (turn_reply now (Evacuator step))) (unless o (refused_effect now (Evacuator step)) (turn_effect now (Evacuator step)))

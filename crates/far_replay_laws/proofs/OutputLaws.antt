@@ -6,7 +6,7 @@ use Rattle.std.specs.List.{flat_map, range_with_len}
 use Rattle.std.proofs.lemmas.Bool.{lt-leb, eqb-true, eqb-false}
 use Rattle.std.proofs.lemmas.Bool.Decides.{nat_tests}
 use Rattle.far_word.specs.declared.refused.Refused.{Refused as Refusal}
-use Rattle.far_word.specs.declared.refused.Refused.TheVariants.{Range, Length, NoPointer, NoRoom, Device, Damaged, Marked, Shape, StillOpen, Syntax}
+use Rattle.far_word.specs.declared.refused.Refused.TheVariants.{Range, Length, NoPointer, NoRoom, Marked, Shape, StillOpen, Syntax}
 use Rattle.far_word.specs.declared.sizes.TheConstants.{CELLS, LONGEST}
 use Rattle.far_word.specs.Sizes.{size_of}
 use Rattle.far_log.proofs.Members.{split, none_in, All-from}
@@ -21,7 +21,6 @@ use Rattle.far_core.proofs.Bounds.{some_of}
 use Rattle.far_core.proofs.Guards.{none_from}
 use Rattle.far_core.proofs.Observations.{bytes_make_log}
 use Rattle.std.proofs.lemmas.Bool.{and_parts}
-use Rattle.far_evac.specs.declared.answers.Progress.{Progress}
 use Rattle.far_word.specs.declared.mark.Mark.TheVariants.{Hot, Moved}
 use Rattle.far_word.specs.Mark.{position, marks_with}
 use Rattle.far_core.specs.events.Step.{after_pin, is_opened}
@@ -41,35 +40,28 @@ use Rattle.far_replay.specs.Answers.{Answered, AnsweredBy, Answers, Commanded, O
 use Rattle.far_replay.specs.Commanded.{KeepsFar}
 use Rattle.far_text.specs.Command.{Command, Trace, Nothing, Heap, New, Open, Write, Read, Close, Where, Drop, View, Try, Epoch, Logs, Mutator, Book, Evacuator, Step, Wait, Device as SaidDevice}
 use Rattle.far_text.specs.Grammar.{trace_of}
-use Rattle.far_replay_laws.specs.Headline.{IsSound, IsWhole, IsSaidBy, TellsAll, TellsLog}
+use Rattle.far_replay_laws.specs.Headline.{IsWhole, IsSaidBy, TellsAll, TellsLog}
 use Rattle.far_replay.specs.Lawful.{Lawful}
 use Rattle.far_text.specs.Written.{AllWriteBytes}
 use Rattle.far_replay.specs.EventRows.{after_events, AllSucceed}
 use Rattle.far_replay.specs.declared.reply.LogLine.{LogLine}
-use Rattle.far_replay.specs.Reply.{Reply, Pointer, Refused, Halted, reply_text}
+use Rattle.far_replay.specs.Reply.{Reply, Pointer, Refused, reply_text}
 use Rattle.far_replay.specs.Events.{turn_events, view_events, events_for, new_events}
 use Rattle.far_replay.specs.Objects.{is_range, lowest_cell, object_len, uses, with_range}
 use Rattle.far_word.specs.declared.mark.Marks.{Marks}
 use Rattle.far_word.specs.declared.pointer.PtrWord.{PtrWord}
-use Rattle.far_word.specs.declared.pointer.PtrWord.TheVariants.{Free, Near, Far}
+use Rattle.far_word.specs.declared.pointer.PtrWord.TheVariants.{Near, Far}
 use Rattle.far_word.specs.Pointer.{read_of}
 use Rattle.far_replay.specs.Stays.{MayGain, CellStays, MayMark, MaySee, Sees, Stays}
 use Rattle.far_replay.specs.Rounds.{refused_step}
 use Rattle.far_replay.specs.Turn.{turn_effect, refused_effect, causes, first_cause, refusal, unless, turn_reply, reply_to, log_line, pointer_reply}
 use Rattle.far_replay_laws.proofs.AloneNew.{new_run, is_structure, is_length}
-use Rattle.far_replay_laws.proofs.AloneFirst.{alone_first}
-use Rattle.far_replay.proofs.Answering.{answered_by, answers_all, few_refused}
+use Rattle.far_replay.proofs.Answering.{answers_all, few_refused}
 use Rattle.far_replay.proofs.Outcomes.{by_outcome}
 use Rattle.far_replay_laws.proofs.Kept.{whole}
-use Rattle.far_replay.proofs.Lasting.{first_lasts, first_lawful, command_carried, moment_lasts, moments_last, each_is_moment, first_is_moment}
-use Rattle.far_replay_laws.proofs.Listed.{all_counted}
-use Rattle.far_replay_laws.proofs.PlainReplies.{replies_plain}
-use Rattle.far_replay_laws.proofs.LeftBySteps.{all_leave}
-use Rattle.far_replay_laws.proofs.TurnsTell.{all_told}
-use Rattle.far_replay_laws.proofs.ViewLaws.{logs_stay}
-use Rattle.far_text.proofs.TextLaws.{texts_write}
+use Rattle.far_replay.proofs.Lasting.{first_lawful, command_carried, moment_lasts, each_is_moment}
 use Rattle.far_replay.proofs.Lowest.{lowest_cell_is, no_cell_is}
-use Rattle.far_replay_laws.proofs.Refusals.{turn_is_no_refusal, from_cause}
+use Rattle.far_replay_laws.proofs.Refusals.{not_halted, turn_is_no_refusal, from_cause, of_far}
 use Rattle.far_replay.proofs.RoundLeads.{cell_same, same_clear, stays_same, step_stays}
 use Rattle.far_replay.proofs.WithCore.{same_order}
 use Rattle.far_replay.proofs.Spliced.{length-with_range, with_range_before, with_range_inside, with_range_after}
@@ -121,23 +113,14 @@ same_refusal why cause r h e = refusals_alike cause why (sym h ∙ e) where
   refusals_alike : (a b : Refusal) → Refused a ≡ Refused b → a ≡ b
   refusals_alike a b e = cc
 
-pub not_halted : (why cause : Refusal) (progress : Progress) (r : Reply) → r ≡ Halted cause progress → r ≢ Refused why
-not_halted why cause progress r h e = let odd : Halted cause progress ≡ Refused why = sym h ∙ e in cc
-
 write_marks : (why : Refusal) (m p from : ℕ) (bytes : List ℕ) → KeepsFar why → MayMark (Mutator m (Write p from bytes)) why p
-write_marks Device m p from bytes h = refl
-write_marks Damaged m p from bytes h = refl
-write_marks why m p from bytes h = absurd h
+write_marks why m p from bytes h = of_far (λ x. MayMark (Mutator m (Write p from bytes)) x p) why h refl refl
 
 read_marks : (why : Refusal) (m p from len : ℕ) → KeepsFar why → MayMark (Mutator m (Read p from len)) why p
-read_marks Device m p from len h = refl
-read_marks Damaged m p from len h = refl
-read_marks why m p from len h = absurd h
+read_marks why m p from len h = of_far (λ x. MayMark (Mutator m (Read p from len)) x p) why h refl refl
 
 view_marks : (why : Refusal) (m p : ℕ) → KeepsFar why → MayMark (Mutator m (View p)) why p
-view_marks Device m p h = refl
-view_marks Damaged m p h = refl
-view_marks why m p h = absurd h
+view_marks why m p h = of_far (λ x. MayMark (Mutator m (View p)) x p) why h refl refl
 
 pub refused_stays : (now : Moment) (c : Command) (r : Reply) (next : Moment) (why : Refusal) → ((p : ℕ) → ¬ MayMark c why p) → ¬ MaySee c why → Commanded now c r next → r ≡ Refused why → next ≡ now
 refused_stays now c r next why none blind h e = by_outcome now r next (λ d. ((p : ℕ) → ¬ MayMark d why p) → ¬ MaySee d why → next ≡ now)
@@ -174,10 +157,9 @@ gains_hot : (a : Marks) → MayGain a (marks_with Hot a)
 gains_hot a = record { hot = λ _. refl; moved = λ h. h; evac = refl; dropped = refl }
 
 cell_hot : (o : Option PtrWord) → CellStays o (map_mark Hot o)
-cell_hot None = tt
-cell_hot (Some Free) = tt
 cell_hot (Some (Near len ds place marks)) = (refl, refl, refl, gains_hot marks)
 cell_hot (Some (Far len ds marks)) = (refl, refl, gains_hot marks)
+cell_hot _ = tt
 
 -- a try that found a mark leaves HOT
 stays_hot : (s : State) (m p word : ℕ) → Law s → is_opened s m ≡ true → uses s m p ≡ true → is_slow s p ≡ true → CoreStays (Mutator m (Try p)) (Marked word) s (with_view s p)
@@ -211,10 +193,9 @@ gains_both : (a : Marks) → MayGain a (marks_with Moved (marks_with Hot a))
 gains_both a = record { hot = λ _. refl; moved = λ _. refl; evac = refl; dropped = refl }
 
 cell_asked : (o : Option PtrWord) → CellStays o (map_mark Moved (map_mark Hot o))
-cell_asked None = tt
-cell_asked (Some Free) = tt
 cell_asked (Some (Near len ds place marks)) = (refl, refl, refl, gains_both marks)
 cell_asked (Some (Far len ds marks)) = (refl, refl, gains_both marks)
+cell_asked _ = tt
 
 hot_stays : (f g : ℕ → ℕ) (q : ℕ) (o n : Option PtrWord) → n ≡ map_mark Hot o → object_of f g q n ≡ object_of f g q o
 hot_stays f g q o n is = ap (object_of f g q) is ∙ object_of-mark Hot f g q o (λ e. absurd cc)
@@ -243,10 +224,8 @@ module _ (c : Command) (s : State) (m p hot : ℕ) (may : MayMark c NoRoom p) (a
   both = marked_stays c NoRoom s p asked may apart (subst (CellStays (read_of (s.cell p))) (sym asked_is) (cell_asked (read_of (s.cell p)))) (λ f g q. asked_stays f g q (read_of (s.cell p)) (read_of asked) asked_is)
 
   pub stays_asked : (o : Option PtrWord) → CoreStays c NoRoom s (sought_of pinned m p o)
-  stays_asked None = only_hot
-  stays_asked (Some Free) = only_hot
   stays_asked (Some (Near len ds place marks)) = subst (λ (f : ℕ → ℕ). CoreStays c NoRoom s (record s { cell = f })) (sym (put_put s.cell p hot asked)) both
-  stays_asked (Some (Far len ds marks)) = only_hot
+  stays_asked _ = only_hot
 
 stays_sought : (c : Command) (s : State) (m p : ℕ) → MayMark c NoRoom p → ((q : ℕ) → ¬ MayMark c NoRoom q → q ≢ p) → Law s → is_opened s m ≡ true → uses s m p ≡ true → is_slow s p ≡ true → CoreStays c NoRoom s (sought s m p)
 stays_sought c s m p may apart law opened ours slow =
@@ -339,8 +318,7 @@ refuses_unknown now (Mutator k (Drop p)) m e h = first_holds now (Mutator k (Dro
 refuses_unknown now (Mutator k (View p)) m e h = first_holds now (Mutator k (View p)) (not (nat_lt k now.core.mutators)) _ refl (ap not (past now.core m k e h))
 refuses_unknown now (Mutator k (Try p)) m e h = first_holds now (Mutator k (Try p)) (not (nat_lt k now.core.mutators)) _ refl (ap not (past now.core m k e h))
 refuses_unknown now (Mutator k Epoch) m e h = first_holds now (Mutator k Epoch) (not (nat_lt k now.core.mutators)) _ refl (ap not (past now.core m k e h))
-refuses_unknown now (Book inquiry) m e h = absurd e
-refuses_unknown now (Evacuator step) m e h = absurd e
+refuses_unknown now _ m e h = absurd e
 
 unknown_allowed : (now : Moment) (c : Command) (m : ℕ) → IsSaidBy m c → now.core.mutators ≤ m → refusal now c ≢ None
 unknown_allowed now c m e h none =
@@ -378,9 +356,8 @@ logs_tell now r next law h =
 
 -- ---- the lowest cell that is free
 told_pointer : (o : Option Refusal) (x : Option ℕ) (p : ℕ) → Pointer p ≡ unless o Refused (pointer_reply x) → x ≡ Some p
-told_pointer None None p e = absurd cc
 told_pointer None (Some q) p e = let same : p ≡ q = cc in ap Some (sym same)
-told_pointer (Some why) x p e = absurd cc
+told_pointer _ _ p e = absurd cc
 
 pub takes_lowest : (now : Moment) (m len ds p : ℕ) (next : Moment) → Served now (Mutator m (New len ds)) (Pointer p) next →
     (m * CELLS ≤ p) × (p < m * CELLS + CELLS) × (now.core.cell p ≡ 0) × ((q : ℕ) → m * CELLS ≤ q → q < p → now.core.cell q ≢ 0)
@@ -477,8 +454,7 @@ at_number k m A B false e x = ((λ same. absurd (eqb-false k m e (sym same))), (
 pub own_lines : (m : ℕ) (o : Own) (c : Command) (r : Reply) (cs : List Command) (rs : List Reply) → Alone m o (c ∷ cs) (r ∷ rs) →
     (IsSaidBy m c → (q : Own) × Knows m o c r q × Alone m q cs rs) × (¬ IsSaidBy m c → Alone m o cs rs)
 own_lines m o (Mutator k request) r cs rs h = at_number k m _ _ (nat_eq k m) refl h
-own_lines m o (Book inquiry) r cs rs h = ((λ no. absurd no), (λ _. h))
-own_lines m o (Evacuator step) r cs rs h = ((λ no. absurd no), (λ _. h))
+own_lines m o _ r cs rs h = ((λ no. absurd no), (λ _. h))
 
 -- ---- what a new object is
 not_refused : (o : Option Refusal) (x : Option ℕ) (p : ℕ) → Pointer p ≡ unless o Refused (pointer_reply x) → o ≡ None
@@ -517,31 +493,3 @@ pub objects_whole : (now : Moment) (cs : List Command) (rs : List Reply) (moment
     All (λ (x : Moment). IsWhole x.core) (now ∷ moments)
 objects_whole now cs rs moments is bytes h =
     All-from (λ (x : Moment). IsWhole x.core) (now ∷ moments) (λ x c. whole x.core (moment_lasts x (each_is_moment now cs rs moments is bytes h x c)).law)
-
-in_shape : (logs mutators epoch : ℕ) (device : Option SaidDevice) (cs : List Command) (output : List ℕ) (b : Bool) → b ≡ true →
-    MatchBool b ((os : List Outside) × (rs : List Reply) × (moments : List Moment) × FailsAtMost (to_fail device) os × AnsweredBy os (first_moment logs mutators epoch) cs rs moments × (output ≡ flat_map reply_text (opened device ++ rs))) (output ≡ reply_text (Refused Shape)) →
-    (rs : List Reply) × (moments : List Moment) × Answered (first_moment logs mutators epoch) cs rs moments × (output ≡ flat_map reply_text (opened device ++ rs))
-in_shape logs mutators epoch device cs output true e (os, rs, moments, served, h, is) = (rs, moments, answered_by os (first_moment logs mutators epoch) cs rs moments h, is)
-in_shape logs mutators epoch device cs output false e h = absurd cc
-
-pub outputs_sound : (text output : List ℕ) (logs mutators epoch : ℕ) (device : Option SaidDevice) (cs : List Command) → Answers text output → trace_of text ≡ Ok (Heap logs mutators epoch device cs) →
-    is_shape (shape_of logs mutators epoch) ≡ true → IsSound logs mutators epoch device cs output
-outputs_sound text output logs mutators epoch device cs answers reads fits =
-    let bytes : AllWriteBytes cs = texts_write text logs mutators epoch device cs reads in
-    let is : IsMoment (first_moment logs mutators epoch) = first_is_moment logs mutators epoch fits in
-    let (rs, moments, h, e) = in_shape logs mutators epoch device cs output (is_shape (shape_of logs mutators epoch)) fits (subst (λ (x : Result Trace ℕ). IsOutput x output) reads answers) in
-    record {
-      replies = rs;
-      moments = moments;
-      bytes = bytes;
-      answered = h;
-      printed_so = e;
-      plain = replies_plain (first_moment logs mutators epoch) cs rs moments (first_lasts logs mutators epoch fits) bytes h;
-      lawful = moments_last (first_moment logs mutators epoch) cs rs moments is bytes h;
-      whole = objects_whole (first_moment logs mutators epoch) cs rs moments is bytes h;
-      stay = logs_stay (first_moment logs mutators epoch) cs rs moments is bytes h;
-      alone = λ m within. alone_first logs mutators epoch m cs rs moments fits within bytes h;
-      told = all_told (first_moment logs mutators epoch) cs rs moments (first_lasts logs mutators epoch fits) bytes h;
-      left = all_leave (first_moment logs mutators epoch) cs rs moments (first_lasts logs mutators epoch fits) bytes h;
-      counted = all_counted (first_moment logs mutators epoch) cs rs moments (first_lasts logs mutators epoch fits) bytes h;
-    }

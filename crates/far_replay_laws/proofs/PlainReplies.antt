@@ -11,9 +11,9 @@ use Rattle.std.proofs.lemmas.List.{get_or_past, length-take}
 use Rattle.std.proofs.lemmas.List.Elements.{All-from_recursion}
 use Rattle.hex.specs.Hex.{IsBytes}
 use Rattle.far_word.specs.declared.refused.Refused.{Refused as Refusal}
-use Rattle.far_word.specs.declared.refused.Refused.TheVariants.{Range, Device, Damaged}
+use Rattle.far_word.specs.declared.refused.Refused.TheVariants.{Range}
 use Rattle.far_word.specs.declared.pointer.PtrWord.{PtrWord}
-use Rattle.far_word.specs.declared.pointer.PtrWord.TheVariants.{Free, Near, Far}
+use Rattle.far_word.specs.declared.pointer.PtrWord.TheVariants.{Near}
 use Rattle.far_word.specs.declared.sizes.TheConstants.{CELLS}
 use Rattle.far_word.specs.Pointer.{IsPtr, read_of}
 use Rattle.far_word.proofs.PointerLaws.{read_says}
@@ -27,7 +27,7 @@ use Rattle.far_replay.specs.Answers.{Answered, Commanded, Served}
 use Rattle.far_replay.specs.Commanded.{KeepsFar}
 use Rattle.far_replay.proofs.Outcomes.{by_outcome}
 use Rattle.far_replay.specs.Audit.{counts_of, lies_near, lies_far, bytes_by_log}
-use Rattle.far_text.specs.Command.{Command, New, Open, Write, Read, Close, Where, Drop, View, Try, Epoch, Logs, Log, Audit, Mutator, Book, Evacuator, Evacuate}
+use Rattle.far_text.specs.Command.{Command, New, Write, Read, Where, Drop, View, Try, Epoch, Logs, Log, Audit, Mutator, Book, Evacuator, Evacuate}
 use Rattle.far_replay_laws.specs.Headline.{IsToldInFull, IsLineToldInFull, AreToldInFull, IsRefusalToldInFull}
 use Rattle.far_replay.specs.Dereference.{dereferenced}
 use Rattle.far_replay.specs.Moment.{Moment}
@@ -43,7 +43,7 @@ use Rattle.far_text.proofs.Parts.{range_get}
 use Rattle.far_replay.proofs.Lasting.{Lasts, still_lasts}
 use Rattle.far_replay_laws.proofs.PlainRounds.{filter_shorter, plain_step, plain_step_causes, plain_stop}
 use Rattle.far_replay_laws.proofs.Stops.{left_some, stood_so}
-use Rattle.far_replay_laws.proofs.Refusals.{EachCause, each_first, among}
+use Rattle.far_replay_laws.proofs.Refusals.{EachCause, each_first, among, of_far}
 use Rattle.far_replay.proofs.Turns.{new_tests}
 
 -- a pointer is a number of a cell
@@ -79,10 +79,8 @@ log_inside now l = cond_both (not (nat_lt l now.core.logs)) (Some Range) None (�
 
 -- where an object is: its log and the word in it
 plain_home : (o : Option PtrWord) → ((v : PtrWord) → o ≡ Some v → IsPtr v) → IsToldInFull (home_reply (home_of o))
-plain_home None h = tt
-plain_home (Some Free) h = tt
 plain_home (Some (Near len ds place marks)) h = let lies : IsPtr (Near len ds place marks) = h (Near len ds place marks) refl in (omega (arith, lies.3), omega (arith, lies.4))
-plain_home (Some (Far len ds marks)) h = tt
+plain_home _ h = tt
 
 -- what an audit counts
 live_below : (s : State) → Law s → (a n : ℕ) → sum_by (live_bytes s) (range_with_len a n) ≤ 1024 * n
@@ -102,38 +100,30 @@ plain_counts s law =
 -- the word that a cause carries is a cell's, and a log is one that the command names
 plain_causes : (now : Moment) (c : Command) → Law now.core → WritesBytes c → EachCause IsRefusalToldInFull (causes now c)
 plain_causes now (Mutator m (New len ds)) law bytes = (tt, (tt, (tt, (tt, tt))))
-plain_causes now (Mutator m Open) law bytes = (tt, (tt, tt))
 plain_causes now (Mutator m (Write p from new)) law bytes = (tt, (tt, (tt, (tt, (tt, tt)))))
 plain_causes now (Mutator m (Read p from len)) law bytes = (tt, (tt, (tt, (tt, (tt, tt)))))
-plain_causes now (Mutator m Close) law bytes = (tt, (tt, tt))
-plain_causes now (Mutator m (Where p)) law bytes = (tt, (tt, tt))
 plain_causes now (Mutator m (Drop p)) law bytes = (tt, (tt, (tt, tt)))
 plain_causes now (Mutator m (View p)) law bytes = (tt, (tt, (tt, (tt, tt))))
 plain_causes now (Mutator m (Try p)) law bytes = (tt, (tt, (tt, ((law.cells.cell_read p).0, tt))))
-plain_causes now (Mutator m Epoch) law bytes = (tt, (tt, tt))
 plain_causes now (Book Logs) law bytes = tt
 plain_causes now (Book (Log l)) law bytes = (tt, tt)
 plain_causes now (Book Audit) law bytes = tt
 plain_causes now (Evacuator step) law bytes = plain_step_causes now law step bytes
+plain_causes now _ law bytes = (tt, (tt, tt))
 
 -- the reply of a command that isn't refused
 plain_turn : (now : Moment) (c : Command) → Law now.core → MomentLaw now → refusal now c ≡ None → IsToldInFull (turn_reply now c)
 plain_turn now (Mutator m (New len ds)) law moment e =
     let parts = new_tests now.core m len ds e in
     plain_pointer now.core m (lowest_cell now.core m) law (is_structure now.core m ds (ap not parts.0)).0 refl
-plain_turn now (Mutator m Open) law moment e = tt
-plain_turn now (Mutator m (Write p from bytes)) law moment e = tt
 plain_turn now (Mutator m (Read p from len)) law moment e = plain_data (dereferenced now.core m p) p from len
-plain_turn now (Mutator m Close) law moment e = tt
 plain_turn now (Mutator m (Where p)) law moment e = plain_home (read_of (now.core.cell p)) (λ v is. (read_says (now.core.cell p) v (law.cells.cell_read p).0 is).0)
-plain_turn now (Mutator m (Drop p)) law moment e = tt
-plain_turn now (Mutator m (View p)) law moment e = tt
-plain_turn now (Mutator m (Try p)) law moment e = tt
 plain_turn now (Mutator m Epoch) law moment e = omega (arith, law.scopes.epoch_below)
 plain_turn now (Book Logs) law moment e = plain_logs now law
 plain_turn now (Book (Log l)) law moment e = (plain_line now law l (log_inside now l e), tt)
 plain_turn now (Book Audit) law moment e = plain_counts now.core law
 plain_turn now (Evacuator step) law moment e = plain_step now law moment step e
+plain_turn now _ law moment e = tt
 
 plain_unless : (now : Moment) (c : Command) (o : Option Refusal) → Law now.core → MomentLaw now → WritesBytes c → refusal now c ≡ o → IsToldInFull (unless o Refused (turn_reply now c))
 plain_unless now c None law moment bytes e = plain_turn now c law moment e
@@ -145,9 +135,7 @@ plain_reply now c law moment bytes = plain_unless now c (refusal now c) law mome
 
 -- of a command that was served or refused in its midst
 far_told : (why : Refusal) → KeepsFar why → IsRefusalToldInFull why
-far_told Device h = tt
-far_told Damaged h = tt
-far_told why h = absurd h
+far_told why h = of_far IsRefusalToldInFull why h tt tt
 
 served_plain : (now : Moment) (c : Command) (r : Reply) (next : Moment) → Lasts now → WritesBytes c → Served now c r next → IsToldInFull r
 served_plain now c r next lasts bytes h = subst IsToldInFull (sym h.reply) (plain_reply now c lasts.law lasts.round bytes)
@@ -166,12 +154,9 @@ outcome_plain now c r next lasts bytes h = by_outcome now r next (λ d. WritesBy
 -- each reply to a list of commands
 each_plain : (now : Moment) (cs : List Command) (rs : List Reply) (moments : List Moment) → Lasts now → AllWriteBytes cs → Answered now cs rs moments → AllByRecursion IsToldInFull rs
 each_plain now [] [] [] lasts bytes h = tt
-each_plain now [] [] (m ∷ ms) lasts bytes h = absurd h
-each_plain now [] (r ∷ rs) ms lasts bytes h = absurd h
-each_plain now (c ∷ cs) [] ms lasts bytes h = absurd h
-each_plain now (c ∷ cs) (r ∷ rs) [] lasts bytes h = absurd h
 each_plain now (c ∷ cs) (r ∷ rs) (next ∷ ms) lasts bytes h =
     (outcome_plain now c r next lasts bytes.0 h.0, each_plain next cs rs ms (still_lasts now c r next lasts bytes.0 h.0) bytes.1 h.1)
+each_plain now _ _ _ lasts bytes h = absurd h
 
 pub replies_plain : (now : Moment) (cs : List Command) (rs : List Reply) (moments : List Moment) → Lasts now → AllWriteBytes cs → Answered now cs rs moments → All IsToldInFull rs
 replies_plain now cs rs moments lasts bytes h = All-from_recursion IsToldInFull rs (each_plain now cs rs moments lasts bytes h)

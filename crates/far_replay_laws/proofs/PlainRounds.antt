@@ -1,16 +1,14 @@
 -- What the evacuator's steps tell, and their refusals, are told in full by their lines.
-use Rattle.std.proofs.Common.{◌≡◌, ◌≢◌, ℕ, zero, suc, ◌+◌, ◌<◌, ◌≤◌, ◌^◌, Bool, true, false, cond, refl, sym, subst, ap, ◌∙◌, arith, not, Option, Some, None, List, [], ◌∷◌, length, filter, eqb}
+use Rattle.std.proofs.Common.{◌≡◌, ◌≢◌, ℕ, ◌+◌, ◌<◌, ◌≤◌, ◌^◌, Bool, true, false, cond, refl, sym, subst, ap, ◌∙◌, arith, not, Option, Some, None, List, [], ◌∷◌, length, filter, eqb}
 use Rattle.std.specs.List.{find, range_with_len}
 use Rattle.std.proofs.Math.Nat.{min-le_right}
-use Rattle.std.proofs.lemmas.Bool.{cond_both, eq-eqb, true≢false}
+use Rattle.std.proofs.lemmas.Bool.{cond_both, eq-eqb}
 use Rattle.std.proofs.lemmas.List.{length-take}
 use Rattle.std.proofs.lemmas.List.Sums.{length-filter, count_by-le-length}
 use Rattle.hex.specs.Hex.{IsBytes}
 use Rattle.far_word.specs.declared.refused.Refused.TheVariants.{Phase as WrongPhase}
 use Rattle.far_word.specs.Pointer.{read_of}
-use Rattle.far_core.specs.declared.event.Kind.{Kind}
 use Rattle.far_core.specs.declared.event.Kind.TheVariants as kinds
-use Rattle.far_core.specs.events.Mark.{is_sealed}
 use Rattle.far_core.specs.state.Law.{Law}
 use Rattle.far_book.proofs.region.Owns.{own_law}
 use Rattle.far_book.specs.book.Dealing.{has_evac}
@@ -34,22 +32,22 @@ use Rattle.far_evac.specs.Waiting.{after_polling, polled}
 use Rattle.far_evac.specs.Walk.{ended, is_done, walked}
 use Rattle.far_evac.proofs.Bools.{or_left, or_right}
 use Rattle.far_evac.proofs.Bounds.{starts_within, walk_bounded, walk_within}
-use Rattle.far_evac.proofs.Leading.{polling, selecting}
+use Rattle.far_evac.proofs.Leading.{polling}
 use Rattle.far_evac.proofs.LeadingMarks.{marking}
-use Rattle.far_evac.proofs.LeadingTurns.{turns_lead}
 use Rattle.far_evac.proofs.Readiness.{risen_is_ready}
 use Rattle.far_evac.proofs.Rounds.{polls_is}
 use Rattle.far_evac.proofs.Walks.{walk_is}
 use Rattle.far_policy.specs.Scripted.{is_bad, judged}
-use Rattle.far_text.specs.Command.{By, Script, Policy, Step, Select, Mark, Wait, Evacuate, Abort, Round, Evacuator}
+use Rattle.far_text.specs.Command.{By, Script, Policy, Step, Select, Mark, Wait, Evacuate, Round, Evacuator}
 use Rattle.far_text.specs.Written.{ChoosesFew}
 use Rattle.far_replay_laws.specs.Headline.{IsToldInFull, IsRefusalToldInFull, IsWaitToldInFull, AreToldAsNumbers, IsProgressToldInFull, IsEndToldInFull}
 use Rattle.far_replay.specs.Rounds.{choice_causes, chosen_by, given_by, is_evacuating, logs_given, round_told, rows_in, step_causes, step_reply, wait_causes}
 use Rattle.far_replay.specs.Turn.{refusal}
 use Rattle.far_replay_laws.proofs.Refusals.{EachCause}
-use Rattle.far_replay_laws.proofs.Stops.{LeftSome, Stood, begun, turns_led}
-use Rattle.far_replay.proofs.RoundChoices.{Chooses, policy_chooses}
+use Rattle.far_replay_laws.proofs.Stops.{LeftSome, Stood, begun, starts, through_turns, turns_led}
+use Rattle.far_replay.proofs.RoundChoices.{Chooses}
 use Rattle.far_replay.proofs.RoundLeads.{begins, chooses, evacuating_is, none_first}
+use Rattle.far_replay_laws.proofs.StepsTell.{sealed_used}
 
 pub filter_shorter : (f : ℕ → Bool) (xs : List ℕ) → length (filter f xs) ≤ length xs
 filter_shorter f xs = omega (arith, length-filter f xs, count_by-le-length f xs)
@@ -63,9 +61,6 @@ bounded_alone : (tally : Tally) → IsBounded (plus nothing tally) → IsBounded
 bounded_alone tally h = record { objects = omega (arith, h.objects); logs = omega (arith, h.logs) }
 
 -- ---- logs
-sealed_used : (kind : Kind) → is_sealed kind ≡ true → kind ≢ kinds.Free
-sealed_used kind shut free = true≢false (sym shut ∙ ap is_sealed free)
-
 told_logs : (logs : List ℕ) → ((l : ℕ) → among logs l ≡ true → l < 2 ^ 64) → AreToldAsNumbers logs
 told_logs [] h = tt
 told_logs (l ∷ ls) h = (h l (or_left (eqb l l) (among ls l) (eq-eqb l l refl)), told_logs ls (λ k there. h k (or_right (eqb k l) (among ls k) there)))
@@ -84,11 +79,9 @@ module _ (now : Moment) (law : Law now.core) where
   pub plain_step_causes : (step : Step) → ChoosesFew step → EachCause IsRefusalToldInFull (step_causes now step)
   plain_step_causes (Select (By policy) most) bytes = (tt, (tt, tt))
   plain_step_causes (Select (Script logs) most) bytes = (tt, (tt, plain_judged logs (find (is_bad (rows_in now) most logs) (range_with_len 0 (length logs))) bytes.0))
-  plain_step_causes (Mark count) bytes = (tt, tt)
   plain_step_causes Wait bytes = (tt, plain_wait (polled now.core) (polls_is now))
-  plain_step_causes (Evacuate count) bytes = (tt, tt)
-  plain_step_causes Abort bytes = (tt, tt)
   plain_step_causes (Round policy most turns) bytes = (tt, (tt, tt))
+  plain_step_causes _ bytes = (tt, tt)
 
 -- ---- rounds: no sum of turns is too large
 record Stands (r : Turned) : Type 0 where
@@ -122,12 +115,8 @@ module _ (r : Turned) (law : Law r.moment.core) (moment : MomentLaw r.moment) (h
       }
 
 turns_stand : (m : Moment) → Law m.core → MomentLaw m → is_idle m.phase ≡ false → (n : ℕ) → Stands (turns_made m n)
-turns_stand m law moment runs zero = record { bounded = record { objects = omega arith; logs = omega arith }; within = λ _. starts_within m (own_law m.core law) moment }
-turns_stand m law moment runs (suc n) =
-    let r = turns_made m n in
-    let leads = turns_lead m n law moment runs in
-    let h = turns_stand m law moment runs n in
-    cond_both r.over r (turned r r.moment.phase) Stands (λ _. h) (λ goes. turn_stands r leads.law leads.moment h goes r.moment.phase refl)
+turns_stand m law moment runs = through_turns Stands m law moment runs (record { bounded = record { objects = omega arith; logs = omega arith }; within = λ _. starts_within m (own_law m.core law) moment })
+    (λ r own stands goes h. turn_stands r own stands h goes r.moment.phase refl)
 
 plain_end : (r : Turned) → Stands r → IsEndToldInFull (round_end r)
 plain_end r h = cond_both r.over (ends.Done (progress_of r.tally true)) (ends.Limit r.moment.phase) IsEndToldInFull (λ _. (plain_tally r.tally true h.bounded, refl)) (λ _. tt)
@@ -179,16 +168,13 @@ module _ (now : Moment) (law : Law now.core) (moment : MomentLaw now) where
       let may = begins now (choice_causes given) e in
       plain_chosen (logs_given given) (chooses now given choice most moment refl may.1)
   plain_step (Mark count) e = (few_marked count, plain_waiting count)
-  plain_step Wait e = tt
   plain_step (Evacuate count) e =
       let w = walked now count in
       let walks = walk_is now count in
       let leaves = evacuating_is now.phase (none_first (not (is_evacuating now.phase)) WrongPhase [] e).0 in
       let ready = risen_is_ready now (own_law now.core law) moment (ap has_risen leaves) in
       plain_tally w.tally (is_done w) (bounded_alone w.tally (walk_bounded now nothing within ready walks.0 w walks.1.walks))
-  plain_step Abort e = tt
   plain_step (Round policy most turns) e =
       let logs = chosen_by policy (rows_in now) most in
-      let may = begins now [] e in
-      let chosen = policy_chooses now policy most moment in
-      plain_round now logs turns (selecting now logs law moment may.0.idle may.0.left chosen.once chosen.of_order)
+      plain_round now logs turns (starts now law moment policy most turns e logs refl)
+  plain_step _ e = tt

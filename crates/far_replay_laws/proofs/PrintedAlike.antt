@@ -56,10 +56,9 @@ decimal_free : (b n : ℕ) → b < 48 → n < 2 ^ 64 → Free b (decimal n)
 decimal_free b n low small = free_at b (decimal n) (λ k lt e. let d = digit_at (decimal n) k (decimal_is_IsNumeral n small).0.1 lt in omega (arith, d.0, e))
 
 kind_free : (k : LogKind) → Free 32 (kind_word k)
-kind_free kinds.Free = ((λ e. omega (arith, e)), ((λ e. omega (arith, e)), ((λ e. omega (arith, e)), ((λ e. omega (arith, e)), tt))))
-kind_free kinds.Open = ((λ e. omega (arith, e)), ((λ e. omega (arith, e)), ((λ e. omega (arith, e)), ((λ e. omega (arith, e)), tt))))
 kind_free kinds.Sealed = ((λ e. omega (arith, e)), ((λ e. omega (arith, e)), ((λ e. omega (arith, e)), ((λ e. omega (arith, e)), ((λ e. omega (arith, e)), ((λ e. omega (arith, e)), tt))))))
 kind_free kinds.Chosen = ((λ e. omega (arith, e)), ((λ e. omega (arith, e)), ((λ e. omega (arith, e)), ((λ e. omega (arith, e)), ((λ e. omega (arith, e)), ((λ e. omega (arith, e)), tt))))))
+kind_free _ = ((λ e. omega (arith, e)), ((λ e. omega (arith, e)), ((λ e. omega (arith, e)), ((λ e. omega (arith, e)), tt))))
 
 -- the kind whose word begins so
 abbrev kind_from : ℕ → LogKind
@@ -67,9 +66,7 @@ kind_from letter = if letter == 102 then kinds.Free else if letter == 111 then k
 
 kind_back : (k : LogKind) → kind_from (head_of (kind_word k)) ≡ k
 kind_back kinds.Free = refl
-kind_back kinds.Open = refl
-kind_back kinds.Sealed = refl
-kind_back kinds.Chosen = refl
+kind_back _ = refl
 
 kinds_alike : (a b : LogKind) → kind_word a ≡ kind_word b → a ≡ b
 kinds_alike a b e = sym (kind_back a) ∙ ap (λ word. kind_from (head_of word)) e ∙ kind_back b
@@ -182,45 +179,16 @@ open_back mutator epoch p q =
     (λ i. StillOpen (whose i) (since i))
 
 told_back : (why : Refusal) → IsRefusalToldInFull why → refusal_from (refusal_number why) (detail why) ≡ why
-told_back Memory p = refl
-told_back NoRoom p = refl
-told_back NoPointer p = refl
-told_back Length p = refl
-told_back Closed p = refl
-told_back AlreadyOpen p = refl
-told_back NotHeld p = refl
-told_back Range p = refl
-told_back Held p = refl
-told_back Device p = refl
-told_back Damaged p = refl
-told_back Phase p = refl
-told_back EpochsSpent p = refl
 told_back (Marked word) p = ap Marked (word_back word p)
-told_back Shape p = refl
 told_back (Syntax line) p = ap Syntax (decimal_is_IsNumeral line p).1
 told_back (BadChoice log) p = ap BadChoice (decimal_is_IsNumeral log p).1
 told_back (StillOpen mutator epoch) p = open_back mutator epoch p.0 p.1
+told_back _ p = refl
 
 -- its number is small, and what stands behind it begins with no digit
 number_small : (why : Refusal) → IsRefusalToldInFull why → (refusal_number why < 2 ^ 64) × (head_of (detail why) < 48)
 number_small Memory p = (omega arith, omega arith)
-number_small NoRoom p = (omega arith, omega arith)
-number_small NoPointer p = (omega arith, omega arith)
-number_small Length p = (omega arith, omega arith)
-number_small Closed p = (omega arith, omega arith)
-number_small AlreadyOpen p = (omega arith, omega arith)
-number_small NotHeld p = (omega arith, omega arith)
-number_small Range p = (omega arith, omega arith)
-number_small Held p = (omega arith, omega arith)
-number_small Device p = (omega arith, omega arith)
-number_small Damaged p = (omega arith, omega arith)
-number_small Phase p = (omega arith, omega arith)
-number_small EpochsSpent p = (omega arith, omega arith)
-number_small (Marked word) p = (omega arith, omega arith)
-number_small Shape p = (omega arith, omega arith)
-number_small (Syntax line) p = (omega arith, omega arith)
-number_small (BadChoice log) p = (omega arith, omega arith)
-number_small (StillOpen mutator epoch) p = (omega arith, omega arith)
+number_small _ p = (omega arith, omega arith)
 
 -- digits in front of what begins with none
 abbrev AreDigits : List ℕ → Type 0
@@ -414,10 +382,9 @@ done_head true = omega arith
 done_head false = omega arith
 
 done_alike : (a b : Bool) → done_text a ++ codes "\n" ≡ done_text b ++ codes "\n" → a ≡ b
-done_alike true true e = refl
 done_alike true false e = let h : 32 ≡ 10 = ap head_of e in absurd (omega (arith, h))
 done_alike false true e = let h : 10 ≡ 32 = ap head_of e in absurd (omega (arith, h))
-done_alike false false e = refl
+done_alike _ _ e = refl
 
 evacuated_right : (p : Progress) → reply_text (Evacuated p) ≡ codes "evacuated" ++ (counted_text p ++ (done_text p.done ++ codes "\n"))
 evacuated_right p = chained (codes "evacuated") (counted_text p ∷ done_text p.done ∷ []) (codes "\n")
@@ -465,9 +432,7 @@ phase_from letter = if letter == 105 then phases.Idle else if letter == 109 then
 
 phase_back : (phase : RoundPhase) → phase_from (head_of (phase_word phase)) ≡ phase
 phase_back phases.Idle = refl
-phase_back phases.Marking = refl
-phase_back phases.Waiting = refl
-phase_back phases.Evacuating = refl
+phase_back _ = refl
 
 phases_alike : (a b : RoundPhase) → phase_word a ≡ phase_word b → a ≡ b
 phases_alike a b e = sym (phase_back a) ∙ ap (λ word. phase_from (head_of word)) e ∙ phase_back b
@@ -593,26 +558,14 @@ abbrev form_from : List ℕ → Form
 form_from text = form_by (get_or text 0 0) (get_or text 1 0)
 
 form_back : (f : Form) (x : Payload f) → form_from (reply_text (packed f x)) ≡ f
-form_back OfDone x = refl
-form_back OfPointer x = refl
-form_back OfData x = refl
 form_back OfLogs [] = refl
 form_back OfLogs (line ∷ lines) = refl
-form_back OfNear x = refl
-form_back OfFar x = refl
-form_back OfCounts x = refl
-form_back OfEpoch x = refl
-form_back OfChosen x = refl
-form_back OfMarked x = refl
-form_back OfClear x = refl
-form_back OfEvacuated x = refl
-form_back OfEnd x = refl
 form_back OfRefusal (Plainly why) = refl
 form_back OfRefusal (Midway why progress) = refl
+form_back _ x = refl
 
 -- those of one form
 same_form : (f : Form) (x y : Payload f) → IsToldInFull (packed f x) → IsToldInFull (packed f y) → reply_text (packed f x) ≡ reply_text (packed f y) → packed f x ≡ packed f y
-same_form OfDone x y a b e = refl
 same_form OfPointer x y a b e = ap Pointer (pointers_alike x y a b e)
 same_form OfData x y a b e = ap Data (bytes_alike x y a b e)
 same_form OfLogs x y a b e = ap Logs (lines_alike x y a b e)
@@ -622,10 +575,10 @@ same_form OfCounts x y a b e = ap Audited (counts_alike x y a b e)
 same_form OfEpoch x y a b e = ap EpochRead (epochs_alike x y a b e)
 same_form OfChosen x y a b e = ap Selected (chosen_alike x y a b (append_cancel_left (codes "selected") _ _ (append_cancel_right _ _ (codes "\n") e)))
 same_form OfMarked x y a b e = marked_alike x.0 y.0 x.1 y.1 a b e
-same_form OfClear x y a b e = refl
 same_form OfEvacuated x y a b e = ap Evacuated (evacuated_alike x y a b e)
 same_form OfEnd x y a b e = ap Ended (ends_alike x y a b (append_cancel_left (codes "round ") _ _ (append_cancel_right _ _ (codes "\n") e)))
 same_form OfRefusal x y a b e = turned_alike x y a b e
+same_form _ x y a b e = refl
 
 -- what is printed alike is of one form
 all_forms : (f g : Form) → f ≡ g → (x : Payload f) (y : Payload g) → IsToldInFull (packed f x) → IsToldInFull (packed g y) → reply_text (packed f x) ≡ reply_text (packed g y) → packed f x ≡ packed g y

@@ -14,10 +14,11 @@ use Rattle.far_evac.specs.declared.answers.Progress.{Progress}
 use Rattle.far_book.specs.book.Home.{home_of}
 use Rattle.far_book.specs.declared.home.Home.{Home}
 use Rattle.far_replay.specs.Moment.{Moment}
+use Rattle.far_word.specs.declared.refused.Refused.TheVariants.{Damaged, Device}
 use Rattle.far_replay.specs.Answers.{Commanded, Served}
-use Rattle.far_replay.specs.Commanded.{LiesFar}
+use Rattle.far_replay.specs.Commanded.{KeepsFar, LiesFar}
 use Rattle.far_replay.proofs.Outcomes.{by_outcome}
-use Rattle.far_text.specs.Command.{Command, New, Open, Write, Read, Close, Where, Drop, View, Try, Epoch, Logs, Log, Audit, Mutator, Book, Evacuator, Step, By, Script, Select, Mark, Wait, Evacuate, Abort, Round}
+use Rattle.far_text.specs.Command.{Command, New, Write, Read, Where, Drop, View, Try, Logs, Log, Audit, Mutator, Book, Evacuator, Step, By, Script, Select, Wait, Round}
 use Rattle.far_replay_laws.specs.Headline.{IsAtHandFor, MayRefuse}
 use Rattle.far_replay.specs.Reply.{Reply, Refused, Halted}
 use Rattle.far_replay.specs.Dereference.{has_no_room}
@@ -53,6 +54,12 @@ among P (c ∷ cs) why h = cond_both c.0 (Some c.1) (first_cause cs) (λ (x : Op
     (λ holds e. let same : c.1 ≡ why = cc in subst P same (h.0 holds))
     (λ no e. among P cs why (h.1 no) e)
 
+-- what is so where the device failed, and where it gave another number of bytes, is so of each refusal that leaves an object far
+pub of_far : (P : Refusal → Type 0) (why : Refusal) → KeepsFar why → P Device → P Damaged → P why
+of_far P Device h failed short = failed
+of_far P Damaged h failed short = short
+of_far P why h failed short = absurd h
+
 -- an object at hand needs no mark taken away before it is viewed
 fast_at : (s : State) (m p : ℕ) → Law s → (s.cell p ≢ 0 → AtHand s p) → not (uses s m p) ≡ false → is_slow s p ≡ false
 fast_at s m p law hand used = hand_is_fast s p (hand (nonzero s law p (and_parts (nat_eq (p / CELLS) m) (s.used p) (not-false (uses s m p) used)).1))
@@ -73,28 +80,23 @@ step_listed : (now : Moment) (step : Step) → EachFirst (MayRefuse (Evacuator s
 step_listed now (Select (By policy) most) = ((λ _. tt), λ _. ((λ _. tt), λ _. tt))
 step_listed now (Select (Script logs) most) =
     ((λ _. tt), λ _. ((λ _. tt), λ _. judged_listed logs most (find (is_bad (rows_in now) most logs) (range_with_len 0 (length logs)))))
-step_listed now (Mark count) = ((λ _. tt), λ _. tt)
 step_listed now Wait = ((λ _. tt), λ _. polled_listed (polled now.core))
-step_listed now (Evacuate count) = ((λ _. tt), λ _. tt)
-step_listed now Abort = ((λ _. tt), λ _. tt)
 step_listed now (Round policy most turns) = ((λ _. tt), λ _. ((λ _. tt), λ _. tt))
+step_listed now _ = ((λ _. tt), λ _. tt)
 
 -- the causes of each command are those that it may be refused for, where its object is at hand
 causes_listed : (now : Moment) (c : Command) → Law now.core → IsAtHandFor now c → EachFirst (MayRefuse c) (causes now c)
 causes_listed now (Mutator m (New len ds)) law hand = ((λ _. tt), λ _. ((λ _. tt), λ _. ((λ _. tt), λ _. ((λ _. tt), λ _. tt))))
-causes_listed now (Mutator m Open) law hand = ((λ _. tt), λ _. ((λ _. tt), λ _. tt))
 causes_listed now (Mutator m (Write p from bytes)) law hand = ((λ _. tt), λ _. ((λ _. tt), λ _. ((λ _. tt), λ used. ((λ _. tt), λ _. ((λ full. absurd (true≢false (sym full ∙ room_at now.core m p law hand used))), λ _. tt)))))
 causes_listed now (Mutator m (Read p from len)) law hand = ((λ _. tt), λ _. ((λ _. tt), λ _. ((λ _. tt), λ used. ((λ _. tt), λ _. ((λ full. absurd (true≢false (sym full ∙ room_at now.core m p law hand used))), λ _. tt)))))
-causes_listed now (Mutator m Close) law hand = ((λ _. tt), λ _. ((λ _. tt), λ _. tt))
-causes_listed now (Mutator m (Where p)) law hand = ((λ _. tt), λ _. ((λ _. tt), λ _. tt))
 causes_listed now (Mutator m (Drop p)) law hand = ((λ _. tt), λ _. ((λ _. tt), λ _. ((λ _. tt), λ _. tt)))
 causes_listed now (Mutator m (View p)) law hand = ((λ _. tt), λ _. ((λ _. tt), λ _. ((λ _. tt), λ used. ((λ full. absurd (true≢false (sym full ∙ room_at now.core m p law hand used))), λ _. tt))))
 causes_listed now (Mutator m (Try p)) law hand = ((λ _. tt), λ _. ((λ _. tt), λ _. ((λ _. tt), λ used. ((λ slow. absurd (true≢false (sym slow ∙ fast_at now.core m p law hand used))), λ _. tt))))
-causes_listed now (Mutator m Epoch) law hand = ((λ _. tt), λ _. ((λ _. tt), λ _. tt))
 causes_listed now (Book Logs) law hand = tt
 causes_listed now (Book (Log l)) law hand = ((λ _. tt), λ _. tt)
 causes_listed now (Book Audit) law hand = tt
 causes_listed now (Evacuator step) law hand = step_listed now step
+causes_listed now _ law hand = ((λ _. tt), λ _. ((λ _. tt), λ _. tt))
 
 -- what isn't refused is no refusal
 pointer_is_no_refusal : (o : Option ℕ) (why : Refusal) → pointer_reply o ≢ Refused why
@@ -107,24 +109,10 @@ home_is_no_refusal (Some home) why e = cc
 
 pub turn_is_no_refusal : (now : Moment) (c : Command) (why : Refusal) → turn_reply now c ≢ Refused why
 turn_is_no_refusal now (Mutator m (New len ds)) why e = pointer_is_no_refusal (lowest_cell now.core m) why e
-turn_is_no_refusal now (Mutator m Open) why e = cc
-turn_is_no_refusal now (Mutator m (Write p from bytes)) why e = cc
-turn_is_no_refusal now (Mutator m (Read p from len)) why e = cc
-turn_is_no_refusal now (Mutator m Close) why e = cc
 turn_is_no_refusal now (Mutator m (Where p)) why e = home_is_no_refusal (home_of (read_of (now.core.cell p))) why e
-turn_is_no_refusal now (Mutator m (Drop p)) why e = cc
-turn_is_no_refusal now (Mutator m (View p)) why e = cc
-turn_is_no_refusal now (Mutator m (Try p)) why e = cc
-turn_is_no_refusal now (Mutator m Epoch) why e = cc
 turn_is_no_refusal now (Book Logs) why e = cc
-turn_is_no_refusal now (Book (Log l)) why e = cc
-turn_is_no_refusal now (Book Audit) why e = cc
 turn_is_no_refusal now (Evacuator (Select choice most)) why e = cc
-turn_is_no_refusal now (Evacuator (Mark count)) why e = cc
-turn_is_no_refusal now (Evacuator Wait) why e = cc
-turn_is_no_refusal now (Evacuator (Evacuate count)) why e = cc
-turn_is_no_refusal now (Evacuator Abort) why e = cc
-turn_is_no_refusal now (Evacuator (Round policy most turns)) why e = cc
+turn_is_no_refusal now _ why e = cc
 
 pub from_cause : (o : Option Refusal) (r : Reply) (why : Refusal) → (r ≢ Refused why) → unless o Refused r ≡ Refused why → o ≡ Some why
 from_cause None r why none e = absurd (none e)
@@ -141,15 +129,15 @@ far_named s p far none = let free : Some Free ≡ Some (Far far.0 far.1 far.2) =
 pub far_away : (s : State) (p : ℕ) → LiesFar s p → ¬ (s.cell p ≢ 0 → AtHand s p)
 far_away s p far hand = let at = hand (far_named s p far) in let odd : Some (Near at.len at.ds at.place at.marks) ≡ Some (Far far.0 far.1 far.2) = sym at.near ∙ far.3 in cc
 
+pub not_halted : (why cause : Refusal) (progress : Progress) (r : Reply) → r ≡ Halted cause progress → r ≢ Refused why
+not_halted why cause progress r h e = let odd : Halted cause progress ≡ Refused why = sym h ∙ e in cc
+
 pub near_refusals : (now : Moment) (c : Command) (r : Reply) (next : Moment) (why : Refusal) → Law now.core → IsAtHandFor now c → Commanded now c r next → r ≡ Refused why → MayRefuse c why
 near_refusals now c r next why law hand h e = by_outcome now r next (λ d. IsAtHandFor now d → MayRefuse d why)
     (λ d h hand. served_near now d r next why law hand h e)
     (λ cause m p from bytes h hand. absurd (far_away now.core p h.far hand))
     (λ cause m p from len h hand. absurd (far_away now.core p h.far hand))
     (λ cause m p h hand. absurd (far_away now.core p h.far hand))
-    (λ cause objects count h hand. absurd (halts cause why h.progress r h.reply e))
-    (λ cause turns objects policy most count h hand. absurd (halts cause why _ r h.reply e))
+    (λ cause objects count h hand. absurd (not_halted why cause h.progress r h.reply e))
+    (λ cause turns objects policy most count h hand. absurd (not_halted why cause _ r h.reply e))
     c h hand
-  where
-    halts : (cause why : Refusal) (progress : Progress) (r : Reply) → r ≡ Halted cause progress → r ≢ Refused why
-    halts cause why progress r h e = let odd : Halted cause progress ≡ Refused why = sym h ∙ e in cc

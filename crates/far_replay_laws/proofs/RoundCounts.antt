@@ -1,11 +1,11 @@
 -- What a round counts is what has changed so from its first moment to its last.
-use Rattle.std.proofs.Common.{◌≡◌, ℕ, zero, suc, ◌+◌, true, false, cond, Option, Some, None, List, length, ap, sym, refl, ◌∙◌, subst, arith, inl, inr}
+use Rattle.std.proofs.Common.{◌≡◌, ℕ, ◌+◌, true, false, cond, Option, Some, None, List, length, ap, sym, refl, ◌∙◌, subst, arith, inl, inr}
 use Rattle.std.specs.Prelude.{◌⊎◌}
 use Rattle.std.proofs.lemmas.Bool.{cond_both, false≢true, true≢false}
 use Rattle.far_word.specs.declared.mark.Marks.{Marks}
 use Rattle.far_word.specs.declared.pointer.Place.{Place}
 use Rattle.far_word.specs.declared.pointer.PtrWord.{PtrWord}
-use Rattle.far_word.specs.declared.pointer.PtrWord.TheVariants.{Free, Near, Far}
+use Rattle.far_word.specs.declared.pointer.PtrWord.TheVariants.{Near}
 use Rattle.far_word.specs.Pointer.{read_of}
 use Rattle.far_core.specs.events.Clear.{is_near}
 use Rattle.far_core.specs.state.Law.{Law}
@@ -22,19 +22,17 @@ use Rattle.far_evac.specs.Walk.{Walked, ended, is_done, walked}
 use Rattle.far_evac.specs.declared.phase.Phase.{Phase}
 use Rattle.far_evac.specs.declared.phase.Phase.TheVariants.{Idle, Marking, Waiting, Evacuating}
 use Rattle.far_evac.proofs.Joined.{walks_join}
-use Rattle.far_evac.proofs.LeadingTurns.{turns_lead}
 use Rattle.far_evac.proofs.Marks.{is_marked}
 use Rattle.far_replay_laws.specs.HowMany.{IsHowMany}
 use Rattle.far_replay_laws.specs.Steps.{CountsRound, IsMoved, IsRetired, IsSentFar, LiesIn}
 use Rattle.far_replay_laws.proofs.StepsTell.{all_freed, ended_phase, place_or, tells_leaving}
+use Rattle.far_replay_laws.proofs.Stops.{through_turns}
 
 -- ---- where the cells say the same but for EVAC, the same lies in each log
 module _ (s u : State) (p : ℕ) (same : but_evac (read_of (u.cell p)) ≡ but_evac (read_of (s.cell p))) where
   lies_by : (l len ds : ℕ) (place : Place) (marks : Marks) (o : Option PtrWord) → read_of (s.cell p) ≡ o → but_evac (Some (Near len ds place marks)) ≡ but_evac o → place.log ≡ l → LiesIn s p l
-  lies_by l len ds place marks None was e log = absurd (true≢false (ap is_near e))
-  lies_by l len ds place marks (Some Free) was e log = absurd (true≢false (ap is_near e))
   lies_by l len ds place marks (Some (Near n d at old)) was e log = (n, d, at, old, was, sym (ap (λ (x : Place). x.log) (ap (place_or place) e)) ∙ log)
-  lies_by l len ds place marks (Some (Far n d old)) was e log = absurd (true≢false (ap is_near e))
+  lies_by l len ds place marks _ was e log = absurd (true≢false (ap is_near e))
 
   lay : (l : ℕ) → LiesIn u p l → LiesIn s p l
   lay l (len, ds, place, marks, near, log) = lies_by l len ds place marks (read_of (s.cell p)) refl (ap but_evac (sym near) ∙ same) log
@@ -142,12 +140,8 @@ module _ (m : Moment) (r : Turned) (law : Law r.moment.core) (moment : MomentLaw
   turn_spans goes Evacuating e (inr h) = inr (goes_late goes h)
 
 pub spans : (m : Moment) → Law m.core → MomentLaw m → is_idle m.phase ≡ false → (n : ℕ) → Early m (turns_made m n) ⊎ Late m (turns_made m n)
-spans m law moment runs zero = inl record { alike = λ p. refl; held = refl; tally = refl; goes = refl }
-spans m law moment runs (suc n) =
-    let r = turns_made m n in
-    let leads = turns_lead m n law moment runs in
-    let h = spans m law moment runs n in
-    cond_both r.over r (turned r r.moment.phase) (λ (t : Turned). Early m t ⊎ Late m t) (λ _. h) (λ goes. turn_spans m r leads.law leads.moment goes r.moment.phase refl h)
+spans m law moment runs = through_turns (λ t. Early m t ⊎ Late m t) m law moment runs (inl record { alike = λ p. refl; held = refl; tally = refl; goes = refl })
+    (λ r own stands goes h. turn_spans m r own stands goes r.moment.phase refl h)
 
 late_counts : (m : Moment) (r : Turned) → Late m r → r.over ≡ true → CountsRound m m.collection (progress_of r.tally true) r.moment
 late_counts m r h over =

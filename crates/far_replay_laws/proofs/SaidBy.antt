@@ -1,8 +1,9 @@
 -- Whose line it is, by the number behind its name.
-use Rattle.std.proofs.Common.{◌≡◌, ◌≢◌, ℕ, ◌<◌, ◌≤◌, ◌^◌, List, [], ◌∷◌, codes, decimal, get_or, arith, sym, ap, refl, inl, inr, ◌∙◌}
+use Rattle.std.proofs.Common.{◌≡◌, ◌≢◌, ℕ, Bool, true, not, ◌==◌, ◌||◌, ◌<◌, ◌≤◌, ◌^◌, List, [], ◌∷◌, codes, decimal, get_or, arith, sym, ap, refl, inl, inr, ◌∙◌}
+use Rattle.std.proofs.lemmas.Bool.{true≢false}
 use Rattle.std.proofs.lemmas.Fmt.{decimal_injective, decimal_is_IsNumeral}
 use Rattle.std.proofs.lemmas.Str.Parse.{digit_at}
-use Rattle.far_text.specs.Command.{Command, CommandLine, New, Open, Write, Read, Close, Where, Drop, View, Try, Epoch, Logs, Log, Audit, Mutator, Book, Evacuator, Policy, Oldest, LeastLive, By, Script, Select, Mark, Wait, Evacuate, Abort, Round}
+use Rattle.far_text.specs.Command.{Command, CommandLine, New, Open, Write, Read, Close, Where, Drop, View, Try, Epoch, Log, Mutator, Book, Evacuator, Policy, Oldest, LeastLive, By, Script, Select, Mark, Evacuate, Round}
 use Rattle.far_replay_laws.specs.Headline.{CountsOthers, IsSaidBy}
 use Rattle.far_text.specs.Says.{Says, policy_name}
 
@@ -33,40 +34,13 @@ letter_behind [] = 0
 letter_behind (x ∷ xs) = letter_of xs
 
 -- a name with other letters is none of them
-is_other : (name : List ℕ) → letter_of name ≢ 108 → letter_of name ≢ 109 → letter_behind name ≢ 118 → ¬ CountsOthers name
-is_other name log mark evacuate (inl e) = log (ap letter_of e)
-is_other name log mark evacuate (inr (inl e)) = mark (ap letter_of e)
-is_other name log mark evacuate (inr (inr e)) = evacuate (ap letter_behind e)
+abbrev is_apart : List ℕ → Bool
+is_apart name = not (letter_of name == 108 || letter_of name == 109 || letter_behind name == 118)
 
-new_is_other : ¬ CountsOthers (codes "new")
-new_is_other = is_other (codes "new") (λ e. omega (arith, e)) (λ e. omega (arith, e)) (λ e. omega (arith, e))
-
-open_is_other : ¬ CountsOthers (codes "open")
-open_is_other = is_other (codes "open") (λ e. omega (arith, e)) (λ e. omega (arith, e)) (λ e. omega (arith, e))
-
-write_is_other : ¬ CountsOthers (codes "write")
-write_is_other = is_other (codes "write") (λ e. omega (arith, e)) (λ e. omega (arith, e)) (λ e. omega (arith, e))
-
-read_is_other : ¬ CountsOthers (codes "read")
-read_is_other = is_other (codes "read") (λ e. omega (arith, e)) (λ e. omega (arith, e)) (λ e. omega (arith, e))
-
-close_is_other : ¬ CountsOthers (codes "close")
-close_is_other = is_other (codes "close") (λ e. omega (arith, e)) (λ e. omega (arith, e)) (λ e. omega (arith, e))
-
-where_is_other : ¬ CountsOthers (codes "where")
-where_is_other = is_other (codes "where") (λ e. omega (arith, e)) (λ e. omega (arith, e)) (λ e. omega (arith, e))
-
-drop_is_other : ¬ CountsOthers (codes "drop")
-drop_is_other = is_other (codes "drop") (λ e. omega (arith, e)) (λ e. omega (arith, e)) (λ e. omega (arith, e))
-
-view_is_other : ¬ CountsOthers (codes "view")
-view_is_other = is_other (codes "view") (λ e. omega (arith, e)) (λ e. omega (arith, e)) (λ e. omega (arith, e))
-
-try_is_other : ¬ CountsOthers (codes "try")
-try_is_other = is_other (codes "try") (λ e. omega (arith, e)) (λ e. omega (arith, e)) (λ e. omega (arith, e))
-
-epoch_is_other : ¬ CountsOthers (codes "epoch")
-epoch_is_other = is_other (codes "epoch") (λ e. omega (arith, e)) (λ e. omega (arith, e)) (λ e. omega (arith, e))
+is_other : (name : List ℕ) → is_apart name ≡ true → ¬ CountsOthers name
+is_other name apart (inl e) = true≢false (sym apart ∙ ap is_apart e)
+is_other name apart (inr (inl e)) = true≢false (sym apart ∙ ap is_apart e)
+is_other name apart (inr (inr e)) = true≢false (sym apart ∙ ap is_apart e)
 
 no_number : {name word : List ℕ} {rest : List (List ℕ)} {head : List ℕ} → name ∷ word ∷ rest ≢ head ∷ []
 no_number e = cc
@@ -91,23 +65,20 @@ policy_letter LeastLive = omega arith
 pub lines_numbered : (words : List (List ℕ)) (c : Command) (m : ℕ) → m < 2 ^ 64 → Says words (CommandLine c) →
     (IsSaidBy m c → (name : List ℕ) × (rest : List (List ℕ)) × (words ≡ name ∷ decimal m ∷ rest) × ¬ CountsOthers name)
     × ((name : List ℕ) (rest : List (List ℕ)) → words ≡ name ∷ decimal m ∷ rest → ¬ CountsOthers name → IsSaidBy m c)
-lines_numbered words (Mutator k (New len ds)) m small h = (numbered words _ k m _ h.0 new_is_other, (λ name rest e ne. number_behind words _ k m _ h.1 small h.0 name rest e))
-lines_numbered words (Mutator k Open) m small h = (numbered words _ k m _ h.0 open_is_other, (λ name rest e ne. number_behind words _ k m _ h.1 small h.0 name rest e))
-lines_numbered words (Mutator k (Write p from bytes)) m small h = (numbered words _ k m _ h.1 write_is_other, (λ name rest e ne. number_behind words _ k m _ h.2 small h.1 name rest e))
-lines_numbered words (Mutator k (Read p from len)) m small h = (numbered words _ k m _ h.0 read_is_other, (λ name rest e ne. number_behind words _ k m _ h.1 small h.0 name rest e))
-lines_numbered words (Mutator k Close) m small h = (numbered words _ k m _ h.0 close_is_other, (λ name rest e ne. number_behind words _ k m _ h.1 small h.0 name rest e))
-lines_numbered words (Mutator k (Where p)) m small h = (numbered words _ k m _ h.0 where_is_other, (λ name rest e ne. number_behind words _ k m _ h.1 small h.0 name rest e))
-lines_numbered words (Mutator k (Drop p)) m small h = (numbered words _ k m _ h.0 drop_is_other, (λ name rest e ne. number_behind words _ k m _ h.1 small h.0 name rest e))
-lines_numbered words (Mutator k (View p)) m small h = (numbered words _ k m _ h.0 view_is_other, (λ name rest e ne. number_behind words _ k m _ h.1 small h.0 name rest e))
-lines_numbered words (Mutator k (Try p)) m small h = (numbered words _ k m _ h.0 try_is_other, (λ name rest e ne. number_behind words _ k m _ h.1 small h.0 name rest e))
-lines_numbered words (Mutator k Epoch) m small h = (numbered words _ k m _ h.0 epoch_is_other, (λ name rest e ne. number_behind words _ k m _ h.1 small h.0 name rest e))
-lines_numbered words (Book Logs) m small h = ((λ no. absurd no), (λ name rest e ne. absurd (no_number (sym e ∙ h))))
+lines_numbered words (Mutator k (New len ds)) m small h = (numbered words _ k m _ h.0 (is_other (codes "new") refl), (λ name rest e ne. number_behind words _ k m _ h.1 small h.0 name rest e))
+lines_numbered words (Mutator k Open) m small h = (numbered words _ k m _ h.0 (is_other (codes "open") refl), (λ name rest e ne. number_behind words _ k m _ h.1 small h.0 name rest e))
+lines_numbered words (Mutator k (Write p from bytes)) m small h = (numbered words _ k m _ h.1 (is_other (codes "write") refl), (λ name rest e ne. number_behind words _ k m _ h.2 small h.1 name rest e))
+lines_numbered words (Mutator k (Read p from len)) m small h = (numbered words _ k m _ h.0 (is_other (codes "read") refl), (λ name rest e ne. number_behind words _ k m _ h.1 small h.0 name rest e))
+lines_numbered words (Mutator k Close) m small h = (numbered words _ k m _ h.0 (is_other (codes "close") refl), (λ name rest e ne. number_behind words _ k m _ h.1 small h.0 name rest e))
+lines_numbered words (Mutator k (Where p)) m small h = (numbered words _ k m _ h.0 (is_other (codes "where") refl), (λ name rest e ne. number_behind words _ k m _ h.1 small h.0 name rest e))
+lines_numbered words (Mutator k (Drop p)) m small h = (numbered words _ k m _ h.0 (is_other (codes "drop") refl), (λ name rest e ne. number_behind words _ k m _ h.1 small h.0 name rest e))
+lines_numbered words (Mutator k (View p)) m small h = (numbered words _ k m _ h.0 (is_other (codes "view") refl), (λ name rest e ne. number_behind words _ k m _ h.1 small h.0 name rest e))
+lines_numbered words (Mutator k (Try p)) m small h = (numbered words _ k m _ h.0 (is_other (codes "try") refl), (λ name rest e ne. number_behind words _ k m _ h.1 small h.0 name rest e))
+lines_numbered words (Mutator k Epoch) m small h = (numbered words _ k m _ h.0 (is_other (codes "epoch") refl), (λ name rest e ne. number_behind words _ k m _ h.1 small h.0 name rest e))
 lines_numbered words (Book (Log l)) m small h = ((λ no. absurd no), (λ name rest e ne. absurd (ne (inl (ap first_of (sym e ∙ h.0))))))
-lines_numbered words (Book Audit) m small h = ((λ no. absurd no), (λ name rest e ne. absurd (no_number (sym e ∙ h))))
 lines_numbered words (Evacuator (Select (By policy) most)) m small h = ((λ no. absurd no), (λ name rest e ne. absurd (word_is_no_number (codes "select") (policy_name policy) _ words m small (policy_letter policy) h.0 name rest e)))
 lines_numbered words (Evacuator (Select (Script logs) most)) m small h = ((λ no. absurd no), (λ name rest e ne. absurd (word_is_no_number (codes "select") (codes "script") _ words m small (omega arith) h.0 name rest e)))
 lines_numbered words (Evacuator (Mark count)) m small h = ((λ no. absurd no), (λ name rest e ne. absurd (ne (inr (inl (ap first_of (sym e ∙ h.0)))))))
-lines_numbered words (Evacuator Wait) m small h = ((λ no. absurd no), (λ name rest e ne. absurd (no_number (sym e ∙ h))))
 lines_numbered words (Evacuator (Evacuate count)) m small h = ((λ no. absurd no), (λ name rest e ne. absurd (ne (inr (inr (ap first_of (sym e ∙ h.0)))))))
-lines_numbered words (Evacuator Abort) m small h = ((λ no. absurd no), (λ name rest e ne. absurd (no_number (sym e ∙ h))))
 lines_numbered words (Evacuator (Round policy most turns)) m small h = ((λ no. absurd no), (λ name rest e ne. absurd (word_is_no_number (codes "round") (policy_name policy) _ words m small (policy_letter policy) h.0 name rest e)))
+lines_numbered words _ m small h = ((λ no. absurd no), (λ name rest e ne. absurd (no_number (sym e ∙ h))))

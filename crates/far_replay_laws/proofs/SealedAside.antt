@@ -1,13 +1,14 @@
 -- Each command that is told by events leaves the sealed logs: nothing comes to lie there, and what lies there has EVAC where it had it.
 use Rattle.std.proofs.Common.{◌≡◌, ℕ, ◌+◌, ◌*◌, ◌/◌, ◌^◌, ◌<◌, ◌≤◌, ◌&&◌, Bool, true, false, not, cond, nat_eq, nat_lt, nat_le, Option, Some, None, is_some, List, length, bit_or, arith, ap, sym, refl, ◌∙◌, subst}
-use Rattle.std.proofs.lemmas.Bool.{and_parts, cond_both, false≢true}
+use Rattle.std.proofs.lemmas.Bool.{and_parts, cond_both, false≢true, not-false}
+use Rattle.far_core.proofs.Bounds.{some_of}
 use Rattle.std.proofs.lemmas.Bool.Decides.{nat_tests}
 use Rattle.far_word.specs.declared.mark.Mark.{Mark}
-use Rattle.far_word.specs.declared.mark.Mark.TheVariants.{Hot, Evac, Moved, Dropped}
+use Rattle.far_word.specs.declared.mark.Mark.TheVariants.{Hot, Evac, Moved}
 use Rattle.far_word.specs.declared.mark.Marks.{Marks}
 use Rattle.far_word.specs.declared.pointer.Place.{Place}
 use Rattle.far_word.specs.declared.pointer.PtrWord.{PtrWord}
-use Rattle.far_word.specs.declared.pointer.PtrWord.TheVariants.{Free, Near, Far}
+use Rattle.far_word.specs.declared.pointer.PtrWord.TheVariants.{Near, Far}
 use Rattle.far_word.specs.declared.refused.Refused.{Refused as Refusal}
 use Rattle.far_word.specs.declared.refused.Refused.TheVariants.{NoRoom, NoPointer, Length, Closed, NotHeld, Range, Held, Marked}
 use Rattle.far_word.specs.declared.sizes.TheConstants.{CELLS, LOG_WORDS, LONGEST}
@@ -27,7 +28,7 @@ use Rattle.far_book.specs.book.SealedLogs.{KeepsSealed}
 use Rattle.far_book.specs.book.Fetching.{far_len}
 use Rattle.far_book.proofs.region.Owns.{own_law}
 use Rattle.far_book.proofs.region.SealedKept.{one_cell, sealed_logs_kept}
-use Rattle.far_text.specs.Command.{Command, New, Open, Write, Read, Close, Where, Drop, View, Try, Epoch, Mutator, Book, Evacuator}
+use Rattle.far_text.specs.Command.{Command, New, Open, Write, Read, Close, Drop, View, Try, Epoch, Mutator, Evacuator}
 use Rattle.far_replay.specs.Dereference.{come, come_of, comes_to, comes_to_of, dereferenced, has_no_room, sought, sought_of}
 use Rattle.far_replay.specs.Effects.{is_slow, with_data, with_epoch, with_object, with_scope, with_view, without_object}
 use Rattle.far_replay.specs.Events.{IsNoStep, come_events, view_events}
@@ -74,22 +75,18 @@ sealed_more s t u f g = record {
 
 -- ---- an owner adds a mark
 evac_kept : (k : Mark) (a : Marks) → is_owners k ≡ true → (marks_with k a).evac ≡ a.evac
-evac_kept Hot a h = refl
 evac_kept Evac a h = absurd (false≢true h)
-evac_kept Moved a h = refl
-evac_kept Dropped a h = refl
+evac_kept _ a h = refl
 
 near_marked : (k : Mark) → is_owners k ≡ true → (o : Option PtrWord) (len ds : ℕ) (place : Place) (marks : Marks) → map_mark k o ≡ Some (Near len ds place marks) →
     (old : Marks) × (o ≡ Some (Near len ds place old)) × (marks.evac ≡ old.evac)
-near_marked k h None len ds place marks e = absurd cc
-near_marked k h (Some Free) len ds place marks e = absurd cc
 near_marked k h (Some (Near n d at a)) len ds place marks e =
     let long : n ≡ len = cc in
     let structure : d ≡ ds = cc in
     let there : at ≡ place = cc in
     let more : marks_with k a ≡ marks = cc in
     (a, (λ i. Some (Near (long i) (structure i) (there i) a)), ap (λ (m : Marks). m.evac) (sym more) ∙ evac_kept k a h)
-near_marked k h (Some (Far n d a)) len ds place marks e = absurd cc
+near_marked k h _ len ds place marks e = absurd cc
 
 marked_on : (k : Mark) → is_owners k ≡ true → (s : State) (p : ℕ) → Law s → in_use (read_of (s.cell p)) ≡ true → KeepsSealed s (record s { cell = put s.cell p (bit_or (s.cell p) (2 ^ position k)); stored = s.stored })
 marked_on k h s p law live = one_cell s p (bit_or (s.cell p) (2 ^ position k)) s.stored
@@ -102,10 +99,8 @@ view_sealed s p law live = cond_both (is_some (s.held p)) s (after_pin s p) (Kee
     sealed_more s hot (after_pin s p) (marked_on Hot refl s p law live) (sealed_same hot (after_pin s p) refl refl refl refl refl refl refl refl))
 
 asked_sealed : (s : State) (m p : ℕ) → Law s → in_use (read_of (s.cell p)) ≡ true → (o : Option PtrWord) → KeepsSealed s (sought_of s m p o)
-asked_sealed s m p law live None = sealed_none s
-asked_sealed s m p law live (Some Free) = sealed_none s
 asked_sealed s m p law live (Some (Near len ds place marks)) = marked_on Moved refl s p law live
-asked_sealed s m p law live (Some (Far len ds marks)) = sealed_none s
+asked_sealed s m p law live _ = sealed_none s
 
 module _ (s : State) (m p : ℕ) (law : Law s) (opened : is_opened s m ≡ true) (ours : uses s m p ≡ true) where
   used : s.used p ≡ true
@@ -131,24 +126,19 @@ near_sealed s law p len ds from place marks near asked alive true wanted found =
 near_sealed s law p len ds from place marks near asked alive false unwanted found = (sealed_logs_kept s p len ds (own_law s law)).stays from marks near unwanted asked alive
 
 come_sealed_of : (s : State) (law : Law s) (p : ℕ) (place : Place) (o : Option PtrWord) → read_of (s.cell p) ≡ o → MayBring o → comes_to_of s p o ≡ Some place → KeepsSealed s (come_of s p (Some place) o)
-come_sealed_of s law p place None e may found = absurd may
-come_sealed_of s law p place (Some Free) e may found = absurd may
 come_sealed_of s law p place (Some (Near len ds from marks)) e may found =
     let to : cond marks.evac (room s (size_of len) false) (Some from) ≡ Some place = sym (ap (goal_of s) e) ∙ found in
     subst (λ b. KeepsSealed s (cond b (moved s p place) (stayed s p))) (sym (ap has_evac e)) (near_sealed s law p len ds from place marks e may.0 may.1 marks.evac refl to)
 come_sealed_of s law p place (Some (Far len ds marks)) e may found =
     let to : room s (size_of len) true ≡ Some place = sym (ap (λ o. room s (size_of (far_len o)) true) e) ∙ found in
     (sealed_logs_kept s p len ds (own_law s law)).comes place marks (s.stored p) e may to
+come_sealed_of s law p place _ e may found = absurd may
 
 come_sealed : (s : State) (law : Law s) (p : ℕ) (place : Place) → MayBring (read_of (s.cell p)) → comes_to s p ≡ Some place → KeepsSealed s (come s p)
 come_sealed s law p place may found = subst (λ x. KeepsSealed s (come_of s p x (read_of (s.cell p)))) (sym found) (come_sealed_of s law p place (read_of (s.cell p)) refl may found)
 
 -- ---- a dereference
 module _ (s : State) (m p : ℕ) (law : Law s) (opened : is_opened s m ≡ true) (ours : uses s m p ≡ true) where
-  place_of : (o : Option Place) → not (is_some o) ≡ false → (place : Place) × (o ≡ Some place)
-  place_of None e = absurd cc
-  place_of (Some place) e = (place, refl)
-
   slow_sealed : is_slow s p ≡ true → (place : Place) → comes_to (sought s m p) p ≡ Some place → KeepsSealed s (with_view (come (sought s m p) p) p)
   slow_sealed slow place found =
       let u : State = sought s m p in
@@ -161,7 +151,7 @@ module _ (s : State) (m p : ℕ) (law : Law s) (opened : is_opened s m ≡ true)
       (sealed_more u v (with_view v p) (come_sealed u first p place may found) (view_sealed v p then (ap in_use comes.near)))
 
   derefs_by : (b : Bool) → is_slow s p ≡ b → (b && not (is_some (comes_to (sought s m p) p))) ≡ false → KeepsSealed s (cond b (with_view (come (sought s m p) p) p) (with_view s p))
-  derefs_by true slow found = let there = place_of (comes_to (sought s m p) p) found in slow_sealed slow there.0 there.1
+  derefs_by true slow found = let there = some_of (comes_to (sought s m p) p) (not-false (is_some (comes_to (sought s m p) p)) found) in slow_sealed slow there.0 there.1
   derefs_by false fast found = view_sealed s p law (live s m p law opened ours)
 
   pub derefs_sealed : has_no_room s m p ≡ false → KeepsSealed s (dereferenced s m p)
@@ -184,9 +174,8 @@ new_sealed s m len ds p place law within structure some most cell found =
 
 new_at : (s : State) (m len ds : ℕ) (cell : Option ℕ) (place : Option Place) → Law s → (nat_lt m s.mutators && nat_lt ds 256) ≡ true → (nat_lt 0 len && nat_le len LONGEST) ≡ true →
     lowest_cell s m ≡ cell → room s (size_of len) true ≡ place → KeepsSealed s (with_new s m len ds cell place)
-new_at s m len ds None place law owner sizes e f = sealed_none s
-new_at s m len ds (Some p) None law owner sizes e f = sealed_none s
 new_at s m len ds (Some p) (Some place) law owner sizes e f = let h = new_sizes m s.mutators len ds owner sizes in new_sealed s m len ds p place law h.0 h.1 h.2 h.3 e f
+new_at s m len ds _ _ law owner sizes e f = sealed_none s
 
 drop_sealed : (s : State) (m p : ℕ) → Law s → m < s.mutators → uses s m p ≡ true → s.held p ≡ None → KeepsSealed s (without_object s m p)
 drop_sealed s m p law within ours unheld =
@@ -211,7 +200,6 @@ turn_sealed now (Mutator m (Read p from len)) told law e =
     let h = five (nat_lt m s.mutators) (is_opened s m) (uses s m p) (is_range (object_len s p) from len) (has_no_room s m p) e in
     derefs_sealed s m p law h.1 h.2 h.4
 turn_sealed now (Mutator m Close) told law e = sealed_same now.core (after_close now.core m) refl refl refl refl refl refl refl refl
-turn_sealed now (Mutator m (Where p)) told law e = sealed_none now.core
 turn_sealed now (Mutator m (Drop p)) told law e =
     let s : State = now.core in
     let h = three (nat_lt m s.mutators) (uses s m p) (is_some (s.held p)) Range NotHeld Held e in
@@ -225,8 +213,8 @@ turn_sealed now (Mutator m (Try p)) told law e =
     let h = tried (nat_lt m s.mutators) (is_opened s m) (uses s m p) (is_slow s p) Range Closed NotHeld (Marked (s.cell p)) e in
     view_sealed s p law (live s m p law h.1 h.2)
 turn_sealed now (Mutator m Epoch) told law e = sealed_same now.core (with_epoch now.core m) refl refl refl refl refl refl refl refl
-turn_sealed now (Book inquiry) told law e = sealed_none now.core
 turn_sealed now (Evacuator step) told law e = absurd told
+turn_sealed now _ told law e = sealed_none now.core
 
 -- ---- and each that is
 refused_sealed : (now : Moment) (c : Command) (why : Refusal) → IsNoStep c → Law now.core → refusal now c ≡ Some why → KeepsSealed now.core (refused_effect now c why).core

@@ -60,6 +60,8 @@ use Rattle.far_evac.proofs.LiveOnce.{LivesIn, first_named, live_named, near_at}
 use Rattle.far_evac.proofs.LiveOrder.{live_in_order}
 use Rattle.far_evac.proofs.Marks.{is_given_up, is_marked, mark_sets, marks_cells, others_stay}
 use Rattle.far_evac.proofs.SmallSteps.{walks_left}
+pub use Rattle.far_evac.proofs.SmallSteps.{none_there as none_held}
+pub use Rattle.far_replay.proofs.Strays.{chosen_held as held_by}
 use Rattle.far_evac.proofs.Readiness.{risen_is_ready}
 use Rattle.far_evac.proofs.Rounds.{found_in, walked_phase}
 use Rattle.far_evac.proofs.Unviewed.{none_found}
@@ -87,35 +89,20 @@ live_of s (l ∷ ls) p h = elim (Contains-append_cases (live_in s l) (live_among
 near_body : (o : Option PtrWord) → is_near (body_of o) ≡ is_near o
 near_body None = refl
 near_body (Some Free) = refl
-near_body (Some (Near len ds place marks)) = refl
-near_body (Some (Far len ds marks)) = refl
+near_body _ = refl
 
 abbrev pub place_or : Place → Option PtrWord → Place
-place_or other None = other
-place_or other (Some Free) = other
 place_or other (Some (Near len ds place marks)) = place
-place_or other (Some (Far len ds marks)) = other
+place_or other _ = other
 
 -- what a word shows of EVAC
 shows_evac : (s : State) (p : ℕ) (o : Option PtrWord) → read_of (s.cell p) ≡ o → has_evac o ≡ true → ShowsEvac s p true
-shows_evac s p None e h = absurd (false≢true h)
-shows_evac s p (Some Free) e h = absurd (false≢true h)
 shows_evac s p (Some (Near len ds place marks)) e h = (len, ds, place, marks, e, h)
-shows_evac s p (Some (Far len ds marks)) e h = absurd (false≢true h)
+shows_evac s p _ e h = absurd (false≢true h)
 
 -- ---- which logs are chosen
-pub held_by : (held : Bool) (kind : Kind) → kind_named held kind ≡ Chosen → held ≡ true
-held_by held kinds.Free e = absurd cc
-held_by held kinds.Open e = absurd cc
-held_by true kinds.Sealed e = refl
-held_by false kinds.Sealed e = absurd cc
-
 pub chosen_by_both : (held : Bool) (kind : Kind) → held ≡ true → kind ≡ kinds.Sealed → kind_named held kind ≡ Chosen
 chosen_by_both held kind h e = ap (λ b. kind_named b kind) h ∙ ap (kind_named true) e
-
-pub none_held : (held : List ℕ) → is_empty held ≡ true → held ≡ []
-none_held [] e = refl
-none_held (l ∷ ls) e = absurd (false≢true e)
 
 pub held_chosen : (now : Moment) → MomentLaw now → (l : ℕ) → among now.collection l ≡ true → IsChosen now l
 held_chosen now moment l h = chosen_by_both (among now.collection l) (now.core.kind l) h (moment.sealed l h)
@@ -142,10 +129,8 @@ names_there s p l (len, ds, place, marks, near, log) = (place.at, ap (λ o. name
 
 -- one that is found where it lay lies there
 found_there : (t : State) (p len ds : ℕ) (place : Place) (marks : Marks) (o : Option PtrWord) → read_of (t.cell p) ≡ o → body_of o ≡ body_of (Some (Near len ds place marks)) → LiesIn t p place.log
-found_there t p len ds place marks None is same = absurd (false≢true (ap is_near same))
-found_there t p len ds place marks (Some Free) is same = absurd (false≢true (ap is_near same))
 found_there t p len ds place marks (Some (Near n d at m)) is same = (n, d, at, m, is, ap (λ (x : Place). x.log) (ap (place_or place) same))
-found_there t p len ds place marks (Some (Far n d m)) is same = absurd (false≢true (ap is_near same))
+found_there t p len ds place marks _ is same = absurd (false≢true (ap is_near same))
 
 -- ---- objects leave
 module _ (now : Moment) (count : ℕ) (law : Law now.core) (moment : MomentLaw now) (leaves : now.phase ≡ Evacuating) where
@@ -184,8 +169,6 @@ module _ (now : Moment) (count : ℕ) (law : Law now.core) (moment : MomentLaw n
   ]
 
   moved_by : (p : ℕ) → Contains gone p → (o : Option PtrWord) → says w.moment p ≡ o → is_near o ≡ true → IsMoved now.core t p
-  moved_by p c None e h = absurd (false≢true h)
-  moved_by p c (Some Free) e h = absurd (false≢true h)
   moved_by p c (Some (Near len ds place marks)) e h =
       let from = lived p c in (
         from.0,
@@ -198,7 +181,7 @@ module _ (now : Moment) (count : ℕ) (law : Law now.core) (moment : MomentLaw n
             ap (λ o. names_place o from.0 place.at) e ∙ ap (λ b. b && (place.at == place.at)) (eq-eqb place.log from.0 same) ∙ eq-eqb place.at place.at refl in
             true≢false (sym some ∙ none)),
       )
-  moved_by p c (Some (Far len ds marks)) e h = absurd (false≢true h)
+  moved_by p c _ e h = absurd (false≢true h)
 
   moved_gone : (p : ℕ) → IsMoved now.core t p → Contains gone p × (is_near (says w.moment p) ≡ true)
   moved_gone p (l, k, (len, ds, place, marks, near, log), (n, d, to, other, next, there), apart) = (
@@ -212,10 +195,8 @@ module _ (now : Moment) (count : ℕ) (law : Law now.core) (moment : MomentLaw n
   )
 
   far_by : (p : ℕ) → Contains gone p → (o : Option PtrWord) → says w.moment p ≡ o → is_away o ≡ true → IsSentFar now.core t p
-  far_by p c None e h = absurd (false≢true h)
-  far_by p c (Some Free) e h = absurd (false≢true h)
-  far_by p c (Some (Near len ds place marks)) e h = absurd (false≢true h)
   far_by p c (Some (Far len ds marks)) e h = (was_near p c, (len, ds, marks, e))
+  far_by p c _ e h = absurd (false≢true h)
 
   far_gone : (p : ℕ) → IsSentFar now.core t p → Contains gone p × (is_away (says w.moment p) ≡ true)
   far_gone p (near, (len, ds, marks, next)) = (not_apart p near (ap is_near next), ap is_away next)
@@ -223,8 +204,7 @@ module _ (now : Moment) (count : ℕ) (law : Law now.core) (moment : MomentLaw n
   retired_by : (p : ℕ) → Contains gone p → (o : Option PtrWord) → says w.moment p ≡ o → is_nowhere o ≡ true → IsRetired now.core t p
   retired_by p c None e h = absurd (false≢true (subst IsSome e ((walking_law now count law moment leaves).cells.cell_read p).1))
   retired_by p c (Some Free) e h = (was_near p c, e)
-  retired_by p c (Some (Near len ds place marks)) e h = absurd (false≢true h)
-  retired_by p c (Some (Far len ds marks)) e h = absurd (false≢true h)
+  retired_by p c _ e h = absurd (false≢true h)
 
   retired_gone : (p : ℕ) → IsRetired now.core t p → Contains gone p × (is_nowhere (says w.moment p) ≡ true)
   retired_gone p (near, next) = (not_apart p near (ap is_near next), ap is_nowhere next)
@@ -347,13 +327,11 @@ module _ (now : Moment) (law : Law now.core) where
   -- what lies in a chosen log then lay there before
   bare_by : (p len ds : ℕ) (place : Place) (marks : Marks) (o : Option PtrWord) → read_of (now.core.cell p) ≡ o → read_of (given_up.core.cell p) ≡ Some (Near len ds place marks) →
       but_evac (Some (Near len ds place marks)) ≡ but_evac o → Contains now.collection place.log → marks.evac ≡ false
-  bare_by p len ds place marks None was is same member = absurd (true≢false (ap is_near same))
-  bare_by p len ds place marks (Some Free) was is same member = absurd (true≢false (ap is_near same))
   bare_by p len ds place marks (Some (Near n d at old)) was is same member =
       let still : place ≡ at = ap (place_or place) same in
       let lives = in_logs now.core (own_law now.core law) p n d at old was now.collection (subst (λ (x : Place). Contains now.collection x.log) still member) in
       sym (ap has_evac is) ∙ all_at (λ q. has_evac (says given_up q) ≡ false) p (live_among now.core now.collection) given_up_so.bare lives
-  bare_by p len ds place marks (Some (Far n d old)) was is same member = absurd (true≢false (ap is_near same))
+  bare_by p len ds place marks _ was is same member = absurd (true≢false (ap is_near same))
 
   pub tells_end : TellsEnd now given_up
   tells_end = record {
@@ -525,15 +503,13 @@ pub tells_open : (s : State) → Law s → (m epoch : ℕ) → polled s ≡ poll
 tells_open s law m epoch e = somebody s law (first_open s) refl m epoch e
 
 -- ---- choosing
-module _ (now : Moment) (law : Law now.core) (moment : MomentLaw now) where
-  not_free : (kind : Kind) → is_sealed kind ≡ true → kind ≢ kinds.Free
-  not_free kinds.Free h e = absurd (false≢true h)
-  not_free kinds.Open h e = cc
-  not_free kinds.Sealed h e = cc
+pub sealed_used : (kind : Kind) → is_sealed kind ≡ true → kind ≢ kinds.Free
+sealed_used kind shut free = true≢false (sym shut ∙ ap is_sealed free)
 
+module _ (now : Moment) (law : Law now.core) (moment : MomentLaw now) where
   are_rows : AreRows (rows_in now)
   are_rows = (rows_told now.order (row_of now.core) (λ l. refl) moment.order_once
-      (λ l there. omega (arith, law.logs.log_range l (not_free (now.core.kind l) (sym (moment.order l) ∙ there)), law.shape.few_logs))).0
+      (λ l there. omega (arith, law.logs.log_range l (sealed_used (now.core.kind l) (sym (moment.order l) ∙ there)), law.shape.few_logs))).0
 
   pub policy_takes : (policy : Policy) (most : ℕ) → Takes now (By policy) most (chosen_by policy (rows_in now) most)
   policy_takes Oldest most = ap (take most) (rows_are now.core now.order)

@@ -9,7 +9,7 @@ use Rattle.far_word.specs.declared.pointer.PtrWord.TheVariants.{Free, Near, Far}
 use Rattle.far_word.specs.Bytes.{packed_word}
 use Rattle.far_word.specs.Pointer.{read_of}
 use Rattle.far_word.specs.declared.refused.Refused.{Refused as Refusal}
-use Rattle.far_word.specs.declared.refused.Refused.TheVariants.{NoRoom, Closed, Held, NotHeld, Range, Device, Damaged, Marked}
+use Rattle.far_word.specs.declared.refused.Refused.TheVariants.{NoRoom, Closed, Held, NotHeld, Range, Marked}
 use Rattle.far_word.specs.Sizes.{size_of, words_for}
 use Rattle.far_core.specs.state.Room.{room}
 use Rattle.far_core.specs.state.Shape.{is_shape}
@@ -48,6 +48,7 @@ use Rattle.far_replay_laws.proofs.MovesTaken.{step_takes, stop_takes}
 use Rattle.far_replay.proofs.TakingView.{deref_more, view_takes}
 use Rattle.far_replay.proofs.Turns.{access_fact, led, marked_last, new_object_is, new_parts, new_tests, room_lacks, room_last, three, tried}
 use Rattle.far_replay.proofs.Views.{Viewed}
+use Rattle.far_replay_laws.proofs.Refusals.{of_far}
 
 pub shapes_are : (logs mutators epoch : ℕ) → (is_shape (shape_of logs mutators epoch) ≡ true) ↔ ((2 ≤ logs) × (logs ≤ 64) × (1 ≤ mutators) × (mutators ≤ 8) × (epoch < 2 ^ 62))
 shapes_are logs mutators epoch = ((λ h. (grind (arith, nat_tests), grind (arith, nat_tests), grind (arith, nat_tests), grind (arith, nat_tests), grind (arith, nat_tests))), (λ h. grind (arith, nat_tests)))
@@ -123,9 +124,7 @@ takes now (Mutator m (New len ds)) None law moment e = new_takes now.core m len 
     let parts = new_tests now.core m len ds (subst (λ r. refusal now (Mutator m (New len ds)) ≡ r) none e) in
     (parts.2, parts.3))
     (λ none p place cell found. new_taken now.core m len ds p place law (subst (λ r. refusal now (Mutator m (New len ds)) ≡ r) none e) cell found)
-takes now (Mutator m (New len ds)) (Some why) law moment e = none_taken now.core
 takes now (Mutator m Open) None law moment e = celled_takes now.core (with_scope now.core m) refl refl refl refl
-takes now (Mutator m Open) (Some why) law moment e = none_taken now.core
 takes now (Mutator m (Write p from bytes)) None law moment e =
     let at = led now.core m p from (length bytes) law (access_fact now.core m p from (length bytes) e) in
     let t : State = dereferenced now.core m p in
@@ -133,39 +132,31 @@ takes now (Mutator m (Write p from bytes)) None law moment e =
 takes now (Mutator m (Write p from bytes)) (Some NoRoom) law moment e =
     let h = room_lacks (nat_lt m now.core.mutators) (is_opened now.core m) (uses now.core m p) (is_range (object_len now.core p) from (length bytes)) (has_no_room now.core m p) e in
     none_takes now.core m p law h.1 h.2 h.3
-takes now (Mutator m (Write p from bytes)) (Some why) law moment e = none_taken now.core
 takes now (Mutator m (Read p from len)) None law moment e = (led now.core m p from len law (access_fact now.core m p from len e)).takes
 takes now (Mutator m (Read p from len)) (Some NoRoom) law moment e =
     let h = room_lacks (nat_lt m now.core.mutators) (is_opened now.core m) (uses now.core m p) (is_range (object_len now.core p) from len) (has_no_room now.core m p) e in
     none_takes now.core m p law h.1 h.2 h.3
-takes now (Mutator m (Read p from len)) (Some why) law moment e = none_taken now.core
 takes now (Mutator m Close) None law moment e = celled_takes now.core (after_close now.core m) refl refl refl refl
-takes now (Mutator m Close) (Some why) law moment e = none_taken now.core
 takes now (Mutator m (Where p)) None law moment e = none_taken now.core
-takes now (Mutator m (Where p)) (Some why) law moment e = none_taken now.core
 takes now (Mutator m (Drop p)) None law moment e =
     let h = three (nat_lt m now.core.mutators) (uses now.core m p) (is_some (now.core.held p)) Range NotHeld Held e in
     drop_takes now.core m p law (ltb-true m now.core.mutators h.0) h.1 (unheld_is (now.core.held p) h.2) (read_of (now.core.cell p)) refl
-takes now (Mutator m (Drop p)) (Some why) law moment e = none_taken now.core
 takes now (Mutator m (View p)) None law moment e =
     let h = tried (nat_lt m now.core.mutators) (is_opened now.core m) (uses now.core m p) (has_no_room now.core m p) Range Closed NotHeld NoRoom e in
     (derefs now.core m p law h.1 h.2 h.3).takes
 takes now (Mutator m (View p)) (Some NoRoom) law moment e =
     let h = room_last (nat_lt m now.core.mutators) (is_opened now.core m) (uses now.core m p) (has_no_room now.core m p) e in
     none_takes now.core m p law h.1 h.2 h.3
-takes now (Mutator m (View p)) (Some why) law moment e = none_taken now.core
 takes now (Mutator m (Try p)) None law moment e =
     let h = tried (nat_lt m now.core.mutators) (is_opened now.core m) (uses now.core m p) (is_slow now.core p) Range Closed NotHeld (Marked (now.core.cell p)) e in
     view_takes now.core m p law h.1 h.2
 takes now (Mutator m (Try p)) (Some (Marked word)) law moment e =
     let h = marked_last (nat_lt m now.core.mutators) (is_opened now.core m) (uses now.core m p) (is_slow now.core p) (now.core.cell p) word e in
     view_takes now.core m p law h.1 h.2
-takes now (Mutator m (Try p)) (Some why) law moment e = none_taken now.core
 takes now (Mutator m Epoch) None law moment e = celled_takes now.core (with_epoch now.core m) refl refl refl refl
-takes now (Mutator m Epoch) (Some why) law moment e = none_taken now.core
 takes now (Book inquiry) None law moment e = none_taken now.core
-takes now (Book inquiry) (Some why) law moment e = none_taken now.core
 takes now (Evacuator step) o law moment e = step_takes now step o law moment e
+takes now _ (Some why) law moment e = none_taken now.core
 
 served_take : (now : Moment) (c : Command) (r : Reply) (next : Moment) → IsMoment now → Served now c r next → TakesRoom now c r next
 served_take now c r next is h =
@@ -178,19 +169,13 @@ far_takes : (now : Moment) (c : Command) (m p : ℕ) (why : Refusal) (r : Reply)
 far_takes now c m p why r next is h = served_take now (Mutator m (Try p)) (Refused (Marked (now.core.cell p))) next is h.tried
 
 write_takes_none : (now next : Moment) (m p from : ℕ) (bytes : List ℕ) (why : Refusal) → KeepsFar why → TakesNone now.core next.core → TakesRoom now (Mutator m (Write p from bytes)) (Refused why) next
-write_takes_none now next m p from bytes Device h none = none
-write_takes_none now next m p from bytes Damaged h none = none
-write_takes_none now next m p from bytes why h none = absurd h
+write_takes_none now next m p from bytes why h none = of_far (λ x. TakesRoom now (Mutator m (Write p from bytes)) (Refused x) next) why h none none
 
 read_takes_none : (now next : Moment) (m p from len : ℕ) (why : Refusal) → KeepsFar why → TakesNone now.core next.core → TakesRoom now (Mutator m (Read p from len)) (Refused why) next
-read_takes_none now next m p from len Device h none = none
-read_takes_none now next m p from len Damaged h none = none
-read_takes_none now next m p from len why h none = absurd h
+read_takes_none now next m p from len why h none = of_far (λ x. TakesRoom now (Mutator m (Read p from len)) (Refused x) next) why h none none
 
 view_takes_none : (now next : Moment) (m p : ℕ) (why : Refusal) → KeepsFar why → TakesNone now.core next.core → TakesRoom now (Mutator m (View p)) (Refused why) next
-view_takes_none now next m p Device h none = none
-view_takes_none now next m p Damaged h none = none
-view_takes_none now next m p why h none = absurd h
+view_takes_none now next m p why h none = of_far (λ x. TakesRoom now (Mutator m (View p)) (Refused x) next) why h none none
 
 pub commands_take : (now : Moment) (c : Command) (r : Reply) (next : Moment) → IsMoment now → Commanded now c r next → TakesRoom now c r next
 commands_take now c r next is h =

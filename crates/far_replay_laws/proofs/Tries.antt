@@ -6,7 +6,7 @@ use Rattle.far_word.specs.declared.mark.Mark.TheVariants.{Hot}
 use Rattle.far_word.specs.declared.mark.Marks.{Marks}
 use Rattle.far_word.specs.declared.pointer.Place.{Place}
 use Rattle.far_word.specs.declared.pointer.PtrWord.{PtrWord}
-use Rattle.far_word.specs.declared.pointer.PtrWord.TheVariants.{Free, Near, Far}
+use Rattle.far_word.specs.declared.pointer.PtrWord.TheVariants.{Near}
 use Rattle.far_word.specs.declared.refused.Refused.TheVariants.{Closed, NotHeld, Range, Marked}
 use Rattle.far_word.specs.Pointer.{read_of}
 use Rattle.far_core.specs.events.Step.{after_pin, is_opened, place_to_view}
@@ -59,10 +59,8 @@ none_given true place e = refl
 none_given false place e = absurd (false≢true e)
 
 gives_none : (o : Option PtrWord) → ((len ds : ℕ) (place : Place) (marks : Marks) → o ≡ Some (Near len ds place marks) → (marks.evac || marks.moved || marks.dropped) ≡ true) → is_some (place_to_view o) ≡ false
-gives_none None h = refl
-gives_none (Some Free) h = refl
 gives_none (Some (Near len ds place marks)) h = none_given (marks.evac || marks.moved || marks.dropped) place (h len ds place marks refl)
-gives_none (Some (Far len ds marks)) h = refl
+gives_none _ h = refl
 
 held_is_fast : (s : State) (p : ℕ) → is_some (s.held p) ≡ true → is_slow s p ≡ false
 held_is_fast s p e = ap (λ b. not (b || is_some (place_to_view (read_of (s.cell p))))) e

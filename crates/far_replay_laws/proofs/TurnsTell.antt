@@ -22,19 +22,16 @@ use Rattle.far_evac.specs.declared.answers.RoundEnd.{RoundEnd}
 use Rattle.far_evac.specs.declared.answers.RoundEnd.TheVariants as ends
 use Rattle.far_evac.specs.declared.phase.Phase.{Phase}
 use Rattle.far_evac.specs.declared.phase.Phase.TheVariants.{Idle, Marking, Waiting, Evacuating}
-use Rattle.far_evac.proofs.Leading.{selecting}
 use Rattle.far_text.specs.Command.{Command, Evacuator, Choice, By, Script, Policy, Step, Select, Mark, Wait, Evacuate, Abort, Round}
-use Rattle.far_text.specs.Written.{AllWriteBytes}
-use Rattle.far_replay.specs.Answers.{Answered, Commanded, Served, StopsLeaving, StopsRound, IsMoment}
+use Rattle.far_replay.specs.Answers.{Commanded, Served, StopsLeaving, StopsRound, IsMoment}
 use Rattle.far_replay.proofs.Outcomes.{by_outcome}
-use Rattle.far_replay_laws.proofs.Stops.{stood_so}
+use Rattle.far_replay_laws.proofs.Stops.{starts, stood_so}
 use Rattle.far_replay.specs.Reply.{Reply, Selected, Clear, Evacuated, Ended, Refused, Halted}
 use Rattle.far_replay.specs.Rounds.{after_round, choice_causes, chosen_by, given_by, is_evacuating, is_marking, is_waiting, logs_given, refused_step, round_told, rows_in, step_causes, step_effect, step_reply, wait_causes}
-use Rattle.far_replay_laws.specs.Steps.{AllTold, AreTurns, CountsRound, IsTimeFor, NoneDone, Takes, TellsRefusal, TellsRound, TellsStep, Told, counted_by, phase_after, says_done, sum_of, turn_step}
+use Rattle.far_replay_laws.specs.Steps.{AreTurns, CountsRound, IsTimeFor, NoneDone, Takes, TellsRefusal, TellsRound, TellsStep, Told, counted_by, phase_after, says_done, sum_of, turn_step}
 use Rattle.far_replay.specs.Turn.{effect, first_cause, refusal, refused_effect, turn_effect, turn_reply, unless}
-use Rattle.far_replay.proofs.Lasting.{Lasts, after_step, moment_lasts, still_lasts}
+use Rattle.far_replay.proofs.Lasting.{Lasts, after_step, moment_lasts}
 use Rattle.far_replay_laws.proofs.Refusals.{EachFirst, among}
-use Rattle.far_replay.proofs.RoundChoices.{policy_chooses}
 use Rattle.far_replay_laws.proofs.RoundCounts.{counts_round}
 use Rattle.far_replay.proofs.RoundLeads.{begins, evacuating_is, marking_is, none_first, step_stays, waiting_is}
 use Rattle.far_replay_laws.proofs.StepsTell.{chosen_phase, ended_phase, marked_phase, policy_takes, tells_choice, tells_clear, tells_end, tells_leaving, tells_marks, tells_open}
@@ -153,9 +150,7 @@ runs_on m (suc n) =
 -- ---- a round
 idle_phase : (phase : Phase) → is_idle phase ≡ true → phase ≡ Idle
 idle_phase Idle h = refl
-idle_phase Marking h = absurd (false≢true h)
-idle_phase Waiting h = absurd (false≢true h)
-idle_phase Evacuating h = absurd (false≢true h)
+idle_phase _ h = absurd (false≢true h)
 
 module _ (now : Moment) (law : Law now.core) (moment : MomentLaw now) (policy : Policy) (most turns : ℕ) (may : refusal now (Evacuator (Round policy most turns)) ≡ None) where
   idle : now.phase ≡ Idle
@@ -164,9 +159,7 @@ module _ (now : Moment) (law : Law now.core) (moment : MomentLaw now) (policy : 
   counts : (l : ℕ) (ls : List ℕ) → chosen_by policy (rows_in now) most ≡ l ∷ ls → (turns_made (after_selecting now (l ∷ ls)) turns).over ≡ true →
       CountsRound now (l ∷ ls) (progress_of (turns_made (after_selecting now (l ∷ ls)) turns).tally true) (turns_made (after_selecting now (l ∷ ls)) turns).moment
   counts l ls e over =
-      let chosen = policy_chooses now policy most moment in
-      let begun = selecting now (chosen_by policy (rows_in now) most) law moment (begins now [] may).0.idle (begins now [] may).0.left chosen.once chosen.of_order in
-      let x = counts_round (after_selecting now (l ∷ ls)) law (subst (λ (xs : List ℕ). MomentLaw (after_selecting now xs)) e begun.moment) refl turns over in
+      let x = counts_round (after_selecting now (l ∷ ls)) law (starts now law moment policy most turns may (l ∷ ls) e).moment refl turns over in
       record { moved = x.moved; far = x.far; dropped = x.dropped; freed = x.freed }
 
   tells_logs : (logs : List ℕ) → chosen_by policy (rows_in now) most ≡ logs → TellsRound now policy most turns (round_told now logs turns) (after_round now logs turns)
@@ -364,7 +357,7 @@ round_told_so now why turns objects policy most count r next lasts h later =
     ended_not : (end : RoundEnd) → Ended end ≢ Refused WrongPhase
     ended_not end e = cc
 
-told_so : (now : Moment) (c : Command) (r : Reply) (next : Moment) → Lasts now → Commanded now c r next → Told now c r next
+pub told_so : (now : Moment) (c : Command) (r : Reply) (next : Moment) → Lasts now → Commanded now c r next → Told now c r next
 told_so now c r next lasts h = by_outcome now r next (λ d. Told now d r next)
     (λ d h. served_so now d r next lasts h)
     (λ why m p from new h. tt)
@@ -376,12 +369,3 @@ told_so now c r next lasts h = by_outcome now r next (λ d. Told now d r next)
 
 pub steps_told : (now : Moment) (step : Step) (r : Reply) (next : Moment) → IsMoment now → Commanded now (Evacuator step) r next → TellsStep now step r next
 steps_told now step r next is h = told_so now (Evacuator step) r next (moment_lasts now is) h
-
-pub all_told : (now : Moment) (cs : List Command) (rs : List Reply) (moments : List Moment) → Lasts now → AllWriteBytes cs → Answered now cs rs moments → AllTold now cs rs moments
-all_told now [] [] [] lasts bytes h = tt
-all_told now [] [] (m ∷ ms) lasts bytes h = absurd h
-all_told now [] (r ∷ rs) ms lasts bytes h = absurd h
-all_told now (c ∷ cs) [] ms lasts bytes h = absurd h
-all_told now (c ∷ cs) (r ∷ rs) [] lasts bytes h = absurd h
-all_told now (c ∷ cs) (r ∷ rs) (next ∷ ms) lasts bytes h =
-    (told_so now c r next lasts h.0, all_told next cs rs ms (still_lasts now c r next lasts bytes.0 h.0) bytes.1 h.1)

@@ -45,10 +45,9 @@ use Rattle.far_evac.proofs.TurnSteps.{KeepsTurns, turns_kept_exactly}
 
 -- ---- cells that say the same but for EVAC
 abbrev marks_or : Marks → Option PtrWord → Marks
-marks_or other None = other
-marks_or other (Some Free) = other
 marks_or other (Some (Near len ds place marks)) = marks
 marks_or other (Some (Far len ds marks)) = marks
+marks_or other _ = other
 
 abbrev pub EvacIs : Bool → Marks → Marks → Type 0
 EvacIs evac a b = (b ≡ a) ⊎ (b ≡ record a { evac = evac })
@@ -58,36 +57,23 @@ with_evac a b evac has same = λ i. record { hot = (same i).hot; evac = has i; m
 
 pub evac_alone : (evac : Bool) (o n : Option PtrWord) → has_evac n ≡ evac → but_evac n ≡ but_evac o → CellBy (EvacIs evac) o n
 evac_alone evac None None has same = tt
-evac_alone evac None (Some Free) has same = absurd cc
-evac_alone evac None (Some (Near n d at b)) has same = absurd cc
-evac_alone evac None (Some (Far n d b)) has same = absurd cc
-evac_alone evac (Some Free) None has same = absurd cc
 evac_alone evac (Some Free) (Some Free) has same = tt
-evac_alone evac (Some Free) (Some (Near n d at b)) has same = absurd cc
-evac_alone evac (Some Free) (Some (Far n d b)) has same = absurd cc
-evac_alone evac (Some (Near len ds place a)) None has same = absurd cc
-evac_alone evac (Some (Near len ds place a)) (Some Free) has same = absurd cc
 evac_alone evac (Some (Near len ds place a)) (Some (Near n d at b)) has same =
     let bare : record b { evac = false } ≡ record a { evac = false } = ap (marks_or a) same in
     (cc, cc, cc, inr (with_evac a b evac has bare))
-evac_alone evac (Some (Near len ds place a)) (Some (Far n d b)) has same = absurd cc
-evac_alone evac (Some (Far len ds a)) None has same = absurd cc
-evac_alone evac (Some (Far len ds a)) (Some Free) has same = absurd cc
-evac_alone evac (Some (Far len ds a)) (Some (Near n d at b)) has same = absurd cc
 evac_alone evac (Some (Far len ds a)) (Some (Far n d b)) has same = let bare : b ≡ a = ap (marks_or a) same in (cc, cc, inl bare)
+evac_alone evac _ _ has same = absurd cc
 
 pub cell_still : (Keeps : Marks → Marks → Type 0) → ((a : Marks) → Keeps a a) → (o : Option PtrWord) → CellBy Keeps o o
-cell_still Keeps same None = tt
-cell_still Keeps same (Some Free) = tt
 cell_still Keeps same (Some (Near len ds place a)) = (refl, refl, refl, same a)
 cell_still Keeps same (Some (Far len ds a)) = (refl, refl, same a)
+cell_still Keeps same _ = tt
 
 -- the word's object is the same
 same_object : (word stored : ℕ → ℕ) (p : ℕ) (o : Option PtrWord) → object_of word stored p o ≡ object_of word stored p (but_evac o)
 same_object word stored p None = refl
 same_object word stored p (Some Free) = refl
-same_object word stored p (Some (Near len ds place m)) = refl
-same_object word stored p (Some (Far len ds m)) = refl
+same_object word stored p _ = refl
 
 pub evac_object : (s t : State) → t ≡ marked_frame s t → (p : ℕ) → but_evac (read_of (t.cell p)) ≡ but_evac (read_of (s.cell p)) → (world_of t).object p ≡ (world_of s).object p
 unfolding world_of
@@ -104,40 +90,25 @@ evac_more a b c (inr e) (inr f) = inr (f ∙ ap (λ (x : Marks). record x { evac
 
 cell_more : (o n u : Option PtrWord) → CellBy GainsNoneButEvac o n → CellBy GainsNoneButEvac n u → CellBy GainsNoneButEvac o u
 cell_more None None u a b = b
-cell_more None (Some Free) u a b = absurd a
-cell_more None (Some (Near n d at k)) u a b = absurd a
-cell_more None (Some (Far n d k)) u a b = absurd a
-cell_more (Some Free) None u a b = absurd a
 cell_more (Some Free) (Some Free) u a b = b
-cell_more (Some Free) (Some (Near n d at k)) u a b = absurd a
-cell_more (Some Free) (Some (Far n d k)) u a b = absurd a
-cell_more (Some (Near len ds place j)) None u a b = absurd a
-cell_more (Some (Near len ds place j)) (Some Free) u a b = absurd a
 cell_more (Some (Near len ds place j)) (Some (Near n d at k)) None a b = absurd b
 cell_more (Some (Near len ds place j)) (Some (Near n d at k)) (Some Free) a b = absurd b
 cell_more (Some (Near len ds place j)) (Some (Near n d at k)) (Some (Near x y to m)) a b = (b.0 ∙ a.0, b.1 ∙ a.1, b.2 ∙ a.2, evac_more j k m a.3 b.3)
 cell_more (Some (Near len ds place j)) (Some (Near n d at k)) (Some (Far x y m)) a b = absurd b
-cell_more (Some (Near len ds place j)) (Some (Far n d k)) u a b = absurd a
-cell_more (Some (Far len ds j)) None u a b = absurd a
-cell_more (Some (Far len ds j)) (Some Free) u a b = absurd a
-cell_more (Some (Far len ds j)) (Some (Near n d at k)) u a b = absurd a
 cell_more (Some (Far len ds j)) (Some (Far n d k)) None a b = absurd b
 cell_more (Some (Far len ds j)) (Some (Far n d k)) (Some Free) a b = absurd b
 cell_more (Some (Far len ds j)) (Some (Far n d k)) (Some (Near x y to m)) a b = absurd b
 cell_more (Some (Far len ds j)) (Some (Far n d k)) (Some (Far x y m)) a b = (b.0 ∙ a.0, b.1 ∙ a.1, evac_more j k m a.2 b.2)
+cell_more _ _ u a b = absurd a
 
 -- it lies at the same place
 near_then : (n : Option PtrWord) (len ds : ℕ) (place : Place) (a : Marks) → CellBy GainsNoneButEvac (Some (Near len ds place a)) n → (b : Marks) × (n ≡ Some (Near len ds place b))
-near_then None len ds place a h = absurd h
-near_then (Some Free) len ds place a h = absurd h
 near_then (Some (Near n d at b)) len ds place a h = (b, λ i. Some (Near (h.0 i) (h.1 i) (h.2 i) b))
-near_then (Some (Far n d b)) len ds place a h = absurd h
+near_then _ len ds place a h = absurd h
 
 near_before : (o : Option PtrWord) (len ds : ℕ) (place : Place) (b : Marks) → CellBy GainsNoneButEvac o (Some (Near len ds place b)) → (a : Marks) × (o ≡ Some (Near len ds place a))
-near_before None len ds place b h = absurd h
-near_before (Some Free) len ds place b h = absurd h
 near_before (Some (Near n d at a)) len ds place b h = (a, λ i. Some (Near (sym h.0 i) (sym h.1 i) (sym h.2 i) a))
-near_before (Some (Far n d a)) len ds place b h = absurd h
+near_before _ len ds place b h = absurd h
 
 -- ---- what stays under its marks, or EVAC beside them
 put_marked : (s t : State) (q : ℕ) → StaysPut s t q → StaysMarked s t q

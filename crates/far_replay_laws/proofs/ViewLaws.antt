@@ -3,9 +3,9 @@ use Rattle.std.proofs.Common.{◌≢◌, ◌≡◌, ℕ, ◌+◌, ◌/◌, Bool,
 use Rattle.std.proofs.lemmas.Bool.{and_parts, cond_both, eq-eqb, ne_eqb}
 use Rattle.far_word.specs.declared.pointer.Place.{Place}
 use Rattle.far_word.specs.declared.refused.Refused.{Refused as Refusal}
-use Rattle.far_word.specs.declared.refused.Refused.TheVariants.{NoRoom, Closed, NotHeld, Range, Device, Damaged, Marked}
+use Rattle.far_word.specs.declared.refused.Refused.TheVariants.{NoRoom, Closed, NotHeld, Range, Marked}
 use Rattle.far_word.specs.declared.pointer.PtrWord.{PtrWord}
-use Rattle.far_word.specs.declared.pointer.PtrWord.TheVariants.{Free, Near, Far}
+use Rattle.far_word.specs.declared.pointer.PtrWord.TheVariants.{Near, Far}
 use Rattle.far_word.specs.declared.sizes.TheConstants.{CELLS}
 use mathlib.Core.Path.{fun_ext}
 use Rattle.far_word.specs.Bytes.{packed_word}
@@ -29,7 +29,7 @@ use Rattle.far_book.specs.book.Reached.{Reached}
 use Rattle.far_book.proofs.region.Reaching.{reached_more}
 use Rattle.far_evac.specs.declared.answers.RoundEnd.TheVariants.{Limit}
 use Rattle.far_evac.specs.declared.phase.Phase.TheVariants.{Evacuating}
-use Rattle.far_text.specs.Command.{Command, New, Open, Write, Read, Close, Where, Drop, View, Try, Epoch, Mutator, Book, Evacuator, Step, Evacuate, Round}
+use Rattle.far_text.specs.Command.{Command, New, Open, Write, Read, Close, Drop, View, Try, Epoch, Mutator, Book, Evacuator, Step, Evacuate, Round}
 use Rattle.far_text.specs.Written.{WritesBytes, AllWriteBytes}
 use Rattle.far_replay.specs.Changes.{ViewsObject}
 use Rattle.far_replay_laws.specs.Headline.{IsAtHandFor, LogsStay, Reaches, ViewsNothing, ViewsAfter, carried_as}
@@ -43,7 +43,7 @@ use Rattle.far_replay.specs.Turn.{causes, refusal, unless, turn_reply, reply_to}
 use Rattle.far_replay_laws.proofs.Coming.{all_come}
 use Rattle.far_replay.proofs.Lasting.{Lasts, all_pass, command_carried, moment_lasts, served_lasts, still_lasts}
 use Rattle.far_replay.proofs.Outcomes.{by_outcome}
-use Rattle.far_replay_laws.proofs.Refusals.{EachCause, EachFirst, among, each_first, far_away}
+use Rattle.far_replay_laws.proofs.Refusals.{EachCause, EachFirst, among, each_first, far_away, of_far}
 use Rattle.far_replay.proofs.RoundLeads.{reached_reaches, step_keeps, step_leads}
 use Rattle.far_replay.proofs.Turns.{access_fact, led, marked_last, read_leads, room_lacks, room_last, tried, write_leads}
 use Rattle.far_replay.proofs.Dereferences.{derefs, sought_held, sought_leads, view_views}
@@ -83,12 +83,11 @@ pub reads : (m : ℕ) → Each LeavesViews (ReadsEpoch m ∷ [])
 reads m = (((λ _ _ e. absurd cc), (λ _ e. absurd cc)), tt)
 
 pub news : (m len ds : ℕ) (x : Option ℕ) (y : Option Place) → Each LeavesViews (new_events m len ds x y)
-news m len ds None y = tt
-news m len ds (Some p) None = tt
 news m len ds (Some p) (Some place) =
     Each-append LeavesViews (Puts place.log place.at (head_word p len ds) ∷ zero_puts place (words_for len)) (Names p 0 (near_word len ds place) ∷ Adopts m p ∷ [])
     (((λ _ _ e. absurd cc), (λ _ e. absurd cc)), Each-row LeavesViews (λ i. Puts place.log (place.at + 1 + i) 0) 0 (words_for len) (λ i _. ((λ _ _ e. absurd cc), (λ _ e. absurd cc))))
     (((λ _ _ e. absurd cc), (λ _ e. absurd cc)), (((λ _ _ e. absurd cc), (λ _ e. absurd cc)), tt))
+news m len ds _ _ = tt
 
 pub drop_leaves_views : (s : State) (m p : ℕ) → Each LeavesViews (drop_events s m p)
 drop_leaves_views s m p = (((λ _ _ e. absurd cc), (λ _ e. absurd cc)), (((λ _ _ e. absurd cc), (λ _ e. absurd cc)), (((λ _ _ e. absurd cc), (λ _ e. absurd cc)), tt)))
@@ -116,7 +115,6 @@ made_views now (Mutator m (Read p from len)) told law e small ok =
     let access = access_fact now.core m p from len e in
     subst (λ (t : State). ViewsObject now.core t p) (sym (read_leads now.core m p from len law access).ends) (led now.core m p from len law access).views
 made_views now (Mutator m Close) told law e small ok = close_views now.core m ok.0
-made_views now (Mutator m (Where p)) told law e small ok = refl
 made_views now (Mutator m (Drop p)) told law e small ok = row_stays now.core (drop_events now.core m p) (drop_leaves_views now.core m p)
 made_views now (Mutator m (View p)) told law e small ok =
     let h = tried (nat_lt m now.core.mutators) (is_opened now.core m) (uses now.core m p) (has_no_room now.core m p) Range Closed NotHeld NoRoom e in
@@ -126,8 +124,8 @@ made_views now (Mutator m (Try p)) told law e small ok =
     let h = tried (nat_lt m now.core.mutators) (is_opened now.core m) (uses now.core m p) (is_slow now.core p) Range Closed NotHeld (Marked (now.core.cell p)) e in
     subst (λ (t : State). ViewsObject now.core t p) (sym (view_is now.core m p law h.1 h.2)) (view_views now.core m p law h.1 h.2 (fast_seen now.core p h.3))
 made_views now (Mutator m Epoch) told law e small ok = row_stays now.core (ReadsEpoch m ∷ []) (reads m)
-made_views now (Book inquiry) told law e small ok = refl
 made_views now (Evacuator step) told law e small ok = absurd told
+made_views now _ told law e small ok = refl
 
 -- the pin that found a mark leaves the views
 slow_stays : (s : State) (m p : ℕ) → Law s → is_opened s m ≡ true → uses s m p ≡ true → is_slow s p ≡ true → (after_events s (view_events s m p)).held ≡ s.held
@@ -142,30 +140,19 @@ asked_stays s m p law opened ours full =
 -- what a refusal leaves
 refused_views : (now : Moment) (c : Command) (why : Refusal) → Law now.core → refusal now c ≡ Some why →
     ViewsAfter now.core c (Refused why) (after_events now.core (refused_events now c why))
-refused_views now (Mutator m (New len ds)) why law e = refl
-refused_views now (Mutator m Open) why law e = refl
 refused_views now (Mutator m (Write p from bytes)) NoRoom law e =
     let h = room_lacks (nat_lt m now.core.mutators) (is_opened now.core m) (uses now.core m p) (is_range (object_len now.core p) from (length bytes)) (has_no_room now.core m p) e in
     asked_stays now.core m p law h.1 h.2 h.3
-refused_views now (Mutator m (Write p from bytes)) why law e = refl
 refused_views now (Mutator m (Read p from len)) NoRoom law e =
     let h = room_lacks (nat_lt m now.core.mutators) (is_opened now.core m) (uses now.core m p) (is_range (object_len now.core p) from len) (has_no_room now.core m p) e in
     asked_stays now.core m p law h.1 h.2 h.3
-refused_views now (Mutator m (Read p from len)) why law e = refl
-refused_views now (Mutator m Close) why law e = refl
-refused_views now (Mutator m (Where p)) why law e = refl
-refused_views now (Mutator m (Drop p)) why law e = refl
 refused_views now (Mutator m (View p)) NoRoom law e =
     let h = room_last (nat_lt m now.core.mutators) (is_opened now.core m) (uses now.core m p) (has_no_room now.core m p) e in
     asked_stays now.core m p law h.1 h.2 h.3
-refused_views now (Mutator m (View p)) why law e = refl
 refused_views now (Mutator m (Try p)) (Marked word) law e =
     let h = marked_last (nat_lt m now.core.mutators) (is_opened now.core m) (uses now.core m p) (is_slow now.core p) (now.core.cell p) word e in
     slow_stays now.core m p law h.1 h.2 h.3
-refused_views now (Mutator m (Try p)) why law e = refl
-refused_views now (Mutator m Epoch) why law e = refl
-refused_views now (Book inquiry) why law e = refl
-refused_views now (Evacuator step) why law e = refl
+refused_views now _ why law e = refl
 
 views_after : (now : Moment) (c : Command) (o : Option Refusal) → IsNoStep c → Law now.core → refusal now c ≡ o → WritesBytes c → AllSucceed now.core (unless o (refused_events now c) (turn_events now c)) →
     ViewsAfter now.core c (unless o Refused (turn_reply now c)) (after_events now.core (unless o (refused_events now c) (turn_events now c)))
@@ -210,10 +197,8 @@ view_no_close : (s : State) (m p : ℕ) → Each NoClose (view_events s m p)
 view_no_close s m p = cond_both (is_some (s.held p)) [] (Pins m p ∷ []) (Each NoClose) (λ _. tt) (λ _. ((λ _ e. absurd cc), tt))
 
 asked_no_close : (m p : ℕ) (o : Option PtrWord) → Each NoClose (asked_events_of m p o)
-asked_no_close m p None = tt
-asked_no_close m p (Some Free) = tt
 asked_no_close m p (Some (Near len ds place marks)) = ((λ _ e. absurd cc), tt)
-asked_no_close m p (Some (Far len ds marks)) = tt
+asked_no_close m p _ = tt
 
 sought_no_close : (s : State) (m p : ℕ) → Each NoClose (sought_events s m p)
 sought_no_close s m p = Each-append NoClose (view_events s m p) (asked_events (with_view s p) m p) (view_no_close s m p) (asked_no_close m p (read_of ((with_view s p).cell p)))
@@ -223,13 +208,11 @@ span_no_close s p len ds place row = Each-append NoClose (span_events p len ds p
     ((λ _ e. absurd cc), Each-row NoClose (λ i. Puts place.log (place.at + 1 + i) (row i)) 0 (words_for len) (λ i _ _ e. absurd cc)) ((λ _ e. absurd cc), tt)
 
 come_no_close : (s : State) (p : ℕ) (x : Option Place) (o : Option PtrWord) → Each NoClose (come_events_of s p x o)
-come_no_close s p None o = tt
-come_no_close s p (Some place) None = tt
-come_no_close s p (Some place) (Some Free) = tt
 come_no_close s p (Some place) (Some (Near len ds from marks)) =
     cond_both marks.evac (span_events p len ds place (data_at s.word from) ++ name_events s p len ds place) (name_events s p len ds place) (Each NoClose)
     (λ _. span_no_close s p len ds place (data_at s.word from)) (λ _. ((λ _ e. absurd cc), tt))
 come_no_close s p (Some place) (Some (Far len ds marks)) = span_no_close s p len ds place (s.stored p)
+come_no_close s p _ _ = tt
 
 deref_no_close : (s : State) (m p : ℕ) → Each NoClose (dereference_events s m p)
 deref_no_close s m p =
@@ -252,14 +235,10 @@ closes_last now (Mutator m (Write p from bytes)) =
 closes_last now (Mutator m (Read p from len)) =
     let loaded : List Event = load_events m p (first_word from) (words_touched from len) in
     none_closes (dereference_events now.core m p ++ loaded) (Each-append NoClose (dereference_events now.core m p) loaded (deref_no_close now.core m p) (no_close loaded (loads m p (first_word from) (words_touched from len))))
-closes_last now (Mutator m Close) = tt
-closes_last now (Mutator m (Where p)) = tt
 closes_last now (Mutator m (Drop p)) = none_closes (drop_events now.core m p) (no_close (drop_events now.core m p) (drop_leaves_views now.core m p))
 closes_last now (Mutator m (View p)) = none_closes (dereference_events now.core m p) (deref_no_close now.core m p)
 closes_last now (Mutator m (Try p)) = none_closes (view_events now.core m p) (view_no_close now.core m p)
-closes_last now (Mutator m Epoch) = tt
-closes_last now (Book inquiry) = tt
-closes_last now (Evacuator step) = tt
+closes_last now _ = tt
 
 refused_closes_last : (now : Moment) (c : Command) (why : Refusal) → ClosesLast (refused_events now c why)
 refused_closes_last now (Mutator m (Write p from bytes)) NoRoom = none_closes (sought_events now.core m p) (sought_no_close now.core m p)
@@ -285,9 +264,7 @@ each_as now c = each_first (λ why. carried_as c (Refused why) ≡ c) (causes no
 
 turn_as : (now : Moment) (c : Command) → carried_as c (turn_reply now c) ≡ c
 turn_as now (Mutator m (Write p from bytes)) = refl
-turn_as now (Mutator m (Read p from len)) = refl
-turn_as now (Mutator m (View p)) = refl
-turn_as now c = refl
+turn_as now _ = refl
 
 reply_as : (now : Moment) (c : Command) (o : Option Refusal) → refusal now c ≡ o → carried_as c (unless o Refused (turn_reply now c)) ≡ c
 reply_as now c None e = turn_as now c
@@ -352,19 +329,13 @@ module _ (why : Refusal) (now : Moment) (c : Command) (m p : ℕ) (r : Reply) (n
       }
 
 write_as : (why : Refusal) (m p from : ℕ) (bytes : List ℕ) → KeepsFar why → carried_as (Mutator m (Write p from bytes)) (Refused why) ≡ Mutator m (Try p)
-write_as Device m p from bytes h = refl
-write_as Damaged m p from bytes h = refl
-write_as why m p from bytes h = absurd h
+write_as why m p from bytes h = of_far (λ x. carried_as (Mutator m (Write p from bytes)) (Refused x) ≡ Mutator m (Try p)) why h refl refl
 
 read_as : (why : Refusal) (m p from len : ℕ) → KeepsFar why → carried_as (Mutator m (Read p from len)) (Refused why) ≡ Mutator m (Try p)
-read_as Device m p from len h = refl
-read_as Damaged m p from len h = refl
-read_as why m p from len h = absurd h
+read_as why m p from len h = of_far (λ x. carried_as (Mutator m (Read p from len)) (Refused x) ≡ Mutator m (Try p)) why h refl refl
 
 view_as : (why : Refusal) (m p : ℕ) → KeepsFar why → carried_as (Mutator m (View p)) (Refused why) ≡ Mutator m (Try p)
-view_as Device m p h = refl
-view_as Damaged m p h = refl
-view_as why m p h = absurd h
+view_as why m p h = of_far (λ x. carried_as (Mutator m (View p)) (Refused x) ≡ Mutator m (Try p)) why h refl refl
 
 reach : (now : Moment) (c : Command) (r : Reply) (next : Moment) → Lasts now → WritesBytes c → Commanded now c r next → Reaches now c r next
 reach now c r next lasts bytes h = by_outcome now r next (λ d. WritesBytes d → Reaches now d r next)
@@ -385,12 +356,9 @@ events_reach now c r next is bytes h = reach now c r next (moment_lasts now is) 
 -- the logs in which views rest stay through each command
 stay_all : (now : Moment) (cs : List Command) (rs : List Reply) (moments : List Moment) → Lasts now → AllWriteBytes cs → Answered now cs rs moments → LogsStay now cs rs moments
 stay_all now [] [] [] lasts later h = held_now now.core lasts.law
-stay_all now [] [] (m ∷ ms) lasts later h = absurd h
-stay_all now [] (r ∷ rs) ms lasts later h = absurd h
-stay_all now (c ∷ cs) [] ms lasts later h = absurd h
-stay_all now (c ∷ cs) (r ∷ rs) [] lasts later h = absurd h
 stay_all now (c ∷ cs) (r ∷ rs) (next ∷ ms) lasts later h =
     (reach now c r next lasts later.0 h.0, stay_all next cs rs ms (still_lasts now c r next lasts later.0 h.0) later.1 h.1)
+stay_all now _ _ _ lasts later h = absurd h
 
 pub logs_stay : (now : Moment) (cs : List Command) (rs : List Reply) (moments : List Moment) → IsMoment now → AllWriteBytes cs → Answered now cs rs moments → LogsStay now cs rs moments
 logs_stay now cs rs moments is later h = stay_all now cs rs moments (moment_lasts now is) later h

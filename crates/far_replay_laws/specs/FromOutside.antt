@@ -42,8 +42,12 @@ abbrev pub NoneDamaged : List Reply → Type 0
 NoneDamaged [] = Unit {0}
 NoneDamaged (r ∷ rs) = (r ≢ Refused Damaged) × NoneDamaged rs
 
--- the output of a text that is read as a heap in range and commands is lines of replies, of which no more say that the device failed than its device is said to, once at most; and none that it gave another number of bytes
+-- no more replies say that the device failed than it is said to, once at most; and none that it gave another number of bytes
+abbrev pub FailsAsSaid : Option Device → List Reply → Type 0
+FailsAsSaid device replies = (failures replies ≤ to_fail device) × (to_fail device ≤ 1) × NoneDamaged replies
+
+-- the output of a text that is read as a heap in range and commands is lines of replies, which say so
 abbrev pub FailuresAreSaid : Type 0
 FailuresAreSaid = (text output : List ℕ) (logs mutators epoch : ℕ) (device : Option Device) (cs : List Command) → Answers text output → trace_of text ≡ Ok (Heap logs mutators epoch device cs) →
     is_shape (shape_of logs mutators epoch) ≡ true → (replies : List Reply) × (moments : List Moment) × Answered (first_moment logs mutators epoch) cs replies moments
-    × (output ≡ flat_map reply_text (opened device ++ replies)) × (failures replies ≤ to_fail device) × (to_fail device ≤ 1) × NoneDamaged replies
+    × (output ≡ flat_map reply_text (opened device ++ replies)) × FailsAsSaid device replies

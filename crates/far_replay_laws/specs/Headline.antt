@@ -36,6 +36,7 @@ use Rattle.far_replay.specs.Commanded.{KeepsNear}
 use Rattle.far_replay.specs.Moment.{Moment}
 use Rattle.far_replay.specs.EventRows.{after_events, AllPass, AllSucceed, AllComeToPass, AtHand}
 use Rattle.far_replay.specs.Events.{events_for, IsNoStep}
+use Rattle.far_replay_laws.specs.FromOutside.{FailsAsSaid}
 use Rattle.far_replay_laws.specs.HowMany.{IsHowMany}
 use Rattle.far_replay_laws.specs.Left.{AllLeave}
 use Rattle.far_replay_laws.specs.Listed.{AllCounted}
@@ -289,8 +290,8 @@ LinesAreNumbered = (words : List (List ℕ)) (c : Command) (m : ℕ) → m < 2 ^
 
 -- what an output says, from its text on: where the text is read as a heap in range and commands, there are the replies and the moments of this output; the lines tell
 -- the replies in full; each moment has the law, and in it objects are whole; the logs in which views rest stay; the replies to each mutator's lines are what its own
--- lines alone say; each step of the evacuator tells what has happened, and leaves objects elsewhere, and any other command leaves the round; and each audit counts a
--- list of all objects and logs
+-- lines alone say; each step of the evacuator tells what has happened, and leaves objects elsewhere, and any other command leaves the round; each audit counts a
+-- list of all objects and logs; and the device fails no more often than it is said to
 pub record IsSound (logs mutators epoch : ℕ) (device : Option SaidDevice) (cs : List Command) (output : List ℕ) : Type 0 where
   pub replies : List Reply
   pub moments : List Moment
@@ -305,6 +306,7 @@ pub record IsSound (logs mutators epoch : ℕ) (device : Option SaidDevice) (cs 
   pub told : AllTold (first_moment logs mutators epoch) cs replies moments
   pub left : AllLeave (first_moment logs mutators epoch) cs replies moments
   pub counted : AllCounted (first_moment logs mutators epoch) cs replies moments
+  pub fails : FailsAsSaid device replies
 
 abbrev pub OutputsAreSound : Type 0
 OutputsAreSound = (text output : List ℕ) (logs mutators epoch : ℕ) (device : Option SaidDevice) (cs : List Command) → Answers text output → trace_of text ≡ Ok (Heap logs mutators epoch device cs) →

@@ -1,5 +1,5 @@
 -- What steps of the evacuator leave of objects: each is what it was, and lies where it lay, but for those of the chosen logs, which may leave them. Those that haven't left stay as they were.
-use Rattle.std.specs.Prelude.{◌≡◌, ◌⊎◌, ℕ, true, false, Option, Some, None, List, ◌∷◌, Contains}
+use Rattle.std.specs.Prelude.{◌≡◌, ◌⊎◌, ℕ, true, false, Option, Some, None, List, Contains}
 use Rattle.far_word.specs.declared.mark.Marks.{Marks}
 use Rattle.far_word.specs.declared.pointer.PtrWord.{PtrWord}
 use Rattle.far_word.specs.declared.pointer.PtrWord.TheVariants.{Free, Near, Far}
@@ -11,6 +11,7 @@ use Rattle.far_text.specs.Command.{Command, Evacuator, By, Step, Select, Mark, W
 use Rattle.far_replay.specs.Answers.{Commanded, IsMoment, Served}
 use Rattle.far_replay.specs.Moment.{Moment}
 use Rattle.far_replay.specs.Reply.{Reply, Done, Selected, Marked, Evacuated, Ended, Halted}
+use Rattle.far_replay_laws.specs.Along.{AllAlong}
 use Rattle.far_replay_laws.specs.Stands.{Stands}
 use Rattle.far_replay_laws.specs.Steps.{IsChosen, LiesIn}
 
@@ -97,8 +98,7 @@ Leaves now (Evacuator step) r after = StepLeaves now step r after
 Leaves now c r after = Stands now c after
 
 abbrev pub AllLeave : Moment → List Command → List Reply → List Moment → Type 0
-AllLeave now (c ∷ cs) (r ∷ rs) (after ∷ moments) = Leaves now c r after × AllLeave after cs rs moments
-AllLeave now cs rs moments = Unit {0}
+AllLeave = AllAlong Leaves
 
 abbrev pub StepsLeave : Type 0
 StepsLeave = (now : Moment) (step : Step) (r : Reply) (after : Moment) → IsMoment now → Commanded now (Evacuator step) r after → StepLeaves now step r after

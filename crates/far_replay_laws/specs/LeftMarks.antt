@@ -1,6 +1,5 @@
 -- Which marks a read, a write, a view or a try leaves in its object's cell, by its reply: said by the cells of the moment before and of the one after.
-use Rattle.std.specs.Prelude.{◌≡◌, ◌≢◌, ℕ, Bool, true, false, Ok, Option, Some, None, List, ◌∷◌, All, ◌++◌}
-use Rattle.std.specs.List.{flat_map}
+use Rattle.std.specs.Prelude.{◌≡◌, ◌≢◌, ℕ, Bool, true, false, Ok, Option, Some, None, List, ◌∷◌, All}
 use Rattle.far_word.specs.declared.pointer.Place.{Place}
 use Rattle.far_word.specs.declared.pointer.PtrWord.{PtrWord}
 use Rattle.far_word.specs.declared.pointer.PtrWord.TheVariants.{Free, Near, Far}
@@ -10,11 +9,13 @@ use Rattle.far_word.specs.Pointer.{read_of}
 use Rattle.far_core.specs.state.Shape.{is_shape}
 use Rattle.far_core.specs.state.State.{State}
 use Rattle.far_core.specs.world.WorldOf.{world_of}
-use Rattle.far_replay.specs.Answers.{Answered, Answers, Commanded, IsMoment, first_moment, shape_of, opened}
+use Rattle.far_replay.specs.Answers.{Answers, Commanded, IsMoment, first_moment, shape_of}
 use Rattle.far_replay.specs.Moment.{Moment}
-use Rattle.far_replay.specs.Reply.{Reply, Done, Data, Refused, reply_text}
+use Rattle.far_replay.specs.Reply.{Reply, Done, Data, Refused}
+use Rattle.far_replay_laws.specs.Along.{AllAlong}
 use Rattle.far_text.specs.Command.{Command, Heap, Write, Read, View, Try, Mutator, Device as SaidDevice}
 use Rattle.far_text.specs.Grammar.{trace_of}
+use Rattle.far_replay_laws.specs.Headline.{IsSound}
 
 -- ---- what two looks at a cell say, before and after
 -- HOT came, unless it was there: what is named, its place and all other marks are as before
@@ -89,21 +90,11 @@ LeavesMarks s (Mutator m (Try p)) r t = ⊥
 LeavesMarks s c r t = Unit {0}
 
 abbrev pub AllLeaveMarks : Moment → List Command → List Reply → List Moment → Type 0
-AllLeaveMarks now (c ∷ cs) (r ∷ rs) (after ∷ moments) = LeavesMarks now.core c r after.core × AllLeaveMarks after cs rs moments
-AllLeaveMarks now cs rs moments = Unit {0}
+AllLeaveMarks = AllAlong (λ now c r after. LeavesMarks now.core c r after.core)
 
 -- what is viewed has HOT
 abbrev pub ViewedAreHot : State → Type 0
 ViewedAreHot s = (p : ℕ) → (world_of s).viewed p ≡ true → is_hot (read_of (s.cell p)) ≡ true
-
--- an output tells commands that leave these marks, and in each of its moments what is viewed has HOT
-pub record MarksAreLeft (logs mutators epoch : ℕ) (device : Option SaidDevice) (cs : List Command) (output : List ℕ) : Type 0 where
-  pub replies : List Reply
-  pub moments : List Moment
-  pub answered : Answered (first_moment logs mutators epoch) cs replies moments
-  pub printed_so : output ≡ flat_map reply_text (opened device ++ replies)
-  pub left : AllLeaveMarks (first_moment logs mutators epoch) cs replies moments
-  pub hot : All (λ (now : Moment). ViewedAreHot now.core) (first_moment logs mutators epoch ∷ moments)
 
 -- ---- the laws
 abbrev pub CommandsLeaveMarks : Type 0
@@ -112,6 +103,8 @@ CommandsLeaveMarks = (now : Moment) (c : Command) (r : Reply) (after : Moment) �
 abbrev pub ViewsAreHot : Type 0
 ViewsAreHot = (now : Moment) → IsMoment now → ViewedAreHot now.core
 
+-- a sound output tells commands that leave these marks, and in each of its moments what is viewed has HOT
 abbrev pub TextsLeaveMarks : Type 0
 TextsLeaveMarks = (text output : List ℕ) (logs mutators epoch : ℕ) (device : Option SaidDevice) (cs : List Command) → Answers text output → trace_of text ≡ Ok (Heap logs mutators epoch device cs) →
-    is_shape (shape_of logs mutators epoch) ≡ true → MarksAreLeft logs mutators epoch device cs output
+    is_shape (shape_of logs mutators epoch) ≡ true →
+    (x : IsSound logs mutators epoch device cs output) × AllLeaveMarks (first_moment logs mutators epoch) cs x.replies x.moments × All (λ (now : Moment). ViewedAreHot now.core) (first_moment logs mutators epoch ∷ x.moments)

@@ -1,4 +1,5 @@
 pub mod Ages
+pub mod Along
 pub mod Census
 pub mod Chosen
 pub mod Ends

@@ -1,5 +1,5 @@
 -- What `audit` counts, in the subject's words: the entries of a list that has the home of each object once, by rising pointers, and of a list that has each log once.
-use Rattle.std.specs.Prelude.{◌≡◌, List, ◌∷◌}
+use Rattle.std.specs.Prelude.{◌≡◌, List}
 use Rattle.far_evac.specs.declared.census.Housed.{Housed}
 use Rattle.far_evac.specs.declared.census.LogState.{LogState}
 use Rattle.far_evac.specs.Listing.{ListsEach}
@@ -8,6 +8,7 @@ use Rattle.far_replay.specs.Answers.{Commanded, IsMoment}
 use Rattle.far_replay_laws.specs.Census.{counted_in}
 use Rattle.far_replay.specs.Moment.{Moment}
 use Rattle.far_replay.specs.Reply.{Audited, Reply}
+use Rattle.far_replay_laws.specs.Along.{AllAlong}
 
 abbrev pub CountsList : Moment → Reply → Type 0
 CountsList now r = (homes : List Housed) × (logs : List LogState) × ListsEach now homes logs × (r ≡ Audited (counted_in homes logs))
@@ -21,5 +22,4 @@ Counted now (Book Audit) r = CountsList now r
 Counted now c r = Unit {0}
 
 abbrev pub AllCounted : Moment → List Command → List Reply → List Moment → Type 0
-AllCounted now (c ∷ cs) (r ∷ rs) (after ∷ moments) = Counted now c r × AllCounted after cs rs moments
-AllCounted now cs rs moments = Unit {0}
+AllCounted = AllAlong (λ now c r after. Counted now c r)

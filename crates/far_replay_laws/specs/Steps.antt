@@ -26,6 +26,7 @@ use Rattle.far_replay.specs.Answers.{Commanded, IsMoment, Served}
 use Rattle.far_replay_laws.specs.HowMany.{IsHowMany}
 use Rattle.far_replay.specs.Moment.{Moment}
 use Rattle.far_replay.specs.Reply.{Reply, Done, Selected, Marked, Clear, Evacuated, Ended, Refused, Halted}
+use Rattle.far_replay_laws.specs.Along.{AllAlong}
 
 -- ---- where an object is
 -- its cell names a place in a log; and has EVAC, or hasn't
@@ -287,8 +288,7 @@ Told now (Evacuator step) r after = TellsStep now step r after
 Told now c r after = Unit {0}
 
 abbrev pub AllTold : Moment → List Command → List Reply → List Moment → Type 0
-AllTold now (c ∷ cs) (r ∷ rs) (after ∷ moments) = Told now c r after × AllTold after cs rs moments
-AllTold now cs rs moments = Unit {0}
+AllTold = AllAlong Told
 
 abbrev pub StepsAreTold : Type 0
 StepsAreTold = (now : Moment) (step : Step) (r : Reply) (after : Moment) → IsMoment now → Commanded now (Evacuator step) r after → TellsStep now step r after

@@ -17,8 +17,8 @@ ghost use Rattle.far_replay_laws.specs.Steps.{StepsAreTold};
 /// and a moment for each command. Each moment has the law, and in it objects are whole; through them the logs in which
 /// views rest stay; each mutator's replies are what its own lines alone say; each step of the evacuator tells what has happened,
 /// and leaves objects as `steps_leave` says; and any other command leaves the round, as `rounds_stand` says.
-/// And of each of its commands all is so that the laws below say of one: what it is answered, which views there are then, what it takes of the logs, what a
-/// refusal leaves.
+/// The device fails no more often than it is said to. Of the same replies and moments all is so that the laws below say of one command: what it is
+/// answered, which views there are then, and which marks, what it leaves beside, what it takes of the logs, what a refusal leaves; and in each moment what is viewed has HOT.
 pub fn outputs_are_sound()
     ensures sound { OutputsAreSound }
     ensures each { TextsSayAll }
@@ -63,13 +63,14 @@ pub fn views_last()
     ensures stay { ViewedLogsStay }
 {}
 
-/// A refused command leaves objects, bytes, places and all else as they were, but for HOT and MOVE in its object's cell,
-/// which it may add for want of room, or where a try finds a mark, and for the mutators before the one that a wait names, which it saw clear, and
-/// no others; any other refusal leaves the moment as it is. A line of a
+/// A mutator's refused command leaves objects, bytes, places and all else as they were, but for HOT and MOVE in its object's cell,
+/// which it may add for want of room, by the device or where a try finds a mark. A `wait` that is refused 18 has seen clear the mutators before the
+/// one that it names, and no others. Any other refusal leaves the moment as it is. Not meant is an `evacuate` or a `round` that the device stops: it is refused 10 with
+/// counts, and keeps what was done (`steps_are_told`, `steps_leave`). A line of a
 /// mutator that the heap hasn't is refused 8. Where the object that it reads, writes, views or tries is near and unmarked, no command after the
-/// heap is refused for want of memory, by a device or for a mark; for want of a pointer or of room a new object alone is
-/// refused. As the device failed, or gave another number of bytes, a command is refused only where its object is far, which it stays. No more
-/// replies say that the device failed than its line says, one at most; none says that it gave another number of bytes.
+/// heap is refused for want of memory, by a device or for a mark, but those two with counts; for want of a pointer or of room a new object alone is
+/// refused. As the device failed, or gave another number of bytes, a mutator's command is refused only where its object is far, which it stays. From a text on: no more
+/// replies, those with counts among them, say that the device failed than its line says, one at most; none says that it gave another number of bytes.
 pub fn refusals_leave_all()
     ensures stay { RefusalsStay }
     ensures nothing { RefusalsChangeNothing }
@@ -145,7 +146,8 @@ pub fn drops_end_objects()
 /// back, from the front on: the first that is still chosen has an object, and what left stood before all that lies there still. It is
 /// done where no log is chosen any more. `round` is a `select` and turns, each answered as `mark 16`, `wait` or `evacuate 16`
 /// would be, by the phase, and its counts are their sums, and where it is done of what has changed so from its first moment to
-/// its last. The phase follows from commands and replies, and 12 is answered
+/// its last. An `evacuate` or a `round` that the device stops is refused 10 with counts: of what has changed so before the object at which it stopped, which
+/// `steps_leave` says is as before. What was done stays, a log is still chosen, and objects go on leaving. The phase follows from commands and replies, and 12 is answered
 /// exactly out of phase. Through any command the sealed logs keep their order, but for those that were given back, and those sealed
 /// since come last; so of two that were sealed by different commands the first is the older. The heap's epoch is the one that a
 /// marking tells, and no other step but a round spends one; in the last epoch, idle, a choice of logs is refused 13, whatever is sealed.
@@ -165,7 +167,7 @@ pub fn rounds_stand()
 /// Through each step of the evacuator each object keeps its owner, data structure and bytes. Through `select`, `mark`, `wait` and
 /// `abort`, and through any step that is refused, it stays at its place too: marking adds EVAC, giving up takes it away, and
 /// but for that and the round nothing changes. Through `evacuate` and `round` each object stays that lies in none of the logs that were chosen, with
-/// its marks, as do those that are far. So does each that lies then in the log in which it lay, though a round may have given it EVAC; and what
+/// its marks, as do those that are far; so they do where the device stops it. So does each that lies then in the log in which it lay, though a round may have given it EVAC; and what
 /// mutators use, view and remember stays, with their scopes.
 pub fn steps_leave()
     ensures leave { StepsLeave }

@@ -1,5 +1,4 @@
-use Rattle.far_replay_laws.proofs.AllSaid.{texts_say_all}
-use Rattle.far_replay_laws.proofs.OutputLaws.{outputs_sound}
+use Rattle.far_replay_laws.proofs.AllSaid.{outputs_sound, texts_say_all}
 use Rattle.far_replay_laws.proofs.headline.outputs_are_sound.Goals as goal
 
 pub returns : goal.returns

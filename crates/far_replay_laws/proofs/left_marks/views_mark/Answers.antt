@@ -1,5 +1,6 @@
+use Rattle.far_replay_laws.proofs.AllSaid.{texts_leave}
 use Rattle.far_replay_laws.proofs.HotViews.{views_are_hot}
-use Rattle.far_replay_laws.proofs.LeavingMarks.{commands_leave, texts_leave}
+use Rattle.far_replay_laws.proofs.LeavingMarks.{commands_leave}
 use Rattle.far_replay_laws.proofs.left_marks.views_mark.Goals as goal
 
 pub returns : goal.returns
