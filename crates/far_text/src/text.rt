@@ -147,6 +147,7 @@ fn begins_skipped(text: &[u8]) -> bool
 
 // Passes over empty lines and comments after this number, perhaps not over all. The number of the last of them, and the lines
 // after it. Where a text has many of them, they are read once.
+#[inline(never)]
 fn skip_lines(number: u64, lines: Option<&[u8]>) -> (u64, Option<&[u8]>)
     requires counted { number + length (lines_left lines) ≤ LONGEST_TEXT + 1 }
     ensures device { device_sought (number + 1) (lines_left lines.entry) ≡ device_sought (result.0 + 1) (lines_left result.1) }
@@ -171,7 +172,9 @@ fn skip_lines(number: u64, lines: Option<&[u8]>) -> (u64, Option<&[u8]>)
     (at, left)
 }
 
-// The commands of the lines after this number, or the first of them that says none.
+// The commands of the lines after this number, or the first of them that says none. Apart from its caller it has registers
+// enough.
+#[inline(never)]
 fn commands_after(alloc: Global, number: u64, lines: Option<&[u8]>) -> Result<Commands, ParseError>
     requires counted { number + length (lines_left lines) ≤ LONGEST_TEXT + 1 }
     ensures commands { IfOk result (λ commands. read_commands (number + 1) (lines_left lines.entry) ≡ Ok commands) }
