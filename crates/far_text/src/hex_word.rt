@@ -183,6 +183,7 @@ impl HexBytes {
     }
 
     /// Adds the bytes that a word spells, if it is a word in hex. Whether it is.
+    #[inline(always)]
     pub fn add(&mut self, word: &[u8]) -> Result<bool, AllocError>
         ensures value { IfOk result (λ known. bytes_in word.now ≡ cond known (Some (drop (length self.old) self.new)) None) }
         ensures kept { take (length self.old) self.new ≡ self.old }
