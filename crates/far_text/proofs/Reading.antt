@@ -10,7 +10,7 @@ use Rattle.std.specs.Option.{option_map}
 use Rattle.std.proofs.lemmas.Option.{none-some, same_Some}
 use Rattle.far_text.specs.Command.{Command, HeapLine, DeviceLine, CommandLine, Trace, Nothing}
 use Rattle.far_text.specs.Cursor.{first_line, lines_after_first}
-use Rattle.far_text.specs.Grammar.{Line, Skipped, Saying, Bad, beside, device_at, device_sought, saying, onto, line_of, lines_of, read_after, read_command, read_commands, read_heap, read_lines, trace_of, IsFault}
+use Rattle.far_text.specs.Grammar.{Line, Skipped, Saying, Bad, Sought, NoDevice, DeviceAt, stands, beside, device_at, device_sought, saying, onto, line_of, lines_of, read_after, read_command, read_commands, read_heap, read_lines, trace_of, IsFault}
 use Rattle.far_text.specs.Parsed.{with_line}
 use Rattle.far_text.specs.HeapSought.{Found, NoHeap, HeapAt, found_at, heap_sought}
 use Rattle.far_text.proofs.Cuts.{split_some}
@@ -43,6 +43,17 @@ after_sought number text line lines is same = ap (heap_sought number) (split_som
 pub after_device : (number : ℕ) (text : List ℕ) (line : Line) (lines : List (List ℕ)) → line ≡ line_of (first_line text) → lines ≡ lines_after_first text
     → device_sought number (lines_of text) ≡ device_at number line lines (device_sought (number + 1) lines)
 after_device number text line lines is same = ap (device_sought number) (split_some (λ b. b == 10) text) ∙ rw (is, same) refl
+
+-- lines in which the same device is found, and the same commands are read
+same_stands : (logs mutators epoch number number' : ℕ) (lines lines' : List (List ℕ)) (found found' : Sought) → found ≡ found' → read_commands number lines ≡ read_commands number' lines'
+    → read_after logs mutators epoch (stands number lines found) ≡ read_after logs mutators epoch (stands number' lines' found')
+same_stands logs mutators epoch number number' lines lines' NoDevice found' same commands = rw (← same, commands) refl
+same_stands logs mutators epoch number number' lines lines' (DeviceAt device at after) found' same commands = rw (← same) refl
+
+pub skipped : (logs mutators epoch number number' : ℕ) (lines lines' : List (List ℕ)) → device_sought number lines ≡ device_sought number' lines' → read_commands number lines ≡ read_commands number' lines'
+    → read_after logs mutators epoch (beside number lines) ≡ read_after logs mutators epoch (beside number' lines')
+skipped logs mutators epoch number number' lines lines' found commands =
+    same_stands logs mutators epoch number number' lines lines' (device_sought number lines) (device_sought number' lines') found commands
 
 -- a text, by what is found of a heap in it
 abbrev pub trace_from : Result Found ℕ → Result Trace ℕ

@@ -1,14 +1,15 @@
 -- A number at the front of a text.
-use Rattle.std.proofs.Common.{◌≡◌, ℕ, ◌<◌, ◌≤◌, ◌+◌, ◌*◌, ◌-◌, ◌^◌, List, [], ◌∷◌, ◌++◌, length, take, drop, get_or, Some, None, false, zero, suc, add-one, subst, sym, ◌∙◌, ap, refl, arith, below_more}
+use Rattle.std.proofs.Common.{◌≡◌, ℕ, ◌<◌, ◌≤◌, ◌+◌, ◌*◌, ◌-◌, ◌^◌, List, [], ◌∷◌, ◌++◌, length, take, drop, get_or, Some, None, Bool, true, false, inl, inr, zero, suc, add-one, subst, sym, ◌∙◌, ap, refl, arith, below_more}
 use Rattle.std.specs.Int.{IsInRange}
 use Rattle.std.specs.Str.Parse.{digits_value}
+use Rattle.std.proofs.lemmas.Bool.{cases_eq}
 use Rattle.std.proofs.lemmas.Bool.Decides.{nat_tests}
 use Rattle.std.proofs.lemmas.Int.Digits.{digits_value_more}
 use Rattle.std.proofs.lemmas.List.{get_or-take, get_or_append_left, take-append-le, length-append, length-take-le}
 use Rattle.std.proofs.Math.Seq.{take-length}
 use Rattle.far_text.specs.Grammar.{number_of, next_number}
 use Rattle.far_text.specs.Cursor.{is_end, front_of, words_in}
-use Rattle.far_text.proofs.Cuts.{NoEnds, word_at, word_stops}
+use Rattle.far_text.proofs.Cuts.{NoEnds, space_on, word_at, word_stops}
 use Rattle.far_text.proofs.Numbers.{below_ten, ten_most, number_empty, number_zero, number_other, number_large, number_by_digits, digit_value_is}
 
 abbrev pub Digits : List ℕ → ℕ → Type 0
@@ -68,8 +69,21 @@ other_at text i inside digits other on =
     next_none (words_in text) (front ++ more) _ at.0 (number_other (front ++ more) i (omega arith) (rw same other))
 
 -- no digit
-pub none_at : (text : List ℕ) (i : ℕ) (rest : List (List ℕ)) → words_in (drop i text) ≡ [] ∷ rest → i ≡ 0 → next_number (words_in text) ≡ None
-none_at text i rest e z = next_none (words_in text) [] rest (ap (λ m. words_in (drop m text)) (sym z) ∙ e) (number_empty [] refl)
+ended : (b : ℕ) (text : List ℕ) → is_end b ≡ true → (rest : List (List ℕ)) × (words_in (b ∷ text) ≡ [] ∷ rest)
+ended b text e =
+    elim (cases_eq b 32) [
+      | inl space ↦ (words_in text, rw space (space_on text).0)
+      | inr other ↦ let newline : b ≡ 10 = grind (arith, nat_tests) in ([], rw newline refl)
+    ]
+
+pub none_at : (text : List ℕ) → (0 < length text → IsInRange 48 57 (get_or text 0 0) → ⊥) → next_number (words_in text) ≡ None
+none_at [] other = next_none (words_in []) [] [] refl (number_empty [] refl)
+none_at (b ∷ text) other =
+    by (is_end b) refl
+  where
+    by : (end : Bool) → is_end b ≡ end → next_number (words_in (b ∷ text)) ≡ None
+    by true e = let stops = ended b text e in next_none (words_in (b ∷ text)) [] stops.0 stops.1 (number_empty [] refl)
+    by false e = other_at (b ∷ text) 0 (omega arith) (λ k less. absurd (omega arith)) (other (omega arith)) e
 
 -- a zero before other digits
 pub zero_at : (text : List ℕ) (i : ℕ) → i ≤ length text → Digits text i → get_or text 0 0 ≡ 48 → 1 < i → next_number (words_in text) ≡ None

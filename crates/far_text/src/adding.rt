@@ -67,6 +67,23 @@ fn add_spelled<'a>(
     add_read(commands, text, line_spelled(text, spelled))
 }
 
+// Adds the command of the first line of a text, by its first word. It stands apart, so that no other line pays for it.
+#[inline(never)]
+fn add_by_first_word<'a>(
+    commands: &mut Commands,
+    text: &'a [u8],
+) -> Result<Option<Option<&'a [u8]>>, AllocError>
+    requires few { length commands.old ≤ LONGEST_TEXT }
+    requires some { 0 < length text.now }
+    requires content { (slice_index text.now 0 == 10) ≡ false }
+    requires other { (slice_index text.now 0 == 35) ≡ false }
+    ensures added { IfOk result (λ found. IfSome found (λ _. with_line commands.old (line_of (first_line text.now)) ≡ Some commands.new)) }
+    ensures lines { IfOk result (λ found. IfSome found (λ after. lines_left after ≡ lines_after_first text.now)) }
+    ensures bad { IfOk result (λ found. IfNone found (with_line commands.old (line_of (first_line text.now)) ≡ None)) }
+{
+    add_spelled(commands, text, entry_by_first_word(text))
+}
+
 // Adds the command of the first line of a text. Those that traces are full of are known by their first bytes, and each is
 // added where it is read.
 #[inline(always)]
@@ -103,7 +120,7 @@ fn add_entry<'a>(
     if let [b'c', b'l', b'o', b's', b'e', b' ', rest @ ..] = text {
         return add_spelled(commands, text, close_spelled(Rest::Words(rest)));
     }
-    add_spelled(commands, text, entry_by_first_word(text))
+    add_by_first_word(commands, text)
 }
 
 /// Adds the command of the first line of a text, if it says one, and nothing where it is passed over. The lines after it;

@@ -279,14 +279,11 @@ impl Commands {
         ensures value { IfOk result (λ kept. option_map (λ c. self.old ++ c ∷ []) (command_spelled command.entry) ≡ cond kept (Some self.new) None) }
         ensures same { result ≢ Ok true → self.new ≡ self.old }
     {
-        let before = self.bytes.len();
+        self.records.reserve(1)?;
         let Some(record) = record_of(&mut self.bytes, command)? else {
             return Ok(false);
         };
-        if let Err(_) = self.records.push(record) {
-            self.bytes.truncate(before);
-            return Err(AllocError);
-        }
+        self.records.push_reserved(record);
         Ok(true)
     }
 
@@ -301,14 +298,11 @@ impl Commands {
         let Command::Mutator { mutator, request } = command else {
             return self.push_rarer(command);
         };
-        let before = self.bytes.len();
+        self.records.reserve(1)?;
         let Some(record) = request_record(&mut self.bytes, mutator, request)? else {
             return Ok(false);
         };
-        if let Err(_) = self.records.push(record) {
-            self.bytes.truncate(before);
-            return Err(AllocError);
-        }
+        self.records.push_reserved(record);
         Ok(true)
     }
 }

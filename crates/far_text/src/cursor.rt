@@ -69,13 +69,13 @@ fn printed_number(text: &[u8], len: usize, n: u64) -> Option<(u64, Rest<'_>)>
     ensures number { option_map (λ found. (found.0, words_left found.1)) result ≡ next_number (words_in text.now) }
     ensures lines { IfSome result (λ found. lines_after_first text.now ≡ lines_after found.1) }
 {
+    if len == 0 {
+        return None;
+    }
     if len > 1 && text[0] == b'0' {
         return None;
     }
     let rest = rest_at(text, len)?;
-    if len == 0 {
-        return None;
-    }
     Some((n, rest))
 }
 

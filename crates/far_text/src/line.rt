@@ -1,9 +1,9 @@
 //! What each line of a text says.
 
-ghost use Rattle.std.specs.Prelude.{◌≡◌, ◌≤◌, ◌<◌, ◌+◌, ◌==◌, ℕ, length, true, false, slice_index, IfSome, IfNone};
+ghost use Rattle.std.specs.Prelude.{◌≡◌, ◌≤◌, ◌<◌, ◌+◌, ◌==◌, ℕ, length, drop, true, false, slice_index, IfSome, IfNone};
 ghost use Rattle.std.specs.Option.{option_and_then};
 ghost use Rattle.far_text.specs.Spelled.{entry_spelled, as_line};
-ghost use Rattle.far_text.specs.Grammar.{entry_of, line_of, Bad};
+ghost use Rattle.far_text.specs.Grammar.{entry_of, line_of, Bad, Skipped};
 ghost use Rattle.far_text.specs.Cursor.{first_line, lines_after_first, lines_left, words_in};
 
 use crate::command::{Entry, Spelled, entry_by_first_word, entry_first};
@@ -35,6 +35,30 @@ fn ascii_len(text: &[u8]) -> Option<usize>
     }
 }
 
+// The lines after a comment, which a text begins with, and of which is known where it ends and that all its bytes are ASCII;
+// None where it is too long.
+#[inline(always)]
+fn comment_ends(text: &[u8], len: usize) -> Option<Option<&[u8]>>
+    requires some { 0 < length text.now }
+    requires comment { slice_index text.now 0 ≡ 35 }
+    requires bound { len ≤ length text.now }
+    requires ascii { (k : ℕ) → k < len → slice_index text.now k < 128 }
+    requires inside { (k : ℕ) → k < len → (slice_index text.now k == 10) ≡ false }
+    requires ends { len < length text.now → slice_index text.now len ≡ 10 }
+    ensures bad { IfNone result (line_of (first_line text.now) ≡ Bad) }
+    ensures line { IfSome result (λ _. line_of (first_line text.now) ≡ Skipped) }
+    ensures lines { IfSome result (λ after. lines_left after ≡ lines_after_first text.now) }
+    ensures rest { IfSome result (λ after. IfSome after (λ rest. rest.now ≡ drop (len + 1) text.now)) }
+{
+    if len > LONGEST_LINE {
+        return None;
+    }
+    if len == text.len() {
+        return Some(None);
+    }
+    Some(Some(&text[len + 1..]))
+}
+
 /// Reads a comment, which a text begins with.
 #[inline(always)]
 pub fn comment_first(text: &[u8]) -> Option<(Line<'_>, Option<&[u8]>)>
@@ -45,13 +69,29 @@ pub fn comment_first(text: &[u8]) -> Option<(Line<'_>, Option<&[u8]>)>
     ensures lines { IfSome result (λ found. lines_left found.1 ≡ lines_after_first text.now) }
 {
     let len = ascii_len(text)?;
-    if len > LONGEST_LINE {
+    let after = comment_ends(text, len)?;
+    Some((Line::Skipped, after))
+}
+
+/// The lines after the first of a text of ASCII, where this is an empty line or a comment. Whether bytes are ASCII is known for
+/// many lines at once.
+#[inline(always)]
+pub fn skipped_first(text: &[u8]) -> Option<Option<&[u8]>>
+    requires ascii { (k : ℕ) → slice_index text.now k < 128 }
+    ensures line { IfSome result (λ _. line_of (first_line text.now) ≡ Skipped) }
+    ensures lines { IfSome result (λ after. lines_left after ≡ lines_after_first text.now) }
+    ensures ascii { IfSome result (λ after. IfSome after (λ rest. (k : ℕ) → slice_index rest.now k < 128)) }
+{
+    if text.is_empty() {
+        return Some(None);
+    }
+    if text[0] == b'\n' {
+        return Some(Some(&text[1..]));
+    }
+    if text[0] != b'#' {
         return None;
     }
-    if len == text.len() {
-        return Some((Line::Skipped, None));
-    }
-    Some((Line::Skipped, Some(&text[len + 1..])))
+    comment_ends(text, line_end(text))
 }
 
 // How many bytes the first line of a text has, where these are the lines after it.

@@ -1,18 +1,18 @@
 //! A whole text: nothing, or a heap, its device if that is said, and commands.
 
-ghost use Rattle.std.specs.Prelude.{◌≡◌, ◌<◌, ◌≤◌, ◌+◌, length, Ok, Err, None, IfOk, IfErr, IfSome};
+ghost use Rattle.std.specs.Prelude.{◌≡◌, ◌<◌, ◌≤◌, ◌+◌, ℕ, length, slice_index, true, Ok, Err, None, IfOk, IfErr, IfSome};
 ghost use Rattle.far_text.specs.Parsed.{as_trace};
 ghost use Rattle.far_text.specs.Cursor.{lines_left};
 ghost use Rattle.far_text.specs.declared.text.TheConstants.{LONGEST_TEXT};
 ghost use Rattle.std.specs.Option.{option_map};
 ghost use Rattle.far_text.specs.Command.{as_device};
-ghost use Rattle.far_text.specs.Grammar.{beside, trace_of, lines_of, read_commands, IsFault};
+ghost use Rattle.far_text.specs.Grammar.{beside, device_sought, trace_of, lines_of, read_commands, IsFault};
 ghost use Rattle.far_text.specs.HeapSought.{NoHeap, HeapAt, heap_sought};
 
 use crate::adding::add_line;
 use crate::command::{Device, Entry};
 use crate::commands::Commands;
-use crate::line::{Line, Part, line_first};
+use crate::line::{Line, Part, line_first, skipped_first};
 use std::alloc::{AllocError, AllocFailed, Global};
 use thiserror::Error;
 
@@ -138,7 +138,43 @@ pub fn device_line(number: u64, lines: Option<&[u8]>) -> (Option<Device>, u64, O
     (None, number, lines)
 }
 
-// The commands of the lines after this number, or the first of them that says none.
+// Whether an empty line or a comment is the first line of a text, all of whose bytes are ASCII.
+fn begins_skipped(text: &[u8]) -> bool
+    ensures { result ≡ true → (k : ℕ) → slice_index text.now k < 128 }
+{
+    !text.is_empty() && (text[0] == b'#' || text[0] == b'\n') && text.is_ascii()
+}
+
+// Passes over empty lines and comments after this number, perhaps not over all. The number of the last of them, and the lines
+// after it. Where a text has many of them, they are read once.
+#[inline(never)]
+fn skip_lines(number: u64, lines: Option<&[u8]>) -> (u64, Option<&[u8]>)
+    requires counted { number + length (lines_left lines) ≤ LONGEST_TEXT + 1 }
+    ensures device { device_sought (number + 1) (lines_left lines.entry) ≡ device_sought (result.0 + 1) (lines_left result.1) }
+    ensures commands { read_commands (number + 1) (lines_left lines.entry) ≡ read_commands (result.0 + 1) (lines_left result.1) }
+    ensures counted { result.0 + length (lines_left result.1) ≤ LONGEST_TEXT + 1 }
+{
+    let Some(text) = lines else {
+        return (number, lines);
+    };
+    if !begins_skipped(text) {
+        return (number, lines);
+    }
+    let mut at = number;
+    let mut left = lines;
+    while let Some(text) = left {
+        let Some(after) = skipped_first(text) else {
+            return (at, left);
+        };
+        at += 1;
+        left = after;
+    }
+    (at, left)
+}
+
+// The commands of the lines after this number, or the first of them that says none. Apart from its caller it has registers
+// enough.
+#[inline(never)]
 fn commands_after(alloc: Global, number: u64, lines: Option<&[u8]>) -> Result<Commands, ParseError>
     requires counted { number + length (lines_left lines) ≤ LONGEST_TEXT + 1 }
     ensures commands { IfOk result (λ commands. read_commands (number + 1) (lines_left lines.entry) ≡ Ok commands) }
@@ -169,7 +205,8 @@ pub fn parse(alloc: Global, text: &[u8]) -> Result<Trace, ParseError>
     let Some(heap) = heap_line(text)? else {
         return Ok(Trace::Nothing);
     };
-    let (device, number, lines) = device_line(heap.number, heap.lines);
+    let (number, lines) = skip_lines(heap.number, heap.lines);
+    let (device, number, lines) = device_line(number, lines);
     Ok(Trace::Heap {
         logs: heap.logs,
         mutators: heap.mutators,

@@ -15,7 +15,8 @@ returns-in_err-rest-clause-number c =
 
 pub returns-then-len-eq0-clause-number : goal.returns-then-len-eq0-clause-number
 returns-then-len-eq0-clause-number c =
-    sym (none_at c.args.text.now c.args.len (words_left c.in_ok-rest.rest) c.in_ok-rest.ensures.words c.if-len-eq0.true)
+    let stops = rw c.if-len-eq0.true at c.requires.stops in
+    sym (none_at c.args.text.now (λ some. other_tells (get_or c.args.text.now 0 0) (stops some)))
 
 pub returns-then-text-eq48-clause-number : goal.returns-then-text-eq48-clause-number
 returns-then-text-eq48-clause-number c =

@@ -5,13 +5,14 @@ use Rattle.far_text.specs.Spelled.{command_spelled}
 use Rattle.far_text.proofs.RecordLemmas.{longer, one_command_more, one_within_more}
 use Rattle.far_text.proofs.commands.Commands.push.Goals as goal
 
-pub invariant_of-self-in_default-push : goal.invariant_of-self-in_default-push
-invariant_of-self-in_default-push c =
+pub invariant_of-self-2 : goal.invariant_of-self-2
+invariant_of-self-2 c =
     let old = c.self.inside.bytes in
     let new = c.request_record.new.bytes in
     let records = c.self.inside.records.items in
     let within = rw c.in-Some.is at c.in_ok-record.ensures.within in
-    rw c.in_default-push.ensures.items (
+    let items = c.push_reserved.ensures.items ∙ ap (λ all. all ++ c.in-Some.record ∷ []) c.in_ok-reserve.ensures.items in
+    rw items (
       one_within_more (length old) (length new) (longer old new c.in_ok-record.ensures.kept) records c.in-Some.record c.self.invariant.0 within,
       omega (arith, c.self.invariant.1, c.in_ok-record.ensures.short, length-append records (c.in-Some.record ∷ [])),
     )
@@ -25,4 +26,4 @@ returns-clause-value c =
     let spelled = ap command_spelled c.in-Mutator.is in
     ap (λ now. option_map (λ x. now ++ x ∷ []) (command_spelled c.args.command)) (sym c.self.view_is)
     ∙ one_command_more old new c.in_ok-record.ensures.kept records c.in-Some.record (command_spelled c.args.command) c.self.invariant.0 (value ∙ sym spelled)
-    ∙ ap (λ all. Some (map (command_in new) all)) (sym c.in_default-push.ensures.items)
+    ∙ ap (λ all. Some (map (command_in new) all)) (sym (c.push_reserved.ensures.items ∙ ap (λ all. all ++ c.in-Some.record ∷ []) c.in_ok-reserve.ensures.items))
