@@ -30,6 +30,12 @@ word_on b text e =
     let line = split_on (λ c. c == 10) b text k.1 in
     (ap (λ l. line_words (front_of l)) line ∙ split_on (λ c. c == 32) b (first_line text) k.0, ap rest_of line)
 
+-- a space
+pub space_on : (text : List ℕ) → (words_in (32 ∷ text) ≡ [] ∷ words_in text) × (lines_after_first (32 ∷ text) ≡ lines_after_first text)
+space_on text =
+    let line = split_on (λ c. c == 10) 32 text refl in
+    (ap (λ l. line_words (front_of l)) line, ap rest_of line)
+
 abbrev pub NoEnds : List ℕ → ℕ → Type 0
 NoEnds text i = (k : ℕ) → k < i → is_end (get_or text k 0) ≡ false
 
