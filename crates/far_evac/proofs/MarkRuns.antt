@@ -29,7 +29,7 @@ use Rattle.far_evac.proofs.Changing.{advanced_known}
 use Rattle.far_evac.proofs.SmallSteps.{drop_next}
 use Rattle.far_evac.proofs.Hands.{knows_forgotten, knows_more}
 use Rattle.far_evac.proofs.Lacking.{each_has, lacking_known, left_to, next_known, next_marked}
-use Rattle.far_evac.proofs.MarkSteps.{none_shown, some_shown}
+use Rattle.far_evac.proofs.MarkSteps.{Sought, none_shown, some_shown}
 use Rattle.far_evac.proofs.Onward.{chosen_sealed, held_marking, sealed_inside}
 use Rattle.far_evac.proofs.Readiness.{round_is_event}
 use Rattle.far_evac.proofs.Standings.{at_start}
@@ -55,10 +55,10 @@ moment_more a b c f g = record {
 }
 
 -- ---- whether one is left
-module _ (s t : State) (r next : Round) (in_round : InRound t next) (marks : r.phase ≡ Marking) (round : next ≡ record r { index = next.index; at = next.at }) (known : Knows s t) (law : Law (own_part t)) where
+module _ {s t : State} {r next : Round} (sought : Sought s t r next) (law : Law (own_part t)) where
   pub left_shown : (o : Option Span) → IfSome o (λ (span : Span). StandsAt t next span) → IfNone o (next.index ≡ length r.chosen) → is_some o ≡ not (is_empty (lacking s (collection_in r)))
-  left_shown (Some span) stands end = some_shown s t r next in_round marks round known law span stands
-  left_shown None stands end = none_shown s t r next in_round marks round known end
+  left_shown (Some span) stands end = some_shown sought law span stands
+  left_shown None stands end = none_shown sought end
 
 -- ---- one more
 module _ (m : Moment) (once : IsDistinct eqb m.collection) (fits : (q : ℕ) → m.core.cell q < 2 ^ 64) where

@@ -297,4 +297,3 @@ module _ (s : State) (p : ℕ) (q : IsQuietNear s p) (law : Law (own_part s)) (e
   sealed_kept Goes e =
       let why = goes_when f.marks.dropped f.marks.hot (room s (size_of q.len) false) (sym (ap (way_of s) f.near) ∙ e) in
       (sealed_logs_kept s p q.len q.ds law).goes q.place q.marks q.near (wanted s p q law evac) (alive_before s p q law evac w finds why)
-

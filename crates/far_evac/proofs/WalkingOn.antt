@@ -142,4 +142,3 @@ exact_way w v p fate Goes core order is phase held counted = λ i. record {
 pub dealt_exact : (w v : Walked) (p word : ℕ) (fate : Fate) → LeavesAs w.moment.core w.moment.order v.moment.core v.moment.order p word fate → v.moment.phase ≡ w.moment.phase → v.moment.collection ≡ w.moment.collection →
     v.tally ≡ counted_as w.tally fate → v ≡ dealt_as w p (read_of word)
 dealt_exact w v p word fate leaves phase held counted = exact_way w v p fate (way_of w.moment.core (read_of word)) leaves.core leaves.sealed leaves.is phase held counted
-
