@@ -17,7 +17,6 @@ use Rattle.far_evac.specs.Moment.{Moment, Tally, objects_in, plus}
 use Rattle.far_evac.specs.MomentLaw.{has_risen}
 use Rattle.far_evac.specs.RoundSteps.{with_clear_below}
 use Rattle.far_evac.specs.TakesRoom.{spot_of}
-use Rattle.far_evac.specs.Walk.{left}
 use Rattle.far_evac.proofs.InOrder.{in_order}
 use Rattle.far_evac.proofs.SmallSteps.{left_known}
 use Rattle.far_evac.proofs.Readiness.{risen_is_ready}

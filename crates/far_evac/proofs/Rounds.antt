@@ -18,7 +18,7 @@ use Rattle.far_evac.specs.MomentLaw.{IsLawful, MomentLaw, is_idle}
 use Rattle.far_evac.specs.RoundSteps.{advanced, is_clear_now}
 use Rattle.far_evac.specs.Turns.{Turned, round_end, turn_size, turned, turns_made}
 use Rattle.far_evac.specs.Waiting.{after_polling, first_open, holds_up, polled, polled_at, polled_to}
-use Rattle.far_evac.specs.Walk.{Walked, begun, ended, is_done, left, walked}
+use Rattle.far_evac.specs.Walk.{Walked, ended, is_done, left, walked}
 use Rattle.far_evac.proofs.Joined.{plus_nothing}
 use Rattle.far_evac.proofs.Leading.{selecting}
 use Rattle.far_evac.proofs.LeadingTurns.{turns_lead}

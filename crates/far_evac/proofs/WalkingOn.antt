@@ -31,7 +31,7 @@ use Rattle.far_evac.proofs.Fronts.{first_lives}
 use Rattle.far_evac.proofs.Keeping.{KeepsLogs, bounded_kept, keeps_known, keeps_more, keeps_sealed, round_kept}
 use Rattle.far_evac.proofs.LiveLists.{finds_place, knows_live}
 use Rattle.far_evac.proofs.Passing.{boundary_known, one_or_behind}
-use Rattle.far_evac.proofs.SendingOff.{found, sealed_kept}
+use Rattle.far_evac.proofs.SendingOff.{sealed_kept}
 use Rattle.far_evac.proofs.Tours.{core_so, gone_found}
 use Rattle.far_evac.proofs.Walking.{among_front, stands_at}
 

@@ -2,7 +2,6 @@ use Rattle.std.proofs.Common.{◌∙◌, ap, refl, not}
 use Rattle.far_evac.specs.EvacOf.{EvacOf}
 use Rattle.far_evac.specs.Live.{is_empty, lacking}
 use Rattle.far_evac.proofs.MarkRuns.{left_shown}
-use Rattle.far_evac.proofs.MarkSteps.{Sought}
 use Rattle.far_evac.proofs.evac.Evac.lacks_some.Goals as goal
 
 pub returns-clause-found : goal.returns-clause-found

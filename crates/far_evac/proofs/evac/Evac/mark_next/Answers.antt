@@ -1,4 +1,4 @@
-use Rattle.std.proofs.Common.{◌≡◌, ◌∙◌, ap, sym, refl, subst, true, false, not, length, IfSome, IfNone}
+use Rattle.std.proofs.Common.{◌≡◌, ◌∙◌, ap, refl, subst, not, length, IfSome, IfNone}
 use Rattle.far_log.specs.declared.span.Span.{Span}
 use Rattle.far_evac.proofs.HandKept.{since_evac}
 use Rattle.far_hand.proofs.Closure.{then_came}
@@ -6,7 +6,6 @@ use Rattle.far_evac.specs.Cursor.{StandsAt, first_marked, standing_at}
 use Rattle.far_evac.specs.EvacOf.{EvacOf, moment}
 use Rattle.far_evac.specs.Live.{is_empty, lacking}
 use Rattle.far_evac.specs.Moment.{Moment}
-use Rattle.far_evac.specs.declared.phase.Phase.TheVariants.{Marking}
 use Rattle.far_evac.proofs.MarkSteps.{Sought, goes_on, knows_so, marks_exactly, marks_known, may_mark, moment_so, next_held, next_phase, none_known, none_same, none_shown, some_shown}
 use Rattle.far_evac.proofs.evac.Evac.mark_next.Given.{Over}
 use Rattle.far_evac.proofs.evac.Evac.mark_next.Goals.{After-seek-next}

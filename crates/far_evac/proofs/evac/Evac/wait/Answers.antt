@@ -1,11 +1,8 @@
 use Rattle.std.proofs.Common.{◌≡◌, ◌∙◌, ap, sym, subst, refl, []}
-use Rattle.far_core.specs.state.State.{State}
-use Rattle.far_evac.specs.AnyHand.{KnowsMoment}
 use Rattle.far_evac.specs.EvacOf.{EvacOf, moment}
 use Rattle.far_evac.specs.Live.{lacking}
 use Rattle.far_evac.specs.Moment.{Moment}
 use Rattle.far_evac.specs.RoundSteps.{advanced}
-use Rattle.far_evac.specs.Standing.{collection_in}
 use Rattle.far_evac.specs.declared.phase.Phase.TheVariants.{Marking, Waiting}
 use Rattle.far_evac.proofs.MarkRuns.{may_choose, rises_exactly, rises_known, waiting_held, waits_so}
 use Rattle.far_evac.proofs.MarkSteps.{knows_so, moment_so}
