@@ -38,7 +38,7 @@ use Rattle.far_book.proofs.region.Reaching.{reached_law, reached_more, reached_o
 use Rattle.far_book.proofs.region.Retires.{retired_is}
 use Rattle.far_book.proofs.region.SealedKept.{sealed_logs_stay}
 use Rattle.far_evac.specs.declared.phase.Phase.{Phase}
-use Rattle.far_evac.specs.declared.phase.Phase.TheVariants.{Evacuating, Idle}
+use Rattle.far_evac.specs.declared.phase.Phase.TheVariants.{Evacuating, Idle, Marking}
 use Rattle.far_evac.specs.Leaving.{order_by}
 use Rattle.far_evac.specs.Leading.{Leads, WalkingLeads}
 use Rattle.far_evac.specs.Live.{is_empty, live_among, live_in}
@@ -51,7 +51,7 @@ use Rattle.far_evac.specs.Walk.{Drops, Goes, Moves, Walked, Way, begun, ended, f
 use Rattle.far_evac.proofs.Fronts.{vacant_in}
 use Rattle.far_evac.proofs.KeptObjects.{evicted_objects, freed_objects, moved_objects, objects_more, objects_none, released_objects}
 use Rattle.far_evac.proofs.Leading.{in_heap, reached_none}
-use Rattle.far_evac.proofs.LiveOnce.{NearAt, first_named, near_at}
+use Rattle.far_evac.proofs.LiveOnce.{NearAt, first_named, member_each, near_at}
 use Rattle.far_evac.proofs.Marks.{all_filter}
 use Rattle.far_evac.proofs.Onward.{sealed_inside}
 use Rattle.far_evac.proofs.Readiness.{risen_is_ready}
@@ -60,13 +60,6 @@ use Rattle.far_evac.proofs.Tours.{core_so, goes_when, moves_when}
 use Rattle.far_evac.proofs.Bools.{or_right}
 
 -- ---- lists
-of_among : (P : ℕ → Type 0) (ls : List ℕ) → AllByRecursion P ls → (l : ℕ) → among ls l ≡ true → P l
-of_among P [] all l member = absurd (false≢true member)
-of_among P (k ∷ ks) all l member = elim (cases_eq l k) [
-  | inl e ↦ subst P (sym e) all.0
-  | inr ne ↦ of_among P ks all.1 l (ap (λ b. b || among ks l) (sym (ne_eqb l k ne)) ∙ member)
-]
-
 once_without : (l : ℕ) (xs : List ℕ) → IsDistinct eqb xs → IsDistinct eqb (order_without l xs)
 unfolding IsDistinct
 once_without l [] once = tt
@@ -278,27 +271,11 @@ walks_on m n law moment leaves =
 -- ---- what a call leaves
 module _ (m : Moment) (w : Walked) (ready : Ready w.moment.core w.moment.collection) (h : GoesOf m w) where
   held_sealed : (l : ℕ) → among w.moment.collection l ≡ true → w.moment.core.kind l ≡ kinds.Sealed
-  held_sealed l member = (of_among (IsOfRound w.moment.core) w.moment.collection ready.logs l member).0
+  held_sealed l member = (member_each (IsOfRound w.moment.core) w.moment.collection ready.logs l member).0
 
-  midst_leads : is_done w ≡ false → Leads m w.moment
-  midst_leads some = record {
-    reached = h.reached;
-    law = h.law;
-    moment = record {
-      order = h.has_sealed;
-      order_once = h.once;
-      sealed = held_sealed;
-      collection_once = ready.once;
-      runs = some ∙ sym (ap is_idle h.leaves);
-      round = λ _ l member. (of_among (IsOfRound w.moment.core) w.moment.collection ready.logs l member).2;
-      only = λ _. h.only;
-      clear = λ _. h.clear;
-      later = λ marks. absurd (false≢true (sym (ap has_risen marks) ∙ ap has_risen h.leaves));
-    };
-  }
-
-  over_leads : is_done w ≡ true → Leads m (record w.moment { phase = Idle })
-  over_leads done = record {
+  -- in its midst, and at its end, where it is done
+  leads_so : (phase : Phase) → is_done w ≡ is_idle phase → (phase ≡ Marking → ⊥) → Leads m (record w.moment { phase = phase })
+  leads_so phase done other = record {
     reached = h.reached;
     law = h.law;
     moment = record {
@@ -307,15 +284,18 @@ module _ (m : Moment) (w : Walked) (ready : Ready w.moment.core w.moment.collect
       sealed = held_sealed;
       collection_once = ready.once;
       runs = done;
-      round = λ _ l member. (of_among (IsOfRound w.moment.core) w.moment.collection ready.logs l member).2;
+      round = λ _ l member. (member_each (IsOfRound w.moment.core) w.moment.collection ready.logs l member).2;
       only = λ _. h.only;
-      clear = λ leaves. absurd cc;
-      later = λ marks. absurd cc;
+      clear = λ _. h.clear;
+      later = λ marks. absurd (other marks);
     };
   }
 
+  midst_leads : is_done w ≡ false → Leads m w.moment
+  midst_leads some = leads_so w.moment.phase (some ∙ sym (ap is_idle h.leaves)) (λ marks. false≢true (sym (ap has_risen marks) ∙ ap has_risen h.leaves))
+
   answer_leads : Leads m (ended w)
-  answer_leads = cond_both (is_done w) (record w.moment { phase = Idle }) w.moment (Leads m) over_leads midst_leads
+  answer_leads = cond_both (is_done w) (record w.moment { phase = Idle }) w.moment (Leads m) (λ done. leads_so Idle done (λ marks. cc)) midst_leads
 
 pub walking : WalkingLeads
 walking m n law moment leaves =
