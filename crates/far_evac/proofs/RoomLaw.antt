@@ -1,5 +1,6 @@
 -- What walks take of the logs, over any hand.
 use Rattle.std.proofs.Common.{◌≡◌, ◌≢◌, ℕ, zero, suc, ◌+◌, ◌<◌, ◌≤◌, ◌==◌, Bool, true, false, cond, ◌||◌, Option, Some, None, List, [], ◌∷◌, ◌++◌, take, inl, inr, arith, ap, sym, refl, ◌∙◌, subst}
+use Rattle.std.proofs.lemmas.List.{append_assoc, append-nil}
 use Rattle.std.specs.List.{AllByRecursion, range_with_len, sum_by}
 use Rattle.std.proofs.lemmas.Bool.{cases_eq, eq-eqb, ne_eqb, true≢false, false≢true}
 use Rattle.std.proofs.lemmas.List.Sums.{sum_by-cons}
@@ -68,14 +69,6 @@ so_taken m v objects k s l ls p ps way first h =
     (way_dealt s h.sound l ls p ps first.ready first.live first.word (finds_first first) way first.is) (so_one s p way).cells (off_each (core_so s p way) p (l ∷ ls) (first_gone first).off)
 
 -- ---- object after object, from where other walks have led
-append_assoc : (xs ys zs : List ℕ) → (xs ++ ys) ++ zs ≡ xs ++ (ys ++ zs)
-append_assoc [] ys zs = refl
-append_assoc (x ∷ xs) ys zs = ap (λ rest. x ∷ rest) (append_assoc xs ys zs)
-
-append_none : (xs : List ℕ) → xs ≡ xs ++ []
-append_none [] = refl
-append_none (x ∷ xs) = ap (λ rest. x ∷ rest) (append_none xs)
-
 keeps_taken : (m v : Moment) (before : List ℕ) → Keeps false v (λ k w. Taken m w.moment.core w.moment.collection (before ++ take k (live_among v.core v.collection)))
 keeps_taken m v before = record {
   learns = λ k. known_taken m (before ++ take k (live_among v.core v.collection));
@@ -88,7 +81,7 @@ keeps_taken m v before = record {
 pub walks_taken : (m v : Moment) (before : List ℕ) → Taken m v.core v.collection before → (k : ℕ) (t : Walked) → Ready v.core v.collection → WalksTo v k t →
     Taken m t.moment.core t.moment.collection (before ++ take k (live_among v.core v.collection))
 walks_taken m v before h k t ready walks =
-    (lifted_walks v (λ k w. Taken m w.moment.core w.moment.collection (before ++ take k (live_among v.core v.collection))) (keeps_taken m v before) ready (subst (Taken m v.core v.collection) (append_none before) h) k t walks).keeps
+    (lifted_walks v (λ k w. Taken m w.moment.core w.moment.collection (before ++ take k (live_among v.core v.collection))) (keeps_taken m v before) ready (subst (Taken m v.core v.collection) (sym (append-nil before)) h) k t walks).keeps
 
 -- ---- all logs together
 sums_same : (a b c d : ℕ → ℕ) → ((x : ℕ) → a x + b x ≡ c x + d x) → (xs : List ℕ) → sum_by a xs + sum_by b xs ≡ sum_by c xs + sum_by d xs
