@@ -3,7 +3,7 @@ use Rattle.std.proofs.Common.{◌≡◌, ◌≢◌, ℕ, zero, suc, ◌+◌, ◌
 use Rattle.std.proofs.lemmas.List.{drop_all, drop_min, length-take, length-take-le}
 use Rattle.std.specs.Prelude.{Contains}
 use Rattle.std.specs.List.{AllByRecursion, IsDistinct}
-use Rattle.std.proofs.lemmas.Bool.{cond_both, ne_eqb, false≢true, not-true}
+use Rattle.std.proofs.lemmas.Bool.{cond_both, ne_eqb, not-true}
 use Rattle.std.proofs.lemmas.Bool.Decides.{nat_tests}
 use Rattle.far_word.specs.Pointer.{read_of}
 use Rattle.far_log.proofs.Members.{here, there}

@@ -1,7 +1,7 @@
 -- The objects that lack EVAC: once the first of them has it, the others are left.
 use Rattle.std.proofs.Common.{◌≡◌, ◌≢◌, ℕ, zero, suc, ◌+◌, ◌^◌, ◌<◌, ◌≤◌, Bool, true, false, cond, not, ◌&&◌, ◌==◌, eqb, nat_le, nat_lt, Option, Some, None, List, [], ◌∷◌, ◌++◌, filter, take, drop, inl, inr, bit_or, arith, ap, sym, refl, ◌∙◌, subst}
 use Rattle.std.proofs.Math.Bool.{and-false, and-true}
-use Rattle.std.specs.Prelude.{⊤, ◌⊎◌, Contains, fold}
+use Rattle.std.specs.Prelude.{⊤, Contains, fold}
 use Rattle.std.proofs.lemmas.List.{append_assoc, take-append-drop}
 use Rattle.std.proofs.lemmas.List.Sums.{fold-append}
 use Rattle.std.specs.List.{AllByRecursion, IsDistinct}

@@ -1,8 +1,7 @@
 -- Whom a poll names, and at which epoch.
-use Rattle.std.proofs.Common.{inl, inr, ◌≡◌, ◌≢◌, ℕ, zero, suc, ◌+◌, ◌*◌, ◌/◌, ◌%◌, ◌<◌, ◌≤◌, Bool, true, false, cond, ◌||◌, ◌&&◌, ◌==◌, nat_lt, nat_le, Option, Some, None, arith, ap, refl, ◌∙◌}
-use Rattle.std.specs.Prelude.{IsSome, find}
-use Rattle.std.specs.List.{range_with_len}
-use Rattle.std.proofs.lemmas.Bool.{cases_eq, cases_lt, cond_both, eqb-true, false≢true, or_parts, not-true}
+use Rattle.std.proofs.Common.{inl, inr, ◌≡◌, ◌≢◌, ℕ, ◌+◌, ◌*◌, ◌/◌, ◌%◌, ◌<◌, Bool, true, false, cond, ◌||◌, ◌&&◌, ◌==◌, nat_lt, nat_le, Option, Some, None, arith, ap, refl}
+use Rattle.std.specs.Prelude.{IsSome}
+use Rattle.std.proofs.lemmas.Bool.{cases_eq, cond_both, eqb-true, false≢true, or_parts, not-true}
 use Rattle.std.proofs.lemmas.Bool.Decides.{nat_tests}
 use Rattle.far_word.specs.declared.scope.ScopeWord.TheVariants as scoped
 use Rattle.far_word.specs.declared.sizes.TheConstants.{EPOCH_END}

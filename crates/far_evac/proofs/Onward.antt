@@ -1,5 +1,5 @@
 -- A round that marks goes on: past an object that has EVAC, and to the next log.
-use Rattle.std.proofs.Common.{◌≡◌, ◌≢◌, ℕ, suc, ◌+◌, ◌<◌, ◌≤◌, ◌||◌, Bool, true, false, List, [], ◌∷◌, ◌++◌, length, slice_index_or, take, drop, eqb, inl, inr, arith, ap, sym, refl, ◌∙◌, subst}
+use Rattle.std.proofs.Common.{◌≡◌, ◌≢◌, ℕ, suc, ◌+◌, ◌<◌, ◌≤◌, ◌||◌, true, false, List, [], ◌∷◌, ◌++◌, length, slice_index_or, take, drop, eqb, inl, inr, arith, ap, sym, ◌∙◌, subst}
 use Rattle.std.specs.Prelude.{◌⊎◌}
 pub use Rattle.std.proofs.lemmas.Bool.{or_cases as or_split}
 use Rattle.std.proofs.lemmas.Bool.{eqb-true, false≢true}
