@@ -17,7 +17,10 @@ use Rattle.far_core.specs.state.State.{State}
 use Rattle.far_evac.specs.Live.{live_in, pointers_of}
 use Rattle.far_evac.specs.RoundSteps.{among}
 
--- ---- lists
+-- ---- numbers and lists
+pub one_more : (n : ℕ) → suc n ≡ n + 1
+one_more n = omega arith
+
 pub each_map : {X : Type 0} {P Q : X → Type 0} → ((x : X) → P x → Q x) → (xs : List X) → AllByRecursion P xs → AllByRecursion Q xs
 each_map f [] h = tt
 each_map f (x ∷ xs) h = (f x h.0, each_map f xs h.1)
