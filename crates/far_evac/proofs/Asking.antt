@@ -1,5 +1,5 @@
 -- What a walk asks of the device, one object more; and which keys it leaves.
-use Rattle.std.proofs.Common.{◌≡◌, ◌≢◌, ◌∙◌, ℕ, Bool, ◌+◌, suc, List, [], ◌∷◌, ◌++◌, Option, Some, None, arith, ap, sym, refl, subst, inl, inr, take}
+use Rattle.std.proofs.Common.{◌≡◌, ◌≢◌, ◌∙◌, ℕ, Bool, ◌+◌, List, [], ◌∷◌, ◌++◌, Option, Some, None, ap, sym, refl, subst, inl, inr, take}
 use Rattle.std.specs.Prelude.{false, Result, Ok, Err, IfNone, IfSome}
 use Rattle.std.specs.List.{AllByRecursion}
 use Rattle.far_word.specs.declared.pointer.Place.{Place}
@@ -29,12 +29,9 @@ use Rattle.far_evac.specs.Walk.{Drops, Goes, Moves, Walked, Way, dealt_as, left,
 use Rattle.far_evac.proofs.Bools.{neither}
 use Rattle.far_evac.proofs.Evacuations.{deals_more}
 use Rattle.far_evac.proofs.SmallSteps.{drop_next, walks_left}
-use Rattle.far_evac.proofs.LiveOnce.{all_front}
+use Rattle.far_evac.proofs.LiveOnce.{all_front, one_more}
 
--- ---- lists
-one_more : (n : ℕ) → suc n ≡ n + 1
-one_more n = omega arith
-
+-- ---- one object more
 -- the object that a walk deals with next is the one behind those that it has dealt with
 pub first_more : (m : Moment) (k : ℕ) (w : Walked) (p : ℕ) (rest : List ℕ) → Ready m.core m.collection → WalksTo m k w → left w ≡ p ∷ rest → first_live m (k + 1) ≡ first_live m k ++ (p ∷ [])
 first_more m k w p rest ready walks is =

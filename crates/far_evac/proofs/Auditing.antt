@@ -1,7 +1,7 @@
 -- How a census grows, pointer by pointer.
 use Rattle.std.proofs.Common.{◌≡◌, ℕ, zero, suc, ◌+◌, ◌≤◌, Bool, true, false, Option, Some, None, List, [], ◌∷◌, ◌++◌, arith, ap, sym, refl, ◌∙◌, subst}
 use Rattle.std.specs.List.{flat_map, range_with_len}
-use Rattle.std.proofs.lemmas.List.{append-nil}
+use Rattle.std.proofs.lemmas.List.{append-nil, append_assoc}
 use Rattle.far_word.specs.declared.pointer.PtrWord.{PtrWord}
 use Rattle.far_word.specs.declared.pointer.PtrWord.TheVariants.{Free, Near, Far}
 use Rattle.far_word.specs.Pointer.{read_of}
@@ -52,10 +52,7 @@ module _ (f : ℕ → List Housed) where
   more_from a zero = let same : a + 0 ≡ a = omega arith in append-nil (f a) ∙ ap f (sym same)
   more_from a (suc n) =
       let same : a + 1 + n ≡ a + suc n = omega arith in
-      ap (λ xs. f a ++ xs) (more_from (a + 1) n) ∙ joined (f a) (flat_map f (range_with_len (a + 1) n)) (f (a + 1 + n)) ∙ ap (λ k. (f a ++ flat_map f (range_with_len (a + 1) n)) ++ f k) same where
-        joined : (xs ys zs : List Housed) → xs ++ (ys ++ zs) ≡ (xs ++ ys) ++ zs
-        joined [] ys zs = refl
-        joined (x ∷ xs) ys zs = ap (λ ws. x ∷ ws) (joined xs ys zs)
+      ap (λ xs. f a ++ xs) (more_from (a + 1) n) ∙ sym (append_assoc (f a) (flat_map f (range_with_len (a + 1) n)) (f (a + 1 + n))) ∙ ap (λ k. (f a ++ flat_map f (range_with_len (a + 1) n)) ++ f k) same
 
 module _ (cell : ℕ → ℕ) (p word : ℕ) where
   same_from : (a n : ℕ) → a + n ≤ p → flat_map (λ q. housed_in q (read_of (put cell p word q))) (range_with_len a n) ≡ flat_map (λ q. housed_in q (read_of (cell q))) (range_with_len a n)

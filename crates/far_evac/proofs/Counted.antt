@@ -1,8 +1,9 @@
 -- What marking counts, where it goes on, and where the epoch rises.
 use Rattle.std.proofs.Common.{◌≡◌, ◌≢◌, ℕ, zero, suc, ◌+◌, ◌^◌, ◌<◌, ◌≤◌, Bool, true, false, cond, not, eqb, Some, None, List, [], ◌∷◌, length, take, drop, filter, arith, ap, sym, refl, ◌∙◌, subst}
+use Rattle.std.proofs.lemmas.List.{drop_all, drop_min, length-take, length-take-le}
 use Rattle.std.specs.Prelude.{Contains}
 use Rattle.std.specs.List.{AllByRecursion, IsDistinct}
-use Rattle.std.proofs.lemmas.Bool.{cond_both, ne_eqb, false≢true}
+use Rattle.std.proofs.lemmas.Bool.{cond_both, ne_eqb, not-true}
 use Rattle.std.proofs.lemmas.Bool.Decides.{nat_tests}
 use Rattle.far_word.specs.Pointer.{read_of}
 use Rattle.far_log.proofs.Members.{here, there}
@@ -38,31 +39,10 @@ once_take zero xs once = tt
 once_take (suc n) [] once = tt
 once_take (suc n) (x ∷ xs) once = (all_take (λ q. q ≢ x) n xs once.0, once_take n xs once.1)
 
-take_most : (n : ℕ) (xs : List ℕ) → length (take n xs) ≤ n
-take_most zero xs = omega arith
-take_most (suc n) [] = omega arith
-take_most (suc n) (x ∷ xs) = let h = take_most n xs in omega (arith, h)
-
-take_every : (n : ℕ) (xs : List ℕ) → n < length xs → length (take n xs) ≡ n
-take_every zero xs lt = refl
-take_every (suc n) [] lt = absurd (omega (arith, lt))
-take_every (suc n) (x ∷ xs) lt = let h = take_every n xs (omega (arith, lt)) in omega (arith, h)
-
-drop_taken : (n : ℕ) (xs : List ℕ) → drop n xs ≡ drop (length (take n xs)) xs
-drop_taken zero xs = refl
-drop_taken (suc n) [] = refl
-drop_taken (suc n) (x ∷ xs) = drop_taken n xs
-
 some_dropped : (n : ℕ) (xs : List ℕ) → n < length xs → is_empty (drop n xs) ≡ false
 some_dropped n [] lt = absurd (omega (arith, lt))
 some_dropped zero (x ∷ xs) lt = refl
 some_dropped (suc n) (x ∷ xs) lt = some_dropped n xs (omega (arith, lt))
-
-all_dropped : (n : ℕ) (xs : List ℕ) → length xs ≤ n → drop n xs ≡ []
-all_dropped zero [] le = refl
-all_dropped (suc n) [] le = refl
-all_dropped zero (x ∷ xs) le = absurd (omega (arith, le))
-all_dropped (suc n) (x ∷ xs) le = all_dropped n xs (omega (arith, le))
 
 -- ---- an answer
 goes_of : (some : Bool) (epoch : ℕ) → cond some None (Some epoch) ≡ None → some ≡ true
@@ -72,10 +52,6 @@ goes_of false epoch e = absurd cc
 waits_of : (some : Bool) (next epoch : ℕ) → cond some None (Some next) ≡ Some epoch → (some ≡ false) × (epoch ≡ next)
 waits_of true next epoch e = absurd cc
 waits_of false next epoch e = (refl, cc)
-
-bare_of : (b : Bool) → not b ≡ true → b ≡ false
-bare_of true h = absurd (false≢true h)
-bare_of false h = refl
 
 -- ---- once the epoch has risen the same objects lack it
 risen_lacks : (s : State) (held logs : List ℕ) → lacking (advanced s held) logs ≡ lacking s logs
@@ -125,21 +101,21 @@ module _ (m : Moment) (n : ℕ) (fits : (p : ℕ) → m.core.cell p < 2 ^ 64) (o
 
   is_counted : IsCounted m t n
   is_counted = record {
-    bare = each_map (λ p h. bare_of (has_evac (read_of (m.core.cell p))) h) (newly_marked m n)
+    bare = each_map (λ p h. not-true (has_evac (read_of (m.core.cell p))) h) (newly_marked m n)
         (all_take (λ p. not (has_evac (read_of (m.core.cell p))) ≡ true) n all (all_pass (λ p. not (has_evac (read_of (m.core.cell p)))) (live_among m.core m.collection)));
     live = all_take (λ p. Contains (live_among m.core m.collection) p) n all
         (all_filter (λ p. Contains (live_among m.core m.collection) p) (λ p. not (has_evac (read_of (m.core.cell p)))) (live_among m.core m.collection) (each_member (live_among m.core m.collection)));
     once = distinct_of (newly_marked m n) (once_take n all (once_filter (λ p. not (has_evac (read_of (m.core.cell p)))) (live_among m.core m.collection) (once_among m.core m.collection once)));
-    most = take_most n all;
-    left = left_now ∙ drop_taken n all;
+    most = (let long = length-take n all in omega (arith, long));
+    left = left_now ∙ sym (drop_min n all) ∙ ap (λ k. drop k all) (sym (length-take n all));
     goes_on = λ e.
         let some = goes_of (leaves_some m n) next e in
         let lt : n < length all = grind (arith, nat_tests, some) in
-        (take_every n all lt, ap is_empty left_now ∙ some_dropped n all lt, goes_so (is_goes some));
+        (length-take-le n all (omega (arith, lt)), ap is_empty left_now ∙ some_dropped n all lt, goes_so (is_goes some));
     waits = λ epoch e.
         let found = waits_of (leaves_some m n) next epoch e in
         let le : length all ≤ n = (let none = found.0 in grind (arith, nat_tests, none)) in
-        (found.1, left_now ∙ all_dropped n all le, subst (λ x. t ≡ risen x t.core.cell) (sym found.1) (rises_so (is_rises found.0)));
+        (found.1, left_now ∙ drop_all n all le, subst (λ x. t ≡ risen x t.core.cell) (sym found.1) (rises_so (is_rises found.0)));
   }
 
 pub marking_is_counted : MarkingIsCounted

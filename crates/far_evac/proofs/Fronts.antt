@@ -1,7 +1,7 @@
 -- The log in front of a walk: what is found in it from where the walk stands, and that it may be given back.
 use Rattle.std.proofs.Common.{◌≡◌, ℕ, ◌+◌, ◌≤◌, Bool, true, false, ◌&&◌, nat_le, Some, List, [], ◌∷◌, filter, inl, inr, arith, ap, sym, refl, ◌∙◌, subst}
 use Rattle.std.specs.Prelude.{Contains}
-use Rattle.std.proofs.lemmas.Bool.{cond_both, true≢false, false≢true}
+use Rattle.std.proofs.lemmas.Bool.{cond_both, true≢false, and_parts}
 use Rattle.std.proofs.lemmas.Bool.Decides.{nat_tests}
 use mathlib.Core.Path.{fun_ext}
 use Rattle.far_word.specs.declared.mark.Marks.{Marks}
@@ -31,10 +31,6 @@ use Rattle.far_evac.proofs.LiveOnce.{near_at}
 and_is : (a b : Bool) → (a ≡ true → b ≡ true) → (a && b) ≡ a
 and_is true b h = h refl
 and_is false b h = refl
-
-and_both : (a b : Bool) → (a && b) ≡ true → (a ≡ true) × (b ≡ true)
-and_both true b h = (refl, h)
-and_both false b h = absurd (false≢true h)
 
 pub kept_in : {X : Type 0} (f : X → Bool) (x : X) (xs : List X) → f x ≡ true → Contains xs x → Contains (filter f xs) x
 kept_in f x [] is member = absurd (none_in x member)
@@ -103,7 +99,7 @@ module _ (s : State) (law : Law (own_part s)) (l at : ℕ) (lies : LiesFrom s l 
     behind : (x : Span) → Contains (live_from s l (span.at + size_of span.len)) x → span.at ≤ x.at
     behind x member =
         let kept = was_kept (λ (y : Span). is_live s l y && nat_le (span.at + size_of span.len) y.at) x (spans_of s l) member in
-        let le : nat_le (span.at + size_of span.len) x.at ≡ true = (and_both (is_live s l x) (nat_le (span.at + size_of span.len) x.at) kept.0).1 in
+        let le : nat_le (span.at + size_of span.len) x.at ≡ true = (and_parts (is_live s l x) (nat_le (span.at + size_of span.len) x.at) kept.0).1 in
         grind (arith, nat_tests, le)
 
     pub first_lies : LiesFrom s l span.at

@@ -1,5 +1,5 @@
 -- Which logs a walk gives back: those in front, which leave the round.
-use Rattle.std.proofs.Common.{◌≡◌, ℕ, suc, ◌+◌, ◌≤◌, false, List, [], ◌∷◌, length, take, drop, arith, ap, sym, refl, ◌∙◌, subst}
+use Rattle.std.proofs.Common.{◌≡◌, ℕ, ◌≤◌, false, List, [], ◌∷◌, length, take, drop, arith, ap, sym, refl, ◌∙◌, subst}
 use Rattle.std.specs.List.{AllByRecursion}
 use Rattle.far_core.specs.state.State.{State}
 use Rattle.far_core.proofs.Put.{put_both, put_same}
@@ -9,16 +9,13 @@ use Rattle.far_evac.specs.Moment.{Moment}
 use Rattle.far_evac.specs.Ready.{Ready}
 use Rattle.far_evac.specs.Walk.{Walked, freed}
 use Rattle.far_evac.proofs.Framed.{so_one}
-use Rattle.far_evac.proofs.LiveOnce.{all_append, each_map}
+use Rattle.far_evac.proofs.LiveOnce.{all_append, each_map, one_more}
 use Rattle.far_evac.proofs.SmallSteps.{Keeps, drop_next, holding, lifted_walks}
 
 record Given (all : List ℕ) (w : Walked) : Type 0 where
   held : w.moment.collection ≡ drop w.tally.freed all
   most : w.tally.freed ≤ length all
   gone : AllByRecursion (λ l. w.moment.core.round l ≡ false) (take w.tally.freed all)
-
-one_more : (n : ℕ) → suc n ≡ n + 1
-one_more n = omega arith
 
 next_given : (all : List ℕ) (w : Walked) (l : ℕ) (ls : List ℕ) → Given all (holding w (l ∷ ls)) → Given all (holding (freed w l) ls)
 next_given all w l ls g =

@@ -1,6 +1,6 @@
 -- What giving the log in front back leaves of the round.
 use Rattle.std.proofs.Common.{◌≡◌, ◌≢◌, ℕ, suc, ◌+◌, ◌-◌, ◌<◌, ◌≤◌, ◌||◌, true, false, List, [], ◌∷◌, length, drop, eqb, inl, inr, arith, ap, sym, refl, ◌∙◌, subst}
-use Rattle.std.specs.List.{AllByRecursion, IsDistinct}
+use Rattle.std.specs.List.{IsDistinct}
 use Rattle.std.proofs.Math.ListN.{drop_of_length-le}
 use Rattle.std.proofs.lemmas.Bool.{cases_eq, ne_eqb, false≢true}
 use Rattle.std.proofs.lemmas.List.{length-drop}
@@ -23,18 +23,11 @@ use Rattle.far_evac.specs.RoundSteps.{among}
 use Rattle.far_evac.specs.Standing.{InRound, collection_in, collection_of}
 use Rattle.far_evac.proofs.SmallSteps.{drop_next}
 use Rattle.far_evac.proofs.Hands.{knows_forgotten}
+use Rattle.far_evac.proofs.LiveOnce.{member_each}
 use Rattle.far_evac.proofs.Standings.{idle_round}
 use Rattle.far_evac.proofs.Tours.{others}
 use Rattle.far_evac.proofs.Walking.{drops_front}
 use Rattle.far_evac.proofs.Bools.{or_right}
-
--- what is true of each is so of a member
-member_each : (P : ℕ → Type 0) (ls : List ℕ) → AllByRecursion P ls → (k : ℕ) → among ls k ≡ true → P k
-member_each P [] all k h = absurd (false≢true h)
-member_each P (x ∷ xs) all k h = elim (cases_eq k x) [
-  | inl e ↦ subst P (sym e) all.0
-  | inr other ↦ member_each P xs all.1 k (sym (ap (λ b. b || among xs k) (ne_eqb k x other)) ∙ h)
-]
 
 not_marking : (phase : Phase) → phase ≡ Evacuating → phase ≡ Marking → ⊥
 not_marking phase walks marks = let odd : Evacuating ≡ Marking = sym walks ∙ marks in absurd cc

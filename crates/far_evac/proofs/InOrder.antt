@@ -1,5 +1,6 @@
 -- Dealings are in order: all together.
-use Rattle.std.proofs.Common.{◌≡◌, ℕ, true, List, [], ◌∷◌, ◌++◌, length, drop, ap, sym, refl, ◌∙◌}
+use Rattle.std.proofs.Common.{◌≡◌, ℕ, true, List, [], ◌∷◌, ◌++◌, drop, ap, sym, refl, ◌∙◌}
+use Rattle.std.proofs.Math.Seq.{drop-length}
 use Rattle.std.proofs.lemmas.Bool.{false≢true}
 use Rattle.far_core.specs.state.State.{State}
 use Rattle.far_evac.specs.AnyHand.{WalksTo}
@@ -12,10 +13,6 @@ use Rattle.far_evac.specs.Walk.{Walked}
 use Rattle.far_evac.proofs.Given.{gives_back}
 use Rattle.far_evac.proofs.SmallSteps.{tallies_all, walks_left}
 use Rattle.far_evac.proofs.Subjects.{deals_with}
-
-none_dropped : (xs : List ℕ) → drop (length xs) xs ≡ []
-none_dropped [] = refl
-none_dropped (x ∷ xs) = none_dropped xs
 
 begun_live : (s : State) (held : List ℕ) → BeginsLive s held → live_among s held ≡ [] → is_empty held ≡ true
 begun_live s [] begins none = refl
@@ -32,7 +29,7 @@ in_order m k t ready walks =
       deals = deals_with m k t ready walks;
       counted = tallies_all m k t walks;
       begins = h.begins;
-      done = λ e. begun_live t.moment.core t.moment.collection h.begins (h.left ∙ ap (λ n. drop n (live_among m.core m.collection)) e ∙ none_dropped (live_among m.core m.collection));
+      done = λ e. begun_live t.moment.core t.moment.collection h.begins (h.left ∙ ap (λ n. drop n (live_among m.core m.collection)) e ∙ drop-length (live_among m.core m.collection));
       gives = gives_back m k t ready walks;
       ready = h.ready;
     }

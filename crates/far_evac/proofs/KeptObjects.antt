@@ -1,5 +1,5 @@
 -- What steps of a round leave of what owners have.
-use Rattle.std.proofs.Common.{◌≡◌, ◌≢◌, ℕ, ◌*◌, ◌^◌, ◌<◌, Bool, true, false, cond, Option, Some, None, inl, inr, ap, sym, refl, ◌∙◌, subst}
+use Rattle.std.proofs.Common.{◌≡◌, ◌≢◌, ℕ, ◌*◌, ◌^◌, ◌<◌, true, false, cond, Option, Some, None, inl, inr, ap, sym, refl, ◌∙◌, subst}
 use Rattle.std.specs.Prelude.{◌↔◌}
 use Rattle.std.proofs.lemmas.Bool.{cases_eq, false≢true}
 use Rattle.far_word.specs.declared.mark.Marks.{Marks}
@@ -30,21 +30,34 @@ use Rattle.far_evac.proofs.Leading.{not_zero}
 use Rattle.far_evac.proofs.Framed.{framed, so_one}
 use Rattle.far_evac.specs.Walk.{Goes, Moves}
 
--- ---- steps after each other
-pub objects_none : (s : State) → KeepsObjects s s
-objects_none s = record {
-  mutators = refl;
-  logs = refl;
-  honest = refl;
-  scope = refl;
-  remembered = refl;
-  used = refl;
-  held = refl;
-  object = λ p. refl;
-  alive = λ p h. h;
-  free = λ p h. (λ e. e, λ e. e);
+-- ---- a step that leaves what owners change
+abbrev whole : State → State → State
+whole s t = record t { mutators = s.mutators; logs = s.logs; honest = s.honest; scope = s.scope; remembered = s.remembered; used = s.used; held = s.held }
+
+objects_kept : (s t u : State) → t ≡ whole s u → ((p : ℕ) → anywhere ((world_of t).object p) ≡ anywhere ((world_of s).object p)) →
+    ((p : ℕ) → is_dropped (read_of (s.cell p)) ≡ false → (is_dropped (read_of (t.cell p)) ≡ false) × ((t.cell p ≡ 0) ↔ (s.cell p ≡ 0))) → KeepsObjects s t
+objects_kept s t u rest object cells = record {
+  mutators = ap (λ (v : State). v.mutators) rest;
+  logs = ap (λ (v : State). v.logs) rest;
+  honest = ap (λ (v : State). v.honest) rest;
+  scope = ap (λ (v : State). v.scope) rest;
+  remembered = ap (λ (v : State). v.remembered) rest;
+  used = ap (λ (v : State). v.used) rest;
+  held = ap (λ (v : State). v.held) rest;
+  object = object;
+  alive = λ p h. (cells p h).0;
+  free = λ p h. (cells p h).1;
 }
 
+-- and the objects
+objects_same : (s t u : State) → t ≡ record (whole s u) { cell = s.cell; word = s.word; stored = s.stored } → KeepsObjects s t
+unfolding world_of
+objects_same s t u rest = subst (KeepsObjects s) (sym rest) (objects_kept s (record (whole s u) { cell = s.cell; word = s.word; stored = s.stored }) (record u { cell = s.cell; word = s.word; stored = s.stored }) refl (λ p. refl) (λ p h. (h, (λ e. e, λ e. e))))
+
+pub objects_none : (s : State) → KeepsObjects s s
+objects_none s = objects_same s s s refl
+
+-- ---- steps after each other
 pub objects_more : (s t u : State) → KeepsObjects s t → KeepsObjects t u → KeepsObjects s u
 objects_more s t u a b = record {
   mutators = b.mutators ∙ a.mutators;
@@ -61,19 +74,7 @@ objects_more s t u a b = record {
 
 -- ---- a log is given back
 pub released_objects : (s : State) (l : ℕ) → KeepsObjects s (released s l)
-unfolding world_of
-released_objects s l = record {
-  mutators = refl;
-  logs = refl;
-  honest = refl;
-  scope = refl;
-  remembered = refl;
-  used = refl;
-  held = refl;
-  object = λ p. refl;
-  alive = λ p h. h;
-  free = λ p h. (λ e. e, λ e. e);
-}
+released_objects s l = objects_same s (released s l) (released s l) refl
 
 -- ---- a dropped object is retired: it was none already
 no_object : (word stored : ℕ → ℕ) (p : ℕ) (o : Option PtrWord) → is_dropped o ≡ true → object_of word stored p o ≡ None
@@ -84,20 +85,11 @@ no_object word stored p (Some (Far len ds m)) h = ap (λ b. cond b None (object_
 
 pub freed_objects : (s : State) (p : ℕ) → is_dropped (read_of (s.cell p)) ≡ true → KeepsObjects s (with_free_cell s p)
 unfolding world_of
-freed_objects s p dropped = record {
-  mutators = refl;
-  logs = refl;
-  honest = refl;
-  scope = refl;
-  remembered = refl;
-  used = refl;
-  held = refl;
-  object = λ q. put_both (λ w. anywhere (object_of s.word (s.stored q) q (read_of w)) ≡ anywhere (object_of s.word (s.stored q) q (read_of (s.cell q)))) s.cell p 0 q
-      (λ e. ap (λ o. anywhere (object_of s.word (s.stored q) q o)) unused ∙ sym (ap anywhere (no_object s.word (s.stored q) q (read_of (s.cell q)) (ap (λ x. is_dropped (read_of (s.cell x))) e ∙ dropped)))) (λ _. refl);
-  alive = λ q h. put_both (λ w. is_dropped (read_of w) ≡ false) s.cell p 0 q (λ _. ap is_dropped unused) (λ _. h);
-  free = λ q h. put_both (λ w. (w ≡ 0) ↔ (s.cell q ≡ 0)) s.cell p 0 q
-      (λ e. absurd (false≢true (sym h ∙ ap (λ x. is_dropped (read_of (s.cell x))) e ∙ dropped))) (λ _. (λ e. e, λ e. e));
-}
+freed_objects s p dropped = objects_kept s (with_free_cell s p) (with_free_cell s p) refl
+    (λ q. put_both (λ w. anywhere (object_of s.word (s.stored q) q (read_of w)) ≡ anywhere (object_of s.word (s.stored q) q (read_of (s.cell q)))) s.cell p 0 q
+    (λ e. ap (λ o. anywhere (object_of s.word (s.stored q) q o)) unused ∙ sym (ap anywhere (no_object s.word (s.stored q) q (read_of (s.cell q)) (ap (λ x. is_dropped (read_of (s.cell x))) e ∙ dropped)))) (λ _. refl))
+    (λ q h. put_both (λ w. (is_dropped (read_of w) ≡ false) × ((w ≡ 0) ↔ (s.cell q ≡ 0))) s.cell p 0 q
+    (λ e. absurd (false≢true (sym h ∙ ap (λ x. is_dropped (read_of (s.cell x))) e ∙ dropped))) (λ _. (h, (λ e. e, λ e. e))))
 
 -- ---- one object goes elsewhere
 module _ (s t : State) (p : ℕ) (near : (q : ℕ) → q ≢ p → t.cell q ≡ s.cell q) (alive : is_dropped (read_of (t.cell p)) ≡ false) (was : s.cell p ≢ 0) (is : t.cell p ≢ 0) (o : Object) (home : Home)
@@ -119,18 +111,7 @@ module _ (s t : State) (p : ℕ) (near : (q : ℕ) → q ≢ p → t.cell q ≡ 
   free_gone q = cell_by q (λ w. (w ≡ 0) ↔ (s.cell q ≡ 0)) (λ e. (λ z. absurd (is z), λ z. absurd (was (ap s.cell (sym e) ∙ z)))) (λ _. (λ z. z, λ z. z))
 
   pub object_elsewhere : t ≡ framed s t → KeepsObjects s t
-  object_elsewhere rest = record {
-    mutators = ap (λ (u : State). u.mutators) rest;
-    logs = ap (λ (u : State). u.logs) rest;
-    honest = ap (λ (u : State). u.honest) rest;
-    scope = ap (λ (u : State). u.scope) rest;
-    remembered = ap (λ (u : State). u.remembered) rest;
-    used = ap (λ (u : State). u.used) rest;
-    held = ap (λ (u : State). u.held) rest;
-    object = object_gone;
-    alive = alive_gone;
-    free = λ q h. free_gone q;
-  }
+  object_elsewhere rest = objects_kept s t (framed s t) rest object_gone (λ q h. (alive_gone q h, free_gone q))
 
 pub moved_objects : (s : State) (p len ds : ℕ) (from to : Place) (m : Marks) → Law s → read_of (s.cell p) ≡ Some (Near len ds from m) → is_quiet s.round s.clear p from m ≡ true →
     m.dropped ≡ false → m.evac ≡ true → room s (size_of len) false ≡ Some to → KeepsObjects s (moved s p to)
@@ -182,35 +163,11 @@ zero_too v w fits same e =
 pub evac_objects : (s t : State) → t ≡ record s { cell = t.cell; epoch = t.epoch; round = t.round; round_epoch = t.round_epoch; clear = t.clear } →
     ((p : ℕ) → s.cell p < 2 ^ 64) → ((p : ℕ) → t.cell p < 2 ^ 64) → ((p : ℕ) → but_evac (read_of (t.cell p)) ≡ but_evac (read_of (s.cell p))) → KeepsObjects s t
 unfolding world_of
-evac_objects s t rest fits then same = record {
-  mutators = ap (λ (u : State). u.mutators) rest;
-  logs = ap (λ (u : State). u.logs) rest;
-  honest = ap (λ (u : State). u.honest) rest;
-  scope = ap (λ (u : State). u.scope) rest;
-  remembered = ap (λ (u : State). u.remembered) rest;
-  used = ap (λ (u : State). u.used) rest;
-  held = ap (λ (u : State). u.held) rest;
-  object = λ p. ap anywhere (ap (λ (u : State). object_of u.word (u.stored p) p (read_of (t.cell p))) rest
-      ∙ same_object s.word (s.stored p) p (read_of (t.cell p)) ∙ ap (object_of s.word (s.stored p) p) (same p) ∙ sym (same_object s.word (s.stored p) p (read_of (s.cell p))));
-  alive = λ p h. same_drop (read_of (t.cell p)) ∙ ap is_dropped (same p) ∙ sym (same_drop (read_of (s.cell p))) ∙ h;
-  free = λ p h. (zero_too (t.cell p) (s.cell p) (fits p) (sym (same p)), zero_too (s.cell p) (t.cell p) (then p) (same p));
-}
+evac_objects s t rest fits then same = objects_kept s t (record s { cell = t.cell; epoch = t.epoch; round = t.round; round_epoch = t.round_epoch; clear = t.clear }) rest
+    (λ p. ap anywhere (ap (λ (u : State). object_of u.word (u.stored p) p (read_of (t.cell p))) rest
+    ∙ same_object s.word (s.stored p) p (read_of (t.cell p)) ∙ ap (object_of s.word (s.stored p) p) (same p) ∙ sym (same_object s.word (s.stored p) p (read_of (s.cell p)))))
+    (λ p h. (same_drop (read_of (t.cell p)) ∙ ap is_dropped (same p) ∙ sym (same_drop (read_of (s.cell p))) ∙ h, (zero_too (t.cell p) (s.cell p) (fits p) (sym (same p)), zero_too (s.cell p) (t.cell p) (then p) (same p))))
 
 -- the round alone has changed
-with_round : (s : State) (epoch : ℕ) (round : ℕ → Bool) (round_epoch : ℕ) (clear : ℕ → Bool) → KeepsObjects s (record s { epoch = epoch; round = round; round_epoch = round_epoch; clear = clear })
-unfolding world_of
-with_round s epoch round round_epoch clear = record {
-  mutators = refl;
-  logs = refl;
-  honest = refl;
-  scope = refl;
-  remembered = refl;
-  used = refl;
-  held = refl;
-  object = λ p. refl;
-  alive = λ p h. h;
-  free = λ p h. (λ e. e, λ e. e);
-}
-
 pub round_objects : (s t : State) → t ≡ record s { epoch = t.epoch; round = t.round; round_epoch = t.round_epoch; clear = t.clear } → KeepsObjects s t
-round_objects s t rest = subst (KeepsObjects s) (sym rest) (with_round s t.epoch t.round t.round_epoch t.clear)
+round_objects s t rest = objects_same s t (record s { epoch = t.epoch; round = t.round; round_epoch = t.round_epoch; clear = t.clear }) rest

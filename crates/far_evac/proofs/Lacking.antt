@@ -1,10 +1,11 @@
 -- The objects that lack EVAC: once the first of them has it, the others are left.
 use Rattle.std.proofs.Common.{◌≡◌, ◌≢◌, ℕ, zero, suc, ◌+◌, ◌^◌, ◌<◌, ◌≤◌, Bool, true, false, cond, not, ◌&&◌, ◌==◌, eqb, nat_le, nat_lt, Option, Some, None, List, [], ◌∷◌, ◌++◌, filter, take, drop, inl, inr, bit_or, arith, ap, sym, refl, ◌∙◌, subst}
-use Rattle.std.specs.Prelude.{⊤, ◌⊎◌, Contains, fold}
+use Rattle.std.proofs.Math.Bool.{and-false, and-true}
+use Rattle.std.specs.Prelude.{⊤, Contains, fold}
 use Rattle.std.proofs.lemmas.List.{append_assoc, take-append-drop}
 use Rattle.std.proofs.lemmas.List.Sums.{fold-append}
 use Rattle.std.specs.List.{AllByRecursion, IsDistinct}
-use Rattle.std.proofs.lemmas.Bool.{cond_both, eq-eqb, eqb-true, true≢false, false≢true}
+use Rattle.std.proofs.lemmas.Bool.{cond_both, eq-eqb, eqb-true, true≢false, false≢true, cases_Bool}
 use Rattle.std.proofs.lemmas.List.Elements.{filter-append}
 use mathlib.Core.Path.{fun_ext}
 use Rattle.far_word.specs.declared.mark.Mark.TheVariants.{Evac}
@@ -73,10 +74,6 @@ in_pointers x (y ∷ ys) member = elim (split x y ys member) [
   | inr more ↦ there x.p y.p (pointers_of ys) (in_pointers x ys more)
 ]
 
-cases_bool : (b : Bool) → (b ≡ true) ⊎ (b ≡ false)
-cases_bool true = inl refl
-cases_bool false = inr refl
-
 taken_all : (k : ℕ) (xs : List ℕ) → drop k xs ≡ [] → take (suc k) xs ≡ take k xs
 taken_all zero [] e = refl
 taken_all zero (x ∷ xs) e = absurd cc
@@ -94,6 +91,10 @@ both_tests f g x xs false b e = refl
 filter_both : (f g : ℕ → Bool) (xs : List ℕ) → filter (λ q. f q && g q) xs ≡ filter g (filter f xs)
 filter_both f g [] = refl
 filter_both f g (x ∷ xs) = ap (λ ys. cond (f x && g x) (x ∷ ys) ys) (filter_both f g xs) ∙ sym (both_tests f g x (filter f xs) (f x) (g x) refl)
+
+pub among_append : (s : State) (us vs : List ℕ) → live_among s (us ++ vs) ≡ live_among s us ++ live_among s vs
+among_append s [] vs = refl
+among_append s (u ∷ us) vs = ap (λ zs. live_in s u ++ zs) (among_append s us vs) ∙ sym (append_assoc (live_in s u) (live_among s us) (live_among s vs))
 
 -- ---- a list in which each is once
 abbrev pub Once : List ℕ → Type 0
@@ -194,17 +195,9 @@ lacking_known s t known ls =
     ∙ ap (λ test. filter test (live_among s ls)) (fun_ext (λ q. ap not (has_body (read_of (t.cell q)) ∙ ap has_evac (known.found q).body ∙ sym (has_body (read_of (s.cell q))))))
 
 -- ---- one more has EVAC
-and_no : (b : Bool) → (b && false) ≡ false
-and_no true = refl
-and_no false = refl
-
-and_yes : (b : Bool) → (b && true) ≡ b
-and_yes true = refl
-and_yes false = refl
-
 lacks_cond : (b : Bool) (old new : ℕ) → has_evac (read_of new) ≡ true → not (has_evac (read_of (cond b new old))) ≡ (not (has_evac (read_of old)) && not b)
-lacks_cond true old new has = ap not has ∙ sym (and_no (not (has_evac (read_of old))))
-lacks_cond false old new has = sym (and_yes (not (has_evac (read_of old))))
+lacks_cond true old new has = ap not has ∙ sym (and-false (not (has_evac (read_of old))))
+lacks_cond false old new has = sym (and-true (not (has_evac (read_of old))))
 
 lacks_marked : (s : State) (p : ℕ) → IsNearWord (s.cell p) → (ls : List ℕ) → lacking (marked s p) ls ≡ but p (lacking s ls)
 lacks_marked s p near ls =
@@ -289,10 +282,7 @@ module _ (s : State) where
   none_lack ls each = filter_none (lacks s) (live_among s ls) (all_bare_not ls each)
 
   lacking_append : (xs ys : List ℕ) → lacking s (xs ++ ys) ≡ lacking s xs ++ lacking s ys
-  lacking_append xs ys = ap (filter (lacks s)) (among_append xs ys) ∙ filter-append (lacks s) (live_among s xs) (live_among s ys) where
-    among_append : (us vs : List ℕ) → live_among s (us ++ vs) ≡ live_among s us ++ live_among s vs
-    among_append [] vs = refl
-    among_append (u ∷ us) vs = ap (λ zs. live_in s u ++ zs) (among_append us vs) ∙ sym (append_assoc (live_in s u) (live_among s us) (live_among s vs))
+  lacking_append xs ys = ap (filter (lacks s)) (among_append s xs ys) ∙ filter-append (lacks s) (live_among s xs) (live_among s ys)
 
 -- the first that lacks it, where all that lie before in the log have it
 module _ (s : State) (l : ℕ) (span : Span) (before : (x : Span) → is_live s l x ≡ true → x.at < span.at → lacks s x.p ≡ false) (live : is_live s l span ≡ true) (bare : lacks s span.p ≡ true) where
@@ -369,7 +359,7 @@ module _ (s : State) (law : Law (own_part s)) where
   ]
 
   pub each_has : (ls : List ℕ) → lacking s ls ≡ [] → MarkedAmong s ls
-  each_has ls none p len ds place m near member = elim (cases_bool m.evac) [
+  each_has ls none p len ds place m near member = elim (cases_Bool m.evac) [
     | inl has ↦ has
     | inr lacking_it ↦ (
         let bare : lacks s p ≡ true = ap (λ o. not (has_evac o)) near ∙ ap not lacking_it in

@@ -1,10 +1,9 @@
 -- Each call of a round leads by legal events, and keeps the laws.
-use Rattle.std.proofs.Common.{◌≡◌, ◌≢◌, ℕ, zero, suc, ◌+◌, ◌*◌, ◌<◌, ◌≤◌, ◌||◌, Bool, true, false, nat_lt, eqb, Option, Some, None, List, [], ◌∷◌, inl, inr, arith, ap, sym, refl, ◌∙◌, subst}
+use Rattle.std.proofs.Common.{◌≡◌, ◌≢◌, ℕ, zero, suc, ◌+◌, ◌*◌, ◌<◌, ◌≤◌, ◌||◌, Bool, true, false, nat_lt, eqb, Option, Some, None, List, [], ◌∷◌, arith, ap, sym, refl, ◌∙◌, subst}
 use Rattle.std.specs.Prelude.{fold}
-use Rattle.std.specs.List.{AllByRecursion, find, range_with_len}
-use Rattle.std.proofs.lemmas.Bool.{cond_both, eq-eqb, false≢true, true≢false}
+use Rattle.std.specs.List.{AllByRecursion}
+use Rattle.std.proofs.lemmas.Bool.{eq-eqb, false≢true, true≢false}
 use Rattle.std.proofs.lemmas.Bool.Decides.{nat_tests}
-use Rattle.std.proofs.lemmas.Bool.{cases_lt}
 use Rattle.std.proofs.lemmas.List.Elements.{All-nil}
 use Rattle.far_word.specs.declared.mark.Marks.{Marks}
 use Rattle.far_word.specs.declared.pointer.Place.{Place}
@@ -43,7 +42,7 @@ use Rattle.far_evac.specs.Waiting.{first_open, holds_up, polled_to}
 use Rattle.far_evac.proofs.LiveOnce.{LivesIn, all_append, each_map, live_named, near_at}
 use Rattle.far_evac.proofs.Readiness.{looks_see}
 use Rattle.far_evac.proofs.Standings.{none_once}
-use Rattle.far_evac.proofs.Unviewed.{none_found}
+use Rattle.far_evac.proofs.Unviewed.{found_in, none_found}
 use Rattle.far_evac.proofs.Bools.{or_left, or_right}
 
 -- nothing was done
@@ -99,20 +98,6 @@ module _ (s : State) (law : Law s) where
   reached_looks (suc k) le =
       reached_more s (looks s k) (looks s (suc k)) (reached_looks k (omega (arith, le))) (reached_one (looks s k) (Look k) (subst (λ n. k < n) (sym (looks_mutators k)) (omega (arith, le))) tt tt)
 
--- the first that passes a test, and those before it
-first_found : (test : ℕ → Bool) (k a n : ℕ) → find test (range_with_len a n) ≡ Some k → (k < a + n) × ((m : ℕ) → a ≤ m → m < k → test m ≡ false)
-first_found test k a zero = λ e. absurd cc
-first_found test k a (suc n) = cond_both (test a) (Some a) (find test (range_with_len (a + 1) n)) (λ (o : Option ℕ). o ≡ Some k → (k < a + suc n) × ((m : ℕ) → a ≤ m → m < k → test m ≡ false))
-    (λ _ e. let same : a ≡ k = cc in (omega (arith, same), λ m from to. let odd : ⊥ = omega (arith, same, from, to) in absurd odd))
-    (λ here e.
-    let x = first_found test k (a + 1) n e in (
-      omega (arith, x.0),
-      λ m from to. elim (cases_lt a m) [
-        | inl past ↦ x.1 m (omega (arith, past)) to
-        | inr le ↦ let same : m ≡ a = omega (arith, from, le) in ap test same ∙ here
-      ],
-    ))
-
 module _ (m : Moment) (law : Law m.core) (moment : MomentLaw m) (waits : m.phase ≡ Waiting) where
   reached_clear : (k : ℕ) → k ≤ m.core.mutators → ((j : ℕ) → j < k → holds_up m.core j ≡ false) → Reached m.core (with_clear_below m.core k)
   reached_clear k le each = subst (Reached m.core) (looks_see m.core law.scopes.scope_read k each) (reached_looks m.core law k le)
@@ -143,8 +128,8 @@ module _ (m : Moment) (law : Law m.core) (moment : MomentLaw m) (waits : m.phase
   polled_leads None e =
       leads_by m.core.mutators Evacuating (omega arith) (λ j lt. none_found (holds_up m.core) j 0 m.core.mutators e (omega arith) (omega (arith, lt))) refl refl (λ _. refl)
   polled_leads (Some k) e =
-      let x = first_found (holds_up m.core) k 0 m.core.mutators e in
-      let there = leads_by k Waiting (omega (arith, x.0)) (λ j lt. x.1 j (omega arith) lt) refl refl (λ odd. absurd cc) in
+      let x = found_in (holds_up m.core) k 0 m.core.mutators e in
+      let there = leads_by k Waiting (omega (arith, x.1)) (λ j lt. x.2 j (omega arith) lt) refl refl (λ odd. absurd cc) in
       subst (Leads m) (λ i. record m { core = with_clear_below m.core k; phase = (sym waits) i }) there
 
 pub polling : PollingLeads

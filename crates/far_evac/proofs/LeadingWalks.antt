@@ -1,30 +1,24 @@
 -- A walk leads by legal events: each object that it deals with is moved, sent far or retired by one call's, and each log that it gives back by one.
 use Rattle.std.proofs.Common.{◌≡◌, ◌≢◌, ℕ, ◌*◌, ◌/◌, ◌<◌, ◌≤◌, ◌==◌, ◌||◌, ◌&&◌, Bool, true, false, cond, not, eqb, Option, Some, None, List, [], ◌∷◌, ◌++◌, length, inl, inr, arith, ap, sym, refl, ◌∙◌, subst}
-use Rattle.std.specs.Cmp.{nat_eq_equiv}
-use Rattle.std.specs.List.{AllByRecursion, IsDistinct}
-use Rattle.std.proofs.Math.Bool.{or-false}
-use Rattle.std.proofs.lemmas.Bool.{cases_eq, cond_both, eq-eqb, eqb-false, eqb-true, false≢true, ne_eqb}
-use Rattle.std.proofs.lemmas.List.Folds.{list_any-append}
-use Rattle.std.proofs.lemmas.Map.Keys.{IsDistinct-push}
+use Rattle.far_evac.proofs.StepsAside.{once_then, order_then}
+use Rattle.std.specs.List.{IsDistinct}
+use Rattle.std.proofs.lemmas.Bool.{cases_eq, cond_both, eq-eqb, eqb-true, false≢true, ne_eqb}
 use Rattle.std.proofs.lemmas.Map.Views.{any-filter_same}
 use Rattle.far_word.specs.declared.mark.Marks.{Marks}
 use Rattle.far_word.specs.declared.pointer.Place.{Place}
 use Rattle.far_word.specs.declared.pointer.PtrWord.TheVariants.{Near}
-use Rattle.far_word.specs.declared.sizes.TheConstants.{CELLS, LOG_WORDS}
+use Rattle.far_word.specs.declared.sizes.TheConstants.{CELLS}
 use Rattle.far_word.specs.Pointer.{read_of}
 use Rattle.far_word.specs.Sizes.{size_of}
 use Rattle.far_core.specs.declared.event.Event.TheVariants.{Get}
 use Rattle.far_core.specs.declared.event.Kind.TheVariants as kinds
 use Rattle.far_core.specs.events.Get.{IsVacant}
-use Rattle.far_core.specs.events.Legal.{IsNext}
 use Rattle.far_core.specs.events.Mark.{is_sealed}
 use Rattle.far_core.specs.events.Naming.{is_dropped}
-use Rattle.far_core.specs.laws.Rooms.{IsRoom, RoomIs}
 use Rattle.far_core.specs.state.Law.{Law}
 use Rattle.far_core.specs.state.Room.{room}
 use Rattle.far_core.specs.state.State.{State}
 use Rattle.far_core.proofs.Put.{put_other, put_same}
-use Rattle.far_core.proofs.RoomLaws.{room_right}
 use Rattle.far_hand.specs.Quiet.{is_quiet}
 use Rattle.far_book.specs.book.Effects.{moved, order_after}
 use Rattle.far_book.specs.book.Laws.{IsMoved}
@@ -38,7 +32,7 @@ use Rattle.far_book.proofs.region.Reaching.{reached_law, reached_more, reached_o
 use Rattle.far_book.proofs.region.Retires.{retired_is}
 use Rattle.far_book.proofs.region.SealedKept.{sealed_logs_stay}
 use Rattle.far_evac.specs.declared.phase.Phase.{Phase}
-use Rattle.far_evac.specs.declared.phase.Phase.TheVariants.{Evacuating, Idle}
+use Rattle.far_evac.specs.declared.phase.Phase.TheVariants.{Evacuating, Idle, Marking}
 use Rattle.far_evac.specs.Leaving.{order_by}
 use Rattle.far_evac.specs.Leading.{Leads, WalkingLeads}
 use Rattle.far_evac.specs.Live.{is_empty, live_among, live_in}
@@ -51,7 +45,7 @@ use Rattle.far_evac.specs.Walk.{Drops, Goes, Moves, Walked, Way, begun, ended, f
 use Rattle.far_evac.proofs.Fronts.{vacant_in}
 use Rattle.far_evac.proofs.KeptObjects.{evicted_objects, freed_objects, moved_objects, objects_more, objects_none, released_objects}
 use Rattle.far_evac.proofs.Leading.{in_heap, reached_none}
-use Rattle.far_evac.proofs.LiveOnce.{NearAt, first_named, near_at}
+use Rattle.far_evac.proofs.LiveOnce.{NearAt, first_named, member_each, near_at}
 use Rattle.far_evac.proofs.Marks.{all_filter}
 use Rattle.far_evac.proofs.Onward.{sealed_inside}
 use Rattle.far_evac.proofs.Readiness.{risen_is_ready}
@@ -60,13 +54,6 @@ use Rattle.far_evac.proofs.Tours.{core_so, goes_when, moves_when}
 use Rattle.far_evac.proofs.Bools.{or_right}
 
 -- ---- lists
-of_among : (P : ℕ → Type 0) (ls : List ℕ) → AllByRecursion P ls → (l : ℕ) → among ls l ≡ true → P l
-of_among P [] all l member = absurd (false≢true member)
-of_among P (k ∷ ks) all l member = elim (cases_eq l k) [
-  | inl e ↦ subst P (sym e) all.0
-  | inr ne ↦ of_among P ks all.1 l (ap (λ b. b || among ks l) (sym (ne_eqb l k ne)) ∙ member)
-]
-
 once_without : (l : ℕ) (xs : List ℕ) → IsDistinct eqb xs → IsDistinct eqb (order_without l xs)
 unfolding IsDistinct
 once_without l [] once = tt
@@ -124,39 +111,24 @@ drops_when false true (Some to) e = absurd cc
 drops_when false false o e = absurd cc
 
 -- the sealed logs, once an object came to a place
-module _ (s t : State) (law : Law s) (order : List ℕ) (has_sealed : (l : ℕ) → among order l ≡ is_sealed (s.kind l)) (p len ds : ℕ) (from to : Place) (next : IsNext s to) (is : IsMoved s t p len ds from to) where
-  was_free : to.log ≢ s.current → s.kind to.log ≡ kinds.Free
-  was_free ne = by_next next where
-    by_next : IsNext s to → s.kind to.log ≡ kinds.Free
-    by_next (log, inl end) = absurd (ne (law.logs.one_open to.log end.0))
-    by_next (log, inr free) = free.0
+module _ (s t : State) (law : Law s) (then : Law t) (stay : KeepsSealed s t) (order : List ℕ) (has_sealed : (l : ℕ) → among order l ≡ is_sealed (s.kind l)) (p len ds : ℕ) (from to : Place) (is : IsMoved s t p len ds from to) where
+  opened : to.log ≡ t.current
+  opened = then.logs.one_open to.log is.opens
 
-  same_kind : (l : ℕ) → l ≢ to.log → l ≢ s.current → s.kind l ≡ t.kind l
-  same_kind l ne other = sym (is.kinds l ne (λ opens. other (law.logs.one_open l opens)))
+  others : (l : ℕ) → l ≢ s.current → l ≢ t.current → t.kind l ≡ s.kind l
+  others l ne other = is.kinds l (λ e. other (e ∙ opened)) (λ opens. ne (law.logs.one_open l opens))
 
-  kind_here : to.log ≡ s.current → (l : ℕ) → s.kind l ≡ t.kind l
-  kind_here same l = elim (cases_eq l to.log) [
-    | inl e ↦ ap s.kind (e ∙ same) ∙ law.logs.is_open ∙ sym (ap t.kind e ∙ is.opens)
-    | inr ne ↦ same_kind l ne (λ e. ne (e ∙ sym same))
-  ]
+  shuts : t.current ≢ s.current → t.kind s.current ≡ kinds.Sealed
+  shuts other = is.seals s.current (λ e. other (sym (e ∙ opened))) law.logs.is_open
 
-  sealed_more : to.log ≢ s.current → (l : ℕ) → (is_sealed (s.kind l) || (eqb l s.current || false)) ≡ is_sealed (t.kind l)
-  sealed_more other l = elim (cases_eq l to.log) [
-    | inl e ↦ rw (e, was_free other, is.opens) (ap (λ b. b || false) (ne_eqb to.log s.current other))
-    | inr ne ↦ elim (cases_eq l s.current) [
-      | inl e ↦ or_right (is_sealed (s.kind l)) (eqb l s.current || false) (ap (λ b. b || false) (eq-eqb l s.current e)) ∙ ap is_sealed (sym (is.seals l ne (ap s.kind e ∙ law.logs.is_open)))
-      | inr ne2 ↦ ap (λ b. is_sealed (s.kind l) || (b || false)) (ne_eqb l s.current ne2) ∙ or-false (is_sealed (s.kind l)) ∙ ap is_sealed (same_kind l ne ne2)
-    ]
-  ]
+  order_is : cond (t.current == s.current) order (order ++ s.current ∷ []) ≡ order_after s order to
+  order_is = ap (λ n. cond (n == s.current) order (order ++ s.current ∷ [])) (sym opened)
 
   sealed_after : (l : ℕ) → among (order_after s order to) l ≡ is_sealed (t.kind l)
-  sealed_after l = cond_both (to.log == s.current) order (order ++ s.current ∷ []) (λ (xs : List ℕ). among xs l ≡ is_sealed (t.kind l))
-      (λ e. has_sealed l ∙ ap is_sealed (kind_here (eqb-true to.log s.current e) l))
-      (λ e. list_any-append (eqb l) order (s.current ∷ []) ∙ ap (λ b. b || (eqb l s.current || false)) (has_sealed l) ∙ sealed_more (eqb-false to.log s.current e) l)
+  sealed_after l = ap (λ xs. among xs l) (sym order_is) ∙ order_then s t law then stay.kind others shuts order has_sealed l
 
   once_after : IsDistinct eqb order → IsDistinct eqb (order_after s order to)
-  once_after once = cond_both (to.log == s.current) order (order ++ s.current ∷ []) (IsDistinct eqb)
-      (λ _. once) (λ _. IsDistinct-push nat_eq_equiv order s.current once (has_sealed s.current ∙ ap is_sealed law.logs.is_open))
+  once_after once = subst (IsDistinct eqb) order_is (once_then s t law then stay.kind others shuts order has_sealed once)
 
 -- what its cell says of an object that goes its way; the round lets it go
 pub record GoesLawfully (s : State) (l p : ℕ) (way : Way) : Type 0 where
@@ -230,12 +202,12 @@ module _ (m : Moment) (s : State) (order : List ℕ) (phase : Phase) (l : ℕ) (
   goes_on (Moves to) x =
       let why = moves_when x.marks.dropped x.marks.hot (room s (size_of x.len) false) to x.is in
       let way = moving s p x.len x.ds x.place to x.marks h.law x.near x.quiet why.0 x.evac why.1 in
-      let short : size_of x.len ≤ LOG_WORDS = (let layout = ready.layout p x.len x.ds x.place x.marks x.near in omega (arith, layout.4)) in
-      let is_room : IsRoom s (size_of x.len) false to = subst (RoomIs s (size_of x.len) false) why.1 (room_right s h.law (size_of x.len) false short) in
+      let then = reached_law s (moved s p to) h.law way.0 in
+      let stay = (sealed_logs_stay s p x.len x.ds (own_law s h.law)).moves x.place to x.marks x.near x.evac why.0 why.1 in
       next_on (Moves to) (order_after s order to) x way.0
-      (sealed_after s (moved s p to) h.law order h.has_sealed p x.len x.ds x.place to is_room.next way.3)
-      (once_after s (moved s p to) h.law order h.has_sealed p x.len x.ds x.place to is_room.next way.3 h.once)
-      ((sealed_logs_stay s p x.len x.ds (own_law s h.law)).moves x.place to x.marks x.near x.evac why.0 why.1)
+      (sealed_after s (moved s p to) h.law then stay order h.has_sealed p x.len x.ds x.place to way.3)
+      (once_after s (moved s p to) h.law then stay order h.has_sealed p x.len x.ds x.place to way.3 h.once)
+      stay
       (moved_objects s p x.len x.ds x.place to x.marks h.law x.near x.quiet why.0 x.evac why.1)
   goes_on Goes x =
       let alive = goes_when x.marks.dropped x.marks.hot (room s (size_of x.len) false) x.is in
@@ -278,27 +250,11 @@ walks_on m n law moment leaves =
 -- ---- what a call leaves
 module _ (m : Moment) (w : Walked) (ready : Ready w.moment.core w.moment.collection) (h : GoesOf m w) where
   held_sealed : (l : ℕ) → among w.moment.collection l ≡ true → w.moment.core.kind l ≡ kinds.Sealed
-  held_sealed l member = (of_among (IsOfRound w.moment.core) w.moment.collection ready.logs l member).0
+  held_sealed l member = (member_each (IsOfRound w.moment.core) w.moment.collection ready.logs l member).0
 
-  midst_leads : is_done w ≡ false → Leads m w.moment
-  midst_leads some = record {
-    reached = h.reached;
-    law = h.law;
-    moment = record {
-      order = h.has_sealed;
-      order_once = h.once;
-      sealed = held_sealed;
-      collection_once = ready.once;
-      runs = some ∙ sym (ap is_idle h.leaves);
-      round = λ _ l member. (of_among (IsOfRound w.moment.core) w.moment.collection ready.logs l member).2;
-      only = λ _. h.only;
-      clear = λ _. h.clear;
-      later = λ marks. absurd (false≢true (sym (ap has_risen marks) ∙ ap has_risen h.leaves));
-    };
-  }
-
-  over_leads : is_done w ≡ true → Leads m (record w.moment { phase = Idle })
-  over_leads done = record {
+  -- in its midst, and at its end, where it is done
+  leads_so : (phase : Phase) → is_done w ≡ is_idle phase → (phase ≡ Marking → ⊥) → Leads m (record w.moment { phase = phase })
+  leads_so phase done other = record {
     reached = h.reached;
     law = h.law;
     moment = record {
@@ -307,15 +263,18 @@ module _ (m : Moment) (w : Walked) (ready : Ready w.moment.core w.moment.collect
       sealed = held_sealed;
       collection_once = ready.once;
       runs = done;
-      round = λ _ l member. (of_among (IsOfRound w.moment.core) w.moment.collection ready.logs l member).2;
+      round = λ _ l member. (member_each (IsOfRound w.moment.core) w.moment.collection ready.logs l member).2;
       only = λ _. h.only;
-      clear = λ leaves. absurd cc;
-      later = λ marks. absurd cc;
+      clear = λ _. h.clear;
+      later = λ marks. absurd (other marks);
     };
   }
 
+  midst_leads : is_done w ≡ false → Leads m w.moment
+  midst_leads some = leads_so w.moment.phase (some ∙ sym (ap is_idle h.leaves)) (λ marks. false≢true (sym (ap has_risen marks) ∙ ap has_risen h.leaves))
+
   answer_leads : Leads m (ended w)
-  answer_leads = cond_both (is_done w) (record w.moment { phase = Idle }) w.moment (Leads m) over_leads midst_leads
+  answer_leads = cond_both (is_done w) (record w.moment { phase = Idle }) w.moment (Leads m) (λ done. leads_so Idle done (λ marks. cc)) midst_leads
 
 pub walking : WalkingLeads
 walking m n law moment leaves =

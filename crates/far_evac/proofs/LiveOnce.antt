@@ -1,8 +1,8 @@
 -- A pointer lives in one log, once.
-use Rattle.std.proofs.Common.{◌≡◌, ◌≢◌, ℕ, zero, suc, ◌+◌, ◌<◌, ◌≤◌, true, cond, not, ◌==◌, nat_lt, Option, Some, None, List, [], ◌∷◌, ◌++◌, filter, arith, ap, sym, refl, ◌∙◌, subst}
+use Rattle.std.proofs.Common.{◌≡◌, ◌≢◌, ℕ, zero, suc, ◌+◌, ◌<◌, ◌≤◌, ◌||◌, true, cond, not, ◌==◌, nat_lt, Option, Some, None, List, [], ◌∷◌, ◌++◌, filter, inl, inr, arith, ap, sym, refl, ◌∙◌, subst}
 use Rattle.std.specs.List.{AllByRecursion}
 use Rattle.std.specs.Prelude.{⊤}
-use Rattle.std.proofs.lemmas.Bool.{cond_both, eq-eqb, ne_eqb, true≢false}
+use Rattle.std.proofs.lemmas.Bool.{cases_eq, cond_both, eq-eqb, false≢true, ne_eqb, true≢false}
 use Rattle.std.proofs.lemmas.Bool.Decides.{nat_tests}
 use Rattle.far_word.specs.declared.mark.Marks.{Marks}
 use Rattle.far_word.specs.declared.pointer.Place.{Place}
@@ -15,8 +15,12 @@ use Rattle.far_log.specs.Spans.{head_len, span_at, spans_from, spans_in}
 use Rattle.far_core.specs.state.Spans.{spans_of, is_live, names_place, word_in}
 use Rattle.far_core.specs.state.State.{State}
 use Rattle.far_evac.specs.Live.{live_in, pointers_of}
+use Rattle.far_evac.specs.RoundSteps.{among}
 
--- ---- lists
+-- ---- numbers and lists
+pub one_more : (n : ℕ) → suc n ≡ n + 1
+one_more n = omega arith
+
 pub each_map : {X : Type 0} {P Q : X → Type 0} → ((x : X) → P x → Q x) → (xs : List X) → AllByRecursion P xs → AllByRecursion Q xs
 each_map f [] h = tt
 each_map f (x ∷ xs) h = (f x h.0, each_map f xs h.1)
@@ -36,6 +40,14 @@ both P Q (x ∷ xs) f g = ((f.0, g.0), both P Q xs f.1 g.1)
 pub every : (P : ℕ → Type 0) → ((q : ℕ) → P q) → (xs : List ℕ) → AllByRecursion P xs
 every P each [] = tt
 every P each (x ∷ xs) = (each x, every P each xs)
+
+-- what is true of each is so of a member
+pub member_each : (P : ℕ → Type 0) (ls : List ℕ) → AllByRecursion P ls → (k : ℕ) → among ls k ≡ true → P k
+member_each P [] all k h = absurd (false≢true h)
+member_each P (x ∷ xs) all k h = elim (cases_eq k x) [
+  | inl e ↦ subst P (sym e) all.0
+  | inr other ↦ member_each P xs all.1 k (sym (ap (λ b. b || among xs k) (ne_eqb k x other)) ∙ h)
+]
 
 -- all but p
 abbrev pub but : ℕ → List ℕ → List ℕ

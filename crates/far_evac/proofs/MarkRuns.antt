@@ -1,5 +1,7 @@
 -- What many steps of marking make of a moment, and where none is left the epoch rises.
 use Rattle.std.proofs.Common.{◌≡◌, ◌≢◌, ℕ, zero, suc, ◌+◌, ◌^◌, ◌<◌, ◌≤◌, true, false, cond, not, eqb, Option, Some, None, List, [], ◌∷◌, length, take, drop, arith, ap, sym, refl, ◌∙◌, subst}
+use Rattle.far_evac.proofs.Settling.{moment_more}
+use Rattle.far_evac.proofs.LiveOnce.{one_more}
 use Rattle.std.specs.Prelude.{IfSome, IfNone, fold, is_some}
 use Rattle.std.specs.List.{IsDistinct}
 use Rattle.std.proofs.lemmas.Bool.{true≢false, false≢true}
@@ -29,7 +31,7 @@ use Rattle.far_evac.proofs.Changing.{advanced_known}
 use Rattle.far_evac.proofs.SmallSteps.{drop_next}
 use Rattle.far_evac.proofs.Hands.{knows_forgotten, knows_more}
 use Rattle.far_evac.proofs.Lacking.{each_has, lacking_known, left_to, next_known, next_marked}
-use Rattle.far_evac.proofs.MarkSteps.{none_shown, some_shown}
+use Rattle.far_evac.proofs.MarkSteps.{Sought, none_shown, some_shown}
 use Rattle.far_evac.proofs.Onward.{chosen_sealed, held_marking, sealed_inside}
 use Rattle.far_evac.proofs.Readiness.{round_is_event}
 use Rattle.far_evac.proofs.Standings.{at_start}
@@ -48,17 +50,11 @@ more_left : (k : ℕ) (all xs : List ℕ) → drop k all ≡ xs → true ≡ not
 more_left k all [] e some = absurd (true≢false some)
 more_left k all (x ∷ xs) e some = let h = (drop_next k all x xs e).1 in omega (arith, h)
 
-pub moment_more : (a b c : Moment) → KnowsMoment a b → KnowsMoment b c → KnowsMoment a c
-moment_more a b c f g = record {
-  core = knows_more a.core b.core c.core f.core g.core;
-  rest = g.rest ∙ ap (λ (x : Moment). record x { core = c.core }) f.rest;
-}
-
 -- ---- whether one is left
-module _ (s t : State) (r next : Round) (in_round : InRound t next) (marks : r.phase ≡ Marking) (round : next ≡ record r { index = next.index; at = next.at }) (known : Knows s t) (law : Law (own_part t)) where
+module _ {s t : State} {r next : Round} (sought : Sought s t r next) (law : Law (own_part t)) where
   pub left_shown : (o : Option Span) → IfSome o (λ (span : Span). StandsAt t next span) → IfNone o (next.index ≡ length r.chosen) → is_some o ≡ not (is_empty (lacking s (collection_in r)))
-  left_shown (Some span) stands end = some_shown s t r next in_round marks round known law span stands
-  left_shown None stands end = none_shown s t r next in_round marks round known end
+  left_shown (Some span) stands end = some_shown sought law span stands
+  left_shown None stands end = none_shown sought end
 
 -- ---- one more
 module _ (m : Moment) (once : IsDistinct eqb m.collection) (fits : (q : ℕ) → m.core.cell q < 2 ^ 64) where
@@ -67,9 +63,6 @@ module _ (m : Moment) (once : IsDistinct eqb m.collection) (fits : (q : ℕ) →
 
   abbrev after_steps : ℕ → Moment
   after_steps k = record m { core = marked_core m k }
-
-  one_more : (k : ℕ) → suc k ≡ k + 1
-  one_more k = omega arith
 
   module _ (k : ℕ) (a : Moment) (known : KnowsMoment (after_steps k) a) where
     pub same_held : a.collection ≡ m.collection

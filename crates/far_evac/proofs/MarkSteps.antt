@@ -36,39 +36,44 @@ use Rattle.far_evac.proofs.Marks.{IsNearWord}
 use Rattle.far_evac.proofs.Onward.{all_marked, chosen_sealed, front_inside, held_marking, moved_on, not_leaving, not_waiting}
 
 -- ---- moments
-pub moment_so : (core : State) (order then : List ℕ) (phase later : Phase) (held left : List ℕ) → then ≡ order → later ≡ phase → left ≡ held →
-    let m : Moment = record { core = core; order = then; phase = later; collection = left } in m ≡ record { core = core; order = order; phase = phase; collection = held }
-moment_so core order then phase later held left a b c = λ i. record { core = core; order = a i; phase = b i; collection = c i }
+module _ {core made : State} {order then : List ℕ} {phase later : Phase} {held left : List ℕ} (ordered : then ≡ order) (phases : later ≡ phase) (holds : left ≡ held) where
+  pub moment_so : core ≡ made → let m : Moment = record { core = core; order = then; phase = later; collection = left } in m ≡ record { core = made; order = order; phase = phase; collection = held }
+  moment_so same = λ i. record { core = same i; order = ordered i; phase = phases i; collection = holds i }
 
-pub knows_so : (s t : State) (order then : List ℕ) (phase later : Phase) (held left : List ℕ) → Knows s t → then ≡ order → later ≡ phase → left ≡ held →
-    KnowsMoment (record { core = s; order = order; phase = phase; collection = held }) (record { core = t; order = then; phase = later; collection = left })
-knows_so s t order then phase later held left known a b c = record { core = known; rest = moment_so t order then phase later held left a b c }
+  pub knows_so : {m : Moment} → record { core = made; order = order; phase = phase; collection = held } ≡ m → Knows made core → KnowsMoment m (record { core = core; order = then; phase = later; collection = left })
+  knows_so {m} is known = subst (λ x. KnowsMoment x (record { core = core; order = then; phase = later; collection = left })) is record { core = known; rest = λ i. record { core = core; order = ordered i; phase = phases i; collection = holds i } }
 
 -- ---- the round has gone on
-module _ (s t : State) (r next : Round) (in_round : InRound t next) (marks : r.phase ≡ Marking) (round : next ≡ record r { index = next.index; at = next.at }) (known : Knows s t) where
+pub record Sought (s t : State) (r next : Round) : Type 0 where
+  pub in_round : InRound t next
+  pub marks : r.phase ≡ Marking
+  pub round : next ≡ record r { index = next.index; at = next.at }
+  pub known : Knows s t
+
+module _ {s t : State} {r next : Round} (sought : Sought s t r next) where
   pub next_phase : next.phase ≡ r.phase
-  next_phase = ap (λ (x : Round). x.phase) round
+  next_phase = ap (λ (x : Round). x.phase) sought.round
 
   next_marks : next.phase ≡ Marking
-  next_marks = next_phase ∙ marks
+  next_marks = next_phase ∙ sought.marks
 
   next_chosen : next.chosen ≡ r.chosen
-  next_chosen = ap (λ (x : Round). x.chosen) round
+  next_chosen = ap (λ (x : Round). x.chosen) sought.round
 
   held_chosen : collection_in r ≡ next.chosen
-  held_chosen = held_marking r.phase r.chosen r.index marks ∙ sym next_chosen
+  held_chosen = held_marking r.phase r.chosen r.index sought.marks ∙ sym next_chosen
 
   pub next_held : collection_in next ≡ collection_in r
   next_held = held_marking next.phase next.chosen next.index next_marks ∙ sym held_chosen
 
   lacking_same : lacking s (collection_in r) ≡ lacking t next.chosen
-  lacking_same = sym (lacking_known s t known (collection_in r)) ∙ ap (lacking t) held_chosen
+  lacking_same = sym (lacking_known s t sought.known (collection_in r)) ∙ ap (lacking t) held_chosen
 
   pub none_left : next.index ≡ length r.chosen → lacking s (collection_in r) ≡ []
-  none_left e = lacking_same ∙ none_lack t next.chosen (all_marked t next in_round next_marks (e ∙ ap length (sym next_chosen)))
+  none_left e = lacking_same ∙ none_lack t next.chosen (all_marked t next sought.in_round next_marks (e ∙ ap length (sym next_chosen)))
 
   pub some_left : Law (own_part t) → (span : Span) → StandsAt t next span → (rest : List ℕ) × (lacking s (collection_in r) ≡ span.p ∷ rest)
-  some_left law span stands = let first = first_lacks t law next span (in_round.stands.marked next_marks) stands in (first.0, lacking_same ∙ first.1)
+  some_left law span stands = let first = first_lacks t law next span (sought.in_round.stands.marked next_marks) stands in (first.0, lacking_same ∙ first.1)
 
   -- whether one is left
   pub none_shown : next.index ≡ length r.chosen → false ≡ not (is_empty (lacking s (collection_in r)))
@@ -78,7 +83,7 @@ module _ (s t : State) (r next : Round) (in_round : InRound t next) (marks : r.p
   some_shown law span stands = sym (ap (λ xs. not (is_empty xs)) (some_left law span stands).1)
 
   pub none_known : next.index ≡ length r.chosen → Knows (first_marked s (lacking s (collection_in r))) t
-  none_known e = subst (λ xs. Knows (first_marked s xs) t) (sym (none_left e)) known
+  none_known e = subst (λ xs. Knows (first_marked s xs) t) (sym (none_left e)) sought.known
 
   pub none_same : next.index ≡ length r.chosen → t ≡ s → t ≡ first_marked s (lacking s (collection_in r))
   none_same e same = same ∙ sym (ap (first_marked s) (none_left e))
@@ -86,9 +91,9 @@ module _ (s t : State) (r next : Round) (in_round : InRound t next) (marks : r.p
   pub may_mark : Law (own_part t) → (span : Span) → StandsAt t next span → Legal t (Mark span.p)
   may_mark law span stands =
       let lies = stands.next.lies in
-      let sealed = chosen_sealed t next in_round next_marks stands.log (dropped_among next.chosen next.index stands.log stands.more stands.front) in (
+      let sealed = chosen_sealed t next sought.in_round next_marks stands.log (dropped_among next.chosen next.index stands.log stands.more stands.front) in (
         lies.pointer,
-        (span.len, span.ds, record { log = stands.log; at = span.at }, lies.marks, lies.near, front_inside t next in_round next_marks stands.log stands.more stands.front law, sealed),
+        (span.len, span.ds, record { log = stands.log; at = span.at }, lies.marks, lies.near, front_inside t next sought.in_round next_marks stands.log stands.more stands.front law, sealed),
       )
 
   -- ---- it gets EVAC
@@ -105,7 +110,7 @@ module _ (s t : State) (r next : Round) (in_round : InRound t next) (marks : r.p
         let first = some_left then span stands in
         let near = first_near s (λ q. (law.cells.cell_read q).0) (collection_in r) p first.0 first.1 in
         subst (λ xs. Knows (first_marked s xs) u) (sym first.1)
-        (knows_more (marked s p) (marked t p) u (marked_known s t known p near (then.cells.cell_read p).0) (mark_leaves t u p word near_there finds fits is))
+        (knows_more (marked s p) (marked t p) u (marked_known s t sought.known p near (then.cells.cell_read p).0) (mark_leaves t u p word near_there finds fits is))
 
     pub marks_exactly : t ≡ s → u ≡ marked t p → u ≡ first_marked s (lacking s (collection_in r))
     marks_exactly same done = done ∙ ap (λ (v : State). marked v p) same ∙ sym (ap (first_marked s) (some_left then span stands).1)
@@ -146,8 +151,8 @@ module _ (s t : State) (r next : Round) (in_round : InRound t next) (marks : r.p
 
     stays : InRound (record t { cell = u.cell }) next
     stays =
-        let h = in_round.holds in
-        let g = in_round.stands in
+        let h = sought.in_round.holds in
+        let g = sought.in_round.stands in
         record {
           holds = record { sealed = h.sealed; once = h.once; runs = h.runs; round = h.round; only = h.only; clear = h.clear; later = h.later };
           stands = record {

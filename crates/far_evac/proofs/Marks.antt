@@ -1,5 +1,6 @@
 -- What marking and giving up make of cells: EVAC is set or taken, and nothing else changes.
 use Rattle.std.proofs.Common.{◌≡◌, ◌≢◌, ℕ, zero, suc, ◌^◌, ◌<◌, ◌≤◌, Bool, true, false, cond, not, ◌||◌, ◌&&◌, ◌==◌, eqb, Option, Some, None, List, [], ◌∷◌, ◌++◌, length, take, filter, bit_or, arith, ap, sym, refl, ◌∙◌, subst}
+use Rattle.std.proofs.Math.Bool.{and-false, and-true}
 use Rattle.std.specs.Prelude.{fold}
 use Rattle.std.specs.List.{AllByRecursion, list_any}
 use Rattle.std.proofs.lemmas.Bool.{cond_both, eqb-true}
@@ -28,17 +29,9 @@ use Rattle.far_evac.specs.RoundSteps.{advanced, among, unmarked}
 use Rattle.far_evac.proofs.LiveOnce.{LivesIn, all_append, each_map, live_named, near_at}
 
 -- ---- truth values
-and_yes : (b : Bool) → (b && true) ≡ b
-and_yes true = refl
-and_yes false = refl
-
-and_no : (b : Bool) → (b && false) ≡ false
-and_no true = refl
-and_no false = refl
-
 left_so : (here round : Bool) → cond here false round ≡ (round && not here)
-left_so true round = sym (and_no round)
-left_so false round = sym (and_yes round)
+left_so true round = sym (and-false round)
+left_so false round = sym (and-true round)
 
 not_either : (r a b : Bool) → ((r && not a) && not b) ≡ (r && not (a || b))
 not_either true true b = refl
@@ -55,12 +48,12 @@ or_and false b = refl
 
 absorbs : (some other : Bool) → (some || (other && some)) ≡ some
 absorbs true other = refl
-absorbs false other = and_no other
+absorbs false other = and-false other
 
 by_held : (r held none : Bool) → (r && not (held && not none)) ≡ cond held (r && none) r
 by_held r true true = refl
 by_held r true false = refl
-by_held r false none = and_yes r
+by_held r false none = and-true r
 
 -- ---- one cell
 -- a near word of 64 bits
@@ -233,10 +226,10 @@ in_log (Some (Near len ds place marks)) l = l == place.log
 in_log (Some (Far len ds marks)) l = false
 
 left_by : (round : ℕ → Bool) (o : Option PtrWord) (l : ℕ) → round_left round o l ≡ (round l && not (in_log o l))
-left_by round None l = sym (and_yes (round l))
-left_by round (Some Free) l = sym (and_yes (round l))
+left_by round None l = sym (and-true (round l))
+left_by round (Some Free) l = sym (and-true (round l))
 left_by round (Some (Near len ds place marks)) l = left_so (l == place.log) (round l)
-left_by round (Some (Far len ds marks)) l = sym (and_yes (round l))
+left_by round (Some (Far len ds marks)) l = sym (and-true (round l))
 
 log_but : (o : Option PtrWord) (l : ℕ) → in_log o l ≡ in_log (but_evac o) l
 log_but None l = refl
@@ -254,7 +247,7 @@ any_same s t (p ∷ ps) l same =
     ∙ ap (λ b. in_log (read_of (s.cell p)) l || b) (any_same s t ps l same)
 
 round_cleared : (ps : List ℕ) (s : State) (l : ℕ) → AllByRecursion (λ p. IsNearWord (s.cell p)) ps → (fold unmarked s ps).round l ≡ (s.round l && not (any_in s ps l))
-round_cleared [] s l near = sym (and_yes (s.round l))
+round_cleared [] s l near = sym (and-true (s.round l))
 round_cleared (p ∷ ps) s l near =
     round_cleared ps (unmarked s p) l (all_near false unmarked evac_cleared (λ u q. refl) clear_sets s p ps near.0 near.1)
     ∙ ap (λ b. (unmarked s p).round l && not b) (any_same s (unmarked s p) ps l (λ q. (one false unmarked evac_cleared (λ u x. refl) clear_sets s p q near.0).same))
@@ -267,11 +260,11 @@ any_append s l (p ∷ ps) qs = ap (λ b. in_log (read_of (s.cell p)) l || b) (an
 
 -- whether some of these objects, which live in log k, live in log l
 any_of : (s : State) (k l : ℕ) (ps : List ℕ) → AllByRecursion (LivesIn s k) ps → any_in s ps l ≡ (eqb l k && not (is_empty ps))
-any_of s k l [] lives = sym (and_no (eqb l k))
+any_of s k l [] lives = sym (and-false (eqb l k))
 any_of s k l (p ∷ ps) lives =
     let x = near_at (read_of (s.cell p)) k lives.0.0 lives.0.1 in
     ap (λ b. b || any_in s ps l) (ap (λ o. in_log o l) x.near ∙ ap (λ j. l == j) x.log)
-    ∙ ap (λ b. eqb l k || b) (any_of s k l ps lives.1) ∙ or_and (eqb l k) (not (is_empty ps)) ∙ sym (and_yes (eqb l k))
+    ∙ ap (λ b. eqb l k || b) (any_of s k l ps lives.1) ∙ or_and (eqb l k) (not (is_empty ps)) ∙ sym (and-true (eqb l k))
 
 any_among : (s : State) (l : ℕ) (ls : List ℕ) → any_in s (live_among s ls) l ≡ (among ls l && not (is_empty (live_in s l)))
 any_among s l [] = refl

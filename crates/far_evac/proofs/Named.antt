@@ -1,8 +1,7 @@
 -- Whom a poll names, and at which epoch.
-use Rattle.std.proofs.Common.{inl, inr, ◌≡◌, ◌≢◌, ℕ, zero, suc, ◌+◌, ◌*◌, ◌/◌, ◌%◌, ◌<◌, ◌≤◌, Bool, true, false, cond, ◌||◌, ◌&&◌, ◌==◌, nat_lt, nat_le, Option, Some, None, arith, ap, refl, ◌∙◌}
-use Rattle.std.specs.Prelude.{IsSome, find}
-use Rattle.std.specs.List.{range_with_len}
-use Rattle.std.proofs.lemmas.Bool.{cases_eq, cases_lt, cond_both, eqb-true, false≢true}
+use Rattle.std.proofs.Common.{inl, inr, ◌≡◌, ◌≢◌, ℕ, ◌+◌, ◌*◌, ◌/◌, ◌%◌, ◌<◌, Bool, true, false, cond, ◌||◌, ◌&&◌, ◌==◌, nat_lt, nat_le, Option, Some, None, arith, ap, refl}
+use Rattle.std.specs.Prelude.{IsSome}
+use Rattle.std.proofs.lemmas.Bool.{cases_eq, cond_both, eqb-true, false≢true, or_parts, not-true}
 use Rattle.std.proofs.lemmas.Bool.Decides.{nat_tests}
 use Rattle.far_word.specs.declared.scope.ScopeWord.TheVariants as scoped
 use Rattle.far_word.specs.declared.sizes.TheConstants.{EPOCH_END}
@@ -12,18 +11,7 @@ use Rattle.far_evac.specs.Laws.{HoldsUpNone, TellsWhoIsOpen, WaitIsNamed}
 use Rattle.far_evac.specs.RoundSteps.{is_clear_now}
 use Rattle.far_evac.specs.Waiting.{first_open, holds_up, polled_at}
 use Rattle.far_evac.proofs.Readiness.{clear_one}
-use Rattle.far_evac.proofs.Rounds.{found_in, unseen}
-use Rattle.far_evac.proofs.Unviewed.{late_of, none_found, open_of}
-
--- what is found first passes a test that those before it don't
-none_before : (test : ℕ → Bool) (k j a n : ℕ) → find test (range_with_len a n) ≡ Some k → a ≤ j → j < k → test j ≡ false
-none_before test k j a zero = λ e. absurd cc
-none_before test k j a (suc n) = cond_both (test a) (Some a) (find test (range_with_len (a + 1) n)) (λ (o : Option ℕ). o ≡ Some k → a ≤ j → j < k → test j ≡ false)
-    (λ _ e from lt. let same : a ≡ k = cc in absurd (omega (arith, same, from, lt)))
-    (λ not_here e from lt. elim (cases_lt a j) [
-      | inl past ↦ none_before test k j (a + 1) n e (omega (arith, past)) lt
-      | inr le ↦ let same : j ≡ a = omega (arith, from, le) in ap test same ∙ not_here
-    ])
+use Rattle.far_evac.proofs.Unviewed.{found_in, late_of, none_found, open_of}
 
 -- a word of a scope that is open is odd
 odd_of : (w : ℕ) → w ≢ 0 → IsSome (scope_of w) → w ≡ 2 * (w / 2) + 1
@@ -60,14 +48,14 @@ module _ (s : State) (layout : (k : ℕ) → IsSome (scope_of (s.scope k))) wher
   told_at None e = λ k lt. held_up_none k (none_found (holds_up s) k 0 s.mutators e (omega arith) (omega (arith, lt)))
   told_at (Some k) e =
       let found = found_in (holds_up s) k 0 s.mutators e in
-      let why = unseen (s.clear k) (is_clear_now s k) found.0 in
+      let why = or_parts (s.clear k) (is_clear_now s k) (not-true (s.clear k || is_clear_now s k) found.0) in
       let opened = neither_zero (s.scope k) (nat_le s.round_epoch (s.scope k / 2)) why.1 in
       record {
         owner = omega (arith, found.1);
         scope = odd_of (s.scope k) opened (layout k);
         older = not_late (s.scope k) s.round_epoch why.1;
         unseen = why.0;
-        before = λ j lt. held_up_none j (none_before (holds_up s) k j 0 s.mutators e (omega arith) lt);
+        before = λ j lt. held_up_none j (found.2 j (omega arith) lt);
       }
 
 pub wait_is_named : WaitIsNamed

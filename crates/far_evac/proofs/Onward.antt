@@ -1,6 +1,7 @@
 -- A round that marks goes on: past an object that has EVAC, and to the next log.
-use Rattle.std.proofs.Common.{◌≡◌, ◌≢◌, ℕ, suc, ◌+◌, ◌<◌, ◌≤◌, ◌||◌, Bool, true, false, List, [], ◌∷◌, ◌++◌, length, slice_index_or, take, drop, eqb, inl, inr, arith, ap, sym, refl, ◌∙◌, subst}
+use Rattle.std.proofs.Common.{◌≡◌, ◌≢◌, ℕ, suc, ◌+◌, ◌<◌, ◌≤◌, ◌||◌, true, false, List, [], ◌∷◌, ◌++◌, length, slice_index_or, take, drop, eqb, inl, inr, arith, ap, sym, ◌∙◌, subst}
 use Rattle.std.specs.Prelude.{◌⊎◌}
+pub use Rattle.std.proofs.lemmas.Bool.{or_cases as or_split}
 use Rattle.std.proofs.lemmas.Bool.{eqb-true, false≢true}
 use Rattle.std.proofs.lemmas.List.{drop_more, take_all}
 use Rattle.far_core.specs.declared.event.Kind.TheVariants as kinds
@@ -32,10 +33,6 @@ held_marking phase chosen i e = ap (λ (ph : Phase). collection_of ph chosen i) 
 
 head_of : (l k : ℕ) (ls ks xs : List ℕ) → xs ≡ l ∷ ls → xs ≡ k ∷ ks → l ≡ k
 head_of l k ls ks xs e f = let both : l ∷ ls ≡ k ∷ ks = sym e ∙ f in cc
-
-pub or_split : (a b : Bool) → (a || b) ≡ true → (a ≡ true) ⊎ (b ≡ true)
-or_split true b h = inl refl
-or_split false b h = inr h
 
 last_among : (xs : List ℕ) (l k : ℕ) → among (xs ++ l ∷ []) k ≡ true → (among xs k ≡ true) ⊎ (k ≡ l)
 last_among [] l k h = elim (or_split (eqb k l) false h) [

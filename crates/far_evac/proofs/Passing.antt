@@ -1,7 +1,7 @@
 -- What is passed over where the live objects of a log are looked at one after the other, from a word on.
 use Rattle.std.proofs.Common.{◌≡◌, ℕ, ◌+◌, ◌*◌, ◌<◌, ◌≤◌, Bool, true, false, ◌&&◌, nat_le, Some, [], ◌∷◌, filter, inl, inr, arith, ap, sym, refl, ◌∙◌, subst}
 use Rattle.std.specs.Prelude.{◌⊎◌, Contains}
-use Rattle.std.proofs.lemmas.Bool.{cases_lt, false≢true}
+use Rattle.std.proofs.lemmas.Bool.{cases_lt, and_parts, and_from}
 use Rattle.std.proofs.lemmas.Bool.Decides.{nat_tests}
 use mathlib.Core.Path.{fun_ext}
 use Rattle.far_word.specs.declared.mark.Marks.{Marks}
@@ -33,14 +33,6 @@ use Rattle.far_evac.proofs.Hands.{knows_more, knows_seen}
 use Rattle.far_evac.proofs.LiveLists.{finds_place}
 
 -- ---- lists
-and_both : (a b : Bool) → (a && b) ≡ true → (a ≡ true) × (b ≡ true)
-and_both true b h = (refl, h)
-and_both false b h = absurd (false≢true h)
-
-and_true : (a b : Bool) → a ≡ true → b ≡ true → (a && b) ≡ true
-and_true true b h g = g
-and_true false b h g = absurd (false≢true h)
-
 -- ---- the objects of a log from a word on
 module _ (s : State) (law : Law (own_part s)) (l at : ℕ) where
   abbrev there_is : Span → Bool
@@ -58,12 +50,12 @@ module _ (s : State) (law : Law (own_part s)) (l at : ℕ) where
     alive = ap (λ k. is_live s k its) (sym log) ∙ (observations.one_live (own_part s) law p len ds place marks near).live
 
     pub is_there : at ≤ place.at → Contains (live_from s l at) its
-    is_there from = kept_in there_is its (spans_of s l) (and_true (is_live s l its) (nat_le at place.at) alive (grind (arith, nat_tests, from))) listed
+    is_there from = kept_in there_is its (spans_of s l) (and_from (is_live s l its) (nat_le at place.at) alive (grind (arith, nat_tests, from))) listed
 
   -- each stands there, and is live
   pub stands_there : (x : Span) → Contains (live_from s l at) x → (at ≤ x.at) × (is_live s l x ≡ true)
   stands_there x member =
-      let both = and_both (is_live s l x) (nat_le at x.at) (was_kept there_is x (spans_of s l) member).0 in
+      let both = and_parts (is_live s l x) (nat_le at x.at) (was_kept there_is x (spans_of s l) member).0 in
       let le : nat_le at x.at ≡ true = both.1 in
       (grind (arith, nat_tests, le), both.0)
 

@@ -1,7 +1,8 @@
 -- What walks take of the logs, over any hand.
 use Rattle.std.proofs.Common.{◌≡◌, ◌≢◌, ℕ, zero, suc, ◌+◌, ◌<◌, ◌≤◌, ◌==◌, Bool, true, false, cond, ◌||◌, Option, Some, None, List, [], ◌∷◌, ◌++◌, take, inl, inr, arith, ap, sym, refl, ◌∙◌, subst}
+use Rattle.std.proofs.lemmas.List.{append_assoc, append-nil}
 use Rattle.std.specs.List.{AllByRecursion, range_with_len, sum_by}
-use Rattle.std.proofs.lemmas.Bool.{cases_eq, eq-eqb, ne_eqb, true≢false, false≢true}
+use Rattle.std.proofs.lemmas.Bool.{cases_eq, eq-eqb, ne_eqb, true≢false}
 use Rattle.std.proofs.lemmas.List.Sums.{sum_by-cons}
 use Rattle.far_word.specs.declared.mark.Marks.{Marks}
 use Rattle.far_word.specs.declared.pointer.Place.{Place}
@@ -27,7 +28,7 @@ use Rattle.far_evac.specs.TakesRoom.{IsAside, IsBack, IsLeft, TakesRoom, WalkTak
 use Rattle.far_evac.specs.Walk.{Walked, Way}
 use Rattle.far_evac.proofs.Leading.{not_zero}
 use Rattle.far_evac.proofs.Framed.{so_one}
-use Rattle.far_evac.proofs.LiveOnce.{each_map, every, first_named}
+use Rattle.far_evac.proofs.LiveOnce.{each_map, every, first_named, member_each}
 use Rattle.far_evac.proofs.RoomTaken.{IsOff, Taken, alike_known, none_taken, off_none, sum_none, taken_alike, taken_back, taken_more}
 use Rattle.far_evac.proofs.SmallSteps.{GoesFirst, Keeps, finds_first, first_gone, lifted_walks}
 use Rattle.far_evac.proofs.SpanBytes.{Sound, all_used}
@@ -59,18 +60,7 @@ known_taken m objects w t known h =
     (taken_alike w.moment.core t.moment.core (alike_known w.moment.core t.moment.core known.moment.core) m w.moment.collection objects h)
 
 off_each : (s : State) (p : ℕ) (held : List ℕ) → AllByRecursion (λ l. (at : ℕ) → names_place (read_of (s.cell p)) l at ≡ false) held → IsOff s held p
-off_each s p [] each l at is = absurd (false≢true is)
-off_each s p (k ∷ ks) each l at is = elim (cases_eq l k) [
-  | inl e ↦ ap (λ x. names_place (read_of (s.cell p)) x at) e ∙ each.0 at
-  | inr ne ↦ off_each s p ks each.1 l at (sym (ap (λ b. b || among ks l) (ne_eqb l k ne)) ∙ is)
-]
-
-apart : (l : ℕ) (ks : List ℕ) → AllByRecursion (λ k. k ≢ l) ks → (k : ℕ) → among ks k ≡ true → k ≢ l
-apart l [] each k is = absurd (false≢true is)
-apart l (j ∷ js) each k is = elim (cases_eq k j) [
-  | inl e ↦ (λ same. each.0 (sym e ∙ same))
-  | inr ne ↦ apart l js each.1 k (sym (ap (λ b. b || among js k) (ne_eqb k j ne)) ∙ is)
-]
+off_each s p held each l at is = member_each (λ l. (at : ℕ) → names_place (read_of (s.cell p)) l at ≡ false) held each l is at
 
 so_taken : (m v : Moment) (objects : List ℕ) (k : ℕ) (s : State) (l : ℕ) (ls : List ℕ) (p : ℕ) (ps : List ℕ) (way : Way) → GoesFirst false v k s l ls p ps way → Taken m s (l ∷ ls) objects →
     Taken m (core_so s p way) (l ∷ ls) (objects ++ p ∷ [])
@@ -79,18 +69,10 @@ so_taken m v objects k s l ls p ps way first h =
     (way_dealt s h.sound l ls p ps first.ready first.live first.word (finds_first first) way first.is) (so_one s p way).cells (off_each (core_so s p way) p (l ∷ ls) (first_gone first).off)
 
 -- ---- object after object, from where other walks have led
-append_assoc : (xs ys zs : List ℕ) → (xs ++ ys) ++ zs ≡ xs ++ (ys ++ zs)
-append_assoc [] ys zs = refl
-append_assoc (x ∷ xs) ys zs = ap (λ rest. x ∷ rest) (append_assoc xs ys zs)
-
-append_none : (xs : List ℕ) → xs ≡ xs ++ []
-append_none [] = refl
-append_none (x ∷ xs) = ap (λ rest. x ∷ rest) (append_none xs)
-
 keeps_taken : (m v : Moment) (before : List ℕ) → Keeps false v (λ k w. Taken m w.moment.core w.moment.collection (before ++ take k (live_among v.core v.collection)))
 keeps_taken m v before = record {
   learns = λ k. known_taken m (before ++ take k (live_among v.core v.collection));
-  gives = λ k w l ls ready none h. taken_back w.moment.core l h.sound none m ls (before ++ take k (live_among v.core v.collection)) ready.once (apart l ls (others l ls ready.once)) h;
+  gives = λ k w l ls ready none h. taken_back w.moment.core l h.sound none m ls (before ++ take k (live_among v.core v.collection)) ready.once (member_each (λ k. k ≢ l) ls (others l ls ready.once)) h;
   deals = λ k w l ls p ps way first h.
       subst (Taken m (core_so w.moment.core p way) (l ∷ ls)) (append_assoc before (take k (live_among v.core v.collection)) (p ∷ []) ∙ ap (λ xs. before ++ xs) (sym first.more))
       (so_taken m v (before ++ take k (live_among v.core v.collection)) k w.moment.core l ls p ps way first h);
@@ -99,7 +81,7 @@ keeps_taken m v before = record {
 pub walks_taken : (m v : Moment) (before : List ℕ) → Taken m v.core v.collection before → (k : ℕ) (t : Walked) → Ready v.core v.collection → WalksTo v k t →
     Taken m t.moment.core t.moment.collection (before ++ take k (live_among v.core v.collection))
 walks_taken m v before h k t ready walks =
-    (lifted_walks v (λ k w. Taken m w.moment.core w.moment.collection (before ++ take k (live_among v.core v.collection))) (keeps_taken m v before) ready (subst (Taken m v.core v.collection) (append_none before) h) k t walks).keeps
+    (lifted_walks v (λ k w. Taken m w.moment.core w.moment.collection (before ++ take k (live_among v.core v.collection))) (keeps_taken m v before) ready (subst (Taken m v.core v.collection) (sym (append-nil before)) h) k t walks).keeps
 
 -- ---- all logs together
 sums_same : (a b c d : ℕ → ℕ) → ((x : ℕ) → a x + b x ≡ c x + d x) → (xs : List ℕ) → sum_by a xs + sum_by b xs ≡ sum_by c xs + sum_by d xs

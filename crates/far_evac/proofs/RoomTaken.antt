@@ -1,8 +1,9 @@
 -- What a walk has taken of the logs so far: object after object, log after log that is given back, and as far as it is known over any hand.
 use Rattle.std.proofs.Common.{◌≡◌, ◌≢◌, ℕ, ◌+◌, ◌*◌, ◌<◌, ◌≤◌, Bool, true, false, cond, ◌&&◌, ◌||◌, eqb, nat_eq, Option, Some, None, List, [], ◌∷◌, ◌++◌, filter, inl, inr, arith, ap, sym, refl, ◌∙◌, subst}
+use Rattle.std.proofs.Math.Bool.{and-true}
 use Rattle.std.specs.Prelude.{Contains, ◌⊎◌}
 use Rattle.std.specs.List.{AllByRecursion, IsDistinct, sum_by}
-use Rattle.std.proofs.lemmas.Bool.{cases_eq, cond_both, eq-eqb, ne_eqb, true≢false, false≢true}
+use Rattle.std.proofs.lemmas.Bool.{cases_eq, cond_both, eq-eqb, ne_eqb, true≢false, false≢true, both_ways}
 use Rattle.std.proofs.lemmas.List.Sums.{sum_by-cons, sum_by_push}
 use Rattle.std.proofs.lemmas.Map.Keys.{IsDistinct-push}
 use Rattle.std.specs.Cmp.{nat_eq_equiv}
@@ -102,10 +103,7 @@ spot_found known found finds = spot_body (read_of found) ∙ ap spot_of finds.bo
 pub off_none : (l : ℕ) (o : Option PtrWord) → ((at : ℕ) → names_place o l at ≡ false) → bytes_at l o ≡ 0
 off_none l None off = refl
 off_none l (Some Free) off = refl
-off_none l (Some (Near len ds place marks)) off = ap (λ b. cond b (bytes_taken len) 0) (left_false (nat_eq place.log l) (sym (ap (λ b. nat_eq place.log l && b) (eq-eqb place.at place.at refl)) ∙ off place.at)) where
-  left_false : (b : Bool) → (b && true) ≡ false → b ≡ false
-  left_false true h = absurd (true≢false h)
-  left_false false h = refl
+off_none l (Some (Near len ds place marks)) off = ap (λ b. cond b (bytes_taken len) 0) (sym (ap (λ b. nat_eq place.log l && b) (eq-eqb place.at place.at refl) ∙ and-true (nat_eq place.log l)) ∙ off place.at)
 off_none l (Some (Far len ds marks)) off = refl
 
 -- nor one that names a word of another
@@ -142,16 +140,13 @@ pub record Taken (m : Moment) (s : State) (held objects : List ℕ) : Type 0 whe
   pub logs : s.logs ≡ m.core.logs
 
 -- ---- before the first object
-not_both : (b : Bool) → b ≡ true → b ≡ false → ⊥
-not_both b on off = true≢false (sym on ∙ off)
-
 pub none_taken : (m : Moment) → Sound m.core → Taken m m.core m.collection []
 unfolding IsDistinct
 none_taken m sound = record {
   sound = sound;
   live = λ l. refl;
   kept = λ l why. (let none : bytes_in m.core l [] ≡ 0 = refl in omega (arith, none));
-  back = λ l was is. absurd (not_both (among m.collection l) was is);
+  back = λ l was is. absurd (both_ways (among m.collection l) is was);
   sealed = λ l aside shut. (shut, refl);
   used = λ l aside some. some;
   opened = λ l aside free some. absurd (some free);
@@ -298,7 +293,7 @@ module _ (s : State) (l : ℕ) (sound : Sound s) (none : is_empty (live_in s l) 
     more k is = or_right (eqb k l) (among ls k) is
 
     not_aside : (k : ℕ) → among m.collection k ≡ false → k ≢ l
-    not_aside k aside e = not_both (among m.collection k) (ap (among m.collection) e ∙ h.within l member) aside
+    not_aside k aside e = both_ways (among m.collection k) aside (ap (among m.collection) e ∙ h.within l member)
 
     came_none : bytes_in s l objects ≡ 0
     came_none = sum_none (λ p. bytes_at l (read_of (s.cell p))) objects (each_map (λ q off. off_none l (read_of (s.cell q)) (λ at. off l at member)) objects h.off)
@@ -378,7 +373,7 @@ module _ (m : Moment) (s t : State) (held objects : List ℕ) (h : Taken m s hel
       omega (arith, a, b)
 
   here_none : (k : ℕ) → among held k ≡ false → bytes_at k (read_of (s.cell p)) ≡ 0
-  here_none k is = elsewhere_none k l lives.0 (read_of (s.cell p)) lives.1 (λ e. not_both (among held k) (ap (among held) e ∙ member) is)
+  here_none k is = elsewhere_none k l lives.0 (read_of (s.cell p)) lives.1 (λ e. both_ways (among held k) is (ap (among held) e ∙ member))
 
   pub taken_more : Taken m t held (objects ++ p ∷ [])
   taken_more = record {

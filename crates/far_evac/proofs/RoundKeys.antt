@@ -1,5 +1,7 @@
 -- Which objects turns deal with, one after the other: those that stood first when they began. Under other keys the device has what it had.
-use Rattle.std.proofs.Common.{◌≡◌, ◌≢◌, ℕ, zero, suc, ◌+◌, false, Option, Some, None, List, [], ◌∷◌, ◌++◌, filter, take, drop, arith, ap, sym, refl, ◌∙◌, subst}
+use Rattle.std.proofs.Common.{◌≡◌, ◌≢◌, ℕ, ◌+◌, false, Option, Some, None, List, [], ◌∷◌, ◌++◌, filter, take, drop, arith, ap, sym, refl, ◌∙◌, subst}
+use Rattle.std.proofs.lemmas.List.{drop-drop}
+use Rattle.std.proofs.Math.Seq.{take-add}
 use Rattle.std.specs.List.{AllByRecursion}
 use mathlib.Core.Path.{fun_ext}
 use Rattle.far_word.specs.declared.pointer.PtrWord.{PtrWord}
@@ -17,7 +19,6 @@ use Rattle.far_evac.specs.Moment.{Moment, Tally, objects_in, plus}
 use Rattle.far_evac.specs.MomentLaw.{has_risen}
 use Rattle.far_evac.specs.RoundSteps.{with_clear_below}
 use Rattle.far_evac.specs.TakesRoom.{spot_of}
-use Rattle.far_evac.specs.Walk.{left}
 use Rattle.far_evac.proofs.InOrder.{in_order}
 use Rattle.far_evac.proofs.SmallSteps.{left_known}
 use Rattle.far_evac.proofs.Readiness.{risen_is_ready}
@@ -26,30 +27,6 @@ use Rattle.far_evac.proofs.RoomTurns.{clear_alike, marking_alike, marking_held}
 use Rattle.far_evac.proofs.TurnSteps.{KeepsTurns}
 
 -- ---- lists in two parts
-none_taken : (n : ℕ) → take {A = ℕ} n [] ≡ []
-none_taken zero = refl
-none_taken (suc n) = refl
-
-none_left : (n : ℕ) → drop {A = ℕ} n [] ≡ []
-none_left zero = refl
-none_left (suc n) = refl
-
-next_sum : (a b : ℕ) → suc a + b ≡ suc (a + b)
-next_sum a b = omega arith
-
-no_sum : (b : ℕ) → 0 + b ≡ b
-no_sum b = omega arith
-
-take_parts : (a b : ℕ) (xs : List ℕ) → take (a + b) xs ≡ take a xs ++ take b (drop a xs)
-take_parts zero b xs = ap (λ n. take n xs) (no_sum b)
-take_parts (suc a) b [] = none_taken (suc a + b) ∙ sym (none_taken b)
-take_parts (suc a) b (x ∷ xs) = ap (λ n. take n (x ∷ xs)) (next_sum a b) ∙ ap (λ ys. x ∷ ys) (take_parts a b xs)
-
-drop_parts : (a b : ℕ) (xs : List ℕ) → drop (a + b) xs ≡ drop b (drop a xs)
-drop_parts zero b xs = ap (λ n. drop n xs) (no_sum b)
-drop_parts (suc a) b [] = none_left (suc a + b) ∙ sym (none_left b)
-drop_parts (suc a) b (x ∷ xs) = ap (λ n. drop n (x ∷ xs)) (next_sum a b) ∙ drop_parts a b xs
-
 both_parts : (P : ℕ → Type 0) (xs ys : List ℕ) → AllByRecursion P (xs ++ ys) → AllByRecursion P xs × AllByRecursion P ys
 both_parts P [] ys h = (tt, h)
 both_parts P (x ∷ xs) ys h = let rest = both_parts P xs ys h.1 in ((h.0, rest.0), rest.1)
@@ -94,7 +71,7 @@ keeps_left m = record {
   walks = λ u k w tally lawful is walks h.
       let order = in_order u k w (risen_is_ready u lawful.0 lawful.1 (ap has_risen is)) walks in
       let sum : objects_in tally + k ≡ objects_in (plus tally w.tally) = omega (arith, order.counted) in
-      order.left ∙ ap (drop k) h ∙ sym (drop_parts (objects_in tally) k (live_among m.core m.collection)) ∙ ap (λ n. drop n (live_among m.core m.collection)) sum;
+      order.left ∙ ap (drop k) h ∙ drop-drop k (objects_in tally) (live_among m.core m.collection) ∙ ap (λ n. drop n (live_among m.core m.collection)) sum;
   ends = λ u tally h. h;
 }
 
@@ -102,7 +79,7 @@ keeps_left m = record {
 module _ (m u : Moment) (before : Tally) (stood : live_among u.core u.collection ≡ drop (objects_in before) (live_among m.core m.collection)) where
   first_on : (k n : ℕ) → n ≡ objects_in before + k → first_live m (objects_in before) ++ first_live u k ≡ first_live m n
   first_on k n sum =
-      ap (λ xs. first_live m (objects_in before) ++ take k xs) stood ∙ sym (take_parts (objects_in before) k (live_among m.core m.collection)) ∙ ap (λ x. take x (live_among m.core m.collection)) (sym sum)
+      ap (λ xs. first_live m (objects_in before) ++ take k xs) stood ∙ sym (take-add (objects_in before) k (live_among m.core m.collection)) ∙ ap (λ x. take x (live_among m.core m.collection)) (sym sum)
 
   module _ (a b c : ℕ → Option (List ℕ)) (keys : KeepsKeys (first_live m (objects_in before)) a b) (tally : Tally) where
     pub keys_on : KeepsKeys (first_live u (objects_in tally)) b c → KeepsKeys (first_live m (objects_in (plus before tally))) a c

@@ -1,8 +1,6 @@
 -- What polls and whole rounds do where no word changes but by them, they may do over any hand.
-use Rattle.std.proofs.Common.{◌≡◌, ℕ, zero, suc, ◌+◌, ◌/◌, ◌<◌, ◌≤◌, Bool, true, false, cond, not, ◌||◌, ◌==◌, nat_le, Option, Some, None, List, [], ◌∷◌, length, arith, ap, sym, refl, ◌∙◌, subst}
-use Rattle.std.specs.Prelude.{find}
-use Rattle.std.specs.List.{range_with_len}
-use Rattle.std.proofs.lemmas.Bool.{cond_both, true≢false, false≢true}
+use Rattle.std.proofs.Common.{◌≡◌, ℕ, zero, suc, ◌/◌, ◌≤◌, Bool, true, false, cond, ◌||◌, ◌==◌, nat_le, Option, Some, None, List, [], ◌∷◌, length, arith, ap, sym, refl, ◌∙◌, subst}
+use Rattle.std.proofs.lemmas.Bool.{cond_both, true≢false, or_parts, not-true}
 use Rattle.std.proofs.lemmas.Bool.Decides.{nat_tests}
 use Rattle.far_core.specs.state.Law.{Law}
 use Rattle.far_book.proofs.region.Owns.{own_law}
@@ -18,35 +16,21 @@ use Rattle.far_evac.specs.MomentLaw.{IsLawful, MomentLaw, is_idle}
 use Rattle.far_evac.specs.RoundSteps.{advanced, is_clear_now}
 use Rattle.far_evac.specs.Turns.{Turned, round_end, turn_size, turned, turns_made}
 use Rattle.far_evac.specs.Waiting.{after_polling, first_open, holds_up, polled, polled_at, polled_to}
-use Rattle.far_evac.specs.Walk.{Walked, begun, ended, is_done, left, walked}
+use Rattle.far_evac.specs.Walk.{Walked, ended, is_done, left, walked}
 use Rattle.far_evac.proofs.Joined.{plus_nothing}
+pub use Rattle.far_evac.proofs.Unviewed.{found_in}
 use Rattle.far_evac.proofs.Leading.{selecting}
 use Rattle.far_evac.proofs.LeadingTurns.{turns_lead}
 use Rattle.far_evac.proofs.Walks.{moment_same, walk_is}
 use Rattle.far_evac.proofs.SmallSteps.{walks_always}
 
 -- ---- a poll
-pub found_in : (test : ℕ → Bool) (k a n : ℕ) → find test (range_with_len a n) ≡ Some k → (test k ≡ true) × (k < a + n)
-found_in test k a zero = λ e. absurd cc
-found_in test k a (suc n) = cond_both (test a) (Some a) (find test (range_with_len (a + 1) n)) (λ (o : Option ℕ). o ≡ Some k → (test k ≡ true) × (k < a + suc n))
-    (λ h e. let same : a ≡ k = cc in (ap test (sym same) ∙ h, omega (arith, same)))
-    (λ _ e. let rest = found_in test k (a + 1) n e in (rest.0, omega (arith, rest.1)))
-
-pub unseen : (clear now : Bool) → not (clear || now) ≡ true → (clear ≡ false) × (now ≡ false)
-unseen true now h = absurd (false≢true h)
-unseen false true h = absurd (false≢true h)
-unseen false false h = (refl, refl)
-
-second : (a b : Bool) → (a || b) ≡ false → b ≡ false
-second true b h = absurd (true≢false h)
-second false b h = h
-
 polls_at : (m : Moment) (o : Option ℕ) → first_open m.core ≡ o → Polls m (polled_to m o) (polled_at m.core o)
 polls_at m None e = moment_same (polled_to m None)
 polls_at m (Some k) e =
     let found = found_in (holds_up m.core) k 0 m.core.mutators e in
-    let why = unseen (m.core.clear k) (is_clear_now m.core k) found.0 in
-    let late : nat_le m.core.round_epoch (m.core.scope k / 2) ≡ false = second (m.core.scope k == 0) (nat_le m.core.round_epoch (m.core.scope k / 2)) why.1 in
+    let why = or_parts (m.core.clear k) (is_clear_now m.core k) (not-true (m.core.clear k || is_clear_now m.core k) found.0) in
+    let late : nat_le m.core.round_epoch (m.core.scope k / 2) ≡ false = (or_parts (m.core.scope k == 0) (nat_le m.core.round_epoch (m.core.scope k / 2)) why.1).1 in
     record { leaves = moment_same (polled_to m (Some k)); owner = omega (arith, found.1); unseen = why.0; older = grind (arith, nat_tests, late) }
 
 pub polls_is : (m : Moment) → Polls m (after_polling m) (polled m.core)

@@ -1,6 +1,6 @@
 -- An object leaves its log as a word says that was found in its cell.
 use Rattle.std.proofs.Common.{◌≡◌, ◌≢◌, ℕ, ◌*◌, ◌/◌, ◌<◌, ◌||◌, ◌&&◌, Bool, true, false, cond, eqb, Option, Some, None, Result, Ok, Err, List, [], ◌∷◌, ◌++◌, IfOk, IfErr, IfSome, IfNone, MatchOption, arith, ap, sym, refl, ◌∙◌, subst}
-use Rattle.std.proofs.lemmas.Bool.{eq-eqb, true≢false, false_from_ne_true}
+use Rattle.std.proofs.lemmas.Bool.{eq-eqb, true≢false, false_from_ne_true, or_parts}
 use Rattle.far_word.specs.declared.mark.Marks.{Marks}
 use Rattle.far_word.specs.declared.pointer.Place.{Place}
 use Rattle.far_word.specs.declared.pointer.PtrWord.TheVariants.{Near, Far}
@@ -43,10 +43,6 @@ use Rattle.far_evac.proofs.Dealt.{NewPlace, room_new}
 use Rattle.far_evac.proofs.Hands.{evicted_seen, freed_seen, knows_far, knows_left, knows_more, knows_seen, knows_spans, knows_words, moved_seen}
 use Rattle.far_evac.proofs.LiveOnce.{LivesIn, first_named, near_at}
 use Rattle.far_evac.proofs.Tours.{goes_when, moves_when}
-
-or_none : (a b : Bool) → (a || b) ≡ false → (a ≡ false) × (b ≡ false)
-or_none true b h = absurd (true≢false h)
-or_none false b h = (refl, h)
 
 or_other : (a b : Bool) → (a || b) ≡ true → a ≡ false → b ≡ true
 or_other true b h none = absurd (true≢false none)
@@ -92,11 +88,11 @@ module _ (s : State) (p : ℕ) (q : IsQuietNear s p) (law : Law (own_part s)) (e
 
     cold : goes_near (read_of w) ≡ false → way_of s (read_of w) ≡ Goes
     cold h =
-        let none = or_none found.marks.dropped found.marks.hot (sym (ap goes_near found.near) ∙ h) in
+        let none = or_parts found.marks.dropped found.marks.hot (sym (ap goes_near found.near) ∙ h) in
         ap (way_of s) found.near ∙ ap (λ b. cond b Drops (cond found.marks.hot hot_one Goes)) none.0 ∙ ap (λ b. cond b hot_one Goes) none.1
 
     cold_alive : goes_near (read_of w) ≡ false → is_dropped (read_of w) ≡ false
-    cold_alive h = ap is_dropped found.near ∙ (or_none found.marks.dropped found.marks.hot (sym (ap goes_near found.near) ∙ h)).0
+    cold_alive h = ap is_dropped found.near ∙ (or_parts found.marks.dropped found.marks.hot (sym (ap goes_near found.near) ∙ h)).0
 
     hot : goes_near (read_of w) ≡ true → is_dropped (read_of w) ≡ false → way_of s (read_of w) ≡ hot_one
     hot h alive =
@@ -297,4 +293,3 @@ module _ (s : State) (p : ℕ) (q : IsQuietNear s p) (law : Law (own_part s)) (e
   sealed_kept Goes e =
       let why = goes_when f.marks.dropped f.marks.hot (room s (size_of q.len) false) (sym (ap (way_of s) f.near) ∙ e) in
       (sealed_logs_kept s p q.len q.ds law).goes q.place q.marks q.near (wanted s p q law evac) (alive_before s p q law evac w finds why)
-

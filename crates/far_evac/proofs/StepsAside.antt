@@ -45,44 +45,50 @@ unsealed kinds.Free ne = refl
 unsealed kinds.Open ne = refl
 unsealed kinds.Sealed ne = absurd (ne refl)
 
-module _ (m : Moment) (t : State) (law : Law m.core) (moment : MomentLaw m) (then : Law t) (aside : StepsAside m.core t) where
+-- the sealed logs in order, where another log may have been opened
+module _ (s t : State) (law : Law s) (then : Law t) (stay : (l : ℕ) → s.kind l ≡ kinds.Sealed → t.kind l ≡ kinds.Sealed) (others : (l : ℕ) → l ≢ s.current → l ≢ t.current → t.kind l ≡ s.kind l)
+    (shut : t.current ≢ s.current → t.kind s.current ≡ kinds.Sealed) (order : List ℕ) (has_sealed : (l : ℕ) → among order l ≡ is_sealed (s.kind l)) where
   abbrev was : ℕ
-  was = m.core.current
+  was = s.current
 
   -- a log that wasn't open is sealed exactly where it was
-  same_elsewhere : (l : ℕ) → l ≢ was → is_sealed (m.core.kind l) ≡ is_sealed (t.kind l)
+  same_elsewhere : (l : ℕ) → l ≢ was → is_sealed (s.kind l) ≡ is_sealed (t.kind l)
   same_elsewhere l ne = elim (cases_eq l t.current) [
-    | inl e ↦ unsealed (m.core.kind l) (λ shut. open_unsealed (t.kind l) (ap t.kind e ∙ then.logs.is_open) (aside.stay l shut)) ∙ sym (ap is_sealed (ap t.kind e ∙ then.logs.is_open))
-    | inr other ↦ ap is_sealed (sym (aside.others l ne other))
+    | inl e ↦ unsealed (s.kind l) (λ shut. open_unsealed (t.kind l) (ap t.kind e ∙ then.logs.is_open) (stay l shut)) ∙ sym (ap is_sealed (ap t.kind e ∙ then.logs.is_open))
+    | inr other ↦ ap is_sealed (sym (others l ne other))
   ]
 
   -- where the open log is the same, so are the sealed ones
-  same_sealed : t.current ≡ was → (l : ℕ) → is_sealed (m.core.kind l) ≡ is_sealed (t.kind l)
+  same_sealed : t.current ≡ was → (l : ℕ) → is_sealed (s.kind l) ≡ is_sealed (t.kind l)
   same_sealed same l = elim (cases_eq l was) [
-    | inl e ↦ ap is_sealed (ap m.core.kind e ∙ law.logs.is_open) ∙ sym (ap is_sealed (ap t.kind (e ∙ sym same) ∙ then.logs.is_open))
+    | inl e ↦ ap is_sealed (ap s.kind e ∙ law.logs.is_open) ∙ sym (ap is_sealed (ap t.kind (e ∙ sym same) ∙ then.logs.is_open))
     | inr ne ↦ same_elsewhere l ne
   ]
 
   -- else the one that was open is sealed too
-  more_sealed : t.current ≢ was → (l : ℕ) → (is_sealed (m.core.kind l) || (eqb l was || false)) ≡ is_sealed (t.kind l)
+  more_sealed : t.current ≢ was → (l : ℕ) → (is_sealed (s.kind l) || (eqb l was || false)) ≡ is_sealed (t.kind l)
   more_sealed other l = elim (cases_eq l was) [
-    | inl e ↦ or_right (is_sealed (m.core.kind l)) (eqb l was || false) (ap (λ b. b || false) (eq-eqb l was e)) ∙ ap is_sealed (sym (ap t.kind e ∙ aside.shut other))
-    | inr ne ↦ ap (λ b. is_sealed (m.core.kind l) || (b || false)) (ne_eqb l was ne) ∙ or-false (is_sealed (m.core.kind l)) ∙ same_elsewhere l ne
+    | inl e ↦ or_right (is_sealed (s.kind l)) (eqb l was || false) (ap (λ b. b || false) (eq-eqb l was e)) ∙ ap is_sealed (sym (ap t.kind e ∙ shut other))
+    | inr ne ↦ ap (λ b. is_sealed (s.kind l) || (b || false)) (ne_eqb l was ne) ∙ or-false (is_sealed (s.kind l)) ∙ same_elsewhere l ne
   ]
 
-  order_then : (l : ℕ) → among (with_core m t).order l ≡ is_sealed (t.kind l)
-  order_then l = cond_both (t.current == was) m.order (m.order ++ was ∷ []) (λ (xs : List ℕ). among xs l ≡ is_sealed (t.kind l))
-      (λ e. moment.order l ∙ same_sealed (eqb-true t.current was e) l)
-      (λ e. list_any-append (eqb l) m.order (was ∷ []) ∙ ap (λ b. b || (eqb l was || false)) (moment.order l) ∙ more_sealed (eqb-false t.current was e) l)
+  abbrev order_now : List ℕ
+  order_now = cond (t.current == was) order (order ++ was ∷ [])
 
-  once_then : IsDistinct eqb (with_core m t).order
-  once_then = cond_both (t.current == was) m.order (m.order ++ was ∷ []) (IsDistinct eqb)
-      (λ _. moment.order_once) (λ _. IsDistinct-push nat_eq_equiv m.order was moment.order_once (moment.order was ∙ ap is_sealed law.logs.is_open))
+  pub order_then : (l : ℕ) → among order_now l ≡ is_sealed (t.kind l)
+  order_then l = cond_both (t.current == was) order (order ++ was ∷ []) (λ (xs : List ℕ). among xs l ≡ is_sealed (t.kind l))
+      (λ e. has_sealed l ∙ same_sealed (eqb-true t.current was e) l)
+      (λ e. list_any-append (eqb l) order (was ∷ []) ∙ ap (λ b. b || (eqb l was || false)) (has_sealed l) ∙ more_sealed (eqb-false t.current was e) l)
 
+  pub once_then : IsDistinct eqb order → IsDistinct eqb order_now
+  once_then once = cond_both (t.current == was) order (order ++ was ∷ []) (IsDistinct eqb)
+      (λ _. once) (λ _. IsDistinct-push nat_eq_equiv order was once (has_sealed was ∙ ap is_sealed law.logs.is_open))
+
+module _ (m : Moment) (t : State) (law : Law m.core) (moment : MomentLaw m) (then : Law t) (aside : StepsAside m.core t) where
   pub law_kept : MomentLaw (with_core m t)
   law_kept = record {
-    order = order_then;
-    order_once = once_then;
+    order = order_then m.core t law then aside.stay aside.others aside.shut m.order moment.order;
+    order_once = once_then m.core t law then aside.stay aside.others aside.shut m.order moment.order moment.order_once;
     sealed = λ l held. aside.stay l (moment.sealed l held);
     collection_once = moment.collection_once;
     runs = moment.runs;

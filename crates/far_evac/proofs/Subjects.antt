@@ -1,5 +1,6 @@
 -- What a walk does, in the subject's words: where each object is that was dealt with, and that all others lie where they lay.
 use Rattle.std.proofs.Common.{◌≡◌, ◌≢◌, ℕ, ◌+◌, Bool, true, false, cond, Option, Some, None, List, [], ◌∷◌, ◌++◌, take, arith, ap, sym, refl, ◌∙◌, subst}
+use Rattle.std.proofs.lemmas.List.Sums.{fold_push}
 use Rattle.std.specs.Prelude.{count_by, fold}
 use Rattle.std.specs.List.{AllByRecursion}
 use Rattle.std.proofs.lemmas.Bool.{true≢false, false≢true}
@@ -52,12 +53,8 @@ same_test test bodily a b e = bodily a ∙ ap test e ∙ sym (bodily b)
 abbrev one_if : (ℕ → Bool) → ℕ → ℕ → ℕ
 one_if f n x = n + cond (f x) 1 0
 
-fold_end : (f : ℕ → Bool) (n : ℕ) (xs : List ℕ) (x : ℕ) → fold (one_if f) n (xs ++ (x ∷ [])) ≡ fold (one_if f) n xs + cond (f x) 1 0
-fold_end f n [] x = refl
-fold_end f n (y ∷ ys) x = fold_end f (one_if f n y) ys x
-
 count_end : (f : ℕ → Bool) (xs : List ℕ) (x : ℕ) → count_by f (xs ++ (x ∷ [])) ≡ count_by f xs + cond (f x) 1 0
-count_end f xs x = fold_end f 0 xs x
+count_end f xs x = fold_push (one_if f) 0 xs x
 
 fold_same : (f g : ℕ → Bool) (n : ℕ) (xs : List ℕ) → AllByRecursion (λ x. f x ≡ g x) xs → fold (one_if f) n xs ≡ fold (one_if g) n xs
 fold_same f g n [] h = refl

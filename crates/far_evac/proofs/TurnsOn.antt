@@ -1,5 +1,6 @@
 -- One turn more: its chain over any hand with what was asked, and the function where no word changes.
 use Rattle.std.proofs.Common.{◌≡◌, ◌≢◌, ℕ, zero, suc, ◌+◌, ◌-◌, ◌<◌, ◌≤◌, Bool, true, false, cond, Option, List, [], ◌∷◌, length, drop, arith, ap, sym, refl, ◌∙◌, subst}
+use Rattle.far_evac.proofs.LiveOnce.{one_more}
 use Rattle.std.proofs.lemmas.Bool.{true≢false}
 use Rattle.std.specs.Prelude.{Result}
 use Rattle.far_word.specs.declared.refused.Refused.{Refused}
@@ -26,15 +27,12 @@ not_idle phase runs e = true≢false (sym (ap is_idle e) ∙ runs)
 none_before : (n : ℕ) → 0 + n ≡ n
 none_before n = omega arith
 
-one_more : (n : ℕ) → n + 1 ≡ suc n
-one_more n = omega arith
-
 abbrev next_turn : Turned → Turned
 next_turn r = cond r.over r (turned r r.moment.phase)
 
 module _ (m : Moment) (n : ℕ) where
   pub turns_more : (u : Moment) (total : Tally) (r : Turned) → turns_made m n ≡ turned_at u total false → turned (turned_at u total false) u.phase ≡ r → turns_made m (n + 1) ≡ r
-  turns_more u total r before e = ap (turns_made m) (one_more n) ∙ ap next_turn before ∙ e
+  turns_more u total r before e = ap (turns_made m) (sym (one_more n)) ∙ ap next_turn before ∙ e
 
   stays_over : (d : ℕ) → (turns_made m n).over ≡ true → turns_made m (d + n) ≡ turns_made m n
   stays_over zero over = ap (turns_made m) (none_before n)

@@ -2,7 +2,7 @@
 use Rattle.std.proofs.Common.{◌≡◌, ℕ, suc, ◌+◌, ◌^◌, ◌<◌, ◌-◌, false, List, [], ◌∷◌, ◌++◌, take, drop, length, slice_index_or, arith, ap, sym, refl, ◌∙◌, subst}
 use Rattle.std.specs.Prelude.{fold}
 use Rattle.std.specs.List.{AllByRecursion}
-use Rattle.std.proofs.lemmas.List.{append-nil, append_assoc, length-drop, take_all}
+use Rattle.std.proofs.lemmas.List.{append-nil, append_assoc, take_rest}
 use Rattle.std.proofs.lemmas.List.Sums.{fold-append}
 use Rattle.far_word.specs.Sizes.{size_of}
 use Rattle.far_log.specs.declared.span.Span.{Span}
@@ -23,7 +23,7 @@ use Rattle.far_evac.proofs.Changing.{clear_leaves, cleared_known, unmarked_fits,
 use Rattle.far_evac.proofs.Fronts.{knows_cells}
 use Rattle.far_evac.proofs.SmallSteps.{drop_next}
 use Rattle.far_evac.proofs.Hands.{knows_more}
-use Rattle.far_evac.proofs.Lacking.{from_unmarked, live_unmarked}
+use Rattle.far_evac.proofs.Lacking.{from_unmarked, live_unmarked, among_append}
 use Rattle.far_evac.proofs.LiveLists.{knows_live}
 use Rattle.far_evac.proofs.LiveOnce.{each_map, live_named}
 use Rattle.far_evac.proofs.Marks.{IsNearWord, all_near, clear_sets, live_near, near_word}
@@ -113,10 +113,6 @@ live_all : (ps : List ℕ) (s : State) (l : ℕ) → AllByRecursion (λ p. IsNea
 live_all [] s l near = refl
 live_all (p ∷ ps) s l near = live_all ps (unmarked s p) l (all_near false unmarked evac_cleared (λ u q. refl) clear_sets s p ps near.0 near.1) ∙ live_unmarked s p near.0 l
 
-among_append : (s : State) (us vs : List ℕ) → live_among s (us ++ vs) ≡ live_among s us ++ live_among s vs
-among_append s [] vs = refl
-among_append s (u ∷ us) vs = ap (λ zs. live_in s u ++ zs) (among_append s us vs) ∙ sym (append_assoc (live_in s u) (live_among s us) (live_among s vs))
-
 module _ (start t : State) (fits : (q : ℕ) → start.cell q < 2 ^ 64) (passed : List ℕ) (l : ℕ) (known : Knows (fold unmarked start (live_among start passed)) t) (law : Law (own_part t)) where
   abbrev sofar : State
   sofar = fold unmarked start (live_among start passed)
@@ -150,6 +146,4 @@ taken_next xs ys i same lt =
     ap (λ n. take n xs) one ∙ (drop_next i xs (slice_index_or ys i 0) (drop (i + 1) xs) front).2
 
 pub slice_rest : (xs ys : List ℕ) (n : ℕ) → ys ≡ xs → take (length ys - n) (drop n ys) ≡ drop n xs
-slice_rest xs ys n same = whole n ys ∙ ap (drop n) same where
-  whole : (k : ℕ) (zs : List ℕ) → take (length zs - k) (drop k zs) ≡ drop k zs
-  whole k zs = let len = length-drop k zs in take_all (length zs - k) (drop k zs) (omega (arith, len))
+slice_rest xs ys n same = take_rest ys n ∙ ap (drop n) same

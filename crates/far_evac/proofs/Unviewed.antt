@@ -27,6 +27,21 @@ none_found test k a (suc n) = cond_both (test a) (Some a) (find test (range_with
       | inr le ↦ let same : k ≡ a = omega (arith, from, le) in ap test same ∙ not_here
     ])
 
+-- what is found first passes a test that those before it don't
+pub found_in : (test : ℕ → Bool) (k a n : ℕ) → find test (range_with_len a n) ≡ Some k → (test k ≡ true) × (k < a + n) × ((j : ℕ) → a ≤ j → j < k → test j ≡ false)
+found_in test k a zero = λ e. absurd cc
+found_in test k a (suc n) = cond_both (test a) (Some a) (find test (range_with_len (a + 1) n)) (λ (o : Option ℕ). o ≡ Some k → (test k ≡ true) × (k < a + suc n) × ((j : ℕ) → a ≤ j → j < k → test j ≡ false))
+    (λ h e. let same : a ≡ k = cc in (ap test (sym same) ∙ h, omega (arith, same), λ j from to. let odd : ⊥ = omega (arith, same, from, to) in absurd odd))
+    (λ here e.
+    let x = found_in test k (a + 1) n e in (
+      x.0,
+      omega (arith, x.1),
+      λ j from to. elim (cases_lt a j) [
+        | inl past ↦ x.2 j (omega (arith, past)) to
+        | inr le ↦ let same : j ≡ a = omega (arith, from, le) in ap test same ∙ here
+      ],
+    ))
+
 -- a word of a scope that isn't closed is that of one that is open
 pub open_of : (w : ℕ) → w ≢ 0 → IsSome (scope_of w) → scope_of w ≡ Some (scoped.Open (w / 2))
 unfolding scope_of

@@ -31,7 +31,7 @@ use Rattle.far_evac.proofs.Fronts.{first_lives}
 use Rattle.far_evac.proofs.Keeping.{KeepsLogs, bounded_kept, keeps_known, keeps_more, keeps_sealed, round_kept}
 use Rattle.far_evac.proofs.LiveLists.{finds_place, knows_live}
 use Rattle.far_evac.proofs.Passing.{boundary_known, one_or_behind}
-use Rattle.far_evac.proofs.SendingOff.{found, sealed_kept}
+use Rattle.far_evac.proofs.SendingOff.{sealed_kept}
 use Rattle.far_evac.proofs.Tours.{core_so, gone_found}
 use Rattle.far_evac.proofs.Walking.{among_front, stands_at}
 
@@ -142,4 +142,3 @@ exact_way w v p fate Goes core order is phase held counted = λ i. record {
 pub dealt_exact : (w v : Walked) (p word : ℕ) (fate : Fate) → LeavesAs w.moment.core w.moment.order v.moment.core v.moment.order p word fate → v.moment.phase ≡ w.moment.phase → v.moment.collection ≡ w.moment.collection →
     v.tally ≡ counted_as w.tally fate → v ≡ dealt_as w p (read_of word)
 dealt_exact w v p word fate leaves phase held counted = exact_way w v p fate (way_of w.moment.core (read_of word)) leaves.core leaves.sealed leaves.is phase held counted
-

@@ -9,8 +9,8 @@ use Rattle.far_core.specs.events.Clear.{is_near}
 use Rattle.far_core.specs.state.Spans.{names_place}
 use Rattle.far_core.specs.state.State.{State}
 use Rattle.far_hand.specs.Finds.{body_of}
-use Rattle.far_evac.specs.Live.{live_in, live_among, is_empty}
-use Rattle.far_evac.specs.Moment.{Moment, Tally, objects_in}
+use Rattle.far_evac.specs.Live.{live_in, is_empty}
+use Rattle.far_evac.specs.Moment.{Moment, Tally}
 
 -- what p's cell says
 abbrev pub says : Moment → ℕ → Option PtrWord

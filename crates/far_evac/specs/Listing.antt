@@ -1,5 +1,5 @@
 -- What a census tells, in the subject's words: where the object of each pointer is, by rising numbers, and of each log what it is and has, in order.
-use Rattle.std.specs.Prelude.{◌≡◌, ◌↔◌, ℕ, ◌<◌, true, false, Some, List, [], ◌∷◌, map, Contains}
+use Rattle.std.specs.Prelude.{◌≡◌, ◌↔◌, ℕ, ◌<◌, true, false, Some, List, map, Contains}
 use Rattle.std.specs.List.{AllByRecursion, range_with_len}
 use Rattle.far_word.specs.declared.pointer.PtrWord.TheVariants as pointer
 use Rattle.far_word.specs.Pointer.{read_of}

@@ -16,7 +16,7 @@ use Rattle.far_book.specs.book.Own.{own_part}
 use Rattle.far_evac.specs.declared.answers.Polled.{Polled}
 use Rattle.far_evac.specs.declared.answers.Progress.{Progress}
 use Rattle.far_evac.specs.declared.answers.RoundEnd.{RoundEnd}
-use Rattle.far_evac.specs.declared.phase.Phase.TheVariants.{Marking, Evacuating}
+use Rattle.far_evac.specs.declared.phase.Phase.TheVariants.{Evacuating}
 use Rattle.far_evac.specs.AnyHand.{Evacuates, GivesUp, KnowsMoment, MarksSome, Polls, RunsRound, StopsAt, StopsRound, TurnsMade, TurnsTo}
 use Rattle.far_evac.specs.Choosing.{after_aborting, after_selecting, is_spent}
 use Rattle.far_evac.specs.Marking.{after_marking}

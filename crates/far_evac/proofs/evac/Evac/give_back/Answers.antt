@@ -1,128 +1,94 @@
 use Rattle.std.proofs.Common.{◌≡◌, ◌+◌, ◌<◌, ◌≤◌, ◌∙◌, ◌∷◌, [], length, arith, ap, sym, subst}
 use Rattle.std.proofs.lemmas.Bool.Decides.{nat_tests}
 use Rattle.far_book.specs.book.Releasing.{order_without, released}
+use Rattle.far_core.specs.events.Get.{IsVacant}
 use Rattle.far_evac.specs.AnyHand.{Knows}
 use Rattle.far_evac.specs.EvacOf.{EvacOf}
 use Rattle.far_evac.specs.Live.{live_in}
+use Rattle.far_evac.specs.Standing.{collection_in}
+use Rattle.far_evac.specs.declared.phase.Phase.TheVariants.{Evacuating}
 use Rattle.far_evac.proofs.GivingBack.{ends, given_known, goes_on, held_next, held_then, last_held, more_held}
 use Rattle.far_evac.proofs.Walking.{front_range, front_vacant}
+use Rattle.far_evac.proofs.evac.Evac.give_back.Given.{Over}
+use Rattle.far_evac.proofs.evac.Evac.give_back.Goals.{After-keeps_law, After-keeps_law-2}
 use Rattle.far_evac.proofs.evac.Evac.give_back.Goals as goal
+
+-- as the round has it
+module _ (g : Over) (c : After-keeps_law g) where
+  walks : c.self.inside.round.phase ≡ Evacuating
+  walks = ap (λ (e : EvacOf g.row.N.Denot g.row.D.Denot). e.phase) c.self.view_is ∙ c.requires.phase
+
+  held : collection_in c.self.inside.round ≡ c.args.log ∷ c.requires.front.0
+  held = ap (λ (e : EvacOf g.row.N.Denot g.row.D.Denot). e.collection) c.self.view_is ∙ c.requires.front.1
+
+  vacant : IsVacant (g.N.Hand.view c.self.inside.book.near) c.args.log
+  vacant =
+      let none = subst (λ (e : EvacOf g.row.N.Denot g.row.D.Denot). live_in (g.N.Hand.view e.book.near) c.args.log ≡ []) (sym c.self.view_is) c.requires.none in
+      front_vacant (g.N.Hand.view c.self.inside.book.near) c.self.inside.round c.self.invariant c.keeps_law.ensures.law walks c.args.log c.requires.front.0 held none
+
+knows : (g : Over) (c : After-keeps_law-2 g) → IsVacant (g.N.Hand.view c.self.inside.book.near) c.args.log → Knows (released (g.N.Hand.view c.self.inside.book.near) c.args.log) (g.N.Hand.view c.release.new.self.near)
+knows g c empty =
+    let freed = c.release.ensures.vacant.1 empty in
+    given_known (g.N.Hand.view c.self.inside.book.near) (g.N.Hand.view c.release.new.self.near) c.args.log (c.release.ensures.kept freed) (c.release.ensures.forgot freed) c.keeps_law-2.ensures.law
 
 pub release-requires-clause-log : goal.release-requires-clause-log
 release-requires-clause-log g c =
-    let phase = ap (λ (e : EvacOf g.row.N.Denot g.row.D.Denot). e.phase) c.self.view_is ∙ c.requires.phase in
-    let held = ap (λ (e : EvacOf g.row.N.Denot g.row.D.Denot). e.collection) c.self.view_is ∙ c.requires.front.1 in
-    front_range (g.N.Hand.view c.self.inside.book.near) c.self.inside.round c.self.invariant c.keeps_law.ensures.law phase c.args.log c.requires.front.0 held
+    let h = (goal.at.release-requires-clause-log g c).After-keeps_law in
+    front_range (g.N.Hand.view c.self.inside.book.near) c.self.inside.round c.self.invariant c.keeps_law.ensures.law (walks g h) c.args.log c.requires.front.0 (held g h)
 
 pub invariant_of-self : goal.invariant_of-self
 invariant_of-self g c =
-    let phase = ap (λ (e : EvacOf g.row.N.Denot g.row.D.Denot). e.phase) c.self.view_is ∙ c.requires.phase in
-    let held = ap (λ (e : EvacOf g.row.N.Denot g.row.D.Denot). e.collection) c.self.view_is ∙ c.requires.front.1 in
-    let s = g.N.Hand.view c.self.inside.book.near in
-    let t = g.N.Hand.view c.release.new.self.near in
-    let r = c.self.inside.round in
-    let none = subst (λ (e : EvacOf g.row.N.Denot g.row.D.Denot). live_in (g.N.Hand.view e.book.near) c.args.log ≡ []) (sym c.self.view_is) c.requires.none in
-    let freed = c.release.ensures.vacant.1 (front_vacant s r c.self.invariant c.keeps_law.ensures.law phase c.args.log c.requires.front.0 held none) in
-    let knows = given_known s t c.args.log (c.release.ensures.kept freed) (c.release.ensures.forgot freed) c.keeps_law-2.ensures.law in
-    ends s t r c.self.invariant c.keeps_law-2.ensures.law phase c.args.log c.requires.front.0 held knows
+    let h = (goal.at.invariant_of-self g c).After-keeps_law in
+    ends (g.N.Hand.view c.self.inside.book.near) (g.N.Hand.view c.release.new.self.near) c.self.inside.round c.self.invariant c.keeps_law-2.ensures.law (walks g h) c.args.log c.requires.front.0 (held g h)
+    (knows g (goal.at.invariant_of-self g c).After-keeps_law-2 (vacant g h))
 
 pub invariant_of-self-else-self-len : goal.invariant_of-self-else-self-len
 invariant_of-self-else-self-len g c =
-    let phase = ap (λ (e : EvacOf g.row.N.Denot g.row.D.Denot). e.phase) c.self.view_is ∙ c.requires.phase in
-    let held = ap (λ (e : EvacOf g.row.N.Denot g.row.D.Denot). e.collection) c.self.view_is ∙ c.requires.front.1 in
-    let s = g.N.Hand.view c.self.inside.book.near in
-    let t = g.N.Hand.view c.release.new.self.near in
+    let h = (goal.at.invariant_of-self-else-self-len g c).After-keeps_law in
     let r = c.self.inside.round in
-    let none = subst (λ (e : EvacOf g.row.N.Denot g.row.D.Denot). live_in (g.N.Hand.view e.book.near) c.args.log ≡ []) (sym c.self.view_is) c.requires.none in
-    let freed = c.release.ensures.vacant.1 (front_vacant s r c.self.invariant c.keeps_law.ensures.law phase c.args.log c.requires.front.0 held none) in
-    let knows = given_known s t c.args.log (c.release.ensures.kept freed) (c.release.ensures.forgot freed) c.keeps_law-2.ensures.law in
-    let most = (held_next r phase c.args.log c.requires.front.0 held).1 in
+    let most = (held_next r (walks g h) c.args.log c.requires.front.0 (held g h)).1 in
     let some : r.index + 1 < length r.chosen = grind (arith, nat_tests, most, c.len.ensures, c.if-self-len.false) in
-    goes_on s t r c.self.invariant c.keeps_law-2.ensures.law phase c.args.log c.requires.front.0 held knows (more_held r phase c.args.log c.requires.front.0 held some)
+    goes_on (g.N.Hand.view c.self.inside.book.near) (g.N.Hand.view c.release.new.self.near) r c.self.invariant c.keeps_law-2.ensures.law (walks g h) c.args.log c.requires.front.0 (held g h)
+    (knows g (goal.at.invariant_of-self-else-self-len g c).After-keeps_law-2 (vacant g h)) (more_held r (walks g h) c.args.log c.requires.front.0 (held g h) some)
 
 pub returns-then-self-len-clause-core : goal.returns-then-self-len-clause-core
 returns-then-self-len-clause-core g c =
-    let phase = ap (λ (e : EvacOf g.row.N.Denot g.row.D.Denot). e.phase) c.self.view_is ∙ c.requires.phase in
-    let held = ap (λ (e : EvacOf g.row.N.Denot g.row.D.Denot). e.collection) c.self.view_is ∙ c.requires.front.1 in
-    let s = g.N.Hand.view c.self.inside.book.near in
-    let t = g.N.Hand.view c.release.new.self.near in
-    let r = c.self.inside.round in
-    let none = subst (λ (e : EvacOf g.row.N.Denot g.row.D.Denot). live_in (g.N.Hand.view e.book.near) c.args.log ≡ []) (sym c.self.view_is) c.requires.none in
-    let freed = c.release.ensures.vacant.1 (front_vacant s r c.self.invariant c.keeps_law.ensures.law phase c.args.log c.requires.front.0 held none) in
-    let knows = given_known s t c.args.log (c.release.ensures.kept freed) (c.release.ensures.forgot freed) c.keeps_law-2.ensures.law in
-    subst (λ (e : EvacOf g.row.N.Denot g.row.D.Denot). Knows (released (g.N.Hand.view e.book.near) c.args.log) t) c.self.view_is knows
+    let knows = knows g (goal.at.returns-then-self-len-clause-core g c).After-keeps_law-2 (vacant g (goal.at.returns-then-self-len-clause-core g c).After-keeps_law) in
+    subst (λ (e : EvacOf g.row.N.Denot g.row.D.Denot). Knows (released (g.N.Hand.view e.book.near) c.args.log) (g.N.Hand.view c.release.new.self.near)) c.self.view_is knows
 
 pub returns-then-self-len-clause-exact : goal.returns-then-self-len-clause-exact
 returns-then-self-len-clause-exact g c =
-    let phase = ap (λ (e : EvacOf g.row.N.Denot g.row.D.Denot). e.phase) c.self.view_is ∙ c.requires.phase in
-    let held = ap (λ (e : EvacOf g.row.N.Denot g.row.D.Denot). e.collection) c.self.view_is ∙ c.requires.front.1 in
-    let s = g.N.Hand.view c.self.inside.book.near in
-    let t = g.N.Hand.view c.release.new.self.near in
-    let r = c.self.inside.round in
-    let none = subst (λ (e : EvacOf g.row.N.Denot g.row.D.Denot). live_in (g.N.Hand.view e.book.near) c.args.log ≡ []) (sym c.self.view_is) c.requires.none in
-    let freed = c.release.ensures.vacant.1 (front_vacant s r c.self.invariant c.keeps_law.ensures.law phase c.args.log c.requires.front.0 held none) in
+    let freed = c.release.ensures.vacant.1 (vacant g (goal.at.returns-then-self-len-clause-exact g c).After-keeps_law) in
     λ still. c.release.ensures.exact still freed ∙ ap (λ (e : EvacOf g.row.N.Denot g.row.D.Denot). released (g.N.Hand.view e.book.near) c.args.log) c.self.view_is
 
 pub returns-then-self-len-clause-order : goal.returns-then-self-len-clause-order
 returns-then-self-len-clause-order g c =
-    let phase = ap (λ (e : EvacOf g.row.N.Denot g.row.D.Denot). e.phase) c.self.view_is ∙ c.requires.phase in
-    let held = ap (λ (e : EvacOf g.row.N.Denot g.row.D.Denot). e.collection) c.self.view_is ∙ c.requires.front.1 in
-    let s = g.N.Hand.view c.self.inside.book.near in
-    let t = g.N.Hand.view c.release.new.self.near in
-    let r = c.self.inside.round in
-    let none = subst (λ (e : EvacOf g.row.N.Denot g.row.D.Denot). live_in (g.N.Hand.view e.book.near) c.args.log ≡ []) (sym c.self.view_is) c.requires.none in
-    let freed = c.release.ensures.vacant.1 (front_vacant s r c.self.invariant c.keeps_law.ensures.law phase c.args.log c.requires.front.0 held none) in
+    let freed = c.release.ensures.vacant.1 (vacant g (goal.at.returns-then-self-len-clause-order g c).After-keeps_law) in
     c.release.ensures.order freed ∙ ap (λ (e : EvacOf g.row.N.Denot g.row.D.Denot). order_without c.args.log e.book.order) c.self.view_is
 
 pub returns-then-self-len-clause-collection : goal.returns-then-self-len-clause-collection
 returns-then-self-len-clause-collection g c =
-    let phase = ap (λ (e : EvacOf g.row.N.Denot g.row.D.Denot). e.phase) c.self.view_is ∙ c.requires.phase in
-    let held = ap (λ (e : EvacOf g.row.N.Denot g.row.D.Denot). e.collection) c.self.view_is ∙ c.requires.front.1 in
-    let s = g.N.Hand.view c.self.inside.book.near in
-    let t = g.N.Hand.view c.release.new.self.near in
+    let h = (goal.at.returns-then-self-len-clause-collection g c).After-keeps_law in
     let r = c.self.inside.round in
     let all : length r.chosen ≤ r.index + 1 = grind (arith, nat_tests, c.len.ensures, c.if-self-len.true) in
-    c.requires.front.1 ∙ ap (λ ls. c.args.log ∷ ls) (last_held r phase c.args.log c.requires.front.0 held all)
+    c.requires.front.1 ∙ ap (λ ls. c.args.log ∷ ls) (last_held r (walks g h) c.args.log c.requires.front.0 (held g h) all)
 
 pub returns-else-self-len-clause-core : goal.returns-else-self-len-clause-core
 returns-else-self-len-clause-core g c =
-    let phase = ap (λ (e : EvacOf g.row.N.Denot g.row.D.Denot). e.phase) c.self.view_is ∙ c.requires.phase in
-    let held = ap (λ (e : EvacOf g.row.N.Denot g.row.D.Denot). e.collection) c.self.view_is ∙ c.requires.front.1 in
-    let s = g.N.Hand.view c.self.inside.book.near in
-    let t = g.N.Hand.view c.release.new.self.near in
-    let r = c.self.inside.round in
-    let none = subst (λ (e : EvacOf g.row.N.Denot g.row.D.Denot). live_in (g.N.Hand.view e.book.near) c.args.log ≡ []) (sym c.self.view_is) c.requires.none in
-    let freed = c.release.ensures.vacant.1 (front_vacant s r c.self.invariant c.keeps_law.ensures.law phase c.args.log c.requires.front.0 held none) in
-    let knows = given_known s t c.args.log (c.release.ensures.kept freed) (c.release.ensures.forgot freed) c.keeps_law-2.ensures.law in
-    subst (λ (e : EvacOf g.row.N.Denot g.row.D.Denot). Knows (released (g.N.Hand.view e.book.near) c.args.log) t) c.self.view_is knows
+    let knows = knows g (goal.at.returns-else-self-len-clause-core g c).After-keeps_law-2 (vacant g (goal.at.returns-else-self-len-clause-core g c).After-keeps_law) in
+    subst (λ (e : EvacOf g.row.N.Denot g.row.D.Denot). Knows (released (g.N.Hand.view e.book.near) c.args.log) (g.N.Hand.view c.release.new.self.near)) c.self.view_is knows
 
 pub returns-else-self-len-clause-exact : goal.returns-else-self-len-clause-exact
 returns-else-self-len-clause-exact g c =
-    let phase = ap (λ (e : EvacOf g.row.N.Denot g.row.D.Denot). e.phase) c.self.view_is ∙ c.requires.phase in
-    let held = ap (λ (e : EvacOf g.row.N.Denot g.row.D.Denot). e.collection) c.self.view_is ∙ c.requires.front.1 in
-    let s = g.N.Hand.view c.self.inside.book.near in
-    let t = g.N.Hand.view c.release.new.self.near in
-    let r = c.self.inside.round in
-    let none = subst (λ (e : EvacOf g.row.N.Denot g.row.D.Denot). live_in (g.N.Hand.view e.book.near) c.args.log ≡ []) (sym c.self.view_is) c.requires.none in
-    let freed = c.release.ensures.vacant.1 (front_vacant s r c.self.invariant c.keeps_law.ensures.law phase c.args.log c.requires.front.0 held none) in
+    let freed = c.release.ensures.vacant.1 (vacant g (goal.at.returns-else-self-len-clause-exact g c).After-keeps_law) in
     λ still. c.release.ensures.exact still freed ∙ ap (λ (e : EvacOf g.row.N.Denot g.row.D.Denot). released (g.N.Hand.view e.book.near) c.args.log) c.self.view_is
 
 pub returns-else-self-len-clause-order : goal.returns-else-self-len-clause-order
 returns-else-self-len-clause-order g c =
-    let phase = ap (λ (e : EvacOf g.row.N.Denot g.row.D.Denot). e.phase) c.self.view_is ∙ c.requires.phase in
-    let held = ap (λ (e : EvacOf g.row.N.Denot g.row.D.Denot). e.collection) c.self.view_is ∙ c.requires.front.1 in
-    let s = g.N.Hand.view c.self.inside.book.near in
-    let t = g.N.Hand.view c.release.new.self.near in
-    let r = c.self.inside.round in
-    let none = subst (λ (e : EvacOf g.row.N.Denot g.row.D.Denot). live_in (g.N.Hand.view e.book.near) c.args.log ≡ []) (sym c.self.view_is) c.requires.none in
-    let freed = c.release.ensures.vacant.1 (front_vacant s r c.self.invariant c.keeps_law.ensures.law phase c.args.log c.requires.front.0 held none) in
+    let freed = c.release.ensures.vacant.1 (vacant g (goal.at.returns-else-self-len-clause-order g c).After-keeps_law) in
     c.release.ensures.order freed ∙ ap (λ (e : EvacOf g.row.N.Denot g.row.D.Denot). order_without c.args.log e.book.order) c.self.view_is
 
 pub returns-else-self-len-clause-collection : goal.returns-else-self-len-clause-collection
 returns-else-self-len-clause-collection g c =
-    let phase = ap (λ (e : EvacOf g.row.N.Denot g.row.D.Denot). e.phase) c.self.view_is ∙ c.requires.phase in
-    let held = ap (λ (e : EvacOf g.row.N.Denot g.row.D.Denot). e.collection) c.self.view_is ∙ c.requires.front.1 in
-    let s = g.N.Hand.view c.self.inside.book.near in
-    let t = g.N.Hand.view c.release.new.self.near in
-    let r = c.self.inside.round in
-    c.requires.front.1 ∙ ap (λ ls. c.args.log ∷ ls) (sym (held_then r phase c.args.log c.requires.front.0 held))
+    let h = (goal.at.returns-else-self-len-clause-collection g c).After-keeps_law in
+    c.requires.front.1 ∙ ap (λ ls. c.args.log ∷ ls) (sym (held_then c.self.inside.round (walks g h) c.args.log c.requires.front.0 (held g h)))

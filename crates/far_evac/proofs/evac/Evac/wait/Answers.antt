@@ -1,15 +1,16 @@
 use Rattle.std.proofs.Common.{◌≡◌, ◌∙◌, ap, sym, subst, refl, []}
-use Rattle.far_core.specs.state.State.{State}
-use Rattle.far_evac.specs.AnyHand.{KnowsMoment}
 use Rattle.far_evac.specs.EvacOf.{EvacOf, moment}
 use Rattle.far_evac.specs.Live.{lacking}
 use Rattle.far_evac.specs.Moment.{Moment}
 use Rattle.far_evac.specs.RoundSteps.{advanced}
-use Rattle.far_evac.specs.Standing.{collection_in}
 use Rattle.far_evac.specs.declared.phase.Phase.TheVariants.{Marking, Waiting}
 use Rattle.far_evac.proofs.MarkRuns.{may_choose, rises_exactly, rises_known, waiting_held, waits_so}
 use Rattle.far_evac.proofs.MarkSteps.{knows_so, moment_so}
+use Rattle.far_evac.proofs.evac.Evac.wait.Given.{Over}
 use Rattle.far_evac.proofs.evac.Evac.wait.Goals as goal
+
+abbrev risen : (g : Over) → EvacOf g.row.N.Denot g.row.D.Denot → Moment
+risen g e = record (moment g.N.Hand.view e) { core = advanced (g.N.Hand.view e.book.near) e.collection; phase = Waiting }
 
 pub advance-requires : goal.advance-requires
 advance-requires g c =
@@ -23,28 +24,17 @@ pub returns-clause-known : goal.returns-clause-known
 returns-clause-known g c =
     let marks = subst (λ (e : EvacOf g.row.N.Denot g.row.D.Denot). e.phase ≡ Marking) (sym c.self.view_is) c.requires.marking in
     let s = g.N.Hand.view c.self.inside.book.near in
-    let t = g.N.Hand.view c.advance.new.self.near in
     let r = c.self.inside.round in
-    let then : Moment = record { core = t; order = c.advance.new.self.order; phase = Waiting; collection = r.chosen } in
-    subst (λ (v : EvacOf g.row.N.Denot g.row.D.Denot). KnowsMoment (record (moment g.N.Hand.view v) { core = advanced (g.N.Hand.view v.book.near) v.collection; phase = Waiting }) then)
-    c.self.view_is
-    (knows_so (advanced s (collection_in r)) t c.self.inside.book.order c.advance.new.self.order Waiting Waiting (collection_in r) r.chosen
-    (rises_known s r c.self.invariant marks c.set_of.result c.set_of.ensures t c.keeps_law-2.ensures.law c.in-Ok.ensures.kept c.in-Ok.ensures.forgot)
-    c.in-Ok.ensures.order refl (waiting_held s r c.self.invariant marks c.set_of.result c.set_of.ensures))
+    knows_so c.in-Ok.ensures.order refl (waiting_held s r c.self.invariant marks c.set_of.result c.set_of.ensures) (ap (risen g) c.self.view_is)
+    (rises_known s r c.self.invariant marks c.set_of.result c.set_of.ensures (g.N.Hand.view c.advance.new.self.near) c.keeps_law-2.ensures.law c.in-Ok.ensures.kept c.in-Ok.ensures.forgot)
 
 pub returns-clause-exact : goal.returns-clause-exact
 returns-clause-exact g c still =
     let marks = subst (λ (e : EvacOf g.row.N.Denot g.row.D.Denot). e.phase ≡ Marking) (sym c.self.view_is) c.requires.marking in
     let s = g.N.Hand.view c.self.inside.book.near in
-    let t = g.N.Hand.view c.advance.new.self.near in
     let r = c.self.inside.round in
-    let then : Moment = record { core = t; order = c.advance.new.self.order; phase = Waiting; collection = r.chosen } in
-    let made : Moment = record { core = advanced s (collection_in r); order = c.advance.new.self.order; phase = Waiting; collection = r.chosen } in
-    let same : then ≡ made = ap (λ (core : State). record then { core = core }) (rises_exactly s r c.self.invariant marks c.set_of.result c.set_of.ensures t (c.in-Ok.ensures.set still)) in
-    subst (λ (v : EvacOf g.row.N.Denot g.row.D.Denot). then ≡ record (moment g.N.Hand.view v) { core = advanced (g.N.Hand.view v.book.near) v.collection; phase = Waiting })
-    c.self.view_is
-    (same ∙ moment_so (advanced s (collection_in r)) c.self.inside.book.order c.advance.new.self.order Waiting Waiting (collection_in r) r.chosen c.in-Ok.ensures.order refl
-    (waiting_held s r c.self.invariant marks c.set_of.result c.set_of.ensures))
+    moment_so c.in-Ok.ensures.order refl (waiting_held s r c.self.invariant marks c.set_of.result c.set_of.ensures)
+    (rises_exactly s r c.self.invariant marks c.set_of.result c.set_of.ensures (g.N.Hand.view c.advance.new.self.near) (c.in-Ok.ensures.set still)) ∙ ap (risen g) c.self.view_is
 
 pub invariant_of-self : goal.invariant_of-self
 invariant_of-self g c =
