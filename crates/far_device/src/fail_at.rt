@@ -105,6 +105,14 @@ impl<D: Device + Drop> Device for FailAt<D> {
         self.inner.read(id)
     }
 
+    #[inline]
+    fn read_into(&mut self, id: u32, buffer: Vec<u8>) -> Result<Vec<u8>, DeviceFault> {
+        if self.fails() {
+            return Err(DeviceFault::Device);
+        }
+        self.inner.read_into(id, buffer)
+    }
+
     fn forget(&mut self, id: u32) {
         self.inner.forget(id);
     }
