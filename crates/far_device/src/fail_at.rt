@@ -91,6 +91,7 @@ impl<D: Device + Drop> Device for FailAt<D> {
         (λ x. x.inner) (λ x. x.left) (λ x. x.own) D.contents D.honest D.faults D.fails_at_most (other_than id) s t
         (D.forget_follows s.inner id t.inner h.0) h.1 h.2 };
 
+    #[inline(always)]
     fn write(&mut self, id: u32, bytes: &[u8]) -> Result<(), DeviceFault> {
         if self.fails() {
             return Err(DeviceFault::Device);
@@ -105,6 +106,15 @@ impl<D: Device + Drop> Device for FailAt<D> {
         self.inner.read(id)
     }
 
+    #[inline(always)]
+    fn read_into(&mut self, id: u32, buffer: Vec<u8>) -> Result<Vec<u8>, DeviceFault> {
+        if self.fails() {
+            return Err(DeviceFault::Device);
+        }
+        self.inner.read_into(id, buffer)
+    }
+
+    #[inline(always)]
     fn forget(&mut self, id: u32) {
         self.inner.forget(id);
     }

@@ -59,6 +59,19 @@ impl<D: Device + Drop> Liar<D> {
             left: k,
         }
     }
+
+    // Counts a read. Whether it is the one that is a lie.
+    #[inline]
+    fn lies(&mut self) -> bool
+        ensures turn { result ≡ (self.old.left == 1) }
+        ensures inner { self.new.inner ≡ self.old.inner }
+        ensures lie { self.new.lie ≡ self.old.lie }
+        ensures left { self.new.left ≡ self.old.left - 1 }
+    {
+        let lies = self.left == 1;
+        self.left = self.left.saturating_sub(1);
+        lies
+    }
 }
 
 impl Lie {
@@ -136,9 +149,17 @@ impl<D: Device + Drop> Device for Liar<D> {
     }
 
     fn read(&mut self, id: u32) -> Result<Vec<u8>, DeviceFault> {
-        let lies = self.left == 1;
-        self.left = self.left.saturating_sub(1);
+        let lies = self.lies();
         let mut bytes = self.inner.read(id)?;
+        if lies {
+            self.lie.tell(&mut bytes);
+        }
+        Ok(bytes)
+    }
+
+    fn read_into(&mut self, id: u32, buffer: Vec<u8>) -> Result<Vec<u8>, DeviceFault> {
+        let lies = self.lies();
+        let mut bytes = self.inner.read_into(id, buffer)?;
         if lies {
             self.lie.tell(&mut bytes);
         }

@@ -10,7 +10,7 @@ mod fault;
 mod laws;
 mod liar;
 mod mem;
-mod spares;
+mod slot;
 #[cfg(test)]
 mod tests;
 

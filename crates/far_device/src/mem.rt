@@ -8,7 +8,7 @@ ghost use Rattle.far_device.specs.declared.fault.DeviceFault.TheVariants.{Memory
 
 use crate::device::Device;
 use crate::fault::DeviceFault;
-use crate::spares::{Spares, refill};
+use crate::slot::{Slot, refill, replace};
 use std::alloc::Global;
 use std::collections::HashMap;
 use std::collections::hash_map::Entry;
@@ -21,10 +21,9 @@ const ROW: u32 = 1024;
 pub struct MemDevice {
     pub(crate) alloc: Global,
     // What is under the keys below ROW, as far as one was written.
-    pub(crate) row: Vec<Option<Vec<u8>>>,
+    pub(crate) row: Vec<Slot>,
     // What is under all others.
     pub(crate) others: HashMap<u32, Vec<u8>>,
-    pub(crate) spares: Spares,
     pub(crate) faults: u64,
 }
 
@@ -40,7 +39,6 @@ impl MemDevice {
             alloc,
             row: Vec::new(alloc),
             others: HashMap::new(alloc),
-            spares: Spares::new(alloc),
             faults: 0,
         }
     }
@@ -52,15 +50,14 @@ impl MemDevice {
         ensures none { IfNone result (bytes_at self.now id ≡ None) }
     {
         if id < ROW {
-            let held = self.row.get(id as usize)?.as_ref()?;
-            return Some(held.as_slice());
+            return self.row.get(id as usize)?.bytes();
         }
         let held = self.others.get(&id)?;
         Some(held.as_slice())
     }
 
     // Puts bytes under a key that stands in the row.
-    #[inline]
+    #[inline(always)]
     fn write_row(&mut self, id: usize, bytes: &[u8]) -> Result<(), DeviceFault>
         requires { id < 1024 }
         ensures set { OnOk result (bytes_at self.new id ≡ Some bytes.now) }
@@ -69,10 +66,10 @@ impl MemDevice {
         ensures unchanged { OnErr result (bytes_at self.new ≡ bytes_at self.old) }
         ensures faults { faults_of self.new ≡ faults_of self.old }
     {
-        if self.row.len() <= id && !lengthen(&mut self.row, id) {
+        if self.row.len() <= id && !lengthen(&mut self.row, self.alloc, id) {
             return Err(DeviceFault::Memory);
         }
-        if !self.spares.put(&mut self.row[id], bytes) {
+        if !self.row[id].put(self.alloc, bytes) {
             return Err(DeviceFault::Memory);
         }
         Ok(())
@@ -90,12 +87,12 @@ impl MemDevice {
     {
         match self.others.entry(id) {
             Ok(Entry::Occupied(mut entry)) => {
-                if !self.spares.replace(entry.get_mut(), bytes) {
+                if !replace(entry.get_mut(), self.alloc, bytes) {
                     return Err(DeviceFault::Memory);
                 }
             }
             Ok(Entry::Vacant(entry)) => {
-                let Some(held) = self.spares.copied(bytes) else {
+                let Ok(held) = Vec::from_slice(self.alloc, bytes) else {
                     return Err(DeviceFault::Memory);
                 };
                 entry.insert(held);
@@ -105,33 +102,7 @@ impl MemDevice {
         Ok(())
     }
 
-    // Takes the key away, and keeps the buffer of what was under it.
-    #[inline(never)]
-    fn let_go(&mut self, id: u32)
-        ensures gone { bytes_at self.new id ≡ None }
-        ensures others { KeepsOthers (bytes_at self.old) (bytes_at self.new) id }
-        ensures faults { faults_of self.new ≡ faults_of self.old }
-    {
-        if id >= ROW {
-            return self.let_go_other(id);
-        }
-        if let Some(buffer) = self.taken(id) {
-            self.spares.keep(buffer);
-        }
-    }
-
-    // Takes a key of the row away, with what is under it.
-    #[inline(always)]
-    fn taken(&mut self, id: u32) -> Option<Vec<u8>>
-        requires { id < 1024 }
-        ensures gone { bytes_at self.new id ≡ None }
-        ensures others { KeepsOthers (bytes_at self.old) (bytes_at self.new) id }
-        ensures faults { faults_of self.new ≡ faults_of self.old }
-    {
-        self.row.get_mut(id as usize)?.take()
-    }
-
-    // As `let_go`, of any other key.
+    // Takes a key away that doesn't stand in the row.
     #[inline(never)]
     fn let_go_other(&mut self, id: u32)
         requires { 1024 ≤ id }
@@ -139,9 +110,7 @@ impl MemDevice {
         ensures others { KeepsOthers (bytes_at self.old) (bytes_at self.new) id }
         ensures faults { faults_of self.new ≡ faults_of self.old }
     {
-        if let Some(buffer) = self.others.remove(&id) {
-            self.spares.keep(buffer);
-        }
+        let _ = self.others.remove(&id);
     }
 }
 
@@ -176,6 +145,7 @@ impl Device for MemDevice {
     ghost forget_follows = { Prim.search rules };
 
     /// Refused [`DeviceFault::Memory`] alone, and then nothing has changed.
+    #[inline(always)]
     fn write(&mut self, id: u32, bytes: &[u8]) -> Result<(), DeviceFault>
         ensures set { OnOk result (bytes_at self.new id ≡ Some bytes.now) }
         ensures others { KeepsOthers (bytes_at self.old) (bytes_at self.new) id }
@@ -230,9 +200,11 @@ impl Device for MemDevice {
         ensures others { KeepsOthers (bytes_at self.old) (bytes_at self.new) id }
         ensures faults { faults_of self.new ≡ faults_of self.old }
     {
-        // Most objects that are retired were never far.
-        if self.stored(id).is_some() {
-            self.let_go(id);
+        if id >= ROW {
+            return self.let_go_other(id);
+        }
+        if let Some(slot) = self.row.get_mut(id as usize) {
+            slot.empty(self.alloc);
         }
     }
 
@@ -244,13 +216,13 @@ impl Device for MemDevice {
 /// Makes the row longer than a number. After `false`, where memory was refused, it may not be.
 #[inline(never)]
 #[tactic(auto, using(crate::proofs::Rows::longer))]
-fn lengthen(row: &mut Vec<Option<Vec<u8>>>, id: usize) -> bool
+fn lengthen(row: &mut Vec<Slot>, alloc: Global, id: usize) -> bool
     requires { id < 1024 }
     ensures long { IsTrue result → id < vec_len row.new }
     ensures same { (k : ℕ) → bytes_in row.new k ≡ bytes_in row.old k }
 {
     for _ in row.len()..id + 1 {
-        let Ok(()) = row.push(None) else {
+        let Ok(()) = row.push(Slot::new(alloc)) else {
             return false;
         };
     }

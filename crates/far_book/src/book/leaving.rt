@@ -37,6 +37,7 @@ impl<N: Hand + Drop, D: Device + Drop> Book<N, D> {
     /// Sends a quiet near object with EVAC far: the device holds its bytes, its cell says far, without marks, and its span is
     /// dead. `false` where its owner was found to have dropped it: it is retired then, and the device forgets its bytes.
     /// Refused [`Refused::Memory`] or [`Refused::Device`] where the device is, and the object is as it was.
+    #[inline(always)]
     pub fn evict(&mut self, pointer: u16) -> Result<bool, Refused>
         requires pointer { pointer < CELLS * (N.view self.old.near).mutators }
         requires quiet { IsQuietNear (N.view self.old.near) pointer }
@@ -84,22 +85,34 @@ impl<N: Hand + Drop, D: Device + Drop> Book<N, D> {
     }
 
     // Reads the words of a quiet object, and has the device hold its bytes: by way of a short row where they fit into one.
+    #[inline(always)]
     fn send(&mut self, pointer: u16, len: u16, ds: u8, place: Place) -> Result<(), Refused>
         requires pointer { pointer < CELLS * (N.view self.old.near).mutators }
         requires near { IsQuietIn (N.view self.old.near) pointer len ds place }
         ensures { Sends N.still N.view N.makes D.writes D.contents D.honest D.faults D.fails_at_most self.old self.new pointer len place result }
     {
-        self.keeps_law();
         if len <= SHORT {
             let mut row = [0; SHORT as usize];
             self.send_by(pointer, len, ds, place, &mut row)
         } else {
-            let mut row = [0; LONGEST as usize];
-            self.send_by(pointer, len, ds, place, &mut row)
+            self.send_long(pointer, len, ds, place)
         }
     }
 
+    // The same, by way of a row for any object.
+    #[inline(never)]
+    fn send_long(&mut self, pointer: u16, len: u16, ds: u8, place: Place) -> Result<(), Refused>
+        requires pointer { pointer < CELLS * (N.view self.old.near).mutators }
+        requires near { IsQuietIn (N.view self.old.near) pointer len ds place }
+        ensures { Sends N.still N.view N.makes D.writes D.contents D.honest D.faults D.fails_at_most self.old self.new pointer len place result }
+    {
+        self.keeps_law();
+        let mut row = [0; LONGEST as usize];
+        self.send_by(pointer, len, ds, place, &mut row)
+    }
+
     // The same, by way of a row of bytes that has room for the object's words.
+    #[inline(always)]
     fn send_by(
         &mut self,
         pointer: u16,
@@ -158,6 +171,7 @@ impl<N: Hand + Drop, D: Device + Drop> Book<N, D> {
 }
 
 // The bytes of a quiet object, read word by word to the front of a row. Its words are known from then on.
+#[inline(always)]
 fn read_object<N: Hand>(near: &mut N, len: u16, place: Place, row: &mut [u8])
     requires object { IsQuietData (N.view near.old) len place }
     requires room { 8 * words_for len ≤ length row.old }

@@ -154,6 +154,7 @@ impl<N: Hand + Drop, D: Device + Drop> Book<N, D> {
 }
 
 // Copies an object, header and data words, to a place where the next span of a log may stand.
+#[inline(always)]
 fn copy_object<N: Hand>(near: &mut N, pointer: u16, len: u16, ds: u8, from: Place, to: Place)
     requires { MayCopy (N.view near.old) pointer len ds from to }
     ensures copied { Copied (N.view near.old) (N.view near.new) pointer len ds from to }

@@ -11,7 +11,7 @@ use far_word::PtrWord;
 
 /// Gives a cell a new word, by the word that was last found there. `Err` with the word that was found, where its owner has
 /// dropped the object meanwhile.
-#[inline]
+#[inline(always)]
 pub(crate) fn rename<N: Hand>(near: &mut N, pointer: u16, found: u64, new: u64) -> Result<(), u64>
     requires pointer { pointer < CELLS * (N.view near.old).mutators }
     requires found { found ≡ (N.view near.old).cell pointer }

@@ -132,7 +132,7 @@ impl Core {
 
     /// The cell of a pointer goes from `old` to `new`, where it is `old`; else `Err` with the cell that was found, and
     /// nothing has changed.
-    #[inline]
+    #[inline(always)]
     pub fn name(&mut self, pointer: u16, old: u64, new: u64) -> Result<(), u64>
         requires legal { Legal (core_state self.old) (Event.Name pointer old new) }
         ensures state { core_state self.new ≡ after (core_state self.old) (Event.Name pointer old new) }

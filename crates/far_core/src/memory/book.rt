@@ -204,7 +204,7 @@ impl Memory {
     }
 
     /// Stores an object's words, and names it far.
-    #[inline(never)]
+    #[inline(always)]
     fn evict(&mut self, pointer: u16, new: u64, len: u16, place: Place)
         requires pointer { pointer < CELLS * (state_of self.old).mutators }
         requires law { Law (state_of self.old) }

@@ -113,29 +113,34 @@ fn the_row_ends_at_1024(rt: HostRuntime) -> Result<(), Fail> {
     gives(&rt, &mut device, 1024, &[5; 8])
 }
 
+// Whether the buffer of a key of the row has room for so many bytes, and no more.
+fn has_room(device: &MemDevice, id: usize, room: usize) -> bool {
+    match device.row.get(id) {
+        Some(slot) => slot.buffer.capacity() == room,
+        None => false,
+    }
+}
+
 #[test]
 fn buffers_are_used_again(rt: HostRuntime) -> Result<(), Fail> {
     let mut device = MemDevice::new(rt.alloc());
-    for id in 0..1025u32 {
-        device.write(id, &[7; 64])?;
-    }
-    for id in 0..1025u32 {
-        device.forget(id);
-    }
-    assert_eq!(rt; device.spares.buffers.len(), 1024);
-    let rows: [(u32, &[u8], usize); 4] = [
-        (1, &[8, 9], 1023),
-        (2, &[5; 65], 1023),
-        (1, &[6; 64], 1023),
-        (1, &[4; 128], 1024),
+    let rows: [(u32, &[u8], usize); 5] = [
+        (1, &[7; 64], 64),
+        (1, &[8, 9], 64),
+        (2, &[5; 65], 65),
+        (1, &[4; 127], 127),
+        (1, &[6; 64], 127),
     ];
-    for (id, bytes, left) in rows {
+    for (id, bytes, room) in rows {
         device.write(id, bytes)?;
         gives(&rt, &mut device, id, bytes)?;
-        assert_eq!(rt; device.spares.buffers.len(), left, "under {id}");
+        device.forget(id);
+        assert!(rt; has_room(&device, id as usize, room), "under {id}");
     }
+    device.write(1, &[3; 128])?;
+    assert!(rt; has_room(&device, 1, 128));
     device.forget(1);
-    assert_eq!(rt; device.spares.buffers.len(), 1024);
+    assert!(rt; has_room(&device, 1, 0));
     Ok(())
 }
 

@@ -1,0 +1,111 @@
+//! What stands under a key of the row.
+
+ghost use Rattle.std.specs.Prelude.{◌≡◌, ◌≤◌, length, cond, Some, None, IfSome, IfNone, IsTrue};
+ghost use Rattle.far_device.specs.Row.{bytes_of};
+ghost use Rattle.std.specs.Vec.{vec_capacity};
+
+use std::alloc::Global;
+
+/// How long a buffer is at least that isn't kept once nothing is under its key.
+const LONG: usize = 128;
+
+/// Bytes, or nothing, and then a buffer into which bytes may be put.
+#[derive(Debug, Drop)]
+pub(crate) struct Slot {
+    pub(crate) held: bool,
+    pub(crate) buffer: Vec<u8>,
+}
+
+impl Slot {
+    /// Nothing, and no buffer. Takes no memory.
+    pub(crate) fn new(alloc: Global) -> Slot
+        ensures { bytes_of result ≡ None }
+    {
+        Slot {
+            held: false,
+            buffer: Vec::new(alloc),
+        }
+    }
+
+    /// What is held.
+    #[inline(always)]
+    pub(crate) fn bytes(&self) -> Option<&[u8]>
+        ensures some { IfSome result (λ bytes. bytes_of self.now ≡ Some bytes.now) }
+        ensures none { IfNone result (bytes_of self.now ≡ None) }
+    {
+        if self.held {
+            Some(self.buffer.as_slice())
+        } else {
+            None
+        }
+    }
+
+    /// Holds these bytes in place of what is held, in the same buffer where it has room for them. After `false`, where memory was
+    /// refused, what was held is held.
+    #[inline(always)]
+    pub(crate) fn put(&mut self, alloc: Global, bytes: &[u8]) -> bool
+        ensures { bytes_of self.new ≡ cond result (Some bytes.now) (bytes_of self.old) }
+    {
+        if bytes.len() > self.buffer.capacity() {
+            return self.put_in_new(alloc, bytes);
+        }
+        self.held = true;
+        refill(&mut self.buffer, bytes)
+    }
+
+    // The same, in a new buffer.
+    #[inline(never)]
+    fn put_in_new(&mut self, alloc: Global, bytes: &[u8]) -> bool
+        ensures { bytes_of self.new ≡ cond result (Some bytes.now) (bytes_of self.old) }
+    {
+        let Ok(buffer) = Vec::from_slice(alloc, bytes) else {
+            return false;
+        };
+        self.buffer = buffer;
+        self.held = true;
+        true
+    }
+
+    /// Holds nothing, and keeps the buffer, if it isn't a long one. Takes no memory.
+    #[inline(always)]
+    pub(crate) fn empty(&mut self, alloc: Global)
+        ensures { bytes_of self.new ≡ None }
+    {
+        self.held = false;
+        if self.buffer.capacity() >= LONG {
+            self.drop_buffer(alloc);
+        }
+    }
+
+    #[inline(never)]
+    fn drop_buffer(&mut self, alloc: Global)
+        ensures { self.new.held ≡ self.old.held }
+    {
+        self.buffer = Vec::new(alloc);
+    }
+}
+
+/// Puts these bytes in place of what is held, into the same buffer where it has room for them. After `false`, where memory was refused,
+/// what was held is held.
+pub(crate) fn replace(held: &mut Vec<u8>, alloc: Global, bytes: &[u8]) -> bool
+    ensures { held.new.items ≡ cond result bytes.now held.old.items }
+{
+    if bytes.len() <= held.capacity() {
+        return refill(held, bytes);
+    }
+    let Ok(buffer) = Vec::from_slice(alloc, bytes) else {
+        return false;
+    };
+    *held = buffer;
+    true
+}
+
+/// Empties the buffer and copies these bytes into it. `false` where they had no room and memory was refused.
+#[inline(always)]
+pub(crate) fn refill(buffer: &mut Vec<u8>, bytes: &[u8]) -> bool
+    ensures filled { IsTrue result → buffer.new.items ≡ bytes.now }
+    ensures room { length bytes.now ≤ vec_capacity buffer.old → IsTrue result }
+{
+    buffer.clear();
+    buffer.extend_from_slice(bytes).is_ok()
+}
