@@ -136,6 +136,7 @@ impl<N: Hand + Drop, D: Device + Drop> Book<N, D> {
 
     // Names an object far whose bytes the device holds. `Err` with the word that was found, where its owner has dropped it
     // meanwhile.
+    #[inline(always)]
     fn name_far(
         &mut self,
         pointer: u16,
