@@ -50,4 +50,3 @@ module _ {S E R : Type 0} where
 
   pub came_only : {makes : S → E → R → S → Type 0} {s t : S} → (P : E → Type 0) → Came (only P makes) s t → Came makes s t
   came_only {makes} {s} {t} P c = came_more (only P makes) makes (λ u v e r h. h.1) s t c
-

@@ -162,4 +162,3 @@ module _ {D : Type 0} (heap : HeapId) (seat : BookSeat D) (named : heap_of seat 
       IfErr answer (λ _. goal (seat_view seat) p ≡ None) → IfErr answer (λ why. BookHad D heap (Unbrought p why))
   move_cause p (Ok found) is why none = tt
   move_cause p (Err r) is why none = subst (λ w. BookHad D heap (Unbrought p w)) (sym why) (unbrought p NoRoom (near_cause (seat_view seat) (read_of ((seat_view seat).cell p)) is none))
-

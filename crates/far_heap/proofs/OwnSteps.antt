@@ -119,4 +119,3 @@ module _ (s : Seated) (name : TableId) (number : ℕ) (lens stamps : List ℕ) (
     held_open = λ q mine held. absurd (false≢true held);
     past = λ k. omega (arith, less k);
   }
-

@@ -183,4 +183,3 @@ module _ (now next : Moment) (m p : ℕ) (opened : is_opened now.core m ≡ true
   view_made room to =
       let c : Command = Mutator m (View p) in
       to ∙ ap (λ o. unless o (refused_effect now c) (turn_effect now c)) (sym (view_cause false room))
-

@@ -150,4 +150,3 @@ at_cell s law p (Some (Far len ds m)) e i lt = absurd (omega arith)
 -- the words of an object have zeros behind its last byte
 pub object_padded : (s : State) → Law s → (p i : ℕ) → i < words_for (data_len s p) → s.word (near_data (read_of (s.cell p)) + i) < 2 ^ (8 * (data_len s p - 8 * i))
 object_padded s law p i lt = at_cell s law p (read_of (s.cell p)) refl i lt
-

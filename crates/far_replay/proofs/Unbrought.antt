@@ -114,4 +114,3 @@ pub stops_by : (now next : Moment) (c : Command) (r : Result Outcome Refusal) (w
 stops_by now next c (Ok x) why h stops = tt
 stops_by now next c (Err by) why (is, inl memory) stops = λ other. absurd (other (is ∙ memory))
 stops_by now next c (Err by) why (is, inr failed) stops = λ other. (is ∙ failed, subst (λ w. StopsSo w now c (Refused w) next) (sym (is ∙ failed)) (stops failed))
-

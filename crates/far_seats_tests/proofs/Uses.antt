@@ -64,4 +64,3 @@ marked_all s law n is low p = elim (cases_lt p n) [
     | no ne ↦ (let lt = law.cells.cell_range p ne in absurd (omega (arith, is)))
   ]
 ]
-

@@ -42,4 +42,3 @@ module _ {K : Type 0} (heap : HeapId) (number : ℕ) (jobs : List (Job K)) (befo
 
   pub jobs_more : (job : Job K) (more : List (Job K)) → IsJobAt heap number job → more ≡ jobs ++ job ∷ [] → JobsBefore heap (number + 1) more
   jobs_more job more is pushed = subst (JobsBefore heap (number + 1)) (sym pushed) record { many = omega (arith, length-append jobs (job ∷ []), before.many); each = each_more job is }
-

@@ -30,4 +30,3 @@ all_read (word ∷ words) done some few e = let fits = le-leb (length (word ∷ 
 pub not_read : (words : List (List ℕ)) → each_log words ≡ None → logs_of words ≡ None
 not_read [] e = refl
 not_read (word ∷ words) e = rw e (elim (nat_le (length (word ∷ words)) 2048) as (λ b. cond {A = Option (List ℕ)} b None None ≡ None) [ true ↦ refl | false ↦ refl ])
-
