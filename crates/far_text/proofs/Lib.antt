@@ -1,6 +1,5 @@
 pub mod Cuts
 pub mod Each
-pub mod HexDigits
 pub mod HexLemmas
 pub mod LastWord
 pub mod LineLemmas

@@ -1,7 +1,6 @@
 //! Words in hex, and the bytes that they spell.
 
-ghost use Rattle.std.specs.Prelude.{◌≡◌, ◌≤◌, ◌<◌, ◌+◌, ◌*◌, ◌%◌, ◌==◌, ◌&&◌, ℕ, nat_lt, nat_le, length, take, cond, Some, None, IfOk, MatchResult};
-ghost use Rattle.hex.specs.Hex.{pair_value};
+ghost use Rattle.std.specs.Prelude.{◌≡◌, ◌≤◌, ◌<◌, ◌+◌, ◌*◌, ◌%◌, ◌==◌, ◌&&◌, nat_lt, nat_le, length, take, cond, Some, None, IfOk};
 ghost use Rattle.far_text.specs.Grammar.{bytes_in};
 ghost use Rattle.far_text.specs.declared.hex_word.TheConstants.{LONGEST_LINE, LONGEST_BYTES};
 
@@ -26,52 +25,8 @@ fn is_hex_len(len: usize) -> bool
     len > 0 && len <= LONGEST_LINE && len % 2 == 0
 }
 
-// What each byte is as the first digit of two, or 256 where it is none.
-static FIRST: [u16; 256] = [
-    256, 256, 256, 256, 256, 256, 256, 256, 256, 256, 256, 256, 256, 256, 256, 256, 256, 256, 256,
-    256, 256, 256, 256, 256, 256, 256, 256, 256, 256, 256, 256, 256, 256, 256, 256, 256, 256, 256,
-    256, 256, 256, 256, 256, 256, 256, 256, 256, 256, 0, 16, 32, 48, 64, 80, 96, 112, 128, 144,
-    256, 256, 256, 256, 256, 256, 256, 160, 176, 192, 208, 224, 240, 256, 256, 256, 256, 256, 256,
-    256, 256, 256, 256, 256, 256, 256, 256, 256, 256, 256, 256, 256, 256, 256, 256, 256, 256, 256,
-    256, 160, 176, 192, 208, 224, 240, 256, 256, 256, 256, 256, 256, 256, 256, 256, 256, 256, 256,
-    256, 256, 256, 256, 256, 256, 256, 256, 256, 256, 256, 256, 256, 256, 256, 256, 256, 256, 256,
-    256, 256, 256, 256, 256, 256, 256, 256, 256, 256, 256, 256, 256, 256, 256, 256, 256, 256, 256,
-    256, 256, 256, 256, 256, 256, 256, 256, 256, 256, 256, 256, 256, 256, 256, 256, 256, 256, 256,
-    256, 256, 256, 256, 256, 256, 256, 256, 256, 256, 256, 256, 256, 256, 256, 256, 256, 256, 256,
-    256, 256, 256, 256, 256, 256, 256, 256, 256, 256, 256, 256, 256, 256, 256, 256, 256, 256, 256,
-    256, 256, 256, 256, 256, 256, 256, 256, 256, 256, 256, 256, 256, 256, 256, 256, 256, 256, 256,
-    256, 256, 256, 256, 256, 256, 256, 256, 256, 256, 256, 256, 256, 256, 256, 256, 256, 256, 256,
-    256, 256, 256, 256, 256, 256, 256, 256,
-];
-
-// What each byte is as the second digit of two, or 256 where it is none.
-static SECOND: [u16; 256] = [
-    256, 256, 256, 256, 256, 256, 256, 256, 256, 256, 256, 256, 256, 256, 256, 256, 256, 256, 256,
-    256, 256, 256, 256, 256, 256, 256, 256, 256, 256, 256, 256, 256, 256, 256, 256, 256, 256, 256,
-    256, 256, 256, 256, 256, 256, 256, 256, 256, 256, 0, 1, 2, 3, 4, 5, 6, 7, 8, 9, 256, 256, 256,
-    256, 256, 256, 256, 10, 11, 12, 13, 14, 15, 256, 256, 256, 256, 256, 256, 256, 256, 256, 256,
-    256, 256, 256, 256, 256, 256, 256, 256, 256, 256, 256, 256, 256, 256, 256, 256, 10, 11, 12, 13,
-    14, 15, 256, 256, 256, 256, 256, 256, 256, 256, 256, 256, 256, 256, 256, 256, 256, 256, 256,
-    256, 256, 256, 256, 256, 256, 256, 256, 256, 256, 256, 256, 256, 256, 256, 256, 256, 256, 256,
-    256, 256, 256, 256, 256, 256, 256, 256, 256, 256, 256, 256, 256, 256, 256, 256, 256, 256, 256,
-    256, 256, 256, 256, 256, 256, 256, 256, 256, 256, 256, 256, 256, 256, 256, 256, 256, 256, 256,
-    256, 256, 256, 256, 256, 256, 256, 256, 256, 256, 256, 256, 256, 256, 256, 256, 256, 256, 256,
-    256, 256, 256, 256, 256, 256, 256, 256, 256, 256, 256, 256, 256, 256, 256, 256, 256, 256, 256,
-    256, 256, 256, 256, 256, 256, 256, 256, 256, 256, 256, 256, 256, 256, 256, 256, 256, 256, 256,
-    256, 256, 256, 256, 256, 256, 256, 256, 256, 256, 256, 256, 256, 256, 256, 256, 256, 256, 256,
-    256, 256, 256,
-];
-
-// The byte that two digits spell, or 256 at least where one of them is none.
-#[inline(always)]
-fn two_digits(first: u8, second: u8) -> u16
-    ensures { (at : ℕ) → MatchResult (pair_value first second at) (λ byte. (result ≡ byte) × (byte < 256)) (λ _. 256 ≤ result) }
-{
-    FIRST[first as usize] | SECOND[second as usize]
-}
-
 // Fills the buffer with the bytes that a word spells. Whether it is a word in hex. Apart from its caller it has registers
-// enough; what is no digit is seen at the end, so that each byte has one branch less.
+// enough.
 #[inline(never)]
 fn decode(word: &[u8], buffer: &mut [u8]) -> bool
     requires some { 0 < length buffer.old }
@@ -79,13 +34,7 @@ fn decode(word: &[u8], buffer: &mut [u8]) -> bool
     requires twice { length word.now ≡ 2 * length buffer.old }
     ensures { bytes_in word.now ≡ cond result (Some buffer.new) None }
 {
-    let mut all = 0u16;
-    'bytes: for i in 0..buffer.len() {
-        let byte = two_digits(word[2 * i], word[2 * i + 1]);
-        all |= byte;
-        buffer[i] = (byte % 256) as u8;
-    }
-    all < 256
+    hex::decode_to_slice(word, buffer).is_ok()
 }
 
 // Enlarges the buffer where it is too small, and fills as much as is asked for and some more: where little is filled no

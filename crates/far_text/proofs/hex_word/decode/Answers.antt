@@ -1,11 +1,9 @@
-use Rattle.std.proofs.Common.{arith, ◌%◌, ◌*◌}
-use Rattle.far_text.proofs.HexDigits.{byte_read, word_read}
+use Rattle.std.proofs.Common.{Some, None, cond, sym, ap, ◌∙◌, refl}
+use Rattle.far_text.proofs.HexLemmas.{decoded_is}
 use Rattle.far_text.proofs.hex_word.decode.Goals as goal
 
-pub bytes-preserved : goal.bytes-preserved
-bytes-preserved c =
-    let byte = c.two_digits-byte.result in
-    byte_read c.args.word.now c.bytes.buffer c.bytes.all c.bytes.i byte (byte % 256) (omega arith) (omega arith) (c.two_digits-byte.ensures (2 * c.bytes.i)) (λ small. omega arith) c.bytes.invariant
-
 pub returns : goal.returns
-returns c = word_read c.args.word.now c.bytes.buffer c.bytes.all c.bytes.i (omega arith) (omega arith) c.requires.short (omega arith) c.bytes.invariant
+returns c =
+    let new = c.decode_to_slice.new.out in
+    decoded_is tt c.args.word.now new _ c.decode_to_slice.result _ refl c.requires.twice c.requires.some c.requires.short c.decode_to_slice.ensures.value
+    ∙ ap (λ ok. cond ok (Some new) None) (sym c.is_ok.ensures.value)
