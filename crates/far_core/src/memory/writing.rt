@@ -158,38 +158,11 @@ impl Memory {
         requires inside { from + count ≤ LOG_WORDS * (state_of self.old).logs }
         ensures { state_of self.new ≡ record (state_of self.old) { stored = put (state_of self.old).stored pointer (with_kept (state_of self.old).word (state_of self.old).stored pointer from count) } }
     {
-        self.reach(pointer);
+        self.reach_row(pointer);
         self.copy_row(pointer, from, count);
     }
 
     /// Zeros go into the rows of stored words up to a pointer's, where nothing was written yet.
-    #[inline(always)]
-    fn reach(&mut self, pointer: u16)
-        requires { pointer < CELLS * (state_of self.old).mutators }
-        ensures state { state_of self.new ≡ state_of self.old }
-        ensures row { pointer * LOG_WORDS + LOG_WORDS ≤ vec_len self.new.stored }
-    {
-        if self.stored.len() < first_stored(pointer) + LOG_WORDS as usize {
-            self.reach_by_rows(pointer);
-        }
-    }
-
-    /// The same, one row after the other: more zeros at once the C library writes by an instruction for each byte, as callgrind counts.
-    #[cold]
-    #[inline(never)]
-    fn reach_by_rows(&mut self, pointer: u16)
-        requires { pointer < CELLS * (state_of self.old).mutators }
-        ensures state { state_of self.new ≡ state_of self.old }
-        ensures row { pointer * LOG_WORDS + LOG_WORDS ≤ vec_len self.new.stored }
-    {
-        let reached = (self.stored.len() / LOG_WORDS as usize) as u16;
-        for row in reached..pointer {
-            self.reach_row(row);
-        }
-        self.reach_row(pointer);
-    }
-
-    /// The same, all at once.
     #[tactic(auto, unfolding(crate::specs::state::Memory::state_of))]
     fn reach_row(&mut self, pointer: u16)
         requires { pointer < CELLS * (state_of self.old).mutators }
