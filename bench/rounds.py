@@ -14,7 +14,7 @@ import shlex
 import subprocess
 import sys
 
-LIMIT, BAR, ROUND = 1_048_576, 2.0, "round oldest 1 1000\n"
+LIMIT, BAR, ROUND = 1_048_576, 1.6, "round oldest 1 1000\n"
 SERIES = [
     ("live objects of the chosen log, sent far", "chosen", (0, 16, 32, 48, 64), {}),
     ("live objects of the chosen log, moved", "chosen", (0, 16, 32, 48, 64), {"hot": True}),

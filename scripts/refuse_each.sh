@@ -1,8 +1,8 @@
 #!/usr/bin/env bash
-# Refuses each growth of the built program in turn, on two texts: the stored trace, and one whose rounds and fetches take
-# memory. Each run must end with the whole output and status 0, or with `memory`, status 1, and nothing written but
-# `refused 1`, or, where a command of rounds or a view was refused memory, a proper prefix of the output. All these endings
-# must come. Prints only what is wrong.
+# Refuses each growth of the built program in turn, on two texts: the stored trace, and one whose rounds take memory; its
+# fetch takes none. Each run must end with the whole output and status 0, or with `memory`, status 1, and nothing written but
+# `refused 1`, or, where a command of rounds was refused memory, a proper prefix of the output. All these endings must come.
+# Prints only what is wrong.
 set -euo pipefail
 here="$(cd "$(dirname "${BASH_SOURCE[0]}")" && pwd)"
 crate="$here/../crates/far_trace"
@@ -18,7 +18,7 @@ much() { # more output than waits before it is written, so that each command tha
     for ((i = 0; i < 40; i++)); do echo logs; done
 }
 
-rounds() { # a text in which select, evacuate, round and view take memory
+rounds() { # a text in which select, evacuate and round take memory
     printf 'heap 64 1\nnew 0 8 1\nnew 0 1016 1\nnew 0 1016 1\n'
     much
     printf 'select oldest 1\nmark 9\nwait\n'
@@ -82,5 +82,5 @@ refuse() { # the text, and how many prefixes of its output must be left, each of
 
 rounds >"$work/rounds"
 refuse "$crate/stdin" 0
-refuse "$work/rounds" 4
+refuse "$work/rounds" 3
 exit "$wrong"
