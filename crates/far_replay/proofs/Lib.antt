@@ -1,6 +1,7 @@
 pub mod AloneRuns
 pub mod AloneStates
 pub mod Answering
+pub mod AsIfStored
 pub mod Asides
 pub mod Bringing
 pub mod Brought
