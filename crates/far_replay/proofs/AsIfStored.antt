@@ -16,6 +16,8 @@ use Rattle.far_evac.specs.Strays.{NoneStrays}
 use Rattle.far_replay.specs.Between.{Between}
 use Rattle.far_replay.specs.Commanded.{LiesFar, Misled}
 use Rattle.far_replay.specs.Moment.{Moment, as_if_stored, with_stored}
+use Rattle.far_replay.specs.Reply.{Reply}
+use Rattle.far_text.specs.Command.{Command}
 
 -- the law reads stored words of far objects, and of those that nobody uses
 pub law_as_if : (s : State) (p : ℕ) (row : ℕ → ℕ) → Law s → s.used p ≡ true → StoresBack row (read_of (s.cell p)) → Law (with_stored s p row)
