@@ -19,6 +19,8 @@ use Rattle.far_replay.specs.Commanded.{LiesFar, Misled}
 use Rattle.far_replay.specs.Dereference.{asked_for, comes_to, comes_to_of, has_no_room, sought, sought_of}
 use Rattle.far_replay.specs.Effects.{is_slow, with_view}
 use Rattle.far_replay.specs.Moment.{Moment, as_if_stored, with_stored}
+use Rattle.far_replay.specs.Reply.{Reply}
+use Rattle.far_text.specs.Command.{Command}
 
 -- the law reads stored words of far objects, and of those that nobody uses
 pub law_as_if : (s : State) (p : ℕ) (row : ℕ → ℕ) → Law s → s.used p ≡ true → StoresBack row (read_of (s.cell p)) → Law (with_stored s p row)
