@@ -76,9 +76,30 @@ fn is_refused_at(alloc: Global, text: &[u8], line: u64) -> bool {
 #[test]
 fn a_device_stands_after_the_heap(rt: HostRuntime) -> Result<(), Fail> {
     let alloc = rt.alloc();
-    assert!(rt; says_device(alloc, b"heap 4 1\ndevice fail 3\nlogs", Some(("fail", 3)), 1));
-    assert!(rt; says_device(alloc, b"heap 4 1\n# it\n\ndevice fail 0", Some(("fail", 0)), 0));
-    assert!(rt; says_device(alloc, b"heap 4 1\ndevice short 3\nlogs", Some(("short", 3)), 1));
+    assert!(rt;
+        says_device(
+            alloc,
+            b"heap 4 1\ndevice fail 3\nlogs",
+            Some(("fail", 3)),
+            1
+        )
+    );
+    assert!(rt;
+        says_device(
+            alloc,
+            b"heap 4 1\n# it\n\ndevice fail 0",
+            Some(("fail", 0)),
+            0
+        )
+    );
+    assert!(rt;
+        says_device(
+            alloc,
+            b"heap 4 1\ndevice short 3\nlogs",
+            Some(("short", 3)),
+            1
+        )
+    );
     let most = b"heap 4 1\n\n# it\ndevice flip 18446744073709551615\nlogs\n";
     assert!(rt; says_device(alloc, most, Some(("flip", u64::MAX)), 1));
     assert!(rt; says_device(alloc, b"heap 4 1\nlogs", None, 1));
