@@ -405,7 +405,7 @@ class Writer:
     def pointer(self, m: int) -> int:
         """A pointer of the mutator's, most often of an object."""
         found = self.heap.objects[m]
-        asking = [cell for cell in found if "m" in found[cell].marks]
+        asking = [cell for cell in found if "m" in found[cell].marks or found[cell].log is None]
         return CELLS * m + self.choice.choice([*sorted(found), *asking * 4, min(len(found), CELLS - 1)])
 
     def access(self, m: int) -> str:
@@ -492,18 +492,18 @@ class Writer:
         return b"\n".join(lines)
 
     def device(self) -> str:
-        """A device's line, most often of one whose flaw comes soon."""
+        """A device's line, most often of one whose flaw comes soon; rounds are to send it objects."""
         soon, late = self.choice.randint(1, 30), self.choice.randint(1, 300)
-        call = self.choice.choice((0, 1, 2, soon, soon, late, late, LAST_NUMBER))
-        flaw = self.choice.choice(("fail", "short", "flip"))
+        call = self.choice.choice((0, 1, 1, 2, 3, soon, soon, late, LAST_NUMBER))
+        flaw, self.rounds, self.largest = self.choice.choice(("fail", "short", "flip")), 20, self.choice.choice((300, MOST))
         self.heap.device(flaw, call)
         return f"device {flaw} {call}"
 
     def text(self) -> bytes:
         lines = [*self.choice.choice(([], [], ["# first", ""])), " ".join(["heap", *map(str, self.shape)])]
-        if self.choice.random() < 0.4:
+        if flawed := self.choice.random() < 0.4:
             lines += self.choice.choice(([], [], ["# its device", ""])) + [self.device()]
-        lines += [self.line() for _ in range(self.choice.choice((4, 40, 200, 1_000)))]
+        lines += [self.line() for _ in range(self.choice.choice((4, 40, 200, 1_000)[flawed:]))]
         text = ("\n".join(lines) + self.choice.choice(("\n", "\n", "", "\n\n"))).encode()
         if self.choice.random() < 0.02:
             text += b"\n" * (TEXT_LIMIT - len(text) + self.choice.randrange(2))
