@@ -197,7 +197,7 @@ log 0
   log 0 open live 16 dead 0 unused 1008
 ";
 
-/// The second read is short, after two writes, which aren't counted; of one byte it leaves none.
+/// The second read is short, after two writes, which aren't counted: of one byte it leaves none, and what was to be written isn't.
 const SHORT_LATER: &str = "\
 heap 5 1
   ok
@@ -227,7 +227,7 @@ open 0
   ok
 read 0 0 0 8
   data 0102030405060708
-view 0 1
+write 0 1 0 cc
   refused 11
 where 0 1
   far h
