@@ -50,8 +50,8 @@ impl ReplyWriter {
         self.waiting.clear();
     }
 
-    /// Makes room for one more reply.
-    pub fn make_room<W: Write>(&mut self, writer: &mut W)
+    // Makes room for one more reply.
+    fn make_room<W: Write>(&mut self, writer: &mut W)
         ensures held { (start : Option (List ℕ)) (bytes : List ℕ) → Holds start (W.contents writer.old) self.old.waiting self.old.written bytes
             → Holds start (W.contents writer.new) self.new.waiting self.new.written bytes }
         ensures room { length self.new.waiting + LONGEST_REPLY ≤ Output.CAPACITY }

@@ -127,8 +127,6 @@ fn answer_one<W: Write>(
     ensures { (start : Option (List ℕ)) (bytes : List ℕ) → Holds start (W.contents writer.old) replies.old.waiting replies.old.written bytes
         → Holds start (W.contents writer.new) replies.new.waiting replies.new.written (bytes ++ reply_text (reply_by scratch.now outcome)) }
 {
-    // Before the choice, so that LLVM prints each reply where it finds which it is.
-    replies.make_room(writer);
     match outcome {
         Outcome::Stepped => answer_step(writer, replies, scratch),
         outcome => replies.add(writer, &scratch.reply(outcome)),
