@@ -44,13 +44,13 @@ step_stops old new c (Err by) fault scratch (is, inr failed, counts) spent stops
     (subst (λ so_far. Makes old c (Halted Device so_far) new) (sym counts) (Refuses Device turns objects, stopped, any_turn Device turns objects old new spends))
 
 -- and of one that was served, also where it was refused
-pub step_served : {X : Stepped → Type 0} (old new : EvacOf Plain FarSide) (r : Result Stepped Refusal) (fault : EvacFault) → IfOk r (λ stepped. X stepped × (fault.why ≢ Memory) × (fault.why ≢ Device)) →
+pub step_served : (X : Stepped → Type 0) (old new : EvacOf Plain FarSide) (r : Result Stepped Refusal) (fault : EvacFault) → IfOk r (λ stepped. X stepped × (fault.why ≢ Memory) × (fault.why ≢ Device)) →
     SpentBy (stopper_of fault.why) old new → OnOk r (SpentBy Serves old new)
-step_served old new (Ok x) fault told spent = by fault.why told.2 spent where
+step_served X old new (Ok x) fault told spent = by fault.why told.2 spent where
   by : (why : Refusal) → why ≢ Device → SpentBy (stopper_of why) old new → SpentBy Serves old new
   by Device b h = absurd (b refl)
   by why b h = h
-step_served old new (Err e) fault told spent = tt
+step_served X old new (Err e) fault told spent = tt
 
 -- a step that asks its device for nothing
 pub served_or : {A E P : Type 0} (r : Result A E) → P → OnOk r P

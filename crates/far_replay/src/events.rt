@@ -1,6 +1,6 @@
 //! How an owner opens its scope and views an object.
 
-ghost use Rattle.std.specs.Prelude.{◌≡◌, ◌/◌, ℕ, true, false, None, IfOk, IfErr};
+ghost use Rattle.std.specs.Prelude.{◌≡◌, ◌/◌, ℕ, true, false, None, IsSome, IfOk, IfErr};
 ghost use Rattle.far_word.specs.declared.sizes.TheConstants.{CELLS};
 ghost use Rattle.far_core.specs.events.Step.{is_opened};
 ghost use Rattle.far_word.specs.Pointer.{read_of};
