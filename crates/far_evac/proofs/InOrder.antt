@@ -23,13 +23,13 @@ begun_live s (l ∷ ls) begins none = absurd (false≢true (sym begins ∙ empty
 
 pub in_order : (m : Moment) (k : ℕ) (t : Walked) → Ready m.core m.collection → WalksTo m k t → DealtInOrder m k t
 in_order m k t ready walks =
-    let h = walks_left m k t ready walks in record {
+    let (h, begins) = walks_left m k t ready walks in record {
       left = h.left;
       enough = h.enough;
       deals = deals_with m k t ready walks;
       counted = tallies_all m k t walks;
-      begins = h.begins;
-      done = λ e. begun_live t.moment.core t.moment.collection h.begins (h.left ∙ ap (λ n. drop n (live_among m.core m.collection)) e ∙ drop-length (live_among m.core m.collection));
+      begins = begins;
+      done = λ e. begun_live t.moment.core t.moment.collection begins (h.left ∙ ap (λ n. drop n (live_among m.core m.collection)) e ∙ drop-length (live_among m.core m.collection));
       gives = gives_back m k t ready walks;
       ready = h.ready;
     }

@@ -2,8 +2,9 @@
 use Rattle.std.proofs.Common.{◌≡◌, ℕ, zero, suc, ◌+◌, ◌-◌, ◌≤◌, true, false, List, [], ◌∷◌, ◌++◌, arith, ap, sym, refl, ◌∙◌, subst}
 use Rattle.std.proofs.lemmas.Bool.{cond_both, true≢false, false_from_ne_true}
 use Rattle.far_core.specs.state.State.{State}
+use Rattle.far_hand.specs.Finds.{Finds}
 use Rattle.far_hand.proofs.Finding.{finds_same}
-use Rattle.far_evac.specs.AnyHand.{Knows, KnowsMoment, KnowsWalked, FindsFirst, DealsFirst, WalksTo, Walks, found_first}
+use Rattle.far_evac.specs.AnyHand.{Knows, KnowsMoment, KnowsWalked, FindsFirst, DealsFirst, WalksBy, WalksSo, WalksTo, Walks, found_first}
 use Rattle.far_evac.specs.Live.{live_in, live_among, is_empty}
 use Rattle.far_evac.specs.Moment.{Moment}
 use Rattle.far_evac.specs.Walk.{Walked, begun, dealt_first, freed, is_done, left, passed, settled, walked}
@@ -58,8 +59,9 @@ one_more n = omega arith
 pub walked_more : (m : Moment) (n : ℕ) (w : Walked) → w ≡ walked m n → walked m (n + 1) ≡ dealt_first w (left w)
 walked_more m n w e = ap (walked m) (sym (one_more n)) ∙ ap (λ v. dealt_first v (left v)) (sym e)
 
-pub walks_more : (m : Moment) (k : ℕ) (u : Walked) (word : ℕ) (t : Walked) → WalksTo m k u → DealsFirst u word t → WalksTo m (k + 1) t
-walks_more m k u word t walks deals = subst (λ n. WalksTo m n t) (one_more k) (u, word, walks, deals)
+pub walks_more : {D : Type 0} (Asks : Walked → ℕ → D → D → Type 0) (m : Moment) (k : ℕ) (u : Walked) (word : ℕ) (t : Walked) (a b c : D) → WalksBy false D Asks m k u a b → DealsFirst false u word t → Asks u word b c →
+    WalksBy false D Asks m (k + 1) t a c
+walks_more {D} Asks m k u word t a b c walks deals asks = subst (λ n. WalksBy false D Asks m n t a c) (one_more k) (u, word, b, walks, deals, asks)
 
 -- ---- a walk that is over stays so
 stays : (m : Moment) (i d : ℕ) → is_done (walked m i) ≡ true → walked m (d + i) ≡ walked m i
@@ -71,40 +73,40 @@ stays m i (suc d) done =
 pub walked_done : (m : Moment) (i n : ℕ) → i ≤ n → is_done (walked m i) ≡ true → walked m n ≡ walked m i
 walked_done m i n within done = let e : (n - i) + i ≡ n = omega (arith, within) in ap (walked m) (sym e) ∙ stays m i (n - i) done
 
--- ---- the walk where no word changes finds in each cell the word that is known there
-module _ (m : Moment) (n k : ℕ) (h : Walks m n k (walked m n)) where
-  over : left (walked m n) ≡ [] → Walks m (suc n) k (walked m (suc n))
-  over none =
-      let same : walked m (suc n) ≡ walked m n = ap (dealt_first (walked m n)) none in
-      record {
-        walks = subst (WalksTo m k) (sym same) h.walks;
-        most = omega (arith, h.most);
-        enough = λ more. absurd (true≢false (sym (walked_rests m n none) ∙ ap is_done (sym same) ∙ more));
-      }
+-- ---- the walk where no word changes finds in each cell the word that is known there: k objects are dealt with, n or all
+abbrev pub IsExact : Moment → ℕ → ℕ → Type 0
+IsExact m n k = (k ≤ n) × (is_done (walked m n) ≡ false → k ≡ n) × WalksSo true m k (walked m n)
 
-  on : (p : ℕ) (ps : List ℕ) → left (walked m n) ≡ p ∷ ps → Walks m (suc n) (suc k) (walked m (suc n))
-  on p ps e =
-      let word = (walked m n).moment.core.cell p in
-      let same : walked m (suc n) ≡ found_first (walked m n) word (left (walked m n)) = ap (dealt_first (walked m n)) e ∙ sym (ap (found_first (walked m n) word) e) in
-      record {
-        walks = (
-          walked m n,
-          word,
-          h.walks,
-          record {
-            finds = subst (FindsFirst (walked m n) word) (sym e) (finds_same word);
-            leaves = subst (λ t. KnowsWalked t (walked m (suc n))) same (walked_same (walked m (suc n)));
-          },
-        );
-        most = omega (arith, h.most);
-        enough = λ _. omega (arith, h.enough (some_left (walked m n) p ps e));
-      }
+next_exact : (m : Moment) (n k : ℕ) → IsExact m n k → (ps : List ℕ) → left (walked m n) ≡ ps → (j : ℕ) × IsExact m (suc n) j
+next_exact m n k h [] e =
+    let same : walked m (suc n) ≡ walked m n = ap (dealt_first (walked m n)) e in
+    (k, (omega (arith, h.0), λ more. absurd (true≢false (sym (walked_rests m n e) ∙ ap is_done (sym same) ∙ more)), subst (WalksSo true m k) (sym same) h.2))
+next_exact m n k h (p ∷ ps) e =
+    let w = walked m n in
+    let word = w.moment.core.cell p in
+    let same : dealt_first w (p ∷ ps) ≡ found_first w word (left w) = sym (ap (found_first w word) e) in (
+      suc k,
+      (
+        omega (arith, h.0),
+        λ _. omega (arith, h.1 (some_left w p ps e)),
+        (w, word, tt, h.2, record { finds = subst (FindsFirst true w word) (sym e) refl; leaves = ap (dealt_first w) e ∙ same }, tt),
+      ),
+    )
 
-next_walk : (m : Moment) (n k : ℕ) → Walks m n k (walked m n) → (ps : List ℕ) → left (walked m n) ≡ ps → (j : ℕ) × Walks m (suc n) j (walked m (suc n))
-next_walk m n k h [] e = (k, over m n k h e)
-next_walk m n k h (p ∷ ps) e = (suc k, on m n k h p ps e)
+pub walk_exact : (m : Moment) (n : ℕ) → (k : ℕ) × IsExact m n k
+walk_exact m zero = (0, (omega arith, λ _. refl, (refl, refl)))
+walk_exact m (suc n) = let (k, h) = walk_exact m n in next_exact m n k h (left (walked m n)) refl
 
 -- so it is one of those that are allowed over any hand
+finds_any : (w : Walked) (word : ℕ) (xs : List ℕ) → FindsFirst true w word xs → FindsFirst false w word xs
+finds_any w word [] finds = finds
+finds_any w word (p ∷ ps) finds = subst (Finds (w.moment.core.cell p)) (sym finds) (finds_same (w.moment.core.cell p))
+
+any_hand : (m : Moment) (k : ℕ) (t : Walked) → WalksSo true m k t → WalksTo m k t
+any_hand m zero t (same, still) = (subst (KnowsWalked (settled (begun m))) (sym same) (walked_same (settled (begun m))), still)
+any_hand m (suc k) t (u, word, between, walks, deals, asks) =
+    let w = found_first u word (left u) in
+    let leaves = subst (KnowsWalked w) (sym deals.leaves) (walked_same w) in (u, word, between, any_hand m k u walks, record { finds = finds_any u word (left u) deals.finds; leaves = leaves }, asks)
+
 pub walk_is : (m : Moment) (n : ℕ) → (k : ℕ) × Walks m n k (walked m n)
-walk_is m zero = (0, record { walks = walked_same (settled (begun m)); most = omega arith; enough = λ _. refl })
-walk_is m (suc n) = let h = walk_is m n in next_walk m n h.0 h.1 (left (walked m n)) refl
+walk_is m n = let (k, h) = walk_exact m n in (k, record { walks = any_hand m k (walked m n) h.2; most = h.0; enough = h.1 })

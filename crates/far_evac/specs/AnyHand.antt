@@ -75,19 +75,36 @@ abbrev pub found_first : Walked → ℕ → List ℕ → Walked
 found_first w word [] = w
 found_first w word (p ∷ ps) = settled (dealt_as w p (read_of word))
 
+-- a walk is exact where no word changes but by it: then the word in a cell is the one that is known, and no marks are found
+abbrev pub FindsBy : Bool → ℕ → ℕ → Type 0
+FindsBy true known word = word ≡ known
+FindsBy false known word = Finds known word
+
+abbrev pub LearnsBy : Bool → Walked → Walked → Type 0
+LearnsBy true w t = t ≡ w
+LearnsBy false w t = KnowsWalked w t
+
 -- there is an object, and the word may be found in its cell
-abbrev pub FindsFirst : Walked → ℕ → List ℕ → Type 0
-FindsFirst w word [] = ⊥
-FindsFirst w word (p ∷ ps) = Finds (w.moment.core.cell p) word
+abbrev pub FindsFirst : Bool → Walked → ℕ → List ℕ → Type 0
+FindsFirst exact w word [] = ⊥
+FindsFirst exact w word (p ∷ ps) = FindsBy exact (w.moment.core.cell p) word
 
-pub record DealsFirst (w : Walked) (word : ℕ) (t : Walked) : Type 0 where
-  pub finds : FindsFirst w word (left w)
-  pub leaves : KnowsWalked (found_first w word (left w)) t
+pub record DealsFirst (exact : Bool) (w : Walked) (word : ℕ) (t : Walked) : Type 0 where
+  pub finds : FindsFirst exact w word (left w)
+  pub leaves : LearnsBy exact (found_first w word (left w)) t
 
--- so many objects are dealt with
+-- so many objects are dealt with; and what each of them asked of a device
+module _ (exact : Bool) (D : Type 0) (Asks : Walked → ℕ → D → D → Type 0) where
+  abbrev pub WalksBy : Moment → ℕ → Walked → D → D → Type 0
+  WalksBy m zero t old new = LearnsBy exact (settled (begun m)) t × (new ≡ old)
+  WalksBy m (suc k) t old new = (u : Walked) × (word : ℕ) × (between : D) × WalksBy m k u old between × DealsFirst exact u word t × Asks u word between new
+
+-- the same, of no device
+abbrev pub WalksSo : Bool → Moment → ℕ → Walked → Type 0
+WalksSo exact m k t = WalksBy exact (Unit {0}) (λ u word old new. Unit {0}) m k t tt tt
+
 abbrev pub WalksTo : Moment → ℕ → Walked → Type 0
-WalksTo m zero t = KnowsWalked (settled (begun m)) t
-WalksTo m (suc k) t = (u : Walked) × (word : ℕ) × WalksTo m k u × DealsFirst u word t
+WalksTo m k t = WalksSo false m k t
 
 -- k objects are dealt with: n, or all
 pub record Walks (m : Moment) (n k : ℕ) (t : Walked) : Type 0 where
