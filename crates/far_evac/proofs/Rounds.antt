@@ -114,7 +114,7 @@ turn_made m n r h goes lawful =
     let x = turn_is_allowed r goes (h.runs goes) in
     record {
       tallies = x.0 ∷ h.tallies;
-      made = (r.moment, subst (λ over. TurnsMade m h.tallies over r.moment) goes h.made, x.1, lawful);
+      made = (r.moment, tt, subst (λ over. TurnsMade m h.tallies over r.moment) goes h.made, x.1, tt, lawful);
       sum = ap (λ tally. plus tally x.0) h.sum ∙ sym x.2;
       most = omega (arith, h.most);
       every = λ _. one_more (length h.tallies) n (h.every goes);
@@ -133,7 +133,7 @@ over_still m n r over h = record {
 
 pub turns_are : (m : Moment) → Law m.core → MomentLaw m → is_idle m.phase ≡ false → (n : ℕ) → Made m n (turns_made m n)
 turns_are m law moment runs =
-    through_turns (Made m) m law moment runs record { tallies = []; made = (refl, refl); sum = refl; most = omega arith; every = λ _. refl; runs = λ _. runs } (over_still m)
+    through_turns (Made m) m law moment runs record { tallies = []; made = (refl, refl, refl); sum = refl; most = omega arith; every = λ _. refl; runs = λ _. runs } (over_still m)
     (λ n r law moment goes h. turn_made m n r h goes (own_law r.moment.core law, moment))
 
 ends : (turns : ℕ) (m : Moment) (r : Turned) (h : Made m turns r) (over : Bool) → r.over ≡ over → EndsRound turns h.tallies over r.moment.phase (round_end r)

@@ -15,12 +15,11 @@ use Rattle.far_evac.specs.Leaving.{order_by}
 use Rattle.far_evac.specs.Live.{live_in, live_among, is_empty}
 use Rattle.far_evac.specs.Moment.{Moment, Tally, objects_in}
 use Rattle.far_evac.specs.Ready.{Ready, IsOfRound, AllMarked}
-use Rattle.far_evac.specs.Walk.{Walked, Way, Drops, Moves, Goes, begun, dealt_so, freed, is_done, left, passed, settled, walked, way_of}
+use Rattle.far_evac.specs.Walk.{Walked, Way, Drops, Moves, Goes, begun, dealt_first, dealt_so, freed, left, passed, settled, walked, way_of}
 use Rattle.far_evac.proofs.Dealt.{Gone, Leaves}
 use Rattle.far_evac.proofs.LiveLists.{knows_live, live_released}
 use Rattle.far_evac.proofs.LiveOnce.{each_map}
 use Rattle.far_evac.proofs.Tours.{core_so, first_live, gone_found, leaves_found, left_next, others, ready_released, test_of}
-use Rattle.far_evac.proofs.Walks.{IsExact, none_left, walk_exact}
 
 -- ---- what is known of a state lets the walk go on
 module _ (s t : State) (known : Knows s t) where
@@ -53,6 +52,14 @@ module _ (s t : State) (known : Knows s t) where
 pub none_there : (xs : List ℕ) → is_empty xs ≡ true → xs ≡ []
 none_there [] h = refl
 none_there (x ∷ xs) h = absurd (false≢true h)
+
+front_empty : (xs ys : List ℕ) → xs ++ ys ≡ [] → is_empty xs ≡ true
+front_empty [] ys e = refl
+front_empty (x ∷ xs) ys e = absurd cc
+
+pub begun_live : (s : State) (held : List ℕ) → BeginsLive s held → live_among s held ≡ [] → is_empty held ≡ true
+begun_live s [] begins none = refl
+begun_live s (l ∷ ls) begins none = absurd (false≢true (sym begins ∙ front_empty (live_in s l) (live_among s ls) none))
 
 pub drop_next : (f : ℕ) (all : List ℕ) (l : ℕ) (ls : List ℕ) → drop f all ≡ l ∷ ls → (drop (suc f) all ≡ ls) × (suc f ≤ length all) × (take (suc f) all ≡ take f all ++ (l ∷ []))
 drop_next zero [] l ls = λ e. absurd cc
@@ -151,9 +158,38 @@ module _ (exact : Bool) (P : ℕ → Walked → Type 0) (keeps : KeepsSteps exac
   pub walks_kept : (m : Moment) → P 0 (begun m) → (k : ℕ) (t : Walked) → WalksSo exact m k t → Rests P k t
   walks_kept m h k t walks = steps_kept (Unit {0}) (λ u word old new. Unit {0}) m h k t tt tt walks
 
--- where no word changes but by the walk
+nothing_more : (p : ℕ) (ps : List ℕ) → p ∷ ps ≢ []
+nothing_more p ps e = absurd cc
+
+-- ---- where no word changes but by the walk: k objects were dealt with, n or all, and the word in each cell was the one that is known there
+abbrev pub IsExact : Moment → ℕ → ℕ → Type 0
+IsExact m n k = (k ≤ n) × (left (walked m n) ≢ [] → k ≡ n) × WalksSo true m k (walked m n)
+
+next_exact : (m : Moment) (n k : ℕ) → IsExact m n k → (ps : List ℕ) → left (walked m n) ≡ ps → (j : ℕ) × IsExact m (suc n) j
+next_exact m n k h [] e =
+    let same : walked m (suc n) ≡ walked m n = ap (dealt_first (walked m n)) e in
+    (k, (omega (arith, h.0), λ more. absurd (more (ap left same ∙ e)), subst (WalksSo true m k) (sym same) h.2))
+next_exact m n k h (p ∷ ps) e =
+    let w = walked m n in
+    let word = w.moment.core.cell p in
+    let same : dealt_first w (p ∷ ps) ≡ found_first w word (left w) = sym (ap (found_first w word) e) in (
+      suc k,
+      (
+        omega (arith, h.0),
+        λ _. omega (arith, h.1 (λ none. nothing_more p ps (sym e ∙ none))),
+        (w, word, tt, h.2, record { finds = subst (FindsFirst true w word) (sym e) refl; leaves = ap (dealt_first w) e ∙ same }, tt),
+      ),
+    )
+
+pub walk_exact : (m : Moment) (n : ℕ) → (k : ℕ) × IsExact m n k
+walk_exact m zero = (0, (omega arith, λ _. refl, (refl, refl)))
+walk_exact m (suc n) = let (k, h) = walk_exact m n in next_exact m n k h (left (walked m n)) refl
+
 pub walked_kept : (P : ℕ → Walked → Type 0) → KeepsSteps true P → (m : Moment) → P 0 (begun m) → (n : ℕ) → (k : ℕ) × Rests P k (walked m n)
 walked_kept P keeps m h n = let (k, walk) = walk_exact m n in (k, walks_kept true P keeps m h k (walked m n) walk.2)
+
+pub walked_front : (m : Moment) (n : ℕ) → BeginsLive (walked m n).moment.core (walked m n).moment.collection
+walked_front m n = (walked_kept (λ k w. Unit {0}) record { learns = tt; gives = λ k w l ls none h. tt; deals = λ k w l ls p ps word here finds h. tt } m tt n).1.1
 
 -- ---- the small steps of a walk that began at m, once k objects were dealt with
 -- the first object that is left goes a way, as a word says that was found in its cell
@@ -229,15 +265,15 @@ lifted_walks m P keeps ready h k t walks = (lifted false m P keeps ready h k t w
 
 -- ---- where no word changes but by the walk: after n calls for one more, where there were as many, so many were dealt with
 module _ (m : Moment) (P : ℕ → Walked → Type 0) (keeps : Keeps true m P) (ready : Ready m.core m.collection) (start : P 0 (begun m)) where
-  all_dealt : (n k : ℕ) → IsExact m n k → Stands m P k (walked m n) → n ≤ length (live_among m.core m.collection) → (done : Bool) → is_done (walked m n) ≡ done → k ≡ n
-  all_dealt n k walk h few false more = walk.1 more
-  all_dealt n k walk h few true done =
-      let none = ap length (sym h.left ∙ none_left (walked m n) done) in omega (arith, few, walk.0, none, length-drop k (live_among m.core m.collection))
+  all_dealt : (n k : ℕ) → IsExact m n k → Stands m P k (walked m n) → n ≤ length (live_among m.core m.collection) → (xs : List ℕ) → left (walked m n) ≡ xs → k ≡ n
+  all_dealt n k walk h few [] none =
+      let over = ap length (sym h.left ∙ none) in omega (arith, few, walk.0, over, length-drop k (live_among m.core m.collection))
+  all_dealt n k walk h few (p ∷ ps) more = walk.1 (λ none. nothing_more p ps (sym more ∙ none))
 
   pub lifted_walked : (n : ℕ) → (k : ℕ) × (n ≤ length (live_among m.core m.collection) → k ≡ n) × Stands m P k (walked m n)
   lifted_walked n =
       let (k, walk) = walk_exact m n in
-      let (h, _) = lifted true m P keeps ready start k (walked m n) walk.2 in (k, λ few. all_dealt n k walk h few (is_done (walked m n)) refl, h)
+      let (h, _) = lifted true m P keeps ready start k (walked m n) walk.2 in (k, λ few. all_dealt n k walk h few (left (walked m n)) refl, h)
 
 -- ---- the places alone
 pub walks_left : (m : Moment) (k : ℕ) (t : Walked) → Ready m.core m.collection → WalksTo m k t → Rests (Stands m (λ k w. Unit {0})) k t

@@ -80,7 +80,7 @@ module _ (P : Moment → Tally → Type 0) (keeps : KeepsTurns false P) where
 
   pub turns_kept : (m : Moment) → P m nothing → (tallies : List Tally) (over : Bool) (t : Moment) → TurnsMade m tallies over t → P t (sum_of tallies)
   turns_kept m h [] over t made = subst (λ (x : Moment). P x nothing) (sym made.0) h
-  turns_kept m h (more ∷ tallies) over t (u, made, turn, lawful) = turn_kept u t lawful (sum_of tallies) (turns_kept m h tallies false u made) more over turn
+  turns_kept m h (more ∷ tallies) over t (u, _, made, turn, _, lawful) = turn_kept u t lawful (sum_of tallies) (turns_kept m h tallies false u made) more over turn
 
   -- a whole round from its begin on, also one that stopped at an object
   pub round_kept : (m t : Moment) (logs : List ℕ) (turns : ℕ) (end : RoundEnd) → P (after_selecting m logs) nothing → RunsRound m logs turns end t → (tally : Tally) × P t tally

@@ -120,16 +120,22 @@ Evacuates m n t tally done = (k : ℕ) × (w : Walked) × Walks m n k w × (t �
 abbrev pub StopsAt : Moment → ℕ → Moment → Tally → Type 0
 StopsAt m n t tally = (k : ℕ) × (w : Walked) × WalksTo m k w × (k < n) × (is_done w ≡ false) × KnowsMoment w.moment t × (tally ≡ w.tally)
 
--- ---- rounds: a turn by its phase; and turns one after the other, the last one first in the list, each from a moment that is lawful
+-- ---- rounds: a turn by its phase
 abbrev pub TurnsTo : Moment → Phase → Tally → Bool → Moment → Type 0
 TurnsTo m Idle tally done t = ⊥
 TurnsTo m Marking tally done t = (tally ≡ nothing) × (done ≡ false) × ((count : ℕ) × (waiting : Option ℕ) × MarksSome m t turn_size count waiting)
 TurnsTo m Waiting tally done t = (tally ≡ nothing) × (done ≡ false) × ((answer : Polled) × Polls m t answer)
 TurnsTo m Evacuating tally done t = Evacuates m turn_size t tally done
 
+-- turns one after the other, the last one first in the list, each from a moment that is lawful; and what each asked of a device
+module _ (D : Type 0) (Asks : Moment → Moment → Tally → D → D → Type 0) where
+  abbrev pub TurnsBy : Moment → List Tally → Bool → Moment → D → D → Type 0
+  TurnsBy m [] done t old new = (t ≡ m) × (done ≡ false) × (new ≡ old)
+  TurnsBy m (tally ∷ tallies) done t old new = (u : Moment) × (between : D) × TurnsBy m tallies false u old between × TurnsTo u u.phase tally done t × Asks u t tally between new × IsLawful u
+
+-- the same, of no device
 abbrev pub TurnsMade : Moment → List Tally → Bool → Moment → Type 0
-TurnsMade m [] done t = (t ≡ m) × (done ≡ false)
-TurnsMade m (tally ∷ tallies) done t = (u : Moment) × TurnsMade m tallies false u × TurnsTo u u.phase tally done t × IsLawful u
+TurnsMade m tallies done t = TurnsBy (Unit {0}) (λ u v tally old new. Unit {0}) m tallies done t tt tt
 
 abbrev pub sum_of : List Tally → Tally
 sum_of [] = nothing

@@ -17,6 +17,7 @@ use Rattle.far_evac.specs.Waiting.{after_polling, first_open, polled_to}
 use Rattle.far_evac.specs.Walk.{Way, Moves, ended, walked, way_of}
 use Rattle.far_evac.specs.declared.phase.Phase.TheVariants.{Waiting}
 use Rattle.far_evac.proofs.Bools.{or_left, or_right}
+use Rattle.far_evac.proofs.Marks.{marking_frame}
 use Rattle.far_evac.proofs.Onward.{or_split}
 use Rattle.far_text.specs.Command.{Command, Try, Mutator, Book, Evacuator, By, Policy, Step, Select, Mark, Wait, Evacuate, Abort, Round}
 use Rattle.far_replay_laws.specs.Ages.{KeepsAges, MayGiveBack}
@@ -151,10 +152,6 @@ selected_order : (now : Moment) (logs : List ℕ) → (after_selecting now logs)
 selected_order now [] = refl
 selected_order now (l ∷ ls) = refl
 
-marked_order : (now : Moment) (count : ℕ) → (after_marking now count).order ≡ now.order
-marked_order now count = cond_both (leaves_some now count) (record now { core = marked_core now count }) (record now { core = advanced (marked_core now count) now.collection; phase = Waiting }) (λ (x : Moment). x.order ≡ now.order)
-    (λ _. refl) (λ _. refl)
-
 polled_order : (now : Moment) (o : Option ℕ) → (polled_to now o).order ≡ now.order
 polled_order now None = refl
 polled_order now (Some k) = refl
@@ -171,7 +168,7 @@ module _ (now : Moment) (law : Law now.core) (moment : MomentLaw now) where
 
   made_keeps : (step : Step) → refusal now (Evacuator step) ≡ None → KeepsAges now (Evacuator step) (step_effect now step)
   made_keeps (Select choice most) may = still now (Evacuator (Select choice most)) (step_effect now (Select choice most)) (selected_order now (logs_given (given_by choice (rows_in now) most)))
-  made_keeps (Mark count) may = still now (Evacuator (Mark count)) (after_marking now count) (marked_order now count)
+  made_keeps (Mark count) may = still now (Evacuator (Mark count)) (after_marking now count) (ap (λ (m : Moment). m.order) (marking_frame now count))
   made_keeps Wait may = still now (Evacuator Wait) (after_polling now) (polled_order now (first_open now.core))
   made_keeps (Evacuate count) may =
       let w = walked now count in
