@@ -5,7 +5,7 @@ ghost use Rattle.far_replay_laws.specs.Ends.{EndsAreTold};
 ghost use Rattle.far_replay_laws.specs.Census.{AuditsByCensus};
 ghost use Rattle.far_replay_laws.specs.Chosen.{RoundsAreChosen};
 ghost use Rattle.far_replay_laws.specs.Epochs.{StepsSpendEpochs};
-ghost use Rattle.far_replay_laws.specs.FromOutside.{DeviceRefusesFar, FailuresAreSaid};
+ghost use Rattle.far_replay_laws.specs.FromOutside.{DeviceRefusesFar, FlawsAreSaid};
 ghost use Rattle.far_replay_laws.specs.Listed.{AuditCountsList};
 ghost use Rattle.far_replay_laws.specs.Headline.{OutputsAreSound, OneOutput, OutsideDecides, OutsideDecidesOutput, EachTextIsAnswered, TextsWriteBytes, LinesAreNumbered, MomentsLast, EventsReach, ShapesAre, HeapsBeginLawful, ObjectsStayWhole, ViewedLogsStay, ViewsLast, RefusalsStay, RefusalsChangeNothing, TriesAreAnswered, UnknownMutatorsAreRefused, NearRefusals, MutatorsAreAlone, OwnLinesCount, MutatorsLearn, NewTakesTheLowest, NoneIsLeft, NewIsMade, NewMakesItsObject, CommandsTakeRoom, WritesChangeTheirRange, LogsAreTold, WhereTells, LogTellsItsLine, AuditCounts, DropEndsObject, EpochsAreTold, ScopesOpenAtEpochs, ClosesForget, PrintedAlike};
 ghost use Rattle.far_replay_laws.specs.Ages.{AgesStay};
@@ -77,7 +77,7 @@ pub fn refusals_leave_all()
     ensures unknown { UnknownMutatorsAreRefused }
     ensures near { NearRefusals }
     ensures far { DeviceRefusesFar }
-    ensures few { FailuresAreSaid }
+    ensures few { FlawsAreSaid }
 {}
 
 /// The replies to one mutator's lines are what its own lines alone say: its own, and no others, say what it knows. What
