@@ -2,7 +2,7 @@
 use Rattle.std.proofs.Common.{◌≡◌, ◌≢◌, ℕ, ◌+◌, ◌/◌, ◌<◌, Bool, true, false, cond, nat_eq, sym, refl, ap, subst, ◌∙◌, inl, inr, is_some, IsSome, Option, Some, None, List, length}
 use Rattle.std.specs.Prelude.{◌⊎◌, ◌&&◌}
 use Rattle.std.specs.Bool.{MatchBool}
-use Rattle.std.proofs.lemmas.Bool.{and_parts, cond_both, eqb-true, eqb-false, eq-eqb, false≢true, ne_eqb, not-true}
+use Rattle.std.proofs.lemmas.Bool.{and_parts, eqb-true, eqb-false, eq-eqb, false≢true, ne_eqb, not-true}
 use mathlib.Core.Path.{fun_ext}
 use Rattle.far_word.specs.declared.mark.Marks.{Marks}
 use Rattle.far_word.specs.declared.pointer.Place.{Place}
@@ -92,9 +92,13 @@ far_unheld s p law far (Some place) e =
     let x = held_near (read_of (s.cell p)) place (law.views.held_names p place e) in
     let odd : Some (Near x.len x.ds place x.marks) ≡ Some (Far far.0 far.1 far.2) = sym x.near ∙ far.3 in absurd cc
 
+neither : (b x : Bool) → x ≡ false → (b && x) ≡ false
+neither true x e = e
+neither false x e = refl
+
 far_unviewed : (s : State) (p m : ℕ) → Law s → LiesFar s p → (own_of (world_of s) m).viewed p ≡ false
 unfolding world_of
-far_unviewed s p m law far = cond_both (nat_eq (p / CELLS) m) true false (λ b. (b && is_some (s.held p)) ≡ false) (λ _. far_unheld s p law far (s.held p) refl) (λ _. refl)
+far_unviewed s p m law far = neither (nat_eq (p / CELLS) m) (is_some (s.held p)) (far_unheld s p law far (s.held p) refl)
 
 -- ---- what a command that was given other words tells
 module _ (row : ℕ → ℕ) (now : Moment) (c : Command) (m p : ℕ) (r : Reply) (next : Moment) (law : Law now.core) (later : Law next.core) (asks : AsksFor m p c) (ours : uses now.core m p ≡ true) (h : Misled row now c p r next) where

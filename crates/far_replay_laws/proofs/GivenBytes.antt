@@ -37,7 +37,7 @@ same_bytes : (a b : List ℕ) → Some a ≡ Some b → a ≡ b
 same_bytes a b e = cc
 
 shows_write : (m p from : ℕ) (new all : List ℕ) (o q : Own) → Knows m o (Mutator m (Write p from new)) Done q → o.object p ≡ Some all → Shows p (Mutator m (Write p from new)) Done o q all
-shows_write m p from new all o q (opened, bytes, is, inside, then) had =
+shows_write m p from new all o q (opened, (bytes, is, inside, then)) had =
     let same : bytes ≡ all = same_bytes bytes all (sym is ∙ had) in
     record {
       object = ap (λ (x : Own). x.object p) then ∙ put_same o.object p (Some (with_range bytes from new)) p refl ∙ ap (λ (b : List ℕ). Some (with_range b from new)) same;
@@ -88,7 +88,7 @@ module _ (row : ℕ → ℕ) (now : Moment) (m p : ℕ) (r : Reply) (next : Mome
     used : now.core.used p ≡ true
     used = (and_parts (nat_eq (p / CELLS) m) (now.core.used p) uses_it).1
 
-    given : List ℕ
+    abbrev given : List ℕ
     given = bytes_of row h.far.0
 
     before_is : own_of (world_of other.core) m ≡ record (own_of (world_of now.core) m) { object = put (own_of (world_of now.core) m).object p (Some given) }

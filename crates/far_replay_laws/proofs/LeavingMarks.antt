@@ -42,6 +42,7 @@ use Rattle.far_replay.proofs.TakingView.{asked_word}
 use Rattle.far_replay.proofs.Turns.{access_fact, tried}
 use Rattle.far_replay.proofs.Views.{anew_is, fast_dereference, fast_seen, Already, Anew, Seen, pin_read, slow_parts}
 use Rattle.far_replay_laws.proofs.Misleading.{as_misled}
+use Rattle.far_core.specs.world.WorldOf.{world_of}
 
 -- ---- what a cell says with HOT, and with MOVE
 hot_gained : (o n : Option PtrWord) → in_use o ≡ true → n ≡ map_mark Hot o → GainsHot o n

@@ -65,7 +65,10 @@ if_both : {X Y : Type 0} (f : X → Y) (b : Bool) (x y : X) → (if b then f x e
 if_both f true x y = refl
 if_both f false x y = refl
 
-stepped : (P : State → State) (b : Bool) (t s : State) (a : Answer) → (if b then (P t, a) else (P s, Failed)) ≡ (P (if b then (t, a) else (s, Failed)).0, (if b then (t, a) else (s, Failed)).1)
+abbrev made_if : Bool → State → State → Answer → State × Answer
+made_if b t s a = if b then (t, a) else (s, Failed)
+
+stepped : (P : State → State) (b : Bool) (t s : State) (a : Answer) → made_if b (P t) (P s) a ≡ (P (made_if b t s a).0, (made_if b t s a).1)
 stepped P true t s a = refl
 stepped P false t s a = refl
 
@@ -81,7 +84,7 @@ module _ (s : State) (p : ℕ) (row : ℕ → ℕ) (lies : s.honest ≡ false) w
   naming_may q new (Some Stays) = refl
   naming_may q new (Some (Moves len ds from to)) = refl
   naming_may q new (Some (Fetches len ds place)) =
-      ap (λ b. is_new_span s q len ds place && (ends_padded s.word len place && b)) (either_way s.honest (is_stored_at other q len place) (is_stored_at s q len place) lies)
+      ap (λ b. is_new_span s q len ds place && ends_padded s.word len place && b) (either_way s.honest (is_stored_at other q len place) (is_stored_at s q len place) lies)
 
   naming_after : (q new : ℕ) (form : Option Naming) → SendsNone form → after_naming other q new form ≡ with_stored (after_naming s q new form) p row
   naming_after q new None none = refl

@@ -17,7 +17,7 @@ use Rattle.far_core.specs.state.Law.{Law, head_len}
 use Rattle.far_core.specs.state.State.{State, addr, put}
 use Rattle.far_core.specs.events.Ranges.{with_row}
 use Rattle.far_core.specs.events.Step.{after_close, data_len, is_opened, near_data, near_len}
-use Rattle.far_core.specs.state.Spans.{names_place}
+use Rattle.far_core.specs.state.Spans.{names_place, spans_of}
 use Rattle.far_core.proofs.Bounds.{span_len}
 use Rattle.far_core.proofs.Cells.{unused}
 use Rattle.far_core.proofs.NewSpans.{at_tail}
@@ -186,15 +186,18 @@ as_bool false f g x = g x
 
 module _ (s t : State) (p : ℕ) (row : ℕ → ℕ) where
   as_span : (len : ℕ) (from : Option ℕ) (reserve : Bool) → TakesSpan (with_stored s p row) len from reserve (with_stored t p row) → TakesSpan s len from reserve t
+  unfolding spans_of
   as_span len from reserve x = (x.0, x.1, x.2, (λ l. let b = x.3 l in record { live = b.live; dead = b.dead; unused = b.unused }))
 
   as_brings : (o : Option PtrWord) → BringTakes (with_stored s p row) o (with_stored t p row) → BringTakes s o t
+  unfolding spans_of
   as_brings None x = x
   as_brings (Some Free) x = x
   as_brings (Some (Near len ds place marks)) x = as_bool marks.evac (as_span len (Some place.log) false) (λ y. y) x
   as_brings (Some (Far len ds marks)) x = as_span len None true x
 
   as_takes : DereferenceTakes (with_stored s p row) p (with_stored t p row) → DereferenceTakes s p t
+  unfolding spans_of
   as_takes x = as_bool (is_slow s p) (as_brings (read_of (s.cell p))) (λ y. y) x
 
 pub commands_take : (now : Moment) (c : Command) (r : Reply) (next : Moment) → IsMoment now → Commanded now c r next → TakesRoom now c r next
