@@ -1,5 +1,5 @@
 -- A mutator by itself, from the first state of a heap on.
-use Rattle.std.proofs.Common.{◌≡◌, ℕ, ◌/◌, ◌<◌, Bool, true, false, ◌&&◌, nat_eq, refl, ap, subst, ◌∙◌, Option, None, List}
+use Rattle.std.proofs.Common.{◌≡◌, ℕ, ◌/◌, Bool, true, false, ◌&&◌, nat_eq, refl, ap, subst, ◌∙◌, Option, None, List}
 use Rattle.std.proofs.lemmas.Bool.{cond_both}
 use mathlib.Core.Path.{fun_ext}
 use Rattle.far_word.specs.declared.sizes.TheConstants.{CELLS}

@@ -1,5 +1,5 @@
 -- The replies to one mutator's lines are what its own lines alone say.
-use Rattle.std.proofs.Common.{◌≡◌, ℕ, ◌+◌, ◌<◌, ◌≤◌, Bool, true, false, nat_eq, arith, length, sym, refl, ap, subst, ◌∙◌, Option, Some, None, List, [], ◌∷◌, inl, inr}
+use Rattle.std.proofs.Common.{◌≡◌, ℕ, ◌+◌, ◌<◌, ◌≤◌, Bool, true, false, nat_eq, arith, length, sym, refl, ap, subst, ◌∙◌, Option, Some, None, List, [], ◌∷◌, inl}
 use Rattle.std.specs.Bool.{MatchBool}
 use Rattle.std.proofs.lemmas.Bool.{eqb-true, eqb-false}
 use Rattle.far_word.specs.declared.refused.Refused.{Refused as Refusal}

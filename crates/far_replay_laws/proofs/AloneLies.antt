@@ -1,6 +1,6 @@
 -- What a mutator knows where other words are stored of an object: other bytes of that object, if it is its own and far; else the same.
-use Rattle.std.proofs.Common.{◌≡◌, ◌≢◌, ℕ, ◌+◌, ◌/◌, ◌<◌, Bool, true, false, cond, nat_eq, sym, refl, ap, subst, ◌∙◌, inl, inr, is_some, IsSome, Option, Some, None, List, length}
-use Rattle.std.specs.Prelude.{◌⊎◌, ◌&&◌}
+use Rattle.std.proofs.Common.{◌≡◌, ◌≢◌, ℕ, ◌/◌, Bool, true, false, cond, nat_eq, sym, refl, ap, subst, ◌∙◌, inr, is_some, IsSome, Option, Some, None, List}
+use Rattle.std.specs.Prelude.{◌&&◌}
 use Rattle.std.specs.Bool.{MatchBool}
 use Rattle.std.proofs.lemmas.Bool.{and_parts, eqb-true, eqb-false, eq-eqb, false≢true, ne_eqb, not-true}
 use mathlib.Core.Path.{fun_ext}
@@ -14,7 +14,7 @@ use Rattle.far_word.specs.Pointer.{read_of}
 use Rattle.far_word.proofs.ByteLaws.{length-bytes_of}
 use Rattle.far_core.specs.state.Law.{Law, in_use}
 use Rattle.far_core.specs.state.State.{State, put}
-use Rattle.far_core.specs.world.World.{FarSide, Object}
+use Rattle.far_core.specs.world.World.{FarSide}
 use Rattle.far_core.specs.world.WorldOf.{object_of, world_of}
 use Rattle.far_core.proofs.Cells.{held_near}
 use Rattle.far_core.proofs.Put.{put_both, put_other, put_same}
@@ -22,7 +22,7 @@ use Rattle.far_text.specs.Command.{Command}
 use Rattle.far_replay.specs.Alone.{IsMisled, Knows, KnowsBy, Own, bytes_in_world, own_of}
 use Rattle.far_replay.specs.Commanded.{AsksFor, LiesFar, Misled}
 use Rattle.far_replay.specs.Moment.{Moment, as_if_stored, with_stored}
-use Rattle.far_replay.specs.Objects.{named_len, object_len, uses}
+use Rattle.far_replay.specs.Objects.{named_len, uses}
 use Rattle.far_replay.specs.Reply.{Reply}
 use Rattle.far_replay.proofs.AloneRuns.{Own-ext}
 use Rattle.far_replay.proofs.AloneStates.{own_used}
@@ -36,7 +36,6 @@ far_object s p row far law used =
     let alive : far.2.dropped ≡ false = not-true far.2.dropped (sym (ap in_use far.3) ∙ law.views.used_cell p used) in
     ap (λ o. bytes_in_world (object_of s.word row p o)) far.3
     ∙ ap (λ b. bytes_in_world (cond b None (Some record { owner = p / CELLS; ds = far.1; bytes = bytes_of row far.0; home = FarSide }))) alive
-
 
 -- its owner knows other bytes of it
 pub own_as_if : (s : State) (p : ℕ) (row : ℕ → ℕ) (m : ℕ) (far : LiesFar s p) → Law s → s.used p ≡ true → p / CELLS ≡ m →

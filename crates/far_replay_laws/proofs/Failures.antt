@@ -13,7 +13,7 @@ use Rattle.far_device.specs.declared.liar.Lie.{Lie}
 use Rattle.far_device.specs.declared.liar.Lie.TheVariants.{Never, Short as Shortens, Flip as Inverts}
 use Rattle.far_evac.specs.declared.answers.Progress.{Progress}
 use Rattle.far_text.specs.Command.{Command, Device, Flawed, Fail, Short, Flip, Trace, New, Where, Logs, Mutator, Book, Evacuator, Select}
-use Rattle.far_replay.specs.Answers.{AnsweredBy, FlawedAtMost, IsOutput, Outside, Serves, Refuses, Gives, Served, Stopped, Misled, MisledBy, first_moment, flaws, is_true, lie_of, opened, shape_of}
+use Rattle.far_replay.specs.Answers.{AnsweredBy, FlawedAtMost, IsOutput, Outside, Serves, Refuses, Gives, Served, Stopped, MisledBy, first_moment, flaws, is_true, lie_of, opened, shape_of}
 use Rattle.far_replay.specs.Commanded.{KeepsFar}
 use Rattle.far_replay.specs.Moment.{Moment, as_if_stored}
 use Rattle.far_replay.specs.Objects.{lowest_cell}

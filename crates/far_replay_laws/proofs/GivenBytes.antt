@@ -1,13 +1,10 @@
 -- A command that is given other words of its object: the object has their bytes then, and all others keep theirs.
-use Rattle.std.proofs.Common.{◌≡◌, ◌≢◌, ℕ, ◌+◌, ◌/◌, ◌<◌, Bool, true, false, cond, nat_eq, nat_lt, not, sym, refl, ap, subst, ◌∙◌, is_some, IsSome, inl, inr, Option, Some, None, List, [], ◌∷◌, length}
-use Rattle.std.specs.Prelude.{◌&&◌, slice_range}
-use Rattle.std.specs.Bool.{MatchBool}
-use Rattle.std.proofs.lemmas.Bool.{and_parts, cases_eq, eq-eqb, ltb-true, ne_eqb}
+use Rattle.std.proofs.Common.{◌≡◌, ◌≢◌, ℕ, ◌+◌, ◌/◌, ◌<◌, true, cond, nat_eq, nat_lt, not, sym, refl, ap, subst, ◌∙◌, IsSome, inl, inr, Some, None, List, [], ◌∷◌, length}
+use Rattle.std.specs.Prelude.{slice_range}
+use Rattle.std.proofs.lemmas.Bool.{and_parts, cases_eq, eq-eqb, ltb-true}
 use Rattle.far_word.specs.declared.sizes.TheConstants.{CELLS}
 use Rattle.far_word.specs.Bytes.{bytes_of}
-use Rattle.far_word.proofs.ByteLaws.{length-bytes_of}
 use Rattle.far_core.specs.state.State.{State, put}
-use Rattle.far_core.specs.events.Step.{is_opened}
 use Rattle.far_core.specs.world.World.{World}
 use Rattle.far_core.specs.world.WorldOf.{world_of}
 use Rattle.far_core.proofs.Put.{put_other, put_same}
@@ -15,7 +12,7 @@ use Rattle.far_text.specs.Command.{Command, Write, Read, View, Mutator}
 use Rattle.far_text.specs.Written.{AllWriteBytes, WritesBytes}
 use Rattle.far_replay.specs.Alone.{Knows, Own, bytes_in_world, own_of}
 use Rattle.far_replay.specs.Answers.{AnsweredBy, CommandedBy, IsMoment, Outside, Serves, Refuses, Gives}
-use Rattle.far_replay.specs.Commanded.{AsksFor, Misled, MisledBy}
+use Rattle.far_replay.specs.Commanded.{AsksFor, Misled}
 use Rattle.far_replay.specs.Moment.{Moment, as_if_stored}
 use Rattle.far_replay.specs.Objects.{named_len, uses, with_range}
 use Rattle.far_replay.specs.Reply.{Reply, Done, Data}

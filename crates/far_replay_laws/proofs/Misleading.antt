@@ -1,5 +1,5 @@
 -- A command that is given other words is served in a moment in which these are stored: what that says of the moments before and after it.
-use Rattle.std.proofs.Common.{◌≡◌, ◌≢◌, ℕ, ◌+◌, true, nat_lt, length, sym, ap, subst, ◌∙◌, refl, Option, Some, None, List}
+use Rattle.std.proofs.Common.{◌≡◌, ◌≢◌, ℕ, ◌+◌, true, nat_lt, length, sym, subst, refl, Option, Some, None, List}
 use Rattle.far_word.specs.declared.refused.Refused.{Refused as Refusal}
 use Rattle.far_word.specs.declared.refused.Refused.TheVariants.{NoRoom, Closed, NotHeld, Range}
 use Rattle.far_core.specs.events.Step.{is_opened}

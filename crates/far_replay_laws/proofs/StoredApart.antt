@@ -7,10 +7,8 @@ use Rattle.far_word.specs.declared.mark.Marks.{Marks}
 use Rattle.far_word.specs.declared.pointer.Place.{Place}
 use Rattle.far_word.specs.declared.pointer.PtrWord.{PtrWord}
 use Rattle.far_word.specs.declared.pointer.PtrWord.TheVariants.{Free, Near, Far}
-use Rattle.far_word.specs.declared.refused.Refused.TheVariants.{NoRoom, Closed, NotHeld, Range}
 use Rattle.far_word.specs.declared.sizes.TheConstants.{CELLS}
 use Rattle.far_word.specs.Bytes.{packed_word}
-use Rattle.far_word.specs.Header.{head_word}
 use Rattle.far_word.specs.Pointer.{read_of}
 use Rattle.far_word.specs.Sizes.{words_for}
 use Rattle.far_core.specs.declared.event.Event.{Event}
@@ -29,7 +27,7 @@ use Rattle.far_core.specs.state.Law.{Law}
 use Rattle.far_core.specs.state.State.{State}
 use Rattle.far_core.proofs.Cells.{map_mark}
 use Rattle.far_core.proofs.Leaving.{events_leave}
-use Rattle.far_text.specs.Command.{Command, Write, Read, View, Mutator}
+use Rattle.far_text.specs.Command.{Command}
 use Rattle.far_text.proofs.Each.{Each, Each-append, Each-row}
 use Rattle.far_replay.specs.Commanded.{AsksFor, LiesFar}
 use Rattle.far_replay.specs.Dereference.{come, comes_to, dereferenced, sought, sought_of}
@@ -41,7 +39,7 @@ use Rattle.far_replay.specs.Objects.{data_of, uses, with_range}
 use Rattle.far_replay.specs.Turn.{refusal, unless}
 use Rattle.far_replay.proofs.AsIfStored.{as_it_was}
 use Rattle.far_replay.proofs.Views.{pin_read, slow_view}
-use Rattle.far_replay_laws.proofs.Misleading.{by_asked, misled_uses}
+use Rattle.far_replay_laws.proofs.Misleading.{by_asked}
 
 -- ---- events that store nothing
 -- a naming that sends no object far
