@@ -1,12 +1,13 @@
 -- What stays so of a heap where other words are stored of an object.
-use Rattle.std.proofs.Common.{◌≡◌, ◌≢◌, ℕ, Bool, true, false, IsSome, Option, Some, None, refl, sym, ap, subst, ◌∙◌}
-use Rattle.std.proofs.lemmas.Bool.{false≢true, true≢false}
+use Rattle.std.proofs.Common.{◌≡◌, ◌≢◌, ◌&&◌, ℕ, Bool, true, false, not, is_some, IsSome, Option, Some, None, refl, sym, ap, subst, ◌∙◌, if◌then◌else◌}
+use Rattle.std.proofs.lemmas.Bool.{cond_both, false≢true, true≢false}
 use mathlib.Core.Path.{fun_ext}
 use Rattle.far_word.specs.declared.mark.Marks.{Marks}
 use Rattle.far_word.specs.declared.pointer.Place.{Place}
 use Rattle.far_word.specs.declared.pointer.PtrWord.{PtrWord}
 use Rattle.far_word.specs.declared.pointer.PtrWord.TheVariants.{Free, Near, Far}
 use Rattle.far_word.specs.Pointer.{read_of}
+use Rattle.far_core.specs.events.Step.{after_pin}
 use Rattle.far_core.specs.state.Law.{IsStored, Law, StoresBack, held_place}
 use Rattle.far_core.specs.state.State.{State, put}
 use Rattle.far_core.proofs.Cells.{unused}
@@ -15,6 +16,8 @@ use Rattle.far_evac.specs.MomentLaw.{MomentLaw}
 use Rattle.far_evac.specs.Strays.{NoneStrays}
 use Rattle.far_replay.specs.Between.{Between}
 use Rattle.far_replay.specs.Commanded.{LiesFar, Misled}
+use Rattle.far_replay.specs.Dereference.{asked_for, comes_to, comes_to_of, has_no_room, sought, sought_of}
+use Rattle.far_replay.specs.Effects.{is_slow, with_view}
 use Rattle.far_replay.specs.Moment.{Moment, as_if_stored, with_stored}
 use Rattle.far_replay.specs.Reply.{Reply}
 use Rattle.far_text.specs.Command.{Command}
@@ -57,6 +60,52 @@ round_as_if now p row x = record {
 pub between_as_if : (s : State) (p : ℕ) (row : ℕ → ℕ) → Between s → Between (with_stored s p row)
 between_as_if s p row x = record { named = x.named }
 
+-- ---- the steps of a dereference read none of them
+if_both : {X Y : Type 0} (f : X → Y) (b : Bool) (x y : X) → (if b then f x else f y) ≡ f (if b then x else y)
+if_both f true x y = refl
+if_both f false x y = refl
+
+pub view_as_if : (s : State) (p : ℕ) (row : ℕ → ℕ) (q : ℕ) → with_view (with_stored s p row) q ≡ with_stored (with_view s q) p row
+view_as_if s p row q = if_both (λ (t : State). with_stored t p row) (is_some (s.held q)) s (after_pin s q)
+
+pub view_stores : (s : State) (q : ℕ) → (with_view s q).stored ≡ s.stored
+view_stores s q = cond_both (is_some (s.held q)) s (after_pin s q) (λ (t : State). t.stored ≡ s.stored) (λ _. refl) (λ _. refl)
+
+ask_as_if_of : (s : State) (p : ℕ) (row : ℕ → ℕ) (m q : ℕ) (o : Option PtrWord) → sought_of (with_stored s p row) m q o ≡ with_stored (sought_of s m q o) p row
+ask_as_if_of s p row m q None = refl
+ask_as_if_of s p row m q (Some Free) = refl
+ask_as_if_of s p row m q (Some (Near len ds place marks)) = refl
+ask_as_if_of s p row m q (Some (Far len ds marks)) = refl
+
+pub ask_as_if : (s : State) (p : ℕ) (row : ℕ → ℕ) (m q : ℕ) → asked_for (with_stored s p row) m q ≡ with_stored (asked_for s m q) p row
+ask_as_if s p row m q = ask_as_if_of s p row m q (read_of (s.cell q))
+
+ask_stores_of : (s : State) (m q : ℕ) (o : Option PtrWord) → (sought_of s m q o).stored ≡ s.stored
+ask_stores_of s m q None = refl
+ask_stores_of s m q (Some Free) = refl
+ask_stores_of s m q (Some (Near len ds place marks)) = refl
+ask_stores_of s m q (Some (Far len ds marks)) = refl
+
+pub ask_stores : (s : State) (m q : ℕ) → (asked_for s m q).stored ≡ s.stored
+ask_stores s m q = ask_stores_of s m q (read_of (s.cell q))
+
+pub sought_as_if : (s : State) (p : ℕ) (row : ℕ → ℕ) (m q : ℕ) → sought (with_stored s p row) m q ≡ with_stored (sought s m q) p row
+sought_as_if s p row m q = ap (λ (t : State). asked_for t m q) (view_as_if s p row q) ∙ ask_as_if (with_view s q) p row m q
+
+comes_as_if_of : (s : State) (p : ℕ) (row : ℕ → ℕ) (q : ℕ) (o : Option PtrWord) → comes_to_of (with_stored s p row) q o ≡ comes_to_of s q o
+comes_as_if_of s p row q None = refl
+comes_as_if_of s p row q (Some Free) = refl
+comes_as_if_of s p row q (Some (Near len ds place marks)) = refl
+comes_as_if_of s p row q (Some (Far len ds marks)) = refl
+
+pub comes_as_if : (s : State) (p : ℕ) (row : ℕ → ℕ) (q : ℕ) → comes_to (with_stored s p row) q ≡ comes_to s q
+comes_as_if s p row q = comes_as_if_of s p row q (read_of (s.cell q))
+
+-- so there is room where there was
+pub room_as_if : (s : State) (p : ℕ) (row : ℕ → ℕ) (m q : ℕ) → has_no_room (with_stored s p row) m q ≡ has_no_room s m q
+room_as_if s p row m q = ap (λ o. is_slow s q && not (is_some o)) (ap (λ (t : State). comes_to t q) (sought_as_if s p row m q) ∙ comes_as_if (sought s m q) p row q)
+
+-- ---- stored anew
 -- what is stored may be stored anew
 pub as_it_was : (s : State) (p : ℕ) (row : ℕ → ℕ) → row ≡ s.stored p → with_stored s p row ≡ s
 as_it_was s p row e = ap (λ (words : ℕ → ℕ → ℕ). record s { stored = words }) (put_old s.stored p row (sym e))

@@ -9,7 +9,10 @@ pub mod Choices
 pub mod Counted
 pub mod Dereferences
 pub mod Drops
+pub mod FarReads
 pub mod Fronts
+pub mod Given
+pub mod Giving
 pub mod Joining
 pub mod KeptCounts
 pub mod Lasting
@@ -28,6 +31,7 @@ pub mod RangeWrites
 pub mod RoundChoices
 pub mod RoundLeads
 pub mod Runs
+pub mod Spending
 pub mod Spliced
 pub mod Stopping
 pub mod StoreTurns
