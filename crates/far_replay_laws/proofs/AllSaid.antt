@@ -21,7 +21,7 @@ use Rattle.far_replay_laws.specs.Listed.{Counted}
 use Rattle.far_replay_laws.specs.Steps.{Told}
 use Rattle.far_replay_laws.proofs.AgesKept.{ages_stay}
 use Rattle.far_replay_laws.proofs.Along.{along}
-use Rattle.far_replay_laws.proofs.AloneFirst.{alone_first}
+use Rattle.far_replay_laws.proofs.AloneFirst.{alone_said}
 use Rattle.far_replay_laws.proofs.EpochLaws.{closes_forget, epochs_told, scopes_open}
 use Rattle.far_replay_laws.proofs.EpochsSpent.{steps_spend}
 use Rattle.far_replay_laws.proofs.Failures.{flaws_are_said}
@@ -96,7 +96,7 @@ outputs_sound text output logs mutators epoch device cs answers reads fits =
       lawful = moments_last first cs rs moments is bytes h;
       whole = objects_whole first cs rs moments is bytes h;
       stay = logs_stay first cs rs moments is bytes h;
-      alone = λ m within. alone_first logs mutators epoch m device cs rs moments fits within bytes h;
+      alone = λ m within. alone_said logs mutators epoch m device os cs rs moments fits within bytes lies made;
       told = along Told (λ now c r next is bytes h. told_so now c r next (moment_lasts now is) h) first cs rs moments is bytes h;
       left = along Leaves (λ now c r next is bytes h. left_so now c r next (moment_lasts now is) h) first cs rs moments is bytes h;
       counted = along (λ now c r next. Counted now c r) (λ now c r next is bytes h. counted now c r next (moment_lasts now is).law h) first cs rs moments is bytes h;

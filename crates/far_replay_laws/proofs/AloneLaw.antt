@@ -11,14 +11,14 @@ use Rattle.far_core.specs.world.WorldOf.{world_of}
 use Rattle.far_core.proofs.Leaving.{events_leave}
 use Rattle.far_replay.specs.Moment.{Moment, moment_of, as_if_stored}
 use Rattle.far_replay.specs.Alone.{IsIn, Own, Knows, Alone, Learns, own_of, is_by, speaker, KnowsBy}
-use Rattle.far_replay.specs.Answers.{Answered, Commanded, Served, Unbrought, IsMoment}
+use Rattle.far_replay.specs.Answers.{Answered, Commanded, Served, Unbrought, IsMoment, AnsweredBy, CommandedBy, Outside, Serves, Refuses, Gives}
 use Rattle.far_replay.specs.Commanded.{KeepsFar, AsksFor, Misled}
 use Rattle.far_replay.specs.Objects.{object_len}
 use Rattle.far_evac.specs.declared.answers.RoundEnd.TheVariants.{Limit}
 use Rattle.far_evac.specs.declared.phase.Phase.TheVariants.{Evacuating}
 use Rattle.far_word.specs.declared.refused.Refused.TheVariants.{Marked}
 use Rattle.far_replay.proofs.AloneStates.{own_used}
-use Rattle.far_replay.proofs.Outcomes.{by_outcome}
+use Rattle.far_replay.proofs.Outcomes.{by_outcome, by_lie, by_stop}
 use Rattle.far_replay.proofs.Turns.{access_fact}
 use Rattle.far_replay.specs.Between.{Between}
 use Rattle.far_text.specs.Command.{Command, New, Open, Write, Read, Close, Where, Drop, View, Try, Epoch, Mutator, Book, Evacuator, Evacuate, Round}
@@ -34,6 +34,7 @@ use Rattle.far_replay_laws.proofs.AloneTurns.{Teaches, Turns, turns_open, turns_
 use Rattle.far_replay_laws.proofs.Refusals.{of_far}
 use Rattle.far_replay_laws.proofs.AloneLies.{misled_tells}
 use Rattle.far_replay_laws.proofs.Misleading.{by_asked, misled_allowed, misled_uses}
+use Rattle.far_replay_laws.specs.FromOutside.{lies}
 
 -- ---- no event changes how many mutators there are
 step_mutators : (s : State) (e : Event) → (step_of s e).0.mutators ≡ s.mutators
@@ -218,20 +219,32 @@ module _ (row : ℕ → ℕ) (now : Moment) (k : ℕ) (r : Reply) (next : Moment
       (λ from len small h. given_tells (Mutator m (Read p from len)) (refl, refl) small h (served_there (Mutator m (Read p from len)) small h))
       (λ small h. given_tells (Mutator m (View p)) (refl, refl) small h (served_there (Mutator m (View p)) small h))
 
-each_learns : (now : Moment) (m : ℕ) (c : Command) (r : Reply) (next : Moment) → Lasts now → m < now.core.mutators → WritesBytes c → Commanded now c r next → Learns now.core m c r next.core
-each_learns now m c r next lasts within small h = by_outcome now r next (λ d. WritesBytes d → Learns now.core m d r next.core)
-    (λ d h small. known now.core m d r next.core (served_taught now m d r next lasts within small h))
-    (λ why k p from new h _. known now.core m (Mutator k (Write p from new)) r next.core (at_speaker now.core k m (Mutator k (Write p from new)) r next.core (nat_eq k m) refl within (write_teaches why now k p from new r next lasts h)))
-    (λ why k p from len h _. known now.core m (Mutator k (Read p from len)) r next.core (at_speaker now.core k m (Mutator k (Read p from len)) r next.core (nat_eq k m) refl within (read_teaches why now k p from len r next lasts h)))
-    (λ why k p h _. known now.core m (Mutator k (View p)) r next.core (at_speaker now.core k m (Mutator k (View p)) r next.core (nat_eq k m) refl within (view_teaches why now k p r next lasts h)))
-    (λ why objects count h _. served_taught now m (Evacuator (Evacuate objects)) (Evacuated h.progress) next lasts within tt h.left)
-    (λ why turns objects policy most count h small.
+-- what the outside made of a command, unless it gave other words
+abbrev pub GivesNone : Outside → Type 0
+GivesNone Serves = Unit {0}
+GivesNone (Refuses why turns objects) = Unit {0}
+GivesNone (Gives row) = ⊥
+
+taught_by : (o : Outside) → GivesNone o → (now : Moment) (m : ℕ) (c : Command) (r : Reply) (next : Moment) → Lasts now → m < now.core.mutators → WritesBytes c → CommandedBy o now c r next → Taught now.core m c r next.core
+taught_by Serves none now m c r next lasts within small h = served_taught now m c r next lasts within small h
+taught_by (Refuses why turns objects) none now m c r next lasts within small h = by_stop why turns objects now r next (λ d. WritesBytes d → Taught now.core m d r next.core)
+    (λ k p from new h _. at_speaker now.core k m (Mutator k (Write p from new)) r next.core (nat_eq k m) refl within (write_teaches why now k p from new r next lasts h))
+    (λ k p from len h _. at_speaker now.core k m (Mutator k (Read p from len)) r next.core (nat_eq k m) refl within (read_teaches why now k p from len r next lasts h))
+    (λ k p h _. at_speaker now.core k m (Mutator k (View p)) r next.core (nat_eq k m) refl within (view_teaches why now k p r next lasts h))
+    (λ count h _. served_taught now m (Evacuator (Evacuate objects)) (Evacuated h.progress) next lasts within tt h.left)
+    (λ policy most count h small.
     let later = after_step now (Round policy most turns) (Ended (Limit Evacuating)) h.stood lasts h.turned in
     let same = served_mutators now (Evacuator (Round policy most turns)) (Ended (Limit Evacuating)) h.stood lasts small h.turned in
     served_taught h.stood m (Evacuator (Evacuate objects)) (Evacuated h.progress) next later (subst (λ n. m < n) (sym same) within) tt h.left
     ∙ served_taught now m (Evacuator (Round policy most turns)) (Ended (Limit Evacuating)) h.stood lasts within small h.turned)
-    (λ row k p d asks h small. given_learns row now m r next k p lasts within d asks small h)
     c h small
+taught_by (Gives row) none now m c r next lasts within small h = absurd none
+
+each_learns : (now : Moment) (m : ℕ) (c : Command) (r : Reply) (next : Moment) → Lasts now → m < now.core.mutators → WritesBytes c → Commanded now c r next → Learns now.core m c r next.core
+each_learns now m c r next lasts within small (Serves, h) = known now.core m c r next.core (taught_by Serves tt now m c r next lasts within small h)
+each_learns now m c r next lasts within small (Refuses why turns objects, h) = known now.core m c r next.core (taught_by (Refuses why turns objects) tt now m c r next lasts within small h)
+each_learns now m c r next lasts within small (Gives row, h) =
+    by_lie row now r next (λ d. WritesBytes d → Learns now.core m d r next.core) (λ k p d asks h small. given_learns row now m r next k p lasts within d asks small h) c h small
 
 pub mutators_learn : (now : Moment) (c : Command) (r : Reply) (next : Moment) (m : ℕ) → IsMoment now → WritesBytes c → m < now.core.mutators → Commanded now c r next → Learns now.core m c r next.core
 mutators_learn now c r next m is bytes within h =
@@ -254,3 +267,19 @@ alone now (c ∷ cs) (r ∷ rs) (next ∷ xs) m lasts within small h =
     (subst (λ honest. Alone honest m (own_of (world_of next.core) m) cs rs) (next_honest now c r next lasts small.0 h.0)
     (alone next cs rs xs m (still_lasts now c r next lasts small.0 h.0) (subst (λ n. m < n) (sym same) within) small.1 h.1))
 alone now _ _ _ m lasts within small h = absurd h
+
+-- and where none was given other words they say so whatever the device is said to be
+none_given : (o : Outside) (os : List Outside) → lies (o ∷ os) ≤ 0 → GivesNone o × (lies os ≤ 0)
+none_given Serves os none = (tt, none)
+none_given (Refuses why turns objects) os none = (tt, none)
+none_given (Gives row) os none = absurd (omega (arith, none))
+
+pub alone_as_stored : (os : List Outside) (now : Moment) (cs : List Command) (rs : List Reply) (moments : List Moment) (m : ℕ) → lies os ≤ 0 → Lasts now → m < now.core.mutators → AllWriteBytes cs → AnsweredBy os now cs rs moments →
+    Alone true m (own_of (world_of now.core) m) cs rs
+alone_as_stored [] now [] [] [] m none lasts within small h = tt
+alone_as_stored (o ∷ os) now (c ∷ cs) (r ∷ rs) (next ∷ xs) m none lasts within small h =
+    let so = none_given o os none in
+    let same : next.core.mutators ≡ now.core.mutators = next_mutators now c r next lasts small.0 (o, h.0) in
+    one_more true m (own_of (world_of now.core) m) (own_of (world_of next.core) m) c r cs rs (is_by m (speaker c)) (taught_by o so.0 now m c r next lasts within small.0 h.0)
+    (alone_as_stored os next cs rs xs m so.1 (still_lasts now c r next lasts small.0 (o, h.0)) (subst (λ n. m < n) (sym same) within) small.1 h.1)
+alone_as_stored _ now _ _ _ m none lasts within small h = absurd h
