@@ -84,7 +84,7 @@ pub fn refusals_leave_all()
 /// The replies to one mutator's lines are what its own lines alone say: its own, and no others, say what it knows. What
 /// it knows then, its scope, its objects' bytes and which of them it views, is so in the heap after each command. So `new` in
 /// range is refused 3 exactly where all its 128 objects exist. Where the device tells what was written, so a read gives what was written last. Where it may lie, an object that its mutator
-/// doesn't view may have other bytes, as many, when it is read, written or viewed; all else is as before.
+/// doesn't view may have other bytes, as many, when it is read, written or viewed; all else is as before. From a text on (`outputs_are_sound`) that is so under a line `flip` alone.
 pub fn mutators_are_alone()
     ensures alone { MutatorsAreAlone }
     ensures own { OwnLinesCount }
