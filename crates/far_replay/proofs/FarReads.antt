@@ -12,6 +12,25 @@ use Rattle.far_device.specs.declared.mem.MemDevice.{MemDevice}
 use Rattle.far_replay.specs.Moment.{FarSide}
 use Rattle.far_replay.specs.Spent.{IsLeft}
 
+-- answers of a read, and of a write
+abbrev pub ReadAnswer : Type 0
+ReadAnswer = Result (List ℕ) DeviceFault
+
+abbrev pub WriteAnswer : Type 0
+WriteAnswer = Result (Unit {0}) DeviceFault
+
+abbrev pub read_fault : DeviceFault → ReadAnswer
+read_fault why = Err why
+
+abbrev pub write_fault : DeviceFault → WriteAnswer
+write_fault why = Err why
+
+abbrev pub write_done : WriteAnswer
+write_done = Ok tt
+
+abbrev pub read_bytes : List ℕ → ReadAnswer
+read_bytes bytes = Ok bytes
+
 -- ---- the calls, as a device that lies and one that fails make them
 abbrev pub Passed : {A : Type 0} → FarSide → Result A DeviceFault → FarSide → Type 0 → Type 0
 Passed d answer e asked = Counts d.inner.left d.inner.own d.inner.inner answer e.inner.left e.inner.own e.inner.inner asked
@@ -32,12 +51,11 @@ pub record NoMore (d e : FarSide) : Type 0 where
   pub lies : (n : ℕ) → MayFail d.left (λ k. Unit {0}) n → MayFail e.left (λ k. Unit {0}) n
   pub fails : (n : ℕ) → MayFail d.inner.left (λ k. Unit {0}) n → MayFail e.inner.left (λ k. Unit {0}) n
 
-fewer : (left : ℕ) (n : ℕ) → MayFail left (λ k. Unit {0}) n → MayFail (left - 1) (λ k. Unit {0}) n
-fewer zero n h = h
-fewer (suc zero) zero h = tt
-fewer (suc zero) (suc n) h = tt
-fewer (suc (suc left)) zero h = absurd h
-fewer (suc (suc left)) (suc n) h = tt
+fewer : (left less : ℕ) → less ≡ left - 1 → (n : ℕ) → MayFail left (λ k. Unit {0}) n → MayFail less (λ k. Unit {0}) n
+fewer left zero e n h = tt
+fewer zero (suc less) e n h = absurd (omega (arith, e))
+fewer (suc left) (suc less) e zero h = absurd h
+fewer (suc left) (suc less) e (suc n) h = tt
 
 counted_or : (b : Bool) (X Y : Type 0) → cond b X Y → (X → ⊥) → Y
 counted_or true X Y h never = absurd (never h)
@@ -52,12 +70,12 @@ read_no_more d e id answer (raw, passed, is, lie, left) other =
     let on = passed_on d e raw _ passed (raw_too raw is) in
     record {
       lie = lie;
-      lies = λ n h. subst (λ k. MayFail k (λ x. Unit {0}) n) (sym left) (fewer d.left n h);
-      fails = λ n h. subst (λ k. MayFail k (λ x. Unit {0}) n) (sym on.1) (fewer d.inner.left n h);
+      lies = λ n h. fewer d.left e.left left n h;
+      fails = λ n h. fewer d.inner.left e.inner.left on.1 n h;
     }
   where
     raw_too : (raw : Result (List ℕ) DeviceFault) → answer ≡ told (d.left == 1) d.lie raw → raw ≢ Err Device
-    raw_too (Ok bytes) is = λ odd. let no : Ok bytes ≡ Err Device = odd in absurd cc
+    raw_too (Ok bytes) is = λ odd. let no : read_bytes bytes ≡ read_fault Device = odd in absurd cc
     raw_too (Err why) is = λ same. other (is ∙ same)
 
 pub write_no_more : (d e : FarSide) (id : ℕ) (bytes : List ℕ) (answer : Result (Unit {0}) DeviceFault) → FarWrites d id bytes answer e → answer ≢ Err Device → NoMore d e
@@ -66,7 +84,7 @@ write_no_more d e id bytes answer (passed, lie, left) other =
     record {
       lie = lie;
       lies = λ n h. subst (λ k. MayFail k (λ x. Unit {0}) n) (sym left) h;
-      fails = λ n h. subst (λ k. MayFail k (λ x. Unit {0}) n) (sym on.1) (fewer d.inner.left n h);
+      fails = λ n h. fewer d.inner.left e.inner.left on.1 n h;
     }
 
 pub go_no_more : (d e : FarSide) (id : ℕ) → FarLetsGo d id e → NoMore d e
@@ -113,26 +131,26 @@ failed_leaves d e answer asked h failed never Flip n few = absurd (none_left d.i
 -- ---- what a read of something gave
 -- what is there, or the lie that it is
 pub read_gives : (d e : FarSide) (id : ℕ) (held bytes : List ℕ) → bytes_at d.inner.inner id ≡ Some held → FarReads d id (Ok bytes) e → bytes ≡ cond (d.left == 1) (lied d.lie held) held
-read_gives d e id held bytes there (Err why, passed, is, lie, left) = let odd : Ok bytes ≡ Err why = is in absurd cc
+read_gives d e id held bytes there (Err why, passed, is, lie, left) = let odd : read_bytes bytes ≡ read_fault why = is in absurd cc
 read_gives d e id held bytes there (Ok raw, passed, is, lie, left) =
-    let on = passed_on d e (Ok raw) _ passed (λ odd. let no : Ok raw ≡ Err Device = odd in absurd cc) in
+    let on = passed_on d e (Ok raw) _ passed (λ odd. let no : read_bytes raw ≡ read_fault Device = odd in absurd cc) in
     let same : raw ≡ held = some_is raw held (sym on.0.0 ∙ there) in
     ok_is bytes _ is ∙ ap (λ x. cond (d.left == 1) (lied d.lie x) x) same
   where
     some_is : (x y : List ℕ) → Some x ≡ Some y → x ≡ y
     some_is x y e = cc
 
-    ok_is : (x y : List ℕ) → Ok {E = DeviceFault} x ≡ Ok y → x ≡ y
+    ok_is : (x y : List ℕ) → read_bytes x ≡ read_bytes y → x ≡ y
     ok_is x y e = cc
 
 -- a read of something fails only as the call that is to
 pub read_failed : (d e : FarSide) (id : ℕ) (held : List ℕ) → bytes_at d.inner.inner id ≡ Some held → FarReads d id (Err Device) e →
-    Passed d (Err {A = List ℕ} Device) e (MemReads d.inner.inner id (Err Device) e.inner.inner) × (MemReads d.inner.inner id (Err Device) e.inner.inner → ⊥)
-read_failed d e id held there (Ok raw, passed, is, lie, left) = let odd : Err Device ≡ Ok (cond (d.left == 1) (lied d.lie raw) raw) = is in absurd cc
+    Passed d (read_fault Device) e (MemReads d.inner.inner id (Err Device) e.inner.inner) × (MemReads d.inner.inner id (Err Device) e.inner.inner → ⊥)
+read_failed d e id held there (Ok raw, passed, is, lie, left) = let odd : read_fault Device ≡ read_bytes (cond (d.left == 1) (lied d.lie raw) raw) = is in absurd cc
 read_failed d e id held there (Err why, passed, is, lie, left) =
     let same : why ≡ Device = err_is why is in
-    (subst (λ (w : DeviceFault). Passed d (Err {A = List ℕ} w) e (MemReads d.inner.inner id (Err w) e.inner.inner)) same passed,
+    (subst (λ (w : DeviceFault). Passed d (read_fault w) e (MemReads d.inner.inner id (Err w) e.inner.inner)) same passed,
     λ nothing. let odd : None ≡ Some held = sym nothing.0 ∙ there in absurd cc)
   where
-    err_is : (w : DeviceFault) → Err {A = List ℕ} Device ≡ Err w → w ≡ Device
+    err_is : (w : DeviceFault) → read_fault Device ≡ read_fault w → w ≡ Device
     err_is w e = cc

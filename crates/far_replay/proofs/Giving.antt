@@ -1,6 +1,7 @@
 -- A far object is fetched from a device that may lie: with which words it comes, and what that spends of the device's flaw.
-use Rattle.std.proofs.Common.{◌≡◌, ◌≢◌, ℕ, zero, suc, ◌-◌, ◌<◌, ◌==◌, Bool, true, false, cond, arith, refl, sym, ap, subst, ◌∙◌, Option, Some, None, IsSome, is_some, List, length, length-map, length-take-le, map, take, Result, Ok, Err}
+use Rattle.std.proofs.Common.{◌≡◌, ◌≢◌, ℕ, zero, suc, ◌-◌, ◌<◌, ◌==◌, Bool, true, false, cond, arith, refl, sym, ap, subst, ◌∙◌, Option, Some, None, IsSome, is_some, List, length, length-take-le, map, take, Result, Ok, Err}
 use Rattle.std.specs.Prelude.{IfSome}
+use Rattle.std.proofs.lemmas.List.{length-map}
 use Rattle.std.proofs.lemmas.Bool.{eqb-true, false≢true, false_from_ne_true, not-true}
 use Rattle.far_word.specs.declared.mark.Marks.{Marks}
 use Rattle.far_word.specs.declared.pointer.Place.{Place}
@@ -40,7 +41,7 @@ use Rattle.far_replay.specs.Spent.{SpentBy}
 use Rattle.far_replay.proofs.AsIfStored.{as_it_was, law_as_if}
 use Rattle.far_replay.proofs.Bringing.{SaysFar, far_came, far_here, far_is, far_order}
 use Rattle.far_replay.proofs.Brought.{far_layout}
-use Rattle.far_replay.proofs.FarReads.{FarLetsGo, FarReads, NoMore, go_no_more, no_more_both, read_failed, read_gives, read_no_more}
+use Rattle.far_replay.proofs.FarReads.{FarLetsGo, FarReads, NoMore, go_no_more, no_more_both, read_bytes, read_failed, read_fault, read_gives, read_no_more, same_no_more}
 use Rattle.far_replay.proofs.Spending.{spent_failed, spent_flip, spent_none, spent_same, spent_short}
 
 none_is : (left between now : ℕ) → left ≡ 1 → between ≡ left - 1 → now ≡ between → now ≡ 0
@@ -101,7 +102,7 @@ module _ (old new : EvacOf Plain FarSide) (m p : ℕ) (law : Law (state_in old))
   short_differs e = omega (arith, some, held_long, e, length-take-le (length held - 1) held (omega (arith, held_long)))
 
   flip_alike : length (lied Flip held) ≡ says.len
-  flip_alike = length-map inverted held ∙ held_long
+  flip_alike = length-map held inverted ∙ held_long
 
   -- ---- it comes
   module _ (place : Place) (found : room_for s p ≡ Some place) (is : IsFetched (Unit {0}) (is_honest d.lie true) s (state_in new) p place) (bytes : List ℕ) (between : FarSide)
@@ -117,7 +118,7 @@ module _ (old new : EvacOf Plain FarSide) (m p : ℕ) (law : Law (state_in old))
     long = given.long ∙ ap far_len says.is
 
     more : NoMore d new.book.device
-    more = no_more_both d between new.book.device (read_no_more d between p (Ok bytes) reads (λ odd. let no : Ok bytes ≡ Err fault.Device = odd in absurd cc)) (go_no_more between new.book.device p goes)
+    more = no_more_both d between new.book.device (read_no_more d between p (Ok bytes) reads (λ odd. let no : read_bytes bytes ≡ read_fault fault.Device = odd in absurd cc)) (go_no_more between new.book.device p goes)
 
     layout : IsPtr (Near says.len says.ds place no_marks)
     layout = far_layout s law p says.len says.ds says.marks place says.is alive (sym (ap (λ o. room s (size_of (far_len o)) true) says.is) ∙ found)
@@ -196,7 +197,7 @@ module _ (old new : EvacOf Plain FarSide) (m p : ℕ) (law : Law (state_in old))
     damage true Never e f = absurd (wrong (ap length (told ∙ ap (λ b. cond b (lied d.lie held) held) e ∙ ap (λ l. lied l held) f) ∙ held_long))
     damage true Short e f =
         let one : d.left ≡ 1 = eqb-true d.left 1 e in
-        spent_short old new (read_no_more d new.book.device p (Ok bytes) reads (λ odd. let no : Ok bytes ≡ Err fault.Device = odd in absurd cc)) one (reads.4 ∙ ap (λ n. n - 1) one) f
+        spent_short old new (read_no_more d new.book.device p (Ok bytes) reads (λ odd. let no : read_bytes bytes ≡ read_fault fault.Device = odd in absurd cc)) one (reads.4 ∙ ap (λ n. n - 1) one) f
     damage true Flip e f = absurd (wrong (ap length (told ∙ ap (λ b. cond b (lied d.lie held) held) e ∙ ap (λ l. lied l held) f) ∙ flip_alike))
 
     damaged_spends : SpentBy (Refuses Damaged 0 0) old new
@@ -205,10 +206,10 @@ module _ (old new : EvacOf Plain FarSide) (m p : ℕ) (law : Law (state_in old))
   pub refused_spends : (why : Refusal) → AsksToFetch FarSide FarReads FarLetsGo (Unit {0}) s (state_in new) p (Err why) d new.book.device → SpentBy (refuser why) old new
   refused_spends NoRoom h = spent_same old new h
   refused_spends Memory h = spent_none old new (read_no_more d new.book.device p (Err fault.Memory) h (λ odd. let no : fault.Memory ≡ fault.Device = err_is odd in absurd cc)) where
-    err_is : Err {A = List ℕ} fault.Memory ≡ Err fault.Device → fault.Memory ≡ fault.Device
+    err_is : read_fault fault.Memory ≡ read_fault fault.Device → fault.Memory ≡ fault.Device
     err_is e = cc
   refused_spends Device h =
       let failed = read_failed d new.book.device p held there h in
-      spent_failed old new (Err {A = List ℕ} fault.Device) _ failed.0 refl failed.1 h.3
+      spent_failed old new d (same_no_more d) (read_fault fault.Device) _ failed.0 refl failed.1 h.3
   refused_spends Damaged h = damaged_spends h.0 h.1 h.2
   refused_spends why h = absurd h

@@ -10,6 +10,7 @@ pub mod Counted
 pub mod Dereferences
 pub mod Drops
 pub mod FarReads
+pub mod FarSides
 pub mod Fronts
 pub mod Given
 pub mod Giving
@@ -43,5 +44,6 @@ pub mod Turns
 pub mod Unbrought
 pub mod Views
 pub mod ViewsRest
+pub mod Walking
 pub mod WithCore
 pub mod WriteEnds

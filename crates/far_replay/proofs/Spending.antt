@@ -45,14 +45,14 @@ any_turn_of Flip why turns objects (suc n) new h = absurd h.0
 pub any_turn : (why : Refusal) (turns objects : ℕ) (old new : EvacOf Plain FarSide) → SpentBy (Refuses why 0 0) old new → SpentBy (Refuses why turns objects) old new
 any_turn why turns objects old new h lie n few = any_turn_of lie why turns objects n new (h lie n few)
 
--- a call that failed
-module _ {A : Type 0} (old new : EvacOf Plain FarSide) (answer : Result A DeviceFault) (asked : Type 0) (passed : Passed old.book.device answer new.book.device asked) (failed : answer ≡ Err fault.Device) (never : asked → ⊥)
-    (same : new.book.device.lie ≡ old.book.device.lie) where
+-- calls of which the last one failed
+module _ {A : Type 0} (old new : EvacOf Plain FarSide) (d : FarSide) (x : NoMore old.book.device d) (answer : Result A DeviceFault) (asked : Type 0) (passed : Passed d answer new.book.device asked) (failed : answer ≡ Err fault.Device)
+    (never : asked → ⊥) (same : new.book.device.lie ≡ d.lie) where
   pub spent_failed : SpentBy (Refuses Device 0 0) old new
-  spent_failed lie zero few = absurd (failed_spends old.book.device new.book.device answer asked passed failed never lie few.1)
+  spent_failed lie zero few = absurd (failed_spends d new.book.device answer asked passed failed never lie (still_left old.book.device d lie 0 x few.1))
   spent_failed lie (suc n) few =
-      let (is, left) = failed_leaves old.book.device new.book.device answer asked passed failed never lie n few.1 in
-      subst (λ l. Spends l (Refuses Device 0 0) (suc n) new) (sym is) (refl, (same ∙ few.0 ∙ is, left))
+      let (is, left) = failed_leaves d new.book.device answer asked passed failed never lie n (still_left old.book.device d lie (suc n) x few.1) in
+      subst (λ l. Spends l (Refuses Device 0 0) (suc n) new) (sym is) (refl, (same ∙ x.lie ∙ few.0 ∙ is, left))
 
 -- a read that was a lie
 lied_last : (left : ℕ) → left ≡ 1 → MayFail left (λ k. Unit {0}) 0 → ⊥

@@ -148,6 +148,13 @@ refused_within old new m p c (Ok outcome) why scratch (is, a, b, d) refuses spen
     (Serves, served (subst (λ w. RefusesView (state_in old) m p w (state_in new)) room refuses), subst (λ w. SpentBy (refuser w) old new) room spent))
 refused_within old new m p c (Err e) why scratch told refuses spent served = tt
 
+-- whatever stands in the buffers
+pub within_each : (old new : EvacOf Plain FarSide) (m p : ℕ) (c : Command) (r : Result Outcome Refusal) (why : Refusal) → IfOk r (λ outcome. (outcome ≡ outcomes.Refused why) × (why ≢ Memory) × (why ≢ Device) × (why ≢ Damaged)) →
+    RefusesView (state_in old) m p why (state_in new) → SpentBy (refuser why) old new → (RefusesView (state_in old) m p NoRoom (state_in new) → Served (moment_in old) c (Refused NoRoom) (moment_in new)) →
+    IfOk r (λ outcome. (scratch : Scratch) → Makes old c (reply_by scratch outcome) new)
+within_each old new m p c (Ok outcome) why told refuses spent served = λ scratch. refused_within old new m p c (Ok outcome) why scratch told refuses spent served
+within_each old new m p c (Err e) why told refuses spent served = tt
+
 from_outside : (why : Refusal) → IsFromOutside why → why ≢ Memory → KeepsFar why
 from_outside why (inl memory) other = absurd (other memory)
 from_outside why (inr (inl failed)) other = subst KeepsFar (sym failed) tt

@@ -1,0 +1,41 @@
+-- The far side of a heap has the flaw that its device is said to have.
+use Rattle.std.proofs.Common.{◌≡◌, ◌==◌, ℕ, zero, suc, Bool, true, cond, refl, sym, subst, Option, Some}
+use Rattle.far_device.specs.FailAt.{MayFail}
+use Rattle.far_device.specs.declared.liar.Lie.{Lie}
+use Rattle.far_device.specs.declared.liar.Lie.TheVariants as lies
+use Rattle.far_text.specs.Command.{Device, Flawed, Fail, Short, Flip}
+use Rattle.far_replay.specs.Answers.{flaws, is_true, lie_of}
+use Rattle.far_replay.specs.Moment.{FarSide}
+use Rattle.far_replay.specs.Spent.{IsLeft}
+
+pub short_is : (call : ℕ) → cond (call == 0) lies.Never lies.Short ≡ lie_of (Some (Flawed Short call))
+short_is zero = refl
+short_is (suc call) = refl
+
+pub flip_is : (call : ℕ) → cond (call == 0) lies.Never lies.Flip ≡ lie_of (Some (Flawed Flip call))
+flip_is zero = refl
+flip_is (suc call) = refl
+
+pub short_true : (call : ℕ) → (call == 0) ≡ is_true (Some (Flawed Short call))
+short_true zero = refl
+short_true (suc call) = refl
+
+pub flip_true : (call : ℕ) → (call == 0) ≡ is_true (Some (Flawed Flip call))
+flip_true zero = refl
+flip_true (suc call) = refl
+
+-- what is left at first
+fail_few : (call : ℕ) → MayFail call (λ k. Unit {0}) (flaws (Some (Flawed Fail call)))
+fail_few zero = tt
+fail_few (suc call) = tt
+
+pub fail_left : (d : FarSide) (call : ℕ) → d.inner.left ≡ call → IsLeft lies.Never d (flaws (Some (Flawed Fail call)))
+fail_left d call is = subst (λ k. MayFail k (λ x. Unit {0}) (flaws (Some (Flawed Fail call)))) (sym is) (fail_few call)
+
+pub short_left : (d : FarSide) (call : ℕ) → d.inner.left ≡ 0 → d.left ≡ call → IsLeft (lie_of (Some (Flawed Short call))) d (flaws (Some (Flawed Short call)))
+short_left d zero none is = subst (λ k. MayFail k (λ x. Unit {0}) 0) (sym none) tt
+short_left d (suc call) none is = (subst (λ k. MayFail k (λ x. Unit {0}) 0) (sym none) tt, subst (λ k. MayFail k (λ x. Unit {0}) 1) (sym is) tt)
+
+pub flip_left : (d : FarSide) (call : ℕ) → d.inner.left ≡ 0 → d.left ≡ call → IsLeft (lie_of (Some (Flawed Flip call))) d (flaws (Some (Flawed Flip call)))
+flip_left d zero none is = subst (λ k. MayFail k (λ x. Unit {0}) 0) (sym none) tt
+flip_left d (suc call) none is = (subst (λ k. MayFail k (λ x. Unit {0}) 0) (sym none) tt, subst (λ k. MayFail k (λ x. Unit {0}) 1) (sym is) tt)
