@@ -1,12 +1,23 @@
 -- The far side of a heap has the flaw that its device is said to have.
-use Rattle.std.proofs.Common.{◌≡◌, ◌==◌, ℕ, zero, suc, Bool, true, cond, refl, sym, subst, Option, Some}
+use Rattle.std.proofs.Common.{◌≡◌, ◌==◌, ℕ, zero, suc, Bool, true, cond, refl, sym, ap, subst, ◌∙◌, Option, Some}
+use Rattle.std.specs.Option.{option_map}
+use Rattle.far_text.specs.declared.command.Device.{Device as Spelled}
+use Rattle.far_text.specs.declared.command.Flaw.{Flaw as SpelledFlaw}
 use Rattle.far_device.specs.FailAt.{MayFail}
 use Rattle.far_device.specs.declared.liar.Lie.{Lie}
 use Rattle.far_device.specs.declared.liar.Lie.TheVariants as lies
-use Rattle.far_text.specs.Command.{Device, Flawed, Fail, Short, Flip}
+use Rattle.far_text.specs.Command.{Device, Flawed, Fail, Short, Flip, as_device, as_flaw}
 use Rattle.far_replay.specs.Answers.{flaws, is_true, lie_of}
 use Rattle.far_replay.specs.Moment.{FarSide}
 use Rattle.far_replay.specs.Spent.{IsLeft}
+
+pub fail_is : (call : ℕ) → lies.Never ≡ lie_of (Some (Flawed Fail call))
+fail_is zero = refl
+fail_is (suc call) = refl
+
+pub fail_true : (call : ℕ) → true ≡ is_true (Some (Flawed Fail call))
+fail_true zero = refl
+fail_true (suc call) = refl
 
 pub short_is : (call : ℕ) → cond (call == 0) lies.Never lies.Short ≡ lie_of (Some (Flawed Short call))
 short_is zero = refl
@@ -39,3 +50,10 @@ short_left d (suc call) none is = (subst (λ k. MayFail k (λ x. Unit {0}) 0) (s
 pub flip_left : (d : FarSide) (call : ℕ) → d.inner.left ≡ 0 → d.left ≡ call → IsLeft (lie_of (Some (Flawed Flip call))) d (flaws (Some (Flawed Flip call)))
 flip_left d zero none is = subst (λ k. MayFail k (λ x. Unit {0}) 0) (sym none) tt
 flip_left d (suc call) none is = (subst (λ k. MayFail k (λ x. Unit {0}) 0) (sym none) tt, subst (λ k. MayFail k (λ x. Unit {0}) 1) (sym is) tt)
+
+pub fail_leaves : (d : FarSide) (call : ℕ) → d.inner.left ≡ call → IsLeft (lie_of (Some (Flawed Fail call))) d (flaws (Some (Flawed Fail call)))
+fail_leaves d call is = subst (λ l. IsLeft l d (flaws (Some (Flawed Fail call)))) (fail_is call) (fail_left d call is)
+
+-- as a heap's text says it
+pub said_so : (device : Option Spelled) (d : Spelled) (flaw : SpelledFlaw) → device ≡ Some d → d.flaw ≡ flaw → option_map as_device device ≡ Some (Flawed (as_flaw flaw) d.call)
+said_so device d flaw is of = ap (option_map as_device) is ∙ ap (λ f. Some (Flawed (as_flaw f) d.call)) of

@@ -1,6 +1,6 @@
 -- An object is dereferenced with the words that were given of it: what its pins and its coming make of that, and of the commands that reach it.
 use Rattle.std.proofs.Common.{◌≡◌, ◌≢◌, ℕ, ◌/◌, ◌+◌, ◌<◌, ◌&&◌, Bool, true, false, not, is_some, refl, sym, ap, subst, ◌∙◌, Option, Some, None, IsSome, List, [], ◌∷◌, length, map, if◌then◌else◌}
-use Rattle.std.specs.Prelude.{slice_range}
+use Rattle.std.specs.Prelude.{IfErr, IfOk, Result, Ok, Err, slice_range}
 use Rattle.std.specs.List.{range_with_len}
 use Rattle.std.proofs.lemmas.Bool.{cond_both}
 use Rattle.far_word.specs.Bytes.{packed_word}
@@ -22,7 +22,7 @@ use Rattle.far_core.proofs.Cells.{map_mark}
 use Rattle.far_hand.specs.declared.plain.Plain.{Plain}
 use Rattle.far_evac.specs.EvacOf.{EvacOf}
 use Rattle.far_text.specs.Command.{Command, Mutator, Read, View, Write}
-use Rattle.far_replay.specs.Commanded.{AsksFor, LiesFar, Misled, MisledBy, Outside, Serves, Refuses, Gives, Served}
+use Rattle.far_replay.specs.Commanded.{AsksFor, KeepsFar, LiesFar, Misled, MisledBy, Outside, Serves, Refuses, Gives, Served}
 use Rattle.far_replay.specs.Dereference.{asked_for, come, comes_to, dereferenced, has_no_room, says_near, sought}
 use Rattle.far_replay.specs.Effects.{is_slow, with_data, with_view}
 use Rattle.far_replay.specs.Interpreter.{Comes, Dereferences, IsAccess, IsViewed, MayGive, Views, as_given, order_come, order_dereferenced, words_by}
@@ -121,6 +121,17 @@ module _ (s : State) (m p : ℕ) (law : Law s) (opened : is_opened s m ≡ true)
         spent = spent_first o old mid new (spent_same old mid device) x.spent;
       }
 
+-- by the answers of the pin and of what brought it
+pub derefs_or : (old mid new : EvacOf Plain FarSide) (m p : ℕ) (r : Result (Unit {0}) Refusal) → Law (state_in old) → is_opened (state_in old) m ≡ true → p / CELLS ≡ m → (state_in old).used p ≡ true → is_slow (state_in old) p ≡ true →
+    state_in mid ≡ with_view (state_in old) p → mid.book.order ≡ old.book.order → mid.book.device ≡ old.book.device → IfOk r (λ _. (o : Outside) × Views mid new m p o) → IfOk r (λ _. (o : Outside) × Dereferences old new m p o)
+derefs_or old mid new m p (Ok x) law opened own used slow viewed order device (o, views) = (o, derefs_slowly (state_in old) m p law opened own used slow old mid new o refl viewed order device views)
+derefs_or old mid new m p (Err e) law opened own used slow viewed order device h = tt
+
+pub far_or : (old mid : EvacOf Plain FarSide) (m p : ℕ) (r : Result (Unit {0}) Refusal) → Law (state_in old) → is_opened (state_in old) m ≡ true → p / CELLS ≡ m → (state_in old).used p ≡ true → is_slow (state_in old) p ≡ true →
+    state_in mid ≡ with_view (state_in old) p → IfErr r (λ why. KeepsFar why → says_near (read_of ((state_in mid).cell p)) ≡ false) → IfErr r (λ why. KeepsFar why → says_near (read_of ((state_in old).cell p)) ≡ false)
+far_or old mid m p (Ok x) law opened own used slow viewed far = tt
+far_or old mid m p (Err why) law opened own used slow viewed far = λ keeps. far_before (state_in old) m p law opened own used slow (state_in mid) viewed (far keeps)
+
 -- ---- a command that reaches it
 misled_of : (row : ℕ → ℕ) (now : Moment) (c : Command) (m p : ℕ) (r : Reply) (next : Moment) → AsksFor m p c → Misled row now c p r next → MisledBy row now c r next
 misled_of row now (Mutator k (Write q from bytes)) m p r next asks h = subst (λ x. Misled row now (Mutator k (Write q from bytes)) x r next) (sym asks.1) h
@@ -168,7 +179,10 @@ pub viewed_as_it_is : (t : State) (a : Access) (q : ℕ) (row : ℕ → ℕ) →
 viewed_as_it_is t a q row h = record { own = h.own; held = h.held; some = h.some; inside = h.inside; most = h.most }
 
 -- ---- stores read none of what is stored, and leave it
-first_if : (q : ℕ) (row : ℕ → ℕ) (b : Bool) (x y : State) (r u : Answer) → with_stored (if b then (x, r) else (y, u)).0 q row ≡ (if b then (with_stored x q row, r) else (with_stored y q row, u)).0
+abbrev first : State × Answer → State
+first x = x.0
+
+first_if : (q : ℕ) (row : ℕ → ℕ) (b : Bool) (x y : State) (r u : Answer) → with_stored (first (if b then (x, r) else (y, u))) q row ≡ first (if b then (with_stored x q row, r) else (with_stored y q row, u))
 first_if q row true x y r u = refl
 first_if q row false x y r u = refl
 

@@ -55,3 +55,9 @@ step_served old new (Err e) fault told spent = tt
 pub served_or : {A E P : Type 0} (r : Result A E) → P → OnOk r P
 served_or (Ok x) h = h
 served_or (Err e) h = tt
+
+-- whatever stands in the buffers
+pub made_for : {E : Type 0} (old new : EvacOf Plain FarSide) (c : Command) (r : Result Outcome E) (scratch : Scratch) → IfOk r (λ outcome. (buffers : Scratch) → Makes old c (reply_by buffers outcome) new) →
+    IfOk r (λ outcome. Makes old c (reply_by scratch outcome) new)
+made_for old new c (Ok outcome) scratch h = h scratch
+made_for old new c (Err e) scratch h = tt

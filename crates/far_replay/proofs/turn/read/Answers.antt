@@ -1,4 +1,4 @@
-use Rattle.std.proofs.Common.{refl}
+use Rattle.std.proofs.Common.{true, false, refl}
 use Rattle.far_text.specs.Command.{Mutator, Read}
 use Rattle.far_replay.specs.Moment.{Moment, moment_in, state_in}
 use Rattle.far_replay.specs.Outcome.{reply_by}
