@@ -148,9 +148,10 @@ pub read_failed : (d e : FarSide) (id : ℕ) (held : List ℕ) → bytes_at d.in
     Passed d (read_fault Device) e (MemReads d.inner.inner id (Err Device) e.inner.inner) × (MemReads d.inner.inner id (Err Device) e.inner.inner → ⊥)
 read_failed d e id held there (Ok raw, passed, is, lie, left) = let odd : read_fault Device ≡ read_bytes (cond (d.left == 1) (lied d.lie raw) raw) = is in absurd cc
 read_failed d e id held there (Err why, passed, is, lie, left) =
-    let same : why ≡ Device = err_is why is in
-    (subst (λ (w : DeviceFault). Passed d (read_fault w) e (MemReads d.inner.inner id (Err w) e.inner.inner)) same passed,
-    λ nothing. let odd : None ≡ Some held = sym nothing.0 ∙ there in absurd cc)
+    let same : why ≡ Device = err_is why is in (
+      subst (λ (w : DeviceFault). Passed d (read_fault w) e (MemReads d.inner.inner id (Err w) e.inner.inner)) same passed,
+      λ nothing. let odd : None ≡ Some held = sym nothing.0 ∙ there in absurd cc,
+    )
   where
     err_is : (w : DeviceFault) → read_fault Device ≡ read_fault w → w ≡ Device
     err_is w e = cc

@@ -1,6 +1,7 @@
 -- The far side of a heap has the flaw that its device is said to have.
-use Rattle.std.proofs.Common.{◌≡◌, ◌==◌, ℕ, zero, suc, Bool, true, cond, refl, sym, ap, subst, ◌∙◌, Option, Some}
+use Rattle.std.proofs.Common.{◌≡◌, ◌==◌, ℕ, zero, suc, Bool, false, true, arith, cond, refl, sym, ap, subst, ◌∙◌, Option, Some}
 use Rattle.std.specs.Option.{option_map}
+use Rattle.std.proofs.lemmas.Bool.{ne_eqb}
 use Rattle.far_text.specs.declared.command.Device.{Device as Spelled}
 use Rattle.far_text.specs.declared.command.Flaw.{Flaw as SpelledFlaw}
 use Rattle.far_device.specs.FailAt.{MayFail}
@@ -10,6 +11,9 @@ use Rattle.far_text.specs.Command.{Device, Flawed, Fail, Short, Flip, as_device,
 use Rattle.far_replay.specs.Answers.{flaws, is_true, lie_of}
 use Rattle.far_replay.specs.Moment.{FarSide}
 use Rattle.far_replay.specs.Spent.{IsLeft}
+
+some_call : (call : ℕ) → (suc call == 0) ≡ false
+some_call call = ne_eqb (suc call) 0 (λ e. omega (arith, e))
 
 pub fail_is : (call : ℕ) → lies.Never ≡ lie_of (Some (Flawed Fail call))
 fail_is zero = refl
@@ -21,19 +25,19 @@ fail_true (suc call) = refl
 
 pub short_is : (call : ℕ) → cond (call == 0) lies.Never lies.Short ≡ lie_of (Some (Flawed Short call))
 short_is zero = refl
-short_is (suc call) = refl
+short_is (suc call) = ap (λ b. cond b lies.Never lies.Short) (some_call call)
 
 pub flip_is : (call : ℕ) → cond (call == 0) lies.Never lies.Flip ≡ lie_of (Some (Flawed Flip call))
 flip_is zero = refl
-flip_is (suc call) = refl
+flip_is (suc call) = ap (λ b. cond b lies.Never lies.Flip) (some_call call)
 
 pub short_true : (call : ℕ) → (call == 0) ≡ is_true (Some (Flawed Short call))
 short_true zero = refl
-short_true (suc call) = refl
+short_true (suc call) = some_call call
 
 pub flip_true : (call : ℕ) → (call == 0) ≡ is_true (Some (Flawed Flip call))
 flip_true zero = refl
-flip_true (suc call) = refl
+flip_true (suc call) = some_call call
 
 -- what is left at first
 fail_few : (call : ℕ) → MayFail call (λ k. Unit {0}) (flaws (Some (Flawed Fail call)))

@@ -152,16 +152,19 @@ given_made old new m p Serves c r law used given asks served answered viewed sto
     (Serves, subst (λ (x : Moment). Served now c r x) later (subst (λ (x : Moment). Served x c r (as_if_stored next p words)) before served), spent)
 given_made old new m p (Refuses why turns objects) c r law used given asks served answered viewed stored spent = absurd given
 given_made old new m p (Gives row) c r law used given asks served answered viewed stored spent =
-    let told = far_is (read_of ((state_in old).cell p)) given.1 (law.views.used_cell p used) in
-    (Gives row, misled_of row (moment_in old) c m p r (moment_in new) asks record {
-      lies = given.0;
-      far = (told.len, told.ds, told.marks, told.is);
-      fits = given.2 told.len told.ds told.marks told.is;
-      served = served;
-      answered = answered;
-      viewed = viewed;
-      kept = stored;
-    }, spent)
+    let told = far_is (read_of ((state_in old).cell p)) given.1 (law.views.used_cell p used) in (
+      Gives row,
+      misled_of row (moment_in old) c m p r (moment_in new) asks record {
+        lies = given.0;
+        far = (told.len, told.ds, told.marks, told.is);
+        fits = given.2 told.len told.ds told.marks told.is;
+        served = served;
+        answered = answered;
+        viewed = viewed;
+        kept = stored;
+      },
+      spent,
+    )
 
 -- ---- the premises of a dereference, where other words are stored
 given_fits : (o : Outside) (s : State) (p : ℕ) → Law s → MayGive o s p → StoresBack (words_by o s p) (read_of (s.cell p))

@@ -1,19 +1,20 @@
 -- A command was made: served, or refused in its midst.
-use Rattle.std.proofs.Common.{◌≡◌, ◌≢◌, inl, inr, Result, Ok, Err, refl, sym, ap, subst, ◌∙◌}
+use Rattle.std.proofs.Common.{◌≡◌, ◌≢◌, inl, inr, ℕ, Bool, true, false, Some, List, [], ◌∷◌, length, Result, Ok, Err, refl, sym, ap, subst, ◌∙◌}
 use Rattle.std.specs.Prelude.{IfErr, IfOk, OnOk}
 use Rattle.far_word.specs.declared.refused.Refused.{Refused as Refusal}
-use Rattle.far_word.specs.declared.refused.Refused.TheVariants.{Device, Memory}
+use Rattle.far_word.specs.declared.refused.Refused.TheVariants.{Closed, Device, Memory, NoRoom, NotHeld, Range}
 use Rattle.far_hand.specs.declared.plain.Plain.{Plain}
 use Rattle.far_evac.specs.declared.answers.EvacFault.{EvacFault}
 use Rattle.far_evac.specs.EvacOf.{EvacOf}
-use Rattle.far_text.specs.Command.{Command}
+use Rattle.far_text.specs.Command.{Command, Mutator, Read, Write}
 use Rattle.far_replay.specs.Commanded.{Serves, Refuses, StopsSo}
 use Rattle.far_replay.specs.Interpreter.{stopper_of}
-use Rattle.far_replay.specs.Moment.{FarSide, moment_in}
+use Rattle.far_replay.specs.Dereference.{has_no_room}
+use Rattle.far_replay.specs.Moment.{FarSide, Moment, moment_in, state_in}
 use Rattle.far_replay.specs.Outcome.{IsOutside, reply_by}
 use Rattle.far_replay.specs.Reply.{Reply, Halted, Refused}
 use Rattle.far_replay.specs.Spent.{Makes, SpentBy}
-use Rattle.far_replay.specs.Turn.{effect, reply_to}
+use Rattle.far_replay.specs.Turn.{access_causes, effect, first_cause, refusal, refused_effect, reply_to, turn_effect, turn_reply, unless}
 use Rattle.far_replay.specs.declared.outcome.Outcome.{Outcome}
 use Rattle.far_replay.specs.declared.outcome.Outcome.TheVariants as outcomes
 use Rattle.far_replay.specs.declared.outcome.Scratch.{Scratch}
@@ -43,13 +44,13 @@ step_stops old new c (Err by) fault scratch (is, inr failed, counts) spent stops
     (subst (λ so_far. Makes old c (Halted Device so_far) new) (sym counts) (Refuses Device turns objects, stopped, any_turn Device turns objects old new spends))
 
 -- and of one that was served, also where it was refused
-pub step_served : {X : Stepped → Type 0} (old new : EvacOf Plain FarSide) (r : Result Stepped Refusal) (fault : EvacFault) → IfOk r (λ stepped. X stepped × (fault.why ≢ Memory) × (fault.why ≢ Device)) →
+pub step_served : (X : Stepped → Type 0) (old new : EvacOf Plain FarSide) (r : Result Stepped Refusal) (fault : EvacFault) → IfOk r (λ stepped. X stepped × (fault.why ≢ Memory) × (fault.why ≢ Device)) →
     SpentBy (stopper_of fault.why) old new → OnOk r (SpentBy Serves old new)
-step_served old new (Ok x) fault told spent = by fault.why told.2 spent where
+step_served X old new (Ok x) fault told spent = by fault.why told.2 spent where
   by : (why : Refusal) → why ≢ Device → SpentBy (stopper_of why) old new → SpentBy Serves old new
   by Device b h = absurd (b refl)
   by why b h = h
-step_served old new (Err e) fault told spent = tt
+step_served X old new (Err e) fault told spent = tt
 
 -- a step that asks its device for nothing
 pub served_or : {A E P : Type 0} (r : Result A E) → P → OnOk r P
@@ -61,3 +62,43 @@ pub made_for : {E : Type 0} (old new : EvacOf Plain FarSide) (c : Command) (r : 
     IfOk r (λ outcome. Makes old c (reply_by scratch outcome) new)
 made_for old new c (Ok outcome) scratch h = h scratch
 made_for old new c (Err e) scratch h = tt
+
+-- ---- a range that may not be reached
+barred : (a b c d : Bool) (rest : List (Bool × Refusal)) (why : Refusal) → Some why ≡ first_cause ((a, Range) ∷ (b, Closed) ∷ (c, NotHeld) ∷ (d, Range) ∷ []) →
+    (first_cause ((a, Range) ∷ (b, Closed) ∷ (c, NotHeld) ∷ (d, Range) ∷ rest) ≡ Some why) × (why ≢ NoRoom)
+barred true b c d rest why e = (sym e, λ room. let odd : Range ≡ NoRoom = some_is e ∙ room in absurd cc) where
+  some_is : Some why ≡ Some Range → Range ≡ why
+  some_is e = cc
+barred false true c d rest why e = (sym e, λ room. let odd : Closed ≡ NoRoom = some_is e ∙ room in absurd cc) where
+  some_is : Some why ≡ Some Closed → Closed ≡ why
+  some_is e = cc
+barred false false true d rest why e = (sym e, λ room. let odd : NotHeld ≡ NoRoom = some_is e ∙ room in absurd cc) where
+  some_is : Some why ≡ Some NotHeld → NotHeld ≡ why
+  some_is e = cc
+barred false false false true rest why e = (sym e, λ room. let odd : Range ≡ NoRoom = some_is e ∙ room in absurd cc) where
+  some_is : Some why ≡ Some Range → Range ≡ why
+  some_is e = cc
+barred false false false false rest why e = absurd cc
+
+write_leaves : (now : Moment) (m p from : ℕ) (bytes : List ℕ) (why : Refusal) → why ≢ NoRoom → refused_effect now (Mutator m (Write p from bytes)) why ≡ now
+write_leaves now m p from bytes NoRoom other = absurd (other refl)
+write_leaves now m p from bytes why other = refl
+
+read_leaves : (now : Moment) (m p from len : ℕ) (why : Refusal) → why ≢ NoRoom → refused_effect now (Mutator m (Read p from len)) why ≡ now
+read_leaves now m p from len NoRoom other = absurd (other refl)
+read_leaves now m p from len why other = refl
+
+nothing_made : (old : EvacOf Plain FarSide) (c : Command) (why : Refusal) → refusal (moment_in old) c ≡ Some why → refused_effect (moment_in old) c why ≡ moment_in old → Makes old c (Refused why) old
+nothing_made old c why cause leaves =
+    let now : Moment = moment_in old in
+    made_served old old c (Refused why) (sym leaves ∙ ap (λ o. unless o (refused_effect now c) (turn_effect now c)) (sym cause)) (ap (λ o. unless o Refused (turn_reply now c)) (sym cause)) (λ lie n few. few)
+
+pub write_barred : (old : EvacOf Plain FarSide) (m p from : ℕ) (bytes : List ℕ) (why : Refusal) → Some why ≡ first_cause (access_causes (moment_in old) m p from (length bytes)) → Makes old (Mutator m (Write p from bytes)) (Refused why) old
+write_barred old m p from bytes why e =
+    let x = barred _ _ _ _ ((has_no_room (state_in old) m p, NoRoom) ∷ []) why e in
+    nothing_made old (Mutator m (Write p from bytes)) why x.0 (write_leaves (moment_in old) m p from bytes why x.1)
+
+pub read_barred : (old : EvacOf Plain FarSide) (m p from len : ℕ) (why : Refusal) → Some why ≡ first_cause (access_causes (moment_in old) m p from len) → Makes old (Mutator m (Read p from len)) (Refused why) old
+read_barred old m p from len why e =
+    let x = barred _ _ _ _ ((has_no_room (state_in old) m p, NoRoom) ∷ []) why e in
+    nothing_made old (Mutator m (Read p from len)) why x.0 (read_leaves (moment_in old) m p from len why x.1)

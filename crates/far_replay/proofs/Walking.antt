@@ -68,20 +68,26 @@ turns_no_more m (tally ∷ tallies) over t d e (u, between, turns, to, asks, law
 
 round_no_more : (m : Moment) (logs : List ℕ) (turns : ℕ) (alone : Bool) (end : RoundEnd) (t : Moment) (d e : FarSide) → RoundAsking FarSide FarWrites FarLetsGo (λ x q. bytes_at x.inner.inner q) m logs turns alone end t d e → NoMore d e
 round_no_more m [] turns alone end t d e h = same_is d e h.2
-round_no_more m (l ∷ ls) turns alone end t d e (tallies, over, made, asking, rest) = turns_no_more (after_selecting m (l ∷ ls)) tallies over t d e asking
+round_no_more m (l ∷ ls) turns alone end t d e (tallies, over, made, asking, few, tells, ends, keys) = turns_no_more (after_selecting m (l ∷ ls)) tallies over t d e asking
 
 -- ---- a write that was refused
 module _ (old new : EvacOf Plain FarSide) (d : FarSide) (x : NoMore old.book.device d) where
-  stopped_spends : (s : State) (p : ℕ) (why : Refusal) → (why ≡ Memory) ⊎ (why ≡ Device) → AsksToEvict FarSide FarWrites FarLetsGo s p (Err why) d new.book.device → SpentBy (stopper_of why) old new
-  stopped_spends s p Device either (bytes, has, writes) =
+  failed_write : (s : State) (p : ℕ) → AsksToEvict FarSide FarWrites FarLetsGo s p (Err Device) d new.book.device → SpentBy (Refuses Device 0 0) old new
+  failed_write s p (bytes, has, writes) =
       spent_failed old new d x (write_fault fault.Device) _ writes.0 refl (λ mem. let odd : fault.Device ≡ fault.Memory = mem.0 in absurd cc) writes.1
-  stopped_spends s p Memory either (bytes, has, writes) =
+
+  wanting_write : (s : State) (p : ℕ) → AsksToEvict FarSide FarWrites FarLetsGo s p (Err Memory) d new.book.device → SpentBy Serves old new
+  wanting_write s p (bytes, has, writes) =
       spent_none old new (no_more_both old.book.device d new.book.device x (write_no_more d new.book.device p bytes (Err fault.Memory) writes (λ odd. let no : fault.Memory ≡ fault.Device = err_is odd in absurd cc)))
     where
       err_is : write_fault fault.Memory ≡ write_fault fault.Device → fault.Memory ≡ fault.Device
       err_is e = cc
-  stopped_spends s p why (inl memory) h = subst (λ w. SpentBy (stopper_of w) old new) (sym memory) (stopped_spends s p Memory (inl refl) (subst (λ w. AsksToEvict FarSide FarWrites FarLetsGo s p (Err w) d new.book.device) memory h))
-  stopped_spends s p why (inr failed) h = subst (λ w. SpentBy (stopper_of w) old new) (sym failed) (stopped_spends s p Device (inr refl) (subst (λ w. AsksToEvict FarSide FarWrites FarLetsGo s p (Err w) d new.book.device) failed h))
+
+  stopped_spends : (s : State) (p : ℕ) (why : Refusal) → (why ≡ Memory) ⊎ (why ≡ Device) → AsksToEvict FarSide FarWrites FarLetsGo s p (Err why) d new.book.device → SpentBy (stopper_of why) old new
+  stopped_spends s p why (inl memory) h =
+      subst (λ w. SpentBy (stopper_of w) old new) (sym memory) (wanting_write s p (subst (λ w. AsksToEvict FarSide FarWrites FarLetsGo s p (Err w) d new.book.device) memory h))
+  stopped_spends s p why (inr failed) h =
+      subst (λ w. SpentBy (stopper_of w) old new) (sym failed) (failed_write s p (subst (λ w. AsksToEvict FarSide FarWrites FarLetsGo s p (Err w) d new.book.device) failed h))
 
 refused_write : (old new : EvacOf Plain FarSide) (d : FarSide) (m t : Moment) (tally : Tally) (why : Refusal) → NoMore old.book.device d → (why ≡ Memory) ⊎ (why ≡ Device) →
     IsRefusedWrite FarSide FarWrites FarLetsGo m t tally why d new.book.device → SpentBy (stopper_of why) old new
@@ -101,9 +107,9 @@ halted_spends old new m t fault barred why refused = elim (evacuating_or m.phase
 
 -- ---- a round
 module _ (old new : EvacOf Plain FarSide) (m t : Moment) (turns : ℕ) where
-  pub ended_spends : {X Y : List ℕ → Type 0} (end : RoundEnd) → (logs : List ℕ) × X logs × Y logs × RoundAsking FarSide FarWrites FarLetsGo (λ x q. bytes_at x.inner.inner q) m logs turns true end t old.book.device new.book.device →
-      SpentBy Serves old new
-  ended_spends end (logs, gives, round, asks) = spent_none old new (round_no_more m logs turns true end t old.book.device new.book.device asks)
+  pub ended_spends : (Gives : List ℕ → Type 0) (Ended : List ℕ → RoundEnd → Type 0) (end : RoundEnd) →
+      (logs : List ℕ) × Gives logs × Ended logs end × RoundAsking FarSide FarWrites FarLetsGo (λ x q. bytes_at x.inner.inner q) m logs turns true end t old.book.device new.book.device → SpentBy Serves old new
+  ended_spends Gives Ended end (logs, gives, round, asks) = spent_none old new (round_no_more m logs turns true end t old.book.device new.book.device asks)
 
   -- one that is refused before it began
   first_spends : (why : Refusal) → new ≡ old → why ≢ Device → SpentBy (stopper_of why) old new
@@ -113,33 +119,34 @@ module _ (old new : EvacOf Plain FarSide) (m t : Moment) (turns : ℕ) where
   -- or in its midst
   broken_spends : (logs : List ℕ) (fault : EvacFault) → (fault.why ≡ Memory) ⊎ (fault.why ≡ Device) →
       StopsAsking FarSide FarWrites FarLetsGo (λ x q. bytes_at x.inner.inner q) (after_selecting m logs) turns fault.so_far fault.why t old.book.device new.book.device → SpentBy (stopper_of fault.why) old new
-  broken_spends logs fault either (tallies, u, between, tally, made, asking, fewer, phase, stops, refuses, rest) =
+  broken_spends logs fault either (tallies, u, between, tally, made, asking, fewer, phase, stops, refuses, sum, lawful, keys) =
       refused_write old new between u t tally fault.why (turns_no_more (after_selecting m logs) tallies false u old.book.device between asking) either refuses
 
-  abbrev First : Type 0 → Type 0 → Type 0 → EvacFault → Type 0
-  First Z X Y fault = Z × (new ≡ old) × (((fault.why ≡ Memory) × X) ⊎ (IsBadChoice fault.why × Y))
+  abbrev First : (EvacFault → Type 0) → (EvacFault → Type 0) → (EvacFault → Type 0) → EvacFault → Type 0
+  First Counts X Y fault = Counts fault × (new ≡ old) × (((fault.why ≡ Memory) × X fault) ⊎ (IsBadChoice fault.why × Y fault))
 
   abbrev Broken : (List ℕ → Type 0) → (List ℕ → EvacFault → Type 0) → EvacFault → Type 0
-  Broken Given Halts fault = (logs : List ℕ) × Given logs × ((fault.why ≡ Memory) ⊎ (fault.why ≡ Device)) × Halts logs fault
+  Broken Gives Halts fault = (logs : List ℕ) × Gives logs × ((fault.why ≡ Memory) ⊎ (fault.why ≡ Device)) × Halts logs fault
       × StopsAsking FarSide FarWrites FarLetsGo (λ x q. bytes_at x.inner.inner q) (after_selecting m logs) turns fault.so_far fault.why t old.book.device new.book.device
 
   never_first : (fault : EvacFault) (X Y : Type 0) → ((fault.why ≡ Memory) × X) ⊎ (IsBadChoice fault.why × Y) → fault.why ≢ Device
   never_first fault X Y (inl memory) failed = let odd : Memory ≡ Device = sym memory.0 ∙ failed in absurd cc
   never_first fault X Y (inr bad) failed = let odd : Device ≡ BadChoice bad.0.0 = sym failed ∙ bad.0.1 in absurd cc
 
-  refused_spends : (Z X Y : EvacFault → Type 0) (Given : List ℕ → Type 0) (Halts : List ℕ → EvacFault → Type 0) (fault : EvacFault) → First (Z fault) (X fault) (Y fault) fault ⊎ Broken Given Halts fault → SpentBy (stopper_of fault.why) old new
-  refused_spends Z X Y Given Halts fault (inl (counts, same, why)) = first_spends fault.why same (never_first fault (X fault) (Y fault) why)
-  refused_spends Z X Y Given Halts fault (inr (logs, gives, either, halts, asked)) = broken_spends logs fault either asked
+  module _ (Gives : List ℕ → Type 0) (Ended : List ℕ → RoundEnd → Type 0) (Counts X Y : EvacFault → Type 0) (Halts : List ℕ → EvacFault → Type 0) (K : Type 0) (so_far : Progress) where
+    refused_spends : (fault : EvacFault) → First Counts X Y fault ⊎ Broken Gives Halts fault → SpentBy (stopper_of fault.why) old new
+    refused_spends fault (inl (counts, same, why)) = first_spends fault.why same (never_first fault (X fault) (Y fault) why)
+    refused_spends fault (inr (logs, gives, either, halts, asked)) = broken_spends logs fault either asked
 
-  barred_spends : (fault : EvacFault) (why : Refusal) → unselectable m ≡ Some why → fault.why ≡ why → new ≡ old → SpentBy (stopper_of fault.why) old new
-  barred_spends fault why is same stays = first_spends fault.why stays (λ failed. never_barred m (is ∙ ap Some (sym same ∙ failed)))
-
-  pub round_spends : {Ended : List ℕ → RoundEnd → Type 0} {Gives Given : List ℕ → Type 0} {Z X Y : EvacFault → Type 0} {Halts : List ℕ → EvacFault → Type 0} {so_far : Progress} {K : Type 0} (r : Result RoundEnd EvacFault) →
-      IfOk r (λ end. (logs : List ℕ) × Gives logs × Ended logs end × RoundAsking FarSide FarWrites FarLetsGo (λ x q. bytes_at x.inner.inner q) m logs turns true end t old.book.device new.book.device) →
-      ((why : Refusal) → unselectable m ≡ Some why → (r ≡ Err (record { so_far = so_far; why = why })) × (new ≡ old) × K) →
-      (unselectable m ≡ None → IfErr r (λ fault. First (Z fault) (X fault) (Y fault) fault ⊎ Broken Given Halts fault)) → SpentBy (stopper r) old new
-  round_spends (Ok end) asked barred refused = ended_spends end asked
-  round_spends {Z} {X} {Y} (Err fault) asked barred refused = elim (unselectable m) as (λ o. unselectable m ≡ o → SpentBy (stopper_of fault.why) old new) [
-    | Some why ↦ λ is. (let h = barred why is in barred_spends fault why is (why_same fault (record { so_far = _; why = why }) h.0) h.1)
-    | None ↦ λ free. refused_spends _ _ _ _ _ fault (refused free)
-  ] refl
+    pub round_spends : (r : Result RoundEnd EvacFault) →
+        IfOk r (λ end. (logs : List ℕ) × Gives logs × Ended logs end × RoundAsking FarSide FarWrites FarLetsGo (λ x q. bytes_at x.inner.inner q) m logs turns true end t old.book.device new.book.device) →
+        ((why : Refusal) → unselectable m ≡ Some why → (r ≡ Err (record { so_far = so_far; why = why })) × (new ≡ old) × K) →
+        (unselectable m ≡ None → IfErr r (λ fault. First Counts X Y fault ⊎ Broken Gives Halts fault)) → SpentBy (stopper r) old new
+    round_spends (Ok end) asked bars refused = ended_spends Gives Ended end asked
+    round_spends (Err fault) asked bars refused = elim (unselectable m) as (λ o. unselectable m ≡ o → SpentBy (stopper_of fault.why) old new) [
+      | Some why ↦ λ is.
+          let h = bars why is in
+          let same : fault.why ≡ why = why_same fault (record { so_far = so_far; why = why }) h.0 in
+          first_spends fault.why h.1 (λ failed. never_barred m (is ∙ ap Some (sym same ∙ failed)))
+      | None ↦ λ free. refused_spends fault (refused free)
+    ] refl

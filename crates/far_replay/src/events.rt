@@ -1,6 +1,6 @@
 //! How an owner opens its scope and views an object.
 
-ghost use Rattle.std.specs.Prelude.{◌≡◌, ◌/◌, ℕ, true, false, None, IfOk, IfErr};
+ghost use Rattle.std.specs.Prelude.{◌≡◌, ◌/◌, ℕ, true, false, None, IsSome, IfOk, IfErr};
 ghost use Rattle.far_word.specs.declared.sizes.TheConstants.{CELLS};
 ghost use Rattle.far_core.specs.events.Step.{is_opened};
 ghost use Rattle.far_word.specs.Pointer.{read_of};
@@ -102,10 +102,11 @@ fn bring_and_view(evac: &mut Evac<Plain, FarSide>, owner: u8, pointer: u16) -> R
 
 // Whether a cell says near.
 fn is_near(word: u64) -> bool
+    requires { IsSome (read_of word) }
     ensures { result ≡ says_near (read_of word) }
 {
-    match PtrWord::read(word) {
-        Some(PtrWord::Near { .. }) => true,
+    match PtrWord::known(word) {
+        PtrWord::Near { .. } => true,
         _ => false,
     }
 }
@@ -119,7 +120,9 @@ fn bring(evac: &mut Evac<Plain, FarSide>, owner: u8, pointer: u16) -> Result<(),
     ensures brought { Brings evac.old evac.new owner pointer result }
     ensures far { IfErr result (λ why. KeepsFar why → says_near (read_of ((state_in evac.old).cell pointer)) ≡ false) }
 {
-    if is_near(core_of(evac).cell(pointer)) {
+    let core = core_of(evac);
+    core.keeps_law();
+    if is_near(core.cell(pointer)) {
         move_near(evac, owner, pointer)
     } else {
         fetch_far(evac, owner, pointer)

@@ -37,9 +37,12 @@ returns-in-Ok-Some-clause-brought c =
     let device : c.move_now.new.self.book.device ≡ c.owner.new.self.book.device =
     subst (λ x. IfSome x (λ _. c.move_now.new.self.book.device ≡ c.owner.new.self.book.device)) c.in-Ok-Some.field-0-is c.in-Ok-Some.ensures.device in
     record {
-      comes = (Serves, comes_itself c.args.evac.now c.move_now.new.self m p c.in-Ok-Some.field-0-0 done room order
-          (ap (λ (t : State). t.stored) done ∙ comes_stores s m p law c.requires.opened c.requires.own c.requires.used c.requires.unheld c.in-Ok-Some.field-0-0 room)
-          (spent_same c.args.evac.now c.move_now.new.self (device ∙ c.owner.ensures.device)));
+      comes = (
+        Serves,
+        comes_itself c.args.evac.now c.move_now.new.self m p c.in-Ok-Some.field-0-0 done room order
+            (ap (λ (t : State). t.stored) done ∙ comes_stores s m p law c.requires.opened c.requires.own c.requires.used c.requires.unheld c.in-Ok-Some.field-0-0 room)
+            (spent_same c.args.evac.now c.move_now.new.self (device ∙ c.owner.ensures.device)),
+      );
       refused = tt;
       shut = tt;
       round = search rules;

@@ -11,7 +11,7 @@ returns-in-Ok-clause-spent c = evacuated_spends c.args.evac.now c.evacuate_some.
 pub returns-in-Err-clause-spent : goal.returns-in-Err-clause-spent
 returns-in-Err-clause-spent c =
     let call = c.in-Err.ensures in
-    step_served c.args.evac.now c.evacuate_some.new.self c.refused_step.result c.in-Err.fault c.refused_step.ensures.told
+    step_served _ c.args.evac.now c.evacuate_some.new.self c.refused_step.result c.in-Err.fault c.refused_step.ensures.told
     (halted_spends c.args.evac.now c.evacuate_some.new.self (moment_in c.args.evac.now) (moment_in c.evacuate_some.new.self) c.in-Err.fault call.barred call.why call.refused)
 
 pub returns-in-Err-clause-stopped : goal.returns-in-Err-clause-stopped

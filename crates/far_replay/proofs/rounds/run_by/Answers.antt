@@ -49,9 +49,9 @@ returns-in-LeastLive-clause-stopped c =
 pub returns-in-Oldest-clause-spent : goal.returns-in-Oldest-clause-spent
 returns-in-Oldest-clause-spent c =
     let ran = c.run_round_alone in
-    round_spends c.args.evac.now ran.new.self (moment_in c.args.evac.now) (moment_in ran.new.self) c.args.turns ran.result ran.ensures.asked ran.ensures.barred ran.ensures.refused
+    round_spends c.args.evac.now ran.new.self (moment_in c.args.evac.now) (moment_in ran.new.self) c.args.turns _ _ _ _ _ _ _ _ ran.result ran.ensures.asked ran.ensures.barred ran.ensures.refused
 
 pub returns-in-LeastLive-clause-spent : goal.returns-in-LeastLive-clause-spent
 returns-in-LeastLive-clause-spent c =
     let ran = c.run_round_alone-in-LeastLive in
-    round_spends c.args.evac.now ran.new.self (moment_in c.args.evac.now) (moment_in ran.new.self) c.args.turns ran.result ran.ensures.asked ran.ensures.barred ran.ensures.refused
+    round_spends c.args.evac.now ran.new.self (moment_in c.args.evac.now) (moment_in ran.new.self) c.args.turns _ _ _ _ _ _ _ _ ran.result ran.ensures.asked ran.ensures.barred ran.ensures.refused

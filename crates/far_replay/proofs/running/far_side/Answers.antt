@@ -15,7 +15,7 @@ returns-in-Fail-clause-lie c =
 pub returns-in-Fail-clause-few : goal.returns-in-Fail-clause-few
 returns-in-Fail-clause-few c =
     let said = said_so c.args.device c.in-Some.device Fail c.in-Some.is c.in-Fail.is in
-    subst (λ device. IsLeft (lie_of device) c.short.result (flaws device)) (sym said) (fail_leaves c.short.result c.in-Some.device.call (ap (λ d. d.left) c.short.ensures.inner ∙ c.new-in-Fail.ensures.left))
+    subst (λ device. IsLeft (lie_of device) c.short.result (flaws device)) (sym said) (fail_leaves c.short.result c.in-Some.device.call (ap (λ d. d.left) c.short.ensures.inner ∙ c.new.ensures.left))
 
 pub returns-in-Short-clause-lie : goal.returns-in-Short-clause-lie
 returns-in-Short-clause-lie c =
