@@ -11,9 +11,8 @@ use Rattle.far_core.specs.events.Step.{after_pin}
 use Rattle.far_core.specs.state.Law.{IsStored, Law, StoresBack, held_place}
 use Rattle.far_core.specs.state.State.{State, put}
 use Rattle.far_core.proofs.Cells.{unused}
-use Rattle.far_core.proofs.Put.{put_both, put_old, put_same}
+use Rattle.far_core.proofs.Put.{put_both, put_old}
 use Rattle.far_evac.specs.MomentLaw.{MomentLaw}
-use Rattle.far_evac.specs.Strays.{NoneStrays}
 use Rattle.far_replay.specs.Between.{Between}
 use Rattle.far_replay.specs.Commanded.{LiesFar, Misled}
 use Rattle.far_replay.specs.Dereference.{asked_for, comes_to, comes_to_of, has_no_room, sought, sought_of}

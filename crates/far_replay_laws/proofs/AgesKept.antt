@@ -27,19 +27,21 @@ use Rattle.far_word.specs.declared.refused.Refused.TheVariants.{Marked}
 use Rattle.far_replay.proofs.Outcomes.{by_outcome}
 use Rattle.far_replay_laws.proofs.Stops.{LeftSome, Stood, begun, left_some, starts, stood_so}
 use Rattle.far_replay.specs.Events.{IsNoStep}
-use Rattle.far_replay.specs.Moment.{with_core}
+use Rattle.far_replay.specs.Moment.{with_core, as_if_stored}
 use Rattle.far_replay.specs.Reply.{Reply, Evacuated, Refused}
 use Rattle.far_replay.specs.Rounds.{after_round, chosen_by, given_by, logs_given, refused_step, rows_in, step_effect}
 use Rattle.far_replay_laws.specs.Steps.{Takes}
 use Rattle.far_replay.specs.Turn.{effect, refusal, refused_effect, turn_effect, unless}
 use Rattle.far_replay_laws.proofs.CountedOnce.{among_in}
-use Rattle.far_replay.proofs.Lasting.{Lasts, moment_lasts}
+use Rattle.far_replay.proofs.Lasting.{Lasts, moment_lasts, misled_from}
 use Rattle.far_replay.proofs.RoundLeads.{step_stays}
 use Rattle.far_replay_laws.proofs.StepsTell.{held_chosen, policy_takes}
 use Rattle.far_replay.proofs.ToldRounds.{told_effect}
 use Rattle.far_evac.specs.Leaving.{order_by}
 use Rattle.far_evac.proofs.SmallSteps.{walked_kept}
 use Rattle.far_evac.proofs.TurnSteps.{KeepsTurns, ended_kept, turns_kept_exactly}
+use Rattle.far_replay.specs.Commanded.{AsksFor, Misled}
+use Rattle.far_replay_laws.proofs.Misleading.{as_misled}
 
 -- ---- from one order to another
 -- but for some of these logs, those of the first come first, as they stood
@@ -203,6 +205,13 @@ stop_keeps now lasts policy most turns count objects stood next progress h left 
     from_ages now (Evacuator (Round policy most count)) next logs ages
     (λ k e. (logs, subst (Takes now (By policy) most) h.chosen (policy_takes now lasts.law lasts.round policy most), among_in k logs e))
 
+-- a command that was given other words gives none back
+misled_keeps : (row : ℕ → ℕ) (now : Moment) (r : Reply) (next : Moment) (m p : ℕ) → IsMoment now → (c : Command) → AsksFor m p c → Misled row now c p r next → KeepsAges (as_if_stored now p row) c (as_if_stored next p row) → KeepsAges now c next
+misled_keeps row now r next m p is = as_misled row now r next m p (λ now c r next. KeepsAges now c next)
+    (λ from bytes x. record { gone = x.gone; since = x.since; order = x.order; given = x.given })
+    (λ from len bytes x. record { gone = x.gone; since = x.since; order = x.order; given = x.given })
+    (λ x. record { gone = x.gone; since = x.since; order = x.order; given = x.given })
+
 pub ages_stay : (now : Moment) (c : Command) (r : Reply) (next : Moment) → IsMoment now → Commanded now c r next → KeepsAges now c next
 ages_stay now c r next is h = by_outcome now r next (λ d. KeepsAges now d next)
     (λ d h. served_keeps now d r next is h)
@@ -212,4 +221,5 @@ ages_stay now c r next is h = by_outcome now r next (λ d. KeepsAges now d next)
     (λ why objects count h. let x = served_keeps now (Evacuator (Evacuate objects)) (Evacuated h.progress) next is h.left in record { gone = x.gone; since = x.since; order = x.order; given = x.given })
     (λ why turns objects policy most count h.
     stop_keeps now (moment_lasts now is) policy most turns count objects h.stood next h.progress (stood_so now policy most turns h.stood h.turned) (left_some h.stood objects h.progress next h.left h.unfinished))
+    (λ row m p d asks h. misled_keeps row now r next m p is d asks h (served_keeps (as_if_stored now p row) d r (as_if_stored next p row) (misled_from row now d p r next is h) h.served))
     c h

@@ -29,6 +29,7 @@ use Rattle.far_replay.proofs.RoundLeads.{step_stays}
 use Rattle.far_replay_laws.specs.Epochs.{Chooses, EpochAfter, StepSpends, StepsSpendEpochs}
 use Rattle.far_replay_laws.specs.Steps.{ReachesEpoch, TellsStep}
 use Rattle.far_replay_laws.proofs.TurnsTell.{served_told}
+use Rattle.far_replay_laws.proofs.Misleading.{by_asked}
 
 -- a walk spends no epoch
 walked_epoch : (m : Moment) (n : ℕ) → (walked m n).moment.core.epoch ≡ m.core.epoch
@@ -121,4 +122,5 @@ steps_spend now step r next is h = by_outcome now r next (λ d. SpendsFor now d 
       epoch = subst (λ x. EpochAfter now.core.epoch (Round policy most count) x next.core.epoch) (sym h.reply) tt;
       last = λ chooses rests e. absurd (not_spent (ends.Limit Evacuating) ((served_spends now (Round policy most turns) (Ended (ends.Limit Evacuating)) h.stood is h.turned).last tt rests e));
     })
+    (λ row m p d asks h. by_asked m p (λ x. SpendsFor now x r next) (λ from bytes. tt) (λ from len. tt) tt d asks)
     (Evacuator step) h

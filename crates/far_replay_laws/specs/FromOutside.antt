@@ -1,5 +1,5 @@
 -- What a refusal of the device is about: an object that is far, and stays so; and how often one comes, and how often other bytes are given.
-use Rattle.std.specs.Prelude.{◌≡◌, ℕ, suc, ◌+◌, ◌≤◌, Bool, true, false, Ok, Option, Some, List, [], ◌∷◌, ◌++◌}
+use Rattle.std.specs.Prelude.{◌≡◌, ℕ, suc, ◌+◌, ◌≤◌, ◌==◌, Bool, true, false, Ok, Option, Some, List, [], ◌∷◌, ◌++◌}
 use Rattle.std.specs.List.{flat_map}
 use Rattle.far_word.specs.declared.refused.Refused.{Refused as Refusal}
 use Rattle.far_word.specs.declared.refused.Refused.TheVariants.{Damaged, Device as Failed}
@@ -70,14 +70,18 @@ lies (Gives row ∷ os) = 1 + lies os
 
 -- no more replies say that the device failed, or gave another number of bytes, than it is said to; each once at most
 pub record FailsAsSaid (device : Option Device) (replies : List Reply) : Type 0 where
-  pub fails : failures replies ≤ to_fail device
-  pub damages : damages replies ≤ to_damage device
-  pub one : to_fail device + to_damage device ≤ 1
+  pub failed : failures replies ≤ to_fail device
+  pub damaged : damages replies ≤ to_damage device
+  pub once : to_fail device + to_damage device ≤ 1
 
 -- no more commands are given other bytes than it is said to give, one at most
 pub record LiesAsSaid (device : Option Device) (outside : List Outside) : Type 0 where
-  pub lies : lies outside ≤ to_lie device
-  pub one : to_lie device ≤ 1
+  pub lied : lies outside ≤ to_lie device
+  pub once : to_lie device ≤ 1
+
+-- what is read of a device is what was stored: it isn't said to give other bytes
+abbrev pub gives_stored : Option Device → Bool
+gives_stored device = to_lie device == 0
 
 -- the output of a text that is read as a heap in range and commands is lines of replies, which say so
 abbrev pub FlawsAreSaid : Type 0

@@ -36,7 +36,7 @@ use Rattle.far_replay.specs.Commanded.{AsksFor, KeepsNear, LiesFar}
 use Rattle.far_replay.specs.Moment.{Moment, as_if_stored}
 use Rattle.far_replay.specs.EventRows.{after_events, AllPass, AllSucceed, AllComeToPass, AtHand}
 use Rattle.far_replay.specs.Events.{events_for, IsNoStep}
-use Rattle.far_replay_laws.specs.FromOutside.{FailsAsSaid, LiesAsSaid}
+use Rattle.far_replay_laws.specs.FromOutside.{FailsAsSaid, LiesAsSaid, gives_stored}
 use Rattle.far_replay_laws.specs.HowMany.{IsHowMany}
 use Rattle.far_replay_laws.specs.Left.{AllLeave}
 use Rattle.far_replay_laws.specs.Listed.{AllCounted}
@@ -312,7 +312,7 @@ pub record IsSound (logs mutators epoch : ℕ) (device : Option SaidDevice) (cs 
   pub lawful : All Lawful (first_moment logs mutators epoch (is_true device) ∷ moments)
   pub whole : All (λ (now : Moment). IsWhole now.core) (first_moment logs mutators epoch (is_true device) ∷ moments)
   pub stay : LogsStay (first_moment logs mutators epoch (is_true device)) cs replies moments
-  pub alone : (m : ℕ) → m < mutators → Alone (is_true device) m nothing cs replies
+  pub alone : (m : ℕ) → m < mutators → Alone (gives_stored device) m nothing cs replies
   pub told : AllTold (first_moment logs mutators epoch (is_true device)) cs replies moments
   pub left : AllLeave (first_moment logs mutators epoch (is_true device)) cs replies moments
   pub counted : AllCounted (first_moment logs mutators epoch (is_true device)) cs replies moments

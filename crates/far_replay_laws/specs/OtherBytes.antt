@@ -1,5 +1,5 @@
 -- A command that is given other bytes of its object than were stored, since the device lies: its object has these bytes then, and all others keep theirs.
-use Rattle.std.specs.Prelude.{◌≡◌, ◌≢◌, ℕ, ◌+◌, true, false, Some, List, [], ◌∷◌, length, slice_range}
+use Rattle.std.specs.Prelude.{◌≡◌, ◌≢◌, ℕ, ◌+◌, true, false, Some, List, ◌∷◌, length, slice_range}
 use Rattle.far_word.specs.Bytes.{bytes_of}
 use Rattle.far_core.specs.world.WorldOf.{world_of}
 use Rattle.far_text.specs.Command.{Command, Write, Read, View, Mutator}
