@@ -155,7 +155,7 @@ fn read_viewed(evac: &Evac<Plain, FarSide>, scratch: &mut Scratch, access: Acces
     }
 }
 
-// Reads a range of bytes. `Err` where the object is far, and the device fails, or its words are refused memory.
+// Reads a range of bytes. `Err` where the object is far, and the device fails or gives too few bytes, or they are refused memory.
 fn read(
     evac: &mut Evac<Plain, FarSide>,
     scratch: &mut Scratch,
@@ -274,7 +274,7 @@ fn write_viewed(
     store_front(evac, access, &scratch.words);
 }
 
-// Writes bytes over a range. `Err` where the object is far, and the device fails, or its words are refused memory.
+// Writes bytes over a range. `Err` where the object is far, and the device fails or gives too few bytes, or they are refused memory.
 fn write(
     evac: &mut Evac<Plain, FarSide>,
     scratch: &mut Scratch,
@@ -420,8 +420,8 @@ fn write_range(
     }
 }
 
-// Makes the events of an owner's request, and answers what it comes to. `Err` where an object is far, and the device fails, or
-// its words are refused memory.
+// Makes the events of an owner's request, and answers what it comes to. `Err` where an object is far, and the device fails or
+// gives too few bytes, or they are refused memory.
 fn make_request(
     evac: &mut Evac<Plain, FarSide>,
     scratch: &mut Scratch,
@@ -509,8 +509,8 @@ fn make_events(
     }
 }
 
-/// Makes one command, and answers what it comes to, also where the device fails in its midst. `Err` where an object is far and
-/// its words are refused memory: that is no reply, and no command is made after it.
+/// Makes one command, and answers what it comes to, also where the device fails or lies in its midst. `Err` where an object is far
+/// and its words are refused memory: that is no reply, and no command is made after it.
 pub fn turn(
     evac: &mut Evac<Plain, FarSide>,
     scratch: &mut Scratch,

@@ -38,7 +38,8 @@ pub fn try_object(evac: &mut Evac<Plain, FarSide>, owner: u8, pointer: u64) -> O
     }
 }
 
-/// Views an owner's object, whatever marks it has. `Err` where it is far, and the device fails, or its words are refused memory.
+/// Views an owner's object, whatever marks it has. `Err` where it is far, and the device fails or gives too few
+/// bytes, or they are refused memory.
 pub fn view_object(
     evac: &mut Evac<Plain, FarSide>,
     owner: u8,
