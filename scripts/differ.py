@@ -18,7 +18,7 @@ COMMANDS |= {b"logs": "", b"log": "n", b"audit": "", b"epoch": "n"}
 COMMANDS |= {b"device": "fn"}
 COMMANDS |= {b"select": "pm", b"mark": "n", b"wait": "", b"evacuate": "n", b"abort": "", b"round": "pmn"}
 LARGEST = {"n": LAST_NUMBER, "m": 64, "l": 255}
-POLICIES = {"p": (b"oldest", b"leastlive"), "s": (b"script",), "f": (b"fail",)}
+POLICIES = {"p": (b"oldest", b"leastlive"), "s": (b"script",), "f": (b"fail", b"short", b"flip")}
 MARKS = {"h": 62, "e": 61, "m": 60}
 
 
@@ -101,17 +101,19 @@ class Heap:
         self.objects, self.scopes, self.told = [{} for _ in range(mutators)], [None] * mutators, [None] * mutators
         self.views = [set() for _ in range(mutators)]
         self.phase, self.collection, self.clear = "idle", [], set()
-        self.left, self.failed, self.counts = 0, False, (0, 0, 0)
+        self.flaw, self.left, self.failed, self.counts = "fail", 0, False, (0, 0, 0)
 
     def device(self, flaw: str, call: int) -> str:
-        """Of its writes and reads this one fails, counted from 1."""
-        self.left = call
+        """Of its writes and reads this one fails, counted from 1; or of its reads alone this one is a lie."""
+        self.flaw, self.left = flaw, call
         return "ok"
 
-    def fails(self) -> bool:
-        """Counts a write or read; whether it is the one that fails."""
-        self.left, failing = max(0, self.left - 1), self.left == 1
-        return failing
+    def is_flawed(self, is_read: bool) -> bool:
+        """Counts a read, or a write of a device that is to fail; whether it is the one."""
+        if not is_read and self.flaw != "fail":
+            return False
+        self.left, flawed = max(0, self.left - 1), self.left == 1
+        return flawed
 
     def has_room(self, found: Thing, kept: int) -> bool:
         """Whether it can be placed where more than so many logs are free."""
@@ -188,8 +190,10 @@ class Heap:
         found.marks.add("h")
         if "e" in found.marks:
             found.marks.add("m")
-        if found.log is None and self.has_room(found, 1) and self.fails():
-            return "refused 10"
+        if found.log is None and self.has_room(found, 1) and self.is_flawed(True):
+            if self.flaw != "flip":
+                return "refused 10" if self.flaw == "fail" else "refused 11"
+            found.bytes = bytearray(255 - byte for byte in found.bytes)
         if (found.log is None or "e" in found.marks) and not self.place(found, 1 if found.log is None else 0):
             return "refused 2"
         found.marks = {"h"}
@@ -309,7 +313,7 @@ class Heap:
                     return moved, far, freed
                 if "h" in found.marks and self.place(found, 0):
                     moved += 1
-                elif self.fails():
+                elif self.is_flawed(False):
                     self.failed = True
                     return moved, far, freed
                 else:
@@ -401,7 +405,7 @@ class Writer:
     def pointer(self, m: int) -> int:
         """A pointer of the mutator's, most often of an object."""
         found = self.heap.objects[m]
-        asking = [cell for cell in found if "m" in found[cell].marks]
+        asking = [cell for cell in found if "m" in found[cell].marks or found[cell].log is None]
         return CELLS * m + self.choice.choice([*sorted(found), *asking * 4, min(len(found), CELLS - 1)])
 
     def access(self, m: int) -> str:
@@ -482,23 +486,24 @@ class Writer:
         others += b"|select oldest 65|select leastlive|select oldest 1 0|select script 1|select script 1 256|select script 65 0|select newest 1|select 1|select"
         others += b"|round script 1 9|round script 1 0 9|round oldest 65 1|round oldest 1|round oldest 1 1 1|round leastlive 1 %d|round 1 9|round" % 2**64
         others += b"|mark|mark 1 1|mark -1|wait 0|evacuate|evacuate 0 0|evacuate done|abort 0|device fail 1"
-        others += b"|device fail|device|device 1|device fail 1 1|device fail -1|device short 1|device flip 1|device fail %d" % 2**64
+        others += b"|device fail|device|device 1|device fail 1 1|device fail -1|device short|device flips 1|device fail %d" % 2**64
         long = [b"#" * wide, (b"write 0 0 0 " + b"ab" * LINE_LIMIT)[: wide + self.choice.randrange(2)]]
         lines[at] = self.choice.choice([b" " + line, byte + line, line[:-1], line.upper(), *signs, *ends, *others.split(b"|"), *long])
         return b"\n".join(lines)
 
     def device(self) -> str:
-        """A device's line, most often of one that fails soon."""
+        """A device's line, most often of one whose flaw comes soon; rounds are to send it objects."""
         soon, late = self.choice.randint(1, 30), self.choice.randint(1, 300)
-        call = self.choice.choice((0, 1, 2, soon, soon, late, late, LAST_NUMBER))
-        self.heap.device("fail", call)
-        return f"device fail {call}"
+        call = self.choice.choice((0, 1, 1, 2, 3, soon, soon, late, LAST_NUMBER))
+        flaw, self.rounds, self.largest = self.choice.choice(("fail", "short", "flip")), 20, self.choice.choice((300, MOST))
+        self.heap.device(flaw, call)
+        return f"device {flaw} {call}"
 
     def text(self) -> bytes:
         lines = [*self.choice.choice(([], [], ["# first", ""])), " ".join(["heap", *map(str, self.shape)])]
-        if self.choice.random() < 0.4:
+        if flawed := self.choice.random() < 0.4:
             lines += self.choice.choice(([], [], ["# its device", ""])) + [self.device()]
-        lines += [self.line() for _ in range(self.choice.choice((4, 40, 200, 1_000)))]
+        lines += [self.line() for _ in range(self.choice.choice((4, 40, 200, 1_000)[flawed:]))]
         text = ("\n".join(lines) + self.choice.choice(("\n", "\n", "", "\n\n"))).encode()
         if self.choice.random() < 0.02:
             text += b"\n" * (TEXT_LIMIT - len(text) + self.choice.randrange(2))

@@ -24,9 +24,9 @@ LIMIT = re.compile(r"round limit (marking|waiting|evacuating)")
 
 
 def has_thread(found: list, made: tuple) -> bool:
-    """Whether a command is the heap's, its device's, the book's, or that of a mutator which the heap has."""
+    """Whether a command is the heap's, that of its device which doesn't lie, the book's, or that of a mutator which the heap has."""
     name, operands = made
-    return name in ("heap", "device") or name in BOOK or (name in OWN and operands[0] < found[0][1][1])
+    return name == "heap" or (name == "device" and operands[0] == "fail") or name in BOOK or (name in OWN and operands[0] < found[0][1][1])
 
 
 def is_slow(word: int, found: Thing, logs: int) -> bool:
@@ -197,7 +197,7 @@ class SplitWriter(Writer):
         if self.choice.random() < 0.5:
             return super().spoiled(text)
         m = self.choice.choice((len(self.heap.scopes), 8, 255, LAST_NUMBER))
-        others = f"open {m}|new {m} 8 1|try {m} 0|epoch 0|where 0 0|select oldest 1|mark 1|wait|evacuate 1|abort|select script 1 0"
+        others = f"open {m}|new {m} 8 1|try {m} 0|epoch 0|where 0 0|select oldest 1|mark 1|wait|evacuate 1|abort|select script 1 0|device short 1|device flip 1"
         lines = text.split(b"\n")
         lines.insert(self.choice.randrange(1, len(lines) + 1), self.choice.choice(others.split("|")).encode())
         return b"\n".join(lines)
@@ -205,7 +205,8 @@ class SplitWriter(Writer):
     def text(self) -> bytes:
         lines = [*self.choice.choice(([], [], ["# first", ""])), " ".join(["heap", *map(str, self.shape)])]
         if self.choice.random() < 0.2:
-            lines.append(f"device fail {self.choice.choice((0, 1, 2, 3, 9, 40))}")
+            flaw = self.choice.choice((*["fail"] * 9, "short", "flip"))
+            lines.append(f"device {flaw} {self.choice.choice((0, 1, 2, 3, 9, 40))}")
         if "audit" in self.weights:  # so that the book's thread doesn't run ahead of all others
             lines += ["audit"] * self.choice.choice((0, 20, 100))
         lines += [self.line() for _ in range(self.choice.choice((4, 40, 400, 2_000)))]

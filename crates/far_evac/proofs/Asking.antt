@@ -30,12 +30,13 @@ use Rattle.far_evac.proofs.Bools.{neither}
 use Rattle.far_evac.proofs.Evacuations.{deals_more}
 use Rattle.far_evac.proofs.SmallSteps.{drop_next, walks_left}
 use Rattle.far_evac.proofs.LiveOnce.{all_front, one_more}
+use Rattle.far_evac.proofs.Walks.{walks_more}
 
 -- ---- one object more
 -- the object that a walk deals with next is the one behind those that it has dealt with
 pub first_more : (m : Moment) (k : ℕ) (w : Walked) (p : ℕ) (rest : List ℕ) → Ready m.core m.collection → WalksTo m k w → left w ≡ p ∷ rest → first_live m (k + 1) ≡ first_live m k ++ (p ∷ [])
 first_more m k w p rest ready walks is =
-    let next = drop_next k (live_among m.core m.collection) p rest (sym (walks_left m k w ready walks).left ∙ is) in
+    let next = drop_next k (live_among m.core m.collection) p rest (sym (walks_left m k w ready walks).0.left ∙ is) in
     ap (λ n. take n (live_among m.core m.collection)) (sym (one_more k)) ∙ next.2
 
 -- ---- keys
@@ -65,8 +66,7 @@ module _ (D : Type 0) (writes : D → ℕ → List ℕ → Result (Unit {0}) Dev
   pub asks_more : (m : Moment) (k : ℕ) (w v t : Walked) (p : ℕ) (rest : List ℕ) (word : ℕ) (a b c : D) → left w ≡ p ∷ rest → Finds (w.moment.core.cell p) word → KnowsWalked (dealt_as w p (read_of word)) v → KnowsWalked (settled v) t →
       AsksSo D writes lets_go w.moment.core p (way_of w.moment.core (read_of word)) b c → WalksAsking D writes lets_go m k w a b → WalksAsking D writes lets_go m (k + 1) t a c
   asks_more m k w v t p rest word a b c e finds dealt then asks walks =
-      subst (λ n. WalksAsking D writes lets_go m n t a c) (one_more k)
-      (w, word, b, walks, deals_more w v t p rest word e finds dealt then, asks_by w p rest word (left w) b c e asks)
+      walks_more (λ u word before after. AsksFirst D writes lets_go u word (left u) before after) m k w word t a b c walks (deals_more w v t p rest word e finds dealt then) (asks_by w p rest word (left w) b c e asks)
 
   -- two ways that are counted alike
   pub asks_alike : (s : State) (p : ℕ) (a b : Way) (old new : D) → fate_by a ≡ fate_by b → AsksSo D writes lets_go s p a old new → AsksSo D writes lets_go s p b old new

@@ -11,22 +11,20 @@ use Rattle.far_core.specs.state.Law.{Law}
 use Rattle.far_core.specs.state.Spans.{spans_of, is_live, word_in}
 use Rattle.far_core.specs.state.State.{State}
 use Rattle.far_book.specs.book.Own.{own_part}
-use Rattle.far_evac.specs.declared.answers.Polled.{Polled}
-use Rattle.far_evac.specs.declared.answers.Polled.TheVariants.{Clear, StillOpen}
 use Rattle.far_evac.specs.declared.phase.Phase.{Phase}
 use Rattle.far_evac.specs.declared.phase.Phase.TheVariants.{Idle, Marking, Waiting, Evacuating}
-use Rattle.far_evac.specs.AnyHand.{Evacuates, Polls, StopsAt, TurnsTo, WalksTo}
+use Rattle.far_evac.specs.AnyHand.{Evacuates, StopsAt, TurnsTo, WalksTo}
 use Rattle.far_evac.specs.Laws.{DealtInOrder}
 use Rattle.far_evac.specs.Live.{live_in, live_among, pointers_of}
 use Rattle.far_evac.specs.Moment.{Moment, Tally, nothing, plus}
-use Rattle.far_evac.specs.MomentLaw.{MomentLaw, has_risen, is_idle}
+use Rattle.far_evac.specs.MomentLaw.{MomentLaw, has_risen}
 use Rattle.far_evac.specs.Ready.{Ready}
 use Rattle.far_evac.specs.Turning.{GoesOn, IsBounded, IsWithin, most_objects}
 use Rattle.far_evac.specs.Turns.{turn_size}
 use Rattle.far_evac.specs.Walk.{Walked, ended, is_done, left}
 use Rattle.far_evac.proofs.InOrder.{in_order}
 use Rattle.far_evac.proofs.Readiness.{risen_is_ready}
-use Rattle.far_evac.proofs.Rounds.{marking_runs, walks_phase}
+use Rattle.far_evac.proofs.Rounds.{turn_ends, walks_phase}
 use Rattle.far_evac.proofs.OfOneKind.{sealed_used}
 
 -- ---- a log has no more objects than words, and a heap no more logs than a heap may have
@@ -92,10 +90,6 @@ within_bounded m total within = record { objects = omega (arith, within.objects)
 not_done : (w : Walked) → is_done w ≡ false → ended w ≡ w.moment
 not_done w more = ap (λ b. cond b (record w.moment { phase = Idle }) w.moment) more
 
-polled_runs : (m t : Moment) (answer : Polled) → m.phase ≡ Waiting → Polls m t answer → is_idle t.phase ≡ false
-polled_runs m t Clear e leaves = ap (λ (x : Moment). is_idle x.phase) leaves.rest
-polled_runs m t (StillOpen k epoch) e held_up = ap (λ (x : Moment). is_idle x.phase) held_up.leaves.rest ∙ ap is_idle e
-
 not_leaving : (phase : Phase) → has_risen phase ≡ false → phase ≢ Evacuating
 not_leaving phase early e = true≢false (sym (ap has_risen e) ∙ early)
 
@@ -103,35 +97,33 @@ waits_not : (phase : Phase) → phase ≡ Waiting → phase ≢ Evacuating
 waits_not phase waits leaves = absurd cc
 
 module _ (m t : Moment) (law : Law (own_part m.core)) (agrees : MomentLaw m) (law_then : Law (own_part t.core)) (agrees_then : MomentLaw t) (total tally : Tally) (done : Bool) (within : IsWithin m total) where
-  -- a turn that counts nothing, before objects leave
-  counts_none : m.phase ≢ Evacuating → tally ≡ nothing → is_idle t.phase ≡ false → GoesOn t (plus total tally) done
-  counts_none early none runs =
-      let sum : plus total tally ≡ nothing = ap (λ a. plus a tally) (within.fresh early) ∙ ap (plus nothing) none in
-      let after : IsWithin t (plus total tally) = subst (IsWithin t) (sym sum) (starts_within t law_then agrees_then) in
-      record { bounded = within_bounded t (plus total tally) after; more = λ _. (after, runs) }
+  abbrev StaysWithin : Type 0
+  StaysWithin = IsBounded (plus total tally) × (done ≡ false → IsWithin t (plus total tally))
 
-  leaves_some : m.phase ≡ Evacuating → Evacuates m turn_size t tally done → GoesOn t (plus total tally) done
+  -- a turn that counts nothing, before objects leave
+  counts_none : m.phase ≢ Evacuating → tally ≡ nothing → StaysWithin
+  counts_none early none =
+      let sum : plus total tally ≡ nothing = ap (λ a. plus a tally) (within.fresh early) ∙ ap (plus nothing) none in
+      let after : IsWithin t (plus total tally) = subst (IsWithin t) (sym sum) (starts_within t law_then agrees_then) in (within_bounded t (plus total tally) after, λ _. after)
+
+  leaves_some : m.phase ≡ Evacuating → Evacuates m turn_size t tally done → StaysWithin
   leaves_some leaves (k, w, walks, is, counts, over) =
       let ready = risen_is_ready m law agrees (ap has_risen leaves) in
-      let sum : plus total w.tally ≡ plus total tally = ap (plus total) (sym counts) in
-      record {
-        bounded = subst IsBounded sum (walk_bounded m total within ready k w walks.walks);
-        more = λ goes.
-            let same : w.moment ≡ t = sym (not_done w (sym over ∙ goes)) ∙ sym is in (
-              subst (λ a. IsWithin t a) sum (subst (λ x. IsWithin x (plus total w.tally)) same (walk_within m total within ready k w walks.walks leaves)),
-              ap (λ (x : Moment). is_idle x.phase) (sym same) ∙ ap is_idle (walks_phase m k w walks.walks ∙ leaves),
-            );
-      }
+      let sum : plus total w.tally ≡ plus total tally = ap (plus total) (sym counts) in (
+        subst IsBounded sum (walk_bounded m total within ready k w walks.walks),
+        λ goes.
+            let same : w.moment ≡ t = sym (not_done w (sym over ∙ goes)) ∙ sym is in
+            subst (λ a. IsWithin t a) sum (subst (λ x. IsWithin x (plus total w.tally)) same (walk_within m total within ready k w walks.walks leaves)),
+      )
 
-  goes_by : (phase : Phase) → m.phase ≡ phase → TurnsTo m phase tally done t → GoesOn t (plus total tally) done
-  goes_by Idle e turns = absurd turns
-  goes_by Marking e (none, goes, (count, waiting, marks)) =
-      counts_none (not_leaving m.phase (ap has_risen e)) none (ap (λ (x : Moment). is_idle x.phase) marks.leaves.rest ∙ marking_runs m e)
-  goes_by Waiting e (none, goes, (answer, polls)) = counts_none (waits_not m.phase e) none (polled_runs m t answer e polls)
-  goes_by Evacuating e turns = leaves_some e turns
+  stays_by : (phase : Phase) → m.phase ≡ phase → TurnsTo m phase tally done t → StaysWithin
+  stays_by Idle e turns = absurd turns
+  stays_by Marking e (none, _, _) = counts_none (not_leaving m.phase (ap has_risen e)) none
+  stays_by Waiting e (none, _, _) = counts_none (waits_not m.phase e) none
+  stays_by Evacuating e turns = leaves_some e turns
 
   pub turn_goes_on : TurnsTo m m.phase tally done t → GoesOn t (plus total tally) done
-  turn_goes_on turns = goes_by m.phase refl turns
+  turn_goes_on turns = let (bounded, after) = stays_by m.phase refl turns in record { bounded = bounded; more = λ goes. (after goes, turn_ends m t m.phase tally done refl turns ∙ goes) }
 
 -- a turn that stopped at an object
 pub stop_bounded : (m t : Moment) → Law (own_part m.core) → MomentLaw m → (total tally : Tally) → IsWithin m total → m.phase ≡ Evacuating → StopsAt m turn_size t tally → IsBounded (plus total tally)

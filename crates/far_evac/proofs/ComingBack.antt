@@ -93,7 +93,7 @@ empties u v t held freed_same epoch known =
       epoch = ap (λ (s : State). s.epoch) known.moment.core.rest ∙ ap (λ (w : Walked). w.moment.core.epoch) (passed_frame v.moment.collection v) ∙ epoch;
     }
 
-dealt_empties : (u t : Walked) (word : ℕ) (ps : List ℕ) → FindsFirst u word ps → KnowsWalked (found_first u word ps) t → EmptiesLogs u t
+dealt_empties : (u t : Walked) (word : ℕ) (ps : List ℕ) → FindsFirst false u word ps → KnowsWalked (found_first u word ps) t → EmptiesLogs u t
 dealt_empties u t word [] finds leaves = absurd finds
 dealt_empties u t word (p ∷ ps) finds leaves =
     let way = way_of u.moment.core (read_of word) in
@@ -101,6 +101,6 @@ dealt_empties u t word (p ∷ ps) finds leaves =
 
 pub come_back_empty : LogsComeBackEmpty
 come_back_empty m u t word = record {
-  first = λ known. empties (begun m) (begun m) t refl refl refl known;
+  first = λ walks. empties (begun m) (begun m) t refl refl refl walks.0;
   each = λ deals. dealt_empties u t word (left u) deals.finds deals.leaves;
 }

@@ -8,7 +8,8 @@ use Rattle.far_evac.specs.Dealings.{BeginsLive}
 use Rattle.far_evac.specs.Laws.{with_before}
 use Rattle.far_evac.specs.Live.{live_in, is_empty}
 use Rattle.far_evac.specs.Moment.{Moment, Tally, nothing, plus}
-use Rattle.far_evac.specs.Walk.{Walked, Way, Drops, Moves, Goes, begun, dealt_as, dealt_first, dealt_so, freed, left, passed, settled, walked, way_of}
+use Rattle.far_evac.specs.Walk.{Walked, Way, Drops, Moves, Goes, begun, dealt_first, dealt_so, freed, left, passed, settled, walked, way_of}
+use Rattle.far_evac.proofs.SmallSteps.{walked_front}
 use Rattle.far_evac.proofs.Tours.{stand, steps, walked_steps}
 
 -- ---- what was done before is only added
@@ -47,19 +48,6 @@ module _ (x : Tally) where
   steps_before (suc n) w = ap (λ v. dealt_first v (left v)) (steps_before n w) ∙ first_before (steps n w) (left (steps n w))
 
 -- ---- a walk that has stopped begins again where it stands
-passed_front : (ls : List ℕ) (v : Walked) → BeginsLive (passed v ls).moment.core (passed v ls).moment.collection
-passed_front [] v = tt
-passed_front (l ∷ ls) v = cond_both (is_empty (live_in v.moment.core l)) (passed (freed v l) ls) (record v { moment = record v.moment { collection = l ∷ ls } })
-    (λ (w : Walked). BeginsLive w.moment.core w.moment.collection) (λ _. passed_front ls (freed v l)) (λ some. some)
-
-first_front : (w : Walked) (ps : List ℕ) → BeginsLive w.moment.core w.moment.collection → BeginsLive (dealt_first w ps).moment.core (dealt_first w ps).moment.collection
-first_front w [] begins = begins
-first_front w (p ∷ ps) begins = let v = dealt_as w p (read_of (w.moment.core.cell p)) in passed_front v.moment.collection v
-
-walked_front : (m : Moment) (n : ℕ) → BeginsLive (walked m n).moment.core (walked m n).moment.collection
-walked_front m zero = passed_front m.collection (begun m)
-walked_front m (suc n) = first_front (walked m n) (left (walked m n)) (walked_front m n)
-
 settled_front : (s : State) (order : List ℕ) (phase : Phase) (held : List ℕ) (tally : Tally) → BeginsLive s held → settled (stand s order phase held tally) ≡ stand s order phase held tally
 settled_front s order phase [] tally begins = refl
 settled_front s order phase (l ∷ ls) tally begins = ap (λ b. cond b (passed (freed (stand s order phase (l ∷ ls) tally) l) ls) (stand s order phase (l ∷ ls) tally)) begins

@@ -1,9 +1,11 @@
 -- What polls and whole rounds do where no word changes but by them, they may do over any hand.
-use Rattle.std.proofs.Common.{◌≡◌, ℕ, zero, suc, ◌/◌, ◌≤◌, Bool, true, false, cond, ◌||◌, ◌==◌, nat_le, Option, Some, None, List, [], ◌∷◌, length, arith, ap, sym, refl, ◌∙◌, subst}
+use Rattle.std.proofs.Common.{◌≡◌, ℕ, suc, ◌/◌, ◌≤◌, Bool, true, false, cond, ◌||◌, ◌==◌, nat_le, Option, Some, None, List, [], ◌∷◌, length, arith, ap, sym, refl, ◌∙◌, subst}
 use Rattle.std.proofs.lemmas.Bool.{cond_both, true≢false, or_parts, not-true}
 use Rattle.std.proofs.lemmas.Bool.Decides.{nat_tests}
 use Rattle.far_core.specs.state.Law.{Law}
 use Rattle.far_book.proofs.region.Owns.{own_law}
+use Rattle.far_evac.specs.declared.answers.Polled.{Polled}
+use Rattle.far_evac.specs.declared.answers.Polled.TheVariants.{Clear, StillOpen}
 use Rattle.far_evac.specs.declared.answers.RoundEnd.TheVariants.{Done, Limit}
 use Rattle.far_evac.specs.declared.phase.Phase.{Phase}
 use Rattle.far_evac.specs.declared.phase.Phase.TheVariants.{Idle, Marking, Waiting, Evacuating}
@@ -20,9 +22,9 @@ use Rattle.far_evac.specs.Walk.{Walked, ended, is_done, left, walked}
 use Rattle.far_evac.proofs.Joined.{plus_nothing}
 pub use Rattle.far_evac.proofs.Unviewed.{found_in}
 use Rattle.far_evac.proofs.Leading.{selecting}
-use Rattle.far_evac.proofs.LeadingTurns.{turns_lead}
+use Rattle.far_evac.proofs.LeadingTurns.{through_turns}
 use Rattle.far_evac.proofs.Walks.{moment_same, walk_is}
-use Rattle.far_evac.proofs.SmallSteps.{walks_always}
+use Rattle.far_evac.proofs.SmallSteps.{walks_kept}
 
 -- ---- a poll
 polls_at : (m : Moment) (o : Option ℕ) → first_open m.core ≡ o → Polls m (polled_to m o) (polled_at m.core o)
@@ -38,22 +40,34 @@ polls_is m = polls_at m (first_open m.core) refl
 
 -- ---- the phase in which a turn leaves a round
 pub walks_phase : (m : Moment) (k : ℕ) (w : Walked) → WalksTo m k w → w.moment.phase ≡ m.phase
-walks_phase m k w walks =
-    walks_always (λ k w. w.moment.phase ≡ m.phase) record { gives = λ k w l ls h. h; deals = λ k w p way h. h } (λ k w t known h. ap (λ (x : Moment). x.phase) known.moment.rest ∙ h) m refl k w walks
+walks_phase m k w walks = (walks_kept false (λ k w. w.moment.phase ≡ m.phase) record {
+  learns = λ k w t known h. ap (λ (x : Moment). x.phase) known.moment.rest ∙ h;
+  gives = λ k w l ls none h. h;
+  deals = λ k w l ls p ps word here finds h. h;
+} m refl k w walks).0
 
 pub walked_phase : (m : Moment) (n : ℕ) → (walked m n).moment.phase ≡ m.phase
 walked_phase m n = let walk = walk_is m n in walks_phase m walk.0 (walked m n) walk.1.walks
 
-pub marking_runs : (m : Moment) → m.phase ≡ Marking → is_idle (after_marking m turn_size).phase ≡ false
+marking_runs : (m : Moment) → m.phase ≡ Marking → is_idle (after_marking m turn_size).phase ≡ false
 marking_runs m e = cond_both (leaves_some m turn_size) (record m { core = marked_core m turn_size }) (record m { core = advanced (marked_core m turn_size) m.collection; phase = Waiting })
     (λ (t : Moment). is_idle t.phase ≡ false) (λ _. ap is_idle e) (λ _. refl)
 
-polling_runs : (m : Moment) → m.phase ≡ Waiting → (o : Option ℕ) → is_idle (polled_to m o).phase ≡ false
-polling_runs m e None = refl
-polling_runs m e (Some k) = ap is_idle e
+polled_runs : (m t : Moment) (answer : Polled) → m.phase ≡ Waiting → Polls m t answer → is_idle t.phase ≡ false
+polled_runs m t Clear e leaves = ap (λ (x : Moment). is_idle x.phase) leaves.rest
+polled_runs m t (StillOpen k epoch) e held_up = ap (λ (x : Moment). is_idle x.phase) held_up.leaves.rest ∙ ap is_idle e
 
-ending_runs : (w : Walked) → w.moment.phase ≡ Evacuating → is_done w ≡ false → is_idle (ended w).phase ≡ false
-ending_runs w e more = ap (λ b. is_idle (cond b (record w.moment { phase = Idle }) w.moment).phase) more ∙ ap is_idle e
+ends_so : (m : Moment) → m.phase ≡ Evacuating → (done : Bool) → is_idle (cond done (record m { phase = Idle }) m).phase ≡ done
+ends_so m leaves true = refl
+ends_so m leaves false = ap is_idle leaves
+
+-- the round is over then exactly where the turn says so
+pub turn_ends : (m t : Moment) (phase : Phase) (tally : Tally) (done : Bool) → m.phase ≡ phase → TurnsTo m phase tally done t → is_idle t.phase ≡ done
+turn_ends m t Idle tally done e odd = absurd odd
+turn_ends m t Marking tally done e (_, goes, (count, waiting, marks)) = ap (λ (x : Moment). is_idle x.phase) marks.leaves.rest ∙ marking_runs m e ∙ sym goes
+turn_ends m t Waiting tally done e (_, goes, (answer, polls)) = polled_runs m t answer e polls ∙ sym goes
+turn_ends m t Evacuating tally done e (k, w, walks, is, _, over) =
+    ap (λ (x : Moment). is_idle x.phase) is ∙ ends_so w.moment (walks_phase m k w walks.walks ∙ e) (is_done w) ∙ sym over
 
 -- ---- one turn
 module _ (r : Turned) (goes : r.over ≡ false) where
@@ -79,12 +93,6 @@ module _ (r : Turned) (goes : r.over ≡ false) where
       let walks = walk_is r.moment turn_size in
       (w.tally, subst (λ phase. TurnsTo r.moment phase w.tally (is_done w) (ended w)) (sym e) (walks.0, w, walks.1, refl, refl, refl), refl)
 
-  turn_runs : (phase : Phase) → r.moment.phase ≡ phase → is_idle r.moment.phase ≡ false → (turned r phase).over ≡ false → is_idle (turned r phase).moment.phase ≡ false
-  turn_runs Idle e runs more = runs
-  turn_runs Marking e runs more = marking_runs r.moment e
-  turn_runs Waiting e runs more = polling_runs r.moment e (first_open r.moment.core)
-  turn_runs Evacuating e runs more = ending_runs (walked r.moment turn_size) (walked_phase r.moment turn_size ∙ e) more
-
 pub turn_is_allowed : TurnIsAllowed
 turn_is_allowed r goes runs = turn_is r goes r.moment.phase refl runs
 
@@ -106,15 +114,15 @@ turn_made m n r h goes lawful =
     let x = turn_is_allowed r goes (h.runs goes) in
     record {
       tallies = x.0 ∷ h.tallies;
-      made = (r.moment, subst (λ over. TurnsMade m h.tallies over r.moment) goes h.made, x.1, lawful);
+      made = (r.moment, tt, subst (λ over. TurnsMade m h.tallies over r.moment) goes h.made, x.1, tt, lawful);
       sum = ap (λ tally. plus tally x.0) h.sum ∙ sym x.2;
       most = omega (arith, h.most);
       every = λ _. one_more (length h.tallies) n (h.every goes);
-      runs = turn_runs r goes r.moment.phase refl (h.runs goes);
+      runs = λ more. turn_ends r.moment t.moment r.moment.phase x.0 t.over refl x.1 ∙ more;
     }
 
-over_still : (m : Moment) (n : ℕ) (r : Turned) → Made m n r → r.over ≡ true → Made m (suc n) r
-over_still m n r h over = record {
+over_still : (m : Moment) (n : ℕ) (r : Turned) → r.over ≡ true → Made m n r → Made m (suc n) r
+over_still m n r over h = record {
   tallies = h.tallies;
   made = h.made;
   sum = h.sum;
@@ -124,12 +132,9 @@ over_still m n r h over = record {
 }
 
 pub turns_are : (m : Moment) → Law m.core → MomentLaw m → is_idle m.phase ≡ false → (n : ℕ) → Made m n (turns_made m n)
-turns_are m law moment runs zero = record { tallies = []; made = (refl, refl); sum = refl; most = omega arith; every = λ _. refl; runs = λ _. runs }
-turns_are m law moment runs (suc n) =
-    let r = turns_made m n in
-    let h = turns_are m law moment runs n in
-    let leads = turns_lead m n law moment runs in
-    cond_both r.over r (turned r r.moment.phase) (Made m (suc n)) (λ over. over_still m n r h over) (λ goes. turn_made m n r h goes (own_law r.moment.core leads.law, leads.moment))
+turns_are m law moment runs =
+    through_turns (Made m) m law moment runs record { tallies = []; made = (refl, refl, refl); sum = refl; most = omega arith; every = λ _. refl; runs = λ _. runs } (over_still m)
+    (λ n r law moment goes h. turn_made m n r h goes (own_law r.moment.core law, moment))
 
 ends : (turns : ℕ) (m : Moment) (r : Turned) (h : Made m turns r) (over : Bool) → r.over ≡ over → EndsRound turns h.tallies over r.moment.phase (round_end r)
 ends turns m r h true e = ap (λ b. cond b (Done (progress_of r.tally true)) (Limit r.moment.phase)) e ∙ ap (λ tally. Done (progress_of tally true)) (sym h.sum)

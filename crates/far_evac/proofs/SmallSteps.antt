@@ -9,13 +9,13 @@ use Rattle.far_core.specs.state.State.{State}
 use Rattle.far_hand.specs.Finds.{Finds}
 use Rattle.far_hand.proofs.Finding.{finds_same, near_known}
 use Rattle.far_book.specs.book.Releasing.{released}
-use Rattle.far_evac.specs.AnyHand.{Knows, KnowsWalked, FindsFirst, WalksTo, found_first}
+use Rattle.far_evac.specs.AnyHand.{Knows, KnowsWalked, FindsBy, FindsFirst, LearnsBy, WalksBy, WalksSo, WalksTo, found_first}
 use Rattle.far_evac.specs.Dealings.{BeginsLive}
 use Rattle.far_evac.specs.Leaving.{order_by}
 use Rattle.far_evac.specs.Live.{live_in, live_among, is_empty}
 use Rattle.far_evac.specs.Moment.{Moment, Tally, objects_in}
 use Rattle.far_evac.specs.Ready.{Ready, IsOfRound, AllMarked}
-use Rattle.far_evac.specs.Walk.{Walked, Way, Drops, Moves, Goes, begun, dealt_as, dealt_first, dealt_so, freed, left, passed, settled, walked, way_of}
+use Rattle.far_evac.specs.Walk.{Walked, Way, Drops, Moves, Goes, begun, dealt_first, dealt_so, freed, left, passed, settled, walked, way_of}
 use Rattle.far_evac.proofs.Dealt.{Gone, Leaves}
 use Rattle.far_evac.proofs.LiveLists.{knows_live, live_released}
 use Rattle.far_evac.proofs.LiveOnce.{each_map}
@@ -53,6 +53,14 @@ pub none_there : (xs : List ℕ) → is_empty xs ≡ true → xs ≡ []
 none_there [] h = refl
 none_there (x ∷ xs) h = absurd (false≢true h)
 
+front_empty : (xs ys : List ℕ) → xs ++ ys ≡ [] → is_empty xs ≡ true
+front_empty [] ys e = refl
+front_empty (x ∷ xs) ys e = absurd cc
+
+pub begun_live : (s : State) (held : List ℕ) → BeginsLive s held → live_among s held ≡ [] → is_empty held ≡ true
+begun_live s [] begins none = refl
+begun_live s (l ∷ ls) begins none = absurd (false≢true (sym begins ∙ front_empty (live_in s l) (live_among s ls) none))
+
 pub drop_next : (f : ℕ) (all : List ℕ) (l : ℕ) (ls : List ℕ) → drop f all ≡ l ∷ ls → (drop (suc f) all ≡ ls) × (suc f ≤ length all) × (take (suc f) all ≡ take f all ++ (l ∷ []))
 drop_next zero [] l ls = λ e. absurd cc
 drop_next (suc f) [] l ls = λ e. absurd cc
@@ -63,16 +71,12 @@ left_released : (s : State) (l : ℕ) (ks : List ℕ) → AllByRecursion (λ k. 
 left_released s l [] apart = refl
 left_released s l (k ∷ ks) apart = ap (λ live. live ++ live_among (released s l) ks) (live_released s l k apart.0) ∙ ap (λ more. live_in s k ++ more) (left_released s l ks apart.1)
 
--- ---- a walk is exact where no word changes but by it: then the word in a cell is the one that is known, and no marks are found
-abbrev pub Finding : Bool → ℕ → ℕ → Type 0
-Finding true known word = word ≡ known
-Finding false known word = Finds known word
-
+-- ---- a walk, which may be exact
 abbrev pub Learns : Bool → (ℕ → Walked → Type 0) → Type 0
 Learns true P = Unit {0}
 Learns false P = (k : ℕ) (w t : Walked) → KnowsWalked w t → P k w → P k t
 
-pub finding : (exact : Bool) (known word : ℕ) → Finding exact known word → Finds known word
+finding : (exact : Bool) (known word : ℕ) → FindsBy exact known word → Finds known word
 finding true known word e = subst (Finds known) (sym e) (finds_same known)
 finding false known word finds = finds
 
@@ -106,35 +110,86 @@ dealt_is w p Drops = refl
 dealt_is w p (Moves place) = refl
 dealt_is w p Goes = refl
 
--- ---- what each small step keeps, wherever it is made
-pub record KeepsAlways (P : ℕ → Walked → Type 0) : Type 0 where
-  pub gives : (k : ℕ) (w : Walked) (l : ℕ) (ls : List ℕ) → P k (holding w (l ∷ ls)) → P k (holding (freed w l) ls)
-  pub deals : (k : ℕ) (w : Walked) (p : ℕ) (way : Way) → P k w → P (suc k) (gone_so w w.moment.collection p way)
+-- ---- what each small step keeps, once k objects were dealt with: a log in front without live objects is given back; and the first live object goes, as a word says that
+-- was found in its cell
+pub record KeepsSteps (exact : Bool) (P : ℕ → Walked → Type 0) : Type 0 where
+  pub learns : Learns exact P
+  pub gives : (k : ℕ) (w : Walked) (l : ℕ) (ls : List ℕ) → is_empty (live_in w.moment.core l) ≡ true → P k (holding w (l ∷ ls)) → P k (holding (freed w l) ls)
+  pub deals : (k : ℕ) (w : Walked) (l : ℕ) (ls : List ℕ) (p : ℕ) (ps : List ℕ) (word : ℕ) → live_in w.moment.core l ≡ p ∷ ps → FindsBy exact (w.moment.core.cell p) word → P k (holding w (l ∷ ls)) →
+      P (suc k) (gone_so w (l ∷ ls) p (way_of w.moment.core (read_of word)))
 
-module _ (P : ℕ → Walked → Type 0) (keeps : KeepsAlways P) where
-  passed_always : (k : ℕ) (ls : List ℕ) (v : Walked) → P k (holding v ls) → P k (passed v ls)
-  passed_always k [] v h = h
-  passed_always k (l ∷ ls) v h = cond_both (is_empty (live_in v.moment.core l)) (passed (freed v l) ls) (holding v (l ∷ ls)) (P k) (λ _. passed_always k ls (freed v l) (keeps.gives k v l ls h)) (λ _. h)
+-- it holds where the walk stands then, and the log in front has a live object
+abbrev pub Rests : (ℕ → Walked → Type 0) → ℕ → Walked → Type 0
+Rests P k w = P k w × BeginsLive w.moment.core w.moment.collection
 
-  dealt_always : (k : ℕ) (w : Walked) (p : ℕ) (way : Way) → P k w → P (suc k) (settled (dealt_so w p way))
-  dealt_always k w p way h = subst (λ v. P (suc k) (settled v)) (sym (dealt_is w p way)) (passed_always (suc k) w.moment.collection (gone_so w w.moment.collection p way) (keeps.deals k w p way h))
+learnt : (exact : Bool) (P : ℕ → Walked → Type 0) → Learns exact P → (k : ℕ) (w t : Walked) → LearnsBy exact w t → Rests P k w → Rests P k t
+learnt true P learns k w t same h = subst (Rests P k) (sym same) h
+learnt false P learns k w t known h = (
+  learns k w t known h.0,
+  subst (BeginsLive t.moment.core) (sym (ap (λ (m : Moment). m.collection) known.moment.rest)) (begins_known w.moment.core t.moment.core known.moment.core w.moment.collection h.1),
+)
 
-  found_always : (k : ℕ) (u : Walked) (word : ℕ) (xs : List ℕ) → FindsFirst u word xs → P k u → P (suc k) (found_first u word xs)
-  found_always k u word [] finds h = absurd finds
-  found_always k u word (p ∷ ps) finds h = dealt_always k u p (way_of u.moment.core (read_of word)) h
+module _ (exact : Bool) (P : ℕ → Walked → Type 0) (keeps : KeepsSteps exact P) where
+  passed_kept : (k : ℕ) (ls : List ℕ) (v : Walked) → P k (holding v ls) → Rests P k (passed v ls)
+  passed_kept k [] v h = (h, tt)
+  passed_kept k (l ∷ ls) v h = cond_both (is_empty (live_in v.moment.core l)) (passed (freed v l) ls) (holding v (l ∷ ls)) (Rests P k)
+      (λ none. passed_kept k ls (freed v l) (keeps.gives k v l ls none h)) (λ some. (h, some))
 
-  pub walks_always : Learns false P → (m : Moment) → P 0 (begun m) → (k : ℕ) (t : Walked) → WalksTo m k t → P k t
-  walks_always learns m h zero t walks = learns 0 (settled (begun m)) t walks (passed_always 0 m.collection (begun m) h)
-  walks_always learns m h (suc k) t (u, word, walks, deals) =
-      learns (suc k) (found_first u word (left u)) t deals.leaves (found_always k u word (left u) deals.finds (walks_always learns m h k u walks))
+  found_kept : (k : ℕ) (w : Walked) (held xs live : List ℕ) (word : ℕ) → live_among w.moment.core held ≡ xs → first_live w.moment.core held ≡ live → FindsFirst exact (holding w held) word xs → Rests P k (holding w held) →
+      Rests P (suc k) (found_first (holding w held) word xs)
+  found_kept k w held [] live word is front finds h = absurd finds
+  found_kept k w [] (p ∷ rest) live word is front finds h = absurd cc
+  found_kept k w (l ∷ ls) (p ∷ rest) [] word is front finds h = absurd (true≢false (sym (ap is_empty front) ∙ h.1))
+  found_kept k w (l ∷ ls) (p ∷ rest) (q ∷ qs) word is front finds h =
+      let s : State = w.moment.core in
+      let both : q ∷ (qs ++ live_among s ls) ≡ p ∷ rest = sym (ap (λ live. live ++ live_among s ls) front) ∙ is in
+      let same : q ≡ p = cc in
+      let here : live_in s l ≡ p ∷ qs = front ∙ ap (λ x. x ∷ qs) same in
+      let way = way_of s (read_of word) in
+      subst (λ v. Rests P (suc k) (settled v)) (sym (dealt_is (holding w (l ∷ ls)) p way)) (passed_kept (suc k) (l ∷ ls) (gone_so w (l ∷ ls) p way) (keeps.deals k w l ls p qs word here finds h.0))
 
-  walked_next : (k : ℕ) (w : Walked) (xs : List ℕ) → P k w → (j : ℕ) × P j (dealt_first w xs)
-  walked_next k w [] h = (k, h)
-  walked_next k w (p ∷ ps) h = (suc k, dealt_always k w p (way_of w.moment.core (read_of (w.moment.core.cell p))) h)
+  -- whatever each object asked of a device
+  pub steps_kept : (D : Type 0) (Asks : Walked → ℕ → D → D → Type 0) (m : Moment) → P 0 (begun m) → (k : ℕ) (t : Walked) (old new : D) → WalksBy exact D Asks m k t old new → Rests P k t
+  steps_kept D Asks m h zero t old new walks = learnt exact P keeps.learns 0 (settled (begun m)) t walks.0 (passed_kept 0 m.collection (begun m) h)
+  steps_kept D Asks m h (suc k) t old new (u, word, between, walks, deals, _) =
+      learnt exact P keeps.learns (suc k) (found_first u word (left u)) t deals.leaves
+      (found_kept k u u.moment.collection (left u) (first_live u.moment.core u.moment.collection) word refl refl deals.finds (steps_kept D Asks m h k u old between walks))
 
-  pub walked_always : (m : Moment) → P 0 (begun m) → (n : ℕ) → (k : ℕ) × P k (walked m n)
-  walked_always m h zero = (0, passed_always 0 m.collection (begun m) h)
-  walked_always m h (suc n) = let (k, then) = walked_always m h n in walked_next k (walked m n) (left (walked m n)) then
+  pub walks_kept : (m : Moment) → P 0 (begun m) → (k : ℕ) (t : Walked) → WalksSo exact m k t → Rests P k t
+  walks_kept m h k t walks = steps_kept (Unit {0}) (λ u word old new. Unit {0}) m h k t tt tt walks
+
+nothing_more : (p : ℕ) (ps : List ℕ) → p ∷ ps ≢ []
+nothing_more p ps e = absurd cc
+
+-- ---- where no word changes but by the walk: k objects were dealt with, n or all, and the word in each cell was the one that is known there
+abbrev pub IsExact : Moment → ℕ → ℕ → Type 0
+IsExact m n k = (k ≤ n) × (left (walked m n) ≢ [] → k ≡ n) × WalksSo true m k (walked m n)
+
+next_exact : (m : Moment) (n k : ℕ) → IsExact m n k → (ps : List ℕ) → left (walked m n) ≡ ps → (j : ℕ) × IsExact m (suc n) j
+next_exact m n k h [] e =
+    let same : walked m (suc n) ≡ walked m n = ap (dealt_first (walked m n)) e in
+    (k, (omega (arith, h.0), λ more. absurd (more (ap left same ∙ e)), subst (WalksSo true m k) (sym same) h.2))
+next_exact m n k h (p ∷ ps) e =
+    let w = walked m n in
+    let word = w.moment.core.cell p in
+    let same : dealt_first w (p ∷ ps) ≡ found_first w word (left w) = sym (ap (found_first w word) e) in (
+      suc k,
+      (
+        omega (arith, h.0),
+        λ _. omega (arith, h.1 (λ none. nothing_more p ps (sym e ∙ none))),
+        (w, word, tt, h.2, record { finds = subst (FindsFirst true w word) (sym e) refl; leaves = ap (dealt_first w) e ∙ same }, tt),
+      ),
+    )
+
+pub walk_exact : (m : Moment) (n : ℕ) → (k : ℕ) × IsExact m n k
+walk_exact m zero = (0, (omega arith, λ _. refl, (refl, refl)))
+walk_exact m (suc n) = let (k, h) = walk_exact m n in next_exact m n k h (left (walked m n)) refl
+
+pub walked_kept : (P : ℕ → Walked → Type 0) → KeepsSteps true P → (m : Moment) → P 0 (begun m) → (n : ℕ) → (k : ℕ) × Rests P k (walked m n)
+walked_kept P keeps m h n = let (k, walk) = walk_exact m n in (k, walks_kept true P keeps m h k (walked m n) walk.2)
+
+pub walked_front : (m : Moment) (n : ℕ) → BeginsLive (walked m n).moment.core (walked m n).moment.collection
+walked_front m n = (walked_kept (λ k w. Unit {0}) record { learns = tt; gives = λ k w l ls none h. tt; deals = λ k w l ls p ps word here finds h. tt } m tt n).1.1
 
 -- ---- the small steps of a walk that began at m, once k objects were dealt with
 -- the first object that is left goes a way, as a word says that was found in its cell
@@ -143,7 +198,7 @@ pub record GoesFirst (exact : Bool) (m : Moment) (k : ℕ) (s : State) (l : ℕ)
   pub live : live_in s l ≡ p ∷ ps
   pub more : take (suc k) (live_among m.core m.collection) ≡ take k (live_among m.core m.collection) ++ (p ∷ [])
   pub word : ℕ
-  pub finds : Finding exact (s.cell p) word
+  pub finds : FindsBy exact (s.cell p) word
   pub is : way_of s (read_of word) ≡ way
 
 module _ {exact : Bool} {m : Moment} {k : ℕ} {s : State} {l : ℕ} {ls : List ℕ} {p : ℕ} {ps : List ℕ} {way : Way} (first : GoesFirst exact m k s l ls p ps way) where
@@ -167,88 +222,62 @@ pub record Keeps (exact : Bool) (m : Moment) (P : ℕ → Walked → Type 0) : T
   pub gives : (k : ℕ) (w : Walked) (l : ℕ) (ls : List ℕ) → Ready w.moment.core (l ∷ ls) → is_empty (live_in w.moment.core l) ≡ true → P k (holding w (l ∷ ls)) → P k (holding (freed w l) ls)
   pub deals : (k : ℕ) (w : Walked) (l : ℕ) (ls : List ℕ) (p : ℕ) (ps : List ℕ) (way : Way) → GoesFirst exact m k w.moment.core l ls p ps way → P k (holding w (l ∷ ls)) → P (suc k) (gone_so w (l ∷ ls) p way)
 
--- where the walk stands then: all but the first k objects are left, and there were as many; the log in front has one
+-- where the walk stands then: all but the first k objects are left, and there were as many
 pub record Stands (m : Moment) (P : ℕ → Walked → Type 0) (k : ℕ) (w : Walked) : Type 0 where
   pub ready : Ready w.moment.core w.moment.collection
-  pub begins : BeginsLive w.moment.core w.moment.collection
   pub left : left w ≡ drop k (live_among m.core m.collection)
   pub enough : k ≤ length (live_among m.core m.collection)
   pub keeps : P k w
 
+stands_known : (exact : Bool) (m : Moment) (P : ℕ → Walked → Type 0) → Learns exact P → Learns exact (Stands m P)
+stands_known true m P learns = tt
+stands_known false m P learns = λ k w t known h.
+    let same : t.moment.collection ≡ w.moment.collection = ap (λ (m : Moment). m.collection) known.moment.rest in record {
+      ready = subst (Ready t.moment.core) (sym same) (ready_known w.moment.core t.moment.core known.moment.core w.moment.collection h.ready);
+      left = ap (live_among t.moment.core) same ∙ left_known w.moment.core t.moment.core known.moment.core w.moment.collection ∙ h.left;
+      enough = h.enough;
+      keeps = learns k w t known h.keeps;
+    }
+
 module _ (exact : Bool) (m : Moment) (P : ℕ → Walked → Type 0) (keeps : Keeps exact m P) where
-  passed_stands : (k : ℕ) (ls : List ℕ) (v : Walked) → Ready v.moment.core ls → live_among v.moment.core ls ≡ drop k (live_among m.core m.collection) → k ≤ length (live_among m.core m.collection) → P k (holding v ls) →
-      Stands m P k (passed v ls)
-  passed_stands k [] v ready is enough h = record { ready = ready; begins = tt; left = is; enough = enough; keeps = h }
-  passed_stands k (l ∷ ls) v ready is enough h = cond_both (is_empty (live_in v.moment.core l)) (passed (freed v l) ls) (holding v (l ∷ ls)) (Stands m P k)
-      (λ none.
-      let rest = left_released v.moment.core l ls (others l ls ready.once) ∙ sym (ap (λ live. live ++ live_among v.moment.core ls) (none_there (live_in v.moment.core l) none)) in
-      passed_stands k ls (freed v l) (ready_released v.moment.core l ls ready) (rest ∙ is) enough (keeps.gives k v l ls ready none h))
-      (λ some. record { ready = ready; begins = some; left = is; enough = enough; keeps = h })
+  keeps_standing : KeepsSteps exact (Stands m P)
+  keeps_standing = record {
+    learns = stands_known exact m P keeps.learns;
+    gives = λ k w l ls none h.
+        let s : State = w.moment.core in
+        let rest = left_released s l ls (others l ls h.ready.once) ∙ sym (ap (λ live. live ++ live_among s ls) (none_there (live_in s l) none)) in
+        record { ready = ready_released s l ls h.ready; left = rest ∙ h.left; enough = h.enough; keeps = keeps.gives k w l ls h.ready none h.keeps };
+    deals = λ k w l ls p ps word here finds h.
+        let s : State = w.moment.core in
+        let way = way_of s (read_of word) in
+        let next = drop_next k (live_among m.core m.collection) p (ps ++ live_among s ls) (sym h.left ∙ ap (λ live. live ++ live_among s ls) here) in
+        let first : GoesFirst exact m k s l ls p ps way = record { ready = h.ready; live = here; more = next.2; word = word; finds = finds; is = refl } in
+        let leaves = first_leaves first in
+        record { ready = leaves.ready; left = left_next s l ls p ps h.ready here (core_so s p way) leaves ∙ sym next.0; enough = next.1; keeps = keeps.deals k w l ls p ps way first h.keeps };
+  }
 
-  begun_stands : Ready m.core m.collection → P 0 (begun m) → Stands m P 0 (settled (begun m))
-  begun_stands ready h = passed_stands 0 m.collection (begun m) ready refl (omega arith) h
-
-  next_stands : (k : ℕ) (w : Walked) (held live : List ℕ) (p : ℕ) (rest : List ℕ) (word : ℕ) → Stands m P k (holding w held) → live_among w.moment.core held ≡ p ∷ rest → first_live w.moment.core held ≡ live →
-      Finding exact (w.moment.core.cell p) word → Stands m P (suc k) (settled (dealt_as (holding w held) p (read_of word)))
-  next_stands k w [] live p rest word h is front finds = absurd cc
-  next_stands k w (l ∷ ls) [] p rest word h is front finds = absurd (true≢false (sym (ap is_empty front) ∙ h.begins))
-  next_stands k w (l ∷ ls) (q ∷ qs) p rest word h is front finds =
-      let s : State = w.moment.core in
-      let both : q ∷ (qs ++ live_among s ls) ≡ p ∷ rest = sym (ap (λ live. live ++ live_among s ls) front) ∙ is in
-      let same : q ≡ p = cc in
-      let more : qs ++ live_among s ls ≡ rest = cc in
-      let here : live_in s l ≡ p ∷ qs = front ∙ ap (λ x. x ∷ qs) same in
-      let way = way_of s (read_of word) in
-      let next = drop_next k (live_among m.core m.collection) p rest (sym h.left ∙ is) in
-      let first : GoesFirst exact m k s l ls p qs way = record { ready = h.ready; live = here; more = next.2; word = word; finds = finds; is = refl } in
-      let leaves = first_leaves first in
-      subst (λ v. Stands m P (suc k) (settled v)) (sym (dealt_is (holding w (l ∷ ls)) p way))
-      (passed_stands (suc k) (l ∷ ls) (gone_so w (l ∷ ls) p way) leaves.ready (left_next s l ls p qs h.ready here (core_so s p way) leaves ∙ more ∙ sym next.0) next.1
-      (keeps.deals k w l ls p qs way first h.keeps))
+  pub lifted : Ready m.core m.collection → P 0 (begun m) → (k : ℕ) (t : Walked) → WalksSo exact m k t → Rests (Stands m P) k t
+  lifted ready h k t walks = walks_kept exact (Stands m P) keeps_standing m record { ready = ready; left = refl; enough = omega arith; keeps = h } k t walks
 
 -- ---- over any hand
-module _ (m : Moment) (P : ℕ → Walked → Type 0) (keeps : Keeps false m P) where
-  stands_known : (k : ℕ) (w t : Walked) → KnowsWalked w t → Stands m P k w → Stands m P k t
-  stands_known k w t known h =
-      let same : t.moment.collection ≡ w.moment.collection = ap (λ (m : Moment). m.collection) known.moment.rest in record {
-        ready = subst (Ready t.moment.core) (sym same) (ready_known w.moment.core t.moment.core known.moment.core w.moment.collection h.ready);
-        begins = subst (BeginsLive t.moment.core) (sym same) (begins_known w.moment.core t.moment.core known.moment.core w.moment.collection h.begins);
-        left = ap (live_among t.moment.core) same ∙ left_known w.moment.core t.moment.core known.moment.core w.moment.collection ∙ h.left;
-        enough = h.enough;
-        keeps = keeps.learns k w t known h.keeps;
-      }
+pub lifted_walks : (m : Moment) (P : ℕ → Walked → Type 0) → Keeps false m P → Ready m.core m.collection → P 0 (begun m) → (k : ℕ) (t : Walked) → WalksTo m k t → Stands m P k t
+lifted_walks m P keeps ready h k t walks = (lifted false m P keeps ready h k t walks).0
 
-  found_stands : (k : ℕ) (u : Walked) (word : ℕ) (xs : List ℕ) → Stands m P k u → left u ≡ xs → FindsFirst u word xs → Stands m P (suc k) (found_first u word xs)
-  found_stands k u word [] h is finds = absurd finds
-  found_stands k u word (p ∷ rest) h is finds = next_stands false m P keeps k u u.moment.collection (first_live u.moment.core u.moment.collection) p rest word h is refl finds
+-- ---- where no word changes but by the walk: after n calls for one more, where there were as many, so many were dealt with
+module _ (m : Moment) (P : ℕ → Walked → Type 0) (keeps : Keeps true m P) (ready : Ready m.core m.collection) (start : P 0 (begun m)) where
+  all_dealt : (n k : ℕ) → IsExact m n k → Stands m P k (walked m n) → n ≤ length (live_among m.core m.collection) → (xs : List ℕ) → left (walked m n) ≡ xs → k ≡ n
+  all_dealt n k walk h few [] none =
+      let over = ap length (sym h.left ∙ none) in omega (arith, few, walk.0, over, length-drop k (live_among m.core m.collection))
+  all_dealt n k walk h few (p ∷ ps) more = walk.1 (λ none. nothing_more p ps (sym more ∙ none))
 
-  pub lifted_walks : Ready m.core m.collection → P 0 (begun m) → (k : ℕ) (t : Walked) → WalksTo m k t → Stands m P k t
-  lifted_walks ready h zero t walks = stands_known 0 (settled (begun m)) t walks (begun_stands false m P keeps ready h)
-  lifted_walks ready h (suc k) t (u, word, walks, deals) =
-      stands_known (suc k) (found_first u word (left u)) t deals.leaves (found_stands k u word (left u) (lifted_walks ready h k u walks) refl deals.finds)
-
--- ---- where no word changes but by the walk
-module _ (m : Moment) (P : ℕ → Walked → Type 0) (keeps : Keeps true m P) where
-  -- after n calls for one more, where there were as many, so many were dealt with
-  abbrev WalkStands : ℕ → Walked → Type 0
-  WalkStands n w = (k : ℕ) × (n ≤ length (live_among m.core m.collection) → k ≡ n) × Stands m P k w
-
-  first_stands : (n : ℕ) (w : Walked) (xs : List ℕ) → WalkStands n w → left w ≡ xs → WalkStands (suc n) (dealt_first w xs)
-  first_stands n w [] (k, all, h) is =
-      let none = ap length (sym h.left ∙ is) in (k, λ few. (let same = all (omega (arith, few)) in absurd (omega (arith, few, same, none, length-drop k (live_among m.core m.collection)))), h)
-  first_stands n w (p ∷ rest) (k, all, h) is = (
-    suc k,
-    λ few. (let same = all (omega (arith, few)) in omega (arith, same)),
-    next_stands true m P keeps k w w.moment.collection (first_live w.moment.core w.moment.collection) p rest (w.moment.core.cell p) h is refl refl,
-  )
-
-  pub lifted_walked : Ready m.core m.collection → P 0 (begun m) → (n : ℕ) → WalkStands n (walked m n)
-  lifted_walked ready h zero = (0, λ few. refl, begun_stands true m P keeps ready h)
-  lifted_walked ready h (suc n) = first_stands n (walked m n) (left (walked m n)) (lifted_walked ready h n) refl
+  pub lifted_walked : (n : ℕ) → (k : ℕ) × (n ≤ length (live_among m.core m.collection) → k ≡ n) × Stands m P k (walked m n)
+  lifted_walked n =
+      let (k, walk) = walk_exact m n in
+      let (h, _) = lifted true m P keeps ready start k (walked m n) walk.2 in (k, λ few. all_dealt n k walk h few (left (walked m n)) refl, h)
 
 -- ---- the places alone
-pub walks_left : (m : Moment) (k : ℕ) (t : Walked) → Ready m.core m.collection → WalksTo m k t → Stands m (λ k w. Unit {0}) k t
-walks_left m k t ready walks = lifted_walks m (λ k w. Unit {0}) record { learns = λ k w t known h. tt; gives = λ k w l ls ready none h. tt; deals = λ k w l ls p ps way first h. tt } ready tt k t walks
+pub walks_left : (m : Moment) (k : ℕ) (t : Walked) → Ready m.core m.collection → WalksTo m k t → Rests (Stands m (λ k w. Unit {0})) k t
+walks_left m k t ready walks = lifted false m (λ k w. Unit {0}) record { learns = λ k w t known h. tt; gives = λ k w l ls ready none h. tt; deals = λ k w l ls p ps way first h. tt } ready tt k t walks
 
 -- as many objects are counted as were dealt with
 one_counted : (tally : Tally) (way : Way) → more_moved way tally.moved + more_far way tally.far + more_dropped way tally.dropped ≡ objects_in tally + 1
@@ -257,7 +286,8 @@ one_counted tally (Moves place) = omega arith
 one_counted tally Goes = omega arith
 
 pub tallies_all : (m : Moment) (k : ℕ) (t : Walked) → WalksTo m k t → objects_in t.tally ≡ k
-tallies_all m k t walks = walks_always (λ k w. objects_in w.tally ≡ k) record {
-  gives = λ k w l ls h. h;
-  deals = λ k w p way h. let more : k + 1 ≡ suc k = omega arith in one_counted w.tally way ∙ ap (λ n. n + 1) h ∙ more;
-} (λ k w t known h. ap objects_in known.tally ∙ h) m refl k t walks
+tallies_all m k t walks = (walks_kept false (λ k w. objects_in w.tally ≡ k) record {
+  learns = λ k w t known h. ap objects_in known.tally ∙ h;
+  gives = λ k w l ls none h. h;
+  deals = λ k w l ls p ps word here finds h. let more : k + 1 ≡ suc k = omega arith in one_counted w.tally (way_of w.moment.core (read_of word)) ∙ ap (λ n. n + 1) h ∙ more;
+} m refl k t walks).0

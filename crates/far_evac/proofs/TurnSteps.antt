@@ -1,5 +1,5 @@
 -- What each small step of a round keeps, turns and rounds keep: over any hand, and where no word changes but by them.
-use Rattle.std.proofs.Common.{◌≡◌, ℕ, zero, suc, Bool, true, false, eqb, Option, Some, None, List, [], ◌∷◌, ap, sym, refl, ◌∙◌, subst}
+use Rattle.std.proofs.Common.{◌≡◌, ℕ, Bool, true, false, eqb, Option, Some, None, List, [], ◌∷◌, ap, sym, refl, ◌∙◌, subst}
 use Rattle.std.specs.List.{IsDistinct}
 use Rattle.std.proofs.lemmas.Bool.{cond_both}
 use Rattle.far_core.specs.state.Law.{Law}
@@ -20,7 +20,7 @@ use Rattle.far_evac.specs.Waiting.{first_open, polled_to}
 use Rattle.far_evac.specs.Walk.{Walked, ended, is_done, walked}
 use Rattle.far_evac.proofs.Joined.{plus_nothing}
 use Rattle.far_evac.proofs.Leading.{selecting}
-use Rattle.far_evac.proofs.LeadingTurns.{turns_lead}
+use Rattle.far_evac.proofs.LeadingTurns.{through_turns}
 
 -- ---- a hand is exact where no word changes but by the round
 abbrev pub IsLawfulSo : Bool → Moment → Type 0
@@ -31,20 +31,20 @@ abbrev pub LearnsSo : Bool → (Moment → Tally → Type 0) → Type 0
 LearnsSo true P = Unit {0}
 LearnsSo false P = (m t : Moment) (tally : Tally) → KnowsMoment m t → P m tally → P t tally
 
-abbrev pub WalksSo : Bool → (Moment → Tally → Type 0) → Type 0
-WalksSo true P = (m : Moment) (n : ℕ) (tally : Tally) → Law m.core → MomentLaw m → m.phase ≡ Evacuating → P m tally → P (walked m n).moment (plus tally (walked m n).tally)
-WalksSo false P = (m : Moment) (k : ℕ) (w : Walked) (tally : Tally) → IsLawful m → m.phase ≡ Evacuating → WalksTo m k w → P m tally → P w.moment (plus tally w.tally)
+abbrev pub KeepsWalks : Bool → (Moment → Tally → Type 0) → Type 0
+KeepsWalks true P = (m : Moment) (n : ℕ) (tally : Tally) → Law m.core → MomentLaw m → m.phase ≡ Evacuating → P m tally → P (walked m n).moment (plus tally (walked m n).tally)
+KeepsWalks false P = (m : Moment) (k : ℕ) (w : Walked) (tally : Tally) → IsLawful m → m.phase ≡ Evacuating → WalksTo m k w → P m tally → P w.moment (plus tally w.tally)
 
 -- each small step keeps what holds of a moment, and of what was counted so far
 pub record KeepsTurns (exact : Bool) (P : Moment → Tally → Type 0) : Type 0 where
   pub learns : LearnsSo exact P
   pub marks : (m : Moment) (n : ℕ) (tally : Tally) → IsLawfulSo exact m → m.phase ≡ Marking → P m tally → P (after_marking m n) tally
   pub looks : (m : Moment) (k : ℕ) (phase : Phase) (tally : Tally) → IsLawfulSo exact m → m.phase ≡ Waiting → P m tally → P (record m { core = with_clear_below m.core k; phase = phase }) tally
-  pub walks : WalksSo exact P
+  pub walks : KeepsWalks exact P
   pub ends : (m : Moment) (tally : Tally) → P m tally → P (record m { phase = Idle }) tally
 
 module _ (exact : Bool) (P : Moment → Tally → Type 0) (keeps : KeepsTurns exact P) where
-  ended_kept : (w : Walked) (tally : Tally) → P w.moment tally → P (ended w) tally
+  pub ended_kept : (w : Walked) (tally : Tally) → P w.moment tally → P (ended w) tally
   ended_kept w tally h = cond_both (is_done w) (record w.moment { phase = Idle }) w.moment (λ (t : Moment). P t tally) (λ _. keeps.ends w.moment tally h) (λ _. h)
 
 -- ---- over any hand
@@ -80,7 +80,7 @@ module _ (P : Moment → Tally → Type 0) (keeps : KeepsTurns false P) where
 
   pub turns_kept : (m : Moment) → P m nothing → (tallies : List Tally) (over : Bool) (t : Moment) → TurnsMade m tallies over t → P t (sum_of tallies)
   turns_kept m h [] over t made = subst (λ (x : Moment). P x nothing) (sym made.0) h
-  turns_kept m h (more ∷ tallies) over t (u, made, turn, lawful) = turn_kept u t lawful (sum_of tallies) (turns_kept m h tallies false u made) more over turn
+  turns_kept m h (more ∷ tallies) over t (u, _, made, turn, _, lawful) = turn_kept u t lawful (sum_of tallies) (turns_kept m h tallies false u made) more over turn
 
   -- a whole round from its begin on, also one that stopped at an object
   pub round_kept : (m t : Moment) (logs : List ℕ) (turns : ℕ) (end : RoundEnd) → P (after_selecting m logs) nothing → RunsRound m logs turns end t → (tally : Tally) × P t tally
@@ -105,12 +105,7 @@ module _ (P : Moment → Tally → Type 0) (keeps : KeepsTurns true P) where
       let w = walked r.moment turn_size in ended_kept true P keeps w (plus r.tally w.tally) (keeps.walks r.moment turn_size r.tally law moment is h)
 
   pub turns_kept_exactly : (m : Moment) (n : ℕ) → Law m.core → MomentLaw m → is_idle m.phase ≡ false → P m nothing → P (turns_made m n).moment (turns_made m n).tally
-  turns_kept_exactly m zero law moment runs h = h
-  turns_kept_exactly m (suc n) law moment runs h =
-      let r = turns_made m n in
-      let leads = turns_lead m n law moment runs in
-      let before = turns_kept_exactly m n law moment runs h in
-      cond_both r.over r (turned r r.moment.phase) (λ (x : Turned). P x.moment x.tally) (λ _. before) (λ _. turned_kept r leads.law leads.moment before r.moment.phase refl)
+  turns_kept_exactly m n law moment runs h = through_turns (λ k r. P r.moment r.tally) m law moment runs h (λ k r over h. h) (λ k r law moment goes h. turned_kept r law moment h r.moment.phase refl) n
 
 -- what turns keep, a whole round keeps from its begin on
 pub round_kept_exactly : (P : Moment → Type 0) → ((m : Moment) (n : ℕ) → Law m.core → MomentLaw m → is_idle m.phase ≡ false → P m → P (turns_made m n).moment) →

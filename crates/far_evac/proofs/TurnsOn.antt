@@ -57,7 +57,7 @@ pub record Made (D : Type 0) (writes : D → ℕ → List ℕ → Result (Unit {
 
 module _ (D : Type 0) (writes : D → ℕ → List ℕ → Result (Unit {0}) DeviceFault → D → Type 0) (lets_go : D → ℕ → D → Type 0) (contents : D → ℕ → Option (List ℕ)) (m : Moment) where
   pub none_made : (device : D) → Made D writes lets_go contents m m 0 nothing device device
-  none_made device = record { tallies = []; made = (refl, refl); asked = (refl, refl, refl); many = refl; sum = refl; left = refl; keys = λ p none. refl }
+  none_made device = record { tallies = []; made = (refl, refl, refl); asked = (refl, refl, refl); many = refl; sum = refl; left = refl; keys = λ p none. refl }
 
   module _ (u : Moment) (n : ℕ) (before : Tally) (old between : D) (h : Made D writes lets_go contents m u n before old between) where
     -- no turn more
@@ -82,7 +82,7 @@ module _ (D : Type 0) (writes : D → ℕ → List ℕ → Result (Unit {0}) Dev
       pub made_more : TurnsTo u u.phase tally false t → Made D writes lets_go contents m t (n + 1) total old new
       made_more turns = record {
         tallies = tally ∷ h.tallies;
-        made = (u, h.made, turns, lawful);
+        made = (u, tt, h.made, turns, tt, lawful);
         asked = (u, between, h.asked, turns, asks, lawful);
         many = omega (arith, h.many);
         sum = ap (λ a. plus a tally) h.sum ∙ sym is;
@@ -97,7 +97,7 @@ module _ (D : Type 0) (writes : D → ℕ → List ℕ → Result (Unit {0}) Dev
           let tells = ap (λ a. Done (progress_of a true)) sums in (
             tally ∷ h.tallies,
             true,
-            (u, h.made, last, lawful),
+            (u, tt, h.made, last, tt, lawful),
             (u, between, h.asked, last, asks, lawful),
             omega (arith, h.many, within),
             tells,

@@ -75,19 +75,36 @@ abbrev pub found_first : Walked → ℕ → List ℕ → Walked
 found_first w word [] = w
 found_first w word (p ∷ ps) = settled (dealt_as w p (read_of word))
 
+-- a walk is exact where no word changes but by it: then the word in a cell is the one that is known, and no marks are found
+abbrev pub FindsBy : Bool → ℕ → ℕ → Type 0
+FindsBy true known word = word ≡ known
+FindsBy false known word = Finds known word
+
+abbrev pub LearnsBy : Bool → Walked → Walked → Type 0
+LearnsBy true w t = t ≡ w
+LearnsBy false w t = KnowsWalked w t
+
 -- there is an object, and the word may be found in its cell
-abbrev pub FindsFirst : Walked → ℕ → List ℕ → Type 0
-FindsFirst w word [] = ⊥
-FindsFirst w word (p ∷ ps) = Finds (w.moment.core.cell p) word
+abbrev pub FindsFirst : Bool → Walked → ℕ → List ℕ → Type 0
+FindsFirst exact w word [] = ⊥
+FindsFirst exact w word (p ∷ ps) = FindsBy exact (w.moment.core.cell p) word
 
-pub record DealsFirst (w : Walked) (word : ℕ) (t : Walked) : Type 0 where
-  pub finds : FindsFirst w word (left w)
-  pub leaves : KnowsWalked (found_first w word (left w)) t
+pub record DealsFirst (exact : Bool) (w : Walked) (word : ℕ) (t : Walked) : Type 0 where
+  pub finds : FindsFirst exact w word (left w)
+  pub leaves : LearnsBy exact (found_first w word (left w)) t
 
--- so many objects are dealt with
+-- so many objects are dealt with; and what each of them asked of a device
+module _ (exact : Bool) (D : Type 0) (Asks : Walked → ℕ → D → D → Type 0) where
+  abbrev pub WalksBy : Moment → ℕ → Walked → D → D → Type 0
+  WalksBy m zero t old new = LearnsBy exact (settled (begun m)) t × (new ≡ old)
+  WalksBy m (suc k) t old new = (u : Walked) × (word : ℕ) × (between : D) × WalksBy m k u old between × DealsFirst exact u word t × Asks u word between new
+
+-- the same, of no device
+abbrev pub WalksSo : Bool → Moment → ℕ → Walked → Type 0
+WalksSo exact m k t = WalksBy exact (Unit {0}) (λ u word old new. Unit {0}) m k t tt tt
+
 abbrev pub WalksTo : Moment → ℕ → Walked → Type 0
-WalksTo m zero t = KnowsWalked (settled (begun m)) t
-WalksTo m (suc k) t = (u : Walked) × (word : ℕ) × WalksTo m k u × DealsFirst u word t
+WalksTo m k t = WalksSo false m k t
 
 -- k objects are dealt with: n, or all
 pub record Walks (m : Moment) (n k : ℕ) (t : Walked) : Type 0 where
@@ -103,16 +120,22 @@ Evacuates m n t tally done = (k : ℕ) × (w : Walked) × Walks m n k w × (t �
 abbrev pub StopsAt : Moment → ℕ → Moment → Tally → Type 0
 StopsAt m n t tally = (k : ℕ) × (w : Walked) × WalksTo m k w × (k < n) × (is_done w ≡ false) × KnowsMoment w.moment t × (tally ≡ w.tally)
 
--- ---- rounds: a turn by its phase; and turns one after the other, the last one first in the list, each from a moment that is lawful
+-- ---- rounds: a turn by its phase
 abbrev pub TurnsTo : Moment → Phase → Tally → Bool → Moment → Type 0
 TurnsTo m Idle tally done t = ⊥
 TurnsTo m Marking tally done t = (tally ≡ nothing) × (done ≡ false) × ((count : ℕ) × (waiting : Option ℕ) × MarksSome m t turn_size count waiting)
 TurnsTo m Waiting tally done t = (tally ≡ nothing) × (done ≡ false) × ((answer : Polled) × Polls m t answer)
 TurnsTo m Evacuating tally done t = Evacuates m turn_size t tally done
 
+-- turns one after the other, the last one first in the list, each from a moment that is lawful; and what each asked of a device
+module _ (D : Type 0) (Asks : Moment → Moment → Tally → D → D → Type 0) where
+  abbrev pub TurnsBy : Moment → List Tally → Bool → Moment → D → D → Type 0
+  TurnsBy m [] done t old new = (t ≡ m) × (done ≡ false) × (new ≡ old)
+  TurnsBy m (tally ∷ tallies) done t old new = (u : Moment) × (between : D) × TurnsBy m tallies false u old between × TurnsTo u u.phase tally done t × Asks u t tally between new × IsLawful u
+
+-- the same, of no device
 abbrev pub TurnsMade : Moment → List Tally → Bool → Moment → Type 0
-TurnsMade m [] done t = (t ≡ m) × (done ≡ false)
-TurnsMade m (tally ∷ tallies) done t = (u : Moment) × TurnsMade m tallies false u × TurnsTo u u.phase tally done t × IsLawful u
+TurnsMade m tallies done t = TurnsBy (Unit {0}) (λ u v tally old new. Unit {0}) m tallies done t tt tt
 
 abbrev pub sum_of : List Tally → Tally
 sum_of [] = nothing

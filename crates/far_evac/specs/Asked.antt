@@ -1,5 +1,5 @@
 -- What a walk asked of the device, object after object; and under which keys the device has what it had.
-use Rattle.std.specs.Prelude.{◌≡◌, ◌+◌, ℕ, zero, suc, Bool, true, false, List, [], ◌∷◌, take, Option, Result, Ok, Err}
+use Rattle.std.specs.Prelude.{◌≡◌, ◌+◌, ℕ, Bool, true, false, List, [], ◌∷◌, take, Option, Result, Ok, Err}
 use Rattle.far_word.specs.declared.refused.Refused.{Refused}
 use Rattle.far_word.specs.Pointer.{read_of}
 use Rattle.far_device.specs.declared.fault.DeviceFault.{DeviceFault}
@@ -10,10 +10,10 @@ use Rattle.far_evac.specs.declared.answers.EvacFault.{EvacFault}
 use Rattle.far_evac.specs.declared.answers.Progress.{Progress}
 use Rattle.far_evac.specs.declared.phase.Phase.{Phase}
 use Rattle.far_evac.specs.declared.phase.Phase.TheVariants.{Idle, Marking, Waiting, Evacuating}
-use Rattle.far_evac.specs.AnyHand.{DealsFirst, KnowsMoment, KnowsWalked}
+use Rattle.far_evac.specs.AnyHand.{KnowsMoment, WalksBy}
 use Rattle.far_evac.specs.Live.{live_among}
 use Rattle.far_evac.specs.Moment.{Moment, Tally, objects_in, tally_of}
-use Rattle.far_evac.specs.Walk.{Drops, Goes, Moves, Walked, Way, begun, ended, left, settled, way_of}
+use Rattle.far_evac.specs.Walk.{Drops, Goes, Moves, Walked, Way, ended, left, way_of}
 
 -- the first live objects of the collection set, so many
 abbrev pub first_live : Moment → ℕ → List ℕ
@@ -48,8 +48,7 @@ module _ (D : Type 0) (writes : D → ℕ → List ℕ → Result (Unit {0}) Dev
 
   -- so many objects are dealt with, each as a word says that was found in its cell, and this is asked on the way
   abbrev pub WalksAsking : Moment → ℕ → Walked → D → D → Type 0
-  WalksAsking m zero t old new = KnowsWalked (settled (begun m)) t × (new ≡ old)
-  WalksAsking m (suc k) t old new = (u : Walked) × (word : ℕ) × (between : D) × WalksAsking m k u old between × DealsFirst u word t × AsksFirst u word (left u) between new
+  WalksAsking m k t old new = WalksBy false D (λ u word before after. AsksFirst u word (left u) before after) m k t old new
 
   -- a walk dealt with as many objects as it has counted, each in the way in which it is counted, and ended at t
   abbrev pub AsksOnItsWay : Moment → Moment → Tally → D → D → Type 0

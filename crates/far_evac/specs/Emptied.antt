@@ -26,7 +26,7 @@ pub record EmptiesLogs (u t : Walked) : Type 0 where
 -- where a walk begins, and with each object that is dealt with over any hand
 pub record GivingBackEmpties (m : Moment) (u t : Walked) (word : ℕ) : Type 0 where
   pub first : WalksTo m zero t → EmptiesLogs (begun m) t
-  pub each : DealsFirst u word t → EmptiesLogs u t
+  pub each : DealsFirst false u word t → EmptiesLogs u t
 
 abbrev pub LogsComeBackEmpty : Type 0
 LogsComeBackEmpty = (m : Moment) (u t : Walked) (word : ℕ) → GivingBackEmpties m u t word

@@ -7,7 +7,7 @@ use Rattle.far_evac.specs.declared.answers.RoundEnd.{RoundEnd}
 use Rattle.far_evac.specs.declared.answers.RoundEnd.TheVariants.{Done, Limit, Nothing}
 use Rattle.far_evac.specs.declared.phase.Phase.{Phase}
 use Rattle.far_evac.specs.declared.phase.Phase.TheVariants.{Evacuating}
-use Rattle.far_evac.specs.AnyHand.{EndsRound, StopsAt, TurnsMade, TurnsTo, sum_of}
+use Rattle.far_evac.specs.AnyHand.{EndsRound, StopsAt, TurnsBy, TurnsMade, sum_of}
 use Rattle.far_evac.specs.Asked.{AsksInTurn, IsRefusedWrite, KeepsKeys, first_live}
 use Rattle.far_evac.specs.Choosing.{after_selecting}
 use Rattle.far_evac.specs.Moment.{Moment, Tally, objects_in, plus, progress_of}
@@ -19,12 +19,9 @@ abbrev pub TellsSum : List Tally → Bool → Phase → RoundEnd → Type 0
 TellsSum tallies true phase end = end ≡ Done (progress_of (sum_of tallies) true)
 TellsSum tallies false phase end = end ≡ Limit phase
 
-module _ (D : Type 0) (writes : D → ℕ → List ℕ → Result (Unit {0}) DeviceFault → D → Type 0) (lets_go : D → ℕ → D → Type 0) where
-  -- turns, the last one first in the list, each from a moment that is lawful; and what each asked
-  abbrev pub TurnsAsking : Moment → List Tally → Bool → Moment → D → D → Type 0
-  TurnsAsking m [] done t old new = (t ≡ m) × (done ≡ false) × (new ≡ old)
-  TurnsAsking m (tally ∷ tallies) done t old new = (u : Moment) × (between : D) × TurnsAsking m tallies false u old between
-      × TurnsTo u u.phase tally done t × AsksInTurn D writes lets_go u u.phase t tally between new × IsLawful u
+-- turns, and what each asked
+abbrev pub TurnsAsking : (D : Type 0) → (D → ℕ → List ℕ → Result (Unit {0}) DeviceFault → D → Type 0) → (D → ℕ → D → Type 0) → Moment → List Tally → Bool → Moment → D → D → Type 0
+TurnsAsking D writes lets_go m tallies done t old new = TurnsBy D (λ u v tally before after. AsksInTurn D writes lets_go u u.phase v tally before after) m tallies done t old new
 
 module _ (D : Type 0) (writes : D → ℕ → List ℕ → Result (Unit {0}) DeviceFault → D → Type 0) (lets_go : D → ℕ → D → Type 0) (contents : D → ℕ → Option (List ℕ)) where
   -- at most so many turns: one list tells what they left, what they asked, and what is answered of them. Unless a round ends early, since nobody else acts, all were

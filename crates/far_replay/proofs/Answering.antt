@@ -15,8 +15,9 @@ use Rattle.far_replay.specs.Moment.{Moment}
 use Rattle.far_hand.specs.declared.plain.Plain.{Plain}
 use Rattle.far_evac.specs.EvacOf.{EvacOf}
 use Rattle.far_replay.specs.Moment.{FarSide}
-use Rattle.far_replay.specs.Spent.{SpentBy, may_fail}
-use Rattle.far_replay.specs.Answers.{AllServed, Answered, AnsweredBy, CommandedBy, FailsAtMost, Outside, Serves, Refuses}
+use Rattle.far_device.specs.declared.liar.Lie.{Lie}
+use Rattle.far_replay.specs.Spent.{SpentBy, may_spoil}
+use Rattle.far_replay.specs.Answers.{Answered, AnsweredBy, CommandedBy, FlawedAtMost, Outside, Serves, Refuses, Gives}
 use Rattle.far_text.specs.Command.{Command, New, Open, Write, Read, Close, Where, Drop, View, Try, Epoch, Logs, Log, Audit, Mutator, Book, Evacuator, Select, Mark, Wait, Evacuate, Abort, Round}
 use Rattle.far_replay.specs.Objects.{lowest_cell}
 use Rattle.far_replay.specs.Reply.{Reply, Logs as Told, Refused, reply_text}
@@ -52,28 +53,28 @@ answered_all s t cs outside replies moments none e go =
     (subst (λ xs. AnsweredBy (outside ++ []) s cs xs moments) (append-nil replies)
     (subst (λ us. AnsweredBy (outside ++ []) s cs (replies ++ []) us) (append-nil moments) (go [] [] [] (subst (λ cs. AnsweredBy [] t cs [] []) (sym e) tt))))
 
--- each list of commands is answered, where the outside refuses nothing
-pub answers_all : (now : Moment) (cs : List Command) → (os : List Outside) × (rs : List Reply) × (moments : List Moment) × AllServed os × AnsweredBy os now cs rs moments
-answers_all now [] = ([], [], [], tt, tt)
+-- each list of commands is answered, where the outside refuses nothing and gives what was stored
+pub answers_all : (now : Moment) (cs : List Command) → (os : List Outside) × (rs : List Reply) × (moments : List Moment) × ((lie : Lie) (n : ℕ) → FlawedAtMost lie n os) × AnsweredBy os now cs rs moments
+answers_all now [] = ([], [], [], (λ lie n. tt), tt)
 answers_all now (c ∷ cs) =
     let rest = answers_all (effect now c) cs in
     (Serves ∷ rest.0, reply_to now c ∷ rest.1, effect now c ∷ rest.2, rest.3, (record { reply = refl; moment = refl }, rest.4))
 
--- ---- how often the outside refuses
--- where it refuses nothing, it refuses no more than so many
-pub few_refused : (n : ℕ) (os : List Outside) → AllServed os → FailsAtMost n os
-few_refused n [] h = tt
-few_refused n (Serves ∷ os) h = few_refused n os h
-few_refused n (Refuses why turns objects ∷ os) h = absurd h
-
--- one command more, by what was spent of the device
-pub refused_more : (n left : ℕ) (outside : List Outside) (o : Outside) (old new : EvacOf Plain FarSide) → SpentBy o old new → may_fail old left → ((os : List Outside) → FailsAtMost left os → FailsAtMost n (outside ++ os)) →
-    (rest : ℕ) × may_fail new rest × ((os : List Outside) → FailsAtMost rest os → FailsAtMost n ((outside ++ o ∷ []) ++ os))
-refused_more n left outside Serves old new spent few go =
-    (left, spent left few, λ os h. subst (FailsAtMost n) (sym (append_assoc outside (Serves ∷ []) os)) (go (Serves ∷ os) h))
-refused_more n zero outside (Refuses why turns objects) old new (failed, (none, less)) few go = absurd (none few)
-refused_more n (suc left) outside (Refuses why turns objects) old new (failed, (none, less)) few go =
-    (left, less left few, λ os h. subst (FailsAtMost n) (sym (append_assoc outside (Refuses why turns objects ∷ []) os)) (go (Refuses why turns objects ∷ os) (failed, h)))
+-- ---- how many commands the device's flaw spoils
+-- one command more, by what was spent of it
+pub spoiled_more : (lie : Lie) (n left : ℕ) (outside : List Outside) (o : Outside) (old new : EvacOf Plain FarSide) → SpentBy o old new → may_spoil lie old left →
+    ((os : List Outside) → FlawedAtMost lie left os → FlawedAtMost lie n (outside ++ os)) →
+    (rest : ℕ) × may_spoil lie new rest × ((os : List Outside) → FlawedAtMost lie rest os → FlawedAtMost lie n ((outside ++ o ∷ []) ++ os))
+spoiled_more lie n left outside Serves old new spent few go =
+    (left, spent lie left few, λ os h. subst (FlawedAtMost lie n) (sym (append_assoc outside (Serves ∷ []) os)) (go (Serves ∷ os) h))
+spoiled_more lie n zero outside (Refuses why turns objects) old new spent few go = absurd (spent lie 0 few)
+spoiled_more lie n (suc left) outside (Refuses why turns objects) old new spent few go =
+    let was = spent lie (suc left) few in
+    (left, was.1, λ os h. subst (FlawedAtMost lie n) (sym (append_assoc outside (Refuses why turns objects ∷ []) os)) (go (Refuses why turns objects ∷ os) (was.0, h)))
+spoiled_more lie n zero outside (Gives row) old new spent few go = absurd (spent lie 0 few)
+spoiled_more lie n (suc left) outside (Gives row) old new spent few go =
+    let was = spent lie (suc left) few in
+    (left, was.1, λ os h. subst (FlawedAtMost lie n) (sym (append_assoc outside (Gives row ∷ []) os)) (go (Gives row ∷ os) (was.0, h)))
 
 -- ---- each reply has a line
 abbrev HasBytes : List ℕ → Type 0

@@ -28,7 +28,7 @@ use Rattle.far_core.proofs.Put.{put_same, put_other}
 use Rattle.far_book.specs.book.Dealing.{goal, has_evac, moved_now, order_moved}
 use Rattle.far_hand.specs.Quiet.{IsQuietNear}
 use Rattle.far_core.specs.events.Copies.{Alike, data_at}
-use Rattle.far_book.specs.book.Effects.{fetched, fetched_of, moved, moved_of, near_word, stayed, stayed_of, with_written_span}
+use Rattle.far_book.specs.book.Effects.{fetched, fetched_of, moved, moved_of, near_word, order_after, stayed, stayed_of, with_written_span}
 use Rattle.far_book.specs.book.Fetching.{IsFar, IsFetched, RefusesFetch, far_len, room_for}
 use Rattle.far_word.specs.declared.refused.Refused.{Refused as Refusal}
 use Rattle.far_word.specs.declared.refused.Refused.TheVariants.{NoRoom, Memory, Device, Damaged}
@@ -112,10 +112,10 @@ module _ (s : State) (m p : ℕ) (law : Law s) (opened : is_opened s m ≡ true)
       ∙ ap (λ x. order_come_of asks order p x (Some (Near said.len said.ds said.place (marks_with Moved said.marks)))) (ap (λ (x : State). goal x p) (sym is) ∙ there))
       ∙ sym (ap (λ (x : State). order_come x order p) asks_is)
 
-  pub near_room : (v : State) (o : Option Place) (place : Place) → o ≡ Some place → v ≡ asks → IfSome o (λ found. goal v p ≡ Some found) → IsSome (comes_to (asked_for s m p) p)
+  pub near_room : (v : State) (o : Option Place) (place : Place) → o ≡ Some place → v ≡ asks → IfSome o (λ found. goal v p ≡ Some found) → comes_to (asked_for s m p) p ≡ Some place
   near_room v o place e is found =
       let there : goal v p ≡ Some place = subst (λ x. IfSome x (λ y. goal v p ≡ Some y)) e found in
-      ap (λ (x : State). is_some (comes_to x p)) asks_is ∙ ap is_some (near_comes ∙ ap (λ (x : State). goal x p) (sym is) ∙ there)
+      ap (λ (x : State). comes_to x p) asks_is ∙ near_comes ∙ ap (λ (x : State). goal x p) (sym is) ∙ there
 
   pub near_refused : (v t : State) (why : Refusal) → v ≡ asks → why ≡ NoRoom → goal v p ≡ None → t ≡ v → RefusesBringing (asked_for s m p) p why t
   near_refused v t why is e none same = subst (λ w. RefusesBringing (asked_for s m p) p w t) (sym e)
@@ -141,26 +141,23 @@ module _ (s : State) (m p : ℕ) (law : Law s) (used : s.used p ≡ true) (far :
   pub far_come : (place : Place) → room_for s p ≡ Some place → come s p ≡ fetched s p place (s.stored p)
   far_come place found = ap (λ o. come_of s p (comes_to_of s p o) o) told.is ∙ ap (λ x. come_of s p x (Some (Far told.len told.ds told.marks))) found
 
-  pub far_done : (t : State) (o : Option Place) (place : Place) → o ≡ Some place → IfSome o (λ found. room_for s p ≡ Some found) → IfSome o (λ found. IsFetched (Unit {0}) true s t p found) →
-      t ≡ come (asked_for s m p) p
-  far_done t o place e found done =
-      let there : room_for s p ≡ Some place = subst (λ x. IfSome x (λ y. room_for s p ≡ Some y)) e found in
-      let led : IsFetched (Unit {0}) true s t p place = subst (λ x. IfSome x (λ y. IsFetched (Unit {0}) true s t p y)) e done in
-      let stored : Alike led.row (s.stored p) (words_for told.len) = subst (λ o. Alike led.row (s.stored p) (words_for (far_len o))) told.is (led.stored refl) in
-      led.exact tt ∙ fetched_alike s p told.len told.ds place led.row told.marks told.is (s.stored p) stored ∙ sym (far_come place there) ∙ sym (ap (λ (x : State). come x p) far_unasked)
+  pub far_came : (place : Place) → room_for s p ≡ Some place → come (asked_for s m p) p ≡ fetched s p place (s.stored p)
+  far_came place found = ap (λ (x : State). come x p) far_unasked ∙ far_come place found
 
-  far_here : comes_to (asked_for s m p) p ≡ room_for s p
+  -- so many logs are sealed then
+  pub far_order : (order : List ℕ) (place : Place) → room_for s p ≡ Some place → order_come (asked_for s m p) order p ≡ order_after s order place
+  far_order order place found =
+      ap (λ (x : State). order_come x order p) far_unasked ∙ ap (λ o. order_come_of s order p (comes_to_of s p o) o) told.is ∙ ap (λ x. order_come_of s order p x (Some (Far told.len told.ds told.marks))) found
+
+  pub far_here : comes_to (asked_for s m p) p ≡ room_for s p
   far_here = ap (λ (x : State). comes_to x p) far_unasked ∙ far_comes
 
-  pub far_room : (o : Option Place) (place : Place) → o ≡ Some place → IfSome o (λ found. room_for s p ≡ Some found) → IsSome (comes_to (asked_for s m p) p)
-  far_room o place e found = ap is_some (far_here ∙ subst (λ x. IfSome x (λ y. room_for s p ≡ Some y)) e found)
-
-  pub far_refused : (t : State) (why : Refusal) → RefusesFetch why (room_for s p) true → t ≡ s → RefusesBringing (asked_for s m p) p why t
-  far_refused t NoRoom h same = (far_here ∙ h, same ∙ sym far_unasked)
-  far_refused t Memory h same = (ap is_some far_here ∙ h, same ∙ sym far_unasked)
-  far_refused t Device h same = (ap is_some far_here ∙ h, same ∙ sym far_unasked)
-  far_refused t Damaged h same = absurd (true≢false h.1)
-  far_refused t why h same = absurd h
+  pub far_refused : (t : State) (why : Refusal) (honest : Bool) → RefusesFetch why (room_for s p) honest → t ≡ s → RefusesBringing (asked_for s m p) p why t
+  far_refused t NoRoom honest h same = (far_here ∙ h, same ∙ sym far_unasked)
+  far_refused t Memory honest h same = (ap is_some far_here ∙ h, same ∙ sym far_unasked)
+  far_refused t Device honest h same = (ap is_some far_here ∙ h, same ∙ sym far_unasked)
+  far_refused t Damaged honest h same = (ap is_some far_here ∙ h.0, same ∙ sym far_unasked)
+  far_refused t why honest h same = absurd h
 
 -- ---- owners stay as they are, and so do all cells but p's
 pub record KeepsOwners (p : ℕ) (s t : State) : Type 0 where

@@ -70,6 +70,7 @@ pub record Brought (s : State) (p : ℕ) (es : List Event) (t : State) : Type 0 
   pub long : object_len s p ≡ len
   pub bytes : SameBytes (world_of s) (world_of t)
   pub held : t.held ≡ s.held
+  pub stored : t.stored ≡ s.stored
   pub takes : BringTakes s (read_of (s.cell p)) t
 
 -- ---- an object that is moved
@@ -140,6 +141,7 @@ module _ (s : State) (law : Law s) (p len ds : ℕ) (from to : Place) (m : Marks
         long = ap named_len near;
         bytes = ((λ q. ap (λ (w : World). bytes_in_world (w.object q)) is ∙ bytes_at (world_of s) p o _ there refl q), ap (λ (w : World). w.opened) is);
         held = (moved_keeps s p to (read_of (s.cell p))).held;
+        stored = ap (λ (t : State). t.stored) (moved_is s p len ds from to m near alive wanted (layout_there s p len ds from to may));
         takes = subst (λ o. BringTakes s o (moved s p to)) (sym near) (subst (λ b. MatchBool b (TakesSpan s len (Some from.log) false (moved s p to)) (TakesNone s (moved s p to))) (sym wanted) (
           to,
           found,
@@ -177,6 +179,7 @@ module _ (s : State) (law : Law s) (p len ds : ℕ) (place : Place) (m : Marks) 
         long = ap named_len near;
         bytes = ((λ q. ap (λ (w : World). bytes_in_world (w.object q)) is), ap (λ (w : World). w.opened) is);
         held = (stayed_keeps s p (read_of (s.cell p))).held;
+        stored = ap (λ (t : State). t.stored) (stayed_is s p len ds place m near alive asked unwanted bare);
         takes =
             let is = stayed_is s p len ds place m near alive asked unwanted bare in
             subst (λ o. BringTakes s o (stayed s p)) (sym near) (subst (λ b. MatchBool b (TakesSpan s len (Some place.log) false (stayed s p)) (TakesNone s (stayed s p))) (sym unwanted)
@@ -216,8 +219,8 @@ module _ (s : State) (law : Law s) (p len ds : ℕ) (m : Marks) (place : Place) 
   head_there : IsHead record { pointer = p; len = len; ds = ds }
   head_there = record { some = lies.0; most = lies.1; structure = lies.2; cell = omega (arith, inside, law.shape.few_mutators) }
 
-  there : IsPtr (Near len ds place no_marks)
-  there = (lies.0, lies.1, lies.2, omega (arith, fits_there.next.0, law.shape.few_logs), fits_there.fits)
+  pub far_layout : IsPtr (Near len ds place no_marks)
+  far_layout = (lies.0, lies.1, lies.2, omega (arith, fits_there.next.0, law.shape.few_logs), fits_there.fits)
 
   abbrev filled : State
   filled = with_written_span s p len ds place (s.stored p)
@@ -228,13 +231,13 @@ module _ (s : State) (law : Law s) (p len ds : ℕ) (m : Marks) (place : Place) 
   fetch_legal : Legal filled (Names p (s.cell p) (near_word len ds place))
   fetch_legal =
       let last : words_for len - 1 < words_for len = omega (arith, lies) in
-      let may = may_come s p len ds place (s.stored p) inside (m, far, alive) lies.0 there fits_there.next (law.cells.cell_far p len ds m far (words_for len - 1) last).1 (λ _ i lt. refl) (s.cell p) (law.cells.cell_read p).0 (finds_same (s.cell p)) (ap is_dropped far ∙ alive) in
+      let may = may_come s p len ds place (s.stored p) inside (m, far, alive) lies.0 far_layout fits_there.next (law.cells.cell_far p len ds m far (words_for len - 1) last).1 (λ _ i lt. refl) (s.cell p) (law.cells.cell_read p).0 (finds_same (s.cell p)) (ap is_dropped far ∙ alive) in
       subst (λ (cell : ℕ → ℕ). Legal (record filled { cell = cell }) (Names p (s.cell p) (near_word len ds place))) (put_old s.cell p (s.cell p) refl) may.0
 
   fetched_leads : Leads s (span_events p len ds place (s.stored p) ++ name_events s p len ds place) (fetched s p place (s.stored p))
   fetched_leads = subst (Leads s (span_events p len ds place (s.stored p) ++ name_events s p len ds place)) (sym (ap (fetched_of s p place (s.stored p)) far))
       (leads_append s filled (after filled (Names p (s.cell p) (near_word len ds place))) (span_events p len ds place (s.stored p)) (name_events s p len ds place) filled_leads
-      (leads_one filled (Names p (s.cell p) (near_word len ds place)) fetch_legal ((law.cells.cell_read p).0, word_fits (Near len ds place no_marks) there)))
+      (leads_one filled (Names p (s.cell p) (near_word len ds place)) fetch_legal ((law.cells.cell_read p).0, word_fits (Near len ds place no_marks) far_layout)))
 
   pub fetched_brought : Brought s p (span_events p len ds place (s.stored p) ++ name_events s p len ds place) (fetched s p place (s.stored p))
   fetched_brought =
@@ -252,10 +255,11 @@ module _ (s : State) (law : Law s) (p len ds : ℕ) (m : Marks) (place : Place) 
         long = ap named_len far;
         bytes = (bytes_but_one (world_of s) (world_of t) p _ (ap (λ (w : World). w.object) is) equal, ap (λ (w : World). w.opened) is);
         held = (fetched_keeps s p place (s.stored p) (read_of (s.cell p))).held;
+        stored = ap (λ (x : State). x.stored) (fetched_come s s p len ds place (s.stored p) m far alive far_layout);
         takes = subst (λ o. BringTakes s o t) (sym far) (
           place,
           found,
-          ap (λ (x : State). x.tail) (fetched_come s s p len ds place (s.stored p) m far alive there),
+          ap (λ (x : State). x.tail) (fetched_come s s p len ds place (s.stored p) m far alive far_layout),
           bytes_move s t law done.1 p len ds place (at_tail s law place fits_there.next) done.3.cell done.3.cells done.3.header done.3.words done.3.tail done.3.tails None (Some (Far len ds m)) far (λ l. refl),
         );
       }

@@ -31,6 +31,7 @@ use Rattle.far_replay.specs.Events.{asked_events, asked_events_of, come_events, 
 use Rattle.far_replay.specs.Changes.{ViewsObject}
 use Rattle.far_replay.specs.Taking.{BringTakes, DereferenceLacks, DereferenceTakes, TakesNone}
 use Rattle.far_replay.specs.Objects.{named_len, object_len, uses}
+use Rattle.far_replay.proofs.AsIfStored.{ask_stores}
 use Rattle.far_replay.proofs.AloneRuns.{SameBytes, bytes_both, bytes_same, quiet_run, quiet_view}
 use Rattle.far_replay.proofs.Bringing.{KeepsOwners, asked_keeps, brought_keeps, came_opened, came_used, slow_opened, slow_unheld, slow_used}
 use Rattle.far_replay.proofs.Brought.{Brought, MayBring, brought}
@@ -151,6 +152,11 @@ module _ (s : State) (m p : ℕ) (law : Law s) (opened : is_opened s m ≡ true)
 
   asked : Asked s p (asked_events s m p) (asked_for s m p)
   asked = asked_of (read_of (s.cell p)) refl (law.views.used_cell p used)
+
+  -- where it comes then, what is stored stays
+  pub comes_stores : (place : Place) → comes_to (asked_for s m p) p ≡ Some place → (come (asked_for s m p) p).stored ≡ s.stored
+  comes_stores place found =
+      (brought (asked_for s m p) (leads_law s (asked_for s m p) (asked_events s m p) law asked.leads) p place asked.may found).stored ∙ ask_stores s m p
 
 -- ---- by a pin that gives no view
 module _ (s : State) (m p : ℕ) (law : Law s) (opened : is_opened s m ≡ true) (ours : uses s m p ≡ true) (slow : is_slow s p ≡ true) where

@@ -1,18 +1,18 @@
 -- What lasts between two commands: the law, and what the program keeps of it; so each command is carried out by its events.
-use Rattle.std.proofs.Common.{◌≡◌, ℕ, true, sym, ap, subst, ◌∙◌, refl, List, [], ◌∷◌, ◌++◌, inl, inr}
+use Rattle.std.proofs.Common.{◌≡◌, ℕ, Bool, true, sym, ap, subst, ◌∙◌, refl, List, [], ◌∷◌, ◌++◌, inl, inr}
 use Rattle.std.specs.Prelude.{All, Contains}
 use Rattle.std.proofs.lemmas.Bool.{cond_both}
 use Rattle.far_core.specs.declared.event.Event.{Event}
 use Rattle.far_core.specs.declared.event.Reply.{Reply as Answer}
 use Rattle.far_core.specs.declared.event.Reply.TheVariants.{Refused as Failed}
-use Rattle.far_core.specs.state.Law.{Law}
+use Rattle.far_core.specs.state.Law.{Law, IsStored, StoresBack}
 use Rattle.far_core.specs.state.Shape.{is_shape}
 use Rattle.far_core.specs.state.State.{State}
 use Rattle.far_core.specs.events.Step.{step_of, is_legal, after, answer, Fits}
 use Rattle.far_core.proofs.Keeps.{step_keeps}
 use Rattle.far_log.proofs.Members.{split, none_in, All-from}
 use Rattle.far_core.proofs.Steps.{agrees}
-use Rattle.far_replay.specs.Answers.{Answered, Commanded, Served, IsMoment, moment_after, shape_of, first_moment}
+use Rattle.far_replay.specs.Answers.{Answered, Commanded, Misled, Served, IsMoment, Begins, Comes, Stores, shape_of, first_moment}
 use Rattle.far_text.specs.Command.{Command, Try, Mutator, Book, Evacuator, Evacuate, Round, Step}
 use Rattle.far_word.specs.declared.refused.Refused.TheVariants.{Marked}
 use Rattle.far_evac.specs.MomentLaw.{MomentLaw}
@@ -23,11 +23,17 @@ use Rattle.far_replay.specs.Events.{events_for, IsNoStep}
 use Rattle.far_replay.specs.Lawful.{Lawful}
 use Rattle.far_text.specs.Written.{WritesBytes, AllWriteBytes}
 use Rattle.far_replay.specs.EventRows.{after_events, AllSucceed, AllPass, Succeeds}
-use Rattle.far_replay.specs.Moment.{Moment}
+use Rattle.far_replay.specs.Moment.{Moment, as_if_stored}
 use Rattle.far_replay.specs.Reply.{Reply, Ended, Evacuated, Refused}
 use Rattle.far_replay.specs.Between.{Between}
 use Rattle.far_replay.specs.Turn.{effect, reply_to}
 use Rattle.far_text.proofs.Each.{Each}
+use Rattle.far_word.specs.declared.mark.Marks.{Marks}
+use Rattle.far_word.specs.declared.pointer.PtrWord.{PtrWord}
+use Rattle.far_word.specs.declared.pointer.PtrWord.TheVariants.{Far}
+use Rattle.far_word.specs.Pointer.{read_of}
+use Rattle.std.specs.Prelude.{Some}
+use Rattle.far_replay.proofs.AsIfStored.{between_as_if, far_is_used, law_as_if, misled_fits, round_as_if, stored_again, viewed_stores}
 use Rattle.far_replay.proofs.ToldRounds.{told_round}
 use Rattle.far_replay.proofs.Outcomes.{by_outcome}
 use Rattle.far_replay.proofs.Opened.{opening_law, opening_between, opening_round, opening_strays}
@@ -94,6 +100,26 @@ after_step now step r next lasts h = subst Lasts (sym h.moment) (step_lasts now 
 pub served_lasts : (now : Moment) (c : Command) (r : Reply) (next : Moment) → Lasts now → WritesBytes c → Served now c r next → Lasts next
 served_lasts now c r next lasts bytes h = subst Lasts (sym h.moment) (effect_lasts now c lasts bytes)
 
+-- and where other words are stored of an object in use
+pub lasts_as_if : (now : Moment) (p : ℕ) (row : ℕ → ℕ) → Lasts now → now.core.used p ≡ true → StoresBack row (read_of (now.core.cell p)) → Lasts (as_if_stored now p row)
+lasts_as_if now p row lasts used fits = record {
+  law = law_as_if now.core p row lasts.law used fits;
+  round = round_as_if now p row lasts.round;
+  between = between_as_if now.core p row lasts.between;
+  strays = lasts.strays;
+}
+
+-- so before a command that is given other words
+pub misled_before : (row : ℕ → ℕ) (now : Moment) (c : Command) (p : ℕ) (r : Reply) (next : Moment) → Lasts now → Misled row now c p r next → Lasts (as_if_stored now p row)
+misled_before row now c p r next lasts h = lasts_as_if now p row lasts (far_is_used now.core p lasts.between h.far) (misled_fits row now c p r next h)
+
+-- and after it
+pub misled_lasts : (row : ℕ → ℕ) (now : Moment) (c : Command) (p : ℕ) (r : Reply) (next : Moment) → Lasts now → WritesBytes c → Misled row now c p r next → Lasts next
+misled_lasts row now c p r next lasts bytes h =
+    let there = served_lasts (as_if_stored now p row) c r (as_if_stored next p row) (misled_before row now c p r next lasts h) bytes h.served in
+    subst Lasts (sym (stored_again next p row (next.core.stored p) refl))
+    (lasts_as_if (as_if_stored next p row) p (next.core.stored p) there (there.law.views.held_used p h.viewed) (viewed_stores (as_if_stored next p row).core p (next.core.stored p) there.law h.viewed))
+
 pub still_lasts : (now : Moment) (c : Command) (r : Reply) (next : Moment) → Lasts now → WritesBytes c → Commanded now c r next → Lasts next
 still_lasts now c r next lasts bytes h = by_outcome now r next (λ d. WritesBytes d → Lasts next)
     (λ d h bytes. served_lasts now d r next lasts bytes h)
@@ -103,40 +129,40 @@ still_lasts now c r next lasts bytes h = by_outcome now r next (λ d. WritesByte
     (λ why objects count h bytes. served_lasts now (Evacuator (Evacuate objects)) (Evacuated h.progress) next lasts tt h.left)
     (λ why turns objects policy most count h bytes. served_lasts h.stood (Evacuator (Evacuate objects)) (Evacuated h.progress) next
     (served_lasts now (Evacuator (Round policy most turns)) (Ended (Limit Evacuating)) h.stood lasts bytes h.turned) tt h.left)
+    (λ row m p d asks h bytes. misled_lasts row now d p r next lasts bytes h)
     c h bytes
 
--- and through commands
-still_lasts_after : (now : Moment) (cs : List Command) → Lasts now → AllWriteBytes cs → Lasts (moment_after now cs)
-still_lasts_after now [] lasts bytes = lasts
-still_lasts_after now (c ∷ cs) lasts bytes = still_lasts_after (effect now c) cs (effect_lasts now c lasts bytes.0) bytes.1
-
 -- from the first moment on
-pub first_lasts : (logs mutators epoch : ℕ) → is_shape (shape_of logs mutators epoch) ≡ true → Lasts (first_moment logs mutators epoch)
-first_lasts logs mutators epoch fits = record {
-  law = opening_law logs mutators epoch fits;
-  round = opening_round logs mutators epoch fits;
-  between = opening_between logs mutators epoch fits;
-  strays = opening_strays logs mutators epoch fits;
+pub first_lasts : (logs mutators epoch : ℕ) (honest : Bool) → is_shape (shape_of logs mutators epoch) ≡ true → Lasts (first_moment logs mutators epoch honest)
+first_lasts logs mutators epoch honest fits = record {
+  law = opening_law logs mutators epoch honest fits;
+  round = opening_round logs mutators epoch honest fits;
+  between = opening_between logs mutators epoch honest fits;
+  strays = opening_strays logs mutators epoch honest fits;
 }
 
 pub moment_lasts : (now : Moment) → IsMoment now → Lasts now
-moment_lasts now (logs, mutators, epoch, cs, fits, bytes, is) = subst Lasts (sym is) (still_lasts_after (first_moment logs mutators epoch) cs (first_lasts logs mutators epoch fits) bytes)
+moment_lasts now (Begins logs mutators epoch honest fits is) = subst Lasts (sym is) (first_lasts logs mutators epoch honest fits)
+moment_lasts now (Comes before c r was bytes h) = served_lasts before c r now (moment_lasts before was) bytes h
+moment_lasts now (Stores before p row was used fits is) = subst Lasts (sym is) (lasts_as_if before p row (moment_lasts before was) used fits)
 
 -- ---- which moments there are
-pub first_is_moment : (logs mutators epoch : ℕ) → is_shape (shape_of logs mutators epoch) ≡ true → IsMoment (first_moment logs mutators epoch)
-first_is_moment logs mutators epoch fits = (logs, mutators, epoch, [], fits, tt, refl)
-
-one_after : (now : Moment) (cs : List Command) (c : Command) → moment_after now (cs ++ c ∷ []) ≡ effect (moment_after now cs) c
-one_after now [] c = refl
-one_after now (d ∷ cs) c = one_after (effect now d) cs c
-
-bytes_more : (cs : List Command) (c : Command) → AllWriteBytes cs → WritesBytes c → AllWriteBytes (cs ++ c ∷ [])
-bytes_more [] c h k = (k, tt)
-bytes_more (d ∷ cs) c h k = (h.0, bytes_more cs c h.1 k)
+pub first_is_moment : (logs mutators epoch : ℕ) (honest : Bool) → is_shape (shape_of logs mutators epoch) ≡ true → IsMoment (first_moment logs mutators epoch honest)
+first_is_moment logs mutators epoch honest fits = Begins logs mutators epoch honest fits refl
 
 pub served_is_moment : (now : Moment) (c : Command) (r : Reply) (next : Moment) → IsMoment now → WritesBytes c → Served now c r next → IsMoment next
-served_is_moment now c r next (logs, mutators, epoch, cs, fits, bytes, is) more h =
-    (logs, mutators, epoch, cs ++ c ∷ [], fits, bytes_more cs c bytes more, h.moment ∙ ap (λ m. effect m c) is ∙ sym (one_after (first_moment logs mutators epoch) cs c))
+served_is_moment now c r next is bytes h = Comes now c r is bytes h
+
+-- so is the one before a command that is given other words, and the one after it
+pub misled_from : (row : ℕ → ℕ) (now : Moment) (c : Command) (p : ℕ) (r : Reply) (next : Moment) → IsMoment now → Misled row now c p r next → IsMoment (as_if_stored now p row)
+misled_from row now c p r next is h = Stores now p row is (far_is_used now.core p (moment_lasts now is).between h.far) (misled_fits row now c p r next h) refl
+
+pub misled_is_moment : (row : ℕ → ℕ) (now : Moment) (c : Command) (p : ℕ) (r : Reply) (next : Moment) → IsMoment now → WritesBytes c → Misled row now c p r next → IsMoment next
+misled_is_moment row now c p r next is bytes h =
+    let there : IsMoment (as_if_stored next p row) = Comes (as_if_stored now p row) c r (misled_from row now c p r next is h) bytes h.served in
+    let law : Law (as_if_stored next p row).core = (moment_lasts (as_if_stored next p row) there).law in
+    Stores (as_if_stored next p row) p (next.core.stored p) there (law.views.held_used p h.viewed) (viewed_stores (as_if_stored next p row).core p (next.core.stored p) law h.viewed)
+    (stored_again next p row (next.core.stored p) refl)
 
 -- one that is refused in its midst leads where lesser ones do that are served
 pub next_is_moment : (now : Moment) (c : Command) (r : Reply) (next : Moment) → IsMoment now → WritesBytes c → Commanded now c r next → IsMoment next
@@ -148,6 +174,7 @@ next_is_moment now c r next is more h = by_outcome now r next (λ d. WritesBytes
     (λ why objects count h bytes. served_is_moment now (Evacuator (Evacuate objects)) (Evacuated h.progress) next is tt h.left)
     (λ why turns objects policy most count h bytes. served_is_moment h.stood (Evacuator (Evacuate objects)) (Evacuated h.progress) next
     (served_is_moment now (Evacuator (Round policy most turns)) (Ended (Limit Evacuating)) h.stood is bytes h.turned) tt h.left)
+    (λ row m p d asks h bytes. misled_is_moment row now d p r next is bytes h)
     c h more
 
 first_or : (now : Moment) (moments : List Moment) (x : Moment) → IsMoment now → (Contains moments x → IsMoment x) → Contains (now ∷ moments) x → IsMoment x
@@ -170,8 +197,8 @@ each_is_moment now (d ∷ cs) (r ∷ rs) (m ∷ ms) is bytes h x c =
 lawful : (now : Moment) → IsMoment now → Lawful now
 lawful now is = let x = moment_lasts now is in record { reached = is; law = x.law; round = x.round; named = x.between.named }
 
-pub first_lawful : (logs mutators epoch : ℕ) → is_shape (shape_of logs mutators epoch) ≡ true → Lawful (first_moment logs mutators epoch)
-first_lawful logs mutators epoch fits = lawful (first_moment logs mutators epoch) (first_is_moment logs mutators epoch fits)
+pub first_lawful : (logs mutators epoch : ℕ) (honest : Bool) → is_shape (shape_of logs mutators epoch) ≡ true → Lawful (first_moment logs mutators epoch honest)
+first_lawful logs mutators epoch honest fits = lawful (first_moment logs mutators epoch honest) (first_is_moment logs mutators epoch honest fits)
 
 pub moments_last : (now : Moment) (cs : List Command) (rs : List Reply) (moments : List Moment) → IsMoment now → AllWriteBytes cs → Answered now cs rs moments → All Lawful (now ∷ moments)
 moments_last now cs rs moments is bytes h = All-from Lawful (now ∷ moments) (λ x c. lawful x (each_is_moment now cs rs moments is bytes h x c))

@@ -1,6 +1,7 @@
 pub mod AloneRuns
 pub mod AloneStates
 pub mod Answering
+pub mod AsIfStored
 pub mod Asides
 pub mod Bringing
 pub mod Brought
@@ -8,7 +9,11 @@ pub mod Choices
 pub mod Counted
 pub mod Dereferences
 pub mod Drops
+pub mod FarReads
+pub mod FarSides
 pub mod Fronts
+pub mod Given
+pub mod Giving
 pub mod Joining
 pub mod KeptCounts
 pub mod Lasting
@@ -27,6 +32,7 @@ pub mod RangeWrites
 pub mod RoundChoices
 pub mod RoundLeads
 pub mod Runs
+pub mod Spending
 pub mod Spliced
 pub mod Stopping
 pub mod StoreTurns
@@ -38,5 +44,6 @@ pub mod Turns
 pub mod Unbrought
 pub mod Views
 pub mod ViewsRest
+pub mod Walking
 pub mod WithCore
 pub mod WriteEnds

@@ -1,5 +1,5 @@
 -- What holds of the first state.
-use Rattle.std.proofs.Common.{◌≡◌, ◌==◌, ℕ, true, false, refl}
+use Rattle.std.proofs.Common.{◌≡◌, ◌==◌, ℕ, Bool, true, false, refl}
 use Rattle.std.proofs.lemmas.Bool.{cond_both, false≢true}
 use Rattle.far_core.specs.declared.event.Kind.{Kind}
 use Rattle.far_core.specs.declared.event.Kind.TheVariants.{Free, Open}
@@ -15,16 +15,16 @@ use Rattle.far_evac.proofs.Standings.{none_once}
 use Rattle.far_evac.proofs.Strays.{no_round}
 
 -- the law holds of the first state
-pub opening_law : (logs mutators epoch : ℕ) → is_shape (shape_of logs mutators epoch) ≡ true → Law (first_moment logs mutators epoch).core
-opening_law logs mutators epoch fits = begins (shape_of logs mutators epoch) true fits
+pub opening_law : (logs mutators epoch : ℕ) (honest : Bool) → is_shape (shape_of logs mutators epoch) ≡ true → Law (first_moment logs mutators epoch honest).core
+opening_law logs mutators epoch honest fits = begins (shape_of logs mutators epoch) honest fits
 
 -- in the first state no cell is named
-pub opening_between : (logs mutators epoch : ℕ) → is_shape (shape_of logs mutators epoch) ≡ true → Between (first_moment logs mutators epoch).core
-opening_between logs mutators epoch fits = record { named = λ p ne. absurd (ne refl) }
+pub opening_between : (logs mutators epoch : ℕ) (honest : Bool) → is_shape (shape_of logs mutators epoch) ≡ true → Between (first_moment logs mutators epoch honest).core
+opening_between logs mutators epoch honest fits = record { named = λ p ne. absurd (ne refl) }
 
 -- no log is sealed, and no round runs
-pub opening_round : (logs mutators epoch : ℕ) → is_shape (shape_of logs mutators epoch) ≡ true → MomentLaw (first_moment logs mutators epoch)
-opening_round logs mutators epoch fits = record {
+pub opening_round : (logs mutators epoch : ℕ) (honest : Bool) → is_shape (shape_of logs mutators epoch) ≡ true → MomentLaw (first_moment logs mutators epoch honest)
+opening_round logs mutators epoch honest fits = record {
   order = λ l. cond_both (l == 0) Open Free (λ (kind : Kind). false ≡ is_sealed kind) (λ _. refl) (λ _. refl);
   order_once = none_once;
   sealed = λ l h. absurd (false≢true h);
@@ -37,5 +37,5 @@ opening_round logs mutators epoch fits = record {
 }
 
 -- and the core has none
-pub opening_strays : (logs mutators epoch : ℕ) → is_shape (shape_of logs mutators epoch) ≡ true → NoneStrays (first_moment logs mutators epoch)
-opening_strays logs mutators epoch fits = no_round (first_moment logs mutators epoch) (λ l. refl)
+pub opening_strays : (logs mutators epoch : ℕ) (honest : Bool) → is_shape (shape_of logs mutators epoch) ≡ true → NoneStrays (first_moment logs mutators epoch honest)
+opening_strays logs mutators epoch honest fits = no_round (first_moment logs mutators epoch honest) (λ l. refl)

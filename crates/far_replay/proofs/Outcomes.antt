@@ -1,8 +1,8 @@
--- What is so of each command, whether it is served or refused in its midst.
-use Rattle.std.proofs.Common.{ℕ, List}
+-- What is so of each command, whether it is served, refused in its midst, or given other words.
+use Rattle.std.proofs.Common.{ℕ, List, refl}
 use Rattle.far_word.specs.declared.refused.Refused.{Refused as Refusal}
 use Rattle.far_text.specs.Command.{Command, Write, Read, View, Mutator, Evacuator, Policy, Evacuate, Round}
-use Rattle.far_replay.specs.Commanded.{Commanded, Serves, Refuses, Served, Stopped, Unbrought, StopsLeaving, StopsRound}
+use Rattle.far_replay.specs.Commanded.{AsksFor, Commanded, Serves, Refuses, Gives, Served, Stopped, Unbrought, StopsLeaving, StopsRound, Misled, MisledBy}
 use Rattle.far_replay.specs.Moment.{Moment}
 use Rattle.far_replay.specs.Reply.{Reply}
 
@@ -21,17 +21,27 @@ module _ (why : Refusal) (turns objects : ℕ) (now : Moment) (r : Reply) (after
   by_stop (Evacuator (Round policy most count)) h = rounds policy most count h
   by_stop c h = absurd h
 
--- either
+-- given other words of a far object
+module _ (row : ℕ → ℕ) (now : Moment) (r : Reply) (after : Moment) (P : Command → Type 0) (misled : (m p : ℕ) (c : Command) → AsksFor m p c → Misled row now c p r after → P c) where
+  pub by_lie : (c : Command) → MisledBy row now c r after → P c
+  by_lie (Mutator m (Write p from bytes)) h = misled m p (Mutator m (Write p from bytes)) (refl, refl) h
+  by_lie (Mutator m (Read p from len)) h = misled m p (Mutator m (Read p from len)) (refl, refl) h
+  by_lie (Mutator m (View p)) h = misled m p (Mutator m (View p)) (refl, refl) h
+  by_lie c h = absurd h
+
+-- any of these
 module _ (now : Moment) (r : Reply) (after : Moment) (P : Command → Type 0)
     (served : (c : Command) → Served now c r after → P c)
     (writes : (why : Refusal) (m p from : ℕ) (bytes : List ℕ) → Unbrought why now (Mutator m (Write p from bytes)) m p r after → P (Mutator m (Write p from bytes)))
     (reads : (why : Refusal) (m p from len : ℕ) → Unbrought why now (Mutator m (Read p from len)) m p r after → P (Mutator m (Read p from len)))
     (views : (why : Refusal) (m p : ℕ) → Unbrought why now (Mutator m (View p)) m p r after → P (Mutator m (View p)))
     (leaves : (why : Refusal) (objects count : ℕ) → StopsLeaving why objects now count r after → P (Evacuator (Evacuate count)))
-    (rounds : (why : Refusal) (turns objects : ℕ) (policy : Policy) (most count : ℕ) → StopsRound why turns objects now policy most count r after → P (Evacuator (Round policy most count))) where
+    (rounds : (why : Refusal) (turns objects : ℕ) (policy : Policy) (most count : ℕ) → StopsRound why turns objects now policy most count r after → P (Evacuator (Round policy most count)))
+    (misled : (row : ℕ → ℕ) (m p : ℕ) (c : Command) → AsksFor m p c → Misled row now c p r after → P c) where
   pub by_outcome : (c : Command) → Commanded now c r after → P c
   by_outcome c (Serves, h) = served c h
   by_outcome c (Refuses why turns objects, h) = by_stop why turns objects now r after P (writes why) (reads why) (views why) (leaves why objects) (rounds why turns objects) c h
+  by_outcome c (Gives row, h) = by_lie row now r after P (misled row) c h
 
 -- a command that asks the outside for nothing is served
 abbrev pub AsksNothing : Command → Type 0
@@ -42,7 +52,14 @@ AsksNothing (Evacuator (Evacuate count)) = ⊥
 AsksNothing (Evacuator (Round policy most count)) = ⊥
 AsksNothing c = Unit {0}
 
+asks_something : (m p : ℕ) (c : Command) → AsksFor m p c → AsksNothing c → ⊥
+asks_something m p (Mutator k (Write q from bytes)) asks none = none
+asks_something m p (Mutator k (Read q from len)) asks none = none
+asks_something m p (Mutator k (View q)) asks none = none
+asks_something m p c asks none = asks
+
 pub is_served : (now : Moment) (c : Command) (r : Reply) (after : Moment) → AsksNothing c → Commanded now c r after → Served now c r after
 is_served now c r after none h = by_outcome now r after (λ d. AsksNothing d → Served now d r after)
     (λ d h none. h) (λ why m p from bytes h none. absurd none) (λ why m p from len h none. absurd none) (λ why m p h none. absurd none)
-    (λ why objects count h none. absurd none) (λ why turns objects policy most count h none. absurd none) c h none
+    (λ why objects count h none. absurd none) (λ why turns objects policy most count h none. absurd none)
+    (λ row m p d asks h none. absurd (asks_something m p d asks none)) c h none

@@ -147,6 +147,11 @@ module _ (s t u : State) (a : Access) (new : List ℕ) (law : Law s) (is : IsAcc
       ∙ ap (λ n. after_events (dereferenced s a.owner a.pointer) (store_events a.owner a.pointer (first_word a.from) (words_touched a.from n) (with_range (data_of (dereferenced s a.owner a.pointer) a.pointer) a.from new))) (sym long)
       ∙ (stores_lead s a.owner a.pointer a.from new law here small).ends
 
+-- ---- a write for which there is no place
+module _ (now : Moment) (a : Access) (is : IsAccess now.core a.owner a.pointer a.from a.count a) (room : has_no_room now.core a.owner a.pointer ≡ true) (new : List ℕ) (long : length new ≡ a.count) where
+  pub wants_no_room : first_cause (access_causes now a.owner a.pointer a.from (length new) ++ (has_no_room now.core a.owner a.pointer, NoRoom) ∷ []) ≡ Some NoRoom
+  wants_no_room = ap (λ n. first_cause (access_causes now a.owner a.pointer a.from n ++ (has_no_room now.core a.owner a.pointer, NoRoom) ∷ [])) long ∙ wants_room now a is true room
+
 -- ---- what isn't
 module _ (now : Moment) (a : Access) (is : IsAccess now.core a.owner a.pointer a.from a.count a) (room : has_no_room now.core a.owner a.pointer ≡ false) where
   pub read_made : (next : Moment) → next ≡ with_core now (dereferenced now.core a.owner a.pointer) → next ≡ effect now (Mutator a.owner (Read a.pointer a.from a.count))

@@ -62,7 +62,7 @@ leaving_stops now t count so_far phase stops (k, before, is, counts) =
     } in
     (0, k, made)
 
-evacuating_or : (p : Phase) → (p ≡ Evacuating) ⊎ (p ≢ Evacuating)
+pub evacuating_or : (p : Phase) → (p ≡ Evacuating) ⊎ (p ≢ Evacuating)
 evacuating_or Idle = inr (λ e. cc)
 evacuating_or Marking = inr (λ e. cc)
 evacuating_or Waiting = inr (λ e. cc)
@@ -143,6 +143,12 @@ never_device true true e = cc
 never_device true false e = cc
 never_device false spent e = cc
 
+pub never_barred : (m : Moment) → unselectable m ≡ Some Device → ⊥
+never_barred m e = never_device (is_idle m.phase) (is_spent m.core) e
+
+pub why_same : (a b : EvacFault) → Alike (Err a) (Err b) → a.why ≡ b.why
+why_same a b e = cc
+
 -- somewhere it stopped, where it wasn't done
 abbrev pub StopsSomewhere : Moment → Type 0
 StopsSomewhere t = (u : Moment) × (many : ℕ) × (counted : Tally) × StopsAt u many t counted
@@ -174,6 +180,3 @@ module _ (now t : Moment) (policy : Policy) (most turns : ℕ) (Gives : List ℕ
           | inr broken ↦ broken_stops fault free broken
         ]
       ] refl
-    where
-      why_same : (a b : EvacFault) → Alike (Err a) (Err b) → a.why ≡ b.why
-      why_same a b e = cc

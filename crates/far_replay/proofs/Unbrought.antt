@@ -1,32 +1,35 @@
--- Where the device fails, a command that is to reach a far object is left with what a try of that object leaves.
-use Rattle.std.proofs.Common.{◌≡◌, ◌≢◌, inl, inr, ℕ, ◌/◌, Bool, true, false, not, List, [], ◌∷◌, length, Option, Some, None, Result, Ok, Err, refl, sym, ap, subst, ◌∙◌}
-use Rattle.std.specs.Prelude.{IfErr}
-use Rattle.std.proofs.lemmas.Bool.{false≢true}
+-- Where the device fails, or gives another number of bytes, a command that is to reach a far object is left with what a try of that object leaves; and where there is no room it is refused.
+use Rattle.std.proofs.Common.{◌≡◌, ◌≢◌, ◌⊎◌, inl, inr, ℕ, ◌/◌, Bool, true, false, not, is_some, IsSome, List, [], ◌∷◌, length, Option, Some, None, Result, Ok, Err, refl, sym, ap, subst, ◌∙◌}
+use Rattle.std.specs.Prelude.{IfErr, IfOk}
+use Rattle.std.proofs.lemmas.Bool.{cond_both, false≢true}
 use Rattle.far_word.specs.declared.mark.Mark.TheVariants.{Hot}
 use Rattle.far_word.specs.declared.pointer.PtrWord.{PtrWord}
 use Rattle.far_word.specs.declared.pointer.PtrWord.TheVariants.{Free, Near, Far}
 use Rattle.far_word.specs.declared.refused.Refused.{Refused as Refusal}
-use Rattle.far_word.specs.declared.refused.Refused.TheVariants.{Device, Memory, Range, Closed, NotHeld, Marked}
+use Rattle.far_word.specs.declared.refused.Refused.TheVariants.{Damaged, Device, Memory, NoRoom, Range, Closed, NotHeld, Marked}
 use Rattle.far_word.specs.declared.sizes.TheConstants.{CELLS}
 use Rattle.far_word.specs.Pointer.{read_of}
-use Rattle.far_core.specs.events.Step.{is_opened}
+use Rattle.far_core.specs.events.Step.{after_pin, is_opened}
 use Rattle.far_core.specs.state.Law.{Law}
 use Rattle.far_core.specs.state.State.{State}
 use Rattle.far_core.proofs.Cells.{map_mark}
-use Rattle.far_book.specs.book.Dealing.{is_failure}
-use Rattle.far_text.specs.Command.{Command, Mutator, Read, Try, View, Write}
-use Rattle.far_replay.specs.Commanded.{StopsSo, Unbrought}
-use Rattle.far_replay.specs.Dereference.{RefusesView, has_no_room, says_near, sought, sought_of}
+use Rattle.far_hand.specs.declared.plain.Plain.{Plain}
+use Rattle.far_evac.specs.EvacOf.{EvacOf}
+use Rattle.far_text.specs.Command.{Command, Mutator, Try}
+use Rattle.far_replay.specs.Commanded.{KeepsFar, Serves, Refuses, Served, Stopped, Unbrought}
+use Rattle.far_replay.specs.Dereference.{RefusesBringing, RefusesView, comes_to, has_no_room, says_near, sought, sought_of}
 use Rattle.far_replay.specs.Effects.{is_slow, with_view}
-use Rattle.far_replay.specs.Interpreter.{IsAccess}
-use Rattle.far_replay.specs.Moment.{Moment}
-use Rattle.far_replay.specs.Outcome.{IsOutside}
+use Rattle.far_replay.specs.Interpreter.{refuser}
+use Rattle.far_replay.specs.Moment.{FarSide, Moment, moment_in, state_in, with_core}
+use Rattle.far_replay.specs.Outcome.{IsFromOutside, reply_by}
 use Rattle.far_replay.specs.Reply.{Refused}
+use Rattle.far_replay.specs.Spent.{Makes, SpentBy}
 use Rattle.far_replay.specs.Turn.{effect, first_cause, refusal, refused_effect, turn_effect, turn_reply, unless}
 use Rattle.far_replay.specs.declared.outcome.Outcome.{Outcome}
-use Rattle.far_replay.specs.declared.turn.Access.{Access}
+use Rattle.far_replay.specs.declared.outcome.Outcome.TheVariants as outcomes
+use Rattle.far_replay.specs.declared.outcome.Scratch.{Scratch}
 use Rattle.far_replay.proofs.Bringing.{SaysFar, far_is}
-use Rattle.far_replay.proofs.RangeTurns.{none, opened_inside, uses_own, view_cause, wants_room}
+use Rattle.far_replay.proofs.RangeTurns.{opened_inside, uses_own}
 use Rattle.far_replay.proofs.Views.{pin_read, slow_view}
 use Rattle.far_replay.proofs.WithCore.{moment_joined, same_order}
 
@@ -45,7 +48,7 @@ by_try why false b c d x y z w = absurd (false≢true x)
 
 -- ---- a pin that gives no view
 module _ (s : State) (m p : ℕ) (law : Law s) (opened : is_opened s m ≡ true) (own : p / CELLS ≡ m) (used : s.used p ≡ true) (slow : is_slow s p ≡ true) where
-  pinned : read_of ((with_view s p).cell p) ≡ map_mark Hot (read_of (s.cell p))
+  pub pinned : read_of ((with_view s p).cell p) ≡ map_mark Hot (read_of (s.cell p))
   pinned = ap (λ (t : State). read_of (t.cell p)) (slow_view s p slow) ∙ pin_read s m p law opened (uses_own s m p own used)
 
   -- what lies far after it lay far before
@@ -56,15 +59,30 @@ module _ (s : State) (m p : ℕ) (law : Law s) (opened : is_opened s m ≡ true)
   far_sought : (o : SaysFar (read_of (s.cell p))) → sought s m p ≡ with_view s p
   far_sought o = ap (sought_of (with_view s p) m p) (pinned ∙ ap (map_mark Hot) o.is)
 
--- ---- the device fails
-module _ (now next : Moment) (m p : ℕ) (law : Law now.core) (opened : is_opened now.core m ≡ true) (own : p / CELLS ≡ m) (used : now.core.used p ≡ true)
-    (refuses : RefusesView now.core m p Device next.core) (far : says_near (read_of (now.core.cell p)) ≡ false)
+-- ---- a refusal from outside
+-- the outside refuses nothing but by its device
+refuser_is : (why : Refusal) → KeepsFar why → refuser why ≡ Refuses why 0 0
+refuser_is Device keeps = refl
+refuser_is Damaged keeps = refl
+refuser_is why keeps = absurd keeps
+
+-- there was room, and nothing has changed but by the pin and the asking
+kept_far : (s t : State) (p : ℕ) (why : Refusal) → KeepsFar why → RefusesBringing s p why t → IsSome (comes_to s p) × (t ≡ s)
+kept_far s t p Device keeps h = h
+kept_far s t p Damaged keeps h = h
+kept_far s t p why keeps h = absurd keeps
+
+module _ (now next : Moment) (m p : ℕ) (law : Law now.core) (opened : is_opened now.core m ≡ true) (own : p / CELLS ≡ m) (used : now.core.used p ≡ true) (why : Refusal) (keeps : KeepsFar why)
+    (refuses : RefusesView now.core m p why next.core) (far : says_near (read_of (now.core.cell p)) ≡ false)
     (order : next.order ≡ now.order) (phase : next.phase ≡ now.phase) (held : next.collection ≡ now.collection) where
   lies : SaysFar (read_of (now.core.cell p))
   lies = far_is (read_of (now.core.cell p)) far (law.views.used_cell p used)
 
+  left : IsSome (comes_to (sought now.core m p) p) × (next.core ≡ sought now.core m p)
+  left = kept_far (sought now.core m p) next.core p why keeps refuses.1
+
   pub has_room : has_no_room now.core m p ≡ false
-  has_room = rw (refuses.0, refuses.1.0) refl
+  has_room = rw (refuses.0, left.0) refl
 
   cause : refusal now (Mutator m (Try p)) ≡ Some (Marked (now.core.cell p))
   cause = by_try (Marked (now.core.cell p)) _ _ _ _ (opened_inside now.core m opened) opened (uses_own now.core m p own used) refuses.0
@@ -72,13 +90,13 @@ module _ (now next : Moment) (m p : ℕ) (law : Law now.core) (opened : is_opene
   tried_moment : next ≡ effect now (Mutator m (Try p))
   tried_moment =
       let c : Command = Mutator m (Try p) in
-      moment_joined now next (with_view now.core p) (refuses.1.1 ∙ far_sought now.core m p law opened own used refuses.0 lies)
+      moment_joined now next (with_view now.core p) (left.1 ∙ far_sought now.core m p law opened own used refuses.0 lies)
       (order ∙ sym (same_order now (with_view now.core p) (ap (λ (t : State). t.current) (slow_view now.core p refuses.0)))) phase held
       ∙ ap (λ o. unless o (refused_effect now c) (turn_effect now c)) (sym cause)
 
-  pub unbrought : (c : Command) → refusal now c ≡ None → Unbrought Device now c m p (Refused Device) next
+  pub unbrought : (c : Command) → refusal now c ≡ None → Unbrought why now c m p (Refused why) next
   unbrought c allowed = record {
-    cause = tt;
+    cause = keeps;
     allowed = allowed;
     far = (lies.len, lies.ds, lies.marks, lies.is);
     tried = record {
@@ -88,29 +106,63 @@ module _ (now next : Moment) (m p : ℕ) (law : Law now.core) (opened : is_opene
     reply = refl;
   }
 
-  pub view_stops : StopsSo Device now (Mutator m (View p)) (Refused Device) next
-  view_stops = (0, 0, unbrought (Mutator m (View p)) (view_cause now next m p opened own used false has_room))
+-- ---- or for want of room
+current_of : (s : State) (m p : ℕ) (o : Option PtrWord) → (sought_of s m p o).current ≡ s.current
+current_of s m p None = refl
+current_of s m p (Some Free) = refl
+current_of s m p (Some (Near len ds place marks)) = refl
+current_of s m p (Some (Far len ds marks)) = refl
 
-module _ (now next : Moment) (a : Access) (law : Law now.core) (is : IsAccess now.core a.owner a.pointer a.from a.count a)
-    (refuses : RefusesView now.core a.owner a.pointer Device next.core) (far : says_near (read_of (now.core.cell a.pointer)) ≡ false)
-    (order : next.order ≡ now.order) (phase : next.phase ≡ now.phase) (held : next.collection ≡ now.collection) where
-  room : has_no_room now.core a.owner a.pointer ≡ false
-  room = has_room now next a.owner a.pointer law is.opened is.own is.used refuses far order phase held
+sought_current : (s : State) (m p : ℕ) → (sought s m p).current ≡ s.current
+sought_current s m p = current_of (with_view s p) m p (read_of ((with_view s p).cell p))
+    ∙ cond_both (is_some (s.held p)) s (after_pin s p) (λ (t : State). t.current ≡ s.current) (λ _. refl) (λ _. refl)
 
-  pub read_stops : StopsSo Device now (Mutator a.owner (Read a.pointer a.from a.count)) (Refused Device) next
-  read_stops = (0, 0, unbrought now next a.owner a.pointer law is.opened is.own is.used refuses far order phase held (Mutator a.owner (Read a.pointer a.from a.count)) (wants_room now a is false room))
+pub lacks_room : (s t : State) (m p : ℕ) → RefusesView s m p NoRoom t → has_no_room s m p ≡ true
+lacks_room s t m p h = rw (h.0, h.1.0) refl
 
-  pub write_stops : (new : List ℕ) → length new ≡ a.count → StopsSo Device now (Mutator a.owner (Write a.pointer a.from new)) (Refused Device) next
-  write_stops new long = (0, 0, unbrought now next a.owner a.pointer law is.opened is.own is.used refuses far order phase held (Mutator a.owner (Write a.pointer a.from new)) (none now a is room new long))
+-- a command that seeks it and is refused so
+pub unplaced : (now next : Moment) (m p : ℕ) (c : Command) → refusal now c ≡ Some NoRoom → refused_effect now c NoRoom ≡ with_core now (sought now.core m p) → RefusesView now.core m p NoRoom next.core →
+    next.order ≡ now.order → next.phase ≡ now.phase → next.collection ≡ now.collection → Served now c (Refused NoRoom) next
+unplaced now next m p c cause leaves refuses order phase held = record {
+  reply = ap (λ o. unless o Refused (turn_reply now c)) (sym cause);
+  moment = moment_joined now next (sought now.core m p) refuses.1.1 (order ∙ sym (same_order now (sought now.core m p) (sought_current now.core m p))) phase held
+      ∙ sym leaves ∙ ap (λ o. unless o (refused_effect now c) (turn_effect now c)) (sym cause);
+}
 
 -- ---- by what the refusal comes to
+-- the book refuses an object for want of room alone, where it isn't refused from outside
+unless_room : (s t : State) (m p : ℕ) (why : Refusal) → RefusesView s m p why t → why ≢ Memory → why ≢ Device → why ≢ Damaged → why ≡ NoRoom
+unless_room s t m p NoRoom h a b c = refl
+unless_room s t m p Memory h a b c = absurd (a refl)
+unless_room s t m p Device h a b c = absurd (b refl)
+unless_room s t m p Damaged h a b c = absurd (c refl)
+unless_room s t m p why h a b c = absurd h.1
 
-alike : (A B : Type 0) (why : Refusal) → is_failure {A = B} (Err why) ≡ is_failure {A = A} (Err why)
-alike A B Device = refl
-alike A B why = refl
+pub refused_within : (old new : EvacOf Plain FarSide) (m p : ℕ) (c : Command) (r : Result Outcome Refusal) (why : Refusal) (scratch : Scratch) →
+    IfOk r (λ outcome. (outcome ≡ outcomes.Refused why) × (why ≢ Memory) × (why ≢ Device) × (why ≢ Damaged)) → RefusesView (state_in old) m p why (state_in new) → SpentBy (refuser why) old new →
+    (RefusesView (state_in old) m p NoRoom (state_in new) → Served (moment_in old) c (Refused NoRoom) (moment_in new)) → IfOk r (λ outcome. Makes old c (reply_by scratch outcome) new)
+refused_within old new m p c (Ok outcome) why scratch (is, a, b, d) refuses spent served =
+    let room : why ≡ NoRoom = unless_room (state_in old) (state_in new) m p why refuses a b d in
+    subst (λ o. Makes old c (reply_by scratch o) new) (sym is)
+    (subst (λ w. Makes old c (Refused w) new) (sym room)
+    (Serves, served (subst (λ w. RefusesView (state_in old) m p w (state_in new)) room refuses), subst (λ w. SpentBy (refuser w) old new) room spent))
+refused_within old new m p c (Err e) why scratch told refuses spent served = tt
 
-pub stops_by : (now next : Moment) (c : Command) (r : Result Outcome Refusal) (why : Refusal) → IfErr r (λ by. (by ≡ why) × IsOutside why) →
-    (why ≡ Device → StopsSo Device now c (Refused Device) next) → IfErr r (λ by. by ≢ Memory → (by ≡ Device) × StopsSo by now c (Refused by) next)
-stops_by now next c (Ok x) why h stops = tt
-stops_by now next c (Err by) why (is, inl memory) stops = λ other. absurd (other (is ∙ memory))
-stops_by now next c (Err by) why (is, inr failed) stops = λ other. (is ∙ failed, subst (λ w. StopsSo w now c (Refused w) next) (sym (is ∙ failed)) (stops failed))
+-- whatever stands in the buffers
+pub within_each : (old new : EvacOf Plain FarSide) (m p : ℕ) (c : Command) (r : Result Outcome Refusal) (why : Refusal) → IfOk r (λ outcome. (outcome ≡ outcomes.Refused why) × (why ≢ Memory) × (why ≢ Device) × (why ≢ Damaged)) →
+    RefusesView (state_in old) m p why (state_in new) → SpentBy (refuser why) old new → (RefusesView (state_in old) m p NoRoom (state_in new) → Served (moment_in old) c (Refused NoRoom) (moment_in new)) →
+    IfOk r (λ outcome. (scratch : Scratch) → Makes old c (reply_by scratch outcome) new)
+within_each old new m p c (Ok outcome) why told refuses spent served = λ scratch. refused_within old new m p c (Ok outcome) why scratch told refuses spent served
+within_each old new m p c (Err e) why told refuses spent served = tt
+
+from_outside : (why : Refusal) → IsFromOutside why → why ≢ Memory → KeepsFar why
+from_outside why (inl memory) other = absurd (other memory)
+from_outside why (inr (inl failed)) other = subst KeepsFar (sym failed) tt
+from_outside why (inr (inr damaged)) other = subst KeepsFar (sym damaged) tt
+
+pub refused_outside : (old new : EvacOf Plain FarSide) (c : Command) (r : Result Outcome Refusal) (why : Refusal) → IfErr r (λ by. (by ≡ why) × IsFromOutside why) → SpentBy (refuser why) old new →
+    (KeepsFar why → Stopped why 0 0 (moment_in old) c (Refused why) (moment_in new)) → IfErr r (λ by. by ≢ Memory → Makes old c (Refused by) new)
+refused_outside old new c (Ok x) why h spent stops = tt
+refused_outside old new c (Err by) why (is, outside) spent stops = λ other.
+    let keeps : KeepsFar why = from_outside why outside (λ memory. other (is ∙ memory)) in
+    subst (λ w. Makes old c (Refused w) new) (sym is) (Refuses why 0 0, stops keeps, subst (λ o. SpentBy o old new) (refuser_is why keeps) spent)

@@ -9,6 +9,7 @@ use Rattle.far_core.specs.world.WorldOf.{world_of}
 use Rattle.far_book.specs.declared.home.Home.{Home}
 use Rattle.far_book.specs.declared.home.Home.TheVariants.{Near, Far}
 use Rattle.far_text.specs.Command.{Command, New, Open, Write, Read, Close, Where, Drop, View, Try, Epoch, Mutator, Book, Evacuator}
+use Rattle.far_replay.specs.Commanded.{AsksFor}
 use Rattle.far_replay.specs.Reply.{Reply, Done, Pointer, Data, Lies, EpochRead, Refused}
 use Rattle.far_replay.specs.Objects.{with_range}
 
@@ -87,6 +88,23 @@ Knows m o (Mutator _ Epoch) (EpochRead epoch) q = (o.opened ≡ false) × (q ≡
 Knows m o (Mutator _ Epoch) (Refused AlreadyOpen) q = (o.opened ≡ true) × (q ≡ o)
 Knows m o _ _ q = ⊥
 
+-- where a device may lie, a mutator may be given other bytes of an object that it doesn't view, as many as it has: so it may be whenever it asks for them, since it doesn't know which
+-- objects are far
+pub record IsMisled (m : ℕ) (o : Own) (c : Command) (r : Reply) (q : Own) : Type 0 where
+  pub p : ℕ
+  pub asks : AsksFor m p c
+  pub free : o.viewed p ≡ false
+  pub old : List ℕ
+  pub new : List ℕ
+  pub had : o.object p ≡ Some old
+  pub long : length new ≡ length old
+  pub knows : Knows m (record o { object = put o.object p (Some new) }) c r q
+
+-- what it knows then, of a device that tells what was written; and of one that may not
+abbrev pub KnowsBy : Bool → ℕ → Own → Command → Reply → Own → Type 0
+KnowsBy true m o c r q = Knows m o c r q
+KnowsBy false m o c r q = Knows m o c r q ⊎ IsMisled m o c r q
+
 -- whose command it is, none's for an inquiry and for a step of the evacuator
 abbrev pub speaker : Command → Option ℕ
 speaker (Mutator m request) = Some m
@@ -98,10 +116,10 @@ is_by m None = false
 is_by m (Some k) = k == m
 
 -- the replies to the mutator's own lines, from what it knows on; lines of others change nothing
-abbrev pub Alone : ℕ → Own → List Command → List Reply → Type 0
-Alone m o [] [] = Unit {0}
-Alone m o (c ∷ cs) (r ∷ rs) = MatchBool (is_by m (speaker c)) ((q : Own) × Knows m o c r q × Alone m q cs rs) (Alone m o cs rs)
-Alone m o _ _ = ⊥
+abbrev pub Alone : Bool → ℕ → Own → List Command → List Reply → Type 0
+Alone honest m o [] [] = Unit {0}
+Alone honest m o (c ∷ cs) (r ∷ rs) = MatchBool (is_by m (speaker c)) ((q : Own) × KnowsBy honest m o c r q × Alone honest m q cs rs) (Alone honest m o cs rs)
+Alone honest m o _ _ = ⊥
 
 -- what a world says of a mutator
 abbrev pub bytes_in_world : Option Object → Option (List ℕ)
@@ -117,4 +135,4 @@ own_of w m = record {
 
 -- what the mutator m learns of a command: what its reply says, where it is its own; else nothing
 abbrev pub Learns : State → ℕ → Command → Reply → State → Type 0
-Learns s m c r t = MatchBool (is_by m (speaker c)) (Knows m (own_of (world_of s) m) c r (own_of (world_of t) m)) (own_of (world_of t) m ≡ own_of (world_of s) m)
+Learns s m c r t = MatchBool (is_by m (speaker c)) (KnowsBy s.honest m (own_of (world_of s) m) c r (own_of (world_of t) m)) (own_of (world_of t) m ≡ own_of (world_of s) m)

@@ -1,24 +1,28 @@
 -- What is written for a text.
-use Rattle.std.specs.Prelude.{◌≡◌, ◌⊎◌, ℕ, zero, suc, true, Option, Some, None, List, [], ◌∷◌, ◌++◌, Result, Ok, Err, if◌then◌else◌}
+use Rattle.std.specs.Prelude.{◌≡◌, ◌⊎◌, ℕ, zero, suc, Bool, false, true, Option, Some, None, List, [], ◌∷◌, ◌++◌, Result, Ok, Err, if◌then◌else◌}
 use Rattle.std.specs.Bool.{MatchBool}
 use Rattle.std.specs.List.{flat_map}
 use Rattle.std.specs.Io.KnownBytes.{Appends, Keeps}
-use Rattle.far_word.specs.declared.refused.Refused.TheVariants.{Device as Failed, Memory, Shape, Syntax}
+use Rattle.far_word.specs.declared.refused.Refused.TheVariants.{Damaged, Device as Failed, Memory, Shape, Syntax}
 use Rattle.far_core.specs.declared.shape.Shape.{Shape as Size}
 use Rattle.far_core.specs.state.Opening.{opening}
+use Rattle.far_core.specs.state.Law.{StoresBack}
 use Rattle.far_core.specs.state.Shape.{is_shape}
-use Rattle.far_text.specs.Command.{Command, Device, Flawed, Fail, Trace, Nothing, Heap}
+use Rattle.far_device.specs.Liar.{is_honest}
+use Rattle.far_device.specs.declared.liar.Lie.{Lie}
+use Rattle.far_device.specs.declared.liar.Lie.TheVariants.{Never, Short as Shortens, Flip as Inverts}
+use Rattle.far_word.specs.Pointer.{read_of}
+use Rattle.far_text.specs.Command.{Command, Device, Flawed, Fail, Short, Flip, Trace, Nothing, Heap}
 use Rattle.far_text.specs.Grammar.{trace_of}
-pub use Rattle.far_replay.specs.Commanded.{Commanded, CommandedBy, Outside, Serves, Refuses, Served, Stopped, Unbrought, StopsLeaving, StopsRound}
-use Rattle.far_replay.specs.Moment.{Moment, moment_of}
+pub use Rattle.far_replay.specs.Commanded.{Commanded, CommandedBy, Outside, Serves, Refuses, Gives, Served, Stopped, Unbrought, StopsLeaving, StopsRound, Misled, MisledBy}
+use Rattle.far_replay.specs.Moment.{Moment, as_if_stored, moment_of}
 use Rattle.far_replay.specs.Reply.{Reply, Done, Refused, reply_text}
 use Rattle.far_replay.specs.declared.running.End.{End}
 use Rattle.far_replay.specs.declared.running.End.TheVariants.{Ran, Refused as Turned}
 use Rattle.far_replay.specs.declared.running.RunFault.{RunFault}
 use Rattle.far_replay.specs.declared.running.RunFault.TheVariants as faults
 use Rattle.far_replay.specs.Stream.{AppendsFront, AppendsPart}
-use Rattle.far_replay.specs.Turn.{effect}
-use Rattle.far_text.specs.Written.{AllWriteBytes}
+use Rattle.far_text.specs.Written.{AllWriteBytes, WritesBytes}
 
 -- one reply a command, and a list of moments, each after its command from the one before
 abbrev pub Answered : Moment → List Command → List Reply → List Moment → Type 0
@@ -32,22 +36,38 @@ AnsweredBy [] now [] [] [] = Unit {0}
 AnsweredBy (o ∷ os) now (c ∷ cs) (r ∷ rs) (after ∷ moments) = CommandedBy o now c r after × AnsweredBy os after cs rs moments
 AnsweredBy _ now _ _ _ = ⊥
 
--- the outside refuses no more than so many commands, and each as the device failed
-abbrev pub FailsAtMost : ℕ → List Outside → Type 0
-FailsAtMost n [] = Unit {0}
-FailsAtMost n (Serves ∷ os) = FailsAtMost n os
-FailsAtMost zero (Refuses why turns objects ∷ os) = ⊥
-FailsAtMost (suc n) (Refuses why turns objects ∷ os) = (why ≡ Failed) × FailsAtMost n os
+-- what a command comes to by the flaw of a device. One that doesn't lie fails: the command is refused so. One that gives a byte too few has it refused as damaged; one that inverts
+-- bytes gives others
+abbrev pub IsFlaw : Lie → Outside → Type 0
+IsFlaw Never (Refuses why turns objects) = why ≡ Failed
+IsFlaw Shortens (Refuses why turns objects) = why ≡ Damaged
+IsFlaw Inverts (Gives row) = Unit {0}
+IsFlaw lie o = ⊥
 
--- it refuses nothing
-abbrev pub AllServed : List Outside → Type 0
-AllServed outside = FailsAtMost 0 outside
+-- no more than so many commands come to that; all others are served
+abbrev pub FlawedAtMost : Lie → ℕ → List Outside → Type 0
+FlawedAtMost lie n [] = Unit {0}
+FlawedAtMost lie n (Serves ∷ os) = FlawedAtMost lie n os
+FlawedAtMost lie zero (Refuses why turns objects ∷ os) = ⊥
+FlawedAtMost lie zero (Gives row ∷ os) = ⊥
+FlawedAtMost lie (suc n) (Refuses why turns objects ∷ os) = IsFlaw lie (Refuses why turns objects) × FlawedAtMost lie n os
+FlawedAtMost lie (suc n) (Gives row ∷ os) = IsFlaw lie (Gives row) × FlawedAtMost lie n os
 
--- how many calls of a heap's device are to fail
-abbrev pub to_fail : Option Device → ℕ
-to_fail None = 0
-to_fail (Some (Flawed Fail zero)) = 0
-to_fail (Some (Flawed Fail (suc call))) = 1
+-- what a heap's device tells in one read, in place of the bytes
+abbrev pub lie_of : Option Device → Lie
+lie_of (Some (Flawed Short (suc call))) = Shortens
+lie_of (Some (Flawed Flip (suc call))) = Inverts
+lie_of device = Never
+
+-- whether what is read of it is always what was written
+abbrev pub is_true : Option Device → Bool
+is_true device = is_honest (lie_of device) true
+
+-- how many of its calls have its flaw
+abbrev pub flaws : Option Device → ℕ
+flaws None = 0
+flaws (Some (Flawed flaw zero)) = 0
+flaws (Some (Flawed flaw (suc call))) = 1
 
 -- the replies before those of commands: to the heap, and to its device if it is said
 abbrev pub opened : Option Device → List Reply
@@ -58,27 +78,26 @@ opened (Some device) = Done ∷ Done ∷ []
 abbrev pub shape_of : ℕ → ℕ → ℕ → Size
 shape_of logs mutators epoch = record { logs = logs; mutators = mutators; epoch = epoch }
 
--- the first moment of a heap
-abbrev pub first_moment : ℕ → ℕ → ℕ → Moment
-first_moment logs mutators epoch = moment_of (opening (shape_of logs mutators epoch) true)
+-- the first moment of a heap, whose device tells what was written or may not
+abbrev pub first_moment : ℕ → ℕ → ℕ → Bool → Moment
+first_moment logs mutators epoch honest = moment_of (opening (shape_of logs mutators epoch) honest)
 
--- the moment after these commands
-abbrev pub moment_after : Moment → List Command → Moment
-moment_after now [] = now
-moment_after now (c ∷ cs) = moment_after (effect now c) cs
-
--- a moment to which a heap in range comes by commands
-abbrev pub IsMoment : Moment → Type 0
-IsMoment now = (logs mutators epoch : ℕ) × (cs : List Command) × (is_shape (shape_of logs mutators epoch) ≡ true) × AllWriteBytes cs × (now ≡ moment_after (first_moment logs mutators epoch) cs)
+-- a moment to which a heap in range comes by commands; and also one that has other words stored of an object in use, which are as many as it has where it is far: to whoever reads
+-- what a lying device gives they are
+pub data IsMoment : Moment → Type 0 where
+  Begins : {x : Moment} (logs mutators epoch : ℕ) (honest : Bool) → is_shape (shape_of logs mutators epoch) ≡ true → x ≡ first_moment logs mutators epoch honest → IsMoment x
+  Comes : {x : Moment} (now : Moment) (c : Command) (r : Reply) → IsMoment now → WritesBytes c → Served now c r x → IsMoment x
+  Stores : {x : Moment} (now : Moment) (p : ℕ) (row : ℕ → ℕ) → IsMoment now → now.core.used p ≡ true → StoresBack row (read_of (now.core.cell p)) → x ≡ as_if_stored now p row → IsMoment x
 
 -- the output of what a text is read as: off the grammar that refusal alone; for nothing nothing; for a heap out of range its
--- refusal alone; else `ok`, another for its device if it is said, and the lines of the replies, from the heap's first moment on; the outside refuses what the device is said to
+-- refusal alone; else `ok`, another for its device if it is said, and the lines of the replies, from the heap's first moment on; one command at most comes to what the device's flaw makes of it
 abbrev pub IsOutput : Result Trace ℕ → List ℕ → Type 0
 IsOutput (Err line) output = output ≡ reply_text (Refused (Syntax line))
 IsOutput (Ok Nothing) output = output ≡ []
 IsOutput (Ok (Heap logs mutators epoch device commands)) output =
     MatchBool (is_shape (shape_of logs mutators epoch))
-    ((outside : List Outside) × (replies : List Reply) × (moments : List Moment) × FailsAtMost (to_fail device) outside × AnsweredBy outside (first_moment logs mutators epoch) commands replies moments
+    ((outside : List Outside) × (replies : List Reply) × (moments : List Moment) × FlawedAtMost (lie_of device) (flaws device) outside
+    × AnsweredBy outside (first_moment logs mutators epoch (is_true device)) commands replies moments
     × (output ≡ flat_map reply_text (opened device ++ replies)))
     (output ≡ reply_text (Refused Shape))
 

@@ -1,10 +1,11 @@
--- What one command comes to: it is served; or what is outside the heap, its device, refuses it in its midst, and the run goes on.
-use Rattle.std.specs.Prelude.{◌≡◌, ℕ, ◌<◌, false, Some, None}
+-- What one command comes to: it is served; or what is outside the heap, its device, refuses it in its midst, or gives it other bytes than were stored; and the run goes on.
+use Rattle.std.specs.Prelude.{◌≡◌, ◌≢◌, ℕ, ◌<◌, false, Some, None, IsSome}
 use Rattle.far_word.specs.declared.mark.Marks.{Marks}
 use Rattle.far_word.specs.declared.pointer.PtrWord.TheVariants.{Far}
 use Rattle.far_word.specs.declared.refused.Refused.{Refused as Refusal}
 use Rattle.far_word.specs.declared.refused.Refused.TheVariants.{Damaged, Device, Marked}
 use Rattle.far_word.specs.Pointer.{read_of}
+use Rattle.far_core.specs.state.Law.{IsStored}
 use Rattle.far_core.specs.state.State.{State}
 use Rattle.far_evac.specs.declared.answers.Progress.{Progress}
 use Rattle.far_evac.specs.declared.answers.RoundEnd.TheVariants.{Limit}
@@ -13,7 +14,7 @@ use Rattle.far_evac.specs.Choosing.{after_selecting}
 use Rattle.far_evac.specs.Moment.{plus, progress_of, tally_of}
 use Rattle.far_evac.specs.Turns.{turn_size, turns_made}
 use Rattle.far_text.specs.Command.{Command, Write, Read, View, Try, Mutator, Evacuator, Evacuate, Policy, Round}
-use Rattle.far_replay.specs.Moment.{Moment}
+use Rattle.far_replay.specs.Moment.{Moment, as_if_stored}
 use Rattle.far_replay.specs.Reply.{Reply, Ended, Evacuated, Halted, Refused}
 use Rattle.far_replay.specs.Rounds.{chosen_by, rows_in}
 use Rattle.far_replay.specs.Turn.{effect, refusal, reply_to}
@@ -24,10 +25,12 @@ pub record Served (now : Moment) (c : Command) (r : Reply) (after : Moment) : Ty
   pub moment : after ≡ effect now c
 
 -- ---- it is refused in its midst
--- what the outside made of a command: all that was asked; or it refused something, for this reason, after so many turns of a round and after so many objects
+-- what the outside made of a command: all that was asked; or it refused something, for this reason, after so many turns of a round and after so many objects; or it gave
+-- these words of a far object, whatever was stored
 pub data Outside : Type 0 where
   Serves : Outside
   Refuses : (why : Refusal) (turns objects : ℕ) → Outside
+  Gives : (row : ℕ → ℕ) → Outside
 
 -- why an object isn't brought: the device failed, or gave another number of bytes. Why one doesn't leave: the device failed
 abbrev pub KeepsFar : Refusal → Type 0
@@ -84,10 +87,37 @@ Stopped why turns objects now c r after = ⊥
 abbrev pub StopsSo : Refusal → Moment → Command → Reply → Moment → Type 0
 StopsSo why now c r after = (turns objects : ℕ) × Stopped why turns objects now c r after
 
--- ---- either
+-- ---- it is given other words of a far object
+-- a command that reaches a far object is served as if these words were stored of it, which are as many as it has; the object is viewed then. What is stored is told to nobody, and
+-- stays
+pub record Misled (row : ℕ → ℕ) (now : Moment) (c : Command) (p : ℕ) (r : Reply) (after : Moment) : Type 0 where
+  pub lies : now.core.honest ≡ false
+  pub far : LiesFar now.core p
+  pub fits : IsStored row far.0
+  pub served : Served (as_if_stored now p row) c r (as_if_stored after p row)
+  pub answered : (why : Refusal) → r ≢ Refused why
+  pub viewed : IsSome (after.core.held p)
+  pub kept : after.core.stored p ≡ now.core.stored p
+
+-- a mutator's command asks for an object's words, unless it views it
+abbrev pub AsksFor : ℕ → ℕ → Command → Type 0
+AsksFor m p (Mutator k (Write q from bytes)) = (k ≡ m) × (q ≡ p)
+AsksFor m p (Mutator k (Read q from len)) = (k ≡ m) × (q ≡ p)
+AsksFor m p (Mutator k (View q)) = (k ≡ m) × (q ≡ p)
+AsksFor m p c = ⊥
+
+-- no other command does
+abbrev pub MisledBy : (ℕ → ℕ) → Moment → Command → Reply → Moment → Type 0
+MisledBy row now (Mutator m (Write p from bytes)) r after = Misled row now (Mutator m (Write p from bytes)) p r after
+MisledBy row now (Mutator m (Read p from len)) r after = Misled row now (Mutator m (Read p from len)) p r after
+MisledBy row now (Mutator m (View p)) r after = Misled row now (Mutator m (View p)) p r after
+MisledBy row now c r after = ⊥
+
+-- ---- any of these
 abbrev pub CommandedBy : Outside → Moment → Command → Reply → Moment → Type 0
 CommandedBy Serves now c r after = Served now c r after
 CommandedBy (Refuses why turns objects) now c r after = Stopped why turns objects now c r after
+CommandedBy (Gives row) now c r after = MisledBy row now c r after
 
 -- one command, from a moment to the next, with its reply, whatever the outside made of it
 abbrev pub Commanded : Moment → Command → Reply → Moment → Type 0

@@ -1,5 +1,5 @@
 -- The words that the interpreter's own contracts need.
-use Rattle.std.specs.Prelude.{◌≡◌, ℕ, ◌+◌, ◌/◌, ◌<◌, ◌≤◌, true, List, Option, Some, None, IsSome, Result, Ok, Err, IfOk, IfErr, if◌then◌else◌}
+use Rattle.std.specs.Prelude.{◌≡◌, ℕ, ◌+◌, ◌/◌, ◌<◌, ◌≤◌, false, true, List, Option, Some, None, IsSome, Result, Ok, Err, IfOk, IfErr, if◌then◌else◌}
 use Rattle.far_word.specs.declared.refused.Refused.{Refused as Refusal}
 use Rattle.far_word.specs.declared.sizes.TheConstants.{CELLS, LONGEST}
 use Rattle.far_word.specs.declared.pointer.Place.{Place}
@@ -10,6 +10,7 @@ use Rattle.far_book.specs.book.Dealing.{order_moved}
 use Rattle.far_book.specs.book.Effects.{order_after}
 use Rattle.far_core.specs.state.State.{State}
 use Rattle.far_evac.specs.EvacOf.{EvacOf}
+use Rattle.far_evac.specs.declared.answers.EvacFault.{EvacFault}
 use Rattle.far_hand.specs.declared.plain.Plain.{Plain}
 use Rattle.far_core.specs.events.Step.{data_len, is_opened}
 use Rattle.far_replay.specs.declared.turn.Access.{Access}
@@ -17,9 +18,13 @@ use Rattle.far_replay.specs.Outcome.{reply_by}
 use Rattle.far_replay.specs.Reply.{Reply}
 use Rattle.far_replay.specs.declared.outcome.Outcome.{Outcome}
 use Rattle.far_replay.specs.declared.outcome.Scratch.{Scratch}
-use Rattle.far_replay.specs.Dereference.{RefusesBringing, asked_for, come, comes_to, sought}
-use Rattle.far_replay.specs.Effects.{is_slow}
-use Rattle.far_replay.specs.Moment.{FarSide, KeepsRound, state_in}
+use Rattle.far_word.specs.declared.refused.Refused.TheVariants.{Damaged, Device}
+use Rattle.far_replay.specs.Dereference.{RefusesBringing, RefusesView, asked_for, come, comes_to, dereferenced, has_no_room, says_near, sought}
+use Rattle.far_replay.specs.Effects.{is_slow, with_view}
+use Rattle.far_core.specs.state.Law.{StoresBack}
+use Rattle.far_replay.specs.Commanded.{Outside, Serves, Refuses, Gives}
+use Rattle.far_replay.specs.Moment.{FarSide, KeepsRound, state_in, with_stored}
+use Rattle.far_replay.specs.Spent.{SpentBy}
 use Rattle.far_replay.specs.Objects.{object_len}
 
 -- why a call was refused, if it was
@@ -66,11 +71,69 @@ order_come s order p = order_come_of s order p (comes_to s p) (read_of (s.cell p
 abbrev pub order_dereferenced : State → List ℕ → ℕ → ℕ → List ℕ
 order_dereferenced s order m p = if is_slow s p then order_come (sought s m p) order p else order
 
--- from one evacuator to another an object that its owner asked for has come to where a view may rest, or is refused a place or memory, and nothing has changed but that it was asked for
+-- ---- the words of an object that is brought
+-- those that the outside gave of it: what was stored, or others
+abbrev pub words_by : Outside → State → ℕ → ℕ → ℕ
+words_by Serves s p = s.stored p
+words_by (Refuses why turns objects) s p = s.stored p
+words_by (Gives row) s p = row
+
+-- others only of a far object, as many as it has, where the far side isn't honest
+abbrev pub MayGive : Outside → State → ℕ → Type 0
+MayGive Serves s p = Unit {0}
+MayGive (Refuses why turns objects) s p = ⊥
+MayGive (Gives row) s p = (s.honest ≡ false) × (says_near (read_of (s.cell p)) ≡ false) × StoresBack row (read_of (s.cell p))
+
+-- the state as if those were stored
+abbrev pub as_given : Outside → State → ℕ → State → State
+as_given o s p t = with_stored t p (words_by o s p)
+
+-- an object that its owner asks for has come to where a view may rest, with the words that were given; what is stored has stayed
+pub record Comes (old new : EvacOf Plain FarSide) (m p : ℕ) (o : Outside) : Type 0 where
+  pub given : MayGive o (state_in old) p
+  pub state : as_given o (state_in old) p (state_in new) ≡ come (asked_for (as_given o (state_in old) p (state_in old)) m p) p
+  pub room : IsSome (comes_to (asked_for (as_given o (state_in old) p (state_in old)) m p) p)
+  pub order : new.book.order ≡ order_come (asked_for (as_given o (state_in old) p (state_in old)) m p) old.book.order p
+  pub stored : (state_in new).stored ≡ (state_in old).stored
+  pub spent : SpentBy o old new
+
+-- what the outside made of a command that it refused so
+abbrev pub refuser : Refusal → Outside
+refuser Device = Refuses Device 0 0
+refuser Damaged = Refuses Damaged 0 0
+refuser why = Serves
+
+-- or it is refused a place, or refused by what is outside the heap, and nothing has changed but that it was asked for
 pub record Brings (old new : EvacOf Plain FarSide) (m p : ℕ) (result : Result (Unit {0}) Refusal) : Type 0 where
-  pub state : IfOk result (λ _. state_in new ≡ come (asked_for (state_in old) m p) p)
-  pub room : IfOk result (λ _. IsSome (comes_to (asked_for (state_in old) m p) p))
+  pub comes : IfOk result (λ _. (o : Outside) × Comes old new m p o)
   pub refused : IfErr result (λ why. RefusesBringing (asked_for (state_in old) m p) p why (state_in new))
-  pub order : IfOk result (λ _. new.book.order ≡ order_come (asked_for (state_in old) m p) old.book.order p)
   pub shut : IfErr result (λ _. new.book.order ≡ old.book.order)
   pub round : KeepsRound old new
+  pub spent : IfErr result (λ why. SpentBy (refuser why) old new)
+
+-- it is dereferenced so, with the words that were given
+pub record Dereferences (old new : EvacOf Plain FarSide) (m p : ℕ) (o : Outside) : Type 0 where
+  pub given : MayGive o (state_in old) p
+  pub state : as_given o (state_in old) p (state_in new) ≡ dereferenced (as_given o (state_in old) p (state_in old)) m p
+  pub room : has_no_room (as_given o (state_in old) p (state_in old)) m p ≡ false
+  pub order : new.book.order ≡ order_dereferenced (as_given o (state_in old) p (state_in old)) old.book.order m p
+  pub stored : (state_in new).stored ≡ (state_in old).stored
+  pub spent : SpentBy o old new
+
+-- from a pin on that gave no view
+pub record Views (old new : EvacOf Plain FarSide) (m p : ℕ) (o : Outside) : Type 0 where
+  pub given : MayGive o (state_in old) p
+  pub state : as_given o (state_in old) p (state_in new) ≡ with_view (come (asked_for (as_given o (state_in old) p (state_in old)) m p) p) p
+  pub room : IsSome (comes_to (asked_for (as_given o (state_in old) p (state_in old)) m p) p)
+  pub order : new.book.order ≡ order_come (asked_for (as_given o (state_in old) p (state_in old)) m p) old.book.order p
+  pub stored : (state_in new).stored ≡ (state_in old).stored
+  pub spent : SpentBy o old new
+
+-- what the outside made of a step that the evacuator answered so
+abbrev pub stopper_of : Refusal → Outside
+stopper_of Device = Refuses Device 0 0
+stopper_of why = Serves
+
+abbrev pub stopper : {A : Type 0} → Result A EvacFault → Outside
+stopper (Ok x) = Serves
+stopper (Err fault) = stopper_of fault.why

@@ -1,8 +1,9 @@
 -- A heap between two commands: all that a command's refusal, effect and reply may hang on.
-use Rattle.std.specs.Prelude.{◌≡◌, []}
+use Rattle.std.specs.Prelude.{◌≡◌, ℕ, []}
 use Rattle.far_core.specs.state.CoreState.{core_state}
-use Rattle.far_core.specs.state.State.{State}
+use Rattle.far_core.specs.state.State.{State, put}
 use Rattle.far_device.specs.declared.fail_at.FailAt.{FailAt}
+use Rattle.far_device.specs.declared.liar.Liar.{Liar}
 use Rattle.far_device.specs.declared.mem.MemDevice.{MemDevice}
 use Rattle.far_hand.specs.declared.plain.Plain.{Plain}
 use Rattle.far_evac.specs.EvacOf.{EvacOf}
@@ -13,9 +14,16 @@ use Rattle.far_evac.specs.declared.phase.Phase.TheVariants.{Idle}
 abbrev pub moment_of : State → Moment
 moment_of s = record { core = s; order = []; phase = Idle; collection = [] }
 
--- the far side: a device in memory, of which one call may fail
+-- the far side: a device in memory, of which one call may fail, and one read may be a lie
 abbrev pub FarSide : Type 0
-FarSide = FailAt MemDevice
+FarSide = Liar (FailAt MemDevice)
+
+-- all as it was, but that these words are stored of p
+abbrev pub with_stored : State → ℕ → (ℕ → ℕ) → State
+with_stored s p row = record s { stored = put s.stored p row }
+
+abbrev pub as_if_stored : Moment → ℕ → (ℕ → ℕ) → Moment
+as_if_stored now p row = record now { core = with_stored now.core p row }
 
 -- the state of the core that an evacuator's book has in its hand
 abbrev pub state_in : EvacOf Plain FarSide → State

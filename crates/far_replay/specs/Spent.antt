@@ -1,27 +1,34 @@
--- How often a heap's device may yet fail, and what a command spends of that.
-use Rattle.std.specs.Prelude.{◌≡◌, ℕ, Bool, true, false}
-use Rattle.far_word.specs.declared.refused.Refused.TheVariants.{Device as Failed}
+-- How many commands a heap's device may yet spoil, and what a command spends of that.
+use Rattle.std.specs.Prelude.{◌≡◌, ℕ, zero, suc}
 use Rattle.far_device.specs.FailAt.{MayFail}
-use Rattle.far_device.specs.Faults.{SpendsFault}
+use Rattle.far_device.specs.declared.liar.Lie.{Lie}
+use Rattle.far_device.specs.declared.liar.Lie.TheVariants.{Never, Short, Flip}
 use Rattle.far_hand.specs.declared.plain.Plain.{Plain}
 use Rattle.far_evac.specs.EvacOf.{EvacOf}
 use Rattle.far_text.specs.Command.{Command}
-use Rattle.far_replay.specs.Commanded.{CommandedBy, Outside, Serves, Refuses}
+use Rattle.far_replay.specs.Answers.{CommandedBy, IsFlaw, Outside, Serves, Refuses, Gives}
 use Rattle.far_replay.specs.Moment.{FarSide, moment_in}
 use Rattle.far_replay.specs.Reply.{Reply}
 
--- the device of a heap fails no more than so often
-abbrev pub may_fail : EvacOf Plain FarSide → ℕ → Type 0
-may_fail evac = MayFail evac.book.device.left (λ n. Unit {0})
+-- so many calls may yet have its flaw: of a device that doesn't lie they fail; of one that lies none fails, and so many reads are lies
+abbrev pub IsLeft : Lie → FarSide → ℕ → Type 0
+IsLeft Never device n = MayFail device.inner.left (λ k. Unit {0}) n
+IsLeft Short device n = MayFail device.inner.left (λ k. Unit {0}) 0 × MayFail device.left (λ k. Unit {0}) n
+IsLeft Flip device n = MayFail device.inner.left (λ k. Unit {0}) 0 × MayFail device.left (λ k. Unit {0}) n
 
--- one failure less is to come; or no more than were
-abbrev pub Spends : Bool → EvacOf Plain FarSide → EvacOf Plain FarSide → Type 0
-Spends failed old new = SpendsFault failed (may_fail old) (may_fail new)
+abbrev pub may_spoil : Lie → EvacOf Plain FarSide → ℕ → Type 0
+may_spoil lie evac n = (evac.book.device.lie ≡ lie) × IsLeft lie evac.book.device n
 
--- what the outside made of a command, by what it spent of the device
+-- where so many were left, no more are, where a command is served; where it isn't, it came to what the flaw makes of it, and one less is left
+abbrev pub Spends : Lie → Outside → ℕ → EvacOf Plain FarSide → Type 0
+Spends lie Serves n new = may_spoil lie new n
+Spends lie (Refuses why turns objects) zero new = ⊥
+Spends lie (Refuses why turns objects) (suc n) new = IsFlaw lie (Refuses why turns objects) × may_spoil lie new n
+Spends lie (Gives row) zero new = ⊥
+Spends lie (Gives row) (suc n) new = IsFlaw lie (Gives row) × may_spoil lie new n
+
 abbrev pub SpentBy : Outside → EvacOf Plain FarSide → EvacOf Plain FarSide → Type 0
-SpentBy Serves old new = Spends false old new
-SpentBy (Refuses why turns objects) old new = (why ≡ Failed) × Spends true old new
+SpentBy o old new = (lie : Lie) (n : ℕ) → may_spoil lie old n → Spends lie o n new
 
 -- a command was made, with this reply
 abbrev pub Makes : EvacOf Plain FarSide → Command → Reply → EvacOf Plain FarSide → Type 0

@@ -7,7 +7,8 @@ ghost use Rattle.far_replay.specs.Events.{events_for};
 ghost use Rattle.far_replay.specs.EventRows.{after_events};
 ghost use Rattle.far_replay.specs.Interpreter.{StandsFor};
 ghost use Rattle.far_replay.specs.Moment.{KeepsRound, moment_in, state_in};
-ghost use Rattle.far_replay.specs.Spent.{Spends};
+ghost use Rattle.far_replay.specs.Commanded.{Serves};
+ghost use Rattle.far_replay.specs.Spent.{SpentBy};
 ghost use Rattle.far_replay.specs.Outcome.{IsInScratch};
 ghost use Rattle.far_replay.specs.Turn.{reply_to};
 
@@ -27,7 +28,7 @@ pub fn drop_object(evac: &mut Evac<Plain, FarSide>, owner: u8, pointer: u64) -> 
     ensures fits { IsInScratch result }
     ensures order { evac.new.book.order ≡ evac.old.book.order }
     ensures round { KeepsRound evac.old evac.new }
-    ensures spent { Spends false evac.old evac.new }
+    ensures spent { SpentBy Serves evac.old evac.new }
 {
     let Some(pointer) = own_pointer(evac, owner, pointer) else {
         return Outcome::Refused(Refused::NotHeld);

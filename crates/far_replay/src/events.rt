@@ -1,18 +1,17 @@
 //! How an owner opens its scope and views an object.
 
-ghost use Rattle.far_word.specs.declared.refused.Refused.TheVariants.{Device as Failed};
-ghost use Rattle.std.specs.Prelude.{◌≡◌, ◌/◌, ℕ, true, false, Err, None, IsSome, IfOk, IfErr};
+ghost use Rattle.std.specs.Prelude.{◌≡◌, ◌/◌, ℕ, true, false, None, IsSome, IfOk, IfErr};
 ghost use Rattle.far_word.specs.declared.sizes.TheConstants.{CELLS};
 ghost use Rattle.far_core.specs.events.Step.{is_opened};
 ghost use Rattle.far_word.specs.Pointer.{read_of};
-ghost use Rattle.far_replay.specs.Dereference.{RefusesBringing, RefusesView, asked_for, come, comes_to, dereferenced, has_no_room, says_near};
+ghost use Rattle.far_replay.specs.Commanded.{KeepsFar, Outside};
+ghost use Rattle.far_replay.specs.Dereference.{RefusesBringing, RefusesView, asked_for, says_near};
 ghost use Rattle.far_replay.specs.Effects.{is_slow, with_view};
 ghost use Rattle.far_replay.specs.EventRows.{after_events};
 ghost use Rattle.far_replay.specs.Events.{open_events};
-ghost use Rattle.far_replay.specs.Interpreter.{Brings, order_come, order_dereferenced};
+ghost use Rattle.far_replay.specs.Interpreter.{Brings, Dereferences, Views, refuser};
 ghost use Rattle.far_replay.specs.Moment.{KeepsRound, state_in};
-ghost use Rattle.far_replay.specs.Spent.{Spends};
-ghost use Rattle.far_book.specs.book.Dealing.{is_failure};
+ghost use Rattle.far_replay.specs.Spent.{SpentBy};
 
 use crate::owners::{FarSide, core_of};
 use far_book::Plain;
@@ -56,23 +55,21 @@ pub fn try_view(evac: &mut Evac<Plain, FarSide>, owner: u8, pointer: u16) -> Res
 }
 
 /// Dereferences an owner's object: pins it, and where that gives no view, has it brought to where one may rest, and pins it
-/// again. What is viewed already stays so.
+/// again. What is viewed already stays so. A far object comes with the bytes that the device gives, whatever was stored.
 ///
-/// Refused [`Refused::NoRoom`] where there is no place for it, or as the device refuses: HOT is left then, and, where the
-/// object is near, MOVE.
+/// Refused [`Refused::NoRoom`] where there is no place for it, or as the device refuses, or [`Refused::Damaged`] where what it
+/// gave isn't as long as the object: HOT is left then, and, where the object is near, MOVE.
 #[inline]
 pub fn dereference(evac: &mut Evac<Plain, FarSide>, owner: u8, pointer: u16) -> Result<(), Refused>
     requires opened { is_opened (state_in evac.old) owner ≡ true }
     requires own { pointer / CELLS ≡ owner }
     requires used { (state_in evac.old).used pointer ≡ true }
-    ensures state { IfOk result (λ _. state_in evac.new ≡ dereferenced (state_in evac.old) owner pointer) }
-    ensures room { IfOk result (λ _. has_no_room (state_in evac.old) owner pointer ≡ false) }
+    ensures done { IfOk result (λ _. (o : Outside) × Dereferences evac.old evac.new owner pointer o) }
     ensures refused { IfErr result (λ why. RefusesView (state_in evac.old) owner pointer why (state_in evac.new)) }
-    ensures order { IfOk result (λ _. evac.new.book.order ≡ order_dereferenced (state_in evac.old) evac.old.book.order owner pointer) }
     ensures shut { IfErr result (λ _. evac.new.book.order ≡ evac.old.book.order) }
     ensures round { KeepsRound evac.old evac.new }
-    ensures spent { Spends (is_failure result) evac.old evac.new }
-    ensures far { result ≡ Err Failed → says_near (read_of ((state_in evac.old).cell pointer)) ≡ false }
+    ensures spent { IfErr result (λ why. SpentBy (refuser why) evac.old evac.new) }
+    ensures far { IfErr result (λ why. KeepsFar why → says_near (read_of ((state_in evac.old).cell pointer)) ≡ false) }
 {
     let Err(_) = try_view(evac, owner, pointer) else {
         return Ok(());
@@ -87,14 +84,12 @@ fn bring_and_view(evac: &mut Evac<Plain, FarSide>, owner: u8, pointer: u16) -> R
     requires own { pointer / CELLS ≡ owner }
     requires used { (state_in evac.old).used pointer ≡ true }
     requires unheld { (state_in evac.old).held pointer ≡ None }
-    ensures state { IfOk result (λ _. state_in evac.new ≡ with_view (come (asked_for (state_in evac.old) owner pointer) pointer) pointer) }
-    ensures room { IfOk result (λ _. IsSome (comes_to (asked_for (state_in evac.old) owner pointer) pointer)) }
+    ensures done { IfOk result (λ _. (o : Outside) × Views evac.old evac.new owner pointer o) }
     ensures refused { IfErr result (λ why. RefusesBringing (asked_for (state_in evac.old) owner pointer) pointer why (state_in evac.new)) }
-    ensures order { IfOk result (λ _. evac.new.book.order ≡ order_come (asked_for (state_in evac.old) owner pointer) evac.old.book.order pointer) }
     ensures shut { IfErr result (λ _. evac.new.book.order ≡ evac.old.book.order) }
     ensures round { KeepsRound evac.old evac.new }
-    ensures spent { Spends (is_failure result) evac.old evac.new }
-    ensures far { result ≡ Err Failed → says_near (read_of ((state_in evac.old).cell pointer)) ≡ false }
+    ensures spent { IfErr result (λ why. SpentBy (refuser why) evac.old evac.new) }
+    ensures far { IfErr result (λ why. KeepsFar why → says_near (read_of ((state_in evac.old).cell pointer)) ≡ false) }
 {
     match bring(evac, owner, pointer) {
         Ok(()) => {
@@ -107,10 +102,11 @@ fn bring_and_view(evac: &mut Evac<Plain, FarSide>, owner: u8, pointer: u16) -> R
 
 // Whether a cell says near.
 fn is_near(word: u64) -> bool
+    requires { IsSome (read_of word) }
     ensures { result ≡ says_near (read_of word) }
 {
-    match PtrWord::read(word) {
-        Some(PtrWord::Near { .. }) => true,
+    match PtrWord::known(word) {
+        PtrWord::Near { .. } => true,
         _ => false,
     }
 }
@@ -122,10 +118,11 @@ fn bring(evac: &mut Evac<Plain, FarSide>, owner: u8, pointer: u16) -> Result<(),
     requires used { (state_in evac.old).used pointer ≡ true }
     requires unheld { (state_in evac.old).held pointer ≡ None }
     ensures brought { Brings evac.old evac.new owner pointer result }
-    ensures spent { Spends (is_failure result) evac.old evac.new }
-    ensures far { result ≡ Err Failed → says_near (read_of ((state_in evac.old).cell pointer)) ≡ false }
+    ensures far { IfErr result (λ why. KeepsFar why → says_near (read_of ((state_in evac.old).cell pointer)) ≡ false) }
 {
-    if is_near(core_of(evac).cell(pointer)) {
+    let core = core_of(evac);
+    core.keeps_law();
+    if is_near(core.cell(pointer)) {
         move_near(evac, owner, pointer)
     } else {
         fetch_far(evac, owner, pointer)
@@ -140,8 +137,7 @@ fn move_near(evac: &mut Evac<Plain, FarSide>, owner: u8, pointer: u16) -> Result
     requires unheld { (state_in evac.old).held pointer ≡ None }
     requires near { says_near (read_of ((state_in evac.old).cell pointer)) ≡ true }
     ensures brought { Brings evac.old evac.new owner pointer result }
-    ensures spent { Spends (is_failure result) evac.old evac.new }
-    ensures far { result ≡ Err Failed → says_near (read_of ((state_in evac.old).cell pointer)) ≡ false }
+    ensures far { IfErr result (λ why. KeepsFar why → says_near (read_of ((state_in evac.old).cell pointer)) ≡ false) }
 {
     evac.owner(Event::Ask {
         owner,
@@ -160,10 +156,10 @@ fn fetch_far(evac: &mut Evac<Plain, FarSide>, owner: u8, pointer: u16) -> Result
     requires used { (state_in evac.old).used pointer ≡ true }
     requires far { says_near (read_of ((state_in evac.old).cell pointer)) ≡ false }
     ensures brought { Brings evac.old evac.new owner pointer result }
-    ensures spent { Spends (is_failure result) evac.old evac.new }
-    ensures far { result ≡ Err Failed → says_near (read_of ((state_in evac.old).cell pointer)) ≡ false }
+    ensures far { IfErr result (λ why. KeepsFar why → says_near (read_of ((state_in evac.old).cell pointer)) ≡ false) }
 {
     let _ = owner;
+    evac.book().keeps_law();
     match evac.fetch(pointer) {
         Ok(Some(_)) => Ok(()),
         Ok(None) => unreachable!(),

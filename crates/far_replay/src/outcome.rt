@@ -2,7 +2,7 @@
 
 ghost use Rattle.std.specs.Prelude.{◌≡◌, ◌≢◌, IfErr, IfOk};
 ghost use Rattle.far_replay.specs.Reply.{reply_of, IsShort};
-ghost use Rattle.far_replay.specs.Outcome.{reply_by, told_by, IsInScratch, IsOutside};
+ghost use Rattle.far_replay.specs.Outcome.{reply_by, told_by, IsInScratch, IsFromOutside};
 
 use crate::reply::{Counts, LogLine, Reply};
 use far_book::Home;
@@ -74,12 +74,13 @@ impl Outcome {
     /// What a refusal of the book comes to: a reply; but the device's, and want of memory, is none of the command that was
     /// served.
     pub fn refused(why: Refused) -> Result<Outcome, Refused>
-        ensures told { IfOk result (λ outcome. (outcome ≡ Outcome.Refused why) × (why ≢ Refused.Memory) × (why ≢ Refused.Device)) }
-        ensures stops { IfErr result (λ by. (by ≡ why) × IsOutside why) }
+        ensures told { IfOk result (λ outcome. (outcome ≡ Outcome.Refused why) × (why ≢ Refused.Memory) × (why ≢ Refused.Device) × (why ≢ Refused.Damaged)) }
+        ensures stops { IfErr result (λ by. (by ≡ why) × IsFromOutside why) }
     {
         match why {
             Refused::Memory => Err(Refused::Memory),
             Refused::Device => Err(Refused::Device),
+            Refused::Damaged => Err(Refused::Damaged),
             why => Ok(Outcome::Refused(why)),
         }
     }

@@ -8,12 +8,12 @@ ghost use Rattle.far_replay.specs.Objects.{uses};
 
 use far_book::Plain;
 use far_core::Core;
-use far_device::{FailAt, MemDevice};
+use far_device::{FailAt, Liar, MemDevice};
 use far_evac::Evac;
 use far_word::CELLS;
 
-/// The far side of the heap.
-pub type FarSide = FailAt<MemDevice>;
+/// The far side of the heap: one call of it may fail, and one read may be a lie.
+pub type FarSide = Liar<FailAt<MemDevice>>;
 
 /// The core of the heap.
 #[inline(always)]

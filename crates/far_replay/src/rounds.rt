@@ -2,9 +2,9 @@
 
 ghost use Rattle.std.specs.Prelude.{◌≡◌, ◌≢◌, ◌≤◌, None, Some, length, take, IfErr, IfOk, OnOk};
 ghost use Rattle.far_word.specs.declared.sizes.TheConstants.{MOST_LOGS};
-ghost use Rattle.far_replay.specs.Spent.{Makes, Spends};
-ghost use Rattle.far_book.specs.book.Dealing.{is_failure};
-ghost use Rattle.far_replay.specs.Commanded.{StopsSo};
+ghost use Rattle.far_replay.specs.Interpreter.{stopper};
+ghost use Rattle.far_replay.specs.Spent.{Makes, SpentBy};
+ghost use Rattle.far_replay.specs.Commanded.{Serves, StopsSo};
 ghost use Rattle.far_word.specs.declared.refused.Refused.TheVariants.{Device as Failed, Memory};
 ghost use Rattle.far_evac.specs.Choosing.{after_selecting};
 ghost use Rattle.far_text.specs.Command.{Abort, Evacuate, Evacuator, Mark, Round, Select, Wait, as_choice, as_policy, as_step};
@@ -12,7 +12,6 @@ ghost use Rattle.far_text.specs.Written.{WritesBytes};
 ghost use Rattle.far_replay.specs.Moment.{moment_in};
 ghost use Rattle.far_replay.specs.declared.outcome.Scratch.{Scratch};
 ghost use Rattle.far_replay.specs.Outcome.{IsOutside, told_by};
-ghost use Rattle.far_evac.specs.Failing.{fails};
 ghost use Rattle.far_replay.specs.Rounds.{given_by, logs_given, rows_in, step_effect, step_reply};
 ghost use Rattle.far_replay.specs.Reply.{Ended, Halted};
 ghost use Rattle.far_replay.specs.Turn.{effect, refusal, reply_to};
@@ -130,8 +129,8 @@ fn evacuate(
 ) -> Result<Stepped, Refused>
     ensures moment { OnOk result (moment_in evac.new ≡ effect (moment_in evac.old) (Evacuator (Evacuate count))) }
     ensures reply { IfOk result (λ stepped. told_by scratch.new stepped ≡ reply_to (moment_in evac.old) (Evacuator (Evacuate count))) }
-    ensures stopped { IfErr result (λ why. why ≢ Memory → (why ≡ Failed) × StopsSo why (moment_in evac.old) (Evacuator (Evacuate count)) (Halted why scratch.new.progress) (moment_in evac.new)) }
-    ensures spent { Spends (is_failure result) evac.old evac.new }
+    ensures spent { OnOk result (SpentBy Serves evac.old evac.new) }
+    ensures stopped { IfErr result (λ why. why ≢ Memory → Makes evac.old (Evacuator (Evacuate count)) (Halted why scratch.new.progress) evac.new) }
 {
     match evac.evacuate_some(count) {
         Ok(progress) => {
@@ -167,7 +166,7 @@ fn run_by(
     ensures refused { IfErr result (λ fault. fault.why ≢ Memory → fault.why ≢ Failed → refusal (moment_in evac.old) (Evacuator (Round (as_policy policy) most turns)) ≡ Some fault.why) }
     ensures unchanged { IfErr result (λ fault. fault.why ≢ Memory → fault.why ≢ Failed → moment_in evac.new ≡ moment_in evac.old) }
     ensures stopped { IfErr result (λ fault. fault.why ≡ Failed → StopsSo Failed (moment_in evac.old) (Evacuator (Round (as_policy policy) most turns)) (Halted Failed fault.so_far) (moment_in evac.new)) }
-    ensures spent { Spends (fails result) evac.old evac.new }
+    ensures spent { SpentBy (stopper result) evac.old evac.new }
 {
     evac.keeps_law();
     let most = usize::from(most);
@@ -187,8 +186,8 @@ fn round(
 ) -> Result<Stepped, Refused>
     ensures moment { OnOk result (moment_in evac.new ≡ effect (moment_in evac.old) (Evacuator (Round (as_policy policy) most turns))) }
     ensures reply { IfOk result (λ stepped. told_by scratch.new stepped ≡ reply_to (moment_in evac.old) (Evacuator (Round (as_policy policy) most turns))) }
-    ensures stopped { IfErr result (λ why. why ≢ Memory → (why ≡ Failed) × StopsSo why (moment_in evac.old) (Evacuator (Round (as_policy policy) most turns)) (Halted why scratch.new.progress) (moment_in evac.new)) }
-    ensures spent { Spends (is_failure result) evac.old evac.new }
+    ensures spent { OnOk result (SpentBy Serves evac.old evac.new) }
+    ensures stopped { IfErr result (λ why. why ≢ Memory → Makes evac.old (Evacuator (Round (as_policy policy) most turns)) (Halted why scratch.new.progress) evac.new) }
 {
     match run_by(evac, policy, most, turns) {
         Ok(end) => {
@@ -208,8 +207,8 @@ fn step_made(
     requires small { WritesBytes (Evacuator (as_step step)) }
     ensures moment { OnOk result (moment_in evac.new ≡ effect (moment_in evac.old) (Evacuator (as_step step.entry))) }
     ensures reply { IfOk result (λ stepped. told_by scratch.new stepped ≡ reply_to (moment_in evac.old) (Evacuator (as_step step.entry))) }
-    ensures stopped { IfErr result (λ why. why ≢ Memory → (why ≡ Failed) × StopsSo why (moment_in evac.old) (Evacuator (as_step step.entry)) (Halted why scratch.new.progress) (moment_in evac.new)) }
-    ensures spent { Spends (is_failure result) evac.old evac.new }
+    ensures spent { OnOk result (SpentBy Serves evac.old evac.new) }
+    ensures stopped { IfErr result (λ why. why ≢ Memory → Makes evac.old (Evacuator (as_step step.entry)) (Halted why scratch.new.progress) evac.new) }
 {
     match step {
         Step::Select { choice, most } => select(evac, scratch, choice, most),

@@ -9,10 +9,9 @@ ghost use Rattle.far_core.specs.state.Opening.{opening};
 ghost use Rattle.far_core.specs.state.Shape.{is_shape};
 ghost use Rattle.far_replay.specs.Moment.{Moment, moment_in, moment_of, state_in};
 ghost use Rattle.std.specs.Option.{option_map};
-ghost use Rattle.far_device.specs.FailAt.{MayFail};
 ghost use Rattle.far_text.specs.Command.{as_device};
-ghost use Rattle.far_replay.specs.Spent.{may_fail};
-ghost use Rattle.far_replay.specs.Answers.{AnsweredBy, FailsAtMost, opened, to_fail, Outside, MayMakeHeap, Leads, WritesOutput, WritesAnswer, LeavesBehind, Leaves, end_of};
+ghost use Rattle.far_replay.specs.Spent.{IsLeft, may_spoil};
+ghost use Rattle.far_replay.specs.Answers.{AnsweredBy, FlawedAtMost, opened, flaws, is_true, lie_of, Outside, MayMakeHeap, Leads, WritesOutput, WritesAnswer, LeavesBehind, Leaves, end_of};
 ghost use Rattle.far_text.specs.declared.text.TheConstants.{LONGEST_TEXT};
 ghost use Rattle.far_text.specs.Grammar.{trace_of};
 ghost use Rattle.far_text.specs.Command.{Heap};
@@ -30,7 +29,7 @@ use crate::stream::{WriteFault, read_text};
 use crate::turn::turn;
 use far_book::{Book, Plain};
 use far_core::{Core, Shape};
-use far_device::{FailAt, MemDevice};
+use far_device::{FailAt, Liar, MemDevice};
 use far_evac::Evac;
 use far_text::{Commands, Device, Flaw, LONGEST_TEXT, ParseError, Trace, parse};
 use far_word::Refused;
@@ -157,8 +156,8 @@ fn answer_commands<W: Write>(
     requires between { Between (state_in evac) }
     requires round { MomentLaw (moment_in evac) }
     requires strays { NoneStrays (moment_in evac) }
-    requires few { may_fail evac (to_fail (option_map as_device device)) }
-    ensures { (outside : List Outside) × (replies : List Answer) × (moments : List Moment) × FailsAtMost (to_fail (option_map as_device device)) outside × AnsweredBy outside (moment_in evac) commands.now replies moments
+    requires few { may_spoil (lie_of (option_map as_device device)) evac (flaws (option_map as_device device)) }
+    ensures { (outside : List Outside) × (replies : List Answer) × (moments : List Moment) × FlawedAtMost (lie_of (option_map as_device device)) (flaws (option_map as_device device)) outside × AnsweredBy outside (moment_in evac) commands.now replies moments
         × Leads (W.contents writer.old) (W.contents writer.new) result (flat_map reply_text (opened (option_map as_device device) ++ replies)) }
 {
     let mut evac = evac;
@@ -176,31 +175,48 @@ fn answer_commands<W: Write>(
     }
 }
 
-// Which write or read of a heap's device is to fail; 0 is none.
-fn failing_call(device: Option<Device>) -> u64
-    ensures { MayFail result (λ n. Unit {0}) (to_fail (option_map as_device device)) }
+// The far side of a heap, with the flaw that its device is said to have, if any.
+fn far_side(alloc: Global, device: Option<Device>) -> FarSide
+    ensures lie { result.lie ≡ lie_of (option_map as_device device) }
+    ensures few { IsLeft (lie_of (option_map as_device device)) result (flaws (option_map as_device device)) }
 {
+    let memory = MemDevice::new(alloc);
     match device {
         Some(device) => match device.flaw {
-            Flaw::Fail => device.call,
+            Flaw::Fail => Liar::short(FailAt::new(memory, device.call), 0),
+            Flaw::Short => Liar::short(FailAt::new(memory, 0), device.call),
+            Flaw::Flip => Liar::flip(FailAt::new(memory, 0), device.call),
         },
-        None => 0,
+        None => Liar::short(FailAt::new(memory, 0), 0),
     }
 }
 
-// An evacuator over a new heap, whose far side is honest, and fails where its device is said to.
+// Whether what is read of a heap's device is always what was written.
+fn tells_truth(device: Option<Device>) -> bool
+    ensures { result ≡ is_true (option_map as_device device) }
+{
+    match device {
+        Some(device) => match device.flaw {
+            Flaw::Fail => true,
+            Flaw::Short | Flaw::Flip => device.call == 0,
+        },
+        None => true,
+    }
+}
+
+// An evacuator over a new heap, whose far side has the flaw that its device is said to have.
 fn new_heap(
     alloc: Global,
     shape: Shape,
     device: Option<Device>,
 ) -> Result<Evac<Plain, FarSide>, Refused>
-    ensures few { IfOk result (λ evac. may_fail evac (to_fail (option_map as_device device))) }
-    ensures moment { IfOk result (λ evac. moment_in evac ≡ moment_of (opening shape true)) }
+    ensures few { IfOk result (λ evac. may_spoil (lie_of (option_map as_device device)) evac (flaws (option_map as_device device))) }
+    ensures moment { IfOk result (λ evac. moment_in evac ≡ moment_of (opening shape (is_true (option_map as_device device)))) }
     ensures range { IfOk result (λ _. is_shape shape ≡ true) }
     ensures refused { IfErr result (λ why. why ≡ cond (is_shape shape) Refused.Memory Refused.Shape) }
 {
-    let core = Core::new(alloc, shape, true)?;
-    let far = FailAt::new(MemDevice::new(alloc), failing_call(device));
+    let core = Core::new(alloc, shape, tells_truth(device))?;
+    let far = far_side(alloc, device);
     let book = Book::new(alloc, Plain { core }, far)?;
     Ok(Evac::new(book))
 }

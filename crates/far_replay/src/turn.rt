@@ -17,10 +17,8 @@ ghost use Rattle.far_text.specs.Written.{WritesBytes};
 ghost use Rattle.far_replay.specs.EventRows.{after_events};
 ghost use Rattle.far_text.specs.Command.{Mutator, Book, New, Open, Write, Read, Close, Where, Drop, View, Try, Logs, Log, Audit};
 ghost use Rattle.far_replay.specs.Reply.{Data, Refused as Refusal};
-ghost use Rattle.far_replay.specs.Spent.{Makes, Spends};
-ghost use Rattle.far_book.specs.book.Dealing.{is_failure};
-ghost use Rattle.far_replay.specs.Commanded.{StopsSo};
-ghost use Rattle.far_word.specs.declared.refused.Refused.TheVariants.{Device as Failed, Memory};
+ghost use Rattle.far_replay.specs.Spent.{Makes};
+ghost use Rattle.far_word.specs.declared.refused.Refused.TheVariants.{Memory};
 ghost use Rattle.far_replay.specs.Outcome.{reply_by, IsInScratch};
 ghost use Rattle.far_replay.specs.Between.{Between};
 ghost use Rattle.far_replay.specs.Events.{events_for, first_word, store_events, words_touched, starts_inside, ends_inside};
@@ -157,18 +155,16 @@ fn read_viewed(evac: &Evac<Plain, FarSide>, scratch: &mut Scratch, access: Acces
     }
 }
 
-// Reads a range of bytes. `Err` where the object is far, and the device fails, or its words are refused memory.
+// Reads a range of bytes. `Err` where the object is far, and the device fails or gives too few bytes, or they are refused memory.
 fn read(
     evac: &mut Evac<Plain, FarSide>,
     scratch: &mut Scratch,
     access: Access,
 ) -> Result<Outcome, Refused>
     requires access { IsAccess (state_in evac.old) access.owner access.pointer access.from access.count access }
-    ensures moment { OnOk result (moment_in evac.new ≡ effect (moment_in evac.old) (Mutator access.owner (Read access.pointer access.from access.count))) }
-    ensures reply { IfOk result (λ outcome. reply_by scratch.new outcome ≡ reply_to (moment_in evac.old) (Mutator access.owner (Read access.pointer access.from access.count))) }
+    ensures made { IfOk result (λ outcome. Makes evac.old (Mutator access.owner (Read access.pointer access.from access.count)) (reply_by scratch.new outcome) evac.new) }
     ensures fits { IfOk result (λ outcome. IsInScratch outcome) }
-    ensures stopped { IfErr result (λ why. why ≢ Memory → (why ≡ Failed) × StopsSo why (moment_in evac.old) (Mutator access.owner (Read access.pointer access.from access.count)) (Refusal why) (moment_in evac.new)) }
-    ensures spent { Spends (is_failure result) evac.old evac.new }
+    ensures stopped { IfErr result (λ why. why ≢ Memory → Makes evac.old (Mutator access.owner (Read access.pointer access.from access.count)) (Refusal why) evac.new) }
 {
     match dereference(evac, access.owner, access.pointer) {
         Ok(()) => Ok(read_viewed(evac, scratch, access)),
@@ -278,7 +274,7 @@ fn write_viewed(
     store_front(evac, access, &scratch.words);
 }
 
-// Writes bytes over a range. `Err` where the object is far, and the device fails, or its words are refused memory.
+// Writes bytes over a range. `Err` where the object is far, and the device fails or gives too few bytes, or they are refused memory.
 fn write(
     evac: &mut Evac<Plain, FarSide>,
     scratch: &mut Scratch,
@@ -288,11 +284,9 @@ fn write(
     requires access { IsAccess (state_in evac.old) access.owner access.pointer access.from access.count access }
     requires bytes { length bytes.now ≡ access.count }
     requires small { IsBytes bytes.now }
-    ensures moment { OnOk result (moment_in evac.new ≡ effect (moment_in evac.old) (Mutator access.owner (Write access.pointer access.from bytes.now))) }
-    ensures reply { IfOk result (λ outcome. StandsFor outcome (reply_to (moment_in evac.old) (Mutator access.owner (Write access.pointer access.from bytes.now)))) }
+    ensures made { IfOk result (λ outcome. Makes evac.old (Mutator access.owner (Write access.pointer access.from bytes.now)) (reply_by scratch.new outcome) evac.new) }
     ensures fits { IfOk result (λ outcome. IsInScratch outcome) }
-    ensures stopped { IfErr result (λ why. why ≢ Memory → (why ≡ Failed) × StopsSo why (moment_in evac.old) (Mutator access.owner (Write access.pointer access.from bytes.now)) (Refusal why) (moment_in evac.new)) }
-    ensures spent { Spends (is_failure result) evac.old evac.new }
+    ensures stopped { IfErr result (λ why. why ≢ Memory → Makes evac.old (Mutator access.owner (Write access.pointer access.from bytes.now)) (Refusal why) evac.new) }
 {
     match dereference(evac, access.owner, access.pointer) {
         Ok(()) => {
@@ -394,11 +388,9 @@ fn read_range(
 ) -> Result<Outcome, Refused>
     requires known { owner < (state_in evac.old).mutators }
     requires law { Law (state_in evac.old) }
-    ensures moment { OnOk result (moment_in evac.new ≡ effect (moment_in evac.old) (Mutator owner (Read pointer from len))) }
-    ensures reply { IfOk result (λ outcome. reply_by scratch.new outcome ≡ reply_to (moment_in evac.old) (Mutator owner (Read pointer from len))) }
+    ensures made { IfOk result (λ outcome. Makes evac.old (Mutator owner (Read pointer from len)) (reply_by scratch.new outcome) evac.new) }
     ensures fits { IfOk result (λ outcome. IsInScratch outcome) }
-    ensures stopped { IfErr result (λ why. why ≢ Memory → (why ≡ Failed) × StopsSo why (moment_in evac.old) (Mutator owner (Read pointer from len)) (Refusal why) (moment_in evac.new)) }
-    ensures spent { Spends (is_failure result) evac.old evac.new }
+    ensures stopped { IfErr result (λ why. why ≢ Memory → Makes evac.old (Mutator owner (Read pointer from len)) (Refusal why) evac.new) }
 {
     match reach(evac, owner, pointer, from, len) {
         Ok(access) => read(evac, scratch, access),
@@ -418,11 +410,9 @@ fn write_range(
     requires known { owner < (state_in evac.old).mutators }
     requires law { Law (state_in evac.old) }
     requires small { IsBytes bytes.now }
-    ensures moment { OnOk result (moment_in evac.new ≡ effect (moment_in evac.old) (Mutator owner (Write pointer from bytes.now))) }
-    ensures reply { IfOk result (λ outcome. StandsFor outcome (reply_to (moment_in evac.old) (Mutator owner (Write pointer from bytes.now)))) }
+    ensures made { IfOk result (λ outcome. Makes evac.old (Mutator owner (Write pointer from bytes.now)) (reply_by scratch.new outcome) evac.new) }
     ensures fits { IfOk result (λ outcome. IsInScratch outcome) }
-    ensures stopped { IfErr result (λ why. why ≢ Memory → (why ≡ Failed) × StopsSo why (moment_in evac.old) (Mutator owner (Write pointer from bytes.now)) (Refusal why) (moment_in evac.new)) }
-    ensures spent { Spends (is_failure result) evac.old evac.new }
+    ensures stopped { IfErr result (λ why. why ≢ Memory → Makes evac.old (Mutator owner (Write pointer from bytes.now)) (Refusal why) evac.new) }
 {
     match reach(evac, owner, pointer, from, bytes.len() as u64) {
         Ok(access) => write(evac, scratch, access, bytes),
@@ -430,8 +420,8 @@ fn write_range(
     }
 }
 
-// Makes the events of an owner's request, and answers what it comes to. `Err` where an object is far, and the device fails, or
-// its words are refused memory.
+// Makes the events of an owner's request, and answers what it comes to. `Err` where an object is far, and the device fails or
+// gives too few bytes, or they are refused memory.
 fn make_request(
     evac: &mut Evac<Plain, FarSide>,
     scratch: &mut Scratch,
@@ -442,11 +432,9 @@ fn make_request(
     requires between { Between (state_in evac.old) }
     requires law { Law (state_in evac.old) }
     requires small { WritesBytes (Mutator owner (as_request request)) }
-    ensures moment { OnOk result (moment_in evac.new ≡ effect (moment_in evac.old) (Mutator owner (as_request request.entry))) }
-    ensures reply { IfOk result (λ outcome. reply_by scratch.new outcome ≡ reply_to (moment_in evac.old) (Mutator owner (as_request request.entry))) }
+    ensures made { IfOk result (λ outcome. Makes evac.old (Mutator owner (as_request request.entry)) (reply_by scratch.new outcome) evac.new) }
     ensures fits { IfOk result (λ outcome. IsInScratch outcome) }
-    ensures stopped { IfErr result (λ why. why ≢ Memory → (why ≡ Failed) × StopsSo why (moment_in evac.old) (Mutator owner (as_request request.entry)) (Refusal why) (moment_in evac.new)) }
-    ensures spent { Spends (is_failure result) evac.old evac.new }
+    ensures stopped { IfErr result (λ why. why ≢ Memory → Makes evac.old (Mutator owner (as_request request.entry)) (Refusal why) evac.new) }
 {
     match request {
         Request::New { len, structure } => Ok(make_object(evac, owner, len, structure)),
@@ -521,8 +509,8 @@ fn make_events(
     }
 }
 
-/// Makes one command, and answers what it comes to, also where the device fails in its midst. `Err` where an object is far and
-/// its words are refused memory: that is no reply, and no command is made after it.
+/// Makes one command, and answers what it comes to, also where the device fails or lies in its midst. `Err` where an object is far
+/// and its words are refused memory: that is no reply, and no command is made after it.
 pub fn turn(
     evac: &mut Evac<Plain, FarSide>,
     scratch: &mut Scratch,

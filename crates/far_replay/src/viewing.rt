@@ -1,14 +1,13 @@
 //! Objects are viewed, or tried: pinned, and not asked for.
 
 ghost use Rattle.std.specs.Prelude.{◌≡◌, ◌≢◌, ◌<◌, IfErr, IfOk, OnOk};
-ghost use Rattle.far_replay.specs.Spent.{Spends};
-ghost use Rattle.far_book.specs.book.Dealing.{is_failure};
-ghost use Rattle.far_replay.specs.Commanded.{StopsSo};
-ghost use Rattle.far_word.specs.declared.refused.Refused.TheVariants.{Device as Failed, Memory};
+ghost use Rattle.far_replay.specs.Spent.{Makes};
+ghost use Rattle.far_replay.specs.declared.outcome.Scratch.{Scratch};
+ghost use Rattle.far_word.specs.declared.refused.Refused.TheVariants.{Memory};
 ghost use Rattle.far_text.specs.Command.{Mutator, Try, View};
 ghost use Rattle.far_replay.specs.Interpreter.{StandsFor};
 ghost use Rattle.far_replay.specs.Moment.{moment_in, state_in};
-ghost use Rattle.far_replay.specs.Outcome.{IsInScratch};
+ghost use Rattle.far_replay.specs.Outcome.{reply_by, IsInScratch};
 ghost use Rattle.far_replay.specs.Reply.{Refused as Refusal};
 ghost use Rattle.far_replay.specs.Turn.{effect, reply_to};
 
@@ -39,18 +38,17 @@ pub fn try_object(evac: &mut Evac<Plain, FarSide>, owner: u8, pointer: u64) -> O
     }
 }
 
-/// Views an owner's object, whatever marks it has. `Err` where it is far, and the device fails, or its words are refused memory.
+/// Views an owner's object, whatever marks it has. `Err` where it is far, and the device fails or gives too few
+/// bytes, or they are refused memory.
 pub fn view_object(
     evac: &mut Evac<Plain, FarSide>,
     owner: u8,
     pointer: u64,
 ) -> Result<Outcome, Refused>
     requires known { owner < (state_in evac.old).mutators }
-    ensures moment { OnOk result (moment_in evac.new ≡ effect (moment_in evac.old) (Mutator owner (View pointer))) }
-    ensures reply { IfOk result (λ outcome. StandsFor outcome (reply_to (moment_in evac.old) (Mutator owner (View pointer)))) }
+    ensures made { IfOk result (λ outcome. (scratch : Scratch) → Makes evac.old (Mutator owner (View pointer)) (reply_by scratch outcome) evac.new) }
     ensures fits { IfOk result (λ outcome. IsInScratch outcome) }
-    ensures stopped { IfErr result (λ why. why ≢ Memory → (why ≡ Failed) × StopsSo why (moment_in evac.old) (Mutator owner (View pointer)) (Refusal why) (moment_in evac.new)) }
-    ensures spent { Spends (is_failure result) evac.old evac.new }
+    ensures stopped { IfErr result (λ why. why ≢ Memory → Makes evac.old (Mutator owner (View pointer)) (Refusal why) evac.new) }
 {
     if !core_of(evac).is_open(owner) {
         return Ok(Outcome::Refused(Refused::Closed));

@@ -5,7 +5,8 @@ use Rattle.far_log.proofs.Members.{All-from}
 use Rattle.far_core.specs.state.Shape.{is_shape}
 use Rattle.far_text.specs.Command.{Command, Device, New, Open, Close, Where, Drop, Try, Epoch, Logs, Log, Mutator, Book, Evacuator}
 use Rattle.far_text.specs.Written.{AllWriteBytes, WritesBytes}
-use Rattle.far_replay.specs.Answers.{Commanded, Served, IsMoment, first_moment, shape_of}
+use Rattle.far_replay.specs.Answers.{Commanded, Served, IsMoment, first_moment, is_true, shape_of}
+use Rattle.far_replay.proofs.Answering.{answered_by}
 use Rattle.far_replay.proofs.Outcomes.{AsksNothing, is_served}
 use Rattle.far_replay.specs.Moment.{Moment}
 use Rattle.far_replay.specs.Reply.{Reply, Pointer}
@@ -20,10 +21,11 @@ use Rattle.far_replay_laws.specs.Listed.{Counted}
 use Rattle.far_replay_laws.specs.Steps.{Told}
 use Rattle.far_replay_laws.proofs.AgesKept.{ages_stay}
 use Rattle.far_replay_laws.proofs.Along.{along}
-use Rattle.far_replay_laws.proofs.AloneFirst.{alone_first}
+use Rattle.far_replay_laws.proofs.AloneFirst.{alone_said}
 use Rattle.far_replay_laws.proofs.EpochLaws.{closes_forget, epochs_told, scopes_open}
 use Rattle.far_replay_laws.proofs.EpochsSpent.{steps_spend}
-use Rattle.far_replay_laws.proofs.Failures.{failures_are_said}
+use Rattle.far_replay_laws.proofs.Failures.{flaws_are_said}
+use Rattle.far_replay_laws.proofs.GivenBytes.{each_given}
 use Rattle.far_replay_laws.proofs.FarRefusals.{device_refuses_far}
 use Rattle.far_replay_laws.proofs.LeftBeside.{commands_beside}
 use Rattle.far_replay_laws.proofs.HotViews.{views_are_hot}
@@ -76,42 +78,47 @@ module _ (now : Moment) (c : Command) (r : Reply) (next : Moment) (is : IsMoment
 -- ---- from the text on
 pub outputs_sound : OutputsAreSound
 outputs_sound text output logs mutators epoch device cs answers reads fits =
-    let first = first_moment logs mutators epoch in
+    let first = first_moment logs mutators epoch (is_true device) in
     let bytes : AllWriteBytes cs = texts_write text logs mutators epoch device cs reads in
-    let is : IsMoment first = first_is_moment logs mutators epoch fits in
-    let lasts = first_lasts logs mutators epoch fits in
-    let (rs, moments, h, e, fails) = failures_are_said text output logs mutators epoch device cs answers reads fits in
+    let is : IsMoment first = first_is_moment logs mutators epoch (is_true device) fits in
+    let lasts = first_lasts logs mutators epoch (is_true device) fits in
+    let (os, rs, moments, made, e, fails, lies) = flaws_are_said text output logs mutators epoch device cs answers reads fits in
+    let h = answered_by os first cs rs moments made in
     record {
       replies = rs;
       moments = moments;
       bytes = bytes;
+      outside = os;
+      made = made;
       answered = h;
       printed_so = e;
       plain = replies_plain first cs rs moments lasts bytes h;
       lawful = moments_last first cs rs moments is bytes h;
       whole = objects_whole first cs rs moments is bytes h;
       stay = logs_stay first cs rs moments is bytes h;
-      alone = λ m within. alone_first logs mutators epoch m cs rs moments fits within bytes h;
+      alone = λ m within. alone_said logs mutators epoch m device os cs rs moments fits within bytes lies made;
       told = along Told (λ now c r next is bytes h. told_so now c r next (moment_lasts now is) h) first cs rs moments is bytes h;
       left = along Leaves (λ now c r next is bytes h. left_so now c r next (moment_lasts now is) h) first cs rs moments is bytes h;
       counted = along (λ now c r next. Counted now c r) (λ now c r next is bytes h. counted now c r next (moment_lasts now is).law h) first cs rs moments is bytes h;
       fails = fails;
+      lies = lies;
+      given = each_given os first cs rs moments is bytes made;
     }
 
 -- what is viewed has HOT in each of its moments
 sound_hot : (logs mutators epoch : ℕ) (device : Option Device) (cs : List Command) (output : List ℕ) → is_shape (shape_of logs mutators epoch) ≡ true → (x : IsSound logs mutators epoch device cs output) →
-    All (λ (now : Moment). ViewedAreHot now.core) (first_moment logs mutators epoch ∷ x.moments)
+    All (λ (now : Moment). ViewedAreHot now.core) (first_moment logs mutators epoch (is_true device) ∷ x.moments)
 sound_hot logs mutators epoch device cs output fits x =
-    let first = first_moment logs mutators epoch in
+    let first = first_moment logs mutators epoch (is_true device) in
     All-from (λ (now : Moment). ViewedAreHot now.core) (first ∷ x.moments)
-    (λ y c. views_are_hot y (each_is_moment first cs x.replies x.moments (first_is_moment logs mutators epoch fits) x.bytes x.answered y c))
+    (λ y c. views_are_hot y (each_is_moment first cs x.replies x.moments (first_is_moment logs mutators epoch (is_true device) fits) x.bytes x.answered y c))
 
 pub texts_say_all : TextsSayAll
 texts_say_all text output logs mutators epoch device cs answers reads fits =
     let x = outputs_sound text output logs mutators epoch device cs answers reads fits in
-    (x, along Said said (first_moment logs mutators epoch) cs x.replies x.moments (first_is_moment logs mutators epoch fits) x.bytes x.answered, sound_hot logs mutators epoch device cs output fits x)
+    (x, along Said said (first_moment logs mutators epoch (is_true device)) cs x.replies x.moments (first_is_moment logs mutators epoch (is_true device) fits) x.bytes x.answered, sound_hot logs mutators epoch device cs output fits x)
 
 pub texts_leave : TextsLeaveMarks
 texts_leave text output logs mutators epoch device cs answers reads fits =
     let x = outputs_sound text output logs mutators epoch device cs answers reads fits in
-    (x, along (λ now c r next. LeavesMarks now.core c r next.core) (λ now c r next is bytes h. commands_leave now c r next is h) (first_moment logs mutators epoch) cs x.replies x.moments (first_is_moment logs mutators epoch fits) x.bytes x.answered, sound_hot logs mutators epoch device cs output fits x)
+    (x, along (λ now c r next. LeavesMarks now.core c r next.core) (λ now c r next is bytes h. commands_leave now c r next is h) (first_moment logs mutators epoch (is_true device)) cs x.replies x.moments (first_is_moment logs mutators epoch (is_true device) fits) x.bytes x.answered, sound_hot logs mutators epoch device cs output fits x)

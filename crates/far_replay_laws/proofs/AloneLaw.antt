@@ -1,5 +1,5 @@
 -- The replies to one mutator's lines are what its own lines alone say.
-use Rattle.std.proofs.Common.{◌≡◌, ℕ, ◌+◌, ◌<◌, ◌≤◌, Bool, true, false, nat_eq, arith, length, sym, refl, ap, subst, ◌∙◌, Option, Some, None, List, [], ◌∷◌}
+use Rattle.std.proofs.Common.{◌≡◌, ℕ, ◌+◌, ◌<◌, ◌≤◌, Bool, true, false, nat_eq, arith, length, sym, refl, ap, subst, ◌∙◌, Option, Some, None, List, [], ◌∷◌, inl}
 use Rattle.std.specs.Bool.{MatchBool}
 use Rattle.std.proofs.lemmas.Bool.{eqb-true, eqb-false}
 use Rattle.far_word.specs.declared.refused.Refused.{Refused as Refusal}
@@ -9,16 +9,16 @@ use Rattle.far_core.specs.state.State.{State}
 use Rattle.far_core.specs.events.Step.{step_of}
 use Rattle.far_core.specs.world.WorldOf.{world_of}
 use Rattle.far_core.proofs.Leaving.{events_leave}
-use Rattle.far_replay.specs.Moment.{Moment, moment_of}
-use Rattle.far_replay.specs.Alone.{IsIn, Own, Knows, Alone, Learns, own_of, is_by, speaker}
-use Rattle.far_replay.specs.Answers.{Answered, Commanded, Served, Unbrought, IsMoment}
-use Rattle.far_replay.specs.Commanded.{KeepsFar}
+use Rattle.far_replay.specs.Moment.{Moment, moment_of, as_if_stored}
+use Rattle.far_replay.specs.Alone.{IsIn, Own, Knows, Alone, Learns, own_of, is_by, speaker, KnowsBy}
+use Rattle.far_replay.specs.Answers.{Answered, Commanded, Served, Unbrought, IsMoment, AnsweredBy, CommandedBy, Outside, Serves, Refuses, Gives}
+use Rattle.far_replay.specs.Commanded.{KeepsFar, AsksFor, Misled}
 use Rattle.far_replay.specs.Objects.{object_len}
 use Rattle.far_evac.specs.declared.answers.RoundEnd.TheVariants.{Limit}
 use Rattle.far_evac.specs.declared.phase.Phase.TheVariants.{Evacuating}
 use Rattle.far_word.specs.declared.refused.Refused.TheVariants.{Marked}
 use Rattle.far_replay.proofs.AloneStates.{own_used}
-use Rattle.far_replay.proofs.Outcomes.{by_outcome}
+use Rattle.far_replay.proofs.Outcomes.{by_outcome, by_lie, by_stop}
 use Rattle.far_replay.proofs.Turns.{access_fact}
 use Rattle.far_replay.specs.Between.{Between}
 use Rattle.far_text.specs.Command.{Command, New, Open, Write, Read, Close, Where, Drop, View, Try, Epoch, Mutator, Book, Evacuator, Evacuate, Round}
@@ -27,11 +27,14 @@ use Rattle.far_replay.specs.EventRows.{after_events, AllSucceed}
 use Rattle.far_replay.specs.Reply.{Reply, Ended, Evacuated, Refused}
 use Rattle.far_replay.specs.Events.{events_for, IsNoStep}
 use Rattle.far_replay.specs.Turn.{effect, refusal, reply_to, unless}
-use Rattle.far_replay.proofs.Lasting.{Lasts, IsCarriedOut, after_step, command_carried, moment_lasts, still_lasts}
+use Rattle.far_replay.proofs.Lasting.{Lasts, IsCarriedOut, after_step, command_carried, moment_lasts, still_lasts, misled_before, misled_lasts}
 use Rattle.far_replay_laws.proofs.AloneNew.{turns_new}
 use Rattle.far_replay.proofs.RoundLeads.{owned_same, step_keeps}
 use Rattle.far_replay_laws.proofs.AloneTurns.{Teaches, Turns, turns_open, turns_epoch, turns_close, turns_read, turns_write, turns_where, turns_drop, turns_try, turns_view}
 use Rattle.far_replay_laws.proofs.Refusals.{of_far}
+use Rattle.far_replay_laws.proofs.AloneLies.{misled_tells}
+use Rattle.far_replay_laws.proofs.Misleading.{by_asked, misled_allowed, misled_uses}
+use Rattle.far_replay_laws.specs.FromOutside.{lies}
 
 -- ---- no event changes how many mutators there are
 step_mutators : (s : State) (e : Event) → (step_of s e).0.mutators ≡ s.mutators
@@ -58,21 +61,34 @@ none_made : (s : State) (o : Option Refusal) → after_events s (unless o (λ _.
 none_made s None = refl
 none_made s (Some why) = refl
 
-learns : (now : Moment) (m : ℕ) (c : Command) (r : Reply) (t : State) → IsNoStep c → Law now.core → Between now.core → m < now.core.mutators → WritesBytes c → IsCarriedOut now c r t → Learns now.core m c r t
-learns now m (Mutator k (New len ds)) r t told law between within small h = at_speaker now.core k m (Mutator k (New len ds)) r t (nat_eq k m) refl within (teaches now.core k (Mutator k (New len ds)) r t h.reply h.state h.made (turns_new now.core k len ds law between))
-learns now m (Mutator k Open) r t told law between within small h = at_speaker now.core k m (Mutator k Open) r t (nat_eq k m) refl within (teaches now.core k (Mutator k Open) r t h.reply h.state h.made (turns_open now.core k law))
-learns now m (Mutator k (Write p from bytes)) r t told law between within small h =
+abbrev Taught : State → ℕ → Command → Reply → State → Type 0
+Taught s m c r t = MatchBool (is_by m (speaker c)) (Knows m (own_of (world_of s) m) c r (own_of (world_of t) m)) (own_of (world_of t) m ≡ own_of (world_of s) m)
+
+taught : (now : Moment) (m : ℕ) (c : Command) (r : Reply) (t : State) → IsNoStep c → Law now.core → Between now.core → m < now.core.mutators → WritesBytes c → IsCarriedOut now c r t → Taught now.core m c r t
+taught now m (Mutator k (New len ds)) r t told law between within small h = at_speaker now.core k m (Mutator k (New len ds)) r t (nat_eq k m) refl within (teaches now.core k (Mutator k (New len ds)) r t h.reply h.state h.made (turns_new now.core k len ds law between))
+taught now m (Mutator k Open) r t told law between within small h = at_speaker now.core k m (Mutator k Open) r t (nat_eq k m) refl within (teaches now.core k (Mutator k Open) r t h.reply h.state h.made (turns_open now.core k law))
+taught now m (Mutator k (Write p from bytes)) r t told law between within small h =
     at_speaker now.core k m (Mutator k (Write p from bytes)) r t (nat_eq k m) refl within (teaches now.core k (Mutator k (Write p from bytes)) r t h.reply h.state h.made (turns_write now.core k p from bytes law between small))
-learns now m (Mutator k (Read p from len)) r t told law between within small h =
+taught now m (Mutator k (Read p from len)) r t told law between within small h =
     at_speaker now.core k m (Mutator k (Read p from len)) r t (nat_eq k m) refl within (teaches now.core k (Mutator k (Read p from len)) r t h.reply h.state h.made (turns_read now.core k p from len law between))
-learns now m (Mutator k Close) r t told law between within small h = at_speaker now.core k m (Mutator k Close) r t (nat_eq k m) refl within (teaches now.core k (Mutator k Close) r t h.reply h.state h.made (turns_close now.core k law))
-learns now m (Mutator k (Where p)) r t told law between within small h = at_speaker now.core k m (Mutator k (Where p)) r t (nat_eq k m) refl within (teaches now.core k (Mutator k (Where p)) r t h.reply h.state h.made (turns_where now.core k p law between))
-learns now m (Mutator k (Drop p)) r t told law between within small h = at_speaker now.core k m (Mutator k (Drop p)) r t (nat_eq k m) refl within (teaches now.core k (Mutator k (Drop p)) r t h.reply h.state h.made (turns_drop now.core k p law between))
-learns now m (Mutator k (View p)) r t told law between within small h = at_speaker now.core k m (Mutator k (View p)) r t (nat_eq k m) refl within (teaches now.core k (Mutator k (View p)) r t h.reply h.state h.made (turns_view now.core k p law between))
-learns now m (Mutator k (Try p)) r t told law between within small h = at_speaker now.core k m (Mutator k (Try p)) r t (nat_eq k m) refl within (teaches now.core k (Mutator k (Try p)) r t h.reply h.state h.made (turns_try now.core k p law between))
-learns now m (Mutator k Epoch) r t told law between within small h = at_speaker now.core k m (Mutator k Epoch) r t (nat_eq k m) refl within (teaches now.core k (Mutator k Epoch) r t h.reply h.state h.made (turns_epoch now.core k law))
-learns now m (Book inquiry) r t told law between within small h = ap (λ x. own_of (world_of x) m) (h.state ∙ none_made now.core (refusal now (Book inquiry)))
-learns now m (Evacuator step) r t told law between within small h = absurd told
+taught now m (Mutator k Close) r t told law between within small h = at_speaker now.core k m (Mutator k Close) r t (nat_eq k m) refl within (teaches now.core k (Mutator k Close) r t h.reply h.state h.made (turns_close now.core k law))
+taught now m (Mutator k (Where p)) r t told law between within small h = at_speaker now.core k m (Mutator k (Where p)) r t (nat_eq k m) refl within (teaches now.core k (Mutator k (Where p)) r t h.reply h.state h.made (turns_where now.core k p law between))
+taught now m (Mutator k (Drop p)) r t told law between within small h = at_speaker now.core k m (Mutator k (Drop p)) r t (nat_eq k m) refl within (teaches now.core k (Mutator k (Drop p)) r t h.reply h.state h.made (turns_drop now.core k p law between))
+taught now m (Mutator k (View p)) r t told law between within small h = at_speaker now.core k m (Mutator k (View p)) r t (nat_eq k m) refl within (teaches now.core k (Mutator k (View p)) r t h.reply h.state h.made (turns_view now.core k p law between))
+taught now m (Mutator k (Try p)) r t told law between within small h = at_speaker now.core k m (Mutator k (Try p)) r t (nat_eq k m) refl within (teaches now.core k (Mutator k (Try p)) r t h.reply h.state h.made (turns_try now.core k p law between))
+taught now m (Mutator k Epoch) r t told law between within small h = at_speaker now.core k m (Mutator k Epoch) r t (nat_eq k m) refl within (teaches now.core k (Mutator k Epoch) r t h.reply h.state h.made (turns_epoch now.core k law))
+taught now m (Book inquiry) r t told law between within small h = ap (λ x. own_of (world_of x) m) (h.state ∙ none_made now.core (refusal now (Book inquiry)))
+taught now m (Evacuator step) r t told law between within small h = absurd told
+
+-- one that asks for its object teaches its own mutator alone
+pub asked_teaches : (now : Moment) (m p : ℕ) (r : Reply) (next : Moment) → Lasts now → (c : Command) → AsksFor m p c → WritesBytes c → Served now c r next → Teaches now.core m c r next.core
+asked_teaches now m p r next lasts = by_asked m p (λ d. WritesBytes d → Served now d r next → Teaches now.core m d r next.core)
+    (λ from new small h. let x = command_carried now (Mutator m (Write p from new)) r next tt lasts small h in
+    teaches now.core m (Mutator m (Write p from new)) r next.core x.reply x.state x.made (turns_write now.core m p from new lasts.law lasts.between small))
+    (λ from len small h. let x = command_carried now (Mutator m (Read p from len)) r next tt lasts small h in
+    teaches now.core m (Mutator m (Read p from len)) r next.core x.reply x.state x.made (turns_read now.core m p from len lasts.law lasts.between))
+    (λ small h. let x = command_carried now (Mutator m (View p)) r next tt lasts small h in
+    teaches now.core m (Mutator m (View p)) r next.core x.reply x.state x.made (turns_view now.core m p lasts.law lasts.between))
 
 -- a command leaves as many mutators
 served_mutators : (now : Moment) (c : Command) (r : Reply) (next : Moment) → Lasts now → WritesBytes c → Served now c r next → next.core.mutators ≡ now.core.mutators
@@ -82,14 +98,35 @@ served_mutators now (Book inquiry) r next lasts small h =
     ap (λ (t : State). t.mutators) (command_carried now (Book inquiry) r next tt lasts small h).state ∙ made_mutators now.core (events_for now (Book inquiry))
 served_mutators now (Evacuator step) r next lasts small h = ap (λ (m : Moment). m.core.mutators) h.moment ∙ (step_keeps now step lasts.law lasts.round).mutators
 
+-- and the device lies no more and no less
+made_honest : (s : State) (es : List Event) → (after_events s es).honest ≡ s.honest
+made_honest s [] = refl
+made_honest s (e ∷ es) = made_honest (step_of s e).0 es ∙ (events_leave s e).within.rest.2
+
+served_honest : (now : Moment) (c : Command) (r : Reply) (next : Moment) → Lasts now → WritesBytes c → Served now c r next → next.core.honest ≡ now.core.honest
+served_honest now (Mutator k request) r next lasts small h =
+    ap (λ (t : State). t.honest) (command_carried now (Mutator k request) r next tt lasts small h).state ∙ made_honest now.core (events_for now (Mutator k request))
+served_honest now (Book inquiry) r next lasts small h =
+    ap (λ (t : State). t.honest) (command_carried now (Book inquiry) r next tt lasts small h).state ∙ made_honest now.core (events_for now (Book inquiry))
+served_honest now (Evacuator step) r next lasts small h = ap (λ (m : Moment). m.core.honest) h.moment ∙ (step_keeps now step lasts.law lasts.round).honest
+
 -- each command tells a mutator what its reply says, or nothing
-served_learns : (now : Moment) (m : ℕ) (c : Command) (r : Reply) (next : Moment) → Lasts now → m < now.core.mutators → WritesBytes c → Served now c r next → Learns now.core m c r next.core
-served_learns now m (Mutator k request) r next lasts within small h =
-    learns now m (Mutator k request) r next.core tt lasts.law lasts.between within small (command_carried now (Mutator k request) r next tt lasts small h)
-served_learns now m (Book inquiry) r next lasts within small h =
-    learns now m (Book inquiry) r next.core tt lasts.law lasts.between within small (command_carried now (Book inquiry) r next tt lasts small h)
-served_learns now m (Evacuator step) r next lasts within small h =
+served_taught : (now : Moment) (m : ℕ) (c : Command) (r : Reply) (next : Moment) → Lasts now → m < now.core.mutators → WritesBytes c → Served now c r next → Taught now.core m c r next.core
+served_taught now m (Mutator k request) r next lasts within small h =
+    taught now m (Mutator k request) r next.core tt lasts.law lasts.between within small (command_carried now (Mutator k request) r next tt lasts small h)
+served_taught now m (Book inquiry) r next lasts within small h =
+    taught now m (Book inquiry) r next.core tt lasts.law lasts.between within small (command_carried now (Book inquiry) r next tt lasts small h)
+served_taught now m (Evacuator step) r next lasts within small h =
     ap (λ (x : Moment). own_of (world_of x.core) m) h.moment ∙ owned_same now.core (effect now (Evacuator step)).core m (step_keeps now step lasts.law lasts.round)
+
+-- whether the device tells what was written or may not
+known_by : (b honest : Bool) (m : ℕ) (o q : Own) (c : Command) (r : Reply) (E : Type 0) → MatchBool b (Knows m o c r q) E → MatchBool b (KnowsBy honest m o c r q) E
+known_by true true m o q c r E h = h
+known_by true false m o q c r E h = inl h
+known_by false honest m o q c r E h = h
+
+known : (s : State) (m : ℕ) (c : Command) (r : Reply) (t : State) → Taught s m c r t → Learns s m c r t
+known s m c r t h = known_by (is_by m (speaker c)) s.honest m (own_of (world_of s) m) (own_of (world_of t) m) c r (own_of (world_of t) m ≡ own_of (world_of s) m) h
 
 -- one that the device refuses tells what a try would, and that nothing else refuses it
 known_write : (k : ℕ) (o q : Own) (p from : ℕ) (new all : List ℕ) (why : Refusal) → KeepsFar why → o.opened ≡ true → o.viewed p ≡ false → q ≡ o → o.object p ≡ Some all → IsIn all from (length new) → Knows k o (Mutator k (Write p from new)) (Refused why) q
@@ -149,21 +186,65 @@ next_mutators now c r next lasts small h = by_outcome now r next (λ d. WritesBy
     (λ why turns objects policy most count h small.
     served_mutators h.stood (Evacuator (Evacuate objects)) (Evacuated h.progress) next (after_step now (Round policy most turns) (Ended (Limit Evacuating)) h.stood lasts h.turned) tt h.left
     ∙ served_mutators now (Evacuator (Round policy most turns)) (Ended (Limit Evacuating)) h.stood lasts small h.turned)
+    (λ row m p d asks h small. served_mutators (as_if_stored now p row) d r (as_if_stored next p row) (misled_before row now d p r next lasts h) small h.served)
     c h small
 
-each_learns : (now : Moment) (m : ℕ) (c : Command) (r : Reply) (next : Moment) → Lasts now → m < now.core.mutators → WritesBytes c → Commanded now c r next → Learns now.core m c r next.core
-each_learns now m c r next lasts within small h = by_outcome now r next (λ d. WritesBytes d → Learns now.core m d r next.core)
-    (λ d h small. served_learns now m d r next lasts within small h)
-    (λ why k p from new h _. at_speaker now.core k m (Mutator k (Write p from new)) r next.core (nat_eq k m) refl within (write_teaches why now k p from new r next lasts h))
-    (λ why k p from len h _. at_speaker now.core k m (Mutator k (Read p from len)) r next.core (nat_eq k m) refl within (read_teaches why now k p from len r next lasts h))
-    (λ why k p h _. at_speaker now.core k m (Mutator k (View p)) r next.core (nat_eq k m) refl within (view_teaches why now k p r next lasts h))
-    (λ why objects count h _. served_learns now m (Evacuator (Evacuate objects)) (Evacuated h.progress) next lasts within tt h.left)
+next_honest : (now : Moment) (c : Command) (r : Reply) (next : Moment) → Lasts now → WritesBytes c → Commanded now c r next → next.core.honest ≡ now.core.honest
+next_honest now c r next lasts small h = by_outcome now r next (λ d. WritesBytes d → next.core.honest ≡ now.core.honest)
+    (λ d h small. served_honest now d r next lasts small h)
+    (λ why m p from new h _. served_honest now (Mutator m (Try p)) (Refused (Marked (now.core.cell p))) next lasts tt h.tried)
+    (λ why m p from len h _. served_honest now (Mutator m (Try p)) (Refused (Marked (now.core.cell p))) next lasts tt h.tried)
+    (λ why m p h _. served_honest now (Mutator m (Try p)) (Refused (Marked (now.core.cell p))) next lasts tt h.tried)
+    (λ why objects count h _. served_honest now (Evacuator (Evacuate objects)) (Evacuated h.progress) next lasts tt h.left)
     (λ why turns objects policy most count h small.
+    served_honest h.stood (Evacuator (Evacuate objects)) (Evacuated h.progress) next (after_step now (Round policy most turns) (Ended (Limit Evacuating)) h.stood lasts h.turned) tt h.left
+    ∙ served_honest now (Evacuator (Round policy most turns)) (Ended (Limit Evacuating)) h.stood lasts small h.turned)
+    (λ row m p d asks h small. served_honest (as_if_stored now p row) d r (as_if_stored next p row) (misled_before row now d p r next lasts h) small h.served)
+    c h small
+
+-- one that is given other words tells what these are
+module _ (row : ℕ → ℕ) (now : Moment) (k : ℕ) (r : Reply) (next : Moment) (m p : ℕ) (lasts : Lasts now) (within : k < now.core.mutators) where
+  served_there : (c : Command) → WritesBytes c → Misled row now c p r next → Taught (as_if_stored now p row).core k c r (as_if_stored next p row).core
+  served_there c small h = served_taught (as_if_stored now p row) k c r (as_if_stored next p row) (misled_before row now c p r next lasts h) within small h.served
+
+  given_tells : (c : Command) → AsksFor m p c → WritesBytes c → Misled row now c p r next →
+      MatchBool (nat_eq m k) (Knows k (own_of (world_of (as_if_stored now p row).core) k) c r (own_of (world_of (as_if_stored next p row).core) k)) (own_of (world_of (as_if_stored next p row).core) k ≡ own_of (world_of (as_if_stored now p row).core) k) →
+      MatchBool (nat_eq m k) (KnowsBy now.core.honest k (own_of (world_of now.core) k) c r (own_of (world_of next.core) k)) (own_of (world_of next.core) k ≡ own_of (world_of now.core) k)
+  given_tells c asks small h =
+      misled_tells row now c m p r next lasts.law (misled_lasts row now c p r next lasts small h).law asks (misled_uses row now m p c asks (misled_allowed row now c p r next h)).1 h k
+
+  given_learns : (c : Command) → AsksFor m p c → WritesBytes c → Misled row now c p r next → Learns now.core k c r next.core
+  given_learns = by_asked m p (λ d. WritesBytes d → Misled row now d p r next → Learns now.core k d r next.core)
+      (λ from new small h. given_tells (Mutator m (Write p from new)) (refl, refl) small h (served_there (Mutator m (Write p from new)) small h))
+      (λ from len small h. given_tells (Mutator m (Read p from len)) (refl, refl) small h (served_there (Mutator m (Read p from len)) small h))
+      (λ small h. given_tells (Mutator m (View p)) (refl, refl) small h (served_there (Mutator m (View p)) small h))
+
+-- what the outside made of a command, unless it gave other words
+abbrev pub GivesNone : Outside → Type 0
+GivesNone Serves = Unit {0}
+GivesNone (Refuses why turns objects) = Unit {0}
+GivesNone (Gives row) = ⊥
+
+taught_by : (o : Outside) → GivesNone o → (now : Moment) (m : ℕ) (c : Command) (r : Reply) (next : Moment) → Lasts now → m < now.core.mutators → WritesBytes c → CommandedBy o now c r next → Taught now.core m c r next.core
+taught_by Serves none now m c r next lasts within small h = served_taught now m c r next lasts within small h
+taught_by (Refuses why turns objects) none now m c r next lasts within small h = by_stop why turns objects now r next (λ d. WritesBytes d → Taught now.core m d r next.core)
+    (λ k p from new h _. at_speaker now.core k m (Mutator k (Write p from new)) r next.core (nat_eq k m) refl within (write_teaches why now k p from new r next lasts h))
+    (λ k p from len h _. at_speaker now.core k m (Mutator k (Read p from len)) r next.core (nat_eq k m) refl within (read_teaches why now k p from len r next lasts h))
+    (λ k p h _. at_speaker now.core k m (Mutator k (View p)) r next.core (nat_eq k m) refl within (view_teaches why now k p r next lasts h))
+    (λ count h _. served_taught now m (Evacuator (Evacuate objects)) (Evacuated h.progress) next lasts within tt h.left)
+    (λ policy most count h small.
     let later = after_step now (Round policy most turns) (Ended (Limit Evacuating)) h.stood lasts h.turned in
     let same = served_mutators now (Evacuator (Round policy most turns)) (Ended (Limit Evacuating)) h.stood lasts small h.turned in
-    served_learns h.stood m (Evacuator (Evacuate objects)) (Evacuated h.progress) next later (subst (λ n. m < n) (sym same) within) tt h.left
-    ∙ served_learns now m (Evacuator (Round policy most turns)) (Ended (Limit Evacuating)) h.stood lasts within small h.turned)
+    served_taught h.stood m (Evacuator (Evacuate objects)) (Evacuated h.progress) next later (subst (λ n. m < n) (sym same) within) tt h.left
+    ∙ served_taught now m (Evacuator (Round policy most turns)) (Ended (Limit Evacuating)) h.stood lasts within small h.turned)
     c h small
+taught_by (Gives row) none now m c r next lasts within small h = absurd none
+
+each_learns : (now : Moment) (m : ℕ) (c : Command) (r : Reply) (next : Moment) → Lasts now → m < now.core.mutators → WritesBytes c → Commanded now c r next → Learns now.core m c r next.core
+each_learns now m c r next lasts within small (Serves, h) = known now.core m c r next.core (taught_by Serves tt now m c r next lasts within small h)
+each_learns now m c r next lasts within small (Refuses why turns objects, h) = known now.core m c r next.core (taught_by (Refuses why turns objects) tt now m c r next lasts within small h)
+each_learns now m c r next lasts within small (Gives row, h) =
+    by_lie row now r next (λ d. WritesBytes d → Learns now.core m d r next.core) (λ k p d asks h small. given_learns row now m r next k p lasts within d asks small h) c h small
 
 pub mutators_learn : (now : Moment) (c : Command) (r : Reply) (next : Moment) (m : ℕ) → IsMoment now → WritesBytes c → m < now.core.mutators → Commanded now c r next → Learns now.core m c r next.core
 mutators_learn now c r next m is bytes within h =
@@ -171,17 +252,34 @@ mutators_learn now c r next m is bytes within h =
 
 -- ---- all commands
 -- one line before others
-one_more : (m : ℕ) (o q : Own) (c : Command) (r : Reply) (cs : List Command) (rs : List Reply) (b : Bool) → MatchBool b (Knows m o c r q) (q ≡ o) → Alone m q cs rs →
-    MatchBool b ((x : Own) × Knows m o c r x × Alone m x cs rs) (Alone m o cs rs)
-one_more m o q c r cs rs true h rest = (q, h, rest)
-one_more m o q c r cs rs false h rest = subst (λ x. Alone m x cs rs) h rest
+one_more : (honest : Bool) (m : ℕ) (o q : Own) (c : Command) (r : Reply) (cs : List Command) (rs : List Reply) (b : Bool) → MatchBool b (KnowsBy honest m o c r q) (q ≡ o) → Alone honest m q cs rs →
+    MatchBool b ((x : Own) × KnowsBy honest m o c r x × Alone honest m x cs rs) (Alone honest m o cs rs)
+one_more honest m o q c r cs rs true h rest = (q, h, rest)
+one_more honest m o q c r cs rs false h rest = subst (λ x. Alone honest m x cs rs) h rest
 
 -- the replies to a mutator's own lines are what they say by themselves
 pub alone : (now : Moment) (cs : List Command) (rs : List Reply) (moments : List Moment) (m : ℕ) → Lasts now → m < now.core.mutators → AllWriteBytes cs → Answered now cs rs moments →
-    Alone m (own_of (world_of now.core) m) cs rs
+    Alone now.core.honest m (own_of (world_of now.core) m) cs rs
 alone now [] [] [] m lasts within small h = tt
 alone now (c ∷ cs) (r ∷ rs) (next ∷ xs) m lasts within small h =
     let same : next.core.mutators ≡ now.core.mutators = next_mutators now c r next lasts small.0 h.0 in
-    one_more m (own_of (world_of now.core) m) (own_of (world_of next.core) m) c r cs rs (is_by m (speaker c)) (each_learns now m c r next lasts within small.0 h.0)
-    (alone next cs rs xs m (still_lasts now c r next lasts small.0 h.0) (subst (λ n. m < n) (sym same) within) small.1 h.1)
+    one_more now.core.honest m (own_of (world_of now.core) m) (own_of (world_of next.core) m) c r cs rs (is_by m (speaker c)) (each_learns now m c r next lasts within small.0 h.0)
+    (subst (λ honest. Alone honest m (own_of (world_of next.core) m) cs rs) (next_honest now c r next lasts small.0 h.0)
+    (alone next cs rs xs m (still_lasts now c r next lasts small.0 h.0) (subst (λ n. m < n) (sym same) within) small.1 h.1))
 alone now _ _ _ m lasts within small h = absurd h
+
+-- and where none was given other words they say so whatever the device is said to be
+none_given : (o : Outside) (os : List Outside) → lies (o ∷ os) ≤ 0 → GivesNone o × (lies os ≤ 0)
+none_given Serves os none = (tt, none)
+none_given (Refuses why turns objects) os none = (tt, none)
+none_given (Gives row) os none = absurd (omega (arith, none))
+
+pub alone_as_stored : (os : List Outside) (now : Moment) (cs : List Command) (rs : List Reply) (moments : List Moment) (m : ℕ) → lies os ≤ 0 → Lasts now → m < now.core.mutators → AllWriteBytes cs → AnsweredBy os now cs rs moments →
+    Alone true m (own_of (world_of now.core) m) cs rs
+alone_as_stored [] now [] [] [] m none lasts within small h = tt
+alone_as_stored (o ∷ os) now (c ∷ cs) (r ∷ rs) (next ∷ xs) m none lasts within small h =
+    let so = none_given o os none in
+    let same : next.core.mutators ≡ now.core.mutators = next_mutators now c r next lasts small.0 (o, h.0) in
+    one_more true m (own_of (world_of now.core) m) (own_of (world_of next.core) m) c r cs rs (is_by m (speaker c)) (taught_by o so.0 now m c r next lasts within small.0 h.0)
+    (alone_as_stored os next cs rs xs m so.1 (still_lasts now c r next lasts small.0 (o, h.0)) (subst (λ n. m < n) (sym same) within) small.1 h.1)
+alone_as_stored _ now _ _ _ m none lasts within small h = absurd h

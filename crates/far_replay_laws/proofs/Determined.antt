@@ -9,14 +9,17 @@ use Rattle.far_evac.specs.declared.answers.Progress.{Progress}
 use Rattle.far_evac.specs.Choosing.{after_selecting}
 use Rattle.far_evac.specs.Moment.{Tally, plus, progress_of, tally_of}
 use Rattle.far_evac.specs.Turns.{turns_made}
-use Rattle.far_replay.specs.Answers.{AllServed, AnsweredBy, FailsAtMost, opened, to_fail, CommandedBy, Outside, Serves, Refuses, Served, Stopped, Unbrought, StopsLeaving, StopsRound, IsOutput, shape_of, first_moment}
+use Rattle.far_device.specs.declared.liar.Lie.{Lie}
+use Rattle.far_replay.specs.Answers.{AnsweredBy, FlawedAtMost, opened, flaws, is_true, lie_of, CommandedBy, Outside, Serves, Refuses, Gives, Served, Stopped, Unbrought, StopsLeaving, StopsRound, Misled, MisledBy, IsOutput, shape_of, first_moment}
 use Rattle.far_replay.specs.Rounds.{chosen_by, rows_in}
-use Rattle.far_replay.proofs.Outcomes.{by_stop}
-use Rattle.far_replay_laws.specs.Headline.{NeverFails, OneOutput, OutsideDecides, OutsideDecidesOutput}
+use Rattle.far_replay.proofs.AsIfStored.{stored_again}
+use Rattle.far_replay.proofs.Outcomes.{by_lie, by_stop}
+use Rattle.far_replay_laws.specs.Headline.{HasNoFlaw, OneOutput, OutsideDecides, OutsideDecidesOutput}
 use Rattle.far_text.specs.Command.{Command, Device, Trace, Heap, Mutator, Evacuator, Write, Read, View, Evacuate, Policy}
 use Rattle.far_text.specs.Grammar.{trace_of}
-use Rattle.far_replay.specs.Moment.{Moment}
+use Rattle.far_replay.specs.Moment.{Moment, as_if_stored}
 use Rattle.far_replay.specs.Reply.{Reply, Evacuated, Halted, Refused, reply_text}
+use Rattle.far_replay_laws.proofs.Misleading.{asked_so}
 use Rattle.far_replay_laws.proofs.Stops.{same_progress}
 
 -- one command that is served has one reply and one moment after it
@@ -40,6 +43,13 @@ round_once why turns objects s policy most count r q t u h k =
     let before : Tally = (turns_made (after_selecting s (chosen_by policy (rows_in s) most)) turns).tally in
     (h.reply ∙ ap (λ (p : Progress). Halted why (progress_of (plus before (tally_of p)) false)) (same_progress h.progress k.progress one.0) ∙ sym k.reply, one.1)
 
+-- and one that is given other words: its moment is that of these words, with what was stored
+given_once : (row : ℕ → ℕ) (s : Moment) (c : Command) (p : ℕ) (r q : Reply) (t u : Moment) → Misled row s c p r t → Misled row s c p q u → (r ≡ q) × (t ≡ u)
+given_once row s c p r q t u h k =
+    let one = one_reply (as_if_stored s p row) c r q (as_if_stored t p row) (as_if_stored u p row) h.served k.served in
+    let words : ℕ → ℕ = s.core.stored p in
+    (one.0, stored_again t p row words (sym h.kept) ∙ ap (λ (x : Moment). as_if_stored x p words) one.1 ∙ sym (stored_again u p row words (sym k.kept)))
+
 one_outcome : (o : Outside) (s : Moment) (c : Command) (r q : Reply) (t u : Moment) → CommandedBy o s c r t → CommandedBy o s c q u → (r ≡ q) × (t ≡ u)
 one_outcome Serves s c r q t u h k = one_reply s c r q t u h k
 one_outcome (Refuses why turns objects) s c r q t u h k =
@@ -49,6 +59,8 @@ one_outcome (Refuses why turns objects) s c r q t u h k =
     (λ m p h k. tried_once why s (Mutator m (View p)) m p r q t u h k)
     (λ count h k. left_once why objects s count r q t u h k)
     (λ policy most count h k. round_once why turns objects s policy most count r q t u h k) c h k
+one_outcome (Gives row) s c r q t u h k =
+    by_lie row s r t (λ d. MisledBy row s d q u → (r ≡ q) × (t ≡ u)) (λ m p d asks h k. given_once row s d p r q t u h (asked_so row s q u m p d asks k)) c h k
 
 -- the replies and the moments of a list of commands are determined by the first moment, and by what the outside made of each
 pub answers_are_one : OutsideDecides
@@ -63,32 +75,34 @@ answers_are_one (o ∷ os) s (c ∷ cs) (r ∷ rs) (q ∷ qs) (t ∷ ts) (u ∷ 
     (λ i. one.0 i ∷ rest.0 i, λ i. one.1 i ∷ rest.1 i)
 answers_are_one _ s _ _ qs _ us h k = absurd h
 
--- where the outside refuses nothing, it made the same of as many commands
-served_same : (os ws : List Outside) (s : Moment) (cs : List Command) (rs qs : List Reply) (ts us : List Moment) → AllServed os → AllServed ws → AnsweredBy os s cs rs ts → AnsweredBy ws s cs qs us → ws ≡ os
-served_same [] [] s cs rs qs ts us a b h k = refl
-served_same [] (w ∷ ws) s [] rs qs ts us a b h k = absurd k
-served_same (o ∷ os) [] s (c ∷ cs) rs qs ts us a b h k = absurd k
-served_same (Refuses why turns objects ∷ os) (w ∷ ws) s cs rs qs ts us a b h k = absurd a
-served_same (Serves ∷ os) (Refuses why turns objects ∷ ws) s cs rs qs ts us a b h k = absurd b
-served_same (Serves ∷ os) (Serves ∷ ws) s (c ∷ cs) (r ∷ rs) [] ts us a b h k = absurd k
-served_same (Serves ∷ os) (Serves ∷ ws) s (c ∷ cs) (r ∷ rs) (q ∷ qs) (t ∷ ts) [] a b h k = absurd k
-served_same (Serves ∷ os) (Serves ∷ ws) s (c ∷ cs) (r ∷ rs) (q ∷ qs) (t ∷ ts) (u ∷ us) a b h k =
+-- where no call of the device has a flaw, the outside made the same of as many commands
+served_same : (lie : Lie) (os ws : List Outside) (s : Moment) (cs : List Command) (rs qs : List Reply) (ts us : List Moment) → FlawedAtMost lie 0 os → FlawedAtMost lie 0 ws → AnsweredBy os s cs rs ts → AnsweredBy ws s cs qs us → ws ≡ os
+served_same lie [] [] s cs rs qs ts us a b h k = refl
+served_same lie [] (w ∷ ws) s [] rs qs ts us a b h k = absurd k
+served_same lie (o ∷ os) [] s (c ∷ cs) rs qs ts us a b h k = absurd k
+served_same lie (Refuses why turns objects ∷ os) (w ∷ ws) s cs rs qs ts us a b h k = absurd a
+served_same lie (Gives row ∷ os) (w ∷ ws) s cs rs qs ts us a b h k = absurd a
+served_same lie (Serves ∷ os) (Refuses why turns objects ∷ ws) s cs rs qs ts us a b h k = absurd b
+served_same lie (Serves ∷ os) (Gives row ∷ ws) s cs rs qs ts us a b h k = absurd b
+served_same lie (Serves ∷ os) (Serves ∷ ws) s (c ∷ cs) (r ∷ rs) [] ts us a b h k = absurd k
+served_same lie (Serves ∷ os) (Serves ∷ ws) s (c ∷ cs) (r ∷ rs) (q ∷ qs) (t ∷ ts) [] a b h k = absurd k
+served_same lie (Serves ∷ os) (Serves ∷ ws) s (c ∷ cs) (r ∷ rs) (q ∷ qs) (t ∷ ts) (u ∷ us) a b h k =
     let one = one_reply s c r q t u h.0 k.0 in
-    ap (λ xs. Serves ∷ xs) (served_same os ws t cs rs qs ts us a b h.1 (subst (λ x. AnsweredBy ws x cs qs us) (sym one.1) k.1))
-served_same _ _ s _ _ _ _ us a b h k = absurd h
+    ap (λ xs. Serves ∷ xs) (served_same lie os ws t cs rs qs ts us a b h.1 (subst (λ x. AnsweredBy ws x cs qs us) (sym one.1) k.1))
+served_same lie _ _ s _ _ _ _ us a b h k = absurd h
 
 -- what is written for a shape, with a heap or refused
-heap_once : (s : Moment) (device : Option Device) (cs : List Command) (b : Bool) (x y : List ℕ) → to_fail device ≡ 0 →
-    MatchBool b ((os : List Outside) × (rs : List Reply) × (ts : List Moment) × FailsAtMost (to_fail device) os × AnsweredBy os s cs rs ts × (x ≡ flat_map reply_text (opened device ++ rs))) (x ≡ reply_text (Refused Shape)) →
-    MatchBool b ((os : List Outside) × (rs : List Reply) × (ts : List Moment) × FailsAtMost (to_fail device) os × AnsweredBy os s cs rs ts × (y ≡ flat_map reply_text (opened device ++ rs))) (y ≡ reply_text (Refused Shape)) → x ≡ y
+heap_once : (s : Moment) (device : Option Device) (cs : List Command) (b : Bool) (x y : List ℕ) → flaws device ≡ 0 →
+    MatchBool b ((os : List Outside) × (rs : List Reply) × (ts : List Moment) × FlawedAtMost (lie_of device) (flaws device) os × AnsweredBy os s cs rs ts × (x ≡ flat_map reply_text (opened device ++ rs))) (x ≡ reply_text (Refused Shape)) →
+    MatchBool b ((os : List Outside) × (rs : List Reply) × (ts : List Moment) × FlawedAtMost (lie_of device) (flaws device) os × AnsweredBy os s cs rs ts × (y ≡ flat_map reply_text (opened device ++ rs))) (y ≡ reply_text (Refused Shape)) → x ≡ y
 heap_once s device cs true x y never (os, rs, ts, a, h, e) (ws, qs, us, b, k, f) =
-    let same : ws ≡ os = served_same os ws s cs rs qs ts us (subst (λ n. FailsAtMost n os) never a) (subst (λ n. FailsAtMost n ws) never b) h k in
+    let same : ws ≡ os = served_same (lie_of device) os ws s cs rs qs ts us (subst (λ n. FlawedAtMost (lie_of device) n os) never a) (subst (λ n. FlawedAtMost (lie_of device) n ws) never b) h k in
     e ∙ ap (λ l. flat_map reply_text (opened device ++ l)) (answers_are_one os s cs rs qs ts us h (subst (λ xs. AnsweredBy xs s cs qs us) same k)).0 ∙ sym f
 heap_once s device cs false x y never e f = e ∙ sym f
 
 -- what is written for what was read
-output_once : (read : Result Trace ℕ) (x y : List ℕ) → NeverFails read → IsOutput read x → IsOutput read y → x ≡ y
-output_once (Ok (Heap logs mutators epoch device cs)) x y never h k = heap_once (first_moment logs mutators epoch) device cs (is_shape (shape_of logs mutators epoch)) x y never h k
+output_once : (read : Result Trace ℕ) (x y : List ℕ) → HasNoFlaw read → IsOutput read x → IsOutput read y → x ≡ y
+output_once (Ok (Heap logs mutators epoch device cs)) x y never h k = heap_once (first_moment logs mutators epoch (is_true device)) device cs (is_shape (shape_of logs mutators epoch)) x y never h k
 output_once _ x y never h k = h ∙ sym k
 
 -- two outputs of one text are equal
@@ -98,4 +112,4 @@ answers_once text a b never h k = output_once (trace_of text) a b never h k
 -- and two that the same outside made
 pub outside_decides_output : OutsideDecidesOutput
 outside_decides_output outside logs mutators epoch device cs a b (rs, ts, h, e) (qs, us, k, f) =
-    e ∙ ap (λ l. flat_map reply_text (opened device ++ l)) (answers_are_one outside (first_moment logs mutators epoch) cs rs qs ts us h k).0 ∙ sym f
+    e ∙ ap (λ l. flat_map reply_text (opened device ++ l)) (answers_are_one outside (first_moment logs mutators epoch (is_true device)) cs rs qs ts us h k).0 ∙ sym f

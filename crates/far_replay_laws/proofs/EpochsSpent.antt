@@ -1,20 +1,20 @@
 -- Through a step of the evacuator the epoch goes on as its reply says, and in the last one no logs are chosen.
-use Rattle.std.proofs.Common.{◌≡◌, ◌≢◌, ℕ, zero, suc, ◌+◌, Bool, true, not, refl, sym, ap, subst, ◌∙◌, Option, Some, None, List, [], ◌∷◌}
+use Rattle.std.proofs.Common.{◌≡◌, ◌≢◌, ℕ, ◌+◌, Bool, true, not, refl, sym, ap, subst, ◌∙◌, Option, Some, None, List, [], ◌∷◌}
 use Rattle.std.proofs.lemmas.Bool.{cond_both, eq-eqb}
 use Rattle.far_word.specs.declared.refused.Refused.{Refused as Refusal}
 use Rattle.far_word.specs.declared.refused.Refused.TheVariants.{EpochsSpent, Phase as WrongPhase}
 use Rattle.far_word.specs.declared.sizes.TheConstants.{EPOCH_END}
+use Rattle.far_word.specs.Pointer.{read_of}
 use Rattle.far_core.specs.state.State.{State}
-use Rattle.far_evac.specs.AnyHand.{WalksTo}
 use Rattle.far_evac.specs.Choosing.{is_spent}
 use Rattle.far_evac.specs.MomentLaw.{is_idle}
-use Rattle.far_evac.specs.Walk.{Walked, ended, is_done, walked}
+use Rattle.far_evac.specs.Walk.{ended, is_done, walked, way_of}
 use Rattle.far_evac.specs.Waiting.{first_open, polled_to}
 use Rattle.far_evac.specs.declared.phase.Phase.{Phase}
 use Rattle.far_evac.specs.declared.phase.Phase.TheVariants.{Evacuating, Idle}
-use Rattle.far_evac.proofs.ComingBack.{come_back_empty}
+use Rattle.far_evac.proofs.Framed.{so_one}
 use Rattle.far_evac.proofs.Marks.{is_given_up}
-use Rattle.far_evac.proofs.Walks.{walk_is}
+use Rattle.far_evac.proofs.SmallSteps.{walked_kept}
 use Rattle.far_text.specs.Command.{Command, Evacuator, Step, Select, Mark, Wait, Evacuate, Abort, Round}
 use Rattle.far_replay.specs.Answers.{IsMoment, Served}
 use Rattle.far_replay.proofs.Outcomes.{by_outcome}
@@ -29,17 +29,19 @@ use Rattle.far_replay.proofs.RoundLeads.{step_stays}
 use Rattle.far_replay_laws.specs.Epochs.{Chooses, EpochAfter, StepSpends, StepsSpendEpochs}
 use Rattle.far_replay_laws.specs.Steps.{ReachesEpoch, TellsStep}
 use Rattle.far_replay_laws.proofs.TurnsTell.{served_told}
+use Rattle.far_replay_laws.proofs.Misleading.{by_asked}
 
 -- a walk spends no epoch
-walk_epoch : (m : Moment) (k : ℕ) (t : Walked) → WalksTo m k t → t.moment.core.epoch ≡ m.core.epoch
-walk_epoch m zero t h = ((come_back_empty m t t 0).first h).epoch
-walk_epoch m (suc k) t (u, word, walks, deals) = ((come_back_empty m u t word).each deals).epoch ∙ walk_epoch m k u walks
+walked_epoch : (m : Moment) (n : ℕ) → (walked m n).moment.core.epoch ≡ m.core.epoch
+walked_epoch m n = (walked_kept (λ k w. w.moment.core.epoch ≡ m.core.epoch) record {
+  learns = tt;
+  gives = λ k w l ls none h. h;
+  deals = λ k w l ls p ps word here finds h. ap (λ (s : State). s.epoch) (so_one w.moment.core p (way_of w.moment.core (read_of word))).frame ∙ h;
+} m refl n).1.0
 
 evacuated_epoch : (m : Moment) (n : ℕ) → (ended (walked m n)).core.epoch ≡ m.core.epoch
-evacuated_epoch m n =
-    let walk = walk_is m n in
-    let w : Walked = walked m n in
-    cond_both (is_done w) (record w.moment { phase = Idle }) w.moment (λ (x : Moment). x.core.epoch ≡ m.core.epoch) (λ _. walk_epoch m walk.0 w walk.1.walks) (λ _. walk_epoch m walk.0 w walk.1.walks)
+evacuated_epoch m n = let w = walked m n in
+    cond_both (is_done w) (record w.moment { phase = Idle }) w.moment (λ (x : Moment). x.core.epoch ≡ m.core.epoch) (λ _. walked_epoch m n) (λ _. walked_epoch m n)
 
 -- nor does a poll
 polled_epoch : (m : Moment) (o : Option ℕ) → (polled_to m o).core.epoch ≡ m.core.epoch
@@ -120,4 +122,5 @@ steps_spend now step r next is h = by_outcome now r next (λ d. SpendsFor now d 
       epoch = subst (λ x. EpochAfter now.core.epoch (Round policy most count) x next.core.epoch) (sym h.reply) tt;
       last = λ chooses rests e. absurd (not_spent (ends.Limit Evacuating) ((served_spends now (Round policy most turns) (Ended (ends.Limit Evacuating)) h.stood is h.turned).last tt rests e));
     })
+    (λ row m p d asks h. by_asked m p (λ x. SpendsFor now x r next) (λ from bytes. tt) (λ from len. tt) tt d asks)
     (Evacuator step) h

@@ -1,5 +1,6 @@
--- The device fails no more often than it is said to.
-use Rattle.std.proofs.Common.{◌≡◌, ◌≢◌, ℕ, zero, suc, ◌≤◌, Bool, true, false, List, [], ◌∷◌, ◌++◌, Option, Some, None, Result, refl, sym, ap, subst, ◌∙◌, arith}
+-- The device fails, and lies, no more often than it is said to.
+use Rattle.std.proofs.Common.{◌≡◌, ◌≢◌, ℕ, zero, suc, ◌≤◌, Bool, true, false, List, [], ◌∷◌, ◌++◌, Option, Some, None, Result, refl, sym, ap, subst, ◌∙◌, arith, inl, inr}
+use Rattle.std.specs.Prelude.{◌⊎◌}
 use Rattle.std.specs.Bool.{MatchBool}
 use Rattle.std.specs.List.{flat_map}
 use Rattle.far_word.specs.declared.refused.Refused.{Refused as Refusal}
@@ -8,18 +9,23 @@ use Rattle.far_core.specs.state.Shape.{is_shape}
 use Rattle.far_book.specs.declared.home.Home.{Home}
 use Rattle.far_word.specs.Pointer.{read_of}
 use Rattle.far_book.specs.book.Home.{home_of}
+use Rattle.far_device.specs.declared.liar.Lie.{Lie}
+use Rattle.far_device.specs.declared.liar.Lie.TheVariants.{Never, Short as Shortens, Flip as Inverts}
 use Rattle.far_evac.specs.declared.answers.Progress.{Progress}
-use Rattle.far_text.specs.Command.{Command, Device, Flawed, Fail, Trace, New, Where, Logs, Mutator, Book, Evacuator, Select}
-use Rattle.far_replay.specs.Answers.{AnsweredBy, FailsAtMost, IsOutput, Outside, Serves, Refuses, Served, Stopped, first_moment, opened, shape_of, to_fail}
+use Rattle.far_text.specs.Command.{Command, Device, Flawed, Fail, Short, Flip, Trace, New, Where, Logs, Mutator, Book, Evacuator, Select}
+use Rattle.far_replay.specs.Answers.{AnsweredBy, FlawedAtMost, IsOutput, Outside, Serves, Refuses, Gives, Served, Stopped, MisledBy, first_moment, flaws, is_true, lie_of, opened, shape_of}
 use Rattle.far_replay.specs.Commanded.{KeepsFar}
-use Rattle.far_replay.specs.Moment.{Moment}
+use Rattle.far_replay.specs.Moment.{Moment, as_if_stored}
 use Rattle.far_replay.specs.Objects.{lowest_cell}
 use Rattle.far_replay.specs.Reply.{Reply, Refused, Halted, reply_text}
 use Rattle.far_replay.specs.Turn.{home_reply, pointer_reply, refusal, turn_reply, unless}
-use Rattle.far_replay.proofs.Answering.{answered_by}
-use Rattle.far_replay.proofs.Outcomes.{by_stop}
-use Rattle.far_replay_laws.specs.FromOutside.{FailuresAreSaid, NoneDamaged, failures, one_if, says_failed}
+use Rattle.far_replay.proofs.Outcomes.{by_lie, by_stop}
+use Rattle.far_replay_laws.specs.FromOutside.{FailsAsSaid, FlawsAreSaid, LiesAsSaid, damages, failures, lies, one_if, says_damaged, says_failed}
 use Rattle.far_replay_laws.proofs.FarRefusals.{served_never}
+
+-- ---- a reply that says neither
+abbrev Silent : Reply → Type 0
+Silent r = (says_failed r ≡ false) × (says_damaged r ≡ false)
 
 -- ---- a command that is served
 pointer_unhalted : (o : Option ℕ) (why : Refusal) (progress : Progress) → pointer_reply o ≢ Halted why progress
@@ -41,69 +47,121 @@ unless_unhalted : (o : Option Refusal) (r : Reply) (why : Refusal) (progress : P
 unless_unhalted None r why progress other e = other e
 unless_unhalted (Some cause) r why progress other e = cc
 
-refused_says : (why : Refusal) → why ≢ Failed → says_failed (Refused why) ≡ false
-refused_says Failed other = absurd (other refl)
-refused_says why other = refl
+refused_silent : (why : Refusal) → ¬ KeepsFar why → Silent (Refused why)
+refused_silent Failed other = absurd (other tt)
+refused_silent Damaged other = absurd (other tt)
+refused_silent why other = (refl, refl)
 
-says_of : (r : Reply) → ((why : Refusal) → r ≡ Refused why → why ≢ Failed) → ((why : Refusal) (progress : Progress) → r ≢ Halted why progress) → says_failed r ≡ false
-says_of (Refused why) refused halted = refused_says why (refused why refl)
-says_of (Halted why progress) refused halted = absurd (halted why progress refl)
-says_of _ refused halted = refl
+silent_of : (r : Reply) → ((why : Refusal) → r ≡ Refused why → ¬ KeepsFar why) → ((why : Refusal) (progress : Progress) → r ≢ Halted why progress) → Silent r
+silent_of (Refused why) refused halted = refused_silent why (refused why refl)
+silent_of (Halted why progress) refused halted = absurd (halted why progress refl)
+silent_of _ refused halted = (refl, refl)
 
-served_says : (now : Moment) (c : Command) (r : Reply) (next : Moment) → Served now c r next → says_failed r ≡ false
-served_says now c r next h = says_of r
-    (λ why e failed. served_never now c r next why h e (subst KeepsFar (sym failed) tt))
+served_silent : (now : Moment) (c : Command) (r : Reply) (next : Moment) → Served now c r next → Silent r
+served_silent now c r next h = silent_of r (λ why e. served_never now c r next why h e)
     (λ why progress e. unless_unhalted (refusal now c) (turn_reply now c) why progress (turn_unhalted now c why progress) (sym h.reply ∙ e))
 
--- ---- one that is refused, as the device failed
-refused_whole : (why : Refusal) (r : Reply) → why ≡ Failed → r ≡ Refused why → r ≢ Refused Damaged
-refused_whole why r failed is e = let odd : Refused Failed ≡ Refused Damaged = ap Refused (sym failed) ∙ sym is ∙ e in cc
+-- ---- one that is given other words
+given_silent : (row : ℕ → ℕ) (now : Moment) (c : Command) (r : Reply) (next : Moment) → MisledBy row now c r next → Silent r
+given_silent row now c r next h = by_lie row now r next (λ d. Silent r) (λ m p d asks k. served_silent (as_if_stored now p row) d r (as_if_stored next p row) k.served) c h
 
-halted_whole : (why : Refusal) (progress : Progress) (r : Reply) → r ≡ Halted why progress → r ≢ Refused Damaged
-halted_whole why progress r is e = let odd : Halted why progress ≡ Refused Damaged = sym is ∙ e in cc
+-- ---- one that is refused in its midst
+abbrev Says : Refusal → Reply → Type 0
+Says why r = (r ≡ Refused why) ⊎ ((progress : Progress) × (r ≡ Halted why progress))
 
-stopped_whole : (why : Refusal) (turns objects : ℕ) (now : Moment) (c : Command) (r : Reply) (next : Moment) → why ≡ Failed → Stopped why turns objects now c r next → r ≢ Refused Damaged
-stopped_whole why turns objects now c r next failed h = by_stop why turns objects now r next (λ d. r ≢ Refused Damaged)
-    (λ m p from bytes k. refused_whole why r failed k.reply) (λ m p from len k. refused_whole why r failed k.reply) (λ m p k. refused_whole why r failed k.reply)
-    (λ count k. halted_whole why k.progress r k.reply) (λ policy most count k. halted_whole why _ r k.reply) c h
+stopped_says : (why : Refusal) (turns objects : ℕ) (now : Moment) (c : Command) (r : Reply) (next : Moment) → Stopped why turns objects now c r next → Says why r
+stopped_says why turns objects now c r next h = by_stop why turns objects now r next (λ d. Says why r)
+    (λ m p from bytes k. inl k.reply) (λ m p from len k. inl k.reply) (λ m p k. inl k.reply)
+    (λ count k. inr (k.progress, k.reply)) (λ policy most count k. inr (_, k.reply)) c h
+
+undamaged : (why : Refusal) (r : Reply) → why ≡ Failed → Says why r → says_damaged r ≡ false
+undamaged why r failed (inl e) = ap says_damaged (e ∙ ap Refused failed)
+undamaged why r failed (inr (progress, e)) = ap says_damaged (e ∙ ap (λ w. Halted w progress) failed)
+
+unfailed : (why : Refusal) (r : Reply) → why ≡ Damaged → Says why r → says_failed r ≡ false
+unfailed why r damaged (inl e) = ap says_failed (e ∙ ap Refused damaged)
+unfailed why r damaged (inr (progress, e)) = ap says_failed (e ∙ ap (λ w. Halted w progress) damaged)
 
 -- ---- commands one after the other
 one_less : (b : Bool) → one_if b ≤ 1
 one_less true = omega arith
 one_less false = omega arith
 
-few : (n : ℕ) (os : List Outside) (now : Moment) (cs : List Command) (rs : List Reply) (ms : List Moment) → FailsAtMost n os → AnsweredBy os now cs rs ms → (failures rs ≤ n) × NoneDamaged rs
-few n [] now [] [] [] a h = (omega arith, tt)
-few n [] now [] [] (m ∷ ms) a h = absurd h
-few n [] now [] (r ∷ rs) ms a h = absurd h
-few n [] now (c ∷ cs) rs ms a h = absurd h
-few n (o ∷ os) now [] rs ms a h = absurd h
-few n (o ∷ os) now (c ∷ cs) [] ms a h = absurd h
-few n (o ∷ os) now (c ∷ cs) (r ∷ rs) [] a h = absurd h
-few n (Serves ∷ os) now (c ∷ cs) (r ∷ rs) (m ∷ ms) a h =
-    let rest = few n os m cs rs ms a h.1 in
-    let none : one_if (says_failed r) ≡ 0 = ap one_if (served_says now c r m h.0) in
-    (omega (arith, none, rest.0), ((λ e. served_never now c r m Damaged h.0 e tt), rest.1))
-few zero (Refuses why turns objects ∷ os) now (c ∷ cs) (r ∷ rs) (m ∷ ms) a h = absurd a
-few (suc n) (Refuses why turns objects ∷ os) now (c ∷ cs) (r ∷ rs) (m ∷ ms) a h =
-    let rest = few n os m cs rs ms a.1 h.1 in
-    let one = one_less (says_failed r) in
-    (omega (arith, one, rest.0), (stopped_whole why turns objects now c r m a.0 h.0, rest.1))
+-- so often each comes, by what the device does
+abbrev fails_of : Lie → ℕ → ℕ
+fails_of Never n = n
+fails_of Shortens n = 0
+fails_of Inverts n = 0
 
-at_most_one : (device : Option Device) → to_fail device ≤ 1
-at_most_one None = omega arith
-at_most_one (Some (Flawed Fail zero)) = omega arith
-at_most_one (Some (Flawed Fail (suc call))) = omega arith
+abbrev damages_of : Lie → ℕ → ℕ
+damages_of Never n = 0
+damages_of Shortens n = n
+damages_of Inverts n = 0
+
+abbrev lies_of : Lie → ℕ → ℕ
+lies_of Never n = 0
+lies_of Shortens n = 0
+lies_of Inverts n = n
+
+abbrev AreFew : Lie → ℕ → List Reply → List Outside → Type 0
+AreFew lie n rs os = (failures rs ≤ fails_of lie n) × (damages rs ≤ damages_of lie n) × (lies os ≤ lies_of lie n)
+
+silent_more : (lie : Lie) (n : ℕ) (r : Reply) (rs : List Reply) (os : List Outside) → Silent r → AreFew lie n rs os → AreFew lie n (r ∷ rs) os
+silent_more lie n r rs os none rest =
+    let failed : one_if (says_failed r) ≡ 0 = ap one_if none.0 in
+    let damaged : one_if (says_damaged r) ≡ 0 = ap one_if none.1 in
+    (omega (arith, failed, rest.0), omega (arith, damaged, rest.1), rest.2)
+
+none_few : (lie : Lie) (n : ℕ) → AreFew lie n [] []
+none_few lie n = (omega arith, omega arith, omega arith)
+
+few : (lie : Lie) (n : ℕ) (os : List Outside) (now : Moment) (cs : List Command) (rs : List Reply) (ms : List Moment) → FlawedAtMost lie n os → AnsweredBy os now cs rs ms → AreFew lie n rs os
+few lie n [] now [] [] [] a h = none_few lie n
+few lie n [] now [] [] (m ∷ ms) a h = absurd h
+few lie n [] now [] (r ∷ rs) ms a h = absurd h
+few lie n [] now (c ∷ cs) rs ms a h = absurd h
+few lie n (o ∷ os) now [] rs ms a h = absurd h
+few lie n (o ∷ os) now (c ∷ cs) [] ms a h = absurd h
+few lie n (o ∷ os) now (c ∷ cs) (r ∷ rs) [] a h = absurd h
+few lie n (Serves ∷ os) now (c ∷ cs) (r ∷ rs) (m ∷ ms) a h = silent_more lie n r rs os (served_silent now c r m h.0) (few lie n os m cs rs ms a h.1)
+few lie zero (Refuses why turns objects ∷ os) now (c ∷ cs) (r ∷ rs) (m ∷ ms) a h = absurd a
+few lie zero (Gives row ∷ os) now (c ∷ cs) (r ∷ rs) (m ∷ ms) a h = absurd a
+few Never (suc n) (Refuses why turns objects ∷ os) now (c ∷ cs) (r ∷ rs) (m ∷ ms) a h =
+    let rest = few Never n os m cs rs ms a.1 h.1 in
+    let one = one_less (says_failed r) in
+    let none : one_if (says_damaged r) ≡ 0 = ap one_if (undamaged why r a.0 (stopped_says why turns objects now c r m h.0)) in
+    (omega (arith, one, rest.0), omega (arith, none, rest.1), rest.2)
+few Shortens (suc n) (Refuses why turns objects ∷ os) now (c ∷ cs) (r ∷ rs) (m ∷ ms) a h =
+    let rest = few Shortens n os m cs rs ms a.1 h.1 in
+    let one = one_less (says_damaged r) in
+    let none : one_if (says_failed r) ≡ 0 = ap one_if (unfailed why r a.0 (stopped_says why turns objects now c r m h.0)) in
+    (omega (arith, none, rest.0), omega (arith, one, rest.1), rest.2)
+few Inverts (suc n) (Refuses why turns objects ∷ os) now (c ∷ cs) (r ∷ rs) (m ∷ ms) a h = absurd a.0
+few Never (suc n) (Gives row ∷ os) now (c ∷ cs) (r ∷ rs) (m ∷ ms) a h = absurd a.0
+few Shortens (suc n) (Gives row ∷ os) now (c ∷ cs) (r ∷ rs) (m ∷ ms) a h = absurd a.0
+few Inverts (suc n) (Gives row ∷ os) now (c ∷ cs) (r ∷ rs) (m ∷ ms) a h =
+    let rest = silent_more Inverts n r rs os (given_silent row now c r m h.0) (few Inverts n os m cs rs ms a.1 h.1) in
+    (rest.0, rest.1, omega (arith, rest.2))
+
+-- ---- by what the text says of the device
+as_said : (device : Option Device) (rs : List Reply) (os : List Outside) → AreFew (lie_of device) (flaws device) rs os → FailsAsSaid device rs × LiesAsSaid device os
+as_said None rs os h = (record { failed = h.0; damaged = h.1; once = omega arith }, record { lied = h.2; once = omega arith })
+as_said (Some (Flawed Fail zero)) rs os h = (record { failed = h.0; damaged = h.1; once = omega arith }, record { lied = h.2; once = omega arith })
+as_said (Some (Flawed Fail (suc call))) rs os h = (record { failed = h.0; damaged = h.1; once = omega arith }, record { lied = h.2; once = omega arith })
+as_said (Some (Flawed Short zero)) rs os h = (record { failed = h.0; damaged = h.1; once = omega arith }, record { lied = h.2; once = omega arith })
+as_said (Some (Flawed Short (suc call))) rs os h = (record { failed = h.0; damaged = h.1; once = omega arith }, record { lied = h.2; once = omega arith })
+as_said (Some (Flawed Flip zero)) rs os h = (record { failed = h.0; damaged = h.1; once = omega arith }, record { lied = h.2; once = omega arith })
+as_said (Some (Flawed Flip (suc call))) rs os h = (record { failed = h.0; damaged = h.1; once = omega arith }, record { lied = h.2; once = omega arith })
 
 in_range : (s : Moment) (device : Option Device) (cs : List Command) (output : List ℕ) (b : Bool) → b ≡ true →
-    MatchBool b ((os : List Outside) × (rs : List Reply) × (ms : List Moment) × FailsAtMost (to_fail device) os × AnsweredBy os s cs rs ms × (output ≡ flat_map reply_text (opened device ++ rs))) (output ≡ reply_text (Refused Shape)) →
-    (os : List Outside) × (rs : List Reply) × (ms : List Moment) × FailsAtMost (to_fail device) os × AnsweredBy os s cs rs ms × (output ≡ flat_map reply_text (opened device ++ rs))
+    MatchBool b ((os : List Outside) × (rs : List Reply) × (ms : List Moment) × FlawedAtMost (lie_of device) (flaws device) os × AnsweredBy os s cs rs ms × (output ≡ flat_map reply_text (opened device ++ rs))) (output ≡ reply_text (Refused Shape)) →
+    (os : List Outside) × (rs : List Reply) × (ms : List Moment) × FlawedAtMost (lie_of device) (flaws device) os × AnsweredBy os s cs rs ms × (output ≡ flat_map reply_text (opened device ++ rs))
 in_range s device cs output true e h = h
 in_range s device cs output false e h = absurd cc
 
-pub failures_are_said : FailuresAreSaid
-failures_are_said text output logs mutators epoch device cs answers reads fits =
-    let first = first_moment logs mutators epoch in
+pub flaws_are_said : FlawsAreSaid
+flaws_are_said text output logs mutators epoch device cs answers reads fits =
+    let first = first_moment logs mutators epoch (is_true device) in
     let (os, rs, ms, a, h, is) = in_range first device cs output (is_shape (shape_of logs mutators epoch)) fits (subst (λ (x : Result Trace ℕ). IsOutput x output) reads answers) in
-    let said = few (to_fail device) os first cs rs ms a h in
-    (rs, ms, answered_by os first cs rs ms h, is, (said.0, at_most_one device, said.1))
+    let said = as_said device rs os (few (lie_of device) (flaws device) os first cs rs ms a h) in
+    (os, rs, ms, h, is, said.0, said.1)

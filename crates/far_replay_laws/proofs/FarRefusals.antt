@@ -77,4 +77,5 @@ device_refuses_far now c r next why is h e keeps = by_outcome now r next (λ d. 
     (λ cause m p h. far_both cause now (Mutator m (View p)) m p r next is h)
     (λ cause objects count h. absurd (not_halted why cause h.progress r h.reply e))
     (λ cause turns objects policy most count h. absurd (not_halted why cause _ r h.reply e))
+    (λ row m p d asks h. absurd (h.answered why e))
     c h

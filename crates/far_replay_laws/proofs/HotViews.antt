@@ -28,15 +28,14 @@ use Rattle.far_core.proofs.Owing.{is_fact, replies_report}
 use Rattle.far_core.proofs.Put.{put_both, put_other, put_same}
 use Rattle.far_core.proofs.Quieting.{quiet_unheld}
 use Rattle.far_text.specs.Command.{Command}
-use Rattle.far_text.specs.Written.{AllWriteBytes, WritesBytes}
-use Rattle.far_replay.specs.Answers.{Served, IsMoment, first_moment, moment_after}
+use Rattle.far_text.specs.Written.{WritesBytes}
+use Rattle.far_replay.specs.Answers.{Served, IsMoment, Begins, Comes, Stores}
 use Rattle.far_replay.specs.EventRows.{AllPass, after_events}
 use Rattle.far_replay_laws.specs.LeftMarks.{ViewedAreHot, is_hot}
 use Rattle.far_replay.specs.Moment.{Moment}
 use Rattle.far_replay.specs.Reply.{Reply}
-use Rattle.far_replay.specs.Turn.{effect, reply_to}
 use Rattle.far_replay.proofs.Drops.{viewed_is}
-use Rattle.far_replay.proofs.Lasting.{first_is_moment, moment_lasts, served_is_moment}
+use Rattle.far_replay.proofs.Lasting.{moment_lasts}
 use Rattle.far_replay.proofs.MadeLemmas.{legal_step}
 use Rattle.far_replay_laws.proofs.ViewLaws.{served_reach}
 
@@ -157,16 +156,11 @@ still_hot now c r next is bytes h hot =
     let way = served_reach now c r next (moment_lasts now is) bytes h in
     subst AllHot (sym way.ends) (row_hot now.core way.events (moment_lasts now is).law way.pass hot)
 
-hot_on : (now : Moment) (cs : List Command) → IsMoment now → AllWriteBytes cs → AllHot now.core → AllHot (moment_after now cs).core
-hot_on now [] is bytes hot = hot
-hot_on now (c ∷ cs) is bytes hot =
-    let made : Served now c (reply_to now c) (effect now c) = record { reply = refl; moment = refl } in
-    hot_on (effect now c) cs (served_is_moment now c (reply_to now c) (effect now c) is bytes.0 made) bytes.1 (still_hot now c (reply_to now c) (effect now c) is bytes.0 made hot)
-
+-- so it is from the first moment on, whatever is stored
 pub moment_hot : (now : Moment) → IsMoment now → AllHot now.core
-moment_hot now (logs, mutators, epoch, cs, fits, bytes, is) =
-    subst (λ (m : Moment). AllHot m.core) (sym is)
-    (hot_on (first_moment logs mutators epoch) cs (first_is_moment logs mutators epoch fits) bytes (λ p h. absurd (false≢true h)))
+moment_hot now (Begins logs mutators epoch honest fits is) = subst (λ (m : Moment). AllHot m.core) (sym is) (λ p h. absurd (false≢true h))
+moment_hot now (Comes before c r was bytes h) = still_hot before c r now was bytes h (moment_hot before was)
+moment_hot now (Stores before p row was used fits is) = subst (λ (m : Moment). AllHot m.core) (sym is) (moment_hot before was)
 
 pub views_are_hot : (now : Moment) → IsMoment now → ViewedAreHot now.core
 views_are_hot now is p h = moment_hot now is p (viewed_is now.core p true h)

@@ -26,7 +26,7 @@ use Rattle.far_replay.specs.Effects.{is_slow, with_data, with_view}
 use Rattle.far_replay.specs.Events.{come_events}
 use Rattle.far_replay.specs.Taking.{LacksRoom}
 use Rattle.far_replay_laws.specs.LeftMarks.{GainsForRoom, GainsHot, IsHotAlone, LeavesHot, LeavesMarks, OthersStay, RefusedLeaves, TryLeaves, is_hot}
-use Rattle.far_replay.specs.Moment.{Moment}
+use Rattle.far_replay.specs.Moment.{Moment, as_if_stored, with_stored}
 use Rattle.far_replay.specs.Objects.{uses}
 use Rattle.far_replay.specs.Reply.{Reply, Refused}
 use Rattle.far_replay.specs.Turn.{access_causes, causes, first_cause, refusal, unless, turn_effect, refused_effect, turn_reply, reply_to}
@@ -35,12 +35,14 @@ use Rattle.far_replay.proofs.Brought.{brought}
 use Rattle.far_replay.proofs.Dereferences.{sought_lacks, sought_law, sought_may, sought_word}
 use Rattle.far_replay.proofs.Drops.{unheld_is, viewed_is}
 use Rattle.far_replay_laws.proofs.HotViews.{moment_hot}
-use Rattle.far_replay.proofs.Lasting.{moment_lasts}
+use Rattle.far_replay.proofs.Lasting.{moment_lasts, misled_from}
 use Rattle.far_replay.proofs.Leading.{leads_law}
 use Rattle.far_replay_laws.proofs.Refusals.{among, of_far}
 use Rattle.far_replay.proofs.TakingView.{asked_word}
 use Rattle.far_replay.proofs.Turns.{access_fact, tried}
 use Rattle.far_replay.proofs.Views.{anew_is, fast_dereference, fast_seen, Already, Anew, Seen, pin_read, slow_parts}
+use Rattle.far_replay_laws.proofs.Misleading.{as_misled}
+use Rattle.far_core.specs.world.WorldOf.{world_of}
 
 -- ---- what a cell says with HOT, and with MOVE
 hot_gained : (o n : Option PtrWord) → in_use o ≡ true → n ≡ map_mark Hot o → GainsHot o n
@@ -230,6 +232,11 @@ tried_leaves now c why m p r next is h =
     let x = served_leaves now (Mutator m (Try p)) (Refused (MarkFound (now.core.cell p))) next is h.tried in
     far_leaves now.core next.core p why h.cause (x.1, x.2)
 
+-- and one that is given other words leaves what it would if they were stored
+hot_as_if : (s t : State) (p : ℕ) (row : ℕ → ℕ) → LeavesHot (with_stored s p row) (with_stored t p row) p → LeavesHot s t p
+unfolding world_of
+hot_as_if s t p row x = record { hot = x.hot; again = x.again; anew = x.anew; others = x.others }
+
 pub commands_leave : (now : Moment) (c : Command) (r : Reply) (next : Moment) → IsMoment now → Commanded now c r next → LeavesMarks now.core c r next.core
 commands_leave now c r next is h = by_outcome now r next (λ d. LeavesMarks now.core d r next.core)
     (λ d h. served_leaves now d r next is h)
@@ -238,4 +245,6 @@ commands_leave now c r next is h = by_outcome now r next (λ d. LeavesMarks now.
     (λ why m p h. subst (λ x. LeavesMarks now.core (Mutator m (View p)) x next.core) (sym h.reply) (tried_leaves now (Mutator m (View p)) why m p r next is h))
     (λ why objects count h. tt)
     (λ why turns objects policy most count h. tt)
+    (λ row m p d asks h. as_misled row now r next m p (λ now c r next. LeavesMarks now.core c r next.core) (λ from bytes. hot_as_if now.core next.core p row) (λ from len bytes. hot_as_if now.core next.core p row) (hot_as_if now.core next.core p row)
+    d asks h (served_leaves (as_if_stored now p row) d r (as_if_stored next p row) (misled_from row now d p r next is h) h.served))
     c h

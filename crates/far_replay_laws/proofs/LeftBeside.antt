@@ -33,18 +33,19 @@ use Rattle.far_replay.specs.Answers.{Commanded, Served, IsMoment}
 use Rattle.far_replay.proofs.Outcomes.{by_outcome}
 use Rattle.far_replay.specs.Dereference.{come, come_of, comes_to, dereferenced, has_no_room, sought, sought_of}
 use Rattle.far_replay.specs.Effects.{is_slow, with_data, with_epoch, with_object, with_scope, with_view, without_object}
-use Rattle.far_replay.specs.Moment.{Moment, with_core}
+use Rattle.far_replay.specs.Moment.{Moment, with_core, as_if_stored, with_stored}
 use Rattle.far_replay.specs.Objects.{lowest_cell}
 use Rattle.far_replay.specs.Reply.{Reply, Pointer, Refused}
 use Rattle.far_replay.specs.Turn.{access_causes, causes, first_cause, pointer_reply, refusal, refused_effect, reply_to, turn_effect, turn_reply, unless, with_new}
 use Rattle.far_replay.proofs.AloneStates.{lowest_free}
-use Rattle.far_replay.proofs.Lasting.{moment_lasts}
+use Rattle.far_replay.proofs.Lasting.{moment_lasts, misled_from}
 use Rattle.far_replay.proofs.Turns.{new_tests}
 use Rattle.far_text.specs.Command.{Command, New, Open, Write, Read, Close, Where, Drop, View, Try, Epoch, Mutator, Book, Evacuator}
 use Rattle.far_replay_laws.specs.LeftBeside.{AllButObject, AllButScope, LeavesBeside, NewLeaves}
 use Rattle.far_replay_laws.proofs.AloneNew.{is_length, is_structure}
 use Rattle.far_replay_laws.proofs.Refusals.{among}
 use Rattle.far_replay_laws.proofs.HotViews.{held_other}
+use Rattle.far_replay_laws.proofs.Misleading.{as_misled}
 
 -- ---- one object
 same : (s : State) (p : ℕ) → AllButObject s s p
@@ -243,6 +244,9 @@ served_beside now c r next is h =
     subst (λ x. LeavesBeside now c x next) (sym h.reply)
     (subst (λ (x : Moment). LeavesBeside now c (reply_to now c) x) (sym h.moment) (leaves now c (refusal now c) (moment_lasts now is).law refl))
 
+beside_as_if : (s t : State) (p : ℕ) (row : ℕ → ℕ) → AllButObject (with_stored s p row) (with_stored t p row) p → AllButObject s t p
+beside_as_if s t p row x = record { cells = x.cells; used = x.used; views = x.views; scopes = x.scopes; remembered = x.remembered }
+
 pub commands_beside : (now : Moment) (c : Command) (r : Reply) (next : Moment) → IsMoment now → Commanded now c r next → LeavesBeside now c r next
 commands_beside now c r next is h = by_outcome now r next (λ d. LeavesBeside now d r next)
     (λ d h. served_beside now d r next is h)
@@ -251,4 +255,6 @@ commands_beside now c r next is h = by_outcome now r next (λ d. LeavesBeside no
     (λ why m p h. served_beside now (Mutator m (Try p)) (Refused (Marked (now.core.cell p))) next is h.tried)
     (λ why objects count h. tt)
     (λ why turns objects policy most count h. tt)
+    (λ row m p d asks h. as_misled row now r next m p LeavesBeside (λ from bytes. beside_as_if now.core next.core p row) (λ from len bytes. beside_as_if now.core next.core p row) (beside_as_if now.core next.core p row)
+    d asks h (served_beside (as_if_stored now p row) d r (as_if_stored next p row) (misled_from row now d p r next is h) h.served))
     c h

@@ -22,7 +22,7 @@ use Rattle.far_evac.specs.Walk.{ended, walked}
 use Rattle.far_evac.specs.declared.phase.Phase.TheVariants.{Evacuating, Idle}
 use Rattle.far_evac.proofs.Marks.{is_given_up, is_marked}
 use Rattle.far_text.specs.Command.{Command, Write, Read, View, Mutator, Book, Evacuator, By, Policy, Step, Select, Mark, Wait, Evacuate, Abort, Round}
-use Rattle.far_replay.specs.Answers.{Commanded, Refuses, Served, Serves, StopsLeaving, StopsRound, IsMoment}
+use Rattle.far_replay.specs.Answers.{Commanded, Refuses, Served, Serves, StopsLeaving, StopsRound, IsMoment, Gives}
 use Rattle.far_evac.specs.declared.answers.RoundEnd.TheVariants.{Limit}
 use Rattle.far_replay.proofs.Outcomes.{by_outcome}
 use Rattle.far_replay_laws.proofs.Stops.{begun, left_some, starts, stood_so}
@@ -40,6 +40,8 @@ use Rattle.far_replay_laws.proofs.Standing.{stands}
 use Rattle.far_replay_laws.proofs.StepsTell.{held_chosen}
 use Rattle.far_replay_laws.proofs.MovesTaken.{chosen_held}
 use Rattle.far_replay_laws.proofs.TurnsTell.{made_so}
+use Rattle.far_replay.specs.Commanded.{Misled}
+use Rattle.far_replay_laws.proofs.Misleading.{by_asked}
 
 -- ---- each object is what it was
 anywhere_is : (o x : Option Object) → anywhere x ≡ anywhere o → IsAnywhere o x
@@ -269,6 +271,10 @@ left_so now c r next lasts h = by_outcome now r next (λ d. Leaves now d r next)
     (λ why m p h. stands now (Mutator m (View p)) r next lasts (Refuses why 0 0, h))
     (λ why objects count h. stop_left now why objects count r next lasts h)
     (λ why turns objects policy most count h. round_left now why turns objects policy most count r next lasts h (after_step now (Round policy most turns) (Ended (Limit Evacuating)) h.stood lasts h.turned))
+    (λ row m p d asks h. by_asked m p (λ x. Misled row now x p r next → Leaves now x r next)
+    (λ from bytes k. stands now (Mutator m (Write p from bytes)) r next lasts (Gives row, k))
+    (λ from len k. stands now (Mutator m (Read p from len)) r next lasts (Gives row, k))
+    (λ k. stands now (Mutator m (View p)) r next lasts (Gives row, k)) d asks h)
     c h
 
 pub steps_left : (now : Moment) (step : Step) (r : Reply) (next : Moment) → IsMoment now → Commanded now (Evacuator step) r next → StepLeaves now step r next

@@ -3,6 +3,7 @@ pub mod AllSaid
 pub mod AloneBytes
 pub mod AloneFirst
 pub mod AloneLaw
+pub mod AloneLies
 pub mod AloneNew
 pub mod AloneTurns
 pub mod AloneViews
@@ -16,6 +17,7 @@ pub mod EpochLaws
 pub mod EpochsSpent
 pub mod Failures
 pub mod FarRefusals
+pub mod GivenBytes
 pub mod GivenFree
 pub mod HotViews
 pub mod InquiryLaws
@@ -25,6 +27,7 @@ pub mod LeftBeside
 pub mod LeftBySteps
 pub mod LeftByWalks
 pub mod Listed
+pub mod Misleading
 pub mod MovesTaken
 pub mod OutputLaws
 pub mod PlainReplies
@@ -38,6 +41,7 @@ pub mod SealedAside
 pub mod Standing
 pub mod StepsTell
 pub mod Stops
+pub mod StoredApart
 pub mod TakingRoom
 pub mod Tries
 pub mod TurnsTell

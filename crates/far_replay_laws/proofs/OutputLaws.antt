@@ -34,14 +34,13 @@ use Rattle.far_core.proofs.Put.{put_both, put_other, put_same}
 use Rattle.far_book.proofs.region.Calls.{put_put}
 use Rattle.far_replay.specs.Effects.{is_slow, with_view}
 use Rattle.far_replay.proofs.AloneRuns.{quiet_run, quiet_view}
-use Rattle.far_replay.specs.Moment.{Moment, with_core}
-use Rattle.far_replay.specs.Alone.{Alone, Knows, Own}
-use Rattle.far_replay.specs.Answers.{Answered, AnsweredBy, Answers, Commanded, Outside, Served, IsMoment, IsOutput, shape_of, first_moment, FailsAtMost, opened, to_fail}
+use Rattle.far_replay.specs.Moment.{Moment, with_core, as_if_stored}
+use Rattle.far_replay.specs.Alone.{Alone, KnowsBy, Own}
+use Rattle.far_replay.specs.Answers.{Answered, AnsweredBy, Answers, Commanded, Outside, Serves, Served, IsMoment, IsOutput, shape_of, first_moment, flaws, is_true, lie_of, FlawedAtMost, opened}
 use Rattle.far_replay.specs.Commanded.{KeepsFar}
 use Rattle.far_text.specs.Command.{Command, Trace, Nothing, Heap, New, Open, Write, Read, Close, Where, Drop, View, Try, Epoch, Logs, Mutator, Book, Evacuator, Step, Wait, Device as SaidDevice}
 use Rattle.far_text.specs.Grammar.{trace_of}
-use Rattle.far_replay_laws.specs.Headline.{IsWhole, IsSaidBy, TellsAll, TellsLog}
-use Rattle.far_replay.specs.Lawful.{Lawful}
+use Rattle.far_replay_laws.specs.Headline.{HeapsBeginLawful, IsWhole, IsSaidBy, TellsAll, TellsLog}
 use Rattle.far_text.specs.Written.{AllWriteBytes}
 use Rattle.far_replay.specs.EventRows.{after_events, AllSucceed}
 use Rattle.far_replay.specs.declared.reply.LogLine.{LogLine}
@@ -54,9 +53,8 @@ use Rattle.far_word.specs.declared.pointer.PtrWord.TheVariants.{Near, Far}
 use Rattle.far_word.specs.Pointer.{read_of}
 use Rattle.far_replay.specs.Stays.{MayGain, CellStays, MayMark, MaySee, Sees, Stays}
 use Rattle.far_replay.specs.Rounds.{refused_step}
-use Rattle.far_replay.specs.Turn.{turn_effect, refused_effect, causes, first_cause, refusal, unless, turn_reply, reply_to, log_line, pointer_reply}
+use Rattle.far_replay.specs.Turn.{effect, turn_effect, refused_effect, causes, first_cause, refusal, unless, turn_reply, reply_to, log_line, pointer_reply}
 use Rattle.far_replay_laws.proofs.AloneNew.{new_run, is_structure, is_length}
-use Rattle.far_replay.proofs.Answering.{answers_all, few_refused}
 use Rattle.far_replay.proofs.Outcomes.{by_outcome}
 use Rattle.far_replay_laws.proofs.Kept.{whole}
 use Rattle.far_replay.proofs.Lasting.{first_lawful, command_carried, moment_lasts, each_is_moment}
@@ -67,12 +65,21 @@ use Rattle.far_replay.proofs.WithCore.{same_order}
 use Rattle.far_replay.proofs.Spliced.{length-with_range, with_range_before, with_range_inside, with_range_after}
 use Rattle.far_replay.proofs.Turns.{marked_last, room_lacks, room_last, new_tests}
 use Rattle.far_replay.proofs.Views.{view_is, view_law, slow_view}
+use Rattle.far_device.specs.declared.liar.Lie.{Lie}
 
 -- ---- each text has an output
+-- one is that of a device of which no call has a flaw
+unspoiled : (lie : Lie) (n : ℕ) (now : Moment) (cs : List Command) → (os : List Outside) × (rs : List Reply) × (moments : List Moment) × FlawedAtMost lie n os × AnsweredBy os now cs rs moments
+unspoiled lie n now [] = ([], [], [], tt, tt)
+unspoiled lie n now (c ∷ cs) =
+    let rest = unspoiled lie n (effect now c) cs in
+    (Serves ∷ rest.0, reply_to now c ∷ rest.1, effect now c ∷ rest.2, rest.3, (record { reply = refl; moment = refl }, rest.4))
+
 heap_answered : (logs mutators epoch : ℕ) (device : Option SaidDevice) (cs : List Command) (b : Bool) →
-    (output : List ℕ) × MatchBool b ((os : List Outside) × (rs : List Reply) × (moments : List Moment) × FailsAtMost (to_fail device) os × AnsweredBy os (first_moment logs mutators epoch) cs rs moments × (output ≡ flat_map reply_text (opened device ++ rs))) (output ≡ reply_text (Refused Shape))
+    (output : List ℕ) × MatchBool b ((os : List Outside) × (rs : List Reply) × (moments : List Moment) × FlawedAtMost (lie_of device) (flaws device) os
+    × AnsweredBy os (first_moment logs mutators epoch (is_true device)) cs rs moments × (output ≡ flat_map reply_text (opened device ++ rs))) (output ≡ reply_text (Refused Shape))
 heap_answered logs mutators epoch device cs true =
-    let x = answers_all (first_moment logs mutators epoch) cs in (flat_map reply_text (opened device ++ x.1), (x.0, x.1, x.2, few_refused (to_fail device) x.0 x.3, x.4, refl))
+    let x = unspoiled (lie_of device) (flaws device) (first_moment logs mutators epoch (is_true device)) cs in (flat_map reply_text (opened device ++ x.1), (x.0, x.1, x.2, x.3, x.4, refl))
 heap_answered logs mutators epoch device cs false = (reply_text (Refused Shape), refl)
 
 read_answered : (read : Result Trace ℕ) → (output : List ℕ) × IsOutput read output
@@ -130,6 +137,7 @@ refused_stays now c r next why none blind h e = by_outcome now r next (λ d. ((p
     (λ cause m p h none blind. absurd (none p (subst (λ x. MayMark (Mutator m (View p)) x p) (same_refusal why cause r h.reply e) (view_marks cause m p h.cause))))
     (λ cause objects count h none blind. absurd (not_halted why cause h.progress r h.reply e))
     (λ cause turns objects policy most count h none blind. absurd (not_halted why cause _ r h.reply e))
+    (λ row m p d asks h none blind. absurd (h.answered why e))
     c h none blind
 
 -- what stays of a core, but for marks
@@ -294,6 +302,7 @@ refusals_stay now c r next why law h e = by_outcome now r next (λ d. Stays d wh
     (served_refusals now (Mutator m (Try p)) (Refused (Marked (now.core.cell p))) next (Marked (now.core.cell p)) law h.tried refl)))
     (λ cause objects count h. absurd (not_halted why cause h.progress r h.reply e))
     (λ cause turns objects policy most count h. absurd (not_halted why cause _ r h.reply e))
+    (λ row m p d asks h. absurd (h.answered why e))
     c h
 
 -- ---- a mutator that the heap hasn't
@@ -332,6 +341,7 @@ unknown_refused now c r next m e h k = by_outcome now r next (λ d. IsSaidBy m d
     (λ cause n p k e. absurd (unknown_allowed now (Mutator n (View p)) m e h k.allowed))
     (λ cause objects count k e. absurd e)
     (λ cause turns objects policy most count k e. absurd e)
+    (λ row n p d asks k e. k.served.reply ∙ refuses_unknown (as_if_stored now p row) d m e h)
     c k e
 
 -- ---- what logs tell
@@ -451,10 +461,10 @@ at_number : (k m : ℕ) (A B : Type 0) (b : Bool) → nat_eq k m ≡ b → Match
 at_number k m A B true e x = ((λ _. x), (λ ne. absurd (ne (sym (eqb-true k m e)))))
 at_number k m A B false e x = ((λ same. absurd (eqb-false k m e (sym same))), (λ _. x))
 
-pub own_lines : (m : ℕ) (o : Own) (c : Command) (r : Reply) (cs : List Command) (rs : List Reply) → Alone m o (c ∷ cs) (r ∷ rs) →
-    (IsSaidBy m c → (q : Own) × Knows m o c r q × Alone m q cs rs) × (¬ IsSaidBy m c → Alone m o cs rs)
-own_lines m o (Mutator k request) r cs rs h = at_number k m _ _ (nat_eq k m) refl h
-own_lines m o _ r cs rs h = ((λ no. absurd no), (λ _. h))
+pub own_lines : (honest : Bool) (m : ℕ) (o : Own) (c : Command) (r : Reply) (cs : List Command) (rs : List Reply) → Alone honest m o (c ∷ cs) (r ∷ rs) →
+    (IsSaidBy m c → (q : Own) × KnowsBy honest m o c r q × Alone honest m q cs rs) × (¬ IsSaidBy m c → Alone honest m o cs rs)
+own_lines honest m o (Mutator k request) r cs rs h = at_number k m _ _ (nat_eq k m) refl h
+own_lines honest m o _ r cs rs h = ((λ no. absurd no), (λ _. h))
 
 -- ---- what a new object is
 not_refused : (o : Option Refusal) (x : Option ℕ) (p : ℕ) → Pointer p ≡ unless o Refused (pointer_reply x) → o ≡ None
@@ -483,10 +493,9 @@ makes_its_object now m len ds p next is c =
     (at.0, at.1, ap (λ (x : State). (world_of x).object) (h.state ∙ ap (after_events s) events) ∙ run.2 ∙ ap (λ (o : Object). put (world_of s).object p (Some o)) whole)
 
 -- ---- the first moment
-pub heap_lawful : (logs mutators epoch : ℕ) → is_shape (shape_of logs mutators epoch) ≡ true →
-    ((first_moment logs mutators epoch).core.logs ≡ logs) × ((first_moment logs mutators epoch).core.mutators ≡ mutators) × ((first_moment logs mutators epoch).core.epoch ≡ epoch) × Lawful (first_moment logs mutators epoch) × IsWhole (first_moment logs mutators epoch).core
-    × ((p : ℕ) → (first_moment logs mutators epoch).core.cell p ≡ 0) × ((l : ℕ) → (first_moment logs mutators epoch).core.tail l ≡ 0)
-heap_lawful logs mutators epoch fits = let lawful = first_lawful logs mutators epoch fits in (refl, refl, refl, lawful, whole (first_moment logs mutators epoch).core lawful.law, (λ p. refl), (λ l. refl))
+pub heap_lawful : HeapsBeginLawful
+heap_lawful logs mutators epoch honest fits =
+    let lawful = first_lawful logs mutators epoch honest fits in (refl, refl, refl, refl, lawful, whole (first_moment logs mutators epoch honest).core lawful.law, (λ p. refl), (λ l. refl))
 
 -- ---- one law from the text
 pub objects_whole : (now : Moment) (cs : List Command) (rs : List Reply) (moments : List Moment) → IsMoment now → AllWriteBytes cs → Answered now cs rs moments →

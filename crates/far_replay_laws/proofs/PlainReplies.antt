@@ -30,7 +30,7 @@ use Rattle.far_replay.specs.Audit.{counts_of, lies_near, lies_far, bytes_by_log}
 use Rattle.far_text.specs.Command.{Command, New, Write, Read, Where, Drop, View, Try, Epoch, Logs, Log, Audit, Mutator, Book, Evacuator, Evacuate}
 use Rattle.far_replay_laws.specs.Headline.{IsToldInFull, IsLineToldInFull, AreToldInFull, IsRefusalToldInFull}
 use Rattle.far_replay.specs.Dereference.{dereferenced}
-use Rattle.far_replay.specs.Moment.{Moment}
+use Rattle.far_replay.specs.Moment.{Moment, as_if_stored}
 use Rattle.far_replay.specs.Objects.{lowest_cell, data_of}
 use Rattle.far_replay.specs.declared.reply.LogLine.{LogLine}
 use Rattle.far_replay.specs.Reply.{Reply, Audited, Evacuated, Refused}
@@ -40,7 +40,7 @@ use Rattle.far_replay_laws.proofs.AloneNew.{is_structure}
 use Rattle.far_replay.proofs.AloneStates.{lowest_own, data_small}
 use Rattle.far_text.proofs.Each.{Each, Each-row}
 use Rattle.far_text.proofs.Parts.{range_get}
-use Rattle.far_replay.proofs.Lasting.{Lasts, still_lasts}
+use Rattle.far_replay.proofs.Lasting.{Lasts, still_lasts, misled_before}
 use Rattle.far_replay_laws.proofs.PlainRounds.{filter_shorter, plain_step, plain_step_causes, plain_stop}
 use Rattle.far_replay_laws.proofs.Stops.{left_some, stood_so}
 use Rattle.far_replay_laws.proofs.Refusals.{EachCause, each_first, among, of_far}
@@ -149,6 +149,7 @@ outcome_plain now c r next lasts bytes h = by_outcome now r next (λ d. WritesBy
     (λ why objects count h _. subst IsToldInFull (sym h.reply) (h.cause, served_plain now (Evacuator (Evacuate objects)) (Evacuated h.progress) next lasts tt h.left, h.unfinished))
     (λ why turns objects policy most count h bytes.
     subst IsToldInFull (sym h.reply) (h.cause, plain_stop now lasts.law lasts.round policy most turns h.stood (stood_so now policy most turns h.stood h.turned) objects h.progress next (left_some h.stood objects h.progress next h.left h.unfinished), refl))
+    (λ row m p d asks h bytes. served_plain (as_if_stored now p row) d r (as_if_stored next p row) (misled_before row now d p r next lasts h) bytes h.served)
     c h bytes
 
 -- each reply to a list of commands

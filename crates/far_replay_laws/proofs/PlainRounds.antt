@@ -1,5 +1,5 @@
 -- What the evacuator's steps tell, and their refusals, are told in full by their lines.
-use Rattle.std.proofs.Common.{◌≡◌, ◌≢◌, ℕ, ◌+◌, ◌<◌, ◌≤◌, ◌^◌, Bool, true, false, cond, refl, sym, subst, ap, ◌∙◌, arith, not, Option, Some, None, List, [], ◌∷◌, length, filter, eqb}
+use Rattle.std.proofs.Common.{◌≡◌, ℕ, ◌+◌, ◌<◌, ◌≤◌, ◌^◌, Bool, true, false, refl, sym, subst, ap, ◌∙◌, arith, not, Option, Some, None, List, [], ◌∷◌, length, filter, eqb}
 use Rattle.std.specs.List.{find, range_with_len}
 use Rattle.std.proofs.Math.Nat.{min-le_right}
 use Rattle.std.proofs.lemmas.Bool.{cond_both, eq-eqb}
@@ -8,7 +8,6 @@ use Rattle.std.proofs.lemmas.List.Sums.{length-filter, count_by-le-length}
 use Rattle.hex.specs.Hex.{IsBytes}
 use Rattle.far_word.specs.declared.refused.Refused.TheVariants.{Phase as WrongPhase}
 use Rattle.far_word.specs.Pointer.{read_of}
-use Rattle.far_core.specs.declared.event.Kind.TheVariants as kinds
 use Rattle.far_core.specs.state.Law.{Law}
 use Rattle.far_book.proofs.region.Owns.{own_law}
 use Rattle.far_book.specs.book.Dealing.{has_evac}
@@ -16,26 +15,23 @@ use Rattle.far_evac.specs.declared.answers.Polled.{Polled}
 use Rattle.far_evac.specs.declared.answers.Polled.TheVariants as polls
 use Rattle.far_evac.specs.declared.answers.Progress.{Progress}
 use Rattle.far_evac.specs.declared.answers.RoundEnd.TheVariants as ends
-use Rattle.far_evac.specs.declared.phase.Phase.{Phase}
-use Rattle.far_evac.specs.declared.phase.Phase.TheVariants.{Idle, Marking, Waiting, Evacuating}
 use Rattle.far_evac.specs.AnyHand.{Polls}
 use Rattle.far_evac.specs.Choosing.{after_selecting}
 use Rattle.far_evac.specs.Leading.{Leads}
 use Rattle.far_evac.specs.Live.{lacking, live_among}
-use Rattle.far_evac.specs.Marking.{after_marking, leaves_some, newly_marked, waiting_for}
+use Rattle.far_evac.specs.Marking.{leaves_some, newly_marked, waiting_for}
 use Rattle.far_evac.specs.Moment.{Moment, Tally, nothing, plus, progress_of, tally_of}
 use Rattle.far_evac.specs.MomentLaw.{MomentLaw, has_risen, is_idle}
 use Rattle.far_evac.specs.RoundSteps.{among}
-use Rattle.far_evac.specs.Turning.{IsBounded, IsWithin}
-use Rattle.far_evac.specs.Turns.{Turned, round_end, turn_size, turned, turns_made}
+use Rattle.far_evac.specs.Turning.{GoesOn, IsBounded, IsWithin}
+use Rattle.far_evac.specs.Turns.{Turned, round_end, turned, turns_made}
 use Rattle.far_evac.specs.Waiting.{after_polling, polled}
-use Rattle.far_evac.specs.Walk.{ended, is_done, walked}
+use Rattle.far_evac.specs.Walk.{is_done, walked}
 use Rattle.far_evac.proofs.Bools.{or_left, or_right}
-use Rattle.far_evac.proofs.Bounds.{starts_within, walk_bounded, walk_within}
-use Rattle.far_evac.proofs.Leading.{polling}
-use Rattle.far_evac.proofs.LeadingMarks.{marking}
+use Rattle.far_evac.proofs.Bounds.{starts_within, turn_goes_on, walk_bounded}
+use Rattle.far_evac.proofs.LeadingTurns.{through_turns, turn_leads}
 use Rattle.far_evac.proofs.Readiness.{risen_is_ready}
-use Rattle.far_evac.proofs.Rounds.{polls_is}
+use Rattle.far_evac.proofs.Rounds.{polls_is, turn_is_allowed}
 use Rattle.far_evac.proofs.Walks.{walk_is}
 use Rattle.far_policy.specs.Scripted.{is_bad, judged}
 use Rattle.far_text.specs.Command.{By, Script, Policy, Step, Select, Mark, Wait, Evacuate, Round, Evacuator}
@@ -44,7 +40,7 @@ use Rattle.far_replay_laws.specs.Headline.{IsToldInFull, IsRefusalToldInFull, Is
 use Rattle.far_replay.specs.Rounds.{choice_causes, chosen_by, given_by, is_evacuating, logs_given, round_told, rows_in, step_causes, step_reply, wait_causes}
 use Rattle.far_replay.specs.Turn.{refusal}
 use Rattle.far_replay_laws.proofs.Refusals.{EachCause}
-use Rattle.far_replay_laws.proofs.Stops.{LeftSome, Stood, begun, starts, through_turns, turns_led}
+use Rattle.far_replay_laws.proofs.Stops.{LeftSome, Stood, begun, starts, turns_led}
 use Rattle.far_replay.proofs.RoundChoices.{Chooses}
 use Rattle.far_replay.proofs.RoundLeads.{begins, chooses, evacuating_is, none_first}
 use Rattle.far_replay_laws.proofs.StepsTell.{sealed_used}
@@ -84,48 +80,24 @@ module _ (now : Moment) (law : Law now.core) where
   plain_step_causes _ bytes = (tt, tt)
 
 -- ---- rounds: no sum of turns is too large
-record Stands (r : Turned) : Type 0 where
-  bounded : IsBounded r.tally
-  within : r.over ≡ false → IsWithin r.moment r.tally
+turns_go_on : (m : Moment) → Law m.core → MomentLaw m → is_idle m.phase ≡ false → (n : ℕ) → let r = turns_made m n in GoesOn r.moment r.tally r.over
+turns_go_on m law moment runs = through_turns (λ n r. GoesOn r.moment r.tally r.over) m law moment runs
+    record { bounded = record { objects = omega arith; logs = omega arith }; more = λ _. (starts_within m (own_law m.core law) moment, runs) } (λ n r over h. h)
+    (λ n r law moment goes h.
+    let t = turned r r.moment.phase in
+    let leads = turn_leads r law moment r.moment.phase refl in
+    let (within, on) = h.more goes in
+    let (tally, turn, sum) = turn_is_allowed r goes on in
+    subst (λ total. GoesOn t.moment total t.over) (sym sum) (turn_goes_on r.moment t.moment (own_law r.moment.core law) moment (own_law t.moment.core leads.law) leads.moment r.tally tally t.over within turn))
 
-marks_not : (phase : Phase) → phase ≡ Marking → phase ≢ Evacuating
-marks_not phase marks leaves = absurd cc
-
-waits_not : (phase : Phase) → phase ≡ Waiting → phase ≢ Evacuating
-waits_not phase waits leaves = absurd cc
-
-module _ (r : Turned) (law : Law r.moment.core) (moment : MomentLaw r.moment) (h : Stands r) (goes : r.over ≡ false) where
-  -- before objects leave nothing is counted
-  none_counted : (t : Moment) → Leads r.moment t → r.moment.phase ≢ Evacuating → IsWithin t r.tally
-  none_counted t leads early = subst (IsWithin t) (sym ((h.within goes).fresh early)) (starts_within t (own_law t.core leads.law) leads.moment)
-
-  turn_stands : (phase : Phase) → r.moment.phase ≡ phase → Stands (turned r phase)
-  turn_stands Idle e = h
-  turn_stands Marking e = record { bounded = h.bounded; within = λ _. none_counted (after_marking r.moment turn_size) (marking r.moment turn_size law moment e) (marks_not r.moment.phase e) }
-  turn_stands Waiting e = record { bounded = h.bounded; within = λ _. none_counted (after_polling r.moment) (polling r.moment law moment e) (waits_not r.moment.phase e) }
-  turn_stands Evacuating e =
-      let w = walked r.moment turn_size in
-      let walks = walk_is r.moment turn_size in
-      let ready = risen_is_ready r.moment (own_law r.moment.core law) moment (ap has_risen e) in
-      record {
-        bounded = walk_bounded r.moment r.tally (h.within goes) ready walks.0 w walks.1.walks;
-        within = λ more.
-            let same : ended w ≡ w.moment = ap (λ b. cond b (record w.moment { phase = Idle }) w.moment) more in
-            subst (λ (t : Moment). IsWithin t (plus r.tally w.tally)) (sym same) (walk_within r.moment r.tally (h.within goes) ready walks.0 w walks.1.walks e);
-      }
-
-turns_stand : (m : Moment) → Law m.core → MomentLaw m → is_idle m.phase ≡ false → (n : ℕ) → Stands (turns_made m n)
-turns_stand m law moment runs = through_turns Stands m law moment runs (record { bounded = record { objects = omega arith; logs = omega arith }; within = λ _. starts_within m (own_law m.core law) moment })
-    (λ r own stands goes h. turn_stands r own stands h goes r.moment.phase refl)
-
-plain_end : (r : Turned) → Stands r → IsEndToldInFull (round_end r)
-plain_end r h = cond_both r.over (ends.Done (progress_of r.tally true)) (ends.Limit r.moment.phase) IsEndToldInFull (λ _. (plain_tally r.tally true h.bounded, refl)) (λ _. tt)
+plain_end : (r : Turned) → IsBounded r.tally → IsEndToldInFull (round_end r)
+plain_end r few = cond_both r.over (ends.Done (progress_of r.tally true)) (ends.Limit r.moment.phase) IsEndToldInFull (λ _. (plain_tally r.tally true few, refl)) (λ _. tt)
 
 plain_round : (now : Moment) (logs : List ℕ) (turns : ℕ) → Leads now (after_selecting now logs) → IsEndToldInFull (round_told now logs turns)
 plain_round now [] turns begun = tt
 plain_round now (l ∷ ls) turns begun =
     let m = after_selecting now (l ∷ ls) in
-    plain_end (turns_made m turns) (turns_stand m begun.law begun.moment refl turns)
+    plain_end (turns_made m turns) (turns_go_on m begun.law begun.moment refl turns).bounded
 
 -- ---- a round that was stopped: its turns, and what was done in the last one
 pub plain_stop : (now : Moment) → Law now.core → MomentLaw now → (policy : Policy) (most turns : ℕ) (stood : Moment) (h : Stood now policy most turns stood) (objects : ℕ) (progress : Progress) (next : Moment) → LeftSome stood objects progress next →
@@ -134,9 +106,9 @@ plain_stop now law moment policy most turns stood h objects progress next left =
     let m = after_selecting now (h.log ∷ h.logs) in
     let r = turns_made m turns in
     let led = turns_led now law moment policy most turns stood h in
-    let stands = turns_stand m (begun now law moment policy most turns stood h).law (begun now law moment policy most turns stood h).moment refl turns in
+    let on = turns_go_on m (begun now law moment policy most turns stood h).law (begun now law moment policy most turns stood h).moment refl turns in
     let walks = walk_is stood objects in
-    let within : IsWithin stood r.tally = subst (λ (x : Moment). IsWithin x r.tally) (sym h.stands) (stands.within h.goes) in
+    let within : IsWithin stood r.tally = subst (λ (x : Moment). IsWithin x r.tally) (sym h.stands) (on.more h.goes).0 in
     let ready = risen_is_ready stood (own_law stood.core led.law) led.moment (ap has_risen left.leaves) in
     let bounded = walk_bounded stood r.tally within ready walks.0 (walked stood objects) walks.1.walks in
     subst (λ (xs : List ℕ). IsProgressToldInFull (progress_of (plus (turns_made (after_selecting now xs) turns).tally (tally_of progress)) false)) (sym h.chosen)

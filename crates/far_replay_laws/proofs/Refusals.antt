@@ -140,4 +140,5 @@ near_refusals now c r next why law hand h e = by_outcome now r next (λ d. IsAtH
     (λ cause m p h hand. absurd (far_away now.core p h.far hand))
     (λ cause objects count h hand. absurd (not_halted why cause h.progress r h.reply e))
     (λ cause turns objects policy most count h hand. absurd (not_halted why cause _ r h.reply e))
+    (λ row m p d asks h hand. absurd (h.answered why e))
     c h hand

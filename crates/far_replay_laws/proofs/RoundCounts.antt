@@ -22,11 +22,11 @@ use Rattle.far_evac.specs.Walk.{Walked, ended, is_done, walked}
 use Rattle.far_evac.specs.declared.phase.Phase.{Phase}
 use Rattle.far_evac.specs.declared.phase.Phase.TheVariants.{Idle, Marking, Waiting, Evacuating}
 use Rattle.far_evac.proofs.Joined.{walks_join}
+use Rattle.far_evac.proofs.LeadingTurns.{through_turns}
 use Rattle.far_evac.proofs.Marks.{is_marked}
 use Rattle.far_replay_laws.specs.HowMany.{IsHowMany}
 use Rattle.far_replay_laws.specs.Steps.{CountsRound, IsMoved, IsRetired, IsSentFar, LiesIn}
 use Rattle.far_replay_laws.proofs.StepsTell.{all_freed, ended_phase, place_or, tells_leaving}
-use Rattle.far_replay_laws.proofs.Stops.{through_turns}
 
 -- ---- where the cells say the same but for EVAC, the same lies in each log
 module _ (s u : State) (p : ℕ) (same : but_evac (read_of (u.cell p)) ≡ but_evac (read_of (s.cell p))) where
@@ -140,8 +140,8 @@ module _ (m : Moment) (r : Turned) (law : Law r.moment.core) (moment : MomentLaw
   turn_spans goes Evacuating e (inr h) = inr (goes_late goes h)
 
 pub spans : (m : Moment) → Law m.core → MomentLaw m → is_idle m.phase ≡ false → (n : ℕ) → Early m (turns_made m n) ⊎ Late m (turns_made m n)
-spans m law moment runs = through_turns (λ t. Early m t ⊎ Late m t) m law moment runs (inl record { alike = λ p. refl; held = refl; tally = refl; goes = refl })
-    (λ r own stands goes h. turn_spans m r own stands goes r.moment.phase refl h)
+spans m law moment runs = through_turns (λ n t. Early m t ⊎ Late m t) m law moment runs (inl record { alike = λ p. refl; held = refl; tally = refl; goes = refl }) (λ n r over h. h)
+    (λ n r own stands goes h. turn_spans m r own stands goes r.moment.phase refl h)
 
 late_counts : (m : Moment) (r : Turned) → Late m r → r.over ≡ true → CountsRound m m.collection (progress_of r.tally true) r.moment
 late_counts m r h over =

@@ -10,15 +10,16 @@ use Rattle.far_replay.specs.Answers.{Commanded, Served, IsMoment}
 use Rattle.far_word.specs.declared.refused.Refused.TheVariants.{Marked}
 use Rattle.far_replay.proofs.Outcomes.{by_outcome}
 use Rattle.far_replay.specs.Events.{IsNoStep}
-use Rattle.far_replay.specs.Moment.{Moment, with_core}
+use Rattle.far_replay.specs.Moment.{Moment, with_core, as_if_stored}
 use Rattle.far_replay.specs.Reply.{Reply, Refused}
 use Rattle.far_replay_laws.specs.Stands.{RoundStands, Stands}
 use Rattle.far_replay_laws.specs.Steps.{IsChosen}
 use Rattle.far_replay.specs.Turn.{effect}
-use Rattle.far_replay.proofs.Lasting.{Lasts, moment_lasts}
+use Rattle.far_replay.proofs.Lasting.{Lasts, moment_lasts, misled_before}
 use Rattle.far_replay_laws.proofs.SealedAside.{sealed_aside}
 use Rattle.far_replay_laws.proofs.StepsTell.{chosen_by_both, held_by}
 use Rattle.far_replay.proofs.ToldRounds.{aside, told_effect}
+use Rattle.far_replay_laws.proofs.Misleading.{as_misled}
 
 module _ (now : Moment) (t : State) (moment : MomentLaw now) (left : StepsAside now.core t) (logs : KeepsSealed now.core t) where
   abbrev next : Moment
@@ -59,6 +60,18 @@ stands_by now (Evacuator step) lasts = tt
 served_stands : (now : Moment) (c : Command) (r : Reply) (later : Moment) → Lasts now → Served now c r later → Stands now c later
 served_stands now c r later lasts h = subst (Stands now c) (sym h.moment) (stands_by now c lasts)
 
+stands_as_if : (now later : Moment) (p : ℕ) (row : ℕ → ℕ) → RoundStands (as_if_stored now p row) (as_if_stored later p row) → RoundStands now later
+stands_as_if now later p row x = record {
+  phase = x.phase;
+  collection = x.collection;
+  chosen = x.chosen;
+  logs = x.logs;
+  epoch = x.epoch;
+  heap = x.heap;
+  seen = x.seen;
+  none_comes = x.none_comes;
+}
+
 pub stands : (now : Moment) (c : Command) (r : Reply) (later : Moment) → Lasts now → Commanded now c r later → Stands now c later
 stands now c r later lasts h = by_outcome now r later (λ d. Stands now d later)
     (λ d h. served_stands now d r later lasts h)
@@ -67,6 +80,8 @@ stands now c r later lasts h = by_outcome now r later (λ d. Stands now d later)
     (λ why m p h. served_stands now (Mutator m (Try p)) (Refused (Marked (now.core.cell p))) later lasts h.tried)
     (λ why objects count h. tt)
     (λ why turns objects policy most count h. tt)
+    (λ row m p d asks h. as_misled row now r later m p (λ now c r later. Stands now c later) (λ from bytes. stands_as_if now later p row) (λ from len bytes. stands_as_if now later p row) (stands_as_if now later p row)
+    d asks h (served_stands (as_if_stored now p row) d r (as_if_stored later p row) (misled_before row now d p r later lasts h) h.served))
     c h
 
 pub rounds_stand : (now : Moment) (c : Command) (r : Reply) (later : Moment) → IsMoment now → Commanded now c r later → Stands now c later

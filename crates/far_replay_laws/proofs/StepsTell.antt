@@ -245,7 +245,7 @@ module _ (now : Moment) (count : ℕ) (law : Law now.core) (moment : MomentLaw n
   begins_so : (l : ℕ) (ls : List ℕ) → w.moment.collection ≡ l ∷ ls → (p : ℕ) × LiesIn t p l
   begins_so l ls e =
       let rests = walks_left now many w (risen_is_ready now (own_law now.core law) moment (ap has_risen leaves)) (walk_is now count).1.walks in
-      first_lies l (live_in t l) refl (subst (BeginsLive t) e rests.begins)
+      first_lies l (live_in t l) refl (subst (BeginsLive t) e rests.1)
 
   lives_held : (p len ds : ℕ) (place : Place) (marks : Marks) → read_of (now.core.cell p) ≡ Some (Near len ds place marks) → IsChosen now place.log → Contains all p
   lives_held p len ds place marks near chosen =

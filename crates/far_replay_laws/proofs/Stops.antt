@@ -1,6 +1,5 @@
 -- How far a step of the evacuator has come that is refused in its midst.
-use Rattle.std.proofs.Common.{◌≡◌, ◌≢◌, ℕ, zero, suc, ◌<◌, Bool, true, false, cond, not, arith, Option, Some, None, List, [], ◌∷◌, ap, sym, refl, ◌∙◌, subst}
-use Rattle.std.proofs.lemmas.Bool.{cond_both}
+use Rattle.std.proofs.Common.{◌≡◌, ◌≢◌, ℕ, ◌<◌, Bool, true, false, cond, not, arith, Option, Some, None, List, [], ◌∷◌, ap, sym, refl, ◌∙◌, subst}
 use Rattle.far_word.specs.declared.refused.Refused.{Refused as Refusal}
 use Rattle.far_word.specs.declared.refused.Refused.TheVariants.{Phase as WrongPhase}
 use Rattle.far_core.specs.state.Law.{Law}
@@ -9,8 +8,8 @@ use Rattle.far_evac.specs.AnyHand.{KnowsMoment, StopsRound as StopsSo, TurnsMade
 use Rattle.far_evac.specs.Choosing.{after_selecting}
 use Rattle.far_evac.specs.Leading.{Leads}
 use Rattle.far_evac.specs.Moment.{Tally, plus, progress_of, tally_of}
-use Rattle.far_evac.specs.MomentLaw.{MomentLaw, is_idle}
-use Rattle.far_evac.specs.Turns.{Turned, round_end, turn_size, turned, turns_made}
+use Rattle.far_evac.specs.MomentLaw.{MomentLaw}
+use Rattle.far_evac.specs.Turns.{Turned, round_end, turn_size, turns_made}
 use Rattle.far_evac.specs.Walk.{is_done, walked}
 use Rattle.far_evac.specs.declared.answers.Progress.{Progress}
 use Rattle.far_evac.specs.declared.answers.RoundEnd.{RoundEnd}
@@ -102,16 +101,6 @@ stood_so now policy most turns stood h =
     by_logs (l ∷ ls) is may end at =
         let h = limit_of (turns_made (after_selecting now (l ∷ ls)) turns) Evacuating end in
         record { may = may; log = l; logs = ls; chosen = is; goes = h.0; leaves = h.1; stands = at }
-
--- ---- what holds of turns one after the other: each is made where the law holds, unless the round is over
-pub through_turns : (P : Turned → Type 0) (m : Moment) → Law m.core → MomentLaw m → is_idle m.phase ≡ false → P (turns_made m 0) →
-    ((r : Turned) → Law r.moment.core → MomentLaw r.moment → r.over ≡ false → P r → P (turned r r.moment.phase)) → (n : ℕ) → P (turns_made m n)
-through_turns P m law moment runs first more zero = first
-through_turns P m law moment runs first more (suc n) =
-    let r = turns_made m n in
-    let leads = turns_lead m n law moment runs in
-    let h = through_turns P m law moment runs first more n in
-    cond_both r.over r (turned r r.moment.phase) P (λ _. h) (λ goes. more r leads.law leads.moment goes h)
 
 -- ---- a round that isn't refused begins
 pub starts : (now : Moment) → Law now.core → MomentLaw now → (policy : Policy) (most turns : ℕ) → refusal now (Evacuator (Round policy most turns)) ≡ None → (logs : List ℕ) → chosen_by policy (rows_in now) most ≡ logs →

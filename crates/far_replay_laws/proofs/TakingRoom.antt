@@ -1,5 +1,5 @@
 -- Which shapes a heap line may say, and what each command takes of the logs.
-use Rattle.std.proofs.Common.{List, ◌≡◌, ◌≤◌, ◌<◌, ◌^◌, ℕ, ◌+◌, ◌-◌, true, false, not, nat_lt, length, is_some, sym, refl, ap, ◌∙◌, subst, arith, Option, Some, None}
+use Rattle.std.proofs.Common.{List, ◌≡◌, ◌≤◌, ◌<◌, ◌^◌, ℕ, ◌+◌, ◌-◌, true, false, not, nat_lt, length, is_some, sym, refl, ap, ◌∙◌, subst, arith, Option, Some, None, Bool}
 use Rattle.std.specs.Prelude.{◌↔◌}
 use Rattle.std.proofs.lemmas.Bool.{and_parts, false≢true, ltb-true, true≢false}
 use Rattle.std.proofs.lemmas.Bool.Decides.{nat_tests}
@@ -17,7 +17,7 @@ use Rattle.far_core.specs.state.Law.{Law, head_len}
 use Rattle.far_core.specs.state.State.{State, addr, put}
 use Rattle.far_core.specs.events.Ranges.{with_row}
 use Rattle.far_core.specs.events.Step.{after_close, data_len, is_opened, near_data, near_len}
-use Rattle.far_core.specs.state.Spans.{names_place}
+use Rattle.far_core.specs.state.Spans.{names_place, spans_of}
 use Rattle.far_core.proofs.Bounds.{span_len}
 use Rattle.far_core.proofs.Cells.{unused}
 use Rattle.far_core.proofs.NewSpans.{at_tail}
@@ -35,20 +35,22 @@ use Rattle.far_text.specs.Command.{Command, New, Open, Write, Read, Close, Where
 use Rattle.far_replay.specs.Dereference.{comes_to, dereferenced, has_no_room, sought}
 use Rattle.far_replay.specs.Effects.{is_slow, with_data, with_epoch, with_object, with_scope, without_object}
 use Rattle.far_replay_laws.specs.Headline.{CommandTakes, TakesRoom}
-use Rattle.far_replay.specs.Taking.{BytesMove, DereferenceLacks, DropTakes, TakesNone}
-use Rattle.far_replay.specs.Moment.{Moment, moment_of}
+use Rattle.far_replay.specs.Taking.{BytesMove, DereferenceLacks, DropTakes, TakesNone, BringTakes, DereferenceTakes, TakesSpan}
+use Rattle.far_replay.specs.Moment.{Moment, moment_of, as_if_stored, with_stored}
 use Rattle.far_replay.specs.Objects.{data_of, is_range, lowest_cell, object_len, uses, with_range}
 use Rattle.far_replay.specs.Reply.{Reply, Evacuated, Refused}
 use Rattle.far_replay.specs.Turn.{refusal, unless, turn_effect, refused_effect, turn_reply, reply_to, pointer_reply, with_new}
 use Rattle.far_replay.proofs.Drops.{drop_is, unheld_is}
 use Rattle.far_replay.proofs.Dereferences.{derefs, sought_lacks}
-use Rattle.far_replay.proofs.Lasting.{moment_lasts}
+use Rattle.far_replay.proofs.Lasting.{moment_lasts, misled_from}
 use Rattle.far_replay.proofs.LogBytes.{bytes_move, celled_takes, headed_takes, move_then, names_one, none_taken, worded_takes}
 use Rattle.far_replay_laws.proofs.MovesTaken.{step_takes, stop_takes}
 use Rattle.far_replay.proofs.TakingView.{deref_more, view_takes}
 use Rattle.far_replay.proofs.Turns.{access_fact, led, marked_last, new_object_is, new_parts, new_tests, room_lacks, room_last, three, tried}
 use Rattle.far_replay.proofs.Views.{Viewed}
 use Rattle.far_replay_laws.proofs.Refusals.{of_far}
+use Rattle.far_replay_laws.proofs.Misleading.{as_misled}
+use Rattle.std.specs.Bool.{MatchBool}
 
 pub shapes_are : (logs mutators epoch : ℕ) → (is_shape (shape_of logs mutators epoch) ≡ true) ↔ ((2 ≤ logs) × (logs ≤ 64) × (1 ≤ mutators) × (mutators ≤ 8) × (epoch < 2 ^ 62))
 shapes_are logs mutators epoch = ((λ h. (grind (arith, nat_tests), grind (arith, nat_tests), grind (arith, nat_tests), grind (arith, nat_tests), grind (arith, nat_tests))), (λ h. grind (arith, nat_tests)))
@@ -177,6 +179,27 @@ read_takes_none now next m p from len why h none = of_far (λ x. TakesRoom now (
 view_takes_none : (now next : Moment) (m p : ℕ) (why : Refusal) → KeepsFar why → TakesNone now.core next.core → TakesRoom now (Mutator m (View p)) (Refused why) next
 view_takes_none now next m p why h none = of_far (λ x. TakesRoom now (Mutator m (View p)) (Refused x) next) why h none none
 
+-- one that was given other words takes what it would if they were stored
+as_bool : {A B C D : Type 0} (b : Bool) → (A → C) → (B → D) → MatchBool b A B → MatchBool b C D
+as_bool true f g x = f x
+as_bool false f g x = g x
+
+module _ (s t : State) (p : ℕ) (row : ℕ → ℕ) where
+  as_span : (len : ℕ) (from : Option ℕ) (reserve : Bool) → TakesSpan (with_stored s p row) len from reserve (with_stored t p row) → TakesSpan s len from reserve t
+  unfolding spans_of
+  as_span len from reserve x = (x.0, x.1, x.2, (λ l. let b = x.3 l in record { live = b.live; dead = b.dead; unused = b.unused }))
+
+  as_brings : (o : Option PtrWord) → BringTakes (with_stored s p row) o (with_stored t p row) → BringTakes s o t
+  unfolding spans_of
+  as_brings None x = x
+  as_brings (Some Free) x = x
+  as_brings (Some (Near len ds place marks)) x = as_bool marks.evac (as_span len (Some place.log) false) (λ y. y) x
+  as_brings (Some (Far len ds marks)) x = as_span len None true x
+
+  as_takes : DereferenceTakes (with_stored s p row) p (with_stored t p row) → DereferenceTakes s p t
+  unfolding spans_of
+  as_takes x = as_bool (is_slow s p) (as_brings (read_of (s.cell p))) (λ y. y) x
+
 pub commands_take : (now : Moment) (c : Command) (r : Reply) (next : Moment) → IsMoment now → Commanded now c r next → TakesRoom now c r next
 commands_take now c r next is h =
     let lasts = moment_lasts now is in
@@ -188,4 +211,6 @@ commands_take now c r next is h =
     (λ why objects count h. subst (λ x. TakesRoom now (Evacuator (Evacuate count)) x next) (sym h.reply) (served_take now (Evacuator (Evacuate objects)) (Evacuated h.progress) next is h.left))
     (λ why turns objects policy most count h. subst (λ x. TakesRoom now (Evacuator (Round policy most count)) x next) (sym h.reply)
     (stop_takes now lasts.law lasts.round policy most turns count objects h.stood next h.progress (stood_so now policy most turns h.stood h.turned) h.before h.within (left_some h.stood objects h.progress next h.left h.unfinished)))
+    (λ row m p d asks h. as_misled row now r next m p TakesRoom (λ from bytes. as_takes now.core next.core p row) (λ from len bytes. as_takes now.core next.core p row) (as_takes now.core next.core p row)
+    d asks h (served_take (as_if_stored now p row) d r (as_if_stored next p row) (misled_from row now d p r next is h) h.served))
     c h

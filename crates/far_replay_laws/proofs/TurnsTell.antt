@@ -35,6 +35,7 @@ use Rattle.far_replay_laws.proofs.Refusals.{EachFirst, among}
 use Rattle.far_replay_laws.proofs.RoundCounts.{counts_round}
 use Rattle.far_replay.proofs.RoundLeads.{begins, evacuating_is, marking_is, none_first, step_stays, waiting_is}
 use Rattle.far_replay_laws.proofs.StepsTell.{chosen_phase, ended_phase, marked_phase, policy_takes, tells_choice, tells_clear, tells_end, tells_leaving, tells_marks, tells_open}
+use Rattle.far_replay_laws.proofs.Misleading.{by_asked}
 
 -- ---- a step as a command
 pub made_so : (now : Moment) (step : Step) → refusal now (Evacuator step) ≡ None → Served now (Evacuator step) (step_reply now step) (step_effect now step)
@@ -365,6 +366,7 @@ told_so now c r next lasts h = by_outcome now r next (λ d. Told now d r next)
     (λ why m p h. tt)
     (λ why objects count h. stop_told now why objects count r next lasts h)
     (λ why turns objects policy most count h. round_told_so now why turns objects policy most count r next lasts h (after_step now (Round policy most turns) (Ended (ends.Limit Evacuating)) h.stood lasts h.turned))
+    (λ row m p d asks h. by_asked m p (λ x. Told now x r next) (λ from bytes. tt) (λ from len. tt) tt d asks)
     c h
 
 pub steps_told : (now : Moment) (step : Step) (r : Reply) (next : Moment) → IsMoment now → Commanded now (Evacuator step) r next → TellsStep now step r next

@@ -1,5 +1,5 @@
 -- What commands do to views: a read or a write views its object, a close ends its mutator's views, all else leaves them; and the logs of views stay.
-use Rattle.std.proofs.Common.{◌≢◌, ◌≡◌, ℕ, ◌+◌, ◌/◌, Bool, true, not, nat_lt, cond, is_some, refl, sym, ap, subst, ◌∙◌, Option, Some, None, List, [], ◌∷◌, ◌++◌, length}
+use Rattle.std.proofs.Common.{◌≢◌, ◌≡◌, ℕ, ◌+◌, ◌/◌, Bool, true, not, nat_lt, cond, is_some, refl, sym, ap, subst, ◌∙◌, Option, Some, None, List, [], ◌∷◌, ◌++◌, length, inl, inr}
 use Rattle.std.proofs.lemmas.Bool.{and_parts, cond_both, eq-eqb, ne_eqb}
 use Rattle.far_word.specs.declared.pointer.Place.{Place}
 use Rattle.far_word.specs.declared.refused.Refused.{Refused as Refusal}
@@ -22,9 +22,9 @@ use Rattle.far_core.specs.state.State.{State}
 use Rattle.far_core.specs.events.Copies.{data_at}
 use Rattle.far_core.specs.events.Step.{is_opened, step_of, is_legal, after, answer, Fits}
 use Rattle.far_core.proofs.Leaving.{held_stays}
-use Rattle.far_replay.specs.Moment.{Moment}
+use Rattle.far_replay.specs.Moment.{Moment, as_if_stored, moment_of, with_stored}
 use Rattle.far_replay.specs.Answers.{Answered, Commanded, Served, Unbrought, IsMoment}
-use Rattle.far_replay.specs.Commanded.{KeepsFar}
+use Rattle.far_replay.specs.Commanded.{KeepsFar, AsksFor, Misled}
 use Rattle.far_book.specs.book.Reached.{Reached}
 use Rattle.far_book.proofs.region.Reaching.{reached_more}
 use Rattle.far_evac.specs.declared.answers.RoundEnd.TheVariants.{Limit}
@@ -32,7 +32,7 @@ use Rattle.far_evac.specs.declared.phase.Phase.TheVariants.{Evacuating}
 use Rattle.far_text.specs.Command.{Command, New, Open, Write, Read, Close, Drop, View, Try, Epoch, Mutator, Book, Evacuator, Step, Evacuate, Round}
 use Rattle.far_text.specs.Written.{WritesBytes, AllWriteBytes}
 use Rattle.far_replay.specs.Changes.{ViewsObject}
-use Rattle.far_replay_laws.specs.Headline.{IsAtHandFor, LogsStay, Reaches, ViewsNothing, ViewsAfter, carried_as}
+use Rattle.far_replay_laws.specs.Headline.{IsAtHandFor, LogsStay, Reaches, ViewsNothing, ViewsAfter, carried_as, TellsEvents}
 use Rattle.far_replay.specs.EventRows.{after_events, AllSucceed, AtHand, Succeeds}
 use Rattle.far_replay.specs.Reply.{Reply, Ended, Evacuated, Refused}
 use Rattle.far_replay.specs.Events.{events_for, IsNoStep, turn_events, refused_events, zero_puts, new_events, open_events, view_events, asked_events, asked_events_of, sought_events, span_events, name_events, come_events, come_events_of, dereference_events, load_events, store_events, first_loads, last_loads, part_events, drop_events, first_word, words_touched, starts_inside, ends_inside}
@@ -41,7 +41,7 @@ use Rattle.far_replay.specs.Dereference.{come, comes_to, dereferenced, has_no_ro
 use Rattle.far_replay.specs.Effects.{near_word, is_slow, with_view}
 use Rattle.far_replay.specs.Turn.{causes, refusal, unless, turn_reply, reply_to}
 use Rattle.far_replay_laws.proofs.Coming.{all_come}
-use Rattle.far_replay.proofs.Lasting.{Lasts, all_pass, command_carried, moment_lasts, served_lasts, still_lasts}
+use Rattle.far_replay.proofs.Lasting.{Lasts, all_pass, command_carried, moment_lasts, served_lasts, still_lasts, IsCarriedOut, misled_before}
 use Rattle.far_replay.proofs.Outcomes.{by_outcome}
 use Rattle.far_replay_laws.proofs.Refusals.{EachCause, EachFirst, among, each_first, far_away, of_far}
 use Rattle.far_replay.proofs.RoundLeads.{reached_reaches, step_keeps, step_leads}
@@ -50,6 +50,10 @@ use Rattle.far_replay.proofs.Dereferences.{derefs, sought_held, sought_leads, vi
 use Rattle.far_replay.proofs.Views.{fast_seen, view_is, slow_view}
 use Rattle.far_replay.proofs.ViewsRest.{NoClose, ClosesLast, none_closes, fronts_stay, held_now}
 use Rattle.far_text.proofs.Each.{Each, Each-append, Each-row}
+use Rattle.far_replay.proofs.AsIfStored.{stored_again}
+use Rattle.far_core.proofs.Put.{put_same}
+use Rattle.far_replay_laws.proofs.Misleading.{as_misled, by_asked, misled_allowed, misled_uses}
+use Rattle.far_replay_laws.proofs.StoredApart.{StoresNone, asked_none, row_as_if, row_keeps, row_succeeds}
 
 -- ---- events that make no view and end none
 abbrev LeavesViews : Event → Type 0
@@ -173,6 +177,10 @@ served_views now (Evacuator step) r next lasts later h = ap (λ (x : Moment). x.
 tried_views : (now : Moment) (c : Command) (why : Refusal) (m p : ℕ) (r : Reply) (next : Moment) → Lasts now → Unbrought why now c m p r next → next.core.held ≡ now.core.held
 tried_views now c why m p r next lasts h = served_views now (Mutator m (Try p)) (Refused (Marked (now.core.cell p))) next lasts tt h.tried
 
+-- and one that is given other words views what it would if they were stored
+views_as_if : (s t : State) (p : ℕ) (row : ℕ → ℕ) → ViewsObject (with_stored s p row) (with_stored t p row) p → ViewsObject s t p
+views_as_if s t p row x = record { viewed = x.viewed; kept = x.kept; others = x.others }
+
 pub views_last : (now : Moment) (c : Command) (r : Reply) (next : Moment) → IsMoment now → WritesBytes c → Commanded now c r next → ViewsAfter now.core c r next.core
 views_last now c r next is later h =
     let lasts = moment_lasts now is in
@@ -185,6 +193,8 @@ views_last now c r next is later h =
     (λ why turns objects policy most count h later.
     served_views h.stood (Evacuator (Evacuate objects)) (Evacuated h.progress) next (served_lasts now (Evacuator (Round policy most turns)) (Ended (Limit Evacuating)) h.stood lasts later h.turned) tt h.left
     ∙ served_views now (Evacuator (Round policy most turns)) (Ended (Limit Evacuating)) h.stood lasts later h.turned)
+    (λ row m p d asks h later. as_misled row now r next m p (λ now c r next. ViewsAfter now.core c r next.core) (λ from bytes. views_as_if now.core next.core p row) (λ from len bytes. views_as_if now.core next.core p row)
+    (views_as_if now.core next.core p row) d asks h (served_views (as_if_stored now p row) d r (as_if_stored next p row) (misled_before row now d p r next lasts h) later h.served))
     c h later
 
 -- ---- the logs in which views rest stay
@@ -278,7 +288,7 @@ told_reach now c r next told lasts bytes h =
     let x = command_carried now c r next told lasts bytes h in
     record {
       events = events_for now c;
-      told = λ _. ap (events_for now) (sym (served_as now c r next h));
+      told = λ _. inl (ap (events_for now) (sym (served_as now c r next h)));
       of_book = λ no. absurd (no told);
       ends = x.state;
       pass = all_pass now.core (events_for now c) lasts.law x.fit x.made;
@@ -319,7 +329,7 @@ module _ (why : Refusal) (now : Moment) (c : Command) (m p : ℕ) (r : Reply) (n
       let x = told_reach now (Mutator m (Try p)) (Refused (Marked (now.core.cell p))) next tt lasts tt h.tried in
       record {
         events = x.events;
-        told = λ _. x.told tt ∙ ap (events_for now) (sym tries);
+        told = λ _. subst (λ d. TellsEvents now d x.events) (sym tries) (x.told tt);
         of_book = λ no. absurd (no told);
         ends = x.ends;
         pass = x.pass;
@@ -327,6 +337,52 @@ module _ (why : Refusal) (now : Moment) (c : Command) (m p : ℕ) (r : Reply) (n
         come = λ _ hand. absurd (far_away now.core p h.far (at_hand hand));
         stay = x.stay;
       }
+
+-- one that is given other words is carried out by the events that it has where these are stored
+again : (s : State) (p : ℕ) (row words : ℕ → ℕ) → words ≡ s.stored p → s ≡ with_stored (with_stored s p row) p words
+again s p row words e = ap (λ (x : Moment). x.core) (stored_again (moment_of s) p row words e)
+
+module _ (row : ℕ → ℕ) (now : Moment) (c : Command) (m p : ℕ) (r : Reply) (next : Moment) (lasts : Lasts now) (asks : AsksFor m p c) (told : IsNoStep c) (bytes : WritesBytes c) (h : Misled row now c p r next)
+    (at_hand : IsAtHandFor now c → now.core.cell p ≢ 0 → AtHand now.core p) where
+  abbrev other : Moment
+  other = as_if_stored now p row
+
+  abbrev made : List Event
+  made = events_for other c
+
+  carried : IsCarriedOut other c r (as_if_stored next p row).core
+  carried = command_carried other c r (as_if_stored next p row) told (misled_before row now c p r next lasts h) bytes h.served
+
+  none_stored : Each StoresNone made
+  none_stored =
+      let allowed = misled_allowed row now c p r next h in
+      let uses_it = misled_uses row now m p c asks allowed in
+      asked_none other m p c asks (misled_before row now c p r next lasts h).law uses_it.0 uses_it.1 h.far allowed
+
+  all_made : AllSucceed now.core made
+  all_made = row_succeeds now.core p row made h.lies none_stored carried.made
+
+  ends_so : next.core ≡ after_events now.core made
+  ends_so =
+      let words : ℕ → ℕ = now.core.stored p in
+      let end : State = after_events now.core made in
+      let there : with_stored next.core p row ≡ with_stored end p row = carried.state ∙ row_as_if now.core p row made h.lies none_stored in
+      let kept : with_stored end p words ≡ end = row_keeps now.core p made h.lies none_stored in
+      again next.core p row words (sym h.kept) ∙ ap (λ (t : State). with_stored t p words) there
+      ∙ sym (again end p row words (sym (put_same end.stored p words p refl) ∙ ap (λ (t : State). t.stored p) kept))
+
+  pub misled_reach : Reaches now c r next
+  misled_reach = record {
+    events = made;
+    told = λ _. subst (λ d. TellsEvents now d made) (sym (served_as other c r (as_if_stored next p row) h.served)) (inr (h.lies, (m, p, asks, h.far, row, h.fits, refl)));
+    of_book = λ no. absurd (no told);
+    ends = ends_so;
+    pass = all_pass now.core made lasts.law carried.fit all_made;
+    succeed = all_made;
+    come = λ _ hand. absurd (far_away now.core p h.far (at_hand hand));
+    stay = λ es mid rest front q place. fronts_stay now.core es mid rest lasts.law (subst (Each Fits) (sym front) carried.fit)
+        (subst ClosesLast (sym front) (command_closes_last other c (refusal other c))) q place;
+  }
 
 write_as : (why : Refusal) (m p from : ℕ) (bytes : List ℕ) → KeepsFar why → carried_as (Mutator m (Write p from bytes)) (Refused why) ≡ Mutator m (Try p)
 write_as why m p from bytes h = of_far (λ x. carried_as (Mutator m (Write p from bytes)) (Refused x) ≡ Mutator m (Try p)) why h refl refl
@@ -348,6 +404,10 @@ reach now c r next lasts bytes h = by_outcome now r next (λ d. WritesBytes d �
     let later = served_lasts now (Evacuator (Round policy most turns)) (Ended (Limit Evacuating)) h.stood lasts bytes h.turned in
     way_reach now (Round policy most count) r next lasts
     (reached_more now.core h.stood.core next.core (step_way now (Round policy most turns) (Ended (Limit Evacuating)) h.stood lasts h.turned) (step_way h.stood (Evacuate objects) (Evacuated h.progress) next later h.left)))
+    (λ row m p d asks h bytes. by_asked m p (λ x. WritesBytes x → Misled row now x p r next → Reaches now x r next)
+    (λ from new bytes k. misled_reach row now (Mutator m (Write p from new)) m p r next lasts (refl, refl) tt bytes k (λ hand. hand))
+    (λ from len bytes k. misled_reach row now (Mutator m (Read p from len)) m p r next lasts (refl, refl) tt bytes k (λ hand. hand))
+    (λ bytes k. misled_reach row now (Mutator m (View p)) m p r next lasts (refl, refl) tt bytes k (λ hand. hand)) d asks bytes h)
     c h bytes
 
 pub events_reach : (now : Moment) (c : Command) (r : Reply) (next : Moment) → IsMoment now → WritesBytes c → Commanded now c r next → Reaches now c r next

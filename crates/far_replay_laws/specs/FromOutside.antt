@@ -1,13 +1,13 @@
--- What a refusal of the device is about: an object that is far, and stays so; and how often it comes.
-use Rattle.std.specs.Prelude.{◌≡◌, ◌≢◌, ℕ, ◌+◌, ◌≤◌, Bool, true, false, Ok, Option, List, [], ◌∷◌, ◌++◌}
+-- What a refusal of the device is about: an object that is far, and stays so; and how often one comes, and how often other bytes are given.
+use Rattle.std.specs.Prelude.{◌≡◌, ℕ, suc, ◌+◌, ◌≤◌, ◌==◌, Bool, true, false, Ok, Option, Some, List, [], ◌∷◌, ◌++◌}
 use Rattle.std.specs.List.{flat_map}
 use Rattle.far_word.specs.declared.refused.Refused.{Refused as Refusal}
 use Rattle.far_word.specs.declared.refused.Refused.TheVariants.{Damaged, Device as Failed}
 use Rattle.far_core.specs.state.Shape.{is_shape}
 use Rattle.far_core.specs.state.State.{State}
-use Rattle.far_text.specs.Command.{Command, Device, Heap, Write, Read, View, Mutator}
+use Rattle.far_text.specs.Command.{Command, Device, Flawed, Fail, Short, Flip, Heap, Write, Read, View, Mutator}
 use Rattle.far_text.specs.Grammar.{trace_of}
-use Rattle.far_replay.specs.Answers.{Answered, Answers, Commanded, IsMoment, first_moment, opened, shape_of, to_fail}
+use Rattle.far_replay.specs.Answers.{AnsweredBy, Answers, Commanded, IsMoment, Outside, Serves, Refuses, Gives, first_moment, is_true, opened, shape_of}
 use Rattle.far_replay.specs.Commanded.{KeepsFar, LiesFar}
 use Rattle.far_replay.specs.Moment.{Moment}
 use Rattle.far_replay.specs.Reply.{Reply, Halted, Refused, reply_text}
@@ -23,11 +23,31 @@ IsFarFor s c = ⊥
 abbrev pub DeviceRefusesFar : Type 0
 DeviceRefusesFar = (now : Moment) (c : Command) (r : Reply) (after : Moment) (why : Refusal) → IsMoment now → Commanded now c r after → r ≡ Refused why → KeepsFar why → IsFarFor now.core c × IsFarFor after.core c
 
+-- ---- how often it comes
+-- one call of a device is said to fail; or to give a byte too few; or to give others
+abbrev pub to_fail : Option Device → ℕ
+to_fail (Some (Flawed Fail (suc call))) = 1
+to_fail device = 0
+
+abbrev pub to_damage : Option Device → ℕ
+to_damage (Some (Flawed Short (suc call))) = 1
+to_damage device = 0
+
+abbrev pub to_lie : Option Device → ℕ
+to_lie (Some (Flawed Flip (suc call))) = 1
+to_lie device = 0
+
 -- how many replies say that the device failed
 abbrev pub says_failed : Reply → Bool
 says_failed (Refused Failed) = true
 says_failed (Halted Failed progress) = true
 says_failed r = false
+
+-- and that it gave another number of bytes
+abbrev pub says_damaged : Reply → Bool
+says_damaged (Refused Damaged) = true
+says_damaged (Halted Damaged progress) = true
+says_damaged r = false
 
 abbrev pub one_if : Bool → ℕ
 one_if true = 1
@@ -37,17 +57,34 @@ abbrev pub failures : List Reply → ℕ
 failures [] = 0
 failures (r ∷ rs) = one_if (says_failed r) + failures rs
 
--- and none that it gave another number of bytes
-abbrev pub NoneDamaged : List Reply → Type 0
-NoneDamaged [] = Unit {0}
-NoneDamaged (r ∷ rs) = (r ≢ Refused Damaged) × NoneDamaged rs
+abbrev pub damages : List Reply → ℕ
+damages [] = 0
+damages (r ∷ rs) = one_if (says_damaged r) + damages rs
 
--- no more replies say that the device failed than it is said to, once at most; and none that it gave another number of bytes
-abbrev pub FailsAsSaid : Option Device → List Reply → Type 0
-FailsAsSaid device replies = (failures replies ≤ to_fail device) × (to_fail device ≤ 1) × NoneDamaged replies
+-- how many commands were given other bytes
+abbrev pub lies : List Outside → ℕ
+lies [] = 0
+lies (Serves ∷ os) = lies os
+lies (Refuses why turns objects ∷ os) = lies os
+lies (Gives row ∷ os) = 1 + lies os
+
+-- no more replies say that the device failed, or gave another number of bytes, than it is said to; each once at most
+pub record FailsAsSaid (device : Option Device) (replies : List Reply) : Type 0 where
+  pub failed : failures replies ≤ to_fail device
+  pub damaged : damages replies ≤ to_damage device
+  pub once : to_fail device + to_damage device ≤ 1
+
+-- no more commands are given other bytes than it is said to give, one at most
+pub record LiesAsSaid (device : Option Device) (outside : List Outside) : Type 0 where
+  pub lied : lies outside ≤ to_lie device
+  pub once : to_lie device ≤ 1
+
+-- what is read of a device is what was stored: it isn't said to give other bytes
+abbrev pub gives_stored : Option Device → Bool
+gives_stored device = to_lie device == 0
 
 -- the output of a text that is read as a heap in range and commands is lines of replies, which say so
-abbrev pub FailuresAreSaid : Type 0
-FailuresAreSaid = (text output : List ℕ) (logs mutators epoch : ℕ) (device : Option Device) (cs : List Command) → Answers text output → trace_of text ≡ Ok (Heap logs mutators epoch device cs) →
-    is_shape (shape_of logs mutators epoch) ≡ true → (replies : List Reply) × (moments : List Moment) × Answered (first_moment logs mutators epoch) cs replies moments
-    × (output ≡ flat_map reply_text (opened device ++ replies)) × FailsAsSaid device replies
+abbrev pub FlawsAreSaid : Type 0
+FlawsAreSaid = (text output : List ℕ) (logs mutators epoch : ℕ) (device : Option Device) (cs : List Command) → Answers text output → trace_of text ≡ Ok (Heap logs mutators epoch device cs) →
+    is_shape (shape_of logs mutators epoch) ≡ true → (outside : List Outside) × (replies : List Reply) × (moments : List Moment) × AnsweredBy outside (first_moment logs mutators epoch (is_true device)) cs replies moments
+    × (output ≡ flat_map reply_text (opened device ++ replies)) × FailsAsSaid device replies × LiesAsSaid device outside

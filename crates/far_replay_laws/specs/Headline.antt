@@ -1,5 +1,5 @@
 -- What a trace program's outputs say: the laws over whole texts and whole lists of commands.
-use Rattle.std.specs.Prelude.{◌≡◌, ◌≢◌, ◌↔◌, ℕ, ◌+◌, ◌*◌, ◌/◌, ◌^◌, ◌<◌, ◌≤◌, ◌||◌, ◌⊎◌, true, false, sum, codes, decimal, Option, Some, None, Ok, List, [], ◌∷◌, length, replicate, slice_index, map, All, Contains, ◌++◌, Result}
+use Rattle.std.specs.Prelude.{◌≡◌, ◌≢◌, ◌↔◌, ℕ, ◌+◌, ◌*◌, ◌/◌, ◌^◌, ◌<◌, ◌≤◌, ◌||◌, ◌⊎◌, Bool, true, false, sum, codes, decimal, Option, Some, None, Ok, List, [], ◌∷◌, length, replicate, slice_index, map, All, Contains, ◌++◌, Result}
 use Rattle.std.specs.List.{flat_map, range_with_len}
 use Rattle.hex.specs.Hex.{IsBytes}
 use Rattle.far_word.specs.declared.mark.Mark.TheVariants.{Hot}
@@ -14,7 +14,7 @@ use Rattle.far_word.specs.Pointer.{read_of, with_mark}
 use Rattle.far_word.specs.Sizes.{size_of}
 use Rattle.far_core.specs.declared.event.Event.{Event}
 use Rattle.far_core.specs.events.Step.{is_opened}
-use Rattle.far_core.specs.state.Law.{Law}
+use Rattle.far_core.specs.state.Law.{IsStored, Law}
 use Rattle.far_core.specs.laws.Observed.{live_bytes, dead_bytes, unused_bytes, HasOnePlace, NamesOnce, OneLive}
 use Rattle.far_core.specs.state.Room.{room}
 use Rattle.far_core.specs.state.Shape.{is_shape}
@@ -28,19 +28,20 @@ use Rattle.far_evac.specs.Census.{kind_in}
 use Rattle.far_evac.specs.declared.answers.Progress.{Progress}
 use Rattle.far_evac.specs.declared.answers.RoundEnd.{RoundEnd}
 use Rattle.far_evac.specs.declared.answers.RoundEnd.TheVariants as ends
-use Rattle.far_replay.specs.Alone.{Alone, Knows, Learns, Own, nothing}
-use Rattle.far_replay.specs.Answers.{Answered, AnsweredBy, Answers, Commanded, IsMoment, Outside, Served, shape_of, first_moment, opened, to_fail}
+use Rattle.far_replay.specs.Alone.{Alone, KnowsBy, Learns, Own, nothing}
+use Rattle.far_replay.specs.Answers.{Answered, AnsweredBy, Answers, Commanded, IsMoment, Outside, Served, shape_of, first_moment, opened, flaws, is_true}
 use Rattle.far_text.specs.Command.{Command, Heap, CommandLine, New, Open, Write, Read, Close, Where, Drop, View, Try, Epoch, Logs as AsksLogs, Log, Audit, Mutator, Book, Evacuator, By, Script, Select, Mark, Wait, Evacuate, Abort, Round, Device as SaidDevice, Trace}
 use Rattle.far_text.specs.Grammar.{trace_of}
-use Rattle.far_replay.specs.Commanded.{KeepsNear}
-use Rattle.far_replay.specs.Moment.{Moment}
+use Rattle.far_replay.specs.Commanded.{AsksFor, KeepsNear, LiesFar}
+use Rattle.far_replay.specs.Moment.{Moment, as_if_stored}
 use Rattle.far_replay.specs.EventRows.{after_events, AllPass, AllSucceed, AllComeToPass, AtHand}
 use Rattle.far_replay.specs.Events.{events_for, IsNoStep}
-use Rattle.far_replay_laws.specs.FromOutside.{FailsAsSaid}
+use Rattle.far_replay_laws.specs.FromOutside.{FailsAsSaid, LiesAsSaid, gives_stored}
 use Rattle.far_replay_laws.specs.HowMany.{IsHowMany}
 use Rattle.far_replay_laws.specs.Left.{AllLeave}
 use Rattle.far_replay_laws.specs.Listed.{AllCounted}
 use Rattle.far_replay.specs.Objects.{with_range, uses}
+use Rattle.far_replay_laws.specs.OtherBytes.{AllGiven}
 use Rattle.far_text.specs.Says.{Says}
 use Rattle.far_replay.specs.Stays.{MayMark, MaySee, Stays}
 use Rattle.far_replay_laws.specs.MovesTake.{MovesTake}
@@ -71,11 +72,17 @@ carried_as (Mutator m (View p)) (Refused Device) = Mutator m (Try p)
 carried_as (Mutator m (View p)) (Refused Damaged) = Mutator m (Try p)
 carried_as c r = c
 
+-- these are a command's events; or, where the device may lie, those that it has in a moment in which other words, as many, are stored of the far object that it asks for
+abbrev pub TellsEvents : Moment → Command → List Event → Type 0
+TellsEvents now c events =
+    (events ≡ events_for now c)
+    ⊎ ((now.core.honest ≡ false) × ((m p : ℕ) × AsksFor m p c × (far : LiesFar now.core p) × (row : ℕ → ℕ) × IsStored row far.0 × (events ≡ events_for (as_if_stored now p row) c)))
+
 -- events lead from a moment to the next: each is legal, none is refused, each keeps the law and agreement, and through them the logs in which views rest stay. A mutator's are told
 -- one by one; where its command's object is at hand a pin gives a view, and a naming wins. A step of the evacuator makes none of an owner
 pub record Reaches (now : Moment) (c : Command) (r : Reply) (after : Moment) : Type 0 where
   pub events : List Event
-  pub told : IsNoStep c → events ≡ events_for now (carried_as c r)
+  pub told : IsNoStep c → TellsEvents now (carried_as c r) events
   pub of_book : ¬ IsNoStep c → All IsOfBook events
   pub ends : after.core ≡ after_events now.core events
   pub pass : AllPass now.core events
@@ -291,22 +298,27 @@ LinesAreNumbered = (words : List (List ℕ)) (c : Command) (m : ℕ) → m < 2 ^
 -- what an output says, from its text on: where the text is read as a heap in range and commands, there are the replies and the moments of this output; the lines tell
 -- the replies in full; each moment has the law, and in it objects are whole; the logs in which views rest stay; the replies to each mutator's lines are what its own
 -- lines alone say; each step of the evacuator tells what has happened, and leaves objects elsewhere, and any other command leaves the round; each audit counts a
--- list of all objects and logs; and the device fails no more often than it is said to
+-- list of all objects and logs; the device fails, and lies, no more often than it is said to; and where it gave other bytes of an object, the object has these then, and all others
+-- keep theirs
 pub record IsSound (logs mutators epoch : ℕ) (device : Option SaidDevice) (cs : List Command) (output : List ℕ) : Type 0 where
   pub replies : List Reply
   pub moments : List Moment
   pub bytes : AllWriteBytes cs
-  pub answered : Answered (first_moment logs mutators epoch) cs replies moments
+  pub outside : List Outside
+  pub made : AnsweredBy outside (first_moment logs mutators epoch (is_true device)) cs replies moments
+  pub answered : Answered (first_moment logs mutators epoch (is_true device)) cs replies moments
   pub printed_so : output ≡ flat_map reply_text (opened device ++ replies)
   pub plain : All IsToldInFull replies
-  pub lawful : All Lawful (first_moment logs mutators epoch ∷ moments)
-  pub whole : All (λ (now : Moment). IsWhole now.core) (first_moment logs mutators epoch ∷ moments)
-  pub stay : LogsStay (first_moment logs mutators epoch) cs replies moments
-  pub alone : (m : ℕ) → m < mutators → Alone m nothing cs replies
-  pub told : AllTold (first_moment logs mutators epoch) cs replies moments
-  pub left : AllLeave (first_moment logs mutators epoch) cs replies moments
-  pub counted : AllCounted (first_moment logs mutators epoch) cs replies moments
+  pub lawful : All Lawful (first_moment logs mutators epoch (is_true device) ∷ moments)
+  pub whole : All (λ (now : Moment). IsWhole now.core) (first_moment logs mutators epoch (is_true device) ∷ moments)
+  pub stay : LogsStay (first_moment logs mutators epoch (is_true device)) cs replies moments
+  pub alone : (m : ℕ) → m < mutators → Alone (gives_stored device) m nothing cs replies
+  pub told : AllTold (first_moment logs mutators epoch (is_true device)) cs replies moments
+  pub left : AllLeave (first_moment logs mutators epoch (is_true device)) cs replies moments
+  pub counted : AllCounted (first_moment logs mutators epoch (is_true device)) cs replies moments
   pub fails : FailsAsSaid device replies
+  pub lies : LiesAsSaid device outside
+  pub given : AllGiven outside (first_moment logs mutators epoch (is_true device)) cs replies moments
 
 abbrev pub OutputsAreSound : Type 0
 OutputsAreSound = (text output : List ℕ) (logs mutators epoch : ℕ) (device : Option SaidDevice) (cs : List Command) → Answers text output → trace_of text ≡ Ok (Heap logs mutators epoch device cs) →
@@ -316,21 +328,21 @@ OutputsAreSound = (text output : List ℕ) (logs mutators epoch : ℕ) (device :
 abbrev pub EachTextIsAnswered : Type 0
 EachTextIsAnswered = (text : List ℕ) → (output : List ℕ) × Answers text output
 
--- no device is said that is to fail
-abbrev pub NeverFails : Result Trace ℕ → Type 0
-NeverFails (Ok (Heap logs mutators epoch device cs)) = to_fail device ≡ 0
-NeverFails read = Unit {0}
+-- no device is said that is to fail or to lie
+abbrev pub HasNoFlaw : Result Trace ℕ → Type 0
+HasNoFlaw (Ok (Heap logs mutators epoch device cs)) = flaws device ≡ 0
+HasNoFlaw read = Unit {0}
 
--- two outputs of one text are equal, where no device is said that is to fail
+-- two outputs of one text are equal, where no device is said that is to fail or to lie
 abbrev pub OneOutput : Type 0
-OneOutput = (text a b : List ℕ) → NeverFails (trace_of text) → Answers text a → Answers text b → a ≡ b
+OneOutput = (text a b : List ℕ) → HasNoFlaw (trace_of text) → Answers text a → Answers text b → a ≡ b
 
 -- an output of commands of which the outside made this
 abbrev pub IsMadeBy : List Outside → ℕ → ℕ → ℕ → Option SaidDevice → List Command → List ℕ → Type 0
-IsMadeBy outside logs mutators epoch device cs output = (replies : List Reply) × (moments : List Moment) × AnsweredBy outside (first_moment logs mutators epoch) cs replies moments
+IsMadeBy outside logs mutators epoch device cs output = (replies : List Reply) × (moments : List Moment) × AnsweredBy outside (first_moment logs mutators epoch (is_true device)) cs replies moments
     × (output ≡ flat_map reply_text (opened device ++ replies))
 
--- and where one is, each text has an output, made by an outside that refuses no more than is said; by that they are equal
+-- and where one is, each text has an output, made by an outside that refuses, or gives other bytes, no more than is said; by that they are equal
 abbrev pub OutsideDecidesOutput : Type 0
 OutsideDecidesOutput = (outside : List Outside) (logs mutators epoch : ℕ) (device : Option SaidDevice) (cs : List Command) (a b : List ℕ) →
     IsMadeBy outside logs mutators epoch device cs a → IsMadeBy outside logs mutators epoch device cs b → a ≡ b
@@ -433,10 +445,10 @@ ObjectsStayWhole = (now : Moment) (cs : List Command) (rs : List Reply) (moments
 abbrev pub ViewedLogsStay : Type 0
 ViewedLogsStay = (now : Moment) (cs : List Command) (rs : List Reply) (moments : List Moment) → IsMoment now → AllWriteBytes cs → Answered now cs rs moments → LogsStay now cs rs moments
 
--- the replies to one mutator's lines are what its own lines alone say
+-- the replies to one mutator's lines are what its own lines alone say; where the device may lie, an object that it doesn't view may have other bytes when it asks for them
 abbrev pub MutatorsAreAlone : Type 0
-MutatorsAreAlone = (logs mutators epoch m : ℕ) (cs : List Command) (rs : List Reply) (moments : List Moment) → is_shape (shape_of logs mutators epoch) ≡ true → m < mutators → AllWriteBytes cs →
-    Answered (first_moment logs mutators epoch) cs rs moments → Alone m nothing cs rs
+MutatorsAreAlone = (logs mutators epoch m : ℕ) (device : Option SaidDevice) (cs : List Command) (rs : List Reply) (moments : List Moment) → is_shape (shape_of logs mutators epoch) ≡ true → m < mutators → AllWriteBytes cs →
+    Answered (first_moment logs mutators epoch (is_true device)) cs rs moments → Alone (is_true device) m nothing cs rs
 
 -- after each command a mutator knows what the heap says of it; a command of others changes nothing of that
 abbrev pub MutatorsLearn : Type 0
@@ -446,11 +458,15 @@ MutatorsLearn = (now : Moment) (c : Command) (r : Reply) (after : Moment) (m : �
 abbrev pub NearRefusals : Type 0
 NearRefusals = (now : Moment) (c : Command) (r : Reply) (after : Moment) (why : Refusal) → Law now.core → IsAtHandFor now c → Commanded now c r after → r ≡ Refused why → MayRefuse c why
 
--- a heap in range begins with the numbers on its line, with the law, so that the laws above hold from its first moment on, and with nothing in it
+-- a heap in range begins with the numbers on its line, over a device that tells what was written or may not, with the law, so that the laws above hold from its first moment on, and
+-- with nothing in it
+abbrev pub BeginsLawful : ℕ → ℕ → ℕ → Bool → Moment → Type 0
+BeginsLawful logs mutators epoch honest now =
+    (now.core.logs ≡ logs) × (now.core.mutators ≡ mutators) × (now.core.epoch ≡ epoch) × (now.core.honest ≡ honest) × Lawful now × IsWhole now.core
+    × ((p : ℕ) → now.core.cell p ≡ 0) × ((l : ℕ) → now.core.tail l ≡ 0)
+
 abbrev pub HeapsBeginLawful : Type 0
-HeapsBeginLawful = (logs mutators epoch : ℕ) → is_shape (shape_of logs mutators epoch) ≡ true →
-    ((first_moment logs mutators epoch).core.logs ≡ logs) × ((first_moment logs mutators epoch).core.mutators ≡ mutators) × ((first_moment logs mutators epoch).core.epoch ≡ epoch) × Lawful (first_moment logs mutators epoch) × IsWhole (first_moment logs mutators epoch).core
-    × ((p : ℕ) → (first_moment logs mutators epoch).core.cell p ≡ 0) × ((l : ℕ) → (first_moment logs mutators epoch).core.tail l ≡ 0)
+HeapsBeginLawful = (logs mutators epoch : ℕ) (honest : Bool) → is_shape (shape_of logs mutators epoch) ≡ true → BeginsLawful logs mutators epoch honest (first_moment logs mutators epoch honest)
 
 -- the shapes that a heap line may say, in numerals
 abbrev pub ShapesAre : Type 0
@@ -515,8 +531,8 @@ WritesChangeTheirRange = (bytes new : List ℕ) (from : ℕ) → from + length n
 
 -- of replies that are a mutator's alone, the reply to a line with its number says what it then knows, and the others say nothing of it
 abbrev pub OwnLinesCount : Type 0
-OwnLinesCount = (m : ℕ) (o : Own) (c : Command) (r : Reply) (cs : List Command) (rs : List Reply) → Alone m o (c ∷ cs) (r ∷ rs) →
-    (IsSaidBy m c → (q : Own) × Knows m o c r q × Alone m q cs rs) × (¬ IsSaidBy m c → Alone m o cs rs)
+OwnLinesCount = (honest : Bool) (m : ℕ) (o : Own) (c : Command) (r : Reply) (cs : List Command) (rs : List Reply) → Alone honest m o (c ∷ cs) (r ∷ rs) →
+    (IsSaidBy m c → (q : Own) × KnowsBy honest m o c r q × Alone honest m q cs rs) × (¬ IsSaidBy m c → Alone honest m o cs rs)
 
 -- what `new` makes
 abbrev pub MakesObject : Moment → ℕ → ℕ → ℕ → ℕ → Moment → Type 0

@@ -9,7 +9,7 @@ use Rattle.far_word.specs.Pointer.{read_of}
 use Rattle.far_core.specs.state.Shape.{is_shape}
 use Rattle.far_core.specs.state.State.{State}
 use Rattle.far_core.specs.world.WorldOf.{world_of}
-use Rattle.far_replay.specs.Answers.{Answers, Commanded, IsMoment, first_moment, shape_of}
+use Rattle.far_replay.specs.Answers.{Answers, Commanded, IsMoment, first_moment, is_true, shape_of}
 use Rattle.far_replay.specs.Moment.{Moment}
 use Rattle.far_replay.specs.Reply.{Reply, Done, Data, Refused}
 use Rattle.far_replay_laws.specs.Along.{AllAlong}
@@ -107,4 +107,4 @@ ViewsAreHot = (now : Moment) → IsMoment now → ViewedAreHot now.core
 abbrev pub TextsLeaveMarks : Type 0
 TextsLeaveMarks = (text output : List ℕ) (logs mutators epoch : ℕ) (device : Option SaidDevice) (cs : List Command) → Answers text output → trace_of text ≡ Ok (Heap logs mutators epoch device cs) →
     is_shape (shape_of logs mutators epoch) ≡ true →
-    (x : IsSound logs mutators epoch device cs output) × AllLeaveMarks (first_moment logs mutators epoch) cs x.replies x.moments × All (λ (now : Moment). ViewedAreHot now.core) (first_moment logs mutators epoch ∷ x.moments)
+    (x : IsSound logs mutators epoch device cs output) × AllLeaveMarks (first_moment logs mutators epoch (is_true device)) cs x.replies x.moments × All (λ (now : Moment). ViewedAreHot now.core) (first_moment logs mutators epoch (is_true device) ∷ x.moments)

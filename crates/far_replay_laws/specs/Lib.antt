@@ -12,6 +12,7 @@ pub mod LeftBeside
 pub mod LeftMarks
 pub mod Listed
 pub mod MovesTake
+pub mod OtherBytes
 pub mod Said
 pub mod Stands
 pub mod Steps

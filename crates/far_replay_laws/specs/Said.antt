@@ -6,7 +6,7 @@ use Rattle.far_core.specs.events.Step.{is_opened}
 use Rattle.far_core.specs.state.Shape.{is_shape}
 use Rattle.far_text.specs.Command.{Command, Heap, New, Open, Close, Where, Drop, Try, Epoch, Logs as AsksLogs, Log, Mutator, Book, Evacuator, Step, Device}
 use Rattle.far_text.specs.Grammar.{trace_of}
-use Rattle.far_replay.specs.Answers.{Answers, first_moment, shape_of}
+use Rattle.far_replay.specs.Answers.{Answers, first_moment, is_true, shape_of}
 use Rattle.far_replay.specs.Commanded.{KeepsFar}
 use Rattle.far_replay.specs.Moment.{Moment}
 use Rattle.far_replay.specs.Objects.{uses}
@@ -50,4 +50,4 @@ AllSaid = AllAlong Said
 -- of each text that is read as a heap in range and commands: its output is sound; of each command of that same reading all this is so; and in each of its moments what is viewed has HOT
 abbrev pub TextsSayAll : Type 0
 TextsSayAll = (text output : List ℕ) (logs mutators epoch : ℕ) (device : Option Device) (cs : List Command) → Answers text output → trace_of text ≡ Ok (Heap logs mutators epoch device cs) → is_shape (shape_of logs mutators epoch) ≡ true →
-    (x : IsSound logs mutators epoch device cs output) × AllSaid (first_moment logs mutators epoch) cs x.replies x.moments × All (λ (now : Moment). ViewedAreHot now.core) (first_moment logs mutators epoch ∷ x.moments)
+    (x : IsSound logs mutators epoch device cs output) × AllSaid (first_moment logs mutators epoch (is_true device)) cs x.replies x.moments × All (λ (now : Moment). ViewedAreHot now.core) (first_moment logs mutators epoch (is_true device) ∷ x.moments)

@@ -5,7 +5,7 @@ ghost use Rattle.far_replay_laws.specs.Ends.{EndsAreTold};
 ghost use Rattle.far_replay_laws.specs.Census.{AuditsByCensus};
 ghost use Rattle.far_replay_laws.specs.Chosen.{RoundsAreChosen};
 ghost use Rattle.far_replay_laws.specs.Epochs.{StepsSpendEpochs};
-ghost use Rattle.far_replay_laws.specs.FromOutside.{DeviceRefusesFar, FailuresAreSaid};
+ghost use Rattle.far_replay_laws.specs.FromOutside.{DeviceRefusesFar, FlawsAreSaid};
 ghost use Rattle.far_replay_laws.specs.Listed.{AuditCountsList};
 ghost use Rattle.far_replay_laws.specs.Headline.{OutputsAreSound, OneOutput, OutsideDecides, OutsideDecidesOutput, EachTextIsAnswered, TextsWriteBytes, LinesAreNumbered, MomentsLast, EventsReach, ShapesAre, HeapsBeginLawful, ObjectsStayWhole, ViewedLogsStay, ViewsLast, RefusalsStay, RefusalsChangeNothing, TriesAreAnswered, UnknownMutatorsAreRefused, NearRefusals, MutatorsAreAlone, OwnLinesCount, MutatorsLearn, NewTakesTheLowest, NoneIsLeft, NewIsMade, NewMakesItsObject, CommandsTakeRoom, WritesChangeTheirRange, LogsAreTold, WhereTells, LogTellsItsLine, AuditCounts, DropEndsObject, EpochsAreTold, ScopesOpenAtEpochs, ClosesForget, PrintedAlike};
 ghost use Rattle.far_replay_laws.specs.Ages.{AgesStay};
@@ -17,14 +17,15 @@ ghost use Rattle.far_replay_laws.specs.Steps.{StepsAreTold};
 /// and a moment for each command. Each moment has the law, and in it objects are whole; through them the logs in which
 /// views rest stay; each mutator's replies are what its own lines alone say; each step of the evacuator tells what has happened,
 /// and leaves objects as `steps_leave` says; and any other command leaves the round, as `rounds_stand` says.
-/// The device fails no more often than it is said to. Of the same replies and moments all is so that the laws below say of one command: what it is
+/// The device fails, gives a byte too few, or gives other bytes no more often than it is said to, and where it gave other bytes of an object, the object has these, as
+/// `lies_change_one_object` says. Of the same replies and moments all is so that the laws below say of one command: what it is
 /// answered, which views there are then, and which marks, what it leaves beside, what it takes of the logs, what a refusal leaves; and in each moment what is viewed has HOT.
 pub fn outputs_are_sound()
     ensures sound { OutputsAreSound }
     ensures each { TextsSayAll }
 {}
 
-/// Each text has an output, and one alone, unless it says a device that is to fail: then one by what the outside made of its commands. Whatever the outside makes of commands, which it may refuse in their midst, their replies follow from it. A text that ends as refused begins it with `refused`; one that ran has none, or begins with `ok`. Its commands that write, write bytes. Among lines that say commands, a
+/// Each text has an output, and one alone, unless it says a device that is to fail or to lie: then one by what the outside made of its commands. Whatever the outside makes of commands, which it may refuse in their midst or give other bytes, their replies follow from it. A text that ends as refused begins it with `refused`; one that ran has none, or begins with `ok`. Its commands that write, write bytes. Among lines that say commands, a
 /// mutator's are those that have its number after the name, but for `log`, after which a log's number stands, and for `mark` and
 /// `evacuate`, after which a number of objects stands.
 pub fn texts_are_answered()
@@ -37,11 +38,11 @@ pub fn texts_are_answered()
     ensures ends { EndsAreTold }
 {}
 
-/// A heap line may say 2 to 64 logs, 1 to 8 mutators and a first epoch below 2^62. The heap begins with them, with the law and with nothing in it.
+/// A heap line may say 2 to 64 logs, 1 to 8 mutators and a first epoch below 2^62. The heap begins with them, over a device that may lie or may not, with the law and with nothing in it.
 /// After commands each moment has the law, what it names is used, and its objects are whole: each in use has exactly one
 /// place, each log's bytes are 1,024 in all, and no two pointers name one place. Each command is carried out by its events,
 /// those of a dereference among them, whatever marks its object has and wherever it is: they are legal, none is refused,
-/// they keep the law and what views rest on, and end in the moment after it. Where its object is at hand, a pin among them
+/// they keep the law and what views rest on, and end in the moment after it. Where the device gave other bytes they are those that the command has where these are stored. Where its object is at hand, a pin among them
 /// gives a view, and a naming wins. While a round waits, and while objects leave, the logs of the core's round are the chosen ones; else
 /// what a round that was given up has left there has no object in it.
 pub fn moments_are_lawful()
@@ -70,19 +71,20 @@ pub fn views_last()
 /// mutator that the heap hasn't is refused 8. Where the object that it reads, writes, views or tries is near and unmarked, no command after the
 /// heap is refused for want of memory, by a device or for a mark, but those two with counts; for want of a pointer or of room a new object alone is
 /// refused. As the device failed, or gave another number of bytes, a mutator's command is refused only where its object is far, which it stays. From a text on: no more
-/// replies, those with counts among them, say that the device failed than its line says, one at most; none says that it gave another number of bytes.
+/// replies, those with counts among them, say that the device failed, or that it gave another number of bytes, than its line says, one at most; and no more commands are given other bytes.
 pub fn refusals_leave_all()
     ensures stay { RefusalsStay }
     ensures nothing { RefusalsChangeNothing }
     ensures unknown { UnknownMutatorsAreRefused }
     ensures near { NearRefusals }
     ensures far { DeviceRefusesFar }
-    ensures few { FailuresAreSaid }
+    ensures few { FlawsAreSaid }
 {}
 
 /// The replies to one mutator's lines are what its own lines alone say: its own, and no others, say what it knows. What
 /// it knows then, its scope, its objects' bytes and which of them it views, is so in the heap after each command. So `new` in
-/// range is refused 3 exactly where all its 128 objects exist.
+/// range is refused 3 exactly where all its 128 objects exist. Where the device tells what was written, so a read gives what was written last. Where it may lie, an object that its mutator
+/// doesn't view may have other bytes, as many, when it is read, written or viewed; all else is as before. From a text on (`outputs_are_sound`) that is so under a line `flip` alone.
 pub fn mutators_are_alone()
     ensures alone { MutatorsAreAlone }
     ensures own { OwnLinesCount }

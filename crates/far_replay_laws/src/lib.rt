@@ -12,5 +12,5 @@ pub use headline::{
     rounds_stand, steps_are_told, steps_leave, texts_are_answered, views_last,
     writes_change_their_range,
 };
-pub use left_beside::others_stay;
+pub use left_beside::{lies_change_one_object, others_stay};
 pub use left_marks::views_mark;

@@ -10,7 +10,7 @@ use Rattle.far_evac.specs.Moment.{nothing, progress_of}
 use Rattle.far_heap.specs.HeapId.{HeapId}
 use Rattle.far_heap.specs.Rounds.{Chose, IsUnchosen, RefusesRound}
 use Rattle.far_text.specs.Command.{Policy}
-use Rattle.far_replay.specs.Moment.{FarSide}
+use Rattle.far_split.specs.FarSides.{FarSide}
 use Rattle.far_split.specs.BookTold.{Gives, StopsRound, none_done}
 
 module _ {P : Type 0} (gives : P → List LogRow → ℕ → Result (List ℕ) Refusal → P → Type 0) (policy : Policy)

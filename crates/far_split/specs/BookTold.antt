@@ -24,8 +24,8 @@ use Rattle.far_text.specs.Command.{Command, Book, Evacuator, Logs as AsksLogs, L
 use Rattle.far_replay.specs.declared.reply.Counts.{Counts}
 use Rattle.far_replay.specs.declared.reply.LogLine.{LogLine}
 use Rattle.far_replay.specs.Reply.{Reply, Audited, Ended, Halted, Logs, Refused}
-use Rattle.far_replay.specs.Moment.{FarSide}
 use Rattle.far_replay.specs.Turn.{log_line}
+use Rattle.far_split.specs.FarSides.{FarSide}
 
 -- at some moment, while the lock was held, this was so of the heap's book. It was lawful then
 pub record BookStood (heap : HeapId) (P : Moment → Type 0) : Type 0 where

@@ -55,8 +55,8 @@ Unhindered m o _ _ = ⊥
 
 -- what is allowed of a mutator that is alone is allowed here, if the far side is honest
 abbrev pub AloneIsAloneHere : Type 0
-AloneIsAloneHere = (m : ℕ) (o : Own) (cs : List Command) (rs : List Reply) → AreBy m cs → AreUndamaged rs → Alone m o cs rs → AloneHere m o cs rs
+AloneIsAloneHere = (m : ℕ) (o : Own) (cs : List Command) (rs : List Reply) → AreBy m cs → AreUndamaged rs → Alone true m o cs rs → AloneHere m o cs rs
 
 -- what isn't hindered here is allowed of a mutator that is alone
 abbrev pub UnhinderedIsAlone : Type 0
-UnhinderedIsAlone = (m : ℕ) (o : Own) (cs : List Command) (rs : List Reply) → AreBy m cs → Unhindered m o cs rs → Alone m o cs rs
+UnhinderedIsAlone = (m : ℕ) (o : Own) (cs : List Command) (rs : List Reply) → AreBy m cs → Unhindered m o cs rs → Alone true m o cs rs

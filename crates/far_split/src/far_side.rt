@@ -12,13 +12,14 @@ use std::alloc::Global;
 /// A device in memory, of which one call may fail.
 pub(crate) type FarSide = FailAt<MemDevice>;
 
-// Which write or read is to fail, counted together from 1; 0 is none.
+// Which write or read is to fail, counted together from 1; 0 is none. A split text says no device that lies.
 fn failing_call(device: Option<Device>) -> u64
     ensures { result ≡ failing (option_map as_device device) }
 {
     match device {
         Some(device) => match device.flaw {
             Flaw::Fail => device.call,
+            Flaw::Short | Flaw::Flip => 0,
         },
         None => 0,
     }

@@ -7,7 +7,7 @@ use Rattle.std.proofs.lemmas.Bool.Decides.{Decides-ltb}
 use Rattle.std.proofs.lemmas.List.{length-map}
 use Rattle.hex.specs.Hex.{IsBytes}
 use Rattle.std.proofs.lemmas.Slice.Eq.{bytes_eq-Decides}
-use Rattle.far_text.specs.Command.{Entry, HeapLine, DeviceLine, Flawed, Flaw, Fail, CommandLine, New, Open, Write, Read, Close, Where, Drop, View, Try, Epoch, Logs, Log, Audit, Mutator, Book, Evacuator, Policy, Oldest, LeastLive, By, Script, Step, Select, Mark, Wait, Evacuate, Abort, Round}
+use Rattle.far_text.specs.Command.{Entry, HeapLine, DeviceLine, Flawed, Flaw, Fail, Short, Flip, CommandLine, New, Open, Write, Read, Close, Where, Drop, View, Try, Epoch, Logs, Log, Audit, Mutator, Book, Evacuator, Policy, Oldest, LeastLive, By, Script, Step, Select, Mark, Wait, Evacuate, Abort, Round}
 use Rattle.far_text.specs.Says.{Says, Spells, AreLogs, flaw_name, policy_name}
 use Rattle.far_text.specs.Grammar.{says_heap, asks_read, asks_write, asks_open, asks_close, asks_new, asks_where, asks_drop, asks_view, asks_try, asks_epoch, asks_log, asks_mark, asks_evacuate, asks_select, asks_round, asks_script, select_by, round_by, device_by, flaw_of, says_device, policy_of, log_of, each_log, logs_of, limited, step_line, perhaps, From, Operands, Numbers, NumbersAndOneOr, NumbersAndBytes, WordThen, number_of, bytes_in, next_number, last_bytes, numbers_then, one_or, entry_at_end, entry_from, steps, table, found_in, entry_of, ◌>>=◌}
 use Rattle.far_text.proofs.Each.{Each}
@@ -35,6 +35,8 @@ policy_read LeastLive = refl
 
 flaw_read : (flaw : Flaw) → flaw_of (flaw_name flaw) ≡ Some flaw
 flaw_read Fail = refl
+flaw_read Short = refl
+flaw_read Flip = refl
 
 no_script : (policy : Policy) → bytes_eq (policy_name policy) (codes "script") ≡ false
 no_script Oldest = refl
@@ -373,7 +375,13 @@ round_said (word ∷ words) c e =
 flaw_only : (word : List ℕ) (flaw : Flaw) → flaw_of word ≡ Some flaw → word ≡ flaw_name flaw
 flaw_only word flaw e = elim (chosen (bytes_eq word (codes "fail")) _ _ (Some flaw) e) [
   | inl k ↦ let same : Fail ≡ flaw = cc k.1 in (bytes_eq-Decides word (codes "fail")).0 k.0 ∙ ap flaw_name same
-  | inr k ↦ absurd (cc k.1)
+  | inr k ↦ elim (chosen (bytes_eq word (codes "short")) _ _ (Some flaw) k.1) [
+    | inl j ↦ let same : Short ≡ flaw = cc j.1 in (bytes_eq-Decides word (codes "short")).0 j.0 ∙ ap flaw_name same
+    | inr j ↦ elim (chosen (bytes_eq word (codes "flip")) _ _ (Some flaw) j.1) [
+      | inl i ↦ let same : Flip ≡ flaw = cc i.1 in (bytes_eq-Decides word (codes "flip")).0 i.0 ∙ ap flaw_name same
+      | inr i ↦ absurd (cc i.1)
+    ]
+  ]
 ]
 
 flaw_then : (word : List ℕ) (f : Flaw → Option Entry) (c : Entry) → (flaw_of word >>= f) ≡ Some c → (flaw : Flaw) × (word ≡ flaw_name flaw) × (f flaw ≡ Some c)

@@ -123,7 +123,7 @@ sought_none number (line ∷ lines) cs (inl h) = ap (λ l. device_at number l li
 sought_none number (line ∷ lines) cs (inr h) = ap (λ l. device_at number l lines (device_sought (number + 1) lines)) (speaks_is line (CommandLine h.0) h.3)
 
 -- a device's line after lines that say nothing
-sought_device : (number : ℕ) (between : List (List ℕ)) (line : List ℕ) (more : List (List ℕ)) (device : Device) → LinesSay between [] → Speaks line (DeviceLine device) →
+pub sought_device : (number : ℕ) (between : List (List ℕ)) (line : List ℕ) (more : List (List ℕ)) (device : Device) → LinesSay between [] → Speaks line (DeviceLine device) →
     device_sought number (between ++ line ∷ more) ≡ DeviceAt device (number + length between) more
 sought_device number [] line more device h speaks =
     let at : number ≡ number + 0 = omega arith in

@@ -6,7 +6,7 @@ use Rattle.far_text.specs.declared.command.Command.{Command as Spelled}
 use Rattle.far_text.specs.declared.command.Command.TheVariants.{Mutator as SpelledMutator, Book as SpelledBook, Evacuator as SpelledEvacuator}
 use Rattle.far_text.specs.declared.command.Device.{Device as SpelledDevice}
 use Rattle.far_text.specs.declared.command.Flaw.{Flaw as SpelledFlaw}
-use Rattle.far_text.specs.declared.command.Flaw.TheVariants.{Fail as SpelledFail}
+use Rattle.far_text.specs.declared.command.Flaw.TheVariants.{Fail as SpelledFail, Short as SpelledShort, Flip as SpelledFlip}
 use Rattle.far_text.specs.declared.command.Inquiry.{Inquiry as SpelledInquiry}
 use Rattle.far_text.specs.declared.command.Inquiry.TheVariants.{Logs as SpelledLogs, Log as SpelledLog, Audit as SpelledAudit}
 use Rattle.far_text.specs.declared.command.Policy.{Policy as SpelledPolicy}
@@ -59,9 +59,11 @@ pub data Command : Type 0 where
   Book : (inquiry : Inquiry) → Command
   Evacuator : (step : Step) → Command
 
--- what is wrong in one call of a heap's device: it fails
+-- what is wrong in one call of a heap's device: it fails; or it lies, in a read that gives a byte less, or each byte inverted
 pub data Flaw : Type 0 where
   Fail : Flaw
+  Short : Flaw
+  Flip : Flaw
 
 -- a heap's device: what is wrong, and in which of the calls that are counted for it, from 1; 0 is none
 pub data Device : Type 0 where
@@ -102,6 +104,8 @@ as_policy SpelledLeastLive = LeastLive
 
 abbrev pub as_flaw : SpelledFlaw → Flaw
 as_flaw SpelledFail = Fail
+as_flaw SpelledShort = Short
+as_flaw SpelledFlip = Flip
 
 abbrev pub as_device : SpelledDevice → Device
 as_device device = Flawed (as_flaw device.flaw) device.call

@@ -4,7 +4,7 @@ use Rattle.std.specs.Str.{bytes_eq}
 use Rattle.std.specs.Str.Parse.{digits_value}
 use Rattle.std.specs.List.{slice_split, list_all}
 use Rattle.std.specs.Option.{option_map, option_and_then}
-use Rattle.far_text.specs.Command.{Command, Entry, HeapLine, DeviceLine, Device, Flawed, Flaw, Fail, CommandLine, Trace, Nothing, Heap, New, Open, Write, Read, Close, Where, Drop, View, Try, Epoch, Logs, Log, Audit, Mutator, Book, Evacuator, Policy, Oldest, LeastLive, By, Script, Step, Select, Mark, Wait, Evacuate, Abort, Round}
+use Rattle.far_text.specs.Command.{Command, Entry, HeapLine, DeviceLine, Device, Flawed, Flaw, Fail, Short, Flip, CommandLine, Trace, Nothing, Heap, New, Open, Write, Read, Close, Where, Drop, View, Try, Epoch, Logs, Log, Audit, Mutator, Book, Evacuator, Policy, Oldest, LeastLive, By, Script, Step, Select, Mark, Wait, Evacuate, Abort, Round}
 use Rattle.far_text.specs.HexWord.{is_hex_word, hex_bytes}
 use Rattle.far_text.specs.declared.command.TheConstants.{MOST_CHOSEN, LOG_NAMES}
 use Rattle.far_text.specs.declared.hex_word.TheConstants.{LONGEST_LINE, LONGEST_BYTES}
@@ -121,7 +121,8 @@ asks_log log = CommandLine (Book (Log log))
 
 -- what is wrong in a call of the device, as a word names it
 abbrev pub flaw_of : List ℕ → Option Flaw
-flaw_of word = if bytes_eq word (codes "fail") then Some Fail else None
+flaw_of word =
+    if bytes_eq word (codes "fail") then Some Fail else (if bytes_eq word (codes "short") then Some Short else (if bytes_eq word (codes "flip") then Some Flip else None))
 
 abbrev pub says_device : Flaw → From 1 (Option Entry)
 says_device flaw call = Some (DeviceLine (Flawed flaw call))

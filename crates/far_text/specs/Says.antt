@@ -3,7 +3,7 @@ use Rattle.std.specs.Prelude.{◌≡◌, ◌⊎◌, ℕ, ◌<◌, ◌≤◌, ◌
 use Rattle.hex.specs.Hex.{decode_of, IsBytes}
 use Rattle.far_text.specs.declared.command.TheConstants.{MOST_CHOSEN}
 use Rattle.far_text.specs.declared.hex_word.TheConstants.{LONGEST_LINE, LONGEST_BYTES}
-use Rattle.far_text.specs.Command.{Entry, HeapLine, DeviceLine, Flawed, Flaw, Fail, CommandLine, New, Open, Write, Read, Close, Where, Drop, View, Try, Epoch, Logs, Log, Audit, Mutator, Book, Evacuator, Policy, Oldest, LeastLive, By, Script, Select, Mark, Wait, Evacuate, Abort, Round}
+use Rattle.far_text.specs.Command.{Entry, HeapLine, DeviceLine, Flawed, Flaw, Fail, Short, Flip, CommandLine, New, Open, Write, Read, Close, Where, Drop, View, Try, Epoch, Logs, Log, Audit, Mutator, Book, Evacuator, Policy, Oldest, LeastLive, By, Script, Select, Mark, Wait, Evacuate, Abort, Round}
 
 -- A word in hex stands for these bytes, one at least; a word is no longer than a line.
 abbrev pub Spells : List ℕ → List ℕ → Type 0
@@ -17,6 +17,8 @@ policy_name LeastLive = codes "leastlive"
 -- The name of what is wrong in a call of a device.
 abbrev pub flaw_name : Flaw → List ℕ
 flaw_name Fail = codes "fail"
+flaw_name Short = codes "short"
+flaw_name Flip = codes "flip"
 
 -- Numbers that a script may name as logs: bytes, one at least, and no more than a line has room for.
 abbrev pub AreLogs : List ℕ → Type 0

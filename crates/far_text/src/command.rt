@@ -113,6 +113,10 @@ pub enum Command<'a> {
 pub enum Flaw {
     /// The device fails, in a write or a read, counted together.
     Fail,
+    /// A read gives a byte less than was written. Reads alone are counted.
+    Short,
+    /// A read gives each byte inverted. Reads alone are counted.
+    Flip,
 }
 
 /// A heap's device: what is wrong, and in which of the calls that are counted for it, from 1; 0 is none.
@@ -418,6 +422,12 @@ fn flaw_named(word: &[u8]) -> Option<Flaw>
 {
     if is_name(word, b"fail") {
         return Some(Flaw::Fail);
+    }
+    if is_name(word, b"short") {
+        return Some(Flaw::Short);
+    }
+    if is_name(word, b"flip") {
+        return Some(Flaw::Flip);
     }
     None
 }

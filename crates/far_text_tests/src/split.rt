@@ -129,7 +129,7 @@ fn a_text_may_say_nothing(rt: HostRuntime) -> Result<(), Fail> {
 
 #[test]
 fn lines_of_nobody_are_refused(rt: HostRuntime) -> Result<(), Fail> {
-    let lines: [&[u8]; 14] = [
+    let lines: [&[u8]; 20] = [
         b"heap 4 1\nnew 0 8 1\nround oldest 1 9\nepoch 0",
         b"heap 4 1\nnew 0 8 1\nlogs\nwhere 0 0\nepoch 0",
         b"heap 4 1\n\n\nselect oldest 1\nlogs",
@@ -146,6 +146,13 @@ fn lines_of_nobody_are_refused(rt: HostRuntime) -> Result<(), Fail> {
         // a mutator that the heap hasn't
         b"heap 4 2\nopen 0\nopen 1\nopen 2\nlog 99",
         b"heap 4 2\nopen 0\nlog 99\nwrite 18446744073709551615 0 0 00\nopen 2",
+        // a device that lies, or a second one
+        b"heap 4 1\n# it\n\ndevice short 1\nlogs",
+        b"heap 4 1\n\n# it\ndevice flip 0\nepoch 0",
+        b"\n# first\nheap 4 1\ndevice flip 18446744073709551615",
+        b"heap 4 1\ndevice fail 1\nlogs\ndevice short 1",
+        b"\nheap 4 1\ndevice fail 1\ndevice flip 1",
+        b"heap 4 1\nlogs\nlogs\ndevice fail 1",
     ];
     for text in lines {
         assert!(rt; is_refused_at(rt.alloc(), text, 4));

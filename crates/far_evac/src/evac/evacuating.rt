@@ -119,17 +119,15 @@ impl<N: Hand + Drop, D: Device + Drop> Evac<N, D> {
     {
         self.keeps_law();
         let _collection = self.collection().len();
-        let mut first = self.settle(progress);
         for _ in 0..n {
-            let Some(span) = first else {
+            let Some(span) = self.settle(progress) else {
                 return Ok(true);
             };
             if let Err(why) = self.deal(span, progress) {
                 return Err(why);
             }
-            first = self.settle(progress);
         }
-        Ok(first.is_none())
+        Ok(self.settle(progress).is_none())
     }
 
     // Gives back the logs in front without live objects, and counts them; the span of the first live object that is left, or none, and
@@ -172,12 +170,17 @@ impl<N: Hand + Drop, D: Device + Drop> Evac<N, D> {
         }
     }
 
-    // The first of them.
+    // The first of them, while objects leave.
     fn front(&self) -> Option<u8>
+        requires phase { self.now.phase ≡ cond (is_empty self.now.collection) phase.Idle phase.Evacuating }
         ensures some { IfSome result (λ log. (logs : List ℕ) × (self.now.collection ≡ log ∷ logs)) }
         ensures none { IfNone result (self.now.collection ≡ []) }
     {
-        self.collection().first().copied()
+        self.keeps_law();
+        match self.round.phase {
+            Phase::Evacuating => Some(self.round.chosen.as_slice()[self.round.index]),
+            _ => None,
+        }
     }
 
     // The span of the first live object of the log in front, where the evacuation stands then; none, where no object lives there.

@@ -1,5 +1,6 @@
-//! Talks to heaps whose device fails in one call.
+//! Talks to heaps whose device fails in one call, or lies in one read.
 
+use super::rounds::PLAIN_ROUND;
 use super::talk::is_answered;
 use far_replay::{End, run};
 use std::process::Abort;
@@ -154,54 +155,215 @@ read 0 0 0 8
   data 0000000000000000
 ";
 
-const TALKS: [&str; 5] = [DEVICE_FAILS, ROUND_GOES_ON, READ_FAILS, VIEW_FAILS, NEVER];
+/// A read lacks its last byte: the object stays far, with HOT, and comes at the next one.
+const SHORT: &str = "\
+heap 4 1
+  ok
+device short 1
+  ok
+new 0 8 1
+  pointer 0
+new 0 1016 1
+  pointer 1
+round oldest 1 9
+  round done moved 0 far 1 dropped 0 freed 1
+open 0
+  ok
+read 0 0 0 8
+  refused 11
+where 0 0
+  far h
+read 0 0 0 8
+  data 0000000000000000
+";
+
+/// A read has its byte inverted; all else is as it is without a lie.
+const FLIP: &str = "\
+heap 4 1
+  ok
+device flip 1
+  ok
+new 0 1 1
+  pointer 0
+new 0 1016 1
+  pointer 1
+round oldest 1 9
+  round done moved 0 far 1 dropped 0 freed 1
+open 0
+  ok
+read 0 0 0 1
+  data ff
+log 0
+  log 0 open live 16 dead 0 unused 1008
+";
+
+/// The second read is short, after two writes, which aren't counted: of one byte it leaves none, and what was to be written isn't.
+const SHORT_LATER: &str = "\
+heap 5 1
+  ok
+device short 2
+  ok
+new 0 8 1
+  pointer 0
+new 0 1 1
+  pointer 1
+open 0
+  ok
+write 0 0 0 0102030405060708
+  ok
+write 0 1 0 bb
+  ok
+close 0
+  ok
+new 0 1016 1
+  pointer 2
+round oldest 1 9
+  round done moved 2 far 0 dropped 0 freed 1
+new 0 1016 1
+  pointer 3
+round leastlive 1 9
+  round done moved 0 far 2 dropped 0 freed 1
+open 0
+  ok
+read 0 0 0 8
+  data 0102030405060708
+write 0 1 0 cc
+  refused 11
+where 0 1
+  far h
+read 0 1 0 1
+  data bb
+";
+
+/// The inverted bytes are the object's from then on: what is written over one of them goes far beside the others.
+const FLIP_STAYS: &str = "\
+heap 5 1
+  ok
+device flip 1
+  ok
+new 0 8 1
+  pointer 0
+new 0 1016 1
+  pointer 1
+round oldest 1 9
+  round done moved 0 far 1 dropped 0 freed 1
+open 0
+  ok
+write 0 0 0 01
+  ok
+close 0
+  ok
+new 0 1016 1
+  pointer 2
+round leastlive 1 9
+  round done moved 1 far 0 dropped 0 freed 1
+new 0 1016 1
+  pointer 3
+round leastlive 1 9
+  round done moved 0 far 1 dropped 0 freed 1
+where 0 0
+  far -
+open 0
+  ok
+read 0 0 0 8
+  data 01ffffffffffffff
+";
+
+const TALKS: [&str; 9] = [
+    DEVICE_FAILS,
+    ROUND_GOES_ON,
+    READ_FAILS,
+    VIEW_FAILS,
+    NEVER,
+    SHORT,
+    FLIP,
+    SHORT_LATER,
+    FLIP_STAYS,
+];
 
 #[test]
-fn devices_fail(rt: HostRuntime) -> Result<(), Fail> {
+fn devices_are_flawed(rt: HostRuntime) -> Result<(), Fail> {
     for talk in TALKS {
         is_answered(&rt, talk)?;
     }
     Ok(())
 }
 
-/// A row whose device fails in this call, an abort where a round runs, and reads of all objects, twice. Whether a reply was
-/// refused 10; the last reads give these bytes either way.
-fn fails_at(
+/// The plain round asks for one read.
+#[test]
+fn a_lie_may_never_come(rt: HostRuntime) -> Result<(), Fail> {
+    let Some(rest) = PLAIN_ROUND.strip_prefix("heap 4 1\n  ok\n") else {
+        return Err("its heap is another".into());
+    };
+    for device in ["short 0", "flip 0", "short 2", "flip 18446744073709551615"] {
+        let talk = format!(in rt.alloc(); "heap 4 1\n  ok\ndevice {device}\n  ok\n{rest}")?;
+        is_answered(&rt, &talk)?;
+    }
+    Ok(())
+}
+
+/// Commands after a heap, reads of all its objects, and what they give: the bytes, or those after a read that was inverted.
+#[derive(Clone, Copy)]
+struct Row {
+    commands: &'static str,
+    reads: &'static str,
+    bytes: &'static str,
+    inverted: &'static str,
+}
+
+/// A flaw of a device, and how replies show it.
+#[derive(Clone, Copy)]
+struct Flawed {
+    name: &'static str,
+    shown: &'static str,
+}
+
+/// A row whose device has its flaw in this call, an abort where a round runs, and reads of all objects, twice. Whether the replies
+/// show it; only an inverted read changes what the last reads give.
+fn shows_at(
     rt: &(impl Abort + AllocGlobal),
-    row: &str,
-    reads: &str,
-    bytes: &str,
+    row: Row,
+    flaw: Flawed,
     call: u64,
 ) -> Result<bool, Fail> {
+    let Row {
+        commands,
+        reads,
+        bytes,
+        inverted,
+    } = row;
+    let Flawed { name, shown } = flaw;
     let text = format!(in rt.alloc();
-        "heap 4 1\ndevice fail {call}\n{row}close 0\nabort\nopen 0\n{reads}{reads}"
+        "heap 4 1\ndevice {name} {call}\n{commands}close 0\nabort\nopen 0\n{reads}{reads}"
     )?;
     let mut reader = text.as_bytes();
     let mut written = Vec::new(rt.alloc());
     let ended = run(rt.alloc(), &mut reader, &mut written);
     let told = String::from_utf8_lossy(rt.alloc(), &written)?;
     assert_eq!(rt; ended, Ok(End::Ran), "at {call}");
-    assert!(rt; told.ends_with(bytes), "at {call}");
-    Ok(told.contains("refused 10"))
+    let is_shown = told.contains(shown);
+    let last = if is_shown && name == "flip" {
+        inverted
+    } else {
+        bytes
+    };
+    assert!(rt; told.ends_with(last), "at {call}");
+    Ok(is_shown)
 }
 
-/// In how many calls, one after the other, the device of a row may fail: fewer than nine.
-fn fail_each(
-    rt: &(impl Abort + AllocGlobal),
-    row: &str,
-    reads: &str,
-    bytes: &str,
-) -> Result<u64, Fail> {
+/// In how many calls, one after the other, the device of a row may have its flaw: fewer than nine.
+fn shows_each(rt: &(impl Abort + AllocGlobal), row: Row, flaw: Flawed) -> Result<u64, Fail> {
     for call in 1..9u64 {
-        if !fails_at(rt, row, reads, bytes, call)? {
+        if !shows_at(rt, row, flaw, call)? {
             return Ok(call - 1);
         }
     }
-    Err("it fails nine times".into())
+    Err("it shows nine times".into())
 }
 
 /// The plain round.
-const PLAIN_ROW: &str = "\
+const PLAIN_ROW: Row = Row {
+    commands: "\
 new 0 8 1
 new 0 8 1
 open 0
@@ -219,10 +381,15 @@ open 0
 read 0 0 0 8
 read 0 1 0 8
 where 0 1
-";
+",
+    reads: "read 0 0 0 8\nread 0 1 0 8\n",
+    bytes: "data 0102030405060708\ndata 0000000000000000\n",
+    inverted: "data 0102030405060708\ndata ffffffffffffffff\n",
+};
 
 /// A hot object goes far, since there is no room.
-const HOT_ROW: &str = "\
+const HOT_ROW: Row = Row {
+    commands: "\
 new 0 1016 1
 new 0 1016 1
 new 0 1016 1
@@ -236,17 +403,22 @@ open 0
 view 0 1
 evacuate 9
 where 0 0
-";
+",
+    reads: "read 0 0 0 1\nread 0 1 0 1\nread 0 2 0 1\n",
+    bytes: "data 00\ndata 00\ndata 00\n",
+    inverted: "data ff\ndata 00\ndata 00\n",
+};
 
 #[test]
-fn each_call_fails(rt: HostRuntime) -> Result<(), Fail> {
-    let reads = "read 0 0 0 8\nread 0 1 0 8\n";
-    let bytes = "data 0102030405060708\ndata 0000000000000000\n";
-    assert_eq!(rt; fail_each(&rt, PLAIN_ROW, reads, bytes)?, 2);
-    let reads = "read 0 0 0 1\nread 0 1 0 1\nread 0 2 0 1\n";
-    assert_eq!(rt;
-        fail_each(&rt, HOT_ROW, reads, "data 00\ndata 00\ndata 00\n")?,
-        2
-    );
+fn each_call_is_flawed(rt: HostRuntime) -> Result<(), Fail> {
+    for (name, shown, calls) in [
+        ("fail", "refused 10", 2),
+        ("short", "refused 11", 1),
+        ("flip", "ff", 1),
+    ] {
+        let flaw = Flawed { name, shown };
+        assert_eq!(rt; shows_each(&rt, PLAIN_ROW, flaw)?, calls);
+        assert_eq!(rt; shows_each(&rt, HOT_ROW, flaw)?, calls);
+    }
     Ok(())
 }

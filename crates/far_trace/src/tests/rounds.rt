@@ -4,7 +4,7 @@ use super::talk::is_answered;
 use std::test::Fail;
 
 /// A round moves what was used lately, sends the rest far, and gives the log back.
-const PLAIN_ROUND: &str = "\
+pub const PLAIN_ROUND: &str = "\
 heap 4 1
   ok
 new 0 8 1

@@ -101,8 +101,6 @@ const BAD_TEXTS: &str = "\
 2 heap 4 1/device fail 01
 2 heap 4 1/device fail 1 1
 2 heap 4 1/device fail 18446744073709551616
-2 heap 4 1/device short 1
-2 heap 4 1/device flip 1
 2 heap 4 1/device Fail 1
 3 heap 4 1/device fail 0/device fail 0
 3 heap 4 1/device fail 1/heap 4 1

@@ -11,7 +11,10 @@ use Rattle.far_replay.specs.Events.{events_for}
 use Rattle.far_replay.specs.Moment.{moment_in, state_in}
 use Rattle.far_replay.specs.Objects.{uses}
 use Rattle.far_replay.proofs.Drops.{ask_fact, asked_is_dropped, dropped_by_events, unheld_is}
+use Rattle.far_replay.specs.Commanded.{Serves}
+use Rattle.far_replay.proofs.FarReads.{go_no_more}
 use Rattle.far_replay.proofs.RangeTurns.{uses_own}
+use Rattle.far_replay.proofs.Spending.{spent_first, spent_none, spent_same}
 use Rattle.far_replay.proofs.dropping.drop_object.Goals as goal
 
 pub retire-requires-clause-dropped : goal.retire-requires-clause-dropped
@@ -34,3 +37,8 @@ returns-clause-state c =
     let asked = (c.owner.ensures.legal refl (ask_fact s c.args.owner p c.requires.law c.requires.known ours unheld)).0 in
     dropped_by_events (moment_in c.args.evac.now) (state_in c.retire.new.self) c.args.owner p c.requires.law c.requires.known ours unheld (c.retire.ensures.exact tt ∙ ap (λ (t : State). retired t p) asked)
     ∙ ap (λ q. after_events s (events_for (moment_in c.args.evac.now) (Mutator c.args.owner (Drop q)))) own.0
+
+pub returns-clause-spent : goal.returns-clause-spent
+returns-clause-spent c =
+    spent_first Serves c.args.evac.now c.owner.new.self c.retire.new.self (spent_same c.args.evac.now c.owner.new.self c.owner.ensures.device)
+    (spent_none c.owner.new.self c.retire.new.self (go_no_more c.owner.new.self.book.device c.retire.new.self.book.device c.in-Some.pointer c.retire.ensures.called))

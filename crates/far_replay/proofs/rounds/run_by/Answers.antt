@@ -5,6 +5,7 @@ use Rattle.far_text.specs.Command.{as_policy}
 use Rattle.far_replay.specs.Moment.{moment_in}
 use Rattle.far_replay.proofs.Choices.{least_chosen, least_ends, least_leads, oldest_chosen, oldest_ends}
 use Rattle.far_replay.proofs.Stopping.{round_breaks}
+use Rattle.far_replay.proofs.Walking.{round_spends}
 use Rattle.far_replay.proofs.rounds.run_by.Goals as goal
 
 pub returns-in-LeastLive-clause-moment : goal.returns-in-LeastLive-clause-moment
@@ -44,3 +45,13 @@ returns-in-LeastLive-clause-stopped c =
       | inr bad ↦ (let odd : Device ≡ BadChoice bad.0.0 = sym failed ∙ bad.0.1 in absurd cc)
     ])
     ran.result (λ why bars. (ran.ensures.barred why bars).0) ran.ensures.refused
+
+pub returns-in-Oldest-clause-spent : goal.returns-in-Oldest-clause-spent
+returns-in-Oldest-clause-spent c =
+    let ran = c.run_round_alone in
+    round_spends c.args.evac.now ran.new.self (moment_in c.args.evac.now) (moment_in ran.new.self) c.args.turns _ _ _ _ _ _ _ _ ran.result ran.ensures.asked ran.ensures.barred ran.ensures.refused
+
+pub returns-in-LeastLive-clause-spent : goal.returns-in-LeastLive-clause-spent
+returns-in-LeastLive-clause-spent c =
+    let ran = c.run_round_alone-in-LeastLive in
+    round_spends c.args.evac.now ran.new.self (moment_in c.args.evac.now) (moment_in ran.new.self) c.args.turns _ _ _ _ _ _ _ _ ran.result ran.ensures.asked ran.ensures.barred ran.ensures.refused

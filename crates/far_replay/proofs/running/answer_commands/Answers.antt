@@ -3,12 +3,12 @@ use Rattle.std.specs.List.{flat_map}
 use Rattle.std.specs.Option.{option_map}
 use Rattle.std.proofs.lemmas.List.{drop_all}
 use Rattle.far_replay.specs.Moment.{Moment, moment_in}
-use Rattle.far_replay.specs.Answers.{AnsweredBy, FailsAtMost, opened, to_fail}
+use Rattle.far_replay.specs.Answers.{AnsweredBy, FlawedAtMost, flaws, lie_of, opened}
 use Rattle.far_text.specs.Command.{Command, as_command, as_device}
 use Rattle.far_replay.specs.Outcome.{reply_by}
 use Rattle.far_replay.specs.Reply.{Reply, reply_text}
 use Rattle.far_replay.specs.Stream.{Holds}
-use Rattle.far_replay.proofs.Answering.{answers_all, led_part, answered_more, answered_all, few_refused, printed_more, refused_more}
+use Rattle.far_replay.proofs.Answering.{answers_all, led_part, answered_more, answered_all, printed_more, spoiled_more}
 use Rattle.far_replay.proofs.Lasting.{still_lasts}
 use Rattle.far_replay.proofs.running.answer_commands.Goals as goal
 
@@ -27,7 +27,7 @@ loop-at-init g c =
         [],
         [],
         [],
-        to_fail device,
+        flaws device,
         c.requires.few,
         (λ os h. h),
         (λ os rest more h. h),
@@ -48,7 +48,7 @@ loop-at-preserved g c =
     let r : Reply = reply_by c.turn.new.scratch c.in-Ok.outcome in
     let here = c.at-command.ensures.value in
     let (o, made, spent) = c.in-Ok.ensures.made in
-    let spared = refused_more (to_fail device) left outside o c.loop-at.evac c.turn.new.evac spent few allowed in
+    let spared = spoiled_more (lie_of device) (flaws device) left outside o c.loop-at.evac c.turn.new.evac spent few allowed in
     let held = c.answer_one.ensures start (flat_map reply_text (opened device ++ replies)) holds in
     let lasts = still_lasts now command r next (record { law = c.loop-at.evac.book.near.core.law; round = c.loop-at.invariant.round; between = c.loop-at.invariant.between; strays = c.loop-at.invariant.strays })
     c.at-command.ensures.bytes (o, made) in
@@ -78,7 +78,7 @@ returns-in_default g c =
       outside ++ rest.0,
       replies ++ rest.1,
       moments ++ rest.2,
-      allowed rest.0 (few_refused left rest.0 rest.3),
+      allowed rest.0 (rest.3 (lie_of device) left),
       goes rest.0 rest.1 rest.2 rest.4,
       led_part start (g.W.Write.contents c.loop-at.writer) c.loop-at.replies.waiting c.loop-at.replies.written (opened device) replies (moment_in c.loop-at.evac) (drop c.loop-at.at c.args.commands.now) c.loop-at.evac.book.near.core.law
           (omega (arith, c.loop-at-test.true, c.len-at-end.ensures, length-drop c.loop-at.at c.args.commands.now)) holds,
@@ -93,7 +93,7 @@ returns-in-Ok-finish g c =
       outside,
       replies,
       moments,
-      subst (FailsAtMost (to_fail device)) (append-nil outside) (allowed [] tt),
+      subst (FlawedAtMost (lie_of device) (flaws device)) (append-nil outside) (allowed [] tt),
       answered_all (moment_in c.args.evac) (moment_in c.loop-at.evac) c.args.commands.now outside replies moments (drop c.loop-at.at c.args.commands.now) none goes,
       c.in-Ok-finish.ensures start (flat_map reply_text (opened device ++ replies)) holds,
     )
@@ -107,7 +107,7 @@ returns g c =
       outside,
       replies,
       moments,
-      subst (FailsAtMost (to_fail device)) (append-nil outside) (allowed [] tt),
+      subst (FlawedAtMost (lie_of device) (flaws device)) (append-nil outside) (allowed [] tt),
       answered_all (moment_in c.args.evac) (moment_in c.loop-at.evac) c.args.commands.now outside replies moments (drop c.loop-at.at c.args.commands.now) none goes,
       c.in-Err.ensures start (flat_map reply_text (opened device ++ replies)) holds,
     )

@@ -3,8 +3,8 @@ use Rattle.std.specs.Option.{option_map}
 use Rattle.std.specs.List.{flat_map}
 use Rattle.far_evac.specs.MomentLaw.{MomentLaw}
 use Rattle.far_evac.specs.Strays.{NoneStrays}
-use Rattle.far_replay.specs.Answers.{AnsweredBy, FailsAtMost, Outside, opened, to_fail}
-use Rattle.far_replay.specs.Spent.{may_fail}
+use Rattle.far_replay.specs.Answers.{AnsweredBy, FlawedAtMost, Outside, flaws, lie_of, opened}
+use Rattle.far_replay.specs.Spent.{may_spoil}
 use Rattle.far_text.specs.Command.{as_device}
 use Rattle.far_replay.specs.Moment.{Moment, moment_in, state_in}
 use Rattle.far_replay.specs.Reply.{Reply, reply_text}
@@ -17,7 +17,8 @@ invariant-loop-at g l = let contents = g.W.Write.contents in let device = option
   between : Between (state_in l.evac);
   round : MomentLaw (moment_in l.evac);
   strays : NoneStrays (moment_in l.evac);
-  ran : (outside : List Outside) × (replies : List Reply) × (moments : List Moment) × (left : ℕ) × may_fail l.evac left × ((os : List Outside) → FailsAtMost left os → FailsAtMost (to_fail device) (outside ++ os))
+  ran : (outside : List Outside) × (replies : List Reply) × (moments : List Moment) × (left : ℕ) × may_spoil (lie_of device) l.evac left
+      × ((os : List Outside) → FlawedAtMost (lie_of device) left os → FlawedAtMost (lie_of device) (flaws device) (outside ++ os))
       × ((os : List Outside) (rest : List Reply) (more : List Moment) → AnsweredBy os (moment_in l.evac) (drop l.at l.commands) rest more
       → AnsweredBy (outside ++ os) (moment_in l.fn.evac) l.commands (replies ++ rest) (moments ++ more))
       × Holds (contents l.fn.writer) (contents l.writer) l.replies.waiting l.replies.written (flat_map reply_text (opened device ++ replies));

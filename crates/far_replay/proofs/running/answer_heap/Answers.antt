@@ -2,6 +2,9 @@ use Rattle.std.proofs.Common.{inl, inr, subst, sym}
 use Rattle.far_core.specs.state.Shape.{is_shape}
 use Rattle.far_evac.specs.MomentLaw.{MomentLaw}
 use Rattle.far_evac.specs.Strays.{NoneStrays}
+use Rattle.std.specs.Option.{option_map}
+use Rattle.far_text.specs.Command.{as_device}
+use Rattle.far_replay.specs.Answers.{is_true}
 use Rattle.far_replay.specs.Between.{Between}
 use Rattle.far_replay.specs.Moment.{Moment}
 use Rattle.far_replay.proofs.Opened.{opening_between, opening_round, opening_strays}
@@ -16,14 +19,14 @@ returns-in-Err-Memory-clause-fault g c =
 pub answer_commands-requires-clause-between : goal.answer_commands-requires-clause-between
 answer_commands-requires-clause-between g c =
     let shape = c.args.shape in
-    subst (λ (m : Moment). Between m.core) (sym c.in-Ok.ensures.moment) (opening_between shape.logs shape.mutators shape.epoch c.in-Ok.ensures.range)
+    subst (λ (m : Moment). Between m.core) (sym c.in-Ok.ensures.moment) (opening_between shape.logs shape.mutators shape.epoch (is_true (option_map as_device c.args.device)) c.in-Ok.ensures.range)
 
 pub answer_commands-requires-clause-round : goal.answer_commands-requires-clause-round
 answer_commands-requires-clause-round g c =
     let shape = c.args.shape in
-    subst MomentLaw (sym c.in-Ok.ensures.moment) (opening_round shape.logs shape.mutators shape.epoch c.in-Ok.ensures.range)
+    subst MomentLaw (sym c.in-Ok.ensures.moment) (opening_round shape.logs shape.mutators shape.epoch (is_true (option_map as_device c.args.device)) c.in-Ok.ensures.range)
 
 pub answer_commands-requires-clause-strays : goal.answer_commands-requires-clause-strays
 answer_commands-requires-clause-strays g c =
     let shape = c.args.shape in
-    subst NoneStrays (sym c.in-Ok.ensures.moment) (opening_strays shape.logs shape.mutators shape.epoch c.in-Ok.ensures.range)
+    subst NoneStrays (sym c.in-Ok.ensures.moment) (opening_strays shape.logs shape.mutators shape.epoch (is_true (option_map as_device c.args.device)) c.in-Ok.ensures.range)

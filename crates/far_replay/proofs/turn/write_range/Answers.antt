@@ -1,10 +1,24 @@
-use Rattle.std.proofs.Common.{◌≡◌, OnOk, subst}
+use Rattle.std.proofs.Common.{◌≢◌, subst, sym, ap, ◌∙◌}
+use Rattle.std.specs.Prelude.{IfErr, IfOk}
+use Rattle.far_word.specs.declared.refused.Refused.TheVariants.{Memory}
 use Rattle.far_text.specs.Command.{Command, Mutator, Write}
-use Rattle.far_replay.specs.Moment.{moment_in}
-use Rattle.far_replay.specs.Turn.{effect}
+use Rattle.far_replay.specs.Interpreter.{refused_in}
+use Rattle.far_replay.specs.Outcome.{reply_by}
+use Rattle.far_replay.specs.Reply.{Refused}
+use Rattle.far_replay.specs.Spent.{Makes}
+use Rattle.far_replay.proofs.Made.{write_barred}
 use Rattle.far_replay.proofs.turn.write_range.Goals as goal
 
-pub returns-in-Ok-clause-moment : goal.returns-in-Ok-clause-moment
-returns-in-Ok-clause-moment c =
+pub returns-in-Ok-clause-made : goal.returns-in-Ok-clause-made
+returns-in-Ok-clause-made c =
     let is = c.in-Ok.ensures.access in
-    subst (λ (x : Command). OnOk c.write.result (moment_in c.write.new.evac ≡ effect (moment_in c.args.evac.now) x)) (λ i. Mutator (is.owner i) (Write (is.pointed i) (is.starts i) c.args.bytes.now)) c.write.ensures.moment
+    subst (λ (x : Command). IfOk c.write.result (λ outcome. Makes c.args.evac.now x (reply_by c.write.new.scratch outcome) c.write.new.evac)) (λ i. Mutator (is.owner i) (Write (is.pointed i) (is.starts i) c.args.bytes.now)) c.write.ensures.made
+
+pub returns-in-Ok-clause-stopped : goal.returns-in-Ok-clause-stopped
+returns-in-Ok-clause-stopped c =
+    let is = c.in-Ok.ensures.access in
+    subst (λ (x : Command). IfErr c.write.result (λ why. why ≢ Memory → Makes c.args.evac.now x (Refused why) c.write.new.evac)) (λ i. Mutator (is.owner i) (Write (is.pointed i) (is.starts i) c.args.bytes.now)) c.write.ensures.stopped
+
+pub returns-in-Err-clause-made : goal.returns-in-Err-clause-made
+returns-in-Err-clause-made c =
+    write_barred c.args.evac.now c.args.owner c.args.pointer c.args.from c.args.bytes.now c.in-Err.why (sym (ap refused_in c.in-Err.is) ∙ c.reach.ensures.refusal)
