@@ -144,6 +144,7 @@ impl<D: Device + Drop> Device for Liar<D> {
           spent = was.spent;
         } };
 
+    #[inline(always)]
     fn write(&mut self, id: u32, bytes: &[u8]) -> Result<(), DeviceFault> {
         self.inner.write(id, bytes)
     }
@@ -157,6 +158,7 @@ impl<D: Device + Drop> Device for Liar<D> {
         Ok(bytes)
     }
 
+    #[inline(always)]
     fn read_into(&mut self, id: u32, buffer: Vec<u8>) -> Result<Vec<u8>, DeviceFault> {
         let lies = self.lies();
         let mut bytes = self.inner.read_into(id, buffer)?;
@@ -166,6 +168,7 @@ impl<D: Device + Drop> Device for Liar<D> {
         Ok(bytes)
     }
 
+    #[inline(always)]
     fn forget(&mut self, id: u32) {
         self.inner.forget(id);
     }
