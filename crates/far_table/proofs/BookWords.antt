@@ -157,8 +157,8 @@ module _ (ws : List ℕ) (b : BookView) (os : List OwnerView) (f : Facts ws b os
 
   got_gets : (q : Bool) → is_quiet_at b l at ≡ q → Gets o (book_state (got_view q a n b)) l at false n
   got_gets true quiet = as_seen false (book_state (put_view a n b)) (masked s o.cell (put (counts b) a true)) (view_masked ws (put_view a n b) os (put (counts b) a true) (got_words (quiet_so quiet)) epoch)
-      (gets s f.law o.cell (counts b) l at false true (λ e. absurd (true≢false e)))
-  got_gets false quiet = as_seen false o known mask (gets s f.law o.cell (counts b) l at false false (λ _. quiet_not quiet))
+      (gets s f.law o.cell (counts b) l at false true (λ _ _. quiet_so quiet) (λ e. absurd (true≢false e)))
+  got_gets false quiet = as_seen false o known mask (gets s f.law o.cell (counts b) l at false false (λ _ e. absurd (false≢true e)) (λ _. quiet_not quiet))
 
   -- ---- a log is given back
   abbrev left : BookView
@@ -194,7 +194,7 @@ module _ (ws : List ℕ) (b : BookView) (os : List OwnerView) (f : Facts ws b os
   free_gets : Gets o (book_state left) l at true n
   free_gets = as_seen true (book_state left) (masked (with_free_log s l) o.cell (λ _. false))
       (view_masked ws left os (λ _. false) free_words epoch ∙ ap (λ (u : State). masked u o.cell (λ _. false)) (sym free_becomes))
-      (gets s f.law o.cell (counts b) l at true true (λ e. absurd (true≢false e)))
+      (gets s f.law o.cell (counts b) l at true true (λ e. absurd (true≢false e)) (λ e. absurd (true≢false e)))
 
   -- ---- a word is written
   module _ (w : ℕ) (h : Legal o (Put l at w)) where
