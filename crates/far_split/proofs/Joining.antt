@@ -3,7 +3,7 @@ use Rattle.std.proofs.Common.{◌≡◌, ◌⊎◌, inl, inr, ℕ, suc, ◌+◌,
 use Rattle.std.specs.Prelude.{IfErr, IfOk, map, ◌==◌, if◌then◌else◌}
 use Rattle.std.specs.Global.{Vec}
 use Rattle.std.specs.List.{AllByRecursion, remove}
-use Rattle.std.proofs.lemmas.Bool.{eqb-false}
+use Rattle.std.proofs.lemmas.Bool.{eqb-false, eqb-true}
 use Rattle.std.proofs.lemmas.List.{get_or-append-add, get_or-map, get_or_append_left, get_or_default, get_or_push, length-map, map-append}
 use Rattle.far_text.specs.Command.{Command}
 use Rattle.far_text.specs.Threads.{OfMutator}
@@ -11,10 +11,11 @@ use Rattle.far_heap.specs.HeapId.{HeapId}
 use Rattle.far_replay.specs.Alone.{nothing}
 use Rattle.far_replay.specs.Reply.{IsShort, Reply}
 use Rattle.far_split.specs.Here.{AloneHere}
-use Rattle.far_split.specs.Jobs.{AreEnds, EndsSo, IsPart, Joins}
+use Rattle.far_split.specs.Jobs.{AreEnds, AreStops, EndsSo, IsPart, IsStop, Joins, StopsSo}
 use Rattle.far_split.specs.Joined.{AllRan, AreShort, IsFault, MayStop, RanSo, as_joined, commands_in, replies_of, who_at}
 use Rattle.far_split.specs.declared.gate.TheConstants.{THE_BOOK}
 use Rattle.far_split.specs.declared.mutators.Stop.{Stop}
+use Rattle.far_split.specs.declared.mutators.Stop.TheVariants as stops
 use Rattle.far_split.specs.declared.split_out.SplitOut.{SplitOut}
 use Rattle.far_split.specs.declared.split_out.SplitOut.TheVariants.{Refused as OutRefused, Ran as OutRan}
 use Rattle.far_split.specs.declared.run.SplitFault.{SplitFault}
@@ -84,18 +85,22 @@ are_short heap lines ends (OutRefused why) are joins = absurd joins
 are_short heap lines ends (OutRan mutators book) are joins = all_short heap lines ends are mutators.items book joins
 
 -- ---- faults
-who_below : (many at : ℕ) → at < many + 1 → (who_at (many + 1) at < many) ⊎ (who_at (many + 1) at ≡ THE_BOOK)
-who_below many at lt = by (at + 1 == many + 1) refl where
-  by : (last : Bool) → (at + 1 == many + 1) ≡ last → ((if last then THE_BOOK else at) < many) ⊎ ((if last then THE_BOOK else at) ≡ THE_BOOK)
-  by true is = inr refl
-  by false is = inl (omega (arith, eqb-false (at + 1) (many + 1) is))
+module _ (refuses : ℕ → ℕ → Type 0) (heap : HeapId) (lines : List (ℕ × Command)) where
+  -- who stands at a place, and was stopped there
+  named_at : (at : ℕ) → at < heap.mutators + 1 → IsStop refuses heap lines at stops.Gate → MayStop refuses heap.mutators lines (faults.Gate (who_at (heap.mutators + 1) at))
+  named_at at lt stop = by (at + 1 == heap.mutators + 1) refl where
+    by : (last : Bool) → (at + 1 == heap.mutators + 1) ≡ last → MayStop refuses heap.mutators lines (faults.Gate (if last then THE_BOOK else at))
+    by true is = inr (refl, stop.told (omega (arith, eqb-true (at + 1) (heap.mutators + 1) is)))
+    by false is = let below : at < heap.mutators = omega (arith, lt, eqb-false (at + 1) (heap.mutators + 1) is) in inl (below, stop.alone below)
 
-pub may_stop : (heap : HeapId) (lines : List (ℕ × Command)) (ends : List End) (fault : SplitFault) → AreEnds heap lines ends → (fault ≡ faults.Memory) ⊎ IsFault ends (Some fault) → MayStop heap.mutators fault
-may_stop heap lines ends faults.Memory are is = tt
-may_stop heap lines ends (faults.Gate who) are (inl memory) = absurd cc
-may_stop heap lines ends (faults.Gate who) are (inr (at, stopped, none, named)) =
-    let same : who ≡ who_at (heap.mutators + 1) at = named ∙ ap (λ many. who_at many at) are.many in
-    subst (λ (k : ℕ). (k < heap.mutators) ⊎ (k ≡ THE_BOOK)) (sym same) (who_below heap.mutators at (omega (arith, stopped.0, are.many)))
+  pub may_stop : (ends : List End) (fault : SplitFault) → AreEnds heap lines ends → AreStops refuses heap lines ends → (fault ≡ faults.Memory) ⊎ IsFault ends (Some fault)
+      → MayStop refuses heap.mutators lines fault
+  may_stop ends faults.Memory are stop is = tt
+  may_stop ends (faults.Gate who) are stop (inl memory) = absurd cc
+  may_stop ends (faults.Gate who) are stop (inr (at, stopped, none, named)) =
+      let same : who ≡ who_at (heap.mutators + 1) at = named ∙ ap (λ many. who_at many at) are.many in
+      let here = subst (StopsSo refuses heap lines at) (stopped.1 (Err stops.Gate)) (stop at (Err stops.Gate) stopped.0) in
+      subst (λ (k : ℕ). MayStop refuses heap.mutators lines (faults.Gate k)) (sym same) (named_at at (omega (arith, stopped.0, are.many)) here)
 
 -- ---- the same of a result
 pub all_ran_so : (heap : HeapId) (lines : List (ℕ × Command)) (ends : List End) (result : Result SplitOut SplitFault) → heap.honest ≡ true → AreEnds heap lines ends → IfOk result (Joins ends)
@@ -107,10 +112,10 @@ pub all_are_short : (heap : HeapId) (lines : List (ℕ × Command)) (ends : List
 all_are_short heap lines ends (Ok out) are joins = are_short heap lines ends out are joins
 all_are_short heap lines ends (Err fault) are joins = tt
 
-pub all_may_stop : (heap : HeapId) (lines : List (ℕ × Command)) (ends : List End) (result : Result SplitOut SplitFault) → AreEnds heap lines ends
-    → IfErr result (λ fault. (fault ≡ faults.Memory) ⊎ IsFault ends (Some fault)) → IfErr result (MayStop heap.mutators)
-all_may_stop heap lines ends (Ok out) are is = tt
-all_may_stop heap lines ends (Err fault) are is = may_stop heap lines ends fault are is
+pub all_may_stop : (refuses : ℕ → ℕ → Type 0) (heap : HeapId) (lines : List (ℕ × Command)) (ends : List End) (result : Result SplitOut SplitFault) → AreEnds heap lines ends → AreStops refuses heap lines ends
+    → IfErr result (λ fault. (fault ≡ faults.Memory) ⊎ IsFault ends (Some fault)) → IfErr result (MayStop refuses heap.mutators lines)
+all_may_stop refuses heap lines ends (Ok out) are stop is = tt
+all_may_stop refuses heap lines ends (Err fault) are stop is = may_stop refuses heap lines ends fault are stop is
 
 -- ---- one thread's replies after the other
 pub took_first : (rest left : List End) (end : End) → 0 < length rest → end ≡ get_or rest 0 end → left ≡ remove rest 0 → rest ≡ end ∷ left

@@ -69,17 +69,21 @@ SplitAnswers (Ok NothingSplit) joined = joined ≡ Ran [] []
 SplitAnswers (Ok (SplitHeap logs mutators epoch device lines)) joined = MatchBool (is_shape (shape_of logs mutators epoch)) (RanSo logs mutators lines joined) (joined ≡ Refused Shape)
 
 -- ---- faults
--- a thread of so many mutators, or the book's, was stopped by its gate; or memory was refused
-abbrev pub MayStop : ℕ → SplitFault → Type 0
-MayStop mutators (faults.Gate who) = (who < mutators) ⊎ (who ≡ THE_BOOK)
-MayStop mutators faults.Memory = Unit {0}
+-- a gate that refuses such lines says no to one of these, which are a thread's
+abbrev pub SaysNo : (ℕ → ℕ → Type 0) → ℕ → List (ℕ × Command) → Type 0
+SaysNo refuses who lines = (turn : ℕ) × (turn < length lines) × refuses who turn
+
+-- a thread of so many mutators, or the book's, was stopped by its gate, at one of its lines; or memory was refused
+abbrev pub MayStop : (ℕ → ℕ → Type 0) → ℕ → List (ℕ × Command) → SplitFault → Type 0
+MayStop refuses mutators lines (faults.Gate who) = ((who < mutators) × SaysNo refuses who (lines_in (OfMutator who) lines)) ⊎ ((who ≡ THE_BOOK) × SaysNo refuses THE_BOOK (lines_in OfBook lines))
+MayStop refuses mutators lines faults.Memory = Unit {0}
 
 -- there are threads on a heap in range alone; memory may be refused of any text
-abbrev pub MayEnd : Result SplitTrace ℕ → SplitFault → Type 0
-MayEnd read faults.Memory = Unit {0}
-MayEnd (Ok (SplitHeap logs mutators epoch device lines)) (faults.Gate who) = (is_shape (shape_of logs mutators epoch) ≡ true) × MayStop mutators (faults.Gate who)
-MayEnd (Ok NothingSplit) (faults.Gate who) = ⊥
-MayEnd (Err line) (faults.Gate who) = ⊥
+abbrev pub MayEnd : (ℕ → ℕ → Type 0) → Result SplitTrace ℕ → SplitFault → Type 0
+MayEnd refuses read faults.Memory = Unit {0}
+MayEnd refuses (Ok (SplitHeap logs mutators epoch device lines)) (faults.Gate who) = (is_shape (shape_of logs mutators epoch) ≡ true) × MayStop refuses mutators lines (faults.Gate who)
+MayEnd refuses (Ok NothingSplit) (faults.Gate who) = ⊥
+MayEnd refuses (Err line) (faults.Gate who) = ⊥
 
 -- ---- how threads ended: the mutators' by number, and the book's last
 -- the one at this place was stopped so

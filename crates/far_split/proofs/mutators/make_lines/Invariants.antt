@@ -13,6 +13,7 @@ invariant-loop-at g l = record {
   number : (mine_in l.slot).number ≡ l.number;
   buffer : length l.told.items + (length l.lines - l.at) ≤ l.told.cap;
   short : AllByRecursion IsShort (map as_reply l.told.items);
+  turns : l.turn ≤ l.at;
   ran : (rest : List Reply) → AloneHere l.number (own_in (mine_in l.slot)) (commands_of (drop l.at l.lines)) rest
       → AloneHere l.number nothing (commands_of l.lines) (map as_reply l.told.items ++ rest);
 }
