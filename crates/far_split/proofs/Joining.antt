@@ -14,7 +14,7 @@ use Rattle.far_heap.specs.HeapId.{HeapId}
 use Rattle.far_replay.specs.Alone.{nothing}
 use Rattle.far_replay.specs.Reply.{IsShort, Reply}
 use Rattle.far_split.specs.FarSides.{FarSide}
-use Rattle.far_split.specs.Here.{AloneHere}
+use Rattle.far_split.specs.Here.{AloneOn}
 use Rattle.far_split.specs.Jobs.{AreEnds, EndsSo, IsPart, Joins}
 use Rattle.far_split.specs.Joined.{AllRan, AreShort, IsFault, MayStop, RanSo, as_joined, commands_in, replies_of, who_at}
 use Rattle.far_split.specs.declared.gate.TheConstants.{THE_BOOK}
@@ -24,6 +24,7 @@ use Rattle.far_split.specs.declared.split_out.SplitOut.TheVariants.{Refused as O
 use Rattle.far_split.specs.declared.run.SplitFault.{SplitFault}
 use Rattle.far_split.specs.declared.run.SplitFault.TheVariants as faults
 use Rattle.far_split.specs.declared.told.Told.{Told}
+use Rattle.far_split.proofs.OwnLines.{are_by}
 
 -- the heap is that of these parts, which nobody had used
 pub record IsBegun (heap : HeapId) (blank : BlankOf FarSide) : Type 0 where
@@ -73,10 +74,11 @@ module _ (heap : HeapId) (lines : List (ℕ × Command)) (ends : List End) (are 
     size = begun.size;
     honest = honest;
     many = length-map parts replies_of ∙ count ∙ begun.size.1;
+    own = λ m lt. are_by m lines;
     alone = λ m lt.
         let ours : m < heap.mutators = omega (arith, lt, begun.size.1) in
         let below : m < length parts = omega (arith, count, ours) in
-        subst (AloneHere m nothing (commands_in (OfMutator m) lines)) (sym (read_at m [] below)) ((mutators_part m below).alone ours);
+        subst (AloneOn heap m nothing (commands_in (OfMutator m) lines)) (sym (read_at m [] below)) ((mutators_part m below).alone ours);
     told = books_part.told refl;
   }
 

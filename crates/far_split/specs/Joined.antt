@@ -19,7 +19,7 @@ use Rattle.far_replay.specs.Answers.{shape_of}
 use Rattle.far_replay.specs.Reply.{IsShort, Reply}
 use Rattle.far_split.specs.BookTold.{BookTold}
 use Rattle.far_split.specs.FarSides.{FarSide, failing}
-use Rattle.far_split.specs.Here.{AloneHere, commands_of}
+use Rattle.far_split.specs.Here.{AloneOn, AreBy, commands_of}
 use Rattle.far_split.specs.Told.{as_reply}
 use Rattle.far_split.specs.declared.mutators.Stop.{Stop}
 use Rattle.far_split.specs.declared.mutators.Stop.TheVariants as stops
@@ -63,14 +63,15 @@ pub record BeganSo (heap : HeapId) (shape : Size) (call : ℕ) : Type 0 where
   pub fails : blank.book.device.left ≡ call
 
 -- a heap of this shape, which is honest, was begun with a device of which this call was to fail, and answered these lines: for each of its mutators, and for none
--- else, there are replies, which follow from the mutator's own lines, whatever other threads did meanwhile; and the book's were answered on it
+-- else, there are replies, which follow from the mutator's own lines, whatever other threads did meanwhile, and tell what was so of the heap; and the book's were answered on it
 pub record AllRan (shape : Size) (call : ℕ) (lines : List (ℕ × Command)) (replies : List (List Reply)) (book : List Reply) : Type 0 where
   pub heap : HeapId
   pub began : BeganSo heap shape call
   pub size : (heap.logs ≡ shape.logs) × (heap.mutators ≡ shape.mutators)
   pub honest : heap.honest ≡ true
   pub many : length replies ≡ shape.mutators
-  pub alone : (m : ℕ) → m < shape.mutators → AloneHere m nothing (commands_in (OfMutator m) lines) (slice_index_or replies m [])
+  pub own : (m : ℕ) → m < shape.mutators → AreBy m (commands_in (OfMutator m) lines)
+  pub alone : (m : ℕ) → m < shape.mutators → AloneOn heap m nothing (commands_in (OfMutator m) lines) (slice_index_or replies m [])
   pub told : BookTold heap (commands_in OfBook lines) book
 
 abbrev pub RanSo : Size → ℕ → List (ℕ × Command) → Joined → Type 0
