@@ -9,7 +9,7 @@ use Rattle.far_text.specs.Threads.{OfMutator, OfBook, lines_in}
 use Rattle.far_replay.specs.Alone.{nothing}
 use Rattle.far_replay.specs.Reply.{IsShort, Reply}
 use Rattle.far_split.specs.BookTold.{BookTold}
-use Rattle.far_split.specs.Here.{AloneHere}
+use Rattle.far_split.specs.Here.{AloneOn}
 use Rattle.far_split.specs.Joined.{SaysNo, commands_in, replies_of}
 use Rattle.far_split.specs.declared.gate.TheConstants.{THE_BOOK}
 use Rattle.far_split.specs.declared.mutators.Stop.{Stop}
@@ -31,7 +31,7 @@ pub record AreJobs {K : Type 0} (heap : HeapId) (jobs : List (Job K)) : Type 0 w
 
 -- replies to the lines of the thread at a place
 pub record IsPart (heap : HeapId) (lines : List (ℕ × Command)) (at : ℕ) (replies : List Reply) : Type 0 where
-  pub alone : at < heap.mutators → AloneHere at nothing (commands_in (OfMutator at) lines) replies
+  pub alone : at < heap.mutators → AloneOn heap at nothing (commands_in (OfMutator at) lines) replies
   pub told : at ≡ heap.mutators → BookTold heap (commands_in OfBook lines) replies
   pub short : AllByRecursion IsShort replies
 

@@ -1,13 +1,15 @@
 //! A split text is run: each mutator's lines in a thread of its own, the book's in another.
 
-ghost use Rattle.std.specs.Prelude.{◌≡◌, ◌⊎◌, ◌<◌, ◌≤◌, ℕ, true, length, map, None, Some, Ok, IfErr, IfOk, IsOk};
+ghost use Rattle.std.specs.Prelude.{◌≡◌, ◌⊎◌, ◌<◌, ◌≤◌, ℕ, [], true, length, map, None, Some, Ok, IfErr, IfOk, IsOk};
 ghost use Rattle.far_text.specs.declared.text.TheConstants.{LONGEST_TEXT};
 ghost use Rattle.std.specs.Option.{option_map};
 ghost use Rattle.far_text.specs.Command.{as_device};
 ghost use Rattle.far_text.specs.Split.{split_of, SplitHeap};
 ghost use Rattle.far_text.specs.SplitText.{AreOwn};
 ghost use Rattle.far_text.specs.Threads.{Thread as AnyThread, lines_in};
-ghost use Rattle.far_heap.specs.Blanks.{newcomers};
+ghost use Rattle.far_hand.specs.ShapeOf.{shape_of as shape_in};
+ghost use Rattle.far_table.specs.BookSeats.{seat_view};
+ghost use Rattle.far_heap.specs.Blanks.{IsUnused, newcomers};
 ghost use Rattle.far_split.specs.Joined.{AreShort, IsFault, MayEnd, MayStop, RanSo, SplitAnswers, as_joined, who_at};
 ghost use Rattle.far_split.specs.Jobs.{AreEnds, AreJobs, AreStops, EndsSo, IsJobAt, Joins, StopsSo};
 
@@ -203,8 +205,11 @@ fn run_named<K: HeapName + Send + Sync, R: Threads + Wait + Sync, G: Gate>(
     requires name { blank.heap ≡ K.heap }
     requires honest { K.heap.honest ≡ true }
     requires few { K.heap.mutators ≤ 8 }
+    requires size { (K.heap.logs ≡ (shape_in (seat_view blank.book.near)).logs) × (K.heap.mutators ≡ (shape_in (seat_view blank.book.near)).mutators) }
+    requires unused { IsUnused (seat_view blank.book.near) }
+    requires order { blank.book.order ≡ [] }
     requires own { (thread : AnyThread) → AreOwn K.heap.mutators thread (lines_in thread text.now) }
-    ensures ran { IfOk result (λ out. RanSo K.heap.logs K.heap.mutators text.now (as_joined out)) }
+    ensures ran { IfOk result (λ out. RanSo (shape_in (seat_view blank.book.near)) blank.book.device.left text.now (as_joined out)) }
     ensures short { IfOk result (λ out. AreShort (as_joined out)) }
     ensures fault { IfErr result (MayStop (G.refuses gate.now) K.heap.mutators text.now) }
 {
