@@ -13,13 +13,13 @@ use Rattle.far_hand.proofs.Making.{legal_made}
 use Rattle.far_table.specs.View.{BookView, OwnerView}
 use Rattle.far_table.specs.Layout.{TABLE_WORDS, JOBS, cell_in, job_in, scope_in}
 use Rattle.far_table.specs.Rule.{BookTies, Facts, OwnerTies}
-use Rattle.far_table.specs.StateOf.{retired_at, state_of, taken_at}
-use Rattle.far_table.specs.BookTells.{BookMade, retired_by, taken_by}
-use Rattle.far_table.specs.Views.{drops, moves}
+use Rattle.far_table.specs.StateOf.{cooled_at, retired_at, state_of, taken_at}
+use Rattle.far_table.specs.BookTells.{BookMade, cooled_by, retired_by, taken_by}
+use Rattle.far_table.specs.Views.{drops, hots, moves}
 use Rattle.far_table.proofs.BookObjects.{has_after}
 
 -- what a kind of step owes: its event is legal, with this answer; the words and the view after are the core's state; the book's own ties, of a state under the law; and of the owners that their
--- scope words stay, and that MOVE and DROP are counted
+-- scope words stay, and that MOVE, DROP and HOT are counted
 pub record BookStep (ws : List ℕ) (b : BookView) (os : List OwnerView) (e : Event) (r : Reply) (later : List ℕ) (b' : BookView) : Type 0 where
   pub legal : Legal (state_of ws b os) e
   pub says : r ≡ answer (state_of ws b os) e
@@ -32,7 +32,8 @@ pub record BookStep (ws : List ℕ) (b : BookView) (os : List OwnerView) (e : Ev
   pub rest : b'.rest ≡ b.rest
   pub scopes : scope_in later ≡ scope_in ws
   pub counts : (p : ℕ) → (taken_at b p + moves (cell_in ws p) ≡ taken_at b' p + moves (cell_in later p)) × (retired_at b p + drops (cell_in ws p) ≡ retired_at b' p + drops (cell_in later p))
-  pub told : (p : ℕ) → (taken_at b' p ≡ taken_by e r p (taken_at b p)) × (retired_at b' p ≡ retired_by e r p (retired_at b p))
+      × (cooled_at b p + hots (cell_in ws p) ≡ cooled_at b' p + hots (cell_in later p))
+  pub told : (p : ℕ) → (taken_at b' p ≡ taken_by e r p (taken_at b p)) × (retired_at b' p ≡ retired_by e r p (retired_at b p)) × (cooled_at b' p ≡ cooled_by e r p (cooled_at b p))
 
 module _ (ws : List ℕ) (b : BookView) (os : List OwnerView) (f : Facts ws b os) (e : Event) (own : is_owners e ≡ false) (fits : Fits e) (r : Reply) (later : List ℕ) (b' : BookView)
     (k : BookStep ws b os e r later b') where
@@ -53,6 +54,7 @@ module _ (ws : List ℕ) (b : BookView) (os : List OwnerView) (f : Facts ws b os
     objects = λ p x mine h. has_after s e own f.law fits k.legal t k.becomes k.honest p x (ties.objects p x mine h);
     asks = λ p mine. ties.asks p mine ∙ (k.counts p).0;
     drops = λ p mine. ties.drops p mine ∙ (k.counts p).1;
+    hots = λ p mine. ties.hots p mine ∙ (k.counts p).2;
   }
 
   pub book_facts : Facts later b' os
@@ -78,5 +80,6 @@ module _ (ws : List ℕ) (b : BookView) (os : List OwnerView) (f : Facts ws b os
     keeps = book_facts;
     taken = λ p. (k.told p).0;
     retired = λ p. (k.told p).1;
+    cooled = λ p. (k.told p).2;
     call = legal_made s t e r k.legal (sym k.becomes) (sym k.says);
   }

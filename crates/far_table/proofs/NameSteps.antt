@@ -31,15 +31,15 @@ use Rattle.far_hand.proofs.Counting.{counts_none}
 use Rattle.far_hand.proofs.Naming.{legal_name, lost_state, won_state}
 use Rattle.far_table.specs.View.{BookView, OwnerView, View, Book}
 use Rattle.far_table.specs.BookPlays.{Named}
-use Rattle.far_table.specs.BookTells.{BookTells, retired_by, taken_by}
+use Rattle.far_table.specs.BookTells.{BookTells, cooled_by, retired_by, taken_by}
 use Rattle.far_table.specs.BookViews.{saw_view}
 use Rattle.far_table.specs.Layout.{cell_at, cell_in, epoch_in, scope_in, word_in}
 use Rattle.far_table.specs.NameViews.{exchange_reply, exchanged_view, form_view, formed_view, named_view, retires, span_view, view_by}
 use Rattle.far_table.specs.Rows.{over}
 use Rattle.far_table.specs.Rule.{Facts, Running}
 use Rattle.far_table.specs.Stands.{IsPlain, book_of}
-use Rattle.far_table.specs.StateOf.{book_state, head_at, head_or, held_by, known_word, remembered_by, retired_at, state_of, taken_at, used_by}
-use Rattle.far_table.specs.Views.{drops, moves}
+use Rattle.far_table.specs.StateOf.{book_state, cooled_at, head_at, head_or, held_by, known_word, remembered_by, retired_at, state_of, taken_at, used_by}
+use Rattle.far_table.specs.Views.{drops, has_hot, hots, moves}
 use Rattle.far_table.proofs.BookFrames.{BookStep}
 use Rattle.far_table.proofs.BookKnown.{forgets, forgotten}
 use Rattle.far_table.proofs.BookLift.{book_makes}
@@ -90,6 +90,15 @@ new_moves (Evicts len place) old new n = ap (λ x. cond (has_move x) 1 0) n.5
 new_moves Stays old new n = ap (λ x. cond (has_move x) 1 0) n.8
 new_moves (Moves len ds from to) old new n = ap (λ x. cond (has_move x) 1 0) n.1
 new_moves (Fetches len ds place) old new n = ap (λ x. cond (has_move x) 1 0) n.1
+
+-- nor HOT
+new_hots : (form : Naming) (old new : ℕ) → IsNaming form (read_of old) (read_of new) → hots new ≡ 0
+new_hots (Places len ds place) old new n = ap (λ x. cond (has_hot x) 1 0) n.1
+new_hots Retires old new n = ap (λ x. cond (has_hot x) 1 0) n.1
+new_hots (Evicts len place) old new n = ap (λ x. cond (has_hot x) 1 0) n.5
+new_hots Stays old new n = ap (λ x. cond (has_hot x) 1 0) n.8
+new_hots (Moves len ds from to) old new n = ap (λ x. cond (has_hot x) 1 0) n.1
+new_hots (Fetches len ds place) old new n = ap (λ x. cond (has_hot x) 1 0) n.1
 
 -- nor DROP; and the old one has it exactly where the object is retired
 new_drops : (form : Naming) (old new : ℕ) → IsNaming form (read_of old) (read_of new) → drops new ≡ 0
@@ -230,14 +239,17 @@ module _ (ws : List ℕ) (b : BookView) (os : List OwnerView) (f : Facts ws b os
   drops_old = ap (λ n. put (retired_at b) p (retired_at b p + n)) (sym (old_drops form old new legal.1.1))
 
   counts_named : cell_in ws p ≡ old → (q : ℕ) → (taken_at b q + moves (cell_in ws q) ≡ taken_at b' q + moves (cell_in later q)) × (retired_at b q + drops (cell_in ws q) ≡ retired_at b' q + drops (cell_in later q))
+      × (cooled_at b q + hots (cell_in ws q) ≡ cooled_at b' q + hots (cell_in later q))
   counts_named won q = (
     counted moves (taken_at b) (new_moves form old new legal.1.1) won q,
     counted drops (retired_at b) (new_drops form old new legal.1.1) won q ∙ ap (λ g. g q + drops (cell_in later q)) (sym drops_old),
+    counted hots (cooled_at b) (new_hots form old new legal.1.1) won q,
   )
 
   -- so says the step
   told_named : (q : ℕ) → (taken_at b' q ≡ taken_by (Name p old new) Done q (taken_at b q)) × (retired_at b' q ≡ retired_by (Name p old new) Done q (retired_at b q))
-  told_named q = (said moves (taken_at b) q, ap (λ g. g q) drops_old ∙ said drops (retired_at b) q) where
+      × (cooled_at b' q ≡ cooled_by (Name p old new) Done q (cooled_at b q))
+  told_named q = (said moves (taken_at b) q, ap (λ g. g q) drops_old ∙ said drops (retired_at b) q, said hots (cooled_at b) q) where
     said : (count before : ℕ → ℕ) (q : ℕ) → put before p (before p + count old) q ≡ cond (p == q) (before q + count old) (before q)
     said count before q = dite (ℕ_discrete q p)
         (λ e. put_same before p (before p + count old) q e ∙ (ap (λ z. before z + count old) (sym e) ∙ sym (ap (λ t. cond t (before q + count old) (before q)) (eq-eqb p q (sym e)))))
@@ -274,8 +286,8 @@ module _ (ws : List ℕ) (b : BookView) (os : List OwnerView) (f : Facts ws b os
     honest = refl;
     rest = refl;
     scopes = refl;
-    counts = λ _. (refl, refl);
-    told = λ _. (refl, refl);
+    counts = λ _. (refl, refl, refl);
+    told = λ _. (refl, refl, refl);
   }
 
   by_test : (t : Bool) → (cell_in ws p == old) ≡ t →
