@@ -135,6 +135,7 @@ module _ (ws : List ℕ) (b : BookView) (os : List OwnerView) (f : Facts ws b os
           asks = ties.asks;
           drops = ties.drops;
           hots = ties.hots;
+          warm = ties.warm;
         };
       }
 

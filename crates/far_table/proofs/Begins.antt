@@ -1,7 +1,7 @@
 -- The rule holds at the start: for the words and the views of any core.
 use Rattle.std.proofs.Common.{◌≡◌, ◌≢◌, ◌*◌, ◌/◌, ◌%◌, ◌<◌, ◌≤◌, ◌^◌, ℕ, Bool, true, false, cond, nat_lt, List, [], sym, refl, ap, ◌∙◌, subst, arith, inl, inr, Option, Some, None}
 use Rattle.std.specs.Prelude.{is_some, slice_index, ◌||◌, ◌&&◌, ◌==◌}
-use Rattle.std.proofs.lemmas.Bool.{cases_lt, le-ltb, lt-ltb}
+use Rattle.std.proofs.lemmas.Bool.{cases_lt, false≢true, le-ltb, lt-ltb}
 use Rattle.std.proofs.lemmas.List.{get_or_past}
 use mathlib.Core.Logic.{dite}
 use mathlib.Core.Path.{fun_ext}
@@ -59,7 +59,7 @@ other_rest ws b os rest f = record {
   law = f.law;
   agrees = f.agrees;
   book = record { shown = f.book.shown; still = f.book.still };
-  owners = λ m o at. let ties = f.owners m o at in record { number = ties.number; honest = ties.honest; scope = ties.scope; objects = ties.objects; asks = ties.asks; drops = ties.drops; hots = ties.hots };
+  owners = λ m o at. let ties = f.owners m o at in record { number = ties.number; honest = ties.honest; scope = ties.scope; objects = ties.objects; asks = ties.asks; drops = ties.drops; hots = ties.hots; warm = ties.warm };
   many = f.many;
   wide = f.wide;
   jobs = f.jobs;
@@ -223,6 +223,7 @@ module _ (s : State) (honest : Bool) (law : Law s) (past : HasNothingPast s) whe
       asks = λ p own. first_asked s honest m p own ∙ omega arith;
       drops = λ p own. first_dropped s honest m p own ∙ omega arith;
       hots = λ p own. first_heated s honest m p own ∙ omega arith;
+      warm = λ p own pinned. absurd (false≢true pinned);
     }
 
     pub first_facts : (ws : List ℕ) → IsTableOf ws s → Facts ws b os

@@ -41,7 +41,7 @@ use Rattle.far_table.specs.Views.{drops, has_hot, hots, moves}
 use Rattle.far_table.proofs.BookFrames.{BookStep}
 use Rattle.far_table.proofs.BookKnown.{forgets, forgotten, head_same}
 use Rattle.far_table.proofs.BookLift.{book_makes, book_reads}
-use Rattle.far_table.proofs.BookSees.{cell_after, cells_few, counts_after, epoch_after, finds_after, found_at, jobs_after}
+use Rattle.far_table.proofs.BookSees.{cell_after, cells_few, counts_after, counts_as, epoch_after, finds_after, found_at, jobs_after}
 use Rattle.far_table.proofs.Masks.{counts, counts_quiet, epoch_is, finds, ties, words_are}
 use Rattle.far_table.proofs.OwnSteps.{jobs_stay, state_is}
 use Rattle.far_table.proofs.Words.{cell_here, epoch_word_set, scope_here}
@@ -88,6 +88,7 @@ module _ (ws : List ℕ) (b : BookView) (os : List OwnerView) (f : Facts ws b os
     rest = refl;
     scopes = refl;
     counts = λ _. (refl, refl, refl);
+    warm = λ _ _. refl;
     told = λ _. (refl, refl, refl);
   }
 
@@ -110,8 +111,7 @@ module _ (ws : List ℕ) (b : BookView) (os : List OwnerView) (f : Facts ws b os
     same_marks : (moves w ≡ moves n) × (drops w ≡ drops n) × (hots w ≡ hots n)
     same_marks =
         let near = clear_legal.1 in
-        let read = without_evac_read n (Near near.0 near.1 near.2 near.3) (f.law.cells.cell_read p).0 near.4 in
-        (
+        let read = without_evac_read n (Near near.0 near.1 near.2 near.3) (f.law.cells.cell_read p).0 near.4 in (
           ap (λ x. cond (has_move x) 1 0) read ∙ sym (ap (λ x. cond (has_move x) 1 0) near.4),
           ap (λ x. cond (is_dropped x) 1 0) read ∙ sym (ap (λ x. cond (is_dropped x) 1 0) near.4),
           ap (λ x. cond (has_hot x) 1 0) read ∙ sym (ap (λ x. cond (has_hot x) 1 0) near.4),
@@ -133,6 +133,7 @@ module _ (ws : List ℕ) (b : BookView) (os : List OwnerView) (f : Facts ws b os
           rest = refl;
           scopes = (cell_after ws b os f p w few).scope_is;
           counts = counts_after ws b os f p w few same_marks;
+          warm = λ q _. counts_as ws b os f p w few hots same_marks.2 q;
           told = λ _. (refl, refl, refl);
         }
 
@@ -162,6 +163,7 @@ module _ (ws : List ℕ) (b : BookView) (os : List OwnerView) (f : Facts ws b os
             ap (λ c. over b.retired (λ _. 0) p + drops (c p)) (sym are.cell_is),
             ap (λ c. over b.cooled (λ _. 0) p + hots (c p)) (sym are.cell_is),
           );
+          warm = λ p _. ap (λ c. hots (c p)) are.cell_is;
           told = λ _. (refl, refl, refl);
         }
 

@@ -56,9 +56,12 @@ module _ (ws : List ℕ) (b : BookView) (os : List OwnerView) (f : Facts ws b os
   words_after plain = words_are ws b os f plain ∙ ap (λ v. masked_word v (book_state b).starts (counts b)) (sym cell_after.word_is)
 
   -- it has a mark where the cell had
+  pub counts_as : (count : ℕ → ℕ) → count w ≡ count (cell_in ws p) → (q : ℕ) → count (cell_in later q) ≡ count (cell_in ws q)
+  counts_as count same q = ap (λ c. count (c q)) cell_after.cell_is ∙ put_both (λ v. count v ≡ count (cell_in ws q)) (cell_in ws) p w q
+      (λ e. same ∙ ap (λ z. count (cell_in ws z)) (sym e)) (λ _. refl)
+
   stays : (count : ℕ → ℕ) → count w ≡ count (cell_in ws p) → (n q : ℕ) → n + count (cell_in ws q) ≡ n + count (cell_in later q)
-  stays count same n q = ap (λ v. n + v) (sym (ap (λ c. count (c q)) cell_after.cell_is ∙ put_both (λ v. count v ≡ count (cell_in ws q)) (cell_in ws) p w q
-      (λ e. same ∙ ap (λ z. count (cell_in ws z)) (sym e)) (λ _. refl)))
+  stays count same n q = ap (λ v. n + v) (sym (counts_as count same q))
 
   pub counts_after : (moves w ≡ moves (cell_in ws p)) × (drops w ≡ drops (cell_in ws p)) × (hots w ≡ hots (cell_in ws p)) → (q : ℕ) →
       (taken_at b q + moves (cell_in ws q) ≡ taken_at b q + moves (cell_in later q)) × (retired_at b q + drops (cell_in ws q) ≡ retired_at b q + drops (cell_in later q))
@@ -92,6 +95,7 @@ module _ (ws : List ℕ) (b : BookView) (os : List OwnerView) (f : Facts ws b os
     rest = refl;
     scopes = refl;
     counts = λ _. (refl, refl, refl);
+    warm = λ _ _. refl;
     told = λ _. (refl, refl, refl);
   }
 
@@ -108,8 +112,7 @@ module _ (ws : List ℕ) (b : BookView) (os : List OwnerView) (f : Facts ws b os
     same_marks : (moves w ≡ moves n) × (drops w ≡ drops n) × (hots w ≡ hots n)
     same_marks =
         let near = legal.1 in
-        let read = with_mark_read Evac n (Near near.0 near.1 near.2 near.3) (f.law.cells.cell_read p).0 near.4 refl in
-        (
+        let read = with_mark_read Evac n (Near near.0 near.1 near.2 near.3) (f.law.cells.cell_read p).0 near.4 refl in (
           ap (λ x. cond (has_move x) 1 0) read ∙ sym (ap (λ x. cond (has_move x) 1 0) near.4),
           ap (λ x. cond (is_dropped x) 1 0) read ∙ sym (ap (λ x. cond (is_dropped x) 1 0) near.4),
           ap (λ x. cond (has_hot x) 1 0) read ∙ sym (ap (λ x. cond (has_hot x) 1 0) near.4),
@@ -129,6 +132,7 @@ module _ (ws : List ℕ) (b : BookView) (os : List OwnerView) (f : Facts ws b os
       rest = refl;
       scopes = (cell_after ws b os f p w few).scope_is;
       counts = counts_after ws b os f p w few same_marks;
+      warm = λ q _. counts_as ws b os f p w few hots same_marks.2 q;
       told = λ _. (refl, refl, refl);
     }
 

@@ -134,6 +134,7 @@ module _ (ws : List ℕ) (b : BookView) (os : List OwnerView) (f : Facts ws b os
     rest = refl;
     scopes = refl;
     counts = λ _. (refl, refl, refl);
+    warm = λ _ _. refl;
     told = λ _. (refl, refl, refl);
   }
   get_step low false quiet = record {
@@ -148,6 +149,7 @@ module _ (ws : List ℕ) (b : BookView) (os : List OwnerView) (f : Facts ws b os
     rest = refl;
     scopes = refl;
     counts = λ _. (refl, refl, refl);
+    warm = λ _ _. refl;
     told = λ _. (refl, refl, refl);
   }
 
@@ -188,6 +190,7 @@ module _ (ws : List ℕ) (b : BookView) (os : List OwnerView) (f : Facts ws b os
     rest = refl;
     scopes = refl;
     counts = λ _. (refl, refl, refl);
+    warm = λ _ _. refl;
     told = λ _. (refl, refl, refl);
   }
 
@@ -226,6 +229,7 @@ module _ (ws : List ℕ) (b : BookView) (os : List OwnerView) (f : Facts ws b os
             ap (λ c. over b.retired (λ _. 0) p + drops (c p)) (sym are.cell_is),
             ap (λ c. over b.cooled (λ _. 0) p + hots (c p)) (sym are.cell_is),
           );
+          warm = λ p _. ap (λ c. hots (c p)) are.cell_is;
           told = λ _. (refl, refl, refl);
         }
 

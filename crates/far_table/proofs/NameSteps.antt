@@ -1,7 +1,7 @@
 -- The book exchanges a cell: it is its event of the core, won or lost.
-use Rattle.std.proofs.Common.{◌≡◌, ◌≢◌, ◌+◌, ◌<◌, ◌^◌, ℕ, Bool, true, false, cond, List, Option, Some, None, set, sym, refl, ap, ◌∙◌, subst, arith, eqb-true}
-use Rattle.std.specs.Prelude.{is_some, slice_index, ◌==◌}
-use Rattle.std.proofs.lemmas.Bool.{cond_both, eq-eqb, eqb-false, ne_eqb}
+use Rattle.std.proofs.Common.{◌≡◌, ◌≢◌, ◌+◌, ◌<◌, ◌^◌, ℕ, Bool, true, false, cond, inl, List, Option, Some, None, set, sym, refl, ap, ◌∙◌, subst, arith, eqb-true}
+use Rattle.std.specs.Prelude.{is_some, IsSome, slice_index, ◌==◌, ◌||◌}
+use Rattle.std.proofs.lemmas.Bool.{cond_both, eq-eqb, eqb-false, false≢true, ne_eqb}
 use mathlib.Core.Logic.{dite}
 use native.Mathlib.Decide.{ℕ_discrete}
 use lib.Seq.{set-get_or}
@@ -9,6 +9,8 @@ use prog.Atomic.{either}
 use mathlib.Core.Option.{none}
 use Rattle.atomic_table.specs.Table.{Me, step, Allows}
 use Rattle.far_word.specs.declared.pointer.Place.{Place}
+use Rattle.far_word.specs.declared.pointer.PtrWord.{PtrWord}
+use Rattle.far_word.specs.declared.pointer.PtrWord.TheVariants.{Free, Near, Far}
 use Rattle.far_word.specs.declared.sizes.TheConstants.{POINTERS}
 use Rattle.far_word.specs.Header.{head_word}
 use Rattle.far_word.specs.Pointer.{read_of}
@@ -22,9 +24,11 @@ use Rattle.far_core.specs.events.Legal.{Legal}
 use Rattle.far_core.specs.events.Naming.{IsNaming, is_dropped, naming_of, naming_row}
 use Rattle.far_core.specs.events.Quiet.{has_move}
 use Rattle.far_core.specs.events.Step.{after}
+use Rattle.far_core.specs.state.Law.{Law, held_place}
 use Rattle.far_core.specs.state.State.{State, addr, put}
 use Rattle.far_core.proofs.Namings.{naming_only}
 use Rattle.far_core.proofs.Put.{put_both, put_other, put_same}
+use Rattle.far_core.proofs.Quieting.{quiet_unheld}
 use Rattle.far_hand.specs.Known.{Forgets, KnowsLeaving, unknown}
 use Rattle.far_hand.specs.Masked.{AllFind, masked_word}
 use Rattle.far_hand.proofs.Counting.{counts_none}
@@ -116,6 +120,31 @@ old_drops (Evicts len place) old new n = ap (λ x. cond (is_dropped x) 1 0) n.2 
 old_drops Stays old new n = ap (λ x. cond (is_dropped x) 1 0) n.4 ∙ ap (λ t. cond t 1 0) n.5
 old_drops (Moves len ds from to) old new n = ap (λ x. cond (is_dropped x) 1 0) n.0.1 ∙ ap (λ t. cond t 1 0) n.0.2
 old_drops (Fetches len ds place) old new n = ap (λ x. cond (is_dropped x) 1 0) n.0.1 ∙ ap (λ t. cond t 1 0) n.0.2
+
+-- ---- no place is held of a cell whose exchange wins
+dropped_place : (x : Option PtrWord) → is_dropped x ≡ true → held_place x ≡ None
+dropped_place None h = refl
+dropped_place (Some Free) h = refl
+dropped_place (Some (Near len ds place m)) h = ap (λ t. cond (m.moved || t) None (Some place)) h ∙ either_way m.moved where
+  either_way : (t : Bool) → cond (t || true) None (Some place) ≡ None
+  either_way true = refl
+  either_way false = refl
+dropped_place (Some (Far len ds m)) h = refl
+
+module _ (s : State) (law : Law s) (p : ℕ) where
+  none_held : held_place (read_of (s.cell p)) ≡ None → s.held p ≡ None
+  none_held nowhere = at (s.held p) refl where
+    at : (x : Option Place) → s.held p ≡ x → s.held p ≡ None
+    at None e = e
+    at (Some place) e = let odd : None ≡ Some place = sym nowhere ∙ law.views.held_names p place e in absurd (cc)
+
+  unheld : (form : Naming) (old new : ℕ) → s.cell p ≡ old → IsNaming form (read_of old) (read_of new) → (naming_row s p new form).Legal → s.held p ≡ None
+  unheld (Places len ds place) old new won n legal = none_held (ap held_place (ap read_of won ∙ n.0))
+  unheld Retires old new won n legal = none_held (dropped_place (read_of (s.cell p)) (ap (λ w. is_dropped (read_of w)) won ∙ n.0))
+  unheld (Evicts len place) old new won n legal = quiet_unheld s law p legal
+  unheld Stays old new won n legal = quiet_unheld s law p (inl (ap has_move (ap read_of won ∙ n.4) ∙ n.6))
+  unheld (Moves len ds from to) old new won n legal = quiet_unheld s law p legal.quiet
+  unheld (Fetches len ds place) old new won n legal = none_held (ap held_place (ap read_of won ∙ n.0.1))
 
 -- where a header stands, it is this word
 header_is : (h : Option ℕ) (w k : ℕ) → ((x : ℕ) → h ≡ Some x → w ≡ x) → is_some h ≡ true → w ≡ head_or h k
@@ -246,6 +275,13 @@ module _ (ws : List ℕ) (b : BookView) (os : List OwnerView) (f : Facts ws b os
     counted hots (cooled_at b) (new_hots form old new legal.1.1) won q,
   )
 
+  -- what is held has HOT as it had
+  warm_named : cell_in ws p ≡ old → (q : ℕ) → IsSome (held_by os q) → hots (cell_in later q) ≡ hots (cell_in ws q)
+  warm_named won q held =
+      let free : held_by os p ≡ None = unheld s f.law p form old new won legal.1.1 legal.1.2 in
+      let ne : q ≢ p = λ e. false≢true (sym (ap is_some (ap (held_by os) e ∙ free)) ∙ held) in
+      ap hots (ap (λ g. g q) (cell_after ws b os f p new few).cell_is ∙ put_other (cell_in ws) p new q ne)
+
   -- so says the step
   told_named : (q : ℕ) → (taken_at b' q ≡ taken_by (Name p old new) Done q (taken_at b q)) × (retired_at b' q ≡ retired_by (Name p old new) Done q (retired_at b q))
       × (cooled_at b' q ≡ cooled_by (Name p old new) Done q (cooled_at b q))
@@ -271,6 +307,7 @@ module _ (ws : List ℕ) (b : BookView) (os : List OwnerView) (f : Facts ws b os
     rest = sizes.2;
     scopes = (cell_after ws b os f p new few).scope_is;
     counts = counts_named won;
+    warm = warm_named won;
     told = told_named;
   }
 
@@ -287,6 +324,7 @@ module _ (ws : List ℕ) (b : BookView) (os : List OwnerView) (f : Facts ws b os
     rest = refl;
     scopes = refl;
     counts = λ _. (refl, refl, refl);
+    warm = λ _ _. refl;
     told = λ _. (refl, refl, refl);
   }
 

@@ -1,6 +1,6 @@
 -- A pin is its event of the core.
-use Rattle.std.proofs.Common.{◌≡◌, ◌+◌, ◌/◌, ◌<◌, ◌^◌, ℕ, Bool, true, false, cond, bit_or, List, set, sym, refl, ap, ◌∙◌, subst, arith, Option, Some, None}
-use Rattle.std.specs.Prelude.{slice_index, IsSome}
+use Rattle.std.proofs.Common.{◌≡◌, ◌≢◌, ◌+◌, ◌/◌, ◌<◌, ◌^◌, ℕ, Bool, true, false, cond, bit_or, List, set, sym, refl, ap, ◌∙◌, subst, arith, Option, Some, None}
+use Rattle.std.specs.Prelude.{slice_index, is_some, IsSome}
 use Rattle.std.proofs.lemmas.Bool.{false≢true}
 use mathlib.Core.Logic.{dite}
 use mathlib.Core.Option.{some, none}
@@ -34,7 +34,7 @@ use Rattle.far_table.specs.Plays.{Pinned, Lies}
 use Rattle.far_table.specs.Rule.{Facts, Running}
 use Rattle.far_table.specs.StateOf.{cooled_at, held_by, state_of}
 use Rattle.far_table.specs.Tells.{Tells, owner_of}
-use Rattle.far_table.specs.Views.{asked_at, dropped_at, drops, has_hot, heated_at, held_at, held_view, hots, len_of, moves, object_at, pinned_view, uses, warmed_view, with_place}
+use Rattle.far_table.specs.Views.{asked_at, dropped_at, drops, has_hot, heated_at, held_at, held_view, hots, len_of, moves, object_at, pinned_at, pinned_view, uses, warmed_view, with_place}
 use Rattle.far_table.proofs.HeldFacts.{may_hold, near_facts}
 use Rattle.far_table.proofs.Lift.{owner_makes}
 use Rattle.far_table.proofs.Others.{pin_objects}
@@ -67,6 +67,12 @@ used_hots (Some (Far len ds m)) u = one m.hot where
   one : (t : Bool) → 1 ≡ cond t 1 0 + cond t 0 1
   one true = refl
   one false = refl
+
+in_use_hot : (x : Option PtrWord) → in_use x ≡ true → has_hot (map_mark Hot x) ≡ true
+in_use_hot None u = absurd (false≢true u)
+in_use_hot (Some Free) u = absurd (false≢true u)
+in_use_hot (Some (Near len ds place m)) u = refl
+in_use_hot (Some (Far len ds m)) u = refl
 
 -- a place that is held changes nothing else of a view
 placed_same : {X : Type 0} (g : OwnerView → X) (p : ℕ) (o : OwnerView) → ((place : Place) → g (held_view p place o) ≡ g o) → (x : Option Place) → g (with_place p x o) ≡ g o
@@ -117,6 +123,27 @@ module _ (ws : List ℕ) (b : BookView) (os : List OwnerView) (f : Facts ws b os
       sum ∙ (ap (λ z. cooled_at b z + hots new) (sym e) ∙ ap (λ v. cooled_at b q + hots v) (sym (put_same s.cell p new q e)))))
       (λ ne. put_other (heated_at o) p n q ne ∙ (ties.hots q mine ∙ ap (λ v. cooled_at b q + hots v) (sym (put_other s.cell p new q ne))))
 
+  -- the cell has HOT, and what is held by a pin has it too
+  warm_after : (x : Option Place) (q : ℕ) → q / CELLS ≡ m → pinned_at (with_place p x warm) q ≡ true →
+      IsSome (held_at (with_place p x warm) q) × (hots (put s.cell p (bit_or c (2 ^ position Hot)) q) ≡ 1)
+  warm_after x q mine pinned =
+      let ties = f.owners m o at in
+      let new : ℕ = bit_or c (2 ^ position Hot) in
+      let hot : hots new ≡ 1 = ap (λ t. cond t 1 0) (ap has_hot (hot_read s f.law p used_so) ∙ in_use_hot (read_of c) (f.law.views.used_cell p used_so)) in dite (ℕ_discrete q p)
+      (λ e. (here x q e pinned, ap hots (put_same s.cell p new q e) ∙ hot))
+      (λ ne. let y = ties.warm q mine (away x q ne pinned) in (there x q ne y.0, ap hots (put_other s.cell p new q ne) ∙ y.1)) where
+        here : (x : Option Place) (q : ℕ) → q ≡ p → pinned_at (with_place p x warm) q ≡ true → IsSome (held_at (with_place p x warm) q)
+        here None q e h = ((f.owners m o at).warm q (ap (λ z. z / CELLS) e ∙ own) h).0
+        here (Some place) q e h = ap is_some (put_same (held_at o) p (Some place) q e)
+
+        away : (x : Option Place) (q : ℕ) → q ≢ p → pinned_at (with_place p x warm) q ≡ true → pinned_at o q ≡ true
+        away None q ne h = h
+        away (Some place) q ne h = sym (put_other (pinned_at o) p true q ne) ∙ h
+
+        there : (x : Option Place) (q : ℕ) → q ≢ p → IsSome (held_at o q) → IsSome (held_at (with_place p x warm) q)
+        there None q ne h = h
+        there (Some place) q ne h = ap is_some (put_other (held_at o) p (Some place) q ne) ∙ h
+
   pub pin_step : OwnStep ws b os o (Pin m p) (pin_answer c (place_to_view (read_of c))) (set ws (cell_at p) (bit_or c (2 ^ position Hot))) (pinned_view p c o)
   pin_step =
       let x : Option Place = place_to_view (read_of c) in
@@ -132,7 +159,8 @@ module _ (ws : List ℕ) (b : BookView) (os : List OwnerView) (f : Facts ws b os
         jobs = jobs_stay ws b os f (cell_at p) hot (λ j l e. let low = small in omega arith);
         mine = mine_on b s (after s (Pin m p)) m o w (f.owners m o at) (placed_same (λ y. y.number) p warm (λ _. refl) x) (placed_same (λ y. y.honest) p warm (λ _. refl) x) refl
             ((f.owners m o at).scope ∙ ap scope_word_of (sym opens)) (placed_same object_at p warm (λ _. refl) x) (placed_same asked_at p warm (λ _. refl) x) (placed_same dropped_at p warm (λ _. refl) x)
-            (pin_objects c x m p _ _ (does s (Pin m p) f.law tt legal)) marks_after (λ q mine. ap (λ g. g q) (placed_same heated_at p warm (λ _. refl) x) ∙ heats_after q mine);
+            (pin_objects c x m p _ _ (does s (Pin m p) f.law tt legal)) marks_after (λ q mine. ap (λ g. g q) (placed_same heated_at p warm (λ _. refl) x) ∙ heats_after q mine)
+            (warm_after x);
       }
 
   pin_found : OwnStep ws b os o (Pin m p) (pin_answer (slice_index ws (cell_at p)) (place_to_view (read_of (slice_index ws (cell_at p))))) (set ws (cell_at p) (bit_or (slice_index ws (cell_at p)) (2 ^ position Hot)))

@@ -45,7 +45,8 @@ abbrev pub seen_object : Option Object → Option ObjectView
 seen_object None = None
 seen_object (Some object) = Some (seen object)
 
--- an owner's view: what the core says of it. MOVE counts as set once, where it stands, and so do DROP and HOT
+-- an owner's view: what the core says of it. MOVE counts as set once, where it stands, and so do DROP and HOT; and what
+-- it holds is by no pin on the table
 abbrev pub first_owner : State → Bool → ℕ → OwnerView
 first_owner s honest m = record {
   number = m;
@@ -57,6 +58,7 @@ first_owner s honest m = record {
   asked = rows_from (CELLS * m) CELLS (λ p. moves (s.cell p));
   dropped = rows_from (CELLS * m) CELLS (λ p. drops (s.cell p));
   heated = rows_from (CELLS * m) CELLS (λ p. hots (s.cell p));
+  pinned = [];
 }
 
 abbrev pub first_owners : State → Bool → List OwnerView

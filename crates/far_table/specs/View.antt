@@ -27,6 +27,8 @@ pub record OwnerView : Type 0 where
   pub dropped : List (ℕ × ℕ)
   -- how often it has set HOT anew, by pointers
   pub heated : List (ℕ × ℕ)
+  -- the pointers whose places it holds by a pin, since its scope was opened
+  pub pinned : List (ℕ × Bool)
 
 -- what the book's seat knows
 pub record BookView : Type 0 where

@@ -1,5 +1,5 @@
 -- What stands in an owner's view, and how its steps change it.
-use Rattle.std.specs.Prelude.{ℕ, ◌+◌, Bool, false, cond, Option, Some, None, List, [], ◌∷◌, is_some, slice_index_or}
+use Rattle.std.specs.Prelude.{ℕ, ◌+◌, Bool, true, false, cond, Option, Some, None, List, [], ◌∷◌, is_some, slice_index_or}
 use Rattle.far_word.specs.declared.mark.Mark.{Mark}
 use Rattle.far_word.specs.declared.mark.Mark.TheVariants.{Hot, Evac, Moved, Dropped}
 use Rattle.far_word.specs.declared.pointer.Place.{Place}
@@ -39,6 +39,10 @@ dropped_at o = over o.dropped (λ _. 0)
 abbrev pub heated_at : OwnerView → ℕ → ℕ
 heated_at o = over o.heated (λ _. 0)
 
+-- whether it is held by a pin
+abbrev pub pinned_at : OwnerView → ℕ → Bool
+pinned_at o = over o.pinned (λ _. false)
+
 -- the length of an object, its data structure, and one of its words, where the owner uses it
 abbrev pub len_of : Option ObjectView → ℕ
 len_of None = 0
@@ -61,10 +65,11 @@ opened_view o = record o { open_at = o.epoch }
 
 -- it holds nothing, and remembers no epoch
 abbrev pub closed_view : OwnerView → OwnerView
-closed_view o = record o { epoch = None; open_at = None; held = [] }
+closed_view o = record o { epoch = None; open_at = None; held = []; pinned = [] }
 
+-- a pin holds a place
 abbrev pub held_view : ℕ → Place → OwnerView → OwnerView
-held_view p place o = record o { held = (p, Some place) ∷ o.held }
+held_view p place o = record o { held = (p, Some place) ∷ o.held; pinned = (p, true) ∷ o.pinned }
 
 -- the place is held, if there is one
 abbrev pub with_place : ℕ → Option Place → OwnerView → OwnerView
@@ -134,7 +139,7 @@ asked_view p Dropped found o = record o { objects = (p, None) ∷ o.objects; dro
 -- ---- many owners
 -- one who knows nothing
 abbrev pub nobody : OwnerView
-nobody = record { number = 0; honest = false; epoch = None; open_at = None; objects = []; held = []; asked = []; dropped = []; heated = [] }
+nobody = record { number = 0; honest = false; epoch = None; open_at = None; objects = []; held = []; asked = []; dropped = []; heated = []; pinned = [] }
 
 abbrev pub owner_at : List OwnerView → ℕ → OwnerView
 owner_at os m = slice_index_or os m nobody

@@ -20,7 +20,7 @@ ghost use Rattle.far_core.specs.events.Pin.{place_to_view};
 ghost use Rattle.far_table.specs.Ranges.{HasBytes, Wrote};
 ghost use Rattle.far_table.specs.RowTells.{LoadedEach, StoredEach};
 ghost use Rattle.far_table.specs.Seats.{HasPlaces, data_begin, pin_reply};
-ghost use Rattle.far_table.specs.Views.{adopted_view, asked_view, closed_view, held_at, held_view, len_of, object_at, opened_view, read_view, stored_view, uses, warmed_view, word_in_view};
+ghost use Rattle.far_table.specs.Views.{adopted_view, asked_view, closed_view, held_at, held_view, hots, len_of, object_at, opened_view, pinned_at, read_view, stored_view, uses, warmed_view, word_in_view};
 ghost use Rattle.far_word.specs.Bytes.{packed_word};
 ghost use Rattle.far_word.specs.Sizes.{words_for};
 
@@ -378,6 +378,13 @@ impl<D: Device> MutSeat<D> {
     pub fn no_log_is_given_out_under_a_view(&self)
         ensures kept { (x : State) → OwnerMayBe self.now.view x → (p : ℕ) (place : any_place) → held_at self.now.view p ≡ Some place → (x.held p ≡ Some place) × StaysGiven x p place }
         ensures there { HasState self.now.view }
+    {
+        let _number = self.number;
+    }
+
+    /// What this seat holds by a pin has HOT in its cell, whatever state the words and all views are in beside its view. The call does nothing.
+    pub fn what_it_pinned_is_hot(&self)
+        ensures { (x : State) → OwnerMayBe self.now.view x → (p : ℕ) → p / CELLS ≡ self.now.view.number → pinned_at self.now.view p ≡ true → hots (x.cell p) ≡ 1 }
     {
         let _number = self.number;
     }

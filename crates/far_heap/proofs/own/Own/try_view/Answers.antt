@@ -44,8 +44,8 @@ invariant_of-self g c =
     subst (λ (t : Seated). OwnOk t _ s.number s.lens.items (slice_set s.stamps.items (p % CELLS) s.scope) s.scope) (sym (seated_is c.pin.new.self s.seat.table _ c.pin.ensures.table c.in-Ok.ensures.held.2))
     (pinned_ok s.seat _ s.number s.lens.items s.stamps.items s.scope c.self.invariant p c.in-Ok.ensures.held.0 c.in-Ok.field-0 (so.0 ∙ c.self.invariant.number_is) so.1 (ap (λ (m : Mine). m.opened) c.self.view_is ∙ c.requires))
 
-pub invariant_of-self-2 : goal.invariant_of-self-2
-invariant_of-self-2 g c =
+pub invariant_of-self-in-Err : goal.invariant_of-self-in-Err
+invariant_of-self-in-Err g c =
     let s = c.self.inside in
     subst (λ (t : Seated). OwnOk t _ s.number s.lens.items s.stamps.items s.scope) (sym (seated_is c.pin.new.self s.seat.table _ c.pin.ensures.table c.in-Err.ensures.kept.0))
     (warmed_ok s.seat _ s.number s.lens.items s.stamps.items s.scope c.self.invariant c.args.p c.in-Err.word)
