@@ -33,7 +33,7 @@ use Rattle.far_table.specs.Rows.{over}
 use Rattle.far_table.specs.Rule.{Facts, Running}
 use Rattle.far_table.specs.Stands.{IsPlain, book_of}
 use Rattle.far_table.specs.StateOf.{book_state, head_at, head_or, known_word, state_of}
-use Rattle.far_table.specs.Views.{drops, moves}
+use Rattle.far_table.specs.Views.{drops, hots, moves}
 use Rattle.far_table.proofs.BookFrames.{BookStep}
 use Rattle.far_table.proofs.BookKnown.{elsewhere, forgotten, head_same, no_head, plain_more, put_known}
 use Rattle.far_table.proofs.BookLift.{book_makes, book_reads}
@@ -133,8 +133,9 @@ module _ (ws : List ℕ) (b : BookView) (os : List OwnerView) (f : Facts ws b os
     honest = refl;
     rest = refl;
     scopes = refl;
-    counts = λ _. (refl, refl);
-    told = λ _. (refl, refl);
+    counts = λ _. (refl, refl, refl);
+    warm = λ _ _. refl;
+    told = λ _. (refl, refl, refl);
   }
   get_step low false quiet = record {
     legal = (low, inside, tt);
@@ -147,8 +148,9 @@ module _ (ws : List ℕ) (b : BookView) (os : List OwnerView) (f : Facts ws b os
     honest = refl;
     rest = refl;
     scopes = refl;
-    counts = λ _. (refl, refl);
-    told = λ _. (refl, refl);
+    counts = λ _. (refl, refl, refl);
+    warm = λ _ _. refl;
+    told = λ _. (refl, refl, refl);
   }
 
   -- what far_hand says of a beset hand's view, of this one
@@ -187,8 +189,9 @@ module _ (ws : List ℕ) (b : BookView) (os : List OwnerView) (f : Facts ws b os
     honest = refl;
     rest = refl;
     scopes = refl;
-    counts = λ _. (refl, refl);
-    told = λ _. (refl, refl);
+    counts = λ _. (refl, refl, refl);
+    warm = λ _ _. refl;
+    told = λ _. (refl, refl, refl);
   }
 
   free_gets : Gets o (book_state left) l at true n
@@ -221,8 +224,13 @@ module _ (ws : List ℕ) (b : BookView) (os : List OwnerView) (f : Facts ws b os
           honest = refl;
           rest = refl;
           scopes = are.scope_is;
-          counts = λ p. (ap (λ c. over b.taken (λ _. 0) p + moves (c p)) (sym are.cell_is), ap (λ c. over b.retired (λ _. 0) p + drops (c p)) (sym are.cell_is));
-          told = λ _. (refl, refl);
+          counts = λ p. (
+            ap (λ c. over b.taken (λ _. 0) p + moves (c p)) (sym are.cell_is),
+            ap (λ c. over b.retired (λ _. 0) p + drops (c p)) (sym are.cell_is),
+            ap (λ c. over b.cooled (λ _. 0) p + hots (c p)) (sym are.cell_is),
+          );
+          warm = λ p _. ap (λ c. hots (c p)) are.cell_is;
+          told = λ _. (refl, refl, refl);
         }
 
 -- what is put is known

@@ -20,7 +20,7 @@ use Rattle.far_core.specs.declared.event.Reply.{Reply}
 use Rattle.far_core.specs.state.State.{addr}
 use Rattle.far_table.specs.View.{ObjectView, OwnerView, View, Owner}
 use Rattle.far_table.specs.Tells.{HasState, OwnerMade, OwnerRefused, Tells, owner_of}
-use Rattle.far_table.specs.Views.{adopted_view, asked_view, fresh, held_at, held_view, len_of, object_at, pinned_view, stored_view, with_place, with_word}
+use Rattle.far_table.specs.Views.{adopted_view, asked_view, fresh, held_at, held_view, len_of, object_at, pinned_view, stored_view, warmed_view, with_place, with_word}
 use Rattle.far_core.specs.events.Open.{scope_word_of}
 use Rattle.far_table.specs.Layout.{TABLE_WORDS}
 use Rattle.far_table.specs.Plays.{AdoptTells, number_of}
@@ -76,12 +76,16 @@ rests n None r e there h = absurd (false≢true there)
 rests n (Some v) r e there h = h v e ∙ sym (ap place_to_view e)
 
 pub pin_kept : (v v' : View) (e : Event) (p n : ℕ) → place_to_view (read_of n) ≡ None → Tells v v' e (pin_answer n (place_to_view (read_of n))) (pinned_view p n (owner_of v)) →
-    Tells v v' e (Word n) (owner_of v)
-pin_kept v v' e p n none t = subst (λ (x : Option Place). Tells v v' e (pin_answer n x) (with_place p x (owner_of v))) none t
+    Tells v v' e (Word n) (warmed_view p n (owner_of v))
+pin_kept v v' e p n none t = subst (λ (x : Option Place). Tells v v' e (pin_answer n x) (with_place p x (warmed_view p n (owner_of v)))) none t
 
 pub pin_held : (v v' : View) (e : Event) (p n : ℕ) (place : Place) → place_to_view (read_of n) ≡ Some place →
-    Tells v v' e (pin_answer n (place_to_view (read_of n))) (pinned_view p n (owner_of v)) → Tells v v' e (Held place) (held_view p place (owner_of v))
-pin_held v v' e p n place some t = subst (λ (x : Option Place). Tells v v' e (pin_answer n x) (with_place p x (owner_of v))) some t
+    Tells v v' e (pin_answer n (place_to_view (read_of n))) (pinned_view p n (owner_of v)) → Tells v v' e (Held place) (held_view p place (warmed_view p n (owner_of v)))
+pin_held v v' e p n place some t = subst (λ (x : Option Place). Tells v v' e (pin_answer n x) (with_place p x (warmed_view p n (owner_of v)))) some t
+
+-- HOT that is counted is no place
+pub places_warmed : (p n : ℕ) (o : OwnerView) (places : List ℕ) → HasPlaces o places → HasPlaces (warmed_view p n o) places
+places_warmed p n o places has = places_same o (warmed_view p n o) places refl refl refl has
 
 -- the place of one object more
 pub places_put : (o : OwnerView) (places : List ℕ) (p : ℕ) (place : Place) → HasPlaces o places → length places ≡ CELLS → p / CELLS ≡ o.number →

@@ -113,11 +113,14 @@ module _ (s : State) (honest : Bool) (law : Law s) (past : HasNothingPast s) (sa
       let many = many_owners s honest in
       let one = one_there (first_owners s honest) m (omega arith) in
       let same : one.0 ≡ first_owner s honest m = sym (owner_stands s honest m one.0 one.1).1 in
-      ∣ (state_of (table s) (waiting s honest s.mutators 0) (first_owners s honest), record {
-        words = table s;
-        book = waiting s honest s.mutators 0;
-        owners = first_owners s honest;
-        facts = facts_start;
-        stands = one.1 ∙ ap some same;
-        is = refl;
-      }) ∣₁
+      ∣ (
+        state_of (table s) (waiting s honest s.mutators 0) (first_owners s honest),
+        record {
+          words = table s;
+          book = waiting s honest s.mutators 0;
+          owners = first_owners s honest;
+          facts = facts_start;
+          stands = one.1 ∙ ap some same;
+          is = refl;
+        },
+      ) ∣₁

@@ -20,7 +20,7 @@ ghost use Rattle.far_core.specs.events.Pin.{place_to_view};
 ghost use Rattle.far_table.specs.Ranges.{HasBytes, Wrote};
 ghost use Rattle.far_table.specs.RowTells.{LoadedEach, StoredEach};
 ghost use Rattle.far_table.specs.Seats.{HasPlaces, data_begin, pin_reply};
-ghost use Rattle.far_table.specs.Views.{adopted_view, asked_view, closed_view, held_at, held_view, len_of, object_at, opened_view, read_view, stored_view, uses, word_in_view};
+ghost use Rattle.far_table.specs.Views.{adopted_view, asked_view, closed_view, held_at, held_view, hots, len_of, object_at, opened_view, pinned_at, read_view, stored_view, uses, warmed_view, word_in_view};
 ghost use Rattle.far_word.specs.Bytes.{packed_word};
 ghost use Rattle.far_word.specs.Sizes.{words_for};
 
@@ -382,6 +382,13 @@ impl<D: Device> MutSeat<D> {
         let _number = self.number;
     }
 
+    /// What this seat holds by a pin has HOT in its cell, whatever state the words and all views are in beside its view. The call does nothing.
+    pub fn what_it_pinned_is_hot(&self)
+        ensures { (x : State) → OwnerMayBe self.now.view x → (p : ℕ) → p / CELLS ≡ self.now.view.number → pinned_at self.now.view p ≡ true → hots (x.cell p) ≡ 1 }
+    {
+        let _number = self.number;
+    }
+
     /// The epoch, which the owner remembers for its next scope.
     pub fn read_epoch(&mut self) -> u64
         requires closed { self.old.view.open_at ≡ None }
@@ -426,15 +433,15 @@ impl<D: Device> MutSeat<D> {
     }
 
     /// Sets HOT in the cell of a pointer, and holds the place of its object where the word found is near with none of EVAC, MOVE and
-    /// DROP; else the word found.
+    /// DROP; else the word found. The view counts HOT as set anew where the word found hasn't got it, held or not.
     pub fn pin(&mut self, p: u16) -> Result<Place, u64>
         requires own { p / CELLS ≡ self.old.view.number }
         requires used { uses self.old.view p ≡ true }
         requires free { held_at self.old.view p ≡ None }
         requires opened { IsSome self.old.view.open_at }
         ensures table { self.new.table ≡ self.old.table }
-        ensures held { IfOk result (λ place. self.new.view ≡ held_view p place self.old.view) }
-        ensures kept { IfErr result (λ found. (self.new.view ≡ self.old.view) × (place_to_view (read_of found) ≡ None)) }
+        ensures held { IfOk result (λ place. (found : ℕ) × (place_to_view (read_of found) ≡ Some place) × (self.new.view ≡ held_view p place (warmed_view p found self.old.view))) }
+        ensures kept { IfErr result (λ found. (self.new.view ≡ warmed_view p found self.old.view) × (place_to_view (read_of found) ≡ None)) }
         ensures event { OwnerMade (Event.Pin self.old.view.number p) self.old.view (pin_reply result) self.new.view }
     {
         let found = self.table.shared.fetch_or::<rule::Pin>(
