@@ -71,14 +71,9 @@ module _ (D : Type 0) (writes : D → ℕ → List ℕ → Result (Unit {0}) Dev
   -- two ways that are counted alike
   pub asks_alike : (s : State) (p : ℕ) (a b : Way) (old new : D) → fate_by a ≡ fate_by b → AsksSo D writes lets_go s p a old new → AsksSo D writes lets_go s p b old new
   asks_alike s p Drops Drops old new e asks = asks
-  asks_alike s p Drops (Moves place) old new e asks = absurd cc
-  asks_alike s p Drops Goes old new e asks = absurd cc
-  asks_alike s p (Moves place) Drops old new e asks = absurd cc
   asks_alike s p (Moves place) (Moves other) old new e asks = asks
-  asks_alike s p (Moves place) Goes old new e asks = absurd cc
-  asks_alike s p Goes Drops old new e asks = absurd cc
-  asks_alike s p Goes (Moves place) old new e asks = absurd cc
   asks_alike s p Goes Goes old new e asks = asks
+  asks_alike s p _ _ old new e asks = absurd cc
 
   -- one that was to move
   pub asked_there : (s : State) (p : ℕ) (o : Option Place) (old new : D) → IfSome o (λ _. new ≡ old) → IfNone o (lets_go old p new) → AsksAs D writes lets_go s p (near_fate o) old new

@@ -20,10 +20,9 @@ use Rattle.far_evac.specs.Census.{has_drop, housed_in}
 
 -- ---- what one cell gives
 pub none_housed : (p : ℕ) (cell : Option PtrWord) → home_of cell ≡ None → housed_in p cell ≡ []
-none_housed p None e = refl
-none_housed p (Some Free) e = refl
 none_housed p (Some (Near len ds place marks)) e = absurd cc
 none_housed p (Some (Far len ds marks)) e = absurd cc
+none_housed p _ e = refl
 
 pub drop_at_home : (cell : Option PtrWord) (home : Home) → home_of cell ≡ Some home → is_dropped cell ≡ has_drop home
 drop_at_home None home e = absurd cc

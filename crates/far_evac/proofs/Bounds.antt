@@ -130,10 +130,8 @@ pub stop_bounded : (m t : Moment) → Law (own_part m.core) → MomentLaw m → 
 stop_bounded m t law agrees total tally within leaves (k, w, walks, few, more, known, counts) =
     subst IsBounded (ap (plus total) (sym counts)) (walk_bounded m total within (risen_is_ready m law agrees (ap has_risen leaves)) k w walks)
 
--- ---- what a call tells by itself: whether the round goes on, and how much was done at most
-
-module _ (m : Moment) (law : Law (own_part m.core)) (agrees : MomentLaw m) (leaves : m.phase ≡ Evacuating) where
-  pub walk_counts : (k : ℕ) (w : Walked) → WalksTo m k w → IsBounded w.tally
-  walk_counts k w walks =
-      let sum = walk_bounded m nothing (starts_within m law agrees) (risen_is_ready m law agrees (ap has_risen leaves)) k w walks in
-      record { objects = omega (arith, sum.objects); logs = omega (arith, sum.logs) }
+-- ---- what a call tells by itself: how much was done at most
+pub walk_counts : (m : Moment) → Law (own_part m.core) → MomentLaw m → m.phase ≡ Evacuating → (k : ℕ) (w : Walked) → WalksTo m k w → IsBounded w.tally
+walk_counts m law agrees leaves k w walks =
+    let sum = walk_bounded m nothing (starts_within m law agrees) (risen_is_ready m law agrees (ap has_risen leaves)) k w walks in
+    record { objects = omega (arith, sum.objects); logs = omega (arith, sum.logs) }

@@ -1,5 +1,5 @@
 -- As long as the epoch doesn't rise no log comes into the core's round, and nothing comes to lie in one of its logs.
-use Rattle.std.proofs.Common.{◌≡◌, ℕ, ◌+◌, ◌^◌, ◌≤◌, ◌==◌, Bool, true, false, Option, Some, None, List, [], ◌∷◌, arith, ap, sym, refl, ◌∙◌, subst, bit_or}
+use Rattle.std.proofs.Common.{◌≡◌, ℕ, ◌+◌, ◌^◌, ◌≤◌, ◌==◌, Bool, true, false, Option, Some, List, [], ◌∷◌, arith, ap, sym, refl, ◌∙◌, subst, bit_or}
 use Rattle.std.specs.List.{AllByRecursion}
 use Rattle.std.proofs.lemmas.Bool.{cond_both, eqb-true, false≢true}
 use Rattle.far_word.specs.declared.mark.Mark.TheVariants.{Evac}
@@ -118,10 +118,8 @@ module _ (s : State) (law : Law s) (p new : ℕ) where
 
 -- ---- EVAC is set or taken
 left_round : (round : ℕ → Bool) (cell : Option PtrWord) (l : ℕ) → round_left round cell l ≡ true → round l ≡ true
-left_round round None l is = is
-left_round round (Some pointer.Free) l is = is
 left_round round (Some (pointer.Near len ds place marks)) l is = put_both (λ b. b ≡ true → round l ≡ true) round place.log false l (λ _ odd. absurd (false≢true odd)) (λ _ h. h) is
-left_round round (Some (pointer.Far len ds marks)) l is = is
+left_round round _ l is = is
 
 module _ (s : State) (law : Law s) (p len ds : ℕ) (place : Place) (marks : Marks) (near : read_of (s.cell p) ≡ Some (pointer.Near len ds place marks)) where
   word : IsNearWord (s.cell p)

@@ -34,10 +34,9 @@ unfolding IsDistinct
 distinct_of [] once = tt
 distinct_of (x ∷ xs) once = (each_map (λ y other. ne_eqb x y (λ e. other (sym e))) xs once.0, distinct_of xs once.1)
 
-once_take : (n : ℕ) (xs : List ℕ) → Once xs → Once (take n xs)
-once_take zero xs once = tt
-once_take (suc n) [] once = tt
+pub once_take : (n : ℕ) (xs : List ℕ) → Once xs → Once (take n xs)
 once_take (suc n) (x ∷ xs) once = (all_take (λ q. q ≢ x) n xs once.0, once_take n xs once.1)
+once_take _ _ once = tt
 
 some_dropped : (n : ℕ) (xs : List ℕ) → n < length xs → is_empty (drop n xs) ≡ false
 some_dropped n [] lt = absurd (omega (arith, lt))

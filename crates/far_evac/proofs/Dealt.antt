@@ -42,8 +42,7 @@ pub record NewPlace (s : State) (size : ℕ) (place : Place) : Type 0 where
 
 free_unsealed : (kind : Kind) → is_free kind ≡ true → kind ≢ kinds.Sealed
 free_unsealed kinds.Free h e = absurd cc
-free_unsealed kinds.Open h e = absurd (false≢true h)
-free_unsealed kinds.Sealed h e = absurd (false≢true h)
+free_unsealed _ h e = absurd (false≢true h)
 
 module _ (s : State) where
   abbrev pub IsFreeLog : ℕ → Type 0

@@ -3,7 +3,7 @@ use Rattle.std.proofs.Common.{◌≡◌, ◌≢◌, ℕ, ◌==◌, Option, Some,
 use Rattle.std.proofs.lemmas.Bool.{cond_both}
 use Rattle.far_word.specs.declared.pointer.Place.{Place}
 use Rattle.far_word.specs.declared.pointer.PtrWord.{PtrWord}
-use Rattle.far_word.specs.declared.pointer.PtrWord.TheVariants.{Free, Near, Far}
+use Rattle.far_word.specs.declared.pointer.PtrWord.TheVariants.{Near}
 use Rattle.far_word.specs.Pointer.{read_of}
 use Rattle.far_core.specs.declared.event.Event.TheVariants.{Name}
 use Rattle.far_core.specs.declared.naming.Naming.{Naming}
@@ -49,17 +49,13 @@ module _ (s : State) (p new : ℕ) where
 
 module _ (s : State) (p : ℕ) where
   evicted_one : (cell : Option PtrWord) → ChangesOne s p (evicted_of s p cell)
-  evicted_one None = same_one s p
-  evicted_one (Some Free) = same_one s p
   evicted_one (Some (Near len ds place marks)) = name_one s p (far_word len ds) (s.cell p)
-  evicted_one (Some (Far len ds marks)) = same_one s p
+  evicted_one _ = same_one s p
 
   moved_one : (place : Place) (cell : Option PtrWord) → ChangesOne s p (moved_of s p place cell)
-  moved_one place None = same_one s p
-  moved_one place (Some Free) = same_one s p
   moved_one place (Some (Near len ds from marks)) =
       let h = name_one (with_written_span s p len ds place (data_at s.word from)) p (near_word len ds place) (s.cell p) in record { frame = h.frame; cells = h.cells }
-  moved_one place (Some (Far len ds marks)) = same_one s p
+  moved_one place _ = same_one s p
 
   pub so_one : (way : Way) → ChangesOne s p (core_so s p way)
   so_one Drops = record { frame = refl; cells = put_other s.cell p 0 }

@@ -37,12 +37,11 @@ in_dropped (suc k) (x ∷ xs) p rest = λ e. there p x xs (in_dropped k xs p res
 
 -- what stands behind some is none of them
 none_before : (k : ℕ) (xs : List ℕ) (p : ℕ) (rest : List ℕ) → Once xs → drop k xs ≡ p ∷ rest → AllByRecursion (λ d. d ≢ p) (take k xs)
-none_before zero xs p rest once = λ e. tt
-none_before (suc k) [] p rest once = λ e. tt
 none_before (suc k) (x ∷ xs) p rest once = λ e. (
   λ same. all_at (λ q. q ≢ x) p xs once.0 (in_dropped k xs p rest e) (sym same),
   none_before k xs p rest once.1 e,
 )
+none_before _ _ p rest once = λ e. tt
 
 -- ---- the walk where no word changes: a cell stays while others are dealt with
 abbrev Cells : Moment → ℕ → Walked → Type 0

@@ -1,5 +1,5 @@
 -- What leaves a round as it was: steps that leave the logs it holds.
-use Rattle.std.proofs.Common.{◌≡◌, ℕ, zero, suc, ◌+◌, ◌*◌, ◌<◌, ◌||◌, Bool, true, false, Some, List, [], ◌∷◌, take, drop, eqb, inl, inr, length, map, ap, sym, refl, ◌∙◌, subst}
+use Rattle.std.proofs.Common.{◌≡◌, ℕ, zero, suc, ◌+◌, ◌*◌, ◌<◌, ◌||◌, Bool, true, false, None, Some, List, [], ◌∷◌, take, drop, eqb, inl, inr, length, map, ap, sym, refl, ◌∙◌, subst}
 use Rattle.std.specs.List.{range_with_len}
 use Rattle.std.specs.Prelude.{slice_index}
 use Rattle.std.proofs.lemmas.Bool.{cond_both, eq-eqb, false≢true, true≢false}
@@ -18,10 +18,11 @@ use Rattle.far_core.specs.state.State.{State}
 use Rattle.far_hand.specs.Owners.{OwnersChange}
 use Rattle.far_book.specs.book.NextLive.{IsBoundary}
 use Rattle.far_book.specs.book.SealedLogs.{KeepsSealed}
-use Rattle.far_hand.proofs.Finding.{near_known}
+use Rattle.far_hand.specs.Finds.{Finds}
+use Rattle.far_hand.proofs.Finding.{finds_same, near_known}
 use Rattle.far_evac.specs.AnyHand.{Knows}
 use Rattle.far_evac.specs.declared.phase.Phase.{Phase}
-use Rattle.far_evac.specs.declared.phase.Phase.TheVariants.{Idle, Marking, Waiting, Evacuating}
+use Rattle.far_evac.specs.declared.phase.Phase.TheVariants.{Idle, Marking, Evacuating}
 use Rattle.far_evac.specs.declared.round.Round.{Round}
 use Rattle.far_evac.specs.MomentLaw.{is_idle}
 use Rattle.far_evac.specs.RoundSteps.{among}
@@ -55,15 +56,13 @@ dropped_among (x ∷ xs) (suc i) l ls e = or_right (eqb l x) (among xs l) (dropp
 
 pub taken_among : (xs : List ℕ) (i l : ℕ) → among (take i xs) l ≡ true → among xs l ≡ true
 taken_among [] zero l h = absurd (false≢true h)
-taken_among [] (suc i) l h = absurd (false≢true h)
-taken_among (x ∷ xs) zero l h = absurd (false≢true h)
 taken_among (x ∷ xs) (suc i) l h = or_more (eqb l x) (among (take i xs) l) (among xs l) (taken_among xs i l) h
+taken_among _ _ l h = absurd (false≢true h)
 
 front_held : (phase : Phase) (chosen : List ℕ) (index l : ℕ) (ls : List ℕ) → is_idle phase ≡ false → drop index chosen ≡ l ∷ ls → among (collection_of phase chosen index) l ≡ true
 front_held Idle chosen index l ls running e = absurd (true≢false running)
-front_held Marking chosen index l ls running e = dropped_among chosen index l ls e
-front_held Waiting chosen index l ls running e = dropped_among chosen index l ls e
 front_held Evacuating chosen index l ls running e = ap (λ xs. among xs l) e ∙ or_left (eqb l l) (among ls l) (eq-eqb l l refl)
+front_held _ chosen index l ls running e = dropped_among chosen index l ls e
 
 -- ---- a round is as it was
 module _ (s t : State) (r : Round) (keeps : KeepsLogs s t (collection_in r)) (in_round : InRound s r) where
@@ -130,19 +129,28 @@ keeps_more s t u logs f g = record {
   epoch = g.epoch ∙ f.epoch;
 }
 
--- marks were found, and words read or forgotten
-pub keeps_known : (s t : State) (logs : List ℕ) → Knows s t → KeepsLogs s t logs
-keeps_known s t logs known = record {
-  kind = λ l h. ap (λ (u : State). u.kind l) known.rest;
-  tail = λ l h. ap (λ (u : State). u.tail l) known.rest;
-  starts = λ l at h lt. ap (λ (u : State). u.starts (l * LOG_WORDS + at)) known.rest;
-  round = λ l h. ap (λ (u : State). u.round l) known.rest;
-  only = λ l is. sym (ap (λ (u : State). u.round l) known.rest) ∙ is;
-  near = λ p len ds place marks near h. let x = near_known (s.cell p) (t.cell p) (known.found p) len ds place marks near in (x.marks, x.near, sym x.same);
-  clear = λ k. ap (λ (u : State). u.clear k) known.rest;
-  mutators = ap (λ (u : State). u.mutators) known.rest;
-  epoch = ap (λ (u : State). u.epoch) known.rest;
+-- marks were found, and words read or forgotten; or owners had a turn
+abbrev framed : State → State
+framed s = record s { cell = λ _. 0; word = λ _. 0; scope = λ _. 0; remembered = λ _. None; used = λ _. false; held = λ _. None; stored = λ _ _. 0 }
+
+keeps_found : (s t : State) (logs : List ℕ) → framed t ≡ framed s → ((p : ℕ) → Finds (s.cell p) (t.cell p)) → KeepsLogs s t logs
+keeps_found s t logs rest found = record {
+  kind = λ l h. ap (λ (u : State). u.kind l) rest;
+  tail = λ l h. ap (λ (u : State). u.tail l) rest;
+  starts = λ l at h lt. ap (λ (u : State). u.starts (l * LOG_WORDS + at)) rest;
+  round = λ l h. ap (λ (u : State). u.round l) rest;
+  only = λ l is. sym (ap (λ (u : State). u.round l) rest) ∙ is;
+  near = λ p len ds place marks near h. let x = near_known (s.cell p) (t.cell p) (found p) len ds place marks near in (x.marks, x.near, sym x.same);
+  clear = λ k. ap (λ (u : State). u.clear k) rest;
+  mutators = ap (λ (u : State). u.mutators) rest;
+  epoch = ap (λ (u : State). u.epoch) rest;
 }
+
+pub keeps_known : (s t : State) (logs : List ℕ) → Knows s t → KeepsLogs s t logs
+keeps_known s t logs known = keeps_found s t logs (ap framed known.rest) known.found
+
+pub keeps_owners : (s t : State) (logs : List ℕ) → OwnersChange s t → KeepsLogs s t logs
+keeps_owners s t logs change = keeps_found s t logs (ap framed change.rest) change.cells
 
 -- an effect of the book leaves the sealed logs, which these are
 pub keeps_sealed : (s t : State) (logs : List ℕ) → ((l : ℕ) → among logs l ≡ true → s.kind l ≡ Sealed) → KeepsSealed s t → KeepsLogs s t logs
@@ -168,36 +176,13 @@ pub round_found : (s t : State) (r : Round) → InRound s r → Knows s t → In
 round_found s t r in_round known = round_kept s t r (keeps_known s t (collection_in r) known) in_round
 
 -- owners had a turn
-pub keeps_owners : (s t : State) (logs : List ℕ) → OwnersChange s t → KeepsLogs s t logs
-keeps_owners s t logs change = record {
-  kind = λ l h. ap (λ (u : State). u.kind l) change.rest;
-  tail = λ l h. ap (λ (u : State). u.tail l) change.rest;
-  starts = λ l at h lt. ap (λ (u : State). u.starts (l * LOG_WORDS + at)) change.rest;
-  round = λ l h. ap (λ (u : State). u.round l) change.rest;
-  only = λ l is. sym (ap (λ (u : State). u.round l) change.rest) ∙ is;
-  near = λ p len ds place marks near h. let x = near_known (s.cell p) (t.cell p) (change.cells p) len ds place marks near in (x.marks, x.near, sym x.same);
-  clear = λ k. ap (λ (u : State). u.clear k) change.rest;
-  mutators = ap (λ (u : State). u.mutators) change.rest;
-  epoch = ap (λ (u : State). u.epoch) change.rest;
-}
-
 pub round_of_owners : (s t : State) (r : Round) → InRound s r → OwnersChange s t → InRound t r
 round_of_owners s t r in_round change = round_kept s t r (keeps_owners s t (collection_in r) change) in_round
 
 -- words were stored
 module _ (logs : List ℕ) (m p first : ℕ) (words : List ℕ) where
   pub keeps_word : (s : State) (word : ℕ → ℕ) → KeepsLogs s (record s { word = word }) logs
-  keeps_word s word = record {
-    kind = λ l h. refl;
-    tail = λ l h. refl;
-    starts = λ l at h lt. refl;
-    round = λ l h. refl;
-    only = λ l is. is;
-    near = λ q len ds place marks near h. (marks, near, refl);
-    clear = λ k. refl;
-    mutators = refl;
-    epoch = refl;
-  }
+  keeps_word s word = keeps_found s (record s { word = word }) logs refl (λ q. finds_same (s.cell q))
 
   one_store : (s : State) (i w : ℕ) → KeepsLogs s (step_of s (Store m p i w)).0 logs
   one_store s i w = cond_both (is_legal s (Store m p i w)) (after s (Store m p i w), answer s (Store m p i w)) (s, Refused) (λ (x : State × Reply). KeepsLogs s x.0 logs)

@@ -78,10 +78,9 @@ released_objects s l = objects_same s (released s l) (released s l) refl
 
 -- ---- a dropped object is retired: it was none already
 no_object : (word stored : ℕ → ℕ) (p : ℕ) (o : Option PtrWord) → is_dropped o ≡ true → object_of word stored p o ≡ None
-no_object word stored p None h = refl
-no_object word stored p (Some Free) h = refl
 no_object word stored p (Some (Near len ds place m)) h = ap (λ b. cond b None (object_of word stored p (Some (Near len ds place no_marks)))) h
 no_object word stored p (Some (Far len ds m)) h = ap (λ b. cond b None (object_of word stored p (Some (Far len ds no_marks)))) h
+no_object word stored p _ h = refl
 
 pub freed_objects : (s : State) (p : ℕ) → is_dropped (read_of (s.cell p)) ≡ true → KeepsObjects s (with_free_cell s p)
 unfolding world_of
@@ -135,24 +134,18 @@ evicted_objects s p len ds place m law pointer near quiet wanted alive =
     (ap (λ (w : World). w.object) gone.4) (so_one s p Goes).frame
 
 -- ---- EVAC is set or taken
-same_object : (word stored : ℕ → ℕ) (p : ℕ) (o : Option PtrWord) → object_of word stored p o ≡ object_of word stored p (but_evac o)
-same_object word stored p None = refl
+pub same_object : (word stored : ℕ → ℕ) (p : ℕ) (o : Option PtrWord) → object_of word stored p o ≡ object_of word stored p (but_evac o)
 same_object word stored p (Some Free) = refl
-same_object word stored p (Some (Near len ds place m)) = refl
-same_object word stored p (Some (Far len ds m)) = refl
+same_object word stored p _ = refl
 
 same_drop : (o : Option PtrWord) → is_dropped o ≡ is_dropped (but_evac o)
-same_drop None = refl
 same_drop (Some Free) = refl
-same_drop (Some (Near len ds place m)) = refl
-same_drop (Some (Far len ds m)) = refl
+same_drop _ = refl
 
 -- a free cell is 0
 free_of : (o : Option PtrWord) → but_evac o ≡ Some Free → o ≡ Some Free
-free_of None e = absurd cc
 free_of (Some Free) e = refl
-free_of (Some (Near len ds place m)) e = absurd cc
-free_of (Some (Far len ds m)) e = absurd cc
+free_of _ e = absurd cc
 
 zero_too : (v w : ℕ) → w < 2 ^ 64 → but_evac (read_of w) ≡ but_evac (read_of v) → v ≡ 0 → w ≡ 0
 zero_too v w fits same e =

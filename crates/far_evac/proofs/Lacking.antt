@@ -1,5 +1,5 @@
 -- The objects that lack EVAC: once the first of them has it, the others are left.
-use Rattle.std.proofs.Common.{◌≡◌, ◌≢◌, ℕ, zero, suc, ◌+◌, ◌^◌, ◌<◌, ◌≤◌, Bool, true, false, cond, not, ◌&&◌, ◌==◌, eqb, nat_le, nat_lt, Option, Some, None, List, [], ◌∷◌, ◌++◌, filter, take, drop, inl, inr, bit_or, arith, ap, sym, refl, ◌∙◌, subst}
+use Rattle.std.proofs.Common.{◌≡◌, ◌≢◌, ℕ, zero, suc, ◌+◌, ◌^◌, ◌<◌, ◌≤◌, Bool, true, false, cond, not, ◌&&◌, ◌==◌, eqb, nat_le, nat_lt, Option, Some, List, [], ◌∷◌, ◌++◌, filter, take, drop, inl, inr, bit_or, arith, ap, sym, refl, ◌∙◌, subst}
 use Rattle.std.proofs.Math.Bool.{and-false, and-true}
 use Rattle.std.specs.Prelude.{⊤, Contains, fold}
 use Rattle.std.proofs.lemmas.List.{append_assoc, take-append-drop}
@@ -12,7 +12,7 @@ use Rattle.far_word.specs.declared.mark.Mark.TheVariants.{Evac}
 use Rattle.far_word.specs.declared.mark.Marks.{Marks}
 use Rattle.far_word.specs.declared.pointer.Place.{Place}
 use Rattle.far_word.specs.declared.pointer.PtrWord.{PtrWord}
-use Rattle.far_word.specs.declared.pointer.PtrWord.TheVariants.{Free, Near, Far}
+use Rattle.far_word.specs.declared.pointer.PtrWord.TheVariants.{Free, Near}
 use Rattle.far_word.specs.Mark.{position}
 use Rattle.far_word.specs.Pointer.{read_of}
 use Rattle.far_word.specs.Sizes.{size_of}
@@ -76,8 +76,8 @@ in_pointers x (y ∷ ys) member = elim (split x y ys member) [
 
 taken_all : (k : ℕ) (xs : List ℕ) → drop k xs ≡ [] → take (suc k) xs ≡ take k xs
 taken_all zero [] e = refl
-taken_all zero (x ∷ xs) e = absurd cc
 taken_all (suc k) [] e = refl
+taken_all zero (x ∷ xs) e = absurd cc
 taken_all (suc k) (x ∷ xs) e = ap (λ ys. x ∷ ys) (taken_all k xs e)
 
 filter_none : (f : ℕ → Bool) (xs : List ℕ) → AllByRecursion (λ x. f x ≡ false) xs → filter f xs ≡ []
@@ -143,11 +143,9 @@ module _ (s : State) where
       (each_map (λ p lives. not_among l p ls lives once.0) (live_in s l) (live_named s l))
 
 -- ---- EVAC alone changes
-names_but : (o : Option PtrWord) (l at : ℕ) → names_place o l at ≡ names_place (but_evac o) l at
-names_but None l at = refl
+pub names_but : (o : Option PtrWord) (l at : ℕ) → names_place o l at ≡ names_place (but_evac o) l at
 names_but (Some Free) l at = refl
-names_but (Some (Near len ds place m)) l at = refl
-names_but (Some (Far len ds m)) l at = refl
+names_but _ l at = refl
 
 module _ (s : State) (cell : ℕ → ℕ) (round : ℕ → Bool) (same : (q : ℕ) → but_evac (read_of (cell q)) ≡ but_evac (read_of (s.cell q))) where
   abbrev then : State
@@ -184,10 +182,8 @@ from_unmarked s p near =
 
 -- ---- what was found in cells leaves them lacking
 has_body : (o : Option PtrWord) → has_evac o ≡ has_evac (body_of o)
-has_body None = refl
 has_body (Some Free) = refl
-has_body (Some (Near len ds place m)) = refl
-has_body (Some (Far len ds m)) = refl
+has_body _ = refl
 
 pub lacking_known : (s t : State) → Knows s t → (ls : List ℕ) → lacking t ls ≡ lacking s ls
 lacking_known s t known ls =
@@ -227,10 +223,9 @@ fold_fits (p ∷ ps) s fits near =
 
 module _ (ls : List ℕ) (once : IsDistinct eqb ls) where
   mutual_left : (k : ℕ) (s : State) → ((q : ℕ) → s.cell q < 2 ^ 64) → (xs : List ℕ) → lacking s ls ≡ xs → lacking (fold marked s (take k xs)) ls ≡ drop k xs
-  mutual_left zero s fits xs e = e
-  mutual_left (suc k) s fits [] e = e
   mutual_left (suc k) s fits (p ∷ ps) e =
       mutual_left k (marked s p) (marked_fits s fits p (first_near s fits ls p ps e)) ps (lacking_next s fits ls once p ps e)
+  mutual_left _ s fits _ e = e
 
   module _ (s : State) (fits : (q : ℕ) → s.cell q < 2 ^ 64) where
     pub left_to : (k : ℕ) → lacking (marked_to s ls k) ls ≡ drop k (lacking s ls)

@@ -13,8 +13,6 @@ use Rattle.far_word.specs.Pointer.{read_of}
 use Rattle.far_word.proofs.PointerLaws.{without_evac_read}
 use Rattle.far_core.specs.declared.event.Event.{Event}
 use Rattle.far_core.specs.declared.event.Event.TheVariants.{Clear, Look}
-use Rattle.far_core.specs.declared.event.Kind.{Kind}
-use Rattle.far_core.specs.declared.event.Kind.TheVariants as kinds
 use Rattle.far_core.specs.declared.event.Kind.TheVariants.{Sealed}
 use Rattle.far_core.specs.events.Mark.{is_sealed}
 use Rattle.far_core.specs.events.Clear.{IsNear, evac_cleared}
@@ -23,6 +21,7 @@ use Rattle.far_core.specs.events.Step.{Fits, after}
 use Rattle.far_core.specs.state.Law.{Law}
 use Rattle.far_core.specs.state.State.{State}
 use Rattle.far_core.proofs.Put.{put_both}
+use Rattle.far_core.proofs.Guards.{sealed_fact}
 use Rattle.far_book.specs.book.Reached.{IsOfBook, Reached}
 use Rattle.far_policy.proofs.Choices.{rows_told}
 use Rattle.far_book.specs.book.Rows.{row_of}
@@ -44,20 +43,16 @@ use Rattle.far_evac.proofs.Readiness.{looks_see}
 use Rattle.far_evac.proofs.Standings.{none_once}
 use Rattle.far_evac.proofs.Unviewed.{found_in, none_found}
 use Rattle.far_evac.proofs.Bools.{or_left, or_right}
+use Rattle.far_evac.proofs.Dealt.{free_place}
 
 -- nothing was done
 pub reached_none : (s : State) → Reached s s
 reached_none s = record { made = []; legal = tt; fits = All-nil Fits; of_book = All-nil IsOfBook; leads = refl }
 
 -- ---- selecting
-is_sealed_then : (kind : Kind) → is_sealed kind ≡ true → kind ≡ Sealed
-is_sealed_then kinds.Free h = absurd (false≢true h)
-is_sealed_then kinds.Open h = absurd (false≢true h)
-is_sealed_then kinds.Sealed h = refl
-
 -- a log is sealed where the order has it
 sealed_of : (m : Moment) → MomentLaw m → (l : ℕ) → among m.order l ≡ true → m.core.kind l ≡ Sealed
-sealed_of m law l h = is_sealed_then (m.core.kind l) (sym (law.order l) ∙ h)
+sealed_of m law l h = sealed_fact (m.core.kind l) (sym (law.order l) ∙ h)
 
 pub choice_of_sealed : ChoiceIsOfSealed
 choice_of_sealed m most logs law moment choice =
@@ -150,12 +145,8 @@ module _ (event : ℕ → Event) (fits : (p : ℕ) → Fits (event p)) (book : (
 abbrev pub IsNearOf : State → ℕ → Type 0
 IsNearOf s p = (p < CELLS * s.mutators) × IsNear s p
 
-zero_free : (len ds : ℕ) (place : Place) (marks : Marks) → read_of 0 ≡ Some (Near len ds place marks) → ⊥
-unfolding read_of
-zero_free len ds place marks h = absurd cc
-
 pub not_zero : (w len ds : ℕ) (place : Place) (marks : Marks) → read_of w ≡ Some (Near len ds place marks) → w ≢ 0
-not_zero w len ds place marks near e = zero_free len ds place marks (subst (λ x. read_of x ≡ Some (Near len ds place marks)) e near)
+not_zero w len ds place marks near e = free_place len ds place marks (subst (λ x. read_of x ≡ Some (Near len ds place marks)) e near)
 
 -- a near pointer is one of the heap's
 pub in_heap : (s : State) → Law s → (p len ds : ℕ) (place : Place) (marks : Marks) → read_of (s.cell p) ≡ Some (Near len ds place marks) → p < CELLS * s.mutators

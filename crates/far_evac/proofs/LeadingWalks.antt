@@ -107,8 +107,7 @@ module _ (m : Moment) (s : State) (order : List ℕ) (phase : Phase) (l : ℕ) (
 drops_when : (dropped hot : Bool) (o : Option Place) → cond dropped Drops (cond hot (hot_way o) Goes) ≡ Drops → dropped ≡ true
 drops_when true hot o e = refl
 drops_when false true None e = absurd cc
-drops_when false true (Some to) e = absurd cc
-drops_when false false o e = absurd cc
+drops_when false _ _ e = absurd cc
 
 -- the sealed logs, once an object came to a place
 module _ (s t : State) (law : Law s) (then : Law t) (stay : KeepsSealed s t) (order : List ℕ) (has_sealed : (l : ℕ) → among order l ≡ is_sealed (s.kind l)) (p len ds : ℕ) (from to : Place) (is : IsMoved s t p len ds from to) where

@@ -35,10 +35,9 @@ joined P q cell rest none one = cond_both (is_dropped cell) [] (housed_at q (hom
 
 -- where its cell says
 at_home : (s : State) (p : ℕ) (home : Home) (cell : Option PtrWord) → read_of (s.cell p) ≡ cell → home_of cell ≡ Some home → is_dropped cell ≡ false → IsAt s p home
-at_home s p home None e is alive = absurd cc
-at_home s p home (Some pointer.Free) e is alive = absurd cc
 at_home s p home (Some (pointer.Near len ds place marks)) e is alive = let same : Near place marks ≡ home = cc in subst (IsAt s p) same (len, ds, e, alive)
 at_home s p home (Some (pointer.Far len ds marks)) e is alive = let same : Far marks ≡ home = cc in subst (IsAt s p) same (len, ds, e, alive)
+at_home s p home _ e is alive = absurd cc
 
 says_home : (s : State) (p : ℕ) (home : Home) → IsAt s p home → (home_of (read_of (s.cell p)) ≡ Some home) × (is_dropped (read_of (s.cell p)) ≡ false)
 says_home s p (Near place marks) (len, ds, e, alive) = (ap home_of e, ap is_dropped e ∙ alive)
@@ -74,10 +73,9 @@ module _ (m : Moment) where
   state l = record { kind = kind_in m l; row = row_of m.core l }
 
   named : (l : ℕ) (kind : Kind) (held : Bool) → m.core.kind l ≡ kind → among m.collection l ≡ held → IsNamed m l (kind_named held kind)
-  named l kinds.Free held e h = e
-  named l kinds.Open held e h = e
   named l kinds.Sealed true e h = (e, h)
   named l kinds.Sealed false e h = (e, h)
+  named l _ held e h = e
 
   in_order : (ls : List ℕ) → map (λ (log : LogState). log.row.log) (map state ls) ≡ ls
   in_order [] = refl

@@ -1,10 +1,10 @@
 -- Lists of live objects: what is found in cells leaves them; an object that leaves its place leaves them alone.
-use Rattle.std.proofs.Common.{◌≡◌, ◌≢◌, ℕ, zero, suc, ◌+◌, ◌<◌, Bool, true, false, cond, not, ◌&&◌, ◌==◌, nat_eq, nat_lt, Option, Some, None, List, [], ◌∷◌, filter, arith, ap, sym, refl, ◌∙◌}
+use Rattle.std.proofs.Common.{◌≡◌, ◌≢◌, ℕ, zero, suc, ◌+◌, ◌<◌, Bool, true, false, cond, not, ◌&&◌, ◌==◌, nat_eq, nat_lt, Option, Some, List, [], ◌∷◌, filter, arith, ap, sym, refl, ◌∙◌}
 use Rattle.std.proofs.lemmas.Bool.{cond_both}
 use Rattle.std.proofs.lemmas.Bool.Decides.{nat_tests}
 use mathlib.Core.Path.{fun_ext}
 use Rattle.far_word.specs.declared.pointer.PtrWord.{PtrWord}
-use Rattle.far_word.specs.declared.pointer.PtrWord.TheVariants.{Free, Near, Far}
+use Rattle.far_word.specs.declared.pointer.PtrWord.TheVariants.{Free}
 use Rattle.far_word.specs.Pointer.{read_of}
 use Rattle.far_word.specs.Sizes.{size_of}
 use Rattle.far_log.specs.declared.span.Span.{Span}
@@ -19,10 +19,8 @@ use Rattle.far_book.specs.book.Releasing.{released}
 
 -- ---- a word that was found names the place that was known
 pub names_body : (cell : Option PtrWord) (l at : ℕ) → names_place cell l at ≡ names_place (body_of cell) l at
-names_body None l at = refl
 names_body (Some Free) l at = refl
-names_body (Some (Near len ds place marks)) l at = refl
-names_body (Some (Far len ds marks)) l at = refl
+names_body _ l at = refl
 
 pub finds_place : (known found : ℕ) → Finds known found → (l at : ℕ) → names_place (read_of found) l at ≡ names_place (read_of known) l at
 finds_place known found finds l at = names_body (read_of found) l at ∙ ap (λ cell. names_place cell l at) finds.body ∙ sym (names_body (read_of known) l at)

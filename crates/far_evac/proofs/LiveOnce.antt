@@ -1,5 +1,5 @@
 -- A pointer lives in one log, once.
-use Rattle.std.proofs.Common.{◌≡◌, ◌≢◌, ℕ, zero, suc, ◌+◌, ◌<◌, ◌≤◌, ◌||◌, true, cond, not, ◌==◌, nat_lt, Option, Some, None, List, [], ◌∷◌, ◌++◌, filter, inl, inr, arith, ap, sym, refl, ◌∙◌, subst}
+use Rattle.std.proofs.Common.{◌≡◌, ◌≢◌, ℕ, zero, suc, ◌+◌, ◌<◌, ◌≤◌, ◌||◌, true, cond, not, ◌==◌, nat_lt, Option, Some, List, [], ◌∷◌, ◌++◌, filter, inl, inr, arith, ap, sym, refl, ◌∙◌, subst}
 use Rattle.std.specs.List.{AllByRecursion}
 use Rattle.std.specs.Prelude.{⊤}
 use Rattle.std.proofs.lemmas.Bool.{cases_eq, cond_both, eq-eqb, false≢true, ne_eqb, true≢false}
@@ -7,7 +7,7 @@ use Rattle.std.proofs.lemmas.Bool.Decides.{nat_tests}
 use Rattle.far_word.specs.declared.mark.Marks.{Marks}
 use Rattle.far_word.specs.declared.pointer.Place.{Place}
 use Rattle.far_word.specs.declared.pointer.PtrWord.{PtrWord}
-use Rattle.far_word.specs.declared.pointer.PtrWord.TheVariants.{Free, Near, Far}
+use Rattle.far_word.specs.declared.pointer.PtrWord.TheVariants.{Near}
 use Rattle.far_word.specs.Pointer.{read_of}
 use Rattle.far_word.specs.Sizes.{size_of}
 use Rattle.far_log.specs.declared.span.Span.{Span}
@@ -71,8 +71,6 @@ pub record NearAt (o : Option PtrWord) (l at : ℕ) : Type 0 where
   pub here : place.at ≡ at
 
 pub near_at : (o : Option PtrWord) (l at : ℕ) → names_place o l at ≡ true → NearAt o l at
-near_at None l at h = absurd (true≢false (sym h))
-near_at (Some Free) l at h = absurd (true≢false (sym h))
 near_at (Some (Near len ds place marks)) l at h = record {
   len = len;
   ds = ds;
@@ -82,7 +80,7 @@ near_at (Some (Near len ds place marks)) l at h = record {
   log = grind (arith, nat_tests, h);
   here = grind (arith, nat_tests, h);
 }
-near_at (Some (Far len ds marks)) l at h = absurd (true≢false (sym h))
+near_at _ l at h = absurd (true≢false (sym h))
 
 pub names_once : (o : Option PtrWord) (l k at to : ℕ) → names_place o l at ≡ true → names_place o k to ≡ true → (l ≡ k) × (at ≡ to)
 names_once o l k at to h g =

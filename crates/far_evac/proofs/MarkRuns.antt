@@ -106,7 +106,7 @@ module _ (m : Moment) (once : IsDistinct eqb m.collection) (fits : (q : ℕ) →
         omega (arith, few, le, same)
 
   -- ---- the end of a call
-  module _ (n : ℕ) (a b : Moment) (known : KnowsMoment (after_steps n) a) (then : KnowsMoment a b) where
+  module _ (n : ℕ) {a b : Moment} (known : KnowsMoment (after_steps n) a) (then : KnowsMoment a b) where
     some_more : true ≡ not (is_empty (lacking a.core a.collection)) → leaves_some m n ≡ true
     some_more some = let le = more_here n a known some in grind (arith, nat_tests, le)
 

@@ -1,5 +1,5 @@
 -- What marking and giving up make of cells: EVAC is set or taken, and nothing else changes.
-use Rattle.std.proofs.Common.{◌≡◌, ◌≢◌, ℕ, zero, suc, ◌^◌, ◌<◌, ◌≤◌, Bool, true, false, cond, not, ◌||◌, ◌&&◌, ◌==◌, eqb, Option, Some, None, List, [], ◌∷◌, ◌++◌, length, take, filter, bit_or, arith, ap, sym, refl, ◌∙◌, subst}
+use Rattle.std.proofs.Common.{◌≡◌, ◌≢◌, ℕ, suc, ◌^◌, ◌<◌, ◌≤◌, Bool, true, false, cond, not, ◌||◌, ◌&&◌, ◌==◌, eqb, Option, Some, List, [], ◌∷◌, ◌++◌, length, take, filter, bit_or, arith, ap, sym, refl, ◌∙◌, subst}
 use Rattle.std.proofs.Math.Bool.{and-false, and-true}
 use Rattle.std.specs.Prelude.{fold}
 use Rattle.std.specs.List.{AllByRecursion, list_any}
@@ -10,7 +10,7 @@ use Rattle.far_word.specs.declared.mark.Mark.TheVariants.{Evac}
 use Rattle.far_word.specs.declared.mark.Marks.{Marks}
 use Rattle.far_word.specs.declared.pointer.Place.{Place}
 use Rattle.far_word.specs.declared.pointer.PtrWord.{PtrWord}
-use Rattle.far_word.specs.declared.pointer.PtrWord.TheVariants.{Free, Near, Far}
+use Rattle.far_word.specs.declared.pointer.PtrWord.TheVariants.{Free, Near}
 use Rattle.far_word.specs.Mark.{marks_with, position}
 use Rattle.far_word.specs.Pointer.{read_of, without_evac}
 use Rattle.far_word.proofs.PointerLaws.{IsPtr-without_evac, read_says, with_mark_fits, with_mark_read, without_evac_read, without_evac_word, word_fits}
@@ -35,8 +35,7 @@ left_so false round = sym (and-true round)
 
 not_either : (r a b : Bool) → ((r && not a) && not b) ≡ (r && not (a || b))
 not_either true true b = refl
-not_either true false b = refl
-not_either false a b = refl
+not_either _ _ b = refl
 
 or_more : (a b c : Bool) → (a || (b || c)) ≡ ((a || b) || c)
 or_more true b c = refl
@@ -152,9 +151,8 @@ all_filter P f [] h = tt
 all_filter P f (x ∷ xs) h = cond_both (f x) (x ∷ filter f xs) (filter f xs) (AllByRecursion P) (λ _. (h.0, all_filter P f xs h.1)) (λ _. all_filter P f xs h.1)
 
 pub all_take : (P : ℕ → Type 0) (n : ℕ) (xs : List ℕ) → AllByRecursion P xs → AllByRecursion P (take n xs)
-all_take P zero xs h = tt
-all_take P (suc n) [] h = tt
 all_take P (suc n) (x ∷ xs) h = (h.0, all_take P n xs h.1)
+all_take P _ _ h = tt
 
 -- what holds of those that lack it, and of those that don't, holds of all
 joined_at : (P : ℕ → Type 0) (f : ℕ → Bool) (x : ℕ) (xs : List ℕ) (b : Bool) → f x ≡ b →
@@ -220,22 +218,16 @@ module _ (m : Moment) (n : ℕ) (fits : (p : ℕ) → m.core.cell p < 2 ^ 64) wh
 -- ---- giving up: which logs leave the core's round
 -- a cell names a place in a log
 abbrev in_log : Option PtrWord → ℕ → Bool
-in_log None l = false
-in_log (Some Free) l = false
 in_log (Some (Near len ds place marks)) l = l == place.log
-in_log (Some (Far len ds marks)) l = false
+in_log _ l = false
 
 left_by : (round : ℕ → Bool) (o : Option PtrWord) (l : ℕ) → round_left round o l ≡ (round l && not (in_log o l))
-left_by round None l = sym (and-true (round l))
-left_by round (Some Free) l = sym (and-true (round l))
 left_by round (Some (Near len ds place marks)) l = left_so (l == place.log) (round l)
-left_by round (Some (Far len ds marks)) l = sym (and-true (round l))
+left_by round _ l = sym (and-true (round l))
 
 log_but : (o : Option PtrWord) (l : ℕ) → in_log o l ≡ in_log (but_evac o) l
-log_but None l = refl
 log_but (Some Free) l = refl
-log_but (Some (Near len ds place marks)) l = refl
-log_but (Some (Far len ds marks)) l = refl
+log_but _ l = refl
 
 abbrev any_in : State → List ℕ → ℕ → Bool
 any_in s ps l = list_any (λ p. in_log (read_of (s.cell p)) l) ps

@@ -14,7 +14,7 @@ use Rattle.far_evac.proofs.Readiness.{clear_one}
 use Rattle.far_evac.proofs.Unviewed.{found_in, late_of, none_found, open_of}
 
 -- a word of a scope that is open is odd
-odd_of : (w : ℕ) → w ≢ 0 → IsSome (scope_of w) → w ≡ 2 * (w / 2) + 1
+pub odd_of : (w : ℕ) → w ≢ 0 → IsSome (scope_of w) → w ≡ 2 * (w / 2) + 1
 unfolding scope_of
 odd_of w opened = cond_both (w == 0) (Some scoped.Closed) (cond ((w % 2 == 1) && nat_lt w (2 * EPOCH_END)) (Some (scoped.Open (w / 2))) None)
     (λ (o : Option _). IsSome o → w ≡ 2 * (w / 2) + 1)

@@ -32,7 +32,6 @@ use Rattle.far_evac.proofs.Fronts.{kept_in, knows_cells, was_kept}
 use Rattle.far_evac.proofs.Hands.{knows_more, knows_seen}
 use Rattle.far_evac.proofs.LiveLists.{finds_place}
 
--- ---- lists
 -- ---- the objects of a log from a word on
 module _ (s : State) (law : Law (own_part s)) (l at : ℕ) where
   abbrev there_is : Span → Bool
@@ -139,47 +138,55 @@ pub knows_put : (s t : State) (p word : ℕ) → Finds (s.cell p) word → t ≡
 knows_put s t p word finds is = subst (Knows s) (sym is) (knows_seen s p word finds)
 
 -- ---- one step: from s to t a span was found, and in u its cell was seen
-module _ (s t u : State) (l at word : ℕ) (span : Span) (cells : (p : ℕ) → Finds (s.cell p) (t.cell p)) (kept : t ≡ record s { cell = t.cell }) (lies : IsHomeOf t l span)
-    (finds : Finds (t.cell span.p) word) (seen : u ≡ record t { cell = put t.cell span.p word }) (law : Law (own_part u))
-    (first : live_from s l at ≡ span ∷ live_from s l (span.at + size_of span.len)) (next : IsBoundary s l (span.at + size_of span.len)) where
+pub record IsStep (s t u : State) (l at word : ℕ) (span : Span) : Type 0 where
+  pub cells : (p : ℕ) → Finds (s.cell p) (t.cell p)
+  pub kept : t ≡ record s { cell = t.cell }
+  pub lies : IsHomeOf t l span
+  pub finds : Finds (t.cell span.p) word
+  pub seen : u ≡ record t { cell = put t.cell span.p word }
+  pub law : Law (own_part u)
+  pub first : live_from s l at ≡ span ∷ live_from s l (span.at + size_of span.len)
+  pub next : IsBoundary s l (span.at + size_of span.len)
+
+module _ {s t u : State} {l at word : ℕ} {span : Span} (x : IsStep s t u l at word span) where
   abbrev past : ℕ
   past = span.at + size_of span.len
 
   pub step_known : Knows s u
-  step_known = knows_more s t u (knows_cells s t cells kept) (knows_put t u span.p word finds seen)
+  step_known = knows_more s t u (knows_cells s t x.cells x.kept) (knows_put t u span.p word x.finds x.seen)
 
   step_lies : IsHomeOf u l span
-  step_lies = lies_known t u (knows_put t u span.p word finds seen) l span lies
+  step_lies = lies_known t u (knows_put t u span.p word x.finds x.seen) l span x.lies
 
   step_word : u.cell span.p ≡ word
-  step_word = ap (λ (v : State). v.cell span.p) seen ∙ put_same t.cell span.p word span.p refl
+  step_word = ap (λ (v : State). v.cell span.p) x.seen ∙ put_same t.cell span.p word span.p refl
 
   step_first : live_from u l at ≡ span ∷ live_from u l past
-  step_first = from_known s u step_known l at ∙ first ∙ ap (λ spans. span ∷ spans) (sym (from_known s u step_known l past))
+  step_first = from_known s u step_known l at ∙ x.first ∙ ap (λ spans. span ∷ spans) (sym (from_known s u step_known l past))
 
   pub step_lacks : MarkedBefore s l at → has_evac (read_of word) ≡ false → IsNextLacking u l span
   step_lacks before bare = record {
     lies = step_lies;
     bare = ap (λ w. has_evac (read_of w)) step_word ∙ bare;
-    here = begins_there u law span.p span.len span.ds (record { log = l; at = span.at }) step_lies.marks step_lies.near;
-    before = marked_to u law l at span step_first (before_known s u step_known l at before);
-    behind = boundary_known s u step_known l past next;
+    here = begins_there u x.law span.p span.len span.ds (record { log = l; at = span.at }) step_lies.marks step_lies.near;
+    before = marked_to u x.law l at span step_first (before_known s u step_known l at before);
+    behind = boundary_known s u step_known l past x.next;
     alone = λ p len ds place marks near log from to.
-        let le = not_before u law l at span step_first in
-        elim (one_or_behind u law l at span step_first p len ds place marks near log (omega (arith, le, from))) [
+        let le = not_before u x.law l at span step_first in
+        elim (one_or_behind u x.law l at span step_first p len ds place marks near log (omega (arith, le, from))) [
           | inl e ↦ sym (ap (λ (x : Span). x.p) e)
           | inr more ↦ absurd (omega (arith, more, to))
         ];
   }
 
   pub step_passes : MarkedBefore s l at → has_evac (read_of word) ≡ true → MarkedBefore u l past
-  step_passes before has = marked_past u law l at span step_first (before_known s u step_known l at before) (ap (λ w. has_evac (read_of w)) step_word ∙ has)
+  step_passes before has = marked_past u x.law l at span step_first (before_known s u step_known l at before) (ap (λ w. has_evac (read_of w)) step_word ∙ has)
 
   pub step_next : IsBoundary u l past
-  step_next = boundary_known s u step_known l past next
+  step_next = boundary_known s u step_known l past x.next
 
   pub step_on : (at < past) × (past ≤ LOG_WORDS)
   step_on =
-      let from = not_before u law l at span step_first in
+      let from = not_before u x.law l at span step_first in
       let some = size_some span.len in
-      (omega (arith, from, some), ends_within u law span.p span.len span.ds (record { log = l; at = span.at }) step_lies.marks step_lies.near)
+      (omega (arith, from, some), ends_within u x.law span.p span.len span.ds (record { log = l; at = span.at }) step_lies.marks step_lies.near)

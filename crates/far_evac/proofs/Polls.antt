@@ -26,18 +26,16 @@ module _ (f g : ℕ → Bool) (k : ℕ) (here : g k ≡ f k) (fewer : (m : ℕ) 
       (λ h e. ap (λ b. cond b (Some a) (found_by g (a + 1) n)) (not_sooner a h) ∙ found_again (a + 1) n e)
 
 more_clear : (c b now : Bool) → not ((c || b) || now) ≡ true → not (c || now) ≡ true
-more_clear true b now h = h
 more_clear false true now h = absurd (true≢false (sym h))
-more_clear false false now h = h
+more_clear _ _ now h = h
 
 not_below : (c now : Bool) (k : ℕ) → not ((c || nat_lt k k) || now) ≡ not (c || now)
 not_below true now k = refl
 not_below false now k = let none : nat_lt k k ≡ false = grind (arith, nat_tests) in ap (λ b. not (b || now)) none
 
 or_twice : (c b : Bool) → ((c || b) || b) ≡ (c || b)
-or_twice true b = refl
 or_twice false true = refl
-or_twice false false = refl
+or_twice _ _ = refl
 
 pub first_open_again : (s : State) (k : ℕ) → first_open s ≡ Some k → first_open (with_clear_below s k) ≡ Some k
 first_open_again s k e = found_again (holds_up s) (holds_up (with_clear_below s k)) k (not_below (s.clear k) (is_clear_now s k) k)

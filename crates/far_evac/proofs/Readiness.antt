@@ -74,9 +74,8 @@ pub clear_is_shown : (s : State) (m : ℕ) → IsSome (scope_of (s.scope m)) →
 clear_is_shown s m layout = shown s.round_epoch (s.scope m) layout
 
 pub clear_one : (clear now : Bool) → not (clear || now) ≡ false → (clear || now) ≡ true
-clear_one true now h = refl
-clear_one false true h = refl
 clear_one false false h = absurd (true≢false h)
+clear_one _ _ h = refl
 
 or_lt : (clear : Bool) (q k : ℕ) → q ≢ k → (clear || nat_lt q k) ≡ (clear || nat_lt q (suc k))
 or_lt true q k other = refl
@@ -91,9 +90,8 @@ last_below true k = refl
 last_below false k = grind (arith, nat_tests)
 
 all_or : (a b now : Bool) → (a || now) ≡ true → ((a || b) || now) ≡ true
-all_or true b now h = refl
-all_or false true now h = refl
 all_or false false now h = h
+all_or _ _ now h = refl
 
 module _ (s : State) (layout : (m : ℕ) → IsSome (scope_of (s.scope m))) where
   pub looks_see : (k : ℕ) → ((m : ℕ) → m < k → holds_up s m ≡ false) → looks s k ≡ with_clear_below s k

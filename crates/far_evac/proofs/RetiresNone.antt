@@ -4,7 +4,7 @@ use Rattle.std.specs.Prelude.{IsSome, count_by, fold}
 use Rattle.std.specs.List.{AllByRecursion}
 use Rattle.std.proofs.lemmas.Bool.{false≢true}
 use Rattle.far_word.specs.declared.pointer.PtrWord.{PtrWord}
-use Rattle.far_word.specs.declared.pointer.PtrWord.TheVariants.{Free, Near, Far}
+use Rattle.far_word.specs.declared.pointer.PtrWord.TheVariants.{Free}
 use Rattle.far_word.specs.Pointer.{read_of}
 use Rattle.far_word.proofs.PointerLaws.{read_says}
 use Rattle.far_core.specs.state.Law.{Law}
@@ -34,8 +34,7 @@ free_only w fits e = sym (read_says w Free fits e).1
 somewhere : (o : Option PtrWord) → IsSome o → (o ≡ Some Free → ⊥) → is_nowhere o ≡ false
 somewhere None read used = absurd (false≢true read)
 somewhere (Some Free) read used = absurd (used refl)
-somewhere (Some (Near len ds place marks)) read used = refl
-somewhere (Some (Far len ds marks)) read used = refl
+somewhere _ read used = refl
 
 counted_from : (f : ℕ → Bool) (n : ℕ) (xs : List ℕ) → AllByRecursion (λ x. f x ≡ false) xs → fold (λ a x. a + cond (f x) 1 0) n xs ≡ n
 counted_from f n [] h = refl

@@ -1,5 +1,5 @@
 -- What walks take of the logs, over any hand.
-use Rattle.std.proofs.Common.{◌≡◌, ◌≢◌, ℕ, zero, suc, ◌+◌, ◌<◌, ◌≤◌, ◌==◌, Bool, true, false, cond, ◌||◌, Option, Some, None, List, [], ◌∷◌, ◌++◌, take, inl, inr, arith, ap, sym, refl, ◌∙◌, subst}
+use Rattle.std.proofs.Common.{◌≡◌, ◌≢◌, ℕ, zero, suc, ◌+◌, ◌<◌, ◌≤◌, ◌==◌, Bool, true, false, cond, ◌||◌, Option, Some, List, [], ◌∷◌, ◌++◌, take, inl, inr, arith, ap, sym, refl, ◌∙◌, subst}
 use Rattle.std.proofs.lemmas.List.{append_assoc, append-nil}
 use Rattle.std.specs.List.{AllByRecursion, range_with_len, sum_by}
 use Rattle.std.proofs.lemmas.Bool.{cases_eq, eq-eqb, ne_eqb, true≢false}
@@ -7,7 +7,7 @@ use Rattle.std.proofs.lemmas.List.Sums.{sum_by-cons}
 use Rattle.far_word.specs.declared.mark.Marks.{Marks}
 use Rattle.far_word.specs.declared.pointer.Place.{Place}
 use Rattle.far_word.specs.declared.pointer.PtrWord.{PtrWord}
-use Rattle.far_word.specs.declared.pointer.PtrWord.TheVariants.{Free, Near, Far}
+use Rattle.far_word.specs.declared.pointer.PtrWord.TheVariants.{Near}
 use Rattle.far_word.specs.Pointer.{read_of}
 use Rattle.far_word.specs.Sizes.{bytes_taken}
 use Rattle.far_core.specs.events.Clear.{is_near}
@@ -121,10 +121,8 @@ module _ (k n : ℕ) where
   ]
 
 at_one : (n : ℕ) (o : Option PtrWord) → ((len ds : ℕ) (place : Place) (marks : Marks) → o ≡ Some (Near len ds place marks) → place.log < n) → sum_by (λ l. bytes_at l o) (range_with_len 0 n) ≡ bytes_near o
-at_one n None inside = sum_none (λ l. 0) (range_with_len 0 n) (every (λ x. 0 ≡ 0) (λ x. refl) (range_with_len 0 n))
-at_one n (Some Free) inside = sum_none (λ l. 0) (range_with_len 0 n) (every (λ x. 0 ≡ 0) (λ x. refl) (range_with_len 0 n))
 at_one n (Some (Near len ds place marks)) inside = one_log place.log (bytes_taken len) 0 n (omega arith) (let lt = inside len ds place marks refl in omega (arith, lt))
-at_one n (Some (Far len ds marks)) inside = sum_none (λ l. 0) (range_with_len 0 n) (every (λ x. 0 ≡ 0) (λ x. refl) (range_with_len 0 n))
+at_one n _ inside = sum_none (λ l. 0) (range_with_len 0 n) (every (λ x. 0 ≡ 0) (λ x. refl) (range_with_len 0 n))
 
 abbrev near_of : State → ℕ → ℕ
 near_of s p = bytes_near (read_of (s.cell p))
@@ -138,10 +136,8 @@ in_all s sound (p ∷ ps) =
     omega (arith, two, one, rest, sum_by-cons (near_of s) p ps)
 
 away_none : (o : Option PtrWord) → is_near o ≡ false → bytes_near o ≡ 0
-away_none None h = refl
-away_none (Some Free) h = refl
 away_none (Some (Near len ds place marks)) h = absurd (true≢false h)
-away_none (Some (Far len ds marks)) h = refl
+away_none _ h = refl
 
 gone_one : (s t : State) (p : ℕ) → (is_near (read_of (t.cell p)) ≡ true → near_of t p ≡ near_of s p) → (b : Bool) → is_near (read_of (t.cell p)) ≡ b → near_of s p ≡ near_of t p + gone_of s t p
 gone_one s t p size true is = (let a = size is in let b : gone_of s t p ≡ 0 = ap (λ x. cond x 0 (near_of s p)) is in omega (arith, a, b))

@@ -1,5 +1,5 @@
 -- What a walk has taken of the logs so far: object after object, log after log that is given back, and as far as it is known over any hand.
-use Rattle.std.proofs.Common.{◌≡◌, ◌≢◌, ℕ, ◌+◌, ◌*◌, ◌<◌, ◌≤◌, Bool, true, false, cond, ◌&&◌, ◌||◌, eqb, nat_eq, Option, Some, None, List, [], ◌∷◌, ◌++◌, filter, inl, inr, arith, ap, sym, refl, ◌∙◌, subst}
+use Rattle.std.proofs.Common.{◌≡◌, ◌≢◌, ℕ, ◌+◌, ◌*◌, ◌<◌, ◌≤◌, Bool, true, false, cond, ◌&&◌, ◌||◌, eqb, nat_eq, Option, Some, List, [], ◌∷◌, ◌++◌, filter, inl, inr, arith, ap, sym, refl, ◌∙◌, subst}
 use Rattle.std.proofs.Math.Bool.{and-true}
 use Rattle.std.specs.Prelude.{Contains, ◌⊎◌}
 use Rattle.std.specs.List.{AllByRecursion, IsDistinct, sum_by}
@@ -10,7 +10,7 @@ use Rattle.std.specs.Cmp.{nat_eq_equiv}
 use Rattle.far_word.specs.declared.mark.Marks.{Marks}
 use Rattle.far_word.specs.declared.pointer.Place.{Place}
 use Rattle.far_word.specs.declared.pointer.PtrWord.{PtrWord}
-use Rattle.far_word.specs.declared.pointer.PtrWord.TheVariants.{Free, Near, Far}
+use Rattle.far_word.specs.declared.pointer.PtrWord.TheVariants.{Free, Near}
 use Rattle.far_word.specs.declared.sizes.TheConstants.{LOG_WORDS}
 use Rattle.far_word.specs.Pointer.{read_of}
 use Rattle.far_word.specs.Sizes.{bytes_taken}
@@ -40,71 +40,57 @@ use Rattle.far_evac.proofs.SpanBytes.{Dealt, Sound}
 
 -- ---- bytes by what a cell says
 at_spot : (l : ℕ) (o : Option PtrWord) → bytes_at l o ≡ bytes_at l (spot_of o)
-at_spot l None = refl
 at_spot l (Some Free) = refl
-at_spot l (Some (Near len ds place marks)) = refl
-at_spot l (Some (Far len ds marks)) = refl
+at_spot l _ = refl
 
 pub same_at : (l : ℕ) (a b : Option PtrWord) → spot_of a ≡ spot_of b → bytes_at l a ≡ bytes_at l b
 same_at l a b e = at_spot l a ∙ ap (bytes_at l) e ∙ sym (at_spot l b)
 
 near_spot : (o : Option PtrWord) → bytes_near o ≡ bytes_near (spot_of o)
-near_spot None = refl
 near_spot (Some Free) = refl
-near_spot (Some (Near len ds place marks)) = refl
-near_spot (Some (Far len ds marks)) = refl
+near_spot _ = refl
 
 pub same_near : (a b : Option PtrWord) → spot_of a ≡ spot_of b → bytes_near a ≡ bytes_near b
 same_near a b e = near_spot a ∙ ap bytes_near e ∙ sym (near_spot b)
 
 is_spot : (o : Option PtrWord) → is_near o ≡ is_near (spot_of o)
-is_spot None = refl
 is_spot (Some Free) = refl
-is_spot (Some (Near len ds place marks)) = refl
-is_spot (Some (Far len ds marks)) = refl
+is_spot _ = refl
 
 pub same_is : (a b : Option PtrWord) → spot_of a ≡ spot_of b → is_near a ≡ is_near b
 same_is a b e = is_spot a ∙ ap is_near e ∙ sym (is_spot b)
 
-names_spot : (o : Option PtrWord) (l at : ℕ) → names_place o l at ≡ names_place (spot_of o) l at
-names_spot None l at = refl
+pub names_spot : (o : Option PtrWord) (l at : ℕ) → names_place o l at ≡ names_place (spot_of o) l at
 names_spot (Some Free) l at = refl
-names_spot (Some (Near len ds place marks)) l at = refl
-names_spot (Some (Far len ds marks)) l at = refl
+names_spot _ l at = refl
 
 pub same_names : (a b : Option PtrWord) → spot_of a ≡ spot_of b → (l at : ℕ) → names_place a l at ≡ names_place b l at
 same_names a b e l at = names_spot a l at ∙ ap (λ o. names_place o l at) e ∙ sym (names_spot b l at)
 
 -- one that lies at a place under other marks
 near_from : (o : Option PtrWord) (len ds : ℕ) (place : Place) → spot_of o ≡ Some (Near len ds place no_marks) → (marks : Marks) × (o ≡ Some (Near len ds place marks))
-near_from None len ds place e = absurd cc
-near_from (Some Free) len ds place e = absurd cc
 near_from (Some (Near n d at m)) len ds place e =
     let ns : n ≡ len = cc in
     let dss : d ≡ ds = cc in
     let ats : at ≡ place = cc in
     (m, λ i. Some (Near (ns i) (dss i) (ats i) m))
-near_from (Some (Far n d m)) len ds place e = absurd cc
+near_from _ len ds place e = absurd cc
 
 pub near_same : (a b : Option PtrWord) → spot_of a ≡ spot_of b → (len ds : ℕ) (place : Place) (marks : Marks) → a ≡ Some (Near len ds place marks) → (m : Marks) × (b ≡ Some (Near len ds place m))
 near_same a b e len ds place marks near = near_from b len ds place (sym e ∙ ap spot_of near)
 
 -- what was found in a cell says the same place
 spot_body : (o : Option PtrWord) → spot_of o ≡ spot_of (body_of o)
-spot_body None = refl
 spot_body (Some Free) = refl
-spot_body (Some (Near len ds place marks)) = refl
-spot_body (Some (Far len ds marks)) = refl
+spot_body _ = refl
 
 pub spot_found : (known found : ℕ) → Finds known found → spot_of (read_of found) ≡ spot_of (read_of known)
 spot_found known found finds = spot_body (read_of found) ∙ ap spot_of finds.body ∙ sym (spot_body (read_of known))
 
 -- a cell that names no word of a log takes none of its bytes
 pub off_none : (l : ℕ) (o : Option PtrWord) → ((at : ℕ) → names_place o l at ≡ false) → bytes_at l o ≡ 0
-off_none l None off = refl
-off_none l (Some Free) off = refl
 off_none l (Some (Near len ds place marks)) off = ap (λ b. cond b (bytes_taken len) 0) (sym (ap (λ b. nat_eq place.log l && b) (eq-eqb place.at place.at refl) ∙ and-true (nat_eq place.log l)) ∙ off place.at)
-off_none l (Some (Far len ds marks)) off = refl
+off_none l _ off = refl
 
 -- nor one that names a word of another
 pub elsewhere_none : (l k at : ℕ) (o : Option PtrWord) → names_place o k at ≡ true → l ≢ k → bytes_at l o ≡ 0

@@ -1,7 +1,7 @@
 -- What calls, turns and rounds take of the logs.
-use Rattle.std.proofs.Common.{◌≡◌, ℕ, ◌^◌, ◌<◌, false, Option, Some, None, List, [], ◌∷◌, ◌++◌, take, ap, sym, refl, ◌∙◌, subst}
+use Rattle.std.proofs.Common.{◌≡◌, ℕ, ◌^◌, ◌<◌, false, Option, Some, List, [], ◌∷◌, ◌++◌, take, ap, sym, refl, ◌∙◌, subst}
 use Rattle.far_word.specs.declared.pointer.PtrWord.{PtrWord}
-use Rattle.far_word.specs.declared.pointer.PtrWord.TheVariants.{Free, Near, Far}
+use Rattle.far_word.specs.declared.pointer.PtrWord.TheVariants.{Free}
 use Rattle.far_word.specs.Pointer.{read_of}
 use Rattle.far_core.specs.state.Law.{Law}
 use Rattle.far_core.specs.state.Spans.{spans_of}
@@ -32,10 +32,8 @@ Stands m t objects = Taken m t.core t.collection objects
 
 -- ---- marks alone change, or who was seen clear
 spot_but : (o : Option PtrWord) → spot_of o ≡ spot_of (but_evac o)
-spot_but None = refl
 spot_but (Some Free) = refl
-spot_but (Some (Near len ds place marks)) = refl
-spot_but (Some (Far len ds marks)) = refl
+spot_but _ = refl
 
 -- of these parts alone it hangs
 alike_parts : (s t : State) → ((p : ℕ) → spot_of (read_of (t.cell p)) ≡ spot_of (read_of (s.cell p))) → t.word ≡ s.word → t.tail ≡ s.tail → t.kind ≡ s.kind → t.logs ≡ s.logs → Alike s t

@@ -1,12 +1,9 @@
 -- Which objects turns deal with, one after the other: those that stood first when they began. Under other keys the device has what it had.
-use Rattle.std.proofs.Common.{◌≡◌, ◌≢◌, ℕ, ◌+◌, false, Option, Some, None, List, [], ◌∷◌, ◌++◌, filter, take, drop, arith, ap, sym, refl, ◌∙◌, subst}
+use Rattle.std.proofs.Common.{◌≡◌, ◌≢◌, ℕ, ◌+◌, false, Option, List, [], ◌∷◌, ◌++◌, filter, take, drop, arith, ap, sym, refl, ◌∙◌, subst}
 use Rattle.std.proofs.lemmas.List.{drop-drop}
 use Rattle.std.proofs.Math.Seq.{take-add}
 use Rattle.std.specs.List.{AllByRecursion}
 use mathlib.Core.Path.{fun_ext}
-use Rattle.far_word.specs.declared.pointer.PtrWord.{PtrWord}
-use Rattle.far_word.specs.declared.pointer.PtrWord.TheVariants as pointer
-use Rattle.far_word.specs.declared.pointer.PtrWord.TheVariants.{Free, Near, Far}
 use Rattle.far_word.specs.Pointer.{read_of}
 use Rattle.far_log.specs.declared.span.Span.{Span}
 use Rattle.far_core.specs.state.Spans.{is_live, names_place, spans_of}
@@ -18,11 +15,10 @@ use Rattle.far_evac.specs.Marking.{after_marking}
 use Rattle.far_evac.specs.Moment.{Moment, Tally, objects_in, plus}
 use Rattle.far_evac.specs.MomentLaw.{has_risen}
 use Rattle.far_evac.specs.RoundSteps.{with_clear_below}
-use Rattle.far_evac.specs.TakesRoom.{spot_of}
 use Rattle.far_evac.proofs.InOrder.{in_order}
 use Rattle.far_evac.proofs.SmallSteps.{left_known}
 use Rattle.far_evac.proofs.Readiness.{risen_is_ready}
-use Rattle.far_evac.proofs.RoomTaken.{Alike}
+use Rattle.far_evac.proofs.RoomTaken.{Alike, names_spot}
 use Rattle.far_evac.proofs.RoomTurns.{clear_alike, marking_alike, marking_held}
 use Rattle.far_evac.proofs.TurnSteps.{KeepsTurns}
 
@@ -35,12 +31,6 @@ keys_join : (xs ys : List ℕ) (a b c : ℕ → Option (List ℕ)) → KeepsKeys
 keys_join xs ys a b c first then p none = let parts = both_parts (λ q. q ≢ p) xs ys none in then p parts.1 ∙ first p parts.0
 
 -- ---- what leaves places alone leaves the live objects
-names_spot : (cell : Option PtrWord) (l at : ℕ) → names_place cell l at ≡ names_place (spot_of cell) l at
-names_spot None l at = refl
-names_spot (Some pointer.Free) l at = refl
-names_spot (Some (Near len ds place marks)) l at = refl
-names_spot (Some (Far len ds marks)) l at = refl
-
 module _ (s t : State) (alike : Alike s t) where
   same_place : (p l at : ℕ) → names_place (read_of (t.cell p)) l at ≡ names_place (read_of (s.cell p)) l at
   same_place p l at = names_spot (read_of (t.cell p)) l at ∙ ap (λ cell. names_place cell l at) (alike.spots p) ∙ sym (names_spot (read_of (s.cell p)) l at)

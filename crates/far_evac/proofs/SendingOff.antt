@@ -1,7 +1,6 @@
 -- An object leaves its log as a word says that was found in its cell.
 use Rattle.std.proofs.Common.{◌≡◌, ◌≢◌, ℕ, ◌*◌, ◌/◌, ◌<◌, ◌||◌, ◌&&◌, Bool, true, false, cond, eqb, Option, Some, None, Result, Ok, Err, List, [], ◌∷◌, ◌++◌, IfOk, IfErr, IfSome, IfNone, MatchOption, arith, ap, sym, refl, ◌∙◌, subst}
 use Rattle.std.proofs.lemmas.Bool.{eq-eqb, true≢false, false_from_ne_true, or_parts}
-use Rattle.far_word.specs.declared.mark.Marks.{Marks}
 use Rattle.far_word.specs.declared.pointer.Place.{Place}
 use Rattle.far_word.specs.declared.pointer.PtrWord.TheVariants.{Near, Far}
 use Rattle.far_word.specs.declared.refused.Refused.{Refused}
@@ -43,6 +42,7 @@ use Rattle.far_evac.proofs.Dealt.{NewPlace, room_new}
 use Rattle.far_evac.proofs.Hands.{evicted_seen, freed_seen, knows_far, knows_left, knows_more, knows_seen, knows_spans, knows_words, moved_seen}
 use Rattle.far_evac.proofs.LiveOnce.{LivesIn, first_named, near_at}
 use Rattle.far_evac.proofs.Tours.{goes_when, moves_when}
+use Rattle.far_evac.proofs.Leading.{not_zero}
 
 or_other : (a b : Bool) → (a || b) ≡ true → a ≡ false → b ≡ true
 or_other true b h none = absurd (true≢false none)
@@ -252,10 +252,6 @@ first_among : (s : State) (ls : List ℕ) (p : ℕ) (rest : List ℕ) → live_a
 first_among s [] p rest e = absurd cc
 first_among s (l ∷ ls) p rest e = first_here s l ls p rest (live_in s l) refl e (first_among s ls p rest)
 
-near_used : (w len ds : ℕ) (place : Place) (marks : Marks) → read_of w ≡ Some (Near len ds place marks) → w ≢ 0
-unfolding read_of
-near_used w len ds place marks near zero = let odd : read_of 0 ≡ Some (Near len ds place marks) = sym (ap read_of zero) ∙ near in absurd cc
-
 quiet_by : (m e r c : Bool) → e ≡ true → r ≡ true → c ≡ true → (m || (e && r && c)) ≡ true
 quiet_by true e r c evac round clear = refl
 quiet_by false e r c evac round clear = rw (evac, round, clear) refl
@@ -272,7 +268,7 @@ first_wanted m law moment walks p rest e =
     let n = near_at (read_of (s.cell p)) first.l first.lives.0 first.lives.1 in
     let round : s.round n.place.log ≡ true = ap s.round n.log ∙ moment.round (ap has_risen walks) first.l first.member in
     let evac : n.marks.evac ≡ true = law.rounds.round_evac p n.len n.ds n.place n.marks n.near round in
-    let pointer : p < CELLS * s.mutators = law.cells.cell_range p (near_used (s.cell p) n.len n.ds n.place n.marks n.near) in
+    let pointer : p < CELLS * s.mutators = law.cells.cell_range p (not_zero (s.cell p) n.len n.ds n.place n.marks n.near) in
     let clear : s.clear (p / CELLS) ≡ true = moment.clear walks (p / CELLS) (omega (arith, pointer)) in
     record {
       pointer = pointer;

@@ -86,18 +86,15 @@ holding w held = record w { moment = record w.moment { collection = held } }
 
 abbrev pub more_dropped : Way → ℕ → ℕ
 more_dropped Drops n = n + 1
-more_dropped (Moves place) n = n
-more_dropped Goes n = n
+more_dropped _ n = n
 
 abbrev pub more_moved : Way → ℕ → ℕ
-more_moved Drops n = n
 more_moved (Moves place) n = n + 1
-more_moved Goes n = n
+more_moved _ n = n
 
 abbrev pub more_far : Way → ℕ → ℕ
-more_far Drops n = n
-more_far (Moves place) n = n
 more_far Goes n = n + 1
+more_far _ n = n
 
 abbrev pub gone_so : Walked → List ℕ → ℕ → Way → Walked
 gone_so w held p way = record {
@@ -106,9 +103,8 @@ gone_so w held p way = record {
 }
 
 pub dealt_is : (w : Walked) (p : ℕ) (way : Way) → dealt_so w p way ≡ gone_so w w.moment.collection p way
-dealt_is w p Drops = refl
-dealt_is w p (Moves place) = refl
 dealt_is w p Goes = refl
+dealt_is w p _ = refl
 
 -- ---- what each small step keeps, once k objects were dealt with: a log in front without live objects is given back; and the first live object goes, as a word says that
 -- was found in its cell
@@ -281,9 +277,8 @@ walks_left m k t ready walks = lifted false m (λ k w. Unit {0}) record { learns
 
 -- as many objects are counted as were dealt with
 one_counted : (tally : Tally) (way : Way) → more_moved way tally.moved + more_far way tally.far + more_dropped way tally.dropped ≡ objects_in tally + 1
-one_counted tally Drops = omega arith
-one_counted tally (Moves place) = omega arith
 one_counted tally Goes = omega arith
+one_counted tally _ = omega arith
 
 pub tallies_all : (m : Moment) (k : ℕ) (t : Walked) → WalksTo m k t → objects_in t.tally ≡ k
 tallies_all m k t walks = (walks_kept false (λ k w. objects_in w.tally ≡ k) record {

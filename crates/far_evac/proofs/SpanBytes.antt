@@ -1,11 +1,11 @@
 -- How bytes of logs change where one object is dealt with: by the spans of the logs, over any hand.
-use Rattle.std.proofs.Common.{◌≡◌, ◌≢◌, ℕ, zero, suc, ◌+◌, ◌*◌, ◌<◌, ◌≤◌, Bool, true, false, cond, ◌&&◌, nat_eq, nat_lt, Option, Some, None, List, [], ◌∷◌, ◌++◌, inl, inr, arith, ap, sym, refl, ◌∙◌, subst}
+use Rattle.std.proofs.Common.{◌≡◌, ◌≢◌, ℕ, zero, suc, ◌+◌, ◌*◌, ◌<◌, ◌≤◌, Bool, true, false, cond, ◌&&◌, nat_eq, nat_lt, Option, Some, List, [], ◌∷◌, ◌++◌, inl, inr, arith, ap, sym, refl, ◌∙◌, subst}
 use Rattle.std.specs.Prelude.{Contains, ◌⊎◌}
 use Rattle.std.proofs.lemmas.Bool.{cases_eq, cond_both, eq-eqb, ne_eqb, false≢true, ltb-true, lt-ltb, le-ltb}
 use Rattle.far_word.specs.declared.mark.Marks.{Marks}
 use Rattle.far_word.specs.declared.pointer.Place.{Place}
 use Rattle.far_word.specs.declared.pointer.PtrWord.{PtrWord}
-use Rattle.far_word.specs.declared.pointer.PtrWord.TheVariants.{Free, Near, Far}
+use Rattle.far_word.specs.declared.pointer.PtrWord.TheVariants.{Free, Near}
 use Rattle.far_word.specs.declared.sizes.TheConstants.{LOG_WORDS, POINTERS}
 use Rattle.far_word.specs.Pointer.{read_of}
 use Rattle.far_word.specs.Sizes.{bytes_taken, size_of}
@@ -128,10 +128,8 @@ pub record Dealt (s t : State) (p : ℕ) : Type 0 where
   pub size : is_near (read_of (t.cell p)) ≡ true → bytes_near (read_of (t.cell p)) ≡ bytes_near (read_of (s.cell p))
 
 no_near : (o : Option PtrWord) → ((n d : ℕ) (place : Place) (m : Marks) → o ≡ Some (Near n d place m) → ⊥) → is_near o ≡ false
-no_near None away = refl
-no_near (Some Free) away = refl
 no_near (Some (Near len ds place marks)) away = absurd (away len ds place marks refl)
-no_near (Some (Far len ds marks)) away = refl
+no_near _ away = refl
 
 -- it is near no more, and all else of the logs stays
 module _ (s t : State) (sound : Sound s) (p new len ds : ℕ) (from : Place) (marks : Marks) (near : read_of (s.cell p) ≡ Some (Near len ds from marks))

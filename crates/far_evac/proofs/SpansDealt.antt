@@ -44,8 +44,7 @@ use Rattle.far_evac.proofs.Tours.{core_so, goes_when, moves_when}
 -- ---- where a hot object goes: behind the last span of its log
 is_free_kind : (kind : Kind) → is_free kind ≡ true → kind ≡ kinds.Free
 is_free_kind kinds.Free h = refl
-is_free_kind kinds.Open h = absurd (false≢true h)
-is_free_kind kinds.Sealed h = absurd (false≢true h)
+is_free_kind _ h = absurd (false≢true h)
 
 module _ (s : State) (sound : Sound s) where
   lowest_end : (ls : List ℕ) → AllByRecursion (IsFreeLog s) ls → (place : Place) → lowest false ls ≡ Some place → place.at ≡ s.tail place.log

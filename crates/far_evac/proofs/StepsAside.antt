@@ -41,9 +41,8 @@ use Rattle.far_evac.proofs.OfOneKind.{open_unsealed}
 
 -- ---- what is true between two calls
 unsealed : (kind : Kind) → kind ≢ kinds.Sealed → is_sealed kind ≡ false
-unsealed kinds.Free ne = refl
-unsealed kinds.Open ne = refl
 unsealed kinds.Sealed ne = absurd (ne refl)
+unsealed _ ne = refl
 
 -- the sealed logs in order, where another log may have been opened
 module _ (s t : State) (law : Law s) (then : Law t) (stay : (l : ℕ) → s.kind l ≡ kinds.Sealed → t.kind l ≡ kinds.Sealed) (others : (l : ℕ) → l ≢ s.current → l ≢ t.current → t.kind l ≡ s.kind l)

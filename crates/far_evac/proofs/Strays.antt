@@ -4,7 +4,7 @@ use Rattle.std.proofs.lemmas.Bool.{and_parts, cond_both, false≢true, cases_eq,
 use Rattle.far_word.specs.declared.mark.Marks.{Marks}
 use Rattle.far_word.specs.declared.pointer.Place.{Place}
 use Rattle.far_word.specs.declared.pointer.PtrWord.{PtrWord}
-use Rattle.far_word.specs.declared.pointer.PtrWord.TheVariants.{Free, Near, Far}
+use Rattle.far_word.specs.declared.pointer.PtrWord.TheVariants.{Near}
 use Rattle.far_word.specs.Pointer.{read_of}
 use Rattle.far_core.specs.state.Law.{Law}
 use Rattle.far_core.specs.state.State.{State}
@@ -46,14 +46,12 @@ risen m moment is_risen p len ds place marks near is = moment.only is_risen plac
 
 -- ---- cells that have changed EVAC alone name the places that they named
 pub near_but : (cell : Option PtrWord) (len ds : ℕ) (place : Place) (marks : Marks) → but_evac (Some (Near len ds place marks)) ≡ but_evac cell → (old : Marks) × (cell ≡ Some (Near len ds place old))
-near_but None len ds place marks e = absurd cc
-near_but (Some Free) len ds place marks e = absurd cc
 near_but (Some (Near n d at old)) len ds place marks e =
     let lens : n ≡ len = cc in
     let structures : d ≡ ds = cc in
     let places : at ≡ place = cc in
     (old, rw (lens, structures, places) refl)
-near_but (Some (Far n d old)) len ds place marks e = absurd cc
+near_but _ len ds place marks e = absurd cc
 
 fits : (s : State) → Law (own_part s) → (p : ℕ) → s.cell p < 2 ^ 64
 fits s law p = (law.cells.cell_read p).0

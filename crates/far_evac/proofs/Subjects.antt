@@ -29,22 +29,16 @@ abbrev Bodily : (Option PtrWord → Bool) → Type 0
 Bodily test = (o : Option PtrWord) → test o ≡ test (body_of o)
 
 nowhere_bodily : Bodily is_nowhere
-nowhere_bodily None = refl
 nowhere_bodily (Some Free) = refl
-nowhere_bodily (Some (Near len ds place marks)) = refl
-nowhere_bodily (Some (Far len ds marks)) = refl
+nowhere_bodily _ = refl
 
 near_bodily : Bodily is_near
-near_bodily None = refl
 near_bodily (Some Free) = refl
-near_bodily (Some (Near len ds place marks)) = refl
-near_bodily (Some (Far len ds marks)) = refl
+near_bodily _ = refl
 
 away_bodily : Bodily is_away
-away_bodily None = refl
 away_bodily (Some Free) = refl
-away_bodily (Some (Near len ds place marks)) = refl
-away_bodily (Some (Far len ds marks)) = refl
+away_bodily _ = refl
 
 same_test : (test : Option PtrWord → Bool) → Bodily test → (a b : Option PtrWord) → body_of a ≡ body_of b → test a ≡ test b
 same_test test bodily a b e = bodily a ∙ ap test e ∙ sym (bodily b)
@@ -148,16 +142,9 @@ none_more n = omega arith
 counts_one : (way : Way) (o : Option PtrWord) → test_of way o ≡ true → CountsOne way o
 counts_one Drops None h = record { dropped = λ n. refl; moved = none_more; far = none_more }
 counts_one Drops (Some Free) h = record { dropped = λ n. refl; moved = none_more; far = none_more }
-counts_one Drops (Some (Near len ds place marks)) h = absurd (false≢true h)
-counts_one Drops (Some (Far len ds marks)) h = absurd (false≢true h)
-counts_one (Moves to) None h = absurd (false≢true h)
-counts_one (Moves to) (Some Free) h = absurd (false≢true h)
 counts_one (Moves to) (Some (Near len ds place marks)) h = record { dropped = none_more; moved = λ n. refl; far = none_more }
-counts_one (Moves to) (Some (Far len ds marks)) h = absurd (false≢true h)
-counts_one Goes None h = absurd (false≢true h)
-counts_one Goes (Some Free) h = absurd (false≢true h)
-counts_one Goes (Some (Near len ds place marks)) h = absurd (false≢true h)
 counts_one Goes (Some (Far len ds marks)) h = record { dropped = none_more; moved = none_more; far = λ n. refl }
+counts_one _ _ h = absurd (false≢true h)
 
 -- ---- walks
 record Did (m : Moment) (objects : List ℕ) (t : Walked) : Type 0 where

@@ -1,5 +1,5 @@
 -- The walk is a tour of stops that were listed before it began.
-use Rattle.std.proofs.Common.{◌≡◌, ◌≢◌, ℕ, zero, suc, ◌+◌, ◌≤◌, Bool, true, false, cond, eqb, Option, Some, None, List, [], ◌∷◌, ◌++◌, map, arith, ap, sym, refl, ◌∙◌}
+use Rattle.std.proofs.Common.{◌≡◌, ◌≢◌, ℕ, zero, suc, ◌+◌, ◌≤◌, Bool, true, false, cond, eqb, Option, Some, List, [], ◌∷◌, ◌++◌, map, arith, ap, sym, refl, ◌∙◌}
 use Rattle.std.specs.List.{AllByRecursion, IsDistinct}
 use Rattle.std.specs.Prelude.{fold}
 use Rattle.std.proofs.lemmas.Bool.{eqb-false}
@@ -119,10 +119,8 @@ module _ (s : State) (l : ℕ) (ls : List ℕ) (p : ℕ) (ps : List ℕ) (ready 
 
 -- why an object goes its way
 pub moves_when : (dropped hot : Bool) (o : Option Place) (place : Place) → cond dropped Drops (cond hot (hot_way o) Goes) ≡ Moves place → (dropped ≡ false) × (o ≡ Some place)
-moves_when true hot o place e = absurd cc
-moves_when false true None place e = absurd cc
 moves_when false true (Some to) place e = (refl, cc)
-moves_when false false o place e = absurd cc
+moves_when _ _ _ place e = absurd cc
 
 pub goes_when : (dropped hot : Bool) (o : Option Place) → cond dropped Drops (cond hot (hot_way o) Goes) ≡ Goes → dropped ≡ false
 goes_when true hot o e = absurd cc
@@ -207,7 +205,6 @@ tours [] n phase s order [] tally live f = λ ready e. sym (steps_over n (stand 
 tours [] n phase s order (l ∷ ls) tally [] f = λ ready e. let odd : End l ∷ tour s ls ≡ [] = sym (ap (λ xs. (map Object xs ++ (End l ∷ [])) ++ tour s ls) f) ∙ e in absurd cc
 tours [] n phase s order (l ∷ ls) tally (p ∷ ps) f =
     λ ready e. let odd : Object p ∷ ((map Object ps ++ (End l ∷ [])) ++ tour s ls) ≡ [] = sym (ap (λ xs. (map Object xs ++ (End l ∷ [])) ++ tour s ls) f) ∙ e in absurd cc
-tours (End k ∷ rest) n phase s order [] tally live f = λ ready e. absurd cc
 tours (End k ∷ rest) n phase s order (l ∷ ls) tally [] f = λ ready e.
     let both : End l ∷ tour s ls ≡ End k ∷ rest = sym (ap (λ xs. (map Object xs ++ (End l ∷ [])) ++ tour s ls) f) ∙ e in
     let same : l ≡ k = cc in
@@ -219,7 +216,6 @@ tours (End k ∷ rest) n phase s order (l ∷ ls) tally [] f = λ ready e.
     ∙ ap (steps n) (passed_any (freed w l) ls ls ∙ sym (ap (λ xs. cond (is_empty xs) (passed (freed w l) ls) w) f))
 tours (End k ∷ rest) n phase s order (l ∷ ls) tally (p ∷ ps) f =
     λ ready e. let odd : Object p ∷ ((map Object ps ++ (End l ∷ [])) ++ tour s ls) ≡ End k ∷ rest = sym (ap (λ xs. (map Object xs ++ (End l ∷ [])) ++ tour s ls) f) ∙ e in absurd cc
-tours (Object q ∷ rest) n phase s order [] tally live f = λ ready e. absurd cc
 tours (Object q ∷ rest) n phase s order (l ∷ ls) tally [] f =
     λ ready e. let odd : End l ∷ tour s ls ≡ Object q ∷ rest = sym (ap (λ xs. (map Object xs ++ (End l ∷ [])) ++ tour s ls) f) ∙ e in absurd cc
 tours (Object q ∷ rest) zero phase s order (l ∷ ls) tally (p ∷ ps) f = λ ready e.
@@ -234,6 +230,7 @@ tours (Object q ∷ rest) (suc n) phase s order (l ∷ ls) tally (p ∷ ps) f = 
     ap (λ x. fold stopped (stopped w (Object x)) (front n rest)) (sym same)
     ∙ dealt_tours rest n phase s order l ls tally p ps ready f more (λ t now sum. tours rest n phase t now (l ∷ ls) sum (live_in t l) refl) (way_of s (read_of (s.cell p))) refl
     ∙ sym (ap (steps (suc n)) rests ∙ steps_first n w ∙ ap (λ xs. steps n (dealt_first w xs)) lives)
+tours _ n phase s order [] tally live f = λ ready e. absurd cc
 
 -- where a walk may go on, it is the tour
 pub walk_tours : (m : Moment) (n : ℕ) → Ready m.core m.collection → walked m n ≡ toured m n

@@ -1,7 +1,7 @@
 -- One turn more: its chain over any hand with what was asked, and the function where no word changes.
 use Rattle.std.proofs.Common.{◌≡◌, ◌≢◌, ℕ, zero, suc, ◌+◌, ◌-◌, ◌<◌, ◌≤◌, Bool, true, false, cond, Option, List, [], ◌∷◌, length, drop, arith, ap, sym, refl, ◌∙◌, subst}
 use Rattle.far_evac.proofs.LiveOnce.{one_more}
-use Rattle.std.proofs.lemmas.Bool.{true≢false}
+use Rattle.std.proofs.lemmas.Bool.{false≢true, true≢false}
 use Rattle.std.specs.Prelude.{Result}
 use Rattle.far_word.specs.declared.refused.Refused.{Refused}
 use Rattle.far_device.specs.declared.fault.DeviceFault.{DeviceFault}
@@ -55,11 +55,11 @@ pub record Made (D : Type 0) (writes : D → ℕ → List ℕ → Result (Unit {
   pub left : live_among t.core t.collection ≡ drop (objects_in total) (live_among m.core m.collection)
   pub keys : KeepsKeys (first_live m (objects_in total)) (contents old) (contents new)
 
-module _ (D : Type 0) (writes : D → ℕ → List ℕ → Result (Unit {0}) DeviceFault → D → Type 0) (lets_go : D → ℕ → D → Type 0) (contents : D → ℕ → Option (List ℕ)) (m : Moment) where
+module _ {D : Type 0} {writes : D → ℕ → List ℕ → Result (Unit {0}) DeviceFault → D → Type 0} {lets_go : D → ℕ → D → Type 0} {contents : D → ℕ → Option (List ℕ)} {m : Moment} where
   pub none_made : (device : D) → Made D writes lets_go contents m m 0 nothing device device
   none_made device = record { tallies = []; made = (refl, refl, refl); asked = (refl, refl, refl); many = refl; sum = refl; left = refl; keys = λ p none. refl }
 
-  module _ (u : Moment) (n : ℕ) (before : Tally) (old between : D) (h : Made D writes lets_go contents m u n before old between) where
+  module _ {u : Moment} {n : ℕ} {before : Tally} {old between : D} (h : Made D writes lets_go contents m u n before old between) where
     -- no turn more
     pub asked_limit : (turns : ℕ) (alone : Bool) (phase : Phase) → n ≤ turns → (alone ≡ false → n ≡ turns) → phase ≡ u.phase → EndsAsking D writes lets_go contents m turns alone (Limit phase) u old between
     asked_limit turns alone phase within all is = (
@@ -79,8 +79,9 @@ module _ (D : Type 0) (writes : D → ℕ → List ℕ → Result (Unit {0}) Dev
       keys_then : KeepsKeys (first_live m (objects_in (plus before tally))) (contents old) (contents new)
       keys_then = keys_on m u before h.left (contents old) (contents between) (contents new) h.keys tally keys
 
-      pub made_more : TurnsTo u u.phase tally false t → Made D writes lets_go contents m t (n + 1) total old new
-      made_more turns = record {
+      pub made_more : (over : Bool) → over ≡ false → TurnsTo u u.phase tally over t → Made D writes lets_go contents m t (n + 1) total old new
+      made_more true odd turns = absurd (true≢false odd)
+      made_more false is_not turns = record {
         tallies = tally ∷ h.tallies;
         made = (u, tt, h.made, turns, tt, lawful);
         asked = (u, between, h.asked, turns, asks, lawful);
@@ -91,8 +92,9 @@ module _ (D : Type 0) (writes : D → ℕ → List ℕ → Result (Unit {0}) Dev
       }
 
       -- the last one
-      pub asked_done : (turns : ℕ) (alone : Bool) → n < turns → TurnsTo u u.phase tally true t → EndsAsking D writes lets_go contents m turns alone (Done (progress_of total true)) t old new
-      asked_done turns alone within last =
+      pub asked_done : (turns : ℕ) (alone over : Bool) → over ≡ true → n < turns → TurnsTo u u.phase tally over t → EndsAsking D writes lets_go contents m turns alone (Done (progress_of total over)) t old new
+      asked_done turns alone false odd within last = absurd (false≢true odd)
+      asked_done turns alone true done within last =
           let sums : total ≡ plus (sum_of h.tallies) tally = is ∙ ap (λ a. plus a tally) (sym h.sum) in
           let tells = ap (λ a. Done (progress_of a true)) sums in (
             tally ∷ h.tallies,

@@ -3,7 +3,7 @@ use Rattle.std.proofs.Common.{◌≡◌, ℕ, zero, suc, ◌+◌, ◌-◌, ◌<�
 use Rattle.std.proofs.lemmas.Bool.{cond_both, false≢true, true≢false}
 use Rattle.far_evac.specs.declared.answers.RoundEnd.TheVariants.{Limit}
 use Rattle.far_evac.specs.declared.phase.Phase.{Phase}
-use Rattle.far_evac.specs.declared.phase.Phase.TheVariants.{Idle, Marking, Waiting, Evacuating}
+use Rattle.far_evac.specs.declared.phase.Phase.TheVariants.{Idle, Waiting, Evacuating}
 use Rattle.far_evac.specs.Laws.{WaitingStays}
 use Rattle.far_evac.specs.Moment.{Moment, Tally}
 use Rattle.far_evac.specs.MomentLaw.{is_idle, is_waiting}
@@ -15,10 +15,8 @@ use Rattle.far_evac.proofs.Polls.{poll_again}
 
 -- where the round is over none is running
 turned_idle : (r : Turned) → r.over ≡ false → (phase : Phase) → (turned r phase).over ≡ true → is_idle (turned r phase).moment.phase ≡ true
-turned_idle r goes Idle over = absurd (false≢true (sym goes ∙ over))
-turned_idle r goes Marking over = absurd (false≢true (sym goes ∙ over))
-turned_idle r goes Waiting over = absurd (false≢true (sym goes ∙ over))
 turned_idle r goes Evacuating over = let w = walked r.moment turn_size in ap (λ b. is_idle (cond b (record w.moment { phase = Idle }) w.moment).phase) over
+turned_idle r goes _ over = absurd (false≢true (sym goes ∙ over))
 
 over_idle : (m : Moment) (n : ℕ) → (turns_made m n).over ≡ true → is_idle (turns_made m n).moment.phase ≡ true
 over_idle m zero = λ over. absurd (false≢true over)
@@ -65,10 +63,8 @@ pub waiting_stays : WaitingStays
 waiting_stays m n k before after = (stays m n before after k, goes_on m n before after)
 
 pub waiting_of : (phase : Phase) → is_waiting phase ≡ true → phase ≡ Waiting
-waiting_of Idle h = absurd (false≢true h)
-waiting_of Marking h = absurd (false≢true h)
 waiting_of Waiting h = refl
-waiting_of Evacuating h = absurd (false≢true h)
+waiting_of _ h = absurd (false≢true h)
 
 -- so it stands after as many turns as one likes
 pub turns_wait : (m : Moment) (n turns : ℕ) (u t : Moment) (before total : Tally) → n < turns → turns_made m n ≡ turned_at u before false → turns_made m (n + 1) ≡ turned_at t total false → is_waiting u.phase ≡ true → is_waiting t.phase ≡ true →

@@ -26,7 +26,7 @@ use Rattle.far_evac.specs.Moment.{Moment, Tally}
 use Rattle.far_evac.specs.Ready.{Ready}
 use Rattle.far_evac.specs.RoundSteps.{among}
 use Rattle.far_evac.specs.Standing.{InRound, LiesFrom, collection_in}
-use Rattle.far_evac.specs.Walk.{Walked, Way, Drops, Goes, Moves, dealt_as, dealt_so, way_of}
+use Rattle.far_evac.specs.Walk.{Walked, Way, Goes, dealt_as, dealt_so, way_of}
 use Rattle.far_evac.proofs.Fronts.{first_lives}
 use Rattle.far_evac.proofs.Keeping.{KeepsLogs, bounded_kept, keeps_known, keeps_more, keeps_sealed, round_kept}
 use Rattle.far_evac.proofs.LiveLists.{finds_place, knows_live}
@@ -61,9 +61,8 @@ module _ (s t : State) (law : Law (own_part s)) (known : Knows s t) (l at : ℕ)
 
 -- ---- it has left
 so_by : (s : State) (p : ℕ) (way : Way) → core_so s p way ≡ core_by s p way
-so_by s p Drops = refl
-so_by s p (Moves place) = refl
 so_by s p Goes = refl
+so_by s p _ = refl
 
 names_own : (len ds l : ℕ) (place : Place) (marks : Marks) → place.log ≡ l → names_place (Some (Near len ds place marks)) l place.at ≡ true
 names_own len ds l place marks e = ap (λ b. b && nat_eq place.at place.at) (eq-eqb place.log l e) ∙ eq-eqb place.at place.at refl
@@ -105,15 +104,11 @@ module _ (s t : State) (r : Round) (in_round : InRound s r) (walks : r.phase ≡
 -- ---- and is counted
 dealt_way : (w : Walked) (t : Moment) (tally : Tally) (p : ℕ) (fate : Fate) (way : Way) → Knows (core_by w.moment.core p way) t.core → t.order ≡ order_by w.moment.core w.moment.order way → fate ≡ fate_by way →
     t.phase ≡ w.moment.phase → t.collection ≡ w.moment.collection → tally ≡ counted_as w.tally fate → KnowsWalked (dealt_so w p way) (record { moment = t; tally = tally })
-dealt_way w t tally p fate Drops core order is phase held counted = record {
-  moment = record { core = core; rest = λ i. record { core = t.core; order = order i; phase = phase i; collection = held i } };
-  tally = counted ∙ ap (counted_as w.tally) is;
-}
-dealt_way w t tally p fate (Moves place) core order is phase held counted = record {
-  moment = record { core = core; rest = λ i. record { core = t.core; order = order i; phase = phase i; collection = held i } };
-  tally = counted ∙ ap (counted_as w.tally) is;
-}
 dealt_way w t tally p fate Goes core order is phase held counted = record {
+  moment = record { core = core; rest = λ i. record { core = t.core; order = order i; phase = phase i; collection = held i } };
+  tally = counted ∙ ap (counted_as w.tally) is;
+}
+dealt_way w t tally p fate _ core order is phase held counted = record {
   moment = record { core = core; rest = λ i. record { core = t.core; order = order i; phase = phase i; collection = held i } };
   tally = counted ∙ ap (counted_as w.tally) is;
 }
@@ -126,15 +121,11 @@ dealt_known w t tally p fate leaves phase held counted =
 -- ---- the same, where no word changes but by this
 exact_way : (w v : Walked) (p : ℕ) (fate : Fate) (way : Way) → v.moment.core ≡ core_by w.moment.core p way → v.moment.order ≡ order_by w.moment.core w.moment.order way → fate ≡ fate_by way →
     v.moment.phase ≡ w.moment.phase → v.moment.collection ≡ w.moment.collection → v.tally ≡ counted_as w.tally fate → v ≡ dealt_so w p way
-exact_way w v p fate Drops core order is phase held counted = λ i. record {
-  moment = record { core = core i; order = order i; phase = phase i; collection = held i };
-  tally = (counted ∙ ap (counted_as w.tally) is) i;
-}
-exact_way w v p fate (Moves place) core order is phase held counted = λ i. record {
-  moment = record { core = core i; order = order i; phase = phase i; collection = held i };
-  tally = (counted ∙ ap (counted_as w.tally) is) i;
-}
 exact_way w v p fate Goes core order is phase held counted = λ i. record {
+  moment = record { core = core i; order = order i; phase = phase i; collection = held i };
+  tally = (counted ∙ ap (counted_as w.tally) is) i;
+}
+exact_way w v p fate _ core order is phase held counted = λ i. record {
   moment = record { core = core i; order = order i; phase = phase i; collection = held i };
   tally = (counted ∙ ap (counted_as w.tally) is) i;
 }

@@ -8,6 +8,7 @@ use Rattle.far_evac.specs.AnyHand.{Knows, KnowsMoment, KnowsWalked, FindsFirst, 
 use Rattle.far_evac.specs.Live.{live_among, is_empty}
 use Rattle.far_evac.specs.Moment.{Moment}
 use Rattle.far_evac.proofs.SmallSteps.{begun_live, walk_exact, walked_front}
+use Rattle.far_evac.proofs.LiveOnce.{one_more}
 use Rattle.far_evac.specs.Walk.{Walked, begun, dealt_first, is_done, left, settled, walked}
 
 -- ---- what is known of a state is known of the state itself
@@ -30,9 +31,6 @@ pub none_left : (w : Walked) → is_done w ≡ true → left w ≡ []
 none_left w done = done_left w.moment.core w.moment.collection done
 
 -- ---- one more
-one_more : (n : ℕ) → suc n ≡ n + 1
-one_more n = omega arith
-
 pub walked_more : (m : Moment) (n : ℕ) (w : Walked) → w ≡ walked m n → walked m (n + 1) ≡ dealt_first w (left w)
 walked_more m n w e = ap (walked m) (sym (one_more n)) ∙ ap (λ v. dealt_first v (left v)) (sym e)
 

@@ -1,3 +1,2 @@
 pub mod AsCalled
 pub mod Largest
-pub mod Rows

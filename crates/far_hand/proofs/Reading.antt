@@ -84,6 +84,7 @@ pub record Gets (o v : State) (l at : ℕ) (free : Bool) (w : ℕ) : Type 0 wher
   pub padding : IsPaddedAt o (l * LOG_WORDS + at) w
   pub read : free ≡ false → IsQuietAt o (l * LOG_WORDS + at) → v ≡ record o { word = put o.word (l * LOG_WORDS + at) w }
   pub kept : free ≡ false → IsKnown (o.word (l * LOG_WORDS + at)) → v ≡ o
+  pub unread : free ≡ false → ¬ IsQuietAt o (l * LOG_WORDS + at) → v ≡ o
   pub here : free ≡ false → IsKnown (v.word (l * LOG_WORDS + at)) → v.word (l * LOG_WORDS + at) ≡ w
   pub others : free ≡ false → (a : ℕ) → a ≢ l * LOG_WORDS + at → v.word a ≡ o.word a
   pub forgot : free ≡ true → Forgets o v
@@ -111,33 +112,36 @@ module _ (s : State) (law : Law s) (found : ℕ → ℕ) (counted : ℕ → Bool
   counted_view : masked s found (put counted a true) ≡ record o { word = put o.word a (s.word a) }
   counted_view = ap (λ w. record o { word = w }) (count_read s.word s.starts counted a)
 
-  pub gets : (free quiet : Bool) → (quiet ≡ false → ¬ IsQuietAt o a) → Gets o (masked (after_get s l free) found (recounted counted free quiet a)) l at free (s.word a)
-  gets true quiet none = record {
+  pub gets : (free quiet : Bool) → (free ≡ false → quiet ≡ true → IsQuietAt o a) → (quiet ≡ false → ¬ IsQuietAt o a) → Gets o (masked (after_get s l free) found (recounted counted free quiet a)) l at free (s.word a)
+  gets true quiet some none = record {
     known = known;
     padding = padding;
     read = λ e. absurd (true≢false e);
     kept = λ e. absurd (true≢false e);
+    unread = λ e. absurd (true≢false e);
     here = λ e. absurd (true≢false e);
     others = λ e. absurd (true≢false e);
     forgot = λ _. forgets o (masked (with_free_log s l) found (λ _. false)) (λ q. cond (nat_eq (q / LOG_WORDS) l) false (s.starts q)) refl s.word refl
         (λ q h. sym (header_known s.word s.starts counted q (left_header s.starts l q h)));
     rest = refl;
   }
-  gets false true none = record {
+  gets false true some none = record {
     known = known;
     padding = padding;
     read = λ _ _. counted_view;
     kept = λ _ h. counted_view ∙ ap (λ w. record o { word = w }) (put_old o.word a (s.word a) (sym (known h)));
+    unread = λ _ loud. absurd (loud (some refl refl));
     here = λ _ _. ap (λ (u : State). u.word a) counted_view ∙ put_same o.word a (s.word a) a refl;
     others = λ _ q ne. ap (λ (u : State). u.word q) counted_view ∙ put_other o.word a (s.word a) q ne;
     forgot = λ e. absurd (false≢true e);
     rest = refl;
   }
-  gets false false none = record {
+  gets false false some none = record {
     known = known;
     padding = padding;
     read = λ _ h. absurd (none refl h);
     kept = λ _ _. refl;
+    unread = λ _ _. refl;
     here = λ _ h. sym (known h);
     others = λ _ q ne. refl;
     forgot = λ e. absurd (false≢true e);

@@ -76,14 +76,15 @@ pub trait Hand {
 
     /// Word `at` of a log. With `free` the log, which is sealed and has no live span, is given back too.
     ///
-    /// The word is known from then on where it was, or where the view shows it to be a data word of a quiet object. As a
-    /// log is given back, words may be forgotten.
+    /// The word is known from then on where it was, or where the view shows it to be a data word of a quiet object, and nowhere else: an
+    /// owner may store into it. As a log is given back, words may be forgotten.
     fn get(&mut self, log: u8, at: u16, free: bool) -> u64
         requires legal { Legal (view self.old) (Event.Get log at free) }
         ensures known { IsKnown ((view self.old).word (log * LOG_WORDS + at)) → result ≡ (view self.old).word (log * LOG_WORDS + at) }
         ensures padding { IsPaddedAt (view self.old) (log * LOG_WORDS + at) result }
         ensures read { free ≡ false → IsQuietAt (view self.old) (log * LOG_WORDS + at) → view self.new ≡ record (view self.old) { word = put (view self.old).word (log * LOG_WORDS + at) result } }
         ensures kept { free ≡ false → IsKnown ((view self.old).word (log * LOG_WORDS + at)) → view self.new ≡ view self.old }
+        ensures unread { free ≡ false → ¬ IsQuietAt (view self.old) (log * LOG_WORDS + at) → view self.new ≡ view self.old }
         ensures here { free ≡ false → IsKnown ((view self.new).word (log * LOG_WORDS + at)) → (view self.new).word (log * LOG_WORDS + at) ≡ result }
         ensures others { free ≡ false → (a : ℕ) → a ≢ log * LOG_WORDS + at → (view self.new).word a ≡ (view self.old).word a }
         ensures forgot { free ≡ true → Forgets (view self.old) (view self.new) }

@@ -18,3 +18,4 @@ pub mod Asking
 pub mod RoundTurns
 pub mod Causes
 pub mod Resting
+pub mod Refusals

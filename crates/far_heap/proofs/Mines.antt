@@ -8,7 +8,7 @@ use Rattle.far_word.specs.declared.sizes.TheConstants.{CELLS}
 use Rattle.far_core.proofs.Put.{put_other, put_same}
 use Rattle.far_table.specs.View.{ObjectView}
 use Rattle.far_table.specs.Seats.{Seated}
-use Rattle.far_table.specs.Views.{asked_at, closed_view, ds_of as seat_ds, held_at, held_view, len_of as seat_len, object_at, uses as seat_uses}
+use Rattle.far_table.specs.Views.{asked_at, closed_view, ds_of as seat_ds, held_at, held_view, len_of as seat_len, object_at, uses as seat_uses, warmed_view}
 use Rattle.far_heap.specs.Mine.{asking, bytes_in, closing, ds_in, ds_of, known_bytes, len_in, len_of, mine_of, object_of, own_row, seen, uses, viewing, views}
 use Rattle.far_heap.proofs.OwnRows.{own_row-const, own_row-get, own_row-one}
 
@@ -49,10 +49,10 @@ module _ (s : Seated) (p : ℕ) where
     views_own = rw (eq-eqb (p / CELLS) s.view.number own) (own_row-get (λ q. is_some (held_at s.view q)) s.view.number p false own)
 
     -- a pin that held a place
-    pub pinned_mine : (place : Place) → mine_of record { table = s.table; view = held_view p place s.view } ≡ viewing p (mine_of s)
-    pinned_mine place =
+    pub pinned_mine : (found : ℕ) (place : Place) → mine_of record { table = s.table; view = held_view p place (warmed_view p found s.view) } ≡ viewing p (mine_of s)
+    pinned_mine found place =
         let f : ℕ → Bool = λ q. is_some (held_at s.view q) in
-        let g : ℕ → Bool = λ q. is_some (held_at (held_view p place s.view) q) in
+        let g : ℕ → Bool = λ q. is_some (held_at (held_view p place (warmed_view p found s.view)) q) in
         ap (λ (row : List Bool). record (mine_of s) { viewed = row }) (own_row-one f g s.view.number p true own
         (λ q ne. ap is_some (put_other (held_at s.view) p (Some place) q ne)) (ap is_some (put_same (held_at s.view) p (Some place) p refl)))
 

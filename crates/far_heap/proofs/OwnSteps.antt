@@ -10,7 +10,7 @@ use Rattle.far_word.specs.declared.sizes.TheConstants.{CELLS, LONGEST, MOST_MUTA
 use Rattle.far_core.proofs.Put.{put_other, put_same}
 use Rattle.far_table.specs.View.{OwnerView}
 use Rattle.far_table.specs.Seats.{Seated}
-use Rattle.far_table.specs.Views.{closed_view, held_at, held_view, len_of as seat_len, object_at, uses as seat_uses}
+use Rattle.far_table.specs.Views.{closed_view, held_at, held_view, len_of as seat_len, object_at, uses as seat_uses, warmed_view}
 use Rattle.far_heap.specs.Mine.{IsNew, OwnOk, len_in, mine_of, uses, views}
 use Rattle.far_heap.proofs.Mines.{len_own, uses_own, views_own, views_so}
 
@@ -76,8 +76,9 @@ module _ (s : Seated) (name : TableId) (number : ℕ) (lens stamps : List ℕ) (
   viewed_used p h = let so = views_so s p h in uses_own s p so.0 ∙ ok.held_used p (so.0 ∙ ok.number_is) so.1
 
   -- ---- a pin that held a place
-  pub pinned_ok : (p : ℕ) (place : Place) → p / CELLS ≡ number → seat_uses s.view p ≡ true → is_some s.view.open_at ≡ true → OwnOk (record { table = s.table; view = held_view p place s.view }) name number lens (slice_set stamps (p % CELLS) scope) scope
-  pinned_ok p place own used opened = record {
+  pub pinned_ok : (p found : ℕ) (place : Place) → p / CELLS ≡ number → seat_uses s.view p ≡ true → is_some s.view.open_at ≡ true →
+      OwnOk (record { table = s.table; view = held_view p place (warmed_view p found s.view) }) name number lens (slice_set stamps (p % CELLS) scope) scope
+  pinned_ok p found place own used opened = record {
     table = ok.table;
     number_is = ok.number_is;
     few = ok.few;
@@ -101,6 +102,23 @@ module _ (s : Seated) (name : TableId) (number : ℕ) (lens stamps : List ℕ) (
       | inl e ↦ omega (arith, get_or-set_at stamps (p % CELLS) k scope 0 e (omega (arith, ok.many_stamps)))
       | inr ne ↦ omega (arith, get_or-set_other stamps (p % CELLS) k scope 0 ne, ok.past k)
     ];
+  }
+
+  -- and one that held none
+  pub warmed_ok : (p found : ℕ) → OwnOk (record { table = s.table; view = warmed_view p found s.view }) name number lens stamps scope
+  warmed_ok p found = record {
+    table = ok.table;
+    number_is = ok.number_is;
+    few = ok.few;
+    many_lens = ok.many_lens;
+    many_stamps = ok.many_stamps;
+    lens_are = ok.lens_are;
+    used_are = ok.used_are;
+    short = ok.short;
+    views_are = ok.views_are;
+    held_used = ok.held_used;
+    held_open = ok.held_open;
+    past = ok.past;
   }
 
   -- ---- a close

@@ -4,7 +4,7 @@ use Rattle.std.proofs.lemmas.Bool.{false≢true}
 use Rattle.far_word.specs.declared.pointer.Place.{Place}
 use Rattle.far_core.specs.state.State.{State}
 use Rattle.far_table.specs.Seats.{Seated}
-use Rattle.far_table.specs.Tells.{OwnerMayBe}
+use Rattle.far_table.specs.Tells.{HasState, OwnerMayBe}
 use Rattle.far_table.specs.Viewed.{StaysGiven}
 use Rattle.far_table.specs.Views.{held_at}
 use Rattle.far_heap.specs.HeapId.{HeapId}
@@ -17,12 +17,13 @@ there : {A : Type 0} → (o : Option A) → is_some o ≡ true → (x : A) × (o
 there None no_one = absurd (false≢true no_one)
 there (Some x) _ = (x, refl)
 
-pub logs_stay : (heap : HeapId) (seat : Seated) → seat.table ≡ heap.table
+pub logs_stay : (heap : HeapId) (seat : Seated) → seat.table ≡ heap.table → HasState seat.view
     → ((x : State) → OwnerMayBe seat.view x → (p : ℕ) (place : Place) → held_at seat.view p ≡ Some place → (x.held p ≡ Some place) × StaysGiven x p place)
     → LogsStay heap (mine_of seat)
-logs_stay heap seat named kept = record {
+logs_stay heap seat named exists kept = record {
   seat = seat;
   mine = refl;
   named = named;
+  there = exists;
   stay = λ p viewed. let found = there (held_at seat.view p) (views_so seat p viewed).1 in (found.0, found.1, λ x may. kept x may p found.0 found.1);
 }

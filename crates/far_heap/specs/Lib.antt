@@ -8,3 +8,4 @@ pub mod Calls
 pub mod Helping
 pub mod BookHad
 pub mod LogsStay
+pub mod Refusals

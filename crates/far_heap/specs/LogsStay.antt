@@ -3,16 +3,17 @@ use Rattle.std.specs.Prelude.{◌≡◌, ℕ, true, Some}
 use Rattle.far_word.specs.declared.pointer.Place.{Place}
 use Rattle.far_core.specs.state.State.{State}
 use Rattle.far_table.specs.Seats.{Seated}
-use Rattle.far_table.specs.Tells.{OwnerMayBe}
+use Rattle.far_table.specs.Tells.{HasState, OwnerMayBe}
 use Rattle.far_table.specs.Viewed.{StaysGiven}
 use Rattle.far_table.specs.Views.{held_at}
 use Rattle.far_heap.specs.HeapId.{HeapId}
 use Rattle.far_heap.specs.Mine.{Mine, mine_of, views}
 
--- a mutator is a seat of the heap's table. Each object that it views lies at a place which the seat holds, and so it is in whatever state the words and all views may be in beside that seat: there the
--- log of that place isn't free, to give it back isn't legal, and after any event it isn't free either
+-- a mutator is a seat of the heap's table, and the words and all views may be in some state beside that seat. Each object that it views lies at a place which the seat holds, and so it is in whatever state they
+-- may be in: there the log of that place isn't free, to give it back isn't legal, and after any event it isn't free either
 pub record LogsStay (heap : HeapId) (m : Mine) : Type 0 where
   pub seat : Seated
   pub mine : mine_of seat ≡ m
   pub named : seat.table ≡ heap.table
+  pub there : HasState seat.view
   pub stay : (p : ℕ) → views m p ≡ true → (place : Place) × (held_at seat.view p ≡ Some place) × ((x : State) → OwnerMayBe seat.view x → (x.held p ≡ Some place) × StaysGiven x p place)

@@ -20,7 +20,7 @@ mod view;
 pub use blank::Blank;
 pub use evacuator::Evacuator;
 pub use heap::Heap;
-pub use laws::reads_give_last_writes;
+pub use laws::{reads_give_last_writes, refusals_are_so};
 pub use mutator::Mutator;
 pub use name::HeapName;
 pub use scope::Scope;

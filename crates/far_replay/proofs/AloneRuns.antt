@@ -98,39 +98,21 @@ own_scope w v m b views h e seen = Own-ext (own_of v m) (record (own_of w m) { o
 -- ---- events that leave the objects and the scopes as they are
 abbrev pub IsQuiet : Event → Type 0
 IsQuiet (ReadEpoch m) = Unit {0}
-IsQuiet (Open m) = ⊥
 IsQuiet (Pin m p) = Unit {0}
 IsQuiet (Load m p i) = Unit {0}
-IsQuiet (Store m p i w) = ⊥
-IsQuiet (Close m) = ⊥
 IsQuiet (Adopt m p) = Unit {0}
 IsQuiet (Put l at w) = w < 2 ^ 64
-IsQuiet (Name p old new) = ⊥
 IsQuiet (See p) = Unit {0}
-IsQuiet (Mark p) = ⊥
-IsQuiet (Ask m p k) = ⊥
-IsQuiet (Get l at free) = ⊥
-IsQuiet (Clear p) = ⊥
-IsQuiet (Advance logs) = ⊥
-IsQuiet (Look m) = ⊥
+IsQuiet _ = ⊥
 
 quiet_fits : (e : Event) → IsQuiet e → Fits e
 quiet_fits (ReadEpoch m) q = tt
-quiet_fits (Open m) q = absurd q
 quiet_fits (Pin m p) q = tt
 quiet_fits (Load m p i) q = tt
-quiet_fits (Store m p i w) q = absurd q
-quiet_fits (Close m) q = absurd q
 quiet_fits (Adopt m p) q = tt
 quiet_fits (Put l at w) q = q
-quiet_fits (Name p old new) q = absurd q
 quiet_fits (See p) q = tt
-quiet_fits (Mark p) q = absurd q
-quiet_fits (Ask m p k) q = absurd q
-quiet_fits (Get l at free) q = absurd q
-quiet_fits (Clear p) q = absurd q
-quiet_fits (Advance logs) q = absurd q
-quiet_fits (Look m) q = absurd q
+quiet_fits _ q = absurd q
 
 pub stays_same : (w v : World) → v ≡ w → Same w v
 stays_same w v e = (ap (λ (x : World). x.object) e, ap (λ (x : World). x.opened) e)
@@ -140,7 +122,6 @@ quiet_happens : (w v : World) (e : Event) (r : Answer) → IsQuiet e → Happens
 quiet_happens w v (ReadEpoch m) Refused q h = stays_same w v h
 quiet_happens w v (ReadEpoch m) (Epoch e) q h = stays_same w v h
 quiet_happens w v (ReadEpoch m) r q h = absurd h
-quiet_happens w v (Open m) r q h = absurd q
 quiet_happens w v (Pin m p) Refused q h = stays_same w v h
 quiet_happens w v (Pin m p) (Held place) q h = (ap (λ (x : World). x.object) h.after, ap (λ (x : World). x.opened) h.after)
 quiet_happens w v (Pin m p) (Word x) q h = stays_same w v h
@@ -148,24 +129,16 @@ quiet_happens w v (Pin m p) r q h = absurd h
 quiet_happens w v (Load m p i) Refused q h = stays_same w v h
 quiet_happens w v (Load m p i) (Word x) q h = stays_same w v h.after
 quiet_happens w v (Load m p i) r q h = absurd h
-quiet_happens w v (Store m p i x) r q h = absurd q
-quiet_happens w v (Close m) r q h = absurd q
 quiet_happens w v (Adopt m p) Refused q h = stays_same w v h
 quiet_happens w v (Adopt m p) (Word x) q h = stays_same w v h
 quiet_happens w v (Adopt m p) r q h = absurd h
 quiet_happens w v (Put l at x) Refused q h = stays_same w v h
 quiet_happens w v (Put l at x) Done q h = stays_same w v h
 quiet_happens w v (Put l at x) r q h = absurd h
-quiet_happens w v (Name p old new) r q h = absurd q
 quiet_happens w v (See p) Refused q h = stays_same w v h
 quiet_happens w v (See p) (Word x) q h = stays_same w v h
 quiet_happens w v (See p) r q h = absurd h
-quiet_happens w v (Mark p) r q h = absurd q
-quiet_happens w v (Ask m p k) r q h = absurd q
-quiet_happens w v (Get l at free) r q h = absurd q
-quiet_happens w v (Clear p) r q h = absurd q
-quiet_happens w v (Advance logs) r q h = absurd q
-quiet_happens w v (Look m) r q h = absurd q
+quiet_happens w v _ r q h = absurd q
 
 abbrev pub Quiet : List Event → Type 0
 Quiet = Each IsQuiet
@@ -192,11 +165,9 @@ over_all bytes first (suc n) new = over_all (with_word bytes first (packed_word 
 store_writes : (w v : World) (m p i x : ℕ) (r : Answer) → Succeeds (Store m p i x) r → Happens w (Store m p i x) r v → Writes w m p i x v
 store_writes w v m p i x Refused ok h = absurd ok
 store_writes w v m p i x Done ok h = h
-store_writes w v m p i x (Epoch e) ok h = absurd h
-store_writes w v m p i x (Word y) ok h = absurd h
-store_writes w v m p i x (Held place) ok h = absurd h
+store_writes w v m p i x _ ok h = absurd h
 
-put_twice : {X : Type 0} (f : ℕ → X) (p : ℕ) (x y : X) → put (put f p x) p y ≡ put f p y
+pub put_twice : {X : Type 0} (f : ℕ → X) (p : ℕ) (x y : X) → put (put f p x) p y ≡ put f p y
 put_twice {X = X} f p x y = fun_ext (λ q. elim (cases_eq q p) [
   | inl e ↦ (put_same (put f p x) p y q e ∙ sym (put_same f p y q e))
   | inr ne ↦ (put_other (put f p x) p y q ne ∙ put_other f p x q ne ∙ sym (put_other f p y q ne))
@@ -235,9 +206,7 @@ Scoped w v m b = (v.object ≡ w.object) × (v.opened ≡ put w.opened m b)
 opens_scope : (w v : World) (m : ℕ) (r : Answer) → Succeeds (Open m) r → Happens w (Open m) r v → Scoped w v m true
 opens_scope w v m Refused ok h = absurd ok
 opens_scope w v m Done ok h = (ap (λ (x : World). x.object) h.after, ap (λ (x : World). x.opened) h.after)
-opens_scope w v m (Epoch e) ok h = absurd h
-opens_scope w v m (Word y) ok h = absurd h
-opens_scope w v m (Held place) ok h = absurd h
+opens_scope w v m _ ok h = absurd h
 
 pub open_step : (s : State) (m : ℕ) → Law s → Succeeds (Open m) (step_of s (Open m)).1 → Scoped (world_of s) (world_of (step_of s (Open m)).0) m true
 open_step s m law ok = opens_scope (world_of s) (world_of (step_of s (Open m)).0) m _ ok (step_does s (Open m) law tt)
@@ -246,9 +215,7 @@ open_step s m law ok = opens_scope (world_of s) (world_of (step_of s (Open m)).0
 closes_scope : (w v : World) (m : ℕ) (r : Answer) → Succeeds (Close m) r → Happens w (Close m) r v → Scoped w v m false
 closes_scope w v m Refused ok h = absurd ok
 closes_scope w v m Done ok h = (ap (λ (x : World). x.object) h.after, ap (λ (x : World). x.opened) h.after)
-closes_scope w v m (Epoch e) ok h = absurd h
-closes_scope w v m (Word y) ok h = absurd h
-closes_scope w v m (Held place) ok h = absurd h
+closes_scope w v m _ ok h = absurd h
 
 pub close_step : (s : State) (m : ℕ) → Law s → Succeeds (Close m) (step_of s (Close m)).1 → Scoped (world_of s) (world_of (step_of s (Close m)).0) m false
 close_step s m law ok = closes_scope (world_of s) (world_of (step_of s (Close m)).0) m _ ok (step_does s (Close m) law tt)
@@ -275,9 +242,8 @@ makes_new w v p a b (Some (Places len ds place)) free e h = (len, ds, place, no_
 names_place : (w v : World) (p old new : ℕ) (r : Answer) → Succeeds (Name p old new) r → ComesToPass (Name p old new) r → Happens w (Name p old new) r v → StepOf (change_by p (naming_of (read_of old) (read_of new))) w v
 names_place w v p old new Refused ok come h = absurd ok
 names_place w v p old new Done ok come h = h
-names_place w v p old new (Epoch e) ok come h = absurd h
 names_place w v p old new (Word y) ok come h = absurd come
-names_place w v p old new (Held place) ok come h = absurd h
+names_place w v p old new _ ok come h = absurd h
 
 pub name_step : (s : State) (p old new : ℕ) → Law s → read_of old ≡ Some Free → old < 2 ^ 64 → new < 2 ^ 64 → Succeeds (Name p old new) (step_of s (Name p old new)).1 → ComesToPass (Name p old new) (step_of s (Name p old new)).1 →
     (len ds : ℕ) × (place : Place) × (marks : Marks) × (read_of new ≡ Some (Near len ds place marks)) × Makes (world_of s) p len ds place.log (world_of (step_of s (Name p old new)).0)

@@ -6,7 +6,7 @@ use Rattle.std.proofs.lemmas.Bool.Decides.{nat_tests}
 use Rattle.far_word.specs.declared.mark.Marks.{Marks}
 use Rattle.far_word.specs.declared.pointer.Place.{Place}
 use Rattle.far_word.specs.declared.pointer.PtrWord.{PtrWord}
-use Rattle.far_word.specs.declared.pointer.PtrWord.TheVariants.{Free, Near, Far}
+use Rattle.far_word.specs.declared.pointer.PtrWord.TheVariants.{Near, Far}
 use Rattle.far_word.specs.declared.sizes.TheConstants.{CELLS}
 use Rattle.far_word.specs.Bytes.{bytes_of}
 use Rattle.far_word.specs.Pointer.{read_of}
@@ -59,8 +59,6 @@ pub record Has (s : State) (p : ℕ) : Type 0 where
 module _ (s : State) where
   object_in : (p : ℕ) (o : Option PtrWord) → read_of (s.cell p) ≡ o → in_use o ≡ true → Has s p
   unfolding world_of
-  object_in p None e u = absurd (false≢true u)
-  object_in p (Some Free) e u = absurd (false≢true u)
   object_in p (Some (Near len ds place marks)) e u =
       let o : Object = record { owner = p / CELLS; ds = ds; bytes = bytes_of (λ i. s.word (addr place + 1 + i)) len; home = Group place.log } in record {
         object = o;
@@ -73,6 +71,7 @@ module _ (s : State) where
         there = ap (object_of s.word (s.stored p) p) e ∙ ap (λ b. cond b None (Some o)) (not-true marks.dropped u);
         long = length-bytes_of (s.stored p) len ∙ sym (ap named_len e);
       }
+  object_in p _ e u = absurd (false≢true u)
 
   -- a used pointer has one
   pub object_used : Law s → (p : ℕ) → s.used p ≡ true → Has s p

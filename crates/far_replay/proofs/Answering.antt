@@ -5,7 +5,7 @@ use Rattle.far_word.specs.Pointer.{read_of}
 use Rattle.far_word.specs.declared.refused.Refused.{Refused as Refusal}
 use Rattle.far_book.specs.book.Home.{home_of}
 use Rattle.far_book.specs.declared.home.Home.{Home}
-use Rattle.far_book.specs.declared.home.Home.TheVariants.{Near, Far}
+use Rattle.far_book.specs.declared.home.Home.TheVariants.{Far}
 use Rattle.std.specs.Io.KnownBytes.{Appends}
 use Rattle.std.proofs.Math.Seq.{take-length}
 use Rattle.std.proofs.lemmas.Grind.{flat_map-append}
@@ -18,7 +18,7 @@ use Rattle.far_replay.specs.Moment.{FarSide}
 use Rattle.far_device.specs.declared.liar.Lie.{Lie}
 use Rattle.far_replay.specs.Spent.{SpentBy, may_spoil}
 use Rattle.far_replay.specs.Answers.{Answered, AnsweredBy, CommandedBy, FlawedAtMost, Outside, Serves, Refuses, Gives}
-use Rattle.far_text.specs.Command.{Command, New, Open, Write, Read, Close, Where, Drop, View, Try, Epoch, Logs, Log, Audit, Mutator, Book, Evacuator, Select, Mark, Wait, Evacuate, Abort, Round}
+use Rattle.far_text.specs.Command.{Command, New, Where, Logs, Mutator, Book, Evacuator, Wait}
 use Rattle.far_replay.specs.Objects.{lowest_cell}
 use Rattle.far_replay.specs.Reply.{Reply, Logs as Told, Refused, reply_text}
 use Rattle.far_replay.specs.Stream.{AppendsPart, Holds}
@@ -27,13 +27,8 @@ use Rattle.far_replay.specs.Turn.{effect, home_reply, log_line, pointer_reply, r
 -- what the outside made of each command isn't told to the laws a command
 pub answered_by : (os : List Outside) (now : Moment) (cs : List Command) (rs : List Reply) (moments : List Moment) → AnsweredBy os now cs rs moments → Answered now cs rs moments
 answered_by [] now [] [] [] h = tt
-answered_by [] now [] [] (m ∷ ms) h = absurd h
-answered_by [] now [] (r ∷ rs) ms h = absurd h
-answered_by [] now (c ∷ cs) rs ms h = absurd h
-answered_by (o ∷ os) now [] rs ms h = absurd h
-answered_by (o ∷ os) now (c ∷ cs) [] ms h = absurd h
-answered_by (o ∷ os) now (c ∷ cs) (r ∷ rs) [] h = absurd h
 answered_by (o ∷ os) now (c ∷ cs) (r ∷ rs) (m ∷ ms) h = ((o, h.0), answered_by os m cs rs ms h.1)
+answered_by _ now _ _ _ h = absurd h
 
 -- the run goes on by one command
 pub answered_more : (s t : Moment) (cs later : List Command) (outside : List Outside) (replies : List Reply) (moments : List Moment) (o : Outside) (c : Command) (r : Reply) (u : Moment) →
@@ -67,14 +62,13 @@ pub spoiled_more : (lie : Lie) (n left : ℕ) (outside : List Outside) (o : Outs
     (rest : ℕ) × may_spoil lie new rest × ((os : List Outside) → FlawedAtMost lie rest os → FlawedAtMost lie n ((outside ++ o ∷ []) ++ os))
 spoiled_more lie n left outside Serves old new spent few go =
     (left, spent lie left few, λ os h. subst (FlawedAtMost lie n) (sym (append_assoc outside (Serves ∷ []) os)) (go (Serves ∷ os) h))
-spoiled_more lie n zero outside (Refuses why turns objects) old new spent few go = absurd (spent lie 0 few)
 spoiled_more lie n (suc left) outside (Refuses why turns objects) old new spent few go =
     let was = spent lie (suc left) few in
     (left, was.1, λ os h. subst (FlawedAtMost lie n) (sym (append_assoc outside (Refuses why turns objects ∷ []) os)) (go (Refuses why turns objects ∷ os) (was.0, h)))
-spoiled_more lie n zero outside (Gives row) old new spent few go = absurd (spent lie 0 few)
 spoiled_more lie n (suc left) outside (Gives row) old new spent few go =
     let was = spent lie (suc left) few in
     (left, was.1, λ os h. subst (FlawedAtMost lie n) (sym (append_assoc outside (Gives row ∷ []) os)) (go (Gives row ∷ os) (was.0, h)))
+spoiled_more lie n zero outside _ old new spent few go = absurd (spent lie 0 few)
 
 -- ---- each reply has a line
 abbrev HasBytes : List ℕ → Type 0
@@ -90,9 +84,8 @@ some_pointer None = tt
 some_pointer (Some p) = tt
 
 some_home : (o : Option Home) → HasBytes (reply_text (home_reply o))
-some_home None = tt
-some_home (Some (Near place marks)) = tt
 some_home (Some (Far marks)) = tt
+some_home _ = tt
 
 some_logs : (now : Moment) (first n : ℕ) → 0 < n → HasBytes (reply_text (Told (map (log_line now) (range_with_len first n))))
 some_logs now first zero some = absurd (omega arith)
@@ -100,24 +93,10 @@ some_logs now first (suc n) some = tt
 
 some_turn : (now : Moment) (c : Command) → Law now.core → HasBytes (reply_text (turn_reply now c))
 some_turn now (Mutator m (New len ds)) law = some_pointer (lowest_cell now.core m)
-some_turn now (Mutator m Open) law = tt
-some_turn now (Mutator m (Write p from bytes)) law = tt
-some_turn now (Mutator m (Read p from len)) law = tt
-some_turn now (Mutator m Close) law = tt
 some_turn now (Mutator m (Where p)) law = some_home (home_of (read_of (now.core.cell p)))
-some_turn now (Mutator m (Drop p)) law = tt
-some_turn now (Mutator m (View p)) law = tt
-some_turn now (Mutator m (Try p)) law = tt
-some_turn now (Mutator m Epoch) law = tt
 some_turn now (Book Logs) law = some_logs now 0 now.core.logs (omega (arith, law.shape.two_logs))
-some_turn now (Book (Log l)) law = tt
-some_turn now (Book Audit) law = tt
-some_turn now (Evacuator (Select choice most)) law = tt
-some_turn now (Evacuator (Mark count)) law = tt
 some_turn now (Evacuator Wait) law = tt
-some_turn now (Evacuator (Evacuate count)) law = tt
-some_turn now (Evacuator Abort) law = tt
-some_turn now (Evacuator (Round policy most turns)) law = tt
+some_turn now _ law = tt
 
 some_reply : (now : Moment) (c : Command) (o : Option Refusal) → Law now.core → HasBytes (reply_text (unless o Refused (turn_reply now c)))
 some_reply now c None law = some_turn now c law

@@ -1,6 +1,6 @@
 -- What stays so of a heap where other words are stored of an object.
-use Rattle.std.proofs.Common.{◌≡◌, ◌≢◌, ◌&&◌, ℕ, Bool, true, false, not, is_some, IsSome, Option, Some, None, refl, sym, ap, subst, ◌∙◌, if◌then◌else◌}
-use Rattle.std.proofs.lemmas.Bool.{cond_both, false≢true, true≢false}
+use Rattle.std.proofs.Common.{◌≡◌, ◌≢◌, ℕ, Bool, true, false, is_some, IsSome, Option, Some, None, refl, sym, ap, subst, ◌∙◌, if◌then◌else◌}
+use Rattle.std.proofs.lemmas.Bool.{cond_both, true≢false}
 use mathlib.Core.Path.{fun_ext}
 use Rattle.far_word.specs.declared.mark.Marks.{Marks}
 use Rattle.far_word.specs.declared.pointer.Place.{Place}
@@ -12,11 +12,12 @@ use Rattle.far_core.specs.state.Law.{IsStored, Law, StoresBack, held_place}
 use Rattle.far_core.specs.state.State.{State, put}
 use Rattle.far_core.proofs.Cells.{unused}
 use Rattle.far_core.proofs.Put.{put_both, put_old}
+use Rattle.far_core.proofs.Bounds.{some_of}
 use Rattle.far_evac.specs.MomentLaw.{MomentLaw}
 use Rattle.far_replay.specs.Between.{Between}
 use Rattle.far_replay.specs.Commanded.{LiesFar, Misled}
-use Rattle.far_replay.specs.Dereference.{asked_for, comes_to, comes_to_of, has_no_room, sought, sought_of}
-use Rattle.far_replay.specs.Effects.{is_slow, with_view}
+use Rattle.far_replay.specs.Dereference.{asked_for, sought_of}
+use Rattle.far_replay.specs.Effects.{with_view}
 use Rattle.far_replay.specs.Moment.{Moment, as_if_stored, with_stored}
 use Rattle.far_replay.specs.Reply.{Reply}
 use Rattle.far_text.specs.Command.{Command}
@@ -60,7 +61,7 @@ pub between_as_if : (s : State) (p : ℕ) (row : ℕ → ℕ) → Between s → 
 between_as_if s p row x = record { named = x.named }
 
 -- ---- the steps of a dereference read none of them
-if_both : {X Y : Type 0} (f : X → Y) (b : Bool) (x y : X) → (if b then f x else f y) ≡ f (if b then x else y)
+pub if_both : {X Y : Type 0} (f : X → Y) (b : Bool) (x y : X) → (if b then f x else f y) ≡ f (if b then x else y)
 if_both f true x y = refl
 if_both f false x y = refl
 
@@ -70,39 +71,12 @@ view_as_if s p row q = if_both (λ (t : State). with_stored t p row) (is_some (s
 pub view_stores : (s : State) (q : ℕ) → (with_view s q).stored ≡ s.stored
 view_stores s q = cond_both (is_some (s.held q)) s (after_pin s q) (λ (t : State). t.stored ≡ s.stored) (λ _. refl) (λ _. refl)
 
-ask_as_if_of : (s : State) (p : ℕ) (row : ℕ → ℕ) (m q : ℕ) (o : Option PtrWord) → sought_of (with_stored s p row) m q o ≡ with_stored (sought_of s m q o) p row
-ask_as_if_of s p row m q None = refl
-ask_as_if_of s p row m q (Some Free) = refl
-ask_as_if_of s p row m q (Some (Near len ds place marks)) = refl
-ask_as_if_of s p row m q (Some (Far len ds marks)) = refl
-
-pub ask_as_if : (s : State) (p : ℕ) (row : ℕ → ℕ) (m q : ℕ) → asked_for (with_stored s p row) m q ≡ with_stored (asked_for s m q) p row
-ask_as_if s p row m q = ask_as_if_of s p row m q (read_of (s.cell q))
-
 ask_stores_of : (s : State) (m q : ℕ) (o : Option PtrWord) → (sought_of s m q o).stored ≡ s.stored
-ask_stores_of s m q None = refl
 ask_stores_of s m q (Some Free) = refl
-ask_stores_of s m q (Some (Near len ds place marks)) = refl
-ask_stores_of s m q (Some (Far len ds marks)) = refl
+ask_stores_of s m q _ = refl
 
 pub ask_stores : (s : State) (m q : ℕ) → (asked_for s m q).stored ≡ s.stored
 ask_stores s m q = ask_stores_of s m q (read_of (s.cell q))
-
-pub sought_as_if : (s : State) (p : ℕ) (row : ℕ → ℕ) (m q : ℕ) → sought (with_stored s p row) m q ≡ with_stored (sought s m q) p row
-sought_as_if s p row m q = ap (λ (t : State). asked_for t m q) (view_as_if s p row q) ∙ ask_as_if (with_view s q) p row m q
-
-comes_as_if_of : (s : State) (p : ℕ) (row : ℕ → ℕ) (q : ℕ) (o : Option PtrWord) → comes_to_of (with_stored s p row) q o ≡ comes_to_of s q o
-comes_as_if_of s p row q None = refl
-comes_as_if_of s p row q (Some Free) = refl
-comes_as_if_of s p row q (Some (Near len ds place marks)) = refl
-comes_as_if_of s p row q (Some (Far len ds marks)) = refl
-
-pub comes_as_if : (s : State) (p : ℕ) (row : ℕ → ℕ) (q : ℕ) → comes_to (with_stored s p row) q ≡ comes_to s q
-comes_as_if s p row q = comes_as_if_of s p row q (read_of (s.cell q))
-
--- so there is room where there was
-pub room_as_if : (s : State) (p : ℕ) (row : ℕ → ℕ) (m q : ℕ) → has_no_room (with_stored s p row) m q ≡ has_no_room s m q
-room_as_if s p row m q = ap (λ o. is_slow s q && not (is_some o)) (ap (λ (t : State). comes_to t q) (sought_as_if s p row m q) ∙ comes_as_if (sought s m q) p row q)
 
 -- ---- stored anew
 -- what is stored may be stored anew
@@ -117,7 +91,7 @@ pub stored_again : (now : Moment) (p : ℕ) (row words : ℕ → ℕ) → words 
 stored_again now p row words e = sym (ap (λ (all : ℕ → ℕ → ℕ). record now { core = record now.core { stored = all } }) (put_twice now.core.stored p row words e))
 
 -- a far object is in use between two commands
-far_is_named : (s : State) (p : ℕ) → LiesFar s p → s.cell p ≢ 0
+pub far_is_named : (s : State) (p : ℕ) → LiesFar s p → s.cell p ≢ 0
 far_is_named s p (len, ds, marks, far) none = let odd : Some (Far len ds marks) ≡ Some Free = sym far ∙ (ap read_of none ∙ unused) in absurd cc
 
 pub far_is_used : (s : State) (p : ℕ) → Between s → LiesFar s p → s.used p ≡ true
@@ -141,11 +115,7 @@ misled_fits row now c p r next h = subst (StoresBack row) (sym h.far.3) (named_s
 no_far : (o : Option PtrWord) (place : Place) → held_place o ≡ Some place → (len ds : ℕ) (m : Marks) → o ≡ Some (Far len ds m) → ⊥
 no_far o place held len ds m is = let odd : None ≡ Some place = ap held_place (sym is) ∙ held in absurd cc
 
-some_place : (o : Option Place) → IsSome o → (place : Place) × (o ≡ Some place)
-some_place None h = absurd (false≢true h)
-some_place (Some place) h = (place, refl)
-
 pub viewed_stores : (s : State) (p : ℕ) (row : ℕ → ℕ) → Law s → IsSome (s.held p) → StoresBack row (read_of (s.cell p))
 viewed_stores s p row law viewed =
-    let there = some_place (s.held p) viewed in
+    let there = some_of (s.held p) viewed in
     λ len ds m is. absurd (no_far (read_of (s.cell p)) there.0 (law.views.held_names p there.0 there.1) len ds m is)

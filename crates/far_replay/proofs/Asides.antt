@@ -49,10 +49,8 @@ pub view_current : (s : State) (p : ℕ) → (with_view s p).current ≡ s.curre
 view_current s p = cond_both (is_some (s.held p)) s (after_pin s p) (λ (t : State). t.current ≡ s.current) (λ _. refl) (λ _. refl)
 
 asked_current : (s : State) (m p : ℕ) (o : Option PtrWord) → (sought_of s m p o).current ≡ s.current
-asked_current s m p None = refl
 asked_current s m p (Some Free) = refl
-asked_current s m p (Some (Near len ds place marks)) = refl
-asked_current s m p (Some (Far len ds marks)) = refl
+asked_current s m p _ = refl
 
 pub sought_current : (s : State) (m p : ℕ) → (sought s m p).current ≡ s.current
 sought_current s m p = asked_current (with_view s p) m p (read_of ((with_view s p).cell p)) ∙ view_current s p
@@ -65,10 +63,8 @@ pub view_aside : (s : State) (p : ℕ) → StepsAside s (with_view s p)
 view_aside s p = cond_both (is_some (s.held p)) s (after_pin s p) (StepsAside s) (λ _. same_aside s) (λ _. still_aside s (after_pin s p) refl refl refl refl refl refl refl refl)
 
 asked_aside : (s : State) (m p : ℕ) (o : Option PtrWord) → StepsAside s (sought_of s m p o)
-asked_aside s m p None = same_aside s
-asked_aside s m p (Some Free) = same_aside s
 asked_aside s m p (Some (Near len ds place marks)) = still_aside s (after s (Ask m p Moved)) refl refl refl refl refl refl refl refl
-asked_aside s m p (Some (Far len ds marks)) = same_aside s
+asked_aside s m p _ = same_aside s
 
 pub sought_aside : (s : State) (m p : ℕ) → StepsAside s (sought s m p)
 sought_aside s m p = steps_join s (with_view s p) (sought s m p) (view_aside s p) (asked_aside (with_view s p) m p (read_of ((with_view s p).cell p))) (inl (view_current s p))
@@ -130,8 +126,6 @@ fetched_current s law p len ds place marks far alive found =
 
 come_order_of : (s : State) (law : Law s) (p : ℕ) (place : Place) (order : List ℕ) (o : Option PtrWord) → read_of (s.cell p) ≡ o → MayBring o → comes_to_of s p o ≡ Some place →
     grown order s.current (come_of s p (Some place) o).current ≡ order_come_of s order p (Some place) o
-come_order_of s law p place order None e may found = absurd may
-come_order_of s law p place order (Some Free) e may found = absurd may
 come_order_of s law p place order (Some (Near len ds from marks)) e may found =
     let to : cond marks.evac (room s (size_of len) false) (Some from) ≡ Some place = sym (ap (goal_of s) e) ∙ found in
     subst (λ b. grown order s.current (cond b (moved s p place) (stayed s p)).current ≡ cond b (order_after s order place) order) (sym (ap has_evac e))
@@ -139,6 +133,7 @@ come_order_of s law p place order (Some (Near len ds from marks)) e may found =
 come_order_of s law p place order (Some (Far len ds marks)) e may found =
     let to : room s (size_of len) true ≡ Some place = sym (ap (λ o. room s (size_of (far_len o)) true) e) ∙ found in
     ap (grown order s.current) (fetched_current s law p len ds place marks e may to)
+come_order_of s law p place order _ e may found = absurd may
 
 pub come_order : (s : State) (law : Law s) (p : ℕ) (place : Place) (order : List ℕ) → MayBring (read_of (s.cell p)) → comes_to s p ≡ Some place → grown order s.current (come s p).current ≡ order_come s order p
 come_order s law p place order may found = subst (λ x. grown order s.current (come_of s p x (read_of (s.cell p))).current ≡ order_come_of s order p x (read_of (s.cell p))) (sym found)
@@ -152,10 +147,9 @@ near_aside s law p len ds from place marks near asked alive found =
     moving_aside s p place law (record { len = len; ds = ds; place = from; marks = marks; near = near; quiet = quiet }) (ap is_dropped near ∙ alive) found
 
 come_aside_of : (s : State) (law : Law s) (p : ℕ) (place : Place) (o : Option PtrWord) → read_of (s.cell p) ≡ o → MayBring o → comes_to_of s p o ≡ Some place → StepsAside s (come_of s p (Some place) o)
-come_aside_of s law p place None e may found = absurd may
-come_aside_of s law p place (Some Free) e may found = absurd may
 come_aside_of s law p place (Some (Near len ds from marks)) e may found = near_aside s law p len ds from place marks e may.0 may.1 found
 come_aside_of s law p place (Some (Far len ds marks)) e may found = fetching_aside s p place (s.stored p) law (record { len = len; ds = ds; marks = marks; far = e }) (ap is_dropped e ∙ may) found
+come_aside_of s law p place _ e may found = absurd may
 
 pub come_aside : (s : State) (law : Law s) (p : ℕ) (place : Place) → MayBring (read_of (s.cell p)) → comes_to s p ≡ Some place → StepsAside s (come s p)
 come_aside s law p place may found = subst (λ x. StepsAside s (come_of s p x (read_of (s.cell p)))) (sym found) (come_aside_of s law p place (read_of (s.cell p)) refl may found)

@@ -1,19 +1,18 @@
 -- A dereference whose pin gives no view: the object is asked for, comes to where a view may rest, and owners stay as they are.
-use Rattle.std.proofs.Common.{◌≡◌, ◌≢◌, ℕ, ◌*◌, ◌/◌, ◌<◌, ◌&&◌, ◌==◌, Bool, true, false, not, nat_lt, refl, sym, ap, subst, ◌∙◌, Option, Some, None, IsSome, is_some, List}
+use Rattle.std.proofs.Common.{◌≡◌, ◌≢◌, ℕ, ◌*◌, ◌/◌, ◌<◌, ◌&&◌, ◌==◌, Bool, true, false, not, nat_lt, refl, sym, ap, subst, ◌∙◌, Option, Some, None, is_some, List}
 use Rattle.std.specs.Prelude.{IfSome, MatchOption}
 use Rattle.std.proofs.lemmas.Bool.{cond_both, false≢true, true≢false}
 use Rattle.far_word.specs.declared.mark.Mark.TheVariants.{Moved}
 use Rattle.far_word.specs.declared.mark.Marks.{Marks}
 use Rattle.far_word.specs.declared.pointer.Place.{Place}
 use Rattle.far_word.specs.declared.pointer.PtrWord.{PtrWord}
-use Rattle.far_word.specs.declared.pointer.PtrWord.TheVariants.{Free, Near, Far}
+use Rattle.far_word.specs.declared.pointer.PtrWord.TheVariants.{Near, Far}
 use Rattle.far_word.specs.declared.sizes.TheConstants.{CELLS}
 use Rattle.far_word.specs.Mark.{marks_with}
 use Rattle.far_word.specs.Pointer.{read_of}
-use Rattle.far_word.specs.Sizes.{words_for}
 use Rattle.far_core.specs.declared.event.Event.TheVariants.{Ask, Name}
 use Rattle.far_core.specs.declared.naming.Naming.{Naming}
-use Rattle.far_core.specs.declared.naming.Naming.TheVariants.{Places, Retires, Evicts, Stays, Moves, Fetches}
+use Rattle.far_core.specs.declared.naming.Naming.TheVariants.{Stays}
 use Rattle.far_core.specs.events.Legal.{Legal}
 use Rattle.far_core.specs.events.Name.{after_naming}
 use Rattle.far_core.specs.events.Naming.{naming_of, naming_row}
@@ -27,15 +26,14 @@ use Rattle.far_core.proofs.Marking.{read_mark}
 use Rattle.far_core.proofs.Put.{put_same, put_other}
 use Rattle.far_book.specs.book.Dealing.{goal, has_evac, moved_now, order_moved}
 use Rattle.far_hand.specs.Quiet.{IsQuietNear}
-use Rattle.far_core.specs.events.Copies.{Alike, data_at}
+use Rattle.far_core.specs.events.Copies.{data_at}
 use Rattle.far_book.specs.book.Effects.{fetched, fetched_of, moved, moved_of, near_word, order_after, stayed, stayed_of, with_written_span}
-use Rattle.far_book.specs.book.Fetching.{IsFar, IsFetched, RefusesFetch, far_len, room_for}
+use Rattle.far_book.specs.book.Fetching.{IsFar, RefusesFetch, room_for}
 use Rattle.far_word.specs.declared.refused.Refused.{Refused as Refusal}
 use Rattle.far_word.specs.declared.refused.Refused.TheVariants.{NoRoom, Memory, Device, Damaged}
 use Rattle.far_replay.specs.Dereference.{RefusesBringing, asked_for, come, come_of, comes_to, comes_to_of, says_near, sought_of}
 use Rattle.far_replay.specs.Effects.{is_slow, with_view}
 use Rattle.far_replay.specs.Interpreter.{order_come, order_come_of}
-use Rattle.far_book.proofs.region.Coming.{fetched_alike}
 use Rattle.far_replay.proofs.Drops.{unheld_is}
 use Rattle.far_replay.proofs.Views.{slow_parts, slow_view}
 
@@ -48,10 +46,8 @@ record SaysNear (o : Option PtrWord) : Type 0 where
   pub is : o ≡ Some (Near len ds place marks)
 
 near_is : (o : Option PtrWord) → says_near o ≡ true → SaysNear o
-near_is None e = absurd (false≢true e)
-near_is (Some Free) e = absurd (false≢true e)
 near_is (Some (Near len ds place marks)) e = record { len = len; ds = ds; place = place; marks = marks; is = refl }
-near_is (Some (Far len ds marks)) e = absurd (false≢true e)
+near_is _ e = absurd (false≢true e)
 
 pub record SaysFar (o : Option PtrWord) : Type 0 where
   pub len : ℕ
@@ -60,10 +56,9 @@ pub record SaysFar (o : Option PtrWord) : Type 0 where
   pub is : o ≡ Some (Far len ds marks)
 
 pub far_is : (o : Option PtrWord) → says_near o ≡ false → in_use o ≡ true → SaysFar o
-far_is None e u = absurd (false≢true u)
-far_is (Some Free) e u = absurd (false≢true u)
 far_is (Some (Near len ds place marks)) e u = absurd (true≢false e)
 far_is (Some (Far len ds marks)) e u = record { len = len; ds = ds; marks = marks; is = refl }
+far_is _ e u = absurd (false≢true u)
 
 -- ---- a near object
 module _ (s : State) (m p : ℕ) (law : Law s) (opened : is_opened s m ≡ true) (own : p / CELLS ≡ m) (used : s.used p ≡ true) (unheld : s.held p ≡ None) (near : says_near (read_of (s.cell p)) ≡ true) where
@@ -171,12 +166,8 @@ kept : (p : ℕ) (s : State) → KeepsOwners p s s
 kept p s = record { scope = refl; used = refl; mutators = refl; held = refl; cells = λ q ne. refl }
 
 form_keeps : (s : State) (p new : ℕ) (form : Naming) → KeepsOwners p s (naming_row s p new form).after
-form_keeps s p new (Places len ds place) = record { scope = refl; used = refl; mutators = refl; held = refl; cells = λ q ne. put_other s.cell p new q ne }
-form_keeps s p new (Moves len ds from to) = record { scope = refl; used = refl; mutators = refl; held = refl; cells = λ q ne. put_other s.cell p new q ne }
-form_keeps s p new (Evicts len place) = record { scope = refl; used = refl; mutators = refl; held = refl; cells = λ q ne. put_other s.cell p new q ne }
-form_keeps s p new (Fetches len ds place) = record { scope = refl; used = refl; mutators = refl; held = refl; cells = λ q ne. put_other s.cell p new q ne }
 form_keeps s p new Stays = record { scope = refl; used = refl; mutators = refl; held = refl; cells = λ q ne. put_other s.cell p new q ne }
-form_keeps s p new Retires = record { scope = refl; used = refl; mutators = refl; held = refl; cells = λ q ne. put_other s.cell p new q ne }
+form_keeps s p new _ = record { scope = refl; used = refl; mutators = refl; held = refl; cells = λ q ne. put_other s.cell p new q ne }
 
 naming_keeps : (s : State) (p new : ℕ) (o : Option Naming) → KeepsOwners p s (after_naming s p new o)
 naming_keeps s p new None = kept p s
@@ -191,39 +182,29 @@ written_keeps s p len ds place row =
     record { scope = k.scope; used = k.used; mutators = k.mutators; held = k.held; cells = k.cells }
 
 pub moved_keeps : (s : State) (p : ℕ) (place : Place) (o : Option PtrWord) → KeepsOwners p s (moved_of s p place o)
-moved_keeps s p place None = kept p s
-moved_keeps s p place (Some Free) = kept p s
 moved_keeps s p place (Some (Near len ds from marks)) = written_keeps s p len ds place (data_at s.word from)
-moved_keeps s p place (Some (Far len ds marks)) = kept p s
+moved_keeps s p place _ = kept p s
 
 pub stayed_keeps : (s : State) (p : ℕ) (o : Option PtrWord) → KeepsOwners p s (stayed_of s p o)
-stayed_keeps s p None = kept p s
-stayed_keeps s p (Some Free) = kept p s
 stayed_keeps s p (Some (Near len ds place marks)) = name_keeps s p (s.cell p) (near_word len ds place)
-stayed_keeps s p (Some (Far len ds marks)) = kept p s
+stayed_keeps s p _ = kept p s
 
 pub fetched_keeps : (s : State) (p : ℕ) (place : Place) (row : ℕ → ℕ) (o : Option PtrWord) → KeepsOwners p s (fetched_of s p place row o)
-fetched_keeps s p place row None = kept p s
-fetched_keeps s p place row (Some Free) = kept p s
-fetched_keeps s p place row (Some (Near len ds from marks)) = kept p s
 fetched_keeps s p place row (Some (Far len ds marks)) = written_keeps s p len ds place row
+fetched_keeps s p place row _ = kept p s
 
 come_keeps_of : (s : State) (p : ℕ) (x : Option Place) (o : Option PtrWord) → KeepsOwners p s (come_of s p x o)
-come_keeps_of s p None o = kept p s
-come_keeps_of s p (Some place) None = kept p s
-come_keeps_of s p (Some place) (Some Free) = kept p s
 come_keeps_of s p (Some place) (Some (Near len ds from marks)) =
     cond_both (has_evac (read_of (s.cell p))) (moved s p place) (stayed s p) (KeepsOwners p s) (λ _. moved_keeps s p place (read_of (s.cell p))) (λ _. stayed_keeps s p (read_of (s.cell p)))
 come_keeps_of s p (Some place) (Some (Far len ds marks)) = fetched_keeps s p place (s.stored p) (read_of (s.cell p))
+come_keeps_of s p _ _ = kept p s
 
 come_keeps : (s : State) (p : ℕ) → KeepsOwners p s (come s p)
 come_keeps s p = come_keeps_of s p (comes_to s p) (read_of (s.cell p))
 
 pub asked_keeps : (s : State) (m p : ℕ) (o : Option PtrWord) → KeepsOwners p s (sought_of s m p o)
-asked_keeps s m p None = kept p s
-asked_keeps s m p (Some Free) = kept p s
 asked_keeps s m p (Some (Near len ds place marks)) = record { scope = refl; used = refl; mutators = refl; held = refl; cells = λ q ne. put_other s.cell p _ q ne }
-asked_keeps s m p (Some (Far len ds marks)) = kept p s
+asked_keeps s m p _ = kept p s
 
 pub keeps_both : (p : ℕ) (s t u : State) → KeepsOwners p s t → KeepsOwners p t u → KeepsOwners p s u
 keeps_both p s t u a b = record {

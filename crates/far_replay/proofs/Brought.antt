@@ -267,10 +267,9 @@ module _ (s : State) (law : Law s) (p len ds : ℕ) (m : Marks) (place : Place) 
 -- ---- either, where there is a place for it
 -- what it says that may be brought: near it has MOVE; it isn't dropped
 abbrev pub MayBring : Option PtrWord → Type 0
-MayBring None = ⊥
-MayBring (Some Free) = ⊥
 MayBring (Some (Near len ds place m)) = (m.moved ≡ true) × (m.dropped ≡ false)
 MayBring (Some (Far len ds m)) = m.dropped ≡ false
+MayBring _ = ⊥
 
 near_brought : (s : State) (law : Law s) (p len ds : ℕ) (from place : Place) (m : Marks) (b : Bool) → read_of (s.cell p) ≡ Some (Near len ds from m) → m.moved ≡ true → m.dropped ≡ false → m.evac ≡ b →
     cond b (room s (size_of len) false) (Some from) ≡ Some place →
@@ -282,8 +281,6 @@ near_brought s law p len ds from place m false near asked alive evac found =
 
 brought_of : (s : State) (law : Law s) (p : ℕ) (place : Place) (o : Option PtrWord) → read_of (s.cell p) ≡ o → MayBring o → comes_to_of s p o ≡ Some place →
     Brought s p (come_events_of s p (Some place) o) (come_of s p (Some place) o)
-brought_of s law p place None e may found = absurd may
-brought_of s law p place (Some Free) e may found = absurd may
 brought_of s law p place (Some (Near len ds from m)) e may found =
     let b : has_evac (read_of (s.cell p)) ≡ m.evac = ap has_evac e in
     let to : cond m.evac (room s (size_of len) false) (Some from) ≡ Some place = sym (ap (goal_of s) e) ∙ found in
@@ -292,6 +289,7 @@ brought_of s law p place (Some (Near len ds from m)) e may found =
 brought_of s law p place (Some (Far len ds m)) e may found =
     let to : room s (size_of len) true ≡ Some place = sym (ap (λ o. room s (size_of (far_len o)) true) e) ∙ found in
     fetched_brought s law p len ds m place e may to
+brought_of s law p place _ e may found = absurd may
 
 pub brought : (s : State) (law : Law s) (p : ℕ) (place : Place) → MayBring (read_of (s.cell p)) → comes_to s p ≡ Some place → Brought s p (come_events s p) (come s p)
 brought s law p place may found = subst (λ x. Brought s p (come_events_of s p x (read_of (s.cell p))) (come_of s p x (read_of (s.cell p)))) (sym found)

@@ -60,9 +60,8 @@ Least now most logs = (taken : List LogRow) × TakesLeast (rows_in now) most tak
 
 -- ---- the rows of the sealed logs may be chosen from
 sealed_used : (kind : Kind) → is_sealed kind ≡ true → kind ≢ kinds.Free
-sealed_used kinds.Free h = absurd (false≢true h)
-sealed_used kinds.Open h = absurd (false≢true h)
 sealed_used kinds.Sealed h = λ free. absurd cc
+sealed_used _ h = absurd (false≢true h)
 
 module _ (now : Moment) (law : Law now.core) (agrees : MomentLaw now) where
   in_range : (l : ℕ) → is_among now.order l ≡ true → l < MOST_LOGS

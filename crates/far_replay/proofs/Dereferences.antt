@@ -59,10 +59,8 @@ module _ (s : State) (m p : ℕ) (law : Law s) (opened : is_opened s m ≡ true)
 
   -- the cell says as many bytes as before
   hot_long : (o : Option PtrWord) → named_len (map_mark Hot o) ≡ named_len o
-  hot_long None = refl
   hot_long (Some Free) = refl
-  hot_long (Some (Near len ds place marks)) = refl
-  hot_long (Some (Far len ds marks)) = refl
+  hot_long _ = refl
 
   pub view_named : object_len (with_view s p) p ≡ object_len s p
   view_named = cond_both (is_some (s.held p)) s (after_pin s p) (λ (t : State). object_len t p ≡ object_len s p) (λ _. refl)
@@ -135,8 +133,6 @@ module _ (s : State) (m p : ℕ) (law : Law s) (opened : is_opened s m ≡ true)
   ask_legal = (refl, law.scopes.scope_range m (open_fact s m opened).1, own, used, unheld)
 
   asked_of : (o : Option PtrWord) → read_of (s.cell p) ≡ o → in_use o ≡ true → Asked s p (asked_events_of m p o) (sought_of s m p o)
-  asked_of None e u = absurd (false≢true u)
-  asked_of (Some Free) e u = absurd (false≢true u)
   asked_of (Some (Near len ds place marks)) e u =
       let t : State = after s (Asks m p Moved) in
       let says : read_of (t.cell p) ≡ Some (Near len ds place (marks_with Moved marks)) = ap read_of (put_same s.cell p _ p refl) ∙ (reads s law p used unheld Moved refl).0 ∙ ap (map_mark Moved) e in
@@ -149,6 +145,7 @@ module _ (s : State) (m p : ℕ) (law : Law s) (opened : is_opened s m ≡ true)
         word = says ∙ sym (ap asked_on e);
       }
   asked_of (Some (Far len ds marks)) e u = record { leads = leads_nowhere s; may = subst MayBring (sym e) (not-true marks.dropped u); bytes = ((λ q. refl), refl); long = refl; word = e ∙ sym (ap asked_on e) }
+  asked_of _ e u = absurd (false≢true u)
 
   asked : Asked s p (asked_events s m p) (asked_for s m p)
   asked = asked_of (read_of (s.cell p)) refl (law.views.used_cell p used)

@@ -49,16 +49,15 @@ use Rattle.far_replay.specs.Moment.{Moment, with_core}
 use Rattle.far_replay.specs.Objects.{uses}
 use Rattle.far_replay.specs.Reply.{Reply, Done, Refused}
 use Rattle.far_replay.specs.Turn.{first_cause, refusal, unless}
-use Rattle.far_replay.proofs.AloneRuns.{Own-ext, views_of}
+use Rattle.far_replay.proofs.AloneRuns.{Own-ext, put_twice, views_of}
 use Rattle.far_text.proofs.Each.{Each}
 use Rattle.far_replay.proofs.MadeLemmas.{made_first, first_succeeds, first_comes, made_law}
 
 -- ---- retiring a cell, whatever it says
 named_either : (P : State → Type 0) (s : State) (p : ℕ) (o : Option PtrWord) → P s → P (with_free_cell s p) → P (after_naming s p 0 (naming_of o (Some Free)))
-named_either P s p None same free = same
-named_either P s p (Some Free) same free = same
 named_either P s p (Some (Near len ds place m)) same free = cond_both m.dropped (Some Retires) None (λ (x : Option Naming). P (after_naming s p 0 x)) (λ _. free) (λ _. same)
 named_either P s p (Some (Far len ds m)) same free = cond_both m.dropped (Some Retires) None (λ (x : Option Naming). P (after_naming s p 0 x)) (λ _. free) (λ _. same)
+named_either P s p _ same free = same
 
 -- the cell is freed, or nothing changes
 pub retired_either : (P : State → Type 0) (s : State) (p : ℕ) → P s → P (with_free_cell s p) → P (retired s p)
@@ -66,22 +65,13 @@ retired_either P s p same free = rw (eq-eqb (s.cell p) (s.cell p) refl, unused) 
 
 -- ---- what DROP leaves of a cell
 drops : (o : Option PtrWord) → in_use o ≡ true → is_dropped (map_mark Dropped o) ≡ true
-drops None u = absurd (false≢true u)
-drops (Some Free) u = absurd (false≢true u)
 drops (Some (Near len ds place m)) u = refl
 drops (Some (Far len ds m)) u = refl
+drops _ u = absurd (false≢true u)
 
 names_same : (o : Option PtrWord) (l at : ℕ) → names_place (map_mark Dropped o) l at ≡ names_place o l at
-names_same None l at = refl
 names_same (Some Free) l at = refl
-names_same (Some (Near len ds place m)) l at = refl
-names_same (Some (Far len ds m)) l at = refl
-
-put_again : {X : Type 0} (f : ℕ → X) (p : ℕ) (x y : X) → put (put f p x) p y ≡ put f p y
-put_again {X = X} f p x y = fun_ext (λ q. elim (cases_eq q p) [
-  | inl e ↦ (put_same (put f p x) p y q e ∙ sym (put_same f p y q e))
-  | inr ne ↦ (put_other (put f p x) p y q ne ∙ put_other f p x q ne ∙ sym (put_other f p y q ne))
-])
+names_same _ l at = refl
 
 module _ (s : State) (m p : ℕ) (law : Law s) (within : m < s.mutators) (ours : uses s m p ≡ true) (unheld : s.held p ≡ None) where
   pub own : p / CELLS ≡ m
@@ -111,7 +101,7 @@ module _ (s : State) (m p : ℕ) (law : Law s) (within : m < s.mutators) (ours :
 
   -- the state after it: the cell is free, its owner doesn't use it, and nothing else changes
   pub drop_is : without_object s m p ≡ record s { cell = put s.cell p 0; used = put s.used p false }
-  drop_is = retired_is asked p asked_is_dropped ∙ ap (λ (f : ℕ → ℕ). record s { cell = f; used = put s.used p false }) (put_again s.cell p (bit_or (s.cell p) (2 ^ position Dropped)) 0)
+  drop_is = retired_is asked p asked_is_dropped ∙ ap (λ (f : ℕ → ℕ). record s { cell = f; used = put s.used p false }) (put_twice s.cell p (bit_or (s.cell p) (2 ^ position Dropped)) 0)
 
   -- ---- its events
   ask_legal : is_legal s (Asks m p Dropped) ≡ true

@@ -1,14 +1,13 @@
 -- What one read of a heap's far side gave, and what its calls leave of the flaw that is to come.
-use Rattle.std.proofs.Common.{◌≡◌, ◌≢◌, ℕ, zero, suc, ◌+◌, ◌-◌, ◌%◌, ◌^◌, ◌==◌, ◌<◌, ◌≤◌, Bool, true, false, cond, arith, sym, refl, ap, subst, ◌∙◌, Option, Some, None, List, [], ◌∷◌, length, take, map, Result, Ok, Err}
-use Rattle.std.proofs.lemmas.Bool.{eqb-true, false≢true}
+use Rattle.std.proofs.Common.{◌≡◌, ◌≢◌, ℕ, zero, suc, ◌-◌, ◌==◌, Bool, true, false, cond, arith, sym, refl, ap, subst, ◌∙◌, Some, None, List, Result, Ok, Err}
+use Rattle.std.proofs.lemmas.Bool.{eqb-true}
 use Rattle.far_device.specs.FailAt.{Counts, IsFailed, IsPassedOn, MayFail}
-use Rattle.far_device.specs.Liar.{inverted, lied, told}
+use Rattle.far_device.specs.Liar.{lied, told}
 use Rattle.far_device.specs.Mem.{bytes_at, MemLetsGo, MemReads, MemWrites}
 use Rattle.far_device.specs.declared.fault.DeviceFault.{DeviceFault}
-use Rattle.far_device.specs.declared.fault.DeviceFault.TheVariants.{Memory, Device}
+use Rattle.far_device.specs.declared.fault.DeviceFault.TheVariants.{Device}
 use Rattle.far_device.specs.declared.liar.Lie.{Lie}
-use Rattle.far_device.specs.declared.liar.Lie.TheVariants.{Never, Short, Flip}
-use Rattle.far_device.specs.declared.mem.MemDevice.{MemDevice}
+use Rattle.far_device.specs.declared.liar.Lie.TheVariants.{Never}
 use Rattle.far_replay.specs.Moment.{FarSide}
 use Rattle.far_replay.specs.Spent.{IsLeft}
 
@@ -52,10 +51,9 @@ pub record NoMore (d e : FarSide) : Type 0 where
   pub fails : (n : ℕ) → MayFail d.inner.left (λ k. Unit {0}) n → MayFail e.inner.left (λ k. Unit {0}) n
 
 fewer : (left less : ℕ) → less ≡ left - 1 → (n : ℕ) → MayFail left (λ k. Unit {0}) n → MayFail less (λ k. Unit {0}) n
-fewer left zero e n h = tt
 fewer zero (suc less) e n h = absurd (omega (arith, e))
 fewer (suc left) (suc less) e zero h = absurd h
-fewer (suc left) (suc less) e (suc n) h = tt
+fewer _ _ e _ h = tt
 
 counted_or : (b : Bool) (X Y : Type 0) → cond b X Y → (X → ⊥) → Y
 counted_or true X Y h never = absurd (never h)
@@ -102,8 +100,7 @@ no_more_both d e f a b = record { lie = b.lie ∙ a.lie; lies = λ n h. b.lies n
 
 pub still_left : (d e : FarSide) (lie : Lie) (n : ℕ) → NoMore d e → IsLeft lie d n → IsLeft lie e n
 still_left d e Never n x h = x.fails n h
-still_left d e Short n x h = (x.fails 0 h.0, x.lies n h.1)
-still_left d e Flip n x h = (x.fails 0 h.0, x.lies n h.1)
+still_left d e _ n x h = (x.fails 0 h.0, x.lies n h.1)
 
 -- ---- a call that fails
 -- it was the one that was to
@@ -114,19 +111,17 @@ failed_last d e answer asked h failed never = by (d.inner.left == 1) refl h wher
   by true is h = (eqb-true d.inner.left 1 is, h.2)
   by false is h = absurd (never h.0)
 
-none_left : (left : ℕ) → left ≡ 1 → MayFail left (λ k. Unit {0}) 0 → ⊥
+pub none_left : (left : ℕ) → left ≡ 1 → MayFail left (λ k. Unit {0}) 0 → ⊥
 none_left left one h = subst (λ k. MayFail k (λ x. Unit {0}) 0) one h
 
 -- so one less is to come, of a device that doesn't lie; of one that lies none was
 pub failed_spends : {A : Type 0} (d e : FarSide) (answer : Result A DeviceFault) (asked : Type 0) → Passed d answer e asked → answer ≡ Err Device → (asked → ⊥) → (lie : Lie) → IsLeft lie d 0 → ⊥
 failed_spends d e answer asked h failed never Never few = none_left d.inner.left (failed_last d e answer asked h failed never).0 few
-failed_spends d e answer asked h failed never Short few = none_left d.inner.left (failed_last d e answer asked h failed never).0 few.0
-failed_spends d e answer asked h failed never Flip few = none_left d.inner.left (failed_last d e answer asked h failed never).0 few.0
+failed_spends d e answer asked h failed never _ few = none_left d.inner.left (failed_last d e answer asked h failed never).0 few.0
 
 pub failed_leaves : {A : Type 0} (d e : FarSide) (answer : Result A DeviceFault) (asked : Type 0) → Passed d answer e asked → answer ≡ Err Device → (asked → ⊥) → (lie : Lie) (n : ℕ) → IsLeft lie d (suc n) → (lie ≡ Never) × IsLeft Never e n
 failed_leaves d e answer asked h failed never Never n few = (refl, subst (λ k. MayFail k (λ x. Unit {0}) n) (sym (failed_last d e answer asked h failed never).1) tt)
-failed_leaves d e answer asked h failed never Short n few = absurd (none_left d.inner.left (failed_last d e answer asked h failed never).0 few.0)
-failed_leaves d e answer asked h failed never Flip n few = absurd (none_left d.inner.left (failed_last d e answer asked h failed never).0 few.0)
+failed_leaves d e answer asked h failed never _ n few = absurd (none_left d.inner.left (failed_last d e answer asked h failed never).0 few.0)
 
 -- ---- what a read of something gave
 -- what is there, or the lie that it is

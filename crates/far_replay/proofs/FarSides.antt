@@ -1,14 +1,13 @@
 -- The far side of a heap has the flaw that its device is said to have.
-use Rattle.std.proofs.Common.{◌≡◌, ◌==◌, ℕ, zero, suc, Bool, false, true, arith, cond, refl, sym, ap, subst, ◌∙◌, Option, Some}
+use Rattle.std.proofs.Common.{◌≡◌, ◌==◌, ℕ, zero, suc, false, arith, cond, refl, sym, ap, subst, ◌∙◌, Option, Some}
 use Rattle.std.specs.Option.{option_map}
 use Rattle.std.proofs.lemmas.Bool.{ne_eqb}
 use Rattle.far_text.specs.declared.command.Device.{Device as Spelled}
 use Rattle.far_text.specs.declared.command.Flaw.{Flaw as SpelledFlaw}
 use Rattle.far_device.specs.FailAt.{MayFail}
-use Rattle.far_device.specs.declared.liar.Lie.{Lie}
 use Rattle.far_device.specs.declared.liar.Lie.TheVariants as lies
-use Rattle.far_text.specs.Command.{Device, Flawed, Fail, Short, Flip, as_device, as_flaw}
-use Rattle.far_replay.specs.Answers.{flaws, is_true, lie_of}
+use Rattle.far_text.specs.Command.{Flawed, Fail, Short, Flip, as_device, as_flaw}
+use Rattle.far_replay.specs.Answers.{flaws, lie_of}
 use Rattle.far_replay.specs.Moment.{FarSide}
 use Rattle.far_replay.specs.Spent.{IsLeft}
 
@@ -19,10 +18,6 @@ pub fail_is : (call : ℕ) → lies.Never ≡ lie_of (Some (Flawed Fail call))
 fail_is zero = refl
 fail_is (suc call) = refl
 
-pub fail_true : (call : ℕ) → true ≡ is_true (Some (Flawed Fail call))
-fail_true zero = refl
-fail_true (suc call) = refl
-
 pub short_is : (call : ℕ) → cond (call == 0) lies.Never lies.Short ≡ lie_of (Some (Flawed Short call))
 short_is zero = refl
 short_is (suc call) = ap (λ b. cond b lies.Never lies.Short) (some_call call)
@@ -30,14 +25,6 @@ short_is (suc call) = ap (λ b. cond b lies.Never lies.Short) (some_call call)
 pub flip_is : (call : ℕ) → cond (call == 0) lies.Never lies.Flip ≡ lie_of (Some (Flawed Flip call))
 flip_is zero = refl
 flip_is (suc call) = ap (λ b. cond b lies.Never lies.Flip) (some_call call)
-
-pub short_true : (call : ℕ) → (call == 0) ≡ is_true (Some (Flawed Short call))
-short_true zero = refl
-short_true (suc call) = some_call call
-
-pub flip_true : (call : ℕ) → (call == 0) ≡ is_true (Some (Flawed Flip call))
-flip_true zero = refl
-flip_true (suc call) = some_call call
 
 -- what is left at first
 fail_few : (call : ℕ) → MayFail call (λ k. Unit {0}) (flaws (Some (Flawed Fail call)))

@@ -1,5 +1,5 @@
 -- An object is dereferenced with the words that were given of it: what its pins and its coming make of that, and of the commands that reach it.
-use Rattle.std.proofs.Common.{◌≡◌, ◌≢◌, ℕ, ◌/◌, ◌+◌, ◌<◌, ◌&&◌, Bool, true, false, not, is_some, refl, sym, ap, subst, ◌∙◌, Option, Some, None, IsSome, List, [], ◌∷◌, length, map, if◌then◌else◌}
+use Rattle.std.proofs.Common.{◌≡◌, ◌≢◌, ℕ, ◌/◌, ◌+◌, ◌&&◌, Bool, true, false, not, is_some, refl, sym, ap, subst, ◌∙◌, IsSome, List, [], ◌∷◌, length, map, if◌then◌else◌}
 use Rattle.std.specs.Prelude.{IfErr, IfOk, Result, Ok, Err, slice_range}
 use Rattle.std.specs.List.{range_with_len}
 use Rattle.std.proofs.lemmas.Bool.{cond_both}
@@ -9,9 +9,6 @@ use Rattle.far_core.specs.declared.event.Event.TheVariants.{Store as Stores}
 use Rattle.far_core.specs.declared.event.Reply.{Reply as Answer}
 use Rattle.far_core.specs.declared.event.Reply.TheVariants.{Refused as Failed}
 use Rattle.far_word.specs.declared.mark.Mark.TheVariants.{Hot}
-use Rattle.far_word.specs.declared.mark.Marks.{Marks}
-use Rattle.far_word.specs.declared.pointer.PtrWord.{PtrWord}
-use Rattle.far_word.specs.declared.pointer.PtrWord.TheVariants.{Far}
 use Rattle.far_word.specs.declared.refused.Refused.{Refused as Refusal}
 use Rattle.far_word.specs.declared.sizes.TheConstants.{CELLS}
 use Rattle.far_word.specs.Pointer.{read_of}
@@ -22,23 +19,23 @@ use Rattle.far_core.proofs.Cells.{map_mark}
 use Rattle.far_hand.specs.declared.plain.Plain.{Plain}
 use Rattle.far_evac.specs.EvacOf.{EvacOf}
 use Rattle.far_text.specs.Command.{Command, Mutator, Read, View, Write}
-use Rattle.far_replay.specs.Commanded.{AsksFor, KeepsFar, LiesFar, Misled, MisledBy, Outside, Serves, Refuses, Gives, Served}
+use Rattle.far_replay.specs.Commanded.{AsksFor, KeepsFar, Misled, MisledBy, Outside, Serves, Refuses, Gives, Served}
 use Rattle.far_replay.specs.Dereference.{asked_for, come, comes_to, dereferenced, has_no_room, says_near, sought}
 use Rattle.far_replay.specs.Effects.{is_slow, with_data, with_view}
 use Rattle.far_replay.specs.Interpreter.{Comes, Dereferences, IsAccess, IsViewed, MayGive, Views, as_given, order_come, order_dereferenced, words_by}
 use Rattle.far_replay.specs.Moment.{FarSide, KeepsRound, Moment, as_if_stored, moment_in, state_in, with_stored}
 use Rattle.far_replay.specs.EventRows.{after_events}
 use Rattle.far_replay.specs.Events.{first_word, store_events, words_touched}
-use Rattle.far_replay.specs.Objects.{data_of, uses, with_range}
+use Rattle.far_replay.specs.Objects.{data_of, with_range}
 use Rattle.far_replay.specs.Reply.{Reply, Data, Done, Refused}
 use Rattle.far_replay.specs.Spent.{Makes, SpentBy}
 use Rattle.far_replay.specs.Turn.{unless}
 use Rattle.far_replay.specs.declared.turn.Access.{Access}
 use Rattle.far_replay.proofs.AsIfStored.{as_it_was, law_as_if, view_as_if, view_stores}
 use Rattle.far_replay.proofs.Asides.{order_derefs}
-use Rattle.far_replay.proofs.Bringing.{far_is, slow_used}
+use Rattle.far_replay.proofs.Bringing.{far_is}
 use Rattle.far_replay.proofs.Dereferences.{derefs}
-use Rattle.far_replay.proofs.RangeTurns.{none, read_made, read_told, uses_own, view_cause, view_made, viewed_range, write_made, write_stored}
+use Rattle.far_replay.proofs.RangeTurns.{writes_room, read_made, read_told, uses_own, view_cause, view_made, viewed_range, write_made, write_stored}
 use Rattle.far_replay.proofs.Spliced.{AreBytes}
 use Rattle.far_replay.proofs.Spending.{spent_first, spent_last, spent_same}
 use Rattle.far_replay.proofs.Unbrought.{far_before, pinned}
@@ -89,9 +86,8 @@ module _ (s : State) (m p : ℕ) (law : Law s) (opened : is_opened s m ≡ true)
   gives_before (Gives row) h = (sym honest_view ∙ h.0, far_before s m p law opened own used slow (with_view s p) refl h.1, fits_before row h.2)
 
   words_before : (o : Outside) → words_by o (with_view s p) p ≡ words_by o s p
-  words_before Serves = ap (λ (f : ℕ → ℕ → ℕ). f p) (view_stores s p)
-  words_before (Refuses why turns objects) = ap (λ (f : ℕ → ℕ → ℕ). f p) (view_stores s p)
   words_before (Gives row) = refl
+  words_before _ = ap (λ (f : ℕ → ℕ → ℕ). f p) (view_stores s p)
 
   -- it comes and is viewed, as seen from before the pin
   abbrev SeenSo : EvacOf Plain FarSide → EvacOf Plain FarSide → (ℕ → ℕ) → State → Type 0
@@ -168,9 +164,8 @@ given_made old new m p (Gives row) c r law used given asks served answered viewe
 
 -- ---- the premises of a dereference, where other words are stored
 given_fits : (o : Outside) (s : State) (p : ℕ) → Law s → MayGive o s p → StoresBack (words_by o s p) (read_of (s.cell p))
-given_fits Serves s p law given = law.cells.cell_far p
-given_fits (Refuses why turns objects) s p law given = law.cells.cell_far p
 given_fits (Gives row) s p law given = given.2
+given_fits _ s p law given = law.cells.cell_far p
 
 pub given_law : (o : Outside) (s : State) (p : ℕ) → Law s → s.used p ≡ true → MayGive o s p → Law (as_given o s p s)
 given_law o s p law used given = law_as_if s p (words_by o s p) law used (given_fits o s p law given)
@@ -256,7 +251,7 @@ module _ (old mid : EvacOf Plain FarSide) (a : Access) (o : Outside) (law : Law 
     pub write_makes : Makes old (Mutator a.owner (Write a.pointer a.from bytes)) Done new
     write_makes = given_made old new a.owner a.pointer o (Mutator a.owner (Write a.pointer a.from bytes)) Done law is.used x.given (refl, refl)
         record {
-          reply = ap (λ r. unless r Refused Done) (sym (none now a here x.room bytes long));
+          reply = ap (λ r. unless r Refused Done) (sym (writes_room now a here bytes long false x.room));
           moment = write_made now a here x.room bytes long end
               (moment_joined now end (with_data (dereferenced now.core a.owner a.pointer) a.pointer a.from bytes) written_there
               (order ∙ ordered ∙ sym (order_derefs now a.owner a.pointer now_law here.opened (uses_own now.core a.owner a.pointer here.own here.used) x.room)) (later.0 ∙ round.0) (later.1 ∙ round.1));

@@ -1,11 +1,9 @@
 -- A far object is fetched from a device that may lie: with which words it comes, and what that spends of the device's flaw.
-use Rattle.std.proofs.Common.{◌≡◌, ◌≢◌, ℕ, zero, suc, ◌-◌, ◌<◌, ◌==◌, Bool, true, false, cond, arith, refl, sym, ap, subst, ◌∙◌, Option, Some, None, IsSome, is_some, List, length, length-take-le, map, take, Result, Ok, Err}
+use Rattle.std.proofs.Common.{◌≡◌, ◌≢◌, ℕ, ◌-◌, ◌<◌, ◌==◌, Bool, true, false, cond, arith, refl, sym, ap, subst, ◌∙◌, Option, Some, is_some, List, length, length-take-le, Ok, Err}
 use Rattle.std.specs.Prelude.{IfSome}
 use Rattle.std.proofs.lemmas.List.{length-map}
 use Rattle.std.proofs.lemmas.Bool.{eqb-true, false≢true, false_from_ne_true, not-true}
-use Rattle.far_word.specs.declared.mark.Marks.{Marks}
 use Rattle.far_word.specs.declared.pointer.Place.{Place}
-use Rattle.far_word.specs.declared.pointer.PtrWord.{PtrWord}
 use Rattle.far_word.specs.declared.pointer.PtrWord.TheVariants.{Far, Near}
 use Rattle.far_word.specs.declared.refused.Refused.{Refused as Refusal}
 use Rattle.far_word.specs.declared.refused.Refused.TheVariants.{Damaged, Device, Memory, NoRoom}

@@ -1,11 +1,11 @@
 -- What lasts between two commands: the law, and what the program keeps of it; so each command is carried out by its events.
-use Rattle.std.proofs.Common.{◌≡◌, ℕ, Bool, true, sym, ap, subst, ◌∙◌, refl, List, [], ◌∷◌, ◌++◌, inl, inr}
+use Rattle.std.proofs.Common.{◌≡◌, ℕ, Bool, true, sym, ap, subst, ◌∙◌, refl, List, [], ◌∷◌, inl, inr}
 use Rattle.std.specs.Prelude.{All, Contains}
 use Rattle.std.proofs.lemmas.Bool.{cond_both}
 use Rattle.far_core.specs.declared.event.Event.{Event}
 use Rattle.far_core.specs.declared.event.Reply.{Reply as Answer}
 use Rattle.far_core.specs.declared.event.Reply.TheVariants.{Refused as Failed}
-use Rattle.far_core.specs.state.Law.{Law, IsStored, StoresBack}
+use Rattle.far_core.specs.state.Law.{Law, StoresBack}
 use Rattle.far_core.specs.state.Shape.{is_shape}
 use Rattle.far_core.specs.state.State.{State}
 use Rattle.far_core.specs.events.Step.{step_of, is_legal, after, answer, Fits}
@@ -28,11 +28,7 @@ use Rattle.far_replay.specs.Reply.{Reply, Ended, Evacuated, Refused}
 use Rattle.far_replay.specs.Between.{Between}
 use Rattle.far_replay.specs.Turn.{effect, reply_to}
 use Rattle.far_text.proofs.Each.{Each}
-use Rattle.far_word.specs.declared.mark.Marks.{Marks}
-use Rattle.far_word.specs.declared.pointer.PtrWord.{PtrWord}
-use Rattle.far_word.specs.declared.pointer.PtrWord.TheVariants.{Far}
 use Rattle.far_word.specs.Pointer.{read_of}
-use Rattle.std.specs.Prelude.{Some}
 use Rattle.far_replay.proofs.AsIfStored.{between_as_if, far_is_used, law_as_if, misled_fits, round_as_if, stored_again, viewed_stores}
 use Rattle.far_replay.proofs.ToldRounds.{told_round}
 use Rattle.far_replay.proofs.Outcomes.{by_outcome}
@@ -120,17 +116,23 @@ misled_lasts row now c p r next lasts bytes h =
     subst Lasts (sym (stored_again next p row (next.core.stored p) refl))
     (lasts_as_if (as_if_stored next p row) p (next.core.stored p) there (there.law.views.held_used p h.viewed) (viewed_stores (as_if_stored next p row).core p (next.core.stored p) there.law h.viewed))
 
-pub still_lasts : (now : Moment) (c : Command) (r : Reply) (next : Moment) → Lasts now → WritesBytes c → Commanded now c r next → Lasts next
-still_lasts now c r next lasts bytes h = by_outcome now r next (λ d. WritesBytes d → Lasts next)
-    (λ d h bytes. served_lasts now d r next lasts bytes h)
-    (λ why m p from new h bytes. served_lasts now (Mutator m (Try p)) (Refused (Marked (now.core.cell p))) next lasts tt h.tried)
-    (λ why m p from len h bytes. served_lasts now (Mutator m (Try p)) (Refused (Marked (now.core.cell p))) next lasts tt h.tried)
-    (λ why m p h bytes. served_lasts now (Mutator m (Try p)) (Refused (Marked (now.core.cell p))) next lasts tt h.tried)
-    (λ why objects count h bytes. served_lasts now (Evacuator (Evacuate objects)) (Evacuated h.progress) next lasts tt h.left)
-    (λ why turns objects policy most count h bytes. served_lasts h.stood (Evacuator (Evacuate objects)) (Evacuated h.progress) next
-    (served_lasts now (Evacuator (Round policy most turns)) (Ended (Limit Evacuating)) h.stood lasts bytes h.turned) tt h.left)
-    (λ row m p d asks h bytes. misled_lasts row now d p r next lasts bytes h)
+-- what each served command keeps, each keeps: one that is refused in its midst leads where lesser ones do that are served
+pub each_keeps : (P : Moment → Type 0) → ((now : Moment) (c : Command) (r : Reply) (next : Moment) → P now → WritesBytes c → Served now c r next → P next) →
+    ((row : ℕ → ℕ) (now : Moment) (c : Command) (p : ℕ) (r : Reply) (next : Moment) → P now → WritesBytes c → Misled row now c p r next → P next) →
+    (now : Moment) (c : Command) (r : Reply) (next : Moment) → P now → WritesBytes c → Commanded now c r next → P next
+each_keeps P served misled now c r next first bytes h = by_outcome now r next (λ d. WritesBytes d → P next)
+    (λ d h bytes. served now d r next first bytes h)
+    (λ why m p from new h bytes. served now (Mutator m (Try p)) (Refused (Marked (now.core.cell p))) next first tt h.tried)
+    (λ why m p from len h bytes. served now (Mutator m (Try p)) (Refused (Marked (now.core.cell p))) next first tt h.tried)
+    (λ why m p h bytes. served now (Mutator m (Try p)) (Refused (Marked (now.core.cell p))) next first tt h.tried)
+    (λ why objects count h bytes. served now (Evacuator (Evacuate objects)) (Evacuated h.progress) next first tt h.left)
+    (λ why turns objects policy most count h bytes. served h.stood (Evacuator (Evacuate objects)) (Evacuated h.progress) next
+    (served now (Evacuator (Round policy most turns)) (Ended (Limit Evacuating)) h.stood first bytes h.turned) tt h.left)
+    (λ row m p d asks h bytes. misled row now d p r next first bytes h)
     c h bytes
+
+pub still_lasts : (now : Moment) (c : Command) (r : Reply) (next : Moment) → Lasts now → WritesBytes c → Commanded now c r next → Lasts next
+still_lasts now c r next lasts bytes h = each_keeps Lasts served_lasts misled_lasts now c r next lasts bytes h
 
 -- from the first moment on
 pub first_lasts : (logs mutators epoch : ℕ) (honest : Bool) → is_shape (shape_of logs mutators epoch) ≡ true → Lasts (first_moment logs mutators epoch honest)
@@ -164,18 +166,8 @@ misled_is_moment row now c p r next is bytes h =
     Stores (as_if_stored next p row) p (next.core.stored p) there (law.views.held_used p h.viewed) (viewed_stores (as_if_stored next p row).core p (next.core.stored p) law h.viewed)
     (stored_again next p row (next.core.stored p) refl)
 
--- one that is refused in its midst leads where lesser ones do that are served
 pub next_is_moment : (now : Moment) (c : Command) (r : Reply) (next : Moment) → IsMoment now → WritesBytes c → Commanded now c r next → IsMoment next
-next_is_moment now c r next is more h = by_outcome now r next (λ d. WritesBytes d → IsMoment next)
-    (λ d h bytes. served_is_moment now d r next is bytes h)
-    (λ why m p from new h bytes. served_is_moment now (Mutator m (Try p)) (Refused (Marked (now.core.cell p))) next is tt h.tried)
-    (λ why m p from len h bytes. served_is_moment now (Mutator m (Try p)) (Refused (Marked (now.core.cell p))) next is tt h.tried)
-    (λ why m p h bytes. served_is_moment now (Mutator m (Try p)) (Refused (Marked (now.core.cell p))) next is tt h.tried)
-    (λ why objects count h bytes. served_is_moment now (Evacuator (Evacuate objects)) (Evacuated h.progress) next is tt h.left)
-    (λ why turns objects policy most count h bytes. served_is_moment h.stood (Evacuator (Evacuate objects)) (Evacuated h.progress) next
-    (served_is_moment now (Evacuator (Round policy most turns)) (Ended (Limit Evacuating)) h.stood is bytes h.turned) tt h.left)
-    (λ row m p d asks h bytes. misled_is_moment row now d p r next is bytes h)
-    c h more
+next_is_moment now c r next is more h = each_keeps IsMoment served_is_moment misled_is_moment now c r next is more h
 
 first_or : (now : Moment) (moments : List Moment) (x : Moment) → IsMoment now → (Contains moments x → IsMoment x) → Contains (now ∷ moments) x → IsMoment x
 first_or now moments x is there c = elim (split x now moments c) [
@@ -187,12 +179,9 @@ first_or now moments x is there c = elim (split x now moments c) [
 pub each_is_moment : (now : Moment) (cs : List Command) (rs : List Reply) (moments : List Moment) → IsMoment now → AllWriteBytes cs → Answered now cs rs moments →
     (x : Moment) → Contains (now ∷ moments) x → IsMoment x
 each_is_moment now [] [] [] is bytes h x c = first_or now [] x is (λ k. absurd (none_in x k)) c
-each_is_moment now [] [] (m ∷ ms) is bytes h x c = absurd h
-each_is_moment now [] (r ∷ rs) ms is bytes h x c = absurd h
-each_is_moment now (d ∷ cs) [] ms is bytes h x c = absurd h
-each_is_moment now (d ∷ cs) (r ∷ rs) [] is bytes h x c = absurd h
 each_is_moment now (d ∷ cs) (r ∷ rs) (m ∷ ms) is bytes h x c =
     first_or now (m ∷ ms) x is (λ k. each_is_moment m cs rs ms (next_is_moment now d r m is bytes.0 h.0) bytes.1 h.1 x k) c
+each_is_moment now _ _ _ is bytes h x c = absurd h
 
 lawful : (now : Moment) → IsMoment now → Lawful now
 lawful now is = let x = moment_lasts now is in record { reached = is; law = x.law; round = x.round; named = x.between.named }

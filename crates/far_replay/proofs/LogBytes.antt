@@ -1,5 +1,5 @@
 -- The bytes of the logs: where they stay, and where an object comes to a log.
-use Rattle.std.proofs.Common.{◌≡◌, ◌≢◌, ℕ, ◌+◌, ◌-◌, ◌*◌, ◌<◌, ◌≤◌, Bool, true, false, cond, not, Option, Some, None, [], ◌∷◌, ◌++◌, inl, inr, arith, ap, sym, refl, ◌∙◌, subst}
+use Rattle.std.proofs.Common.{◌≡◌, ◌≢◌, ℕ, ◌+◌, ◌-◌, ◌*◌, ◌<◌, ◌≤◌, Bool, true, false, cond, not, Option, Some, [], ◌∷◌, ◌++◌, inl, inr, arith, ap, sym, refl, ◌∙◌, subst}
 use Rattle.std.specs.Prelude.{Contains, ◌⊎◌}
 use Rattle.std.proofs.lemmas.Bool.{cases_eq, cases_lt, eq-eqb, ne_eqb}
 use mathlib.Core.Path.{fun_ext}
@@ -7,7 +7,7 @@ use Rattle.far_word.specs.declared.header.HeadWord.{HeadWord}
 use Rattle.far_word.specs.declared.mark.Mark.{Mark}
 use Rattle.far_word.specs.declared.pointer.Place.{Place}
 use Rattle.far_word.specs.declared.pointer.PtrWord.{PtrWord}
-use Rattle.far_word.specs.declared.pointer.PtrWord.TheVariants.{Free, Near, Far}
+use Rattle.far_word.specs.declared.pointer.PtrWord.TheVariants.{Free, Near}
 use Rattle.far_word.specs.declared.sizes.TheConstants.{CELLS, LOG_WORDS}
 use Rattle.far_word.specs.Header.{IsHead, head_of, head_word}
 use Rattle.far_word.specs.Pointer.{IsPtr, read_of}
@@ -33,6 +33,7 @@ use Rattle.far_evac.specs.TakesRoom.{bytes_at}
 use Rattle.far_evac.proofs.LiveLists.{same_spans}
 use Rattle.far_evac.proofs.RoomLaw.{sound_of}
 use Rattle.far_evac.proofs.SpanBytes.{Sound, falls, spans_more}
+use Rattle.far_evac.proofs.Lacking.{names_but}
 use Rattle.far_replay.specs.Taking.{BytesMove, TakesNone, share}
 
 -- ---- they stay
@@ -83,10 +84,8 @@ module _ (s t : State) (law : Law s) (heads : (a : ℕ) → s.starts a ≡ true 
 
 -- a mark that is set in a cell
 names_marked : (mark : Mark) (o : Option PtrWord) (l at : ℕ) → names_place (map_mark mark o) l at ≡ names_place o l at
-names_marked mark None l at = refl
 names_marked mark (Some Free) l at = refl
-names_marked mark (Some (Near len ds place marks)) l at = refl
-names_marked mark (Some (Far len ds marks)) l at = refl
+names_marked mark _ l at = refl
 
 pub names_one : (s t : State) (p : ℕ) → ((q : ℕ) → q ≢ p → t.cell q ≡ s.cell q) → ((l at : ℕ) → names_place (read_of (t.cell p)) l at ≡ names_place (read_of (s.cell p)) l at) → NamesStay s t
 names_one s t p others says q l at = elim (cases_eq q p) [
@@ -98,14 +97,8 @@ pub names_at : (s t : State) (p : ℕ) (mark : Mark) → ((q : ℕ) → q ≢ p 
 names_at s t p mark others says = names_one s t p others (λ l at. ap (λ o. names_place o l at) says ∙ names_marked mark (read_of (s.cell p)) l at)
 
 -- where EVAC alone may change
-names_evac : (o : Option PtrWord) (l at : ℕ) → names_place o l at ≡ names_place (but_evac o) l at
-names_evac None l at = refl
-names_evac (Some Free) l at = refl
-names_evac (Some (Near len ds place marks)) l at = refl
-names_evac (Some (Far len ds marks)) l at = refl
-
 pub names_bare : (s t : State) → ((q : ℕ) → but_evac (read_of (t.cell q)) ≡ but_evac (read_of (s.cell q))) → NamesStay s t
-names_bare s t same q l at = names_evac (read_of (t.cell q)) l at ∙ ap (λ o. names_place o l at) (same q) ∙ sym (names_evac (read_of (s.cell q)) l at)
+names_bare s t same q l at = names_but (read_of (t.cell q)) l at ∙ ap (λ o. names_place o l at) (same q) ∙ sym (names_but (read_of (s.cell q)) l at)
 
 -- ---- an object comes to the end of a log
 module _ (s t : State) (law : Law s) (kept : Law t) (p len ds : ℕ) (place : Place) (at_end : place.at ≡ s.tail place.log) (cell : read_of (t.cell p) ≡ Some (Near len ds place no_marks))
@@ -190,14 +183,12 @@ module _ (s t : State) (law : Law s) (kept : Law t) (p len ds : ℕ) (place : Pl
   ])
 
   old_live : (l : ℕ) (o : Option PtrWord) → read_of (s.cell p) ≡ o → taken_by (named t.cell l) (spans_of s l) + bytes_at l o ≡ live_bytes s l
-  old_live l None e = (let same = unnamed l (λ at. ap (λ x. names_place x l at) e) in omega (arith, same))
-  old_live l (Some Free) e = (let same = unnamed l (λ at. ap (λ x. names_place x l at) e) in omega (arith, same))
   old_live l (Some (Near n d from marks)) e =
       ap (λ (f : ℕ → ℕ). taken_by (named f l) (spans_of s l) + bytes_at l (Some (Near n d from marks))) cells_are
       ∙ ap (λ x. taken_by (named (put s.cell p (t.cell p)) l) (spans_of s l) + bytes_at l x) (sym e)
       ∙ falls s.cell p (t.cell p) n d from marks e l (spans_of s l) (s.tail l) (sound.tile l)
       (λ is. subst (λ k. Contains (spans_of s k) (span_for p n d from.at)) (sym is) (sound.placed p n d from marks e)) (λ x h. clear_of l x h)
-  old_live l (Some (Far n d marks)) e = (let same = unnamed l (λ at. ap (λ x. names_place x l at) e) in omega (arith, same))
+  old_live l _ e = (let same = unnamed l (λ at. ap (λ x. names_place x l at) e) in omega (arith, same))
 
   new_live : is_live t place.log (span_for p len ds place.at) ≡ true
   new_live = ap (λ o. names_place o place.log place.at) cell ∙ rw (eq-eqb place.log place.log refl, eq-eqb place.at place.at refl) refl

@@ -3,14 +3,19 @@ use Rattle.std.proofs.Common.{◌≡◌, ◌≢◌, inl, inr, ℕ, Bool, true, f
 use Rattle.std.specs.Prelude.{IfErr, IfOk, OnOk}
 use Rattle.far_word.specs.declared.refused.Refused.{Refused as Refusal}
 use Rattle.far_word.specs.declared.refused.Refused.TheVariants.{Closed, Device, Memory, NoRoom, NotHeld, Range}
+use Rattle.far_core.specs.state.Law.{Law}
 use Rattle.far_hand.specs.declared.plain.Plain.{Plain}
 use Rattle.far_evac.specs.declared.answers.EvacFault.{EvacFault}
 use Rattle.far_evac.specs.EvacOf.{EvacOf}
-use Rattle.far_text.specs.Command.{Command, Mutator, Read, Write}
+use Rattle.far_text.specs.Command.{Command, Mutator, Read, Request, Write}
+use Rattle.far_text.specs.Written.{WritesBytes}
+use Rattle.far_replay.specs.Between.{Between}
 use Rattle.far_replay.specs.Commanded.{Serves, Refuses, StopsSo}
 use Rattle.far_replay.specs.Interpreter.{stopper_of}
 use Rattle.far_replay.specs.Dereference.{has_no_room}
-use Rattle.far_replay.specs.Moment.{FarSide, Moment, moment_in, state_in}
+use Rattle.far_replay.specs.EventRows.{after_events}
+use Rattle.far_replay.specs.Events.{events_for}
+use Rattle.far_replay.specs.Moment.{FarSide, KeepsRound, Moment, moment_in, state_in}
 use Rattle.far_replay.specs.Outcome.{IsOutside, reply_by}
 use Rattle.far_replay.specs.Reply.{Reply, Halted, Refused}
 use Rattle.far_replay.specs.Spent.{Makes, SpentBy}
@@ -19,11 +24,20 @@ use Rattle.far_replay.specs.declared.outcome.Outcome.{Outcome}
 use Rattle.far_replay.specs.declared.outcome.Outcome.TheVariants as outcomes
 use Rattle.far_replay.specs.declared.outcome.Scratch.{Scratch}
 use Rattle.far_replay.specs.declared.outcome.Stepped.{Stepped}
+use Rattle.far_replay.proofs.Joining.{made_whole}
 use Rattle.far_replay.proofs.Spending.{any_turn}
 
 -- it was served
 pub made_served : (old new : EvacOf Plain FarSide) (c : Command) (r : Reply) → moment_in new ≡ effect (moment_in old) c → r ≡ reply_to (moment_in old) c → SpentBy Serves old new → Makes old c r new
 made_served old new c r moment reply spent = (Serves, record { reply = reply; moment = moment }, spent)
+
+-- a request that was kept, by its events
+pub request_made : (old new : EvacOf Plain FarSide) (m : ℕ) (kept r : Request) (told : Reply) → r ≡ kept → WritesBytes (Mutator m r) → Law (state_in old) → Between (state_in old) →
+    state_in new ≡ after_events (state_in old) (events_for (moment_in old) (Mutator m r)) → new.book.order ≡ (effect (moment_in old) (Mutator m r)).order → KeepsRound old new →
+    told ≡ reply_to (moment_in old) (Mutator m r) → SpentBy Serves old new → Makes old (Mutator m kept) told new
+request_made old new m kept r told same small law between state order round reply spent =
+    subst (λ q. Makes old (Mutator m q) told new) same
+    (made_served old new (Mutator m r) told (made_whole (moment_in old) (moment_in new) (Mutator m r) tt law between small state order round.0 round.1) reply spent)
 
 -- by what the refusal of an object comes to
 pub made_or_wanted : {E : Type 0} (old new : EvacOf Plain FarSide) (c : Command) (scratch : Scratch) (r : Result Outcome E) (why : Refusal) → IfOk r (λ outcome. (outcome ≡ outcomes.Refused why) × (why ≢ Memory)) →
@@ -64,20 +78,15 @@ made_for old new c (Ok outcome) scratch h = h scratch
 made_for old new c (Err e) scratch h = tt
 
 -- ---- a range that may not be reached
+named : (why cause : Refusal) → Some why ≡ Some cause → cause ≡ why
+named why cause e = cc
+
 barred : (a b c d : Bool) (rest : List (Bool × Refusal)) (why : Refusal) → Some why ≡ first_cause ((a, Range) ∷ (b, Closed) ∷ (c, NotHeld) ∷ (d, Range) ∷ []) →
     (first_cause ((a, Range) ∷ (b, Closed) ∷ (c, NotHeld) ∷ (d, Range) ∷ rest) ≡ Some why) × (why ≢ NoRoom)
-barred true b c d rest why e = (sym e, λ room. let odd : Range ≡ NoRoom = some_is e ∙ room in absurd cc) where
-  some_is : Some why ≡ Some Range → Range ≡ why
-  some_is e = cc
-barred false true c d rest why e = (sym e, λ room. let odd : Closed ≡ NoRoom = some_is e ∙ room in absurd cc) where
-  some_is : Some why ≡ Some Closed → Closed ≡ why
-  some_is e = cc
-barred false false true d rest why e = (sym e, λ room. let odd : NotHeld ≡ NoRoom = some_is e ∙ room in absurd cc) where
-  some_is : Some why ≡ Some NotHeld → NotHeld ≡ why
-  some_is e = cc
-barred false false false true rest why e = (sym e, λ room. let odd : Range ≡ NoRoom = some_is e ∙ room in absurd cc) where
-  some_is : Some why ≡ Some Range → Range ≡ why
-  some_is e = cc
+barred true b c d rest why e = (sym e, λ room. let odd : Range ≡ NoRoom = named why Range e ∙ room in absurd cc)
+barred false true c d rest why e = (sym e, λ room. let odd : Closed ≡ NoRoom = named why Closed e ∙ room in absurd cc)
+barred false false true d rest why e = (sym e, λ room. let odd : NotHeld ≡ NoRoom = named why NotHeld e ∙ room in absurd cc)
+barred false false false true rest why e = (sym e, λ room. let odd : Range ≡ NoRoom = named why Range e ∙ room in absurd cc)
 barred false false false false rest why e = absurd cc
 
 write_leaves : (now : Moment) (m p from : ℕ) (bytes : List ℕ) (why : Refusal) → why ≢ NoRoom → refused_effect now (Mutator m (Write p from bytes)) why ≡ now

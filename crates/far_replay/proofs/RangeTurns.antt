@@ -47,8 +47,7 @@ len_named (Some (Far len ds m)) n some is = is (Far len ds m) refl
 
 ptr_most : (v : PtrWord) → IsPtr v → pointer_len v ≤ LONGEST
 ptr_most Free ok = omega arith
-ptr_most (Near len ds place m) ok = ok.1
-ptr_most (Far len ds m) ok = ok.1
+ptr_most _ ok = ok.1
 
 -- it is in range
 pub len_most : (w : ℕ) (o : Option PtrWord) (n : ℕ) → w < 2 ^ 64 → read_of w ≡ o → IsSome o → ((v : PtrWord) → o ≡ Some v → n ≡ pointer_len v) → n ≤ LONGEST
@@ -147,10 +146,9 @@ module _ (s t u : State) (a : Access) (new : List ℕ) (law : Law s) (is : IsAcc
       ∙ ap (λ n. after_events (dereferenced s a.owner a.pointer) (store_events a.owner a.pointer (first_word a.from) (words_touched a.from n) (with_range (data_of (dereferenced s a.owner a.pointer) a.pointer) a.from new))) (sym long)
       ∙ (stores_lead s a.owner a.pointer a.from new law here small).ends
 
--- ---- a write for which there is no place
-module _ (now : Moment) (a : Access) (is : IsAccess now.core a.owner a.pointer a.from a.count a) (room : has_no_room now.core a.owner a.pointer ≡ true) (new : List ℕ) (long : length new ≡ a.count) where
-  pub wants_no_room : first_cause (access_causes now a.owner a.pointer a.from (length new) ++ (has_no_room now.core a.owner a.pointer, NoRoom) ∷ []) ≡ Some NoRoom
-  wants_no_room = ap (λ n. first_cause (access_causes now a.owner a.pointer a.from n ++ (has_no_room now.core a.owner a.pointer, NoRoom) ∷ [])) long ∙ wants_room now a is true room
+module _ (now : Moment) (a : Access) (is : IsAccess now.core a.owner a.pointer a.from a.count a) (new : List ℕ) (long : length new ≡ a.count) where
+  pub writes_room : (b : Bool) → has_no_room now.core a.owner a.pointer ≡ b → first_cause (access_causes now a.owner a.pointer a.from (length new) ++ (has_no_room now.core a.owner a.pointer, NoRoom) ∷ []) ≡ (if b then Some NoRoom else None)
+  writes_room b e = ap (λ n. first_cause (access_causes now a.owner a.pointer a.from n ++ (has_no_room now.core a.owner a.pointer, NoRoom) ∷ [])) long ∙ wants_room now a is b e
 
 -- ---- what isn't
 module _ (now : Moment) (a : Access) (is : IsAccess now.core a.owner a.pointer a.from a.count a) (room : has_no_room now.core a.owner a.pointer ≡ false) where
@@ -164,13 +162,10 @@ module _ (now : Moment) (a : Access) (is : IsAccess now.core a.owner a.pointer a
       ∙ ap (λ o. unless o Refused (turn_reply now (Mutator a.owner (Read a.pointer a.from a.count)))) (sym (wants_room now a is false room))
 
   module _ (new : List ℕ) (long : length new ≡ a.count) where
-    pub none : first_cause (access_causes now a.owner a.pointer a.from (length new) ++ (has_no_room now.core a.owner a.pointer, NoRoom) ∷ []) ≡ None
-    none = ap (λ n. first_cause (access_causes now a.owner a.pointer a.from n ++ (has_no_room now.core a.owner a.pointer, NoRoom) ∷ [])) long ∙ wants_room now a is false room
-
     pub write_made : (next : Moment) → next ≡ with_core now (with_data (dereferenced now.core a.owner a.pointer) a.pointer a.from new) → next ≡ effect now (Mutator a.owner (Write a.pointer a.from new))
     write_made next to =
         let c : Command = Mutator a.owner (Write a.pointer a.from new) in
-        to ∙ ap (λ o. unless o (refused_effect now c) (turn_effect now c)) (sym none)
+        to ∙ ap (λ o. unless o (refused_effect now c) (turn_effect now c)) (sym (writes_room now a is new long false room))
 
 -- ---- a view
 by_view : (a b c d : Bool) → a ≡ true → b ≡ true → c ≡ true → first_cause ((not a, Range) ∷ (not b, Closed) ∷ (not c, NotHeld) ∷ (d, NoRoom) ∷ []) ≡ (if d then Some NoRoom else None)

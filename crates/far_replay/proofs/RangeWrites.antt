@@ -1,5 +1,5 @@
 -- The words that a write stores are those of the object with the new bytes in place.
-use Rattle.std.proofs.Common.{◌≡◌, ℕ, ◌+◌, ◌-◌, ◌*◌, ◌/◌, ◌%◌, ◌^◌, ◌<◌, ◌≤◌, true, List, ◌++◌, length, take, drop, get_or, refl, ap, sym, ◌∙◌, arith, inl, inr, length-take-le, subst, Option, Some, None}
+use Rattle.std.proofs.Common.{◌≡◌, ℕ, ◌+◌, ◌-◌, ◌*◌, ◌/◌, ◌%◌, ◌^◌, ◌<◌, ◌≤◌, true, List, ◌++◌, length, take, drop, get_or, refl, ap, sym, ◌∙◌, arith, inl, inr, length-take-le, subst, Option, Some}
 use Rattle.std.specs.Prelude.{map}
 use Rattle.std.specs.List.{range_with_len}
 use Rattle.std.proofs.lemmas.Bool.{cases_lt}
@@ -14,7 +14,7 @@ use Rattle.far_word.specs.Bytes.{bytes_of, byte_at, word_at, words_of, packed_wo
 use Rattle.far_word.specs.Sizes.{words_for}
 use Rattle.far_word.proofs.ByteLaws.{bytes_of-get, length-bytes_of, words_of-get}
 use Rattle.far_word.specs.declared.pointer.PtrWord.{PtrWord}
-use Rattle.far_word.specs.declared.pointer.PtrWord.TheVariants.{Free, Near, Far}
+use Rattle.far_word.specs.declared.pointer.PtrWord.TheVariants.{Near}
 use Rattle.far_word.specs.Pointer.{read_of}
 use Rattle.far_core.specs.state.Law.{Law, head_len}
 use Rattle.far_core.specs.state.State.{State, addr}
@@ -139,13 +139,11 @@ rows_same d f g a b n h = ext_get_or d _ _ (length-map-range_with_len f a n ∙ 
 
 -- ---- the object's own words
 at_cell : (s : State) → Law s → (p : ℕ) (o : Option PtrWord) → read_of (s.cell p) ≡ o → (i : ℕ) → i < words_for (near_len o) → s.word (near_data o + i) < 2 ^ (8 * (near_len o - 8 * i))
-at_cell s law p None e i lt = absurd (omega arith)
-at_cell s law p (Some Free) e i lt = absurd (omega arith)
 at_cell s law p (Some (Near len ds place m)) e i lt =
     let long : head_len (s.word (addr place)) ≡ len = rw (span_len s law p len ds place m e) refl in
     let pads = law.spans.span_padding (addr place) (law.cells.cell_near p len ds place m e).placed i (omega (arith, long)) in
     subst (λ n. s.word (addr place + 1 + i) < 2 ^ (8 * (n - 8 * i))) long pads
-at_cell s law p (Some (Far len ds m)) e i lt = absurd (omega arith)
+at_cell s law p _ e i lt = absurd (omega arith)
 
 -- the words of an object have zeros behind its last byte
 pub object_padded : (s : State) → Law s → (p i : ℕ) → i < words_for (data_len s p) → s.word (near_data (read_of (s.cell p)) + i) < 2 ^ (8 * (data_len s p - 8 * i))

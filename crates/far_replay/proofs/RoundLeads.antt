@@ -4,7 +4,7 @@ use Rattle.std.specs.Prelude.{◌⊎◌, ◌↔◌}
 use Rattle.std.proofs.lemmas.Bool.{cond_both, lt-ltb, ltb-true, not-false, or_left, or_right, true≢false}
 use Rattle.std.proofs.lemmas.List.Elements.{All-head, All-tail}
 use Rattle.far_word.specs.declared.mark.Marks.{Marks}
-use Rattle.far_word.specs.declared.pointer.PtrWord.TheVariants.{Free, Near, Far}
+use Rattle.far_word.specs.declared.pointer.PtrWord.TheVariants.{Near, Far}
 use Rattle.far_word.specs.declared.pointer.PtrWord.{PtrWord}
 use Rattle.far_word.specs.declared.refused.Refused.TheVariants.{Phase as WrongPhase, EpochsSpent, StillOpen}
 use Rattle.far_word.specs.declared.refused.Refused.{Refused as Refusal}
@@ -24,7 +24,7 @@ use Rattle.far_core.proofs.Owing.{is_test}
 use Rattle.far_core.proofs.Steps.{agrees}
 use Rattle.far_book.specs.book.Reached.{IsOfBook, Reached}
 use Rattle.far_evac.specs.Choosing.{is_spent}
-use Rattle.far_evac.specs.declared.phase.Phase.TheVariants.{Idle, Marking, Waiting, Evacuating}
+use Rattle.far_evac.specs.declared.phase.Phase.TheVariants.{Marking, Waiting, Evacuating}
 use Rattle.far_evac.specs.declared.phase.Phase.{Phase}
 use Rattle.far_evac.specs.Leading.{Leads}
 use Rattle.far_evac.specs.Moment.{Moment}
@@ -76,22 +76,16 @@ pub idle_is : (phase : Phase) → not (is_idle phase) ≡ false → is_idle phas
 idle_is phase h = not-false (is_idle phase) h
 
 pub marking_is : (phase : Phase) → not (is_marking phase) ≡ false → phase ≡ Marking
-marking_is Idle h = absurd (true≢false h)
 marking_is Marking h = refl
-marking_is Waiting h = absurd (true≢false h)
-marking_is Evacuating h = absurd (true≢false h)
+marking_is _ h = absurd (true≢false h)
 
 pub waiting_is : (phase : Phase) → not (is_waiting phase) ≡ false → phase ≡ Waiting
-waiting_is Idle h = absurd (true≢false h)
-waiting_is Marking h = absurd (true≢false h)
 waiting_is Waiting h = refl
-waiting_is Evacuating h = absurd (true≢false h)
+waiting_is _ h = absurd (true≢false h)
 
 pub evacuating_is : (phase : Phase) → not (is_evacuating phase) ≡ false → phase ≡ Evacuating
-evacuating_is Idle h = absurd (true≢false h)
-evacuating_is Marking h = absurd (true≢false h)
-evacuating_is Waiting h = absurd (true≢false h)
 evacuating_is Evacuating h = refl
+evacuating_is _ h = absurd (true≢false h)
 
 -- ---- what is true where a step isn't refused
 -- no round is running, and a later epoch is left
@@ -129,12 +123,8 @@ module _ (now : Moment) (law : Law now.core) (moment : MomentLaw now) where
   wait_refused why e = leads_nowhere
 
   refused_leads : (step : Step) (why : Refusal) → refusal now (Evacuator step) ≡ Some why → Leads now (refused_step now step why)
-  refused_leads (Select choice most) why e = leads_nowhere
-  refused_leads (Mark count) why e = leads_nowhere
   refused_leads Wait why e = wait_refused why e
-  refused_leads (Evacuate count) why e = leads_nowhere
-  refused_leads Abort why e = leads_nowhere
-  refused_leads (Round policy most turns) why e = leads_nowhere
+  refused_leads _ why e = leads_nowhere
 
   pub made_leads : (step : Step) → refusal now (Evacuator step) ≡ None → Leads now (step_effect now step)
   made_leads (Select choice most) e =
@@ -165,12 +155,8 @@ module _ (now : Moment) (law : Law now.core) (moment : MomentLaw now) where
   wait_leaves why = objects_none now.core
 
   refused_leaves : (step : Step) (why : Refusal) → Keeps (refused_step now step why)
-  refused_leaves (Select choice most) why = objects_none now.core
-  refused_leaves (Mark count) why = objects_none now.core
   refused_leaves Wait why = wait_leaves why
-  refused_leaves (Evacuate count) why = objects_none now.core
-  refused_leaves Abort why = objects_none now.core
-  refused_leaves (Round policy most turns) why = objects_none now.core
+  refused_leaves _ why = objects_none now.core
 
   pub made_leaves : (step : Step) → refusal now (Evacuator step) ≡ None → Keeps (step_effect now step)
   made_leaves (Select choice most) e = selecting_objects now (logs_given (given_by choice (rows_in now) most))
@@ -264,10 +250,9 @@ same_clear b Seen blind = (
 )
 
 pub cell_same : (o : Option PtrWord) → CellStays o o
-cell_same None = tt
-cell_same (Some Free) = tt
 cell_same (Some (Near len ds place marks)) = (refl, refl, refl, gains_none marks)
 cell_same (Some (Far len ds marks)) = (refl, refl, gains_none marks)
+cell_same _ = tt
 
 pub stays_same : (c : Command) (why : Refusal) (now : Moment) → ((m : ℕ) → ¬ Sees c why m) → Stays c why now now
 stays_same c why now blind = record {

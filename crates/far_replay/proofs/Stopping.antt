@@ -3,13 +3,14 @@ use Rattle.std.proofs.Common.{◌≡◌, ◌≢◌, ◌⊎◌, inl, inr, ℕ, �
 use Rattle.std.specs.Prelude.{IfErr}
 use Rattle.std.proofs.lemmas.Bool.{false≢true}
 use Rattle.far_word.specs.declared.refused.Refused.{Refused as Refusal}
-use Rattle.far_word.specs.declared.refused.Refused.TheVariants.{Device, Memory, Phase as WrongPhase, EpochsSpent}
+use Rattle.far_word.specs.declared.refused.Refused.TheVariants.{BadChoice, Device, Memory, Phase as WrongPhase, EpochsSpent}
+use Rattle.far_policy.specs.Choice.{IsBadChoice}
 use Rattle.far_evac.specs.declared.answers.EvacFault.{EvacFault}
 use Rattle.far_evac.specs.declared.answers.Progress.{Progress}
 use Rattle.far_evac.specs.declared.answers.RoundEnd.{RoundEnd}
 use Rattle.far_evac.specs.declared.answers.RoundEnd.TheVariants.{Done, Limit}
 use Rattle.far_evac.specs.declared.phase.Phase.{Phase}
-use Rattle.far_evac.specs.declared.phase.Phase.TheVariants.{Idle, Marking, Waiting, Evacuating}
+use Rattle.far_evac.specs.declared.phase.Phase.TheVariants.{Idle, Evacuating}
 use Rattle.far_evac.specs.AnyHand.{StopsAt}
 use Rattle.far_evac.specs.Choosing.{after_selecting, is_spent}
 use Rattle.far_evac.specs.Moment.{Moment, Tally, nothing, plus, progress_of, tally_of}
@@ -63,10 +64,8 @@ leaving_stops now t count so_far phase stops (k, before, is, counts) =
     (0, k, made)
 
 pub evacuating_or : (p : Phase) → (p ≡ Evacuating) ⊎ (p ≢ Evacuating)
-evacuating_or Idle = inr (λ e. cc)
-evacuating_or Marking = inr (λ e. cc)
-evacuating_or Waiting = inr (λ e. cc)
 evacuating_or Evacuating = inl refl
+evacuating_or _ = inr (λ e. cc)
 
 pub evacuate_stops : (now t : Moment) (count : ℕ) (fault : EvacFault) → (now.phase ≢ Evacuating → fault.why ≡ WrongPhase) → (now.phase ≡ Evacuating → StopsAt now count t (tally_of fault.so_far)) →
     (now.phase ≡ Evacuating → (k : ℕ) × (k < count) × (t ≡ (walked now k).moment) × (fault.so_far ≡ progress_of (walked now k).tally false)) →
@@ -81,15 +80,12 @@ abbrev barring : Bool → Bool → Option Refusal
 barring idle spent = cond idle (cond spent (Some EpochsSpent) None) (Some WrongPhase)
 
 unbarred : (idle spent : Bool) → barring idle spent ≡ None → (idle ≡ true) × (first_cause ((not idle, WrongPhase) ∷ (spent, EpochsSpent) ∷ []) ≡ None)
-unbarred true true e = absurd cc
 unbarred true false e = (refl, refl)
-unbarred false spent e = absurd cc
+unbarred _ _ e = absurd cc
 
-idle_is : (p : Phase) → is_idle p ≡ true → p ≡ Idle
+pub idle_is : (p : Phase) → is_idle p ≡ true → p ≡ Idle
 idle_is Idle e = refl
-idle_is Marking e = absurd (false≢true e)
-idle_is Waiting e = absurd (false≢true e)
-idle_is Evacuating e = absurd (false≢true e)
+idle_is _ e = absurd (false≢true e)
 
 -- no turn is made where no round runs
 idle_turns : (m : Moment) → m.phase ≡ Idle → (n : ℕ) → turns_made m n ≡ turns_made m 0
@@ -140,14 +136,18 @@ Alike a b = a ≡ b
 
 never_device : (idle spent : Bool) → barring idle spent ≡ Some Device → ⊥
 never_device true true e = cc
-never_device true false e = cc
-never_device false spent e = cc
+never_device _ _ e = cc
 
 pub never_barred : (m : Moment) → unselectable m ≡ Some Device → ⊥
 never_barred m e = never_device (is_idle m.phase) (is_spent m.core) e
 
 pub why_same : (a b : EvacFault) → Alike (Err a) (Err b) → a.why ≡ b.why
 why_same a b e = cc
+
+-- one that is refused before it began isn't refused by the device
+pub never_first : (fault : EvacFault) (X Y : Type 0) → ((fault.why ≡ Memory) × X) ⊎ (IsBadChoice fault.why × Y) → fault.why ≢ Device
+never_first fault X Y (inl memory) failed = let odd : Memory ≡ Device = sym memory.0 ∙ failed in absurd cc
+never_first fault X Y (inr bad) failed = let odd : Device ≡ BadChoice bad.0.0 = sym failed ∙ bad.0.1 in absurd cc
 
 -- somewhere it stopped, where it wasn't done
 abbrev pub StopsSomewhere : Moment → Type 0

@@ -1,5 +1,5 @@
 -- Through each command an object that lies in a log of the core's round lies in one of the collection set.
-use Rattle.std.proofs.Common.{◌≡◌, Bool, true, false, not, None, List, [], ◌∷◌, sym, subst, refl}
+use Rattle.std.proofs.Common.{◌≡◌, Bool, true, not, None, List, [], ◌∷◌, sym, subst, refl}
 use Rattle.far_word.specs.declared.refused.Refused.{Refused as Refusal}
 use Rattle.far_word.specs.declared.refused.Refused.TheVariants.{Phase as WrongPhase, StillOpen}
 use Rattle.far_core.specs.declared.event.Event.{Event}
@@ -68,6 +68,5 @@ told_strays now c es told law fits ends none =
 -- ---- which logs are called chosen
 pub chosen_held : (held : Bool) (kind : Kind) → kind_named held kind ≡ Chosen → held ≡ true
 chosen_held held kinds.Free e = absurd cc
-chosen_held held kinds.Open e = absurd cc
 chosen_held true kinds.Sealed e = refl
-chosen_held false kinds.Sealed e = absurd cc
+chosen_held _ _ e = absurd cc

@@ -40,15 +40,13 @@ same_more : (s t u : State) → SameLogs s t → SameLogs t u → SameLogs s u
 same_more s t u a b = record { none = none_more s t u a.none b.none; rooms = λ n reserve. b.rooms n reserve ∙ a.rooms n reserve }
 
 asked_logs : (s : State) (m p : ℕ) → Law s → s.used p ≡ true → s.held p ≡ None → (o : Option PtrWord) → SameLogs s (sought_of s m p o)
-asked_logs s m p law used unheld None = record { none = none_taken s; rooms = λ n reserve. refl }
-asked_logs s m p law used unheld (Some Free) = record { none = none_taken s; rooms = λ n reserve. refl }
 asked_logs s m p law used unheld (Some (Near len ds place marks)) =
     let t : State = after s (Asks m p Moved) in
     record {
       none = worded_takes s t refl refl refl (names_at s t p Moved (λ q ne. put_other s.cell p _ q ne) (ap read_of (put_same s.cell p _ p refl) ∙ (reads s law p used unheld Moved refl).0));
       rooms = λ n reserve. refl;
     }
-asked_logs s m p law used unheld (Some (Far len ds marks)) = record { none = none_taken s; rooms = λ n reserve. refl }
+asked_logs s m p law used unheld _ = record { none = none_taken s; rooms = λ n reserve. refl }
 
 view_rooms : (s : State) (p n : ℕ) (reserve : Bool) → room (with_view s p) n reserve ≡ room s n reserve
 view_rooms s p n reserve = cond_both (is_some (s.held p)) s (after_pin s p) (λ (u : State). room u n reserve ≡ room s n reserve) (λ _. refl) (λ _. refl)
@@ -82,10 +80,9 @@ near_same s u t len from true same h = span_same s u t len from false same h
 near_same s u t len from false same h = none_more s u t same.none h
 
 pub bring_same : (s u t : State) (o : Option PtrWord) → SameLogs s u → BringTakes u (asked_word o) t → BringTakes s o t
-bring_same s u t None same h = none_more s u t same.none h
-bring_same s u t (Some Free) same h = none_more s u t same.none h
 bring_same s u t (Some (Near len ds place marks)) same h = near_same s u t len (Some place.log) marks.evac same h
 bring_same s u t (Some (Far len ds marks)) same h = span_same s u t len None true same h
+bring_same s u t _ same h = none_more s u t same.none h
 
 -- and so it is where nothing more is taken
 span_more : (s t v : State) (len : ℕ) (from : Option ℕ) (reserve : Bool) → TakesNone t v → TakesSpan s len from reserve t → TakesSpan s len from reserve v
@@ -96,23 +93,20 @@ near_more s t v len from true same h = span_more s t v len from false same h
 near_more s t v len from false same h = none_more s t v h same
 
 pub bring_more : (s t v : State) (o : Option PtrWord) → TakesNone t v → BringTakes s o t → BringTakes s o v
-bring_more s t v None same h = none_more s t v h same
-bring_more s t v (Some Free) same h = none_more s t v h same
 bring_more s t v (Some (Near len ds place marks)) same h = near_more s t v len (Some place.log) marks.evac same h
 bring_more s t v (Some (Far len ds marks)) same h = span_more s t v len None true same h
+bring_more s t v _ same h = none_more s t v h same
 
 -- ---- where it comes hangs on what its cell says
 abbrev pub place_by : State → Option PtrWord → Option Place
-place_by s None = None
-place_by s (Some Free) = None
 place_by s (Some (Near len ds place marks)) = cond marks.evac (room s (size_of len) false) (Some place)
 place_by s (Some (Far len ds marks)) = room s (size_of len) true
+place_by s _ = None
 
 comes_by : (s : State) (p : ℕ) (o : Option PtrWord) → read_of (s.cell p) ≡ o → comes_to_of s p o ≡ place_by s o
-comes_by s p None e = refl
-comes_by s p (Some Free) e = refl
 comes_by s p (Some (Near len ds place marks)) e = ap (goal_of s) e
 comes_by s p (Some (Far len ds marks)) e = ap (λ o. room s (size_of (far_len o)) true) e
+comes_by s p _ e = refl
 
 pub comes_place : (s : State) (p : ℕ) (o : Option PtrWord) → read_of (s.cell p) ≡ o → comes_to s p ≡ place_by s o
 comes_place s p o e = ap (comes_to_of s p) e ∙ comes_by s p o e
@@ -123,10 +117,9 @@ near_lacks s u len place true same none = (refl, sym (same.rooms (size_of len) f
 near_lacks s u len place false same none = absurd cc
 
 pub lacks : (s u : State) (o : Option PtrWord) → SameLogs s u → in_use o ≡ true → place_by u (asked_word o) ≡ None → LacksRoom s o
-lacks s u None same live none = absurd (false≢true live)
-lacks s u (Some Free) same live none = absurd (false≢true live)
 lacks s u (Some (Near len ds place marks)) same live none = near_lacks s u len place marks.evac same none
 lacks s u (Some (Far len ds marks)) same live none = sym (same.rooms (size_of len) true) ∙ none
+lacks s u _ same live none = absurd (false≢true live)
 
 -- ---- a dereference
 -- so it is of one after which nothing more is taken

@@ -24,18 +24,10 @@ use Rattle.far_replay.proofs.WithCore.{same_core}
 
 -- ---- the core that a command makes is all that it makes
 told_turn : (now : Moment) (c : Command) → IsNoStep c → turn_effect now c ≡ with_core now (turn_effect now c).core
-told_turn now (Mutator m (New len ds)) told = refl
-told_turn now (Mutator m Open) told = refl
-told_turn now (Mutator m (Write p from bytes)) told = refl
-told_turn now (Mutator m (Read p from len)) told = refl
-told_turn now (Mutator m Close) told = refl
 told_turn now (Mutator m (Where p)) told = sym (same_core now)
-told_turn now (Mutator m (Drop p)) told = refl
-told_turn now (Mutator m (View p)) told = refl
-told_turn now (Mutator m (Try p)) told = refl
-told_turn now (Mutator m Epoch) told = refl
 told_turn now (Book inquiry) told = sym (same_core now)
 told_turn now (Evacuator step) told = absurd told
+told_turn now _ told = refl
 
 told_refused : (now : Moment) (c : Command) (why : Refusal) → IsNoStep c → refused_effect now c why ≡ with_core now (refused_effect now c why).core
 told_refused now (Mutator m (Write p from bytes)) NoRoom told = refl
@@ -55,9 +47,8 @@ told_effect now c told = told_at now c (refusal now c) told
 -- ---- it leaves the round alone
 new_at : (s : State) (m len ds : ℕ) (cell : Option ℕ) (place : Option Place) → Law s → (nat_lt m s.mutators && nat_lt ds 256) ≡ true → (nat_lt 0 len && nat_le len LONGEST) ≡ true →
     lowest_cell s m ≡ cell → room s (size_of len) true ≡ place → StepsAside s (with_new s m len ds cell place)
-new_at s m len ds None place law owner sizes e f = same_aside s
-new_at s m len ds (Some p) None law owner sizes e f = same_aside s
 new_at s m len ds (Some p) (Some place) law owner sizes e f = let h = new_sizes m s.mutators len ds owner sizes in new_aside s m len ds p place law h.2 h.3 h.1 e f
+new_at s m len ds _ _ law owner sizes e f = same_aside s
 
 turn_aside : (now : Moment) (c : Command) → IsNoStep c → Law now.core → refusal now c ≡ None → StepsAside now.core (turn_effect now c).core
 turn_aside now (Mutator m (New len ds)) told law e =
@@ -74,7 +65,6 @@ turn_aside now (Mutator m (Read p from len)) told law e =
     let h = five (nat_lt m s.mutators) (is_opened s m) (uses s m p) (is_range (object_len s p) from len) (has_no_room s m p) e in
     derefs_aside s m p law h.1 h.2 h.4
 turn_aside now (Mutator m Close) told law e = close_aside now.core m
-turn_aside now (Mutator m (Where p)) told law e = same_aside now.core
 turn_aside now (Mutator m (Drop p)) told law e = without_aside now.core m p
 turn_aside now (Mutator m (View p)) told law e =
     let s : State = now.core in
@@ -82,8 +72,8 @@ turn_aside now (Mutator m (View p)) told law e =
     derefs_aside s m p law h.1 h.2 h.3
 turn_aside now (Mutator m (Try p)) told law e = view_aside now.core p
 turn_aside now (Mutator m Epoch) told law e = epoch_aside now.core m
-turn_aside now (Book inquiry) told law e = same_aside now.core
 turn_aside now (Evacuator step) told law e = absurd told
+turn_aside now _ told law e = same_aside now.core
 
 refused_aside : (now : Moment) (c : Command) (why : Refusal) → IsNoStep c → StepsAside now.core (refused_effect now c why).core
 refused_aside now (Mutator m (Write p from bytes)) NoRoom told = sought_aside now.core m p

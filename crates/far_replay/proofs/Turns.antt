@@ -58,65 +58,42 @@ use Rattle.far_replay.proofs.Views.{view_between}
 -- four causes that aren't there
 pub four : (a b c d : Bool) (w x y z : Refusal) → first_cause ((not a, w) ∷ (not b, x) ∷ (not c, y) ∷ (not d, z) ∷ []) ≡ None → (a ≡ true) × (b ≡ true) × (c ≡ true) × (d ≡ true)
 four true true true true w x y z e = (refl, refl, refl, refl)
-four true true true false w x y z e = absurd cc
-four true true false d w x y z e = absurd cc
-four true false c d w x y z e = absurd cc
-four false b c d w x y z e = absurd cc
+four _ _ _ _ w x y z e = absurd cc
 
 -- three, and a fourth that is said otherwise
 pub tried : (a b c d : Bool) (w x y z : Refusal) → first_cause ((not a, w) ∷ (not b, x) ∷ (not c, y) ∷ (d, z) ∷ []) ≡ None → (a ≡ true) × (b ≡ true) × (c ≡ true) × (d ≡ false)
 tried true true true false w x y z e = (refl, refl, refl, refl)
-tried true true true true w x y z e = absurd cc
-tried true true false d w x y z e = absurd cc
-tried true false c d w x y z e = absurd cc
-tried false b c d w x y z e = absurd cc
+tried _ _ _ _ w x y z e = absurd cc
 
 -- and what is so where a mark is the cause
 pub marked_last : (a b c d : Bool) (w v : ℕ) → first_cause ((not a, Range) ∷ (not b, Closed) ∷ (not c, NotHeld) ∷ (d, Marked w) ∷ []) ≡ Some (Marked v) → (a ≡ true) × (b ≡ true) × (c ≡ true) × (d ≡ true) × (v ≡ w)
 marked_last true true true true w v e = (refl, refl, refl, refl, cc)
-marked_last true true true false w v e = absurd cc
-marked_last true true false d w v e = absurd cc
-marked_last true false c d w v e = absurd cc
-marked_last false b c d w v e = absurd cc
+marked_last _ _ _ _ w v e = absurd cc
 
 -- and where want of room is
 pub room_last : (a b c d : Bool) → first_cause ((not a, Range) ∷ (not b, Closed) ∷ (not c, NotHeld) ∷ (d, NoRoom) ∷ []) ≡ Some NoRoom → (a ≡ true) × (b ≡ true) × (c ≡ true) × (d ≡ true)
 room_last true true true true e = (refl, refl, refl, refl)
-room_last true true true false e = absurd cc
-room_last true true false d e = absurd cc
-room_last true false c d e = absurd cc
-room_last false b c d e = absurd cc
+room_last _ _ _ _ e = absurd cc
 
 -- what none of five says; and what want of room says
 pub five : (a b c d e : Bool) → first_cause ((not a, Range) ∷ (not b, Closed) ∷ (not c, NotHeld) ∷ (not d, Range) ∷ (e, NoRoom) ∷ []) ≡ None → (a ≡ true) × (b ≡ true) × (c ≡ true) × (d ≡ true) × (e ≡ false)
-five true true true true true h = absurd cc
 five true true true true false h = (refl, refl, refl, refl, refl)
-five true true true false e h = absurd cc
-five true true false d e h = absurd cc
-five true false c d e h = absurd cc
-five false b c d e h = absurd cc
+five _ _ _ _ _ h = absurd cc
 
 pub room_lacks : (a b c d e : Bool) → first_cause ((not a, Range) ∷ (not b, Closed) ∷ (not c, NotHeld) ∷ (not d, Range) ∷ (e, NoRoom) ∷ []) ≡ Some NoRoom →
     (a ≡ true) × (b ≡ true) × (c ≡ true) × (e ≡ true)
 room_lacks true true true true true h = (refl, refl, refl, refl)
-room_lacks true true true true false h = absurd cc
-room_lacks true true true false e h = absurd cc
-room_lacks true true false d e h = absurd cc
-room_lacks true false c d e h = absurd cc
-room_lacks false b c d e h = absurd cc
+room_lacks _ _ _ _ _ h = absurd cc
 
 -- two of them
 pub two : (a b : Bool) (w x : Refusal) → first_cause ((not a, w) ∷ (b, x) ∷ []) ≡ None → (a ≡ true) × (b ≡ false)
-two true true w x e = absurd cc
 two true false w x e = (refl, refl)
-two false b w x e = absurd cc
+two _ _ w x e = absurd cc
 
 -- three of them
 pub three : (a b c : Bool) (w x y : Refusal) → first_cause ((not a, w) ∷ (not b, x) ∷ (c, y) ∷ []) ≡ None → (a ≡ true) × (b ≡ true) × (c ≡ false)
-three true true true w x y e = absurd cc
 three true true false w x y e = (refl, refl, refl)
-three true false c w x y e = absurd cc
-three false b c w x y e = absurd cc
+three _ _ _ w x y e = absurd cc
 
 -- what a command that may read or write an object has
 pub record Access (s : State) (m p from count : ℕ) : Type 0 where

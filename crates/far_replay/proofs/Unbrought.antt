@@ -1,15 +1,15 @@
 -- Where the device fails, or gives another number of bytes, a command that is to reach a far object is left with what a try of that object leaves; and where there is no room it is refused.
-use Rattle.std.proofs.Common.{◌≡◌, ◌≢◌, ◌⊎◌, inl, inr, ℕ, ◌/◌, Bool, true, false, not, is_some, IsSome, List, [], ◌∷◌, length, Option, Some, None, Result, Ok, Err, refl, sym, ap, subst, ◌∙◌}
+use Rattle.std.proofs.Common.{◌≡◌, ◌≢◌, inl, inr, ℕ, ◌/◌, Bool, true, false, not, IsSome, [], ◌∷◌, Option, Some, None, if◌then◌else◌, Result, Ok, Err, refl, sym, ap, subst, ◌∙◌}
 use Rattle.std.specs.Prelude.{IfErr, IfOk}
-use Rattle.std.proofs.lemmas.Bool.{cond_both, false≢true}
+use Rattle.std.proofs.lemmas.Bool.{false≢true}
 use Rattle.far_word.specs.declared.mark.Mark.TheVariants.{Hot}
 use Rattle.far_word.specs.declared.pointer.PtrWord.{PtrWord}
-use Rattle.far_word.specs.declared.pointer.PtrWord.TheVariants.{Free, Near, Far}
+use Rattle.far_word.specs.declared.pointer.PtrWord.TheVariants.{Free}
 use Rattle.far_word.specs.declared.refused.Refused.{Refused as Refusal}
 use Rattle.far_word.specs.declared.refused.Refused.TheVariants.{Damaged, Device, Memory, NoRoom, Range, Closed, NotHeld, Marked}
 use Rattle.far_word.specs.declared.sizes.TheConstants.{CELLS}
 use Rattle.far_word.specs.Pointer.{read_of}
-use Rattle.far_core.specs.events.Step.{after_pin, is_opened}
+use Rattle.far_core.specs.events.Step.{is_opened}
 use Rattle.far_core.specs.state.Law.{Law}
 use Rattle.far_core.specs.state.State.{State}
 use Rattle.far_core.proofs.Cells.{map_mark}
@@ -20,7 +20,7 @@ use Rattle.far_replay.specs.Commanded.{KeepsFar, Serves, Refuses, Served, Stoppe
 use Rattle.far_replay.specs.Dereference.{RefusesBringing, RefusesView, comes_to, has_no_room, says_near, sought, sought_of}
 use Rattle.far_replay.specs.Effects.{is_slow, with_view}
 use Rattle.far_replay.specs.Interpreter.{refuser}
-use Rattle.far_replay.specs.Moment.{FarSide, Moment, moment_in, state_in, with_core}
+use Rattle.far_replay.specs.Moment.{FarSide, KeepsRound, Moment, moment_in, state_in, with_core}
 use Rattle.far_replay.specs.Outcome.{IsFromOutside, reply_by}
 use Rattle.far_replay.specs.Reply.{Refused}
 use Rattle.far_replay.specs.Spent.{Makes, SpentBy}
@@ -32,12 +32,11 @@ use Rattle.far_replay.proofs.Bringing.{SaysFar, far_is}
 use Rattle.far_replay.proofs.RangeTurns.{opened_inside, uses_own}
 use Rattle.far_replay.proofs.Views.{pin_read, slow_view}
 use Rattle.far_replay.proofs.WithCore.{moment_joined, same_order}
+use Rattle.far_replay.proofs.Asides.{sought_current}
 
 near_hot : (o : Option PtrWord) → says_near (map_mark Hot o) ≡ says_near o
-near_hot None = refl
 near_hot (Some Free) = refl
-near_hot (Some (Near len ds place marks)) = refl
-near_hot (Some (Far len ds marks)) = refl
+near_hot _ = refl
 
 by_try : (why : Refusal) (a b c d : Bool) → a ≡ true → b ≡ true → c ≡ true → d ≡ true → first_cause ((not a, Range) ∷ (not b, Closed) ∷ (not c, NotHeld) ∷ (d, why) ∷ []) ≡ Some why
 by_try why true true true true x y z w = refl
@@ -81,7 +80,7 @@ module _ (now next : Moment) (m p : ℕ) (law : Law now.core) (opened : is_opene
   left : IsSome (comes_to (sought now.core m p) p) × (next.core ≡ sought now.core m p)
   left = kept_far (sought now.core m p) next.core p why keeps refuses.1
 
-  pub has_room : has_no_room now.core m p ≡ false
+  has_room : has_no_room now.core m p ≡ false
   has_room = rw (refuses.0, left.0) refl
 
   cause : refusal now (Mutator m (Try p)) ≡ Some (Marked (now.core.cell p))
@@ -94,7 +93,7 @@ module _ (now next : Moment) (m p : ℕ) (law : Law now.core) (opened : is_opene
       (order ∙ sym (same_order now (with_view now.core p) (ap (λ (t : State). t.current) (slow_view now.core p refuses.0)))) phase held
       ∙ ap (λ o. unless o (refused_effect now c) (turn_effect now c)) (sym cause)
 
-  pub unbrought : (c : Command) → refusal now c ≡ None → Unbrought why now c m p (Refused why) next
+  unbrought : (c : Command) → refusal now c ≡ None → Unbrought why now c m p (Refused why) next
   unbrought c allowed = record {
     cause = keeps;
     allowed = allowed;
@@ -107,21 +106,11 @@ module _ (now next : Moment) (m p : ℕ) (law : Law now.core) (opened : is_opene
   }
 
 -- ---- or for want of room
-current_of : (s : State) (m p : ℕ) (o : Option PtrWord) → (sought_of s m p o).current ≡ s.current
-current_of s m p None = refl
-current_of s m p (Some Free) = refl
-current_of s m p (Some (Near len ds place marks)) = refl
-current_of s m p (Some (Far len ds marks)) = refl
-
-sought_current : (s : State) (m p : ℕ) → (sought s m p).current ≡ s.current
-sought_current s m p = current_of (with_view s p) m p (read_of ((with_view s p).cell p))
-    ∙ cond_both (is_some (s.held p)) s (after_pin s p) (λ (t : State). t.current ≡ s.current) (λ _. refl) (λ _. refl)
-
-pub lacks_room : (s t : State) (m p : ℕ) → RefusesView s m p NoRoom t → has_no_room s m p ≡ true
+lacks_room : (s t : State) (m p : ℕ) → RefusesView s m p NoRoom t → has_no_room s m p ≡ true
 lacks_room s t m p h = rw (h.0, h.1.0) refl
 
 -- a command that seeks it and is refused so
-pub unplaced : (now next : Moment) (m p : ℕ) (c : Command) → refusal now c ≡ Some NoRoom → refused_effect now c NoRoom ≡ with_core now (sought now.core m p) → RefusesView now.core m p NoRoom next.core →
+unplaced : (now next : Moment) (m p : ℕ) (c : Command) → refusal now c ≡ Some NoRoom → refused_effect now c NoRoom ≡ with_core now (sought now.core m p) → RefusesView now.core m p NoRoom next.core →
     next.order ≡ now.order → next.phase ≡ now.phase → next.collection ≡ now.collection → Served now c (Refused NoRoom) next
 unplaced now next m p c cause leaves refuses order phase held = record {
   reply = ap (λ o. unless o Refused (turn_reply now c)) (sym cause);
@@ -138,31 +127,46 @@ unless_room s t m p Device h a b c = absurd (b refl)
 unless_room s t m p Damaged h a b c = absurd (c refl)
 unless_room s t m p why h a b c = absurd h.1
 
-pub refused_within : (old new : EvacOf Plain FarSide) (m p : ℕ) (c : Command) (r : Result Outcome Refusal) (why : Refusal) (scratch : Scratch) →
-    IfOk r (λ outcome. (outcome ≡ outcomes.Refused why) × (why ≢ Memory) × (why ≢ Device) × (why ≢ Damaged)) → RefusesView (state_in old) m p why (state_in new) → SpentBy (refuser why) old new →
-    (RefusesView (state_in old) m p NoRoom (state_in new) → Served (moment_in old) c (Refused NoRoom) (moment_in new)) → IfOk r (λ outcome. Makes old c (reply_by scratch outcome) new)
-refused_within old new m p c (Ok outcome) why scratch (is, a, b, d) refuses spent served =
-    let room : why ≡ NoRoom = unless_room (state_in old) (state_in new) m p why refuses a b d in
-    subst (λ o. Makes old c (reply_by scratch o) new) (sym is)
-    (subst (λ w. Makes old c (Refused w) new) (sym room)
-    (Serves, served (subst (λ w. RefusesView (state_in old) m p w (state_in new)) room refuses), subst (λ w. SpentBy (refuser w) old new) room spent))
-refused_within old new m p c (Err e) why scratch told refuses spent served = tt
-
--- whatever stands in the buffers
-pub within_each : (old new : EvacOf Plain FarSide) (m p : ℕ) (c : Command) (r : Result Outcome Refusal) (why : Refusal) → IfOk r (λ outcome. (outcome ≡ outcomes.Refused why) × (why ≢ Memory) × (why ≢ Device) × (why ≢ Damaged)) →
-    RefusesView (state_in old) m p why (state_in new) → SpentBy (refuser why) old new → (RefusesView (state_in old) m p NoRoom (state_in new) → Served (moment_in old) c (Refused NoRoom) (moment_in new)) →
-    IfOk r (λ outcome. (scratch : Scratch) → Makes old c (reply_by scratch outcome) new)
-within_each old new m p c (Ok outcome) why told refuses spent served = λ scratch. refused_within old new m p c (Ok outcome) why scratch told refuses spent served
-within_each old new m p c (Err e) why told refuses spent served = tt
-
 from_outside : (why : Refusal) → IsFromOutside why → why ≢ Memory → KeepsFar why
 from_outside why (inl memory) other = absurd (other memory)
 from_outside why (inr (inl failed)) other = subst KeepsFar (sym failed) tt
 from_outside why (inr (inr damaged)) other = subst KeepsFar (sym damaged) tt
 
-pub refused_outside : (old new : EvacOf Plain FarSide) (c : Command) (r : Result Outcome Refusal) (why : Refusal) → IfErr r (λ by. (by ≡ why) × IsFromOutside why) → SpentBy (refuser why) old new →
-    (KeepsFar why → Stopped why 0 0 (moment_in old) c (Refused why) (moment_in new)) → IfErr r (λ by. by ≢ Memory → Makes old c (Refused by) new)
-refused_outside old new c (Ok x) why h spent stops = tt
-refused_outside old new c (Err by) why (is, outside) spent stops = λ other.
-    let keeps : KeepsFar why = from_outside why outside (λ memory. other (is ∙ memory)) in
-    subst (λ w. Makes old c (Refused w) new) (sym is) (Refuses why 0 0, stops keeps, subst (λ o. SpentBy o old new) (refuser_is why keeps) spent)
+-- a command sought its object in vain, and would have been refused for want of room alone
+pub record IsVain (old new : EvacOf Plain FarSide) (m p : ℕ) (c : Command) (why : Refusal) : Type 0 where
+  pub opened : is_opened (state_in old) m ≡ true
+  pub own : p / CELLS ≡ m
+  pub used : (state_in old).used p ≡ true
+  pub cause : (b : Bool) → has_no_room (state_in old) m p ≡ b → refusal (moment_in old) c ≡ (if b then Some NoRoom else None)
+  pub stops : Unbrought why (moment_in old) c m p (Refused why) (moment_in new) → Stopped why 0 0 (moment_in old) c (Refused why) (moment_in new)
+  pub leaves : refused_effect (moment_in old) c NoRoom ≡ with_core (moment_in old) (sought (state_in old) m p)
+  pub refuses : RefusesView (state_in old) m p why (state_in new)
+  pub far : KeepsFar why → says_near (read_of ((state_in old).cell p)) ≡ false
+  pub shut : new.book.order ≡ old.book.order
+  pub round : KeepsRound old new
+  pub spent : SpentBy (refuser why) old new
+
+module _ {old new : EvacOf Plain FarSide} {m p : ℕ} {c : Command} {why : Refusal} (x : IsVain old new m p c why) where
+  within : why ≡ NoRoom → Makes old c (Refused why) new
+  within room =
+      let refuses = subst (λ w. RefusesView (state_in old) m p w (state_in new)) room x.refuses in
+      let served = unplaced (moment_in old) (moment_in new) m p c (x.cause true (lacks_room (state_in old) (state_in new) m p refuses)) x.leaves refuses x.shut x.round.0 x.round.1 in
+      subst (λ w. Makes old c (Refused w) new) (sym room) (Serves, served, subst (λ w. SpentBy (refuser w) old new) room x.spent)
+
+  outside : KeepsFar why → Makes old c (Refused why) new
+  outside keeps =
+      let now : Moment = moment_in old in
+      let next : Moment = moment_in new in
+      let law = old.book.near.core.law in
+      let room = has_room now next m p law x.opened x.own x.used why keeps x.refuses (x.far keeps) x.shut x.round.0 x.round.1 in
+      let stops = unbrought now next m p law x.opened x.own x.used why keeps x.refuses (x.far keeps) x.shut x.round.0 x.round.1 c (x.cause false room) in
+      (Refuses why 0 0, x.stops stops, subst (λ o. SpentBy o old new) (refuser_is why keeps) x.spent)
+
+  -- whatever stands in the buffers
+  pub vain_within : (r : Result Outcome Refusal) → IfOk r (λ outcome. (outcome ≡ outcomes.Refused why) × (why ≢ Memory) × (why ≢ Device) × (why ≢ Damaged)) → IfOk r (λ outcome. (scratch : Scratch) → Makes old c (reply_by scratch outcome) new)
+  vain_within (Ok outcome) (is, a, b, d) = λ scratch. subst (λ o. Makes old c (reply_by scratch o) new) (sym is) (within (unless_room (state_in old) (state_in new) m p why x.refuses a b d))
+  vain_within (Err e) told = tt
+
+  pub vain_outside : (r : Result Outcome Refusal) → IfErr r (λ by. (by ≡ why) × IsFromOutside why) → IfErr r (λ by. by ≢ Memory → Makes old c (Refused by) new)
+  vain_outside (Ok outcome) told = tt
+  vain_outside (Err by) (is, failed) = λ other. subst (λ w. Makes old c (Refused w) new) (sym is) (outside (from_outside why failed (λ memory. other (is ∙ memory))))

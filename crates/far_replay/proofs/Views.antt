@@ -7,7 +7,7 @@ use Rattle.far_word.specs.declared.mark.Marks.{Marks}
 use Rattle.far_word.specs.declared.pointer.Place.{Place}
 use Rattle.far_word.specs.declared.pointer.PtrWord.{PtrWord}
 use Rattle.far_word.specs.declared.pointer.PtrWord.TheVariants as pointer
-use Rattle.far_word.specs.declared.pointer.PtrWord.TheVariants.{Near, Far}
+use Rattle.far_word.specs.declared.pointer.PtrWord.TheVariants.{Near}
 use Rattle.far_word.specs.declared.sizes.TheConstants.{CELLS}
 use Rattle.far_word.specs.Mark.{position, marks_with}
 use Rattle.far_word.specs.Pointer.{read_of}
@@ -33,17 +33,13 @@ use Rattle.far_replay.proofs.MadeLemmas.{made_first, first_succeeds, not_refused
 -- ---- what HOT leaves as it is
 -- the first data word
 pub near_data-hot : (o : Option PtrWord) → near_data (map_mark Hot o) ≡ near_data o
-near_data-hot None = refl
 near_data-hot (Some pointer.Free) = refl
-near_data-hot (Some (Near len ds place m)) = refl
-near_data-hot (Some (Far len ds m)) = refl
+near_data-hot _ = refl
 
 -- the length
 pub near_len-hot : (o : Option PtrWord) → near_len (map_mark Hot o) ≡ near_len o
-near_len-hot None = refl
 near_len-hot (Some pointer.Free) = refl
-near_len-hot (Some (Near len ds place m)) = refl
-near_len-hot (Some (Far len ds m)) = refl
+near_len-hot _ = refl
 
 -- what a cell says of an object that may be dereferenced at once
 pub record Ready (o : Option PtrWord) : Type 0 where
@@ -76,9 +72,8 @@ pub record Viewed (s t : State) (m p : ℕ) : Type 0 where
 
 -- ---- a pin that gives no view
 neither : (a b : Bool) → not (a || b) ≡ true → (a ≡ false) × (b ≡ false)
-neither true b e = absurd cc
-neither false true e = absurd cc
 neither false false e = (refl, refl)
+neither _ _ e = absurd cc
 
 -- nothing is held that wasn't
 no_hold : (held : ℕ → Option Place) (p : ℕ) (o : Option Place) → is_some o ≡ false → with_hold held p o ≡ held

@@ -26,20 +26,17 @@ abbrev pub NoClose : Event → Type 0
 NoClose e = (m : ℕ) → e ≢ Close m
 
 abbrev pub ClosesLast : List Event → Type 0
-ClosesLast [] = Unit {0}
-ClosesLast (e ∷ []) = Unit {0}
 ClosesLast (e ∷ f ∷ es) = NoClose e × ClosesLast (f ∷ es)
+ClosesLast _ = Unit {0}
 
 pub none_closes : (es : List Event) → Each NoClose es → ClosesLast es
-none_closes [] h = tt
-none_closes (e ∷ []) h = tt
 none_closes (e ∷ f ∷ es) h = (h.0, none_closes (f ∷ es) h.1)
+none_closes _ h = tt
 
 -- so it is in each part of such a row
 closes_front : (es fs : List Event) → ClosesLast (es ++ fs) → ClosesLast es
-closes_front [] fs h = tt
-closes_front (e ∷ []) fs h = tt
 closes_front (e ∷ f ∷ es) fs h = (h.0, closes_front (f ∷ es) fs h.1)
+closes_front _ fs h = tt
 
 closes_rest : (e : Event) (es : List Event) → ClosesLast (e ∷ es) → ClosesLast es
 closes_rest e [] h = tt

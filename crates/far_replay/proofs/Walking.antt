@@ -1,14 +1,13 @@
 -- What walks and rounds spend of the flaw of a heap's device: nothing, but where a write of theirs failed, at which they stopped.
-use Rattle.std.proofs.Common.{◌≡◌, ◌≢◌, ◌⊎◌, inl, inr, ℕ, zero, suc, Bool, true, false, List, [], ◌∷◌, Option, Some, None, Result, Ok, Err, refl, sym, ap, subst, ◌∙◌}
+use Rattle.std.proofs.Common.{◌≡◌, ◌≢◌, ◌⊎◌, inl, inr, ℕ, zero, suc, Bool, true, false, List, [], ◌∷◌, Some, None, Result, Ok, Err, refl, sym, ap, subst, ◌∙◌}
 use Rattle.std.specs.Prelude.{IfErr, IfOk}
 use Rattle.far_word.specs.declared.refused.Refused.{Refused as Refusal}
-use Rattle.far_word.specs.declared.refused.Refused.TheVariants.{BadChoice, Device, EpochsSpent, Memory, Phase as WrongPhase}
+use Rattle.far_word.specs.declared.refused.Refused.TheVariants.{Device, Memory, Phase as WrongPhase}
 use Rattle.far_core.specs.state.State.{State}
-use Rattle.far_device.specs.Mem.{MemWrites, bytes_at}
-use Rattle.far_device.specs.declared.fault.DeviceFault.{DeviceFault}
+use Rattle.far_device.specs.Mem.{bytes_at}
 use Rattle.far_device.specs.declared.fault.DeviceFault.TheVariants as fault
 use Rattle.far_hand.specs.declared.plain.Plain.{Plain}
-use Rattle.far_book.specs.book.Asking.{AsksToEvict, fault_of}
+use Rattle.far_book.specs.book.Asking.{AsksToEvict}
 use Rattle.far_policy.specs.Choice.{IsBadChoice}
 use Rattle.far_evac.specs.Asked.{AsksFirst, AsksInTurn, AsksOnItsWay, AsksSo, IsRefusedWrite, WalksAsking}
 use Rattle.far_evac.specs.Choosing.{after_selecting}
@@ -21,7 +20,7 @@ use Rattle.far_evac.specs.declared.answers.EvacFault.{EvacFault}
 use Rattle.far_evac.specs.declared.answers.Progress.{Progress}
 use Rattle.far_evac.specs.declared.answers.RoundEnd.{RoundEnd}
 use Rattle.far_evac.specs.declared.phase.Phase.{Phase}
-use Rattle.far_evac.specs.declared.phase.Phase.TheVariants.{Idle, Marking, Waiting, Evacuating}
+use Rattle.far_evac.specs.declared.phase.Phase.TheVariants.{Idle, Evacuating}
 use Rattle.far_word.specs.Pointer.{read_of}
 use Rattle.far_replay.specs.Commanded.{Serves, Refuses}
 use Rattle.far_replay.specs.Interpreter.{stopper, stopper_of}
@@ -29,7 +28,7 @@ use Rattle.far_replay.specs.Moment.{FarSide}
 use Rattle.far_replay.specs.Spent.{SpentBy}
 use Rattle.far_replay.proofs.FarReads.{FarLetsGo, FarWrites, NoMore, go_no_more, no_more_both, same_no_more, write_done, write_fault, write_no_more}
 use Rattle.far_replay.proofs.Spending.{spent_failed, spent_none, spent_same}
-use Rattle.far_replay.proofs.Stopping.{evacuating_or, never_barred, why_same}
+use Rattle.far_replay.proofs.Stopping.{evacuating_or, never_barred, never_first, why_same}
 
 same_is : (d e : FarSide) → e ≡ d → NoMore d e
 same_is d e same = subst (NoMore d) (sym same) (same_no_more d)
@@ -58,9 +57,8 @@ way_no_more m t tally d e (w, walks, ends, counts) = walk_no_more m _ w d e walk
 
 turn_no_more : (m : Moment) (phase : Phase) (t : Moment) (tally : Tally) (d e : FarSide) → AsksInTurn FarSide FarWrites FarLetsGo m phase t tally d e → NoMore d e
 turn_no_more m Idle t tally d e h = absurd h
-turn_no_more m Marking t tally d e same = same_is d e same
-turn_no_more m Waiting t tally d e same = same_is d e same
 turn_no_more m Evacuating t tally d e h = way_no_more m t tally d e h
+turn_no_more m _ t tally d e same = same_is d e same
 
 turns_no_more : (m : Moment) (tallies : List Tally) (over : Bool) (t : Moment) (d e : FarSide) → TurnsAsking FarSide FarWrites FarLetsGo m tallies over t d e → NoMore d e
 turns_no_more m [] over t d e h = same_is d e h.2
@@ -128,10 +126,6 @@ module _ (old new : EvacOf Plain FarSide) (m t : Moment) (turns : ℕ) where
   abbrev Broken : (List ℕ → Type 0) → (List ℕ → EvacFault → Type 0) → EvacFault → Type 0
   Broken Gives Halts fault = (logs : List ℕ) × Gives logs × ((fault.why ≡ Memory) ⊎ (fault.why ≡ Device)) × Halts logs fault
       × StopsAsking FarSide FarWrites FarLetsGo (λ x q. bytes_at x.inner.inner q) (after_selecting m logs) turns fault.so_far fault.why t old.book.device new.book.device
-
-  never_first : (fault : EvacFault) (X Y : Type 0) → ((fault.why ≡ Memory) × X) ⊎ (IsBadChoice fault.why × Y) → fault.why ≢ Device
-  never_first fault X Y (inl memory) failed = let odd : Memory ≡ Device = sym memory.0 ∙ failed in absurd cc
-  never_first fault X Y (inr bad) failed = let odd : Device ≡ BadChoice bad.0.0 = sym failed ∙ bad.0.1 in absurd cc
 
   module _ (Gives : List ℕ → Type 0) (Ended : List ℕ → RoundEnd → Type 0) (Counts X Y : EvacFault → Type 0) (Halts : List ℕ → EvacFault → Type 0) (K : Type 0) (so_far : Progress) where
     refused_spends : (fault : EvacFault) → First Counts X Y fault ⊎ Broken Gives Halts fault → SpentBy (stopper_of fault.why) old new

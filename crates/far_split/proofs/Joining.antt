@@ -3,23 +3,36 @@ use Rattle.std.proofs.Common.{◌≡◌, ◌⊎◌, inl, inr, ℕ, suc, ◌+◌,
 use Rattle.std.specs.Prelude.{IfErr, IfOk, map, ◌==◌, if◌then◌else◌}
 use Rattle.std.specs.Global.{Vec}
 use Rattle.std.specs.List.{AllByRecursion, remove}
-use Rattle.std.proofs.lemmas.Bool.{eqb-false}
+use Rattle.std.proofs.lemmas.Bool.{eqb-false, eqb-true}
 use Rattle.std.proofs.lemmas.List.{get_or-append-add, get_or-map, get_or_append_left, get_or_default, get_or_push, length-map, map-append}
 use Rattle.far_text.specs.Command.{Command}
 use Rattle.far_text.specs.Threads.{OfMutator}
+use Rattle.far_hand.specs.ShapeOf.{shape_of as shape_in}
+use Rattle.far_table.specs.BookSeats.{seat_view}
+use Rattle.far_heap.specs.Blanks.{BlankOf, IsUnused}
 use Rattle.far_heap.specs.HeapId.{HeapId}
 use Rattle.far_replay.specs.Alone.{nothing}
 use Rattle.far_replay.specs.Reply.{IsShort, Reply}
-use Rattle.far_split.specs.Here.{AloneHere}
-use Rattle.far_split.specs.Jobs.{AreEnds, EndsSo, IsPart, Joins}
+use Rattle.far_split.specs.FarSides.{FarSide}
+use Rattle.far_split.specs.Here.{AloneOn}
+use Rattle.far_split.specs.Jobs.{AreEnds, AreStops, EndsSo, IsPart, IsStop, Joins, StopsSo}
 use Rattle.far_split.specs.Joined.{AllRan, AreShort, IsFault, MayStop, RanSo, as_joined, commands_in, replies_of, who_at}
 use Rattle.far_split.specs.declared.gate.TheConstants.{THE_BOOK}
 use Rattle.far_split.specs.declared.mutators.Stop.{Stop}
+use Rattle.far_split.specs.declared.mutators.Stop.TheVariants as stops
 use Rattle.far_split.specs.declared.split_out.SplitOut.{SplitOut}
 use Rattle.far_split.specs.declared.split_out.SplitOut.TheVariants.{Refused as OutRefused, Ran as OutRan}
 use Rattle.far_split.specs.declared.run.SplitFault.{SplitFault}
 use Rattle.far_split.specs.declared.run.SplitFault.TheVariants as faults
 use Rattle.far_split.specs.declared.told.Told.{Told}
+use Rattle.far_split.proofs.OwnLines.{are_by}
+
+-- the heap is that of these parts, which nobody had used
+pub record IsBegun (heap : HeapId) (blank : BlankOf FarSide) : Type 0 where
+  pub named : blank.heap ≡ heap
+  pub size : (heap.logs ≡ (shape_in (seat_view blank.book.near)).logs) × (heap.mutators ≡ (shape_in (seat_view blank.book.near)).mutators)
+  pub unused : IsUnused (seat_view blank.book.near)
+  pub order : blank.book.order ≡ []
 
 abbrev pub End : Type 0
 End = Result (Vec Told) Stop
@@ -54,15 +67,19 @@ module _ (heap : HeapId) (lines : List (ℕ × Command)) (ends : List End) (are 
   read_at : (at : ℕ) (other : List Reply) → at < length parts → get_or (map replies_of parts) at other ≡ replies_of (get_or parts at book)
   read_at at other lt = get_or-map replies_of parts at book other lt
 
-  pub all_ran : heap.honest ≡ true → AllRan heap.logs heap.mutators lines (map replies_of parts) (replies_of book)
-  all_ran honest = record {
+  pub all_ran : (blank : BlankOf FarSide) → IsBegun heap blank → heap.honest ≡ true
+      → AllRan (shape_in (seat_view blank.book.near)) blank.book.device.left lines (map replies_of parts) (replies_of book)
+  all_ran blank begun honest = record {
     heap = heap;
-    size = (refl, refl);
+    began = record { blank = blank; named = begun.named; shaped = refl; unused = begun.unused; order = begun.order; fails = refl };
+    size = begun.size;
     honest = honest;
-    many = length-map parts replies_of ∙ count;
+    many = length-map parts replies_of ∙ count ∙ begun.size.1;
+    own = λ m lt. are_by m lines;
     alone = λ m lt.
-        let below : m < length parts = omega (arith, count, lt) in
-        subst (AloneHere m nothing (commands_in (OfMutator m) lines)) (sym (read_at m [] below)) ((mutators_part m below).alone lt);
+        let ours : m < heap.mutators = omega (arith, lt, begun.size.1) in
+        let below : m < length parts = omega (arith, count, ours) in
+        subst (AloneOn heap m nothing (commands_in (OfMutator m) lines)) (sym (read_at m [] below)) ((mutators_part m below).alone ours);
     told = books_part.told refl;
   }
 
@@ -75,42 +92,47 @@ module _ (heap : HeapId) (lines : List (ℕ × Command)) (ends : List End) (are 
     books_part.short,
   )
 
-pub ran_so : (heap : HeapId) (lines : List (ℕ × Command)) (ends : List End) (out : SplitOut) → heap.honest ≡ true → AreEnds heap lines ends → Joins ends out → RanSo heap.logs heap.mutators lines (as_joined out)
-ran_so heap lines ends (OutRefused why) honest are joins = joins
-ran_so heap lines ends (OutRan mutators book) honest are joins = all_ran heap lines ends are mutators.items book joins honest
+pub ran_so : (heap : HeapId) (blank : BlankOf FarSide) (lines : List (ℕ × Command)) (ends : List End) (out : SplitOut) → IsBegun heap blank → heap.honest ≡ true → AreEnds heap lines ends → Joins ends out
+    → RanSo (shape_in (seat_view blank.book.near)) blank.book.device.left lines (as_joined out)
+ran_so heap blank lines ends (OutRefused why) begun honest are joins = joins
+ran_so heap blank lines ends (OutRan mutators book) begun honest are joins = all_ran heap lines ends are mutators.items book joins blank begun honest
 
 pub are_short : (heap : HeapId) (lines : List (ℕ × Command)) (ends : List End) (out : SplitOut) → AreEnds heap lines ends → Joins ends out → AreShort (as_joined out)
 are_short heap lines ends (OutRefused why) are joins = absurd joins
 are_short heap lines ends (OutRan mutators book) are joins = all_short heap lines ends are mutators.items book joins
 
 -- ---- faults
-who_below : (many at : ℕ) → at < many + 1 → (who_at (many + 1) at < many) ⊎ (who_at (many + 1) at ≡ THE_BOOK)
-who_below many at lt = by (at + 1 == many + 1) refl where
-  by : (last : Bool) → (at + 1 == many + 1) ≡ last → ((if last then THE_BOOK else at) < many) ⊎ ((if last then THE_BOOK else at) ≡ THE_BOOK)
-  by true is = inr refl
-  by false is = inl (omega (arith, eqb-false (at + 1) (many + 1) is))
+module _ (refuses : ℕ → ℕ → Type 0) (heap : HeapId) (lines : List (ℕ × Command)) where
+  -- who stands at a place, and was stopped there
+  named_at : (at : ℕ) → at < heap.mutators + 1 → IsStop refuses heap lines at stops.Gate → MayStop refuses heap.mutators lines (faults.Gate (who_at (heap.mutators + 1) at))
+  named_at at lt stop = by (at + 1 == heap.mutators + 1) refl where
+    by : (last : Bool) → (at + 1 == heap.mutators + 1) ≡ last → MayStop refuses heap.mutators lines (faults.Gate (if last then THE_BOOK else at))
+    by true is = inr (refl, stop.told (omega (arith, eqb-true (at + 1) (heap.mutators + 1) is)))
+    by false is = let below : at < heap.mutators = omega (arith, lt, eqb-false (at + 1) (heap.mutators + 1) is) in inl (below, stop.alone below)
 
-pub may_stop : (heap : HeapId) (lines : List (ℕ × Command)) (ends : List End) (fault : SplitFault) → AreEnds heap lines ends → (fault ≡ faults.Memory) ⊎ IsFault ends (Some fault) → MayStop heap.mutators fault
-may_stop heap lines ends faults.Memory are is = tt
-may_stop heap lines ends (faults.Gate who) are (inl memory) = absurd cc
-may_stop heap lines ends (faults.Gate who) are (inr (at, stopped, none, named)) =
-    let same : who ≡ who_at (heap.mutators + 1) at = named ∙ ap (λ many. who_at many at) are.many in
-    subst (λ (k : ℕ). (k < heap.mutators) ⊎ (k ≡ THE_BOOK)) (sym same) (who_below heap.mutators at (omega (arith, stopped.0, are.many)))
+  pub may_stop : (ends : List End) (fault : SplitFault) → AreEnds heap lines ends → AreStops refuses heap lines ends → (fault ≡ faults.Memory) ⊎ IsFault ends (Some fault)
+      → MayStop refuses heap.mutators lines fault
+  may_stop ends faults.Memory are stop is = tt
+  may_stop ends (faults.Gate who) are stop (inl memory) = absurd cc
+  may_stop ends (faults.Gate who) are stop (inr (at, stopped, none, named)) =
+      let same : who ≡ who_at (heap.mutators + 1) at = named ∙ ap (λ many. who_at many at) are.many in
+      let here = subst (StopsSo refuses heap lines at) (stopped.1 (Err stops.Gate)) (stop at (Err stops.Gate) stopped.0) in
+      subst (λ (k : ℕ). MayStop refuses heap.mutators lines (faults.Gate k)) (sym same) (named_at at (omega (arith, stopped.0, are.many)) here)
 
 -- ---- the same of a result
-pub all_ran_so : (heap : HeapId) (lines : List (ℕ × Command)) (ends : List End) (result : Result SplitOut SplitFault) → heap.honest ≡ true → AreEnds heap lines ends → IfOk result (Joins ends)
-    → IfOk result (λ out. RanSo heap.logs heap.mutators lines (as_joined out))
-all_ran_so heap lines ends (Ok out) honest are joins = ran_so heap lines ends out honest are joins
-all_ran_so heap lines ends (Err fault) honest are joins = tt
+pub all_ran_so : (heap : HeapId) (blank : BlankOf FarSide) (lines : List (ℕ × Command)) (ends : List End) (result : Result SplitOut SplitFault) → IsBegun heap blank → heap.honest ≡ true → AreEnds heap lines ends
+    → IfOk result (Joins ends) → IfOk result (λ out. RanSo (shape_in (seat_view blank.book.near)) blank.book.device.left lines (as_joined out))
+all_ran_so heap blank lines ends (Ok out) begun honest are joins = ran_so heap blank lines ends out begun honest are joins
+all_ran_so heap blank lines ends (Err fault) begun honest are joins = tt
 
 pub all_are_short : (heap : HeapId) (lines : List (ℕ × Command)) (ends : List End) (result : Result SplitOut SplitFault) → AreEnds heap lines ends → IfOk result (Joins ends) → IfOk result (λ out. AreShort (as_joined out))
 all_are_short heap lines ends (Ok out) are joins = are_short heap lines ends out are joins
 all_are_short heap lines ends (Err fault) are joins = tt
 
-pub all_may_stop : (heap : HeapId) (lines : List (ℕ × Command)) (ends : List End) (result : Result SplitOut SplitFault) → AreEnds heap lines ends
-    → IfErr result (λ fault. (fault ≡ faults.Memory) ⊎ IsFault ends (Some fault)) → IfErr result (MayStop heap.mutators)
-all_may_stop heap lines ends (Ok out) are is = tt
-all_may_stop heap lines ends (Err fault) are is = may_stop heap lines ends fault are is
+pub all_may_stop : (refuses : ℕ → ℕ → Type 0) (heap : HeapId) (lines : List (ℕ × Command)) (ends : List End) (result : Result SplitOut SplitFault) → AreEnds heap lines ends → AreStops refuses heap lines ends
+    → IfErr result (λ fault. (fault ≡ faults.Memory) ⊎ IsFault ends (Some fault)) → IfErr result (MayStop refuses heap.mutators lines)
+all_may_stop refuses heap lines ends (Ok out) are stop is = tt
+all_may_stop refuses heap lines ends (Err fault) are stop is = may_stop refuses heap lines ends fault are stop is
 
 -- ---- one thread's replies after the other
 pub took_first : (rest left : List End) (end : End) → 0 < length rest → end ≡ get_or rest 0 end → left ≡ remove rest 0 → rest ≡ end ∷ left

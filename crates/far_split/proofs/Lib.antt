@@ -7,4 +7,5 @@ pub mod OwnLines
 pub mod Owns
 pub mod Printing
 pub mod RoundsBy
+pub mod Served
 pub mod Telling

@@ -1,19 +1,20 @@
 -- A mutator's own lines, one after the other.
-use Rattle.std.proofs.Common.{◌≡◌, ◌≢◌, ℕ, zero, suc, ◌+◌, true, List, [], ◌∷◌, ◌++◌, append_assoc, drop, map, refl, sym, ap, subst, ◌∙◌, inl, inr}
+use Rattle.std.proofs.Common.{◌≡◌, ◌≢◌, ℕ, zero, suc, ◌+◌, true, ◌==◌, List, [], ◌∷◌, ◌++◌, append_assoc, drop, map, refl, sym, ap, subst, ◌∙◌, inl, inr}
 use Rattle.std.specs.List.{AllByRecursion}
-use Rattle.std.proofs.lemmas.Bool.{eqb-true, false≢true}
+use Rattle.std.proofs.lemmas.Bool.{cond_both, eqb-true, false≢true}
 use Rattle.std.proofs.lemmas.List.{append-nil, map-append}
 use Rattle.far_heap.specs.HeapId.{HeapId}
 use Rattle.far_heap.specs.Mine.{Mine, newcomer}
 use Rattle.far_text.specs.Command.{Book, Command, Epoch, Evacuator, Mutator, Open, Request, Where, as_command, as_request}
 use Rattle.far_text.specs.SplitText.{AreOwn, HasThread}
-use Rattle.far_text.specs.Threads.{OfMutator, Thread, is_of, is_own}
+use Rattle.far_text.specs.Threads.{OfMutator, Thread, is_of, is_own, lines_in}
 use Rattle.far_text.specs.declared.command.Command.{Command as Spelled}
 use Rattle.far_text.specs.declared.command.Command.TheVariants.{Book as SpelledBook, Evacuator as SpelledEvacuator, Mutator as SpelledMutator}
 use Rattle.far_text.specs.declared.command.Request.{Request as SpelledRequest}
 use Rattle.far_replay.specs.Alone.{Own, nothing}
 use Rattle.far_replay.specs.Reply.{IsShort, Reply}
-use Rattle.far_split.specs.Here.{AloneHere, KnowsHere, commands_of}
+use Rattle.far_split.specs.Here.{AloneOn, AreBy, KnowsHere, TellsOfHeap, commands_of}
+use Rattle.far_split.specs.Joined.{commands_in}
 use Rattle.far_split.specs.Slots.{Answers, own_in}
 use Rattle.far_split.specs.Told.{as_reply}
 use Rattle.far_split.specs.declared.told.Told.{Told}
@@ -44,12 +45,22 @@ asks_own mutators m Epoch (inr (inl h)) = absurd (cc)
 asks_own mutators m Epoch (inr (inr h)) = absurd (cc)
 asks_own mutators m r h = refl
 
+-- a mutator's own lines are its
+pub are_by : (m : ℕ) (lines : List (ℕ × Command)) → AreBy m (commands_in (OfMutator m) lines)
+are_by m [] = tt
+are_by m ((n, Mutator k request) ∷ lines) =
+    let rest = are_by m lines in
+    cond_both (k == m) ((n, Mutator k request) ∷ lines_in (OfMutator m) lines) (lines_in (OfMutator m) lines) (λ (ls : List (ℕ × Command)). AreBy m (commands_of ls)) (λ own. (own, rest)) (λ other. rest)
+are_by m ((n, Book inquiry) ∷ lines) = are_by m lines
+are_by m ((n, Evacuator step) ∷ lines) = are_by m lines
+
 -- ---- one line more
-pub first_line : (number : ℕ) (m n : Mine) (k : ℕ) (request : Request) (r : Reply) (cs : List Command) (rs : List Reply) → Answers m request r n → m.number ≡ number → k ≡ number
-    → AloneHere number (own_in n) cs rs → AloneHere number (own_in m) (Mutator k request ∷ cs) (r ∷ rs)
-first_line number m n k request r cs rs answers mine own later = (
+pub first_line : (heap : HeapId) (number : ℕ) (m n : Mine) (k : ℕ) (request : Request) (r : Reply) (cs : List Command) (rs : List Reply) → Answers heap m request r n → m.number ≡ number → k ≡ number
+    → AloneOn heap number (own_in n) cs rs → AloneOn heap number (own_in m) (Mutator k request ∷ cs) (r ∷ rs)
+first_line heap number m n k request r cs rs answers mine own later = (
   own_in n,
   subst (λ j. KnowsHere number (own_in m) (Mutator j request) r (own_in n)) (sym own) (subst (λ j. KnowsHere j (own_in m) (Mutator j request) r (own_in n)) mine answers.knows),
+  subst (λ j. TellsOfHeap heap number (own_in m) (Mutator j request) r) (sym own) (subst (λ j. TellsOfHeap heap j (own_in m) (Mutator j request) r) mine answers.tells),
   later,
 )
 
@@ -65,18 +76,18 @@ module _ (told all : List Told) (one : Told) (are : all ≡ told ++ one ∷ []) 
   pub all_short : AllByRecursion IsShort (map as_reply told) → IsShort (as_reply one) → AllByRecursion IsShort (map as_reply all)
   all_short before short = subst (λ (xs : List Told). AllByRecursion IsShort (map as_reply xs)) (sym are) (short_more told one before short)
 
-  pub all_alone : (number : ℕ) (cs : List Command) (rest : List Reply) → AloneHere number nothing cs (map as_reply told ++ as_reply one ∷ rest) → AloneHere number nothing cs (map as_reply all ++ rest)
-  all_alone number cs rest alone = subst (λ (xs : List Told). AloneHere number nothing cs (map as_reply xs ++ rest)) (sym are)
-      (subst (AloneHere number nothing cs) (sym (told_more told one rest)) alone)
+  pub all_alone : (heap : HeapId) (number : ℕ) (cs : List Command) (rest : List Reply) → AloneOn heap number nothing cs (map as_reply told ++ as_reply one ∷ rest) → AloneOn heap number nothing cs (map as_reply all ++ rest)
+  all_alone heap number cs rest alone = subst (λ (xs : List Told). AloneOn heap number nothing cs (map as_reply xs ++ rest)) (sym are)
+      (subst (AloneOn heap number nothing cs) (sym (told_more told one rest)) alone)
 
 -- none told yet, and the last
-pub alone_first : (heap : HeapId) (number : ℕ) (m : Mine) (cs : List Command) (told : List Told) (rest : List Reply) → m ≡ newcomer heap.table number true → told ≡ [] → AloneHere number (own_in m) cs rest
-    → AloneHere number nothing cs (map as_reply told ++ rest)
-alone_first heap number m cs told rest new none alone = subst (λ (xs : List Told). AloneHere number nothing cs (map as_reply xs ++ rest)) (sym none)
-    (subst (λ (o : Own). AloneHere number o cs rest) (ap own_in new ∙ own_new heap number) alone)
+pub alone_first : (heap : HeapId) (number : ℕ) (m : Mine) (cs : List Command) (told : List Told) (rest : List Reply) → m ≡ newcomer heap.table number true → told ≡ [] → AloneOn heap number (own_in m) cs rest
+    → AloneOn heap number nothing cs (map as_reply told ++ rest)
+alone_first heap number m cs told rest new none alone = subst (λ (xs : List Told). AloneOn heap number nothing cs (map as_reply xs ++ rest)) (sym none)
+    (subst (λ (o : Own). AloneOn heap number o cs rest) (ap own_in new ∙ own_new heap number) alone)
 
-pub alone_last : (number : ℕ) (cs : List Command) (told : List Told) → AloneHere number nothing cs (map as_reply told ++ []) → AloneHere number nothing cs (map as_reply told)
-alone_last number cs told alone = subst (AloneHere number nothing cs) (append-nil (map as_reply told)) alone
+pub alone_last : (heap : HeapId) (number : ℕ) (cs : List Command) (told : List Told) → AloneOn heap number nothing cs (map as_reply told ++ []) → AloneOn heap number nothing cs (map as_reply told)
+alone_last heap number cs told alone = subst (AloneOn heap number nothing cs) (append-nil (map as_reply told)) alone
 
 -- the line at a place, as it is spelled, is the mutator's own
 pub own_now : (mutators number at n : ℕ) (c : Spelled) (lines : List (ℕ × Command)) → AreOwn mutators (OfMutator number) lines → drop at lines ≡ (n, as_command c) ∷ drop (at + 1) lines
@@ -85,14 +96,14 @@ own_now mutators number at n c lines own here =
     let now = subst (AreOwn mutators (OfMutator number)) here (later_own mutators (OfMutator number) at lines own) in (now.0, now.1)
 
 -- it was answered so
-pub answered_line : (mutators number at n : ℕ) (c : Spelled) (k : ℕ) (request : SpelledRequest) (lines : List (ℕ × Command)) (m q : Mine) (r : Reply) (rs : List Reply)
-    → AreOwn mutators (OfMutator number) lines → drop at lines ≡ (n, as_command c) ∷ drop (at + 1) lines → c ≡ SpelledMutator k request → m.number ≡ number → Answers m (as_request request) r q
-    → AloneHere number (own_in q) (commands_of (drop (at + 1) lines)) rs → AloneHere number (own_in m) (commands_of (drop at lines)) (r ∷ rs)
-answered_line mutators number at n c k request lines m q r rs own here spelled mine answers later =
+pub answered_line : (heap : HeapId) (mutators number at n : ℕ) (c : Spelled) (k : ℕ) (request : SpelledRequest) (lines : List (ℕ × Command)) (m q : Mine) (r : Reply) (rs : List Reply)
+    → AreOwn mutators (OfMutator number) lines → drop at lines ≡ (n, as_command c) ∷ drop (at + 1) lines → c ≡ SpelledMutator k request → m.number ≡ number → Answers heap m (as_request request) r q
+    → AloneOn heap number (own_in q) (commands_of (drop (at + 1) lines)) rs → AloneOn heap number (own_in m) (commands_of (drop at lines)) (r ∷ rs)
+answered_line heap mutators number at n c k request lines m q r rs own here spelled mine answers later =
     let is = subst (λ (s : Spelled). (is_of (OfMutator number) (as_command s) ≡ true) × HasThread mutators (as_command s)) spelled (own_now mutators number at n c lines own here) in
-    subst (λ (ls : List (ℕ × Command)). AloneHere number (own_in m) (commands_of ls) (r ∷ rs)) (sym here)
-    (subst (λ (s : Spelled). AloneHere number (own_in m) (as_command s ∷ commands_of (drop (at + 1) lines)) (r ∷ rs)) (sym spelled)
-    (first_line number m q k (as_request request) r (commands_of (drop (at + 1) lines)) rs answers mine (eqb-true k number is.0) later))
+    subst (λ (ls : List (ℕ × Command)). AloneOn heap number (own_in m) (commands_of ls) (r ∷ rs)) (sym here)
+    (subst (λ (s : Spelled). AloneOn heap number (own_in m) (as_command s ∷ commands_of (drop (at + 1) lines)) (r ∷ rs)) (sym spelled)
+    (first_line heap number m q k (as_request request) r (commands_of (drop (at + 1) lines)) rs answers mine (eqb-true k number is.0) later))
 
 pub asks_now : (mutators number at n : ℕ) (c : Spelled) (k : ℕ) (request : SpelledRequest) (lines : List (ℕ × Command)) → AreOwn mutators (OfMutator number) lines
     → drop at lines ≡ (n, as_command c) ∷ drop (at + 1) lines → c ≡ SpelledMutator k request → is_own (as_request request) ≡ true

@@ -5,7 +5,11 @@ use Rattle.std.specs.Global.{Vec}
 use Rattle.std.specs.List.{AllByRecursion}
 use Rattle.far_word.specs.declared.refused.Refused.{Refused as Refusal}
 use Rattle.far_word.specs.declared.refused.Refused.TheVariants.{Shape, Syntax}
+use Rattle.far_core.specs.declared.shape.Shape.{Shape as Size}
 use Rattle.far_core.specs.state.Shape.{is_shape}
+use Rattle.far_hand.specs.ShapeOf.{shape_of as shape_in}
+use Rattle.far_table.specs.BookSeats.{seat_view}
+use Rattle.far_heap.specs.Blanks.{BlankOf, IsUnused}
 use Rattle.far_heap.specs.HeapId.{HeapId}
 use Rattle.far_text.specs.Command.{Command}
 use Rattle.far_text.specs.Split.{SplitTrace, NothingSplit, SplitHeap}
@@ -14,7 +18,8 @@ use Rattle.far_replay.specs.Alone.{nothing}
 use Rattle.far_replay.specs.Answers.{shape_of}
 use Rattle.far_replay.specs.Reply.{IsShort, Reply}
 use Rattle.far_split.specs.BookTold.{BookTold}
-use Rattle.far_split.specs.Here.{AloneHere, commands_of}
+use Rattle.far_split.specs.FarSides.{FarSide, failing}
+use Rattle.far_split.specs.Here.{AloneOn, AreBy, commands_of}
 use Rattle.far_split.specs.Told.{as_reply}
 use Rattle.far_split.specs.declared.mutators.Stop.{Stop}
 use Rattle.far_split.specs.declared.mutators.Stop.TheVariants as stops
@@ -48,38 +53,53 @@ AreShort (Ran mutators book) = AllByRecursion (AllByRecursion IsShort) mutators 
 abbrev pub commands_in : Thread → List (ℕ × Command) → List Command
 commands_in thread lines = commands_of (lines_in thread lines)
 
--- a heap of this size, which is honest, answered these lines: for each of its mutators, and for none else, there are replies, which follow from the mutator's own
--- lines, whatever other threads did meanwhile; and the book's were answered on it
-pub record AllRan (logs mutators : ℕ) (lines : List (ℕ × Command)) (replies : List (List Reply)) (book : List Reply) : Type 0 where
+-- a heap was begun so: nobody had used its parts, whose shape was this, the first epoch too; and of its device the write or read of this number was to fail, 0 for none
+pub record BeganSo (heap : HeapId) (shape : Size) (call : ℕ) : Type 0 where
+  pub blank : BlankOf FarSide
+  pub named : blank.heap ≡ heap
+  pub shaped : shape_in (seat_view blank.book.near) ≡ shape
+  pub unused : IsUnused (seat_view blank.book.near)
+  pub order : blank.book.order ≡ []
+  pub fails : blank.book.device.left ≡ call
+
+-- a heap of this shape, which is honest, was begun with a device of which this call was to fail, and answered these lines: for each of its mutators, and for none
+-- else, there are replies, which follow from the mutator's own lines, whatever other threads did meanwhile, and tell what was so of the heap; and the book's were answered on it
+pub record AllRan (shape : Size) (call : ℕ) (lines : List (ℕ × Command)) (replies : List (List Reply)) (book : List Reply) : Type 0 where
   pub heap : HeapId
-  pub size : (heap.logs ≡ logs) × (heap.mutators ≡ mutators)
+  pub began : BeganSo heap shape call
+  pub size : (heap.logs ≡ shape.logs) × (heap.mutators ≡ shape.mutators)
   pub honest : heap.honest ≡ true
-  pub many : length replies ≡ mutators
-  pub alone : (m : ℕ) → m < mutators → AloneHere m nothing (commands_in (OfMutator m) lines) (slice_index_or replies m [])
+  pub many : length replies ≡ shape.mutators
+  pub own : (m : ℕ) → m < shape.mutators → AreBy m (commands_in (OfMutator m) lines)
+  pub alone : (m : ℕ) → m < shape.mutators → AloneOn heap m nothing (commands_in (OfMutator m) lines) (slice_index_or replies m [])
   pub told : BookTold heap (commands_in OfBook lines) book
 
-abbrev pub RanSo : ℕ → ℕ → List (ℕ × Command) → Joined → Type 0
-RanSo logs mutators lines (Refused why) = ⊥
-RanSo logs mutators lines (Ran replies book) = AllRan logs mutators lines replies book
+abbrev pub RanSo : Size → ℕ → List (ℕ × Command) → Joined → Type 0
+RanSo shape call lines (Refused why) = ⊥
+RanSo shape call lines (Ran replies book) = AllRan shape call lines replies book
 
 -- what a text is answered that is read so: its refusal; for nothing no replies; for a heap out of range that refusal; else all its threads' replies
 abbrev pub SplitAnswers : Result SplitTrace ℕ → Joined → Type 0
 SplitAnswers (Err line) joined = joined ≡ Refused (Syntax line)
 SplitAnswers (Ok NothingSplit) joined = joined ≡ Ran [] []
-SplitAnswers (Ok (SplitHeap logs mutators epoch device lines)) joined = MatchBool (is_shape (shape_of logs mutators epoch)) (RanSo logs mutators lines joined) (joined ≡ Refused Shape)
+SplitAnswers (Ok (SplitHeap logs mutators epoch device lines)) joined = MatchBool (is_shape (shape_of logs mutators epoch)) (RanSo (shape_of logs mutators epoch) (failing device) lines joined) (joined ≡ Refused Shape)
 
 -- ---- faults
--- a thread of so many mutators, or the book's, was stopped by its gate; or memory was refused
-abbrev pub MayStop : ℕ → SplitFault → Type 0
-MayStop mutators (faults.Gate who) = (who < mutators) ⊎ (who ≡ THE_BOOK)
-MayStop mutators faults.Memory = Unit {0}
+-- a gate that refuses such lines says no to one of these, which are a thread's
+abbrev pub SaysNo : (ℕ → ℕ → Type 0) → ℕ → List (ℕ × Command) → Type 0
+SaysNo refuses who lines = (turn : ℕ) × (turn < length lines) × refuses who turn
+
+-- a thread of so many mutators, or the book's, was stopped by its gate, at one of its lines; or memory was refused
+abbrev pub MayStop : (ℕ → ℕ → Type 0) → ℕ → List (ℕ × Command) → SplitFault → Type 0
+MayStop refuses mutators lines (faults.Gate who) = ((who < mutators) × SaysNo refuses who (lines_in (OfMutator who) lines)) ⊎ ((who ≡ THE_BOOK) × SaysNo refuses THE_BOOK (lines_in OfBook lines))
+MayStop refuses mutators lines faults.Memory = Unit {0}
 
 -- there are threads on a heap in range alone; memory may be refused of any text
-abbrev pub MayEnd : Result SplitTrace ℕ → SplitFault → Type 0
-MayEnd read faults.Memory = Unit {0}
-MayEnd (Ok (SplitHeap logs mutators epoch device lines)) (faults.Gate who) = (is_shape (shape_of logs mutators epoch) ≡ true) × MayStop mutators (faults.Gate who)
-MayEnd (Ok NothingSplit) (faults.Gate who) = ⊥
-MayEnd (Err line) (faults.Gate who) = ⊥
+abbrev pub MayEnd : (ℕ → ℕ → Type 0) → Result SplitTrace ℕ → SplitFault → Type 0
+MayEnd refuses read faults.Memory = Unit {0}
+MayEnd refuses (Ok (SplitHeap logs mutators epoch device lines)) (faults.Gate who) = (is_shape (shape_of logs mutators epoch) ≡ true) × MayStop refuses mutators lines (faults.Gate who)
+MayEnd refuses (Ok NothingSplit) (faults.Gate who) = ⊥
+MayEnd refuses (Err line) (faults.Gate who) = ⊥
 
 -- ---- how threads ended: the mutators' by number, and the book's last
 -- the one at this place was stopped so

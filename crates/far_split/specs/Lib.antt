@@ -5,5 +5,6 @@ pub mod Jobs
 pub mod Joined
 pub mod Printed
 pub mod Prints
+pub mod Served
 pub mod Slots
 pub mod Told

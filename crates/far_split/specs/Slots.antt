@@ -3,11 +3,12 @@ use Rattle.std.specs.Prelude.{◌≡◌, ◌⊎◌, ℕ, ◌+◌, ◌<◌, ◌�
 use Rattle.far_word.specs.declared.refused.Refused.{Refused}
 use Rattle.far_word.specs.declared.refused.Refused.TheVariants.{Length, NotHeld, Range}
 use Rattle.far_word.specs.declared.sizes.TheConstants.{LONGEST}
+use Rattle.far_heap.specs.HeapId.{HeapId}
 use Rattle.far_heap.specs.Mine.{Mine, bytes_in, len_in, uses, views}
 use Rattle.far_text.specs.Command.{Mutator, Request}
 use Rattle.far_replay.specs.Alone.{Own}
 use Rattle.far_replay.specs.Reply.{IsShort, Reply}
-use Rattle.far_split.specs.Here.{KnowsHere}
+use Rattle.far_split.specs.Here.{KnowsHere, TellsOfHeap}
 use Rattle.far_split.specs.declared.access.Access.{Access}
 use Rattle.far_split.specs.declared.slot.Slot.{Slot}
 use Rattle.far_split.specs.declared.slot.Slot.TheVariants.{Closed, Open}
@@ -21,9 +22,10 @@ abbrev pub mine_in : {K : Type 0} → Slot K → Mine
 mine_in (Closed mutator) = mutator
 mine_in (Open scope) = scope
 
--- a request of the mutator was answered so, with no more bytes than an object has, and it is the same mutator of the same heap
-pub record Answers (m : Mine) (request : Request) (r : Reply) (n : Mine) : Type 0 where
+-- a request of the mutator was answered so on its heap, with no more bytes than an object has, and it is the same mutator of the same heap
+pub record Answers (heap : HeapId) (m : Mine) (request : Request) (r : Reply) (n : Mine) : Type 0 where
   pub knows : KnowsHere m.number (own_in m) (Mutator m.number request) r (own_in n)
+  pub tells : TellsOfHeap heap m.number (own_in m) (Mutator m.number request) r
   pub short : IsShort r
   pub number : n.number ≡ m.number
   pub honest : n.honest ≡ m.honest

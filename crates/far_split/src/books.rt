@@ -1,6 +1,6 @@
 //! The book's lines.
 
-ghost use Rattle.std.specs.Prelude.{◌≡◌, true, map, IfOk};
+ghost use Rattle.std.specs.Prelude.{◌≡◌, true, map, IfErr, IfOk};
 ghost use Rattle.std.specs.List.{AllByRecursion};
 ghost use Rattle.far_text.specs.Command.{as_command};
 ghost use Rattle.far_text.specs.SplitText.{AreOwn};
@@ -8,6 +8,7 @@ ghost use Rattle.far_text.specs.Threads.{OfBook, is_of};
 ghost use Rattle.far_replay.specs.Reply.{IsShort};
 ghost use Rattle.far_split.specs.BookTold.{BookTold, TellsLine};
 ghost use Rattle.far_split.specs.Here.{commands_of};
+ghost use Rattle.far_split.specs.Jobs.{StopsBy};
 ghost use Rattle.far_split.specs.Told.{as_reply};
 
 use crate::far_side::FarSide;
@@ -58,6 +59,7 @@ pub(crate) fn make_book_lines<K: HeapName, R: Wait, G: Gate>(
     requires own { AreOwn K.heap.mutators OfBook lines.now }
     ensures told { IfOk result (λ told. BookTold K.heap (commands_of lines.now) (map as_reply told.items)) }
     ensures short { IfOk result (λ told. AllByRecursion IsShort (map as_reply told.items)) }
+    ensures stopped { IfErr result (StopsBy (G.refuses gate.now) THE_BOOK lines.now) }
 {
     let Ok(mut told) = Vec::with_capacity(alloc, lines.len()) else {
         return Err(Stop::Memory);

@@ -1,13 +1,14 @@
 //! A mutator's lines, made in its thread.
 
-ghost use Rattle.std.specs.Prelude.{◌≡◌, true, map, IfOk};
+ghost use Rattle.std.specs.Prelude.{◌≡◌, true, map, IfErr, IfOk};
 ghost use Rattle.std.specs.List.{AllByRecursion};
 ghost use Rattle.far_heap.specs.Mine.{newcomer};
 ghost use Rattle.far_replay.specs.Alone.{nothing};
 ghost use Rattle.far_replay.specs.Reply.{IsShort};
 ghost use Rattle.far_text.specs.SplitText.{AreOwn};
 ghost use Rattle.far_text.specs.Threads.{OfMutator};
-ghost use Rattle.far_split.specs.Here.{AloneHere, commands_of};
+ghost use Rattle.far_split.specs.Here.{AloneOn, commands_of};
+ghost use Rattle.far_split.specs.Jobs.{StopsBy};
 ghost use Rattle.far_split.specs.Told.{as_reply};
 
 use crate::far_side::FarSide;
@@ -41,8 +42,9 @@ pub(crate) fn make_lines<K: HeapName, R: Wait, G: Gate>(
 ) -> Result<Vec<Told>, Stop>
     requires new { mutator ≡ newcomer K.heap.table number true }
     requires own { AreOwn K.heap.mutators (OfMutator number) lines.now }
-    ensures told { IfOk result (λ told. AloneHere number nothing (commands_of lines.now) (map as_reply told.items)) }
+    ensures told { IfOk result (λ told. AloneOn K.heap number nothing (commands_of lines.now) (map as_reply told.items)) }
     ensures short { IfOk result (λ told. AllByRecursion IsShort (map as_reply told.items)) }
+    ensures stopped { IfErr result (StopsBy (G.refuses gate.now) number lines.now) }
 {
     let Ok(mut told) = Vec::with_capacity(alloc, lines.len()) else {
         return Err(Stop::Memory);

@@ -35,11 +35,17 @@ fn run_by<K: HeapName, R: Wait>(
     }
 }
 
-// Whether a round was refused in one of its turns, and not while its logs were chosen: a turn leaves it standing, and no other thread makes rounds.
+// Whether a round was refused in one of its turns, and not while its logs were chosen, for which no device is called: a turn leaves it standing, and no
+// other thread makes rounds.
 fn stands_after<K: HeapName, R: Wait>(rt: &R, heap: &Heap<K, FarSide>, why: Refused) -> bool
-    ensures { result ≡ true → (why ≡ Memory) ⊎ (why ≡ Failed) }
+    ensures causes { result ≡ true → (why ≡ Memory) ⊎ (why ≡ Failed) }
+    ensures device { why ≡ Failed → result ≡ true }
 {
-    matches!(why, Refused::Memory | Refused::Device) && heap.book(rt).phase() != Phase::Idle
+    match why {
+        Refused::Device => true,
+        Refused::Memory => heap.book(rt).phase() != Phase::Idle,
+        _ => false,
+    }
 }
 
 // Whether a round did nothing.

@@ -1,15 +1,17 @@
 //! A split text is run: each mutator's lines in a thread of its own, the book's in another.
 
-ghost use Rattle.std.specs.Prelude.{◌≡◌, ◌⊎◌, ◌<◌, ◌≤◌, ℕ, true, length, map, None, Some, Ok, IfErr, IfOk, IsOk};
+ghost use Rattle.std.specs.Prelude.{◌≡◌, ◌⊎◌, ◌<◌, ◌≤◌, ℕ, [], true, length, map, None, Some, Ok, IfErr, IfOk, IsOk};
 ghost use Rattle.far_text.specs.declared.text.TheConstants.{LONGEST_TEXT};
 ghost use Rattle.std.specs.Option.{option_map};
 ghost use Rattle.far_text.specs.Command.{as_device};
 ghost use Rattle.far_text.specs.Split.{split_of, SplitHeap};
 ghost use Rattle.far_text.specs.SplitText.{AreOwn};
 ghost use Rattle.far_text.specs.Threads.{Thread as AnyThread, lines_in};
-ghost use Rattle.far_heap.specs.Blanks.{newcomers};
+ghost use Rattle.far_hand.specs.ShapeOf.{shape_of as shape_in};
+ghost use Rattle.far_table.specs.BookSeats.{seat_view};
+ghost use Rattle.far_heap.specs.Blanks.{IsUnused, newcomers};
 ghost use Rattle.far_split.specs.Joined.{AreShort, IsFault, MayEnd, MayStop, RanSo, SplitAnswers, as_joined, who_at};
-ghost use Rattle.far_split.specs.Jobs.{AreEnds, AreJobs, EndsSo, IsJobAt, Joins};
+ghost use Rattle.far_split.specs.Jobs.{AreEnds, AreJobs, AreStops, EndsSo, IsJobAt, Joins, StopsSo};
 
 use crate::books::make_book_lines;
 use crate::far_side::{FarSide, far_side_of};
@@ -89,7 +91,8 @@ fn run_job<K: HeapName, R: Wait, G: Gate>(
 ) -> End
     requires own { (thread : AnyThread) → AreOwn K.heap.mutators thread (lines_in thread text.now) }
     requires ready { (at : ℕ) × IsJobAt K.heap at job }
-    ensures { (at : ℕ) → IsJobAt K.heap at job → EndsSo K.heap text.now at result }
+    ensures ended { (at : ℕ) → IsJobAt K.heap at job → EndsSo K.heap text.now at result }
+    ensures stopped { (at : ℕ) → IsJobAt K.heap at job → StopsSo (G.refuses gate.now) K.heap text.now at result }
 {
     match job {
         Job::Mutator(mutator, number) => {
@@ -119,11 +122,13 @@ fn run_jobs<K: HeapName + Send + Sync, R: Threads + Wait + Sync, G: Gate>(
 ) -> Result<Vec<End>, AllocError>
     requires own { (thread : AnyThread) → AreOwn K.heap.mutators thread (lines_in thread text.now) }
     requires jobs { AreJobs K.heap jobs.items }
-    ensures { IfOk result (λ ends. AreEnds K.heap text.now ends.items) }
+    ensures ended { IfOk result (λ ends. AreEnds K.heap text.now ends.items) }
+    ensures stopped { IfOk result (λ ends. AreStops (G.refuses gate.now) K.heap text.now ends.items) }
 {
     let make = |job: Job<K>| -> End
         requires { ((thread : AnyThread) → AreOwn K.heap.mutators thread (lines_in thread text.now)) × ((at : ℕ) × IsJobAt K.heap at job) }
-        ensures { (at : ℕ) → IsJobAt K.heap at job → EndsSo K.heap text.entry.now at result }
+        ensures ended { (at : ℕ) → IsJobAt K.heap at job → EndsSo K.heap text.entry.now at result }
+        ensures stopped { (at : ℕ) → IsJobAt K.heap at job → StopsSo (G.refuses gate.entry.now) K.heap text.entry.now at result }
     { run_job(alloc, rt, heap, text, gate, job) };
     thread::map_vec(rt, jobs, &make)
 }
@@ -200,10 +205,13 @@ fn run_named<K: HeapName + Send + Sync, R: Threads + Wait + Sync, G: Gate>(
     requires name { blank.heap ≡ K.heap }
     requires honest { K.heap.honest ≡ true }
     requires few { K.heap.mutators ≤ 8 }
+    requires size { (K.heap.logs ≡ (shape_in (seat_view blank.book.near)).logs) × (K.heap.mutators ≡ (shape_in (seat_view blank.book.near)).mutators) }
+    requires unused { IsUnused (seat_view blank.book.near) }
+    requires order { blank.book.order ≡ [] }
     requires own { (thread : AnyThread) → AreOwn K.heap.mutators thread (lines_in thread text.now) }
-    ensures ran { IfOk result (λ out. RanSo K.heap.logs K.heap.mutators text.now (as_joined out)) }
+    ensures ran { IfOk result (λ out. RanSo (shape_in (seat_view blank.book.near)) blank.book.device.left text.now (as_joined out)) }
     ensures short { IfOk result (λ out. AreShort (as_joined out)) }
-    ensures fault { IfErr result (MayStop K.heap.mutators) }
+    ensures fault { IfErr result (MayStop (G.refuses gate.now) K.heap.mutators text.now) }
 {
     let Ok((heap, mutators)) = Heap::<K, FarSide>::new(alloc, blank) else {
         return Err(SplitFault::Memory);
@@ -225,7 +233,7 @@ fn run_on<R: Threads + Wait + Sync, G: Gate>(
     requires own { (thread : AnyThread) → AreOwn shape.mutators thread (lines_in thread text.now) }
     ensures answered { IfOk result (λ out. SplitAnswers (Ok (SplitHeap shape.logs shape.mutators shape.epoch (option_map as_device device) text.now)) (as_joined out)) }
     ensures short { IfOk result (λ out. AreShort (as_joined out)) }
-    ensures fault { IfErr result (MayEnd (Ok (SplitHeap shape.logs shape.mutators shape.epoch (option_map as_device device) text.now))) }
+    ensures fault { IfErr result (MayEnd (G.refuses gate.now) (Ok (SplitHeap shape.logs shape.mutators shape.epoch (option_map as_device device) text.now))) }
 {
     match Blank::new(alloc, shape, far_side_of(alloc, device)) {
         Ok(blank) => run_named::<Brand, R, G>(alloc, rt, blank, text, gate),
@@ -240,7 +248,7 @@ fn run_on<R: Threads + Wait + Sync, G: Gate>(
 /// A text off the grammar is answered by [`Refused::Syntax`] alone, one whose heap's shape is out of range by [`Refused::Shape`], and nothing runs. A text that
 /// is too long is off the grammar, and takes no memory.
 ///
-/// Faults, once all threads have ended: [`SplitFault::Gate`] where the gate ended threads, with the least of them; else [`SplitFault::Memory`] where memory was
+/// Faults, once all threads have ended: [`SplitFault::Gate`] where the gate ended threads, with the least of them, by a no to one of its lines; else [`SplitFault::Memory`] where memory was
 /// refused to the call itself, for the heap, lists or replies. Where a line can't be made without memory, that is the line's reply.
 ///
 /// Where the system can't begin a thread, its lines are made in another's, before or after that one's.
@@ -252,7 +260,7 @@ pub fn run_split<R: Threads + Wait + Sync, G: Gate>(
 ) -> Result<SplitOut, SplitFault>
     ensures answered { IfOk result (λ out. SplitAnswers (split_of text.now) (as_joined out)) }
     ensures short { IfOk result (λ out. AreShort (as_joined out)) }
-    ensures fault { IfErr result (MayEnd (split_of text.now)) }
+    ensures fault { IfErr result (MayEnd (G.refuses gate.now) (split_of text.now)) }
     ensures long { LONGEST_TEXT < length text.now → IsOk result }
 {
     splitting_is_said();

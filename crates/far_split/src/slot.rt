@@ -30,7 +30,7 @@ fn make_closed<K: HeapName, R: Wait>(
     structure: u64,
 ) -> Told
     requires honest { mutator.old.honest ≡ true }
-    ensures { Answers mutator.old (New len structure) (as_reply result) mutator.new }
+    ensures { Answers K.heap mutator.old (New len structure) (as_reply result) mutator.new }
 {
     let (len, structure) = match sizes_of(len, structure) {
         Ok(sizes) => sizes,
@@ -51,7 +51,7 @@ fn make_open<K: HeapName, R: Wait>(
     structure: u64,
 ) -> Told
     requires honest { scope.old.honest ≡ true }
-    ensures { Answers scope.old (New len structure) (as_reply result) scope.new }
+    ensures { Answers K.heap scope.old (New len structure) (as_reply result) scope.new }
 {
     let (len, structure) = match sizes_of(len, structure) {
         Ok(sizes) => sizes,
@@ -71,7 +71,7 @@ fn drop_closed<K: HeapName, R: Wait>(
     pointer: u64,
 ) -> Told
     requires honest { mutator.old.honest ≡ true }
-    ensures { Answers mutator.old (Drop pointer) (as_reply result) mutator.new }
+    ensures { Answers K.heap mutator.old (Drop pointer) (as_reply result) mutator.new }
 {
     mutator.keeps_law();
     let Some(pointer) = pointer_of(pointer) else {
@@ -86,7 +86,7 @@ fn drop_closed<K: HeapName, R: Wait>(
 // Drops an object that the open scope doesn't view.
 fn drop_open<K: HeapName, R: Wait>(rt: &R, scope: &mut Scope<K, FarSide>, pointer: u64) -> Told
     requires honest { scope.old.honest ≡ true }
-    ensures { Answers scope.old (Drop pointer) (as_reply result) scope.new }
+    ensures { Answers K.heap scope.old (Drop pointer) (as_reply result) scope.new }
 {
     scope.keeps_law();
     let Some(pointer) = pointer_of(pointer) else {
@@ -101,7 +101,7 @@ fn drop_open<K: HeapName, R: Wait>(rt: &R, scope: &mut Scope<K, FarSide>, pointe
 // Views an object, wherever it is.
 fn view<K: HeapName, R: Wait>(rt: &R, scope: &mut Scope<K, FarSide>, pointer: u64) -> Told
     requires honest { scope.old.honest ≡ true }
-    ensures { Answers scope.old (View pointer) (as_reply result) scope.new }
+    ensures { Answers K.heap scope.old (View pointer) (as_reply result) scope.new }
 {
     scope.keeps_law();
     let Some(pointer) = pointer_of(pointer) else {
@@ -116,7 +116,7 @@ fn view<K: HeapName, R: Wait>(rt: &R, scope: &mut Scope<K, FarSide>, pointer: u6
 // Views an object, if no mark and no way from the far side hinders it.
 fn try_view<K: HeapName>(scope: &mut Scope<K, FarSide>, pointer: u64) -> Told
     requires honest { scope.old.honest ≡ true }
-    ensures { Answers scope.old (Try pointer) (as_reply result) scope.new }
+    ensures { Answers K.heap scope.old (Try pointer) (as_reply result) scope.new }
 {
     scope.keeps_law();
     let Some(pointer) = pointer_of(pointer) else {
@@ -139,7 +139,7 @@ fn read<K: HeapName, R: Wait>(
     len: u64,
 ) -> Result<Told, AllocError>
     requires honest { scope.old.honest ≡ true }
-    ensures { IfOk result (λ told. Answers scope.old (Read pointer from len) (as_reply told) scope.new) }
+    ensures { IfOk result (λ told. Answers K.heap scope.old (Read pointer from len) (as_reply told) scope.new) }
 {
     scope.keeps_law();
     let access = match reach(scope, pointer, from, len) {
@@ -166,7 +166,7 @@ fn write<K: HeapName, R: Wait>(
     bytes: &[u8],
 ) -> Told
     requires honest { scope.old.honest ≡ true }
-    ensures { Answers scope.old (Write pointer from bytes.now) (as_reply result) scope.new }
+    ensures { Answers K.heap scope.old (Write pointer from bytes.now) (as_reply result) scope.new }
 {
     scope.keeps_law();
     let access = match reach(scope, pointer, from, bytes.len() as u64) {
@@ -191,7 +191,7 @@ fn answer_closed<K: HeapName, R: Wait>(
 ) -> (Slot<K>, Told)
     requires honest { mutator.honest ≡ true }
     requires own { is_own (as_request request) ≡ true }
-    ensures { Answers mutator (as_request request.entry) (as_reply result.1) (mine_in result.0) }
+    ensures { Answers K.heap mutator (as_request request.entry) (as_reply result.1) (mine_in result.0) }
 {
     mutator.keeps_law();
     let told = match request {
@@ -217,7 +217,7 @@ fn answer_open<K: HeapName, R: Wait>(
 ) -> Result<(Slot<K>, Told), AllocError>
     requires honest { scope.honest ≡ true }
     requires own { is_own (as_request request) ≡ true }
-    ensures { IfOk result (λ made. Answers scope (as_request request.entry) (as_reply made.1) (mine_in made.0)) }
+    ensures { IfOk result (λ made. Answers K.heap scope (as_request request.entry) (as_reply made.1) (mine_in made.0)) }
 {
     scope.keeps_law();
     let told = match request {
@@ -248,7 +248,7 @@ impl<K: HeapName> Slot<K> {
     ) -> Result<(Slot<K>, Told), AllocError>
         requires honest { (mine_in self).honest ≡ true }
         requires own { is_own (as_request request) ≡ true }
-        ensures { IfOk result (λ made. Answers (mine_in self) (as_request request.entry) (as_reply made.1) (mine_in made.0)) }
+        ensures { IfOk result (λ made. Answers K.heap (mine_in self) (as_request request.entry) (as_reply made.1) (mine_in made.0)) }
     {
         match self {
             Slot::Closed(mutator) => Ok(answer_closed(rt, mutator, request)),

@@ -134,6 +134,8 @@ module _ (ws : List ℕ) (b : BookView) (os : List OwnerView) (f : Facts ws b os
               (ties.objects q x mine (sym (put_other (object_at o) p (Some (fresh c)) q ne) ∙ h)));
           asks = ties.asks;
           drops = ties.drops;
+          hots = ties.hots;
+          warm = ties.warm;
         };
       }
 

@@ -34,9 +34,9 @@ use Rattle.far_table.specs.View.{BookView, ObjectView, OwnerView, View, Owner}
 use Rattle.far_table.specs.Layout.{cell_at, cell_in}
 use Rattle.far_table.specs.Plays.{Asked}
 use Rattle.far_table.specs.Rule.{Facts, Running}
-use Rattle.far_table.specs.StateOf.{retired_at, state_of, taken_at}
+use Rattle.far_table.specs.StateOf.{cooled_at, retired_at, state_of, taken_at}
 use Rattle.far_table.specs.Tells.{Tells, owner_of}
-use Rattle.far_table.specs.Views.{asked_at, asked_view, dropped_at, drops, held_at, moves, object_at, uses}
+use Rattle.far_table.specs.Views.{asked_at, asked_view, dropped_at, drops, has_hot, held_at, hots, moves, object_at, uses}
 use Rattle.far_table.proofs.Lift.{owner_makes}
 use Rattle.far_table.proofs.Owners.{known_by, pointers_put, pointers_same, remembered_same}
 use Rattle.far_table.proofs.OwnSteps.{OwnStep, has_on, is_mutator, jobs_stay, state_is}
@@ -65,6 +65,18 @@ moved_drops None = refl
 moved_drops (Some Free) = refl
 moved_drops (Some (Near len ds place m)) = refl
 moved_drops (Some (Far len ds m)) = refl
+
+moved_hots : (x : Option PtrWord) → has_hot (map_mark Moved x) ≡ has_hot x
+moved_hots None = refl
+moved_hots (Some Free) = refl
+moved_hots (Some (Near len ds place m)) = refl
+moved_hots (Some (Far len ds m)) = refl
+
+dropped_hots : (x : Option PtrWord) → has_hot (map_mark Dropped x) ≡ has_hot x
+dropped_hots None = refl
+dropped_hots (Some Free) = refl
+dropped_hots (Some (Near len ds place m)) = refl
+dropped_hots (Some (Far len ds m)) = refl
 
 -- what is in use hasn't DROP, until it gets it
 by_not : (t : Bool) → not t ≡ true → t ≡ false
@@ -106,6 +118,15 @@ module _ (ws : List ℕ) (b : BookView) (os : List OwnerView) (f : Facts ws b os
   drop_read : read_of (bit_or c (2 ^ position Dropped)) ≡ map_mark Dropped (read_of c)
   drop_read = (read_mark Dropped c refl (f.law.cells.cell_read p).0 (f.law.views.used_cell p used_so)).0
 
+  -- HOT stands where it stood
+  move_hots : (q : ℕ) → hots (put s.cell p (bit_or c (2 ^ position Moved)) q) ≡ hots (s.cell q)
+  move_hots q = put_both (λ v. hots v ≡ hots (s.cell q)) s.cell p (bit_or c (2 ^ position Moved)) q
+      (λ e. ap (λ t. cond t 1 0) (ap has_hot move_read ∙ moved_hots (read_of c)) ∙ ap (λ z. hots (s.cell z)) (sym e)) (λ _. refl)
+
+  drop_hots : (q : ℕ) → hots (put s.cell p (bit_or c (2 ^ position Dropped)) q) ≡ hots (s.cell q)
+  drop_hots q = put_both (λ v. hots v ≡ hots (s.cell q)) s.cell p (bit_or c (2 ^ position Dropped)) q
+      (λ e. ap (λ t. cond t 1 0) (ap has_hot drop_read ∙ dropped_hots (read_of c)) ∙ ap (λ z. hots (s.cell z)) (sym e)) (λ _. refl)
+
   move_step : OwnStep ws b os o (Ask m p Moved) (Word c) (set ws (cell_at p) (bit_or c (2 ^ position Moved))) (asked_view p Moved c o)
   move_step =
       let w : OwnerView = asked_view p Moved c o in
@@ -131,6 +152,8 @@ module _ (ws : List ℕ) (b : BookView) (os : List OwnerView) (f : Facts ws b os
               (λ ne. put_other (asked_at o) p n q ne ∙ (ties.asks q mine ∙ ap (λ v. taken_at b q + moves v) (sym (put_other s.cell p new q ne))));
           drops = λ q mine. ties.drops q mine ∙ ap (λ v. retired_at b q + v) (sym (put_both (λ v. drops v ≡ drops (s.cell q)) s.cell p new q
               (λ e. ap (λ t. cond t 1 0) (ap is_dropped move_read ∙ moved_drops (read_of c)) ∙ ap (λ z. drops (s.cell z)) (sym e)) (λ _. refl)));
+          hots = λ q mine. ties.hots q mine ∙ ap (λ v. cooled_at b q + v) (sym (move_hots q));
+          warm = λ q mine pinned. let x = ties.warm q mine pinned in (x.0, move_hots q ∙ x.1);
         };
       }
 
@@ -166,6 +189,8 @@ module _ (ws : List ℕ) (b : BookView) (os : List OwnerView) (f : Facts ws b os
               let sum : n ≡ retired_at b p + drops new = omega arith in
               sum ∙ (ap (λ z. retired_at b z + drops new) (sym e) ∙ ap (λ v. retired_at b q + drops v) (sym (put_same s.cell p new q e)))))
               (λ ne. put_other (dropped_at o) p n q ne ∙ (ties.drops q mine ∙ ap (λ v. retired_at b q + drops v) (sym (put_other s.cell p new q ne))));
+          hots = λ q mine. ties.hots q mine ∙ ap (λ v. cooled_at b q + v) (sym (drop_hots q));
+          warm = λ q mine pinned. let x = ties.warm q mine pinned in (x.0, drop_hots q ∙ x.1);
         };
       }
 

@@ -1,7 +1,7 @@
 -- The rule holds at the start: for the words and the views of any core.
 use Rattle.std.proofs.Common.{◌≡◌, ◌≢◌, ◌*◌, ◌/◌, ◌%◌, ◌<◌, ◌≤◌, ◌^◌, ℕ, Bool, true, false, cond, nat_lt, List, [], sym, refl, ap, ◌∙◌, subst, arith, inl, inr, Option, Some, None}
 use Rattle.std.specs.Prelude.{is_some, slice_index, ◌||◌, ◌&&◌, ◌==◌}
-use Rattle.std.proofs.lemmas.Bool.{cases_lt, le-ltb, lt-ltb}
+use Rattle.std.proofs.lemmas.Bool.{cases_lt, false≢true, le-ltb, lt-ltb}
 use Rattle.std.proofs.lemmas.List.{get_or_past}
 use mathlib.Core.Logic.{dite}
 use mathlib.Core.Path.{fun_ext}
@@ -30,7 +30,7 @@ use Rattle.far_table.specs.Rows.{over}
 use Rattle.far_table.specs.Rule.{BookTies, Facts, OwnerTies, Running}
 use Rattle.far_table.specs.StateOf.{book_state, head_at, held_by, known_word, remembered_by, state_of, stored_word, used_by}
 use Rattle.far_table.specs.Views.{held_at, uses}
-use Rattle.far_table.proofs.FirstViews.{first_asked, first_dropped, first_has, first_held, first_scope, first_uses, many_owners, over_all, over_beside, over_within, owner_here, owner_past, owner_stands, pointers_first}
+use Rattle.far_table.proofs.FirstViews.{first_asked, first_dropped, first_has, first_heated, first_held, first_scope, first_uses, many_owners, over_all, over_beside, over_within, owner_here, owner_past, owner_stands, pointers_first}
 
 -- a part of the words makes a function, if past its end that is 0
 part_is : (n : ℕ) (f g : ℕ → ℕ) → ((q : ℕ) → q < n → f q ≡ g q) → ((q : ℕ) → n ≤ q → g q ≡ 0) → (λ q. cond (nat_lt q n) (f q) 0) ≡ g
@@ -59,7 +59,7 @@ other_rest ws b os rest f = record {
   law = f.law;
   agrees = f.agrees;
   book = record { shown = f.book.shown; still = f.book.still };
-  owners = λ m o at. let ties = f.owners m o at in record { number = ties.number; honest = ties.honest; scope = ties.scope; objects = ties.objects; asks = ties.asks; drops = ties.drops };
+  owners = λ m o at. let ties = f.owners m o at in record { number = ties.number; honest = ties.honest; scope = ties.scope; objects = ties.objects; asks = ties.asks; drops = ties.drops; hots = ties.hots; warm = ties.warm };
   many = f.many;
   wide = f.wide;
   jobs = f.jobs;
@@ -213,7 +213,7 @@ module _ (s : State) (honest : Bool) (law : Law s) (past : HasNothingPast s) whe
     pub first_book_ties : BookTies b s'
     first_book_ties = record { shown = first_shows; still = subst (λ (o : State). (a : ℕ) → IsKnown (o.word a) → ¬ IsLoudAt o a) (sym first_book_state) still_first }
 
-    -- MOVE and DROP count as set once where they stand, and as never taken away
+    -- MOVE, DROP and HOT count as set once where they stand, and as never taken away
     pub first_owner_ties : (m : ℕ) → OwnerTies b s' m (first_owner s honest m)
     first_owner_ties m = record {
       number = refl;
@@ -222,6 +222,8 @@ module _ (s : State) (honest : Bool) (law : Law s) (past : HasNothingPast s) whe
       objects = λ p x own e. first_has s honest m p own x e;
       asks = λ p own. first_asked s honest m p own ∙ omega arith;
       drops = λ p own. first_dropped s honest m p own ∙ omega arith;
+      hots = λ p own. first_heated s honest m p own ∙ omega arith;
+      warm = λ p own pinned. absurd (false≢true pinned);
     }
 
     pub first_facts : (ws : List ℕ) → IsTableOf ws s → Facts ws b os

@@ -37,11 +37,11 @@ use Rattle.far_table.specs.Rows.{over}
 use Rattle.far_table.specs.Rule.{Facts, Running}
 use Rattle.far_table.specs.Stands.{IsPlain, book_of}
 use Rattle.far_table.specs.StateOf.{book_state, head_at, head_or, known_word, state_of}
-use Rattle.far_table.specs.Views.{drops, moves}
+use Rattle.far_table.specs.Views.{drops, has_hot, hots, moves}
 use Rattle.far_table.proofs.BookFrames.{BookStep}
 use Rattle.far_table.proofs.BookKnown.{forgets, forgotten, head_same}
 use Rattle.far_table.proofs.BookLift.{book_makes, book_reads}
-use Rattle.far_table.proofs.BookSees.{cell_after, cells_few, counts_after, epoch_after, finds_after, found_at, jobs_after}
+use Rattle.far_table.proofs.BookSees.{cell_after, cells_few, counts_after, counts_as, epoch_after, finds_after, found_at, jobs_after}
 use Rattle.far_table.proofs.Masks.{counts, counts_quiet, epoch_is, finds, ties, words_are}
 use Rattle.far_table.proofs.OwnSteps.{jobs_stay, state_is}
 use Rattle.far_table.proofs.Words.{cell_here, epoch_word_set, scope_here}
@@ -87,8 +87,9 @@ module _ (ws : List ℕ) (b : BookView) (os : List OwnerView) (f : Facts ws b os
     honest = refl;
     rest = refl;
     scopes = refl;
-    counts = λ _. (refl, refl);
-    told = λ _. (refl, refl);
+    counts = λ _. (refl, refl, refl);
+    warm = λ _ _. refl;
+    told = λ _. (refl, refl, refl);
   }
 
   look_scope : (m : ℕ) → IsScopeAt b.epoch (scope_in ws m)
@@ -107,11 +108,14 @@ module _ (ws : List ℕ) (b : BookView) (os : List OwnerView) (f : Facts ws b os
     few : p < POINTERS
     few = cells_few ws b os f p h.0
 
-    same_marks : (moves w ≡ moves n) × (drops w ≡ drops n)
+    same_marks : (moves w ≡ moves n) × (drops w ≡ drops n) × (hots w ≡ hots n)
     same_marks =
         let near = clear_legal.1 in
-        let read = without_evac_read n (Near near.0 near.1 near.2 near.3) (f.law.cells.cell_read p).0 near.4 in
-        (ap (λ x. cond (has_move x) 1 0) read ∙ sym (ap (λ x. cond (has_move x) 1 0) near.4), ap (λ x. cond (is_dropped x) 1 0) read ∙ sym (ap (λ x. cond (is_dropped x) 1 0) near.4))
+        let read = without_evac_read n (Near near.0 near.1 near.2 near.3) (f.law.cells.cell_read p).0 near.4 in (
+          ap (λ x. cond (has_move x) 1 0) read ∙ sym (ap (λ x. cond (has_move x) 1 0) near.4),
+          ap (λ x. cond (is_dropped x) 1 0) read ∙ sym (ap (λ x. cond (is_dropped x) 1 0) near.4),
+          ap (λ x. cond (has_hot x) 1 0) read ∙ sym (ap (λ x. cond (has_hot x) 1 0) near.4),
+        )
 
     clear_step : BookStep ws b os (Clear p) (Word n) (set ws (cell_at p) w) (cleared_view p n b)
     clear_step =
@@ -129,7 +133,8 @@ module _ (ws : List ℕ) (b : BookView) (os : List OwnerView) (f : Facts ws b os
           rest = refl;
           scopes = (cell_after ws b os f p w few).scope_is;
           counts = counts_after ws b os f p w few same_marks;
-          told = λ _. (refl, refl);
+          warm = λ q _. counts_as ws b os f p w few hots same_marks.2 q;
+          told = λ _. (refl, refl, refl);
         }
 
   module _ (logs : ℕ) (h : MayChoose o logs) (below : b.epoch + 1 < EPOCH_END) where
@@ -153,8 +158,13 @@ module _ (ws : List ℕ) (b : BookView) (os : List OwnerView) (f : Facts ws b os
           honest = refl;
           rest = refl;
           scopes = are.scope_is;
-          counts = λ p. (ap (λ c. over b.taken (λ _. 0) p + moves (c p)) (sym are.cell_is), ap (λ c. over b.retired (λ _. 0) p + drops (c p)) (sym are.cell_is));
-          told = λ _. (refl, refl);
+          counts = λ p. (
+            ap (λ c. over b.taken (λ _. 0) p + moves (c p)) (sym are.cell_is),
+            ap (λ c. over b.retired (λ _. 0) p + drops (c p)) (sym are.cell_is),
+            ap (λ c. over b.cooled (λ _. 0) p + hots (c p)) (sym are.cell_is),
+          );
+          warm = λ p _. ap (λ c. hots (c p)) are.cell_is;
+          told = λ _. (refl, refl, refl);
         }
 
 module _ {S : Type 0} (slots id : ℕ) (me : Me S View) (is : me.0 ≡ Book (book_of me.0)) where

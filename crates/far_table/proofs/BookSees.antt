@@ -26,8 +26,8 @@ use Rattle.far_table.specs.BookViews.{marked_view, saw_view}
 use Rattle.far_table.specs.Layout.{JOBS, cell_at, cell_in, epoch_in, job_in, scope_in, word_in}
 use Rattle.far_table.specs.Rule.{Facts, Running}
 use Rattle.far_table.specs.Stands.{IsPlain, book_of}
-use Rattle.far_table.specs.StateOf.{book_state, known_word, retired_at, state_of, taken_at}
-use Rattle.far_table.specs.Views.{drops, moves}
+use Rattle.far_table.specs.StateOf.{book_state, cooled_at, known_word, retired_at, state_of, taken_at}
+use Rattle.far_table.specs.Views.{drops, has_hot, hots, moves}
 use Rattle.far_table.proofs.BookFrames.{BookStep}
 use Rattle.far_table.proofs.BookLift.{book_makes, book_reads}
 use Rattle.far_table.proofs.Masks.{counts, counts_quiet, epoch_is, finds, ties, words_are}
@@ -56,13 +56,17 @@ module _ (ws : List ℕ) (b : BookView) (os : List OwnerView) (f : Facts ws b os
   words_after plain = words_are ws b os f plain ∙ ap (λ v. masked_word v (book_state b).starts (counts b)) (sym cell_after.word_is)
 
   -- it has a mark where the cell had
-  stays : (count : ℕ → ℕ) → count w ≡ count (cell_in ws p) → (n q : ℕ) → n + count (cell_in ws q) ≡ n + count (cell_in later q)
-  stays count same n q = ap (λ v. n + v) (sym (ap (λ c. count (c q)) cell_after.cell_is ∙ put_both (λ v. count v ≡ count (cell_in ws q)) (cell_in ws) p w q
-      (λ e. same ∙ ap (λ z. count (cell_in ws z)) (sym e)) (λ _. refl)))
+  pub counts_as : (count : ℕ → ℕ) → count w ≡ count (cell_in ws p) → (q : ℕ) → count (cell_in later q) ≡ count (cell_in ws q)
+  counts_as count same q = ap (λ c. count (c q)) cell_after.cell_is ∙ put_both (λ v. count v ≡ count (cell_in ws q)) (cell_in ws) p w q
+      (λ e. same ∙ ap (λ z. count (cell_in ws z)) (sym e)) (λ _. refl)
 
-  pub counts_after : (moves w ≡ moves (cell_in ws p)) × (drops w ≡ drops (cell_in ws p)) → (q : ℕ) →
+  stays : (count : ℕ → ℕ) → count w ≡ count (cell_in ws p) → (n q : ℕ) → n + count (cell_in ws q) ≡ n + count (cell_in later q)
+  stays count same n q = ap (λ v. n + v) (sym (counts_as count same q))
+
+  pub counts_after : (moves w ≡ moves (cell_in ws p)) × (drops w ≡ drops (cell_in ws p)) × (hots w ≡ hots (cell_in ws p)) → (q : ℕ) →
       (taken_at b q + moves (cell_in ws q) ≡ taken_at b q + moves (cell_in later q)) × (retired_at b q + drops (cell_in ws q) ≡ retired_at b q + drops (cell_in later q))
-  counts_after same q = (stays moves same.0 (taken_at b q) q, stays drops same.1 (retired_at b q) q)
+      × (cooled_at b q + hots (cell_in ws q) ≡ cooled_at b q + hots (cell_in later q))
+  counts_after same q = (stays moves same.0 (taken_at b q) q, stays drops same.1 (retired_at b q) q, stays hots same.2 (cooled_at b q) q)
 
 pub cells_few : (ws : List ℕ) (b : BookView) (os : List OwnerView) → Facts ws b os → (p : ℕ) → p < CELLS * b.mutators → p < POINTERS
 cells_few ws b os f p low = let most = f.law.shape.few_mutators in omega arith
@@ -90,8 +94,9 @@ module _ (ws : List ℕ) (b : BookView) (os : List OwnerView) (f : Facts ws b os
     honest = refl;
     rest = refl;
     scopes = refl;
-    counts = λ _. (refl, refl);
-    told = λ _. (refl, refl);
+    counts = λ _. (refl, refl, refl);
+    warm = λ _ _. refl;
+    told = λ _. (refl, refl, refl);
   }
 
   module _ (h : Legal o (Mark p)) where
@@ -104,11 +109,14 @@ module _ (ws : List ℕ) (b : BookView) (os : List OwnerView) (f : Facts ws b os
     few : p < POINTERS
     few = cells_few ws b os f p h.0
 
-    same_marks : (moves w ≡ moves n) × (drops w ≡ drops n)
+    same_marks : (moves w ≡ moves n) × (drops w ≡ drops n) × (hots w ≡ hots n)
     same_marks =
         let near = legal.1 in
-        let read = with_mark_read Evac n (Near near.0 near.1 near.2 near.3) (f.law.cells.cell_read p).0 near.4 refl in
-        (ap (λ x. cond (has_move x) 1 0) read ∙ sym (ap (λ x. cond (has_move x) 1 0) near.4), ap (λ x. cond (is_dropped x) 1 0) read ∙ sym (ap (λ x. cond (is_dropped x) 1 0) near.4))
+        let read = with_mark_read Evac n (Near near.0 near.1 near.2 near.3) (f.law.cells.cell_read p).0 near.4 refl in (
+          ap (λ x. cond (has_move x) 1 0) read ∙ sym (ap (λ x. cond (has_move x) 1 0) near.4),
+          ap (λ x. cond (is_dropped x) 1 0) read ∙ sym (ap (λ x. cond (is_dropped x) 1 0) near.4),
+          ap (λ x. cond (has_hot x) 1 0) read ∙ sym (ap (λ x. cond (has_hot x) 1 0) near.4),
+        )
 
     mark_step : BookStep ws b os (Mark p) (Word n) (set ws (cell_at p) w) (marked_view p n b)
     mark_step = record {
@@ -124,7 +132,8 @@ module _ (ws : List ℕ) (b : BookView) (os : List OwnerView) (f : Facts ws b os
       rest = refl;
       scopes = (cell_after ws b os f p w few).scope_is;
       counts = counts_after ws b os f p w few same_marks;
-      told = λ _. (refl, refl);
+      warm = λ q _. counts_as ws b os f p w few hots same_marks.2 q;
+      told = λ _. (refl, refl, refl);
     }
 
 module _ {S : Type 0} (slots id : ℕ) (me : Me S View) (is : me.0 ≡ Book (book_of me.0)) (plain : IsPlain (book_of me.0)) (p : ℕ) where

@@ -33,7 +33,7 @@ use Rattle.far_table.specs.Rows.{over}
 use Rattle.far_table.specs.Rule.{Facts, Running}
 use Rattle.far_table.specs.Stands.{IsPlain, book_of}
 use Rattle.far_table.specs.StateOf.{book_state, head_at, head_or, known_word, state_of}
-use Rattle.far_table.specs.Views.{drops, moves}
+use Rattle.far_table.specs.Views.{drops, hots, moves}
 use Rattle.far_table.proofs.BookFrames.{BookStep}
 use Rattle.far_table.proofs.BookKnown.{elsewhere, forgotten, head_same, no_head, plain_more, put_known}
 use Rattle.far_table.proofs.BookLift.{book_makes, book_reads}
@@ -133,8 +133,9 @@ module _ (ws : List ℕ) (b : BookView) (os : List OwnerView) (f : Facts ws b os
     honest = refl;
     rest = refl;
     scopes = refl;
-    counts = λ _. (refl, refl);
-    told = λ _. (refl, refl);
+    counts = λ _. (refl, refl, refl);
+    warm = λ _ _. refl;
+    told = λ _. (refl, refl, refl);
   }
   get_step low false quiet = record {
     legal = (low, inside, tt);
@@ -147,8 +148,9 @@ module _ (ws : List ℕ) (b : BookView) (os : List OwnerView) (f : Facts ws b os
     honest = refl;
     rest = refl;
     scopes = refl;
-    counts = λ _. (refl, refl);
-    told = λ _. (refl, refl);
+    counts = λ _. (refl, refl, refl);
+    warm = λ _ _. refl;
+    told = λ _. (refl, refl, refl);
   }
 
   -- what far_hand says of a beset hand's view, of this one
@@ -157,8 +159,8 @@ module _ (ws : List ℕ) (b : BookView) (os : List OwnerView) (f : Facts ws b os
 
   got_gets : (q : Bool) → is_quiet_at b l at ≡ q → Gets o (book_state (got_view q a n b)) l at false n
   got_gets true quiet = as_seen false (book_state (put_view a n b)) (masked s o.cell (put (counts b) a true)) (view_masked ws (put_view a n b) os (put (counts b) a true) (got_words (quiet_so quiet)) epoch)
-      (gets s f.law o.cell (counts b) l at false true (λ e. absurd (true≢false e)))
-  got_gets false quiet = as_seen false o known mask (gets s f.law o.cell (counts b) l at false false (λ _. quiet_not quiet))
+      (gets s f.law o.cell (counts b) l at false true (λ _ _. quiet_so quiet) (λ e. absurd (true≢false e)))
+  got_gets false quiet = as_seen false o known mask (gets s f.law o.cell (counts b) l at false false (λ _ e. absurd (false≢true e)) (λ _. quiet_not quiet))
 
   -- ---- a log is given back
   abbrev left : BookView
@@ -187,14 +189,15 @@ module _ (ws : List ℕ) (b : BookView) (os : List OwnerView) (f : Facts ws b os
     honest = refl;
     rest = refl;
     scopes = refl;
-    counts = λ _. (refl, refl);
-    told = λ _. (refl, refl);
+    counts = λ _. (refl, refl, refl);
+    warm = λ _ _. refl;
+    told = λ _. (refl, refl, refl);
   }
 
   free_gets : Gets o (book_state left) l at true n
   free_gets = as_seen true (book_state left) (masked (with_free_log s l) o.cell (λ _. false))
       (view_masked ws left os (λ _. false) free_words epoch ∙ ap (λ (u : State). masked u o.cell (λ _. false)) (sym free_becomes))
-      (gets s f.law o.cell (counts b) l at true true (λ e. absurd (true≢false e)))
+      (gets s f.law o.cell (counts b) l at true true (λ e. absurd (true≢false e)) (λ e. absurd (true≢false e)))
 
   -- ---- a word is written
   module _ (w : ℕ) (h : Legal o (Put l at w)) where
@@ -221,8 +224,13 @@ module _ (ws : List ℕ) (b : BookView) (os : List OwnerView) (f : Facts ws b os
           honest = refl;
           rest = refl;
           scopes = are.scope_is;
-          counts = λ p. (ap (λ c. over b.taken (λ _. 0) p + moves (c p)) (sym are.cell_is), ap (λ c. over b.retired (λ _. 0) p + drops (c p)) (sym are.cell_is));
-          told = λ _. (refl, refl);
+          counts = λ p. (
+            ap (λ c. over b.taken (λ _. 0) p + moves (c p)) (sym are.cell_is),
+            ap (λ c. over b.retired (λ _. 0) p + drops (c p)) (sym are.cell_is),
+            ap (λ c. over b.cooled (λ _. 0) p + hots (c p)) (sym are.cell_is),
+          );
+          warm = λ p _. ap (λ c. hots (c p)) are.cell_is;
+          told = λ _. (refl, refl, refl);
         }
 
 -- what is put is known

@@ -34,7 +34,7 @@ use Rattle.far_table.specs.First.{first_owner, first_owners, open_epoch, rows_fr
 use Rattle.far_table.specs.Rows.{over}
 use Rattle.far_table.specs.Rule.{Has}
 use Rattle.far_table.specs.Seats.{HasPlaces, Remembers}
-use Rattle.far_table.specs.Views.{asked_at, dropped_at, drops, held_at, len_of, moves, nobody, object_at, owner_at, uses}
+use Rattle.far_table.specs.Views.{asked_at, dropped_at, drops, heated_at, held_at, hots, len_of, moves, nobody, object_at, owner_at, uses}
 use Rattle.far_table.proofs.Places.{below, get_is}
 
 -- ---- rows for so many numbers from one on
@@ -126,6 +126,9 @@ module _ (s : State) (honest : Bool) (m : ℕ) where
 
     pub first_dropped : dropped_at o p ≡ drops (s.cell p)
     first_dropped = over_within (λ q. drops (s.cell q)) (λ _. 0) CELLS (CELLS * m) p (omega arith) (omega arith)
+
+    pub first_heated : heated_at o p ≡ hots (s.cell p)
+    first_heated = over_within (λ q. hots (s.cell q)) (λ _. 0) CELLS (CELLS * m) p (omega arith) (omega arith)
 
     pub first_object : object_at o p ≡ cond (s.used p) (seen_object ((world_of s).object p)) None
     first_object = over_within (λ q. cond (s.used q) (seen_object ((world_of s).object q)) None) (λ _. None) CELLS (CELLS * m) p (omega arith) (omega arith)

@@ -1,7 +1,7 @@
 -- The book exchanges a cell: it is its event of the core, won or lost.
-use Rattle.std.proofs.Common.{◌≡◌, ◌≢◌, ◌+◌, ◌<◌, ◌^◌, ℕ, Bool, true, false, cond, List, Option, Some, None, set, sym, refl, ap, ◌∙◌, subst, arith, eqb-true}
-use Rattle.std.specs.Prelude.{is_some, slice_index, ◌==◌}
-use Rattle.std.proofs.lemmas.Bool.{cond_both, eq-eqb, eqb-false, ne_eqb}
+use Rattle.std.proofs.Common.{◌≡◌, ◌≢◌, ◌+◌, ◌<◌, ◌^◌, ℕ, Bool, true, false, cond, inl, List, Option, Some, None, set, sym, refl, ap, ◌∙◌, subst, arith, eqb-true}
+use Rattle.std.specs.Prelude.{is_some, IsSome, slice_index, ◌==◌, ◌||◌}
+use Rattle.std.proofs.lemmas.Bool.{cond_both, eq-eqb, eqb-false, false≢true, ne_eqb}
 use mathlib.Core.Logic.{dite}
 use native.Mathlib.Decide.{ℕ_discrete}
 use lib.Seq.{set-get_or}
@@ -9,6 +9,8 @@ use prog.Atomic.{either}
 use mathlib.Core.Option.{none}
 use Rattle.atomic_table.specs.Table.{Me, step, Allows}
 use Rattle.far_word.specs.declared.pointer.Place.{Place}
+use Rattle.far_word.specs.declared.pointer.PtrWord.{PtrWord}
+use Rattle.far_word.specs.declared.pointer.PtrWord.TheVariants.{Free, Near, Far}
 use Rattle.far_word.specs.declared.sizes.TheConstants.{POINTERS}
 use Rattle.far_word.specs.Header.{head_word}
 use Rattle.far_word.specs.Pointer.{read_of}
@@ -22,24 +24,26 @@ use Rattle.far_core.specs.events.Legal.{Legal}
 use Rattle.far_core.specs.events.Naming.{IsNaming, is_dropped, naming_of, naming_row}
 use Rattle.far_core.specs.events.Quiet.{has_move}
 use Rattle.far_core.specs.events.Step.{after}
+use Rattle.far_core.specs.state.Law.{Law, held_place}
 use Rattle.far_core.specs.state.State.{State, addr, put}
 use Rattle.far_core.proofs.Namings.{naming_only}
 use Rattle.far_core.proofs.Put.{put_both, put_other, put_same}
+use Rattle.far_core.proofs.Quieting.{quiet_unheld}
 use Rattle.far_hand.specs.Known.{Forgets, KnowsLeaving, unknown}
 use Rattle.far_hand.specs.Masked.{AllFind, masked_word}
 use Rattle.far_hand.proofs.Counting.{counts_none}
 use Rattle.far_hand.proofs.Naming.{legal_name, lost_state, won_state}
 use Rattle.far_table.specs.View.{BookView, OwnerView, View, Book}
 use Rattle.far_table.specs.BookPlays.{Named}
-use Rattle.far_table.specs.BookTells.{BookTells, retired_by, taken_by}
+use Rattle.far_table.specs.BookTells.{BookTells, cooled_by, retired_by, taken_by}
 use Rattle.far_table.specs.BookViews.{saw_view}
 use Rattle.far_table.specs.Layout.{cell_at, cell_in, epoch_in, scope_in, word_in}
 use Rattle.far_table.specs.NameViews.{exchange_reply, exchanged_view, form_view, formed_view, named_view, retires, span_view, view_by}
 use Rattle.far_table.specs.Rows.{over}
 use Rattle.far_table.specs.Rule.{Facts, Running}
 use Rattle.far_table.specs.Stands.{IsPlain, book_of}
-use Rattle.far_table.specs.StateOf.{book_state, head_at, head_or, held_by, known_word, remembered_by, retired_at, state_of, taken_at, used_by}
-use Rattle.far_table.specs.Views.{drops, moves}
+use Rattle.far_table.specs.StateOf.{book_state, cooled_at, head_at, head_or, held_by, known_word, remembered_by, retired_at, state_of, taken_at, used_by}
+use Rattle.far_table.specs.Views.{drops, has_hot, hots, moves}
 use Rattle.far_table.proofs.BookFrames.{BookStep}
 use Rattle.far_table.proofs.BookKnown.{forgets, forgotten}
 use Rattle.far_table.proofs.BookLift.{book_makes}
@@ -91,6 +95,15 @@ new_moves Stays old new n = ap (λ x. cond (has_move x) 1 0) n.8
 new_moves (Moves len ds from to) old new n = ap (λ x. cond (has_move x) 1 0) n.1
 new_moves (Fetches len ds place) old new n = ap (λ x. cond (has_move x) 1 0) n.1
 
+-- nor HOT
+new_hots : (form : Naming) (old new : ℕ) → IsNaming form (read_of old) (read_of new) → hots new ≡ 0
+new_hots (Places len ds place) old new n = ap (λ x. cond (has_hot x) 1 0) n.1
+new_hots Retires old new n = ap (λ x. cond (has_hot x) 1 0) n.1
+new_hots (Evicts len place) old new n = ap (λ x. cond (has_hot x) 1 0) n.5
+new_hots Stays old new n = ap (λ x. cond (has_hot x) 1 0) n.8
+new_hots (Moves len ds from to) old new n = ap (λ x. cond (has_hot x) 1 0) n.1
+new_hots (Fetches len ds place) old new n = ap (λ x. cond (has_hot x) 1 0) n.1
+
 -- nor DROP; and the old one has it exactly where the object is retired
 new_drops : (form : Naming) (old new : ℕ) → IsNaming form (read_of old) (read_of new) → drops new ≡ 0
 new_drops (Places len ds place) old new n = ap (λ x. cond (is_dropped x) 1 0) n.1
@@ -107,6 +120,31 @@ old_drops (Evicts len place) old new n = ap (λ x. cond (is_dropped x) 1 0) n.2 
 old_drops Stays old new n = ap (λ x. cond (is_dropped x) 1 0) n.4 ∙ ap (λ t. cond t 1 0) n.5
 old_drops (Moves len ds from to) old new n = ap (λ x. cond (is_dropped x) 1 0) n.0.1 ∙ ap (λ t. cond t 1 0) n.0.2
 old_drops (Fetches len ds place) old new n = ap (λ x. cond (is_dropped x) 1 0) n.0.1 ∙ ap (λ t. cond t 1 0) n.0.2
+
+-- ---- no place is held of a cell whose exchange wins
+dropped_place : (x : Option PtrWord) → is_dropped x ≡ true → held_place x ≡ None
+dropped_place None h = refl
+dropped_place (Some Free) h = refl
+dropped_place (Some (Near len ds place m)) h = ap (λ t. cond (m.moved || t) None (Some place)) h ∙ either_way m.moved where
+  either_way : (t : Bool) → cond (t || true) None (Some place) ≡ None
+  either_way true = refl
+  either_way false = refl
+dropped_place (Some (Far len ds m)) h = refl
+
+module _ (s : State) (law : Law s) (p : ℕ) where
+  none_held : held_place (read_of (s.cell p)) ≡ None → s.held p ≡ None
+  none_held nowhere = at (s.held p) refl where
+    at : (x : Option Place) → s.held p ≡ x → s.held p ≡ None
+    at None e = e
+    at (Some place) e = let odd : None ≡ Some place = sym nowhere ∙ law.views.held_names p place e in absurd (cc)
+
+  unheld : (form : Naming) (old new : ℕ) → s.cell p ≡ old → IsNaming form (read_of old) (read_of new) → (naming_row s p new form).Legal → s.held p ≡ None
+  unheld (Places len ds place) old new won n legal = none_held (ap held_place (ap read_of won ∙ n.0))
+  unheld Retires old new won n legal = none_held (dropped_place (read_of (s.cell p)) (ap (λ w. is_dropped (read_of w)) won ∙ n.0))
+  unheld (Evicts len place) old new won n legal = quiet_unheld s law p legal
+  unheld Stays old new won n legal = quiet_unheld s law p (inl (ap has_move (ap read_of won ∙ n.4) ∙ n.6))
+  unheld (Moves len ds from to) old new won n legal = quiet_unheld s law p legal.quiet
+  unheld (Fetches len ds place) old new won n legal = none_held (ap held_place (ap read_of won ∙ n.0.1))
 
 -- where a header stands, it is this word
 header_is : (h : Option ℕ) (w k : ℕ) → ((x : ℕ) → h ≡ Some x → w ≡ x) → is_some h ≡ true → w ≡ head_or h k
@@ -230,14 +268,24 @@ module _ (ws : List ℕ) (b : BookView) (os : List OwnerView) (f : Facts ws b os
   drops_old = ap (λ n. put (retired_at b) p (retired_at b p + n)) (sym (old_drops form old new legal.1.1))
 
   counts_named : cell_in ws p ≡ old → (q : ℕ) → (taken_at b q + moves (cell_in ws q) ≡ taken_at b' q + moves (cell_in later q)) × (retired_at b q + drops (cell_in ws q) ≡ retired_at b' q + drops (cell_in later q))
+      × (cooled_at b q + hots (cell_in ws q) ≡ cooled_at b' q + hots (cell_in later q))
   counts_named won q = (
     counted moves (taken_at b) (new_moves form old new legal.1.1) won q,
     counted drops (retired_at b) (new_drops form old new legal.1.1) won q ∙ ap (λ g. g q + drops (cell_in later q)) (sym drops_old),
+    counted hots (cooled_at b) (new_hots form old new legal.1.1) won q,
   )
+
+  -- what is held has HOT as it had
+  warm_named : cell_in ws p ≡ old → (q : ℕ) → IsSome (held_by os q) → hots (cell_in later q) ≡ hots (cell_in ws q)
+  warm_named won q held =
+      let free : held_by os p ≡ None = unheld s f.law p form old new won legal.1.1 legal.1.2 in
+      let ne : q ≢ p = λ e. false≢true (sym (ap is_some (ap (held_by os) e ∙ free)) ∙ held) in
+      ap hots (ap (λ g. g q) (cell_after ws b os f p new few).cell_is ∙ put_other (cell_in ws) p new q ne)
 
   -- so says the step
   told_named : (q : ℕ) → (taken_at b' q ≡ taken_by (Name p old new) Done q (taken_at b q)) × (retired_at b' q ≡ retired_by (Name p old new) Done q (retired_at b q))
-  told_named q = (said moves (taken_at b) q, ap (λ g. g q) drops_old ∙ said drops (retired_at b) q) where
+      × (cooled_at b' q ≡ cooled_by (Name p old new) Done q (cooled_at b q))
+  told_named q = (said moves (taken_at b) q, ap (λ g. g q) drops_old ∙ said drops (retired_at b) q, said hots (cooled_at b) q) where
     said : (count before : ℕ → ℕ) (q : ℕ) → put before p (before p + count old) q ≡ cond (p == q) (before q + count old) (before q)
     said count before q = dite (ℕ_discrete q p)
         (λ e. put_same before p (before p + count old) q e ∙ (ap (λ z. before z + count old) (sym e) ∙ sym (ap (λ t. cond t (before q + count old) (before q)) (eq-eqb p q (sym e)))))
@@ -259,6 +307,7 @@ module _ (ws : List ℕ) (b : BookView) (os : List OwnerView) (f : Facts ws b os
     rest = sizes.2;
     scopes = (cell_after ws b os f p new few).scope_is;
     counts = counts_named won;
+    warm = warm_named won;
     told = told_named;
   }
 
@@ -274,8 +323,9 @@ module _ (ws : List ℕ) (b : BookView) (os : List OwnerView) (f : Facts ws b os
     honest = refl;
     rest = refl;
     scopes = refl;
-    counts = λ _. (refl, refl);
-    told = λ _. (refl, refl);
+    counts = λ _. (refl, refl, refl);
+    warm = λ _ _. refl;
+    told = λ _. (refl, refl, refl);
   }
 
   by_test : (t : Bool) → (cell_in ws p == old) ≡ t →

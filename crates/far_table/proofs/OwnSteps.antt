@@ -1,9 +1,11 @@
 -- A step of an owner's seat that is an event of the core keeps the rule: once for all kinds of step.
-use Rattle.std.proofs.Common.{◌≡◌, ◌≢◌, ◌+◌, ◌<◌, ℕ, Bool, true, List, length, set, sym, ap, ◌∙◌, subst, ⊎_elim, Option, get_or-set_other}
+use Rattle.std.specs.Prelude.{IsSome}
+use Rattle.std.proofs.Common.{◌≡◌, ◌≢◌, ◌+◌, ◌/◌, ◌<◌, ℕ, Bool, true, List, length, set, sym, ap, ◌∙◌, subst, ⊎_elim, Option, get_or-set_other}
 use mathlib.Core.Option.{some}
 use lib.ListN.{get_elem?, length-set}
 use Rattle.atomic_table.proofs.Lists.{at_set}
 use Rattle.far_word.specs.declared.pointer.Place.{Place}
+use Rattle.far_word.specs.declared.sizes.TheConstants.{CELLS}
 use Rattle.far_core.specs.declared.event.Event.{Event}
 use Rattle.far_core.specs.declared.event.Reply.{Reply}
 use Rattle.far_core.specs.events.Legal.{Legal}
@@ -19,9 +21,9 @@ use Rattle.far_hand.proofs.OwnersWork.{change}
 use Rattle.far_table.specs.View.{BookView, ObjectView, OwnerView}
 use Rattle.far_table.specs.Layout.{TABLE_WORDS, JOBS, job_at, job_in}
 use Rattle.far_table.specs.Rule.{BookTies, Facts, Has, OwnerTies}
-use Rattle.far_table.specs.StateOf.{book_state, held_by, remembered_by, retired_at, state_of, taken_at, used_by}
-use Rattle.far_table.specs.Tells.{OwnerMade}
-use Rattle.far_table.specs.Views.{asked_at, dropped_at, drops, moves, object_at}
+use Rattle.far_table.specs.StateOf.{book_state, cooled_at, held_by, remembered_by, retired_at, state_of, taken_at, used_by}
+use Rattle.far_table.specs.Tells.{OwnerMade, OwnerMayBe}
+use Rattle.far_table.specs.Views.{asked_at, dropped_at, drops, heated_at, held_at, hots, moves, object_at, pinned_at}
 use Rattle.far_table.proofs.BookKept.{book_on}
 use Rattle.far_table.proofs.Others.{KeepsOthers, keeps_others, maker}
 use Rattle.far_table.proofs.Places.{below}
@@ -53,20 +55,29 @@ owner_on b s t m j y keep ne ties = record {
   objects = λ p x own h. has_on s t p x (keep.object p (λ e. ne (sym own ∙ e))) keep.honest (ties.objects p x own h);
   asks = λ p own. ties.asks p own ∙ ap (λ w. taken_at b p + moves w) (sym (keep.cell p (λ e. ne (sym own ∙ e))));
   drops = λ p own. ties.drops p own ∙ ap (λ w. retired_at b p + drops w) (sym (keep.cell p (λ e. ne (sym own ∙ e))));
+  hots = λ p own. ties.hots p own ∙ ap (λ w. cooled_at b p + hots w) (sym (keep.cell p (λ e. ne (sym own ∙ e))));
+  warm = λ p own pinned. let x = ties.warm p own pinned in (x.0, ap hots (keep.cell p (λ e. ne (sym own ∙ e))) ∙ x.1);
 }
 
--- the ties of the owner itself, where neither an object nor a count of it changes
+-- the ties of the owner itself, where no object of it changes, and no count but of HOT
 pub mine_on : (b : BookView) (s t : State) (m : ℕ) (o w : OwnerView) → OwnerTies b s m o → w.number ≡ o.number → w.honest ≡ o.honest → t.honest ≡ s.honest →
     t.scope m ≡ scope_word_of w.open_at → object_at w ≡ object_at o → asked_at w ≡ asked_at o → dropped_at w ≡ dropped_at o → (world_of t).object ≡ (world_of s).object →
-    ((p : ℕ) → (moves (t.cell p) ≡ moves (s.cell p)) × (drops (t.cell p) ≡ drops (s.cell p))) → OwnerTies b t m w
-mine_on b s t m o w ties number honest same scope objects asked dropped world marks = record {
+    ((p : ℕ) → (moves (t.cell p) ≡ moves (s.cell p)) × (drops (t.cell p) ≡ drops (s.cell p))) → ((p : ℕ) → p / CELLS ≡ m → heated_at w p ≡ cooled_at b p + hots (t.cell p)) →
+    ((p : ℕ) → p / CELLS ≡ m → pinned_at w p ≡ true → IsSome (held_at w p) × (hots (t.cell p) ≡ 1)) → OwnerTies b t m w
+mine_on b s t m o w ties number honest same scope objects asked dropped world marks heats warm = record {
   number = number ∙ ties.number;
   honest = honest ∙ (ties.honest ∙ sym same);
   scope = scope;
   objects = λ p x own h. has_on s t p x (ap (λ f. f p) world) same (ties.objects p x own (sym (ap (λ f. f p) objects) ∙ h));
   asks = λ p own. ap (λ f. f p) asked ∙ (ties.asks p own ∙ ap (λ n. taken_at b p + n) (sym (marks p).0));
   drops = λ p own. ap (λ f. f p) dropped ∙ (ties.drops p own ∙ ap (λ n. retired_at b p + n) (sym (marks p).1));
+  hots = heats;
+  warm = warm;
 }
+
+-- what is held by a pin has HOT, in each state beside the view
+pub pinned_hot : (o : OwnerView) (x : State) (p : ℕ) → OwnerMayBe o x → p / CELLS ≡ o.number → pinned_at o p ≡ true → hots (x.cell p) ≡ 1
+pinned_hot o x p may own pinned = ap (λ (s : State). hots (s.cell p)) may.is ∙ ((may.facts.owners o.number o may.stands).warm p own pinned).1
 
 module _ (ws : List ℕ) (b : BookView) (os : List OwnerView) (f : Facts ws b os) where
   pub is_mutator : (m : ℕ) (o : OwnerView) → get_elem? os m ≡ some o → m < b.mutators

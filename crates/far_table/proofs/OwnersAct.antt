@@ -46,7 +46,7 @@ unused_by : (x : Option ObjectView) → is_some x ≡ false → x ≡ None
 unused_by None e = refl
 unused_by (Some x) e = absurd (false≢true (sym e))
 
-one_there : (os : List OwnerView) (m : ℕ) → m < length os → (o : OwnerView) × (get_elem? os m ≡ some o)
+pub one_there : (os : List OwnerView) (m : ℕ) → m < length os → (o : OwnerView) × (get_elem? os m ≡ some o)
 one_there [] m lt = absurd (omega (arith, lt))
 one_there (o ∷ os) zero lt = (o, refl)
 one_there (o ∷ os) (suc m) lt = one_there os m (omega (arith, lt))

@@ -1,7 +1,10 @@
 -- A pin is its event of the core.
-use Rattle.std.proofs.Common.{◌≡◌, ◌/◌, ◌<◌, ◌^◌, ℕ, true, cond, bit_or, List, set, sym, refl, ap, ◌∙◌, subst, arith, Option, Some, None}
-use Rattle.std.specs.Prelude.{slice_index, IsSome}
+use Rattle.std.proofs.Common.{◌≡◌, ◌≢◌, ◌+◌, ◌/◌, ◌<◌, ◌^◌, ℕ, Bool, true, false, cond, bit_or, List, set, sym, refl, ap, ◌∙◌, subst, arith, Option, Some, None}
+use Rattle.std.specs.Prelude.{slice_index, is_some, IsSome}
+use Rattle.std.proofs.lemmas.Bool.{false≢true}
+use mathlib.Core.Logic.{dite}
 use mathlib.Core.Option.{some, none}
+use native.Mathlib.Decide.{ℕ_discrete}
 use lib.ListN.{get_elem?}
 use Rattle.atomic_table.specs.Table.{Me, step, Allows}
 use Rattle.far_word.specs.declared.mark.Mark.TheVariants.{Hot}
@@ -19,18 +22,19 @@ use Rattle.far_core.specs.events.Pin.{place_to_view, with_hold, pin_answer}
 use Rattle.far_core.specs.events.Naming.{is_dropped}
 use Rattle.far_core.specs.events.Quiet.{has_move}
 use Rattle.far_core.specs.events.Step.{after}
+use Rattle.far_core.specs.state.Law.{in_use}
 use Rattle.far_core.specs.state.State.{State, put}
 use Rattle.far_core.proofs.Cells.{map_mark}
 use Rattle.far_core.proofs.KeepOwner.{hot_read}
 use Rattle.far_core.proofs.Owing.{does}
-use Rattle.far_core.proofs.Put.{put_both}
+use Rattle.far_core.proofs.Put.{put_both, put_other, put_same}
 use Rattle.far_table.specs.View.{BookView, OwnerView, View, Owner}
 use Rattle.far_table.specs.Layout.{cell_at, cell_in}
 use Rattle.far_table.specs.Plays.{Pinned, Lies}
 use Rattle.far_table.specs.Rule.{Facts, Running}
-use Rattle.far_table.specs.StateOf.{held_by, state_of}
+use Rattle.far_table.specs.StateOf.{cooled_at, held_by, state_of}
 use Rattle.far_table.specs.Tells.{Tells, owner_of}
-use Rattle.far_table.specs.Views.{asked_at, dropped_at, drops, held_at, held_view, len_of, moves, object_at, pinned_view, uses, with_place}
+use Rattle.far_table.specs.Views.{asked_at, dropped_at, drops, has_hot, heated_at, held_at, held_view, hots, len_of, moves, object_at, pinned_at, pinned_view, uses, warmed_view, with_place}
 use Rattle.far_table.proofs.HeldFacts.{may_hold, near_facts}
 use Rattle.far_table.proofs.Lift.{owner_makes}
 use Rattle.far_table.proofs.Others.{pin_objects}
@@ -50,6 +54,25 @@ hot_drops None = refl
 hot_drops (Some Free) = refl
 hot_drops (Some (Near len ds place m)) = refl
 hot_drops (Some (Far len ds m)) = refl
+
+-- what is in use has HOT from now on
+used_hots : (x : Option PtrWord) → in_use x ≡ true → cond (has_hot (map_mark Hot x)) 1 0 ≡ cond (has_hot x) 1 0 + cond (has_hot x) 0 1
+used_hots None u = absurd (false≢true u)
+used_hots (Some Free) u = absurd (false≢true u)
+used_hots (Some (Near len ds place m)) u = one m.hot where
+  one : (t : Bool) → 1 ≡ cond t 1 0 + cond t 0 1
+  one true = refl
+  one false = refl
+used_hots (Some (Far len ds m)) u = one m.hot where
+  one : (t : Bool) → 1 ≡ cond t 1 0 + cond t 0 1
+  one true = refl
+  one false = refl
+
+in_use_hot : (x : Option PtrWord) → in_use x ≡ true → has_hot (map_mark Hot x) ≡ true
+in_use_hot None u = absurd (false≢true u)
+in_use_hot (Some Free) u = absurd (false≢true u)
+in_use_hot (Some (Near len ds place m)) u = refl
+in_use_hot (Some (Far len ds m)) u = refl
 
 -- a place that is held changes nothing else of a view
 placed_same : {X : Type 0} (g : OwnerView → X) (p : ℕ) (o : OwnerView) → ((place : Place) → g (held_view p place o) ≡ g o) → (x : Option Place) → g (with_place p x o) ≡ g o
@@ -73,9 +96,13 @@ module _ (ws : List ℕ) (b : BookView) (os : List OwnerView) (f : Facts ws b os
   legal : Legal s (Pin m p)
   legal = (open_so ws b os f o at opened, own, used_so, known_by os m o o at held_at p own ∙ free)
 
-  held_after : (x : Option Place) → held_by (set os m (with_place p x o)) ≡ with_hold (held_by os) p x
-  held_after None = pointers_same os m o o at held_at refl
-  held_after (Some place) = pointers_put os m o (held_view p place o) at held_at p (Some place) own refl
+  -- HOT is counted
+  abbrev warm : OwnerView
+  warm = warmed_view p c o
+
+  held_after : (x : Option Place) → held_by (set os m (with_place p x warm)) ≡ with_hold (held_by os) p x
+  held_after None = pointers_same os m o warm at held_at refl
+  held_after (Some place) = pointers_put os m o (held_view p place warm) at held_at p (Some place) own refl
 
   marks_after : (q : ℕ) → (moves (put s.cell p (bit_or c (2 ^ position Hot)) q) ≡ moves (s.cell q)) × (drops (put s.cell p (bit_or c (2 ^ position Hot)) q) ≡ drops (s.cell q))
   marks_after q = put_both (λ v. (moves v ≡ moves (s.cell q)) × (drops v ≡ drops (s.cell q))) s.cell p (bit_or c (2 ^ position Hot)) q
@@ -85,22 +112,55 @@ module _ (ws : List ℕ) (b : BookView) (os : List OwnerView) (f : Facts ws b os
       ))
       (λ _. (refl, refl))
 
+  heats_after : (q : ℕ) → q / CELLS ≡ m → heated_at warm q ≡ cooled_at b q + hots (put s.cell p (bit_or c (2 ^ position Hot)) q)
+  heats_after q mine =
+      let new : ℕ = bit_or c (2 ^ position Hot) in
+      let n : ℕ = heated_at o p + cond (has_hot (read_of c)) 0 1 in
+      let ties = f.owners m o at in dite (ℕ_discrete q p)
+      (λ e. put_same (heated_at o) p n q e ∙ (let old : heated_at o p ≡ cooled_at b p + hots c = ties.hots p own in
+      let more : hots new ≡ hots c + cond (has_hot (read_of c)) 0 1 = ap (λ t. cond (has_hot t) 1 0) (hot_read s f.law p used_so) ∙ used_hots (read_of c) (f.law.views.used_cell p used_so) in
+      let sum : n ≡ cooled_at b p + hots new = omega arith in
+      sum ∙ (ap (λ z. cooled_at b z + hots new) (sym e) ∙ ap (λ v. cooled_at b q + hots v) (sym (put_same s.cell p new q e)))))
+      (λ ne. put_other (heated_at o) p n q ne ∙ (ties.hots q mine ∙ ap (λ v. cooled_at b q + hots v) (sym (put_other s.cell p new q ne))))
+
+  -- the cell has HOT, and what is held by a pin has it too
+  warm_after : (x : Option Place) (q : ℕ) → q / CELLS ≡ m → pinned_at (with_place p x warm) q ≡ true →
+      IsSome (held_at (with_place p x warm) q) × (hots (put s.cell p (bit_or c (2 ^ position Hot)) q) ≡ 1)
+  warm_after x q mine pinned =
+      let ties = f.owners m o at in
+      let new : ℕ = bit_or c (2 ^ position Hot) in
+      let hot : hots new ≡ 1 = ap (λ t. cond t 1 0) (ap has_hot (hot_read s f.law p used_so) ∙ in_use_hot (read_of c) (f.law.views.used_cell p used_so)) in dite (ℕ_discrete q p)
+      (λ e. (here x q e pinned, ap hots (put_same s.cell p new q e) ∙ hot))
+      (λ ne. let y = ties.warm q mine (away x q ne pinned) in (there x q ne y.0, ap hots (put_other s.cell p new q ne) ∙ y.1)) where
+        here : (x : Option Place) (q : ℕ) → q ≡ p → pinned_at (with_place p x warm) q ≡ true → IsSome (held_at (with_place p x warm) q)
+        here None q e h = ((f.owners m o at).warm q (ap (λ z. z / CELLS) e ∙ own) h).0
+        here (Some place) q e h = ap is_some (put_same (held_at o) p (Some place) q e)
+
+        away : (x : Option Place) (q : ℕ) → q ≢ p → pinned_at (with_place p x warm) q ≡ true → pinned_at o q ≡ true
+        away None q ne h = h
+        away (Some place) q ne h = sym (put_other (pinned_at o) p true q ne) ∙ h
+
+        there : (x : Option Place) (q : ℕ) → q ≢ p → IsSome (held_at o q) → IsSome (held_at (with_place p x warm) q)
+        there None q ne h = h
+        there (Some place) q ne h = ap is_some (put_other (held_at o) p (Some place) q ne) ∙ h
+
   pub pin_step : OwnStep ws b os o (Pin m p) (pin_answer c (place_to_view (read_of c))) (set ws (cell_at p) (bit_or c (2 ^ position Hot))) (pinned_view p c o)
   pin_step =
       let x : Option Place = place_to_view (read_of c) in
-      let w : OwnerView = with_place p x o in
+      let w : OwnerView = with_place p x warm in
       let hot : ℕ = bit_or c (2 ^ position Hot) in
-      let opens : w.open_at ≡ o.open_at = placed_same (λ y. y.open_at) p o (λ _. refl) x in record {
+      let opens : w.open_at ≡ o.open_at = placed_same (λ y. y.open_at) p warm (λ _. refl) x in record {
         legal = legal;
         says = refl;
         becomes = state_is (set ws (cell_at p) hot) b (set os m w) (cell_word_set ws f.wide p hot small)
-            (remembered_same os m o w at (placed_same (λ y. y.epoch) p o (λ _. refl) x))
-            (pointers_same os m o w at uses (placed_same uses p o (λ _. refl) x)) (held_after x);
+            (remembered_same os m o w at (placed_same (λ y. y.epoch) p warm (λ _. refl) x))
+            (pointers_same os m o w at uses (placed_same uses p warm (λ _. refl) x)) (held_after x);
         wide = (cell_word_set ws f.wide p hot small).wide;
         jobs = jobs_stay ws b os f (cell_at p) hot (λ j l e. let low = small in omega arith);
-        mine = mine_on b s (after s (Pin m p)) m o w (f.owners m o at) (placed_same (λ y. y.number) p o (λ _. refl) x) (placed_same (λ y. y.honest) p o (λ _. refl) x) refl
-            ((f.owners m o at).scope ∙ ap scope_word_of (sym opens)) (placed_same object_at p o (λ _. refl) x) (placed_same asked_at p o (λ _. refl) x) (placed_same dropped_at p o (λ _. refl) x)
-            (pin_objects c x m p _ _ (does s (Pin m p) f.law tt legal)) marks_after;
+        mine = mine_on b s (after s (Pin m p)) m o w (f.owners m o at) (placed_same (λ y. y.number) p warm (λ _. refl) x) (placed_same (λ y. y.honest) p warm (λ _. refl) x) refl
+            ((f.owners m o at).scope ∙ ap scope_word_of (sym opens)) (placed_same object_at p warm (λ _. refl) x) (placed_same asked_at p warm (λ _. refl) x) (placed_same dropped_at p warm (λ _. refl) x)
+            (pin_objects c x m p _ _ (does s (Pin m p) f.law tt legal)) marks_after (λ q mine. ap (λ g. g q) (placed_same heated_at p warm (λ _. refl) x) ∙ heats_after q mine)
+            (warm_after x);
       }
 
   pin_found : OwnStep ws b os o (Pin m p) (pin_answer (slice_index ws (cell_at p)) (place_to_view (read_of (slice_index ws (cell_at p))))) (set ws (cell_at p) (bit_or (slice_index ws (cell_at p)) (2 ^ position Hot)))

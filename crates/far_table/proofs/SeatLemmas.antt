@@ -19,13 +19,14 @@ use Rattle.far_core.specs.declared.event.Event.{Event}
 use Rattle.far_core.specs.declared.event.Reply.{Reply}
 use Rattle.far_core.specs.state.State.{addr}
 use Rattle.far_table.specs.View.{ObjectView, OwnerView, View, Owner}
-use Rattle.far_table.specs.Tells.{OwnerMade, OwnerRefused, Tells, owner_of}
-use Rattle.far_table.specs.Views.{adopted_view, asked_view, fresh, held_at, held_view, len_of, object_at, pinned_view, stored_view, with_place, with_word}
+use Rattle.far_table.specs.Tells.{HasState, OwnerMade, OwnerRefused, Tells, owner_of}
+use Rattle.far_table.specs.Views.{adopted_view, asked_view, fresh, held_at, held_view, len_of, object_at, pinned_view, stored_view, warmed_view, with_place, with_word}
 use Rattle.far_core.specs.events.Open.{scope_word_of}
 use Rattle.far_table.specs.Layout.{TABLE_WORDS}
 use Rattle.far_table.specs.Plays.{AdoptTells, number_of}
 use Rattle.far_core.specs.declared.event.Event.TheVariants.{Adopt}
 use Rattle.far_table.specs.Seats.{HasPlace, HasPlaces, Remembers}
+use Rattle.far_table.proofs.ViewedLogs.{left_there}
 
 -- a seat's table, as its `Arc` shows it, has this word
 pub inside : (id here there : TableId) (i : ℕ) → id ≡ here → there ≡ here → id.words ≡ TABLE_WORDS → i < TABLE_WORDS → (id ≡ there) × (i < there.words)
@@ -39,7 +40,7 @@ remembered_word (Some e) n h there = let t = h e refl in (ap (λ k. 2 * k + 1) (
 -- the invariant of an owner's seat
 abbrev pub SeatOk : TableId → TableId → View → ℕ → ℕ → List ℕ → Type 0
 SeatOk id here v number epoch places = (id ≡ here) × (id.words ≡ TABLE_WORDS) × (v ≡ Owner (owner_of v)) × ((owner_of v).number ≡ number) × (number < MOST_MUTATORS)
-    × Remembers (owner_of v).epoch epoch × (length places ≡ CELLS) × HasPlaces (owner_of v) places
+    × Remembers (owner_of v).epoch epoch × (length places ≡ CELLS) × HasPlaces (owner_of v) places × HasState (owner_of v)
 
 pub seat_stays : (id later here : TableId) (v v' : View) (number epoch epoch' : ℕ) (places places' : List ℕ) (e : Event) (r : Reply) (o' : OwnerView) →
     SeatOk id here v number epoch places → later ≡ id → Tells v v' e r o' → Remembers o'.epoch epoch' → length places' ≡ CELLS → HasPlaces o' places' →
@@ -54,6 +55,7 @@ seat_stays id later here v v' number epoch epoch' places places' e r o' i same t
       subst (λ (z : OwnerView). Remembers z.epoch epoch') (sym view) remembers,
       long,
       subst (λ (z : OwnerView). HasPlaces z places') (sym view) has,
+      subst HasState (sym view) (left_there e (owner_of v) r o' t.made),
     )
 
 -- a list with nothing held, or what is held as it was
@@ -74,12 +76,16 @@ rests n None r e there h = absurd (false≢true there)
 rests n (Some v) r e there h = h v e ∙ sym (ap place_to_view e)
 
 pub pin_kept : (v v' : View) (e : Event) (p n : ℕ) → place_to_view (read_of n) ≡ None → Tells v v' e (pin_answer n (place_to_view (read_of n))) (pinned_view p n (owner_of v)) →
-    Tells v v' e (Word n) (owner_of v)
-pin_kept v v' e p n none t = subst (λ (x : Option Place). Tells v v' e (pin_answer n x) (with_place p x (owner_of v))) none t
+    Tells v v' e (Word n) (warmed_view p n (owner_of v))
+pin_kept v v' e p n none t = subst (λ (x : Option Place). Tells v v' e (pin_answer n x) (with_place p x (warmed_view p n (owner_of v)))) none t
 
 pub pin_held : (v v' : View) (e : Event) (p n : ℕ) (place : Place) → place_to_view (read_of n) ≡ Some place →
-    Tells v v' e (pin_answer n (place_to_view (read_of n))) (pinned_view p n (owner_of v)) → Tells v v' e (Held place) (held_view p place (owner_of v))
-pin_held v v' e p n place some t = subst (λ (x : Option Place). Tells v v' e (pin_answer n x) (with_place p x (owner_of v))) some t
+    Tells v v' e (pin_answer n (place_to_view (read_of n))) (pinned_view p n (owner_of v)) → Tells v v' e (Held place) (held_view p place (warmed_view p n (owner_of v)))
+pin_held v v' e p n place some t = subst (λ (x : Option Place). Tells v v' e (pin_answer n x) (with_place p x (warmed_view p n (owner_of v)))) some t
+
+-- HOT that is counted is no place
+pub places_warmed : (p n : ℕ) (o : OwnerView) (places : List ℕ) → HasPlaces o places → HasPlaces (warmed_view p n o) places
+places_warmed p n o places has = places_same o (warmed_view p n o) places refl refl refl has
 
 -- the place of one object more
 pub places_put : (o : OwnerView) (places : List ℕ) (p : ℕ) (place : Place) → HasPlaces o places → length places ≡ CELLS → p / CELLS ≡ o.number →
@@ -148,7 +154,7 @@ pub adopt_stays : (id later here : TableId) (v v' : View) (number epoch : ℕ) (
     held_at (owner_of v) p ≡ None → AdoptTells t v v' p n → SeatOk later here v' number epoch places
 adopt_stays id later here v v' number epoch places true p n i same free t = seat_stays id later here v v' number epoch epoch places places _ _ _ i same t i.5 i.6 (places_adopted p n _ places free i.7)
 adopt_stays id later here v v' number epoch places false p n i same free t =
-    let view : v' ≡ v = t.0 ∙ sym i.2 in subst (λ z. SeatOk later here z number epoch places) (sym view) (same ∙ i.0, ap (λ (z : TableId). z.words) same ∙ i.1, i.2, i.3, i.4, i.5, i.6, i.7)
+    let view : v' ≡ v = t.0 ∙ sym i.2 in subst (λ z. SeatOk later here z number epoch places) (sym view) (same ∙ i.0, ap (λ (z : TableId). z.words) same ∙ i.1, i.2, i.3, i.4, i.5, i.6, i.7, i.8)
 
 pub if_some : {X : Type 0} (r : Option X) (x : X) (P : X → Type 0) → r ≡ Some x → P x → IfSome r P
 if_some r x P e h = subst (λ z. IfSome z P) (sym e) h

@@ -1,6 +1,7 @@
 -- What the structs of seats keep at the start.
 use Rattle.std.proofs.Common.{◌≡◌, ◌≢◌, ℕ, ◌+◌, ◌*◌, ◌/◌, ◌%◌, ◌<◌, ◌≤◌, Bool, Option, Some, None, List, [], map, length, sym, refl, ap, ◌∙◌, subst, arith}
 use Rattle.std.specs.Prelude.{IfSome, slice_index}
+use mathlib.Core.Option.{some}
 use Rattle.std.specs.List.{range_with_len}
 use Rattle.std.proofs.lemmas.List.FromFn.{get_or-map-range_with_len, length-map-range_with_len}
 use Rattle.atomic_table.specs.Seated.{TableId}
@@ -15,9 +16,11 @@ use Rattle.far_table.specs.Layout.{TABLE_WORDS}
 use Rattle.far_table.specs.Rule.{Facts}
 use Rattle.far_table.specs.Seats.{HasPlaces, Remembers, data_begin}
 use Rattle.far_table.specs.Stands.{BookOk, IsPlain, SaysOwner, Stands, Starts, book_of}
-use Rattle.far_table.specs.Tells.{owner_of}
-use Rattle.far_table.proofs.FirstViews.{first_fits, first_has, first_held, first_held_none, first_object_none, first_places, first_remembers, first_scope, first_uses}
+use Rattle.far_table.specs.StateOf.{state_of}
+use Rattle.far_table.specs.Tells.{HasState, OwnerMayBe, owner_of}
+use Rattle.far_table.proofs.FirstViews.{first_fits, first_has, first_held, first_held_none, first_object_none, first_places, first_remembers, first_scope, first_uses, many_owners, owner_stands}
 use Rattle.far_table.proofs.Begins.{first_book_state, first_facts, first_state, other_rest}
+use Rattle.far_table.proofs.OwnersAct.{one_there}
 use Rattle.far_table.proofs.SeatLemmas.{SeatOk}
 use Rattle.far_table.proofs.Tables.{is_table, table}
 
@@ -40,8 +43,8 @@ module _ (s : State) (law : Law s) where
 
     -- the invariant of an owner's seat
     pub owner_starts : (id here : TableId) (v : View) (epoch : ℕ) (places : List ℕ) → id ≡ here → id.words ≡ TABLE_WORDS → v ≡ Owner (first_owner s honest m) →
-        ((e : ℕ) → s.remembered m ≡ Some e → e ≡ epoch) → places ≡ map (places_at s m) (range_with_len 0 CELLS) → SeatOk id here v m epoch places
-    owner_starts id here v epoch places same wide is read places_are =
+        ((e : ℕ) → s.remembered m ≡ Some e → e ≡ epoch) → places ≡ map (places_at s m) (range_with_len 0 CELLS) → HasState (owner_of v) → SeatOk id here v m epoch places
+    owner_starts id here v epoch places same wide is read places_are there =
         let few = law.shape.few_mutators in
         let view : owner_of v ≡ first_owner s honest m = ap owner_of is in (
           same,
@@ -52,6 +55,7 @@ module _ (s : State) (law : Law s) where
           subst (λ (o : OwnerView). Remembers o.epoch epoch) (sym view) (first_remembers s honest m law epoch read),
           ap (λ (l : List ℕ). length l) places_are ∙ length-map-range_with_len (places_at s m) 0 CELLS,
           subst (λ o. HasPlaces o places) (sym view) (first_places s honest m law places (places_here places places_are)),
+          there,
         )
 
 -- what the struct of the book's seat keeps
@@ -102,3 +106,21 @@ module _ (s : State) (honest : Bool) (law : Law s) (past : HasNothingPast s) (sa
 
   pub rule_stands : (b : BookView) → b ≡ waiting s honest s.mutators 0 → ∥ Stands b ∥₁
   rule_stands b is = subst (λ z. ∥ Stands z ∥₁) (sym is) ∣ record { words = table s; owners = first_owners s honest; facts = facts_start } ∣₁
+
+  -- beside each owner's first view there is a state
+  pub first_there : (m : ℕ) → m < s.mutators → HasState (first_owner s honest m)
+  first_there m low =
+      let many = many_owners s honest in
+      let one = one_there (first_owners s honest) m (omega arith) in
+      let same : one.0 ≡ first_owner s honest m = sym (owner_stands s honest m one.0 one.1).1 in
+      ∣ (
+        state_of (table s) (waiting s honest s.mutators 0) (first_owners s honest),
+        record {
+          words = table s;
+          book = waiting s honest s.mutators 0;
+          owners = first_owners s honest;
+          facts = facts_start;
+          stands = one.1 ∙ ap some same;
+          is = refl;
+        },
+      ) ∣₁

@@ -1,7 +1,7 @@
 -- Each kind of step of an owner's seat is its event of the core.
 use Rattle.std.proofs.Common.{◌≡◌, ◌≢◌, ℕ, ◌/◌, ◌<◌, cond, List, set, sym, refl, ap, ◌∙◌, subst, arith, Option, Some, None}
 use Rattle.std.specs.Prelude.{IsSome, ◌==◌}
-use Rattle.std.proofs.lemmas.Bool.{eq-eqb, ne_eqb}
+use Rattle.std.proofs.lemmas.Bool.{eq-eqb, false≢true, ne_eqb}
 use mathlib.Core.Option.{some, none}
 use lib.ListN.{get_elem?}
 use Rattle.atomic_table.specs.Table.{Me, step, Allows}
@@ -52,7 +52,7 @@ module _ (ws : List ℕ) (b : BookView) (os : List OwnerView) (f : Facts ws b os
     wide = f.wide;
     jobs = f.jobs;
     mine = mine_on b (state_of ws b os) (after (state_of ws b os) (ReadEpoch m)) m o w (f.owners m o at) refl refl refl (f.owners m o at).scope refl refl refl
-        (ap (λ (z : World). z.object) (does (state_of ws b os) (ReadEpoch m) f.law tt legal)) (λ _. (refl, refl));
+        (ap (λ (z : World). z.object) (does (state_of ws b os) (ReadEpoch m) f.law tt legal)) (λ _. (refl, refl)) (f.owners m o at).hots (f.owners m o at).warm;
   }
 
   pub open_step : (x : ℕ) → o.open_at ≡ None → IsSome o.epoch → x ≡ scope_word_of o.epoch → OwnStep ws b os o (Open m) Done (set ws (scope_at m) x) (opened_view o)
@@ -69,7 +69,7 @@ module _ (ws : List ℕ) (b : BookView) (os : List OwnerView) (f : Facts ws b os
         jobs = jobs_stay ws b os f (scope_at m) x (λ j l e. let small = few in omega arith);
         mine = mine_on b (state_of ws b os) (after (state_of ws b os) (Open m)) m o w (f.owners m o at) refl refl refl
             (put_same (scope_in ws) m (scope_word_of (remembered_by os m)) m refl ∙ ap scope_word_of known) refl refl refl
-            (ap (λ (z : World). z.object) (does (state_of ws b os) (Open m) f.law tt legal).after) (λ _. (refl, refl));
+            (ap (λ (z : World). z.object) (does (state_of ws b os) (Open m) f.law tt legal).after) (λ _. (refl, refl)) (f.owners m o at).hots (f.owners m o at).warm;
       }
 
   pub close_step : IsSome o.open_at → OwnStep ws b os o (Close m) Done (set ws (scope_at m) 0) (closed_view o)
@@ -82,7 +82,8 @@ module _ (ws : List ℕ) (b : BookView) (os : List OwnerView) (f : Facts ws b os
     wide = (scope_word_set ws f.wide m 0 few).wide;
     jobs = jobs_stay ws b os f (scope_at m) 0 (λ j l e. let small = few in omega arith);
     mine = mine_on b (state_of ws b os) (after (state_of ws b os) (Close m)) m o w (f.owners m o at) refl refl refl (put_same (scope_in ws) m 0 m refl) refl refl refl
-        (ap (λ (z : World). z.object) (does (state_of ws b os) (Close m) f.law tt legal).after) (λ _. (refl, refl));
+        (ap (λ (z : World). z.object) (does (state_of ws b os) (Close m) f.law tt legal).after) (λ _. (refl, refl)) (f.owners m o at).hots
+        (λ p own pinned. absurd (false≢true pinned));
   }
 
 module _ {S : Type 0} (slots id : ℕ) (me : Me S View) (is : me.0 ≡ Owner (owner_of me.0)) where

@@ -135,6 +135,8 @@ module _ (ws : List ℕ) (b : BookView) (os : List OwnerView) (f : Facts ws b os
               (ties.objects q y mine (sym (put_other (object_at o) p (with_word i v (object_at o p)) q ne) ∙ h)));
           asks = ties.asks;
           drops = ties.drops;
+          hots = ties.hots;
+          warm = ties.warm;
         };
       }
 

@@ -1,5 +1,5 @@
 -- A log in which a place is held isn't given out.
-use Rattle.std.proofs.Common.{◌≡◌, ◌/◌, ℕ, List, Some, set, refl, sym, ap, ◌∙◌, subst}
+use Rattle.std.proofs.Common.{◌≡◌, ◌/◌, ℕ, zero, suc, List, Some, set, refl, sym, ap, ◌∙◌, subst, arith}
 use mathlib.Core.Option.{some}
 use lib.ListN.{get_elem?}
 use Rattle.atomic_table.proofs.Lists.{set_here}
@@ -15,8 +15,9 @@ use Rattle.far_core.proofs.WorldLaws.{objects_stand, steps_keep}
 use Rattle.far_core.specs.declared.event.Event.{Event}
 use Rattle.far_core.specs.declared.event.Reply.{Reply}
 use Rattle.far_word.specs.declared.sizes.TheConstants.{CELLS}
+use Rattle.far_table.specs.RowTells.{StoredEach}
 use Rattle.far_table.specs.StateOf.{state_of}
-use Rattle.far_table.specs.Tells.{OwnerMade, OwnerMayBe}
+use Rattle.far_table.specs.Tells.{HasState, OwnerMade, OwnerMayBe}
 use Rattle.far_table.specs.View.{OwnerView}
 use Rattle.far_table.specs.Viewed.{NoneIsGivenOut, StaysGiven}
 use Rattle.far_table.specs.Views.{held_at}
@@ -48,11 +49,14 @@ held_stays o x p place may own at =
     (here, none_is_given_out x (subst Law (sym may.is) may.facts.law) p place here)
 
 -- a call of it left such a state
-pub left_there : (e : Event) (o : OwnerView) (r : Reply) (w : OwnerView) → OwnerMade e o r w → (x : State) × OwnerMayBe w x
+pub left_there : (e : Event) (o : OwnerView) (r : Reply) (w : OwnerView) → OwnerMade e o r w → HasState w
 left_there e o r w made =
     let owners : List OwnerView = set made.owners o.number w in
     let here : get_elem? owners o.number ≡ some w = set_here made.owners o.number w (below made.owners o.number o made.stands) in
-    let number : w.number ≡ o.number = (made.keeps.owners o.number w here).number in (
-      state_of made.later made.book owners,
-      record { words = made.later; book = made.book; owners = owners; facts = made.keeps; stands = ap (get_elem? owners) number ∙ here; is = refl },
-    )
+    let number : w.number ≡ o.number = (made.keeps.owners o.number w here).number in
+    ∣ (state_of made.later made.book owners, record { words = made.later; book = made.book; owners = owners; facts = made.keeps; stands = ap (get_elem? owners) number ∙ here; is = refl }) ∣₁
+
+-- and so did a call that stored a row
+pub row_there : (p first : ℕ) (row : ℕ → ℕ) (n : ℕ) (o w : OwnerView) → StoredEach p first row n o w → HasState o → HasState w
+row_there p first row zero o w stored there = subst HasState (sym stored.last) there
+row_there p first row (suc n) o w stored there = subst HasState (sym stored.last) (left_there _ _ _ _ (stored.each n (omega arith)))

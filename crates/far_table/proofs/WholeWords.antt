@@ -17,9 +17,14 @@ use Rattle.far_word.proofs.ByteLaws.{bytes_of-get, bytes_of-words_of, words_of-g
 use Rattle.far_word.proofs.WordBytes.{low_byte, read_word}
 use Rattle.far_core.specs.state.State.{addr, put}
 use Rattle.far_core.proofs.Put.{put_other, put_same}
-use Rattle.far_table.specs.View.{ObjectView, OwnerView}
+use Rattle.atomic_table.specs.Seated.{TableId}
+use Rattle.far_table.specs.View.{ObjectView, OwnerView, View, Owner}
 use Rattle.far_table.specs.Ranges.{HasBytes, Wrote}
-use Rattle.far_table.specs.Seats.{HasPlaces}
+use Rattle.far_table.specs.RowTells.{StoredEach}
+use Rattle.far_table.specs.Seats.{HasPlaces, Remembers}
+use Rattle.far_table.specs.Tells.{owner_of}
+use Rattle.far_table.proofs.SeatLemmas.{SeatOk}
+use Rattle.far_table.proofs.ViewedLogs.{row_there}
 use Rattle.far_table.proofs.HeldFacts.{some_there}
 use Rattle.far_table.specs.Views.{ds_of, held_at, len_of, object_at, stored_view, with_word, word_in_view}
 
@@ -225,6 +230,21 @@ places_wrote p from bytes places o o' w has q place h =
       here = x.here;
       fits = subst (λ n. addr place + 1 + words_for n ≤ MOST_LOGS * LOG_WORDS) (sym same) x.fits;
     }
+
+-- the invariant of a seat holds once it has stored a row
+pub row_stays : (id later here : TableId) (v v' : View) (number epoch : ℕ) (places : List ℕ) (p from first n : ℕ) (row : ℕ → ℕ) (bytes : List ℕ) → SeatOk id here v number epoch places →
+    later ≡ id → v' ≡ Owner (owner_of v') → Wrote p from bytes (owner_of v) (owner_of v') → StoredEach p first row n (owner_of v) (owner_of v') → SeatOk later here v' number epoch places
+row_stays id later here v v' number epoch places p from first n row bytes i same owner w stored = (
+  same ∙ i.0,
+  ap (λ (z : TableId). z.words) same ∙ i.1,
+  owner,
+  ap (λ (z : OwnerView). z.number) w.rest ∙ i.3,
+  i.4,
+  subst (λ (z : OwnerView). Remembers z.epoch epoch) (sym w.rest) i.5,
+  i.6,
+  places_wrote p from bytes places (owner_of v) (owner_of v') w i.7,
+  row_there p first row n (owner_of v) (owner_of v') stored i.8,
+)
 
 -- the words of what is held lie within the logs
 pub places_within : (p : ℕ) (places : List ℕ) (o : OwnerView) → HasPlaces o places → IsSome (held_at o p) → slice_index places (p % CELLS) + words_for (len_of (object_at o p)) ≤ MOST_LOGS * LOG_WORDS

@@ -10,11 +10,11 @@ use Rattle.far_hand.specs.MayBe.{Made}
 use Rattle.far_table.specs.View.{BookView, OwnerView, View, Book}
 use Rattle.far_table.specs.Rule.{Facts}
 use Rattle.far_table.specs.Stands.{book_of}
-use Rattle.far_table.specs.StateOf.{retired_at, state_of, taken_at}
-use Rattle.far_table.specs.Views.{drops, moves}
+use Rattle.far_table.specs.StateOf.{cooled_at, retired_at, state_of, taken_at}
+use Rattle.far_table.specs.Views.{drops, hots, moves}
 
--- how often MOVE was taken away from p's cell, and its object retired, once this event had this answer, by how often before it: once more where an exchange won
--- of a word of p's that has MOVE; and of one that has DROP
+-- how often MOVE was taken away from p's cell, its object retired, and HOT taken away, once this event had this answer, by how often before it: once more where an
+-- exchange won of a word of p's that has MOVE; of one that has DROP; and of one that has HOT
 abbrev pub taken_by : Event → Reply → ℕ → ℕ → ℕ
 taken_by (Name q old new) Done p n = cond (q == p) (n + moves old) n
 taken_by e r p n = n
@@ -22,6 +22,10 @@ taken_by e r p n = n
 abbrev pub retired_by : Event → Reply → ℕ → ℕ → ℕ
 retired_by (Name q old new) Done p n = cond (q == p) (n + drops old) n
 retired_by e r p n = n
+
+abbrev pub cooled_by : Event → Reply → ℕ → ℕ → ℕ
+cooled_by (Name q old new) Done p n = cond (q == p) (n + hots old) n
+cooled_by e r p n = n
 
 -- the event was made: in some state that met the rule, with this view of the book, it was legal, and this was its answer; the words after and the view b'
 -- are the state that the core's step makes, and meet the rule; the view counts what it took away
@@ -36,6 +40,7 @@ pub record BookMade (e : Event) (b : BookView) (r : Reply) (b' : BookView) : Typ
   pub keeps : Facts later b' owners
   pub taken : (p : ℕ) → taken_at b' p ≡ taken_by e r p (taken_at b p)
   pub retired : (p : ℕ) → retired_at b' p ≡ retired_by e r p (retired_at b p)
+  pub cooled : (p : ℕ) → cooled_at b' p ≡ cooled_by e r p (cooled_at b p)
   pub call : Made (state_of words b owners) e r (state_of later b' owners)
 
 -- the seat's view before and after the step: the event was made

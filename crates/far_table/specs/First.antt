@@ -12,7 +12,7 @@ use Rattle.far_core.specs.world.World.{Object}
 use Rattle.far_core.specs.world.WorldOf.{world_of}
 use Rattle.far_table.specs.View.{BookView, ObjectView, OwnerView}
 use Rattle.far_table.specs.Layout.{JOBS, TABLE_WORDS, cell_at, data_at, epoch_in, job_at, scope_at}
-use Rattle.far_table.specs.Views.{drops, moves}
+use Rattle.far_table.specs.Views.{drops, hots, moves}
 
 -- the words are those of the state, each at its place, and 0 where a copier's job stands. A word of nobody may be any
 pub record IsTableOf (ws : List ℕ) (s : State) : Type 0 where
@@ -45,7 +45,8 @@ abbrev pub seen_object : Option Object → Option ObjectView
 seen_object None = None
 seen_object (Some object) = Some (seen object)
 
--- an owner's view: what the core says of it. MOVE counts as set once, where it stands, and so does DROP
+-- an owner's view: what the core says of it. MOVE counts as set once, where it stands, and so do DROP and HOT; and what
+-- it holds is by no pin on the table
 abbrev pub first_owner : State → Bool → ℕ → OwnerView
 first_owner s honest m = record {
   number = m;
@@ -56,6 +57,8 @@ first_owner s honest m = record {
   held = rows_from (CELLS * m) CELLS s.held;
   asked = rows_from (CELLS * m) CELLS (λ p. moves (s.cell p));
   dropped = rows_from (CELLS * m) CELLS (λ p. drops (s.cell p));
+  heated = rows_from (CELLS * m) CELLS (λ p. hots (s.cell p));
+  pinned = [];
 }
 
 abbrev pub first_owners : State → Bool → List OwnerView
@@ -80,6 +83,7 @@ first_book s honest = record {
   stored = rows_from 0 POINTERS (λ p. rows_from 0 LOG_WORDS (s.stored p));
   taken = [];
   retired = [];
+  cooled = [];
   rest = first_owners s honest;
 }
 

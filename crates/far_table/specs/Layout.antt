@@ -1,5 +1,5 @@
 -- Where each shared word stands. The layout is that of the largest heap; the words of the logs are last. The epoch and each scope word have 16 words,
--- a line of cache: what is between them is 0, and is of nobody.
+-- a line of cache: what is between them is nobody's.
 use Rattle.std.specs.Prelude.{ℕ, ◌+◌, ◌*◌, cond, nat_lt, List, slice_index}
 use Rattle.far_word.specs.declared.sizes.TheConstants.{MOST_MUTATORS, POINTERS}
 

@@ -1,5 +1,5 @@
 -- The rule of the table: the words and all views are a state of the core under its law, and each view is right about the words.
-use Rattle.std.specs.Prelude.{◌≡◌, ◌+◌, ◌/◌, ◌<◌, ℕ, true, Some, List, ◌∷◌, ◌++◌, map, length}
+use Rattle.std.specs.Prelude.{◌≡◌, ◌+◌, ◌/◌, ◌<◌, ℕ, true, Some, IsSome, List, ◌∷◌, ◌++◌, map, length}
 use mathlib.Core.Option.{some}
 use lib.ListN.{get_elem?}
 use Rattle.atomic_table.specs.Table.{State as Table}
@@ -17,8 +17,8 @@ use Rattle.far_hand.specs.MayBe.{Shows}
 use Rattle.far_hand.specs.Owners.{IsLoudAt}
 use Rattle.far_table.specs.View.{BookView, ObjectView, OwnerView, View, Book, Owner}
 use Rattle.far_table.specs.Layout.{TABLE_WORDS, JOBS, job_in}
-use Rattle.far_table.specs.StateOf.{book_state, retired_at, state_of, taken_at}
-use Rattle.far_table.specs.Views.{object_at, asked_at, dropped_at, drops, moves, word_of}
+use Rattle.far_table.specs.StateOf.{book_state, cooled_at, retired_at, state_of, taken_at}
+use Rattle.far_table.specs.Views.{object_at, asked_at, dropped_at, drops, heated_at, held_at, hots, moves, pinned_at, word_of}
 
 -- what the book's view says is so: the object, the place and EVAC of each cell, and marks at least where it has them; each word that it
 -- knows, and the headers of all spans; and its own, exactly. No word that it knows is one that an owner may store into
@@ -35,7 +35,8 @@ pub record Has (s : State) (p : ℕ) (x : ObjectView) : Type 0 where
   pub words : s.honest ≡ true → (i : ℕ) → i < words_for x.len → packed_word object.bytes i ≡ word_of x i
 
 -- what an owner's view says is so: its scope word, and the objects that it uses; and of each of its cells how often MOVE was set anew is how
--- often it was taken away, and once more where it stands, and how often DROP was set how often an object was retired, and once more where it stands
+-- often it was taken away, and once more where it stands, how often DROP was set how often an object was retired, and once more where it stands,
+-- and how often HOT was set anew how often it was taken away, and once more where it stands. HOT stands in each cell whose place it holds by a pin
 pub record OwnerTies (b : BookView) (s : State) (m : ℕ) (o : OwnerView) : Type 0 where
   pub number : o.number ≡ m
   pub honest : o.honest ≡ s.honest
@@ -43,6 +44,8 @@ pub record OwnerTies (b : BookView) (s : State) (m : ℕ) (o : OwnerView) : Type
   pub objects : (p : ℕ) (x : ObjectView) → p / CELLS ≡ m → object_at o p ≡ Some x → Has s p x
   pub asks : (p : ℕ) → p / CELLS ≡ m → asked_at o p ≡ taken_at b p + moves (s.cell p)
   pub drops : (p : ℕ) → p / CELLS ≡ m → dropped_at o p ≡ retired_at b p + drops (s.cell p)
+  pub warm : (p : ℕ) → p / CELLS ≡ m → pinned_at o p ≡ true → IsSome (held_at o p) × (hots (s.cell p) ≡ 1)
+  pub hots : (p : ℕ) → p / CELLS ≡ m → heated_at o p ≡ cooled_at b p + hots (s.cell p)
 
 -- what holds of the words, the book's view and the owners' views between any two steps
 pub record Facts (ws : List ℕ) (b : BookView) (os : List OwnerView) : Type 0 where

@@ -36,6 +36,7 @@ no_book = record {
   stored = [];
   taken = [];
   retired = [];
+  cooled = [];
   rest = [];
 }
 

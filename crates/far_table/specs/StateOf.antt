@@ -44,6 +44,10 @@ taken_at b = over b.taken (λ _. 0)
 abbrev pub retired_at : BookView → ℕ → ℕ
 retired_at b = over b.retired (λ _. 0)
 
+-- how often it has taken HOT away from a pointer's cell
+abbrev pub cooled_at : BookView → ℕ → ℕ
+cooled_at b = over b.cooled (λ _. 0)
+
 -- the book's view as a state: what it knows of the words, and of what owners do nothing
 abbrev pub book_state : BookView → State
 book_state b = record {

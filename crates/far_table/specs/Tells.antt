@@ -49,6 +49,10 @@ pub record OwnerMayBe (o : OwnerView) (x : State) : Type 0 where
   pub stands : get_elem? owners o.number ≡ some o
   pub is : x ≡ state_of words book owners
 
+-- there is such a state
+abbrev pub HasState : OwnerView → Type 0
+HasState o = ∥ ((x : State) × OwnerMayBe o x) ∥₁
+
 -- the seat's view before and after the step: the event was made
 pub record Tells (before now : View) (e : Event) (r : Reply) (o' : OwnerView) : Type 0 where
   pub after_is : now ≡ Owner o'

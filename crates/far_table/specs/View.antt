@@ -25,6 +25,10 @@ pub record OwnerView : Type 0 where
   -- how often it has set MOVE anew, and how often DROP, by pointers
   pub asked : List (ℕ × ℕ)
   pub dropped : List (ℕ × ℕ)
+  -- how often it has set HOT anew, by pointers
+  pub heated : List (ℕ × ℕ)
+  -- the pointers whose places it holds by a pin, since its scope was opened
+  pub pinned : List (ℕ × Bool)
 
 -- what the book's seat knows
 pub record BookView : Type 0 where
@@ -52,6 +56,8 @@ pub record BookView : Type 0 where
   -- how often it has taken MOVE away, and how often it has retired an object, by pointers
   pub taken : List (ℕ × ℕ)
   pub retired : List (ℕ × ℕ)
+  -- how often it has taken HOT away, by pointers
+  pub cooled : List (ℕ × ℕ)
   -- the owners that have no seat yet
   pub rest : List OwnerView
 

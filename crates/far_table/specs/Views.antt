@@ -1,5 +1,5 @@
 -- What stands in an owner's view, and how its steps change it.
-use Rattle.std.specs.Prelude.{ℕ, ◌+◌, Bool, false, cond, Option, Some, None, List, [], ◌∷◌, is_some, slice_index_or}
+use Rattle.std.specs.Prelude.{ℕ, ◌+◌, Bool, true, false, cond, Option, Some, None, List, [], ◌∷◌, is_some, slice_index_or}
 use Rattle.far_word.specs.declared.mark.Mark.{Mark}
 use Rattle.far_word.specs.declared.mark.Mark.TheVariants.{Hot, Evac, Moved, Dropped}
 use Rattle.far_word.specs.declared.pointer.Place.{Place}
@@ -35,6 +35,14 @@ asked_at o = over o.asked (λ _. 0)
 abbrev pub dropped_at : OwnerView → ℕ → ℕ
 dropped_at o = over o.dropped (λ _. 0)
 
+-- how often HOT was
+abbrev pub heated_at : OwnerView → ℕ → ℕ
+heated_at o = over o.heated (λ _. 0)
+
+-- whether it is held by a pin
+abbrev pub pinned_at : OwnerView → ℕ → Bool
+pinned_at o = over o.pinned (λ _. false)
+
 -- the length of an object, its data structure, and one of its words, where the owner uses it
 abbrev pub len_of : Option ObjectView → ℕ
 len_of None = 0
@@ -57,18 +65,31 @@ opened_view o = record o { open_at = o.epoch }
 
 -- it holds nothing, and remembers no epoch
 abbrev pub closed_view : OwnerView → OwnerView
-closed_view o = record o { epoch = None; open_at = None; held = [] }
+closed_view o = record o { epoch = None; open_at = None; held = []; pinned = [] }
 
+-- a pin holds a place
 abbrev pub held_view : ℕ → Place → OwnerView → OwnerView
-held_view p place o = record o { held = (p, Some place) ∷ o.held }
+held_view p place o = record o { held = (p, Some place) ∷ o.held; pinned = (p, true) ∷ o.pinned }
 
 -- the place is held, if there is one
 abbrev pub with_place : ℕ → Option Place → OwnerView → OwnerView
 with_place p None o = o
 with_place p (Some place) o = held_view p place o
 
+-- HOT is set
+abbrev pub has_hot : Option PtrWord → Bool
+has_hot None = false
+has_hot (Some Free) = false
+has_hot (Some (Near len ds place m)) = m.hot
+has_hot (Some (Far len ds m)) = m.hot
+
+-- HOT is set anew where the word found hasn't got it
+abbrev pub warmed_view : ℕ → ℕ → OwnerView → OwnerView
+warmed_view p found o = record o { heated = (p, heated_at o p + cond (has_hot (read_of found)) 0 1) ∷ o.heated }
+
+-- it is, whether or not the pin holds the place
 abbrev pub pinned_view : ℕ → ℕ → OwnerView → OwnerView
-pinned_view p found o = with_place p (place_to_view (read_of found)) o
+pinned_view p found o = with_place p (place_to_view (read_of found)) (warmed_view p found o)
 
 -- the object with another word
 abbrev pub with_word : ℕ → ℕ → Option ObjectView → Option ObjectView
@@ -98,12 +119,15 @@ fresh found = record { len = said_len (read_of found); ds = said_ds (read_of fou
 abbrev pub adopted_view : ℕ → ℕ → OwnerView → OwnerView
 adopted_view p found o = record o { objects = (p, Some (fresh found)) ∷ o.objects }
 
--- 1 where a word has MOVE, and where it has DROP
+-- 1 where a word has MOVE, where it has DROP, and where it has HOT
 abbrev pub moves : ℕ → ℕ
 moves w = cond (has_move (read_of w)) 1 0
 
 abbrev pub drops : ℕ → ℕ
 drops w = cond (is_dropped (read_of w)) 1 0
+
+abbrev pub hots : ℕ → ℕ
+hots w = cond (has_hot (read_of w)) 1 0
 
 -- MOVE is set anew where the word found hasn't got it. Of what is used DROP is set anew always, and it is used no longer
 abbrev pub asked_view : ℕ → Mark → ℕ → OwnerView → OwnerView
@@ -115,7 +139,7 @@ asked_view p Dropped found o = record o { objects = (p, None) ∷ o.objects; dro
 -- ---- many owners
 -- one who knows nothing
 abbrev pub nobody : OwnerView
-nobody = record { number = 0; honest = false; epoch = None; open_at = None; objects = []; held = []; asked = []; dropped = [] }
+nobody = record { number = 0; honest = false; epoch = None; open_at = None; objects = []; held = []; asked = []; dropped = []; heated = []; pinned = [] }
 
 abbrev pub owner_at : List OwnerView → ℕ → OwnerView
 owner_at os m = slice_index_or os m nobody

@@ -3,7 +3,7 @@ ghost use Rattle.std.specs.Prelude.{◌≡◌, ◌+◌, ◌-◌, ◌*◌, ◌/�
 ghost use Rattle.std.specs.Arc.{arc_value};
 ghost use Rattle.far_core.specs.declared.event.Event.{Event as any_event};
 ghost use Rattle.far_core.specs.declared.event.Reply.{Reply as any_reply};
-ghost use Rattle.far_table.specs.Tells.{OwnerMade, OwnerMayBe, OwnerRefused, owner_of};
+ghost use Rattle.far_table.specs.Tells.{HasState, OwnerMade, OwnerMayBe, OwnerRefused, owner_of};
 ghost use Rattle.far_table.specs.Viewed.{StaysGiven};
 ghost use Rattle.std.specs.List.{range_with_len};
 ghost use Rattle.far_word.specs.declared.sizes.TheConstants.{CELLS, LOG_WORDS, LONGEST, MOST_LOGS, MOST_MUTATORS};
@@ -20,7 +20,7 @@ ghost use Rattle.far_core.specs.events.Pin.{place_to_view};
 ghost use Rattle.far_table.specs.Ranges.{HasBytes, Wrote};
 ghost use Rattle.far_table.specs.RowTells.{LoadedEach, StoredEach};
 ghost use Rattle.far_table.specs.Seats.{HasPlaces, data_begin, pin_reply};
-ghost use Rattle.far_table.specs.Views.{adopted_view, asked_view, closed_view, held_at, held_view, len_of, object_at, opened_view, read_view, stored_view, uses, word_in_view};
+ghost use Rattle.far_table.specs.Views.{adopted_view, asked_view, closed_view, held_at, held_view, hots, len_of, object_at, opened_view, pinned_at, read_view, stored_view, uses, warmed_view, word_in_view};
 ghost use Rattle.far_word.specs.Bytes.{packed_word};
 ghost use Rattle.far_word.specs.Sizes.{words_for};
 
@@ -57,13 +57,13 @@ impl<D: Device> Model for MutSeat<D> {
     ghost use Rattle.far_table.specs.View.{Owner};
     ghost use Rattle.far_table.specs.Layout.{TABLE_WORDS};
     ghost use Rattle.far_table.specs.Seats.{Seated, Remembers, HasPlaces};
-    ghost use Rattle.far_table.specs.Tells.{owner_of};
+    ghost use Rattle.far_table.specs.Tells.{HasState, owner_of};
 
     ghost Value = { Seated };
 
     ghost view = { λ s. record { table = s.seat.table_id; view = owner_of s.seat.me.0 } };
 
-    ghost invariant = { λ s. (s.seat.table_id ≡ (arc_value s.table).shared.table_id) × (s.seat.table_id.words ≡ TABLE_WORDS) × (s.seat.me.0 ≡ Owner (owner_of s.seat.me.0)) × ((owner_of s.seat.me.0).number ≡ s.number) × (s.number < MOST_MUTATORS) × Remembers (owner_of s.seat.me.0).epoch s.epoch × (length s.places.items ≡ CELLS) × HasPlaces (owner_of s.seat.me.0) s.places.items };
+    ghost invariant = { λ s. (s.seat.table_id ≡ (arc_value s.table).shared.table_id) × (s.seat.table_id.words ≡ TABLE_WORDS) × (s.seat.me.0 ≡ Owner (owner_of s.seat.me.0)) × ((owner_of s.seat.me.0).number ≡ s.number) × (s.number < MOST_MUTATORS) × Remembers (owner_of s.seat.me.0).epoch s.epoch × (length s.places.items ≡ CELLS) × HasPlaces (owner_of s.seat.me.0) s.places.items × HasState (owner_of s.seat.me.0) };
 }
 
 // Where the data words of an object begin whose place is held, counted from word 0 of log 0; 0 where none is.
@@ -358,6 +358,7 @@ impl<D: Device> MutSeat<D> {
         requires table { (seat.table_id ≡ (arc_value table).shared.table_id) × (seat.table_id.words ≡ TABLE_WORDS) }
         requires owner { seat.me.0 ≡ Owner (first_owner (core_state core.now) (owner_of seat.me.0).honest number) }
         requires some { number < (core_state core.now).mutators }
+        requires there { HasState (owner_of seat.me.0) }
         ensures { IfOk result (λ s. s ≡ record { table = seat.table_id; view = owner_of seat.me.0 }) }
     {
         core.keeps_law();
@@ -372,11 +373,18 @@ impl<D: Device> MutSeat<D> {
         })
     }
 
-    /// No log in which this seat holds a place is given back, nor taken anew, whatever state the words and all views are in beside its view. Each call of it
-    /// left such a state. The call does nothing.
+    /// No log in which this seat holds a place is given back, nor taken anew, whatever state the words and all views are in beside its view; and there is
+    /// such a state. The call does nothing.
     pub fn no_log_is_given_out_under_a_view(&self)
         ensures kept { (x : State) → OwnerMayBe self.now.view x → (p : ℕ) (place : any_place) → held_at self.now.view p ≡ Some place → (x.held p ≡ Some place) × StaysGiven x p place }
-        ensures there { (e : any_event) (o : OwnerView) (r : any_reply) → OwnerMade e o r self.now.view → (x : State) × OwnerMayBe self.now.view x }
+        ensures there { HasState self.now.view }
+    {
+        let _number = self.number;
+    }
+
+    /// What this seat holds by a pin has HOT in its cell, whatever state the words and all views are in beside its view. The call does nothing.
+    pub fn what_it_pinned_is_hot(&self)
+        ensures { (x : State) → OwnerMayBe self.now.view x → (p : ℕ) → p / CELLS ≡ self.now.view.number → pinned_at self.now.view p ≡ true → hots (x.cell p) ≡ 1 }
     {
         let _number = self.number;
     }
@@ -425,15 +433,15 @@ impl<D: Device> MutSeat<D> {
     }
 
     /// Sets HOT in the cell of a pointer, and holds the place of its object where the word found is near with none of EVAC, MOVE and
-    /// DROP; else the word found.
+    /// DROP; else the word found. The view counts HOT as set anew where the word found hasn't got it, held or not.
     pub fn pin(&mut self, p: u16) -> Result<Place, u64>
         requires own { p / CELLS ≡ self.old.view.number }
         requires used { uses self.old.view p ≡ true }
         requires free { held_at self.old.view p ≡ None }
         requires opened { IsSome self.old.view.open_at }
         ensures table { self.new.table ≡ self.old.table }
-        ensures held { IfOk result (λ place. self.new.view ≡ held_view p place self.old.view) }
-        ensures kept { IfErr result (λ found. (self.new.view ≡ self.old.view) × (place_to_view (read_of found) ≡ None)) }
+        ensures held { IfOk result (λ place. (found : ℕ) × (place_to_view (read_of found) ≡ Some place) × (self.new.view ≡ held_view p place (warmed_view p found self.old.view))) }
+        ensures kept { IfErr result (λ found. (self.new.view ≡ warmed_view p found self.old.view) × (place_to_view (read_of found) ≡ None)) }
         ensures event { OwnerMade (Event.Pin self.old.view.number p) self.old.view (pin_reply result) self.new.view }
     {
         let found = self.table.shared.fetch_or::<rule::Pin>(

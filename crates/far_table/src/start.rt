@@ -8,6 +8,7 @@ ghost use Rattle.far_table.specs.BookSeats.{table_of, book_in};
 ghost use Rattle.far_table.specs.First.{first_owner, waiting};
 ghost use Rattle.far_table.specs.Layout.{TABLE_WORDS};
 ghost use Rattle.far_table.specs.Stands.{IsDealer, Seats, Stands, Starts, book_of};
+ghost use Rattle.far_table.specs.Tells.{HasState};
 ghost use Rattle.far_table.specs.Tabled.{table_word};
 ghost use Rattle.far_table.specs.View.{Book};
 ghost use Rattle.far_word.specs.declared.refused.Refused.{Refused as any_refusal};
@@ -85,6 +86,7 @@ fn deal_one<D: Device>(
     requires dealer { IsDealer seat.old (arc_value table.now).shared.table_id }
     requires next { seat.old.me.0 ≡ Book (waiting (core_state plan.now.core) (D.honest plan.now.device.value) number ((core_state plan.now.core).mutators - number)) }
     requires some { number < (core_state plan.now.core).mutators }
+    requires there { HasState (first_owner (core_state plan.now.core) (D.honest plan.now.device.value) number) }
     ensures dealer { OnOk result (IsDealer seat.new (arc_value table.now).shared.table_id) }
     ensures left { OnOk result (seat.new.me.0 ≡ Book (waiting (core_state plan.now.core) (D.honest plan.now.device.value) (number + 1) ((core_state plan.now.core).mutators - (number + 1)))) }
     ensures dealt { IfOk result (λ s. s ≡ record { table = (arc_value table.now).shared.table_id; view = first_owner (core_state plan.now.core) (D.honest plan.now.device.value) number }) }
@@ -103,6 +105,7 @@ fn deal_all<D: Device>(
 ) -> Result<Vec<MutSeat<D>>, AllocError>
     requires dealer { IsDealer seat.old (arc_value table.now).shared.table_id }
     requires first { seat.old.me.0 ≡ Book (waiting (core_state plan.now.core) (D.honest plan.now.device.value) 0 (core_state plan.now.core).mutators) }
+    requires there { (m : ℕ) → m < (core_state plan.now.core).mutators → HasState (first_owner (core_state plan.now.core) (D.honest plan.now.device.value) m) }
     ensures dealer { OnOk result (IsDealer seat.new (arc_value table.now).shared.table_id) }
     ensures left { OnOk result (seat.new.me.0 ≡ Book (waiting (core_state plan.now.core) (D.honest plan.now.device.value) (core_state plan.now.core).mutators 0)) }
     ensures dealt { IfOk result (λ v. v.items ≡ Seats (arc_value table.now).shared.table_id (first_owner (core_state plan.now.core) (D.honest plan.now.device.value)) (core_state plan.now.core).mutators) }

@@ -8,7 +8,7 @@ use Rattle.far_text.specs.Command.{Command, Device, HeapLine, DeviceLine, Comman
 use Rattle.far_text.specs.Grammar.{Line, Skipped, Saying, Bad, line_of, lines_of, trace_of}
 use Rattle.far_text.specs.HeapSought.{Found, NoHeap, HeapAt, found_at, heap_sought}
 use Rattle.far_text.specs.Split.{SplitTrace, NothingSplit, SplitHeap, threaded, onto_lines, threaded_onto, split_command, split_commands, with_lines, honest_beside, unless_lying, split_after, split_from, split_of}
-use Rattle.far_text.specs.SplitText.{HasThread, LinesSplit, LinesAreSplit, TextSaysSplit, CantBeSplit, FirstUnsplit, AreOwn, IsThread}
+use Rattle.far_text.specs.SplitText.{HasThread, LinesSplit, LinesAreSplit, TextSaysSplit, CantBeSplit, FirstUnsplit, AreOwn, IsThread, IsThreads, HasItsOwn}
 use Rattle.far_text.specs.Threads.{Thread, OfMutator, OfBook, has_thread, is_own, is_of, lines_in}
 use Rattle.far_text.specs.TraceText.{IsPassed, LinesSay, Speaks}
 use Rattle.far_text.proofs.HonestLaws.{honest_stays, is_honestly, bad_honestly}
@@ -77,6 +77,32 @@ one_thread mutators c (inr (inr (policy, most, turns, is))) = (OfBook, tt, ap (i
     alone : (other : Thread) → is_of other (Evacuator (Round policy most turns)) ≡ true → other ≡ OfBook
     alone (OfMutator m) e = absurd cc
     alone OfBook e = refl
+
+-- a command is a thread's by what it says
+is_threads : (thread : Thread) (c : Command) → is_of thread c ≡ true → IsThreads thread c
+is_threads (OfMutator m) (Mutator n request) e = let same : n ≡ m = grind (arith, nat_tests) in (request, ap (λ k. Mutator k request) same)
+is_threads (OfMutator m) (Book inquiry) e = absurd cc
+is_threads (OfMutator m) (Evacuator step) e = absurd cc
+is_threads OfBook (Mutator m request) e = absurd cc
+is_threads OfBook (Book inquiry) e = inl (inquiry, refl)
+is_threads OfBook (Evacuator (Round policy most turns)) e = inr (policy, most, turns, refl)
+is_threads OfBook (Evacuator (Select choice most)) e = absurd cc
+is_threads OfBook (Evacuator (Mark count)) e = absurd cc
+is_threads OfBook (Evacuator Wait) e = absurd cc
+is_threads OfBook (Evacuator (Evacuate count)) e = absurd cc
+is_threads OfBook (Evacuator Abort) e = absurd cc
+
+no_threads : (thread : Thread) (c : Command) → is_of thread c ≡ false → ¬ IsThreads thread c
+no_threads (OfMutator m) c e (request, is) = let odd : false ≡ true = sym e ∙ ap (is_of (OfMutator m)) is ∙ eq-eqb m m refl in absurd cc
+no_threads OfBook c e (inl (inquiry, is)) = let odd : false ≡ true = sym e ∙ ap (is_of OfBook) is in absurd cc
+no_threads OfBook c e (inr (policy, most, turns, is)) = let odd : false ≡ true = sym e ∙ ap (is_of OfBook) is in absurd cc
+
+pub threads_are : (thread : Thread) (lines : List (ℕ × Command)) → HasItsOwn thread lines (lines_in thread lines)
+threads_are thread [] = refl
+threads_are thread ((number, c) ∷ lines) =
+    let rest = threads_are thread lines in
+    cond_both (is_of thread c) ((number, c) ∷ lines_in thread lines) (lines_in thread lines) (HasItsOwn thread ((number, c) ∷ lines))
+    (λ own. inl (is_threads thread c own, lines_in thread lines, refl, rest)) (λ other. inr (no_threads thread c other, rest))
 
 -- ---- the lines after the heap's
 lines_ok : (line : ℕ × Command) (later : Result (List (ℕ × Command)) ℕ) (said : List (ℕ × Command)) → onto_lines line later ≡ Ok said → (more : List (ℕ × Command)) × (said ≡ line ∷ more) × (later ≡ Ok more)

@@ -90,3 +90,17 @@ IsThread mutators OfBook = Unit {0}
 abbrev pub ThreadsShareNone : Type 0
 ThreadsShareNone = (mutators : ℕ) (c : Command) → HasThread mutators c
     → (thread : Thread) × IsThread mutators thread × (is_of thread c ≡ true) × ((other : Thread) → is_of other c ≡ true → other ≡ thread)
+
+-- it is a command of this mutator's, whatever it asks for; or of the book's
+abbrev pub IsThreads : Thread → Command → Type 0
+IsThreads (OfMutator m) c = (request : Request) × (c ≡ Mutator m request)
+IsThreads OfBook c = IsBooks c
+
+-- a thread has of these lines each that is its own, in order, and no other
+abbrev pub HasItsOwn : Thread → List (ℕ × Command) → List (ℕ × Command) → Type 0
+HasItsOwn thread [] own = own ≡ []
+HasItsOwn thread (line ∷ lines) own = (IsThreads thread line.1 × (later : List (ℕ × Command)) × (own ≡ line ∷ later) × HasItsOwn thread lines later) ⊎ ((¬ IsThreads thread line.1) × HasItsOwn thread lines own)
+
+-- a mutator's thread has exactly its commands, the book's exactly the book's
+abbrev pub ThreadsAre : Type 0
+ThreadsAre = (thread : Thread) (lines : List (ℕ × Command)) → HasItsOwn thread lines (lines_in thread lines)

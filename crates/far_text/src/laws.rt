@@ -8,7 +8,7 @@ ghost use Rattle.far_text.specs.Command.{Entry};
 ghost use Rattle.far_text.specs.Grammar.{entry_of};
 ghost use Rattle.far_text.specs.Says.{Says};
 ghost use Rattle.far_text.specs.TraceText.{TextsAreRead, FirstBadLines, CutsJoin};
-ghost use Rattle.far_text.specs.SplitText.{SplitsAreRead, FirstUnsplitLines, SplitsAreTraces, ThreadsRunTheirOwn, ThreadsShareNone};
+ghost use Rattle.far_text.specs.SplitText.{SplitsAreRead, FirstUnsplitLines, SplitsAreTraces, ThreadsAre, ThreadsRunTheirOwn, ThreadsShareNone};
 
 /// Words are read as a heap, a device or a command exactly where they say it, and a text as nothing, or a heap, perhaps its
 /// device, and commands, exactly where its lines say so: all its lines, in order, comments and empty lines passed over. The number that is refused is
@@ -35,11 +35,12 @@ pub fn limits_are()
 /// lie, says a command that one of them runs: a mutator's of this heap, but for its `where` and `epoch`; of the book's the
 /// inquiries, and of the evacuator's the rounds. Each command stands beside the number of its line; without those they are what
 /// the text says as a trace. The number that is refused is that of the first other line, from 1; 0 where the text is too long.
-/// A thread's lines are its own, and a command is one thread's.
+/// Of all commands a mutator's thread has exactly those of this mutator, in order, and the book's exactly the book's; a command is one thread's.
 pub fn splitting_is_said()
     ensures texts { SplitsAreRead }
     ensures bad { FirstUnsplitLines }
     ensures traces { SplitsAreTraces }
     ensures lines { ThreadsRunTheirOwn }
     ensures threads { ThreadsShareNone }
+    ensures whole { ThreadsAre }
 {}

@@ -12,7 +12,7 @@ use Rattle.far_word.specs.Pointer.{read_of}
 use Rattle.far_word.specs.Sizes.{size_of, words_for}
 use Rattle.far_word.proofs.ByteLaws.{bytes_of-zeros, length-bytes_of, length-with_word, packs_back, read_other, read_written}
 use Rattle.far_core.specs.declared.event.Event.{Event}
-use Rattle.far_core.specs.declared.event.Event.TheVariants.{ReadEpoch, Open, Pin, Load, Store, Close, Adopt, Put, Name, See, Ask, Get, Clear, Advance, Look}
+use Rattle.far_core.specs.declared.event.Event.TheVariants.{ReadEpoch, Open, Pin, Load, Store, Close, Adopt, Ask, Get, Clear, Advance, Look}
 use Rattle.far_core.specs.declared.event.Event.TheVariants as events
 use Rattle.far_core.specs.declared.event.Reply.{Reply}
 use Rattle.far_core.specs.declared.event.Reply.TheVariants.{Refused, Word}
@@ -80,10 +80,6 @@ IsOther c = Unit {0}
 
 step_words : (c : Change) (w v : World) (f : ℕ → ℕ → ℕ) → IsOther c → w.honest ≡ true → Step c w v → IsWords w.object f → IsWords v.object f
 step_words Stays w v f other honest x h = subst (λ (y : World). IsWords y.object f) (sym x) h
-step_words (change.Opens m) w v f other honest x h = subst (λ (y : World). IsWords y.object f) (sym x.after) h
-step_words (change.Closes m) w v f other honest x h = subst (λ (y : World). IsWords y.object f) (sym x.after) h
-step_words (change.Views m p) w v f other honest x h = subst (λ (y : World). IsWords y.object f) (sym x.after) h
-step_words (change.Reads m p i k) w v f other honest x h = subst (λ (y : World). IsWords y.object f) (sym x.after) h
 step_words (change.Writes m p i k) w v f other honest x h = absurd other
 step_words (change.Makes p len ds g) w v f other honest x h = absurd other
 step_words (change.Marks p) w v f other honest x h = subst (λ (y : World). IsWords y.object f) (sym x) h
@@ -97,8 +93,8 @@ step_words (change.ComesNear p g) w v f other honest x h = let m = x.come in let
     (words_put w.object f f p (record { owner = m.0.owner; ds = m.0.ds; bytes = m.1; home = Group g }) h
     (λ i lt. ap (λ b. packed_word b i) same ∙ h p m.0 m.2 i (subst (λ (b : List ℕ). 8 * i < length b) same lt)) (λ q i ne. refl))
 step_words (change.Drops m p) w v f other honest x h = subst (λ (y : World). IsWords y.object f) (sym x.after) (words_gone w.object f p h)
-step_words (change.Releases g) w v f other honest x h = subst (λ (y : World). IsWords y.object f) (sym x.after) h
 step_words (change.Holds g) w v f other honest x h = subst (λ (y : World). IsWords y.object f) (sym x) h
+step_words c w v f other honest x h = subst (λ (y : World). IsWords y.object f) (sym x.after) h
 
 -- ---- what is so at each moment of a run
 pub record Holds (s : State) (f : ℕ → ℕ → ℕ) : Type 0 where
@@ -205,17 +201,8 @@ module _ (s t : State) (f : ℕ → ℕ → ℕ) (h : Holds s f) where
   own_event (Ask m p k) r own x = other_event (Ask m p k) r tt (asked k) x where
     asked : (k : Mark) → IsOtherOf (change_of (Ask m p k) r)
     asked mark.Hot = replies (λ y. IsOtherOf (change_of (Ask m p mark.Hot) y)) tt tt (λ n. tt) (λ n. tt) (λ place. tt) r
-    asked mark.Evac = replies (λ y. IsOtherOf (change_of (Ask m p mark.Evac) y)) tt tt (λ n. tt) (λ n. tt) (λ place. tt) r
-    asked mark.Moved = replies (λ y. IsOtherOf (change_of (Ask m p mark.Moved) y)) tt tt (λ n. tt) (λ n. tt) (λ place. tt) r
-    asked mark.Dropped = replies (λ y. IsOtherOf (change_of (Ask m p mark.Dropped) y)) tt tt (λ n. tt) (λ n. tt) (λ place. tt) r
-  own_event (Put l at w) r own x = absurd (false≢true own)
-  own_event (Name p old new) r own x = absurd (false≢true own)
-  own_event (See p) r own x = absurd (false≢true own)
-  own_event (events.Mark p) r own x = absurd (false≢true own)
-  own_event (Get l at free) r own x = absurd (false≢true own)
-  own_event (Clear p) r own x = absurd (false≢true own)
-  own_event (Advance logs) r own x = absurd (false≢true own)
-  own_event (Look m) r own x = absurd (false≢true own)
+    asked k = replies (λ y. IsOtherOf (change_of (Ask m p k) y)) tt tt (λ n. tt) (λ n. tt) (λ place. tt) r
+  own_event e r own x = absurd (false≢true own)
 
   -- ---- an event of a round
   other_step : (e : Event) → Fits e → IsOtherOf (change_of e (answer s e)) → DoesStep s e t → Holds t f
@@ -223,17 +210,6 @@ module _ (s t : State) (f : ℕ → ℕ → ℕ) (h : Holds s f) where
       (by_happening (change_of e (answer s e)) s (after s e) f other h (keeps s e h.law fits x.legal) (does s e h.law fits x.legal))
 
   steps : (e : Event) → DoesStep s e t → Holds t f
-  steps (ReadEpoch m) x = absurd (false≢true x.rounds)
-  steps (Open m) x = absurd (false≢true x.rounds)
-  steps (Pin m p) x = absurd (false≢true x.rounds)
-  steps (Load m p i) x = absurd (false≢true x.rounds)
-  steps (Store m p i w) x = absurd (false≢true x.rounds)
-  steps (Close m) x = absurd (false≢true x.rounds)
-  steps (Adopt m p) x = absurd (false≢true x.rounds)
-  steps (Ask m p k) x = absurd (false≢true x.rounds)
-  steps (Put l at w) x = absurd (false≢true x.rounds)
-  steps (Name p old new) x = absurd (false≢true x.rounds)
-  steps (See p) x = absurd (false≢true x.rounds)
   steps (events.Mark p) x = other_step (events.Mark p) tt tt x
   steps (Clear p) x = other_step (Clear p) tt (cleared (has_move (read_of (s.cell p)))) x where
     cleared : (b : Bool) → IsOther (cond b Stays (change.Unmarks p))
@@ -245,6 +221,7 @@ module _ (s t : State) (f : ℕ → ℕ → ℕ) (h : Holds s f) where
     got false y = other_step (Get l at false) tt tt y
   steps (Advance logs) x = other_step (Advance logs) tt tt x
   steps (Look m) x = other_step (Look m) tt tt x
+  steps e x = absurd (false≢true x.rounds)
 
   -- ---- the book's calls
   retires : (p : ℕ) → DoesRetire s p t → Holds t f

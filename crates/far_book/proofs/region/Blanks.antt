@@ -7,7 +7,7 @@ use Rattle.far_core.specs.events.Ranges.{with_row}
 use Rattle.far_core.specs.state.State.{State, put}
 use Rattle.far_core.proofs.Rows.{row_in, row_none, row_out, row_is}
 use Rattle.far_book.specs.book.Blanks.{with_words, with_zeros}
-use Rattle.far_book.proofs.region.Coming.{row_last}
+use Rattle.far_book.proofs.region.Copying.{row_last}
 
 -- a second row goes on where the first ends
 rows_joined : (word row next : ℕ → ℕ) (a b n k m : ℕ) → b ≡ a + n → m ≡ n + k → ((j : ℕ) → j < k → next j ≡ row (n + j)) → with_row (with_row word a n row) b k next ≡ with_row word a m row
@@ -29,7 +29,7 @@ rows_joined word row next a b n k m e sum goes = row_is word (with_row (with_row
 pub word_then : (s t u : State) (l at n a w : ℕ) (row : ℕ → ℕ) → t ≡ with_words s l at n row → a ≡ l * LOG_WORDS + at + n → w ≡ row n → u ≡ record t { word = put t.word a w } → u ≡ with_words s l at (n + 1) row
 word_then s t u l at n a w row first here is then =
     let begin : ℕ = l * LOG_WORDS + at in
-    let more : put (with_row s.word begin n row) a w ≡ with_row s.word begin (n + 1) row = (λ i. put (with_row s.word begin n row) (here i) (is i)) ∙ row_last s.word begin n row in
+    let more : put (with_row s.word begin n row) a w ≡ with_row s.word begin (n + 1) row = row_last s.word begin n row a w here is in
     then ∙ ap (λ (x : State). record x { word = put x.word a w }) first ∙ (λ i. record s { word = more i })
 
 pub words_none : (s : State) (l at : ℕ) (row : ℕ → ℕ) → s ≡ with_words s l at 0 row

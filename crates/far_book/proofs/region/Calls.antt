@@ -8,8 +8,8 @@ use Rattle.far_word.specs.declared.mark.Marks.{Marks}
 use Rattle.far_word.specs.declared.pointer.Place.{Place}
 use Rattle.far_word.specs.declared.pointer.PtrWord.{PtrWord}
 use Rattle.far_word.specs.declared.pointer.PtrWord.TheVariants.{Free, Near, Far}
-use Rattle.far_word.specs.declared.sizes.TheConstants.{CELLS, LOG_WORDS, LONGEST}
-use Rattle.far_word.specs.Header.{IsHead, head_word}
+use Rattle.far_word.specs.declared.sizes.TheConstants.{CELLS, LONGEST}
+use Rattle.far_word.specs.Header.{head_word}
 use Rattle.far_word.specs.Pointer.{IsPtr, read_of}
 use Rattle.far_word.specs.Sizes.{size_of, words_for}
 use Rattle.far_word.proofs.PointerLaws.{read_says, read_back}
@@ -60,41 +60,45 @@ rows_more s xs i row lt e = ap (λ r. map (row_of s) (take i xs) ++ r ∷ []) e 
 pub free_unplaced : (s : State) (p : ℕ) → s.cell p ≡ 0 → (l at : ℕ) → names_place (read_of (s.cell p)) l at ≡ false
 free_unplaced s p free l at = rw (free, unused) refl
 
-module _ (s : State) (ledger : Ledger) (notes : Notes (own_part s) ledger) (p len ds : ℕ) (place : Place)
-    (pointer : p < CELLS * s.mutators) (unplaced : (l at : ℕ) → names_place (read_of (s.cell p)) l at ≡ false) (some : 0 < len) (most : len ≤ LONGEST) (structure : ds < 256) (reserve : Bool) (found : room s (size_of len) reserve ≡ Some place) where
-  short : size_of len ≤ LOG_WORDS
-  short = omega arith
+-- room was found for p's object, which lies nowhere
+pub record HasRoom (s : State) (ledger : Ledger) (p len ds : ℕ) (place : Place) : Type 0 where
+  pub notes : Notes (own_part s) ledger
+  pub pointer : p < CELLS * s.mutators
+  pub unplaced : (l at : ℕ) → names_place (read_of (s.cell p)) l at ≡ false
+  pub some : 0 < len
+  pub most : len ≤ LONGEST
+  pub structure : ds < 256
+  pub reserve : Bool
+  pub found : room s (size_of len) reserve ≡ Some place
 
-  is_room : IsRoom (own_part s) (size_of len) reserve place
-  is_room = subst (RoomIs (own_part s) (size_of len) reserve) found (room_right (own_part s) notes.law (size_of len) reserve short)
+module _ {s : State} {ledger : Ledger} {p len ds : ℕ} {place : Place} (x : HasRoom s ledger p len ds place) where
+  is_room : IsRoom (own_part s) (size_of len) x.reserve place
+  is_room = subst (RoomIs (own_part s) (size_of len) x.reserve) x.found (room_right (own_part s) x.notes.law (size_of len) x.reserve (omega (arith, x.most)))
 
   pub placeable : Placeable (own_part s) p len ds place
   placeable = record {
-    pointer = pointer;
-    unplaced = unplaced;
-    layout = (some, most, structure, omega (arith, is_room.next.0, notes.law.shape.few_logs), is_room.fits);
+    pointer = x.pointer;
+    unplaced = x.unplaced;
+    layout = (x.some, x.most, x.structure, omega (arith, is_room.next.0, x.notes.law.shape.few_logs), is_room.fits);
     next = is_room.next;
     bare = own_bare s;
   }
 
-  pub head : IsHead record { pointer = p; len = len; ds = ds }
-  head = record { some = some; most = most; structure = structure; cell = omega (arith, notes.law.shape.few_mutators) }
-
   pub ends : s.tail place.log ≡ place.at
-  ends = sym (at_end (own_part s) notes.law p len ds place placeable)
+  ends = sym (at_end (own_part s) x.notes.law p len ds place placeable)
 
   pub may_take : MayTake ledger p (size_of len) place
   may_take = record {
-    few = omega (arith, is_room.next.0, notes.law.shape.few_logs);
-    log = omega (arith, is_room.next.0, notes.logs);
-    tail = omega (arith, notes.tails place.log is_room.next.0, ends, is_room.fits);
-    live = live_small (own_part s) ledger place.log (notes, is_room.next.0);
-    order = λ _. order_short (own_part s) ledger notes;
-    cell = omega (arith, notes.cells);
+    few = omega (arith, is_room.next.0, x.notes.law.shape.few_logs);
+    log = omega (arith, is_room.next.0, x.notes.logs);
+    tail = omega (arith, x.notes.tails place.log is_room.next.0, ends, is_room.fits);
+    live = live_small (own_part s) ledger place.log (x.notes, is_room.next.0);
+    order = λ _. order_short (own_part s) ledger x.notes;
+    cell = omega (arith, x.notes.cells, x.pointer);
   }
 
   pub order_taken : (new : Ledger) → Takes ledger new p (size_of len) place → new.order.items ≡ order_after s ledger.order.items place
-  order_taken new takes = takes.order ∙ ap (λ c. order_after (record s { current = c }) ledger.order.items place) notes.current
+  order_taken new takes = takes.order ∙ ap (λ c. order_after (record s { current = c }) ledger.order.items place) x.notes.current
 
 -- where a header and zeros are written at the end of a log, the span there may be named
 pub may_name : (s : State) (p len ds : ℕ) (place : Place) → p < CELLS * s.mutators → IsPtr (Near len ds place no_marks) → IsNext s place → Legal (with_blank_span s p len ds place) (events.Name p 0 (near_word len ds place))
@@ -141,12 +145,7 @@ bit_same false false h le = refl
 
 same_by : (o n : Option PtrWord) → body_of n ≡ body_of o → (marks_in n).hot ≡ (marks_in o).hot → (marks_in n).moved ≡ (marks_in o).moved → (marks_in n).dropped ≡ (marks_in o).dropped → IsSome o → n ≡ o
 same_by None n body hot moved dropped some = absurd (false≢true some)
-same_by (Some v) None body hot moved dropped some = absurd cc
 same_by (Some Free) (Some Free) body hot moved dropped some = refl
-same_by (Some Free) (Some (Near len ds place m)) body hot moved dropped some = absurd cc
-same_by (Some Free) (Some (Far len ds m)) body hot moved dropped some = absurd cc
-same_by (Some (Near n d at k)) (Some Free) body hot moved dropped some = absurd cc
-same_by (Some (Near n d at k)) (Some (Far len ds m)) body hot moved dropped some = absurd cc
 same_by (Some (Near n d at k)) (Some (Near len ds place m)) body hot moved dropped some =
     let lens : len ≡ n = cc in
     let dss : ds ≡ d = cc in
@@ -154,14 +153,13 @@ same_by (Some (Near n d at k)) (Some (Near len ds place m)) body hot moved dropp
     let bare : record { hot = false; evac = m.evac; moved = false; dropped = false } ≡ record { hot = false; evac = k.evac; moved = false; dropped = false } = cc in
     let evac : m.evac ≡ k.evac = ap (λ (x : Marks). x.evac) bare in
     λ i. Some (Near (lens i) (dss i) (places i) record { hot = hot i; evac = evac i; moved = moved i; dropped = dropped i })
-same_by (Some (Far n d k)) (Some Free) body hot moved dropped some = absurd cc
-same_by (Some (Far n d k)) (Some (Near len ds place m)) body hot moved dropped some = absurd cc
 same_by (Some (Far n d k)) (Some (Far len ds m)) body hot moved dropped some =
     let lens : len ≡ n = cc in
     let dss : ds ≡ d = cc in
     let bare : record { hot = false; evac = m.evac; moved = false; dropped = false } ≡ record { hot = false; evac = k.evac; moved = false; dropped = false } = cc in
     let evac : m.evac ≡ k.evac = ap (λ (x : Marks). x.evac) bare in
     λ i. Some (Far (lens i) (dss i) record { hot = hot i; evac = evac i; moved = moved i; dropped = dropped i })
+same_by o n body hot moved dropped some = absurd cc
 
 pub some_dropped : (o : Option PtrWord) → is_dropped o ≡ true → IsSome o
 some_dropped None h = absurd (false≢true h)

@@ -1,11 +1,10 @@
 -- A book stays in order where an object moves to another log, or stays where it lies.
 use Rattle.std.proofs.Common.{◌≡◌, ℕ, ◌*◌, ◌^◌, ◌<◌, Bool, true, false, arith, sym, refl, ap, subst, ◌∙◌, Option, Some, List}
-use Rattle.std.specs.Prelude.{◌==◌, bit_or}
-use Rattle.std.proofs.lemmas.Bool.{ne_eqb}
+use Rattle.std.specs.Prelude.{bit_or}
 use Rattle.far_word.specs.declared.mark.Mark.TheVariants.{Dropped}
 use Rattle.far_word.specs.declared.mark.Marks.{Marks}
 use Rattle.far_word.specs.declared.pointer.Place.{Place}
-use Rattle.far_word.specs.declared.pointer.PtrWord.TheVariants.{Free, Near, Far}
+use Rattle.far_word.specs.declared.pointer.PtrWord.TheVariants.{Near, Far}
 use Rattle.far_word.specs.declared.sizes.TheConstants.{CELLS}
 use Rattle.far_word.specs.Mark.{marks_with, position}
 use Rattle.far_word.specs.Pointer.{IsPtr, read_of}
@@ -21,7 +20,7 @@ use Rattle.far_core.specs.laws.Rooms.{IsRoom, RoomIs}
 use Rattle.far_core.specs.state.Law.{Law}
 use Rattle.far_core.specs.state.Room.{room}
 use Rattle.far_core.specs.state.State.{State, put}
-use Rattle.far_core.proofs.Cells.{map_mark, unused}
+use Rattle.far_core.proofs.Cells.{map_mark}
 use Rattle.far_core.proofs.Owing.{keeps}
 use Rattle.far_core.proofs.Put.{put_same}
 use Rattle.far_core.proofs.RoomLaws.{room_right}
@@ -29,17 +28,17 @@ use Rattle.far_book.specs.declared.ledger.Ledger.{Ledger}
 use Rattle.far_hand.specs.Finds.{Finds, body_of}
 use Rattle.far_hand.specs.Quiet.{is_quiet}
 use Rattle.far_book.specs.book.Dealing.{FindsDrop, Leaves}
-use Rattle.far_book.specs.book.Effects.{moved, near_word, order_after, stayed, with_free_cell, with_written_span}
+use Rattle.far_book.specs.book.Effects.{moved, near_word, stayed, with_free_cell, with_written_span}
 use Rattle.far_book.specs.book.FarSide.{HoldsFar, InOrder}
-use Rattle.far_book.specs.book.Ledger.{Notes, MayRetire, MayTake, Takes}
+use Rattle.far_book.specs.book.Ledger.{Notes, MayRetire, Takes}
 use Rattle.far_book.specs.book.Moving.{MayCopy, MayStay}
 use Rattle.far_book.specs.book.Own.{own_part}
 use Rattle.far_book.specs.book.Placeable.{Placeable, with_object}
 use Rattle.far_book.specs.book.Renaming.{seen}
 use Rattle.far_hand.proofs.Finding.{finds_mark}
-use Rattle.far_book.proofs.region.Calls.{free_unplaced, may_take, order_taken, placeable, put_put}
+use Rattle.far_book.proofs.region.Calls.{HasRoom, free_unplaced, placeable, put_put}
 use Rattle.far_book.proofs.region.FarSide.{far_without}
-use Rattle.far_book.proofs.region.Founds.{notes_found, notes_seen}
+use Rattle.far_book.proofs.region.Founds.{near_used, notes_found, notes_seen}
 use Rattle.far_book.proofs.region.InOrders.{found_keeps, headers_keep}
 use Rattle.far_book.proofs.region.Moved.{is_stayed, layout_here, moved_is, named_stays}
 use Rattle.far_book.proofs.region.NotesKept.{notes_placed}
@@ -51,30 +50,31 @@ pub drop_keeps : (s u : State) (ledger : Ledger) (held : ℕ → Option (List �
 drop_keeps s u ledger held is_honest h p x =
     headers_keep (seen s p (u.cell p)) ledger held is_honest (found_keeps s ledger held is_honest h p (u.cell p) x.fits x.found) u x.leaves.is x.leaves.headers
 
-module _ (s : State) (ledger : Ledger) (held : ℕ → Option (List ℕ)) (is_honest : Bool) (h : InOrder s ledger held is_honest)
-    (p len ds : ℕ) (from : Place) (m : Marks) (pointer : p < CELLS * s.mutators) (near : read_of (s.cell p) ≡ Some (Near len ds from m)) where
+-- p's object lies near, in a book that is in order
+pub record LiesIn (s : State) (ledger : Ledger) (held : ℕ → Option (List ℕ)) (is_honest : Bool) (p len ds : ℕ) (from : Place) (m : Marks) : Type 0 where
+  pub order : InOrder s ledger held is_honest
+  pub pointer : p < CELLS * s.mutators
+  pub near : read_of (s.cell p) ≡ Some (Near len ds from m)
+
+module _ {s : State} {ledger : Ledger} {held : ℕ → Option (List ℕ)} {is_honest : Bool} {p len ds : ℕ} {from : Place} {m : Marks} (x : LiesIn s ledger held is_honest p len ds from m) where
   fits : s.cell p < 2 ^ 64
-  fits = (h.notes.law.cells.cell_read p).0
+  fits = (x.order.notes.law.cells.cell_read p).0
 
   layout : IsPtr (Near len ds from m)
-  layout = (read_says (s.cell p) (Near len ds from m) fits near).0
-
-  -- a near word isn't 0
-  pub used : (w n d : ℕ) (at : Place) (k : Marks) → read_of w ≡ Some (Near n d at k) → (w == 0) ≡ false
-  used w n d at k e = ne_eqb w 0 (λ z. let both : Some Free ≡ Some (Near n d at k) = sym unused ∙ (ap read_of (sym z) ∙ e) in absurd cc)
+  layout = (read_says (s.cell p) (Near len ds from m) fits x.near).0
 
   -- ---- the object leaves its span, as if it had been dropped
   abbrev marked : ℕ
   marked = bit_or (s.cell p) (2 ^ position Dropped)
 
   marked_read : read_of marked ≡ Some (Near len ds from (marks_with Dropped m))
-  marked_read = with_mark_read Dropped (s.cell p) (Near len ds from m) fits near refl
+  marked_read = with_mark_read Dropped (s.cell p) (Near len ds from m) fits x.near refl
 
   marked_fits : marked < 2 ^ 64
-  marked_fits = with_mark_fits Dropped (s.cell p) (Near len ds from m) fits near refl
+  marked_fits = with_mark_fits Dropped (s.cell p) (Near len ds from m) fits x.near refl
 
   marked_finds : Finds (s.cell p) marked
-  marked_finds = finds_mark Dropped (s.cell p) marked refl (marked_read ∙ sym (ap (map_mark Dropped) near))
+  marked_finds = finds_mark Dropped (s.cell p) marked refl (marked_read ∙ sym (ap (map_mark Dropped) x.near))
 
   cell_marked : read_of (put s.cell p marked p) ≡ Some (Near len ds from (marks_with Dropped m))
   cell_marked = ap read_of (put_same s.cell p marked p refl) ∙ marked_read
@@ -86,51 +86,57 @@ module _ (s : State) (ledger : Ledger) (held : ℕ → Option (List ℕ)) (is_ho
   freed = with_free_cell dropped p
 
   pub notes_dropped : Notes (own_part dropped) ledger
-  notes_dropped = notes_found s h.notes.law p marked marked_fits marked_finds ledger h.notes
+  notes_dropped = notes_found s x.order.notes.law p marked marked_fits marked_finds ledger x.order.notes
 
   pub may_leave : MayRetire (own_part dropped) p (Near len ds from m)
-  may_leave = record { pointer = pointer; dropped = ap is_dropped cell_marked; is = sym (ap body_of cell_marked) }
+  may_leave = record { pointer = x.pointer; dropped = ap is_dropped cell_marked; is = sym (ap body_of cell_marked) }
 
   -- ---- it takes another
   module _ (to : Place) (found : room s (size_of len) false ≡ Some to) where
     is_room : IsRoom (own_part s) (size_of len) false to
-    is_room = subst (RoomIs (own_part s) (size_of len) false) found (room_right (own_part s) h.notes.law (size_of len) false (omega (arith, layout)))
+    is_room = subst (RoomIs (own_part s) (size_of len) false) found (room_right (own_part s) x.order.notes.law (size_of len) false (omega (arith, layout)))
 
     pub may_copy : is_quiet s.round s.clear p from m ≡ true → MayCopy s p len ds from to
-    may_copy quiet = record { law = h.notes.law; pointer = pointer; marks = m; near = near; quiet = quiet; next = is_room.next; fits = is_room.fits }
+    may_copy quiet = record { law = x.order.notes.law; pointer = x.pointer; marks = m; near = x.near; quiet = quiet; next = is_room.next; fits = is_room.fits }
 
     module _ (left : Ledger) (notes : Notes (own_part freed) left) where
+      pub there : HasRoom freed left p len ds to
+      there = record {
+        notes = notes;
+        pointer = x.pointer;
+        unplaced = free_unplaced freed p (put_same (put s.cell p marked) p 0 p refl);
+        some = omega (arith, layout);
+        most = omega (arith, layout);
+        structure = omega (arith, layout);
+        reserve = false;
+        found = found;
+      }
+
       able : Placeable (own_part freed) p len ds to
-      able = placeable freed left notes p len ds to pointer (free_unplaced freed p (put_same (put s.cell p marked) p 0 p refl)) (omega (arith, layout)) (omega (arith, layout)) (omega (arith, layout)) false found
-
-      pub may_take_then : MayTake left p (size_of len) to
-      may_take_then = may_take freed left notes p len ds to pointer (free_unplaced freed p (put_same (put s.cell p marked) p 0 p refl)) (omega (arith, layout)) (omega (arith, layout)) (omega (arith, layout)) false found
-
-      pub order_carried : (new : Ledger) → Takes left new p (size_of len) to → new.order.items ≡ order_after s left.order.items to
-      order_carried = order_taken freed left notes p len ds to pointer (free_unplaced freed p (put_same (put s.cell p marked) p 0 p refl)) (omega (arith, layout)) (omega (arith, layout)) (omega (arith, layout)) false found
+      able = placeable there
 
       same_cells : put s.cell p (near_word len ds to) ≡ put freed.cell p (near_word len ds to)
       same_cells = sym (ap (λ f. put f p (near_word len ds to)) (put_put s.cell p marked 0) ∙ put_put s.cell p 0 (near_word len ds to))
 
       module _ (u : State) (alive : m.dropped ≡ false) (wanted : m.evac ≡ true) (leaves : Leaves (moved s p to) u) where
         now : moved s p to ≡ with_span (with_written_span s p len ds to (data_at s.word from)) p (near_word len ds to) len to
-        now = moved_is s p len ds from to m near alive wanted able.layout
+        now = moved_is s p len ds from to m x.near alive wanted able.layout
 
         own_moved : own_part u ≡ with_object (own_part freed) p len ds to
-        own_moved = own_headers (moved s p to) u leaves.0 (λ a begun. leaves.1.headers a (ap (λ (x : State). x.starts a) leaves.0 ∙ begun))
+        own_moved = own_headers (moved s p to) u leaves.0 (λ a begun. leaves.1.headers a (ap (λ (v : State). v.starts a) leaves.0 ∙ begun))
             ∙ ap own_part now ∙ (λ i. record (own_part (with_span (with_written_span s p len ds to (data_at s.word from)) p (near_word len ds to) len to)) { cell = same_cells i })
             ∙ own_written freed notes.law p len ds to able (data_at s.word from)
 
         leads : u ≡ record (with_span (with_written_span s p len ds to (data_at s.word from)) p (near_word len ds to) len to) { word = u.word }
-        leads = leaves.0 ∙ ap (λ (x : State). record x { word = u.word }) now
+        leads = leaves.0 ∙ ap (λ (v : State). record v { word = u.word }) now
 
         pub carried : (new : Ledger) → Takes left new p (size_of len) to → InOrder u new held is_honest
         carried new takes = record {
-          notes = subst (λ (x : State). Notes x new) (sym own_moved) (notes_placed (own_part freed) left new notes p len ds to able
+          notes = subst (λ (v : State). Notes v new) (sym own_moved) (notes_placed (own_part freed) left new notes p len ds to able
               (law_then (own_part freed) notes.law p len ds to able (put_same (put s.cell p marked) p 0 p refl)) takes);
-          far = subst (λ (x : State). HoldsFar x held) (sym leads) (far_without s held h.far p (near_word len ds to) held
+          far = subst (λ (v : State). HoldsFar v held) (sym leads) (far_without s held x.order.far p (near_word len ds to) held
               (λ n d k e. let both : Some (Far n d k) ≡ Some (Near len ds to no_marks) = sym e ∙ read_back (Near len ds to no_marks) able.layout in absurd cc) (λ q ne. refl));
-          honest = λ e. h.honest (ap (λ (x : State). x.honest) (sym leads) ∙ e);
+          honest = λ e. x.order.honest (ap (λ (v : State). v.honest) (sym leads) ∙ e);
         }
 
   -- ---- it stays
@@ -148,23 +154,23 @@ module _ (s : State) (ledger : Ledger) (held : ℕ → Option (List ℕ)) (is_ho
     is_bare = is_stayed s p len ds from may fits alive
 
     legal : Legal (own_part s) (events.Name p (s.cell p) bare)
-    legal = (pointer, (Stays, (len, ds, from, may.marks, may.near, sym (ap is_dropped may.near) ∙ alive, may.moved, may.unwanted, bare_read), tt))
+    legal = (x.pointer, (Stays, (len, ds, from, may.marks, may.near, sym (ap is_dropped may.near) ∙ alive, may.moved, may.unwanted, bare_read), tt))
 
     law_bare : Law (own_part (seen s p bare))
     law_bare = subst Law (named_stays (own_part s) p (s.cell p) len ds from may.marks refl may.near (sym (ap is_dropped may.near) ∙ alive) bare_layout may.moved may.unwanted)
-        (keeps (own_part s) (events.Name p (s.cell p) bare) h.notes.law (fits, word_fits (Near len ds from no_marks) bare_layout) legal)
+        (keeps (own_part s) (events.Name p (s.cell p) bare) x.order.notes.law (fits, word_fits (Near len ds from no_marks) bare_layout) legal)
 
     leads_bare : u ≡ record (seen s p bare) { word = u.word }
-    leads_bare = leaves.0 ∙ ap (λ (x : State). record x { word = u.word }) is_bare
+    leads_bare = leaves.0 ∙ ap (λ (v : State). record v { word = u.word }) is_bare
 
     own_stayed : own_part u ≡ own_part (seen s p bare)
-    own_stayed = own_headers (stayed s p) u leaves.0 (λ a begun. leaves.1.headers a (ap (λ (x : State). x.starts a) leaves.0 ∙ begun)) ∙ ap own_part is_bare
+    own_stayed = own_headers (stayed s p) u leaves.0 (λ a begun. leaves.1.headers a (ap (λ (v : State). v.starts a) leaves.0 ∙ begun)) ∙ ap own_part is_bare
 
     pub kept : InOrder u ledger held is_honest
     kept = record {
-      notes = subst (λ (x : State). Notes x ledger) (sym own_stayed)
-          (notes_seen s p bare (λ l at. rw (bare_read, near) refl) (used bare len ds from no_marks bare_read ∙ sym (used (s.cell p) len ds from m near)) ledger law_bare h.notes);
-      far = subst (λ (x : State). HoldsFar x held) (sym leads_bare) (far_without s held h.far p bare held
+      notes = subst (λ (v : State). Notes v ledger) (sym own_stayed)
+          (notes_seen s p bare (λ l at. rw (bare_read, x.near) refl) (near_used bare len ds from no_marks bare_read ∙ sym (near_used (s.cell p) len ds from m x.near)) ledger law_bare x.order.notes);
+      far = subst (λ (v : State). HoldsFar v held) (sym leads_bare) (far_without s held x.order.far p bare held
           (λ n d k e. let both : Some (Far n d k) ≡ Some (Near len ds from no_marks) = sym e ∙ bare_read in absurd cc) (λ q ne. refl));
-      honest = λ e. h.honest (ap (λ (x : State). x.honest) (sym leads_bare) ∙ e);
+      honest = λ e. x.order.honest (ap (λ (v : State). v.honest) (sym leads_bare) ∙ e);
     }

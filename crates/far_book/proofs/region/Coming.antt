@@ -1,5 +1,5 @@
 -- A far object comes near: what is written, what may be named, and what that leaves.
-use Rattle.std.proofs.Common.{◌≡◌, ◌≢◌, ℕ, ◌+◌, ◌-◌, ◌*◌, ◌<◌, ◌≤◌, ◌^◌, true, arith, sym, refl, ap, subst, ◌∙◌, Some, inl, inr}
+use Rattle.std.proofs.Common.{◌≡◌, ℕ, ◌+◌, ◌-◌, ◌*◌, ◌<◌, ◌≤◌, ◌^◌, true, arith, sym, refl, ap, subst, ◌∙◌, Some, inl, inr}
 use Rattle.std.specs.Prelude.{◌⊎◌}
 use Rattle.far_word.specs.declared.mark.Marks.{Marks}
 use Rattle.far_word.specs.declared.pointer.Place.{Place}
@@ -18,27 +18,13 @@ use Rattle.far_core.specs.events.Naming.{is_dropped, no_marks}
 use Rattle.far_core.specs.events.Ranges.{with_row}
 use Rattle.far_core.specs.events.Step.{after}
 use Rattle.far_core.specs.state.State.{State, put, addr}
-use Rattle.far_core.proofs.Put.{put_both, put_same, put_other}
+use Rattle.far_core.proofs.Put.{put_same, put_other}
 use Rattle.far_core.proofs.Rows.{row_in, row_out, row_is}
 use Rattle.far_hand.specs.Finds.{Finds, body_of}
 use Rattle.far_book.specs.book.Effects.{fetched, fetched_of, near_word, with_written_span}
 use Rattle.far_book.specs.book.Placeable.{IsAbsent}
 use Rattle.far_book.specs.book.Renaming.{MayRename, seen}
 use Rattle.far_book.proofs.region.Leaving.{far_cell}
-
--- one word more of a row is written
-pub row_last : (word : ℕ → ℕ) (a n : ℕ) (row : ℕ → ℕ) → put (with_row word a n row) (a + n) (row n) ≡ with_row word a (n + 1) row
-row_last word a n row = row_is word (put (with_row word a n row) (a + n) (row n)) a (n + 1) row
-    (λ k low high. put_both (λ v. v ≡ row (k - a)) (with_row word a n row) (a + n) (row n) k
-    (λ e. let at : n ≡ k - a = omega arith in ap row at) (λ ne. row_in word a n row k low (omega arith)))
-    (λ k out. put_other (with_row word a n row) (a + n) (row n) k (λ e. apart k out e) ∙ row_out word a n row k (behind k out)) where
-      apart : (k : ℕ) → (k < a) ⊎ (a + (n + 1) ≤ k) → k ≢ a + n
-      apart k (inl low) e = omega arith
-      apart k (inr high) e = omega arith
-
-      behind : (k : ℕ) → (k < a) ⊎ (a + (n + 1) ≤ k) → (k < a) ⊎ (a + n ≤ k)
-      behind k (inl low) = inl low
-      behind k (inr high) = inr (omega arith)
 
 -- what is found in a far object's cell is far
 pub far_found : (v w len ds : ℕ) (m : Marks) → Finds v w → read_of v ≡ Some (Far len ds m) → (k : Marks) × (read_of w ≡ Some (Far len ds k))

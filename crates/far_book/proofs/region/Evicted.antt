@@ -119,9 +119,14 @@ module _ (s t u : State) (p w : ℕ) (seen_is : t ≡ seen s p w) (leaves : Leav
         keeps = keeps_then s u v keeps_read forgot starts_same;
       }
 
-  -- in v the cell is free, since another word was found in it
-  module _ (v : State) (x : ℕ) (first : Finds (s.cell p) w) (then : Finds w x) (dropped : is_dropped (read_of x) ≡ true) (kept : v ≡ record (retired (seen u p x) p) { word = v.word })
-      (forgot : Forgets (seen u p x) v) where
+  -- in v the cell is free, since in r another word was found in it
+  module _ (r v : State) (x : ℕ) (first : Finds (s.cell p) w) (then : Finds w x) (dropped : is_dropped (read_of x) ≡ true) (is : r ≡ seen u p x) (freed : v ≡ record (retired r p) { word = v.word }) (forgets : Forgets r v) where
+    kept : v ≡ record (retired (seen u p x) p) { word = v.word }
+    kept = freed ∙ ap (λ (y : State). record (retired y p) { word = v.word }) is
+
+    forgot : Forgets (seen u p x) v
+    forgot = subst (λ (y : State). Forgets y v) is forgets
+
     left : LeavesSpans (seen s p x) (seen u p x)
     left = spans_left (seen s p x) (seen u p x) (ap (λ (y : State). seen y p x) read_is ∙ (λ i. record s { cell = put_put s.cell p w x i; word = u.word }))
         (record { known = keeps_read.known; headers = keeps_read.headers })

@@ -6,7 +6,7 @@ use Rattle.std.specs.Vec.{vec_len, vec_capacity}
 use Rattle.std.proofs.lemmas.Bool.{cases_eq, eq-eqb, ne_eqb, false≢true, lt-ltb}
 use Rattle.far_word.specs.declared.mark.Marks.{Marks}
 use Rattle.far_word.specs.declared.pointer.Place.{Place}
-use Rattle.far_word.specs.declared.pointer.PtrWord.TheVariants.{Free, Near, Far}
+use Rattle.far_word.specs.declared.pointer.PtrWord.TheVariants.{Near, Far}
 use Rattle.far_word.specs.declared.refused.Refused.{Refused}
 use Rattle.far_word.specs.declared.refused.Refused.TheVariants.{Device}
 use Rattle.far_word.specs.declared.sizes.TheConstants.{CELLS, LOG_WORDS}
@@ -50,7 +50,9 @@ use Rattle.far_book.specs.book.Own.{own_part}
 use Rattle.far_book.specs.book.Renaming.{MayRename, Renamed, seen}
 use Rattle.far_hand.proofs.Finding.{IsNearTo, finds_same, near_found}
 use Rattle.far_book.proofs.region.Calls.{put_put}
+use Rattle.far_book.proofs.region.Founds.{near_used}
 use Rattle.far_book.proofs.region.InOrders.{headers_keep}
+use Rattle.far_book.proofs.region.Moved.{quiet_grows}
 use Rattle.far_book.proofs.region.Owns.{own_forgets, own_header}
 use Rattle.far_book.proofs.region.Retires as retires
 use Rattle.far_book.proofs.region.SpanLists.{taken_same}
@@ -122,12 +124,6 @@ module _ (s : State) (p len ds : ℕ) (place : Place) (layout : IsPtr (Far len d
   pub evicted_is : (m : Marks) → read_of (s.cell p) ≡ Some (Near len ds place m) → m.dropped ≡ false → m.evac ≡ true → evicted s p ≡ sent s p len ds place
   evicted_is m near alive evac = ap (evicted_of s p) near ∙ named_far (s.cell p) m refl near alive evac
 
--- what was quiet is quiet, with more marks too
-more_quiet : (m e r c k : Bool) → (m ≡ true → k ≡ true) → (m || (e && r && c)) ≡ true → (k || (e && r && c)) ≡ true
-more_quiet true e r c k up h = rw (up refl) refl
-more_quiet false e r c true up h = refl
-more_quiet false e r c false up h = h
-
 module _ (s : State) (p len ds : ℕ) (place : Place) (h : IsQuietIn s p len ds place) (evac : h.marks.evac ≡ true) (layout : IsPtr (Far len ds no_marks)) where
   module _ (w : ℕ) (f : Finds (s.cell p) w) (alive : is_dropped (read_of w) ≡ false) where
     now : IsNearTo (read_of w) len ds place h.marks.evac
@@ -145,7 +141,7 @@ module _ (s : State) (p len ds : ℕ) (place : Place) (h : IsQuietIn s p len ds 
     quiet_now : IsQuiet (seen s p w) p
     quiet_now =
         let up : h.marks.moved ≡ true → now.marks.moved ≡ true = (λ e. sym (ap (λ o. (marks_in o).moved) now.near) ∙ f.moved (ap (λ o. (marks_in o).moved) h.near ∙ e)) in
-        let more = more_quiet h.marks.moved h.marks.evac (s.round place.log) (s.clear (p / CELLS)) now.marks.moved up h.quiet in
+        let more = quiet_grows h.marks.moved now.marks.moved h.marks.evac (s.round place.log) (s.clear (p / CELLS)) up h.quiet in
         quiet_fact (seen s p w) p (ap (is_quiet_cell (seen s p w) p) cell_now ∙ (ap (λ e. now.marks.moved || (e && s.round place.log && s.clear (p / CELLS))) now.same ∙ more))
 
     knows : IsStored (data_at s.word place) len → KnowsLeaving (seen s p w) w (far_word len ds)
@@ -159,7 +155,7 @@ module _ (s : State) (p len ds : ℕ) (place : Place) (h : IsQuietIn s p len ds 
     after_far = named_far (seen s p w) p len ds place layout w now.marks (put_same s.cell p w p refl) now.near alive_now (now.same ∙ evac)
         ∙ (λ i. record (sent s p len ds place) { cell = put_put s.cell p w (far_word len ds) i })
 
-  pub may_go : p < CELLS * s.mutators → IsStored (data_at s.word place) len → MayRename s p (far_word len ds)
+  may_go : p < CELLS * s.mutators → IsStored (data_at s.word place) len → MayRename s p (far_word len ds)
   may_go pointer words w fits f alive = ((pointer, (naming.Evicts len place, form w f alive, quiet_now w f alive)), knows w f alive words)
 
   -- by the word that is known
@@ -168,7 +164,7 @@ module _ (s : State) (p len ds : ℕ) (place : Place) (h : IsQuietIn s p len ds 
       let same : seen s p (s.cell p) ≡ s = (λ i. record s { cell = put_old s.cell p (s.cell p) refl i }) in
       (pointer, (naming.Evicts len place, form (s.cell p) (finds_same (s.cell p)) alive, subst (λ (u : State). IsQuiet u p) same (quiet_now (s.cell p) (finds_same (s.cell p)) alive)))
 
-  pub renamed_far : (t : State) → Renamed s t p (far_word len ds) → t ≡ record (sent s p len ds place) { word = t.word }
+  renamed_far : (t : State) → Renamed s t p (far_word len ds) → t ≡ record (sent s p len ds place) { word = t.word }
   renamed_far t r = r.leads ∙ ap (λ (u : State). record u { word = t.word }) (after_far r.word r.found r.alive)
 
 -- what the word that was found says of its marks
@@ -180,22 +176,31 @@ module _ (s : State) (p len ds : ℕ) (place : Place) (h : IsQuietIn s p len ds 
   alive_here e = sym (ap is_dropped (ap read_of is ∙ h.near)) ∙ e
 
 -- ---- the law, and what is live
-module _ (s : State) (law : Law (own_part s)) (p len ds : ℕ) (place : Place) (h : IsQuietIn s p len ds place) (evac : h.marks.evac ≡ true) (alive : h.marks.dropped ≡ false) (pointer : p < CELLS * s.mutators) where
+-- p's object is quiet, has EVAC, and wasn't dropped; its words are known
+pub record MayLeave (s : State) (p len ds : ℕ) (place : Place) : Type 0 where
+  pub law : Law (own_part s)
+  pub quiet : IsQuietIn s p len ds place
+  pub evac : quiet.marks.evac ≡ true
+  pub alive : quiet.marks.dropped ≡ false
+  pub pointer : p < CELLS * s.mutators
+  pub words : IsStored (data_at s.word place) len
+
+module _ {s : State} {p len ds : ℕ} {place : Place} (x : MayLeave s p len ds place) where
   pub far_layout : IsPtr (Far len ds no_marks)
-  far_layout = let l = layout s law p len ds place h in (l.0, l.1, l.2, refl)
+  far_layout = let l = layout s x.law p len ds place x.quiet in (l.0, l.1, l.2, refl)
 
   abbrev o : State
   o = own_part s
 
   abbrev own_quiet : IsQuietIn o p len ds place
-  own_quiet = record { marks = h.marks; near = h.near; quiet = h.quiet }
+  own_quiet = record { marks = x.quiet.marks; near = x.quiet.near; quiet = x.quiet.quiet }
 
   law_named : Law (sent o p len ds place)
   law_named =
-      let dropped : is_dropped (read_of (s.cell p)) ≡ false = ap is_dropped h.near ∙ alive in
-      let legal = may_name_far o p len ds place own_quiet evac far_layout dropped pointer in
-      subst Law (named_far o p len ds place far_layout (s.cell p) h.marks refl h.near alive evac)
-      (keeps o (events.Name p (s.cell p) (far_word len ds)) law ((law.cells.cell_read p).0, word_fits (Far len ds no_marks) far_layout) legal)
+      let dropped : is_dropped (read_of (s.cell p)) ≡ false = ap is_dropped x.quiet.near ∙ x.alive in
+      let legal = may_name_far o p len ds place own_quiet x.evac far_layout dropped x.pointer in
+      subst Law (named_far o p len ds place far_layout (s.cell p) x.quiet.marks refl x.quiet.near x.alive x.evac)
+      (keeps o (events.Name p (s.cell p) (far_word len ds)) x.law ((x.law.cells.cell_read p).0, word_fits (Far len ds no_marks) far_layout) legal)
 
   abbrev away : ℕ → ℕ
   away = with_kept s.word s.stored p (addr place + 1) (words_for len)
@@ -203,30 +208,29 @@ module _ (s : State) (law : Law (own_part s)) (p len ds : ℕ) (place : Place) (
   away_is : (i : ℕ) → i < words_for len → away i ≡ s.word (addr place + 1 + i)
   away_is i lt = ap (λ b. cond b (s.word (addr place + 1 + i)) (s.stored p i)) (lt-ltb i (words_for len) lt)
 
-  module _ (words : IsStored (data_at s.word place) len) where
-    stores : StoresBack away (read_of (far_word len ds))
-    stores n d k is =
-        let both : Some (Far len ds no_marks) ≡ Some (Far n d k) = sym (far_says len ds far_layout) ∙ is in
-        let lens : len ≡ n = cc in
-        subst (IsStored away) lens (λ i lt. subst (λ w. (w < 2 ^ 64) × (w < 2 ^ (8 * (len - 8 * i)))) (sym (away_is i lt)) (words i lt))
+  stores : StoresBack away (read_of (far_word len ds))
+  stores n d k is =
+      let both : Some (Far len ds no_marks) ≡ Some (Far n d k) = sym (far_says len ds far_layout) ∙ is in
+      let lens : len ≡ n = cc in
+      subst (IsStored away) lens (λ i lt. subst (λ w. (w < 2 ^ 64) × (w < 2 ^ (8 * (len - 8 * i)))) (sym (away_is i lt)) (x.words i lt))
 
-    law_sent : Law (own_part (sent s p len ds place))
-    law_sent = record {
-      shape = law_named.shape;
-      cells = record {
-        cell_read = law_named.cells.cell_read;
-        cell_range = law_named.cells.cell_range;
-        cell_near = law_named.cells.cell_near;
-        cell_far = λ q. put_two (λ w (r : ℕ → ℕ). StoresBack r (read_of w)) s.cell s.stored p (far_word len ds) away q (λ _. stores) (λ _. law.cells.cell_far q);
-      };
-      spans = law_named.spans;
-      logs = law_named.logs;
-      scopes = law_named.scopes;
-      views = law_named.views;
-      rounds = law_named.rounds;
-      clears = law_named.clears;
-      unadopted = λ e. absurd (false≢true e);
-    }
+  law_sent : Law (own_part (sent s p len ds place))
+  law_sent = record {
+    shape = law_named.shape;
+    cells = record {
+      cell_read = law_named.cells.cell_read;
+      cell_range = law_named.cells.cell_range;
+      cell_near = law_named.cells.cell_near;
+      cell_far = λ q. put_two (λ w (r : ℕ → ℕ). StoresBack r (read_of w)) s.cell s.stored p (far_word len ds) away q (λ _. stores) (λ _. x.law.cells.cell_far q);
+    };
+    spans = law_named.spans;
+    logs = law_named.logs;
+    scopes = law_named.scopes;
+    views = law_named.views;
+    rounds = law_named.rounds;
+    clears = law_named.clears;
+    unadopted = λ e. absurd (false≢true e);
+  }
 
   spans_sent : (l : ℕ) → spans_of (own_part (sent s p len ds place)) l ≡ spans_of (with_free_cell o p) l
   unfolding spans_of
@@ -239,34 +243,31 @@ module _ (s : State) (law : Law (own_part s)) (p len ds : ℕ) (place : Place) (
       (λ _. rw (far_says len ds far_layout, unused) refl) (λ _. refl))
 
   live_here : live_bytes (own_part (sent s p len ds place)) place.log + bytes_taken len ≡ live_bytes o place.log
-  live_here = ap (λ n. n + bytes_taken len) (live_sent place.log) ∙ retires.live_here o law p len ds place h.marks h.near
+  live_here = ap (λ n. n + bytes_taken len) (live_sent place.log) ∙ retires.live_here o x.law p len ds place x.quiet.marks x.quiet.near
 
   live_there : (l : ℕ) → l ≢ place.log → live_bytes (own_part (sent s p len ds place)) l ≡ live_bytes o l
-  live_there l ne = live_sent l ∙ retires.live_there o law p len ds place h.marks h.near l ne
+  live_there l ne = live_sent l ∙ retires.live_there o x.law p len ds place x.quiet.marks x.quiet.near l ne
 
   -- ---- the ledger
   module _ (ledger : Ledger) (notes : Notes o ledger) where
     inside : place.log < s.logs
-    inside = (near_inside o law p len ds place h.marks h.near).0
+    inside = (near_inside o x.law p len ds place x.quiet.marks x.quiet.near).0
 
     pub loses_log : place.log < vec_len ledger.filled
     loses_log = omega (arith, inside, notes.logs)
 
     pub loses_size : size_of len ≤ LOG_WORDS
-    loses_size = omega (arith, layout s law p len ds place h)
+    loses_size = omega (arith, layout s x.law p len ds place x.quiet)
 
     pub loses_live : 8 * size_of len ≤ (filled_of ledger place.log).live
-    loses_live = omega (arith, retires.live_here o law p len ds place h.marks h.near, notes.lives place.log inside)
-
-    was_used : (s.cell p == 0) ≡ false
-    was_used = ne_eqb (s.cell p) 0 (λ z. let both : Some Free ≡ Some (Near len ds place h.marks) = sym unused ∙ (ap read_of (sym z) ∙ h.near) in absurd cc)
+    loses_live = omega (arith, retires.live_here o x.law p len ds place x.quiet.marks x.quiet.near, notes.lives place.log inside)
 
     is_used : (far_word len ds == 0) ≡ false
     is_used = ne_eqb (far_word len ds) 0 (λ z. omega arith)
 
-    notes_sent : IsStored (data_at s.word place) len → (new : Ledger) → Loses ledger new place.log (size_of len) → Notes (own_part (sent s p len ds place)) new
-    notes_sent words new loses = record {
-      law = law_sent words;
+    notes_sent : (new : Ledger) → Loses ledger new place.log (size_of len) → Notes (own_part (sent s p len ds place)) new
+    notes_sent new loses = record {
+      law = law_sent;
       current = ap (λ (l : Ledger). l.current) loses.rest ∙ notes.current;
       free = λ l few. ap (λ (n : Ledger). has n.free_logs l) loses.rest ∙ notes.free l few;
       logs = loses.logs ∙ notes.logs;
@@ -285,8 +286,16 @@ module _ (s : State) (law : Law (own_part s)) (p len ds : ℕ) (place : Place) (
       room = subst (λ (n : Ledger). s.logs ≤ vec_capacity n.order) (sym loses.rest) notes.room;
       cells = ap (λ (n : Ledger). vec_len n.free_cells) loses.rest ∙ notes.cells;
       cell = λ q lt. ap (λ (n : Ledger). is_noted_free n q) loses.rest ∙ notes.cell q lt ∙ put_both (λ c. (s.cell q == 0) ≡ (c == 0)) s.cell p (far_word len ds) q
-          (λ e. ap (λ k. s.cell k == 0) e ∙ was_used ∙ sym is_used) (λ _. refl);
+          (λ e. ap (λ k. s.cell k == 0) e ∙ near_used (s.cell p) len ds place x.quiet.marks x.quiet.near ∙ sym is_used) (λ _. refl);
     }
+
+  -- ---- the naming
+  pub may_go_far : MayRename s p (far_word len ds)
+  may_go_far = may_go s p len ds place x.quiet x.evac far_layout x.pointer x.words
+
+  pub evicted_by : (t : State) → Renamed s t p (far_word len ds) → t ≡ record (evicted s p) { word = t.word }
+  evicted_by t renamed = renamed_far s p len ds place x.quiet x.evac far_layout t renamed
+      ∙ ap (λ (u : State). record u { word = t.word }) (sym (evicted_is s p len ds place far_layout x.quiet.marks x.quiet.near x.alive x.evac))
 
   -- ---- the far side
   held_sent : (held : ℕ → Option (List ℕ)) → HoldsFar s held → held p ≡ Some (bytes_of (data_at s.word place) len) → HoldsFar (sent s p len ds place) held
@@ -296,13 +305,13 @@ module _ (s : State) (law : Law (own_part s)) (p len ds : ℕ) (place : Place) (
       ap held e ∙ here ∙ ap (λ (bs : List ℕ). Some bs) (bytes_of-same (data_at s.word place) away len (λ i lt. sym (away_is i lt))) ∙ ap (λ k. Some (bytes_of away k)) lens)
       (λ _ is. far q n d m is)
 
-  pub far_order : (t : State) (ledger new : Ledger) (held : ℕ → Option (List ℕ)) (is_honest : Bool) → InOrder s ledger held is_honest → IsStored (data_at s.word place) len →
+  pub far_order : (t : State) (ledger new : Ledger) (held : ℕ → Option (List ℕ)) (is_honest : Bool) → InOrder s ledger held is_honest →
       held p ≡ Some (bytes_of (data_at s.word place) len) → Renamed s t p (far_word len ds) → Loses ledger new place.log (size_of len) → InOrder t new held is_honest
-  far_order t ledger new held is_honest order words here renamed loses =
-      let is = renamed_far s p len ds place h evac far_layout t renamed in
+  far_order t ledger new held is_honest order here renamed loses =
+      let is = renamed_far s p len ds place x.quiet x.evac far_layout t renamed in
       let own = own_forgets (sent s p len ds place) t is (record { known = renamed.forgot.known; headers = renamed.forgot.headers }) in
       record {
-        notes = subst (λ (u : State). Notes u new) (sym own) (notes_sent ledger order.notes words new loses);
+        notes = subst (λ (u : State). Notes u new) (sym own) (notes_sent ledger order.notes new loses);
         far = subst (λ (u : State). HoldsFar u held) (sym is) (held_sent held order.far here);
         honest = λ e. order.honest (ap (λ (u : State). u.honest) (sym is) ∙ e);
       }

@@ -1,7 +1,9 @@
 -- A word is found in a cell, with marks that its owner may have added: the law stays, and a ledger that was right.
-use Rattle.std.proofs.Common.{◌≡◌, ◌≢◌, ℕ, ◌<◌, ◌^◌, true, cond, sym, refl, ap, subst, ◌∙◌, Option, Some, None, inl, inr}
+use Rattle.std.proofs.Common.{◌≡◌, ◌≢◌, ℕ, ◌<◌, ◌^◌, true, false, cond, sym, refl, ap, subst, ◌∙◌, Option, Some, None, inl, inr}
 use Rattle.std.specs.Prelude.{◌==◌, IsSome}
 use Rattle.std.proofs.lemmas.Bool.{cases_eq, cond_both, eqb-true, eq-eqb, ne_eqb, false≢true, true≢false, false_from_ne_true}
+use Rattle.far_word.specs.declared.mark.Marks.{Marks}
+use Rattle.far_word.specs.declared.pointer.Place.{Place}
 use Rattle.far_word.specs.declared.pointer.PtrWord.{PtrWord}
 use Rattle.far_word.specs.declared.pointer.PtrWord.TheVariants.{Free, Near, Far}
 use Rattle.far_word.specs.Pointer.{read_of, names_object, near_fits, near_of, far_fits, far_of}
@@ -26,22 +28,16 @@ use Rattle.far_book.proofs.region.SpanLists.{taken_same}
 
 -- ---- what a word that is found shares with the one that was known
 drop_mark : (o : Option PtrWord) → is_dropped o ≡ (marks_in o).dropped
-drop_mark None = refl
 drop_mark (Some Free) = refl
-drop_mark (Some (Near len ds place m)) = refl
-drop_mark (Some (Far len ds m)) = refl
+drop_mark o = refl
 
 same_body : (o : Option PtrWord) → cells.body (body_of o) ≡ cells.body o
-same_body None = refl
 same_body (Some Free) = refl
-same_body (Some (Near len ds place m)) = refl
-same_body (Some (Far len ds m)) = refl
+same_body o = refl
 
 same_names : (o : Option PtrWord) (l at : ℕ) → names_place (body_of o) l at ≡ names_place o l at
-same_names None l at = refl
 same_names (Some Free) l at = refl
-same_names (Some (Near len ds place m)) l at = refl
-same_names (Some (Far len ds m)) l at = refl
+same_names o l at = refl
 
 free_body : (o : Option PtrWord) → body_of o ≡ Some Free → o ≡ Some Free
 free_body None e = absurd cc
@@ -61,6 +57,9 @@ not_free w ne = cond_both (w == 0) (Some Free) (cond (names_object w) (cond (is_
 
 pub only_zero : (w : ℕ) → read_of w ≡ Some Free → w ≡ 0
 only_zero w e = elim (cases_eq w 0) [ inl is ↦ is | inr ne ↦ absurd (not_free w ne e) ]
+
+pub near_used : (w len ds : ℕ) (place : Place) (m : Marks) → read_of w ≡ Some (Near len ds place m) → (w == 0) ≡ false
+near_used w len ds place m e = ne_eqb w 0 (λ z. let both : Some Free ≡ Some (Near len ds place m) = sym unused ∙ (ap read_of (sym z) ∙ e) in absurd cc)
 
 module _ (v w : ℕ) (f : Finds v w) where
   pub drop_found : is_dropped (read_of v) ≡ true → is_dropped (read_of w) ≡ true

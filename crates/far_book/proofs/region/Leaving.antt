@@ -22,16 +22,12 @@ use Rattle.far_book.proofs.region.Retires as retires
 
 -- what the cell says, by what was known of it
 near_cell : (o : Option PtrWord) (len ds : ℕ) (place : Place) (m : Marks) → body_of (Some (Near len ds place m)) ≡ body_of o → (k : Marks) × (o ≡ Some (Near len ds place k))
-near_cell None len ds place m e = absurd cc
-near_cell (Some Free) len ds place m e = absurd cc
 near_cell (Some (Near n d at k)) len ds place m e = let lens : n ≡ len = cc in let dss : d ≡ ds = cc in let ats : at ≡ place = cc in (k, cc)
-near_cell (Some (Far n d k)) len ds place m e = absurd cc
+near_cell o len ds place m e = absurd cc
 
 pub far_cell : (o : Option PtrWord) (len ds : ℕ) (m : Marks) → body_of (Some (Far len ds m)) ≡ body_of o → (k : Marks) × (o ≡ Some (Far len ds k))
-far_cell None len ds m e = absurd cc
-far_cell (Some Free) len ds m e = absurd cc
-far_cell (Some (Near n d at k)) len ds m e = absurd cc
 far_cell (Some (Far n d k)) len ds m e = let lens : n ≡ len = cc in let dss : d ≡ ds = cc in (k, cc)
+far_cell o len ds m e = absurd cc
 
 free_cell : (o : Option PtrWord) → body_of (Some Free) ≡ body_of o → is_dropped o ≡ true → ⊥
 free_cell None e d = false≢true d

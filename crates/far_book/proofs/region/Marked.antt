@@ -1,11 +1,7 @@
 -- EVAC is set on an object of a sealed log: a book stays in order.
-use Rattle.std.proofs.Common.{◌≡◌, ℕ, ◌<◌, ◌^◌, Bool, false, refl, sym, ap, ◌∙◌, subst, Option, Some, List}
-use Rattle.std.specs.Prelude.{◌==◌}
-use Rattle.std.proofs.lemmas.Bool.{ne_eqb}
+use Rattle.std.proofs.Common.{◌≡◌, ℕ, ◌<◌, ◌^◌, Bool, refl, sym, ap, ◌∙◌, subst, Option, Some, List}
 use Rattle.far_word.specs.declared.mark.Mark.TheVariants.{Evac}
-use Rattle.far_word.specs.declared.mark.Marks.{Marks}
-use Rattle.far_word.specs.declared.pointer.Place.{Place}
-use Rattle.far_word.specs.declared.pointer.PtrWord.TheVariants.{Free, Near, Far}
+use Rattle.far_word.specs.declared.pointer.PtrWord.TheVariants.{Near, Far}
 use Rattle.far_word.specs.Mark.{marks_with}
 use Rattle.far_word.specs.Pointer.{read_of}
 use Rattle.far_word.proofs.PointerLaws.{with_mark_read}
@@ -13,7 +9,6 @@ use Rattle.far_core.specs.declared.event.Event.TheVariants.{Mark}
 use Rattle.far_core.specs.events.Legal.{Legal}
 use Rattle.far_core.specs.state.Spans.{names_place}
 use Rattle.far_core.specs.state.State.{State, put}
-use Rattle.far_core.proofs.Cells.{unused}
 use Rattle.far_core.proofs.Owing.{keeps}
 use Rattle.far_core.proofs.Put.{put_same}
 use Rattle.far_book.specs.declared.ledger.Ledger.{Ledger}
@@ -24,7 +19,7 @@ use Rattle.far_hand.proofs.EvacMarks.{with_evac}
 use Rattle.far_book.proofs.region.Calls.{put_put}
 use Rattle.far_book.proofs.region.FarSide.{far_without}
 use Rattle.far_hand.proofs.Finding.{near_found}
-use Rattle.far_book.proofs.region.Founds.{notes_seen}
+use Rattle.far_book.proofs.region.Founds.{near_used, notes_seen}
 use Rattle.far_book.proofs.region.InOrders.{found_keeps}
 
 module _ (s : State) (ledger : Ledger) (held : ℕ → Option (List ℕ)) (is_honest : Bool) (h : InOrder s ledger held is_honest) (p : ℕ) (legal : Legal s (Mark p)) where
@@ -34,14 +29,10 @@ module _ (s : State) (ledger : Ledger) (held : ℕ → Option (List ℕ)) (is_ho
   same_names : (l at : ℕ) → names_place (read_of (with_evac (s.cell p))) l at ≡ names_place (read_of (s.cell p)) l at
   same_names l at = rw (near, legal.1.4) refl
 
-  -- neither word says that the cell is free
-  used : (w len ds : ℕ) (place : Place) (m : Marks) → read_of w ≡ Some (Near len ds place m) → (w == 0) ≡ false
-  used w len ds place m e = ne_eqb w 0 (λ z. let both : Some Free ≡ Some (Near len ds place m) = sym unused ∙ (ap read_of (sym z) ∙ e) in absurd cc)
-
   pub marked : InOrder (record s { cell = put s.cell p (with_evac (s.cell p)) }) ledger held is_honest
   marked = record {
     notes = notes_seen s p (with_evac (s.cell p)) same_names
-        (used (with_evac (s.cell p)) legal.1.0 legal.1.1 legal.1.2 (marks_with Evac legal.1.3) near ∙ sym (used (s.cell p) legal.1.0 legal.1.1 legal.1.2 legal.1.3 legal.1.4))
+        (near_used (with_evac (s.cell p)) legal.1.0 legal.1.1 legal.1.2 (marks_with Evac legal.1.3) near ∙ sym (near_used (s.cell p) legal.1.0 legal.1.1 legal.1.2 legal.1.3 legal.1.4))
         ledger (keeps (own_part s) (Mark p) h.notes.law tt legal) h.notes;
     far = far_without s held h.far p (with_evac (s.cell p)) held (λ n d m e. let both : Some (Far n d m) ≡ Some (Near legal.1.0 legal.1.1 legal.1.2 (marks_with Evac legal.1.3)) = sym e ∙ near in absurd cc) (λ q ne. refl);
     honest = h.honest;

@@ -68,7 +68,7 @@ pub stayed_is : (s : State) (p len ds : ℕ) (place : Place) (m : Marks) → rea
 stayed_is s p len ds place m near alive asked unwanted layout = ap (stayed_of s p) near ∙ named_stays s p (s.cell p) len ds place m refl near alive layout asked unwanted
 
 -- MOVE stays where it was, so what was quiet is
-quiet_grows : (m k e r c : Bool) → (m ≡ true → k ≡ true) → (m || (e && r && c)) ≡ true → (k || (e && r && c)) ≡ true
+pub quiet_grows : (m k e r c : Bool) → (m ≡ true → k ≡ true) → (m || (e && r && c)) ≡ true → (k || (e && r && c)) ≡ true
 quiet_grows true k e r c grows h = rw (grows refl) refl
 quiet_grows false true e r c grows h = refl
 quiet_grows false false e r c grows h = h

@@ -252,56 +252,65 @@ module _ (s r u : State) (q w : ℕ) (noted : u ≡ record r { cell = put r.cell
   kept_once kept = noted ∙ (λ i. record r { cell = sym (ap (λ (v : State). v.cell) noted) i }) ∙ ap (λ (v : State). record v { cell = u.cell }) kept
 
 -- s is the state at first, t the one at the boundary, r once the header is read, u once the cell was found
-module _ (s t r u : State) (law : Law (own_part s)) (l at : ℕ) (below : at < s.tail l) (begins : s.starts (l * LOG_WORDS + at) ≡ true)
-    (kept : t ≡ record s { cell = t.cell }) (found : (p : ℕ) → Finds (s.cell p) (t.cell p)) (same : r ≡ t)
-    (x : Span) (is : x ≡ span_at (word_in t l) at) (w : ℕ) (seen : Finds (r.cell x.p) w) (noted : u ≡ record r { cell = put r.cell x.p w }) where
+pub record Step (s t r u : State) (l at : ℕ) (x : Span) (w : ℕ) : Type 0 where
+  pub law : Law (own_part s)
+  pub below : at < s.tail l
+  pub begins : s.starts (l * LOG_WORDS + at) ≡ true
+  pub kept : t ≡ record s { cell = t.cell }
+  pub found : (p : ℕ) → Finds (s.cell p) (t.cell p)
+  pub same : r ≡ t
+  pub is : x ≡ span_at (word_in t l) at
+  pub seen : Finds (r.cell x.p) w
+  pub noted : u ≡ record r { cell = put r.cell x.p w }
+
+module _ {s t r u : State} {l at : ℕ} {x : Span} {w : ℕ} (h : Step s t r u l at x w) where
   here_is : span_at (word_in s l) at ≡ x
-  here_is = sym (is ∙ ap (λ (v : State). span_at (word_in v l) at) kept)
+  here_is = sym (h.is ∙ ap (λ (v : State). span_at (word_in v l) at) h.kept)
 
   finds : Finds (s.cell x.p) w
-  finds = finds_more (s.cell x.p) (t.cell x.p) w (found x.p) (subst (λ (v : State). Finds (v.cell x.p) w) same seen)
+  finds = finds_more (s.cell x.p) (t.cell x.p) w (h.found x.p) (subst (λ (v : State). Finds (v.cell x.p) w) h.same h.seen)
 
   pub found_more : (p : ℕ) → Finds (s.cell p) (u.cell p)
-  found_more = found_once s r u x.p w noted (λ p. subst (λ (v : State). Finds (s.cell p) (v.cell p)) (sym same) (found p)) seen
+  found_more = found_once s r u x.p w h.noted (λ p. subst (λ (v : State). Finds (s.cell p) (v.cell p)) (sym h.same) (h.found p)) h.seen
 
   -- the cell that was found anew is named by the header here
   pub named_here : (first : ℕ) → first ≤ at → IsNamedBetween s l first (at + size_of x.len) x.p
   named_here first low =
-      let in_list : Contains (spans_of s l) x = subst (Contains (spans_of s l)) here_is (member s law l at below begins) in
-      let place : x.at ≡ at = ap (λ (y : Span). y.at) is in
+      let in_list : Contains (spans_of s l) x = subst (Contains (spans_of s l)) here_is (member s h.law l at h.below h.begins) in
+      let place : x.at ≡ at = ap (λ (y : Span). y.at) h.is in
       (x, in_list, refl, omega (arith, low, place), omega (arith, place))
 
   pub others_more : (first : ℕ) → first ≤ at → (p : ℕ) → IsNamedBetween s l first at p ⊎ (t.cell p ≡ s.cell p) → IsNamedBetween s l first (at + size_of x.len) p ⊎ (u.cell p ≡ s.cell p)
   others_more first low p (inl named) = inl (named_more s l first at (at + size_of x.len) p (omega arith) named)
-  others_more first low p (inr as_before) = subst (λ (v : ℕ). IsNamedBetween s l first (at + size_of x.len) p ⊎ (v ≡ s.cell p)) (ap (λ (v : State). v.cell p) (sym noted))
+  others_more first low p (inr as_before) = subst (λ (v : ℕ). IsNamedBetween s l first (at + size_of x.len) p ⊎ (v ≡ s.cell p)) (ap (λ (v : State). v.cell p) (sym h.noted))
       (put_both (λ (v : ℕ). IsNamedBetween s l first (at + size_of x.len) p ⊎ (v ≡ s.cell p)) r.cell x.p w p
       (λ e. inl (subst (IsNamedBetween s l first (at + size_of x.len)) (sym e) (named_here first low)))
-      (λ _. inr (ap (λ (v : State). v.cell p) same ∙ as_before)))
+      (λ _. inr (ap (λ (v : State). v.cell p) h.same ∙ as_before)))
 
   pub kept_more : u ≡ record s { cell = u.cell }
-  kept_more = kept_once s r u x.p w noted (subst (λ (v : State). v ≡ record s { cell = v.cell }) (sym same) kept)
+  kept_more = kept_once s r u x.p w h.noted (subst (λ (v : State). v ≡ record s { cell = v.cell }) (sym h.same) h.kept)
 
   pub here_reads : IsSome (read_of w)
-  here_reads = some_found (s.cell x.p) w finds (law.cells.cell_read x.p).1
+  here_reads = some_found (s.cell x.p) w finds (h.law.cells.cell_read x.p).1
 
   live_is : is_live s l x ≡ names_place (read_of w) l at
-  live_is = sym (names_found (s.cell x.p) w finds l x.at) ∙ ap (λ n. names_place (read_of w) l n) (ap (λ (y : Span). y.at) is)
+  live_is = sym (names_found (s.cell x.p) w finds l x.at) ∙ ap (λ n. names_place (read_of w) l n) (ap (λ (y : Span). y.at) h.is)
 
   pub here_live : names_place (read_of w) l at ≡ true → live_from s l at ≡ x ∷ live_from s l (x.at + size_of x.len)
-  here_live h = subst (λ (y : Span). live_from s l at ≡ cond (is_live s l y) (y ∷ live_from s l (y.at + size_of y.len)) (live_from s l (y.at + size_of y.len))) here_is (step s law l at below begins)
-      ∙ ap (λ b. cond b (x ∷ live_from s l (x.at + size_of x.len)) (live_from s l (x.at + size_of x.len))) (live_is ∙ h)
+  here_live names = subst (λ (y : Span). live_from s l at ≡ cond (is_live s l y) (y ∷ live_from s l (y.at + size_of y.len)) (live_from s l (y.at + size_of y.len))) here_is (step s h.law l at h.below h.begins)
+      ∙ ap (λ b. cond b (x ∷ live_from s l (x.at + size_of x.len)) (live_from s l (x.at + size_of x.len))) (live_is ∙ names)
 
   pub here_dead : names_place (read_of w) l at ≡ false → live_from s l at ≡ live_from s l (at + size_of x.len)
-  here_dead h = subst (λ (y : Span). live_from s l at ≡ cond (is_live s l y) (y ∷ live_from s l (at + size_of y.len)) (live_from s l (at + size_of y.len))) here_is (step s law l at below begins)
-      ∙ ap (λ b. cond b (x ∷ live_from s l (at + size_of x.len)) (live_from s l (at + size_of x.len))) (live_is ∙ h)
+  here_dead names = subst (λ (y : Span). live_from s l at ≡ cond (is_live s l y) (y ∷ live_from s l (at + size_of y.len)) (live_from s l (at + size_of y.len))) here_is (step s h.law l at h.below h.begins)
+      ∙ ap (λ b. cond b (x ∷ live_from s l (at + size_of x.len)) (live_from s l (at + size_of x.len))) (live_is ∙ names)
 
   pub here_next : IsBoundary s l (at + size_of x.len)
-  here_next = subst (λ (y : Span). IsBoundary s l (at + size_of y.len)) here_is (next_boundary s law l at below begins)
+  here_next = subst (λ (y : Span). IsBoundary s l (at + size_of y.len)) here_is (next_boundary s h.law l at h.below h.begins)
 
   pub here_lies : names_place (read_of w) l at ≡ true → IsHomeOf u l x
-  here_lies h =
-      let mutators : u.mutators ≡ s.mutators = ap (λ (v : State). v.mutators) noted ∙ ap (λ (v : State). v.mutators) same ∙ ap (λ (v : State). v.mutators) kept in
-      home_found s u l x (subst (λ (y : Span). is_live s l y ≡ true → IsHomeOf s l y) here_is (is_home s law l at below begins) (live_is ∙ h)) mutators (found_more x.p)
+  here_lies names =
+      let mutators : u.mutators ≡ s.mutators = ap (λ (v : State). v.mutators) h.noted ∙ ap (λ (v : State). v.mutators) h.same ∙ ap (λ (v : State). v.mutators) h.kept in
+      home_found s u l x (subst (λ (y : Span). is_live s l y ≡ true → IsHomeOf s l y) here_is (is_home s h.law l at h.below h.begins) (live_is ∙ names)) mutators (found_more x.p)
 
 -- ---- laws
 pub lives_from_start : LivesFromStart

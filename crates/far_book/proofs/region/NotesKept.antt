@@ -34,6 +34,10 @@ use Rattle.far_book.specs.book.Placeable.{Placeable, with_object}
 use Rattle.far_book.proofs.region.Places as places
 use Rattle.far_book.proofs.region.Retires as retires
 
+or_false : (b : Bool) → (b || false) ≡ b
+or_false true = refl
+or_false false = refl
+
 -- ---- the sealed logs are fewer than all
 module _ (s : State) (ledger : Ledger) (notes : Notes s ledger) where
   current_inside : s.current < s.logs
@@ -54,10 +58,6 @@ module _ (s : State) (ledger : Ledger) (notes : Notes s ledger) where
     | inr ne ↦ sealed_inside (s.kind q) q refl (sym (notes.sealed q) ∙ (
         let both : list_any (eqb q) ledger.order.items ≡ list_any (eqb q) (ledger.order.items ++ s.current ∷ []) = sym (list_any-append (eqb q) ledger.order.items (s.current ∷ []) ∙ last q ne) in both ∙ h))
   ] where
-    or_false : (b : Bool) → (b || false) ≡ b
-    or_false true = refl
-    or_false false = refl
-
     last : (l : ℕ) → l ≢ s.current → (list_any (eqb l) ledger.order.items || list_any (eqb l) (s.current ∷ [])) ≡ list_any (eqb l) ledger.order.items
     last l ne = ap (λ b. list_any (eqb l) ledger.order.items || (b || false)) (ne_eqb l s.current ne) ∙ or_false (list_any (eqb l) ledger.order.items)
 
@@ -69,10 +69,6 @@ pub order_inside : (s : State) (ledger : Ledger) → Notes s ledger → (i : ℕ
 order_inside s ledger notes i lt =
     let l = slice_index_or ledger.order.items i 0 in
     sealed_inside s ledger notes (s.kind l) l refl (sym (notes.sealed l) ∙ list_any_at (eqb l) ledger.order.items i 0 lt (eq-eqb l l refl))
-
-or_false : (b : Bool) → (b || false) ≡ b
-or_false true = refl
-or_false false = refl
 
 and_false : (b : Bool) → (b && false) ≡ false
 and_false true = refl

@@ -1,10 +1,6 @@
 -- What a round's steps leave of a book: it stays in order.
-use Rattle.std.proofs.Common.{◌≡◌, ℕ, ◌+◌, ◌<◌, ◌^◌, Bool, false, arith, refl, sym, ap, ◌∙◌, subst, Option, Some, List, Result, Ok, Err, IfOk, IfErr}
-use Rattle.std.specs.Prelude.{◌==◌}
-use Rattle.std.proofs.lemmas.Bool.{ne_eqb}
-use Rattle.far_word.specs.declared.mark.Marks.{Marks}
-use Rattle.far_word.specs.declared.pointer.Place.{Place}
-use Rattle.far_word.specs.declared.pointer.PtrWord.TheVariants.{Free, Near, Far}
+use Rattle.std.proofs.Common.{◌≡◌, ℕ, ◌+◌, ◌<◌, ◌^◌, Bool, arith, refl, sym, ap, ◌∙◌, subst, Option, Some, List, Result, Ok, Err, IfOk, IfErr}
+use Rattle.far_word.specs.declared.pointer.PtrWord.TheVariants.{Near, Far}
 use Rattle.far_word.specs.declared.refused.Refused.{Refused}
 use Rattle.far_word.specs.declared.sizes.TheConstants.{EPOCH_END}
 use Rattle.far_word.specs.Pointer.{read_of, without_evac}
@@ -18,7 +14,6 @@ use Rattle.far_core.specs.laws.Observed.{live_bytes}
 use Rattle.far_core.specs.state.Law.{Law}
 use Rattle.far_core.specs.state.Spans.{names_place, spans_of}
 use Rattle.far_core.specs.state.State.{State, put}
-use Rattle.far_core.proofs.Cells.{unused}
 use Rattle.far_core.proofs.events.Clear.{out_still}
 use Rattle.far_core.proofs.Frames.{law_with_fewer_chosen}
 use Rattle.far_core.proofs.Owing.{keeps}
@@ -34,7 +29,7 @@ use Rattle.far_book.specs.book.Own.{own_part}
 use Rattle.far_hand.proofs.Finding.{near_found}
 use Rattle.far_book.proofs.region.Calls.{put_put}
 use Rattle.far_book.proofs.region.FarSide.{far_without}
-use Rattle.far_book.proofs.region.Founds.{notes_seen}
+use Rattle.far_book.proofs.region.Founds.{near_used, notes_seen}
 use Rattle.far_book.proofs.region.InOrders.{found_keeps, headers_keep}
 
 -- ---- the epoch, the round and who is clear are written down nowhere
@@ -104,17 +99,13 @@ module _ (s : State) (ledger : Ledger) (held : ℕ → Option (List ℕ)) (is_ho
   same_names : (l at : ℕ) → names_place (read_of (evac_cleared (s.cell p))) l at ≡ names_place (read_of (s.cell p)) l at
   same_names l at = rw (near, legal.1.4) refl
 
-  -- neither word says that the cell is free
-  used : (w len ds : ℕ) (place : Place) (m : Marks) → read_of w ≡ Some (Near len ds place m) → (w == 0) ≡ false
-  used w len ds place m e = ne_eqb w 0 (λ z. let both : Some Free ≡ Some (Near len ds place m) = sym unused ∙ (ap read_of (sym z) ∙ e) in absurd cc)
-
   abbrev left : ℕ → Bool
   left = round_left s.round (read_of (s.cell p))
 
   pub clears : InOrder (record s { cell = put s.cell p (evac_cleared (s.cell p)); round = left }) ledger held is_honest
   clears = record {
     notes = notes_seen record s { round = left } p (evac_cleared (s.cell p)) same_names
-        (used (evac_cleared (s.cell p)) _ _ _ _ near ∙ sym (used (s.cell p) legal.1.0 legal.1.1 legal.1.2 legal.1.3 legal.1.4))
+        (near_used (evac_cleared (s.cell p)) _ _ _ _ near ∙ sym (near_used (s.cell p) legal.1.0 legal.1.1 legal.1.2 legal.1.3 legal.1.4))
         ledger (keeps (own_part s) (Clear p) h.notes.law tt legal)
         (notes_in_round s ledger h.notes s.epoch left s.round_epoch s.clear (law_with_fewer_chosen (own_part s) left h.notes.law (out_still s.round (read_of (s.cell p)))));
     far = far_without s held h.far p (evac_cleared (s.cell p)) held (λ n d m e. let both : Some (Far n d m) ≡ Some (without_evac (Near legal.1.0 legal.1.1 legal.1.2 legal.1.3)) = sym e ∙ near in absurd cc) (λ q ne. refl);

@@ -6,7 +6,7 @@ use Rattle.std.proofs.lemmas.Bool.{false_from_ne_true, true≢false}
 use Rattle.far_word.specs.declared.mark.Marks.{Marks}
 use Rattle.far_word.specs.declared.pointer.Place.{Place}
 use Rattle.far_word.specs.declared.pointer.PtrWord.{PtrWord}
-use Rattle.far_word.specs.declared.pointer.PtrWord.TheVariants.{Free, Near, Far}
+use Rattle.far_word.specs.declared.pointer.PtrWord.TheVariants.{Free, Near}
 use Rattle.far_word.specs.declared.refused.Refused.{Refused}
 use Rattle.far_word.specs.Pointer.{IsPtr, read_of}
 use Rattle.far_word.specs.Sizes.{size_of}
@@ -50,16 +50,12 @@ pub leaves_by : (a b u : State) → a ≡ b → Leaves a u → Leaves b u
 leaves_by a b u is h = subst (λ (x : State). Leaves x u) is h
 
 goal_body : (s : State) (o : Option PtrWord) → goal_of s (body_of o) ≡ goal_of s o
-goal_body s None = refl
 goal_body s (Some Free) = refl
-goal_body s (Some (Near len ds place m)) = refl
-goal_body s (Some (Far len ds m)) = refl
+goal_body s o = refl
 
 evac_body : (o : Option PtrWord) → has_evac (body_of o) ≡ has_evac o
-evac_body None = refl
 evac_body (Some Free) = refl
-evac_body (Some (Near len ds place m)) = refl
-evac_body (Some (Far len ds m)) = refl
+evac_body o = refl
 
 module _ (s : State) (p w : ℕ) (f : Finds (s.cell p) w) where
   abbrev then : State
@@ -69,10 +65,8 @@ module _ (s : State) (p w : ℕ) (f : Finds (s.cell p) w) where
   here = put_same s.cell p w p refl
 
   same_goal : (o : Option PtrWord) → goal_of then o ≡ goal_of s o
-  same_goal None = refl
   same_goal (Some Free) = refl
-  same_goal (Some (Near len ds place m)) = refl
-  same_goal (Some (Far len ds m)) = refl
+  same_goal o = refl
 
   pub goal_seen : goal then p ≡ goal s p
   goal_seen = ap (λ v. goal_of then (read_of v)) here ∙ same_goal (read_of w) ∙ sym (goal_body s (read_of w)) ∙ ap (goal_of s) f.body ∙ goal_body s (read_of (s.cell p))

@@ -21,9 +21,8 @@ bars_of m turn true false why e = absurd cc
 bars_of m turn false spent why e = let same : WrongPhase ≡ why = cc in ap (λ w. (m, Refused w)) same
 
 goes_of : (m : Moment) (turn : Moment × Answer) (idle spent : Bool) → cond idle (cond spent (Some EpochsSpent) None) (Some WrongPhase) ≡ None → only_in idle m (cond spent (m, Refused EpochsSpent) turn) ≡ turn
-goes_of m turn true true e = absurd cc
 goes_of m turn true false e = refl
-goes_of m turn false spent e = absurd cc
+goes_of m turn _ _ e = absurd cc
 
 round_is : (m : Moment) (turns : ℕ) (logs : List ℕ) (end : RoundEnd) (t : Moment) → IsRound m logs turns end t → round_of m turns logs ≡ (t, Ends end)
 round_is m turns [] end t (ends, is) = ap (λ (e : RoundEnd). (m, Ends e)) (sym ends) ∙ ap (λ (u : Moment). (u, Ends end)) (sym is)
@@ -48,28 +47,20 @@ off_phase m turn true e = absurd (true≢false e)
 off_phase m turn false e = refl
 
 not_marking : (phase : Phase) → phase ≢ Marking → is_marking phase ≡ false
-not_marking Idle other = refl
 not_marking Marking other = absurd (other refl)
-not_marking Waiting other = refl
-not_marking Evacuating other = refl
+not_marking _ other = refl
 
 not_waiting : (phase : Phase) → phase ≢ Waiting → is_waiting phase ≡ false
-not_waiting Idle other = refl
-not_waiting Marking other = refl
 not_waiting Waiting other = absurd (other refl)
-not_waiting Evacuating other = refl
+not_waiting _ other = refl
 
 not_evacuating : (phase : Phase) → phase ≢ Evacuating → is_evacuating phase ≡ false
-not_evacuating Idle other = refl
-not_evacuating Marking other = refl
-not_evacuating Waiting other = refl
 not_evacuating Evacuating other = absurd (other refl)
+not_evacuating _ other = refl
 
 runs : (phase : Phase) → phase ≢ Idle → not (is_idle phase) ≡ true
 runs Idle other = absurd (other refl)
-runs Marking other = refl
-runs Waiting other = refl
-runs Evacuating other = refl
+runs _ other = refl
 
 goes_by_phase : (m : Moment) (n : ℕ) → GoesByPhase m n
 goes_by_phase m n = record {

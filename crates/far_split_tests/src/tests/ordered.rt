@@ -162,9 +162,132 @@ refused 13
 ",
 };
 
+// The device fails in its first call, which is to send an object far: the round stops there, and no other begins.
+const FAILS_AT_ONCE: Row = Row {
+    text: "\
+heap 4 1
+device fail 1
+new 0 8 1
+new 0 8 1
+open 0
+write 0 0 0 0102030405060708
+close 0
+new 0 1016 1
+round oldest 1 9
+log 0
+audit
+round oldest 1 9
+open 0
+read 0 0 0 8
+read 0 1 0 8
+",
+    order: &[0, 0, 0, 0, 0, 0, B, B, B, B, 0, 0, 0],
+    told: "\
+mutator 0
+pointer 0
+pointer 1
+ok
+ok
+ok
+pointer 2
+ok
+data 0102030405060708
+data 0000000000000000
+book
+refused 10 moved 1 far 0 dropped 0 freed 0
+log 0 chosen live 16 dead 16 unused 992
+audit near 3 far 0 live 1056
+refused 12
+",
+};
+
+// It fails in its second: one object went far before.
+const FAILS_NEXT: Row = Row {
+    text: "\
+heap 4 1
+device fail 2
+new 0 8 1
+new 0 8 1
+new 0 8 1
+open 0
+write 0 0 0 0102030405060708
+close 0
+new 0 1016 1
+round oldest 1 9
+log 0
+audit
+open 0
+read 0 1 0 8
+try 0 2
+read 0 0 0 8
+logs
+",
+    order: &[0, 0, 0, 0, 0, 0, 0, B, B, B, 0, 0, 0, 0, B],
+    told: "\
+mutator 0
+pointer 0
+pointer 1
+pointer 2
+ok
+ok
+ok
+pointer 3
+ok
+data 0000000000000000
+refused 14 a400000004010008
+data 0102030405060708
+book
+refused 10 moved 1 far 1 dropped 0 freed 0
+log 0 chosen live 16 dead 32 unused 976
+audit near 3 far 1 live 1056
+log 0 chosen live 16 dead 32 unused 976
+log 1 sealed live 1024 dead 0 unused 0
+log 2 open live 32 dead 0 unused 992
+log 3 free live 0 dead 0 unused 1024
+",
+};
+
+// It fails in its second, which is to bring an object back: that comes when it is asked for again.
+const FAILS_TO_FETCH: Row = Row {
+    text: "\
+heap 4 1
+device fail 2
+new 0 8 1
+new 0 1016 1
+round oldest 1 9
+open 0
+read 0 0 0 8
+read 0 0 0 8
+audit
+",
+    order: &[0, 0, B, 0, 0, 0, B],
+    told: "\
+mutator 0
+pointer 0
+pointer 1
+ok
+refused 10
+data 0000000000000000
+book
+round done moved 0 far 1 dropped 0 freed 1
+audit near 2 far 0 live 1040
+",
+};
+
 #[test]
 fn lines_in_order_are_answered_as_in_one_thread(rt: HostRuntime) {
-    for (at, row) in [FETCH, NO_ROOM, WAITING, LAST_EPOCH].iter().enumerate() {
+    for (at, row) in [
+        FETCH,
+        NO_ROOM,
+        WAITING,
+        LAST_EPOCH,
+        FAILS_AT_ONCE,
+        FAILS_NEXT,
+        FAILS_TO_FETCH,
+    ]
+    .iter()
+    .enumerate()
+    {
         assert!(rt; is_told(&rt, rt.alloc(), *row), "row {at}");
     }
 }

@@ -1,5 +1,7 @@
 //! Two threads, of which one waits for the other.
 
+ghost use Rattle.std.specs.Prelude.{◌≡◌};
+
 use super::rows::{TWO, TWO_TOLD};
 use super::talk::prints;
 use super::tally::Tally;
@@ -14,6 +16,8 @@ struct Holds {
 }
 
 impl Gate for Holds {
+    ghost refuses = { λ gate who turn. (who ≡ gate.held) × (turn ≡ 0) };
+
     fn before(&self, who: u8, turn: u32) -> bool {
         who != self.held || turn != 0 || self.answered.wait_for(1)
     }

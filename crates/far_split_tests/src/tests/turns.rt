@@ -40,6 +40,8 @@ impl<'a> Turns<'a> {
 }
 
 impl Gate for Turns<'_> {
+    ghost refuses = { λ gate who turn. Unit {0} };
+
     fn before(&self, who: u8, turn: u32) -> bool {
         self.made.wait_for(self.place(who, turn))
     }

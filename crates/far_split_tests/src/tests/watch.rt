@@ -1,5 +1,7 @@
 //! A gate that watches one thread, and says no to a line of some.
 
+ghost use Rattle.std.specs.Prelude.{◌≡◌, ◌⊎◌, ◌≤◌, true};
+
 use super::tally::Tally;
 use far_split::Gate;
 
@@ -62,12 +64,16 @@ impl Watch {
         }
     }
 
-    fn is_stopped(&self, who: u8, turn: u32) -> bool {
+    fn is_stopped(&self, who: u8, turn: u32) -> bool
+        ensures { result ≡ true → (self.now.stops.first ≤ who) × (who ≤ self.now.stops.last) × (turn ≡ self.now.stops.turn) }
+    {
         self.stops.first <= who && who <= self.stops.last && turn == self.stops.turn
     }
 }
 
 impl Gate for Watch {
+    ghost refuses = { λ gate who turn. (who ≡ gate.who) ⊎ ((gate.stops.first ≤ who) × (who ≤ gate.stops.last) × (turn ≡ gate.stops.turn)) };
+
     fn before(&self, who: u8, turn: u32) -> bool {
         if who == self.who {
             self.take(2 * u64::from(turn));

@@ -1,10 +1,9 @@
-use Rattle.std.proofs.Common.{◌≡◌, ap, inl, inr, sym, ◌∙◌}
-use Rattle.far_word.specs.declared.refused.Refused.TheVariants.{BadChoice, Device, Memory}
+use Rattle.std.proofs.Common.{ap}
 use Rattle.far_evac.specs.Turns.{turn_size}
 use Rattle.far_text.specs.Command.{as_policy}
 use Rattle.far_replay.specs.Moment.{moment_in}
 use Rattle.far_replay.proofs.Choices.{least_chosen, least_ends, least_leads, oldest_chosen, oldest_ends}
-use Rattle.far_replay.proofs.Stopping.{round_breaks}
+use Rattle.far_replay.proofs.Stopping.{never_first, round_breaks}
 use Rattle.far_replay.proofs.Walking.{round_spends}
 use Rattle.far_replay.proofs.rounds.run_by.Goals as goal
 
@@ -28,11 +27,7 @@ returns-in-Oldest-clause-stopped c =
     round_breaks (moment_in c.args.evac.now) (moment_in c.run_round_alone.new.self) (as_policy c.args.policy) c.args.most c.args.turns _
     (oldest_chosen (moment_in c.args.evac.now) c.args.evac.now.book.near.core.law c.keeps_law.ensures.moment (as_policy c.args.policy) c.from-most.result c.args.most (ap as_policy c.in-Oldest.is) c.from-most.ensures) _
     (λ logs fault asked. let (tallies, u, between, tally, made, asking, fewer, phase, stops, refuses, sum, lawful, keys) = asked in (u, turn_size, tally, stops)) _
-    (λ fault first failed. elim first.2 [
-      | inl memory ↦ (let odd : Memory ≡ Device = sym memory.0 ∙ failed in absurd cc)
-      | inr bad ↦ (let odd : Device ≡ BadChoice bad.0.0 = sym failed ∙ bad.0.1 in absurd cc)
-    ])
-    c.run_round_alone.result (λ why bars. (c.run_round_alone.ensures.barred why bars).0) c.run_round_alone.ensures.refused
+    (λ fault first. never_first fault _ _ first.2) c.run_round_alone.result (λ why bars. (c.run_round_alone.ensures.barred why bars).0) c.run_round_alone.ensures.refused
 
 pub returns-in-LeastLive-clause-stopped : goal.returns-in-LeastLive-clause-stopped
 returns-in-LeastLive-clause-stopped c =
@@ -40,11 +35,7 @@ returns-in-LeastLive-clause-stopped c =
     round_breaks (moment_in c.args.evac.now) (moment_in ran.new.self) (as_policy c.args.policy) c.args.most c.args.turns _
     (least_chosen (moment_in c.args.evac.now) c.args.evac.now.book.near.core.law c.keeps_law.ensures.moment (as_policy c.args.policy) c.from-most.result c.args.most (ap as_policy c.in-LeastLive.is) c.from-most.ensures) _
     (λ logs fault asked. let (tallies, u, between, tally, made, asking, fewer, phase, stops, refuses, sum, lawful, keys) = asked in (u, turn_size, tally, stops)) _
-    (λ fault first failed. elim first.2 [
-      | inl memory ↦ (let odd : Memory ≡ Device = sym memory.0 ∙ failed in absurd cc)
-      | inr bad ↦ (let odd : Device ≡ BadChoice bad.0.0 = sym failed ∙ bad.0.1 in absurd cc)
-    ])
-    ran.result (λ why bars. (ran.ensures.barred why bars).0) ran.ensures.refused
+    (λ fault first. never_first fault _ _ first.2) ran.result (λ why bars. (ran.ensures.barred why bars).0) ran.ensures.refused
 
 pub returns-in-Oldest-clause-spent : goal.returns-in-Oldest-clause-spent
 returns-in-Oldest-clause-spent c =

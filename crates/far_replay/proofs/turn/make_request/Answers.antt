@@ -1,74 +1,49 @@
-use Rattle.std.proofs.Common.{◌≡◌, ap, subst, sym, ◌∙◌}
-use Rattle.std.specs.Prelude.{IfErr, IfOk}
-use Rattle.far_word.specs.declared.refused.Refused.TheVariants.{Memory}
+use Rattle.std.proofs.Common.{ap, subst, sym, ◌∙◌}
+use Rattle.std.specs.Prelude.{IfOk}
 use Rattle.far_text.specs.Command.{Request, Mutator, New, Open, Close, Where, Drop, View, Try, Epoch, as_request}
-use Rattle.far_replay.specs.Moment.{Moment, moment_in}
+use Rattle.far_replay.specs.Moment.{moment_in}
 use Rattle.far_replay.specs.Outcome.{reply_by}
 use Rattle.far_replay.specs.Spent.{Makes}
-use Rattle.far_replay.proofs.Joining.{close_keeps, drop_keeps, epoch_keeps, made_whole, open_keeps, where_keeps}
-use Rattle.far_replay.proofs.Made.{made_for, made_served}
+use Rattle.far_replay.proofs.Joining.{close_keeps, drop_keeps, epoch_keeps, open_keeps, where_keeps}
+use Rattle.far_replay.proofs.Made.{made_for, made_served, request_made}
 use Rattle.far_replay.proofs.Spending.{spent_same}
 use Rattle.far_replay.proofs.turn.make_request.Goals as goal
 
 pub returns-in-New-clause-made : goal.returns-in-New-clause-made
 returns-in-New-clause-made c =
-    let now : Moment = moment_in c.args.evac.now in
-    let next : Moment = moment_in c.make_object.new.evac in
     let call = c.make_object.ensures in
-    subst (λ (r : Request). Makes c.args.evac.now (Mutator c.args.owner r) (reply_by c.args.scratch.now c.make_object.result) c.make_object.new.evac) (ap as_request (sym c.in-New.is))
-    (made_served c.args.evac.now c.make_object.new.evac (Mutator c.args.owner (New c.in-New.len c.in-New.structure)) (reply_by c.args.scratch.now c.make_object.result)
-    (made_whole now next (Mutator c.args.owner (New c.in-New.len c.in-New.structure)) tt c.requires.law c.requires.between tt call.state call.order call.round.0 call.round.1)
-    (call.reply c.args.scratch.now) (spent_same c.args.evac.now c.make_object.new.evac call.device))
+    request_made c.args.evac.now c.make_object.new.evac c.args.owner _ (New c.in-New.len c.in-New.structure) (reply_by c.args.scratch.now c.make_object.result) (ap as_request (sym c.in-New.is)) tt c.requires.law c.requires.between
+    call.state call.order call.round (call.reply c.args.scratch.now) (spent_same c.args.evac.now c.make_object.new.evac call.device)
 
 pub returns-in-Open-clause-made : goal.returns-in-Open-clause-made
 returns-in-Open-clause-made c =
-    let now : Moment = moment_in c.args.evac.now in
-    let next : Moment = moment_in c.open_scope.new.evac in
     let call = c.open_scope.ensures in
-    subst (λ (r : Request). Makes c.args.evac.now (Mutator c.args.owner r) (reply_by c.args.scratch.now c.open_scope.result) c.open_scope.new.evac) (ap as_request (sym c.in-Open.is))
-    (made_served c.args.evac.now c.open_scope.new.evac (Mutator c.args.owner (Open)) (reply_by c.args.scratch.now c.open_scope.result)
-    (made_whole now next (Mutator c.args.owner (Open)) tt c.requires.law c.requires.between tt call.state (call.order ∙ sym (open_keeps now c.args.owner)) call.round.0 call.round.1)
-    (call.reply c.args.scratch.now) (spent_same c.args.evac.now c.open_scope.new.evac call.device))
+    request_made c.args.evac.now c.open_scope.new.evac c.args.owner _ Open (reply_by c.args.scratch.now c.open_scope.result) (ap as_request (sym c.in-Open.is)) tt c.requires.law c.requires.between
+    call.state (call.order ∙ sym (open_keeps (moment_in c.args.evac.now) c.args.owner)) call.round (call.reply c.args.scratch.now) (spent_same c.args.evac.now c.open_scope.new.evac call.device)
 
 pub returns-in-Close-clause-made : goal.returns-in-Close-clause-made
 returns-in-Close-clause-made c =
-    let now : Moment = moment_in c.args.evac.now in
-    let next : Moment = moment_in c.close_scope.new.evac in
     let call = c.close_scope.ensures in
-    subst (λ (r : Request). Makes c.args.evac.now (Mutator c.args.owner r) (reply_by c.args.scratch.now c.close_scope.result) c.close_scope.new.evac) (ap as_request (sym c.in-Close.is))
-    (made_served c.args.evac.now c.close_scope.new.evac (Mutator c.args.owner (Close)) (reply_by c.args.scratch.now c.close_scope.result)
-    (made_whole now next (Mutator c.args.owner (Close)) tt c.requires.law c.requires.between tt call.state (call.order ∙ sym (close_keeps now c.args.owner)) call.round.0 call.round.1)
-    (call.reply c.args.scratch.now) (spent_same c.args.evac.now c.close_scope.new.evac call.device))
+    request_made c.args.evac.now c.close_scope.new.evac c.args.owner _ Close (reply_by c.args.scratch.now c.close_scope.result) (ap as_request (sym c.in-Close.is)) tt c.requires.law c.requires.between
+    call.state (call.order ∙ sym (close_keeps (moment_in c.args.evac.now) c.args.owner)) call.round (call.reply c.args.scratch.now) (spent_same c.args.evac.now c.close_scope.new.evac call.device)
 
 pub returns-in-Where-clause-made : goal.returns-in-Where-clause-made
 returns-in-Where-clause-made c =
-    let now : Moment = moment_in c.args.evac.now in
-    let next : Moment = moment_in c.find_object.new.evac in
     let call = c.find_object.ensures in
-    subst (λ (r : Request). Makes c.args.evac.now (Mutator c.args.owner r) (reply_by c.args.scratch.now c.find_object.result) c.find_object.new.evac) (ap as_request (sym c.in-Where.is))
-    (made_served c.args.evac.now c.find_object.new.evac (Mutator c.args.owner (Where c.in-Where.pointer)) (reply_by c.args.scratch.now c.find_object.result)
-    (made_whole now next (Mutator c.args.owner (Where c.in-Where.pointer)) tt c.requires.law c.requires.between tt call.state (call.order ∙ sym (where_keeps now c.args.owner c.in-Where.pointer)) call.round.0 call.round.1)
-    (call.reply c.args.scratch.now) (spent_same c.args.evac.now c.find_object.new.evac call.device))
+    request_made c.args.evac.now c.find_object.new.evac c.args.owner _ (Where c.in-Where.pointer) (reply_by c.args.scratch.now c.find_object.result) (ap as_request (sym c.in-Where.is)) tt c.requires.law c.requires.between
+    call.state (call.order ∙ sym (where_keeps (moment_in c.args.evac.now) c.args.owner c.in-Where.pointer)) call.round (call.reply c.args.scratch.now) (spent_same c.args.evac.now c.find_object.new.evac call.device)
 
 pub returns-in-Drop-clause-made : goal.returns-in-Drop-clause-made
 returns-in-Drop-clause-made c =
-    let now : Moment = moment_in c.args.evac.now in
-    let next : Moment = moment_in c.drop_object.new.evac in
     let call = c.drop_object.ensures in
-    subst (λ (r : Request). Makes c.args.evac.now (Mutator c.args.owner r) (reply_by c.args.scratch.now c.drop_object.result) c.drop_object.new.evac) (ap as_request (sym c.in-Drop.is))
-    (made_served c.args.evac.now c.drop_object.new.evac (Mutator c.args.owner (Drop c.in-Drop.pointer)) (reply_by c.args.scratch.now c.drop_object.result)
-    (made_whole now next (Mutator c.args.owner (Drop c.in-Drop.pointer)) tt c.requires.law c.requires.between tt call.state (call.order ∙ sym (drop_keeps now c.args.owner c.in-Drop.pointer)) call.round.0 call.round.1)
-    (call.reply c.args.scratch.now) call.spent)
+    request_made c.args.evac.now c.drop_object.new.evac c.args.owner _ (Drop c.in-Drop.pointer) (reply_by c.args.scratch.now c.drop_object.result) (ap as_request (sym c.in-Drop.is)) tt c.requires.law c.requires.between
+    call.state (call.order ∙ sym (drop_keeps (moment_in c.args.evac.now) c.args.owner c.in-Drop.pointer)) call.round (call.reply c.args.scratch.now) call.spent
 
 pub returns-in-Epoch-clause-made : goal.returns-in-Epoch-clause-made
 returns-in-Epoch-clause-made c =
-    let now : Moment = moment_in c.args.evac.now in
-    let next : Moment = moment_in c.read_epoch.new.evac in
     let call = c.read_epoch.ensures in
-    subst (λ (r : Request). Makes c.args.evac.now (Mutator c.args.owner r) (reply_by c.args.scratch.now c.read_epoch.result) c.read_epoch.new.evac) (ap as_request (sym c.in-Epoch.is))
-    (made_served c.args.evac.now c.read_epoch.new.evac (Mutator c.args.owner (Epoch)) (reply_by c.args.scratch.now c.read_epoch.result)
-    (made_whole now next (Mutator c.args.owner (Epoch)) tt c.requires.law c.requires.between tt call.state (call.order ∙ sym (epoch_keeps now c.args.owner)) call.round.0 call.round.1)
-    (call.reply c.args.scratch.now) (spent_same c.args.evac.now c.read_epoch.new.evac call.device))
+    request_made c.args.evac.now c.read_epoch.new.evac c.args.owner _ Epoch (reply_by c.args.scratch.now c.read_epoch.result) (ap as_request (sym c.in-Epoch.is)) tt c.requires.law c.requires.between
+    call.state (call.order ∙ sym (epoch_keeps (moment_in c.args.evac.now) c.args.owner)) call.round (call.reply c.args.scratch.now) (spent_same c.args.evac.now c.read_epoch.new.evac call.device)
 
 pub returns-in-Try-clause-made : goal.returns-in-Try-clause-made
 returns-in-Try-clause-made c =

@@ -1,10 +1,12 @@
-use Rattle.std.proofs.Common.{true, false, refl}
+use Rattle.std.proofs.Common.{refl}
 use Rattle.far_text.specs.Command.{Mutator, Read}
-use Rattle.far_replay.specs.Moment.{Moment, moment_in, state_in}
+use Rattle.far_replay.specs.Moment.{moment_in}
 use Rattle.far_replay.specs.Outcome.{reply_by}
 use Rattle.far_replay.proofs.Given.{range_viewed, read_makes}
+use Rattle.far_replay.proofs.Made.{made_for}
 use Rattle.far_replay.proofs.RangeTurns.{wants_room}
-use Rattle.far_replay.proofs.Unbrought.{has_room, lacks_room, refused_outside, refused_within, unbrought, unplaced}
+use Rattle.far_replay.proofs.Unbrought.{IsVain, vain_outside, vain_within}
+use Rattle.far_replay.proofs.turn.read.Goals.{In-Err}
 use Rattle.far_replay.proofs.turn.read.Goals as goal
 
 pub read_viewed-requires : goal.read_viewed-requires
@@ -17,25 +19,16 @@ returns-in-Ok-clause-made c =
     let (o, x) = c.in-Ok.ensures.done in
     read_makes c.args.evac.now c.dereference.new.evac c.args.access o c.args.evac.now.book.near.core.law c.requires.access x c.dereference.ensures.round (reply_by c.read_viewed.new.scratch c.read_viewed.result) c.read_viewed.ensures.reply
 
+vain : (c : In-Err) → let a = c.args.access in IsVain c.args.evac.now c.dereference.new.evac a.owner a.pointer (Mutator a.owner (Read a.pointer a.from a.count)) c.in-Err.why
+vain c =
+    let is = c.requires.access in
+    let call = c.in-Err.ensures in
+    record { opened = is.opened; own = is.own; used = is.used; cause = wants_room (moment_in c.args.evac.now) c.args.access is; stops = λ h. h; leaves = refl; refuses = call.refused; far = call.far; shut = call.shut; round = c.dereference.ensures.round; spent = call.spent }
+
 pub returns-in-Err-clause-made : goal.returns-in-Err-clause-made
 returns-in-Err-clause-made c =
-    let now : Moment = moment_in c.args.evac.now in
-    let next : Moment = moment_in c.dereference.new.evac in
-    let a = c.args.access in
-    let call = c.in-Err.ensures in
-    refused_within c.args.evac.now c.dereference.new.evac a.owner a.pointer (Mutator a.owner (Read a.pointer a.from a.count)) c.refused.result c.in-Err.why c.args.scratch.now c.refused.ensures.told call.refused call.spent
-    (λ lacks. unplaced now next a.owner a.pointer (Mutator a.owner (Read a.pointer a.from a.count)) (wants_room now a c.requires.access true (lacks_room now.core next.core a.owner a.pointer lacks)) refl lacks
-    call.shut c.dereference.ensures.round.0 c.dereference.ensures.round.1)
+    made_for c.args.evac.now c.dereference.new.evac (Mutator c.args.access.owner (Read c.args.access.pointer c.args.access.from c.args.access.count)) c.refused.result c.args.scratch.now
+    (vain_within (vain (goal.at.returns-in-Err-clause-made c).In-Err) c.refused.result c.refused.ensures.told)
 
 pub returns-in-Err-clause-stopped : goal.returns-in-Err-clause-stopped
-returns-in-Err-clause-stopped c =
-    let now : Moment = moment_in c.args.evac.now in
-    let next : Moment = moment_in c.dereference.new.evac in
-    let a = c.args.access in
-    let is = c.requires.access in
-    let law = c.args.evac.now.book.near.core.law in
-    let call = c.in-Err.ensures in
-    refused_outside c.args.evac.now c.dereference.new.evac (Mutator a.owner (Read a.pointer a.from a.count)) c.refused.result c.in-Err.why c.refused.ensures.stops call.spent
-    (λ keeps. unbrought now next a.owner a.pointer law is.opened is.own is.used c.in-Err.why keeps call.refused (call.far keeps) call.shut c.dereference.ensures.round.0 c.dereference.ensures.round.1
-    (Mutator a.owner (Read a.pointer a.from a.count))
-    (wants_room now a is false (has_room now next a.owner a.pointer law is.opened is.own is.used c.in-Err.why keeps call.refused (call.far keeps) call.shut c.dereference.ensures.round.0 c.dereference.ensures.round.1)))
+returns-in-Err-clause-stopped c = vain_outside (vain (goal.at.returns-in-Err-clause-stopped c).In-Err) c.refused.result c.refused.ensures.stops

@@ -14,6 +14,7 @@ invariant-loop-at g l = record {
   told : (more : List Reply) → BookTold g.K.HeapName.heap (commands_of (drop l.at l.lines)) more → BookTold g.K.HeapName.heap (commands_of l.lines) (map as_reply l.told.items ++ more);
   own : AreOwn g.K.HeapName.heap.mutators OfBook (drop l.at l.lines);
   short : AllByRecursion IsShort (map as_reply l.told.items);
+  turns : l.turn ≤ l.at;
   many : vec_len l.told ≡ l.at;
   buffer : l.at-end ≤ vec_capacity l.told;
 }

@@ -4,7 +4,7 @@ use Rattle.std.proofs.lemmas.List.{drop_all}
 use Rattle.far_heap.specs.Mine.{Mine}
 use Rattle.far_text.specs.Command.{Command}
 use Rattle.far_replay.specs.Reply.{IsShort}
-use Rattle.far_split.specs.Here.{AloneHere, commands_of}
+use Rattle.far_split.specs.Here.{AloneOn, commands_of}
 use Rattle.far_split.specs.Slots.{mine_in, own_in}
 use Rattle.far_split.specs.Told.{as_reply}
 use Rattle.far_split.specs.declared.told.Told.{Told}
@@ -17,6 +17,7 @@ loop-at-init g c = record {
   number = ap (λ (m : Mine). m.number) c.requires.new;
   buffer = omega (arith, ap length c.in-Ok.ensures.items, c.in-Ok.ensures.capacity, c.len.ensures);
   short = subst (λ (told : List Told). AllByRecursion IsShort (map as_reply told)) (sym c.in-Ok.ensures.items) tt;
+  turns = omega arith;
   ran = λ rest alone. alone_first g.K.HeapName.heap c.args.number c.args.mutator (commands_of c.args.lines.now) c.in-Ok.told.items rest c.requires.new c.in-Ok.ensures.items alone;
 }
 
@@ -41,8 +42,9 @@ loop-at-preserved g c =
       number = answers.number ∙ c.loop-at.invariant.number;
       buffer = omega (arith, ap {A = List Told} {B = ℕ} length {x = all} {y = told ++ one ∷ []} are, length-append told (one ∷ []), c.push_reserved.ensures.capacity, c.loop-at.invariant.buffer, c.loop-at-test.true, c.len-at-end.ensures);
       short = all_short told all one are c.loop-at.invariant.short answers.short;
-      ran = λ rest alone. all_alone told all one are c.args.number (commands_of c.args.lines.now) rest (c.loop-at.invariant.ran (as_reply one ∷ rest)
-          (answered_line g.K.HeapName.heap.mutators c.args.number c.loop-at.at c.at.result.0 c.at.result.1 c.in-Mutator.mutator c.in-Mutator.request c.args.lines.now
+      turns = omega (arith, c.loop-at.invariant.turns, c.saturating_add-turn.ensures);
+      ran = λ rest alone. all_alone told all one are g.K.HeapName.heap c.args.number (commands_of c.args.lines.now) rest (c.loop-at.invariant.ran (as_reply one ∷ rest)
+          (answered_line g.K.HeapName.heap g.K.HeapName.heap.mutators c.args.number c.loop-at.at c.at.result.0 c.at.result.1 c.in-Mutator.mutator c.in-Mutator.request c.args.lines.now
           (mine_in c.loop-at.slot) (mine_in c.in-Ok-answer.next) (as_reply one) rest c.requires.own c.at.ensures.value c.in-Mutator.is c.loop-at.invariant.number answers alone));
     }
 
@@ -50,7 +52,8 @@ pub returns : goal.returns
 returns g c = record {
   told =
       let none = drop_all c.loop-at.at c.args.lines.now (omega (arith, c.loop-at-test.false, c.len-at-end.ensures)) in
-      alone_last c.args.number (commands_of c.args.lines.now) c.loop-at.told.items
-      (c.loop-at.invariant.ran [] (subst (λ (lines : List (ℕ × Command)). AloneHere c.args.number (own_in (mine_in c.loop-at.slot)) (commands_of lines) []) (sym none) tt));
+      alone_last g.K.HeapName.heap c.args.number (commands_of c.args.lines.now) c.loop-at.told.items
+      (c.loop-at.invariant.ran [] (subst (λ (lines : List (ℕ × Command)). AloneOn g.K.HeapName.heap c.args.number (own_in (mine_in c.loop-at.slot)) (commands_of lines) []) (sym none) tt));
   short = c.loop-at.invariant.short;
+  stopped = tt;
 }

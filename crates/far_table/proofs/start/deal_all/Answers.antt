@@ -18,6 +18,9 @@ deal_one-requires-clause-dealer g c = c.loop-number.invariant.0
 pub deal_one-requires-clause-next : goal.deal_one-requires-clause-next
 deal_one-requires-clause-next g c = c.loop-number.invariant.1
 
+pub deal_one-requires-clause-there : goal.deal_one-requires-clause-there
+deal_one-requires-clause-there g c = let m = c.mutators-mutators.ensures in let a = c.loop-number-test.true in c.requires.there c.loop-number.number (omega arith)
+
 pub push_reserved-requires : goal.push_reserved-requires
 push_reserved-requires g c = let i = c.loop-number.invariant in let l = c.loop-number-test.true in let a = i.3 in let b = i.4 in omega arith
 

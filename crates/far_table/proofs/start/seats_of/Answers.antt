@@ -6,7 +6,7 @@ use Rattle.far_table.specs.Rule.{Running}
 use Rattle.far_table.specs.Stands.{Starts, book_of}
 use Rattle.atomic_table.specs.Table.{opening}
 use Rattle.far_table.proofs.Begins.{opens}
-use Rattle.far_table.proofs.Seating.{rule_stands, rule_starts}
+use Rattle.far_table.proofs.Seating.{first_there, rule_stands, rule_starts}
 use Rattle.far_table.proofs.Tables.{is_table, table}
 use Rattle.far_table.proofs.start.seats_of.Goals as goal
 
@@ -25,6 +25,10 @@ deal_all-requires-clause-dealer g c =
 
 pub deal_all-requires-clause-first : goal.deal_all-requires-clause-first
 deal_all-requires-clause-first g c = ap (λ z. z.0) c.in_ok-table.ensures.4
+
+pub deal_all-requires-clause-there : goal.deal_all-requires-clause-there
+deal_all-requires-clause-there g c = let s = core_state c.args.plan.now.core in let h = g.D.Device.honest c.args.plan.now.device.value in
+    first_there s h c.keeps_law.ensures.law c.nothing_is_past.ensures.past c.requires.honest
 
 pub new-requires-2-clause-view : goal.new-requires-2-clause-view
 new-requires-2-clause-view g c = (g.D.Device.honest c.args.plan.now.device.value, ap book_of c.in_ok-owners.ensures.left)

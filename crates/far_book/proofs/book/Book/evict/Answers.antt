@@ -1,3 +1,5 @@
+use Rattle.far_book.proofs.book.Book.evict.Given.{Over}
+use Rattle.far_book.proofs.book.Book.evict.Goals.{After-send, In-Near}
 use Rattle.far_book.proofs.book.Book.evict.Goals as goal
 use Rattle.std.proofs.Common.{rules, ◌≡◌, ◌∙◌, true, false, ap, sym, subst, arith, refl, inl, inr, Some}
 use Rattle.std.specs.Prelude.{Ok, Err}
@@ -8,18 +10,28 @@ use Rattle.far_word.proofs.PointerLaws.{read_says}
 use Rattle.far_core.specs.events.Copies.{data_at}
 use Rattle.far_core.specs.events.Naming.{is_dropped, no_marks}
 use Rattle.far_core.specs.state.State.{State}
-use Rattle.far_hand.specs.Known.{Forgets}
-use Rattle.far_book.specs.book.Asking.{fault_of}
+use Rattle.far_book.specs.book.Asking.{HasBytes, fault_of}
 use Rattle.far_book.specs.book.Effects.{evicted, retired}
 use Rattle.far_book.specs.book.Renaming.{seen}
 use Rattle.far_book.proofs.region.Dropping.{retired_by}
 use Rattle.far_book.proofs.region.Evicted.{goes_far, gone_keeps, has_bytes, is_gone, was_alive}
 use Rattle.far_hand.proofs.Closure.{then_came, came_only}
 
+-- the word that was found is near
+near : (g : Over) (c : In-Near g) → read_of c.see-found.result ≡ Some (Near c.in-Near.len c.in-Near.ds c.in-Near.place c.in-Near.marks)
+near g c = search rules
+
+-- what is sent are the object's bytes
+own : (g : Over) (c : After-send g) → HasBytes (g.N.Hand.view c.args.self.now.near) c.args.pointer (bytes_of (data_at (g.N.Hand.view c.send.new.self.near).word c.in-Near.place) c.in-Near.len)
+own g c =
+    let x = c.in-Near in
+    has_bytes (g.N.Hand.view c.args.self.now.near) (g.N.Hand.view c.see-found.new.self.near) (g.N.Hand.view c.send.new.self.near) c.args.pointer c.see-found.result c.see-found.ensures.kept c.send.ensures.kept
+    x.len x.ds x.place x.marks c.see-found.ensures.found (near g (goal.at.After-send g c).In-Near) c.send.ensures.words
+
 pub returns-in-Ok-clause-far : goal.returns-in-Ok-clause-far
 returns-in-Ok-clause-far g c _ =
     let x = c.in-Near in
-    let near : read_of c.see-found.result ≡ Some (Near x.len x.ds x.place x.marks) = search rules in
+    let near = near g (goal.at.returns-in-Ok-clause-far g c).In-Near in
     let says = read_says c.see-found.result (Near x.len x.ds x.place x.marks) (omega arith) near in
     let layout : IsPtr (Far x.len x.ds no_marks) = (says.0.0, says.0.1, says.0.2, refl) in
     goes_far (g.N.Hand.view c.args.self.now.near) (g.N.Hand.view c.see-found.new.self.near) (g.N.Hand.view c.send.new.self.near) c.args.pointer c.see-found.result c.see-found.ensures.kept c.send.ensures.kept
@@ -39,26 +51,18 @@ returns-then-marks-clause-gone g c _ =
 
 pub returns-in-Err-name_far-clause-gone : goal.returns-in-Err-name_far-clause-gone
 returns-in-Err-name_far-clause-gone g c _ =
-    let u = g.N.Hand.view c.send.new.self.near in
-    let v = g.N.Hand.view c.retire-in-Err-name_far.new.self.near in
-    let word = c.in-Err-name_far.field-0 in
-    let kept = c.in-Err-name_far.ensures.kept in
-    is_gone (g.N.Hand.view c.args.self.now.near) (g.N.Hand.view c.see-found.new.self.near) u c.args.pointer c.see-found.result c.see-found.ensures.kept c.send.ensures.kept
-    v word c.see-found.ensures.found c.in-Err-name_far.ensures.found c.in-Err-name_far.ensures.dropped
-    (c.retire-in-Err-name_far.ensures.kept ∙ ap (λ (x : State). record (retired x c.args.pointer) { word = v.word }) kept)
-    (subst (λ (x : State). Forgets x v) kept c.retire-in-Err-name_far.ensures.forgot) g.N.Hand.still
-    (λ still. absurd (c.in-Err-name_far.ensures.won still)) (λ still. absurd (c.in-Err-name_far.ensures.won still))
+    let x = c.in-Err-name_far in
+    let z = c.retire-in-Err-name_far in
+    is_gone (g.N.Hand.view c.args.self.now.near) (g.N.Hand.view c.see-found.new.self.near) (g.N.Hand.view c.send.new.self.near) c.args.pointer c.see-found.result c.see-found.ensures.kept c.send.ensures.kept
+    _ _ x.field-0 c.see-found.ensures.found x.ensures.found x.ensures.dropped x.ensures.kept z.ensures.kept z.ensures.forgot
+    g.N.Hand.still (λ still. absurd (x.ensures.won still)) (λ still. absurd (x.ensures.won still))
 
 pub returns-in-Err-name_far-clause-freed : goal.returns-in-Err-name_far-clause-freed
 returns-in-Err-name_far-clause-freed g c _ =
-    let u = g.N.Hand.view c.send.new.self.near in
-    let v = g.N.Hand.view c.retire-in-Err-name_far.new.self.near in
-    let word = c.in-Err-name_far.field-0 in
-    let kept = c.in-Err-name_far.ensures.kept in
-    gone_keeps (g.N.Hand.view c.args.self.now.near) (g.N.Hand.view c.see-found.new.self.near) u c.args.pointer c.see-found.result c.see-found.ensures.kept c.send.ensures.kept
-    v word c.see-found.ensures.found c.in-Err-name_far.ensures.found c.in-Err-name_far.ensures.dropped
-    (c.retire-in-Err-name_far.ensures.kept ∙ ap (λ (x : State). record (retired x c.args.pointer) { word = v.word }) kept)
-    (subst (λ (x : State). Forgets x v) kept c.retire-in-Err-name_far.ensures.forgot)
+    let x = c.in-Err-name_far in
+    let z = c.retire-in-Err-name_far in
+    gone_keeps (g.N.Hand.view c.args.self.now.near) (g.N.Hand.view c.see-found.new.self.near) (g.N.Hand.view c.send.new.self.near) c.args.pointer c.see-found.result c.see-found.ensures.kept c.send.ensures.kept
+    _ _ x.field-0 c.see-found.ensures.found x.ensures.found x.ensures.dropped x.ensures.kept z.ensures.kept z.ensures.forgot
 
 pub returns-then-marks-clause-ran : goal.returns-then-marks-clause-ran
 returns-then-marks-clause-ran g c still =
@@ -88,40 +92,25 @@ returns-then-marks-clause-called g c = inl (subst (λ (d : g.row.D.Denot). g.D.D
 
 pub returns-in-Err-clause-called : goal.returns-in-Err-clause-called
 returns-in-Err-clause-called g c =
-    let x = c.in-Near in
-    let near : read_of c.see-found.result ≡ Some (Near x.len x.ds x.place x.marks) = search rules in
-    let s = g.N.Hand.view c.args.self.now.near in
-    let t = g.N.Hand.view c.see-found.new.self.near in
-    let u = g.N.Hand.view c.send.new.self.near in
-    let bytes = bytes_of (data_at u.word x.place) x.len in
-    let own = has_bytes s t u c.args.pointer c.see-found.result c.see-found.ensures.kept c.send.ensures.kept x.len x.ds x.place x.marks c.see-found.ensures.found near c.send.ensures.words in
-    (bytes, own, subst (λ (d : g.row.D.Denot). g.D.Device.writes d c.args.pointer bytes (Err (fault_of c.in-Err.why)) c.send.new.self.device) c.see-found.ensures.device c.in-Err.ensures.called)
+    let bytes = bytes_of (data_at (g.N.Hand.view c.send.new.self.near).word c.in-Near.place) c.in-Near.len in
+    let wrote = subst (λ (d : g.row.D.Denot). g.D.Device.writes d c.args.pointer bytes (Err (fault_of c.in-Err.why)) c.send.new.self.device) c.see-found.ensures.device c.in-Err.ensures.called in
+    (bytes, own g (goal.at.returns-in-Err-clause-called g c).After-send, wrote)
 
 pub returns-in-Ok-clause-called : goal.returns-in-Ok-clause-called
 returns-in-Ok-clause-called g c =
-    let x = c.in-Near in
-    let near : read_of c.see-found.result ≡ Some (Near x.len x.ds x.place x.marks) = search rules in
-    let s = g.N.Hand.view c.args.self.now.near in
-    let t = g.N.Hand.view c.see-found.new.self.near in
-    let u = g.N.Hand.view c.send.new.self.near in
-    let bytes = bytes_of (data_at u.word x.place) x.len in
-    let own = has_bytes s t u c.args.pointer c.see-found.result c.see-found.ensures.kept c.send.ensures.kept x.len x.ds x.place x.marks c.see-found.ensures.found near c.send.ensures.words in
+    let bytes = bytes_of (data_at (g.N.Hand.view c.send.new.self.near).word c.in-Near.place) c.in-Near.len in
     let wrote = subst (λ (d : g.row.D.Denot). g.D.Device.writes d c.args.pointer bytes (Ok tt) c.send.new.self.device) c.see-found.ensures.device c.in_default-send.ensures.called in
-    (bytes, own, subst (λ (d : g.row.D.Denot). g.D.Device.writes c.args.self.now.device c.args.pointer bytes (Ok tt) d) (sym c.name_far.ensures.device) wrote)
+    (bytes, own g (goal.at.returns-in-Ok-clause-called g c).After-send, subst (λ (d : g.row.D.Denot). g.D.Device.writes c.args.self.now.device c.args.pointer bytes (Ok tt) d) (sym c.name_far.ensures.device) wrote)
 
 pub returns-in-Err-name_far-clause-called : goal.returns-in-Err-name_far-clause-called
 returns-in-Err-name_far-clause-called g c =
     let x = c.in-Near in
-    let near : read_of c.see-found.result ≡ Some (Near x.len x.ds x.place x.marks) = search rules in
-    let s = g.N.Hand.view c.args.self.now.near in
-    let t = g.N.Hand.view c.see-found.new.self.near in
-    let u = g.N.Hand.view c.send.new.self.near in
-    let bytes = bytes_of (data_at u.word x.place) x.len in
-    let own = has_bytes s t u c.args.pointer c.see-found.result c.see-found.ensures.kept c.send.ensures.kept x.len x.ds x.place x.marks c.see-found.ensures.found near c.send.ensures.words in
+    let bytes = bytes_of (data_at (g.N.Hand.view c.send.new.self.near).word x.place) x.len in
     let wrote = subst (λ (d : g.row.D.Denot). g.D.Device.writes d c.args.pointer bytes (Ok tt) c.send.new.self.device) c.see-found.ensures.device c.in_default-send.ensures.called in
     let gone = subst (λ (d : g.row.D.Denot). g.D.Device.lets_go d c.args.pointer c.retire-in-Err-name_far.new.self.device) c.name_far.ensures.device c.retire-in-Err-name_far.ensures.called in
-    let alive = was_alive s t u c.args.pointer c.see-found.result c.see-found.ensures.kept c.send.ensures.kept x.len x.ds x.place x.marks c.see-found.ensures.found near c.if-marks.false in
-    inr (c.send.new.self.device, (bytes, own, wrote), gone, alive)
+    let alive = was_alive (g.N.Hand.view c.args.self.now.near) (g.N.Hand.view c.see-found.new.self.near) (g.N.Hand.view c.send.new.self.near) c.args.pointer c.see-found.result c.see-found.ensures.kept c.send.ensures.kept
+    x.len x.ds x.place x.marks c.see-found.ensures.found (near g (goal.at.returns-in-Err-name_far-clause-called g c).In-Near) c.if-marks.false in
+    inr (c.send.new.self.device, (bytes, own g (goal.at.returns-in-Err-name_far-clause-called g c).After-send, wrote), gone, alive)
 
 pub returns-then-marks-clause-came : goal.returns-then-marks-clause-came
 returns-then-marks-clause-came g c = then_came c.see-found.ensures.came c.retire.ensures.came

@@ -1,78 +1,55 @@
+use Rattle.far_book.proofs.book.Book.next_live.Given.{Over}
+use Rattle.far_book.proofs.book.Book.next_live.Goals.{After-see}
 use Rattle.far_book.proofs.book.Book.next_live.Goals as goal
 use Rattle.std.proofs.Common.{◌≡◌, ◌+◌, ◌∙◌, arith, ap, sym, subst}
 use Rattle.std.specs.Prelude.{◌⊎◌}
 use Rattle.far_word.specs.Sizes.{size_of}
 use Rattle.far_log.specs.declared.span.Span.{Span}
 use Rattle.far_book.specs.book.NextLive.{IsBoundary, IsNamedBetween, live_from}
-use Rattle.far_book.proofs.region.NextLives.{begun, below_tail, ended, found_more, here_dead, here_lies, here_live, here_next, here_reads, kept_more, none_more, others_more}
+use Rattle.far_book.proofs.region.NextLives.{Step, begun, below_tail, ended, found_more, here_dead, here_lies, here_live, here_next, here_reads, kept_more, none_more, others_more}
 use Rattle.far_hand.proofs.Closure.{then_came, came_only}
 
-pub names_place-requires : goal.names_place-requires
-names_place-requires g c =
+-- the span at hand is read, and its cell seen
+step : (g : Over) (c : After-see g) → Step (g.N.Hand.view c.args.self.now.near) (g.N.Hand.view c.loop-at.self.near) (g.N.Hand.view c.span_at-span.new.self.near) (g.N.Hand.view c.see.new.self.near) c.args.log c.loop-at.at c.span_at-span.result c.see.result
+step g c =
     let s = g.N.Hand.view c.args.self.now.near in
-    let t = g.N.Hand.view c.loop-at.self.near in
-    let r = g.N.Hand.view c.span_at-span.new.self.near in
-    let u = g.N.Hand.view c.see.new.self.near in
     let h = c.loop-at.invariant in
     let below = below_tail s c.args.log c.loop-at.at c.tail-tail.result c.tail-tail.ensures.is c.loop-at-test.true in
-    let begins = begun s c.args.log c.loop-at.at h.edge below in
-    here_reads s t r u c.keeps_law.ensures.law c.args.log c.loop-at.at below begins h.kept h.found c.span_at-span.ensures.same c.span_at-span.result c.span_at-span.ensures.is c.see.result c.see.ensures.found c.see.ensures.kept
+    record {
+      law = c.keeps_law.ensures.law;
+      below = below;
+      begins = begun s c.args.log c.loop-at.at h.edge below;
+      kept = h.kept;
+      found = h.found;
+      same = c.span_at-span.ensures.same;
+      is = c.span_at-span.ensures.is;
+      seen = c.see.ensures.found;
+      noted = c.see.ensures.kept;
+    }
+
+pub names_place-requires : goal.names_place-requires
+names_place-requires g c = here_reads (step g (goal.at.names_place-requires g c).After-see)
 
 pub returns-then-names_place-clause-first : goal.returns-then-names_place-clause-first
 returns-then-names_place-clause-first g c =
-    let s = g.N.Hand.view c.args.self.now.near in
-    let t = g.N.Hand.view c.loop-at.self.near in
-    let r = g.N.Hand.view c.span_at-span.new.self.near in
-    let u = g.N.Hand.view c.see.new.self.near in
-    let h = c.loop-at.invariant in
-    let below = below_tail s c.args.log c.loop-at.at c.tail-tail.result c.tail-tail.ensures.is c.loop-at-test.true in
-    let begins = begun s c.args.log c.loop-at.at h.edge below in
-    h.rest ∙ here_live s t r u c.keeps_law.ensures.law c.args.log c.loop-at.at below begins h.kept h.found c.span_at-span.ensures.same c.span_at-span.result c.span_at-span.ensures.is c.see.result c.see.ensures.found c.see.ensures.kept (sym c.names_place.ensures ∙ c.if-names_place.true)
+    c.loop-at.invariant.rest ∙ here_live (step g (goal.at.returns-then-names_place-clause-first g c).After-see) (sym c.names_place.ensures ∙ c.if-names_place.true)
 
 pub returns-then-names_place-clause-next : goal.returns-then-names_place-clause-next
 returns-then-names_place-clause-next g c =
-    let s = g.N.Hand.view c.args.self.now.near in
-    let t = g.N.Hand.view c.loop-at.self.near in
-    let r = g.N.Hand.view c.span_at-span.new.self.near in
-    let u = g.N.Hand.view c.see.new.self.near in
-    let h = c.loop-at.invariant in
-    let below = below_tail s c.args.log c.loop-at.at c.tail-tail.result c.tail-tail.ensures.is c.loop-at-test.true in
-    let begins = begun s c.args.log c.loop-at.at h.edge below in
-    subst (λ n. IsBoundary s c.args.log (n + size_of c.span_at-span.result.len)) (sym (ap (λ (y : Span). y.at) c.span_at-span.ensures.is)) (here_next s t r u c.keeps_law.ensures.law c.args.log c.loop-at.at below begins h.kept h.found c.span_at-span.ensures.same c.span_at-span.result c.span_at-span.ensures.is c.see.result c.see.ensures.found c.see.ensures.kept)
+    subst (λ n. IsBoundary (g.N.Hand.view c.args.self.now.near) c.args.log (n + size_of c.span_at-span.result.len)) (sym (ap (λ (y : Span). y.at) c.span_at-span.ensures.is))
+    (here_next (step g (goal.at.returns-then-names_place-clause-next g c).After-see))
 
 pub returns-then-names_place-clause-lies : goal.returns-then-names_place-clause-lies
-returns-then-names_place-clause-lies g c =
-    let s = g.N.Hand.view c.args.self.now.near in
-    let t = g.N.Hand.view c.loop-at.self.near in
-    let r = g.N.Hand.view c.span_at-span.new.self.near in
-    let u = g.N.Hand.view c.see.new.self.near in
-    let h = c.loop-at.invariant in
-    let below = below_tail s c.args.log c.loop-at.at c.tail-tail.result c.tail-tail.ensures.is c.loop-at-test.true in
-    let begins = begun s c.args.log c.loop-at.at h.edge below in
-    here_lies s t r u c.keeps_law.ensures.law c.args.log c.loop-at.at below begins h.kept h.found c.span_at-span.ensures.same c.span_at-span.result c.span_at-span.ensures.is c.see.result c.see.ensures.found c.see.ensures.kept (sym c.names_place.ensures ∙ c.if-names_place.true)
+returns-then-names_place-clause-lies g c = here_lies (step g (goal.at.returns-then-names_place-clause-lies g c).After-see) (sym c.names_place.ensures ∙ c.if-names_place.true)
 
 pub returns-then-names_place-clause-found : goal.returns-then-names_place-clause-found
-returns-then-names_place-clause-found g c =
-    let s = g.N.Hand.view c.args.self.now.near in
-    let t = g.N.Hand.view c.loop-at.self.near in
-    let r = g.N.Hand.view c.span_at-span.new.self.near in
-    let u = g.N.Hand.view c.see.new.self.near in
-    let h = c.loop-at.invariant in
-    let below = below_tail s c.args.log c.loop-at.at c.tail-tail.result c.tail-tail.ensures.is c.loop-at-test.true in
-    let begins = begun s c.args.log c.loop-at.at h.edge below in
-    found_more s t r u c.keeps_law.ensures.law c.args.log c.loop-at.at below begins h.kept h.found c.span_at-span.ensures.same c.span_at-span.result c.span_at-span.ensures.is c.see.result c.see.ensures.found c.see.ensures.kept
+returns-then-names_place-clause-found g c = found_more (step g (goal.at.returns-then-names_place-clause-found g c).After-see)
 
 pub returns-then-names_place-clause-others : goal.returns-then-names_place-clause-others
-returns-then-names_place-clause-others g c =
-    let s = g.N.Hand.view c.args.self.now.near in
-    let t = g.N.Hand.view c.loop-at.self.near in
-    let r = g.N.Hand.view c.span_at-span.new.self.near in
-    let u = g.N.Hand.view c.see.new.self.near in
+returns-then-names_place-clause-others g c p =
     let h = c.loop-at.invariant in
-    let below = below_tail s c.args.log c.loop-at.at c.tail-tail.result c.tail-tail.ensures.is c.loop-at-test.true in
-    let begins = begun s c.args.log c.loop-at.at h.edge below in
-    let place = ap (λ (y : Span). y.at) c.span_at-span.ensures.is in
-    λ p. subst (λ n. IsNamedBetween s c.args.log c.args.at (n + size_of c.span_at-span.result.len) p ⊎ (u.cell p ≡ s.cell p)) (sym place) (others_more s t r u c.keeps_law.ensures.law c.args.log c.loop-at.at below begins h.kept h.found c.span_at-span.ensures.same c.span_at-span.result c.span_at-span.ensures.is c.see.result c.see.ensures.found c.see.ensures.kept c.args.at h.low p (h.others p))
+    subst (λ n. IsNamedBetween (g.N.Hand.view c.args.self.now.near) c.args.log c.args.at (n + size_of c.span_at-span.result.len) p ⊎ ((g.N.Hand.view c.see.new.self.near).cell p ≡ (g.N.Hand.view c.args.self.now.near).cell p))
+    (sym (ap (λ (y : Span). y.at) c.span_at-span.ensures.is)) (others_more (step g (goal.at.returns-then-names_place-clause-others g c).After-see) c.args.at h.low p (h.others p))
 
 pub returns-then-names_place-clause-exact : goal.returns-then-names_place-clause-exact
 returns-then-names_place-clause-exact g c still = c.see.ensures.set still ∙ c.span_at-span.ensures.same ∙ c.loop-at.invariant.exact still
@@ -80,19 +57,16 @@ returns-then-names_place-clause-exact g c still = c.see.ensures.set still ∙ c.
 pub loop-at-preserved : goal.loop-at-preserved
 loop-at-preserved g c =
     let s = g.N.Hand.view c.args.self.now.near in
-    let t = g.N.Hand.view c.loop-at.self.near in
-    let r = g.N.Hand.view c.span_at-span.new.self.near in
-    let u = g.N.Hand.view c.see.new.self.near in
+    let step = step g (goal.at.loop-at-preserved g c).After-see in
     let h = c.loop-at.invariant in
-    let below = below_tail s c.args.log c.loop-at.at c.tail-tail.result c.tail-tail.ensures.is c.loop-at-test.true in
-    let begins = begun s c.args.log c.loop-at.at h.edge below in
+    let size = sym c.size_of-at.ensures in
     record {
       low = omega (arith, h.low);
-      edge = subst (λ n. IsBoundary s c.args.log (c.loop-at.at + n)) (sym c.size_of-at.ensures) (here_next s t r u c.keeps_law.ensures.law c.args.log c.loop-at.at below begins h.kept h.found c.span_at-span.ensures.same c.span_at-span.result c.span_at-span.ensures.is c.see.result c.see.ensures.found c.see.ensures.kept);
-      rest = subst (λ n. live_from s c.args.log c.args.at ≡ live_from s c.args.log (c.loop-at.at + n)) (sym c.size_of-at.ensures) (h.rest ∙ here_dead s t r u c.keeps_law.ensures.law c.args.log c.loop-at.at below begins h.kept h.found c.span_at-span.ensures.same c.span_at-span.result c.span_at-span.ensures.is c.see.result c.see.ensures.found c.see.ensures.kept (sym c.names_place.ensures ∙ c.if-names_place.false));
-      found = found_more s t r u c.keeps_law.ensures.law c.args.log c.loop-at.at below begins h.kept h.found c.span_at-span.ensures.same c.span_at-span.result c.span_at-span.ensures.is c.see.result c.see.ensures.found c.see.ensures.kept;
-      kept = kept_more s t r u c.keeps_law.ensures.law c.args.log c.loop-at.at below begins h.kept h.found c.span_at-span.ensures.same c.span_at-span.result c.span_at-span.ensures.is c.see.result c.see.ensures.found c.see.ensures.kept;
-      others = λ p. subst (λ n. IsNamedBetween s c.args.log c.args.at (c.loop-at.at + n) p ⊎ (u.cell p ≡ s.cell p)) (sym c.size_of-at.ensures) (others_more s t r u c.keeps_law.ensures.law c.args.log c.loop-at.at below begins h.kept h.found c.span_at-span.ensures.same c.span_at-span.result c.span_at-span.ensures.is c.see.result c.see.ensures.found c.see.ensures.kept c.args.at h.low p (h.others p));
+      edge = subst (λ n. IsBoundary s c.args.log (c.loop-at.at + n)) size (here_next step);
+      rest = subst (λ n. live_from s c.args.log c.args.at ≡ live_from s c.args.log (c.loop-at.at + n)) size (h.rest ∙ here_dead step (sym c.names_place.ensures ∙ c.if-names_place.false));
+      found = found_more step;
+      kept = kept_more step;
+      others = λ p. subst (λ n. IsNamedBetween s c.args.log c.args.at (c.loop-at.at + n) p ⊎ ((g.N.Hand.view c.see.new.self.near).cell p ≡ s.cell p)) size (others_more step c.args.at h.low p (h.others p));
       came = then_came (then_came h.came (came_only _ c.span_at-span.ensures.reads)) c.see.ensures.came;
       exact = λ still. c.see.ensures.set still ∙ c.span_at-span.ensures.same ∙ h.exact still;
       order = c.see.ensures.order ∙ c.span_at-span.ensures.order ∙ h.order;

@@ -1,6 +1,8 @@
+use Rattle.far_book.proofs.book.Book.place.Given.{Over}
+use Rattle.far_book.proofs.book.Book.place.Goals.{After-room, In-Some}
 use Rattle.far_book.proofs.book.Book.place.Goals as goal
-use Rattle.std.proofs.Common.{◌≡◌, ◌∙◌, ◌<◌, ◌*◌, ap, refl, sym, subst}
-use Rattle.std.specs.Prelude.{true, Some}
+use Rattle.std.proofs.Common.{◌≡◌, ◌∙◌, ◌*◌, ◌<◌, ap, refl, sym, subst}
+use Rattle.std.specs.Prelude.{true}
 use Rattle.far_word.specs.declared.sizes.TheConstants.{CELLS}
 use Rattle.far_word.specs.Sizes.{size_of}
 use Rattle.far_core.specs.state.Room.{room}
@@ -9,65 +11,61 @@ use Rattle.far_book.specs.book.BookOf.{BookOf}
 use Rattle.far_book.specs.book.Effects.{placed}
 use Rattle.far_book.specs.book.Ledger.{Notes, MayTake, Takes}
 use Rattle.far_book.specs.book.Own.{own_part}
-use Rattle.far_book.proofs.region.Calls.{placeable, ends, free_unplaced, may_take}
+use Rattle.far_book.proofs.region.Calls.{HasRoom, ends, free_unplaced, may_take, placeable}
 use Rattle.far_book.proofs.region.InOrders.{placed_far, placed_honest}
 use Rattle.far_book.proofs.region.NotesKept.{notes_placed}
 use Rattle.far_book.proofs.region.Owns.{own_named}
 use Rattle.far_book.proofs.region.Places.{law_then}
 
+-- ---- once the book was opened
+module _ (g : Over) (c : After-room g) where
+  same : g.N.Hand.view c.self.inside.near ≡ g.N.Hand.view c.args.self.now.near
+  same = ap (λ (b : BookOf g.row.N.Denot g.row.D.Denot). g.N.Hand.view b.near) c.self.view_is
+
+  told : room (g.N.Hand.view c.self.inside.near) (size_of c.args.len) true ≡ c.room.result
+  told = ap (λ n. room (g.N.Hand.view c.self.inside.near) n true) (sym c.size_of-size.ensures) ∙ sym (c.room.ensures (own_part (g.N.Hand.view c.self.inside.near)) c.self.invariant.notes)
+
+  free : (g.N.Hand.view c.self.inside.near).cell c.args.pointer ≡ 0
+  free = ap (λ (t : State). t.cell c.args.pointer) same ∙ c.requires.free
+
+there : (g : Over) (c : In-Some g) → HasRoom (g.N.Hand.view c.self.inside.near) c.self.inside.ledger c.args.pointer c.args.len c.args.ds c.in-Some.place
+there g c = let h = (goal.at.In-Some g c).After-room in record {
+  notes = c.self.invariant.notes;
+  pointer = subst (λ (t : State). c.args.pointer < CELLS * t.mutators) (sym (same g h)) c.requires.pointer;
+  unplaced = free_unplaced (g.N.Hand.view c.self.inside.near) c.args.pointer (free g h);
+  some = c.requires.some;
+  most = c.requires.most;
+  structure = c.ranges.ds.fits;
+  reserve = true;
+  found = told g h ∙ c.in-Some.is;
+}
+
 pub returns-in_default-clause-none : goal.returns-in_default-clause-none
 returns-in_default-clause-none g c =
-    let same = ap (λ (b : BookOf g.row.N.Denot g.row.D.Denot). g.N.Hand.view b.near) c.self.view_is in
-    ap (λ (s : State). room s (size_of c.args.len) true) (sym same) ∙ ap (λ n. room (g.N.Hand.view c.self.inside.near) n true) (sym c.size_of-size.ensures)
-    ∙ sym (c.room.ensures (own_part (g.N.Hand.view c.self.inside.near)) c.self.invariant.notes) ∙ c.in_default.is
+    let h = (goal.at.returns-in_default-clause-none g c).After-room in
+    ap (λ (s : State). room s (size_of c.args.len) true) (sym (same g h)) ∙ told g h ∙ c.in_default.is
 
 pub name_blank-requires-clause-layout : goal.name_blank-requires-clause-layout
-name_blank-requires-clause-layout g c =
-    let s = g.N.Hand.view c.self.inside.near in
-    let same = ap (λ (b : BookOf g.row.N.Denot g.row.D.Denot). g.N.Hand.view b.near) c.self.view_is in
-    let pointer : c.args.pointer < CELLS * s.mutators = subst (λ (t : State). c.args.pointer < CELLS * t.mutators) (sym same) c.requires.pointer in
-    let free : s.cell c.args.pointer ≡ 0 = ap (λ (t : State). t.cell c.args.pointer) same ∙ c.requires.free in
-    let found : room s (size_of c.args.len) true ≡ Some c.in-Some.place = ap (λ n. room s n true) (sym c.size_of-size.ensures) ∙ sym (c.room.ensures (own_part s) c.self.invariant.notes) ∙ c.in-Some.is in
-    (placeable s c.self.inside.ledger c.self.invariant.notes c.args.pointer c.args.len c.args.ds c.in-Some.place pointer (free_unplaced s c.args.pointer free) c.requires.some c.requires.most c.ranges.ds.fits true found).layout
+name_blank-requires-clause-layout g c = (placeable (there g (goal.at.name_blank-requires-clause-layout g c).In-Some)).layout
 
 pub name_blank-requires-clause-next : goal.name_blank-requires-clause-next
-name_blank-requires-clause-next g c =
-    let s = g.N.Hand.view c.self.inside.near in
-    let same = ap (λ (b : BookOf g.row.N.Denot g.row.D.Denot). g.N.Hand.view b.near) c.self.view_is in
-    let pointer : c.args.pointer < CELLS * s.mutators = subst (λ (t : State). c.args.pointer < CELLS * t.mutators) (sym same) c.requires.pointer in
-    let free : s.cell c.args.pointer ≡ 0 = ap (λ (t : State). t.cell c.args.pointer) same ∙ c.requires.free in
-    let found : room s (size_of c.args.len) true ≡ Some c.in-Some.place = ap (λ n. room s n true) (sym c.size_of-size.ensures) ∙ sym (c.room.ensures (own_part s) c.self.invariant.notes) ∙ c.in-Some.is in
-    (placeable s c.self.inside.ledger c.self.invariant.notes c.args.pointer c.args.len c.args.ds c.in-Some.place pointer (free_unplaced s c.args.pointer free) c.requires.some c.requires.most c.ranges.ds.fits true found).next
+name_blank-requires-clause-next g c = (placeable (there g (goal.at.name_blank-requires-clause-next g c).In-Some)).next
 
 pub name_blank-requires-clause-tail : goal.name_blank-requires-clause-tail
-name_blank-requires-clause-tail g c =
-    let s = g.N.Hand.view c.self.inside.near in
-    let same = ap (λ (b : BookOf g.row.N.Denot g.row.D.Denot). g.N.Hand.view b.near) c.self.view_is in
-    let pointer : c.args.pointer < CELLS * s.mutators = subst (λ (t : State). c.args.pointer < CELLS * t.mutators) (sym same) c.requires.pointer in
-    let free : s.cell c.args.pointer ≡ 0 = ap (λ (t : State). t.cell c.args.pointer) same ∙ c.requires.free in
-    let found : room s (size_of c.args.len) true ≡ Some c.in-Some.place = ap (λ n. room s n true) (sym c.size_of-size.ensures) ∙ sym (c.room.ensures (own_part s) c.self.invariant.notes) ∙ c.in-Some.is in
-    ends s c.self.inside.ledger c.self.invariant.notes c.args.pointer c.args.len c.args.ds c.in-Some.place pointer (free_unplaced s c.args.pointer free) c.requires.some c.requires.most c.ranges.ds.fits true found
+name_blank-requires-clause-tail g c = ends (there g (goal.at.name_blank-requires-clause-tail g c).In-Some)
 
 pub take-requires : goal.take-requires
 take-requires g c =
-    let s = g.N.Hand.view c.self.inside.near in
-    let same = ap (λ (b : BookOf g.row.N.Denot g.row.D.Denot). g.N.Hand.view b.near) c.self.view_is in
-    let pointer : c.args.pointer < CELLS * s.mutators = subst (λ (t : State). c.args.pointer < CELLS * t.mutators) (sym same) c.requires.pointer in
-    let free : s.cell c.args.pointer ≡ 0 = ap (λ (t : State). t.cell c.args.pointer) same ∙ c.requires.free in
-    let found : room s (size_of c.args.len) true ≡ Some c.in-Some.place = ap (λ n. room s n true) (sym c.size_of-size.ensures) ∙ sym (c.room.ensures (own_part s) c.self.invariant.notes) ∙ c.in-Some.is in
-    subst (λ n. MayTake c.self.inside.ledger c.args.pointer n c.in-Some.place) (sym c.size_of-size.ensures) (may_take s c.self.inside.ledger c.self.invariant.notes c.args.pointer c.args.len c.args.ds c.in-Some.place pointer (free_unplaced s c.args.pointer free) c.requires.some c.requires.most c.ranges.ds.fits true found)
+    subst (λ n. MayTake c.self.inside.ledger c.args.pointer n c.in-Some.place) (sym c.size_of-size.ensures) (may_take (there g (goal.at.take-requires g c).In-Some))
 
 pub invariant_of-self : goal.invariant_of-self
 invariant_of-self g c =
     let s = g.N.Hand.view c.self.inside.near in
-    let same = ap (λ (b : BookOf g.row.N.Denot g.row.D.Denot). g.N.Hand.view b.near) c.self.view_is in
-    let pointer : c.args.pointer < CELLS * s.mutators = subst (λ (t : State). c.args.pointer < CELLS * t.mutators) (sym same) c.requires.pointer in
-    let free : s.cell c.args.pointer ≡ 0 = ap (λ (t : State). t.cell c.args.pointer) same ∙ c.requires.free in
-    let found : room s (size_of c.args.len) true ≡ Some c.in-Some.place = ap (λ n. room s n true) (sym c.size_of-size.ensures) ∙ sym (c.room.ensures (own_part s) c.self.invariant.notes) ∙ c.in-Some.is in
-    let able = placeable s c.self.inside.ledger c.self.invariant.notes c.args.pointer c.args.len c.args.ds c.in-Some.place pointer (free_unplaced s c.args.pointer free) c.requires.some c.requires.most c.ranges.ds.fits true found in
-    let takes : Takes c.self.inside.ledger c.take.new.self c.args.pointer (size_of c.args.len) c.in-Some.place = subst (λ n. Takes c.self.inside.ledger c.take.new.self c.args.pointer n c.in-Some.place) c.size_of-size.ensures c.take.ensures in
     let t = g.N.Hand.view c.name_blank.new.near in
     let held = g.D.Device.contents c.self.inside.device in
+    let free = free g (goal.at.invariant_of-self g c).After-room in
+    let able = placeable (there g (goal.at.invariant_of-self g c).In-Some) in
+    let takes : Takes c.self.inside.ledger c.take.new.self c.args.pointer (size_of c.args.len) c.in-Some.place = subst (λ n. Takes c.self.inside.ledger c.take.new.self c.args.pointer n c.in-Some.place) c.size_of-size.ensures c.take.ensures in
     let own = own_named s t c.self.invariant.notes.law c.args.pointer c.args.len c.args.ds c.in-Some.place able free c.name_blank.ensures.kept c.name_blank.ensures.forgot in
     record {
       notes = subst (λ (u : State). Notes u c.take.new.self) (sym own) (notes_placed (own_part s) c.self.inside.ledger c.take.new.self c.self.invariant.notes c.args.pointer c.args.len c.args.ds c.in-Some.place able
@@ -78,12 +76,8 @@ invariant_of-self g c =
 
 pub returns-clause-room : goal.returns-clause-room
 returns-clause-room g c =
-    let s = g.N.Hand.view c.self.inside.near in
-    let same = ap (λ (b : BookOf g.row.N.Denot g.row.D.Denot). g.N.Hand.view b.near) c.self.view_is in
-    let pointer : c.args.pointer < CELLS * s.mutators = subst (λ (t : State). c.args.pointer < CELLS * t.mutators) (sym same) c.requires.pointer in
-    let free : s.cell c.args.pointer ≡ 0 = ap (λ (t : State). t.cell c.args.pointer) same ∙ c.requires.free in
-    let found : room s (size_of c.args.len) true ≡ Some c.in-Some.place = ap (λ n. room s n true) (sym c.size_of-size.ensures) ∙ sym (c.room.ensures (own_part s) c.self.invariant.notes) ∙ c.in-Some.is in
-    ap (λ (t : State). room t (size_of c.args.len) true) (sym same) ∙ found
+    let h = (goal.at.returns-clause-room g c).After-room in
+    ap (λ (t : State). room t (size_of c.args.len) true) (sym (same g h)) ∙ told g h ∙ c.in-Some.is
 
 pub returns-clause-ran : goal.returns-clause-ran
 returns-clause-ran g c still =

@@ -20,23 +20,11 @@ use Rattle.far_evac.proofs.SendingOff.{Wanted, first_wanted}
 use Rattle.far_evac.proofs.WalkingOn.{dealt_exact, dealt_known, walks_on}
 use Rattle.far_evac.proofs.evac.Evac.deal.Goals as goal
 
-pub send_off-requires-clause-pointer : goal.send_off-requires-clause-pointer
-send_off-requires-clause-pointer g c =
+pub send_off-requires : goal.send_off-requires
+send_off-requires g c =
     let here = first_wanted (moment g.N.Hand.view c.args.self.now) c.keeps_law.ensures.law c.keeps_law.ensures.moment c.requires.phase c.args.span.p c.requires.first.0 c.requires.first.1 in
     let wanted = subst (λ (e : EvacOf g.row.N.Denot g.row.D.Denot). Wanted (g.N.Hand.view e.book.near) c.args.span.p) (sym c.self.view_is) here in
-    wanted.pointer
-
-pub send_off-requires-clause-quiet : goal.send_off-requires-clause-quiet
-send_off-requires-clause-quiet g c =
-    let here = first_wanted (moment g.N.Hand.view c.args.self.now) c.keeps_law.ensures.law c.keeps_law.ensures.moment c.requires.phase c.args.span.p c.requires.first.0 c.requires.first.1 in
-    let wanted = subst (λ (e : EvacOf g.row.N.Denot g.row.D.Denot). Wanted (g.N.Hand.view e.book.near) c.args.span.p) (sym c.self.view_is) here in
-    wanted.quiet
-
-pub send_off-requires-clause-evac : goal.send_off-requires-clause-evac
-send_off-requires-clause-evac g c =
-    let here = first_wanted (moment g.N.Hand.view c.args.self.now) c.keeps_law.ensures.law c.keeps_law.ensures.moment c.requires.phase c.args.span.p c.requires.first.0 c.requires.first.1 in
-    let wanted = subst (λ (e : EvacOf g.row.N.Denot g.row.D.Denot). Wanted (g.N.Hand.view e.book.near) c.args.span.p) (sym c.self.view_is) here in
-    wanted.evac
+    record { pointer = wanted.pointer; quiet = wanted.quiet; evac = wanted.evac }
 
 pub invariant_of-self : goal.invariant_of-self
 invariant_of-self g c =

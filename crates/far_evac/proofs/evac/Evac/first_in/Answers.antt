@@ -1,23 +1,22 @@
-use Rattle.std.proofs.Common.{◌≡◌, ◌∙◌, ◌∷◌, [], ap, subst}
+use Rattle.std.proofs.Common.{◌≡◌, ◌∙◌, ◌∷◌, [], ap, rules, subst}
 use Rattle.far_evac.specs.EvacOf.{EvacOf, moment}
 use Rattle.far_evac.specs.Live.{live_in}
 use Rattle.far_evac.proofs.Fronts.{first_lives, knows_cells, none_lives}
+use Rattle.far_evac.proofs.HandKept.{since_evac}
 use Rattle.far_evac.proofs.Keeping.{round_found}
 use Rattle.far_evac.proofs.Walking.{found_moment, front_begins, front_lies, front_range, stands_first}
 use Rattle.far_evac.proofs.WalkingOn.{next_leaving}
 use Rattle.far_evac.proofs.evac.Evac.first_in.Goals as goal
 
-pub next_live-requires-clause-log : goal.next_live-requires-clause-log
-next_live-requires-clause-log g c =
+pub next_live-requires : goal.next_live-requires
+next_live-requires g c =
     let phase = ap (λ (e : EvacOf g.row.N.Denot g.row.D.Denot). e.phase) c.self.view_is ∙ c.requires.phase in
     let held = ap (λ (e : EvacOf g.row.N.Denot g.row.D.Denot). e.collection) c.self.view_is ∙ c.requires.front.1 in
-    front_range (g.N.Hand.view c.self.inside.book.near) c.self.inside.round c.self.invariant c.keeps_law.ensures.law phase c.args.log c.requires.front.0 held
-
-pub next_live-requires-clause-begins : goal.next_live-requires-clause-begins
-next_live-requires-clause-begins g c =
-    let phase = ap (λ (e : EvacOf g.row.N.Denot g.row.D.Denot). e.phase) c.self.view_is ∙ c.requires.phase in
-    let held = ap (λ (e : EvacOf g.row.N.Denot g.row.D.Denot). e.collection) c.self.view_is ∙ c.requires.front.1 in
-    front_begins (g.N.Hand.view c.self.inside.book.near) c.self.inside.round c.self.invariant c.keeps_law.ensures.law phase c.args.log c.requires.front.0 held
+    let s = g.N.Hand.view c.self.inside.book.near in
+    let law = c.keeps_law.ensures.law in record {
+      log = front_range s c.self.inside.round c.self.invariant law phase c.args.log c.requires.front.0 held;
+      begins = front_begins s c.self.inside.round c.self.invariant law phase c.args.log c.requires.front.0 held;
+    }
 
 pub invariant_of-self : goal.invariant_of-self
 invariant_of-self g c =
@@ -50,29 +49,23 @@ invariant_of-self-2 g c =
     let moved = stands_first s c.self.inside.round c.self.invariant c.keeps_law.ensures.law phase c.args.log c.requires.front.0 held c.in-Some.span c.in-Some.ensures.first in
     round_found s t _ moved (knows_cells s t c.next_live.ensures.found c.next_live.ensures.kept)
 
-pub returns-clause-known : goal.returns-clause-known
-returns-clause-known g c =
-    let s = g.N.Hand.view c.self.inside.book.near in
-    let t = g.N.Hand.view c.next_live.new.self.near in
-    found_moment (moment g.N.Hand.view c.args.self.now) _ t c.next_live.new.self.order (ap (moment g.N.Hand.view) c.self.view_is) (knows_cells s t c.next_live.ensures.found c.next_live.ensures.kept) c.next_live.ensures.order
-
-pub returns-clause-first : goal.returns-clause-first
-returns-clause-first g c =
-    let phase = ap (λ (e : EvacOf g.row.N.Denot g.row.D.Denot). e.phase) c.self.view_is ∙ c.requires.phase in
-    let held = ap (λ (e : EvacOf g.row.N.Denot g.row.D.Denot). e.collection) c.self.view_is ∙ c.requires.front.1 in
-    let s = g.N.Hand.view c.self.inside.book.near in
-    let law = c.keeps_law.ensures.law in
-    let lies = front_lies s c.self.inside.round c.self.invariant law phase c.args.log c.requires.front.0 held in
-    let lives = first_lives s law c.args.log c.self.inside.round.at lies c.in-Some.span c.in-Some.ensures.first in
-    (lives.0, subst (λ (e : EvacOf g.row.N.Denot g.row.D.Denot). live_in (g.N.Hand.view e.book.near) c.args.log ≡ c.in-Some.span.p ∷ lives.0) c.self.view_is lives.1)
-
-pub returns-clause-next : goal.returns-clause-next
-returns-clause-next g c =
+pub returns : goal.returns
+returns g c =
     let phase = ap (λ (e : EvacOf g.row.N.Denot g.row.D.Denot). e.phase) c.self.view_is ∙ c.requires.phase in
     let held = ap (λ (e : EvacOf g.row.N.Denot g.row.D.Denot). e.collection) c.self.view_is ∙ c.requires.front.1 in
     let s = g.N.Hand.view c.self.inside.book.near in
     let t = g.N.Hand.view c.next_live.new.self.near in
     let law = c.keeps_law.ensures.law in
+    let known = knows_cells s t c.next_live.ensures.found c.next_live.ensures.kept in
     let lies = front_lies s c.self.inside.round c.self.invariant law phase c.args.log c.requires.front.0 held in
-    next_leaving s t law (knows_cells s t c.next_live.ensures.found c.next_live.ensures.kept) c.args.log c.self.inside.round.at lies c.in-Some.span c.in-Some.ensures.first
-    _ c.requires.front.0 held c.in-Some.ensures.next c.in-Some.ensures.inside
+    let first = c.in-Some.ensures.first in
+    let lives = first_lives s law c.args.log c.self.inside.round.at lies c.in-Some.span first in
+    record {
+      came = since_evac c.self.view_is c.next_live.ensures.came;
+      known = found_moment (moment g.N.Hand.view c.args.self.now) _ t c.next_live.new.self.order (ap (moment g.N.Hand.view) c.self.view_is) known c.next_live.ensures.order;
+      exact = search rules;
+      first = (lives.0, subst (λ (e : EvacOf g.row.N.Denot g.row.D.Denot). live_in (g.N.Hand.view e.book.near) c.args.log ≡ c.in-Some.span.p ∷ lives.0) c.self.view_is lives.1);
+      next = next_leaving s t law known c.args.log c.self.inside.round.at lies c.in-Some.span first _ c.requires.front.0 held c.in-Some.ensures.next c.in-Some.ensures.inside;
+      none = tt;
+      device = c.next_live.ensures.device ∙ ap (λ (e : EvacOf g.row.N.Denot g.row.D.Denot). e.book.device) c.self.view_is;
+    }

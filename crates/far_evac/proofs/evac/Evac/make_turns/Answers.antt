@@ -1,6 +1,8 @@
 use Rattle.far_hand.proofs.Closure.{no_call, then_came}
+use Rattle.far_evac.proofs.evac.Evac.make_turns.Given.{Over}
+use Rattle.far_evac.proofs.evac.Evac.make_turns.Goals.{In-Ok}
 use Rattle.far_evac.proofs.evac.Evac.make_turns.Goals as goal
-use Rattle.std.proofs.Common.{Err, refl, ◌≡◌, ◌∙◌, ◌+◌, true, false, ap, sym, subst, arith}
+use Rattle.std.proofs.Common.{Bool, Err, refl, ◌≡◌, ◌∙◌, ◌+◌, true, false, ap, sym, subst, arith}
 use Rattle.far_evac.specs.declared.answers.RoundEnd.{RoundEnd}
 use Rattle.far_evac.specs.declared.answers.RoundEnd.TheVariants.{Done}
 use Rattle.far_evac.specs.declared.phase.Phase.TheVariants.{Waiting}
@@ -10,12 +12,10 @@ use Rattle.far_device.proofs.Following.{follows_itself, follows_on}
 use Rattle.far_evac.specs.Failing.{fails, no_key}
 use Rattle.far_evac.specs.declared.answers.Progress.{Progress}
 use Rattle.far_evac.proofs.Failures.{fails_alike}
-use Rattle.far_evac.specs.AnyHand.{TurnsTo}
 use Rattle.far_evac.specs.EvacOf.{moment}
 use Rattle.far_evac.specs.Moment.{nothing, progress_of, tally_of}
-use Rattle.far_evac.specs.RoundAsked.{EndsAsking}
 use Rattle.far_evac.specs.Turning.{IsWithin, turned_at}
-use Rattle.far_evac.specs.Turns.{Turned, round_end}
+use Rattle.far_evac.specs.Turns.{Turned, round_end, turns_made}
 use Rattle.far_evac.proofs.Bounds.{starts_within}
 use Rattle.far_evac.proofs.TurnsOn.{Made, asked_done, asked_limit, asked_stop, made_more, none_made, turns_more, turns_over}
 use Rattle.far_evac.proofs.Waits.{turns_wait, waiting_of}
@@ -26,7 +26,7 @@ loop-init g c =
     let none : tally_of c.nothing_done-total.result ≡ nothing = ap tally_of c.nothing_done-total.ensures in
     record {
       made = subst (λ total. Made g.row.D.Denot g.D.Device.writes g.D.Device.lets_go g.D.Device.contents m m 0 total c.args.self.now.book.device c.args.self.now.book.device) (sym none)
-          (none_made g.row.D.Denot g.D.Device.writes g.D.Device.lets_go g.D.Device.contents m c.args.self.now.book.device);
+          (none_made c.args.self.now.book.device);
       exact = λ _. ap (λ total. turned_at m total false) (sym none);
       within = subst (IsWithin m) (sym none) (starts_within m c.keeps_law.ensures.law c.keeps_law.ensures.moment);
       runs = c.requires.running;
@@ -34,41 +34,33 @@ loop-init g c =
       came = no_call refl;
     }
 
+-- one turn more, where no word changes but by it
+exactly : (g : Over) (c : In-Ok g) → g.N.Hand.still → (over : Bool) → c.in-Ok.sum.done ≡ over →
+    turns_made (moment g.N.Hand.view c.args.self.now) (c.loop.counter + 1) ≡ turned_at (moment g.N.Hand.view c.turn_more.new.self) (tally_of c.in-Ok.sum) over
+exactly g c still over is =
+    let after = turned_at (moment g.N.Hand.view c.turn_more.new.self) (tally_of c.in-Ok.sum) in
+    turns_more (moment g.N.Hand.view c.args.self.now) c.loop.counter (moment g.N.Hand.view c.loop.self) (tally_of c.loop.total) (after over) (c.loop.invariant.exact still) (c.in-Ok.ensures.exact still ∙ ap after is)
+
 pub returns-then-total-clause-asked : goal.returns-then-total-clause-asked
 returns-then-total-clause-asked g c =
-    let m = moment g.N.Hand.view c.args.self.now in
-    let u = moment g.N.Hand.view c.loop.self in
-    let t = moment g.N.Hand.view c.turn_more.new.self in
-    let new = c.turn_more.new.self.book.device in
     let turn = c.in-Ok.ensures.turns in
-    subst (λ end. EndsAsking g.row.D.Denot g.D.Device.writes g.D.Device.lets_go g.D.Device.contents m c.args.turns c.args.alone end t c.args.self.now.book.device new) (ap (λ over. Done (progress_of (tally_of c.in-Ok.sum) over)) (sym c.if-total.true))
-    (asked_done g.row.D.Denot g.D.Device.writes g.D.Device.lets_go g.D.Device.contents m u c.loop.counter (tally_of c.loop.total) c.args.self.now.book.device c.loop.self.book.device c.loop.invariant.made
-    c.turn_more.ensures.lawful t turn.0 (tally_of c.in-Ok.sum) new turn.2 turn.3 turn.4 c.args.turns c.args.alone (omega (arith, c.loop-test.true)) (subst (λ over. TurnsTo u u.phase turn.0 over t) c.if-total.true turn.1))
+    asked_done c.loop.invariant.made c.turn_more.ensures.lawful (moment g.N.Hand.view c.turn_more.new.self) turn.0 (tally_of c.in-Ok.sum) c.turn_more.new.self.book.device turn.2 turn.3 turn.4
+    c.args.turns c.args.alone c.in-Ok.sum.done c.if-total.true (omega (arith, c.loop-test.true)) turn.1
 
 pub returns-then-total-clause-exact : goal.returns-then-total-clause-exact
 returns-then-total-clause-exact g c still =
-    let m = moment g.N.Hand.view c.args.self.now in
-    let u = moment g.N.Hand.view c.loop.self in
-    let t = moment g.N.Hand.view c.turn_more.new.self in
-    let total = tally_of c.in-Ok.sum in
-    let last = c.in-Ok.ensures.exact still ∙ ap (turned_at t total) c.if-total.true in
-    let now = turns_more m c.loop.counter u (tally_of c.loop.total) (turned_at t total true) (c.loop.invariant.exact still) last in
-    let all = turns_over m (c.loop.counter + 1) c.args.turns t total (omega (arith, c.loop-test.true)) now in
-    (ap (λ over. Done (progress_of total over)) c.if-total.true ∙ sym (ap round_end all), sym (ap (λ (r : Turned). r.moment) all))
+    let now = exactly g (goal.at.returns-then-total-clause-exact g c).In-Ok still true c.if-total.true in
+    let all = turns_over (moment g.N.Hand.view c.args.self.now) (c.loop.counter + 1) c.args.turns (moment g.N.Hand.view c.turn_more.new.self) (tally_of c.in-Ok.sum) (omega (arith, c.loop-test.true)) now in
+    (ap (λ over. Done (progress_of (tally_of c.in-Ok.sum) over)) c.if-total.true ∙ sym (ap round_end all), sym (ap (λ (r : Turned). r.moment) all))
 
 pub loop-preserved : goal.loop-preserved
 loop-preserved g c =
-    let m = moment g.N.Hand.view c.args.self.now in
-    let u = moment g.N.Hand.view c.loop.self in
-    let t = moment g.N.Hand.view c.turn_more.new.self in
-    let total = tally_of c.in-Ok.sum in
     let turn = c.in-Ok.ensures.turns in
     let goes = c.in-Ok.ensures.goes_on.more c.if-total.false in
     record {
-      made = made_more g.row.D.Denot g.D.Device.writes g.D.Device.lets_go g.D.Device.contents m u c.loop.counter (tally_of c.loop.total) c.args.self.now.book.device c.loop.self.book.device c.loop.invariant.made
-          c.turn_more.ensures.lawful t turn.0 total c.turn_more.new.self.book.device turn.2 turn.3 turn.4 (subst (λ over. TurnsTo u u.phase turn.0 over t) c.if-total.false turn.1);
-      exact = λ still.
-          turns_more m c.loop.counter u (tally_of c.loop.total) (turned_at t total false) (c.loop.invariant.exact still) (c.in-Ok.ensures.exact still ∙ ap (turned_at t total) c.if-total.false);
+      made = made_more c.loop.invariant.made c.turn_more.ensures.lawful (moment g.N.Hand.view c.turn_more.new.self) turn.0 (tally_of c.in-Ok.sum) c.turn_more.new.self.book.device turn.2 turn.3 turn.4
+          c.in-Ok.sum.done c.if-total.false turn.1;
+      exact = λ still. exactly g (goal.at.loop-preserved g c).In-Ok still false c.if-total.false;
       within = goes.0;
       runs = goes.1;
       follows = follows_on g.D.Device.contents g.D.Device.honest g.D.Device.faults g.D.Device.fails_at_most no_key false c.args.self.now.book.device c.loop.self.book.device c.turn_more.new.self.book.device c.loop.invariant.follows c.in-Ok.ensures.follows;
@@ -82,39 +74,26 @@ returns-in-Err-clause-follows g c =
 
 pub returns-then-is_waiting-clause-exact : goal.returns-then-is_waiting-clause-exact
 returns-then-is_waiting-clause-exact g c still =
-    let m = moment g.N.Hand.view c.args.self.now in
-    let u = moment g.N.Hand.view c.loop.self in
-    let t = moment g.N.Hand.view c.turn_more.new.self in
-    let total = tally_of c.in-Ok.sum in
-    let before = c.loop.invariant.exact still in
-    let now = turns_more m c.loop.counter u (tally_of c.loop.total) (turned_at t total false) before (c.in-Ok.ensures.exact still ∙ ap (turned_at t total) c.if-total.false) in
-    turns_wait m c.loop.counter c.args.turns u t (tally_of c.loop.total) total (omega (arith, c.loop-test.true)) before now (sym c.is_waiting-waited.ensures ∙ c.if-waited.true) (sym c.is_waiting.ensures ∙ c.if-is_waiting.true)
+    let now = exactly g (goal.at.returns-then-is_waiting-clause-exact g c).In-Ok still false c.if-total.false in
+    turns_wait (moment g.N.Hand.view c.args.self.now) c.loop.counter c.args.turns (moment g.N.Hand.view c.loop.self) (moment g.N.Hand.view c.turn_more.new.self) (tally_of c.loop.total) (tally_of c.in-Ok.sum)
+    (omega (arith, c.loop-test.true)) (c.loop.invariant.exact still) now (sym c.is_waiting-waited.ensures ∙ c.if-waited.true) (sym c.is_waiting.ensures ∙ c.if-is_waiting.true)
 
 pub returns-then-is_waiting-clause-asked : goal.returns-then-is_waiting-clause-asked
 returns-then-is_waiting-clause-asked g c =
-    let m = moment g.N.Hand.view c.args.self.now in
-    let u = moment g.N.Hand.view c.loop.self in
     let t = moment g.N.Hand.view c.turn_more.new.self in
-    let old = c.args.self.now.book.device in
-    let new = c.turn_more.new.self.book.device in
-    let total = tally_of c.in-Ok.sum in
     let turn = c.in-Ok.ensures.turns in
-    let made = made_more g.row.D.Denot g.D.Device.writes g.D.Device.lets_go g.D.Device.contents m u c.loop.counter (tally_of c.loop.total) old c.loop.self.book.device c.loop.invariant.made
-    c.turn_more.ensures.lawful t turn.0 total new turn.2 turn.3 turn.4 (subst (λ over. TurnsTo u u.phase turn.0 over t) c.if-total.false turn.1) in
-    asked_limit g.row.D.Denot g.D.Device.writes g.D.Device.lets_go g.D.Device.contents m t (c.loop.counter + 1) total old new made c.args.turns c.args.alone Waiting (omega (arith, c.loop-test.true))
-    (λ e. absurd (true≢false (sym c.if-alone.true ∙ e))) (sym (waiting_of t.phase (sym c.is_waiting.ensures ∙ c.if-is_waiting.true)))
+    let made = made_more c.loop.invariant.made c.turn_more.ensures.lawful t turn.0 (tally_of c.in-Ok.sum) c.turn_more.new.self.book.device turn.2 turn.3 turn.4 c.in-Ok.sum.done c.if-total.false turn.1 in
+    asked_limit made c.args.turns c.args.alone Waiting (omega (arith, c.loop-test.true)) (λ e. absurd (true≢false (sym c.if-alone.true ∙ e))) (sym (waiting_of t.phase (sym c.is_waiting.ensures ∙ c.if-is_waiting.true)))
 
 pub returns-clause-asked : goal.returns-clause-asked
 returns-clause-asked g c =
-    asked_limit g.row.D.Denot g.D.Device.writes g.D.Device.lets_go g.D.Device.contents (moment g.N.Hand.view c.args.self.now) (moment g.N.Hand.view c.loop.self) c.loop.counter (tally_of c.loop.total) c.args.self.now.book.device c.loop.self.book.device c.loop.invariant.made
-    c.args.turns c.args.alone c.phase.result c.loop.auto.counter-end (λ _. omega (arith, c.loop.auto.counter-end, c.loop-test.false)) c.phase.ensures
+    asked_limit c.loop.invariant.made c.args.turns c.args.alone c.phase.result c.loop.auto.counter-end (λ _. omega (arith, c.loop.auto.counter-end, c.loop-test.false)) c.phase.ensures
 
 pub returns-in-Err-clause-refused : goal.returns-in-Err-clause-refused
 returns-in-Err-clause-refused g c =
     let stop = c.in-Err.ensures.stops in
-    asked_stop g.row.D.Denot g.D.Device.writes g.D.Device.lets_go g.D.Device.contents (moment g.N.Hand.view c.args.self.now) (moment g.N.Hand.view c.loop.self) c.loop.counter (tally_of c.loop.total) c.args.self.now.book.device c.loop.self.book.device c.loop.invariant.made
-    c.turn_more.ensures.lawful (moment g.N.Hand.view c.turn_more.new.self) stop.0 c.args.turns c.in-Err.fault.so_far c.in-Err.fault.why c.turn_more.new.self.book.device (omega (arith, c.loop-test.true))
-    c.in-Err.ensures.leaving stop.1 stop.3 stop.2 stop.4
+    asked_stop c.loop.invariant.made c.turn_more.ensures.lawful (moment g.N.Hand.view c.turn_more.new.self) stop.0 c.args.turns c.in-Err.fault.so_far c.in-Err.fault.why c.turn_more.new.self.book.device
+    (omega (arith, c.loop-test.true)) c.in-Err.ensures.leaving stop.1 stop.3 stop.2 stop.4
 
 pub returns-then-total-clause-came : goal.returns-then-total-clause-came
 returns-then-total-clause-came g c = then_came c.loop.invariant.came c.turn_more.ensures.came

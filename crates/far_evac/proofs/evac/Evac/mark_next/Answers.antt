@@ -28,23 +28,17 @@ mark-requires g c =
     let stands = subst (λ o. IfSome o (λ (span : Span). StandsAt (g.N.Hand.view c.seek-next.new.book.near) (standing_at c.self.inside.round c.seek-next.result.0) span)) c.in-Some.is c.seek-next.ensures.next in
     record { legal = may_mark h c.keeps_law-2.ensures.law c.in-Some.span stands }
 
-pub returns-in_default-clause-known : goal.returns-in_default-clause-known
-returns-in_default-clause-known g c =
-    let h = sought g (goal.at.returns-in_default-clause-known g c).After-seek-next in
+pub returns-in_default : goal.returns-in_default
+returns-in_default g c =
+    let h = sought g (goal.at.returns-in_default g c).After-seek-next in
     let end = subst (λ o. IfNone o (c.seek-next.result.0.index ≡ length c.self.inside.round.chosen)) c.in_default.is c.seek-next.ensures.none in
-    knows_so c.seek-next.ensures.order (next_phase h) (next_held h) (ap (made g) c.self.view_is) (none_known h end)
-
-pub returns-in_default-clause-exact : goal.returns-in_default-clause-exact
-returns-in_default-clause-exact g c still =
-    let h = sought g (goal.at.returns-in_default-clause-exact g c).After-seek-next in
-    let end = subst (λ o. IfNone o (c.seek-next.result.0.index ≡ length c.self.inside.round.chosen)) c.in_default.is c.seek-next.ensures.none in
-    moment_so c.seek-next.ensures.order (next_phase h) (next_held h) (none_same h end (c.seek-next.ensures.exact still)) ∙ ap (made g) c.self.view_is
-
-pub returns-in_default-clause-found : goal.returns-in_default-clause-found
-returns-in_default-clause-found g c =
-    let h = sought g (goal.at.returns-in_default-clause-found g c).After-seek-next in
-    let end = subst (λ o. IfNone o (c.seek-next.result.0.index ≡ length c.self.inside.round.chosen)) c.in_default.is c.seek-next.ensures.none in
-    none_shown h end ∙ ap (λ (e : EvacOf g.row.N.Denot g.row.D.Denot). not (is_empty (lacking (g.N.Hand.view e.book.near) e.collection))) c.self.view_is
+    record {
+      came = since_evac c.self.view_is c.seek-next.ensures.came;
+      known = knows_so c.seek-next.ensures.order (next_phase h) (next_held h) (ap (made g) c.self.view_is) (none_known h end);
+      exact = λ still. moment_so c.seek-next.ensures.order (next_phase h) (next_held h) (none_same h end (c.seek-next.ensures.exact still)) ∙ ap (made g) c.self.view_is;
+      device = c.seek-next.ensures.device ∙ ap (λ (e : EvacOf g.row.N.Denot g.row.D.Denot). e.book.device) c.self.view_is;
+      found = none_shown h end ∙ ap (λ (e : EvacOf g.row.N.Denot g.row.D.Denot). not (is_empty (lacking (g.N.Hand.view e.book.near) e.collection))) c.self.view_is;
+    }
 
 pub invariant_of-self-2 : goal.invariant_of-self-2
 invariant_of-self-2 g c =
@@ -53,27 +47,21 @@ invariant_of-self-2 g c =
     let m = c.mark.ensures in
     goes_on h c.keeps_law.ensures.law c.keeps_law-2.ensures.law c.in-Some.span stands (g.N.Hand.view c.mark.new.self.near) c.mark.result m.found c.mark.type_inv m.kept c.size_of.result c.size_of.ensures
 
-pub returns-clause-known : goal.returns-clause-known
-returns-clause-known g c =
-    let h = sought g (goal.at.returns-clause-known g c).After-seek-next in
+pub returns : goal.returns
+returns g c =
+    let h = sought g (goal.at.returns g c).After-seek-next in
     let stands = subst (λ o. IfSome o (λ (span : Span). StandsAt (g.N.Hand.view c.seek-next.new.book.near) (standing_at c.self.inside.round c.seek-next.result.0) span)) c.in-Some.is c.seek-next.ensures.next in
+    let law = c.keeps_law.ensures.law in
+    let then = c.keeps_law-2.ensures.law in
     let m = c.mark.ensures in
-    let known = marks_known h c.keeps_law.ensures.law c.keeps_law-2.ensures.law c.in-Some.span stands (g.N.Hand.view c.mark.new.self.near) c.mark.result m.found c.mark.type_inv m.kept in
-    knows_so (m.order ∙ c.seek-next.ensures.order) (next_phase h) (next_held h) (ap (made g) c.self.view_is) known
-
-pub returns-clause-exact : goal.returns-clause-exact
-returns-clause-exact g c still =
-    let h = sought g (goal.at.returns-clause-exact g c).After-seek-next in
-    let stands = subst (λ o. IfSome o (λ (span : Span). StandsAt (g.N.Hand.view c.seek-next.new.book.near) (standing_at c.self.inside.round c.seek-next.result.0) span)) c.in-Some.is c.seek-next.ensures.next in
-    let m = c.mark.ensures in
-    let same = marks_exactly h c.keeps_law.ensures.law c.keeps_law-2.ensures.law c.in-Some.span stands (g.N.Hand.view c.mark.new.self.near) c.mark.result m.found c.mark.type_inv m.kept (c.seek-next.ensures.exact still) (m.set still) in
-    moment_so (m.order ∙ c.seek-next.ensures.order) (next_phase h) (next_held h) same ∙ ap (made g) c.self.view_is
-
-pub returns-clause-found : goal.returns-clause-found
-returns-clause-found g c =
-    let h = sought g (goal.at.returns-clause-found g c).After-seek-next in
-    let stands = subst (λ o. IfSome o (λ (span : Span). StandsAt (g.N.Hand.view c.seek-next.new.book.near) (standing_at c.self.inside.round c.seek-next.result.0) span)) c.in-Some.is c.seek-next.ensures.next in
-    some_shown h c.keeps_law-2.ensures.law c.in-Some.span stands ∙ ap (λ (e : EvacOf g.row.N.Denot g.row.D.Denot). not (is_empty (lacking (g.N.Hand.view e.book.near) e.collection))) c.self.view_is
-
-pub returns-clause-came : goal.returns-clause-came
-returns-clause-came g c = since_evac c.self.view_is (then_came c.seek-next.ensures.came c.mark.ensures.came)
+    let u = g.N.Hand.view c.mark.new.self.near in
+    let order = m.order ∙ c.seek-next.ensures.order in
+    record {
+      came = since_evac c.self.view_is (then_came c.seek-next.ensures.came m.came);
+      known = knows_so order (next_phase h) (next_held h) (ap (made g) c.self.view_is) (marks_known h law then c.in-Some.span stands u c.mark.result m.found c.mark.type_inv m.kept);
+      exact = λ still.
+          moment_so order (next_phase h) (next_held h) (marks_exactly h law then c.in-Some.span stands u c.mark.result m.found c.mark.type_inv m.kept (c.seek-next.ensures.exact still) (m.set still))
+          ∙ ap (made g) c.self.view_is;
+      device = m.device ∙ c.seek-next.ensures.device ∙ ap (λ (e : EvacOf g.row.N.Denot g.row.D.Denot). e.book.device) c.self.view_is;
+      found = some_shown h then c.in-Some.span stands ∙ ap (λ (e : EvacOf g.row.N.Denot g.row.D.Denot). not (is_empty (lacking (g.N.Hand.view e.book.near) e.collection))) c.self.view_is;
+    }

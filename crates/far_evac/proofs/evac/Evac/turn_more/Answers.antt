@@ -1,3 +1,5 @@
+use Rattle.far_evac.proofs.evac.Evac.turn_more.Given.{Over}
+use Rattle.far_evac.proofs.evac.Evac.turn_more.Goals.{After-keeps_law-in-Ok}
 use Rattle.far_evac.proofs.evac.Evac.turn_more.Goals as goal
 use Rattle.std.proofs.Common.{◌∙◌, false, Result, ap, sym, subst}
 use Rattle.far_evac.specs.declared.answers.EvacFault.{EvacFault}
@@ -10,14 +12,12 @@ use Rattle.far_evac.specs.Turning.{GoesOn}
 use Rattle.far_evac.proofs.Bounds.{stop_bounded, turn_goes_on}
 use Rattle.far_evac.proofs.TurnsOn.{not_idle}
 
+goes_on : (g : Over) (c : After-keeps_law-in-Ok g) → GoesOn (moment g.N.Hand.view c.turn.new.self) (plus (tally_of c.args.before) (tally_of c.in-Ok.made)) c.in-Ok.made.done
+goes_on g c = turn_goes_on (moment g.N.Hand.view c.args.self.now) (moment g.N.Hand.view c.turn.new.self) c.keeps_law.ensures.law c.keeps_law.ensures.moment
+    c.keeps_law-in-Ok.ensures.law c.keeps_law-in-Ok.ensures.moment (tally_of c.args.before) (tally_of c.in-Ok.made) c.in-Ok.made.done c.requires.within c.in-Ok.ensures.turns
+
 pub sum-requires : goal.sum-requires
-sum-requires g c =
-    let m = moment g.N.Hand.view c.args.self.now in
-    let t = moment g.N.Hand.view c.turn.new.self in
-    record {
-      bounded = (turn_goes_on m t c.keeps_law.ensures.law c.keeps_law.ensures.moment c.keeps_law-in-Ok.ensures.law c.keeps_law-in-Ok.ensures.moment
-          (tally_of c.args.before) (tally_of c.in-Ok.made) c.in-Ok.made.done c.requires.within c.in-Ok.ensures.turns).bounded;
-    }
+sum-requires g c = record { bounded = (goes_on g (goal.at.sum-requires g c).After-keeps_law-in-Ok).bounded }
 
 pub sum-requires-in-Err : goal.sum-requires-in-Err
 sum-requires-in-Err g c =
@@ -28,11 +28,7 @@ sum-requires-in-Err g c =
 
 pub returns-in-Ok-clause-goes_on : goal.returns-in-Ok-clause-goes_on
 returns-in-Ok-clause-goes_on g c =
-    let m = moment g.N.Hand.view c.args.self.now in
-    let t = moment g.N.Hand.view c.turn.new.self in
-    subst (λ (p : Progress). GoesOn t (tally_of p) p.done) (sym c.sum.ensures)
-    (turn_goes_on m t c.keeps_law.ensures.law c.keeps_law.ensures.moment c.keeps_law-in-Ok.ensures.law c.keeps_law-in-Ok.ensures.moment
-    (tally_of c.args.before) (tally_of c.in-Ok.made) c.in-Ok.made.done c.requires.within c.in-Ok.ensures.turns)
+    subst (λ (p : Progress). GoesOn (moment g.N.Hand.view c.turn.new.self) (tally_of p) p.done) (sym c.sum.ensures) (goes_on g (goal.at.returns-in-Ok-clause-goes_on g c).After-keeps_law-in-Ok)
 
 pub returns-in-Err-clause-stops : goal.returns-in-Err-clause-stops
 returns-in-Err-clause-stops g c =

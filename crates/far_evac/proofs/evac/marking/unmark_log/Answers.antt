@@ -70,24 +70,18 @@ loop-span-preserved g c =
       came = then_came (then_came h.came c.next_live.ensures.came) k.came;
     }
 
-pub returns-clause-known : goal.returns-clause-known
-returns-clause-known g c =
+pub returns : goal.returns
+returns g c =
     let start = g.N.Hand.view c.args.book.now.near in
     let s = g.N.Hand.view c.loop-span.book.near in
     let t = g.N.Hand.view c.next_live.new.self.near in
     let h = c.loop-span.invariant in
     let e = c.in_default.ensures in
     let done = all_done start s t c.args.log c.loop-span.from h.done h.parts e.none in
-    subst (λ ps. Knows (fold unmarked start ps) t) (sym done) (knows_more (fold unmarked start h.done) s t h.known (knows_cells s t e.found e.kept))
-
-pub returns-clause-exact : goal.returns-clause-exact
-returns-clause-exact g c still =
-    let start = g.N.Hand.view c.args.book.now.near in
-    let s = g.N.Hand.view c.loop-span.book.near in
-    let t = g.N.Hand.view c.next_live.new.self.near in
-    let h = c.loop-span.invariant in
-    let e = c.in_default.ensures in
-    e.exact still ∙ h.exact still ∙ ap (fold unmarked start) (sym (all_done start s t c.args.log c.loop-span.from h.done h.parts e.none))
-
-pub returns-clause-came : goal.returns-clause-came
-returns-clause-came g c = then_came c.loop-span.invariant.came c.next_live.ensures.came
+    record {
+      came = then_came h.came c.next_live.ensures.came;
+      known = subst (λ ps. Knows (fold unmarked start ps) t) (sym done) (knows_more (fold unmarked start h.done) s t h.known (knows_cells s t e.found e.kept));
+      exact = λ still. e.exact still ∙ h.exact still ∙ ap (fold unmarked start) (sym done);
+      order = e.order ∙ h.order;
+      device = e.device ∙ h.device;
+    }

@@ -11,7 +11,7 @@ use Rattle.far_table.specs.Views.{held_at}
 use Rattle.far_heap.specs.declared.view.View.{View}
 use Rattle.far_heap.specs.Mine.{IsSlow, Mine, OwnOk, ds_in, len_in, mine_of, uses, viewing, views}
 use Rattle.far_heap.proofs.Mines.{again_mine, ds_own, len_own, none_there, pinned_mine, uses_so, views_own, views_so}
-use Rattle.far_heap.proofs.OwnSteps.{pinned_ok, seated_is, viewed_used}
+use Rattle.far_heap.proofs.OwnSteps.{pinned_ok, seated_is, viewed_used, warmed_ok}
 use Rattle.far_heap.proofs.Slow.{slow_found}
 use Rattle.far_heap.proofs.own.Own.try_view.Goals as goal
 
@@ -41,8 +41,14 @@ invariant_of-self g c =
     let s = c.self.inside in
     let p : ℕ = c.args.p in
     let so = uses_so s.seat p (subst (λ (m : Mine). uses m p ≡ true) (sym c.self.view_is) c.in-Some-used_len.ensures.used.0) in
-    subst (λ (t : Seated). OwnOk t _ s.number s.lens.items (slice_set s.stamps.items (p % CELLS) s.scope) s.scope) (sym (seated_is c.pin.new.self s.seat.table _ c.pin.ensures.table c.in-Ok.ensures.held))
-    (pinned_ok s.seat _ s.number s.lens.items s.stamps.items s.scope c.self.invariant p c.in-Ok.field-0 (so.0 ∙ c.self.invariant.number_is) so.1 (ap (λ (m : Mine). m.opened) c.self.view_is ∙ c.requires))
+    subst (λ (t : Seated). OwnOk t _ s.number s.lens.items (slice_set s.stamps.items (p % CELLS) s.scope) s.scope) (sym (seated_is c.pin.new.self s.seat.table _ c.pin.ensures.table c.in-Ok.ensures.held.2))
+    (pinned_ok s.seat _ s.number s.lens.items s.stamps.items s.scope c.self.invariant p c.in-Ok.ensures.held.0 c.in-Ok.field-0 (so.0 ∙ c.self.invariant.number_is) so.1 (ap (λ (m : Mine). m.opened) c.self.view_is ∙ c.requires))
+
+pub invariant_of-self-in-Err : goal.invariant_of-self-in-Err
+invariant_of-self-in-Err g c =
+    let s = c.self.inside in
+    subst (λ (t : Seated). OwnOk t _ s.number s.lens.items s.stamps.items s.scope) (sym (seated_is c.pin.new.self s.seat.table _ c.pin.ensures.table c.in-Err.ensures.kept.0))
+    (warmed_ok s.seat _ s.number s.lens.items s.stamps.items s.scope c.self.invariant c.args.p c.in-Err.word)
 
 pub returns-in-Ok-clause-tried : goal.returns-in-Ok-clause-tried
 returns-in-Ok-clause-tried g c =
@@ -52,7 +58,7 @@ returns-in-Ok-clause-tried g c =
     let own = (uses_so s.seat p (subst (λ (m : Mine). uses m p ≡ true) (sym c.self.view_is) used.0)).0 in
     let of : ℕ → View = λ n. record { pointer = p; len = n } in (
       used.0,
-      (ap of used.1, ap mine_of (seated_is c.pin.new.self s.seat.table _ c.pin.ensures.table c.in-Ok.ensures.held) ∙ pinned_mine s.seat p own c.in-Ok.field-0 ∙ ap (viewing p) c.self.view_is),
+      (ap of used.1, ap mine_of (seated_is c.pin.new.self s.seat.table _ c.pin.ensures.table c.in-Ok.ensures.held.2) ∙ pinned_mine s.seat p own c.in-Ok.ensures.held.0 c.in-Ok.field-0 ∙ ap (viewing p) c.self.view_is),
     )
 
 pub returns-in-Err-clause-tried : goal.returns-in-Err-clause-tried
@@ -67,7 +73,7 @@ returns-in-Err-clause-tried g c =
       used.0,
       (
         c.viewed_len.ensures.other c.in_default.is,
-        ap mine_of (seated_is c.pin.new.self s.seat.table s.seat.view c.pin.ensures.table kept.0) ∙ c.self.view_is,
+        ap mine_of (seated_is c.pin.new.self s.seat.table _ c.pin.ensures.table kept.0) ∙ c.self.view_is,
         subst (λ (m : Mine). IsSlow (len_in m p) (ds_in m p) (read_of c.in-Err.word)) c.self.view_is
             (subst (λ (z : ℕ × ℕ). IsSlow z.0 z.1 (read_of c.in-Err.word)) (λ i. (sym (len_own s.seat p so.0) i, sym (ds_own s.seat p so.0) i)) slow),
       ),

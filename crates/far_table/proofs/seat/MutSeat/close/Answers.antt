@@ -1,8 +1,8 @@
-use Rattle.std.proofs.Common.{sym, ap, subst, arith}
+use Rattle.std.proofs.Common.{◌≡◌, Some, None, sym, ap, subst, arith}
 use Rattle.std.specs.Prelude.{IsSome}
 use Rattle.far_table.specs.Layout.{scope_at}
 use Rattle.far_table.specs.Seats.{Seated}
-use Rattle.far_table.proofs.SeatLemmas.{inside}
+use Rattle.far_table.proofs.SeatLemmas.{inside, seat_stays}
 use Rattle.far_table.proofs.Steps.{closes}
 use Rattle.far_table.proofs.seat.MutSeat.close.Goals as goal
 
@@ -13,3 +13,7 @@ store-requires g c =
     let small = i.4 in
     let t = inside _ _ _ (scope_at c.self.inside.number) i.0 (ap (λ t. t.shared.table_id) c.deref.ensures) i.1 (omega arith) in
     (t.0, t.1, closes _ _ _ i.2 _ i.3 opened)
+
+pub invariant_of-self : goal.invariant_of-self
+invariant_of-self g c = let i = c.self.invariant in let h = c.store.ensures in
+    seat_stays _ _ _ _ _ _ _ _ _ _ _ _ _ i h.0 h.2 (λ e is. let odd : None ≡ Some e = is in cc) i.6 (λ p place h. let odd : None ≡ Some place = h in cc)

@@ -9,9 +9,9 @@ use Rattle.far_table.specs.View.{OwnerView}
 use Rattle.far_table.specs.Layout.{cell_at}
 use Rattle.far_table.specs.Seats.{Seated}
 use Rattle.far_table.specs.Tells.{owner_of}
-use Rattle.far_table.specs.Views.{held_at, held_view, uses}
+use Rattle.far_table.specs.Views.{held_at, held_view, uses, warmed_view}
 use Rattle.far_table.proofs.PinSteps.{pins}
-use Rattle.far_table.proofs.SeatLemmas.{inside, pin_held, pin_kept, places_put, rests, seat_made, seat_stays}
+use Rattle.far_table.proofs.SeatLemmas.{inside, pin_held, pin_kept, places_put, places_warmed, rests, seat_made, seat_stays}
 use Rattle.far_table.proofs.seat.MutSeat.pin.Goals as goal
 
 pub fetch_or-found-requires : goal.fetch_or-found-requires
@@ -32,7 +32,8 @@ invariant_of-self g c =
     let l = h.2.1 c.args.p refl in
     let r = rests c.fetch_or-found.result (read_of c.fetch_or-found.result) c.resting_place.result refl l.0.0 c.resting_place.ensures in
     let none : place_to_view (read_of c.fetch_or-found.result) ≡ None = sym r ∙ c.in_default.is in
-    seat_stays _ _ _ _ _ _ _ _ _ _ _ _ _ i h.0 (pin_kept _ _ _ c.args.p c.fetch_or-found.result none l.1) i.5 i.6 i.7
+    seat_stays _ _ _ _ _ _ _ _ _ _ _ _ _ i h.0 (pin_kept _ _ _ c.args.p c.fetch_or-found.result none l.1) i.5 i.6
+    (places_warmed c.args.p c.fetch_or-found.result _ _ i.7)
 
 pub returns-in_default-clause-kept : goal.returns-in_default-clause-kept
 returns-in_default-clause-kept g c =
@@ -40,7 +41,7 @@ returns-in_default-clause-kept g c =
     let r = rests c.fetch_or-found.result (read_of c.fetch_or-found.result) c.resting_place.result refl l.0.0 c.resting_place.ensures in
     let none : place_to_view (read_of c.fetch_or-found.result) ≡ None = sym r ∙ c.in_default.is in
     let t = pin_kept _ _ _ c.args.p c.fetch_or-found.result none l.1 in
-    (ap owner_of t.after_is ∙ ap (λ (z : Seated). z.view) c.self.view_is, none)
+    (ap owner_of t.after_is ∙ ap (λ (z : Seated). warmed_view c.args.p c.fetch_or-found.result z.view) c.self.view_is, none)
 
 pub returns-in_default-clause-event : goal.returns-in_default-clause-event
 returns-in_default-clause-event g c =
@@ -73,14 +74,16 @@ invariant_of-self-2 g c =
     let some = sym r ∙ c.in-Some.is in
     let own = c.requires.own ∙ ap (λ (z : Seated). z.view.number) (sym c.self.view_is) in
     seat_stays _ _ _ _ _ _ _ _ _ _ _ _ _ i h.0 (pin_held _ _ _ c.args.p c.fetch_or-found.result c.in-Some.place some l.1) i.5 (length-set _ _ _ ∙ i.6)
-    (places_put _ _ c.args.p c.in-Some.place i.7 i.6 own (l.0.1 c.in-Some.place some))
+    (places_put _ _ c.args.p c.in-Some.place (places_warmed c.args.p c.fetch_or-found.result _ _ i.7) i.6 own (l.0.1 c.in-Some.place some))
 
 pub returns-clause-held : goal.returns-clause-held
 returns-clause-held g c =
     let l = c.fetch_or-found.ensures.2.1 c.args.p refl in
     let r = rests c.fetch_or-found.result (read_of c.fetch_or-found.result) c.resting_place.result refl l.0.0 c.resting_place.ensures in
-    let t = pin_held _ _ _ c.args.p c.fetch_or-found.result c.in-Some.place (sym r ∙ c.in-Some.is) l.1 in
-    ap owner_of t.after_is ∙ ap (λ (z : Seated). held_view c.args.p c.in-Some.place z.view) c.self.view_is
+    let some = sym r ∙ c.in-Some.is in
+    let n = c.fetch_or-found.result in
+    let t = pin_held _ _ _ c.args.p n c.in-Some.place some l.1 in
+    (n, some, ap owner_of t.after_is ∙ ap (λ (z : Seated). held_view c.args.p c.in-Some.place (warmed_view c.args.p n z.view)) c.self.view_is)
 
 pub returns-clause-event : goal.returns-clause-event
 returns-clause-event g c =

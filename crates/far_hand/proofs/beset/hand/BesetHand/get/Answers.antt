@@ -49,7 +49,7 @@ returns c =
     ap (λ (u : State). masked u found (is_counted c.recount.new.counted.items)) c.get-word.ensures.state
     ∙ ap (λ (k : ℕ → Bool). masked (after_get s c.args.log free) found k) c.recount.ensures.words in
     let word : s.word a ≡ c.get-word.result = cc in
-    let tells = gets s hand.core.law found counted c.args.log c.args.at free c.is_quiet_at-quiet.result c.is_quiet_at-quiet.ensures.all in
+    let tells = gets s hand.core.law found counted c.args.log c.args.at free c.is_quiet_at-quiet.result (λ _. c.is_quiet_at-quiet.ensures.quiet) c.is_quiet_at-quiet.ensures.all in
     let old = subst (λ (o : State). Gets o (masked (after_get s c.args.log free) found (recounted counted free c.is_quiet_at-quiet.result a)) c.args.log c.args.at free (s.word a)) c.turn.ensures.view tells in
     let both = subst (λ (v : State). Gets (beset_view c.args.self.now) v c.args.log c.args.at free (s.word a)) (sym new) old in
     let all = subst (λ w. Gets (beset_view c.args.self.now) (masked (core_state c.get-word.new.self) found (is_counted c.recount.new.counted.items)) c.args.log c.args.at free w) word both in
@@ -60,6 +60,7 @@ returns c =
       padding = all.padding;
       read = all.read;
       kept = all.kept;
+      unread = all.unread;
       here = all.here;
       others = all.others;
       forgot = all.forgot;

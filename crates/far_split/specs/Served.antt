@@ -1,0 +1,51 @@
+-- What hinders a mutator beside others, in other words; and that the lines which aren't hindered are those of a mutator that is alone.
+use Rattle.std.specs.Prelude.{◌≡◌, ◌⊎◌, ℕ, true, List, [], ◌∷◌, ◌++◌, map}
+use Rattle.far_word.specs.declared.refused.Refused.{Refused as Refusal}
+use Rattle.far_word.specs.Refused.{refusal_number}
+use Rattle.far_text.specs.Command.{Command, Mutator, New, Read, View, Write}
+use Rattle.far_replay.specs.Alone.{Alone, Own}
+use Rattle.far_replay.specs.Reply.{Reply, Refused}
+use Rattle.far_split.specs.Here.{AloneHere, AreBy, Hindered}
+
+-- it is refused with this number
+abbrev pub IsRefusedWith : ℕ → Reply → Type 0
+IsRefusedWith number r = (why : Refusal) × (r ≡ Refused why) × (refusal_number why ≡ number)
+
+-- the refusals that may hinder a line, whatever its mutator knows: of a new object 2 and 3, where an object is viewed 1
+abbrev pub MayBeHindered : Command → Reply → Type 0
+MayBeHindered (Mutator _ (New len ds)) r = IsRefusedWith 2 r ⊎ IsRefusedWith 3 r
+MayBeHindered (Mutator _ (Read p from len)) r = IsRefusedWith 1 r
+MayBeHindered (Mutator _ (Write p from new)) r = IsRefusedWith 1 r
+MayBeHindered (Mutator _ (View p)) r = IsRefusedWith 1 r
+MayBeHindered c r = ⊥
+
+-- what hinders a line is such a refusal, and never a value; and the mutator knows what it knew
+abbrev pub HinderedIsRefused : Type 0
+HinderedIsRefused = (o : Own) (c : Command) (r : Reply) (q : Own) → Hindered o c r q → MayBeHindered c r × (q ≡ o)
+
+-- no line is refused 11
+abbrev pub NeverDamaged : Type 0
+NeverDamaged = (m : ℕ) (o : Own) (cs : List Command) (front : List Reply) (r : Reply) (rest : List Reply) → AloneHere m o cs (front ++ r ∷ rest) → ¬ IsRefusedWith 11 r
+
+-- of these lines with their replies those are left, in order, where lines are left out that may be hindered
+abbrev pub LeavesOut : List Command → List Reply → List (Command × Reply) → Type 0
+LeavesOut [] [] left = left ≡ []
+LeavesOut (c ∷ cs) (r ∷ rs) left = ((later : List (Command × Reply)) × (left ≡ (c, r) ∷ later) × LeavesOut cs rs later) ⊎ (MayBeHindered c r × LeavesOut cs rs left)
+LeavesOut _ _ left = ⊥
+
+-- these lines were answered so by the plain program, where its device fails and doesn't lie
+abbrev pub AloneWith : ℕ → Own → List (Command × Reply) → Type 0
+AloneWith m o lines = Alone true m o (map (λ (line : Command × Reply). line.0) lines) (map (λ (line : Command × Reply). line.1) lines)
+
+-- some are left out, and the others are allowed of a mutator that is alone
+abbrev pub ServedIsAlone : Type 0
+ServedIsAlone = (m : ℕ) (o : Own) (cs : List Command) (rs : List Reply) → AreBy m cs → AloneHere m o cs rs → (left : List (Command × Reply)) × LeavesOut cs rs left × AloneWith m o left
+
+-- no line may be hindered
+abbrev pub NoneMayBeHindered : List Command → List Reply → Type 0
+NoneMayBeHindered (c ∷ cs) (r ∷ rs) = (¬ MayBeHindered c r) × NoneMayBeHindered cs rs
+NoneMayBeHindered _ _ = Unit {0}
+
+-- where no reply is one of those refusals, all lines are allowed of a mutator that is alone
+abbrev pub UnrefusedIsAlone : Type 0
+UnrefusedIsAlone = (m : ℕ) (o : Own) (cs : List Command) (rs : List Reply) → AreBy m cs → NoneMayBeHindered cs rs → AloneHere m o cs rs → Alone true m o cs rs
