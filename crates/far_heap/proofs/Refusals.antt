@@ -7,7 +7,7 @@ use mathlib.Core.Logic.{dite}
 use native.Mathlib.Decide.{ℕ_discrete}
 use Rattle.far_word.specs.declared.refused.Refused.{Refused}
 use Rattle.far_word.specs.declared.refused.Refused.TheVariants.{Held, NotHeld, Range}
-use Rattle.far_heap.specs.Mine.{Mine, is_length, is_range, len_in, uses, views}
+use Rattle.far_heap.specs.Mine.{is_range, len_in, uses, views}
 use Rattle.far_heap.specs.Refusals.{RefusalsAreSo}
 
 -- ---- by two tests

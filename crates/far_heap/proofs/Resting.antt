@@ -9,7 +9,7 @@ use Rattle.far_table.specs.Viewed.{StaysGiven}
 use Rattle.far_table.specs.Views.{held_at}
 use Rattle.far_heap.specs.HeapId.{HeapId}
 use Rattle.far_heap.specs.LogsStay.{LogsStay}
-use Rattle.far_heap.specs.Mine.{Mine, mine_of, views}
+use Rattle.far_heap.specs.Mine.{mine_of}
 use Rattle.far_heap.proofs.Mines.{views_so}
 
 -- where something is, it is this

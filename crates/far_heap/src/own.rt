@@ -20,6 +20,38 @@ use far_word::{CELLS, Mark, PtrWord, Refused};
 use std::alloc::{AllocError, Global};
 use std::marker::{Model, PhantomData};
 
+// That an owner set MOVE in the cell of its pointer, where a word was found: made by `ask_move` alone, and used up by the book, which looks there after that.
+pub(crate) struct MoveAsked {
+    pub(crate) pointer: u16,
+    found: u64,
+}
+
+impl MoveAsked {
+    // It is used up.
+    pub(crate) fn end(self) {
+        let MoveAsked {
+            pointer: _pointer,
+            found: _found,
+        } = self;
+    }
+}
+
+// That an owner set DROP in the cell of its pointer, where a word was found: made by `ask_drop` alone, and used up by the book.
+pub(crate) struct DropAsked {
+    pub(crate) pointer: u16,
+    found: u64,
+}
+
+impl DropAsked {
+    // It is used up.
+    pub(crate) fn end(self) {
+        let DropAsked {
+            pointer: _pointer,
+            found: _found,
+        } = self;
+    }
+}
+
 // A mutator's seat and its own tables.
 #[derive(Drop)]
 pub(crate) struct Own<K: HeapName, D: Device> {
@@ -253,31 +285,36 @@ impl<K: HeapName, D: Device> Own<K, D> {
                 if found == len && of == ds {
                     return true;
                 }
-                self.ask_drop(p);
+                self.ask_drop(p).end();
                 false
             }
             None => false,
         }
     }
 
-    // Asks for an object to be moved: the word found in its cell, where MOVE is set anew if it hadn't got it.
-    pub(crate) fn ask_move(&mut self, p: u16) -> u64
+    // Asks for an object to be moved: MOVE is set anew in its cell if the word found there hadn't got it.
+    pub(crate) fn ask_move(&mut self, p: u16) -> MoveAsked
         requires used { uses self.old p ≡ true }
         requires free { views self.old p ≡ false }
-        ensures { self.new ≡ asking p (cond (has_move (read_of result)) 0 1) self.old }
+        ensures pointer { result.pointer ≡ p }
+        ensures asked { self.new ≡ asking p (cond (has_move (read_of result.found)) 0 1) self.old }
     {
-        self.seat.ask(p, Mark::Moved)
+        MoveAsked {
+            pointer: p,
+            found: self.seat.ask(p, Mark::Moved),
+        }
     }
 
-    // Sets DROP in the cell of an object, which the mutator uses no longer: the word found.
-    pub(crate) fn ask_drop(&mut self, p: u16) -> u64
+    // Sets DROP in the cell of an object, which the mutator uses no longer.
+    pub(crate) fn ask_drop(&mut self, p: u16) -> DropAsked
         requires used { uses self.old p ≡ true }
         requires free { views self.old p ≡ false }
-        ensures { self.new ≡ dropping p self.old }
+        ensures pointer { result.pointer ≡ p }
+        ensures dropped { self.new ≡ dropping p self.old }
     {
-        let word = self.seat.ask(p, Mark::Dropped);
+        let found = self.seat.ask(p, Mark::Dropped);
         self.lens[(p % CELLS) as usize] = 0;
-        word
+        DropAsked { pointer: p, found }
     }
 
     // The length of the object of a view, of which these bytes are a range.

@@ -89,8 +89,8 @@ pub(crate) fn drop_object<K: HeapName, D: Device + Drop, R: Wait>(
     if own.is_viewing(p) {
         return Err(Refused::Held);
     }
-    own.ask_drop(p);
-    lock.lock(rt).retire_dropped(p);
+    let asked = own.ask_drop(p);
+    lock.lock(rt).retire_dropped(asked);
     Ok(())
 }
 
@@ -161,8 +161,8 @@ fn fetch_or_move<K: HeapName, D: Device + Drop>(
         Some(Ok(_)) => {}
         Some(Err(why)) => return Err(why),
         None => {
-            own.ask_move(p);
-            if let Some(Err(why)) = book.move_asked(p) {
+            let asked = own.ask_move(p);
+            if let Some(Err(why)) = book.move_asked(asked) {
                 return Err(why);
             }
         }

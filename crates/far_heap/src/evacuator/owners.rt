@@ -18,6 +18,7 @@ ghost use Rattle.far_heap.specs.BookHad.{BookHad, LacksRoom, NoneFree, Unbrought
 
 use crate::evacuator::Evacuator;
 use crate::name::HeapName;
+use crate::own::{DropAsked, MoveAsked};
 use far_book::Home;
 use far_device::Device;
 use far_word::{Place, Refused};
@@ -96,14 +97,16 @@ impl<K: HeapName, D: Device + Drop> Evacuator<K, D> {
 
     // Moves a near object that its owner has asked for, by one look at its cell, where the round wants its log; else it stays, without MOVE: what the move
     // answers. `None` where it isn't near with MOVE; nothing else is done then.
-    pub(crate) fn move_asked(&mut self, pointer: u16) -> Option<Result<Option<Place>, Refused>>
-        requires pointer { pointer < CELLS * K.heap.mutators }
+    pub(crate) fn move_asked(&mut self, asked: MoveAsked) -> Option<Result<Option<Place>, Refused>>
+        requires pointer { asked.pointer < CELLS * K.heap.mutators }
         ensures refused { IfSome result (λ answer. IfErr answer IsUnbrought) }
-        ensures cause { IfSome result (λ answer. IfErr answer (λ why. BookHad D K.heap (Unbrought pointer why))) }
-        ensures moved { (found : EvacOf (seat_of D) D) × Looks self.old found pointer
-            × MatchOption result ((asks_move (cell_in found pointer) ≡ false) × (self.new ≡ found))
-            (λ answer. (asks_move (cell_in found pointer) ≡ true) × MovesIt D.contents D.honest D.faults D.fails_at_most D.lets_go D.forgets found self.new pointer answer) }
+        ensures cause { IfSome result (λ answer. IfErr answer (λ why. BookHad D K.heap (Unbrought asked.pointer why))) }
+        ensures moved { (found : EvacOf (seat_of D) D) × Looks self.old found asked.pointer
+            × MatchOption result ((asks_move (cell_in found asked.pointer) ≡ false) × (self.new ≡ found))
+            (λ answer. (asks_move (cell_in found asked.pointer) ≡ true) × MovesIt D.contents D.honest D.faults D.fails_at_most D.lets_go D.forgets found self.new asked.pointer answer) }
     {
+        let pointer = asked.pointer;
+        asked.end();
         if !has_move(self.evac.locate(pointer)) {
             return None;
         }
@@ -111,11 +114,13 @@ impl<K: HeapName, D: Device + Drop> Evacuator<K, D> {
     }
 
     // Frees the cell of an object that its owner dropped, by one look at it: `true`. `false` where a round has done so.
-    pub(crate) fn retire_dropped(&mut self, pointer: u16) -> bool
-        requires pointer { pointer < CELLS * K.heap.mutators }
-        ensures retired { (found : EvacOf (seat_of D) D) × Looks self.old found pointer × (result ≡ is_dropped (cell_in found pointer))
-            × (result ≡ false → self.new ≡ found) × (result ≡ true → RetiresIt D.contents D.honest D.faults D.fails_at_most D.lets_go D.forgets found self.new pointer) }
+    pub(crate) fn retire_dropped(&mut self, asked: DropAsked) -> bool
+        requires pointer { asked.pointer < CELLS * K.heap.mutators }
+        ensures retired { (found : EvacOf (seat_of D) D) × Looks self.old found asked.pointer × (result ≡ is_dropped (cell_in found asked.pointer))
+            × (result ≡ false → self.new ≡ found) × (result ≡ true → RetiresIt D.contents D.honest D.faults D.fails_at_most D.lets_go D.forgets found self.new asked.pointer) }
     {
+        let pointer = asked.pointer;
+        asked.end();
         if !has_drop(self.evac.locate(pointer)) {
             return false;
         }

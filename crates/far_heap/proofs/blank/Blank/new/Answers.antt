@@ -2,7 +2,7 @@ use Rattle.std.proofs.Common.{◌≡◌, ◌∙◌, Bool, sym, subst, ap}
 use Rattle.far_core.specs.state.CoreState.{core_state}
 use Rattle.far_core.specs.state.State.{State}
 use Rattle.far_table.specs.View.{BookView}
-use Rattle.far_table.specs.BookSeats.{book_in, seat_view, table_of}
+use Rattle.far_table.specs.BookSeats.{seat_view, table_of}
 use Rattle.far_hand.specs.ShapeOf.{shape_of}
 use Rattle.far_heap.specs.Blanks.{IsUnused, NewSeats}
 use Rattle.far_heap.specs.HeapId.{heap_of}

@@ -1,10 +1,8 @@
-use Rattle.std.proofs.Common.{◌≡◌, ◌*◌, ◌<◌, true, ap, subst, sym, refl, ◌∙◌}
+use Rattle.std.proofs.Common.{◌≡◌, true, subst, sym, refl, ◌∙◌}
 use Rattle.far_table.specs.declared.book.BookSeat.{BookSeat}
 use Rattle.far_table.specs.BookSeats.{seat_view}
-use Rattle.far_word.specs.declared.sizes.TheConstants.{CELLS}
 use Rattle.far_book.specs.book.BookOf.{BookOf}
 use Rattle.far_evac.specs.EvacOf.{EvacOf}
-use Rattle.far_heap.specs.HeapId.{HeapId}
 use Rattle.far_heap.specs.Helping.{Looks}
 use Rattle.far_heap.proofs.Causes.{fetch_cause}
 use Rattle.far_heap.proofs.Named.{stays_named}

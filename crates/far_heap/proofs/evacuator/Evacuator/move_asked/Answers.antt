@@ -8,7 +8,7 @@ use Rattle.far_heap.proofs.Under.{is_quiet_near}
 use Rattle.far_heap.proofs.evacuator.Evacuator.move_asked.Goals as goal
 
 pub move_now-requires-clause-quiet : goal.move_now-requires-clause-quiet
-move_now-requires-clause-quiet g c = is_quiet_near _ c.args.pointer (sym (c.has_move.ensures _ c.locate.ensures.home) ∙ c.if-not-has_move.false)
+move_now-requires-clause-quiet g c = is_quiet_near _ c.args.asked.pointer (sym (c.has_move.ensures _ c.locate.ensures.home) ∙ c.if-not-has_move.false)
 
 pub invariant_of-self-2 : goal.invariant_of-self-2
 invariant_of-self-2 g c =
@@ -19,7 +19,7 @@ pub returns-then-not-has_move-clause-moved : goal.returns-then-not-has_move-clau
 returns-then-not-has_move-clause-moved g c =
     let l = c.locate.ensures in (
       c.locate.new.self,
-      subst (λ (e : EvacOf (BookSeat g.row.D.Denot) g.row.D.Denot). Looks e c.locate.new.self c.args.pointer) c.self.view_is
+      subst (λ (e : EvacOf (BookSeat g.row.D.Denot) g.row.D.Denot). Looks e c.locate.new.self c.args.asked.pointer) c.self.view_is
           record { made = l.made; found = l.found; kept = l.kept; order = l.order; device = l.device; round = l.round },
       (sym (c.has_move.ensures _ l.home) ∙ c.if-not-has_move.true, refl),
     )
@@ -29,7 +29,7 @@ returns-clause-moved g c =
     let l = c.locate.ensures in
     let m = c.move_now.ensures in (
       c.locate.new.self,
-      subst (λ (e : EvacOf (BookSeat g.row.D.Denot) g.row.D.Denot). Looks e c.locate.new.self c.args.pointer) c.self.view_is
+      subst (λ (e : EvacOf (BookSeat g.row.D.Denot) g.row.D.Denot). Looks e c.locate.new.self c.args.asked.pointer) c.self.view_is
           record { made = l.made; found = l.found; kept = l.kept; order = l.order; device = l.device; round = l.round },
       (
         sym (c.has_move.ensures _ l.home) ∙ c.if-not-has_move.false,
@@ -57,5 +57,5 @@ pub returns-clause-cause : goal.returns-clause-cause
 returns-clause-cause g c =
     let found = c.locate.new.self in
     let named = stays_named g.K.HeapName.heap c.self.inside.evac.book.near found.book.near c.locate.ensures.came c.self.invariant in
-    move_cause g.K.HeapName.heap found.book.near named c.args.pointer c.move_now.result
+    move_cause g.K.HeapName.heap found.book.near named c.args.asked.pointer c.move_now.result
     (sym (c.has_move.ensures _ c.locate.ensures.home) ∙ c.if-not-has_move.false) c.move_now.ensures.refused c.move_now.ensures.none

@@ -19,7 +19,7 @@ returns-then-not-has_drop g c =
     let l = c.locate.ensures in record {
       retired = (
         c.locate.new.self,
-        subst (λ (e : EvacOf (BookSeat g.row.D.Denot) g.row.D.Denot). Looks e c.locate.new.self c.args.pointer) c.self.view_is
+        subst (λ (e : EvacOf (BookSeat g.row.D.Denot) g.row.D.Denot). Looks e c.locate.new.self c.args.asked.pointer) c.self.view_is
             record { made = l.made; found = l.found; kept = l.kept; order = l.order; device = l.device; round = l.round },
         sym c.if-not-has_drop.true ∙ c.has_drop.ensures _ l.home,
         λ _. refl,
@@ -33,7 +33,7 @@ returns g c =
     let r = c.retire.ensures in record {
       retired = (
         c.locate.new.self,
-        subst (λ (e : EvacOf (BookSeat g.row.D.Denot) g.row.D.Denot). Looks e c.locate.new.self c.args.pointer) c.self.view_is
+        subst (λ (e : EvacOf (BookSeat g.row.D.Denot) g.row.D.Denot). Looks e c.locate.new.self c.args.asked.pointer) c.self.view_is
             record { made = l.made; found = l.found; kept = l.kept; order = l.order; device = l.device; round = l.round },
         sym c.if-not-has_drop.false ∙ c.has_drop.ensures _ l.home,
         λ h. absurd (false≢true (sym h)),

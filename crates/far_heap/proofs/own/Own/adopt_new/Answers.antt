@@ -22,4 +22,4 @@ ask_drop-requires-clause-free g c =
 
 pub returns-else-found-len-clause-kept : goal.returns-else-found-len-clause-kept
 returns-else-found-len-clause-kept g c = λ _.
-    c.ask_drop.ensures ∙ ap (dropping c.args.p) c.in-Some.ensures.adopted.2 ∙ undone c.args.self.now c.args.p c.in-Some.found c.in-Some.of c.requires (sym c.has.ensures ∙ c.if-has.false)
+    c.ask_drop.ensures.dropped ∙ ap (dropping c.args.p) c.in-Some.ensures.adopted.2 ∙ undone c.args.self.now c.args.p c.in-Some.found c.in-Some.of c.requires (sym c.has.ensures ∙ c.if-has.false)

@@ -9,11 +9,11 @@ use Rattle.far_heap.proofs.Mines.{none_there, uses_so, views_own}
 use Rattle.far_heap.proofs.OwnSteps.{seated_is}
 use Rattle.far_heap.proofs.own.Own.ask_drop.Goals as goal
 
-pub ask-word-requires-clause-used : goal.ask-word-requires-clause-used
-ask-word-requires-clause-used g c = (uses_so c.self.inside.seat c.args.p (subst (λ (m : Mine). uses m c.args.p ≡ true) (sym c.self.view_is) c.requires.used)).1
+pub ask-found-requires-clause-used : goal.ask-found-requires-clause-used
+ask-found-requires-clause-used g c = (uses_so c.self.inside.seat c.args.p (subst (λ (m : Mine). uses m c.args.p ≡ true) (sym c.self.view_is) c.requires.used)).1
 
-pub ask-word-requires-clause-free : goal.ask-word-requires-clause-free
-ask-word-requires-clause-free g c =
+pub ask-found-requires-clause-free : goal.ask-found-requires-clause-free
+ask-found-requires-clause-free g c =
     let s = c.self.inside.seat in
     let p : ℕ = c.args.p in
     let own = (uses_so s p (subst (λ (m : Mine). uses m p ≡ true) (sym c.self.view_is) c.requires.used)).0 in
@@ -25,13 +25,13 @@ invariant_of-self g c =
     let p : ℕ = c.args.p in
     let own = (uses_so s.seat p (subst (λ (m : Mine). uses m p ≡ true) (sym c.self.view_is) c.requires.used)).0 in
     let free = sym (views_own s.seat p own) ∙ subst (λ (m : Mine). views m p ≡ false) (sym c.self.view_is) c.requires.free in
-    subst (λ (t : Seated). OwnOk t _ s.number (slice_set s.lens.items (p % CELLS) 0) s.stamps.items s.scope) (sym (seated_is c.ask-word.new.self s.seat.table _ c.ask-word.ensures.table c.ask-word.ensures.view))
+    subst (λ (t : Seated). OwnOk t _ s.number (slice_set s.lens.items (p % CELLS) 0) s.stamps.items s.scope) (sym (seated_is c.ask-found.new.self s.seat.table _ c.ask-found.ensures.table c.ask-found.ensures.view))
     (dropped_ok s.seat _ s.number s.lens.items s.stamps.items s.scope c.self.invariant p (own ∙ c.self.invariant.number_is) free)
 
-pub returns : goal.returns
-returns g c =
+pub returns-clause-dropped : goal.returns-clause-dropped
+returns-clause-dropped g c =
     let s = c.self.inside in
     let p : ℕ = c.args.p in
     let own = (uses_so s.seat p (subst (λ (m : Mine). uses m p ≡ true) (sym c.self.view_is) c.requires.used)).0 in
-    ap mine_of (seated_is c.ask-word.new.self s.seat.table _ c.ask-word.ensures.table c.ask-word.ensures.view)
+    ap mine_of (seated_is c.ask-found.new.self s.seat.table _ c.ask-found.ensures.table c.ask-found.ensures.view)
     ∙ dropped_mine s.seat _ s.number s.lens.items s.stamps.items s.scope c.self.invariant p (own ∙ c.self.invariant.number_is) ∙ ap (dropping p) c.self.view_is

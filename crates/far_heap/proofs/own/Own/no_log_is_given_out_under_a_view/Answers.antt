@@ -1,4 +1,4 @@
-use Rattle.std.proofs.Common.{subst, refl}
+use Rattle.std.proofs.Common.{subst}
 use Rattle.far_heap.specs.LogsStay.{LogsStay}
 use Rattle.far_heap.proofs.Resting.{logs_stay}
 use Rattle.far_heap.proofs.own.Own.no_log_is_given_out_under_a_view.Goals as goal
