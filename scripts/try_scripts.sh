@@ -1,6 +1,6 @@
 #!/usr/bin/env bash
 # Tries the scripts that a user calls: far_trace and try, over a made-up tree whose rt is made up too, and draw, over the built
-# program; and whether README and docs/round.svg show what the program replies. Prints only what is wrong.
+# program; and whether docs/round.svg shows what the program replies (of the pages: pages.py). Prints only what is wrong.
 set -euo pipefail
 here="$(cd "$(dirname "${BASH_SOURCE[0]}")" && pwd)"
 program="${1:-$here/../crates/far_trace/out/far_trace}"
@@ -116,15 +116,4 @@ tells 'refused 16 3'
 draw 'no commands' 1 '# words\n'
 "$here/draw" "$docs/round.trace" "$program" >"$work/out"
 cmp -s "$work/out" "$docs/round.svg" || fail 'docs/round.svg is no longer what draw draws'
-
-row() { # the lines as README shows them, in a row
-    paste -s -d '|' | sed 's:|: / :g'
-}
-
-readme="$here/../README.md"
-trace="$(row <"$docs/round.trace")"
-replies="$("$program" <"$docs/round.trace" | row)"
-[[ "$(cat "$readme")" == *"\`$trace\`, and prints"*"\`$replies\`."* ]] || fail "README lacks the row of docs/round.trace, or of its replies: $replies"
-example="$(sed -n 's/^    \$ printf .\(.*\). | scripts.far_trace$/\1/p' "$readme")"
-[[ "$(printf '%b' "$example" | "$program")" == "$(sed -n '/^    \$ printf/,/^$/s/^    \([^$]\)/\1/p' "$readme")" ]] || fail 'README shows other replies to its first example'
 exit "$wrong"
