@@ -1,19 +1,18 @@
 -- A beset hand goes through its list, an event at each call.
 use Rattle.std.proofs.Common.{◌≡◌, ◌+◌, ℕ, zero, suc, Bool, true, false, List, [], ◌∷◌, drop, length, Option, Some, None, inl, inr, refl, sym, ap, ◌∙◌, subst, arith}
-use Rattle.std.specs.Prelude.{slice_get, if◌then◌else◌}
+use Rattle.std.specs.Prelude.{slice_get}
 use Rattle.std.proofs.Math.Seq.{drop-nil}
 use Rattle.std.proofs.lemmas.Bool.{false≢true}
 use Rattle.far_core.specs.declared.event.Event.{Event}
 use Rattle.far_core.specs.declared.event.Event.TheVariants.{ReadEpoch, Open, Pin, Load, Store, Close, Adopt, Put, Name, See, Mark, Ask, Get, Clear, Advance, Look}
 use Rattle.far_core.specs.declared.event.Reply.{Reply}
-use Rattle.far_core.specs.events.Legal.{Legal}
-use Rattle.far_core.specs.events.Step.{after, is_legal, step_of}
+use Rattle.far_core.specs.events.Step.{after, is_legal}
 use Rattle.far_core.specs.state.CoreState.{core_state}
 use Rattle.far_core.specs.state.Law.{Law}
 use Rattle.far_core.specs.state.State.{State}
 use Rattle.far_core.proofs.Owing.{is_fact, is_test}
 use Rattle.far_hand.specs.declared.beset.Beset.{Beset}
-use Rattle.far_hand.specs.BesetView.{TurnThen, next_event, passed, turned}
+use Rattle.far_hand.specs.BesetView.{TurnThen, next_event, passed}
 use Rattle.far_hand.specs.Came.{Runs}
 use Rattle.far_hand.specs.Listed.{ActOut, IsOfOwner, TakesTurn, events_left}
 use Rattle.far_hand.specs.MayBe.{Made}

@@ -1,5 +1,5 @@
 -- A word that was found and left as it was changes nothing but that it is noted.
-use Rattle.std.proofs.Common.{◌≡◌, ◌≢◌, ℕ, List, set, sym, refl, ap, ◌∙◌, subst, ⊎_elim}
+use Rattle.std.proofs.Common.{◌≡◌, ◌≢◌, ℕ, List, set, sym, refl, ◌∙◌, subst, ⊎_elim}
 use Rattle.std.proofs.Math.Logic.{∥∥₁_map}
 use mathlib.Core.Option.{some}
 use lib.ListN.{get_elem?, length-set}
