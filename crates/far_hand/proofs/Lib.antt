@@ -3,6 +3,7 @@ pub mod Counting
 pub mod EvacMarks
 pub mod Finding
 pub mod Knowing
+pub mod Listing
 pub mod Making
 pub mod Masking
 pub mod Naming

@@ -3,6 +3,7 @@ pub mod Came
 pub mod Cleared
 pub mod Finds
 pub mod Known
+pub mod Listed
 pub mod Masked
 pub mod MayBe
 pub mod Owners

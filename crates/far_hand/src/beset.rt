@@ -7,6 +7,7 @@ ghost use Rattle.far_core.specs.state.CoreState.{core_state};
 ghost use Rattle.far_hand.specs.Masked.{AllFind, CountsOnQuiet, word_at, is_counted};
 
 mod hand;
+mod laws;
 mod opening;
 pub(crate) mod rows;
 mod turning;

@@ -94,8 +94,8 @@ module _ (s : Seated) (name : TableId) (number : ℕ) (lens stamps : List ℕ) (
       (ap (seen s.view.honest) (put_same (object_at s.view) p (Some (fresh w)) p refl) ∙ fresh_seen s.view.honest w n t long kind))
 
   -- ---- one object less
-  pub dropped_ok : is_some (held_at s.view p) ≡ false → OwnOk (record { table = s.table; view = asked_view p Dropped 0 s.view }) name number (slice_set lens (p % CELLS) 0) stamps scope
-  dropped_ok free = record {
+  pub dropped_ok : (found : ℕ) → is_some (held_at s.view p) ≡ false → OwnOk (record { table = s.table; view = asked_view p Dropped found s.view }) name number (slice_set lens (p % CELLS) 0) stamps scope
+  dropped_ok found free = record {
     table = ok.table;
     number_is = ok.number_is;
     few = ok.few;
@@ -123,9 +123,9 @@ module _ (s : Seated) (name : TableId) (number : ℕ) (lens stamps : List ℕ) (
     past = ok.past;
   }
 
-  pub dropped_mine : mine_of record { table = s.table; view = asked_view p Dropped 0 s.view } ≡ dropping p (mine_of s)
-  dropped_mine =
+  pub dropped_mine : (found : ℕ) → mine_of record { table = s.table; view = asked_view p Dropped found s.view } ≡ dropping p (mine_of s)
+  dropped_mine found =
       let f : ℕ → Option Object = λ q. seen s.view.honest (object_at s.view q) in
-      let g : ℕ → Option Object = λ q. seen s.view.honest (object_at (asked_view p Dropped 0 s.view) q) in
+      let g : ℕ → Option Object = λ q. seen s.view.honest (object_at (asked_view p Dropped found s.view) q) in
       ap (λ (rows : List (Option Object)). record (mine_of s) { objects = rows }) (own_row-one f g s.view.number p None (own ∙ sym ok.number_is)
       (λ q ne. ap (seen s.view.honest) (put_other (object_at s.view) p None q ne)) (ap (seen s.view.honest) (put_same (object_at s.view) p None p refl)))

@@ -10,7 +10,7 @@ use Rattle.far_word.specs.declared.sizes.TheConstants.{CELLS, LONGEST, MOST_MUTA
 use Rattle.far_core.proofs.Put.{put_other, put_same}
 use Rattle.far_table.specs.View.{OwnerView}
 use Rattle.far_table.specs.Seats.{Seated}
-use Rattle.far_table.specs.Views.{closed_view, held_at, held_view, len_of as seat_len, object_at, uses as seat_uses, warmed_view}
+use Rattle.far_table.specs.Views.{closed_view, held_at, held_view, len_of as seat_len, noted_view, object_at, uses as seat_uses, warmed_view}
 use Rattle.far_heap.specs.Mine.{IsNew, OwnOk, len_in, mine_of, uses, views}
 use Rattle.far_heap.proofs.Mines.{len_own, uses_own, views_own, views_so}
 
@@ -107,6 +107,23 @@ module _ (s : Seated) (name : TableId) (number : ℕ) (lens stamps : List ℕ) (
   -- and one that held none
   pub warmed_ok : (p found : ℕ) → OwnOk (record { table = s.table; view = warmed_view p found s.view }) name number lens stamps scope
   warmed_ok p found = record {
+    table = ok.table;
+    number_is = ok.number_is;
+    few = ok.few;
+    many_lens = ok.many_lens;
+    many_stamps = ok.many_stamps;
+    lens_are = ok.lens_are;
+    used_are = ok.used_are;
+    short = ok.short;
+    views_are = ok.views_are;
+    held_used = ok.held_used;
+    held_open = ok.held_open;
+    past = ok.past;
+  }
+
+  -- an adoption that was refused
+  pub noted_ok : (p found : ℕ) → OwnOk (record { table = s.table; view = noted_view p found s.view }) name number lens stamps scope
+  noted_ok p found = record {
     table = ok.table;
     number_is = ok.number_is;
     few = ok.few;

@@ -1,4 +1,4 @@
--- An adoption is its event of the core; or it is refused, and nothing changes.
+-- An adoption is its event of the core; or it is refused, and nothing changes but that the word found is noted.
 use Rattle.std.proofs.Common.{◌≡◌, ◌+◌, ◌*◌, ◌/◌, ◌<◌, ℕ, zero, suc, Bool, true, false, cond, List, length, set, sym, refl, ap, ◌∙◌, subst, arith, Option, Some, None}
 use Rattle.std.specs.Prelude.{slice_index, is_some, IsSome, replicate, not}
 use Rattle.std.proofs.lemmas.Bool.{false≢true}
@@ -9,7 +9,6 @@ use native.Mathlib.Decide.{ℕ_discrete}
 use lib.ListN.{get_elem?}
 use lib.Seq.{set-get_or}
 use Rattle.atomic_table.specs.Table.{Me, step, Allows}
-use Rattle.atomic_table.proofs.Lists.{set_again}
 use Rattle.far_word.specs.Bytes.{bytes_of, packed_word}
 use Rattle.far_word.specs.declared.pointer.Place.{Place}
 use Rattle.far_word.specs.declared.pointer.PtrWord.{PtrWord}
@@ -34,8 +33,9 @@ use Rattle.far_table.specs.Plays.{Adopted, AdoptTells}
 use Rattle.far_table.specs.Rule.{Facts, Has, Running}
 use Rattle.far_table.specs.StateOf.{state_of}
 use Rattle.far_table.specs.Tells.{owner_of}
-use Rattle.far_table.specs.Views.{adopted_view, fresh, held_at, object_at, said_ds, said_len, uses}
+use Rattle.far_table.specs.Views.{adopted_view, fresh, held_at, noted_view, object_at, said_ds, said_len, uses}
 use Rattle.far_table.proofs.Lift.{owner_allows}
+use Rattle.far_table.proofs.Noting.{noted_facts}
 use Rattle.far_table.proofs.Owners.{known_by, pointers_put, pointers_same, remembered_same}
 use Rattle.far_table.proofs.OwnSteps.{OwnStep, has_on, is_mutator, own_facts, own_made, state_is}
 use Rattle.far_table.proofs.Words.{cell_here, no_word}
@@ -151,8 +151,8 @@ module _ (ws : List ℕ) (b : BookView) (os : List OwnerView) (f : Facts ws b os
     tells = record { after_is = refl; number = refl; made = own_made ws b os f o at (Adopt m p) refl refl tt (Word (cell_in ws p)) ws w k };
   }
   adopt_case false used = record {
-    w = o;
-    facts = subst (Facts ws b) (sym (set_again os m o at)) f;
+    w = noted_view p (cell_in ws p) o;
+    facts = noted_facts ws b os f o at p (cell_in ws p);
     tells = (refl, record { words = ws; book = b; owners = os; facts = f; stands = at; refused = λ legal. false≢true (sym used ∙ legal.3) });
   }
 

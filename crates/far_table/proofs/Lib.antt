@@ -9,6 +9,7 @@ pub mod Steps
 pub mod HeldFacts
 pub mod PinSteps
 pub mod LoadSteps
+pub mod Noting
 pub mod AdoptSteps
 pub mod AskSteps
 pub mod StoreSteps

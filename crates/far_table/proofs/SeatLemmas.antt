@@ -1,5 +1,5 @@
 -- What a seat's struct keeps over a step, for all kinds of step.
-use Rattle.std.proofs.Common.{Bool, true, false, ◌≡◌, ◌≢◌, ◌/◌, ◌%◌, set, get_or-set_same, get_or-set_other, ℕ, ◌+◌, ◌*◌, ◌<◌, ◌≤◌, List, length, subst, Option, Some, None, refl, sym, ap, ◌∙◌, arith}
+use Rattle.std.proofs.Common.{Bool, true, false, ◌≡◌, ◌≢◌, ◌/◌, ◌%◌, set, get_or-set_same, get_or-set_other, ℕ, ◌+◌, ◌*◌, ◌<◌, ◌≤◌, List, ◌∷◌, length, subst, Option, Some, None, refl, sym, ap, ◌∙◌, arith}
 use Rattle.std.specs.Prelude.{IfSome, IsSome}
 use Rattle.std.proofs.lemmas.Bool.{false≢true}
 use mathlib.Core.Logic.{dite}
@@ -20,12 +20,14 @@ use Rattle.far_core.specs.declared.event.Reply.{Reply}
 use Rattle.far_core.specs.state.State.{addr}
 use Rattle.far_table.specs.View.{ObjectView, OwnerView, View, Owner}
 use Rattle.far_table.specs.Tells.{HasState, OwnerMade, OwnerRefused, Tells, owner_of}
-use Rattle.far_table.specs.Views.{adopted_view, asked_view, fresh, held_at, held_view, len_of, object_at, pinned_view, stored_view, warmed_view, with_place, with_word}
+use Rattle.far_table.specs.Views.{adopted_view, asked_view, fresh, held_at, held_view, len_of, noted_view, object_at, pinned_view, stored_view, warmed_view, with_place, with_word}
+use Rattle.far_core.specs.events.Ask.{is_request}
 use Rattle.far_core.specs.events.Open.{scope_word_of}
 use Rattle.far_table.specs.Layout.{TABLE_WORDS}
 use Rattle.far_table.specs.Plays.{AdoptTells, number_of}
 use Rattle.far_core.specs.declared.event.Event.TheVariants.{Adopt}
 use Rattle.far_table.specs.Seats.{HasPlace, HasPlaces, Remembers}
+use Rattle.far_table.proofs.Noting.{noted_there}
 use Rattle.far_table.proofs.ViewedLogs.{left_there}
 
 -- a seat's table, as its `Arc` shows it, has this word
@@ -108,6 +110,13 @@ asked_epoch p Evac n o = refl
 asked_epoch p Moved n o = refl
 asked_epoch p Dropped n o = refl
 
+-- the word found is noted
+pub asked_found : (p : ℕ) (k : Mark) (n : ℕ) (o : OwnerView) → is_request k ≡ true → (asked_view p k n o).found ≡ (p, n) ∷ o.found
+asked_found p Hot n o asks = absurd (false≢true asks)
+asked_found p Evac n o asks = absurd (false≢true asks)
+asked_found p Moved n o asks = refl
+asked_found p Dropped n o asks = refl
+
 pub places_asked : (p : ℕ) (k : Mark) (n : ℕ) (o : OwnerView) (places : List ℕ) → held_at o p ≡ None → HasPlaces o places → HasPlaces (asked_view p k n o) places
 places_asked p Hot n o places free has = has
 places_asked p Evac n o places free has = has
@@ -145,7 +154,7 @@ pub adopt_made : (t : Bool) (v v' : View) (p n : ℕ) → t ≡ true → AdoptTe
 adopt_made true v v' p n e h = h
 adopt_made false v v' p n e h = absurd (false≢true e)
 
-pub adopt_refused : (t : Bool) (v v' : View) (p n : ℕ) → t ≡ false → AdoptTells t v v' p n → (v' ≡ Owner (owner_of v)) × OwnerRefused (Adopt (number_of v) p) (owner_of v)
+pub adopt_refused : (t : Bool) (v v' : View) (p n : ℕ) → t ≡ false → AdoptTells t v v' p n → (v' ≡ Owner (noted_view p n (owner_of v))) × OwnerRefused (Adopt (number_of v) p) (owner_of v)
 adopt_refused true v v' p n e h = absurd (false≢true (sym e))
 adopt_refused false v v' p n e h = h
 
@@ -154,7 +163,9 @@ pub adopt_stays : (id later here : TableId) (v v' : View) (number epoch : ℕ) (
     held_at (owner_of v) p ≡ None → AdoptTells t v v' p n → SeatOk later here v' number epoch places
 adopt_stays id later here v v' number epoch places true p n i same free t = seat_stays id later here v v' number epoch epoch places places _ _ _ i same t i.5 i.6 (places_adopted p n _ places free i.7)
 adopt_stays id later here v v' number epoch places false p n i same free t =
-    let view : v' ≡ v = t.0 ∙ sym i.2 in subst (λ z. SeatOk later here z number epoch places) (sym view) (same ∙ i.0, ap (λ (z : TableId). z.words) same ∙ i.1, i.2, i.3, i.4, i.5, i.6, i.7, i.8)
+    let o : OwnerView = owner_of v in
+    subst (λ z. SeatOk later here z number epoch places) (sym t.0)
+    (same ∙ i.0, ap (λ (z : TableId). z.words) same ∙ i.1, refl, i.3, i.4, i.5, i.6, places_same o (noted_view p n o) places refl refl refl i.7, noted_there o p n i.8)
 
 pub if_some : {X : Type 0} (r : Option X) (x : X) (P : X → Type 0) → r ≡ Some x → P x → IfSome r P
 if_some r x P e h = subst (λ z. IfSome z P) (sym e) h

@@ -17,7 +17,7 @@ use Rattle.far_table.specs.Rule.{Facts}
 use Rattle.far_table.specs.Seats.{HasPlaces, Remembers, data_begin}
 use Rattle.far_table.specs.Stands.{BookOk, IsPlain, SaysOwner, Stands, Starts, book_of}
 use Rattle.far_table.specs.StateOf.{state_of}
-use Rattle.far_table.specs.Tells.{HasState, OwnerMayBe, owner_of}
+use Rattle.far_table.specs.Tells.{HasState, owner_of}
 use Rattle.far_table.proofs.FirstViews.{first_fits, first_has, first_held, first_held_none, first_object_none, first_places, first_remembers, first_scope, first_uses, many_owners, owner_stands}
 use Rattle.far_table.proofs.Begins.{first_book_state, first_facts, first_state, other_rest}
 use Rattle.far_table.proofs.OwnersAct.{one_there}

@@ -59,6 +59,7 @@ first_owner s honest m = record {
   dropped = rows_from (CELLS * m) CELLS (λ p. drops (s.cell p));
   heated = rows_from (CELLS * m) CELLS (λ p. hots (s.cell p));
   pinned = [];
+  found = [];
 }
 
 abbrev pub first_owners : State → Bool → List OwnerView

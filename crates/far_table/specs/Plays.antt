@@ -17,7 +17,7 @@ use Rattle.far_table.specs.Layout.{cell_at, data_at}
 use Rattle.far_core.specs.declared.event.Event.TheVariants.{ReadEpoch, Open, Pin, Load, Store, Close, Adopt, Ask}
 use Rattle.far_core.specs.declared.event.Reply.TheVariants.{Done, Epoch, Word}
 use Rattle.far_table.specs.Tells.{OwnerRefused, Tells, owner_of}
-use Rattle.far_table.specs.Views.{adopted_view, asked_view, closed_view, held_at, len_of, object_at, opened_view, pinned_view, read_view, stored_view, word_in_view}
+use Rattle.far_table.specs.Views.{adopted_view, asked_view, closed_view, held_at, len_of, noted_view, object_at, opened_view, pinned_view, read_view, stored_view, word_in_view}
 
 -- the word found reads; and the object of p, where a view of it may rest by that word, lies within the logs
 abbrev pub Lies : OwnerView → ℕ → ℕ → Type 0
@@ -29,7 +29,7 @@ number_of v = (owner_of v).number
 -- an adoption is made where the word found is in use, and refused else
 abbrev pub AdoptTells : Bool → View → View → ℕ → ℕ → Type 0
 AdoptTells true before now p found = Tells before now (Adopt (number_of before) p) (Word found) (adopted_view p found (owner_of before))
-AdoptTells false before now p found = (now ≡ Owner (owner_of before)) × OwnerRefused (Adopt (number_of before) p) (owner_of before)
+AdoptTells false before now p found = (now ≡ Owner (noted_view p found (owner_of before))) × OwnerRefused (Adopt (number_of before) p) (owner_of before)
 
 module _ {S : Type 0} where
   abbrev pub EpochRead : Step S → Me S View → ℕ → Me S View → Type 0

@@ -1,5 +1,5 @@
 -- What a step of an owner's seat tells.
-use Rattle.std.specs.Prelude.{◌≡◌, ℕ, List, slice_set}
+use Rattle.std.specs.Prelude.{◌≡◌, ℕ, List, ◌∷◌, slice_set}
 use mathlib.Core.Option.{some}
 use lib.ListN.{get_elem?}
 use Rattle.far_core.specs.declared.event.Event.{Event}
@@ -52,6 +52,10 @@ pub record OwnerMayBe (o : OwnerView) (x : State) : Type 0 where
 -- there is such a state
 abbrev pub HasState : OwnerView → Type 0
 HasState o = ∥ ((x : State) × OwnerMayBe o x) ∥₁
+
+-- a call found this word in a pointer's cell: it is the word on which its step was made, since nothing but a step adds a row
+abbrev pub Found : ℕ → ℕ → OwnerView → OwnerView → Type 0
+Found p word before now = now.found ≡ (p, word) ∷ before.found
 
 -- the seat's view before and after the step: the event was made
 pub record Tells (before now : View) (e : Event) (r : Reply) (o' : OwnerView) : Type 0 where

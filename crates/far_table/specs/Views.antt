@@ -83,9 +83,13 @@ has_hot (Some Free) = false
 has_hot (Some (Near len ds place m)) = m.hot
 has_hot (Some (Far len ds m)) = m.hot
 
+-- a word was found in a cell
+abbrev pub noted_view : ℕ → ℕ → OwnerView → OwnerView
+noted_view p found o = record o { found = (p, found) ∷ o.found }
+
 -- HOT is set anew where the word found hasn't got it
 abbrev pub warmed_view : ℕ → ℕ → OwnerView → OwnerView
-warmed_view p found o = record o { heated = (p, heated_at o p + cond (has_hot (read_of found)) 0 1) ∷ o.heated }
+warmed_view p found o = record o { heated = (p, heated_at o p + cond (has_hot (read_of found)) 0 1) ∷ o.heated; found = (p, found) ∷ o.found }
 
 -- it is, whether or not the pin holds the place
 abbrev pub pinned_view : ℕ → ℕ → OwnerView → OwnerView
@@ -117,7 +121,7 @@ fresh found = record { len = said_len (read_of found); ds = said_ds (read_of fou
 
 -- the object is the owner's from now on
 abbrev pub adopted_view : ℕ → ℕ → OwnerView → OwnerView
-adopted_view p found o = record o { objects = (p, Some (fresh found)) ∷ o.objects }
+adopted_view p found o = record o { objects = (p, Some (fresh found)) ∷ o.objects; found = (p, found) ∷ o.found }
 
 -- 1 where a word has MOVE, where it has DROP, and where it has HOT
 abbrev pub moves : ℕ → ℕ
@@ -133,13 +137,13 @@ hots w = cond (has_hot (read_of w)) 1 0
 abbrev pub asked_view : ℕ → Mark → ℕ → OwnerView → OwnerView
 asked_view p Hot found o = o
 asked_view p Evac found o = o
-asked_view p Moved found o = record o { asked = (p, asked_at o p + cond (has_move (read_of found)) 0 1) ∷ o.asked }
-asked_view p Dropped found o = record o { objects = (p, None) ∷ o.objects; dropped = (p, dropped_at o p + 1) ∷ o.dropped }
+asked_view p Moved found o = record o { asked = (p, asked_at o p + cond (has_move (read_of found)) 0 1) ∷ o.asked; found = (p, found) ∷ o.found }
+asked_view p Dropped found o = record o { objects = (p, None) ∷ o.objects; dropped = (p, dropped_at o p + 1) ∷ o.dropped; found = (p, found) ∷ o.found }
 
 -- ---- many owners
 -- one who knows nothing
 abbrev pub nobody : OwnerView
-nobody = record { number = 0; honest = false; epoch = None; open_at = None; objects = []; held = []; asked = []; dropped = []; heated = []; pinned = [] }
+nobody = record { number = 0; honest = false; epoch = None; open_at = None; objects = []; held = []; asked = []; dropped = []; heated = []; pinned = []; found = [] }
 
 abbrev pub owner_at : List OwnerView → ℕ → OwnerView
 owner_at os m = slice_index_or os m nobody

@@ -1,9 +1,9 @@
 // An owner's seat.
-ghost use Rattle.std.specs.Prelude.{◌≡◌, ◌+◌, ◌-◌, ◌*◌, ◌/◌, ◌%◌, ◌^◌, ◌<◌, ◌≤◌, true, ℕ, length, map, slice_index, Some, None, IsSome, IfOk, IfErr, IfSome};
+ghost use Rattle.std.specs.Prelude.{if◌then◌else◌, ◌≡◌, ◌+◌, ◌-◌, ◌*◌, ◌/◌, ◌%◌, ◌^◌, ◌<◌, ◌≤◌, true, ℕ, length, map, slice_index, Some, None, IsSome, IfOk, IfErr, IfSome};
 ghost use Rattle.std.specs.Arc.{arc_value};
 ghost use Rattle.far_core.specs.declared.event.Event.{Event as any_event};
 ghost use Rattle.far_core.specs.declared.event.Reply.{Reply as any_reply};
-ghost use Rattle.far_table.specs.Tells.{HasState, OwnerMade, OwnerMayBe, OwnerRefused, owner_of};
+ghost use Rattle.far_table.specs.Tells.{Found, HasState, OwnerMade, OwnerMayBe, OwnerRefused, owner_of};
 ghost use Rattle.far_table.specs.Viewed.{StaysGiven};
 ghost use Rattle.std.specs.List.{range_with_len};
 ghost use Rattle.far_word.specs.declared.sizes.TheConstants.{CELLS, LOG_WORDS, LONGEST, MOST_LOGS, MOST_MUTATORS};
@@ -16,11 +16,11 @@ ghost use Rattle.far_table.specs.Layout.{TABLE_WORDS};
 ghost use Rattle.far_word.specs.Pointer.{read_of};
 ghost use Rattle.far_core.specs.events.Ask.{is_request};
 ghost use Rattle.far_core.specs.state.Law.{in_use};
-ghost use Rattle.far_core.specs.events.Pin.{place_to_view};
+ghost use Rattle.far_core.specs.events.Pin.{pin_answer, place_to_view};
 ghost use Rattle.far_table.specs.Ranges.{HasBytes, Wrote};
 ghost use Rattle.far_table.specs.RowTells.{LoadedEach, StoredEach};
 ghost use Rattle.far_table.specs.Seats.{HasPlaces, data_begin, pin_reply};
-ghost use Rattle.far_table.specs.Views.{adopted_view, asked_view, closed_view, held_at, held_view, hots, len_of, object_at, opened_view, pinned_at, read_view, stored_view, uses, warmed_view, word_in_view};
+ghost use Rattle.far_table.specs.Views.{adopted_view, asked_view, closed_view, held_at, held_view, hots, len_of, noted_view, object_at, opened_view, pinned_at, read_view, stored_view, uses, warmed_view, word_in_view};
 ghost use Rattle.far_word.specs.Bytes.{packed_word};
 ghost use Rattle.far_word.specs.Sizes.{words_for};
 
@@ -442,6 +442,8 @@ impl<D: Device> MutSeat<D> {
         ensures table { self.new.table ≡ self.old.table }
         ensures held { IfOk result (λ place. (found : ℕ) × (place_to_view (read_of found) ≡ Some place) × (self.new.view ≡ held_view p place (warmed_view p found self.old.view))) }
         ensures kept { IfErr result (λ found. (self.new.view ≡ warmed_view p found self.old.view) × (place_to_view (read_of found) ≡ None)) }
+        ensures pinned { IfOk result (λ place. (pinned_at self.new.view p ≡ true) × (held_at self.new.view p ≡ Some place)) }
+        ensures found { (found : ℕ) × Found p found self.old.view self.new.view × (pin_reply result ≡ pin_answer found (place_to_view (read_of found))) }
         ensures event { OwnerMade (Event.Pin self.old.view.number p) self.old.view (pin_reply result) self.new.view }
     {
         let found = self.table.shared.fetch_or::<rule::Pin>(
@@ -524,13 +526,14 @@ impl<D: Device> MutSeat<D> {
         );
     }
 
-    /// Uses a pointer of the owner's own from then on, whose cell is in use: the word found. `None` where it isn't; then nothing changes.
+    /// Uses a pointer of the owner's own from then on, whose cell is in use: the word found. `None` where the word found isn't; then nothing changes.
     pub fn adopt(&mut self, p: u16) -> Option<u64>
         requires own { p / CELLS ≡ self.old.view.number }
         requires unused { object_at self.old.view p ≡ None }
         ensures table { self.new.table ≡ self.old.table }
         ensures adopted { IfSome result (λ found. (self.new.view ≡ adopted_view p found self.old.view) × OwnerMade (Event.Adopt self.old.view.number p) self.old.view (Reply.Word found) self.new.view) }
-        ensures refused { result ≡ None → (self.new.view ≡ self.old.view) × OwnerRefused (Event.Adopt self.old.view.number p) self.old.view }
+        ensures refused { result ≡ None → (found : ℕ) × (self.new.view ≡ noted_view p found self.old.view) × OwnerRefused (Event.Adopt self.old.view.number p) self.old.view }
+        ensures found { (found : ℕ) × Found p found self.old.view self.new.view × (result ≡ (if in_use (read_of found) then Some found else None)) }
     {
         let found = self
             .table
@@ -547,6 +550,7 @@ impl<D: Device> MutSeat<D> {
         requires free { held_at self.old.view p ≡ None }
         ensures table { self.new.table ≡ self.old.table }
         ensures view { self.new.view ≡ asked_view p mark result self.old.view }
+        ensures found { Found p result self.old.view self.new.view }
         ensures event { OwnerMade (Event.Ask self.old.view.number p mark) self.old.view (Reply.Word result) self.new.view }
     {
         self.table

@@ -7,7 +7,7 @@ use Rattle.far_table.specs.Views.{object_at}
 use Rattle.far_heap.specs.Mine.{Mine, OwnOk, adopting, mine_of, owns, uses}
 use Rattle.far_heap.proofs.Adopting.{adopted_fits, adopted_len, adopted_mine, adopted_ok, adopted_used}
 use Rattle.far_heap.proofs.Mines.{none_there, uses_own}
-use Rattle.far_heap.proofs.OwnSteps.{seated_is}
+use Rattle.far_heap.proofs.OwnSteps.{noted_ok, seated_is}
 use Rattle.far_heap.proofs.own.Own.adopt.Goals as goal
 
 pub adopt-requires-clause-unused : goal.adopt-requires-clause-unused
@@ -16,6 +16,13 @@ adopt-requires-clause-unused g c =
     let p : ℕ = c.args.p in
     let own = eqb-true (p / CELLS) s.seat.view.number (subst (λ (m : Mine). owns m p ≡ true) (sym c.self.view_is) c.requires.own) in
     none_there (object_at s.seat.view p) (sym (uses_own s.seat p own) ∙ subst (λ (m : Mine). uses m p ≡ false) (sym c.self.view_is) c.requires.unused)
+
+pub invariant_of-self : goal.invariant_of-self
+invariant_of-self g c =
+    let s = c.self.inside in
+    let refused = c.in_default.ensures.refused refl in
+    subst (λ (t : Seated). OwnOk t _ s.number s.lens.items s.stamps.items s.scope) (sym (seated_is c.adopt.new.self s.seat.table _ c.adopt.ensures.table refused.1))
+    (noted_ok s.seat _ s.number s.lens.items s.stamps.items s.scope c.self.invariant c.args.p refused.0)
 
 pub invariant_of-self-2 : goal.invariant_of-self-2
 invariant_of-self-2 g c =
@@ -45,4 +52,4 @@ returns-clause-adopted g c =
 pub returns-in_default-clause-kept : goal.returns-in_default-clause-kept
 returns-in_default-clause-kept g c _ =
     let s = c.self.inside in
-    ap mine_of (seated_is c.adopt.new.self s.seat.table _ c.adopt.ensures.table (c.in_default.ensures.refused refl).0) ∙ c.self.view_is
+    ap mine_of (seated_is c.adopt.new.self s.seat.table _ c.adopt.ensures.table (c.in_default.ensures.refused refl).1) ∙ c.self.view_is

@@ -26,7 +26,7 @@ invariant_of-self g c =
     let own = (uses_so s.seat p (subst (λ (m : Mine). uses m p ≡ true) (sym c.self.view_is) c.requires.used)).0 in
     let free = sym (views_own s.seat p own) ∙ subst (λ (m : Mine). views m p ≡ false) (sym c.self.view_is) c.requires.free in
     subst (λ (t : Seated). OwnOk t _ s.number (slice_set s.lens.items (p % CELLS) 0) s.stamps.items s.scope) (sym (seated_is c.ask-found.new.self s.seat.table _ c.ask-found.ensures.table c.ask-found.ensures.view))
-    (dropped_ok s.seat _ s.number s.lens.items s.stamps.items s.scope c.self.invariant p (own ∙ c.self.invariant.number_is) free)
+    (dropped_ok s.seat _ s.number s.lens.items s.stamps.items s.scope c.self.invariant p (own ∙ c.self.invariant.number_is) c.ask-found.result free)
 
 pub returns-clause-dropped : goal.returns-clause-dropped
 returns-clause-dropped g c =
@@ -34,4 +34,4 @@ returns-clause-dropped g c =
     let p : ℕ = c.args.p in
     let own = (uses_so s.seat p (subst (λ (m : Mine). uses m p ≡ true) (sym c.self.view_is) c.requires.used)).0 in
     ap mine_of (seated_is c.ask-found.new.self s.seat.table _ c.ask-found.ensures.table c.ask-found.ensures.view)
-    ∙ dropped_mine s.seat _ s.number s.lens.items s.stamps.items s.scope c.self.invariant p (own ∙ c.self.invariant.number_is) ∙ ap (dropping p) c.self.view_is
+    ∙ dropped_mine s.seat _ s.number s.lens.items s.stamps.items s.scope c.self.invariant p (own ∙ c.self.invariant.number_is) c.ask-found.result ∙ ap (dropping p) c.self.view_is

@@ -1,11 +1,12 @@
-use Rattle.std.proofs.Common.{◌≡◌, ◌/◌, refl, sym, ap, ◌∙◌, subst, arith, Some, None}
+use Rattle.std.proofs.Common.{◌≡◌, ◌/◌, refl, sym, ap, ◌∙◌, subst, arith, Bool, Some, None, ◌∷◌}
+use Rattle.std.specs.Prelude.{if◌then◌else◌}
 use Rattle.far_word.specs.declared.sizes.TheConstants.{CELLS}
 use Rattle.far_table.specs.Layout.{cell_at}
 use Rattle.far_table.specs.Seats.{Seated}
 use Rattle.far_core.specs.declared.event.Event.TheVariants.{Adopt}
 use Rattle.far_table.specs.View.{OwnerView}
 use Rattle.far_table.specs.Tells.{OwnerRefused, owner_of}
-use Rattle.far_table.specs.Views.{adopted_view, object_at}
+use Rattle.far_table.specs.Views.{adopted_view, noted_view, object_at}
 use Rattle.far_table.proofs.AdoptSteps.{adopts}
 use Rattle.far_table.proofs.SeatLemmas.{adopt_made, adopt_refused, adopt_stays, if_none, if_some, inside, seat_made}
 use Rattle.far_table.proofs.seat.MutSeat.adopt.Goals as goal
@@ -44,11 +45,25 @@ returns-clause-adopted g c =
 
 pub returns-clause-refused : goal.returns-clause-refused
 returns-clause-refused g c =
+    let n = c.load-found.result in
     let l = c.load-found.ensures.2 c.args.p refl in
     elim c.if-is_in_use.branch [
-      | then-is_in_use w ↦ (λ e. let odd : Some c.load-found.result ≡ None = sym w.result-is ∙ e in cc)
-      | else-is_in_use w ↦ (λ _. let t = adopt_refused _ _ _ c.args.p c.load-found.result (sym c.is_in_use.ensures ∙ w.if-is_in_use.false) l.2 in (
-        ap owner_of t.0 ∙ ap (λ (z : Seated). z.view) c.self.view_is,
+      | then-is_in_use w ↦ (λ e. let odd : Some n ≡ None = sym w.result-is ∙ e in cc)
+      | else-is_in_use w ↦ (λ _. let t = adopt_refused _ _ _ c.args.p n (sym c.is_in_use.ensures ∙ w.if-is_in_use.false) l.2 in (
+        n,
+        ap owner_of t.0 ∙ ap (λ (z : Seated). noted_view c.args.p n z.view) c.self.view_is,
         subst (λ (o : OwnerView). OwnerRefused (Adopt o.number c.args.p) o) (ap (λ (z : Seated). z.view) c.self.view_is) t.1,
       ))
+    ]
+
+pub returns-clause-found : goal.returns-clause-found
+returns-clause-found g c =
+    let n = c.load-found.result in
+    let l = c.load-found.ensures.2 c.args.p refl in
+    let row = ap (λ (z : Seated). (c.args.p, n) ∷ z.view.found) c.self.view_is in
+    elim c.if-is_in_use.branch [
+      | then-is_in_use w ↦ (let used = sym c.is_in_use.ensures ∙ w.if-is_in_use.true in let t = adopt_made _ _ _ c.args.p n used l.2 in
+          (n, ap (λ z. (owner_of z).found) t.after_is ∙ row, w.result-is ∙ ap (λ (b : Bool). if b then Some n else None) (sym used)))
+      | else-is_in_use w ↦ (let free = sym c.is_in_use.ensures ∙ w.if-is_in_use.false in let t = adopt_refused _ _ _ c.args.p n free l.2 in
+          (n, ap (λ z. (owner_of z).found) t.0 ∙ row, w.result-is ∙ ap (λ (b : Bool). if b then Some n else None) (sym free)))
     ]

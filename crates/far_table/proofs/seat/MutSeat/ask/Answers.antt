@@ -1,4 +1,4 @@
-use Rattle.std.proofs.Common.{◌≡◌, ◌/◌, true, refl, sym, ap, ◌∙◌, subst, arith, None}
+use Rattle.std.proofs.Common.{◌≡◌, ◌/◌, true, refl, sym, ap, ◌∙◌, subst, arith, None, ◌∷◌}
 use Rattle.far_word.specs.declared.sizes.TheConstants.{CELLS}
 use Rattle.far_core.specs.declared.event.Event.TheVariants.{Ask}
 use Rattle.far_table.specs.View.{OwnerView}
@@ -7,7 +7,7 @@ use Rattle.far_table.specs.Seats.{Seated, Remembers}
 use Rattle.far_table.specs.Tells.{owner_of}
 use Rattle.far_table.specs.Views.{asked_view, held_at, uses}
 use Rattle.far_table.proofs.AskSteps.{asks}
-use Rattle.far_table.proofs.SeatLemmas.{asked_epoch, inside, places_asked, seat_made, seat_stays}
+use Rattle.far_table.proofs.SeatLemmas.{asked_epoch, asked_found, inside, places_asked, seat_made, seat_stays}
 use Rattle.far_table.proofs.seat.MutSeat.ask.Goals as goal
 
 pub fetch_or-requires : goal.fetch_or-requires
@@ -33,6 +33,12 @@ pub returns-clause-view : goal.returns-clause-view
 returns-clause-view g c =
     let t = c.fetch_or.ensures.2 c.args.p c.args.mark c.requires.request refl c.mask.ensures in
     ap owner_of t.after_is ∙ ap (λ (z : Seated). asked_view c.args.p c.args.mark c.fetch_or.result z.view) c.self.view_is
+
+pub returns-clause-found : goal.returns-clause-found
+returns-clause-found g c =
+    let n = c.fetch_or.result in
+    let t = c.fetch_or.ensures.2 c.args.p c.args.mark c.requires.request refl c.mask.ensures in
+    ap (λ z. (owner_of z).found) t.after_is ∙ asked_found c.args.p c.args.mark n _ c.requires.request ∙ ap (λ (z : Seated). (c.args.p, n) ∷ z.view.found) c.self.view_is
 
 pub returns-clause-event : goal.returns-clause-event
 returns-clause-event g c =

@@ -1,0 +1,31 @@
+-- How owners act out the list of a beset hand, in other words than the hand's.
+use Rattle.std.specs.Prelude.{◌≡◌, ◌⊎◌, ℕ, List, [], ◌∷◌, drop}
+use Rattle.far_word.specs.declared.mark.Mark.{Mark}
+use Rattle.far_core.specs.declared.event.Event.{Event}
+use Rattle.far_core.specs.declared.event.Event.TheVariants.{ReadEpoch, Open, Pin, Load, Store, Close, Adopt, Ask}
+use Rattle.far_core.specs.declared.event.Reply.{Reply}
+use Rattle.far_core.specs.events.Legal.{Legal}
+use Rattle.far_core.specs.events.Step.{after}
+use Rattle.far_core.specs.state.State.{State}
+use Rattle.far_hand.specs.declared.beset.Beset.{Beset}
+use Rattle.far_hand.specs.MayBe.{Made}
+
+-- an owner reads the epoch, opens or closes its scope, pins, loads, stores, takes a new object over, or asks for something
+abbrev pub IsOfOwner : Event → Type 0
+IsOfOwner e = ((m : ℕ) × (e ≡ ReadEpoch m)) ⊎ ((m : ℕ) × (e ≡ Open m)) ⊎ ((m : ℕ) × (e ≡ Close m)) ⊎ ((m p : ℕ) × (e ≡ Pin m p)) ⊎ ((m p i : ℕ) × (e ≡ Load m p i))
+    ⊎ ((m p i w : ℕ) × (e ≡ Store m p i w)) ⊎ ((m p : ℕ) × (e ≡ Adopt m p)) ⊎ ((m p : ℕ) × (k : Mark) × (e ≡ Ask m p k))
+
+-- the turn of an event: an owner's is made where it is legal; any other, and one that isn't legal, changes nothing
+pub record TakesTurn (s : State) (e : Event) (t : State) : Type 0 where
+  pub made : IsOfOwner e → Legal s e → t ≡ after s e
+  pub passed : ¬ (IsOfOwner e × Legal s e) → t ≡ s
+
+-- before each call the next event of the list has its turn, while there is one; nothing else happens between the calls
+abbrev pub ActOut : List (Event × Reply) → List Event → State → State → Type 0
+ActOut [] list s t = t ≡ s
+ActOut (c ∷ calls) [] s t = (x : State) × Made s c.0 c.1 x × ActOut calls [] x t
+ActOut (c ∷ calls) (e ∷ list) s t = (y : State) × TakesTurn s e y × ((x : State) × Made y c.0 c.1 x × ActOut calls list x t)
+
+-- the events of the list that had no turn yet
+abbrev pub events_left : Beset → List Event
+events_left hand = drop hand.made hand.events.items
