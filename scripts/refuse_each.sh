@@ -1,8 +1,8 @@
 #!/usr/bin/env bash
-# Refuses each growth of the built program in turn, on two texts: the stored trace, and one whose rounds take memory; its
-# fetch takes none. Each run must end with the whole output and status 0, or with `memory`, status 1, and nothing written but
-# `refused 1`, or, where a command of rounds was refused memory, a proper prefix of the output. All these endings must come.
-# Prints only what is wrong.
+# Refuses each growth of the built program in turn, on four texts: the stored trace; a plain round; one where a hot object goes
+# far; and one whose rounds take memory late, after much output. Fetches take none. Each run must end with the whole output and
+# status 0, or with `memory`, status 1, and nothing written but `refused 1`, or, where a command of rounds was refused memory
+# after much output, a proper prefix of it. All these endings must come. Prints only what is wrong.
 set -euo pipefail
 here="$(cd "$(dirname "${BASH_SOURCE[0]}")" && pwd)"
 crate="$here/../crates/far_trace"
@@ -80,7 +80,21 @@ refuse() { # the text, and how many prefixes of its output must be left, each of
     fi
 }
 
+plain() { # a round that moves one object and sends one far, which is read
+    printf 'heap 4 1\nnew 0 8 1\nnew 0 8 1\nopen 0\nwrite 0 0 0 0102030405060708\nclose 0\nnew 0 1016 1\nround oldest 1 9\n'
+    printf 'where 0 0\nwhere 0 1\nlog 0\nlog 1\nlog 2\naudit\nopen 0\nread 0 0 0 8\nread 0 1 0 8\nwhere 0 1\naudit\n'
+}
+
+hot() { # a hot object goes far, since its owner took the last log
+    printf 'heap 4 1\nnew 0 1016 1\nnew 0 1016 1\nnew 0 1016 1\nopen 0\nview 0 0\nclose 0\nselect oldest 2\nmark 9\nwait\nopen 0\n'
+    printf 'view 0 1\nevacuate 9\nwhere 0 0\naudit\n'
+}
+
 rounds >"$work/rounds"
+plain >"$work/plain"
+hot >"$work/hot"
 refuse "$crate/stdin" 0
+refuse "$work/plain" 0
+refuse "$work/hot" 0
 refuse "$work/rounds" 3
 exit "$wrong"

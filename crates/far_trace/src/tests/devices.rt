@@ -348,7 +348,17 @@ fn flawed_text(rt: &impl AllocGlobal, row: Row, flaw: Flawed, call: u64) -> Resu
     Ok(format!(in rt.alloc(); "heap 4 1\ndevice {name} {call}\n{commands}{reads}")?)
 }
 
-/// Whether a reply of this text shows the flaw. Then it is ended after that command, a round that is stopped there is given up, and
+/// The number of the first reply that has these words, and whether it tells that a round was stopped there.
+fn shown_at(told: &str, shown: &str) -> Option<(usize, bool)> {
+    for (i, line) in told.lines().enumerate() {
+        if line.contains(shown) {
+            return Some((i, line.contains(" moved ")));
+        }
+    }
+    None
+}
+
+/// Whether a reply of this text shows the flaw. Then the text is ended after that command, a round that was stopped there is given up, and
 /// reads of all objects, twice, give the row's bytes: only an inverted read changes them.
 fn shows(
     rt: &(impl Abort + AllocGlobal),
@@ -358,36 +368,26 @@ fn shows(
 ) -> Result<bool, Fail> {
     let reads = row.reads;
     let told = replies(rt, text)?;
-    let Some((at, line)) = told
-        .lines()
-        .enumerate()
-        .find(|(_, line)| line.contains(flaw.shown))
-    else {
+    let Some((at, stopped)) = shown_at(&told, flaw.shown) else {
         assert!(rt; told.ends_with(row.bytes), "at {text}");
         return Ok(false);
     };
-    let (abort, aborted) = if line.contains(" moved ") {
-        ("abort\n", "ok\n")
-    } else {
-        ("", "")
-    };
+    let abort = if stopped { "abort\n" } else { "" };
+    let before = up_to(rt, text, at)?;
+    let mut begin = up_to(rt, &told, at)?;
+    if stopped {
+        begin.push_str("ok\n")?;
+    }
     let bytes = if flaw.name == "flip" {
         row.inverted
     } else {
         row.bytes
     };
-    let before = up_to(rt, text, at)?;
-    let told_before = up_to(rt, &told, at)?;
-    let told = replies(
-        rt,
-        &format!(in rt.alloc(); "{before}{abort}open 0\n{reads}{reads}")?,
-    )?;
+    let end = format!(in rt.alloc(); "{bytes}{bytes}")?;
+    let text = format!(in rt.alloc(); "{before}{abort}open 0\n{reads}{reads}")?;
+    let told = replies(rt, &text)?;
     assert!(rt;
-        told.starts_with(&*format!(in rt.alloc(); "{told_before}{aborted}")?),
-        "at {text}"
-    );
-    assert!(rt;
-        told.ends_with(&*format!(in rt.alloc(); "{bytes}{bytes}")?),
+        told.starts_with(begin.as_str()) && told.ends_with(end.as_str()),
         "at {text}"
     );
     Ok(true)

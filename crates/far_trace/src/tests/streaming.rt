@@ -238,12 +238,24 @@ fn long_answers_are_written_in_few_pieces(rt: HostRuntime) -> Result<(), Fail> {
     Ok(())
 }
 
-// Whether a part of the text from its begin on runs, with a line of the answer for each of its own, or its last line is the one that is off the grammar.
+// The answer to so many of the first lines.
+fn first_answers(rt: &impl AllocGlobal, lines: usize) -> Result<String, Fail> {
+    let mut first = String::new(rt.alloc());
+    for (i, line) in ANSWER.lines().enumerate() {
+        if i < lines {
+            first.push_str(line)?;
+            first.push('\n')?;
+        }
+    }
+    Ok(first)
+}
+
+// Whether a part of the text from its begin on runs, each of its lines answered, or its last line is the one that is off the grammar.
 fn is_cut_so(rt: &impl AllocGlobal, part: &str) -> Result<bool, Fail> {
     let (ended, written, _) = run_read(rt, part, 4096, 0, ErrorKind::Other);
     if ended == Ok(End::Ran) {
-        let replies = written.iter().filter(|byte| **byte == b'\n').count();
-        return Ok(ANSWER.as_bytes().starts_with(&written) && replies == part.lines().count());
+        let answers = first_answers(rt, part.lines().count())?;
+        return Ok(written.as_slice() == answers.as_bytes());
     }
     let lines = part.split('\n').count();
     let refused = format!(in rt.alloc(); "refused 16 {lines}\n")?;
