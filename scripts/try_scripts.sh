@@ -1,6 +1,6 @@
 #!/usr/bin/env bash
-# Tries the scripts that a user calls: far_trace, over a made-up tree whose rt is made up too, and draw, over the built
-# program; and whether README and docs/round.svg show what the program replies. Prints only what is wrong.
+# Tries the scripts that a user calls: far_trace and try, over a made-up tree whose rt is made up too, and draw, over the built
+# program; and whether docs/round.svg shows what the program replies (of the pages: pages.py). Prints only what is wrong.
 set -euo pipefail
 here="$(cd "$(dirname "${BASH_SOURCE[0]}")" && pwd)"
 program="${1:-$here/../crates/far_trace/out/far_trace}"
@@ -22,6 +22,7 @@ for crate in far_word far_evac far_text far_trace far_laws; do
     echo "// $crate" >"$tree/crates/$crate/src/lib.rt"
 done
 cp "$here/far_trace" "$launcher"
+cp "$here/try" "$tree/scripts/try"
 ln -s "$launcher" "$work/linked/trace"
 printf '%s\n' 'far_word:' 'far_evac may_wait=2: far_word  thiserror' 'far_text: hex' 'far_laws: far_trace' 'far_trace: far_evac far_text' >"$tree/crates.txt"
 cat >"$work/bin/rt" <<'END'
@@ -31,6 +32,10 @@ name="$(basename "$PWD")"
 echo "$1 $name" >>"$CALLS"
 if [[ -n "${REFUSE:-}" ]]; then
     echo "fn $name::f: not proved"
+    exit 1
+fi
+if [[ "$1" == try ]]; then
+    [[ "$2" == -- && "${*:3}" == "${WORDS:-}" ]] && exec cat
     exit 1
 fi
 [[ -d out ]] || printf '%s\n' "rt: chose --jobs 2 for $name" 'so far: 3 of 9 functions checked' 'fn f: proved'
@@ -72,6 +77,10 @@ tells 'usage: far_trace [split]'
 REFUSE=1 launch 'a refused proof' 1 'lib far_evac,lib far_text' "$launcher"
 tells 'fn far_evac::f: not proved'
 rm "$(sed -n 's/.*; its log is //p' "$work/err")"
+launch 'a run without a proof' 0 'try far_trace' "$tree/scripts/try"
+tells 'try: far_trace is being compiled without a proof, for some half a minute'
+WORDS='split' launch 'one with split' 0 'try far_trace' "$tree/scripts/try" split
+launch 'one that ends badly' 1 'try far_trace' "$tree/scripts/try" split
 launch 'a first call, through a link' 0 'lib far_evac,lib far_text,run far_trace' "$work/linked/trace"
 tells 'far_trace: far_evac (2 of 4): is being proved and built'
 tells 'far_trace: far_text (3 of 4): so far: 3 of 9 functions checked'
@@ -107,15 +116,4 @@ tells 'refused 16 3'
 draw 'no commands' 1 '# words\n'
 "$here/draw" "$docs/round.trace" "$program" >"$work/out"
 cmp -s "$work/out" "$docs/round.svg" || fail 'docs/round.svg is no longer what draw draws'
-
-row() { # the lines as README shows them, in a row
-    paste -s -d '|' | sed 's:|: / :g'
-}
-
-readme="$here/../README.md"
-trace="$(row <"$docs/round.trace")"
-replies="$("$program" <"$docs/round.trace" | row)"
-[[ "$(cat "$readme")" == *"\`$trace\`, and prints"*"\`$replies\`."* ]] || fail "README lacks the row of docs/round.trace, or of its replies: $replies"
-example="$(sed -n 's/^    \$ printf .\(.*\). | scripts.far_trace$/\1/p' "$readme")"
-[[ "$(printf '%b' "$example" | "$program")" == "$(sed -n '/^    \$ printf/,/^$/s/^    \([^$]\)/\1/p' "$readme")" ]] || fail 'README shows other replies to its first example'
 exit "$wrong"

@@ -162,7 +162,7 @@ fn reads_by(rt: &impl AllocGlobal, most: usize) -> bool {
 }
 
 #[test]
-fn each_read_may_fail(rt: HostRuntime) {
+fn cut_each_read(rt: HostRuntime) {
     for fails_at in 1..TEXT.len() as u64 + 2 {
         assert!(rt; fails_to_read(&rt, fails_at), "at {fails_at}");
     }
@@ -173,7 +173,7 @@ fn each_read_may_fail(rt: HostRuntime) {
 #[test]
 fn nothing_is_read_after_the_first_byte_too_many(rt: HostRuntime) -> Result<(), Fail> {
     let mut text = String::new(rt.alloc());
-    push_times(&mut text, "\n", 1_048_577)?;
+    push_times(&mut text, "#", 1_048_577)?;
     let (ended, written, reads) = run_read(&rt, &text, 65_536, 18, ErrorKind::Other);
     assert!(rt; ended == Ok(End::Refused) && written.as_slice() == b"refused 16 0\n".as_slice());
     assert!(rt; reads == 17);
@@ -198,7 +198,7 @@ fn writes_by(rt: &impl AllocGlobal, most: usize) -> bool {
 }
 
 #[test]
-fn each_write_may_fail(rt: HostRuntime) {
+fn cut_each_write(rt: HostRuntime) {
     let last = ANSWER.len() as u64 - 1;
     for before in 0..last + 1 {
         let kind = KINDS[(before % 5) as usize];
@@ -238,11 +238,12 @@ fn long_answers_are_written_in_few_pieces(rt: HostRuntime) -> Result<(), Fail> {
     Ok(())
 }
 
-// Whether a part of the text from its begin on runs, or its last line is the one that is off the grammar.
+// Whether a part of the text from its begin on runs, with a line of the answer for each of its own, or its last line is the one that is off the grammar.
 fn is_cut_so(rt: &impl AllocGlobal, part: &str) -> Result<bool, Fail> {
     let (ended, written, _) = run_read(rt, part, 4096, 0, ErrorKind::Other);
     if ended == Ok(End::Ran) {
-        return Ok(ANSWER.as_bytes().starts_with(&written));
+        let replies = written.iter().filter(|byte| **byte == b'\n').count();
+        return Ok(ANSWER.as_bytes().starts_with(&written) && replies == part.lines().count());
     }
     let lines = part.split('\n').count();
     let refused = format!(in rt.alloc(); "refused 16 {lines}\n")?;
@@ -250,7 +251,7 @@ fn is_cut_so(rt: &impl AllocGlobal, part: &str) -> Result<bool, Fail> {
 }
 
 #[test]
-fn a_text_may_end_after_each_byte(rt: HostRuntime) -> Result<(), Fail> {
+fn cut_each(rt: HostRuntime) -> Result<(), Fail> {
     for len in 0..TEXT.len() {
         let part = TEXT.get(..len).unwrap_or("");
         assert!(rt; is_cut_so(&rt, part)?, "after {len}");

@@ -758,7 +758,21 @@ epoch 0
   epoch 7
 ";
 
-const TALKS: [&str; 27] = [
+/// The smallest heap: another mutator than its own, a data structure too high, and a pointer that was never made.
+const OUT_OF_RANGE: &str = "\
+heap 2 1
+  ok
+new 1 8 1
+  refused 8
+new 0 8 256
+  refused 8
+open 0
+  ok
+read 0 5 0 8
+  refused 7
+";
+
+const TALKS: [&str; 28] = [
     FIRST_OBJECT,
     PAGE,
     COMMENTS,
@@ -786,6 +800,7 @@ const TALKS: [&str; 27] = [
     EPOCHS,
     FIRST_EPOCH,
     SAID_EPOCH,
+    OUT_OF_RANGE,
 ];
 
 #[test]

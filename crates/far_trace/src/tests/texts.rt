@@ -39,6 +39,9 @@ const BAD_TEXTS: &str = "\
 2 heap 4 1/open +1
 2 heap 4 1/open -1
 2 heap 4 1/open
+2 heap 4 1/new 00 8 1
+2 heap 4 1/new 0 8 1 
+2 heap 4 1/new 0 18446744073709551616 1
 2 heap 4 1/open 0 0
 2 heap 4 1/open 0x1
 2 heap 4 1/open 18446744073709551616
