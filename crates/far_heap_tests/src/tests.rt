@@ -15,4 +15,5 @@ mod rows;
 mod scopes;
 mod steps;
 mod threads;
+mod using;
 mod writers;

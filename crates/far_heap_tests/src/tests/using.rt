@@ -1,0 +1,233 @@
+//! The examples of docs/USING.md, which has what stands here between `// page` and `// end`: scripts/using.py compares them.
+
+ghost use Rattle.std.specs.Prelude.{◌≡◌};
+
+use crate::tests::looks::{blank, sized};
+use far_device::{FailAt, MemDevice};
+use far_evac::RoundEnd;
+use far_heap::{Blank, Heap, HeapName, Mutator, Scope};
+use far_policy::{LeastLive, Oldest};
+use far_word::Refused;
+use std::alloc::{AllocError, Global};
+use std::marker::Brand;
+use std::sync::Wait;
+use std::test::Fail;
+use std::thread;
+use std::thread::Threads;
+
+/// What the program keeps in an object of 16 bytes.
+#[derive(Clone, Copy, PartialEq)]
+struct Account {
+    number: u64,
+    balance: u64,
+}
+
+fn put<K: HeapName, R: Wait>(
+    rt: &R,
+    scope: &mut Scope<K, MemDevice>,
+    account: Account,
+) -> Result<u16, Refused> {
+    // page
+    let pointer = scope.alloc(rt, 16, 1)?;
+    let view = scope.view(rt, pointer)?;
+    scope.write(&view, 0, &account.number.to_le_bytes())?;
+    scope.write(&view, 8, &account.balance.to_le_bytes())?;
+    // end
+    Ok(pointer)
+}
+
+fn get<K: HeapName, R: Wait>(
+    rt: &R,
+    scope: &mut Scope<K, MemDevice>,
+    pointer: u16,
+) -> Result<Account, Refused> {
+    // page
+    let view = scope.view(rt, pointer)?;
+    let (mut number, mut balance) = ([0; 8], [0; 8]);
+    scope.read(&view, 0, &mut number)?;
+    scope.read(&view, 8, &mut balance)?;
+    Ok(Account {
+        number: u64::from_le_bytes(number),
+        balance: u64::from_le_bytes(balance),
+    })
+    // end
+}
+
+const ALICE: Account = Account {
+    number: 1,
+    balance: 900,
+};
+
+// Whether an account comes back as it was put.
+fn keeps_one<K: HeapName, R: Wait>(
+    rt: &R,
+    scope: &mut Scope<K, MemDevice>,
+) -> Result<bool, Refused> {
+    let pointer = put(rt, scope, ALICE)?;
+    Ok(get(rt, scope, pointer)? == ALICE)
+}
+
+fn in_a_scope<K: HeapName, R: Wait>(
+    rt: &R,
+    mutator: Mutator<K, MemDevice>,
+) -> (Mutator<K, MemDevice>, Result<bool, Refused>) {
+    // page
+    let mut scope = mutator.open();
+    let kept = keeps_one(rt, &mut scope); // may return early by `?`
+    let mutator = scope.close(); // always
+    // end
+    (mutator, kept)
+}
+
+// page
+// A round of at most two logs. It is given up after a thousand turns: then another scope stayed open.
+fn make_room<K: HeapName, R: Wait>(rt: &R, heap: &Heap<K, MemDevice>) -> Result<(), Refused> {
+    match heap.run_round(rt, &mut LeastLive, 2, 1000) {
+        Ok(RoundEnd::Limit(_)) => heap.book(rt).abort(),
+        Ok(_) => Ok(()),
+        Err(fault) if fault.why == Refused::Phase => Ok(()), // another thread makes a round
+        Err(fault) => Err(fault.why),
+    }
+}
+// end
+
+// A new object, for which rounds are made where there is no room. The mutator's scope is closed.
+fn alloc_with_rounds<K: HeapName, R: Wait>(
+    rt: &R,
+    heap: &Heap<K, MemDevice>,
+    mutator: &mut Mutator<K, MemDevice>,
+    len: u16,
+) -> Result<u16, Refused> {
+    // page
+    for _ in 0..9u8 {
+        match mutator.alloc(rt, len, 1) {
+            Err(Refused::NoRoom) => make_room(rt, heap)?,
+            made => return made,
+        }
+    }
+    Err(Refused::NoRoom)
+    // end
+}
+
+// Whether the program's objects outgrow three logs, and the first comes back.
+fn outgrows<K: HeapName, R: Wait>(
+    rt: &R,
+    heap: &Heap<K, MemDevice>,
+    mutator: Mutator<K, MemDevice>,
+) -> bool {
+    let (mut mutator, kept) = in_a_scope(rt, mutator);
+    for _ in 0..6u8 {
+        if alloc_with_rounds(rt, heap, &mut mutator, 1016).is_err() {
+            return false;
+        }
+    }
+    let mut scope = mutator.open();
+    let found = get(rt, &mut scope, 0);
+    scope.close();
+    kept == Ok(true) && found == Ok(ALICE)
+}
+
+fn one_heap<K: HeapName, R: Wait>(rt: &R, alloc: Global, blank: Blank<MemDevice>) -> bool
+    requires { blank.heap ≡ K.heap }
+{
+    let Ok((heap, mut mutators)) = Heap::<K, _>::new(alloc, blank) else {
+        return false;
+    };
+    match mutators.pop() {
+        Some(mutator) => outgrows(rt, &heap, mutator),
+        None => false,
+    }
+}
+
+#[test]
+fn records_and_rounds(rt: HostRuntime) -> Result<(), Fail> {
+    let blank = blank(&rt, sized(4, 1))?;
+    assert!(rt; one_heap::<Brand, _>(&rt, rt.alloc(), blank));
+    Ok(())
+}
+
+// Each mutator works in a thread, and after that in another one.
+fn two_waves<K: HeapName + Send + Sync, R: Threads + Wait + Sync>(
+    rt: &R,
+    mutators: Vec<Mutator<K, MemDevice>>,
+) -> Result<Vec<Mutator<K, MemDevice>>, AllocError> {
+    // page
+    let mutators = thread::map_vec(rt, mutators, &|mutator| in_a_scope(rt, mutator).0)?;
+    thread::map_vec(rt, mutators, &|mutator| in_a_scope(rt, mutator).0) // in other threads
+    // end
+}
+
+// page
+fn two_heaps<K: HeapName + Send + Sync, L: HeapName, R: Threads + Wait + Sync>(
+    rt: &R,
+    alloc: Global,
+    blanks: (Blank<MemDevice>, Blank<MemDevice>),
+) -> bool
+    requires one { blanks.0.heap ≡ K.heap }
+    requires other { blanks.1.heap ≡ L.heap }
+// end
+{
+    let Ok((_one, mutators)) = Heap::<K, _>::new(alloc, blanks.0) else {
+        return false;
+    };
+    let Ok((other, mut others)) = Heap::<L, _>::new(alloc, blanks.1) else {
+        return false;
+    };
+    let Some(mutator) = others.pop() else {
+        return false;
+    };
+    two_waves(rt, mutators).is_ok() && outgrows(rt, &other, mutator)
+}
+
+#[test]
+fn two_heaps_in_one_program(rt: HostRuntime) -> Result<(), Fail> {
+    let blanks = (blank(&rt, sized(4, 2))?, blank(&rt, sized(4, 1))?);
+    assert!(rt; two_heaps::<Brand, Brand, _>(&rt, rt.alloc(), blanks));
+    Ok(())
+}
+
+// A round over a device that may fail: at a failure the next turn tries the same object again.
+fn round_past_failures<K: HeapName, R: Wait>(
+    rt: &R,
+    heap: &Heap<K, FailAt<MemDevice>>,
+) -> Result<(), Refused> {
+    // page
+    let mut why = match heap.run_round(rt, &mut Oldest, 1, 1000) {
+        Ok(_) => return Ok(()),
+        Err(fault) => fault.why,
+    };
+    for _ in 0..3u8 {
+        match heap.book(rt).turn() {
+            Ok(made) if made.done => return Ok(()),
+            Ok(_) => {}
+            Err(fault) => why = fault.why,
+        }
+    }
+    Err(why)
+    // end
+}
+
+fn over_a_device<K: HeapName, R: Wait>(
+    rt: &R,
+    alloc: Global,
+    blank: Blank<FailAt<MemDevice>>,
+) -> bool
+    requires { blank.heap ≡ K.heap }
+{
+    let Ok((heap, mut mutators)) = Heap::<K, _>::new(alloc, blank) else {
+        return false;
+    };
+    let Some(mut mutator) = mutators.pop() else {
+        return false;
+    };
+    let made = mutator.alloc(rt, 8, 1).is_ok() && mutator.alloc(rt, 1016, 1).is_ok();
+    made && round_past_failures(rt, &heap).is_ok()
+}
+
+#[test]
+fn a_device_that_fails(rt: HostRuntime) -> Result<(), Fail> {
+    let device = FailAt::new(MemDevice::new(rt.alloc()), 1);
+    let blank = Blank::new(rt.alloc(), sized(4, 1), device)?;
+    assert!(rt; over_a_device::<Brand, _>(&rt, rt.alloc(), blank));
+    Ok(())
+}
