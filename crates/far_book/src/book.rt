@@ -53,6 +53,7 @@ mod words;
 use crate::book::words::near_word;
 use crate::home::Home;
 use crate::ledger::Ledger;
+use crate::log_rows::LogRows;
 use far_core::{Kind, Shape};
 use far_device::Device;
 use far_hand::Hand;
@@ -63,27 +64,30 @@ use std::marker::Model;
 
 /// The region book: where each object of a heap lies, and what each of its logs has.
 ///
-/// It touches the shared words through the hand that it is lent, and keeps the bytes of far objects in its device. All its room is taken when it is made, so that only the
-/// calls that answer lists take memory.
+/// It touches the shared words through the hand that it is lent, and keeps the bytes of far objects in its device. All its room is taken when it is made, so that later
+/// only the calls that answer lists take memory, and its device.
 #[derive(Drop)]
 pub struct Book<N: Hand + Drop, D: Device + Drop> {
     near: N,
     device: D,
     alloc: Global,
     ledger: Ledger,
-    // Where the bytes of far objects are read to.
+    // Where the bytes of far objects are read to; it has room for the longest.
     buffer: Vec<u8>,
 }
 
 impl<N: Hand + Drop, D: Device + Drop> Model for Book<N, D> {
     ghost use Rattle.far_book.specs.book.BookOf.{BookOf};
+    ghost use Rattle.std.specs.Prelude.{◌≤◌};
+    ghost use Rattle.std.specs.Vec.{vec_capacity};
+    ghost use Rattle.far_word.specs.declared.sizes.TheConstants.{LONGEST};
     ghost use Rattle.far_book.specs.book.FarSide.{InOrder};
 
     ghost Value = { BookOf N D };
 
     ghost view = { λ b. record { near = b.near; device = b.device; order = b.ledger.order.items } };
 
-    ghost invariant = { λ b. InOrder (N.view b.near) b.ledger (D.contents b.device) (D.honest b.device) };
+    ghost invariant = { λ b. InOrder (N.view b.near) b.ledger (D.contents b.device) (D.honest b.device) × (LONGEST ≤ vec_capacity b.buffer) };
 }
 
 impl<N: Hand + Drop, D: Device + Drop> Book<N, D> {
@@ -249,7 +253,18 @@ impl<N: Hand + Drop, D: Device + Drop> Book<N, D> {
         (self.ledger.kind(log), self.ledger.row(log))
     }
 
-    /// What each sealed log has, oldest first. Refused [`Refused::Memory`] alone.
+    /// What each sealed log has, oldest first, in one value. Takes no memory.
+    pub fn log_rows(&self) -> LogRows
+        ensures { result ≡ map (row_of (N.view self.now.near)) self.now.order }
+    {
+        let mut rows = LogRows::new();
+        for log in &self.ledger.order {
+            rows.push(self.ledger.row(*log));
+        }
+        rows
+    }
+
+    /// The same as a list. Refused [`Refused::Memory`] alone.
     pub fn rows(&self) -> Result<Vec<LogRow>, Refused>
         ensures rows { IfOk result (λ rows. rows.items ≡ map (row_of (N.view self.now.near)) self.now.order) }
         ensures refused { IfErr result (λ why. why ≡ Memory) }

@@ -7,6 +7,7 @@ mod book;
 mod home;
 mod laws;
 mod ledger;
+mod log_rows;
 mod number_set;
 
 pub use book::Book;
@@ -17,3 +18,4 @@ pub use laws::{
     order_is_by_age, placing_is_legal, releasing_is_legal, retiring_is_legal, sealed_logs_stay,
     staying_is_legal,
 };
+pub use log_rows::LogRows;

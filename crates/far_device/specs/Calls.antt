@@ -6,3 +6,8 @@ use Rattle.far_device.specs.declared.fault.DeviceFault.{DeviceFault}
 abbrev pub given : Result (Vec ℕ) DeviceFault → Result (List ℕ) DeviceFault
 given (Ok bytes) = Ok bytes.items
 given (Err why) = Err why
+
+-- the same of a read into a buffer, which has the bytes then
+abbrev pub given_in : Result (Unit {0}) DeviceFault → List ℕ → Result (List ℕ) DeviceFault
+given_in (Ok done) bytes = Ok bytes
+given_in (Err why) bytes = Err why

@@ -1,10 +1,12 @@
 //! What may be counted on of a far side.
 
-ghost use Rattle.std.specs.Prelude.{◌≡◌, ◌⊎◌, ◌^◌, ◌<◌, ℕ, Bool, true, false, List, Option, Some, None, IsSome, Result, IfOk, IfSome, OnOk};
-ghost use Rattle.far_device.specs.Calls.{given};
+ghost use Rattle.std.specs.Prelude.{◌≡◌, ◌≢◌, ◌⊎◌, ◌^◌, ◌<◌, ◌≤◌, ℕ, Bool, true, false, List, Option, Some, None, IsSome, Result, Err, IfOk, IfSome, OnOk, length};
+ghost use Rattle.std.specs.Vec.{vec_capacity};
+ghost use Rattle.far_device.specs.Calls.{given, given_in};
 ghost use Rattle.far_device.specs.Faults.{is_fault};
 ghost use Rattle.far_device.specs.Following.{Follows, any_key, other_than};
 ghost use Rattle.far_device.specs.declared.fault.DeviceFault.{DeviceFault};
+ghost use Rattle.far_device.specs.declared.fault.DeviceFault.TheVariants.{Memory};
 
 use crate::fault::DeviceFault;
 
@@ -22,6 +24,10 @@ pub trait Device {
 
     /// Each call of `forget` takes the key away. Of a device of which this isn't so it may also do nothing.
     ghost forgets: { Type 0 };
+
+    /// A read into a buffer that has room for the bytes under the key takes no memory. Of a device of which this isn't so it may take
+    /// some.
+    ghost reads_in_place: { Type 0 };
 
     /// No more calls than so many will answer [`DeviceFault::Device`], as long as no key is read under which nothing is.
     ghost fails_at_most: { Self → ℕ → Type 0 };
@@ -49,15 +55,14 @@ pub trait Device {
         ensures given { honest self.old ≡ true → IfOk result (λ bytes. IfSome (contents self.old id) (λ stored. bytes.items ≡ stored)) }
         ensures kept { contents self.new ≡ contents self.old };
 
-    /// One read, as [`Device::read`], whose answer may stand in a buffer that the caller gives up for it: a device may take no memory
-    /// then.
-    fn read_into(&mut self, id: u32, _buffer: Vec<u8>) -> Result<Vec<u8>, DeviceFault>
-        ensures called { reads self.old id (given result) self.new }
-        ensures given { honest self.old ≡ true → IfOk result (λ bytes. IfSome (contents self.old id) (λ stored. bytes.items ≡ stored)) }
+    /// One read, as [`Device::read`], whose bytes are put into a buffer in place of what it has. After an error it may have any bytes.
+    /// It never has less room than before.
+    fn read_into(&mut self, id: u32, buffer: &mut Vec<u8>) -> Result<(), DeviceFault>
+        ensures called { reads self.old id (given_in result buffer.new.items) self.new }
+        ensures given { honest self.old ≡ true → OnOk result (IfSome (contents self.old id) (λ stored. buffer.new.items ≡ stored)) }
         ensures kept { contents self.new ≡ contents self.old }
-    {
-        self.read(id)
-    }
+        ensures room { vec_capacity buffer.old ≤ vec_capacity buffer.new }
+        ensures in_place { reads_in_place → IfSome (contents self.old id) (λ stored. length stored ≤ vec_capacity buffer.old → result ≢ Err Memory) };
 
     /// Takes the key away, with what is under it, or leaves all as it was.
     fn forget(&mut self, id: u32)

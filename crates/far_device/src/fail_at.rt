@@ -65,6 +65,8 @@ impl<D: Device + Drop> Device for FailAt<D> {
 
     ghost forgets = { D.forgets };
 
+    ghost reads_in_place = { D.reads_in_place };
+
     ghost fails_at_most = { λ s. MayFail s.left (D.fails_at_most s.inner) };
 
     ghost writes = { λ old id bytes answer new.
@@ -107,7 +109,7 @@ impl<D: Device + Drop> Device for FailAt<D> {
     }
 
     #[inline(always)]
-    fn read_into(&mut self, id: u32, buffer: Vec<u8>) -> Result<Vec<u8>, DeviceFault> {
+    fn read_into(&mut self, id: u32, buffer: &mut Vec<u8>) -> Result<(), DeviceFault> {
         if self.fails() {
             return Err(DeviceFault::Device);
         }

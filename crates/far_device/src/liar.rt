@@ -1,6 +1,7 @@
 //! A device of which one read is a lie.
 
 ghost use Rattle.std.specs.Prelude.{◌≡◌, ◌==◌, ◌-◌, ℕ, List, map, cond, IsSome, Result};
+ghost use Rattle.std.specs.Vec.{vec_capacity};
 ghost use Rattle.far_device.specs.Liar.{inverted};
 ghost use Rattle.far_device.specs.declared.liar.Lie.TheVariants as lie;
 ghost use Rattle.far_device.specs.declared.fault.DeviceFault.{DeviceFault};
@@ -79,7 +80,8 @@ impl Lie {
 
     // Makes of bytes what is told in their place.
     fn tell(self, bytes: &mut Vec<u8>)
-        ensures { bytes.new.items ≡ lied self bytes.old.items }
+        ensures told { bytes.new.items ≡ lied self bytes.old.items }
+        ensures room { vec_capacity bytes.new ≡ vec_capacity bytes.old }
     {
         match self {
             Lie::Never => {}
@@ -103,6 +105,8 @@ impl<D: Device + Drop> Device for Liar<D> {
     ghost faults = { λ s. D.faults s.inner };
 
     ghost forgets = { D.forgets };
+
+    ghost reads_in_place = { D.reads_in_place };
 
     ghost fails_at_most = { λ s. D.fails_at_most s.inner };
 
@@ -159,13 +163,13 @@ impl<D: Device + Drop> Device for Liar<D> {
     }
 
     #[inline(always)]
-    fn read_into(&mut self, id: u32, buffer: Vec<u8>) -> Result<Vec<u8>, DeviceFault> {
+    fn read_into(&mut self, id: u32, buffer: &mut Vec<u8>) -> Result<(), DeviceFault> {
         let lies = self.lies();
-        let mut bytes = self.inner.read_into(id, buffer)?;
+        self.inner.read_into(id, buffer)?;
         if lies {
-            self.lie.tell(&mut bytes);
+            self.lie.tell(buffer);
         }
-        Ok(bytes)
+        Ok(())
     }
 
     #[inline(always)]

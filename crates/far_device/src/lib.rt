@@ -20,3 +20,4 @@ pub use fault::DeviceFault;
 pub use laws::{the_kth_call_fails, the_kth_read_lies};
 pub use liar::Liar;
 pub use mem::MemDevice;
+pub use slot::hand_over;

@@ -128,6 +128,8 @@ impl Device for MemDevice {
 
     ghost forgets = { Unit {0} };
 
+    ghost reads_in_place = { Unit {0} };
+
     ghost fails_at_most = { λ _ _. Unit {0} };
 
     ghost wraps = { λ d. wrapped_below d.faults };
@@ -169,16 +171,19 @@ impl Device for MemDevice {
         ensures counted { IfNone (bytes_at self.old id) (faults_of self.new ≡ (faults_of self.old + 1) % 2 ^ 64) }
         ensures uncounted { IfSome (bytes_at self.old id) (λ _. faults_of self.new ≡ faults_of self.old) }
     {
-        self.read_into(id, Vec::new(self.alloc))
+        let mut bytes = Vec::new(self.alloc);
+        self.read_into(id, &mut bytes)?;
+        Ok(bytes)
     }
 
     /// As [`MemDevice::read`]. Takes no memory where the buffer has room for the bytes.
     #[inline(always)]
-    fn read_into(&mut self, id: u32, buffer: Vec<u8>) -> Result<Vec<u8>, DeviceFault>
-        ensures given { IfOk result (λ bytes. bytes_at self.old id ≡ Some bytes.items) }
+    fn read_into(&mut self, id: u32, buffer: &mut Vec<u8>) -> Result<(), DeviceFault>
+        ensures given { OnOk result (bytes_at self.old id ≡ Some buffer.new.items) }
         ensures nothing { IfNone (bytes_at self.old id) (result ≡ Err Failed) }
         ensures refused { IfSome (bytes_at self.old id) (λ _. IfErr result (λ why. why ≡ Memory)) }
-        ensures room { IfSome (bytes_at self.old id) (λ stored. length stored ≤ vec_capacity buffer → IfErr result (λ _. ⊥)) }
+        ensures in_place { IfSome (bytes_at self.old id) (λ stored. length stored ≤ vec_capacity buffer.old → IfErr result (λ _. ⊥)) }
+        ensures room { vec_capacity buffer.old ≤ vec_capacity buffer.new }
         ensures kept { bytes_at self.new ≡ bytes_at self.old }
         ensures counted { IfNone (bytes_at self.old id) (faults_of self.new ≡ (faults_of self.old + 1) % 2 ^ 64) }
         ensures uncounted { IfSome (bytes_at self.old id) (λ _. faults_of self.new ≡ faults_of self.old) }
@@ -187,11 +192,10 @@ impl Device for MemDevice {
             self.faults = self.faults.wrapping_add(1);
             return Err(DeviceFault::Device);
         };
-        let mut bytes = buffer;
-        if !refill(&mut bytes, held) {
+        if !refill(buffer, held) {
             return Err(DeviceFault::Memory);
         }
-        Ok(bytes)
+        Ok(())
     }
 
     #[inline(always)]

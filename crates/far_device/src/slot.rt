@@ -105,7 +105,21 @@ pub(crate) fn replace(held: &mut Vec<u8>, alloc: Global, bytes: &[u8]) -> bool
 pub(crate) fn refill(buffer: &mut Vec<u8>, bytes: &[u8]) -> bool
     ensures filled { IsTrue result → buffer.new.items ≡ bytes.now }
     ensures room { length bytes.now ≤ vec_capacity buffer.old → IsTrue result }
+    ensures kept { vec_capacity buffer.old ≤ vec_capacity buffer.new }
 {
     buffer.clear();
     buffer.extend_from_slice(bytes).is_ok()
+}
+
+/// Puts bytes into a buffer in place of what it has; it never has less room then. Takes no memory.
+pub fn hand_over(bytes: Vec<u8>, buffer: &mut Vec<u8>)
+    ensures filled { buffer.new.items ≡ bytes.items }
+    ensures kept { vec_capacity buffer.old ≤ vec_capacity buffer.new }
+{
+    if bytes.capacity() >= buffer.capacity() {
+        *buffer = bytes;
+        return;
+    }
+    // It has room for what a shorter one has.
+    let _ = refill(buffer, bytes.as_slice());
 }

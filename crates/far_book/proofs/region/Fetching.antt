@@ -1,11 +1,11 @@
 -- What a fetch knows from the word that it found and the place that it got.
-use Rattle.std.proofs.Common.{◌≡◌, ℕ, ◌*◌, ◌/◌, ◌%◌, ◌^◌, ◌<◌, Bool, true, false, sym, refl, ap, subst, ◌∙◌, Option, Some, List, length}
+use Rattle.std.proofs.Common.{◌≡◌, ℕ, ◌*◌, ◌/◌, ◌%◌, ◌^◌, ◌<◌, ◌≤◌, Bool, true, false, arith, sym, refl, ap, subst, ◌∙◌, Option, Some, List, length}
 use Rattle.std.specs.Prelude.{IsSome, IfSome, is_some}
 use Rattle.std.proofs.lemmas.Bool.{false_from_ne_true}
 use Rattle.far_word.specs.declared.mark.Marks.{Marks}
 use Rattle.far_word.specs.declared.pointer.Place.{Place}
 use Rattle.far_word.specs.declared.pointer.PtrWord.TheVariants.{Far}
-use Rattle.far_word.specs.declared.sizes.TheConstants.{CELLS, LOG_WORDS}
+use Rattle.far_word.specs.declared.sizes.TheConstants.{CELLS, LOG_WORDS, LONGEST}
 use Rattle.far_word.specs.Bytes.{bytes_of, packed_word}
 use Rattle.far_word.specs.Pointer.{IsPtr, read_of}
 use Rattle.far_word.specs.Sizes.{size_of, words_for}
@@ -124,6 +124,13 @@ module _ {s0 s : State} {p word len ds : ℕ} {m : Marks} {ledger : Ledger} {con
 
     pub as_stored : (i : ℕ) → i < words_for len → packed_word bytes i ≡ s.stored p i
     as_stored = given_word (s.stored p) len stored (contents p) held bytes given
+
+  -- whoever has room for the longest object has room for what is held
+  pub holds_all : (P : Type 0) (space : ℕ) → LONGEST ≤ space → IfSome (contents p) (λ stored. length stored ≤ space → P) → P
+  holds_all P space most may =
+      let bytes = bytes_of (s.stored p) len in
+      let long : length bytes ≡ len = as_long bytes (subst (λ (o : Option (List ℕ)). IfSome o (λ stored. bytes ≡ stored)) (sym held) refl) in
+      subst (λ (o : Option (List ℕ)). IfSome o (λ stored. length stored ≤ space → P)) held may (omega (arith, long, (layout h.found).1, most))
 
   pub is_held : IsSome (contents p)
   is_held = ap is_some held

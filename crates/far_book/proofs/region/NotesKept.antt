@@ -70,6 +70,10 @@ order_inside s ledger notes i lt =
     let l = slice_index_or ledger.order.items i 0 in
     sealed_inside s ledger notes (s.kind l) l refl (sym (notes.sealed l) ∙ list_any_at (eqb l) ledger.order.items i 0 lt (eq-eqb l l refl))
 
+-- no more logs are sealed than the heap has
+pub few_sealed : (s : State) (ledger : Ledger) → Notes s ledger → length ledger.order.items ≤ s.logs
+few_sealed s ledger notes = length-le_from_distinct_below ledger.order.items s.logs notes.once (λ l among. sealed_inside s ledger notes (s.kind l) l refl (sym (notes.sealed l) ∙ among))
+
 and_false : (b : Bool) → (b && false) ≡ false
 and_false true = refl
 and_false false = refl

@@ -1,6 +1,6 @@
 //! How a far object comes near.
 
-ghost use Rattle.std.specs.Prelude.{◌≡◌, ◌+◌, ◌*◌, ◌^◌, ◌<◌, ◌≤◌, ℕ, true, None, Some, length, Ok, IfOk, IfErr, IfSome, IfNone};
+ghost use Rattle.std.specs.Prelude.{◌≡◌, ◌≢◌, ◌+◌, ◌*◌, ◌^◌, ◌<◌, ◌≤◌, ℕ, true, None, Some, length, Ok, Err, IfOk, IfErr, IfSome, IfNone};
 ghost use Rattle.far_word.specs.declared.pointer.PtrWord.TheVariants.{Near as near_at};
 ghost use Rattle.far_word.specs.declared.refused.Refused.TheVariants as refused;
 ghost use Rattle.far_word.specs.declared.sizes.TheConstants.{CELLS};
@@ -52,6 +52,7 @@ impl<N: Hand + Drop, D: Device + Drop> Book<N, D> {
         ensures forgot { D.forgets → IfOk result (λ _. D.contents self.new.device pointer ≡ None) }
         ensures follows { Follows D.contents D.honest D.faults D.fails_at_most (other_than pointer) (is_failure result) self.old.device self.new.device }
         ensures refused { IfErr result (λ why. RefusesFetch why (room_for (N.view self.old.near) pointer) (D.honest self.old.device)) }
+        ensures in_place { D.reads_in_place → result ≢ Err refused.Memory }
         ensures untouched { IfErr result (λ why. why ≡ refused.NoRoom → self.new.device ≡ self.old.device) }
         ensures held { IfErr result (λ _. D.contents self.new.device ≡ D.contents self.old.device) }
         ensures seen { IfErr result (λ _. IsSeen (N.view self.old.near) (N.view self.new.near) pointer) }
@@ -73,12 +74,18 @@ impl<N: Hand + Drop, D: Device + Drop> Book<N, D> {
         let Some(place) = self.ledger.room(size, true) else {
             return Err(Refused::NoRoom);
         };
-        let buffer = mem::replace(&mut self.buffer, Vec::new(self.alloc));
-        let bytes = match self.device.read_into(pointer as u32, buffer) {
-            Ok(bytes) => bytes,
-            Err(DeviceFault::Memory) => return Err(Refused::Memory),
-            Err(DeviceFault::Device) => return Err(Refused::Device),
-        };
+        let mut bytes = mem::replace(&mut self.buffer, Vec::new(self.alloc));
+        match self.device.read_into(pointer as u32, &mut bytes) {
+            Ok(()) => {}
+            Err(DeviceFault::Memory) => {
+                self.buffer = bytes;
+                return Err(Refused::Memory);
+            }
+            Err(DeviceFault::Device) => {
+                self.buffer = bytes;
+                return Err(Refused::Device);
+            }
+        }
         if bytes.len() != len as usize {
             self.buffer = bytes;
             return Err(Refused::Damaged);

@@ -7,7 +7,7 @@ ghost use Rattle.far_device.specs.Following.{Follows, any_key, other_than};
 ghost use Rattle.far_device.specs.Mem.{bytes_at, faults_of};
 ghost use Rattle.far_device.specs.Wrapping.{wrapped_below};
 
-use far_device::{Device, DeviceFault, MemDevice};
+use far_device::{Device, DeviceFault, MemDevice, hand_over};
 use std::alloc::AllocError;
 use std::cell::Cell;
 use std::rc::Rc;
@@ -42,6 +42,8 @@ impl Device for Picky {
 
     ghost forgets = { Unit {0} };
 
+    ghost reads_in_place = { ⊥ };
+
     ghost fails_at_most = { λ _ _. ⊥ };
 
     ghost wraps = { λ s. wrapped_below (faults_of s.inner + s.faults) };
@@ -70,6 +72,11 @@ impl Device for Picky {
         read_inner(&mut self.inner, id)
     }
 
+    fn read_into(&mut self, id: u32, buffer: &mut Vec<u8>) -> Result<(), DeviceFault> {
+        hand_over(self.read(id)?, buffer);
+        Ok(())
+    }
+
     fn forget(&mut self, id: u32) {
         self.inner.forget(id);
     }
@@ -91,6 +98,8 @@ impl Device for Starved {
     ghost faults = { λ _. 0 };
 
     ghost forgets = { Unit {0} };
+
+    ghost reads_in_place = { ⊥ };
 
     ghost fails_at_most = { λ _ _. Unit {0} };
 
@@ -116,6 +125,11 @@ impl Device for Starved {
         Err(DeviceFault::Memory)
     }
 
+    fn read_into(&mut self, id: u32, buffer: &mut Vec<u8>) -> Result<(), DeviceFault> {
+        hand_over(self.read(id)?, buffer);
+        Ok(())
+    }
+
     fn forget(&mut self, _id: u32) {}
 
     fn faults(&self) -> u64 {
@@ -139,6 +153,8 @@ impl Device for Stumbling {
     ghost faults = { λ s. (faults_of s.inner + s.faults) % 2 ^ 64 };
 
     ghost forgets = { Unit {0} };
+
+    ghost reads_in_place = { ⊥ };
 
     ghost fails_at_most = { λ _ _. ⊥ };
 
@@ -170,6 +186,11 @@ impl Device for Stumbling {
         Err(fault)
     }
 
+    fn read_into(&mut self, id: u32, buffer: &mut Vec<u8>) -> Result<(), DeviceFault> {
+        hand_over(self.read(id)?, buffer);
+        Ok(())
+    }
+
     fn forget(&mut self, id: u32) {
         self.inner.forget(id);
     }
@@ -194,6 +215,8 @@ impl Device for Lying {
     ghost faults = { λ s. faults_of s.inner };
 
     ghost forgets = { Unit {0} };
+
+    ghost reads_in_place = { ⊥ };
 
     ghost fails_at_most = { λ _ _. ⊥ };
 
@@ -225,6 +248,11 @@ impl Device for Lying {
         Ok(bytes)
     }
 
+    fn read_into(&mut self, id: u32, buffer: &mut Vec<u8>) -> Result<(), DeviceFault> {
+        hand_over(self.read(id)?, buffer);
+        Ok(())
+    }
+
     fn forget(&mut self, id: u32) {
         self.inner.forget(id);
     }
@@ -249,6 +277,8 @@ impl<D: Device + Drop> Device for Shown<D> {
     ghost faults = { λ s. D.faults s.inner };
 
     ghost forgets = { D.forgets };
+
+    ghost reads_in_place = { ⊥ };
 
     ghost fails_at_most = { λ s. D.fails_at_most s.inner };
 
@@ -278,6 +308,11 @@ impl<D: Device + Drop> Device for Shown<D> {
         self.inner.read(id)
     }
 
+    fn read_into(&mut self, id: u32, buffer: &mut Vec<u8>) -> Result<(), DeviceFault> {
+        hand_over(self.read(id)?, buffer);
+        Ok(())
+    }
+
     fn forget(&mut self, id: u32) {
         self.inner.forget(id);
         if id == 0 {
@@ -303,4 +338,75 @@ pub(super) fn shown_device<D: Device + Drop>(
         holds: holds.clone()?,
     };
     Ok((device, holds))
+}
+
+/// Notes the least room that it was lent for a read.
+#[derive(Drop)]
+pub(super) struct Lent<D: Device + Drop> {
+    pub(super) inner: D,
+    pub(super) least: Rc<Cell<usize>>,
+}
+
+impl<D: Device + Drop> Device for Lent<D> {
+    ghost contents = { λ s. D.contents s.inner };
+
+    ghost honest = { λ s. D.honest s.inner };
+
+    ghost faults = { λ s. D.faults s.inner };
+
+    ghost forgets = { D.forgets };
+
+    ghost reads_in_place = { D.reads_in_place };
+
+    ghost fails_at_most = { λ s. D.fails_at_most s.inner };
+
+    ghost wraps = { λ s. D.wraps s.inner };
+
+    ghost writes = { λ old id _ answer new. Follows (λ s. D.contents s.inner) (λ s. D.honest s.inner) (λ s. D.faults s.inner) (λ s. D.fails_at_most s.inner) (other_than id) (is_fault answer) old new };
+
+    ghost reads = { λ old id answer new. Follows (λ s. D.contents s.inner) (λ s. D.honest s.inner) (λ s. D.faults s.inner) (λ s n. IsSome (D.contents old.inner id) × D.fails_at_most s.inner n) any_key (is_fault answer) old new };
+
+    ghost lets_go = { λ old id new. Follows (λ s. D.contents s.inner) (λ s. D.honest s.inner) (λ s. D.faults s.inner) (λ s. D.fails_at_most s.inner) (other_than id) false old new };
+
+    ghost write_follows = { λ _ _ _ _ _ h. h };
+
+    ghost read_follows = { λ _ _ _ _ h. h };
+
+    ghost forget_follows = { λ _ _ _ h. h };
+
+    fn write(&mut self, id: u32, bytes: &[u8]) -> Result<(), DeviceFault> {
+        self.inner.write(id, bytes)
+    }
+
+    fn read(&mut self, id: u32) -> Result<Vec<u8>, DeviceFault> {
+        self.inner.read(id)
+    }
+
+    fn read_into(&mut self, id: u32, buffer: &mut Vec<u8>) -> Result<(), DeviceFault> {
+        self.least.set(self.least.get().min(buffer.capacity()));
+        self.inner.read_into(id, buffer)
+    }
+
+    fn forget(&mut self, id: u32) {
+        self.inner.forget(id);
+    }
+
+    fn faults(&self) -> u64 {
+        self.inner.faults()
+    }
+}
+
+// A device, and the least room that it was lent for a read.
+pub(super) fn lent_device<D: Device + Drop>(
+    rt: &HostRuntime,
+    inner: D,
+) -> Result<(Lent<D>, Rc<Cell<usize>>), AllocError>
+    ensures { IfOk result (λ made. made.0.inner ≡ inner) }
+{
+    let least = Rc::new(rt.alloc(), Cell::new(usize::MAX))?;
+    let device = Lent {
+        inner,
+        least: least.clone()?,
+    };
+    Ok((device, least))
 }

@@ -7,7 +7,7 @@ use crate::tests::books::{
     DROP, HOT, MOVE, NO_MARKS, SMALL, ask, beset, events_after, has, home, is_so_of, line,
     mark_sealed, marks_first, opened, opened_over, place_next, places_next, shown,
 };
-use crate::tests::devices::{Lying, Stumbling, shown_device};
+use crate::tests::devices::{Lying, Stumbling, lent_device, shown_device};
 use crate::tests::leaving::{evict_asked, goes, leaves, loads_counted, store_counted};
 use crate::tests::moving::{loaded, moves_to};
 use far_book::{Book, Hand, Home, Plain};
@@ -16,6 +16,9 @@ use far_device::{Device, DeviceFault, MemDevice};
 use far_log::LogRow;
 use far_word::{Mark, Marks, Place, Refused};
 use std::test::Fail;
+
+/// How many bytes the longest object has.
+const LONGEST_OBJECT: usize = 1016;
 
 /// Where an object comes that is fetched while log 1 is open and full.
 const PLACE: Place = Place { log: 2, at: 0 };
@@ -220,6 +223,21 @@ fn a_refused_fetch_may_be_made_again(rt: HostRuntime) {
     assert!(rt; lies_once(&rt, 0));
     assert!(rt; lies_once(&rt, 8));
     assert!(rt; lies_once(&rt, 10));
+}
+
+// Whether the first fetch is refused so over a device that lends on, and each read was lent room for the longest object.
+fn lends_all(rt: &HostRuntime, fault: DeviceFault, why: Refused) -> Result<bool, Fail> {
+    let (device, least) = lent_device(rt, stumbling(rt, fault))?;
+    let refused = is_so_of(opened_over(rt, SMALL, device), |book| is_refused(book, why));
+    Ok(refused && least.get() == LONGEST_OBJECT)
+}
+
+// Alone against a fetch that lets its buffer go where the read is refused: the next one takes memory then.
+#[test]
+fn a_refused_fetch_keeps_its_buffer(rt: HostRuntime) -> Result<(), Fail> {
+    assert!(rt; lends_all(&rt, DeviceFault::Memory, Refused::Memory)?);
+    assert!(rt; lends_all(&rt, DeviceFault::Device, Refused::Device)?);
+    Ok(())
 }
 
 // Whether pointer 0 is far and pointer 1 has EVAC and MOVE; of four logs only the last is free, and the one before it is open and full.

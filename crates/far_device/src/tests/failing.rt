@@ -22,6 +22,8 @@ impl Device for Broken {
 
     ghost forgets = { Unit {0} };
 
+    ghost reads_in_place = { Unit {0} };
+
     ghost fails_at_most = { λ _ _. ⊥ };
 
     ghost wraps = { λ s. wrapped_below s.faults };
@@ -48,6 +50,11 @@ impl Device for Broken {
         Err(DeviceFault::Device)
     }
 
+    fn read_into(&mut self, _id: u32, _buffer: &mut Vec<u8>) -> Result<(), DeviceFault> {
+        self.faults = self.faults.wrapping_add(1);
+        Err(DeviceFault::Device)
+    }
+
     fn forget(&mut self, _id: u32) {}
 
     fn faults(&self) -> u64 {
@@ -67,6 +74,8 @@ impl Device for Starved {
     ghost faults = { λ _. 0 };
 
     ghost forgets = { Unit {0} };
+
+    ghost reads_in_place = { ⊥ };
 
     ghost fails_at_most = { λ _ _. Unit {0} };
 
@@ -89,6 +98,10 @@ impl Device for Starved {
     }
 
     fn read(&mut self, _id: u32) -> Result<Vec<u8>, DeviceFault> {
+        Err(DeviceFault::Memory)
+    }
+
+    fn read_into(&mut self, _id: u32, _buffer: &mut Vec<u8>) -> Result<(), DeviceFault> {
         Err(DeviceFault::Memory)
     }
 

@@ -6,7 +6,7 @@ ghost use Rattle.far_device.specs.Faults.{is_fault};
 ghost use Rattle.far_device.specs.Following.{Follows, any_key};
 ghost use Rattle.far_device.specs.declared.fault.DeviceFault.{DeviceFault};
 
-use crate::{Device, DeviceFault};
+use crate::{Device, DeviceFault, hand_over};
 
 /// Gives one byte less than is held, and forgets nothing.
 #[derive(Drop)]
@@ -22,6 +22,8 @@ impl<D: Device + Drop> Device for Short<D> {
     ghost faults = { λ s. D.faults s.inner };
 
     ghost forgets = { ⊥ };
+
+    ghost reads_in_place = { ⊥ };
 
     ghost fails_at_most = { λ s. D.fails_at_most s.inner };
 
@@ -52,6 +54,11 @@ impl<D: Device + Drop> Device for Short<D> {
         let mut bytes = self.inner.read(id)?;
         bytes.pop();
         Ok(bytes)
+    }
+
+    fn read_into(&mut self, id: u32, buffer: &mut Vec<u8>) -> Result<(), DeviceFault> {
+        hand_over(self.read(id)?, buffer);
+        Ok(())
     }
 
     fn forget(&mut self, _id: u32) {}

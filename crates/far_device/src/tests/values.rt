@@ -3,7 +3,9 @@
 use super::any::{fails_twice, never_fails, there_and_back};
 use super::failing::{Broken, Starved};
 use super::lying::Short;
-use crate::{Device, DeviceFault, FailAt, Liar, MemDevice, the_kth_call_fails, the_kth_read_lies};
+use crate::{
+    Device, DeviceFault, FailAt, Liar, MemDevice, hand_over, the_kth_call_fails, the_kth_read_lies,
+};
 use std::alloc::Global;
 use std::process::Abort;
 use std::test::*;
@@ -152,16 +154,21 @@ fn faults_wrap(rt: HostRuntime) {
     assert_eq!(rt; device.faults(), 0);
 }
 
-// What is read into a buffer under key 1 is this; the buffer comes back.
+// What is read into a buffer under key 1 is this.
 fn reads_into<D: Device + Drop>(
     rt: &impl Abort,
     device: &mut D,
-    buffer: Vec<u8>,
+    buffer: &mut Vec<u8>,
     wanted: &[u8],
-) -> Result<Vec<u8>, Fail> {
-    let bytes = device.read_into(1, buffer)?;
-    assert!(rt; bytes.as_slice() == wanted, "of {} bytes", wanted.len());
-    Ok(bytes)
+) -> Result<(), Fail> {
+    device.read_into(1, buffer)?;
+    assert!(rt; buffer.as_slice() == wanted, "of {} bytes", wanted.len());
+    Ok(())
+}
+
+// Whether a read into a buffer fails.
+fn fails_into<D: Device + Drop>(device: &mut D, id: u32, buffer: &mut Vec<u8>) -> bool {
+    device.read_into(id, buffer) == Err(DeviceFault::Device)
 }
 
 #[test]
@@ -172,14 +179,12 @@ fn a_buffer_is_read_into(rt: HostRuntime) -> Result<(), Fail> {
     for len in 0..1017usize {
         let row = [(len % 256) as u8; 1016];
         device.write(1, &row[..len])?;
-        buffer = reads_into(&rt, &mut device, buffer, &row[..len])?;
+        reads_into(&rt, &mut device, &mut buffer, &row[..len])?;
         assert!(rt; buffer.capacity() == room);
     }
-    buffer = reads_into(&rt, &mut device, Vec::new(rt.alloc()), &[248; 1016])?;
-    assert!(rt;
-        device.read_into(2, buffer).err() == Some(DeviceFault::Device) && device.faults() == 1
-    );
-    Ok(())
+    assert!(rt; fails_into(&mut device, 2, &mut buffer) && device.faults() == 1);
+    assert!(rt; buffer.capacity() == room);
+    reads_into(&rt, &mut device, &mut Vec::new(rt.alloc()), &[248; 1016])
 }
 
 #[test]
@@ -187,10 +192,25 @@ fn a_read_into_a_buffer_is_counted(rt: HostRuntime) -> Result<(), Fail> {
     let alloc = rt.alloc();
     let mut device = Liar::short(FailAt::new(MemDevice::new(alloc), 2), 2);
     device.write(1, &[1, 2])?;
-    let failed = device.read_into(1, Vec::new(alloc)).err();
-    assert!(rt; failed == Some(DeviceFault::Device) && device.faults() == 1);
-    let buffer = reads_into(&rt, &mut device, vec![in alloc; 9, 9, 9]?, &[1])?;
-    reads_into(&rt, &mut device, buffer, &[1, 2])?;
+    let mut buffer = vec![in alloc; 9, 9, 9]?;
+    assert!(rt; fails_into(&mut device, 1, &mut buffer) && device.faults() == 1);
+    reads_into(&rt, &mut device, &mut buffer, &[1])?;
+    reads_into(&rt, &mut device, &mut buffer, &[1, 2])
+}
+
+#[test]
+fn bytes_are_handed_over(rt: HostRuntime) -> Result<(), Fail> {
+    let alloc = rt.alloc();
+    let mut device = Short {
+        inner: MemDevice::new(alloc),
+    };
+    device.write(1, &[1, 2, 3])?;
+    let mut buffer = Vec::with_capacity(alloc, 9)?;
+    reads_into(&rt, &mut device, &mut buffer, &[1, 2])?;
+    assert!(rt; buffer.capacity() == 9);
+    buffer = Vec::new(alloc);
+    hand_over(vec![in alloc; 4, 5]?, &mut buffer);
+    assert!(rt; buffer.as_slice() == [4, 5].as_slice());
     Ok(())
 }
 

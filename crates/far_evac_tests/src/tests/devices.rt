@@ -15,7 +15,7 @@ use crate::tests::steps::{
     comes_to_leaving, counts, deals, deals_until, gives_up, is_in, runs_until,
 };
 use far_book::{Hand, Home, Plain};
-use far_device::{Device, DeviceFault, MemDevice};
+use far_device::{Device, DeviceFault, MemDevice, hand_over};
 use far_evac::{Evac, LogKind, Phase};
 use far_policy::Oldest;
 use far_word::{Marks, Place, Refused};
@@ -51,6 +51,8 @@ impl Device for Stumbling {
 
     ghost forgets = { Unit {0} };
 
+    ghost reads_in_place = { ⊥ };
+
     ghost fails_at_most = { λ _ _. ⊥ };
 
     ghost wraps = { λ s. wrapped_below (faults_of s.inner + s.faults) };
@@ -83,6 +85,11 @@ impl Device for Stumbling {
 
     fn read(&mut self, id: u32) -> Result<Vec<u8>, DeviceFault> {
         read_inner(&mut self.inner, id)
+    }
+
+    fn read_into(&mut self, id: u32, buffer: &mut Vec<u8>) -> Result<(), DeviceFault> {
+        hand_over(self.read(id)?, buffer);
+        Ok(())
     }
 
     fn forget(&mut self, id: u32) {

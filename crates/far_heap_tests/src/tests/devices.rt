@@ -10,7 +10,7 @@ ghost use Rattle.far_device.specs.Wrapping.{wrapped_below};
 use crate::tests::looks::{is_far, is_log, is_near, sized};
 use crate::tests::scopes::{EIGHT, is_slow, makes, reads, reads_slowly, writes};
 use crate::tests::steps::{deals, runs_none, runs_through};
-use far_device::{Device, DeviceFault, MemDevice};
+use far_device::{Device, DeviceFault, MemDevice, hand_over};
 use far_evac::{LogKind, Phase};
 use far_heap::{Blank, Evacuator, Heap, HeapName, Mutator, Scope};
 use far_policy::{Oldest, Scripted};
@@ -89,6 +89,8 @@ impl Device for Faulty {
 
     ghost forgets = { Unit {0} };
 
+    ghost reads_in_place = { ⊥ };
+
     ghost fails_at_most = { λ _ _. ⊥ };
 
     ghost wraps = { λ s. wrapped_below (faults_of s.inner + s.faults) };
@@ -126,6 +128,11 @@ impl Device for Faulty {
             Some(Fault::Fails(DeviceFault::Memory)) => Err(DeviceFault::Memory),
             Some(Fault::Short) => read_short(&mut self.inner, id),
         }
+    }
+
+    fn read_into(&mut self, id: u32, buffer: &mut Vec<u8>) -> Result<(), DeviceFault> {
+        hand_over(self.read(id)?, buffer);
+        Ok(())
     }
 
     fn forget(&mut self, id: u32) {

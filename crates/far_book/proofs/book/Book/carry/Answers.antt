@@ -30,7 +30,7 @@ module _ (g : Over) (c : After-room g) where
   -- the object lies there
   lies : LiesIn (g.N.Hand.view c.self.inside.near) c.self.inside.ledger (g.D.Device.contents c.self.inside.device) (g.D.Device.honest c.self.inside.device) c.args.pointer c.in-Near.len c.in-Near.ds c.in-Near.place c.in-Near.marks
   lies = record {
-    order = c.self.invariant;
+    order = c.self.invariant.0;
     pointer = subst (λ (x : State). c.args.pointer < CELLS * x.mutators) (sym same) c.requires.pointer;
     near = ap read_of (sym (c.requires.found ∙ ap (λ (x : State). x.cell c.args.pointer) (sym same))) ∙ says;
   }
@@ -43,7 +43,7 @@ module _ (g : Over) (c : After-room g) where
 
   -- there is room, or none
   told : room (g.N.Hand.view c.self.inside.near) (size_of c.in-Near.len) false ≡ c.room.result
-  told = ap (λ n. room (g.N.Hand.view c.self.inside.near) n false) (sym c.size_of-size.ensures) ∙ sym (c.room.ensures (own_part (g.N.Hand.view c.self.inside.near)) c.self.invariant.notes)
+  told = ap (λ n. room (g.N.Hand.view c.self.inside.near) n false) (sym c.size_of-size.ensures) ∙ sym (c.room.ensures (own_part (g.N.Hand.view c.self.inside.near)) c.self.invariant.0.notes)
 
   goes : dealing.goal (g.N.Hand.view c.args.self.now.near) c.args.pointer ≡ c.room.result
   goes = ap (λ (x : State). dealing.goal x c.args.pointer) (sym same)
@@ -69,9 +69,11 @@ move_object-requires-clause-may g c =
     may_copy (lies g h) c.in-Some.to (told g h ∙ c.in-Some.is) (quiet_here (g.N.Hand.view c.self.inside.near) c.args.pointer (quiet g h) n.len n.ds n.place n.marks (lies g h).near)
 
 pub invariant_of-self : goal.invariant_of-self
-invariant_of-self g c =
-    drop_keeps (g.N.Hand.view c.self.inside.near) (g.N.Hand.view c.move_object.new.near) c.self.inside.ledger (g.D.Device.contents c.self.inside.device) (g.D.Device.honest c.self.inside.device) c.self.invariant c.args.pointer
-    (c.move_object.ensures.dropped c.if-not-move_object.true)
+invariant_of-self g c = (
+  drop_keeps (g.N.Hand.view c.self.inside.near) (g.N.Hand.view c.move_object.new.near) c.self.inside.ledger (g.D.Device.contents c.self.inside.device) (g.D.Device.honest c.self.inside.device) c.self.invariant.0 c.args.pointer
+      (c.move_object.ensures.dropped c.if-not-move_object.true),
+  c.self.invariant.1,
+)
 
 pub retire-requires : goal.retire-requires
 retire-requires g c = let x = lies g (goal.at.retire-requires g c).After-room in record { known = (own_part (dropped x), notes_dropped x, may_leave x) }
@@ -86,9 +88,11 @@ pub invariant_of-self-2 : goal.invariant_of-self-2
 invariant_of-self-2 g c =
     let h = (goal.at.invariant_of-self-2 g c).After-room in
     let n = c.in-Near in
-    let alive = drop_of (read_of c.args.found) n.len n.ds n.place n.marks (says g h) c.requires.alive in
-    carried (lies g h) c.in-Some.to (told g h ∙ c.in-Some.is) c.retire.new.self (noted g (goal.at.invariant_of-self-2 g c).After-retire) (g.N.Hand.view c.move_object.new.near) alive (wanted g h)
-    (c.move_object.ensures.moved c.if-not-move_object.false) c.take.new.self (subst (λ n. Takes c.retire.new.self c.take.new.self c.args.pointer n c.in-Some.to) c.size_of-size.ensures c.take.ensures)
+    let alive = drop_of (read_of c.args.found) n.len n.ds n.place n.marks (says g h) c.requires.alive in (
+      carried (lies g h) c.in-Some.to (told g h ∙ c.in-Some.is) c.retire.new.self (noted g (goal.at.invariant_of-self-2 g c).After-retire) (g.N.Hand.view c.move_object.new.near) alive (wanted g h)
+          (c.move_object.ensures.moved c.if-not-move_object.false) c.take.new.self (subst (λ n. Takes c.retire.new.self c.take.new.self c.args.pointer n c.in-Some.to) c.size_of-size.ensures c.take.ensures),
+      c.self.invariant.1,
+    )
 
 pub returns-clause-place : goal.returns-clause-place
 returns-clause-place g c = goes g (goal.at.returns-clause-place g c).After-room ∙ c.in-Some.is

@@ -1,7 +1,10 @@
 use Rattle.far_book.proofs.book.Book.fetch.Given.{Over}
 use Rattle.far_book.proofs.book.Book.fetch.Goals.{After-room, In-Far, In-Ok-come_near}
 use Rattle.far_book.proofs.book.Book.fetch.Goals as goal
-use Rattle.std.proofs.Common.{◌≡◌, ◌∙◌, ◌^◌, ◌<◌, ℕ, true, false, ap, arith, sym, subst, inl, inr, length, Some}
+use Rattle.std.proofs.Common.{◌≡◌, ◌∙◌, ◌^◌, ◌<◌, ◌≤◌, ℕ, true, false, ap, arith, sym, subst, inl, inr, length, Some}
+use Rattle.std.specs.Global.{Vec}
+use Rattle.std.specs.Vec.{vec_capacity}
+use Rattle.far_word.specs.declared.sizes.TheConstants.{LONGEST}
 use Rattle.std.specs.Prelude.{Option, IsSome, List, Result, Ok, Err}
 use Rattle.std.proofs.lemmas.Bool.{false_from_ne_true}
 use Rattle.far_word.specs.Bytes.{packed_word}
@@ -26,8 +29,12 @@ use Rattle.far_hand.proofs.Closure.{then_came}
 use Rattle.far_book.proofs.region.Calls.{ends, may_take, placeable}
 use Rattle.far_book.proofs.region.Dropping.{retired_by}
 use Rattle.far_book.proofs.region.Fetched.{come_in_order}
-use Rattle.far_book.proofs.region.Fetching.{FarFound, RoomTold, as_long, as_stored, has_given, has_room, is_fetched, is_held, is_seen, layout, left_here, left_written, now, order_written, pointer, room_was, some_room, unasked, unread_written, was_alive, was_long, words_same}
+use Rattle.far_book.proofs.region.Fetching.{FarFound, RoomTold, as_long, as_stored, has_given, has_room, holds_all, is_fetched, is_held, is_seen, layout, left_here, left_written, now, order_written, pointer, room_was, some_room, unasked, unread_written, was_alive, was_long, words_same}
 use Rattle.far_book.proofs.region.Handed.{since_book}
+
+-- the buffer that was lent comes back with no less room
+enough : (held lent back : Vec ℕ) → lent ≡ held → LONGEST ≤ vec_capacity held → vec_capacity lent ≤ vec_capacity back → LONGEST ≤ vec_capacity back
+enough held lent back same most kept = omega (arith, most, kept, ap (λ (b : Vec ℕ). vec_capacity b) same)
 
 -- the word that was found
 found : (g : Over) (c : In-Far g) → FarFound (g.N.Hand.view c.args.self.now.near) (g.N.Hand.view c.see-word.new.self.near) c.args.pointer c.see-word.result c.in-Far.len c.in-Far.ds c.in-Far.marks
@@ -46,9 +53,9 @@ told : (g : Over) (c : After-room g) →
 told g c = record {
   found = subst (λ (b : BookOf g.row.N.Denot g.row.D.Denot). FarFound (g.N.Hand.view c.args.self.now.near) (g.N.Hand.view b.near) c.args.pointer c.see-word.result c.in-Far.len c.in-Far.ds c.in-Far.marks)
       (sym c.self.view_is) (found g (goal.at.After-room g c).In-Far);
-  order = c.self.invariant;
+  order = c.self.invariant.0;
   size_is = c.size_of-size.ensures;
-  told = c.room.ensures (own_part (g.N.Hand.view c.self.inside.near)) c.self.invariant.notes;
+  told = c.room.ensures (own_part (g.N.Hand.view c.self.inside.near)) c.self.invariant.0.notes;
 }
 
 -- ---- the device, of which only that one read was asked
@@ -73,7 +80,7 @@ pub come_near-requires-clause-head : goal.come_near-requires-clause-head
 come_near-requires-clause-head g c =
     let x = told g (goal.at.come_near-requires-clause-head g c).After-room in
     let fits = layout x.found in
-    record { some = fits.0; most = fits.1; structure = fits.2; cell = omega (arith, pointer x.found, c.self.invariant.notes.law.shape.few_mutators) }
+    record { some = fits.0; most = fits.1; structure = fits.2; cell = omega (arith, pointer x.found, c.self.invariant.0.notes.law.shape.few_mutators) }
 
 pub returns-in_default-room-clause-refused : goal.returns-in_default-room-clause-refused
 returns-in_default-room-clause-refused g c = room_was (told g (goal.at.returns-in_default-room-clause-refused g c).After-room) ∙ c.in_default-room.is
@@ -92,7 +99,7 @@ returns-then-len-clause-refused g c =
     let h = told g (goal.at.returns-then-len-clause-refused g c).After-room in
     let honest = ap g.D.Device.honest (device g (goal.at.returns-then-len-clause-refused g c).After-room) in
     let short = false_from_ne_true (g.D.Device.honest c.args.self.now.device) (λ e.
-    let long : length c.in-Ok.bytes.items ≡ c.in-Far.len = as_long h c.in-Ok.bytes.items (c.in-Ok.ensures.given (honest ∙ e)) in absurd (omega arith)) in
+    let long : length c.read_into.new.buffer.items ≡ c.in-Far.len = as_long h c.read_into.new.buffer.items (c.in-Ok.ensures.given (honest ∙ e)) in absurd (omega arith)) in
     (some_room h c.in-Some.place c.in-Some.is, short)
 
 pub come_near-requires-clause-layout : goal.come_near-requires-clause-layout
@@ -106,7 +113,7 @@ come_near-requires-clause-tail g c = ends (has_room (told g (goal.at.come_near-r
 
 pub come_near-requires-clause-stored : goal.come_near-requires-clause-stored
 come_near-requires-clause-stored g c promised i lt =
-    ap (λ b. packed_word b i) c.as_slice.ensures.value ∙ as_stored (told g (goal.at.come_near-requires-clause-stored g c).After-room) c.in-Ok.bytes.items (c.in-Ok.ensures.given (c.self.invariant.honest promised)) i lt
+    ap (λ b. packed_word b i) c.as_slice.ensures.value ∙ as_stored (told g (goal.at.come_near-requires-clause-stored g c).After-room) c.read_into.new.buffer.items (c.in-Ok.ensures.given (c.self.invariant.0.honest promised)) i lt
 
 pub take-requires : goal.take-requires
 take-requires g c =
@@ -116,10 +123,12 @@ pub invariant_of-self-in_default-come_near : goal.invariant_of-self-in_default-c
 invariant_of-self-in_default-come_near g c =
     let u = g.N.Hand.view c.come_near.new.near in
     let y = c.in_default-come_near in
-    let law = g.met.D.Device.read_follows _ _ _ _ c.read_into.ensures.called in
-    subst (λ e. InOrder u c.self.inside.ledger (g.D.Device.contents c.read_into.new.self) e) (sym law.honest)
-    (subst (λ e. InOrder u c.self.inside.ledger e (g.D.Device.honest c.self.inside.device)) (sym c.read_into.ensures.kept)
-    (order_written (told g (goal.at.invariant_of-self-in_default-come_near g c).After-room) c.in-Some.place c.in-Some.is (packed_word c.as_slice.result.now) u y.field-0 y.ensures.kept y.ensures.fits y.ensures.found))
+    let law = g.met.D.Device.read_follows _ _ _ _ c.read_into.ensures.called in (
+      subst (λ e. InOrder u c.self.inside.ledger (g.D.Device.contents c.read_into.new.self) e) (sym law.honest)
+          (subst (λ e. InOrder u c.self.inside.ledger e (g.D.Device.honest c.self.inside.device)) (sym c.read_into.ensures.kept)
+          (order_written (told g (goal.at.invariant_of-self-in_default-come_near g c).After-room) c.in-Some.place c.in-Some.is (packed_word c.as_slice.result.now) u y.field-0 y.ensures.kept y.ensures.fits y.ensures.found)),
+      enough c.self.inside.buffer c.replace-bytes.result c.read_into.new.buffer c.replace-bytes.ensures.value c.self.invariant.1 c.read_into.ensures.room,
+    )
 
 pub returns-then-marks-clause-gone : goal.returns-then-marks-clause-gone
 returns-then-marks-clause-gone g c =
@@ -155,23 +164,25 @@ invariant_of-self-2 g c =
     let h = told g (goal.at.invariant_of-self-2 g c).After-room in
     let able = placeable (has_room h c.in-Some.place c.in-Some.is) in
     let law = g.met.D.Device.forget_follows _ _ _ c.forget.ensures.called in
-    let others : KeepsOthers (g.D.Device.contents c.self.inside.device) (g.D.Device.contents c.forget.new.self) c.args.pointer = (λ q ne. law.others q ne ∙ ap (λ (h : ℕ → Option (List ℕ)). h q) c.read_into.ensures.kept) in
-    subst (λ e. InOrder (g.N.Hand.view c.come_near.new.near) c.take.new.self (g.D.Device.contents c.forget.new.self) e) (sym (law.honest ∙ (g.met.D.Device.read_follows _ _ _ _ c.read_into.ensures.called).honest))
-    (come_in_order (g.N.Hand.view c.self.inside.near) (g.N.Hand.view c.come_near.new.near) c.args.pointer c.in-Far.len c.in-Far.ds c.in-Some.place (packed_word c.as_slice.result.now) c.in-Far.marks (now h.found) c.if-marks.false able.layout c.in-Ok-come_near.ensures.done
-    c.self.inside.ledger c.take.new.self _ _ _ c.self.invariant able (subst (λ n. Takes c.self.inside.ledger c.take.new.self c.args.pointer n c.in-Some.place) c.size_of-size.ensures c.take.ensures) others)
+    let others : KeepsOthers (g.D.Device.contents c.self.inside.device) (g.D.Device.contents c.forget.new.self) c.args.pointer = (λ q ne. law.others q ne ∙ ap (λ (h : ℕ → Option (List ℕ)). h q) c.read_into.ensures.kept) in (
+      subst (λ e. InOrder (g.N.Hand.view c.come_near.new.near) c.take.new.self (g.D.Device.contents c.forget.new.self) e) (sym (law.honest ∙ (g.met.D.Device.read_follows _ _ _ _ c.read_into.ensures.called).honest))
+          (come_in_order (g.N.Hand.view c.self.inside.near) (g.N.Hand.view c.come_near.new.near) c.args.pointer c.in-Far.len c.in-Far.ds c.in-Some.place (packed_word c.as_slice.result.now) c.in-Far.marks (now h.found) c.if-marks.false able.layout c.in-Ok-come_near.ensures.done
+          c.self.inside.ledger c.take.new.self _ _ _ c.self.invariant.0 able (subst (λ n. Takes c.self.inside.ledger c.take.new.self c.args.pointer n c.in-Some.place) c.size_of-size.ensures c.take.ensures) others),
+      enough c.self.inside.buffer c.replace-bytes.result c.read_into.new.buffer c.replace-bytes.ensures.value c.self.invariant.1 c.read_into.ensures.room,
+    )
 
 -- what the book was given has come near
 given : (g : Over) (c : In-Ok-come_near g) → HasGiven g.N.Hand.still (g.N.Hand.view c.args.self.now.near) (g.N.Hand.view c.come_near.new.near) c.args.pointer c.in-Some.place c.as_slice.result.now
 given g c =
     let y = c.in-Ok-come_near.ensures in
-    let long : length c.in-Ok.bytes.items ≡ c.in-Far.len = omega arith in
+    let long : length c.read_into.new.buffer.items ≡ c.in-Far.len = omega arith in
     has_given (told g (goal.at.In-Ok-come_near g c).After-room) c.in-Some.place c.in-Some.is c.as_slice.result.now c.if-marks.false (g.N.Hand.view c.come_near.new.near) y.done g.N.Hand.still y.set (ap length c.as_slice.ensures.value ∙ long)
 
 pub returns-clause-near : goal.returns-clause-near
 returns-clause-near g c =
     let k = (goal.at.returns-clause-near g c).After-room in
     is_fetched (told g k).found (g.D.Device.honest c.args.self.now.device) (given g (goal.at.returns-clause-near g c).In-Ok-come_near) c.come_near.ensures.padded
-    (λ e i lt. ap (λ b. packed_word b i) c.as_slice.ensures.value ∙ as_stored (told g k) c.in-Ok.bytes.items (c.in-Ok.ensures.given (ap g.D.Device.honest (device g k) ∙ e)) i lt)
+    (λ e i lt. ap (λ b. packed_word b i) c.as_slice.ensures.value ∙ as_stored (told g k) c.read_into.new.buffer.items (c.in-Ok.ensures.given (ap g.D.Device.honest (device g k) ∙ e)) i lt)
 
 pub returns-in_default-room-clause-asked : goal.returns-in_default-room-clause-asked
 returns-in_default-room-clause-asked g c h = absurd (unasked (found g (goal.at.returns-in_default-room-clause-asked g c).In-Far) c.if-marks.false h)
@@ -205,23 +216,28 @@ returns-in-Err-Memory-clause-follows g c =
     follows g (goal.at.returns-in-Err-Memory-clause-follows g c).After-room (Err Memory) c.read_into.new.self
     (subst (λ (w : DeviceFault). g.D.Device.reads c.self.inside.device c.args.pointer (Err w) c.read_into.new.self) c.in-Err-Memory.field-0-is c.in-Err-Memory.ensures.called)
 
+pub returns-in-Err-Memory-clause-in_place : goal.returns-in-Err-Memory-clause-in_place
+returns-in-Err-Memory-clause-in_place g c kind same =
+    holds_all (told g (goal.at.returns-in-Err-Memory-clause-in_place g c).After-room) _ _
+    (subst (λ (b : Vec ℕ). LONGEST ≤ vec_capacity b) (sym c.replace-bytes.ensures.value) c.self.invariant.1) (c.in-Err-Memory.ensures.in_place kind) (ap (λ (w : DeviceFault). Err w) c.in-Err-Memory.field-0-is)
+
 pub returns-in-Err-Device-clause-follows : goal.returns-in-Err-Device-clause-follows
 returns-in-Err-Device-clause-follows g c =
     follows g (goal.at.returns-in-Err-Device-clause-follows g c).After-room (Err Device) c.read_into.new.self
     (subst (λ (w : DeviceFault). g.D.Device.reads c.self.inside.device c.args.pointer (Err w) c.read_into.new.self) c.in-Err-Device.field-0-is c.in-Err-Device.ensures.called)
 
 pub returns-then-len-clause-follows : goal.returns-then-len-clause-follows
-returns-then-len-clause-follows g c = follows g (goal.at.returns-then-len-clause-follows g c).After-room (Ok c.in-Ok.bytes.items) c.read_into.new.self c.in-Ok.ensures.called
+returns-then-len-clause-follows g c = follows g (goal.at.returns-then-len-clause-follows g c).After-room (Ok c.read_into.new.buffer.items) c.read_into.new.self c.in-Ok.ensures.called
 
 pub returns-in_default-come_near-clause-follows : goal.returns-in_default-come_near-clause-follows
 returns-in_default-come_near-clause-follows g c =
     follows_on g.D.Device.contents g.D.Device.honest g.D.Device.faults g.D.Device.fails_at_most (other_than c.args.pointer) false _ _ _
-    (follows g (goal.at.returns-in_default-come_near-clause-follows g c).After-room (Ok c.in-Ok.bytes.items) c.read_into.new.self c.in-Ok.ensures.called) c.retire-in_default-come_near.ensures.follows
+    (follows g (goal.at.returns-in_default-come_near-clause-follows g c).After-room (Ok c.read_into.new.buffer.items) c.read_into.new.self c.in-Ok.ensures.called) c.retire-in_default-come_near.ensures.follows
 
 pub returns-clause-follows : goal.returns-clause-follows
 returns-clause-follows g c =
     follows_on g.D.Device.contents g.D.Device.honest g.D.Device.faults g.D.Device.fails_at_most (other_than c.args.pointer) false _ _ _
-    (follows g (goal.at.returns-clause-follows g c).After-room (Ok c.in-Ok.bytes.items) c.read_into.new.self c.in-Ok.ensures.called) (g.met.D.Device.forget_follows _ _ _ c.forget.ensures.called)
+    (follows g (goal.at.returns-clause-follows g c).After-room (Ok c.read_into.new.buffer.items) c.read_into.new.self c.in-Ok.ensures.called) (g.met.D.Device.forget_follows _ _ _ c.forget.ensures.called)
 
 pub returns-then-marks-clause-ran : goal.returns-then-marks-clause-ran
 returns-then-marks-clause-ran g c still =
@@ -245,7 +261,7 @@ returns-clause-ran g c still =
       found = returns-clause-place g c;
       row = near.row;
       padded = near.padded;
-      stored = λ e. near.stored (sym (ap g.D.Device.honest (device g (goal.at.returns-clause-ran g c).After-room)) ∙ c.self.invariant.honest (ap (λ (u : State). u.honest) h.found.same ∙ e));
+      stored = λ e. near.stored (sym (ap g.D.Device.honest (device g (goal.at.returns-clause-ran g c).After-room)) ∙ c.self.invariant.0.honest (ap (λ (u : State). u.honest) h.found.same ∙ e));
       after = near.exact still;
     }
 
@@ -265,21 +281,21 @@ returns-in-Err-Device-clause-called g c =
 pub returns-then-len-clause-called : goal.returns-then-len-clause-called
 returns-then-len-clause-called g c =
     let old = was_long (told g (goal.at.returns-then-len-clause-called g c).After-room).found in
-    let short = λ (e : length c.in-Ok.bytes.items ≡ far_len (read_of ((g.N.Hand.view c.args.self.now.near).cell c.args.pointer))).
-    let long : length c.in-Ok.bytes.items ≡ c.in-Far.len = e ∙ old in absurd (omega arith) in
-    (c.in-Ok.bytes.items, read g (goal.at.returns-then-len-clause-called g c).After-room (Ok c.in-Ok.bytes.items) c.read_into.new.self c.in-Ok.ensures.called, short)
+    let short = λ (e : length c.read_into.new.buffer.items ≡ far_len (read_of ((g.N.Hand.view c.args.self.now.near).cell c.args.pointer))).
+    let long : length c.read_into.new.buffer.items ≡ c.in-Far.len = e ∙ old in absurd (omega arith) in
+    (c.read_into.new.buffer.items, read g (goal.at.returns-then-len-clause-called g c).After-room (Ok c.read_into.new.buffer.items) c.read_into.new.self c.in-Ok.ensures.called, short)
 
 pub returns-in_default-come_near-clause-called : goal.returns-in_default-come_near-clause-called
 returns-in_default-come_near-clause-called g c =
     let k = (goal.at.returns-in_default-come_near-clause-called g c).After-room in
-    let asked = read g k (Ok c.in-Ok.bytes.items) c.read_into.new.self c.in-Ok.ensures.called in
-    inr (c.in-Ok.bytes.items, c.read_into.new.self, asked, c.retire-in_default-come_near.ensures.called, was_alive (told g k).found c.if-marks.false)
+    let asked = read g k (Ok c.read_into.new.buffer.items) c.read_into.new.self c.in-Ok.ensures.called in
+    inr (c.read_into.new.buffer.items, c.read_into.new.self, asked, c.retire-in_default-come_near.ensures.called, was_alive (told g k).found c.if-marks.false)
 
 pub returns-clause-called : goal.returns-clause-called
 returns-clause-called g c =
-    let read = read g (goal.at.returns-clause-called g c).After-room (Ok c.in-Ok.bytes.items) c.read_into.new.self c.in-Ok.ensures.called in
+    let read = read g (goal.at.returns-clause-called g c).After-room (Ok c.read_into.new.buffer.items) c.read_into.new.self c.in-Ok.ensures.called in
     let given = subst (HasGiven g.N.Hand.still _ _ c.args.pointer c.in-Some.place) c.as_slice.ensures.value (given g (goal.at.returns-clause-called g c).In-Ok-come_near) in
-    (c.in-Ok.bytes.items, c.read_into.new.self, read, c.forget.ensures.called, given)
+    (c.read_into.new.buffer.items, c.read_into.new.self, read, c.forget.ensures.called, given)
 
 pub returns-then-marks-clause-came : goal.returns-then-marks-clause-came
 returns-then-marks-clause-came g c = then_came c.see-word.ensures.came c.retire.ensures.came

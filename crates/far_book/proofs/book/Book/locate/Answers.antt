@@ -12,22 +12,24 @@ use Rattle.far_hand.proofs.Sight.{told_cell}
 use Rattle.far_book.proofs.region.Handed.{since_book}
 
 pub invariant_of-self : goal.invariant_of-self
-invariant_of-self g c =
-    subst (λ (s : State). InOrder s c.self.inside.ledger (g.D.Device.contents c.self.inside.device) (g.D.Device.honest c.self.inside.device)) (sym c.see.ensures.kept)
-    (found_keeps (g.N.Hand.view c.self.inside.near) c.self.inside.ledger (g.D.Device.contents c.self.inside.device) (g.D.Device.honest c.self.inside.device) c.self.invariant
-    c.args.pointer c.see.result (omega arith) c.see.ensures.found)
+invariant_of-self g c = (
+  subst (λ (s : State). InOrder s c.self.inside.ledger (g.D.Device.contents c.self.inside.device) (g.D.Device.honest c.self.inside.device)) (sym c.see.ensures.kept)
+      (found_keeps (g.N.Hand.view c.self.inside.near) c.self.inside.ledger (g.D.Device.contents c.self.inside.device) (g.D.Device.honest c.self.inside.device) c.self.invariant.0
+      c.args.pointer c.see.result (omega arith) c.see.ensures.found),
+  c.self.invariant.1,
+)
 
 pub returns-clause-free : goal.returns-clause-free
 returns-clause-free g c =
     let same = ap (λ (b : BookOf g.row.N.Denot g.row.D.Denot). (g.N.Hand.view b.near).cell c.args.pointer) c.self.view_is in (
-      λ none. sym same ∙ no_home ((g.N.Hand.view c.self.inside.near).cell c.args.pointer) c.see.result c.see.ensures.found (c.self.invariant.notes.law.cells.cell_read c.args.pointer).1 (sym c.home_in.ensures ∙ none),
+      λ none. sym same ∙ no_home ((g.N.Hand.view c.self.inside.near).cell c.args.pointer) c.see.result c.see.ensures.found (c.self.invariant.0.notes.law.cells.cell_read c.args.pointer).1 (sym c.home_in.ensures ∙ none),
       λ free. c.home_in.ensures ∙ free_home ((g.N.Hand.view c.self.inside.near).cell c.args.pointer) c.see.result c.see.ensures.found (same ∙ free),
     )
 
 pub returns-clause-gone : goal.returns-clause-gone
 returns-clause-gone g c =
     let now : (g.N.Hand.view c.see.new.self).cell c.args.pointer ≡ c.see.result = ap (λ (s : State). s.cell c.args.pointer) c.see.ensures.kept ∙ put_same (g.N.Hand.view c.self.inside.near).cell c.args.pointer c.see.result c.args.pointer refl in
-    let some = some_found ((g.N.Hand.view c.self.inside.near).cell c.args.pointer) c.see.result c.see.ensures.found (c.self.invariant.notes.law.cells.cell_read c.args.pointer).1 in
+    let some = some_found ((g.N.Hand.view c.self.inside.near).cell c.args.pointer) c.see.result c.see.ensures.found (c.self.invariant.0.notes.law.cells.cell_read c.args.pointer).1 in
     (λ none. now ∙ home_none c.see.result some (sym c.home_in.ensures ∙ none), λ free. c.home_in.ensures ∙ none_home c.see.result (sym now ∙ free))
 
 pub returns-clause-saw : goal.returns-clause-saw

@@ -7,9 +7,11 @@ use Rattle.far_hand.proofs.Closure.{first_call}
 use Rattle.far_book.proofs.region.Handed.{since_book}
 
 pub invariant_of-self : goal.invariant_of-self
-invariant_of-self g c =
-    subst (λ (s : State). InOrder s c.self.inside.ledger (g.D.Device.contents c.self.inside.device) (g.D.Device.honest c.self.inside.device)) (sym c.look.ensures.kept)
-    (looked_keeps (g.N.Hand.view c.self.inside.near) c.self.inside.ledger (g.D.Device.contents c.self.inside.device) (g.D.Device.honest c.self.inside.device) c.self.invariant c.args.owner c.look.result)
+invariant_of-self g c = (
+  subst (λ (s : State). InOrder s c.self.inside.ledger (g.D.Device.contents c.self.inside.device) (g.D.Device.honest c.self.inside.device)) (sym c.look.ensures.kept)
+      (looked_keeps (g.N.Hand.view c.self.inside.near) c.self.inside.ledger (g.D.Device.contents c.self.inside.device) (g.D.Device.honest c.self.inside.device) c.self.invariant.0 c.args.owner c.look.result),
+  c.self.invariant.1,
+)
 
 pub returns-clause-came : goal.returns-clause-came
 returns-clause-came g c = since_book c.self.view_is (first_call _ _ c.look.ensures.made)

@@ -14,9 +14,11 @@ invariant_of-self g c =
     let s = g.N.Hand.view c.self.inside.near in
     let held = g.D.Device.contents c.self.inside.device in
     let is_honest = g.D.Device.honest c.self.inside.device in
-    let legal = subst (λ (b : BookOf g.row.N.Denot g.row.D.Denot). Legal (g.N.Hand.view b.near) (Mark c.args.pointer)) (sym c.self.view_is) c.requires.legal in
-    subst (λ (u : State). InOrder u c.self.inside.ledger held is_honest) (sym c.mark.ensures.kept)
-    (found_marked s c.self.inside.ledger held is_honest c.self.invariant c.args.pointer legal c.mark.result (omega arith) c.mark.ensures.found)
+    let legal = subst (λ (b : BookOf g.row.N.Denot g.row.D.Denot). Legal (g.N.Hand.view b.near) (Mark c.args.pointer)) (sym c.self.view_is) c.requires.legal in (
+      subst (λ (u : State). InOrder u c.self.inside.ledger held is_honest) (sym c.mark.ensures.kept)
+          (found_marked s c.self.inside.ledger held is_honest c.self.invariant.0 c.args.pointer legal c.mark.result (omega arith) c.mark.ensures.found),
+      c.self.invariant.1,
+    )
 
 pub returns-clause-came : goal.returns-clause-came
 returns-clause-came g c = since_book c.self.view_is (first_call _ _ c.mark.ensures.made)

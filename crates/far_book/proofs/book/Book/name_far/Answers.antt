@@ -29,7 +29,7 @@ module _ (g : Over) (c : After-self g) where
   leaves =
       let near = subst (λ (t : State). IsQuietIn t c.args.pointer c.args.len c.args.ds c.args.place) (sym same) c.requires.near in
       record {
-        law = c.self.invariant.notes.law;
+        law = c.self.invariant.0.notes.law;
         quiet = near;
         evac = evac_here _ c.args.pointer c.args.len c.args.ds c.args.place near c.args.found found c.requires.evac;
         alive = alive_here _ c.args.pointer c.args.len c.args.ds c.args.place near c.args.found found c.requires.alive;
@@ -52,26 +52,30 @@ invariant_of-self g c =
     let s = g.N.Hand.view c.self.inside.near in
     let held = g.D.Device.contents c.self.inside.device in
     let is_honest = g.D.Device.honest c.self.inside.device in
-    let finds = subst (λ w. Finds w c.in-Err.word) (found g (goal.at.invariant_of-self g c).After-self) c.in-Err.ensures.found in
-    subst (λ (u : State). InOrder u c.self.inside.ledger held is_honest) (sym c.in-Err.ensures.kept)
-    (found_keeps s c.self.inside.ledger held is_honest c.self.invariant c.args.pointer c.in-Err.word c.in-Err.ensures.fits finds)
+    let finds = subst (λ w. Finds w c.in-Err.word) (found g (goal.at.invariant_of-self g c).After-self) c.in-Err.ensures.found in (
+      subst (λ (u : State). InOrder u c.self.inside.ledger held is_honest) (sym c.in-Err.ensures.kept)
+          (found_keeps s c.self.inside.ledger held is_honest c.self.invariant.0 c.args.pointer c.in-Err.word c.in-Err.ensures.fits finds),
+      c.self.invariant.1,
+    )
 
 pub lose-requires-clause-log : goal.lose-requires-clause-log
-lose-requires-clause-log g c = loses_log (leaves g (goal.at.lose-requires-clause-log g c).After-self) c.self.inside.ledger c.self.invariant.notes
+lose-requires-clause-log g c = loses_log (leaves g (goal.at.lose-requires-clause-log g c).After-self) c.self.inside.ledger c.self.invariant.0.notes
 
 pub lose-requires-clause-live : goal.lose-requires-clause-live
 lose-requires-clause-live g c =
     subst (λ n. 8 * n ≤ (filled_of c.self.inside.ledger c.args.place.log).live) (sym c.size_of.ensures)
-    (loses_live (leaves g (goal.at.lose-requires-clause-live g c).After-self) c.self.inside.ledger c.self.invariant.notes)
+    (loses_live (leaves g (goal.at.lose-requires-clause-live g c).After-self) c.self.inside.ledger c.self.invariant.0.notes)
 
 pub lose-requires-clause-size : goal.lose-requires-clause-size
-lose-requires-clause-size g c = subst (λ n. n ≤ LOG_WORDS) (sym c.size_of.ensures) (loses_size (leaves g (goal.at.lose-requires-clause-size g c).After-self) c.self.inside.ledger c.self.invariant.notes)
+lose-requires-clause-size g c = subst (λ n. n ≤ LOG_WORDS) (sym c.size_of.ensures) (loses_size (leaves g (goal.at.lose-requires-clause-size g c).After-self) c.self.inside.ledger c.self.invariant.0.notes)
 
 pub invariant_of-self-2 : goal.invariant_of-self-2
 invariant_of-self-2 g c =
-    let here = subst (λ (b : BookOf g.row.N.Denot g.row.D.Denot). g.D.Device.contents b.device c.args.pointer ≡ Some (bytes_of (data_at (g.N.Hand.view b.near).word c.args.place) c.args.len)) (sym c.self.view_is) c.requires.held in
-    far_order (leaves g (goal.at.invariant_of-self-2 g c).After-self) (g.N.Hand.view c.rename.new.near) c.self.inside.ledger c.lose.new.self (g.D.Device.contents c.self.inside.device) (g.D.Device.honest c.self.inside.device)
-    c.self.invariant here (renamed g (goal.at.invariant_of-self-2 g c).In_default) (subst (Loses c.self.inside.ledger c.lose.new.self c.args.place.log) c.size_of.ensures c.lose.ensures)
+    let here = subst (λ (b : BookOf g.row.N.Denot g.row.D.Denot). g.D.Device.contents b.device c.args.pointer ≡ Some (bytes_of (data_at (g.N.Hand.view b.near).word c.args.place) c.args.len)) (sym c.self.view_is) c.requires.held in (
+      far_order (leaves g (goal.at.invariant_of-self-2 g c).After-self) (g.N.Hand.view c.rename.new.near) c.self.inside.ledger c.lose.new.self (g.D.Device.contents c.self.inside.device) (g.D.Device.honest c.self.inside.device)
+          c.self.invariant.0 here (renamed g (goal.at.invariant_of-self-2 g c).In_default) (subst (Loses c.self.inside.ledger c.lose.new.self c.args.place.log) c.size_of.ensures c.lose.ensures),
+      c.self.invariant.1,
+    )
 
 pub returns-clause-far : goal.returns-clause-far
 returns-clause-far g c =

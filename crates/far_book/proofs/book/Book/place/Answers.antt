@@ -23,14 +23,14 @@ module _ (g : Over) (c : After-room g) where
   same = ap (λ (b : BookOf g.row.N.Denot g.row.D.Denot). g.N.Hand.view b.near) c.self.view_is
 
   told : room (g.N.Hand.view c.self.inside.near) (size_of c.args.len) true ≡ c.room.result
-  told = ap (λ n. room (g.N.Hand.view c.self.inside.near) n true) (sym c.size_of-size.ensures) ∙ sym (c.room.ensures (own_part (g.N.Hand.view c.self.inside.near)) c.self.invariant.notes)
+  told = ap (λ n. room (g.N.Hand.view c.self.inside.near) n true) (sym c.size_of-size.ensures) ∙ sym (c.room.ensures (own_part (g.N.Hand.view c.self.inside.near)) c.self.invariant.0.notes)
 
   free : (g.N.Hand.view c.self.inside.near).cell c.args.pointer ≡ 0
   free = ap (λ (t : State). t.cell c.args.pointer) same ∙ c.requires.free
 
 there : (g : Over) (c : In-Some g) → HasRoom (g.N.Hand.view c.self.inside.near) c.self.inside.ledger c.args.pointer c.args.len c.args.ds c.in-Some.place
 there g c = let h = (goal.at.In-Some g c).After-room in record {
-  notes = c.self.invariant.notes;
+  notes = c.self.invariant.0.notes;
   pointer = subst (λ (t : State). c.args.pointer < CELLS * t.mutators) (sym (same g h)) c.requires.pointer;
   unplaced = free_unplaced (g.N.Hand.view c.self.inside.near) c.args.pointer (free g h);
   some = c.requires.some;
@@ -66,13 +66,15 @@ invariant_of-self g c =
     let free = free g (goal.at.invariant_of-self g c).After-room in
     let able = placeable (there g (goal.at.invariant_of-self g c).In-Some) in
     let takes : Takes c.self.inside.ledger c.take.new.self c.args.pointer (size_of c.args.len) c.in-Some.place = subst (λ n. Takes c.self.inside.ledger c.take.new.self c.args.pointer n c.in-Some.place) c.size_of-size.ensures c.take.ensures in
-    let own = own_named s t c.self.invariant.notes.law c.args.pointer c.args.len c.args.ds c.in-Some.place able free c.name_blank.ensures.kept c.name_blank.ensures.forgot in
-    record {
-      notes = subst (λ (u : State). Notes u c.take.new.self) (sym own) (notes_placed (own_part s) c.self.inside.ledger c.take.new.self c.self.invariant.notes c.args.pointer c.args.len c.args.ds c.in-Some.place able
-          (law_then (own_part s) c.self.invariant.notes.law c.args.pointer c.args.len c.args.ds c.in-Some.place able free) takes);
-      far = placed_far s t c.args.pointer held held c.args.len c.args.ds c.in-Some.place able own c.self.invariant.far (λ q ne. refl);
-      honest = λ h. c.self.invariant.honest (sym (placed_honest s t c.args.pointer held held c.args.len c.args.ds c.in-Some.place able free c.name_blank.ensures.kept) ∙ h);
-    }
+    let own = own_named s t c.self.invariant.0.notes.law c.args.pointer c.args.len c.args.ds c.in-Some.place able free c.name_blank.ensures.kept c.name_blank.ensures.forgot in (
+      record {
+        notes = subst (λ (u : State). Notes u c.take.new.self) (sym own) (notes_placed (own_part s) c.self.inside.ledger c.take.new.self c.self.invariant.0.notes c.args.pointer c.args.len c.args.ds c.in-Some.place able
+            (law_then (own_part s) c.self.invariant.0.notes.law c.args.pointer c.args.len c.args.ds c.in-Some.place able free) takes);
+        far = placed_far s t c.args.pointer held held c.args.len c.args.ds c.in-Some.place able own c.self.invariant.0.far (λ q ne. refl);
+        honest = λ h. c.self.invariant.0.honest (sym (placed_honest s t c.args.pointer held held c.args.len c.args.ds c.in-Some.place able free c.name_blank.ensures.kept) ∙ h);
+      },
+      c.self.invariant.1,
+    )
 
 pub returns-clause-room : goal.returns-clause-room
 returns-clause-room g c =

@@ -20,11 +20,13 @@ invariant_of-self g c =
       is = c.free_cell-was.ensures.was;
     } in
     let own = own_retired (g.N.Hand.view c.self.inside.near) (g.N.Hand.view c.free_cell-was.new.near) c.args.pointer dropped c.free_cell-was.ensures.kept c.free_cell-was.ensures.forgot in
-    let law = g.met.D.Device.forget_follows _ _ _ c.forget.ensures.called in
-    record {
-      notes = subst (λ (s : State). Notes s c.retire.new.self) (sym own) (c.retire.ensures.notes (own_part (g.N.Hand.view c.self.inside.near)) c.self.invariant.notes may);
-      far = retired_far (g.N.Hand.view c.self.inside.near) (g.N.Hand.view c.free_cell-was.new.near) c.args.pointer (g.D.Device.contents c.self.inside.device) (g.D.Device.contents c.forget.new.self)
-          own c.self.invariant.far law.others;
-      honest = λ h. law.honest ∙ c.self.invariant.honest (sym (retired_honest (g.N.Hand.view c.self.inside.near) (g.N.Hand.view c.free_cell-was.new.near) c.args.pointer (g.D.Device.contents c.self.inside.device) (g.D.Device.contents c.forget.new.self)
-          dropped c.free_cell-was.ensures.kept) ∙ h);
-    }
+    let law = g.met.D.Device.forget_follows _ _ _ c.forget.ensures.called in (
+      record {
+        notes = subst (λ (s : State). Notes s c.retire.new.self) (sym own) (c.retire.ensures.notes (own_part (g.N.Hand.view c.self.inside.near)) c.self.invariant.0.notes may);
+        far = retired_far (g.N.Hand.view c.self.inside.near) (g.N.Hand.view c.free_cell-was.new.near) c.args.pointer (g.D.Device.contents c.self.inside.device) (g.D.Device.contents c.forget.new.self)
+            own c.self.invariant.0.far law.others;
+        honest = λ h. law.honest ∙ c.self.invariant.0.honest (sym (retired_honest (g.N.Hand.view c.self.inside.near) (g.N.Hand.view c.free_cell-was.new.near) c.args.pointer (g.D.Device.contents c.self.inside.device) (g.D.Device.contents c.forget.new.self)
+            dropped c.free_cell-was.ensures.kept) ∙ h);
+      },
+      c.self.invariant.1,
+    )

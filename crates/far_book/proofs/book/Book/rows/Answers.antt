@@ -14,8 +14,8 @@ row-requires g c =
       known = (
         own_part (g.N.Hand.view c.self.inside.near),
         (
-          c.self.invariant.notes,
-          subst (λ (xs : List ℕ). slice_index_or xs c.loop-log.log-index 0 < (g.N.Hand.view c.self.inside.near).logs) (sym same) (order_inside (own_part (g.N.Hand.view c.self.inside.near)) c.self.inside.ledger c.self.invariant.notes c.loop-log.log-index inside),
+          c.self.invariant.0.notes,
+          subst (λ (xs : List ℕ). slice_index_or xs c.loop-log.log-index 0 < (g.N.Hand.view c.self.inside.near).logs) (sym same) (order_inside (own_part (g.N.Hand.view c.self.inside.near)) c.self.inside.ledger c.self.invariant.0.notes c.loop-log.log-index inside),
         ),
       );
     }
@@ -26,9 +26,9 @@ loop-log-preserved g c =
     let same : c.deref-log-items.result.now ≡ c.self.inside.ledger.order.items = c.deref-log-items.ensures.value in
     let inside : c.loop-log.log-index < length c.self.inside.ledger.order.items = subst (λ (xs : List ℕ). c.loop-log.log-index < length xs) same c.loop-log-test.true in
     let within : slice_index_or c.deref-log-items.result.now c.loop-log.log-index 0 < s.logs =
-    subst (λ (xs : List ℕ). slice_index_or xs c.loop-log.log-index 0 < s.logs) (sym same) (order_inside (own_part s) c.self.inside.ledger c.self.invariant.notes c.loop-log.log-index inside) in
+    subst (λ (xs : List ℕ). slice_index_or xs c.loop-log.log-index 0 < s.logs) (sym same) (order_inside (own_part s) c.self.inside.ledger c.self.invariant.0.notes c.loop-log.log-index inside) in
     let row : c.row.result ≡ row_of s (slice_index_or c.self.inside.ledger.order.items c.loop-log.log-index 0) =
-    c.row.ensures (own_part s) (c.self.invariant.notes, within) ∙ row_own s c.self.invariant.notes.law (slice_index_or c.deref-log-items.result.now c.loop-log.log-index 0)
+    c.row.ensures (own_part s) (c.self.invariant.0.notes, within) ∙ row_own s c.self.invariant.0.notes.law (slice_index_or c.deref-log-items.result.now c.loop-log.log-index 0)
     ∙ ap (λ (xs : List ℕ). row_of s (slice_index_or xs c.loop-log.log-index 0)) same in
     record {
       rows = c.push_reserved.ensures.items ∙ ap (λ xs. xs ++ c.row.result ∷ []) c.loop-log.invariant.rows ∙ rows_more s c.self.inside.ledger.order.items c.loop-log.log-index c.row.result inside row;

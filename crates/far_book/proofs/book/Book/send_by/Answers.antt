@@ -19,7 +19,7 @@ read_object-requires-clause-object g c =
     let same = ap (λ (b : BookOf g.row.N.Denot g.row.D.Denot). g.N.Hand.view b.near) c.self.view_is in
     let pointer : c.args.pointer < CELLS * s.mutators = subst (λ (t : State). c.args.pointer < CELLS * t.mutators) (sym same) c.requires.pointer in
     let near : IsQuietIn s c.args.pointer c.args.len c.args.ds c.args.place = subst (λ (t : State). IsQuietIn t c.args.pointer c.args.len c.args.ds c.args.place) (sym same) c.requires.near in
-    quiet_object s c.self.invariant.notes.law c.args.pointer c.args.len c.args.ds c.args.place near pointer
+    quiet_object s c.self.invariant.0.notes.law c.args.pointer c.args.len c.args.ds c.args.place near pointer
 
 pub invariant_of-self : goal.invariant_of-self
 invariant_of-self g c =
@@ -28,11 +28,13 @@ invariant_of-self g c =
     let same = ap (λ (b : BookOf g.row.N.Denot g.row.D.Denot). g.N.Hand.view b.near) c.self.view_is in
     let pointer : c.args.pointer < CELLS * s.mutators = subst (λ (t : State). c.args.pointer < CELLS * t.mutators) (sym same) c.requires.pointer in
     let near : IsQuietIn s c.args.pointer c.args.len c.args.ds c.args.place = subst (λ (t : State). IsQuietIn t c.args.pointer c.args.len c.args.ds c.args.place) (sym same) c.requires.near in
-    let object = quiet_object s c.self.invariant.notes.law c.args.pointer c.args.len c.args.ds c.args.place near pointer in
+    let object = quiet_object s c.self.invariant.0.notes.law c.args.pointer c.args.len c.args.ds c.args.place near pointer in
     let leaves = learned_leaves s t c.args.place (words_for c.args.len) c.read_object.ensures.kept object.bare c.read_object.ensures.learned in
-    let law = g.met.D.Device.write_follows _ _ _ _ _ c.write.ensures.called in
-    sent_order s t c.self.inside.ledger (g.D.Device.contents c.self.inside.device) (g.D.Device.contents c.write.new.self) (g.D.Device.honest c.self.inside.device) (g.D.Device.honest c.write.new.self)
-    c.self.invariant leaves c.args.pointer c.args.len c.args.ds c.args.place near law.others law.honest
+    let law = g.met.D.Device.write_follows _ _ _ _ _ c.write.ensures.called in (
+      sent_order s t c.self.inside.ledger (g.D.Device.contents c.self.inside.device) (g.D.Device.contents c.write.new.self) (g.D.Device.honest c.self.inside.device) (g.D.Device.honest c.write.new.self)
+          c.self.invariant.0 leaves c.args.pointer c.args.len c.args.ds c.args.place near law.others law.honest,
+      c.self.invariant.1,
+    )
 
 pub returns : goal.returns
 returns g c =
@@ -41,13 +43,13 @@ returns g c =
     let same = ap (λ (b : BookOf g.row.N.Denot g.row.D.Denot). g.N.Hand.view b.near) c.self.view_is in
     let pointer : c.args.pointer < CELLS * s.mutators = subst (λ (t : State). c.args.pointer < CELLS * t.mutators) (sym same) c.requires.pointer in
     let near : IsQuietIn s c.args.pointer c.args.len c.args.ds c.args.place = subst (λ (t : State). IsQuietIn t c.args.pointer c.args.len c.args.ds c.args.place) (sym same) c.requires.near in
-    let object = quiet_object s c.self.invariant.notes.law c.args.pointer c.args.len c.args.ds c.args.place near pointer in
+    let object = quiet_object s c.self.invariant.0.notes.law c.args.pointer c.args.len c.args.ds c.args.place near pointer in
     let called : g.D.Device.writes c.args.self.now.device c.args.pointer (bytes_of (data_at t.word c.args.place) c.args.len) (answer_of c.match-write.result) c.write.new.self = search rules in
     record {
       kept = subst (λ (u : State). Leaves u t) same (learned_leaves s t c.args.place (words_for c.args.len) c.read_object.ensures.kept object.bare c.read_object.ensures.learned);
       exact = search rules;
       reads = search rules;
-      words = learned_stored s c.self.invariant.notes.law c.args.pointer c.args.len c.args.ds c.args.place near t.word c.read_object.ensures.learned;
+      words = learned_stored s c.self.invariant.0.notes.law c.args.pointer c.args.len c.args.ds c.args.place near t.word c.read_object.ensures.learned;
       held = search rules;
       refused = search rules;
       called = called;

@@ -28,23 +28,25 @@ module _ (g : Over) (c : After-get g) where
   begins = ap (λ (t : State). t.starts (c.args.log * LOG_WORDS + c.args.at)) same ∙ c.requires.begins
 
   known : IsKnown ((g.N.Hand.view c.self.inside.near).word (c.args.log * LOG_WORDS + c.args.at))
-  known = headers_known (g.N.Hand.view c.self.inside.near) c.self.invariant.notes.law (c.args.log * LOG_WORDS + c.args.at) begins
+  known = headers_known (g.N.Hand.view c.self.inside.near) c.self.invariant.0.notes.law (c.args.log * LOG_WORDS + c.args.at) begins
 
 header : (g : Over) (c : After-known-head g) →
-    let h = (goal.at.After-known-head g c).After-get in Reads (g.N.Hand.view c.self.inside.near) c.self.invariant.notes.law c.args.log c.args.at (below g h) (begins g h) c.known-head.result
+    let h = (goal.at.After-known-head g c).After-get in Reads (g.N.Hand.view c.self.inside.near) c.self.invariant.0.notes.law c.args.log c.args.at (below g h) (begins g h) c.known-head.result
 header g c =
     let h = (goal.at.After-known-head g c).After-get in
-    reads (g.N.Hand.view c.self.inside.near) c.self.invariant.notes.law c.args.log c.args.at (below g h) (begins g h) c.get.result c.known-head.result (c.get.ensures.known (known g h)) c.known-head.ensures
+    reads (g.N.Hand.view c.self.inside.near) c.self.invariant.0.notes.law c.args.log c.args.at (below g h) (begins g h) c.get.result c.known-head.result (c.get.ensures.known (known g h)) c.known-head.ensures
 
 pub known-head-requires : goal.known-head-requires
 known-head-requires g c =
     let h = (goal.at.known-head-requires g c).After-get in
-    some_header (g.N.Hand.view c.self.inside.near) c.self.invariant.notes.law c.args.log c.args.at (below g h) (begins g h) c.get.result (c.get.ensures.known (known g h))
+    some_header (g.N.Hand.view c.self.inside.near) c.self.invariant.0.notes.law c.args.log c.args.at (below g h) (begins g h) c.get.result (c.get.ensures.known (known g h))
 
 pub invariant_of-self : goal.invariant_of-self
-invariant_of-self g c =
-    subst (λ (t : State). InOrder t c.self.inside.ledger (g.D.Device.contents c.self.inside.device) (g.D.Device.honest c.self.inside.device))
-    (sym (c.get.ensures.kept refl (known g (goal.at.invariant_of-self g c).After-get))) c.self.invariant
+invariant_of-self g c = (
+  subst (λ (t : State). InOrder t c.self.inside.ledger (g.D.Device.contents c.self.inside.device) (g.D.Device.honest c.self.inside.device))
+      (sym (c.get.ensures.kept refl (known g (goal.at.invariant_of-self g c).After-get))) c.self.invariant.0,
+  c.self.invariant.1,
+)
 
 pub returns-clause-is : goal.returns-clause-is
 returns-clause-is g c =

@@ -24,15 +24,17 @@ invariant_of-self g c =
     let says : read_of c.args.found ≡ Some (Near c.in-Near.len c.in-Near.ds c.in-Near.place c.in-Near.marks) = c.known.ensures ∙ ap (λ v. Some v) c.in-Near.is in
     let near : read_of (s.cell c.args.pointer) ≡ Some (Near c.in-Near.len c.in-Near.ds c.in-Near.place c.in-Near.marks) = ap read_of (sym word) ∙ says in
     let pointer : c.args.pointer < CELLS * s.mutators = subst (λ (x : State). c.args.pointer < CELLS * x.mutators) (sym same) c.requires.pointer in
-    let lies : LiesIn s c.self.inside.ledger held is_honest c.args.pointer c.in-Near.len c.in-Near.ds c.in-Near.place c.in-Near.marks = record { order = c.self.invariant; pointer = pointer; near = near } in
+    let lies : LiesIn s c.self.inside.ledger held is_honest c.args.pointer c.in-Near.len c.in-Near.ds c.in-Near.place c.in-Near.marks = record { order = c.self.invariant.0; pointer = pointer; near = near } in
     let quiet : IsQuietNear s c.args.pointer = subst (λ (x : State). IsQuietNear x c.args.pointer) (sym same) c.requires.quiet in
     let alive : is_dropped (read_of (s.cell c.args.pointer)) ≡ false = ap (λ w. is_dropped (read_of w)) (sym word) ∙ c.requires.alive in
-    let unwanted = evac_of (read_of c.args.found) false c.in-Near.len c.in-Near.ds c.in-Near.place c.in-Near.marks says c.requires.unwanted in
-    elim c.if-unmark_object.branch [
-      | then-unmark_object w ↦ kept lies u alive
-          (may_stay s c.args.pointer quiet c.in-Near.len c.in-Near.ds c.in-Near.place c.in-Near.marks near pointer unwanted) (c.unmark_object.ensures.stayed w.if-unmark_object.true)
-      | else-unmark_object w ↦ drop_keeps s u c.self.inside.ledger held is_honest c.self.invariant c.args.pointer (c.unmark_object.ensures.dropped w.if-unmark_object.false)
-    ]
+    let unwanted = evac_of (read_of c.args.found) false c.in-Near.len c.in-Near.ds c.in-Near.place c.in-Near.marks says c.requires.unwanted in (
+      elim c.if-unmark_object.branch [
+        | then-unmark_object w ↦ kept lies u alive
+            (may_stay s c.args.pointer quiet c.in-Near.len c.in-Near.ds c.in-Near.place c.in-Near.marks near pointer unwanted) (c.unmark_object.ensures.stayed w.if-unmark_object.true)
+        | else-unmark_object w ↦ drop_keeps s u c.self.inside.ledger held is_honest c.self.invariant.0 c.args.pointer (c.unmark_object.ensures.dropped w.if-unmark_object.false)
+      ],
+      c.self.invariant.1,
+    )
 
 pub returns-clause-came : goal.returns-clause-came
 returns-clause-came g c = since_book c.self.view_is (came_only _ c.unmark_object.ensures.names)

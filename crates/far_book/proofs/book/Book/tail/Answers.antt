@@ -9,4 +9,4 @@ returns-clause-is g c =
     let s = g.N.Hand.view c.self.inside.near in
     let same = ap (λ (b : BookOf g.row.N.Denot g.row.D.Denot). g.N.Hand.view b.near) c.self.view_is in
     let within : c.args.log < s.logs = subst (λ (t : State). c.args.log < t.logs) (sym same) c.requires.log in
-    c.tail.ensures.is (own_part s) (c.self.invariant.notes, within) ∙ ap (λ (t : State). t.tail c.args.log) same
+    c.tail.ensures.is (own_part s) (c.self.invariant.0.notes, within) ∙ ap (λ (t : State). t.tail c.args.log) same

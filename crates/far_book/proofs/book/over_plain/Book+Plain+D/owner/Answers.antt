@@ -12,7 +12,7 @@ invariant_of-self g c =
     let core = c.self.inside.near.core in
     let device = c.self.inside.device in
     let change = made_changes (core_state core) (core_state c.step.new.self) c.args.event c.step.result core.law (sym c.is_owners.ensures ∙ c.if-is_owners.true) c.step.ensures.step in
-    owned (core_state core) (core_state c.step.new.self) core.law c.step.ensures.law change c.self.inside.ledger (g.D.Device.contents device) (g.D.Device.honest device) c.self.invariant
+    (owned (core_state core) (core_state c.step.new.self) core.law c.step.ensures.law change c.self.inside.ledger (g.D.Device.contents device) (g.D.Device.honest device) c.self.invariant.0, c.self.invariant.1)
 
 pub returns-then-is_owners-clause-changes : goal.returns-then-is_owners-clause-changes
 returns-then-is_owners-clause-changes g c =

@@ -15,10 +15,12 @@ invariant_of-self g c =
     let core = c.self.inside.near.core in
     let device = c.self.inside.device in
     let legal : Legal (core_state core) (Pin c.args.owner c.args.pointer) =
-    subst (λ (b : BookOf Plain g.row.D.Denot). Legal (core_state b.near.core) (Pin c.args.owner c.args.pointer)) (sym c.self.view_is) c.requires.legal in
-    owned (core_state core) (core_state c.pin.new.self) core.law c.pin.new.self.law
-    (subst (λ (t : State). OwnersChange (core_state core) t) (sym c.pin.ensures.state) (change (core_state core) (Pin c.args.owner c.args.pointer) core.law refl legal))
-    c.self.inside.ledger (g.D.Device.contents device) (g.D.Device.honest device) c.self.invariant
+    subst (λ (b : BookOf Plain g.row.D.Denot). Legal (core_state b.near.core) (Pin c.args.owner c.args.pointer)) (sym c.self.view_is) c.requires.legal in (
+      owned (core_state core) (core_state c.pin.new.self) core.law c.pin.new.self.law
+          (subst (λ (t : State). OwnersChange (core_state core) t) (sym c.pin.ensures.state) (change (core_state core) (Pin c.args.owner c.args.pointer) core.law refl legal))
+          c.self.inside.ledger (g.D.Device.contents device) (g.D.Device.honest device) c.self.invariant.0,
+      c.self.invariant.1,
+    )
 
 pub returns-clause-changes : goal.returns-clause-changes
 returns-clause-changes g c =

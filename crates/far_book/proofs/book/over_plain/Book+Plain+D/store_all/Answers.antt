@@ -10,7 +10,9 @@ pub invariant_of-self : goal.invariant_of-self
 invariant_of-self g c =
     let core = c.self.inside.near.core in
     let held = g.D.Device.contents c.self.inside.device in
-    let is_honest = g.D.Device.honest c.self.inside.device in
-    subst (λ (s : State). InOrder s c.self.inside.ledger held is_honest) (sym c.store_all.ensures.state)
-    (stored c.self.inside.ledger held is_honest c.args.owner c.args.pointer c.args.first c.args.words.now (λ k. (c.type_inv.words k).fits)
-    (range_with_len 0 (length c.args.words.now)) (core_state core) core.law c.self.invariant)
+    let is_honest = g.D.Device.honest c.self.inside.device in (
+      subst (λ (s : State). InOrder s c.self.inside.ledger held is_honest) (sym c.store_all.ensures.state)
+          (stored c.self.inside.ledger held is_honest c.args.owner c.args.pointer c.args.first c.args.words.now (λ k. (c.type_inv.words k).fits)
+          (range_with_len 0 (length c.args.words.now)) (core_state core) core.law c.self.invariant.0),
+      c.self.invariant.1,
+    )
