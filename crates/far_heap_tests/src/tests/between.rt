@@ -19,7 +19,7 @@ const OBJECTS: u16 = 96;
 const ROUNDS: u64 = 5_000;
 
 /// How often all objects are sent far and viewed.
-const PASSES: u64 = 400;
+const PASSES: u64 = 40;
 
 /// How often a thread looks at most.
 const LOOKS: u64 = 1_000_000_000;
