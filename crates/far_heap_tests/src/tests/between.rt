@@ -91,7 +91,7 @@ fn keeps_rounding<K: HeapName, R: Wait>(
 // Whether some object of a log that is to be emptied has left it.
 fn has_left_some<K: HeapName>(book: &mut Evacuator<K, MemDevice>) -> bool {
     for log in 0..8u8 {
-        if u64::from(log) < book.shape().logs {
+        if (log as u64) < book.shape().logs {
             let state = book.log(log);
             if state.kind == LogKind::Chosen && state.row.dead > 0 {
                 return true;
