@@ -16,10 +16,10 @@ use std::thread::{Threads, join};
 const OBJECTS: u16 = 96;
 
 /// How many rounds are made at most, until one was seen between its turns.
-const ROUNDS: u64 = 5_000;
+const ROUNDS: u64 = 2_000;
 
 /// How often all objects are sent far and viewed.
-const PASSES: u64 = 40;
+const PASSES: u64 = 12;
 
 /// How often a thread looks at most.
 const LOOKS: u64 = 1_000_000_000;
