@@ -1,12 +1,19 @@
 //! Heaps with the answers that were worked out by hand, in one thread and in many.
 
 mod beside;
+mod between;
+mod choices;
 mod devices;
+mod drops;
 mod eight;
+mod failing;
 mod flag;
 mod growing;
 mod left_open;
+mod lend;
+mod liars;
 mod looks;
+mod placing;
 mod ranges;
 mod readme;
 mod refusals;

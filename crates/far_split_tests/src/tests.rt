@@ -1,6 +1,7 @@
 //! Texts whose lines are split among threads, with what a run of them prints, and gates that hold, order, count and refuse their lines.
 
 mod faults;
+mod once;
 mod ordered;
 mod refusing;
 mod rows;

@@ -7,16 +7,15 @@ ghost use Rattle.far_device.specs.Following.{Follows, any_key, other_than};
 ghost use Rattle.far_device.specs.Mem.{bytes_at, faults_of};
 ghost use Rattle.far_device.specs.Wrapping.{wrapped_below};
 
+use crate::tests::lend::{Lent, Trial, of_book, try_one};
 use crate::tests::looks::{is_far, is_log, is_near, sized};
-use crate::tests::scopes::{EIGHT, is_slow, makes, reads, reads_slowly, writes};
+use crate::tests::scopes::{EIGHT, is_slow, reads, reads_slowly, writes};
 use crate::tests::steps::{deals, runs_none, runs_through};
 use far_device::{Device, DeviceFault, MemDevice, hand_over};
 use far_evac::{LogKind, Phase};
-use far_heap::{Blank, Evacuator, Heap, HeapName, Mutator, Scope};
+use far_heap::{Blank, Evacuator, Heap, HeapName, Scope};
 use far_policy::{Oldest, Scripted};
 use far_word::Refused;
-use std::alloc::Global;
-use std::marker::Brand;
 use std::sync::Wait;
 use std::test::Fail;
 
@@ -155,68 +154,72 @@ fn over_faulty(rt: &HostRuntime, before: u64, fault: Fault) -> Result<Blank<Faul
     Blank::new(rt.alloc(), sized(4, 1), device)
 }
 
-// The first object is written, and a round has moved it to log 2, which is sealed then.
-fn comes_to_log_two<K: HeapName, R: Wait>(
+// Whether the first object is written, and a round has moved it to log 2, which is sealed then.
+pub(super) fn comes_to_log_two<K: HeapName, D: Device + Drop, R: Wait>(
     rt: &R,
-    heap: &Heap<K, Faulty>,
-    mut mutator: Mutator<K, Faulty>,
-) -> Option<Mutator<K, Faulty>> {
-    if !makes(rt, &mut mutator, 8, 0) || !makes(rt, &mut mutator, 1016, 1) {
-        return None;
-    }
-    let mut scope = mutator.open();
-    if !writes(&mut scope, 0, EIGHT) {
-        return None;
-    }
-    let mut mutator = scope.close();
-    if !runs_through(rt, heap, &mut Oldest, [1, 0, 0, 1]) || !makes(rt, &mut mutator, 1016, 2) {
-        return None;
-    }
-    Some(mutator)
+    heap: &Heap<K, D>,
+    lent: &mut Lent<K, D>,
+) -> bool {
+    lent.makes(rt, 8, 0)
+        && lent.makes(rt, 1016, 1)
+        && lent.opened(|scope| writes(scope, 0, EIGHT))
+        && runs_through(rt, heap, &mut Oldest, [1, 0, 0, 1])
+        && lent.makes(rt, 1016, 2)
 }
 
 // Whether a round of log 2 sends its object far.
-fn sends_it_far<K: HeapName, R: Wait>(rt: &R, heap: &Heap<K, Faulty>) -> bool {
+pub(super) fn sends_it_far<K: HeapName, D: Device + Drop, R: Wait>(
+    rt: &R,
+    heap: &Heap<K, D>,
+) -> bool {
     let mut script = Scripted { logs: &[2] };
-    runs_through(rt, heap, &mut script, [0, 1, 0, 1]) && is_far(&mut *heap.book(rt), 0, false)
+    runs_through(rt, heap, &mut script, [0, 1, 0, 1])
+        && of_book(rt, heap, |book| is_far(book, 0, false))
 }
 
-// Whether a view of it is refused once, and the same call gives it after that, with what was written.
-fn comes_back<K: HeapName, R: Wait>(
+// Whether a view of it is refused for this reason, and it stays far.
+fn stays_far<K: HeapName, D: Device + Drop, R: Wait>(
     rt: &R,
-    heap: &Heap<K, Faulty>,
-    scope: &mut Scope<K, Faulty>,
+    heap: &Heap<K, D>,
+    scope: &mut Scope<K, D>,
     why: Refused,
 ) -> bool {
     is_slow(scope, 0)
         && scope.view(rt, 0) == Err(why)
-        && is_far(&mut *heap.book(rt), 0, true)
+        && of_book(rt, heap, |book| is_far(book, 0, true))
+}
+
+// Whether a view of it is refused once, and the same call gives it after that, with what was written.
+pub(super) fn comes_back<K: HeapName, D: Device + Drop, R: Wait>(
+    rt: &R,
+    heap: &Heap<K, D>,
+    scope: &mut Scope<K, D>,
+    why: Refused,
+) -> bool {
+    stays_far(rt, heap, scope, why)
         && is_slow(scope, 0)
         && reads_slowly(rt, scope, 0, EIGHT)
         && reads(scope, 0, EIGHT)
 }
 
-fn view_is_refused<K: HeapName, R: Wait>(
-    rt: &R,
-    alloc: Global,
-    blank: Blank<Faulty>,
+// A view is refused for this reason, once.
+#[derive(Clone, Copy)]
+struct RefusedView {
     why: Refused,
-) -> bool
-    requires { blank.heap ≡ K.heap }
-{
-    let Ok((heap, mut mutators)) = Heap::<K, Faulty>::new(alloc, blank) else {
-        return false;
-    };
-    let Some(mutator) = mutators.pop() else {
-        return false;
-    };
-    let Some(mutator) = comes_to_log_two(rt, &heap, mutator) else {
-        return false;
-    };
-    if !sends_it_far(rt, &heap) {
-        return false;
+}
+
+impl Trial<Faulty> for RefusedView {
+    fn holds<K: HeapName, R: Wait>(
+        &self,
+        rt: &R,
+        heap: &Heap<K, Faulty>,
+        lent: &mut Lent<K, Faulty>,
+    ) -> bool {
+        let why = self.why;
+        comes_to_log_two(rt, heap, lent)
+            && sends_it_far(rt, heap)
+            && lent.opened(|scope| comes_back(rt, heap, scope, why))
     }
-    comes_back(rt, &heap, &mut mutator.open(), why)
 }
 
 // The device's read, its second call, has a fault under a view.
@@ -230,7 +233,7 @@ fn a_refused_view_may_be_tried_again(rt: HostRuntime) -> Result<(), Fail> {
     ] {
         let blank = over_faulty(&rt, 1, fault)?;
         assert!(rt;
-            view_is_refused::<Brand, _>(&rt, alloc, blank, why),
+            try_one(&rt, alloc, blank, &RefusedView { why }),
             "at {why:?}"
         );
     }
@@ -254,39 +257,43 @@ fn gives_up<K: HeapName>(book: &mut Evacuator<K, Faulty>) -> bool {
         && is_log(book, 2, LogKind::Sealed, [16, 0, 1008])
 }
 
-fn round_is_refused<K: HeapName, R: Wait>(
-    rt: &R,
-    alloc: Global,
-    blank: Blank<Faulty>,
+// Whether the round goes on, or is given up.
+fn ends<K: HeapName, R: Wait>(rt: &R, heap: &Heap<K, Faulty>, by_going_on: bool) -> bool {
+    if by_going_on {
+        of_book(rt, heap, goes_on)
+    } else {
+        of_book(rt, heap, gives_up)
+    }
+}
+
+// A round is refused for this reason, once, and goes on or is given up.
+#[derive(Clone, Copy)]
+struct RefusedRound {
     why: Refused,
-    ends: bool,
-) -> bool
-    requires { blank.heap ≡ K.heap }
-{
-    let Ok((heap, mut mutators)) = Heap::<K, Faulty>::new(alloc, blank) else {
-        return false;
-    };
-    let Some(mutator) = mutators.pop() else {
-        return false;
-    };
-    let Some(mutator) = comes_to_log_two(rt, &heap, mutator) else {
-        return false;
-    };
-    let mut script = Scripted { logs: &[2] };
-    if !runs_none(rt, &heap, &mut script, why) || !stands(&mut *heap.book(rt)) {
-        return false;
+    goes_on: bool,
+}
+
+impl Trial<Faulty> for RefusedRound {
+    fn holds<K: HeapName, R: Wait>(
+        &self,
+        rt: &R,
+        heap: &Heap<K, Faulty>,
+        lent: &mut Lent<K, Faulty>,
+    ) -> bool {
+        let mut script = Scripted { logs: &[2] };
+        comes_to_log_two(rt, heap, lent)
+            && runs_none(rt, heap, &mut script, self.why)
+            && of_book(rt, heap, stands)
+            && ends(rt, heap, self.goes_on)
+            && lent.opened(|scope| reads_slowly(rt, scope, 0, EIGHT))
     }
-    if ends && !goes_on(&mut *heap.book(rt)) || !ends && !gives_up(&mut *heap.book(rt)) {
-        return false;
-    }
-    reads_slowly(rt, &mut mutator.open(), 0, EIGHT)
 }
 
 // The device's write, its first call, fails under a round, which goes on, or is given up.
 #[test]
 fn a_refused_round_may_go_on(rt: HostRuntime) -> Result<(), Fail> {
     let alloc = rt.alloc();
-    for (fault, why, ends) in [
+    for (fault, why, goes_on) in [
         (DeviceFault::Device, Refused::Device, true),
         (DeviceFault::Device, Refused::Device, false),
         (DeviceFault::Memory, Refused::Memory, true),
@@ -294,7 +301,7 @@ fn a_refused_round_may_go_on(rt: HostRuntime) -> Result<(), Fail> {
     ] {
         let blank = over_faulty(&rt, 0, Fault::Fails(fault))?;
         assert!(rt;
-            round_is_refused::<Brand, _>(&rt, alloc, blank, why, ends),
+            try_one(&rt, alloc, blank, &RefusedRound { why, goes_on }),
             "at {why:?}"
         );
     }

@@ -72,6 +72,36 @@ pub(super) fn is_dropped<K: HeapName, D: Device + Drop>(
     }
 }
 
+/// Whether an object was found near and marked for a round.
+pub(super) fn is_marked<K: HeapName, D: Device + Drop>(
+    book: &mut Evacuator<K, D>,
+    pointer: u16,
+) -> bool {
+    match home(book, pointer) {
+        Some(Home::Near { marks, .. }) => marks.evac,
+        _ => false,
+    }
+}
+
+/// Whether an object was found near and not dereferenced since it came there.
+pub(super) fn is_unpinned<K: HeapName, D: Device + Drop>(
+    book: &mut Evacuator<K, D>,
+    pointer: u16,
+) -> bool {
+    match home(book, pointer) {
+        Some(Home::Near { marks, .. }) => !marks.hot,
+        _ => false,
+    }
+}
+
+/// Whether a pointer's cell is free.
+pub(super) fn is_gone<K: HeapName, D: Device + Drop>(
+    book: &mut Evacuator<K, D>,
+    pointer: u16,
+) -> bool {
+    home(book, pointer).is_none()
+}
+
 /// Whether a log is so, and has so many live, dead and unused bytes.
 pub(super) fn is_log<K: HeapName, D: Device + Drop>(
     book: &mut Evacuator<K, D>,

@@ -1,14 +1,11 @@
 //! Which bytes a scope reads and writes, and by which views.
 
-ghost use Rattle.std.specs.Prelude.{◌≡◌};
-
+use crate::tests::lend::{Lent, Trial, try_one};
 use crate::tests::looks::{blank, sized};
-use crate::tests::scopes::{EIGHT, has, makes, reads, viewed, writes};
+use crate::tests::scopes::{EIGHT, has, reads, viewed, writes};
 use far_device::MemDevice;
-use far_heap::{Blank, Heap, HeapName, Scope, View};
+use far_heap::{Heap, HeapName, Scope, View};
 use far_word::Refused;
-use std::alloc::Global;
-use std::marker::Brand;
 use std::sync::Wait;
 use std::test::Fail;
 
@@ -76,33 +73,36 @@ fn has_twelve<K: HeapName>(scope: &mut Scope<K, MemDevice>, view: &View) -> bool
         && back == [8, 9, 10, 11, 12]
 }
 
-fn in_ranges<K: HeapName, R: Wait>(rt: &R, alloc: Global, blank: Blank<MemDevice>) -> bool
-    requires { blank.heap ≡ K.heap }
-{
-    let Ok((_heap, mut mutators)) = Heap::<K, MemDevice>::new(alloc, blank) else {
-        return false;
-    };
-    let Some(mut mutator) = mutators.pop() else {
-        return false;
-    };
-    if !makes(rt, &mut mutator, 12, 0) {
-        return false;
-    }
-    let mut scope = mutator.open();
-    let Some(view) = viewed(&mut scope, 0) else {
+// Whether a view of the object has its length, its bytes and its ranges.
+fn has_ranges<K: HeapName>(scope: &mut Scope<K, MemDevice>) -> bool {
+    let Some(view) = viewed(scope, 0) else {
         return false;
     };
     view.len() == 12
         && view.pointer() == 0
-        && has_twelve(&mut scope, &view)
-        && bars_ranges(&mut scope, &view)
-        && has(&mut scope, &view, EIGHT)
+        && has_twelve(scope, &view)
+        && bars_ranges(scope, &view)
+        && has(scope, &view, EIGHT)
+}
+
+// An object of 12 bytes is read and written in ranges.
+struct InRanges;
+
+impl Trial<MemDevice> for InRanges {
+    fn holds<K: HeapName, R: Wait>(
+        &self,
+        rt: &R,
+        _heap: &Heap<K, MemDevice>,
+        lent: &mut Lent<K, MemDevice>,
+    ) -> bool {
+        lent.makes(rt, 12, 0) && lent.opened(has_ranges)
+    }
 }
 
 #[test]
 fn ranges_end_with_the_object(rt: HostRuntime) -> Result<(), Fail> {
     let alloc = rt.alloc();
-    assert!(rt; in_ranges::<Brand, _>(&rt, alloc, blank(&rt, sized(4, 1))?));
+    assert!(rt; try_one(&rt, alloc, blank(&rt, sized(4, 1))?, &InRanges));
     Ok(())
 }
 
@@ -122,33 +122,31 @@ fn takes_earlier<K: HeapName>(scope: &mut Scope<K, MemDevice>, view: &View) -> b
         && reads(scope, 0, [1, 2, 3, 4, 9, 6, 7, 8])
 }
 
-fn earlier_views<K: HeapName, R: Wait>(rt: &R, alloc: Global, blank: Blank<MemDevice>) -> bool
-    requires { blank.heap ≡ K.heap }
-{
-    let Ok((_heap, mut mutators)) = Heap::<K, MemDevice>::new(alloc, blank) else {
-        return false;
-    };
-    let Some(mut mutator) = mutators.pop() else {
-        return false;
-    };
-    if !makes(rt, &mut mutator, 8, 0) {
-        return false;
+// A view of an earlier scope is good where this scope views the pointer too.
+struct EarlierViews;
+
+impl Trial<MemDevice> for EarlierViews {
+    fn holds<K: HeapName, R: Wait>(
+        &self,
+        rt: &R,
+        _heap: &Heap<K, MemDevice>,
+        lent: &mut Lent<K, MemDevice>,
+    ) -> bool {
+        if !lent.makes(rt, 8, 0) {
+            return false;
+        }
+        let Some(view) = lent.viewed(0) else {
+            return false;
+        };
+        lent.opened(|scope| writes(scope, 0, EIGHT))
+            && lent.opened(|scope| bars_earlier(scope, &view) && takes_earlier(scope, &view))
     }
-    let mut scope = mutator.open();
-    let Some(view) = viewed(&mut scope, 0) else {
-        return false;
-    };
-    if !writes(&mut scope, 0, EIGHT) {
-        return false;
-    }
-    let mut scope = scope.close().open();
-    bars_earlier(&mut scope, &view) && takes_earlier(&mut scope, &view)
 }
 
 #[test]
 fn a_view_ends_with_its_scope(rt: HostRuntime) -> Result<(), Fail> {
     let alloc = rt.alloc();
-    assert!(rt; earlier_views::<Brand, _>(&rt, alloc, blank(&rt, sized(4, 1))?));
+    assert!(rt; try_one(&rt, alloc, blank(&rt, sized(4, 1))?, &EarlierViews));
     Ok(())
 }
 
@@ -161,35 +159,32 @@ fn views_next<K: HeapName>(scope: &mut Scope<K, MemDevice>, view: &View) -> bool
         && bars(scope, view, (16, 1), Refused::Range)
 }
 
-fn next_object<K: HeapName, R: Wait>(rt: &R, alloc: Global, blank: Blank<MemDevice>) -> bool
-    requires { blank.heap ≡ K.heap }
-{
-    let Ok((_heap, mut mutators)) = Heap::<K, MemDevice>::new(alloc, blank) else {
-        return false;
-    };
-    let Some(mut mutator) = mutators.pop() else {
-        return false;
-    };
-    if !makes(rt, &mut mutator, 8, 0) {
-        return false;
+// A view of an object that is gone is of the pointer's next object.
+struct NextObject;
+
+impl Trial<MemDevice> for NextObject {
+    fn holds<K: HeapName, R: Wait>(
+        &self,
+        rt: &R,
+        _heap: &Heap<K, MemDevice>,
+        lent: &mut Lent<K, MemDevice>,
+    ) -> bool {
+        if !lent.makes(rt, 8, 0) {
+            return false;
+        }
+        let Some(view) = lent.viewed(0) else {
+            return false;
+        };
+        lent.opened(|scope| writes(scope, 0, EIGHT))
+            && lent.drops(rt, 0)
+            && lent.makes(rt, 16, 0)
+            && lent.opened(|scope| views_next(scope, &view))
     }
-    let mut scope = mutator.open();
-    let Some(view) = viewed(&mut scope, 0) else {
-        return false;
-    };
-    if !writes(&mut scope, 0, EIGHT) {
-        return false;
-    }
-    let mut mutator = scope.close();
-    if mutator.drop_object(rt, 0).is_err() || !makes(rt, &mut mutator, 16, 0) {
-        return false;
-    }
-    views_next(&mut mutator.open(), &view)
 }
 
 #[test]
 fn a_view_is_of_a_pointer(rt: HostRuntime) -> Result<(), Fail> {
     let alloc = rt.alloc();
-    assert!(rt; next_object::<Brand, _>(&rt, alloc, blank(&rt, sized(4, 1))?));
+    assert!(rt; try_one(&rt, alloc, blank(&rt, sized(4, 1))?, &NextObject));
     Ok(())
 }

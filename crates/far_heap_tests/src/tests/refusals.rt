@@ -1,18 +1,15 @@
 //! What each call of a mutator and of its scope is refused, in the order of the reasons, with nothing changed.
 
-ghost use Rattle.std.specs.Prelude.{◌≡◌};
-
+use crate::tests::lend::{Lent, PairTrial, Trial, of_book, try_one, try_two};
 use crate::tests::looks::{blank, is_far, is_log, sized};
 use crate::tests::scopes::{makes, makes_none, reads, reads_slowly};
 use crate::tests::steps::runs_through;
 use far_core::Shape;
 use far_device::{Device, MemDevice};
 use far_evac::LogKind;
-use far_heap::{Blank, Evacuator, Heap, HeapName, Mutator, Scope};
+use far_heap::{Evacuator, Heap, HeapName, Mutator, Scope};
 use far_policy::Oldest;
 use far_word::Refused;
-use std::alloc::Global;
-use std::marker::Brand;
 use std::sync::Wait;
 use std::test::Fail;
 
@@ -68,18 +65,25 @@ fn bars_in_scope<K: HeapName, R: Wait>(rt: &R, scope: &mut Scope<K, MemDevice>) 
         && scope.alloc(rt, 1, 1) == Err(Refused::NoRoom)
 }
 
+// Whether a new object of a byte is refused for this reason, and lengths out of range before that.
+fn bars_any<K: HeapName, R: Wait>(
+    rt: &R,
+    mutator: &mut Mutator<K, MemDevice>,
+    why: Refused,
+) -> bool {
+    bars_lengths(rt, mutator) && makes_none(rt, mutator, 1, why)
+}
+
 // Whether a mutator without a free pointer, and one with free pointers, are refused while no log has room.
 fn bars_new<K: HeapName, R: Wait>(
     rt: &R,
-    first: &mut Mutator<K, MemDevice>,
-    second: &mut Mutator<K, MemDevice>,
+    first: &mut Lent<K, MemDevice>,
+    second: &mut Lent<K, MemDevice>,
 ) -> bool {
-    bars_lengths(rt, first)
-        && makes_none(rt, first, 1, Refused::NoPointer)
-        && bars_lengths(rt, second)
-        && makes_none(rt, second, 1, Refused::NoRoom)
-        && first.drop_object(rt, 5).is_ok()
-        && makes_none(rt, first, 1, Refused::NoRoom)
+    first.closed(|mutator| bars_any(rt, mutator, Refused::NoPointer))
+        && second.closed(|mutator| bars_any(rt, mutator, Refused::NoRoom))
+        && first.drops(rt, 5)
+        && first.makes_none(rt, 1, Refused::NoRoom)
 }
 
 // Whether two logs are full.
@@ -87,25 +91,28 @@ fn two_are_full<K: HeapName, D: Device + Drop>(book: &mut Evacuator<K, D>) -> bo
     is_log(book, 0, LogKind::Sealed, [1024, 0, 0]) && is_log(book, 1, LogKind::Open, [1024, 0, 0])
 }
 
-fn new_objects<K: HeapName, R: Wait>(rt: &R, alloc: Global, blank: Blank<MemDevice>) -> bool
-    requires { blank.heap ≡ K.heap }
-{
-    let Ok((heap, mut mutators)) = Heap::<K, MemDevice>::new(alloc, blank) else {
-        return false;
-    };
-    let (Some(mut second), Some(mut first)) = (mutators.pop(), mutators.pop()) else {
-        return false;
-    };
-    if !uses_all(rt, &mut first) || !two_are_full(&mut *heap.book(rt)) {
-        return false;
+// Two logs are full of one mutator's objects, and neither gets another.
+struct NewObjects;
+
+impl PairTrial<MemDevice> for NewObjects {
+    fn holds<K: HeapName, R: Wait>(
+        &self,
+        rt: &R,
+        heap: &Heap<K, MemDevice>,
+        first: &mut Lent<K, MemDevice>,
+        second: &mut Lent<K, MemDevice>,
+    ) -> bool {
+        first.closed(|mutator| uses_all(rt, mutator))
+            && of_book(rt, heap, two_are_full)
+            && bars_new(rt, first, second)
+            && second.opened(|scope| bars_in_scope(rt, scope))
     }
-    bars_new(rt, &mut first, &mut second) && bars_in_scope(rt, &mut second.open())
 }
 
 #[test]
 fn a_new_object_is_refused_in_order(rt: HostRuntime) -> Result<(), Fail> {
     let alloc = rt.alloc();
-    assert!(rt; new_objects::<Brand, _>(&rt, alloc, blank(&rt, sized(3, 2))?));
+    assert!(rt; try_two(&rt, alloc, blank(&rt, sized(3, 2))?, &NewObjects));
     Ok(())
 }
 
@@ -133,38 +140,45 @@ fn drops_last<K: HeapName, R: Wait>(rt: &R, mutator: &mut Mutator<K, MemDevice>)
     mutator.drop_object(rt, 0) == Ok(()) && mutator.drop_object(rt, 0) == Err(Refused::NotHeld)
 }
 
-// Whether three objects are made: two of the first mutator's, and one of the second's.
+// Whether each mutator makes an object, and the first is refused others.
 fn makes_for_both<K: HeapName, R: Wait>(
     rt: &R,
-    first: &mut Mutator<K, MemDevice>,
-    second: &mut Mutator<K, MemDevice>,
+    first: &mut Lent<K, MemDevice>,
+    second: &mut Lent<K, MemDevice>,
 ) -> bool {
-    makes(rt, first, 8, 0) && makes(rt, second, 8, 128) && bars_drops(rt, first)
+    first.makes(rt, 8, 0)
+        && second.makes(rt, 8, 128)
+        && first.closed(|mutator| bars_drops(rt, mutator))
 }
 
-fn dropped_objects<K: HeapName, R: Wait>(rt: &R, alloc: Global, blank: Blank<MemDevice>) -> bool
-    requires { blank.heap ≡ K.heap }
-{
-    let Ok((heap, mut mutators)) = Heap::<K, MemDevice>::new(alloc, blank) else {
-        return false;
-    };
-    let (Some(mut second), Some(mut first)) = (mutators.pop(), mutators.pop()) else {
-        return false;
-    };
-    if !makes_for_both(rt, &mut first, &mut second) || !makes(rt, &mut first, 8, 1) {
-        return false;
+// Whether one of three objects lives in the first log.
+fn one_of_three_lives<K: HeapName, D: Device + Drop>(book: &mut Evacuator<K, D>) -> bool {
+    is_log(book, 0, LogKind::Open, [16, 32, 976])
+}
+
+// Three objects, of which the first mutator drops its own.
+struct DroppedObjects;
+
+impl PairTrial<MemDevice> for DroppedObjects {
+    fn holds<K: HeapName, R: Wait>(
+        &self,
+        rt: &R,
+        heap: &Heap<K, MemDevice>,
+        first: &mut Lent<K, MemDevice>,
+        second: &mut Lent<K, MemDevice>,
+    ) -> bool {
+        makes_for_both(rt, first, second)
+            && first.makes(rt, 8, 1)
+            && first.opened(|scope| drops_in_scope(rt, scope))
+            && first.closed(|mutator| drops_last(rt, mutator))
+            && of_book(rt, heap, one_of_three_lives)
     }
-    let mut scope = first.open();
-    if !drops_in_scope(rt, &mut scope) || !drops_last(rt, &mut scope.close()) {
-        return false;
-    }
-    is_log(&mut *heap.book(rt), 0, LogKind::Open, [16, 32, 976])
 }
 
 #[test]
 fn a_drop_is_refused_in_order(rt: HostRuntime) -> Result<(), Fail> {
     let alloc = rt.alloc();
-    assert!(rt; dropped_objects::<Brand, _>(&rt, alloc, blank(&rt, sized(4, 2))?));
+    assert!(rt; try_two(&rt, alloc, blank(&rt, sized(4, 2))?, &DroppedObjects));
     Ok(())
 }
 
@@ -185,22 +199,25 @@ fn bars_views<K: HeapName, R: Wait>(rt: &R, scope: &mut Scope<K, MemDevice>) -> 
         && bars_view(rt, scope, 0)
 }
 
-fn unheld_objects<K: HeapName, R: Wait>(rt: &R, alloc: Global, blank: Blank<MemDevice>) -> bool
-    requires { blank.heap ≡ K.heap }
-{
-    let Ok((_heap, mut mutators)) = Heap::<K, MemDevice>::new(alloc, blank) else {
-        return false;
-    };
-    let (Some(mut second), Some(mut first)) = (mutators.pop(), mutators.pop()) else {
-        return false;
-    };
-    makes_for_both(rt, &mut first, &mut second) && bars_views(rt, &mut first.open())
+// A mutator views only what it uses.
+struct UnheldObjects;
+
+impl PairTrial<MemDevice> for UnheldObjects {
+    fn holds<K: HeapName, R: Wait>(
+        &self,
+        rt: &R,
+        _heap: &Heap<K, MemDevice>,
+        first: &mut Lent<K, MemDevice>,
+        second: &mut Lent<K, MemDevice>,
+    ) -> bool {
+        makes_for_both(rt, first, second) && first.opened(|scope| bars_views(rt, scope))
+    }
 }
 
 #[test]
 fn an_unheld_pointer_has_no_view(rt: HostRuntime) -> Result<(), Fail> {
     let alloc = rt.alloc();
-    assert!(rt; unheld_objects::<Brand, _>(&rt, alloc, blank(&rt, sized(4, 2))?));
+    assert!(rt; try_two(&rt, alloc, blank(&rt, sized(4, 2))?, &UnheldObjects));
     Ok(())
 }
 
@@ -224,42 +241,33 @@ fn has_no_room<K: HeapName, R: Wait>(
     heap: &Heap<K, MemDevice>,
     scope: &mut Scope<K, MemDevice>,
 ) -> bool {
-    scope.view(rt, 0) == Err(Refused::NoRoom)
+    reads(scope, 2, [0; 8])
         && scope.view(rt, 0) == Err(Refused::NoRoom)
-        && is_far(&mut *heap.book(rt), 0, true)
+        && scope.view(rt, 0) == Err(Refused::NoRoom)
+        && of_book(rt, heap, |book| is_far(book, 0, true))
 }
 
-fn far_object_without_room<K: HeapName, R: Wait>(
-    rt: &R,
-    alloc: Global,
-    blank: Blank<MemDevice>,
-) -> bool
-    requires { blank.heap ≡ K.heap }
-{
-    let Ok((heap, mut mutators)) = Heap::<K, MemDevice>::new(alloc, blank) else {
-        return false;
-    };
-    let Some(mut mutator) = mutators.pop() else {
-        return false;
-    };
-    if !fills_up(rt, &heap, &mut mutator) {
-        return false;
+// A far object has no room until a round gives a log back.
+struct FarWithoutRoom;
+
+impl Trial<MemDevice> for FarWithoutRoom {
+    fn holds<K: HeapName, R: Wait>(
+        &self,
+        rt: &R,
+        heap: &Heap<K, MemDevice>,
+        lent: &mut Lent<K, MemDevice>,
+    ) -> bool {
+        lent.closed(|mutator| fills_up(rt, heap, mutator))
+            && lent.opened(|scope| has_no_room(rt, heap, scope))
+            && runs_through(rt, heap, &mut Oldest, [0, 1, 0, 1])
+            && lent.opened(|scope| reads_slowly(rt, scope, 0, [0; 8]))
     }
-    let mut scope = mutator.open();
-    if !reads(&mut scope, 2, [0; 8]) || !has_no_room(rt, &heap, &mut scope) {
-        return false;
-    }
-    let mutator = scope.close();
-    if !runs_through(rt, &heap, &mut Oldest, [0, 1, 0, 1]) {
-        return false;
-    }
-    reads_slowly(rt, &mut mutator.open(), 0, [0; 8])
 }
 
 // A far object isn't viewed while no log has room for it, and is after a round that gave a log back.
 #[test]
 fn a_far_object_waits_for_room(rt: HostRuntime) -> Result<(), Fail> {
     let alloc = rt.alloc();
-    assert!(rt; far_object_without_room::<Brand, _>(&rt, alloc, blank(&rt, sized(4, 1))?));
+    assert!(rt; try_one(&rt, alloc, blank(&rt, sized(4, 1))?, &FarWithoutRoom));
     Ok(())
 }

@@ -1,26 +1,22 @@
 //! What the calls of a round are refused, in the order of the reasons, with the round as it was.
 
-ghost use Rattle.std.specs.Prelude.{◌≡◌};
-
+use crate::tests::lend::{Lent, Trial, of_book, try_one};
 use crate::tests::looks::{blank, is_log, sized};
-use crate::tests::scopes::makes;
 use crate::tests::steps::{
     deals, deals_none, gives_up, is_clear, marks, runs_none, selects, selects_none, turns_none,
 };
 use far_core::Shape;
 use far_device::MemDevice;
 use far_evac::{LogKind, Phase, RoundEnd};
-use far_heap::{Blank, Evacuator, Heap, HeapName, Mutator};
+use far_heap::{Evacuator, Heap, HeapName};
 use far_policy::{Oldest, Scripted};
 use far_word::Refused;
-use std::alloc::Global;
-use std::marker::Brand;
 use std::sync::Wait;
 use std::test::Fail;
 
 // A small object in the first log, and one that fills the next.
-fn seals_first<K: HeapName, R: Wait>(rt: &R, mutator: &mut Mutator<K, MemDevice>) -> bool {
-    makes(rt, mutator, 8, 0) && makes(rt, mutator, 1016, 1)
+fn seals_first<K: HeapName, R: Wait>(rt: &R, lent: &mut Lent<K, MemDevice>) -> bool {
+    lent.makes(rt, 8, 0) && lent.makes(rt, 1016, 1)
 }
 
 fn bars_selecting<K: HeapName>(book: &mut Evacuator<K, MemDevice>) -> bool {
@@ -88,29 +84,28 @@ fn ends<K: HeapName>(book: &mut Evacuator<K, MemDevice>) -> bool {
     deals(book, 9, [0, 1, 0, 1], true) && is_idle(book)
 }
 
-fn in_each_phase<K: HeapName, R: Wait>(rt: &R, alloc: Global, blank: Blank<MemDevice>) -> bool
-    requires { blank.heap ≡ K.heap }
-{
-    let Ok((heap, mut mutators)) = Heap::<K, MemDevice>::new(alloc, blank) else {
-        return false;
-    };
-    let Some(mut mutator) = mutators.pop() else {
-        return false;
-    };
-    if !seals_first(rt, &mut mutator) || !goes_through(&mut *heap.book(rt)) {
-        return false;
+// A round by its steps, of which each has its phase.
+struct InEachPhase;
+
+impl Trial<MemDevice> for InEachPhase {
+    fn holds<K: HeapName, R: Wait>(
+        &self,
+        rt: &R,
+        heap: &Heap<K, MemDevice>,
+        lent: &mut Lent<K, MemDevice>,
+    ) -> bool {
+        seals_first(rt, lent)
+            && of_book(rt, heap, goes_through)
+            && runs_none(rt, heap, &mut Oldest, Refused::Phase)
+            && of_book(rt, heap, ends)
     }
-    if !runs_none(rt, &heap, &mut Oldest, Refused::Phase) {
-        return false;
-    }
-    ends(&mut *heap.book(rt))
 }
 
 // Each phase has its call; a whole round is refused while another is running.
 #[test]
 fn a_call_belongs_to_a_phase(rt: HostRuntime) -> Result<(), Fail> {
     let alloc = rt.alloc();
-    assert!(rt; in_each_phase::<Brand, _>(&rt, alloc, blank(&rt, sized(4, 1))?));
+    assert!(rt; try_one(&rt, alloc, blank(&rt, sized(4, 1))?, &InEachPhase));
     Ok(())
 }
 
@@ -130,25 +125,29 @@ fn bars_choices<K: HeapName, R: Wait>(rt: &R, heap: &Heap<K, MemDevice>) -> bool
         && is_idle(&mut *heap.book(rt))
 }
 
-fn bad_choices<K: HeapName, R: Wait>(rt: &R, alloc: Global, blank: Blank<MemDevice>) -> bool
-    requires { blank.heap ≡ K.heap }
-{
-    let Ok((heap, mut mutators)) = Heap::<K, MemDevice>::new(alloc, blank) else {
-        return false;
-    };
-    let Some(mut mutator) = mutators.pop() else {
-        return false;
-    };
-    if !seals_first(rt, &mut mutator) || !bars_choices(rt, &heap) {
-        return false;
+// Whether the first log is sealed, with its object.
+fn is_sealed<K: HeapName>(book: &mut Evacuator<K, MemDevice>) -> bool {
+    is_log(book, 0, LogKind::Sealed, [16, 0, 1008])
+}
+
+// Scripts of logs that can't be chosen.
+struct BadChoices;
+
+impl Trial<MemDevice> for BadChoices {
+    fn holds<K: HeapName, R: Wait>(
+        &self,
+        rt: &R,
+        heap: &Heap<K, MemDevice>,
+        lent: &mut Lent<K, MemDevice>,
+    ) -> bool {
+        seals_first(rt, lent) && bars_choices(rt, heap) && of_book(rt, heap, is_sealed)
     }
-    is_log(&mut *heap.book(rt), 0, LogKind::Sealed, [16, 0, 1008])
 }
 
 #[test]
 fn a_bad_script_begins_no_round(rt: HostRuntime) -> Result<(), Fail> {
     let alloc = rt.alloc();
-    assert!(rt; bad_choices::<Brand, _>(&rt, alloc, blank(&rt, sized(4, 1))?));
+    assert!(rt; try_one(&rt, alloc, blank(&rt, sized(4, 1))?, &BadChoices));
     Ok(())
 }
 
@@ -169,19 +168,18 @@ fn runs_in_the_last<K: HeapName>(book: &mut Evacuator<K, MemDevice>) -> bool {
         && gives_up(book)
 }
 
-fn last_epoch<K: HeapName, R: Wait>(rt: &R, alloc: Global, blank: Blank<MemDevice>) -> bool
-    requires { blank.heap ≡ K.heap }
-{
-    let Ok((heap, mut mutators)) = Heap::<K, MemDevice>::new(alloc, blank) else {
-        return false;
-    };
-    let Some(mut mutator) = mutators.pop() else {
-        return false;
-    };
-    if !seals_first(rt, &mut mutator) || !runs_in_the_last(&mut *heap.book(rt)) {
-        return false;
+// A round that reaches the last epoch, after which no other begins.
+struct LastEpoch;
+
+impl Trial<MemDevice> for LastEpoch {
+    fn holds<K: HeapName, R: Wait>(
+        &self,
+        rt: &R,
+        heap: &Heap<K, MemDevice>,
+        lent: &mut Lent<K, MemDevice>,
+    ) -> bool {
+        seals_first(rt, lent) && of_book(rt, heap, runs_in_the_last) && bars_rounds(rt, heap)
     }
-    bars_rounds(rt, &heap)
 }
 
 #[test]
@@ -191,7 +189,7 @@ fn the_last_epoch_begins_no_round(rt: HostRuntime) -> Result<(), Fail> {
         epoch: (1 << 62) - 2,
         ..sized(4, 1)
     };
-    assert!(rt; last_epoch::<Brand, _>(&rt, alloc, blank(&rt, last_but_one)?));
+    assert!(rt; try_one(&rt, alloc, blank(&rt, last_but_one)?, &LastEpoch));
     Ok(())
 }
 
@@ -211,24 +209,26 @@ fn goes_as_far<K: HeapName, R: Wait>(
     heap.run_round(rt, &mut Oldest, 1, turns) == Ok(end) && ends_in(&mut *heap.book(rt), phase)
 }
 
-fn turn_by_turn<K: HeapName, R: Wait>(rt: &R, alloc: Global, blank: Blank<MemDevice>) -> bool
-    requires { blank.heap ≡ K.heap }
-{
-    let Ok((heap, mut mutators)) = Heap::<K, MemDevice>::new(alloc, blank) else {
-        return false;
-    };
-    let Some(mut mutator) = mutators.pop() else {
-        return false;
-    };
-    seals_first(rt, &mut mutator)
-        && goes_as_far(rt, &heap, 0, Phase::Marking)
-        && goes_as_far(rt, &heap, 1, Phase::Waiting)
-        && goes_as_far(rt, &heap, 2, Phase::Evacuating)
+// Rounds of none, one and two turns.
+struct TurnByTurn;
+
+impl Trial<MemDevice> for TurnByTurn {
+    fn holds<K: HeapName, R: Wait>(
+        &self,
+        rt: &R,
+        heap: &Heap<K, MemDevice>,
+        lent: &mut Lent<K, MemDevice>,
+    ) -> bool {
+        seals_first(rt, lent)
+            && goes_as_far(rt, heap, 0, Phase::Marking)
+            && goes_as_far(rt, heap, 1, Phase::Waiting)
+            && goes_as_far(rt, heap, 2, Phase::Evacuating)
+    }
 }
 
 #[test]
 fn a_round_makes_no_turn_more(rt: HostRuntime) -> Result<(), Fail> {
     let alloc = rt.alloc();
-    assert!(rt; turn_by_turn::<Brand, _>(&rt, alloc, blank(&rt, sized(4, 1))?));
+    assert!(rt; try_one(&rt, alloc, blank(&rt, sized(4, 1))?, &TurnByTurn));
     Ok(())
 }

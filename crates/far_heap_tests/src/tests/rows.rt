@@ -1,17 +1,14 @@
 //! Rounds on a heap, by worked answers.
 
-ghost use Rattle.std.specs.Prelude.{◌≡◌};
-
+use crate::tests::lend::{Lent, Trial, of_book, try_one};
 use crate::tests::looks::{blank, counts, is_far, is_free, is_log, is_near, sized};
 use crate::tests::scopes::{EIGHT, is_slow, makes, reads, reads_slowly, writes};
 use crate::tests::steps::{deals, is_clear, is_open, marks, runs_through, selects};
 use far_device::{Device, MemDevice};
 use far_evac::LogKind;
-use far_heap::{Blank, Evacuator, Heap, HeapName, Mutator, Scope, Tried};
+use far_heap::{Evacuator, Heap, HeapName, Mutator, Scope, Tried};
 use far_policy::Oldest;
 use far_word::Refused;
-use std::alloc::Global;
-use std::marker::Brand;
 use std::sync::Wait;
 use std::test::Fail;
 
@@ -24,20 +21,18 @@ fn has_one_object<K: HeapName, D: Device + Drop>(book: &mut Evacuator<K, D>) -> 
 }
 
 // A new object has zeros, and takes its bytes and a header of the first log.
-fn new_object<K: HeapName, R: Wait>(rt: &R, alloc: Global, blank: Blank<MemDevice>) -> bool
-    requires { blank.heap ≡ K.heap }
-{
-    let Ok((heap, mut mutators)) = Heap::<K, MemDevice>::new(alloc, blank) else {
-        return false;
-    };
-    let Some(mut mutator) = mutators.pop() else {
-        return false;
-    };
-    if !makes(rt, &mut mutator, 8, 0) {
-        return false;
+struct NewObject;
+
+impl Trial<MemDevice> for NewObject {
+    fn holds<K: HeapName, R: Wait>(
+        &self,
+        rt: &R,
+        heap: &Heap<K, MemDevice>,
+        lent: &mut Lent<K, MemDevice>,
+    ) -> bool {
+        lent.makes(rt, 8, 0)
+            && lent.opened(|scope| reads(scope, 0, [0; 8]) && of_book(rt, heap, has_one_object))
     }
-    let mut scope = mutator.open();
-    reads(&mut scope, 0, [0; 8]) && has_one_object(&mut *heap.book(rt))
 }
 
 // Whether an object that was written is in another log, one that wasn't is far, and their log is given back.
@@ -63,24 +58,26 @@ fn writes_first<K: HeapName>(scope: &mut Scope<K, MemDevice>) -> bool {
     writes(scope, 0, EIGHT)
 }
 
-// Two objects in a log, of which the first is written; then a round.
+// Whether two objects are in a log, of which the first is written, and then comes a round.
 fn makes_a_round<K: HeapName, R: Wait>(
     rt: &R,
     heap: &Heap<K, MemDevice>,
-    mut mutator: Mutator<K, MemDevice>,
-) -> Option<Mutator<K, MemDevice>> {
-    if !makes(rt, &mut mutator, 8, 0) || !makes(rt, &mut mutator, 8, 1) {
-        return None;
-    }
-    let mut scope = mutator.open();
-    if !writes_first(&mut scope) {
-        return None;
-    }
-    let mut mutator = scope.close();
-    if !makes(rt, &mut mutator, 1016, 2) || !runs_through(rt, heap, &mut Oldest, [1, 1, 0, 1]) {
-        return None;
-    }
-    Some(mutator)
+    lent: &mut Lent<K, MemDevice>,
+) -> bool {
+    lent.makes(rt, 8, 0)
+        && lent.makes(rt, 8, 1)
+        && lent.opened(writes_first)
+        && lent.makes(rt, 1016, 2)
+        && runs_through(rt, heap, &mut Oldest, [1, 1, 0, 1])
+}
+
+// Whether both can be read, and the one that was far is near then.
+fn brings_back<K: HeapName, R: Wait>(
+    rt: &R,
+    heap: &Heap<K, MemDevice>,
+    scope: &mut Scope<K, MemDevice>,
+) -> bool {
+    reads_both(rt, scope) && of_book(rt, heap, |book| is_near(book, 1, (2, 2), true))
 }
 
 // Whether a dropped object's cell is used again.
@@ -89,26 +86,20 @@ fn uses_again<K: HeapName, R: Wait>(rt: &R, mutator: &mut Mutator<K, MemDevice>)
 }
 
 // A round moves the object that was written, and sends the other far, from where it comes back.
-fn plain_round<K: HeapName, R: Wait>(rt: &R, alloc: Global, blank: Blank<MemDevice>) -> bool
-    requires { blank.heap ≡ K.heap }
-{
-    let Ok((heap, mut mutators)) = Heap::<K, MemDevice>::new(alloc, blank) else {
-        return false;
-    };
-    let Some(mutator) = mutators.pop() else {
-        return false;
-    };
-    let Some(mutator) = makes_a_round(rt, &heap, mutator) else {
-        return false;
-    };
-    if !stands_after(&mut *heap.book(rt)) {
-        return false;
+struct PlainRound;
+
+impl Trial<MemDevice> for PlainRound {
+    fn holds<K: HeapName, R: Wait>(
+        &self,
+        rt: &R,
+        heap: &Heap<K, MemDevice>,
+        lent: &mut Lent<K, MemDevice>,
+    ) -> bool {
+        makes_a_round(rt, heap, lent)
+            && of_book(rt, heap, stands_after)
+            && lent.opened(|scope| brings_back(rt, heap, scope))
+            && lent.closed(|mutator| uses_again(rt, mutator))
     }
-    let mut scope = mutator.open();
-    if !reads_both(rt, &mut scope) || !is_near(&mut *heap.book(rt), 1, (2, 2), true) {
-        return false;
-    }
-    uses_again(rt, &mut scope.close())
 }
 
 // Whether a round of the first log begins, and waits for the first mutator.
@@ -122,51 +113,37 @@ fn ends<K: HeapName, D: Device + Drop>(book: &mut Evacuator<K, D>) -> bool {
 }
 
 // A round waits for a scope that was open before it.
-fn waiting_round<K: HeapName, R: Wait>(rt: &R, alloc: Global, blank: Blank<MemDevice>) -> bool
-    requires { blank.heap ≡ K.heap }
-{
-    let Ok((heap, mut mutators)) = Heap::<K, MemDevice>::new(alloc, blank) else {
-        return false;
-    };
-    let Some(mut mutator) = mutators.pop() else {
-        return false;
-    };
-    if !makes(rt, &mut mutator, 8, 0) || !makes(rt, &mut mutator, 1016, 1) {
-        return false;
+struct WaitingRound;
+
+impl Trial<MemDevice> for WaitingRound {
+    fn holds<K: HeapName, R: Wait>(
+        &self,
+        rt: &R,
+        heap: &Heap<K, MemDevice>,
+        lent: &mut Lent<K, MemDevice>,
+    ) -> bool {
+        lent.makes(rt, 8, 0)
+            && lent.makes(rt, 1016, 1)
+            && lent.opened(|scope| reads(scope, 0, [0; 8]) && of_book(rt, heap, waits))
+            && of_book(rt, heap, ends)
     }
-    let mut scope = mutator.open();
-    if !reads(&mut scope, 0, [0; 8]) || !waits(&mut *heap.book(rt)) {
-        return false;
-    }
-    scope.close();
-    ends(&mut *heap.book(rt))
 }
 
 #[test]
 fn heap_rows(rt: HostRuntime) -> Result<(), Fail> {
     let alloc = rt.alloc();
-    assert!(rt; new_object::<Brand, _>(&rt, alloc, blank(&rt, sized(4, 1))?));
-    assert!(rt; plain_round::<Brand, _>(&rt, alloc, blank(&rt, sized(4, 1))?));
-    assert!(rt; waiting_round::<Brand, _>(&rt, alloc, blank(&rt, sized(4, 1))?));
+    assert!(rt; try_one(&rt, alloc, blank(&rt, sized(4, 1))?, &NewObject));
+    assert!(rt; try_one(&rt, alloc, blank(&rt, sized(4, 1))?, &PlainRound));
+    assert!(rt; try_one(&rt, alloc, blank(&rt, sized(4, 1))?, &WaitingRound));
     Ok(())
 }
 
-// Three objects, each of which fills a log; the first was viewed.
-fn fills_three<K: HeapName, R: Wait>(
-    rt: &R,
-    mut mutator: Mutator<K, MemDevice>,
-) -> Option<Mutator<K, MemDevice>> {
-    if !makes(rt, &mut mutator, 1016, 0)
-        || !makes(rt, &mut mutator, 1016, 1)
-        || !makes(rt, &mut mutator, 1016, 2)
-    {
-        return None;
-    }
-    let mut scope = mutator.open();
-    if !reads(&mut scope, 0, [0; 8]) {
-        return None;
-    }
-    Some(scope.close())
+// Whether three objects fill a log each, and the first is viewed.
+fn fills_three<K: HeapName, R: Wait>(rt: &R, lent: &mut Lent<K, MemDevice>) -> bool {
+    lent.makes(rt, 1016, 0)
+        && lent.makes(rt, 1016, 1)
+        && lent.makes(rt, 1016, 2)
+        && lent.opened(|scope| reads(scope, 0, [0; 8]))
 }
 
 // Whether a round of the first two logs comes to where objects leave.
@@ -180,29 +157,27 @@ fn sends_it_far<K: HeapName, D: Device + Drop>(book: &mut Evacuator<K, D>) -> bo
 }
 
 // The owner's own move takes the last free log, so that the round has no room for a viewed object.
-fn hot_round<K: HeapName, R: Wait>(rt: &R, alloc: Global, blank: Blank<MemDevice>) -> bool
-    requires { blank.heap ≡ K.heap }
-{
-    let Ok((heap, mut mutators)) = Heap::<K, MemDevice>::new(alloc, blank) else {
-        return false;
-    };
-    let Some(mutator) = mutators.pop() else {
-        return false;
-    };
-    let Some(mutator) = fills_three(rt, mutator) else {
-        return false;
-    };
-    if !comes_to_leaving(&mut *heap.book(rt)) {
-        return false;
+struct HotRound;
+
+impl Trial<MemDevice> for HotRound {
+    fn holds<K: HeapName, R: Wait>(
+        &self,
+        rt: &R,
+        heap: &Heap<K, MemDevice>,
+        lent: &mut Lent<K, MemDevice>,
+    ) -> bool {
+        fills_three(rt, lent)
+            && of_book(rt, heap, comes_to_leaving)
+            && lent.opened(|scope| {
+                reads_slowly(rt, scope, 1, [0; 8]) && of_book(rt, heap, sends_it_far)
+            })
     }
-    let mut scope = mutator.open();
-    reads_slowly(rt, &mut scope, 1, [0; 8]) && sends_it_far(&mut *heap.book(rt))
 }
 
 #[test]
 fn a_viewed_object_without_room_goes_far(rt: HostRuntime) -> Result<(), Fail> {
     let alloc = rt.alloc();
-    assert!(rt; hot_round::<Brand, _>(&rt, alloc, blank(&rt, sized(4, 1))?));
+    assert!(rt; try_one(&rt, alloc, blank(&rt, sized(4, 1))?, &HotRound));
     Ok(())
 }
 
@@ -216,36 +191,37 @@ fn finds<K: HeapName>(scope: &mut Scope<K, MemDevice>, pointer: u16, word: u64) 
     scope.try_view(pointer) == Ok(Tried::Slow(word))
 }
 
+// Whether the round has nothing to do but to give the log back.
+fn gives_back<K: HeapName, D: Device + Drop>(book: &mut Evacuator<K, D>) -> bool {
+    deals(book, 9, [0, 0, 0, 1], true)
+}
+
+// Whether one step finds the word of the marked object, and a view has it moved.
+fn moves_marked<K: HeapName, R: Wait>(rt: &R, scope: &mut Scope<K, MemDevice>) -> bool {
+    finds(scope, 0, 0xe400_0000_0001_0008) && reads_slowly(rt, scope, 0, EIGHT)
+}
+
 // One step finds the word of a marked object, and a view has the object moved.
-fn marked_object<K: HeapName, R: Wait>(rt: &R, alloc: Global, blank: Blank<MemDevice>) -> bool
-    requires { blank.heap ≡ K.heap }
-{
-    let Ok((heap, mut mutators)) = Heap::<K, MemDevice>::new(alloc, blank) else {
-        return false;
-    };
-    let Some(mut mutator) = mutators.pop() else {
-        return false;
-    };
-    if !makes(rt, &mut mutator, 8, 0) || !makes(rt, &mut mutator, 1016, 1) {
-        return false;
+struct MarkedObject;
+
+impl Trial<MemDevice> for MarkedObject {
+    fn holds<K: HeapName, R: Wait>(
+        &self,
+        rt: &R,
+        heap: &Heap<K, MemDevice>,
+        lent: &mut Lent<K, MemDevice>,
+    ) -> bool {
+        lent.makes(rt, 8, 0)
+            && lent.makes(rt, 1016, 1)
+            && lent.opened(writes_first)
+            && of_book(rt, heap, marks_first)
+            && lent.opened(|scope| moves_marked(rt, scope) && of_book(rt, heap, gives_back))
     }
-    let mut scope = mutator.open();
-    if !writes_first(&mut scope) {
-        return false;
-    }
-    let mutator = scope.close();
-    if !marks_first(&mut *heap.book(rt)) {
-        return false;
-    }
-    let mut scope = mutator.open();
-    finds(&mut scope, 0, 0xe400_0000_0001_0008)
-        && reads_slowly(rt, &mut scope, 0, EIGHT)
-        && deals(&mut *heap.book(rt), 9, [0, 0, 0, 1], true)
 }
 
 #[test]
 fn a_marked_object_is_moved_for_a_view(rt: HostRuntime) -> Result<(), Fail> {
     let alloc = rt.alloc();
-    assert!(rt; marked_object::<Brand, _>(&rt, alloc, blank(&rt, sized(4, 1))?));
+    assert!(rt; try_one(&rt, alloc, blank(&rt, sized(4, 1))?, &MarkedObject));
     Ok(())
 }

@@ -7,8 +7,8 @@ use far_policy::Policy;
 use far_word::Refused;
 use std::sync::Wait;
 
-// So many objects moved, sent far and dropped, and logs given back.
-fn progress(counts: [u64; 4], done: bool) -> Progress {
+/// So many objects moved, sent far and dropped, and logs given back.
+pub(super) fn progress(counts: [u64; 4], done: bool) -> Progress {
     let [moved, far, dropped, freed] = counts;
     Progress {
         moved,

@@ -1,0 +1,321 @@
+//! When the lock is let go, as another thread sees it that keeps taking it: between two turns of a round; not between bringing an object and its pin.
+
+use crate::tests::flag::Tally;
+use crate::tests::lend::{CrewTrial, Lent, try_all};
+use crate::tests::looks::{blank, is_marked, is_unpinned, sized};
+use far_device::MemDevice;
+use far_evac::{LogKind, Phase, RoundEnd};
+use far_heap::{Evacuator, Heap, HeapName, Mutator, Scope, Tried};
+use far_policy::Oldest;
+use std::alloc::Global;
+use std::sync::Wait;
+use std::test::Fail;
+use std::thread::{Threads, join};
+
+/// How many objects there are, each of which takes 16 bytes.
+const OBJECTS: u16 = 96;
+
+/// How many rounds are made at most, until one was seen between its turns.
+const ROUNDS: u64 = 2_000;
+
+/// How often all objects are sent far and viewed.
+const PASSES: u64 = 12;
+
+/// How often a thread looks at most.
+const LOOKS: u64 = 1_000_000_000;
+
+/// Turns enough for any round.
+const TURNS: u64 = 1_000_000;
+
+// Makes all objects.
+fn makes_all<K: HeapName, R: Wait>(rt: &R, lent: &mut Lent<K, MemDevice>) -> bool {
+    for pointer in 0..OBJECTS {
+        if !lent.makes(rt, 8, pointer) {
+            return false;
+        }
+    }
+    true
+}
+
+// Views all objects, wherever they are.
+fn views_all<K: HeapName, R: Wait>(rt: &R, scope: &mut Scope<K, MemDevice>) -> bool {
+    for pointer in 0..OBJECTS {
+        if scope.view(rt, pointer).is_err() {
+            return false;
+        }
+    }
+    true
+}
+
+// Whether a round of all sealed logs is done.
+fn makes_round<K: HeapName, R: Wait>(rt: &R, heap: &Heap<K, MemDevice>) -> bool {
+    matches!(
+        heap.run_round(rt, &mut Oldest, 64, TURNS),
+        Ok(RoundEnd::Done(_))
+    )
+}
+
+/// How often a round was seen in the midst of marking, and in the midst of dealing with objects; and whether no more are made.
+#[derive(Drop)]
+struct Seen {
+    marking: Tally,
+    leaving: Tally,
+    over: Tally,
+}
+
+impl Seen {
+    // Whether both were seen.
+    fn has_both(&self) -> bool {
+        self.marking.count() > 0 && self.leaving.count() > 0
+    }
+}
+
+// Makes rounds, in which each object moves, until both were seen: whether each was done.
+fn keeps_rounding<K: HeapName, R: Wait>(
+    rt: &R,
+    heap: &Heap<K, MemDevice>,
+    lent: &mut Lent<K, MemDevice>,
+    seen: &Seen,
+) -> bool {
+    for _ in 0..ROUNDS {
+        if seen.has_both() {
+            break;
+        }
+        if !lent.opened(|scope| views_all(rt, scope)) || !makes_round(rt, heap) {
+            return false;
+        }
+    }
+    true
+}
+
+// Whether some object of a log that is to be emptied has left it.
+fn has_left_some<K: HeapName>(book: &mut Evacuator<K, MemDevice>) -> bool {
+    for log in 0..8u8 {
+        if (log as u64) < book.shape().logs {
+            let state = book.log(log);
+            if state.kind == LogKind::Chosen && state.row.dead > 0 {
+                return true;
+            }
+        }
+    }
+    false
+}
+
+// Whether some object is marked for a round.
+fn has_marked_some<K: HeapName>(book: &mut Evacuator<K, MemDevice>) -> bool {
+    for pointer in 0..OBJECTS {
+        if is_marked(book, pointer) {
+            return true;
+        }
+    }
+    false
+}
+
+// Counts what is seen of a round.
+fn look<K: HeapName>(book: &mut Evacuator<K, MemDevice>, seen: &Seen) {
+    match book.phase() {
+        Phase::Marking => {
+            if has_marked_some(book) {
+                seen.marking.raise();
+            }
+        }
+        Phase::Evacuating => {
+            if has_left_some(book) {
+                seen.leaving.raise();
+            }
+        }
+        _ => {}
+    }
+}
+
+// Looks until no more rounds are made.
+fn keeps_looking<K: HeapName, R: Wait>(rt: &R, heap: &Heap<K, MemDevice>, seen: &Seen) {
+    for _ in 0..LOOKS {
+        if seen.over.count() > 0 {
+            break;
+        }
+        look(&mut *heap.book(rt), seen);
+    }
+}
+
+// Rounds beside a thread that keeps taking the lock.
+struct SeenBetween;
+
+impl CrewTrial<MemDevice> for SeenBetween {
+    fn holds<K: HeapName + Send + Sync, R: Threads + Wait + Sync>(
+        &self,
+        rt: &R,
+        _alloc: Global,
+        heap: &Heap<K, MemDevice>,
+        mut mutators: Vec<Mutator<K, MemDevice>>,
+    ) -> bool {
+        let mut lent = Lent::last_of(&mut mutators);
+        if !makes_all(rt, &mut lent) {
+            return false;
+        }
+        let seen = Seen {
+            marking: Tally::new(),
+            leaving: Tally::new(),
+            over: Tally::new(),
+        };
+        let (told, worker) = (&seen, &mut lent);
+        let (done, _) = join(
+            rt,
+            move || {
+                let done = keeps_rounding(rt, heap, worker, told);
+                told.over.raise();
+                done
+            },
+            move || keeps_looking(rt, heap, told),
+        );
+        done && seen.has_both()
+    }
+}
+
+// A log has 64 objects, and a turn deals with 16: so there are moments between two turns.
+#[test]
+fn the_lock_is_let_go_between_turns(rt: HostRuntime) -> Result<(), Fail> {
+    let alloc = rt.alloc();
+    assert!(rt; try_all(&rt, alloc, blank(&rt, sized(8, 1))?, &SeenBetween));
+    Ok(())
+}
+
+// Whether a new object of a whole log is made and dropped, so that the log before it is sealed.
+fn seals<K: HeapName, R: Wait>(rt: &R, mutator: &mut Mutator<K, MemDevice>) -> bool {
+    match mutator.alloc(rt, 1016, 1) {
+        Ok(pointer) => mutator.drop_object(rt, pointer).is_ok(),
+        Err(_) => false,
+    }
+}
+
+// Whether two rounds are made: the first moves what was viewed, the next sends it far.
+fn sends_all_far<K: HeapName, R: Wait>(
+    rt: &R,
+    heap: &Heap<K, MemDevice>,
+    lent: &mut Lent<K, MemDevice>,
+) -> bool {
+    lent.closed(|mutator| seals(rt, mutator))
+        && makes_round(rt, heap)
+        && lent.closed(|mutator| seals(rt, mutator))
+        && makes_round(rt, heap)
+}
+
+/// Which view is made: an odd count while one is, of the pointer of half of it. How often such an object was near and not pinned; and whether no
+/// more are made.
+#[derive(Drop)]
+struct Views {
+    turn: Tally,
+    unpinned: Tally,
+    over: Tally,
+}
+
+// The pointer that is viewed at this count.
+fn pointer_at(turn: u64) -> u16 {
+    (turn / 2 % OBJECTS as u64) as u16
+}
+
+// Views an object, which is far: that is told as long as the call lasts.
+fn views_far<K: HeapName, R: Wait>(rt: &R, scope: &mut Scope<K, MemDevice>, views: &Views) -> bool {
+    let pointer = pointer_at(views.turn.count());
+    if !matches!(scope.try_view(pointer), Ok(Tried::Slow(_))) {
+        return false;
+    }
+    views.turn.raise();
+    let found = scope.view(rt, pointer).is_ok();
+    views.turn.raise();
+    found
+}
+
+// Views all objects, which are far, in their order.
+fn views_all_far<K: HeapName, R: Wait>(
+    rt: &R,
+    scope: &mut Scope<K, MemDevice>,
+    views: &Views,
+) -> bool {
+    for _ in 0..OBJECTS {
+        if !views_far(rt, scope, views) {
+            return false;
+        }
+    }
+    true
+}
+
+// Has all objects sent far and brought back, many times.
+fn keeps_viewing<K: HeapName, R: Wait>(
+    rt: &R,
+    heap: &Heap<K, MemDevice>,
+    lent: &mut Lent<K, MemDevice>,
+    views: &Views,
+) -> bool {
+    for _ in 0..PASSES {
+        if views.unpinned.count() > 0 {
+            break;
+        }
+        if !sends_all_far(rt, heap, lent) || !lent.opened(|scope| views_all_far(rt, scope, views)) {
+            return false;
+        }
+    }
+    true
+}
+
+// Counts where an object is near and not pinned while the view that brought it hasn't returned.
+fn watch<K: HeapName>(book: &mut Evacuator<K, MemDevice>, views: &Views, turn: u64) {
+    if is_unpinned(book, pointer_at(turn)) && views.turn.count() == turn {
+        views.unpinned.raise();
+    }
+}
+
+// Watches each view, under the lock.
+fn keeps_watching<K: HeapName, R: Wait>(rt: &R, heap: &Heap<K, MemDevice>, views: &Views) {
+    for _ in 0..LOOKS {
+        if views.over.count() > 0 {
+            break;
+        }
+        let turn = views.turn.count();
+        if turn % 2 == 1 {
+            watch(&mut *heap.book(rt), views, turn);
+        }
+    }
+}
+
+// Views beside a thread that keeps taking the lock.
+struct PinnedAtOnce;
+
+impl CrewTrial<MemDevice> for PinnedAtOnce {
+    fn holds<K: HeapName + Send + Sync, R: Threads + Wait + Sync>(
+        &self,
+        rt: &R,
+        _alloc: Global,
+        heap: &Heap<K, MemDevice>,
+        mut mutators: Vec<Mutator<K, MemDevice>>,
+    ) -> bool {
+        let mut lent = Lent::last_of(&mut mutators);
+        if !makes_all(rt, &mut lent) {
+            return false;
+        }
+        let views = Views {
+            turn: Tally::new(),
+            unpinned: Tally::new(),
+            over: Tally::new(),
+        };
+        let (told, worker) = (&views, &mut lent);
+        let (done, _) = join(
+            rt,
+            move || {
+                let done = keeps_viewing(rt, heap, worker, told);
+                told.over.raise();
+                done
+            },
+            move || keeps_watching(rt, heap, told),
+        );
+        done && views.unpinned.count() == 0
+    }
+}
+
+// What a view has brought near is pinned under the same hold of the lock.
+#[test]
+fn a_fetched_object_is_pinned_before_the_lock_is_let_go(rt: HostRuntime) -> Result<(), Fail> {
+    let alloc = rt.alloc();
+    assert!(rt; try_all(&rt, alloc, blank(&rt, sized(16, 1))?, &PinnedAtOnce));
+    Ok(())
+}

@@ -1,0 +1,113 @@
+//! A drop beside a running round frees its cell at once, in each phase of the round.
+
+use crate::tests::lend::{Lent, Trial, of_book, try_one};
+use crate::tests::looks::{blank, is_gone, sized};
+use crate::tests::steps::{deals, is_clear, marks, selects};
+use far_device::MemDevice;
+use far_evac::Phase;
+use far_heap::{Evacuator, Heap, HeapName, Scope};
+use far_policy::Oldest;
+use std::sync::Wait;
+use std::test::Fail;
+
+// Six objects in the first log, and one that fills the next.
+fn makes_seven<K: HeapName, R: Wait>(rt: &R, lent: &mut Lent<K, MemDevice>) -> bool {
+    for pointer in 0..6u16 {
+        if !lent.makes(rt, 8, pointer) {
+            return false;
+        }
+    }
+    lent.makes(rt, 1016, 6)
+}
+
+// Whether an object is dropped, and its cell is free then, in this phase.
+fn frees<K: HeapName, R: Wait>(
+    rt: &R,
+    heap: &Heap<K, MemDevice>,
+    lent: &mut Lent<K, MemDevice>,
+    pointer: u16,
+    phase: Phase,
+) -> bool {
+    lent.drops(rt, pointer)
+        && of_book(
+            rt,
+            heap,
+            |book| book.phase() == phase && is_gone(book, pointer),
+        )
+}
+
+// The same by an open scope.
+fn frees_in_scope<K: HeapName, R: Wait>(
+    rt: &R,
+    heap: &Heap<K, MemDevice>,
+    scope: &mut Scope<K, MemDevice>,
+    pointer: u16,
+    phase: Phase,
+) -> bool {
+    scope.drop_object(rt, pointer) == Ok(())
+        && of_book(
+            rt,
+            heap,
+            |book| book.phase() == phase && is_gone(book, pointer),
+        )
+}
+
+// The first two of what a chosen log has.
+fn frees_two<K: HeapName, R: Wait>(
+    rt: &R,
+    heap: &Heap<K, MemDevice>,
+    lent: &mut Lent<K, MemDevice>,
+    first: u16,
+    phase: Phase,
+) -> bool {
+    frees(rt, heap, lent, first, phase)
+        && lent.opened(|scope| frees_in_scope(rt, heap, scope, first.saturating_add(1), phase))
+}
+
+// Whether a round of the first log begins, and has marked one object.
+fn begins<K: HeapName>(book: &mut Evacuator<K, MemDevice>) -> bool {
+    selects(book, &mut Oldest, 1, &[0]) && marks(book, 1, 1, None)
+}
+
+// Whether the round waits for nobody, and has come to where objects leave.
+fn comes_to_leaving<K: HeapName>(book: &mut Evacuator<K, MemDevice>) -> bool {
+    is_clear(book)
+}
+
+// Whether nothing is left to be marked.
+fn waits<K: HeapName>(book: &mut Evacuator<K, MemDevice>) -> bool {
+    marks(book, 9, 4, Some(1))
+}
+
+// Whether the log is given back, with nothing that lives there.
+fn gives_back<K: HeapName>(book: &mut Evacuator<K, MemDevice>) -> bool {
+    deals(book, 9, [0, 0, 0, 1], true)
+}
+
+// A round whose objects are dropped in its phases.
+struct DroppedInRound;
+
+impl Trial<MemDevice> for DroppedInRound {
+    fn holds<K: HeapName, R: Wait>(
+        &self,
+        rt: &R,
+        heap: &Heap<K, MemDevice>,
+        lent: &mut Lent<K, MemDevice>,
+    ) -> bool {
+        makes_seven(rt, lent)
+            && of_book(rt, heap, begins)
+            && frees_two(rt, heap, lent, 0, Phase::Marking)
+            && of_book(rt, heap, waits)
+            && frees_two(rt, heap, lent, 2, Phase::Waiting)
+            && of_book(rt, heap, comes_to_leaving)
+            && frees_two(rt, heap, lent, 4, Phase::Evacuating)
+            && of_book(rt, heap, gives_back)
+    }
+}
+
+#[test]
+fn a_drop_beside_a_round_frees_its_cell(rt: HostRuntime) -> Result<(), Fail> {
+    let alloc = rt.alloc();
+    assert!(rt; try_one(&rt, alloc, blank(&rt, sized(4, 1))?, &DroppedInRound));
+    Ok(())
+}

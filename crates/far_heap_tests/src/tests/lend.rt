@@ -1,0 +1,220 @@
+//! A heap and its mutators, made once and lent to what is tried on them, so that no test owes their drop at each of its exits.
+
+ghost use Rattle.std.specs.Prelude.{◌≡◌};
+
+use far_device::Device;
+use far_heap::{Blank, Evacuator, Heap, HeapName, Mutator, Scope, Tried, View};
+use far_word::Refused;
+use std::alloc::Global;
+use std::marker::Brand;
+use std::sync::Wait;
+use std::thread::Threads;
+
+/// A mutator that is lent.
+#[derive(Drop)]
+pub(super) struct Lent<K: HeapName, D: Device + Drop> {
+    mutator: Option<Mutator<K, D>>,
+}
+
+impl<K: HeapName, D: Device + Drop> Lent<K, D> {
+    /// The last of these mutators, if there is one.
+    pub(super) fn last_of(mutators: &mut Vec<Mutator<K, D>>) -> Lent<K, D> {
+        Lent {
+            mutator: mutators.pop(),
+        }
+    }
+
+    /// Whether this is so of the mutator, whose scope is closed.
+    pub(super) fn closed<F: FnOnce(&mut Mutator<K, D>) -> bool>(&mut self, is_so: F) -> bool
+        requires { F.IsAlwaysCallable is_so }
+    {
+        match &mut self.mutator {
+            Some(mutator) => is_so(mutator),
+            None => false,
+        }
+    }
+
+    /// Whether this is so of its scope, which is opened before and closed after that.
+    pub(super) fn opened<F: FnOnce(&mut Scope<K, D>) -> bool>(&mut self, is_so: F) -> bool
+        requires { F.IsAlwaysCallable is_so }
+    {
+        match self.mutator.take() {
+            Some(mutator) => {
+                let mut scope = mutator.open();
+                let found = is_so(&mut scope);
+                self.mutator = Some(scope.close());
+                found
+            }
+            None => false,
+        }
+    }
+
+    /// Whether this is so of its scope, which is dropped unclosed then; the mutator is gone with it.
+    pub(super) fn left_open<F: FnOnce(&mut Scope<K, D>) -> bool>(&mut self, is_so: F) -> bool
+        requires { F.IsAlwaysCallable is_so }
+    {
+        match self.mutator.take() {
+            Some(mutator) => is_so(&mut mutator.open()),
+            None => false,
+        }
+    }
+
+    /// A view of an object, if one step gives it in a scope of its own.
+    pub(super) fn viewed(&mut self, pointer: u16) -> Option<View> {
+        let Some(mutator) = self.mutator.take() else {
+            return None;
+        };
+        let mut scope = mutator.open();
+        let tried = scope.try_view(pointer);
+        self.mutator = Some(scope.close());
+        match tried {
+            Ok(Tried::View(view)) => Some(view),
+            _ => None,
+        }
+    }
+
+    /// Whether a new object of this length gets this pointer.
+    pub(super) fn makes<R: Wait>(&mut self, rt: &R, len: u16, pointer: u16) -> bool {
+        match &mut self.mutator {
+            Some(mutator) => mutator.alloc(rt, len, 1) == Ok(pointer),
+            None => false,
+        }
+    }
+
+    /// Whether a new object of this length is refused for this reason.
+    pub(super) fn makes_none<R: Wait>(&mut self, rt: &R, len: u16, why: Refused) -> bool {
+        match &mut self.mutator {
+            Some(mutator) => mutator.alloc(rt, len, 1) == Err(why),
+            None => false,
+        }
+    }
+
+    /// Whether an object is dropped.
+    pub(super) fn drops<R: Wait>(&mut self, rt: &R, pointer: u16) -> bool {
+        match &mut self.mutator {
+            Some(mutator) => mutator.drop_object(rt, pointer) == Ok(()),
+            None => false,
+        }
+    }
+}
+
+/// Whether this is so of the book of a heap, under the lock.
+pub(super) fn of_book<
+    K: HeapName,
+    D: Device + Drop,
+    R: Wait,
+    F: FnOnce(&mut Evacuator<K, D>) -> bool,
+>(rt: &R, heap: &Heap<K, D>, is_so: F) -> bool
+    requires { F.IsAlwaysCallable is_so }
+{
+    is_so(&mut *heap.book(rt))
+}
+
+/// What is tried on a heap of one mutator.
+pub(super) trait Trial<D: Device + Drop> {
+    /// Whether it comes out as it should.
+    fn holds<K: HeapName, R: Wait>(&self, rt: &R, heap: &Heap<K, D>, lent: &mut Lent<K, D>) -> bool;
+}
+
+/// What is tried on a heap of two.
+pub(super) trait PairTrial<D: Device + Drop> {
+    /// Whether it comes out as it should.
+    fn holds<K: HeapName, R: Wait>(
+        &self,
+        rt: &R,
+        heap: &Heap<K, D>,
+        first: &mut Lent<K, D>,
+        second: &mut Lent<K, D>,
+    ) -> bool;
+}
+
+/// What is tried in threads, on a heap of any number.
+pub(super) trait CrewTrial<D: Device + Drop> {
+    /// Whether it comes out as it should.
+    fn holds<K: HeapName + Send + Sync, R: Threads + Wait + Sync>(
+        &self,
+        rt: &R,
+        alloc: Global,
+        heap: &Heap<K, D>,
+        mutators: Vec<Mutator<K, D>>,
+    ) -> bool;
+}
+
+fn lend_one<K: HeapName, D: Device + Drop, R: Wait, T: Trial<D>>(
+    rt: &R,
+    alloc: Global,
+    blank: Blank<D>,
+    trial: &T,
+) -> bool
+    requires { blank.heap ≡ K.heap }
+{
+    match Heap::<K, D>::new(alloc, blank) {
+        Ok((heap, mut mutators)) => {
+            let mut lent = Lent::last_of(&mut mutators);
+            trial.holds(rt, &heap, &mut lent)
+        }
+        Err(_) => false,
+    }
+}
+
+fn lend_two<K: HeapName, D: Device + Drop, R: Wait, T: PairTrial<D>>(
+    rt: &R,
+    alloc: Global,
+    blank: Blank<D>,
+    trial: &T,
+) -> bool
+    requires { blank.heap ≡ K.heap }
+{
+    match Heap::<K, D>::new(alloc, blank) {
+        Ok((heap, mut mutators)) => {
+            let mut second = Lent::last_of(&mut mutators);
+            let mut first = Lent::last_of(&mut mutators);
+            trial.holds(rt, &heap, &mut first, &mut second)
+        }
+        Err(_) => false,
+    }
+}
+
+fn lend_all<K: HeapName + Send + Sync, D: Device + Drop, R: Threads + Wait + Sync, T: CrewTrial<D>>(
+    rt: &R,
+    alloc: Global,
+    blank: Blank<D>,
+    trial: &T,
+) -> bool
+    requires { blank.heap ≡ K.heap }
+{
+    match Heap::<K, D>::new(alloc, blank) {
+        Ok((heap, mutators)) => trial.holds(rt, alloc, &heap, mutators),
+        Err(_) => false,
+    }
+}
+
+/// Whether a trial on a heap of these parts comes out as it should.
+pub(super) fn try_one<D: Device + Drop, R: Wait, T: Trial<D>>(
+    rt: &R,
+    alloc: Global,
+    blank: Blank<D>,
+    trial: &T,
+) -> bool {
+    lend_one::<Brand, D, R, T>(rt, alloc, blank, trial)
+}
+
+/// The same of a heap of two mutators.
+pub(super) fn try_two<D: Device + Drop, R: Wait, T: PairTrial<D>>(
+    rt: &R,
+    alloc: Global,
+    blank: Blank<D>,
+    trial: &T,
+) -> bool {
+    lend_two::<Brand, D, R, T>(rt, alloc, blank, trial)
+}
+
+/// The same in threads.
+pub(super) fn try_all<D: Device + Drop, R: Threads + Wait + Sync, T: CrewTrial<D>>(
+    rt: &R,
+    alloc: Global,
+    blank: Blank<D>,
+    trial: &T,
+) -> bool {
+    lend_all::<Brand, D, R, T>(rt, alloc, blank, trial)
+}
