@@ -1,12 +1,12 @@
 -- MOVE set anew, and then again.
-use Rattle.std.proofs.Common.{◌≡◌, ℕ, ◌+◌, ◌%◌, true, false, Option, None, List, length, get_or, set, refl, sym, ap, subst, ◌∙◌, inl, inr, arith}
+use Rattle.std.proofs.Common.{◌≡◌, ◌⊎◌, ℕ, ◌+◌, ◌%◌, Bool, true, false, Option, None, List, length, get_or, set, refl, sym, ap, subst, ◌∙◌, inl, inr, arith}
 use Rattle.std.specs.Prelude.{IfNone}
 use Rattle.std.proofs.lemmas.Bool.{cases_lt}
 use Rattle.std.proofs.lemmas.Grind.{get_or-set_at}
 use Rattle.std.proofs.lemmas.List.{length-set, set-get_or, set-set, set_past}
 use Rattle.far_word.specs.declared.sizes.TheConstants.{CELLS}
 use Rattle.far_word.specs.declared.refused.Refused.{Refused}
-use Rattle.far_word.specs.declared.refused.Refused.TheVariants.{NotHeld}
+use Rattle.far_word.specs.declared.refused.Refused.TheVariants.{NoRoom, NotHeld}
 use Rattle.far_heap.specs.declared.view.Tried.{Tried}
 use Rattle.far_heap.specs.declared.view.Tried.TheVariants.{View as Viewed, Slow}
 use Rattle.far_heap.specs.declared.view.View.{View}
@@ -35,14 +35,23 @@ asks_to_view p a b c x is = (x.0, is ∙ ap (viewing p) x.1)
 
 -- ---- tries under the lock, one after the other
 module _ (p : ℕ) (a b n : Mine) (x : Asks p a b) where
-  pub asks_slow : (word : ℕ) → ((m : Mine) × Asks p b m × TriedSo p m (Slow word) n) → Asks p a n
-  asks_slow word (m, asks, slow) = asks_then p a b n x (subst (Asks p b) (sym slow.1) asks)
+  pub asks_pinned : (viewed : Bool) (r : Bool) → r ≡ viewed → (viewed ≡ true → n ≡ viewing p b) → r ≡ true → AsksToView p a n
+  asks_pinned viewed r is pinned h = asks_to_view p a b n x (pinned (sym is ∙ h))
 
-  pub asks_viewed : (view : View) → ((m : Mine) × Asks p b m × TriedSo p m (Viewed view) n) → (view ≡ view_of p a) × AsksToView p a n
-  asks_viewed view (m, asks, viewed) = (viewed.0 ∙ ap (view_of p) asks.1 ∙ ap (view_of p) x.1, asks_to_view p a m n (asks_then p a b m x asks) viewed.1)
+  pub asks_unpinned : n ≡ b → Asks p a n
+  asks_unpinned same = subst (Asks p a) (sym same) x
 
-  pub asks_refused : (why : Refused) → IsUnbrought why × Asks p b n → IsUnbrought why × Asks p a n
-  asks_refused why (unbrought, asks) = (unbrought, asks_then p a b n x asks)
+  pub asks_and_views : AsksToView p b n → AsksToView p a n
+  asks_and_views y = let t = asks_then p a b (asking p y.0 b) x (y.0, refl) in (t.0, y.1 ∙ ap (viewing p) t.1)
+
+  pub asks_refused : (why : Refused) → IsUnbrought why → Asks p b n → IsUnbrought why × Asks p a n
+  asks_refused why unbrought asks = (unbrought, asks_then p a b n x asks)
+
+  -- the first was refused, or one for want of room
+  pub unasked_so : (first : Bool) (why : Refused) → (first ≡ true → b ≡ a) → (first ≡ true) ⊎ (why ≡ NoRoom) → (why ≡ NoRoom) ⊎ (n ≡ b) → (why ≡ NoRoom) ⊎ (n ≡ a)
+  unasked_so first why begins (inl is) (inl room) = inl room
+  unasked_so first why begins (inl is) (inr same) = inr (same ∙ begins is)
+  unasked_so first why begins (inr room) kept = inl room
 
 -- ---- a try before the lock is taken
 pub tried_unheld : (p : ℕ) (m n : Mine) (why : Refused) → (why ≡ NotHeld) × (uses m p ≡ false) × (n ≡ m) → IsNoView m p why × Asks p m n

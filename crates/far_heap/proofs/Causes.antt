@@ -1,12 +1,12 @@
 -- What the book knows of free cells, of room and of what it can't bring is so in each state that the words may be in.
-use Rattle.std.proofs.Common.{◌≡◌, ℕ, Bool, true, false, cond, refl, ap, subst, sym, ◌∙◌, Option, Some, None, is_some, Result, Ok, Err}
+use Rattle.std.proofs.Common.{◌≡◌, ◌⊎◌, inl, inr, ℕ, Bool, true, false, cond, refl, ap, subst, sym, ◌∙◌, Option, Some, None, is_some, Result, Ok, Err}
 use Rattle.std.specs.Prelude.{IfOk, IfErr, IsSome}
 use Rattle.std.proofs.lemmas.Bool.{false≢true, true≢false}
 use Rattle.far_word.specs.declared.pointer.Place.{Place}
 use Rattle.far_word.specs.declared.pointer.PtrWord.{PtrWord}
 use Rattle.far_word.specs.declared.pointer.PtrWord.TheVariants.{Free, Near, Far}
 use Rattle.far_word.specs.declared.refused.Refused.{Refused}
-use Rattle.far_word.specs.declared.refused.Refused.TheVariants.{Damaged, Device, Memory, NoRoom}
+use Rattle.far_word.specs.declared.refused.Refused.TheVariants.{Damaged, Device, Memory, NoPointer, NoRoom}
 use Rattle.far_word.specs.Pointer.{read_of}
 use Rattle.far_word.specs.Sizes.{size_of}
 use Rattle.far_core.specs.state.Room.{room}
@@ -19,8 +19,13 @@ use Rattle.far_book.specs.book.Dealing.{goal, goal_of}
 use Rattle.far_book.specs.book.Fetching.{RefusesFetch, far_len, room_for}
 use Rattle.far_book.specs.book.Ledger.{IsLowestFree}
 use Rattle.far_book.proofs.region.Founds.{free_found, free_known}
-use Rattle.far_heap.specs.BookHad.{BookHad, HasNowhere, HasRoom, IsCause, LacksRoom, MayCome, NoneFree, Unbrought}
-use Rattle.far_heap.specs.Helping.{asks_move, says_far}
+use Rattle.far_book.proofs.region.Retires.{retired_is}
+use Rattle.far_book.specs.book.Effects.{retired}
+use Rattle.far_core.proofs.Put.{put_same}
+use Rattle.far_core.specs.events.Naming.{is_dropped}
+use Rattle.far_evac.specs.EvacOf.{EvacOf}
+use Rattle.far_heap.specs.BookHad.{BookDid, BookHad, HasNowhere, HasRoom, IsCause, IsFreed, LacksRoom, MayCome, NoneFree, Places, Unbrought}
+use Rattle.far_heap.specs.Helping.{PlacesNew, asks_move, core_of, says_far}
 use Rattle.far_heap.specs.HeapId.{HeapId, heap_of}
 
 -- ---- an object that can't be brought, by one word of it, and by another that was found since
@@ -73,6 +78,10 @@ near_cause s None is none = absurd (false≢true is)
 near_cause s (Some Free) is none = absurd (false≢true is)
 near_cause s (Some (Near n d at m)) is none = let x = wanted m.evac (room s (size_of n) false) at none in (is, x.0, x.1)
 near_cause s (Some (Far n d m)) is none = absurd (false≢true is)
+
+-- the cell of what was retired
+pub retired_free : (s t : State) (p : ℕ) → is_dropped (read_of (s.cell p)) ≡ true → t ≡ record (retired s p) { word = t.word } → t.cell p ≡ 0
+retired_free s t p dropped is = ap (λ (u : State). u.cell p) is ∙ ap (λ (u : State). u.cell p) (retired_is s p dropped) ∙ put_same s.cell p 0 p refl
 
 module _ (o x : State) (shows : Shows o x) where
   lowest_shown : (m : ℕ) (cell : Option ℕ) → IsLowestFree o m cell → IsLowestFree x m cell
@@ -142,6 +151,15 @@ module _ {D : Type 0} (heap : HeapId) (seat : BookSeat D) (named : heap_of seat 
     there = seat_there seat;
   }
 
+  pub freed : (p : ℕ) → (seat_view seat).cell p ≡ 0 → BookHad D heap (IsFreed p)
+  freed p zero = record {
+    seat = seat;
+    named = named;
+    known = zero;
+    is = λ x may. free_found ((seat_view seat).cell p) (x.cell p) ((seat_shown seat x may).cells p) zero;
+    there = seat_there seat;
+  }
+
   unbrought : (p : ℕ) (why : Refused) → Unbrought p why (seat_view seat) → BookHad D heap (Unbrought p why)
   unbrought p why cause = record {
     seat = seat;
@@ -162,3 +180,14 @@ module _ {D : Type 0} (heap : HeapId) (seat : BookSeat D) (named : heap_of seat 
       IfErr answer (λ _. goal (seat_view seat) p ≡ None) → IfErr answer (λ why. BookHad D heap (Unbrought p why))
   move_cause p (Ok found) is why none = tt
   move_cause p (Err r) is why none = subst (λ w. BookHad D heap (Unbrought p w)) (sym why) (unbrought p NoRoom (near_cause (seat_view seat) (read_of ((seat_view seat).cell p)) is none))
+
+-- ---- what a placing did
+module _ {D : Type 0} (m len ds : ℕ) (e f : EvacOf (BookSeat D) D) where
+  no_place : (why : Refused) → (why ≡ NoPointer) ⊎ (why ≡ NoRoom) → (Err why ≡ Err NoPointer → NoneFree m (core_of e)) → (Err why ≡ Err NoRoom → LacksRoom m len (core_of e)) → f ≡ e → Places m len ds (Err why) e f
+  no_place why (inl is) none full same = subst (λ w. Places m len ds (Err w) e f) (sym is) (none (ap Err is), same)
+  no_place why (inr is) none full same = subst (λ w. Places m len ds (Err w) e f) (sym is) (full (ap Err is), same)
+
+  pub places : (r : Result ℕ Refused) → IfOk r (λ p. IsLowestFree (core_of e) m (Some p)) → IfOk r (λ p. IsSome (room (core_of e) (size_of len) true)) → IfOk r (λ p. PlacesNew e f p len ds) →
+      IfErr r (λ why. (why ≡ NoPointer) ⊎ (why ≡ NoRoom)) → (r ≡ Err NoPointer → NoneFree m (core_of e)) → (r ≡ Err NoRoom → LacksRoom m len (core_of e)) → IfErr r (λ _. f ≡ e) → Places m len ds r e f
+  places (Ok p) free room made why none full same = (record { free = free; room = room }, made)
+  places (Err r) free room made why none full same = no_place r why none full same

@@ -16,6 +16,8 @@ pub mod Calls
 pub mod Undone
 pub mod Asking
 pub mod RoundTurns
+pub mod RoundRests
+pub mod RoundChoices
 pub mod Causes
 pub mod Resting
 pub mod Refusals

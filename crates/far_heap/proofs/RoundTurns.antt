@@ -30,6 +30,6 @@ idle_is Evacuating e = absurd (false≢true e)
 pub not_idle : (phase : Phase) → is_idle phase ≡ false → phase ≢ Idle
 not_idle phase e is = false≢true (sym e ∙ ap is_idle is)
 
-pub turns_run : (D : Type 0) (heap : HeapId) (tallies : List Tally) (phase : Phase) → TurnsMade D heap tallies false phase → is_idle phase ≡ false
-turns_run D heap [] phase made = ap is_idle made.1
-turns_run D heap (t ∷ ts) phase made = made.1.ends
+pub turns_run : (D : Type 0) (heap : HeapId) (logs : List ℕ) (tallies : List Tally) (phase : Phase) → TurnsMade D heap logs tallies false phase → is_idle phase ≡ false
+turns_run D heap logs [] phase made = ap is_idle made.1
+turns_run D heap logs (t ∷ ts) phase (before, (e, f, turns)) = turns.ends

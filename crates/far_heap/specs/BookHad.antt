@@ -1,5 +1,5 @@
--- Why an object was made or brought, or wasn't: what was so of the heap's book, while its lock was held.
-use Rattle.std.specs.Prelude.{◌≡◌, ℕ, true, false, Option, Some, None, IsSome}
+-- Why an object was made, dropped or brought, or wasn't: what was so of the heap's book, while its lock was held.
+use Rattle.std.specs.Prelude.{◌≡◌, ℕ, true, false, Option, Some, None, IsSome, Result, Ok, Err}
 use Rattle.far_word.specs.declared.pointer.PtrWord.{PtrWord}
 use Rattle.far_word.specs.declared.pointer.PtrWord.TheVariants.{Free, Near, Far}
 use Rattle.far_word.specs.declared.refused.Refused.{Refused}
@@ -9,8 +9,12 @@ use Rattle.far_word.specs.Sizes.{size_of}
 use Rattle.far_core.specs.state.Room.{room}
 use Rattle.far_core.specs.state.State.{State}
 use Rattle.far_table.specs.declared.book.BookSeat.{BookSeat}
-use Rattle.far_table.specs.BookSeats.{seat_may_be, seat_view}
+use Rattle.far_hand.specs.Came.{Came}
+use Rattle.far_table.specs.BookSeats.{seat_makes, seat_may_be, seat_view}
 use Rattle.far_book.specs.book.Ledger.{IsLowestFree}
+use Rattle.far_evac.specs.EvacOf.{EvacOf, moment}
+use Rattle.far_evac.specs.MomentLaw.{IsLawful}
+use Rattle.far_heap.specs.Helping.{PlacesNew, core_of}
 use Rattle.far_heap.specs.HeapId.{HeapId, heap_of}
 
 -- there was a book of this heap of which that was so: by what it knew, and in each state that the words and all views may have been in beside it; and there
@@ -21,6 +25,17 @@ pub record BookHad (D : Type 0) (heap : HeapId) (P : State → Type 0) : Type 0 
   pub known : P (seat_view seat)
   pub is : (x : State) → seat_may_be seat x → P x
   pub there : ∥ ((x : State) × seat_may_be seat x) ∥₁
+
+-- there was a lawful book of this heap, and by its own calls alone it became another: of the two that was so. There is a state in which the words and all
+-- views may have been beside the first
+pub record BookDid (D : Type 0) (heap : HeapId) (R : EvacOf (BookSeat D) D → EvacOf (BookSeat D) D → Type 0) : Type 0 where
+  pub before : EvacOf (BookSeat D) D
+  pub later : EvacOf (BookSeat D) D
+  pub named : heap_of before.book.near ≡ heap
+  pub lawful : IsLawful (moment seat_view before)
+  pub came : Came seat_makes before.book.near later.book.near
+  pub there : ∥ ((x : State) × seat_may_be before.book.near x) ∥₁
+  pub did : R before later
 
 -- ---- to make one
 -- a pointer is the lowest of a mutator's whose cell is free, and there is room for an object of so many bytes
@@ -37,6 +52,22 @@ pub record LacksRoom (number len : ℕ) (s : State) : Type 0 where
   pub pointer : ℕ
   pub free : IsLowestFree s number (Some pointer)
   pub full : room s (size_of len) true ≡ None
+
+-- why none was made
+abbrev pub WhyNone : ℕ → ℕ → Refused → State → Type 0
+WhyNone number len why.NoPointer s = NoneFree number s
+WhyNone number len why.NoRoom s = LacksRoom number len s
+WhyNone number len other s = ⊥
+
+-- what was asked for was placed, and nothing more; or it wasn't, and book and round are as before
+abbrev pub Places : {D : Type 0} → ℕ → ℕ → ℕ → Result ℕ Refused → EvacOf (BookSeat D) D → EvacOf (BookSeat D) D → Type 0
+Places number len ds (Ok p) e f = HasRoom number len p (core_of e) × PlacesNew e f p len ds
+Places number len ds (Err why) e f = WhyNone number len why (core_of e) × (f ≡ e)
+
+-- ---- to drop one
+-- its cell is free
+abbrev pub IsFreed : ℕ → State → Type 0
+IsFreed p s = s.cell p ≡ 0
 
 -- ---- to bring one
 -- there is no room where it is wanted: it is far, doesn't fit into the open log, and at most one log is free; or it is near, its owner has asked for it to be

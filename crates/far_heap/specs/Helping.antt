@@ -1,5 +1,5 @@
 -- What the book does for an owner that has the lock: it looks at the pointer's cell once, and does what the word says that it found there.
-use Rattle.std.specs.Prelude.{◌≡◌, ℕ, Bool, true, false, Option, Some, None, List, Result, Ok, IfOk, IfErr, IfSome, IfNone, MatchOption}
+use Rattle.std.specs.Prelude.{◌≡◌, ◌⊎◌, ℕ, Bool, true, false, Option, Some, None, List, Result, Ok, IfOk, IfErr, IfSome, IfNone, MatchOption}
 use Rattle.far_word.specs.declared.pointer.Place.{Place}
 use Rattle.far_word.specs.declared.pointer.PtrWord.{PtrWord}
 use Rattle.far_word.specs.declared.pointer.PtrWord.TheVariants.{Free, Near, Far}
@@ -117,3 +117,7 @@ module _ {D : Type 0} where
       pub kept : IfErr answer (λ _. (core_of f).word ≡ (core_of e).word)
       pub shut : IfErr answer (λ _. f.book.order ≡ e.book.order)
       pub round : SameRound e f
+
+    -- the last that the book did was to bring this object: it was fetched, or moved, or stayed where it lay without EVAC and MOVE
+    abbrev pub IsBrought : (D → ℕ → Result (List ℕ) DeviceFault → D → Type 0) → EvacOf (BookSeat D) D → ℕ → Type 0
+    IsBrought reads f p = (e : EvacOf (BookSeat D) D) × (place : Place) × (FetchesIt reads e f p (Ok (Some place)) ⊎ MovesIt e f p (Ok (Some place)))

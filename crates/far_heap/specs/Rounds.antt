@@ -1,10 +1,12 @@
 -- What a round by turns, each under the lock anew, may answer.
-use Rattle.std.specs.Prelude.{◌≡◌, ◌≢◌, ◌⊎◌, ◌-◌, ◌^◌, ◌<◌, ◌≤◌, ℕ, min, Bool, true, false, List, [], ◌∷◌, length, Result, Ok, Err}
+use Rattle.std.specs.Prelude.{◌≡◌, ◌≢◌, ◌⊎◌, ◌-◌, ◌^◌, ◌<◌, ◌≤◌, ℕ, min, Bool, true, false, not, ◌&&◌, eqb, Option, Some, None, List, [], ◌∷◌, drop, length, map, Result, Ok, Err}
+use Rattle.std.specs.List.{ends_with}
 use Rattle.far_log.specs.declared.row.LogRow.{LogRow}
 use Rattle.far_policy.specs.Choice.{IsBadChoice, IsChoice}
 use Rattle.far_word.specs.declared.refused.Refused.{Refused}
 use Rattle.far_word.specs.declared.refused.Refused.TheVariants as refused
 use Rattle.far_hand.specs.Came.{Came}
+use Rattle.far_book.specs.book.Rows.{row_of}
 use Rattle.far_table.specs.declared.book.BookSeat.{BookSeat}
 use Rattle.far_table.specs.BookSeats.{seat_makes, seat_view}
 use Rattle.far_evac.specs.declared.answers.EvacFault.{EvacFault}
@@ -13,48 +15,93 @@ use Rattle.far_evac.specs.declared.answers.RoundEnd.TheVariants.{Done, Nothing, 
 use Rattle.far_evac.specs.declared.phase.Phase.{Phase}
 use Rattle.far_evac.specs.declared.phase.Phase.TheVariants.{Evacuating, Idle, Marking}
 use Rattle.far_evac.specs.AnyHand.{StopsAt, TurnsTo, sum_of}
+use Rattle.far_evac.specs.Choosing.{after_selecting}
 use Rattle.far_evac.specs.EvacOf.{EvacOf, moment}
+use Rattle.far_evac.specs.Live.{is_empty}
 use Rattle.far_evac.specs.Moment.{Tally, nothing, plus, progress_of}
-use Rattle.far_evac.specs.MomentLaw.{is_idle}
+use Rattle.far_evac.specs.MomentLaw.{IsLawful, is_idle}
+use Rattle.far_evac.specs.Refusals.{unselectable}
 use Rattle.far_evac.specs.Turns.{turn_size}
 use Rattle.far_heap.specs.HeapId.{HeapId, heap_of}
 
 -- ---- a choice
--- the policy was handed rows, and chose these logs
-pub record Chose {P : Type 0} (gives : P → List LogRow → ℕ → Result (List ℕ) Refused → P → Type 0) (before : P) (most : ℕ) (after : P) (logs : List ℕ) : Type 0 where
-  pub rows : List LogRow
-  pub given : gives before rows most (Ok logs) after
-  pub choice : IsChoice rows most logs
+-- what the sealed logs of a book have, oldest first
+abbrev pub rows_of : {D : Type 0} → EvacOf (BookSeat D) D → List LogRow
+rows_of e = map (row_of (seat_view e.book.near)) e.book.order
 
--- or no logs were chosen, and why: a round runs already, the epochs are spent, or memory was refused, and the policy wasn't asked; or it was, and this is its refusal
-abbrev pub IsUnchosen : {P : Type 0} → (P → List LogRow → ℕ → Result (List ℕ) Refused → P → Type 0) → P → ℕ → P → Refused → Type 0
-IsUnchosen gives before most after why = (((why ≡ refused.Phase) ⊎ (why ≡ refused.EpochsSpent) ⊎ (why ≡ refused.Memory)) × (after ≡ before))
-    ⊎ (IsBadChoice why × ((rows : List LogRow) × gives before rows most (Err why) after))
+module _ {P D : Type 0} (gives : P → List LogRow → ℕ → Result (List ℕ) Refused → P → Type 0) (heap : HeapId) (before : P) (most : ℕ) (after : P) where
+  -- e is a book of this heap in no round, with an epoch left for one. The policy was handed what its sealed logs have, and chose these logs; f is the book
+  -- where their round begins, or the same where there are none
+  pub record Chooses (logs : List ℕ) (e f : EvacOf (BookSeat D) D) : Type 0 where
+    pub named : heap_of e.book.near ≡ heap
+    pub lawful : IsLawful (moment seat_view e)
+    pub free : unselectable (moment seat_view e) ≡ None
+    pub given : gives before (rows_of e) most (Ok logs) after
+    pub choice : IsChoice (rows_of e) most logs
+    pub came : Came seat_makes e.book.near f.book.near
+    pub begun : moment seat_view f ≡ after_selecting (moment seat_view e) logs
 
--- ---- turns of the heap's book: it is the book of this heap
--- one turn: nothing but the book's own calls led on; it counted this, and left the round in this phase, or over
-pub record TurnMade (D : Type 0) (heap : HeapId) (tally : Tally) (over : Bool) (phase : Phase) : Type 0 where
-  pub before : EvacOf (BookSeat D) D
-  pub later : EvacOf (BookSeat D) D
-  pub named : heap_of before.book.near ≡ heap
-  pub came : Came seat_makes before.book.near later.book.near
-  pub turns : TurnsTo (moment seat_view before) before.phase tally over (moment seat_view later)
-  pub stands : later.phase ≡ phase
-  pub ends : is_idle phase ≡ over
+  -- why none were chosen: a round runs in this book, or its epochs are spent, or memory was refused, and the policy wasn't asked; or it was, of what this
+  -- book's logs have, and this is its refusal
+  abbrev pub IsUnchosen : EvacOf (BookSeat D) D → Refused → Type 0
+  IsUnchosen e why = (((unselectable (moment seat_view e) ≡ Some why) ⊎ (why ≡ refused.Memory)) × (after ≡ before))
+      ⊎ ((unselectable (moment seat_view e) ≡ None) × IsBadChoice why × gives before (rows_of e) most (Err why) after)
 
--- one that was refused: no round was running any more; or objects were leaving, and it stopped at one
-pub record TurnRefused (D : Type 0) (heap : HeapId) (tally : Tally) (why : Refused) : Type 0 where
-  pub before : EvacOf (BookSeat D) D
-  pub later : EvacOf (BookSeat D) D
-  pub named : heap_of before.book.near ≡ heap
-  pub came : Came seat_makes before.book.near later.book.near
-  pub barred : before.phase ≡ Idle → (why ≡ refused.Phase) × (tally ≡ nothing) × (later ≡ before)
-  pub stops : before.phase ≢ Idle → ((why ≡ refused.Memory) ⊎ (why ≡ refused.Device)) × (before.phase ≡ Evacuating) × StopsAt (moment seat_view before) turn_size (moment seat_view later) tally
+  pub record ChoosesNone (why : Refused) (e f : EvacOf (BookSeat D) D) : Type 0 where
+    pub named : heap_of e.book.near ≡ heap
+    pub lawful : IsLawful (moment seat_view e)
+    pub cause : IsUnchosen e why
+    pub same : f ≡ e
+
+-- so it was of some book, while the lock was held
+abbrev pub Chose : {P : Type 0} → (P → List LogRow → ℕ → Result (List ℕ) Refused → P → Type 0) → (D : Type 0) → HeapId → P → ℕ → P → List ℕ → Type 0
+Chose gives D heap before most after logs = (e f : EvacOf (BookSeat D) D) × Chooses gives heap before most after logs e f
+
+abbrev pub ChoseNone : {P : Type 0} → (P → List LogRow → ℕ → Result (List ℕ) Refused → P → Type 0) → (D : Type 0) → HeapId → P → ℕ → P → Refused → Type 0
+ChoseNone gives D heap before most after why = (e f : EvacOf (BookSeat D) D) × ChoosesNone gives heap before most after why e f
+
+-- ---- turns of the heap's book, in the round of the logs that were chosen
+-- of these logs those are left: the last of them, or none
+abbrev pub IsRest : List ℕ → List ℕ → Type 0
+IsRest logs left = (given : ℕ) × (left ≡ drop given logs)
+
+-- a round that has these logs left is one of those, as far as a book can tell: some are left, and they are the last of those
+abbrev pub is_round_of : List ℕ → List ℕ → Bool
+is_round_of logs left = not (is_empty left) && ends_with eqb logs left
+
+module _ {D : Type 0} (heap : HeapId) (logs : List ℕ) where
+  -- e is a book of this heap in which the round of these logs is running. One turn led from it to f, by the book's own calls alone; it counted this, and left
+  -- the round in this phase, or over, exactly where the last of the logs was given back
+  pub record Turns (tally : Tally) (over : Bool) (phase : Phase) (e f : EvacOf (BookSeat D) D) : Type 0 where
+    pub named : heap_of e.book.near ≡ heap
+    pub lawful : IsLawful (moment seat_view e)
+    pub running : is_round_of logs e.collection ≡ true
+    pub came : Came seat_makes e.book.near f.book.near
+    pub turns : TurnsTo (moment seat_view e) e.phase tally over (moment seat_view f)
+    pub left : IsRest logs f.collection
+    pub none : is_empty f.collection ≡ over
+    pub stands : f.phase ≡ phase
+    pub ends : is_idle phase ≡ over
+
+  -- one that was refused: the round of these logs wasn't running, or not any more; or objects were leaving, and it stopped at one
+  pub record StopsTurn (tally : Tally) (why : Refused) (e f : EvacOf (BookSeat D) D) : Type 0 where
+    pub named : heap_of e.book.near ≡ heap
+    pub lawful : IsLawful (moment seat_view e)
+    pub came : Came seat_makes e.book.near f.book.near
+    pub barred : is_round_of logs e.collection ≡ false → (why ≡ refused.Phase) × (tally ≡ nothing) × (f ≡ e)
+    pub stops : is_round_of logs e.collection ≡ true → ((why ≡ refused.Memory) ⊎ (why ≡ refused.Device)) × (e.phase ≡ Evacuating) × (f.phase ≡ Evacuating) × IsRest logs f.collection
+        × StopsAt (moment seat_view e) turn_size (moment seat_view f) tally
+
+abbrev pub TurnMade : (D : Type 0) → HeapId → List ℕ → Tally → Bool → Phase → Type 0
+TurnMade D heap logs tally over phase = (e f : EvacOf (BookSeat D) D) × Turns heap logs tally over phase e f
+
+abbrev pub TurnRefused : (D : Type 0) → HeapId → List ℕ → Tally → Refused → Type 0
+TurnRefused D heap logs tally why = (e f : EvacOf (BookSeat D) D) × StopsTurn heap logs tally why e f
 
 -- turns one after the other, the last one first in the list, by what each counted. Others may have had the lock between any two
-abbrev pub TurnsMade : (D : Type 0) → HeapId → List Tally → Bool → Phase → Type 0
-TurnsMade D heap [] over phase = (over ≡ false) × (phase ≡ Marking)
-TurnsMade D heap (tally ∷ tallies) over phase = ((earlier : Phase) × TurnsMade D heap tallies false earlier) × TurnMade D heap tally over phase
+abbrev pub TurnsMade : (D : Type 0) → HeapId → List ℕ → List Tally → Bool → Phase → Type 0
+TurnsMade D heap logs [] over phase = (over ≡ false) × (phase ≡ Marking)
+TurnsMade D heap logs (tally ∷ tallies) over phase = ((earlier : Phase) × TurnsMade D heap logs tallies false earlier) × TurnMade D heap logs tally over phase
 
 -- a sum as it is told: the greatest number stands for all above it
 abbrev pub told : ℕ → ℕ
@@ -63,30 +110,31 @@ told n = min n (2 ^ 64 - 1)
 abbrev pub told_of : Tally → Tally
 told_of t = record { moved = told t.moved; far = told t.far; dropped = told t.dropped; freed = told t.freed }
 
--- ---- how a round ends
--- after turns of it, at most so many: done at the last, or still standing after all
-abbrev pub EndsTurns : (D : Type 0) → HeapId → ℕ → RoundEnd → Type 0
-EndsTurns D heap turns (Done progress) = (tallies : List Tally) × (length tallies ≤ turns) × TurnsMade D heap tallies true Idle × (progress ≡ progress_of (told_of (sum_of tallies)) true)
-EndsTurns D heap turns Nothing = ⊥
-EndsTurns D heap turns (Limit phase) = (tallies : List Tally) × (length tallies ≡ turns) × TurnsMade D heap tallies false phase × (phase ≢ Idle)
+-- ---- how a round of these logs ends
+-- after turns of it, at most so many: done at the last, in which the last of the logs was given back; or after all, with the round in the phase in which the
+-- last turn left it, or in which the choice did
+abbrev pub EndsTurns : (D : Type 0) → HeapId → List ℕ → ℕ → RoundEnd → Type 0
+EndsTurns D heap logs turns (Done progress) = (tallies : List Tally) × (length tallies ≤ turns) × TurnsMade D heap logs tallies true Idle × (progress ≡ progress_of (told_of (sum_of tallies)) true)
+EndsTurns D heap logs turns Nothing = ⊥
+EndsTurns D heap logs turns (Limit phase) = (tallies : List Tally) × (length tallies ≡ turns) × TurnsMade D heap logs tallies false phase × (phase ≢ Idle)
 
 -- after a policy chose these logs: with nothing exactly where it chose none
 abbrev pub EndsAfter : (D : Type 0) → HeapId → List ℕ → ℕ → RoundEnd → Type 0
 EndsAfter D heap [] turns end = end ≡ Nothing
-EndsAfter D heap (l ∷ ls) turns end = EndsTurns D heap turns end
+EndsAfter D heap (l ∷ ls) turns end = EndsTurns D heap (l ∷ ls) turns end
 
 -- one of so many turns was refused, after these
-pub record StopsTurns (D : Type 0) (heap : HeapId) (turns : ℕ) (fault : EvacFault) : Type 0 where
+pub record StopsTurns (D : Type 0) (heap : HeapId) (logs : List ℕ) (turns : ℕ) (fault : EvacFault) : Type 0 where
   pub tallies : List Tally
   pub phase : Phase
   pub last : Tally
   pub few : length tallies < turns
-  pub made : TurnsMade D heap tallies false phase
-  pub refused : TurnRefused D heap last fault.why
+  pub made : TurnsMade D heap logs tallies false phase
+  pub refused : TurnRefused D heap logs last fault.why
   pub sum : fault.so_far ≡ progress_of (told_of (plus (sum_of tallies) last)) false
 
 -- a round was refused: no logs were chosen, and nothing was done; or some were, and a turn was refused
 abbrev pub RefusesRound : {P : Type 0} → (P → List LogRow → ℕ → Result (List ℕ) Refused → P → Type 0) → (D : Type 0) → HeapId → P → ℕ → P → ℕ → EvacFault → Type 0
 RefusesRound gives D heap before most after turns fault =
-    ((fault.so_far ≡ progress_of nothing false) × IsUnchosen gives before most after fault.why)
-    ⊎ ((logs : List ℕ) × Chose gives before most after logs × (logs ≢ []) × StopsTurns D heap turns fault)
+    ((fault.so_far ≡ progress_of nothing false) × ChoseNone gives D heap before most after fault.why)
+    ⊎ ((logs : List ℕ) × Chose gives D heap before most after logs × (logs ≢ []) × StopsTurns D heap logs turns fault)

@@ -30,6 +30,9 @@ ghost use Rattle.far_heap.specs.HeapId.{heap_of};
 
 mod owners;
 mod rounds;
+mod turns;
+
+pub(crate) use turns::nothing_done;
 
 use crate::name::HeapName;
 use far_book::{Book, Home};

@@ -1,17 +1,17 @@
 // A heap, which its mutators share.
 ghost use Rattle.std.specs.Prelude.{◌≡◌, ℕ, List, false, IfOk, IfErr};
 ghost use Rattle.far_word.specs.declared.refused.Refused.TheVariants.{Memory};
-ghost use Rattle.far_evac.specs.Moment.{Tally, nothing, plus, progress_of, tally_of};
+ghost use Rattle.far_evac.specs.Moment.{Tally, plus, progress_of, tally_of};
 ghost use Rattle.far_heap.specs.Blanks.{NewSeats, newcomers};
 ghost use Rattle.far_heap.specs.Rounds.{Chose, EndsAfter, EndsTurns, RefusesRound, StopsTurns, TurnMade, TurnRefused, told_of};
 
 use crate::blank::Blank;
-use crate::evacuator::Evacuator;
+use crate::evacuator::{Evacuator, nothing_done};
 use crate::mutator::Mutator;
 use crate::name::HeapName;
 use far_device::Device;
 use far_evac::{EvacFault, Phase, Progress, RoundEnd};
-use far_policy::Policy;
+use far_policy::{Chosen, Policy};
 use far_table::MutSeat;
 use far_word::Refused;
 use std::alloc::{AllocError, Global};
@@ -45,19 +45,6 @@ fn mutators_of<K: HeapName, D: Device + Drop>(
         mutators.push_reserved(mutator);
     }
     Ok(mutators)
-}
-
-// Nothing was done.
-fn nothing_done() -> Progress
-    ensures { result ≡ progress_of nothing false }
-{
-    Progress {
-        moved: 0,
-        far: 0,
-        dropped: 0,
-        freed: 0,
-        done: false,
-    }
 }
 
 // What was done in two parts. Other callers' rounds may have come between, so that no bound of one round holds: the sums stop at the greatest number.
@@ -100,13 +87,13 @@ impl<K: HeapName, D: Device + Drop> Heap<K, D> {
     }
 
     /// Makes a round: asks a policy for logs, at most `most`, and makes so many turns, or fewer if the round is over before. The lock is taken for the
-    /// choice, and anew for each turn; where the round waits for an open scope, other threads run before the next.
+    /// choice, and anew for each turn; where a look finds a scope open for which the round waits, other threads run before the next.
     /// [`RoundEnd::Nothing`] exactly where no log was chosen, [`RoundEnd::Done`] where a turn gave the last of the round's logs back, and else
     /// [`RoundEnd::Limit`], with the phase after the last turn: the round goes on by [`Evacuator::turn`], or is given up by [`Evacuator::abort`]. What the
     /// turns did is summed. A policy is offered sealed logs alone, those that were full when another was opened.
     ///
-    /// Refused as [`Evacuator::select`] and [`Evacuator::turn`] are, [`Refused::Phase`] also where another caller ended the round meanwhile; `so_far`
-    /// is then the sum of what was done.
+    /// Refused as [`Evacuator::select`] and [`Evacuator::turn`] are; [`Refused::Phase`] also where another caller ended the round meanwhile, or gave it up and
+    /// began one of other logs, which stays as it is; `so_far` is then the sum of what was done.
     pub fn run_round<R: Wait, P: Policy>(
         &self,
         rt: &R,
@@ -114,10 +101,10 @@ impl<K: HeapName, D: Device + Drop> Heap<K, D> {
         most: usize,
         turns: u64,
     ) -> Result<RoundEnd, EvacFault>
-        ensures ended { IfOk result (λ end. (logs : List ℕ) × Chose P.gives policy.old most policy.new logs × EndsAfter D K.heap logs turns end) }
+        ensures ended { IfOk result (λ end. (logs : List ℕ) × Chose P.gives D K.heap policy.old most policy.new logs × EndsAfter D K.heap logs turns end) }
         ensures refused { IfErr result (λ fault. RefusesRound P.gives D K.heap policy.old most policy.new turns fault) }
     {
-        let chosen = match self.book(rt).select(policy, most) {
+        let chosen = match self.book(rt).choose(policy, most) {
             Ok(chosen) => chosen,
             Err(why) => {
                 return Err(EvacFault {
@@ -129,18 +116,24 @@ impl<K: HeapName, D: Device + Drop> Heap<K, D> {
         if chosen.is_empty() {
             return Ok(RoundEnd::Nothing);
         }
-        self.make_turns(rt, turns)
+        self.make_turns(rt, &chosen, turns)
     }
 
-    // Makes so many turns of a round that was begun, or fewer if it is over before.
-    fn make_turns<R: Wait>(&self, rt: &R, turns: u64) -> Result<RoundEnd, EvacFault>
-        ensures ended { IfOk result (EndsTurns D K.heap turns) }
-        ensures refused { IfErr result (StopsTurns D K.heap turns) }
+    // Makes so many turns of the round of these logs, which was begun, or fewer if it is over before.
+    fn make_turns<R: Wait>(
+        &self,
+        rt: &R,
+        chosen: &Chosen,
+        turns: u64,
+    ) -> Result<RoundEnd, EvacFault>
+        ensures ended { IfOk result (EndsTurns D K.heap chosen.now turns) }
+        ensures refused { IfErr result (StopsTurns D K.heap chosen.now turns) }
     {
         let mut total = nothing_done();
         let mut phase = Phase::Marking;
         for _ in 0..turns {
-            match self.turn_more(rt, total) {
+            let waited = phase == Phase::Waiting;
+            match self.turn_more(rt, chosen, total) {
                 Ok((sum, after)) => {
                     total = sum;
                     phase = after;
@@ -150,23 +143,26 @@ impl<K: HeapName, D: Device + Drop> Heap<K, D> {
             if total.done {
                 return Ok(RoundEnd::Done(total));
             }
-            if phase == Phase::Waiting {
+            if waited && phase == Phase::Waiting {
                 thread::yield_now();
             }
         }
         Ok(RoundEnd::Limit(phase))
     }
 
-    // Makes one turn under the lock, and adds what it did to what was done before: with the phase after it.
-    fn turn_more<R: Wait>(&self, rt: &R, before: Progress) -> Result<(Progress, Phase), EvacFault>
-        ensures made { IfOk result (λ made. (tally : Tally) × TurnMade D K.heap tally made.0.done made.1 × (made.0 ≡ progress_of (told_of (plus (tally_of before) tally)) made.0.done)) }
-        ensures refused { IfErr result (λ fault. (tally : Tally) × TurnRefused D K.heap tally fault.why × (fault.so_far ≡ progress_of (told_of (plus (tally_of before) tally)) false)) }
+    // Makes one turn under the lock, of the round of these logs, and adds what it did to what was done before: with the phase after it.
+    fn turn_more<R: Wait>(
+        &self,
+        rt: &R,
+        chosen: &Chosen,
+        before: Progress,
+    ) -> Result<(Progress, Phase), EvacFault>
+        ensures made { IfOk result (λ made. (tally : Tally) × TurnMade D K.heap chosen.now tally made.0.done made.1 × (made.0 ≡ progress_of (told_of (plus (tally_of before) tally)) made.0.done)) }
+        ensures refused { IfErr result (λ fault. (tally : Tally) × TurnRefused D K.heap chosen.now tally fault.why × (fault.so_far ≡ progress_of (told_of (plus (tally_of before) tally)) false)) }
     {
-        let mut guard = self.book(rt);
-        let book = &mut *guard;
-        book.keeps_law();
-        match book.turn() {
-            Ok(made) => Ok((sum(before, made, made.done), book.phase())),
+        let turned = self.book(rt).turn_of(chosen);
+        match turned {
+            Ok((made, after)) => Ok((sum(before, made, made.done), after)),
             Err(fault) => Err(EvacFault {
                 so_far: sum(before, fault.so_far, false),
                 why: fault.why,

@@ -1,11 +1,11 @@
 // A mutator whose scope is closed.
-ghost use Rattle.std.specs.Prelude.{◌≡◌, ◌<◌, true, false, Err, IfOk, IfErr};
-ghost use Rattle.far_heap.specs.Mine.{IsNew, IsNoObject, IsOf, adopting, dropping, is_length, newcomer, opening, owns, uses};
+ghost use Rattle.std.specs.Prelude.{◌≡◌, ◌<◌, ◌≤◌, true, false, None, Err, IfOk, IfErr, IfSome};
+ghost use Rattle.far_heap.specs.Mine.{IsNew, IsNoObject, IsOf, adopting, dropping, is_length, len_in, newcomer, opening, owns, uses};
 ghost use Rattle.far_heap.specs.MineLaw.{MineLaw};
-ghost use Rattle.far_heap.specs.BookHad.{BookHad, HasRoom, LacksRoom, NoneFree};
+ghost use Rattle.far_heap.specs.BookHad.{BookDid, BookHad, HasRoom, IsFreed, LacksRoom, NoneFree, Places};
 ghost use Rattle.far_word.specs.declared.refused.Refused.{Refused as any_refusal};
 ghost use Rattle.far_word.specs.declared.refused.Refused.TheVariants.{NoPointer, NoRoom};
-ghost use Rattle.far_word.specs.declared.sizes.TheConstants.{MOST_MUTATORS};
+ghost use Rattle.far_word.specs.declared.sizes.TheConstants.{LONGEST, MOST_MUTATORS};
 
 use crate::heap::Lock;
 use crate::name::HeapName;
@@ -86,9 +86,21 @@ impl<K: HeapName, D: Device + Drop> Mutator<K, D> {
         ensures had { IfOk result (λ p. BookHad D K.heap (HasRoom self.old.number len p)) }
         ensures none { result ≡ Err NoPointer → BookHad D K.heap (NoneFree self.old.number) }
         ensures full { result ≡ Err NoRoom → BookHad D K.heap (LacksRoom self.old.number len) }
+        ensures did { is_length len ≡ true → BookDid D K.heap (Places self.old.number len ds result) }
         ensures made { IfOk result (λ p. (is_length len ≡ true) × (owns self.old p ≡ true) × (uses self.old p ≡ false) × (self.new ≡ adopting p len ds self.old)) }
     {
         under_lock::alloc(rt, &self.lock, &mut self.own, len, ds)
+    }
+
+    /// How many bytes the object of a pointer has, as [`Scope::len_of`].
+    #[inline(always)]
+    pub fn len_of(&self, p: u16) -> Option<u16>
+        ensures used { IfSome result (λ len. (uses self.now p ≡ true) × (len ≡ len_in self.now p)) }
+        ensures range { IfSome result (λ len. (0 < len) × (len ≤ LONGEST)) }
+        ensures unused { result ≡ None → uses self.now p ≡ false }
+    {
+        self.own.keeps_law();
+        self.own.used_len(p)
     }
 
     /// Drops an object, which the mutator uses no longer. It takes the lock. Refused [`Refused::NotHeld`] alone, exactly where the mutator doesn't use
@@ -98,6 +110,7 @@ impl<K: HeapName, D: Device + Drop> Mutator<K, D> {
     pub fn drop_object<R: Wait>(&mut self, rt: &R, p: u16) -> Result<(), Refused>
         ensures refused { IfErr result (λ why. (why ≡ Refused.NotHeld) × (uses self.old p ≡ false) × (self.new ≡ self.old)) }
         ensures dropped { IfOk result (λ _. (uses self.old p ≡ true) × (self.new ≡ dropping p self.old)) }
+        ensures freed { IfOk result (λ _. BookHad D K.heap (IsFreed p)) }
     {
         self.keeps_law();
         under_lock::drop_object(rt, &self.lock, &mut self.own, p)

@@ -5,7 +5,7 @@ ghost use Rattle.far_heap.specs.MineLaw.{MineLaw};
 ghost use Rattle.far_heap.specs.LogsStay.{LogsStay};
 ghost use Rattle.far_heap.specs.declared.view.Tried.{Tried as any_tried};
 ghost use Rattle.far_heap.specs.Mine.{Asks, AsksToView, IsNoObject, IsNoView, IsOf, TriedSo, access_refusal, adopting, bytes_in, closing, drop_refusal, dropping, is_length, len_in, owns, uses, view_of, viewing, views, writing};
-ghost use Rattle.far_heap.specs.BookHad.{BookHad, HasRoom, LacksRoom, NoneFree, Unbrought};
+ghost use Rattle.far_heap.specs.BookHad.{BookDid, BookHad, HasRoom, IsFreed, LacksRoom, NoneFree, Places, Unbrought};
 ghost use Rattle.far_word.specs.declared.refused.Refused.{Refused as any_refusal};
 ghost use Rattle.far_word.specs.declared.refused.Refused.TheVariants.{Damaged, NoPointer, NoRoom};
 ghost use Rattle.far_word.specs.declared.sizes.TheConstants.{LONGEST};
@@ -74,6 +74,7 @@ impl<K: HeapName, D: Device + Drop> Scope<K, D> {
         ensures had { IfOk result (λ p. BookHad D K.heap (HasRoom self.old.number len p)) }
         ensures none { result ≡ Err NoPointer → BookHad D K.heap (NoneFree self.old.number) }
         ensures full { result ≡ Err NoRoom → BookHad D K.heap (LacksRoom self.old.number len) }
+        ensures did { is_length len ≡ true → BookDid D K.heap (Places self.old.number len ds result) }
         ensures made { IfOk result (λ p. (is_length len ≡ true) × (owns self.old p ≡ true) × (uses self.old p ≡ false) × (self.new ≡ adopting p len ds self.old)) }
     {
         under_lock::alloc(rt, &self.lock, &mut self.own, len, ds)
@@ -96,6 +97,7 @@ impl<K: HeapName, D: Device + Drop> Scope<K, D> {
     pub fn drop_object<R: Wait>(&mut self, rt: &R, p: u16) -> Result<(), Refused>
         ensures refused { IfErr result (λ why. (drop_refusal self.old p ≡ Some why) × (self.new ≡ self.old)) }
         ensures dropped { IfOk result (λ _. (drop_refusal self.old p ≡ None) × (self.new ≡ dropping p self.old)) }
+        ensures freed { IfOk result (λ _. BookHad D K.heap (IsFreed p)) }
     {
         under_lock::drop_object(rt, &self.lock, &mut self.own, p)
     }
@@ -110,6 +112,7 @@ impl<K: HeapName, D: Device + Drop> Scope<K, D> {
     #[inline(always)]
     pub fn view<R: Wait>(&mut self, rt: &R, p: u16) -> Result<View, Refused>
         ensures refused { IfErr result (λ why. IsNoView self.old p why × Asks p self.old self.new) }
+        ensures unasked { IfErr result (λ why. (why ≡ NoRoom) ⊎ (self.new ≡ self.old)) }
         ensures viewed { IfOk result (λ view. (uses self.old p ≡ true) × (view ≡ view_of p self.old) × AsksToView p self.old self.new) }
         ensures cause { uses self.old p ≡ true → IfErr result (λ why. BookHad D K.heap (Unbrought p why)) }
         ensures damaged { result ≡ Err Damaged → self.old.honest ≡ false }

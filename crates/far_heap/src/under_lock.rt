@@ -1,7 +1,8 @@
 // What a mutator does with the lock.
 ghost use Rattle.std.specs.Prelude.{◌≡◌, ◌⊎◌, ◌/◌, ◌<◌, ◌≤◌, true, false, Ok, Err, Some, None, IfOk, IfErr, IfSome, IfNone};
-ghost use Rattle.far_heap.specs.Mine.{Asks, AsksToView, IsNoObject, IsUnbrought, Mine, TriedSo, adopting, drop_refusal, dropping, is_length, owns, refusal_of, uses, views};
-ghost use Rattle.far_heap.specs.BookHad.{BookHad, HasRoom, LacksRoom, NoneFree, Unbrought};
+ghost use Rattle.far_heap.specs.Mine.{Asks, AsksToView, IsNoObject, IsUnbrought, adopting, drop_refusal, dropping, is_length, owns, refusal_of, uses, viewing, views};
+ghost use Rattle.far_heap.specs.Helping.{IsBrought, SameRound};
+ghost use Rattle.far_heap.specs.BookHad.{BookDid, BookHad, HasRoom, IsFreed, LacksRoom, NoneFree, Places, Unbrought};
 ghost use Rattle.far_word.specs.declared.refused.Refused.{Refused as any_refusal};
 ghost use Rattle.far_word.specs.declared.refused.Refused.TheVariants.{NoPointer, NoRoom};
 ghost use Rattle.far_word.specs.declared.sizes.TheConstants.{CELLS, LONGEST};
@@ -15,11 +16,10 @@ use far_device::Device;
 use far_word::{LONGEST, Refused};
 use std::sync::Wait;
 
-// Places a new object of zeros for a mutator's lowest free cell: its pointer.
+// Places a new object of zeros for a mutator's lowest free cell: its pointer. Nothing else is done, and where it is refused nothing at all.
 #[inline(always)]
-fn place<K: HeapName, D: Device + Drop, R: Wait>(
-    rt: &R,
-    lock: &Lock<K, D>,
+fn place<K: HeapName, D: Device + Drop>(
+    book: &mut Evacuator<K, D>,
     owner: u8,
     len: u16,
     ds: u8,
@@ -32,9 +32,9 @@ fn place<K: HeapName, D: Device + Drop, R: Wait>(
     ensures had { IfOk result (λ p. BookHad D K.heap (HasRoom owner len p)) }
     ensures none { result ≡ Err NoPointer → BookHad D K.heap (NoneFree owner) }
     ensures full { result ≡ Err NoRoom → BookHad D K.heap (LacksRoom owner len) }
+    ensures does { Places owner len ds result book.old book.new }
+    ensures did { BookDid D K.heap (Places owner len ds result) }
 {
-    let mut guard = lock.lock(rt);
-    let book = &mut *guard;
     book.keeps_law();
     book.place_new(owner, len, ds)
 }
@@ -53,13 +53,15 @@ pub(crate) fn alloc<K: HeapName, D: Device + Drop, R: Wait>(
     ensures had { IfOk result (λ p. BookHad D K.heap (HasRoom own.old.number len p)) }
     ensures none { result ≡ Err NoPointer → BookHad D K.heap (NoneFree own.old.number) }
     ensures full { result ≡ Err NoRoom → BookHad D K.heap (LacksRoom own.old.number len) }
+    ensures did { is_length len ≡ true → BookDid D K.heap (Places own.old.number len ds result) }
     ensures made { IfOk result (λ p. (is_length len ≡ true) × (owns own.old p ≡ true) × (uses own.old p ≡ false) × (own.new ≡ adopting p len ds own.old)) }
 {
     if len == 0 || len > LONGEST {
         return Err(Refused::Length);
     }
     for _ in rt.forever() {
-        match place(rt, lock, own.number(), len, ds) {
+        let placed = place(&mut *lock.lock(rt), own.number(), len, ds);
+        match placed {
             Ok(p) => {
                 if own.adopt_new(p, len, ds) {
                     return Ok(p);
@@ -71,7 +73,8 @@ pub(crate) fn alloc<K: HeapName, D: Device + Drop, R: Wait>(
     unreachable!()
 }
 
-// Drops an object, which the mutator uses no longer.
+// Drops an object, which the mutator uses no longer: the book looks at its cell until that is free. The first look finds DROP there, or that a round freed
+// the cell.
 #[inline(always)]
 pub(crate) fn drop_object<K: HeapName, D: Device + Drop, R: Wait>(
     rt: &R,
@@ -82,6 +85,7 @@ pub(crate) fn drop_object<K: HeapName, D: Device + Drop, R: Wait>(
     requires one { own.old.number < K.heap.mutators }
     ensures refused { IfErr result (λ why. (drop_refusal own.old p ≡ Some why) × (own.new ≡ own.old)) }
     ensures dropped { IfOk result (λ _. (drop_refusal own.old p ≡ None) × (own.new ≡ dropping p own.old)) }
+    ensures freed { IfOk result (λ _. BookHad D K.heap (IsFreed p)) }
 {
     if !own.has(p) {
         return Err(Refused::NotHeld);
@@ -89,12 +93,19 @@ pub(crate) fn drop_object<K: HeapName, D: Device + Drop, R: Wait>(
     if own.is_viewing(p) {
         return Err(Refused::Held);
     }
-    let asked = own.ask_drop(p);
-    lock.lock(rt).retire_dropped(asked);
-    Ok(())
+    let mut asked = own.ask_drop(p);
+    for _ in rt.forever() {
+        let looked = lock.lock(rt).retire_dropped(asked);
+        match looked {
+            None => return Ok(()),
+            Some(again) => asked = again,
+        }
+    }
+    unreachable!()
 }
 
-// Has an object that isn't viewed brought where it can be, and views it.
+// Has an object that isn't viewed brought where it can be, and views it. A refusal for want of room apart, none is answered after the owner asked for the
+// object to be moved: it is tried anew then.
 #[inline(never)]
 pub(crate) fn view<K: HeapName, D: Device + Drop, R: Wait>(
     rt: &R,
@@ -108,64 +119,94 @@ pub(crate) fn view<K: HeapName, D: Device + Drop, R: Wait>(
     requires unviewed { views own.old p ≡ false }
     ensures refused { IfSome (refusal_of result) (λ why. IsUnbrought why × Asks p own.old own.new) }
     ensures cause { IfSome (refusal_of result) (λ why. BookHad D K.heap (Unbrought p why)) }
+    ensures unasked { IfSome (refusal_of result) (λ why. (why ≡ NoRoom) ⊎ (own.new ≡ own.old)) }
     ensures viewed { IfNone (refusal_of result) (AsksToView p own.old own.new) }
 {
+    let mut first = true;
     for _ in rt.forever() {
-        match bring(&mut *lock.lock(rt), own, p) {
-            Ok(Tried::View(_)) => return Brought::Viewed,
-            Ok(Tried::Slow(_)) => {}
-            Err(why) => return Brought::of(why),
+        let brought = bring(&mut *lock.lock(rt), own, p);
+        match brought {
+            Ok(true) => return Brought::Viewed,
+            Ok(false) => {}
+            Err(why) => {
+                if first || why == Refused::NoRoom {
+                    return Brought::of(why);
+                }
+            }
         }
+        first = false;
     }
     unreachable!()
 }
 
-// Brings an object that isn't viewed where it can be, and tries again.
+// Brings an object that isn't viewed where it can be, and pins it there while the lock is held: whether it is viewed then.
 fn bring<K: HeapName, D: Device + Drop>(
     book: &mut Evacuator<K, D>,
     own: &mut Own<K, D>,
     p: u16,
-) -> Result<Tried, Refused>
+) -> Result<bool, Refused>
     requires one { own.old.number < K.heap.mutators }
     requires opened { own.old.opened ≡ true }
     requires used { uses own.old p ≡ true }
     requires unviewed { views own.old p ≡ false }
-    ensures refused { IfErr result (λ why. IsUnbrought why × Asks p own.old own.new) }
+    ensures refused { IfErr result (λ why. IsUnbrought why × Asks p own.old own.new × ((why ≡ NoRoom) ⊎ (own.new ≡ own.old))) }
     ensures cause { IfErr result (λ why. BookHad D K.heap (Unbrought p why)) }
-    ensures tried { IfOk result (λ tried. (m : Mine) × Asks p own.old m × TriedSo p m tried own.new) }
+    ensures viewed { result ≡ Ok true → AsksToView p own.old own.new }
+    ensures slow { result ≡ Ok false → Asks p own.old own.new }
+    ensures round { SameRound book.old book.new }
 {
-    if let Err(why) = fetch_or_move(book, own, p) {
-        return Err(why);
+    match fetch_or_move(book, own, p) {
+        Ok(true) => Ok(pin_brought(book, own, p)),
+        Ok(false) => Ok(false),
+        Err(why) => Err(why),
     }
-    let Ok(tried) = own.try_view(p) else {
-        unreachable!()
-    };
-    Ok(tried)
+}
+
+// Pins an object that the book has just brought, and that it therefore still keeps from rounds: whether it is viewed then.
+fn pin_brought<K: HeapName, D: Device + Drop>(
+    _book: &Evacuator<K, D>,
+    own: &mut Own<K, D>,
+    p: u16,
+) -> bool
+    requires brought { IsBrought D.contents D.honest D.faults D.fails_at_most D.lets_go D.forgets D.reads _book.now p }
+    requires opened { own.old.opened ≡ true }
+    requires used { uses own.old p ≡ true }
+    requires unviewed { views own.old p ≡ false }
+    ensures viewed { result ≡ true → own.new ≡ viewing p own.old }
+    ensures slow { result ≡ false → own.new ≡ own.old }
+{
+    match own.try_view(p) {
+        Ok(Tried::View(_)) => true,
+        _ => false,
+    }
 }
 
 // Has an object that isn't viewed brought where it can be: a far one is fetched; of a near one the owner sets MOVE, and the book moves it, or takes MOVE
-// away.
+// away. Whether the book did so.
 fn fetch_or_move<K: HeapName, D: Device + Drop>(
     book: &mut Evacuator<K, D>,
     own: &mut Own<K, D>,
     p: u16,
-) -> Result<(), Refused>
+) -> Result<bool, Refused>
     requires one { own.old.number < K.heap.mutators }
     requires used { uses own.old p ≡ true }
     requires unviewed { views own.old p ≡ false }
-    ensures refused { IfErr result IsUnbrought }
+    ensures refused { IfErr result (λ why. IsUnbrought why × ((why ≡ NoRoom) ⊎ (own.new ≡ own.old))) }
     ensures cause { IfErr result (λ why. BookHad D K.heap (Unbrought p why)) }
+    ensures brought { result ≡ Ok true → IsBrought D.contents D.honest D.faults D.fails_at_most D.lets_go D.forgets D.reads book.new p }
     ensures asks { Asks p own.old own.new }
+    ensures round { SameRound book.old book.new }
 {
-    match book.fetch_far(p) {
-        Some(Ok(_)) => {}
-        Some(Err(why)) => return Err(why),
-        None => {
-            let asked = own.ask_move(p);
-            if let Some(Err(why)) = book.move_asked(asked) {
-                return Err(why);
-            }
-        }
+    if let Some(fetched) = book.fetch_far(p) {
+        return match fetched {
+            Ok(place) => Ok(place.is_some()),
+            Err(why) => Err(why),
+        };
     }
-    Ok(())
+    let asked = own.ask_move(p);
+    match book.move_asked(asked) {
+        Some(Ok(place)) => Ok(place.is_some()),
+        Some(Err(why)) => Err(why),
+        None => Ok(false),
+    }
 }

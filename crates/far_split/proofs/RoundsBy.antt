@@ -6,27 +6,44 @@ use Rattle.far_log.specs.declared.row.LogRow.{LogRow}
 use Rattle.far_evac.specs.declared.answers.EvacFault.{EvacFault}
 use Rattle.far_evac.specs.declared.answers.Progress.{Progress}
 use Rattle.far_evac.specs.declared.answers.RoundEnd.{RoundEnd}
+use Rattle.far_evac.specs.EvacOf.{EvacOf}
 use Rattle.far_evac.specs.Moment.{nothing, progress_of}
+use Rattle.far_table.specs.declared.book.BookSeat.{BookSeat}
 use Rattle.far_heap.specs.HeapId.{HeapId}
-use Rattle.far_heap.specs.Rounds.{Chose, IsUnchosen, RefusesRound}
+use Rattle.far_heap.specs.Rounds.{Chose, ChoseNone, IsUnchosen, RefusesRound, rows_of}
 use Rattle.far_text.specs.Command.{Policy}
 use Rattle.far_split.specs.FarSides.{FarSide}
 use Rattle.far_split.specs.BookTold.{Gives, StopsRound, none_done}
 
 module _ {P : Type 0} (gives : P → List LogRow → ℕ → Result (List ℕ) Refusal → P → Type 0) (policy : Policy)
     (is : (before after : P) (rows : List LogRow) (most : ℕ) (outcome : Result (List ℕ) Refusal) → gives before rows most outcome after → Gives policy tt rows most outcome tt) where
-  chosen_by : (before after : P) (most : ℕ) (logs : List ℕ) → Chose gives before most after logs → Chose (Gives policy) tt most tt logs
-  chosen_by before after most logs chose = record { rows = chose.rows; given = is before after chose.rows most (Ok logs) chose.given; choice = chose.choice }
+  chosen_by : (heap : HeapId) (before after : P) (most : ℕ) (logs : List ℕ) → Chose gives FarSide heap before most after logs → Chose (Gives policy) FarSide heap tt most tt logs
+  chosen_by heap before after most logs (e, f, c) = (
+    e,
+    f,
+    record {
+      named = c.named;
+      lawful = c.lawful;
+      free = c.free;
+      given = is before after (rows_of e) most (Ok logs) c.given;
+      choice = c.choice;
+      came = c.came;
+      begun = c.begun;
+    },
+  )
 
-  unchosen_by : (before after : P) (most : ℕ) (why : Refusal) → IsUnchosen gives before most after why → IsUnchosen (Gives policy) tt most tt why
-  unchosen_by before after most why (inl (cause, same)) = inl (cause, refl)
-  unchosen_by before after most why (inr (bad, (rows, given))) = inr (bad, (rows, is before after rows most (Err why) given))
+  cause_by : (heap : HeapId) (before after : P) (most : ℕ) (e : EvacOf (BookSeat FarSide) FarSide) (why : Refusal) → IsUnchosen gives heap before most after e why → IsUnchosen (Gives policy) heap tt most tt e why
+  cause_by heap before after most e why (inl (cause, same)) = inl (cause, refl)
+  cause_by heap before after most e why (inr (free, (bad, given))) = inr (free, (bad, is before after (rows_of e) most (Err why) given))
+
+  unchosen_by : (heap : HeapId) (before after : P) (most : ℕ) (why : Refusal) → ChoseNone gives FarSide heap before most after why → ChoseNone (Gives policy) FarSide heap tt most tt why
+  unchosen_by heap before after most why (e, f, n) = (e, f, record { named = n.named; lawful = n.lawful; cause = cause_by heap before after most e why n.cause; same = n.same })
 
   stopped_by : (heap : HeapId) (before after : P) (most n turns : ℕ) (fault : EvacFault) → most ≡ n → RefusesRound gives FarSide heap before most after turns fault → StopsRound heap policy n turns fault.why fault.so_far
   stopped_by heap before after most n turns fault same (inl (nothing, unchosen)) =
-      subst (λ k. StopsRound heap policy k turns fault.why fault.so_far) same (inl (nothing, unchosen_by before after most fault.why unchosen))
+      subst (λ k. StopsRound heap policy k turns fault.why fault.so_far) same (inl (nothing, unchosen_by heap before after most fault.why unchosen))
   stopped_by heap before after most n turns fault same (inr (logs, chose, some, stops)) =
-      subst (λ k. StopsRound heap policy k turns fault.why fault.so_far) same (inr (logs, chosen_by before after most logs chose, some, stops))
+      subst (λ k. StopsRound heap policy k turns fault.why fault.so_far) same (inr (logs, chosen_by heap before after most logs chose, some, stops))
 
   pub all_stopped_by : (heap : HeapId) (before after : P) (most n turns : ℕ) (result : Result RoundEnd EvacFault) → most ≡ n → IfErr result (RefusesRound gives FarSide heap before most after turns) → IfErr result (λ fault. StopsRound heap policy n turns fault.why fault.so_far)
   all_stopped_by heap before after most n turns (Ok end) same refused = tt

@@ -82,7 +82,7 @@ Gives LeastLive before rows most outcome after = (taken : List LogRow) × TakesL
 
 -- a round of the logs that the policy chose ended so
 abbrev pub EndsRound : HeapId → Policy → ℕ → ℕ → RoundEnd → Type 0
-EndsRound heap policy most turns end = (logs : List ℕ) × Chose (Gives policy) tt most tt logs × EndsAfter FarSide heap logs turns end
+EndsRound heap policy most turns end = (logs : List ℕ) × Chose (Gives policy) FarSide heap tt most tt logs × EndsAfter FarSide heap logs turns end
 
 -- no logs were chosen; or some were, and one of the turns was refused: this was done until then
 abbrev pub StopsRound : HeapId → Policy → ℕ → ℕ → Refusal → Progress → Type 0

@@ -158,8 +158,8 @@ impl<N: Hand + Drop, D: Device + Drop> Evac<N, D> {
         None
     }
 
-    // The collection set: the chosen logs that were not given back.
-    pub(super) fn collection(&self) -> &[u8]
+    /// The collection set: the chosen logs that were not given back in this round, in the order in which they were chosen. None where no round is running.
+    pub fn collection(&self) -> &[u8]
         ensures { result.now ≡ self.now.collection }
     {
         let chosen = self.round.chosen.as_slice();

@@ -1,20 +1,21 @@
 //! What the book does for an owner that has the lock.
 
-ghost use Rattle.std.specs.Prelude.{◌≡◌, ◌⊎◌, ◌/◌, ◌<◌, ◌≤◌, ◌*◌, None, Some, Err, true, false, Option, IsSome, IfOk, IfErr, IfSome, MatchOption};
+ghost use Rattle.std.specs.Prelude.{◌≡◌, ◌⊎◌, ◌/◌, ◌<◌, ◌≤◌, ◌*◌, None, Some, Err, true, false, Option, IsSome, IfOk, IfErr, IfSome, IfNone, MatchOption};
 ghost use Rattle.far_word.specs.Sizes.{size_of};
 ghost use Rattle.far_word.specs.declared.pointer.PtrWord.{PtrWord};
 ghost use Rattle.far_word.specs.declared.refused.Refused.TheVariants.{NoPointer, NoRoom};
 ghost use Rattle.far_word.specs.declared.sizes.TheConstants.{CELLS, LONGEST};
 ghost use Rattle.far_core.specs.events.Naming.{is_dropped};
 ghost use Rattle.far_core.specs.state.Room.{room};
-ghost use Rattle.far_table.specs.BookSeats.{seat_view};
+ghost use Rattle.far_hand.specs.Came.{Came};
+ghost use Rattle.far_table.specs.BookSeats.{seat_makes, seat_view};
 ghost use Rattle.far_table.specs.declared.book.BookSeat.{BookSeat as seat_of};
 ghost use Rattle.far_book.specs.book.Home.{home_of};
 ghost use Rattle.far_book.specs.book.Ledger.{IsLowestFree};
 ghost use Rattle.far_evac.specs.EvacOf.{EvacOf};
-ghost use Rattle.far_heap.specs.Helping.{FetchesIt, Looks, MovesIt, PlacesNew, RetiresIt, asks_move, cell_in, says_far};
+ghost use Rattle.far_heap.specs.Helping.{FetchesIt, Looks, MovesIt, PlacesNew, RetiresIt, SameRound, asks_move, cell_in, says_far};
 ghost use Rattle.far_heap.specs.Mine.{IsUnbrought};
-ghost use Rattle.far_heap.specs.BookHad.{BookHad, LacksRoom, NoneFree, Unbrought};
+ghost use Rattle.far_heap.specs.BookHad.{BookHad, IsFreed, LacksRoom, NoneFree, Unbrought};
 
 use crate::evacuator::Evacuator;
 use crate::name::HeapName;
@@ -60,6 +61,7 @@ impl<K: HeapName, D: Device + Drop> Evacuator<K, D> {
         requires one { owner < K.heap.mutators }
         requires some { 0 < len }
         requires most { len ≤ LONGEST }
+        ensures came { Came seat_makes self.old.book.near self.new.book.near }
         ensures own { IfOk result (λ p. p / CELLS ≡ owner) }
         ensures lowest { IfOk result (λ p. IsLowestFree (seat_view self.old.book.near) owner (Some p)) }
         ensures room { IfOk result (λ p. IsSome (room (seat_view self.old.book.near) (size_of len) true)) }
@@ -82,6 +84,7 @@ impl<K: HeapName, D: Device + Drop> Evacuator<K, D> {
     // Fetches a far object, by one look at its cell: what the fetch answers. `None` where it isn't far; nothing else is done then.
     pub(crate) fn fetch_far(&mut self, pointer: u16) -> Option<Result<Option<Place>, Refused>>
         requires pointer { pointer < CELLS * K.heap.mutators }
+        ensures round { SameRound self.old self.new }
         ensures refused { IfSome result (λ answer. IfErr answer IsUnbrought) }
         ensures cause { IfSome result (λ answer. IfErr answer (λ why. BookHad D K.heap (Unbrought pointer why))) }
         ensures fetched { (found : EvacOf (seat_of D) D) × Looks self.old found pointer
@@ -99,7 +102,8 @@ impl<K: HeapName, D: Device + Drop> Evacuator<K, D> {
     // answers. `None` where it isn't near with MOVE; nothing else is done then.
     pub(crate) fn move_asked(&mut self, asked: MoveAsked) -> Option<Result<Option<Place>, Refused>>
         requires pointer { asked.pointer < CELLS * K.heap.mutators }
-        ensures refused { IfSome result (λ answer. IfErr answer IsUnbrought) }
+        ensures round { SameRound self.old self.new }
+        ensures refused { IfSome result (λ answer. IfErr answer (λ why. why ≡ NoRoom)) }
         ensures cause { IfSome result (λ answer. IfErr answer (λ why. BookHad D K.heap (Unbrought asked.pointer why))) }
         ensures moved { (found : EvacOf (seat_of D) D) × Looks self.old found asked.pointer
             × MatchOption result ((asks_move (cell_in found asked.pointer) ≡ false) × (self.new ≡ found))
@@ -113,18 +117,28 @@ impl<K: HeapName, D: Device + Drop> Evacuator<K, D> {
         Some(self.evac.move_now(pointer))
     }
 
-    // Frees the cell of an object that its owner dropped, by one look at it: `true`. `false` where a round has done so.
-    pub(crate) fn retire_dropped(&mut self, asked: DropAsked) -> bool
+    // Frees the cell of an object that its owner dropped, by one look at it, unless a round has done so. The request is used up where the cell is free then,
+    // and answered again where the look found the object without DROP.
+    pub(crate) fn retire_dropped(&mut self, asked: DropAsked) -> Option<DropAsked>
         requires pointer { asked.pointer < CELLS * K.heap.mutators }
-        ensures retired { (found : EvacOf (seat_of D) D) × Looks self.old found asked.pointer × (result ≡ is_dropped (cell_in found asked.pointer))
-            × (result ≡ false → self.new ≡ found) × (result ≡ true → RetiresIt D.contents D.honest D.faults D.fails_at_most D.lets_go D.forgets found self.new asked.pointer) }
+        ensures round { SameRound self.old self.new }
+        ensures retired { (found : EvacOf (seat_of D) D) × Looks self.old found asked.pointer
+            × (is_dropped (cell_in found asked.pointer) ≡ true → RetiresIt D.contents D.honest D.faults D.fails_at_most D.lets_go D.forgets found self.new asked.pointer)
+            × (is_dropped (cell_in found asked.pointer) ≡ false → self.new ≡ found) }
+        ensures freed { IfNone result (BookHad D K.heap (IsFreed asked.pointer)) }
+        ensures again { IfSome result (λ again. again.pointer ≡ asked.pointer) }
     {
         let pointer = asked.pointer;
-        asked.end();
-        if !has_drop(self.evac.locate(pointer)) {
-            return false;
+        let found = self.evac.locate(pointer);
+        if has_drop(found) {
+            self.evac.retire(pointer);
+            asked.end();
+            return None;
         }
-        self.evac.retire(pointer);
-        true
+        if found.is_some() {
+            return Some(asked);
+        }
+        asked.end();
+        None
     }
 }

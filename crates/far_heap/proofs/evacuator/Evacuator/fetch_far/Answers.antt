@@ -3,7 +3,7 @@ use Rattle.far_table.specs.declared.book.BookSeat.{BookSeat}
 use Rattle.far_table.specs.BookSeats.{seat_view}
 use Rattle.far_book.specs.book.BookOf.{BookOf}
 use Rattle.far_evac.specs.EvacOf.{EvacOf}
-use Rattle.far_heap.specs.Helping.{Looks}
+use Rattle.far_heap.specs.Helping.{Looks, SameRound}
 use Rattle.far_heap.proofs.Causes.{fetch_cause}
 use Rattle.far_heap.proofs.Named.{stays_named}
 use Rattle.far_heap.proofs.Under.{is_far}
@@ -63,3 +63,12 @@ returns-clause-cause g c =
     let honest = subst (λ (b : BookOf (BookSeat g.row.D.Denot) g.row.D.Denot). (seat_view b.near).honest ≡ true → g.D.Device.honest b.device ≡ true) c.book.ensures c.keeps_law.ensures.honest in
     fetch_cause g.K.HeapName.heap found.book.near named c.args.pointer (g.D.Device.honest found.book.device) c.fetch.result
     (sym (c.is_far.ensures _ c.locate.ensures.home) ∙ c.if-not-is_far.false) honest c.fetch.ensures.refused
+
+pub returns-then-not-is_far-clause-round : goal.returns-then-not-is_far-clause-round
+returns-then-not-is_far-clause-round g c = subst (λ (e : EvacOf (BookSeat g.row.D.Denot) g.row.D.Denot). SameRound e c.locate.new.self) c.self.view_is c.locate.ensures.round
+
+pub returns-clause-round : goal.returns-clause-round
+returns-clause-round g c =
+    let l = c.locate.ensures.round in
+    let f = c.fetch.ensures.round in
+    subst (λ (e : EvacOf (BookSeat g.row.D.Denot) g.row.D.Denot). SameRound e c.fetch.new.self) c.self.view_is (f.0 ∙ l.0, f.1 ∙ l.1)

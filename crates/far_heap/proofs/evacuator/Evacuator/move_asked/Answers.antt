@@ -1,7 +1,7 @@
 use Rattle.std.proofs.Common.{subst, sym, refl, ◌∙◌}
 use Rattle.far_table.specs.declared.book.BookSeat.{BookSeat}
 use Rattle.far_evac.specs.EvacOf.{EvacOf}
-use Rattle.far_heap.specs.Helping.{Looks}
+use Rattle.far_heap.specs.Helping.{Looks, SameRound}
 use Rattle.far_heap.proofs.Causes.{move_cause}
 use Rattle.far_heap.proofs.Named.{stays_named}
 use Rattle.far_heap.proofs.Under.{is_quiet_near}
@@ -59,3 +59,12 @@ returns-clause-cause g c =
     let named = stays_named g.K.HeapName.heap c.self.inside.evac.book.near found.book.near c.locate.ensures.came c.self.invariant in
     move_cause g.K.HeapName.heap found.book.near named c.args.asked.pointer c.move_now.result
     (sym (c.has_move.ensures _ c.locate.ensures.home) ∙ c.if-not-has_move.false) c.move_now.ensures.refused c.move_now.ensures.none
+
+pub returns-then-not-has_move-clause-round : goal.returns-then-not-has_move-clause-round
+returns-then-not-has_move-clause-round g c = subst (λ (e : EvacOf (BookSeat g.row.D.Denot) g.row.D.Denot). SameRound e c.locate.new.self) c.self.view_is c.locate.ensures.round
+
+pub returns-clause-round : goal.returns-clause-round
+returns-clause-round g c =
+    let l = c.locate.ensures.round in
+    let m = c.move_now.ensures.round in
+    subst (λ (e : EvacOf (BookSeat g.row.D.Denot) g.row.D.Denot). SameRound e c.move_now.new.self) c.self.view_is (m.0 ∙ l.0, m.1 ∙ l.1)

@@ -1,42 +1,73 @@
-use Rattle.std.proofs.Common.{subst, sym, refl, ◌∙◌}
+use Rattle.std.proofs.Common.{◌≡◌, ℕ, subst, sym, refl, ◌∙◌}
 use Rattle.std.proofs.lemmas.Bool.{false≢true}
 use Rattle.far_table.specs.declared.book.BookSeat.{BookSeat}
+use Rattle.far_table.specs.BookSeats.{seat_view}
 use Rattle.far_evac.specs.EvacOf.{EvacOf}
-use Rattle.far_heap.specs.Helping.{Looks}
+use Rattle.far_heap.specs.Helping.{Looks, SameRound}
+use Rattle.far_heap.proofs.Causes.{freed, retired_free}
+use Rattle.far_heap.proofs.Mines.{none_there}
 use Rattle.far_heap.proofs.Named.{stays_named}
 use Rattle.far_heap.proofs.evacuator.Evacuator.retire_dropped.Goals as goal
 
 pub retire-requires-clause-dropped : goal.retire-requires-clause-dropped
-retire-requires-clause-dropped g c = sym (c.has_drop.ensures _ c.locate.ensures.home) ∙ c.if-not-has_drop.false
+retire-requires-clause-dropped g c = sym (c.has_drop.ensures _ c.locate-found.ensures.home) ∙ c.if-has_drop.true
 
 pub invariant_of-self-2 : goal.invariant_of-self-2
 invariant_of-self-2 g c =
-    stays_named _ c.locate.new.self.book.near c.retire.new.self.book.near c.retire.ensures.came
-    (stays_named _ c.self.inside.evac.book.near c.locate.new.self.book.near c.locate.ensures.came c.self.invariant)
+    stays_named _ c.locate-found.new.self.book.near c.retire.new.self.book.near c.retire.ensures.came
+    (stays_named _ c.self.inside.evac.book.near c.locate-found.new.self.book.near c.locate-found.ensures.came c.self.invariant)
 
-pub returns-then-not-has_drop : goal.returns-then-not-has_drop
-returns-then-not-has_drop g c =
-    let l = c.locate.ensures in record {
+pub returns-then-has_drop : goal.returns-then-has_drop
+returns-then-has_drop g c =
+    let p : ℕ = c.args.asked.pointer in
+    let l = c.locate-found.ensures in
+    let r = c.retire.ensures in
+    let found = c.locate-found.new.self in
+    let dropped = sym (c.has_drop.ensures _ l.home) ∙ c.if-has_drop.true in
+    let named = stays_named g.K.HeapName.heap found.book.near c.retire.new.self.book.near r.came (stays_named g.K.HeapName.heap c.self.inside.evac.book.near found.book.near l.came c.self.invariant) in record {
+      round = subst (λ (e : EvacOf (BookSeat g.row.D.Denot) g.row.D.Denot). SameRound e c.retire.new.self) c.self.view_is (r.round.0 ∙ l.round.0, r.round.1 ∙ l.round.1);
       retired = (
-        c.locate.new.self,
-        subst (λ (e : EvacOf (BookSeat g.row.D.Denot) g.row.D.Denot). Looks e c.locate.new.self c.args.asked.pointer) c.self.view_is
+        found,
+        subst (λ (e : EvacOf (BookSeat g.row.D.Denot) g.row.D.Denot). Looks e found p) c.self.view_is
             record { made = l.made; found = l.found; kept = l.kept; order = l.order; device = l.device; round = l.round },
-        sym c.if-not-has_drop.true ∙ c.has_drop.ensures _ l.home,
-        λ _. refl,
-        λ h. absurd (false≢true h),
+        λ _. record { kept = r.kept; forgot = r.forgot; order = r.order; called = r.called; gone = r.gone; follows = r.follows; round = r.round },
+        λ h. absurd (false≢true (sym h ∙ dropped)),
       );
+      freed = freed g.K.HeapName.heap c.retire.new.self.book.near named p (retired_free (seat_view found.book.near) (seat_view c.retire.new.self.book.near) p dropped r.kept);
+      again = tt;
+    }
+
+pub returns-then-is_some-found : goal.returns-then-is_some-found
+returns-then-is_some-found g c =
+    let p : ℕ = c.args.asked.pointer in
+    let l = c.locate-found.ensures in
+    let found = c.locate-found.new.self in record {
+      round = subst (λ (e : EvacOf (BookSeat g.row.D.Denot) g.row.D.Denot). SameRound e found) c.self.view_is l.round;
+      retired = (
+        found,
+        subst (λ (e : EvacOf (BookSeat g.row.D.Denot) g.row.D.Denot). Looks e found p) c.self.view_is
+            record { made = l.made; found = l.found; kept = l.kept; order = l.order; device = l.device; round = l.round },
+        λ h. absurd (false≢true (sym (sym (c.has_drop.ensures _ l.home) ∙ c.if-has_drop.false) ∙ h)),
+        λ _. refl,
+      );
+      freed = tt;
+      again = refl;
     }
 
 pub returns : goal.returns
 returns g c =
-    let l = c.locate.ensures in
-    let r = c.retire.ensures in record {
+    let p : ℕ = c.args.asked.pointer in
+    let l = c.locate-found.ensures in
+    let found = c.locate-found.new.self in
+    let named = stays_named g.K.HeapName.heap c.self.inside.evac.book.near found.book.near l.came c.self.invariant in record {
+      round = subst (λ (e : EvacOf (BookSeat g.row.D.Denot) g.row.D.Denot). SameRound e found) c.self.view_is l.round;
       retired = (
-        c.locate.new.self,
-        subst (λ (e : EvacOf (BookSeat g.row.D.Denot) g.row.D.Denot). Looks e c.locate.new.self c.args.asked.pointer) c.self.view_is
+        found,
+        subst (λ (e : EvacOf (BookSeat g.row.D.Denot) g.row.D.Denot). Looks e found p) c.self.view_is
             record { made = l.made; found = l.found; kept = l.kept; order = l.order; device = l.device; round = l.round },
-        sym c.if-not-has_drop.false ∙ c.has_drop.ensures _ l.home,
-        λ h. absurd (false≢true (sym h)),
-        λ _. record { kept = r.kept; forgot = r.forgot; order = r.order; called = r.called; gone = r.gone; follows = r.follows; round = r.round },
+        λ h. absurd (false≢true (sym (sym (c.has_drop.ensures _ l.home) ∙ c.if-has_drop.false) ∙ h)),
+        λ _. refl,
       );
+      freed = freed g.K.HeapName.heap found.book.near named p (l.gone.0 (none_there _ (sym c.is_some-found.ensures ∙ c.if-is_some-found.false)));
+      again = tt;
     }

@@ -1,0 +1,68 @@
+//! What [`Heap::run_round`] does in one hold of the lock.
+//!
+//! [`Heap::run_round`]: crate::Heap::run_round
+
+ghost use Rattle.std.specs.Prelude.{◌≡◌, false, IfOk, IfErr};
+ghost use Rattle.far_evac.specs.Moment.{nothing, progress_of, tally_of};
+ghost use Rattle.far_heap.specs.Rounds.{Chooses, ChoosesNone, StopsTurn, Turns, is_round_of};
+
+use crate::evacuator::Evacuator;
+use crate::name::HeapName;
+use far_device::Device;
+use far_evac::{EvacFault, Phase, Progress};
+use far_policy::{Chosen, Policy};
+use far_word::Refused;
+
+// Nothing was done.
+pub(crate) fn nothing_done() -> Progress
+    ensures { result ≡ progress_of nothing false }
+{
+    Progress {
+        moved: 0,
+        far: 0,
+        dropped: 0,
+        freed: 0,
+        done: false,
+    }
+}
+
+impl<K: HeapName, D: Device + Drop> Evacuator<K, D> {
+    // Whether a round of these logs is running: its logs that aren't given back are the last of them.
+    fn is_round_of(&self, chosen: &Chosen) -> bool
+        ensures { result ≡ is_round_of chosen.now self.now.collection }
+    {
+        let left = self.evac.collection();
+        !left.is_empty() && chosen.as_slice().ends_with(left)
+    }
+
+    // Asks a policy for logs, as `select` does, and says which book it was that was asked of.
+    pub(crate) fn choose<P: Policy>(&mut self, policy: &mut P, most: usize) -> Result<Chosen, Refused>
+        ensures chosen { IfOk result (λ chosen. Chooses P.gives K.heap policy.old most policy.new chosen self.old self.new) }
+        ensures refused { IfErr result (λ why. ChoosesNone P.gives K.heap policy.old most policy.new why self.old self.new) }
+    {
+        self.keeps_law();
+        self.select(policy, most)
+    }
+
+    // Makes one turn of the round of these logs, as `turn` does: with the phase after it. Refused Phase also where another round is running, which stays as
+    // it is.
+    pub(crate) fn turn_of(&mut self, chosen: &Chosen) -> Result<(Progress, Phase), EvacFault>
+        ensures made { IfOk result (λ made. Turns K.heap chosen.now (tally_of made.0) made.0.done made.1 self.old self.new) }
+        ensures refused { IfErr result (λ fault. StopsTurn K.heap chosen.now (tally_of fault.so_far) fault.why self.old self.new) }
+    {
+        self.keeps_law();
+        if !self.is_round_of(chosen) {
+            return Err(EvacFault {
+                so_far: nothing_done(),
+                why: Refused::Phase,
+            });
+        }
+        match self.turn() {
+            Ok(made) => {
+                self.keeps_law();
+                Ok((made, self.phase()))
+            }
+            Err(fault) => Err(fault),
+        }
+    }
+}
