@@ -2,6 +2,8 @@
 
 use crate::phase::Phase;
 use far_word::Refused;
+use std::fmt;
+use thiserror::Error;
 
 /// What was marked.
 #[derive(Clone, Copy, Debug, PartialEq, Eq)]
@@ -36,8 +38,19 @@ pub struct Progress {
     pub done: bool,
 }
 
+impl fmt::Display for Progress {
+    fn fmt<W: fmt::Write>(&self, f: &mut fmt::Formatter<W>) -> fmt::Result {
+        write!(
+            f,
+            "moved {} far {} dropped {} freed {}",
+            self.moved, self.far, self.dropped, self.freed
+        )
+    }
+}
+
 /// A refusal in the midst of a call: the object at which it came is as before.
-#[derive(Clone, Copy, Debug, PartialEq, Eq)]
+#[derive(Clone, Copy, Debug, PartialEq, Eq, Error)]
+#[error("{why}; done before: {so_far}")]
 pub struct EvacFault {
     /// What had been done in this call.
     pub so_far: Progress,

@@ -37,7 +37,7 @@ impl<D: Device + Drop> Evac<Plain, D> {
             (result ≡ Err record { so_far = progress_of nothing false; why = why }) × (self.new ≡ self.old) × (policy.new ≡ policy.old) }
         ensures refused { unselectable (moment_alone self.old) ≡ None → IfErr result (λ fault.
             ((fault.so_far ≡ progress_of nothing false) × (self.new ≡ self.old)
-            × (((fault.why ≡ Memory) × (policy.new ≡ policy.old)) ⊎ (IsBadChoice fault.why × P.gives policy.old (map (row_of (core_state self.old.book.near.core)) self.old.book.order) most (Err fault.why) policy.new)))
+            × IsBadChoice fault.why × P.gives policy.old (map (row_of (core_state self.old.book.near.core)) self.old.book.order) most (Err fault.why) policy.new)
             ⊎ ((logs : List ℕ) × P.gives policy.old (map (row_of (core_state self.old.book.near.core)) self.old.book.order) most (Ok logs) policy.new
             × ((fault.why ≡ Memory) ⊎ (fault.why ≡ Failed)) × HaltsTurns (after_selecting (moment_alone self.old) logs) turns fault.so_far (moment_alone self.new)
             × StopsAsking D D.writes D.lets_go D.contents (after_selecting (moment_alone self.old) logs) turns fault.so_far fault.why (moment_alone self.new) self.old.book.device self.new.book.device)) }

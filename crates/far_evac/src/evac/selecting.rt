@@ -3,7 +3,6 @@
 ghost use Rattle.std.specs.Prelude.{◌≡◌, ◌⊎◌, Some, None, Ok, Err, IfOk, IfErr, map};
 ghost use Rattle.far_policy.specs.Choice.{IsBadChoice, IsChoice};
 ghost use Rattle.far_word.specs.declared.refused.Refused.{Refused as why_refused};
-ghost use Rattle.far_word.specs.declared.refused.Refused.TheVariants.{Memory};
 ghost use Rattle.far_hand.specs.Came.{Came};
 ghost use Rattle.far_book.specs.book.Rows.{row_of};
 ghost use Rattle.far_evac.specs.Choosing.{after_selecting};
@@ -23,7 +22,7 @@ impl<N: Hand + Drop, D: Device + Drop> Evac<N, D> {
     /// handed what each sealed log has, oldest first.
     ///
     /// Refused, in this order, [`Refused::Phase`] where a round is running; [`Refused::EpochsSpent`] where there is no later epoch;
-    /// [`Refused::Memory`]; and what the policy refuses, which is [`Refused::BadChoice`]. Nothing has changed then but the policy.
+    /// and what the policy refuses, which is [`Refused::BadChoice`]. Nothing has changed then but the policy. Takes no memory.
     pub fn select<P: Policy>(&mut self, policy: &mut P, most: usize) -> Result<Chosen, Refused>
         ensures came { Came N.makes self.old.book.near self.new.book.near }
         ensures begun { IfOk result (λ chosen. moment N.view self.new ≡ after_selecting (moment N.view self.old) chosen) }
@@ -32,10 +31,10 @@ impl<N: Hand + Drop, D: Device + Drop> Evac<N, D> {
         ensures device { self.new.book.device ≡ self.old.book.device }
         ensures unchanged { IfErr result (λ _. self.new ≡ self.old) }
         ensures barred { (why : why_refused) → unselectable (moment N.view self.old) ≡ Some why → (result ≡ Err why) × (policy.new ≡ policy.old) }
-        ensures why { IfErr result (λ why. ((why ≡ Memory) × (policy.new ≡ policy.old)) ⊎ (unselectable (moment N.view self.old) ≡ Some why)
+        ensures why { IfErr result (λ why. (unselectable (moment N.view self.old) ≡ Some why)
             ⊎ (IsBadChoice why × P.gives policy.old (map (row_of (N.view self.old.book.near)) self.old.book.order) most (Err why) policy.new)) }
         ensures refused { IfErr result (λ why. unselectable (moment N.view self.old) ≡ None →
-            ((why ≡ Memory) × (policy.new ≡ policy.old)) ⊎ P.gives policy.old (map (row_of (N.view self.old.book.near)) self.old.book.order) most (Err why) policy.new) }
+            P.gives policy.old (map (row_of (N.view self.old.book.near)) self.old.book.order) most (Err why) policy.new) }
     {
         if self.round.phase != Phase::Idle {
             return Err(Refused::Phase);
@@ -44,7 +43,7 @@ impl<N: Hand + Drop, D: Device + Drop> Evac<N, D> {
             return Err(Refused::EpochsSpent);
         }
         self.book.keeps_law();
-        let rows = self.book.rows()?;
+        let rows = self.book.log_rows();
         let mut chosen = Chosen::new();
         policy.choose(rows.as_slice(), most, &mut chosen)?;
         if !chosen.is_empty() {

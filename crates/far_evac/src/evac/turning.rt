@@ -92,7 +92,7 @@ impl<N: Hand + Drop, D: Device + Drop> Evac<N, D> {
             (result ≡ Err record { so_far = progress_of nothing false; why = why }) × (self.new ≡ self.old) × (policy.new ≡ policy.old) }
         ensures refused { unselectable (moment N.view self.old) ≡ None → IfErr result (λ fault.
             ((fault.so_far ≡ progress_of nothing false) × (self.new ≡ self.old)
-            × (((fault.why ≡ Memory) × (policy.new ≡ policy.old)) ⊎ (IsBadChoice fault.why × P.gives policy.old (map (row_of (N.view self.old.book.near)) self.old.book.order) most (Err fault.why) policy.new)))
+            × IsBadChoice fault.why × P.gives policy.old (map (row_of (N.view self.old.book.near)) self.old.book.order) most (Err fault.why) policy.new)
             ⊎ ((logs : List ℕ) × P.gives policy.old (map (row_of (N.view self.old.book.near)) self.old.book.order) most (Ok logs) policy.new
             × ((fault.why ≡ Memory) ⊎ (fault.why ≡ Failed)) × (N.still → HaltsTurns (after_selecting (moment N.view self.old) logs) turns fault.so_far (moment N.view self.new))
             × StopsAsking D D.writes D.lets_go D.contents (after_selecting (moment N.view self.old) logs) turns fault.so_far fault.why (moment N.view self.new) self.old.book.device self.new.book.device)) }

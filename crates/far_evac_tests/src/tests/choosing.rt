@@ -107,6 +107,25 @@ impl Policy for Asked {
     }
 }
 
+// Whether a policy is asked with a row of each log but the open one and the one that is kept free, of a heap of 64.
+fn has_62_rows(evac: &mut Evac<Plain, MemDevice>) -> bool {
+    let mut asked = Asked {
+        times: 0,
+        rows: 0,
+        first: None,
+    };
+    makes_many(evac, 63, 1016)
+        && selects(evac, &mut asked, 64, &[])
+        && (asked.times, asked.rows) == (1, 62)
+        && selects(evac, &mut Oldest, 3, &[0, 1, 2])
+}
+
+#[test]
+fn a_policy_is_handed_all_rows_of_the_largest_heap(rt: HostRuntime) {
+    let largest = Shape { logs: 64, ..SMALL };
+    assert!(rt; is_so_of(evacuator(&rt, largest), has_62_rows));
+}
+
 fn six() -> Shape {
     Shape { logs: 6, ..SMALL }
 }

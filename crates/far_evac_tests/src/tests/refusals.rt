@@ -9,9 +9,10 @@ use crate::tests::steps::{
 };
 use far_book::{Home, Plain};
 use far_device::MemDevice;
-use far_evac::{Evac, EvacFault, LogState, Phase};
+use far_evac::{Evac, EvacFault, LogState, Phase, Progress};
 use far_policy::Oldest;
 use far_word::Refused;
+use std::test::Fail;
 
 /// All that can be seen of an evacuator with four logs and three objects: the phase, the epoch, the logs, where the objects are.
 #[derive(Clone, Copy, PartialEq)]
@@ -135,4 +136,22 @@ fn leaves_last(evac: &mut Evac<Plain, MemDevice>) -> bool {
 #[test]
 fn leaving_comes_last(rt: HostRuntime) {
     assert!(rt; is_so_of(evacuator(&rt, SMALL), leaves_last));
+}
+
+#[test]
+fn a_fault_tells_why_and_what_was_done(rt: HostRuntime) -> Result<(), Fail> {
+    let so_far = Progress {
+        moved: 1,
+        far: 2,
+        dropped: 3,
+        freed: 4,
+        done: false,
+    };
+    let fault = EvacFault {
+        so_far,
+        why: Refused::Device,
+    };
+    let text = format!(in rt.alloc(); "{fault}")?;
+    assert!(rt; text.as_str() == "the device failed; done before: moved 1 far 2 dropped 3 freed 4");
+    Ok(())
 }

@@ -9,7 +9,7 @@ pub choose-requires-clause-rows : goal.choose-requires-clause-rows
 choose-requires-clause-rows g c =
     let book = c.self.inside.book in
     rows_are (g.N.Hand.view book.near) book.order c.keeps_law.ensures.law c.keeps_law.ensures.sealed c.keeps_law.ensures.once
-    c.as_slice.result.now (c.as_slice.ensures.value ∙ c.in_ok-rows.ensures.rows)
+    c.as_slice.result.now (c.as_slice.ensures ∙ c.log_rows-rows.ensures)
 
 pub invariant_of-self : goal.invariant_of-self
 invariant_of-self g c =
@@ -18,5 +18,5 @@ invariant_of-self g c =
     let epoch : c.shape.result.epoch ≡ s.epoch = ap (λ (shape : Shape). shape.epoch) c.shape.ensures.is in
     let other : s.epoch + 1 ≢ EPOCH_END = λ e. grind (arith, nat_tests, e, epoch, c.if-shape-eq-EPOCH_END.false) in
     selected_round s book.order c.keeps_law.ensures.law c.keeps_law.ensures.sealed c.keeps_law.ensures.once
-    c.as_slice.result.now (c.as_slice.ensures.value ∙ c.in_ok-rows.ensures.rows)
+    c.as_slice.result.now (c.as_slice.ensures ∙ c.log_rows-rows.ensures)
     c.args.most _ c.choose.ensures.chosen refl refl refl (some_chosen c.choose.new.out (sym c.is_empty.ensures ∙ c.if-not-is_empty.true)) other
