@@ -3,8 +3,9 @@
 
 usage: differ_split.py PROGRAM SEED TRACES
 Each mutator's replies must follow from its own lines, whatever other threads do: only where there is no room for an object
-that it doesn't view, or `try` finds it far or marked, may a line be refused that else is served. What the book is told must
-be true of some heap. Where one thread has all the lines, each reply is the plain program's.
+that it doesn't view, or `try` finds it far or marked, may a line be refused that else is served. Of a device that fails or
+gives too few bytes one line may be refused besides; of one that inverts bytes one object may have come back so. What the book
+is told must be true of some heap. Where one thread has all the lines, each reply is the plain program's.
 Prints nothing and ends with 0 where that always holds; else prints the first reply that is wrong and ends with 1.
 """
 import re
@@ -24,9 +25,9 @@ LIMIT = re.compile(r"round limit (marking|waiting|evacuating)")
 
 
 def has_thread(found: list, made: tuple) -> bool:
-    """Whether a command is the heap's, that of its device which doesn't lie, the book's, or that of a mutator which the heap has."""
+    """Whether a command is the heap's, its device's, the book's, or that of a mutator which the heap has."""
     name, operands = made
-    return name == "heap" or (name == "device" and operands[0] == "fail") or name in BOOK or (name in OWN and operands[0] < found[0][1][1])
+    return name in ("heap", "device") or name in BOOK or (name in OWN and operands[0] < found[0][1][1])
 
 
 def is_slow(word: int, found: Thing, logs: int) -> bool:
@@ -40,13 +41,21 @@ def is_slow(word: int, found: Thing, logs: int) -> bool:
     return "e" not in marks and (at, log) == (0, 0)
 
 
-class Alone(Heap):
-    """A mutator as its own lines tell it. Room is what others leave: a reply tells whether there was any, or enough memory, or whether the device failed."""
+class Flaw:
+    """What is wrong in one call of the device, whichever thread makes it, and of which pointer's object it told inverted bytes."""
 
-    def __init__(self, logs: int, mutators: int, is_short: bool = False, fails: bool = False):
+    def __init__(self, flaw: str = "fail", call: int = 0):
+        self.flaw, self.refused = flaw, {"fail": ("refused 10",), "short": ("refused 11",)}.get(flaw, ()) if call else ()
+        self.may_invert, self.inverted = flaw == "flip" and call > 0, None
+
+
+class Alone(Heap):
+    """A mutator as its own lines tell it. Room is what others leave: a reply tells whether there was any, or enough memory, or whether the device failed or lied."""
+
+    def __init__(self, logs: int, mutators: int, is_short: bool = False, flaw: Flaw = Flaw()):
         super().__init__(logs, mutators)
         self.logs, self.reply, self.may_lack, self.lacks = logs, "", ("refused 2", "refused 1")[: 1 + is_short], ()
-        self.may_fail = ("refused 10",) if fails else ()
+        self.flaw_of, self.others = flaw, {}  # (what each object would have, had it come back inverted at one of its views)
 
     def place(self, found: Thing, kept: int) -> bool:
         return self.reply not in self.lacks
@@ -60,9 +69,33 @@ class Alone(Heap):
         self.views[m].add(p)
         return "ok"
 
+    def reach(self, m: int, p: int, found: Thing) -> str:
+        is_new = p not in self.views[m]
+        if (said := super().reach(m, p, found)) == "ok" and is_new and self.flaw_of.may_invert and self.flaw_of.inverted is None:
+            self.others.setdefault(p, []).append(bytearray(255 - byte for byte in found.bytes))
+        return said
+
+    def access(self, m: int, p: int, start: int, data) -> str:
+        said = super().access(m, p, start, data)
+        others = self.others.get(p, [])
+        if not isinstance(data, int):
+            for found in others if said == "ok" else []:
+                found[start : start + len(data)] = data
+        elif said.startswith("data "):
+            self.others[p] = others = [found for found in others if self.reply == "data " + found[start : start + data].hex()]
+            if said != self.reply and others and self.flaw_of.inverted in (None, p):
+                self.flaw_of.inverted, self.objects[m][p % CELLS].bytes = p, bytearray(others[0])
+                return self.reply
+        return said
+
+    def drop(self, m: int, p: int) -> str:
+        if (said := super().drop(m, p)) == "ok":
+            self.others.pop(p, None)
+        return said
+
     def expected(self, name: str, operands: list, reply: str) -> str:
         """The reply, where it may come; else one that may."""
-        self.reply, self.lacks = reply, self.may_lack + (self.may_fail if name != "new" else ())
+        self.reply, self.lacks = reply, self.may_lack + (self.flaw_of.refused if name != "new" else ())
         said = self.answer(name, operands)
         return reply if said == "refused 2" and reply in self.lacks else said
 
@@ -120,23 +153,24 @@ def wrong_reply(shape: list, commands: list, output: str, is_short: bool):
     own = [[made for made in commands if made[0] in OWN and made[1][0] == m] for m in range(shape[1])]
     asked = [made for made in commands if made[0] in BOOK]
     device = next((operands for name, operands in commands if name == "device"), ["fail", 0])
-    fails = device[1] > 0
-    if output.count("refused 10") > fails:
-        return "refused 10", device
+    flaw = Flaw(*device)
+    for refused in ("refused 10", "refused 11"):
+        if output.count(refused) > (refused in flaw.refused):
+            return refused, device
     plain = Heap(*shape) if sum(map(bool, [*own, asked])) == 1 and not is_short else None
     if plain:
         plain.device(*device)
     for m, mine in enumerate(own):
         if (line := next(lines, None)) != f"mutator {m}":
             return line, f"mutator {m}"
-        alone = Alone(*shape[:2], is_short, fails)
+        alone = Alone(*shape[:2], is_short, flaw)
         for made in mine:
             line = next(lines, "")
             if line != (plain.answer(*made) if plain else alone.expected(*made, line)):
                 return line, made
     if (line := next(lines, None)) != "book":
         return line, "book"
-    told = Told(is_short, fails, *shape)
+    told = Told(is_short, "refused 10" in flaw.refused, *shape)
     for made in asked:
         found = [next(lines, "") for _ in range(shape[0] if made[0] == "logs" else 1)]
         if not told.is_answered(*made, found) or (plain and "\n".join(found) != plain.answer(*made)):
@@ -197,7 +231,7 @@ class SplitWriter(Writer):
         if self.choice.random() < 0.5:
             return super().spoiled(text)
         m = self.choice.choice((len(self.heap.scopes), 8, 255, LAST_NUMBER))
-        others = f"open {m}|new {m} 8 1|try {m} 0|epoch 0|where 0 0|select oldest 1|mark 1|wait|evacuate 1|abort|select script 1 0|device short 1|device flip 1"
+        others = f"open {m}|new {m} 8 1|try {m} 0|epoch 0|where 0 0|select oldest 1|mark 1|wait|evacuate 1|abort|select script 1 0|device fail 1|device short 1|device flip 1"
         lines = text.split(b"\n")
         lines.insert(self.choice.randrange(1, len(lines) + 1), self.choice.choice(others.split("|")).encode())
         return b"\n".join(lines)
@@ -205,7 +239,7 @@ class SplitWriter(Writer):
     def text(self) -> bytes:
         lines = [*self.choice.choice(([], [], ["# first", ""])), " ".join(["heap", *map(str, self.shape)])]
         if self.choice.random() < 0.2:
-            flaw = self.choice.choice((*["fail"] * 9, "short", "flip"))
+            flaw = self.choice.choice(("fail", "short", "flip"))
             lines.append(f"device {flaw} {self.choice.choice((0, 1, 2, 3, 9, 40))}")
         if "audit" in self.weights:  # so that the book's thread doesn't run ahead of all others
             lines += ["audit"] * self.choice.choice((0, 20, 100))

@@ -1,26 +1,44 @@
 -- What is allowed of a mutator that is alone, and beside others.
-use Rattle.std.proofs.Common.{Bool, true, [], ◌∷◌, sym, subst, inl}
+use Rattle.std.proofs.Common.{◌≡◌, ℕ, Bool, true, false, List, [], ◌∷◌, sym, subst, inl, inr, refl}
 use Rattle.std.specs.Bool.{MatchBool}
-use Rattle.far_replay.specs.Alone.{Alone, Knows, Own}
-use Rattle.far_split.specs.Here.{AloneIsAloneHere, AloneOnIsAloneHere, UnhinderedIsAlone}
+use Rattle.far_text.specs.Command.{Command}
+use Rattle.far_replay.specs.Alone.{Alone, IsMisled, Knows, KnowsBy, Own}
+use Rattle.far_replay.specs.Reply.{Reply}
+use Rattle.far_split.specs.Here.{AloneHere, AloneIsAloneHere, AloneOnIsAloneHere, AreBy, AreUndamaged, Hindered, HonestIsAllowed, IsGivenOthers, IsUndamaged, KnowsHere, UnhinderedIsAlone}
+
+-- a mutator that is misled is given other bytes
+misled_here : (m : ℕ) (o : Own) (c : Command) (r : Reply) (q : Own) → IsMisled m o c r q → IsGivenOthers m o c r q
+misled_here m o c r q misled = record { p = misled.p; asks = misled.asks; old = misled.old; new = misled.new; had = misled.had; long = misled.long; knows = misled.knows }
+
+known_here : (honest : Bool) (m : ℕ) (o : Own) (c : Command) (r : Reply) (q : Own) → KnowsBy honest m o c r q → (honest ≡ true → IsUndamaged r) → KnowsHere honest m o c r q
+known_here true m o c r q knows whole = (inl knows, whole refl)
+known_here false m o c r q (inl knows) whole = inl knows
+known_here false m o c r q (inr misled) whole = inr (inr (misled_here m o c r q misled))
 
 pub alone_here : AloneIsAloneHere
-alone_here m o [] [] own whole alone = tt
-alone_here m o [] (r ∷ rs) own whole alone = alone
-alone_here m o (c ∷ cs) [] own whole alone = alone
-alone_here m o (c ∷ cs) (r ∷ rs) own whole alone =
-    let is = subst (λ (b : Bool). MatchBool b ((q : Own) × Knows m o c r q × Alone true m q cs rs) (Alone true m o cs rs)) own.0 alone in
-    (is.0, (inl is.1, whole.0), alone_here m is.0 cs rs own.1 whole.1 is.2)
+alone_here honest m o [] [] own whole alone = tt
+alone_here honest m o [] (r ∷ rs) own whole alone = alone
+alone_here honest m o (c ∷ cs) [] own whole alone = alone
+alone_here honest m o (c ∷ cs) (r ∷ rs) own whole alone =
+    let is = subst (λ (b : Bool). MatchBool b ((q : Own) × KnowsBy honest m o c r q × Alone honest m q cs rs) (Alone honest m o cs rs)) own.0 alone in
+    (is.0, known_here honest m o c r is.0 is.1 (λ yes. (whole yes).0), alone_here honest m is.0 cs rs own.1 (λ yes. (whole yes).1) is.2)
 
 pub unhindered_alone : UnhinderedIsAlone
-unhindered_alone m o [] [] own free = tt
-unhindered_alone m o [] (r ∷ rs) own free = free
-unhindered_alone m o (c ∷ cs) [] own free = free
-unhindered_alone m o (c ∷ cs) (r ∷ rs) own free = subst (λ (b : Bool). MatchBool b ((q : Own) × Knows m o c r q × Alone true m q cs rs) (Alone true m o cs rs)) (sym own.0)
-    (free.0, free.1, unhindered_alone m free.0 cs rs own.1 free.2)
+unhindered_alone honest m o [] [] own free = tt
+unhindered_alone honest m o [] (r ∷ rs) own free = free
+unhindered_alone honest m o (c ∷ cs) [] own free = free
+unhindered_alone honest m o (c ∷ cs) (r ∷ rs) own free = subst (λ (b : Bool). MatchBool b ((q : Own) × KnowsBy honest m o c r q × Alone honest m q cs rs) (Alone honest m o cs rs)) (sym own.0)
+    (free.0, free.1, unhindered_alone honest m free.0 cs rs own.1 free.2)
 
 pub on_heap : AloneOnIsAloneHere
 on_heap heap m o [] [] alone = tt
 on_heap heap m o [] (r ∷ rs) alone = alone
 on_heap heap m o (c ∷ cs) [] alone = alone
 on_heap heap m o (c ∷ cs) (r ∷ rs) alone = (alone.0, alone.1, on_heap heap m alone.0 cs rs alone.3)
+
+pub honest_allowed : HonestIsAllowed
+honest_allowed m o [] [] alone = tt
+honest_allowed m o [] (r ∷ rs) alone = alone
+honest_allowed m o (c ∷ cs) [] alone = alone
+honest_allowed m o (c ∷ cs) (r ∷ rs) (q, (inl knows, whole), later) = (q, inl knows, honest_allowed m q cs rs later)
+honest_allowed m o (c ∷ cs) (r ∷ rs) (q, (inr hindered, whole), later) = (q, inr (inl hindered), honest_allowed m q cs rs later)

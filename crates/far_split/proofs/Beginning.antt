@@ -1,5 +1,5 @@
 -- The jobs of a new heap's threads.
-use Rattle.std.proofs.Common.{◌≡◌, inl, inr, ℕ, suc, ◌+◌, ◌-◌, ◌<◌, List, [], ◌∷◌, ◌++◌, length, length-append, get_or, ap, sym, subst, ◌∙◌, arith, true}
+use Rattle.std.proofs.Common.{◌≡◌, inl, inr, ℕ, suc, ◌+◌, ◌-◌, ◌<◌, List, [], ◌∷◌, ◌++◌, length, length-append, get_or, ap, sym, subst, ◌∙◌, arith}
 use Rattle.std.specs.Prelude.{map}
 use Rattle.std.specs.List.{range_with_len, remove}
 use Rattle.std.proofs.lemmas.Bool.{cases_lt}
@@ -15,16 +15,16 @@ later heap number = map (λ m. newcomer heap.table m heap.honest) (range_with_le
 
 -- the first of them, and those behind it
 pub record IsFirst (heap : HeapId) (number : ℕ) (mutator : Mine) (left : List Mine) : Type 0 where
-  pub first : mutator ≡ newcomer heap.table number true
+  pub first : mutator ≡ newcomer heap.table number heap.honest
   pub rest : left ≡ later heap (number + 1)
 
-pub first_is : (heap : HeapId) (number : ℕ) (mutators : List Mine) (mutator : Mine) (left : List Mine) → number < heap.mutators → heap.honest ≡ true
+pub first_is : (heap : HeapId) (number : ℕ) (mutators : List Mine) (mutator : Mine) (left : List Mine) → number < heap.mutators
     → mutators ≡ later heap number → mutator ≡ get_or mutators 0 mutator → left ≡ remove mutators 0 → IsFirst heap number mutator left
-first_is heap number mutators mutator left lt honest are is others =
+first_is heap number mutators mutator left lt are is others =
     let f = λ (m : ℕ). newcomer heap.table m heap.honest in
     let more : heap.mutators - number ≡ suc (heap.mutators - (number + 1)) = omega arith in
     let all : mutators ≡ f number ∷ later heap (number + 1) = are ∙ ap (λ n. map f (range_with_len number n)) more in
-    record { first = is ∙ ap (λ xs. get_or xs 0 mutator) all ∙ ap (newcomer heap.table number) honest; rest = others ∙ ap (λ xs. remove xs 0) all }
+    record { first = is ∙ ap (λ xs. get_or xs 0 mutator) all; rest = others ∙ ap (λ xs. remove xs 0) all }
 
 -- the jobs of the mutators before this one
 pub record JobsBefore {K : Type 0} (heap : HeapId) (number : ℕ) (jobs : List (Job K)) : Type 0 where

@@ -1,22 +1,22 @@
 -- What all threads were answered, from how each ended.
-use Rattle.std.proofs.Common.{◌≡◌, ◌⊎◌, inl, inr, ℕ, suc, ◌+◌, ◌<◌, Bool, true, false, Some, None, Result, Ok, Err, List, [], ◌∷◌, ◌++◌, length, length-append, get_or, ap, sym, subst, ◌∙◌, refl, arith, append_assoc}
+use Rattle.std.proofs.Common.{◌≡◌, ◌⊎◌, inl, inr, ℕ, suc, ◌+◌, ◌<◌, Bool, true, false, Option, Some, None, Result, Ok, Err, List, [], ◌∷◌, ◌++◌, length, length-append, get_or, ap, sym, subst, ◌∙◌, refl, arith, append_assoc}
 use Rattle.std.specs.Prelude.{IfErr, IfOk, map, ◌==◌, if◌then◌else◌}
-use Rattle.std.specs.Global.{Vec}
 use Rattle.std.specs.List.{AllByRecursion, remove}
 use Rattle.std.proofs.lemmas.Bool.{eqb-false, eqb-true}
 use Rattle.std.proofs.lemmas.List.{get_or-append-add, get_or-map, get_or_append_left, get_or_default, get_or_push, length-map, map-append}
-use Rattle.far_text.specs.Command.{Command}
+use Rattle.far_text.specs.Command.{Command, Device}
 use Rattle.far_text.specs.Threads.{OfMutator}
 use Rattle.far_hand.specs.ShapeOf.{shape_of as shape_in}
 use Rattle.far_table.specs.BookSeats.{seat_view}
 use Rattle.far_heap.specs.Blanks.{BlankOf, IsUnused}
 use Rattle.far_heap.specs.HeapId.{HeapId}
 use Rattle.far_replay.specs.Alone.{nothing}
+use Rattle.far_replay.specs.Answers.{is_true}
 use Rattle.far_replay.specs.Reply.{IsShort, Reply}
-use Rattle.far_split.specs.FarSides.{FarSide}
+use Rattle.far_split.specs.FarSides.{FarSide, IsFlawed}
 use Rattle.far_split.specs.Here.{AloneOn}
 use Rattle.far_split.specs.Jobs.{AreEnds, AreStops, EndsSo, IsPart, IsStop, Joins, StopsSo}
-use Rattle.far_split.specs.Joined.{AllRan, AreShort, IsFault, MayStop, RanSo, as_joined, commands_in, replies_of, who_at}
+use Rattle.far_split.specs.Joined.{AllRan, AreShort, IsFault, MayStop, RanSo, as_joined, commands_in, who_at}
 use Rattle.far_split.specs.declared.gate.TheConstants.{THE_BOOK}
 use Rattle.far_split.specs.declared.mutators.Stop.{Stop}
 use Rattle.far_split.specs.declared.mutators.Stop.TheVariants as stops
@@ -24,7 +24,6 @@ use Rattle.far_split.specs.declared.split_out.SplitOut.{SplitOut}
 use Rattle.far_split.specs.declared.split_out.SplitOut.TheVariants.{Refused as OutRefused, Ran as OutRan}
 use Rattle.far_split.specs.declared.run.SplitFault.{SplitFault}
 use Rattle.far_split.specs.declared.run.SplitFault.TheVariants as faults
-use Rattle.far_split.specs.declared.told.Told.{Told}
 use Rattle.far_split.proofs.OwnLines.{are_by}
 
 -- the heap is that of these parts, which nobody had used
@@ -35,9 +34,9 @@ pub record IsBegun (heap : HeapId) (blank : BlankOf FarSide) : Type 0 where
   pub order : blank.book.order ≡ []
 
 abbrev pub End : Type 0
-End = Result (Vec Told) Stop
+End = Result (List Reply) Stop
 
-abbrev pub answered : Vec Told → End
+abbrev pub answered : List Reply → End
 answered told = Ok told
 
 -- what holds at each place holds of all
@@ -45,36 +44,36 @@ all_from : {X : Type 0} (P : X → Type 0) (other : X) (xs : List X) → ((at : 
 all_from P other [] each = tt
 all_from P other (x ∷ xs) each = (each 0 (omega arith), all_from P other xs (λ at lt. each (suc at) (omega arith)))
 
-module _ (heap : HeapId) (lines : List (ℕ × Command)) (ends : List End) (are : AreEnds heap lines ends) (parts : List (Vec Told)) (book : Vec Told) (joins : ends ≡ map answered (parts ++ book ∷ [])) where
+module _ (heap : HeapId) (lines : List (ℕ × Command)) (ends : List End) (are : AreEnds heap lines ends) (parts : List (List Reply)) (book : List Reply) (joins : ends ≡ map answered (parts ++ book ∷ [])) where
   count : length parts ≡ heap.mutators
   count = omega (arith, are.many, ap length joins, length-map (parts ++ book ∷ []) answered, length-append parts (book ∷ []))
 
   -- the replies of a thread
-  part_at : (at : ℕ) → at < length ends → IsPart heap lines at (replies_of (get_or (parts ++ book ∷ []) at book))
+  part_at : (at : ℕ) → at < length ends → IsPart heap lines at (get_or (parts ++ book ∷ []) at book)
   part_at at lt =
       let long : at < length (parts ++ book ∷ []) = omega (arith, ap length joins, length-map (parts ++ book ∷ []) answered) in
       let is : get_or ends at (answered book) ≡ answered (get_or (parts ++ book ∷ []) at book) =
       ap (λ xs. get_or xs at (answered book)) joins ∙ get_or-map answered (parts ++ book ∷ []) at book (answered book) long in
       subst (EndsSo heap lines at) is (are.each at (answered book) lt)
 
-  mutators_part : (at : ℕ) → at < length parts → IsPart heap lines at (replies_of (get_or parts at book))
+  mutators_part : (at : ℕ) → at < length parts → IsPart heap lines at (get_or parts at book)
   mutators_part at lt =
-      subst (λ told. IsPart heap lines at (replies_of told)) (get_or_append_left parts (book ∷ []) book at lt) (part_at at (omega (arith, are.many, count)))
+      subst (IsPart heap lines at) (get_or_append_left parts (book ∷ []) book at lt) (part_at at (omega (arith, are.many, count)))
 
-  books_part : IsPart heap lines heap.mutators (replies_of book)
-  books_part = subst (λ told. IsPart heap lines heap.mutators (replies_of told)) (get_or_push parts book book heap.mutators count) (part_at heap.mutators (omega (arith, are.many)))
+  books_part : IsPart heap lines heap.mutators book
+  books_part = subst (IsPart heap lines heap.mutators) (get_or_push parts book book heap.mutators count) (part_at heap.mutators (omega (arith, are.many)))
 
-  read_at : (at : ℕ) (other : List Reply) → at < length parts → get_or (map replies_of parts) at other ≡ replies_of (get_or parts at book)
-  read_at at other lt = get_or-map replies_of parts at book other lt
+  read_at : (at : ℕ) (other : List Reply) → at < length parts → get_or parts at other ≡ get_or parts at book
+  read_at at other lt = get_or_default parts at other book lt
 
-  pub all_ran : (blank : BlankOf FarSide) → IsBegun heap blank → heap.honest ≡ true
-      → AllRan (shape_in (seat_view blank.book.near)) blank.book.device.left lines (map replies_of parts) (replies_of book)
-  all_ran blank begun honest = record {
+  pub all_ran : (blank : BlankOf FarSide) (device : Option Device) → IsBegun heap blank → IsFlawed device blank.book.device → heap.honest ≡ is_true device
+      → AllRan (shape_in (seat_view blank.book.near)) device lines parts book
+  all_ran blank device begun flawed honest = record {
     heap = heap;
-    began = record { blank = blank; named = begun.named; shaped = refl; unused = begun.unused; order = begun.order; fails = refl };
+    began = record { blank = blank; named = begun.named; shaped = refl; unused = begun.unused; order = begun.order; flawed = flawed };
     size = begun.size;
     honest = honest;
-    many = length-map parts replies_of ∙ count ∙ begun.size.1;
+    many = count ∙ begun.size.1;
     own = λ m lt. are_by m lines;
     alone = λ m lt.
         let ours : m < heap.mutators = omega (arith, lt, begun.size.1) in
@@ -83,19 +82,16 @@ module _ (heap : HeapId) (lines : List (ℕ × Command)) (ends : List End) (are 
     told = books_part.told refl;
   }
 
-  pub all_short : AllByRecursion (AllByRecursion IsShort) (map replies_of parts) × AllByRecursion IsShort (replies_of book)
+  pub all_short : AllByRecursion (AllByRecursion IsShort) parts × AllByRecursion IsShort book
   all_short = (
-    all_from (AllByRecursion IsShort) [] (map replies_of parts)
-        (λ at lt.
-        let below : at < length parts = omega (arith, lt, length-map parts replies_of) in
-        subst (AllByRecursion IsShort) (sym (read_at at [] below)) (mutators_part at below).short),
+    all_from (AllByRecursion IsShort) [] parts (λ at lt. subst (AllByRecursion IsShort) (sym (read_at at [] lt)) (mutators_part at lt).short),
     books_part.short,
   )
 
-pub ran_so : (heap : HeapId) (blank : BlankOf FarSide) (lines : List (ℕ × Command)) (ends : List End) (out : SplitOut) → IsBegun heap blank → heap.honest ≡ true → AreEnds heap lines ends → Joins ends out
-    → RanSo (shape_in (seat_view blank.book.near)) blank.book.device.left lines (as_joined out)
-ran_so heap blank lines ends (OutRefused why) begun honest are joins = joins
-ran_so heap blank lines ends (OutRan mutators book) begun honest are joins = all_ran heap lines ends are mutators.items book joins blank begun honest
+pub ran_so : (heap : HeapId) (blank : BlankOf FarSide) (device : Option Device) (lines : List (ℕ × Command)) (ends : List End) (out : SplitOut) → IsBegun heap blank → IsFlawed device blank.book.device → heap.honest ≡ is_true device
+    → AreEnds heap lines ends → Joins ends out → RanSo (shape_in (seat_view blank.book.near)) device lines (as_joined out)
+ran_so heap blank device lines ends (OutRefused why) begun flawed honest are joins = joins
+ran_so heap blank device lines ends (OutRan mutators book) begun flawed honest are joins = all_ran heap lines ends are mutators.items book joins blank device begun flawed honest
 
 pub are_short : (heap : HeapId) (lines : List (ℕ × Command)) (ends : List End) (out : SplitOut) → AreEnds heap lines ends → Joins ends out → AreShort (as_joined out)
 are_short heap lines ends (OutRefused why) are joins = absurd joins
@@ -120,10 +116,10 @@ module _ (refuses : ℕ → ℕ → Type 0) (heap : HeapId) (lines : List (ℕ �
       subst (λ (k : ℕ). MayStop refuses heap.mutators lines (faults.Gate k)) (sym same) (named_at at (omega (arith, stopped.0, are.many)) here)
 
 -- ---- the same of a result
-pub all_ran_so : (heap : HeapId) (blank : BlankOf FarSide) (lines : List (ℕ × Command)) (ends : List End) (result : Result SplitOut SplitFault) → IsBegun heap blank → heap.honest ≡ true → AreEnds heap lines ends
-    → IfOk result (Joins ends) → IfOk result (λ out. RanSo (shape_in (seat_view blank.book.near)) blank.book.device.left lines (as_joined out))
-all_ran_so heap blank lines ends (Ok out) begun honest are joins = ran_so heap blank lines ends out begun honest are joins
-all_ran_so heap blank lines ends (Err fault) begun honest are joins = tt
+pub all_ran_so : (heap : HeapId) (blank : BlankOf FarSide) (device : Option Device) (lines : List (ℕ × Command)) (ends : List End) (result : Result SplitOut SplitFault) → IsBegun heap blank
+    → IsFlawed device blank.book.device → heap.honest ≡ is_true device → AreEnds heap lines ends → IfOk result (Joins ends) → IfOk result (λ out. RanSo (shape_in (seat_view blank.book.near)) device lines (as_joined out))
+all_ran_so heap blank device lines ends (Ok out) begun flawed honest are joins = ran_so heap blank device lines ends out begun flawed honest are joins
+all_ran_so heap blank device lines ends (Err fault) begun flawed honest are joins = tt
 
 pub all_are_short : (heap : HeapId) (lines : List (ℕ × Command)) (ends : List End) (result : Result SplitOut SplitFault) → AreEnds heap lines ends → IfOk result (Joins ends) → IfOk result (λ out. AreShort (as_joined out))
 all_are_short heap lines ends (Ok out) are joins = are_short heap lines ends out are joins
@@ -140,7 +136,7 @@ took_first [] left end some first others = absurd (omega (arith, some))
 took_first (x ∷ xs) left end some first others = λ i. sym first i ∷ sym others i
 
 -- where none was stopped, this one wasn't
-pub never_stopped : (ends rest : List End) (parts : List (Vec Told)) (end : End) (why : Stop) → IsFault ends None → ends ≡ map answered parts ++ rest → 0 < length rest → end ≡ get_or rest 0 end → end ≡ Err why → ⊥
+pub never_stopped : (ends rest : List End) (parts : List (List Reply)) (end : End) (why : Stop) → IsFault ends None → ends ≡ map answered parts ++ rest → 0 < length rest → end ≡ get_or rest 0 end → end ≡ Err why → ⊥
 never_stopped ends rest parts end why none so_far some first is =
     let front = map answered parts in
     let at : ℕ = length front + 0 in
@@ -149,7 +145,7 @@ never_stopped ends rest parts end why none so_far some first is =
     λ other. ap (λ xs. get_or xs at other) so_far ∙ get_or-append-add front rest 0 other ∙ get_or_default rest 0 other end some ∙ sym first ∙ is in
     none at why (below, found)
 
-pub parts_more : (ends rest left : List End) (parts more : List (Vec Told)) (end : End) (told : Vec Told) → ends ≡ map answered parts ++ rest → rest ≡ end ∷ left → end ≡ answered told → more ≡ parts ++ told ∷ []
+pub parts_more : (ends rest left : List End) (parts more : List (List Reply)) (end : End) (told : List Reply) → ends ≡ map answered parts ++ rest → rest ≡ end ∷ left → end ≡ answered told → more ≡ parts ++ told ∷ []
     → ends ≡ map answered more ++ left
 parts_more ends rest left parts more end told so_far first is pushed =
     so_far ∙ ap (λ xs. map answered parts ++ xs) (first ∙ ap (λ x. x ∷ left) is) ∙ sym (append_assoc (map answered parts) (answered told ∷ []) left) ∙ ap (λ xs. xs ++ left) (sym (map-append answered parts (told ∷ [])))

@@ -3,6 +3,8 @@ pub mod Answered
 pub mod Beginning
 pub mod Faults
 pub mod Joining
+pub mod Keeping
+pub mod Lying
 pub mod OwnLines
 pub mod Owns
 pub mod Printing

@@ -2,7 +2,7 @@
 use Rattle.std.proofs.Common.{◌≡◌, ◌≢◌, ℕ, zero, suc, ◌+◌, true, ◌==◌, List, [], ◌∷◌, ◌++◌, append_assoc, drop, map, refl, sym, ap, subst, ◌∙◌, inl, inr}
 use Rattle.std.specs.List.{AllByRecursion}
 use Rattle.std.proofs.lemmas.Bool.{cond_both, eqb-true, false≢true}
-use Rattle.std.proofs.lemmas.List.{append-nil, map-append}
+use Rattle.std.proofs.lemmas.List.{append-nil}
 use Rattle.far_heap.specs.HeapId.{HeapId}
 use Rattle.far_heap.specs.Mine.{Mine, newcomer}
 use Rattle.far_text.specs.Command.{Book, Command, Epoch, Evacuator, Mutator, Open, Request, Where, as_command, as_request}
@@ -15,10 +15,8 @@ use Rattle.far_replay.specs.Alone.{Own, nothing}
 use Rattle.far_replay.specs.Reply.{IsShort, Reply}
 use Rattle.far_split.specs.Here.{AloneOn, AreBy, KnowsHere, TellsOfHeap, commands_of}
 use Rattle.far_split.specs.Joined.{commands_in}
-use Rattle.far_split.specs.Slots.{Answers, own_in}
-use Rattle.far_split.specs.Told.{as_reply}
-use Rattle.far_split.specs.declared.told.Told.{Told}
-use Rattle.far_split.proofs.Owns.{own_new}
+use Rattle.far_split.specs.Slots.{Answers, IsOwn}
+use Rattle.far_split.proofs.Owns.{is_new}
 
 -- ---- which lines they are
 pub later_own : (mutators : ℕ) (thread : Thread) (k : ℕ) (lines : List (ℕ × Command)) → AreOwn mutators thread lines → AreOwn mutators thread (drop k lines)
@@ -55,39 +53,40 @@ are_by m ((n, Book inquiry) ∷ lines) = are_by m lines
 are_by m ((n, Evacuator step) ∷ lines) = are_by m lines
 
 -- ---- one line more
-pub first_line : (heap : HeapId) (number : ℕ) (m n : Mine) (k : ℕ) (request : Request) (r : Reply) (cs : List Command) (rs : List Reply) → Answers heap m request r n → m.number ≡ number → k ≡ number
-    → AloneOn heap number (own_in n) cs rs → AloneOn heap number (own_in m) (Mutator k request ∷ cs) (r ∷ rs)
-first_line heap number m n k request r cs rs answers mine own later = (
-  own_in n,
-  subst (λ j. KnowsHere number (own_in m) (Mutator j request) r (own_in n)) (sym own) (subst (λ j. KnowsHere j (own_in m) (Mutator j request) r (own_in n)) mine answers.knows),
-  subst (λ j. TellsOfHeap heap number (own_in m) (Mutator j request) r) (sym own) (subst (λ j. TellsOfHeap heap j (own_in m) (Mutator j request) r) mine answers.tells),
-  later,
-)
+-- whatever the mutator knows of bytes, these are replies to lines on its heap
+abbrev pub AnswersAll : HeapId → Mine → List Command → List Reply → Type 0
+AnswersAll heap m cs rs = (o : Own) → IsOwn m o → AloneOn heap m.number o cs rs
 
-told_more : (told : List Told) (one : Told) (rest : List Reply) → map as_reply (told ++ one ∷ []) ++ rest ≡ map as_reply told ++ as_reply one ∷ rest
-told_more told one rest = ap (λ rs. rs ++ rest) (map-append as_reply told (one ∷ [])) ∙ append_assoc (map as_reply told) (as_reply one ∷ []) rest
+pub first_line : (heap : HeapId) (m n : Mine) (k : ℕ) (request : Request) (r : Reply) (cs : List Command) (rs : List Reply) → Answers heap m request r n → m.honest ≡ heap.honest → k ≡ m.number
+    → AnswersAll heap n cs rs → AnswersAll heap m (Mutator k request ∷ cs) (r ∷ rs)
+first_line heap m n k request r cs rs answers honest own later o is =
+    let learns = answers.learns o is in (
+      learns.own,
+      subst (λ h. KnowsHere h m.number o (Mutator k request) r learns.own) honest (subst (λ j. KnowsHere m.honest m.number o (Mutator j request) r learns.own) (sym own) learns.knows),
+      subst (λ j. TellsOfHeap heap m.number o (Mutator j request) r) (sym own) learns.tells,
+      subst (λ j. AloneOn heap j learns.own cs rs) answers.number (later learns.own learns.is),
+    )
 
-short_more : (told : List Told) (one : Told) → AllByRecursion IsShort (map as_reply told) → IsShort (as_reply one) → AllByRecursion IsShort (map as_reply (told ++ one ∷ []))
+short_more : (told : List Reply) (one : Reply) → AllByRecursion IsShort told → IsShort one → AllByRecursion IsShort (told ++ one ∷ [])
 short_more [] one all short = (short, tt)
 short_more (x ∷ xs) one all short = (all.0, short_more xs one all.1 short)
 
 -- one told more
-module _ (told all : List Told) (one : Told) (are : all ≡ told ++ one ∷ []) where
-  pub all_short : AllByRecursion IsShort (map as_reply told) → IsShort (as_reply one) → AllByRecursion IsShort (map as_reply all)
-  all_short before short = subst (λ (xs : List Told). AllByRecursion IsShort (map as_reply xs)) (sym are) (short_more told one before short)
+module _ (told all : List Reply) (one : Reply) (are : all ≡ told ++ one ∷ []) where
+  pub all_short : AllByRecursion IsShort told → IsShort one → AllByRecursion IsShort all
+  all_short before short = subst (AllByRecursion IsShort) (sym are) (short_more told one before short)
 
-  pub all_alone : (heap : HeapId) (number : ℕ) (cs : List Command) (rest : List Reply) → AloneOn heap number nothing cs (map as_reply told ++ as_reply one ∷ rest) → AloneOn heap number nothing cs (map as_reply all ++ rest)
-  all_alone heap number cs rest alone = subst (λ (xs : List Told). AloneOn heap number nothing cs (map as_reply xs ++ rest)) (sym are)
-      (subst (AloneOn heap number nothing cs) (sym (told_more told one rest)) alone)
+  pub all_alone : (heap : HeapId) (number : ℕ) (cs : List Command) (rest : List Reply) → AloneOn heap number nothing cs (told ++ one ∷ rest) → AloneOn heap number nothing cs (all ++ rest)
+  all_alone heap number cs rest alone = subst (λ (xs : List Reply). AloneOn heap number nothing cs (xs ++ rest)) (sym are) (subst (AloneOn heap number nothing cs) (sym (append_assoc told (one ∷ []) rest)) alone)
 
 -- none told yet, and the last
-pub alone_first : (heap : HeapId) (number : ℕ) (m : Mine) (cs : List Command) (told : List Told) (rest : List Reply) → m ≡ newcomer heap.table number true → told ≡ [] → AloneOn heap number (own_in m) cs rest
-    → AloneOn heap number nothing cs (map as_reply told ++ rest)
-alone_first heap number m cs told rest new none alone = subst (λ (xs : List Told). AloneOn heap number nothing cs (map as_reply xs ++ rest)) (sym none)
-    (subst (λ (o : Own). AloneOn heap number o cs rest) (ap own_in new ∙ own_new heap number) alone)
+pub alone_first : (heap : HeapId) (number : ℕ) (m : Mine) (cs : List Command) (told rest : List Reply) → m ≡ newcomer heap.table number heap.honest → told ≡ [] → AnswersAll heap m cs rest
+    → AloneOn heap number nothing cs (told ++ rest)
+alone_first heap number m cs told rest new none all = subst (λ (xs : List Reply). AloneOn heap number nothing cs (xs ++ rest)) (sym none)
+    (subst (λ (n : Mine). AnswersAll heap n cs rest) new all nothing (is_new heap number heap.honest))
 
-pub alone_last : (heap : HeapId) (number : ℕ) (cs : List Command) (told : List Told) → AloneOn heap number nothing cs (map as_reply told ++ []) → AloneOn heap number nothing cs (map as_reply told)
-alone_last heap number cs told alone = subst (AloneOn heap number nothing cs) (append-nil (map as_reply told)) alone
+pub alone_last : (heap : HeapId) (number : ℕ) (cs : List Command) (told : List Reply) → AloneOn heap number nothing cs (told ++ []) → AloneOn heap number nothing cs told
+alone_last heap number cs told alone = subst (AloneOn heap number nothing cs) (append-nil told) alone
 
 -- the line at a place, as it is spelled, is the mutator's own
 pub own_now : (mutators number at n : ℕ) (c : Spelled) (lines : List (ℕ × Command)) → AreOwn mutators (OfMutator number) lines → drop at lines ≡ (n, as_command c) ∷ drop (at + 1) lines
@@ -97,13 +96,13 @@ own_now mutators number at n c lines own here =
 
 -- it was answered so
 pub answered_line : (heap : HeapId) (mutators number at n : ℕ) (c : Spelled) (k : ℕ) (request : SpelledRequest) (lines : List (ℕ × Command)) (m q : Mine) (r : Reply) (rs : List Reply)
-    → AreOwn mutators (OfMutator number) lines → drop at lines ≡ (n, as_command c) ∷ drop (at + 1) lines → c ≡ SpelledMutator k request → m.number ≡ number → Answers heap m (as_request request) r q
-    → AloneOn heap number (own_in q) (commands_of (drop (at + 1) lines)) rs → AloneOn heap number (own_in m) (commands_of (drop at lines)) (r ∷ rs)
-answered_line heap mutators number at n c k request lines m q r rs own here spelled mine answers later =
+    → AreOwn mutators (OfMutator number) lines → drop at lines ≡ (n, as_command c) ∷ drop (at + 1) lines → c ≡ SpelledMutator k request → m.number ≡ number → m.honest ≡ heap.honest
+    → Answers heap m (as_request request) r q → AnswersAll heap q (commands_of (drop (at + 1) lines)) rs → AnswersAll heap m (commands_of (drop at lines)) (r ∷ rs)
+answered_line heap mutators number at n c k request lines m q r rs own here spelled mine honest answers later =
     let is = subst (λ (s : Spelled). (is_of (OfMutator number) (as_command s) ≡ true) × HasThread mutators (as_command s)) spelled (own_now mutators number at n c lines own here) in
-    subst (λ (ls : List (ℕ × Command)). AloneOn heap number (own_in m) (commands_of ls) (r ∷ rs)) (sym here)
-    (subst (λ (s : Spelled). AloneOn heap number (own_in m) (as_command s ∷ commands_of (drop (at + 1) lines)) (r ∷ rs)) (sym spelled)
-    (first_line heap number m q k (as_request request) r (commands_of (drop (at + 1) lines)) rs answers mine (eqb-true k number is.0) later))
+    subst (λ (ls : List (ℕ × Command)). AnswersAll heap m (commands_of ls) (r ∷ rs)) (sym here)
+    (subst (λ (s : Spelled). AnswersAll heap m (as_command s ∷ commands_of (drop (at + 1) lines)) (r ∷ rs)) (sym spelled)
+    (first_line heap m q k (as_request request) r (commands_of (drop (at + 1) lines)) rs answers honest (eqb-true k number is.0 ∙ sym mine) later))
 
 pub asks_now : (mutators number at n : ℕ) (c : Spelled) (k : ℕ) (request : SpelledRequest) (lines : List (ℕ × Command)) → AreOwn mutators (OfMutator number) lines
     → drop at lines ≡ (n, as_command c) ∷ drop (at + 1) lines → c ≡ SpelledMutator k request → is_own (as_request request) ≡ true

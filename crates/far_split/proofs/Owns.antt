@@ -1,20 +1,20 @@
 -- What a mutator of the heap knows of itself, and what its calls make of that.
-use Rattle.std.proofs.Common.{◌≡◌, ◌≢◌, ℕ, ◌/◌, ◌%◌, ◌<◌, Bool, true, false, Option, Some, None, is_some, List, length, map, refl, sym, ap, ◌∙◌, inl, inr, arith, eqb}
+use Rattle.std.proofs.Common.{◌≡◌, ◌≢◌, ℕ, ◌+◌, ◌/◌, ◌%◌, ◌<◌, ◌≤◌, Bool, true, false, Option, Some, None, is_some, List, length, map, refl, sym, ap, subst, ◌∙◌, inl, inr, arith, eqb}
 use Rattle.std.specs.Prelude.{if◌then◌else◌, option_map, replicate, slice_index_or, slice_set}
 use Rattle.std.proofs.lemmas.Bool.{cases_eq, eq-eqb, eqb-true, false≢true, ne_eqb}
 use Rattle.std.proofs.lemmas.Grind.{get_or-set_at}
 use Rattle.std.proofs.Math.ListN.{get_or-map}
 use Rattle.std.proofs.lemmas.List.{get_or-set_other}
-use mathlib.Core.Path.{fun_ext}
 use Rattle.far_word.specs.declared.sizes.TheConstants.{CELLS}
 use Rattle.far_core.specs.state.State.{put}
 use Rattle.far_core.proofs.Put.{put_other, put_same}
 use Rattle.far_heap.specs.HeapId.{HeapId}
-use Rattle.far_heap.specs.Mine.{Mine, Object, adopting, asking, bytes_in, closing, dropping, known_bytes, newcomer, object_of, owns, rewritten, uses, viewing, views, with_range, writing, zeros_known}
+use Rattle.far_heap.specs.Mine.{Mine, Object, adopting, asking, bytes_in, closing, dropping, known_bytes, len_in, len_of, newcomer, object_of, opening, owns, rewritten, uses, viewing, views, with_range, writing, zeros_known}
 use Rattle.far_heap.specs.MineLaw.{MineLaw}
 use Rattle.far_heap.proofs.OwnRows.{own_row-get}
+use Rattle.far_heap.proofs.Spliced.{length-with_range}
 use Rattle.far_replay.specs.Alone.{Own, nothing}
-use Rattle.far_split.specs.Slots.{own_in}
+use Rattle.far_split.specs.Slots.{HasBytes, IsOwn}
 
 -- ---- a row of what stands at a mutator's pointers, and one that is another at one pointer
 abbrev at_own : {X : Type 0} → ℕ → List X → ℕ → X → X
@@ -31,68 +31,128 @@ module _ {X : Type 0} (number : ℕ) (row : List X) (many : length row ≡ CELLS
     | inr other ↦ rw (ne_eqb (q / CELLS) number other) refl
   ]
 
+-- ---- what it knows of an object
+has_none : (honest : Bool) (x : Option Object) (bytes : Option (List ℕ)) → is_some x ≡ false → HasBytes honest x bytes → bytes ≡ None
+has_none honest None bytes none has = has
+has_none honest (Some x) bytes none has = absurd (false≢true (sym none))
+
+-- all that it has, and which bytes they are over an honest far side
+pub record Known (m : Mine) (p : ℕ) (bytes : Option (List ℕ)) : Type 0 where
+  pub all : List ℕ
+  pub is : bytes ≡ Some all
+  pub long : length all ≡ len_in m p
+  pub sure : m.honest ≡ true → bytes_in m p ≡ Some all
+
+has_some : (honest : Bool) (x : Option Object) (bytes : Option (List ℕ)) → is_some x ≡ true → HasBytes honest x bytes
+    → (all : List ℕ) × (bytes ≡ Some all) × (length all ≡ len_of x) × (honest ≡ true → known_bytes x ≡ Some all)
+has_some honest None bytes some has = absurd (false≢true some)
+has_some honest (Some x) bytes some has = has
+
+module _ (m : Mine) (o : Own) (is : IsOwn m o) (p : ℕ) where
+  pub unused_none : uses m p ≡ false → o.object p ≡ None
+  unused_none h = has_none m.honest (object_of m p) (o.object p) h (is.object p)
+
+  pub used_known : uses m p ≡ true → Known m p (o.object p)
+  used_known h = let (all, same, long, sure) = has_some m.honest (object_of m p) (o.object p) h (is.object p) in record { all = all; is = same; long = long; sure = sure }
+
 -- ---- what it knows after its calls
-module _ (m : Mine) (law : MineLaw m) (p : ℕ) (own : owns m p ≡ true) where
-  -- another object stands at one of its pointers
-  own_with : (x : Option Object) → own_in (record m { objects = slice_set m.objects (p % CELLS) x }) ≡ record (own_in m) { object = put (own_in m).object p (known_bytes x) }
-  own_with x = ap (λ (f : ℕ → Option (List ℕ)). record (own_in m) { object = f }) (fun_ext (λ q. elim (cases_eq q p) [
-    | inl e ↦ ap (λ z. known_bytes (at_own m.number (slice_set m.objects (p % CELLS) x) z None)) e ∙ ap known_bytes (row_here m.number m.objects law.many.0 p own x None)
-        ∙ sym (put_same (own_in m).object p (known_bytes x) q e)
-    | inr ne ↦ ap known_bytes (row_other m.number m.objects law.many.0 p own x None q ne) ∙ sym (put_other (own_in m).object p (known_bytes x) q ne)
-  ]))
+-- of an object that stands at one of its pointers
+module _ (m : Mine) (law : MineLaw m) (o : Own) (is : IsOwn m o) (p : ℕ) (own : owns m p ≡ true) where
+  is_with : (x : Option Object) (bytes : Option (List ℕ)) → HasBytes m.honest x bytes → IsOwn (record m { objects = slice_set m.objects (p % CELLS) x }) (record o { object = put o.object p bytes })
+  is_with x bytes has = record {
+    opened = is.opened;
+    viewed = is.viewed;
+    object = λ q. elim (cases_eq q p) [
+      | inl e ↦ subst (λ (z : ℕ). HasBytes m.honest (at_own m.number (slice_set m.objects (p % CELLS) x) z None) (put o.object p bytes z)) (sym e)
+          (subst (HasBytes m.honest (at_own m.number (slice_set m.objects (p % CELLS) x) p None)) (sym (put_same o.object p bytes p refl))
+          (subst (λ (y : Option Object). HasBytes m.honest y bytes) (sym (row_here m.number m.objects law.many.0 p own x None)) has))
+      | inr ne ↦ subst (HasBytes m.honest (at_own m.number (slice_set m.objects (p % CELLS) x) q None)) (sym (put_other o.object p bytes q ne))
+          (subst (λ (y : Option Object). HasBytes m.honest y (o.object q)) (sym (row_other m.number m.objects law.many.0 p own x None q ne)) (is.object q))
+    ];
+  }
 
-  pub own_dropping : own_in (dropping p m) ≡ record (own_in m) { object = put (own_in m).object p None }
-  own_dropping = own_with None
+  pub is_dropping : IsOwn (dropping p m) (record o { object = put o.object p None })
+  is_dropping = is_with None None refl
 
-  pub own_viewing : (k : ℕ) → own_in (viewing p (asking p k m)) ≡ record (own_in m) { viewed = put (own_in m).viewed p true }
-  own_viewing k = ap (λ (f : ℕ → Bool). record (own_in m) { viewed = f }) (fun_ext (λ q. elim (cases_eq q p) [
-    | inl e ↦ ap (λ z. at_own m.number (slice_set m.viewed (p % CELLS) true) z false) e ∙ row_here m.number m.viewed law.many.1 p own true false ∙ sym (put_same (own_in m).viewed p true q e)
-    | inr ne ↦ row_other m.number m.viewed law.many.1 p own true false q ne ∙ sym (put_other (own_in m).viewed p true q ne)
-  ]))
+  pub is_adopting : (len ds : ℕ) → IsOwn (adopting p len ds m) (record o { object = put o.object p (Some (replicate len 0)) })
+  is_adopting len ds = is_with (Some record { len = len; ds = ds; bytes = zeros_known m.honest len }) (Some (replicate len 0))
+      (replicate len 0, refl, length-replicate len 0, λ honest. ap (λ h. zeros_known h len) honest)
 
-  pub own_adopting : m.honest ≡ true → (len ds : ℕ) → own_in (adopting p len ds m) ≡ record (own_in m) { object = put (own_in m).object p (Some (replicate len 0)) }
-  own_adopting honest len ds = own_with (Some record { len = len; ds = ds; bytes = zeros_known m.honest len })
-      ∙ ap (λ h. record (own_in m) { object = put (own_in m).object p (zeros_known h len) }) honest
+  pub is_viewing : (k : ℕ) → IsOwn (viewing p (asking p k m)) (record o { viewed = put o.viewed p true })
+  is_viewing k = record {
+    opened = is.opened;
+    viewed = λ q. elim (cases_eq q p) [
+      | inl e ↦ put_same o.viewed p true q e ∙ sym (ap (λ z. at_own m.number (slice_set m.viewed (p % CELLS) true) z false) e ∙ row_here m.number m.viewed law.many.1 p own true false)
+      | inr ne ↦ put_other o.viewed p true q ne ∙ is.viewed q ∙ sym (row_other m.number m.viewed law.many.1 p own true false q ne)
+    ];
+    object = is.object;
+  }
 
-known_rewritten : (x : Option Object) (from : ℕ) (new all : List ℕ) → known_bytes x ≡ Some all → known_bytes (option_map (rewritten from new) x) ≡ Some (with_range all from new)
-known_rewritten None from new all e = absurd (cc)
-known_rewritten (Some x) from new all e = ap (option_map (λ bytes. with_range bytes from new)) e
+-- other bytes, as many, over a far side that may lie
+pub is_otherwise : (m : Mine) (law : MineLaw m) (o : Own) (is : IsOwn m o) (p : ℕ) (own : owns m p ≡ true) (lies : m.honest ≡ false) (used : uses m p ≡ true) (bytes : List ℕ) → length bytes ≡ len_in m p
+    → IsOwn m (record o { object = put o.object p (Some bytes) })
+is_otherwise m law o is p own lies used bytes long = record {
+  opened = is.opened;
+  viewed = is.viewed;
+  object = λ q. elim (cases_eq q p) [
+    | inl e ↦ subst (λ (z : ℕ). HasBytes m.honest (object_of m z) (put o.object p (Some bytes) z)) (sym e)
+        (subst (HasBytes m.honest (object_of m p)) (sym (put_same o.object p (Some bytes) p refl)) (any m.honest (object_of m p) lies used long))
+    | inr ne ↦ subst (HasBytes m.honest (object_of m q)) (sym (put_other o.object p (Some bytes) q ne)) (is.object q)
+  ];
+} where
+  any : (honest : Bool) (x : Option Object) → honest ≡ false → is_some x ≡ true → length bytes ≡ len_of x → HasBytes honest x (Some bytes)
+  any honest None no some many = absurd (false≢true some)
+  any honest (Some x) no some many = (bytes, refl, many, λ yes. absurd (false≢true (sym no ∙ yes)))
 
-module _ (m : Mine) (law : MineLaw m) (p : ℕ) (own : owns m p ≡ true) (from : ℕ) (new all : List ℕ) where
-  -- bytes are written in an object that is viewed from then on
-  pub own_writing : (k : ℕ) → bytes_in m p ≡ Some all → own_in (writing p from new (viewing p (asking p k m)))
-      ≡ record (own_in m) { object = put (own_in m).object p (Some (with_range all from new)); viewed = put (own_in m).viewed p true }
-  own_writing k known =
-      let written : Mine = record m { objects = slice_set m.objects (p % CELLS) (option_map (rewritten from new) (object_of m p)) } in
-      ap (λ (o : Own). record (own_in m) { object = (own_in written).object; viewed = o.viewed }) (own_viewing m law p own k)
-      ∙ ap (λ (o : Own). record (own_in m) { object = o.object; viewed = put (own_in m).viewed p true }) (own_with m law p own (option_map (rewritten from new) (object_of m p)))
-      ∙ ap (λ (b : Option (List ℕ)). record (own_in m) { object = put (own_in m).object p b; viewed = put (own_in m).viewed p true }) (known_rewritten (object_of m p) from new all known)
+has_rewritten : (honest : Bool) (x : Option Object) (all : List ℕ) (from : ℕ) (new : List ℕ) → HasBytes honest x (Some all) → from + length new ≤ length all
+    → HasBytes honest (option_map (rewritten from new) x) (Some (with_range all from new))
+has_rewritten honest None all from new has fits = absurd (cc)
+has_rewritten honest (Some x) all from new (known, is, long, sure) fits =
+    let same : known ≡ all = cc in (
+      with_range all from new,
+      refl,
+      length-with_range all from new fits ∙ ap length (sym same) ∙ long,
+      λ yes. ap (option_map (λ bytes. with_range bytes from new)) (sure yes) ∙ ap (λ b. Some (with_range b from new)) same,
+    )
 
--- ---- its scope is closed
+-- bytes are written in an object that is viewed from then on
+pub is_writing : (m : Mine) (law : MineLaw m) (o : Own) (is : IsOwn m o) (p : ℕ) (own : owns m p ≡ true) (from : ℕ) (new all : List ℕ) (k : ℕ) → o.object p ≡ Some all → from + length new ≤ length all
+    → IsOwn (writing p from new (viewing p (asking p k m))) (record o { object = put o.object p (Some (with_range all from new)); viewed = put o.viewed p true })
+is_writing m law o is p own from new all k known fits =
+    let has = has_rewritten m.honest (object_of m p) all from new (subst (HasBytes m.honest (object_of m p)) known (is.object p)) fits in
+    let written = is_with m law o is p own (option_map (rewritten from new) (object_of m p)) (Some (with_range all from new)) has in
+    record { opened = is.opened; viewed = (is_viewing m law o is p own k).viewed; object = written.object }
+
+-- ---- its scope is opened, or closed
 none_at : (row : List Bool) (b : Bool) (k : ℕ) → (if b then slice_index_or (map (λ _. false) row) k false else false) ≡ false
 none_at row true k = get_or-map (λ _. false) row k false
 none_at row false k = refl
 
-pub own_closing : (m : Mine) → own_in (closing m) ≡ record (own_in m) { opened = false; viewed = λ _. false }
-own_closing m = ap (λ (f : ℕ → Bool). record (own_in m) { opened = false; viewed = f }) (fun_ext (λ q. none_at m.viewed (owns m q) (q % CELLS)))
+pub is_opening : (m : Mine) (o : Own) → IsOwn m o → IsOwn (opening m) (record o { opened = true })
+is_opening m o is = record { opened = refl; viewed = is.viewed; object = is.object }
+
+pub is_closing : (m : Mine) (o : Own) → IsOwn m o → IsOwn (closing m) (record o { opened = false; viewed = λ _. false })
+is_closing m o is = record { opened = refl; viewed = λ q. sym (none_at m.viewed (owns m q) (q % CELLS)); object = is.object }
 
 -- ---- a mutator of a new heap
-none_new : (heap : HeapId) (number q : ℕ) → object_of (newcomer heap.table number true) q ≡ None
-none_new heap number q = elim (cases_eq (q / CELLS) number) [
+none_new : (heap : HeapId) (number : ℕ) (honest : Bool) (q : ℕ) → object_of (newcomer heap.table number honest) q ≡ None
+none_new heap number honest q = elim (cases_eq (q / CELLS) number) [
   | inl own ↦ rw (eq-eqb (q / CELLS) number own) (own_row-get (λ _. None) number q None own)
   | inr ne ↦ rw (ne_eqb (q / CELLS) number ne) refl
 ]
 
-unviewed_new : (heap : HeapId) (number q : ℕ) → views (newcomer heap.table number true) q ≡ false
-unviewed_new heap number q = elim (cases_eq (q / CELLS) number) [
+unviewed_new : (heap : HeapId) (number : ℕ) (honest : Bool) (q : ℕ) → views (newcomer heap.table number honest) q ≡ false
+unviewed_new heap number honest q = elim (cases_eq (q / CELLS) number) [
   | inl own ↦ rw (eq-eqb (q / CELLS) number own) (own_row-get (λ _. false) number q false own)
   | inr ne ↦ rw (ne_eqb (q / CELLS) number ne) refl
 ]
 
-pub own_new : (heap : HeapId) (number : ℕ) → own_in (newcomer heap.table number true) ≡ nothing
-own_new heap number =
-    ap (λ (f : ℕ → Option (List ℕ)). record nothing { object = f; viewed = λ p. views (newcomer heap.table number true) p }) (fun_ext (λ q. ap known_bytes (none_new heap number q)))
-    ∙ ap (λ (f : ℕ → Bool). record nothing { viewed = f }) (fun_ext (λ q. unviewed_new heap number q))
+pub is_new : (heap : HeapId) (number : ℕ) (honest : Bool) → IsOwn (newcomer heap.table number honest) nothing
+is_new heap number honest = record {
+  opened = refl;
+  viewed = λ q. sym (unviewed_new heap number honest q);
+  object = λ q. subst (λ (x : Option Object). HasBytes honest x None) (sym (none_new heap number honest q)) refl;
+}
 
 -- ---- which pointers it uses
 module _ (m : Mine) (p : ℕ) where
@@ -102,13 +162,6 @@ module _ (m : Mine) (p : ℕ) where
 
   pub used_own : uses m p ≡ true → owns m p ≡ true
   used_own h = owned (owns m p) (slice_index_or m.objects (p % CELLS) None) h
-
-  nothing_there : (o : Option Object) → is_some o ≡ false → known_bytes o ≡ None
-  nothing_there None h = refl
-  nothing_there (Some x) h = absurd (false≢true (sym h))
-
-  pub unused_none : uses m p ≡ false → bytes_in m p ≡ None
-  unused_none h = nothing_there (object_of m p) h
 
 -- a number that is no pointer
 pub unused_beyond : (m : Mine) (p : ℕ) → MineLaw m → 65535 < p → uses m p ≡ false

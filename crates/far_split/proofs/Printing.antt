@@ -1,22 +1,18 @@
 -- One more text is printed.
 use Rattle.std.proofs.Common.{◌≡◌, ℕ, zero, suc, ◌+◌, ◌<◌, List, [], ◌∷◌, ◌++◌, Option, Result, Ok, Err, length, take, drop, get_or, append_assoc, append-nil, length-append, length-take-le, take-append-drop, refl, sym, subst, ap, ◌∙◌, arith}
-use Rattle.std.specs.Prelude.{IsErr, map}
-use Rattle.std.specs.Global.{Vec}
+use Rattle.std.specs.Prelude.{IsErr}
 use Rattle.std.specs.Io.KnownBytes.{Appends}
 use Rattle.std.specs.List.{AllByRecursion, flat_map}
 use Rattle.std.proofs.KnownBytes.{Appends-nil}
 use Rattle.std.proofs.lemmas.Bool.{false≢true}
 use Rattle.std.proofs.lemmas.Grind.{flat_map-append}
-use Rattle.std.proofs.lemmas.List.{length-map, map-append, take-append-le, take_more}
+use Rattle.std.proofs.lemmas.List.{take-append-le, take_more}
 use Rattle.far_replay.specs.declared.stream.WriteFault.{WriteFault}
 use Rattle.far_replay.specs.Reply.{IsShort, Reply, reply_text}
 use Rattle.far_replay.specs.Stream.{AppendsPart, Holds, Writes}
 use Rattle.far_replay.proofs.Streams.{held_more, held_written}
-use Rattle.far_split.specs.Joined.{replies_of}
 use Rattle.far_split.specs.Printed.{part_text, parts_text}
 use Rattle.far_split.specs.Prints.{Prints}
-use Rattle.far_split.specs.Told.{as_reply}
-use Rattle.far_split.specs.declared.told.Told.{Told}
 
 abbrev Answer : Type 0
 Answer = Result (Unit {0}) WriteFault
@@ -73,25 +69,23 @@ pub writes_part : (a b : Option (List ℕ)) (s : List ℕ) (fault : WriteFault) 
 writes_part a b s fault (Ok done) text failed prints = absurd (false≢true failed)
 writes_part a b s fault (Err other) text failed prints = prints a [] ([], Appends-nil a, refl)
 
--- ---- the texts of replies
--- one reply more
-pub replies_more : (told : List Told) (i : ℕ) (one : Told) → i < length told → one ≡ get_or told i one → flat_map reply_text (map as_reply (take i told)) ++ reply_text (as_reply one) ≡ flat_map reply_text (map as_reply (take (i + 1) told))
-replies_more told i one below is =
-    let more : take (i + 1) told ≡ take i told ++ one ∷ [] = take_more told i one below ∙ ap (λ x. take i told ++ x ∷ []) (sym is) in
-    sym (ap (λ xs. flat_map reply_text (map as_reply xs)) more ∙ ap (flat_map reply_text) (map-append as_reply (take i told) (one ∷ [])) ∙ flat_map-append reply_text (map as_reply (take i told)) (as_reply one ∷ [])
-    ∙ ap (λ l. flat_map reply_text (map as_reply (take i told)) ++ l) (append-nil (reply_text (as_reply one))))
+-- ---- the texts of replies, and of logs' lines
+module _ {A : Type 0} (text : A → List ℕ) (all : List A) (i : ℕ) where
+  -- one more
+  pub texts_more : (one : A) → i < length all → ((other : A) → get_or all i other ≡ one) → flat_map text (take i all) ++ text one ≡ flat_map text (take (i + 1) all)
+  texts_more one below is =
+      let more : take (i + 1) all ≡ take i all ++ one ∷ [] = take_more all i one below ∙ ap (λ x. take i all ++ x ∷ []) (is one) in
+      sym (ap (flat_map text) more ∙ flat_map-append text (take i all) (one ∷ []) ∙ ap (λ l. flat_map text (take i all) ++ l) (append-nil (text one)))
 
--- and those that follow
-pub replies_rest : (told : List Told) (i : ℕ) → flat_map reply_text (map as_reply (take i told)) ++ flat_map reply_text (map as_reply (drop i told)) ≡ flat_map reply_text (map as_reply told)
-replies_rest told i =
-    sym (flat_map-append reply_text (map as_reply (take i told)) (map as_reply (drop i told)))
-    ∙ ap (flat_map reply_text) (sym (map-append as_reply (take i told) (drop i told)) ∙ ap (map as_reply) (take-append-drop i told))
+  -- and those that follow
+  pub texts_rest : flat_map text (take i all) ++ flat_map text (drop i all) ≡ flat_map text all
+  texts_rest = sym (flat_map-append text (take i all) (drop i all)) ∙ ap (flat_map text) (take-append-drop i all)
 
 -- each is short
-pub short_at : (told : List Told) (i : ℕ) (other : Told) → AllByRecursion IsShort (map as_reply told) → i < length told → IsShort (as_reply (get_or told i other))
-short_at [] i other short below = absurd (omega arith)
-short_at (x ∷ xs) zero other short below = short.0
-short_at (x ∷ xs) (suc i) other short below = short_at xs i other short.1 (omega arith)
+pub short_at : (told : List Reply) (i : ℕ) (one : Reply) → AllByRecursion IsShort told → i < length told → ((other : Reply) → get_or told i other ≡ one) → IsShort one
+short_at [] i one short below is = absurd (omega arith)
+short_at (x ∷ xs) zero one short below is = subst IsShort (is x) short.0
+short_at (x ∷ xs) (suc i) one short below is = short_at xs i one short.1 (omega arith) is
 
 -- ---- and of mutators
 -- those of one mutator more
@@ -101,13 +95,11 @@ parts_end number (x ∷ xs) one =
     ap (λ l. part_text number x ++ l) (parts_end (number + 1) xs one ∙ ap (λ n. parts_text (number + 1) xs ++ part_text n one) (omega arith))
     ∙ sym (append_assoc (part_text number x) (parts_text (number + 1) xs) (part_text (number + length (x ∷ xs)) one))
 
-pub parts_more : (all : List (Vec Told)) (i : ℕ) (one : Vec Told) → i < length all → one ≡ get_or all i one →
-    parts_text 0 (map replies_of (take i all)) ++ part_text i (replies_of one) ≡ parts_text 0 (map replies_of (take (i + 1) all))
+pub parts_more : (all : List (List Reply)) (i : ℕ) (one : List Reply) → i < length all → one ≡ get_or all i one → parts_text 0 (take i all) ++ part_text i one ≡ parts_text 0 (take (i + 1) all)
 parts_more all i one below is =
     let more : take (i + 1) all ≡ take i all ++ one ∷ [] = take_more all i one below ∙ ap (λ x. take i all ++ x ∷ []) (sym is) in
-    let long : 0 + length (map replies_of (take i all)) ≡ i = omega (arith, length-map (take i all) replies_of, length-take-le i all (omega arith)) in
-    sym (ap (λ xs. parts_text 0 (map replies_of xs)) more ∙ ap (parts_text 0) (map-append replies_of (take i all) (one ∷ []))
-    ∙ parts_end 0 (map replies_of (take i all)) (replies_of one) ∙ ap (λ n. parts_text 0 (map replies_of (take i all)) ++ part_text n (replies_of one)) long)
+    let long : 0 + length (take i all) ≡ i = omega (arith, length-take-le i all (omega arith)) in
+    sym (ap (parts_text 0) more ∙ parts_end 0 (take i all) one ∙ ap (λ n. parts_text 0 (take i all) ++ part_text n one) long)
 
 -- and those that follow
 parts_append : (number : ℕ) (front back : List (List Reply)) → parts_text number (front ++ back) ≡ parts_text number front ++ parts_text (number + length front) back
@@ -116,13 +108,11 @@ parts_append number (x ∷ xs) back =
     ap (λ l. part_text number x ++ l) (parts_append (number + 1) xs back ∙ ap (λ n. parts_text (number + 1) xs ++ parts_text n back) (omega arith))
     ∙ sym (append_assoc (part_text number x) (parts_text (number + 1) xs) (parts_text (number + length (x ∷ xs)) back))
 
-pub parts_rest : (all : List (Vec Told)) (i : ℕ) → parts_text 0 (map replies_of (take i all)) ++ parts_text (0 + length (map replies_of (take i all))) (map replies_of (drop i all)) ≡ parts_text 0 (map replies_of all)
-parts_rest all i =
-    sym (parts_append 0 (map replies_of (take i all)) (map replies_of (drop i all)))
-    ∙ ap (parts_text 0) (sym (map-append replies_of (take i all) (drop i all)) ∙ ap (map replies_of) (take-append-drop i all))
+pub parts_rest : (all : List (List Reply)) (i : ℕ) → parts_text 0 (take i all) ++ parts_text (0 + length (take i all)) (drop i all) ≡ parts_text 0 all
+parts_rest all i = sym (parts_append 0 (take i all) (drop i all)) ∙ ap (parts_text 0) (take-append-drop i all)
 
 -- each mutator's are short
-pub part_short : (all : List (Vec Told)) (i : ℕ) (other : Vec Told) → AllByRecursion (AllByRecursion IsShort) (map replies_of all) → i < length all → AllByRecursion IsShort (replies_of (get_or all i other))
+pub part_short : (all : List (List Reply)) (i : ℕ) (other : List Reply) → AllByRecursion (AllByRecursion IsShort) all → i < length all → AllByRecursion IsShort (get_or all i other)
 part_short [] i other short below = absurd (omega arith)
 part_short (x ∷ xs) zero other short below = short.0
 part_short (x ∷ xs) (suc i) other short below = part_short xs i other short.1 (omega arith)

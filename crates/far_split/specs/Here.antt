@@ -1,13 +1,15 @@
 -- The replies to one mutator's own lines, on a heap that others use beside it.
-use Rattle.std.specs.Prelude.{◌≡◌, ℕ, ◌<◌, ◌≤◌, ◌⊎◌, true, false, Some, List, [], ◌∷◌, length, map}
+use Rattle.std.specs.Prelude.{◌≡◌, ℕ, ◌<◌, ◌≤◌, ◌⊎◌, Bool, true, false, Some, List, [], ◌∷◌, length, map}
 use Rattle.far_word.specs.Pointer.{read_of}
 use Rattle.far_word.specs.declared.refused.Refused.TheVariants.{Damaged, Device, Marked, Memory, NoPointer, NoRoom}
 use Rattle.far_word.specs.declared.sizes.TheConstants.{LONGEST}
+use Rattle.far_core.specs.state.State.{put}
 use Rattle.far_heap.specs.BookHad.{BookHad, HasRoom, LacksRoom, NoneFree, Unbrought}
 use Rattle.far_heap.specs.HeapId.{HeapId}
 use Rattle.far_heap.specs.Mine.{IsSlow}
 use Rattle.far_text.specs.Command.{Command, Mutator, New, Read, Try, View, Write}
-use Rattle.far_replay.specs.Alone.{Alone, IsIn, Knows, Own, is_by, speaker}
+use Rattle.far_replay.specs.Alone.{Alone, IsIn, Knows, KnowsBy, Own, is_by, speaker}
+use Rattle.far_replay.specs.Commanded.{AsksFor}
 use Rattle.far_replay.specs.Reply.{Reply, Pointer, Refused}
 use Rattle.far_split.specs.FarSides.{FarSide}
 
@@ -29,15 +31,29 @@ abbrev pub IsUndamaged : Reply → Type 0
 IsUndamaged (Refused Damaged) = ⊥
 IsUndamaged r = Unit {0}
 
--- a command of the mutator m with its reply takes what it knows from o to q: by its own lines, or it is hindered; the far side is honest
-abbrev pub KnowsHere : ℕ → Own → Command → Reply → Own → Type 0
-KnowsHere m o c r q = (Knows m o c r q ⊎ Hindered o c r q) × IsUndamaged r
+-- where the far side may lie, a mutator may be given other bytes of an object that it asks for, as many as it has; also while it views the object, unlike a mutator of the plain
+-- program, which views what it was given first. Of the heap's words it is known then how long objects are and which are viewed, and no more: which word is a known one's hangs on
+-- the far side's honesty
+pub record IsGivenOthers (m : ℕ) (o : Own) (c : Command) (r : Reply) (q : Own) : Type 0 where
+  pub p : ℕ
+  pub asks : AsksFor m p c
+  pub old : List ℕ
+  pub new : List ℕ
+  pub had : o.object p ≡ Some old
+  pub long : length new ≡ length old
+  pub knows : Knows m (record o { object = put o.object p (Some new) }) c r q
+
+-- a command of the mutator m with its reply takes what it knows from o to q, on a heap whose far side is honest or may lie: by its own lines, or it is hindered. Over an honest far
+-- side no bytes are damaged; over one that may lie they may be, which is in Knows, or others be given
+abbrev pub KnowsHere : Bool → ℕ → Own → Command → Reply → Own → Type 0
+KnowsHere true m o c r q = (Knows m o c r q ⊎ Hindered o c r q) × IsUndamaged r
+KnowsHere false m o c r q = Knows m o c r q ⊎ Hindered o c r q ⊎ IsGivenOthers m o c r q
 
 -- the replies to the mutator's own lines, from what it knows on
-abbrev pub AloneHere : ℕ → Own → List Command → List Reply → Type 0
-AloneHere m o [] [] = Unit {0}
-AloneHere m o (c ∷ cs) (r ∷ rs) = (q : Own) × KnowsHere m o c r q × AloneHere m q cs rs
-AloneHere m o _ _ = ⊥
+abbrev pub AloneHere : Bool → ℕ → Own → List Command → List Reply → Type 0
+AloneHere honest m o [] [] = Unit {0}
+AloneHere honest m o (c ∷ cs) (r ∷ rs) = (q : Own) × KnowsHere honest m o c r q × AloneHere honest m q cs rs
+AloneHere honest m o _ _ = ⊥
 
 -- a word on which no view may rest, of an object with these bytes: it has their length, and is far, or near with EVAC or MOVE
 abbrev pub IsWordOf : List ℕ → ℕ → Type 0
@@ -45,7 +61,7 @@ IsWordOf all word = (ds : ℕ) × IsSlow (length all) ds (read_of word)
 
 -- what a reply tells of the heap, beside what the mutator knows: what was so of its book while its lock was held. A new object has the lowest of the mutator's pointers
 -- whose cell was free; it is refused 3 where none was, 2 where one was and there was no room for it. An object isn't brought where there was no room, or there was and the
--- device had no memory, or failed. What 14 tells is a word of the object
+-- device had no memory, failed, or gave another number of bytes. What 14 tells is a word of the object
 abbrev pub TellsOfHeap : HeapId → ℕ → Own → Command → Reply → Type 0
 TellsOfHeap heap m o (Mutator _ (New len ds)) (Pointer p) = BookHad FarSide heap (HasRoom m len p)
 TellsOfHeap heap m o (Mutator _ (New len ds)) (Refused NoPointer) = BookHad FarSide heap (NoneFree m)
@@ -53,19 +69,22 @@ TellsOfHeap heap m o (Mutator _ (New len ds)) (Refused NoRoom) = BookHad FarSide
 TellsOfHeap heap m o (Mutator _ (Read p from len)) (Refused NoRoom) = BookHad FarSide heap (Unbrought p NoRoom)
 TellsOfHeap heap m o (Mutator _ (Read p from len)) (Refused Memory) = BookHad FarSide heap (Unbrought p Memory)
 TellsOfHeap heap m o (Mutator _ (Read p from len)) (Refused Device) = BookHad FarSide heap (Unbrought p Device)
+TellsOfHeap heap m o (Mutator _ (Read p from len)) (Refused Damaged) = BookHad FarSide heap (Unbrought p Damaged)
 TellsOfHeap heap m o (Mutator _ (Write p from new)) (Refused NoRoom) = BookHad FarSide heap (Unbrought p NoRoom)
 TellsOfHeap heap m o (Mutator _ (Write p from new)) (Refused Memory) = BookHad FarSide heap (Unbrought p Memory)
 TellsOfHeap heap m o (Mutator _ (Write p from new)) (Refused Device) = BookHad FarSide heap (Unbrought p Device)
+TellsOfHeap heap m o (Mutator _ (Write p from new)) (Refused Damaged) = BookHad FarSide heap (Unbrought p Damaged)
 TellsOfHeap heap m o (Mutator _ (View p)) (Refused NoRoom) = BookHad FarSide heap (Unbrought p NoRoom)
 TellsOfHeap heap m o (Mutator _ (View p)) (Refused Memory) = BookHad FarSide heap (Unbrought p Memory)
 TellsOfHeap heap m o (Mutator _ (View p)) (Refused Device) = BookHad FarSide heap (Unbrought p Device)
+TellsOfHeap heap m o (Mutator _ (View p)) (Refused Damaged) = BookHad FarSide heap (Unbrought p Damaged)
 TellsOfHeap heap m o (Mutator _ (Try p)) (Refused (Marked word)) = (all : List ℕ) × (o.object p ≡ Some all) × IsWordOf all word
 TellsOfHeap heap m o c r = Unit {0}
 
 -- the replies to the mutator's own lines, with what they tell of the heap
 abbrev pub AloneOn : HeapId → ℕ → Own → List Command → List Reply → Type 0
 AloneOn heap m o [] [] = Unit {0}
-AloneOn heap m o (c ∷ cs) (r ∷ rs) = (q : Own) × KnowsHere m o c r q × TellsOfHeap heap m o c r × AloneOn heap m q cs rs
+AloneOn heap m o (c ∷ cs) (r ∷ rs) = (q : Own) × KnowsHere heap.honest m o c r q × TellsOfHeap heap m o c r × AloneOn heap m q cs rs
 AloneOn heap m o _ _ = ⊥
 
 -- what these lines say
@@ -82,20 +101,24 @@ abbrev pub AreUndamaged : List Reply → Type 0
 AreUndamaged [] = Unit {0}
 AreUndamaged (r ∷ rs) = IsUndamaged r × AreUndamaged rs
 
--- none of them is hindered
-abbrev pub Unhindered : ℕ → Own → List Command → List Reply → Type 0
-Unhindered m o [] [] = Unit {0}
-Unhindered m o (c ∷ cs) (r ∷ rs) = (q : Own) × Knows m o c r q × Unhindered m q cs rs
-Unhindered m o _ _ = ⊥
+-- none of them is hindered, and each is as the plain program's mutator may be told
+abbrev pub Unhindered : Bool → ℕ → Own → List Command → List Reply → Type 0
+Unhindered honest m o [] [] = Unit {0}
+Unhindered honest m o (c ∷ cs) (r ∷ rs) = (q : Own) × KnowsBy honest m o c r q × Unhindered honest m q cs rs
+Unhindered honest m o _ _ = ⊥
 
--- what is allowed of a mutator that is alone is allowed here, if the far side is honest
+-- what is allowed of a mutator that is alone is allowed here, of an honest far side where none is damaged, and of one that may lie
 abbrev pub AloneIsAloneHere : Type 0
-AloneIsAloneHere = (m : ℕ) (o : Own) (cs : List Command) (rs : List Reply) → AreBy m cs → AreUndamaged rs → Alone true m o cs rs → AloneHere m o cs rs
+AloneIsAloneHere = (honest : Bool) (m : ℕ) (o : Own) (cs : List Command) (rs : List Reply) → AreBy m cs → (honest ≡ true → AreUndamaged rs) → Alone honest m o cs rs → AloneHere honest m o cs rs
 
 -- what isn't hindered here is allowed of a mutator that is alone
 abbrev pub UnhinderedIsAlone : Type 0
-UnhinderedIsAlone = (m : ℕ) (o : Own) (cs : List Command) (rs : List Reply) → AreBy m cs → Unhindered m o cs rs → Alone true m o cs rs
+UnhinderedIsAlone = (honest : Bool) (m : ℕ) (o : Own) (cs : List Command) (rs : List Reply) → AreBy m cs → Unhindered honest m o cs rs → Alone honest m o cs rs
 
 -- what is allowed on a heap is allowed here
 abbrev pub AloneOnIsAloneHere : Type 0
-AloneOnIsAloneHere = (heap : HeapId) (m : ℕ) (o : Own) (cs : List Command) (rs : List Reply) → AloneOn heap m o cs rs → AloneHere m o cs rs
+AloneOnIsAloneHere = (heap : HeapId) (m : ℕ) (o : Own) (cs : List Command) (rs : List Reply) → AloneOn heap m o cs rs → AloneHere heap.honest m o cs rs
+
+-- an honest far side allows nothing that one doesn't which may lie
+abbrev pub HonestIsAllowed : Type 0
+HonestIsAllowed = (m : ℕ) (o : Own) (cs : List Command) (rs : List Reply) → AloneHere true m o cs rs → AloneHere false m o cs rs

@@ -1,7 +1,6 @@
 -- What a split text is answered: the replies of all threads, each mutator's by its own lines.
-use Rattle.std.specs.Prelude.{◌≡◌, ◌⊎◌, ℕ, ◌+◌, ◌<◌, true, ◌==◌, if◌then◌else◌, Option, Some, None, Result, Ok, Err, List, [], length, map, slice_index_or}
+use Rattle.std.specs.Prelude.{◌≡◌, ◌⊎◌, ℕ, ◌+◌, ◌<◌, true, ◌==◌, if◌then◌else◌, Option, Some, None, Result, Ok, Err, List, [], length, slice_index_or}
 use Rattle.std.specs.Bool.{MatchBool}
-use Rattle.std.specs.Global.{Vec}
 use Rattle.std.specs.List.{AllByRecursion}
 use Rattle.far_word.specs.declared.refused.Refused.{Refused as Refusal}
 use Rattle.far_word.specs.declared.refused.Refused.TheVariants.{Shape, Syntax}
@@ -11,16 +10,15 @@ use Rattle.far_hand.specs.ShapeOf.{shape_of as shape_in}
 use Rattle.far_table.specs.BookSeats.{seat_view}
 use Rattle.far_heap.specs.Blanks.{BlankOf, IsUnused}
 use Rattle.far_heap.specs.HeapId.{HeapId}
-use Rattle.far_text.specs.Command.{Command}
+use Rattle.far_text.specs.Command.{Command, Device}
 use Rattle.far_text.specs.Split.{SplitTrace, NothingSplit, SplitHeap}
 use Rattle.far_text.specs.Threads.{Thread, OfMutator, OfBook, lines_in}
 use Rattle.far_replay.specs.Alone.{nothing}
-use Rattle.far_replay.specs.Answers.{shape_of}
+use Rattle.far_replay.specs.Answers.{is_true, shape_of}
 use Rattle.far_replay.specs.Reply.{IsShort, Reply}
 use Rattle.far_split.specs.BookTold.{BookTold}
-use Rattle.far_split.specs.FarSides.{FarSide, failing}
+use Rattle.far_split.specs.FarSides.{FarSide, IsFlawed}
 use Rattle.far_split.specs.Here.{AloneOn, AreBy, commands_of}
-use Rattle.far_split.specs.Told.{as_reply}
 use Rattle.far_split.specs.declared.mutators.Stop.{Stop}
 use Rattle.far_split.specs.declared.mutators.Stop.TheVariants as stops
 use Rattle.far_split.specs.declared.gate.TheConstants.{THE_BOOK}
@@ -28,7 +26,6 @@ use Rattle.far_split.specs.declared.split_out.SplitOut.{SplitOut}
 use Rattle.far_split.specs.declared.split_out.SplitOut.TheVariants.{Refused as OutRefused, Ran as OutRan}
 use Rattle.far_split.specs.declared.run.SplitFault.{SplitFault}
 use Rattle.far_split.specs.declared.run.SplitFault.TheVariants as faults
-use Rattle.far_split.specs.declared.told.Told.{Told}
 
 -- ---- all replies
 -- the text was refused, or its heap's shape, and nothing ran; or these are the replies to each mutator's lines, by number, and to the book's
@@ -36,12 +33,9 @@ pub data Joined : Type 0 where
   Refused : (why : Refusal) → Joined
   Ran : (mutators : List (List Reply)) (book : List Reply) → Joined
 
-abbrev pub replies_of : Vec Told → List Reply
-replies_of told = map as_reply told.items
-
 abbrev pub as_joined : SplitOut → Joined
 as_joined (OutRefused why) = Refused why
-as_joined (OutRan mutators book) = Ran (map replies_of mutators.items) (replies_of book)
+as_joined (OutRan mutators book) = Ran mutators.items book
 
 -- each can be printed: it has no more bytes than an object, and no more lines than a heap has logs
 abbrev pub AreShort : Joined → Type 0
@@ -53,36 +47,36 @@ AreShort (Ran mutators book) = AllByRecursion (AllByRecursion IsShort) mutators 
 abbrev pub commands_in : Thread → List (ℕ × Command) → List Command
 commands_in thread lines = commands_of (lines_in thread lines)
 
--- a heap was begun so: nobody had used its parts, whose shape was this, the first epoch too; and of its device the write or read of this number was to fail, 0 for none
-pub record BeganSo (heap : HeapId) (shape : Size) (call : ℕ) : Type 0 where
+-- a heap was begun so: nobody had used its parts, whose shape was this, the first epoch too; and its device had the flaw that is said, in the call of which it is
+pub record BeganSo (heap : HeapId) (shape : Size) (device : Option Device) : Type 0 where
   pub blank : BlankOf FarSide
   pub named : blank.heap ≡ heap
   pub shaped : shape_in (seat_view blank.book.near) ≡ shape
   pub unused : IsUnused (seat_view blank.book.near)
   pub order : blank.book.order ≡ []
-  pub fails : blank.book.device.left ≡ call
+  pub flawed : IsFlawed device blank.book.device
 
--- a heap of this shape, which is honest, was begun with a device of which this call was to fail, and answered these lines: for each of its mutators, and for none
+-- a heap of this shape was begun with the device that is said, and is honest exactly where that never lies; and it answered these lines: for each of its mutators, and for none
 -- else, there are replies, which follow from the mutator's own lines, whatever other threads did meanwhile, and tell what was so of the heap; and the book's were answered on it
-pub record AllRan (shape : Size) (call : ℕ) (lines : List (ℕ × Command)) (replies : List (List Reply)) (book : List Reply) : Type 0 where
+pub record AllRan (shape : Size) (device : Option Device) (lines : List (ℕ × Command)) (replies : List (List Reply)) (book : List Reply) : Type 0 where
   pub heap : HeapId
-  pub began : BeganSo heap shape call
+  pub began : BeganSo heap shape device
   pub size : (heap.logs ≡ shape.logs) × (heap.mutators ≡ shape.mutators)
-  pub honest : heap.honest ≡ true
+  pub honest : heap.honest ≡ is_true device
   pub many : length replies ≡ shape.mutators
   pub own : (m : ℕ) → m < shape.mutators → AreBy m (commands_in (OfMutator m) lines)
   pub alone : (m : ℕ) → m < shape.mutators → AloneOn heap m nothing (commands_in (OfMutator m) lines) (slice_index_or replies m [])
   pub told : BookTold heap (commands_in OfBook lines) book
 
-abbrev pub RanSo : Size → ℕ → List (ℕ × Command) → Joined → Type 0
-RanSo shape call lines (Refused why) = ⊥
-RanSo shape call lines (Ran replies book) = AllRan shape call lines replies book
+abbrev pub RanSo : Size → Option Device → List (ℕ × Command) → Joined → Type 0
+RanSo shape device lines (Refused why) = ⊥
+RanSo shape device lines (Ran replies book) = AllRan shape device lines replies book
 
 -- what a text is answered that is read so: its refusal; for nothing no replies; for a heap out of range that refusal; else all its threads' replies
 abbrev pub SplitAnswers : Result SplitTrace ℕ → Joined → Type 0
 SplitAnswers (Err line) joined = joined ≡ Refused (Syntax line)
 SplitAnswers (Ok NothingSplit) joined = joined ≡ Ran [] []
-SplitAnswers (Ok (SplitHeap logs mutators epoch device lines)) joined = MatchBool (is_shape (shape_of logs mutators epoch)) (RanSo (shape_of logs mutators epoch) (failing device) lines joined) (joined ≡ Refused Shape)
+SplitAnswers (Ok (SplitHeap logs mutators epoch device lines)) joined = MatchBool (is_shape (shape_of logs mutators epoch)) (RanSo (shape_of logs mutators epoch) device lines joined) (joined ≡ Refused Shape)
 
 -- ---- faults
 -- a gate that refuses such lines says no to one of these, which are a thread's

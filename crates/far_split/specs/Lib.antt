@@ -3,6 +3,7 @@ pub mod BookTold
 pub mod Here
 pub mod Jobs
 pub mod Joined
+pub mod Kept
 pub mod Printed
 pub mod Prints
 pub mod Served

@@ -1,10 +1,10 @@
 -- What a mutator of the heap knows of itself, and how one of its requests is answered.
-use Rattle.std.specs.Prelude.{◌≡◌, ◌⊎◌, ℕ, ◌+◌, ◌<◌, ◌≤◌, true, false}
+use Rattle.std.specs.Prelude.{◌≡◌, ◌⊎◌, ℕ, ◌+◌, ◌<◌, ◌≤◌, Bool, true, false, Option, Some, None, List, length}
 use Rattle.far_word.specs.declared.refused.Refused.{Refused}
 use Rattle.far_word.specs.declared.refused.Refused.TheVariants.{Length, NotHeld, Range}
 use Rattle.far_word.specs.declared.sizes.TheConstants.{LONGEST}
 use Rattle.far_heap.specs.HeapId.{HeapId}
-use Rattle.far_heap.specs.Mine.{Mine, bytes_in, len_in, uses, views}
+use Rattle.far_heap.specs.Mine.{Mine, Object, len_in, object_of, uses, views}
 use Rattle.far_text.specs.Command.{Mutator, Request}
 use Rattle.far_replay.specs.Alone.{Own}
 use Rattle.far_replay.specs.Reply.{IsShort, Reply}
@@ -13,19 +13,32 @@ use Rattle.far_split.specs.declared.access.Access.{Access}
 use Rattle.far_split.specs.declared.slot.Slot.{Slot}
 use Rattle.far_split.specs.declared.slot.Slot.TheVariants.{Closed, Open}
 
--- as the plain program's mutator knows it: its open flag, its objects' bytes, and what it views
-abbrev pub own_in : Mine → Own
-own_in m = record { opened = m.opened; object = λ p. bytes_in m p; viewed = λ p. views m p }
+-- the bytes of an object: as many as it has, and those that are known of it, which are all over an honest far side
+abbrev pub HasBytes : Bool → Option Object → Option (List ℕ) → Type 0
+HasBytes honest None bytes = bytes ≡ None
+HasBytes honest (Some x) bytes = (all : List ℕ) × (bytes ≡ Some all) × (length all ≡ x.len) × (honest ≡ true → x.bytes ≡ Some all)
+
+-- as the plain program's mutator knows it: its open flag, its objects' bytes, and what it views. Over a far side that may lie any bytes are, as many as there are
+pub record IsOwn (m : Mine) (o : Own) : Type 0 where
+  pub opened : o.opened ≡ m.opened
+  pub viewed : (p : ℕ) → o.viewed p ≡ views m p
+  pub object : (p : ℕ) → HasBytes m.honest (object_of m p) (o.object p)
 
 -- the mutator whose scope is closed or open
 abbrev pub mine_in : {K : Type 0} → Slot K → Mine
 mine_in (Closed mutator) = mutator
 mine_in (Open scope) = scope
 
--- a request of the mutator was answered so on its heap, with no more bytes than an object has, and it is the same mutator of the same heap
+-- a mutator that knows this is told a reply, and knows that then; and what the reply tells of the heap
+pub record Learns (heap : HeapId) (m : Mine) (o : Own) (request : Request) (r : Reply) (n : Mine) : Type 0 where
+  pub own : Own
+  pub is : IsOwn n own
+  pub knows : KnowsHere m.honest m.number o (Mutator m.number request) r own
+  pub tells : TellsOfHeap heap m.number o (Mutator m.number request) r
+
+-- a request of the mutator was answered so on its heap, whatever it knew of bytes, with no more bytes than an object has, and it is the same mutator of the same heap
 pub record Answers (heap : HeapId) (m : Mine) (request : Request) (r : Reply) (n : Mine) : Type 0 where
-  pub knows : KnowsHere m.number (own_in m) (Mutator m.number request) r (own_in n)
-  pub tells : TellsOfHeap heap m.number (own_in m) (Mutator m.number request) r
+  pub learns : (o : Own) → IsOwn m o → Learns heap m o request r n
   pub short : IsShort r
   pub number : n.number ≡ m.number
   pub honest : n.honest ≡ m.honest

@@ -1,6 +1,6 @@
 //! The book's lines.
 
-ghost use Rattle.std.specs.Prelude.{◌≡◌, true, map, IfErr, IfOk};
+ghost use Rattle.std.specs.Prelude.{◌≡◌, true, IfErr, IfOk};
 ghost use Rattle.std.specs.List.{AllByRecursion};
 ghost use Rattle.far_text.specs.Command.{as_command};
 ghost use Rattle.far_text.specs.SplitText.{AreOwn};
@@ -9,16 +9,17 @@ ghost use Rattle.far_replay.specs.Reply.{IsShort};
 ghost use Rattle.far_split.specs.BookTold.{BookTold, TellsLine};
 ghost use Rattle.far_split.specs.Here.{commands_of};
 ghost use Rattle.far_split.specs.Jobs.{StopsBy};
-ghost use Rattle.far_split.specs.Told.{as_reply};
+ghost use Rattle.far_split.specs.Told.{TellsFewLogs, as_reply};
 
 use crate::far_side::FarSide;
 use crate::gate::{Gate, THE_BOOK};
 use crate::inquiries::inquire;
 use crate::mutators::Stop;
+use crate::replies::{Replies, Room};
 use crate::rounds::make_round;
-use crate::told::Told;
+use crate::told::Answer;
 use far_heap::{Heap, HeapName};
-use far_text::{Command, Lines, Step};
+use far_text::{Command, Inquiry, Lines, Step};
 use std::alloc::{AllocError, Global};
 use std::sync::Wait;
 
@@ -28,10 +29,11 @@ fn make_line<K: HeapName, R: Wait>(
     rt: &R,
     heap: &Heap<K, FarSide>,
     command: Command<'_>,
-) -> Result<Told, AllocError>
+) -> Result<Answer, AllocError>
     requires own { is_of OfBook (as_command command) ≡ true }
     ensures told { IfOk result (λ told. TellsLine K.heap (as_command command.entry) (as_reply told)) }
     ensures short { IfOk result (λ told. IsShort (as_reply told)) }
+    ensures few { IfOk result TellsFewLogs }
 {
     match command {
         Command::Book(inquiry) => inquire(alloc, rt, heap, inquiry),
@@ -46,22 +48,43 @@ fn make_line<K: HeapName, R: Wait>(
     }
 }
 
-/// Makes the book's lines, in order, asking the gate before each: what each was answered. The room for the list of answers is taken before the first line.
+// How much room the replies to these lines take on a heap of so many logs.
+fn room_for(lines: &Lines<'_>, logs: usize) -> Room {
+    let mut room = Room {
+        replies: lines.len(),
+        bytes: 0,
+        logs: 0,
+        rounds: 0,
+    };
+    for place in 0..lines.len() {
+        let (_, command) = lines.at(place);
+        match command {
+            Command::Book(Inquiry::Logs) => room.logs = room.logs.saturating_add(logs),
+            Command::Book(Inquiry::Log { .. }) => room.logs = room.logs.saturating_add(1),
+            Command::Evacuator(_) => room.rounds = room.rounds.saturating_add(1),
+            _ => {}
+        }
+    }
+    room
+}
+
+/// Makes the book's lines, in order, asking the gate before each: what each was answered. The room for all answers is taken before the first line.
 ///
-/// [`Stop::Gate`] where the gate says no to a line; [`Stop::Memory`] where there is no room for the list, or for what a line is to tell of logs.
+/// [`Stop::Gate`] where the gate says no to a line; [`Stop::Memory`] where there is no room for the answers, or for what a line is to tell of logs.
 pub(crate) fn make_book_lines<K: HeapName, R: Wait, G: Gate>(
     alloc: Global,
     rt: &R,
     heap: &Heap<K, FarSide>,
     lines: &Lines<'_>,
     gate: &G,
-) -> Result<Vec<Told>, Stop>
+) -> Result<Replies, Stop>
     requires own { AreOwn K.heap.mutators OfBook lines.now }
-    ensures told { IfOk result (λ told. BookTold K.heap (commands_of lines.now) (map as_reply told.items)) }
-    ensures short { IfOk result (λ told. AllByRecursion IsShort (map as_reply told.items)) }
+    ensures told { IfOk result (BookTold K.heap (commands_of lines.now)) }
+    ensures short { IfOk result (AllByRecursion IsShort) }
     ensures stopped { IfErr result (StopsBy (G.refuses gate.now) THE_BOOK lines.now) }
 {
-    let Ok(mut told) = Vec::with_capacity(alloc, lines.len()) else {
+    let logs = heap.book(rt).shape().logs as usize;
+    let Ok(mut told) = Replies::with_room(alloc, room_for(lines, logs)) else {
         return Err(Stop::Memory);
     };
     let mut turn = 0u32;
@@ -73,7 +96,9 @@ pub(crate) fn make_book_lines<K: HeapName, R: Wait, G: Gate>(
         let Ok(answer) = make_line(alloc, rt, heap, command) else {
             return Err(Stop::Memory);
         };
-        told.push_reserved(answer);
+        let Ok(()) = told.push(answer) else {
+            return Err(Stop::Memory);
+        };
         gate.after(THE_BOOK, turn);
         turn = turn.saturating_add(1);
     }

@@ -1,33 +1,27 @@
 //! The far side of the heap that a split text runs on.
 
-ghost use Rattle.std.specs.Prelude.{◌≡◌};
 ghost use Rattle.std.specs.Option.{option_map};
 ghost use Rattle.far_text.specs.Command.{as_device};
-ghost use Rattle.far_split.specs.FarSides.{failing};
+ghost use Rattle.far_split.specs.FarSides.{IsFlawed};
 
-use far_device::{FailAt, MemDevice};
+use far_device::{FailAt, Liar, MemDevice};
 use far_text::{Device, Flaw};
 use std::alloc::Global;
 
-/// A device in memory, of which one call may fail.
-pub(crate) type FarSide = FailAt<MemDevice>;
+/// A device in memory, of which one call may fail, or one read lie.
+pub(crate) type FarSide = Liar<FailAt<MemDevice>>;
 
-// Which write or read is to fail, counted together from 1; 0 is none. A split text says no device that lies.
-fn failing_call(device: Option<Device>) -> u64
-    ensures { result ≡ failing (option_map as_device device) }
+/// The far side that a text says, or one that neither fails nor lies.
+pub(crate) fn far_side_of(alloc: Global, device: Option<Device>) -> FarSide
+    ensures { IsFlawed (option_map as_device device) result }
 {
+    let memory = MemDevice::new(alloc);
     match device {
         Some(device) => match device.flaw {
-            Flaw::Fail => device.call,
-            Flaw::Short | Flaw::Flip => 0,
+            Flaw::Fail => Liar::short(FailAt::new(memory, device.call), 0),
+            Flaw::Short => Liar::short(FailAt::new(memory, 0), device.call),
+            Flaw::Flip => Liar::flip(FailAt::new(memory, 0), device.call),
         },
-        None => 0,
+        None => Liar::short(FailAt::new(memory, 0), 0),
     }
-}
-
-/// The far side that a text says, or one that never fails.
-pub(crate) fn far_side_of(alloc: Global, device: Option<Device>) -> FarSide
-    ensures { result.left ≡ failing (option_map as_device device) }
-{
-    FailAt::new(MemDevice::new(alloc), failing_call(device))
 }

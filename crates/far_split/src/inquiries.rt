@@ -9,49 +9,49 @@ ghost use Rattle.far_text.specs.Command.{Audit, Book, Log, as_inquiry};
 ghost use Rattle.far_replay.specs.Reply.{IsShort};
 ghost use Rattle.far_replay.specs.Turn.{log_line};
 ghost use Rattle.far_split.specs.BookTold.{TellsLine, TellsRange, lies_far, lies_near, live_in};
-ghost use Rattle.far_split.specs.Told.{as_reply};
+ghost use Rattle.far_split.specs.Kept.{line_told, lines_told};
+ghost use Rattle.far_split.specs.Told.{TellsFewLogs, as_reply};
 
 use crate::far_side::FarSide;
-use crate::told::Told;
+use crate::told::{Answer, LogWords};
 use far_book::Home;
 use far_evac::{Housed, LogState};
 use far_heap::{Evacuator, Heap, HeapName};
-use far_replay::{Counts, LogLine};
+use far_replay::Counts;
 use far_text::Inquiry;
 use far_word::Refused;
 use std::alloc::{AllocError, Global};
 use std::sync::Wait;
 
-// What is told of a log.
-fn line_of<K: HeapName>(book: &Evacuator<K, FarSide>, log: u8) -> LogLine
+// What is told of a log: all its bytes are whole words.
+fn words_of<K: HeapName>(book: &Evacuator<K, FarSide>, log: u8) -> LogWords
     requires log { log < (seat_view book.now.book.near).logs }
-    ensures { result ≡ log_line (moment seat_view book.now) log }
+    ensures { line_told log result ≡ log_line (moment seat_view book.now) log }
 {
+    book.keeps_law();
     let LogState { kind, row } = book.log(log);
-    LogLine {
-        log,
+    LogWords {
         kind,
-        live: u64::from(row.live),
-        dead: u64::from(row.dead),
-        unused: u64::from(row.unused),
+        live: (row.live / 8) as u8,
+        dead: (row.dead / 8) as u8,
     }
 }
 
-// A line of each log, from one on, so many.
-fn lines_of<K: HeapName>(
+// What is told of each log, from one on, before another.
+fn rows_of<K: HeapName>(
     alloc: Global,
     book: &Evacuator<K, FarSide>,
     first: u8,
     end: u8,
-) -> Result<Vec<LogLine>, AllocError>
+) -> Result<Vec<LogWords>, AllocError>
     requires logs { (first ≤ end) × (end ≤ (seat_view book.now.book.near).logs) }
-    ensures { IfOk result (λ lines. lines.items ≡ map (log_line (moment seat_view book.now)) (range_with_len first (end - first))) }
+    ensures { IfOk result (λ rows. lines_told first rows.items ≡ map (log_line (moment seat_view book.now)) (range_with_len first (end - first))) }
 {
-    let mut lines = Vec::with_capacity(alloc, usize::from(end - first))?;
+    let mut rows = Vec::with_capacity(alloc, usize::from(end - first))?;
     for log in first..end {
-        lines.push_reserved(line_of(book, log));
+        rows.push_reserved(words_of(book, log));
     }
-    Ok(lines)
+    Ok(rows)
 }
 
 // Tells each log from one on, before another. `Err` where there is no memory for their lines.
@@ -60,14 +60,15 @@ fn logs_told<K: HeapName>(
     book: &Evacuator<K, FarSide>,
     first: u8,
     end: u8,
-) -> Result<Told, AllocError>
+) -> Result<Answer, AllocError>
     requires logs { (first ≤ end) × (end ≤ (seat_view book.now.book.near).logs) }
     ensures told { IfOk result (λ told. TellsRange K.heap first (end - first) (as_reply told)) }
     ensures short { IfOk result (λ told. IsShort (as_reply told)) }
+    ensures few { IfOk result TellsFewLogs }
 {
     book.keeps_law();
-    let lines = lines_of(alloc, book, first, end)?;
-    Ok(Told::Logs(lines))
+    let rows = rows_of(alloc, book, first, end)?;
+    Ok(Answer::Logs { first, rows })
 }
 
 // Tells one log, if the heap has it. `Err` where there is no memory for its line.
@@ -75,13 +76,14 @@ fn log_told<K: HeapName>(
     alloc: Global,
     book: &Evacuator<K, FarSide>,
     log: u64,
-) -> Result<Told, AllocError>
+) -> Result<Answer, AllocError>
     ensures told { IfOk result (λ told. TellsLine K.heap (Book (Log log)) (as_reply told)) }
     ensures short { IfOk result (λ told. IsShort (as_reply told)) }
+    ensures few { IfOk result TellsFewLogs }
 {
     book.keeps_law();
     if log >= book.shape().logs {
-        return Ok(Told::Refused(Refused::Range));
+        return Ok(Answer::Refused(Refused::Range));
     }
     let log = log as u8;
     logs_told(alloc, book, log, log + 1)
@@ -117,18 +119,19 @@ fn count_bytes(logs: &[LogState]) -> u64
 }
 
 // Counts all objects, and the bytes that they take.
-fn audit_told<K: HeapName>(book: &mut Evacuator<K, FarSide>) -> Told
+fn audit_told<K: HeapName>(book: &mut Evacuator<K, FarSide>) -> Answer
     ensures told { TellsLine K.heap (Book Audit) (as_reply result) }
     ensures short { IsShort (as_reply result) }
+    ensures few { TellsFewLogs result }
 {
     match book.audit() {
         Ok(census) => {
             book.keeps_law();
             let (near, far) = count_homes(&census.homes);
             let live = count_bytes(&census.logs);
-            Told::Audited(Counts { near, far, live })
+            Answer::Audited(Counts { near, far, live })
         }
-        Err(why) => Told::Refused(why),
+        Err(why) => Answer::Refused(why),
     }
 }
 
@@ -138,9 +141,10 @@ pub(crate) fn inquire<K: HeapName, R: Wait>(
     rt: &R,
     heap: &Heap<K, FarSide>,
     inquiry: Inquiry,
-) -> Result<Told, AllocError>
+) -> Result<Answer, AllocError>
     ensures told { IfOk result (λ told. TellsLine K.heap (Book (as_inquiry inquiry)) (as_reply told)) }
     ensures short { IfOk result (λ told. IsShort (as_reply told)) }
+    ensures few { IfOk result TellsFewLogs }
 {
     let mut guard = heap.book(rt);
     let book = &mut *guard;

@@ -10,6 +10,7 @@ mod gate;
 mod inquiries;
 mod laws;
 mod mutators;
+mod replies;
 mod rounds;
 mod run;
 mod slot;
@@ -18,6 +19,7 @@ mod told;
 
 pub use gate::{Gate, NoGate, THE_BOOK};
 pub use laws::mutators_are_alone;
+pub use replies::Replies;
 pub use run::{SplitFault, run_split};
 pub use split_out::SplitOut;
-pub use told::Told;
+pub use told::{LogLines, Told};

@@ -6,10 +6,10 @@ ghost use Rattle.far_evac.specs.Moment.{nothing, progress_of};
 ghost use Rattle.far_text.specs.Command.{Evacuator, Round, as_policy};
 ghost use Rattle.far_replay.specs.Reply.{IsShort};
 ghost use Rattle.far_split.specs.BookTold.{EndsRound, StopsRound, TellsLine};
-ghost use Rattle.far_split.specs.Told.{as_reply};
+ghost use Rattle.far_split.specs.Told.{TellsFewLogs, as_reply};
 
 use crate::far_side::FarSide;
-use crate::told::Told;
+use crate::told::Answer;
 use far_evac::{EvacFault, Phase, Progress, RoundEnd};
 use far_heap::{Heap, HeapName};
 use far_policy::{LeastLive, Oldest};
@@ -63,17 +63,18 @@ pub(crate) fn make_round<K: HeapName, R: Wait>(
     policy: Policy,
     most: u8,
     turns: u64,
-) -> Told
+) -> Answer
     ensures told { TellsLine K.heap (Evacuator (Round (as_policy policy) most turns)) (as_reply result) }
     ensures short { IsShort (as_reply result) }
+    ensures few { TellsFewLogs result }
 {
     match run_by(rt, heap, policy, most, turns) {
-        Ok(end) => Told::Ended(end),
+        Ok(end) => Answer::Ended(end),
         Err(EvacFault { so_far, why }) => {
             if did_nothing(&so_far) && !stands_after(rt, heap, why) {
-                Told::Refused(why)
+                Answer::Refused(why)
             } else {
-                Told::Halted { why, so_far }
+                Answer::Halted { why, so_far }
             }
         }
     }

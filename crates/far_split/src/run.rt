@@ -1,9 +1,11 @@
 //! A split text is run: each mutator's lines in a thread of its own, the book's in another.
 
-ghost use Rattle.std.specs.Prelude.{◌≡◌, ◌⊎◌, ◌<◌, ◌≤◌, ℕ, [], true, length, map, None, Some, Ok, IfErr, IfOk, IsOk};
+ghost use Rattle.std.specs.Prelude.{◌≡◌, ◌⊎◌, ◌<◌, ◌≤◌, ℕ, Option, [], length, map, None, Some, Ok, IfErr, IfOk, IsOk};
 ghost use Rattle.far_text.specs.declared.text.TheConstants.{LONGEST_TEXT};
 ghost use Rattle.std.specs.Option.{option_map};
-ghost use Rattle.far_text.specs.Command.{as_device};
+ghost use Rattle.far_text.specs.Command.{as_device, Device as SaidDevice};
+ghost use Rattle.far_replay.specs.Answers.{is_true};
+ghost use Rattle.far_split.specs.FarSides.{IsFlawed};
 ghost use Rattle.far_text.specs.Split.{split_of, SplitHeap};
 ghost use Rattle.far_text.specs.SplitText.{AreOwn};
 ghost use Rattle.far_text.specs.Threads.{Thread as AnyThread, lines_in};
@@ -17,8 +19,8 @@ use crate::books::make_book_lines;
 use crate::far_side::{FarSide, far_side_of};
 use crate::gate::{Gate, THE_BOOK};
 use crate::mutators::{Stop, make_lines};
+use crate::replies::Replies;
 use crate::split_out::SplitOut;
-use crate::told::Told;
 use far_core::Shape;
 use far_heap::{Blank, Heap, HeapName, Mutator};
 use far_text::{Device, ParseError, SplitText, SplitTrace, Thread, parse_split, splitting_is_said};
@@ -59,7 +61,7 @@ enum Job<K: HeapName> {
 }
 
 /// How a thread ended: all its lines were answered, or it was stopped.
-type End = Result<Vec<Told>, Stop>;
+type End = Result<Replies, Stop>;
 
 // A job for each mutator, by number, and the book's.
 fn jobs_of<K: HeapName>(
@@ -68,7 +70,6 @@ fn jobs_of<K: HeapName>(
 ) -> Result<Vec<Job<K>>, AllocError>
     requires new { mutators.items ≡ newcomers K.heap }
     requires few { K.heap.mutators ≤ 8 }
-    requires honest { K.heap.honest ≡ true }
     ensures { IfOk result (λ jobs. AreJobs K.heap jobs.items) }
 {
     let many = mutators.len();
@@ -159,7 +160,7 @@ fn fault_of(ends: &[End]) -> Option<SplitFault>
 }
 
 // The replies to all threads' lines, none of which was stopped.
-fn parts_of(alloc: Global, mut ends: Vec<End>) -> Result<Vec<Vec<Told>>, AllocError>
+fn parts_of(alloc: Global, mut ends: Vec<End>) -> Result<Vec<Replies>, AllocError>
     requires { IsFault ends.items None }
     ensures { IfOk result (λ parts. ends.items ≡ map Ok parts.items) }
 {
@@ -203,13 +204,12 @@ fn run_named<K: HeapName + Send + Sync, R: Threads + Wait + Sync, G: Gate>(
     gate: &G,
 ) -> Result<SplitOut, SplitFault>
     requires name { blank.heap ≡ K.heap }
-    requires honest { K.heap.honest ≡ true }
     requires few { K.heap.mutators ≤ 8 }
     requires size { (K.heap.logs ≡ (shape_in (seat_view blank.book.near)).logs) × (K.heap.mutators ≡ (shape_in (seat_view blank.book.near)).mutators) }
     requires unused { IsUnused (seat_view blank.book.near) }
     requires order { blank.book.order ≡ [] }
     requires own { (thread : AnyThread) → AreOwn K.heap.mutators thread (lines_in thread text.now) }
-    ensures ran { IfOk result (λ out. RanSo (shape_in (seat_view blank.book.near)) blank.book.device.left text.now (as_joined out)) }
+    ensures ran { (device : Option SaidDevice) → IsFlawed device blank.book.device → K.heap.honest ≡ is_true device → IfOk result (λ out. RanSo (shape_in (seat_view blank.book.near)) device text.now (as_joined out)) }
     ensures short { IfOk result (λ out. AreShort (as_joined out)) }
     ensures fault { IfErr result (MayStop (G.refuses gate.now) K.heap.mutators text.now) }
 {
@@ -267,7 +267,7 @@ pub fn run_split<R: Threads + Wait + Sync, G: Gate>(
     match parse_split(alloc, text) {
         Ok(SplitTrace::Nothing) => Ok(SplitOut::Ran {
             mutators: Vec::new(alloc),
-            book: Vec::new(alloc),
+            book: Replies::new(alloc),
         }),
         Ok(
             SplitTrace::Heap {

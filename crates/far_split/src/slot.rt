@@ -8,7 +8,7 @@ ghost use Rattle.far_split.specs.Told.{as_reply};
 
 use crate::access::{pointer_of, reach, sizes_of};
 use crate::far_side::FarSide;
-use crate::told::Told;
+use crate::told::Answer;
 use far_heap::{HeapName, Mutator, Scope, Tried};
 use far_text::Request;
 use far_word::Refused;
@@ -28,18 +28,17 @@ fn make_closed<K: HeapName, R: Wait>(
     mutator: &mut Mutator<K, FarSide>,
     len: u64,
     structure: u64,
-) -> Told
-    requires honest { mutator.old.honest ≡ true }
+) -> Answer
     ensures { Answers K.heap mutator.old (New len structure) (as_reply result) mutator.new }
 {
     let (len, structure) = match sizes_of(len, structure) {
         Ok(sizes) => sizes,
-        Err(why) => return Told::Refused(why),
+        Err(why) => return Answer::Refused(why),
     };
     mutator.keeps_law();
     match mutator.alloc(rt, len, structure) {
-        Ok(pointer) => Told::Pointer(pointer),
-        Err(why) => Told::Refused(why),
+        Ok(pointer) => Answer::Pointer(pointer),
+        Err(why) => Answer::Refused(why),
     }
 }
 
@@ -49,18 +48,17 @@ fn make_open<K: HeapName, R: Wait>(
     scope: &mut Scope<K, FarSide>,
     len: u64,
     structure: u64,
-) -> Told
-    requires honest { scope.old.honest ≡ true }
+) -> Answer
     ensures { Answers K.heap scope.old (New len structure) (as_reply result) scope.new }
 {
     let (len, structure) = match sizes_of(len, structure) {
         Ok(sizes) => sizes,
-        Err(why) => return Told::Refused(why),
+        Err(why) => return Answer::Refused(why),
     };
     scope.keeps_law();
     match scope.alloc(rt, len, structure) {
-        Ok(pointer) => Told::Pointer(pointer),
-        Err(why) => Told::Refused(why),
+        Ok(pointer) => Answer::Pointer(pointer),
+        Err(why) => Answer::Refused(why),
     }
 }
 
@@ -69,63 +67,59 @@ fn drop_closed<K: HeapName, R: Wait>(
     rt: &R,
     mutator: &mut Mutator<K, FarSide>,
     pointer: u64,
-) -> Told
-    requires honest { mutator.old.honest ≡ true }
+) -> Answer
     ensures { Answers K.heap mutator.old (Drop pointer) (as_reply result) mutator.new }
 {
     mutator.keeps_law();
     let Some(pointer) = pointer_of(pointer) else {
-        return Told::Refused(Refused::NotHeld);
+        return Answer::Refused(Refused::NotHeld);
     };
     match mutator.drop_object(rt, pointer) {
-        Ok(()) => Told::Done,
-        Err(why) => Told::Refused(why),
+        Ok(()) => Answer::Done,
+        Err(why) => Answer::Refused(why),
     }
 }
 
 // Drops an object that the open scope doesn't view.
-fn drop_open<K: HeapName, R: Wait>(rt: &R, scope: &mut Scope<K, FarSide>, pointer: u64) -> Told
-    requires honest { scope.old.honest ≡ true }
+fn drop_open<K: HeapName, R: Wait>(rt: &R, scope: &mut Scope<K, FarSide>, pointer: u64) -> Answer
     ensures { Answers K.heap scope.old (Drop pointer) (as_reply result) scope.new }
 {
     scope.keeps_law();
     let Some(pointer) = pointer_of(pointer) else {
-        return Told::Refused(Refused::NotHeld);
+        return Answer::Refused(Refused::NotHeld);
     };
     match scope.drop_object(rt, pointer) {
-        Ok(()) => Told::Done,
-        Err(why) => Told::Refused(why),
+        Ok(()) => Answer::Done,
+        Err(why) => Answer::Refused(why),
     }
 }
 
 // Views an object, wherever it is.
-fn view<K: HeapName, R: Wait>(rt: &R, scope: &mut Scope<K, FarSide>, pointer: u64) -> Told
-    requires honest { scope.old.honest ≡ true }
+fn view<K: HeapName, R: Wait>(rt: &R, scope: &mut Scope<K, FarSide>, pointer: u64) -> Answer
     ensures { Answers K.heap scope.old (View pointer) (as_reply result) scope.new }
 {
     scope.keeps_law();
     let Some(pointer) = pointer_of(pointer) else {
-        return Told::Refused(Refused::NotHeld);
+        return Answer::Refused(Refused::NotHeld);
     };
     match scope.view(rt, pointer) {
-        Ok(_) => Told::Done,
-        Err(why) => Told::Refused(why),
+        Ok(_) => Answer::Done,
+        Err(why) => Answer::Refused(why),
     }
 }
 
 // Views an object, if no mark and no way from the far side hinders it.
-fn try_view<K: HeapName>(scope: &mut Scope<K, FarSide>, pointer: u64) -> Told
-    requires honest { scope.old.honest ≡ true }
+fn try_view<K: HeapName>(scope: &mut Scope<K, FarSide>, pointer: u64) -> Answer
     ensures { Answers K.heap scope.old (Try pointer) (as_reply result) scope.new }
 {
     scope.keeps_law();
     let Some(pointer) = pointer_of(pointer) else {
-        return Told::Refused(Refused::NotHeld);
+        return Answer::Refused(Refused::NotHeld);
     };
     match scope.try_view(pointer) {
-        Ok(Tried::View(_)) => Told::Done,
-        Ok(Tried::Slow(word)) => Told::Refused(Refused::Marked(word)),
-        Err(why) => Told::Refused(why),
+        Ok(Tried::View(_)) => Answer::Done,
+        Ok(Tried::Slow(word)) => Answer::Refused(Refused::Marked(word)),
+        Err(why) => Answer::Refused(why),
     }
 }
 
@@ -137,24 +131,23 @@ fn read<K: HeapName, R: Wait>(
     pointer: u64,
     from: u64,
     len: u64,
-) -> Result<Told, AllocError>
-    requires honest { scope.old.honest ≡ true }
+) -> Result<Answer, AllocError>
     ensures { IfOk result (λ told. Answers K.heap scope.old (Read pointer from len) (as_reply told) scope.new) }
 {
     scope.keeps_law();
     let access = match reach(scope, pointer, from, len) {
         Ok(access) => access,
-        Err(why) => return Ok(Told::Refused(why)),
+        Err(why) => return Ok(Answer::Refused(why)),
     };
     let mut bytes = vec![in alloc; 0; access.count as usize]?;
     let view = match scope.view(rt, access.pointer) {
         Ok(view) => view,
-        Err(why) => return Ok(Told::Refused(why)),
+        Err(why) => return Ok(Answer::Refused(why)),
     };
     let Ok(()) = scope.read(&view, access.from, &mut bytes) else {
         unreachable!()
     };
-    Ok(Told::Data(bytes))
+    Ok(Answer::Data(bytes))
 }
 
 // Writes bytes over some of an object's.
@@ -164,23 +157,22 @@ fn write<K: HeapName, R: Wait>(
     pointer: u64,
     from: u64,
     bytes: &[u8],
-) -> Told
-    requires honest { scope.old.honest ≡ true }
+) -> Answer
     ensures { Answers K.heap scope.old (Write pointer from bytes.now) (as_reply result) scope.new }
 {
     scope.keeps_law();
     let access = match reach(scope, pointer, from, bytes.len() as u64) {
         Ok(access) => access,
-        Err(why) => return Told::Refused(why),
+        Err(why) => return Answer::Refused(why),
     };
     let view = match scope.view(rt, access.pointer) {
         Ok(view) => view,
-        Err(why) => return Told::Refused(why),
+        Err(why) => return Answer::Refused(why),
     };
     let Ok(()) = scope.write(&view, access.from, bytes) else {
         unreachable!()
     };
-    Told::Done
+    Answer::Done
 }
 
 // Answers a mutator's request while its scope is closed.
@@ -188,21 +180,20 @@ fn answer_closed<K: HeapName, R: Wait>(
     rt: &R,
     mut mutator: Mutator<K, FarSide>,
     request: Request<'_>,
-) -> (Slot<K>, Told)
-    requires honest { mutator.honest ≡ true }
+) -> (Slot<K>, Answer)
     requires own { is_own (as_request request) ≡ true }
     ensures { Answers K.heap mutator (as_request request.entry) (as_reply result.1) (mine_in result.0) }
 {
     mutator.keeps_law();
     let told = match request {
-        Request::Open => return (Slot::Open(mutator.open()), Told::Done),
+        Request::Open => return (Slot::Open(mutator.open()), Answer::Done),
         Request::New { len, structure } => make_closed(rt, &mut mutator, len, structure),
         Request::Drop { pointer } => drop_closed(rt, &mut mutator, pointer),
         Request::Close
         | Request::Read { .. }
         | Request::Write { .. }
         | Request::View { .. }
-        | Request::Try { .. } => Told::Refused(Refused::Closed),
+        | Request::Try { .. } => Answer::Refused(Refused::Closed),
         Request::Where { .. } | Request::Epoch => unreachable!(),
     };
     (Slot::Closed(mutator), told)
@@ -214,15 +205,14 @@ fn answer_open<K: HeapName, R: Wait>(
     rt: &R,
     mut scope: Scope<K, FarSide>,
     request: Request<'_>,
-) -> Result<(Slot<K>, Told), AllocError>
-    requires honest { scope.honest ≡ true }
+) -> Result<(Slot<K>, Answer), AllocError>
     requires own { is_own (as_request request) ≡ true }
     ensures { IfOk result (λ made. Answers K.heap scope (as_request request.entry) (as_reply made.1) (mine_in made.0)) }
 {
     scope.keeps_law();
     let told = match request {
-        Request::Close => return Ok((Slot::Closed(scope.close()), Told::Done)),
-        Request::Open => Told::Refused(Refused::AlreadyOpen),
+        Request::Close => return Ok((Slot::Closed(scope.close()), Answer::Done)),
+        Request::Open => Answer::Refused(Refused::AlreadyOpen),
         Request::New { len, structure } => make_open(rt, &mut scope, len, structure),
         Request::Drop { pointer } => drop_open(rt, &mut scope, pointer),
         Request::View { pointer } => view(rt, &mut scope, pointer),
@@ -245,8 +235,7 @@ impl<K: HeapName> Slot<K> {
         alloc: Global,
         rt: &R,
         request: Request<'_>,
-    ) -> Result<(Slot<K>, Told), AllocError>
-        requires honest { (mine_in self).honest ≡ true }
+    ) -> Result<(Slot<K>, Answer), AllocError>
         requires own { is_own (as_request request) ≡ true }
         ensures { IfOk result (λ made. Answers K.heap (mine_in self) (as_request request.entry) (as_reply made.1) (mine_in made.0)) }
     {

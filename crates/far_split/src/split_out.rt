@@ -1,18 +1,18 @@
 //! What a split text comes to, and how it is printed.
 
-ghost use Rattle.std.specs.Prelude.{◌≡◌, ◌≤◌, ◌+◌, ◌++◌, [], codes, length, map, OnOk};
+ghost use Rattle.std.specs.Prelude.{◌≡◌, ◌≤◌, ◌+◌, ◌++◌, [], codes, length, OnOk};
 ghost use Rattle.std.specs.List.{AllByRecursion, flat_map};
-ghost use Rattle.far_replay.specs.Reply.{IsShort, halted_text, reply_text};
+ghost use Rattle.far_replay.specs.Reply.{IsShort, log_text, reply_of, reply_text};
 ghost use Rattle.far_replay.specs.Stream.{Writes};
 ghost use Rattle.far_replay.specs.declared.reply.TheConstants.{LONGEST_REPLY};
-ghost use Rattle.far_split.specs.Joined.{AreShort, as_joined, replies_of};
+ghost use Rattle.far_split.specs.Joined.{AreShort, as_joined};
 ghost use Rattle.far_split.specs.Printed.{heading, parts_text, split_text};
 ghost use Rattle.far_split.specs.Prints.{Prints};
-ghost use Rattle.far_split.specs.Told.{as_reply};
+ghost use Rattle.far_split.specs.Told.{as_told};
 
-use crate::told::Told;
-use far_evac::Progress;
-use far_replay::{LONGEST_REPLY, Output, Reply, WriteFault, push_counted, write_whole};
+use crate::replies::Replies;
+use crate::told::{LogLines, Told};
+use far_replay::{LONGEST_REPLY, LogLine, Output, Reply, WriteFault, write_whole};
 use far_word::Refused;
 use std::io::Write;
 
@@ -23,38 +23,9 @@ pub enum SplitOut {
     Refused(Refused),
     /// Each line was answered: each mutator's, by its number, and the book's.
     Ran {
-        mutators: Vec<Vec<Told>>,
-        book: Vec<Told>,
+        mutators: Vec<Replies>,
+        book: Replies,
     },
-}
-
-// Adds the line of a step that was refused in its midst.
-fn push_halted(why: Refused, so_far: &Progress, buffer: &mut Output)
-    requires { length buffer.old + LONGEST_REPLY ≤ Output.CAPACITY }
-    ensures { buffer.new ≡ buffer.old ++ halted_text why so_far.now }
-{
-    buffer.push(b"refused ");
-    buffer.push_number(u64::from(why.number()));
-    push_counted(so_far, buffer);
-    buffer.push(b"\n");
-}
-
-// Adds the lines of a reply.
-fn push_told(told: &Told, buffer: &mut Output)
-    requires short { IsShort (as_reply told.now) }
-    requires room { length buffer.old + LONGEST_REPLY ≤ Output.CAPACITY }
-    ensures { buffer.new ≡ buffer.old ++ reply_text (as_reply told.now) }
-{
-    match told {
-        Told::Done => Reply::Done.print_to(buffer),
-        Told::Pointer(pointer) => Reply::Pointer(*pointer).print_to(buffer),
-        Told::Data(bytes) => Reply::Data(bytes).print_to(buffer),
-        Told::Logs(lines) => Reply::Logs(lines).print_to(buffer),
-        Told::Audited(counts) => Reply::Audited(*counts).print_to(buffer),
-        Told::Ended(end) => Reply::Ended(end).print_to(buffer),
-        Told::Refused(why) => Reply::Refused(*why).print_to(buffer),
-        Told::Halted { why, so_far } => push_halted(*why, so_far, buffer),
-    }
 }
 
 // Makes room for one more reply.
@@ -83,38 +54,80 @@ fn print_heading<W: Write>(
     Ok(())
 }
 
-fn print_told<W: Write>(told: &Told, buffer: &mut Output, writer: &mut W) -> Result<(), WriteFault>
-    requires { IsShort (as_reply told.now) }
-    ensures { Prints (W.contents writer.old) buffer.old (W.contents writer.new) buffer.new result (reply_text (as_reply told.now)) }
+// Prints what is told of logs, a line each.
+fn print_logs<W: Write>(
+    lines: &LogLines<'_>,
+    buffer: &mut Output,
+    writer: &mut W,
+) -> Result<(), WriteFault>
+    ensures { Prints (W.contents writer.old) buffer.old (W.contents writer.new) buffer.new result (flat_map log_text lines.now) }
+{
+    for at in 0..lines.len() {
+        make_room(buffer, writer)?;
+        push_log(lines.at(at), buffer);
+    }
+    Ok(())
+}
+
+// Adds the line of a log.
+fn push_log(line: LogLine, buffer: &mut Output)
+    requires room { length buffer.old + LONGEST_REPLY ≤ Output.CAPACITY }
+    ensures { buffer.new ≡ buffer.old ++ log_text line }
+{
+    let lines = [line];
+    Reply::Logs(&lines).print_to(buffer);
+}
+
+fn print_reply<W: Write>(
+    reply: &Reply<'_>,
+    buffer: &mut Output,
+    writer: &mut W,
+) -> Result<(), WriteFault>
+    requires { IsShort (reply_of reply.now) }
+    ensures { Prints (W.contents writer.old) buffer.old (W.contents writer.new) buffer.new result (reply_text (reply_of reply.now)) }
 {
     make_room(buffer, writer)?;
-    push_told(told, buffer);
+    reply.print_to(buffer);
     Ok(())
+}
+
+fn print_told<W: Write>(
+    told: &Told<'_>,
+    buffer: &mut Output,
+    writer: &mut W,
+) -> Result<(), WriteFault>
+    requires { IsShort (as_told told.now) }
+    ensures { Prints (W.contents writer.old) buffer.old (W.contents writer.new) buffer.new result (reply_text (as_told told.now)) }
+{
+    match told {
+        Told::Logs(lines) => print_logs(lines, buffer, writer),
+        Told::Reply(reply) => print_reply(reply, buffer, writer),
+    }
 }
 
 // Prints the replies of one thread.
 fn print_all<W: Write>(
-    replies: &[Told],
+    replies: &Replies,
     buffer: &mut Output,
     writer: &mut W,
 ) -> Result<(), WriteFault>
-    requires { AllByRecursion IsShort (map as_reply replies.now) }
-    ensures { Prints (W.contents writer.old) buffer.old (W.contents writer.new) buffer.new result (flat_map reply_text (map as_reply replies.now)) }
+    requires { AllByRecursion IsShort replies.now }
+    ensures { Prints (W.contents writer.old) buffer.old (W.contents writer.new) buffer.new result (flat_map reply_text replies.now) }
 {
-    for told in replies {
-        print_told(told, buffer, writer)?;
+    for at in 0..replies.len() {
+        print_told(&replies.at(at), buffer, writer)?;
     }
     Ok(())
 }
 
 // Prints the line and the replies of each mutator, by number.
 fn print_mutators<W: Write>(
-    mutators: &[Vec<Told>],
+    mutators: &[Replies],
     buffer: &mut Output,
     writer: &mut W,
 ) -> Result<(), WriteFault>
-    requires { AllByRecursion (AllByRecursion IsShort) (map replies_of mutators.now) }
-    ensures { Prints (W.contents writer.old) buffer.old (W.contents writer.new) buffer.new result (parts_text 0 (map replies_of mutators.now)) }
+    requires { AllByRecursion (AllByRecursion IsShort) mutators.now }
+    ensures { Prints (W.contents writer.old) buffer.old (W.contents writer.new) buffer.new result (parts_text 0 mutators.now) }
 {
     for (number, replies) in mutators.iter().enumerate() {
         print_heading(number, buffer, writer)?;
@@ -125,12 +138,12 @@ fn print_mutators<W: Write>(
 
 // Prints the line and the replies of the book.
 fn print_book<W: Write>(
-    book: &[Told],
+    book: &Replies,
     buffer: &mut Output,
     writer: &mut W,
 ) -> Result<(), WriteFault>
-    requires { AllByRecursion IsShort (map as_reply book.now) }
-    ensures { Prints (W.contents writer.old) buffer.old (W.contents writer.new) buffer.new result (codes "book\n" ++ flat_map reply_text (map as_reply book.now)) }
+    requires { AllByRecursion IsShort book.now }
+    ensures { Prints (W.contents writer.old) buffer.old (W.contents writer.new) buffer.new result (codes "book\n" ++ flat_map reply_text book.now) }
 {
     make_room(buffer, writer)?;
     buffer.push(b"book\n");

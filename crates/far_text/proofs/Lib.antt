@@ -1,7 +1,6 @@
 pub mod Cuts
 pub mod Each
 pub mod HexLemmas
-pub mod HonestLaws
 pub mod LastWord
 pub mod LineLemmas
 pub mod Numbers

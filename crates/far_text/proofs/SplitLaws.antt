@@ -5,14 +5,13 @@ use Rattle.std.proofs.lemmas.Bool.{and_parts, le-leb, lt-leb, cond_both}
 use Rattle.std.proofs.lemmas.Bool.Decides.{nat_tests}
 use Rattle.far_text.specs.declared.text.TheConstants.{LONGEST_TEXT}
 use Rattle.far_text.specs.Command.{Command, Device, HeapLine, DeviceLine, CommandLine, Heap, Request, New, Open, Write, Read, Close, Where, Drop, View, Try, Epoch, Mutator, Book, Evacuator, Select, Mark, Wait, Evacuate, Abort, Round}
-use Rattle.far_text.specs.Grammar.{Line, Skipped, Saying, Bad, line_of, lines_of, trace_of}
+use Rattle.far_text.specs.Grammar.{Line, Skipped, Saying, Bad, beside, line_of, lines_of, trace_of}
 use Rattle.far_text.specs.HeapSought.{Found, NoHeap, HeapAt, found_at, heap_sought}
-use Rattle.far_text.specs.Split.{SplitTrace, NothingSplit, SplitHeap, threaded, onto_lines, threaded_onto, split_command, split_commands, with_lines, honest_beside, unless_lying, split_after, split_from, split_of}
-use Rattle.far_text.specs.SplitText.{HasThread, LinesSplit, LinesAreSplit, TextSaysSplit, CantBeSplit, FirstUnsplit, AreOwn, IsThread, IsThreads, HasItsOwn}
+use Rattle.far_text.specs.Split.{SplitTrace, NothingSplit, SplitHeap, threaded, onto_lines, threaded_onto, split_command, split_commands, with_lines, split_after, split_from, split_of}
+use Rattle.far_text.specs.SplitText.{HasThread, LinesSplit, LinesAreSplit, TextSaysSplit, CantBeSplit, FirstUnsplit, AreOwn, IsThread, IsThreads, HasItsOwn, plain}
 use Rattle.far_text.specs.Threads.{Thread, OfMutator, OfBook, has_thread, is_own, is_of, lines_in}
 use Rattle.far_text.specs.TraceText.{IsPassed, LinesSay, Speaks}
-use Rattle.far_text.proofs.HonestLaws.{honest_stays, is_honestly, bad_honestly}
-use Rattle.far_text.proofs.TextLaws.{beside_is, passed_is, is_passed, speaks_is, is_speaks, not_passed, texts_read}
+use Rattle.far_text.proofs.TextLaws.{bad_beside, beside_is, is_beside, passed_is, is_passed, speaks_is, is_speaks, not_passed, texts_read}
 
 -- ---- threads
 own_from : (request : Request) → ((p : ℕ) → request ≢ Where p) → request ≢ Epoch → is_own request ≡ true
@@ -216,32 +215,31 @@ with_err logs mutators epoch device (Err m) n e = let same : m ≡ n = cc in ap 
 
 said_all : (number : ℕ) (lines : List (List ℕ)) (t : SplitTrace) → LinesAreSplit number lines t → split_from (heap_sought number lines) ≡ Ok t
 said_all number lines NothingSplit h = ap split_from (sought_nothing number lines h)
-said_all number lines (SplitHeap logs mutators epoch device said) (front, line, rest, more, whole, none, speaks, by, honest, first, sum, says) =
+said_all number lines (SplitHeap logs mutators epoch device said) (front, line, rest, more, whole, none, speaks, by, first, sum, says) =
     let (k, total, stands) = beside_is (number + length front + 1) rest more device (map (λ (line : ℕ × Command). line.1) said) by (plainly_said mutators first more said says) in
     let all = ap length whole in
     let parts = length-append front (line ∷ rest) in
     let at : k ≡ first = omega (arith, sum, total, all, parts) in
     ap (λ ls. split_from (heap_sought number ls)) whole
     ∙ ap split_from (sought_heap number front line rest logs mutators epoch none speaks)
-    ∙ ap (λ found. split_after logs mutators epoch (unless_lying (number + length front + 1) rest found)) stands
-    ∙ ap (split_after logs mutators epoch) (honest_stays (number + length front + 1) rest device k more honest)
+    ∙ ap (split_after logs mutators epoch) stands
     ∙ ap (λ j. with_lines logs mutators epoch device (split_commands mutators j more)) at
     ∙ ap (with_lines logs mutators epoch device) (said_split mutators first more said says)
 
 heap_split : (number : ℕ) (lines : List (List ℕ)) (logs mutators epoch n : ℕ) (after : List (List ℕ)) (said : List (ℕ × Command)) → FoundIs number lines (HeapAt logs mutators epoch n after)
-    → split_commands mutators (honest_beside (n + 1) after).1 (honest_beside (n + 1) after).2 ≡ Ok said → LinesAreSplit number lines (SplitHeap logs mutators epoch (honest_beside (n + 1) after).0 said)
+    → split_commands mutators (beside (n + 1) after).1 (beside (n + 1) after).2 ≡ Ok said → LinesAreSplit number lines (SplitHeap logs mutators epoch (beside (n + 1) after).0 said)
 heap_split number lines logs mutators epoch n after said (front, line, whole, is, none, speaks) e =
-    let first = (honest_beside (n + 1) after).1 in
-    let more = (honest_beside (n + 1) after).2 in
-    let by = is_honestly (n + 1) after in
+    let first = (beside (n + 1) after).1 in
+    let more = (beside (n + 1) after).2 in
+    let by = is_beside (n + 1) after in
     let all = ap length whole in
     let parts = length-append front (line ∷ after) in
-    (front, line, after, more, whole, none, speaks, by.0, by.1, first, omega (arith, by.2, is, all, parts), split_said mutators first more said e)
+    (front, line, after, more, whole, none, speaks, by.0, first, omega (arith, by.1, is, all, parts), split_said mutators first more said e)
 
 all_said : (number : ℕ) (lines : List (List ℕ)) (t : SplitTrace) (found : Result Found ℕ) → heap_sought number lines ≡ found → split_from found ≡ Ok t → LinesAreSplit number lines t
 all_said number lines t (Ok NoHeap) is e = let same : NothingSplit ≡ t = cc in subst (LinesAreSplit number lines) same (found_said number lines NoHeap is)
 all_said number lines t (Ok (HeapAt logs mutators epoch n after)) is e =
-    let (said, same, reads) = with_ok logs mutators epoch (honest_beside (n + 1) after).0 (split_commands mutators (honest_beside (n + 1) after).1 (honest_beside (n + 1) after).2) t e in
+    let (said, same, reads) = with_ok logs mutators epoch (beside (n + 1) after).0 (split_commands mutators (beside (n + 1) after).1 (beside (n + 1) after).2) t e in
     subst (LinesAreSplit number lines) same (heap_split number lines logs mutators epoch n after said (found_said number lines (HeapAt logs mutators epoch n after) is) reads)
 all_said number lines t (Err n) is e = absurd cc
 
@@ -265,14 +263,14 @@ splits_read text t = (
 pub splits_are_traces : (text : List ℕ) (logs mutators epoch : ℕ) (device : Option Device) (said : List (ℕ × Command))
     → split_of text ≡ Ok (SplitHeap logs mutators epoch device said) → trace_of text ≡ Ok (Heap logs mutators epoch device (map (λ (line : ℕ × Command). line.1) said))
 splits_are_traces text logs mutators epoch device said e =
-    let (short, (front, line, rest, more, whole, none, speaks, by, honest, first, sum, says)) = (splits_read text (SplitHeap logs mutators epoch device said)).1 e in
+    let (short, (front, line, rest, more, whole, none, speaks, by, first, sum, says)) = (splits_read text (SplitHeap logs mutators epoch device said)).1 e in
     (texts_read text (Heap logs mutators epoch device (map (λ (line : ℕ × Command). line.1) said))).0
     (short, (front, line, rest, more, whole, none, speaks, by, plainly_said mutators first more said says))
 
 pub threads_run_their_own : (text : List ℕ) (logs mutators epoch : ℕ) (device : Option Device) (said : List (ℕ × Command)) (thread : Thread)
     → split_of text ≡ Ok (SplitHeap logs mutators epoch device said) → AreOwn mutators thread (lines_in thread said)
 threads_run_their_own text logs mutators epoch device said thread e =
-    let (short, (front, line, rest, more, whole, none, speaks, by, honest, first, sum, says)) = (splits_read text (SplitHeap logs mutators epoch device said)).1 e in
+    let (short, (front, line, rest, more, whole, none, speaks, by, first, sum, says)) = (splits_read text (SplitHeap logs mutators epoch device said)).1 e in
     own_lines mutators first more said thread says
 
 -- ---- the first line that can't be split
@@ -372,18 +370,18 @@ unsought number (line ∷ lines) n e = unsought_line number line lines n (line_o
 
 -- after it
 unsplit_heap : (number : ℕ) (lines : List (List ℕ)) (logs mutators epoch k : ℕ) (after : List (List ℕ)) (n : ℕ) → FoundIs number lines (HeapAt logs mutators epoch k after)
-    → UnsplitAfter mutators (honest_beside (k + 1) after).1 (honest_beside (k + 1) after).2 n → FirstUnsplit number lines n
+    → UnsplitAfter mutators (beside (k + 1) after).1 (beside (k + 1) after).2 n → FirstUnsplit number lines n
 unsplit_heap number lines logs mutators epoch k after n (before, line, whole, is, none, speaks) (front, bad, rest, said, later, at, says, unpassed, unsaid) =
-    let first = (honest_beside (k + 1) after).1 in
-    let (between, all, from, by, honest, undeviced) = bad_honestly (k + 1) after front bad rest said n later at (plainly_said mutators first front said says) in
+    let first = (beside (k + 1) after).1 in
+    let (between, all, from, by, undeviced) = bad_beside (k + 1) after front bad rest (plain said) n later at (plainly_said mutators first front said says) in
     let sum = length-append before (line ∷ between) in (
       before ++ line ∷ between,
       bad,
       rest,
-      SplitHeap logs mutators epoch (honest_beside (k + 1) after).0 said,
+      SplitHeap logs mutators epoch (beside (k + 1) after).0 said,
       whole ∙ ap (λ ls. before ++ line ∷ ls) all ∙ sym (append_assoc before (line ∷ between) (bad ∷ rest)),
       omega (arith, from, is, sum),
-      (before, line, between, front, refl, none, speaks, by, honest, first, omega (arith, at, from, is, sum), says),
+      (before, line, between, front, refl, none, speaks, by, first, omega (arith, at, from, is, sum), says),
       (unpassed, unsaid, undeviced),
     )
 
@@ -391,8 +389,8 @@ unsplit_from : (number : ℕ) (lines : List (List ℕ)) (n : ℕ) (found : Resul
 unsplit_from number lines n (Ok NoHeap) is e = absurd cc
 unsplit_from number lines n (Ok (HeapAt logs mutators epoch k after)) is e =
     unsplit_heap number lines logs mutators epoch k after n (found_said number lines (HeapAt logs mutators epoch k after) is)
-    (unsplit_commands mutators (honest_beside (k + 1) after).1 (honest_beside (k + 1) after).2 n
-    (with_err logs mutators epoch (honest_beside (k + 1) after).0 (split_commands mutators (honest_beside (k + 1) after).1 (honest_beside (k + 1) after).2) n e))
+    (unsplit_commands mutators (beside (k + 1) after).1 (beside (k + 1) after).2 n
+    (with_err logs mutators epoch (beside (k + 1) after).0 (split_commands mutators (beside (k + 1) after).1 (beside (k + 1) after).2) n e))
 unsplit_from number lines n (Err m) is e =
     let same : m ≡ n = cc in
     let (front, bad, rest, whole, at, none, nothing) = unsought number lines n (is ∙ ap Err same) in

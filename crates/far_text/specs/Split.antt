@@ -1,6 +1,6 @@
--- How a text is read whose commands are split among threads: after the lines of the heap and of its device, which may fail but doesn't lie, each line says a command that one of them runs.
-use Rattle.std.specs.Prelude.{ℕ, Bool, true, false, ◌+◌, nat_lt, Result, Ok, Err, Option, Some, None, List, [], ◌∷◌, length, if◌then◌else◌}
-use Rattle.far_text.specs.Command.{Command, HeapLine, DeviceLine, Device, Flawed, Fail, Short, Flip, CommandLine}
+-- How a text is read whose commands are split among threads: after the lines of the heap and of its device each line says a command that one of them runs.
+use Rattle.std.specs.Prelude.{ℕ, ◌+◌, nat_lt, Result, Ok, Err, Option, Some, None, List, [], ◌∷◌, length, if◌then◌else◌}
+use Rattle.far_text.specs.Command.{Command, HeapLine, DeviceLine, Device, CommandLine}
 use Rattle.far_text.specs.Grammar.{Line, Skipped, Saying, Bad, line_of, lines_of, beside}
 use Rattle.far_text.specs.HeapSought.{Found, NoHeap, HeapAt, heap_sought}
 use Rattle.far_text.specs.Threads.{has_thread}
@@ -41,20 +41,6 @@ abbrev pub with_lines : ℕ → ℕ → ℕ → Option Device → Result (List (
 with_lines logs mutators epoch device (Ok lines) = Ok (SplitHeap logs mutators epoch device lines)
 with_lines logs mutators epoch device (Err number) = Err number
 
--- a device may fail here, and tells no lies
-abbrev pub is_honest : Device → Bool
-is_honest (Flawed Fail call) = true
-is_honest (Flawed Short call) = false
-is_honest (Flawed Flip call) = false
-
--- what is found beside a heap; but where it is a device that lies, all lines after the heap's are left for the commands, the device's too
-abbrev pub unless_lying : ℕ → List (List ℕ) → Option Device × ℕ × List (List ℕ) → Option Device × ℕ × List (List ℕ)
-unless_lying number lines (None, first, more) = (None, first, more)
-unless_lying number lines (Some device, first, more) = if is_honest device then (Some device, first, more) else (None, number, lines)
-
-abbrev pub honest_beside : ℕ → List (List ℕ) → Option Device × ℕ × List (List ℕ)
-honest_beside number lines = unless_lying number lines (beside number lines)
-
 -- what the lines after a heap's say, the device's first if it is said
 abbrev pub split_after : ℕ → ℕ → ℕ → Option Device × ℕ × List (List ℕ) → Result SplitTrace ℕ
 split_after logs mutators epoch after = with_lines logs mutators epoch after.0 (split_commands mutators after.1 after.2)
@@ -62,7 +48,7 @@ split_after logs mutators epoch after = with_lines logs mutators epoch after.0 (
 -- what the lines say, by what is found of a heap
 abbrev pub split_from : Result Found ℕ → Result SplitTrace ℕ
 split_from (Ok NoHeap) = Ok NothingSplit
-split_from (Ok (HeapAt logs mutators epoch number after)) = split_after logs mutators epoch (honest_beside (number + 1) after)
+split_from (Ok (HeapAt logs mutators epoch number after)) = split_after logs mutators epoch (beside (number + 1) after)
 split_from (Err number) = Err number
 
 -- what a text says, or the number of its first line that isn't read so, 0 where it is too long

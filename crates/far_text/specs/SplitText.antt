@@ -1,10 +1,10 @@
 -- What a whole text says whose commands are split among threads, line by line; which line is the first that can't be; and that each command has one thread.
 use Rattle.std.specs.Prelude.{◌≡◌, ◌≢◌, ◌⊎◌, ◌↔◌, ℕ, ◌+◌, ◌<◌, ◌≤◌, true, Ok, Err, List, [], ◌∷◌, ◌++◌, Option, None, Some, length, map}
-use Rattle.far_text.specs.Command.{Command, Device, Flawed, Fail, HeapLine, DeviceLine, CommandLine, Heap, Request, Where, Epoch, Inquiry, Policy, Mutator, Book, Evacuator, Round}
+use Rattle.far_text.specs.Command.{Command, Device, HeapLine, CommandLine, Heap, Request, Where, Epoch, Inquiry, Policy, Mutator, Book, Evacuator, Round}
 use Rattle.far_text.specs.Grammar.{lines_of, trace_of}
 use Rattle.far_text.specs.Split.{SplitTrace, NothingSplit, SplitHeap, split_of}
 use Rattle.far_text.specs.Threads.{Thread, OfMutator, OfBook, is_of, lines_in}
-use Rattle.far_text.specs.TraceText.{Beside, IsPassed, LinesSay, Speaks}
+use Rattle.far_text.specs.TraceText.{Beside, IsPassed, LinesSay, MaySayDevice, Speaks}
 use Rattle.far_text.specs.declared.text.TheConstants.{LONGEST_TEXT}
 
 -- a mutator of so many asks for something else than where an object is, or the epoch
@@ -27,30 +27,24 @@ LinesSplit mutators number (line ∷ lines) said =
     (IsPassed line × LinesSplit mutators (number + 1) lines said)
     ⊎ ((c : Command) × (later : List (ℕ × Command)) × (said ≡ (number, c) ∷ later) × Speaks line (CommandLine c) × HasThread mutators c × LinesSplit mutators (number + 1) lines later)
 
--- a device that is said fails, and doesn't lie
-abbrev pub IsHonest : Option Device → Type 0
-IsHonest None = Unit {0}
-IsHonest (Some (Flawed flaw call)) = flaw ≡ Fail
-
 -- these lines, counted from a number on, say nothing; or one says the heap, those before it say nothing, and those after it say its device, if that is said, and then the commands
 abbrev pub LinesAreSplit : ℕ → List (List ℕ) → SplitTrace → Type 0
 LinesAreSplit number lines NothingSplit = LinesSay lines []
 LinesAreSplit number lines (SplitHeap logs mutators epoch device said) = (front : List (List ℕ)) × (line : List ℕ) × (rest more : List (List ℕ)) × (lines ≡ front ++ line ∷ rest)
-    × LinesSay front [] × Speaks line (HeapLine logs mutators epoch) × Beside device rest more × IsHonest device × (first : ℕ) × (number + length lines ≡ first + length more) × LinesSplit mutators first more said
+    × LinesSay front [] × Speaks line (HeapLine logs mutators epoch) × Beside device rest more × (first : ℕ) × (number + length lines ≡ first + length more) × LinesSplit mutators first more said
 
 -- a text that is not too long and whose lines say this
 abbrev pub TextSaysSplit : List ℕ → SplitTrace → Type 0
 TextSaysSplit text t = (length text ≤ LONGEST_TEXT) × LinesAreSplit 1 (lines_of text) t
 
--- a line says a device that fails where one may stand: after the heap's line, where nothing else was said
-abbrev pub MaySayFailing : Option Device → List (ℕ × Command) → List ℕ → Type 0
-MaySayFailing None [] line = (call : ℕ) × Speaks line (DeviceLine (Flawed Fail call))
-MaySayFailing device said line = ⊥
+-- these commands, without the numbers of their lines
+abbrev pub plain : List (ℕ × Command) → List Command
+plain said = map (λ (line : ℕ × Command). line.1) said
 
--- a line that is neither passed over nor says what may stand here: the heap where nothing was said, after it a command with a thread, or first a device that fails
+-- a line that is neither passed over nor says what may stand here: the heap where nothing was said, after it a command with a thread, or first its device
 abbrev pub CantBeSplit : SplitTrace → List ℕ → Type 0
 CantBeSplit NothingSplit line = (¬ IsPassed line) × ((logs mutators epoch : ℕ) → ¬ Speaks line (HeapLine logs mutators epoch))
-CantBeSplit (SplitHeap logs mutators epoch device said) line = (¬ IsPassed line) × ((c : Command) → HasThread mutators c → ¬ Speaks line (CommandLine c)) × (¬ MaySayFailing device said line)
+CantBeSplit (SplitHeap logs mutators epoch device said) line = (¬ IsPassed line) × ((c : Command) → HasThread mutators c → ¬ Speaks line (CommandLine c)) × (¬ MaySayDevice device (plain said) line)
 
 -- line n of these, counted from a number on, is the first of that kind
 abbrev pub FirstUnsplit : ℕ → List (List ℕ) → ℕ → Type 0
@@ -69,7 +63,7 @@ FirstUnsplitLines = (text : List ℕ) (n : ℕ) → split_of text ≡ Err n → 
 -- the commands are those of the text where it isn't split
 abbrev pub SplitsAreTraces : Type 0
 SplitsAreTraces = (text : List ℕ) (logs mutators epoch : ℕ) (device : Option Device) (said : List (ℕ × Command))
-    → split_of text ≡ Ok (SplitHeap logs mutators epoch device said) → trace_of text ≡ Ok (Heap logs mutators epoch device (map (λ (line : ℕ × Command). line.1) said))
+    → split_of text ≡ Ok (SplitHeap logs mutators epoch device said) → trace_of text ≡ Ok (Heap logs mutators epoch device (plain said))
 
 -- these lines are a thread's own, each with a command that one of the threads runs
 abbrev pub AreOwn : ℕ → Thread → List (ℕ × Command) → Type 0

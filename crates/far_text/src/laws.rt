@@ -31,8 +31,8 @@ pub fn limits_are()
     ensures logs { LOG_NAMES ≡ 256 }
 {}
 
-/// A text is split among threads exactly where each line after those of the heap and of its device, which may fail but doesn't
-/// lie, says a command that one of them runs: a mutator's of this heap, but for its `where` and `epoch`; of the book's the
+/// A text is split among threads exactly where each line after those of the heap and of its device says a command that one of
+/// them runs: a mutator's of this heap, but for its `where` and `epoch`; of the book's the
 /// inquiries, and of the evacuator's the rounds. Each command stands beside the number of its line; without those they are what
 /// the text says as a trace. The number that is refused is that of the first other line, from 1; 0 where the text is too long.
 /// Of all commands a mutator's thread has exactly those of this mutator, in order, and the book's exactly the book's; a command is one thread's.

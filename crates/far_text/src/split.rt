@@ -2,16 +2,14 @@
 //! its threads runs.
 
 ghost use Rattle.std.specs.Prelude.{◌≡◌, ◌<◌, ◌≤◌, ◌+◌, length, Err, Ok, IfOk, IfErr};
-ghost use Rattle.std.specs.Option.{option_map};
-ghost use Rattle.far_text.specs.Command.{as_device};
 ghost use Rattle.far_text.specs.Cursor.{lines_left};
 ghost use Rattle.far_text.specs.Grammar.{IsFault};
-ghost use Rattle.far_text.specs.Split.{honest_beside, split_commands, split_of};
+ghost use Rattle.far_text.specs.Split.{split_commands, split_of};
 ghost use Rattle.far_text.specs.SplitParsed.{as_split};
 ghost use Rattle.far_text.specs.declared.text.TheConstants.{LONGEST_TEXT};
 ghost use Rattle.far_text.specs.declared.text.ParseError;
 
-use crate::command::{Device, Entry, Flaw};
+use crate::command::{Device, Entry};
 use crate::line::{Line, Part, line_first};
 use crate::split_text::SplitText;
 use crate::text::{LONGEST_TEXT, ParseError, device_line, heap_line};
@@ -64,26 +62,7 @@ fn split_after(
     Ok(split)
 }
 
-// What the first lines after the heap's say: its device, if they do and it doesn't lie; the number of the last line before the
-// commands, and the lines after it. The line of one that lies is left among those of commands, where it is off the grammar.
-fn honest_line(number: u64, lines: Option<&[u8]>) -> (Option<Device>, u64, Option<&[u8]>)
-    requires counted { number + length (lines_left lines) ≤ LONGEST_TEXT + 1 }
-    ensures value { honest_beside (number + 1) (lines_left lines.entry) ≡ (option_map as_device result.0, result.1 + 1, lines_left result.2) }
-    ensures counted { result.1 + length (lines_left result.2) ≤ LONGEST_TEXT + 1 }
-{
-    let (device, at, after) = device_line(number, lines);
-    match device {
-        Some(
-            Device {
-                flaw: Flaw::Short | Flaw::Flip,
-                ..
-            },
-        ) => (None, number, lines),
-        other => (other, at, after),
-    }
-}
-
-/// What a text says whose commands are split among threads; or its first line off the grammar, of a device that lies, or whose
+/// What a text says whose commands are split among threads; or its first line off the grammar, or whose
 /// command has no thread: one that asks where an object is, or for the epoch, a step of the evacuator, or a mutator's that the
 /// heap hasn't.
 pub fn parse_split(alloc: Global, text: &[u8]) -> Result<SplitTrace, ParseError>
@@ -97,7 +76,7 @@ pub fn parse_split(alloc: Global, text: &[u8]) -> Result<SplitTrace, ParseError>
     let Some(heap) = heap_line(text)? else {
         return Ok(SplitTrace::Nothing);
     };
-    let (device, number, lines) = honest_line(heap.number, heap.lines);
+    let (device, number, lines) = device_line(heap.number, heap.lines);
     Ok(SplitTrace::Heap {
         logs: heap.logs,
         mutators: heap.mutators,

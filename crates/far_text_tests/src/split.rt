@@ -1,7 +1,8 @@
 //! Texts whose commands are split among threads: whose each line is, and which line is the first that is nobody's.
 
 use far_text::{
-    Command, Inquiry, Lines, ParseError, Request, SplitText, SplitTrace, Step, Thread, parse_split,
+    Command, Flaw, Inquiry, Lines, ParseError, Request, SplitText, SplitTrace, Step, Thread,
+    parse_split,
 };
 use std::alloc::{AllocGlobal, Global};
 use std::test::*;
@@ -127,6 +128,37 @@ fn a_text_may_say_nothing(rt: HostRuntime) -> Result<(), Fail> {
     Ok(())
 }
 
+fn is_flaw(flaw: Flaw, wanted: Flaw) -> bool {
+    matches!(
+        (flaw, wanted),
+        (Flaw::Fail, Flaw::Fail) | (Flaw::Short, Flaw::Short) | (Flaw::Flip, Flaw::Flip)
+    )
+}
+
+// Whether a text says a device of which this call has this flaw.
+fn says_device(alloc: Global, text: &[u8], flaw: Flaw, call: u64) -> bool {
+    match parse_split(alloc, text) {
+        Ok(
+            SplitTrace::Heap {
+                device: Some(device),
+                ..
+            },
+        ) => is_flaw(device.flaw, flaw) && device.call == call,
+        Ok(_) | Err(_) => false,
+    }
+}
+
+#[test]
+fn a_device_may_fail_or_lie(rt: HostRuntime) -> Result<(), Fail> {
+    assert!(rt; says_device(rt.alloc(), b"heap 4 1\n\ndevice fail 3\nlogs", Flaw::Fail, 3));
+    assert!(rt; says_device(rt.alloc(), b"heap 4 1\n# it\ndevice short 0", Flaw::Short, 0));
+    assert!(rt; says_device(rt.alloc(), b"heap 4 1\ndevice flip 18446744073709551615\n", Flaw::Flip, u64::MAX));
+    // its line is none of a thread's
+    assert!(rt; runs_lines(rt.alloc(), b"heap 4 1\n\ndevice short 1\nopen 0\nlogs", Thread::Mutator(0), &[4]));
+    assert!(rt; runs_lines(rt.alloc(), b"heap 4 1\n\ndevice flip 1\nopen 0\nlogs", Thread::Book, &[5]));
+    Ok(())
+}
+
 #[test]
 fn lines_of_nobody_are_refused(rt: HostRuntime) -> Result<(), Fail> {
     let lines: [&[u8]; 20] = [
@@ -146,10 +178,10 @@ fn lines_of_nobody_are_refused(rt: HostRuntime) -> Result<(), Fail> {
         // a mutator that the heap hasn't
         b"heap 4 2\nopen 0\nopen 1\nopen 2\nlog 99",
         b"heap 4 2\nopen 0\nlog 99\nwrite 18446744073709551615 0 0 00\nopen 2",
-        // a device that lies, or a second one
-        b"heap 4 1\n# it\n\ndevice short 1\nlogs",
-        b"heap 4 1\n\n# it\ndevice flip 0\nepoch 0",
-        b"\n# first\nheap 4 1\ndevice flip 18446744073709551615",
+        // a device behind a command, or a second one
+        b"heap 4 1\n# it\nlogs\ndevice short 1\nlogs",
+        b"heap 4 1\n\ndevice flip 0\nepoch 0",
+        b"\nheap 4 1\ndevice flip 18446744073709551615\ndevice flip 1",
         b"heap 4 1\ndevice fail 1\nlogs\ndevice short 1",
         b"\nheap 4 1\ndevice fail 1\ndevice flip 1",
         b"heap 4 1\nlogs\nlogs\ndevice fail 1",

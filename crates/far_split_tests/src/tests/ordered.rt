@@ -274,6 +274,157 @@ audit near 2 far 0 live 1040
 ",
 };
 
+// Its first read gives a byte too few: the object stays far, and comes when it is asked for again.
+const READS_SHORT: Row = Row {
+    text: "\
+heap 4 1
+device short 1
+new 0 8 1
+new 0 1016 1
+round oldest 1 9
+open 0
+read 0 0 0 8
+read 0 0 0 8
+audit
+",
+    order: &[0, 0, B, 0, 0, 0, B],
+    told: "\
+mutator 0
+pointer 0
+pointer 1
+ok
+refused 11
+data 0000000000000000
+book
+round done moved 0 far 1 dropped 0 freed 1
+audit near 2 far 0 live 1040
+",
+};
+
+// The second mutator's object is the second that is read, and its first view is refused: others keep their bytes.
+const READS_SHORT_NEXT: Row = Row {
+    text: "\
+heap 6 2
+device short 2
+new 0 8 1
+new 1 9 1
+open 0
+write 0 0 0 0102030405060708
+close 0
+open 1
+write 1 128 0 a1a2a3a4a5a6a7a8a9
+close 1
+new 0 1016 1
+round oldest 1 9
+new 1 1016 1
+round oldest 2 9
+round oldest 2 9
+open 0
+open 1
+read 0 0 0 8
+view 1 128
+try 1 128
+write 1 128 8 ff
+read 1 128 0 9
+read 0 0 0 8
+",
+    order: &[
+        0, 1, 0, 0, 0, 1, 1, 1, 0, B, 1, B, B, 0, 1, 0, 1, 1, 1, 1, 0,
+    ],
+    told: "\
+mutator 0
+pointer 0
+ok
+ok
+ok
+pointer 1
+ok
+data 0102030405060708
+data 0102030405060708
+mutator 1
+pointer 128
+ok
+ok
+ok
+pointer 129
+ok
+refused 11
+refused 14 4400000000010009
+ok
+data a1a2a3a4a5a6a7a8ff
+book
+round done moved 2 far 0 dropped 0 freed 1
+round done moved 0 far 3 dropped 0 freed 2
+round none
+",
+};
+
+// Its first read gives each byte inverted, as long as none is written over; others keep theirs.
+const READS_INVERTED: Row = Row {
+    text: "\
+heap 4 1
+device flip 1
+new 0 8 1
+new 0 8 1
+open 0
+write 0 0 0 0102030405060708
+close 0
+new 0 1016 1
+round oldest 1 9
+open 0
+read 0 1 0 8
+write 0 1 2 00aa
+read 0 1 0 8
+read 0 0 0 8
+close 0
+open 0
+read 0 1 0 4
+",
+    order: &[0, 0, 0, 0, 0, 0, B, 0, 0, 0, 0, 0, 0, 0, 0],
+    told: "\
+mutator 0
+pointer 0
+pointer 1
+ok
+ok
+ok
+pointer 2
+ok
+data ffffffffffffffff
+ok
+data ffff00aaffffffff
+data 0102030405060708
+ok
+ok
+data ffff00aa
+book
+round done moved 1 far 1 dropped 0 freed 1
+",
+};
+
+// No call is the one that is number 0.
+const NEVER_LIES: Row = Row {
+    text: "\
+heap 4 1
+device flip 0
+new 0 8 1
+new 0 1016 1
+round oldest 1 9
+open 0
+read 0 0 0 8
+",
+    order: &[0, 0, B, 0, 0],
+    told: "\
+mutator 0
+pointer 0
+pointer 1
+ok
+data 0000000000000000
+book
+round done moved 0 far 1 dropped 0 freed 1
+",
+};
+
 #[test]
 fn lines_in_order_are_answered_as_in_one_thread(rt: HostRuntime) {
     for (at, row) in [
@@ -284,6 +435,10 @@ fn lines_in_order_are_answered_as_in_one_thread(rt: HostRuntime) {
         FAILS_AT_ONCE,
         FAILS_NEXT,
         FAILS_TO_FETCH,
+        READS_SHORT,
+        READS_SHORT_NEXT,
+        READS_INVERTED,
+        NEVER_LIES,
     ]
     .iter()
     .enumerate()

@@ -1,7 +1,9 @@
 //! Texts with the replies that were worked out by hand, whatever order the threads come in.
 
 use super::talk::{printed, prints};
-use far_split::{NoGate, SplitOut, Told, run_split};
+use far_evac::RoundEnd;
+use far_replay::{LogLine, Reply};
+use far_split::{NoGate, Replies, SplitOut, Told, run_split};
 use std::alloc::{AllocError, Global};
 use std::str;
 use std::test::Fail;
@@ -56,20 +58,32 @@ fn one_mutator_runs_beside_the_book(rt: HostRuntime) {
     assert!(rt; matches!(&told, Some(told) if told.starts_with(wanted)));
 }
 
-// Whether these are the replies to what the first mutator of two asks.
-fn is_first(told: &[Told]) -> bool {
-    match told {
-        [Told::Pointer(0), Told::Done, Told::Done, Told::Data(data)] => data.as_slice()
-            == [10u8].as_slice(),
-        _ => false,
-    }
+fn is_pointer(told: &Told<'_>, wanted: u16) -> bool {
+    matches!(told, Told::Reply(Reply::Pointer(pointer)) if *pointer == wanted)
 }
 
-fn is_second(told: &[Told]) -> bool {
-    match told {
-        [Told::Pointer(128), Told::Done, Told::Data(data)] => data.as_slice() == [0u8].as_slice(),
-        _ => false,
-    }
+fn is_done(told: &Told<'_>) -> bool {
+    matches!(told, Told::Reply(Reply::Done))
+}
+
+fn is_byte(told: &Told<'_>, wanted: u8) -> bool {
+    matches!(told, Told::Reply(Reply::Data(bytes)) if *bytes == [wanted].as_slice())
+}
+
+// Whether these are the replies to what the first mutator of two asks.
+fn is_first(told: &Replies) -> bool {
+    told.len() == 4
+        && is_pointer(&told.at(0), 0)
+        && is_done(&told.at(1))
+        && is_done(&told.at(2))
+        && is_byte(&told.at(3), 10)
+}
+
+fn is_second(told: &Replies) -> bool {
+    told.len() == 3
+        && is_pointer(&told.at(0), 128)
+        && is_done(&told.at(1))
+        && is_byte(&told.at(2), 0)
 }
 
 #[test]
@@ -81,6 +95,49 @@ fn replies_have_types(rt: HostRuntime) -> Result<(), Fail> {
     };
     assert!(rt; mutators.len() == 2 && book.is_empty());
     assert!(rt; is_first(&mutators[0]) && is_second(&mutators[1]));
+    Ok(())
+}
+
+// Whether a log of an empty heap is told: it has nothing.
+fn is_unused(line: LogLine, log: u8) -> bool {
+    line.log == log && line.live == 0 && line.dead == 0 && line.unused == 1024
+}
+
+fn are_unused(told: &Told<'_>, first: u8, count: usize) -> bool {
+    match told {
+        Told::Logs(lines) => {
+            lines.len() == count && count > 0 && is_unused(lines.at(count - 1), first)
+        }
+        Told::Reply(_) => false,
+    }
+}
+
+fn are_counted(told: &Told<'_>) -> bool {
+    matches!(told, Told::Reply(Reply::Audited(counts)) if counts.near == 0 && counts.live == 0)
+}
+
+fn is_none(told: &Told<'_>) -> bool {
+    matches!(told, Told::Reply(Reply::Ended(RoundEnd::Nothing)))
+}
+
+// Whether these are the book's replies to what it is asked of an empty heap.
+fn is_books(told: &Replies) -> bool {
+    told.len() == 5
+        && are_unused(&told.at(0), 63, 64)
+        && are_unused(&told.at(1), 9, 1)
+        && are_counted(&told.at(2))
+        && is_none(&told.at(3))
+        && are_unused(&told.at(4), 63, 64)
+}
+
+#[test]
+fn the_books_replies_have_types(rt: HostRuntime) -> Result<(), Fail> {
+    let text = b"heap 64 1\nlogs\nlog 9\naudit\nround oldest 1 9\nlogs\n";
+    let Ok(SplitOut::Ran { book, .. }) = run_split(rt.alloc(), &rt, text, &NoGate) else {
+        assert!(rt; false);
+        return Ok(());
+    };
+    assert!(rt; is_books(&book));
     Ok(())
 }
 

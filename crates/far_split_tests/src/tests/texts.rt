@@ -61,7 +61,9 @@ const BAD_TEXTS: &str = "\
 2 heap 4 1/abort
 2 heap 4 1/round script 1 0 9
 2 heap 4 1/round oldest 65 9
-2 heap 4 1/device flip 1
+3 heap 4 1/open 0/device flip 1
+3 heap 4 1/device short 1/device flip 1
+3 heap 4 1/device short 1/epoch 0
 2 heap 4 1/open 1
 3 heap 4 2/open 1/open 2
 2 heap 4 8/new 8 8 1

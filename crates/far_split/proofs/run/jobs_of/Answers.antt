@@ -25,7 +25,7 @@ loop-number-preserved g c =
     let n : ℕ = c.loop-number.number in
     let i = c.loop-number.invariant in
     let lt = c.loop-number-test.true in
-    let first = first_is heap n c.loop-number.mutators.items c.remove.result c.remove.new.self.items (omega (arith, lt, i.many)) c.requires.honest i.left c.remove.ensures.value c.remove.ensures.items in
+    let first = first_is heap n c.loop-number.mutators.items c.remove.result c.remove.new.self.items (omega (arith, lt, i.many)) i.left c.remove.ensures.value c.remove.ensures.items in
     record {
       left = first.rest;
       jobs =

@@ -2,9 +2,9 @@ use Rattle.far_split.proofs.Joining.{IsBegun, all_are_short, all_may_stop, all_r
 use Rattle.far_split.proofs.run.run_named.Goals as goal
 
 pub returns-clause-ran : goal.returns-clause-ran
-returns-clause-ran g c =
+returns-clause-ran g c device flawed honest =
     let begun : IsBegun g.K.HeapName.heap c.args.blank = record { named = c.requires.name; size = c.requires.size; unused = c.requires.unused; order = c.requires.order } in
-    all_ran_so g.K.HeapName.heap c.args.blank c.args.text.now c.in_ok-ends.ends.items c.join.result begun c.requires.honest c.in_ok-ends.ensures.ended c.join.ensures.joined
+    all_ran_so g.K.HeapName.heap c.args.blank device c.args.text.now c.in_ok-ends.ends.items c.join.result begun flawed honest c.in_ok-ends.ensures.ended c.join.ensures.joined
 
 pub returns-clause-short : goal.returns-clause-short
 returns-clause-short g c = all_are_short g.K.HeapName.heap c.args.text.now c.in_ok-ends.ends.items c.join.result c.in_ok-ends.ensures.ended c.join.ensures.joined

@@ -9,4 +9,4 @@ use Rattle.far_split.proofs.slot.answer_closed.Goals as goal
 
 pub returns-in-Open : goal.returns-in-Open
 returns-in-Open g c = subst (λ (r : Request). Answers g.K.HeapName.heap c.args.mutator (as_request r) Done c.open.result) (sym c.in-Open.is)
-    (subst (λ (n : Mine). Answers g.K.HeapName.heap c.args.mutator Open Done n) (sym c.open.ensures) (opens c.args.mutator c.keeps_law.ensures.law c.requires.honest c.keeps_law.ensures.closed))
+    (subst (λ (n : Mine). Answers g.K.HeapName.heap c.args.mutator Open Done n) (sym c.open.ensures) (opens c.args.mutator c.keeps_law.ensures.law c.keeps_law.ensures.closed))

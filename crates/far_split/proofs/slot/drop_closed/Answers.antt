@@ -7,5 +7,5 @@ use Rattle.far_split.proofs.slot.drop_closed.Goals as goal
 
 pub returns-in-Ok : goal.returns-in-Ok
 returns-in-Ok g c = subst (λ (p : ℕ). Answers g.K.HeapName.heap c.args.mutator.now (Drop p) Done c.drop_object.new.self) c.in-Some.ensures.some
-    (dropped c.args.mutator.now c.keeps_law.ensures.law c.requires.honest c.in-Some.pointer c.drop_object.new.self c.in-Ok.ensures.dropped.0 (c.keeps_law.ensures.law.closed c.keeps_law.ensures.closed c.in-Some.pointer)
+    (dropped c.args.mutator.now c.keeps_law.ensures.law c.in-Some.pointer c.drop_object.new.self c.in-Ok.ensures.dropped.0 (c.keeps_law.ensures.law.closed c.keeps_law.ensures.closed c.in-Some.pointer)
     c.in-Ok.ensures.dropped.1)

@@ -7,4 +7,4 @@ use Rattle.far_split.proofs.slot.drop_open.Goals as goal
 
 pub returns-in-Ok : goal.returns-in-Ok
 returns-in-Ok g c = subst (λ (p : ℕ). Answers g.K.HeapName.heap c.args.scope.now (Drop p) Done c.drop_object.new.self) c.in-Some.ensures.some
-    (dropped_open c.args.scope.now c.keeps_law.ensures.law c.requires.honest c.in-Some.pointer c.drop_object.new.self c.in-Ok.ensures.dropped.0 c.in-Ok.ensures.dropped.1)
+    (dropped_open c.args.scope.now c.keeps_law.ensures.law c.in-Some.pointer c.drop_object.new.self c.in-Ok.ensures.dropped.0 c.in-Ok.ensures.dropped.1)

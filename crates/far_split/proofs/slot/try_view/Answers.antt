@@ -13,7 +13,7 @@ returns-in-Ok-View g c =
     let p = c.in-Some.pointer in
     let is = subst (λ (t : Tried). (uses c.args.scope.now p ≡ true) × TriedSo p c.args.scope.now t c.try_view.new.self) c.in-Ok-View.field-0-is c.in-Ok-View.ensures.tried in
     subst (λ (q : ℕ). Answers g.K.HeapName.heap c.args.scope.now (Try q) Done c.try_view.new.self) c.in-Some.ensures.some
-    (tried c.args.scope.now c.keeps_law.ensures.law c.requires.honest c.keeps_law.ensures.opened p c.try_view.new.self is.0 is.1.1)
+    (tried c.args.scope.now c.keeps_law.ensures.law c.keeps_law.ensures.opened p c.try_view.new.self is.0 is.1.1)
 
 pub returns-in-Ok-Slow : goal.returns-in-Ok-Slow
 returns-in-Ok-Slow g c =
@@ -21,4 +21,4 @@ returns-in-Ok-Slow g c =
     let word = c.in-Ok-Slow.word in
     let is = subst (λ (t : Tried). (uses c.args.scope.now p ≡ true) × TriedSo p c.args.scope.now t c.try_view.new.self) c.in-Ok-Slow.field-0-is c.in-Ok-Slow.ensures.tried in
     subst (λ (q : ℕ). Answers g.K.HeapName.heap c.args.scope.now (Try q) (Refused (Marked word)) c.try_view.new.self) c.in-Some.ensures.some
-    (marked c.args.scope.now c.keeps_law.ensures.law c.requires.honest c.keeps_law.ensures.opened p word c.try_view.new.self is.0 is.1.0 is.1.1 is.1.2)
+    (marked c.args.scope.now c.keeps_law.ensures.law c.keeps_law.ensures.opened p word c.try_view.new.self is.0 is.1.0 is.1.1 is.1.2)

@@ -1,10 +1,9 @@
-use Rattle.std.proofs.Common.{map, take, Ok}
+use Rattle.std.proofs.Common.{take, Ok}
 use Rattle.std.specs.List.{flat_map}
 use Rattle.far_replay.specs.Reply.{reply_text}
 use Rattle.far_split.specs.Prints.{Prints}
-use Rattle.far_split.specs.Told.{as_reply}
 use Rattle.far_split.proofs.split_out.print_all.Given as goal
 
 -- the replies so far are printed
-abbrev pub invariant-loop-told : goal.invariant-loop-told
-invariant-loop-told g l = Prints (g.W.Write.contents l.fn.writer) l.fn.buffer (g.W.Write.contents l.writer) l.buffer (Ok tt) (flat_map reply_text (map as_reply (take l.told-index l.replies)))
+abbrev pub invariant-loop-at : goal.invariant-loop-at
+invariant-loop-at g l = Prints (g.W.Write.contents l.fn.writer) l.fn.buffer (g.W.Write.contents l.writer) l.buffer (Ok tt) (flat_map reply_text (take l.at l.replies))

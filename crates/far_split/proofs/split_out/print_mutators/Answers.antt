@@ -2,10 +2,8 @@ use Rattle.std.proofs.Common.{◌+◌, ◌++◌, Err, Ok, drop, length, map, sub
 use Rattle.std.proofs.lemmas.List.{take_all}
 use Rattle.std.specs.List.{AllByRecursion, flat_map}
 use Rattle.far_replay.specs.Reply.{IsShort, reply_text}
-use Rattle.far_split.specs.Joined.{replies_of}
 use Rattle.far_split.specs.Printed.{heading, part_text, parts_text}
 use Rattle.far_split.specs.Prints.{Prints}
-use Rattle.far_split.specs.Told.{as_reply}
 use Rattle.far_split.proofs.Printing.{part_short, parts_more, parts_rest, prints_part, prints_then}
 use Rattle.far_split.proofs.split_out.print_mutators.Goals as goal
 
@@ -13,8 +11,7 @@ pub print_all-requires : goal.print_all-requires
 print_all-requires g c =
     let all = c.args.mutators.now in
     let one = c.index-mutators-number.result in
-    let short = part_short all c.loop-number.number one c.requires c.loop-number-test.true in
-    subst (λ told. AllByRecursion IsShort (map as_reply told)) (sym c.deref.ensures.value) (subst (λ told. AllByRecursion IsShort (replies_of told)) (sym c.index-mutators-number.is) short)
+    subst (AllByRecursion IsShort) (sym c.index-mutators-number.is) (part_short all c.loop-number.number one c.requires c.loop-number-test.true)
 
 pub returns-in_err-print_heading : goal.returns-in_err-print_heading
 returns-in_err-print_heading g c =
@@ -22,9 +19,9 @@ returns-in_err-print_heading g c =
     let now = g.W.Write.contents c.print_heading.new.writer in
     let all = c.args.mutators.now in
     let i = c.loop-number.number in
-    let one = replies_of c.index-mutators-number.result in
-    let front = parts_text 0 (map replies_of (take i all)) in
-    let rest = parts_text (0 + length (map replies_of (take (i + 1) all))) (map replies_of (drop (i + 1) all)) in
+    let one = c.index-mutators-number.result in
+    let front = parts_text 0 (take i all) in
+    let rest = parts_text (0 + length (take (i + 1) all)) (drop (i + 1) all) in
     let fault = c.in_err-print_heading.field-0.0 in
     let so_far = prints_then start (g.W.Write.contents c.loop-number.writer) now c.args.buffer.now c.loop-number.buffer c.print_heading.new.buffer (Err fault) front (heading i) c.loop-number.invariant c.in_err-print_heading.ensures in
     subst (Prints start c.args.buffer.now now c.print_heading.new.buffer c.from_residual.result)
@@ -39,11 +36,11 @@ returns-in_err-print_all g c =
     let now = g.W.Write.contents c.print_all.new.writer in
     let all = c.args.mutators.now in
     let i = c.loop-number.number in
-    let one = replies_of c.index-mutators-number.result in
-    let front = parts_text 0 (map replies_of (take i all)) in
-    let rest = parts_text (0 + length (map replies_of (take (i + 1) all))) (map replies_of (drop (i + 1) all)) in
+    let one = c.index-mutators-number.result in
+    let front = parts_text 0 (take i all) in
+    let rest = parts_text (0 + length (take (i + 1) all)) (drop (i + 1) all) in
     let fault = c.in_err-print_all.field-0.0 in
-    let printed = subst (λ told. Prints mid c.print_heading.new.buffer now c.print_all.new.buffer (Err fault) (flat_map reply_text (map as_reply told))) c.deref.ensures.value c.in_err-print_all.ensures in
+    let printed = c.in_err-print_all.ensures in
     let headed = prints_then start (g.W.Write.contents c.loop-number.writer) mid c.args.buffer.now c.loop-number.buffer c.print_heading.new.buffer (Ok tt) front (heading i) c.loop-number.invariant c.in_ok-print_heading.ensures in
     let so_far = prints_then start mid now c.args.buffer.now c.print_heading.new.buffer c.print_all.new.buffer (Err fault) (front ++ heading i) (flat_map reply_text one) headed printed in
     subst (Prints start c.args.buffer.now now c.print_all.new.buffer c.from_residual-in_err-print_all.result)
@@ -57,9 +54,9 @@ loop-number-preserved g c =
     let now = g.W.Write.contents c.print_all.new.writer in
     let all = c.args.mutators.now in
     let i = c.loop-number.number in
-    let one = replies_of c.index-mutators-number.result in
-    let front = parts_text 0 (map replies_of (take i all)) in
-    let printed = subst (λ told. Prints mid c.print_heading.new.buffer now c.print_all.new.buffer (Ok tt) (flat_map reply_text (map as_reply told))) c.deref.ensures.value c.in_ok-print_all.ensures in
+    let one = c.index-mutators-number.result in
+    let front = parts_text 0 (take i all) in
+    let printed = c.in_ok-print_all.ensures in
     let headed = prints_then start (g.W.Write.contents c.loop-number.writer) mid c.args.buffer.now c.loop-number.buffer c.print_heading.new.buffer (Ok tt) front (heading i) c.loop-number.invariant c.in_ok-print_heading.ensures in
     subst (Prints start c.args.buffer.now now c.print_all.new.buffer (Ok tt))
     (append_assoc front (heading i) (flat_map reply_text one) ∙ parts_more all i c.index-mutators-number.result c.loop-number-test.true c.index-mutators-number.is)
@@ -67,5 +64,5 @@ loop-number-preserved g c =
 
 pub returns : goal.returns
 returns g c =
-    subst (λ xs. Prints (g.W.Write.contents c.args.writer.now) c.args.buffer.now (g.W.Write.contents c.loop-number.writer) c.loop-number.buffer (Ok tt) (parts_text 0 (map replies_of xs)))
+    subst (λ xs. Prints (g.W.Write.contents c.args.writer.now) c.args.buffer.now (g.W.Write.contents c.loop-number.writer) c.loop-number.buffer (Ok tt) (parts_text 0 xs))
     (take_all c.loop-number.number c.args.mutators.now c.loop-number-test.false) c.loop-number.invariant

@@ -27,9 +27,9 @@ returns-in_err-split_after-clause-fault c =
     let e = c.in_err-split_after.field-0.0 in
     let h = c.in-Some.heap in
     let found = rw c.in-Some.is at c.in_ok-heap.ensures.heap in
-    let stood = c.honest_line-device.result in
+    let stood = c.device_line-device.result in
     let device = option_map as_device stood.0 in
-    let sought = split_short c.args.text.now (omega arith) ∙ ap split_from found ∙ ap (split_after h.logs h.mutators h.epoch) c.honest_line-device.ensures.value in
+    let sought = split_short c.args.text.now (omega arith) ∙ ap split_from found ∙ ap (split_after h.logs h.mutators h.epoch) c.device_line-device.ensures.value in
     let fault = fault_of e (with_lines h.logs h.mutators h.epoch device) (λ n. refl) (split_commands h.mutators (stood.1 + 1) (lines_left stood.2)) c.in_err-split_after.ensures.fault in
     let same = err_from_is_err_and c.from_residual-in_err-split_after.result c.from_residual-in_err-split_after.ensures.1 in
     rw (same.1, same.2) (subst (IsFault e) (sym sought) fault)
@@ -38,5 +38,5 @@ pub returns-clause-trace : goal.returns-clause-trace
 returns-clause-trace c =
     let h = c.in-Some.heap in
     let found = rw c.in-Some.is at c.in_ok-heap.ensures.heap in
-    split_short c.args.text.now (omega arith) ∙ ap split_from found ∙ ap (split_after h.logs h.mutators h.epoch) c.honest_line-device.ensures.value
-    ∙ ap (with_lines h.logs h.mutators h.epoch (option_map as_device c.honest_line-device.result.0)) c.in_ok-split_after.ensures.lines
+    split_short c.args.text.now (omega arith) ∙ ap split_from found ∙ ap (split_after h.logs h.mutators h.epoch) c.device_line-device.ensures.value
+    ∙ ap (with_lines h.logs h.mutators h.epoch (option_map as_device c.device_line-device.result.0)) c.in_ok-split_after.ensures.lines

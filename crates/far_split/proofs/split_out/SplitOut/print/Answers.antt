@@ -2,10 +2,9 @@ use Rattle.std.proofs.Common.{[], ◌++◌, Err, Ok, codes, map, subst, sym, ◌
 use Rattle.std.specs.List.{flat_map}
 use Rattle.far_replay.specs.Reply.{reply_text, refusal_text}
 use Rattle.far_replay.specs.Stream.{Writes}
-use Rattle.far_split.specs.Joined.{as_joined, replies_of}
+use Rattle.far_split.specs.Joined.{as_joined}
 use Rattle.far_split.specs.Printed.{parts_text, split_text}
 use Rattle.far_split.specs.Prints.{Prints}
-use Rattle.far_split.specs.Told.{as_reply}
 use Rattle.far_split.proofs.Printing.{prints_part, prints_pushed, prints_then, writes_all, writes_part}
 use Rattle.far_split.proofs.split_out.SplitOut.print.Goals as goal
 use Rattle.far_split.proofs.split_out.SplitOut.print.Goals.{in-Refused, in-Ran+in_ok-print_mutators-in-Ran+in_ok-print_book-in-Ran}
@@ -16,10 +15,10 @@ returns-in_err-print_mutators-in-Ran g c =
     let now = g.W.Write.contents c.print_mutators.new.writer in
     let fault = c.in_err-print_mutators-in-Ran.field-0.0 in
     let mutators = c.in-Ran.mutators.items in
-    let text = parts_text 0 (map replies_of mutators) in
-    let rest = codes "book\n" ++ flat_map reply_text (replies_of c.in-Ran.book) in
-    let first = subst (λ r. Prints start r now c.print_mutators.new.buffer (Err fault) (parts_text 0 (map replies_of c.deref.result.now))) c.clear.ensures c.in_err-print_mutators-in-Ran.ensures in
-    let printed = subst (λ xs. Prints start [] now c.print_mutators.new.buffer (Err fault) (parts_text 0 (map replies_of xs))) c.deref.ensures.value first in
+    let text = parts_text 0 mutators in
+    let rest = codes "book\n" ++ flat_map reply_text c.in-Ran.book in
+    let first = subst (λ r. Prints start r now c.print_mutators.new.buffer (Err fault) (parts_text 0 c.deref.result.now)) c.clear.ensures c.in_err-print_mutators-in-Ran.ensures in
+    let printed = subst (λ xs. Prints start [] now c.print_mutators.new.buffer (Err fault) (parts_text 0 xs)) c.deref.ensures.value first in
     subst (λ out. Writes start now c.from_residual.result (split_text (as_joined out))) (sym c.in-Ran.is)
     (writes_part start now c.print_mutators.new.buffer fault c.from_residual.result (text ++ rest) c.from_residual.ensures.0
     (prints_part start now [] c.print_mutators.new.buffer fault (Err fault) text rest refl printed))
@@ -30,11 +29,11 @@ returns-in_err-print_book-in-Ran g c =
     let mid = g.W.Write.contents c.print_mutators.new.writer in
     let now = g.W.Write.contents c.print_book.new.writer in
     let fault = c.in_err-print_book-in-Ran.field-0.0 in
-    let text = parts_text 0 (map replies_of c.in-Ran.mutators.items) in
-    let rest = codes "book\n" ++ flat_map reply_text (replies_of c.in-Ran.book) in
-    let first = subst (λ r. Prints start r mid c.print_mutators.new.buffer (Ok tt) (parts_text 0 (map replies_of c.deref.result.now))) c.clear.ensures c.in_ok-print_mutators-in-Ran.ensures in
-    let printed = subst (λ xs. Prints start [] mid c.print_mutators.new.buffer (Ok tt) (parts_text 0 (map replies_of xs))) c.deref.ensures.value first in
-    let more = subst (λ xs. Prints mid c.print_mutators.new.buffer now c.print_book.new.buffer (Err fault) (codes "book\n" ++ flat_map reply_text (map as_reply xs))) c.deref-in-Ran.ensures.value c.in_err-print_book-in-Ran.ensures in
+    let text = parts_text 0 c.in-Ran.mutators.items in
+    let rest = codes "book\n" ++ flat_map reply_text c.in-Ran.book in
+    let first = subst (λ r. Prints start r mid c.print_mutators.new.buffer (Ok tt) (parts_text 0 c.deref.result.now)) c.clear.ensures c.in_ok-print_mutators-in-Ran.ensures in
+    let printed = subst (λ xs. Prints start [] mid c.print_mutators.new.buffer (Ok tt) (parts_text 0 xs)) c.deref.ensures.value first in
+    let more = c.in_err-print_book-in-Ran.ensures in
     subst (λ out. Writes start now c.from_residual-in_err-print_book-in-Ran.result (split_text (as_joined out))) (sym c.in-Ran.is)
     (writes_part start now c.print_book.new.buffer fault c.from_residual-in_err-print_book-in-Ran.result (text ++ rest) c.from_residual-in_err-print_book-in-Ran.ensures.0
     (prints_then start mid now [] c.print_mutators.new.buffer c.print_book.new.buffer (Err fault) text rest printed more))
@@ -55,11 +54,11 @@ returns g c =
       | in-Ran+in_ok-print_mutators-in-Ran+in_ok-print_book-in-Ran w ↦
           let mid = g.W.Write.contents w.print_mutators.new.writer in
           let after = g.W.Write.contents w.print_book.new.writer in
-          let text = parts_text 0 (map replies_of w.in-Ran.mutators.items) in
-          let rest = codes "book\n" ++ flat_map reply_text (replies_of w.in-Ran.book) in
-          let first = subst (λ r. Prints start r mid w.print_mutators.new.buffer (Ok tt) (parts_text 0 (map replies_of w.deref.result.now))) c.clear.ensures w.in_ok-print_mutators-in-Ran.ensures in
-          let printed = subst (λ xs. Prints start [] mid w.print_mutators.new.buffer (Ok tt) (parts_text 0 (map replies_of xs))) w.deref.ensures.value first in
-          let more = subst (λ xs. Prints mid w.print_mutators.new.buffer after w.print_book.new.buffer (Ok tt) (codes "book\n" ++ flat_map reply_text (map as_reply xs))) w.deref-in-Ran.ensures.value w.in_ok-print_book-in-Ran.ensures in
+          let text = parts_text 0 w.in-Ran.mutators.items in
+          let rest = codes "book\n" ++ flat_map reply_text w.in-Ran.book in
+          let first = subst (λ r. Prints start r mid w.print_mutators.new.buffer (Ok tt) (parts_text 0 w.deref.result.now)) c.clear.ensures w.in_ok-print_mutators-in-Ran.ensures in
+          let printed = subst (λ xs. Prints start [] mid w.print_mutators.new.buffer (Ok tt) (parts_text 0 xs)) w.deref.ensures.value first in
+          let more = w.in_ok-print_book-in-Ran.ensures in
           let both = prints_then start mid after [] w.print_mutators.new.buffer w.print_book.new.buffer (Ok tt) text rest printed more in
           let here = subst (λ at. Prints start [] at w.print_book.new.buffer (Ok tt) (text ++ rest)) (ap g.W.Write.contents (sym w.writer-is)) both in
           subst (λ out. Writes start last c.write_whole.result (split_text (as_joined out))) (sym w.in-Ran.is)

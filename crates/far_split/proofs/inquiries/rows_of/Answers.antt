@@ -1,8 +1,8 @@
 use Rattle.std.proofs.Common.{arith}
 use Rattle.far_table.specs.BookSeats.{seat_view}
 use Rattle.far_evac.specs.EvacOf.{moment}
-use Rattle.far_split.proofs.Telling.{lines_more}
-use Rattle.far_split.proofs.inquiries.lines_of.Goals as goal
+use Rattle.far_split.proofs.Telling.{rows_more}
+use Rattle.far_split.proofs.inquiries.rows_of.Goals as goal
 
 pub loop-log-preserved : goal.loop-log-preserved
 loop-log-preserved g c =
@@ -11,7 +11,7 @@ loop-log-preserved g c =
     let fuller = c.push_reserved.ensures.len in
     let kept = c.push_reserved.ensures.capacity in
     record {
-      lines = lines_more (moment seat_view c.args.book.now) c.args.first c.loop-log.log c.loop-log.lines.items c.push_reserved.new.self.items c.line_of.result begins i.lines c.push_reserved.ensures.items c.line_of.ensures;
+      lines = rows_more (moment seat_view c.args.book.now) c.args.first c.loop-log.log c.loop-log.rows.items c.push_reserved.new.self.items c.words_of.result begins (omega (arith, i.many)) i.lines c.push_reserved.ensures.items c.words_of.ensures;
       many = omega arith;
       buffer = omega arith;
     }
