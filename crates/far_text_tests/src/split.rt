@@ -150,12 +150,47 @@ fn says_device(alloc: Global, text: &[u8], flaw: Flaw, call: u64) -> bool {
 
 #[test]
 fn a_device_may_fail_or_lie(rt: HostRuntime) -> Result<(), Fail> {
-    assert!(rt; says_device(rt.alloc(), b"heap 4 1\n\ndevice fail 3\nlogs", Flaw::Fail, 3));
-    assert!(rt; says_device(rt.alloc(), b"heap 4 1\n# it\ndevice short 0", Flaw::Short, 0));
-    assert!(rt; says_device(rt.alloc(), b"heap 4 1\ndevice flip 18446744073709551615\n", Flaw::Flip, u64::MAX));
+    assert!(rt;
+        says_device(
+            rt.alloc(),
+            b"heap 4 1\n\ndevice fail 3\nlogs",
+            Flaw::Fail,
+            3
+        )
+    );
+    assert!(rt;
+        says_device(
+            rt.alloc(),
+            b"heap 4 1\n# it\ndevice short 0",
+            Flaw::Short,
+            0
+        )
+    );
+    assert!(rt;
+        says_device(
+            rt.alloc(),
+            b"heap 4 1\ndevice flip 18446744073709551615\n",
+            Flaw::Flip,
+            u64::MAX
+        )
+    );
     // its line is none of a thread's
-    assert!(rt; runs_lines(rt.alloc(), b"heap 4 1\n\ndevice short 1\nopen 0\nlogs", Thread::Mutator(0), &[4]));
-    assert!(rt; runs_lines(rt.alloc(), b"heap 4 1\n\ndevice flip 1\nopen 0\nlogs", Thread::Book, &[5]));
+    assert!(rt;
+        runs_lines(
+            rt.alloc(),
+            b"heap 4 1\n\ndevice short 1\nopen 0\nlogs",
+            Thread::Mutator(0),
+            &[4]
+        )
+    );
+    assert!(rt;
+        runs_lines(
+            rt.alloc(),
+            b"heap 4 1\n\ndevice flip 1\nopen 0\nlogs",
+            Thread::Book,
+            &[5]
+        )
+    );
     Ok(())
 }
 
