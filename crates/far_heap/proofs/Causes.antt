@@ -183,11 +183,12 @@ module _ {D : Type 0} (heap : HeapId) (seat : BookSeat D) (named : heap_of seat 
 
 -- ---- what a placing did
 module _ {D : Type 0} (m len ds : ℕ) (e f : EvacOf (BookSeat D) D) where
-  no_place : (why : Refused) → (why ≡ NoPointer) ⊎ (why ≡ NoRoom) → (Err why ≡ Err NoPointer → NoneFree m (core_of e)) → (Err why ≡ Err NoRoom → LacksRoom m len (core_of e)) → f ≡ e → Places m len ds (Err why) e f
-  no_place why (inl is) none full same = subst (λ w. Places m len ds (Err w) e f) (sym is) (none (ap Err is), same)
-  no_place why (inr is) none full same = subst (λ w. Places m len ds (Err w) e f) (sym is) (full (ap Err is), same)
+  no_place : (r : Result ℕ Refused) (why : Refused) → r ≡ Err why → (why ≡ NoPointer) ⊎ (why ≡ NoRoom) → (r ≡ Err NoPointer → NoneFree m (core_of e)) → (r ≡ Err NoRoom → LacksRoom m len (core_of e)) → f ≡ e →
+      Places m len ds (Err why) e f
+  no_place r why so (inl is) none full same = subst (λ w. Places m len ds (Err w) e f) (sym is) (none (so ∙ (λ i. Err (is i))), same)
+  no_place r why so (inr is) none full same = subst (λ w. Places m len ds (Err w) e f) (sym is) (full (so ∙ (λ i. Err (is i))), same)
 
   pub places : (r : Result ℕ Refused) → IfOk r (λ p. IsLowestFree (core_of e) m (Some p)) → IfOk r (λ p. IsSome (room (core_of e) (size_of len) true)) → IfOk r (λ p. PlacesNew e f p len ds) →
       IfErr r (λ why. (why ≡ NoPointer) ⊎ (why ≡ NoRoom)) → (r ≡ Err NoPointer → NoneFree m (core_of e)) → (r ≡ Err NoRoom → LacksRoom m len (core_of e)) → IfErr r (λ _. f ≡ e) → Places m len ds r e f
   places (Ok p) free room made why none full same = (record { free = free; room = room }, made)
-  places (Err r) free room made why none full same = no_place r why none full same
+  places (Err r) free room made why none full same = no_place (Err r) r refl why none full same

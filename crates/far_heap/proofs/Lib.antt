@@ -19,5 +19,6 @@ pub mod RoundTurns
 pub mod RoundRests
 pub mod RoundChoices
 pub mod Causes
+pub mod Bringing
 pub mod Resting
 pub mod Refusals

@@ -7,7 +7,7 @@ use mathlib.Core.Logic.{dite}
 use native.Mathlib.Decide.{ℕ_discrete}
 use Rattle.far_word.specs.declared.refused.Refused.{Refused}
 use Rattle.far_word.specs.declared.refused.Refused.TheVariants.{Held, NotHeld, Range}
-use Rattle.far_heap.specs.Mine.{is_range, len_in, uses, views}
+use Rattle.far_heap.specs.Mine.{is_length, is_range, len_in, uses, views}
 use Rattle.far_heap.specs.Refusals.{RefusalsAreSo}
 
 -- ---- by two tests
@@ -91,3 +91,7 @@ refusals_are_so = record {
   unused = λ m p. unused_by (uses m p) (views m p);
   viewed = λ m p. viewed_by (uses m p) (views m p);
 }
+
+-- an object has 1 to 1,016 bytes
+pub length_within : (len : ℕ) → is_length len ≡ true → (1 ≤ len) × (len ≤ 1016)
+length_within len h = (refusals_are_so.lengths len).0 h

@@ -18,10 +18,13 @@ use Rattle.far_heap.specs.Rounds.{Chooses, ChoosesNone, IsUnchosen, rows_of}
 module _ {P D : Type 0} (gives : P → List LogRow → ℕ → Result (List ℕ) Refused → P → Type 0) (heap : HeapId) (before : P) (most : ℕ) (after : P) (e f : EvacOf (BookSeat D) D)
     (named : heap_of e.book.near ≡ heap) (lawful : IsLawful (moment seat_view e)) (result : Result (List ℕ) Refused)
     (barred : (why : Refused) → unselectable (moment seat_view e) ≡ Some why → (result ≡ Err why) × (after ≡ before)) where
+  not_both : (r : Result (List ℕ) Refused) (logs : List ℕ) (why : Refused) → r ≡ Ok logs → r ≡ Err why → ⊥
+  not_both r logs why a b = cc
+
   -- one that was served wasn't barred
   free_of : (cause : Option Refused) (logs : List ℕ) → unselectable (moment seat_view e) ≡ cause → result ≡ Ok logs → unselectable (moment seat_view e) ≡ None
   free_of None logs says is = says
-  free_of (Some why) logs says is = let odd : Ok logs ≡ Err why = sym is ∙ (barred why says).0 in absurd cc
+  free_of (Some why) logs says is = absurd (not_both result logs why is (barred why says).0)
 
   chose_so : (r : Result (List ℕ) Refused) → result ≡ r → Came seat_makes e.book.near f.book.near → IfOk r (λ logs. moment seat_view f ≡ after_selecting (moment seat_view e) logs) →
       IfOk r (λ logs. gives before (rows_of e) most (Ok logs) after) → IfOk r (IsChoice (rows_of e) most) → IfOk r (λ logs. Chooses gives heap before most after logs e f)
@@ -40,15 +43,18 @@ module _ {P D : Type 0} (gives : P → List LogRow → ℕ → Result (List ℕ)
       IfOk result (λ logs. gives before (rows_of e) most (Ok logs) after) → IfOk result (IsChoice (rows_of e) most) → IfOk result (λ logs. Chooses gives heap before most after logs e f)
   chose came begun given choice = chose_so result refl came begun given choice
 
+  same_cause : (r : Result (List ℕ) Refused) (w why : Refused) → r ≡ Err w → r ≡ Err why → w ≡ why
+  same_cause r w why a b = cc
+
   -- one that was refused was barred; or memory was; or it is the policy's refusal
   cause_of : (cause : Option Refused) (why : Refused) → unselectable (moment seat_view e) ≡ cause → result ≡ Err why →
       ((why ≡ Memory) × (after ≡ before)) ⊎ (unselectable (moment seat_view e) ≡ Some why) ⊎ (IsBadChoice why × gives before (rows_of e) most (Err why) after) →
       IsUnchosen gives heap before most after e why
   cause_of cause why says is (inl (memory, same)) = inl (inr memory, same)
   cause_of cause why says is (inr (inl known)) = inl (inl known, (barred why known).1)
-  cause_of None why says is (inr (inr bad)) = inr (says, bad)
+  cause_of None why says is (inr (inr bad)) = inr (says, bad.0, bad.1)
   cause_of (Some w) why says is (inr (inr bad)) =
-      let same : Err w ≡ Err why = sym (barred w says).0 ∙ is in let known : w ≡ why = cc in inl (inl (says ∙ (λ i. Some (known i))), (barred w says).1)
+      let known = same_cause result w why (barred w says).0 is in inl (inl (says ∙ (λ i. Some (known i))), (barred w says).1)
 
   chose_none_so : (r : Result (List ℕ) Refused) → result ≡ r → IfErr r (λ _. f ≡ e) →
       IfErr r (λ why. ((why ≡ Memory) × (after ≡ before)) ⊎ (unselectable (moment seat_view e) ≡ Some why) ⊎ (IsBadChoice why × gives before (rows_of e) most (Err why) after)) →

@@ -54,11 +54,15 @@ module _ {P D : Type 0} (gives : P → List LogRow → ℕ → Result (List ℕ)
     pub same : f ≡ e
 
 -- so it was of some book, while the lock was held
-abbrev pub Chose : {P : Type 0} → (P → List LogRow → ℕ → Result (List ℕ) Refused → P → Type 0) → (D : Type 0) → HeapId → P → ℕ → P → List ℕ → Type 0
-Chose gives D heap before most after logs = (e f : EvacOf (BookSeat D) D) × Chooses gives heap before most after logs e f
+pub record Chose {P : Type 0} (gives : P → List LogRow → ℕ → Result (List ℕ) Refused → P → Type 0) (D : Type 0) (heap : HeapId) (before : P) (most : ℕ) (after : P) (logs : List ℕ) : Type 0 where
+  pub book : EvacOf (BookSeat D) D
+  pub later : EvacOf (BookSeat D) D
+  pub chooses : Chooses gives heap before most after logs book later
 
-abbrev pub ChoseNone : {P : Type 0} → (P → List LogRow → ℕ → Result (List ℕ) Refused → P → Type 0) → (D : Type 0) → HeapId → P → ℕ → P → Refused → Type 0
-ChoseNone gives D heap before most after why = (e f : EvacOf (BookSeat D) D) × ChoosesNone gives heap before most after why e f
+pub record ChoseNone {P : Type 0} (gives : P → List LogRow → ℕ → Result (List ℕ) Refused → P → Type 0) (D : Type 0) (heap : HeapId) (before : P) (most : ℕ) (after : P) (why : Refused) : Type 0 where
+  pub book : EvacOf (BookSeat D) D
+  pub later : EvacOf (BookSeat D) D
+  pub refuses : ChoosesNone gives heap before most after why book later
 
 -- ---- turns of the heap's book, in the round of the logs that were chosen
 -- of these logs those are left: the last of them, or none
@@ -92,11 +96,15 @@ module _ {D : Type 0} (heap : HeapId) (logs : List ℕ) where
     pub stops : is_round_of logs e.collection ≡ true → ((why ≡ refused.Memory) ⊎ (why ≡ refused.Device)) × (e.phase ≡ Evacuating) × (f.phase ≡ Evacuating) × IsRest logs f.collection
         × StopsAt (moment seat_view e) turn_size (moment seat_view f) tally
 
-abbrev pub TurnMade : (D : Type 0) → HeapId → List ℕ → Tally → Bool → Phase → Type 0
-TurnMade D heap logs tally over phase = (e f : EvacOf (BookSeat D) D) × Turns heap logs tally over phase e f
+pub record TurnMade (D : Type 0) (heap : HeapId) (logs : List ℕ) (tally : Tally) (over : Bool) (phase : Phase) : Type 0 where
+  pub before : EvacOf (BookSeat D) D
+  pub later : EvacOf (BookSeat D) D
+  pub turns : Turns heap logs tally over phase before later
 
-abbrev pub TurnRefused : (D : Type 0) → HeapId → List ℕ → Tally → Refused → Type 0
-TurnRefused D heap logs tally why = (e f : EvacOf (BookSeat D) D) × StopsTurn heap logs tally why e f
+pub record TurnRefused (D : Type 0) (heap : HeapId) (logs : List ℕ) (tally : Tally) (why : Refused) : Type 0 where
+  pub before : EvacOf (BookSeat D) D
+  pub later : EvacOf (BookSeat D) D
+  pub stops : StopsTurn heap logs tally why before later
 
 -- turns one after the other, the last one first in the list, by what each counted. Others may have had the lock between any two
 abbrev pub TurnsMade : (D : Type 0) → HeapId → List ℕ → List Tally → Bool → Phase → Type 0

@@ -18,26 +18,32 @@ use Rattle.far_split.specs.BookTold.{Gives, StopsRound, none_done}
 module _ {P : Type 0} (gives : P → List LogRow → ℕ → Result (List ℕ) Refusal → P → Type 0) (policy : Policy)
     (is : (before after : P) (rows : List LogRow) (most : ℕ) (outcome : Result (List ℕ) Refusal) → gives before rows most outcome after → Gives policy tt rows most outcome tt) where
   chosen_by : (heap : HeapId) (before after : P) (most : ℕ) (logs : List ℕ) → Chose gives FarSide heap before most after logs → Chose (Gives policy) FarSide heap tt most tt logs
-  chosen_by heap before after most logs (e, f, c) = (
-    e,
-    f,
-    record {
-      named = c.named;
-      lawful = c.lawful;
-      free = c.free;
-      given = is before after (rows_of e) most (Ok logs) c.given;
-      choice = c.choice;
-      came = c.came;
-      begun = c.begun;
-    },
-  )
+  chosen_by heap before after most logs chose =
+      let c = chose.chooses in record {
+        book = chose.book;
+        later = chose.later;
+        chooses = record {
+          named = c.named;
+          lawful = c.lawful;
+          free = c.free;
+          given = is before after (rows_of chose.book) most (Ok logs) c.given;
+          choice = c.choice;
+          came = c.came;
+          begun = c.begun;
+        };
+      }
 
   cause_by : (heap : HeapId) (before after : P) (most : ℕ) (e : EvacOf (BookSeat FarSide) FarSide) (why : Refusal) → IsUnchosen gives heap before most after e why → IsUnchosen (Gives policy) heap tt most tt e why
   cause_by heap before after most e why (inl (cause, same)) = inl (cause, refl)
-  cause_by heap before after most e why (inr (free, (bad, given))) = inr (free, (bad, is before after (rows_of e) most (Err why) given))
+  cause_by heap before after most e why (inr (free, bad, given)) = inr (free, bad, is before after (rows_of e) most (Err why) given)
 
   unchosen_by : (heap : HeapId) (before after : P) (most : ℕ) (why : Refusal) → ChoseNone gives FarSide heap before most after why → ChoseNone (Gives policy) FarSide heap tt most tt why
-  unchosen_by heap before after most why (e, f, n) = (e, f, record { named = n.named; lawful = n.lawful; cause = cause_by heap before after most e why n.cause; same = n.same })
+  unchosen_by heap before after most why none =
+      let n = none.refuses in record {
+        book = none.book;
+        later = none.later;
+        refuses = record { named = n.named; lawful = n.lawful; cause = cause_by heap before after most none.book why n.cause; same = n.same };
+      }
 
   stopped_by : (heap : HeapId) (before after : P) (most n turns : ℕ) (fault : EvacFault) → most ≡ n → RefusesRound gives FarSide heap before most after turns fault → StopsRound heap policy n turns fault.why fault.so_far
   stopped_by heap before after most n turns fault same (inl (nothing, unchosen)) =

@@ -1,6 +1,9 @@
-use Rattle.std.proofs.Common.{ℕ, ap, subst, ◌∙◌}
-use Rattle.far_heap.specs.Mine.{Mine}
-use Rattle.far_heap.specs.BookHad.{BookHad, LacksRoom, NoneFree}
+use Rattle.std.proofs.Common.{◌≡◌, ℕ, true, Ok, Err, ap, subst, sym, ◌∙◌, arith}
+use Rattle.far_word.specs.declared.refused.Refused.TheVariants.{Length}
+use Rattle.far_heap.specs.Mine.{Mine, is_length}
+use Rattle.far_heap.specs.BookHad.{BookDid, BookHad, LacksRoom, NoneFree, Places}
+use Rattle.far_heap.proofs.Refusals.{length_within}
+use Rattle.far_heap.proofs.under_lock.alloc.Goals.{then-len-eq0-via-then-len-eq0, then-len-eq0-via-else-len-eq0+then-len-gt-LONGEST}
 use Rattle.far_heap.proofs.under_lock.alloc.Goals as goal
 
 pub returns-in-Err-clause-none : goal.returns-in-Err-clause-none
@@ -10,3 +13,19 @@ returns-in-Err-clause-none g c = λ e.
 pub returns-in-Err-clause-full : goal.returns-in-Err-clause-full
 returns-in-Err-clause-full g c = λ e.
     subst (λ (n : ℕ). BookHad g.row.D.Denot g.K.HeapName.heap (LacksRoom n c.args.len)) (c.number.ensures ∙ ap (λ (m : Mine). m.number) c.loop.invariant.2) (c.in-Err.ensures.full e)
+
+pub returns-then-len-eq0-clause-did : goal.returns-then-len-eq0-clause-did
+returns-then-len-eq0-clause-did g c = λ ok.
+    let within = length_within c.args.len ok in
+    elim c.then-len-eq0.branch [
+      | then-len-eq0-via-then-len-eq0 w ↦ absurd (omega (arith, within.0, w.if-len-eq0.true))
+      | then-len-eq0-via-else-len-eq0+then-len-gt-LONGEST w ↦ absurd (omega (arith, within.1, w.if-len-gt-LONGEST.true))
+    ]
+
+pub returns-then-adopt_new-clause-did : goal.returns-then-adopt_new-clause-did
+returns-then-adopt_new-clause-did g c = λ _.
+    subst (λ (n : ℕ). BookDid g.row.D.Denot g.K.HeapName.heap (Places n c.args.len c.args.ds (Ok c.in-Ok.p))) (c.number.ensures ∙ ap (λ (m : Mine). m.number) c.loop.invariant.2) c.in-Ok.ensures.did
+
+pub returns-in-Err-clause-did : goal.returns-in-Err-clause-did
+returns-in-Err-clause-did g c = λ _.
+    subst (λ (n : ℕ). BookDid g.row.D.Denot g.K.HeapName.heap (Places n c.args.len c.args.ds (Err c.in-Err.why))) (c.number.ensures ∙ ap (λ (m : Mine). m.number) c.loop.invariant.2) c.in-Err.ensures.did

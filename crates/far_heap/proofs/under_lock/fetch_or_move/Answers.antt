@@ -1,2 +1,25 @@
+use Rattle.std.proofs.Common.{◌≡◌, Result, inl, inr, refl, subst}
+use Rattle.std.specs.Prelude.{IfErr}
+use Rattle.far_heap.specs.Mine.{IsUnbrought}
 use Rattle.far_heap.proofs.Asking.{asks_none}
+use Rattle.far_heap.proofs.Bringing.{brought_by}
 use Rattle.far_heap.proofs.under_lock.fetch_or_move.Goals as goal
+
+pub returns-in-Ok-clause-asks : goal.returns-in-Ok-clause-asks
+returns-in-Ok-clause-asks g c = asks_none c.args.p c.args.own.now
+
+pub returns-in-Err-clause-asks : goal.returns-in-Err-clause-asks
+returns-in-Err-clause-asks g c = asks_none c.args.p c.args.own.now
+
+pub returns-in-Err-clause-refused : goal.returns-in-Err-clause-refused
+returns-in-Err-clause-refused g c = (subst (λ a. IfErr a IsUnbrought) c.in-Err.is c.in-Some.ensures.refused, inr refl)
+
+pub returns-in-Ok-clause-brought : goal.returns-in-Ok-clause-brought
+returns-in-Ok-clause-brought g c = λ h.
+    let f = c.in-Some.ensures.fetched in
+    brought_by _ _ _ _ _ _ _ f.0 c.fetch_far.new.book c.args.p c.in-Some.fetched c.in-Ok.place c.is_some.result (inl f.2.1) c.in-Ok.is c.is_some.ensures h
+
+pub returns-in-Some-Ok-clause-brought : goal.returns-in-Some-Ok-clause-brought
+returns-in-Some-Ok-clause-brought g c = λ h.
+    let m = c.in-Some-Ok.ensures.moved in
+    brought_by _ _ _ _ _ _ _ m.0 c.move_asked.new.book c.args.p c.in-Some-Ok.field-0 c.in-Some-Ok.place c.is_some-in-Some-Ok.result (inr m.2.1) c.in-Some-Ok.field-0-is c.is_some-in-Some-Ok.ensures h

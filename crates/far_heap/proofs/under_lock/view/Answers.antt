@@ -1,6 +1,27 @@
-use Rattle.std.proofs.Common.{refl}
-use Rattle.far_heap.proofs.Asking.{asks_none}
+use Rattle.std.proofs.Common.{Option, Ok, refl, subst, sym}
+use Rattle.std.specs.Prelude.{IfSome}
+use Rattle.std.proofs.lemmas.Bool.{false≢true}
+use Rattle.far_word.specs.declared.refused.Refused.{Refused}
+use Rattle.far_heap.specs.Mine.{Asks, IsUnbrought}
+use Rattle.far_heap.proofs.Asking.{asks_and_views, asks_none, asks_refused, asks_then}
 use Rattle.far_heap.proofs.under_lock.view.Goals as goal
 
 pub loop-init : goal.loop-init
 loop-init g c = (tt, tt, asks_none c.args.p c.args.own.now, λ _. refl)
+
+pub loop-preserved-in-Ok-false : goal.loop-preserved-in-Ok-false
+loop-preserved-in-Ok-false g c = (
+  tt,
+  tt,
+  asks_then c.args.p c.args.own.now c.loop.own c.bring-brought.new.own c.loop.invariant.2 (c.in-Ok-false.ensures.slow (λ i. Ok (c.in-Ok-false.field-0-test i))),
+  λ h. absurd (false≢true h),
+)
+
+pub returns-in-Ok-true-clause-viewed : goal.returns-in-Ok-true-clause-viewed
+returns-in-Ok-true-clause-viewed g c =
+    asks_and_views c.args.p c.args.own.now c.loop.own c.bring-brought.new.own c.loop.invariant.2 (c.in-Ok-true.ensures.viewed (λ i. Ok (c.in-Ok-true.field-0-test i)))
+
+pub returns-then-first-clause-refused : goal.returns-then-first-clause-refused
+returns-then-first-clause-refused g c = let r = c.in-Err.ensures.refused in
+    subst (λ (o : Option Refused). IfSome o (λ why. IsUnbrought why × Asks c.args.p c.args.own.now c.bring-brought.new.own)) (sym c.of.ensures)
+    (asks_refused c.args.p c.args.own.now c.loop.own c.bring-brought.new.own c.loop.invariant.2 c.in-Err.why r.0 r.1)

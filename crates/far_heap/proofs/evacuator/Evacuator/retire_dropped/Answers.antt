@@ -12,8 +12,8 @@ use Rattle.far_heap.proofs.evacuator.Evacuator.retire_dropped.Goals as goal
 pub retire-requires-clause-dropped : goal.retire-requires-clause-dropped
 retire-requires-clause-dropped g c = sym (c.has_drop.ensures _ c.locate-found.ensures.home) ∙ c.if-has_drop.true
 
-pub invariant_of-self-2 : goal.invariant_of-self-2
-invariant_of-self-2 g c =
+pub invariant_of-self : goal.invariant_of-self
+invariant_of-self g c =
     stays_named _ c.locate-found.new.self.book.near c.retire.new.self.book.near c.retire.ensures.came
     (stays_named _ c.self.inside.evac.book.near c.locate-found.new.self.book.near c.locate-found.ensures.came c.self.invariant)
 
@@ -37,8 +37,8 @@ returns-then-has_drop g c =
       again = tt;
     }
 
-pub returns-then-is_some-found : goal.returns-then-is_some-found
-returns-then-is_some-found g c =
+pub returns-then-is_some : goal.returns-then-is_some
+returns-then-is_some g c =
     let p : ℕ = c.args.asked.pointer in
     let l = c.locate-found.ensures in
     let found = c.locate-found.new.self in record {
@@ -68,6 +68,6 @@ returns g c =
         λ h. absurd (false≢true (sym (sym (c.has_drop.ensures _ l.home) ∙ c.if-has_drop.false) ∙ h)),
         λ _. refl,
       );
-      freed = freed g.K.HeapName.heap found.book.near named p (l.gone.0 (none_there _ (sym c.is_some-found.ensures ∙ c.if-is_some-found.false)));
+      freed = freed g.K.HeapName.heap found.book.near named p (l.gone.0 (none_there _ (sym c.is_some.ensures ∙ c.if-is_some.false)));
       again = tt;
     }

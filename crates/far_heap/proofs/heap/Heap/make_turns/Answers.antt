@@ -22,7 +22,7 @@ returns-then-total-clause-ended g c =
     let made = c.in-Ok.ensures.made in
     let name = g.K.HeapName.heap in
     let turn = subst (λ over. TurnMade g.row.D.Denot name c.args.chosen.now made.0 over c.in-Ok.after) c.if-total.true made.1 in
-    let last = subst (λ (phase : Phase). TurnMade g.row.D.Denot name c.args.chosen.now made.0 true phase) (idle_is c.in-Ok.after turn.2.ends) turn in
+    let last = subst (λ (phase : Phase). TurnMade g.row.D.Denot name c.args.chosen.now made.0 true phase) (idle_is c.in-Ok.after turn.turns.ends) turn in
     let is : c.in-Ok.sum ≡ progress_of (told_of (plus (tally_of c.loop.total) made.0)) true = made.2 ∙ ap (progress_of (told_of (plus (tally_of c.loop.total) made.0))) c.if-total.true in
     (made.0 ∷ i.0, omega (arith, i.1, c.loop-test.true), ((c.loop.phase, i.2), last), sum_more c.loop.total c.in-Ok.sum i.0 made.0 true i.3 is)
 
