@@ -1,6 +1,6 @@
 #!/usr/bin/env bash
 # Refuses each growth of the built program in turn, on four texts: the stored trace; a plain round; one where a hot object goes
-# far; and one whose rounds take memory late, after much output. Fetches take none. Each run must end with the whole output and
+# far; and one whose rounds take memory late, after much output. Fetches and choices take none. Each run must end with the whole output and
 # status 0, or with `memory`, status 1, and nothing written but `refused 1`, or, where a command of rounds was refused memory
 # after much output, a proper prefix of it. All these endings must come. Prints only what is wrong.
 set -euo pipefail
@@ -18,14 +18,16 @@ much() { # more output than waits before it is written, so that each command tha
     for ((i = 0; i < 40; i++)); do echo logs; done
 }
 
-rounds() { # a text in which select, evacuate and round take memory
-    printf 'heap 64 1\nnew 0 8 1\nnew 0 1016 1\nnew 0 1016 1\n'
+rounds() { # a text in which evacuate and round take memory
+    printf 'heap 64 1\ndevice fail 3\nnew 0 8 1\nnew 0 1016 1\nnew 0 1016 1\n'
     much
     printf 'select oldest 1\nmark 9\nwait\n'
     much
     printf 'evacuate 9\n'
     much
     printf 'round oldest 1 9\nopen 0\n'
+    much
+    printf 'view 0 0\n'
     much
     printf 'view 0 0\n'
 }
@@ -96,5 +98,5 @@ hot >"$work/hot"
 refuse "$crate/stdin" 0
 refuse "$work/plain" 0
 refuse "$work/hot" 0
-refuse "$work/rounds" 3
+refuse "$work/rounds" 2
 exit "$wrong"

@@ -146,13 +146,10 @@ module _ (now : Moment) (named : List ℕ) (c : Choice) (scripts : c ≡ Script 
       (ap (λ (x : Result (List ℕ) Refusal). first_cause (choice_causes x)) (followed (Ok logs) follows.0))
   script_allowed X Y (Err why) barred follows = tt
 
-  pub script_refused : (X Y Z : Type 0) (r : Result (List ℕ) Refusal) → ((why : Refusal) → unselectable now ≡ Some why → (r ≡ Err why) × X) →
-      IfErr r (λ why. unselectable now ≡ None → ((why ≡ Memory) × Y) ⊎ (FollowsScript (rows_in now) n named (Err why) × Z)) →
-      IfErr r (λ why. why ≢ Memory → refusal now (Evacuator (Select c most)) ≡ Some why)
-  script_refused X Y Z (Ok logs) barred follows = tt
-  script_refused X Y Z (Err why) barred follows = λ other.
+  pub script_refused : (X Y : Type 0) (r : Result (List ℕ) Refusal) → ((why : Refusal) → unselectable now ≡ Some why → (r ≡ Err why) × X) →
+      IfErr r (λ why. unselectable now ≡ None → FollowsScript (rows_in now) n named (Err why) × Y) →
+      IfErr r (λ why. refusal now (Evacuator (Select c most)) ≡ Some why)
+  script_refused X Y (Ok logs) barred follows = tt
+  script_refused X Y (Err why) barred follows =
       held_by (is_idle now.phase) (is_spent now.core) (choice_causes (given_by c (rows_in now) most)) why (λ x bars. err_alike why x (barred x bars).0)
-      (λ none. elim (follows none) [
-        | inl memory ↦ absurd (other memory.0)
-        | inr script ↦ ap (λ (x : Result (List ℕ) Refusal). first_cause (choice_causes x)) (followed (Err why) script.0)
-      ])
+      (λ none. ap (λ (x : Result (List ℕ) Refusal). first_cause (choice_causes x)) (followed (Err why) (follows none).0))

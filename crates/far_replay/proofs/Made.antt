@@ -67,9 +67,6 @@ step_served X old new (Ok x) fault told spent = by fault.why told.2 spent where
 step_served X old new (Err e) fault told spent = tt
 
 -- a step that asks its device for nothing
-pub served_or : {A E P : Type 0} (r : Result A E) → P → OnOk r P
-served_or (Ok x) h = h
-served_or (Err e) h = tt
 
 -- whatever stands in the buffers
 pub made_for : {E : Type 0} (old new : EvacOf Plain FarSide) (c : Command) (r : Result Outcome E) (scratch : Scratch) → IfOk r (λ outcome. (buffers : Scratch) → Makes old c (reply_by buffers outcome) new) →

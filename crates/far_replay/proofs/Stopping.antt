@@ -145,9 +145,8 @@ pub why_same : (a b : EvacFault) → Alike (Err a) (Err b) → a.why ≡ b.why
 why_same a b e = cc
 
 -- one that is refused before it began isn't refused by the device
-pub never_first : (fault : EvacFault) (X Y : Type 0) → ((fault.why ≡ Memory) × X) ⊎ (IsBadChoice fault.why × Y) → fault.why ≢ Device
-never_first fault X Y (inl memory) failed = let odd : Memory ≡ Device = sym memory.0 ∙ failed in absurd cc
-never_first fault X Y (inr bad) failed = let odd : Device ≡ BadChoice bad.0.0 = sym failed ∙ bad.0.1 in absurd cc
+pub never_first : (fault : EvacFault) → IsBadChoice fault.why → fault.why ≢ Device
+never_first fault bad failed = let odd : Device ≡ BadChoice bad.0 = sym failed ∙ bad.1 in absurd cc
 
 -- somewhere it stopped, where it wasn't done
 abbrev pub StopsSomewhere : Moment → Type 0

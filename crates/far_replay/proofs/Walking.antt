@@ -120,22 +120,22 @@ module _ (old new : EvacOf Plain FarSide) (m t : Moment) (turns : ℕ) where
   broken_spends logs fault either (tallies, u, between, tally, made, asking, fewer, phase, stops, refuses, sum, lawful, keys) =
       refused_write old new between u t tally fault.why (turns_no_more (after_selecting m logs) tallies false u old.book.device between asking) either refuses
 
-  abbrev First : (EvacFault → Type 0) → (EvacFault → Type 0) → (EvacFault → Type 0) → EvacFault → Type 0
-  First Counts X Y fault = Counts fault × (new ≡ old) × (((fault.why ≡ Memory) × X fault) ⊎ (IsBadChoice fault.why × Y fault))
+  abbrev First : (EvacFault → Type 0) → (EvacFault → Type 0) → EvacFault → Type 0
+  First Counts X fault = Counts fault × (new ≡ old) × IsBadChoice fault.why × X fault
 
   abbrev Broken : (List ℕ → Type 0) → (List ℕ → EvacFault → Type 0) → EvacFault → Type 0
   Broken Gives Halts fault = (logs : List ℕ) × Gives logs × ((fault.why ≡ Memory) ⊎ (fault.why ≡ Device)) × Halts logs fault
       × StopsAsking FarSide FarWrites FarLetsGo (λ x q. bytes_at x.inner.inner q) (after_selecting m logs) turns fault.so_far fault.why t old.book.device new.book.device
 
-  module _ (Gives : List ℕ → Type 0) (Ended : List ℕ → RoundEnd → Type 0) (Counts X Y : EvacFault → Type 0) (Halts : List ℕ → EvacFault → Type 0) (K : Type 0) (so_far : Progress) where
-    refused_spends : (fault : EvacFault) → First Counts X Y fault ⊎ Broken Gives Halts fault → SpentBy (stopper_of fault.why) old new
-    refused_spends fault (inl (counts, same, why)) = first_spends fault.why same (never_first fault (X fault) (Y fault) why)
+  module _ (Gives : List ℕ → Type 0) (Ended : List ℕ → RoundEnd → Type 0) (Counts X : EvacFault → Type 0) (Halts : List ℕ → EvacFault → Type 0) (K : Type 0) (so_far : Progress) where
+    refused_spends : (fault : EvacFault) → First Counts X fault ⊎ Broken Gives Halts fault → SpentBy (stopper_of fault.why) old new
+    refused_spends fault (inl (counts, same, bad, gave)) = first_spends fault.why same (never_first fault bad)
     refused_spends fault (inr (logs, gives, either, halts, asked)) = broken_spends logs fault either asked
 
     pub round_spends : (r : Result RoundEnd EvacFault) →
         IfOk r (λ end. (logs : List ℕ) × Gives logs × Ended logs end × RoundAsking FarSide FarWrites FarLetsGo (λ x q. bytes_at x.inner.inner q) m logs turns true end t old.book.device new.book.device) →
         ((why : Refusal) → unselectable m ≡ Some why → (r ≡ Err (record { so_far = so_far; why = why })) × (new ≡ old) × K) →
-        (unselectable m ≡ None → IfErr r (λ fault. First Counts X Y fault ⊎ Broken Gives Halts fault)) → SpentBy (stopper r) old new
+        (unselectable m ≡ None → IfErr r (λ fault. First Counts X fault ⊎ Broken Gives Halts fault)) → SpentBy (stopper r) old new
     round_spends (Ok end) asked bars refused = ended_spends Gives Ended end asked
     round_spends (Err fault) asked bars refused = elim (unselectable m) as (λ o. unselectable m ≡ o → SpentBy (stopper_of fault.why) old new) [
       | Some why ↦ λ is.

@@ -47,19 +47,6 @@ pub enum Stepped {
     Halted(Refused),
 }
 
-impl Stepped {
-    /// What a refusal of the evacuator to choose comes to: a reply; but want of memory is none.
-    pub fn refused(why: Refused) -> Result<Stepped, Refused>
-        ensures told { IfOk result (λ stepped. (stepped ≡ Stepped.Refused why) × (why ≢ Refused.Memory)) }
-        ensures wanted { IfErr result (λ by. (by ≡ Refused.Memory) × (why ≡ Refused.Memory)) }
-    {
-        match why {
-            Refused::Memory => Err(Refused::Memory),
-            why => Ok(Stepped::Refused(why)),
-        }
-    }
-}
-
 impl Outcome {
     /// What it comes to that a command was refused in its midst: a reply; but want of memory is none, and ends the run.
     pub fn stopped(why: Refused) -> Result<Outcome, AllocError>

@@ -31,7 +31,7 @@ fn choose(evac: &mut Evac<Plain, FarSide>, choice: Choice, most: u8) -> Result<C
     ensures given { IfOk result (λ chosen. logs_given (given_by (as_choice choice.entry) (rows_in (moment_in evac.old)) most) ≡ chosen) }
     ensures few { IfOk result (λ chosen. length chosen ≤ MOST_LOGS) }
     ensures begun { IfOk result (λ chosen. moment_in evac.new ≡ after_selecting (moment_in evac.old) chosen) }
-    ensures refused { IfErr result (λ why. why ≢ Memory → refusal (moment_in evac.old) (Evacuator (Select (as_choice choice.entry) most)) ≡ Some why) }
+    ensures refused { IfErr result (λ why. refusal (moment_in evac.old) (Evacuator (Select (as_choice choice.entry) most)) ≡ Some why) }
     ensures unchanged { IfErr result (λ _. moment_in evac.new ≡ moment_in evac.old) }
     ensures device { evac.new.book.device ≡ evac.old.book.device }
 {
@@ -58,24 +58,23 @@ fn list_chosen(chosen: &Chosen, bytes: &mut [u8]) -> u8
     logs.len() as u8
 }
 
-// Begins a round of the logs that a choice gives, and tells them. `Err` where it is refused memory.
+// Begins a round of the logs that a choice gives, and tells them.
 fn select(
     evac: &mut Evac<Plain, FarSide>,
     scratch: &mut Scratch,
     choice: Choice,
     most: u8,
-) -> Result<Stepped, Refused>
-    ensures moment { OnOk result (moment_in evac.new ≡ effect (moment_in evac.old) (Evacuator (Select (as_choice choice.entry) most))) }
-    ensures reply { IfOk result (λ stepped. told_by scratch.new stepped ≡ reply_to (moment_in evac.old) (Evacuator (Select (as_choice choice.entry) most))) }
-    ensures memory { IfErr result (λ why. why ≡ Memory) }
+) -> Stepped
+    ensures moment { moment_in evac.new ≡ effect (moment_in evac.old) (Evacuator (Select (as_choice choice.entry) most)) }
+    ensures reply { told_by scratch.new result ≡ reply_to (moment_in evac.old) (Evacuator (Select (as_choice choice.entry) most)) }
     ensures device { evac.new.book.device ≡ evac.old.book.device }
 {
     match choose(evac, choice, most) {
         Ok(chosen) => {
             let count = list_chosen(&chosen, &mut scratch.bytes);
-            Ok(Stepped::Selected(count))
+            Stepped::Selected(count)
         }
-        Err(why) => Stepped::refused(why),
+        Err(why) => Stepped::Refused(why),
     }
 }
 
@@ -211,7 +210,7 @@ fn step_made(
     ensures stopped { IfErr result (λ why. why ≢ Memory → Makes evac.old (Evacuator (as_step step.entry)) (Halted why scratch.new.progress) evac.new) }
 {
     match step {
-        Step::Select { choice, most } => select(evac, scratch, choice, most),
+        Step::Select { choice, most } => Ok(select(evac, scratch, choice, most)),
         Step::Mark { count } => Ok(mark(evac, scratch, count)),
         Step::Wait => Ok(wait(evac)),
         Step::Evacuate { count } => evacuate(evac, scratch, count),

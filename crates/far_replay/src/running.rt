@@ -312,11 +312,11 @@ fn answer_text<W: Write>(
 
 /// Reads a text, runs its commands, and writes their replies.
 ///
-/// All memory but the heap's and that of a fetch is taken before the first command is made. A text that is off the grammar,
+/// All memory but the heap's, and that of the device where objects go far, is taken before the first command is made. A text that is off the grammar,
 /// or whose heap's shape is out of range, is answered by that one refusal, and nothing else is run.
 ///
 /// Faults: [`RunFault::Read`] where the reader fails, any error of it; [`RunFault::Memory`] where memory is refused: then
-/// nothing was written, but `refused 1` where it was the heap's, or a prefix of the output where it was a fetch's;
+/// nothing was written, but `refused 1` where it was the heap's, or a prefix of the output where it was the device's;
 /// [`RunFault::Write`] where the writer fails or takes nothing: what was written is a proper prefix of the output.
 pub fn run<R: Read, W: Write>(
     alloc: Global,

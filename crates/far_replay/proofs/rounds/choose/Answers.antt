@@ -21,5 +21,5 @@ returns-in-Script-clause-given c =
 
 pub returns-in-Script-clause-refused : goal.returns-in-Script-clause-refused
 returns-in-Script-clause-refused c =
-    script_refused (moment_in c.args.evac.now) c.in-Script.logs.now (as_choice c.args.choice) (ap as_choice c.in-Script.is) c.from-most.result c.args.most c.from-most.ensures _ _ _ c.select-in-Script.result
+    script_refused (moment_in c.args.evac.now) c.in-Script.logs.now (as_choice c.args.choice) (ap as_choice c.in-Script.is) c.from-most.result c.args.most c.from-most.ensures _ _ c.select-in-Script.result
     c.select-in-Script.ensures.barred c.select-in-Script.ensures.refused

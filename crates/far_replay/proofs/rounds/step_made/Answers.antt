@@ -4,12 +4,11 @@ use Rattle.far_word.specs.declared.refused.Refused.TheVariants.{Memory}
 use Rattle.far_text.specs.Command.{Evacuator, Step, as_step}
 use Rattle.far_replay.specs.Reply.{Halted}
 use Rattle.far_replay.specs.Spent.{Makes}
-use Rattle.far_replay.proofs.Made.{served_or}
 use Rattle.far_replay.proofs.Spending.{spent_same}
 use Rattle.far_replay.proofs.rounds.step_made.Goals as goal
 
 pub returns-in-Select-clause-spent : goal.returns-in-Select-clause-spent
-returns-in-Select-clause-spent c = served_or c.select.result (spent_same c.args.evac.now c.select.new.evac c.select.ensures.device)
+returns-in-Select-clause-spent c = spent_same c.args.evac.now c.select.new.evac c.select.ensures.device
 
 pub returns-in-Mark-clause-spent : goal.returns-in-Mark-clause-spent
 returns-in-Mark-clause-spent c = spent_same c.args.evac.now c.mark.new.evac c.mark.ensures.device
