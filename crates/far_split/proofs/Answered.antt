@@ -33,14 +33,13 @@ read_back all new from fits =
     ∙ take_all (0 + length new - 0) new (omega arith)
 
 -- ---- by the plain program's law, or hindered
-module _ {m : ℕ} {o q : Own} {c : Command} {r : Reply} where
-  pub plainly : (honest : Bool) → Knows m o c r q → (honest ≡ true → IsUndamaged r) → KnowsHere honest m o c r q
-  plainly true knows whole = (inl knows, whole refl)
-  plainly false knows whole = inl knows
+plainly : (honest : Bool) (m : ℕ) (o : Own) (c : Command) (r : Reply) (q : Own) → Knows m o c r q → (honest ≡ true → IsUndamaged r) → KnowsHere honest m o c r q
+plainly true m o c r q knows whole = (inl knows, whole refl)
+plainly false m o c r q knows whole = inl knows
 
-  pub hindered : (honest : Bool) → Hindered o c r q → (honest ≡ true → IsUndamaged r) → KnowsHere honest m o c r q
-  hindered true is whole = (inr is, whole refl)
-  hindered false is whole = inr (inl is)
+hindered : (honest : Bool) (m : ℕ) (o : Own) (c : Command) (r : Reply) (q : Own) → Hindered o c r q → (honest ≡ true → IsUndamaged r) → KnowsHere honest m o c r q
+hindered true m o c r q is whole = (inr is, whole refl)
+hindered false m o c r q is whole = inr (inl is)
 
 -- a refusal is one that the mutator may be told, and tells what was so of the heap
 abbrev IsToldSo : HeapId → Mine → Own → Request → Refusal → Type 0
@@ -70,22 +69,28 @@ module _ {heap : HeapId} (m : Mine) (o : Own) (opened : o.opened ≡ true) (p : 
 
   unbrought_view : IsToldSo heap m o (View p) why
   unbrought_view =
-      let refused = (opened, unviewed, refl, (all, known)) in
-      unbrought (View p) (λ had. (plainly m.honest refused (λ _. tt), had)) (λ had. (hindered m.honest refused (λ _. tt), had)) (λ had. (plainly m.honest refused (λ _. tt), had))
-      (λ whole had. (plainly m.honest refused whole, had))
+        unbrought (View p)
+        (λ had. (plainly m.honest m.number o (Mutator m.number (View p)) (Refused NoRoom) o (opened, unviewed, refl, (all, known)) (λ _. tt), had))
+        (λ had. (hindered m.honest m.number o (Mutator m.number (View p)) (Refused Memory) o (opened, unviewed, refl, (all, known)) (λ _. tt), had))
+        (λ had. (plainly m.honest m.number o (Mutator m.number (View p)) (Refused Device) o (opened, unviewed, refl, (all, known)) (λ _. tt), had))
+        (λ whole had. (plainly m.honest m.number o (Mutator m.number (View p)) (Refused Damaged) o (opened, unviewed, refl, (all, known)) whole, had))
 
   module _ (from : ℕ) where
     unbrought_read : (count : ℕ) → 0 < count → from + count ≤ length all → IsToldSo heap m o (Read p from count) why
     unbrought_read count some fits =
-        let refused = (opened, unviewed, refl, (all, known, (some, fits))) in
-        unbrought (Read p from count) (λ had. (plainly m.honest refused (λ _. tt), had)) (λ had. (hindered m.honest refused (λ _. tt), had)) (λ had. (plainly m.honest refused (λ _. tt), had))
-        (λ whole had. (plainly m.honest refused whole, had))
+        unbrought (Read p from count)
+        (λ had. (plainly m.honest m.number o (Mutator m.number (Read p from count)) (Refused NoRoom) o (opened, unviewed, refl, (all, known, (some, fits))) (λ _. tt), had))
+        (λ had. (hindered m.honest m.number o (Mutator m.number (Read p from count)) (Refused Memory) o (opened, unviewed, refl, (all, known, (some, fits))) (λ _. tt), had))
+        (λ had. (plainly m.honest m.number o (Mutator m.number (Read p from count)) (Refused Device) o (opened, unviewed, refl, (all, known, (some, fits))) (λ _. tt), had))
+        (λ whole had. (plainly m.honest m.number o (Mutator m.number (Read p from count)) (Refused Damaged) o (opened, unviewed, refl, (all, known, (some, fits))) whole, had))
 
     unbrought_write : (new : List ℕ) → 0 < length new → from + length new ≤ length all → IsToldSo heap m o (Write p from new) why
     unbrought_write new some fits =
-        let refused = (opened, unviewed, refl, (all, known, (some, fits))) in
-        unbrought (Write p from new) (λ had. (plainly m.honest refused (λ _. tt), had)) (λ had. (hindered m.honest refused (λ _. tt), had)) (λ had. (plainly m.honest refused (λ _. tt), had))
-        (λ whole had. (plainly m.honest refused whole, had))
+        unbrought (Write p from new)
+        (λ had. (plainly m.honest m.number o (Mutator m.number (Write p from new)) (Refused NoRoom) o (opened, unviewed, refl, (all, known, (some, fits))) (λ _. tt), had))
+        (λ had. (hindered m.honest m.number o (Mutator m.number (Write p from new)) (Refused Memory) o (opened, unviewed, refl, (all, known, (some, fits))) (λ _. tt), had))
+        (λ had. (plainly m.honest m.number o (Mutator m.number (Write p from new)) (Refused Device) o (opened, unviewed, refl, (all, known, (some, fits))) (λ _. tt), had))
+        (λ whole had. (plainly m.honest m.number o (Mutator m.number (Write p from new)) (Refused Damaged) o (opened, unviewed, refl, (all, known, (some, fits))) whole, had))
 
 length_fits : (len : ℕ) → 0 < len → len ≤ LONGEST → is_length len ≡ true
 length_fits len some most = ap (λ b. b && nat_le len LONGEST) (le-leb 1 len some) ∙ le-leb len LONGEST most
@@ -100,7 +105,7 @@ module _ {heap : HeapId} (m : Mine) (law : MineLaw m) where
         learns = λ o is. record {
           own = record o { object = put o.object p (Some (replicate len 0)) };
           is = is_adopting m law o is p own len ds;
-          knows = plainly m.honest (are.2, are.3, are.4, eqb-true (p / CELLS) m.number own, unused_none m o is p unused, refl) (λ _. tt);
+          knows = plainly m.honest m.number o (Mutator m.number (New len ds)) (Pointer p) (record o { object = put o.object p (Some (replicate len 0)) }) (are.2, are.3, are.4, eqb-true (p / CELLS) m.number own, unused_none m o is p unused, refl) (λ _. tt);
           tells = subst (λ l. BookHad FarSide heap (HasRoom m.number l p)) are.0 had;
         };
         short = tt;
@@ -119,8 +124,8 @@ module _ {heap : HeapId} (m : Mine) (law : MineLaw m) where
       let by : (other : Refusal) → why ≡ other → ((o : Own) → IsToldSo heap m o (New len ds) other) → Answers heap m (New len ds) (Refused why) m
       = λ other same told. subst (λ (x : Refusal). Answers heap m (New len ds) (Refused x) m) (sym same) (refuses (New len ds) other (λ o _. told o)) in
       subst (λ (z : Mine). Answers heap m (New len ds) (Refused why) z) (sym e) (elim is [
-        | inl pointer ↦ by NoPointer pointer (λ o. (hindered m.honest (are.2, are.3, are.4, refl) (λ _. tt), none pointer))
-        | inr room ↦ by NoRoom room (λ o. (hindered m.honest (are.2, are.3, are.4, refl) (λ _. tt), subst (λ l. BookHad FarSide heap (LacksRoom m.number l)) are.0 (full room)))
+        | inl pointer ↦ by NoPointer pointer (λ o. (hindered m.honest m.number o (Mutator m.number (New len ds)) (Refused NoPointer) o (are.2, are.3, are.4, refl) (λ _. tt), none pointer))
+        | inr room ↦ by NoRoom room (λ o. (hindered m.honest m.number o (Mutator m.number (New len ds)) (Refused NoRoom) o (are.2, are.3, are.4, refl) (λ _. tt), subst (λ l. BookHad FarSide heap (LacksRoom m.number l)) are.0 (full room)))
       ])
 
   pub dropped : (p : ℕ) (n : Mine) → uses m p ≡ true → views m p ≡ false → n ≡ dropping p m → Answers heap m (Drop p) Done n
@@ -129,7 +134,7 @@ module _ {heap : HeapId} (m : Mine) (law : MineLaw m) where
         learns = λ o is. (let known = used_known m o is p used in record {
           own = record o { object = put o.object p None };
           is = is_dropping m law o is p (used_own m p used);
-          knows = plainly m.honest (is.viewed p ∙ unviewed, refl, (known.all, known.is)) (λ _. tt);
+          knows = plainly m.honest m.number o (Mutator m.number (Drop p)) Done (record o { object = put o.object p None }) (is.viewed p ∙ unviewed, refl, (known.all, known.is)) (λ _. tt);
           tells = tt;
         });
         short = tt;
@@ -146,7 +151,7 @@ module _ {heap : HeapId} (m : Mine) (law : MineLaw m) where
 
   pub opens : m.opened ≡ false → Answers heap m Open Done (opening m)
   opens closed = record {
-    learns = λ o is. record { own = record o { opened = true }; is = is_opening m o is; knows = plainly m.honest (is.opened ∙ closed, refl) (λ _. tt); tells = tt };
+    learns = λ o is. record { own = record o { opened = true }; is = is_opening m o is; knows = plainly m.honest m.number o (Mutator m.number Open) Done (record o { opened = true }) (is.opened ∙ closed, refl) (λ _. tt); tells = tt };
     short = tt;
     number = refl;
     honest = refl;
@@ -154,7 +159,7 @@ module _ {heap : HeapId} (m : Mine) (law : MineLaw m) where
 
   pub closes : m.opened ≡ true → Answers heap m Close Done (closing m)
   closes opened = record {
-    learns = λ o is. record { own = record o { opened = false; viewed = λ _. false }; is = is_closing m o is; knows = plainly m.honest (is.opened ∙ opened, refl) (λ _. tt); tells = tt };
+    learns = λ o is. record { own = record o { opened = false; viewed = λ _. false }; is = is_closing m o is; knows = plainly m.honest m.number o (Mutator m.number Close) Done (record o { opened = false; viewed = λ _. false }) (is.opened ∙ opened, refl) (λ _. tt); tells = tt };
     short = tt;
     number = refl;
     honest = refl;
@@ -168,7 +173,7 @@ module _ {heap : HeapId} (m : Mine) (law : MineLaw m) where
           learns = λ o is. (let known = used_known m o is p used in record {
             own = record o { viewed = put o.viewed p true };
             is = is_viewing m law o is p (used_own m p used) views.0;
-            knows = plainly m.honest (is.opened ∙ opened, refl, (known.all, known.is)) (λ _. tt);
+            knows = plainly m.honest m.number o (Mutator m.number (View p)) Done (record o { viewed = put o.viewed p true }) (is.opened ∙ opened, refl, (known.all, known.is)) (λ _. tt);
             tells = tt;
           });
           short = tt;
@@ -182,7 +187,7 @@ module _ {heap : HeapId} (m : Mine) (law : MineLaw m) where
           learns = λ o is. (let known = used_known m o is p used in let stays = is_viewing m law o is p (used_own m p used) 0 in record {
             own = record o { viewed = put o.viewed p true };
             is = record { opened = stays.opened; viewed = stays.viewed; object = stays.object };
-            knows = plainly m.honest (is.opened ∙ opened, refl, (known.all, known.is)) (λ _. tt);
+            knows = plainly m.honest m.number o (Mutator m.number (Try p)) Done (record o { viewed = put o.viewed p true }) (is.opened ∙ opened, refl, (known.all, known.is)) (λ _. tt);
             tells = tt;
           });
           short = tt;
@@ -193,7 +198,7 @@ module _ {heap : HeapId} (m : Mine) (law : MineLaw m) where
     pub marked : (word : ℕ) (n : Mine) → uses m p ≡ true → views m p ≡ false → n ≡ m → IsSlow (len_in m p) (ds_in m p) (read_of word) → Answers heap m (Try p) (Refused (Marked word)) n
     marked word n used unviewed e slow =
         subst (λ (z : Mine). Answers heap m (Try p) (Refused (Marked word)) z) (sym e) (refuses (Try p) (Marked word) (λ o is. let known = used_known m o is p used in (
-          plainly m.honest (is.opened ∙ opened, is.viewed p ∙ unviewed, refl, (known.all, known.is)) (λ _. tt),
+          plainly m.honest m.number o (Mutator m.number (Try p)) (Refused (Marked word)) o (is.opened ∙ opened, is.viewed p ∙ unviewed, refl, (known.all, known.is)) (λ _. tt),
           (known.all, known.is, (ds_in m p, subst (λ l. IsSlow l (ds_in m p) (read_of word)) (sym known.long) slow)),
         )))
 
@@ -208,7 +213,7 @@ module _ {heap : HeapId} (m : Mine) (law : MineLaw m) where
 
       pub unviewed : Answers heap m (View p) (Refused why) n
       unviewed = unanswered (View p) (λ o is. elim (no_view (uses m p) (views m p) why no) [
-        | inl h ↦ subst (IsToldSo heap m o (View p)) (sym h.1) (plainly m.honest (is.opened ∙ opened, unused_none m o is p h.0, refl) (λ _. tt), tt)
+        | inl h ↦ subst (IsToldSo heap m o (View p)) (sym h.1) (plainly m.honest m.number o (Mutator m.number (View p)) (Refused NotHeld) o (is.opened ∙ opened, unused_none m o is p h.0, refl) (λ _. tt), tt)
         | inr h ↦ (let known = used_known m o is p h.0 in unbrought_view m o (is.opened ∙ opened) p known.all known.is why (is.viewed p ∙ h.1) h.2 honestly (cause h.0))
       ])
 
@@ -253,7 +258,7 @@ module _ {heap : HeapId} (m : Mine) (law : MineLaw m) where
               record {
                 own = record o { viewed = put o.viewed p true };
                 is = is_viewing m law o is p own views.0;
-                knows = plainly m.honest (is.opened ∙ opened, refl, (known.all, known.is, (some, omega (arith, fits, known.long)), same)) (λ _. tt);
+                knows = plainly m.honest m.number o (Mutator m.number (Read p from count)) (Data bytes) (record o { viewed = put o.viewed p true }) (is.opened ∙ opened, refl, (known.all, known.is, (some, omega (arith, fits, known.long)), same)) (λ _. tt);
                 tells = tt;
               }
           reads o is false no =
@@ -284,7 +289,7 @@ module _ {heap : HeapId} (m : Mine) (law : MineLaw m) where
             learns = λ o is. (let known = used_known m o is p used in let within : from + length new ≤ length known.all = omega (arith, fits, known.long) in record {
               own = record o { object = put o.object p (Some (with_range known.all from new)); viewed = put o.viewed p true };
               is = is_writing m law o is p (used_own m p used) from new known.all views.0 known.is within;
-              knows = plainly m.honest (is.opened ∙ opened, (known.all, known.is, (some, within), refl)) (λ _. tt);
+              knows = plainly m.honest m.number o (Mutator m.number (Write p from new)) Done (record o { object = put o.object p (Some (with_range known.all from new)); viewed = put o.viewed p true }) (is.opened ∙ opened, (known.all, known.is, (some, within), refl)) (λ _. tt);
               tells = tt;
             });
             short = tt;

@@ -67,7 +67,7 @@ pub words_told : (now : Moment) → Law (own_part now.core) → (log : ℕ) (wor
 words_told now law log words kind lives dies =
     let (n, live) = taken_words (is_live now.core log) (spans_of now.core log) in
     let (k, dead) = taken_words (λ span. not (is_live now.core log span)) (spans_of now.core log) in
-    let whole = bytes_make_log now.core law log in
+    let whole : live_bytes now.core log + dead_bytes now.core log + unused_bytes now.core log ≡ 1024 = bytes_make_log now.core law log in
     let live_is : 8 * words.live ≡ live_bytes now.core log = omega (arith, lives, live) in
     let dead_is : 8 * words.dead ≡ dead_bytes now.core log = omega (arith, dies, dead) in
     let unused_is : 1024 - (8 * words.live + 8 * words.dead) ≡ unused_bytes now.core log = omega (arith, live_is, dead_is, whole) in

@@ -24,9 +24,11 @@ unreachable-requires g c =
     let own = own_now g.K.HeapName.heap.mutators c.args.number c.loop-at.at c.at.result.0 c.at.result.1 c.args.lines.now c.requires.own c.at.ensures.value in
     is_mutators c.args.number c.at.result.1 own.0 c.in_default-command.not-Mutator
 
-pub answer-requires-clause-own : goal.answer-requires-clause-own
-answer-requires-clause-own g c =
-    asks_now g.K.HeapName.heap.mutators c.args.number c.loop-at.at c.at.result.0 c.at.result.1 c.in-Mutator.mutator c.in-Mutator.request c.args.lines.now c.requires.own c.at.ensures.value c.in-Mutator.is
+pub answer-requires : goal.answer-requires
+answer-requires g c = record {
+  own =
+      asks_now g.K.HeapName.heap.mutators c.args.number c.loop-at.at c.at.result.0 c.at.result.1 c.in-Mutator.mutator c.in-Mutator.request c.args.lines.now c.requires.own c.at.ensures.value c.in-Mutator.is;
+}
 
 pub loop-at-preserved : goal.loop-at-preserved
 loop-at-preserved g c =
