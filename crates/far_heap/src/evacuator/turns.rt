@@ -36,7 +36,11 @@ impl<K: HeapName, D: Device + Drop> Evacuator<K, D> {
     }
 
     // Asks a policy for logs, as `select` does, and says which book it was that was asked of.
-    pub(crate) fn choose<P: Policy>(&mut self, policy: &mut P, most: usize) -> Result<Chosen, Refused>
+    pub(crate) fn choose<P: Policy>(
+        &mut self,
+        policy: &mut P,
+        most: usize,
+    ) -> Result<Chosen, Refused>
         ensures chosen { IfOk result (λ chosen. Chooses P.gives K.heap policy.old most policy.new chosen self.old self.new) }
         ensures refused { IfErr result (λ why. ChoosesNone P.gives K.heap policy.old most policy.new why self.old self.new) }
     {
