@@ -24,7 +24,7 @@ use Rattle.far_book.specs.book.Effects.{retired}
 use Rattle.far_core.proofs.Put.{put_same}
 use Rattle.far_core.specs.events.Naming.{is_dropped}
 use Rattle.far_evac.specs.EvacOf.{EvacOf}
-use Rattle.far_heap.specs.BookHad.{BookDid, BookHad, HasNowhere, HasRoom, IsCause, IsFreed, LacksRoom, MayCome, NoneFree, Places, Unbrought}
+use Rattle.far_heap.specs.BookHad.{BookHad, HasNowhere, HasRoom, IsCause, IsFreed, LacksRoom, MayCome, NoneFree, Places, Unbrought}
 use Rattle.far_heap.specs.Helping.{PlacesNew, asks_move, core_of, says_far}
 use Rattle.far_heap.specs.HeapId.{HeapId, heap_of}
 

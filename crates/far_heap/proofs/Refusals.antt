@@ -95,3 +95,6 @@ refusals_are_so = record {
 -- an object has 1 to 1,016 bytes
 pub length_within : (len : ℕ) → is_length len ≡ true → (1 ≤ len) × (len ≤ 1016)
 length_within len h = (refusals_are_so.lengths len).0 h
+
+pub length_allowed : (len : ℕ) → 1 ≤ len → len ≤ 1016 → is_length len ≡ true
+length_allowed len some most = (refusals_are_so.lengths len).1 (some, most)

@@ -1,5 +1,5 @@
 -- What a selection says of the book that it was made in.
-use Rattle.std.proofs.Common.{◌≡◌, ◌⊎◌, inl, inr, ℕ, List, Option, Some, None, Result, Ok, Err, refl, sym, ◌∙◌}
+use Rattle.std.proofs.Common.{◌≡◌, ◌⊎◌, inl, inr, ℕ, List, Option, Some, None, Result, Ok, Err, refl, ◌∙◌}
 use Rattle.std.specs.Prelude.{IfOk, IfErr}
 use Rattle.far_log.specs.declared.row.LogRow.{LogRow}
 use Rattle.far_policy.specs.Choice.{IsBadChoice, IsChoice}

@@ -1,6 +1,6 @@
 -- What a turn leaves of the logs of its round.
 use Rattle.std.proofs.Common.{◌≡◌, ◌≢◌, ℕ, ◌+◌, ◌-◌, Bool, true, false, List, [], ◌∷◌, drop, length, refl, ap, subst, sym, ◌∙◌}
-use Rattle.std.specs.Prelude.{not, ◌&&◌, eqb}
+use Rattle.std.specs.Prelude.{not, eqb}
 use Rattle.std.proofs.lemmas.Bool.{and_parts, false≢true}
 use Rattle.std.proofs.lemmas.List.{drop-drop}
 use Rattle.std.proofs.lemmas.Slice.Eq.{bytes_eq-Decides}

@@ -1,7 +1,7 @@
 -- Turns of a round one after the other, and their sum.
 use Rattle.std.proofs.Common.{◌≡◌, ◌≢◌, ◌⊎◌, inr, ℕ, ◌+◌, Bool, true, false, List, [], ◌∷◌, length, Result, Ok, Err, refl, sym, ap, ◌∙◌, arith}
 use Rattle.std.specs.Prelude.{◌==◌, IfOk, IfErr}
-use Rattle.std.proofs.lemmas.Bool.{false≢true}
+use Rattle.std.proofs.lemmas.Bool.{eqb-true, false≢true}
 use Rattle.far_evac.specs.declared.phase.Phase.{Phase}
 use Rattle.far_evac.specs.declared.phase.Phase.TheVariants.{Evacuating, Idle, Marking, Waiting}
 use Rattle.far_evac.specs.declared.answers.EvacFault.{EvacFault}
@@ -41,7 +41,7 @@ turns_run D heap logs (t ∷ ts) phase made = made.1.turns.ends
 -- ---- a round of the logs that were chosen
 pub ends_nothing : (D : Type 0) (heap : HeapId) (logs : List ℕ) (turns : ℕ) → (length logs == 0) ≡ true → EndsAfter D heap logs turns Nothing
 ends_nothing D heap [] turns none = refl
-ends_nothing D heap (l ∷ ls) turns none = absurd (false≢true none)
+ends_nothing D heap (l ∷ ls) turns none = absurd (omega (arith, eqb-true (length (l ∷ ls)) 0 none))
 
 module _ (D : Type 0) (heap : HeapId) (logs : List ℕ) (turns : ℕ) (result : Result RoundEnd EvacFault) where
   ends_some : (end : RoundEnd) (ls : List ℕ) → (length ls == 0) ≡ false → EndsTurns D heap ls turns end → EndsAfter D heap ls turns end
@@ -55,14 +55,14 @@ module _ (D : Type 0) (heap : HeapId) (logs : List ℕ) (turns : ℕ) (result : 
   ends_by C chose some (Ok end) ends = (logs, chose, ends_some end logs some ends)
   ends_by C chose some (Err fault) ends = tt
 
-  pub ends_turns : {C : List ℕ → Type 0} → C logs → (length logs == 0) ≡ false → IfOk result (EndsTurns D heap logs turns) → IfOk result (λ end. (ls : List ℕ) × C ls × EndsAfter D heap ls turns end)
-  ends_turns {C} chose some ends = ends_by C chose some result ends
+  pub ends_turns : (C : List ℕ → Type 0) → C logs → (length logs == 0) ≡ false → IfOk result (EndsTurns D heap logs turns) → IfOk result (λ end. (ls : List ℕ) × C ls × EndsAfter D heap ls turns end)
+  ends_turns C chose some ends = ends_by C chose some result ends
 
   stops_by : (N : EvacFault → Type 0) (C : List ℕ → Type 0) → C logs → (length logs == 0) ≡ false → (r : Result RoundEnd EvacFault) → IfErr r (StopsTurns D heap logs turns) →
       IfErr r (λ fault. N fault ⊎ ((ls : List ℕ) × C ls × (ls ≢ []) × StopsTurns D heap ls turns fault))
   stops_by N C chose some (Ok end) stops = tt
   stops_by N C chose some (Err fault) stops = inr (logs, chose, some_chosen logs some, stops)
 
-  pub stops_turns : {N : EvacFault → Type 0} {C : List ℕ → Type 0} → C logs → (length logs == 0) ≡ false → IfErr result (StopsTurns D heap logs turns) →
+  pub stops_turns : (N : EvacFault → Type 0) (C : List ℕ → Type 0) → C logs → (length logs == 0) ≡ false → IfErr result (StopsTurns D heap logs turns) →
       IfErr result (λ fault. N fault ⊎ ((ls : List ℕ) × C ls × (ls ≢ []) × StopsTurns D heap ls turns fault))
-  stops_turns {N} {C} chose some stops = stops_by N C chose some result stops
+  stops_turns N C chose some stops = stops_by N C chose some result stops

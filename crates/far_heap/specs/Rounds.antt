@@ -1,5 +1,5 @@
 -- What a round by turns, each under the lock anew, may answer.
-use Rattle.std.specs.Prelude.{◌≡◌, ◌≢◌, ◌⊎◌, ◌-◌, ◌^◌, ◌<◌, ◌≤◌, ℕ, min, Bool, true, false, not, ◌&&◌, eqb, Option, Some, None, List, [], ◌∷◌, drop, length, map, Result, Ok, Err}
+use Rattle.std.specs.Prelude.{◌≡◌, ◌≢◌, ◌⊎◌, ◌-◌, ◌^◌, ◌<◌, ◌≤◌, ℕ, min, Bool, true, false, not, ◌&&◌, eqb, Some, None, List, [], ◌∷◌, drop, length, map, Result, Ok, Err}
 use Rattle.std.specs.List.{ends_with}
 use Rattle.far_log.specs.declared.row.LogRow.{LogRow}
 use Rattle.far_policy.specs.Choice.{IsBadChoice, IsChoice}

@@ -1,8 +1,9 @@
-use Rattle.std.proofs.Common.{◌≡◌, ℕ, true, Ok, Err, ap, subst, sym, ◌∙◌, arith}
-use Rattle.far_word.specs.declared.refused.Refused.TheVariants.{Length}
-use Rattle.far_heap.specs.Mine.{Mine, is_length}
+use Rattle.std.proofs.Common.{ℕ, ◌/◌, Ok, Err, ap, subst, sym, ◌∙◌, arith}
+use Rattle.std.proofs.lemmas.Bool.{eq-eqb}
+use Rattle.far_word.specs.declared.sizes.TheConstants.{CELLS}
+use Rattle.far_heap.specs.Mine.{Mine, adopting, uses}
 use Rattle.far_heap.specs.BookHad.{BookDid, BookHad, LacksRoom, NoneFree, Places}
-use Rattle.far_heap.proofs.Refusals.{length_within}
+use Rattle.far_heap.proofs.Refusals.{length_allowed, length_within}
 use Rattle.far_heap.proofs.under_lock.alloc.Goals.{then-len-eq0-via-then-len-eq0, then-len-eq0-via-else-len-eq0+then-len-gt-LONGEST}
 use Rattle.far_heap.proofs.under_lock.alloc.Goals as goal
 
@@ -29,3 +30,14 @@ returns-then-adopt_new-clause-did g c = λ _.
 pub returns-in-Err-clause-did : goal.returns-in-Err-clause-did
 returns-in-Err-clause-did g c = λ _.
     subst (λ (n : ℕ). BookDid g.row.D.Denot g.K.HeapName.heap (Places n c.args.len c.args.ds (Err c.in-Err.why))) (c.number.ensures ∙ ap (λ (m : Mine). m.number) c.loop.invariant.2) c.in-Err.ensures.did
+
+pub returns-then-adopt_new-clause-made : goal.returns-then-adopt_new-clause-made
+returns-then-adopt_new-clause-made g c =
+    let p : ℕ = c.in-Ok.p in
+    let same = c.loop.invariant.2 in
+    let adopted = c.adopt_new.ensures.adopted c.if-adopt_new.true in (
+      length_allowed c.args.len (omega (arith, c.if-len-eq0.false)) (omega (arith, c.if-len-gt-LONGEST.false)),
+      eq-eqb (p / CELLS) c.args.own.now.number (c.in-Ok.ensures.own ∙ c.number.ensures ∙ ap (λ (m : Mine). m.number) same),
+      ap (λ (m : Mine). uses m p) (sym same) ∙ adopted.0,
+      adopted.1 ∙ ap (adopting p c.args.len c.args.ds) same,
+    )

@@ -1,6 +1,6 @@
 -- The object isn't used any more, and the request is of its pointer.
-use Rattle.std.proofs.Common.{◌≡◌, None}
-use Rattle.far_heap.specs.Mine.{drop_refusal, dropping}
+use Rattle.std.proofs.Common.{◌≡◌}
+use Rattle.far_heap.specs.Mine.{dropping}
 use Rattle.far_heap.proofs.under_lock.drop_object.Given as goal
 
 abbrev pub invariant-loop : goal.invariant-loop

@@ -1,4 +1,3 @@
-use Rattle.std.proofs.Common.{ap}
 use Rattle.far_table.specs.BookSeats.{seat_there}
 use Rattle.far_heap.proofs.Causes.{if_room, lacks_room, none_free, places}
 use Rattle.far_heap.proofs.under_lock.place.Goals as goal

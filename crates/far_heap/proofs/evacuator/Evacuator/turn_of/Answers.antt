@@ -1,10 +1,8 @@
-use Rattle.std.proofs.Common.{◌≡◌, true, [], ap, sym, refl, ◌∙◌}
-use Rattle.std.proofs.lemmas.Bool.{false≢true, true≢false}
-use Rattle.far_evac.specs.EvacOf.{EvacOf, moment}
+use Rattle.std.proofs.Common.{[], ap, sym, refl, ◌∙◌}
+use Rattle.std.proofs.lemmas.Bool.{false≢true}
+use Rattle.far_evac.specs.EvacOf.{moment}
 use Rattle.far_evac.specs.Moment.{tally_of}
 use Rattle.far_evac.specs.MomentLaw.{is_idle}
-use Rattle.far_evac.specs.declared.answers.EvacFault.{EvacFault}
-use Rattle.far_evac.specs.declared.phase.Phase.TheVariants.{Evacuating, Idle}
 use Rattle.far_table.specs.BookSeats.{seat_view}
 use Rattle.far_heap.proofs.RoundRests.{rest_is, rest_stopped, rest_turned, runs_on}
 use Rattle.far_heap.proofs.evacuator.Evacuator.turn_of.Goals as goal
