@@ -1,17 +1,18 @@
 -- A mutator after bytes of an object were stored.
-use Rattle.std.proofs.Common.{◌≡◌, ℕ, ◌+◌, ◌/◌, ◌<◌, ◌≤◌, Bool, true, false, Option, Some, None, is_some, List, length, refl, sym, ap, ◌∙◌}
+use Rattle.std.proofs.Common.{◌≡◌, ℕ, ◌+◌, ◌/◌, ◌<◌, ◌≤◌, Bool, true, false, Option, Some, None, nat_lt, is_some, List, length, refl, sym, ap, ◌∙◌, inl, inr, arith}
 use Rattle.std.specs.Prelude.{option_map}
-use Rattle.std.proofs.lemmas.Bool.{false≢true}
+use Rattle.std.proofs.lemmas.Bool.{cases_eq, false≢true}
+use Rattle.atomic_table.specs.Seated.{TableId}
 use Rattle.far_word.specs.Bytes.{byte_at, bytes_of}
 use Rattle.far_word.specs.declared.sizes.TheConstants.{CELLS}
-use Rattle.far_table.specs.View.{ObjectView}
+use Rattle.far_table.specs.View.{ObjectView, OwnerView}
 use Rattle.far_table.specs.Seats.{Seated}
-use Rattle.far_table.specs.Views.{ds_of as seat_ds, len_of as seat_len, object_at, word_in_view, word_of}
-use Rattle.far_heap.specs.Mine.{Object, mine_of, object_of, rewritten, seen, with_range, writing}
+use Rattle.far_table.specs.Views.{ds_of as seat_ds, held_at, len_of as seat_len, object_at, uses as seat_uses, word_in_view, word_of}
+use Rattle.far_heap.specs.Mine.{Object, OwnOk, StructuresOk, mine_of, object_of, rewritten, seen, with_range, writing}
 use Rattle.far_table.specs.Ranges.{HasBytes, Wrote}
 use Rattle.far_heap.proofs.Mines.{object_own}
 use Rattle.far_heap.proofs.OwnRows.{own_row-one}
-use Rattle.far_heap.proofs.OwnSteps.{seated_is}
+use Rattle.far_heap.proofs.OwnSteps.{seated_is, structures_kept}
 use Rattle.far_heap.proofs.Spliced.{bytes_wrote}
 
 rewrite_so : (h : Bool) (x y : Option ObjectView) (from : ℕ) (bytes : List ℕ) → is_some y ≡ is_some x → seat_len y ≡ seat_len x → seat_ds y ≡ seat_ds x → from + length bytes ≤ seat_len x →
@@ -37,3 +38,45 @@ wrote_mine s t p from bytes own fits same w =
     ∙ ap (option_map (rewritten from bytes)) (sym (object_own s p own)) in
     ap mine_of (seated_is t s.table (record s.view { objects = t.view.objects }) same w.rest)
     ∙ ap (λ (rows : List (Option Object)). record (mine_of s) { objects = rows }) (own_row-one f g s.view.number p v own (λ q ne. ap (seen s.view.honest) (w.others q ne)) here)
+
+-- its tables stay as they are
+module _ (p from : ℕ) (bytes : List ℕ) (o o' : OwnerView) (w : Wrote p from bytes o o') where
+  used_kept : (q : ℕ) → seat_uses o' q ≡ seat_uses o q
+  used_kept q = elim (cases_eq q p) [
+    | inl e ↦ ap (seat_uses o') e ∙ w.there ∙ sym (ap (seat_uses o) e)
+    | inr ne ↦ ap is_some (w.others q ne)
+  ]
+
+  len_kept : (q : ℕ) → seat_len (object_at o' q) ≡ seat_len (object_at o q)
+  len_kept q = elim (cases_eq q p) [
+    | inl e ↦ ap (λ x. seat_len (object_at o' x)) e ∙ w.len ∙ sym (ap (λ x. seat_len (object_at o x)) e)
+    | inr ne ↦ ap seat_len (w.others q ne)
+  ]
+
+  ds_kept : (q : ℕ) → seat_ds (object_at o' q) ≡ seat_ds (object_at o q)
+  ds_kept q = elim (cases_eq q p) [
+    | inl e ↦ ap (λ x. seat_ds (object_at o' x)) e ∙ w.ds ∙ sym (ap (λ x. seat_ds (object_at o x)) e)
+    | inr ne ↦ ap seat_ds (w.others q ne)
+  ]
+
+  held_kept : (q : ℕ) → is_some (held_at o' q) ≡ is_some (held_at o q)
+  held_kept q = ap (λ (x : OwnerView). is_some (held_at x q)) w.rest
+
+  pub wrote_structures : (number : ℕ) (structures : List ℕ) → StructuresOk o number structures → StructuresOk o' number structures
+  wrote_structures number structures ok = structures_kept number structures o o' ok (λ q used. (sym (used_kept q) ∙ used, ds_kept q))
+
+  pub wrote_ok : (t t' : TableId) (name : TableId) (number : ℕ) (lens stamps : List ℕ) (scope : ℕ) → t' ≡ t → OwnOk (record { table = t; view = o }) name number lens stamps scope → OwnOk (record { table = t'; view = o' }) name number lens stamps scope
+  wrote_ok t t' name number lens stamps scope same ok = record {
+    table = same ∙ ok.table;
+    number_is = ap (λ (x : OwnerView). x.number) w.rest ∙ ok.number_is;
+    few = ok.few;
+    many_lens = ok.many_lens;
+    many_stamps = ok.many_stamps;
+    lens_are = λ q own. ok.lens_are q own ∙ sym (len_kept q);
+    used_are = λ q own. used_kept q ∙ ok.used_are q own ∙ sym (ap (λ n. nat_lt 0 n) (len_kept q));
+    short = λ q own. omega (arith, len_kept q, ok.short q own);
+    views_are = λ q own. held_kept q ∙ ok.views_are q own;
+    held_used = λ q own held. used_kept q ∙ ok.held_used q own (sym (held_kept q) ∙ held);
+    held_open = λ q own held. ap (λ (x : OwnerView). is_some x.open_at) w.rest ∙ ok.held_open q own (sym (held_kept q) ∙ held);
+    past = ok.past;
+  }

@@ -21,8 +21,8 @@ use Rattle.far_table.specs.View.{OwnerView}
 use Rattle.far_table.specs.Seats.{Seated}
 use Rattle.far_table.specs.StateOf.{state_of}
 use Rattle.far_table.specs.Tells.{OwnerMade}
-use Rattle.far_table.specs.Views.{adopted_view, asked_view, fresh, held_at, len_of as seat_len, object_at, said_ds, said_len}
-use Rattle.far_heap.specs.Mine.{Object, OwnOk, adopting, dropping, mine_of, seen, zeros_known}
+use Rattle.far_table.specs.Views.{adopted_view, asked_view, ds_of as seat_ds, fresh, held_at, len_of as seat_len, object_at, said_ds, said_len}
+use Rattle.far_heap.specs.Mine.{Object, OwnOk, StructuresOk, adopting, dropping, mine_of, seen, zeros_known}
 use Rattle.far_heap.proofs.OwnRows.{own_row-one}
 
 -- ---- the word of an object that was adopted
@@ -53,6 +53,28 @@ adopted_len w n fits used is = used_len_of w fits (read_of w) refl used n is
 fresh_seen : (h : Bool) (w n t : ℕ) → n ≡ said_len (read_of w) → t ≡ said_ds (read_of w) → seen h (Some (fresh w)) ≡ Some record { len = n; ds = t; bytes = zeros_known h n }
 fresh_seen true w n t e d = λ i. Some record { len = sym e i; ds = sym d i; bytes = Some ((bytes_of-zeros (λ _. 0) (said_len (read_of w)) (λ k lt. refl) ∙ ap (λ m. replicate m 0) (sym e)) i) }
 fresh_seen false w n t e d = λ i. Some record { len = sym e i; ds = sym d i; bytes = None }
+
+-- ---- the row of data structures
+module _ (o : OwnerView) (number : ℕ) (structures : List ℕ) (ok : StructuresOk o number structures) (p : ℕ) where
+  pub adopted_structures : (w t : ℕ) → p / CELLS ≡ number → t ≡ said_ds (read_of w) → StructuresOk (adopted_view p w o) number (slice_set structures (p % CELLS) t)
+  adopted_structures w t own kind = record {
+    many = length-set structures (p % CELLS) t ∙ ok.many;
+    are = λ q mine used. elim (cases_eq q p) [
+      | inl e ↦ (let at : q % CELLS ≡ p % CELLS = omega arith in get_or-set_at structures (p % CELLS) (q % CELLS) t 0 at (omega (arith, ok.many))
+          ∙ kind ∙ sym (ap seat_ds (put_same (object_at o) p (Some (fresh w)) q e)))
+      | inr ne ↦ get_or-set_other structures (p % CELLS) (q % CELLS) t 0 (λ e. ne (omega arith))
+          ∙ ok.are q mine (sym (ap is_some (put_other (object_at o) p (Some (fresh w)) q ne)) ∙ used) ∙ sym (ap seat_ds (put_other (object_at o) p (Some (fresh w)) q ne))
+    ];
+  }
+
+  pub dropped_structures : (found : ℕ) → StructuresOk (asked_view p Dropped found o) number structures
+  dropped_structures found = record {
+    many = ok.many;
+    are = λ q mine used. elim (cases_eq q p) [
+      | inl e ↦ absurd (false≢true (sym (ap is_some (put_same (object_at o) p None q e)) ∙ used))
+      | inr ne ↦ ok.are q mine (sym (ap is_some (put_other (object_at o) p None q ne)) ∙ used) ∙ sym (ap seat_ds (put_other (object_at o) p None q ne))
+    ];
+  }
 
 module _ (s : Seated) (name : TableId) (number : ℕ) (lens stamps : List ℕ) (scope : ℕ) (ok : OwnOk s name number lens stamps scope) (p : ℕ) (own : p / CELLS ≡ number) where
   -- ---- one object more

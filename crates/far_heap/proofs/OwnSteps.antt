@@ -10,9 +10,9 @@ use Rattle.far_word.specs.declared.sizes.TheConstants.{CELLS, LONGEST, MOST_MUTA
 use Rattle.far_core.proofs.Put.{put_other, put_same}
 use Rattle.far_table.specs.View.{OwnerView}
 use Rattle.far_table.specs.Seats.{Seated}
-use Rattle.far_table.specs.Views.{closed_view, held_at, held_view, len_of as seat_len, noted_view, object_at, uses as seat_uses, warmed_view}
-use Rattle.far_heap.specs.Mine.{IsNew, OwnOk, len_in, mine_of, uses, views}
-use Rattle.far_heap.proofs.Mines.{len_own, uses_own, views_own, views_so}
+use Rattle.far_table.specs.Views.{closed_view, ds_of as seat_ds, held_at, held_view, len_of as seat_len, noted_view, object_at, uses as seat_uses, warmed_view}
+use Rattle.far_heap.specs.Mine.{IsNew, OwnOk, StructuresOk, ds_in, len_in, mine_of, uses, views}
+use Rattle.far_heap.proofs.Mines.{ds_own, len_own, uses_own, uses_so, views_own, views_so}
 
 pub seated_is : (t : Seated) (id : TableId) (v : OwnerView) → t.table ≡ id → t.view ≡ v → t ≡ record { table = id; view = v }
 seated_is t id v e f = λ i. record { table = e i; view = f i }
@@ -43,6 +43,30 @@ new_ok s name number lens stamps table new few many_lens many_stamps no_lens no_
   held_open = λ p own held. absurd (false≢true (sym (ap is_some (new.free p)) ∙ held));
   past = λ k. omega (arith, no_stamps k);
 }
+
+pub new_structures : (number : ℕ) (o : OwnerView) (structures : List ℕ) → IsNew number o → length structures ≡ CELLS → StructuresOk o number structures
+new_structures number o structures new many = record {
+  many = many;
+  are = λ p own used. absurd (false≢true (sym (ap is_some (new.unused p)) ∙ used));
+}
+
+-- ---- the row of data structures
+module _ (number : ℕ) (structures : List ℕ) where
+  -- it stays where no object comes, and each that stays is of the data structure that it was of
+  pub structures_kept : (o o' : OwnerView) → StructuresOk o number structures → ((p : ℕ) → seat_uses o' p ≡ true → (seat_uses o p ≡ true) × (seat_ds (object_at o' p) ≡ seat_ds (object_at o p))) → StructuresOk o' number structures
+  structures_kept o o' ok kept = record {
+    many = ok.many;
+    are = λ p own used. let k = kept p used in ok.are p own k.0 ∙ sym k.1;
+  }
+
+  -- no row of objects came
+  pub structures_stay : (o o' v : OwnerView) → StructuresOk o number structures → o' ≡ v → ((p : ℕ) → object_at v p ≡ object_at o p) → StructuresOk o' number structures
+  structures_stay o o' v ok is same = structures_kept o o' ok (λ p used. let e = ap (λ (x : OwnerView). object_at x p) is ∙ same p in (sym (ap is_some e) ∙ used, ap seat_ds e))
+
+  pub structure_is : (s : Seated) (p ds : ℕ) → StructuresOk s.view number structures → s.view.number ≡ number → uses (mine_of s) p ≡ true → ds ≡ slice_index_or structures (p % CELLS) ds →
+      ds ≡ ds_in (mine_of s) p
+  structure_is s p ds ok own used is = let so = uses_so s p used in
+      is ∙ get_or_default_zero structures (p % CELLS) ds (omega (arith, ok.many)) ∙ ok.are p (so.0 ∙ own) so.1 ∙ sym (ds_own s p so.0)
 
 module _ (s : Seated) (name : TableId) (number : ℕ) (lens stamps : List ℕ) (scope : ℕ) (ok : OwnOk s name number lens stamps scope) where
   -- ---- what the tables say

@@ -11,7 +11,7 @@ use Rattle.far_word.specs.declared.refused.Refused.TheVariants.{Damaged, Device,
 use Rattle.far_word.specs.declared.sizes.TheConstants.{CELLS, LONGEST, MOST_MUTATORS}
 use Rattle.far_table.specs.View.{ObjectView, OwnerView}
 use Rattle.far_table.specs.Seats.{Seated}
-use Rattle.far_table.specs.Views.{asked_at, held_at, len_of as seat_len, object_at, uses as seat_uses, word_of}
+use Rattle.far_table.specs.Views.{asked_at, ds_of as seat_ds, held_at, len_of as seat_len, object_at, uses as seat_uses, word_of}
 use Rattle.far_heap.specs.HeapId.{HeapId}
 use Rattle.far_heap.specs.declared.view.Brought.{Brought}
 use Rattle.far_heap.specs.declared.view.Brought.TheVariants as brought
@@ -225,6 +225,11 @@ pub record OwnOk (s : Seated) (name : TableId) (number : ℕ) (lens stamps : Lis
   pub held_used : (p : ℕ) → p / CELLS ≡ number → is_some (held_at s.view p) ≡ true → seat_uses s.view p ≡ true
   pub held_open : (p : ℕ) → p / CELLS ≡ number → is_some (held_at s.view p) ≡ true → is_some s.view.open_at ≡ true
   pub past : (k : ℕ) → slice_index_or stamps k 0 ≤ scope
+
+-- so does its row of data structures, where it uses an object
+pub record StructuresOk (o : OwnerView) (number : ℕ) (structures : List ℕ) : Type 0 where
+  pub many : length structures ≡ CELLS
+  pub are : (p : ℕ) → p / CELLS ≡ number → seat_uses o p ≡ true → slice_index_or structures (p % CELLS) 0 ≡ seat_ds (object_at o p)
 
 -- the seat of a mutator of a new heap: it uses nothing, views nothing, has asked for nothing, and its scope is closed
 pub record IsNew (number : ℕ) (o : OwnerView) : Type 0 where

@@ -1,6 +1,6 @@
 // A mutator whose scope is closed.
 ghost use Rattle.std.specs.Prelude.{◌≡◌, ◌<◌, ◌≤◌, true, false, None, Err, IfOk, IfErr, IfSome};
-ghost use Rattle.far_heap.specs.Mine.{IsNew, IsNoObject, IsOf, adopting, dropping, is_length, len_in, newcomer, opening, owns, uses};
+ghost use Rattle.far_heap.specs.Mine.{IsNew, IsNoObject, IsOf, adopting, dropping, ds_in, is_length, len_in, newcomer, opening, owns, uses};
 ghost use Rattle.far_heap.specs.MineLaw.{MineLaw};
 ghost use Rattle.far_heap.specs.BookHad.{BookDid, BookHad, HasRoom, IsFreed, LacksRoom, NoneFree, Places};
 ghost use Rattle.far_word.specs.declared.refused.Refused.{Refused as any_refusal};
@@ -101,6 +101,15 @@ impl<K: HeapName, D: Device + Drop> Mutator<K, D> {
     {
         self.own.keeps_law();
         self.own.used_len(p)
+    }
+
+    /// Of which data structure the object of a pointer is, as [`Scope::structure_of`].
+    #[inline(always)]
+    pub fn structure_of(&self, p: u16) -> Option<u8>
+        ensures used { IfSome result (λ ds. (uses self.now p ≡ true) × (ds ≡ ds_in self.now p)) }
+        ensures unused { result ≡ None → uses self.now p ≡ false }
+    {
+        self.own.used_structure(p)
     }
 
     /// Drops an object, which the mutator uses no longer. It takes the lock. Refused [`Refused::NotHeld`] alone, exactly where the mutator doesn't use

@@ -7,7 +7,7 @@ ghost use Rattle.far_heap.specs.Made.{Pinned};
 ghost use Rattle.far_heap.specs.MineLaw.{MineLaw};
 ghost use Rattle.far_heap.specs.LogsStay.{LogsStay};
 ghost use Rattle.far_heap.specs.declared.view.Tried.{Tried as any_tried};
-ghost use Rattle.far_heap.specs.Mine.{IsNew, TriedSo, access_refusal, adopting, asking, bytes_in, closing, dropping, len_in, newcomer, opening, owns, uses, view_of, views, viewing, writing};
+ghost use Rattle.far_heap.specs.Mine.{IsNew, TriedSo, access_refusal, adopting, asking, bytes_in, closing, dropping, ds_in, len_in, newcomer, opening, owns, uses, view_of, views, viewing, writing};
 ghost use Rattle.far_word.specs.declared.refused.Refused.{Refused as any_refusal};
 ghost use Rattle.far_word.specs.declared.sizes.TheConstants.{CELLS, LONGEST, MOST_MUTATORS};
 
@@ -59,6 +59,8 @@ pub(crate) struct Own<K: HeapName, D: Device> {
     number: u8,
     // The length of the object of each of its pointers, 0 where it isn't used.
     lens: Vec<u16>,
+    // Of which data structure it is, of each pointer that is used.
+    structures: Vec<u8>,
     // The scope that viewed each pointer last, by its count.
     stamps: Vec<u64>,
     // The count of the scope that is open, or of the next. It is above 0, and no stamp is above it.
@@ -67,13 +69,13 @@ pub(crate) struct Own<K: HeapName, D: Device> {
 }
 
 impl<K: HeapName, D: Device> Model for Own<K, D> {
-    ghost use Rattle.far_heap.specs.Mine.{Mine, OwnOk, mine_of};
+    ghost use Rattle.far_heap.specs.Mine.{Mine, OwnOk, StructuresOk, mine_of};
 
     ghost Value = { Mine };
 
     ghost view = { λ o. mine_of o.seat };
 
-    ghost invariant = { λ o. OwnOk o.seat K.heap.table o.number o.lens.items o.stamps.items o.scope };
+    ghost invariant = { λ o. OwnOk o.seat K.heap.table o.number o.lens.items o.stamps.items o.scope × StructuresOk o.seat.view o.number o.structures.items };
 }
 
 // The length and the data structure of the object that a word names, 0 where it names none.
@@ -123,11 +125,13 @@ impl<K: HeapName, D: Device> Own<K, D> {
         ensures { IfOk result (λ own. own ≡ newcomer K.heap.table number seat.view.honest) }
     {
         let lens = vec![in alloc; 0; CELLS as usize]?;
+        let structures = vec![in alloc; 0; CELLS as usize]?;
         let stamps = vec![in alloc; 0; CELLS as usize]?;
         Ok(Own {
             seat,
             number,
             lens,
+            structures,
             stamps,
             scope: 1,
             of: PhantomData,
@@ -179,6 +183,19 @@ impl<K: HeapName, D: Device> Own<K, D> {
         }
         let len = self.lens[(p % CELLS) as usize];
         if len == 0 { None } else { Some(len) }
+    }
+
+    // The data structure of the object of a pointer that the mutator uses.
+    #[inline(always)]
+    pub(crate) fn used_structure(&self, p: u16) -> Option<u8>
+        ensures used { IfSome result (λ ds. (uses self.now p ≡ true) × (ds ≡ ds_in self.now p)) }
+        ensures unused { result ≡ None → uses self.now p ≡ false }
+    {
+        if self.has(p) {
+            Some(self.structures[(p % CELLS) as usize])
+        } else {
+            None
+        }
     }
 
     // The length of the object of a pointer that the scope views.
@@ -266,7 +283,9 @@ impl<K: HeapName, D: Device> Own<K, D> {
             return None;
         };
         let (len, ds) = said(word);
-        self.lens[(p % CELLS) as usize] = len;
+        let cell = (p % CELLS) as usize;
+        self.lens[cell] = len;
+        self.structures[cell] = ds;
         Some((len, ds))
     }
 

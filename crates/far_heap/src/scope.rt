@@ -4,7 +4,7 @@ ghost use Rattle.far_heap.specs.Made.{IsFoundSlow, Pinned};
 ghost use Rattle.far_heap.specs.MineLaw.{MineLaw};
 ghost use Rattle.far_heap.specs.LogsStay.{LogsStay};
 ghost use Rattle.far_heap.specs.declared.view.Tried.{Tried as any_tried};
-ghost use Rattle.far_heap.specs.Mine.{Asks, AsksToView, IsNoObject, IsNoView, IsOf, TriedSo, access_refusal, adopting, bytes_in, closing, drop_refusal, dropping, is_length, len_in, owns, uses, view_of, viewing, views, writing};
+ghost use Rattle.far_heap.specs.Mine.{Asks, AsksToView, IsNoObject, IsNoView, IsOf, TriedSo, access_refusal, adopting, bytes_in, closing, drop_refusal, dropping, ds_in, is_length, len_in, owns, uses, view_of, viewing, views, writing};
 ghost use Rattle.far_heap.specs.BookHad.{BookDid, BookHad, HasRoom, IsFreed, LacksRoom, NoneFree, Places, Unbrought};
 ghost use Rattle.far_word.specs.declared.refused.Refused.{Refused as any_refusal};
 ghost use Rattle.far_word.specs.declared.refused.Refused.TheVariants.{Damaged, NoPointer, NoRoom};
@@ -90,6 +90,16 @@ impl<K: HeapName, D: Device + Drop> Scope<K, D> {
     {
         self.own.keeps_law();
         self.own.used_len(p)
+    }
+
+    /// Of which data structure the object of a pointer is, 0 to 255, the number that it was made with; `None` exactly where this mutator doesn't use the
+    /// pointer. No step, and no lock: the mutator knows it.
+    #[inline(always)]
+    pub fn structure_of(&self, p: u16) -> Option<u8>
+        ensures used { IfSome result (λ ds. (uses self.now p ≡ true) × (ds ≡ ds_in self.now p)) }
+        ensures unused { result ≡ None → uses self.now p ≡ false }
+    {
+        self.own.used_structure(p)
     }
 
     /// Drops an object, as [`Mutator::drop_object`] does. Refused, in this order: [`Refused::NotHeld`]; [`Refused::Held`] exactly where the scope views

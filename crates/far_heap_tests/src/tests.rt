@@ -22,5 +22,6 @@ mod rows;
 mod scopes;
 mod steps;
 mod threads;
+mod told;
 mod using;
 mod writers;

@@ -4,10 +4,11 @@ use Rattle.far_word.specs.declared.sizes.TheConstants.{CELLS}
 use Rattle.far_table.specs.Seats.{Seated}
 use Rattle.std.proofs.lemmas.Bool.{eqb-true}
 use Rattle.far_table.specs.Views.{object_at}
-use Rattle.far_heap.specs.Mine.{Mine, OwnOk, adopting, mine_of, owns, uses}
-use Rattle.far_heap.proofs.Adopting.{adopted_fits, adopted_len, adopted_mine, adopted_ok, adopted_used}
+use Rattle.far_table.specs.View.{OwnerView}
+use Rattle.far_heap.specs.Mine.{Mine, OwnOk, StructuresOk, adopting, mine_of, owns, uses}
+use Rattle.far_heap.proofs.Adopting.{adopted_fits, adopted_len, adopted_mine, adopted_ok, adopted_structures, adopted_used}
 use Rattle.far_heap.proofs.Mines.{none_there, uses_own}
-use Rattle.far_heap.proofs.OwnSteps.{noted_ok, seated_is}
+use Rattle.far_heap.proofs.OwnSteps.{noted_ok, seated_is, structures_stay}
 use Rattle.far_heap.proofs.own.Own.adopt.Goals as goal
 
 pub adopt-requires-clause-unused : goal.adopt-requires-clause-unused
@@ -20,9 +21,11 @@ adopt-requires-clause-unused g c =
 pub invariant_of-self : goal.invariant_of-self
 invariant_of-self g c =
     let s = c.self.inside in
-    let refused = c.in_default.ensures.refused refl in
-    subst (λ (t : Seated). OwnOk t _ s.number s.lens.items s.stamps.items s.scope) (sym (seated_is c.adopt.new.self s.seat.table _ c.adopt.ensures.table refused.1))
-    (noted_ok s.seat _ s.number s.lens.items s.stamps.items s.scope c.self.invariant c.args.p refused.0)
+    let refused = c.in_default.ensures.refused refl in (
+      subst (λ (t : Seated). OwnOk t _ s.number s.lens.items s.stamps.items s.scope) (sym (seated_is c.adopt.new.self s.seat.table _ c.adopt.ensures.table refused.1))
+          (noted_ok s.seat _ s.number s.lens.items s.stamps.items s.scope c.self.invariant.0 c.args.p refused.0),
+      structures_stay s.number s.structures.items s.seat.view c.adopt.new.self.view _ c.self.invariant.1 refused.1 (λ q. refl),
+    )
 
 pub invariant_of-self-2 : goal.invariant_of-self-2
 invariant_of-self-2 g c =
@@ -31,9 +34,12 @@ invariant_of-self-2 g c =
     let n : ℕ = c.said-len.result.0 in
     let own = eqb-true (p / CELLS) s.seat.view.number (subst (λ (m : Mine). owns m p ≡ true) (sym c.self.view_is) c.requires.own) in
     let made = c.in-Some.ensures.adopted in
-    let is = adopted_len c.in-Some.word n (adopted_fits _ _ p c.in-Some.word made.1) (adopted_used _ _ p c.in-Some.word made.1) c.said-len.ensures.len in
-    subst (λ (t : Seated). OwnOk t _ s.number (slice_set s.lens.items (p % CELLS) n) s.stamps.items s.scope) (sym (seated_is c.adopt.new.self s.seat.table _ c.adopt.ensures.table made.0))
-    (adopted_ok s.seat _ s.number s.lens.items s.stamps.items s.scope c.self.invariant p (own ∙ c.self.invariant.number_is) c.in-Some.word n is)
+    let is = adopted_len c.in-Some.word n (adopted_fits _ _ p c.in-Some.word made.1) (adopted_used _ _ p c.in-Some.word made.1) c.said-len.ensures.len in (
+      subst (λ (t : Seated). OwnOk t _ s.number (slice_set s.lens.items (p % CELLS) n) s.stamps.items s.scope) (sym (seated_is c.adopt.new.self s.seat.table _ c.adopt.ensures.table made.0))
+          (adopted_ok s.seat _ s.number s.lens.items s.stamps.items s.scope c.self.invariant.0 p (own ∙ c.self.invariant.0.number_is) c.in-Some.word n is),
+      subst (λ (o : OwnerView). StructuresOk o s.number (slice_set s.structures.items (p % CELLS) c.said-len.result.1)) (sym made.0)
+          (adopted_structures s.seat.view s.number s.structures.items c.self.invariant.1 p c.in-Some.word c.said-len.result.1 (own ∙ c.self.invariant.0.number_is) c.said-len.ensures.ds),
+    )
 
 pub returns-clause-adopted : goal.returns-clause-adopted
 returns-clause-adopted g c =
@@ -46,7 +52,7 @@ returns-clause-adopted g c =
       is.1,
       is.2,
       ap mine_of (seated_is c.adopt.new.self s.seat.table _ c.adopt.ensures.table made.0)
-          ∙ adopted_mine s.seat _ s.number s.lens.items s.stamps.items s.scope c.self.invariant p (own ∙ c.self.invariant.number_is) c.in-Some.word n c.said-len.result.1 is.0 c.said-len.ensures.ds ∙ ap (adopting p n c.said-len.result.1) c.self.view_is,
+          ∙ adopted_mine s.seat _ s.number s.lens.items s.stamps.items s.scope c.self.invariant.0 p (own ∙ c.self.invariant.0.number_is) c.in-Some.word n c.said-len.result.1 is.0 c.said-len.ensures.ds ∙ ap (adopting p n c.said-len.result.1) c.self.view_is,
     )
 
 pub returns-in_default-clause-kept : goal.returns-in_default-clause-kept

@@ -1,6 +1,6 @@
 use Rattle.std.proofs.Common.{◌≡◌, ℕ, true, ap, sym, subst, ◌∙◌, arith}
 use Rattle.far_heap.specs.Mine.{Mine, len_in, views, writing}
-use Rattle.far_heap.proofs.Accesses.{wrote_mine}
+use Rattle.far_heap.proofs.Accesses.{wrote_mine, wrote_ok, wrote_structures}
 use Rattle.far_heap.proofs.Mines.{len_own, views_so}
 use Rattle.far_heap.proofs.own.Own.write.Goals as goal
 
@@ -14,6 +14,17 @@ store_range-requires-clause-len g c =
     let p : ℕ = c.args.view.pointer in
     let own = (views_so c.self.inside.seat p (subst (λ (m : Mine). views m p ≡ true) (sym c.self.view_is) c.in-Ok.ensures.done.1)).0 in
     sym (len_own c.self.inside.seat p own) ∙ ap (λ (m : Mine). len_in m p) c.self.view_is ∙ sym c.in-Ok.ensures.done.2
+
+pub invariant_of-self : goal.invariant_of-self
+invariant_of-self g c =
+    let s = c.self.inside in
+    let o = s.seat.view in
+    let o' = c.store_range.new.seat.view in
+    let p : ℕ = c.args.view.pointer in
+    let wrote = c.store_range.ensures.wrote in (
+      wrote_ok p c.args.from c.args.bytes.now o o' wrote s.seat.table c.store_range.new.seat.table _ s.number s.lens.items s.stamps.items s.scope c.store_range.ensures.table c.self.invariant.0,
+      wrote_structures p c.args.from c.args.bytes.now o o' wrote s.number s.structures.items c.self.invariant.1,
+    )
 
 pub returns-clause-done : goal.returns-clause-done
 returns-clause-done g c =
