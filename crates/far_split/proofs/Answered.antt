@@ -69,11 +69,11 @@ module _ {heap : HeapId} (m : Mine) (o : Own) (opened : o.opened ≡ true) (p : 
 
   unbrought_view : IsToldSo heap m o (View p) why
   unbrought_view =
-        unbrought (View p)
-        (λ had. (plainly m.honest m.number o (Mutator m.number (View p)) (Refused NoRoom) o (opened, unviewed, refl, (all, known)) (λ _. tt), had))
-        (λ had. (hindered m.honest m.number o (Mutator m.number (View p)) (Refused Memory) o (opened, unviewed, refl, (all, known)) (λ _. tt), had))
-        (λ had. (plainly m.honest m.number o (Mutator m.number (View p)) (Refused Device) o (opened, unviewed, refl, (all, known)) (λ _. tt), had))
-        (λ whole had. (plainly m.honest m.number o (Mutator m.number (View p)) (Refused Damaged) o (opened, unviewed, refl, (all, known)) whole, had))
+      unbrought (View p)
+      (λ had. (plainly m.honest m.number o (Mutator m.number (View p)) (Refused NoRoom) o (opened, unviewed, refl, (all, known)) (λ _. tt), had))
+      (λ had. (hindered m.honest m.number o (Mutator m.number (View p)) (Refused Memory) o (opened, unviewed, refl, (all, known)) (λ _. tt), had))
+      (λ had. (plainly m.honest m.number o (Mutator m.number (View p)) (Refused Device) o (opened, unviewed, refl, (all, known)) (λ _. tt), had))
+      (λ whole had. (plainly m.honest m.number o (Mutator m.number (View p)) (Refused Damaged) o (opened, unviewed, refl, (all, known)) whole, had))
 
   module _ (from : ℕ) where
     unbrought_read : (count : ℕ) → 0 < count → from + count ≤ length all → IsToldSo heap m o (Read p from count) why

@@ -94,7 +94,7 @@ none_done = progress_of nothing false
 
 -- ---- lines
 -- a line was answered so. One log is refused where the heap has no such log; an audit where memory is. A refusal of a round tells what it had done where that is
--- anything, and always where its device was refused; where memory was it may, also where nothing was done
+-- anything, and always where its device was refused, or memory: no memory is taken for a choice of logs, so a turn was refused then
 abbrev pub TellsLine : HeapId → Command → Reply → Type 0
 TellsLine heap (Book AsksLogs) (Logs lines) = TellsLogs heap (range_with_len 0 heap.logs) lines
 TellsLine heap (Book (AsksLog log)) (Logs lines) = (log < heap.logs) × TellsLogs heap (log ∷ []) lines
@@ -102,7 +102,7 @@ TellsLine heap (Book (AsksLog log)) (Refused Range) = heap.logs ≤ log
 TellsLine heap (Book AsksAudit) (Audited counts) = TellsCensus heap counts
 TellsLine heap (Book AsksAudit) (Refused Memory) = Unit {0}
 TellsLine heap (Evacuator (Round policy most turns)) (Ended end) = EndsRound heap policy most turns end
-TellsLine heap (Evacuator (Round policy most turns)) (Refused why) = StopsRound heap policy most turns why none_done × (why ≢ Device)
+TellsLine heap (Evacuator (Round policy most turns)) (Refused why) = StopsRound heap policy most turns why none_done × (why ≢ Device) × (why ≢ Memory)
 TellsLine heap (Evacuator (Round policy most turns)) (Halted why so_far) = StopsRound heap policy most turns why so_far × ((so_far ≢ none_done) ⊎ (why ≡ Memory) ⊎ (why ≡ Device))
 TellsLine heap _ _ = ⊥
 

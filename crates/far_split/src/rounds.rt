@@ -10,7 +10,7 @@ ghost use Rattle.far_split.specs.Told.{TellsFewLogs, as_reply};
 
 use crate::far_side::FarSide;
 use crate::told::Answer;
-use far_evac::{EvacFault, Phase, Progress, RoundEnd};
+use far_evac::{EvacFault, Progress, RoundEnd};
 use far_heap::{Heap, HeapName};
 use far_policy::{LeastLive, Oldest};
 use far_text::Policy;
@@ -35,15 +35,15 @@ fn run_by<K: HeapName, R: Wait>(
     }
 }
 
-// Whether a round was refused in one of its turns, and not while its logs were chosen, for which no device is called: a turn leaves it standing, and no
-// other thread makes rounds.
-fn stands_after<K: HeapName, R: Wait>(rt: &R, heap: &Heap<K, FarSide>, why: Refused) -> bool
+// Whether a round was refused in one of its turns, and not while its logs were chosen, for which no device is called and no memory is taken: a turn leaves
+// it standing.
+fn stands_after(why: Refused) -> bool
     ensures causes { result ≡ true → (why ≡ Memory) ⊎ (why ≡ Failed) }
     ensures device { why ≡ Failed → result ≡ true }
+    ensures memory { why ≡ Memory → result ≡ true }
 {
     match why {
-        Refused::Device => true,
-        Refused::Memory => heap.book(rt).phase() != Phase::Idle,
+        Refused::Device | Refused::Memory => true,
         _ => false,
     }
 }
@@ -71,7 +71,7 @@ pub(crate) fn make_round<K: HeapName, R: Wait>(
     match run_by(rt, heap, policy, most, turns) {
         Ok(end) => Answer::Ended(end),
         Err(EvacFault { so_far, why }) => {
-            if did_nothing(&so_far) && !stands_after(rt, heap, why) {
+            if did_nothing(&so_far) && !stands_after(why) {
                 Answer::Refused(why)
             } else {
                 Answer::Halted { why, so_far }

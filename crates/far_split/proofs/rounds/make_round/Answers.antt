@@ -9,6 +9,7 @@ pub returns-then-not-stands_after-clause-told : goal.returns-then-not-stands_aft
 returns-then-not-stands_after-clause-told g c = (
   stopped_at_once g.K.HeapName.heap (as_policy c.args.policy) c.args.most c.args.turns c.in-Err.field-0.why c.in-Err.field-0.so_far c.in-Err.ensures.refused (c.did_nothing.ensures.0 c.if-did_nothing.true),
   λ device. false≢true (sym c.if-not-stands_after.true ∙ c.stands_after.ensures.device device),
+  λ memory. false≢true (sym c.if-not-stands_after.true ∙ c.stands_after.ensures.memory memory),
 )
 
 pub returns-else-did_nothing-clause-told : goal.returns-else-did_nothing-clause-told
