@@ -4,7 +4,6 @@ use Rattle.std.specs.Prelude.{IfOk, IfErr}
 use Rattle.far_log.specs.declared.row.LogRow.{LogRow}
 use Rattle.far_policy.specs.Choice.{IsBadChoice, IsChoice}
 use Rattle.far_word.specs.declared.refused.Refused.{Refused}
-use Rattle.far_word.specs.declared.refused.Refused.TheVariants.{Memory}
 use Rattle.far_hand.specs.Came.{Came}
 use Rattle.far_table.specs.declared.book.BookSeat.{BookSeat}
 use Rattle.far_table.specs.BookSeats.{seat_makes, seat_view}
@@ -46,24 +45,23 @@ module _ {P D : Type 0} (gives : P → List LogRow → ℕ → Result (List ℕ)
   same_cause : (r : Result (List ℕ) Refused) (w why : Refused) → r ≡ Err w → r ≡ Err why → w ≡ why
   same_cause r w why a b = cc
 
-  -- one that was refused was barred; or memory was; or it is the policy's refusal
+  -- one that was refused was barred; or it is the policy's refusal
   cause_of : (cause : Option Refused) (why : Refused) → unselectable (moment seat_view e) ≡ cause → result ≡ Err why →
-      ((why ≡ Memory) × (after ≡ before)) ⊎ (unselectable (moment seat_view e) ≡ Some why) ⊎ (IsBadChoice why × gives before (rows_of e) most (Err why) after) →
+      (unselectable (moment seat_view e) ≡ Some why) ⊎ (IsBadChoice why × gives before (rows_of e) most (Err why) after) →
       IsUnchosen gives heap before most after e why
-  cause_of cause why says is (inl (memory, same)) = inl (inr memory, same)
-  cause_of cause why says is (inr (inl known)) = inl (inl known, (barred why known).1)
-  cause_of None why says is (inr (inr bad)) = inr (says, bad.0, bad.1)
-  cause_of (Some w) why says is (inr (inr bad)) =
-      let known = same_cause result w why (barred w says).0 is in inl (inl (says ∙ (λ i. Some (known i))), (barred w says).1)
+  cause_of cause why says is (inl known) = inl (known, (barred why known).1)
+  cause_of None why says is (inr bad) = inr (says, bad.0, bad.1)
+  cause_of (Some w) why says is (inr bad) =
+      let known = same_cause result w why (barred w says).0 is in inl (says ∙ (λ i. Some (known i)), (barred w says).1)
 
   chose_none_so : (r : Result (List ℕ) Refused) → result ≡ r → IfErr r (λ _. f ≡ e) →
-      IfErr r (λ why. ((why ≡ Memory) × (after ≡ before)) ⊎ (unselectable (moment seat_view e) ≡ Some why) ⊎ (IsBadChoice why × gives before (rows_of e) most (Err why) after)) →
+      IfErr r (λ why. (unselectable (moment seat_view e) ≡ Some why) ⊎ (IsBadChoice why × gives before (rows_of e) most (Err why) after)) →
       IfErr r (λ why. ChoosesNone gives heap before most after why e f)
   chose_none_so (Ok logs) is same cause = tt
   chose_none_so (Err why) is same cause =
       record { named = named; lawful = lawful; cause = cause_of (unselectable (moment seat_view e)) why refl is cause; same = same }
 
   pub chose_none : IfErr result (λ _. f ≡ e) →
-      IfErr result (λ why. ((why ≡ Memory) × (after ≡ before)) ⊎ (unselectable (moment seat_view e) ≡ Some why) ⊎ (IsBadChoice why × gives before (rows_of e) most (Err why) after)) →
+      IfErr result (λ why. (unselectable (moment seat_view e) ≡ Some why) ⊎ (IsBadChoice why × gives before (rows_of e) most (Err why) after)) →
       IfErr result (λ why. ChoosesNone gives heap before most after why e f)
   chose_none same cause = chose_none_so result refl same cause

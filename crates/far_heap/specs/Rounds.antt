@@ -41,10 +41,10 @@ module _ {P D : Type 0} (gives : P → List LogRow → ℕ → Result (List ℕ)
     pub came : Came seat_makes e.book.near f.book.near
     pub begun : moment seat_view f ≡ after_selecting (moment seat_view e) logs
 
-  -- why none were chosen: a round runs in this book, or its epochs are spent, or memory was refused, and the policy wasn't asked; or it was, of what this
-  -- book's logs have, and this is its refusal
+  -- why none were chosen: a round runs in this book, or its epochs are spent, and the policy wasn't asked; or it was, of what this book's logs have, and this
+  -- is its refusal
   abbrev pub IsUnchosen : EvacOf (BookSeat D) D → Refused → Type 0
-  IsUnchosen e why = (((unselectable (moment seat_view e) ≡ Some why) ⊎ (why ≡ refused.Memory)) × (after ≡ before))
+  IsUnchosen e why = ((unselectable (moment seat_view e) ≡ Some why) × (after ≡ before))
       ⊎ ((unselectable (moment seat_view e) ≡ None) × IsBadChoice why × gives before (rows_of e) most (Err why) after)
 
   pub record ChoosesNone (why : Refused) (e f : EvacOf (BookSeat D) D) : Type 0 where

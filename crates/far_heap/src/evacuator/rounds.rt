@@ -37,7 +37,7 @@ impl<K: HeapName, D: Device + Drop> Evacuator<K, D> {
     /// sealed log has, oldest first.
     ///
     /// Refused, in this order, [`Refused::Phase`] where a round is running; [`Refused::EpochsSpent`] where there is no later epoch;
-    /// [`Refused::Memory`]; and what the policy refuses, which is [`Refused::BadChoice`]. Nothing has changed then but the policy.
+    /// and what the policy refuses, which is [`Refused::BadChoice`]. Nothing has changed then but the policy. Takes no memory.
     pub fn select<P: Policy>(&mut self, policy: &mut P, most: usize) -> Result<Chosen, Refused>
         ensures came { Came seat_makes self.old.book.near self.new.book.near }
         ensures begun { IfOk result (λ chosen. moment seat_view self.new ≡ after_selecting (moment seat_view self.old) chosen) }
@@ -46,10 +46,10 @@ impl<K: HeapName, D: Device + Drop> Evacuator<K, D> {
         ensures device { self.new.book.device ≡ self.old.book.device }
         ensures unchanged { IfErr result (λ _. self.new ≡ self.old) }
         ensures barred { (why : why_refused) → unselectable (moment seat_view self.old) ≡ Some why → (result ≡ Err why) × (policy.new ≡ policy.old) }
-        ensures why { IfErr result (λ why. ((why ≡ Memory) × (policy.new ≡ policy.old)) ⊎ (unselectable (moment seat_view self.old) ≡ Some why)
+        ensures why { IfErr result (λ why. (unselectable (moment seat_view self.old) ≡ Some why)
             ⊎ (IsBadChoice why × P.gives policy.old (map (row_of (seat_view self.old.book.near)) self.old.book.order) most (Err why) policy.new)) }
         ensures refused { IfErr result (λ why. unselectable (moment seat_view self.old) ≡ None →
-            ((why ≡ Memory) × (policy.new ≡ policy.old)) ⊎ P.gives policy.old (map (row_of (seat_view self.old.book.near)) self.old.book.order) most (Err why) policy.new) }
+            P.gives policy.old (map (row_of (seat_view self.old.book.near)) self.old.book.order) most (Err why) policy.new) }
     {
         self.evac.select(policy, most)
     }
