@@ -12,7 +12,7 @@ use Rattle.far_core.specs.state.State.{put}
 use Rattle.far_core.proofs.Put.{put_same}
 use Rattle.far_heap.specs.BookHad.{BookHad, HasRoom, LacksRoom, NoneFree, Unbrought}
 use Rattle.far_heap.specs.HeapId.{HeapId}
-use Rattle.far_heap.specs.Mine.{Asks, AsksToView, IsNoObject, IsNoView, IsRefusedNew, IsRefusedView, IsSlow, IsUnbrought, Mine, adopting, bytes_in, closing, drop_refusal, dropping, ds_in, is_length, len_in, opening, owns, uses, viewing, views, with_range, writing}
+use Rattle.far_heap.specs.Mine.{Asks, AsksToView, IsNoObject, IsNoView, IsRefusedNew, IsRefusedView, IsSlow, IsUnbrought, Mine, adopting, asking, bytes_in, closing, drop_refusal, dropping, ds_in, is_length, len_in, opening, owns, uses, viewing, views, with_range, writing}
 use Rattle.far_heap.specs.MineLaw.{MineLaw}
 use Rattle.far_heap.proofs.Spliced.{length-with_range, with_range_inside}
 use Rattle.far_text.specs.Command.{Close, Command, Drop, Mutator, New, Open, Read, Request, Try, View, Write}
@@ -252,16 +252,16 @@ module _ {heap : HeapId} (m : Mine) (law : MineLaw m) where
           of_m = subst (λ (z : Mine). IfSome (bytes_in z p) (λ all. bytes ≡ slice_range all from (from + count))) views.1 are
 
           reads : (o : Own) → IsOwn m o → (honest : Bool) → m.honest ≡ honest → Learns heap m o (Read p from count) (Data bytes) (viewing p (asking p views.0 m))
-          reads o is true yes =
+          reads o is true honest =
               let known = used_known m o is p used in
-              let same : bytes ≡ slice_range known.all from (from + count) = subst (λ (b : Option (List ℕ)). IfSome b (λ all. bytes ≡ slice_range all from (from + count))) (known.sure yes) of_m in
+              let same : bytes ≡ slice_range known.all from (from + count) = subst (λ (b : Option (List ℕ)). IfSome b (λ all. bytes ≡ slice_range all from (from + count))) (known.sure honest) of_m in
               record {
                 own = record o { viewed = put o.viewed p true };
                 is = is_viewing m law o is p own views.0;
                 knows = plainly m.honest m.number o (Mutator m.number (Read p from count)) (Data bytes) (record o { viewed = put o.viewed p true }) (is.opened ∙ opened, refl, (known.all, known.is, (some, omega (arith, fits, known.long)), same)) (λ _. tt);
                 tells = tt;
               }
-          reads o is false no =
+          reads o is false lying =
               let known = used_known m o is p used in
               let within : from + length bytes ≤ length known.all = omega (arith, fits, known.long, long) in
               let new = with_range known.all from bytes in
@@ -270,8 +270,8 @@ module _ {heap : HeapId} (m : Mine) (law : MineLaw m) where
               let back = subst (λ c. bytes ≡ slice_range new from (from + c)) long (sym (read_back known.all bytes from within)) in
               record {
                 own = record other { viewed = put o.viewed p true };
-                is = is_viewing m law other (is_otherwise m law o is p own no used new (many ∙ known.long)) p own views.0;
-                knows = subst (λ h. KnowsHere h m.number o (Mutator m.number (Read p from count)) (Data bytes) (record other { viewed = put o.viewed p true })) (sym no) (inr (inr (record {
+                is = is_viewing m law other (is_otherwise m law o is p own lying used new (many ∙ known.long)) p own views.0;
+                knows = subst (λ h. KnowsHere h m.number o (Mutator m.number (Read p from count)) (Data bytes) (record other { viewed = put o.viewed p true })) (sym lying) (inr (inr (record {
                   p = p;
                   asks = (refl, refl);
                   old = known.all;

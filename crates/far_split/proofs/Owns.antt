@@ -101,8 +101,8 @@ is_otherwise m law o is p own lies used bytes long = record {
   ];
 } where
   any : (honest : Bool) (x : Option Object) → honest ≡ false → is_some x ≡ true → length bytes ≡ len_of x → HasBytes honest x (Some bytes)
-  any honest None no some many = absurd (false≢true some)
-  any honest (Some x) no some many = (bytes, refl, many, λ yes. absurd (false≢true (sym no ∙ yes)))
+  any honest None lying some many = absurd (false≢true some)
+  any honest (Some x) lying some many = (bytes, refl, many, λ told. absurd (false≢true (sym lying ∙ told)))
 
 has_rewritten : (honest : Bool) (x : Option Object) (all : List ℕ) (from : ℕ) (new : List ℕ) → HasBytes honest x (Some all) → from + length new ≤ length all
     → HasBytes honest (option_map (rewritten from new) x) (Some (with_range all from new))
@@ -112,7 +112,7 @@ has_rewritten honest (Some x) all from new (known, is, long, sure) fits =
       with_range all from new,
       refl,
       length-with_range all from new fits ∙ ap length (sym same) ∙ long,
-      λ yes. ap (option_map (λ bytes. with_range bytes from new)) (sure yes) ∙ ap (λ b. Some (with_range b from new)) same,
+      λ told. ap (option_map (λ bytes. with_range bytes from new)) (sure told) ∙ ap (λ b. Some (with_range b from new)) same,
     )
 
 -- bytes are written in an object that is viewed from then on

@@ -1,7 +1,7 @@
 //! What a line answered.
 
 ghost use Rattle.std.specs.Prelude.{◌≡◌, ◌+◌, ◌<◌, ◌≤◌, ◌↔◌, IsTrue, [], length, slice_index_or};
-ghost use Rattle.far_replay.specs.Reply.{LogLine as any_line};
+ghost use Rattle.far_replay.specs.declared.reply.LogLine.{LogLine as any_line};
 ghost use Rattle.far_split.specs.Kept.{lines_told};
 
 use far_evac::{LogKind, Progress, RoundEnd};
