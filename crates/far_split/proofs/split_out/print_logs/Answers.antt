@@ -1,4 +1,4 @@
-use Rattle.std.proofs.Common.{[], ◌+◌, ◌++◌, Err, Ok, drop, subst, ◌∙◌, ap, take, arith, append_assoc}
+use Rattle.std.proofs.Common.{[], ◌++◌, Err, Ok, drop, subst, ◌∙◌, take, arith, append_assoc}
 use Rattle.std.proofs.lemmas.List.{take_all}
 use Rattle.std.specs.List.{flat_map}
 use Rattle.far_replay.specs.Reply.{log_text}

@@ -1,4 +1,4 @@
-use Rattle.std.proofs.Common.{◌+◌, ◌++◌, Err, Ok, drop, length, map, subst, sym, ◌∙◌, ap, take, append_assoc}
+use Rattle.std.proofs.Common.{◌+◌, ◌++◌, Err, Ok, drop, length, subst, sym, ◌∙◌, ap, take, append_assoc}
 use Rattle.std.proofs.lemmas.List.{take_all}
 use Rattle.std.specs.List.{AllByRecursion, flat_map}
 use Rattle.far_replay.specs.Reply.{IsShort, reply_text}

@@ -1,10 +1,7 @@
-use Rattle.std.proofs.Common.{◌+◌, ◌<◌, ◌≡◌, ◌∙◌, ap, arith, get_or, length, map, sym, subst}
+use Rattle.std.proofs.Common.{◌<◌, ap, arith, length, subst}
 use Rattle.std.proofs.lemmas.List.{length-map}
 use Rattle.far_split.specs.Kept.{IsKept, reply_in}
-use Rattle.far_split.specs.declared.replies.Kept.{Kept}
-use Rattle.far_split.specs.declared.replies.Kept.TheVariants as kept
-use Rattle.far_split.specs.declared.replies.Replies.{Replies}
-use Rattle.far_split.proofs.Keeping.{kept_at, length-part, reply_at}
+use Rattle.far_split.proofs.Keeping.{kept_at, length-part}
 use Rattle.far_split.proofs.replies.Replies.at.Goals as goal
 
 pub bytes_at-requires : goal.bytes_at-requires

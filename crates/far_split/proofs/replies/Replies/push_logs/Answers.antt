@@ -1,4 +1,4 @@
-use Rattle.std.proofs.Common.{◌+◌, ◌++◌, ◌∷◌, [], ◌∙◌, ◌≡◌, List, ap, arith, length, length-append, map, subst, sym}
+use Rattle.std.proofs.Common.{◌++◌, ◌∷◌, [], ◌∙◌, ◌≡◌, ap, arith, length, length-append, map, subst, sym}
 use Rattle.far_split.specs.Kept.{AreKept, lines_told, reply_in}
 use Rattle.far_replay.specs.Reply.{Logs}
 use Rattle.far_split.specs.declared.replies.Kept.{Kept}

@@ -1,4 +1,4 @@
-use Rattle.std.proofs.Common.{[], ◌++◌, Err, Ok, codes, map, subst, sym, ◌∙◌, ap, ◌≡◌, refl}
+use Rattle.std.proofs.Common.{[], ◌++◌, Err, Ok, codes, subst, sym, ◌∙◌, ap, ◌≡◌, refl}
 use Rattle.std.specs.List.{flat_map}
 use Rattle.far_replay.specs.Reply.{reply_text, refusal_text}
 use Rattle.far_replay.specs.Stream.{Writes}

@@ -1,4 +1,4 @@
-use Rattle.std.proofs.Common.{◌≡◌, length, subst, [], List}
+use Rattle.std.proofs.Common.{◌≡◌, subst, [], List}
 use Rattle.std.specs.Prelude.{IsTrue, ◌↔◌}
 use Rattle.far_replay.specs.declared.reply.LogLine.{LogLine}
 use Rattle.far_split.proofs.Keeping.{none_told}
