@@ -6,7 +6,7 @@ use Rattle.std.proofs.lemmas.Bool.{eqb-true, false≢true, le-leb}
 use Rattle.std.proofs.lemmas.List.{take_all}
 use Rattle.far_word.specs.declared.refused.Refused.{Refused as Refusal}
 use Rattle.far_word.specs.Pointer.{read_of}
-use Rattle.far_word.specs.declared.refused.Refused.TheVariants.{Damaged, Device, Held, Marked, Memory, NoPointer, NoRoom, NotHeld}
+use Rattle.far_word.specs.declared.refused.Refused.TheVariants.{AlreadyOpen, Closed, Damaged, Device, Held, Marked, Memory, NoPointer, NoRoom, NotHeld}
 use Rattle.far_word.specs.declared.sizes.TheConstants.{CELLS, LONGEST}
 use Rattle.far_core.specs.state.State.{put}
 use Rattle.far_core.proofs.Put.{put_same}
@@ -21,7 +21,7 @@ use Rattle.far_replay.specs.Reply.{Data, Done, Pointer, Refused, Reply}
 use Rattle.far_replay.proofs.Fronts.{range_length, ranges_same}
 use Rattle.far_split.specs.FarSides.{FarSide}
 use Rattle.far_split.specs.Here.{Hindered, IsUndamaged, KnowsHere, TellsOfHeap}
-use Rattle.far_split.specs.Slots.{Answers, AreSizes, IsOwn, IsReached, Learns}
+use Rattle.far_split.specs.Slots.{Answers, AreSizes, IsOwn, IsReached, Learns, needs_scope}
 use Rattle.far_split.specs.declared.access.Access.{Access}
 use Rattle.far_split.proofs.Owns.{is_adopting, is_closing, is_dropping, is_opening, is_otherwise, is_viewing, is_writing, unused_none, used_known, used_own}
 
@@ -109,13 +109,14 @@ module _ {heap : HeapId} (m : Mine) (law : MineLaw m) where
           tells = subst (λ l. BookHad FarSide heap (HasRoom m.number l p)) are.0 had;
         };
         short = tt;
+        logless = tt;
         number = refl;
         honest = refl;
       })
 
   -- it is refused, and knows what it knew
   refuses : (request : Request) (why : Refusal) → ((o : Own) → IsOwn m o → IsToldSo heap m o request why) → Answers heap m request (Refused why) m
-  refuses request why told = record { learns = λ o is. (let both = told o is in record { own = o; is = is; knows = both.0; tells = both.1 }); short = tt; number = refl; honest = refl }
+  refuses request why told = record { learns = λ o is. (let both = told o is in record { own = o; is = is; knows = both.0; tells = both.1 }); short = tt; logless = tt; number = refl; honest = refl }
 
   pub unmade : (len ds : ℕ) (sizes : ℕ × ℕ) → AreSizes len ds sizes → (why : Refusal) (n : Mine) → IsNoObject sizes.0 why → n ≡ m → (why ≡ NoPointer → BookHad FarSide heap (NoneFree m.number))
       → (why ≡ NoRoom → BookHad FarSide heap (LacksRoom m.number sizes.0)) → Answers heap m (New len ds) (Refused why) n
@@ -138,6 +139,7 @@ module _ {heap : HeapId} (m : Mine) (law : MineLaw m) where
           tells = tt;
         });
         short = tt;
+        logless = tt;
         number = refl;
         honest = refl;
       })
@@ -153,6 +155,7 @@ module _ {heap : HeapId} (m : Mine) (law : MineLaw m) where
   opens closed = record {
     learns = λ o is. record { own = record o { opened = true }; is = is_opening m o is; knows = plainly m.honest m.number o (Mutator m.number Open) Done (record o { opened = true }) (is.opened ∙ closed, refl) (λ _. tt); tells = tt };
     short = tt;
+    logless = tt;
     number = refl;
     honest = refl;
   }
@@ -161,9 +164,23 @@ module _ {heap : HeapId} (m : Mine) (law : MineLaw m) where
   closes opened = record {
     learns = λ o is. record { own = record o { opened = false; viewed = λ _. false }; is = is_closing m o is; knows = plainly m.honest m.number o (Mutator m.number Close) Done (record o { opened = false; viewed = λ _. false }) (is.opened ∙ opened, refl) (λ _. tt); tells = tt };
     short = tt;
+    logless = tt;
     number = refl;
     honest = refl;
   }
+
+  pub closed_here : m.opened ≡ false → (request : Request) → needs_scope request ≡ true → Answers heap m request (Refused Closed) m
+  closed_here closed Close wants = refuses Close Closed (λ o is. (plainly m.honest m.number o (Mutator m.number Close) (Refused Closed) o (is.opened ∙ closed, refl) (λ _. tt), tt))
+  closed_here closed (Read p from len) wants =
+      refuses (Read p from len) Closed (λ o is. (plainly m.honest m.number o (Mutator m.number (Read p from len)) (Refused Closed) o (is.opened ∙ closed, refl) (λ _. tt), tt))
+  closed_here closed (Write p from bytes) wants =
+      refuses (Write p from bytes) Closed (λ o is. (plainly m.honest m.number o (Mutator m.number (Write p from bytes)) (Refused Closed) o (is.opened ∙ closed, refl) (λ _. tt), tt))
+  closed_here closed (View p) wants = refuses (View p) Closed (λ o is. (plainly m.honest m.number o (Mutator m.number (View p)) (Refused Closed) o (is.opened ∙ closed, refl) (λ _. tt), tt))
+  closed_here closed (Try p) wants = refuses (Try p) Closed (λ o is. (plainly m.honest m.number o (Mutator m.number (Try p)) (Refused Closed) o (is.opened ∙ closed, refl) (λ _. tt), tt))
+  closed_here closed request wants = absurd (false≢true wants)
+
+  pub open_here : m.opened ≡ true → Answers heap m Open (Refused AlreadyOpen) m
+  open_here opened = refuses Open AlreadyOpen (λ o is. (plainly m.honest m.number o (Mutator m.number Open) (Refused AlreadyOpen) o (is.opened ∙ opened, refl) (λ _. tt), tt))
 
   -- while the scope is open
   module _ (opened : m.opened ≡ true) (p : ℕ) where
@@ -177,6 +194,7 @@ module _ {heap : HeapId} (m : Mine) (law : MineLaw m) where
             tells = tt;
           });
           short = tt;
+          logless = tt;
           number = refl;
           honest = refl;
         })
@@ -191,6 +209,7 @@ module _ {heap : HeapId} (m : Mine) (law : MineLaw m) where
             tells = tt;
           });
           short = tt;
+          logless = tt;
           number = refl;
           honest = refl;
         })
@@ -207,6 +226,7 @@ module _ {heap : HeapId} (m : Mine) (law : MineLaw m) where
       unanswered request told = subst (λ (z : Mine). Answers heap m request (Refused why) z) (sym asks.1) (record {
         learns = λ o is. (let both = told o is in record { own = o; is = record { opened = is.opened; viewed = is.viewed; object = is.object }; knows = both.0; tells = both.1 });
         short = tt;
+        logless = tt;
         number = refl;
         honest = refl;
       })
@@ -241,6 +261,7 @@ module _ {heap : HeapId} (m : Mine) (law : MineLaw m) where
           subst (λ (z : Mine). Answers heap m (Read p from count) (Data bytes) z) (sym views.1) (record {
             learns = λ o is. reads o is m.honest refl;
             short = (let most = law.most p used in omega (arith, long, most, fits));
+            logless = tt;
             number = refl;
             honest = refl;
           })
@@ -293,6 +314,7 @@ module _ {heap : HeapId} (m : Mine) (law : MineLaw m) where
               tells = tt;
             });
             short = tt;
+            logless = tt;
             number = refl;
             honest = refl;
           })

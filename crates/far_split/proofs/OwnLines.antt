@@ -15,7 +15,10 @@ use Rattle.far_replay.specs.Alone.{Own, nothing}
 use Rattle.far_replay.specs.Reply.{IsShort, Reply}
 use Rattle.far_split.specs.Here.{AloneOn, AreBy, KnowsHere, TellsOfHeap, commands_of}
 use Rattle.far_split.specs.Joined.{commands_in}
-use Rattle.far_split.specs.Slots.{Answers, IsOwn}
+use Rattle.far_split.specs.Slots.{Answers, IsOwn, TellsNoLogs}
+use Rattle.far_split.specs.Told.{TellsFewLogs, as_reply}
+use Rattle.far_split.specs.declared.told.Answer.{Answer}
+use Rattle.far_split.specs.declared.told.Answer.TheVariants as answers
 use Rattle.far_split.proofs.Owns.{is_new}
 
 -- ---- which lines they are
@@ -109,3 +112,8 @@ pub asks_now : (mutators number at n : ℕ) (c : Spelled) (k : ℕ) (request : S
 asks_now mutators number at n c k request lines own here spelled =
     let is = subst (λ (s : Spelled). (is_of (OfMutator number) (as_command s) ≡ true) × HasThread mutators (as_command s)) spelled (own_now mutators number at n c lines own here) in
     asks_own mutators k (as_request request) is.1
+
+-- what tells no logs tells few
+pub few_logs : (answer : Answer) → TellsNoLogs (as_reply answer) → TellsFewLogs answer
+few_logs (answers.Logs first rows) none = absurd none
+few_logs answer none = tt

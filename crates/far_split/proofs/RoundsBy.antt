@@ -1,6 +1,6 @@
 -- A round of a policy is one of the policy's name.
 use Rattle.std.proofs.Common.{◌≡◌, ◌≢◌, inl, inr, ℕ, false, List, Result, Ok, Err, ap, sym, subst, ◌∙◌, refl}
-use Rattle.std.specs.Prelude.{IfErr}
+use Rattle.std.specs.Prelude.{IfErr, IfOk}
 use Rattle.far_word.specs.declared.refused.Refused.{Refused as Refusal}
 use Rattle.far_log.specs.declared.row.LogRow.{LogRow}
 use Rattle.far_evac.specs.declared.answers.EvacFault.{EvacFault}
@@ -10,10 +10,10 @@ use Rattle.far_evac.specs.EvacOf.{EvacOf}
 use Rattle.far_evac.specs.Moment.{nothing, progress_of}
 use Rattle.far_table.specs.declared.book.BookSeat.{BookSeat}
 use Rattle.far_heap.specs.HeapId.{HeapId}
-use Rattle.far_heap.specs.Rounds.{Chose, ChoseNone, IsUnchosen, RefusesRound, rows_of}
+use Rattle.far_heap.specs.Rounds.{Chose, ChoseNone, EndsAfter, IsUnchosen, RefusesRound, rows_of}
 use Rattle.far_text.specs.Command.{Policy}
 use Rattle.far_split.specs.FarSides.{FarSide}
-use Rattle.far_split.specs.BookTold.{Gives, StopsRound, none_done}
+use Rattle.far_split.specs.BookTold.{EndsRound, Gives, StopsRound, none_done}
 
 module _ {P : Type 0} (gives : P → List LogRow → ℕ → Result (List ℕ) Refusal → P → Type 0) (policy : Policy)
     (is : (before after : P) (rows : List LogRow) (most : ℕ) (outcome : Result (List ℕ) Refusal) → gives before rows most outcome after → Gives policy tt rows most outcome tt) where
@@ -32,6 +32,15 @@ module _ {P : Type 0} (gives : P → List LogRow → ℕ → Result (List ℕ) R
           begun = c.begun;
         };
       }
+
+  ended_by : (heap : HeapId) (before after : P) (most n turns : ℕ) (end : RoundEnd) → most ≡ n → ((logs : List ℕ) × Chose gives FarSide heap before most after logs × EndsAfter FarSide heap logs turns end)
+      → EndsRound heap policy n turns end
+  ended_by heap before after most n turns end same (logs, chose, ends) = subst (λ k. EndsRound heap policy k turns end) same (logs, chosen_by heap before after most logs chose, ends)
+
+  pub all_ended_by : (heap : HeapId) (before after : P) (most n turns : ℕ) (result : Result RoundEnd EvacFault) → most ≡ n
+      → IfOk result (λ end. (logs : List ℕ) × Chose gives FarSide heap before most after logs × EndsAfter FarSide heap logs turns end) → IfOk result (EndsRound heap policy n turns)
+  all_ended_by heap before after most n turns (Ok end) same ended = ended_by heap before after most n turns end same ended
+  all_ended_by heap before after most n turns (Err fault) same ended = tt
 
   cause_by : (heap : HeapId) (before after : P) (most : ℕ) (e : EvacOf (BookSeat FarSide) FarSide) (why : Refusal) → IsUnchosen gives heap before most after e why → IsUnchosen (Gives policy) heap tt most tt e why
   cause_by heap before after most e why (inl (cause, same)) = inl (cause, refl)

@@ -1,5 +1,5 @@
 -- What the book is told to tell is whole, and short.
-use Rattle.std.proofs.Common.{◌≡◌, ℕ, zero, suc, ◌+◌, ◌*◌, ◌/◌, ◌<◌, ◌≤◌, Bool, true, false, cond, not, refl, Option, Some, None, List, [], ◌∷◌, length, length-append, ap, arith, ◌-◌, ◌++◌, ◌∙◌, sym}
+use Rattle.std.proofs.Common.{◌≡◌, ℕ, zero, suc, ◌+◌, ◌*◌, ◌/◌, ◌<◌, ◌≤◌, Bool, true, false, cond, not, refl, Option, Some, None, List, [], ◌∷◌, length, length-append, ap, arith, ◌-◌, ◌++◌, ◌∙◌, append_assoc, drop, subst, sym}
 use Rattle.std.specs.Prelude.{map}
 use Rattle.std.specs.List.{AllByRecursion, flat_map, range_with_len}
 use Rattle.std.proofs.lemmas.List.FromFn.{length-map-range_with_len, map-range_with_len_more}
@@ -24,7 +24,11 @@ use Rattle.far_evac.specs.Census.{homes_of, housed_at, housed_in, kind_in, logs_
 use Rattle.far_evac.specs.Moment.{Moment}
 use Rattle.far_replay.specs.declared.reply.LogLine.{LogLine}
 use Rattle.far_replay.specs.Turn.{log_line}
-use Rattle.far_split.specs.BookTold.{MakesLog}
+use Rattle.far_heap.specs.HeapId.{HeapId}
+use Rattle.far_text.specs.Command.{Command}
+use Rattle.far_replay.specs.Reply.{Reply}
+use Rattle.far_split.specs.BookTold.{BookTold, MakesLog, TellsLine}
+use Rattle.far_split.specs.Here.{commands_of}
 use Rattle.far_split.specs.Kept.{line_told, lines_told}
 use Rattle.far_split.specs.declared.told.LogWords.{LogWords}
 use Rattle.far_split.proofs.Keeping.{logs_more as lines_more_told}
@@ -94,3 +98,12 @@ homes_few s law homes are = omega (arith, ap length are, few_from s 0 (CELLS * s
 
 pub logs_few : (m : Moment) → Law (own_part m.core) → (logs : List LogState) → logs ≡ logs_of m → length logs < 65536
 logs_few m law logs are = omega (arith, ap length are, length-map-range_with_len {X = LogState} (λ l. record { kind = kind_in m l; row = row_of m.core l }) 0 m.core.logs, law.shape.few_logs)
+
+-- ---- one line of the book's more
+pub one_told : (heap : HeapId) (lines : List (ℕ × Command)) (at : ℕ) (line : ℕ × Command) (told all more : List Reply) (r : Reply) → drop at lines ≡ line ∷ drop (at + 1) lines → all ≡ told ++ r ∷ [] → TellsLine heap line.1 r
+    → ((rest : List Reply) → BookTold heap (commands_of (drop at lines)) rest → BookTold heap (commands_of lines) (told ++ rest))
+    → BookTold heap (commands_of (drop (at + 1) lines)) more → BookTold heap (commands_of lines) (all ++ more)
+one_told heap lines at line told all more r here are tells so_far later =
+    subst (λ (xs : List Reply). BookTold heap (commands_of lines) (xs ++ more)) (sym are)
+    (subst (BookTold heap (commands_of lines)) (sym (append_assoc told (r ∷ []) more))
+    (so_far (r ∷ more) (subst (λ (ls : List (ℕ × Command)). BookTold heap (commands_of ls) (r ∷ more)) (sym here) (tells, later))))

@@ -5,9 +5,9 @@ use Rattle.far_word.specs.declared.refused.Refused.TheVariants.{Length, NotHeld,
 use Rattle.far_word.specs.declared.sizes.TheConstants.{LONGEST}
 use Rattle.far_heap.specs.HeapId.{HeapId}
 use Rattle.far_heap.specs.Mine.{Mine, Object, len_in, object_of, uses, views}
-use Rattle.far_text.specs.Command.{Mutator, Request}
+use Rattle.far_text.specs.Command.{Mutator, Request, Close, Read, Try, View, Write}
 use Rattle.far_replay.specs.Alone.{Own}
-use Rattle.far_replay.specs.Reply.{IsShort, Reply}
+use Rattle.far_replay.specs.Reply.{IsShort, Reply, Logs}
 use Rattle.far_split.specs.Here.{KnowsHere, TellsOfHeap}
 use Rattle.far_split.specs.declared.access.Access.{Access}
 use Rattle.far_split.specs.declared.slot.Slot.{Slot}
@@ -29,6 +29,20 @@ abbrev pub mine_in : {K : Type 0} → Slot K → Mine
 mine_in (Closed mutator) = mutator
 mine_in (Open scope) = scope
 
+-- it tells nothing of logs
+abbrev pub TellsNoLogs : Reply → Type 0
+TellsNoLogs (Logs lines) = ⊥
+TellsNoLogs r = Unit {0}
+
+-- a request that wants an open scope
+abbrev pub needs_scope : Request → Bool
+needs_scope Close = true
+needs_scope (Read p from len) = true
+needs_scope (Write p from bytes) = true
+needs_scope (View p) = true
+needs_scope (Try p) = true
+needs_scope request = false
+
 -- a mutator that knows this is told a reply, and knows that then; and what the reply tells of the heap
 pub record Learns (heap : HeapId) (m : Mine) (o : Own) (request : Request) (r : Reply) (n : Mine) : Type 0 where
   pub own : Own
@@ -40,6 +54,7 @@ pub record Learns (heap : HeapId) (m : Mine) (o : Own) (request : Request) (r : 
 pub record Answers (heap : HeapId) (m : Mine) (request : Request) (r : Reply) (n : Mine) : Type 0 where
   pub learns : (o : Own) → IsOwn m o → Learns heap m o request r n
   pub short : IsShort r
+  pub logless : TellsNoLogs r
   pub number : n.number ≡ m.number
   pub honest : n.honest ≡ m.honest
 

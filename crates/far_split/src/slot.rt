@@ -1,9 +1,9 @@
 //! A mutator between two of its lines, and how its requests are made by the heap's calls.
 
 ghost use Rattle.std.specs.Prelude.{◌≡◌, true, false, IfOk};
-ghost use Rattle.far_text.specs.Command.{as_request, Drop, New, Read, Try, View, Write};
+ghost use Rattle.far_text.specs.Command.{as_request, Drop, New, Open, Read, Try, View, Write};
 ghost use Rattle.far_text.specs.Threads.{is_own};
-ghost use Rattle.far_split.specs.Slots.{Answers, mine_in};
+ghost use Rattle.far_split.specs.Slots.{Answers, mine_in, needs_scope};
 ghost use Rattle.far_split.specs.Told.{as_reply};
 
 use crate::access::{pointer_of, reach, sizes_of};
@@ -175,6 +175,24 @@ fn write<K: HeapName, R: Wait>(
     Answer::Done
 }
 
+// A request that wants an open scope is refused while it is closed.
+fn refuse_closed<K: HeapName>(mutator: &Mutator<K, FarSide>, request: Request<'_>) -> Answer
+    requires wants { needs_scope (as_request request) ≡ true }
+    ensures { Answers K.heap mutator.now (as_request request.entry) (as_reply result) mutator.now }
+{
+    mutator.keeps_law();
+    let _ = request;
+    Answer::Refused(Refused::Closed)
+}
+
+// A scope that is open isn't opened again.
+fn refuse_open<K: HeapName>(scope: &Scope<K, FarSide>) -> Answer
+    ensures { Answers K.heap scope.now Open (as_reply result) scope.now }
+{
+    scope.keeps_law();
+    Answer::Refused(Refused::AlreadyOpen)
+}
+
 // Answers a mutator's request while its scope is closed.
 fn answer_closed<K: HeapName, R: Wait>(
     rt: &R,
@@ -193,7 +211,7 @@ fn answer_closed<K: HeapName, R: Wait>(
         | Request::Read { .. }
         | Request::Write { .. }
         | Request::View { .. }
-        | Request::Try { .. } => Answer::Refused(Refused::Closed),
+        | Request::Try { .. } => refuse_closed(&mutator, request),
         Request::Where { .. } | Request::Epoch => unreachable!(),
     };
     (Slot::Closed(mutator), told)
@@ -212,7 +230,7 @@ fn answer_open<K: HeapName, R: Wait>(
     scope.keeps_law();
     let told = match request {
         Request::Close => return Ok((Slot::Closed(scope.close()), Answer::Done)),
-        Request::Open => Answer::Refused(Refused::AlreadyOpen),
+        Request::Open => refuse_open(&scope),
         Request::New { len, structure } => make_open(rt, &mut scope, len, structure),
         Request::Drop { pointer } => drop_open(rt, &mut scope, pointer),
         Request::View { pointer } => view(rt, &mut scope, pointer),

@@ -7,7 +7,7 @@ use Rattle.far_replay.specs.Reply.{IsShort}
 use Rattle.far_split.specs.Here.{commands_of}
 use Rattle.far_split.specs.Slots.{mine_in}
 use Rattle.far_split.specs.Told.{as_reply}
-use Rattle.far_split.proofs.OwnLines.{AnswersAll, all_alone, all_short, alone_first, alone_last, answered_line, asks_now, is_mutators, own_now}
+use Rattle.far_split.proofs.OwnLines.{AnswersAll, all_alone, all_short, alone_first, alone_last, answered_line, asks_now, few_logs, is_mutators, own_now}
 use Rattle.far_split.proofs.mutators.make_lines.Goals as goal
 
 pub loop-at-init : goal.loop-at-init
@@ -29,6 +29,9 @@ answer-requires g c = record {
   own =
       asks_now g.K.HeapName.heap.mutators c.args.number c.loop-at.at c.at.result.0 c.at.result.1 c.in-Mutator.mutator c.in-Mutator.request c.args.lines.now c.requires.own c.at.ensures.value c.in-Mutator.is;
 }
+
+pub push-requires-clause-logs : goal.push-requires-clause-logs
+push-requires-clause-logs g c = few_logs c.in-Ok-answer.answer c.in-Ok-answer.ensures.logless
 
 pub loop-at-preserved : goal.loop-at-preserved
 loop-at-preserved g c =
