@@ -117,3 +117,11 @@ asks_now mutators number at n c k request lines own here spelled =
 pub few_logs : (answer : Answer) → TellsNoLogs (as_reply answer) → TellsFewLogs answer
 few_logs (answers.Logs first rows) none = absurd none
 few_logs answer none = tt
+
+-- a request as it is spelled was answered so, where what is told and the mutator are these
+pub same_answers : (heap : HeapId) (m : Mine) (spelled : SpelledRequest) (request : Request) (said told : Answer) (n later : Mine) → as_request spelled ≡ request → told ≡ said → later ≡ n
+    → Answers heap m request (as_reply said) n → Answers heap m (as_request spelled) (as_reply told) later
+same_answers heap m spelled request said told n later asks says is answers =
+    subst (λ (z : Mine). Answers heap m (as_request spelled) (as_reply told) z) (sym is)
+    (subst (λ (t : Answer). Answers heap m (as_request spelled) (as_reply t) n) (sym says)
+    (subst (λ (r : Request). Answers heap m r (as_reply said) n) (sym asks) answers))
