@@ -1,10 +1,10 @@
 -- What is allowed of a mutator that is alone, and beside others.
-use Rattle.std.proofs.Common.{◌≡◌, ℕ, Bool, true, false, List, [], ◌∷◌, sym, subst, inl, inr, refl}
+use Rattle.std.proofs.Common.{◌≡◌, ℕ, Bool, true, false, [], ◌∷◌, sym, subst, inl, inr, refl}
 use Rattle.std.specs.Bool.{MatchBool}
 use Rattle.far_text.specs.Command.{Command}
-use Rattle.far_replay.specs.Alone.{Alone, IsMisled, Knows, KnowsBy, Own}
+use Rattle.far_replay.specs.Alone.{Alone, IsMisled, KnowsBy, Own}
 use Rattle.far_replay.specs.Reply.{Reply}
-use Rattle.far_split.specs.Here.{AloneHere, AloneIsAloneHere, AloneOnIsAloneHere, AreBy, AreUndamaged, Hindered, HonestIsAllowed, IsGivenOthers, IsUndamaged, KnowsHere, UnhinderedIsAlone}
+use Rattle.far_split.specs.Here.{AloneIsAloneHere, AloneOnIsAloneHere, HonestIsAllowed, IsGivenOthers, IsUndamaged, KnowsHere, UnhinderedIsAlone}
 
 -- a mutator that is misled is given other bytes
 misled_here : (m : ℕ) (o : Own) (c : Command) (r : Reply) (q : Own) → IsMisled m o c r q → IsGivenOthers m o c r q

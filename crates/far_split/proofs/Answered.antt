@@ -18,7 +18,7 @@ use Rattle.far_heap.proofs.Spliced.{length-with_range, with_range_inside}
 use Rattle.far_text.specs.Command.{Close, Command, Drop, Mutator, New, Open, Read, Request, Try, View, Write}
 use Rattle.far_replay.specs.Alone.{Knows, Own}
 use Rattle.far_replay.specs.Reply.{Data, Done, Pointer, Refused, Reply}
-use Rattle.far_replay.proofs.Fronts.{range_length, ranges_same}
+use Rattle.far_replay.proofs.Fronts.{ranges_same}
 use Rattle.far_split.specs.FarSides.{FarSide}
 use Rattle.far_split.specs.Here.{Hindered, IsUndamaged, KnowsHere, TellsOfHeap}
 use Rattle.far_split.specs.Slots.{Answers, AreSizes, IsOwn, IsReached, Learns, needs_scope}

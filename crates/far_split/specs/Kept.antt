@@ -1,6 +1,5 @@
 -- How replies are kept: what is long in them stands in lists of its own.
-use Rattle.std.specs.Prelude.{ℕ, ◌+◌, ◌-◌, ◌*◌, ◌<◌, ◌≤◌, List, [], ◌∷◌, length, slice_index_or, slice_range}
-use Rattle.far_word.specs.declared.sizes.TheConstants.{LONGEST}
+use Rattle.std.specs.Prelude.{ℕ, ◌+◌, ◌-◌, ◌*◌, ◌<◌, ◌≤◌, List, [], ◌∷◌, slice_index_or, slice_range}
 use Rattle.far_evac.specs.declared.answers.RoundEnd.TheVariants.{Nothing}
 use Rattle.far_replay.specs.declared.reply.LogLine.{LogLine}
 use Rattle.far_replay.specs.Reply.{Reply, Done, Pointer, Data, Logs, Audited, Ended, Refused, Halted}
