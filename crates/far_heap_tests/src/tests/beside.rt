@@ -215,7 +215,7 @@ impl CrewTrial<MemDevice> for Beside {
             return false;
         };
         ends_with_a_round(rt, heap)
-            && of_book(rt, heap, has_all_objects)
+            && of_book!(rt, heap, book, has_all_objects(book))
             && are_right(rt, done)
             && gate.rounds.count() >= self.least
     }

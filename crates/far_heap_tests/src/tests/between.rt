@@ -1,7 +1,7 @@
 //! When the lock is let go, as another thread sees it that keeps taking it: between two turns of a round; not between bringing an object and its pin.
 
 use crate::tests::flag::Tally;
-use crate::tests::lend::{CrewTrial, Lent, try_all};
+use crate::tests::lend::{CrewTrial, Lent, closed, opened, try_all};
 use crate::tests::looks::{blank, is_marked, is_unpinned, sized};
 use far_device::MemDevice;
 use far_evac::{LogKind, Phase, RoundEnd};
@@ -81,7 +81,7 @@ fn keeps_rounding<K: HeapName, R: Wait>(
         if seen.has_both() {
             break;
         }
-        if !lent.opened(|scope| views_all(rt, scope)) || !makes_round(rt, heap) {
+        if !opened!(lent, scope, views_all(rt, scope)) || !makes_round(rt, heap) {
             return false;
         }
     }
@@ -194,9 +194,9 @@ fn sends_all_far<K: HeapName, R: Wait>(
     heap: &Heap<K, MemDevice>,
     lent: &mut Lent<K, MemDevice>,
 ) -> bool {
-    lent.closed(|mutator| seals(rt, mutator))
+    closed!(lent, mutator, seals(rt, mutator))
         && makes_round(rt, heap)
-        && lent.closed(|mutator| seals(rt, mutator))
+        && closed!(lent, mutator, seals(rt, mutator))
         && makes_round(rt, heap)
 }
 
@@ -251,7 +251,9 @@ fn keeps_viewing<K: HeapName, R: Wait>(
         if views.unpinned.count() > 0 {
             break;
         }
-        if !sends_all_far(rt, heap, lent) || !lent.opened(|scope| views_all_far(rt, scope, views)) {
+        if !sends_all_far(rt, heap, lent)
+            || !opened!(lent, scope, views_all_far(rt, scope, views))
+        {
             return false;
         }
     }

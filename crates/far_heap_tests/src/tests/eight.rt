@@ -185,7 +185,7 @@ impl CrewTrial<MemDevice> for InTwoLogs {
         let Some(all) = made(rt, alloc, mutators, 1, 120) else {
             return false;
         };
-        of_book(rt, heap, is_full)
+        of_book!(rt, heap, book, is_full(book))
             && finds_nothing(rt, heap)
             && ends_with(rt, alloc, all, 1, Refused::NoRoom)
     }
@@ -236,7 +236,7 @@ impl CrewTrial<MemDevice> for InMostLogs {
         let Some(all) = made(rt, alloc, mutators, 128, 48) else {
             return false;
         };
-        of_book(rt, heap, are_all_near)
+        of_book!(rt, heap, book, are_all_near(book))
             && empties_all(rt, heap)
             && sends_far(rt, heap)
             && ends_with(rt, alloc, all, 128, Refused::NoPointer)

@@ -3,7 +3,7 @@
 ghost use Rattle.std.specs.Prelude.{◌≡◌};
 
 use crate::tests::flag::Tally;
-use crate::tests::lend::{CrewTrial, Lent, of_book, try_all};
+use crate::tests::lend::{CrewTrial, Lent, of_book, opened, try_all};
 use crate::tests::looks::{blank, has_objects, is_dropped, sized};
 use crate::tests::scopes::{EIGHT, has, makes, reads, viewed, writes};
 use crate::tests::steps::{deals, gives_up, is_clear, marks, selects};
@@ -47,7 +47,7 @@ fn reads_beside<K: HeapName, R: Wait>(
     held: &Tally,
     read: &Tally,
 ) -> bool {
-    let done = held.wait_for(1) && lent.opened(|scope| writes_by_view(rt, scope));
+    let done = held.wait_for(1) && opened!(lent, scope, writes_by_view(rt, scope));
     read.raise();
     done
 }
@@ -206,7 +206,7 @@ impl CrewTrial<MemDevice> for DroppedBeside {
         lent.makes(rt, 8, 0)
             && lent.makes(rt, 1016, 1)
             && drops_and_retires(rt, heap, &mut lent)
-            && of_book(rt, heap, has_one)
+            && of_book!(rt, heap, book, has_one(book))
             && lent.makes(rt, 8, 0)
     }
 }
@@ -266,7 +266,11 @@ impl CrewTrial<MemDevice> for EndedRound {
         let mut lent = Lent::last_of(&mut mutators);
         lent.makes(rt, 8, 0)
             && lent.makes(rt, 1016, 1)
-            && lent.opened(|scope| { is_ended_beside(rt, heap) && reads(scope, 0, [0; 8]) })
+            && opened!(
+                lent,
+                scope,
+                { is_ended_beside(rt, heap) && reads(scope, 0, [0; 8]) }
+            )
     }
 }
 
