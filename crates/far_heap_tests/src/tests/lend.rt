@@ -8,7 +8,6 @@ use far_word::Refused;
 use std::alloc::Global;
 use std::marker::Brand;
 use std::sync::Wait;
-use std::thread::Threads;
 
 /// A mutator that is lent.
 #[derive(Drop)]
@@ -150,18 +149,6 @@ pub(super) trait PairTrial<D: Device + Drop> {
     ) -> bool;
 }
 
-/// What is tried in threads, on a heap of any number.
-pub(super) trait CrewTrial<D: Device + Drop> {
-    /// Whether it comes out as it should.
-    fn holds<K: HeapName + Send + Sync, R: Threads + Wait + Sync>(
-        &self,
-        rt: &R,
-        alloc: Global,
-        heap: &Heap<K, D>,
-        mutators: Vec<Mutator<K, D>>,
-    ) -> bool;
-}
-
 fn lend_one<K: HeapName, D: Device + Drop, R: Wait, T: Trial<D>>(
     rt: &R,
     alloc: Global,
@@ -197,20 +184,6 @@ fn lend_two<K: HeapName, D: Device + Drop, R: Wait, T: PairTrial<D>>(
     }
 }
 
-fn lend_all<K: HeapName + Send + Sync, D: Device + Drop, R: Threads + Wait + Sync, T: CrewTrial<D>>(
-    rt: &R,
-    alloc: Global,
-    blank: Blank<D>,
-    trial: &T,
-) -> bool
-    requires { blank.heap ≡ K.heap }
-{
-    match Heap::<K, D>::new(alloc, blank) {
-        Ok((heap, mutators)) => trial.holds(rt, alloc, &heap, mutators),
-        Err(_) => false,
-    }
-}
-
 /// Whether a trial on a heap of these parts comes out as it should.
 pub(super) fn try_one<D: Device + Drop, R: Wait, T: Trial<D>>(
     rt: &R,
@@ -229,14 +202,4 @@ pub(super) fn try_two<D: Device + Drop, R: Wait, T: PairTrial<D>>(
     trial: &T,
 ) -> bool {
     lend_two::<Brand, D, R, T>(rt, alloc, blank, trial)
-}
-
-/// The same in threads.
-pub(super) fn try_all<D: Device + Drop, R: Threads + Wait + Sync, T: CrewTrial<D>>(
-    rt: &R,
-    alloc: Global,
-    blank: Blank<D>,
-    trial: &T,
-) -> bool {
-    lend_all::<Brand, D, R, T>(rt, alloc, blank, trial)
 }
