@@ -1,14 +1,16 @@
 //! Rounds beside four mutators at work, each in a thread of its own.
 
+ghost use Rattle.std.specs.Prelude.{◌≡◌};
+
 use crate::tests::flag::Tally;
-use crate::tests::lend::{CrewTrial, of_book, try_all};
 use crate::tests::looks::{blank, has_objects, sized};
 use crate::tests::writers::Writer;
 use far_device::MemDevice;
 use far_evac::RoundEnd;
-use far_heap::{Evacuator, Heap, HeapName, Mutator};
+use far_heap::{Blank, Heap, HeapName, Mutator};
 use far_policy::Oldest;
 use std::alloc::{AllocError, Global};
+use std::marker::Brand;
 use std::sync::Wait;
 use std::test::Fail;
 use std::thread;
@@ -182,43 +184,34 @@ fn ends_with_a_round<K: HeapName, R: Wait>(rt: &R, heap: &Heap<K, MemDevice>) ->
     matches!(end, Ok(RoundEnd::Done(_)) | Ok(RoundEnd::Nothing))
 }
 
-// Whether all 64 objects are there.
-fn has_all_objects<K: HeapName>(book: &mut Evacuator<K, MemDevice>) -> bool {
-    has_objects(book, 64)
-}
-
-// What all threads do, and how many rounds are to be done at least while all write.
-#[derive(Clone, Copy)]
-struct Beside {
+// How many rounds were done while all wrote; `None` where something was wrong.
+fn made_beside<K: HeapName + Send + Sync, R: Threads + Wait + Sync>(
+    rt: &R,
+    alloc: Global,
+    blank: Blank<MemDevice>,
     plan: Plan,
-    least: u64,
-}
-
-impl CrewTrial<MemDevice> for Beside {
-    fn holds<K: HeapName + Send + Sync, R: Threads + Wait + Sync>(
-        &self,
-        rt: &R,
-        alloc: Global,
-        heap: &Heap<K, MemDevice>,
-        mutators: Vec<Mutator<K, MemDevice>>,
-    ) -> bool {
-        let Ok(jobs) = jobs_of(alloc, mutators) else {
-            return false;
-        };
-        let gate = Gate {
-            begun: Tally::new(),
-            ended: Tally::new(),
-            rounds: Tally::new(),
-        };
-        let (beside, plan) = (&gate, self.plan);
-        let Ok(done) = thread::map_vec(rt, jobs, &|job| run(rt, heap, beside, plan, job)) else {
-            return false;
-        };
-        ends_with_a_round(rt, heap)
-            && of_book(rt, heap, has_all_objects)
-            && are_right(rt, done)
-            && gate.rounds.count() >= self.least
+) -> Option<u64>
+    requires { blank.heap ≡ K.heap }
+{
+    let Ok((heap, mutators)) = Heap::<K, MemDevice>::new(alloc, blank) else {
+        return None;
+    };
+    let Ok(jobs) = jobs_of(alloc, mutators) else {
+        return None;
+    };
+    let gate = Gate {
+        begun: Tally::new(),
+        ended: Tally::new(),
+        rounds: Tally::new(),
+    };
+    let (shared, beside) = (&heap, &gate);
+    let Ok(done) = thread::map_vec(rt, jobs, &|job| run(rt, shared, beside, plan, job)) else {
+        return None;
+    };
+    if !ends_with_a_round(rt, &heap) || !has_objects(&mut *heap.book(rt), 64) {
+        return None;
     }
+    are_right(rt, done).then_some(gate.rounds.count())
 }
 
 #[test]
@@ -234,7 +227,8 @@ fn rounds_beside_writers(rt: HostRuntime) -> Result<(), Fail> {
         stops: false,
     };
     let blank = blank(&rt, sized(16, WRITERS))?;
-    assert!(rt; try_all(&rt, rt.alloc(), blank, &Beside { plan, least: 0 }));
+    let made = made_beside::<Brand, _>(&rt, rt.alloc(), blank, plan);
+    assert!(rt; made.is_some());
     Ok(())
 }
 
@@ -252,6 +246,7 @@ fn rounds_while_writing(rt: HostRuntime) -> Result<(), Fail> {
         stops: true,
     };
     let blank = blank(&rt, sized(16, WRITERS))?;
-    assert!(rt; try_all(&rt, rt.alloc(), blank, &Beside { plan, least: 20 }));
+    let made = made_beside::<Brand, _>(&rt, rt.alloc(), blank, plan);
+    assert!(rt; matches!(made, Some(rounds) if rounds >= 20), "{made:?}");
     Ok(())
 }

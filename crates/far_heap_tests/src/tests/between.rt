@@ -1,13 +1,16 @@
 //! When the lock is let go, as another thread sees it that keeps taking it: between two turns of a round; not between bringing an object and its pin.
 
+ghost use Rattle.std.specs.Prelude.{◌≡◌};
+
 use crate::tests::flag::Tally;
-use crate::tests::lend::{CrewTrial, Lent, try_all};
+use crate::tests::lend::{Lent, closed, opened};
 use crate::tests::looks::{blank, is_marked, is_unpinned, sized};
 use far_device::MemDevice;
 use far_evac::{LogKind, Phase, RoundEnd};
-use far_heap::{Evacuator, Heap, HeapName, Mutator, Scope, Tried};
+use far_heap::{Blank, Evacuator, Heap, HeapName, Mutator, Scope, Tried};
 use far_policy::Oldest;
 use std::alloc::Global;
+use std::marker::Brand;
 use std::sync::Wait;
 use std::test::Fail;
 use std::thread::{Threads, join};
@@ -81,7 +84,7 @@ fn keeps_rounding<K: HeapName, R: Wait>(
         if seen.has_both() {
             break;
         }
-        if !lent.opened(|scope| views_all(rt, scope)) || !makes_round(rt, heap) {
+        if !opened!(lent, scope, views_all(rt, scope)) || !makes_round(rt, heap) {
             return false;
         }
     }
@@ -138,37 +141,51 @@ fn keeps_looking<K: HeapName, R: Wait>(rt: &R, heap: &Heap<K, MemDevice>, seen: 
     }
 }
 
-// Rounds beside a thread that keeps taking the lock.
-struct SeenBetween;
+// Makes rounds, and tells when no more are made.
+fn rounds_on<K: HeapName, R: Wait>(
+    rt: &R,
+    heap: &Heap<K, MemDevice>,
+    lent: &mut Lent<K, MemDevice>,
+    seen: &Seen,
+) -> bool {
+    let done = keeps_rounding(rt, heap, lent, seen);
+    seen.over.raise();
+    done
+}
 
-impl CrewTrial<MemDevice> for SeenBetween {
-    fn holds<K: HeapName + Send + Sync, R: Threads + Wait + Sync>(
-        &self,
-        rt: &R,
-        _alloc: Global,
-        heap: &Heap<K, MemDevice>,
-        mut mutators: Vec<Mutator<K, MemDevice>>,
-    ) -> bool {
-        let mut lent = Lent::last_of(&mut mutators);
-        if !makes_all(rt, &mut lent) {
-            return false;
+// Rounds beside a thread that keeps taking the lock.
+fn sees_between<K: HeapName + Send + Sync, R: Threads + Wait + Sync>(
+    rt: &R,
+    heap: &Heap<K, MemDevice>,
+    lent: &mut Lent<K, MemDevice>,
+) -> bool {
+    let seen = Seen {
+        marking: Tally::new(),
+        leaving: Tally::new(),
+        over: Tally::new(),
+    };
+    let told = &seen;
+    let (done, _) = join(
+        rt,
+        move || rounds_on(rt, heap, lent, told),
+        move || keeps_looking(rt, heap, told),
+    );
+    done && seen.has_both()
+}
+
+fn run_rounds<K: HeapName + Send + Sync, R: Threads + Wait + Sync>(
+    rt: &R,
+    alloc: Global,
+    blank: Blank<MemDevice>,
+) -> bool
+    requires { blank.heap ≡ K.heap }
+{
+    match Heap::<K, MemDevice>::new(alloc, blank) {
+        Ok((heap, mut mutators)) => {
+            let mut lent = Lent::last_of(&mut mutators);
+            makes_all(rt, &mut lent) && sees_between(rt, &heap, &mut lent)
         }
-        let seen = Seen {
-            marking: Tally::new(),
-            leaving: Tally::new(),
-            over: Tally::new(),
-        };
-        let (told, worker) = (&seen, &mut lent);
-        let (done, _) = join(
-            rt,
-            move || {
-                let done = keeps_rounding(rt, heap, worker, told);
-                told.over.raise();
-                done
-            },
-            move || keeps_looking(rt, heap, told),
-        );
-        done && seen.has_both()
+        Err(_) => false,
     }
 }
 
@@ -176,7 +193,7 @@ impl CrewTrial<MemDevice> for SeenBetween {
 #[test]
 fn the_lock_is_let_go_between_turns(rt: HostRuntime) -> Result<(), Fail> {
     let alloc = rt.alloc();
-    assert!(rt; try_all(&rt, alloc, blank(&rt, sized(8, 1))?, &SeenBetween));
+    assert!(rt; run_rounds::<Brand, HostRuntime>(&rt, alloc, blank(&rt, sized(8, 1))?));
     Ok(())
 }
 
@@ -194,9 +211,9 @@ fn sends_all_far<K: HeapName, R: Wait>(
     heap: &Heap<K, MemDevice>,
     lent: &mut Lent<K, MemDevice>,
 ) -> bool {
-    lent.closed(|mutator| seals(rt, mutator))
+    closed!(lent, mutator, seals(rt, mutator))
         && makes_round(rt, heap)
-        && lent.closed(|mutator| seals(rt, mutator))
+        && closed!(lent, mutator, seals(rt, mutator))
         && makes_round(rt, heap)
 }
 
@@ -251,7 +268,9 @@ fn keeps_viewing<K: HeapName, R: Wait>(
         if views.unpinned.count() > 0 {
             break;
         }
-        if !sends_all_far(rt, heap, lent) || !lent.opened(|scope| views_all_far(rt, scope, views)) {
+        if !sends_all_far(rt, heap, lent)
+            || !opened!(lent, scope, views_all_far(rt, scope, views))
+        {
             return false;
         }
     }
@@ -278,37 +297,51 @@ fn keeps_watching<K: HeapName, R: Wait>(rt: &R, heap: &Heap<K, MemDevice>, views
     }
 }
 
-// Views beside a thread that keeps taking the lock.
-struct PinnedAtOnce;
+// Views, and tells when no more are made.
+fn views_on<K: HeapName, R: Wait>(
+    rt: &R,
+    heap: &Heap<K, MemDevice>,
+    lent: &mut Lent<K, MemDevice>,
+    views: &Views,
+) -> bool {
+    let done = keeps_viewing(rt, heap, lent, views);
+    views.over.raise();
+    done
+}
 
-impl CrewTrial<MemDevice> for PinnedAtOnce {
-    fn holds<K: HeapName + Send + Sync, R: Threads + Wait + Sync>(
-        &self,
-        rt: &R,
-        _alloc: Global,
-        heap: &Heap<K, MemDevice>,
-        mut mutators: Vec<Mutator<K, MemDevice>>,
-    ) -> bool {
-        let mut lent = Lent::last_of(&mut mutators);
-        if !makes_all(rt, &mut lent) {
-            return false;
+// Views beside a thread that keeps taking the lock.
+fn is_pinned_at_once<K: HeapName + Send + Sync, R: Threads + Wait + Sync>(
+    rt: &R,
+    heap: &Heap<K, MemDevice>,
+    lent: &mut Lent<K, MemDevice>,
+) -> bool {
+    let views = Views {
+        turn: Tally::new(),
+        unpinned: Tally::new(),
+        over: Tally::new(),
+    };
+    let told = &views;
+    let (done, _) = join(
+        rt,
+        move || views_on(rt, heap, lent, told),
+        move || keeps_watching(rt, heap, told),
+    );
+    done && views.unpinned.count() == 0
+}
+
+fn run_views<K: HeapName + Send + Sync, R: Threads + Wait + Sync>(
+    rt: &R,
+    alloc: Global,
+    blank: Blank<MemDevice>,
+) -> bool
+    requires { blank.heap ≡ K.heap }
+{
+    match Heap::<K, MemDevice>::new(alloc, blank) {
+        Ok((heap, mut mutators)) => {
+            let mut lent = Lent::last_of(&mut mutators);
+            makes_all(rt, &mut lent) && is_pinned_at_once(rt, &heap, &mut lent)
         }
-        let views = Views {
-            turn: Tally::new(),
-            unpinned: Tally::new(),
-            over: Tally::new(),
-        };
-        let (told, worker) = (&views, &mut lent);
-        let (done, _) = join(
-            rt,
-            move || {
-                let done = keeps_viewing(rt, heap, worker, told);
-                told.over.raise();
-                done
-            },
-            move || keeps_watching(rt, heap, told),
-        );
-        done && views.unpinned.count() == 0
+        Err(_) => false,
     }
 }
 
@@ -316,6 +349,6 @@ impl CrewTrial<MemDevice> for PinnedAtOnce {
 #[test]
 fn a_fetched_object_is_pinned_before_the_lock_is_let_go(rt: HostRuntime) -> Result<(), Fail> {
     let alloc = rt.alloc();
-    assert!(rt; try_all(&rt, alloc, blank(&rt, sized(16, 1))?, &PinnedAtOnce));
+    assert!(rt; run_views::<Brand, HostRuntime>(&rt, alloc, blank(&rt, sized(16, 1))?));
     Ok(())
 }

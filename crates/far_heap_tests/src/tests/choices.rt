@@ -70,7 +70,7 @@ fn ends_at<K: HeapName, R: Wait>(
     let mut policy = second_log();
     heap.run_round(rt, &mut policy, 1, turns) == Ok(RoundEnd::Limit(phase))
         && policy.times == 1
-        && of_book(rt, heap, |book| stands_in(book, phase))
+        && of_book!(rt, heap, book, stands_in(book, phase))
 }
 
 // Rounds whose turns are over before they are.
@@ -124,7 +124,9 @@ impl Trial<MemDevice> for ChosenAlone {
         heap: &Heap<K, MemDevice>,
         lent: &mut Lent<K, MemDevice>,
     ) -> bool {
-        seals_three(rt, lent) && runs_once(rt, heap) && of_book(rt, heap, is_the_second_free)
+        seals_three(rt, lent)
+            && runs_once(rt, heap)
+            && of_book!(rt, heap, book, is_the_second_free(book))
     }
 }
 

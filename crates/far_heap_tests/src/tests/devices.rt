@@ -7,7 +7,7 @@ ghost use Rattle.far_device.specs.Following.{Follows, any_key, other_than};
 ghost use Rattle.far_device.specs.Mem.{bytes_at, faults_of};
 ghost use Rattle.far_device.specs.Wrapping.{wrapped_below};
 
-use crate::tests::lend::{Lent, Trial, of_book, try_one};
+use crate::tests::lend::{Lent, Trial, of_book, opened, try_one};
 use crate::tests::looks::{is_far, is_log, is_near, sized};
 use crate::tests::scopes::{EIGHT, is_slow, reads, reads_slowly, writes};
 use crate::tests::steps::{deals, runs_none, runs_through};
@@ -162,7 +162,7 @@ pub(super) fn comes_to_log_two<K: HeapName, D: Device + Drop, R: Wait>(
 ) -> bool {
     lent.makes(rt, 8, 0)
         && lent.makes(rt, 1016, 1)
-        && lent.opened(|scope| writes(scope, 0, EIGHT))
+        && opened!(lent, scope, writes(scope, 0, EIGHT))
         && runs_through(rt, heap, &mut Oldest, [1, 0, 0, 1])
         && lent.makes(rt, 1016, 2)
 }
@@ -174,7 +174,7 @@ pub(super) fn sends_it_far<K: HeapName, D: Device + Drop, R: Wait>(
 ) -> bool {
     let mut script = Scripted { logs: &[2] };
     runs_through(rt, heap, &mut script, [0, 1, 0, 1])
-        && of_book(rt, heap, |book| is_far(book, 0, false))
+        && of_book!(rt, heap, book, is_far(book, 0, false))
 }
 
 // Whether a view of it is refused for this reason, and it stays far.
@@ -186,7 +186,7 @@ fn stays_far<K: HeapName, D: Device + Drop, R: Wait>(
 ) -> bool {
     is_slow(scope, 0)
         && scope.view(rt, 0) == Err(why)
-        && of_book(rt, heap, |book| is_far(book, 0, true))
+        && of_book!(rt, heap, book, is_far(book, 0, true))
 }
 
 // Whether a view of it is refused once, and the same call gives it after that, with what was written.
@@ -218,7 +218,7 @@ impl Trial<Faulty> for RefusedView {
         let why = self.why;
         comes_to_log_two(rt, heap, lent)
             && sends_it_far(rt, heap)
-            && lent.opened(|scope| comes_back(rt, heap, scope, why))
+            && opened!(lent, scope, comes_back(rt, heap, scope, why))
     }
 }
 
@@ -260,9 +260,9 @@ fn gives_up<K: HeapName>(book: &mut Evacuator<K, Faulty>) -> bool {
 // Whether the round goes on, or is given up.
 fn ends<K: HeapName, R: Wait>(rt: &R, heap: &Heap<K, Faulty>, by_going_on: bool) -> bool {
     if by_going_on {
-        of_book(rt, heap, goes_on)
+        of_book!(rt, heap, book, goes_on(book))
     } else {
-        of_book(rt, heap, gives_up)
+        of_book!(rt, heap, book, gives_up(book))
     }
 }
 
@@ -283,9 +283,9 @@ impl Trial<Faulty> for RefusedRound {
         let mut script = Scripted { logs: &[2] };
         comes_to_log_two(rt, heap, lent)
             && runs_none(rt, heap, &mut script, self.why)
-            && of_book(rt, heap, stands)
+            && of_book!(rt, heap, book, stands(book))
             && ends(rt, heap, self.goes_on)
-            && lent.opened(|scope| reads_slowly(rt, scope, 0, EIGHT))
+            && opened!(lent, scope, reads_slowly(rt, scope, 0, EIGHT))
     }
 }
 

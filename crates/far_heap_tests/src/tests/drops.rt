@@ -1,6 +1,6 @@
 //! A drop beside a running round frees its cell at once, in each phase of the round.
 
-use crate::tests::lend::{Lent, Trial, of_book, try_one};
+use crate::tests::lend::{Lent, Trial, of_book, opened, try_one};
 use crate::tests::looks::{blank, is_gone, sized};
 use crate::tests::steps::{deals, is_clear, marks, selects};
 use far_device::MemDevice;
@@ -29,10 +29,11 @@ fn frees<K: HeapName, R: Wait>(
     phase: Phase,
 ) -> bool {
     lent.drops(rt, pointer)
-        && of_book(
+        && of_book!(
             rt,
             heap,
-            |book| book.phase() == phase && is_gone(book, pointer),
+            book,
+            book.phase() == phase && is_gone(book, pointer)
         )
 }
 
@@ -45,10 +46,11 @@ fn frees_in_scope<K: HeapName, R: Wait>(
     phase: Phase,
 ) -> bool {
     scope.drop_object(rt, pointer) == Ok(())
-        && of_book(
+        && of_book!(
             rt,
             heap,
-            |book| book.phase() == phase && is_gone(book, pointer),
+            book,
+            book.phase() == phase && is_gone(book, pointer)
         )
 }
 
@@ -61,7 +63,11 @@ fn frees_two<K: HeapName, R: Wait>(
     phase: Phase,
 ) -> bool {
     frees(rt, heap, lent, first, phase)
-        && lent.opened(|scope| frees_in_scope(rt, heap, scope, first.saturating_add(1), phase))
+        && opened!(
+            lent,
+            scope,
+            frees_in_scope(rt, heap, scope, first.saturating_add(1), phase)
+        )
 }
 
 // Whether a round of the first log begins, and has marked one object.
@@ -95,13 +101,13 @@ impl Trial<MemDevice> for DroppedInRound {
         lent: &mut Lent<K, MemDevice>,
     ) -> bool {
         makes_seven(rt, lent)
-            && of_book(rt, heap, begins)
+            && of_book!(rt, heap, book, begins(book))
             && frees_two(rt, heap, lent, 0, Phase::Marking)
-            && of_book(rt, heap, waits)
+            && of_book!(rt, heap, book, waits(book))
             && frees_two(rt, heap, lent, 2, Phase::Waiting)
-            && of_book(rt, heap, comes_to_leaving)
+            && of_book!(rt, heap, book, comes_to_leaving(book))
             && frees_two(rt, heap, lent, 4, Phase::Evacuating)
-            && of_book(rt, heap, gives_back)
+            && of_book!(rt, heap, book, gives_back(book))
     }
 }
 

@@ -1,14 +1,16 @@
 //! Eight mutators, in the smallest heap and in the largest.
 
-use crate::tests::lend::{CrewTrial, of_book, try_all};
+ghost use Rattle.std.specs.Prelude.{◌≡◌};
+
 use crate::tests::looks::{blank, counts, has_objects, is_log, sized};
 use crate::tests::scopes::{makes_none, reads_slowly, writes};
 use far_device::{Device, MemDevice};
 use far_evac::{LogKind, RoundEnd};
-use far_heap::{Evacuator, Heap, HeapName, Mutator};
+use far_heap::{Blank, Evacuator, Heap, HeapName, Mutator};
 use far_policy::Oldest;
 use far_word::Refused;
 use std::alloc::{AllocError, Global};
+use std::marker::Brand;
 use std::sync::Wait;
 use std::test::Fail;
 use std::thread;
@@ -138,56 +140,30 @@ fn is_full<K: HeapName, D: Device + Drop>(book: &mut Evacuator<K, D>) -> bool {
         && counts(book, 8, 0, 1024)
 }
 
-// Whether no round begins.
-fn finds_nothing<K: HeapName, R: Wait>(rt: &R, heap: &Heap<K, MemDevice>) -> bool {
-    heap.run_round(rt, &mut Oldest, 2, 9) == Ok(RoundEnd::Nothing)
-}
-
-// Whether all eight read what they wrote, and are refused another object for this reason.
-fn ends_with<K: HeapName + Send + Sync, R: Threads + Wait + Sync>(
+fn in_two_logs<K: HeapName + Send + Sync, R: Threads + Wait + Sync>(
     rt: &R,
     alloc: Global,
-    all: Vec<Numbered<K>>,
-    objects: u16,
-    why: Refused,
-) -> bool {
-    match all_read(rt, alloc, all, objects) {
-        Some(all) => all.len() == 8 && all_refused(rt, all, why),
+    blank: Blank<MemDevice>,
+) -> bool
+    requires { blank.heap ≡ K.heap }
+{
+    let Ok((heap, mutators)) = Heap::<K, MemDevice>::new(alloc, blank) else {
+        return false;
+    };
+    let Ok(all) = with_numbers(alloc, mutators) else {
+        return false;
+    };
+    let Some(all) = all_filled(rt, alloc, all, 1, 120) else {
+        return false;
+    };
+    if !is_full(&mut *heap.book(rt))
+        || heap.run_round(rt, &mut Oldest, 2, 9) != Ok(RoundEnd::Nothing)
+    {
+        return false;
+    }
+    match all_read(rt, alloc, all, 1) {
+        Some(all) => all.len() == 8 && all_refused(rt, all, Refused::NoRoom),
         None => false,
-    }
-}
-
-// Each mutator makes so many objects of this length.
-fn made<K: HeapName + Send + Sync, R: Threads + Wait + Sync>(
-    rt: &R,
-    alloc: Global,
-    mutators: Vec<Mutator<K, MemDevice>>,
-    objects: u16,
-    len: u16,
-) -> Option<Vec<Numbered<K>>> {
-    match with_numbers(alloc, mutators) {
-        Ok(all) => all_filled(rt, alloc, all, objects, len),
-        Err(_) => None,
-    }
-}
-
-// The smallest heap.
-struct InTwoLogs;
-
-impl CrewTrial<MemDevice> for InTwoLogs {
-    fn holds<K: HeapName + Send + Sync, R: Threads + Wait + Sync>(
-        &self,
-        rt: &R,
-        alloc: Global,
-        heap: &Heap<K, MemDevice>,
-        mutators: Vec<Mutator<K, MemDevice>>,
-    ) -> bool {
-        let Some(all) = made(rt, alloc, mutators, 1, 120) else {
-            return false;
-        };
-        of_book(rt, heap, is_full)
-            && finds_nothing(rt, heap)
-            && ends_with(rt, alloc, all, 1, Refused::NoRoom)
     }
 }
 
@@ -195,7 +171,7 @@ impl CrewTrial<MemDevice> for InTwoLogs {
 #[test]
 fn eight_mutators_in_two_logs(rt: HostRuntime) -> Result<(), Fail> {
     let alloc = rt.alloc();
-    assert!(rt; try_all(&rt, alloc, blank(&rt, sized(2, 8))?, &InTwoLogs));
+    assert!(rt; in_two_logs::<Brand, _>(&rt, alloc, blank(&rt, sized(2, 8))?));
     Ok(())
 }
 
@@ -217,29 +193,31 @@ fn sends_far<K: HeapName, R: Wait>(rt: &R, heap: &Heap<K, MemDevice>) -> bool {
     }
 }
 
-// Whether all 1,024 objects are near.
-fn are_all_near<K: HeapName>(book: &mut Evacuator<K, MemDevice>) -> bool {
-    counts(book, 1024, 0, 57_344)
-}
-
-// The largest heap.
-struct InMostLogs;
-
-impl CrewTrial<MemDevice> for InMostLogs {
-    fn holds<K: HeapName + Send + Sync, R: Threads + Wait + Sync>(
-        &self,
-        rt: &R,
-        alloc: Global,
-        heap: &Heap<K, MemDevice>,
-        mutators: Vec<Mutator<K, MemDevice>>,
-    ) -> bool {
-        let Some(all) = made(rt, alloc, mutators, 128, 48) else {
-            return false;
-        };
-        of_book(rt, heap, are_all_near)
-            && empties_all(rt, heap)
-            && sends_far(rt, heap)
-            && ends_with(rt, alloc, all, 128, Refused::NoPointer)
+fn in_most_logs<K: HeapName + Send + Sync, R: Threads + Wait + Sync>(
+    rt: &R,
+    alloc: Global,
+    blank: Blank<MemDevice>,
+) -> bool
+    requires { blank.heap ≡ K.heap }
+{
+    let Ok((heap, mutators)) = Heap::<K, MemDevice>::new(alloc, blank) else {
+        return false;
+    };
+    let Ok(all) = with_numbers(alloc, mutators) else {
+        return false;
+    };
+    let Some(all) = all_filled(rt, alloc, all, 128, 48) else {
+        return false;
+    };
+    if !counts(&mut *heap.book(rt), 1024, 0, 57_344) || !empties_all(rt, &heap) {
+        return false;
+    }
+    if !sends_far(rt, &heap) {
+        return false;
+    }
+    match all_read(rt, alloc, all, 128) {
+        Some(all) => all.len() == 8 && all_refused(rt, all, Refused::NoPointer),
+        None => false,
     }
 }
 
@@ -247,6 +225,6 @@ impl CrewTrial<MemDevice> for InMostLogs {
 #[test]
 fn eight_mutators_in_most_logs(rt: HostRuntime) -> Result<(), Fail> {
     let alloc = rt.alloc();
-    assert!(rt; try_all(&rt, alloc, blank(&rt, sized(64, 8))?, &InMostLogs));
+    assert!(rt; in_most_logs::<Brand, _>(&rt, alloc, blank(&rt, sized(64, 8))?));
     Ok(())
 }

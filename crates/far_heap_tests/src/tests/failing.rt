@@ -1,7 +1,7 @@
 //! Each call of a device fails in turn, where nobody copies outside the lock: whatever fails, all objects keep their bytes.
 
 use crate::tests::flag::Tally;
-use crate::tests::lend::{Lent, Trial, of_book, try_one};
+use crate::tests::lend::{Lent, Trial, of_book, opened, try_one};
 use crate::tests::looks::{has_objects, sized};
 use crate::tests::scopes::{EIGHT, has, reads, reads_slowly, writes};
 use crate::tests::steps::{is_clear, marks, selects};
@@ -73,7 +73,7 @@ fn rounds_or_fails<K: HeapName, D: Device + Drop, R: Wait>(
         Ok(_) => false,
         Err(fault) => is_failure(fault.why, failures),
     };
-    came && of_book(rt, heap, ends_any)
+    came && of_book!(rt, heap, book, ends_any(book))
 }
 
 /// A round moves one object, and sends another far, which comes back.
@@ -91,11 +91,11 @@ impl<D: Device + Drop> Trial<D> for PlainRun {
     ) -> bool {
         lent.makes(rt, 8, 0)
             && lent.makes(rt, 8, 1)
-            && lent.opened(|scope| writes(scope, 0, EIGHT))
+            && opened!(lent, scope, writes(scope, 0, EIGHT))
             && lent.makes(rt, 1016, 2)
             && rounds_or_fails(rt, heap, &self.failures)
-            && lent.opened(|scope| have_bytes(rt, scope, EIGHT, &self.failures))
-            && of_book(rt, heap, has_three)
+            && opened!(lent, scope, have_bytes(rt, scope, EIGHT, &self.failures))
+            && of_book!(rt, heap, book, has_three(book))
     }
 }
 
@@ -104,7 +104,7 @@ fn fills_three<K: HeapName, D: Device + Drop, R: Wait>(rt: &R, lent: &mut Lent<K
     lent.makes(rt, 1016, 0)
         && lent.makes(rt, 1016, 1)
         && lent.makes(rt, 1016, 2)
-        && lent.opened(|scope| reads(scope, 0, [0; 8]))
+        && opened!(lent, scope, reads(scope, 0, [0; 8]))
 }
 
 // Whether a round of the first two logs comes to where objects leave.
@@ -138,11 +138,11 @@ impl<D: Device + Drop> Trial<D> for HotRun {
         lent: &mut Lent<K, D>,
     ) -> bool {
         fills_three(rt, lent)
-            && of_book(rt, heap, comes_to_leaving)
-            && lent.opened(|scope| reads_slowly(rt, scope, 1, [0; 8]))
-            && of_book(rt, heap, |book| deals_or_fails(book, &self.failures))
-            && lent.opened(|scope| have_bytes(rt, scope, [0; 8], &self.failures))
-            && of_book(rt, heap, has_three)
+            && of_book!(rt, heap, book, comes_to_leaving(book))
+            && opened!(lent, scope, reads_slowly(rt, scope, 1, [0; 8]))
+            && of_book!(rt, heap, book, deals_or_fails(book, &self.failures))
+            && opened!(lent, scope, have_bytes(rt, scope, [0; 8], &self.failures))
+            && of_book!(rt, heap, book, has_three(book))
     }
 }
 

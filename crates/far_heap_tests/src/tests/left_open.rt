@@ -1,6 +1,6 @@
 //! A scope that is dropped unclosed: what rounds answer then, and what other mutators do.
 
-use crate::tests::lend::{Lent, PairTrial, of_book, try_two};
+use crate::tests::lend::{Lent, PairTrial, left_open, of_book, opened, try_two};
 use crate::tests::looks::{blank, sized};
 use crate::tests::scopes::{EIGHT, is_slow, reads, reads_slowly, writes};
 use crate::tests::steps::{gives_up, is_open, runs_to};
@@ -15,7 +15,7 @@ use std::test::Fail;
 fn other_begins<K: HeapName, R: Wait>(rt: &R, other: &mut Lent<K, MemDevice>) -> bool {
     other.makes(rt, 8, 128)
         && other.makes(rt, 1016, 129)
-        && other.opened(|scope| writes(scope, 128, EIGHT))
+        && opened!(other, scope, writes(scope, 128, EIGHT))
 }
 
 // Whether a round goes no further than to wait.
@@ -35,7 +35,9 @@ fn has_it_moved<K: HeapName, R: Wait>(rt: &R, scope: &mut Scope<K, MemDevice>) -
 
 // Whether the other mutator works on while the round waits.
 fn other_works<K: HeapName, R: Wait>(rt: &R, other: &mut Lent<K, MemDevice>) -> bool {
-    other.opened(|scope| has_it_moved(rt, scope)) && other.makes(rt, 8, 130) && other.drops(rt, 129)
+    opened!(other, scope, has_it_moved(rt, scope))
+        && other.makes(rt, 8, 130)
+        && other.drops(rt, 129)
 }
 
 // Whether the first round waits, and the other mutator works meanwhile.
@@ -46,15 +48,15 @@ fn first_round<K: HeapName, R: Wait>(
 ) -> bool {
     other_begins(rt, other)
         && only_waits(rt, heap)
-        && of_book(rt, heap, |book| waits_for_first(book, 1))
+        && of_book!(rt, heap, book, waits_for_first(book, 1))
         && other_works(rt, other)
 }
 
 // Whether the next round waits too.
 fn next_round<K: HeapName, R: Wait>(rt: &R, heap: &Heap<K, MemDevice>) -> bool {
-    of_book(rt, heap, gives_up)
+    of_book!(rt, heap, book, gives_up(book))
         && only_waits(rt, heap)
-        && of_book(rt, heap, |book| waits_for_first(book, 2))
+        && of_book!(rt, heap, book, waits_for_first(book, 2))
 }
 
 // The first mutator drops its scope unclosed, with a view.
@@ -69,11 +71,11 @@ impl PairTrial<MemDevice> for LeftOpen {
         second: &mut Lent<K, MemDevice>,
     ) -> bool {
         first.makes(rt, 8, 0)
-            && first.left_open(|scope| writes(scope, 0, EIGHT))
+            && left_open!(first, scope, writes(scope, 0, EIGHT))
             && first_round(rt, heap, second)
             && next_round(rt, heap)
-            && of_book(rt, heap, gives_up)
-            && second.opened(|scope| reads(scope, 128, EIGHT))
+            && of_book!(rt, heap, book, gives_up(book))
+            && opened!(second, scope, reads(scope, 128, EIGHT))
     }
 }
 

@@ -3,12 +3,11 @@
 ghost use Rattle.std.specs.Prelude.{◌≡◌};
 
 use far_device::Device;
-use far_heap::{Blank, Evacuator, Heap, HeapName, Mutator, Scope, Tried, View};
+use far_heap::{Blank, Heap, HeapName, Mutator, Tried, View};
 use far_word::Refused;
 use std::alloc::Global;
 use std::marker::Brand;
 use std::sync::Wait;
-use std::thread::Threads;
 
 /// A mutator that is lent.
 #[derive(Drop)]
@@ -24,39 +23,14 @@ impl<K: HeapName, D: Device + Drop> Lent<K, D> {
         }
     }
 
-    /// Whether this is so of the mutator, whose scope is closed.
-    pub(super) fn closed<F: FnOnce(&mut Mutator<K, D>) -> bool>(&mut self, is_so: F) -> bool
-        requires { F.IsAlwaysCallable is_so }
-    {
-        match &mut self.mutator {
-            Some(mutator) => is_so(mutator),
-            None => false,
-        }
+    /// The mutator, whose scope is closed; `None` once it is gone.
+    pub(super) fn take(&mut self) -> Option<Mutator<K, D>> {
+        self.mutator.take()
     }
 
-    /// Whether this is so of its scope, which is opened before and closed after that.
-    pub(super) fn opened<F: FnOnce(&mut Scope<K, D>) -> bool>(&mut self, is_so: F) -> bool
-        requires { F.IsAlwaysCallable is_so }
-    {
-        match self.mutator.take() {
-            Some(mutator) => {
-                let mut scope = mutator.open();
-                let found = is_so(&mut scope);
-                self.mutator = Some(scope.close());
-                found
-            }
-            None => false,
-        }
-    }
-
-    /// Whether this is so of its scope, which is dropped unclosed then; the mutator is gone with it.
-    pub(super) fn left_open<F: FnOnce(&mut Scope<K, D>) -> bool>(&mut self, is_so: F) -> bool
-        requires { F.IsAlwaysCallable is_so }
-    {
-        match self.mutator.take() {
-            Some(mutator) => is_so(&mut mutator.open()),
-            None => false,
-        }
+    /// The mutator is given back.
+    pub(super) fn give(&mut self, mutator: Mutator<K, D>) {
+        self.mutator = Some(mutator);
     }
 
     /// A view of an object, if one step gives it in a scope of its own.
@@ -98,17 +72,64 @@ impl<K: HeapName, D: Device + Drop> Lent<K, D> {
     }
 }
 
-/// Whether this is so of the book of a heap, under the lock.
-pub(super) fn of_book<
-    K: HeapName,
-    D: Device + Drop,
-    R: Wait,
-    F: FnOnce(&mut Evacuator<K, D>) -> bool,
->(rt: &R, heap: &Heap<K, D>, is_so: F) -> bool
-    requires { F.IsAlwaysCallable is_so }
-{
-    is_so(&mut *heap.book(rt))
+/// Whether this is so of a lent mutator, whose scope is closed.
+macro_rules! closed {
+    ($lent:expr, $mutator:ident, $is_so:expr) => {
+        match $lent.take() {
+            Some(mut taken) => {
+                let $mutator = &mut taken;
+                let found = $is_so;
+                $lent.give(taken);
+                found
+            }
+            None => false,
+        }
+    };
 }
+
+/// Whether this is so of its scope, which is opened before and closed after that.
+macro_rules! opened {
+    ($lent:expr, $scope:ident, $is_so:expr) => {
+        match $lent.take() {
+            Some(taken) => {
+                let mut open = taken.open();
+                let $scope = &mut open;
+                let found = $is_so;
+                $lent.give(open.close());
+                found
+            }
+            None => false,
+        }
+    };
+}
+
+/// Whether this is so of its scope, which is dropped unclosed then; the mutator is gone with it.
+macro_rules! left_open {
+    ($lent:expr, $scope:ident, $is_so:expr) => {
+        match $lent.take() {
+            Some(taken) => {
+                let mut open = taken.open();
+                let $scope = &mut open;
+                $is_so
+            }
+            None => false,
+        }
+    };
+}
+
+/// Whether this is so of the book of a heap, under the lock.
+macro_rules! of_book {
+    ($rt:expr, $heap:expr, $book:ident, $is_so:expr) => {{
+        let mut guard = $heap.book($rt);
+        let $book = &mut *guard;
+        $is_so
+    }};
+}
+
+pub(super) use closed;
+pub(super) use left_open;
+pub(super) use of_book;
+pub(super) use opened;
 
 /// What is tried on a heap of one mutator.
 pub(super) trait Trial<D: Device + Drop> {
@@ -125,18 +146,6 @@ pub(super) trait PairTrial<D: Device + Drop> {
         heap: &Heap<K, D>,
         first: &mut Lent<K, D>,
         second: &mut Lent<K, D>,
-    ) -> bool;
-}
-
-/// What is tried in threads, on a heap of any number.
-pub(super) trait CrewTrial<D: Device + Drop> {
-    /// Whether it comes out as it should.
-    fn holds<K: HeapName + Send + Sync, R: Threads + Wait + Sync>(
-        &self,
-        rt: &R,
-        alloc: Global,
-        heap: &Heap<K, D>,
-        mutators: Vec<Mutator<K, D>>,
     ) -> bool;
 }
 
@@ -175,20 +184,6 @@ fn lend_two<K: HeapName, D: Device + Drop, R: Wait, T: PairTrial<D>>(
     }
 }
 
-fn lend_all<K: HeapName + Send + Sync, D: Device + Drop, R: Threads + Wait + Sync, T: CrewTrial<D>>(
-    rt: &R,
-    alloc: Global,
-    blank: Blank<D>,
-    trial: &T,
-) -> bool
-    requires { blank.heap ≡ K.heap }
-{
-    match Heap::<K, D>::new(alloc, blank) {
-        Ok((heap, mutators)) => trial.holds(rt, alloc, &heap, mutators),
-        Err(_) => false,
-    }
-}
-
 /// Whether a trial on a heap of these parts comes out as it should.
 pub(super) fn try_one<D: Device + Drop, R: Wait, T: Trial<D>>(
     rt: &R,
@@ -207,14 +202,4 @@ pub(super) fn try_two<D: Device + Drop, R: Wait, T: PairTrial<D>>(
     trial: &T,
 ) -> bool {
     lend_two::<Brand, D, R, T>(rt, alloc, blank, trial)
-}
-
-/// The same in threads.
-pub(super) fn try_all<D: Device + Drop, R: Threads + Wait + Sync, T: CrewTrial<D>>(
-    rt: &R,
-    alloc: Global,
-    blank: Blank<D>,
-    trial: &T,
-) -> bool {
-    lend_all::<Brand, D, R, T>(rt, alloc, blank, trial)
 }

@@ -1,7 +1,7 @@
 //! A device that lies once: only bytes are wrong, or the call is refused; the book stands as its law says after each step.
 
 use crate::tests::devices::{comes_back, comes_to_log_two, sends_it_far};
-use crate::tests::lend::{Lent, Trial, of_book, try_one};
+use crate::tests::lend::{Lent, Trial, of_book, opened, try_one};
 use crate::tests::looks::{has_objects, is_far, is_log, is_near, sized};
 use crate::tests::steps::runs_through;
 use far_device::{Device, Liar, MemDevice};
@@ -18,7 +18,7 @@ fn has_law<K: HeapName, D: Device + Drop, R: Wait>(
     heap: &Heap<K, D>,
     objects: u64,
 ) -> bool {
-    of_book(rt, heap, |book| has_objects(book, objects))
+    of_book!(rt, heap, book, has_objects(book, objects))
 }
 
 // Whether an object of a byte goes far, beside one that stays.
@@ -33,7 +33,7 @@ fn goes_far<K: HeapName, D: Device + Drop, R: Wait>(
         && has_law(rt, heap, 2)
         && runs_through(rt, heap, &mut Oldest, [0, 1, 0, 1])
         && has_law(rt, heap, 2)
-        && of_book(rt, heap, |book| is_far(book, 0, false))
+        && of_book!(rt, heap, book, is_far(book, 0, false))
 }
 
 // Whether a view gives this byte.
@@ -69,9 +69,9 @@ impl<D: Device + Drop> Trial<D> for Flipped {
     ) -> bool {
         let byte = self.byte;
         goes_far(rt, heap, lent)
-            && lent.opened(|scope| reads_byte(rt, scope, byte))
+            && opened!(lent, scope, reads_byte(rt, scope, byte))
             && has_law(rt, heap, 2)
-            && of_book(rt, heap, is_back)
+            && of_book!(rt, heap, book, is_back(book))
     }
 }
 
@@ -88,7 +88,7 @@ impl<D: Device + Drop> Trial<D> for Shortened {
         comes_to_log_two(rt, heap, lent)
             && sends_it_far(rt, heap)
             && has_law(rt, heap, 3)
-            && lent.opened(|scope| comes_back(rt, heap, scope, Refused::Damaged))
+            && opened!(lent, scope, comes_back(rt, heap, scope, Refused::Damaged))
             && has_law(rt, heap, 3)
     }
 }

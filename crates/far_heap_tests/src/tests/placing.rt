@@ -1,6 +1,6 @@
 //! What a new object leaves as it was: where it is refused, all of it, also a running round; else all but itself.
 
-use crate::tests::lend::{Lent, Trial, of_book, try_one};
+use crate::tests::lend::{Lent, Trial, of_book, opened, try_one};
 use crate::tests::looks::{Counted, blank, census_of, sized};
 use crate::tests::steps::{is_clear, marks, selects};
 use far_core::Shape;
@@ -64,8 +64,8 @@ fn refuses_in<K: HeapName, R: Wait>(
     };
     before.phase == phase
         && lent.makes_none(rt, 8, why)
-        && lent.opened(|scope| scope.alloc(rt, 8, 1) == Err(why))
-        && of_book(rt, heap, |book| stands_so(book, &before))
+        && opened!(lent, scope, scope.alloc(rt, 8, 1) == Err(why))
+        && of_book!(rt, heap, book, stands_so(book, &before))
 }
 
 // Whether a round of the first log begins, and has marked one object of it.
@@ -86,11 +86,11 @@ fn refuses_beside_round<K: HeapName, R: Wait>(
     why: Refused,
 ) -> bool {
     refuses_in(rt, heap, lent, why, Phase::Idle)
-        && of_book(rt, heap, begins)
+        && of_book!(rt, heap, book, begins(book))
         && refuses_in(rt, heap, lent, why, Phase::Marking)
-        && of_book(rt, heap, waits)
+        && of_book!(rt, heap, book, waits(book))
         && refuses_in(rt, heap, lent, why, Phase::Waiting)
-        && of_book(rt, heap, is_clear)
+        && of_book!(rt, heap, book, is_clear(book))
         && refuses_in(rt, heap, lent, why, Phase::Evacuating)
 }
 
@@ -185,7 +185,7 @@ fn places_one<K: HeapName, R: Wait>(
     let Some(before) = census_of(&mut *heap.book(rt)) else {
         return false;
     };
-    lent.makes(rt, 9, pointer) && of_book(rt, heap, |book| holds_one_more(book, &before, 24))
+    lent.makes(rt, 9, pointer) && of_book!(rt, heap, book, holds_one_more(book, &before, 24))
 }
 
 // The same by an open scope.
@@ -198,8 +198,8 @@ fn places_one_in_scope<K: HeapName, R: Wait>(
     let Some(before) = census_of(&mut *heap.book(rt)) else {
         return false;
     };
-    lent.opened(|scope| scope.alloc(rt, 9, 1) == Ok(pointer))
-        && of_book(rt, heap, |book| holds_one_more(book, &before, 24))
+    opened!(lent, scope, scope.alloc(rt, 9, 1) == Ok(pointer))
+        && of_book!(rt, heap, book, holds_one_more(book, &before, 24))
 }
 
 // Both, for the next two pointers.
@@ -225,11 +225,11 @@ impl Trial<MemDevice> for PlacedOnce {
     ) -> bool {
         places_two(rt, heap, lent, 0)
             && lent.makes(rt, 1016, 2)
-            && of_book(rt, heap, begins)
+            && of_book!(rt, heap, book, begins(book))
             && places_two(rt, heap, lent, 3)
-            && of_book(rt, heap, waits)
+            && of_book!(rt, heap, book, waits(book))
             && places_two(rt, heap, lent, 5)
-            && of_book(rt, heap, is_clear)
+            && of_book!(rt, heap, book, is_clear(book))
             && places_two(rt, heap, lent, 7)
     }
 }

@@ -1,6 +1,6 @@
 //! Which bytes a scope reads and writes, and by which views.
 
-use crate::tests::lend::{Lent, Trial, try_one};
+use crate::tests::lend::{Lent, Trial, opened, try_one};
 use crate::tests::looks::{blank, sized};
 use crate::tests::scopes::{EIGHT, has, reads, viewed, writes};
 use far_device::MemDevice;
@@ -95,7 +95,7 @@ impl Trial<MemDevice> for InRanges {
         _heap: &Heap<K, MemDevice>,
         lent: &mut Lent<K, MemDevice>,
     ) -> bool {
-        lent.makes(rt, 12, 0) && lent.opened(has_ranges)
+        lent.makes(rt, 12, 0) && opened!(lent, scope, has_ranges(scope))
     }
 }
 
@@ -138,8 +138,12 @@ impl Trial<MemDevice> for EarlierViews {
         let Some(view) = lent.viewed(0) else {
             return false;
         };
-        lent.opened(|scope| writes(scope, 0, EIGHT))
-            && lent.opened(|scope| bars_earlier(scope, &view) && takes_earlier(scope, &view))
+        opened!(lent, scope, writes(scope, 0, EIGHT))
+            && opened!(
+                lent,
+                scope,
+                bars_earlier(scope, &view) && takes_earlier(scope, &view)
+            )
     }
 }
 
@@ -175,10 +179,10 @@ impl Trial<MemDevice> for NextObject {
         let Some(view) = lent.viewed(0) else {
             return false;
         };
-        lent.opened(|scope| writes(scope, 0, EIGHT))
+        opened!(lent, scope, writes(scope, 0, EIGHT))
             && lent.drops(rt, 0)
             && lent.makes(rt, 16, 0)
-            && lent.opened(|scope| views_next(scope, &view))
+            && opened!(lent, scope, views_next(scope, &view))
     }
 }
 

@@ -1,13 +1,15 @@
 //! The program that far_heap's page begins with: two mutators at work, and a thread that makes rounds.
 
-use crate::tests::lend::{CrewTrial, try_all};
+ghost use Rattle.std.specs.Prelude.{◌≡◌};
+
 use crate::tests::looks::{blank, sized};
 use far_device::MemDevice;
 use far_evac::RoundEnd;
-use far_heap::{Heap, HeapName, Mutator, Scope};
+use far_heap::{Blank, Heap, HeapName, Mutator, Scope};
 use far_policy::Oldest;
 use far_word::Refused;
 use std::alloc::{AllocError, Global};
+use std::marker::Brand;
 use std::sync::Wait;
 use std::test::Fail;
 use std::thread;
@@ -84,30 +86,30 @@ fn jobs_of<K: HeapName>(
     Ok(jobs)
 }
 
-// All threads do what they should.
-struct AllWork;
-
-impl CrewTrial<MemDevice> for AllWork {
-    fn holds<K: HeapName + Send + Sync, R: Threads + Wait + Sync>(
-        &self,
-        rt: &R,
-        alloc: Global,
-        heap: &Heap<K, MemDevice>,
-        mutators: Vec<Mutator<K, MemDevice>>,
-    ) -> bool {
-        let Ok(jobs) = jobs_of(alloc, mutators) else {
-            return false;
-        };
-        match thread::map_vec(rt, jobs, &|job| run(rt, heap, job)) {
-            Ok(done) => done.iter().all(|it| *it),
-            Err(_) => false,
-        }
+// Whether all threads do what they should.
+fn all_work<K: HeapName + Send + Sync, R: Threads + Wait + Sync>(
+    rt: &R,
+    alloc: Global,
+    blank: Blank<MemDevice>,
+) -> bool
+    requires { blank.heap ≡ K.heap }
+{
+    let Ok((heap, mutators)) = Heap::<K, _>::new(alloc, blank) else {
+        return false;
+    };
+    let Ok(jobs) = jobs_of(alloc, mutators) else {
+        return false;
+    };
+    let shared = &heap;
+    match thread::map_vec(rt, jobs, &|job| run(rt, shared, job)) {
+        Ok(done) => done.iter().all(|it| *it),
+        Err(_) => false,
     }
 }
 
 #[test]
 fn readme(rt: HostRuntime) -> Result<(), Fail> {
     let blank = blank(&rt, sized(8, 2))?;
-    assert!(rt; try_all(&rt, rt.alloc(), blank, &AllWork));
+    assert!(rt; all_work::<Brand, _>(&rt, rt.alloc(), blank));
     Ok(())
 }

@@ -1,6 +1,6 @@
 //! What each call of a mutator and of its scope is refused, in the order of the reasons, with nothing changed.
 
-use crate::tests::lend::{Lent, PairTrial, Trial, of_book, try_one, try_two};
+use crate::tests::lend::{Lent, PairTrial, Trial, closed, of_book, opened, try_one, try_two};
 use crate::tests::looks::{blank, is_far, is_log, sized};
 use crate::tests::scopes::{makes, makes_none, reads, reads_slowly};
 use crate::tests::steps::runs_through;
@@ -80,8 +80,8 @@ fn bars_new<K: HeapName, R: Wait>(
     first: &mut Lent<K, MemDevice>,
     second: &mut Lent<K, MemDevice>,
 ) -> bool {
-    first.closed(|mutator| bars_any(rt, mutator, Refused::NoPointer))
-        && second.closed(|mutator| bars_any(rt, mutator, Refused::NoRoom))
+    closed!(first, mutator, bars_any(rt, mutator, Refused::NoPointer))
+        && closed!(second, mutator, bars_any(rt, mutator, Refused::NoRoom))
         && first.drops(rt, 5)
         && first.makes_none(rt, 1, Refused::NoRoom)
 }
@@ -102,10 +102,10 @@ impl PairTrial<MemDevice> for NewObjects {
         first: &mut Lent<K, MemDevice>,
         second: &mut Lent<K, MemDevice>,
     ) -> bool {
-        first.closed(|mutator| uses_all(rt, mutator))
-            && of_book(rt, heap, two_are_full)
+        closed!(first, mutator, uses_all(rt, mutator))
+            && of_book!(rt, heap, book, two_are_full(book))
             && bars_new(rt, first, second)
-            && second.opened(|scope| bars_in_scope(rt, scope))
+            && opened!(second, scope, bars_in_scope(rt, scope))
     }
 }
 
@@ -148,7 +148,7 @@ fn makes_for_both<K: HeapName, R: Wait>(
 ) -> bool {
     first.makes(rt, 8, 0)
         && second.makes(rt, 8, 128)
-        && first.closed(|mutator| bars_drops(rt, mutator))
+        && closed!(first, mutator, bars_drops(rt, mutator))
 }
 
 // Whether one of three objects lives in the first log.
@@ -169,9 +169,9 @@ impl PairTrial<MemDevice> for DroppedObjects {
     ) -> bool {
         makes_for_both(rt, first, second)
             && first.makes(rt, 8, 1)
-            && first.opened(|scope| drops_in_scope(rt, scope))
-            && first.closed(|mutator| drops_last(rt, mutator))
-            && of_book(rt, heap, one_of_three_lives)
+            && opened!(first, scope, drops_in_scope(rt, scope))
+            && closed!(first, mutator, drops_last(rt, mutator))
+            && of_book!(rt, heap, book, one_of_three_lives(book))
     }
 }
 
@@ -210,7 +210,7 @@ impl PairTrial<MemDevice> for UnheldObjects {
         first: &mut Lent<K, MemDevice>,
         second: &mut Lent<K, MemDevice>,
     ) -> bool {
-        makes_for_both(rt, first, second) && first.opened(|scope| bars_views(rt, scope))
+        makes_for_both(rt, first, second) && opened!(first, scope, bars_views(rt, scope))
     }
 }
 
@@ -244,7 +244,7 @@ fn has_no_room<K: HeapName, R: Wait>(
     reads(scope, 2, [0; 8])
         && scope.view(rt, 0) == Err(Refused::NoRoom)
         && scope.view(rt, 0) == Err(Refused::NoRoom)
-        && of_book(rt, heap, |book| is_far(book, 0, true))
+        && of_book!(rt, heap, book, is_far(book, 0, true))
 }
 
 // A far object has no room until a round gives a log back.
@@ -257,10 +257,10 @@ impl Trial<MemDevice> for FarWithoutRoom {
         heap: &Heap<K, MemDevice>,
         lent: &mut Lent<K, MemDevice>,
     ) -> bool {
-        lent.closed(|mutator| fills_up(rt, heap, mutator))
-            && lent.opened(|scope| has_no_room(rt, heap, scope))
+        closed!(lent, mutator, fills_up(rt, heap, mutator))
+            && opened!(lent, scope, has_no_room(rt, heap, scope))
             && runs_through(rt, heap, &mut Oldest, [0, 1, 0, 1])
-            && lent.opened(|scope| reads_slowly(rt, scope, 0, [0; 8]))
+            && opened!(lent, scope, reads_slowly(rt, scope, 0, [0; 8]))
     }
 }
 

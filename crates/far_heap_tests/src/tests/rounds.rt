@@ -95,9 +95,9 @@ impl Trial<MemDevice> for InEachPhase {
         lent: &mut Lent<K, MemDevice>,
     ) -> bool {
         seals_first(rt, lent)
-            && of_book(rt, heap, goes_through)
+            && of_book!(rt, heap, book, goes_through(book))
             && runs_none(rt, heap, &mut Oldest, Refused::Phase)
-            && of_book(rt, heap, ends)
+            && of_book!(rt, heap, book, ends(book))
     }
 }
 
@@ -140,7 +140,7 @@ impl Trial<MemDevice> for BadChoices {
         heap: &Heap<K, MemDevice>,
         lent: &mut Lent<K, MemDevice>,
     ) -> bool {
-        seals_first(rt, lent) && bars_choices(rt, heap) && of_book(rt, heap, is_sealed)
+        seals_first(rt, lent) && bars_choices(rt, heap) && of_book!(rt, heap, book, is_sealed(book))
     }
 }
 
@@ -178,7 +178,9 @@ impl Trial<MemDevice> for LastEpoch {
         heap: &Heap<K, MemDevice>,
         lent: &mut Lent<K, MemDevice>,
     ) -> bool {
-        seals_first(rt, lent) && of_book(rt, heap, runs_in_the_last) && bars_rounds(rt, heap)
+        seals_first(rt, lent)
+            && of_book!(rt, heap, book, runs_in_the_last(book))
+            && bars_rounds(rt, heap)
     }
 }
 

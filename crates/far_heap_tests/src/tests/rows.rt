@@ -1,6 +1,6 @@
 //! Rounds on a heap, by worked answers.
 
-use crate::tests::lend::{Lent, Trial, of_book, try_one};
+use crate::tests::lend::{Lent, Trial, closed, of_book, opened, try_one};
 use crate::tests::looks::{blank, counts, is_far, is_free, is_log, is_near, sized};
 use crate::tests::scopes::{EIGHT, is_slow, makes, reads, reads_slowly, writes};
 use crate::tests::steps::{deals, is_clear, is_open, marks, runs_through, selects};
@@ -31,7 +31,11 @@ impl Trial<MemDevice> for NewObject {
         lent: &mut Lent<K, MemDevice>,
     ) -> bool {
         lent.makes(rt, 8, 0)
-            && lent.opened(|scope| reads(scope, 0, [0; 8]) && of_book(rt, heap, has_one_object))
+            && opened!(
+                lent,
+                scope,
+                reads(scope, 0, [0; 8]) && of_book!(rt, heap, book, has_one_object(book))
+            )
     }
 }
 
@@ -66,7 +70,7 @@ fn makes_a_round<K: HeapName, R: Wait>(
 ) -> bool {
     lent.makes(rt, 8, 0)
         && lent.makes(rt, 8, 1)
-        && lent.opened(writes_first)
+        && opened!(lent, scope, writes_first(scope))
         && lent.makes(rt, 1016, 2)
         && runs_through(rt, heap, &mut Oldest, [1, 1, 0, 1])
 }
@@ -77,7 +81,7 @@ fn brings_back<K: HeapName, R: Wait>(
     heap: &Heap<K, MemDevice>,
     scope: &mut Scope<K, MemDevice>,
 ) -> bool {
-    reads_both(rt, scope) && of_book(rt, heap, |book| is_near(book, 1, (2, 2), true))
+    reads_both(rt, scope) && of_book!(rt, heap, book, is_near(book, 1, (2, 2), true))
 }
 
 // Whether a dropped object's cell is used again.
@@ -96,9 +100,9 @@ impl Trial<MemDevice> for PlainRound {
         lent: &mut Lent<K, MemDevice>,
     ) -> bool {
         makes_a_round(rt, heap, lent)
-            && of_book(rt, heap, stands_after)
-            && lent.opened(|scope| brings_back(rt, heap, scope))
-            && lent.closed(|mutator| uses_again(rt, mutator))
+            && of_book!(rt, heap, book, stands_after(book))
+            && opened!(lent, scope, brings_back(rt, heap, scope))
+            && closed!(lent, mutator, uses_again(rt, mutator))
     }
 }
 
@@ -124,8 +128,12 @@ impl Trial<MemDevice> for WaitingRound {
     ) -> bool {
         lent.makes(rt, 8, 0)
             && lent.makes(rt, 1016, 1)
-            && lent.opened(|scope| reads(scope, 0, [0; 8]) && of_book(rt, heap, waits))
-            && of_book(rt, heap, ends)
+            && opened!(
+                lent,
+                scope,
+                reads(scope, 0, [0; 8]) && of_book!(rt, heap, book, waits(book))
+            )
+            && of_book!(rt, heap, book, ends(book))
     }
 }
 
@@ -143,7 +151,7 @@ fn fills_three<K: HeapName, R: Wait>(rt: &R, lent: &mut Lent<K, MemDevice>) -> b
     lent.makes(rt, 1016, 0)
         && lent.makes(rt, 1016, 1)
         && lent.makes(rt, 1016, 2)
-        && lent.opened(|scope| reads(scope, 0, [0; 8]))
+        && opened!(lent, scope, reads(scope, 0, [0; 8]))
 }
 
 // Whether a round of the first two logs comes to where objects leave.
@@ -167,10 +175,15 @@ impl Trial<MemDevice> for HotRound {
         lent: &mut Lent<K, MemDevice>,
     ) -> bool {
         fills_three(rt, lent)
-            && of_book(rt, heap, comes_to_leaving)
-            && lent.opened(|scope| {
-                reads_slowly(rt, scope, 1, [0; 8]) && of_book(rt, heap, sends_it_far)
-            })
+            && of_book!(rt, heap, book, comes_to_leaving(book))
+            && opened!(
+                lent,
+                scope,
+                {
+                    reads_slowly(rt, scope, 1, [0; 8])
+                        && of_book!(rt, heap, book, sends_it_far(book))
+                }
+            )
     }
 }
 
@@ -213,9 +226,13 @@ impl Trial<MemDevice> for MarkedObject {
     ) -> bool {
         lent.makes(rt, 8, 0)
             && lent.makes(rt, 1016, 1)
-            && lent.opened(writes_first)
-            && of_book(rt, heap, marks_first)
-            && lent.opened(|scope| moves_marked(rt, scope) && of_book(rt, heap, gives_back))
+            && opened!(lent, scope, writes_first(scope))
+            && of_book!(rt, heap, book, marks_first(book))
+            && opened!(
+                lent,
+                scope,
+                moves_marked(rt, scope) && of_book!(rt, heap, book, gives_back(book))
+            )
     }
 }
 

@@ -3,7 +3,6 @@
 ghost use Rattle.std.specs.Prelude.{◌≡◌};
 
 use crate::tests::flag::Tally;
-use crate::tests::lend::{CrewTrial, Lent, of_book, try_all};
 use crate::tests::looks::{blank, has_objects, is_dropped, sized};
 use crate::tests::scopes::{EIGHT, has, makes, reads, viewed, writes};
 use crate::tests::steps::{deals, gives_up, is_clear, marks, selects};
@@ -32,56 +31,56 @@ fn holds_the_book<K: HeapName, R: Wait>(
     came && book.shape().logs == 4
 }
 
-// Whether a view of an object is written and read.
-fn writes_by_view<K: HeapName, R: Wait>(rt: &R, scope: &mut Scope<K, MemDevice>) -> bool {
-    let Ok(view) = scope.view(rt, 0) else {
-        return false;
-    };
-    scope.write(&view, 0, &EIGHT).is_ok() && has(scope, &view, EIGHT)
-}
-
-// Whether that is so, in a scope of its own, while another thread has the book.
+// Whether a view of an object is written and read, in a scope of its own, while another thread has the book.
 fn reads_beside<K: HeapName, R: Wait>(
     rt: &R,
-    lent: &mut Lent<K, MemDevice>,
+    mutator: Mutator<K, MemDevice>,
     held: &Tally,
     read: &Tally,
 ) -> bool {
-    let done = held.wait_for(1) && lent.opened(|scope| writes_by_view(rt, scope));
+    if !held.wait_for(1) {
+        return false;
+    }
+    let mut scope = mutator.open();
+    let Ok(view) = scope.view(rt, 0) else {
+        return false;
+    };
+    let done = scope.write(&view, 0, &EIGHT).is_ok() && has(&mut scope, &view, EIGHT);
+    scope.close();
     read.raise();
     done
 }
 
-// An object is read while another thread has the book.
-struct HeldBook;
-
-impl CrewTrial<MemDevice> for HeldBook {
-    fn holds<K: HeapName + Send + Sync, R: Threads + Wait + Sync>(
-        &self,
-        rt: &R,
-        _alloc: Global,
-        heap: &Heap<K, MemDevice>,
-        mut mutators: Vec<Mutator<K, MemDevice>>,
-    ) -> bool {
-        let mut lent = Lent::last_of(&mut mutators);
-        if !lent.makes(rt, 8, 0) {
-            return false;
-        }
-        let (held, read) = (Tally::new(), Tally::new());
-        let (began, ended, reader) = (&held, &read, &mut lent);
-        let (came, done) = join(
-            rt,
-            move || holds_the_book(rt, heap, began, ended),
-            move || reads_beside(rt, reader, began, ended),
-        );
-        came && done
+fn held_book<K: HeapName + Send + Sync, R: Threads + Wait + Sync>(
+    rt: &R,
+    alloc: Global,
+    blank: Blank<MemDevice>,
+) -> bool
+    requires { blank.heap ≡ K.heap }
+{
+    let Ok((heap, mut mutators)) = Heap::<K, MemDevice>::new(alloc, blank) else {
+        return false;
+    };
+    let Some(mut mutator) = mutators.pop() else {
+        return false;
+    };
+    if !makes(rt, &mut mutator, 8, 0) {
+        return false;
     }
+    let (held, read) = (Tally::new(), Tally::new());
+    let (shared, began, ended) = (&heap, &held, &read);
+    let (came, done) = join(
+        rt,
+        move || holds_the_book(rt, shared, began, ended),
+        move || reads_beside(rt, mutator, began, ended),
+    );
+    came && done
 }
 
 #[test]
 fn read_under_held_book(rt: HostRuntime) -> Result<(), Fail> {
     let alloc = rt.alloc();
-    assert!(rt; try_all(&rt, alloc, blank(&rt, sized(4, 1))?, &HeldBook));
+    assert!(rt; held_book::<Brand, _>(&rt, alloc, blank(&rt, sized(4, 1))?));
     Ok(())
 }
 
@@ -165,57 +164,52 @@ fn retires_first<K: HeapName, R: Wait>(rt: &R, heap: &Heap<K, MemDevice>, held: 
     false
 }
 
-// Whether an object is dropped while another thread has the book.
-fn drops_beside<K: HeapName, R: Wait>(rt: &R, lent: &mut Lent<K, MemDevice>, held: &Tally) -> bool {
-    held.wait_for(1) && lent.drops(rt, 0)
-}
-
-// Whether one object is left.
-fn has_one<K: HeapName>(book: &mut Evacuator<K, MemDevice>) -> bool {
-    has_objects(book, 1)
-}
-
-// Whether one thread drops an object, and a round of another retires it.
-fn drops_and_retires<K: HeapName + Send + Sync, R: Threads + Wait + Sync>(
+// Drops an object while another thread has the book.
+fn drops_beside<K: HeapName, R: Wait>(
     rt: &R,
-    heap: &Heap<K, MemDevice>,
-    lent: &mut Lent<K, MemDevice>,
-) -> bool {
+    mut mutator: Mutator<K, MemDevice>,
+    held: &Tally,
+) -> Option<Mutator<K, MemDevice>> {
+    if !held.wait_for(1) || mutator.drop_object(rt, 0).is_err() {
+        return None;
+    }
+    Some(mutator)
+}
+
+fn dropped_beside<K: HeapName + Send + Sync, R: Threads + Wait + Sync>(
+    rt: &R,
+    alloc: Global,
+    blank: Blank<MemDevice>,
+) -> bool
+    requires { blank.heap ≡ K.heap }
+{
+    let Ok((heap, mut mutators)) = Heap::<K, MemDevice>::new(alloc, blank) else {
+        return false;
+    };
+    let Some(mut mutator) = mutators.pop() else {
+        return false;
+    };
+    if !makes(rt, &mut mutator, 8, 0) || !makes(rt, &mut mutator, 1016, 1) {
+        return false;
+    }
     let held = Tally::new();
-    let began = &held;
+    let (shared, began) = (&heap, &held);
     let (retired, dropped) = join(
         rt,
-        move || retires_first(rt, heap, began),
-        move || drops_beside(rt, lent, began),
+        move || retires_first(rt, shared, began),
+        move || drops_beside(rt, mutator, began),
     );
-    retired && dropped
-}
-
-// An object is dropped while another thread has the book.
-struct DroppedBeside;
-
-impl CrewTrial<MemDevice> for DroppedBeside {
-    fn holds<K: HeapName + Send + Sync, R: Threads + Wait + Sync>(
-        &self,
-        rt: &R,
-        _alloc: Global,
-        heap: &Heap<K, MemDevice>,
-        mut mutators: Vec<Mutator<K, MemDevice>>,
-    ) -> bool {
-        let mut lent = Lent::last_of(&mut mutators);
-        lent.makes(rt, 8, 0)
-            && lent.makes(rt, 1016, 1)
-            && drops_and_retires(rt, heap, &mut lent)
-            && of_book(rt, heap, has_one)
-            && lent.makes(rt, 8, 0)
-    }
+    let Some(mut mutator) = dropped else {
+        return false;
+    };
+    retired && has_objects(&mut *heap.book(rt), 1) && makes(rt, &mut mutator, 8, 0)
 }
 
 // A round may retire an object between its owner's mark and the lock.
 #[test]
 fn a_round_may_retire_what_is_dropped(rt: HostRuntime) -> Result<(), Fail> {
     let alloc = rt.alloc();
-    assert!(rt; try_all(&rt, alloc, blank(&rt, sized(4, 1))?, &DroppedBeside));
+    assert!(rt; dropped_beside::<Brand, _>(&rt, alloc, blank(&rt, sized(4, 1))?));
     Ok(())
 }
 
@@ -243,36 +237,36 @@ fn is_ended<K: HeapName, R: Wait>(rt: &R, heap: &Heap<K, MemDevice>) -> bool {
     }
 }
 
-// Whether a round of one thread is ended by another.
-fn is_ended_beside<K: HeapName + Send + Sync, R: Threads + Wait + Sync>(
-    rt: &R,
-    heap: &Heap<K, MemDevice>,
-) -> bool {
-    let (refused, gave_up) = join(rt, move || is_ended(rt, heap), move || ends_other(rt, heap));
-    refused && gave_up
-}
-
 // A round that waits for an open scope is ended by another thread.
-struct EndedRound;
-
-impl CrewTrial<MemDevice> for EndedRound {
-    fn holds<K: HeapName + Send + Sync, R: Threads + Wait + Sync>(
-        &self,
-        rt: &R,
-        _alloc: Global,
-        heap: &Heap<K, MemDevice>,
-        mut mutators: Vec<Mutator<K, MemDevice>>,
-    ) -> bool {
-        let mut lent = Lent::last_of(&mut mutators);
-        lent.makes(rt, 8, 0)
-            && lent.makes(rt, 1016, 1)
-            && lent.opened(|scope| { is_ended_beside(rt, heap) && reads(scope, 0, [0; 8]) })
+fn ended_round<K: HeapName + Send + Sync, R: Threads + Wait + Sync>(
+    rt: &R,
+    alloc: Global,
+    blank: Blank<MemDevice>,
+) -> bool
+    requires { blank.heap ≡ K.heap }
+{
+    let Ok((heap, mut mutators)) = Heap::<K, MemDevice>::new(alloc, blank) else {
+        return false;
+    };
+    let Some(mut mutator) = mutators.pop() else {
+        return false;
+    };
+    if !makes(rt, &mut mutator, 8, 0) || !makes(rt, &mut mutator, 1016, 1) {
+        return false;
     }
+    let mut scope = mutator.open();
+    let shared = &heap;
+    let (refused, gave_up) = join(
+        rt,
+        move || is_ended(rt, shared),
+        move || ends_other(rt, shared),
+    );
+    refused && gave_up && reads(&mut scope, 0, [0; 8])
 }
 
 #[test]
 fn a_round_may_be_ended_by_another(rt: HostRuntime) -> Result<(), Fail> {
     let alloc = rt.alloc();
-    assert!(rt; try_all(&rt, alloc, blank(&rt, sized(4, 1))?, &EndedRound));
+    assert!(rt; ended_round::<Brand, _>(&rt, alloc, blank(&rt, sized(4, 1))?));
     Ok(())
 }

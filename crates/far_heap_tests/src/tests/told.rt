@@ -1,6 +1,6 @@
 //! What a mutator and its scope tell of objects without a step: how long each is, and of which data structure.
 
-use crate::tests::lend::{Lent, Trial, try_one};
+use crate::tests::lend::{Lent, Trial, closed, opened, try_one};
 use crate::tests::looks::{blank, sized};
 use far_device::MemDevice;
 use far_heap::{Heap, HeapName, Mutator, Scope};
@@ -59,9 +59,9 @@ impl Trial<MemDevice> for ToldObjects {
         _heap: &Heap<K, MemDevice>,
         lent: &mut Lent<K, MemDevice>,
     ) -> bool {
-        lent.closed(|mutator| tells_two(rt, mutator))
-            && lent.opened(|scope| tells_the_next(rt, scope))
-            && lent.closed(|mutator| tells(mutator, 0, Some(8), Some(7)))
+        closed!(lent, mutator, tells_two(rt, mutator))
+            && opened!(lent, scope, tells_the_next(rt, scope))
+            && closed!(lent, mutator, tells(mutator, 0, Some(8), Some(7)))
     }
 }
 
