@@ -1,7 +1,7 @@
 #!/usr/bin/env python3
 """What a call of a seat, an owner's or the book's, costs beside the same atomic operation on a bare table: instructions, by callgrind.
 
-    bench/seats.py [PROGRAM]     PROGRAM: crates/far_table_bench/out/far_table_bench, which `rt run` builds
+    bench/seats.py [PROGRAM]     PROGRAM: crates/bench_far_table/out/bench_far_table, which `rt run` builds
 
 Each work is done N and 2N times, so that the difference is N turns, without the start. A turn is a call through a table of methods and the loop
 round it, the same for all works; within it the operation is inline. All is counted twice, and must come to the same. A scope is read_epoch, open and
@@ -47,7 +47,7 @@ def measured(program):
 
 def main():
     root = pathlib.Path(__file__).resolve().parent.parent
-    program = sys.argv[1] if len(sys.argv) > 1 else str(root / "crates/far_table_bench/out/far_table_bench")
+    program = sys.argv[1] if len(sys.argv) > 1 else str(root / "crates/bench_far_table/out/bench_far_table")
     cost = measured(program)
     again = measured(program)
     for work, turn in cost.items():

@@ -7,7 +7,7 @@ from pathlib import Path
 
 TOP = Path(__file__).resolve().parent.parent
 PAGE = TOP / 'docs/USING.md'
-TESTS = TOP / 'crates/far_heap_tests/src/tests/using.rt'
+TESTS = TOP / 'crates/tests_far_heap/src/tests/using.rt'
 
 
 def pieces(path, pattern):

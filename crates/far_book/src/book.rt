@@ -56,7 +56,7 @@ use crate::ledger::Ledger;
 use crate::log_rows::LogRows;
 use far_core::{Kind, Shape};
 use far_device::Device;
-use far_hand::Hand;
+use far_hand::Near;
 use far_log::{LogRow, Span, WalkFault, walk};
 use far_word::{HeadWord, LOG_WORDS, LONGEST, Place, PtrWord, Refused, size_of, words_for};
 use std::alloc::Global;
@@ -67,7 +67,7 @@ use std::marker::Model;
 /// It touches the shared words through the hand that it is lent, and keeps the bytes of far objects in its device. All its room is taken when it is made, so that later
 /// only the calls that answer lists take memory, and its device.
 #[derive(Drop)]
-pub struct Book<N: Hand + Drop, D: Device + Drop> {
+pub struct Book<N: Near + Drop, D: Device + Drop> {
     near: N,
     device: D,
     alloc: Global,
@@ -76,7 +76,7 @@ pub struct Book<N: Hand + Drop, D: Device + Drop> {
     buffer: Vec<u8>,
 }
 
-impl<N: Hand + Drop, D: Device + Drop> Model for Book<N, D> {
+impl<N: Near + Drop, D: Device + Drop> Model for Book<N, D> {
     ghost use Rattle.far_book.specs.book.BookOf.{BookOf};
     ghost use Rattle.std.specs.Prelude.{◌≤◌};
     ghost use Rattle.std.specs.Vec.{vec_capacity};
@@ -90,7 +90,7 @@ impl<N: Hand + Drop, D: Device + Drop> Model for Book<N, D> {
     ghost invariant = { λ b. InOrder (N.view b.near) b.ledger (D.contents b.device) (D.honest b.device) × (LONGEST ≤ vec_capacity b.buffer) };
 }
 
-impl<N: Hand + Drop, D: Device + Drop> Book<N, D> {
+impl<N: Near + Drop, D: Device + Drop> Book<N, D> {
     /// A book over a hand on words of which no cell is used yet and the logs are as at the start, and over a device, which is
     /// honest where the words say that the far side is. Refused [`Refused::Memory`] alone, and hand and device are
     /// dropped then.
@@ -322,7 +322,7 @@ fn home_in(cell: u64) -> Option<Home>
 }
 
 // Writes a header and zeros where a new object goes, and names the place by its free cell.
-fn name_blank<N: Hand>(near: &mut N, pointer: u16, len: u16, ds: u8, place: Place)
+fn name_blank<N: Near>(near: &mut N, pointer: u16, len: u16, ds: u8, place: Place)
     requires pointer { pointer < CELLS * (N.view near.old).mutators }
     requires free { (N.view near.old).cell pointer ≡ 0 }
     requires head { IsHead record { pointer = pointer; len = len; ds = ds } }
@@ -343,7 +343,7 @@ fn name_blank<N: Hand>(near: &mut N, pointer: u16, len: u16, ds: u8, place: Plac
 }
 
 // Writes a header and zeros behind it.
-fn put_blank<N: Hand>(near: &mut N, pointer: u16, len: u16, ds: u8, place: Place)
+fn put_blank<N: Near>(near: &mut N, pointer: u16, len: u16, ds: u8, place: Place)
     requires head { IsHead record { pointer = pointer; len = len; ds = ds } }
     requires layout { IsPtr (near_at len ds place no_marks) }
     requires next { IsNext (N.view near.old) place }
@@ -357,7 +357,7 @@ fn put_blank<N: Hand>(near: &mut N, pointer: u16, len: u16, ds: u8, place: Place
 }
 
 // Writes zeros to so many words of a log from one on.
-fn put_zeros<N: Hand>(near: &mut N, log: u8, at: u16, count: u16)
+fn put_zeros<N: Near>(near: &mut N, log: u8, at: u16, count: u16)
     requires past { IsPast (N.view near.old) log at count }
     ensures set { N.view near.new ≡ with_zeros (N.view near.old) log at count }
     ensures puts { Came (only (Writes log) N.makes) near.old near.new }
@@ -370,7 +370,7 @@ fn put_zeros<N: Hand>(near: &mut N, log: u8, at: u16, count: u16)
 }
 
 // The same, four words at a time.
-fn put_fours<N: Hand>(near: &mut N, log: u8, at: u16, fours: u16)
+fn put_fours<N: Near>(near: &mut N, log: u8, at: u16, fours: u16)
     requires past { IsPast (N.view near.old) log at (4 * fours) }
     ensures set { N.view near.new ≡ with_zeros (N.view near.old) log at (4 * fours) }
     ensures puts { Came (only (Writes log) N.makes) near.old near.new }
@@ -382,7 +382,7 @@ fn put_fours<N: Hand>(near: &mut N, log: u8, at: u16, fours: u16)
 
 // Writes zeros to four words.
 #[inline(always)]
-fn put_four<N: Hand>(near: &mut N, log: u8, at: u16)
+fn put_four<N: Near>(near: &mut N, log: u8, at: u16)
     requires past { IsPast (N.view near.old) log at 4 }
     ensures set { N.view near.new ≡ with_zeros (N.view near.old) log at 4 }
     ensures puts { Came (only (Writes log) N.makes) near.old near.new }
@@ -396,7 +396,7 @@ fn put_four<N: Hand>(near: &mut N, log: u8, at: u16)
 }
 
 // Frees the cell of a dropped object, by the word that was last found there, and answers what that word said.
-fn free_cell<N: Hand>(near: &mut N, pointer: u16) -> PtrWord
+fn free_cell<N: Near>(near: &mut N, pointer: u16) -> PtrWord
     requires pointer { pointer < CELLS * (N.view near.old).mutators }
     requires dropped { is_dropped (read_of ((N.view near.old).cell pointer)) ≡ true }
     ensures was { body_of (Some result) ≡ body_of (read_of ((N.view near.old).cell pointer)) }
@@ -431,7 +431,7 @@ fn says(word: u64) -> PtrWord
 }
 
 // The first `tail` words of a log, each as it was when it was read.
-fn read_words<N: Hand>(near: &mut N, log: u8, tail: u16) -> [u64; LOG_WORDS as usize]
+fn read_words<N: Near>(near: &mut N, log: u8, tail: u16) -> [u64; LOG_WORDS as usize]
     requires log { log < (N.view near.old).logs }
     requires tail { tail ≤ LOG_WORDS }
     requires known { HeadersKnown (N.view near.old) }

@@ -1,6 +1,6 @@
 //! The region book: what knows where each object lies and what each log has, over any hand on the shared words.
 //!
-//! The book touches words only through [`Hand`], a hand that it is lent.
+//! The book touches words only through [`Near`], a hand that it is lent.
 #![tactic(auto)]
 
 mod book;
@@ -11,7 +11,7 @@ mod log_rows;
 mod number_set;
 
 pub use book::Book;
-pub use far_hand::{Beset, Hand, Plain};
+pub use far_hand::{Beset, Near, Plain};
 pub use home::Home;
 pub use laws::{
     evicting_is_legal, fetching_is_legal, live_spans_follow, loads_give_stored, moving_is_legal,

@@ -22,7 +22,7 @@ mod waiting;
 
 use crate::phase::Phase;
 use crate::round::Round;
-use far_book::{Book, Hand};
+use far_book::{Book, Near};
 use far_device::Device;
 use far_policy::Chosen;
 use std::marker::Model;
@@ -31,12 +31,12 @@ use std::marker::Model;
 ///
 /// All calls of the book that keep a round's marks are handed on. No call blocks.
 #[derive(Drop)]
-pub struct Evac<N: Hand + Drop, D: Device + Drop> {
+pub struct Evac<N: Near + Drop, D: Device + Drop> {
     book: Book<N, D>,
     round: Round,
 }
 
-impl<N: Hand + Drop, D: Device + Drop> Model for Evac<N, D> {
+impl<N: Near + Drop, D: Device + Drop> Model for Evac<N, D> {
     ghost use Rattle.far_evac.specs.EvacOf.{EvacOf};
     ghost use Rattle.far_evac.specs.Standing.{InRound, collection_in};
 
@@ -47,7 +47,7 @@ impl<N: Hand + Drop, D: Device + Drop> Model for Evac<N, D> {
     ghost invariant = { λ e. InRound (N.view e.book.near) e.round };
 }
 
-impl<N: Hand + Drop, D: Device + Drop> Evac<N, D> {
+impl<N: Near + Drop, D: Device + Drop> Evac<N, D> {
     /// An evacuator over a book, in no round.
     pub fn new(book: Book<N, D>) -> Evac<N, D>
         ensures book { result.book ≡ book }

@@ -28,7 +28,7 @@ use far_word::Refused;
 ///
 /// Between any two calls, and before each one, owners may add HOT, MOVE or DROP to a cell, change their scope words, and
 /// store into objects that aren't quiet.
-pub trait Hand {
+pub trait Near {
     /// What the book knows of the state. Kinds, tails, spans, the round and the epoch are its own, and exact; of a cell the
     /// object, its place and EVAC are exact, and HOT, MOVE and DROP a floor: they are there at least where the view has
     /// them. A word of a log is the word itself or unknown. Nothing may be concluded from the view's scopes, nor from

@@ -1,6 +1,6 @@
 //! The hand on the shared words of a heap: each call is one event on one word.
 //!
-//! [`Hand`] is what may be counted on, of a hand beside which owners act too; [`Plain`] is a core that nobody else steps,
+//! [`Near`] is what may be counted on, of a hand beside which owners act too; [`Plain`] is a core that nobody else steps,
 //! [`Beset`] one whose owners act before each call.
 #![tactic(auto)]
 
@@ -10,6 +10,6 @@ mod owners;
 mod plain;
 
 pub use beset::Beset;
-pub use hand::Hand;
+pub use hand::Near;
 pub use owners::is_owners;
 pub use plain::Plain;

@@ -6,7 +6,7 @@ ghost use Rattle.far_core.specs.state.Shape.{is_shape};
 ghost use Rattle.far_hand.specs.MayBe.{Made, alone_lawful, alone_shown, alone_there, alone_told};
 ghost use Rattle.far_hand.specs.ShapeOf.{shape_of};
 
-use crate::hand::Hand;
+use crate::hand::Near;
 use far_core::{Core, Shape};
 use far_word::{EPOCH_END, Refused};
 
@@ -16,7 +16,7 @@ pub struct Plain {
     pub core: Core,
 }
 
-impl Hand for Plain {
+impl Near for Plain {
     ghost view = { λ s. core_state s.core };
 
     ghost still = { Unit {0} };

@@ -20,8 +20,8 @@ use Rattle.far_replay.specs.Spent.{SpentBy, may_spoil}
 use Rattle.far_replay.specs.Answers.{Answered, AnsweredBy, CommandedBy, FlawedAtMost, Outside, Serves, Refuses, Gives}
 use Rattle.far_text.specs.Command.{Command, New, Where, Logs, Mutator, Book, Evacuator, Wait}
 use Rattle.far_replay.specs.Objects.{lowest_cell}
-use Rattle.far_replay.specs.Reply.{Reply, Logs as Told, Refused, reply_text}
-use Rattle.far_replay.specs.Stream.{AppendsPart, Holds}
+use Rattle.far_reply.specs.Reply.{Reply, Logs as Told, Refused, reply_text}
+use Rattle.far_reply.specs.Stream.{AppendsPart, Holds}
 use Rattle.far_replay.specs.Turn.{effect, home_reply, log_line, pointer_reply, refusal, reply_to, turn_reply, unless}
 
 -- what the outside made of each command isn't told to the laws a command

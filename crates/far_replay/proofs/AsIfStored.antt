@@ -19,7 +19,7 @@ use Rattle.far_replay.specs.Commanded.{LiesFar, Misled}
 use Rattle.far_replay.specs.Dereference.{asked_for, sought_of}
 use Rattle.far_replay.specs.Effects.{with_view}
 use Rattle.far_replay.specs.Moment.{Moment, as_if_stored, with_stored}
-use Rattle.far_replay.specs.Reply.{Reply}
+use Rattle.far_reply.specs.Reply.{Reply}
 use Rattle.far_text.specs.Command.{Command}
 
 -- the law reads stored words of far objects, and of those that nobody uses

@@ -26,7 +26,7 @@ use Rattle.far_evac.specs.MomentLaw.{MomentLaw, is_idle}
 use Rattle.far_evac.specs.Refusals.{unselectable}
 use Rattle.far_evac.specs.Turns.{IsRound}
 use Rattle.far_text.specs.Command.{Choice, By, Script, LeastLive, Oldest, Policy, Evacuator, Select}
-use Rattle.far_replay.specs.Reply.{Ended}
+use Rattle.far_reply.specs.Reply.{Ended}
 use Rattle.far_replay.specs.Rounds.{after_round, choice_causes, chosen_by, given_by, logs_given, round_told, rows_in}
 use Rattle.far_replay.specs.Turn.{first_cause, refusal}
 

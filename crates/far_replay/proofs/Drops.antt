@@ -47,7 +47,7 @@ use Rattle.far_replay.specs.Events.{drop_events, events_for}
 use Rattle.far_replay.specs.Changes.{EndsObject}
 use Rattle.far_replay.specs.Moment.{Moment, with_core}
 use Rattle.far_replay.specs.Objects.{uses}
-use Rattle.far_replay.specs.Reply.{Reply, Done, Refused}
+use Rattle.far_reply.specs.Reply.{Reply, Done, Refused}
 use Rattle.far_replay.specs.Turn.{first_cause, refusal, unless}
 use Rattle.far_replay.proofs.AloneRuns.{Own-ext, put_twice, views_of}
 use Rattle.far_text.proofs.Each.{Each}

@@ -27,7 +27,7 @@ use Rattle.far_replay.specs.Moment.{FarSide, KeepsRound, Moment, as_if_stored, m
 use Rattle.far_replay.specs.EventRows.{after_events}
 use Rattle.far_replay.specs.Events.{first_word, store_events, words_touched}
 use Rattle.far_replay.specs.Objects.{data_of, with_range}
-use Rattle.far_replay.specs.Reply.{Reply, Data, Done, Refused}
+use Rattle.far_reply.specs.Reply.{Reply, Data, Done, Refused}
 use Rattle.far_replay.specs.Spent.{Makes, SpentBy}
 use Rattle.far_replay.specs.Turn.{unless}
 use Rattle.far_replay.specs.declared.turn.Access.{Access}

@@ -37,7 +37,6 @@ pub mod Spliced
 pub mod Stopping
 pub mod StoreTurns
 pub mod Strays
-pub mod Streams
 pub mod TakingView
 pub mod ToldRounds
 pub mod Turns

@@ -17,7 +17,7 @@ use Rattle.far_replay.specs.EventRows.{after_events}
 use Rattle.far_replay.specs.Events.{events_for}
 use Rattle.far_replay.specs.Moment.{FarSide, KeepsRound, Moment, moment_in, state_in}
 use Rattle.far_replay.specs.Outcome.{IsOutside, reply_by}
-use Rattle.far_replay.specs.Reply.{Reply, Halted, Refused}
+use Rattle.far_reply.specs.Reply.{Reply, Halted, Refused}
 use Rattle.far_replay.specs.Spent.{Makes, SpentBy}
 use Rattle.far_replay.specs.Turn.{access_causes, effect, first_cause, refusal, refused_effect, reply_to, turn_effect, turn_reply, unless}
 use Rattle.far_replay.specs.declared.outcome.Outcome.{Outcome}

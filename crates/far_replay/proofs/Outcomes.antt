@@ -4,7 +4,7 @@ use Rattle.far_word.specs.declared.refused.Refused.{Refused as Refusal}
 use Rattle.far_text.specs.Command.{Command, Write, Read, View, Mutator, Evacuator, Policy, Evacuate, Round}
 use Rattle.far_replay.specs.Commanded.{AsksFor, Commanded, Serves, Refuses, Gives, Served, Stopped, Unbrought, StopsLeaving, StopsRound, Misled, MisledBy}
 use Rattle.far_replay.specs.Moment.{Moment}
-use Rattle.far_replay.specs.Reply.{Reply}
+use Rattle.far_reply.specs.Reply.{Reply}
 
 -- refused in its midst
 module _ (why : Refusal) (turns objects : ℕ) (now : Moment) (r : Reply) (after : Moment) (P : Command → Type 0)

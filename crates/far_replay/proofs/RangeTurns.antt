@@ -28,7 +28,7 @@ use Rattle.far_replay.specs.Events.{first_word, store_events, words_touched}
 use Rattle.far_replay.specs.Interpreter.{IsAccess, IsViewed}
 use Rattle.far_replay.specs.Moment.{Moment, with_core}
 use Rattle.far_replay.specs.Objects.{data_of, is_range, named_len, object_len, with_range, uses}
-use Rattle.far_replay.specs.Reply.{Reply, Data, Refused}
+use Rattle.far_reply.specs.Reply.{Reply, Data, Refused}
 use Rattle.far_replay.specs.Turn.{access_causes, effect, first_cause, refusal, refused_effect, reply_to, turn_effect, turn_reply, unless}
 use Rattle.far_replay.specs.declared.turn.Access.{Access}
 use Rattle.far_replay.proofs.AloneStates.{data_small}

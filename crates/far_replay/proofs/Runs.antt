@@ -11,7 +11,7 @@ use Rattle.far_replay.specs.declared.running.End.{End}
 use Rattle.far_replay.specs.declared.running.RunFault.{RunFault}
 use Rattle.far_text.specs.Grammar.{trace_of, read_lines, lines_of}
 use Rattle.far_replay.specs.Answers.{IsOutput, LeavesBehind, WritesAnswer, Leaves, end_of}
-use Rattle.far_replay.specs.Stream.{AppendsFront, Writes}
+use Rattle.far_reply.specs.Stream.{AppendsFront, Writes}
 
 -- a shape that is refused memory is in range
 memory_is_refused : (b : Bool) → Memory ≡ cond b Memory Shape → b ≡ true

@@ -20,10 +20,10 @@ use Rattle.far_evac.specs.Turns.{HaltsTurns, Turned, turned, turns_made}
 use Rattle.far_evac.specs.Walk.{Walked, is_done, walked}
 use Rattle.far_text.specs.Command.{Command, Evacuate, Evacuator, Policy, Round}
 use Rattle.far_replay.specs.Commanded.{Served, StopsLeaving, StopsRound, StopsSo}
-use Rattle.far_replay.specs.Reply.{Ended, Evacuated, Halted}
+use Rattle.far_reply.specs.Reply.{Ended, Evacuated, Halted}
 use Rattle.far_replay.specs.Rounds.{after_round, chosen_by, is_evacuating, round_told, rows_in}
 use Rattle.far_replay.specs.Turn.{refusal, refused_effect, turn_effect, turn_reply, unless, first_cause}
-use Rattle.far_replay.specs.Reply.{Refused}
+use Rattle.far_reply.specs.Reply.{Refused}
 
 -- ---- an evacuation of fewer objects
 -- where it stands isn't done, since the walk that stopped wasn't

@@ -22,7 +22,7 @@ use Rattle.far_replay.specs.Effects.{is_slow, with_view}
 use Rattle.far_replay.specs.Interpreter.{refuser}
 use Rattle.far_replay.specs.Moment.{FarSide, KeepsRound, Moment, moment_in, state_in, with_core}
 use Rattle.far_replay.specs.Outcome.{IsFromOutside, reply_by}
-use Rattle.far_replay.specs.Reply.{Refused}
+use Rattle.far_reply.specs.Reply.{Refused}
 use Rattle.far_replay.specs.Spent.{Makes, SpentBy}
 use Rattle.far_replay.specs.Turn.{effect, first_cause, refusal, refused_effect, turn_effect, turn_reply, unless}
 use Rattle.far_replay.specs.declared.outcome.Outcome.{Outcome}

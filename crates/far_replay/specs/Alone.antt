@@ -10,7 +10,7 @@ use Rattle.far_book.specs.declared.home.Home.{Home}
 use Rattle.far_book.specs.declared.home.Home.TheVariants.{Near, Far}
 use Rattle.far_text.specs.Command.{Command, New, Open, Write, Read, Close, Where, Drop, View, Try, Epoch, Mutator, Book, Evacuator}
 use Rattle.far_replay.specs.Commanded.{AsksFor}
-use Rattle.far_replay.specs.Reply.{Reply, Done, Pointer, Data, Lies, EpochRead, Refused}
+use Rattle.far_reply.specs.Reply.{Reply, Done, Pointer, Data, Lies, EpochRead, Refused}
 use Rattle.far_replay.specs.Objects.{with_range}
 
 -- what a mutator knows of itself: whether its scope is open, the bytes of its objects, and which of them it views

@@ -16,12 +16,12 @@ use Rattle.far_text.specs.Command.{Command, Device, Flawed, Fail, Short, Flip, T
 use Rattle.far_text.specs.Grammar.{trace_of}
 pub use Rattle.far_replay.specs.Commanded.{Commanded, CommandedBy, Outside, Serves, Refuses, Gives, Served, Stopped, Unbrought, StopsLeaving, StopsRound, Misled, MisledBy}
 use Rattle.far_replay.specs.Moment.{Moment, as_if_stored, moment_of}
-use Rattle.far_replay.specs.Reply.{Reply, Done, Refused, reply_text}
+use Rattle.far_reply.specs.Reply.{Reply, Done, Refused, reply_text}
 use Rattle.far_replay.specs.declared.running.End.{End}
 use Rattle.far_replay.specs.declared.running.End.TheVariants.{Ran, Refused as Turned}
 use Rattle.far_replay.specs.declared.running.RunFault.{RunFault}
 use Rattle.far_replay.specs.declared.running.RunFault.TheVariants as faults
-use Rattle.far_replay.specs.Stream.{AppendsFront, AppendsPart}
+use Rattle.far_reply.specs.Stream.{AppendsFront, AppendsPart}
 use Rattle.far_text.specs.Written.{AllWriteBytes, WritesBytes}
 
 -- one reply a command, and a list of moments, each after its command from the one before

@@ -15,7 +15,7 @@ use Rattle.far_evac.specs.Moment.{plus, progress_of, tally_of}
 use Rattle.far_evac.specs.Turns.{turn_size, turns_made}
 use Rattle.far_text.specs.Command.{Command, Write, Read, View, Try, Mutator, Evacuator, Evacuate, Policy, Round}
 use Rattle.far_replay.specs.Moment.{Moment, as_if_stored}
-use Rattle.far_replay.specs.Reply.{Reply, Ended, Evacuated, Halted, Refused}
+use Rattle.far_reply.specs.Reply.{Reply, Ended, Evacuated, Halted, Refused}
 use Rattle.far_replay.specs.Rounds.{chosen_by, rows_in}
 use Rattle.far_replay.specs.Turn.{effect, refusal, reply_to}
 

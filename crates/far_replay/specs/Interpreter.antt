@@ -15,7 +15,7 @@ use Rattle.far_hand.specs.declared.plain.Plain.{Plain}
 use Rattle.far_core.specs.events.Step.{data_len, is_opened}
 use Rattle.far_replay.specs.declared.turn.Access.{Access}
 use Rattle.far_replay.specs.Outcome.{reply_by}
-use Rattle.far_replay.specs.Reply.{Reply}
+use Rattle.far_reply.specs.Reply.{Reply}
 use Rattle.far_replay.specs.declared.outcome.Outcome.{Outcome}
 use Rattle.far_replay.specs.declared.outcome.Scratch.{Scratch}
 use Rattle.far_word.specs.declared.refused.Refused.TheVariants.{Damaged, Device}

@@ -13,11 +13,8 @@ pub mod Lawful
 pub mod Moment
 pub mod Objects
 pub mod Outcome
-pub mod Reply
-pub mod ReplyWords
 pub mod Rounds
 pub mod Spent
 pub mod Stays
-pub mod Stream
 pub mod Taking
 pub mod Turn

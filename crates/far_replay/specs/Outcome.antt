@@ -8,7 +8,7 @@ use Rattle.far_replay.specs.declared.outcome.Outcome.TheVariants as outcomes
 use Rattle.far_replay.specs.declared.outcome.Scratch.{Scratch}
 use Rattle.far_replay.specs.declared.outcome.Stepped.{Stepped}
 use Rattle.far_replay.specs.declared.outcome.Stepped.TheVariants as steps
-use Rattle.far_replay.specs.Reply.{Reply, Done, Pointer, Data, Logs, Lies, Audited, EpochRead, Selected, Marked, Clear, Evacuated, Ended, Refused, Halted}
+use Rattle.far_reply.specs.Reply.{Reply, Done, Pointer, Data, Logs, Lies, Audited, EpochRead, Selected, Marked, Clear, Evacuated, Ended, Refused, Halted}
 
 -- what a step of the evacuator comes to
 abbrev pub told_by : Scratch → Stepped → Reply

@@ -21,7 +21,7 @@ use Rattle.far_evac.specs.Turns.{round_end, turns_made}
 use Rattle.far_evac.specs.Waiting.{after_polling, polled}
 use Rattle.far_evac.specs.Walk.{ended, is_done, walked}
 use Rattle.far_text.specs.Command.{Choice, By, Script, Policy, Oldest, LeastLive, Step, Select, Mark, Wait, Evacuate, Abort, Round}
-use Rattle.far_replay.specs.Reply.{Reply, Done, Selected, Marked, Clear, Evacuated, Ended}
+use Rattle.far_reply.specs.Reply.{Reply, Done, Selected, Marked, Clear, Evacuated, Ended}
 
 -- ---- which logs are chosen
 -- what is told of each sealed log, oldest first

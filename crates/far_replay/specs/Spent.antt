@@ -8,7 +8,7 @@ use Rattle.far_evac.specs.EvacOf.{EvacOf}
 use Rattle.far_text.specs.Command.{Command}
 use Rattle.far_replay.specs.Answers.{CommandedBy, IsFlaw, Outside, Serves, Refuses, Gives}
 use Rattle.far_replay.specs.Moment.{FarSide, moment_in}
-use Rattle.far_replay.specs.Reply.{Reply}
+use Rattle.far_reply.specs.Reply.{Reply}
 
 -- so many calls may yet have its flaw: of a device that doesn't lie they fail; of one that lies none fails, and so many reads are lies
 abbrev pub IsLeft : Lie → FarSide → ℕ → Type 0

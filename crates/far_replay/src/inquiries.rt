@@ -15,9 +15,9 @@ ghost use Rattle.far_replay.specs.Turn.{log_line, reply_to};
 
 use crate::outcome::{Outcome, Scratch};
 use crate::owners::{FarSide, core_of, own_pointer};
-use crate::reply::{Counts, LogLine};
 use far_book::Plain;
 use far_evac::{Evac, LogState};
+use far_reply::{Counts, LogLine};
 use far_word::{Refused, object_counts};
 
 /// Tells where an owner's object is.

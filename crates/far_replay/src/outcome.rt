@@ -1,12 +1,12 @@
 //! What a command comes to, and the buffers that its reply is read from.
 
 ghost use Rattle.std.specs.Prelude.{◌≡◌, ◌≢◌, IfErr, IfOk};
-ghost use Rattle.far_replay.specs.Reply.{reply_of, IsShort};
+ghost use Rattle.far_reply.specs.Reply.{reply_of, IsShort};
 ghost use Rattle.far_replay.specs.Outcome.{reply_by, told_by, IsInScratch, IsFromOutside};
 
-use crate::reply::{Counts, LogLine, Reply};
 use far_book::Home;
 use far_evac::{LogKind, Marked, Progress, RoundEnd};
+use far_reply::{Counts, LogLine, Reply};
 use far_word::{LOG_WORDS, MOST_LOGS, Refused};
 use std::alloc::AllocError;
 

@@ -13,7 +13,7 @@ ghost use Rattle.far_replay.specs.Moment.{moment_in};
 ghost use Rattle.far_replay.specs.declared.outcome.Scratch.{Scratch};
 ghost use Rattle.far_replay.specs.Outcome.{IsOutside, told_by};
 ghost use Rattle.far_replay.specs.Rounds.{given_by, logs_given, rows_in, step_effect, step_reply};
-ghost use Rattle.far_replay.specs.Reply.{Ended, Halted};
+ghost use Rattle.far_reply.specs.Reply.{Ended, Halted};
 ghost use Rattle.far_replay.specs.Turn.{effect, refusal, reply_to};
 
 use crate::outcome::{Scratch, Stepped};

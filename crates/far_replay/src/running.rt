@@ -1,9 +1,9 @@
 //! A whole run: a text in, replies out.
 
 ghost use Rattle.std.specs.Prelude.{◌≡◌, ◌≢◌, ◌<◌, ◌∷◌, ◌++◌, ℕ, Option, true, cond, List, length, slice_index, take, Ok, Err, IfOk, IfErr, IfSome, OnOk};
-ghost use Rattle.far_replay.specs.Reply.{refusal_text};
+ghost use Rattle.far_reply.specs.Reply.{refusal_text};
 ghost use Rattle.far_replay.specs.Outcome.{reply_by, told_by, IsInScratch};
-ghost use Rattle.far_replay.specs.Stream.{Holds, Writes};
+ghost use Rattle.far_reply.specs.Stream.{Holds, Writes};
 ghost use Rattle.std.specs.List.{flat_map};
 ghost use Rattle.far_core.specs.state.Opening.{opening};
 ghost use Rattle.far_core.specs.state.Shape.{is_shape};
@@ -16,21 +16,19 @@ ghost use Rattle.far_text.specs.declared.text.TheConstants.{LONGEST_TEXT};
 ghost use Rattle.far_text.specs.Grammar.{trace_of};
 ghost use Rattle.far_text.specs.Command.{Heap};
 ghost use Rattle.far_text.specs.Parsed.{as_trace};
-ghost use Rattle.far_replay.specs.Reply.{Reply as Answer, reply_text};
+ghost use Rattle.far_reply.specs.Reply.{Reply as Answer, reply_text};
 ghost use Rattle.far_replay.specs.Between.{Between};
 ghost use Rattle.far_evac.specs.MomentLaw.{MomentLaw};
 ghost use Rattle.far_evac.specs.Strays.{NoneStrays};
 
 use crate::outcome::{Outcome, Scratch};
 use crate::owners::FarSide;
-use crate::reply::Reply;
-use crate::reply_writer::ReplyWriter;
-use crate::stream::{WriteFault, read_text};
 use crate::turn::turn;
 use far_book::{Book, Plain};
 use far_core::{Core, Shape};
 use far_device::{FailAt, Liar, MemDevice};
 use far_evac::Evac;
+use far_reply::{Reply, ReplyWriter, WriteFault, read_text};
 use far_text::{Commands, Device, Flaw, LONGEST_TEXT, ParseError, Trace, parse};
 use far_word::Refused;
 use std::alloc::{AllocError, Global};

@@ -16,7 +16,7 @@ ghost use Rattle.hex.specs.Hex.{IsBytes};
 ghost use Rattle.far_text.specs.Written.{WritesBytes};
 ghost use Rattle.far_replay.specs.EventRows.{after_events};
 ghost use Rattle.far_text.specs.Command.{Mutator, Book, New, Open, Write, Read, Close, Where, Drop, View, Try, Logs, Log, Audit};
-ghost use Rattle.far_replay.specs.Reply.{Data, Refused as Refusal};
+ghost use Rattle.far_reply.specs.Reply.{Data, Refused as Refusal};
 ghost use Rattle.far_replay.specs.Spent.{Makes};
 ghost use Rattle.far_word.specs.declared.refused.Refused.TheVariants.{Memory};
 ghost use Rattle.far_replay.specs.Outcome.{reply_by, IsInScratch};
@@ -28,7 +28,7 @@ ghost use Rattle.far_replay.specs.Turn.{effect, access_causes, first_cause, repl
 
 use crate::dropping::drop_object;
 use crate::epochs::read_epoch;
-use crate::events::{dereference, open};
+use crate::dereferences::{dereference, open};
 use crate::inquiries::{audit, find_object, tell_log, tell_logs};
 use crate::outcome::{Outcome, Scratch};
 use crate::owners::{FarSide, core_of, free_cell, own_pointer, owner_of};

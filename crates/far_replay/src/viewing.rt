@@ -8,10 +8,10 @@ ghost use Rattle.far_text.specs.Command.{Mutator, Try, View};
 ghost use Rattle.far_replay.specs.Interpreter.{StandsFor};
 ghost use Rattle.far_replay.specs.Moment.{moment_in, state_in};
 ghost use Rattle.far_replay.specs.Outcome.{reply_by, IsInScratch};
-ghost use Rattle.far_replay.specs.Reply.{Refused as Refusal};
+ghost use Rattle.far_reply.specs.Reply.{Refused as Refusal};
 ghost use Rattle.far_replay.specs.Turn.{effect, reply_to};
 
-use crate::events::{dereference, try_view};
+use crate::dereferences::{dereference, try_view};
 use crate::outcome::Outcome;
 use crate::owners::{FarSide, core_of, own_pointer};
 use far_book::Plain;

@@ -28,7 +28,7 @@ use Rattle.far_replay.proofs.Outcomes.{by_outcome}
 use Rattle.far_replay_laws.proofs.Stops.{LeftSome, Stood, begun, left_some, starts, stood_so}
 use Rattle.far_replay.specs.Events.{IsNoStep}
 use Rattle.far_replay.specs.Moment.{with_core, as_if_stored}
-use Rattle.far_replay.specs.Reply.{Reply, Evacuated, Refused}
+use Rattle.far_reply.specs.Reply.{Reply, Evacuated, Refused}
 use Rattle.far_replay.specs.Rounds.{after_round, chosen_by, given_by, logs_given, refused_step, rows_in, step_effect}
 use Rattle.far_replay_laws.specs.Steps.{Takes}
 use Rattle.far_replay.specs.Turn.{effect, refusal, refused_effect, turn_effect, unless}

@@ -9,7 +9,7 @@ use Rattle.far_replay.specs.Answers.{Commanded, Served, IsMoment, first_moment, 
 use Rattle.far_replay.proofs.Answering.{answered_by}
 use Rattle.far_replay.proofs.Outcomes.{AsksNothing, is_served}
 use Rattle.far_replay.specs.Moment.{Moment}
-use Rattle.far_replay.specs.Reply.{Reply, Pointer}
+use Rattle.far_reply.specs.Reply.{Reply, Pointer}
 use Rattle.far_replay.proofs.Drops.{drop_ends_object}
 use Rattle.far_replay.proofs.Lasting.{each_is_moment, first_is_moment, first_lasts, moment_lasts, moments_last}
 use Rattle.far_text.proofs.TextLaws.{texts_write}

@@ -16,7 +16,7 @@ use Rattle.far_text.specs.Command.{Command, Device, Flawed, Fail, Short, Flip}
 use Rattle.far_text.specs.Written.{AllWriteBytes}
 use Rattle.far_core.specs.state.Shape.{is_shape}
 use Rattle.far_replay.specs.Moment.{Moment}
-use Rattle.far_replay.specs.Reply.{Reply}
+use Rattle.far_reply.specs.Reply.{Reply}
 use Rattle.far_replay.proofs.Answering.{answered_by}
 use Rattle.far_replay_laws.specs.FromOutside.{LiesAsSaid, gives_stored, lies, to_lie}
 

@@ -24,7 +24,7 @@ use Rattle.far_replay.specs.Between.{Between}
 use Rattle.far_text.specs.Command.{Command, New, Open, Write, Read, Close, Where, Drop, View, Try, Epoch, Mutator, Book, Evacuator, Evacuate, Round}
 use Rattle.far_text.specs.Written.{WritesBytes, AllWriteBytes}
 use Rattle.far_replay.specs.EventRows.{after_events, AllSucceed}
-use Rattle.far_replay.specs.Reply.{Reply, Ended, Evacuated, Refused}
+use Rattle.far_reply.specs.Reply.{Reply, Ended, Evacuated, Refused}
 use Rattle.far_replay.specs.Events.{events_for, IsNoStep}
 use Rattle.far_replay.specs.Turn.{effect, refusal, reply_to, unless}
 use Rattle.far_replay.proofs.Lasting.{Lasts, IsCarriedOut, after_step, command_carried, moment_lasts, still_lasts, misled_before, misled_lasts}

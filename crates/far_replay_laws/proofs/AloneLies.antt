@@ -23,7 +23,7 @@ use Rattle.far_replay.specs.Alone.{IsMisled, Knows, KnowsBy, Own, bytes_in_world
 use Rattle.far_replay.specs.Commanded.{AsksFor, LiesFar, Misled}
 use Rattle.far_replay.specs.Moment.{Moment, as_if_stored, with_stored}
 use Rattle.far_replay.specs.Objects.{named_len, uses}
-use Rattle.far_replay.specs.Reply.{Reply}
+use Rattle.far_reply.specs.Reply.{Reply}
 use Rattle.far_replay.proofs.AloneRuns.{Own-ext}
 use Rattle.far_replay.proofs.AloneStates.{own_used}
 

@@ -29,7 +29,7 @@ use Rattle.far_replay.specs.Alone.{own_of, bytes_in_world, HasAll, HasLeft}
 use Rattle.far_replay.specs.Between.{Between}
 use Rattle.far_text.specs.Command.{New, Mutator}
 use Rattle.far_replay.specs.EventRows.{after_events, AllSucceed}
-use Rattle.far_replay.specs.Reply.{Refused}
+use Rattle.far_reply.specs.Reply.{Refused}
 use Rattle.far_replay.specs.Events.{new_events, zero_puts}
 use Rattle.far_replay.specs.Objects.{lowest_cell}
 use Rattle.far_replay.specs.Effects.{near_word}

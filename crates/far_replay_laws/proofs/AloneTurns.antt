@@ -23,7 +23,7 @@ use Rattle.far_replay.specs.Alone.{Knows, Own, own_of, bytes_in_world, IsOut, Is
 use Rattle.far_replay.specs.Between.{Between}
 use Rattle.far_text.specs.Command.{Command, Open, Write, Read, Close, Where, Drop, View, Try, Epoch, Mutator}
 use Rattle.far_replay.specs.EventRows.{after_events, AllSucceed}
-use Rattle.far_replay.specs.Reply.{Reply, Done, Refused}
+use Rattle.far_reply.specs.Reply.{Reply, Done, Refused}
 use Rattle.far_replay.specs.Events.{turn_events, refused_events, open_events, view_events, sought_events, store_events, first_word, words_touched}
 use Rattle.far_replay.specs.Objects.{uses, object_len, data_of, with_range, is_range}
 use Rattle.far_replay.specs.Turn.{refusal, first_cause, unless, turn_reply, home_reply}

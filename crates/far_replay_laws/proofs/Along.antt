@@ -4,7 +4,7 @@ use Rattle.far_text.specs.Command.{Command}
 use Rattle.far_text.specs.Written.{AllWriteBytes, WritesBytes}
 use Rattle.far_replay.specs.Answers.{Answered, Commanded, IsMoment}
 use Rattle.far_replay.specs.Moment.{Moment}
-use Rattle.far_replay.specs.Reply.{Reply}
+use Rattle.far_reply.specs.Reply.{Reply}
 use Rattle.far_replay.proofs.Lasting.{next_is_moment}
 use Rattle.far_replay_laws.specs.Along.{AllAlong}
 

@@ -21,7 +21,7 @@ use Rattle.far_text.specs.Command.{Audit, Book}
 use Rattle.far_replay.specs.Audit.{counts_of, lies_far, lies_near}
 use Rattle.far_replay_laws.specs.Census.{AuditsByCensus, counted_in, is_near}
 use Rattle.far_replay.specs.Moment.{Moment}
-use Rattle.far_replay.specs.Reply.{Audited}
+use Rattle.far_reply.specs.Reply.{Audited}
 
 abbrev near_listed : Housed → Bool
 near_listed housed = is_near housed.home

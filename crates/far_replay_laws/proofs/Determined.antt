@@ -18,7 +18,7 @@ use Rattle.far_replay_laws.specs.Headline.{HasNoFlaw, OneOutput, OutsideDecides,
 use Rattle.far_text.specs.Command.{Command, Device, Trace, Heap, Mutator, Evacuator, Write, Read, View, Evacuate, Policy}
 use Rattle.far_text.specs.Grammar.{trace_of}
 use Rattle.far_replay.specs.Moment.{Moment, as_if_stored}
-use Rattle.far_replay.specs.Reply.{Reply, Evacuated, Halted, Refused, reply_text}
+use Rattle.far_reply.specs.Reply.{Reply, Evacuated, Halted, Refused, reply_text}
 use Rattle.far_replay_laws.proofs.Misleading.{asked_so}
 use Rattle.far_replay_laws.proofs.Stops.{same_progress}
 

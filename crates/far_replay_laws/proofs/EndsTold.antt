@@ -9,7 +9,7 @@ use Rattle.far_text.specs.Command.{Command, Device, Trace, Nothing, Heap}
 use Rattle.far_text.specs.Grammar.{trace_of}
 use Rattle.far_replay.specs.Answers.{AnsweredBy, FlawedAtMost, opened, flaws, is_true, lie_of, Outside, IsOutput, end_of, first_moment, shape_of}
 use Rattle.far_replay.specs.Moment.{Moment}
-use Rattle.far_replay.specs.Reply.{Reply, Done, Refused, reply_text}
+use Rattle.far_reply.specs.Reply.{Reply, Done, Refused, reply_text}
 use Rattle.far_replay.specs.declared.running.End.{End}
 use Rattle.far_replay.specs.declared.running.End.TheVariants.{Ran, Refused as Turned}
 use Rattle.far_replay_laws.specs.Ends.{BeginsWith, EndsAreTold}

@@ -11,7 +11,7 @@ use Rattle.far_text.specs.Command.{Open, Close, Epoch, Mutator}
 use Rattle.far_replay.specs.Effects.{epoch_for}
 use Rattle.far_replay_laws.specs.Headline.{EpochsAreTold, ScopesOpenAtEpochs, ClosesForget}
 use Rattle.far_replay.specs.Moment.{Moment}
-use Rattle.far_replay.specs.Reply.{Done, Refused}
+use Rattle.far_reply.specs.Reply.{Done, Refused}
 use Rattle.far_replay.proofs.Outcomes.{is_served}
 use Rattle.far_replay.specs.Turn.{refusal, unless, first_cause, turn_reply, turn_effect, refused_effect}
 

@@ -21,7 +21,7 @@ use Rattle.far_replay.proofs.Outcomes.{by_outcome}
 use Rattle.far_evac.specs.declared.answers.RoundEnd.{RoundEnd}
 use Rattle.far_evac.specs.declared.answers.RoundEnd.TheVariants as ends
 use Rattle.far_replay.specs.Moment.{Moment}
-use Rattle.far_replay.specs.Reply.{Reply, Ended, Evacuated, Marked, Refused}
+use Rattle.far_reply.specs.Reply.{Reply, Ended, Evacuated, Marked, Refused}
 use Rattle.far_replay.specs.Rounds.{choice_causes, given_by, refused_step, rows_in, step_effect}
 use Rattle.far_replay.specs.Turn.{first_cause, refusal, refused_effect, reply_to, turn_effect, turn_reply, unless}
 use Rattle.far_replay.proofs.Lasting.{Lasts, moment_lasts}

@@ -17,7 +17,7 @@ use Rattle.far_replay.specs.Answers.{AnsweredBy, FlawedAtMost, IsOutput, Outside
 use Rattle.far_replay.specs.Commanded.{KeepsFar}
 use Rattle.far_replay.specs.Moment.{Moment, as_if_stored}
 use Rattle.far_replay.specs.Objects.{lowest_cell}
-use Rattle.far_replay.specs.Reply.{Reply, Refused, Halted, reply_text}
+use Rattle.far_reply.specs.Reply.{Reply, Refused, Halted, reply_text}
 use Rattle.far_replay.specs.Turn.{home_reply, pointer_reply, refusal, turn_reply, unless}
 use Rattle.far_replay.proofs.Outcomes.{by_lie, by_stop}
 use Rattle.far_replay_laws.specs.FromOutside.{FailsAsSaid, FlawsAreSaid, LiesAsSaid, damages, failures, lies, one_if, says_damaged, says_failed}

@@ -15,7 +15,7 @@ use Rattle.far_text.specs.Command.{Command, New, Write, Read, Drop, View, Try, L
 use Rattle.far_replay.specs.Answers.{IsMoment, Served, Unbrought}
 use Rattle.far_replay.specs.Commanded.{KeepsFar, LiesFar}
 use Rattle.far_replay.specs.Moment.{Moment}
-use Rattle.far_replay.specs.Reply.{Reply, Refused}
+use Rattle.far_reply.specs.Reply.{Reply, Refused}
 use Rattle.far_replay.specs.Rounds.{choice_causes, rows_in, step_causes, wait_causes}
 use Rattle.far_replay.specs.Turn.{causes, refusal, turn_reply}
 use Rattle.far_replay.proofs.Outcomes.{by_outcome}

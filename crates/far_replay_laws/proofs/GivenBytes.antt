@@ -15,7 +15,7 @@ use Rattle.far_replay.specs.Answers.{AnsweredBy, CommandedBy, IsMoment, Outside,
 use Rattle.far_replay.specs.Commanded.{AsksFor, Misled}
 use Rattle.far_replay.specs.Moment.{Moment, as_if_stored}
 use Rattle.far_replay.specs.Objects.{named_len, uses, with_range}
-use Rattle.far_replay.specs.Reply.{Reply, Done, Data}
+use Rattle.far_reply.specs.Reply.{Reply, Done, Data}
 use Rattle.far_replay.proofs.AloneStates.{own_used}
 use Rattle.far_replay.proofs.Lasting.{Lasts, misled_before, misled_lasts, moment_lasts, next_is_moment}
 use Rattle.far_replay.proofs.Outcomes.{by_lie}

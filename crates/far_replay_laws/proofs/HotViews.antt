@@ -33,7 +33,7 @@ use Rattle.far_replay.specs.Answers.{Served, IsMoment, Begins, Comes, Stores}
 use Rattle.far_replay.specs.EventRows.{AllPass, after_events}
 use Rattle.far_replay_laws.specs.LeftMarks.{ViewedAreHot, is_hot}
 use Rattle.far_replay.specs.Moment.{Moment}
-use Rattle.far_replay.specs.Reply.{Reply}
+use Rattle.far_reply.specs.Reply.{Reply}
 use Rattle.far_replay.proofs.Drops.{viewed_is}
 use Rattle.far_replay.proofs.Lasting.{moment_lasts}
 use Rattle.far_replay.proofs.MadeLemmas.{legal_step}

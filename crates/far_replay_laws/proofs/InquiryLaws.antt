@@ -28,9 +28,9 @@ use Rattle.far_replay_laws.specs.HowMany.{IsHowMany}
 use Rattle.far_replay_laws.specs.Headline.{TellsHome, IsNearObject, IsFarObject, CountsAll}
 use Rattle.far_replay.specs.Moment.{Moment}
 use Rattle.far_replay.specs.Objects.{uses}
-use Rattle.far_replay.specs.declared.reply.Counts.{Counts}
-use Rattle.far_replay.specs.declared.reply.LogLine.{LogLine}
-use Rattle.far_replay.specs.Reply.{Reply, Logs, Lies, Audited, Refused}
+use Rattle.far_reply.specs.declared.reply.Counts.{Counts}
+use Rattle.far_reply.specs.declared.reply.LogLine.{LogLine}
+use Rattle.far_reply.specs.Reply.{Reply, Logs, Lies, Audited, Refused}
 use Rattle.far_replay.specs.Turn.{first_cause, unless, home_reply, log_line}
 use Rattle.far_replay.proofs.Lasting.{moment_lasts}
 use Rattle.std.proofs.lemmas.Bool.{and_parts}

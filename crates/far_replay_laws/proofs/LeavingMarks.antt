@@ -28,7 +28,7 @@ use Rattle.far_replay.specs.Taking.{LacksRoom}
 use Rattle.far_replay_laws.specs.LeftMarks.{GainsForRoom, GainsHot, IsHotAlone, LeavesHot, LeavesMarks, OthersStay, RefusedLeaves, TryLeaves, is_hot}
 use Rattle.far_replay.specs.Moment.{Moment, as_if_stored, with_stored}
 use Rattle.far_replay.specs.Objects.{uses}
-use Rattle.far_replay.specs.Reply.{Reply, Refused}
+use Rattle.far_reply.specs.Reply.{Reply, Refused}
 use Rattle.far_replay.specs.Turn.{access_causes, causes, first_cause, refusal, unless, turn_effect, refused_effect, turn_reply, reply_to}
 use Rattle.far_replay.proofs.Bringing.{asked_keeps, brought_keeps, slow_unheld}
 use Rattle.far_replay.proofs.Brought.{brought}

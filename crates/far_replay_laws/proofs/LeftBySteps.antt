@@ -27,7 +27,7 @@ use Rattle.far_evac.specs.declared.answers.RoundEnd.TheVariants.{Limit}
 use Rattle.far_replay.proofs.Outcomes.{by_outcome}
 use Rattle.far_replay_laws.proofs.Stops.{begun, left_some, starts, stood_so}
 use Rattle.far_replay_laws.specs.Left.{AllStayPut, CellBy, DealsWith, IsAnywhere, Leaves, LeavesRest, MarksBy, SomeStay, StaysMarked, StaysPut, StepLeaves}
-use Rattle.far_replay.specs.Reply.{Reply, Done, Ended, Evacuated, Refused, Selected}
+use Rattle.far_reply.specs.Reply.{Reply, Done, Ended, Evacuated, Refused, Selected}
 use Rattle.far_replay.specs.Rounds.{after_round, chosen_by, given_by, is_evacuating, logs_given, refused_step, rows_in, step_effect, step_reply}
 use Rattle.far_replay_laws.specs.Steps.{IsChosen, LiesIn}
 use Rattle.far_replay.specs.Turn.{effect, reply_to, refusal, refused_effect, turn_effect, turn_reply, unless}

@@ -8,7 +8,7 @@ use Rattle.far_replay.specs.Answers.{Commanded, Served, Serves}
 use Rattle.far_replay.proofs.Outcomes.{is_served}
 use Rattle.far_replay_laws.specs.Listed.{AuditCountsList, Counted, CountsList}
 use Rattle.far_replay.specs.Moment.{Moment}
-use Rattle.far_replay.specs.Reply.{Reply}
+use Rattle.far_reply.specs.Reply.{Reply}
 use Rattle.far_replay_laws.proofs.Censused.{audits_by_census}
 use Rattle.far_replay.proofs.Lasting.{moment_lasts}
 

@@ -8,7 +8,7 @@ use Rattle.far_replay.specs.Commanded.{AsksFor, Misled, MisledBy}
 use Rattle.far_replay.specs.Dereference.{dereferenced, has_no_room}
 use Rattle.far_replay.specs.Moment.{Moment, as_if_stored}
 use Rattle.far_replay.specs.Objects.{data_of, uses}
-use Rattle.far_replay.specs.Reply.{Reply, Done, Data, Refused}
+use Rattle.far_reply.specs.Reply.{Reply, Done, Data, Refused}
 use Rattle.far_replay.specs.Turn.{refusal, turn_reply, unless}
 use Rattle.far_replay.proofs.Turns.{access_fact, tried}
 use Rattle.std.specs.Prelude.{slice_range}

@@ -35,7 +35,7 @@ use Rattle.far_text.specs.Command.{By, Evacuator, Step, Select, Mark, Wait, Evac
 use Rattle.far_replay_laws.specs.Headline.{TakesRoom}
 use Rattle.far_replay.specs.Taking.{TakesNone}
 use Rattle.far_replay_laws.specs.MovesTake.{Comes, Leaves, MovesTake, RoomAside, RoomBack, RoomLeft, TakeBytes}
-use Rattle.far_replay.specs.Reply.{Refused}
+use Rattle.far_reply.specs.Reply.{Refused}
 use Rattle.far_replay.specs.Rounds.{after_round, chosen_by, given_by, is_evacuating, logs_given, refused_step, round_told, rows_in, step_effect}
 use Rattle.far_replay_laws.specs.Steps.{IsChosen, IsRetired, IsSentFar, LiesIn, Takes}
 use Rattle.far_replay.specs.Turn.{refusal, unless, turn_effect, turn_reply, refused_effect}

@@ -43,8 +43,8 @@ use Rattle.far_text.specs.Grammar.{trace_of}
 use Rattle.far_replay_laws.specs.Headline.{HeapsBeginLawful, IsWhole, IsSaidBy, TellsAll, TellsLog}
 use Rattle.far_text.specs.Written.{AllWriteBytes}
 use Rattle.far_replay.specs.EventRows.{after_events, AllSucceed}
-use Rattle.far_replay.specs.declared.reply.LogLine.{LogLine}
-use Rattle.far_replay.specs.Reply.{Reply, Pointer, Refused, reply_text}
+use Rattle.far_reply.specs.declared.reply.LogLine.{LogLine}
+use Rattle.far_reply.specs.Reply.{Reply, Pointer, Refused, reply_text}
 use Rattle.far_replay.specs.Events.{turn_events, view_events, events_for, new_events}
 use Rattle.far_replay.specs.Objects.{is_range, lowest_cell, object_len, uses, with_range}
 use Rattle.far_word.specs.declared.mark.Marks.{Marks}

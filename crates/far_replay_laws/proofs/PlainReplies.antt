@@ -32,8 +32,8 @@ use Rattle.far_replay_laws.specs.Headline.{IsToldInFull, IsLineToldInFull, AreTo
 use Rattle.far_replay.specs.Dereference.{dereferenced}
 use Rattle.far_replay.specs.Moment.{Moment, as_if_stored}
 use Rattle.far_replay.specs.Objects.{lowest_cell, data_of}
-use Rattle.far_replay.specs.declared.reply.LogLine.{LogLine}
-use Rattle.far_replay.specs.Reply.{Reply, Audited, Evacuated, Refused}
+use Rattle.far_reply.specs.declared.reply.LogLine.{LogLine}
+use Rattle.far_reply.specs.Reply.{Reply, Audited, Evacuated, Refused}
 use Rattle.far_replay.specs.Turn.{causes, refusal, reply_to, unless, turn_reply, log_line, pointer_reply, home_reply}
 use Rattle.far_text.specs.Written.{AllWriteBytes, WritesBytes}
 use Rattle.far_replay_laws.proofs.AloneNew.{is_structure}

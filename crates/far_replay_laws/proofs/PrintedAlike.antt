@@ -22,9 +22,9 @@ use Rattle.far_evac.specs.declared.phase.Phase.TheVariants as phases
 use Rattle.far_book.specs.declared.home.Home.TheVariants.{Near, Far}
 use Rattle.far_replay_laws.specs.Headline.{IsToldInFull, IsHomeToldInFull, AreCountsToldInFull, IsLineToldInFull, AreToldInFull, IsRefusalToldInFull, IsWaitToldInFull, AreToldAsNumbers, IsProgressToldInFull, IsEndToldInFull}
 use Rattle.far_replay.specs.Commanded.{KeepsNear}
-use Rattle.far_replay.specs.declared.reply.Counts.{Counts}
-use Rattle.far_replay.specs.declared.reply.LogLine.{LogLine}
-use Rattle.far_replay.specs.Reply.{Reply, Done, Pointer, Data, Logs, Lies, Audited, EpochRead, Selected, Marked as MarkedSome, Clear, Evacuated, Ended, Refused, Halted, kind_word, log_text, letters_of, home_printed, counts_printed, detail, refusal_text, halted_text, log_listed, chosen_text, waiting_text, counted_text, done_text, phase_word, end_text, reply_text}
+use Rattle.far_reply.specs.declared.reply.Counts.{Counts}
+use Rattle.far_reply.specs.declared.reply.LogLine.{LogLine}
+use Rattle.far_reply.specs.Reply.{Reply, Done, Pointer, Data, Logs, Lies, Audited, EpochRead, Selected, Marked as MarkedSome, Clear, Evacuated, Ended, Refused, Halted, kind_word, log_text, letters_of, home_printed, counts_printed, detail, refusal_text, halted_text, log_listed, chosen_text, waiting_text, counted_text, done_text, phase_word, end_text, reply_text}
 use Rattle.std.specs.Int.{byte_at, bytes_high_first, from_be_bytes, to_be_bytes, w64}
 use Rattle.std.specs.Str.Parse.{digits_value}
 use Rattle.std.proofs.lemmas.Nat.{from_be_bytes-to_be_bytes_8, mod_below}

@@ -20,7 +20,7 @@ use Rattle.far_replay.specs.Commanded.{KeepsFar, LiesFar}
 use Rattle.far_replay.proofs.Outcomes.{by_outcome}
 use Rattle.far_text.specs.Command.{Command, New, Write, Read, Where, Drop, View, Try, Logs, Log, Audit, Mutator, Book, Evacuator, Step, By, Script, Select, Wait, Round}
 use Rattle.far_replay_laws.specs.Headline.{IsAtHandFor, MayRefuse}
-use Rattle.far_replay.specs.Reply.{Reply, Refused, Halted}
+use Rattle.far_reply.specs.Reply.{Reply, Refused, Halted}
 use Rattle.far_replay.specs.Dereference.{has_no_room}
 use Rattle.far_replay.specs.Effects.{is_slow}
 use Rattle.far_replay.specs.EventRows.{AtHand}

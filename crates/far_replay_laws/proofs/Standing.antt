@@ -11,7 +11,7 @@ use Rattle.far_word.specs.declared.refused.Refused.TheVariants.{Marked}
 use Rattle.far_replay.proofs.Outcomes.{by_outcome}
 use Rattle.far_replay.specs.Events.{IsNoStep}
 use Rattle.far_replay.specs.Moment.{Moment, with_core, as_if_stored}
-use Rattle.far_replay.specs.Reply.{Reply, Refused}
+use Rattle.far_reply.specs.Reply.{Reply, Refused}
 use Rattle.far_replay_laws.specs.Stands.{RoundStands, Stands}
 use Rattle.far_replay_laws.specs.Steps.{IsChosen}
 use Rattle.far_replay.specs.Turn.{effect}

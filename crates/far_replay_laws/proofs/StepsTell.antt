@@ -68,7 +68,7 @@ use Rattle.far_evac.proofs.Unviewed.{none_found}
 use Rattle.far_evac.proofs.Walks.{walk_is}
 use Rattle.far_text.specs.Command.{By, Choice, LeastLive, Mark, Oldest, Policy, Script, Select}
 use Rattle.far_replay_laws.specs.HowMany.{IsHowMany}
-use Rattle.far_replay.specs.Reply.{Marked, Selected}
+use Rattle.far_reply.specs.Reply.{Marked, Selected}
 use Rattle.far_replay.specs.Rounds.{chosen_by, given_by, rows_in}
 use Rattle.far_replay_laws.specs.Steps.{GainsEvac, HoldsUp, IsChosen, IsAt, IsGivenBack, IsMoved, IsNear, IsRetired, IsSentFar, LiesAt, LiesIn, NobodyHoldsUp, ReachesEpoch, ShowsEvac, StandsFirst, Takes, TellsChoice, TellsEnd, TellsLeaving, TellsMarks, phase_after}
 use Rattle.far_replay_laws.proofs.CountedOnce.{all_at, among_in, beyond, filtered, front_or_rest, how_many_in, how_many_of, in_among, in_front, member_or_apart, once_filter, once_take, turn_filter, turn_split}

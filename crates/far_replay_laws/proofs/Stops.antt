@@ -23,7 +23,7 @@ use Rattle.far_evac.proofs.Walks.{moment_same, walk_is}
 use Rattle.far_text.specs.Command.{Command, Evacuator, Evacuate, Policy, Round}
 use Rattle.far_replay.specs.Answers.{Served}
 use Rattle.far_replay.specs.Moment.{Moment}
-use Rattle.far_replay.specs.Reply.{Reply, Ended, Evacuated, Refused}
+use Rattle.far_reply.specs.Reply.{Reply, Ended, Evacuated, Refused}
 use Rattle.far_replay.specs.Rounds.{after_round, chosen_by, is_evacuating, round_told, rows_in}
 use Rattle.far_replay.specs.Turn.{refusal, refused_effect, turn_effect, turn_reply, unless}
 use Rattle.far_replay.proofs.RoundChoices.{policy_chooses}

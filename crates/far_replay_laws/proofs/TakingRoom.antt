@@ -38,7 +38,7 @@ use Rattle.far_replay_laws.specs.Headline.{CommandTakes, TakesRoom}
 use Rattle.far_replay.specs.Taking.{BytesMove, DereferenceLacks, DropTakes, TakesNone, BringTakes, DereferenceTakes, TakesSpan}
 use Rattle.far_replay.specs.Moment.{Moment, moment_of, as_if_stored, with_stored}
 use Rattle.far_replay.specs.Objects.{data_of, is_range, lowest_cell, object_len, uses, with_range}
-use Rattle.far_replay.specs.Reply.{Reply, Evacuated, Refused}
+use Rattle.far_reply.specs.Reply.{Reply, Evacuated, Refused}
 use Rattle.far_replay.specs.Turn.{refusal, unless, turn_effect, refused_effect, turn_reply, reply_to, pointer_reply, with_new}
 use Rattle.far_replay.proofs.Drops.{drop_is, unheld_is}
 use Rattle.far_replay.proofs.Dereferences.{derefs, sought_lacks}

@@ -20,7 +20,7 @@ use Rattle.far_replay.specs.Effects.{is_slow, with_view}
 use Rattle.far_replay_laws.specs.Headline.{IsHotAfter}
 use Rattle.far_replay.specs.Moment.{Moment, with_core}
 use Rattle.far_replay.specs.Objects.{uses}
-use Rattle.far_replay.specs.Reply.{Reply, Done, Refused}
+use Rattle.far_reply.specs.Reply.{Reply, Done, Refused}
 use Rattle.far_replay.specs.Turn.{first_cause, unless, refused_effect, turn_effect}
 use Rattle.far_replay.proofs.Drops.{viewed_is}
 use Rattle.far_replay.proofs.Views.{pin_read}

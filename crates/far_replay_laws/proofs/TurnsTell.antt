@@ -26,7 +26,7 @@ use Rattle.far_text.specs.Command.{Command, Evacuator, Choice, By, Script, Polic
 use Rattle.far_replay.specs.Answers.{Commanded, Served, StopsLeaving, StopsRound, IsMoment}
 use Rattle.far_replay.proofs.Outcomes.{by_outcome}
 use Rattle.far_replay_laws.proofs.Stops.{starts, stood_so}
-use Rattle.far_replay.specs.Reply.{Reply, Selected, Clear, Evacuated, Ended, Refused, Halted}
+use Rattle.far_reply.specs.Reply.{Reply, Selected, Clear, Evacuated, Ended, Refused, Halted}
 use Rattle.far_replay.specs.Rounds.{after_round, choice_causes, chosen_by, given_by, is_evacuating, is_marking, is_waiting, logs_given, refused_step, round_told, rows_in, step_causes, step_effect, step_reply, wait_causes}
 use Rattle.far_replay_laws.specs.Steps.{AreTurns, CountsRound, IsTimeFor, NoneDone, Takes, TellsRefusal, TellsRound, TellsStep, Told, counted_by, phase_after, says_done, sum_of, turn_step}
 use Rattle.far_replay.specs.Turn.{effect, first_cause, refusal, refused_effect, turn_effect, turn_reply, unless}

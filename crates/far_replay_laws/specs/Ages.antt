@@ -3,7 +3,7 @@ use Rattle.std.specs.Prelude.{◌≡◌, ℕ, Bool, true, not, List, ◌++◌, C
 use Rattle.far_text.specs.Command.{Command, By, Evacuator, Evacuate, Round}
 use Rattle.far_replay.specs.Answers.{Commanded, IsMoment}
 use Rattle.far_replay.specs.Moment.{Moment}
-use Rattle.far_replay.specs.Reply.{Reply}
+use Rattle.far_reply.specs.Reply.{Reply}
 use Rattle.far_replay_laws.specs.Steps.{IsChosen, Takes}
 
 -- the logs that a command may give back: those that are chosen, or that a round of its own chooses

@@ -1,7 +1,7 @@
 -- What is so of each command of a list: of its reply, and of the moments before it and after it.
 use Rattle.std.specs.Prelude.{List, ◌∷◌}
 use Rattle.far_replay.specs.Moment.{Moment}
-use Rattle.far_replay.specs.Reply.{Reply}
+use Rattle.far_reply.specs.Reply.{Reply}
 use Rattle.far_text.specs.Command.{Command}
 
 abbrev pub AllAlong : (Moment → Command → Reply → Moment → Type 0) → Moment → List Command → List Reply → List Moment → Type 0

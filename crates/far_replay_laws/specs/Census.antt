@@ -8,8 +8,8 @@ use Rattle.far_evac.specs.Census.{homes_of, logs_of}
 use Rattle.far_text.specs.Command.{Book, Audit}
 use Rattle.far_replay.specs.Answers.{Commanded}
 use Rattle.far_replay.specs.Moment.{Moment}
-use Rattle.far_replay.specs.declared.reply.Counts.{Counts}
-use Rattle.far_replay.specs.Reply.{Reply, Audited}
+use Rattle.far_reply.specs.declared.reply.Counts.{Counts}
+use Rattle.far_reply.specs.Reply.{Reply, Audited}
 
 abbrev pub is_near : Home → Bool
 is_near (Near place marks) = true

@@ -6,7 +6,7 @@ use Rattle.far_text.specs.Command.{Evacuator, Step, Select, Mark, Round}
 use Rattle.far_word.specs.declared.refused.Refused.TheVariants.{EpochsSpent}
 use Rattle.far_replay.specs.Answers.{Commanded, IsMoment}
 use Rattle.far_replay.specs.Moment.{Moment}
-use Rattle.far_replay.specs.Reply.{Reply, Marked, Ended, Halted, Refused}
+use Rattle.far_reply.specs.Reply.{Reply, Marked, Ended, Halted, Refused}
 
 -- the epoch is the one that a marking tells which left none to be marked, and no other step spends one. Of a round its turns say it (`TellsRound`)
 abbrev pub EpochAfter : ℕ → Step → Reply → ℕ → Type 0

@@ -10,7 +10,7 @@ use Rattle.far_text.specs.Grammar.{trace_of}
 use Rattle.far_replay.specs.Answers.{AnsweredBy, Answers, Commanded, IsMoment, Outside, Serves, Refuses, Gives, first_moment, is_true, opened, shape_of}
 use Rattle.far_replay.specs.Commanded.{KeepsFar, LiesFar}
 use Rattle.far_replay.specs.Moment.{Moment}
-use Rattle.far_replay.specs.Reply.{Reply, Halted, Refused, reply_text}
+use Rattle.far_reply.specs.Reply.{Reply, Halted, Refused, reply_text}
 
 -- the object that a command is to reach is far
 abbrev pub IsFarFor : State → Command → Type 0

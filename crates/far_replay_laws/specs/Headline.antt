@@ -47,9 +47,9 @@ use Rattle.far_replay.specs.Stays.{MayMark, MaySee, Stays}
 use Rattle.far_replay_laws.specs.MovesTake.{MovesTake}
 use Rattle.far_replay_laws.specs.Steps.{AllTold, IsChosen, Takes}
 use Rattle.far_text.specs.Written.{WritesBytes, AllWriteBytes}
-use Rattle.far_replay.specs.declared.reply.Counts.{Counts}
-use Rattle.far_replay.specs.declared.reply.LogLine.{LogLine}
-use Rattle.far_replay.specs.Reply.{Reply, Done, Pointer, Data, Logs, Lies, Audited, EpochRead, Selected, Marked, Clear, Evacuated, Ended, Refused, Halted, reply_text}
+use Rattle.far_reply.specs.declared.reply.Counts.{Counts}
+use Rattle.far_reply.specs.declared.reply.LogLine.{LogLine}
+use Rattle.far_reply.specs.Reply.{Reply, Done, Pointer, Data, Logs, Lies, Audited, EpochRead, Selected, Marked, Clear, Evacuated, Ended, Refused, Halted, reply_text}
 use Rattle.far_replay.specs.Changes.{LogStays, StayThrough, EndsObject, ViewsObject}
 use Rattle.far_replay.specs.Lawful.{Lawful}
 use Rattle.far_replay.specs.Taking.{TakesNone, TakesSpan, DereferenceTakes, DereferenceLacks, DropTakes}

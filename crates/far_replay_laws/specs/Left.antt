@@ -10,7 +10,7 @@ use Rattle.far_core.specs.world.WorldOf.{world_of}
 use Rattle.far_text.specs.Command.{Command, Evacuator, By, Step, Select, Mark, Wait, Evacuate, Abort, Round}
 use Rattle.far_replay.specs.Answers.{Commanded, IsMoment, Served}
 use Rattle.far_replay.specs.Moment.{Moment}
-use Rattle.far_replay.specs.Reply.{Reply, Done, Selected, Marked, Evacuated, Ended, Halted}
+use Rattle.far_reply.specs.Reply.{Reply, Done, Selected, Marked, Evacuated, Ended, Halted}
 use Rattle.far_replay_laws.specs.Along.{AllAlong}
 use Rattle.far_replay_laws.specs.Stands.{Stands}
 use Rattle.far_replay_laws.specs.Steps.{IsChosen, LiesIn}

@@ -10,7 +10,7 @@ use Rattle.far_core.specs.state.State.{State}
 use Rattle.far_text.specs.Command.{Command, New, Open, Write, Read, Close, Where, Drop, View, Try, Epoch, Mutator, Book, Evacuator}
 use Rattle.far_replay.specs.Answers.{Commanded, IsMoment}
 use Rattle.far_replay.specs.Moment.{Moment}
-use Rattle.far_replay.specs.Reply.{Reply, Pointer, Refused}
+use Rattle.far_reply.specs.Reply.{Reply, Pointer, Refused}
 
 -- all stays but what is of one pointer: its cell, whether it is used, and its view
 pub record AllButObject (s t : State) (p : ℕ) : Type 0 where

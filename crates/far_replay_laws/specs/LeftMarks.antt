@@ -11,7 +11,7 @@ use Rattle.far_core.specs.state.State.{State}
 use Rattle.far_core.specs.world.WorldOf.{world_of}
 use Rattle.far_replay.specs.Answers.{Answers, Commanded, IsMoment, first_moment, is_true, shape_of}
 use Rattle.far_replay.specs.Moment.{Moment}
-use Rattle.far_replay.specs.Reply.{Reply, Done, Data, Refused}
+use Rattle.far_reply.specs.Reply.{Reply, Done, Data, Refused}
 use Rattle.far_replay_laws.specs.Along.{AllAlong}
 use Rattle.far_text.specs.Command.{Command, Heap, Write, Read, View, Try, Mutator, Device as SaidDevice}
 use Rattle.far_text.specs.Grammar.{trace_of}

@@ -7,7 +7,7 @@ use Rattle.far_text.specs.Command.{Audit, Book, Command}
 use Rattle.far_replay.specs.Answers.{Commanded, IsMoment}
 use Rattle.far_replay_laws.specs.Census.{counted_in}
 use Rattle.far_replay.specs.Moment.{Moment}
-use Rattle.far_replay.specs.Reply.{Audited, Reply}
+use Rattle.far_reply.specs.Reply.{Audited, Reply}
 use Rattle.far_replay_laws.specs.Along.{AllAlong}
 
 abbrev pub CountsList : Moment → Reply → Type 0

@@ -9,7 +9,7 @@ use Rattle.far_replay.specs.Answers.{CommandedBy, IsMoment, Outside, Serves, Ref
 use Rattle.far_replay.specs.Commanded.{AsksFor, LiesFar}
 use Rattle.far_replay.specs.Moment.{Moment}
 use Rattle.far_replay.specs.Objects.{with_range}
-use Rattle.far_replay.specs.Reply.{Reply, Done, Data}
+use Rattle.far_reply.specs.Reply.{Reply, Done, Data}
 
 -- what a command makes of its object's bytes: a write has its own in their range
 abbrev pub bytes_made : Command → List ℕ → List ℕ

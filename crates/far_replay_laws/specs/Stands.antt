@@ -7,7 +7,7 @@ use Rattle.far_word.specs.Pointer.{read_of}
 use Rattle.far_text.specs.Command.{Command, Mutator, Book, Evacuator}
 use Rattle.far_replay.specs.Answers.{Commanded, IsMoment}
 use Rattle.far_replay.specs.Moment.{Moment}
-use Rattle.far_replay.specs.Reply.{Reply}
+use Rattle.far_reply.specs.Reply.{Reply}
 use Rattle.far_replay_laws.specs.Steps.{IsChosen}
 
 -- the phase stays, and so does the collection set, in its order, and which are chosen, as `log` prints it; the logs of the core's round and its epoch, and

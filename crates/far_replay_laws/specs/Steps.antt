@@ -25,7 +25,7 @@ use Rattle.far_text.specs.Command.{Command, Evacuator, Choice, By, Script, Oldes
 use Rattle.far_replay.specs.Answers.{Commanded, IsMoment, Served}
 use Rattle.far_replay_laws.specs.HowMany.{IsHowMany}
 use Rattle.far_replay.specs.Moment.{Moment}
-use Rattle.far_replay.specs.Reply.{Reply, Done, Selected, Marked, Clear, Evacuated, Ended, Refused, Halted}
+use Rattle.far_reply.specs.Reply.{Reply, Done, Selected, Marked, Clear, Evacuated, Ended, Refused, Halted}
 use Rattle.far_replay_laws.specs.Along.{AllAlong}
 
 -- ---- where an object is

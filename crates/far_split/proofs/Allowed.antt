@@ -3,7 +3,7 @@ use Rattle.std.proofs.Common.{◌≡◌, ℕ, Bool, true, false, [], ◌∷◌, 
 use Rattle.std.specs.Bool.{MatchBool}
 use Rattle.far_text.specs.Command.{Command}
 use Rattle.far_replay.specs.Alone.{Alone, IsMisled, KnowsBy, Own}
-use Rattle.far_replay.specs.Reply.{Reply}
+use Rattle.far_reply.specs.Reply.{Reply}
 use Rattle.far_split.specs.Here.{AloneIsAloneHere, AloneOnIsAloneHere, HonestIsAllowed, IsGivenOthers, IsUndamaged, KnowsHere, UnhinderedIsAlone}
 
 -- a mutator that is misled is given other bytes

@@ -17,7 +17,7 @@ use Rattle.far_heap.specs.MineLaw.{MineLaw}
 use Rattle.far_heap.proofs.Spliced.{length-with_range, with_range_inside}
 use Rattle.far_text.specs.Command.{Close, Command, Drop, Mutator, New, Open, Read, Request, Try, View, Write}
 use Rattle.far_replay.specs.Alone.{Knows, Own}
-use Rattle.far_replay.specs.Reply.{Data, Done, Pointer, Refused, Reply}
+use Rattle.far_reply.specs.Reply.{Data, Done, Pointer, Refused, Reply}
 use Rattle.far_replay.proofs.Fronts.{ranges_same}
 use Rattle.far_split.specs.FarSides.{FarSide}
 use Rattle.far_split.specs.Here.{Hindered, IsUndamaged, KnowsHere, TellsOfHeap}

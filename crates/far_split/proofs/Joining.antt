@@ -12,7 +12,7 @@ use Rattle.far_heap.specs.Blanks.{BlankOf, IsUnused}
 use Rattle.far_heap.specs.HeapId.{HeapId}
 use Rattle.far_replay.specs.Alone.{nothing}
 use Rattle.far_replay.specs.Answers.{is_true}
-use Rattle.far_replay.specs.Reply.{IsShort, Reply}
+use Rattle.far_reply.specs.Reply.{IsShort, Reply}
 use Rattle.far_split.specs.FarSides.{FarSide, IsFlawed}
 use Rattle.far_split.specs.Here.{AloneOn}
 use Rattle.far_split.specs.Jobs.{AreEnds, AreStops, EndsSo, IsPart, IsStop, Joins, StopsSo}

@@ -6,8 +6,8 @@ use Rattle.std.specs.List.{slice_range}
 use Rattle.std.proofs.lemmas.List.{drop-append-le, get_or_append_left, get_or-map, get_or_push, length-drop, length-take, map-append, take-append-le}
 use Rattle.std.proofs.Math.Nat.{min-le_left}
 use Rattle.std.proofs.Math.Seq.{drop-append_seam}
-use Rattle.far_replay.specs.declared.reply.LogLine.{LogLine}
-use Rattle.far_replay.specs.Reply.{Reply, Data, Logs}
+use Rattle.far_reply.specs.declared.reply.LogLine.{LogLine}
+use Rattle.far_reply.specs.Reply.{Reply, Data, Logs}
 use Rattle.far_split.specs.Kept.{AreKept, IsKept, IsWhole, line_told, lines_told, reply_in, round_reply}
 use Rattle.far_split.specs.declared.replies.Kept.{Kept}
 use Rattle.far_split.specs.declared.replies.Kept.TheVariants as kept

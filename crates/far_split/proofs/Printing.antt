@@ -7,10 +7,10 @@ use Rattle.std.proofs.KnownBytes.{Appends-nil}
 use Rattle.std.proofs.lemmas.Bool.{false≢true}
 use Rattle.std.proofs.lemmas.Grind.{flat_map-append}
 use Rattle.std.proofs.lemmas.List.{take-append-le, take_more}
-use Rattle.far_replay.specs.declared.stream.WriteFault.{WriteFault}
-use Rattle.far_replay.specs.Reply.{IsShort, Reply}
-use Rattle.far_replay.specs.Stream.{AppendsPart, Holds, Writes}
-use Rattle.far_replay.proofs.Streams.{held_more, held_written}
+use Rattle.far_reply.specs.declared.stream.WriteFault.{WriteFault}
+use Rattle.far_reply.specs.Reply.{IsShort, Reply}
+use Rattle.far_reply.specs.Stream.{AppendsPart, Holds, Writes}
+use Rattle.far_reply.proofs.Streams.{held_more, held_written}
 use Rattle.far_split.specs.Printed.{part_text, parts_text}
 use Rattle.far_split.specs.Prints.{Prints}
 

@@ -7,7 +7,7 @@ use Rattle.far_word.specs.declared.refused.Refused.TheVariants.{Damaged, Memory,
 use Rattle.far_word.specs.Refused.{refusal_number}
 use Rattle.far_text.specs.Command.{Command, Mutator, New, Read, View, Write}
 use Rattle.far_replay.specs.Alone.{Alone, Knows, Own, is_by, speaker}
-use Rattle.far_replay.specs.Reply.{Reply, Refused}
+use Rattle.far_reply.specs.Reply.{Reply, Refused}
 use Rattle.far_split.specs.Here.{IsUndamaged}
 use Rattle.far_split.specs.Served.{AloneWith, HinderedIsRefused, IsRefusedWith, NeverDamaged, ServedIsAlone, UnrefusedIsAlone}
 

@@ -22,11 +22,11 @@ use Rattle.far_evac.specs.declared.census.Housed.{Housed}
 use Rattle.far_evac.specs.declared.census.LogState.{LogState}
 use Rattle.far_evac.specs.Census.{homes_of, housed_at, housed_in, kind_in, logs_of}
 use Rattle.far_evac.specs.Moment.{Moment}
-use Rattle.far_replay.specs.declared.reply.LogLine.{LogLine}
+use Rattle.far_reply.specs.declared.reply.LogLine.{LogLine}
 use Rattle.far_replay.specs.Turn.{log_line}
 use Rattle.far_heap.specs.HeapId.{HeapId}
 use Rattle.far_text.specs.Command.{Command}
-use Rattle.far_replay.specs.Reply.{Reply}
+use Rattle.far_reply.specs.Reply.{Reply}
 use Rattle.far_split.specs.BookTold.{BookTold, MakesLog, TellsLine}
 use Rattle.far_split.specs.Here.{commands_of}
 use Rattle.far_split.specs.Kept.{line_told, lines_told}

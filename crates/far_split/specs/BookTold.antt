@@ -21,9 +21,9 @@ use Rattle.far_evac.specs.MomentLaw.{IsLawful}
 use Rattle.far_heap.specs.HeapId.{HeapId, heap_of}
 use Rattle.far_heap.specs.Rounds.{Chose, EndsAfter, RefusesRound}
 use Rattle.far_text.specs.Command.{Command, Book, Evacuator, Logs as AsksLogs, Log as AsksLog, Audit as AsksAudit, Policy, LeastLive, Oldest, Round}
-use Rattle.far_replay.specs.declared.reply.Counts.{Counts}
-use Rattle.far_replay.specs.declared.reply.LogLine.{LogLine}
-use Rattle.far_replay.specs.Reply.{Reply, Audited, Ended, Halted, Logs, Refused}
+use Rattle.far_reply.specs.declared.reply.Counts.{Counts}
+use Rattle.far_reply.specs.declared.reply.LogLine.{LogLine}
+use Rattle.far_reply.specs.Reply.{Reply, Audited, Ended, Halted, Logs, Refused}
 use Rattle.far_replay.specs.Turn.{log_line}
 use Rattle.far_split.specs.FarSides.{FarSide}
 

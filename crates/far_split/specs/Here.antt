@@ -10,7 +10,7 @@ use Rattle.far_heap.specs.Mine.{IsSlow}
 use Rattle.far_text.specs.Command.{Command, Mutator, New, Read, Try, View, Write}
 use Rattle.far_replay.specs.Alone.{Alone, IsIn, Knows, KnowsBy, Own, is_by, speaker}
 use Rattle.far_replay.specs.Commanded.{AsksFor}
-use Rattle.far_replay.specs.Reply.{Reply, Pointer, Refused}
+use Rattle.far_reply.specs.Reply.{Reply, Pointer, Refused}
 use Rattle.far_split.specs.FarSides.{FarSide}
 
 -- a command is refused by what others, rounds and the system do meanwhile, and what the mutator knows stays as it is. No earlier refusal of the command's row

@@ -6,7 +6,7 @@ use Rattle.far_heap.specs.Mine.{newcomer}
 use Rattle.far_text.specs.Command.{Command}
 use Rattle.far_text.specs.Threads.{OfMutator, OfBook, lines_in}
 use Rattle.far_replay.specs.Alone.{nothing}
-use Rattle.far_replay.specs.Reply.{IsShort, Reply}
+use Rattle.far_reply.specs.Reply.{IsShort, Reply}
 use Rattle.far_split.specs.BookTold.{BookTold}
 use Rattle.far_split.specs.Here.{AloneOn}
 use Rattle.far_split.specs.Joined.{SaysNo, commands_in}

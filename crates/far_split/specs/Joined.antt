@@ -15,7 +15,7 @@ use Rattle.far_text.specs.Split.{SplitTrace, NothingSplit, SplitHeap}
 use Rattle.far_text.specs.Threads.{Thread, OfMutator, OfBook, lines_in}
 use Rattle.far_replay.specs.Alone.{nothing}
 use Rattle.far_replay.specs.Answers.{is_true, shape_of}
-use Rattle.far_replay.specs.Reply.{IsShort, Reply}
+use Rattle.far_reply.specs.Reply.{IsShort, Reply}
 use Rattle.far_split.specs.BookTold.{BookTold}
 use Rattle.far_split.specs.FarSides.{FarSide, IsFlawed}
 use Rattle.far_split.specs.Here.{AloneOn, AreBy, commands_of}

@@ -1,8 +1,8 @@
 -- How replies are kept: what is long in them stands in lists of its own.
 use Rattle.std.specs.Prelude.{ℕ, ◌+◌, ◌-◌, ◌*◌, ◌<◌, ◌≤◌, List, [], ◌∷◌, slice_index_or, slice_range}
 use Rattle.far_evac.specs.declared.answers.RoundEnd.TheVariants.{Nothing}
-use Rattle.far_replay.specs.declared.reply.LogLine.{LogLine}
-use Rattle.far_replay.specs.Reply.{Reply, Done, Pointer, Data, Logs, Audited, Ended, Refused, Halted}
+use Rattle.far_reply.specs.declared.reply.LogLine.{LogLine}
+use Rattle.far_reply.specs.Reply.{Reply, Done, Pointer, Data, Logs, Audited, Ended, Refused, Halted}
 use Rattle.far_split.specs.declared.replies.Kept.{Kept}
 use Rattle.far_split.specs.declared.replies.Kept.TheVariants as kept
 use Rattle.far_split.specs.declared.replies.Round.{Round}

@@ -1,7 +1,7 @@
 -- The text of what a split text is answered.
 use Rattle.std.specs.Prelude.{ℕ, ◌+◌, List, [], ◌∷◌, ◌++◌, codes, decimal}
 use Rattle.std.specs.List.{flat_map}
-use Rattle.far_replay.specs.Reply.{Reply, refusal_text, reply_text}
+use Rattle.far_reply.specs.Reply.{Reply, refusal_text, reply_text}
 use Rattle.far_split.specs.Joined.{Joined, Refused, Ran}
 
 -- the line that stands before a mutator's replies

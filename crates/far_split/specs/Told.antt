@@ -1,7 +1,7 @@
 -- What a line answered, as the plain program's replies.
 use Rattle.std.specs.Prelude.{◌+◌, ◌≤◌, length}
 use Rattle.far_word.specs.declared.sizes.TheConstants.{MOST_LOGS}
-use Rattle.far_replay.specs.Reply.{Reply, Done, Pointer, Data, Logs, Audited, Ended, Refused, Halted, reply_of}
+use Rattle.far_reply.specs.Reply.{Reply, Done, Pointer, Data, Logs, Audited, Ended, Refused, Halted, reply_of}
 use Rattle.far_split.specs.Kept.{lines_told}
 use Rattle.far_split.specs.declared.told.Answer.{Answer}
 use Rattle.far_split.specs.declared.told.Answer.TheVariants as answers

@@ -5,7 +5,7 @@ ghost use Rattle.std.specs.List.{AllByRecursion};
 ghost use Rattle.far_text.specs.Command.{as_command};
 ghost use Rattle.far_text.specs.SplitText.{AreOwn};
 ghost use Rattle.far_text.specs.Threads.{OfBook, is_of};
-ghost use Rattle.far_replay.specs.Reply.{IsShort};
+ghost use Rattle.far_reply.specs.Reply.{IsShort};
 ghost use Rattle.far_split.specs.BookTold.{BookTold, TellsLine};
 ghost use Rattle.far_split.specs.Here.{commands_of};
 ghost use Rattle.far_split.specs.Jobs.{StopsBy};

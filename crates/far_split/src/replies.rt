@@ -2,12 +2,12 @@
 //! a read as many more as it tells.
 
 ghost use Rattle.std.specs.Prelude.{◌≡◌, ◌+◌, ◌<◌, ◌≤◌, length, slice_index_or, slice_range};
-ghost use Rattle.far_replay.specs.Reply.{reply_of};
+ghost use Rattle.far_reply.specs.Reply.{reply_of};
 ghost use Rattle.far_split.specs.Kept.{round_reply};
 
 use crate::told::{Answer, LogLines, LogWords, Told};
 use far_evac::{Progress, RoundEnd};
-use far_replay::{Counts, Reply};
+use far_reply::{Counts, Reply};
 use far_word::Refused;
 use std::alloc::{AllocError, Global};
 use std::marker::Model;
@@ -78,7 +78,7 @@ pub struct Replies {
 
 impl Model for Replies {
     ghost use Rattle.std.specs.Prelude.{List, length, map};
-    ghost use Rattle.far_replay.specs.Reply.{Reply};
+    ghost use Rattle.far_reply.specs.Reply.{Reply};
 
     ghost Value = { List Reply };
 
@@ -92,7 +92,7 @@ impl Model for Replies {
 impl Replies {
     ghost use Rattle.std.specs.Prelude.{◌≡◌, ◌+◌, ◌<◌, ◌≤◌, ◌++◌, ◌∷◌, ◌↔◌, [], IfOk, IsTrue, length, slice_index_or};
     ghost use Rattle.far_word.specs.declared.sizes.TheConstants.{LONGEST, MOST_LOGS};
-    ghost use Rattle.far_replay.specs.Reply.{Data, IsShort, Logs, Reply as any_reply};
+    ghost use Rattle.far_reply.specs.Reply.{Data, IsShort, Logs, Reply as any_reply};
     ghost use Rattle.far_split.specs.Kept.{IsWhole, lines_told, reply_in, round_reply};
     ghost use Rattle.far_split.specs.Told.{TellsFewLogs, as_reply, as_told};
 

@@ -4,7 +4,7 @@ ghost use Rattle.std.specs.Prelude.{◌≡◌, ◌⊎◌, ◌↔◌, true, IfErr
 ghost use Rattle.far_word.specs.declared.refused.Refused.TheVariants.{Device as Failed, Memory};
 ghost use Rattle.far_evac.specs.Moment.{nothing, progress_of};
 ghost use Rattle.far_text.specs.Command.{Evacuator, Round, as_policy};
-ghost use Rattle.far_replay.specs.Reply.{IsShort};
+ghost use Rattle.far_reply.specs.Reply.{IsShort};
 ghost use Rattle.far_split.specs.BookTold.{EndsRound, StopsRound, TellsLine};
 ghost use Rattle.far_split.specs.Told.{TellsFewLogs, as_reply};
 

@@ -2,9 +2,9 @@
 
 ghost use Rattle.std.specs.Prelude.{◌≡◌, ◌≤◌, ◌+◌, ◌++◌, [], codes, length, OnOk};
 ghost use Rattle.std.specs.List.{AllByRecursion, flat_map};
-ghost use Rattle.far_replay.specs.Reply.{IsShort, log_text, reply_of, reply_text};
-ghost use Rattle.far_replay.specs.Stream.{Writes};
-ghost use Rattle.far_replay.specs.declared.reply.TheConstants.{LONGEST_REPLY};
+ghost use Rattle.far_reply.specs.Reply.{IsShort, log_text, reply_of, reply_text};
+ghost use Rattle.far_reply.specs.Stream.{Writes};
+ghost use Rattle.far_reply.specs.declared.reply.TheConstants.{LONGEST_REPLY};
 ghost use Rattle.far_split.specs.Joined.{AreShort, as_joined};
 ghost use Rattle.far_split.specs.Printed.{heading, parts_text, split_text};
 ghost use Rattle.far_split.specs.Prints.{Prints};
@@ -12,7 +12,7 @@ ghost use Rattle.far_split.specs.Told.{as_told};
 
 use crate::replies::Replies;
 use crate::told::{LogLines, Told};
-use far_replay::{LONGEST_REPLY, LogLine, Output, Reply, WriteFault, write_whole};
+use far_reply::{LONGEST_REPLY, LogLine, Output, Reply, WriteFault, write_whole};
 use far_word::Refused;
 use std::io::Write;
 

@@ -1,11 +1,11 @@
 //! What a line answered.
 
 ghost use Rattle.std.specs.Prelude.{◌≡◌, ◌+◌, ◌<◌, ◌≤◌, ◌↔◌, IsTrue, [], length, slice_index_or};
-ghost use Rattle.far_replay.specs.declared.reply.LogLine.{LogLine as any_line};
+ghost use Rattle.far_reply.specs.declared.reply.LogLine.{LogLine as any_line};
 ghost use Rattle.far_split.specs.Kept.{lines_told};
 
 use far_evac::{LogKind, Progress, RoundEnd};
-use far_replay::{Counts, LogLine, Reply};
+use far_reply::{Counts, LogLine, Reply};
 use far_word::Refused;
 use std::marker::Model;
 
@@ -67,7 +67,7 @@ pub struct LogLines<'a> {
 
 impl<'a> Model for LogLines<'a> {
     ghost use Rattle.std.specs.Prelude.{◌+◌, ◌≤◌, List, length};
-    ghost use Rattle.far_replay.specs.declared.reply.LogLine.{LogLine};
+    ghost use Rattle.far_reply.specs.declared.reply.LogLine.{LogLine};
     ghost use Rattle.far_split.specs.Kept.{lines_told};
 
     ghost Value = { List LogLine };

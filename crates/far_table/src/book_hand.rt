@@ -16,10 +16,10 @@ use crate::layout::{CELLS, EPOCH, LINE, LOGS, SCOPES};
 use crate::rule;
 use far_core::{Event, Reply, Shape};
 use far_device::Device;
-use far_hand::Hand;
+use far_hand::Near;
 use far_word::{EPOCH_END, LOG_WORDS, Mark, Refused};
 
-impl<D: Device> Hand for BookSeat<D> {
+impl<D: Device> Near for BookSeat<D> {
     ghost use Rattle.far_table.specs.BookSeats.{seat_alone, seat_lawful, seat_makes, seat_may_be, seat_shown, seat_there, seat_told, seat_view};
 
     ghost view = { seat_view };

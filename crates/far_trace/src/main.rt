@@ -2,10 +2,8 @@
 //! are run in a thread of its own.
 #![tactic(auto)]
 
-#[cfg(test)]
-mod tests;
-
-use far_replay::{End, Output, RunFault, WriteFault, read_whole, run};
+use far_replay::{End, RunFault, read_whole, run};
+use far_reply::{Output, WriteFault};
 use far_split::{NoGate, SplitFault, SplitOut, run_split};
 use far_text::LONGEST_TEXT;
 use std::alloc::AllocError;

@@ -28,11 +28,11 @@ use crate::book::Book;
 use crate::book::renaming::rename;
 use crate::book::words::near_word;
 use far_device::{Device, DeviceFault};
-use far_hand::Hand;
+use far_hand::Near;
 use far_word::{HeadWord, LOG_WORDS, Place, PtrWord, Refused, pack_bytes, size_of, words_for};
 use std::mem;
 
-impl<N: Hand + Drop, D: Device + Drop> Book<N, D> {
+impl<N: Near + Drop, D: Device + Drop> Book<N, D> {
     /// Brings a far object near, and answers where it lies; the device forgets its bytes then. Where its owner has dropped
     /// it, it is retired instead, and the answer is `None`.
     ///
@@ -112,7 +112,7 @@ impl<N: Hand + Drop, D: Device + Drop> Book<N, D> {
 
 // Writes a far object's header and bytes where it comes, and names the place by its cell, by the word that was found there. `Err` with
 // the word found last, where its owner has dropped it meanwhile.
-fn come_near<N: Hand>(
+fn come_near<N: Near>(
     near: &mut N,
     pointer: u16,
     found: u64,
@@ -145,7 +145,7 @@ fn come_near<N: Hand>(
 }
 
 // Writes a header, and an object's bytes behind it.
-fn put_object<N: Hand>(near: &mut N, pointer: u16, len: u16, ds: u8, place: Place, bytes: &[u8])
+fn put_object<N: Near>(near: &mut N, pointer: u16, len: u16, ds: u8, place: Place, bytes: &[u8])
     requires head { IsHead record { pointer = pointer; len = len; ds = ds } }
     requires layout { IsPtr (near_at len ds place no_marks) }
     requires next { IsNext (N.view near.old) place }
@@ -168,7 +168,7 @@ fn put_object<N: Hand>(near: &mut N, pointer: u16, len: u16, ds: u8, place: Plac
 }
 
 // Writes the first so many words of a row of bytes to words of a log, from one on.
-fn put_words<N: Hand>(near: &mut N, log: u8, at: u16, bytes: &[u8], count: u16)
+fn put_words<N: Near>(near: &mut N, log: u8, at: u16, bytes: &[u8], count: u16)
     requires past { IsPast (N.view near.old) log at count }
     requires bytes { 8 * count ≤ length bytes.now }
     ensures set { N.view near.new ≡ with_words (N.view near.old) log at count (packed_word bytes.now) }
@@ -182,7 +182,7 @@ fn put_words<N: Hand>(near: &mut N, log: u8, at: u16, bytes: &[u8], count: u16)
 }
 
 // The same, four words at a time.
-fn put_by_fours<N: Hand>(near: &mut N, log: u8, at: u16, bytes: &[u8], fours: u16)
+fn put_by_fours<N: Near>(near: &mut N, log: u8, at: u16, bytes: &[u8], fours: u16)
     requires past { IsPast (N.view near.old) log at (4 * fours) }
     requires bytes { 32 * fours ≤ length bytes.now }
     ensures set { N.view near.new ≡ with_words (N.view near.old) log at (4 * fours) (packed_word bytes.now) }
@@ -195,7 +195,7 @@ fn put_by_fours<N: Hand>(near: &mut N, log: u8, at: u16, bytes: &[u8], fours: u1
 
 // Writes four words of a row of bytes, those from `i` on, to words of a log.
 #[inline(always)]
-fn put_four_words<N: Hand>(near: &mut N, log: u8, at: u16, bytes: &[u8], i: u16)
+fn put_four_words<N: Near>(near: &mut N, log: u8, at: u16, bytes: &[u8], i: u16)
     requires past { IsPast (N.view near.old) log (at + i) 4 }
     requires bytes { 8 * i + 32 ≤ length bytes.now }
     ensures set { N.view near.new ≡ with_words (N.view near.old) log (at + i) 4 (λ j. packed_word bytes.now (i + j)) }

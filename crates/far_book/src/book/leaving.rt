@@ -27,13 +27,13 @@ use crate::book::Book;
 use crate::book::renaming::rename;
 use crate::book::words::far_word;
 use far_device::{Device, DeviceFault};
-use far_hand::Hand;
+use far_hand::Near;
 use far_word::{LOG_WORDS, LONGEST, Place, PtrWord, Refused, size_of, unpack_bytes, words_for};
 
 // The bytes of an object that are read into a short row.
 const SHORT: u16 = 64;
 
-impl<N: Hand + Drop, D: Device + Drop> Book<N, D> {
+impl<N: Near + Drop, D: Device + Drop> Book<N, D> {
     /// Sends a quiet near object with EVAC far: the device holds its bytes, its cell says far, without marks, and its span is
     /// dead. `false` where its owner was found to have dropped it: it is retired then, and the device forgets its bytes.
     /// Refused [`Refused::Memory`] or [`Refused::Device`] where the device is, and the object is as it was.
@@ -173,7 +173,7 @@ impl<N: Hand + Drop, D: Device + Drop> Book<N, D> {
 
 // The bytes of a quiet object, read word by word to the front of a row. Its words are known from then on.
 #[inline(always)]
-fn read_object<N: Hand>(near: &mut N, len: u16, place: Place, row: &mut [u8])
+fn read_object<N: Near>(near: &mut N, len: u16, place: Place, row: &mut [u8])
     requires object { IsQuietData (N.view near.old) len place }
     requires room { 8 * words_for len ≤ length row.old }
     ensures kept { N.view near.new ≡ record (N.view near.old) { word = (N.view near.new).word } }
@@ -192,7 +192,7 @@ fn read_object<N: Hand>(near: &mut N, len: u16, place: Place, row: &mut [u8])
 }
 
 // Reads the first data words of an object, four at a time.
-fn read_fours<N: Hand>(near: &mut N, place: Place, fours: u16, row: &mut [u8])
+fn read_fours<N: Near>(near: &mut N, place: Place, fours: u16, row: &mut [u8])
     requires log { place.log < (N.view near.old).logs }
     requires inside { place.at + 4 * fours < LOG_WORDS }
     requires room { 32 * fours ≤ length row.old }
@@ -208,7 +208,7 @@ fn read_fours<N: Hand>(near: &mut N, place: Place, fours: u16, row: &mut [u8])
 
 // Reads four data words of an object, those from `i` on.
 #[inline(always)]
-fn read_four<N: Hand>(near: &mut N, place: Place, i: u16, row: &mut [u8])
+fn read_four<N: Near>(near: &mut N, place: Place, i: u16, row: &mut [u8])
     requires log { place.log < (N.view near.old).logs }
     requires inside { place.at + i + 4 < LOG_WORDS }
     requires room { 8 * i + 32 ≤ length row.old }
@@ -226,7 +226,7 @@ fn read_four<N: Hand>(near: &mut N, place: Place, i: u16, row: &mut [u8])
 
 // Reads data word `i + j` of an object.
 #[inline(always)]
-fn read_word<N: Hand>(near: &mut N, place: Place, i: u16, j: u16, row: &mut [u8])
+fn read_word<N: Near>(near: &mut N, place: Place, i: u16, j: u16, row: &mut [u8])
     requires log { place.log < (N.view near.old).logs }
     requires inside { place.at + (i + j) + 1 < LOG_WORDS }
     requires room { 8 * (i + j) + 8 ≤ length row.old }

@@ -19,10 +19,10 @@ use crate::book::Book;
 use crate::book::renaming::{is_dropped, rename};
 use crate::book::words::near_word;
 use far_device::Device;
-use far_hand::Hand;
+use far_hand::Near;
 use far_word::{HeadWord, LOG_WORDS, Place, PtrWord, Refused, size_of, words_for};
 
-impl<N: Hand + Drop, D: Device + Drop> Book<N, D> {
+impl<N: Near + Drop, D: Device + Drop> Book<N, D> {
     /// Moves a near object that nobody stores into, and answers where it lies then, without marks. Where the book wants its log,
     /// by EVAC, it goes to a place where room is, in the last free log too; else it stays where it lies.
     ///
@@ -155,7 +155,7 @@ impl<N: Hand + Drop, D: Device + Drop> Book<N, D> {
 
 // Copies an object, header and data words, to a place where the next span of a log may stand.
 #[inline(always)]
-fn copy_object<N: Hand>(near: &mut N, pointer: u16, len: u16, ds: u8, from: Place, to: Place)
+fn copy_object<N: Near>(near: &mut N, pointer: u16, len: u16, ds: u8, from: Place, to: Place)
     requires { MayCopy (N.view near.old) pointer len ds from to }
     ensures copied { Copied (N.view near.old) (N.view near.new) pointer len ds from to }
     ensures exact { N.still → N.view near.new ≡ with_written_span (N.view near.old) pointer len ds to (data_at (N.view near.old).word from) }
@@ -172,7 +172,7 @@ fn copy_object<N: Hand>(near: &mut N, pointer: u16, len: u16, ds: u8, from: Plac
 }
 
 // Copies the first data words of an object whose header stands, four at a time.
-fn copy_fours<N: Hand>(near: &mut N, from: Place, to: Place, fours: u16)
+fn copy_fours<N: Near>(near: &mut N, from: Place, to: Place, fours: u16)
     requires { CopiesMore (N.view near.old) from to 0 (4 * fours) }
     ensures copied { HasCopied (N.view near.old) (N.view near.new) from to 0 (4 * fours) }
     ensures exact { N.still → CopiedOnly (N.view near.old) (N.view near.new) from to 0 (4 * fours) }
@@ -185,7 +185,7 @@ fn copy_fours<N: Hand>(near: &mut N, from: Place, to: Place, fours: u16)
 
 // Copies four data words of an object, those from `i` on.
 #[inline(always)]
-fn copy_four<N: Hand>(near: &mut N, from: Place, to: Place, i: u16)
+fn copy_four<N: Near>(near: &mut N, from: Place, to: Place, i: u16)
     requires { CopiesMore (N.view near.old) from to i 4 }
     ensures copied { HasCopied (N.view near.old) (N.view near.new) from to i 4 }
     ensures exact { N.still → CopiedOnly (N.view near.old) (N.view near.new) from to i 4 }
@@ -199,7 +199,7 @@ fn copy_four<N: Hand>(near: &mut N, from: Place, to: Place, i: u16)
 
 // Copies data word `i + j` of an object.
 #[inline(always)]
-fn copy_word<N: Hand>(near: &mut N, from: Place, to: Place, i: u16, j: u16)
+fn copy_word<N: Near>(near: &mut N, from: Place, to: Place, i: u16, j: u16)
     requires { CopiesMore (N.view near.old) from to (i + j) 1 }
     ensures copied { HasCopied (N.view near.old) (N.view near.new) from to (i + j) 1 }
     ensures exact { N.still → CopiedOnly (N.view near.old) (N.view near.new) from to (i + j) 1 }
@@ -215,7 +215,7 @@ fn copy_word<N: Hand>(near: &mut N, from: Place, to: Place, i: u16, j: u16)
 // Copies an object to a place, which its cell names from then on. `false` where its owner has dropped it meanwhile, as its
 // cell says then.
 #[inline(always)]
-fn move_object<N: Hand>(
+fn move_object<N: Near>(
     near: &mut N,
     pointer: u16,
     found: u64,
@@ -243,7 +243,7 @@ fn move_object<N: Hand>(
 
 // Takes the marks of an object that stays where it lies. `false` where its owner has dropped it meanwhile, as its cell says
 // then.
-fn unmark_object<N: Hand>(
+fn unmark_object<N: Near>(
     near: &mut N,
     pointer: u16,
     found: u64,

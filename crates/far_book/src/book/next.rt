@@ -13,11 +13,11 @@ ghost use Rattle.far_book.specs.book.Only.{Reads};
 
 use crate::book::Book;
 use far_device::Device;
-use far_hand::Hand;
+use far_hand::Near;
 use far_log::Span;
 use far_word::{HeadWord, PtrWord, size_of};
 
-impl<N: Hand + Drop, D: Device + Drop> Book<N, D> {
+impl<N: Near + Drop, D: Device + Drop> Book<N, D> {
     /// The first span at word `at` of a log, or behind it, in which an object lives, dropped or not, by its cell as it is found;
     /// `None` where there is none. At `at` a span begins, or the log's spans end: so it is of word 0, and of the word behind the span
     /// that was answered, from which the next call goes on.

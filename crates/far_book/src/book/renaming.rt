@@ -6,13 +6,13 @@ ghost use Rattle.far_word.specs.Pointer.{read_of};
 ghost use Rattle.far_core.specs.events.Naming.{is_dropped};
 ghost use Rattle.far_book.specs.book.Renaming.{MayRename, Renames};
 
-use far_hand::Hand;
+use far_hand::Near;
 use far_word::PtrWord;
 
 /// Gives a cell a new word, by the word that was last found there. `Err` with the word that was found, where its owner has
 /// dropped the object meanwhile.
 #[inline(always)]
-pub(crate) fn rename<N: Hand>(near: &mut N, pointer: u16, found: u64, new: u64) -> Result<(), u64>
+pub(crate) fn rename<N: Near>(near: &mut N, pointer: u16, found: u64, new: u64) -> Result<(), u64>
     requires pointer { pointer < CELLS * (N.view near.old).mutators }
     requires found { found ≡ (N.view near.old).cell pointer }
     requires readable { IsSome (read_of found) }
@@ -33,7 +33,7 @@ pub(crate) fn rename<N: Hand>(near: &mut N, pointer: u16, found: u64, new: u64) 
 
 // The same, where marks were just found added: as often as more of them are found.
 #[cold]
-fn rename_marked<N: Hand>(near: &mut N, pointer: u16, found: u64, new: u64) -> Result<(), u64>
+fn rename_marked<N: Near>(near: &mut N, pointer: u16, found: u64, new: u64) -> Result<(), u64>
     requires pointer { pointer < CELLS * (N.view near.old).mutators }
     requires found { found ≡ (N.view near.old).cell pointer }
     requires readable { IsSome (read_of found) }

@@ -20,10 +20,10 @@ ghost use Rattle.far_book.specs.book.Releasing.{order_without, released};
 
 use crate::book::Book;
 use far_device::Device;
-use far_hand::Hand;
+use far_hand::Near;
 use far_word::Refused;
 
-impl<N: Hand + Drop, D: Device + Drop> Book<N, D> {
+impl<N: Near + Drop, D: Device + Drop> Book<N, D> {
     /// Takes EVAC from a near pointer, whose log leaves the round, and answers its word before, as it was found. Words may be
     /// forgotten then.
     pub fn clear(&mut self, pointer: u16) -> u64

@@ -14,12 +14,12 @@ ghost use Rattle.far_evac.specs.RoundSteps.{among};
 
 use crate::census::{Census, Housed, LogKind, LogState};
 use crate::evac::Evac;
-use far_book::{Hand, Home};
+use far_book::{Near, Home};
 use far_core::Kind;
 use far_device::Device;
 use far_word::{CELLS, Refused};
 
-impl<N: Hand + Drop, D: Device + Drop> Evac<N, D> {
+impl<N: Near + Drop, D: Device + Drop> Evac<N, D> {
     /// What a log is and has; one that is chosen and not yet given back is named so.
     pub fn log(&self, log: u8) -> LogState
         requires log { log < (N.view self.now.book.near).logs }

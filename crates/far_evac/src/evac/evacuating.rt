@@ -30,7 +30,7 @@ ghost use Rattle.far_evac.specs.declared.phase.Phase.TheVariants as phase;
 use crate::answers::{EvacFault, Progress};
 use crate::evac::Evac;
 use crate::phase::Phase;
-use far_book::{Book, Hand};
+use far_book::{Book, Near};
 use far_device::Device;
 use far_log::Span;
 use far_word::{Place, PtrWord, Refused, size_of};
@@ -43,7 +43,7 @@ enum Fate {
     Dropped,
 }
 
-impl<N: Hand + Drop, D: Device + Drop> Evac<N, D> {
+impl<N: Near + Drop, D: Device + Drop> Evac<N, D> {
     /// Deals with the first n live objects of the collection set, or with all, in order: one that its owner has
     /// dropped is retired; a hot one goes to another log, or far where no room is; any other goes far. A log in front without live
     /// objects is given back at once; after the last the round is over, and the answer says `done`.
@@ -274,7 +274,7 @@ fn count(progress: &mut Progress, fate: Fate)
 
 // An object leaves its log as its cell says: one that its owner has dropped is retired; a hot one goes to another log, or far where no room
 // is; any other goes far. At a refusal it lies as before.
-fn send_off<N: Hand + Drop, D: Device + Drop>(
+fn send_off<N: Near + Drop, D: Device + Drop>(
     book: &mut Book<N, D>,
     pointer: u16,
 ) -> Result<Fate, Refused>
@@ -316,7 +316,7 @@ fn near_fate(place: Option<Place>) -> Fate
 
 // An object that isn't known to be dropped goes far, unless it is found to be.
 #[inline(always)]
-fn send_far<N: Hand + Drop, D: Device + Drop>(
+fn send_far<N: Near + Drop, D: Device + Drop>(
     book: &mut Book<N, D>,
     pointer: u16,
 ) -> Result<Fate, Refused>

@@ -27,12 +27,12 @@ ghost use Rattle.far_word.specs.declared.refused.Refused.TheVariants as refused;
 ghost use Rattle.far_hand.specs.Came.{Came};
 
 use crate::evac::Evac;
-use far_book::{Book, Hand, Home};
+use far_book::{Book, Near, Home};
 use far_device::Device;
 use far_log::{LogRow, Span};
 use far_word::{Place, Refused};
 
-impl<N: Hand + Drop, D: Device + Drop> Evac<N, D> {
+impl<N: Near + Drop, D: Device + Drop> Evac<N, D> {
     /// The book, to be read.
     pub fn book(&self) -> &Book<N, D>
         ensures { result.now ≡ self.now.book }

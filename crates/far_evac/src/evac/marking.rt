@@ -23,13 +23,13 @@ use crate::answers::Marked;
 use crate::evac::Evac;
 use crate::phase::Phase;
 use crate::round::{Cursor, Round};
-use far_book::{Book, Hand};
+use far_book::{Book, Near};
 use far_device::Device;
 use far_log::Span;
 use far_policy::Chosen;
 use far_word::{PtrWord, Refused, size_of};
 
-impl<N: Hand + Drop, D: Device + Drop> Evac<N, D> {
+impl<N: Near + Drop, D: Device + Drop> Evac<N, D> {
     /// Sets EVAC on the first n live objects of the chosen logs that lack it, or on all, and counts them. Where none is left, the
     /// epoch rises, and the round waits for the owners.
     ///
@@ -174,7 +174,7 @@ impl<N: Hand + Drop, D: Device + Drop> Evac<N, D> {
 
 // The next span whose live object lacks EVAC, and where the round stands then; behind all logs, where there is none.
 #[inline(always)]
-fn seek<N: Hand + Drop, D: Device + Drop>(
+fn seek<N: Near + Drop, D: Device + Drop>(
     book: &mut Book<N, D>,
     round: &Round,
 ) -> (Cursor, Option<Span>)
@@ -206,7 +206,7 @@ fn seek<N: Hand + Drop, D: Device + Drop>(
 
 // The first span of a log, at a word or behind it, whose live object lacks EVAC.
 #[inline(always)]
-fn next_unmarked<N: Hand + Drop, D: Device + Drop>(
+fn next_unmarked<N: Near + Drop, D: Device + Drop>(
     book: &mut Book<N, D>,
     log: u8,
     at: u16,
@@ -260,7 +260,7 @@ fn first_of_collection(round: &Round) -> usize
 }
 
 // Takes EVAC from the live objects of the logs from one of them on.
-fn unmark_logs<N: Hand + Drop, D: Device + Drop>(
+fn unmark_logs<N: Near + Drop, D: Device + Drop>(
     book: &mut Book<N, D>,
     chosen: &Chosen,
     first: usize,
@@ -281,7 +281,7 @@ fn unmark_logs<N: Hand + Drop, D: Device + Drop>(
 }
 
 // Takes EVAC from the live objects of a log.
-fn unmark_log<N: Hand + Drop, D: Device + Drop>(book: &mut Book<N, D>, log: u8)
+fn unmark_log<N: Near + Drop, D: Device + Drop>(book: &mut Book<N, D>, log: u8)
     requires log { log < (N.view book.old.near).logs }
     ensures came { Came N.makes book.old.near book.new.near }
     ensures known { Knows (fold unmarked (N.view book.old.near) (live_in (N.view book.old.near) log)) (N.view book.new.near) }

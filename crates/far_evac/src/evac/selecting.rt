@@ -12,12 +12,12 @@ ghost use Rattle.far_evac.specs.Refusals.{unselectable};
 use crate::evac::Evac;
 use crate::phase::Phase;
 use crate::round::Round;
-use far_book::Hand;
+use far_book::Near;
 use far_device::Device;
 use far_policy::{Chosen, Policy};
 use far_word::{EPOCH_END, Refused};
 
-impl<N: Hand + Drop, D: Device + Drop> Evac<N, D> {
+impl<N: Near + Drop, D: Device + Drop> Evac<N, D> {
     /// Asks a policy for logs, at most so many, and begins a round of them; where it names none, no round begins. The policy is
     /// handed what each sealed log has, oldest first.
     ///

@@ -23,12 +23,12 @@ ghost use Rattle.far_evac.specs.declared.phase.Phase.TheVariants as phase;
 use crate::answers::{EvacFault, Progress, RoundEnd};
 use crate::evac::Evac;
 use crate::phase::Phase;
-use far_book::Hand;
+use far_book::Near;
 use far_device::Device;
 use far_policy::Policy;
 use far_word::Refused;
 
-impl<N: Hand + Drop, D: Device + Drop> Evac<N, D> {
+impl<N: Near + Drop, D: Device + Drop> Evac<N, D> {
     /// Makes one turn: a marking of 16 objects, a look at the owners, or a dealing with 16 objects, by the phase. Marking and waiting
     /// count nothing.
     ///

@@ -17,11 +17,11 @@ ghost use Rattle.far_evac.specs.declared.phase.Phase.TheVariants as phase;
 use crate::answers::Polled;
 use crate::evac::Evac;
 use crate::phase::Phase;
-use far_book::{Book, Hand};
+use far_book::{Book, Near};
 use far_device::Device;
 use far_word::{Refused, ScopeWord};
 
-impl<N: Hand + Drop, D: Device + Drop> Evac<N, D> {
+impl<N: Near + Drop, D: Device + Drop> Evac<N, D> {
     /// Looks at the scopes of the owners that weren't seen clear in this round, in order: one that is closed, or open since the epoch
     /// rose, is clear from then on. [`Polled::Clear`] where all are: nobody views anything in the chosen logs then, in whatever state the words may be beside the
     /// hand, and the objects may leave. Else the first other, with the epoch at which its scope was seen open.
@@ -58,7 +58,7 @@ impl<N: Hand + Drop, D: Device + Drop> Evac<N, D> {
 }
 
 // Looks at the owners from one on, which weren't seen clear, up to the first whose scope is open from before the round.
-fn look_from<N: Hand + Drop, D: Device + Drop>(book: &mut Book<N, D>, from: u8) -> Polled
+fn look_from<N: Near + Drop, D: Device + Drop>(book: &mut Book<N, D>, from: u8) -> Polled
     requires seen { (k : ℕ) → k < from → (N.view book.old.near).clear k ≡ true }
     requires unseen { (k : ℕ) → from ≤ k → (N.view book.old.near).clear k ≡ false }
     ensures came { Came N.makes book.old.near book.new.near }

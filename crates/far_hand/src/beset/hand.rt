@@ -11,12 +11,12 @@ ghost use Rattle.far_hand.specs.Quiet.{IsQuietAt, is_quiet_word};
 
 use crate::beset::Beset;
 use crate::beset::rows::{count, find, forget, found_in, recount};
-use crate::hand::Hand;
+use crate::hand::Near;
 use crate::plain::{may_rise, shape_of};
 use far_core::Shape;
 use far_word::{CELLS, Mark, PtrWord, Refused, words_for};
 
-impl Hand for Beset {
+impl Near for Beset {
     ghost view = { beset_view };
 
     ghost still = { ⊥ };

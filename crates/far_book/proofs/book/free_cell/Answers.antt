@@ -14,37 +14,37 @@ use Rattle.far_hand.proofs.Closure.{first_call, then_call}
 pub name-requires-clause-legal : goal.name-requires-clause-legal
 name-requires-clause-legal g c =
     let h = c.loop.invariant in
-    let inside : c.args.pointer < CELLS * (g.N.Hand.view c.loop.near).mutators = subst (λ (s : State). c.args.pointer < CELLS * s.mutators) (sym h.kept) c.requires.pointer in
-    may_retire (g.N.Hand.view c.loop.near) c.args.pointer c.loop.word inside
-    (still_dropped (g.N.Hand.view c.args.near.now) (g.N.Hand.view c.loop.near) c.args.pointer c.loop.word h.kept c.requires.dropped h.found)
+    let inside : c.args.pointer < CELLS * (g.N.Near.view c.loop.near).mutators = subst (λ (s : State). c.args.pointer < CELLS * s.mutators) (sym h.kept) c.requires.pointer in
+    may_retire (g.N.Near.view c.loop.near) c.args.pointer c.loop.word inside
+    (still_dropped (g.N.Near.view c.args.near.now) (g.N.Near.view c.loop.near) c.args.pointer c.loop.word h.kept c.requires.dropped h.found)
 
 pub returns-in-Ok-clause-kept : goal.returns-in-Ok-clause-kept
 returns-in-Ok-clause-kept g c =
     let h = c.loop.invariant in
-    let now = after_is (g.N.Hand.view c.args.near.now) (g.N.Hand.view c.loop.near) c.args.pointer c.loop.word h.kept c.requires.dropped h.found in
-    c.in-Ok.ensures.done ∙ (λ i. record (now i) { word = (g.N.Hand.view c.name.new.self).word })
+    let now = after_is (g.N.Near.view c.args.near.now) (g.N.Near.view c.loop.near) c.args.pointer c.loop.word h.kept c.requires.dropped h.found in
+    c.in-Ok.ensures.done ∙ (λ i. record (now i) { word = (g.N.Near.view c.name.new.self).word })
 
 pub returns-in-Ok-clause-exact : goal.returns-in-Ok-clause-exact
 returns-in-Ok-clause-exact g c still =
     let h = c.loop.invariant in
-    c.in-Ok.ensures.set still ∙ after_is (g.N.Hand.view c.args.near.now) (g.N.Hand.view c.loop.near) c.args.pointer c.loop.word h.kept c.requires.dropped h.found
+    c.in-Ok.ensures.set still ∙ after_is (g.N.Near.view c.args.near.now) (g.N.Near.view c.loop.near) c.args.pointer c.loop.word h.kept c.requires.dropped h.found
 
 pub says-was-requires-in-Err : goal.says-was-requires-in-Err
 says-was-requires-in-Err g c =
     let h = c.loop.invariant in
-    let dropped = still_dropped (g.N.Hand.view c.args.near.now) (g.N.Hand.view c.loop.near) c.args.pointer c.loop.word h.kept c.requires.dropped h.found in
+    let dropped = still_dropped (g.N.Near.view c.args.near.now) (g.N.Near.view c.loop.near) c.args.pointer c.loop.word h.kept c.requires.dropped h.found in
     drop_found c.loop.word c.in-Err.found c.in-Err.ensures.found dropped
 
 pub loop-preserved : goal.loop-preserved
 loop-preserved g c =
     let h = c.loop.invariant in
-    let dropped = still_dropped (g.N.Hand.view c.args.near.now) (g.N.Hand.view c.loop.near) c.args.pointer c.loop.word h.kept c.requires.dropped h.found in
+    let dropped = still_dropped (g.N.Near.view c.args.near.now) (g.N.Near.view c.loop.near) c.args.pointer c.loop.word h.kept c.requires.dropped h.found in
     let old_fits : c.loop.word < 2 ^ 64 = subst (λ w. w < 2 ^ 64) h.word (word_fits c.loop.was h.layout) in
     let new_fits : c.in-Err.found < 2 ^ 64 = subst (λ w. w < 2 ^ 64) c.says-was-in-Err.ensures.word (word_fits c.says-was-in-Err.result c.says-was-in-Err.ensures.layout) in
     record {
       found = finds_more _ _ _ h.found c.in-Err.ensures.found;
       kept = c.in-Err.ensures.kept ∙ ap (λ (s : State). record s { cell = put s.cell c.args.pointer c.in-Err.found }) h.kept
-          ∙ (λ i. record (g.N.Hand.view c.args.near.now) { cell = put_put (g.N.Hand.view c.args.near.now).cell c.args.pointer c.loop.word c.in-Err.found i });
+          ∙ (λ i. record (g.N.Near.view c.args.near.now) { cell = put_put (g.N.Near.view c.args.near.now).cell c.args.pointer c.loop.word c.in-Err.found i });
       came = then_call _ _ h.came c.in-Err.ensures.lost;
       is = c.says-was-in-Err.ensures.is;
       layout = c.says-was-in-Err.ensures.layout;

@@ -8,9 +8,9 @@ use Rattle.far_book.proofs.book.free_cell.Given as goal
 
 abbrev pub invariant-loop : goal.invariant-loop
 invariant-loop g l = record {
-  found : Finds ((g.N.Hand.view l.fn.near).cell l.fn.pointer) l.word;
-  kept : g.N.Hand.view l.near ≡ record (g.N.Hand.view l.fn.near) { cell = put (g.N.Hand.view l.fn.near).cell l.fn.pointer l.word };
-  came : Came g.N.Hand.makes l.fn.near l.near;
+  found : Finds ((g.N.Near.view l.fn.near).cell l.fn.pointer) l.word;
+  kept : g.N.Near.view l.near ≡ record (g.N.Near.view l.fn.near) { cell = put (g.N.Near.view l.fn.near).cell l.fn.pointer l.word };
+  came : Came g.N.Near.makes l.fn.near l.near;
   is : read_of l.word ≡ Some l.was;
   layout : IsPtr l.was;
   word : word_of l.was ≡ l.word;

@@ -13,8 +13,8 @@ pub name-requires-clause-legal : goal.name-requires-clause-legal
 name-requires-clause-legal g c =
     let pack : c.near_word-word.result ≡ near_word c.args.len c.args.ds c.args.place = c.near_word-word.ensures in
     subst (λ (s : State). Legal s (events.Name c.args.pointer 0 c.near_word-word.result)) (sym c.put_blank.ensures.set)
-    (subst (λ (x : ℕ). Legal (with_blank_span (g.N.Hand.view c.args.near.now) c.args.pointer c.args.len c.args.ds c.args.place) (events.Name c.args.pointer 0 x)) (sym pack)
-    (may_name (g.N.Hand.view c.args.near.now) c.args.pointer c.args.len c.args.ds c.args.place c.requires.pointer c.requires.layout c.requires.next))
+    (subst (λ (x : ℕ). Legal (with_blank_span (g.N.Near.view c.args.near.now) c.args.pointer c.args.len c.args.ds c.args.place) (events.Name c.args.pointer 0 x)) (sym pack)
+    (may_name (g.N.Near.view c.args.near.now) c.args.pointer c.args.len c.args.ds c.args.place c.requires.pointer c.requires.layout c.requires.next))
 
 pub unreachable-requires : goal.unreachable-requires
 unreachable-requires g c = c.in_default.ensures.other (free_found 0 c.in_default.field-0 c.in_default.ensures.found refl)

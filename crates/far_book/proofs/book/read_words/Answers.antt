@@ -12,9 +12,9 @@ get-requires g c = record { legal = (subst (λ (s : State). c.args.log < s.logs)
 pub loop-i-preserved : goal.loop-i-preserved
 loop-i-preserved g c =
     let h = c.loop-i.invariant in
-    let s = g.N.Hand.view c.args.near.now in
-    let t = g.N.Hand.view c.loop-i.near in
-    let u = g.N.Hand.view c.get.new.self in
+    let s = g.N.Near.view c.args.near.now in
+    let t = g.N.Near.view c.loop-i.near in
+    let u = g.N.Near.view c.get.new.self in
     record {
       words = read_more s c.args.log c.loop-i.i c.get.result c.loop-i.words (omega (arith, h.long, c.requires.tail, c.loop-i-test.true)) h.words
           (read_at s t h.kept h.headers c.requires.known (c.args.log * LOG_WORDS + c.loop-i.i) c.get.result c.get.ensures.known c.get.ensures.padding);

@@ -8,10 +8,10 @@ use Rattle.far_book.proofs.book.read_words.Given as goal
 
 abbrev pub invariant-loop-i : goal.invariant-loop-i
 invariant-loop-i g l = record {
-  words : (k : ℕ) → k < l.i → IsReadAt (g.N.Hand.view l.fn.near) (l.fn.log * LOG_WORDS + k) (slice_index l.words k);
+  words : (k : ℕ) → k < l.i → IsReadAt (g.N.Near.view l.fn.near) (l.fn.log * LOG_WORDS + k) (slice_index l.words k);
   long : length l.words ≡ LOG_WORDS;
-  kept : g.N.Hand.view l.near ≡ record (g.N.Hand.view l.fn.near) { word = (g.N.Hand.view l.near).word };
-  headers : (a : ℕ) → (g.N.Hand.view l.fn.near).starts a ≡ true → (g.N.Hand.view l.near).word a ≡ (g.N.Hand.view l.fn.near).word a;
-  reads : Came (only (Reads l.fn.log) g.N.Hand.makes) l.fn.near l.near;
-  exact : g.N.Hand.still → g.N.Hand.view l.near ≡ g.N.Hand.view l.fn.near;
+  kept : g.N.Near.view l.near ≡ record (g.N.Near.view l.fn.near) { word = (g.N.Near.view l.near).word };
+  headers : (a : ℕ) → (g.N.Near.view l.fn.near).starts a ≡ true → (g.N.Near.view l.near).word a ≡ (g.N.Near.view l.fn.near).word a;
+  reads : Came (only (Reads l.fn.log) g.N.Near.makes) l.fn.near l.near;
+  exact : g.N.Near.still → g.N.Near.view l.near ≡ g.N.Near.view l.fn.near;
 }

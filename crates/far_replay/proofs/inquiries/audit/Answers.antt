@@ -1,5 +1,5 @@
 use Rattle.far_replay.specs.Audit.{counts_of}
-use Rattle.far_replay.specs.Reply.{Audited}
+use Rattle.far_reply.specs.Reply.{Audited}
 use Rattle.far_replay.proofs.inquiries.audit.Goals as goal
 
 pub returns-clause-reply : goal.returns-clause-reply

@@ -2,7 +2,7 @@ use Rattle.std.proofs.Common.{◌≢◌, ap, subst, sym}
 use Rattle.std.specs.Prelude.{IfErr}
 use Rattle.far_word.specs.declared.refused.Refused.TheVariants.{Memory}
 use Rattle.far_text.specs.Command.{Evacuator, Step, as_step}
-use Rattle.far_replay.specs.Reply.{Halted}
+use Rattle.far_reply.specs.Reply.{Halted}
 use Rattle.far_replay.specs.Spent.{Makes}
 use Rattle.far_replay.proofs.Spending.{spent_same}
 use Rattle.far_replay.proofs.rounds.step_made.Goals as goal

@@ -6,8 +6,8 @@ use Rattle.far_replay.specs.Moment.{Moment, moment_in}
 use Rattle.far_replay.specs.Answers.{AnsweredBy, FlawedAtMost, flaws, lie_of, opened}
 use Rattle.far_text.specs.Command.{Command, as_command, as_device}
 use Rattle.far_replay.specs.Outcome.{reply_by}
-use Rattle.far_replay.specs.Reply.{Reply, reply_text}
-use Rattle.far_replay.specs.Stream.{Holds}
+use Rattle.far_reply.specs.Reply.{Reply, reply_text}
+use Rattle.far_reply.specs.Stream.{Holds}
 use Rattle.far_replay.proofs.Answering.{answers_all, led_part, answered_more, answered_all, printed_more, spoiled_more}
 use Rattle.far_replay.proofs.Lasting.{still_lasts}
 use Rattle.far_replay.proofs.running.answer_commands.Goals as goal

@@ -7,8 +7,8 @@ use Rattle.far_replay.specs.Answers.{AnsweredBy, FlawedAtMost, Outside, flaws, l
 use Rattle.far_replay.specs.Spent.{may_spoil}
 use Rattle.far_text.specs.Command.{as_device}
 use Rattle.far_replay.specs.Moment.{Moment, moment_in, state_in}
-use Rattle.far_replay.specs.Reply.{Reply, reply_text}
-use Rattle.far_replay.specs.Stream.{Holds}
+use Rattle.far_reply.specs.Reply.{Reply, reply_text}
+use Rattle.far_reply.specs.Stream.{Holds}
 use Rattle.far_replay.specs.Between.{Between}
 use Rattle.far_replay.proofs.running.answer_commands.Given as goal
 

@@ -4,8 +4,8 @@ use Rattle.std.specs.Option.{option_map}
 use Rattle.far_text.specs.Command.{as_device}
 use Rattle.far_text.specs.declared.command.Device.{Device}
 use Rattle.far_replay.specs.Answers.{opened}
-use Rattle.far_replay.specs.Reply.{Done, reply_text}
-use Rattle.far_replay.specs.Stream.{Holds}
+use Rattle.far_reply.specs.Reply.{Done, reply_text}
+use Rattle.far_reply.specs.Stream.{Holds}
 use Rattle.far_replay.proofs.running.answer_opening.Goals as goal
 
 pub returns-in-Some : goal.returns-in-Some

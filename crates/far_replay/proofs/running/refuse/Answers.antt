@@ -1,5 +1,5 @@
 use Rattle.std.proofs.Common.{[]}
-use Rattle.far_replay.specs.Reply.{refusal_text}
+use Rattle.far_reply.specs.Reply.{refusal_text}
 use Rattle.far_replay.proofs.running.refuse.Goals as goal
 
 pub returns : goal.returns

@@ -4,7 +4,7 @@ use Rattle.far_word.specs.declared.refused.Refused.TheVariants.{Memory}
 use Rattle.far_text.specs.Command.{Command, Mutator, Read}
 use Rattle.far_replay.specs.Interpreter.{refused_in}
 use Rattle.far_replay.specs.Outcome.{reply_by}
-use Rattle.far_replay.specs.Reply.{Refused}
+use Rattle.far_reply.specs.Reply.{Refused}
 use Rattle.far_replay.specs.Spent.{Makes}
 use Rattle.far_replay.proofs.Made.{read_barred}
 use Rattle.far_replay.proofs.turn.read_range.Goals as goal

@@ -3,7 +3,7 @@ use Rattle.far_word.specs.Pointer.{read_of}
 use Rattle.far_replay.specs.Moment.{state_in}
 use Rattle.far_core.specs.state.State.{State}
 use Rattle.far_core.specs.events.Step.{near_data, data_len}
-use Rattle.far_replay.specs.Reply.{Data}
+use Rattle.far_reply.specs.Reply.{Data}
 use Rattle.far_replay.proofs.Fronts.{read_range}
 use Rattle.far_replay.proofs.turn.read_viewed.Goals as goal
 

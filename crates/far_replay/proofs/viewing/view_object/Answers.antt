@@ -8,7 +8,7 @@ use Rattle.far_text.specs.Command.{Mutator, View}
 use Rattle.far_word.specs.declared.refused.Refused.TheVariants.{Memory}
 use Rattle.far_replay.specs.Moment.{moment_in, state_in}
 use Rattle.far_replay.specs.Outcome.{reply_by}
-use Rattle.far_replay.specs.Reply.{Done, Refused}
+use Rattle.far_reply.specs.Reply.{Done, Refused}
 use Rattle.far_replay.specs.Spent.{Makes}
 use Rattle.far_replay.proofs.Given.{view_makes}
 use Rattle.far_replay.proofs.RangeTurns.{view_cause}

@@ -1,6 +1,6 @@
 use Rattle.far_word.specs.declared.refused.Refused.TheVariants.{NoPointer, NoRoom}
 use Rattle.far_replay.proofs.Outcomes.{is_served}
-use Rattle.far_replay.specs.Reply.{Pointer, Refused}
+use Rattle.far_reply.specs.Reply.{Pointer, Refused}
 use Rattle.far_text.specs.Command.{Mutator, New}
 use Rattle.far_replay_laws.proofs.OutputLaws.{takes_lowest, none_left, is_made, makes_its_object}
 use Rattle.far_replay_laws.proofs.TakingRoom.{commands_take}

@@ -2,7 +2,7 @@ use Rattle.std.proofs.Common.{◌++◌, ◌≤◌, List, drop}
 use Rattle.std.specs.List.{AllByRecursion}
 use Rattle.far_text.specs.SplitText.{AreOwn}
 use Rattle.far_text.specs.Threads.{OfBook}
-use Rattle.far_replay.specs.Reply.{IsShort, Reply}
+use Rattle.far_reply.specs.Reply.{IsShort, Reply}
 use Rattle.far_split.specs.BookTold.{BookTold}
 use Rattle.far_split.specs.Here.{commands_of}
 use Rattle.far_split.proofs.books.make_book_lines.Given as goal

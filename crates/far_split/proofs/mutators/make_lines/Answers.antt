@@ -3,7 +3,7 @@ use Rattle.std.specs.List.{AllByRecursion}
 use Rattle.std.proofs.lemmas.List.{drop_all}
 use Rattle.far_heap.specs.Mine.{Mine}
 use Rattle.far_text.specs.Command.{Command}
-use Rattle.far_replay.specs.Reply.{IsShort}
+use Rattle.far_reply.specs.Reply.{IsShort}
 use Rattle.far_split.specs.Here.{commands_of}
 use Rattle.far_split.specs.Slots.{mine_in}
 use Rattle.far_split.specs.Told.{as_reply}

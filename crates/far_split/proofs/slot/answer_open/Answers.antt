@@ -2,7 +2,7 @@ use Rattle.std.proofs.Common.{ap, subst, sym}
 use Rattle.far_heap.specs.Mine.{Mine}
 use Rattle.far_text.specs.Command.{Close, as_request}
 use Rattle.far_text.specs.declared.command.Request.{Request}
-use Rattle.far_replay.specs.Reply.{Done}
+use Rattle.far_reply.specs.Reply.{Done}
 use Rattle.far_split.specs.Slots.{Answers}
 use Rattle.far_split.proofs.Answered.{closes}
 use Rattle.far_split.proofs.OwnLines.{same_answers}

@@ -1,6 +1,6 @@
 use Rattle.std.proofs.Common.{ℕ, subst}
 use Rattle.far_text.specs.Command.{Drop}
-use Rattle.far_replay.specs.Reply.{Done}
+use Rattle.far_reply.specs.Reply.{Done}
 use Rattle.far_split.specs.Slots.{Answers}
 use Rattle.far_split.proofs.Answered.{dropped_open}
 use Rattle.far_split.proofs.slot.drop_open.Goals as goal

@@ -3,7 +3,7 @@ use Rattle.far_heap.specs.declared.view.Tried.{Tried}
 use Rattle.far_heap.specs.Mine.{TriedSo, uses}
 use Rattle.far_text.specs.Command.{Try}
 use Rattle.far_word.specs.declared.refused.Refused.TheVariants.{Marked}
-use Rattle.far_replay.specs.Reply.{Done, Refused}
+use Rattle.far_reply.specs.Reply.{Done, Refused}
 use Rattle.far_split.specs.Slots.{Answers}
 use Rattle.far_split.proofs.Answered.{marked, tried}
 use Rattle.far_split.proofs.slot.try_view.Goals as goal

@@ -1,6 +1,6 @@
 use Rattle.std.proofs.Common.{ℕ, Err, ap, subst}
 use Rattle.far_text.specs.Command.{View}
-use Rattle.far_replay.specs.Reply.{Done, Refused}
+use Rattle.far_reply.specs.Reply.{Done, Refused}
 use Rattle.far_split.specs.Slots.{Answers}
 use Rattle.far_split.proofs.Answered.{unviewed, viewed}
 use Rattle.far_split.proofs.slot.view.Goals as goal

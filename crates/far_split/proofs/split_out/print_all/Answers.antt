@@ -1,7 +1,7 @@
 use Rattle.std.proofs.Common.{◌+◌, ◌++◌, Err, Ok, drop, subst, ◌∙◌, ap, take, arith}
 use Rattle.std.proofs.lemmas.List.{take_all}
 use Rattle.std.specs.List.{flat_map}
-use Rattle.far_replay.specs.Reply.{reply_text}
+use Rattle.far_reply.specs.Reply.{reply_text}
 use Rattle.far_split.specs.Prints.{Prints}
 use Rattle.far_split.specs.Told.{as_told}
 use Rattle.far_split.proofs.Printing.{prints_part, prints_then, short_at, texts_more, texts_rest}

@@ -1,6 +1,6 @@
 use Rattle.std.proofs.Common.{take, Ok}
 use Rattle.std.specs.List.{flat_map}
-use Rattle.far_replay.specs.Reply.{reply_text}
+use Rattle.far_reply.specs.Reply.{reply_text}
 use Rattle.far_split.specs.Prints.{Prints}
 use Rattle.far_split.proofs.split_out.print_all.Given as goal
 

@@ -1,6 +1,6 @@
 use Rattle.std.proofs.Common.{[], ◌++◌, codes, Ok}
 use Rattle.std.specs.List.{flat_map}
-use Rattle.far_replay.specs.Reply.{reply_text}
+use Rattle.far_reply.specs.Reply.{reply_text}
 use Rattle.far_split.proofs.Printing.{prints_part, prints_pushed, prints_then}
 use Rattle.far_split.proofs.split_out.print_book.Goals as goal
 

@@ -1,7 +1,7 @@
 use Rattle.std.proofs.Common.{[], ◌++◌, Err, Ok, drop, subst, ◌∙◌, take, arith, append_assoc}
 use Rattle.std.proofs.lemmas.List.{take_all}
 use Rattle.std.specs.List.{flat_map}
-use Rattle.far_replay.specs.Reply.{log_text}
+use Rattle.far_reply.specs.Reply.{log_text}
 use Rattle.far_split.specs.Prints.{Prints}
 use Rattle.far_split.proofs.Printing.{prints_part, prints_pushed, prints_then, texts_more, texts_rest}
 use Rattle.far_split.proofs.split_out.print_logs.Goals as goal

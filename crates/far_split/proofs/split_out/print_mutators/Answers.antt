@@ -1,7 +1,7 @@
 use Rattle.std.proofs.Common.{◌+◌, ◌++◌, Err, Ok, drop, length, subst, sym, ◌∙◌, ap, take, append_assoc}
 use Rattle.std.proofs.lemmas.List.{take_all}
 use Rattle.std.specs.List.{AllByRecursion, flat_map}
-use Rattle.far_replay.specs.Reply.{IsShort, reply_text}
+use Rattle.far_reply.specs.Reply.{IsShort, reply_text}
 use Rattle.far_split.specs.Printed.{heading, part_text, parts_text}
 use Rattle.far_split.specs.Prints.{Prints}
 use Rattle.far_split.proofs.Printing.{part_short, parts_more, parts_rest, prints_part, prints_then}

@@ -1,5 +1,5 @@
 use Rattle.std.proofs.Common.{[], Ok}
-use Rattle.far_replay.specs.Reply.{reply_of, reply_text}
+use Rattle.far_reply.specs.Reply.{reply_of, reply_text}
 use Rattle.far_split.proofs.Printing.{prints_part, prints_pushed, prints_then}
 use Rattle.far_split.proofs.split_out.print_reply.Goals as goal
 

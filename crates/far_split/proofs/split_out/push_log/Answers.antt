@@ -1,5 +1,5 @@
 use Rattle.std.proofs.Common.{◌++◌, ◌∙◌, ap, append-nil}
-use Rattle.far_replay.specs.Reply.{log_text}
+use Rattle.far_reply.specs.Reply.{log_text}
 use Rattle.far_split.proofs.split_out.push_log.Goals as goal
 
 pub returns : goal.returns

@@ -10,9 +10,9 @@ use Rattle.far_book.proofs.region.Handed.{since_book}
 
 pub invariant_of-self : goal.invariant_of-self
 invariant_of-self g c =
-    let s = g.N.Hand.view c.self.inside.near in
-    let chosen = subst (λ (b : BookOf g.row.N.Denot g.row.D.Denot). MayChoose (g.N.Hand.view b.near) c.args.logs) (sym c.self.view_is) c.requires.chosen in (
-      advance_keeps s (g.N.Hand.view c.advance.new.self) c.self.inside.ledger (g.D.Device.contents c.self.inside.device) (g.D.Device.honest c.self.inside.device) c.self.invariant.0 c.args.logs chosen
+    let s = g.N.Near.view c.self.inside.near in
+    let chosen = subst (λ (b : BookOf g.row.N.Denot g.row.D.Denot). MayChoose (g.N.Near.view b.near) c.args.logs) (sym c.self.view_is) c.requires.chosen in (
+      advance_keeps s (g.N.Near.view c.advance.new.self) c.self.inside.ledger (g.D.Device.contents c.self.inside.device) (g.D.Device.honest c.self.inside.device) c.self.invariant.0 c.args.logs chosen
           c.advance.result c.advance.ensures.epoch c.advance.ensures.kept c.advance.ensures.forgot c.advance.ensures.unchanged,
       c.self.invariant.1,
     )

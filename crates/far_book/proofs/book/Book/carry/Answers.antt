@@ -21,33 +21,33 @@ use Rattle.far_book.proofs.region.Moved.{drop_of, evac_of, goal_there, quiet_her
 
 -- ---- once the book was opened
 module _ (g : Over) (c : After-room g) where
-  same : g.N.Hand.view c.self.inside.near ≡ g.N.Hand.view c.args.self.now.near
-  same = ap (λ (b : BookOf g.row.N.Denot g.row.D.Denot). g.N.Hand.view b.near) c.self.view_is
+  same : g.N.Near.view c.self.inside.near ≡ g.N.Near.view c.args.self.now.near
+  same = ap (λ (b : BookOf g.row.N.Denot g.row.D.Denot). g.N.Near.view b.near) c.self.view_is
 
   says : read_of c.args.found ≡ Some (Near c.in-Near.len c.in-Near.ds c.in-Near.place c.in-Near.marks)
   says = c.known-was.ensures ∙ ap (λ v. Some v) c.in-Near.is
 
   -- the object lies there
-  lies : LiesIn (g.N.Hand.view c.self.inside.near) c.self.inside.ledger (g.D.Device.contents c.self.inside.device) (g.D.Device.honest c.self.inside.device) c.args.pointer c.in-Near.len c.in-Near.ds c.in-Near.place c.in-Near.marks
+  lies : LiesIn (g.N.Near.view c.self.inside.near) c.self.inside.ledger (g.D.Device.contents c.self.inside.device) (g.D.Device.honest c.self.inside.device) c.args.pointer c.in-Near.len c.in-Near.ds c.in-Near.place c.in-Near.marks
   lies = record {
     order = c.self.invariant.0;
     pointer = subst (λ (x : State). c.args.pointer < CELLS * x.mutators) (sym same) c.requires.pointer;
     near = ap read_of (sym (c.requires.found ∙ ap (λ (x : State). x.cell c.args.pointer) (sym same))) ∙ says;
   }
 
-  quiet : IsQuietNear (g.N.Hand.view c.self.inside.near) c.args.pointer
+  quiet : IsQuietNear (g.N.Near.view c.self.inside.near) c.args.pointer
   quiet = subst (λ (x : State). IsQuietNear x c.args.pointer) (sym same) c.requires.quiet
 
   wanted : c.in-Near.marks.evac ≡ true
   wanted = evac_of (read_of c.args.found) true c.in-Near.len c.in-Near.ds c.in-Near.place c.in-Near.marks says c.requires.wanted
 
   -- there is room, or none
-  told : room (g.N.Hand.view c.self.inside.near) (size_of c.in-Near.len) false ≡ c.room.result
-  told = ap (λ n. room (g.N.Hand.view c.self.inside.near) n false) (sym c.size_of-size.ensures) ∙ sym (c.room.ensures (own_part (g.N.Hand.view c.self.inside.near)) c.self.invariant.0.notes)
+  told : room (g.N.Near.view c.self.inside.near) (size_of c.in-Near.len) false ≡ c.room.result
+  told = ap (λ n. room (g.N.Near.view c.self.inside.near) n false) (sym c.size_of-size.ensures) ∙ sym (c.room.ensures (own_part (g.N.Near.view c.self.inside.near)) c.self.invariant.0.notes)
 
-  goes : dealing.goal (g.N.Hand.view c.args.self.now.near) c.args.pointer ≡ c.room.result
+  goes : dealing.goal (g.N.Near.view c.args.self.now.near) c.args.pointer ≡ c.room.result
   goes = ap (λ (x : State). dealing.goal x c.args.pointer) (sym same)
-      ∙ goal_there (g.N.Hand.view c.self.inside.near) c.args.pointer quiet c.in-Near.len c.in-Near.ds c.in-Near.place c.in-Near.marks lies.near wanted ∙ told
+      ∙ goal_there (g.N.Near.view c.self.inside.near) c.args.pointer quiet c.in-Near.len c.in-Near.ds c.in-Near.place c.in-Near.marks lies.near wanted ∙ told
 
 -- the old span is dead
 noted : (g : Over) (c : After-retire g) → Notes (own_part (freed (lies g (goal.at.After-retire g c).After-room))) c.retire.new.self
@@ -66,11 +66,11 @@ pub move_object-requires-clause-may : goal.move_object-requires-clause-may
 move_object-requires-clause-may g c =
     let h = (goal.at.move_object-requires-clause-may g c).After-room in
     let n = c.in-Near in
-    may_copy (lies g h) c.in-Some.to (told g h ∙ c.in-Some.is) (quiet_here (g.N.Hand.view c.self.inside.near) c.args.pointer (quiet g h) n.len n.ds n.place n.marks (lies g h).near)
+    may_copy (lies g h) c.in-Some.to (told g h ∙ c.in-Some.is) (quiet_here (g.N.Near.view c.self.inside.near) c.args.pointer (quiet g h) n.len n.ds n.place n.marks (lies g h).near)
 
 pub invariant_of-self : goal.invariant_of-self
 invariant_of-self g c = (
-  drop_keeps (g.N.Hand.view c.self.inside.near) (g.N.Hand.view c.move_object.new.near) c.self.inside.ledger (g.D.Device.contents c.self.inside.device) (g.D.Device.honest c.self.inside.device) c.self.invariant.0 c.args.pointer
+  drop_keeps (g.N.Near.view c.self.inside.near) (g.N.Near.view c.move_object.new.near) c.self.inside.ledger (g.D.Device.contents c.self.inside.device) (g.D.Device.honest c.self.inside.device) c.self.invariant.0 c.args.pointer
       (c.move_object.ensures.dropped c.if-not-move_object.true),
   c.self.invariant.1,
 )
@@ -89,7 +89,7 @@ invariant_of-self-2 g c =
     let h = (goal.at.invariant_of-self-2 g c).After-room in
     let n = c.in-Near in
     let alive = drop_of (read_of c.args.found) n.len n.ds n.place n.marks (says g h) c.requires.alive in (
-      carried (lies g h) c.in-Some.to (told g h ∙ c.in-Some.is) c.retire.new.self (noted g (goal.at.invariant_of-self-2 g c).After-retire) (g.N.Hand.view c.move_object.new.near) alive (wanted g h)
+      carried (lies g h) c.in-Some.to (told g h ∙ c.in-Some.is) c.retire.new.self (noted g (goal.at.invariant_of-self-2 g c).After-retire) (g.N.Near.view c.move_object.new.near) alive (wanted g h)
           (c.move_object.ensures.moved c.if-not-move_object.false) c.take.new.self (subst (λ n. Takes c.retire.new.self c.take.new.self c.args.pointer n c.in-Some.to) c.size_of-size.ensures c.take.ensures),
       c.self.invariant.1,
     )
@@ -102,5 +102,5 @@ returns-clause-order g c =
     let h = (goal.at.returns-clause-order g c).After-room in
     let there = there (lies g h) c.in-Some.to (told g h ∙ c.in-Some.is) c.retire.new.self (noted g (goal.at.returns-clause-order g c).After-retire) in
     order_taken there c.take.new.self (subst (λ n. Takes c.retire.new.self c.take.new.self c.args.pointer n c.in-Some.to) c.size_of-size.ensures c.take.ensures)
-    ∙ ap (λ o. order_after (g.N.Hand.view c.self.inside.near) o.items c.in-Some.to) c.retire.ensures.order
-    ∙ ap (λ (b : BookOf g.row.N.Denot g.row.D.Denot). order_after (g.N.Hand.view b.near) b.order c.in-Some.to) c.self.view_is
+    ∙ ap (λ o. order_after (g.N.Near.view c.self.inside.near) o.items c.in-Some.to) c.retire.ensures.order
+    ∙ ap (λ (b : BookOf g.row.N.Denot g.row.D.Denot). order_after (g.N.Near.view b.near) b.order c.in-Some.to) c.self.view_is

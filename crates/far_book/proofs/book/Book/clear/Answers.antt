@@ -9,9 +9,9 @@ use Rattle.far_book.proofs.region.Handed.{since_book}
 
 pub invariant_of-self : goal.invariant_of-self
 invariant_of-self g c =
-    let s = g.N.Hand.view c.self.inside.near in
-    let legal = subst (λ (b : BookOf g.row.N.Denot g.row.D.Denot). Legal (g.N.Hand.view b.near) (Clear c.args.pointer)) (sym c.self.view_is) c.requires.legal in (
-      cleared_keeps s (g.N.Hand.view c.clear.new.self) c.self.inside.ledger (g.D.Device.contents c.self.inside.device) (g.D.Device.honest c.self.inside.device) c.self.invariant.0
+    let s = g.N.Near.view c.self.inside.near in
+    let legal = subst (λ (b : BookOf g.row.N.Denot g.row.D.Denot). Legal (g.N.Near.view b.near) (Clear c.args.pointer)) (sym c.self.view_is) c.requires.legal in (
+      cleared_keeps s (g.N.Near.view c.clear.new.self) c.self.inside.ledger (g.D.Device.contents c.self.inside.device) (g.D.Device.honest c.self.inside.device) c.self.invariant.0
           c.args.pointer legal c.clear.result (omega arith) c.clear.ensures.found c.clear.ensures.kept c.clear.ensures.forgot,
       c.self.invariant.1,
     )

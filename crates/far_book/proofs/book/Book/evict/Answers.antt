@@ -22,10 +22,10 @@ near : (g : Over) (c : In-Near g) → read_of c.see-found.result ≡ Some (Near 
 near g c = search rules
 
 -- what is sent are the object's bytes
-own : (g : Over) (c : After-send g) → HasBytes (g.N.Hand.view c.args.self.now.near) c.args.pointer (bytes_of (data_at (g.N.Hand.view c.send.new.self.near).word c.in-Near.place) c.in-Near.len)
+own : (g : Over) (c : After-send g) → HasBytes (g.N.Near.view c.args.self.now.near) c.args.pointer (bytes_of (data_at (g.N.Near.view c.send.new.self.near).word c.in-Near.place) c.in-Near.len)
 own g c =
     let x = c.in-Near in
-    has_bytes (g.N.Hand.view c.args.self.now.near) (g.N.Hand.view c.see-found.new.self.near) (g.N.Hand.view c.send.new.self.near) c.args.pointer c.see-found.result c.see-found.ensures.kept c.send.ensures.kept
+    has_bytes (g.N.Near.view c.args.self.now.near) (g.N.Near.view c.see-found.new.self.near) (g.N.Near.view c.send.new.self.near) c.args.pointer c.see-found.result c.see-found.ensures.kept c.send.ensures.kept
     x.len x.ds x.place x.marks c.see-found.ensures.found (near g (goal.at.After-send g c).In-Near) c.send.ensures.words
 
 pub returns-in-Ok-clause-far : goal.returns-in-Ok-clause-far
@@ -34,16 +34,16 @@ returns-in-Ok-clause-far g c _ =
     let near = near g (goal.at.returns-in-Ok-clause-far g c).In-Near in
     let says = read_says c.see-found.result (Near x.len x.ds x.place x.marks) (omega arith) near in
     let layout : IsPtr (Far x.len x.ds no_marks) = (says.0.0, says.0.1, says.0.2, refl) in
-    goes_far (g.N.Hand.view c.args.self.now.near) (g.N.Hand.view c.see-found.new.self.near) (g.N.Hand.view c.send.new.self.near) c.args.pointer c.see-found.result c.see-found.ensures.kept c.send.ensures.kept
-    (g.N.Hand.view c.name_far.new.self.near) x.len x.ds x.place x.marks c.see-found.ensures.found near c.if-marks.false c.requires.evac layout c.in-Ok.ensures.far c.in-Ok.ensures.forgot c.send.ensures.words
+    goes_far (g.N.Near.view c.args.self.now.near) (g.N.Near.view c.see-found.new.self.near) (g.N.Near.view c.send.new.self.near) c.args.pointer c.see-found.result c.see-found.ensures.kept c.send.ensures.kept
+    (g.N.Near.view c.name_far.new.self.near) x.len x.ds x.place x.marks c.see-found.ensures.found near c.if-marks.false c.requires.evac layout c.in-Ok.ensures.far c.in-Ok.ensures.forgot c.send.ensures.words
 
 pub returns-then-marks-clause-gone : goal.returns-then-marks-clause-gone
 returns-then-marks-clause-gone g c _ =
-    let s = g.N.Hand.view c.args.self.now.near in
-    let t = g.N.Hand.view c.see-found.new.self.near in
+    let s = g.N.Near.view c.args.self.now.near in
+    let t = g.N.Near.view c.see-found.new.self.near in
     let same = c.see-found.ensures.kept in
     let dropped : is_dropped (read_of c.see-found.result) ≡ true = search rules in
-    retired_by g.N.Hand.still s t (g.N.Hand.view c.retire.new.self.near) c.args.pointer c.see-found.result c.see-found.ensures.found dropped
+    retired_by g.N.Near.still s t (g.N.Near.view c.retire.new.self.near) c.args.pointer c.see-found.result c.see-found.ensures.found dropped
     (record { is = same ∙ ap (λ f. record (seen s c.args.pointer c.see-found.result) { word = f }) (sym (ap (λ (x : State). x.word) same)); known = λ a _ _ _. ap (λ (x : State). x.word a) same; headers = λ a _. ap (λ (x : State). x.word a) same })
     c.retire.ensures.kept c.retire.ensures.forgot
     (λ still. ap (λ v. is_dropped (read_of v)) (sym (c.see-found.ensures.exact still)) ∙ dropped)
@@ -53,15 +53,15 @@ pub returns-in-Err-name_far-clause-gone : goal.returns-in-Err-name_far-clause-go
 returns-in-Err-name_far-clause-gone g c _ =
     let x = c.in-Err-name_far in
     let z = c.retire-in-Err-name_far in
-    is_gone (g.N.Hand.view c.args.self.now.near) (g.N.Hand.view c.see-found.new.self.near) (g.N.Hand.view c.send.new.self.near) c.args.pointer c.see-found.result c.see-found.ensures.kept c.send.ensures.kept
+    is_gone (g.N.Near.view c.args.self.now.near) (g.N.Near.view c.see-found.new.self.near) (g.N.Near.view c.send.new.self.near) c.args.pointer c.see-found.result c.see-found.ensures.kept c.send.ensures.kept
     _ _ x.field-0 c.see-found.ensures.found x.ensures.found x.ensures.dropped x.ensures.kept z.ensures.kept z.ensures.forgot
-    g.N.Hand.still (λ still. absurd (x.ensures.won still)) (λ still. absurd (x.ensures.won still))
+    g.N.Near.still (λ still. absurd (x.ensures.won still)) (λ still. absurd (x.ensures.won still))
 
 pub returns-in-Err-name_far-clause-freed : goal.returns-in-Err-name_far-clause-freed
 returns-in-Err-name_far-clause-freed g c _ =
     let x = c.in-Err-name_far in
     let z = c.retire-in-Err-name_far in
-    gone_keeps (g.N.Hand.view c.args.self.now.near) (g.N.Hand.view c.see-found.new.self.near) (g.N.Hand.view c.send.new.self.near) c.args.pointer c.see-found.result c.see-found.ensures.kept c.send.ensures.kept
+    gone_keeps (g.N.Near.view c.args.self.now.near) (g.N.Near.view c.see-found.new.self.near) (g.N.Near.view c.send.new.self.near) c.args.pointer c.see-found.result c.see-found.ensures.kept c.send.ensures.kept
     _ _ x.field-0 c.see-found.ensures.found x.ensures.found x.ensures.dropped x.ensures.kept z.ensures.kept z.ensures.forgot
 
 pub returns-then-marks-clause-ran : goal.returns-then-marks-clause-ran
@@ -92,23 +92,23 @@ returns-then-marks-clause-called g c = inl (subst (λ (d : g.row.D.Denot). g.D.D
 
 pub returns-in-Err-clause-called : goal.returns-in-Err-clause-called
 returns-in-Err-clause-called g c =
-    let bytes = bytes_of (data_at (g.N.Hand.view c.send.new.self.near).word c.in-Near.place) c.in-Near.len in
+    let bytes = bytes_of (data_at (g.N.Near.view c.send.new.self.near).word c.in-Near.place) c.in-Near.len in
     let wrote = subst (λ (d : g.row.D.Denot). g.D.Device.writes d c.args.pointer bytes (Err (fault_of c.in-Err.why)) c.send.new.self.device) c.see-found.ensures.device c.in-Err.ensures.called in
     (bytes, own g (goal.at.returns-in-Err-clause-called g c).After-send, wrote)
 
 pub returns-in-Ok-clause-called : goal.returns-in-Ok-clause-called
 returns-in-Ok-clause-called g c =
-    let bytes = bytes_of (data_at (g.N.Hand.view c.send.new.self.near).word c.in-Near.place) c.in-Near.len in
+    let bytes = bytes_of (data_at (g.N.Near.view c.send.new.self.near).word c.in-Near.place) c.in-Near.len in
     let wrote = subst (λ (d : g.row.D.Denot). g.D.Device.writes d c.args.pointer bytes (Ok tt) c.send.new.self.device) c.see-found.ensures.device c.in_default-send.ensures.called in
     (bytes, own g (goal.at.returns-in-Ok-clause-called g c).After-send, subst (λ (d : g.row.D.Denot). g.D.Device.writes c.args.self.now.device c.args.pointer bytes (Ok tt) d) (sym c.name_far.ensures.device) wrote)
 
 pub returns-in-Err-name_far-clause-called : goal.returns-in-Err-name_far-clause-called
 returns-in-Err-name_far-clause-called g c =
     let x = c.in-Near in
-    let bytes = bytes_of (data_at (g.N.Hand.view c.send.new.self.near).word x.place) x.len in
+    let bytes = bytes_of (data_at (g.N.Near.view c.send.new.self.near).word x.place) x.len in
     let wrote = subst (λ (d : g.row.D.Denot). g.D.Device.writes d c.args.pointer bytes (Ok tt) c.send.new.self.device) c.see-found.ensures.device c.in_default-send.ensures.called in
     let gone = subst (λ (d : g.row.D.Denot). g.D.Device.lets_go d c.args.pointer c.retire-in-Err-name_far.new.self.device) c.name_far.ensures.device c.retire-in-Err-name_far.ensures.called in
-    let alive = was_alive (g.N.Hand.view c.args.self.now.near) (g.N.Hand.view c.see-found.new.self.near) (g.N.Hand.view c.send.new.self.near) c.args.pointer c.see-found.result c.see-found.ensures.kept c.send.ensures.kept
+    let alive = was_alive (g.N.Near.view c.args.self.now.near) (g.N.Near.view c.see-found.new.self.near) (g.N.Near.view c.send.new.self.near) c.args.pointer c.see-found.result c.see-found.ensures.kept c.send.ensures.kept
     x.len x.ds x.place x.marks c.see-found.ensures.found (near g (goal.at.returns-in-Err-name_far-clause-called g c).In-Near) c.if-marks.false in
     inr (c.send.new.self.device, (bytes, own g (goal.at.returns-in-Err-name_far-clause-called g c).After-send, wrote), gone, alive)
 

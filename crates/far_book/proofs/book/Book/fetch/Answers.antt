@@ -37,7 +37,7 @@ enough : (held lent back : Vec ℕ) → lent ≡ held → LONGEST ≤ vec_capaci
 enough held lent back same most kept = omega (arith, most, kept, ap (λ (b : Vec ℕ). vec_capacity b) same)
 
 -- the word that was found
-found : (g : Over) (c : In-Far g) → FarFound (g.N.Hand.view c.args.self.now.near) (g.N.Hand.view c.see-word.new.self.near) c.args.pointer c.see-word.result c.in-Far.len c.in-Far.ds c.in-Far.marks
+found : (g : Over) (c : In-Far g) → FarFound (g.N.Near.view c.args.self.now.near) (g.N.Near.view c.see-word.new.self.near) c.args.pointer c.see-word.result c.in-Far.len c.in-Far.ds c.in-Far.marks
 found g c = record {
   finds = c.see-word.ensures.found;
   fits = c.see-word.type_inv;
@@ -48,14 +48,14 @@ found g c = record {
 
 -- the same once the book was opened, and what the ledger told
 told : (g : Over) (c : After-room g) →
-    RoomTold (g.N.Hand.view c.args.self.now.near) (g.N.Hand.view c.self.inside.near) c.args.pointer c.see-word.result c.in-Far.len c.in-Far.ds c.in-Far.marks
+    RoomTold (g.N.Near.view c.args.self.now.near) (g.N.Near.view c.self.inside.near) c.args.pointer c.see-word.result c.in-Far.len c.in-Far.ds c.in-Far.marks
     c.self.inside.ledger (g.D.Device.contents c.self.inside.device) (g.D.Device.honest c.self.inside.device) c.size_of-size.result c.room.result
 told g c = record {
-  found = subst (λ (b : BookOf g.row.N.Denot g.row.D.Denot). FarFound (g.N.Hand.view c.args.self.now.near) (g.N.Hand.view b.near) c.args.pointer c.see-word.result c.in-Far.len c.in-Far.ds c.in-Far.marks)
+  found = subst (λ (b : BookOf g.row.N.Denot g.row.D.Denot). FarFound (g.N.Near.view c.args.self.now.near) (g.N.Near.view b.near) c.args.pointer c.see-word.result c.in-Far.len c.in-Far.ds c.in-Far.marks)
       (sym c.self.view_is) (found g (goal.at.After-room g c).In-Far);
   order = c.self.invariant.0;
   size_is = c.size_of-size.ensures;
-  told = c.room.ensures (own_part (g.N.Hand.view c.self.inside.near)) c.self.invariant.0.notes;
+  told = c.room.ensures (own_part (g.N.Near.view c.self.inside.near)) c.self.invariant.0.notes;
 }
 
 -- ---- the device, of which only that one read was asked
@@ -121,7 +121,7 @@ take-requires g c =
 
 pub invariant_of-self-in_default-come_near : goal.invariant_of-self-in_default-come_near
 invariant_of-self-in_default-come_near g c =
-    let u = g.N.Hand.view c.come_near.new.near in
+    let u = g.N.Near.view c.come_near.new.near in
     let y = c.in_default-come_near in
     let law = g.met.D.Device.read_follows _ _ _ _ c.read_into.ensures.called in (
       subst (λ e. InOrder u c.self.inside.ledger (g.D.Device.contents c.read_into.new.self) e) (sym law.honest)
@@ -134,7 +134,7 @@ pub returns-then-marks-clause-gone : goal.returns-then-marks-clause-gone
 returns-then-marks-clause-gone g c =
     let x = found g (goal.at.returns-then-marks-clause-gone g c).In-Far in
     let dropped : is_dropped (read_of c.see-word.result) ≡ true = ap is_dropped x.far ∙ c.if-marks.true in
-    retired_by g.N.Hand.still (g.N.Hand.view c.args.self.now.near) (g.N.Hand.view c.see-word.new.self.near) (g.N.Hand.view c.retire.new.self.near) c.args.pointer c.see-word.result x.finds dropped
+    retired_by g.N.Near.still (g.N.Near.view c.args.self.now.near) (g.N.Near.view c.see-word.new.self.near) (g.N.Near.view c.retire.new.self.near) c.args.pointer c.see-word.result x.finds dropped
     (left_here x) c.retire.ensures.kept c.retire.ensures.forgot
     (λ still. ap (λ v. is_dropped (read_of v)) (sym (c.see-word.ensures.exact still)) ∙ dropped)
     (λ still. c.retire.ensures.exact still ∙ ap (λ (u : State). retired u c.args.pointer) (c.see-word.ensures.set still))
@@ -146,9 +146,9 @@ pub returns-in_default-come_near-clause-gone : goal.returns-in_default-come_near
 returns-in_default-come_near-clause-gone g c =
     let h = told g (goal.at.returns-in_default-come_near-clause-gone g c).After-room in
     let y = c.in_default-come_near in
-    let u = g.N.Hand.view c.come_near.new.near in
+    let u = g.N.Near.view c.come_near.new.near in
     let z = c.retire-in_default-come_near in
-    retired_by g.N.Hand.still (g.N.Hand.view c.args.self.now.near) u (g.N.Hand.view z.new.self.near) c.args.pointer y.field-0 (finds_more _ _ _ h.found.finds y.ensures.found) y.ensures.dropped
+    retired_by g.N.Near.still (g.N.Near.view c.args.self.now.near) u (g.N.Near.view z.new.self.near) c.args.pointer y.field-0 (finds_more _ _ _ h.found.finds y.ensures.found) y.ensures.dropped
     (left_written h c.in-Some.place c.in-Some.is (packed_word c.as_slice.result.now) u y.field-0 y.ensures.kept) z.ensures.kept z.ensures.forgot
     (λ still. absurd (y.ensures.won still)) (λ still. absurd (y.ensures.won still))
 
@@ -156,8 +156,8 @@ pub returns-in_default-come_near-clause-unread : goal.returns-in_default-come_ne
 returns-in_default-come_near-clause-unread g c =
     let y = c.in_default-come_near in
     let z = c.retire-in_default-come_near in
-    unread_written (told g (goal.at.returns-in_default-come_near-clause-unread g c).After-room) c.in-Some.place c.in-Some.is (packed_word c.as_slice.result.now) (g.N.Hand.view c.come_near.new.near) y.field-0 y.ensures.kept
-    (g.N.Hand.view z.new.self.near) z.ensures.forgot
+    unread_written (told g (goal.at.returns-in_default-come_near-clause-unread g c).After-room) c.in-Some.place c.in-Some.is (packed_word c.as_slice.result.now) (g.N.Near.view c.come_near.new.near) y.field-0 y.ensures.kept
+    (g.N.Near.view z.new.self.near) z.ensures.forgot
 
 pub invariant_of-self-2 : goal.invariant_of-self-2
 invariant_of-self-2 g c =
@@ -165,18 +165,18 @@ invariant_of-self-2 g c =
     let able = placeable (has_room h c.in-Some.place c.in-Some.is) in
     let law = g.met.D.Device.forget_follows _ _ _ c.forget.ensures.called in
     let others : KeepsOthers (g.D.Device.contents c.self.inside.device) (g.D.Device.contents c.forget.new.self) c.args.pointer = (λ q ne. law.others q ne ∙ ap (λ (h : ℕ → Option (List ℕ)). h q) c.read_into.ensures.kept) in (
-      subst (λ e. InOrder (g.N.Hand.view c.come_near.new.near) c.take.new.self (g.D.Device.contents c.forget.new.self) e) (sym (law.honest ∙ (g.met.D.Device.read_follows _ _ _ _ c.read_into.ensures.called).honest))
-          (come_in_order (g.N.Hand.view c.self.inside.near) (g.N.Hand.view c.come_near.new.near) c.args.pointer c.in-Far.len c.in-Far.ds c.in-Some.place (packed_word c.as_slice.result.now) c.in-Far.marks (now h.found) c.if-marks.false able.layout c.in-Ok-come_near.ensures.done
+      subst (λ e. InOrder (g.N.Near.view c.come_near.new.near) c.take.new.self (g.D.Device.contents c.forget.new.self) e) (sym (law.honest ∙ (g.met.D.Device.read_follows _ _ _ _ c.read_into.ensures.called).honest))
+          (come_in_order (g.N.Near.view c.self.inside.near) (g.N.Near.view c.come_near.new.near) c.args.pointer c.in-Far.len c.in-Far.ds c.in-Some.place (packed_word c.as_slice.result.now) c.in-Far.marks (now h.found) c.if-marks.false able.layout c.in-Ok-come_near.ensures.done
           c.self.inside.ledger c.take.new.self _ _ _ c.self.invariant.0 able (subst (λ n. Takes c.self.inside.ledger c.take.new.self c.args.pointer n c.in-Some.place) c.size_of-size.ensures c.take.ensures) others),
       enough c.self.inside.buffer c.replace-bytes.result c.read_into.new.buffer c.replace-bytes.ensures.value c.self.invariant.1 c.read_into.ensures.room,
     )
 
 -- what the book was given has come near
-given : (g : Over) (c : In-Ok-come_near g) → HasGiven g.N.Hand.still (g.N.Hand.view c.args.self.now.near) (g.N.Hand.view c.come_near.new.near) c.args.pointer c.in-Some.place c.as_slice.result.now
+given : (g : Over) (c : In-Ok-come_near g) → HasGiven g.N.Near.still (g.N.Near.view c.args.self.now.near) (g.N.Near.view c.come_near.new.near) c.args.pointer c.in-Some.place c.as_slice.result.now
 given g c =
     let y = c.in-Ok-come_near.ensures in
     let long : length c.read_into.new.buffer.items ≡ c.in-Far.len = omega arith in
-    has_given (told g (goal.at.In-Ok-come_near g c).After-room) c.in-Some.place c.in-Some.is c.as_slice.result.now c.if-marks.false (g.N.Hand.view c.come_near.new.near) y.done g.N.Hand.still y.set (ap length c.as_slice.ensures.value ∙ long)
+    has_given (told g (goal.at.In-Ok-come_near g c).After-room) c.in-Some.place c.in-Some.is c.as_slice.result.now c.if-marks.false (g.N.Near.view c.come_near.new.near) y.done g.N.Near.still y.set (ap length c.as_slice.ensures.value ∙ long)
 
 pub returns-clause-near : goal.returns-clause-near
 returns-clause-near g c =
@@ -281,7 +281,7 @@ returns-in-Err-Device-clause-called g c =
 pub returns-then-len-clause-called : goal.returns-then-len-clause-called
 returns-then-len-clause-called g c =
     let old = was_long (told g (goal.at.returns-then-len-clause-called g c).After-room).found in
-    let short = λ (e : length c.read_into.new.buffer.items ≡ far_len (read_of ((g.N.Hand.view c.args.self.now.near).cell c.args.pointer))).
+    let short = λ (e : length c.read_into.new.buffer.items ≡ far_len (read_of ((g.N.Near.view c.args.self.now.near).cell c.args.pointer))).
     let long : length c.read_into.new.buffer.items ≡ c.in-Far.len = e ∙ old in absurd (omega arith) in
     (c.read_into.new.buffer.items, read g (goal.at.returns-then-len-clause-called g c).After-room (Ok c.read_into.new.buffer.items) c.read_into.new.self c.in-Ok.ensures.called, short)
 
@@ -294,7 +294,7 @@ returns-in_default-come_near-clause-called g c =
 pub returns-clause-called : goal.returns-clause-called
 returns-clause-called g c =
     let read = read g (goal.at.returns-clause-called g c).After-room (Ok c.read_into.new.buffer.items) c.read_into.new.self c.in-Ok.ensures.called in
-    let given = subst (HasGiven g.N.Hand.still _ _ c.args.pointer c.in-Some.place) c.as_slice.ensures.value (given g (goal.at.returns-clause-called g c).In-Ok-come_near) in
+    let given = subst (HasGiven g.N.Near.still _ _ c.args.pointer c.in-Some.place) c.as_slice.ensures.value (given g (goal.at.returns-clause-called g c).In-Ok-come_near) in
     (c.read_into.new.buffer.items, c.read_into.new.self, read, c.forget.ensures.called, given)
 
 pub returns-then-marks-clause-came : goal.returns-then-marks-clause-came

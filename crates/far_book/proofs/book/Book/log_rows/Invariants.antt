@@ -3,4 +3,4 @@ use Rattle.far_book.specs.book.Rows.{row_of}
 use Rattle.far_book.proofs.book.Book.log_rows.Given as goal
 
 abbrev pub invariant-loop-log : goal.invariant-loop-log
-invariant-loop-log g l = record { rows : l.rows ≡ map (row_of (g.N.Hand.view l.self-inside.near)) (take l.log-index l.self-inside.ledger.order.items) }
+invariant-loop-log g l = record { rows : l.rows ≡ map (row_of (g.N.Near.view l.self-inside.near)) (take l.log-index l.self-inside.ledger.order.items) }

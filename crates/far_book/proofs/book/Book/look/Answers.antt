@@ -9,7 +9,7 @@ use Rattle.far_book.proofs.region.Handed.{since_book}
 pub invariant_of-self : goal.invariant_of-self
 invariant_of-self g c = (
   subst (λ (s : State). InOrder s c.self.inside.ledger (g.D.Device.contents c.self.inside.device) (g.D.Device.honest c.self.inside.device)) (sym c.look.ensures.kept)
-      (looked_keeps (g.N.Hand.view c.self.inside.near) c.self.inside.ledger (g.D.Device.contents c.self.inside.device) (g.D.Device.honest c.self.inside.device) c.self.invariant.0 c.args.owner c.look.result),
+      (looked_keeps (g.N.Near.view c.self.inside.near) c.self.inside.ledger (g.D.Device.contents c.self.inside.device) (g.D.Device.honest c.self.inside.device) c.self.invariant.0 c.args.owner c.look.result),
   c.self.invariant.1,
 )
 

@@ -11,10 +11,10 @@ use Rattle.far_book.proofs.region.Handed.{since_book}
 
 pub invariant_of-self : goal.invariant_of-self
 invariant_of-self g c =
-    let s = g.N.Hand.view c.self.inside.near in
+    let s = g.N.Near.view c.self.inside.near in
     let held = g.D.Device.contents c.self.inside.device in
     let is_honest = g.D.Device.honest c.self.inside.device in
-    let legal = subst (λ (b : BookOf g.row.N.Denot g.row.D.Denot). Legal (g.N.Hand.view b.near) (Mark c.args.pointer)) (sym c.self.view_is) c.requires.legal in (
+    let legal = subst (λ (b : BookOf g.row.N.Denot g.row.D.Denot). Legal (g.N.Near.view b.near) (Mark c.args.pointer)) (sym c.self.view_is) c.requires.legal in (
       subst (λ (u : State). InOrder u c.self.inside.ledger held is_honest) (sym c.mark.ensures.kept)
           (found_marked s c.self.inside.ledger held is_honest c.self.invariant.0 c.args.pointer legal c.mark.result (omega arith) c.mark.ensures.found),
       c.self.invariant.1,

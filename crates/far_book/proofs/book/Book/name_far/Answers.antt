@@ -19,13 +19,13 @@ use Rattle.far_book.proofs.region.InOrders.{found_keeps}
 
 -- ---- once the book was opened
 module _ (g : Over) (c : After-self g) where
-  same : g.N.Hand.view c.self.inside.near ≡ g.N.Hand.view c.args.self.now.near
-  same = ap (λ (b : BookOf g.row.N.Denot g.row.D.Denot). g.N.Hand.view b.near) c.self.view_is
+  same : g.N.Near.view c.self.inside.near ≡ g.N.Near.view c.args.self.now.near
+  same = ap (λ (b : BookOf g.row.N.Denot g.row.D.Denot). g.N.Near.view b.near) c.self.view_is
 
-  found : c.args.found ≡ (g.N.Hand.view c.self.inside.near).cell c.args.pointer
+  found : c.args.found ≡ (g.N.Near.view c.self.inside.near).cell c.args.pointer
   found = c.requires.found ∙ sym (ap (λ (t : State). t.cell c.args.pointer) same)
 
-  leaves : MayLeave (g.N.Hand.view c.self.inside.near) c.args.pointer c.args.len c.args.ds c.args.place
+  leaves : MayLeave (g.N.Near.view c.self.inside.near) c.args.pointer c.args.len c.args.ds c.args.place
   leaves =
       let near = subst (λ (t : State). IsQuietIn t c.args.pointer c.args.len c.args.ds c.args.place) (sym same) c.requires.near in
       record {
@@ -38,18 +38,18 @@ module _ (g : Over) (c : After-self g) where
       }
 
 -- the cell has the new word
-renamed : (g : Over) (c : In_default g) → Renamed (g.N.Hand.view c.self.inside.near) (g.N.Hand.view c.rename.new.near) c.args.pointer (far_word c.args.len c.args.ds)
-renamed g c = subst (Renamed (g.N.Hand.view c.self.inside.near) (g.N.Hand.view c.rename.new.near) c.args.pointer) c.far_word.ensures c.in_default.ensures.done
+renamed : (g : Over) (c : In_default g) → Renamed (g.N.Near.view c.self.inside.near) (g.N.Near.view c.rename.new.near) c.args.pointer (far_word c.args.len c.args.ds)
+renamed g c = subst (Renamed (g.N.Near.view c.self.inside.near) (g.N.Near.view c.rename.new.near) c.args.pointer) c.far_word.ensures c.in_default.ensures.done
 
 pub far_word-requires : goal.far_word-requires
 far_word-requires g c = far_layout (leaves g (goal.at.far_word-requires g c).After-self)
 
 pub rename-requires-clause-may : goal.rename-requires-clause-may
-rename-requires-clause-may g c = subst (MayRename (g.N.Hand.view c.self.inside.near) c.args.pointer) (sym c.far_word.ensures) (may_go_far (leaves g (goal.at.rename-requires-clause-may g c).After-self))
+rename-requires-clause-may g c = subst (MayRename (g.N.Near.view c.self.inside.near) c.args.pointer) (sym c.far_word.ensures) (may_go_far (leaves g (goal.at.rename-requires-clause-may g c).After-self))
 
 pub invariant_of-self : goal.invariant_of-self
 invariant_of-self g c =
-    let s = g.N.Hand.view c.self.inside.near in
+    let s = g.N.Near.view c.self.inside.near in
     let held = g.D.Device.contents c.self.inside.device in
     let is_honest = g.D.Device.honest c.self.inside.device in
     let finds = subst (λ w. Finds w c.in-Err.word) (found g (goal.at.invariant_of-self g c).After-self) c.in-Err.ensures.found in (
@@ -71,8 +71,8 @@ lose-requires-clause-size g c = subst (λ n. n ≤ LOG_WORDS) (sym c.size_of.ens
 
 pub invariant_of-self-2 : goal.invariant_of-self-2
 invariant_of-self-2 g c =
-    let here = subst (λ (b : BookOf g.row.N.Denot g.row.D.Denot). g.D.Device.contents b.device c.args.pointer ≡ Some (bytes_of (data_at (g.N.Hand.view b.near).word c.args.place) c.args.len)) (sym c.self.view_is) c.requires.held in (
-      far_order (leaves g (goal.at.invariant_of-self-2 g c).After-self) (g.N.Hand.view c.rename.new.near) c.self.inside.ledger c.lose.new.self (g.D.Device.contents c.self.inside.device) (g.D.Device.honest c.self.inside.device)
+    let here = subst (λ (b : BookOf g.row.N.Denot g.row.D.Denot). g.D.Device.contents b.device c.args.pointer ≡ Some (bytes_of (data_at (g.N.Near.view b.near).word c.args.place) c.args.len)) (sym c.self.view_is) c.requires.held in (
+      far_order (leaves g (goal.at.invariant_of-self-2 g c).After-self) (g.N.Near.view c.rename.new.near) c.self.inside.ledger c.lose.new.self (g.D.Device.contents c.self.inside.device) (g.D.Device.honest c.self.inside.device)
           c.self.invariant.0 here (renamed g (goal.at.invariant_of-self-2 g c).In_default) (subst (Loses c.self.inside.ledger c.lose.new.self c.args.place.log) c.size_of.ensures c.lose.ensures),
       c.self.invariant.1,
     )
@@ -80,5 +80,5 @@ invariant_of-self-2 g c =
 pub returns-clause-far : goal.returns-clause-far
 returns-clause-far g c =
     let h = (goal.at.returns-clause-far g c).After-self in
-    let t = g.N.Hand.view c.rename.new.near in
+    let t = g.N.Near.view c.rename.new.near in
     subst (λ (u : State). t ≡ record (evicted u c.args.pointer) { word = t.word }) (same g h) (evicted_by (leaves g h) t (renamed g (goal.at.returns-clause-far g c).In_default))

@@ -8,10 +8,10 @@ use Rattle.far_book.proofs.region.InOrders.{none_far}
 
 pub invariant_of-result : goal.invariant_of-result
 invariant_of-result g c =
-    let start : own_part (g.N.Hand.view c.args.near) ≡ own_part (opening c.shape-shape.result false) = c.requires.start ∙ ap (λ shape. own_part (opening shape false)) (sym c.shape-shape.ensures.is) in (
+    let start : own_part (g.N.Near.view c.args.near) ≡ own_part (opening c.shape-shape.result false) = c.requires.start ∙ ap (λ shape. own_part (opening shape false)) (sym c.shape-shape.ensures.is) in (
       record {
         notes = subst (λ s. Notes s c.in-Ok.ledger) (sym start) c.in-Ok.ensures.notes;
-        far = none_far (g.N.Hand.view c.args.near) (g.D.Device.contents c.args.device) c.requires.start;
+        far = none_far (g.N.Near.view c.args.near) (g.D.Device.contents c.args.device) c.requires.start;
         honest = c.requires.honest;
       },
       c.in-Ok-with_capacity.ensures.capacity,

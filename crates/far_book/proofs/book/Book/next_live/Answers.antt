@@ -10,9 +10,9 @@ use Rattle.far_book.proofs.region.NextLives.{Step, begun, below_tail, ended, fou
 use Rattle.far_hand.proofs.Closure.{then_came, came_only}
 
 -- the span at hand is read, and its cell seen
-step : (g : Over) (c : After-see g) → Step (g.N.Hand.view c.args.self.now.near) (g.N.Hand.view c.loop-at.self.near) (g.N.Hand.view c.span_at-span.new.self.near) (g.N.Hand.view c.see.new.self.near) c.args.log c.loop-at.at c.span_at-span.result c.see.result
+step : (g : Over) (c : After-see g) → Step (g.N.Near.view c.args.self.now.near) (g.N.Near.view c.loop-at.self.near) (g.N.Near.view c.span_at-span.new.self.near) (g.N.Near.view c.see.new.self.near) c.args.log c.loop-at.at c.span_at-span.result c.see.result
 step g c =
-    let s = g.N.Hand.view c.args.self.now.near in
+    let s = g.N.Near.view c.args.self.now.near in
     let h = c.loop-at.invariant in
     let below = below_tail s c.args.log c.loop-at.at c.tail-tail.result c.tail-tail.ensures.is c.loop-at-test.true in
     record {
@@ -36,7 +36,7 @@ returns-then-names_place-clause-first g c =
 
 pub returns-then-names_place-clause-next : goal.returns-then-names_place-clause-next
 returns-then-names_place-clause-next g c =
-    subst (λ n. IsBoundary (g.N.Hand.view c.args.self.now.near) c.args.log (n + size_of c.span_at-span.result.len)) (sym (ap (λ (y : Span). y.at) c.span_at-span.ensures.is))
+    subst (λ n. IsBoundary (g.N.Near.view c.args.self.now.near) c.args.log (n + size_of c.span_at-span.result.len)) (sym (ap (λ (y : Span). y.at) c.span_at-span.ensures.is))
     (here_next (step g (goal.at.returns-then-names_place-clause-next g c).After-see))
 
 pub returns-then-names_place-clause-lies : goal.returns-then-names_place-clause-lies
@@ -48,7 +48,7 @@ returns-then-names_place-clause-found g c = found_more (step g (goal.at.returns-
 pub returns-then-names_place-clause-others : goal.returns-then-names_place-clause-others
 returns-then-names_place-clause-others g c p =
     let h = c.loop-at.invariant in
-    subst (λ n. IsNamedBetween (g.N.Hand.view c.args.self.now.near) c.args.log c.args.at (n + size_of c.span_at-span.result.len) p ⊎ ((g.N.Hand.view c.see.new.self.near).cell p ≡ (g.N.Hand.view c.args.self.now.near).cell p))
+    subst (λ n. IsNamedBetween (g.N.Near.view c.args.self.now.near) c.args.log c.args.at (n + size_of c.span_at-span.result.len) p ⊎ ((g.N.Near.view c.see.new.self.near).cell p ≡ (g.N.Near.view c.args.self.now.near).cell p))
     (sym (ap (λ (y : Span). y.at) c.span_at-span.ensures.is)) (others_more (step g (goal.at.returns-then-names_place-clause-others g c).After-see) c.args.at h.low p (h.others p))
 
 pub returns-then-names_place-clause-exact : goal.returns-then-names_place-clause-exact
@@ -56,7 +56,7 @@ returns-then-names_place-clause-exact g c still = c.see.ensures.set still ∙ c.
 
 pub loop-at-preserved : goal.loop-at-preserved
 loop-at-preserved g c =
-    let s = g.N.Hand.view c.args.self.now.near in
+    let s = g.N.Near.view c.args.self.now.near in
     let step = step g (goal.at.loop-at-preserved g c).After-see in
     let h = c.loop-at.invariant in
     let size = sym c.size_of-at.ensures in
@@ -66,7 +66,7 @@ loop-at-preserved g c =
       rest = subst (λ n. live_from s c.args.log c.args.at ≡ live_from s c.args.log (c.loop-at.at + n)) size (h.rest ∙ here_dead step (sym c.names_place.ensures ∙ c.if-names_place.false));
       found = found_more step;
       kept = kept_more step;
-      others = λ p. subst (λ n. IsNamedBetween s c.args.log c.args.at (c.loop-at.at + n) p ⊎ ((g.N.Hand.view c.see.new.self.near).cell p ≡ s.cell p)) size (others_more step c.args.at h.low p (h.others p));
+      others = λ p. subst (λ n. IsNamedBetween s c.args.log c.args.at (c.loop-at.at + n) p ⊎ ((g.N.Near.view c.see.new.self.near).cell p ≡ s.cell p)) size (others_more step c.args.at h.low p (h.others p));
       came = then_came (then_came h.came (came_only _ c.span_at-span.ensures.reads)) c.see.ensures.came;
       exact = λ still. c.see.ensures.set still ∙ c.span_at-span.ensures.same ∙ h.exact still;
       order = c.see.ensures.order ∙ c.span_at-span.ensures.order ∙ h.order;
@@ -76,11 +76,11 @@ loop-at-preserved g c =
 pub returns-clause-others : goal.returns-clause-others
 returns-clause-others g c =
     let h = c.loop-at.invariant in
-    λ p. none_more (g.N.Hand.view c.args.self.now.near) (g.N.Hand.view c.loop-at.self.near) c.args.log c.args.at c.loop-at.at h.edge p (h.others p)
+    λ p. none_more (g.N.Near.view c.args.self.now.near) (g.N.Near.view c.loop-at.self.near) c.args.log c.args.at c.loop-at.at h.edge p (h.others p)
 
 pub returns-clause-none : goal.returns-clause-none
 returns-clause-none g c =
-    let s = g.N.Hand.view c.args.self.now.near in
+    let s = g.N.Near.view c.args.self.now.near in
     let h = c.loop-at.invariant in
     h.rest ∙ ended s c.keeps_law.ensures.law c.args.log c.loop-at.at c.tail-tail.result h.edge c.tail-tail.ensures.is (omega (arith, c.loop-at-test.false))
 

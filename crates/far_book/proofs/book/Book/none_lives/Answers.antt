@@ -9,8 +9,8 @@ use Rattle.far_book.proofs.region.NextLives.{none_lives}
 
 pub returns : goal.returns
 returns g c vacant =
-    let s = g.N.Hand.view c.self.inside.near in
-    let same = ap (λ (b : BookOf g.row.N.Denot g.row.D.Denot). g.N.Hand.view b.near) c.self.view_is in
+    let s = g.N.Near.view c.self.inside.near in
+    let same = ap (λ (b : BookOf g.row.N.Denot g.row.D.Denot). g.N.Near.view b.near) c.self.view_is in
     let within : c.args.log < s.logs = subst (λ (t : State). c.args.log < t.logs) (sym same) c.requires.log in
     let none = eqb-true _ _ (sym (c.is_vacant.ensures (own_part s) (c.self.invariant.0.notes, within)) ∙ vacant) in
     subst (λ (t : State). (at : ℕ) → live_from t c.args.log at ≡ []) same (none_lives s c.self.invariant.0.notes.law c.args.log none)

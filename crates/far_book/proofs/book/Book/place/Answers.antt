@@ -19,20 +19,20 @@ use Rattle.far_book.proofs.region.Places.{law_then}
 
 -- ---- once the book was opened
 module _ (g : Over) (c : After-room g) where
-  same : g.N.Hand.view c.self.inside.near ≡ g.N.Hand.view c.args.self.now.near
-  same = ap (λ (b : BookOf g.row.N.Denot g.row.D.Denot). g.N.Hand.view b.near) c.self.view_is
+  same : g.N.Near.view c.self.inside.near ≡ g.N.Near.view c.args.self.now.near
+  same = ap (λ (b : BookOf g.row.N.Denot g.row.D.Denot). g.N.Near.view b.near) c.self.view_is
 
-  told : room (g.N.Hand.view c.self.inside.near) (size_of c.args.len) true ≡ c.room.result
-  told = ap (λ n. room (g.N.Hand.view c.self.inside.near) n true) (sym c.size_of-size.ensures) ∙ sym (c.room.ensures (own_part (g.N.Hand.view c.self.inside.near)) c.self.invariant.0.notes)
+  told : room (g.N.Near.view c.self.inside.near) (size_of c.args.len) true ≡ c.room.result
+  told = ap (λ n. room (g.N.Near.view c.self.inside.near) n true) (sym c.size_of-size.ensures) ∙ sym (c.room.ensures (own_part (g.N.Near.view c.self.inside.near)) c.self.invariant.0.notes)
 
-  free : (g.N.Hand.view c.self.inside.near).cell c.args.pointer ≡ 0
+  free : (g.N.Near.view c.self.inside.near).cell c.args.pointer ≡ 0
   free = ap (λ (t : State). t.cell c.args.pointer) same ∙ c.requires.free
 
-there : (g : Over) (c : In-Some g) → HasRoom (g.N.Hand.view c.self.inside.near) c.self.inside.ledger c.args.pointer c.args.len c.args.ds c.in-Some.place
+there : (g : Over) (c : In-Some g) → HasRoom (g.N.Near.view c.self.inside.near) c.self.inside.ledger c.args.pointer c.args.len c.args.ds c.in-Some.place
 there g c = let h = (goal.at.In-Some g c).After-room in record {
   notes = c.self.invariant.0.notes;
   pointer = subst (λ (t : State). c.args.pointer < CELLS * t.mutators) (sym (same g h)) c.requires.pointer;
-  unplaced = free_unplaced (g.N.Hand.view c.self.inside.near) c.args.pointer (free g h);
+  unplaced = free_unplaced (g.N.Near.view c.self.inside.near) c.args.pointer (free g h);
   some = c.requires.some;
   most = c.requires.most;
   structure = c.ranges.ds.fits;
@@ -60,8 +60,8 @@ take-requires g c =
 
 pub invariant_of-self : goal.invariant_of-self
 invariant_of-self g c =
-    let s = g.N.Hand.view c.self.inside.near in
-    let t = g.N.Hand.view c.name_blank.new.near in
+    let s = g.N.Near.view c.self.inside.near in
+    let t = g.N.Near.view c.name_blank.new.near in
     let held = g.D.Device.contents c.self.inside.device in
     let free = free g (goal.at.invariant_of-self g c).After-room in
     let able = placeable (there g (goal.at.invariant_of-self g c).In-Some) in
@@ -83,7 +83,7 @@ returns-clause-room g c =
 
 pub returns-clause-ran : goal.returns-clause-ran
 returns-clause-ran g c still =
-    let same = ap (λ (b : BookOf g.row.N.Denot g.row.D.Denot). g.N.Hand.view b.near) c.self.view_is in
+    let same = ap (λ (b : BookOf g.row.N.Denot g.row.D.Denot). g.N.Near.view b.near) c.self.view_is in
     record {
       pointer = c.requires.pointer;
       free = c.requires.free;

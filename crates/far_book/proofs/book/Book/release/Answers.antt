@@ -15,8 +15,8 @@ use Rattle.far_book.proofs.region.Handed.{since_book}
 
 pub get-requires : goal.get-requires
 get-requires g c =
-    let s = g.N.Hand.view c.self.inside.near in
-    let same = ap (λ (b : BookOf g.row.N.Denot g.row.D.Denot). g.N.Hand.view b.near) c.self.view_is in
+    let s = g.N.Near.view c.self.inside.near in
+    let same = ap (λ (b : BookOf g.row.N.Denot g.row.D.Denot). g.N.Near.view b.near) c.self.view_is in
     let low : c.args.log < s.logs = subst (λ (u : State). c.args.log < u.logs) (sym same) c.requires.log in
     let shut : s.kind c.args.log ≡ Sealed = ap (λ (u : State). u.kind c.args.log) same ∙ c.requires.sealed in
     let none : live_bytes (own_part s) c.args.log ≡ 0 = eqb-true _ _ (sym (c.is_vacant.ensures (own_part s) (c.self.invariant.0.notes, low)) ∙ c.if-not-is_vacant.false) in
@@ -24,27 +24,27 @@ get-requires g c =
 
 pub give_back-requires : goal.give_back-requires
 give_back-requires g c =
-    let s = g.N.Hand.view c.self.inside.near in
-    let same = ap (λ (b : BookOf g.row.N.Denot g.row.D.Denot). g.N.Hand.view b.near) c.self.view_is in
+    let s = g.N.Near.view c.self.inside.near in
+    let same = ap (λ (b : BookOf g.row.N.Denot g.row.D.Denot). g.N.Near.view b.near) c.self.view_is in
     let low : c.args.log < s.logs = subst (λ (u : State). c.args.log < u.logs) (sym same) c.requires.log in
     record { few = omega (arith, low, c.self.invariant.0.notes.law.shape.few_logs); log = omega (arith, low, c.self.invariant.0.notes.logs) }
 
 pub invariant_of-self : goal.invariant_of-self
 invariant_of-self g c =
-    let s = g.N.Hand.view c.self.inside.near in
-    let same = ap (λ (b : BookOf g.row.N.Denot g.row.D.Denot). g.N.Hand.view b.near) c.self.view_is in
+    let s = g.N.Near.view c.self.inside.near in
+    let same = ap (λ (b : BookOf g.row.N.Denot g.row.D.Denot). g.N.Near.view b.near) c.self.view_is in
     let low : c.args.log < s.logs = subst (λ (u : State). c.args.log < u.logs) (sym same) c.requires.log in
     let shut : s.kind c.args.log ≡ Sealed = ap (λ (u : State). u.kind c.args.log) same ∙ c.requires.sealed in
     let none : live_bytes (own_part s) c.args.log ≡ 0 = eqb-true _ _ (sym (c.is_vacant.ensures (own_part s) (c.self.invariant.0.notes, low)) ∙ c.if-not-is_vacant.false) in (
-      released_keeps s c.self.invariant.0.notes.law c.args.log shut (vacant_fact (own_part s) c.self.invariant.0.notes.law c.args.log none) (g.N.Hand.view c.get.new.self)
+      released_keeps s c.self.invariant.0.notes.law c.args.log shut (vacant_fact (own_part s) c.self.invariant.0.notes.law c.args.log none) (g.N.Near.view c.get.new.self)
           c.self.inside.ledger c.give_back.new.self (g.D.Device.contents c.self.inside.device) (g.D.Device.honest c.self.inside.device) c.self.invariant.0 c.give_back.ensures c.get.ensures.rest (c.get.ensures.forgot refl),
       c.self.invariant.1,
     )
 
 pub returns-then-not-is_vacant-clause-vacant : goal.returns-then-not-is_vacant-clause-vacant
 returns-then-not-is_vacant-clause-vacant g c =
-    let s = g.N.Hand.view c.self.inside.near in
-    let same = ap (λ (b : BookOf g.row.N.Denot g.row.D.Denot). g.N.Hand.view b.near) c.self.view_is in
+    let s = g.N.Near.view c.self.inside.near in
+    let same = ap (λ (b : BookOf g.row.N.Denot g.row.D.Denot). g.N.Near.view b.near) c.self.view_is in
     let low : c.args.log < s.logs = subst (λ (u : State). c.args.log < u.logs) (sym same) c.requires.log in (
       λ h. absurd (false≢true h),
       λ vacant. absurd (false≢true (sym c.if-not-is_vacant.true ∙ c.is_vacant.ensures (own_part s) (c.self.invariant.0.notes, low)
@@ -53,16 +53,16 @@ returns-then-not-is_vacant-clause-vacant g c =
 
 pub returns-clause-vacant : goal.returns-clause-vacant
 returns-clause-vacant g c =
-    let s = g.N.Hand.view c.self.inside.near in
-    let same = ap (λ (b : BookOf g.row.N.Denot g.row.D.Denot). g.N.Hand.view b.near) c.self.view_is in
+    let s = g.N.Near.view c.self.inside.near in
+    let same = ap (λ (b : BookOf g.row.N.Denot g.row.D.Denot). g.N.Near.view b.near) c.self.view_is in
     let low : c.args.log < s.logs = subst (λ (u : State). c.args.log < u.logs) (sym same) c.requires.log in
     let none : live_bytes (own_part s) c.args.log ≡ 0 = eqb-true _ _ (sym (c.is_vacant.ensures (own_part s) (c.self.invariant.0.notes, low)) ∙ c.if-not-is_vacant.false) in
     (λ _. subst (λ (u : State). IsVacant u c.args.log) same (vacant_fact (own_part s) c.self.invariant.0.notes.law c.args.log none), λ _. refl)
 
 pub returns-clause-ran : goal.returns-clause-ran
 returns-clause-ran g c still =
-    let s = g.N.Hand.view c.self.inside.near in
-    let same = ap (λ (b : BookOf g.row.N.Denot g.row.D.Denot). g.N.Hand.view b.near) c.self.view_is in
+    let s = g.N.Near.view c.self.inside.near in
+    let same = ap (λ (b : BookOf g.row.N.Denot g.row.D.Denot). g.N.Near.view b.near) c.self.view_is in
     let low : c.args.log < s.logs = subst (λ (u : State). c.args.log < u.logs) (sym same) c.requires.log in
     let none : live_bytes (own_part s) c.args.log ≡ 0 = eqb-true _ _ (sym (c.is_vacant.ensures (own_part s) (c.self.invariant.0.notes, low)) ∙ c.if-not-is_vacant.false) in
     λ _. record {

@@ -12,20 +12,20 @@ use Rattle.far_book.proofs.region.Owns.{own_retired}
 
 pub invariant_of-self : goal.invariant_of-self
 invariant_of-self g c =
-    let same = ap (λ (b : BookOf g.row.N.Denot g.row.D.Denot). g.N.Hand.view b.near) c.self.view_is in
-    let dropped : is_dropped (read_of ((g.N.Hand.view c.self.inside.near).cell c.args.pointer)) ≡ true = subst (λ (s : State). is_dropped (read_of (s.cell c.args.pointer)) ≡ true) (sym same) c.requires.dropped in
-    let may : MayRetire (own_part (g.N.Hand.view c.self.inside.near)) c.args.pointer c.free_cell-was.result = record {
+    let same = ap (λ (b : BookOf g.row.N.Denot g.row.D.Denot). g.N.Near.view b.near) c.self.view_is in
+    let dropped : is_dropped (read_of ((g.N.Near.view c.self.inside.near).cell c.args.pointer)) ≡ true = subst (λ (s : State). is_dropped (read_of (s.cell c.args.pointer)) ≡ true) (sym same) c.requires.dropped in
+    let may : MayRetire (own_part (g.N.Near.view c.self.inside.near)) c.args.pointer c.free_cell-was.result = record {
       pointer = subst (λ (s : State). c.args.pointer < CELLS * s.mutators) (sym same) c.requires.pointer;
       dropped = dropped;
       is = c.free_cell-was.ensures.was;
     } in
-    let own = own_retired (g.N.Hand.view c.self.inside.near) (g.N.Hand.view c.free_cell-was.new.near) c.args.pointer dropped c.free_cell-was.ensures.kept c.free_cell-was.ensures.forgot in
+    let own = own_retired (g.N.Near.view c.self.inside.near) (g.N.Near.view c.free_cell-was.new.near) c.args.pointer dropped c.free_cell-was.ensures.kept c.free_cell-was.ensures.forgot in
     let law = g.met.D.Device.forget_follows _ _ _ c.forget.ensures.called in (
       record {
-        notes = subst (λ (s : State). Notes s c.retire.new.self) (sym own) (c.retire.ensures.notes (own_part (g.N.Hand.view c.self.inside.near)) c.self.invariant.0.notes may);
-        far = retired_far (g.N.Hand.view c.self.inside.near) (g.N.Hand.view c.free_cell-was.new.near) c.args.pointer (g.D.Device.contents c.self.inside.device) (g.D.Device.contents c.forget.new.self)
+        notes = subst (λ (s : State). Notes s c.retire.new.self) (sym own) (c.retire.ensures.notes (own_part (g.N.Near.view c.self.inside.near)) c.self.invariant.0.notes may);
+        far = retired_far (g.N.Near.view c.self.inside.near) (g.N.Near.view c.free_cell-was.new.near) c.args.pointer (g.D.Device.contents c.self.inside.device) (g.D.Device.contents c.forget.new.self)
             own c.self.invariant.0.far law.others;
-        honest = λ h. law.honest ∙ c.self.invariant.0.honest (sym (retired_honest (g.N.Hand.view c.self.inside.near) (g.N.Hand.view c.free_cell-was.new.near) c.args.pointer (g.D.Device.contents c.self.inside.device) (g.D.Device.contents c.forget.new.self)
+        honest = λ h. law.honest ∙ c.self.invariant.0.honest (sym (retired_honest (g.N.Near.view c.self.inside.near) (g.N.Near.view c.free_cell-was.new.near) c.args.pointer (g.D.Device.contents c.self.inside.device) (g.D.Device.contents c.forget.new.self)
             dropped c.free_cell-was.ensures.kept) ∙ h);
       },
       c.self.invariant.1,

@@ -12,17 +12,17 @@ row-requires g c =
     let inside : c.loop-log.log-index < length c.self.inside.ledger.order.items = subst (λ (xs : List ℕ). c.loop-log.log-index < length xs) same c.loop-log-test.true in
     record {
       known = (
-        own_part (g.N.Hand.view c.self.inside.near),
+        own_part (g.N.Near.view c.self.inside.near),
         (
           c.self.invariant.0.notes,
-          subst (λ (xs : List ℕ). slice_index_or xs c.loop-log.log-index 0 < (g.N.Hand.view c.self.inside.near).logs) (sym same) (order_inside (own_part (g.N.Hand.view c.self.inside.near)) c.self.inside.ledger c.self.invariant.0.notes c.loop-log.log-index inside),
+          subst (λ (xs : List ℕ). slice_index_or xs c.loop-log.log-index 0 < (g.N.Near.view c.self.inside.near).logs) (sym same) (order_inside (own_part (g.N.Near.view c.self.inside.near)) c.self.inside.ledger c.self.invariant.0.notes c.loop-log.log-index inside),
         ),
       );
     }
 
 pub loop-log-preserved : goal.loop-log-preserved
 loop-log-preserved g c =
-    let s = g.N.Hand.view c.self.inside.near in
+    let s = g.N.Near.view c.self.inside.near in
     let same : c.deref-log-items.result.now ≡ c.self.inside.ledger.order.items = c.deref-log-items.ensures.value in
     let inside : c.loop-log.log-index < length c.self.inside.ledger.order.items = subst (λ (xs : List ℕ). c.loop-log.log-index < length xs) same c.loop-log-test.true in
     let within : slice_index_or c.deref-log-items.result.now c.loop-log.log-index 0 < s.logs =

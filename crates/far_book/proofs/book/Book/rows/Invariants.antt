@@ -4,7 +4,7 @@ use Rattle.far_book.proofs.book.Book.rows.Given as goal
 
 abbrev pub invariant-loop-log : goal.invariant-loop-log
 invariant-loop-log g l = record {
-  rows : l.rows.items ≡ map (row_of (g.N.Hand.view l.self-inside.near)) (take l.log-index l.self-inside.ledger.order.items);
+  rows : l.rows.items ≡ map (row_of (g.N.Near.view l.self-inside.near)) (take l.log-index l.self-inside.ledger.order.items);
   count : vec_len l.rows ≡ l.log-index;
   room : vec_capacity l.rows ≡ length l.self-inside.ledger.order.items;
 }

@@ -10,13 +10,13 @@ use Rattle.far_book.proofs.region.Handed.{since_book}
 pub invariant_of-self : goal.invariant_of-self
 invariant_of-self g c = (
   subst (λ (s : State). InOrder s c.self.inside.ledger (g.D.Device.contents c.self.inside.device) (g.D.Device.honest c.self.inside.device)) (sym c.see.ensures.kept)
-      (found_keeps (g.N.Hand.view c.self.inside.near) c.self.inside.ledger (g.D.Device.contents c.self.inside.device) (g.D.Device.honest c.self.inside.device) c.self.invariant.0
+      (found_keeps (g.N.Near.view c.self.inside.near) c.self.inside.ledger (g.D.Device.contents c.self.inside.device) (g.D.Device.honest c.self.inside.device) c.self.invariant.0
       c.args.pointer c.see.result (omega arith) c.see.ensures.found),
   c.self.invariant.1,
 )
 
 pub returns-clause-saw : goal.returns-clause-saw
-returns-clause-saw g c = told_cell (g.N.Hand.may_be c.self.inside.near) (g.N.Hand.may_be c.see.new.self) c.args.pointer c.see.result (g.met.N.Hand.told c.self.inside.near c.see.new.self _ _ c.see.ensures.made)
+returns-clause-saw g c = told_cell (g.N.Near.may_be c.self.inside.near) (g.N.Near.may_be c.see.new.self) c.args.pointer c.see.result (g.met.N.Near.told c.self.inside.near c.see.new.self _ _ c.see.ensures.made)
 
 pub returns-clause-came : goal.returns-clause-came
 returns-clause-came g c = since_book c.self.view_is (first_call _ _ c.see.ensures.made)

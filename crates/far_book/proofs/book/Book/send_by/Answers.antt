@@ -15,17 +15,17 @@ use Rattle.far_book.proofs.region.Learning.{learned_leaves}
 
 pub read_object-requires-clause-object : goal.read_object-requires-clause-object
 read_object-requires-clause-object g c =
-    let s = g.N.Hand.view c.self.inside.near in
-    let same = ap (λ (b : BookOf g.row.N.Denot g.row.D.Denot). g.N.Hand.view b.near) c.self.view_is in
+    let s = g.N.Near.view c.self.inside.near in
+    let same = ap (λ (b : BookOf g.row.N.Denot g.row.D.Denot). g.N.Near.view b.near) c.self.view_is in
     let pointer : c.args.pointer < CELLS * s.mutators = subst (λ (t : State). c.args.pointer < CELLS * t.mutators) (sym same) c.requires.pointer in
     let near : IsQuietIn s c.args.pointer c.args.len c.args.ds c.args.place = subst (λ (t : State). IsQuietIn t c.args.pointer c.args.len c.args.ds c.args.place) (sym same) c.requires.near in
     quiet_object s c.self.invariant.0.notes.law c.args.pointer c.args.len c.args.ds c.args.place near pointer
 
 pub invariant_of-self : goal.invariant_of-self
 invariant_of-self g c =
-    let s = g.N.Hand.view c.self.inside.near in
-    let t = g.N.Hand.view c.read_object.new.near in
-    let same = ap (λ (b : BookOf g.row.N.Denot g.row.D.Denot). g.N.Hand.view b.near) c.self.view_is in
+    let s = g.N.Near.view c.self.inside.near in
+    let t = g.N.Near.view c.read_object.new.near in
+    let same = ap (λ (b : BookOf g.row.N.Denot g.row.D.Denot). g.N.Near.view b.near) c.self.view_is in
     let pointer : c.args.pointer < CELLS * s.mutators = subst (λ (t : State). c.args.pointer < CELLS * t.mutators) (sym same) c.requires.pointer in
     let near : IsQuietIn s c.args.pointer c.args.len c.args.ds c.args.place = subst (λ (t : State). IsQuietIn t c.args.pointer c.args.len c.args.ds c.args.place) (sym same) c.requires.near in
     let object = quiet_object s c.self.invariant.0.notes.law c.args.pointer c.args.len c.args.ds c.args.place near pointer in
@@ -38,9 +38,9 @@ invariant_of-self g c =
 
 pub returns : goal.returns
 returns g c =
-    let s = g.N.Hand.view c.self.inside.near in
-    let t = g.N.Hand.view c.read_object.new.near in
-    let same = ap (λ (b : BookOf g.row.N.Denot g.row.D.Denot). g.N.Hand.view b.near) c.self.view_is in
+    let s = g.N.Near.view c.self.inside.near in
+    let t = g.N.Near.view c.read_object.new.near in
+    let same = ap (λ (b : BookOf g.row.N.Denot g.row.D.Denot). g.N.Near.view b.near) c.self.view_is in
     let pointer : c.args.pointer < CELLS * s.mutators = subst (λ (t : State). c.args.pointer < CELLS * t.mutators) (sym same) c.requires.pointer in
     let near : IsQuietIn s c.args.pointer c.args.len c.args.ds c.args.place = subst (λ (t : State). IsQuietIn t c.args.pointer c.args.len c.args.ds c.args.place) (sym same) c.requires.near in
     let object = quiet_object s c.self.invariant.0.notes.law c.args.pointer c.args.len c.args.ds c.args.place near pointer in

@@ -12,19 +12,19 @@ use Rattle.far_hand.proofs.Closure.{then_came}
 
 pub carry-requires-clause-quiet : goal.carry-requires-clause-quiet
 carry-requires-clause-quiet g c = subst (λ (x : State). IsQuietNear x c.args.pointer) (sym c.see-found.ensures.kept)
-    (quiet_seen (g.N.Hand.view c.args.self.now.near) c.args.pointer c.see-found.result c.see-found.ensures.found c.requires.quiet)
+    (quiet_seen (g.N.Near.view c.args.self.now.near) c.args.pointer c.see-found.result c.see-found.ensures.found c.requires.quiet)
 
 pub returns-then-has_evac-clause-place : goal.returns-then-has_evac-clause-place
 returns-then-has_evac-clause-place g c =
-    let s = g.N.Hand.view c.args.self.now.near in
+    let s = g.N.Near.view c.args.self.now.near in
     let same = ap (λ (x : State). dealing.goal x c.args.pointer) c.see-found.ensures.kept ∙ goal_seen s c.args.pointer c.see-found.result c.see-found.ensures.found in
-    both_of c.carry.result (λ place. dealing.goal (g.N.Hand.view c.see-found.new.self.near) c.args.pointer ≡ Some place) (λ place. dealing.goal (g.N.Hand.view c.see-found.new.self.near) c.args.pointer ≡ Some place) _
+    both_of c.carry.result (λ place. dealing.goal (g.N.Near.view c.see-found.new.self.near) c.args.pointer ≡ Some place) (λ place. dealing.goal (g.N.Near.view c.see-found.new.self.near) c.args.pointer ≡ Some place) _
     (λ place a b. sym same ∙ a) c.carry.ensures.place c.carry.ensures.place
 
 pub returns-then-has_evac-clause-moved : goal.returns-then-has_evac-clause-moved
 returns-then-has_evac-clause-moved g c =
-    let s = g.N.Hand.view c.args.self.now.near in
-    let t = g.N.Hand.view c.see-found.new.self.near in
+    let s = g.N.Near.view c.args.self.now.near in
+    let t = g.N.Near.view c.see-found.new.self.near in
     both_of c.carry.result (λ place. dealing.goal t c.args.pointer ≡ Some place) (λ place. Leaves (moved t c.args.pointer place) _) _
     (λ place a b. leaves_by _ _ _
     (ap (λ (x : State). moved x c.args.pointer place) c.see-found.ensures.kept
@@ -34,20 +34,20 @@ returns-then-has_evac-clause-moved g c =
 
 pub returns-then-has_evac-clause-found : goal.returns-then-has_evac-clause-found
 returns-then-has_evac-clause-found g c =
-    let s = g.N.Hand.view c.args.self.now.near in
-    none_of c.carry.result (FindsDrop (g.N.Hand.view c.see-found.new.self.near) _ c.args.pointer) _
-    (λ x. drop_by s c.args.pointer c.see-found.result c.see-found.ensures.found (g.N.Hand.view c.see-found.new.self.near) _ c.see-found.ensures.kept x) c.carry.ensures.dropped
+    let s = g.N.Near.view c.args.self.now.near in
+    none_of c.carry.result (FindsDrop (g.N.Near.view c.see-found.new.self.near) _ c.args.pointer) _
+    (λ x. drop_by s c.args.pointer c.see-found.result c.see-found.ensures.found (g.N.Near.view c.see-found.new.self.near) _ c.see-found.ensures.kept x) c.carry.ensures.dropped
 
 pub returns-then-has_evac-clause-none : goal.returns-then-has_evac-clause-none
 returns-then-has_evac-clause-none g c =
-    let s = g.N.Hand.view c.args.self.now.near in
+    let s = g.N.Near.view c.args.self.now.near in
     let same = ap (λ (x : State). dealing.goal x c.args.pointer) c.see-found.ensures.kept ∙ goal_seen s c.args.pointer c.see-found.result c.see-found.ensures.found in
     subst (λ o. IfErr c.carry.result (λ _. o ≡ None)) same c.carry.ensures.none
 
 pub returns-clause-moved : goal.returns-clause-moved
 returns-clause-moved g c =
-    let s = g.N.Hand.view c.args.self.now.near in
-    some_of c.stay.result (λ _. Leaves (stayed (g.N.Hand.view c.see-found.new.self.near) c.args.pointer) (g.N.Hand.view c.stay.new.self.near)) _
+    let s = g.N.Near.view c.args.self.now.near in
+    some_of c.stay.result (λ _. Leaves (stayed (g.N.Near.view c.see-found.new.self.near) c.args.pointer) (g.N.Near.view c.stay.new.self.near)) _
     (λ place x. leaves_by _ _ _
     (ap (λ (y : State). stayed y c.args.pointer) c.see-found.ensures.kept
     ∙ stayed_seen s c.args.pointer c.see-found.result c.see-found.ensures.found c.keeps_law.ensures.law c.requires.quiet (sym c.is_dropped.ensures.value ∙ c.if-is_dropped.false)

@@ -18,28 +18,28 @@ use Rattle.far_book.proofs.region.Handed.{since_book}
 
 -- ---- once the book was opened, and its word read
 module _ (g : Over) (c : After-get g) where
-  same : g.N.Hand.view c.self.inside.near ≡ g.N.Hand.view c.args.self.now.near
-  same = ap (λ (b : BookOf g.row.N.Denot g.row.D.Denot). g.N.Hand.view b.near) c.self.view_is
+  same : g.N.Near.view c.self.inside.near ≡ g.N.Near.view c.args.self.now.near
+  same = ap (λ (b : BookOf g.row.N.Denot g.row.D.Denot). g.N.Near.view b.near) c.self.view_is
 
-  below : c.args.at < (g.N.Hand.view c.self.inside.near).tail c.args.log
+  below : c.args.at < (g.N.Near.view c.self.inside.near).tail c.args.log
   below = subst (λ (t : State). c.args.at < t.tail c.args.log) (sym same) c.requires.below
 
-  begins : (g.N.Hand.view c.self.inside.near).starts (c.args.log * LOG_WORDS + c.args.at) ≡ true
+  begins : (g.N.Near.view c.self.inside.near).starts (c.args.log * LOG_WORDS + c.args.at) ≡ true
   begins = ap (λ (t : State). t.starts (c.args.log * LOG_WORDS + c.args.at)) same ∙ c.requires.begins
 
-  known : IsKnown ((g.N.Hand.view c.self.inside.near).word (c.args.log * LOG_WORDS + c.args.at))
-  known = headers_known (g.N.Hand.view c.self.inside.near) c.self.invariant.0.notes.law (c.args.log * LOG_WORDS + c.args.at) begins
+  known : IsKnown ((g.N.Near.view c.self.inside.near).word (c.args.log * LOG_WORDS + c.args.at))
+  known = headers_known (g.N.Near.view c.self.inside.near) c.self.invariant.0.notes.law (c.args.log * LOG_WORDS + c.args.at) begins
 
 header : (g : Over) (c : After-known-head g) →
-    let h = (goal.at.After-known-head g c).After-get in Reads (g.N.Hand.view c.self.inside.near) c.self.invariant.0.notes.law c.args.log c.args.at (below g h) (begins g h) c.known-head.result
+    let h = (goal.at.After-known-head g c).After-get in Reads (g.N.Near.view c.self.inside.near) c.self.invariant.0.notes.law c.args.log c.args.at (below g h) (begins g h) c.known-head.result
 header g c =
     let h = (goal.at.After-known-head g c).After-get in
-    reads (g.N.Hand.view c.self.inside.near) c.self.invariant.0.notes.law c.args.log c.args.at (below g h) (begins g h) c.get.result c.known-head.result (c.get.ensures.known (known g h)) c.known-head.ensures
+    reads (g.N.Near.view c.self.inside.near) c.self.invariant.0.notes.law c.args.log c.args.at (below g h) (begins g h) c.get.result c.known-head.result (c.get.ensures.known (known g h)) c.known-head.ensures
 
 pub known-head-requires : goal.known-head-requires
 known-head-requires g c =
     let h = (goal.at.known-head-requires g c).After-get in
-    some_header (g.N.Hand.view c.self.inside.near) c.self.invariant.0.notes.law c.args.log c.args.at (below g h) (begins g h) c.get.result (c.get.ensures.known (known g h))
+    some_header (g.N.Near.view c.self.inside.near) c.self.invariant.0.notes.law c.args.log c.args.at (below g h) (begins g h) c.get.result (c.get.ensures.known (known g h))
 
 pub invariant_of-self : goal.invariant_of-self
 invariant_of-self g c = (

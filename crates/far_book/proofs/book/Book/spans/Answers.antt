@@ -12,12 +12,12 @@ use Rattle.far_hand.proofs.Closure.{came_only}
 use Rattle.far_book.proofs.region.Handed.{since_book}
 
 pub read_words-words-requires-clause-known : goal.read_words-words-requires-clause-known
-read_words-words-requires-clause-known g c = headers_known (g.N.Hand.view c.self.inside.near) c.self.invariant.0.notes.law
+read_words-words-requires-clause-known g c = headers_known (g.N.Near.view c.self.inside.near) c.self.invariant.0.notes.law
 
 pub listed-requires-clause-walks : goal.listed-requires-clause-walks
 listed-requires-clause-walks g c =
-    let s = g.N.Hand.view c.self.inside.near in
-    let same = ap (λ (b : BookOf g.row.N.Denot g.row.D.Denot). g.N.Hand.view b.near) c.self.view_is in
+    let s = g.N.Near.view c.self.inside.near in
+    let same = ap (λ (b : BookOf g.row.N.Denot g.row.D.Denot). g.N.Near.view b.near) c.self.view_is in
     let within : c.args.log < s.logs = subst (λ (t : State). c.args.log < t.logs) (sym same) c.requires.log in
     let tail : c.tail-tail.result ≡ s.tail c.args.log = c.tail-tail.ensures.is (own_part s) (c.self.invariant.0.notes, within) in
     let walk : IsWalk (λ i. slice_index c.read_words-words.result i) c.tail-tail.result (spans_of s c.args.log) =
@@ -27,15 +27,15 @@ listed-requires-clause-walks g c =
 
 pub invariant_of-self : goal.invariant_of-self
 invariant_of-self g c = (
-  headers_keep (g.N.Hand.view c.self.inside.near) c.self.inside.ledger (g.D.Device.contents c.self.inside.device) (g.D.Device.honest c.self.inside.device)
-      c.self.invariant.0 (g.N.Hand.view c.read_words-words.new.near) c.read_words-words.ensures.kept c.read_words-words.ensures.headers,
+  headers_keep (g.N.Near.view c.self.inside.near) c.self.inside.ledger (g.D.Device.contents c.self.inside.device) (g.D.Device.honest c.self.inside.device)
+      c.self.invariant.0 (g.N.Near.view c.read_words-words.new.near) c.read_words-words.ensures.kept c.read_words-words.ensures.headers,
   c.self.invariant.1,
 )
 
 pub returns-clause-spans : goal.returns-clause-spans
 returns-clause-spans g c =
-    let s = g.N.Hand.view c.self.inside.near in
-    let same = ap (λ (b : BookOf g.row.N.Denot g.row.D.Denot). g.N.Hand.view b.near) c.self.view_is in
+    let s = g.N.Near.view c.self.inside.near in
+    let same = ap (λ (b : BookOf g.row.N.Denot g.row.D.Denot). g.N.Near.view b.near) c.self.view_is in
     let within : c.args.log < s.logs = subst (λ (t : State). c.args.log < t.logs) (sym same) c.requires.log in
     let tail : c.tail-tail.result ≡ s.tail c.args.log = c.tail-tail.ensures.is (own_part s) (c.self.invariant.0.notes, within) in
     let walk : IsWalk (λ i. slice_index c.read_words-words.result i) c.tail-tail.result (spans_of s c.args.log) =
@@ -45,7 +45,7 @@ returns-clause-spans g c =
 
 pub returns-clause-headers : goal.returns-clause-headers
 returns-clause-headers g c =
-    subst (λ (s : State). (a : ℕ) → s.starts a ≡ true → (g.N.Hand.view c.read_words-words.new.near).word a ≡ s.word a) (ap (λ (b : BookOf g.row.N.Denot g.row.D.Denot). g.N.Hand.view b.near) c.self.view_is)
+    subst (λ (s : State). (a : ℕ) → s.starts a ≡ true → (g.N.Near.view c.read_words-words.new.near).word a ≡ s.word a) (ap (λ (b : BookOf g.row.N.Denot g.row.D.Denot). g.N.Near.view b.near) c.self.view_is)
     c.read_words-words.ensures.headers
 
 pub returns-clause-came : goal.returns-clause-came

@@ -15,11 +15,11 @@ use Rattle.far_book.proofs.region.Handed.{since_book}
 
 pub invariant_of-self : goal.invariant_of-self
 invariant_of-self g c =
-    let s = g.N.Hand.view c.self.inside.near in
-    let u = g.N.Hand.view c.unmark_object.new.near in
+    let s = g.N.Near.view c.self.inside.near in
+    let u = g.N.Near.view c.unmark_object.new.near in
     let held = g.D.Device.contents c.self.inside.device in
     let is_honest = g.D.Device.honest c.self.inside.device in
-    let same = ap (λ (b : BookOf g.row.N.Denot g.row.D.Denot). g.N.Hand.view b.near) c.self.view_is in
+    let same = ap (λ (b : BookOf g.row.N.Denot g.row.D.Denot). g.N.Near.view b.near) c.self.view_is in
     let word : c.args.found ≡ s.cell c.args.pointer = c.requires.found ∙ ap (λ (x : State). x.cell c.args.pointer) (sym same) in
     let says : read_of c.args.found ≡ Some (Near c.in-Near.len c.in-Near.ds c.in-Near.place c.in-Near.marks) = c.known.ensures ∙ ap (λ v. Some v) c.in-Near.is in
     let near : read_of (s.cell c.args.pointer) ≡ Some (Near c.in-Near.len c.in-Near.ds c.in-Near.place c.in-Near.marks) = ap read_of (sym word) ∙ says in

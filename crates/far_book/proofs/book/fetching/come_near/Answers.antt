@@ -13,7 +13,7 @@ use Rattle.far_hand.proofs.Closure.{then_came, came_only}
 
 pub rename-requires-clause-may : goal.rename-requires-clause-may
 rename-requires-clause-may g c =
-    let s = g.N.Hand.view c.args.near.now in
+    let s = g.N.Near.view c.args.near.now in
     let row = packed_word c.args.bytes.now in
     let absent = subst (λ v. IsAbsent (read_of v) c.args.len c.args.ds) c.requires.found c.requires.absent in
     let last : words_for c.args.len - 1 < words_for c.args.len = omega (arith, c.requires.head.some) in

@@ -7,7 +7,7 @@ use Rattle.far_hand.proofs.Closure.{then_call}
 
 pub loop-i-preserved : goal.loop-i-preserved
 loop-i-preserved g c = record {
-  set = word_then (g.N.Hand.view c.args.near.now) (g.N.Hand.view c.loop-i.near) (g.N.Hand.view c.put.new.self) c.args.log c.args.at c.loop-i.i (c.args.log * LOG_WORDS + (c.args.at + c.loop-i.i)) c.packed_whole.result
+  set = word_then (g.N.Near.view c.args.near.now) (g.N.Near.view c.loop-i.near) (g.N.Near.view c.put.new.self) c.args.log c.args.at c.loop-i.i (c.args.log * LOG_WORDS + (c.args.at + c.loop-i.i)) c.packed_whole.result
       (packed_word c.args.bytes.now) c.loop-i.invariant.set (omega arith) c.packed_whole.ensures c.put.ensures.set;
   puts = then_call _ _ c.loop-i.invariant.puts ((_, _, refl), c.put.ensures.made);
 }

@@ -6,9 +6,9 @@ use Rattle.far_book.proofs.book.leaving.read_fours.Given as goal
 
 abbrev pub invariant-loop-i : goal.invariant-loop-i
 invariant-loop-i g l = record {
-  on : ReadsOn (g.N.Hand.view l.fn.near) (g.N.Hand.view l.near) l.fn.place 0 (4 * l.i) l.fn.row l.row;
-  logs : (g.N.Hand.view l.near).logs ≡ (g.N.Hand.view l.fn.near).logs;
-  exact : g.N.Hand.still → g.N.Hand.view l.near ≡ g.N.Hand.view l.fn.near;
-  reads : Came (only (Reads l.fn.place.log) g.N.Hand.makes) l.fn.near l.near;
+  on : ReadsOn (g.N.Near.view l.fn.near) (g.N.Near.view l.near) l.fn.place 0 (4 * l.i) l.fn.row l.row;
+  logs : (g.N.Near.view l.near).logs ≡ (g.N.Near.view l.fn.near).logs;
+  exact : g.N.Near.still → g.N.Near.view l.near ≡ g.N.Near.view l.fn.near;
+  reads : Came (only (Reads l.fn.place.log) g.N.Near.makes) l.fn.near l.near;
   long : length l.row ≡ length l.fn.row;
 }

@@ -8,8 +8,8 @@ use Rattle.far_hand.proofs.Closure.{first_call}
 
 pub returns-clause-on : goal.returns-clause-on
 returns-clause-on g c s len object few h =
-    let t = g.N.Hand.view c.args.near.now in
-    let u = g.N.Hand.view c.get-word.new.self in
+    let t = g.N.Near.view c.args.near.now in
+    let u = g.N.Near.view c.get-word.new.self in
     let n = c.args.i + c.args.j in
     let at = c.args.place.log * LOG_WORDS + ((c.args.place.at + 1 + c.args.i) % LOG_WORDS + c.args.j) in
     let inside = c.requires.inside in

@@ -5,7 +5,7 @@ use Rattle.far_book.proofs.book.moving.copy_fours.Given as goal
 
 abbrev pub invariant-loop-i : goal.invariant-loop-i
 invariant-loop-i g l = record {
-  copied : HasCopied (g.N.Hand.view l.fn.near) (g.N.Hand.view l.near) l.fn.from l.fn.to 0 (4 * l.i);
-  exact : g.N.Hand.still → CopiedOnly (g.N.Hand.view l.fn.near) (g.N.Hand.view l.near) l.fn.from l.fn.to 0 (4 * l.i);
-  came : Came g.N.Hand.makes l.fn.near l.near;
+  copied : HasCopied (g.N.Near.view l.fn.near) (g.N.Near.view l.near) l.fn.from l.fn.to 0 (4 * l.i);
+  exact : g.N.Near.still → CopiedOnly (g.N.Near.view l.fn.near) (g.N.Near.view l.near) l.fn.from l.fn.to 0 (4 * l.i);
+  came : Came g.N.Near.makes l.fn.near l.near;
 }

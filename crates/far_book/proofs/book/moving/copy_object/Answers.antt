@@ -10,18 +10,18 @@ use Rattle.far_core.proofs.Rows.{row_none}
 use Rattle.far_hand.proofs.Closure.{first_call, then_came}
 
 pub pack-requires : goal.pack-requires
-pack-requires g c = head (g.N.Hand.view c.args.near.now) c.args.pointer c.args.len c.args.ds c.args.from c.args.to c.requires
+pack-requires g c = head (g.N.Near.view c.args.near.now) c.args.pointer c.args.len c.args.ds c.args.from c.args.to c.requires
 
 pub put-requires : goal.put-requires
 put-requires g c = record {
-  legal = put_legal (g.N.Hand.view c.args.near.now) c.args.pointer c.args.len c.args.ds c.args.from c.args.to c.requires (g.N.Hand.view c.args.near.now) refl c.args.to.at c.pack.result (omega arith) (omega (arith, c.requires.fits));
+  legal = put_legal (g.N.Near.view c.args.near.now) c.args.pointer c.args.len c.args.ds c.args.from c.args.to c.requires (g.N.Near.view c.args.near.now) refl c.args.to.at c.pack.result (omega arith) (omega (arith, c.requires.fits));
 }
 
 pub loop-i-init : goal.loop-i-init
 loop-i-init g c =
-    let s = g.N.Hand.view c.args.near.now in
-    let t = g.N.Hand.view c.put.new.self in
-    let u = g.N.Hand.view c.copy_fours.new.near in
+    let s = g.N.Near.view c.args.near.now in
+    let t = g.N.Near.view c.put.new.self in
+    let u = g.N.Near.view c.copy_fours.new.near in
     let n = 4 * (c.words_for-words.result / 4) in
     let word = put s.word (addr c.args.to) (head_word c.args.pointer c.args.len c.args.ds) in
     let is : t ≡ record s { word = word } = c.put.ensures.set ∙ ap (λ w. record s { word = put s.word (addr c.args.to) w }) c.pack.ensures in
@@ -38,9 +38,9 @@ loop-i-init g c =
 
 pub loop-i-preserved : goal.loop-i-preserved
 loop-i-preserved g c =
-    let s = g.N.Hand.view c.args.near.now in
-    let t = g.N.Hand.view c.loop-i.near in
-    let u = g.N.Hand.view c.copy_word.new.near in
+    let s = g.N.Near.view c.args.near.now in
+    let t = g.N.Near.view c.loop-i.near in
+    let u = g.N.Near.view c.copy_word.new.near in
     let h = c.loop-i.invariant in
     let same : c.loop-i.i + 0 ≡ c.loop-i.i = omega arith in
     let few : c.loop-i.i + 1 ≤ words_for c.args.len = omega (arith, c.loop-i-test.true, c.words_for-words.ensures) in
@@ -52,13 +52,13 @@ loop-i-preserved g c =
 
 pub returns-clause-copied : goal.returns-clause-copied
 returns-clause-copied g c =
-    let s = g.N.Hand.view c.args.near.now in
-    let t = g.N.Hand.view c.loop-i.near in
+    let s = g.N.Near.view c.args.near.now in
+    let t = g.N.Near.view c.loop-i.near in
     let all : c.loop-i.i ≡ words_for c.args.len = omega (arith, c.loop-i-test.false, c.words_for-words.ensures, c.loop-i.auto) in
     copied s c.args.pointer c.args.len c.args.ds c.args.from c.args.to c.requires t (subst (Copying s t c.args.pointer c.args.len c.args.ds c.args.from c.args.to) all c.loop-i.invariant.copying)
 
 pub returns-clause-exact : goal.returns-clause-exact
 returns-clause-exact g c still =
-    let s = g.N.Hand.view c.args.near.now in
+    let s = g.N.Near.view c.args.near.now in
     let all : c.loop-i.i ≡ words_for c.args.len = omega (arith, c.loop-i-test.false, c.words_for-words.ensures, c.loop-i.auto) in
     c.loop-i.invariant.exact still ∙ ap (with_copied s c.args.pointer c.args.len c.args.ds c.args.from c.args.to) all

@@ -18,12 +18,12 @@ pub get-word-requires : goal.get-word-requires
 get-word-requires g c =
     let r = c.requires in
     let fits = from_fits r.0 r.1 r.2 r.3 c.args.from c.args.to r.4 in
-    record { legal = get_legal r.0 r.1 r.2 r.3 c.args.from c.args.to r.4 (g.N.Hand.view c.args.near.now) r.5.is _ (omega (arith, fits, r.6)) }
+    record { legal = get_legal r.0 r.1 r.2 r.3 c.args.from c.args.to r.4 (g.N.Near.view c.args.near.now) r.5.is _ (omega (arith, fits, r.6)) }
 
 pub put-requires : goal.put-requires
 put-requires g c =
     let r = c.requires in
-    let v = g.N.Hand.view c.get-word.new.self in
+    let v = g.N.Near.view c.get-word.new.self in
     record {
       legal = put_legal r.0 r.1 r.2 r.3 c.args.from c.args.to r.4 v (c.get-word.ensures.rest ∙ ap (λ (x : State). record x { word = v.word }) r.5.is)
           _ c.get-word.result (omega (arith, r.4.fits, r.6)) (omega (arith, r.4.fits, r.6));
@@ -31,9 +31,9 @@ put-requires g c =
 
 pub returns-clause-copied : goal.returns-clause-copied
 returns-clause-copied g c s p len ds may few copying =
-    let t = g.N.Hand.view c.args.near.now in
-    let v = g.N.Hand.view c.get-word.new.self in
-    let u = g.N.Hand.view c.put.new.self in
+    let t = g.N.Near.view c.args.near.now in
+    let v = g.N.Near.view c.get-word.new.self in
+    let u = g.N.Near.view c.put.new.self in
     let n = c.args.i + c.args.j in
     let w = c.get-word.result in
     let from = c.args.from.log * LOG_WORDS in
@@ -51,9 +51,9 @@ returns-clause-copied g c s p len ds may few copying =
 
 pub returns-clause-exact : goal.returns-clause-exact
 returns-clause-exact g c still s p len ds may few is =
-    let t = g.N.Hand.view c.args.near.now in
-    let v = g.N.Hand.view c.get-word.new.self in
-    let u = g.N.Hand.view c.put.new.self in
+    let t = g.N.Near.view c.args.near.now in
+    let v = g.N.Near.view c.get-word.new.self in
+    let u = g.N.Near.view c.put.new.self in
     let n = c.args.i + c.args.j in
     let w = c.get-word.result in
     let from = c.args.from.log * LOG_WORDS in

@@ -12,7 +12,7 @@ use Rattle.far_hand.proofs.Closure.{then_call}
 pub loop-preserved : goal.loop-preserved
 loop-preserved g c =
     let h = c.loop.invariant in
-    let s = g.N.Hand.view c.args.near.now in
+    let s = g.N.Near.view c.args.near.now in
     record {
       fits = c.is_dropped.ensures.fits;
       found = finds_more (s.cell c.args.pointer) c.loop.word c.in-Err.more h.found c.in-Err.ensures.found;
@@ -28,7 +28,7 @@ loop-preserved g c =
 pub returns-in-Ok : goal.returns-in-Ok
 returns-in-Ok g c =
     let h = c.loop.invariant in
-    let s = g.N.Hand.view c.args.near.now in
+    let s = g.N.Near.view c.args.near.now in
     record {
       done = search rules;
       set = λ still. c.in-Ok.ensures.set still

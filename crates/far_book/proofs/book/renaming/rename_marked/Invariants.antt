@@ -11,11 +11,11 @@ use Rattle.far_book.proofs.book.renaming.rename_marked.Given as goal
 abbrev pub invariant-loop : goal.invariant-loop
 invariant-loop g l = record {
   fits : l.word < 2 ^ 64;
-  found : Finds ((g.N.Hand.view l.fn.near).cell l.fn.pointer) l.word;
-  kept : g.N.Hand.view l.near ≡ seen (g.N.Hand.view l.fn.near) l.fn.pointer l.word;
-  names : Came (only (Names l.fn.pointer l.fn.new) g.N.Hand.makes) l.fn.near l.near;
+  found : Finds ((g.N.Near.view l.fn.near).cell l.fn.pointer) l.word;
+  kept : g.N.Near.view l.near ≡ seen (g.N.Near.view l.fn.near) l.fn.pointer l.word;
+  names : Came (only (Names l.fn.pointer l.fn.new) g.N.Near.makes) l.fn.near l.near;
   readable : IsSome (read_of l.word);
   alive : is_dropped (read_of l.word) ≡ false;
-  same : g.N.Hand.still → l.word ≡ l.fn.found;
+  same : g.N.Near.still → l.word ≡ l.fn.found;
   tries : l.counter ≤ count (read_of l.word);
 }

@@ -22,13 +22,13 @@ use Rattle.far_evac.proofs.evac.Evac.deal.Goals as goal
 
 pub send_off-requires : goal.send_off-requires
 send_off-requires g c =
-    let here = first_wanted (moment g.N.Hand.view c.args.self.now) c.keeps_law.ensures.law c.keeps_law.ensures.moment c.requires.phase c.args.span.p c.requires.first.0 c.requires.first.1 in
-    let wanted = subst (λ (e : EvacOf g.row.N.Denot g.row.D.Denot). Wanted (g.N.Hand.view e.book.near) c.args.span.p) (sym c.self.view_is) here in
+    let here = first_wanted (moment g.N.Near.view c.args.self.now) c.keeps_law.ensures.law c.keeps_law.ensures.moment c.requires.phase c.args.span.p c.requires.first.0 c.requires.first.1 in
+    let wanted = subst (λ (e : EvacOf g.row.N.Denot g.row.D.Denot). Wanted (g.N.Near.view e.book.near) c.args.span.p) (sym c.self.view_is) here in
     record { pointer = wanted.pointer; quiet = wanted.quiet; evac = wanted.evac }
 
 pub invariant_of-self : goal.invariant_of-self
 invariant_of-self g c =
-    let view = g.N.Hand.view in
+    let view = g.N.Near.view in
     let here = first_wanted (moment view c.args.self.now) c.keeps_law.ensures.law c.keeps_law.ensures.moment c.requires.phase c.args.span.p c.requires.first.0 c.requires.first.1 in
     let wanted = subst (λ (e : EvacOf g.row.N.Denot g.row.D.Denot). Wanted (view e.book.near) c.args.span.p) (sym c.self.view_is) here in
     let law = subst (λ (e : EvacOf g.row.N.Denot g.row.D.Denot). Law (own_part (view e.book.near))) (sym c.self.view_is) c.keeps_law.ensures.law in
@@ -40,11 +40,11 @@ invariant_of-self g c =
     c.self.inside.book.order c.send_off.new.book.order c.in-Ok.fate c.in-Ok.ensures.leaves c.size_of.result c.size_of.ensures
 
 pub invariant_of-self-in-Err : goal.invariant_of-self-in-Err
-invariant_of-self-in-Err g c = round_found (g.N.Hand.view c.self.inside.book.near) (g.N.Hand.view c.send_off.new.book.near) c.self.inside.round c.self.invariant c.in-Err.ensures.kept
+invariant_of-self-in-Err g c = round_found (g.N.Near.view c.self.inside.book.near) (g.N.Near.view c.send_off.new.book.near) c.self.inside.round c.self.invariant c.in-Err.ensures.kept
 
 pub returns-in-Ok-clause-dealt : goal.returns-in-Ok-clause-dealt
 returns-in-Ok-clause-dealt g c =
-    let view = g.N.Hand.view in
+    let view = g.N.Near.view in
     let s = view c.args.self.now.book.near in
     let p = c.args.span.p in
     let t = view c.send_off.new.book.near in
@@ -58,7 +58,7 @@ returns-in-Ok-clause-dealt g c =
 
 pub returns-in-Ok-clause-exact : goal.returns-in-Ok-clause-exact
 returns-in-Ok-clause-exact g c still =
-    let view = g.N.Hand.view in
+    let view = g.N.Near.view in
     let t = view c.send_off.new.book.near in
     let p = c.args.span.p in
     let leaves = subst (λ (e : EvacOf g.row.N.Denot g.row.D.Denot). LeavesAs (view e.book.near) e.book.order t c.send_off.new.book.order p ((view e.book.near).cell p) c.in-Ok.fate) c.self.view_is
@@ -70,4 +70,4 @@ returns-in-Ok-clause-exact g c still =
 
 pub returns-in-Err-clause-refused : goal.returns-in-Err-clause-refused
 returns-in-Err-clause-refused g c =
-    subst (λ (e : EvacOf g.row.N.Denot g.row.D.Denot). AsksToEvict g.row.D.Denot g.D.Device.writes g.D.Device.lets_go (g.N.Hand.view e.book.near) c.args.span.p (Err c.in-Err.why) e.book.device c.send_off.new.book.device) c.self.view_is c.in-Err.ensures.refused
+    subst (λ (e : EvacOf g.row.N.Denot g.row.D.Denot). AsksToEvict g.row.D.Denot g.D.Device.writes g.D.Device.lets_go (g.N.Near.view e.book.near) c.args.span.p (Err c.in-Err.why) e.book.device c.send_off.new.book.device) c.self.view_is c.in-Err.ensures.refused

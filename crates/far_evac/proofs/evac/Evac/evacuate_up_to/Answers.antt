@@ -28,21 +28,21 @@ use Rattle.far_evac.proofs.evac.Evac.evacuate_up_to.Goals.{After-keeps_law}
 use Rattle.far_evac.proofs.evac.Evac.evacuate_up_to.Goals as goal
 
 -- ---- a walk stands at k objects once the logs in front were given back, which asks nothing of the device
-module _ (g : Over) (c : After-keeps_law g) (k : ℕ) (e : EvacOf g.row.N.Denot g.row.D.Denot) (q : Progress) (walks : WalksTo (moment g.N.Hand.view c.args.self.now) k (standing g.N.Hand.view e q)) where
+module _ (g : Over) (c : After-keeps_law g) (k : ℕ) (e : EvacOf g.row.N.Denot g.row.D.Denot) (q : Progress) (walks : WalksTo (moment g.N.Near.view c.args.self.now) k (standing g.N.Near.view e q)) where
   abbrev m : Moment
-  m = moment g.N.Hand.view c.args.self.now
+  m = moment g.N.Near.view c.args.self.now
 
   counts : objects_in (tally_of q) ≡ k
-  counts = tallies_all m k (standing g.N.Hand.view e q) walks
+  counts = tallies_all m k (standing g.N.Near.view e q) walks
 
   bounded : IsBounded (tally_of q)
-  bounded = walk_counts m c.keeps_law.ensures.law c.keeps_law.ensures.moment c.requires.phase k (standing g.N.Hand.view e q) walks
+  bounded = walk_counts m c.keeps_law.ensures.law c.keeps_law.ensures.moment c.requires.phase k (standing g.N.Near.view e q) walks
 
   module _ {between : g.row.D.Denot} (same : e.book.device ≡ between) {n : ℕ} (is : n ≡ k) where
-    asked : WalksAsking g.row.D.Denot g.D.Device.writes g.D.Device.lets_go m k (standing g.N.Hand.view e q) c.args.self.now.book.device between →
-        WalksAsking g.row.D.Denot g.D.Device.writes g.D.Device.lets_go m n (standing g.N.Hand.view e q) c.args.self.now.book.device e.book.device
-    asked h = subst (λ j. WalksAsking g.row.D.Denot g.D.Device.writes g.D.Device.lets_go m j (standing g.N.Hand.view e q) c.args.self.now.book.device e.book.device) (sym is)
-        (subst (λ (d : g.row.D.Denot). WalksAsking g.row.D.Denot g.D.Device.writes g.D.Device.lets_go m k (standing g.N.Hand.view e q) c.args.self.now.book.device d) (sym same) h)
+    asked : WalksAsking g.row.D.Denot g.D.Device.writes g.D.Device.lets_go m k (standing g.N.Near.view e q) c.args.self.now.book.device between →
+        WalksAsking g.row.D.Denot g.D.Device.writes g.D.Device.lets_go m n (standing g.N.Near.view e q) c.args.self.now.book.device e.book.device
+    asked h = subst (λ j. WalksAsking g.row.D.Denot g.D.Device.writes g.D.Device.lets_go m j (standing g.N.Near.view e q) c.args.self.now.book.device e.book.device) (sym is)
+        (subst (λ (d : g.row.D.Denot). WalksAsking g.row.D.Denot g.D.Device.writes g.D.Device.lets_go m k (standing g.N.Near.view e q) c.args.self.now.book.device d) (sym same) h)
 
     follows : Follows g.D.Device.contents g.D.Device.honest g.D.Device.faults g.D.Device.fails_at_most (none_of (first_live m k)) false c.args.self.now.book.device between →
         Follows g.D.Device.contents g.D.Device.honest g.D.Device.faults g.D.Device.fails_at_most (none_of (first_live m n)) false c.args.self.now.book.device e.book.device
@@ -59,7 +59,7 @@ deal-requires-clause-room g c =
 pub loop-preserved : goal.loop-preserved
 loop-preserved g c =
     let h = (goal.at.loop-preserved g c).After-keeps_law in
-    let view = g.N.Hand.view in
+    let view = g.N.Near.view in
     let m = moment view c.args.self.now in
     let w = standing view c.settle.new.self c.settle.new.progress in
     let v = standing view c.deal.new.self c.deal.new.progress in
@@ -94,7 +94,7 @@ returns-in_default-clause-came g c = then_came c.loop.invariant.came c.settle.en
 pub returns-in_default-clause-exact : goal.returns-in_default-clause-exact
 returns-in_default-clause-exact g c = λ still.
     let none = subst (λ o. IfNone o (c.settle.new.self.collection ≡ [])) c.in_default.is c.settle.ensures.none in
-    exact_over (moment g.N.Hand.view c.args.self.now) c.args.n c.loop.counter (standing g.N.Hand.view c.settle.new.self c.settle.new.progress) c.loop.auto.counter-end none (c.settle.ensures.exact still ∙ c.loop.invariant.exact still)
+    exact_over (moment g.N.Near.view c.args.self.now) c.args.n c.loop.counter (standing g.N.Near.view c.settle.new.self c.settle.new.progress) c.loop.auto.counter-end none (c.settle.ensures.exact still ∙ c.loop.invariant.exact still)
 
 pub returns-in_default-clause-bounded : goal.returns-in_default-clause-bounded
 returns-in_default-clause-bounded g c =
@@ -143,7 +143,7 @@ returns-in-Err-clause-bounded g c =
 
 pub returns-in-Err-clause-stops : goal.returns-in-Err-clause-stops
 returns-in-Err-clause-stops g c =
-    let view = g.N.Hand.view in
+    let view = g.N.Near.view in
     let w = standing view c.settle.new.self c.settle.new.progress in
     let next = subst (λ o. IfSome o (λ (span : Span). IsNextLeaving (view c.settle.new.self.book.near) c.settle.new.self.collection span)) c.in-Some.is c.settle.ensures.next in
     let leaving = c.settle.ensures.ends ∙ ap (λ (held : List ℕ). cond (is_empty held) phase.Idle phase.Evacuating) next.front in
@@ -153,7 +153,7 @@ returns-in-Err-clause-stops g c =
 pub returns-in-Err-clause-refused : goal.returns-in-Err-clause-refused
 returns-in-Err-clause-refused g c =
     let h = (goal.at.returns-in-Err-clause-refused g c).After-keeps_law in
-    let view = g.N.Hand.view in
+    let view = g.N.Near.view in
     let w = standing view c.settle.new.self c.settle.new.progress in
     let walks = c.loop.invariant.walks w c.settle.ensures.known in
     let some = subst (λ o. IfSome o (λ (span : Span). (rest : List ℕ) × (left w ≡ span.p ∷ rest))) c.in-Some.is c.settle.ensures.first in
@@ -175,7 +175,7 @@ returns-in-Err-clause-refused g c =
 pub returns-in-Err-clause-follows : goal.returns-in-Err-clause-follows
 returns-in-Err-clause-follows g c =
     let h = (goal.at.returns-in-Err-clause-follows g c).After-keeps_law in
-    let view = g.N.Hand.view in
+    let view = g.N.Near.view in
     let m = moment view c.args.self.now in
     let w = standing view c.settle.new.self c.settle.new.progress in
     let some = subst (λ o. IfSome o (λ (span : Span). (rest : List ℕ) × (left w ≡ span.p ∷ rest))) c.in-Some.is c.settle.ensures.first in

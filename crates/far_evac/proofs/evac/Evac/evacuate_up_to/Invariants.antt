@@ -13,12 +13,12 @@ use Rattle.far_evac.proofs.evac.Evac.evacuate_up_to.Given as goal
 abbrev pub invariant-loop : goal.invariant-loop
 invariant-loop g l = record {
   phase : l.self.phase ≡ phase.Evacuating;
-  walks : (t : Walked) → KnowsWalked (settled (standing g.N.Hand.view l.self l.progress)) t → WalksTo (moment g.N.Hand.view l.fn.self) l.counter t;
-  exact : g.N.Hand.still → settled (standing g.N.Hand.view l.self l.progress) ≡ walked (moment g.N.Hand.view l.fn.self) l.counter;
+  walks : (t : Walked) → KnowsWalked (settled (standing g.N.Near.view l.self l.progress)) t → WalksTo (moment g.N.Near.view l.fn.self) l.counter t;
+  exact : g.N.Near.still → settled (standing g.N.Near.view l.self l.progress) ≡ walked (moment g.N.Near.view l.fn.self) l.counter;
   freed : l.progress.freed + length l.self.collection ≡ length l.fn.self.collection;
   done : l.progress.done ≡ false;
-  asked : (t : Walked) → KnowsWalked (settled (standing g.N.Hand.view l.self l.progress)) t →
-      WalksAsking g.row.D.Denot g.D.Device.writes g.D.Device.lets_go (moment g.N.Hand.view l.fn.self) l.counter t l.fn.self.book.device l.self.book.device;
-  follows : Follows g.D.Device.contents g.D.Device.honest g.D.Device.faults g.D.Device.fails_at_most (none_of (first_live (moment g.N.Hand.view l.fn.self) l.counter)) false l.fn.self.book.device l.self.book.device;
-  came : Came g.N.Hand.makes l.fn.self.book.near l.self.book.near;
+  asked : (t : Walked) → KnowsWalked (settled (standing g.N.Near.view l.self l.progress)) t →
+      WalksAsking g.row.D.Denot g.D.Device.writes g.D.Device.lets_go (moment g.N.Near.view l.fn.self) l.counter t l.fn.self.book.device l.self.book.device;
+  follows : Follows g.D.Device.contents g.D.Device.honest g.D.Device.faults g.D.Device.fails_at_most (none_of (first_live (moment g.N.Near.view l.fn.self) l.counter)) false l.fn.self.book.device l.self.book.device;
+  came : Came g.N.Near.makes l.fn.self.book.near l.self.book.near;
 }

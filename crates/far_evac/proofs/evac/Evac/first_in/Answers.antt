@@ -12,7 +12,7 @@ pub next_live-requires : goal.next_live-requires
 next_live-requires g c =
     let phase = ap (λ (e : EvacOf g.row.N.Denot g.row.D.Denot). e.phase) c.self.view_is ∙ c.requires.phase in
     let held = ap (λ (e : EvacOf g.row.N.Denot g.row.D.Denot). e.collection) c.self.view_is ∙ c.requires.front.1 in
-    let s = g.N.Hand.view c.self.inside.book.near in
+    let s = g.N.Near.view c.self.inside.book.near in
     let law = c.keeps_law.ensures.law in record {
       log = front_range s c.self.inside.round c.self.invariant law phase c.args.log c.requires.front.0 held;
       begins = front_begins s c.self.inside.round c.self.invariant law phase c.args.log c.requires.front.0 held;
@@ -20,32 +20,32 @@ next_live-requires g c =
 
 pub invariant_of-self : goal.invariant_of-self
 invariant_of-self g c =
-    let s = g.N.Hand.view c.self.inside.book.near in
-    let t = g.N.Hand.view c.next_live.new.self.near in
+    let s = g.N.Near.view c.self.inside.book.near in
+    let t = g.N.Near.view c.next_live.new.self.near in
     round_found s t c.self.inside.round c.self.invariant (knows_cells s t c.next_live.ensures.found c.next_live.ensures.kept)
 
 pub returns-in_default-clause-known : goal.returns-in_default-clause-known
 returns-in_default-clause-known g c =
-    let s = g.N.Hand.view c.self.inside.book.near in
-    let t = g.N.Hand.view c.next_live.new.self.near in
-    found_moment (moment g.N.Hand.view c.args.self.now) _ t c.next_live.new.self.order (ap (moment g.N.Hand.view) c.self.view_is) (knows_cells s t c.next_live.ensures.found c.next_live.ensures.kept) c.next_live.ensures.order
+    let s = g.N.Near.view c.self.inside.book.near in
+    let t = g.N.Near.view c.next_live.new.self.near in
+    found_moment (moment g.N.Near.view c.args.self.now) _ t c.next_live.new.self.order (ap (moment g.N.Near.view) c.self.view_is) (knows_cells s t c.next_live.ensures.found c.next_live.ensures.kept) c.next_live.ensures.order
 
 pub returns-in_default-clause-none : goal.returns-in_default-clause-none
 returns-in_default-clause-none g c =
     let phase = ap (λ (e : EvacOf g.row.N.Denot g.row.D.Denot). e.phase) c.self.view_is ∙ c.requires.phase in
     let held = ap (λ (e : EvacOf g.row.N.Denot g.row.D.Denot). e.collection) c.self.view_is ∙ c.requires.front.1 in
-    let s = g.N.Hand.view c.self.inside.book.near in
+    let s = g.N.Near.view c.self.inside.book.near in
     let law = c.keeps_law.ensures.law in
     let lies = front_lies s c.self.inside.round c.self.invariant law phase c.args.log c.requires.front.0 held in
-    subst (λ (e : EvacOf g.row.N.Denot g.row.D.Denot). live_in (g.N.Hand.view e.book.near) c.args.log ≡ []) c.self.view_is
+    subst (λ (e : EvacOf g.row.N.Denot g.row.D.Denot). live_in (g.N.Near.view e.book.near) c.args.log ≡ []) c.self.view_is
     (none_lives s law c.args.log c.self.inside.round.at lies c.in_default.ensures.none)
 
 pub invariant_of-self-2 : goal.invariant_of-self-2
 invariant_of-self-2 g c =
     let phase = ap (λ (e : EvacOf g.row.N.Denot g.row.D.Denot). e.phase) c.self.view_is ∙ c.requires.phase in
     let held = ap (λ (e : EvacOf g.row.N.Denot g.row.D.Denot). e.collection) c.self.view_is ∙ c.requires.front.1 in
-    let s = g.N.Hand.view c.self.inside.book.near in
-    let t = g.N.Hand.view c.next_live.new.self.near in
+    let s = g.N.Near.view c.self.inside.book.near in
+    let t = g.N.Near.view c.next_live.new.self.near in
     let moved = stands_first s c.self.inside.round c.self.invariant c.keeps_law.ensures.law phase c.args.log c.requires.front.0 held c.in-Some.span c.in-Some.ensures.first in
     round_found s t _ moved (knows_cells s t c.next_live.ensures.found c.next_live.ensures.kept)
 
@@ -53,8 +53,8 @@ pub returns : goal.returns
 returns g c =
     let phase = ap (λ (e : EvacOf g.row.N.Denot g.row.D.Denot). e.phase) c.self.view_is ∙ c.requires.phase in
     let held = ap (λ (e : EvacOf g.row.N.Denot g.row.D.Denot). e.collection) c.self.view_is ∙ c.requires.front.1 in
-    let s = g.N.Hand.view c.self.inside.book.near in
-    let t = g.N.Hand.view c.next_live.new.self.near in
+    let s = g.N.Near.view c.self.inside.book.near in
+    let t = g.N.Near.view c.next_live.new.self.near in
     let law = c.keeps_law.ensures.law in
     let known = knows_cells s t c.next_live.ensures.found c.next_live.ensures.kept in
     let lies = front_lies s c.self.inside.round c.self.invariant law phase c.args.log c.requires.front.0 held in
@@ -62,9 +62,9 @@ returns g c =
     let lives = first_lives s law c.args.log c.self.inside.round.at lies c.in-Some.span first in
     record {
       came = since_evac c.self.view_is c.next_live.ensures.came;
-      known = found_moment (moment g.N.Hand.view c.args.self.now) _ t c.next_live.new.self.order (ap (moment g.N.Hand.view) c.self.view_is) known c.next_live.ensures.order;
+      known = found_moment (moment g.N.Near.view c.args.self.now) _ t c.next_live.new.self.order (ap (moment g.N.Near.view) c.self.view_is) known c.next_live.ensures.order;
       exact = search rules;
-      first = (lives.0, subst (λ (e : EvacOf g.row.N.Denot g.row.D.Denot). live_in (g.N.Hand.view e.book.near) c.args.log ≡ c.in-Some.span.p ∷ lives.0) c.self.view_is lives.1);
+      first = (lives.0, subst (λ (e : EvacOf g.row.N.Denot g.row.D.Denot). live_in (g.N.Near.view e.book.near) c.args.log ≡ c.in-Some.span.p ∷ lives.0) c.self.view_is lives.1);
       next = next_leaving s t law known c.args.log c.self.inside.round.at lies c.in-Some.span first _ c.requires.front.0 held c.in-Some.ensures.next c.in-Some.ensures.inside;
       none = tt;
       device = c.next_live.ensures.device ∙ ap (λ (e : EvacOf g.row.N.Denot g.row.D.Denot). e.book.device) c.self.view_is;

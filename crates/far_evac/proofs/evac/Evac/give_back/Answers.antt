@@ -21,25 +21,25 @@ module _ (g : Over) (c : After-keeps_law g) where
   held : collection_in c.self.inside.round ≡ c.args.log ∷ c.requires.front.0
   held = ap (λ (e : EvacOf g.row.N.Denot g.row.D.Denot). e.collection) c.self.view_is ∙ c.requires.front.1
 
-  vacant : IsVacant (g.N.Hand.view c.self.inside.book.near) c.args.log
+  vacant : IsVacant (g.N.Near.view c.self.inside.book.near) c.args.log
   vacant =
-      let none = subst (λ (e : EvacOf g.row.N.Denot g.row.D.Denot). live_in (g.N.Hand.view e.book.near) c.args.log ≡ []) (sym c.self.view_is) c.requires.none in
-      front_vacant (g.N.Hand.view c.self.inside.book.near) c.self.inside.round c.self.invariant c.keeps_law.ensures.law walks c.args.log c.requires.front.0 held none
+      let none = subst (λ (e : EvacOf g.row.N.Denot g.row.D.Denot). live_in (g.N.Near.view e.book.near) c.args.log ≡ []) (sym c.self.view_is) c.requires.none in
+      front_vacant (g.N.Near.view c.self.inside.book.near) c.self.inside.round c.self.invariant c.keeps_law.ensures.law walks c.args.log c.requires.front.0 held none
 
-knows : (g : Over) (c : After-keeps_law-2 g) → IsVacant (g.N.Hand.view c.self.inside.book.near) c.args.log → Knows (released (g.N.Hand.view c.self.inside.book.near) c.args.log) (g.N.Hand.view c.release.new.self.near)
+knows : (g : Over) (c : After-keeps_law-2 g) → IsVacant (g.N.Near.view c.self.inside.book.near) c.args.log → Knows (released (g.N.Near.view c.self.inside.book.near) c.args.log) (g.N.Near.view c.release.new.self.near)
 knows g c empty =
     let freed = c.release.ensures.vacant.1 empty in
-    given_known (g.N.Hand.view c.self.inside.book.near) (g.N.Hand.view c.release.new.self.near) c.args.log (c.release.ensures.kept freed) (c.release.ensures.forgot freed) c.keeps_law-2.ensures.law
+    given_known (g.N.Near.view c.self.inside.book.near) (g.N.Near.view c.release.new.self.near) c.args.log (c.release.ensures.kept freed) (c.release.ensures.forgot freed) c.keeps_law-2.ensures.law
 
 pub release-requires-clause-log : goal.release-requires-clause-log
 release-requires-clause-log g c =
     let h = (goal.at.release-requires-clause-log g c).After-keeps_law in
-    front_range (g.N.Hand.view c.self.inside.book.near) c.self.inside.round c.self.invariant c.keeps_law.ensures.law (walks g h) c.args.log c.requires.front.0 (held g h)
+    front_range (g.N.Near.view c.self.inside.book.near) c.self.inside.round c.self.invariant c.keeps_law.ensures.law (walks g h) c.args.log c.requires.front.0 (held g h)
 
 pub invariant_of-self : goal.invariant_of-self
 invariant_of-self g c =
     let h = (goal.at.invariant_of-self g c).After-keeps_law in
-    ends (g.N.Hand.view c.self.inside.book.near) (g.N.Hand.view c.release.new.self.near) c.self.inside.round c.self.invariant c.keeps_law-2.ensures.law (walks g h) c.args.log c.requires.front.0 (held g h)
+    ends (g.N.Near.view c.self.inside.book.near) (g.N.Near.view c.release.new.self.near) c.self.inside.round c.self.invariant c.keeps_law-2.ensures.law (walks g h) c.args.log c.requires.front.0 (held g h)
     (knows g (goal.at.invariant_of-self g c).After-keeps_law-2 (vacant g h))
 
 pub invariant_of-self-else-self-len : goal.invariant_of-self-else-self-len
@@ -48,18 +48,18 @@ invariant_of-self-else-self-len g c =
     let r = c.self.inside.round in
     let most = (held_next r (walks g h) c.args.log c.requires.front.0 (held g h)).1 in
     let some : r.index + 1 < length r.chosen = grind (arith, nat_tests, most, c.len.ensures, c.if-self-len.false) in
-    goes_on (g.N.Hand.view c.self.inside.book.near) (g.N.Hand.view c.release.new.self.near) r c.self.invariant c.keeps_law-2.ensures.law (walks g h) c.args.log c.requires.front.0 (held g h)
+    goes_on (g.N.Near.view c.self.inside.book.near) (g.N.Near.view c.release.new.self.near) r c.self.invariant c.keeps_law-2.ensures.law (walks g h) c.args.log c.requires.front.0 (held g h)
     (knows g (goal.at.invariant_of-self-else-self-len g c).After-keeps_law-2 (vacant g h)) (more_held r (walks g h) c.args.log c.requires.front.0 (held g h) some)
 
 pub returns-then-self-len-clause-core : goal.returns-then-self-len-clause-core
 returns-then-self-len-clause-core g c =
     let knows = knows g (goal.at.returns-then-self-len-clause-core g c).After-keeps_law-2 (vacant g (goal.at.returns-then-self-len-clause-core g c).After-keeps_law) in
-    subst (λ (e : EvacOf g.row.N.Denot g.row.D.Denot). Knows (released (g.N.Hand.view e.book.near) c.args.log) (g.N.Hand.view c.release.new.self.near)) c.self.view_is knows
+    subst (λ (e : EvacOf g.row.N.Denot g.row.D.Denot). Knows (released (g.N.Near.view e.book.near) c.args.log) (g.N.Near.view c.release.new.self.near)) c.self.view_is knows
 
 pub returns-then-self-len-clause-exact : goal.returns-then-self-len-clause-exact
 returns-then-self-len-clause-exact g c =
     let freed = c.release.ensures.vacant.1 (vacant g (goal.at.returns-then-self-len-clause-exact g c).After-keeps_law) in
-    λ still. c.release.ensures.exact still freed ∙ ap (λ (e : EvacOf g.row.N.Denot g.row.D.Denot). released (g.N.Hand.view e.book.near) c.args.log) c.self.view_is
+    λ still. c.release.ensures.exact still freed ∙ ap (λ (e : EvacOf g.row.N.Denot g.row.D.Denot). released (g.N.Near.view e.book.near) c.args.log) c.self.view_is
 
 pub returns-then-self-len-clause-order : goal.returns-then-self-len-clause-order
 returns-then-self-len-clause-order g c =
@@ -76,12 +76,12 @@ returns-then-self-len-clause-collection g c =
 pub returns-else-self-len-clause-core : goal.returns-else-self-len-clause-core
 returns-else-self-len-clause-core g c =
     let knows = knows g (goal.at.returns-else-self-len-clause-core g c).After-keeps_law-2 (vacant g (goal.at.returns-else-self-len-clause-core g c).After-keeps_law) in
-    subst (λ (e : EvacOf g.row.N.Denot g.row.D.Denot). Knows (released (g.N.Hand.view e.book.near) c.args.log) (g.N.Hand.view c.release.new.self.near)) c.self.view_is knows
+    subst (λ (e : EvacOf g.row.N.Denot g.row.D.Denot). Knows (released (g.N.Near.view e.book.near) c.args.log) (g.N.Near.view c.release.new.self.near)) c.self.view_is knows
 
 pub returns-else-self-len-clause-exact : goal.returns-else-self-len-clause-exact
 returns-else-self-len-clause-exact g c =
     let freed = c.release.ensures.vacant.1 (vacant g (goal.at.returns-else-self-len-clause-exact g c).After-keeps_law) in
-    λ still. c.release.ensures.exact still freed ∙ ap (λ (e : EvacOf g.row.N.Denot g.row.D.Denot). released (g.N.Hand.view e.book.near) c.args.log) c.self.view_is
+    λ still. c.release.ensures.exact still freed ∙ ap (λ (e : EvacOf g.row.N.Denot g.row.D.Denot). released (g.N.Near.view e.book.near) c.args.log) c.self.view_is
 
 pub returns-else-self-len-clause-order : goal.returns-else-self-len-clause-order
 returns-else-self-len-clause-order g c =

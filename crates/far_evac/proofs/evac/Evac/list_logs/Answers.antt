@@ -9,8 +9,8 @@ use Rattle.far_evac.proofs.evac.Evac.list_logs.Goals as goal
 
 pub loop-log-preserved : goal.loop-log-preserved
 loop-log-preserved g c =
-    let s = g.N.Hand.view c.args.self.now.book.near in
-    let row : ℕ → LogState = λ k. record { kind = kind_in (moment g.N.Hand.view c.args.self.now) k; row = row_of s k } in
+    let s = g.N.Near.view c.args.self.now.book.near in
+    let row : ℕ → LogState = λ k. record { kind = kind_in (moment g.N.Near.view c.args.self.now) k; row = row_of s k } in
     let one : c.log.result ≡ row c.loop-log.log = (λ i. record { kind = c.log.ensures.kind i; row = c.log.ensures.row i }) in
     record {
       logs = c.push_reserved.ensures.items ∙ ap (λ xs. xs ++ c.log.result ∷ []) c.loop-log.invariant.logs ∙ ap (λ x. map row (range_with_len 0 c.loop-log.log) ++ x ∷ []) one

@@ -7,7 +7,7 @@ use Rattle.far_evac.proofs.evac.Evac.list_logs.Given as goal
 
 abbrev pub invariant-loop-log : goal.invariant-loop-log
 invariant-loop-log g l = record {
-  logs : l.logs.items ≡ map (λ (k : ℕ). record { kind = kind_in (moment g.N.Hand.view l.fn.self) k; row = row_of (g.N.Hand.view l.fn.self.book.near) k }) (range_with_len 0 l.log);
+  logs : l.logs.items ≡ map (λ (k : ℕ). record { kind = kind_in (moment g.N.Near.view l.fn.self) k; row = row_of (g.N.Near.view l.fn.self.book.near) k }) (range_with_len 0 l.log);
   count : vec_len l.logs ≡ l.log;
   room : vec_capacity l.logs ≡ vec_capacity l.fn.logs;
 }

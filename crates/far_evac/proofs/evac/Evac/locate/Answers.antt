@@ -3,5 +3,5 @@ use Rattle.far_evac.proofs.evac.Evac.locate.Goals as goal
 
 pub invariant_of-self : goal.invariant_of-self
 invariant_of-self g c =
-    cell_found (g.N.Hand.view c.self.inside.book.near) (g.N.Hand.view c.locate-answer.new.self.near) c.self.inside.round c.self.invariant c.args.pointer
-    ((g.N.Hand.view c.locate-answer.new.self.near).cell c.args.pointer) c.locate-answer.ensures.found c.locate-answer.ensures.kept
+    cell_found (g.N.Near.view c.self.inside.book.near) (g.N.Near.view c.locate-answer.new.self.near) c.self.inside.round c.self.invariant c.args.pointer
+    ((g.N.Near.view c.locate-answer.new.self.near).cell c.args.pointer) c.locate-answer.ensures.found c.locate-answer.ensures.kept

@@ -22,7 +22,7 @@ use Rattle.far_evac.proofs.Waits.{turns_wait, waiting_of}
 
 pub loop-init : goal.loop-init
 loop-init g c =
-    let m = moment g.N.Hand.view c.args.self.now in
+    let m = moment g.N.Near.view c.args.self.now in
     let none : tally_of c.nothing_done-total.result ≡ nothing = ap tally_of c.nothing_done-total.ensures in
     record {
       made = subst (λ total. Made g.row.D.Denot g.D.Device.writes g.D.Device.lets_go g.D.Device.contents m m 0 total c.args.self.now.book.device c.args.self.now.book.device) (sym none)
@@ -35,22 +35,22 @@ loop-init g c =
     }
 
 -- one turn more, where no word changes but by it
-exactly : (g : Over) (c : In-Ok g) → g.N.Hand.still → (over : Bool) → c.in-Ok.sum.done ≡ over →
-    turns_made (moment g.N.Hand.view c.args.self.now) (c.loop.counter + 1) ≡ turned_at (moment g.N.Hand.view c.turn_more.new.self) (tally_of c.in-Ok.sum) over
+exactly : (g : Over) (c : In-Ok g) → g.N.Near.still → (over : Bool) → c.in-Ok.sum.done ≡ over →
+    turns_made (moment g.N.Near.view c.args.self.now) (c.loop.counter + 1) ≡ turned_at (moment g.N.Near.view c.turn_more.new.self) (tally_of c.in-Ok.sum) over
 exactly g c still over is =
-    let after = turned_at (moment g.N.Hand.view c.turn_more.new.self) (tally_of c.in-Ok.sum) in
-    turns_more (moment g.N.Hand.view c.args.self.now) c.loop.counter (moment g.N.Hand.view c.loop.self) (tally_of c.loop.total) (after over) (c.loop.invariant.exact still) (c.in-Ok.ensures.exact still ∙ ap after is)
+    let after = turned_at (moment g.N.Near.view c.turn_more.new.self) (tally_of c.in-Ok.sum) in
+    turns_more (moment g.N.Near.view c.args.self.now) c.loop.counter (moment g.N.Near.view c.loop.self) (tally_of c.loop.total) (after over) (c.loop.invariant.exact still) (c.in-Ok.ensures.exact still ∙ ap after is)
 
 pub returns-then-total-clause-asked : goal.returns-then-total-clause-asked
 returns-then-total-clause-asked g c =
     let turn = c.in-Ok.ensures.turns in
-    asked_done c.loop.invariant.made c.turn_more.ensures.lawful (moment g.N.Hand.view c.turn_more.new.self) turn.0 (tally_of c.in-Ok.sum) c.turn_more.new.self.book.device turn.2 turn.3 turn.4
+    asked_done c.loop.invariant.made c.turn_more.ensures.lawful (moment g.N.Near.view c.turn_more.new.self) turn.0 (tally_of c.in-Ok.sum) c.turn_more.new.self.book.device turn.2 turn.3 turn.4
     c.args.turns c.args.alone c.in-Ok.sum.done c.if-total.true (omega (arith, c.loop-test.true)) turn.1
 
 pub returns-then-total-clause-exact : goal.returns-then-total-clause-exact
 returns-then-total-clause-exact g c still =
     let now = exactly g (goal.at.returns-then-total-clause-exact g c).In-Ok still true c.if-total.true in
-    let all = turns_over (moment g.N.Hand.view c.args.self.now) (c.loop.counter + 1) c.args.turns (moment g.N.Hand.view c.turn_more.new.self) (tally_of c.in-Ok.sum) (omega (arith, c.loop-test.true)) now in
+    let all = turns_over (moment g.N.Near.view c.args.self.now) (c.loop.counter + 1) c.args.turns (moment g.N.Near.view c.turn_more.new.self) (tally_of c.in-Ok.sum) (omega (arith, c.loop-test.true)) now in
     (ap (λ over. Done (progress_of (tally_of c.in-Ok.sum) over)) c.if-total.true ∙ sym (ap round_end all), sym (ap (λ (r : Turned). r.moment) all))
 
 pub loop-preserved : goal.loop-preserved
@@ -58,7 +58,7 @@ loop-preserved g c =
     let turn = c.in-Ok.ensures.turns in
     let goes = c.in-Ok.ensures.goes_on.more c.if-total.false in
     record {
-      made = made_more c.loop.invariant.made c.turn_more.ensures.lawful (moment g.N.Hand.view c.turn_more.new.self) turn.0 (tally_of c.in-Ok.sum) c.turn_more.new.self.book.device turn.2 turn.3 turn.4
+      made = made_more c.loop.invariant.made c.turn_more.ensures.lawful (moment g.N.Near.view c.turn_more.new.self) turn.0 (tally_of c.in-Ok.sum) c.turn_more.new.self.book.device turn.2 turn.3 turn.4
           c.in-Ok.sum.done c.if-total.false turn.1;
       exact = λ still. exactly g (goal.at.loop-preserved g c).In-Ok still false c.if-total.false;
       within = goes.0;
@@ -75,12 +75,12 @@ returns-in-Err-clause-follows g c =
 pub returns-then-is_waiting-clause-exact : goal.returns-then-is_waiting-clause-exact
 returns-then-is_waiting-clause-exact g c still =
     let now = exactly g (goal.at.returns-then-is_waiting-clause-exact g c).In-Ok still false c.if-total.false in
-    turns_wait (moment g.N.Hand.view c.args.self.now) c.loop.counter c.args.turns (moment g.N.Hand.view c.loop.self) (moment g.N.Hand.view c.turn_more.new.self) (tally_of c.loop.total) (tally_of c.in-Ok.sum)
+    turns_wait (moment g.N.Near.view c.args.self.now) c.loop.counter c.args.turns (moment g.N.Near.view c.loop.self) (moment g.N.Near.view c.turn_more.new.self) (tally_of c.loop.total) (tally_of c.in-Ok.sum)
     (omega (arith, c.loop-test.true)) (c.loop.invariant.exact still) now (sym c.is_waiting-waited.ensures ∙ c.if-waited.true) (sym c.is_waiting.ensures ∙ c.if-is_waiting.true)
 
 pub returns-then-is_waiting-clause-asked : goal.returns-then-is_waiting-clause-asked
 returns-then-is_waiting-clause-asked g c =
-    let t = moment g.N.Hand.view c.turn_more.new.self in
+    let t = moment g.N.Near.view c.turn_more.new.self in
     let turn = c.in-Ok.ensures.turns in
     let made = made_more c.loop.invariant.made c.turn_more.ensures.lawful t turn.0 (tally_of c.in-Ok.sum) c.turn_more.new.self.book.device turn.2 turn.3 turn.4 c.in-Ok.sum.done c.if-total.false turn.1 in
     asked_limit made c.args.turns c.args.alone Waiting (omega (arith, c.loop-test.true)) (λ e. absurd (true≢false (sym c.if-alone.true ∙ e))) (sym (waiting_of t.phase (sym c.is_waiting.ensures ∙ c.if-is_waiting.true)))
@@ -92,7 +92,7 @@ returns-clause-asked g c =
 pub returns-in-Err-clause-refused : goal.returns-in-Err-clause-refused
 returns-in-Err-clause-refused g c =
     let stop = c.in-Err.ensures.stops in
-    asked_stop c.loop.invariant.made c.turn_more.ensures.lawful (moment g.N.Hand.view c.turn_more.new.self) stop.0 c.args.turns c.in-Err.fault.so_far c.in-Err.fault.why c.turn_more.new.self.book.device
+    asked_stop c.loop.invariant.made c.turn_more.ensures.lawful (moment g.N.Near.view c.turn_more.new.self) stop.0 c.args.turns c.in-Err.fault.so_far c.in-Err.fault.why c.turn_more.new.self.book.device
     (omega (arith, c.loop-test.true)) c.in-Err.ensures.leaving stop.1 stop.3 stop.2 stop.4
 
 pub returns-then-total-clause-came : goal.returns-then-total-clause-came

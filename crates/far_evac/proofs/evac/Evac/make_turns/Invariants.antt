@@ -12,10 +12,10 @@ use Rattle.far_evac.proofs.evac.Evac.make_turns.Given as goal
 
 abbrev pub invariant-loop : goal.invariant-loop
 invariant-loop g l = record {
-  made : Made g.row.D.Denot g.D.Device.writes g.D.Device.lets_go g.D.Device.contents (moment g.N.Hand.view l.fn.self) (moment g.N.Hand.view l.self) l.counter (tally_of l.total) l.fn.self.book.device l.self.book.device;
-  exact : g.N.Hand.still → turns_made (moment g.N.Hand.view l.fn.self) l.counter ≡ turned_at (moment g.N.Hand.view l.self) (tally_of l.total) false;
-  within : IsWithin (moment g.N.Hand.view l.self) (tally_of l.total);
+  made : Made g.row.D.Denot g.D.Device.writes g.D.Device.lets_go g.D.Device.contents (moment g.N.Near.view l.fn.self) (moment g.N.Near.view l.self) l.counter (tally_of l.total) l.fn.self.book.device l.self.book.device;
+  exact : g.N.Near.still → turns_made (moment g.N.Near.view l.fn.self) l.counter ≡ turned_at (moment g.N.Near.view l.self) (tally_of l.total) false;
+  within : IsWithin (moment g.N.Near.view l.self) (tally_of l.total);
   runs : is_idle l.self.phase ≡ false;
   follows : Follows g.D.Device.contents g.D.Device.honest g.D.Device.faults g.D.Device.fails_at_most no_key false l.fn.self.book.device l.self.book.device;
-  came : Came g.N.Hand.makes l.fn.self.book.near l.self.book.near;
+  came : Came g.N.Near.makes l.fn.self.book.near l.self.book.near;
 }

@@ -11,7 +11,7 @@ use Rattle.far_evac.proofs.evac.Evac.mark_next.Given.{Over}
 use Rattle.far_evac.proofs.evac.Evac.mark_next.Goals.{After-seek-next}
 use Rattle.far_evac.proofs.evac.Evac.mark_next.Goals as goal
 
-sought : (g : Over) (c : After-seek-next g) → Sought (g.N.Hand.view c.self.inside.book.near) (g.N.Hand.view c.seek-next.new.book.near) c.self.inside.round (standing_at c.self.inside.round c.seek-next.result.0)
+sought : (g : Over) (c : After-seek-next g) → Sought (g.N.Near.view c.self.inside.book.near) (g.N.Near.view c.seek-next.new.book.near) c.self.inside.round (standing_at c.self.inside.round c.seek-next.result.0)
 sought g c = record {
   in_round = c.seek-next.ensures.stands;
   marks = ap (λ (e : EvacOf g.row.N.Denot g.row.D.Denot). e.phase) c.self.view_is ∙ c.requires.marking;
@@ -20,12 +20,12 @@ sought g c = record {
 }
 
 abbrev made : (g : Over) → EvacOf g.row.N.Denot g.row.D.Denot → Moment
-made g e = record (moment g.N.Hand.view e) { core = first_marked (g.N.Hand.view e.book.near) (lacking (g.N.Hand.view e.book.near) e.collection) }
+made g e = record (moment g.N.Near.view e) { core = first_marked (g.N.Near.view e.book.near) (lacking (g.N.Near.view e.book.near) e.collection) }
 
 pub mark-requires : goal.mark-requires
 mark-requires g c =
     let h = sought g (goal.at.mark-requires g c).After-seek-next in
-    let stands = subst (λ o. IfSome o (λ (span : Span). StandsAt (g.N.Hand.view c.seek-next.new.book.near) (standing_at c.self.inside.round c.seek-next.result.0) span)) c.in-Some.is c.seek-next.ensures.next in
+    let stands = subst (λ o. IfSome o (λ (span : Span). StandsAt (g.N.Near.view c.seek-next.new.book.near) (standing_at c.self.inside.round c.seek-next.result.0) span)) c.in-Some.is c.seek-next.ensures.next in
     record { legal = may_mark h c.keeps_law-2.ensures.law c.in-Some.span stands }
 
 pub returns-in_default : goal.returns-in_default
@@ -37,24 +37,24 @@ returns-in_default g c =
       known = knows_so c.seek-next.ensures.order (next_phase h) (next_held h) (ap (made g) c.self.view_is) (none_known h end);
       exact = λ still. moment_so c.seek-next.ensures.order (next_phase h) (next_held h) (none_same h end (c.seek-next.ensures.exact still)) ∙ ap (made g) c.self.view_is;
       device = c.seek-next.ensures.device ∙ ap (λ (e : EvacOf g.row.N.Denot g.row.D.Denot). e.book.device) c.self.view_is;
-      found = none_shown h end ∙ ap (λ (e : EvacOf g.row.N.Denot g.row.D.Denot). not (is_empty (lacking (g.N.Hand.view e.book.near) e.collection))) c.self.view_is;
+      found = none_shown h end ∙ ap (λ (e : EvacOf g.row.N.Denot g.row.D.Denot). not (is_empty (lacking (g.N.Near.view e.book.near) e.collection))) c.self.view_is;
     }
 
 pub invariant_of-self-2 : goal.invariant_of-self-2
 invariant_of-self-2 g c =
     let h = sought g (goal.at.invariant_of-self-2 g c).After-seek-next in
-    let stands = subst (λ o. IfSome o (λ (span : Span). StandsAt (g.N.Hand.view c.seek-next.new.book.near) (standing_at c.self.inside.round c.seek-next.result.0) span)) c.in-Some.is c.seek-next.ensures.next in
+    let stands = subst (λ o. IfSome o (λ (span : Span). StandsAt (g.N.Near.view c.seek-next.new.book.near) (standing_at c.self.inside.round c.seek-next.result.0) span)) c.in-Some.is c.seek-next.ensures.next in
     let m = c.mark.ensures in
-    goes_on h c.keeps_law.ensures.law c.keeps_law-2.ensures.law c.in-Some.span stands (g.N.Hand.view c.mark.new.self.near) c.mark.result m.found c.mark.type_inv m.kept c.size_of.result c.size_of.ensures
+    goes_on h c.keeps_law.ensures.law c.keeps_law-2.ensures.law c.in-Some.span stands (g.N.Near.view c.mark.new.self.near) c.mark.result m.found c.mark.type_inv m.kept c.size_of.result c.size_of.ensures
 
 pub returns : goal.returns
 returns g c =
     let h = sought g (goal.at.returns g c).After-seek-next in
-    let stands = subst (λ o. IfSome o (λ (span : Span). StandsAt (g.N.Hand.view c.seek-next.new.book.near) (standing_at c.self.inside.round c.seek-next.result.0) span)) c.in-Some.is c.seek-next.ensures.next in
+    let stands = subst (λ o. IfSome o (λ (span : Span). StandsAt (g.N.Near.view c.seek-next.new.book.near) (standing_at c.self.inside.round c.seek-next.result.0) span)) c.in-Some.is c.seek-next.ensures.next in
     let law = c.keeps_law.ensures.law in
     let then = c.keeps_law-2.ensures.law in
     let m = c.mark.ensures in
-    let u = g.N.Hand.view c.mark.new.self.near in
+    let u = g.N.Near.view c.mark.new.self.near in
     let order = m.order ∙ c.seek-next.ensures.order in
     record {
       came = since_evac c.self.view_is (then_came c.seek-next.ensures.came m.came);
@@ -63,5 +63,5 @@ returns g c =
           moment_so order (next_phase h) (next_held h) (marks_exactly h law then c.in-Some.span stands u c.mark.result m.found c.mark.type_inv m.kept (c.seek-next.ensures.exact still) (m.set still))
           ∙ ap (made g) c.self.view_is;
       device = m.device ∙ c.seek-next.ensures.device ∙ ap (λ (e : EvacOf g.row.N.Denot g.row.D.Denot). e.book.device) c.self.view_is;
-      found = some_shown h then c.in-Some.span stands ∙ ap (λ (e : EvacOf g.row.N.Denot g.row.D.Denot). not (is_empty (lacking (g.N.Hand.view e.book.near) e.collection))) c.self.view_is;
+      found = some_shown h then c.in-Some.span stands ∙ ap (λ (e : EvacOf g.row.N.Denot g.row.D.Denot). not (is_empty (lacking (g.N.Near.view e.book.near) e.collection))) c.self.view_is;
     }

@@ -8,9 +8,9 @@ use Rattle.far_evac.proofs.evac.Evac.mark_up_to.Goals as goal
 
 pub returns-then-not-mark_next : goal.returns-then-not-mark_next
 returns-then-not-mark_next g c =
-    let m = moment g.N.Hand.view c.args.self.now in
-    let a = moment g.N.Hand.view c.loop-i.self in
-    let b = moment g.N.Hand.view c.mark_next.new.self in
+    let m = moment g.N.Near.view c.args.self.now in
+    let a = moment g.N.Near.view c.loop-i.self in
+    let b = moment g.N.Near.view c.mark_next.new.self in
     let once = c.keeps_law.ensures.moment.collection_once in
     let fits = λ (q : ℕ). (c.keeps_law.ensures.law.cells.cell_read q).0 in
     let h = c.loop-i.invariant in
@@ -26,9 +26,9 @@ returns-then-not-mark_next g c =
 
 pub loop-i-preserved : goal.loop-i-preserved
 loop-i-preserved g c =
-    let m = moment g.N.Hand.view c.args.self.now in
-    let a = moment g.N.Hand.view c.loop-i.self in
-    let b = moment g.N.Hand.view c.mark_next.new.self in
+    let m = moment g.N.Near.view c.args.self.now in
+    let a = moment g.N.Near.view c.loop-i.self in
+    let b = moment g.N.Near.view c.mark_next.new.self in
     let once = c.keeps_law.ensures.moment.collection_once in
     let fits = λ (q : ℕ). (c.keeps_law.ensures.law.cells.cell_read q).0 in
     let h = c.loop-i.invariant in

@@ -8,9 +8,9 @@ use Rattle.far_evac.proofs.evac.Evac.mark_up_to.Given as goal
 
 abbrev pub invariant-loop-i : goal.invariant-loop-i
 invariant-loop-i g l = record {
-  known : KnowsMoment (record (moment g.N.Hand.view l.fn.self) { core = marked_core (moment g.N.Hand.view l.fn.self) l.i }) (moment g.N.Hand.view l.self);
-  exact : g.N.Hand.still → moment g.N.Hand.view l.self ≡ record (moment g.N.Hand.view l.fn.self) { core = marked_core (moment g.N.Hand.view l.fn.self) l.i };
+  known : KnowsMoment (record (moment g.N.Near.view l.fn.self) { core = marked_core (moment g.N.Near.view l.fn.self) l.i }) (moment g.N.Near.view l.self);
+  exact : g.N.Near.still → moment g.N.Near.view l.self ≡ record (moment g.N.Near.view l.fn.self) { core = marked_core (moment g.N.Near.view l.fn.self) l.i };
   device : l.self.book.device ≡ l.fn.self.book.device;
-  enough : l.i ≤ length (lacking (g.N.Hand.view l.fn.self.book.near) l.fn.self.collection);
-  came : Came g.N.Hand.makes l.fn.self.book.near l.self.book.near;
+  enough : l.i ≤ length (lacking (g.N.Near.view l.fn.self.book.near) l.fn.self.collection);
+  came : Came g.N.Near.makes l.fn.self.book.near l.self.book.near;
 }

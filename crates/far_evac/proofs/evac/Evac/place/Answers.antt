@@ -7,9 +7,9 @@ use Rattle.far_evac.proofs.evac.Evac.place.Goals as goal
 
 pub invariant_of-self : goal.invariant_of-self
 invariant_of-self g c =
-    let s = g.N.Hand.view c.self.inside.book.near in
-    let pointer = subst (λ (e : EvacOf g.row.N.Denot g.row.D.Denot). c.args.pointer < CELLS * (g.N.Hand.view e.book.near).mutators) (sym c.self.view_is) c.requires.pointer in
-    let free = subst (λ (e : EvacOf g.row.N.Denot g.row.D.Denot). (g.N.Hand.view e.book.near).cell c.args.pointer ≡ 0) (sym c.self.view_is) c.requires.free in
-    let none = none_then c.place-answer.result (λ (b : BookOf g.row.N.Denot g.row.D.Denot). g.N.Hand.view b.near) c.self.inside.book c.place-answer.new.self c.place-answer.ensures.unchanged in
-    object_placed s (g.N.Hand.view c.place-answer.new.self.near) c.self.inside.round c.self.invariant c.keeps_law-2.ensures.law c.args.pointer c.args.len c.args.ds c.keeps_law.ensures.law pointer free
+    let s = g.N.Near.view c.self.inside.book.near in
+    let pointer = subst (λ (e : EvacOf g.row.N.Denot g.row.D.Denot). c.args.pointer < CELLS * (g.N.Near.view e.book.near).mutators) (sym c.self.view_is) c.requires.pointer in
+    let free = subst (λ (e : EvacOf g.row.N.Denot g.row.D.Denot). (g.N.Near.view e.book.near).cell c.args.pointer ≡ 0) (sym c.self.view_is) c.requires.free in
+    let none = none_then c.place-answer.result (λ (b : BookOf g.row.N.Denot g.row.D.Denot). g.N.Near.view b.near) c.self.inside.book c.place-answer.new.self c.place-answer.ensures.unchanged in
+    object_placed s (g.N.Near.view c.place-answer.new.self.near) c.self.inside.round c.self.invariant c.keeps_law-2.ensures.law c.args.pointer c.args.len c.args.ds c.keeps_law.ensures.law pointer free
     c.requires.some c.requires.most c.ranges.ds.fits c.place-answer.result c.place-answer.ensures.room c.place-answer.ensures.kept c.place-answer.ensures.forgot none

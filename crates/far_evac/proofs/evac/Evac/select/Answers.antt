@@ -8,13 +8,13 @@ use Rattle.far_evac.proofs.Chosen.{rows_are, selected_round, some_chosen}
 pub choose-requires-clause-rows : goal.choose-requires-clause-rows
 choose-requires-clause-rows g c =
     let book = c.self.inside.book in
-    rows_are (g.N.Hand.view book.near) book.order c.keeps_law.ensures.law c.keeps_law.ensures.sealed c.keeps_law.ensures.once
+    rows_are (g.N.Near.view book.near) book.order c.keeps_law.ensures.law c.keeps_law.ensures.sealed c.keeps_law.ensures.once
     c.as_slice.result.now (c.as_slice.ensures ∙ c.log_rows-rows.ensures)
 
 pub invariant_of-self : goal.invariant_of-self
 invariant_of-self g c =
     let book = c.self.inside.book in
-    let s = g.N.Hand.view book.near in
+    let s = g.N.Near.view book.near in
     let epoch : c.shape.result.epoch ≡ s.epoch = ap (λ (shape : Shape). shape.epoch) c.shape.ensures.is in
     let other : s.epoch + 1 ≢ EPOCH_END = λ e. grind (arith, nat_tests, e, epoch, c.if-shape-eq-EPOCH_END.false) in
     selected_round s book.order c.keeps_law.ensures.law c.keeps_law.ensures.sealed c.keeps_law.ensures.once

@@ -14,7 +14,7 @@ use Rattle.far_evac.proofs.evac.Evac.settle.Goals as goal
 
 pub loop-log-init : goal.loop-log-init
 loop-log-init g c = record {
-  known = walked_same (settled (standing g.N.Hand.view c.args.self.now c.args.progress.now));
+  known = walked_same (settled (standing g.N.Near.view c.args.self.now c.args.progress.now));
   exact = λ still. refl;
   ends = c.requires.phase ∙ sym (ap (λ none. cond none phase.Idle phase.Evacuating) (c.keeps_law.ensures.moment.runs ∙ ap is_idle c.requires.phase));
   freed = refl;
@@ -28,16 +28,16 @@ returns-in-Some-first_in-clause-first g c =
     let known = c.first_in.ensures.known in
     let front = ap (λ (m : Moment). m.collection) known.rest ∙ c.in-Some.ensures.some.1 in
     let first = c.in-Some-first_in.ensures.first in
-    front_left (standing g.N.Hand.view c.first_in.new.self c.loop-log.progress) c.in-Some.log c.in-Some.ensures.some.0 front c.in-Some-first_in.span.p first.0
-    (knows_live (g.N.Hand.view c.loop-log.self.book.near) (g.N.Hand.view c.first_in.new.self.book.near) known.core c.in-Some.log ∙ first.1)
+    front_left (standing g.N.Near.view c.first_in.new.self c.loop-log.progress) c.in-Some.log c.in-Some.ensures.some.0 front c.in-Some-first_in.span.p first.0
+    (knows_live (g.N.Near.view c.loop-log.self.book.near) (g.N.Near.view c.first_in.new.self.book.near) known.core c.in-Some.log ∙ first.1)
 
 pub give_back-requires-clause-none : goal.give_back-requires-clause-none
 give_back-requires-clause-none g c =
-    knows_live (g.N.Hand.view c.loop-log.self.book.near) (g.N.Hand.view c.first_in.new.self.book.near) c.first_in.ensures.known.core c.in-Some.log ∙ c.in_default-first_in.ensures.none
+    knows_live (g.N.Near.view c.loop-log.self.book.near) (g.N.Near.view c.first_in.new.self.book.near) c.first_in.ensures.known.core c.in-Some.log ∙ c.in_default-first_in.ensures.none
 
 pub loop-log-preserved : goal.loop-log-preserved
 loop-log-preserved g c =
-    let view = g.N.Hand.view in
+    let view = g.N.Near.view in
     let e = c.loop-log.self in
     let f = c.first_in.new.self in
     let h = c.give_back.new.self in
@@ -63,7 +63,7 @@ loop-log-preserved g c =
 
 pub returns-in-Some-first_in-clause-known : goal.returns-in-Some-first_in-clause-known
 returns-in-Some-first_in-clause-known g c =
-    let view = g.N.Hand.view in
+    let view = g.N.Near.view in
     let w = standing view c.loop-log.self c.loop-log.progress in
     let t = standing view c.first_in.new.self c.loop-log.progress in
     let first = c.in-Some-first_in.ensures.first in

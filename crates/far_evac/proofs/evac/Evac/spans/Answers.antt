@@ -5,9 +5,9 @@ use Rattle.far_evac.proofs.evac.Evac.spans.Goals as goal
 
 pub invariant_of-self : goal.invariant_of-self
 invariant_of-self g c =
-    spans_read (g.N.Hand.view c.self.inside.book.near) (g.N.Hand.view c.spans-answer.new.self.near) c.self.inside.round c.self.invariant c.keeps_law.ensures.law c.spans-answer.ensures.kept c.spans-answer.ensures.headers
+    spans_read (g.N.Near.view c.self.inside.book.near) (g.N.Near.view c.spans-answer.new.self.near) c.self.inside.round c.self.invariant c.keeps_law.ensures.law c.spans-answer.ensures.kept c.spans-answer.ensures.headers
 
 pub returns-clause-headers : goal.returns-clause-headers
 returns-clause-headers g c =
-    subst (λ (e : EvacOf g.row.N.Denot g.row.D.Denot). (a : ℕ) → (g.N.Hand.view e.book.near).starts a ≡ true → (g.N.Hand.view c.spans-answer.new.self.near).word a ≡ (g.N.Hand.view e.book.near).word a)
+    subst (λ (e : EvacOf g.row.N.Denot g.row.D.Denot). (a : ℕ) → (g.N.Near.view e.book.near).starts a ≡ true → (g.N.Near.view c.spans-answer.new.self.near).word a ≡ (g.N.Near.view e.book.near).word a)
     c.self.view_is c.spans-answer.ensures.headers

@@ -10,34 +10,34 @@ use Rattle.far_evac.proofs.evac.Evac.wait.Given.{Over}
 use Rattle.far_evac.proofs.evac.Evac.wait.Goals as goal
 
 abbrev risen : (g : Over) → EvacOf g.row.N.Denot g.row.D.Denot → Moment
-risen g e = record (moment g.N.Hand.view e) { core = advanced (g.N.Hand.view e.book.near) e.collection; phase = Waiting }
+risen g e = record (moment g.N.Near.view e) { core = advanced (g.N.Near.view e.book.near) e.collection; phase = Waiting }
 
 pub advance-requires : goal.advance-requires
 advance-requires g c =
     let marks = subst (λ (e : EvacOf g.row.N.Denot g.row.D.Denot). e.phase ≡ Marking) (sym c.self.view_is) c.requires.marking in
-    let none = subst (λ (e : EvacOf g.row.N.Denot g.row.D.Denot). lacking (g.N.Hand.view e.book.near) e.collection ≡ []) (sym c.self.view_is) c.requires.none in
+    let none = subst (λ (e : EvacOf g.row.N.Denot g.row.D.Denot). lacking (g.N.Near.view e.book.near) e.collection ≡ []) (sym c.self.view_is) c.requires.none in
     record {
-      chosen = may_choose (g.N.Hand.view c.self.inside.book.near) c.self.inside.round c.self.invariant marks c.set_of.result c.set_of.ensures c.keeps_law.ensures.law none;
+      chosen = may_choose (g.N.Near.view c.self.inside.book.near) c.self.inside.round c.self.invariant marks c.set_of.result c.set_of.ensures c.keeps_law.ensures.law none;
     }
 
 pub returns-clause-known : goal.returns-clause-known
 returns-clause-known g c =
     let marks = subst (λ (e : EvacOf g.row.N.Denot g.row.D.Denot). e.phase ≡ Marking) (sym c.self.view_is) c.requires.marking in
-    let s = g.N.Hand.view c.self.inside.book.near in
+    let s = g.N.Near.view c.self.inside.book.near in
     let r = c.self.inside.round in
     knows_so c.in-Ok.ensures.order refl (waiting_held s r c.self.invariant marks c.set_of.result c.set_of.ensures) (ap (risen g) c.self.view_is)
-    (rises_known s r c.self.invariant marks c.set_of.result c.set_of.ensures (g.N.Hand.view c.advance.new.self.near) c.keeps_law-2.ensures.law c.in-Ok.ensures.kept c.in-Ok.ensures.forgot)
+    (rises_known s r c.self.invariant marks c.set_of.result c.set_of.ensures (g.N.Near.view c.advance.new.self.near) c.keeps_law-2.ensures.law c.in-Ok.ensures.kept c.in-Ok.ensures.forgot)
 
 pub returns-clause-exact : goal.returns-clause-exact
 returns-clause-exact g c still =
     let marks = subst (λ (e : EvacOf g.row.N.Denot g.row.D.Denot). e.phase ≡ Marking) (sym c.self.view_is) c.requires.marking in
-    let s = g.N.Hand.view c.self.inside.book.near in
+    let s = g.N.Near.view c.self.inside.book.near in
     let r = c.self.inside.round in
     moment_so c.in-Ok.ensures.order refl (waiting_held s r c.self.invariant marks c.set_of.result c.set_of.ensures)
-    (rises_exactly s r c.self.invariant marks c.set_of.result c.set_of.ensures (g.N.Hand.view c.advance.new.self.near) (c.in-Ok.ensures.set still)) ∙ ap (risen g) c.self.view_is
+    (rises_exactly s r c.self.invariant marks c.set_of.result c.set_of.ensures (g.N.Near.view c.advance.new.self.near) (c.in-Ok.ensures.set still)) ∙ ap (risen g) c.self.view_is
 
 pub invariant_of-self : goal.invariant_of-self
 invariant_of-self g c =
     let marks = subst (λ (e : EvacOf g.row.N.Denot g.row.D.Denot). e.phase ≡ Marking) (sym c.self.view_is) c.requires.marking in
-    waits_so (g.N.Hand.view c.self.inside.book.near) c.self.inside.round c.self.invariant marks c.set_of.result c.set_of.ensures (g.N.Hand.view c.advance.new.self.near)
+    waits_so (g.N.Near.view c.self.inside.book.near) c.self.inside.round c.self.invariant marks c.set_of.result c.set_of.ensures (g.N.Near.view c.advance.new.self.near)
     c.keeps_law-2.ensures.law c.in-Ok.ensures.kept

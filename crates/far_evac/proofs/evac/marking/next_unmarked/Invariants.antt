@@ -8,13 +8,13 @@ use Rattle.far_evac.proofs.evac.marking.next_unmarked.Given as goal
 
 abbrev pub invariant-loop-span : goal.invariant-loop-span
 invariant-loop-span g l = record {
-  known : Knows (g.N.Hand.view l.fn.book.near) (g.N.Hand.view l.book.near);
-  exact : g.N.Hand.still → g.N.Hand.view l.book.near ≡ g.N.Hand.view l.fn.book.near;
-  begins : IsBoundary (g.N.Hand.view l.book.near) l.log l.from;
-  before : MarkedBefore (g.N.Hand.view l.book.near) l.log l.from;
+  known : Knows (g.N.Near.view l.fn.book.near) (g.N.Near.view l.book.near);
+  exact : g.N.Near.still → g.N.Near.view l.book.near ≡ g.N.Near.view l.fn.book.near;
+  begins : IsBoundary (g.N.Near.view l.book.near) l.log l.from;
+  before : MarkedBefore (g.N.Near.view l.book.near) l.log l.from;
   order : l.book.order ≡ l.fn.book.order;
   device : l.book.device ≡ l.fn.book.device;
-  came : Came g.N.Hand.makes l.fn.book.near l.book.near;
+  came : Came g.N.Near.makes l.fn.book.near l.book.near;
 }
 
 abbrev pub decreases-loop-span : goal.decreases-loop-span

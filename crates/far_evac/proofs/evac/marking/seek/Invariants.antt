@@ -6,12 +6,12 @@ use Rattle.far_evac.proofs.evac.marking.seek.Given as goal
 
 abbrev pub invariant-loop-index : goal.invariant-loop-index
 invariant-loop-index g l = record {
-  known : Knows (g.N.Hand.view l.fn.book.near) (g.N.Hand.view l.book.near);
-  exact : g.N.Hand.still → g.N.Hand.view l.book.near ≡ g.N.Hand.view l.fn.book.near;
-  stands : InRound (g.N.Hand.view l.book.near) record l.round { index = l.index; at = l.at };
+  known : Knows (g.N.Near.view l.fn.book.near) (g.N.Near.view l.book.near);
+  exact : g.N.Near.still → g.N.Near.view l.book.near ≡ g.N.Near.view l.fn.book.near;
+  stands : InRound (g.N.Near.view l.book.near) record l.round { index = l.index; at = l.at };
   order : l.book.order ≡ l.fn.book.order;
   device : l.book.device ≡ l.fn.book.device;
-  came : Came g.N.Hand.makes l.fn.book.near l.book.near;
+  came : Came g.N.Near.makes l.fn.book.near l.book.near;
 }
 
 abbrev pub decreases-loop-index : goal.decreases-loop-index

@@ -14,7 +14,7 @@ use Rattle.far_evac.proofs.evac.marking.unmark_log.Goals as goal
 
 pub loop-span-init : goal.loop-span-init
 loop-span-init g c =
-    let s = g.N.Hand.view c.args.book.now.near in
+    let s = g.N.Near.view c.args.book.now.near in
     let law = c.keeps_law.ensures.law in
     record {
       done = [];
@@ -32,19 +32,19 @@ loop-span-init g c =
 pub next_live-requires-clause-log : goal.next_live-requires-clause-log
 next_live-requires-clause-log g c =
     let h = c.loop-span.invariant in
-    subst (λ n. c.args.log < n) (sym (logs_known h.done (g.N.Hand.view c.args.book.now.near) (g.N.Hand.view c.loop-span.book.near) h.known)) c.requires.log
+    subst (λ n. c.args.log < n) (sym (logs_known h.done (g.N.Near.view c.args.book.now.near) (g.N.Near.view c.loop-span.book.near) h.known)) c.requires.log
 
 pub loop-span-smaller : goal.loop-span-smaller
 loop-span-smaller g c =
-    let past = goes_past (g.N.Hand.view c.loop-span.book.near) c.loop-span.invariant.law c.args.log c.loop-span.from c.in-Some.span c.in-Some.ensures.first in
+    let past = goes_past (g.N.Near.view c.loop-span.book.near) c.loop-span.invariant.law c.args.log c.loop-span.from c.in-Some.span c.in-Some.ensures.first in
     omega (arith, past, c.size_of.ensures, c.in-Some.ensures.inside)
 
 pub loop-span-preserved : goal.loop-span-preserved
 loop-span-preserved g c =
-    let start = g.N.Hand.view c.args.book.now.near in
-    let s = g.N.Hand.view c.loop-span.book.near in
-    let t = g.N.Hand.view c.next_live.new.self.near in
-    let u = g.N.Hand.view c.clear.new.self.near in
+    let start = g.N.Near.view c.args.book.now.near in
+    let s = g.N.Near.view c.loop-span.book.near in
+    let t = g.N.Near.view c.next_live.new.self.near in
+    let u = g.N.Near.view c.clear.new.self.near in
     let l = c.args.log in
     let at = c.loop-span.from in
     let word = c.clear.result in
@@ -72,9 +72,9 @@ loop-span-preserved g c =
 
 pub returns : goal.returns
 returns g c =
-    let start = g.N.Hand.view c.args.book.now.near in
-    let s = g.N.Hand.view c.loop-span.book.near in
-    let t = g.N.Hand.view c.next_live.new.self.near in
+    let start = g.N.Near.view c.args.book.now.near in
+    let s = g.N.Near.view c.loop-span.book.near in
+    let t = g.N.Near.view c.next_live.new.self.near in
     let h = c.loop-span.invariant in
     let e = c.in_default.ensures in
     let done = all_done start s t c.args.log c.loop-span.from h.done h.parts e.none in

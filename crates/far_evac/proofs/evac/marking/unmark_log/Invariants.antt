@@ -13,15 +13,15 @@ use Rattle.far_evac.proofs.evac.marking.unmark_log.Given as goal
 abbrev pub invariant-loop-span : goal.invariant-loop-span
 invariant-loop-span g l = record {
   done : List ℕ;
-  parts : live_in (g.N.Hand.view l.fn.book.near) l.log ≡ done ++ pointers_of (live_from (g.N.Hand.view l.book.near) l.log l.from);
-  fits : (p : ℕ) → (fold unmarked (g.N.Hand.view l.fn.book.near) done).cell p < 2 ^ 64;
-  known : Knows (fold unmarked (g.N.Hand.view l.fn.book.near) done) (g.N.Hand.view l.book.near);
-  exact : g.N.Hand.still → g.N.Hand.view l.book.near ≡ fold unmarked (g.N.Hand.view l.fn.book.near) done;
-  begins : IsBoundary (g.N.Hand.view l.book.near) l.log l.from;
-  law : Law (own_part (g.N.Hand.view l.book.near));
+  parts : live_in (g.N.Near.view l.fn.book.near) l.log ≡ done ++ pointers_of (live_from (g.N.Near.view l.book.near) l.log l.from);
+  fits : (p : ℕ) → (fold unmarked (g.N.Near.view l.fn.book.near) done).cell p < 2 ^ 64;
+  known : Knows (fold unmarked (g.N.Near.view l.fn.book.near) done) (g.N.Near.view l.book.near);
+  exact : g.N.Near.still → g.N.Near.view l.book.near ≡ fold unmarked (g.N.Near.view l.fn.book.near) done;
+  begins : IsBoundary (g.N.Near.view l.book.near) l.log l.from;
+  law : Law (own_part (g.N.Near.view l.book.near));
   order : l.book.order ≡ l.fn.book.order;
   device : l.book.device ≡ l.fn.book.device;
-  came : Came g.N.Hand.makes l.fn.book.near l.book.near;
+  came : Came g.N.Near.makes l.fn.book.near l.book.near;
 }
 
 abbrev pub decreases-loop-span : goal.decreases-loop-span

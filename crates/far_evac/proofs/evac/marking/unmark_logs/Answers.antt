@@ -11,7 +11,7 @@ use Rattle.far_evac.proofs.evac.marking.unmark_logs.Goals as goal
 
 pub unmark_log-requires : goal.unmark_log-requires
 unmark_log-requires g c =
-    let start = g.N.Hand.view c.args.book.now.near in
+    let start = g.N.Near.view c.args.book.now.near in
     let i = c.loop-log.log-index in
     let xs = drop c.args.first c.args.chosen.now in
     let ys = take (length c.as_slice.result.now - c.args.first) (drop c.args.first c.as_slice.result.now) in
@@ -19,14 +19,14 @@ unmark_log-requires g c =
     let front = front_is xs ys i (length ys) same (ap length same) c.loop-log-test.true in
     let below = c.requires.logs (slice_index_or ys i 0) (dropped_among xs i (slice_index_or ys i 0) (drop (i + 1) xs) front) in
     record {
-      log = subst (λ n. slice_index_or ys i 0 < n) (sym (logs_known (live_among start (take i xs)) start (g.N.Hand.view c.loop-log.book.near) c.loop-log.invariant.known)) below;
+      log = subst (λ n. slice_index_or ys i 0 < n) (sym (logs_known (live_among start (take i xs)) start (g.N.Near.view c.loop-log.book.near) c.loop-log.invariant.known)) below;
     }
 
 pub loop-log-preserved : goal.loop-log-preserved
 loop-log-preserved g c =
-    let start = g.N.Hand.view c.args.book.now.near in
-    let t = g.N.Hand.view c.loop-log.book.near in
-    let u = g.N.Hand.view c.unmark_log.new.book.near in
+    let start = g.N.Near.view c.args.book.now.near in
+    let t = g.N.Near.view c.loop-log.book.near in
+    let u = g.N.Near.view c.unmark_log.new.book.near in
     let i = c.loop-log.log-index in
     let xs = drop c.args.first c.args.chosen.now in
     let ys = take (length c.as_slice.result.now - c.args.first) (drop c.args.first c.as_slice.result.now) in

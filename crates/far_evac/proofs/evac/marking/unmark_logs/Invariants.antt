@@ -8,9 +8,9 @@ use Rattle.far_evac.proofs.evac.marking.unmark_logs.Given as goal
 
 abbrev pub invariant-loop-log : goal.invariant-loop-log
 invariant-loop-log g l = record {
-  known : Knows (fold unmarked (g.N.Hand.view l.fn.book.near) (live_among (g.N.Hand.view l.fn.book.near) (take l.log-index (drop l.first l.chosen)))) (g.N.Hand.view l.book.near);
-  exact : g.N.Hand.still → g.N.Hand.view l.book.near ≡ fold unmarked (g.N.Hand.view l.fn.book.near) (live_among (g.N.Hand.view l.fn.book.near) (take l.log-index (drop l.first l.chosen)));
+  known : Knows (fold unmarked (g.N.Near.view l.fn.book.near) (live_among (g.N.Near.view l.fn.book.near) (take l.log-index (drop l.first l.chosen)))) (g.N.Near.view l.book.near);
+  exact : g.N.Near.still → g.N.Near.view l.book.near ≡ fold unmarked (g.N.Near.view l.fn.book.near) (live_among (g.N.Near.view l.fn.book.near) (take l.log-index (drop l.first l.chosen)));
   order : l.book.order ≡ l.fn.book.order;
   device : l.book.device ≡ l.fn.book.device;
-  came : Came g.N.Hand.makes l.fn.book.near l.book.near;
+  came : Came g.N.Near.makes l.fn.book.near l.book.near;
 }

@@ -10,7 +10,7 @@ use Rattle.far_evac.proofs.Looks.{found_clear, found_open, none_more, one_looked
 
 pub returns-in-Some-clause-exact : goal.returns-in-Some-clause-exact
 returns-in-Some-clause-exact g c still =
-    let s = g.N.Hand.view c.args.book.now.near in
+    let s = g.N.Near.view c.args.book.now.near in
     let h = c.loop-owner.invariant in
     let epoch : c.shape-shape.result.epoch ≡ s.round_epoch = ap (λ (shape : Shape). shape.epoch) c.shape-shape.ensures.is ∙ sym c.keeps_law.ensures.law.rounds.own_epoch in
     let most : c.shape-shape.result.mutators ≡ s.mutators = ap (λ (shape : Shape). shape.mutators) c.shape-shape.ensures.is in
@@ -21,7 +21,7 @@ returns-in-Some-clause-exact g c still =
 
 pub loop-owner-preserved : goal.loop-owner-preserved
 loop-owner-preserved g c =
-    let s = g.N.Hand.view c.args.book.now.near in
+    let s = g.N.Near.view c.args.book.now.near in
     let h = c.loop-owner.invariant in
     let epoch : c.shape-shape.result.epoch ≡ s.round_epoch = ap (λ (shape : Shape). shape.epoch) c.shape-shape.ensures.is ∙ sym c.keeps_law.ensures.law.rounds.own_epoch in
     let shows = ap (λ e. shows_clear e (scope_of c.look-word.result)) (sym epoch) ∙ c.in_default.ensures.clear in
@@ -37,13 +37,13 @@ loop-owner-preserved g c =
 
 pub returns-clause-exact : goal.returns-clause-exact
 returns-clause-exact g c still =
-    let s = g.N.Hand.view c.args.book.now.near in
+    let s = g.N.Near.view c.args.book.now.near in
     let most : c.shape-shape.result.mutators ≡ s.mutators = ap (λ (shape : Shape). shape.mutators) c.shape-shape.ensures.is in
     found_clear s c.loop-owner.owner (omega (arith, most, c.loop-owner-test.false)) (c.loop-owner.invariant.exact still)
 
 pub returns-in-Some-clause-saw : goal.returns-in-Some-clause-saw
 returns-in-Some-clause-saw g c =
-    subst (λ w. ∥ ((x : State) × g.N.Hand.may_be c.look-word.new.self.near x × (x.scope c.loop-owner.owner ≡ w)) ∥₁) c.in-Some.ensures.odd c.look-word.ensures.saw
+    subst (λ w. ∥ ((x : State) × g.N.Near.may_be c.look-word.new.self.near x × (x.scope c.loop-owner.owner ≡ w)) ∥₁) c.in-Some.ensures.odd c.look-word.ensures.saw
 
 pub returns-in-Some-clause-looks : goal.returns-in-Some-clause-looks
 returns-in-Some-clause-looks g c = then_call _ _ c.loop-owner.invariant.looks ((c.loop-owner.owner, refl), c.look-word.ensures.made)

@@ -1,6 +1,6 @@
 use Rattle.std.proofs.Common.{◌++◌, ◌∷◌, [], ◌∙◌, ◌≡◌, ap, arith, length, length-append, map, subst, sym}
 use Rattle.far_split.specs.Kept.{AreKept, reply_in}
-use Rattle.far_replay.specs.Reply.{Data}
+use Rattle.far_reply.specs.Reply.{Data}
 use Rattle.far_split.specs.declared.replies.Kept.{Kept}
 use Rattle.far_split.specs.declared.replies.Kept.TheVariants as kept
 use Rattle.far_split.proofs.Keeping.{Grows, kept_more, last_part, reply_more, stays}

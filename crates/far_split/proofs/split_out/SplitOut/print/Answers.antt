@@ -1,7 +1,7 @@
 use Rattle.std.proofs.Common.{[], ◌++◌, Err, Ok, codes, subst, sym, ◌∙◌, ap, ◌≡◌, refl}
 use Rattle.std.specs.List.{flat_map}
-use Rattle.far_replay.specs.Reply.{reply_text, refusal_text}
-use Rattle.far_replay.specs.Stream.{Writes}
+use Rattle.far_reply.specs.Reply.{reply_text, refusal_text}
+use Rattle.far_reply.specs.Stream.{Writes}
 use Rattle.far_split.specs.Joined.{as_joined}
 use Rattle.far_split.specs.Printed.{parts_text, split_text}
 use Rattle.far_split.specs.Prints.{Prints}

@@ -1,6 +1,6 @@
 use Rattle.std.proofs.Common.{◌≡◌, subst, [], List}
 use Rattle.std.specs.Prelude.{IsTrue, ◌↔◌}
-use Rattle.far_replay.specs.declared.reply.LogLine.{LogLine}
+use Rattle.far_reply.specs.declared.reply.LogLine.{LogLine}
 use Rattle.far_split.proofs.Keeping.{none_told}
 use Rattle.far_split.proofs.told.LogLines.is_empty.Goals as goal
 

@@ -1,4 +1,0 @@
-use Rattle.far_heap_bench.proofs.done.Given as goal
-
-abbrev pub ghosts-sum_of : goal.ghosts-sum_of
-ghosts-sum_of g a = record { heap = a.blank.heap }

@@ -1,4 +1,0 @@
-use Rattle.far_heap_soak.proofs.soak.Given as goal
-
-abbrev pub ghosts-beside : goal.ghosts-beside
-ghosts-beside g a = record { heap = a.blank.heap }

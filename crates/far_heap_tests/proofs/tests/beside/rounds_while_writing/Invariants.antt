@@ -1,4 +1,0 @@
-use Rattle.far_heap_tests.proofs.tests.beside.rounds_while_writing.Given as goal
-
-abbrev pub ghosts-made_beside : goal.ghosts-made_beside
-ghosts-made_beside g a = record { heap = a.blank.heap }

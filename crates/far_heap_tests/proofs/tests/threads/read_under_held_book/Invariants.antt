@@ -1,4 +1,0 @@
-use Rattle.far_heap_tests.proofs.tests.threads.read_under_held_book.Given as goal
-
-abbrev pub ghosts-held_book : goal.ghosts-held_book
-ghosts-held_book g a = record { heap = a.blank.heap }

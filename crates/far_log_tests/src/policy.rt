@@ -1,5 +1,0 @@
-//! Policies of other kinds, what a caller can say of any of them, and worked values of the three.
-
-mod any;
-mod own;
-mod values;

@@ -1,5 +1,0 @@
-use Rattle.far_owner.specs.Fits.{Fresh}
-use Rattle.far_owner.proofs.heap.owners_of.Given as goal
-
-abbrev pub invariant-loop : goal.invariant-loop
-invariant-loop l = Fresh l.seats.items

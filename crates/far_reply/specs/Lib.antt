@@ -1,0 +1,3 @@
+pub mod Reply
+pub mod ReplyWords
+pub mod Stream

@@ -1,0 +1,289 @@
+//! Objects that go far: what the device is given, what is left, what is refused, and what owners do between two steps.
+
+ghost use Rattle.std.specs.Prelude.{◌<◌, ◌≤◌};
+ghost use Rattle.far_word.specs.declared.sizes.TheConstants.{LONGEST};
+
+use crate::tests::books::{
+    DROP, HOT, MOVE, NO_MARKS, SMALL, beset, events_after, has, home, is_so_of, line, mark_sealed,
+    marks_first, opened, opened_over, place_next, shown,
+};
+use crate::tests::devices::{Picky, Starved, shown_device};
+use crate::tests::moving::moves_to;
+use far_book::{Book, Near, Home, Plain};
+use far_core::{Event, Kind, Reply};
+use far_device::{Device, MemDevice};
+use far_log::LogRow;
+use far_word::{LONGEST, Marks, Place, Refused, words_for};
+use std::alloc::AllocError;
+
+/// The cell of pointer 0, an object of 8 bytes of data structure 1 at the start of log 0: with EVAC and MOVE, and far.
+const LEAVING: u64 = 0xb400_0000_0001_0008;
+
+const FAR: u64 = 0x0400_0000_0001_0008;
+
+/// The bytes 1 to 8 in a word.
+const COUNTED: u64 = 0x0807_0605_0403_0201;
+
+// Evicts an object that is seen to have EVAC and MOVE; `None` where the pointer names none.
+#[tactic(auto, using(crate::proofs::Uses::quiet_home, crate::proofs::Uses::evac_home))]
+pub(super) fn evict_asked<N: Near + Drop, D: Device + Drop>(
+    book: &mut Book<N, D>,
+    pointer: u16,
+) -> Option<Result<bool, Refused>> {
+    if pointer as u64 >= 128 * book.shape().mutators {
+        return None;
+    }
+    let Some(Home::Near { marks, .. }) = book.locate(pointer) else {
+        return None;
+    };
+    if !marks.evac || !marks.moved {
+        return None;
+    }
+    Some(book.evict(pointer))
+}
+
+// Log 0 is sealed, and has these bytes.
+fn sealed(live: u16, dead: u16, unused: u16) -> Option<(Kind, LogRow)> {
+    line(Kind::Sealed, 0, live, dead, unused)
+}
+
+// Byte k is k % 8 + 1.
+fn counted_bytes(rt: &HostRuntime, len: u16) -> Result<Vec<u8>, AllocError> {
+    let mut bytes = Vec::new(rt.alloc());
+    for k in 0..len {
+        bytes.push((k % 8 + 1) as u8)?;
+    }
+    Ok(bytes)
+}
+
+// Word i of such bytes.
+fn counted_word(len: u16, i: u16) -> u64 {
+    let left = len.saturating_sub(i.saturating_mul(8));
+    if left >= 8 {
+        COUNTED
+    } else {
+        COUNTED % (1 << (8 * left))
+    }
+}
+
+// Mutator 0 stores such bytes into its pointer 0.
+pub(super) fn store_counted<D: Device + Drop>(book: &mut Book<Plain, D>, len: u16) {
+    let (owner, pointer) = (0, 0);
+    book.owner(Event::ReadEpoch { owner });
+    book.owner(Event::Open { owner });
+    book.owner(Event::Adopt { owner, pointer });
+    book.owner(Event::Pin { owner, pointer });
+    for index in 0..words_for(len) {
+        let word = counted_word(len, index);
+        book.owner(Event::Store {
+            owner,
+            pointer,
+            index,
+            word,
+        });
+    }
+    book.owner(Event::Close { owner });
+}
+
+// Whether mutator 0 loads such bytes from its pointer 0, in a scope of its own.
+pub(super) fn loads_counted<D: Device + Drop>(book: &mut Book<Plain, D>, len: u16) -> bool {
+    let (owner, pointer) = (0, 0);
+    book.owner(Event::ReadEpoch { owner });
+    book.owner(Event::Open { owner });
+    book.owner(Event::Pin { owner, pointer });
+    for index in 0..words_for(len) {
+        let load = Event::Load {
+            owner,
+            pointer,
+            index,
+        };
+        if book.owner(load) != Reply::Word(counted_word(len, index)) {
+            return false;
+        }
+    }
+    book.owner(Event::Close { owner }) == Reply::Done
+}
+
+// Whether pointer 0 is an object of such bytes in log 0, which is sealed, and has EVAC and MOVE.
+pub(super) fn leaves<D: Device + Drop>(book: &mut Book<Plain, D>, len: u16) -> bool
+    requires some { 0 < len }
+    requires most { len ≤ LONGEST }
+{
+    let placed = place_next(book, len, 1).is_ok();
+    store_counted(book, len);
+    let sealed = place_next(book, 1016, 1).is_ok();
+    mark_sealed(book, 0);
+    book.owner(MOVE);
+    placed && sealed
+}
+
+// Whether an object that is asked to leave goes far.
+pub(super) fn goes<N: Near + Drop, D: Device + Drop>(book: &mut Book<N, D>, pointer: u16) -> bool {
+    evict_asked(book, pointer) == Some(Ok(true))
+}
+
+// A book over a device that takes so many bytes alone.
+fn opened_over_picky(rt: &HostRuntime, taken: u16) -> Result<Book<Plain, Picky>, Refused> {
+    let Ok(wanted) = counted_bytes(rt, taken) else {
+        return Err(Refused::Memory);
+    };
+    let device = Picky {
+        inner: MemDevice::new(rt.alloc()),
+        wanted,
+        faults: 0,
+    };
+    opened_over(rt, SMALL, device)
+}
+
+// Whether an object of so many bytes goes far, and its log has its span of so many bytes, live before and dead after.
+fn goes_far(book: &mut Book<Plain, Picky>, len: u16, size: u16) -> bool
+    requires some { 0 < len }
+    requires most { len ≤ LONGEST }
+{
+    let rest = 1024u16.saturating_sub(size);
+    leaves(book, len)
+        && has(book, 0, sealed(size, 0, rest))
+        && goes(book, 0)
+        && book.core().cell(0) == FAR - 8 + len as u64
+        && has(book, 0, sealed(0, size, rest))
+        && evict_asked(book, 0).is_none()
+}
+
+#[test]
+fn the_device_is_given_the_bytes(rt: HostRuntime) {
+    assert!(rt; is_so_of(opened_over_picky(&rt, 1), |book| goes_far(book, 1, 16)));
+    assert!(rt; is_so_of(opened_over_picky(&rt, 7), |book| goes_far(book, 7, 16)));
+    assert!(rt; is_so_of(opened_over_picky(&rt, 8), |book| goes_far(book, 8, 16)));
+    assert!(rt; is_so_of(opened_over_picky(&rt, 9), |book| goes_far(book, 9, 24)));
+    assert!(rt; is_so_of(opened_over_picky(&rt, 16), |book| goes_far(book, 16, 24)));
+    assert!(rt;
+        is_so_of(
+            opened_over_picky(&rt, 1016),
+            |book| goes_far(book, 1016, 1024)
+        )
+    );
+}
+
+// Whether an eviction of an object of 8 bytes is refused so, and leaves it and its log as they were.
+fn refuses_leaving<D: Device + Drop>(book: &mut Book<Plain, D>, why: Refused) -> bool {
+    leaves(book, 8)
+        && evict_asked(book, 0) == Some(Err(why))
+        && has(book, 0, sealed(16, 0, 1008))
+        && book.core().cell(0) == LEAVING | 1 << 62
+}
+
+// Alone against an eviction that failed and goes far all the same, or takes a failure for want of memory.
+#[test]
+fn a_refused_eviction_leaves_the_object(rt: HostRuntime) {
+    assert!(rt;
+        is_so_of(opened_over(&rt, SMALL, Starved {}), |book| {
+            refuses_leaving(book, Refused::Memory)
+        })
+    );
+    assert!(rt;
+        is_so_of(opened_over_picky(&rt, 7), |book| {
+            refuses_leaving(book, Refused::Device)
+                && moves_to(book, 0, Place { log: 2, at: 0 })
+                && loads_counted(book, 8)
+        })
+    );
+}
+
+/// What an eviction answers, where the object is then, whether the device holds bytes of it, and what its log has.
+type Beside = (
+    Option<Result<bool, Refused>>,
+    Option<Home>,
+    bool,
+    Option<(Kind, LogRow)>,
+);
+
+// An object of one word with EVAC and MOVE is evicted while its owner makes these events, one before each step of the book from
+// one on, of which there are three: a look at the cell, a word that is read, the naming.
+fn evicted_beside(rt: &HostRuntime, step: u8, then: &[Event]) -> Result<Beside, Refused> {
+    let Ok(made) = shown_device(rt, MemDevice::new(rt.alloc())) else {
+        return Err(Refused::Memory);
+    };
+    let (device, holds) = made;
+    // The second object takes 129 steps, its marking two, and the cell is looked at once before the eviction.
+    let Ok(events) = events_after(rt, 130u8.saturating_add(step), then) else {
+        return Err(Refused::Memory);
+    };
+    let mut book = beset(rt, events, device)?;
+    marks_first(&mut book);
+    let evicted = evict_asked(&mut book, 0);
+    Ok((evicted, home(&mut book, 0), holds.get(), shown(&book, 0)))
+}
+
+// So it is where it has gone far.
+fn is_far(marks: Marks) -> Beside {
+    (
+        Some(Ok(true)),
+        Some(Home::Far { marks }),
+        true,
+        sealed(0, 16, 1008),
+    )
+}
+
+// And so where it was retired.
+fn is_retired() -> Beside {
+    (Some(Ok(false)), None, false, sealed(0, 16, 1008))
+}
+
+// Whether it has gone far, without a mark or with these, where its owner makes these events, the first before the step of this
+// number, from 0 on.
+fn leaves_beside(rt: &HostRuntime, step: u8, then: &[Event], marks: Marks) -> bool {
+    evicted_beside(rt, step, then) == Ok(is_far(marks))
+}
+
+// Whether it was retired.
+fn retires_beside(rt: &HostRuntime, step: u8, then: &[Event]) -> bool {
+    evicted_beside(rt, step, then) == Ok(is_retired())
+}
+
+// Alone against an eviction that tries its naming once.
+#[test]
+fn an_eviction_finds_hot_at_any_step(rt: HostRuntime) {
+    assert!(rt; leaves_beside(&rt, 0, &[], NO_MARKS));
+    assert!(rt; leaves_beside(&rt, 0, &[HOT], NO_MARKS));
+    assert!(rt; leaves_beside(&rt, 1, &[HOT], NO_MARKS));
+    // A second try.
+    assert!(rt; leaves_beside(&rt, 2, &[HOT], NO_MARKS));
+    // It came after all.
+    let hot = Marks {
+        hot: true,
+        ..NO_MARKS
+    };
+    assert!(rt; leaves_beside(&rt, 3, &[HOT], hot));
+}
+
+// Alone against an eviction that sends a dropped object far, retires nothing where it finds the DROP late, or leaves its bytes.
+#[test]
+fn an_eviction_finds_a_drop_at_any_step(rt: HostRuntime) {
+    assert!(rt; retires_beside(&rt, 0, &[DROP]));
+    // The device holds the bytes when the naming finds the DROP, and forgets them.
+    assert!(rt; retires_beside(&rt, 1, &[DROP]));
+    assert!(rt; retires_beside(&rt, 2, &[DROP]));
+    // At the second try, so the third is the retiring's.
+    assert!(rt; retires_beside(&rt, 2, &[HOT, DROP]));
+    // It came after all.
+    let dropped = Marks {
+        dropped: true,
+        ..NO_MARKS
+    };
+    assert!(rt; leaves_beside(&rt, 3, &[DROP], dropped));
+}
+
+// Whether an object that is dropped before it leaves is retired instead.
+fn leaves_dropped(book: &mut Book<Plain, MemDevice>) -> bool {
+    let asked = leaves(book, 8);
+    book.owner(DROP);
+    asked
+        && evict_asked(book, 0) == Some(Ok(false))
+        && book.core().cell(0) == 0
+        && has(book, 0, sealed(0, 16, 1008))
+}
+
+#[test]
+fn a_dropped_object_is_retired(rt: HostRuntime) {
+    assert!(rt; is_so_of(opened(&rt, SMALL), leaves_dropped));
+}

@@ -1,0 +1,78 @@
+//! Runs of texts, and what they print.
+
+use far_reply::Output;
+use far_split::{Gate, SplitFault, run_split};
+use std::alloc::{AllocError, Global};
+use std::sync::Wait;
+use std::thread::Threads;
+
+/// What a run of the text prints. `None` where it doesn't come to its end.
+pub(super) fn printed<R: Threads + Wait + Sync, G: Gate>(
+    rt: &R,
+    alloc: Global,
+    text: &str,
+    gate: &G,
+) -> Option<Vec<u8>> {
+    let Ok(mut buffer) = Output::new(alloc) else {
+        return None;
+    };
+    let Ok(told) = run_split(alloc, rt, text.as_bytes(), gate) else {
+        return None;
+    };
+    let mut written = Vec::new(alloc);
+    match told.print(&mut buffer, &mut written) {
+        Ok(()) => Some(written),
+        Err(_) => None,
+    }
+}
+
+/// Whether a run of the text prints this.
+pub(super) fn prints<R: Threads + Wait + Sync, G: Gate>(
+    rt: &R,
+    alloc: Global,
+    text: &str,
+    gate: &G,
+    wanted: &str,
+) -> bool {
+    match printed(rt, alloc, text, gate) {
+        Some(written) => written.as_slice() == wanted.as_bytes(),
+        None => false,
+    }
+}
+
+/// Whether a run of the text ends since the gate said no to a thread, and names that one.
+pub(super) fn is_stopped<R: Threads + Wait + Sync, G: Gate>(
+    rt: &R,
+    alloc: Global,
+    text: &str,
+    gate: &G,
+    thread: u8,
+) -> bool {
+    matches!(run_split(alloc, rt, text.as_bytes(), gate), Err(SplitFault::Gate(who)) if who == thread)
+}
+
+/// A talk has commands, and after each the lines of its reply, two spaces in: its commands.
+pub(super) fn commands(alloc: Global, talk: &str) -> Result<String, AllocError> {
+    let mut text = String::new(alloc);
+    for line in talk.lines() {
+        if !line.starts_with("  ") {
+            text.push_str(line)?;
+            text.push('\n')?;
+        }
+    }
+    Ok(text)
+}
+
+/// What a mutator's heading and the replies of a talk are printed as.
+pub(super) fn replies(alloc: Global, heading: &str, talk: &str) -> Result<String, AllocError> {
+    let mut text = String::new(alloc);
+    text.push_str(heading)?;
+    text.push('\n')?;
+    for line in talk.lines() {
+        if let Some(reply) = line.strip_prefix("  ") {
+            text.push_str(reply)?;
+            text.push('\n')?;
+        }
+    }
+    Ok(text)
+}

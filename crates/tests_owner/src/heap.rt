@@ -1,0 +1,60 @@
+//! A heap whose words are shared from the start.
+
+ghost use Rattle.tests_owner.specs.Fits.{Fresh};
+
+use crate::owner::Owner;
+use far_book::Book;
+use far_core::{Core, Shape};
+use far_device::MemDevice;
+use far_table::{BookSeat, MutSeat, share};
+use far_word::Refused;
+use std::alloc::{AllocError, Global};
+use std::snapshot::Snapshot;
+
+/// The book of a new heap over its seat, and its owners, the last first.
+pub type Shared = (Book<BookSeat<MemDevice>, MemDevice>, Vec<Owner<MemDevice>>);
+
+// The owner of the last of the seats that are left.
+fn last_of(
+    alloc: Global,
+    seats: &mut Vec<MutSeat<MemDevice>>,
+) -> Result<Option<Owner<MemDevice>>, AllocError>
+    requires { Fresh seats.old.items }
+    ensures { Fresh seats.new.items }
+{
+    let Some(seat) = seats.pop() else {
+        return Ok(None);
+    };
+    let number = seats.len() as u8;
+    let owner = Owner::new(alloc, seat, number)?;
+    Ok(Some(owner))
+}
+
+// The owners of these seats.
+fn owners_of(
+    alloc: Global,
+    mut seats: Vec<MutSeat<MemDevice>>,
+) -> Result<Vec<Owner<MemDevice>>, AllocError>
+    requires { Fresh seats.items }
+{
+    let mut owners = Vec::new(alloc);
+    for _ in 0..seats.len() {
+        if let Some(owner) = last_of(alloc, &mut seats)? {
+            owners.push(owner)?;
+        }
+    }
+    Ok(owners)
+}
+
+/// Makes a new heap on shared words. Refused [`Refused::Shape`], and [`Refused::Memory`].
+#[tactic(auto, using(crate::proofs::Fitting::seat_start, crate::proofs::Fitting::fresh_seats))]
+pub fn shared(alloc: Global, shape: Shape) -> Result<Shared, Refused> {
+    let device = MemDevice::new(alloc);
+    let core = Core::new(alloc, shape, true)?;
+    let (seat, seats) = share(alloc, core, Snapshot::of(&device))?;
+    let Ok(owners) = owners_of(alloc, seats) else {
+        return Err(Refused::Memory);
+    };
+    let book = Book::new(alloc, seat, device)?;
+    Ok((book, owners))
+}
