@@ -21,6 +21,9 @@ use far_log::LogRow;
 use far_word::{CELLS, LOG_WORDS, Place, PtrWord, size_of};
 use std::alloc::{AllocError, Global};
 
+// Of a mutator's free cells: so many sets, of 64 cells each.
+pub(crate) const SETS: usize = CELLS as usize / 64;
+
 /// What one log has.
 #[derive(Clone, Copy, Debug, PartialEq, Eq)]
 pub(crate) struct Filled {
@@ -40,7 +43,7 @@ pub(crate) struct Ledger {
     pub(crate) filled: Vec<Filled>,
     /// The sealed logs, oldest first.
     pub(crate) order: Vec<u8>,
-    /// The free cells: two sets a mutator, of its first and of its last 64 cells.
+    /// The free cells, [`SETS`] sets a mutator.
     pub(crate) free_cells: Vec<NumberSet>,
 }
 
@@ -52,7 +55,7 @@ impl Ledger {
         ensures order { IfOk result (λ ledger. ledger.order.items ≡ []) }
     {
         let logs = shape.logs as usize;
-        let cells = 2 * shape.mutators as usize;
+        let sets = SETS * shape.mutators as usize;
         let mut free_logs = NumberSet::below(shape.logs as u8);
         free_logs.remove(0);
         Ok(Ledger {
@@ -60,7 +63,7 @@ impl Ledger {
             free_logs,
             filled: vec![in alloc; Filled { tail: 0, live: 0 }; logs]?,
             order: Vec::with_capacity(alloc, logs)?,
-            free_cells: vec![in alloc; NumberSet::below(64); cells]?,
+            free_cells: vec![in alloc; NumberSet::below(64); sets]?,
         })
     }
 
@@ -152,13 +155,13 @@ impl Ledger {
         requires known { (s : State) × Notes s self.now × (owner < s.mutators) }
         ensures { (s : State) → Notes s self.now → owner < s.mutators → IsLowestFree s owner result }
     {
-        let first = 2 * owner as usize;
-        let cells = owner as u16 * CELLS;
-        if let Some(cell) = self.free_cells[first].lowest() {
-            return Some(cells + cell as u16);
+        for i in 0..SETS {
+            let set = SETS * owner as usize + i;
+            if let Some(cell) = self.free_cells[set].lowest() {
+                return Some(64 * set as u16 + cell as u16);
+            }
         }
-        let cell = self.free_cells[first + 1].lowest()?;
-        Some(cells + 64 + cell as u16)
+        None
     }
 
     /// A span of so many words is taken at a place, for a pointer that had none: its cell isn't free from then on.

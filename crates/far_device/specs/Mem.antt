@@ -7,10 +7,11 @@ use Rattle.far_device.specs.Row.{bytes_in}
 use Rattle.far_device.specs.declared.fault.DeviceFault.{DeviceFault}
 use Rattle.far_device.specs.declared.fault.DeviceFault.TheVariants.{Memory, Device}
 use Rattle.far_device.specs.declared.mem.MemDevice.{MemDevice}
+use Rattle.far_device.specs.declared.mem.TheConstants.{ROW}
 
 -- the bytes under a key
 abbrev pub bytes_at : MemDevice → ℕ → Option (List ℕ)
-bytes_at d id = if nat_lt id 1024 then bytes_in d.row id else option_map (λ bytes. bytes.items) (get nat_eq d.others id)
+bytes_at d id = if nat_lt id ROW then bytes_in d.row id else option_map (λ bytes. bytes.items) (get nat_eq d.others id)
 
 -- how many reads of nothing there were, modulo 2^64
 abbrev pub faults_of : MemDevice → ℕ

@@ -4,6 +4,7 @@ ghost use Rattle.std.specs.Prelude.{ℕ, ◌≡◌, ◌+◌, ◌%◌, ◌^◌, �
 ghost use Rattle.std.specs.Vec.{vec_capacity, vec_len};
 ghost use Rattle.far_device.specs.Contents.{KeepsOthers};
 ghost use Rattle.far_device.specs.Row.{bytes_in};
+ghost use Rattle.far_device.specs.declared.mem.TheConstants.{ROW};
 ghost use Rattle.far_device.specs.declared.fault.DeviceFault.TheVariants.{Memory, Device as Failed};
 
 use crate::device::Device;
@@ -14,7 +15,7 @@ use std::collections::HashMap;
 use std::collections::hash_map::Entry;
 
 /// Keys below this one, as the numbers of a heap's pointers are, stand in a row, where each is found by its number.
-const ROW: u32 = 1024;
+pub(crate) const ROW: u32 = 1024;
 
 /// A device in memory. It is honest, and its one fault is a read of a key under which nothing is.
 #[derive(Debug, Drop)]
@@ -59,7 +60,7 @@ impl MemDevice {
     // Puts bytes under a key that stands in the row.
     #[inline(always)]
     fn write_row(&mut self, id: usize, bytes: &[u8]) -> Result<(), DeviceFault>
-        requires { id < 1024 }
+        requires { id < ROW }
         ensures set { OnOk result (bytes_at self.new id ≡ Some bytes.now) }
         ensures others { KeepsOthers (bytes_at self.old) (bytes_at self.new) id }
         ensures refused { IfErr result (λ why. why ≡ Memory) }
@@ -78,7 +79,7 @@ impl MemDevice {
     // Puts bytes under any other key.
     #[inline(never)]
     fn write_other(&mut self, id: u32, bytes: &[u8]) -> Result<(), DeviceFault>
-        requires { 1024 ≤ id }
+        requires { ROW ≤ id }
         ensures set { OnOk result (bytes_at self.new id ≡ Some bytes.now) }
         ensures others { KeepsOthers (bytes_at self.old) (bytes_at self.new) id }
         ensures refused { IfErr result (λ why. why ≡ Memory) }
@@ -105,7 +106,7 @@ impl MemDevice {
     // Takes a key away that doesn't stand in the row.
     #[inline(never)]
     fn let_go_other(&mut self, id: u32)
-        requires { 1024 ≤ id }
+        requires { ROW ≤ id }
         ensures gone { bytes_at self.new id ≡ None }
         ensures others { KeepsOthers (bytes_at self.old) (bytes_at self.new) id }
         ensures faults { faults_of self.new ≡ faults_of self.old }
@@ -221,7 +222,7 @@ impl Device for MemDevice {
 #[inline(never)]
 #[tactic(auto, using(crate::proofs::Rows::longer))]
 fn lengthen(row: &mut Vec<Slot>, alloc: Global, id: usize) -> bool
-    requires { id < 1024 }
+    requires { id < ROW }
     ensures long { IsTrue result → id < vec_len row.new }
     ensures same { (k : ℕ) → bytes_in row.new k ≡ bytes_in row.old k }
 {

@@ -3,6 +3,7 @@ use Rattle.std.specs.Prelude.{◌≡◌, ◌≢◌, ℕ, ◌+◌, ◌<◌, ◌==
 use Rattle.std.specs.List.{AllByRecursion, IsDistinct, range_with_len, sum_by}
 use Rattle.far_word.specs.declared.pointer.PtrWord.{PtrWord}
 use Rattle.far_word.specs.declared.pointer.PtrWord.TheVariants.{Free, Near, Far}
+use Rattle.far_word.specs.declared.sizes.TheConstants.{LOG_BYTES}
 use Rattle.far_word.specs.Pointer.{read_of}
 use Rattle.far_word.specs.Sizes.{bytes_taken}
 use Rattle.far_core.specs.declared.event.Kind.TheVariants as kinds
@@ -79,7 +80,7 @@ pub record IsBack (s t : State) (objects : List ℕ) (l : ℕ) : Type 0 where
   pub left : live_bytes s l ≡ bytes_in s l objects
   pub live : live_bytes t l ≡ bytes_in t l objects
   pub dead : dead_bytes t l ≡ 0
-  pub unused : unused_bytes t l + bytes_in t l objects ≡ 1024
+  pub unused : unused_bytes t l + bytes_in t l objects ≡ LOG_BYTES
 
 -- the live bytes of all logs
 abbrev pub all_live : State → ℕ

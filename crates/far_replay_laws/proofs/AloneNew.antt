@@ -8,7 +8,7 @@ use Rattle.far_word.specs.declared.pointer.Place.{Place}
 use Rattle.far_word.specs.declared.pointer.PtrWord.TheVariants.{Near}
 use Rattle.far_word.specs.declared.refused.Refused.{Refused as Refusal}
 use Rattle.far_word.specs.declared.refused.Refused.TheVariants.{NoRoom, NoPointer, Length, Range}
-use Rattle.far_word.specs.declared.sizes.TheConstants.{CELLS, LONGEST, LOG_WORDS}
+use Rattle.far_word.specs.declared.sizes.TheConstants.{CELLS, LONGEST, LOG_WORDS, POINTERS}
 use Rattle.far_word.specs.Header.{head_word}
 use Rattle.far_word.specs.Pointer.{word_of}
 use Rattle.far_word.specs.Sizes.{size_of, words_for}
@@ -44,7 +44,7 @@ use Rattle.far_replay_laws.proofs.Coming.{new_comes}
 use Rattle.far_replay_laws.proofs.AloneTurns.{Teaches, Turns, four_causes}
 
 -- ---- the words of a new object
-head_fits : (p len ds : ℕ) → p < 1024 → len ≤ LONGEST → ds < 256 → head_word p len ds < 2 ^ 64
+head_fits : (p len ds : ℕ) → p < POINTERS → len ≤ LONGEST → ds < 256 → head_word p len ds < 2 ^ 64
 head_fits p len ds a b c = omega arith
 
 new_fits : (len ds : ℕ) (place : Place) → place.log < 64 → place.at < LOG_WORDS → len ≤ LONGEST → ds < 256 → near_word len ds place < 2 ^ 64

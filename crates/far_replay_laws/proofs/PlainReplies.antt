@@ -14,7 +14,7 @@ use Rattle.far_word.specs.declared.refused.Refused.{Refused as Refusal}
 use Rattle.far_word.specs.declared.refused.Refused.TheVariants.{Range}
 use Rattle.far_word.specs.declared.pointer.PtrWord.{PtrWord}
 use Rattle.far_word.specs.declared.pointer.PtrWord.TheVariants.{Near}
-use Rattle.far_word.specs.declared.sizes.TheConstants.{CELLS}
+use Rattle.far_word.specs.declared.sizes.TheConstants.{CELLS, LOG_BYTES}
 use Rattle.far_word.specs.Pointer.{IsPtr, read_of}
 use Rattle.far_word.proofs.PointerLaws.{read_says}
 use Rattle.far_core.specs.laws.Observed.{live_bytes}
@@ -83,7 +83,7 @@ plain_home (Some (Near len ds place marks)) h = let lies : IsPtr (Near len ds pl
 plain_home _ h = tt
 
 -- what an audit counts
-live_below : (s : State) → Law s → (a n : ℕ) → sum_by (live_bytes s) (range_with_len a n) ≤ 1024 * n
+live_below : (s : State) → Law s → (a n : ℕ) → sum_by (live_bytes s) (range_with_len a n) ≤ LOG_BYTES * n
 live_below s law a zero = omega arith
 live_below s law a (suc n) = omega (arith, live_below s law (a + 1) n, sum_by-cons (live_bytes s) a (range_with_len (a + 1) n), bytes_make_log s law a)
 

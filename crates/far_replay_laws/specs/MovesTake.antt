@@ -1,6 +1,7 @@
 -- What a step that deals with objects takes of the logs, by the moments before and after: the room of those that came, and no more.
 use Rattle.std.specs.Prelude.{◌≡◌, ◌≢◌, ◌↔◌, ◌⊎◌, ℕ, ◌+◌, ◌<◌, eqb, List, Contains}
 use Rattle.std.specs.List.{IsDistinct, sum_by, range_with_len}
+use Rattle.far_word.specs.declared.sizes.TheConstants.{LOG_BYTES}
 use Rattle.far_word.specs.Pointer.{read_of}
 use Rattle.far_core.specs.declared.event.Kind.TheVariants as kinds
 use Rattle.far_core.specs.laws.Observed.{live_bytes, dead_bytes, unused_bytes}
@@ -47,7 +48,7 @@ pub record RoomBack (s t : State) (l : ℕ) : Type 0 where
   pub left : TakeBytes s (Leaves s t l) (live_bytes s l)
   pub live : live_bytes t l ≡ came
   pub dead : dead_bytes t l ≡ 0
-  pub unused : unused_bytes t l + came ≡ 1024
+  pub unused : unused_bytes t l + came ≡ LOG_BYTES
   pub free : came ≡ 0 → t.kind l ≡ kinds.Free
 
 -- the live bytes of all logs together fall by the objects that went far or were retired

@@ -3,7 +3,7 @@ use Rattle.std.proofs.Common.{◌≡◌, ℕ, zero, suc, ◌+◌, ◌*◌, ◌/�
 use Rattle.std.specs.Prelude.{map}
 use Rattle.std.specs.List.{AllByRecursion, flat_map, range_with_len}
 use Rattle.std.proofs.lemmas.List.FromFn.{length-map-range_with_len, map-range_with_len_more}
-use Rattle.far_word.specs.declared.sizes.TheConstants.{CELLS}
+use Rattle.far_word.specs.declared.sizes.TheConstants.{CELLS, LOG_BYTES}
 use Rattle.far_word.specs.Pointer.{read_of}
 use Rattle.far_word.specs.Sizes.{bytes_taken, size_of}
 use Rattle.far_log.specs.Spans.{taken_by}
@@ -71,10 +71,10 @@ pub words_told : (now : Moment) → Law (own_part now.core) → (log : ℕ) (wor
 words_told now law log words kind lives dies =
     let (n, live) = taken_words (is_live now.core log) (spans_of now.core log) in
     let (k, dead) = taken_words (λ span. not (is_live now.core log span)) (spans_of now.core log) in
-    let whole : live_bytes now.core log + dead_bytes now.core log + unused_bytes now.core log ≡ 1024 = bytes_make_log now.core law log in
+    let whole : live_bytes now.core log + dead_bytes now.core log + unused_bytes now.core log ≡ LOG_BYTES = bytes_make_log now.core law log in
     let live_is : 8 * words.live ≡ live_bytes now.core log = omega (arith, lives, live) in
     let dead_is : 8 * words.dead ≡ dead_bytes now.core log = omega (arith, dies, dead) in
-    let unused_is : 1024 - (8 * words.live + 8 * words.dead) ≡ unused_bytes now.core log = omega (arith, live_is, dead_is, whole) in
+    let unused_is : LOG_BYTES - (8 * words.live + 8 * words.dead) ≡ unused_bytes now.core log = omega (arith, live_is, dead_is, whole) in
     λ i. record { log = log; kind = kind i; live = live_is i; dead = dead_is i; unused = unused_is i }
 
 -- ---- a census is short

@@ -3,6 +3,7 @@ use Rattle.std.specs.Prelude.{◌≡◌, ◌≢◌, ◌⊎◌, ℕ, ◌+◌, ◌
 use Rattle.std.specs.List.{AllByRecursion, range_with_len}
 use Rattle.far_word.specs.declared.refused.Refused.{Refused as Refusal}
 use Rattle.far_word.specs.declared.refused.Refused.TheVariants.{Device, Memory, Range}
+use Rattle.far_word.specs.declared.sizes.TheConstants.{LOG_BYTES}
 use Rattle.far_log.specs.declared.row.LogRow.{LogRow}
 use Rattle.far_policy.specs.LeastLive.{TakesLeast}
 use Rattle.far_policy.specs.Logs.{logs_of}
@@ -37,7 +38,7 @@ pub record BookStood (heap : HeapId) (P : Moment → Type 0) : Type 0 where
 -- ---- logs
 -- the three numbers make a log's bytes
 abbrev pub MakesLog : LogLine → Type 0
-MakesLog line = line.live + line.dead + line.unused ≡ 1024
+MakesLog line = line.live + line.dead + line.unused ≡ LOG_BYTES
 
 -- a line for each of these logs, in order, all of one moment
 pub record TellsLogs (heap : HeapId) (logs : List ℕ) (lines : List LogLine) : Type 0 where

@@ -1,5 +1,6 @@
 -- How replies are kept: what is long in them stands in lists of its own.
 use Rattle.std.specs.Prelude.{ℕ, ◌+◌, ◌-◌, ◌*◌, ◌<◌, ◌≤◌, List, [], ◌∷◌, slice_index_or, slice_range}
+use Rattle.far_word.specs.declared.sizes.TheConstants.{LOG_BYTES}
 use Rattle.far_evac.specs.declared.answers.RoundEnd.TheVariants.{Nothing}
 use Rattle.far_reply.specs.declared.reply.LogLine.{LogLine}
 use Rattle.far_reply.specs.Reply.{Reply, Done, Pointer, Data, Logs, Audited, Ended, Refused, Halted}
@@ -11,7 +12,7 @@ use Rattle.far_split.specs.declared.told.LogWords.{LogWords}
 
 -- what is told of a log, by its words
 abbrev pub line_told : ℕ → LogWords → LogLine
-line_told log row = record { log = log; kind = row.kind; live = 8 * row.live; dead = 8 * row.dead; unused = 1024 - (8 * row.live + 8 * row.dead) }
+line_told log row = record { log = log; kind = row.kind; live = 8 * row.live; dead = 8 * row.dead; unused = LOG_BYTES - (8 * row.live + 8 * row.dead) }
 
 -- of logs from this one on
 abbrev pub lines_told : ℕ → List LogWords → List LogLine

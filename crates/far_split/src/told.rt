@@ -6,10 +6,10 @@ ghost use Rattle.far_split.specs.Kept.{lines_told};
 
 use far_evac::{LogKind, Progress, RoundEnd};
 use far_reply::{Counts, LogLine, Reply};
-use far_word::Refused;
+use far_word::{LOG_BYTES, Refused};
 use std::marker::Model;
 
-/// What a log has, in words of eight bytes: those of objects in use, and those of dropped ones. The others of its 128 words no object takes.
+/// What a log has, in words of eight bytes: those of objects in use, and those of dropped ones. The others of its words no object takes.
 #[derive(Clone, Copy)]
 pub(crate) struct LogWords {
     pub(crate) kind: LogKind,
@@ -32,7 +32,7 @@ impl LogWords {
             kind: self.kind,
             live,
             dead,
-            unused: 1024u64.saturating_sub(live + dead),
+            unused: u64::from(LOG_BYTES).saturating_sub(live + dead),
         }
     }
 }

@@ -12,6 +12,7 @@ use Rattle.std.proofs.Math.Seq.{drop-cons, drop-length, take-length}
 use Rattle.hex.specs.Hex.{is_hex_digit, IsBytes}
 use Rattle.hex.proofs.HexLemmas.{decode_of-ok}
 use Rattle.far_text.specs.Command.{Entry, HeapLine, DeviceLine, Flawed, Flaw, Fail, Short, Flip, CommandLine, New, Open, Write, Read, Close, Where, Drop, View, Try, Epoch, Logs, Log, Audit, Mutator, Book, Evacuator, Policy, Oldest, LeastLive, By, Script, Select, Mark, Wait, Evacuate, Abort, Round}
+use Rattle.far_text.specs.declared.hex_word.TheConstants.{LONGEST_LINE}
 use Rattle.far_text.specs.Says.{Says, Spells, flaw_name, policy_name}
 use Rattle.far_text.specs.Grammar.{Line, Skipped, Saying, Bad, saying, line_of, is_plain, is_skipped, entry_of, lines_of, line_words}
 use Rattle.far_text.specs.Cursor.{front_of, first_line, lines_after_first, words_in}
@@ -107,12 +108,12 @@ first_byte [] h e = absurd (omega arith)
 first_byte (b ∷ text) h e = ap (λ l. is_skipped (front_of l)) (split_on (λ c. c == 10) b text e)
 
 said_entry_line : (text : List ℕ) (c : Entry) → 0 < length text → (get_or text 0 0 == 10) ≡ false → (get_or text 0 0 == 35) ≡ false
-    → Some c ≡ entry_of (words_in text) → length (first_line text) ≤ 4096 → Saying c ≡ line_of (first_line text)
+    → Some c ≡ entry_of (words_in text) → length (first_line text) ≤ LONGEST_LINE → Saying c ≡ line_of (first_line text)
 unfolding line_of
 said_entry_line text c some other plain e short =
     let skipped : is_skipped (first_line text) ≡ false = first_byte text some other ∙ plain in
     let ascii = entry_ascii (first_line text) c (sym e) in
-    let fits = le-leb (length (first_line text)) 4096 short in
+    let fits = le-leb (length (first_line text)) LONGEST_LINE short in
     rw (fits, ascii, skipped, sym e) refl
 
 pub bad_entry : (text : List ℕ) → 0 < length text → (get_or text 0 0 == 10) ≡ false → (get_or text 0 0 == 35) ≡ false
@@ -124,13 +125,13 @@ bad_entry text some other plain e =
 
 -- what a line with content says, as it is spelled
 pub spelled_line : (text : List ℕ) (o : Option Entry) → 0 < length text → (get_or text 0 0 == 10) ≡ false → (get_or text 0 0 == 35) ≡ false
-    → o ≡ entry_of (words_in text) → length (first_line text) ≤ 4096 → saying o ≡ line_of (first_line text)
+    → o ≡ entry_of (words_in text) → length (first_line text) ≤ LONGEST_LINE → saying o ≡ line_of (first_line text)
 spelled_line text (Some c) some other plain e short = said_entry_line text c some other plain e short
 spelled_line text None some other plain e short = sym (bad_entry text some other plain (sym e))
 
-pub long_line : (line : List ℕ) → 4096 < length line → line_of line ≡ Bad
+pub long_line : (line : List ℕ) → LONGEST_LINE < length line → line_of line ≡ Bad
 unfolding line_of
-long_line line h = rw (lt-leb (length line) 4096 h) refl
+long_line line h = rw (lt-leb (length line) LONGEST_LINE h) refl
 
 no_matter : (b : Bool) (line : Line) → cond (b && false) line Bad ≡ Bad
 no_matter true line = refl
@@ -150,7 +151,7 @@ other_line text i inside high none =
     let same : get_or (front ++ more) i 0 ≡ get_or text i 0 = get_or_append_left front more 0 i (omega arith) ∙ get_or-take (i + 1) text i 0 (omega arith) in
     let fails : nat_lt (get_or (front ++ more) i 0) 128 ≡ false = rw same (lt-leb (suc (get_or text i 0)) 128 (omega arith)) in
     let all = list_all_at is_ascii (front ++ more) i 0 (omega arith) fails in
-    rw (line, all) (no_matter (nat_le (length (front ++ more)) 4096) _)
+    rw (line, all) (no_matter (nat_le (length (front ++ more)) LONGEST_LINE) _)
 
 -- a first line that ends at a place
 pub line_ends : (text : List ℕ) (i : ℕ) → i < length text → get_or text i 0 ≡ 10 → ((k : ℕ) → k < i → (get_or text k 0 == 10) ≡ false)
@@ -164,7 +165,7 @@ line_all text none =
     line_at text (length text) (omega arith) none ∙ ap (λ l. (take (length text) text ++ first_line l) ∷ lines_after_first l) (drop-length text)
     ∙ ap (λ w. w ∷ []) (append-nil (take (length text) text) ∙ take-length text)
 
-pub long_comment : (text : List ℕ) (i : ℕ) → i ≤ length text → ((k : ℕ) → k < i → (get_or text k 0 == 10) ≡ false) → 4096 < i → line_of (first_line text) ≡ Bad
+pub long_comment : (text : List ℕ) (i : ℕ) → i ≤ length text → ((k : ℕ) → k < i → (get_or text k 0 == 10) ≡ false) → LONGEST_LINE < i → line_of (first_line text) ≡ Bad
 long_comment text i h none long =
     let line : first_line text ≡ take i text ++ first_line (drop i text) = ap front_of (line_at text i h none) in
     let len = ap length line in
@@ -173,14 +174,14 @@ long_comment text i h none long =
     long_line (first_line text) (omega arith)
 
 -- a comment of ASCII
-pub good_comment : (text : List ℕ) (i : ℕ) → 0 < i → i ≤ length text → i ≤ 4096 → get_or text 0 0 ≡ 35 → ((k : ℕ) → k < i → get_or text k 0 < 128) → Skipped ≡ line_of (take i text)
+pub good_comment : (text : List ℕ) (i : ℕ) → 0 < i → i ≤ length text → i ≤ LONGEST_LINE → get_or text 0 0 ≡ 35 → ((k : ℕ) → k < i → get_or text k 0 < 128) → Skipped ≡ line_of (take i text)
 unfolding line_of
 good_comment text zero some h short first ascii = absurd (omega arith)
 good_comment [] (suc i) some h short first ascii = absurd (omega arith)
 good_comment (b ∷ text) (suc i) some h short first ascii =
     let len : length (take (suc i) (b ∷ text)) ≡ suc i = length-take-le (suc i) (b ∷ text) h in
     let all : list_all is_ascii (take (suc i) (b ∷ text)) ≡ true = ascii_list (take (suc i) (b ∷ text)) (λ k less. rw (get_or-take (suc i) (b ∷ text) k 0 (omega arith)) (ascii k (omega arith))) in
-    let fits : nat_le (length (take (suc i) (b ∷ text))) 4096 ≡ true = le-leb (length (take (suc i) (b ∷ text))) 4096 (omega arith) in
+    let fits : nat_le (length (take (suc i) (b ∷ text))) LONGEST_LINE ≡ true = le-leb (length (take (suc i) (b ∷ text))) LONGEST_LINE (omega arith) in
     let hash : (b == 35) ≡ true = eq-eqb b 35 first in
     sym (rw (fits, all, hash) refl)
 

@@ -8,6 +8,7 @@ use Rattle.std.proofs.lemmas.List.{length-map}
 use Rattle.hex.specs.Hex.{IsBytes}
 use Rattle.std.proofs.lemmas.Slice.Eq.{bytes_eq-Decides}
 use Rattle.far_text.specs.Command.{Entry, HeapLine, DeviceLine, Flawed, Flaw, Fail, Short, Flip, CommandLine, New, Open, Write, Read, Close, Where, Drop, View, Try, Epoch, Logs, Log, Audit, Mutator, Book, Evacuator, Policy, Oldest, LeastLive, By, Script, Step, Select, Mark, Wait, Evacuate, Abort, Round}
+use Rattle.far_text.specs.declared.hex_word.TheConstants.{LONGEST_BYTES}
 use Rattle.far_text.specs.Says.{Says, Spells, AreLogs, flaw_name, policy_name}
 use Rattle.far_text.specs.Grammar.{says_heap, asks_read, asks_write, asks_open, asks_close, asks_new, asks_where, asks_drop, asks_view, asks_try, asks_epoch, asks_log, asks_mark, asks_evacuate, asks_select, asks_round, asks_script, select_by, round_by, device_by, flaw_of, says_device, policy_of, log_of, each_log, logs_of, limited, step_line, perhaps, From, Operands, Numbers, NumbersAndOneOr, NumbersAndBytes, WordThen, number_of, bytes_in, next_number, last_bytes, numbers_then, one_or, entry_at_end, entry_from, steps, table, found_in, entry_of, ◌>>=◌}
 use Rattle.far_text.proofs.Each.{Each}
@@ -26,7 +27,7 @@ logs_read (log ∷ logs) small = rw (log_read log (small 0), logs_read logs (λ 
 script_read : (logs : List ℕ) → AreLogs logs → logs_of (map decimal logs) ≡ Some logs
 script_read [] h = absurd (omega (arith, h.1))
 script_read (log ∷ logs) h =
-    let fits : nat_le (length (decimal log ∷ map decimal logs)) 2048 ≡ true = le-leb _ 2048 (omega (arith, h.2, length-map logs decimal)) in
+    let fits : nat_le (length (decimal log ∷ map decimal logs)) LONGEST_BYTES ≡ true = le-leb _ LONGEST_BYTES (omega (arith, h.2, length-map logs decimal)) in
     rw fits (logs_read (log ∷ logs) h.0)
 
 policy_read : (policy : Policy) → policy_of (policy_name policy) ≡ Some policy
@@ -329,11 +330,11 @@ logs_only (word ∷ words) logs e = elim (log_of word) as (λ o. log_of word ≡
 
 script_only : (words : List (List ℕ)) (logs : List ℕ) → logs_of words ≡ Some logs → AreLogs logs × (words ≡ map decimal logs)
 script_only [] logs e = absurd (cc e)
-script_only (word ∷ words) logs e = elim (chosen (nat_le (length (word ∷ words)) 2048) (each_log (word ∷ words)) None (Some logs) e) [
+script_only (word ∷ words) logs e = elim (chosen (nat_le (length (word ∷ words)) LONGEST_BYTES) (each_log (word ∷ words)) None (Some logs) e) [
   | inl k ↦ (
       let are = logs_only (word ∷ words) logs k.1 in
       let many : length (word ∷ words) ≡ length logs = ap length are.1 ∙ length-map logs decimal in
-      let few : length (word ∷ words) ≤ 2048 = leb-true (length (word ∷ words)) 2048 k.0 in
+      let few : length (word ∷ words) ≤ LONGEST_BYTES = leb-true (length (word ∷ words)) LONGEST_BYTES k.0 in
       ((are.0, omega arith, omega arith), are.1))
   | inr k ↦ absurd (cc k.1)
 ]

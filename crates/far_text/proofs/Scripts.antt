@@ -2,6 +2,7 @@
 use Rattle.std.proofs.Common.{◌≡◌, ℕ, ◌<◌, ◌≤◌, nat_le, true, false, cond, List, [], ◌∷◌, ◌++◌, length, Option, Some, None, sym, ◌∙◌, ap, refl, arith, append-nil}
 use Rattle.std.specs.Option.{option_map}
 use Rattle.std.proofs.lemmas.Bool.{le-leb}
+use Rattle.far_text.specs.declared.hex_word.TheConstants.{LONGEST_BYTES}
 use Rattle.far_text.specs.Grammar.{number_of, next_number, each_log, logs_of, ◌>>=◌}
 
 -- what is read so far, in front of the logs that the other words print
@@ -23,10 +24,10 @@ no_number (word ∷ words) some e = elim (number_of word) as (λ o. number_of wo
 ] refl e
 
 -- all of them are read, one at least, and no more than may be
-pub all_read : (words : List (List ℕ)) (done : List ℕ) → 0 < length words → length words ≤ 2048 → behind done (Some []) ≡ each_log words → logs_of words ≡ Some done
+pub all_read : (words : List (List ℕ)) (done : List ℕ) → 0 < length words → length words ≤ LONGEST_BYTES → behind done (Some []) ≡ each_log words → logs_of words ≡ Some done
 all_read [] done some few e = absurd (omega arith)
-all_read (word ∷ words) done some few e = let fits = le-leb (length (word ∷ words)) 2048 few in rw fits (sym e ∙ ap Some (append-nil done))
+all_read (word ∷ words) done some few e = let fits = le-leb (length (word ∷ words)) LONGEST_BYTES few in rw fits (sym e ∙ ap Some (append-nil done))
 
 pub not_read : (words : List (List ℕ)) → each_log words ≡ None → logs_of words ≡ None
 not_read [] e = refl
-not_read (word ∷ words) e = rw e (elim (nat_le (length (word ∷ words)) 2048) as (λ b. cond {A = Option (List ℕ)} b None None ≡ None) [ true ↦ refl | false ↦ refl ])
+not_read (word ∷ words) e = rw e (elim (nat_le (length (word ∷ words)) LONGEST_BYTES) as (λ b. cond {A = Option (List ℕ)} b None None ≡ None) [ true ↦ refl | false ↦ refl ])

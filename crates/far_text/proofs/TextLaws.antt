@@ -6,6 +6,7 @@ use Rattle.std.proofs.lemmas.Bool.{and_parts, le-leb, lt-leb, cond_both}
 use Rattle.std.proofs.lemmas.Bool.Decides.{nat_tests}
 use Rattle.std.proofs.lemmas.List.Splits.{join_with_byte-slice_split}
 use Rattle.hex.proofs.HexLemmas.{decode_of-ok}
+use Rattle.far_text.specs.declared.hex_word.TheConstants.{LONGEST_LINE}
 use Rattle.far_text.specs.declared.text.TheConstants.{LONGEST_TEXT}
 use Rattle.far_text.specs.Command.{Command, Device, Entry, HeapLine, DeviceLine, CommandLine, Trace, Nothing, Heap, New, Open, Write, Read, Close, Where, Drop, View, Try, Epoch, Mutator, Book, Evacuator, By, Script, Select, Mark, Wait, Evacuate, Abort, Round}
 use Rattle.far_text.specs.Grammar.{Line, Skipped, Saying, Bad, line_of, lines_of, line_words, is_plain, is_skipped, saying, entry_of, trace_of, onto, Sought, NoDevice, DeviceAt, device_at, device_sought, stands, beside, with_heap, read_after, read_command, read_commands, read_heap, read_lines}
@@ -29,14 +30,14 @@ each_ascii (x ∷ xs) e zero less = let h = and_parts (is_ascii x) (list_all is_
 each_ascii (x ∷ xs) e (suc k) less = each_ascii xs (and_parts (is_ascii x) (list_all is_ascii xs) e).1 k (omega arith)
 
 -- a plain line
-plain_parts : (line : List ℕ) → is_plain line ≡ true → (length line ≤ 4096) × ((k : ℕ) → k < length line → get_or line k 0 < 128)
+plain_parts : (line : List ℕ) → is_plain line ≡ true → (length line ≤ LONGEST_LINE) × ((k : ℕ) → k < length line → get_or line k 0 < 128)
 plain_parts line e =
-    let h = and_parts (nat_le (length line) 4096) (list_all is_ascii line) e in
-    let short : nat_le (length line) 4096 ≡ true = h.0 in
+    let h = and_parts (nat_le (length line) LONGEST_LINE) (list_all is_ascii line) e in
+    let short : nat_le (length line) LONGEST_LINE ≡ true = h.0 in
     (grind (arith, nat_tests), each_ascii line h.1)
 
-is_plain_line : (line : List ℕ) → length line ≤ 4096 → list_all is_ascii line ≡ true → is_plain line ≡ true
-is_plain_line line short ascii = let fits = le-leb (length line) 4096 short in rw (fits, ascii) refl
+is_plain_line : (line : List ℕ) → length line ≤ LONGEST_LINE → list_all is_ascii line ≡ true → is_plain line ≡ true
+is_plain_line line short ascii = let fits = le-leb (length line) LONGEST_LINE short in rw (fits, ascii) refl
 
 begins : (line : List ℕ) → is_skipped line ≡ true → (line ≡ []) ⊎ ((rest : List ℕ) × (line ≡ 35 ∷ rest))
 begins [] e = inl refl

@@ -1,8 +1,8 @@
 -- The header word: what a word says, and the word that says it.
 use Rattle.std.proofs.Common.{◌≡◌, ℕ, ◌+◌, ◌*◌, ◌^◌, ◌<◌, ◌≤◌, true, subst, refl, arith, Option, Some, IfSome}
 use Rattle.std.proofs.lemmas.Bool.Decides.{nat_tests}
-use Rattle.far_word.specs.Header.{IsHead, head_word, is_head, head_of}
-use Rattle.far_word.specs.Mark.{field}
+use Rattle.far_word.specs.Header.{IsHead, len_in, ds_in, pointer_in, version_in, head_word, is_head, head_of}
+use Rattle.far_word.specs.declared.header.TheConstants.{LEN_BITS, DS, DS_BITS, POINTER, POINTER_BITS, VERSION, THIS_VERSION}
 use Rattle.far_word.specs.declared.header.HeadWord.{HeadWord}
 use Rattle.far_word.specs.declared.sizes.TheConstants.{LONGEST, POINTERS}
 use Rattle.far_word.proofs.Words.{split_at, at_guard}
@@ -11,24 +11,24 @@ use Rattle.far_word.proofs.Words.{split_at, at_guard}
 abbrev pub SaysHead : ℕ → HeadWord → Type 0
 SaysHead w h = IsHead h × (head_word h.pointer h.len h.ds ≡ w)
 
-pub head_fields : (w : ℕ) → w < 2 ^ 64 → w ≡ field w 0 16 + field w 16 8 * 2 ^ 16 + field w 24 32 * 2 ^ 24 + field w 56 8 * 2 ^ 56
-head_fields w fits = omega (arith, split_at w 0 16, split_at w 16 8, split_at w 24 32, split_at w 56 8)
+pub head_fields : (w : ℕ) → w < 2 ^ 64 → w ≡ len_in w + ds_in w * 2 ^ DS + pointer_in w * 2 ^ POINTER + version_in w * 2 ^ VERSION
+head_fields w fits = omega (arith, split_at w 0 LEN_BITS, split_at w DS DS_BITS, split_at w POINTER POINTER_BITS, split_at w VERSION 8)
 
 pub head_found : (w : ℕ) → w < 2 ^ 64 → IfSome (head_of w) (SaysHead w)
 unfolding head_of
 head_found w fits = at_guard (SaysHead w) _ _ (λ (h : is_head w ≡ true).
-    let top : field w 56 8 ≡ 161 = grind (arith, nat_tests) in
-    let some : 0 < field w 0 16 = grind (arith, nat_tests) in
-    let most : field w 0 16 ≤ LONGEST = grind (arith, nat_tests) in
-    let cell : field w 24 32 < POINTERS = grind (arith, nat_tests) in
-    let structure : field w 16 8 < 256 = omega arith in
+    let top : version_in w ≡ THIS_VERSION = grind (arith, nat_tests) in
+    let some : 0 < len_in w = grind (arith, nat_tests) in
+    let most : len_in w ≤ LONGEST = grind (arith, nat_tests) in
+    let cell : pointer_in w < POINTERS = grind (arith, nat_tests) in
+    let structure : ds_in w < 256 = omega arith in
     (record { some = some; most = most; structure = structure; cell = cell }, omega (arith, head_fields w fits)))
 
 -- a header that was read lies on the layout, and its word is the one read
 pub head_says : (w : ℕ) (h : HeadWord) → w < 2 ^ 64 → head_of w ≡ Some h → IsHead h × (head_word h.pointer h.len h.ds ≡ w)
 head_says w h fits e = subst (λ (o : Option HeadWord). IfSome o (SaysHead w)) e (head_found w fits)
 
-is_head_back : (w : ℕ) → field w 56 8 ≡ 161 → 0 < field w 0 16 → field w 0 16 ≤ LONGEST → field w 24 32 < POINTERS → is_head w ≡ true
+is_head_back : (w : ℕ) → version_in w ≡ THIS_VERSION → 0 < len_in w → len_in w ≤ LONGEST → pointer_in w < POINTERS → is_head w ≡ true
 is_head_back w a b c d = grind (arith, nat_tests)
 
 -- the word of a header on the layout is read as that header
@@ -39,10 +39,10 @@ head_only w h ok e =
     let most : h.len ≤ LONGEST = ok.most in
     let structure : h.ds < 256 = ok.structure in
     let cell : h.pointer < POINTERS = ok.cell in
-    let a : field w 0 16 ≡ h.len = omega arith in
-    let b : field w 16 8 ≡ h.ds = omega arith in
-    let p : field w 24 32 ≡ h.pointer = omega arith in
-    let v : field w 56 8 ≡ 161 = omega arith in
+    let a : len_in w ≡ h.len = omega arith in
+    let b : ds_in w ≡ h.ds = omega arith in
+    let p : pointer_in w ≡ h.pointer = omega arith in
+    let v : version_in w ≡ THIS_VERSION = omega arith in
     let test : is_head w ≡ true = is_head_back w v (omega arith) (omega arith) (omega arith) in
     rw (test, p, a, b) refl
 

@@ -7,14 +7,21 @@ ghost use Rattle.far_word.specs.Header.{IsHead, head_word, head_of};
 use crate::field::field;
 use crate::sizes::{LONGEST, POINTERS};
 
-const DS: u32 = 16;
+// The fields of a header word, from bit 0 on: the bits of each, and where each next one begins.
+pub(crate) const LEN_BITS: u32 = 16;
 
-const POINTER: u32 = 24;
+pub(crate) const DS: u32 = LEN_BITS;
 
-const VERSION: u32 = 56;
+pub(crate) const DS_BITS: u32 = 8;
+
+pub(crate) const POINTER: u32 = DS + DS_BITS;
+
+pub(crate) const POINTER_BITS: u32 = 32;
+
+pub(crate) const VERSION: u32 = POINTER + POINTER_BITS;
 
 // the top byte of each header
-const THIS_VERSION: u64 = 0xa1;
+pub(crate) const THIS_VERSION: u64 = 0xa1;
 
 /// What an object's header says: whose it is, its length in bytes, its data structure.
 #[derive(Clone, Copy, Debug, PartialEq, Eq)]
@@ -50,8 +57,8 @@ impl HeadWord {
     fn decode(word: u64) -> Option<HeadWord>
         ensures { result ≡ head_of word }
     {
-        let len = field(word, 0, 16);
-        let pointer = field(word, POINTER, 32);
+        let len = field(word, 0, LEN_BITS);
+        let pointer = field(word, POINTER, POINTER_BITS);
         if word >> VERSION != THIS_VERSION || len == 0 {
             return None;
         }
@@ -61,7 +68,7 @@ impl HeadWord {
         Some(HeadWord {
             pointer: pointer as u16,
             len: len as u16,
-            ds: field(word, DS, 8) as u8,
+            ds: field(word, DS, DS_BITS) as u8,
         })
     }
 
@@ -72,8 +79,9 @@ impl HeadWord {
         requires { IsSome (head_of word) }
         ensures { head_of word ≡ Some result }
     {
-        let (pointer, len) = (field(word, POINTER, 32) as u16, field(word, 0, 16) as u16);
-        let ds = field(word, DS, 8) as u8;
+        let pointer = field(word, POINTER, POINTER_BITS) as u16;
+        let len = field(word, 0, LEN_BITS) as u16;
+        let ds = field(word, DS, DS_BITS) as u8;
         HeadWord { pointer, len, ds }
     }
 }

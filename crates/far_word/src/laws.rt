@@ -1,7 +1,9 @@
 //! What holds of every word, and what the numbers are, as contracts of functions that do nothing.
 
-ghost use Rattle.std.specs.Prelude.{◌≡◌, ◌*◌, ◌^◌};
-ghost use Rattle.far_word.specs.declared.sizes.TheConstants.{LOG_WORDS, LONGEST, LEAST_LOGS, MOST_LOGS, LEAST_MUTATORS, MOST_MUTATORS, CELLS, POINTERS, EPOCH_END};
+ghost use Rattle.std.specs.Prelude.{◌≡◌, ◌+◌, ◌*◌, ◌^◌};
+ghost use Rattle.far_word.specs.declared.sizes.TheConstants.{LOG_WORDS, LOG_BYTES, LONGEST, LEAST_LOGS, MOST_LOGS, LEAST_MUTATORS, MOST_MUTATORS, CELLS, POINTERS, EPOCH_END};
+ghost use Rattle.far_word.specs.Header.{len_in, ds_in, pointer_in, version_in, head_word};
+ghost use Rattle.far_word.specs.Mark.{field};
 ghost use Rattle.far_word.specs.Laws.{MarkIsSet, MarkIsRead, MarkIsRefused, EvacIsCleared, OwnerMarksAreCleared, ViewsRest, PointersReadBack, PointersPackBack, HeadersReadBack, HeadersPackBack, ScopesReadBack, ScopesPackBack, WordsHoldBytes, HeaderIsAdded, ObjectsFit, BytesUnpackBack, WordsPackBack, WrittenIsRead, RefusalsAreNumbered};
 ghost use Rattle.far_word.specs.Rows.{NearRowsHold, MarkedRowsHold, FarRowsHold, FreeRowHolds, PointersAreRefused, MarkBitsStand, HeaderRowsHold, HeadersAreRefused, ScopeRowsHold, ScopesAreRefused, NineBytesPack};
 ghost use Rattle.far_word.specs.Sizes.{size_of};
@@ -51,6 +53,7 @@ pub fn packed_bytes()
 /// one for its header.
 pub fn sizes_are()
     ensures log_words { LOG_WORDS ≡ 128 }
+    ensures log_bytes { LOG_BYTES ≡ 1024 }
     ensures longest { LONGEST ≡ 1016 }
     ensures least_logs { LEAST_LOGS ≡ 2 }
     ensures most_logs { MOST_LOGS ≡ 64 }
@@ -62,11 +65,21 @@ pub fn sizes_are()
 
     ensures cells_of_all { POINTERS ≡ CELLS * MOST_MUTATORS }
     ensures longest_fills_log { size_of LONGEST ≡ LOG_WORDS }
-    ensures log_bytes { 8 * LOG_WORDS ≡ 1024 }
+    ensures words_of_eight_bytes { 8 * LOG_WORDS ≡ LOG_BYTES }
 
     ensures words_hold_bytes { WordsHoldBytes }
     ensures header_is_added { HeaderIsAdded }
     ensures objects_fit { ObjectsFit }
+{}
+
+/// The layout of a header word in numerals: the length in 16 bits, the data structure in the next 8, the pointer's number in
+/// the next 32, and the version 0xa1 in the highest 8.
+pub fn header_is()
+    ensures len { len_in ≡ (λ word. field word 0 16) }
+    ensures ds { ds_in ≡ (λ word. field word 16 8) }
+    ensures pointer { pointer_in ≡ (λ word. field word 24 32) }
+    ensures version { version_in ≡ (λ word. field word 56 8) }
+    ensures word { head_word ≡ (λ pointer len ds. len + ds * 2 ^ 16 + pointer * 2 ^ 24 + 0xa1 * 2 ^ 56) }
 {}
 
 /// Worked words in hexadecimal, each packed from what it says and read as that, and words off the layout. Beside the

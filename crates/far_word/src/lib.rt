@@ -16,8 +16,8 @@ mod sizes;
 pub use bytes::{pack_bytes, unpack_bytes};
 pub use header::HeadWord;
 pub use laws::{
-    header_words, packed_bytes, pointer_marks, pointer_words, refusal_numbers, scope_words,
-    sizes_are, words_are,
+    header_is, header_words, packed_bytes, pointer_marks, pointer_words, refusal_numbers,
+    scope_words, sizes_are, words_are,
 };
 pub use mark::{Mark, Marks};
 pub use pointer::{
@@ -26,6 +26,6 @@ pub use pointer::{
 pub use refused::Refused;
 pub use scope::ScopeWord;
 pub use sizes::{
-    CELLS, EPOCH_END, LEAST_LOGS, LEAST_MUTATORS, LOG_WORDS, LONGEST, MOST_LOGS, MOST_MUTATORS,
-    POINTERS, size_of, words_for,
+    CELLS, EPOCH_END, LEAST_LOGS, LEAST_MUTATORS, LOG_BYTES, LOG_WORDS, LONGEST, MOST_LOGS,
+    MOST_MUTATORS, POINTERS, size_of, words_for,
 };

@@ -6,6 +6,9 @@ ghost use Rattle.far_word.specs.Sizes.{size_of, words_for};
 /// The words of a log, eight bytes each.
 pub const LOG_WORDS: u16 = 128;
 
+/// The bytes of a log.
+pub const LOG_BYTES: u16 = LOG_WORDS * 8;
+
 /// The most data bytes of an object.
 pub const LONGEST: u16 = 1016;
 

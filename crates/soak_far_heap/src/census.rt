@@ -4,12 +4,13 @@ use far_book::Home;
 use far_device::MemDevice;
 use far_evac::Census;
 use far_heap::{Evacuator, HeapName};
+use far_word::LOG_BYTES;
 
 // Whether each log's bytes make its size.
 fn adds_up(census: &Census) -> bool {
     for log in &census.logs {
         let row = log.row;
-        if row.live.saturating_add(row.dead).saturating_add(row.unused) != 1024 {
+        if row.live.saturating_add(row.dead).saturating_add(row.unused) != LOG_BYTES {
             return false;
         }
     }

@@ -5,7 +5,7 @@ use crate::random::Random;
 use crate::record::Record;
 use far_device::MemDevice;
 use far_heap::{HeapName, Mutator, Scope, Tried, View};
-use far_word::{Refused, pointer_len};
+use far_word::{LONGEST, POINTERS, Refused, pointer_len};
 use std::alloc::Global;
 use std::sync::Wait;
 
@@ -146,7 +146,7 @@ impl Desk {
     fn next_len(&mut self) -> u16 {
         match self.random.below(64) {
             0 => 0,
-            1 => 1017,
+            1 => LONGEST + 1,
             _ => (1 + self.random.below(MOST_BYTES)) as u16,
         }
     }
@@ -171,7 +171,7 @@ impl Desk {
     }
 
     fn take_made(&mut self, len: u16, answer: Result<u16, Refused>) {
-        let is_length = len != 0 && len <= 1016;
+        let is_length = len != 0 && len <= LONGEST;
         match answer {
             Ok(pointer) => {
                 if !is_length || self.has(pointer) {
@@ -282,7 +282,7 @@ impl Desk {
 
     // Uses a pointer that it doesn't use: another mutator's, or one that is free.
     fn use_stranger<K: HeapName, R: Wait>(&mut self, rt: &R, scope: &mut Scope<K, MemDevice>) {
-        let pointer = self.random.below(1024) as u16;
+        let pointer = self.random.below(POINTERS as u64) as u16;
         if self.has(pointer) {
             return;
         }

@@ -1,4 +1,5 @@
-//! Whether the calls of owners' seats do what was meant, by worked values. All words come from the layout's own table of examples.
+//! Whether the calls of owners' seats do what was meant, by worked values. Words of cells come from the layout's own table of
+//! examples, and headers are made field by field.
 
 mod beside;
 mod calls;
@@ -20,6 +21,11 @@ use owner::{Act, Owner, known_of};
 use std::alloc::{AllocError, Global};
 use std::process::Abort;
 use std::snapshot::Snapshot;
+
+/// The header word of an object, field by field.
+fn header(pointer: u16, len: u16, ds: u8) -> u64 {
+    0xa1 << 56 | (pointer as u64) << 24 | (ds as u64) << 16 | len as u64
+}
 
 fn put(log: u8, at: u16, word: u64) -> (Event, Reply) {
     (Event::Put { log, at, word }, Reply::Done)

@@ -18,6 +18,7 @@ use Rattle.far_core.proofs.Begins.{begins, row_of}
 use Rattle.far_core.proofs.Put.{put_both}
 use Rattle.far_book.specs.declared.ledger.Filled.{Filled}
 use Rattle.far_book.specs.declared.ledger.Ledger.{Ledger}
+use Rattle.far_book.specs.declared.ledger.TheConstants.{SETS}
 use Rattle.far_book.specs.declared.number_set.NumberSet.{NumberSet}
 use Rattle.far_book.specs.book.Ledger.{Notes}
 use Rattle.far_book.specs.book.NumberSet.{has}
@@ -34,8 +35,8 @@ pub record Made (shape : Shape) (ledger : Ledger) : Type 0 where
   pub room : shape.logs ≤ vec_capacity ledger.order
   pub all : NumberSet
   pub every : (k : ℕ) → k < 64 → has all k ≡ true
-  pub sets : ledger.free_cells.items ≡ replicate (2 * shape.mutators) all
-  pub cells : vec_len ledger.free_cells ≡ 2 * shape.mutators
+  pub sets : ledger.free_cells.items ≡ replicate (SETS * shape.mutators) all
+  pub cells : vec_len ledger.free_cells ≡ SETS * shape.mutators
 
 none_distinct : IsDistinct eqb []
 unfolding IsDistinct
@@ -76,5 +77,5 @@ module _ (shape : Shape) (fits : is_shape shape ≡ true) (ledger : Ledger) (mad
     room = made.room;
     cells = made.cells;
     cell = λ p lt. ap (λ (set : NumberSet). has set (p % 64))
-        (ap (λ sets. slice_index_or sets (p / 64) record { word = 0 }) made.sets ∙ get_or-replicate (2 * shape.mutators) (p / 64) made.all record { word = 0 } (omega arith)) ∙ made.every (p % 64) (omega arith);
+        (ap (λ sets. slice_index_or sets (p / 64) record { word = 0 }) made.sets ∙ get_or-replicate (SETS * shape.mutators) (p / 64) made.all record { word = 0 } (omega arith)) ∙ made.every (p % 64) (omega arith);
   }

@@ -14,6 +14,7 @@ use Rattle.far_core.specs.state.Room.{is_free}
 use Rattle.far_core.specs.state.State.{State}
 use Rattle.far_book.specs.declared.ledger.Filled.{Filled}
 use Rattle.far_book.specs.declared.ledger.Ledger.{Ledger}
+use Rattle.far_book.specs.declared.ledger.TheConstants.{SETS}
 use Rattle.far_hand.specs.Finds.{body_of}
 use Rattle.far_book.specs.book.NumberSet.{has}
 
@@ -40,7 +41,7 @@ pub record Notes (s : State) (ledger : Ledger) : Type 0 where
   pub once : IsDistinct eqb ledger.order.items
   pub room : s.logs ≤ vec_capacity ledger.order
   -- which cells are free
-  pub cells : vec_len ledger.free_cells ≡ 2 * s.mutators
+  pub cells : vec_len ledger.free_cells ≡ SETS * s.mutators
   pub cell : (p : ℕ) → p < CELLS * s.mutators → is_noted_free ledger p ≡ (s.cell p == 0)
 
 -- it is right about a state that has this log

@@ -4,11 +4,11 @@ ghost use Rattle.std.specs.Borrow.{MutBor};
 ghost use Rattle.std.specs.Prelude.{◌≡◌, ◌<◌, ◌≤◌, true};
 ghost use Rattle.far_word.specs.declared.sizes.TheConstants.{LONGEST};
 
-use far_book::{Beset, Book, Near, Home, Plain};
+use far_book::{Beset, Book, Home, Near, Plain};
 use far_core::{Core, Event, Kind, Reply, Shape};
 use far_device::{Device, MemDevice};
 use far_log::{LogRow, Span};
-use far_word::{CELLS, Mark, Marks, Place, PtrWord, Refused};
+use far_word::{CELLS, LOG_BYTES, LONGEST, Mark, Marks, Place, PtrWord, Refused};
 use std::alloc::AllocError;
 use std::test::Fail;
 
@@ -269,7 +269,7 @@ pub(super) fn mark_sealed<N: Near + Drop, D: Device + Drop>(
 // Whether pointer 0 is an object of 8 bytes in log 0, which another one seals, and is marked.
 pub(super) fn marks_first<N: Near + Drop, D: Device + Drop>(book: &mut Book<N, D>) -> bool {
     place_next(book, 8, 1).is_ok()
-        && place_next(book, 1016, 1).is_ok()
+        && place_next(book, LONGEST, 1).is_ok()
         && mark_sealed(book, 0).is_some()
 }
 
@@ -303,21 +303,21 @@ fn has_rows(book: &Book<Plain, MemDevice>, rows: &[LogRow]) -> bool {
 fn fills_a_log(book: &mut Book<Plain, MemDevice>) -> bool {
     let sealed = LogRow {
         log: 0,
-        live: 1024,
+        live: LOG_BYTES,
         dead: 0,
         unused: 0,
     };
-    has(book, 0, line(Kind::Open, 0, 0, 0, 1024))
-        && places_next(book, 1016, 0, Place { log: 0, at: 0 })
-        && has(book, 0, line(Kind::Open, 0, 1024, 0, 0))
+    has(book, 0, line(Kind::Open, 0, 0, 0, LOG_BYTES))
+        && places_next(book, LONGEST, 0, Place { log: 0, at: 0 })
+        && has(book, 0, line(Kind::Open, 0, LOG_BYTES, 0, 0))
         && places_next(book, 1, 1, Place { log: 1, at: 0 })
         && has_four(
             book,
             [
                 Some((Kind::Sealed, sealed)),
-                line(Kind::Open, 1, 16, 0, 1008),
-                line(Kind::Free, 2, 0, 0, 1024),
-                line(Kind::Free, 3, 0, 0, 1024),
+                line(Kind::Open, 1, 16, 0, LOG_BYTES - 16),
+                line(Kind::Free, 2, 0, 0, LOG_BYTES),
+                line(Kind::Free, 3, 0, 0, LOG_BYTES),
             ],
         )
         && has_rows(book, &[sealed])
@@ -431,11 +431,11 @@ fn words_are_stored_and_loaded(rt: HostRuntime) {
 
 // Whether one of three logs stays free where both others are full.
 fn keeps_the_last(book: &mut Book<Plain, MemDevice>) -> bool {
-    places_next(book, 1016, 0, Place { log: 0, at: 0 })
-        && places_next(book, 1016, 1, Place { log: 1, at: 0 })
+    places_next(book, LONGEST, 0, Place { log: 0, at: 0 })
+        && places_next(book, LONGEST, 1, Place { log: 1, at: 0 })
         && refuses_next(book, Refused::NoRoom)
-        && has(book, 1, line(Kind::Open, 1, 1024, 0, 0))
-        && has(book, 2, line(Kind::Free, 2, 0, 0, 1024))
+        && has(book, 1, line(Kind::Open, 1, LOG_BYTES, 0, 0))
+        && has(book, 2, line(Kind::Free, 2, 0, 0, LOG_BYTES))
 }
 
 #[test]
@@ -489,7 +489,7 @@ fn makes_dead(book: &mut Book<Plain, MemDevice>) -> bool {
         && places_many(book, 1, 8, 1)
         && !retire_dropped(book, 1);
     drop_next(book, 1);
-    full && has(book, 0, line(Kind::Open, 0, 1024, 0, 0))
+    full && has(book, 0, line(Kind::Open, 0, LOG_BYTES, 0, 0))
         && retire_dropped(book, 1)
         && has(book, 0, line(Kind::Open, 0, 688, 336, 0))
         && book.core().cell(1) == 0
@@ -515,7 +515,7 @@ fn takes_the_lowest(book: &mut Book<Plain, MemDevice>) -> bool {
         && lets_go(book, 64)
         && places_next(book, 1, 64, Place { log: 2, at: 0 })
         && places_next(book, 1, 100, Place { log: 2, at: 2 })
-        && has(book, 1, line(Kind::Sealed, 1, 992, 32, 0))
+        && has(book, 1, line(Kind::Sealed, 1, LOG_BYTES - 32, 32, 0))
 }
 
 #[test]
@@ -532,13 +532,13 @@ fn marks_when_sealed(book: &mut Book<Plain, MemDevice>) -> bool {
     };
     places_next(book, 8, 0, place)
         && mark_sealed(book, 0).is_none()
-        && places_next(book, 1016, 1, Place { log: 1, at: 0 })
+        && places_next(book, LONGEST, 1, Place { log: 1, at: 0 })
         && mark_sealed(book, 0) == Some(0x8400_0000_0001_0008)
         && mark_sealed(book, 0) == Some(0xa400_0000_0001_0008)
         && mark_sealed(book, 1).is_none()
         && mark_sealed(book, 2).is_none()
         && is_near_at(book, 0, place, marks)
-        && has(book, 0, line(Kind::Sealed, 0, 16, 0, 1008))
+        && has(book, 0, line(Kind::Sealed, 0, 16, 0, LOG_BYTES - 16))
 }
 
 #[test]
@@ -559,7 +559,7 @@ fn finds_marks(book: &mut Book<Beset, MemDevice>) -> bool {
         && !retire_dropped(book, 0)
         && retire_dropped(book, 0)
         && home(book, 0).is_none()
-        && has(book, 0, line(Kind::Open, 0, 0, 16, 1008))
+        && has(book, 0, line(Kind::Open, 0, 0, 16, LOG_BYTES - 16))
 }
 
 #[test]

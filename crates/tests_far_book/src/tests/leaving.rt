@@ -9,11 +9,11 @@ use crate::tests::books::{
 };
 use crate::tests::devices::{Picky, Starved, shown_device};
 use crate::tests::moving::moves_to;
-use far_book::{Book, Near, Home, Plain};
+use far_book::{Book, Home, Near, Plain};
 use far_core::{Event, Kind, Reply};
 use far_device::{Device, MemDevice};
 use far_log::LogRow;
-use far_word::{LONGEST, Marks, Place, Refused, words_for};
+use far_word::{LOG_BYTES, LONGEST, Marks, Place, Refused, words_for};
 use std::alloc::AllocError;
 
 /// The cell of pointer 0, an object of 8 bytes of data structure 1 at the start of log 0: with EVAC and MOVE, and far.
@@ -111,7 +111,7 @@ pub(super) fn leaves<D: Device + Drop>(book: &mut Book<Plain, D>, len: u16) -> b
 {
     let placed = place_next(book, len, 1).is_ok();
     store_counted(book, len);
-    let sealed = place_next(book, 1016, 1).is_ok();
+    let sealed = place_next(book, LONGEST, 1).is_ok();
     mark_sealed(book, 0);
     book.owner(MOVE);
     placed && sealed
@@ -140,7 +140,7 @@ fn goes_far(book: &mut Book<Plain, Picky>, len: u16, size: u16) -> bool
     requires some { 0 < len }
     requires most { len ≤ LONGEST }
 {
-    let rest = 1024u16.saturating_sub(size);
+    let rest = LOG_BYTES.saturating_sub(size);
     leaves(book, len)
         && has(book, 0, sealed(size, 0, rest))
         && goes(book, 0)
@@ -158,8 +158,8 @@ fn the_device_is_given_the_bytes(rt: HostRuntime) {
     assert!(rt; is_so_of(opened_over_picky(&rt, 16), |book| goes_far(book, 16, 24)));
     assert!(rt;
         is_so_of(
-            opened_over_picky(&rt, 1016),
-            |book| goes_far(book, 1016, 1024)
+            opened_over_picky(&rt, LONGEST),
+            |book| goes_far(book, LONGEST, LOG_BYTES)
         )
     );
 }
@@ -168,7 +168,7 @@ fn the_device_is_given_the_bytes(rt: HostRuntime) {
 fn refuses_leaving<D: Device + Drop>(book: &mut Book<Plain, D>, why: Refused) -> bool {
     leaves(book, 8)
         && evict_asked(book, 0) == Some(Err(why))
-        && has(book, 0, sealed(16, 0, 1008))
+        && has(book, 0, sealed(16, 0, LOG_BYTES - 16))
         && book.core().cell(0) == LEAVING | 1 << 62
 }
 
@@ -220,13 +220,13 @@ fn is_far(marks: Marks) -> Beside {
         Some(Ok(true)),
         Some(Home::Far { marks }),
         true,
-        sealed(0, 16, 1008),
+        sealed(0, 16, LOG_BYTES - 16),
     )
 }
 
 // And so where it was retired.
 fn is_retired() -> Beside {
-    (Some(Ok(false)), None, false, sealed(0, 16, 1008))
+    (Some(Ok(false)), None, false, sealed(0, 16, LOG_BYTES - 16))
 }
 
 // Whether it has gone far, without a mark or with these, where its owner makes these events, the first before the step of this
@@ -280,7 +280,7 @@ fn leaves_dropped(book: &mut Book<Plain, MemDevice>) -> bool {
     asked
         && evict_asked(book, 0) == Some(Ok(false))
         && book.core().cell(0) == 0
-        && has(book, 0, sealed(0, 16, 1008))
+        && has(book, 0, sealed(0, 16, LOG_BYTES - 16))
 }
 
 #[test]

@@ -7,11 +7,11 @@ use crate::tests::books::{
     DROP, HOT, NO_MARKS, SMALL, ask, beset, events_after, has, home, is_near_at, is_so_of, line,
     mark_sealed, marks_first, opened, place_next, refuses_next, shown,
 };
-use far_book::{Book, Near, Home, Plain};
+use far_book::{Book, Home, Near, Plain};
 use far_core::{Event, Kind, Reply};
 use far_device::{Device, MemDevice};
 use far_log::LogRow;
-use far_word::{Mark, Marks, Place, Refused};
+use far_word::{LOG_BYTES, LOG_WORDS, LONGEST, Mark, Marks, Place, Refused};
 
 /// Moves a near object whose cell shows MOVE; `None` where the pointer names none.
 #[tactic(auto, using(crate::proofs::Uses::quiet_home))]
@@ -122,7 +122,7 @@ fn asks(book: &mut Book<Plain, MemDevice>, len: u16, words: u16) -> bool
 {
     let placed = place_next(book, len, 3).is_ok();
     store_in(book, 0, words);
-    let sealed = place_next(book, 1016, 1).is_ok();
+    let sealed = place_next(book, LONGEST, 1).is_ok();
     mark_sealed(book, 0);
     book.owner(ask(0, Mark::Moved));
     placed && sealed
@@ -133,7 +133,7 @@ fn moves_whole(book: &mut Book<Plain, MemDevice>, len: u16, words: u16, size: u1
     requires some { 0 < len }
     requires most { len ≤ LONGEST }
 {
-    let rest = 1024u16.saturating_sub(size);
+    let rest = LOG_BYTES.saturating_sub(size);
     asks(book, len, words)
         && moves_to(book, 0, Place { log: 2, at: 0 })
         && has(book, 0, line(Kind::Sealed, 0, 0, size, rest))
@@ -150,7 +150,7 @@ fn an_object_moves_to_another_log(rt: HostRuntime) {
     assert!(rt;
         is_so_of(
             opened(&rt, SMALL),
-            |book| moves_whole(book, 1016, 127, 1024)
+            |book| moves_whole(book, LONGEST, LOG_WORDS - 1, LOG_BYTES)
         )
     );
 }
@@ -159,8 +159,8 @@ fn an_object_moves_to_another_log(rt: HostRuntime) {
 // logs only the last is free, and the one before it is full.
 pub(super) fn asks_two(book: &mut Book<Plain, MemDevice>) -> bool {
     let placed = place_next(book, 8, 1).is_ok()
-        && place_next(book, 1016, 1).is_ok()
-        && place_next(book, 1016, 1).is_ok();
+        && place_next(book, LONGEST, 1).is_ok()
+        && place_next(book, LONGEST, 1).is_ok();
     store_in(book, 1, 2);
     for pointer in 0..2u16 {
         mark_sealed(book, pointer);
@@ -183,8 +183,8 @@ fn takes_the_last(book: &mut Book<Plain, MemDevice>) -> bool {
         && moves_to(book, 0, Place { log: 3, at: 0 })
         && refuses_move(book, 1, Refused::NoRoom)
         && is_near_at(book, 1, Place { log: 1, at: 0 }, marks)
-        && has(book, 1, line(Kind::Sealed, 1, 1024, 0, 0))
-        && has(book, 3, line(Kind::Open, 3, 16, 0, 1008))
+        && has(book, 1, line(Kind::Sealed, 1, LOG_BYTES, 0, 0))
+        && has(book, 3, line(Kind::Open, 3, 16, 0, LOG_BYTES - 16))
 }
 
 #[test]
@@ -202,7 +202,7 @@ fn moves_nowhere(book: &mut Book<Plain, MemDevice>) -> bool {
     placed
         && move_asked(book, 0) == Some(Ok(None))
         && home(book, 0).is_none()
-        && has(book, 0, line(Kind::Open, 0, 0, 16, 1008))
+        && has(book, 0, line(Kind::Open, 0, 0, 16, LOG_BYTES - 16))
 }
 
 #[test]
@@ -235,8 +235,8 @@ fn has_moved() -> Beside {
     (
         Some(Ok(Some(place))),
         [
-            line(Kind::Sealed, 0, 0, 16, 1008),
-            line(Kind::Open, 2, 16, 0, 1008),
+            line(Kind::Sealed, 0, 0, 16, LOG_BYTES - 16),
+            line(Kind::Open, 2, 16, 0, LOG_BYTES - 16),
         ],
     )
 }
@@ -246,8 +246,8 @@ fn is_retired() -> Beside {
     (
         Some(Ok(None)),
         [
-            line(Kind::Sealed, 0, 0, 16, 1008),
-            line(Kind::Free, 2, 0, 0, 1024),
+            line(Kind::Sealed, 0, 0, 16, LOG_BYTES - 16),
+            line(Kind::Free, 2, 0, 0, LOG_BYTES),
         ],
     )
 }

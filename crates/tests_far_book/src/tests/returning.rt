@@ -10,15 +10,15 @@ use crate::tests::books::{
 use crate::tests::devices::{Lying, Stumbling, lent_device, shown_device};
 use crate::tests::leaving::{evict_asked, goes, leaves, loads_counted, store_counted};
 use crate::tests::moving::{loaded, moves_to};
-use far_book::{Book, Near, Home, Plain};
+use far_book::{Book, Home, Near, Plain};
 use far_core::{Core, Event, Kind, Reply};
 use far_device::{Device, DeviceFault, MemDevice};
 use far_log::LogRow;
-use far_word::{Mark, Marks, Place, Refused};
+use far_word::{LOG_BYTES, LONGEST, Mark, Marks, Place, Refused};
 use std::test::Fail;
 
 /// How many bytes the longest object has.
-const LONGEST_OBJECT: usize = 1016;
+const LONGEST_OBJECT: usize = LONGEST as usize;
 
 /// Where an object comes that is fetched while log 1 is open and full.
 const PLACE: Place = Place { log: 2, at: 0 };
@@ -82,7 +82,7 @@ fn stored_and_asked(book: &mut Book<Plain, MemDevice>) -> bool {
     };
     let stored = book.owner(store) == Reply::Done;
     book.owner(Event::Close { owner });
-    let sealed = place_next(book, 1016, 1).is_ok();
+    let sealed = place_next(book, LONGEST, 1).is_ok();
     let marked = mark_sealed(book, 0) == Some(0xc400_0000_0001_0008);
     let asked = book.owner(MOVE) == Reply::Word(0xe400_0000_0001_0008);
     placed && stored && sealed && marked && asked
@@ -138,7 +138,7 @@ fn comes_back(rt: &HostRuntime, len: u16, size: u16) -> bool
     requires some { 0 < len }
     requires most { len ≤ LONGEST }
 {
-    fetched_after(rt, len) == Ok(is_back(size, 1024u16.saturating_sub(size)))
+    fetched_after(rt, len) == Ok(is_back(size, LOG_BYTES.saturating_sub(size)))
 }
 
 // Alone against a fetch that copies two words at most, and one that takes a word more where the object fills a log.
@@ -148,7 +148,7 @@ fn an_object_comes_back_with_its_bytes(rt: HostRuntime) {
     assert!(rt; comes_back(&rt, 7, 16));
     assert!(rt; comes_back(&rt, 8, 16));
     assert!(rt; comes_back(&rt, 9, 24));
-    assert!(rt; comes_back(&rt, 1016, 1024));
+    assert!(rt; comes_back(&rt, LONGEST, LOG_BYTES));
 }
 
 /// What a fetch answers, whether all cells and logs that are looked at stay, what the same fetch answers after it, and whether the
@@ -246,8 +246,8 @@ fn crowds<D: Device + Drop>(book: &mut Book<Plain, D>) -> bool {
     let first = place_next(book, 8, 1).is_ok();
     store_counted(book, 8);
     let placed = place_next(book, 8, 1).is_ok()
-        && place_next(book, 1016, 1).is_ok()
-        && place_next(book, 1016, 1).is_ok();
+        && place_next(book, LONGEST, 1).is_ok()
+        && place_next(book, LONGEST, 1).is_ok();
     book.owner(MOVE);
     mark_sealed(book, 0);
     evict_asked(book, 0);
@@ -269,7 +269,7 @@ fn comes_after_a_move<D: Device + Drop>(book: &mut Book<Plain, D>) -> bool {
         && stays_far(book, Refused::Device)
         && comes_to(book, Place { log: 3, at: 2 })
         && loads_counted(book, 8)
-        && has(book, 3, line(Kind::Open, 3, 32, 0, 992))
+        && has(book, 3, line(Kind::Open, 3, 32, 0, LOG_BYTES - 32))
 }
 
 // Alone against a fetch that takes the last free log, asks the device before there is room, or forgets the key where there is none.
@@ -281,8 +281,8 @@ fn a_fetch_keeps_the_last_free_log(rt: HostRuntime) -> Result<(), Fail> {
             crowds(book)
                 && finds_no_room(book)
                 && holds.get()
-                && has(book, 2, line(Kind::Open, 2, 1024, 0, 0))
-                && has(book, 3, line(Kind::Free, 3, 0, 0, 1024))
+                && has(book, 2, line(Kind::Open, 2, LOG_BYTES, 0, 0))
+                && has(book, 3, line(Kind::Free, 3, 0, 0, LOG_BYTES))
                 && comes_after_a_move(book)
                 && !holds.get()
         })
@@ -343,13 +343,18 @@ fn is_near(marks: Marks) -> Beside {
         Some(Ok(Some(place))),
         Some(Home::Near { place, marks }),
         false,
-        line(Kind::Open, 2, 16, 0, 1008),
+        line(Kind::Open, 2, 16, 0, LOG_BYTES - 16),
     )
 }
 
 // And so where it was retired.
 fn is_retired() -> Beside {
-    (Some(Ok(None)), None, false, line(Kind::Free, 2, 0, 0, 1024))
+    (
+        Some(Ok(None)),
+        None,
+        false,
+        line(Kind::Free, 2, 0, 0, LOG_BYTES),
+    )
 }
 
 // Whether it has come, with these marks, where its owner makes these events, the first before the step of this number, from 0 on.

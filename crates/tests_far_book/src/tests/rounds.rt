@@ -12,7 +12,7 @@ use far_book::{Beset, Book, Near, Plain, live_spans_follow};
 use far_core::{Event, Kind, Reply, Shape};
 use far_device::{Device, MemDevice};
 use far_log::Span;
-use far_word::{Mark, Marks, Place, PtrWord, Refused, ScopeWord, size_of};
+use far_word::{LOG_BYTES, LONGEST, Mark, Marks, Place, PtrWord, Refused, ScopeWord, size_of};
 use std::test::Fail;
 
 /// The cell of pointer 0, an object of 8 bytes of data structure 1 at the start of log 0: with EVAC, and without marks.
@@ -135,7 +135,8 @@ fn lets_go(book: &mut Book<Plain, MemDevice>, pointer: u16) -> bool {
 
 // Whether a log is given back, and is free.
 fn gives_back(book: &mut Book<Plain, MemDevice>, log: u8) -> bool {
-    release_sealed(book, log) == Some(true) && has(book, log, line(Kind::Free, log, 0, 0, 1024))
+    release_sealed(book, log) == Some(true)
+        && has(book, log, line(Kind::Free, log, 0, 0, LOG_BYTES))
 }
 
 // Whether a log isn't given back, since an object lies there.
@@ -152,7 +153,7 @@ fn has_no_room(book: &mut Book<Plain, MemDevice>) -> bool {
     full && keeps_log(book, 2)
         && refuses_move(book, 1, Refused::NoRoom)
         && retire_dropped(book, 2)
-        && has(book, 2, line(Kind::Sealed, 2, 0, 1024, 0))
+        && has(book, 2, line(Kind::Sealed, 2, 0, LOG_BYTES, 0))
         && release_sealed(book, 3).is_none()
 }
 
@@ -162,7 +163,7 @@ fn has_room(book: &mut Book<Plain, MemDevice>) -> bool {
         && release_sealed(book, 2).is_none()
         && moves_to(book, 1, Place { log: 2, at: 0 })
         && loaded(book, 1, 1) == Reply::Word(2)
-        && has(book, 2, line(Kind::Open, 2, 1024, 0, 0))
+        && has(book, 2, line(Kind::Open, 2, LOG_BYTES, 0, 0))
 }
 
 #[test]
@@ -178,8 +179,8 @@ fn a_refused_move_is_made_once_there_is_room(rt: HostRuntime) {
 fn fills_three(book: &mut Book<Plain, MemDevice>) -> bool {
     places_next(book, 8, 0, Place { log: 0, at: 0 })
         && places_next(book, 9, 1, Place { log: 0, at: 2 })
-        && places_next(book, 1016, 2, Place { log: 1, at: 0 })
-        && places_next(book, 1016, 3, Place { log: 2, at: 0 })
+        && places_next(book, LONGEST, 2, Place { log: 1, at: 0 })
+        && places_next(book, LONGEST, 3, Place { log: 2, at: 0 })
 }
 
 // Whether log 0 is given back once the last of its objects is retired, and the first of the sealed ones is still log 1.
@@ -200,9 +201,9 @@ fn a_log_given_back_opens_anew(rt: HostRuntime) {
         is_so_of(opened(&rt, SMALL), |book| {
             fills_three(book)
                 && gives_the_first_back(book)
-                && places_next(book, 1016, 0, Place { log: 0, at: 0 })
-                && has(book, 0, line(Kind::Open, 0, 1024, 0, 0))
-                && has(book, 1, line(Kind::Free, 1, 0, 0, 1024))
+                && places_next(book, LONGEST, 0, Place { log: 0, at: 0 })
+                && has(book, 0, line(Kind::Open, 0, LOG_BYTES, 0, 0))
+                && has(book, 1, line(Kind::Free, 1, 0, 0, LOG_BYTES))
         })
     );
 }
@@ -210,7 +211,7 @@ fn a_log_given_back_opens_anew(rt: HostRuntime) {
 // Whether an object lies in log 0, which the next one seals.
 fn seals_the_first(book: &mut Book<Plain, MemDevice>) -> bool {
     places_next(book, 8, 0, Place { log: 0, at: 0 })
-        && places_next(book, 1016, 1, Place { log: 1, at: 0 })
+        && places_next(book, LONGEST, 1, Place { log: 1, at: 0 })
 }
 
 // Whether a round of log 0 begins with this epoch, once the object is marked.
@@ -249,7 +250,7 @@ fn goes_on_to_the_end(book: &mut Book<Plain, MemDevice>) -> bool {
         && book.core().is_in_round(0)
         && book.core().is_clear(0)
         && book.core().cell(0) == WANTED
-        && has(book, 0, line(Kind::Sealed, 0, 16, 0, 1008))
+        && has(book, 0, line(Kind::Sealed, 0, 16, 0, LOG_BYTES - 16))
 }
 
 #[test]
@@ -389,8 +390,15 @@ fn finds_from_each(book: &mut Book<Plain, MemDevice>) -> bool {
 
 // Whether they are found so in a log that is full, and none in one that is free.
 fn finds_in_others(book: &mut Book<Plain, MemDevice>) -> bool {
-    places_next(book, 1016, 0, Place { log: 1, at: 0 })
-        && has_live(book, 1, &[Span { len: 1016, ..FIRST }])
+    places_next(book, LONGEST, 0, Place { log: 1, at: 0 })
+        && has_live(
+            book,
+            1,
+            &[Span {
+                len: LONGEST,
+                ..FIRST
+            }],
+        )
         && has_live(book, 3, &[])
         && has(book, 0, line(Kind::Sealed, 0, 24, 56, 944))
 }

@@ -1,10 +1,8 @@
 //! Each event's own call, and what a core shows after it.
 
 use super::*;
-use far_word::{CELLS, LOG_WORDS, Mark, PtrWord};
+use far_word::{CELLS, LOG_WORDS, LONGEST, Mark, PtrWord};
 use std::test::Fail;
-
-const HEADER: u64 = 0xa100_0000_0001_0008;
 
 const NEAR: u64 = 0x8400_0000_0001_0008;
 
@@ -79,7 +77,7 @@ fn mark_near(rt: &impl Abort, core: &mut Core, pointer: u16) -> u64 {
 #[test]
 fn object_is_made_and_viewed(rt: HostRuntime) -> Result<(), Fail> {
     let mut core = Core::new(rt.alloc(), TWO_OWNERS, true)?;
-    put_word(&rt, &mut core, FIRST, HEADER);
+    put_word(&rt, &mut core, FIRST, header(0, 8, 1));
     assert!(rt; name_new(&rt, &mut core, 0, 0, NEAR) == Ok(()));
     assert!(rt; core.starts(0, 0) && !core.starts(0, 1));
     assert!(rt; core.see(0) == NEAR);
@@ -102,10 +100,7 @@ fn marked_object_is_not_viewed(rt: HostRuntime) -> Result<(), Fail> {
     answers(
         &rt,
         &mut core,
-        &[
-            put(1, 0, 0xa100_0000_0301_0008),
-            named(3, 0x8400_0004_0001_0008),
-        ],
+        &[put(1, 0, header(3, 8, 1)), named(3, 0x8400_0004_0001_0008)],
     );
     assert!(rt; mark_near(&rt, &mut core, 2) == 0x8400_0000_0701_0008);
     let marked = 0xa400_0000_0701_0008;
@@ -118,12 +113,7 @@ fn marked_object_is_not_viewed(rt: HostRuntime) -> Result<(), Fail> {
 #[test]
 fn named_cell_is_found(rt: HostRuntime) -> Result<(), Fail> {
     let mut core = peopled(&rt, rt.alloc())?;
-    put_word(
-        &rt,
-        &mut core,
-        Place { log: 0, at: 9 },
-        0xa100_0000_0101_0008,
-    );
+    put_word(&rt, &mut core, Place { log: 0, at: 9 }, header(1, 8, 1));
     let lost = name_new(&rt, &mut core, 1, 0, 0x8400_0000_0901_0008);
     assert!(rt; lost == Err(0x8400_0000_0301_0008));
     assert!(rt; !core.starts(0, 9));
@@ -133,18 +123,18 @@ fn named_cell_is_found(rt: HostRuntime) -> Result<(), Fail> {
 #[test]
 fn log_of_a_dropped_object_is_given_back(rt: HostRuntime) -> Result<(), Fail> {
     let mut core = Core::new(rt.alloc(), SMALL, true)?;
-    let (header, whole) = (0xa100_0000_0001_03f8, 0x8400_0000_0001_03f8);
-    put_word(&rt, &mut core, FIRST, header);
+    let (filling, whole) = (header(0, LONGEST, 1), 0x8400_0000_0001_03f8);
+    put_word(&rt, &mut core, FIRST, filling);
     assert!(rt; name_new(&rt, &mut core, 0, 0, whole) == Ok(()));
     let next = Place { log: 1, at: 0 };
-    put_word(&rt, &mut core, next, 0xa100_0000_0101_0008);
+    put_word(&rt, &mut core, next, header(1, 8, 1));
     assert!(rt; name_new(&rt, &mut core, 1, 0, 0x8400_0004_0001_0008) == Ok(()));
     assert!(rt; adopt_own(&rt, &mut core, 0) == Some(whole));
     assert!(rt; drop_own(&rt, &mut core, 0) == whole);
     assert!(rt; !core.is_used(0) && !core.may_get(0, 0, true));
     assert!(rt; !core.may_name(0, whole, 0));
     assert!(rt; name_new(&rt, &mut core, 0, 0x8c00_0000_0001_03f8, 0) == Ok(()));
-    assert!(rt; give_back(&rt, &mut core, 0) == header);
+    assert!(rt; give_back(&rt, &mut core, 0) == filling);
     assert!(rt; log_shown(&rt, &core, 0) == (Kind::Free, 0));
     Ok(())
 }

@@ -1,6 +1,7 @@
 //! Logs filled to their last word.
 
 use super::*;
+use far_word::LONGEST;
 use std::test::Fail;
 
 const FULL: (Kind, u16) = (Kind::Sealed, 128);
@@ -12,7 +13,7 @@ fn longest_object_fills_a_log(rt: HostRuntime) -> Result<(), Fail> {
         &rt,
         &mut core,
         &[
-            put(0, 0, 0xa100_0000_0001_03f8),
+            put(0, 0, header(0, LONGEST, 1)),
             put(0, 127, 0),
             named(0, 0x8400_0000_0001_03f8),
         ],
@@ -21,10 +22,7 @@ fn longest_object_fills_a_log(rt: HostRuntime) -> Result<(), Fail> {
     answers(
         &rt,
         &mut core,
-        &[
-            put(1, 0, 0xa100_0000_0101_0001),
-            named(1, 0x8400_0004_0001_0001),
-        ],
+        &[put(1, 0, header(1, 1, 1)), named(1, 0x8400_0004_0001_0001)],
     );
     assert!(rt; log_shown(&rt, &core, 0) == FULL);
     assert!(rt; log_shown(&rt, &core, 1) == (Kind::Open, 2));
@@ -43,11 +41,7 @@ fn shortest_objects_fill_a_log(rt: HostRuntime) -> Result<(), Fail> {
             &rt,
             &mut core,
             &[
-                put(
-                    0,
-                    2 * pointer,
-                    0xa100_0000_0001_0001 | (pointer as u64) << 24,
-                ),
+                put(0, 2 * pointer, header(pointer, 1, 1)),
                 named(pointer, 0x8400_0000_0001_0001 | place),
             ],
         );
@@ -63,7 +57,7 @@ fn shortest_objects_fill_a_log(rt: HostRuntime) -> Result<(), Fail> {
         &mut core,
         &[
             (refused, Reply::Refused),
-            put(3, 0, 0xa100_0000_4001_0008),
+            put(3, 0, header(64, 8, 1)),
             named(64, 0x8400_000c_0001_0008),
         ],
     );
@@ -80,10 +74,7 @@ fn named_cell_is_not_named_again(rt: HostRuntime) -> Result<(), Fail> {
     answers(
         &rt,
         &mut core,
-        &[
-            put(0, 9, 0xa100_0000_0101_0008),
-            put(2, 0, 0xa100_0000_0101_0008),
-        ],
+        &[put(0, 9, header(1, 8, 1)), put(2, 0, header(1, 8, 1))],
     );
     let before = observed(&rt, &mut core);
     for new in [0x8400_0000_0901_0008, 0x8400_0008_0001_0008] {

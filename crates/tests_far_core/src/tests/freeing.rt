@@ -1,12 +1,10 @@
 //! Words that the book reads, and logs that it gives back.
 
 use super::*;
-use far_word::Mark;
+use far_word::{LONGEST, Mark};
 use std::test::Fail;
 
-/// The header and the cell of pointer 0, an object of 1,016 bytes that fills log 0.
-const WHOLE_HEADER: u64 = 0xa100_0000_0001_03f8;
-
+/// The cell of pointer 0, an object that fills log 0.
 const WHOLE: u64 = 0x8400_0000_0001_03f8;
 
 const DROPPED: u64 = 0x8c00_0000_0001_03f8;
@@ -22,9 +20,9 @@ fn sealed(rt: &impl Abort, alloc: Global) -> Result<Core, Refused> {
         rt,
         &mut core,
         &[
-            put(0, 0, WHOLE_HEADER),
+            put(0, 0, header(0, LONGEST, 1)),
             named(0, WHOLE),
-            put(1, 0, 0xa100_0000_0101_0008),
+            put(1, 0, header(1, 8, 1)),
             named(1, 0x8400_0004_0001_0008),
             adopted(0, 0, WHOLE),
         ],
@@ -84,13 +82,13 @@ fn a_log_is_given_back(rt: HostRuntime) -> Result<(), Fail> {
         &rt,
         &mut core,
         &[
-            (get(0, 0, false), Reply::Word(WHOLE_HEADER)),
+            (get(0, 0, false), Reply::Word(header(0, LONGEST, 1))),
             (ask, Reply::Word(WHOLE)),
             (get(0, 0, true), Reply::Refused),
             (retire, Reply::Done),
-            (get(0, 0, true), Reply::Word(WHOLE_HEADER)),
+            (get(0, 0, true), Reply::Word(header(0, LONGEST, 1))),
             (get(0, 0, true), Reply::Refused),
-            (get(0, 0, false), Reply::Word(WHOLE_HEADER)),
+            (get(0, 0, false), Reply::Word(header(0, LONGEST, 1))),
             put(0, 0, 0),
         ],
     );

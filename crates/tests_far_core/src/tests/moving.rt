@@ -21,8 +21,6 @@ const FAR: u64 = 0x0400_0000_0001_0009;
 /// And at the tail of log 2.
 const BACK: u64 = 0x8400_0008_0201_0009;
 
-const HEADER: u64 = 0xa100_0000_0101_0009;
-
 const FIRST: u64 = 0x0807_0605_0403_0201;
 
 fn ask(pointer: u16, mark: Mark) -> Event {
@@ -48,9 +46,9 @@ fn written(rt: &impl Abort, alloc: Global, honest: bool) -> Result<Core, Refused
         rt,
         &mut core,
         &[
-            put(0, 0, 0xa100_0000_0001_0009),
+            put(0, 0, header(0, 9, 1)),
             named(0, 0x8400_0000_0001_0009),
-            put(0, 3, HEADER),
+            put(0, 3, header(1, 9, 1)),
             named(1, PLACED),
             adopted(0, 0, 0x8400_0000_0001_0009),
             adopted(0, 1, PLACED),
@@ -65,10 +63,10 @@ fn written(rt: &impl Abort, alloc: Global, honest: bool) -> Result<Core, Refused
             stored(1, 0, FIRST),
             stored(1, 1, 9),
             (Event::Close { owner: 0 }, Reply::Done),
-            put(0, 6, HEADER),
+            put(0, 6, header(1, 9, 1)),
             put(0, 7, FIRST),
             put(0, 8, 9),
-            put(1, 0, HEADER),
+            put(1, 0, header(1, 9, 1)),
             put(1, 1, FIRST),
             put(1, 2, 9),
         ],
@@ -145,7 +143,7 @@ fn an_object_that_is_only_marked_stays(rt: HostRuntime) -> Result<(), Fail> {
         &rt,
         &mut core,
         &[
-            put(2, 0, 0xa100_0000_0201_0008),
+            put(2, 0, header(2, 8, 1)),
             named(2, 0x8400_0008_0001_0008),
             (Event::Mark { pointer: 1 }, Reply::Word(VIEWED)),
             (Event::See { pointer: 1 }, Reply::Word(evac)),
@@ -194,9 +192,9 @@ fn a_copy_that_is_not_whole_refuses(rt: HostRuntime) -> Result<(), Fail> {
             put(0, 7, 0),
             (name(1, MOVING, AT_TAIL), Reply::Refused),
             put(0, 7, FIRST),
-            put(0, 6, 0xa100_0000_0001_0009),
+            put(0, 6, header(0, 9, 1)),
             (name(1, MOVING, AT_TAIL), Reply::Refused),
-            put(0, 6, HEADER),
+            put(0, 6, header(1, 9, 1)),
             (name(1, MOVING, AT_TAIL), Reply::Done),
         ],
         &[],
@@ -241,7 +239,7 @@ fn away(rt: &impl Abort, alloc: Global, honest: bool) -> Result<Core, Refused> {
         rt,
         &mut core,
         &[
-            put(2, 0, 0xa100_0000_0201_0008),
+            put(2, 0, header(2, 8, 1)),
             named(2, 0x8400_0008_0001_0008),
             (Event::Mark { pointer: 1 }, Reply::Word(VIEWED)),
             (ask(1, Mark::Moved), Reply::Word(0xe400_0000_0301_0009)),
@@ -259,7 +257,7 @@ fn an_object_goes_away_and_comes_back(rt: HostRuntime) -> Result<(), Fail> {
         &rt,
         &mut core,
         &[
-            put(2, 2, HEADER),
+            put(2, 2, header(1, 9, 1)),
             put(2, 3, FIRST),
             put(2, 4, 9),
             (name(1, FAR, BACK), Reply::Done),
@@ -278,7 +276,7 @@ fn other_words_than_those_stored_refuse(rt: HostRuntime) -> Result<(), Fail> {
         &rt,
         core,
         &[
-            put(2, 2, HEADER),
+            put(2, 2, header(1, 9, 1)),
             put(2, 3, FIRST),
             put(2, 4, 8),
             (name(1, FAR, BACK), Reply::Refused),
@@ -302,7 +300,7 @@ fn a_lying_far_side_gives_any_words(rt: HostRuntime) -> Result<(), Fail> {
         &rt,
         &mut core,
         &[
-            put(2, 2, HEADER),
+            put(2, 2, header(1, 9, 1)),
             put(2, 3, u64::MAX),
             put(2, 4, 0x100),
             (name(1, FAR, BACK), Reply::Refused),

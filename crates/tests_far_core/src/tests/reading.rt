@@ -7,7 +7,7 @@ use std::test::Fail;
 #[test]
 fn first_object_is_read(rt: HostRuntime) -> Result<(), Fail> {
     let cases = [
-        put(0, 0, 0xa100_0000_0001_0008),
+        put(0, 0, header(0, 8, 1)),
         put(0, 1, 0),
         named(0, 0x8400_0000_0001_0008),
         adopted(0, 0, 0x8400_0000_0001_0008),

@@ -120,7 +120,7 @@ fn puts_refuse(rt: HostRuntime) -> Result<(), Fail> {
 #[test]
 fn words_that_name_nothing_refuse(rt: HostRuntime) -> Result<(), Fail> {
     let mut core = peopled(&rt, rt.alloc())?;
-    answers(&rt, &mut core, &[put(0, 9, 0xa100_0000_0301_0008)]);
+    answers(&rt, &mut core, &[put(0, 9, header(3, 8, 1))]);
     refuses(
         &rt,
         &mut core,
@@ -158,9 +158,9 @@ fn places_that_are_not_next_refuse(rt: HostRuntime) -> Result<(), Fail> {
         &rt,
         core,
         &[
-            put(0, 11, 0xa100_0000_0301_0008),
-            put(1, 1, 0xa100_0000_0301_0008),
-            put(0, 9, 0xa100_0001_0001_0008),
+            put(0, 11, header(3, 8, 1)),
+            put(1, 1, header(3, 8, 1)),
+            put(0, 9, header(256, 8, 1)),
         ],
         &[
             name(3, 0, 0x8400_0000_0b01_0008),
@@ -179,11 +179,7 @@ fn places_that_are_not_next_refuse(rt: HostRuntime) -> Result<(), Fail> {
 fn data_that_is_not_zero_refuses(rt: HostRuntime) -> Result<(), Fail> {
     let mut core = peopled(&rt, rt.alloc())?;
     let new = 0x8400_0000_0901_0009;
-    answers(
-        &rt,
-        &mut core,
-        &[put(0, 9, 0xa100_0000_0301_0009), put(0, 10, 1)],
-    );
+    answers(&rt, &mut core, &[put(0, 9, header(3, 9, 1)), put(0, 10, 1)]);
     refuses(&rt, &mut core, &[name(3, 0, new)]);
     answers(&rt, &mut core, &[put(0, 10, 0), put(0, 11, 1 << 63)]);
     refuses(&rt, &mut core, &[name(3, 0, new)]);
@@ -203,8 +199,8 @@ fn sealed_log_refuses(rt: HostRuntime) -> Result<(), Fail> {
         &rt,
         &mut core,
         &[
-            put(0, 9, 0xa100_0000_0401_0008),
-            put(2, 0, 0xa100_0000_0301_0008),
+            put(0, 9, header(4, 8, 1)),
+            put(2, 0, header(3, 8, 1)),
             named(3, 0x8400_0008_0001_0008),
         ],
     );

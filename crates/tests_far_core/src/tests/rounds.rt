@@ -4,8 +4,6 @@ use super::*;
 use far_word::Mark;
 use std::test::Fail;
 
-const HEADER: u64 = 0xa100_0000_0001_0008;
-
 const NEAR: u64 = 0x8400_0000_0001_0008;
 
 const WITH_EVAC: u64 = 0xa400_0000_0001_0008;
@@ -55,9 +53,9 @@ fn settled(rt: &impl Abort, alloc: Global, shape: Shape) -> Result<Core, Refused
         rt,
         &mut core,
         &[
-            put(0, 0, HEADER),
+            put(0, 0, header(0, 8, 1)),
             named(0, NEAR),
-            put(1, 0, 0xa100_0000_0101_0008),
+            put(1, 0, header(1, 8, 1)),
             named(1, NEXT),
             adopted(0, 0, NEAR),
         ],
@@ -204,7 +202,7 @@ fn a_round_sends_an_object_far(rt: HostRuntime) -> Result<(), Fail> {
                     at: 0,
                     free: true,
                 },
-                Reply::Word(HEADER),
+                Reply::Word(header(0, 8, 1)),
             ),
         ],
     );
@@ -215,7 +213,11 @@ fn a_round_sends_an_object_far(rt: HostRuntime) -> Result<(), Fail> {
 #[test]
 fn a_round_moves_an_object(rt: HostRuntime) -> Result<(), Fail> {
     let mut core = settled(&rt, rt.alloc(), SMALL)?;
-    answers(&rt, &mut core, &[marked(0, NEAR), put(1, 2, HEADER)]);
+    answers(
+        &rt,
+        &mut core,
+        &[marked(0, NEAR), put(1, 2, header(0, 8, 1))],
+    );
     assert!(rt; core.may_advance(1));
     assert!(rt; core.advance(1) == 1);
     assert!(rt; core.look(0) == 0);

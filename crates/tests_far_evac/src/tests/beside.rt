@@ -9,7 +9,7 @@ use far_device::MemDevice;
 use far_evac::{Census, Evac, LogState, Progress, RoundEnd};
 use far_log::{LogRow, Span};
 use far_policy::Oldest;
-use far_word::{LONGEST, Mark, Place, Refused, size_of};
+use far_word::{LOG_BYTES, LONGEST, Mark, Place, Refused, size_of};
 use std::alloc::AllocError;
 
 const SHAPE: Shape = Shape {
@@ -105,7 +105,7 @@ fn places_ten(evac: &mut Evac<Beset, MemDevice>) -> bool {
             return false;
         }
     }
-    places_two(evac, 1016)
+    places_two(evac, LONGEST)
 }
 
 // What a round of logs 0 and 1 has done, if it ended and gave both back.
@@ -149,7 +149,7 @@ fn adds_up(evac: &mut Evac<Beset, MemDevice>, row: LogRow) -> bool {
     };
     let (live, dead) = weighed(evac, row.log, &spans);
     let placed = live.saturating_add(dead);
-    row.live == live && row.dead == dead && row.unused == 1024u16.saturating_sub(placed)
+    row.live == live && row.dead == dead && row.unused == LOG_BYTES.saturating_sub(placed)
 }
 
 fn has_drop(home: Home) -> bool {

@@ -3,7 +3,7 @@
 ghost use Rattle.std.specs.Borrow.{MutBor};
 ghost use Rattle.std.specs.Prelude.{◌≡◌, true};
 
-use far_book::{Book, Near, Home, Plain};
+use far_book::{Book, Home, Near, Plain};
 use far_core::{Core, Event, Reply, Shape};
 use far_device::{Device, MemDevice};
 use far_evac::{Evac, LogKind, LogState};
@@ -112,12 +112,12 @@ pub(super) fn makes_many<D: Device + Drop>(
 
 // Makes an object of 8 bytes, and one that fills the next log, so that the first log is sealed.
 pub(super) fn makes_sealed<D: Device + Drop>(evac: &mut Evac<Plain, D>) -> bool {
-    makes(evac, 8) && makes(evac, 1016)
+    makes(evac, 8) && makes(evac, LONGEST)
 }
 
 // Makes three objects, each of which fills a log.
 pub(super) fn makes_three<D: Device + Drop>(evac: &mut Evac<Plain, D>) -> bool {
-    makes_many(evac, 3, 1016)
+    makes_many(evac, 3, LONGEST)
 }
 
 pub(super) fn open<D: Device + Drop>(evac: &mut Evac<Plain, D>) -> bool {

@@ -15,7 +15,7 @@ use far_device::{Device, DeviceFault, MemDevice, hand_over};
 use far_evac::{LogKind, Phase};
 use far_heap::{Blank, Evacuator, Heap, HeapName, Scope};
 use far_policy::{Oldest, Scripted};
-use far_word::Refused;
+use far_word::{LOG_BYTES, LONGEST, Refused};
 use std::sync::Wait;
 use std::test::Fail;
 
@@ -161,10 +161,10 @@ pub(super) fn comes_to_log_two<K: HeapName, D: Device + Drop, R: Wait>(
     lent: &mut Lent<K, D>,
 ) -> bool {
     lent.makes(rt, 8, 0)
-        && lent.makes(rt, 1016, 1)
+        && lent.makes(rt, LONGEST, 1)
         && opened!(lent, scope, writes(scope, 0, EIGHT))
         && runs_through(rt, heap, &mut Oldest, [1, 0, 0, 1])
-        && lent.makes(rt, 1016, 2)
+        && lent.makes(rt, LONGEST, 2)
 }
 
 // Whether a round of log 2 sends its object far.
@@ -242,7 +242,7 @@ fn a_refused_view_may_be_tried_again(rt: HostRuntime) -> Result<(), Fail> {
 
 // Whether the round stands where the object is to leave, which is there.
 fn stands<K: HeapName>(book: &mut Evacuator<K, Faulty>) -> bool {
-    book.phase() == Phase::Evacuating && is_log(book, 2, LogKind::Chosen, [16, 0, 1008])
+    book.phase() == Phase::Evacuating && is_log(book, 2, LogKind::Chosen, [16, 0, LOG_BYTES - 16])
 }
 
 // Whether the round goes on then.
@@ -254,7 +254,7 @@ fn goes_on<K: HeapName>(book: &mut Evacuator<K, Faulty>) -> bool {
 fn gives_up<K: HeapName>(book: &mut Evacuator<K, Faulty>) -> bool {
     book.abort().is_ok()
         && is_near(book, 0, (2, 0), false)
-        && is_log(book, 2, LogKind::Sealed, [16, 0, 1008])
+        && is_log(book, 2, LogKind::Sealed, [16, 0, LOG_BYTES - 16])
 }
 
 // Whether the round goes on, or is given up.

@@ -9,7 +9,7 @@ use far_device::{Device, FailAt, MemDevice};
 use far_evac::{Phase, RoundEnd};
 use far_heap::{Blank, Evacuator, Heap, HeapName, Scope};
 use far_policy::Oldest;
-use far_word::Refused;
+use far_word::{LONGEST, Refused};
 use std::alloc::Global;
 use std::sync::Wait;
 use std::test::Fail;
@@ -92,7 +92,7 @@ impl<D: Device + Drop> Trial<D> for PlainRun {
         lent.makes(rt, 8, 0)
             && lent.makes(rt, 8, 1)
             && opened!(lent, scope, writes(scope, 0, EIGHT))
-            && lent.makes(rt, 1016, 2)
+            && lent.makes(rt, LONGEST, 2)
             && rounds_or_fails(rt, heap, &self.failures)
             && opened!(lent, scope, have_bytes(rt, scope, EIGHT, &self.failures))
             && of_book!(rt, heap, book, has_three(book))
@@ -101,9 +101,9 @@ impl<D: Device + Drop> Trial<D> for PlainRun {
 
 // Whether three objects fill a log each, and the first is viewed.
 fn fills_three<K: HeapName, D: Device + Drop, R: Wait>(rt: &R, lent: &mut Lent<K, D>) -> bool {
-    lent.makes(rt, 1016, 0)
-        && lent.makes(rt, 1016, 1)
-        && lent.makes(rt, 1016, 2)
+    lent.makes(rt, LONGEST, 0)
+        && lent.makes(rt, LONGEST, 1)
+        && lent.makes(rt, LONGEST, 2)
         && opened!(lent, scope, reads(scope, 0, [0; 8]))
 }
 

@@ -6,7 +6,7 @@ use far_device::{Device, MemDevice};
 use far_evac::{Census, LogKind, LogState};
 use far_heap::{Blank, Evacuator, HeapName};
 use far_log::LogRow;
-use far_word::{Marks, Place, Refused};
+use far_word::{LOG_BYTES, Marks, Place, Refused};
 
 pub(super) const NO_MARKS: Marks = Marks {
     hot: false,
@@ -124,7 +124,7 @@ pub(super) fn is_log<K: HeapName, D: Device + Drop>(
 
 /// Whether a log is free.
 pub(super) fn is_free<K: HeapName, D: Device + Drop>(book: &mut Evacuator<K, D>, log: u8) -> bool {
-    is_log(book, log, LogKind::Free, [0, 0, 1024])
+    is_log(book, log, LogKind::Free, [0, 0, LOG_BYTES])
 }
 
 /// What a census counts.
@@ -157,7 +157,7 @@ fn bytes(census: &Census) -> (u64, bool) {
         let row = state.row;
         let placed = row.live.saturating_add(row.dead);
         live = live.saturating_add(row.live as u64);
-        whole = whole && placed.saturating_add(row.unused) == 1024;
+        whole = whole && placed.saturating_add(row.unused) == LOG_BYTES;
     }
     (live, whole)
 }

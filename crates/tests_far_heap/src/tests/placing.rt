@@ -8,7 +8,7 @@ use far_device::MemDevice;
 use far_evac::{Housed, LogState, Phase};
 use far_heap::{Evacuator, Heap, HeapName};
 use far_policy::Oldest;
-use far_word::Refused;
+use far_word::{LONGEST, Refused};
 use std::sync::Wait;
 use std::test::Fail;
 
@@ -224,7 +224,7 @@ impl Trial<MemDevice> for PlacedOnce {
         lent: &mut Lent<K, MemDevice>,
     ) -> bool {
         places_two(rt, heap, lent, 0)
-            && lent.makes(rt, 1016, 2)
+            && lent.makes(rt, LONGEST, 2)
             && of_book!(rt, heap, book, begins(book))
             && places_two(rt, heap, lent, 3)
             && of_book!(rt, heap, book, waits(book))

@@ -8,13 +8,13 @@ use far_device::{Device, MemDevice};
 use far_evac::LogKind;
 use far_heap::{Evacuator, Heap, HeapName, Mutator, Scope, Tried};
 use far_policy::Oldest;
-use far_word::Refused;
+use far_word::{LOG_BYTES, LONGEST, Refused};
 use std::sync::Wait;
 use std::test::Fail;
 
 // Whether the first of four logs has one object, and the others are free.
 fn has_one_object<K: HeapName, D: Device + Drop>(book: &mut Evacuator<K, D>) -> bool {
-    is_log(book, 0, LogKind::Open, [16, 0, 1008])
+    is_log(book, 0, LogKind::Open, [16, 0, LOG_BYTES - 16])
         && is_free(book, 1)
         && is_free(book, 2)
         && is_free(book, 3)
@@ -44,8 +44,8 @@ fn stands_after<K: HeapName, D: Device + Drop>(book: &mut Evacuator<K, D>) -> bo
     is_near(book, 0, (2, 0), false)
         && is_far(book, 1, false)
         && is_free(book, 0)
-        && is_log(book, 1, LogKind::Sealed, [1024, 0, 0])
-        && is_log(book, 2, LogKind::Open, [16, 0, 1008])
+        && is_log(book, 1, LogKind::Sealed, [LOG_BYTES, 0, 0])
+        && is_log(book, 2, LogKind::Open, [16, 0, LOG_BYTES - 16])
         && counts(book, 2, 1, 1040)
 }
 
@@ -71,7 +71,7 @@ fn makes_a_round<K: HeapName, R: Wait>(
     lent.makes(rt, 8, 0)
         && lent.makes(rt, 8, 1)
         && opened!(lent, scope, writes_first(scope))
-        && lent.makes(rt, 1016, 2)
+        && lent.makes(rt, LONGEST, 2)
         && runs_through(rt, heap, &mut Oldest, [1, 1, 0, 1])
 }
 
@@ -86,7 +86,7 @@ fn brings_back<K: HeapName, R: Wait>(
 
 // Whether a dropped object's cell is used again.
 fn uses_again<K: HeapName, R: Wait>(rt: &R, mutator: &mut Mutator<K, MemDevice>) -> bool {
-    mutator.drop_object(rt, 1) == Ok(()) && makes(rt, mutator, 1016, 1)
+    mutator.drop_object(rt, 1) == Ok(()) && makes(rt, mutator, LONGEST, 1)
 }
 
 // A round moves the object that was written, and sends the other far, from where it comes back.
@@ -127,7 +127,7 @@ impl Trial<MemDevice> for WaitingRound {
         lent: &mut Lent<K, MemDevice>,
     ) -> bool {
         lent.makes(rt, 8, 0)
-            && lent.makes(rt, 1016, 1)
+            && lent.makes(rt, LONGEST, 1)
             && opened!(
                 lent,
                 scope,
@@ -148,9 +148,9 @@ fn heap_rows(rt: HostRuntime) -> Result<(), Fail> {
 
 // Whether three objects fill a log each, and the first is viewed.
 fn fills_three<K: HeapName, R: Wait>(rt: &R, lent: &mut Lent<K, MemDevice>) -> bool {
-    lent.makes(rt, 1016, 0)
-        && lent.makes(rt, 1016, 1)
-        && lent.makes(rt, 1016, 2)
+    lent.makes(rt, LONGEST, 0)
+        && lent.makes(rt, LONGEST, 1)
+        && lent.makes(rt, LONGEST, 2)
         && opened!(lent, scope, reads(scope, 0, [0; 8]))
 }
 
@@ -225,7 +225,7 @@ impl Trial<MemDevice> for MarkedObject {
         lent: &mut Lent<K, MemDevice>,
     ) -> bool {
         lent.makes(rt, 8, 0)
-            && lent.makes(rt, 1016, 1)
+            && lent.makes(rt, LONGEST, 1)
             && opened!(lent, scope, writes_first(scope))
             && of_book!(rt, heap, book, marks_first(book))
             && opened!(

@@ -10,7 +10,7 @@ use far_device::MemDevice;
 use far_evac::Phase;
 use far_heap::{Blank, Evacuator, Heap, HeapName, Mutator, Scope, View};
 use far_policy::Oldest;
-use far_word::Refused;
+use far_word::{LONGEST, Refused};
 use std::alloc::Global;
 use std::marker::Brand;
 use std::sync::Wait;
@@ -189,7 +189,7 @@ fn dropped_beside<K: HeapName + Send + Sync, R: Threads + Wait + Sync>(
     let Some(mut mutator) = mutators.pop() else {
         return false;
     };
-    if !makes(rt, &mut mutator, 8, 0) || !makes(rt, &mut mutator, 1016, 1) {
+    if !makes(rt, &mut mutator, 8, 0) || !makes(rt, &mut mutator, LONGEST, 1) {
         return false;
     }
     let held = Tally::new();
@@ -251,7 +251,7 @@ fn ended_round<K: HeapName + Send + Sync, R: Threads + Wait + Sync>(
     let Some(mut mutator) = mutators.pop() else {
         return false;
     };
-    if !makes(rt, &mut mutator, 8, 0) || !makes(rt, &mut mutator, 1016, 1) {
+    if !makes(rt, &mut mutator, 8, 0) || !makes(rt, &mut mutator, LONGEST, 1) {
         return false;
     }
     let mut scope = mutator.open();

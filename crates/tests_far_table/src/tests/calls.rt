@@ -16,10 +16,7 @@ fn placed(rt: &impl Abort, alloc: Global) -> Result<Core, Refused> {
     happens(
         rt,
         &mut core,
-        &[
-            put(0, 0, 0xa100_0000_0001_0009),
-            named(0, 0x8400_0000_0001_0009),
-        ],
+        &[put(0, 0, header(0, 9, 1)), named(0, 0x8400_0000_0001_0009)],
     );
     Ok(core)
 }

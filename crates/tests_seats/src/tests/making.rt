@@ -2,14 +2,14 @@
 
 ghost use Rattle.std.specs.Borrow.{MutBor};
 
-use far_book::{Book, Near, Home};
+use far_book::{Book, Home, Near};
 use far_core::{Reply, Shape};
 use far_device::{Device, MemDevice};
 use far_evac::{Evac, LogKind, LogState};
 use far_log::LogRow;
-use tests_owner::{Owner, shared};
 use far_table::BookSeat;
 use far_word::{LONGEST, Mark, Marks, Place, Refused};
+use tests_owner::{Owner, shared};
 
 pub(super) const SMALL: Shape = Shape {
     logs: 4,
@@ -101,7 +101,7 @@ pub(super) fn has_no_room<N: Near + Drop>(heap: &mut Heap<N>, len: u16) -> bool 
 
 // Whether an object of 8 bytes is made, and one that fills the next log, so that the first log is sealed.
 pub(super) fn makes_sealed<N: Near + Drop>(heap: &mut Heap<N>) -> bool {
-    makes(heap, 8, 0) && makes(heap, 1016, 1)
+    makes(heap, 8, 0) && makes(heap, LONGEST, 1)
 }
 
 // Whether the owner opens its scope at this epoch.

@@ -2,9 +2,9 @@
 
 use crate::tests::making::{Pair, SMALL, is_so_of, opens, pair_of, pins};
 use crate::tests::stale::{adopts_next, marks_sealed};
-use far_book::{Book, Near, Home};
+use far_book::{Book, Home, Near};
 use far_device::Device;
-use far_word::Mark;
+use far_word::{LONGEST, Mark};
 
 // Whether an object that is seen to have EVAC and MOVE goes far.
 #[tactic(auto, using(crate::proofs::Uses::quiet_home, crate::proofs::Uses::evac_home))]
@@ -50,7 +50,7 @@ fn writes<N: Near + Drop>(pair: &mut Pair<N>, word: u64) -> bool {
 fn is_marked<N: Near + Drop>(pair: &mut Pair<N>) -> bool {
     adopts_next(pair, 8, 0)
         && writes(pair, 0xaa)
-        && adopts_next(pair, 1016, 1)
+        && adopts_next(pair, LONGEST, 1)
         && marks_sealed(&mut pair.book, 0) == Some(0xc400_0000_0001_0008)
         && pair.owner.ask(0, Mark::Moved) == Some(0xe400_0000_0001_0008)
 }

@@ -8,21 +8,21 @@ use crate::tests::steps::{begins, counts, is_clear, leaves, runs, waits};
 use far_book::Near;
 use far_core::Shape;
 use far_evac::LogKind;
-use far_word::Place;
+use far_word::{LOG_BYTES, LONGEST, Place};
 
 /// The bytes 1 to 8 in a word.
 const COUNTED: u64 = 0x0807_0605_0403_0201;
 
 // Whether two objects fill all logs but the last.
 fn fills<N: Near + Drop>(heap: &mut Heap<N>) -> bool {
-    makes(heap, 1016, 0) && makes(heap, 1016, 1) && has_no_room(heap, 8)
+    makes(heap, LONGEST, 0) && makes(heap, LONGEST, 1) && has_no_room(heap, 8)
 }
 
 fn makes_room<N: Near + Drop>(heap: &mut Heap<N>) -> bool {
     drops(heap, 0)
         && runs(heap, [0, 0, 0, 1])
         && makes(heap, 8, 0)
-        && is_log(heap, 0, LogKind::Open, [16, 0, 1008])
+        && is_log(heap, 0, LogKind::Open, [16, 0, LOG_BYTES - 16])
 }
 
 #[test]
@@ -36,7 +36,7 @@ fn parts_two<N: Near + Drop>(heap: &mut Heap<N>) -> bool {
     makes(heap, 8, 0)
         && makes(heap, 8, 1)
         && writes(heap, 0, COUNTED)
-        && makes(heap, 1016, 2)
+        && makes(heap, LONGEST, 2)
         && runs(heap, [1, 1, 0, 1])
         && is_near(heap, 0, Place { log: 2, at: 0 }, false)
         && is_far(heap, 1)
@@ -44,9 +44,9 @@ fn parts_two<N: Near + Drop>(heap: &mut Heap<N>) -> bool {
 
 // Whether log 0 is free then, and log 2 has the object that moved.
 fn has_parted<N: Near + Drop>(heap: &mut Heap<N>) -> bool {
-    is_log(heap, 0, LogKind::Free, [0, 0, 1024])
-        && is_log(heap, 1, LogKind::Sealed, [1024, 0, 0])
-        && is_log(heap, 2, LogKind::Open, [16, 0, 1008])
+    is_log(heap, 0, LogKind::Free, [0, 0, LOG_BYTES])
+        && is_log(heap, 1, LogKind::Sealed, [LOG_BYTES, 0, 0])
+        && is_log(heap, 2, LogKind::Open, [16, 0, LOG_BYTES - 16])
         && counts(heap, 2, 1, 1040)
 }
 
@@ -89,7 +89,7 @@ fn a_round_waits(rt: HostRuntime) {
 fn reads_an_epoch<N: Near + Drop>(heap: &mut Heap<N>) -> bool {
     makes(heap, 8, 0)
         && writes(heap, 0, 0xaa)
-        && makes(heap, 1016, 1)
+        && makes(heap, LONGEST, 1)
         && heap.owner.read_epoch() == Some(0)
         && begins(heap, &[0], 1)
         && is_clear(heap)
@@ -131,7 +131,7 @@ fn an_old_view_is_used_again(rt: HostRuntime) {
 fn begins_with_two<N: Near + Drop>(heap: &mut Heap<N>) -> bool {
     makes(heap, 8, 0)
         && makes(heap, 8, 1)
-        && makes(heap, 1016, 2)
+        && makes(heap, LONGEST, 2)
         && begins(heap, &[0], 2)
         && is_clear(heap)
 }
@@ -149,9 +149,9 @@ fn the_owner_is_first(rt: HostRuntime) {
 
 // Whether a round of two logs begins, of which one has a hot object.
 fn begins_with_full_logs<N: Near + Drop>(heap: &mut Heap<N>) -> bool {
-    makes(heap, 1016, 0)
-        && makes(heap, 1016, 1)
-        && makes(heap, 1016, 2)
+    makes(heap, LONGEST, 0)
+        && makes(heap, LONGEST, 1)
+        && makes(heap, LONGEST, 2)
         && opens(&mut heap.owner, 0)
         && views(heap, 0)
         && heap.owner.close()

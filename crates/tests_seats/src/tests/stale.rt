@@ -5,7 +5,7 @@ ghost use Rattle.far_word.specs.Pointer.{read_of};
 ghost use Rattle.tests_seats.specs.Marked.{evac_in};
 
 use crate::tests::making::{Pair, SMALL, finds, is_so_of, pair_of};
-use far_book::{Book, Near, Home};
+use far_book::{Book, Home, Near};
 use far_core::{Kind, Reply, sets_of_logs};
 use far_device::Device;
 use far_word::{LONGEST, Mark, Place, PtrWord, Refused};
@@ -112,7 +112,7 @@ fn moves<N: Near + Drop, D: Device + Drop>(book: &mut Book<N, D>, pointer: u16) 
 
 // Whether two objects are placed, and the owner reads the epoch.
 fn reads_an_epoch<N: Near + Drop>(pair: &mut Pair<N>) -> bool {
-    adopts_next(pair, 8, 0) && adopts_next(pair, 1016, 1) && pair.owner.read_epoch() == Some(0)
+    adopts_next(pair, 8, 0) && adopts_next(pair, LONGEST, 1) && pair.owner.read_epoch() == Some(0)
 }
 
 // Whether a round begins, in which the owner is seen clear.

@@ -1,4 +1,5 @@
 use Rattle.std.proofs.Common.{◌≡◌, ◌+◌, ◌*◌, ◌-◌, ◌/◌, ℕ, true, length, get_or, List, ap, ◌∙◌, arith, refl}
+use Rattle.far_word.specs.declared.sizes.TheConstants.{LOG_BYTES}
 use Rattle.far_word.specs.Pointer.{read_of}
 use Rattle.far_word.specs.Bytes.{packed_word}
 use Rattle.far_replay.specs.Moment.{state_in}
@@ -32,7 +33,7 @@ returns c =
     put_length (from - 8 * first) count c.unpack_front.new.bytes new (omega (arith, c.unpack_front.auto.bytes, c.requires.viewed.most)) c.requires.bytes in
     record {
       words = λ k lt.
-          packed_words f (data_len t p) from count first touched (from - 8 * first) 1024 new c.load_last.new.words c.unpack_front.new.bytes firsts counts refl
+          packed_words f (data_len t p) from count first touched (from - 8 * first) LOG_BYTES new c.load_last.new.words c.unpack_front.new.bytes firsts counts refl
           c.requires.viewed.some c.requires.viewed.inside c.requires.bytes (omega (arith, c.unpack_front.auto.bytes, c.requires.viewed.most)) c.unpack_front.ensures.front w_first c.load_last.ensures.last
           (λ i less. object_padded t c.requires.law p i less) _ c.pack_front.new.words put (omega (arith, ap length put, size, c.unpack_front.auto.bytes, c.requires.viewed.most)) c.pack_front.ensures.front
           k (omega (arith, c.touched-touched.ensures))
