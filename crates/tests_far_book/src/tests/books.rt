@@ -4,13 +4,12 @@ ghost use Rattle.std.specs.Borrow.{MutBor};
 ghost use Rattle.std.specs.Prelude.{◌≡◌, ◌<◌, ◌≤◌, true};
 ghost use Rattle.far_word.specs.declared.sizes.TheConstants.{LONGEST};
 
-use far_book::{Beset, Book, Near, Home, Plain};
+use far_book::{Beset, Book, Home, Near, Plain};
 use far_core::{Core, Event, Kind, Reply, Shape};
 use far_device::{Device, MemDevice};
 use far_log::{LogRow, Span};
 use far_word::{CELLS, Mark, Marks, Place, PtrWord, Refused};
 use std::alloc::AllocError;
-use std::test::Fail;
 
 pub(super) const SMALL: Shape = Shape {
     logs: 4,
@@ -69,6 +68,18 @@ pub(super) fn beset<D: Device + Drop>(
     Book::new(rt.alloc(), hand, device)
 }
 
+/// The same over a device in memory.
+pub(super) fn beset_by(
+    rt: &HostRuntime,
+    events: &[Event],
+) -> Result<Book<Beset, MemDevice>, Refused> {
+    let mut all = Vec::new(rt.alloc());
+    match all.extend_from_slice(events) {
+        Ok(()) => beset(rt, all, MemDevice::new(rt.alloc())),
+        Err(_) => Err(Refused::Memory),
+    }
+}
+
 /// The cell of pointer 0, an object of 9 bytes of data structure 1 at the start of log 0.
 const NINE: u64 = 0x8400_0000_0001_0009;
 
@@ -111,6 +122,19 @@ pub(super) fn events_after(
     events.resize(5 + turns as usize, IDLE)?;
     events.extend_from_slice(then)?;
     Ok(events)
+}
+
+/// The book's event that writes the first word of a log, and the one that names a new object.
+pub(super) fn put(log: u8, word: u64) -> Event {
+    Event::Put { log, at: 0, word }
+}
+
+pub(super) fn name(pointer: u16, new: u64) -> Event {
+    Event::Name {
+        pointer,
+        old: 0,
+        new,
+    }
 }
 
 pub(super) fn ask(pointer: u16, mark: Mark) -> Event {
@@ -563,11 +587,11 @@ fn finds_marks(book: &mut Book<Beset, MemDevice>) -> bool {
 }
 
 #[test]
-fn marks_come_between_calls(rt: HostRuntime) -> Result<(), Fail> {
+fn marks_come_between_calls(rt: HostRuntime) {
     let (owner, pointer) = (0, 0);
     let mark = Mark::Dropped;
     // The first three are made as the object is placed.
-    let events = vec![in rt.alloc();
+    let events = [
         Event::ReadEpoch { owner },
         Event::Open { owner },
         Event::Close { owner: 1 },
@@ -577,10 +601,8 @@ fn marks_come_between_calls(rt: HostRuntime) -> Result<(), Fail> {
         Event::Ask {
             owner,
             pointer,
-            mark
+            mark,
         },
-    ]?;
-    let book = beset(&rt, events, MemDevice::new(rt.alloc()));
-    assert!(rt; is_so_of(book, finds_marks));
-    Ok(())
+    ];
+    assert!(rt; is_so_of(beset_by(&rt, &events), finds_marks));
 }

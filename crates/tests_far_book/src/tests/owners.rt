@@ -1,8 +1,8 @@
 //! What owners are answered, by worked values, of objects that they view, that are marked, and that they drop.
 
 use crate::tests::books::{
-    DROP, HOT, MOVE, SMALL, answers, has, is_so_of, line, mark_sealed, opened, places_next,
-    retire_dropped,
+    DROP, HOT, MOVE, SMALL, answers, has, is_so_of, line, mark_sealed, name, opened, places_next,
+    put, retire_dropped,
 };
 use crate::tests::moving::{loaded, moves_to};
 use far_book::{Book, Plain};
@@ -68,12 +68,6 @@ fn finds_it_marked(core: &mut Core) -> bool {
 // Whether pointer 0's object is placed and viewed, and then another one fills log 1, so that log 0 is sealed.
 fn views_and_seals(core: &mut Core) -> bool {
     let (owner, pointer) = (0, 0);
-    let put = |log: u8, word: u64| Event::Put { log, at: 0, word };
-    let name = |pointer: u16, new: u64| Event::Name {
-        pointer,
-        old: 0,
-        new,
-    };
     let events = [
         put(0, 0xa100_0000_0001_0008),
         name(0, NEAR),
@@ -89,13 +83,14 @@ fn views_and_seals(core: &mut Core) -> bool {
     makes_all(core, &events)
 }
 
+// Whether both are so.
+fn views_nothing(core: &mut Core) -> bool {
+    views_and_seals(core) && finds_it_marked(core)
+}
+
 #[test]
 fn a_marked_object_is_not_viewed(rt: HostRuntime) {
-    assert!(rt;
-        is_so_of(Core::new(rt.alloc(), SMALL, true), |core| {
-            views_and_seals(core) && finds_it_marked(core)
-        })
-    );
+    assert!(rt; is_so_of(Core::new(rt.alloc(), SMALL, true), views_nothing));
 }
 
 // Whether an owner views a new object, stores a word into it and closes; another object seals its log then.
@@ -133,11 +128,12 @@ fn moves_what_is_marked(book: &mut Book<Plain, MemDevice>) -> bool {
         && loaded(book, 0, 0) == Reply::Word(0xaa)
 }
 
+// Whether both are so.
+fn moves_for_its_owner(book: &mut Book<Plain, MemDevice>) -> bool {
+    stores_and_seals(book) && moves_what_is_marked(book)
+}
+
 #[test]
 fn an_owner_moves_what_is_marked(rt: HostRuntime) {
-    assert!(rt;
-        is_so_of(opened(&rt, SMALL), |book| {
-            stores_and_seals(book) && moves_what_is_marked(book)
-        })
-    );
+    assert!(rt; is_so_of(opened(&rt, SMALL), moves_for_its_owner));
 }

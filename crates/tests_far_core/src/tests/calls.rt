@@ -2,7 +2,6 @@
 
 use super::*;
 use far_word::{CELLS, LOG_WORDS, Mark, PtrWord};
-use std::test::Fail;
 
 const HEADER: u64 = 0xa100_0000_0001_0008;
 
@@ -77,8 +76,8 @@ fn mark_near(rt: &impl Abort, core: &mut Core, pointer: u16) -> u64 {
 }
 
 #[test]
-fn object_is_made_and_viewed(rt: HostRuntime) -> Result<(), Fail> {
-    let mut core = Core::new(rt.alloc(), TWO_OWNERS, true)?;
+fn object_is_made_and_viewed(rt: HostRuntime) {
+    let mut core = made(&rt, rt.alloc(), TWO_OWNERS, true);
     put_word(&rt, &mut core, FIRST, HEADER);
     assert!(rt; name_new(&rt, &mut core, 0, 0, NEAR) == Ok(()));
     assert!(rt; core.starts(0, 0) && !core.starts(0, 1));
@@ -93,12 +92,11 @@ fn object_is_made_and_viewed(rt: HostRuntime) -> Result<(), Fail> {
     close_scope(&rt, &mut core);
     assert!(rt; core.held(0).is_none());
     assert!(rt; (core.epoch(), core.is_honest()) == (5, true));
-    Ok(())
 }
 
 #[test]
-fn marked_object_is_not_viewed(rt: HostRuntime) -> Result<(), Fail> {
-    let mut core = peopled(&rt, rt.alloc())?;
+fn marked_object_is_not_viewed(rt: HostRuntime) {
+    let mut core = peopled(&rt, rt.alloc());
     answers(
         &rt,
         &mut core,
@@ -112,12 +110,11 @@ fn marked_object_is_not_viewed(rt: HostRuntime) -> Result<(), Fail> {
     assert!(rt; core.see(2) == marked);
     assert!(rt; pin_own(&rt, &mut core, 2) == Err(marked));
     assert!(rt; core.held(2).is_none());
-    Ok(())
 }
 
 #[test]
-fn named_cell_is_found(rt: HostRuntime) -> Result<(), Fail> {
-    let mut core = peopled(&rt, rt.alloc())?;
+fn named_cell_is_found(rt: HostRuntime) {
+    let mut core = peopled(&rt, rt.alloc());
     put_word(
         &rt,
         &mut core,
@@ -127,12 +124,11 @@ fn named_cell_is_found(rt: HostRuntime) -> Result<(), Fail> {
     let lost = name_new(&rt, &mut core, 1, 0, 0x8400_0000_0901_0008);
     assert!(rt; lost == Err(0x8400_0000_0301_0008));
     assert!(rt; !core.starts(0, 9));
-    Ok(())
 }
 
 #[test]
-fn log_of_a_dropped_object_is_given_back(rt: HostRuntime) -> Result<(), Fail> {
-    let mut core = Core::new(rt.alloc(), SMALL, true)?;
+fn log_of_a_dropped_object_is_given_back(rt: HostRuntime) {
+    let mut core = made(&rt, rt.alloc(), SMALL, true);
     let (header, whole) = (0xa100_0000_0001_03f8, 0x8400_0000_0001_03f8);
     put_word(&rt, &mut core, FIRST, header);
     assert!(rt; name_new(&rt, &mut core, 0, 0, whole) == Ok(()));
@@ -146,5 +142,4 @@ fn log_of_a_dropped_object_is_given_back(rt: HostRuntime) -> Result<(), Fail> {
     assert!(rt; name_new(&rt, &mut core, 0, 0x8c00_0000_0001_03f8, 0) == Ok(()));
     assert!(rt; give_back(&rt, &mut core, 0) == header);
     assert!(rt; log_shown(&rt, &core, 0) == (Kind::Free, 0));
-    Ok(())
 }

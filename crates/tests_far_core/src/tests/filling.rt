@@ -1,13 +1,12 @@
 //! Logs filled to their last word.
 
 use super::*;
-use std::test::Fail;
 
 const FULL: (Kind, u16) = (Kind::Sealed, 128);
 
 #[test]
-fn longest_object_fills_a_log(rt: HostRuntime) -> Result<(), Fail> {
-    let mut core = Core::new(rt.alloc(), SMALL, true)?;
+fn longest_object_fills_a_log(rt: HostRuntime) {
+    let mut core = made(&rt, rt.alloc(), SMALL, true);
     answers(
         &rt,
         &mut core,
@@ -31,12 +30,11 @@ fn longest_object_fills_a_log(rt: HostRuntime) -> Result<(), Fail> {
     assert!(rt; core.open_log() == 1);
     assert!(rt; core.cell(0) == 0x8400_0000_0001_03f8);
     assert!(rt; core.cell(1) == 0x8400_0004_0001_0001);
-    Ok(())
 }
 
 #[test]
-fn shortest_objects_fill_a_log(rt: HostRuntime) -> Result<(), Fail> {
-    let mut core = Core::new(rt.alloc(), SMALL, true)?;
+fn shortest_objects_fill_a_log(rt: HostRuntime) {
+    let mut core = made(&rt, rt.alloc(), SMALL, true);
     for pointer in 0u16..64 {
         let place = (2 * pointer as u64) << 24;
         answers(
@@ -70,13 +68,12 @@ fn shortest_objects_fill_a_log(rt: HostRuntime) -> Result<(), Fail> {
     assert!(rt; log_shown(&rt, &core, 0) == FULL);
     assert!(rt; log_shown(&rt, &core, 3) == (Kind::Open, 2));
     assert!(rt; core.open_log() == 3);
-    Ok(())
 }
 
 /// A naming that comes too late answers the cell, and neither takes the span nor opens the log.
 #[test]
-fn named_cell_is_not_named_again(rt: HostRuntime) -> Result<(), Fail> {
-    let mut core = peopled(&rt, rt.alloc())?;
+fn named_cell_is_not_named_again(rt: HostRuntime) {
+    let mut core = peopled(&rt, rt.alloc());
     answers(
         &rt,
         &mut core,
@@ -95,5 +92,4 @@ fn named_cell_is_not_named_again(rt: HostRuntime) -> Result<(), Fail> {
         assert!(rt; reply == Reply::Word(0x8400_0000_0301_0008));
         assert!(rt; observed(&rt, &mut core) == before);
     }
-    Ok(())
 }

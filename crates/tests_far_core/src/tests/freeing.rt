@@ -2,7 +2,6 @@
 
 use super::*;
 use far_word::Mark;
-use std::test::Fail;
 
 /// The header and the cell of pointer 0, an object of 1,016 bytes that fills log 0.
 const WHOLE_HEADER: u64 = 0xa100_0000_0001_03f8;
@@ -16,8 +15,8 @@ fn get(log: u8, at: u16, free: bool) -> Event {
 }
 
 /// A core whose log 0 is sealed and full of pointer 0's object, and whose log 1 is open.
-fn sealed(rt: &impl Abort, alloc: Global) -> Result<Core, Refused> {
-    let mut core = Core::new(alloc, SMALL, true)?;
+fn sealed(rt: &impl Abort, alloc: Global) -> Core {
+    let mut core = made(rt, alloc, SMALL, true);
     answers(
         rt,
         &mut core,
@@ -29,12 +28,12 @@ fn sealed(rt: &impl Abort, alloc: Global) -> Result<Core, Refused> {
             adopted(0, 0, WHOLE),
         ],
     );
-    Ok(core)
+    core
 }
 
 #[test]
-fn a_log_that_may_not_be_given_back(rt: HostRuntime) -> Result<(), Fail> {
-    let core = sealed(&rt, rt.alloc())?;
+fn a_log_that_may_not_be_given_back(rt: HostRuntime) {
+    let core = sealed(&rt, rt.alloc());
     goes_so(
         &rt,
         core,
@@ -47,12 +46,11 @@ fn a_log_that_may_not_be_given_back(rt: HostRuntime) -> Result<(), Fail> {
             get(0, 128, false),
         ],
     );
-    Ok(())
 }
 
 #[test]
-fn a_pointer_that_may_not_be_marked(rt: HostRuntime) -> Result<(), Fail> {
-    let core = sealed(&rt, rt.alloc())?;
+fn a_pointer_that_may_not_be_marked(rt: HostRuntime) {
+    let core = sealed(&rt, rt.alloc());
     goes_so(
         &rt,
         core,
@@ -64,12 +62,11 @@ fn a_pointer_that_may_not_be_marked(rt: HostRuntime) -> Result<(), Fail> {
             Event::See { pointer: 128 },
         ],
     );
-    Ok(())
 }
 
 #[test]
-fn a_log_is_given_back(rt: HostRuntime) -> Result<(), Fail> {
-    let mut core = sealed(&rt, rt.alloc())?;
+fn a_log_is_given_back(rt: HostRuntime) {
+    let mut core = sealed(&rt, rt.alloc());
     let ask = Event::Ask {
         owner: 0,
         pointer: 0,
@@ -96,5 +93,4 @@ fn a_log_is_given_back(rt: HostRuntime) -> Result<(), Fail> {
     );
     assert!(rt; log_shown(&rt, &core, 0) == (Kind::Free, 0));
     assert!(rt; log_shown(&rt, &core, 1) == (Kind::Open, 2));
-    Ok(())
 }

@@ -3,6 +3,7 @@
 ghost use Rattle.std.specs.Prelude.{◌≡◌};
 
 use crate::tests::flag::Tally;
+use crate::tests::lend::of_book;
 use crate::tests::looks::{blank, has_objects, sized};
 use crate::tests::writers::Writer;
 use far_device::MemDevice;
@@ -184,18 +185,19 @@ fn ends_with_a_round<K: HeapName, R: Wait>(rt: &R, heap: &Heap<K, MemDevice>) ->
     matches!(end, Ok(RoundEnd::Done(_)) | Ok(RoundEnd::Nothing))
 }
 
+// Whether one more round comes, and all objects are there.
+fn stands<K: HeapName, R: Wait>(rt: &R, heap: &Heap<K, MemDevice>) -> bool {
+    ends_with_a_round(rt, heap) && of_book!(rt, heap, book, has_objects(book, 64))
+}
+
 // How many rounds were done while all wrote; `None` where something was wrong.
-fn made_beside<K: HeapName + Send + Sync, R: Threads + Wait + Sync>(
+fn works_beside<K: HeapName + Send + Sync, R: Threads + Wait + Sync>(
     rt: &R,
     alloc: Global,
-    blank: Blank<MemDevice>,
+    heap: &Heap<K, MemDevice>,
+    mutators: Vec<Mutator<K, MemDevice>>,
     plan: Plan,
-) -> Option<u64>
-    requires { blank.heap ≡ K.heap }
-{
-    let Ok((heap, mutators)) = Heap::<K, MemDevice>::new(alloc, blank) else {
-        return None;
-    };
+) -> Option<u64> {
     let Ok(jobs) = jobs_of(alloc, mutators) else {
         return None;
     };
@@ -204,14 +206,26 @@ fn made_beside<K: HeapName + Send + Sync, R: Threads + Wait + Sync>(
         ended: Tally::new(),
         rounds: Tally::new(),
     };
-    let (shared, beside) = (&heap, &gate);
-    let Ok(done) = thread::map_vec(rt, jobs, &|job| run(rt, shared, beside, plan, job)) else {
+    let beside = &gate;
+    let Ok(done) = thread::map_vec(rt, jobs, &|job| run(rt, heap, beside, plan, job)) else {
         return None;
     };
-    if !ends_with_a_round(rt, &heap) || !has_objects(&mut *heap.book(rt), 64) {
-        return None;
+    let (came, right) = (stands(rt, heap), are_right(rt, done));
+    (came && right).then_some(gate.rounds.count())
+}
+
+fn made_beside<K: HeapName + Send + Sync, R: Threads + Wait + Sync>(
+    rt: &R,
+    alloc: Global,
+    blank: Blank<MemDevice>,
+    plan: Plan,
+) -> Option<u64>
+    requires { blank.heap ≡ K.heap }
+{
+    match Heap::<K, MemDevice>::new(alloc, blank) {
+        Ok((heap, mutators)) => works_beside(rt, alloc, &heap, mutators, plan),
+        Err(_) => None,
     }
-    are_right(rt, done).then_some(gate.rounds.count())
 }
 
 #[test]

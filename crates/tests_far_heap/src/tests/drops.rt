@@ -1,14 +1,13 @@
 //! A drop beside a running round frees its cell at once, in each phase of the round.
 
-use crate::tests::lend::{Lent, Trial, of_book, opened, try_one};
-use crate::tests::looks::{blank, is_gone, sized};
+use crate::tests::lend::{Lent, Trial, of_book, opened, try_one_in_memory};
+use crate::tests::looks::{is_gone, sized};
 use crate::tests::steps::{deals, is_clear, marks, selects};
 use far_device::MemDevice;
 use far_evac::Phase;
 use far_heap::{Evacuator, Heap, HeapName, Scope};
 use far_policy::Oldest;
 use std::sync::Wait;
-use std::test::Fail;
 
 // Six objects in the first log, and one that fills the next.
 fn makes_seven<K: HeapName, R: Wait>(rt: &R, lent: &mut Lent<K, MemDevice>) -> bool {
@@ -112,8 +111,6 @@ impl Trial<MemDevice> for DroppedInRound {
 }
 
 #[test]
-fn a_drop_beside_a_round_frees_its_cell(rt: HostRuntime) -> Result<(), Fail> {
-    let alloc = rt.alloc();
-    assert!(rt; try_one(&rt, alloc, blank(&rt, sized(4, 1))?, &DroppedInRound));
-    Ok(())
+fn a_drop_beside_a_round_frees_its_cell(rt: HostRuntime) {
+    assert!(rt; try_one_in_memory(&rt, rt.alloc(), sized(4, 1), &DroppedInRound));
 }

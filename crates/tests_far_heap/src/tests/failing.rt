@@ -1,18 +1,17 @@
 //! Each call of a device fails in turn, where nobody copies outside the lock: whatever fails, all objects keep their bytes.
 
 use crate::tests::flag::Tally;
-use crate::tests::lend::{Lent, Trial, of_book, opened, try_one};
+use crate::tests::lend::{Lent, Trial, of_book, opened, try_over};
 use crate::tests::looks::{has_objects, sized};
 use crate::tests::scopes::{EIGHT, has, reads, reads_slowly, writes};
 use crate::tests::steps::{is_clear, marks, selects};
 use far_device::{Device, FailAt, MemDevice};
 use far_evac::{Phase, RoundEnd};
-use far_heap::{Blank, Evacuator, Heap, HeapName, Scope};
+use far_heap::{Evacuator, Heap, HeapName, Scope};
 use far_policy::Oldest;
 use far_word::Refused;
 use std::alloc::Global;
 use std::sync::Wait;
-use std::test::Fail;
 
 // Whether a refusal is the device's; it is counted then.
 fn is_failure(why: Refused, failures: &Tally) -> bool {
@@ -147,29 +146,32 @@ impl<D: Device + Drop> Trial<D> for HotRun {
 }
 
 // Whether a run over a device whose k-th call fails comes out as it should, and is refused so often.
-fn comes_out<R: Wait>(rt: &R, alloc: Global, k: u64, refused: u64) -> Result<bool, Refused> {
+fn plain_comes_out<R: Wait>(rt: &R, alloc: Global, k: u64, refused: u64) -> bool {
     let run = PlainRun {
         failures: Tally::new(),
     };
-    let blank = Blank::new(alloc, sized(4, 1), FailAt::new(MemDevice::new(alloc), k))?;
-    Ok(try_one(rt, alloc, blank, &run) && run.failures.count() == refused)
+    let device = FailAt::new(MemDevice::new(alloc), k);
+    try_over(rt, alloc, sized(4, 1), device, &run) && run.failures.count() == refused
 }
 
 // The same of the run in which a viewed object goes far.
-fn comes_out_hot<R: Wait>(rt: &R, alloc: Global, k: u64, refused: u64) -> Result<bool, Refused> {
+fn hot_comes_out<R: Wait>(rt: &R, alloc: Global, k: u64, refused: u64) -> bool {
     let run = HotRun {
         failures: Tally::new(),
     };
-    let blank = Blank::new(alloc, sized(4, 1), FailAt::new(MemDevice::new(alloc), k))?;
-    Ok(try_one(rt, alloc, blank, &run) && run.failures.count() == refused)
+    let device = FailAt::new(MemDevice::new(alloc), k);
+    try_over(rt, alloc, sized(4, 1), device, &run) && run.failures.count() == refused
+}
+
+// Whether both do.
+fn both_come_out<R: Wait>(rt: &R, alloc: Global, k: u64, refused: u64) -> bool {
+    plain_comes_out(rt, alloc, k, refused) && hot_comes_out(rt, alloc, k, refused)
 }
 
 // Each run makes two calls, by which an object goes far and comes back: the first fails, the second, or none.
 #[test]
-fn fail_each_without_copiers(rt: HostRuntime) -> Result<(), Fail> {
-    for (k, refused) in [(1, 1), (2, 1), (3, 0)] {
-        assert!(rt; comes_out(&rt, rt.alloc(), k, refused)?, "at call {k}");
-        assert!(rt; comes_out_hot(&rt, rt.alloc(), k, refused)?, "at call {k}");
-    }
-    Ok(())
+fn fail_each_without_copiers(rt: HostRuntime) {
+    assert!(rt; both_come_out(&rt, rt.alloc(), 1, 1));
+    assert!(rt; both_come_out(&rt, rt.alloc(), 2, 1));
+    assert!(rt; both_come_out(&rt, rt.alloc(), 3, 0));
 }

@@ -1,7 +1,7 @@
 //! A scope that is dropped unclosed: what rounds answer then, and what other mutators do.
 
-use crate::tests::lend::{Lent, PairTrial, left_open, of_book, opened, try_two};
-use crate::tests::looks::{blank, sized};
+use crate::tests::lend::{Lent, PairTrial, left_open, of_book, opened, try_two_in_memory};
+use crate::tests::looks::sized;
 use crate::tests::scopes::{EIGHT, is_slow, reads, reads_slowly, writes};
 use crate::tests::steps::{gives_up, is_open, runs_to};
 use far_device::MemDevice;
@@ -9,7 +9,6 @@ use far_evac::{Phase, RoundEnd};
 use far_heap::{Evacuator, Heap, HeapName, Scope};
 use far_policy::Oldest;
 use std::sync::Wait;
-use std::test::Fail;
 
 // Whether the other mutator's object is written, and another one fills the next log.
 fn other_begins<K: HeapName, R: Wait>(rt: &R, other: &mut Lent<K, MemDevice>) -> bool {
@@ -80,8 +79,6 @@ impl PairTrial<MemDevice> for LeftOpen {
 }
 
 #[test]
-fn scope_left_open(rt: HostRuntime) -> Result<(), Fail> {
-    let alloc = rt.alloc();
-    assert!(rt; try_two(&rt, alloc, blank(&rt, sized(6, 2))?, &LeftOpen));
-    Ok(())
+fn scope_left_open(rt: HostRuntime) {
+    assert!(rt; try_two_in_memory(&rt, rt.alloc(), sized(6, 2), &LeftOpen));
 }

@@ -1,7 +1,7 @@
 //! What a new object leaves as it was: where it is refused, all of it, also a running round; else all but itself.
 
-use crate::tests::lend::{Lent, Trial, of_book, opened, try_one};
-use crate::tests::looks::{Counted, blank, census_of, sized};
+use crate::tests::lend::{Lent, Trial, of_book, opened, try_one_in_memory};
+use crate::tests::looks::{Counted, census_of, sized};
 use crate::tests::steps::{is_clear, marks, selects};
 use far_core::Shape;
 use far_device::MemDevice;
@@ -10,7 +10,6 @@ use far_heap::{Evacuator, Heap, HeapName};
 use far_policy::Oldest;
 use far_word::Refused;
 use std::sync::Wait;
-use std::test::Fail;
 
 /// How a book stands: its round, and what lives where.
 #[derive(Drop)]
@@ -132,27 +131,11 @@ impl Trial<MemDevice> for Full {
 
 // Three logs have no room for 33 objects of 56 bytes each in two; two logs hold 128 objects of a byte.
 #[test]
-fn a_refused_object_leaves_a_round_as_it_is(rt: HostRuntime) -> Result<(), Fail> {
-    let alloc = rt.alloc();
+fn a_refused_object_leaves_a_round_as_it_is(rt: HostRuntime) {
     let (len, objects, why) = (56, 32, Refused::NoRoom);
-    assert!(rt;
-        try_one(
-            &rt,
-            alloc,
-            blank(&rt, sized(3, 1))?,
-            &Full { len, objects, why }
-        )
-    );
+    assert!(rt; try_one_in_memory(&rt, rt.alloc(), sized(3, 1), &Full { len, objects, why }));
     let (len, objects, why) = (1, 128, Refused::NoPointer);
-    assert!(rt;
-        try_one(
-            &rt,
-            alloc,
-            blank(&rt, sized(6, 1))?,
-            &Full { len, objects, why }
-        )
-    );
-    Ok(())
+    assert!(rt; try_one_in_memory(&rt, rt.alloc(), sized(6, 1), &Full { len, objects, why }));
 }
 
 // Whether one object more is near, of so many bytes with its header, and the far ones are as they were.
@@ -235,8 +218,6 @@ impl Trial<MemDevice> for PlacedOnce {
 }
 
 #[test]
-fn a_new_object_is_placed_once(rt: HostRuntime) -> Result<(), Fail> {
-    let alloc = rt.alloc();
-    assert!(rt; try_one(&rt, alloc, blank(&rt, sized(6, 1))?, &PlacedOnce));
-    Ok(())
+fn a_new_object_is_placed_once(rt: HostRuntime) {
+    assert!(rt; try_one_in_memory(&rt, rt.alloc(), sized(6, 1), &PlacedOnce));
 }

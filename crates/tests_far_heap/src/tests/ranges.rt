@@ -1,13 +1,12 @@
 //! Which bytes a scope reads and writes, and by which views.
 
-use crate::tests::lend::{Lent, Trial, opened, try_one};
-use crate::tests::looks::{blank, sized};
+use crate::tests::lend::{Lent, Trial, opened, try_one_in_memory};
+use crate::tests::looks::sized;
 use crate::tests::scopes::{EIGHT, has, reads, viewed, writes};
 use far_device::MemDevice;
 use far_heap::{Heap, HeapName, Scope, View};
 use far_word::Refused;
 use std::sync::Wait;
-use std::test::Fail;
 
 // Whether a read of so many bytes, 20 at most, is refused for this reason.
 fn reads_none<K: HeapName>(
@@ -100,10 +99,8 @@ impl Trial<MemDevice> for InRanges {
 }
 
 #[test]
-fn ranges_end_with_the_object(rt: HostRuntime) -> Result<(), Fail> {
-    let alloc = rt.alloc();
-    assert!(rt; try_one(&rt, alloc, blank(&rt, sized(4, 1))?, &InRanges));
-    Ok(())
+fn ranges_end_with_the_object(rt: HostRuntime) {
+    assert!(rt; try_one_in_memory(&rt, rt.alloc(), sized(4, 1), &InRanges));
 }
 
 // Whether a view that a closed scope made is refused, also for a range that is out of the object.
@@ -148,10 +145,8 @@ impl Trial<MemDevice> for EarlierViews {
 }
 
 #[test]
-fn a_view_ends_with_its_scope(rt: HostRuntime) -> Result<(), Fail> {
-    let alloc = rt.alloc();
-    assert!(rt; try_one(&rt, alloc, blank(&rt, sized(4, 1))?, &EarlierViews));
-    Ok(())
+fn a_view_ends_with_its_scope(rt: HostRuntime) {
+    assert!(rt; try_one_in_memory(&rt, rt.alloc(), sized(4, 1), &EarlierViews));
 }
 
 // Whether the view of an object that is gone is a view of the pointer's next object, which is longer.
@@ -187,8 +182,6 @@ impl Trial<MemDevice> for NextObject {
 }
 
 #[test]
-fn a_view_is_of_a_pointer(rt: HostRuntime) -> Result<(), Fail> {
-    let alloc = rt.alloc();
-    assert!(rt; try_one(&rt, alloc, blank(&rt, sized(4, 1))?, &NextObject));
-    Ok(())
+fn a_view_is_of_a_pointer(rt: HostRuntime) {
+    assert!(rt; try_one_in_memory(&rt, rt.alloc(), sized(4, 1), &NextObject));
 }

@@ -1,7 +1,7 @@
 //! Rounds on a heap, by worked answers.
 
-use crate::tests::lend::{Lent, Trial, closed, of_book, opened, try_one};
-use crate::tests::looks::{blank, counts, is_far, is_free, is_log, is_near, sized};
+use crate::tests::lend::{Lent, Trial, closed, of_book, opened, try_one_in_memory};
+use crate::tests::looks::{counts, is_far, is_free, is_log, is_near, sized};
 use crate::tests::scopes::{EIGHT, is_slow, makes, reads, reads_slowly, writes};
 use crate::tests::steps::{deals, is_clear, is_open, marks, runs_through, selects};
 use far_device::{Device, MemDevice};
@@ -10,7 +10,6 @@ use far_heap::{Evacuator, Heap, HeapName, Mutator, Scope, Tried};
 use far_policy::Oldest;
 use far_word::Refused;
 use std::sync::Wait;
-use std::test::Fail;
 
 // Whether the first of four logs has one object, and the others are free.
 fn has_one_object<K: HeapName, D: Device + Drop>(book: &mut Evacuator<K, D>) -> bool {
@@ -138,12 +137,10 @@ impl Trial<MemDevice> for WaitingRound {
 }
 
 #[test]
-fn heap_rows(rt: HostRuntime) -> Result<(), Fail> {
-    let alloc = rt.alloc();
-    assert!(rt; try_one(&rt, alloc, blank(&rt, sized(4, 1))?, &NewObject));
-    assert!(rt; try_one(&rt, alloc, blank(&rt, sized(4, 1))?, &PlainRound));
-    assert!(rt; try_one(&rt, alloc, blank(&rt, sized(4, 1))?, &WaitingRound));
-    Ok(())
+fn heap_rows(rt: HostRuntime) {
+    assert!(rt; try_one_in_memory(&rt, rt.alloc(), sized(4, 1), &NewObject));
+    assert!(rt; try_one_in_memory(&rt, rt.alloc(), sized(4, 1), &PlainRound));
+    assert!(rt; try_one_in_memory(&rt, rt.alloc(), sized(4, 1), &WaitingRound));
 }
 
 // Whether three objects fill a log each, and the first is viewed.
@@ -188,10 +185,8 @@ impl Trial<MemDevice> for HotRound {
 }
 
 #[test]
-fn a_viewed_object_without_room_goes_far(rt: HostRuntime) -> Result<(), Fail> {
-    let alloc = rt.alloc();
-    assert!(rt; try_one(&rt, alloc, blank(&rt, sized(4, 1))?, &HotRound));
-    Ok(())
+fn a_viewed_object_without_room_goes_far(rt: HostRuntime) {
+    assert!(rt; try_one_in_memory(&rt, rt.alloc(), sized(4, 1), &HotRound));
 }
 
 // Whether a round of the first log has marked its object, and waits for nobody.
@@ -237,8 +232,6 @@ impl Trial<MemDevice> for MarkedObject {
 }
 
 #[test]
-fn a_marked_object_is_moved_for_a_view(rt: HostRuntime) -> Result<(), Fail> {
-    let alloc = rt.alloc();
-    assert!(rt; try_one(&rt, alloc, blank(&rt, sized(4, 1))?, &MarkedObject));
-    Ok(())
+fn a_marked_object_is_moved_for_a_view(rt: HostRuntime) {
+    assert!(rt; try_one_in_memory(&rt, rt.alloc(), sized(4, 1), &MarkedObject));
 }
