@@ -4,7 +4,7 @@ ghost use Rattle.std.specs.Prelude.{◌≡◌};
 
 use crate::tests::flag::Tally;
 use crate::tests::lend::of_book;
-use crate::tests::looks::{blank, has_objects, sized};
+use crate::tests::looks::{has_objects, new_blank, sized};
 use crate::tests::writers::Writer;
 use far_device::MemDevice;
 use far_evac::RoundEnd;
@@ -13,7 +13,6 @@ use far_policy::Oldest;
 use std::alloc::{AllocError, Global};
 use std::marker::Brand;
 use std::sync::Wait;
-use std::test::Fail;
 use std::thread;
 use std::thread::Threads;
 
@@ -229,7 +228,7 @@ fn made_beside<K: HeapName + Send + Sync, R: Threads + Wait + Sync>(
 }
 
 #[test]
-fn rounds_beside_writers(rt: HostRuntime) -> Result<(), Fail> {
+fn rounds_beside_writers(rt: HostRuntime) {
     let plan = Plan {
         work: Work {
             least: 10,
@@ -240,15 +239,14 @@ fn rounds_beside_writers(rt: HostRuntime) -> Result<(), Fail> {
         turns: 100,
         stops: false,
     };
-    let blank = blank(&rt, sized(16, WRITERS))?;
+    let blank = new_blank(&rt, rt.alloc(), sized(16, WRITERS));
     let made = made_beside::<Brand, _>(&rt, rt.alloc(), blank, plan);
     assert!(rt; made.is_some());
-    Ok(())
 }
 
 // The writers go on until enough rounds were done, however fast the machine is.
 #[test]
-fn rounds_while_writing(rt: HostRuntime) -> Result<(), Fail> {
+fn rounds_while_writing(rt: HostRuntime) {
     let plan = Plan {
         work: Work {
             least: 20,
@@ -259,8 +257,7 @@ fn rounds_while_writing(rt: HostRuntime) -> Result<(), Fail> {
         turns: 100_000,
         stops: true,
     };
-    let blank = blank(&rt, sized(16, WRITERS))?;
+    let blank = new_blank(&rt, rt.alloc(), sized(16, WRITERS));
     let made = made_beside::<Brand, _>(&rt, rt.alloc(), blank, plan);
     assert!(rt; matches!(made, Some(rounds) if rounds >= 20), "{made:?}");
-    Ok(())
 }

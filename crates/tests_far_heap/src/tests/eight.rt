@@ -3,7 +3,7 @@
 ghost use Rattle.std.specs.Prelude.{◌≡◌};
 
 use crate::tests::lend::of_book;
-use crate::tests::looks::{blank, counts, has_objects, is_log, sized};
+use crate::tests::looks::{counts, has_objects, is_log, new_blank, sized};
 use crate::tests::scopes::{makes_none, reads_slowly, writes};
 use far_device::{Device, MemDevice};
 use far_evac::{LogKind, RoundEnd};
@@ -13,7 +13,6 @@ use far_word::Refused;
 use std::alloc::{AllocError, Global};
 use std::marker::Brand;
 use std::sync::Wait;
-use std::test::Fail;
 use std::thread;
 use std::thread::Threads;
 
@@ -210,10 +209,9 @@ fn in_two_logs<K: HeapName + Send + Sync, R: Threads + Wait + Sync>(
 
 // Eight mutators fill the one log of two that isn't kept back, and no round begins.
 #[test]
-fn eight_mutators_in_two_logs(rt: HostRuntime) -> Result<(), Fail> {
+fn eight_mutators_in_two_logs(rt: HostRuntime) {
     let alloc = rt.alloc();
-    assert!(rt; in_two_logs::<Brand, _>(&rt, alloc, blank(&rt, sized(2, 8))?));
-    Ok(())
+    assert!(rt; in_two_logs::<Brand, _>(&rt, alloc, new_blank(&rt, alloc, sized(2, 8))));
 }
 
 // Whether a round of all sealed logs moves or sends far all but the sixteen objects of the open log.
@@ -275,8 +273,7 @@ fn in_most_logs<K: HeapName + Send + Sync, R: Threads + Wait + Sync>(
 
 // Eight mutators use all their pointers; a round moves all that lies in sealed logs, the next sends it far, and each mutator has it brought back.
 #[test]
-fn eight_mutators_in_most_logs(rt: HostRuntime) -> Result<(), Fail> {
+fn eight_mutators_in_most_logs(rt: HostRuntime) {
     let alloc = rt.alloc();
-    assert!(rt; in_most_logs::<Brand, _>(&rt, alloc, blank(&rt, sized(64, 8))?));
-    Ok(())
+    assert!(rt; in_most_logs::<Brand, _>(&rt, alloc, new_blank(&rt, alloc, sized(64, 8))));
 }

@@ -7,6 +7,8 @@ use far_evac::{Census, LogKind, LogState};
 use far_heap::{Blank, Evacuator, HeapName};
 use far_log::LogRow;
 use far_word::{Marks, Place, Refused};
+use std::alloc::Global;
+use std::process::Abort;
 
 pub(super) const NO_MARKS: Marks = Marks {
     hot: false,
@@ -27,6 +29,14 @@ pub(super) fn sized(logs: u64, mutators: u64) -> Shape {
 /// The parts of a heap of a shape, over a device in memory.
 pub(super) fn blank(rt: &HostRuntime, shape: Shape) -> Result<Blank<MemDevice>, Refused> {
     Blank::new(rt.alloc(), shape, MemDevice::new(rt.alloc()))
+}
+
+/// The same where the shape is in range. A test ends where memory is refused.
+pub(super) fn new_blank(rt: &impl Abort, alloc: Global, shape: Shape) -> Blank<MemDevice> {
+    match Blank::new(alloc, shape, MemDevice::new(alloc)) {
+        Ok(blank) => blank,
+        Err(_) => panic!(rt; "no heap is made"),
+    }
 }
 
 // Where a pointer's object is; `None` for a number that is no pointer's.

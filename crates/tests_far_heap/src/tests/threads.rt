@@ -4,7 +4,7 @@ ghost use Rattle.std.specs.Prelude.{◌≡◌};
 
 use crate::tests::flag::Tally;
 use crate::tests::lend::{Lent, of_book, opened};
-use crate::tests::looks::{blank, has_objects, is_dropped, sized};
+use crate::tests::looks::{has_objects, is_dropped, new_blank, sized};
 use crate::tests::scopes::{EIGHT, has, reads, viewed, writes};
 use crate::tests::steps::{deals, gives_up, is_clear, marks, selects};
 use far_device::MemDevice;
@@ -15,7 +15,6 @@ use far_word::Refused;
 use std::alloc::Global;
 use std::marker::Brand;
 use std::sync::Wait;
-use std::test::Fail;
 use std::thread;
 use std::thread::{Threads, join};
 
@@ -88,10 +87,9 @@ fn held_book<K: HeapName + Send + Sync, R: Threads + Wait + Sync>(
 }
 
 #[test]
-fn read_under_held_book(rt: HostRuntime) -> Result<(), Fail> {
+fn read_under_held_book(rt: HostRuntime) {
     let alloc = rt.alloc();
-    assert!(rt; held_book::<Brand, _>(&rt, alloc, blank(&rt, sized(4, 1))?));
-    Ok(())
+    assert!(rt; held_book::<Brand, _>(&rt, alloc, new_blank(&rt, alloc, sized(4, 1))));
 }
 
 // Reads by a view that another thread made, and closes the scope.
@@ -160,10 +158,9 @@ fn moved_scope<K: HeapName + Send + Sync + 'static, R: Threads + Wait>(
 }
 
 #[test]
-fn moves_between_threads(rt: HostRuntime) -> Result<(), Fail> {
+fn moves_between_threads(rt: HostRuntime) {
     let alloc = rt.alloc();
-    assert!(rt; moved_scope::<Brand, _>(&rt, alloc, blank(&rt, sized(4, 1))?));
-    Ok(())
+    assert!(rt; moved_scope::<Brand, _>(&rt, alloc, new_blank(&rt, alloc, sized(4, 1))));
 }
 
 // Whether a round retires the one object of the first log, which is dropped.
@@ -240,10 +237,9 @@ fn dropped_beside<K: HeapName + Send + Sync, R: Threads + Wait + Sync>(
 
 // A round may retire an object between its owner's mark and the lock.
 #[test]
-fn a_round_may_retire_what_is_dropped(rt: HostRuntime) -> Result<(), Fail> {
+fn a_round_may_retire_what_is_dropped(rt: HostRuntime) {
     let alloc = rt.alloc();
-    assert!(rt; dropped_beside::<Brand, _>(&rt, alloc, blank(&rt, sized(4, 1))?));
-    Ok(())
+    assert!(rt; dropped_beside::<Brand, _>(&rt, alloc, new_blank(&rt, alloc, sized(4, 1))));
 }
 
 // Gives up a round that waits; whether one did.
@@ -311,8 +307,7 @@ fn ended_round<K: HeapName + Send + Sync, R: Threads + Wait + Sync>(
 }
 
 #[test]
-fn a_round_may_be_ended_by_another(rt: HostRuntime) -> Result<(), Fail> {
+fn a_round_may_be_ended_by_another(rt: HostRuntime) {
     let alloc = rt.alloc();
-    assert!(rt; ended_round::<Brand, _>(&rt, alloc, blank(&rt, sized(4, 1))?));
-    Ok(())
+    assert!(rt; ended_round::<Brand, _>(&rt, alloc, new_blank(&rt, alloc, sized(4, 1))));
 }
