@@ -7,7 +7,7 @@ use crate::tests::books::{
     DROP, HOT, MOVE, NO_MARKS, SMALL, ask, beset, events_after, has, home, is_near_at, is_so_of,
     line, mark_sealed, marks_first, opened, opened_over, place_next, places_next, shown,
 };
-use crate::tests::devices::{Lying, Stumbling, lent_device, shown_device};
+use crate::tests::devices::{Lying, Sight, Stumbling, watched};
 use crate::tests::leaving::{evict_asked, goes, leaves, loads_counted, store_counted};
 use crate::tests::moving::{loaded, moves_to};
 use far_book::{Beset, Book, Home, Near, Plain};
@@ -15,7 +15,6 @@ use far_core::{Core, Event, Kind, Reply};
 use far_device::{Device, DeviceFault, MemDevice};
 use far_log::LogRow;
 use far_word::{Mark, Marks, Place, Refused};
-use std::cell::Cell;
 use std::rc::Rc;
 
 /// How many bytes the longest object has.
@@ -122,7 +121,7 @@ fn is_back<D: Device + Drop>(book: &mut Book<Plain, D>, len: u16, size: u16) -> 
 fn is_back_over<D: Device + Drop>(
     rt: &HostRuntime,
     device: D,
-    holds: &Rc<Cell<bool>>,
+    sight: &Rc<Sight>,
     len: u16,
     size: u16,
 ) -> bool
@@ -131,7 +130,7 @@ fn is_back_over<D: Device + Drop>(
     requires most { len ≤ LONGEST }
 {
     match opened_over(rt, SMALL, device) {
-        Ok(mut book) => is_back(&mut book, len, size) && !holds.get(),
+        Ok(mut book) => is_back(&mut book, len, size) && !sight.holds.get(),
         Err(_) => false,
     }
 }
@@ -140,8 +139,8 @@ fn comes_back(rt: &HostRuntime, len: u16, size: u16) -> bool
     requires some { 0 < len }
     requires most { len ≤ LONGEST }
 {
-    match shown_device(rt, MemDevice::new(rt.alloc())) {
-        Ok((device, holds)) => is_back_over(rt, device, &holds, len, size),
+    match watched(rt, MemDevice::new(rt.alloc())) {
+        Ok((device, sight)) => is_back_over(rt, device, &sight, len, size),
         Err(_) => false,
     }
 }
@@ -220,8 +219,10 @@ fn a_refused_fetch_may_be_made_again(rt: HostRuntime) {
 
 // Whether the first fetch is refused so over a device that lends on, and each read was lent room for the longest object.
 fn lends_all(rt: &HostRuntime, fault: DeviceFault, why: Refused) -> bool {
-    match lent_device(rt, stumbling(rt, fault)) {
-        Ok((device, least)) => { is_refused_over(rt, device, why) && least.get() == LONGEST_OBJECT }
+    match watched(rt, stumbling(rt, fault)) {
+        Ok((device, sight)) => {
+            is_refused_over(rt, device, why) && sight.least.get() == LONGEST_OBJECT
+        }
         Err(_) => false,
     }
 }
@@ -266,32 +267,28 @@ fn comes_after_a_move<D: Device + Drop>(book: &mut Book<Plain, D>) -> bool {
 }
 
 // Whether a fetch leaves the last free log, and the device has the bytes until it comes.
-fn keeps_the_last<D: Device + Drop>(book: &mut Book<Plain, D>, holds: &Rc<Cell<bool>>) -> bool {
+fn keeps_the_last<D: Device + Drop>(book: &mut Book<Plain, D>, sight: &Rc<Sight>) -> bool {
     crowds(book)
         && finds_no_room(book)
-        && holds.get()
+        && sight.holds.get()
         && has(book, 2, line(Kind::Open, 2, 1024, 0, 0))
         && has(book, 3, line(Kind::Free, 3, 0, 0, 1024))
         && comes_after_a_move(book)
-        && !holds.get()
+        && !sight.holds.get()
 }
 
-fn keeps_the_last_over<D: Device + Drop>(
-    rt: &HostRuntime,
-    device: D,
-    holds: &Rc<Cell<bool>>,
-) -> bool
+fn keeps_the_last_over<D: Device + Drop>(rt: &HostRuntime, device: D, sight: &Rc<Sight>) -> bool
     requires { D.honest device ≡ true }
 {
     match opened_over(rt, SMALL, device) {
-        Ok(mut book) => keeps_the_last(&mut book, holds),
+        Ok(mut book) => keeps_the_last(&mut book, sight),
         Err(_) => false,
     }
 }
 
 fn stumbles_without_room(rt: &HostRuntime) -> bool {
-    match shown_device(rt, stumbling(rt, DeviceFault::Device)) {
-        Ok((device, holds)) => keeps_the_last_over(rt, device, &holds),
+    match watched(rt, stumbling(rt, DeviceFault::Device)) {
+        Ok((device, sight)) => keeps_the_last_over(rt, device, &sight),
         Err(_) => false,
     }
 }
@@ -311,22 +308,22 @@ fn finds_drop<D: Device + Drop>(book: &mut Book<Plain, D>) -> bool {
 }
 
 // Whether its cell is taken by the next object, and the device has no bytes of it.
-fn retires_far<D: Device + Drop>(book: &mut Book<Plain, D>, holds: &Rc<Cell<bool>>) -> bool {
-    finds_drop(book) && !holds.get() && places_next(book, 8, 0, PLACE)
+fn retires_far<D: Device + Drop>(book: &mut Book<Plain, D>, sight: &Rc<Sight>) -> bool {
+    finds_drop(book) && !sight.holds.get() && places_next(book, 8, 0, PLACE)
 }
 
-fn retires_far_over<D: Device + Drop>(rt: &HostRuntime, device: D, holds: &Rc<Cell<bool>>) -> bool
+fn retires_far_over<D: Device + Drop>(rt: &HostRuntime, device: D, sight: &Rc<Sight>) -> bool
     requires { D.honest device ≡ true }
 {
     match opened_over(rt, SMALL, device) {
-        Ok(mut book) => retires_far(&mut book, holds),
+        Ok(mut book) => retires_far(&mut book, sight),
         Err(_) => false,
     }
 }
 
 fn retires_shown(rt: &HostRuntime) -> bool {
-    match shown_device(rt, MemDevice::new(rt.alloc())) {
-        Ok((device, holds)) => retires_far_over(rt, device, &holds),
+    match watched(rt, MemDevice::new(rt.alloc())) {
+        Ok((device, sight)) => retires_far_over(rt, device, &sight),
         Err(_) => false,
     }
 }
@@ -372,8 +369,8 @@ fn fetches_over<D: Device + Drop>(
 
 // Whether it is so, and the device has no bytes of it then.
 fn fetches_beside(rt: &HostRuntime, events: Vec<Event>, wanted: Option<Marks>) -> bool {
-    match shown_device(rt, MemDevice::new(rt.alloc())) {
-        Ok((device, holds)) => fetches_over(rt, device, events, wanted) && !holds.get(),
+    match watched(rt, MemDevice::new(rt.alloc())) {
+        Ok((device, sight)) => fetches_over(rt, device, events, wanted) && !sight.holds.get(),
         Err(_) => false,
     }
 }
