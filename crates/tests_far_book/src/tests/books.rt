@@ -352,7 +352,19 @@ fn the_largest_object_fills_a_log(rt: HostRuntime) {
     assert!(rt; is_so_of(opened(&rt, SMALL), fills_a_log));
 }
 
-// Whether an object of 9 bytes takes a word for the last of them.
+// Whether an object of 9 bytes is made and viewed.
+fn views_nine(book: &mut Book<Plain, MemDevice>) -> bool {
+    let (owner, pointer) = (0, 0);
+    let place = Place { log: 0, at: 0 };
+    places_next(book, 9, pointer, place)
+        && has(book, 0, line(Kind::Open, 0, 24, 0, 1000))
+        && answers(book, Event::Adopt { owner, pointer }, Reply::Word(NINE))
+        && answers(book, Event::ReadEpoch { owner }, Reply::Epoch(0))
+        && answers(book, Event::Open { owner }, Reply::Done)
+        && answers(book, Event::Pin { owner, pointer }, Reply::Held(place))
+}
+
+// Whether it takes a word for the last of them.
 fn takes_whole_words(book: &mut Book<Plain, MemDevice>) -> bool {
     let (owner, pointer, index, word) = (0, 0, 1, 0xff);
     let load = Event::Load {
@@ -366,13 +378,7 @@ fn takes_whole_words(book: &mut Book<Plain, MemDevice>) -> bool {
         index,
         word,
     };
-    let place = Place { log: 0, at: 0 };
-    places_next(book, 9, pointer, place)
-        && has(book, 0, line(Kind::Open, 0, 24, 0, 1000))
-        && answers(book, Event::Adopt { owner, pointer }, Reply::Word(NINE))
-        && answers(book, Event::ReadEpoch { owner }, Reply::Epoch(0))
-        && answers(book, Event::Open { owner }, Reply::Done)
-        && answers(book, Event::Pin { owner, pointer }, Reply::Held(place))
+    views_nine(book)
         && answers(book, store, Reply::Done)
         && answers(book, load, Reply::Word(0xff))
         && answers(book, Event::See { pointer }, Reply::Refused)
@@ -427,6 +433,15 @@ fn first_log(book: &Book<Plain, MemDevice>) -> (Kind, LogRow) {
     book.log(0)
 }
 
+// Whether both words of such an object are 0, and others once these are stored.
+fn stores_pair(book: &mut Book<Plain, MemDevice>) -> bool {
+    holds_pair(book)
+        && words_of(book, 0) == Some([0, 0])
+        && store_word(book, 0, 1, 7)
+        && store_word(book, 0, 0, u64::MAX)
+        && words_of(book, 0) == Some([u64::MAX, 7])
+}
+
 // Whether the words of the object that is held are stored and loaded, and aren't reached any more after a close.
 fn stores_and_loads(book: &mut Book<Plain, MemDevice>) -> bool {
     let (owner, pointer) = (0, 0);
@@ -435,11 +450,7 @@ fn stores_and_loads(book: &mut Book<Plain, MemDevice>) -> bool {
         pointer,
         index: 1,
     };
-    holds_pair(book)
-        && words_of(book, pointer) == Some([0, 0])
-        && store_word(book, pointer, 1, 7)
-        && store_word(book, pointer, 0, u64::MAX)
-        && words_of(book, pointer) == Some([u64::MAX, 7])
+    stores_pair(book)
         && answers(book, load, Reply::Word(7))
         && Some(first_log(book)) == line(Kind::Open, 0, 24, 0, 1000)
         && answers(book, Event::Close { owner }, Reply::Done)
@@ -548,17 +559,22 @@ fn the_lowest_free_cell_is_taken(rt: HostRuntime) {
 }
 
 // Whether an object is marked once its log is sealed, and answers its word before each time.
+fn marks_twice(book: &mut Book<Plain, MemDevice>) -> bool {
+    places_next(book, 8, 0, Place { log: 0, at: 0 })
+        && mark_sealed(book, 0).is_none()
+        && places_next(book, 1016, 1, Place { log: 1, at: 0 })
+        && mark_sealed(book, 0) == Some(0x8400_0000_0001_0008)
+        && mark_sealed(book, 0) == Some(0xa400_0000_0001_0008)
+}
+
+// Whether it lies there with EVAC then, and no other is marked.
 fn marks_when_sealed(book: &mut Book<Plain, MemDevice>) -> bool {
     let place = Place { log: 0, at: 0 };
     let marks = Marks {
         evac: true,
         ..NO_MARKS
     };
-    places_next(book, 8, 0, place)
-        && mark_sealed(book, 0).is_none()
-        && places_next(book, 1016, 1, Place { log: 1, at: 0 })
-        && mark_sealed(book, 0) == Some(0x8400_0000_0001_0008)
-        && mark_sealed(book, 0) == Some(0xa400_0000_0001_0008)
+    marks_twice(book)
         && mark_sealed(book, 1).is_none()
         && mark_sealed(book, 2).is_none()
         && is_near_at(book, 0, place, marks)

@@ -163,13 +163,18 @@ fn stores_meanwhile(hand: &mut Beset) -> bool {
         && counts(hand, false, false)
 }
 
-// Whether it is quiet once it has MOVE, until it is retired.
-fn is_quiet(hand: &mut Beset) -> bool {
+// Whether its second word is counted on once it has MOVE.
+fn is_counted_on(hand: &mut Beset) -> bool {
     sees(hand, HOT)
         && sees(hand, HOT)
         && sees(hand, MOVED)
         && gets(hand, 8)
         && counts(hand, false, true)
+}
+
+// Whether it is quiet then, until it is retired.
+fn is_quiet(hand: &mut Beset) -> bool {
+    is_counted_on(hand)
         && hand.core.cell(0) == DROPPED
         && hand.shape() == SMALL
         && retires(hand)

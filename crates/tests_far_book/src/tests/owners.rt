@@ -18,8 +18,8 @@ const WAS_HOT: u64 = 0xc400_0000_0001_0008;
 
 const MARKED: u64 = 0xe400_0000_0001_0008;
 
-// Whether what its owner views isn't dropped before it closes, and isn't used after.
-fn drops_after_a_close(book: &mut Book<Plain, MemDevice>) -> bool {
+// Whether its owner views a new object.
+fn views_first(book: &mut Book<Plain, MemDevice>) -> bool {
     let (owner, pointer) = (0, 0);
     let place = Place { log: 0, at: 0 };
     places_next(book, 8, pointer, place)
@@ -27,6 +27,12 @@ fn drops_after_a_close(book: &mut Book<Plain, MemDevice>) -> bool {
         && answers(book, Event::ReadEpoch { owner }, Reply::Epoch(0))
         && answers(book, Event::Open { owner }, Reply::Done)
         && answers(book, HOT, Reply::Held(place))
+}
+
+// Whether what its owner views isn't dropped before it closes, and isn't used after.
+fn drops_after_a_close(book: &mut Book<Plain, MemDevice>) -> bool {
+    let (owner, pointer) = (0, 0);
+    views_first(book)
         && answers(book, DROP, Reply::Refused)
         && answers(book, Event::Close { owner }, Reply::Done)
         && answers(book, DROP, Reply::Word(WAS_HOT))
@@ -102,26 +108,27 @@ fn stores_and_seals(book: &mut Book<Plain, MemDevice>) -> bool {
         index,
         word,
     };
-    let place = Place { log: 0, at: 0 };
-    places_next(book, 8, 0, place)
-        && answers(book, Event::Adopt { owner, pointer }, Reply::Word(NEAR))
-        && answers(book, Event::ReadEpoch { owner }, Reply::Epoch(0))
-        && answers(book, Event::Open { owner }, Reply::Done)
-        && answers(book, HOT, Reply::Held(place))
+    views_first(book)
         && answers(book, store, Reply::Done)
         && answers(book, Event::Close { owner }, Reply::Done)
         && places_next(book, 1016, 1, Place { log: 1, at: 0 })
 }
 
-// Whether its owner isn't given the object once it is marked, asks for it to move, and is given it where it has come.
-fn moves_what_is_marked(book: &mut Book<Plain, MemDevice>) -> bool {
+// Whether its owner isn't given the object once it is marked, and asks for it to move.
+fn asks_for_a_move(book: &mut Book<Plain, MemDevice>) -> bool {
     let owner = 0;
-    let place = Place { log: 2, at: 0 };
     answers(book, Event::ReadEpoch { owner }, Reply::Epoch(0))
         && mark_sealed(book, 0) == Some(WAS_HOT)
         && answers(book, Event::Open { owner }, Reply::Done)
         && answers(book, HOT, Reply::Word(MARKED))
         && answers(book, MOVE, Reply::Word(MARKED))
+}
+
+// Whether it is given it where it has come then.
+fn moves_what_is_marked(book: &mut Book<Plain, MemDevice>) -> bool {
+    let owner = 0;
+    let place = Place { log: 2, at: 0 };
+    asks_for_a_move(book)
         && moves_to(book, 0, place)
         && answers(book, HOT, Reply::Held(place))
         && answers(book, Event::Close { owner }, Reply::Done)

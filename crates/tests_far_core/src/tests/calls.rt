@@ -7,6 +7,11 @@ const HEADER: u64 = 0xa100_0000_0001_0008;
 
 const NEAR: u64 = 0x8400_0000_0001_0008;
 
+/// The header and the cell of an object of 1,016 bytes there.
+const WHOLE_HEADER: u64 = 0xa100_0000_0001_03f8;
+
+const WHOLE: u64 = 0x8400_0000_0001_03f8;
+
 const FIRST: Place = Place { log: 0, at: 0 };
 
 fn put_word(rt: &impl Abort, core: &mut Core, place: Place, word: u64) {
@@ -75,20 +80,30 @@ fn mark_near(rt: &impl Abort, core: &mut Core, pointer: u16) -> u64 {
     core.mark(pointer)
 }
 
+// Pointer 0's object is made and taken over.
+fn make_first(rt: &impl Abort, core: &mut Core) {
+    put_word(rt, core, FIRST, HEADER);
+    assert!(rt; name_new(rt, core, 0, 0, NEAR) == Ok(()));
+    assert!(rt; core.starts(0, 0) && !core.starts(0, 1));
+    assert!(rt; core.see(0) == NEAR);
+    assert!(rt; adopt_own(rt, core, 1).is_none());
+    assert!(rt; adopt_own(rt, core, 0) == Some(NEAR));
+}
+
+// It is viewed, and its word stored and loaded.
+fn view_first(rt: &impl Abort, core: &mut Core) {
+    open_scope(rt, core);
+    assert!(rt; pin_own(rt, core, 0) == Ok(FIRST));
+    assert!(rt; core.held(0) == Some(FIRST));
+    store_and_load(rt, core, 0, 0x0807_0605_0403_0201);
+    assert!(rt; core.word(0, 1) == 0x0807_0605_0403_0201);
+}
+
 #[test]
 fn object_is_made_and_viewed(rt: HostRuntime) {
     let mut core = made(&rt, rt.alloc(), TWO_OWNERS, true);
-    put_word(&rt, &mut core, FIRST, HEADER);
-    assert!(rt; name_new(&rt, &mut core, 0, 0, NEAR) == Ok(()));
-    assert!(rt; core.starts(0, 0) && !core.starts(0, 1));
-    assert!(rt; core.see(0) == NEAR);
-    assert!(rt; adopt_own(&rt, &mut core, 1).is_none());
-    assert!(rt; adopt_own(&rt, &mut core, 0) == Some(NEAR));
-    open_scope(&rt, &mut core);
-    assert!(rt; pin_own(&rt, &mut core, 0) == Ok(FIRST));
-    assert!(rt; core.held(0) == Some(FIRST));
-    store_and_load(&rt, &mut core, 0, 0x0807_0605_0403_0201);
-    assert!(rt; core.word(0, 1) == 0x0807_0605_0403_0201);
+    make_first(&rt, &mut core);
+    view_first(&rt, &mut core);
     close_scope(&rt, &mut core);
     assert!(rt; core.held(0).is_none());
     assert!(rt; (core.epoch(), core.is_honest()) == (5, true));
@@ -126,20 +141,24 @@ fn named_cell_is_found(rt: HostRuntime) {
     assert!(rt; !core.starts(0, 9));
 }
 
+// Pointer 0's object fills log 0 and is taken over; another one opens log 1.
+fn fill_first(rt: &impl Abort, core: &mut Core) {
+    put_word(rt, core, FIRST, WHOLE_HEADER);
+    assert!(rt; name_new(rt, core, 0, 0, WHOLE) == Ok(()));
+    let next = Place { log: 1, at: 0 };
+    put_word(rt, core, next, 0xa100_0000_0101_0008);
+    assert!(rt; name_new(rt, core, 1, 0, 0x8400_0004_0001_0008) == Ok(()));
+    assert!(rt; adopt_own(rt, core, 0) == Some(WHOLE));
+}
+
 #[test]
 fn log_of_a_dropped_object_is_given_back(rt: HostRuntime) {
     let mut core = made(&rt, rt.alloc(), SMALL, true);
-    let (header, whole) = (0xa100_0000_0001_03f8, 0x8400_0000_0001_03f8);
-    put_word(&rt, &mut core, FIRST, header);
-    assert!(rt; name_new(&rt, &mut core, 0, 0, whole) == Ok(()));
-    let next = Place { log: 1, at: 0 };
-    put_word(&rt, &mut core, next, 0xa100_0000_0101_0008);
-    assert!(rt; name_new(&rt, &mut core, 1, 0, 0x8400_0004_0001_0008) == Ok(()));
-    assert!(rt; adopt_own(&rt, &mut core, 0) == Some(whole));
-    assert!(rt; drop_own(&rt, &mut core, 0) == whole);
+    fill_first(&rt, &mut core);
+    assert!(rt; drop_own(&rt, &mut core, 0) == WHOLE);
     assert!(rt; !core.is_used(0) && !core.may_get(0, 0, true));
-    assert!(rt; !core.may_name(0, whole, 0));
+    assert!(rt; !core.may_name(0, WHOLE, 0));
     assert!(rt; name_new(&rt, &mut core, 0, 0x8c00_0000_0001_03f8, 0) == Ok(()));
-    assert!(rt; give_back(&rt, &mut core, 0) == header);
+    assert!(rt; give_back(&rt, &mut core, 0) == WHOLE_HEADER);
     assert!(rt; log_shown(&rt, &core, 0) == (Kind::Free, 0));
 }

@@ -14,7 +14,7 @@ use crate::tests::making::{
 use crate::tests::steps::{
     comes_to_leaving, counts, deals, deals_until, gives_up, is_in, runs_until,
 };
-use far_book::{Near, Home, Plain};
+use far_book::{Home, Near, Plain};
 use far_device::{Device, DeviceFault, MemDevice, hand_over};
 use far_evac::{Evac, LogKind, Phase};
 use far_policy::Oldest;

@@ -47,7 +47,7 @@ fn read_short(inner: &mut MemDevice, id: u32) -> Result<Vec<u8>, DeviceFault>
 }
 
 /// What one of its calls does in place of what was asked.
-#[derive(Clone, Copy, Debug, PartialEq, Eq)]
+#[derive(Clone, Copy)]
 enum Fault {
     /// It fails so.
     Fails(DeviceFault),

@@ -74,11 +74,6 @@ fn begins<K: HeapName>(book: &mut Evacuator<K, MemDevice>) -> bool {
     selects(book, &mut Oldest, 1, &[0]) && marks(book, 1, 1, None)
 }
 
-// Whether the round waits for nobody, and has come to where objects leave.
-fn comes_to_leaving<K: HeapName>(book: &mut Evacuator<K, MemDevice>) -> bool {
-    is_clear(book)
-}
-
 // Whether nothing is left to be marked.
 fn waits<K: HeapName>(book: &mut Evacuator<K, MemDevice>) -> bool {
     marks(book, 9, 4, Some(1))
@@ -87,6 +82,29 @@ fn waits<K: HeapName>(book: &mut Evacuator<K, MemDevice>) -> bool {
 // Whether the log is given back, with nothing that lives there.
 fn gives_back<K: HeapName>(book: &mut Evacuator<K, MemDevice>) -> bool {
     deals(book, 9, [0, 0, 0, 1], true)
+}
+
+// Whether two are dropped while a round marks, and two while it waits.
+fn frees_before_leaving<K: HeapName, R: Wait>(
+    rt: &R,
+    heap: &Heap<K, MemDevice>,
+    lent: &mut Lent<K, MemDevice>,
+) -> bool {
+    of_book!(rt, heap, book, begins(book))
+        && frees_two(rt, heap, lent, 0, Phase::Marking)
+        && of_book!(rt, heap, book, waits(book))
+        && frees_two(rt, heap, lent, 2, Phase::Waiting)
+}
+
+// Whether the last two are dropped where objects leave, and the log is given back.
+fn frees_at_last<K: HeapName, R: Wait>(
+    rt: &R,
+    heap: &Heap<K, MemDevice>,
+    lent: &mut Lent<K, MemDevice>,
+) -> bool {
+    of_book!(rt, heap, book, is_clear(book))
+        && frees_two(rt, heap, lent, 4, Phase::Evacuating)
+        && of_book!(rt, heap, book, gives_back(book))
 }
 
 // A round whose objects are dropped in its phases.
@@ -100,13 +118,8 @@ impl Trial<MemDevice> for DroppedInRound {
         lent: &mut Lent<K, MemDevice>,
     ) -> bool {
         makes_seven(rt, lent)
-            && of_book!(rt, heap, book, begins(book))
-            && frees_two(rt, heap, lent, 0, Phase::Marking)
-            && of_book!(rt, heap, book, waits(book))
-            && frees_two(rt, heap, lent, 2, Phase::Waiting)
-            && of_book!(rt, heap, book, comes_to_leaving(book))
-            && frees_two(rt, heap, lent, 4, Phase::Evacuating)
-            && of_book!(rt, heap, book, gives_back(book))
+            && frees_before_leaving(rt, heap, lent)
+            && frees_at_last(rt, heap, lent)
     }
 }
 

@@ -56,11 +56,6 @@ fn have_bytes<K: HeapName, D: Device + Drop, R: Wait>(
         && reads_slowly(rt, scope, 2, [0; 8])
 }
 
-// Whether all three are there.
-fn has_three<K: HeapName, D: Device + Drop>(book: &mut Evacuator<K, D>) -> bool {
-    has_objects(book, 3)
-}
-
 // Whether a round of the oldest log is done, or the device failed; then it is given up.
 fn rounds_or_fails<K: HeapName, D: Device + Drop, R: Wait>(
     rt: &R,
@@ -73,6 +68,14 @@ fn rounds_or_fails<K: HeapName, D: Device + Drop, R: Wait>(
         Err(fault) => is_failure(fault.why, failures),
     };
     came && of_book!(rt, heap, book, ends_any(book))
+}
+
+// Whether two objects lie in a log, of which the first is written, and another fills the next.
+fn makes_three<K: HeapName, D: Device + Drop, R: Wait>(rt: &R, lent: &mut Lent<K, D>) -> bool {
+    lent.makes(rt, 8, 0)
+        && lent.makes(rt, 8, 1)
+        && opened!(lent, scope, writes(scope, 0, EIGHT))
+        && lent.makes(rt, 1016, 2)
 }
 
 /// A round moves one object, and sends another far, which comes back.
@@ -88,13 +91,10 @@ impl<D: Device + Drop> Trial<D> for PlainRun {
         heap: &Heap<K, D>,
         lent: &mut Lent<K, D>,
     ) -> bool {
-        lent.makes(rt, 8, 0)
-            && lent.makes(rt, 8, 1)
-            && opened!(lent, scope, writes(scope, 0, EIGHT))
-            && lent.makes(rt, 1016, 2)
+        makes_three(rt, lent)
             && rounds_or_fails(rt, heap, &self.failures)
             && opened!(lent, scope, have_bytes(rt, scope, EIGHT, &self.failures))
-            && of_book!(rt, heap, book, has_three(book))
+            && of_book!(rt, heap, book, has_objects(book, 3))
     }
 }
 
@@ -123,6 +123,17 @@ fn deals_or_fails<K: HeapName, D: Device + Drop>(
     came && ends_any(book)
 }
 
+// Whether the owner's own move takes the last free log in a round of two.
+fn takes_the_last_log<K: HeapName, D: Device + Drop, R: Wait>(
+    rt: &R,
+    heap: &Heap<K, D>,
+    lent: &mut Lent<K, D>,
+) -> bool {
+    fills_three(rt, lent)
+        && of_book!(rt, heap, book, comes_to_leaving(book))
+        && opened!(lent, scope, reads_slowly(rt, scope, 1, [0; 8]))
+}
+
 /// The owner's own move takes the last free log, so that a viewed object goes far.
 #[derive(Drop)]
 struct HotRun {
@@ -136,12 +147,10 @@ impl<D: Device + Drop> Trial<D> for HotRun {
         heap: &Heap<K, D>,
         lent: &mut Lent<K, D>,
     ) -> bool {
-        fills_three(rt, lent)
-            && of_book!(rt, heap, book, comes_to_leaving(book))
-            && opened!(lent, scope, reads_slowly(rt, scope, 1, [0; 8]))
+        takes_the_last_log(rt, heap, lent)
             && of_book!(rt, heap, book, deals_or_fails(book, &self.failures))
             && opened!(lent, scope, have_bytes(rt, scope, [0; 8], &self.failures))
-            && of_book!(rt, heap, book, has_three(book))
+            && of_book!(rt, heap, book, has_objects(book, 3))
     }
 }
 

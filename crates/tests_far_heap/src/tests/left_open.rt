@@ -58,6 +58,11 @@ fn next_round<K: HeapName, R: Wait>(rt: &R, heap: &Heap<K, MemDevice>) -> bool {
         && of_book!(rt, heap, book, waits_for_first(book, 2))
 }
 
+// Whether an object is written in a scope that is left open.
+fn leaves_open<K: HeapName, R: Wait>(rt: &R, first: &mut Lent<K, MemDevice>) -> bool {
+    first.makes(rt, 8, 0) && left_open!(first, scope, writes(scope, 0, EIGHT))
+}
+
 // The first mutator drops its scope unclosed, with a view.
 struct LeftOpen;
 
@@ -69,8 +74,7 @@ impl PairTrial<MemDevice> for LeftOpen {
         first: &mut Lent<K, MemDevice>,
         second: &mut Lent<K, MemDevice>,
     ) -> bool {
-        first.makes(rt, 8, 0)
-            && left_open!(first, scope, writes(scope, 0, EIGHT))
+        leaves_open(rt, first)
             && first_round(rt, heap, second)
             && next_round(rt, heap)
             && of_book!(rt, heap, book, gives_up(book))

@@ -77,7 +77,20 @@ fn waits<K: HeapName>(book: &mut Evacuator<K, MemDevice>) -> bool {
     matches!(book.mark_some(64), Ok(marked) if marked.waiting == Some(1))
 }
 
-// Whether an object is refused for this reason in each phase of a round, and none of them changes by that.
+// Whether an object is refused for this reason while a round marks and waits, and neither changes by that.
+fn refuses_before_leaving<K: HeapName, R: Wait>(
+    rt: &R,
+    heap: &Heap<K, MemDevice>,
+    lent: &mut Lent<K, MemDevice>,
+    why: Refused,
+) -> bool {
+    of_book!(rt, heap, book, begins(book))
+        && refuses_in(rt, heap, lent, why, Phase::Marking)
+        && of_book!(rt, heap, book, waits(book))
+        && refuses_in(rt, heap, lent, why, Phase::Waiting)
+}
+
+// The same in each phase of a round.
 fn refuses_beside_round<K: HeapName, R: Wait>(
     rt: &R,
     heap: &Heap<K, MemDevice>,
@@ -85,10 +98,7 @@ fn refuses_beside_round<K: HeapName, R: Wait>(
     why: Refused,
 ) -> bool {
     refuses_in(rt, heap, lent, why, Phase::Idle)
-        && of_book!(rt, heap, book, begins(book))
-        && refuses_in(rt, heap, lent, why, Phase::Marking)
-        && of_book!(rt, heap, book, waits(book))
-        && refuses_in(rt, heap, lent, why, Phase::Waiting)
+        && refuses_before_leaving(rt, heap, lent, why)
         && of_book!(rt, heap, book, is_clear(book))
         && refuses_in(rt, heap, lent, why, Phase::Evacuating)
 }
@@ -196,6 +206,18 @@ fn places_two<K: HeapName, R: Wait>(
         && places_one_in_scope(rt, heap, lent, first.saturating_add(1))
 }
 
+// Both while a round marks, and while it waits.
+fn places_before_leaving<K: HeapName, R: Wait>(
+    rt: &R,
+    heap: &Heap<K, MemDevice>,
+    lent: &mut Lent<K, MemDevice>,
+) -> bool {
+    of_book!(rt, heap, book, begins(book))
+        && places_two(rt, heap, lent, 3)
+        && of_book!(rt, heap, book, waits(book))
+        && places_two(rt, heap, lent, 5)
+}
+
 // Objects are made where no round is running, and in each phase of one.
 struct PlacedOnce;
 
@@ -208,10 +230,7 @@ impl Trial<MemDevice> for PlacedOnce {
     ) -> bool {
         places_two(rt, heap, lent, 0)
             && lent.makes(rt, 1016, 2)
-            && of_book!(rt, heap, book, begins(book))
-            && places_two(rt, heap, lent, 3)
-            && of_book!(rt, heap, book, waits(book))
-            && places_two(rt, heap, lent, 5)
+            && places_before_leaving(rt, heap, lent)
             && of_book!(rt, heap, book, is_clear(book))
             && places_two(rt, heap, lent, 7)
     }

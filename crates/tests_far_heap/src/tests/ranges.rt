@@ -119,6 +119,16 @@ fn takes_earlier<K: HeapName>(scope: &mut Scope<K, MemDevice>, view: &View) -> b
         && reads(scope, 0, [1, 2, 3, 4, 9, 6, 7, 8])
 }
 
+// Whether the object is written, and the view is refused and taken so in a later scope.
+fn bars_until_viewed<K: HeapName>(lent: &mut Lent<K, MemDevice>, view: &View) -> bool {
+    opened!(lent, scope, writes(scope, 0, EIGHT))
+        && opened!(
+            lent,
+            scope,
+            bars_earlier(scope, view) && takes_earlier(scope, view)
+        )
+}
+
 // A view of an earlier scope is good where this scope views the pointer too.
 struct EarlierViews;
 
@@ -129,18 +139,11 @@ impl Trial<MemDevice> for EarlierViews {
         _heap: &Heap<K, MemDevice>,
         lent: &mut Lent<K, MemDevice>,
     ) -> bool {
-        if !lent.makes(rt, 8, 0) {
-            return false;
-        }
-        let Some(view) = lent.viewed(0) else {
-            return false;
-        };
-        opened!(lent, scope, writes(scope, 0, EIGHT))
-            && opened!(
-                lent,
-                scope,
-                bars_earlier(scope, &view) && takes_earlier(scope, &view)
-            )
+        lent.makes(rt, 8, 0)
+            && match lent.viewed(0) {
+                Some(view) => bars_until_viewed(lent, &view),
+                None => false,
+            }
     }
 }
 
@@ -158,6 +161,11 @@ fn views_next<K: HeapName>(scope: &mut Scope<K, MemDevice>, view: &View) -> bool
         && bars(scope, view, (16, 1), Refused::Range)
 }
 
+// Whether the object is written and dropped, and a longer one made at its pointer.
+fn makes_the_next<K: HeapName, R: Wait>(rt: &R, lent: &mut Lent<K, MemDevice>) -> bool {
+    opened!(lent, scope, writes(scope, 0, EIGHT)) && lent.drops(rt, 0) && lent.makes(rt, 16, 0)
+}
+
 // A view of an object that is gone is of the pointer's next object.
 struct NextObject;
 
@@ -168,16 +176,12 @@ impl Trial<MemDevice> for NextObject {
         _heap: &Heap<K, MemDevice>,
         lent: &mut Lent<K, MemDevice>,
     ) -> bool {
-        if !lent.makes(rt, 8, 0) {
-            return false;
-        }
-        let Some(view) = lent.viewed(0) else {
-            return false;
-        };
-        opened!(lent, scope, writes(scope, 0, EIGHT))
-            && lent.drops(rt, 0)
-            && lent.makes(rt, 16, 0)
-            && opened!(lent, scope, views_next(scope, &view))
+        lent.makes(rt, 8, 0)
+            && match lent.viewed(0) {
+                Some(view) => makes_the_next(rt, lent)
+                    && opened!(lent, scope, views_next(scope, &view)),
+                None => false,
+            }
     }
 }
 

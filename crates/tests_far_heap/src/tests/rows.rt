@@ -209,6 +209,11 @@ fn moves_marked<K: HeapName, R: Wait>(rt: &R, scope: &mut Scope<K, MemDevice>) -
     finds(scope, 0, 0xe400_0000_0001_0008) && reads_slowly(rt, scope, 0, EIGHT)
 }
 
+// Whether an object is written, and another fills the next log.
+fn seals_written<K: HeapName, R: Wait>(rt: &R, lent: &mut Lent<K, MemDevice>) -> bool {
+    lent.makes(rt, 8, 0) && lent.makes(rt, 1016, 1) && opened!(lent, scope, writes_first(scope))
+}
+
 // One step finds the word of a marked object, and a view has the object moved.
 struct MarkedObject;
 
@@ -219,9 +224,7 @@ impl Trial<MemDevice> for MarkedObject {
         heap: &Heap<K, MemDevice>,
         lent: &mut Lent<K, MemDevice>,
     ) -> bool {
-        lent.makes(rt, 8, 0)
-            && lent.makes(rt, 1016, 1)
-            && opened!(lent, scope, writes_first(scope))
+        seals_written(rt, lent)
             && of_book!(rt, heap, book, marks_first(book))
             && opened!(
                 lent,
