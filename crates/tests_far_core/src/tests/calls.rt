@@ -7,12 +7,12 @@ const HEADER: u64 = 0xa100_0000_0001_0008;
 
 const NEAR: u64 = 0x8400_0000_0001_0008;
 
+const FIRST: Place = Place { log: 0, at: 0 };
+
 /// The header and the cell of an object of 1,016 bytes there.
 const WHOLE_HEADER: u64 = 0xa100_0000_0001_03f8;
 
 const WHOLE: u64 = 0x8400_0000_0001_03f8;
-
-const FIRST: Place = Place { log: 0, at: 0 };
 
 fn put_word(rt: &impl Abort, core: &mut Core, place: Place, word: u64) {
     let Place { log, at } = place;
