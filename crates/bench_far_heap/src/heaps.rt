@@ -1,25 +1,11 @@
-// Heaps with objects.
-ghost use Rattle.std.specs.Prelude.{◌≡◌};
-
+// Mutators with objects.
 use crate::numbers::mix;
 use crate::trouble::Trouble;
 use byteorder::{ByteOrder, LittleEndian};
 use far_device::MemDevice;
-use far_heap::{Blank, Heap, HeapName, Mutator, Scope};
+use far_heap::{HeapName, Mutator, Scope};
 use std::alloc::Global;
 use std::sync::Wait;
-
-pub(crate) type Made<K> = (Heap<K, MemDevice>, Vec<Mutator<K, MemDevice>>);
-
-/// A heap, with its mutators by number.
-pub(crate) fn made<K: HeapName>(alloc: Global, blank: Blank<MemDevice>) -> Result<Made<K>, Trouble>
-    requires { blank.heap ≡ K.heap }
-{
-    match Heap::<K, MemDevice>::new(alloc, blank) {
-        Ok(made) => Ok(made),
-        Err(why) => Err(Trouble::Refused(why)),
-    }
-}
 
 /// The last mutator: the first, where there is one.
 pub(crate) fn first<K: HeapName>(
