@@ -144,7 +144,7 @@ impl Device for Faulty {
 }
 
 // One whose call after so many has this fault.
-fn faulty(alloc: Global, before: u64, fault: Fault) -> Faulty {
+fn faulty_device(alloc: Global, before: u64, fault: Fault) -> Faulty {
     Faulty {
         inner: MemDevice::new(alloc),
         before,
@@ -223,7 +223,7 @@ impl Trial<Faulty> for RefusedView {
 
 // Whether a view comes out so where the device's read, its second call, has this fault.
 fn view_comes_out<R: Wait>(rt: &R, alloc: Global, fault: Fault, why: Refused) -> bool {
-    let device = faulty(alloc, 1, fault);
+    let device = faulty_device(alloc, 1, fault);
     try_over(rt, alloc, sized(4, 1), device, &RefusedView { why })
 }
 
@@ -286,7 +286,7 @@ impl Trial<Faulty> for RefusedRound {
 
 // Whether a round comes out so where the device's write, its first call, fails: it goes on, or is given up.
 fn round_comes_out<R: Wait>(rt: &R, alloc: Global, fault: DeviceFault, run: RefusedRound) -> bool {
-    let device = faulty(alloc, 0, Fault::Fails(fault));
+    let device = faulty_device(alloc, 0, Fault::Fails(fault));
     try_over(rt, alloc, sized(4, 1), device, &run)
 }
 
