@@ -1,5 +1,5 @@
 #!/usr/bin/env python3
-"""Refuses each growth of `far_trace split` in turn, on a text whose round and fetch take memory.
+"""Refuses each growth of `far_trace split` in turn, on a text whose rounds and audits take memory.
 
 usage: refuse_split.py PROGRAM
 A run must end with status 0 and replies that follow from each mutator's own lines, of which some may be refused for want of

@@ -22,7 +22,7 @@ use std::marker::Model;
 use std::sync::Wait;
 
 /// A mutator whose scope is open. An object that it views isn't moved before the scope is closed. One that is dropped unclosed leaves the
-/// scope's word open: no round ends after it.
+/// scope's word open: no round ends that waits for it.
 #[derive(Drop)]
 pub struct Scope<K: HeapName, D: Device + Drop> {
     own: Own<K, D>,

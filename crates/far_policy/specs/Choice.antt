@@ -12,7 +12,7 @@ pub record IsChoice (rows : List LogRow) (most : ℕ) (logs : List ℕ) : Type 0
   pub of_rows : (l : ℕ) → is_among logs l ≡ true → is_among (logs_of rows) l ≡ true
   pub few : length logs ≤ most
 
--- a refusal that names a log which may not be chosen
+-- a refusal that names a log, for whatever cause
 abbrev pub IsBadChoice : Refused → Type 0
 IsBadChoice why = (log : ℕ) × (why ≡ BadChoice log)
 

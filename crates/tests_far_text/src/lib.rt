@@ -1,5 +1,5 @@
 //! The tests of far_text, by its public calls alone. They stand apart, so that it is proved once. What is refused, and why,
-//! the tests of far_trace try on whole runs.
+//! tests_far_replay tries on whole runs.
 #![tactic(auto)]
 
 #[cfg(test)]

@@ -85,7 +85,10 @@ fn make_room<K: HeapName, R: Wait>(rt: &R, heap: &Heap<K, MemDevice>) -> Result<
         Ok(RoundEnd::Limit(_)) => heap.book(rt).abort(),
         Ok(_) => Ok(()),
         Err(fault) if fault.why == Refused::Phase => Ok(()), // another thread makes a round
-        Err(fault) => Err(fault.why),
+        Err(fault) => {
+            let _ = heap.book(rt).abort(); // else the round stands, and no other begins
+            Err(fault.why)
+        }
     }
 }
 // end
