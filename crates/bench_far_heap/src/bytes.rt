@@ -54,6 +54,19 @@ fn reads<K: HeapName>(
     Ok(sum)
 }
 
+// The same of an object that is filled with these bytes.
+fn fills_and_reads<K: HeapName>(
+    scope: &mut Scope<K, MemDevice>,
+    view: &View,
+    bytes: &[u8],
+    from: u16,
+    out: &mut [u8],
+    count: u64,
+) -> Result<u64, Trouble> {
+    scope.write(view, 0, bytes)?;
+    reads(scope, view, from, out, count)
+}
+
 pub(crate) fn read<K: HeapName, R: Wait>(
     rt: &R,
     alloc: Global,
@@ -64,8 +77,14 @@ pub(crate) fn read<K: HeapName, R: Wait>(
     let bytes = stepping(alloc, LONGEST, 1, 7)?;
     let mut out = stepping(alloc, access.len, 0, 0)?;
     let (mut scope, view) = viewing(rt, mutator)?;
-    scope.write(&view, 0, bytes.as_slice())?;
-    reads(&mut scope, &view, access.from, out.as_mut_slice(), count)
+    fills_and_reads(
+        &mut scope,
+        &view,
+        bytes.as_slice(),
+        access.from,
+        out.as_mut_slice(),
+        count,
+    )
 }
 
 fn writes<K: HeapName>(
@@ -91,6 +110,21 @@ fn sum_of(bytes: &[u8]) -> u64 {
     sum
 }
 
+// The same, and a sum over the whole object then.
+fn writes_and_sums<K: HeapName>(
+    scope: &mut Scope<K, MemDevice>,
+    view: &View,
+    from: u16,
+    even: &[u8],
+    odd: &[u8],
+    out: &mut [u8],
+    count: u64,
+) -> Result<u64, Trouble> {
+    writes(scope, view, from, even, odd, count)?;
+    scope.read(view, 0, out)?;
+    Ok(sum_of(out))
+}
+
 pub(crate) fn write<K: HeapName, R: Wait>(
     rt: &R,
     alloc: Global,
@@ -102,14 +136,13 @@ pub(crate) fn write<K: HeapName, R: Wait>(
     let odd = stepping(alloc, access.len, 3, 2)?;
     let mut out = stepping(alloc, LONGEST, 0, 0)?;
     let (mut scope, view) = viewing(rt, mutator)?;
-    writes(
+    writes_and_sums(
         &mut scope,
         &view,
         access.from,
         even.as_slice(),
         odd.as_slice(),
+        out.as_mut_slice(),
         count,
-    )?;
-    scope.read(&view, 0, out.as_mut_slice())?;
-    Ok(sum_of(out.as_slice()))
+    )
 }

@@ -1,25 +1,11 @@
-// Heaps with objects.
-ghost use Rattle.std.specs.Prelude.{◌≡◌};
-
+// Mutators with objects.
 use crate::numbers::mix;
 use crate::trouble::Trouble;
 use byteorder::{ByteOrder, LittleEndian};
 use far_device::MemDevice;
-use far_heap::{Blank, Heap, HeapName, Mutator, Scope};
+use far_heap::{HeapName, Mutator, Scope};
 use std::alloc::Global;
 use std::sync::Wait;
-
-pub(crate) type Made<K> = (Heap<K, MemDevice>, Vec<Mutator<K, MemDevice>>);
-
-/// A heap, with its mutators by number.
-pub(crate) fn made<K: HeapName>(alloc: Global, blank: Blank<MemDevice>) -> Result<Made<K>, Trouble>
-    requires { blank.heap ≡ K.heap }
-{
-    match Heap::<K, MemDevice>::new(alloc, blank) {
-        Ok(made) => Ok(made),
-        Err(why) => Err(Trouble::Refused(why)),
-    }
-}
 
 /// The last mutator: the first, where there is one.
 pub(crate) fn first<K: HeapName>(
@@ -28,8 +14,8 @@ pub(crate) fn first<K: HeapName>(
     mutators.pop().ok_or(Trouble::Task)
 }
 
-/// New objects of 64 bytes.
-pub(crate) fn new_objects<K: HeapName, R: Wait>(
+// New objects of 64 bytes.
+fn new_objects<K: HeapName, R: Wait>(
     rt: &R,
     alloc: Global,
     mutator: &mut Mutator<K, MemDevice>,
@@ -42,8 +28,8 @@ pub(crate) fn new_objects<K: HeapName, R: Wait>(
     Ok(pointers)
 }
 
-/// Writes to the front of each object its place in the row, from 1.
-pub(crate) fn number_objects<K: HeapName, R: Wait>(
+// Writes to the front of each object its place in the row, from 1.
+fn number_objects<K: HeapName, R: Wait>(
     rt: &R,
     scope: &mut Scope<K, MemDevice>,
     pointers: &[u16],
@@ -55,6 +41,19 @@ pub(crate) fn number_objects<K: HeapName, R: Wait>(
         scope.write(&view, 0, &place.to_le_bytes())?;
     }
     Ok(())
+}
+
+/// A mutator with so many new objects of 64 bytes, each with its place in the row at its front, from 1; and their pointers.
+pub(crate) fn with_objects<K: HeapName, R: Wait>(
+    rt: &R,
+    alloc: Global,
+    mut mutator: Mutator<K, MemDevice>,
+    many: u64,
+) -> Result<(Mutator<K, MemDevice>, Vec<u16>), Trouble> {
+    let pointers = new_objects(rt, alloc, &mut mutator, many)?;
+    let mut scope = mutator.open();
+    number_objects(rt, &mut scope, pointers.as_slice())?;
+    Ok((scope.close(), pointers))
 }
 
 /// A number from the front of some bytes.

@@ -13,7 +13,7 @@ mod task;
 mod trouble;
 
 use far_device::MemDevice;
-use far_heap::{Blank, HeapName};
+use far_heap::{Blank, Heap, HeapName, Mutator};
 use std::alloc::Global;
 use std::marker::Brand;
 use std::process::ExitCode;
@@ -23,7 +23,41 @@ use std::{env, io};
 use task::{Task, Work};
 use trouble::Trouble;
 
-// The sum of a task over a new heap.
+// The sum of a task of one mutator.
+fn sum_of_one<K: HeapName, R: Wait>(
+    rt: &R,
+    alloc: Global,
+    heap: &Heap<K, MemDevice>,
+    mutator: Mutator<K, MemDevice>,
+    task: Task,
+) -> Result<u64, Trouble> {
+    match task.work {
+        Work::Read(access) => bytes::read(rt, alloc, mutator, access, task.count),
+        Work::Write(access) => bytes::write(rt, alloc, mutator, access, task.count),
+        Work::Scope => Ok(scopes::scope(mutator, task.count)),
+        Work::Again => scopes::again(rt, alloc, mutator, task.count),
+        Work::View => scopes::view(rt, alloc, mutator, task.count),
+        Work::Churn => rounds::churn(rt, heap, mutator, task.count),
+        Work::Slow => rounds::slow(rt, alloc, heap, mutator, task.count),
+        Work::Rounds | Work::Scale(_) => rounds::rounds(rt, alloc, heap, mutator, task.count),
+    }
+}
+
+// The sum of a task over a heap.
+fn sum_over<K: HeapName + Send + Sync, R: Threads + Wait + Sync>(
+    rt: &R,
+    alloc: Global,
+    heap: &Heap<K, MemDevice>,
+    mutators: Vec<Mutator<K, MemDevice>>,
+    task: Task,
+) -> Result<u64, Trouble> {
+    match task.work {
+        Work::Scale(_) => scale::scale(rt, alloc, mutators, task.count),
+        _ => sum_of_one(rt, alloc, heap, heaps::first(mutators)?, task),
+    }
+}
+
+// The same over a new one.
 fn sum_of<K: HeapName + Send + Sync, R: Threads + Wait + Sync>(
     rt: &R,
     alloc: Global,
@@ -32,20 +66,9 @@ fn sum_of<K: HeapName + Send + Sync, R: Threads + Wait + Sync>(
 ) -> Result<u64, Trouble>
     requires { blank.heap ≡ K.heap }
 {
-    let (heap, mutators) = heaps::made::<K>(alloc, blank)?;
-    if let Work::Scale(_) = task.work {
-        return scale::scale(rt, alloc, mutators, task.count);
-    }
-    let mutator = heaps::first(mutators)?;
-    match task.work {
-        Work::Read(access) => bytes::read(rt, alloc, mutator, access, task.count),
-        Work::Write(access) => bytes::write(rt, alloc, mutator, access, task.count),
-        Work::Scope => Ok(scopes::scope(mutator, task.count)),
-        Work::Again => scopes::again(rt, alloc, mutator, task.count),
-        Work::View => scopes::view(rt, alloc, mutator, task.count),
-        Work::Churn => rounds::churn(rt, &heap, mutator, task.count),
-        Work::Slow => rounds::slow(rt, alloc, &heap, mutator, task.count),
-        Work::Rounds | Work::Scale(_) => rounds::rounds(rt, alloc, &heap, mutator, task.count),
+    match Heap::<K, MemDevice>::new(alloc, blank) {
+        Ok((heap, mutators)) => sum_over(rt, alloc, &heap, mutators, task),
+        Err(why) => Err(Trouble::Refused(why)),
     }
 }
 

@@ -1,5 +1,5 @@
 // Objects are made and dropped, or go far and come back, while rounds run.
-use crate::heaps::{front, new_objects, number_objects, views};
+use crate::heaps::{front, views, with_objects};
 use crate::numbers::{Random, mix};
 use crate::trouble::Trouble;
 use far_device::MemDevice;
@@ -67,21 +67,28 @@ fn sweep<K: HeapName, R: Wait>(
     ended(heap.run_round(rt, &mut Oldest, 32, 1000))
 }
 
+// Two rounds: the first moves what was viewed, the next sends it far.
+fn sweeps_twice<K: HeapName, R: Wait>(
+    rt: &R,
+    heap: &Heap<K, MemDevice>,
+    mutator: &mut Mutator<K, MemDevice>,
+) -> Result<(), Trouble> {
+    sweep(rt, heap, mutator)?;
+    sweep(rt, heap, mutator)
+}
+
 /// So many objects, rounded up to whole 96, are fetched: each 96 times two rounds make all objects far.
 pub(crate) fn slow<K: HeapName, R: Wait>(
     rt: &R,
     alloc: Global,
     heap: &Heap<K, MemDevice>,
-    mut mutator: Mutator<K, MemDevice>,
+    mutator: Mutator<K, MemDevice>,
     count: u64,
 ) -> Result<u64, Trouble> {
-    let pointers = new_objects(rt, alloc, &mut mutator, 96)?;
-    let mut scope = mutator.open();
-    number_objects(rt, &mut scope, pointers.as_slice())?;
-    let (mut mutator, mut sum) = (scope.close(), 0);
+    let (mut mutator, pointers) = with_objects(rt, alloc, mutator, 96)?;
+    let mut sum = 0;
     for _ in 0..count.div_ceil(96) {
-        sweep(rt, heap, &mut mutator)?;
-        sweep(rt, heap, &mut mutator)?;
+        sweeps_twice(rt, heap, &mut mutator)?;
         let (next, part) = views(rt, mutator, pointers.as_slice(), 1, &mut [0; 8])?;
         mutator = next;
         sum = mix(sum, part);
@@ -105,6 +112,19 @@ fn write_some<K: HeapName, R: Wait>(
         scope.write(&view, (word / 100 % 8 * 8) as u16, &word.to_le_bytes())?;
     }
     Ok(())
+}
+
+// The same in a scope of their own.
+#[inline]
+fn written<K: HeapName, R: Wait>(
+    rt: &R,
+    mutator: Mutator<K, MemDevice>,
+    pointers: &[u16],
+    random: &mut Random,
+) -> Result<Mutator<K, MemDevice>, Trouble> {
+    let mut scope = mutator.open();
+    write_some(rt, &mut scope, pointers, random)?;
+    Ok(scope.close())
 }
 
 // A sum and eight words.
@@ -135,18 +155,13 @@ pub(crate) fn rounds<K: HeapName, R: Wait>(
     rt: &R,
     alloc: Global,
     heap: &Heap<K, MemDevice>,
-    mut mutator: Mutator<K, MemDevice>,
+    mutator: Mutator<K, MemDevice>,
     count: u64,
 ) -> Result<u64, Trouble> {
-    let pointers = new_objects(rt, alloc, &mut mutator, 100)?;
-    let mut scope = mutator.open();
-    number_objects(rt, &mut scope, pointers.as_slice())?;
-    let mut mutator = scope.close();
+    let (mut mutator, pointers) = with_objects(rt, alloc, mutator, 100)?;
     let mut random = Random { state: 1 };
     for _ in 0..count {
-        let mut scope = mutator.open();
-        write_some(rt, &mut scope, pointers.as_slice(), &mut random)?;
-        mutator = scope.close();
+        mutator = written(rt, mutator, pointers.as_slice(), &mut random)?;
         ended(heap.run_round(rt, &mut Oldest, 4, 1000))?;
     }
     let mut scope = mutator.open();

@@ -1,5 +1,5 @@
 // Mutators in threads of their own.
-use crate::heaps::{new_objects, number_objects, views};
+use crate::heaps::{views, with_objects};
 use crate::trouble::Trouble;
 use far_device::MemDevice;
 use far_heap::{HeapName, Mutator};
@@ -18,12 +18,9 @@ struct Job<K: HeapName> {
 fn job_of<K: HeapName, R: Wait>(
     rt: &R,
     alloc: Global,
-    mut mutator: Mutator<K, MemDevice>,
+    mutator: Mutator<K, MemDevice>,
 ) -> Result<Job<K>, Trouble> {
-    let pointers = new_objects(rt, alloc, &mut mutator, 16)?;
-    let mut scope = mutator.open();
-    number_objects(rt, &mut scope, pointers.as_slice())?;
-    let mutator = scope.close();
+    let (mutator, pointers) = with_objects(rt, alloc, mutator, 16)?;
     Ok(Job { mutator, pointers })
 }
 

@@ -1,5 +1,5 @@
 // Scopes, and views in them.
-use crate::heaps::{new_objects, number_objects, views};
+use crate::heaps::{views, with_objects};
 use crate::numbers::mix;
 use crate::trouble::Trouble;
 use far_device::MemDevice;
@@ -37,26 +37,21 @@ fn views_again<K: HeapName, R: Wait>(
 pub(crate) fn again<K: HeapName, R: Wait>(
     rt: &R,
     alloc: Global,
-    mut mutator: Mutator<K, MemDevice>,
+    mutator: Mutator<K, MemDevice>,
     count: u64,
 ) -> Result<u64, Trouble> {
-    let pointers = new_objects(rt, alloc, &mut mutator, 16)?;
-    let mut scope = mutator.open();
-    number_objects(rt, &mut scope, pointers.as_slice())?;
-    let mut scope = scope.close().open();
-    views_again(rt, &mut scope, pointers.as_slice(), count)
+    let (mutator, pointers) = with_objects(rt, alloc, mutator, 16)?;
+    views_again(rt, &mut mutator.open(), pointers.as_slice(), count)
 }
 
 /// So many scopes, in each of which sixteen objects are viewed and read.
 pub(crate) fn view<K: HeapName, R: Wait>(
     rt: &R,
     alloc: Global,
-    mut mutator: Mutator<K, MemDevice>,
+    mutator: Mutator<K, MemDevice>,
     count: u64,
 ) -> Result<u64, Trouble> {
-    let pointers = new_objects(rt, alloc, &mut mutator, 16)?;
-    let mut scope = mutator.open();
-    number_objects(rt, &mut scope, pointers.as_slice())?;
-    let (_, sum) = views(rt, scope.close(), pointers.as_slice(), count, &mut [0; 8])?;
+    let (mutator, pointers) = with_objects(rt, alloc, mutator, 16)?;
+    let (_, sum) = views(rt, mutator, pointers.as_slice(), count, &mut [0; 8])?;
     Ok(sum)
 }

@@ -1,7 +1,7 @@
 //! What happened, in numbers.
 
 /// What mutators and rounds did.
-#[derive(Clone, Copy, Debug, PartialEq, Eq)]
+#[derive(Clone, Copy, Debug)]
 pub struct Counts {
     /// Ranges that were read and compared, the bytes in them, and the ranges in which a byte was another than the mutator's record has.
     pub reads: u64,

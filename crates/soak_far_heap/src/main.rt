@@ -31,7 +31,7 @@ use std::{env, io, thread};
 use writer::Writer;
 
 /// What the program was asked for.
-#[derive(Clone, Copy, Debug)]
+#[derive(Clone, Copy)]
 struct Asked {
     turns: u64,
     seed: u64,
@@ -114,7 +114,35 @@ fn sum<K: HeapName, R: Wait>(
     (all, objects)
 }
 
-// What all threads did with a heap of these parts.
+// What was counted, with a wrong audit more where a heap has another number of objects.
+fn judged<K: HeapName, R: Wait>(rt: &R, heap: &Heap<K, MemDevice>, done: Vec<Done<K>>) -> Counts {
+    let (mut all, objects) = sum(rt, heap, done);
+    if !counts_objects(&mut *heap.book(rt), objects) {
+        one(&mut all.wrong_audits);
+    }
+    all
+}
+
+// What all threads did with a heap.
+fn work_beside<K: HeapName + Send + Sync, R: Threads + Wait + Sync>(
+    rt: &R,
+    alloc: Global,
+    heap: &Heap<K, MemDevice>,
+    mutators: Vec<Mutator<K, MemDevice>>,
+    asked: Asked,
+) -> Option<Counts> {
+    let Ok(jobs) = jobs_of(alloc, mutators, asked.seed) else {
+        return None;
+    };
+    let gate = Gate::new(asked.mutators);
+    let passed = &gate;
+    match thread::map_vec(rt, jobs, &|job| run(rt, heap, passed, asked, job)) {
+        Ok(done) => Some(judged(rt, heap, done)),
+        Err(_) => None,
+    }
+}
+
+// The same with a heap of these parts.
 fn beside<K: HeapName + Send + Sync, R: Threads + Wait + Sync>(
     rt: &R,
     alloc: Global,
@@ -123,22 +151,10 @@ fn beside<K: HeapName + Send + Sync, R: Threads + Wait + Sync>(
 ) -> Option<Counts>
     requires { blank.heap ≡ K.heap }
 {
-    let Ok((heap, mutators)) = Heap::<K, MemDevice>::new(alloc, blank) else {
-        return None;
-    };
-    let Ok(jobs) = jobs_of(alloc, mutators, asked.seed) else {
-        return None;
-    };
-    let gate = Gate::new(asked.mutators);
-    let (shared, passed) = (&heap, &gate);
-    let Ok(done) = thread::map_vec(rt, jobs, &|job| run(rt, shared, passed, asked, job)) else {
-        return None;
-    };
-    let (mut all, objects) = sum(rt, &heap, done);
-    if !counts_objects(&mut *heap.book(rt), objects) {
-        one(&mut all.wrong_audits);
+    match Heap::<K, MemDevice>::new(alloc, blank) {
+        Ok((heap, mutators)) => work_beside(rt, alloc, &heap, mutators, asked),
+        Err(_) => None,
     }
-    Some(all)
 }
 
 // The parts of a heap of the size that was asked for.

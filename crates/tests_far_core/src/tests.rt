@@ -15,7 +15,7 @@ mod rounds;
 mod values;
 
 use far_core::{Core, Event, Kind, Reply, Shape};
-use far_word::{Place, Refused};
+use far_word::Place;
 use std::alloc::Global;
 use std::process::Abort;
 
@@ -31,8 +31,16 @@ const TWO_OWNERS: Shape = Shape {
     epoch: 5,
 };
 
+/// A new core. A test ends where memory is refused.
+fn made(rt: &impl Abort, alloc: Global, shape: Shape, honest: bool) -> Core {
+    match Core::new(alloc, shape, honest) {
+        Ok(core) => core,
+        Err(_) => panic!(rt; "no core is made"),
+    }
+}
+
 /// What a core of four logs and at most two owners shows.
-#[derive(Clone, Copy, Debug, PartialEq, Eq)]
+#[derive(Clone, Copy, PartialEq)]
 struct Shown {
     open_log: u8,
     logs: [(Kind, u16); 4],
@@ -206,8 +214,8 @@ fn stored(pointer: u16, index: u16, word: u64) -> (Event, Reply) {
 
 /// A core in which owner 0 holds an object of 9 bytes, has one that it doesn't hold and one that it doesn't use, and
 /// owner 1, closed, uses one. The open log's tail is 9.
-fn peopled(rt: &impl Abort, alloc: Global) -> Result<Core, Refused> {
-    let mut core = Core::new(alloc, TWO_OWNERS, true)?;
+fn peopled(rt: &impl Abort, alloc: Global) -> Core {
+    let mut core = made(rt, alloc, TWO_OWNERS, true);
     answers(
         rt,
         &mut core,
@@ -230,5 +238,5 @@ fn peopled(rt: &impl Abort, alloc: Global) -> Result<Core, Refused> {
             stored(0, 1, 9),
         ],
     );
-    Ok(core)
+    core
 }

@@ -8,9 +8,8 @@ use far_book::{Beset, Book, Home, Near, Plain};
 use far_core::{Core, Event, Kind, Reply, Shape};
 use far_device::{Device, MemDevice};
 use far_log::{LogRow, Span};
-use far_word::{CELLS, LOG_BYTES, LONGEST, Mark, Marks, Place, PtrWord, Refused};
+use far_word::{CELLS, Mark, Marks, Place, PtrWord, Refused};
 use std::alloc::AllocError;
-use std::test::Fail;
 
 pub(super) const SMALL: Shape = Shape {
     logs: 4,
@@ -69,6 +68,18 @@ pub(super) fn beset<D: Device + Drop>(
     Book::new(rt.alloc(), hand, device)
 }
 
+/// The same over a device in memory.
+pub(super) fn beset_by(
+    rt: &HostRuntime,
+    events: &[Event],
+) -> Result<Book<Beset, MemDevice>, Refused> {
+    let mut all = Vec::new(rt.alloc());
+    match all.extend_from_slice(events) {
+        Ok(()) => beset(rt, all, MemDevice::new(rt.alloc())),
+        Err(_) => Err(Refused::Memory),
+    }
+}
+
 /// The cell of pointer 0, an object of 9 bytes of data structure 1 at the start of log 0.
 const NINE: u64 = 0x8400_0000_0001_0009;
 
@@ -111,6 +122,19 @@ pub(super) fn events_after(
     events.resize(5 + turns as usize, IDLE)?;
     events.extend_from_slice(then)?;
     Ok(events)
+}
+
+/// The book's event that writes the first word of a log, and the one that names a new object.
+pub(super) fn put(log: u8, word: u64) -> Event {
+    Event::Put { log, at: 0, word }
+}
+
+pub(super) fn name(pointer: u16, new: u64) -> Event {
+    Event::Name {
+        pointer,
+        old: 0,
+        new,
+    }
 }
 
 pub(super) fn ask(pointer: u16, mark: Mark) -> Event {
@@ -269,7 +293,7 @@ pub(super) fn mark_sealed<N: Near + Drop, D: Device + Drop>(
 // Whether pointer 0 is an object of 8 bytes in log 0, which another one seals, and is marked.
 pub(super) fn marks_first<N: Near + Drop, D: Device + Drop>(book: &mut Book<N, D>) -> bool {
     place_next(book, 8, 1).is_ok()
-        && place_next(book, LONGEST, 1).is_ok()
+        && place_next(book, 1016, 1).is_ok()
         && mark_sealed(book, 0).is_some()
 }
 
@@ -303,21 +327,21 @@ fn has_rows(book: &Book<Plain, MemDevice>, rows: &[LogRow]) -> bool {
 fn fills_a_log(book: &mut Book<Plain, MemDevice>) -> bool {
     let sealed = LogRow {
         log: 0,
-        live: LOG_BYTES,
+        live: 1024,
         dead: 0,
         unused: 0,
     };
-    has(book, 0, line(Kind::Open, 0, 0, 0, LOG_BYTES))
-        && places_next(book, LONGEST, 0, Place { log: 0, at: 0 })
-        && has(book, 0, line(Kind::Open, 0, LOG_BYTES, 0, 0))
+    has(book, 0, line(Kind::Open, 0, 0, 0, 1024))
+        && places_next(book, 1016, 0, Place { log: 0, at: 0 })
+        && has(book, 0, line(Kind::Open, 0, 1024, 0, 0))
         && places_next(book, 1, 1, Place { log: 1, at: 0 })
         && has_four(
             book,
             [
                 Some((Kind::Sealed, sealed)),
-                line(Kind::Open, 1, 16, 0, LOG_BYTES - 16),
-                line(Kind::Free, 2, 0, 0, LOG_BYTES),
-                line(Kind::Free, 3, 0, 0, LOG_BYTES),
+                line(Kind::Open, 1, 16, 0, 1008),
+                line(Kind::Free, 2, 0, 0, 1024),
+                line(Kind::Free, 3, 0, 0, 1024),
             ],
         )
         && has_rows(book, &[sealed])
@@ -328,7 +352,19 @@ fn the_largest_object_fills_a_log(rt: HostRuntime) {
     assert!(rt; is_so_of(opened(&rt, SMALL), fills_a_log));
 }
 
-// Whether an object of 9 bytes takes a word for the last of them.
+// Whether an object of 9 bytes is made and viewed.
+fn views_nine(book: &mut Book<Plain, MemDevice>) -> bool {
+    let (owner, pointer) = (0, 0);
+    let place = Place { log: 0, at: 0 };
+    places_next(book, 9, pointer, place)
+        && has(book, 0, line(Kind::Open, 0, 24, 0, 1000))
+        && answers(book, Event::Adopt { owner, pointer }, Reply::Word(NINE))
+        && answers(book, Event::ReadEpoch { owner }, Reply::Epoch(0))
+        && answers(book, Event::Open { owner }, Reply::Done)
+        && answers(book, Event::Pin { owner, pointer }, Reply::Held(place))
+}
+
+// Whether it takes a word for the last of them.
 fn takes_whole_words(book: &mut Book<Plain, MemDevice>) -> bool {
     let (owner, pointer, index, word) = (0, 0, 1, 0xff);
     let load = Event::Load {
@@ -342,13 +378,7 @@ fn takes_whole_words(book: &mut Book<Plain, MemDevice>) -> bool {
         index,
         word,
     };
-    let place = Place { log: 0, at: 0 };
-    places_next(book, 9, pointer, place)
-        && has(book, 0, line(Kind::Open, 0, 24, 0, 1000))
-        && answers(book, Event::Adopt { owner, pointer }, Reply::Word(NINE))
-        && answers(book, Event::ReadEpoch { owner }, Reply::Epoch(0))
-        && answers(book, Event::Open { owner }, Reply::Done)
-        && answers(book, Event::Pin { owner, pointer }, Reply::Held(place))
+    views_nine(book)
         && answers(book, store, Reply::Done)
         && answers(book, load, Reply::Word(0xff))
         && answers(book, Event::See { pointer }, Reply::Refused)
@@ -403,6 +433,15 @@ fn first_log(book: &Book<Plain, MemDevice>) -> (Kind, LogRow) {
     book.log(0)
 }
 
+// Whether both words of such an object are 0, and others once these are stored.
+fn stores_pair(book: &mut Book<Plain, MemDevice>) -> bool {
+    holds_pair(book)
+        && words_of(book, 0) == Some([0, 0])
+        && store_word(book, 0, 1, 7)
+        && store_word(book, 0, 0, u64::MAX)
+        && words_of(book, 0) == Some([u64::MAX, 7])
+}
+
 // Whether the words of the object that is held are stored and loaded, and aren't reached any more after a close.
 fn stores_and_loads(book: &mut Book<Plain, MemDevice>) -> bool {
     let (owner, pointer) = (0, 0);
@@ -411,11 +450,7 @@ fn stores_and_loads(book: &mut Book<Plain, MemDevice>) -> bool {
         pointer,
         index: 1,
     };
-    holds_pair(book)
-        && words_of(book, pointer) == Some([0, 0])
-        && store_word(book, pointer, 1, 7)
-        && store_word(book, pointer, 0, u64::MAX)
-        && words_of(book, pointer) == Some([u64::MAX, 7])
+    stores_pair(book)
         && answers(book, load, Reply::Word(7))
         && Some(first_log(book)) == line(Kind::Open, 0, 24, 0, 1000)
         && answers(book, Event::Close { owner }, Reply::Done)
@@ -431,11 +466,11 @@ fn words_are_stored_and_loaded(rt: HostRuntime) {
 
 // Whether one of three logs stays free where both others are full.
 fn keeps_the_last(book: &mut Book<Plain, MemDevice>) -> bool {
-    places_next(book, LONGEST, 0, Place { log: 0, at: 0 })
-        && places_next(book, LONGEST, 1, Place { log: 1, at: 0 })
+    places_next(book, 1016, 0, Place { log: 0, at: 0 })
+        && places_next(book, 1016, 1, Place { log: 1, at: 0 })
         && refuses_next(book, Refused::NoRoom)
-        && has(book, 1, line(Kind::Open, 1, LOG_BYTES, 0, 0))
-        && has(book, 2, line(Kind::Free, 2, 0, 0, LOG_BYTES))
+        && has(book, 1, line(Kind::Open, 1, 1024, 0, 0))
+        && has(book, 2, line(Kind::Free, 2, 0, 0, 1024))
 }
 
 #[test]
@@ -489,7 +524,7 @@ fn makes_dead(book: &mut Book<Plain, MemDevice>) -> bool {
         && places_many(book, 1, 8, 1)
         && !retire_dropped(book, 1);
     drop_next(book, 1);
-    full && has(book, 0, line(Kind::Open, 0, LOG_BYTES, 0, 0))
+    full && has(book, 0, line(Kind::Open, 0, 1024, 0, 0))
         && retire_dropped(book, 1)
         && has(book, 0, line(Kind::Open, 0, 688, 336, 0))
         && book.core().cell(1) == 0
@@ -515,7 +550,7 @@ fn takes_the_lowest(book: &mut Book<Plain, MemDevice>) -> bool {
         && lets_go(book, 64)
         && places_next(book, 1, 64, Place { log: 2, at: 0 })
         && places_next(book, 1, 100, Place { log: 2, at: 2 })
-        && has(book, 1, line(Kind::Sealed, 1, LOG_BYTES - 32, 32, 0))
+        && has(book, 1, line(Kind::Sealed, 1, 992, 32, 0))
 }
 
 #[test]
@@ -524,21 +559,26 @@ fn the_lowest_free_cell_is_taken(rt: HostRuntime) {
 }
 
 // Whether an object is marked once its log is sealed, and answers its word before each time.
+fn marks_twice(book: &mut Book<Plain, MemDevice>) -> bool {
+    places_next(book, 8, 0, Place { log: 0, at: 0 })
+        && mark_sealed(book, 0).is_none()
+        && places_next(book, 1016, 1, Place { log: 1, at: 0 })
+        && mark_sealed(book, 0) == Some(0x8400_0000_0001_0008)
+        && mark_sealed(book, 0) == Some(0xa400_0000_0001_0008)
+}
+
+// Whether it lies there with EVAC then, and no other is marked.
 fn marks_when_sealed(book: &mut Book<Plain, MemDevice>) -> bool {
     let place = Place { log: 0, at: 0 };
     let marks = Marks {
         evac: true,
         ..NO_MARKS
     };
-    places_next(book, 8, 0, place)
-        && mark_sealed(book, 0).is_none()
-        && places_next(book, LONGEST, 1, Place { log: 1, at: 0 })
-        && mark_sealed(book, 0) == Some(0x8400_0000_0001_0008)
-        && mark_sealed(book, 0) == Some(0xa400_0000_0001_0008)
+    marks_twice(book)
         && mark_sealed(book, 1).is_none()
         && mark_sealed(book, 2).is_none()
         && is_near_at(book, 0, place, marks)
-        && has(book, 0, line(Kind::Sealed, 0, 16, 0, LOG_BYTES - 16))
+        && has(book, 0, line(Kind::Sealed, 0, 16, 0, 1008))
 }
 
 #[test]
@@ -559,15 +599,15 @@ fn finds_marks(book: &mut Book<Beset, MemDevice>) -> bool {
         && !retire_dropped(book, 0)
         && retire_dropped(book, 0)
         && home(book, 0).is_none()
-        && has(book, 0, line(Kind::Open, 0, 0, 16, LOG_BYTES - 16))
+        && has(book, 0, line(Kind::Open, 0, 0, 16, 1008))
 }
 
 #[test]
-fn marks_come_between_calls(rt: HostRuntime) -> Result<(), Fail> {
+fn marks_come_between_calls(rt: HostRuntime) {
     let (owner, pointer) = (0, 0);
     let mark = Mark::Dropped;
     // The first three are made as the object is placed.
-    let events = vec![in rt.alloc();
+    let events = [
         Event::ReadEpoch { owner },
         Event::Open { owner },
         Event::Close { owner: 1 },
@@ -577,10 +617,8 @@ fn marks_come_between_calls(rt: HostRuntime) -> Result<(), Fail> {
         Event::Ask {
             owner,
             pointer,
-            mark
+            mark,
         },
-    ]?;
-    let book = beset(&rt, events, MemDevice::new(rt.alloc()));
-    assert!(rt; is_so_of(book, finds_marks));
-    Ok(())
+    ];
+    assert!(rt; is_so_of(beset_by(&rt, &events), finds_marks));
 }

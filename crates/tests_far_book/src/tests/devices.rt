@@ -262,92 +262,21 @@ impl Device for Lying {
     }
 }
 
-/// Shows whether anything is under key 0.
+/// What is seen of a device: whether anything is under key 0, and the least room that it was lent for a read.
 #[derive(Drop)]
-pub(super) struct Shown<D: Device + Drop> {
-    pub(super) inner: D,
-    pub(super) holds: Rc<Cell<bool>>,
+pub(super) struct Sight {
+    pub(super) holds: Cell<bool>,
+    pub(super) least: Cell<usize>,
 }
 
-impl<D: Device + Drop> Device for Shown<D> {
-    ghost contents = { λ s. D.contents s.inner };
-
-    ghost honest = { λ s. D.honest s.inner };
-
-    ghost faults = { λ s. D.faults s.inner };
-
-    ghost forgets = { D.forgets };
-
-    ghost reads_in_place = { ⊥ };
-
-    ghost fails_at_most = { λ s. D.fails_at_most s.inner };
-
-    ghost wraps = { λ s. D.wraps s.inner };
-
-    ghost writes = { λ old id _ answer new. Follows (λ s. D.contents s.inner) (λ s. D.honest s.inner) (λ s. D.faults s.inner) (λ s. D.fails_at_most s.inner) (other_than id) (is_fault answer) old new };
-
-    ghost reads = { λ old id answer new. Follows (λ s. D.contents s.inner) (λ s. D.honest s.inner) (λ s. D.faults s.inner) (λ s n. IsSome (D.contents old.inner id) × D.fails_at_most s.inner n) any_key (is_fault answer) old new };
-
-    ghost lets_go = { λ old id new. Follows (λ s. D.contents s.inner) (λ s. D.honest s.inner) (λ s. D.faults s.inner) (λ s. D.fails_at_most s.inner) (other_than id) false old new };
-
-    ghost write_follows = { λ _ _ _ _ _ h. h };
-
-    ghost read_follows = { λ _ _ _ _ h. h };
-
-    ghost forget_follows = { λ _ _ _ h. h };
-
-    fn write(&mut self, id: u32, bytes: &[u8]) -> Result<(), DeviceFault> {
-        self.inner.write(id, bytes)?;
-        if id == 0 {
-            self.holds.set(true);
-        }
-        Ok(())
-    }
-
-    fn read(&mut self, id: u32) -> Result<Vec<u8>, DeviceFault> {
-        self.inner.read(id)
-    }
-
-    fn read_into(&mut self, id: u32, buffer: &mut Vec<u8>) -> Result<(), DeviceFault> {
-        hand_over(self.read(id)?, buffer);
-        Ok(())
-    }
-
-    fn forget(&mut self, id: u32) {
-        self.inner.forget(id);
-        if id == 0 {
-            self.holds.set(false);
-        }
-    }
-
-    fn faults(&self) -> u64 {
-        self.inner.faults()
-    }
-}
-
-// A device, and whether it holds anything under key 0.
-pub(super) fn shown_device<D: Device + Drop>(
-    rt: &HostRuntime,
-    inner: D,
-) -> Result<(Shown<D>, Rc<Cell<bool>>), AllocError>
-    ensures { IfOk result (λ made. made.0.inner ≡ inner) }
-{
-    let holds = Rc::new(rt.alloc(), Cell::new(false))?;
-    let device = Shown {
-        inner,
-        holds: holds.clone()?,
-    };
-    Ok((device, holds))
-}
-
-/// Notes the least room that it was lent for a read.
+/// One that is watched.
 #[derive(Drop)]
-pub(super) struct Lent<D: Device + Drop> {
+pub(super) struct Watched<D: Device + Drop> {
     pub(super) inner: D,
-    pub(super) least: Rc<Cell<usize>>,
+    pub(super) sight: Rc<Sight>,
 }
 
-impl<D: Device + Drop> Device for Lent<D> {
+impl<D: Device + Drop> Device for Watched<D> {
     ghost contents = { λ s. D.contents s.inner };
 
     ghost honest = { λ s. D.honest s.inner };
@@ -375,7 +304,11 @@ impl<D: Device + Drop> Device for Lent<D> {
     ghost forget_follows = { λ _ _ _ h. h };
 
     fn write(&mut self, id: u32, bytes: &[u8]) -> Result<(), DeviceFault> {
-        self.inner.write(id, bytes)
+        self.inner.write(id, bytes)?;
+        if id == 0 {
+            self.sight.holds.set(true);
+        }
+        Ok(())
     }
 
     fn read(&mut self, id: u32) -> Result<Vec<u8>, DeviceFault> {
@@ -383,12 +316,16 @@ impl<D: Device + Drop> Device for Lent<D> {
     }
 
     fn read_into(&mut self, id: u32, buffer: &mut Vec<u8>) -> Result<(), DeviceFault> {
-        self.least.set(self.least.get().min(buffer.capacity()));
+        let least = self.sight.least.get().min(buffer.capacity());
+        self.sight.least.set(least);
         self.inner.read_into(id, buffer)
     }
 
     fn forget(&mut self, id: u32) {
         self.inner.forget(id);
+        if id == 0 {
+            self.sight.holds.set(false);
+        }
     }
 
     fn faults(&self) -> u64 {
@@ -396,17 +333,19 @@ impl<D: Device + Drop> Device for Lent<D> {
     }
 }
 
-// A device, and the least room that it was lent for a read.
-pub(super) fn lent_device<D: Device + Drop>(
+// A device, and what is seen of it.
+pub(super) fn watched<D: Device + Drop>(
     rt: &HostRuntime,
     inner: D,
-) -> Result<(Lent<D>, Rc<Cell<usize>>), AllocError>
+) -> Result<(Watched<D>, Rc<Sight>), AllocError>
     ensures { IfOk result (λ made. made.0.inner ≡ inner) }
 {
-    let least = Rc::new(rt.alloc(), Cell::new(usize::MAX))?;
-    let device = Lent {
+    let holds = Cell::new(false);
+    let least = Cell::new(usize::MAX);
+    let sight = Rc::new(rt.alloc(), Sight { holds, least })?;
+    let device = Watched {
         inner,
-        least: least.clone()?,
+        sight: sight.clone()?,
     };
-    Ok((device, least))
+    Ok((device, sight))
 }

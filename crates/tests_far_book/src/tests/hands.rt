@@ -12,6 +12,7 @@ ghost use Rattle.far_core.specs.state.Opening.{opening};
 ghost use Rattle.far_hand.specs.BesetView.{beset_view};
 ghost use Rattle.far_hand.specs.Masked.{masked, word_at};
 
+use crate::tests::books::{name, put};
 use far_book::{Beset, Near, Plain};
 use far_core::{Core, Event, Kind, Reply, Shape};
 use far_word::{Mark, PtrWord, Refused};
@@ -162,28 +163,37 @@ fn stores_meanwhile(hand: &mut Beset) -> bool {
         && counts(hand, false, false)
 }
 
-// Whether it is quiet once it has MOVE, until it is retired.
-fn is_quiet(hand: &mut Beset) -> bool {
+// Whether its second word is counted on once it has MOVE.
+fn is_counted_on(hand: &mut Beset) -> bool {
     sees(hand, HOT)
         && sees(hand, HOT)
         && sees(hand, MOVED)
         && gets(hand, 8)
         && counts(hand, false, true)
+}
+
+// Whether it is quiet then, until it is retired.
+fn is_quiet(hand: &mut Beset) -> bool {
+    is_counted_on(hand)
         && hand.core.cell(0) == DROPPED
         && hand.shape() == SMALL
         && retires(hand)
         && counts(hand, false, false)
 }
 
+// The event by which pointer 0's owner stores a word.
+fn store(word: u64) -> Event {
+    Event::Store {
+        owner: 0,
+        pointer: 0,
+        index: 0,
+        word,
+    }
+}
+
 #[test]
 fn owners_are_at_work(rt: HostRuntime) -> Result<(), Fail> {
-    let (owner, pointer, index) = (0, 0, 0);
-    let store = |word: u64| Event::Store {
-        owner,
-        pointer,
-        index,
-        word,
-    };
+    let (owner, pointer) = (0, 0);
     let events = vec![in rt.alloc();
         Event::ReadEpoch { owner },
         Event::Open { owner },
@@ -210,12 +220,6 @@ fn owners_are_at_work(rt: HostRuntime) -> Result<(), Fail> {
 /// Pointer 0 is dropped, and its object fills log 0, which is sealed.
 fn dropped_core(alloc: Global) -> Result<Core, Refused> {
     let mut core = Core::new(alloc, SMALL, true)?;
-    let put = |log: u8, word: u64| Event::Put { log, at: 0, word };
-    let name = |pointer: u16, new: u64| Event::Name {
-        pointer,
-        old: 0,
-        new,
-    };
     let events = [
         put(0, FILLING),
         name(0, 0x8400_0000_0001_03f8),

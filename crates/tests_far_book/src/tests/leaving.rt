@@ -1,19 +1,19 @@
 //! Objects that go far: what the device is given, what is left, what is refused, and what owners do between two steps.
 
-ghost use Rattle.std.specs.Prelude.{◌<◌, ◌≤◌};
+ghost use Rattle.std.specs.Prelude.{◌≡◌, ◌<◌, ◌≤◌, true};
 ghost use Rattle.far_word.specs.declared.sizes.TheConstants.{LONGEST};
 
 use crate::tests::books::{
     DROP, HOT, MOVE, NO_MARKS, SMALL, beset, events_after, has, home, is_so_of, line, mark_sealed,
-    marks_first, opened, opened_over, place_next, shown,
+    marks_first, opened, opened_over, place_next,
 };
-use crate::tests::devices::{Picky, Starved, shown_device};
+use crate::tests::devices::{Picky, Starved, watched};
 use crate::tests::moving::moves_to;
-use far_book::{Book, Home, Near, Plain};
+use far_book::{Beset, Book, Home, Near, Plain};
 use far_core::{Event, Kind, Reply};
 use far_device::{Device, MemDevice};
 use far_log::LogRow;
-use far_word::{LOG_BYTES, LONGEST, Marks, Place, Refused, words_for};
+use far_word::{LONGEST, Marks, Place, Refused, words_for};
 use std::alloc::AllocError;
 
 /// The cell of pointer 0, an object of 8 bytes of data structure 1 at the start of log 0: with EVAC and MOVE, and far.
@@ -111,7 +111,7 @@ pub(super) fn leaves<D: Device + Drop>(book: &mut Book<Plain, D>, len: u16) -> b
 {
     let placed = place_next(book, len, 1).is_ok();
     store_counted(book, len);
-    let sealed = place_next(book, LONGEST, 1).is_ok();
+    let sealed = place_next(book, 1016, 1).is_ok();
     mark_sealed(book, 0);
     book.owner(MOVE);
     placed && sealed
@@ -140,7 +140,7 @@ fn goes_far(book: &mut Book<Plain, Picky>, len: u16, size: u16) -> bool
     requires some { 0 < len }
     requires most { len ≤ LONGEST }
 {
-    let rest = LOG_BYTES.saturating_sub(size);
+    let rest = 1024u16.saturating_sub(size);
     leaves(book, len)
         && has(book, 0, sealed(size, 0, rest))
         && goes(book, 0)
@@ -149,95 +149,107 @@ fn goes_far(book: &mut Book<Plain, Picky>, len: u16, size: u16) -> bool
         && evict_asked(book, 0).is_none()
 }
 
+// The same over a device that takes these bytes alone.
+fn gives_its_bytes(rt: &HostRuntime, len: u16, size: u16) -> bool
+    requires some { 0 < len }
+    requires most { len ≤ LONGEST }
+{
+    match opened_over_picky(rt, len) {
+        Ok(mut book) => goes_far(&mut book, len, size),
+        Err(_) => false,
+    }
+}
+
 #[test]
 fn the_device_is_given_the_bytes(rt: HostRuntime) {
-    assert!(rt; is_so_of(opened_over_picky(&rt, 1), |book| goes_far(book, 1, 16)));
-    assert!(rt; is_so_of(opened_over_picky(&rt, 7), |book| goes_far(book, 7, 16)));
-    assert!(rt; is_so_of(opened_over_picky(&rt, 8), |book| goes_far(book, 8, 16)));
-    assert!(rt; is_so_of(opened_over_picky(&rt, 9), |book| goes_far(book, 9, 24)));
-    assert!(rt; is_so_of(opened_over_picky(&rt, 16), |book| goes_far(book, 16, 24)));
-    assert!(rt;
-        is_so_of(
-            opened_over_picky(&rt, LONGEST),
-            |book| goes_far(book, LONGEST, LOG_BYTES)
-        )
-    );
+    assert!(rt; gives_its_bytes(&rt, 1, 16));
+    assert!(rt; gives_its_bytes(&rt, 7, 16));
+    assert!(rt; gives_its_bytes(&rt, 8, 16));
+    assert!(rt; gives_its_bytes(&rt, 9, 24));
+    assert!(rt; gives_its_bytes(&rt, 16, 24));
+    assert!(rt; gives_its_bytes(&rt, 1016, 1024));
 }
 
 // Whether an eviction of an object of 8 bytes is refused so, and leaves it and its log as they were.
 fn refuses_leaving<D: Device + Drop>(book: &mut Book<Plain, D>, why: Refused) -> bool {
     leaves(book, 8)
         && evict_asked(book, 0) == Some(Err(why))
-        && has(book, 0, sealed(16, 0, LOG_BYTES - 16))
+        && has(book, 0, sealed(16, 0, 1008))
         && book.core().cell(0) == LEAVING | 1 << 62
+}
+
+// Whether it is refused so by a device without memory.
+fn refuses_starved(book: &mut Book<Plain, Starved>) -> bool {
+    refuses_leaving(book, Refused::Memory)
+}
+
+// Whether it is refused so by a device that fails, and the object moves and has its bytes.
+fn refuses_and_moves(book: &mut Book<Plain, Picky>) -> bool {
+    refuses_leaving(book, Refused::Device)
+        && moves_to(book, 0, Place { log: 2, at: 0 })
+        && loads_counted(book, 8)
 }
 
 // Alone against an eviction that failed and goes far all the same, or takes a failure for want of memory.
 #[test]
 fn a_refused_eviction_leaves_the_object(rt: HostRuntime) {
-    assert!(rt;
-        is_so_of(opened_over(&rt, SMALL, Starved {}), |book| {
-            refuses_leaving(book, Refused::Memory)
-        })
-    );
-    assert!(rt;
-        is_so_of(opened_over_picky(&rt, 7), |book| {
-            refuses_leaving(book, Refused::Device)
-                && moves_to(book, 0, Place { log: 2, at: 0 })
-                && loads_counted(book, 8)
-        })
-    );
+    assert!(rt; is_so_of(opened_over(&rt, SMALL, Starved {}), refuses_starved));
+    assert!(rt; is_so_of(opened_over_picky(&rt, 7), refuses_and_moves));
 }
 
-/// What an eviction answers, where the object is then, whether the device holds bytes of it, and what its log has.
-type Beside = (
-    Option<Result<bool, Refused>>,
-    Option<Home>,
-    bool,
-    Option<(Kind, LogRow)>,
-);
-
-// An object of one word with EVAC and MOVE is evicted while its owner makes these events, one before each step of the book from
-// one on, of which there are three: a look at the cell, a word that is read, the naming.
-fn evicted_beside(rt: &HostRuntime, step: u8, then: &[Event]) -> Result<Beside, Refused> {
-    let Ok(made) = shown_device(rt, MemDevice::new(rt.alloc())) else {
-        return Err(Refused::Memory);
+// Whether an eviction sends the object far, with these marks then; or finds it dropped, if none are given.
+fn is_evicted<D: Device + Drop>(book: &mut Book<Beset, D>, wanted: Option<Marks>) -> bool {
+    let done = match wanted {
+        Some(marks) => goes(book, 0) && home(book, 0) == Some(Home::Far { marks }),
+        None => evict_asked(book, 0) == Some(Ok(false)) && home(book, 0).is_none(),
     };
-    let (device, holds) = made;
+    done && has(book, 0, sealed(0, 16, 1008))
+}
+
+// Whether the first object is evicted so over this device, beside owners.
+fn evicts_over<D: Device + Drop>(
+    rt: &HostRuntime,
+    device: D,
+    events: Vec<Event>,
+    wanted: Option<Marks>,
+) -> bool
+    requires { D.honest device ≡ true }
+{
+    match beset(rt, events, device) {
+        Ok(mut book) => marks_first(&mut book) && is_evicted(&mut book, wanted),
+        Err(_) => false,
+    }
+}
+
+// Whether it is so, and the device has bytes of it then exactly if it has gone far.
+fn evicts_beside(rt: &HostRuntime, events: Vec<Event>, wanted: Option<Marks>) -> bool {
+    match watched(rt, MemDevice::new(rt.alloc())) {
+        Ok((device, sight)) => {
+            evicts_over(rt, device, events, wanted) && sight.holds.get() == wanted.is_some()
+        }
+        Err(_) => false,
+    }
+}
+
+// Whether an object of one word with EVAC and MOVE is evicted so while its owner makes these events, one before each step of the book
+// from one on, of which there are three: a look at the cell, a word that is read, the naming.
+fn evicts_at(rt: &HostRuntime, step: u8, then: &[Event], wanted: Option<Marks>) -> bool {
     // The second object takes 129 steps, its marking two, and the cell is looked at once before the eviction.
-    let Ok(events) = events_after(rt, 130u8.saturating_add(step), then) else {
-        return Err(Refused::Memory);
-    };
-    let mut book = beset(rt, events, device)?;
-    marks_first(&mut book);
-    let evicted = evict_asked(&mut book, 0);
-    Ok((evicted, home(&mut book, 0), holds.get(), shown(&book, 0)))
-}
-
-// So it is where it has gone far.
-fn is_far(marks: Marks) -> Beside {
-    (
-        Some(Ok(true)),
-        Some(Home::Far { marks }),
-        true,
-        sealed(0, 16, LOG_BYTES - 16),
-    )
-}
-
-// And so where it was retired.
-fn is_retired() -> Beside {
-    (Some(Ok(false)), None, false, sealed(0, 16, LOG_BYTES - 16))
+    match events_after(rt, 130u8.saturating_add(step), then) {
+        Ok(events) => evicts_beside(rt, events, wanted),
+        Err(_) => false,
+    }
 }
 
 // Whether it has gone far, without a mark or with these, where its owner makes these events, the first before the step of this
 // number, from 0 on.
 fn leaves_beside(rt: &HostRuntime, step: u8, then: &[Event], marks: Marks) -> bool {
-    evicted_beside(rt, step, then) == Ok(is_far(marks))
+    evicts_at(rt, step, then, Some(marks))
 }
 
 // Whether it was retired.
 fn retires_beside(rt: &HostRuntime, step: u8, then: &[Event]) -> bool {
-    evicted_beside(rt, step, then) == Ok(is_retired())
+    evicts_at(rt, step, then, None)
 }
 
 // Alone against an eviction that tries its naming once.
@@ -280,7 +292,7 @@ fn leaves_dropped(book: &mut Book<Plain, MemDevice>) -> bool {
     asked
         && evict_asked(book, 0) == Some(Ok(false))
         && book.core().cell(0) == 0
-        && has(book, 0, sealed(0, 16, LOG_BYTES - 16))
+        && has(book, 0, sealed(0, 16, 1008))
 }
 
 #[test]

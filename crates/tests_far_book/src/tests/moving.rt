@@ -5,13 +5,12 @@ ghost use Rattle.far_word.specs.declared.sizes.TheConstants.{LONGEST};
 
 use crate::tests::books::{
     DROP, HOT, NO_MARKS, SMALL, ask, beset, events_after, has, home, is_near_at, is_so_of, line,
-    mark_sealed, marks_first, opened, place_next, refuses_next, shown,
+    mark_sealed, marks_first, opened, place_next, refuses_next,
 };
-use far_book::{Book, Home, Near, Plain};
+use far_book::{Beset, Book, Home, Near, Plain};
 use far_core::{Event, Kind, Reply};
 use far_device::{Device, MemDevice};
-use far_log::LogRow;
-use far_word::{LOG_BYTES, LOG_WORDS, LONGEST, Mark, Marks, Place, Refused};
+use far_word::{Mark, Marks, Place, Refused};
 
 /// Moves a near object whose cell shows MOVE; `None` where the pointer names none.
 #[tactic(auto, using(crate::proofs::Uses::quiet_home))]
@@ -122,7 +121,7 @@ fn asks(book: &mut Book<Plain, MemDevice>, len: u16, words: u16) -> bool
 {
     let placed = place_next(book, len, 3).is_ok();
     store_in(book, 0, words);
-    let sealed = place_next(book, LONGEST, 1).is_ok();
+    let sealed = place_next(book, 1016, 1).is_ok();
     mark_sealed(book, 0);
     book.owner(ask(0, Mark::Moved));
     placed && sealed
@@ -133,7 +132,7 @@ fn moves_whole(book: &mut Book<Plain, MemDevice>, len: u16, words: u16, size: u1
     requires some { 0 < len }
     requires most { len ≤ LONGEST }
 {
-    let rest = LOG_BYTES.saturating_sub(size);
+    let rest = 1024u16.saturating_sub(size);
     asks(book, len, words)
         && moves_to(book, 0, Place { log: 2, at: 0 })
         && has(book, 0, line(Kind::Sealed, 0, 0, size, rest))
@@ -141,26 +140,32 @@ fn moves_whole(book: &mut Book<Plain, MemDevice>, len: u16, words: u16, size: u1
         && loads_numbers(book, 0, words)
 }
 
+// The same in a new book.
+fn moves_in_a_book(rt: &HostRuntime, len: u16, words: u16, size: u16) -> bool
+    requires some { 0 < len }
+    requires most { len ≤ LONGEST }
+{
+    match opened(rt, SMALL) {
+        Ok(mut book) => moves_whole(&mut book, len, words, size),
+        Err(_) => false,
+    }
+}
+
 #[test]
 fn an_object_moves_to_another_log(rt: HostRuntime) {
-    assert!(rt; is_so_of(opened(&rt, SMALL), |book| moves_whole(book, 1, 0, 16)));
-    assert!(rt; is_so_of(opened(&rt, SMALL), |book| moves_whole(book, 7, 0, 16)));
-    assert!(rt; is_so_of(opened(&rt, SMALL), |book| moves_whole(book, 8, 1, 16)));
-    assert!(rt; is_so_of(opened(&rt, SMALL), |book| moves_whole(book, 9, 1, 24)));
-    assert!(rt;
-        is_so_of(
-            opened(&rt, SMALL),
-            |book| moves_whole(book, LONGEST, LOG_WORDS - 1, LOG_BYTES)
-        )
-    );
+    assert!(rt; moves_in_a_book(&rt, 1, 0, 16));
+    assert!(rt; moves_in_a_book(&rt, 7, 0, 16));
+    assert!(rt; moves_in_a_book(&rt, 8, 1, 16));
+    assert!(rt; moves_in_a_book(&rt, 9, 1, 24));
+    assert!(rt; moves_in_a_book(&rt, 1016, 127, 1024));
 }
 
 // Whether pointers 0 and 1 are objects of sealed logs with EVAC and MOVE, the second with numbers in its first two words; of four
 // logs only the last is free, and the one before it is full.
 pub(super) fn asks_two(book: &mut Book<Plain, MemDevice>) -> bool {
     let placed = place_next(book, 8, 1).is_ok()
-        && place_next(book, LONGEST, 1).is_ok()
-        && place_next(book, LONGEST, 1).is_ok();
+        && place_next(book, 1016, 1).is_ok()
+        && place_next(book, 1016, 1).is_ok();
     store_in(book, 1, 2);
     for pointer in 0..2u16 {
         mark_sealed(book, pointer);
@@ -183,8 +188,8 @@ fn takes_the_last(book: &mut Book<Plain, MemDevice>) -> bool {
         && moves_to(book, 0, Place { log: 3, at: 0 })
         && refuses_move(book, 1, Refused::NoRoom)
         && is_near_at(book, 1, Place { log: 1, at: 0 }, marks)
-        && has(book, 1, line(Kind::Sealed, 1, LOG_BYTES, 0, 0))
-        && has(book, 3, line(Kind::Open, 3, 16, 0, LOG_BYTES - 16))
+        && has(book, 1, line(Kind::Sealed, 1, 1024, 0, 0))
+        && has(book, 3, line(Kind::Open, 3, 16, 0, 1008))
 }
 
 #[test]
@@ -202,7 +207,7 @@ fn moves_nowhere(book: &mut Book<Plain, MemDevice>) -> bool {
     placed
         && move_asked(book, 0) == Some(Ok(None))
         && home(book, 0).is_none()
-        && has(book, 0, line(Kind::Open, 0, 0, 16, LOG_BYTES - 16))
+        && has(book, 0, line(Kind::Open, 0, 0, 16, 1008))
 }
 
 #[test]
@@ -210,56 +215,45 @@ fn a_dropped_object_moves_nowhere(rt: HostRuntime) {
     assert!(rt; is_so_of(opened(&rt, SMALL), moves_nowhere));
 }
 
-type Beside = (
-    Option<Result<Option<Place>, Refused>>,
-    [Option<(Kind, LogRow)>; 2],
-);
-
-/// An object with EVAC and MOVE moves while its owner makes these events, one before each step of the book from one on, of
-/// which a move of one word takes five: a look at the cell, the header, a word that is read and written, the naming. What is
-/// answered, and what its two logs have.
-fn moved_beside(rt: &HostRuntime, step: u8, then: &[Event]) -> Result<Beside, Refused> {
-    // The second object takes 129 steps, its marking two, and the cell is looked at once before the move.
-    let Ok(events) = events_after(rt, 130u8.saturating_add(step), then) else {
-        return Err(Refused::Memory);
-    };
-    let mut book = beset(rt, events, MemDevice::new(rt.alloc()))?;
-    marks_first(&mut book);
-    let moved = move_asked(&mut book, 0);
-    Ok((moved, [shown(&book, 0), shown(&book, 2)]))
-}
-
-/// So it is where it has moved.
-fn has_moved() -> Beside {
+// Whether a move takes the object to log 2; or finds it dropped, if it doesn't.
+fn is_moved(book: &mut Book<Beset, MemDevice>, moves: bool) -> bool {
     let place = Place { log: 2, at: 0 };
-    (
-        Some(Ok(Some(place))),
-        [
-            line(Kind::Sealed, 0, 0, 16, LOG_BYTES - 16),
-            line(Kind::Open, 2, 16, 0, LOG_BYTES - 16),
-        ],
-    )
+    let (answer, wanted) = if moves {
+        (Some(place), line(Kind::Open, 2, 16, 0, 1008))
+    } else {
+        (None, line(Kind::Free, 2, 0, 0, 1024))
+    };
+    move_asked(book, 0) == Some(Ok(answer))
+        && has(book, 0, line(Kind::Sealed, 0, 0, 16, 1008))
+        && has(book, 2, wanted)
 }
 
-/// And so where it was retired.
-fn is_retired() -> Beside {
-    (
-        Some(Ok(None)),
-        [
-            line(Kind::Sealed, 0, 0, 16, LOG_BYTES - 16),
-            line(Kind::Free, 2, 0, 0, LOG_BYTES),
-        ],
-    )
+// Whether the first object moves so beside owners.
+fn moves_in(rt: &HostRuntime, events: Vec<Event>, moves: bool) -> bool {
+    match beset(rt, events, MemDevice::new(rt.alloc())) {
+        Ok(mut book) => marks_first(&mut book) && is_moved(&mut book, moves),
+        Err(_) => false,
+    }
+}
+
+// Whether an object with EVAC and MOVE moves so while its owner makes these events, one before each step of the book from one on, of
+// which a move of one word takes five: a look at the cell, the header, a word that is read and written, the naming.
+fn moves_at(rt: &HostRuntime, step: u8, then: &[Event], moves: bool) -> bool {
+    // The second object takes 129 steps, its marking two, and the cell is looked at once before the move.
+    match events_after(rt, 130u8.saturating_add(step), then) {
+        Ok(events) => moves_in(rt, events, moves),
+        Err(_) => false,
+    }
 }
 
 // Whether it has moved where its owner makes these events, the first before the step of this number, from 0 on.
 fn moves_beside(rt: &HostRuntime, step: u8, then: &[Event]) -> bool {
-    moved_beside(rt, step, then) == Ok(has_moved())
+    moves_at(rt, step, then, true)
 }
 
 // Whether it was retired.
 fn retires_beside(rt: &HostRuntime, step: u8, then: &[Event]) -> bool {
-    moved_beside(rt, step, then) == Ok(is_retired())
+    moves_at(rt, step, then, false)
 }
 
 // Alone against a move that tries its naming once.

@@ -1,8 +1,8 @@
 //! What owners are answered, by worked values, of objects that they view, that are marked, and that they drop.
 
 use crate::tests::books::{
-    DROP, HOT, MOVE, SMALL, answers, has, is_so_of, line, mark_sealed, opened, places_next,
-    retire_dropped,
+    DROP, HOT, MOVE, SMALL, answers, has, is_so_of, line, mark_sealed, name, opened, places_next,
+    put, retire_dropped,
 };
 use crate::tests::moving::{loaded, moves_to};
 use far_book::{Book, Plain};
@@ -18,8 +18,8 @@ const WAS_HOT: u64 = 0xc400_0000_0001_0008;
 
 const MARKED: u64 = 0xe400_0000_0001_0008;
 
-// Whether what its owner views isn't dropped before it closes, and isn't used after.
-fn drops_after_a_close(book: &mut Book<Plain, MemDevice>) -> bool {
+// Whether its owner views a new object.
+fn views_first(book: &mut Book<Plain, MemDevice>) -> bool {
     let (owner, pointer) = (0, 0);
     let place = Place { log: 0, at: 0 };
     places_next(book, 8, pointer, place)
@@ -27,6 +27,12 @@ fn drops_after_a_close(book: &mut Book<Plain, MemDevice>) -> bool {
         && answers(book, Event::ReadEpoch { owner }, Reply::Epoch(0))
         && answers(book, Event::Open { owner }, Reply::Done)
         && answers(book, HOT, Reply::Held(place))
+}
+
+// Whether what its owner views isn't dropped before it closes, and isn't used after.
+fn drops_after_a_close(book: &mut Book<Plain, MemDevice>) -> bool {
+    let (owner, pointer) = (0, 0);
+    views_first(book)
         && answers(book, DROP, Reply::Refused)
         && answers(book, Event::Close { owner }, Reply::Done)
         && answers(book, DROP, Reply::Word(WAS_HOT))
@@ -68,12 +74,6 @@ fn finds_it_marked(core: &mut Core) -> bool {
 // Whether pointer 0's object is placed and viewed, and then another one fills log 1, so that log 0 is sealed.
 fn views_and_seals(core: &mut Core) -> bool {
     let (owner, pointer) = (0, 0);
-    let put = |log: u8, word: u64| Event::Put { log, at: 0, word };
-    let name = |pointer: u16, new: u64| Event::Name {
-        pointer,
-        old: 0,
-        new,
-    };
     let events = [
         put(0, 0xa100_0000_0001_0008),
         name(0, NEAR),
@@ -89,13 +89,14 @@ fn views_and_seals(core: &mut Core) -> bool {
     makes_all(core, &events)
 }
 
+// Whether both are so.
+fn views_nothing(core: &mut Core) -> bool {
+    views_and_seals(core) && finds_it_marked(core)
+}
+
 #[test]
 fn a_marked_object_is_not_viewed(rt: HostRuntime) {
-    assert!(rt;
-        is_so_of(Core::new(rt.alloc(), SMALL, true), |core| {
-            views_and_seals(core) && finds_it_marked(core)
-        })
-    );
+    assert!(rt; is_so_of(Core::new(rt.alloc(), SMALL, true), views_nothing));
 }
 
 // Whether an owner views a new object, stores a word into it and closes; another object seals its log then.
@@ -107,37 +108,39 @@ fn stores_and_seals(book: &mut Book<Plain, MemDevice>) -> bool {
         index,
         word,
     };
-    let place = Place { log: 0, at: 0 };
-    places_next(book, 8, 0, place)
-        && answers(book, Event::Adopt { owner, pointer }, Reply::Word(NEAR))
-        && answers(book, Event::ReadEpoch { owner }, Reply::Epoch(0))
-        && answers(book, Event::Open { owner }, Reply::Done)
-        && answers(book, HOT, Reply::Held(place))
+    views_first(book)
         && answers(book, store, Reply::Done)
         && answers(book, Event::Close { owner }, Reply::Done)
         && places_next(book, LONGEST, 1, Place { log: 1, at: 0 })
 }
 
-// Whether its owner isn't given the object once it is marked, asks for it to move, and is given it where it has come.
-fn moves_what_is_marked(book: &mut Book<Plain, MemDevice>) -> bool {
+// Whether its owner isn't given the object once it is marked, and asks for it to move.
+fn asks_for_a_move(book: &mut Book<Plain, MemDevice>) -> bool {
     let owner = 0;
-    let place = Place { log: 2, at: 0 };
     answers(book, Event::ReadEpoch { owner }, Reply::Epoch(0))
         && mark_sealed(book, 0) == Some(WAS_HOT)
         && answers(book, Event::Open { owner }, Reply::Done)
         && answers(book, HOT, Reply::Word(MARKED))
         && answers(book, MOVE, Reply::Word(MARKED))
+}
+
+// Whether it is given it where it has come then.
+fn moves_what_is_marked(book: &mut Book<Plain, MemDevice>) -> bool {
+    let owner = 0;
+    let place = Place { log: 2, at: 0 };
+    asks_for_a_move(book)
         && moves_to(book, 0, place)
         && answers(book, HOT, Reply::Held(place))
         && answers(book, Event::Close { owner }, Reply::Done)
         && loaded(book, 0, 0) == Reply::Word(0xaa)
 }
 
+// Whether both are so.
+fn moves_for_its_owner(book: &mut Book<Plain, MemDevice>) -> bool {
+    stores_and_seals(book) && moves_what_is_marked(book)
+}
+
 #[test]
 fn an_owner_moves_what_is_marked(rt: HostRuntime) {
-    assert!(rt;
-        is_so_of(opened(&rt, SMALL), |book| {
-            stores_and_seals(book) && moves_what_is_marked(book)
-        })
-    );
+    assert!(rt; is_so_of(opened(&rt, SMALL), moves_for_its_owner));
 }

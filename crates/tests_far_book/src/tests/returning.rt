@@ -1,24 +1,24 @@
 //! Objects that come back from the far side: with which bytes, when they are refused, and what owners do between two steps.
 
-ghost use Rattle.std.specs.Prelude.{◌<◌, ◌≤◌};
+ghost use Rattle.std.specs.Prelude.{◌≡◌, ◌<◌, ◌≤◌, true};
 ghost use Rattle.far_word.specs.declared.sizes.TheConstants.{LONGEST};
 
 use crate::tests::books::{
-    DROP, HOT, MOVE, NO_MARKS, SMALL, ask, beset, events_after, has, home, is_so_of, line,
-    mark_sealed, marks_first, opened, opened_over, place_next, places_next, shown,
+    DROP, HOT, MOVE, NO_MARKS, SMALL, ask, beset, events_after, has, home, is_near_at, is_so_of,
+    line, mark_sealed, marks_first, opened, opened_over, place_next, places_next, shown,
 };
-use crate::tests::devices::{Lying, Stumbling, lent_device, shown_device};
+use crate::tests::devices::{Lying, Sight, Stumbling, watched};
 use crate::tests::leaving::{evict_asked, goes, leaves, loads_counted, store_counted};
 use crate::tests::moving::{loaded, moves_to};
-use far_book::{Book, Home, Near, Plain};
+use far_book::{Beset, Book, Home, Near, Plain};
 use far_core::{Core, Event, Kind, Reply};
 use far_device::{Device, DeviceFault, MemDevice};
 use far_log::LogRow;
-use far_word::{LOG_BYTES, LONGEST, Mark, Marks, Place, Refused};
-use std::test::Fail;
+use far_word::{Mark, Marks, Place, Refused};
+use std::rc::Rc;
 
 /// How many bytes the longest object has.
-const LONGEST_OBJECT: usize = LONGEST as usize;
+const LONGEST_OBJECT: usize = 1016;
 
 /// Where an object comes that is fetched while log 1 is open and full.
 const PLACE: Place = Place { log: 2, at: 0 };
@@ -82,63 +82,67 @@ fn stored_and_asked(book: &mut Book<Plain, MemDevice>) -> bool {
     };
     let stored = book.owner(store) == Reply::Done;
     book.owner(Event::Close { owner });
-    let sealed = place_next(book, LONGEST, 1).is_ok();
+    let sealed = place_next(book, 1016, 1).is_ok();
     let marked = mark_sealed(book, 0) == Some(0xc400_0000_0001_0008);
     let asked = book.owner(MOVE) == Reply::Word(0xe400_0000_0001_0008);
     placed && stored && sealed && marked && asked
 }
 
+// Whether it goes far and comes back, by words of its cell.
+fn goes_and_comes(book: &mut Book<Plain, MemDevice>) -> bool {
+    stored_and_asked(book)
+        && goes(book, 0)
+        && see_first(book) == Some(0x0400_0000_0001_0008)
+        && comes_to(book, PLACE)
+        && see_first(book) == Some(0x8400_0008_0001_0008)
+        && loaded(book, 0, 0) == Reply::Word(0xaa)
+}
+
 // The cells are words here, which no other test of a fetch looks at.
 #[test]
 fn away_and_back(rt: HostRuntime) {
-    assert!(rt;
-        is_so_of(opened(&rt, SMALL), |book| {
-            stored_and_asked(book)
-                && goes(book, 0)
-                && see_first(book) == Some(0x0400_0000_0001_0008)
-                && comes_to(book, PLACE)
-                && see_first(book) == Some(0x8400_0008_0001_0008)
-                && loaded(book, 0, 0) == Reply::Word(0xaa)
-        })
-    );
+    assert!(rt; is_so_of(opened(&rt, SMALL), goes_and_comes));
 }
 
-/// What a fetch answers, what log 2 has then, whether the device holds bytes of the object, and whether they are what was stored.
-type Back = (
-    Option<Result<Option<Place>, Refused>>,
-    Option<(Kind, LogRow)>,
-    bool,
-    bool,
-);
-
-// An object of so many bytes goes far and comes back.
-fn fetched_after(rt: &HostRuntime, len: u16) -> Result<Back, Refused>
+// Whether an object of so many bytes goes far, and comes back with them in a span of so many bytes.
+fn is_back<D: Device + Drop>(book: &mut Book<Plain, D>, len: u16, size: u16) -> bool
     requires some { 0 < len }
     requires most { len ≤ LONGEST }
 {
-    let Ok(made) = shown_device(rt, MemDevice::new(rt.alloc())) else {
-        return Err(Refused::Memory);
-    };
-    let (device, holds) = made;
-    let mut book = opened_over(rt, SMALL, device)?;
-    leaves(&mut book, len);
-    evict_asked(&mut book, 0);
-    let fetched = fetch_far(&mut book, 0);
-    let log = shown(&book, 2);
-    Ok((fetched, log, holds.get(), loads_counted(&mut book, len)))
+    let unused = 1024u16.saturating_sub(size);
+    leaves(book, len)
+        && goes(book, 0)
+        && comes_to(book, PLACE)
+        && has(book, 2, line(Kind::Open, 2, size, 0, unused))
+        && loads_counted(book, len)
 }
 
-// So it is where it has come, in a span of so many bytes.
-fn is_back(size: u16, unused: u16) -> Back {
-    let log = line(Kind::Open, 2, size, 0, unused);
-    (Some(Ok(Some(PLACE))), log, false, true)
+// Whether it is so over a device that has no bytes of it then.
+fn is_back_over<D: Device + Drop>(
+    rt: &HostRuntime,
+    device: D,
+    sight: &Rc<Sight>,
+    len: u16,
+    size: u16,
+) -> bool
+    requires honest { D.honest device ≡ true }
+    requires some { 0 < len }
+    requires most { len ≤ LONGEST }
+{
+    match opened_over(rt, SMALL, device) {
+        Ok(mut book) => is_back(&mut book, len, size) && !sight.holds.get(),
+        Err(_) => false,
+    }
 }
 
 fn comes_back(rt: &HostRuntime, len: u16, size: u16) -> bool
     requires some { 0 < len }
     requires most { len ≤ LONGEST }
 {
-    fetched_after(rt, len) == Ok(is_back(size, LOG_BYTES.saturating_sub(size)))
+    match watched(rt, MemDevice::new(rt.alloc())) {
+        Ok((device, sight)) => is_back_over(rt, device, &sight, len, size),
+        Err(_) => false,
+    }
 }
 
 // Alone against a fetch that copies two words at most, and one that takes a word more where the object fills a log.
@@ -148,27 +152,28 @@ fn an_object_comes_back_with_its_bytes(rt: HostRuntime) {
     assert!(rt; comes_back(&rt, 7, 16));
     assert!(rt; comes_back(&rt, 8, 16));
     assert!(rt; comes_back(&rt, 9, 24));
-    assert!(rt; comes_back(&rt, LONGEST, LOG_BYTES));
+    assert!(rt; comes_back(&rt, 1016, 1024));
 }
 
-/// What a fetch answers, whether all cells and logs that are looked at stay, what the same fetch answers after it, and whether the
-/// bytes are what was stored.
-type Again = (
-    Option<Result<Option<Place>, Refused>>,
-    bool,
-    Option<Result<Option<Place>, Refused>>,
-    bool,
-);
-
-// An object of 9 bytes goes far, and is fetched twice.
-fn fetched_twice<D: Device + Drop>(book: &mut Book<Plain, D>) -> Again {
-    leaves(book, 9);
-    evict_asked(book, 0);
+// Whether an object of 9 bytes goes far, its first fetch is refused so and changes nothing, and the second brings it near with its bytes.
+fn is_refused<D: Device + Drop>(book: &mut Book<Plain, D>, why: Refused) -> bool {
+    let gone = leaves(book, 9) && goes(book, 0);
     let (cell, logs) = (book.core().cell(0), four_logs(book));
-    let first = fetch_far(book, 0);
-    let stays = book.core().cell(0) == cell && four_logs(book) == logs;
-    let second = fetch_far(book, 0);
-    (first, stays, second, loads_counted(book, 9))
+    gone && stays_far(book, why)
+        && book.core().cell(0) == cell
+        && four_logs(book) == logs
+        && comes_to(book, PLACE)
+        && loads_counted(book, 9)
+}
+
+// Whether it is so over this device.
+fn is_refused_over<D: Device + Drop>(rt: &HostRuntime, device: D, why: Refused) -> bool
+    requires { D.honest device ≡ true }
+{
+    match opened_over(rt, SMALL, device) {
+        Ok(mut book) => is_refused(&mut book, why),
+        Err(_) => false,
+    }
 }
 
 // A device in memory whose first read fails so.
@@ -191,28 +196,15 @@ fn opened_over_lying(rt: &HostRuntime, len: usize) -> Result<Book<Plain, Lying>,
     Book::new(rt.alloc(), Plain { core }, device)
 }
 
-// So it is where the first fetch is refused and changes nothing, and the second brings the object near with its bytes.
-fn is_refused_once(why: Refused) -> Again {
-    (Some(Err(why)), true, Some(Ok(Some(PLACE))), true)
-}
-
-// Whether the first fetch is refused so.
-fn is_refused<D: Device + Drop>(book: &mut Book<Plain, D>, why: Refused) -> bool {
-    fetched_twice(book) == is_refused_once(why)
-}
-
 fn fails_once(rt: &HostRuntime, fault: DeviceFault, why: Refused) -> bool {
-    is_so_of(
-        opened_over(rt, SMALL, stumbling(rt, fault)),
-        |book| is_refused(book, why),
-    )
+    is_refused_over(rt, stumbling(rt, fault), why)
 }
 
 fn lies_once(rt: &HostRuntime, len: usize) -> bool {
-    is_so_of(
-        opened_over_lying(rt, len),
-        |book| is_refused(book, Refused::Damaged),
-    )
+    match opened_over_lying(rt, len) {
+        Ok(mut book) => is_refused(&mut book, Refused::Damaged),
+        Err(_) => false,
+    }
 }
 
 // Alone against a fetch that forgets the key of what failed or was damaged, judges a length by `<`, or takes one fault for the other.
@@ -226,18 +218,20 @@ fn a_refused_fetch_may_be_made_again(rt: HostRuntime) {
 }
 
 // Whether the first fetch is refused so over a device that lends on, and each read was lent room for the longest object.
-fn lends_all(rt: &HostRuntime, fault: DeviceFault, why: Refused) -> Result<bool, Fail> {
-    let (device, least) = lent_device(rt, stumbling(rt, fault))?;
-    let refused = is_so_of(opened_over(rt, SMALL, device), |book| is_refused(book, why));
-    Ok(refused && least.get() == LONGEST_OBJECT)
+fn lends_all(rt: &HostRuntime, fault: DeviceFault, why: Refused) -> bool {
+    match watched(rt, stumbling(rt, fault)) {
+        Ok((device, sight)) => {
+            is_refused_over(rt, device, why) && sight.least.get() == LONGEST_OBJECT
+        }
+        Err(_) => false,
+    }
 }
 
 // Alone against a fetch that lets its buffer go where the read is refused: the next one takes memory then.
 #[test]
-fn a_refused_fetch_keeps_its_buffer(rt: HostRuntime) -> Result<(), Fail> {
-    assert!(rt; lends_all(&rt, DeviceFault::Memory, Refused::Memory)?);
-    assert!(rt; lends_all(&rt, DeviceFault::Device, Refused::Device)?);
-    Ok(())
+fn a_refused_fetch_keeps_its_buffer(rt: HostRuntime) {
+    assert!(rt; lends_all(&rt, DeviceFault::Memory, Refused::Memory));
+    assert!(rt; lends_all(&rt, DeviceFault::Device, Refused::Device));
 }
 
 // Whether pointer 0 is far and pointer 1 has EVAC and MOVE; of four logs only the last is free, and the one before it is open and full.
@@ -246,8 +240,8 @@ fn crowds<D: Device + Drop>(book: &mut Book<Plain, D>) -> bool {
     let first = place_next(book, 8, 1).is_ok();
     store_counted(book, 8);
     let placed = place_next(book, 8, 1).is_ok()
-        && place_next(book, LONGEST, 1).is_ok()
-        && place_next(book, LONGEST, 1).is_ok();
+        && place_next(book, 1016, 1).is_ok()
+        && place_next(book, 1016, 1).is_ok();
     book.owner(MOVE);
     mark_sealed(book, 0);
     evict_asked(book, 0);
@@ -269,25 +263,40 @@ fn comes_after_a_move<D: Device + Drop>(book: &mut Book<Plain, D>) -> bool {
         && stays_far(book, Refused::Device)
         && comes_to(book, Place { log: 3, at: 2 })
         && loads_counted(book, 8)
-        && has(book, 3, line(Kind::Open, 3, 32, 0, LOG_BYTES - 32))
+        && has(book, 3, line(Kind::Open, 3, 32, 0, 992))
+}
+
+// Whether a fetch leaves the last free log, and the device has the bytes until it comes.
+fn keeps_the_last<D: Device + Drop>(book: &mut Book<Plain, D>, sight: &Rc<Sight>) -> bool {
+    crowds(book)
+        && finds_no_room(book)
+        && sight.holds.get()
+        && has(book, 2, line(Kind::Open, 2, 1024, 0, 0))
+        && has(book, 3, line(Kind::Free, 3, 0, 0, 1024))
+        && comes_after_a_move(book)
+        && !sight.holds.get()
+}
+
+fn keeps_the_last_over<D: Device + Drop>(rt: &HostRuntime, device: D, sight: &Rc<Sight>) -> bool
+    requires { D.honest device ≡ true }
+{
+    match opened_over(rt, SMALL, device) {
+        Ok(mut book) => keeps_the_last(&mut book, sight),
+        Err(_) => false,
+    }
+}
+
+fn stumbles_without_room(rt: &HostRuntime) -> bool {
+    match watched(rt, stumbling(rt, DeviceFault::Device)) {
+        Ok((device, sight)) => keeps_the_last_over(rt, device, &sight),
+        Err(_) => false,
+    }
 }
 
 // Alone against a fetch that takes the last free log, asks the device before there is room, or forgets the key where there is none.
 #[test]
-fn a_fetch_keeps_the_last_free_log(rt: HostRuntime) -> Result<(), Fail> {
-    let (device, holds) = shown_device(&rt, stumbling(&rt, DeviceFault::Device))?;
-    assert!(rt;
-        is_so_of(opened_over(&rt, SMALL, device), |book| {
-            crowds(book)
-                && finds_no_room(book)
-                && holds.get()
-                && has(book, 2, line(Kind::Open, 2, LOG_BYTES, 0, 0))
-                && has(book, 3, line(Kind::Free, 3, 0, 0, LOG_BYTES))
-                && comes_after_a_move(book)
-                && !holds.get()
-        })
-    );
-    Ok(())
+fn a_fetch_keeps_the_last_free_log(rt: HostRuntime) {
+    assert!(rt; stumbles_without_room(&rt));
 }
 
 // Whether a fetch finds pointer 0's object, which went far, dropped, and leaves all logs.
@@ -298,73 +307,92 @@ fn finds_drop<D: Device + Drop>(book: &mut Book<Plain, D>) -> bool {
     gone && fetch_far(book, 0) == Some(Ok(None)) && four_logs(book) == logs
 }
 
+// Whether its cell is taken by the next object, and the device has no bytes of it.
+fn retires_far<D: Device + Drop>(book: &mut Book<Plain, D>, sight: &Rc<Sight>) -> bool {
+    finds_drop(book) && !sight.holds.get() && places_next(book, 8, 0, PLACE)
+}
+
+fn retires_far_over<D: Device + Drop>(rt: &HostRuntime, device: D, sight: &Rc<Sight>) -> bool
+    requires { D.honest device ≡ true }
+{
+    match opened_over(rt, SMALL, device) {
+        Ok(mut book) => retires_far(&mut book, sight),
+        Err(_) => false,
+    }
+}
+
+fn retires_shown(rt: &HostRuntime) -> bool {
+    match watched(rt, MemDevice::new(rt.alloc())) {
+        Ok((device, sight)) => retires_far_over(rt, device, &sight),
+        Err(_) => false,
+    }
+}
+
 // Alone against a ledger in which the cell of a retired object stays taken if that was far.
 #[test]
-fn a_dropped_far_object_is_retired(rt: HostRuntime) -> Result<(), Fail> {
-    let (device, holds) = shown_device(&rt, MemDevice::new(rt.alloc()))?;
-    assert!(rt;
-        is_so_of(opened_over(&rt, SMALL, device), |book| {
-            finds_drop(book) && !holds.get() && places_next(book, 8, 0, PLACE)
-        })
-    );
-    Ok(())
+fn a_dropped_far_object_is_retired(rt: HostRuntime) {
+    assert!(rt; retires_shown(&rt));
 }
 
-/// What a fetch answers, where the object is then, whether the device holds bytes of it, and what log 2 has.
-type Beside = (
-    Option<Result<Option<Place>, Refused>>,
-    Option<Home>,
-    bool,
-    Option<(Kind, LogRow)>,
-);
+// Whether a fetch brings the object to where it lies with these marks then; or finds it dropped, if none are given.
+fn is_fetched<D: Device + Drop>(book: &mut Book<Beset, D>, wanted: Option<Marks>) -> bool {
+    match wanted {
+        Some(marks) => {
+            comes_to(book, PLACE)
+                && is_near_at(book, 0, PLACE, marks)
+                && has(book, 2, line(Kind::Open, 2, 16, 0, 1008))
+        }
+        None => {
+            fetch_far(book, 0) == Some(Ok(None))
+                && home(book, 0).is_none()
+                && has(book, 2, line(Kind::Free, 2, 0, 0, 1024))
+        }
+    }
+}
 
-// A far object of one word is fetched while its owner makes these events, one before each step of the book from one on, of which
-// there are four: a look at the cell, the header, a word that is written, the naming.
-fn fetched_beside(rt: &HostRuntime, step: u8, then: &[Event]) -> Result<Beside, Refused> {
-    let Ok(made) = shown_device(rt, MemDevice::new(rt.alloc())) else {
-        return Err(Refused::Memory);
-    };
-    let (device, holds) = made;
+// Whether the first object goes far and is fetched so over this device, beside owners.
+fn fetches_over<D: Device + Drop>(
+    rt: &HostRuntime,
+    device: D,
+    events: Vec<Event>,
+    wanted: Option<Marks>,
+) -> bool
+    requires { D.honest device ≡ true }
+{
+    match beset(rt, events, device) {
+        Ok(mut book) => {
+            marks_first(&mut book) && goes(&mut book, 0) && is_fetched(&mut book, wanted)
+        }
+        Err(_) => false,
+    }
+}
+
+// Whether it is so, and the device has no bytes of it then.
+fn fetches_beside(rt: &HostRuntime, events: Vec<Event>, wanted: Option<Marks>) -> bool {
+    match watched(rt, MemDevice::new(rt.alloc())) {
+        Ok((device, sight)) => fetches_over(rt, device, events, wanted) && !sight.holds.get(),
+        Err(_) => false,
+    }
+}
+
+// Whether a far object of one word is fetched so while its owner makes these events, one before each step of the book from one on, of
+// which there are four: a look at the cell, the header, a word that is written, the naming.
+fn fetches_at(rt: &HostRuntime, step: u8, then: &[Event], wanted: Option<Marks>) -> bool {
     // The second object takes 129 steps, its marking two, the eviction four; the cell is looked at once before the fetch.
-    let Ok(events) = events_after(rt, 134u8.saturating_add(step), then) else {
-        return Err(Refused::Memory);
-    };
-    let mut book = beset(rt, events, device)?;
-    marks_first(&mut book);
-    evict_asked(&mut book, 0);
-    let fetched = fetch_far(&mut book, 0);
-    Ok((fetched, home(&mut book, 0), holds.get(), shown(&book, 2)))
-}
-
-// So it is where it has come.
-fn is_near(marks: Marks) -> Beside {
-    let place = PLACE;
-    (
-        Some(Ok(Some(place))),
-        Some(Home::Near { place, marks }),
-        false,
-        line(Kind::Open, 2, 16, 0, LOG_BYTES - 16),
-    )
-}
-
-// And so where it was retired.
-fn is_retired() -> Beside {
-    (
-        Some(Ok(None)),
-        None,
-        false,
-        line(Kind::Free, 2, 0, 0, LOG_BYTES),
-    )
+    match events_after(rt, 134u8.saturating_add(step), then) {
+        Ok(events) => fetches_beside(rt, events, wanted),
+        Err(_) => false,
+    }
 }
 
 // Whether it has come, with these marks, where its owner makes these events, the first before the step of this number, from 0 on.
 fn comes_beside(rt: &HostRuntime, step: u8, then: &[Event], marks: Marks) -> bool {
-    fetched_beside(rt, step, then) == Ok(is_near(marks))
+    fetches_at(rt, step, then, Some(marks))
 }
 
 // Whether it was retired.
 fn retires_beside(rt: &HostRuntime, step: u8, then: &[Event]) -> bool {
-    fetched_beside(rt, step, then) == Ok(is_retired())
+    fetches_at(rt, step, then, None)
 }
 
 // Alone against a fetch that takes HOT for DROP.

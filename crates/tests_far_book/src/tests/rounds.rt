@@ -4,16 +4,15 @@
 ghost use Rattle.std.specs.Prelude.{◌≡◌, ◌<◌};
 
 use crate::tests::books::{
-    DROP, IDLE, NO_MARKS, SMALL, ask, beset, has, is_near_at, is_so_of, line, mark_sealed, opened,
-    places_next, retire_dropped,
+    DROP, IDLE, NO_MARKS, SMALL, ask, beset_by, has, is_near_at, is_so_of, line, mark_sealed,
+    opened, places_next, retire_dropped,
 };
 use crate::tests::moving::{asks_two, loaded, moves_to, refuses_move};
 use far_book::{Beset, Book, Near, Plain, live_spans_follow};
 use far_core::{Event, Kind, Reply, Shape};
 use far_device::{Device, MemDevice};
 use far_log::Span;
-use far_word::{LOG_BYTES, LONGEST, Mark, Marks, Place, PtrWord, Refused, ScopeWord, size_of};
-use std::test::Fail;
+use far_word::{Mark, Marks, Place, PtrWord, Refused, ScopeWord, size_of};
 
 /// The cell of pointer 0, an object of 8 bytes of data structure 1 at the start of log 0: with EVAC, and without marks.
 const WANTED: u64 = 0xa400_0000_0001_0008;
@@ -135,8 +134,7 @@ fn lets_go(book: &mut Book<Plain, MemDevice>, pointer: u16) -> bool {
 
 // Whether a log is given back, and is free.
 fn gives_back(book: &mut Book<Plain, MemDevice>, log: u8) -> bool {
-    release_sealed(book, log) == Some(true)
-        && has(book, log, line(Kind::Free, log, 0, 0, LOG_BYTES))
+    release_sealed(book, log) == Some(true) && has(book, log, line(Kind::Free, log, 0, 0, 1024))
 }
 
 // Whether a log isn't given back, since an object lies there.
@@ -153,7 +151,7 @@ fn has_no_room(book: &mut Book<Plain, MemDevice>) -> bool {
     full && keeps_log(book, 2)
         && refuses_move(book, 1, Refused::NoRoom)
         && retire_dropped(book, 2)
-        && has(book, 2, line(Kind::Sealed, 2, 0, LOG_BYTES, 0))
+        && has(book, 2, line(Kind::Sealed, 2, 0, 1024, 0))
         && release_sealed(book, 3).is_none()
 }
 
@@ -163,24 +161,25 @@ fn has_room(book: &mut Book<Plain, MemDevice>) -> bool {
         && release_sealed(book, 2).is_none()
         && moves_to(book, 1, Place { log: 2, at: 0 })
         && loaded(book, 1, 1) == Reply::Word(2)
-        && has(book, 2, line(Kind::Open, 2, LOG_BYTES, 0, 0))
+        && has(book, 2, line(Kind::Open, 2, 1024, 0, 0))
+}
+
+// Whether it is refused before, and made after.
+fn moves_at_last(book: &mut Book<Plain, MemDevice>) -> bool {
+    asks_two(book) && has_no_room(book) && has_room(book)
 }
 
 #[test]
 fn a_refused_move_is_made_once_there_is_room(rt: HostRuntime) {
-    assert!(rt;
-        is_so_of(opened(&rt, SMALL), |book| {
-            asks_two(book) && has_no_room(book) && has_room(book)
-        })
-    );
+    assert!(rt; is_so_of(opened(&rt, SMALL), moves_at_last));
 }
 
 // Whether two objects lie in log 0, and one fills each of the next two.
 fn fills_three(book: &mut Book<Plain, MemDevice>) -> bool {
     places_next(book, 8, 0, Place { log: 0, at: 0 })
         && places_next(book, 9, 1, Place { log: 0, at: 2 })
-        && places_next(book, LONGEST, 2, Place { log: 1, at: 0 })
-        && places_next(book, LONGEST, 3, Place { log: 2, at: 0 })
+        && places_next(book, 1016, 2, Place { log: 1, at: 0 })
+        && places_next(book, 1016, 3, Place { log: 2, at: 0 })
 }
 
 // Whether log 0 is given back once the last of its objects is retired, and the first of the sealed ones is still log 1.
@@ -195,23 +194,24 @@ fn gives_the_first_back(book: &mut Book<Plain, MemDevice>) -> bool {
         && gives_back(book, 1)
 }
 
+// Whether log 0 opens anew for an object that fills it, and log 1 is free.
+fn opens_anew(book: &mut Book<Plain, MemDevice>) -> bool {
+    fills_three(book)
+        && gives_the_first_back(book)
+        && places_next(book, 1016, 0, Place { log: 0, at: 0 })
+        && has(book, 0, line(Kind::Open, 0, 1024, 0, 0))
+        && has(book, 1, line(Kind::Free, 1, 0, 0, 1024))
+}
+
 #[test]
 fn a_log_given_back_opens_anew(rt: HostRuntime) {
-    assert!(rt;
-        is_so_of(opened(&rt, SMALL), |book| {
-            fills_three(book)
-                && gives_the_first_back(book)
-                && places_next(book, LONGEST, 0, Place { log: 0, at: 0 })
-                && has(book, 0, line(Kind::Open, 0, LOG_BYTES, 0, 0))
-                && has(book, 1, line(Kind::Free, 1, 0, 0, LOG_BYTES))
-        })
-    );
+    assert!(rt; is_so_of(opened(&rt, SMALL), opens_anew));
 }
 
 // Whether an object lies in log 0, which the next one seals.
 fn seals_the_first(book: &mut Book<Plain, MemDevice>) -> bool {
     places_next(book, 8, 0, Place { log: 0, at: 0 })
-        && places_next(book, LONGEST, 1, Place { log: 1, at: 0 })
+        && places_next(book, 1016, 1, Place { log: 1, at: 0 })
 }
 
 // Whether a round of log 0 begins with this epoch, once the object is marked.
@@ -230,16 +230,17 @@ fn takes_evac_back(book: &mut Book<Plain, MemDevice>) -> bool {
         && clear_near(book, 2).is_none()
 }
 
+// Whether a round begins once its object is marked, and EVAC is taken back.
+fn takes_back(book: &mut Book<Plain, MemDevice>) -> bool {
+    seals_the_first(book)
+        && advance_chosen(book, 1).is_none()
+        && begins_round(book, 1)
+        && takes_evac_back(book)
+}
+
 #[test]
 fn evac_is_taken_back_in_a_round(rt: HostRuntime) {
-    assert!(rt;
-        is_so_of(opened(&rt, SMALL), |book| {
-            seals_the_first(book)
-                && advance_chosen(book, 1).is_none()
-                && begins_round(book, 1)
-                && takes_evac_back(book)
-        })
-    );
+    assert!(rt; is_so_of(opened(&rt, SMALL), takes_back));
 }
 
 // Whether no round begins after the last epoch, and that of log 0 goes on: its owner is still seen clear in it.
@@ -250,7 +251,12 @@ fn goes_on_to_the_end(book: &mut Book<Plain, MemDevice>) -> bool {
         && book.core().is_in_round(0)
         && book.core().is_clear(0)
         && book.core().cell(0) == WANTED
-        && has(book, 0, line(Kind::Sealed, 0, 16, 0, LOG_BYTES - 16))
+        && has(book, 0, line(Kind::Sealed, 0, 16, 0, 1008))
+}
+
+// Whether a round begins with the last epoch, and goes on.
+fn reaches_the_last(book: &mut Book<Plain, MemDevice>) -> bool {
+    seals_the_first(book) && begins_round(book, LAST) && goes_on_to_the_end(book)
 }
 
 #[test]
@@ -259,11 +265,7 @@ fn the_last_epoch_is_the_last(rt: HostRuntime) {
         epoch: LAST - 1,
         ..SMALL
     };
-    assert!(rt;
-        is_so_of(opened(&rt, shape), |book| {
-            seals_the_first(book) && begins_round(book, LAST) && goes_on_to_the_end(book)
-        })
-    );
+    assert!(rt; is_so_of(opened(&rt, shape), reaches_the_last));
 }
 
 fn open_scope(book: &mut Book<Plain, MemDevice>) {
@@ -294,14 +296,15 @@ fn is_clear_in_a_new_scope(book: &mut Book<Plain, MemDevice>) -> bool {
         && look_at(book, 1).is_none()
 }
 
+// Whether an owner is seen clear once its scope is closed, and in a new one.
+fn sees_scopes(book: &mut Book<Plain, MemDevice>) -> bool {
+    open_scope(book);
+    is_clear_once_closed(book) && is_clear_in_a_new_scope(book)
+}
+
 #[test]
 fn scopes_are_looked_at(rt: HostRuntime) {
-    assert!(rt;
-        is_so_of(opened(&rt, SMALL), |book| {
-            open_scope(book);
-            is_clear_once_closed(book) && is_clear_in_a_new_scope(book)
-        })
-    );
+    assert!(rt; is_so_of(opened(&rt, SMALL), sees_scopes));
 }
 
 // Whether a scope is seen closed, open and closed again, and a round begins meanwhile.
@@ -314,17 +317,15 @@ fn opens_between_looks(book: &mut Book<Beset, MemDevice>) -> bool {
 }
 
 #[test]
-fn scopes_open_between_looks(rt: HostRuntime) -> Result<(), Fail> {
+fn scopes_open_between_looks(rt: HostRuntime) {
     let owner = 0;
-    let events = vec![in rt.alloc();
+    let events = [
         Event::ReadEpoch { owner },
         Event::Open { owner },
         IDLE,
         Event::Close { owner },
-    ]?;
-    let book = beset(&rt, events, MemDevice::new(rt.alloc()));
-    assert!(rt; is_so_of(book, opens_between_looks));
-    Ok(())
+    ];
+    assert!(rt; is_so_of(beset_by(&rt, &events), opens_between_looks));
 }
 
 const FIRST: Span = Span {
@@ -390,26 +391,20 @@ fn finds_from_each(book: &mut Book<Plain, MemDevice>) -> bool {
 
 // Whether they are found so in a log that is full, and none in one that is free.
 fn finds_in_others(book: &mut Book<Plain, MemDevice>) -> bool {
-    places_next(book, LONGEST, 0, Place { log: 1, at: 0 })
-        && has_live(
-            book,
-            1,
-            &[Span {
-                len: LONGEST,
-                ..FIRST
-            }],
-        )
+    places_next(book, 1016, 0, Place { log: 1, at: 0 })
+        && has_live(book, 1, &[Span { len: 1016, ..FIRST }])
         && has_live(book, 3, &[])
         && has(book, 0, line(Kind::Sealed, 0, 24, 56, 944))
 }
 
+// Whether the live ones are found, from each span on.
+fn finds_all(book: &mut Book<Plain, MemDevice>) -> bool {
+    places_four(book) && passes_two(book) && finds_from_each(book) && finds_in_others(book)
+}
+
 #[test]
 fn live_spans_come_one_after_the_other(rt: HostRuntime) {
-    assert!(rt;
-        is_so_of(opened(&rt, SMALL), |book| {
-            places_four(book) && passes_two(book) && finds_from_each(book) && finds_in_others(book)
-        })
-    );
+    assert!(rt; is_so_of(opened(&rt, SMALL), finds_all));
 }
 
 // Whether an object that is dropped while a walk reads its header is still found, and passed over once it is retired.
@@ -429,16 +424,13 @@ fn finds_the_dropped(book: &mut Book<Beset, MemDevice>) -> bool {
 }
 
 #[test]
-fn live_spans_come_while_owners_drop(rt: HostRuntime) -> Result<(), Fail> {
+fn live_spans_come_while_owners_drop(rt: HostRuntime) {
     let adopt = Event::Adopt {
         owner: 0,
         pointer: 0,
     };
     // Two objects are placed in three turns each. Before the first header is read its pointer is taken over, and it is dropped
     // before its cell is seen.
-    let mut events = vec![in rt.alloc(); IDLE; 6]?;
-    events.extend_from_slice(&[adopt, DROP])?;
-    let book = beset(&rt, events, MemDevice::new(rt.alloc()));
-    assert!(rt; is_so_of(book, finds_the_dropped));
-    Ok(())
+    let events = [IDLE, IDLE, IDLE, IDLE, IDLE, IDLE, adopt, DROP];
+    assert!(rt; is_so_of(beset_by(&rt, &events), finds_the_dropped));
 }

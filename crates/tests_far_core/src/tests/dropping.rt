@@ -2,7 +2,6 @@
 
 use super::*;
 use far_word::Mark;
-use std::test::Fail;
 
 const PLACED: u64 = 0x8400_0000_0701_0008;
 
@@ -27,8 +26,8 @@ fn retire(old: u64) -> Event {
 }
 
 #[test]
-fn a_request_of_what_may_not_be_asked(rt: HostRuntime) -> Result<(), Fail> {
-    let core = peopled(&rt, rt.alloc())?;
+fn a_request_of_what_may_not_be_asked(rt: HostRuntime) {
+    let core = peopled(&rt, rt.alloc());
     goes_so(
         &rt,
         core,
@@ -43,12 +42,11 @@ fn a_request_of_what_may_not_be_asked(rt: HostRuntime) -> Result<(), Fail> {
             retire(PLACED),
         ],
     );
-    Ok(())
 }
 
 #[test]
-fn an_object_is_dropped_and_retired(rt: HostRuntime) -> Result<(), Fail> {
-    let mut core = peopled(&rt, rt.alloc())?;
+fn an_object_is_dropped_and_retired(rt: HostRuntime) {
+    let mut core = peopled(&rt, rt.alloc());
     answers(
         &rt,
         &mut core,
@@ -63,5 +61,4 @@ fn an_object_is_dropped_and_retired(rt: HostRuntime) -> Result<(), Fail> {
         ],
     );
     assert!(rt; !core.is_used(2));
-    Ok(())
 }

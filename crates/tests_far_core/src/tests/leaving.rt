@@ -2,7 +2,6 @@
 
 use super::*;
 use far_word::{Mark, PtrWord};
-use std::test::Fail;
 
 const NEAR: u64 = 0x8400_0000_0001_0008;
 
@@ -30,8 +29,8 @@ fn clear(pointer: u16) -> Event {
 
 /// A core whose sealed log 0 has pointer 0's object, which its owner uses, and whose log 1 is open, with
 /// pointer 1's.
-fn settled(rt: &impl Abort, alloc: Global) -> Result<Core, Refused> {
-    let mut core = Core::new(alloc, SMALL, true)?;
+fn settled(rt: &impl Abort, alloc: Global) -> Core {
+    let mut core = made(rt, alloc, SMALL, true);
     answers(
         rt,
         &mut core,
@@ -43,12 +42,12 @@ fn settled(rt: &impl Abort, alloc: Global) -> Result<Core, Refused> {
             adopted(0, 0, NEAR),
         ],
     );
-    Ok(core)
+    core
 }
 
 #[test]
-fn a_quiet_object_goes_far(rt: HostRuntime) -> Result<(), Fail> {
-    let mut core = settled(&rt, rt.alloc())?;
+fn a_quiet_object_goes_far(rt: HostRuntime) {
+    let mut core = settled(&rt, rt.alloc());
     answers(
         &rt,
         &mut core,
@@ -64,12 +63,11 @@ fn a_quiet_object_goes_far(rt: HostRuntime) -> Result<(), Fail> {
         ],
     );
     assert!(rt; core.may_get(0, 0, true));
-    Ok(())
 }
 
 #[test]
-fn an_object_that_may_not_go_far(rt: HostRuntime) -> Result<(), Fail> {
-    let core = settled(&rt, rt.alloc())?;
+fn an_object_that_may_not_go_far(rt: HostRuntime) {
+    let core = settled(&rt, rt.alloc());
     goes_so(
         &rt,
         core,
@@ -86,12 +84,11 @@ fn an_object_that_may_not_go_far(rt: HostRuntime) -> Result<(), Fail> {
             name(1, WITH_BOTH, FAR),
         ],
     );
-    Ok(())
 }
 
 #[test]
-fn an_object_stays(rt: HostRuntime) -> Result<(), Fail> {
-    let core = settled(&rt, rt.alloc())?;
+fn an_object_stays(rt: HostRuntime) {
+    let core = settled(&rt, rt.alloc());
     goes_so(
         &rt,
         core,
@@ -110,12 +107,11 @@ fn an_object_stays(rt: HostRuntime) -> Result<(), Fail> {
             name(0, WITH_MOVE | 1 << 59, NEAR),
         ],
     );
-    Ok(())
 }
 
 #[test]
-fn a_mark_is_cleared(rt: HostRuntime) -> Result<(), Fail> {
-    let mut core = settled(&rt, rt.alloc())?;
+fn a_mark_is_cleared(rt: HostRuntime) {
+    let mut core = settled(&rt, rt.alloc());
     answers(
         &rt,
         &mut core,
@@ -132,5 +128,4 @@ fn a_mark_is_cleared(rt: HostRuntime) -> Result<(), Fail> {
         panic!(rt; "pointer 0 isn't near");
     };
     assert!(rt; core.clear(0) == WITH_MOVE);
-    Ok(())
 }

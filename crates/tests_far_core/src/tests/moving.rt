@@ -2,7 +2,6 @@
 
 use super::*;
 use far_word::Mark;
-use std::test::Fail;
 
 /// The cell of pointer 1, an object of 9 bytes at word 3 of log 0: as it was placed, viewed before, and asked to be moved then.
 const PLACED: u64 = 0x8400_0000_0301_0009;
@@ -40,8 +39,8 @@ fn opened() -> [(Event, Reply); 2] {
 
 /// A core in which owner 0 has stored bytes 1 to 9 in pointer 1's object, at word 3 of log 0, and has closed its scope. Pointer
 /// 0's object lies below it. Header and words of pointer 1 are written at the tail, 6, and at the start of log 1.
-fn written(rt: &impl Abort, alloc: Global, honest: bool) -> Result<Core, Refused> {
-    let mut core = Core::new(alloc, TWO_OWNERS, honest)?;
+fn written(rt: &impl Abort, alloc: Global, honest: bool) -> Core {
+    let mut core = made(rt, alloc, TWO_OWNERS, honest);
     answers(
         rt,
         &mut core,
@@ -71,7 +70,7 @@ fn written(rt: &impl Abort, alloc: Global, honest: bool) -> Result<Core, Refused
             put(1, 2, 9),
         ],
     );
-    Ok(core)
+    core
 }
 
 /// The object is viewed again and has bytes 1 to 9 still.
@@ -85,8 +84,8 @@ fn stands_at(rt: &impl Abort, core: &mut Core, log: u8, at: u16) {
 }
 
 #[test]
-fn an_object_moves_to_the_tail(rt: HostRuntime) -> Result<(), Fail> {
-    let mut core = written(&rt, rt.alloc(), true)?;
+fn an_object_moves_to_the_tail(rt: HostRuntime) {
+    let mut core = written(&rt, rt.alloc(), true);
     answers(
         &rt,
         &mut core,
@@ -100,12 +99,11 @@ fn an_object_moves_to_the_tail(rt: HostRuntime) -> Result<(), Fail> {
     );
     assert!(rt; log_shown(&rt, &core, 0) == (Kind::Open, 9));
     stands_at(&rt, &mut core, 0, 6);
-    Ok(())
 }
 
 #[test]
-fn an_object_moves_into_a_free_log(rt: HostRuntime) -> Result<(), Fail> {
-    let mut core = written(&rt, rt.alloc(), true)?;
+fn an_object_moves_into_a_free_log(rt: HostRuntime) {
+    let mut core = written(&rt, rt.alloc(), true);
     answers(
         &rt,
         &mut core,
@@ -117,12 +115,11 @@ fn an_object_moves_into_a_free_log(rt: HostRuntime) -> Result<(), Fail> {
     assert!(rt; log_shown(&rt, &core, 0) == (Kind::Sealed, 6));
     assert!(rt; log_shown(&rt, &core, 1) == (Kind::Open, 3));
     stands_at(&rt, &mut core, 1, 0);
-    Ok(())
 }
 
 #[test]
-fn an_object_that_is_not_quiet_stays(rt: HostRuntime) -> Result<(), Fail> {
-    let mut core = written(&rt, rt.alloc(), true)?;
+fn an_object_that_is_not_quiet_stays(rt: HostRuntime) {
+    let mut core = written(&rt, rt.alloc(), true);
     refuses(&rt, &mut core, &[name(1, VIEWED, AT_TAIL)]);
     answers(&rt, &mut core, &opened());
     answers(&rt, &mut core, &[pinned(1, 0, 3)]);
@@ -131,13 +128,12 @@ fn an_object_that_is_not_quiet_stays(rt: HostRuntime) -> Result<(), Fail> {
         &mut core,
         &[name(1, VIEWED, AT_TAIL), ask(1, Mark::Moved)],
     );
-    Ok(())
 }
 
 /// EVAC in a log that is in no round makes nothing quiet.
 #[test]
-fn an_object_that_is_only_marked_stays(rt: HostRuntime) -> Result<(), Fail> {
-    let mut core = written(&rt, rt.alloc(), true)?;
+fn an_object_that_is_only_marked_stays(rt: HostRuntime) {
+    let mut core = written(&rt, rt.alloc(), true);
     let evac = 0xe400_0000_0301_0009;
     answers(
         &rt,
@@ -150,12 +146,11 @@ fn an_object_that_is_only_marked_stays(rt: HostRuntime) -> Result<(), Fail> {
         ],
     );
     refuses(&rt, &mut core, &[name(1, evac, AT_START)]);
-    Ok(())
 }
 
 #[test]
-fn words_that_move_nothing_refuse(rt: HostRuntime) -> Result<(), Fail> {
-    let core = written(&rt, rt.alloc(), true)?;
+fn words_that_move_nothing_refuse(rt: HostRuntime) {
+    let core = written(&rt, rt.alloc(), true);
     goes_so(
         &rt,
         core,
@@ -175,12 +170,11 @@ fn words_that_move_nothing_refuse(rt: HostRuntime) -> Result<(), Fail> {
             name(1, MOVING, 0x8400_0008_0001_0009),
         ],
     );
-    Ok(())
 }
 
 #[test]
-fn a_copy_that_is_not_whole_refuses(rt: HostRuntime) -> Result<(), Fail> {
-    let core = written(&rt, rt.alloc(), true)?;
+fn a_copy_that_is_not_whole_refuses(rt: HostRuntime) {
+    let core = written(&rt, rt.alloc(), true);
     goes_so(
         &rt,
         core,
@@ -199,14 +193,13 @@ fn a_copy_that_is_not_whole_refuses(rt: HostRuntime) -> Result<(), Fail> {
         ],
         &[],
     );
-    Ok(())
 }
 
 /// Of an object that isn't far no words are stored, so with an honest far side none come near; with another any may, with
 /// zeros after the last byte.
 #[test]
-fn what_is_not_far_is_not_fetched(rt: HostRuntime) -> Result<(), Fail> {
-    let mut core = written(&rt, rt.alloc(), true)?;
+fn what_is_not_far_is_not_fetched(rt: HostRuntime) {
+    let mut core = written(&rt, rt.alloc(), true);
     refuses(
         &rt,
         &mut core,
@@ -216,7 +209,7 @@ fn what_is_not_far_is_not_fetched(rt: HostRuntime) -> Result<(), Fail> {
             name(1, FAR | 1 << 59, AT_TAIL),
         ],
     );
-    let core = written(&rt, rt.alloc(), false)?;
+    let core = written(&rt, rt.alloc(), false);
     goes_so(
         &rt,
         core,
@@ -229,12 +222,11 @@ fn what_is_not_far_is_not_fetched(rt: HostRuntime) -> Result<(), Fail> {
         ],
         &[],
     );
-    Ok(())
 }
 
 /// The same core with log 2 open, its tail 2, and pointer 1's object far.
-fn away(rt: &impl Abort, alloc: Global, honest: bool) -> Result<Core, Refused> {
-    let mut core = written(rt, alloc, honest)?;
+fn away(rt: &impl Abort, alloc: Global, honest: bool) -> Core {
+    let mut core = written(rt, alloc, honest);
     answers(
         rt,
         &mut core,
@@ -247,12 +239,12 @@ fn away(rt: &impl Abort, alloc: Global, honest: bool) -> Result<Core, Refused> {
             (Event::See { pointer: 1 }, Reply::Word(FAR)),
         ],
     );
-    Ok(core)
+    core
 }
 
 #[test]
-fn an_object_goes_away_and_comes_back(rt: HostRuntime) -> Result<(), Fail> {
-    let mut core = away(&rt, rt.alloc(), true)?;
+fn an_object_goes_away_and_comes_back(rt: HostRuntime) {
+    let mut core = away(&rt, rt.alloc(), true);
     answers(
         &rt,
         &mut core,
@@ -266,12 +258,11 @@ fn an_object_goes_away_and_comes_back(rt: HostRuntime) -> Result<(), Fail> {
     );
     assert!(rt; log_shown(&rt, &core, 2) == (Kind::Open, 5));
     stands_at(&rt, &mut core, 2, 2);
-    Ok(())
 }
 
 #[test]
-fn other_words_than_those_stored_refuse(rt: HostRuntime) -> Result<(), Fail> {
-    let core = away(&rt, rt.alloc(), true)?;
+fn other_words_than_those_stored_refuse(rt: HostRuntime) {
+    let core = away(&rt, rt.alloc(), true);
     goes_so(
         &rt,
         core,
@@ -290,12 +281,11 @@ fn other_words_than_those_stored_refuse(rt: HostRuntime) -> Result<(), Fail> {
         ],
         &[],
     );
-    Ok(())
 }
 
 #[test]
-fn a_lying_far_side_gives_any_words(rt: HostRuntime) -> Result<(), Fail> {
-    let mut core = away(&rt, rt.alloc(), false)?;
+fn a_lying_far_side_gives_any_words(rt: HostRuntime) {
+    let mut core = away(&rt, rt.alloc(), false);
     answers(
         &rt,
         &mut core,
@@ -314,5 +304,4 @@ fn a_lying_far_side_gives_any_words(rt: HostRuntime) -> Result<(), Fail> {
         &mut core,
         &[pinned(1, 2, 2), loaded(1, 0, u64::MAX), loaded(1, 1, 0xff)],
     );
-    Ok(())
 }

@@ -2,13 +2,12 @@
 
 use super::*;
 use far_word::{CELLS, LOG_WORDS, PtrWord};
-use std::test::Fail;
 
 const PAIR: u64 = 0x8400_0000_0001_0010;
 
 /// A core in which owner 0 holds an object of two words.
-fn holding_pair(rt: &impl Abort, alloc: Global) -> Result<Core, Refused> {
-    let mut core = Core::new(alloc, TWO_OWNERS, true)?;
+fn holding_pair(rt: &impl Abort, alloc: Global) -> Core {
+    let mut core = made(rt, alloc, TWO_OWNERS, true);
     answers(
         rt,
         &mut core,
@@ -21,7 +20,7 @@ fn holding_pair(rt: &impl Abort, alloc: Global) -> Result<Core, Refused> {
             pinned(0, 0, 0),
         ],
     );
-    Ok(core)
+    core
 }
 
 fn store_word(rt: &impl Abort, core: &mut Core, pointer: u16, first: u16, word: u64) {
@@ -55,20 +54,19 @@ fn word_at(rt: &impl Abort, core: &Core, at: u16) -> u64 {
 }
 
 #[test]
-fn words_are_stored_and_loaded(rt: HostRuntime) -> Result<(), Fail> {
-    let mut core = holding_pair(&rt, rt.alloc())?;
+fn words_are_stored_and_loaded(rt: HostRuntime) {
+    let mut core = holding_pair(&rt, rt.alloc());
     assert!(rt; words_of(&rt, &core, 0) == [0, 0]);
     store_word(&rt, &mut core, 0, 1, 7);
     assert!(rt; words_of(&rt, &core, 0) == [0, 7]);
     store_word(&rt, &mut core, 0, 0, u64::MAX);
     assert!(rt; words_of(&rt, &core, 0) == [u64::MAX, 7]);
     answers(&rt, &mut core, &[loaded(0, 0, u64::MAX), loaded(0, 1, 7)]);
-    Ok(())
 }
 
 #[test]
-fn zeros_are_put(rt: HostRuntime) -> Result<(), Fail> {
-    let mut core = holding_pair(&rt, rt.alloc())?;
+fn zeros_are_put(rt: HostRuntime) {
+    let mut core = holding_pair(&rt, rt.alloc());
     answers(
         &rt,
         &mut core,
@@ -82,5 +80,4 @@ fn zeros_are_put(rt: HostRuntime) -> Result<(), Fail> {
         word_at(&rt, &core, 6),
     ];
     assert!(rt; words == [3, 0, 0, 6]);
-    Ok(())
 }

@@ -2,26 +2,42 @@
 
 use super::*;
 use far_core::{events_leave_others, opening_is_start, steps_keep_views};
-use std::test::Fail;
+use far_word::Refused;
+
+/// Whether a whole list of events is answered so.
+fn runs_so(core: &mut Core, alloc: Global, events: &[Event], replies: &[Reply]) -> bool {
+    match core.run(alloc, events) {
+        Ok(found) => found.as_slice() == replies,
+        Err(_) => false,
+    }
+}
 
 #[test]
-fn first_object_is_read(rt: HostRuntime) -> Result<(), Fail> {
-    let cases = [
-        put(0, 0, header(0, 8, 1)),
-        put(0, 1, 0),
-        named(0, 0x8400_0000_0001_0008),
-        adopted(0, 0, 0x8400_0000_0001_0008),
-        (Event::ReadEpoch { owner: 0 }, Reply::Epoch(0)),
-        (Event::Open { owner: 0 }, Reply::Done),
-        pinned(0, 0, 0),
-        loaded(0, 0, 0),
+fn first_object_is_read(rt: HostRuntime) {
+    let events = [
+        write(0, 0, 0xa100_0000_0001_0008),
+        write(0, 1, 0),
+        name(0, 0, 0x8400_0000_0001_0008),
+        adopt(0, 0),
+        Event::ReadEpoch { owner: 0 },
+        Event::Open { owner: 0 },
+        pin(0, 0),
+        load(0, 0, 0),
     ];
-    let mut core = Core::new(rt.alloc(), SMALL, true)?;
-    let replies = core.run(rt.alloc(), &cases.map(|case| case.0))?;
-    assert!(rt; replies.as_slice() == cases.map(|case| case.1).as_slice());
+    let replies = [
+        Reply::Done,
+        Reply::Done,
+        Reply::Done,
+        Reply::Word(0x8400_0000_0001_0008),
+        Reply::Epoch(0),
+        Reply::Done,
+        Reply::Held(Place { log: 0, at: 0 }),
+        Reply::Word(0),
+    ];
+    let mut core = made(&rt, rt.alloc(), SMALL, true);
+    assert!(rt; runs_so(&mut core, rt.alloc(), &events, &replies));
     assert!(rt; core.cell(0) == 0xc400_0000_0001_0008);
     assert!(rt; log_shown(&rt, &core, 0) == (Kind::Open, 2));
-    Ok(())
 }
 
 /// Whether the cell of this number stands so among all cells of a core.
@@ -43,15 +59,14 @@ fn shows_people(core: &Core) -> bool {
 }
 
 #[test]
-fn cells_stand_by_number(rt: HostRuntime) -> Result<(), Fail> {
-    let core = peopled(&rt, rt.alloc())?;
+fn cells_stand_by_number(rt: HostRuntime) {
+    let core = peopled(&rt, rt.alloc());
     assert!(rt; shows_people(&core));
-    Ok(())
 }
 
 #[test]
-fn start_shows_nothing(rt: HostRuntime) -> Result<(), Fail> {
-    let mut core = Core::new(rt.alloc(), SMALL, false)?;
+fn start_shows_nothing(rt: HostRuntime) {
+    let mut core = made(&rt, rt.alloc(), SMALL, false);
     let free = (Kind::Free, 0);
     let start = Shown {
         open_log: 0,
@@ -62,17 +77,16 @@ fn start_shows_nothing(rt: HostRuntime) -> Result<(), Fail> {
     };
     assert!(rt; observed(&rt, &mut core) == start);
     assert!(rt; (core.logs(), core.mutators()) == (4, 1));
-    Ok(())
 }
 
 #[test]
-fn scope_opens_at_epoch_that_was_read(rt: HostRuntime) -> Result<(), Fail> {
+fn scope_opens_at_epoch_that_was_read(rt: HostRuntime) {
     let shape = Shape {
         logs: 2,
         mutators: 2,
         epoch: 7,
     };
-    let mut core = Core::new(rt.alloc(), shape, true)?;
+    let mut core = made(&rt, rt.alloc(), shape, true);
     answers(
         &rt,
         &mut core,
@@ -99,12 +113,11 @@ fn scope_opens_at_epoch_that_was_read(rt: HostRuntime) -> Result<(), Fail> {
     );
     assert!(rt; owner_shown(&core, 0) == (false, false));
     assert!(rt; owner_shown(&core, 1) == (true, true));
-    Ok(())
 }
 
 #[test]
-fn closed_scope_holds_nothing(rt: HostRuntime) -> Result<(), Fail> {
-    let mut core = peopled(&rt, rt.alloc())?;
+fn closed_scope_holds_nothing(rt: HostRuntime) {
+    let mut core = peopled(&rt, rt.alloc());
     answers(
         &rt,
         &mut core,
@@ -123,12 +136,11 @@ fn closed_scope_holds_nothing(rt: HostRuntime) -> Result<(), Fail> {
         &mut core,
         &[pinned(0, 0, 0), loaded(0, 0, 0x0807_0605_0403_0201)],
     );
-    Ok(())
 }
 
 #[test]
-fn nine_bytes_keep_their_padding(rt: HostRuntime) -> Result<(), Fail> {
-    let core = peopled(&rt, rt.alloc())?;
+fn nine_bytes_keep_their_padding(rt: HostRuntime) {
+    let core = peopled(&rt, rt.alloc());
     goes_so(
         &rt,
         core,
@@ -154,48 +166,50 @@ fn nine_bytes_keep_their_padding(rt: HostRuntime) -> Result<(), Fail> {
         ],
         &[],
     );
-    Ok(())
+}
+
+/// Whether a core may have this shape, and begins with it.
+fn has_core(alloc: Global, logs: u64, mutators: u64, epoch: u64) -> bool {
+    let shape = Shape {
+        logs,
+        mutators,
+        epoch,
+    };
+    match Core::new(alloc, shape, true) {
+        Ok(mut core) => {
+            shape.is_in_range()
+                && core.logs() as u64 == logs
+                && core.mutators() as u64 == mutators
+                && core.step(Event::ReadEpoch { owner: 0 }) == Reply::Epoch(epoch)
+        }
+        Err(_) => false,
+    }
+}
+
+/// Whether no core has this shape.
+fn has_no_core(alloc: Global, logs: u64, mutators: u64, epoch: u64) -> bool {
+    let shape = Shape {
+        logs,
+        mutators,
+        epoch,
+    };
+    !shape.is_in_range() && matches!(Core::new(alloc, shape, true), Err(Refused::Shape))
 }
 
 #[test]
-fn shapes_end_where_they_should(rt: HostRuntime) -> Result<(), Fail> {
-    let last = (1 << 62) - 1;
-    for (logs, mutators, epoch) in [(2, 1, 0), (64, 8, 0), (2, 8, last), (64, 1, last)] {
-        let shape = Shape {
-            logs,
-            mutators,
-            epoch,
-        };
-        assert!(rt; shape.is_in_range(), "at {shape:?}");
-        let mut core = Core::new(rt.alloc(), shape, true)?;
-        assert!(rt; (core.logs() as u64, core.mutators() as u64) == (logs, mutators));
-        let reply = core.step(Event::ReadEpoch { owner: 0 });
-        assert_eq!(rt; reply, Reply::Epoch(epoch), "at {shape:?}");
-    }
-    for (logs, mutators, epoch) in [
-        (1, 1, 0),
-        (0, 1, 0),
-        (65, 1, 0),
-        (4, 0, 0),
-        (4, 9, 0),
-        (4, 1, 1 << 62),
-        (u64::MAX, u64::MAX, u64::MAX),
-    ] {
-        let shape = Shape {
-            logs,
-            mutators,
-            epoch,
-        };
-        assert!(rt; !shape.is_in_range(), "at {shape:?}");
-        let refused = Core::new(rt.alloc(), shape, true).err();
-        assert_eq!(rt; refused, Some(Refused::Shape), "at {shape:?}");
-    }
-    Ok(())
+fn shapes_end_where_they_should(rt: HostRuntime) {
+    let (alloc, last) = (rt.alloc(), (1 << 62) - 1);
+    assert!(rt; has_core(alloc, 2, 1, 0) && has_core(alloc, 64, 8, 0));
+    assert!(rt; has_core(alloc, 2, 8, last) && has_core(alloc, 64, 1, last));
+    assert!(rt; has_no_core(alloc, 1, 1, 0) && has_no_core(alloc, 0, 1, 0));
+    assert!(rt; has_no_core(alloc, 65, 1, 0) && has_no_core(alloc, 4, 0, 0));
+    assert!(rt; has_no_core(alloc, 4, 9, 0) && has_no_core(alloc, 4, 1, 1 << 62));
+    assert!(rt; has_no_core(alloc, u64::MAX, u64::MAX, u64::MAX));
 }
 
 #[test]
-fn laws_can_be_called(rt: HostRuntime) -> Result<(), Fail> {
-    let core = peopled(&rt, rt.alloc())?;
+fn laws_can_be_called(rt: HostRuntime) {
+    let core = peopled(&rt, rt.alloc());
     core.keeps_law();
     core.spans_fill_logs();
     core.bytes_make_log();
@@ -205,5 +219,4 @@ fn laws_can_be_called(rt: HostRuntime) -> Result<(), Fail> {
     opening_is_start(SMALL, true);
     steps_keep_views();
     events_leave_others();
-    Ok(())
 }

@@ -1,11 +1,10 @@
 //! Each event with its guard false, in each way.
 
 use super::*;
-use std::test::Fail;
 
 #[test]
-fn scopes_refuse(rt: HostRuntime) -> Result<(), Fail> {
-    let core = peopled(&rt, rt.alloc())?;
+fn scopes_refuse(rt: HostRuntime) {
+    let core = peopled(&rt, rt.alloc());
     goes_so(
         &rt,
         core,
@@ -23,12 +22,11 @@ fn scopes_refuse(rt: HostRuntime) -> Result<(), Fail> {
             Event::Close { owner: 255 },
         ],
     );
-    Ok(())
 }
 
 #[test]
-fn views_refuse(rt: HostRuntime) -> Result<(), Fail> {
-    let core = peopled(&rt, rt.alloc())?;
+fn views_refuse(rt: HostRuntime) {
+    let core = peopled(&rt, rt.alloc());
     goes_so(
         &rt,
         core,
@@ -52,12 +50,11 @@ fn views_refuse(rt: HostRuntime) -> Result<(), Fail> {
             load(255, u16::MAX, 0),
         ],
     );
-    Ok(())
 }
 
 #[test]
-fn stores_refuse(rt: HostRuntime) -> Result<(), Fail> {
-    let core = peopled(&rt, rt.alloc())?;
+fn stores_refuse(rt: HostRuntime) {
+    let core = peopled(&rt, rt.alloc());
     goes_so(
         &rt,
         core,
@@ -75,12 +72,11 @@ fn stores_refuse(rt: HostRuntime) -> Result<(), Fail> {
             store(255, u16::MAX, 0, 1),
         ],
     );
-    Ok(())
 }
 
 #[test]
-fn adoptions_refuse(rt: HostRuntime) -> Result<(), Fail> {
-    let core = peopled(&rt, rt.alloc())?;
+fn adoptions_refuse(rt: HostRuntime) {
+    let core = peopled(&rt, rt.alloc());
     goes_so(
         &rt,
         core,
@@ -94,12 +90,11 @@ fn adoptions_refuse(rt: HostRuntime) -> Result<(), Fail> {
             adopt(255, u16::MAX),
         ],
     );
-    Ok(())
 }
 
 #[test]
-fn puts_refuse(rt: HostRuntime) -> Result<(), Fail> {
-    let core = peopled(&rt, rt.alloc())?;
+fn puts_refuse(rt: HostRuntime) {
+    let core = peopled(&rt, rt.alloc());
     goes_so(
         &rt,
         core,
@@ -114,13 +109,12 @@ fn puts_refuse(rt: HostRuntime) -> Result<(), Fail> {
             write(255, 127, 0),
         ],
     );
-    Ok(())
 }
 
 #[test]
-fn words_that_name_nothing_refuse(rt: HostRuntime) -> Result<(), Fail> {
-    let mut core = peopled(&rt, rt.alloc())?;
-    answers(&rt, &mut core, &[put(0, 9, header(3, 8, 1))]);
+fn words_that_name_nothing_refuse(rt: HostRuntime) {
+    let mut core = peopled(&rt, rt.alloc());
+    answers(&rt, &mut core, &[put(0, 9, 0xa100_0000_0301_0008)]);
     refuses(
         &rt,
         &mut core,
@@ -148,19 +142,18 @@ fn words_that_name_nothing_refuse(rt: HostRuntime) -> Result<(), Fail> {
         ],
     );
     answers(&rt, &mut core, &[named(3, 0x8400_0000_0901_0008)]);
-    Ok(())
 }
 
 #[test]
-fn places_that_are_not_next_refuse(rt: HostRuntime) -> Result<(), Fail> {
-    let core = peopled(&rt, rt.alloc())?;
+fn places_that_are_not_next_refuse(rt: HostRuntime) {
+    let core = peopled(&rt, rt.alloc());
     goes_so(
         &rt,
         core,
         &[
-            put(0, 11, header(3, 8, 1)),
-            put(1, 1, header(3, 8, 1)),
-            put(0, 9, header(256, 8, 1)),
+            put(0, 11, 0xa100_0000_0301_0008),
+            put(1, 1, 0xa100_0000_0301_0008),
+            put(0, 9, 0xa100_0001_0001_0008),
         ],
         &[
             name(3, 0, 0x8400_0000_0b01_0008),
@@ -172,14 +165,17 @@ fn places_that_are_not_next_refuse(rt: HostRuntime) -> Result<(), Fail> {
             name(1, 0, 0x8400_0000_0301_0008),
         ],
     );
-    Ok(())
 }
 
 #[test]
-fn data_that_is_not_zero_refuses(rt: HostRuntime) -> Result<(), Fail> {
-    let mut core = peopled(&rt, rt.alloc())?;
+fn data_that_is_not_zero_refuses(rt: HostRuntime) {
+    let mut core = peopled(&rt, rt.alloc());
     let new = 0x8400_0000_0901_0009;
-    answers(&rt, &mut core, &[put(0, 9, header(3, 9, 1)), put(0, 10, 1)]);
+    answers(
+        &rt,
+        &mut core,
+        &[put(0, 9, 0xa100_0000_0301_0009), put(0, 10, 1)],
+    );
     refuses(&rt, &mut core, &[name(3, 0, new)]);
     answers(&rt, &mut core, &[put(0, 10, 0), put(0, 11, 1 << 63)]);
     refuses(&rt, &mut core, &[name(3, 0, new)]);
@@ -189,18 +185,17 @@ fn data_that_is_not_zero_refuses(rt: HostRuntime) -> Result<(), Fail> {
         &[put(0, 11, 0), put(0, 12, 1), named(3, new)],
     );
     assert!(rt; log_shown(&rt, &core, 0) == (Kind::Open, 12));
-    Ok(())
 }
 
 #[test]
-fn sealed_log_refuses(rt: HostRuntime) -> Result<(), Fail> {
-    let mut core = peopled(&rt, rt.alloc())?;
+fn sealed_log_refuses(rt: HostRuntime) {
+    let mut core = peopled(&rt, rt.alloc());
     answers(
         &rt,
         &mut core,
         &[
-            put(0, 9, header(4, 8, 1)),
-            put(2, 0, header(3, 8, 1)),
+            put(0, 9, 0xa100_0000_0401_0008),
+            put(2, 0, 0xa100_0000_0301_0008),
             named(3, 0x8400_0008_0001_0008),
         ],
     );
@@ -215,5 +210,4 @@ fn sealed_log_refuses(rt: HostRuntime) -> Result<(), Fail> {
             write(0, 127, 0),
         ],
     );
-    Ok(())
 }

@@ -2,7 +2,8 @@
 
 use super::*;
 use far_word::Mark;
-use std::test::Fail;
+
+const HEADER: u64 = 0xa100_0000_0001_0008;
 
 const NEAR: u64 = 0x8400_0000_0001_0008;
 
@@ -47,25 +48,25 @@ fn closed(owner: u8) -> (Event, Reply) {
 }
 
 /// A core whose sealed log 0 has pointer 0's object, which its owner uses, and whose log 1 is open, with pointer 1's.
-fn settled(rt: &impl Abort, alloc: Global, shape: Shape) -> Result<Core, Refused> {
-    let mut core = Core::new(alloc, shape, true)?;
+fn settled(rt: &impl Abort, alloc: Global, shape: Shape) -> Core {
+    let mut core = made(rt, alloc, shape, true);
     answers(
         rt,
         &mut core,
         &[
-            put(0, 0, header(0, 8, 1)),
+            put(0, 0, HEADER),
             named(0, NEAR),
-            put(1, 0, header(1, 8, 1)),
+            put(1, 0, 0xa100_0000_0101_0008),
             named(1, NEXT),
             adopted(0, 0, NEAR),
         ],
     );
-    Ok(core)
+    core
 }
 
 #[test]
-fn a_round_begins(rt: HostRuntime) -> Result<(), Fail> {
-    let mut core = settled(&rt, rt.alloc(), SMALL)?;
+fn a_round_begins(rt: HostRuntime) {
+    let mut core = settled(&rt, rt.alloc(), SMALL);
     refuses(
         &rt,
         &mut core,
@@ -88,12 +89,11 @@ fn a_round_begins(rt: HostRuntime) -> Result<(), Fail> {
     assert!(rt; !core.is_in_round(1));
     assert!(rt; !core.is_clear(0));
     assert!(rt; core.epoch() == 1);
-    Ok(())
 }
 
 #[test]
-fn a_dropped_object_is_marked_too(rt: HostRuntime) -> Result<(), Fail> {
-    let mut core = settled(&rt, rt.alloc(), SMALL)?;
+fn a_dropped_object_is_marked_too(rt: HostRuntime) {
+    let mut core = settled(&rt, rt.alloc(), SMALL);
     let ask = Event::Ask {
         owner: 0,
         pointer: 0,
@@ -102,25 +102,23 @@ fn a_dropped_object_is_marked_too(rt: HostRuntime) -> Result<(), Fail> {
     answers(&rt, &mut core, &[(ask, Reply::Word(NEAR))]);
     refuses(&rt, &mut core, &[advance(1)]);
     answers(&rt, &mut core, &[marked(0, NEAR | 1 << 59), advanced(1, 1)]);
-    Ok(())
 }
 
 #[test]
-fn the_epoch_stays_below_its_end(rt: HostRuntime) -> Result<(), Fail> {
+fn the_epoch_stays_below_its_end(rt: HostRuntime) {
     let shape = Shape {
         logs: 4,
         mutators: 1,
         epoch: (1 << 62) - 2,
     };
-    let mut core = Core::new(rt.alloc(), shape, true)?;
+    let mut core = made(&rt, rt.alloc(), shape, true);
     answers(&rt, &mut core, &[advanced(0, (1 << 62) - 1)]);
     refuses(&rt, &mut core, &[advance(0)]);
-    Ok(())
 }
 
 #[test]
-fn who_is_seen_clear(rt: HostRuntime) -> Result<(), Fail> {
-    let mut core = settled(&rt, rt.alloc(), TWO_OWNERS)?;
+fn who_is_seen_clear(rt: HostRuntime) {
+    let mut core = settled(&rt, rt.alloc(), TWO_OWNERS);
     answers(
         &rt,
         &mut core,
@@ -154,13 +152,12 @@ fn who_is_seen_clear(rt: HostRuntime) -> Result<(), Fail> {
     answers(&rt, &mut core, &[advanced(1, 7)]);
     assert!(rt; !core.is_clear(0));
     assert!(rt; !core.is_clear(1));
-    Ok(())
 }
 
 /// An owner reads the epoch before it rises and opens its scope at it after: it was seen clear, and its pin finds EVAC.
 #[test]
-fn a_stale_epoch_views_nothing(rt: HostRuntime) -> Result<(), Fail> {
-    let mut core = settled(&rt, rt.alloc(), SMALL)?;
+fn a_stale_epoch_views_nothing(rt: HostRuntime) {
+    let mut core = settled(&rt, rt.alloc(), SMALL);
     answers(
         &rt,
         &mut core,
@@ -179,13 +176,12 @@ fn a_stale_epoch_views_nothing(rt: HostRuntime) -> Result<(), Fail> {
         ],
     );
     assert!(rt; !core.is_held(0));
-    Ok(())
 }
 
 /// A whole round: its object goes far once its owner is seen clear, and its log is given back.
 #[test]
-fn a_round_sends_an_object_far(rt: HostRuntime) -> Result<(), Fail> {
-    let mut core = settled(&rt, rt.alloc(), SMALL)?;
+fn a_round_sends_an_object_far(rt: HostRuntime) {
+    let mut core = settled(&rt, rt.alloc(), SMALL);
     answers(&rt, &mut core, &[looked(0, 0), marked(0, NEAR)]);
     refuses(&rt, &mut core, &[name(0, WITH_EVAC, FAR)]);
     answers(&rt, &mut core, &[advanced(1, 1)]);
@@ -202,32 +198,26 @@ fn a_round_sends_an_object_far(rt: HostRuntime) -> Result<(), Fail> {
                     at: 0,
                     free: true,
                 },
-                Reply::Word(header(0, 8, 1)),
+                Reply::Word(HEADER),
             ),
         ],
     );
     assert!(rt; !core.is_in_round(0));
-    Ok(())
 }
 
 #[test]
-fn a_round_moves_an_object(rt: HostRuntime) -> Result<(), Fail> {
-    let mut core = settled(&rt, rt.alloc(), SMALL)?;
-    answers(
-        &rt,
-        &mut core,
-        &[marked(0, NEAR), put(1, 2, header(0, 8, 1))],
-    );
+fn a_round_moves_an_object(rt: HostRuntime) {
+    let mut core = settled(&rt, rt.alloc(), SMALL);
+    answers(&rt, &mut core, &[marked(0, NEAR), put(1, 2, HEADER)]);
     assert!(rt; core.may_advance(1));
     assert!(rt; core.advance(1) == 1);
     assert!(rt; core.look(0) == 0);
     answers(&rt, &mut core, &[(name(0, WITH_EVAC, MOVED), Reply::Done)]);
-    Ok(())
 }
 
 #[test]
-fn a_cleared_log_leaves_the_round(rt: HostRuntime) -> Result<(), Fail> {
-    let mut core = settled(&rt, rt.alloc(), SMALL)?;
+fn a_cleared_log_leaves_the_round(rt: HostRuntime) {
+    let mut core = settled(&rt, rt.alloc(), SMALL);
     answers(
         &rt,
         &mut core,
@@ -241,5 +231,4 @@ fn a_cleared_log_leaves_the_round(rt: HostRuntime) -> Result<(), Fail> {
     );
     assert!(rt; !core.is_in_round(0));
     refuses(&rt, &mut core, &[name(0, WITH_EVAC, FAR)]);
-    Ok(())
 }

@@ -2,15 +2,14 @@
 
 ghost use Rattle.std.specs.Prelude.{◌≡◌};
 
-use crate::tests::making::{home, is_so_of};
+use crate::tests::making::home;
 use far_book::{Beset, Book, Home};
 use far_core::{Core, Event, Shape};
 use far_device::MemDevice;
 use far_evac::{Census, Evac, LogState, Progress, RoundEnd};
 use far_log::{LogRow, Span};
 use far_policy::Oldest;
-use far_word::{LOG_BYTES, LONGEST, Mark, Place, Refused, size_of};
-use std::alloc::AllocError;
+use far_word::{LONGEST, Mark, Place, Refused, size_of};
 
 const SHAPE: Shape = Shape {
     logs: 6,
@@ -54,23 +53,38 @@ fn event_of(state: u64) -> Event {
     }
 }
 
-// Owners' events: they take their objects over once these are placed, do this and that, and close their scopes at last.
-fn events_from(rt: &HostRuntime, seed: u64) -> Result<Vec<Event>, AllocError> {
-    let mut events = Vec::new(rt.alloc());
-    events.resize(24, Event::Close { owner: 9 })?;
-    for pointer in [0u16, 1, 2, 3] {
-        events.push(Event::Adopt { owner: 0, pointer })?;
+// They take their objects over once these are placed: whether there is memory for that.
+fn adopts_all(events: &mut Vec<Event>) -> bool {
+    for pointer in 0..4u16 {
+        let first = Event::Adopt { owner: 0, pointer };
         let pointer = 128 + pointer;
-        events.push(Event::Adopt { owner: 1, pointer })?;
+        let second = Event::Adopt { owner: 1, pointer };
+        if events.push(first).is_err() || events.push(second).is_err() {
+            return false;
+        }
     }
+    true
+}
+
+// They do this and that.
+fn does_anything(events: &mut Vec<Event>, seed: u64) -> bool {
     let mut state = seed;
     for _ in 0..600u16 {
         state = next(state);
-        events.push(event_of(state))?;
+        if events.push(event_of(state)).is_err() {
+            return false;
+        }
     }
-    events.push(Event::Close { owner: 0 })?;
-    events.push(Event::Close { owner: 1 })?;
-    Ok(events)
+    true
+}
+
+// Owners' events: they take their objects over once these are placed, do this and that, and close their scopes at last.
+fn fills(events: &mut Vec<Event>, seed: u64) -> bool {
+    events.resize(24, Event::Close { owner: 9 }).is_ok()
+        && adopts_all(events)
+        && does_anything(events, seed)
+        && events.push(Event::Close { owner: 0 }).is_ok()
+        && events.push(Event::Close { owner: 1 }).is_ok()
 }
 
 #[tactic(auto, using(crate::proofs::Uses::beset_start))]
@@ -105,7 +119,7 @@ fn places_ten(evac: &mut Evac<Beset, MemDevice>) -> bool {
             return false;
         }
     }
-    places_two(evac, LONGEST)
+    places_two(evac, 1016)
 }
 
 // What a round of logs 0 and 1 has done, if it ended and gave both back.
@@ -149,7 +163,7 @@ fn adds_up(evac: &mut Evac<Beset, MemDevice>, row: LogRow) -> bool {
     };
     let (live, dead) = weighed(evac, row.log, &spans);
     let placed = live.saturating_add(dead);
-    row.live == live && row.dead == dead && row.unused == LOG_BYTES.saturating_sub(placed)
+    row.live == live && row.dead == dead && row.unused == 1024u16.saturating_sub(placed)
 }
 
 fn has_drop(home: Home) -> bool {
@@ -232,10 +246,14 @@ fn ends_well(evac: &mut Evac<Beset, MemDevice>, seen: &mut Seen) -> bool {
 
 // Whether it is so beside the owners of one seed.
 fn ends_beside(rt: &HostRuntime, seed: u64, seen: &mut Seen) -> bool {
-    let Ok(events) = events_from(rt, seed) else {
+    let mut events = Vec::new(rt.alloc());
+    if !fills(&mut events, seed) {
         return false;
-    };
-    is_so_of(beset(rt, events), |evac| ends_well(evac, seen))
+    }
+    match beset(rt, events) {
+        Ok(mut evac) => ends_well(&mut evac, seen),
+        Err(_) => false,
+    }
 }
 
 // In each of many rounds; some of them move, some send far, and some retire.

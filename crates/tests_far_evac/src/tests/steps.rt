@@ -1,6 +1,6 @@
 //! A round's calls, each with the answer that is wanted, and what a census counts.
 
-use far_book::{Near, Home, Plain};
+use far_book::{Home, Near, Plain};
 use far_device::{Device, MemDevice};
 use far_evac::{Census, Evac, EvacFault, Marked, Phase, Polled, Progress, RoundEnd};
 use far_policy::Policy;

@@ -3,7 +3,8 @@
 ghost use Rattle.std.specs.Prelude.{◌≡◌};
 
 use crate::tests::flag::Tally;
-use crate::tests::looks::{blank, has_objects, sized};
+use crate::tests::lend::of_book;
+use crate::tests::looks::{has_objects, new_blank, sized};
 use crate::tests::writers::Writer;
 use far_device::MemDevice;
 use far_evac::RoundEnd;
@@ -12,7 +13,6 @@ use far_policy::Oldest;
 use std::alloc::{AllocError, Global};
 use std::marker::Brand;
 use std::sync::Wait;
-use std::test::Fail;
 use std::thread;
 use std::thread::Threads;
 
@@ -184,18 +184,19 @@ fn ends_with_a_round<K: HeapName, R: Wait>(rt: &R, heap: &Heap<K, MemDevice>) ->
     matches!(end, Ok(RoundEnd::Done(_)) | Ok(RoundEnd::Nothing))
 }
 
+// Whether one more round comes, and all objects are there.
+fn stands<K: HeapName, R: Wait>(rt: &R, heap: &Heap<K, MemDevice>) -> bool {
+    ends_with_a_round(rt, heap) && of_book!(rt, heap, book, has_objects(book, 64))
+}
+
 // How many rounds were done while all wrote; `None` where something was wrong.
-fn made_beside<K: HeapName + Send + Sync, R: Threads + Wait + Sync>(
+fn works_beside<K: HeapName + Send + Sync, R: Threads + Wait + Sync>(
     rt: &R,
     alloc: Global,
-    blank: Blank<MemDevice>,
+    heap: &Heap<K, MemDevice>,
+    mutators: Vec<Mutator<K, MemDevice>>,
     plan: Plan,
-) -> Option<u64>
-    requires { blank.heap ≡ K.heap }
-{
-    let Ok((heap, mutators)) = Heap::<K, MemDevice>::new(alloc, blank) else {
-        return None;
-    };
+) -> Option<u64> {
     let Ok(jobs) = jobs_of(alloc, mutators) else {
         return None;
     };
@@ -204,18 +205,30 @@ fn made_beside<K: HeapName + Send + Sync, R: Threads + Wait + Sync>(
         ended: Tally::new(),
         rounds: Tally::new(),
     };
-    let (shared, beside) = (&heap, &gate);
-    let Ok(done) = thread::map_vec(rt, jobs, &|job| run(rt, shared, beside, plan, job)) else {
+    let beside = &gate;
+    let Ok(done) = thread::map_vec(rt, jobs, &|job| run(rt, heap, beside, plan, job)) else {
         return None;
     };
-    if !ends_with_a_round(rt, &heap) || !has_objects(&mut *heap.book(rt), 64) {
-        return None;
+    let (came, right) = (stands(rt, heap), are_right(rt, done));
+    (came && right).then_some(gate.rounds.count())
+}
+
+fn made_beside<K: HeapName + Send + Sync, R: Threads + Wait + Sync>(
+    rt: &R,
+    alloc: Global,
+    blank: Blank<MemDevice>,
+    plan: Plan,
+) -> Option<u64>
+    requires { blank.heap ≡ K.heap }
+{
+    match Heap::<K, MemDevice>::new(alloc, blank) {
+        Ok((heap, mutators)) => works_beside(rt, alloc, &heap, mutators, plan),
+        Err(_) => None,
     }
-    are_right(rt, done).then_some(gate.rounds.count())
 }
 
 #[test]
-fn rounds_beside_writers(rt: HostRuntime) -> Result<(), Fail> {
+fn rounds_beside_writers(rt: HostRuntime) {
     let plan = Plan {
         work: Work {
             least: 10,
@@ -226,15 +239,14 @@ fn rounds_beside_writers(rt: HostRuntime) -> Result<(), Fail> {
         turns: 100,
         stops: false,
     };
-    let blank = blank(&rt, sized(16, WRITERS))?;
+    let blank = new_blank(&rt, rt.alloc(), sized(16, WRITERS));
     let made = made_beside::<Brand, _>(&rt, rt.alloc(), blank, plan);
     assert!(rt; made.is_some());
-    Ok(())
 }
 
 // The writers go on until enough rounds were done, however fast the machine is.
 #[test]
-fn rounds_while_writing(rt: HostRuntime) -> Result<(), Fail> {
+fn rounds_while_writing(rt: HostRuntime) {
     let plan = Plan {
         work: Work {
             least: 20,
@@ -245,8 +257,7 @@ fn rounds_while_writing(rt: HostRuntime) -> Result<(), Fail> {
         turns: 100_000,
         stops: true,
     };
-    let blank = blank(&rt, sized(16, WRITERS))?;
+    let blank = new_blank(&rt, rt.alloc(), sized(16, WRITERS));
     let made = made_beside::<Brand, _>(&rt, rt.alloc(), blank, plan);
     assert!(rt; matches!(made, Some(rounds) if rounds >= 20), "{made:?}");
-    Ok(())
 }

@@ -4,7 +4,7 @@ ghost use Rattle.std.specs.Prelude.{◌≡◌};
 
 use crate::tests::flag::Tally;
 use crate::tests::lend::{Lent, closed, opened};
-use crate::tests::looks::{blank, is_marked, is_unpinned, sized};
+use crate::tests::looks::{is_marked, is_unpinned, new_blank, sized};
 use far_device::MemDevice;
 use far_evac::{LogKind, Phase, RoundEnd};
 use far_heap::{Blank, Evacuator, Heap, HeapName, Mutator, Scope, Tried};
@@ -13,7 +13,6 @@ use far_word::LONGEST;
 use std::alloc::Global;
 use std::marker::Brand;
 use std::sync::Wait;
-use std::test::Fail;
 use std::thread::{Threads, join};
 
 /// How many objects there are, each of which takes 16 bytes.
@@ -192,10 +191,9 @@ fn run_rounds<K: HeapName + Send + Sync, R: Threads + Wait + Sync>(
 
 // A log has 64 objects, and a turn deals with 16: so there are moments between two turns.
 #[test]
-fn the_lock_is_let_go_between_turns(rt: HostRuntime) -> Result<(), Fail> {
+fn the_lock_is_let_go_between_turns(rt: HostRuntime) {
     let alloc = rt.alloc();
-    assert!(rt; run_rounds::<Brand, HostRuntime>(&rt, alloc, blank(&rt, sized(8, 1))?));
-    Ok(())
+    assert!(rt; run_rounds::<Brand, HostRuntime>(&rt, alloc, new_blank(&rt, alloc, sized(8, 1))));
 }
 
 // Whether a new object of a whole log is made and dropped, so that the log before it is sealed.
@@ -348,8 +346,7 @@ fn run_views<K: HeapName + Send + Sync, R: Threads + Wait + Sync>(
 
 // What a view has brought near is pinned under the same hold of the lock.
 #[test]
-fn a_fetched_object_is_pinned_before_the_lock_is_let_go(rt: HostRuntime) -> Result<(), Fail> {
+fn a_fetched_object_is_pinned_before_the_lock_is_let_go(rt: HostRuntime) {
     let alloc = rt.alloc();
-    assert!(rt; run_views::<Brand, HostRuntime>(&rt, alloc, blank(&rt, sized(16, 1))?));
-    Ok(())
+    assert!(rt; run_views::<Brand, HostRuntime>(&rt, alloc, new_blank(&rt, alloc, sized(16, 1))));
 }

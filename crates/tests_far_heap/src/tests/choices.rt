@@ -2,8 +2,8 @@
 
 ghost use Rattle.std.specs.Prelude.{◌≡◌};
 
-use crate::tests::lend::{Lent, Trial, of_book, try_one};
-use crate::tests::looks::{blank, is_far, is_free, is_log, is_near, sized};
+use crate::tests::lend::{Lent, Trial, of_book, try_one_in_memory};
+use crate::tests::looks::{is_far, is_free, is_log, is_near, sized};
 use crate::tests::steps::{gives_up, progress};
 use far_device::MemDevice;
 use far_evac::{LogKind, Phase, RoundEnd};
@@ -12,7 +12,6 @@ use far_log::LogRow;
 use far_policy::{Chosen, Policy, Scripted};
 use far_word::{LOG_BYTES, LONGEST, Refused};
 use std::sync::Wait;
-use std::test::Fail;
 
 /// Takes one log, and counts how often it is asked.
 #[derive(Clone, Copy)]
@@ -92,10 +91,8 @@ impl Trial<MemDevice> for Limited {
 }
 
 #[test]
-fn a_limit_leaves_the_round_standing(rt: HostRuntime) -> Result<(), Fail> {
-    let alloc = rt.alloc();
-    assert!(rt; try_one(&rt, alloc, blank(&rt, sized(6, 1))?, &Limited));
-    Ok(())
+fn a_limit_leaves_the_round_standing(rt: HostRuntime) {
+    assert!(rt; try_one_in_memory(&rt, rt.alloc(), sized(6, 1), &Limited));
 }
 
 // Whether the second log alone was given back, and its object alone went far.
@@ -132,8 +129,6 @@ impl Trial<MemDevice> for ChosenAlone {
 }
 
 #[test]
-fn a_round_empties_what_its_policy_chose(rt: HostRuntime) -> Result<(), Fail> {
-    let alloc = rt.alloc();
-    assert!(rt; try_one(&rt, alloc, blank(&rt, sized(6, 1))?, &ChosenAlone));
-    Ok(())
+fn a_round_empties_what_its_policy_chose(rt: HostRuntime) {
+    assert!(rt; try_one_in_memory(&rt, rt.alloc(), sized(6, 1), &ChosenAlone));
 }

@@ -7,17 +7,17 @@ ghost use Rattle.far_device.specs.Following.{Follows, any_key, other_than};
 ghost use Rattle.far_device.specs.Mem.{bytes_at, faults_of};
 ghost use Rattle.far_device.specs.Wrapping.{wrapped_below};
 
-use crate::tests::lend::{Lent, Trial, of_book, opened, try_one};
+use crate::tests::lend::{Lent, Trial, of_book, opened, try_over};
 use crate::tests::looks::{is_far, is_log, is_near, sized};
 use crate::tests::scopes::{EIGHT, is_slow, reads, reads_slowly, writes};
 use crate::tests::steps::{deals, runs_none, runs_through};
 use far_device::{Device, DeviceFault, MemDevice, hand_over};
 use far_evac::{LogKind, Phase};
-use far_heap::{Blank, Evacuator, Heap, HeapName, Scope};
+use far_heap::{Evacuator, Heap, HeapName, Scope};
 use far_policy::{Oldest, Scripted};
-use far_word::{LOG_BYTES, LONGEST, Refused};
+use far_word::Refused;
+use std::alloc::Global;
 use std::sync::Wait;
-use std::test::Fail;
 
 // One read of what is in memory, with its answer taken apart.
 fn read_inner(inner: &mut MemDevice, id: u32) -> Result<Vec<u8>, DeviceFault>
@@ -47,7 +47,7 @@ fn read_short(inner: &mut MemDevice, id: u32) -> Result<Vec<u8>, DeviceFault>
 }
 
 /// What one of its calls does in place of what was asked.
-#[derive(Clone, Copy, Debug, PartialEq, Eq)]
+#[derive(Clone, Copy)]
 enum Fault {
     /// It fails so.
     Fails(DeviceFault),
@@ -143,15 +143,14 @@ impl Device for Faulty {
     }
 }
 
-// The parts of a heap of four logs over one whose call after so many has this fault.
-fn over_faulty(rt: &HostRuntime, before: u64, fault: Fault) -> Result<Blank<Faulty>, Refused> {
-    let device = Faulty {
-        inner: MemDevice::new(rt.alloc()),
+// One whose call after so many has this fault.
+fn faulty_device(alloc: Global, before: u64, fault: Fault) -> Faulty {
+    Faulty {
+        inner: MemDevice::new(alloc),
         before,
         fault: Some(fault),
         faults: 0,
-    };
-    Blank::new(rt.alloc(), sized(4, 1), device)
+    }
 }
 
 // Whether the first object is written, and a round has moved it to log 2, which is sealed then.
@@ -161,10 +160,10 @@ pub(super) fn comes_to_log_two<K: HeapName, D: Device + Drop, R: Wait>(
     lent: &mut Lent<K, D>,
 ) -> bool {
     lent.makes(rt, 8, 0)
-        && lent.makes(rt, LONGEST, 1)
+        && lent.makes(rt, 1016, 1)
         && opened!(lent, scope, writes(scope, 0, EIGHT))
         && runs_through(rt, heap, &mut Oldest, [1, 0, 0, 1])
-        && lent.makes(rt, LONGEST, 2)
+        && lent.makes(rt, 1016, 2)
 }
 
 // Whether a round of log 2 sends its object far.
@@ -222,27 +221,23 @@ impl Trial<Faulty> for RefusedView {
     }
 }
 
-// The device's read, its second call, has a fault under a view.
+// Whether a view comes out so where the device's read, its second call, has this fault.
+fn view_comes_out<R: Wait>(rt: &R, alloc: Global, fault: Fault, why: Refused) -> bool {
+    let device = faulty_device(alloc, 1, fault);
+    try_over(rt, alloc, sized(4, 1), device, &RefusedView { why })
+}
+
 #[test]
-fn a_refused_view_may_be_tried_again(rt: HostRuntime) -> Result<(), Fail> {
-    let alloc = rt.alloc();
-    for (fault, why) in [
-        (Fault::Fails(DeviceFault::Device), Refused::Device),
-        (Fault::Fails(DeviceFault::Memory), Refused::Memory),
-        (Fault::Short, Refused::Damaged),
-    ] {
-        let blank = over_faulty(&rt, 1, fault)?;
-        assert!(rt;
-            try_one(&rt, alloc, blank, &RefusedView { why }),
-            "at {why:?}"
-        );
-    }
-    Ok(())
+fn a_refused_view_may_be_tried_again(rt: HostRuntime) {
+    let (fails, lacks) = (DeviceFault::Device, DeviceFault::Memory);
+    assert!(rt; view_comes_out(&rt, rt.alloc(), Fault::Fails(fails), Refused::Device));
+    assert!(rt; view_comes_out(&rt, rt.alloc(), Fault::Fails(lacks), Refused::Memory));
+    assert!(rt; view_comes_out(&rt, rt.alloc(), Fault::Short, Refused::Damaged));
 }
 
 // Whether the round stands where the object is to leave, which is there.
 fn stands<K: HeapName>(book: &mut Evacuator<K, Faulty>) -> bool {
-    book.phase() == Phase::Evacuating && is_log(book, 2, LogKind::Chosen, [16, 0, LOG_BYTES - 16])
+    book.phase() == Phase::Evacuating && is_log(book, 2, LogKind::Chosen, [16, 0, 1008])
 }
 
 // Whether the round goes on then.
@@ -254,7 +249,7 @@ fn goes_on<K: HeapName>(book: &mut Evacuator<K, Faulty>) -> bool {
 fn gives_up<K: HeapName>(book: &mut Evacuator<K, Faulty>) -> bool {
     book.abort().is_ok()
         && is_near(book, 0, (2, 0), false)
-        && is_log(book, 2, LogKind::Sealed, [16, 0, LOG_BYTES - 16])
+        && is_log(book, 2, LogKind::Sealed, [16, 0, 1008])
 }
 
 // Whether the round goes on, or is given up.
@@ -289,21 +284,24 @@ impl Trial<Faulty> for RefusedRound {
     }
 }
 
-// The device's write, its first call, fails under a round, which goes on, or is given up.
+// Whether a round comes out so where the device's write, its first call, fails: it goes on, or is given up.
+fn round_comes_out<R: Wait>(rt: &R, alloc: Global, fault: DeviceFault, run: RefusedRound) -> bool {
+    let device = faulty_device(alloc, 0, Fault::Fails(fault));
+    try_over(rt, alloc, sized(4, 1), device, &run)
+}
+
+// Whether both do.
+fn rounds_come_out<R: Wait>(rt: &R, alloc: Global, fault: DeviceFault, why: Refused) -> bool {
+    let on = RefusedRound { why, goes_on: true };
+    let over = RefusedRound {
+        why,
+        goes_on: false,
+    };
+    round_comes_out(rt, alloc, fault, on) && round_comes_out(rt, alloc, fault, over)
+}
+
 #[test]
-fn a_refused_round_may_go_on(rt: HostRuntime) -> Result<(), Fail> {
-    let alloc = rt.alloc();
-    for (fault, why, goes_on) in [
-        (DeviceFault::Device, Refused::Device, true),
-        (DeviceFault::Device, Refused::Device, false),
-        (DeviceFault::Memory, Refused::Memory, true),
-        (DeviceFault::Memory, Refused::Memory, false),
-    ] {
-        let blank = over_faulty(&rt, 0, Fault::Fails(fault))?;
-        assert!(rt;
-            try_one(&rt, alloc, blank, &RefusedRound { why, goes_on }),
-            "at {why:?}"
-        );
-    }
-    Ok(())
+fn a_refused_round_may_go_on(rt: HostRuntime) {
+    assert!(rt; rounds_come_out(&rt, rt.alloc(), DeviceFault::Device, Refused::Device));
+    assert!(rt; rounds_come_out(&rt, rt.alloc(), DeviceFault::Memory, Refused::Memory));
 }

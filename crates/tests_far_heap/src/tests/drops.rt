@@ -1,7 +1,7 @@
 //! A drop beside a running round frees its cell at once, in each phase of the round.
 
-use crate::tests::lend::{Lent, Trial, of_book, opened, try_one};
-use crate::tests::looks::{blank, is_gone, sized};
+use crate::tests::lend::{Lent, Trial, of_book, opened, try_one_in_memory};
+use crate::tests::looks::{is_gone, sized};
 use crate::tests::steps::{deals, is_clear, marks, selects};
 use far_device::MemDevice;
 use far_evac::Phase;
@@ -9,7 +9,6 @@ use far_heap::{Evacuator, Heap, HeapName, Scope};
 use far_policy::Oldest;
 use far_word::LONGEST;
 use std::sync::Wait;
-use std::test::Fail;
 
 // Six objects in the first log, and one that fills the next.
 fn makes_seven<K: HeapName, R: Wait>(rt: &R, lent: &mut Lent<K, MemDevice>) -> bool {
@@ -76,11 +75,6 @@ fn begins<K: HeapName>(book: &mut Evacuator<K, MemDevice>) -> bool {
     selects(book, &mut Oldest, 1, &[0]) && marks(book, 1, 1, None)
 }
 
-// Whether the round waits for nobody, and has come to where objects leave.
-fn comes_to_leaving<K: HeapName>(book: &mut Evacuator<K, MemDevice>) -> bool {
-    is_clear(book)
-}
-
 // Whether nothing is left to be marked.
 fn waits<K: HeapName>(book: &mut Evacuator<K, MemDevice>) -> bool {
     marks(book, 9, 4, Some(1))
@@ -89,6 +83,29 @@ fn waits<K: HeapName>(book: &mut Evacuator<K, MemDevice>) -> bool {
 // Whether the log is given back, with nothing that lives there.
 fn gives_back<K: HeapName>(book: &mut Evacuator<K, MemDevice>) -> bool {
     deals(book, 9, [0, 0, 0, 1], true)
+}
+
+// Whether two are dropped while a round marks, and two while it waits.
+fn frees_before_leaving<K: HeapName, R: Wait>(
+    rt: &R,
+    heap: &Heap<K, MemDevice>,
+    lent: &mut Lent<K, MemDevice>,
+) -> bool {
+    of_book!(rt, heap, book, begins(book))
+        && frees_two(rt, heap, lent, 0, Phase::Marking)
+        && of_book!(rt, heap, book, waits(book))
+        && frees_two(rt, heap, lent, 2, Phase::Waiting)
+}
+
+// Whether the last two are dropped where objects leave, and the log is given back.
+fn frees_at_last<K: HeapName, R: Wait>(
+    rt: &R,
+    heap: &Heap<K, MemDevice>,
+    lent: &mut Lent<K, MemDevice>,
+) -> bool {
+    of_book!(rt, heap, book, is_clear(book))
+        && frees_two(rt, heap, lent, 4, Phase::Evacuating)
+        && of_book!(rt, heap, book, gives_back(book))
 }
 
 // A round whose objects are dropped in its phases.
@@ -102,19 +119,12 @@ impl Trial<MemDevice> for DroppedInRound {
         lent: &mut Lent<K, MemDevice>,
     ) -> bool {
         makes_seven(rt, lent)
-            && of_book!(rt, heap, book, begins(book))
-            && frees_two(rt, heap, lent, 0, Phase::Marking)
-            && of_book!(rt, heap, book, waits(book))
-            && frees_two(rt, heap, lent, 2, Phase::Waiting)
-            && of_book!(rt, heap, book, comes_to_leaving(book))
-            && frees_two(rt, heap, lent, 4, Phase::Evacuating)
-            && of_book!(rt, heap, book, gives_back(book))
+            && frees_before_leaving(rt, heap, lent)
+            && frees_at_last(rt, heap, lent)
     }
 }
 
 #[test]
-fn a_drop_beside_a_round_frees_its_cell(rt: HostRuntime) -> Result<(), Fail> {
-    let alloc = rt.alloc();
-    assert!(rt; try_one(&rt, alloc, blank(&rt, sized(4, 1))?, &DroppedInRound));
-    Ok(())
+fn a_drop_beside_a_round_frees_its_cell(rt: HostRuntime) {
+    assert!(rt; try_one_in_memory(&rt, rt.alloc(), sized(4, 1), &DroppedInRound));
 }

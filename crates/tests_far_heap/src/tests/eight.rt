@@ -2,17 +2,17 @@
 
 ghost use Rattle.std.specs.Prelude.{◌≡◌};
 
-use crate::tests::looks::{blank, counts, has_objects, is_log, sized};
+use crate::tests::lend::of_book;
+use crate::tests::looks::{counts, has_objects, is_log, new_blank, sized};
 use crate::tests::scopes::{makes_none, reads_slowly, writes};
 use far_device::{Device, MemDevice};
 use far_evac::{LogKind, RoundEnd};
-use far_heap::{Blank, Evacuator, Heap, HeapName, Mutator};
+use far_heap::{Blank, Evacuator, Heap, HeapName, Mutator, Scope};
 use far_policy::Oldest;
 use far_word::{LOG_BYTES, Refused};
 use std::alloc::{AllocError, Global};
 use std::marker::Brand;
 use std::sync::Wait;
-use std::test::Fail;
 use std::thread;
 use std::thread::Threads;
 
@@ -46,6 +46,23 @@ fn bytes_of(pointer: u16) -> [u8; 8] {
     (pointer as u64).to_le_bytes()
 }
 
+// Whether so many objects of this length are made, each has its pointer, and is written.
+fn fills<K: HeapName, R: Wait>(
+    rt: &R,
+    scope: &mut Scope<K, MemDevice>,
+    number: u16,
+    objects: u16,
+    len: u16,
+) -> bool {
+    for cell in 0..objects {
+        let pointer = pointer_of(number, cell);
+        if scope.alloc(rt, len, 1) != Ok(pointer) || !writes(scope, pointer, bytes_of(pointer)) {
+            return false;
+        }
+    }
+    true
+}
+
 // Makes so many objects of this length, and writes each; `None` where one is refused, or has another pointer.
 fn filled<K: HeapName, R: Wait>(
     rt: &R,
@@ -55,30 +72,42 @@ fn filled<K: HeapName, R: Wait>(
 ) -> Option<Numbered<K>> {
     let Numbered { number, mutator } = one;
     let mut scope = mutator.open();
-    for cell in 0..objects {
-        let pointer = pointer_of(number, cell);
-        if scope.alloc(rt, len, 1) != Ok(pointer)
-            || !writes(&mut scope, pointer, bytes_of(pointer))
-        {
-            return None;
-        }
-    }
+    let done = fills(rt, &mut scope, number, objects, len);
     let mutator = scope.close();
-    Some(Numbered { number, mutator })
+    if done {
+        Some(Numbered { number, mutator })
+    } else {
+        None
+    }
 }
 
 // Whether each object has what was written, wherever it is.
+fn has_all<K: HeapName, R: Wait>(
+    rt: &R,
+    scope: &mut Scope<K, MemDevice>,
+    number: u16,
+    objects: u16,
+) -> bool {
+    for cell in 0..objects {
+        let pointer = pointer_of(number, cell);
+        if !reads_slowly(rt, scope, pointer, bytes_of(pointer)) {
+            return false;
+        }
+    }
+    true
+}
+
+// Reads each object; `None` where one has something else.
 fn read_back<K: HeapName, R: Wait>(rt: &R, one: Numbered<K>, objects: u16) -> Option<Numbered<K>> {
     let Numbered { number, mutator } = one;
     let mut scope = mutator.open();
-    for cell in 0..objects {
-        let pointer = pointer_of(number, cell);
-        if !reads_slowly(rt, &mut scope, pointer, bytes_of(pointer)) {
-            return None;
-        }
-    }
+    let done = has_all(rt, &mut scope, number, objects);
     let mutator = scope.close();
-    Some(Numbered { number, mutator })
+    if done {
+        Some(Numbered { number, mutator })
+    } else {
+        None
+    }
 }
 
 // All of these, if there is each.
@@ -140,6 +169,31 @@ fn is_full<K: HeapName, D: Device + Drop>(book: &mut Evacuator<K, D>) -> bool {
         && counts(book, 8, 0, LOG_BYTES as u64)
 }
 
+// Whether the log is full, and no round begins.
+fn stays_full<K: HeapName, R: Wait>(rt: &R, heap: &Heap<K, MemDevice>) -> bool {
+    of_book!(rt, heap, book, is_full(book))
+        && heap.run_round(rt, &mut Oldest, 2, 9) == Ok(RoundEnd::Nothing)
+}
+
+fn fill_two_logs<K: HeapName + Send + Sync, R: Threads + Wait + Sync>(
+    rt: &R,
+    alloc: Global,
+    heap: &Heap<K, MemDevice>,
+    mutators: Vec<Mutator<K, MemDevice>>,
+) -> bool {
+    let Ok(all) = with_numbers(alloc, mutators) else {
+        return false;
+    };
+    let Some(all) = all_filled(rt, alloc, all, 1, 120) else {
+        return false;
+    };
+    let stays = stays_full(rt, heap);
+    match all_read(rt, alloc, all, 1) {
+        Some(all) => all.len() == 8 && all_refused(rt, all, Refused::NoRoom) && stays,
+        None => false,
+    }
+}
+
 fn in_two_logs<K: HeapName + Send + Sync, R: Threads + Wait + Sync>(
     rt: &R,
     alloc: Global,
@@ -147,32 +201,17 @@ fn in_two_logs<K: HeapName + Send + Sync, R: Threads + Wait + Sync>(
 ) -> bool
     requires { blank.heap ≡ K.heap }
 {
-    let Ok((heap, mutators)) = Heap::<K, MemDevice>::new(alloc, blank) else {
-        return false;
-    };
-    let Ok(all) = with_numbers(alloc, mutators) else {
-        return false;
-    };
-    let Some(all) = all_filled(rt, alloc, all, 1, 120) else {
-        return false;
-    };
-    if !is_full(&mut *heap.book(rt))
-        || heap.run_round(rt, &mut Oldest, 2, 9) != Ok(RoundEnd::Nothing)
-    {
-        return false;
-    }
-    match all_read(rt, alloc, all, 1) {
-        Some(all) => all.len() == 8 && all_refused(rt, all, Refused::NoRoom),
-        None => false,
+    match Heap::<K, MemDevice>::new(alloc, blank) {
+        Ok((heap, mutators)) => fill_two_logs(rt, alloc, &heap, mutators),
+        Err(_) => false,
     }
 }
 
 // Eight mutators fill the one log of two that isn't kept back, and no round begins.
 #[test]
-fn eight_mutators_in_two_logs(rt: HostRuntime) -> Result<(), Fail> {
+fn eight_mutators_in_two_logs(rt: HostRuntime) {
     let alloc = rt.alloc();
-    assert!(rt; in_two_logs::<Brand, _>(&rt, alloc, blank(&rt, sized(2, 8))?));
-    Ok(())
+    assert!(rt; in_two_logs::<Brand, _>(&rt, alloc, new_blank(&rt, alloc, sized(2, 8))));
 }
 
 // Whether a round of all sealed logs moves or sends far all but the sixteen objects of the open log.
@@ -193,6 +232,32 @@ fn sends_far<K: HeapName, R: Wait>(rt: &R, heap: &Heap<K, MemDevice>) -> bool {
     }
 }
 
+// Whether all objects are there, two rounds move them and send them far.
+fn goes_round<K: HeapName, R: Wait>(rt: &R, heap: &Heap<K, MemDevice>) -> bool {
+    of_book!(rt, heap, book, counts(book, 1024, 0, 57_344))
+        && empties_all(rt, heap)
+        && sends_far(rt, heap)
+}
+
+fn fill_most_logs<K: HeapName + Send + Sync, R: Threads + Wait + Sync>(
+    rt: &R,
+    alloc: Global,
+    heap: &Heap<K, MemDevice>,
+    mutators: Vec<Mutator<K, MemDevice>>,
+) -> bool {
+    let Ok(all) = with_numbers(alloc, mutators) else {
+        return false;
+    };
+    let Some(all) = all_filled(rt, alloc, all, 128, 48) else {
+        return false;
+    };
+    let goes = goes_round(rt, heap);
+    match all_read(rt, alloc, all, 128) {
+        Some(all) => all.len() == 8 && all_refused(rt, all, Refused::NoPointer) && goes,
+        None => false,
+    }
+}
+
 fn in_most_logs<K: HeapName + Send + Sync, R: Threads + Wait + Sync>(
     rt: &R,
     alloc: Global,
@@ -200,31 +265,15 @@ fn in_most_logs<K: HeapName + Send + Sync, R: Threads + Wait + Sync>(
 ) -> bool
     requires { blank.heap ≡ K.heap }
 {
-    let Ok((heap, mutators)) = Heap::<K, MemDevice>::new(alloc, blank) else {
-        return false;
-    };
-    let Ok(all) = with_numbers(alloc, mutators) else {
-        return false;
-    };
-    let Some(all) = all_filled(rt, alloc, all, 128, 48) else {
-        return false;
-    };
-    if !counts(&mut *heap.book(rt), 1024, 0, 57_344) || !empties_all(rt, &heap) {
-        return false;
-    }
-    if !sends_far(rt, &heap) {
-        return false;
-    }
-    match all_read(rt, alloc, all, 128) {
-        Some(all) => all.len() == 8 && all_refused(rt, all, Refused::NoPointer),
-        None => false,
+    match Heap::<K, MemDevice>::new(alloc, blank) {
+        Ok((heap, mutators)) => fill_most_logs(rt, alloc, &heap, mutators),
+        Err(_) => false,
     }
 }
 
 // Eight mutators use all their pointers; a round moves all that lies in sealed logs, the next sends it far, and each mutator has it brought back.
 #[test]
-fn eight_mutators_in_most_logs(rt: HostRuntime) -> Result<(), Fail> {
+fn eight_mutators_in_most_logs(rt: HostRuntime) {
     let alloc = rt.alloc();
-    assert!(rt; in_most_logs::<Brand, _>(&rt, alloc, blank(&rt, sized(64, 8))?));
-    Ok(())
+    assert!(rt; in_most_logs::<Brand, _>(&rt, alloc, new_blank(&rt, alloc, sized(64, 8))));
 }

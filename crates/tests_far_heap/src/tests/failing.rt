@@ -1,18 +1,17 @@
 //! Each call of a device fails in turn, where nobody copies outside the lock: whatever fails, all objects keep their bytes.
 
 use crate::tests::flag::Tally;
-use crate::tests::lend::{Lent, Trial, of_book, opened, try_one};
+use crate::tests::lend::{Lent, Trial, of_book, opened, try_over};
 use crate::tests::looks::{has_objects, sized};
 use crate::tests::scopes::{EIGHT, has, reads, reads_slowly, writes};
 use crate::tests::steps::{is_clear, marks, selects};
 use far_device::{Device, FailAt, MemDevice};
 use far_evac::{Phase, RoundEnd};
-use far_heap::{Blank, Evacuator, Heap, HeapName, Scope};
+use far_heap::{Evacuator, Heap, HeapName, Scope};
 use far_policy::Oldest;
-use far_word::{LONGEST, Refused};
+use far_word::Refused;
 use std::alloc::Global;
 use std::sync::Wait;
-use std::test::Fail;
 
 // Whether a refusal is the device's; it is counted then.
 fn is_failure(why: Refused, failures: &Tally) -> bool {
@@ -57,11 +56,6 @@ fn have_bytes<K: HeapName, D: Device + Drop, R: Wait>(
         && reads_slowly(rt, scope, 2, [0; 8])
 }
 
-// Whether all three are there.
-fn has_three<K: HeapName, D: Device + Drop>(book: &mut Evacuator<K, D>) -> bool {
-    has_objects(book, 3)
-}
-
 // Whether a round of the oldest log is done, or the device failed; then it is given up.
 fn rounds_or_fails<K: HeapName, D: Device + Drop, R: Wait>(
     rt: &R,
@@ -74,6 +68,14 @@ fn rounds_or_fails<K: HeapName, D: Device + Drop, R: Wait>(
         Err(fault) => is_failure(fault.why, failures),
     };
     came && of_book!(rt, heap, book, ends_any(book))
+}
+
+// Whether two objects lie in a log, of which the first is written, and another fills the next.
+fn makes_three<K: HeapName, D: Device + Drop, R: Wait>(rt: &R, lent: &mut Lent<K, D>) -> bool {
+    lent.makes(rt, 8, 0)
+        && lent.makes(rt, 8, 1)
+        && opened!(lent, scope, writes(scope, 0, EIGHT))
+        && lent.makes(rt, 1016, 2)
 }
 
 /// A round moves one object, and sends another far, which comes back.
@@ -89,21 +91,18 @@ impl<D: Device + Drop> Trial<D> for PlainRun {
         heap: &Heap<K, D>,
         lent: &mut Lent<K, D>,
     ) -> bool {
-        lent.makes(rt, 8, 0)
-            && lent.makes(rt, 8, 1)
-            && opened!(lent, scope, writes(scope, 0, EIGHT))
-            && lent.makes(rt, LONGEST, 2)
+        makes_three(rt, lent)
             && rounds_or_fails(rt, heap, &self.failures)
             && opened!(lent, scope, have_bytes(rt, scope, EIGHT, &self.failures))
-            && of_book!(rt, heap, book, has_three(book))
+            && of_book!(rt, heap, book, has_objects(book, 3))
     }
 }
 
 // Whether three objects fill a log each, and the first is viewed.
 fn fills_three<K: HeapName, D: Device + Drop, R: Wait>(rt: &R, lent: &mut Lent<K, D>) -> bool {
-    lent.makes(rt, LONGEST, 0)
-        && lent.makes(rt, LONGEST, 1)
-        && lent.makes(rt, LONGEST, 2)
+    lent.makes(rt, 1016, 0)
+        && lent.makes(rt, 1016, 1)
+        && lent.makes(rt, 1016, 2)
         && opened!(lent, scope, reads(scope, 0, [0; 8]))
 }
 
@@ -124,6 +123,17 @@ fn deals_or_fails<K: HeapName, D: Device + Drop>(
     came && ends_any(book)
 }
 
+// Whether the owner's own move takes the last free log in a round of two.
+fn takes_the_last_log<K: HeapName, D: Device + Drop, R: Wait>(
+    rt: &R,
+    heap: &Heap<K, D>,
+    lent: &mut Lent<K, D>,
+) -> bool {
+    fills_three(rt, lent)
+        && of_book!(rt, heap, book, comes_to_leaving(book))
+        && opened!(lent, scope, reads_slowly(rt, scope, 1, [0; 8]))
+}
+
 /// The owner's own move takes the last free log, so that a viewed object goes far.
 #[derive(Drop)]
 struct HotRun {
@@ -137,39 +147,40 @@ impl<D: Device + Drop> Trial<D> for HotRun {
         heap: &Heap<K, D>,
         lent: &mut Lent<K, D>,
     ) -> bool {
-        fills_three(rt, lent)
-            && of_book!(rt, heap, book, comes_to_leaving(book))
-            && opened!(lent, scope, reads_slowly(rt, scope, 1, [0; 8]))
+        takes_the_last_log(rt, heap, lent)
             && of_book!(rt, heap, book, deals_or_fails(book, &self.failures))
             && opened!(lent, scope, have_bytes(rt, scope, [0; 8], &self.failures))
-            && of_book!(rt, heap, book, has_three(book))
+            && of_book!(rt, heap, book, has_objects(book, 3))
     }
 }
 
 // Whether a run over a device whose k-th call fails comes out as it should, and is refused so often.
-fn comes_out<R: Wait>(rt: &R, alloc: Global, k: u64, refused: u64) -> Result<bool, Refused> {
+fn plain_comes_out<R: Wait>(rt: &R, alloc: Global, k: u64, refused: u64) -> bool {
     let run = PlainRun {
         failures: Tally::new(),
     };
-    let blank = Blank::new(alloc, sized(4, 1), FailAt::new(MemDevice::new(alloc), k))?;
-    Ok(try_one(rt, alloc, blank, &run) && run.failures.count() == refused)
+    let device = FailAt::new(MemDevice::new(alloc), k);
+    try_over(rt, alloc, sized(4, 1), device, &run) && run.failures.count() == refused
 }
 
 // The same of the run in which a viewed object goes far.
-fn comes_out_hot<R: Wait>(rt: &R, alloc: Global, k: u64, refused: u64) -> Result<bool, Refused> {
+fn hot_comes_out<R: Wait>(rt: &R, alloc: Global, k: u64, refused: u64) -> bool {
     let run = HotRun {
         failures: Tally::new(),
     };
-    let blank = Blank::new(alloc, sized(4, 1), FailAt::new(MemDevice::new(alloc), k))?;
-    Ok(try_one(rt, alloc, blank, &run) && run.failures.count() == refused)
+    let device = FailAt::new(MemDevice::new(alloc), k);
+    try_over(rt, alloc, sized(4, 1), device, &run) && run.failures.count() == refused
+}
+
+// Whether both do.
+fn both_come_out<R: Wait>(rt: &R, alloc: Global, k: u64, refused: u64) -> bool {
+    plain_comes_out(rt, alloc, k, refused) && hot_comes_out(rt, alloc, k, refused)
 }
 
 // Each run makes two calls, by which an object goes far and comes back: the first fails, the second, or none.
 #[test]
-fn fail_each_without_copiers(rt: HostRuntime) -> Result<(), Fail> {
-    for (k, refused) in [(1, 1), (2, 1), (3, 0)] {
-        assert!(rt; comes_out(&rt, rt.alloc(), k, refused)?, "at call {k}");
-        assert!(rt; comes_out_hot(&rt, rt.alloc(), k, refused)?, "at call {k}");
-    }
-    Ok(())
+fn fail_each_without_copiers(rt: HostRuntime) {
+    assert!(rt; both_come_out(&rt, rt.alloc(), 1, 1));
+    assert!(rt; both_come_out(&rt, rt.alloc(), 2, 1));
+    assert!(rt; both_come_out(&rt, rt.alloc(), 3, 0));
 }

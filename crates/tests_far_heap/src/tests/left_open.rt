@@ -1,7 +1,7 @@
 //! A scope that is dropped unclosed: what rounds answer then, and what other mutators do.
 
-use crate::tests::lend::{Lent, PairTrial, left_open, of_book, opened, try_two};
-use crate::tests::looks::{blank, sized};
+use crate::tests::lend::{Lent, PairTrial, left_open, of_book, opened, try_two_in_memory};
+use crate::tests::looks::sized;
 use crate::tests::scopes::{EIGHT, is_slow, reads, reads_slowly, writes};
 use crate::tests::steps::{gives_up, is_open, runs_to};
 use far_device::MemDevice;
@@ -10,7 +10,6 @@ use far_heap::{Evacuator, Heap, HeapName, Scope};
 use far_policy::Oldest;
 use far_word::LONGEST;
 use std::sync::Wait;
-use std::test::Fail;
 
 // Whether the other mutator's object is written, and another one fills the next log.
 fn other_begins<K: HeapName, R: Wait>(rt: &R, other: &mut Lent<K, MemDevice>) -> bool {
@@ -60,6 +59,11 @@ fn next_round<K: HeapName, R: Wait>(rt: &R, heap: &Heap<K, MemDevice>) -> bool {
         && of_book!(rt, heap, book, waits_for_first(book, 2))
 }
 
+// Whether an object is written in a scope that is left open.
+fn leaves_open<K: HeapName, R: Wait>(rt: &R, first: &mut Lent<K, MemDevice>) -> bool {
+    first.makes(rt, 8, 0) && left_open!(first, scope, writes(scope, 0, EIGHT))
+}
+
 // The first mutator drops its scope unclosed, with a view.
 struct LeftOpen;
 
@@ -71,8 +75,7 @@ impl PairTrial<MemDevice> for LeftOpen {
         first: &mut Lent<K, MemDevice>,
         second: &mut Lent<K, MemDevice>,
     ) -> bool {
-        first.makes(rt, 8, 0)
-            && left_open!(first, scope, writes(scope, 0, EIGHT))
+        leaves_open(rt, first)
             && first_round(rt, heap, second)
             && next_round(rt, heap)
             && of_book!(rt, heap, book, gives_up(book))
@@ -81,8 +84,6 @@ impl PairTrial<MemDevice> for LeftOpen {
 }
 
 #[test]
-fn scope_left_open(rt: HostRuntime) -> Result<(), Fail> {
-    let alloc = rt.alloc();
-    assert!(rt; try_two(&rt, alloc, blank(&rt, sized(6, 2))?, &LeftOpen));
-    Ok(())
+fn scope_left_open(rt: HostRuntime) {
+    assert!(rt; try_two_in_memory(&rt, rt.alloc(), sized(6, 2), &LeftOpen));
 }

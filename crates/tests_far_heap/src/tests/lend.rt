@@ -2,7 +2,8 @@
 
 ghost use Rattle.std.specs.Prelude.{◌≡◌};
 
-use far_device::Device;
+use far_core::Shape;
+use far_device::{Device, MemDevice};
 use far_heap::{Blank, Heap, HeapName, Mutator, Tried, View};
 use far_word::Refused;
 use std::alloc::Global;
@@ -184,8 +185,8 @@ fn lend_two<K: HeapName, D: Device + Drop, R: Wait, T: PairTrial<D>>(
     }
 }
 
-/// Whether a trial on a heap of these parts comes out as it should.
-pub(super) fn try_one<D: Device + Drop, R: Wait, T: Trial<D>>(
+// Whether a trial on a heap of these parts comes out as it should.
+fn try_one<D: Device + Drop, R: Wait, T: Trial<D>>(
     rt: &R,
     alloc: Global,
     blank: Blank<D>,
@@ -194,12 +195,49 @@ pub(super) fn try_one<D: Device + Drop, R: Wait, T: Trial<D>>(
     lend_one::<Brand, D, R, T>(rt, alloc, blank, trial)
 }
 
-/// The same of a heap of two mutators.
-pub(super) fn try_two<D: Device + Drop, R: Wait, T: PairTrial<D>>(
+// The same of a heap of two mutators.
+fn try_two<D: Device + Drop, R: Wait, T: PairTrial<D>>(
     rt: &R,
     alloc: Global,
     blank: Blank<D>,
     trial: &T,
 ) -> bool {
     lend_two::<Brand, D, R, T>(rt, alloc, blank, trial)
+}
+
+/// Whether a trial on a new heap of this shape, over this device, comes out as it should.
+pub(super) fn try_over<D: Device + Drop, R: Wait, T: Trial<D>>(
+    rt: &R,
+    alloc: Global,
+    shape: Shape,
+    device: D,
+    trial: &T,
+) -> bool {
+    match Blank::new(alloc, shape, device) {
+        Ok(blank) => try_one(rt, alloc, blank, trial),
+        Err(_) => false,
+    }
+}
+
+/// The same over a device in memory.
+pub(super) fn try_one_in_memory<R: Wait, T: Trial<MemDevice>>(
+    rt: &R,
+    alloc: Global,
+    shape: Shape,
+    trial: &T,
+) -> bool {
+    try_over(rt, alloc, shape, MemDevice::new(alloc), trial)
+}
+
+/// The same of a heap of two mutators.
+pub(super) fn try_two_in_memory<R: Wait, T: PairTrial<MemDevice>>(
+    rt: &R,
+    alloc: Global,
+    shape: Shape,
+    trial: &T,
+) -> bool {
+    match Blank::new(alloc, shape, MemDevice::new(alloc)) {
+        Ok(blank) => try_two(rt, alloc, blank, trial),
+        Err(_) => false,
+    }
 }

@@ -1,16 +1,15 @@
 //! A device that lies once: only bytes are wrong, or the call is refused; the book stands as its law says after each step.
 
 use crate::tests::devices::{comes_back, comes_to_log_two, sends_it_far};
-use crate::tests::lend::{Lent, Trial, of_book, opened, try_one};
+use crate::tests::lend::{Lent, Trial, of_book, opened, try_over};
 use crate::tests::looks::{has_objects, is_far, is_log, is_near, sized};
 use crate::tests::steps::runs_through;
 use far_device::{Device, Liar, MemDevice};
 use far_evac::LogKind;
-use far_heap::{Blank, Evacuator, Heap, HeapName, Scope};
+use far_heap::{Evacuator, Heap, HeapName, Scope};
 use far_policy::Oldest;
 use far_word::{LOG_BYTES, LONGEST, Refused};
 use std::sync::Wait;
-use std::test::Fail;
 
 // Whether so many objects have a home each, and each log's bytes make its size.
 fn has_law<K: HeapName, D: Device + Drop, R: Wait>(
@@ -95,13 +94,10 @@ impl<D: Device + Drop> Trial<D> for Shortened {
 
 // A device gives inverted bytes once, and another one byte less once.
 #[test]
-fn liar_on_heap(rt: HostRuntime) -> Result<(), Fail> {
-    let alloc = rt.alloc();
-    let flip = Liar::flip(MemDevice::new(alloc), 1);
-    let blank = Blank::new(alloc, sized(4, 1), flip)?;
-    assert!(rt; try_one(&rt, alloc, blank, &Flipped { byte: 0xff }));
-    let short = Liar::short(MemDevice::new(alloc), 1);
-    let blank = Blank::new(alloc, sized(4, 1), short)?;
-    assert!(rt; try_one(&rt, alloc, blank, &Shortened));
-    Ok(())
+fn liar_on_heap(rt: HostRuntime) {
+    let flip = Liar::flip(MemDevice::new(rt.alloc()), 1);
+    let flipped = Flipped { byte: 0xff };
+    assert!(rt; try_over(&rt, rt.alloc(), sized(4, 1), flip, &flipped));
+    let short = Liar::short(MemDevice::new(rt.alloc()), 1);
+    assert!(rt; try_over(&rt, rt.alloc(), sized(4, 1), short, &Shortened));
 }

@@ -6,7 +6,9 @@ use far_device::{Device, MemDevice};
 use far_evac::{Census, LogKind, LogState};
 use far_heap::{Blank, Evacuator, HeapName};
 use far_log::LogRow;
-use far_word::{LOG_BYTES, Marks, Place, Refused};
+use far_word::{Marks, Place, Refused};
+use std::alloc::Global;
+use std::process::Abort;
 
 pub(super) const NO_MARKS: Marks = Marks {
     hot: false,
@@ -27,6 +29,14 @@ pub(super) fn sized(logs: u64, mutators: u64) -> Shape {
 /// The parts of a heap of a shape, over a device in memory.
 pub(super) fn blank(rt: &HostRuntime, shape: Shape) -> Result<Blank<MemDevice>, Refused> {
     Blank::new(rt.alloc(), shape, MemDevice::new(rt.alloc()))
+}
+
+/// The same where the shape is in range. A test ends where memory is refused.
+pub(super) fn new_blank(rt: &impl Abort, alloc: Global, shape: Shape) -> Blank<MemDevice> {
+    match Blank::new(alloc, shape, MemDevice::new(alloc)) {
+        Ok(blank) => blank,
+        Err(_) => panic!(rt; "no heap is made"),
+    }
 }
 
 // Where a pointer's object is; `None` for a number that is no pointer's.
@@ -124,7 +134,7 @@ pub(super) fn is_log<K: HeapName, D: Device + Drop>(
 
 /// Whether a log is free.
 pub(super) fn is_free<K: HeapName, D: Device + Drop>(book: &mut Evacuator<K, D>, log: u8) -> bool {
-    is_log(book, log, LogKind::Free, [0, 0, LOG_BYTES])
+    is_log(book, log, LogKind::Free, [0, 0, 1024])
 }
 
 /// What a census counts.
@@ -157,7 +167,7 @@ fn bytes(census: &Census) -> (u64, bool) {
         let row = state.row;
         let placed = row.live.saturating_add(row.dead);
         live = live.saturating_add(row.live as u64);
-        whole = whole && placed.saturating_add(row.unused) == LOG_BYTES;
+        whole = whole && placed.saturating_add(row.unused) == 1024;
     }
     (live, whole)
 }

@@ -1,16 +1,15 @@
 //! What a new object leaves as it was: where it is refused, all of it, also a running round; else all but itself.
 
-use crate::tests::lend::{Lent, Trial, of_book, opened, try_one};
-use crate::tests::looks::{Counted, blank, census_of, sized};
+use crate::tests::lend::{Lent, Trial, of_book, opened, try_one_in_memory};
+use crate::tests::looks::{Counted, census_of, sized};
 use crate::tests::steps::{is_clear, marks, selects};
 use far_core::Shape;
 use far_device::MemDevice;
 use far_evac::{Housed, LogState, Phase};
 use far_heap::{Evacuator, Heap, HeapName};
 use far_policy::Oldest;
-use far_word::{LONGEST, Refused};
+use far_word::Refused;
 use std::sync::Wait;
-use std::test::Fail;
 
 /// How a book stands: its round, and what lives where.
 #[derive(Drop)]
@@ -78,7 +77,20 @@ fn waits<K: HeapName>(book: &mut Evacuator<K, MemDevice>) -> bool {
     matches!(book.mark_some(64), Ok(marked) if marked.waiting == Some(1))
 }
 
-// Whether an object is refused for this reason in each phase of a round, and none of them changes by that.
+// Whether an object is refused for this reason while a round marks and waits, and neither changes by that.
+fn refuses_before_leaving<K: HeapName, R: Wait>(
+    rt: &R,
+    heap: &Heap<K, MemDevice>,
+    lent: &mut Lent<K, MemDevice>,
+    why: Refused,
+) -> bool {
+    of_book!(rt, heap, book, begins(book))
+        && refuses_in(rt, heap, lent, why, Phase::Marking)
+        && of_book!(rt, heap, book, waits(book))
+        && refuses_in(rt, heap, lent, why, Phase::Waiting)
+}
+
+// The same in each phase of a round.
 fn refuses_beside_round<K: HeapName, R: Wait>(
     rt: &R,
     heap: &Heap<K, MemDevice>,
@@ -86,10 +98,7 @@ fn refuses_beside_round<K: HeapName, R: Wait>(
     why: Refused,
 ) -> bool {
     refuses_in(rt, heap, lent, why, Phase::Idle)
-        && of_book!(rt, heap, book, begins(book))
-        && refuses_in(rt, heap, lent, why, Phase::Marking)
-        && of_book!(rt, heap, book, waits(book))
-        && refuses_in(rt, heap, lent, why, Phase::Waiting)
+        && refuses_before_leaving(rt, heap, lent, why)
         && of_book!(rt, heap, book, is_clear(book))
         && refuses_in(rt, heap, lent, why, Phase::Evacuating)
 }
@@ -132,27 +141,11 @@ impl Trial<MemDevice> for Full {
 
 // Three logs have no room for 33 objects of 56 bytes each in two; two logs hold 128 objects of a byte.
 #[test]
-fn a_refused_object_leaves_a_round_as_it_is(rt: HostRuntime) -> Result<(), Fail> {
-    let alloc = rt.alloc();
+fn a_refused_object_leaves_a_round_as_it_is(rt: HostRuntime) {
     let (len, objects, why) = (56, 32, Refused::NoRoom);
-    assert!(rt;
-        try_one(
-            &rt,
-            alloc,
-            blank(&rt, sized(3, 1))?,
-            &Full { len, objects, why }
-        )
-    );
+    assert!(rt; try_one_in_memory(&rt, rt.alloc(), sized(3, 1), &Full { len, objects, why }));
     let (len, objects, why) = (1, 128, Refused::NoPointer);
-    assert!(rt;
-        try_one(
-            &rt,
-            alloc,
-            blank(&rt, sized(6, 1))?,
-            &Full { len, objects, why }
-        )
-    );
-    Ok(())
+    assert!(rt; try_one_in_memory(&rt, rt.alloc(), sized(6, 1), &Full { len, objects, why }));
 }
 
 // Whether one object more is near, of so many bytes with its header, and the far ones are as they were.
@@ -213,6 +206,18 @@ fn places_two<K: HeapName, R: Wait>(
         && places_one_in_scope(rt, heap, lent, first.saturating_add(1))
 }
 
+// Both while a round marks, and while it waits.
+fn places_before_leaving<K: HeapName, R: Wait>(
+    rt: &R,
+    heap: &Heap<K, MemDevice>,
+    lent: &mut Lent<K, MemDevice>,
+) -> bool {
+    of_book!(rt, heap, book, begins(book))
+        && places_two(rt, heap, lent, 3)
+        && of_book!(rt, heap, book, waits(book))
+        && places_two(rt, heap, lent, 5)
+}
+
 // Objects are made where no round is running, and in each phase of one.
 struct PlacedOnce;
 
@@ -224,19 +229,14 @@ impl Trial<MemDevice> for PlacedOnce {
         lent: &mut Lent<K, MemDevice>,
     ) -> bool {
         places_two(rt, heap, lent, 0)
-            && lent.makes(rt, LONGEST, 2)
-            && of_book!(rt, heap, book, begins(book))
-            && places_two(rt, heap, lent, 3)
-            && of_book!(rt, heap, book, waits(book))
-            && places_two(rt, heap, lent, 5)
+            && lent.makes(rt, 1016, 2)
+            && places_before_leaving(rt, heap, lent)
             && of_book!(rt, heap, book, is_clear(book))
             && places_two(rt, heap, lent, 7)
     }
 }
 
 #[test]
-fn a_new_object_is_placed_once(rt: HostRuntime) -> Result<(), Fail> {
-    let alloc = rt.alloc();
-    assert!(rt; try_one(&rt, alloc, blank(&rt, sized(6, 1))?, &PlacedOnce));
-    Ok(())
+fn a_new_object_is_placed_once(rt: HostRuntime) {
+    assert!(rt; try_one_in_memory(&rt, rt.alloc(), sized(6, 1), &PlacedOnce));
 }

@@ -1,13 +1,12 @@
 //! Which bytes a scope reads and writes, and by which views.
 
-use crate::tests::lend::{Lent, Trial, opened, try_one};
-use crate::tests::looks::{blank, sized};
+use crate::tests::lend::{Lent, Trial, opened, try_one_in_memory};
+use crate::tests::looks::sized;
 use crate::tests::scopes::{EIGHT, has, reads, viewed, writes};
 use far_device::MemDevice;
 use far_heap::{Heap, HeapName, Scope, View};
 use far_word::Refused;
 use std::sync::Wait;
-use std::test::Fail;
 
 // Whether a read of so many bytes, 20 at most, is refused for this reason.
 fn reads_none<K: HeapName>(
@@ -100,10 +99,8 @@ impl Trial<MemDevice> for InRanges {
 }
 
 #[test]
-fn ranges_end_with_the_object(rt: HostRuntime) -> Result<(), Fail> {
-    let alloc = rt.alloc();
-    assert!(rt; try_one(&rt, alloc, blank(&rt, sized(4, 1))?, &InRanges));
-    Ok(())
+fn ranges_end_with_the_object(rt: HostRuntime) {
+    assert!(rt; try_one_in_memory(&rt, rt.alloc(), sized(4, 1), &InRanges));
 }
 
 // Whether a view that a closed scope made is refused, also for a range that is out of the object.
@@ -122,6 +119,16 @@ fn takes_earlier<K: HeapName>(scope: &mut Scope<K, MemDevice>, view: &View) -> b
         && reads(scope, 0, [1, 2, 3, 4, 9, 6, 7, 8])
 }
 
+// Whether the object is written, and the view is refused and taken so in a later scope.
+fn bars_until_viewed<K: HeapName>(lent: &mut Lent<K, MemDevice>, view: &View) -> bool {
+    opened!(lent, scope, writes(scope, 0, EIGHT))
+        && opened!(
+            lent,
+            scope,
+            bars_earlier(scope, view) && takes_earlier(scope, view)
+        )
+}
+
 // A view of an earlier scope is good where this scope views the pointer too.
 struct EarlierViews;
 
@@ -132,26 +139,17 @@ impl Trial<MemDevice> for EarlierViews {
         _heap: &Heap<K, MemDevice>,
         lent: &mut Lent<K, MemDevice>,
     ) -> bool {
-        if !lent.makes(rt, 8, 0) {
-            return false;
-        }
-        let Some(view) = lent.viewed(0) else {
-            return false;
-        };
-        opened!(lent, scope, writes(scope, 0, EIGHT))
-            && opened!(
-                lent,
-                scope,
-                bars_earlier(scope, &view) && takes_earlier(scope, &view)
-            )
+        lent.makes(rt, 8, 0)
+            && match lent.viewed(0) {
+                Some(view) => bars_until_viewed(lent, &view),
+                None => false,
+            }
     }
 }
 
 #[test]
-fn a_view_ends_with_its_scope(rt: HostRuntime) -> Result<(), Fail> {
-    let alloc = rt.alloc();
-    assert!(rt; try_one(&rt, alloc, blank(&rt, sized(4, 1))?, &EarlierViews));
-    Ok(())
+fn a_view_ends_with_its_scope(rt: HostRuntime) {
+    assert!(rt; try_one_in_memory(&rt, rt.alloc(), sized(4, 1), &EarlierViews));
 }
 
 // Whether the view of an object that is gone is a view of the pointer's next object, which is longer.
@@ -161,6 +159,11 @@ fn views_next<K: HeapName>(scope: &mut Scope<K, MemDevice>, view: &View) -> bool
         && has(scope, view, [0; 8])
         && scope.write(view, 15, &[1]).is_ok()
         && bars(scope, view, (16, 1), Refused::Range)
+}
+
+// Whether the object is written and dropped, and a longer one made at its pointer.
+fn makes_the_next<K: HeapName, R: Wait>(rt: &R, lent: &mut Lent<K, MemDevice>) -> bool {
+    opened!(lent, scope, writes(scope, 0, EIGHT)) && lent.drops(rt, 0) && lent.makes(rt, 16, 0)
 }
 
 // A view of an object that is gone is of the pointer's next object.
@@ -173,22 +176,16 @@ impl Trial<MemDevice> for NextObject {
         _heap: &Heap<K, MemDevice>,
         lent: &mut Lent<K, MemDevice>,
     ) -> bool {
-        if !lent.makes(rt, 8, 0) {
-            return false;
-        }
-        let Some(view) = lent.viewed(0) else {
-            return false;
-        };
-        opened!(lent, scope, writes(scope, 0, EIGHT))
-            && lent.drops(rt, 0)
-            && lent.makes(rt, 16, 0)
-            && opened!(lent, scope, views_next(scope, &view))
+        lent.makes(rt, 8, 0)
+            && match lent.viewed(0) {
+                Some(view) => makes_the_next(rt, lent)
+                    && opened!(lent, scope, views_next(scope, &view)),
+                None => false,
+            }
     }
 }
 
 #[test]
-fn a_view_is_of_a_pointer(rt: HostRuntime) -> Result<(), Fail> {
-    let alloc = rt.alloc();
-    assert!(rt; try_one(&rt, alloc, blank(&rt, sized(4, 1))?, &NextObject));
-    Ok(())
+fn a_view_is_of_a_pointer(rt: HostRuntime) {
+    assert!(rt; try_one_in_memory(&rt, rt.alloc(), sized(4, 1), &NextObject));
 }

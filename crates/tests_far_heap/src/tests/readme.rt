@@ -90,19 +90,27 @@ fn jobs_of<K: HeapName>(
 fn all_work<K: HeapName + Send + Sync, R: Threads + Wait + Sync>(
     rt: &R,
     alloc: Global,
+    heap: &Heap<K, MemDevice>,
+    mutators: Vec<Mutator<K, MemDevice>>,
+) -> bool {
+    let Ok(jobs) = jobs_of(alloc, mutators) else {
+        return false;
+    };
+    match thread::map_vec(rt, jobs, &|job| run(rt, heap, job)) {
+        Ok(done) => done.iter().all(|it| *it),
+        Err(_) => false,
+    }
+}
+
+fn begins<K: HeapName + Send + Sync, R: Threads + Wait + Sync>(
+    rt: &R,
+    alloc: Global,
     blank: Blank<MemDevice>,
 ) -> bool
     requires { blank.heap ≡ K.heap }
 {
-    let Ok((heap, mutators)) = Heap::<K, _>::new(alloc, blank) else {
-        return false;
-    };
-    let Ok(jobs) = jobs_of(alloc, mutators) else {
-        return false;
-    };
-    let shared = &heap;
-    match thread::map_vec(rt, jobs, &|job| run(rt, shared, job)) {
-        Ok(done) => done.iter().all(|it| *it),
+    match Heap::<K, _>::new(alloc, blank) {
+        Ok((heap, mutators)) => all_work(rt, alloc, &heap, mutators),
         Err(_) => false,
     }
 }
@@ -110,6 +118,6 @@ fn all_work<K: HeapName + Send + Sync, R: Threads + Wait + Sync>(
 #[test]
 fn readme(rt: HostRuntime) -> Result<(), Fail> {
     let blank = blank(&rt, sized(8, 2))?;
-    assert!(rt; all_work::<Brand, _>(&rt, rt.alloc(), blank));
+    assert!(rt; begins::<Brand, _>(&rt, rt.alloc(), blank));
     Ok(())
 }

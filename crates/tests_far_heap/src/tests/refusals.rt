@@ -1,6 +1,8 @@
 //! What each call of a mutator and of its scope is refused, in the order of the reasons, with nothing changed.
 
-use crate::tests::lend::{Lent, PairTrial, Trial, closed, of_book, opened, try_one, try_two};
+use crate::tests::lend::{
+    Lent, PairTrial, Trial, closed, of_book, opened, try_one_in_memory, try_two_in_memory,
+};
 use crate::tests::looks::{blank, is_far, is_log, sized};
 use crate::tests::scopes::{makes, makes_none, reads, reads_slowly};
 use crate::tests::steps::runs_through;
@@ -11,7 +13,6 @@ use far_heap::{Evacuator, Heap, HeapName, Mutator, Scope};
 use far_policy::Oldest;
 use far_word::{LOG_BYTES, LONGEST, POINTERS, Refused};
 use std::sync::Wait;
-use std::test::Fail;
 
 // Whether no heap has this shape.
 fn has_no_heap(rt: &HostRuntime, logs: u64, mutators: u64, epoch: u64) -> bool {
@@ -111,10 +112,8 @@ impl PairTrial<MemDevice> for NewObjects {
 }
 
 #[test]
-fn a_new_object_is_refused_in_order(rt: HostRuntime) -> Result<(), Fail> {
-    let alloc = rt.alloc();
-    assert!(rt; try_two(&rt, alloc, blank(&rt, sized(3, 2))?, &NewObjects));
-    Ok(())
+fn a_new_object_is_refused_in_order(rt: HostRuntime) {
+    assert!(rt; try_two_in_memory(&rt, rt.alloc(), sized(3, 2), &NewObjects));
 }
 
 // Whether pointers that a mutator doesn't use can't be dropped: one never used, one of another mutator, and one that nobody has.
@@ -177,10 +176,8 @@ impl PairTrial<MemDevice> for DroppedObjects {
 }
 
 #[test]
-fn a_drop_is_refused_in_order(rt: HostRuntime) -> Result<(), Fail> {
-    let alloc = rt.alloc();
-    assert!(rt; try_two(&rt, alloc, blank(&rt, sized(4, 2))?, &DroppedObjects));
-    Ok(())
+fn a_drop_is_refused_in_order(rt: HostRuntime) {
+    assert!(rt; try_two_in_memory(&rt, rt.alloc(), sized(4, 2), &DroppedObjects));
 }
 
 // Whether a pointer that the mutator doesn't use has no length, and can't be viewed.
@@ -216,10 +213,8 @@ impl PairTrial<MemDevice> for UnheldObjects {
 }
 
 #[test]
-fn an_unheld_pointer_has_no_view(rt: HostRuntime) -> Result<(), Fail> {
-    let alloc = rt.alloc();
-    assert!(rt; try_two(&rt, alloc, blank(&rt, sized(4, 2))?, &UnheldObjects));
-    Ok(())
+fn an_unheld_pointer_has_no_view(rt: HostRuntime) {
+    assert!(rt; try_two_in_memory(&rt, rt.alloc(), sized(4, 2), &UnheldObjects));
 }
 
 // Whether an object is far, and all room but the log that is kept back is taken.
@@ -267,8 +262,6 @@ impl Trial<MemDevice> for FarWithoutRoom {
 
 // A far object isn't viewed while no log has room for it, and is after a round that gave a log back.
 #[test]
-fn a_far_object_waits_for_room(rt: HostRuntime) -> Result<(), Fail> {
-    let alloc = rt.alloc();
-    assert!(rt; try_one(&rt, alloc, blank(&rt, sized(4, 1))?, &FarWithoutRoom));
-    Ok(())
+fn a_far_object_waits_for_room(rt: HostRuntime) {
+    assert!(rt; try_one_in_memory(&rt, rt.alloc(), sized(4, 1), &FarWithoutRoom));
 }

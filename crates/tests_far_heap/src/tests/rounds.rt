@@ -1,7 +1,7 @@
 //! What the calls of a round are refused, in the order of the reasons, with the round as it was.
 
-use crate::tests::lend::{Lent, Trial, of_book, try_one};
-use crate::tests::looks::{blank, is_log, sized};
+use crate::tests::lend::{Lent, Trial, of_book, try_one_in_memory};
+use crate::tests::looks::{is_log, sized};
 use crate::tests::steps::{
     deals, deals_none, gives_up, is_clear, marks, runs_none, selects, selects_none, turns_none,
 };
@@ -12,7 +12,6 @@ use far_heap::{Evacuator, Heap, HeapName};
 use far_policy::{Oldest, Scripted};
 use far_word::{LOG_BYTES, LONGEST, Refused};
 use std::sync::Wait;
-use std::test::Fail;
 
 // A small object in the first log, and one that fills the next.
 fn seals_first<K: HeapName, R: Wait>(rt: &R, lent: &mut Lent<K, MemDevice>) -> bool {
@@ -103,10 +102,8 @@ impl Trial<MemDevice> for InEachPhase {
 
 // Each phase has its call; a whole round is refused while another is running.
 #[test]
-fn a_call_belongs_to_a_phase(rt: HostRuntime) -> Result<(), Fail> {
-    let alloc = rt.alloc();
-    assert!(rt; try_one(&rt, alloc, blank(&rt, sized(4, 1))?, &InEachPhase));
-    Ok(())
+fn a_call_belongs_to_a_phase(rt: HostRuntime) {
+    assert!(rt; try_one_in_memory(&rt, rt.alloc(), sized(4, 1), &InEachPhase));
 }
 
 // Whether a script of these logs is refused for one of them, as a choice and as a whole round.
@@ -145,10 +142,8 @@ impl Trial<MemDevice> for BadChoices {
 }
 
 #[test]
-fn a_bad_script_begins_no_round(rt: HostRuntime) -> Result<(), Fail> {
-    let alloc = rt.alloc();
-    assert!(rt; try_one(&rt, alloc, blank(&rt, sized(4, 1))?, &BadChoices));
-    Ok(())
+fn a_bad_script_begins_no_round(rt: HostRuntime) {
+    assert!(rt; try_one_in_memory(&rt, rt.alloc(), sized(4, 1), &BadChoices));
 }
 
 // Whether a round is refused, since no epoch is left, whatever the policy is.
@@ -185,14 +180,12 @@ impl Trial<MemDevice> for LastEpoch {
 }
 
 #[test]
-fn the_last_epoch_begins_no_round(rt: HostRuntime) -> Result<(), Fail> {
-    let alloc = rt.alloc();
+fn the_last_epoch_begins_no_round(rt: HostRuntime) {
     let last_but_one = Shape {
         epoch: (1 << 62) - 2,
         ..sized(4, 1)
     };
-    assert!(rt; try_one(&rt, alloc, blank(&rt, last_but_one)?, &LastEpoch));
-    Ok(())
+    assert!(rt; try_one_in_memory(&rt, rt.alloc(), last_but_one, &LastEpoch));
 }
 
 // Gives up a round that stands in this phase; whether one does.
@@ -229,8 +222,6 @@ impl Trial<MemDevice> for TurnByTurn {
 }
 
 #[test]
-fn a_round_makes_no_turn_more(rt: HostRuntime) -> Result<(), Fail> {
-    let alloc = rt.alloc();
-    assert!(rt; try_one(&rt, alloc, blank(&rt, sized(4, 1))?, &TurnByTurn));
-    Ok(())
+fn a_round_makes_no_turn_more(rt: HostRuntime) {
+    assert!(rt; try_one_in_memory(&rt, rt.alloc(), sized(4, 1), &TurnByTurn));
 }

@@ -1,20 +1,19 @@
 //! Rounds on a heap, by worked answers.
 
-use crate::tests::lend::{Lent, Trial, closed, of_book, opened, try_one};
-use crate::tests::looks::{blank, counts, is_far, is_free, is_log, is_near, sized};
+use crate::tests::lend::{Lent, Trial, closed, of_book, opened, try_one_in_memory};
+use crate::tests::looks::{counts, is_far, is_free, is_log, is_near, sized};
 use crate::tests::scopes::{EIGHT, is_slow, makes, reads, reads_slowly, writes};
 use crate::tests::steps::{deals, is_clear, is_open, marks, runs_through, selects};
 use far_device::{Device, MemDevice};
 use far_evac::LogKind;
 use far_heap::{Evacuator, Heap, HeapName, Mutator, Scope, Tried};
 use far_policy::Oldest;
-use far_word::{LOG_BYTES, LONGEST, Refused};
+use far_word::Refused;
 use std::sync::Wait;
-use std::test::Fail;
 
 // Whether the first of four logs has one object, and the others are free.
 fn has_one_object<K: HeapName, D: Device + Drop>(book: &mut Evacuator<K, D>) -> bool {
-    is_log(book, 0, LogKind::Open, [16, 0, LOG_BYTES - 16])
+    is_log(book, 0, LogKind::Open, [16, 0, 1008])
         && is_free(book, 1)
         && is_free(book, 2)
         && is_free(book, 3)
@@ -44,8 +43,8 @@ fn stands_after<K: HeapName, D: Device + Drop>(book: &mut Evacuator<K, D>) -> bo
     is_near(book, 0, (2, 0), false)
         && is_far(book, 1, false)
         && is_free(book, 0)
-        && is_log(book, 1, LogKind::Sealed, [LOG_BYTES, 0, 0])
-        && is_log(book, 2, LogKind::Open, [16, 0, LOG_BYTES - 16])
+        && is_log(book, 1, LogKind::Sealed, [1024, 0, 0])
+        && is_log(book, 2, LogKind::Open, [16, 0, 1008])
         && counts(book, 2, 1, 1040)
 }
 
@@ -71,7 +70,7 @@ fn makes_a_round<K: HeapName, R: Wait>(
     lent.makes(rt, 8, 0)
         && lent.makes(rt, 8, 1)
         && opened!(lent, scope, writes_first(scope))
-        && lent.makes(rt, LONGEST, 2)
+        && lent.makes(rt, 1016, 2)
         && runs_through(rt, heap, &mut Oldest, [1, 1, 0, 1])
 }
 
@@ -86,7 +85,7 @@ fn brings_back<K: HeapName, R: Wait>(
 
 // Whether a dropped object's cell is used again.
 fn uses_again<K: HeapName, R: Wait>(rt: &R, mutator: &mut Mutator<K, MemDevice>) -> bool {
-    mutator.drop_object(rt, 1) == Ok(()) && makes(rt, mutator, LONGEST, 1)
+    mutator.drop_object(rt, 1) == Ok(()) && makes(rt, mutator, 1016, 1)
 }
 
 // A round moves the object that was written, and sends the other far, from where it comes back.
@@ -127,7 +126,7 @@ impl Trial<MemDevice> for WaitingRound {
         lent: &mut Lent<K, MemDevice>,
     ) -> bool {
         lent.makes(rt, 8, 0)
-            && lent.makes(rt, LONGEST, 1)
+            && lent.makes(rt, 1016, 1)
             && opened!(
                 lent,
                 scope,
@@ -138,19 +137,17 @@ impl Trial<MemDevice> for WaitingRound {
 }
 
 #[test]
-fn heap_rows(rt: HostRuntime) -> Result<(), Fail> {
-    let alloc = rt.alloc();
-    assert!(rt; try_one(&rt, alloc, blank(&rt, sized(4, 1))?, &NewObject));
-    assert!(rt; try_one(&rt, alloc, blank(&rt, sized(4, 1))?, &PlainRound));
-    assert!(rt; try_one(&rt, alloc, blank(&rt, sized(4, 1))?, &WaitingRound));
-    Ok(())
+fn heap_rows(rt: HostRuntime) {
+    assert!(rt; try_one_in_memory(&rt, rt.alloc(), sized(4, 1), &NewObject));
+    assert!(rt; try_one_in_memory(&rt, rt.alloc(), sized(4, 1), &PlainRound));
+    assert!(rt; try_one_in_memory(&rt, rt.alloc(), sized(4, 1), &WaitingRound));
 }
 
 // Whether three objects fill a log each, and the first is viewed.
 fn fills_three<K: HeapName, R: Wait>(rt: &R, lent: &mut Lent<K, MemDevice>) -> bool {
-    lent.makes(rt, LONGEST, 0)
-        && lent.makes(rt, LONGEST, 1)
-        && lent.makes(rt, LONGEST, 2)
+    lent.makes(rt, 1016, 0)
+        && lent.makes(rt, 1016, 1)
+        && lent.makes(rt, 1016, 2)
         && opened!(lent, scope, reads(scope, 0, [0; 8]))
 }
 
@@ -188,10 +185,8 @@ impl Trial<MemDevice> for HotRound {
 }
 
 #[test]
-fn a_viewed_object_without_room_goes_far(rt: HostRuntime) -> Result<(), Fail> {
-    let alloc = rt.alloc();
-    assert!(rt; try_one(&rt, alloc, blank(&rt, sized(4, 1))?, &HotRound));
-    Ok(())
+fn a_viewed_object_without_room_goes_far(rt: HostRuntime) {
+    assert!(rt; try_one_in_memory(&rt, rt.alloc(), sized(4, 1), &HotRound));
 }
 
 // Whether a round of the first log has marked its object, and waits for nobody.
@@ -214,6 +209,11 @@ fn moves_marked<K: HeapName, R: Wait>(rt: &R, scope: &mut Scope<K, MemDevice>) -
     finds(scope, 0, 0xe400_0000_0001_0008) && reads_slowly(rt, scope, 0, EIGHT)
 }
 
+// Whether an object is written, and another fills the next log.
+fn seals_written<K: HeapName, R: Wait>(rt: &R, lent: &mut Lent<K, MemDevice>) -> bool {
+    lent.makes(rt, 8, 0) && lent.makes(rt, 1016, 1) && opened!(lent, scope, writes_first(scope))
+}
+
 // One step finds the word of a marked object, and a view has the object moved.
 struct MarkedObject;
 
@@ -224,9 +224,7 @@ impl Trial<MemDevice> for MarkedObject {
         heap: &Heap<K, MemDevice>,
         lent: &mut Lent<K, MemDevice>,
     ) -> bool {
-        lent.makes(rt, 8, 0)
-            && lent.makes(rt, LONGEST, 1)
-            && opened!(lent, scope, writes_first(scope))
+        seals_written(rt, lent)
             && of_book!(rt, heap, book, marks_first(book))
             && opened!(
                 lent,
@@ -237,8 +235,6 @@ impl Trial<MemDevice> for MarkedObject {
 }
 
 #[test]
-fn a_marked_object_is_moved_for_a_view(rt: HostRuntime) -> Result<(), Fail> {
-    let alloc = rt.alloc();
-    assert!(rt; try_one(&rt, alloc, blank(&rt, sized(4, 1))?, &MarkedObject));
-    Ok(())
+fn a_marked_object_is_moved_for_a_view(rt: HostRuntime) {
+    assert!(rt; try_one_in_memory(&rt, rt.alloc(), sized(4, 1), &MarkedObject));
 }

@@ -3,18 +3,18 @@
 ghost use Rattle.std.specs.Prelude.{◌≡◌};
 
 use crate::tests::flag::Tally;
-use crate::tests::looks::{blank, has_objects, is_dropped, sized};
-use crate::tests::scopes::{EIGHT, has, makes, reads, viewed, writes};
+use crate::tests::lend::{Lent, of_book, opened};
+use crate::tests::looks::{has_objects, is_dropped, new_blank, sized};
+use crate::tests::scopes::{EIGHT, has, reads, viewed, writes};
 use crate::tests::steps::{deals, gives_up, is_clear, marks, selects};
 use far_device::MemDevice;
 use far_evac::Phase;
 use far_heap::{Blank, Evacuator, Heap, HeapName, Mutator, Scope, View};
 use far_policy::Oldest;
-use far_word::{LONGEST, Refused};
+use far_word::Refused;
 use std::alloc::Global;
 use std::marker::Brand;
 use std::sync::Wait;
-use std::test::Fail;
 use std::thread;
 use std::thread::{Threads, join};
 
@@ -31,24 +31,43 @@ fn holds_the_book<K: HeapName, R: Wait>(
     came && book.shape().logs == 4
 }
 
-// Whether a view of an object is written and read, in a scope of its own, while another thread has the book.
+// Whether a view of an object is written and read.
+fn views<K: HeapName, R: Wait>(rt: &R, scope: &mut Scope<K, MemDevice>) -> bool {
+    match scope.view(rt, 0) {
+        Ok(view) => scope.write(&view, 0, &EIGHT).is_ok() && has(scope, &view, EIGHT),
+        Err(_) => false,
+    }
+}
+
+// The same in a scope of its own, while another thread has the book.
 fn reads_beside<K: HeapName, R: Wait>(
     rt: &R,
-    mutator: Mutator<K, MemDevice>,
+    lent: &mut Lent<K, MemDevice>,
     held: &Tally,
     read: &Tally,
 ) -> bool {
     if !held.wait_for(1) {
         return false;
     }
-    let mut scope = mutator.open();
-    let Ok(view) = scope.view(rt, 0) else {
-        return false;
-    };
-    let done = scope.write(&view, 0, &EIGHT).is_ok() && has(&mut scope, &view, EIGHT);
-    scope.close();
+    let done = opened!(lent, scope, views(rt, scope));
     read.raise();
     done
+}
+
+// A thread has the book until another has read.
+fn reads_under_book<K: HeapName + Send + Sync, R: Threads + Wait + Sync>(
+    rt: &R,
+    heap: &Heap<K, MemDevice>,
+    lent: &mut Lent<K, MemDevice>,
+) -> bool {
+    let (held, read) = (Tally::new(), Tally::new());
+    let (began, ended) = (&held, &read);
+    let (came, done) = join(
+        rt,
+        move || holds_the_book(rt, heap, began, ended),
+        move || reads_beside(rt, lent, began, ended),
+    );
+    came && done
 }
 
 fn held_book<K: HeapName + Send + Sync, R: Threads + Wait + Sync>(
@@ -58,30 +77,19 @@ fn held_book<K: HeapName + Send + Sync, R: Threads + Wait + Sync>(
 ) -> bool
     requires { blank.heap ≡ K.heap }
 {
-    let Ok((heap, mut mutators)) = Heap::<K, MemDevice>::new(alloc, blank) else {
-        return false;
-    };
-    let Some(mut mutator) = mutators.pop() else {
-        return false;
-    };
-    if !makes(rt, &mut mutator, 8, 0) {
-        return false;
+    match Heap::<K, MemDevice>::new(alloc, blank) {
+        Ok((heap, mut mutators)) => {
+            let mut lent = Lent::last_of(&mut mutators);
+            lent.makes(rt, 8, 0) && reads_under_book(rt, &heap, &mut lent)
+        }
+        Err(_) => false,
     }
-    let (held, read) = (Tally::new(), Tally::new());
-    let (shared, began, ended) = (&heap, &held, &read);
-    let (came, done) = join(
-        rt,
-        move || holds_the_book(rt, shared, began, ended),
-        move || reads_beside(rt, mutator, began, ended),
-    );
-    came && done
 }
 
 #[test]
-fn read_under_held_book(rt: HostRuntime) -> Result<(), Fail> {
+fn read_under_held_book(rt: HostRuntime) {
     let alloc = rt.alloc();
-    assert!(rt; held_book::<Brand, _>(&rt, alloc, blank(&rt, sized(4, 1))?));
-    Ok(())
+    assert!(rt; held_book::<Brand, _>(&rt, alloc, new_blank(&rt, alloc, sized(4, 1))));
 }
 
 // Reads by a view that another thread made, and closes the scope.
@@ -96,20 +104,40 @@ fn ends_scope<K: HeapName>(
     }
 }
 
+// A view of an object that is written.
+fn written<K: HeapName>(scope: &mut Scope<K, MemDevice>) -> Option<View> {
+    if writes(scope, 0, EIGHT) {
+        viewed(scope, 0)
+    } else {
+        None
+    }
+}
+
 // A scope with a view goes to another thread, and its mutator comes back.
 fn moves_there<K: HeapName + Send + Sync + 'static, R: Threads + Wait>(
     rt: &R,
     mut scope: Scope<K, MemDevice>,
 ) -> Option<Mutator<K, MemDevice>> {
-    if !writes(&mut scope, 0, EIGHT) {
-        return None;
+    match written(&mut scope) {
+        Some(view) => match thread::spawn(rt, move || ends_scope(scope, view)) {
+            Ok(there) => there.join(rt),
+            Err(_) => None,
+        },
+        None => None,
     }
-    let Some(view) = viewed(&mut scope, 0) else {
-        return None;
-    };
-    match thread::spawn(rt, move || ends_scope(scope, view)) {
-        Ok(there) => there.join(rt),
-        Err(_) => None,
+}
+
+// The same of a new scope, and then one more reads.
+fn moves_and_reads<K: HeapName + Send + Sync + 'static, R: Threads + Wait>(
+    rt: &R,
+    lent: &mut Lent<K, MemDevice>,
+) -> bool {
+    match lent.take() {
+        Some(mutator) => match moves_there(rt, mutator.open()) {
+            Some(back) => reads(&mut back.open(), 0, EIGHT),
+            None => false,
+        },
+        None => false,
     }
 }
 
@@ -120,26 +148,19 @@ fn moved_scope<K: HeapName + Send + Sync + 'static, R: Threads + Wait>(
 ) -> bool
     requires { blank.heap ≡ K.heap }
 {
-    let Ok((_heap, mut mutators)) = Heap::<K, MemDevice>::new(alloc, blank) else {
-        return false;
-    };
-    let Some(mut mutator) = mutators.pop() else {
-        return false;
-    };
-    if !makes(rt, &mut mutator, 8, 0) {
-        return false;
-    }
-    match moves_there(rt, mutator.open()) {
-        Some(mutator) => reads(&mut mutator.open(), 0, EIGHT),
-        None => false,
+    match Heap::<K, MemDevice>::new(alloc, blank) {
+        Ok((_heap, mut mutators)) => {
+            let mut lent = Lent::last_of(&mut mutators);
+            lent.makes(rt, 8, 0) && moves_and_reads(rt, &mut lent)
+        }
+        Err(_) => false,
     }
 }
 
 #[test]
-fn moves_between_threads(rt: HostRuntime) -> Result<(), Fail> {
+fn moves_between_threads(rt: HostRuntime) {
     let alloc = rt.alloc();
-    assert!(rt; moved_scope::<Brand, _>(&rt, alloc, blank(&rt, sized(4, 1))?));
-    Ok(())
+    assert!(rt; moved_scope::<Brand, _>(&rt, alloc, new_blank(&rt, alloc, sized(4, 1))));
 }
 
 // Whether a round retires the one object of the first log, which is dropped.
@@ -165,15 +186,37 @@ fn retires_first<K: HeapName, R: Wait>(rt: &R, heap: &Heap<K, MemDevice>, held: 
 }
 
 // Drops an object while another thread has the book.
-fn drops_beside<K: HeapName, R: Wait>(
+fn drops_beside<K: HeapName, R: Wait>(rt: &R, lent: &mut Lent<K, MemDevice>, held: &Tally) -> bool {
+    held.wait_for(1) && lent.drops(rt, 0)
+}
+
+// A round retires what its owner drops beside it.
+fn retires_beside<K: HeapName + Send + Sync, R: Threads + Wait + Sync>(
     rt: &R,
-    mut mutator: Mutator<K, MemDevice>,
-    held: &Tally,
-) -> Option<Mutator<K, MemDevice>> {
-    if !held.wait_for(1) || mutator.drop_object(rt, 0).is_err() {
-        return None;
-    }
-    Some(mutator)
+    heap: &Heap<K, MemDevice>,
+    lent: &mut Lent<K, MemDevice>,
+) -> bool {
+    let held = Tally::new();
+    let began = &held;
+    let (retired, dropped) = join(
+        rt,
+        move || retires_first(rt, heap, began),
+        move || drops_beside(rt, lent, began),
+    );
+    retired && dropped
+}
+
+// Two objects, of which the first is dropped, and another made at its pointer.
+fn drops_and_makes<K: HeapName + Send + Sync, R: Threads + Wait + Sync>(
+    rt: &R,
+    heap: &Heap<K, MemDevice>,
+    lent: &mut Lent<K, MemDevice>,
+) -> bool {
+    lent.makes(rt, 8, 0)
+        && lent.makes(rt, 1016, 1)
+        && retires_beside(rt, heap, lent)
+        && of_book!(rt, heap, book, has_objects(book, 1))
+        && lent.makes(rt, 8, 0)
 }
 
 fn dropped_beside<K: HeapName + Send + Sync, R: Threads + Wait + Sync>(
@@ -183,34 +226,20 @@ fn dropped_beside<K: HeapName + Send + Sync, R: Threads + Wait + Sync>(
 ) -> bool
     requires { blank.heap ≡ K.heap }
 {
-    let Ok((heap, mut mutators)) = Heap::<K, MemDevice>::new(alloc, blank) else {
-        return false;
-    };
-    let Some(mut mutator) = mutators.pop() else {
-        return false;
-    };
-    if !makes(rt, &mut mutator, 8, 0) || !makes(rt, &mut mutator, LONGEST, 1) {
-        return false;
+    match Heap::<K, MemDevice>::new(alloc, blank) {
+        Ok((heap, mut mutators)) => {
+            let mut lent = Lent::last_of(&mut mutators);
+            drops_and_makes(rt, &heap, &mut lent)
+        }
+        Err(_) => false,
     }
-    let held = Tally::new();
-    let (shared, began) = (&heap, &held);
-    let (retired, dropped) = join(
-        rt,
-        move || retires_first(rt, shared, began),
-        move || drops_beside(rt, mutator, began),
-    );
-    let Some(mut mutator) = dropped else {
-        return false;
-    };
-    retired && has_objects(&mut *heap.book(rt), 1) && makes(rt, &mut mutator, 8, 0)
 }
 
 // A round may retire an object between its owner's mark and the lock.
 #[test]
-fn a_round_may_retire_what_is_dropped(rt: HostRuntime) -> Result<(), Fail> {
+fn a_round_may_retire_what_is_dropped(rt: HostRuntime) {
     let alloc = rt.alloc();
-    assert!(rt; dropped_beside::<Brand, _>(&rt, alloc, blank(&rt, sized(4, 1))?));
-    Ok(())
+    assert!(rt; dropped_beside::<Brand, _>(&rt, alloc, new_blank(&rt, alloc, sized(4, 1))));
 }
 
 // Gives up a round that waits; whether one did.
@@ -238,6 +267,29 @@ fn is_ended<K: HeapName, R: Wait>(rt: &R, heap: &Heap<K, MemDevice>) -> bool {
 }
 
 // A round that waits for an open scope is ended by another thread.
+fn ends_beside<K: HeapName + Send + Sync, R: Threads + Wait + Sync>(
+    rt: &R,
+    heap: &Heap<K, MemDevice>,
+) -> bool {
+    let (refused, gave_up) = join(rt, move || is_ended(rt, heap), move || ends_other(rt, heap));
+    refused && gave_up
+}
+
+// Two objects, and a round beside a scope that stays open.
+fn ends_and_reads<K: HeapName + Send + Sync, R: Threads + Wait + Sync>(
+    rt: &R,
+    heap: &Heap<K, MemDevice>,
+    lent: &mut Lent<K, MemDevice>,
+) -> bool {
+    lent.makes(rt, 8, 0)
+        && lent.makes(rt, 1016, 1)
+        && opened!(
+            lent,
+            scope,
+            ends_beside(rt, heap) && reads(scope, 0, [0; 8])
+        )
+}
+
 fn ended_round<K: HeapName + Send + Sync, R: Threads + Wait + Sync>(
     rt: &R,
     alloc: Global,
@@ -245,28 +297,17 @@ fn ended_round<K: HeapName + Send + Sync, R: Threads + Wait + Sync>(
 ) -> bool
     requires { blank.heap ≡ K.heap }
 {
-    let Ok((heap, mut mutators)) = Heap::<K, MemDevice>::new(alloc, blank) else {
-        return false;
-    };
-    let Some(mut mutator) = mutators.pop() else {
-        return false;
-    };
-    if !makes(rt, &mut mutator, 8, 0) || !makes(rt, &mut mutator, LONGEST, 1) {
-        return false;
+    match Heap::<K, MemDevice>::new(alloc, blank) {
+        Ok((heap, mut mutators)) => {
+            let mut lent = Lent::last_of(&mut mutators);
+            ends_and_reads(rt, &heap, &mut lent)
+        }
+        Err(_) => false,
     }
-    let mut scope = mutator.open();
-    let shared = &heap;
-    let (refused, gave_up) = join(
-        rt,
-        move || is_ended(rt, shared),
-        move || ends_other(rt, shared),
-    );
-    refused && gave_up && reads(&mut scope, 0, [0; 8])
 }
 
 #[test]
-fn a_round_may_be_ended_by_another(rt: HostRuntime) -> Result<(), Fail> {
+fn a_round_may_be_ended_by_another(rt: HostRuntime) {
     let alloc = rt.alloc();
-    assert!(rt; ended_round::<Brand, _>(&rt, alloc, blank(&rt, sized(4, 1))?));
-    Ok(())
+    assert!(rt; ended_round::<Brand, _>(&rt, alloc, new_blank(&rt, alloc, sized(4, 1))));
 }

@@ -1,12 +1,11 @@
 //! What a mutator and its scope tell of objects without a step: how long each is, and of which data structure.
 
-use crate::tests::lend::{Lent, Trial, closed, opened, try_one};
-use crate::tests::looks::{blank, sized};
+use crate::tests::lend::{Lent, Trial, closed, opened, try_one_in_memory};
+use crate::tests::looks::sized;
 use far_device::MemDevice;
 use far_heap::{Heap, HeapName, Mutator, Scope};
 use far_word::LONGEST;
 use std::sync::Wait;
-use std::test::Fail;
 
 // Whether a mutator tells this of a pointer.
 fn tells<K: HeapName>(
@@ -68,8 +67,6 @@ impl Trial<MemDevice> for ToldObjects {
 
 // A mutator tells the length and the data structure of what it uses, and so does its scope.
 #[test]
-fn an_object_is_told_as_it_was_made(rt: HostRuntime) -> Result<(), Fail> {
-    let alloc = rt.alloc();
-    assert!(rt; try_one(&rt, alloc, blank(&rt, sized(4, 1))?, &ToldObjects));
-    Ok(())
+fn an_object_is_told_as_it_was_made(rt: HostRuntime) {
+    assert!(rt; try_one_in_memory(&rt, rt.alloc(), sized(4, 1), &ToldObjects));
 }

@@ -2,7 +2,7 @@
 
 ghost use Rattle.std.specs.Prelude.{◌≡◌};
 
-use crate::tests::looks::{blank, sized};
+use crate::tests::looks::{new_blank, sized};
 use far_device::{FailAt, MemDevice};
 use far_evac::RoundEnd;
 use far_heap::{Blank, Heap, HeapName, Mutator, Scope};
@@ -11,7 +11,6 @@ use far_word::{LONGEST, Refused};
 use std::alloc::{AllocError, Global};
 use std::marker::Brand;
 use std::sync::Wait;
-use std::test::Fail;
 use std::thread;
 use std::thread::Threads;
 
@@ -143,10 +142,9 @@ fn one_heap<K: HeapName, R: Wait>(rt: &R, alloc: Global, blank: Blank<MemDevice>
 }
 
 #[test]
-fn records_and_rounds(rt: HostRuntime) -> Result<(), Fail> {
-    let blank = blank(&rt, sized(4, 1))?;
+fn records_and_rounds(rt: HostRuntime) {
+    let blank = new_blank(&rt, rt.alloc(), sized(4, 1));
     assert!(rt; one_heap::<Brand, _>(&rt, rt.alloc(), blank));
-    Ok(())
 }
 
 // Each mutator works in a thread, and after that in another one.
@@ -183,10 +181,12 @@ fn two_heaps<K: HeapName + Send + Sync, L: HeapName, R: Threads + Wait + Sync>(
 }
 
 #[test]
-fn two_heaps_in_one_program(rt: HostRuntime) -> Result<(), Fail> {
-    let blanks = (blank(&rt, sized(4, 2))?, blank(&rt, sized(4, 1))?);
+fn two_heaps_in_one_program(rt: HostRuntime) {
+    let blanks = (
+        new_blank(&rt, rt.alloc(), sized(4, 2)),
+        new_blank(&rt, rt.alloc(), sized(4, 1)),
+    );
     assert!(rt; two_heaps::<Brand, Brand, _>(&rt, rt.alloc(), blanks));
-    Ok(())
 }
 
 // A round over a device that may fail: at a failure the next turn tries the same object again.
@@ -228,9 +228,10 @@ fn over_a_device<K: HeapName, R: Wait>(
 }
 
 #[test]
-fn a_device_that_fails(rt: HostRuntime) -> Result<(), Fail> {
+fn a_device_that_fails(rt: HostRuntime) {
     let device = FailAt::new(MemDevice::new(rt.alloc()), 1);
-    let blank = Blank::new(rt.alloc(), sized(4, 1), device)?;
+    let Ok(blank) = Blank::new(rt.alloc(), sized(4, 1), device) else {
+        panic!(rt; "no heap is made");
+    };
     assert!(rt; over_a_device::<Brand, _>(&rt, rt.alloc(), blank));
-    Ok(())
 }
