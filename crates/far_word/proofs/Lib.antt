@@ -2,6 +2,7 @@ pub mod ByteLaws
 pub mod CountLaws
 pub mod FieldLaws
 pub mod HeaderLaws
+pub mod JobLaws
 pub mod MaskLaws
 pub mod PointerLaws
 pub mod ScopeLaws

@@ -3,12 +3,14 @@ use Rattle.std.specs.Prelude.{◌≡◌, ◌≢◌, ℕ, ◌+◌, ◌-◌, ◌*�
 use Rattle.std.specs.List.{range_with_len}
 use Rattle.far_word.specs.Bytes.{bytes_of, words_of, packed_word, with_word}
 use Rattle.far_word.specs.Header.{IsHead, head_word, head_of}
+use Rattle.far_word.specs.Job.{IsJobWord, job_of, job_word}
 use Rattle.far_word.specs.Mark.{position}
 use Rattle.far_word.specs.Pointer.{IsPtr, word_of, read_of, takes_mark, with_mark, without_evac, without_owner_marks, view_place}
 use Rattle.far_word.specs.Refused.{refusal_number}
 use Rattle.far_word.specs.Scope.{IsScope, scope_word, scope_of}
 use Rattle.far_word.specs.Sizes.{size_of, words_for, bytes_taken}
 use Rattle.far_word.specs.declared.header.HeadWord.{HeadWord}
+use Rattle.far_word.specs.declared.job.JobWord.{JobWord}
 use Rattle.far_word.specs.declared.mark.Mark.{Mark}
 use Rattle.far_word.specs.declared.mark.Mark.TheVariants.{Hot}
 use Rattle.far_word.specs.declared.pointer.Place.{Place}
@@ -69,6 +71,13 @@ ScopesReadBack = (s : ScopeWord) → IsScope s → (scope_of (scope_word s) ≡ 
 
 abbrev pub ScopesPackBack : Type 0
 ScopesPackBack = (w : ℕ) → IfSome (scope_of w) (λ s. IsScope s × (scope_word s ≡ w))
+
+-- ---- job words
+abbrev pub JobsReadBack : Type 0
+JobsReadBack = (v : JobWord) → IsJobWord v → (job_of (job_word v) ≡ Some v) × (job_word v < 2 ^ 64)
+
+abbrev pub JobsPackBack : Type 0
+JobsPackBack = (w : ℕ) → IfSome (job_of w) (λ v. IsJobWord v × (job_word v ≡ w))
 
 -- ---- sizes
 -- as few words as hold the bytes, eight to a word

@@ -1,6 +1,7 @@
 pub mod Bytes
 pub mod Counts
 pub mod Header
+pub mod Job
 pub mod Laws
 pub mod Mark
 pub mod Pointer

@@ -2,10 +2,14 @@
 use Rattle.std.specs.Prelude.{◌≡◌, ℕ, ◌-◌, ◌^◌, true, false, Some, None, List, [], ◌∷◌, slice_index}
 use Rattle.far_word.specs.Bytes.{bytes_of, words_of}
 use Rattle.far_word.specs.Header.{head_word, head_of}
+use Rattle.far_word.specs.Job.{job_of, job_word}
 use Rattle.far_word.specs.Mark.{position}
 use Rattle.far_word.specs.Pointer.{word_of, read_of}
 use Rattle.far_word.specs.Scope.{scope_word, scope_of}
 use Rattle.far_word.specs.declared.header.HeadWord.{HeadWord}
+use Rattle.far_word.specs.declared.job.Job.{Job}
+use Rattle.far_word.specs.declared.job.JobWord.{JobWord}
+use Rattle.far_word.specs.declared.job.JobWord.TheVariants.{Empty, Offered, Taken, Finished}
 use Rattle.far_word.specs.declared.mark.Mark.TheVariants.{Hot, Evac, Moved, Dropped}
 use Rattle.far_word.specs.declared.mark.Marks.{Marks}
 use Rattle.far_word.specs.declared.pointer.PtrWord.{PtrWord}
@@ -98,6 +102,35 @@ ScopeRowsHold = IsScopeWord 0 Closed
 -- an even word; an epoch of 2^62
 abbrev pub ScopesAreRefused : Type 0
 ScopesAreRefused = (scope_of 2 ≡ None) × (scope_of 0x8000_0000_0000_0001 ≡ None)
+
+-- ---- job words: pointer 0 from log 0 to log 2, offered, taken by copier 3, finished by it; each field as large as it may be
+abbrev pub IsJobOf : ℕ → JobWord → Type 0
+IsJobOf w v = (job_word v ≡ w) × (job_of w ≡ Some v)
+
+abbrev pub to_log_2 : Job
+to_log_2 = record { pointer = 0; from = record { log = 0; at = 0 }; to = record { log = 2; at = 0 } }
+
+abbrev pub largest_job : Job
+largest_job = record { pointer = 1023; from = record { log = 63; at = 126 }; to = record { log = 63; at = 126 } }
+
+abbrev pub JobRowsHold : Type 0
+JobRowsHold = IsJobOf 0 Empty
+    × IsJobOf 0x4000_2000_0000_0000 (Offered to_log_2)
+    × IsJobOf 0x8c00_2000_0000_0000 (Taken to_log_2 3)
+    × IsJobOf 0xcc00_2000_0000_0000 (Finished to_log_2 3)
+    × IsJobOf 0xdc03_f1f8_fc7e_03ff (Finished largest_job 7)
+
+-- no stage; a copier while offered; copier 8; pointer 1,024; offsets 127; log 64; the lowest and the highest of the bits that are zero
+abbrev pub JobsAreRefused : Type 0
+JobsAreRefused = (job_of 0x0000_2000_0000_0000 ≡ None)
+    × (job_of 0x4c00_2000_0000_0000 ≡ None)
+    × (job_of 0xa000_2000_0000_0000 ≡ None)
+    × (job_of 0x4000_2000_0000_0400 ≡ None)
+    × (job_of 0x4000_2000_007f_0000 ≡ None)
+    × (job_of 0x4000_21fc_0000_0000 ≡ None)
+    × (job_of 0x4004_0000_0000_0000 ≡ None)
+    × (job_of 0x4010_2000_0000_0000 ≡ None)
+    × (job_of 0x4200_2000_0000_0000 ≡ None)
 
 -- ---- bytes
 abbrev pub one_to_nine : List ℕ

@@ -1,11 +1,11 @@
 //! What holds of every word, and what the numbers are, as contracts of functions that do nothing.
 
 ghost use Rattle.std.specs.Prelude.{◌≡◌, ◌+◌, ◌*◌, ◌^◌};
-ghost use Rattle.far_word.specs.declared.sizes.TheConstants.{LOG_WORDS, LOG_BYTES, LONGEST, LEAST_LOGS, MOST_LOGS, LEAST_MUTATORS, MOST_MUTATORS, CELLS, POINTERS, EPOCH_END};
+ghost use Rattle.far_word.specs.declared.sizes.TheConstants.{LOG_WORDS, LOG_BYTES, LONGEST, LEAST_LOGS, MOST_LOGS, LEAST_MUTATORS, MOST_MUTATORS, CELLS, POINTERS, JOBS, MOST_COPIERS, EPOCH_END};
 ghost use Rattle.far_word.specs.Header.{len_in, ds_in, pointer_in, version_in, head_word};
 ghost use Rattle.far_word.specs.Mark.{field};
-ghost use Rattle.far_word.specs.Laws.{MarkIsSet, MarkIsRead, MarkIsRefused, EvacIsCleared, OwnerMarksAreCleared, ViewsRest, PointersReadBack, PointersPackBack, HeadersReadBack, HeadersPackBack, ScopesReadBack, ScopesPackBack, WordsHoldBytes, HeaderIsAdded, ObjectsFit, BytesUnpackBack, WordsPackBack, WrittenIsRead, RefusalsAreNumbered};
-ghost use Rattle.far_word.specs.Rows.{NearRowsHold, MarkedRowsHold, FarRowsHold, FreeRowHolds, PointersAreRefused, MarkBitsStand, HeaderRowsHold, HeadersAreRefused, ScopeRowsHold, ScopesAreRefused, NineBytesPack};
+ghost use Rattle.far_word.specs.Laws.{MarkIsSet, MarkIsRead, MarkIsRefused, EvacIsCleared, OwnerMarksAreCleared, ViewsRest, PointersReadBack, PointersPackBack, HeadersReadBack, HeadersPackBack, JobsReadBack, JobsPackBack, ScopesReadBack, ScopesPackBack, WordsHoldBytes, HeaderIsAdded, ObjectsFit, BytesUnpackBack, WordsPackBack, WrittenIsRead, RefusalsAreNumbered};
+ghost use Rattle.far_word.specs.Rows.{NearRowsHold, MarkedRowsHold, FarRowsHold, FreeRowHolds, PointersAreRefused, MarkBitsStand, HeaderRowsHold, HeadersAreRefused, JobRowsHold, JobsAreRefused, ScopeRowsHold, ScopesAreRefused, NineBytesPack};
 ghost use Rattle.far_word.specs.Sizes.{size_of};
 
 /// The word of a pointer on the layout reads as that pointer, and what a word reads as has that word.
@@ -41,6 +41,12 @@ pub fn scope_words()
     ensures found { ScopesPackBack }
 {}
 
+/// The word of a job on the layout reads as that job, and what a word reads as has that word.
+pub fn job_words()
+    ensures back { JobsReadBack }
+    ensures found { JobsPackBack }
+{}
+
 /// Bytes that were packed are unpacked as they were, and words as well, where the bits after the last byte are zero;
 /// bytes that were written over are read as they were written, and all others as they were.
 pub fn packed_bytes()
@@ -61,6 +67,8 @@ pub fn sizes_are()
     ensures most_mutators { MOST_MUTATORS ≡ 8 }
     ensures cells { CELLS ≡ 128 }
     ensures pointers { POINTERS ≡ 1024 }
+    ensures jobs { JOBS ≡ 16 }
+    ensures most_copiers { MOST_COPIERS ≡ 8 }
     ensures epoch_end { EPOCH_END ≡ 2 ^ 62 }
 
     ensures cells_of_all { POINTERS ≡ CELLS * MOST_MUTATORS }
@@ -84,7 +92,7 @@ pub fn header_is()
 
 /// Worked words in hexadecimal, each packed from what it says and read as that, and words off the layout. Beside the
 /// laws of words they fix where each field stands.
-#[tactic(auto, unfolding(crate::specs::Pointer::read_of, crate::specs::Header::head_of, crate::specs::Scope::scope_of, crate::specs::Bytes::words_of, crate::specs::Bytes::bytes_of))]
+#[tactic(auto, unfolding(crate::specs::Pointer::read_of, crate::specs::Header::head_of, crate::specs::Scope::scope_of, crate::specs::Job::job_of, crate::specs::Bytes::words_of, crate::specs::Bytes::bytes_of))]
 pub fn words_are()
     ensures near { NearRowsHold }
     ensures marked { MarkedRowsHold }
@@ -98,6 +106,9 @@ pub fn words_are()
 
     ensures scope { ScopeRowsHold }
     ensures no_scope { ScopesAreRefused }
+
+    ensures job { JobRowsHold }
+    ensures no_job { JobsAreRefused }
 
     ensures bytes { NineBytesPack }
 {}

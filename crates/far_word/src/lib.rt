@@ -1,4 +1,4 @@
-//! The words of a far memory heap: a pointer cell, an object's header, a mutator's scope.
+//! The words of a far memory heap: a pointer cell, an object's header, a mutator's scope, a copier's job.
 //!
 //! This crate alone knows where a bit stands. It takes no memory.
 #![tactic(auto)]
@@ -6,6 +6,7 @@
 mod bytes;
 mod field;
 mod header;
+mod job;
 mod laws;
 mod mark;
 mod pointer;
@@ -15,9 +16,10 @@ mod sizes;
 
 pub use bytes::{pack_bytes, unpack_bytes};
 pub use header::HeadWord;
+pub use job::{Job, JobWord};
 pub use laws::{
-    header_is, header_words, packed_bytes, pointer_marks, pointer_words, refusal_numbers,
-    scope_words, sizes_are, words_are,
+    header_is, header_words, job_words, packed_bytes, pointer_marks, pointer_words,
+    refusal_numbers, scope_words, sizes_are, words_are,
 };
 pub use mark::{Mark, Marks};
 pub use pointer::{
@@ -26,6 +28,6 @@ pub use pointer::{
 pub use refused::Refused;
 pub use scope::ScopeWord;
 pub use sizes::{
-    CELLS, EPOCH_END, LEAST_LOGS, LEAST_MUTATORS, LOG_BYTES, LOG_WORDS, LONGEST, MOST_LOGS,
-    MOST_MUTATORS, POINTERS, size_of, words_for,
+    CELLS, EPOCH_END, JOBS, LEAST_LOGS, LEAST_MUTATORS, LOG_BYTES, LOG_WORDS, LONGEST,
+    MOST_COPIERS, MOST_LOGS, MOST_MUTATORS, POINTERS, size_of, words_for,
 };

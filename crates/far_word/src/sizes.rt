@@ -30,6 +30,12 @@ pub const CELLS: u16 = 128;
 /// The pointer cells of the largest heap.
 pub const POINTERS: u16 = 1024;
 
+/// The job words of a heap, each for the copy of one object.
+pub const JOBS: u8 = 16;
+
+/// The most copiers of a heap.
+pub const MOST_COPIERS: u8 = 8;
+
 /// Epochs stay below this.
 pub const EPOCH_END: u64 = 1 << 62;
 

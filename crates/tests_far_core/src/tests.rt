@@ -1,5 +1,4 @@
-//! Whether the clauses say what was meant, by worked values. Words of cells come from the layout's own table of examples, and
-//! headers are made field by field.
+//! Whether the clauses say what was meant, by worked values. All words come from the layout's own table of examples.
 
 mod calls;
 mod dropping;
@@ -158,11 +157,6 @@ fn name(pointer: u16, old: u64, new: u64) -> Event {
     Event::Name { pointer, old, new }
 }
 
-/// The header word of an object, field by field.
-fn header(pointer: u16, len: u16, ds: u8) -> u64 {
-    0xa1 << 56 | (pointer as u64) << 24 | (ds as u64) << 16 | len as u64
-}
-
 fn put(log: u8, at: u16, word: u64) -> (Event, Reply) {
     (Event::Put { log, at, word }, Reply::Done)
 }
@@ -220,13 +214,13 @@ fn peopled(rt: &impl Abort, alloc: Global) -> Core {
         rt,
         &mut core,
         &[
-            put(0, 0, header(0, 9, 1)),
+            put(0, 0, 0xa100_0000_0001_0009),
             named(0, 0x8400_0000_0001_0009),
-            put(0, 3, header(1, 8, 1)),
+            put(0, 3, 0xa100_0000_0101_0008),
             named(1, 0x8400_0000_0301_0008),
-            put(0, 5, header(128, 8, 1)),
+            put(0, 5, 0xa100_0000_8001_0008),
             named(128, 0x8400_0000_0501_0008),
-            put(0, 7, header(2, 8, 1)),
+            put(0, 7, 0xa100_0000_0201_0008),
             named(2, 0x8400_0000_0701_0008),
             adopted(0, 0, 0x8400_0000_0001_0009),
             adopted(0, 2, 0x8400_0000_0701_0008),

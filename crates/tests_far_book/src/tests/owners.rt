@@ -8,7 +8,7 @@ use crate::tests::moving::{loaded, moves_to};
 use far_book::{Book, Plain};
 use far_core::{Core, Event, Kind, Reply};
 use far_device::MemDevice;
-use far_word::{LOG_BYTES, LONGEST, Place};
+use far_word::Place;
 
 /// The cell of pointer 0, an object of 8 bytes of data structure 1 at the start of log 0: as it is named, with HOT, and with HOT
 /// and EVAC.
@@ -37,7 +37,7 @@ fn drops_after_a_close(book: &mut Book<Plain, MemDevice>) -> bool {
         && answers(book, Event::Close { owner }, Reply::Done)
         && answers(book, DROP, Reply::Word(WAS_HOT))
         && retire_dropped(book, pointer)
-        && has(book, 0, line(Kind::Open, 0, 0, 16, LOG_BYTES - 16))
+        && has(book, 0, line(Kind::Open, 0, 0, 16, 1008))
         && answers(book, DROP, Reply::Refused)
 }
 
@@ -111,7 +111,7 @@ fn stores_and_seals(book: &mut Book<Plain, MemDevice>) -> bool {
     views_first(book)
         && answers(book, store, Reply::Done)
         && answers(book, Event::Close { owner }, Reply::Done)
-        && places_next(book, LONGEST, 1, Place { log: 1, at: 0 })
+        && places_next(book, 1016, 1, Place { log: 1, at: 0 })
 }
 
 // Whether its owner isn't given the object once it is marked, and asks for it to move.

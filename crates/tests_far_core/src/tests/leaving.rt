@@ -35,9 +35,9 @@ fn settled(rt: &impl Abort, alloc: Global) -> Core {
         rt,
         &mut core,
         &[
-            put(0, 0, header(0, 8, 1)),
+            put(0, 0, 0xa100_0000_0001_0008),
             named(0, NEAR),
-            put(1, 0, header(1, 8, 1)),
+            put(1, 0, 0xa100_0000_0101_0008),
             named(1, NEXT),
             adopted(0, 0, NEAR),
         ],

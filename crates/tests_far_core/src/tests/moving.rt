@@ -20,6 +20,8 @@ const FAR: u64 = 0x0400_0000_0001_0009;
 /// And at the tail of log 2.
 const BACK: u64 = 0x8400_0008_0201_0009;
 
+const HEADER: u64 = 0xa100_0000_0101_0009;
+
 const FIRST: u64 = 0x0807_0605_0403_0201;
 
 fn ask(pointer: u16, mark: Mark) -> Event {
@@ -45,9 +47,9 @@ fn written(rt: &impl Abort, alloc: Global, honest: bool) -> Core {
         rt,
         &mut core,
         &[
-            put(0, 0, header(0, 9, 1)),
+            put(0, 0, 0xa100_0000_0001_0009),
             named(0, 0x8400_0000_0001_0009),
-            put(0, 3, header(1, 9, 1)),
+            put(0, 3, HEADER),
             named(1, PLACED),
             adopted(0, 0, 0x8400_0000_0001_0009),
             adopted(0, 1, PLACED),
@@ -62,10 +64,10 @@ fn written(rt: &impl Abort, alloc: Global, honest: bool) -> Core {
             stored(1, 0, FIRST),
             stored(1, 1, 9),
             (Event::Close { owner: 0 }, Reply::Done),
-            put(0, 6, header(1, 9, 1)),
+            put(0, 6, HEADER),
             put(0, 7, FIRST),
             put(0, 8, 9),
-            put(1, 0, header(1, 9, 1)),
+            put(1, 0, HEADER),
             put(1, 1, FIRST),
             put(1, 2, 9),
         ],
@@ -139,7 +141,7 @@ fn an_object_that_is_only_marked_stays(rt: HostRuntime) {
         &rt,
         &mut core,
         &[
-            put(2, 0, header(2, 8, 1)),
+            put(2, 0, 0xa100_0000_0201_0008),
             named(2, 0x8400_0008_0001_0008),
             (Event::Mark { pointer: 1 }, Reply::Word(VIEWED)),
             (Event::See { pointer: 1 }, Reply::Word(evac)),
@@ -186,9 +188,9 @@ fn a_copy_that_is_not_whole_refuses(rt: HostRuntime) {
             put(0, 7, 0),
             (name(1, MOVING, AT_TAIL), Reply::Refused),
             put(0, 7, FIRST),
-            put(0, 6, header(0, 9, 1)),
+            put(0, 6, 0xa100_0000_0001_0009),
             (name(1, MOVING, AT_TAIL), Reply::Refused),
-            put(0, 6, header(1, 9, 1)),
+            put(0, 6, HEADER),
             (name(1, MOVING, AT_TAIL), Reply::Done),
         ],
         &[],
@@ -231,7 +233,7 @@ fn away(rt: &impl Abort, alloc: Global, honest: bool) -> Core {
         rt,
         &mut core,
         &[
-            put(2, 0, header(2, 8, 1)),
+            put(2, 0, 0xa100_0000_0201_0008),
             named(2, 0x8400_0008_0001_0008),
             (Event::Mark { pointer: 1 }, Reply::Word(VIEWED)),
             (ask(1, Mark::Moved), Reply::Word(0xe400_0000_0301_0009)),
@@ -249,7 +251,7 @@ fn an_object_goes_away_and_comes_back(rt: HostRuntime) {
         &rt,
         &mut core,
         &[
-            put(2, 2, header(1, 9, 1)),
+            put(2, 2, HEADER),
             put(2, 3, FIRST),
             put(2, 4, 9),
             (name(1, FAR, BACK), Reply::Done),
@@ -267,7 +269,7 @@ fn other_words_than_those_stored_refuse(rt: HostRuntime) {
         &rt,
         core,
         &[
-            put(2, 2, header(1, 9, 1)),
+            put(2, 2, HEADER),
             put(2, 3, FIRST),
             put(2, 4, 8),
             (name(1, FAR, BACK), Reply::Refused),
@@ -290,7 +292,7 @@ fn a_lying_far_side_gives_any_words(rt: HostRuntime) {
         &rt,
         &mut core,
         &[
-            put(2, 2, header(1, 9, 1)),
+            put(2, 2, HEADER),
             put(2, 3, u64::MAX),
             put(2, 4, 0x100),
             (name(1, FAR, BACK), Reply::Refused),

@@ -12,7 +12,7 @@ fn holding_pair(rt: &impl Abort, alloc: Global) -> Core {
         rt,
         &mut core,
         &[
-            put(0, 0, header(0, 16, 1)),
+            put(0, 0, 0xa100_0000_0001_0010),
             named(0, PAIR),
             adopted(0, 0, PAIR),
             (Event::ReadEpoch { owner: 0 }, Reply::Epoch(5)),

@@ -13,7 +13,7 @@ use far_core::Shape;
 use far_device::MemDevice;
 use far_evac::{Evac, LogKind, Phase};
 use far_policy::{Oldest, Scripted};
-use far_word::{LOG_BYTES, Marks, Place};
+use far_word::{Marks, Place};
 
 // Whether an object lies at the start of a log, and the book wants that log.
 fn is_leaving(evac: &mut Evac<Plain, MemDevice>, pointer: u16, log: u8) -> bool {
@@ -78,8 +78,8 @@ fn no_mark_is_needed(rt: HostRuntime) {
 
 // Whether logs 0 and 1 are sealed in this order, and have what they had.
 fn stand_as_before(evac: &mut Evac<Plain, MemDevice>) -> bool {
-    is_log(evac, 0, LogKind::Sealed, [LOG_BYTES, 0, 0])
-        && is_log(evac, 1, LogKind::Sealed, [LOG_BYTES, 0, 0])
+    is_log(evac, 0, LogKind::Sealed, [1024, 0, 0])
+        && is_log(evac, 1, LogKind::Sealed, [1024, 0, 0])
         && lies_in(evac, 0, 0)
         && lies_in(evac, 1, 1)
         && is_in(evac, Phase::Idle)
@@ -125,8 +125,8 @@ fn gives_up_midway(evac: &mut Evac<Plain, MemDevice>) -> bool {
 fn is_half_done(evac: &mut Evac<Plain, MemDevice>) -> bool {
     is_far(evac, 0)
         && lies_in(evac, 1, 1)
-        && is_log(evac, 0, LogKind::Free, [0, 0, LOG_BYTES])
-        && is_log(evac, 1, LogKind::Sealed, [LOG_BYTES, 0, 0])
+        && is_log(evac, 0, LogKind::Free, [0, 0, 1024])
+        && is_log(evac, 1, LogKind::Sealed, [1024, 0, 0])
         && selects(evac, &mut Oldest, 2, &[1])
 }
 
@@ -147,13 +147,13 @@ fn deals_with_one(evac: &mut Evac<Plain, MemDevice>) -> bool {
         && makes_three(evac)
         && comes_to_leaving(evac, &mut Oldest, 1)
         && deals(evac, 1, [0, 1, 0, 0], false)
-        && is_log(evac, 0, LogKind::Chosen, [16, 16, LOG_BYTES - 32])
+        && is_log(evac, 0, LogKind::Chosen, [16, 16, 992])
 }
 
 // Whether the log is sealed as it was once the round is given up.
 fn keeps_the_other(evac: &mut Evac<Plain, MemDevice>) -> bool {
     gives_up(evac)
-        && is_log(evac, 0, LogKind::Sealed, [16, 16, LOG_BYTES - 32])
+        && is_log(evac, 0, LogKind::Sealed, [16, 16, 992])
         && is_near(evac, 1, Place { log: 0, at: 2 }, false)
 }
 

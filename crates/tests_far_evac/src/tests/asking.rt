@@ -9,7 +9,7 @@ use far_book::{Home, Plain};
 use far_device::MemDevice;
 use far_evac::{Evac, LogKind, Phase};
 use far_policy::{Oldest, Scripted};
-use far_word::{LOG_BYTES, LONGEST, Mark, Marks, Place, Refused};
+use far_word::{Mark, Marks, Place, Refused};
 
 // An object that isn't hot goes far in a round, also where its owner asks for a move.
 fn sends_what_is_asked_for(evac: &mut Evac<Plain, MemDevice>) -> bool {
@@ -54,7 +54,7 @@ fn an_audit_lists_what_asks_for_a_move(rt: HostRuntime) {
 fn comes_to_evacuating(evac: &mut Evac<Plain, MemDevice>) -> bool {
     makes_sealed(evac)
         && runs_through(evac, &mut Oldest, 1, 9, [0, 1, 0, 1])
-        && makes(evac, LONGEST)
+        && makes(evac, 1016)
         && selects(evac, &mut Oldest, 1, &[1])
         && marks(evac, 2, 1, Some(2))
         && is_clear(evac)
@@ -68,7 +68,7 @@ fn fetches_while_evacuating(evac: &mut Evac<Plain, MemDevice>) -> bool {
         && is_near(evac, 0, Place { log: 2, at: 0 }, false)
         && deals(evac, 2, [0, 1, 0, 1], true)
         && is_near(evac, 0, Place { log: 2, at: 0 }, false)
-        && is_log(evac, 1, LogKind::Free, [0, 0, LOG_BYTES])
+        && is_log(evac, 1, LogKind::Free, [0, 0, 1024])
 }
 
 #[test]
@@ -79,7 +79,7 @@ fn a_fetch_while_objects_leave_keeps_out_of_the_round(rt: HostRuntime) {
 // Of three sealed logs the middle one is given back: the others stand in their order.
 fn leaves_the_others(evac: &mut Evac<Plain, MemDevice>) -> bool {
     let mut middle = Scripted { logs: &[1] };
-    if !(makes_many(evac, 4, LONGEST) && drops(evac, 1)) {
+    if !(makes_many(evac, 4, 1016) && drops(evac, 1)) {
         return false;
     }
     if !runs_through(evac, &mut middle, 1, 9, [0, 0, 0, 1]) {
@@ -118,7 +118,7 @@ fn retires_without_room(evac: &mut Evac<Plain, MemDevice>) -> bool {
         return false;
     }
     evac.owner(ask(1, Mark::Dropped));
-    answer_to_move(evac, 1) == Some(Ok(None)) && is_log(evac, 1, LogKind::Chosen, [0, LOG_BYTES, 0])
+    answer_to_move(evac, 1) == Some(Ok(None)) && is_log(evac, 1, LogKind::Chosen, [0, 1024, 0])
 }
 
 #[test]

@@ -14,7 +14,7 @@ use far_device::MemDevice;
 use far_evac::{Evac, LogKind, Phase};
 use far_log::LogRow;
 use far_policy::{Chosen, LeastLive, Oldest, Policy, Scripted};
-use far_word::{LOG_BYTES, LONGEST, Refused};
+use far_word::Refused;
 
 // Whether a script of these logs is refused for one of them.
 fn is_bad(evac: &mut Evac<Plain, MemDevice>, logs: &[u8], most: usize, log: u8) -> bool {
@@ -27,7 +27,7 @@ fn takes_no_bad_script(evac: &mut Evac<Plain, MemDevice>) -> bool {
         && is_bad(evac, &[1], 1, 1)
         && is_bad(evac, &[0, 0], 2, 0)
         && marks_none(evac, 1)
-        && is_log(evac, 0, LogKind::Sealed, [16, 0, LOG_BYTES - 16])
+        && is_log(evac, 0, LogKind::Sealed, [16, 0, 1008])
 }
 
 #[test]
@@ -114,7 +114,7 @@ fn has_62_rows(evac: &mut Evac<Plain, MemDevice>) -> bool {
         rows: 0,
         first: None,
     };
-    makes_many(evac, 63, LONGEST)
+    makes_many(evac, 63, 1016)
         && selects(evac, &mut asked, 64, &[])
         && (asked.times, asked.rows) == (1, 62)
         && selects(evac, &mut Oldest, 3, &[0, 1, 2])
@@ -137,12 +137,12 @@ fn seals_out_of_order(evac: &mut Evac<Plain, MemDevice>) -> bool {
         && drops(evac, 1)
         && runs_through(evac, &mut Oldest, 2, 9, [0, 0, 0, 2])
         && makes(evac, 8)
-        && makes_many(evac, 2, LONGEST)
+        && makes_many(evac, 2, 1016)
 }
 
 // Whether it was asked once, with three rows, of which the first was that of log 2.
 fn was_asked_once(asked: &Asked) -> bool {
-    let (log, live, dead, unused) = (2, LOG_BYTES, 0, 0);
+    let (log, live, dead, unused) = (2, 1024, 0, 0);
     let first = LogRow {
         log,
         live,
@@ -193,9 +193,9 @@ fn chooses_by_age_and_use(evac: &mut Evac<Plain, MemDevice>) -> bool {
 // Whether a script's logs are chosen, and no other.
 fn chooses_by_script(evac: &mut Evac<Plain, MemDevice>, script: &mut Scripted) -> bool {
     selects(evac, script, 3, &[1, 2])
-        && is_log(evac, 0, LogKind::Sealed, [16, 0, LOG_BYTES - 16])
-        && is_log(evac, 1, LogKind::Chosen, [LOG_BYTES, 0, 0])
-        && is_log(evac, 2, LogKind::Chosen, [LOG_BYTES, 0, 0])
+        && is_log(evac, 0, LogKind::Sealed, [16, 0, 1008])
+        && is_log(evac, 1, LogKind::Chosen, [1024, 0, 0])
+        && is_log(evac, 2, LogKind::Chosen, [1024, 0, 0])
         && gives_up(evac)
         && runs_through(evac, script, 3, 9, [0, 2, 0, 2])
 }
@@ -222,8 +222,8 @@ fn begins_turned(evac: &mut Evac<Plain, MemDevice>) -> bool {
 // Whether log 1 is emptied first.
 fn empties_turned(evac: &mut Evac<Plain, MemDevice>) -> bool {
     deals(evac, 1, [0, 1, 0, 1], false)
-        && is_log(evac, 1, LogKind::Free, [0, 0, LOG_BYTES])
-        && is_log(evac, 0, LogKind::Chosen, [16, 0, LOG_BYTES - 16])
+        && is_log(evac, 1, LogKind::Free, [0, 0, 1024])
+        && is_log(evac, 0, LogKind::Chosen, [16, 0, 1008])
         && deals(evac, 1, [0, 1, 0, 1], true)
 }
 

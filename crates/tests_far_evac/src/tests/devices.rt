@@ -18,7 +18,7 @@ use far_book::{Home, Near, Plain};
 use far_device::{Device, DeviceFault, MemDevice, hand_over};
 use far_evac::{Evac, LogKind, Phase};
 use far_policy::Oldest;
-use far_word::{LONGEST, Marks, Place, Refused};
+use far_word::{Marks, Place, Refused};
 
 // One read of what is in memory, with its answer taken apart.
 fn read_inner(inner: &mut MemDevice, id: u32) -> Result<Vec<u8>, DeviceFault>
@@ -132,7 +132,7 @@ fn is_leaving<N: Near + Drop, D: Device + Drop>(
 
 // Pointers 0 to 2 lie in log 0, of which the first is hot; the next fills log 1.
 fn makes_four(evac: &mut Evac<Plain, Stumbling>) -> bool {
-    makes_many(evac, 3, 8) && writes(evac, 0, 7) && makes(evac, LONGEST)
+    makes_many(evac, 3, 8) && writes(evac, 0, 7) && makes(evac, 1016)
 }
 
 // Whether a round that comes to where objects leave is refused so at the second.

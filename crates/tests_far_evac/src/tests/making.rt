@@ -112,12 +112,12 @@ pub(super) fn makes_many<D: Device + Drop>(
 
 // Makes an object of 8 bytes, and one that fills the next log, so that the first log is sealed.
 pub(super) fn makes_sealed<D: Device + Drop>(evac: &mut Evac<Plain, D>) -> bool {
-    makes(evac, 8) && makes(evac, LONGEST)
+    makes(evac, 8) && makes(evac, 1016)
 }
 
 // Makes three objects, each of which fills a log.
 pub(super) fn makes_three<D: Device + Drop>(evac: &mut Evac<Plain, D>) -> bool {
-    makes_many(evac, 3, LONGEST)
+    makes_many(evac, 3, 1016)
 }
 
 pub(super) fn open<D: Device + Drop>(evac: &mut Evac<Plain, D>) -> bool {

@@ -12,7 +12,7 @@ use far_core::Shape;
 use far_device::MemDevice;
 use far_evac::{Evac, LogKind, Phase, RoundEnd};
 use far_policy::Oldest;
-use far_word::{LOG_BYTES, LONGEST, Mark, Place, Refused};
+use far_word::{Mark, Place, Refused};
 
 /// The bytes 1 to 8 in a word.
 const COUNTED: u64 = 0x0807_0605_0403_0201;
@@ -28,12 +28,12 @@ fn runs_to(evac: &mut Evac<Plain, MemDevice>, turns: u64, phase: Phase) -> bool 
 }
 
 fn makes_room(evac: &mut Evac<Plain, MemDevice>) -> bool {
-    makes_many(evac, 2, LONGEST)
+    makes_many(evac, 2, 1016)
         && has_no_room(evac, 8)
         && drops(evac, 0)
         && runs_oldest(evac, [0, 0, 0, 1])
         && makes_at(evac, 8, 0)
-        && is_log(evac, 0, LogKind::Open, [16, 0, LOG_BYTES - 16])
+        && is_log(evac, 0, LogKind::Open, [16, 0, 1008])
 }
 
 #[test]
@@ -46,7 +46,7 @@ fn a_round_makes_room(rt: HostRuntime) {
 fn parts_two(evac: &mut Evac<Plain, MemDevice>) -> bool {
     makes_many(evac, 2, 8)
         && writes(evac, 0, COUNTED)
-        && makes(evac, LONGEST)
+        && makes(evac, 1016)
         && runs_oldest(evac, [1, 1, 0, 1])
         && is_near(evac, 0, Place { log: 2, at: 0 }, false)
         && is_far(evac, 1)
@@ -54,9 +54,9 @@ fn parts_two(evac: &mut Evac<Plain, MemDevice>) -> bool {
 
 // Whether log 0 is free then, and log 2 has the object that moved.
 fn has_parted(evac: &mut Evac<Plain, MemDevice>) -> bool {
-    is_log(evac, 0, LogKind::Free, [0, 0, LOG_BYTES])
-        && is_log(evac, 1, LogKind::Sealed, [LOG_BYTES, 0, 0])
-        && is_log(evac, 2, LogKind::Open, [16, 0, LOG_BYTES - 16])
+    is_log(evac, 0, LogKind::Free, [0, 0, 1024])
+        && is_log(evac, 1, LogKind::Sealed, [1024, 0, 0])
+        && is_log(evac, 2, LogKind::Open, [16, 0, 1008])
         && counts(evac, 2, 1, 1040)
 }
 
@@ -83,7 +83,7 @@ fn opens_anew(evac: &mut Evac<Plain, MemDevice>) -> bool {
         && close(evac)
         && runs_through(evac, &mut Oldest, 2, 9, [1, 1, 0, 2])
         && is_near(evac, 1, Place { log: 0, at: 0 }, false)
-        && is_log(evac, 0, LogKind::Open, [LOG_BYTES, 0, 0])
+        && is_log(evac, 0, LogKind::Open, [1024, 0, 0])
 }
 
 // Log 0 is given back, opened anew for the object of log 1, and isn't emptied again.
@@ -139,7 +139,7 @@ fn the_last_turn_may_end_a_round(rt: HostRuntime) {
 
 // Whether so many objects of 48 bytes are made in log 0, and one that fills log 1.
 fn makes_many_sealed(evac: &mut Evac<Plain, MemDevice>, objects: u8) -> bool {
-    makes_many(evac, objects, 48) && makes(evac, LONGEST)
+    makes_many(evac, objects, 48) && makes(evac, 1016)
 }
 
 fn takes_sixteen_a_turn(evac: &mut Evac<Plain, MemDevice>) -> bool {
@@ -168,17 +168,17 @@ fn chooses_a_dead_log(evac: &mut Evac<Plain, MemDevice>) -> bool {
     makes_three(evac)
         && drops(evac, 0)
         && comes_to_leaving(evac, &mut Oldest, 2)
-        && is_log(evac, 0, LogKind::Chosen, [0, LOG_BYTES, 0])
+        && is_log(evac, 0, LogKind::Chosen, [0, 1024, 0])
 }
 
 // Whether it is given back where nothing is dealt with, and the log of a live one isn't.
 fn gives_a_dead_log_back(evac: &mut Evac<Plain, MemDevice>) -> bool {
     deals(evac, 0, [0, 0, 0, 1], false)
-        && is_log(evac, 0, LogKind::Free, [0, 0, LOG_BYTES])
-        && is_log(evac, 1, LogKind::Chosen, [LOG_BYTES, 0, 0])
+        && is_log(evac, 0, LogKind::Free, [0, 0, 1024])
+        && is_log(evac, 1, LogKind::Chosen, [1024, 0, 0])
         && deals(evac, 0, [0, 0, 0, 0], false)
         && deals(evac, 1, [0, 1, 0, 1], true)
-        && is_log(evac, 1, LogKind::Free, [0, 0, LOG_BYTES])
+        && is_log(evac, 1, LogKind::Free, [0, 0, 1024])
 }
 
 // Log 0, where no object lives, is given back although nothing is dealt with; log 1 is not.
@@ -198,7 +198,7 @@ fn retires_one(evac: &mut Evac<Plain, MemDevice>) -> bool {
     leaving
         && deals(evac, 1, [0, 1, 0, 0], false)
         && deals(evac, 1, [0, 0, 1, 1], true)
-        && counts(evac, 1, 1, LOG_BYTES as u64)
+        && counts(evac, 1, 1, 1024)
 }
 
 // An object that was dropped since it was marked is retired.
@@ -220,9 +220,9 @@ fn makes_three_hot(evac: &mut Evac<Plain, MemDevice>) -> bool {
 fn runs_three(evac: &mut Evac<Plain, MemDevice>) -> bool {
     runs_oldest(evac, [3, 0, 0, 1])
         && runs_oldest(evac, [0, 1, 0, 1])
-        && makes(evac, LONGEST)
+        && makes(evac, 1016)
         && runs_oldest(evac, [0, 3, 0, 1])
-        && counts(evac, 1, 4, LOG_BYTES as u64)
+        && counts(evac, 1, 4, 1024)
 }
 
 // Whether all four come back with what was written.
@@ -245,10 +245,10 @@ fn three_rounds_in_a_row(rt: HostRuntime) {
 }
 
 fn empties_all_that_may_be(evac: &mut Evac<Plain, MemDevice>) -> bool {
-    makes_many(evac, 63, LONGEST)
-        && has_no_room(evac, LONGEST)
+    makes_many(evac, 63, 1016)
+        && has_no_room(evac, 1016)
         && runs_through(evac, &mut Oldest, 64, 9, [0, 62, 0, 62])
-        && counts(evac, 1, 62, LOG_BYTES as u64)
+        && counts(evac, 1, 62, 1024)
 }
 
 // A round of all logs that the largest heap lets be sealed.

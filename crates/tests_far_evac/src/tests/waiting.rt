@@ -12,7 +12,7 @@ use far_core::{Event, Reply};
 use far_device::MemDevice;
 use far_evac::{Evac, LogKind, Phase, RoundEnd};
 use far_policy::Oldest;
-use far_word::{LOG_BYTES, LONGEST, Place};
+use far_word::Place;
 
 /// The cell of pointer 0, an object of 8 bytes of data structure 1 at the start of log 0, with HOT and EVAC.
 const HOT_AND_LEAVING: u64 = 0xe400_0000_0001_0008;
@@ -74,7 +74,7 @@ fn reads_the_epoch_first(evac: &mut Evac<Plain, MemDevice>) -> bool {
     let read = Event::ReadEpoch { owner: 0 };
     makes(evac, 8)
         && writes(evac, 0, 0xaa)
-        && makes(evac, LONGEST)
+        && makes(evac, 1016)
         && answers(evac, read, Reply::Epoch(0))
         && marks_all(evac, 1)
         && is_clear(evac)
@@ -153,7 +153,7 @@ fn leaves_a_hot_one(evac: &mut Evac<Plain, MemDevice>) -> bool {
 fn has_no_room_for_it(evac: &mut Evac<Plain, MemDevice>) -> bool {
     open(evac)
         && views(evac, 1)
-        && is_log(evac, 3, LogKind::Open, [LOG_BYTES, 0, 0])
+        && is_log(evac, 3, LogKind::Open, [1024, 0, 0])
         && deals(evac, 9, [0, 1, 0, 2], true)
         && is_far(evac, 0)
 }

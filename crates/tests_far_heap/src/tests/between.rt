@@ -9,7 +9,6 @@ use far_device::MemDevice;
 use far_evac::{LogKind, Phase, RoundEnd};
 use far_heap::{Blank, Evacuator, Heap, HeapName, Mutator, Scope, Tried};
 use far_policy::Oldest;
-use far_word::LONGEST;
 use std::alloc::Global;
 use std::marker::Brand;
 use std::sync::Wait;
@@ -198,7 +197,7 @@ fn the_lock_is_let_go_between_turns(rt: HostRuntime) {
 
 // Whether a new object of a whole log is made and dropped, so that the log before it is sealed.
 fn seals<K: HeapName, R: Wait>(rt: &R, mutator: &mut Mutator<K, MemDevice>) -> bool {
-    match mutator.alloc(rt, LONGEST, 1) {
+    match mutator.alloc(rt, 1016, 1) {
         Ok(pointer) => mutator.drop_object(rt, pointer).is_ok(),
         Err(_) => false,
     }

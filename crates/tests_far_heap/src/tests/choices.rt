@@ -10,7 +10,7 @@ use far_evac::{LogKind, Phase, RoundEnd};
 use far_heap::{Evacuator, Heap, HeapName};
 use far_log::LogRow;
 use far_policy::{Chosen, Policy, Scripted};
-use far_word::{LOG_BYTES, LONGEST, Refused};
+use far_word::Refused;
 use std::sync::Wait;
 
 /// Takes one log, and counts how often it is asked.
@@ -40,22 +40,21 @@ fn second_log() -> Counting {
 
 // Three logs with an object each, all sealed.
 fn seals_three<K: HeapName, R: Wait>(rt: &R, lent: &mut Lent<K, MemDevice>) -> bool {
-    lent.makes(rt, LONGEST, 0)
-        && lent.makes(rt, LONGEST, 1)
-        && lent.makes(rt, LONGEST, 2)
+    lent.makes(rt, 1016, 0)
+        && lent.makes(rt, 1016, 1)
+        && lent.makes(rt, 1016, 2)
         && lent.makes(rt, 8, 3)
 }
 
 // Whether the first and the third log are sealed and full.
 fn has_the_others<K: HeapName>(book: &mut Evacuator<K, MemDevice>) -> bool {
-    is_log(book, 0, LogKind::Sealed, [LOG_BYTES, 0, 0])
-        && is_log(book, 2, LogKind::Sealed, [LOG_BYTES, 0, 0])
+    is_log(book, 0, LogKind::Sealed, [1024, 0, 0]) && is_log(book, 2, LogKind::Sealed, [1024, 0, 0])
 }
 
 // Whether the round of the second log stands in this phase, and none of it was given back; then it is given up.
 fn stands_in<K: HeapName>(book: &mut Evacuator<K, MemDevice>, phase: Phase) -> bool {
     book.phase() == phase
-        && is_log(book, 1, LogKind::Chosen, [LOG_BYTES, 0, 0])
+        && is_log(book, 1, LogKind::Chosen, [1024, 0, 0])
         && has_the_others(book)
         && gives_up(book)
 }

@@ -7,7 +7,6 @@ use far_device::MemDevice;
 use far_evac::Phase;
 use far_heap::{Evacuator, Heap, HeapName, Scope};
 use far_policy::Oldest;
-use far_word::LONGEST;
 use std::sync::Wait;
 
 // Six objects in the first log, and one that fills the next.
@@ -17,7 +16,7 @@ fn makes_seven<K: HeapName, R: Wait>(rt: &R, lent: &mut Lent<K, MemDevice>) -> b
             return false;
         }
     }
-    lent.makes(rt, LONGEST, 6)
+    lent.makes(rt, 1016, 6)
 }
 
 // Whether an object is dropped, and its cell is free then, in this phase.

@@ -9,7 +9,7 @@ use far_device::{Device, MemDevice};
 use far_evac::{LogKind, RoundEnd};
 use far_heap::{Blank, Evacuator, Heap, HeapName, Mutator, Scope};
 use far_policy::Oldest;
-use far_word::{LOG_BYTES, Refused};
+use far_word::Refused;
 use std::alloc::{AllocError, Global};
 use std::marker::Brand;
 use std::sync::Wait;
@@ -164,9 +164,9 @@ fn all_refused<K: HeapName, R: Wait>(rt: &R, all: Vec<Numbered<K>>, why: Refused
 
 // Whether the one log that isn't kept back is full, of eight objects.
 fn is_full<K: HeapName, D: Device + Drop>(book: &mut Evacuator<K, D>) -> bool {
-    is_log(book, 0, LogKind::Open, [LOG_BYTES, 0, 0])
-        && is_log(book, 1, LogKind::Free, [0, 0, LOG_BYTES])
-        && counts(book, 8, 0, LOG_BYTES as u64)
+    is_log(book, 0, LogKind::Open, [1024, 0, 0])
+        && is_log(book, 1, LogKind::Free, [0, 0, 1024])
+        && counts(book, 8, 0, 1024)
 }
 
 // Whether the log is full, and no round begins.

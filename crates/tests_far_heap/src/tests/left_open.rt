@@ -8,13 +8,12 @@ use far_device::MemDevice;
 use far_evac::{Phase, RoundEnd};
 use far_heap::{Evacuator, Heap, HeapName, Scope};
 use far_policy::Oldest;
-use far_word::LONGEST;
 use std::sync::Wait;
 
 // Whether the other mutator's object is written, and another one fills the next log.
 fn other_begins<K: HeapName, R: Wait>(rt: &R, other: &mut Lent<K, MemDevice>) -> bool {
     other.makes(rt, 8, 128)
-        && other.makes(rt, LONGEST, 129)
+        && other.makes(rt, 1016, 129)
         && opened!(other, scope, writes(scope, 128, EIGHT))
 }
 

@@ -8,7 +8,7 @@ use far_device::{Device, Liar, MemDevice};
 use far_evac::LogKind;
 use far_heap::{Evacuator, Heap, HeapName, Scope};
 use far_policy::Oldest;
-use far_word::{LOG_BYTES, LONGEST, Refused};
+use far_word::Refused;
 use std::sync::Wait;
 
 // Whether so many objects have a home each, and each log's bytes make its size.
@@ -28,7 +28,7 @@ fn goes_far<K: HeapName, D: Device + Drop, R: Wait>(
 ) -> bool {
     lent.makes(rt, 1, 0)
         && has_law(rt, heap, 1)
-        && lent.makes(rt, LONGEST, 1)
+        && lent.makes(rt, 1016, 1)
         && has_law(rt, heap, 2)
         && runs_through(rt, heap, &mut Oldest, [0, 1, 0, 1])
         && has_law(rt, heap, 2)
@@ -50,7 +50,7 @@ fn reads_byte<K: HeapName, D: Device + Drop, R: Wait>(
 
 // Whether it is near, in the log that was given back.
 fn is_back<K: HeapName, D: Device + Drop>(book: &mut Evacuator<K, D>) -> bool {
-    is_near(book, 0, (0, 0), true) && is_log(book, 0, LogKind::Open, [16, 0, LOG_BYTES - 16])
+    is_near(book, 0, (0, 0), true) && is_log(book, 0, LogKind::Open, [16, 0, 1008])
 }
 
 /// An object comes back with this byte, which the device gave.

@@ -11,7 +11,7 @@ use far_device::{Device, MemDevice};
 use far_evac::LogKind;
 use far_heap::{Evacuator, Heap, HeapName, Mutator, Scope};
 use far_policy::Oldest;
-use far_word::{LOG_BYTES, LONGEST, POINTERS, Refused};
+use far_word::Refused;
 use std::sync::Wait;
 
 // Whether no heap has this shape.
@@ -55,14 +55,14 @@ fn uses_all<K: HeapName, R: Wait>(rt: &R, mutator: &mut Mutator<K, MemDevice>) -
 // Whether lengths out of range are refused, whatever else is wanting.
 fn bars_lengths<K: HeapName, R: Wait>(rt: &R, mutator: &mut Mutator<K, MemDevice>) -> bool {
     makes_none(rt, mutator, 0, Refused::Length)
-        && makes_none(rt, mutator, LONGEST + 1, Refused::Length)
+        && makes_none(rt, mutator, 1017, Refused::Length)
         && makes_none(rt, mutator, u16::MAX, Refused::Length)
 }
 
 // Whether a new object is refused in an open scope as it is before.
 fn bars_in_scope<K: HeapName, R: Wait>(rt: &R, scope: &mut Scope<K, MemDevice>) -> bool {
     scope.alloc(rt, 0, 1) == Err(Refused::Length)
-        && scope.alloc(rt, LONGEST + 1, 1) == Err(Refused::Length)
+        && scope.alloc(rt, 1017, 1) == Err(Refused::Length)
         && scope.alloc(rt, 1, 1) == Err(Refused::NoRoom)
 }
 
@@ -89,8 +89,7 @@ fn bars_new<K: HeapName, R: Wait>(
 
 // Whether two logs are full.
 fn two_are_full<K: HeapName, D: Device + Drop>(book: &mut Evacuator<K, D>) -> bool {
-    is_log(book, 0, LogKind::Sealed, [LOG_BYTES, 0, 0])
-        && is_log(book, 1, LogKind::Open, [LOG_BYTES, 0, 0])
+    is_log(book, 0, LogKind::Sealed, [1024, 0, 0]) && is_log(book, 1, LogKind::Open, [1024, 0, 0])
 }
 
 // Two logs are full of one mutator's objects, and neither gets another.
@@ -190,7 +189,7 @@ fn bars_view<K: HeapName, R: Wait>(rt: &R, scope: &mut Scope<K, MemDevice>, poin
 fn bars_views<K: HeapName, R: Wait>(rt: &R, scope: &mut Scope<K, MemDevice>) -> bool {
     bars_view(rt, scope, 1)
         && bars_view(rt, scope, 128)
-        && bars_view(rt, scope, POINTERS)
+        && bars_view(rt, scope, 1024)
         && bars_view(rt, scope, u16::MAX)
         && scope.len_of(0) == Some(8)
         && scope.drop_object(rt, 0).is_ok()
@@ -224,10 +223,10 @@ fn fills_up<K: HeapName, R: Wait>(
     mutator: &mut Mutator<K, MemDevice>,
 ) -> bool {
     makes(rt, mutator, 8, 0)
-        && makes(rt, mutator, LONGEST, 1)
+        && makes(rt, mutator, 1016, 1)
         && runs_through(rt, heap, &mut Oldest, [0, 1, 0, 1])
-        && makes(rt, mutator, LONGEST, 2)
-        && makes(rt, mutator, LONGEST, 3)
+        && makes(rt, mutator, 1016, 2)
+        && makes(rt, mutator, 1016, 3)
         && makes_none(rt, mutator, 8, Refused::NoRoom)
 }
 

@@ -10,12 +10,12 @@ use far_device::MemDevice;
 use far_evac::{LogKind, Phase, RoundEnd};
 use far_heap::{Evacuator, Heap, HeapName};
 use far_policy::{Oldest, Scripted};
-use far_word::{LOG_BYTES, LONGEST, Refused};
+use far_word::Refused;
 use std::sync::Wait;
 
 // A small object in the first log, and one that fills the next.
 fn seals_first<K: HeapName, R: Wait>(rt: &R, lent: &mut Lent<K, MemDevice>) -> bool {
-    lent.makes(rt, 8, 0) && lent.makes(rt, LONGEST, 1)
+    lent.makes(rt, 8, 0) && lent.makes(rt, 1016, 1)
 }
 
 fn bars_selecting<K: HeapName>(book: &mut Evacuator<K, MemDevice>) -> bool {
@@ -124,7 +124,7 @@ fn bars_choices<K: HeapName, R: Wait>(rt: &R, heap: &Heap<K, MemDevice>) -> bool
 
 // Whether the first log is sealed, with its object.
 fn is_sealed<K: HeapName>(book: &mut Evacuator<K, MemDevice>) -> bool {
-    is_log(book, 0, LogKind::Sealed, [16, 0, LOG_BYTES - 16])
+    is_log(book, 0, LogKind::Sealed, [16, 0, 1008])
 }
 
 // Scripts of logs that can't be chosen.

@@ -4,7 +4,6 @@ use crate::tests::lend::{Lent, Trial, closed, opened, try_one_in_memory};
 use crate::tests::looks::sized;
 use far_device::MemDevice;
 use far_heap::{Heap, HeapName, Mutator, Scope};
-use far_word::LONGEST;
 use std::sync::Wait;
 
 // Whether a mutator tells this of a pointer.
@@ -30,9 +29,9 @@ fn tells_in_scope<K: HeapName>(
 // Whether two new objects of different lengths and data structures are told as they were made.
 fn tells_two<K: HeapName, R: Wait>(rt: &R, mutator: &mut Mutator<K, MemDevice>) -> bool {
     mutator.alloc(rt, 24, 255) == Ok(0)
-        && mutator.alloc(rt, LONGEST, 0) == Ok(1)
+        && mutator.alloc(rt, 1016, 0) == Ok(1)
         && tells(mutator, 0, Some(24), Some(255))
-        && tells(mutator, 1, Some(LONGEST), Some(0))
+        && tells(mutator, 1, Some(1016), Some(0))
         && tells(mutator, 2, None, None)
         && tells(mutator, 128, None, None)
         && tells(mutator, u16::MAX, None, None)
@@ -41,7 +40,7 @@ fn tells_two<K: HeapName, R: Wait>(rt: &R, mutator: &mut Mutator<K, MemDevice>) 
 // Whether a scope tells the same, and another object at the pointer of one that it dropped.
 fn tells_the_next<K: HeapName, R: Wait>(rt: &R, scope: &mut Scope<K, MemDevice>) -> bool {
     tells_in_scope(scope, 0, Some(24), Some(255))
-        && tells_in_scope(scope, 1, Some(LONGEST), Some(0))
+        && tells_in_scope(scope, 1, Some(1016), Some(0))
         && tells_in_scope(scope, 128, None, None)
         && scope.drop_object(rt, 0).is_ok()
         && tells_in_scope(scope, 0, None, None)

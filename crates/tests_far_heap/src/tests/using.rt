@@ -7,7 +7,7 @@ use far_device::{FailAt, MemDevice};
 use far_evac::RoundEnd;
 use far_heap::{Blank, Heap, HeapName, Mutator, Scope};
 use far_policy::{LeastLive, Oldest};
-use far_word::{LONGEST, Refused};
+use far_word::Refused;
 use std::alloc::{AllocError, Global};
 use std::marker::Brand;
 use std::sync::Wait;
@@ -119,7 +119,7 @@ fn outgrows<K: HeapName, R: Wait>(
 ) -> bool {
     let (mut mutator, kept) = in_a_scope(rt, mutator);
     for _ in 0..6u8 {
-        if alloc_with_rounds(rt, heap, &mut mutator, LONGEST).is_err() {
+        if alloc_with_rounds(rt, heap, &mut mutator, 1016).is_err() {
             return false;
         }
     }
@@ -223,7 +223,7 @@ fn over_a_device<K: HeapName, R: Wait>(
     let Some(mut mutator) = mutators.pop() else {
         return false;
     };
-    let made = mutator.alloc(rt, 8, 1).is_ok() && mutator.alloc(rt, LONGEST, 1).is_ok();
+    let made = mutator.alloc(rt, 8, 1).is_ok() && mutator.alloc(rt, 1016, 1).is_ok();
     made && round_past_failures(rt, &heap).is_ok()
 }
 
