@@ -1,0 +1,63 @@
+use Rattle.std.proofs.Common.{sym, subst, ap, ◌∙◌, ◌≡◌, ◌*◌, ◌-◌, ◌^◌, ℕ, Bool, false, refl, bit_and}
+use Rattle.far_word.specs.declared.sizes.TheConstants.{CELLS, LOG_WORDS}
+use Rattle.far_core.specs.declared.event.Event.TheVariants.{Clear}
+use Rattle.far_core.specs.events.Clear.{evac_cleared}
+use Rattle.far_core.specs.events.Step.{after}
+use Rattle.far_core.specs.state.CoreState.{core_state}
+use Rattle.far_core.specs.state.State.{State, put}
+use Rattle.far_hand.specs.BesetView.{beset_view}
+use Rattle.far_hand.specs.Known.{Forgets}
+use Rattle.far_hand.specs.Masked.{masked, word_at, is_counted, AllFind, CountsOnQuiet}
+use Rattle.far_hand.proofs.Counting.{counts_none, finds_named}
+use Rattle.far_hand.proofs.Reading.{forgets, header_known}
+use Rattle.far_core.specs.declared.event.Reply.TheVariants.{Word}
+use Rattle.far_core.specs.events.Legal.{Legal}
+use Rattle.far_hand.proofs.Finding.{near_found}
+use Rattle.far_hand.proofs.Making.{turn_may_be, turned_made}
+use Rattle.far_hand.proofs.beset.hand.BesetNear.clear.Goals as goal
+
+pub invariant_of-self : goal.invariant_of-self
+invariant_of-self c =
+    let hand = c.turn.new.self in
+    let s = core_state hand.core in
+    let t = core_state c.clear-cell.new.self in
+    let found = word_at hand.found.items in
+    let p = c.args.pointer in
+    let is : s.cell p ≡ c.clear-cell.result = cc in
+    let words : word_at c.find.new.found.items ≡ put found p (evac_cleared (s.cell p)) =
+    c.find.ensures.words ∙ ap (put found p) (ap (λ m. bit_and c.clear-cell.result (2 ^ 64 - 1 - m)) c.mask.ensures ∙ ap evac_cleared (sym is)) in
+    let finds = subst (λ (f : ℕ → ℕ). AllFind f (put s.cell p (evac_cleared (s.cell p)))) (sym words) (finds_named found s.cell p (evac_cleared (s.cell p)) hand.finds) in
+    record {
+      found_sized = c.find.ensures.len ∙ (hand.found_sized ∙ ap (λ (u : State). CELLS * u.mutators) (sym c.clear-cell.ensures.state));
+      counted_sized = c.forget.ensures.len ∙ (hand.counted_sized ∙ ap (λ (u : State). LOG_WORDS * u.logs) (sym c.clear-cell.ensures.state));
+      finds = subst (λ (u : State). AllFind (word_at c.find.new.found.items) u.cell) (sym c.clear-cell.ensures.state) finds;
+      counts = subst (λ (k : ℕ → Bool). CountsOnQuiet t.round t.clear (word_at c.find.new.found.items) k) (sym c.forget.ensures.none) (counts_none t.round t.clear (word_at c.find.new.found.items));
+    }
+
+pub returns-clause-forgot : goal.returns-clause-forgot
+returns-clause-forgot c =
+    let hand = c.turn.new.self in
+    let s = core_state hand.core in
+    let counted = is_counted hand.counted.items in
+    let found = word_at c.find.new.found.items in
+    let next = after s (Clear c.args.pointer) in
+    let bare = forgets (masked s (word_at hand.found.items) counted) (masked next found (λ _. false)) s.starts refl s.word refl (λ a st. sym (header_known s.word s.starts counted a st)) in
+    let old = subst (λ (o : State). Forgets o (masked next found (λ _. false))) c.turn.ensures.view bare in
+    let none = subst (λ (k : ℕ → Bool). Forgets (beset_view c.args.self.now) (masked next found k)) (sym c.forget.ensures.none) old in
+    subst (λ (u : State). Forgets (beset_view c.args.self.now) (masked u found (is_counted c.forget.new.counted.items))) (sym c.clear-cell.ensures.state) none
+
+pub returns-clause-made : goal.returns-clause-made
+returns-clause-made c =
+    let hand = c.turn.new.self in
+    let s = core_state hand.core in
+    let p = c.args.pointer in
+    let legal : Legal (beset_view hand) (Clear p) = subst (λ (u : State). Legal u (Clear p)) (sym c.turn.ensures.view) c.requires.legal in
+    let near = legal.1 in
+    let x = near_found (word_at hand.found.items p) (s.cell p) (hand.finds p) near.0 near.1 near.2 near.3 near.4 in
+    let own : Legal s (Clear p) = (legal.0, (near.0, near.1, near.2, x.marks, x.near)) in
+    record {
+      turn = turn_may_be c.args.self.now hand c.turn.ensures.view c.turn.ensures.made c.turn.ensures.change;
+      call = turned_made c.args.self.now hand (Clear p) (Word c.clear-cell.result) (core_state c.clear-cell.new.self) c.turn.ensures.made own c.clear-cell.ensures.state c.clear-cell.ensures.word;
+      list = c.turn.ensures.events;
+      past = c.turn.ensures.next;
+    }

@@ -1,0 +1,148 @@
+use Rattle.std.proofs.Common.{sym, subst, ap, ◌∙◌, ◌≡◌, ◌*◌, ℕ, Bool, false}
+use Rattle.far_word.specs.declared.sizes.TheConstants.{CELLS, LOG_WORDS}
+use Rattle.far_core.specs.declared.event.Event.TheVariants.{Name}
+use Rattle.far_core.specs.events.Legal.{Legal}
+use Rattle.far_core.specs.events.Step.{after}
+use Rattle.far_core.specs.state.CoreState.{core_state}
+use Rattle.far_core.specs.state.State.{State, put}
+use Rattle.far_hand.specs.BesetView.{beset_view}
+use Rattle.far_hand.specs.Finds.{Finds}
+use Rattle.far_hand.specs.Known.{KnowsLeaving}
+use Rattle.far_hand.specs.Masked.{masked, word_at, is_counted, AllFind, CountsOnQuiet}
+use Rattle.far_hand.proofs.Counting.{counts_found, counts_none, finds_named, finds_put}
+use Rattle.far_hand.proofs.Finding.{finds_seen}
+use Rattle.far_hand.proofs.Naming.{Names, legal_name, names, cells_named, sizes_named, won, lost, lost_word, lost_state}
+use Rattle.far_core.specs.declared.event.Reply.TheVariants.{Done, Word}
+use Rattle.far_hand.proofs.Making.{turn_may_be, turned_made}
+use Rattle.far_hand.proofs.beset.hand.BesetNear.name.Goals as goal
+
+pub name-requires : goal.name-requires
+name-requires c =
+    let hand = c.turn.new.self in
+    let s = core_state hand.core in
+    let legal : Legal (beset_view hand) (Name c.args.pointer c.args.old c.args.new) = subst (λ (u : State). Legal u (Name c.args.pointer c.args.old c.args.new)) (sym c.turn.ensures.view) c.requires.legal in
+    record { legal = legal_name s hand.core.law (word_at hand.found.items) (is_counted hand.counted.items) hand.finds c.args.pointer c.args.old c.args.new legal.0 c.ranges.new.fits legal }
+
+pub invariant_of-self : goal.invariant_of-self
+invariant_of-self c =
+    let hand = c.turn.new.self in
+    let s = core_state hand.core in
+    let t = core_state c.name.new.self in
+    let found = word_at hand.found.items in
+    let counted = is_counted hand.counted.items in
+    let p = c.args.pointer in
+    let old = c.args.old in
+    let new = c.args.new in
+    let legal : Legal (beset_view hand) (Name p old new) = subst (λ (u : State). Legal u (Name p old new)) (sym c.turn.ensures.view) c.requires.legal in
+    let seen : old ≡ found p = c.requires.seen ∙ ap (λ (u : State). u.cell p) (sym c.turn.ensures.view) in
+    let won_it : s.cell p ≡ old = won s p old new c.in-Ok.ensures.won in
+    let sizes = sizes_named s hand.core.law found counted hand.finds p old new legal.0 c.ranges.new.fits legal seen won_it in
+    let cells : t.cell ≡ put s.cell p new = ap (λ (u : State). u.cell) c.name.ensures.state ∙ cells_named s hand.core.law found counted hand.finds p old new legal.0 c.ranges.new.fits legal seen won_it in
+    let named = subst (λ (f : ℕ → ℕ). AllFind f (put s.cell p new)) (sym c.find.ensures.words) (finds_named found s.cell p new hand.finds) in
+    record {
+      found_sized = c.find.ensures.len ∙ (hand.found_sized ∙ ap (λ n. CELLS * n) (sym sizes.0 ∙ ap (λ (u : State). u.mutators) (sym c.name.ensures.state)));
+      counted_sized = c.forget.ensures.len ∙ (hand.counted_sized ∙ ap (λ n. LOG_WORDS * n) (sym sizes.1 ∙ ap (λ (u : State). u.logs) (sym c.name.ensures.state)));
+      finds = subst (λ (f : ℕ → ℕ). AllFind (word_at c.find.new.found.items) f) (sym cells) named;
+      counts = subst (λ (k : ℕ → Bool). CountsOnQuiet t.round t.clear (word_at c.find.new.found.items) k) (sym c.forget.ensures.none) (counts_none t.round t.clear (word_at c.find.new.found.items));
+    }
+
+pub invariant_of-self-in-Err : goal.invariant_of-self-in-Err
+invariant_of-self-in-Err c =
+    let hand = c.turn.new.self in
+    let s = core_state hand.core in
+    let found = word_at hand.found.items in
+    let counted = is_counted hand.counted.items in
+    let p = c.args.pointer in
+    let old = c.args.old in
+    let new = c.args.new in
+    let w = c.in-Err.found in
+    let same : core_state c.name.new.self ≡ s = c.name.ensures.state ∙ lost_state s p old new (lost s p old new w c.in-Err.ensures.found) in
+    let is : s.cell p ≡ w = lost_word s p old new w c.in-Err.ensures.found in
+    let finds = subst (λ (f : ℕ → ℕ). AllFind f s.cell) (sym c.find-in-Err.ensures.words) (finds_put found s.cell p w hand.finds is) in
+    let counts = subst (λ (f : ℕ → ℕ). CountsOnQuiet s.round s.clear f counted) (sym c.find-in-Err.ensures.words)
+    (counts_found s.round s.clear found counted p w hand.counts (finds_seen found s.cell p w hand.finds is)) in
+    record {
+      found_sized = c.find-in-Err.ensures.len ∙ (hand.found_sized ∙ ap (λ (u : State). CELLS * u.mutators) (sym same));
+      counted_sized = hand.counted_sized ∙ ap (λ (u : State). LOG_WORDS * u.logs) (sym same);
+      finds = subst (λ (u : State). AllFind (word_at c.find-in-Err.new.found.items) u.cell) (sym same) finds;
+      counts = subst (λ (u : State). CountsOnQuiet u.round u.clear (word_at c.find-in-Err.new.found.items) counted) (sym same) counts;
+    }
+
+pub returns-in-Ok-clause-done : goal.returns-in-Ok-clause-done
+returns-in-Ok-clause-done c =
+    let hand = c.turn.new.self in
+    let s = core_state hand.core in
+    let found = word_at hand.found.items in
+    let counted = is_counted hand.counted.items in
+    let p = c.args.pointer in
+    let old = c.args.old in
+    let new = c.args.new in
+    let legal : Legal (beset_view hand) (Name p old new) = subst (λ (u : State). Legal u (Name p old new)) (sym c.turn.ensures.view) c.requires.legal in
+    let seen : old ≡ found p = c.requires.seen ∙ ap (λ (u : State). u.cell p) (sym c.turn.ensures.view) in
+    let known : KnowsLeaving (beset_view hand) old new = subst (λ (u : State). KnowsLeaving u old new) (sym c.turn.ensures.view) c.requires.known in
+    let tells = names s hand.core.law found counted hand.finds p old new legal.0 c.ranges.new.fits legal seen (won s p old new c.in-Ok.ensures.won) known in
+    let view : masked (core_state c.name.new.self) (word_at c.find.new.found.items) (is_counted c.forget.new.counted.items) ≡ masked (after s (Name p old new)) (put found p new) (λ _. false) =
+    ap (λ (u : State). masked u (word_at c.find.new.found.items) (is_counted c.forget.new.counted.items)) c.name.ensures.state
+    ∙ (ap (λ (f : ℕ → ℕ). masked (after s (Name p old new)) f (is_counted c.forget.new.counted.items)) c.find.ensures.words
+    ∙ ap (λ (k : ℕ → Bool). masked (after s (Name p old new)) (put found p new) k) c.forget.ensures.none) in
+    let from_old = subst (λ (o : State). Names o (masked (after s (Name p old new)) (put found p new) (λ _. false)) p old new) c.turn.ensures.view tells in
+    let both = subst (λ (v : State). Names (beset_view c.args.self.now) v p old new) (sym view) from_old in
+    both.done
+
+pub returns-in-Ok-clause-forgot : goal.returns-in-Ok-clause-forgot
+returns-in-Ok-clause-forgot c =
+    let hand = c.turn.new.self in
+    let s = core_state hand.core in
+    let found = word_at hand.found.items in
+    let counted = is_counted hand.counted.items in
+    let p = c.args.pointer in
+    let old = c.args.old in
+    let new = c.args.new in
+    let legal : Legal (beset_view hand) (Name p old new) = subst (λ (u : State). Legal u (Name p old new)) (sym c.turn.ensures.view) c.requires.legal in
+    let seen : old ≡ found p = c.requires.seen ∙ ap (λ (u : State). u.cell p) (sym c.turn.ensures.view) in
+    let known : KnowsLeaving (beset_view hand) old new = subst (λ (u : State). KnowsLeaving u old new) (sym c.turn.ensures.view) c.requires.known in
+    let tells = names s hand.core.law found counted hand.finds p old new legal.0 c.ranges.new.fits legal seen (won s p old new c.in-Ok.ensures.won) known in
+    let view : masked (core_state c.name.new.self) (word_at c.find.new.found.items) (is_counted c.forget.new.counted.items) ≡ masked (after s (Name p old new)) (put found p new) (λ _. false) =
+    ap (λ (u : State). masked u (word_at c.find.new.found.items) (is_counted c.forget.new.counted.items)) c.name.ensures.state
+    ∙ (ap (λ (f : ℕ → ℕ). masked (after s (Name p old new)) f (is_counted c.forget.new.counted.items)) c.find.ensures.words
+    ∙ ap (λ (k : ℕ → Bool). masked (after s (Name p old new)) (put found p new) k) c.forget.ensures.none) in
+    let from_old = subst (λ (o : State). Names o (masked (after s (Name p old new)) (put found p new) (λ _. false)) p old new) c.turn.ensures.view tells in
+    let both = subst (λ (v : State). Names (beset_view c.args.self.now) v p old new) (sym view) from_old in
+    both.forgot
+
+pub returns-in-Err-clause-found : goal.returns-in-Err-clause-found
+returns-in-Err-clause-found c =
+    let hand = c.turn.new.self in
+    let s = core_state hand.core in
+    let found = word_at hand.found.items in
+    let p = c.args.pointer in
+    let seen : c.args.old ≡ found p = c.requires.seen ∙ ap (λ (u : State). u.cell p) (sym c.turn.ensures.view) in
+    subst (λ v. Finds v c.in-Err.found) (sym seen) (finds_seen found s.cell p c.in-Err.found hand.finds (lost_word s p c.args.old c.args.new c.in-Err.found c.in-Err.ensures.found))
+
+pub returns-in-Ok-clause-made : goal.returns-in-Ok-clause-made
+returns-in-Ok-clause-made c =
+    let hand = c.turn.new.self in
+    let s = core_state hand.core in
+    let p = c.args.pointer in
+    let legal : Legal (beset_view hand) (Name p c.args.old c.args.new) = subst (λ (u : State). Legal u (Name p c.args.old c.args.new)) (sym c.turn.ensures.view) c.requires.legal in
+    let own = legal_name s hand.core.law (word_at hand.found.items) (is_counted hand.counted.items) hand.finds p c.args.old c.args.new legal.0 c.ranges.new.fits legal in
+    record {
+      turn = turn_may_be c.args.self.now hand c.turn.ensures.view c.turn.ensures.made c.turn.ensures.change;
+      call = turned_made c.args.self.now hand (Name p c.args.old c.args.new) Done (core_state c.name.new.self) c.turn.ensures.made own c.name.ensures.state c.in-Ok.ensures.won;
+      list = c.turn.ensures.events;
+      past = c.turn.ensures.next;
+    }
+
+pub returns-in-Err-clause-lost : goal.returns-in-Err-clause-lost
+returns-in-Err-clause-lost c =
+    let hand = c.turn.new.self in
+    let s = core_state hand.core in
+    let p = c.args.pointer in
+    let legal : Legal (beset_view hand) (Name p c.args.old c.args.new) = subst (λ (u : State). Legal u (Name p c.args.old c.args.new)) (sym c.turn.ensures.view) c.requires.legal in
+    let own = legal_name s hand.core.law (word_at hand.found.items) (is_counted hand.counted.items) hand.finds p c.args.old c.args.new legal.0 c.ranges.new.fits legal in
+    record {
+      turn = turn_may_be c.args.self.now hand c.turn.ensures.view c.turn.ensures.made c.turn.ensures.change;
+      call = turned_made c.args.self.now hand (Name p c.args.old c.args.new) (Word c.in-Err.found) (core_state c.name.new.self) c.turn.ensures.made own c.name.ensures.state c.in-Err.ensures.found;
+      list = c.turn.ensures.events;
+      past = c.turn.ensures.next;
+    }

@@ -1,0 +1,39 @@
+use Rattle.std.proofs.Common.{sym, subst, ◌∙◌, ◌≡◌, ℕ, refl}
+use Rattle.far_core.specs.state.CoreState.{core_state}
+use Rattle.far_hand.specs.Masked.{word_at, is_counted, AllFind, CountsOnQuiet}
+use Rattle.far_hand.proofs.Counting.{counts_found, finds_put}
+use Rattle.far_hand.proofs.Finding.{finds_seen}
+use Rattle.far_core.specs.declared.event.Event.TheVariants.{See}
+use Rattle.far_core.specs.declared.event.Reply.TheVariants.{Word}
+use Rattle.far_core.specs.events.Legal.{Legal}
+use Rattle.far_core.specs.state.State.{State}
+use Rattle.far_hand.specs.BesetView.{beset_view}
+use Rattle.far_hand.proofs.Making.{turn_may_be, turned_made}
+use Rattle.far_hand.proofs.beset.hand.BesetNear.see.Goals as goal
+
+pub invariant_of-self : goal.invariant_of-self
+invariant_of-self c =
+    let hand = c.turn.new.self in
+    let s = core_state hand.core in
+    let p = c.args.pointer in
+    let w = c.see-cell.result in
+    let is : s.cell p ≡ w = cc in
+    record {
+      found_sized = c.find.ensures.len ∙ hand.found_sized;
+      counted_sized = hand.counted_sized;
+      finds = subst (λ (f : ℕ → ℕ). AllFind f s.cell) (sym c.find.ensures.words) (finds_put (word_at hand.found.items) s.cell p w hand.finds is);
+      counts = subst (λ (f : ℕ → ℕ). CountsOnQuiet s.round s.clear f (is_counted hand.counted.items)) (sym c.find.ensures.words)
+          (counts_found s.round s.clear (word_at hand.found.items) (is_counted hand.counted.items) p w hand.counts (finds_seen (word_at hand.found.items) s.cell p w hand.finds is));
+    }
+
+pub returns-clause-made : goal.returns-clause-made
+returns-clause-made c =
+    let hand = c.turn.new.self in
+    let s = core_state hand.core in
+    let legal : Legal (beset_view hand) (See c.args.pointer) = subst (λ (u : State). Legal u (See c.args.pointer)) (sym c.turn.ensures.view) c.requires.legal in
+    record {
+      turn = turn_may_be c.args.self.now hand c.turn.ensures.view c.turn.ensures.made c.turn.ensures.change;
+      call = turned_made c.args.self.now hand (See c.args.pointer) (Word c.see-cell.result) (s) c.turn.ensures.made legal refl c.see-cell.ensures.word;
+      list = c.turn.ensures.events;
+      past = c.turn.ensures.next;
+    }

@@ -1,8 +1,0 @@
-use Rattle.far_core.specs.state.CoreState.{core_state}
-use Rattle.far_core.specs.declared.event.Event.TheVariants.{Clear}
-use Rattle.far_core.specs.declared.event.Reply.TheVariants.{Word}
-use Rattle.far_hand.proofs.Making.{legal_made}
-use Rattle.far_hand.proofs.plain.PlainHand.clear.Goals as goal
-
-pub returns-clause-made : goal.returns-clause-made
-returns-clause-made c = legal_made (core_state c.args.self.now.core) (core_state c.clear.new.self) (Clear c.args.pointer) (Word c.clear.result) c.requires.legal c.clear.ensures.state c.clear.ensures.word

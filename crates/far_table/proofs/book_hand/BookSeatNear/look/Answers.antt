@@ -1,0 +1,34 @@
+use Rattle.std.proofs.Common.{refl, ap}
+use Rattle.far_table.specs.Layout.{scope_at}
+use Rattle.far_table.specs.StateOf.{book_state}
+use Rattle.far_table.proofs.BookRounds.{looks}
+use Rattle.far_table.proofs.BookSeatLemmas.{book_stays, scope_found, scope_inside, seat_made, shape_stays, stands_after, view_is}
+use Rattle.far_table.proofs.SeatLemmas.{inside}
+use Rattle.far_table.proofs.book_hand.BookSeatNear.look.Goals as goal
+
+pub load-requires : goal.load-requires
+load-requires g c =
+    let i = c.args.self.now.fits in
+    let t = inside _ _ _ (scope_at c.args.owner) i.same (ap (λ t. t.shared.table_id) c.deref.ensures) i.wide (scope_inside _ _ _ _ _ _ c.args.owner i c.requires.legal) in
+    (t.0, t.1, looks _ _ _ i.is_book i.plain c.args.owner c.requires.legal)
+
+pub invariant_of-self : goal.invariant_of-self
+invariant_of-self g c =
+    let i = c.args.self.now.fits in
+    let h = c.load.ensures in
+    let t = (h.2 c.args.owner refl).1 in record {
+      fits = book_stays _ _ _ _ _ t _ _ _ _ _ _ _ i h.0 (shape_stays _ _ _ _ _ _ _ i refl refl refl refl i.plain);
+      stands = stands_after _ _ _ _ _ t;
+    }
+
+pub returns-clause-scope : goal.returns-clause-scope
+returns-clause-scope g c = (c.load.ensures.2 c.args.owner refl).0
+
+pub returns-clause-kept : goal.returns-clause-kept
+returns-clause-kept g c = ap book_state (view_is _ _ _ _ _ (c.load.ensures.2 c.args.owner refl).1)
+
+pub returns-clause-made : goal.returns-clause-made
+returns-clause-made g c = (c.load.ensures.0, seat_made _ _ _ _ _ (c.load.ensures.2 c.args.owner refl).1)
+
+pub returns-clause-saw : goal.returns-clause-saw
+returns-clause-saw g c = scope_found _ _ c.args.owner c.load.result (seat_made _ _ _ _ _ (c.load.ensures.2 c.args.owner refl).1)

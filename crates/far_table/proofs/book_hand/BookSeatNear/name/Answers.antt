@@ -1,0 +1,45 @@
+use Rattle.std.proofs.Common.{◌≡◌, refl, sym, ap, subst}
+use Rattle.far_core.specs.events.Step.{after}
+use Rattle.far_core.specs.state.State.{State}
+use Rattle.far_core.specs.declared.event.Event.TheVariants.{Name}
+use Rattle.far_hand.specs.Known.{Forgets}
+use Rattle.far_table.specs.Layout.{cell_at}
+use Rattle.far_table.specs.Stands.{book_of}
+use Rattle.far_table.specs.StateOf.{book_state}
+use Rattle.far_table.proofs.BookSeatLemmas.{book_stays, cell_inside, shape_stays, stands_after, view_is}
+use Rattle.far_table.proofs.NameSteps.{exchanged_keeps, exchanges, lost_tells, named_done, named_forgets, won_tells}
+use Rattle.far_table.proofs.SeatLemmas.{inside}
+use Rattle.far_table.proofs.book_hand.BookSeatNear.name.Goals as goal
+
+pub compare_exchange-found-requires : goal.compare_exchange-found-requires
+compare_exchange-found-requires g c =
+    let i = c.args.self.now.fits in
+    let t = inside _ _ _ (cell_at c.args.pointer) i.same (ap (λ t. t.shared.table_id) c.deref.ensures) i.wide (cell_inside _ _ _ _ _ _ c.args.pointer i c.requires.legal.0) in
+    (t.0, t.1, exchanges _ _ _ i.is_book i.plain c.args.pointer c.args.old c.args.new c.ranges.old.fits c.ranges.new.fits c.requires.legal c.requires.known)
+
+pub invariant_of-self : goal.invariant_of-self
+invariant_of-self g c =
+    let i = c.args.self.now.fits in
+    let h = c.compare_exchange-found.ensures in
+    let t = (h.2 c.args.pointer refl).1 in
+    let k = exchanged_keeps c.args.pointer c.args.old c.args.new c.compare_exchange-found.result (book_of c.args.self.now.seat.me.0) i.plain in record {
+      fits = book_stays _ _ _ _ _ t _ _ _ _ _ _ _ i h.0 (shape_stays _ _ _ _ _ _ _ i k.logs k.mutators k.epoch k.rest k.plain);
+      stands = stands_after _ _ _ _ _ t;
+    }
+
+pub returns-then-found-old-clause-done : goal.returns-then-found-old-clause-done
+returns-then-found-old-clause-done g c =
+    let b = book_of c.args.self.now.seat.me.0 in
+    let t = won_tells _ _ _ c.args.pointer c.args.old c.args.new c.compare_exchange-found.result (c.compare_exchange-found.ensures.2 c.args.pointer refl).1 c.if-found-old.true in
+    subst (λ (z : State). z ≡ record (after (book_state b) (Name c.args.pointer c.args.old c.args.new)) { word = z.word }) (sym (ap book_state (view_is _ _ _ _ _ t))) (named_done b c.args.pointer c.args.old c.args.new c.requires.legal c.requires.seen)
+
+pub returns-then-found-old-clause-forgot : goal.returns-then-found-old-clause-forgot
+returns-then-found-old-clause-forgot g c =
+    let b = book_of c.args.self.now.seat.me.0 in
+    let t = won_tells _ _ _ c.args.pointer c.args.old c.args.new c.compare_exchange-found.result (c.compare_exchange-found.ensures.2 c.args.pointer refl).1 c.if-found-old.true in
+    subst (Forgets (book_state b)) (sym (ap book_state (view_is _ _ _ _ _ t))) (named_forgets b c.args.pointer c.args.old c.args.new c.requires.legal c.requires.seen)
+
+pub returns-else-found-old-clause-kept : goal.returns-else-found-old-clause-kept
+returns-else-found-old-clause-kept g c =
+    let t = lost_tells _ _ _ c.args.pointer c.args.old c.args.new c.compare_exchange-found.result (c.compare_exchange-found.ensures.2 c.args.pointer refl).1 c.if-found-old.false in
+    ap book_state (view_is _ _ _ _ _ t)
