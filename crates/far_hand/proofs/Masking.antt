@@ -14,6 +14,7 @@ use Rattle.far_core.specs.state.Law.{Law, Heads, head_len}
 use Rattle.far_core.specs.state.State.{State, addr}
 use Rattle.far_core.proofs.Bounds.{one_name, span_len}
 use Rattle.far_core.proofs.SpanFrames.{spans_apart}
+use Rattle.far_hand.specs.Beside.{hidden}
 use Rattle.far_hand.specs.Finds.{Finds, marks_in}
 use Rattle.far_hand.specs.Known.{unknown}
 use Rattle.far_hand.specs.Masked.{masked, masked_word, AllFind, CountsOnQuiet}
@@ -102,9 +103,6 @@ module _ (s : State) (law : Law s) (found : ℕ → ℕ) (counted : ℕ → Bool
       false≢true (sym uncounted ∙ either_true (s.starts a) (counted a) known plain)
 
   module _ (t : State) (turn : OwnersChange s t) where
-    abbrev hidden : State → (ℕ → ℕ) → State
-    hidden u word = record u { cell = found; word = word; scope = λ _. 0; remembered = λ _. None; used = λ _. false; held = λ _. None }
-
     same_starts : t.starts ≡ s.starts
     same_starts = ap (λ (u : State). u.starts) turn.rest
 
@@ -113,7 +111,7 @@ module _ (s : State) (law : Law s) (found : ℕ → ℕ) (counted : ℕ → Bool
         ∙ same_where (s.starts a || counted a) (t.word a) (s.word a) (unknown a) (λ known. turn.words a (known_quiet a known)))
 
     pub same_view : masked t found counted ≡ masked s found counted
-    same_view = ap (λ (u : State). hidden u (masked_word t.word t.starts counted)) turn.rest ∙ ap (hidden s) same_words
+    same_view = ap (λ (u : State). hidden u found (masked_word t.word t.starts counted)) turn.rest ∙ ap (hidden s found) same_words
 
     pub same_finds : AllFind found t.cell
     same_finds p = finds_more (found p) (s.cell p) (t.cell p) (finds p) (turn.cells p)

@@ -6,6 +6,7 @@ use Rattle.far_word.specs.declared.pointer.PtrWord.TheVariants.{Near}
 use Rattle.far_word.specs.Pointer.{read_of}
 use Rattle.far_word.specs.Sizes.{words_for}
 use Rattle.far_core.specs.state.State.{State, addr, put}
+use Rattle.far_hand.specs.Beside.{hidden}
 use Rattle.far_hand.specs.Finds.{Finds}
 use Rattle.far_hand.specs.Known.{unknown}
 use Rattle.far_hand.specs.Quiet.{is_quiet}
@@ -15,16 +16,9 @@ abbrev pub masked_word : (ℕ → ℕ) → (ℕ → Bool) → (ℕ → Bool) →
 masked_word word starts counted a = cond (starts a || counted a) (word a) (unknown a)
 
 -- the state as it is known where these words were found in the cells, and these words of the logs are counted on beside
--- headers; of what owners do nothing is known
+-- headers; of what others do nothing is known
 abbrev pub masked : State → (ℕ → ℕ) → (ℕ → Bool) → State
-masked s found counted = record s {
-  cell = found;
-  word = masked_word s.word s.starts counted;
-  scope = λ _. 0;
-  remembered = λ _. None;
-  used = λ _. false;
-  held = λ _. None;
-}
+masked s found counted = hidden s found (masked_word s.word s.starts counted)
 
 -- each cell is one that may be found where that word was found last
 abbrev pub AllFind : (ℕ → ℕ) → (ℕ → ℕ) → Type 0

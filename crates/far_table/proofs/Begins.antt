@@ -25,7 +25,7 @@ use Rattle.far_hand.proofs.Finding.{finds_same}
 use Rattle.far_hand.proofs.Masking.{known_quiet}
 use Rattle.far_table.specs.View.{BookView, OwnerView, Book}
 use Rattle.far_table.specs.First.{IsTableOf, first_book, first_owner, first_owners, rows_from}
-use Rattle.far_table.specs.Layout.{cell_at, cell_in, data_at, scope_at, scope_in, word_in}
+use Rattle.far_table.specs.Layout.{JOBS, cell_at, cell_in, data_at, job_at, scope_at, scope_in, word_in}
 use Rattle.far_table.specs.Rows.{over}
 use Rattle.far_table.specs.Rule.{BookTies, Facts, OwnerTies, Running}
 use Rattle.far_table.specs.StateOf.{book_state, head_at, held_by, known_word, remembered_by, state_of, stored_word, used_by}
@@ -236,7 +236,7 @@ module _ (s : State) (honest : Bool) (law : Law s) (past : HasNothingPast s) whe
           owners = λ m o at. let t = owner_stands s honest m o at in subst (λ (z : State). OwnerTies b z m o) is (subst (OwnerTies b s' m) t.1 (first_owner_ties m));
           many = many_owners s honest;
           wide = table.wide;
-          jobs = table.jobs;
+          jobs = part_is JOBS (λ j. slice_index ws (job_at j)) (λ _. 0) table.jobs (λ j most. refl);
         }
 
 -- what is asked where a table is made of these words and the book's first view

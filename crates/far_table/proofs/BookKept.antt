@@ -3,6 +3,7 @@ use Rattle.std.proofs.Common.{◌≡◌, ◌<◌, ◌^◌, ℕ, false, sym, ap, 
 use Rattle.far_core.specs.events.Quiet.{is_quiet}
 use Rattle.far_core.specs.state.Law.{Law}
 use Rattle.far_core.specs.state.State.{State}
+use Rattle.far_hand.specs.Beside.{beside}
 use Rattle.far_hand.specs.Known.{IsKnown}
 use Rattle.far_hand.specs.MayBe.{Shows}
 use Rattle.far_hand.specs.Owners.{IsLoudAt, OwnersChange}
@@ -45,7 +46,7 @@ module _ (o s t : State) (law : Law s) (shown : Shows o s) (change : OwnersChang
     words = λ a known. kept_word a known ∙ shown.words a known;
     headers = λ a starts. let head = shown.headers a (sym (ap (λ f. f a) same_starts) ∙ starts) in
         kept_word a (subst (λ w. w < 2 ^ 64) head (law.spans.word_fits a)) ∙ head;
-    rest = change.rest ∙ ap (λ (z : State). record z { cell = t.cell; word = t.word; scope = t.scope; remembered = t.remembered; used = t.used; held = t.held }) shown.rest;
+    rest = change.rest ∙ ap (λ (z : State). beside z t) shown.rest;
   }
 
 pub book_on : (b : BookView) (s t : State) → Law s → BookTies b s → OwnersChange s t → BookTies b t

@@ -8,7 +8,7 @@ use Rattle.atomic_table.specs.Table.{Me, keeps, Allows}
 use Rattle.far_core.specs.declared.event.Event.{Event}
 use Rattle.far_core.specs.declared.event.Reply.{Reply}
 use Rattle.far_core.specs.events.Step.{Fits}
-use Rattle.far_hand.specs.Owners.{is_owners}
+use Rattle.far_hand.specs.Makers.{ByBook, maker}
 use Rattle.far_table.specs.View.{BookView, OwnerView, View, Book, Owner}
 use Rattle.far_table.specs.BookTells.{BookTells}
 use Rattle.far_table.specs.Rule.{Facts, Running}
@@ -39,7 +39,7 @@ module _ {S : Type 0} where
         t.3,
       )
 
-  module _ (slots id i : ℕ) (me : Me S View) (is : me.0 ≡ Book (book_of me.0)) (e : Event) (own : is_owners e ≡ false)
+  module _ (slots id i : ℕ) (me : Me S View) (is : me.0 ≡ Book (book_of me.0)) (e : Event) (by : maker e ≡ ByBook)
       (r : ℕ → Reply) (w : ℕ → BookView) (then : ℕ → Me S View → Type 0) where
     abbrev b : BookView
     b = book_of me.0
@@ -55,9 +55,9 @@ module _ {S : Type 0} where
         let n : ℕ = slice_index ws i in
         let k = steps ws os facts small in (
           w n,
-          k.rest,
-          book_facts ws b os facts e own fits (r n) (set ws i (f n)) (w n) k,
-          tells ws os facts small record { after_is = refl; made = book_made ws b os facts e own fits (r n) (set ws i (f n)) (w n) k },
+          k.leaves.rest,
+          book_facts ws b os facts e by fits (r n) (set ws i (f n)) (w n) k,
+          tells ws os facts small record { after_is = refl; made = book_made ws b os facts e by fits (r n) (set ws i (f n)) (w n) k },
         ))
 
     -- a step that reads

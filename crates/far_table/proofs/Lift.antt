@@ -1,5 +1,5 @@
 -- From facts about words, the book's view and the owners' views to the rule of the table, once for all kinds of step.
-use Rattle.std.proofs.Common.{◌≡◌, ℕ, zero, suc, true, List, [], ◌∷◌, ◌++◌, map, set, sym, refl, ap, ◌∙◌, subst}
+use Rattle.std.proofs.Common.{◌≡◌, ℕ, zero, suc, List, [], ◌∷◌, ◌++◌, map, set, sym, refl, ap, ◌∙◌, subst}
 use Rattle.std.specs.Prelude.{slice_index}
 use mathlib.Core.Option.{some, some-injective, some-ne-none}
 use lib.ListN.{get_elem?}
@@ -9,11 +9,10 @@ use Rattle.atomic_table.proofs.Lists.{at_longer}
 use Rattle.far_core.specs.declared.event.Event.{Event}
 use Rattle.far_core.specs.declared.event.Reply.{Reply}
 use Rattle.far_core.specs.events.Step.{Fits}
-use Rattle.far_hand.specs.Owners.{is_owners}
+use Rattle.far_hand.specs.Makers.{ByOwner, maker}
 use Rattle.far_table.specs.View.{BookView, OwnerView, View, Book, Owner}
 use Rattle.far_table.specs.Rule.{Facts, Running}
 use Rattle.far_table.specs.Tells.{Tells, owner_of}
-use Rattle.far_table.proofs.Others.{maker}
 use Rattle.far_table.proofs.OwnSteps.{OwnStep, own_facts, own_made}
 use Rattle.far_table.proofs.Places.{set_before}
 
@@ -60,7 +59,7 @@ module _ {S : Type 0} where
         t.2,
       )
 
-  module _ (slots id i : ℕ) (me : Me S View) (is : me.0 ≡ Owner (owner_of me.0)) (e : Event) (own : is_owners e ≡ true) (by : maker e ≡ (owner_of me.0).number) (fits : Fits e)
+  module _ (slots id i : ℕ) (me : Me S View) (is : me.0 ≡ Owner (owner_of me.0)) (e : Event) (by : maker e ≡ ByOwner (owner_of me.0).number) (fits : Fits e)
       (r : ℕ → Reply) (w : ℕ → OwnerView) (then : ℕ → Me S View → Type 0) where
     abbrev o : OwnerView
     o = owner_of me.0
@@ -76,8 +75,8 @@ module _ {S : Type 0} where
         let n : ℕ = slice_index ws i in
         let k = steps ws b os facts at in (
           w n,
-          own_facts ws b os facts o at e own by fits (r n) (set ws i (f n)) (w n) k,
-          tells ws b os facts at record { after_is = refl; number = k.mine.number; made = own_made ws b os facts o at e own by fits (r n) (set ws i (f n)) (w n) k },
+          own_facts ws b os facts o at e by fits (r n) (set ws i (f n)) (w n) k,
+          tells ws b os facts at record { after_is = refl; number = k.mine.number; made = own_made ws b os facts o at e by fits (r n) (set ws i (f n)) (w n) k },
         ))
 
     -- a step that reads

@@ -42,4 +42,4 @@ abbrev pub word_in : List ℕ → ℕ → ℕ
 word_in ws a = slice_index ws (data_at a)
 
 abbrev pub job_in : List ℕ → ℕ → ℕ
-job_in ws j = slice_index ws (job_at j)
+job_in ws j = cond (nat_lt j JOBS) (slice_index ws (job_at j)) 0

@@ -16,7 +16,7 @@ use Rattle.far_hand.specs.Known.{IsKnown}
 use Rattle.far_hand.specs.MayBe.{Shows}
 use Rattle.far_hand.specs.Owners.{IsLoudAt}
 use Rattle.far_table.specs.View.{BookView, ObjectView, OwnerView, View, Book, Owner}
-use Rattle.far_table.specs.Layout.{TABLE_WORDS, JOBS, job_in}
+use Rattle.far_table.specs.Layout.{TABLE_WORDS, job_in}
 use Rattle.far_table.specs.StateOf.{book_state, cooled_at, retired_at, state_of, taken_at}
 use Rattle.far_table.specs.Views.{object_at, asked_at, dropped_at, drops, heated_at, held_at, hots, moves, pinned_at, word_of}
 
@@ -55,7 +55,7 @@ pub record Facts (ws : List ℕ) (b : BookView) (os : List OwnerView) : Type 0 w
   pub owners : (m : ℕ) (o : OwnerView) → get_elem? os m ≡ some o → OwnerTies b (state_of ws b os) m o
   pub many : length os ≡ b.mutators
   pub wide : length ws ≡ TABLE_WORDS
-  pub jobs : (j : ℕ) → j < JOBS → job_in ws j ≡ 0
+  pub jobs : job_in ws ≡ (λ _. 0)
 
 -- the rule: seat 0 is the book's, those after it the owners' that have one; the others stand in the book's view
 pub record Running {S : Type 0} (s : Table S View) : Type 0 where
