@@ -10,7 +10,7 @@ use Rattle.far_core.specs.state.State.{State}
 use Rattle.far_core.proofs.Owing.{is_fact, keeps}
 use Rattle.far_hand.specs.Beside.{beside}
 use Rattle.far_hand.specs.Makers.{is_owners}
-use Rattle.far_hand.specs.Masked.{masked, AllFind, CountsOnQuiet}
+use Rattle.far_hand.specs.Masked.{masked, AllFind, CountsOnRest}
 use Rattle.far_hand.specs.MayBe.{MayBeBeside, Shows, masked_shows}
 use Rattle.far_hand.specs.Owners.{IsLoudAt, OwnersChange}
 use Rattle.far_hand.specs.Quiet.{is_quiet}
@@ -37,7 +37,7 @@ step_lawful : (s : State) (e : Event) → Law s → Fits e → Law (step_of s e)
 step_lawful s e law fits = cond_both (is_legal s e) (after s e, answer s e) (s, Refused) (λ (x : State × Reply). Law x.0)
     (λ h. keeps s e law fits (is_fact s e law h)) (λ _. law)
 
-pub stays_beside : (s : State) → Law s → (found : ℕ → ℕ) (counted : ℕ → Bool) → AllFind found s.cell → CountsOnQuiet s.round s.clear found counted →
+pub stays_beside : (s : State) → Law s → (found : ℕ → ℕ) (counted : ℕ → Bool) → AllFind found s.cell → CountsOnRest s found counted →
     (x : State) (e : Event) → is_owners e ≡ true → Fits e → MayBeBeside (masked s found counted) s x → MayBeBeside (masked s found counted) s (step_of x e).0
 stays_beside s law found counted finds counts x e own fits may =
     let t = (step_of x e).0 in

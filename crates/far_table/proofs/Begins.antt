@@ -20,9 +20,8 @@ use Rattle.far_core.proofs.Steps.{agrees}
 use Rattle.far_hand.specs.Known.{IsKnown, unknown}
 use Rattle.far_hand.specs.Masked.{masked, masked_word}
 use Rattle.far_hand.specs.MayBe.{Shows, masked_shows}
-use Rattle.far_hand.specs.Owners.{IsLoudAt}
+use Rattle.far_hand.specs.Quiet.{RestsAt}
 use Rattle.far_hand.proofs.Finding.{finds_same}
-use Rattle.far_hand.proofs.Masking.{known_quiet}
 use Rattle.far_table.specs.View.{BookView, OwnerView, Book}
 use Rattle.far_table.specs.First.{IsTableOf, first_book, first_owner, first_owners, rows_from}
 use Rattle.far_table.specs.Layout.{JOBS, cell_at, cell_in, data_at, job_at, scope_at, scope_in, word_in}
@@ -44,7 +43,7 @@ some_where true w = refl
 some_where false w = refl
 
 -- a word that is known is a header
-known_head : (t : Bool) (w a : ℕ) → IsKnown (cond (t || false) w (unknown a)) → (t || false) ≡ true
+known_head : (t : Bool) (w a : ℕ) → IsKnown (cond (t || false) w (unknown a)) → t ≡ true
 known_head true w a known = refl
 known_head false w a known = absurd (omega arith)
 
@@ -58,7 +57,7 @@ pub other_rest : (ws : List ℕ) (b : BookView) (os rest : List OwnerView) → F
 other_rest ws b os rest f = record {
   law = f.law;
   agrees = f.agrees;
-  book = record { shown = f.book.shown; still = f.book.still };
+  book = record { shown = f.book.shown; rests = f.book.rests };
   owners = λ m o at. let ties = f.owners m o at in record { number = ties.number; honest = ties.honest; scope = ties.scope; objects = ties.objects; asks = ties.asks; drops = ties.drops; hots = ties.hots; warm = ties.warm };
   many = f.many;
   wide = f.wide;
@@ -195,23 +194,12 @@ module _ (s : State) (honest : Bool) (law : Law s) (past : HasNothingPast s) whe
       unadopted = first_blank;
     }
 
-    -- no header is a word that an owner stores into
-    still_first : (a : ℕ) → IsKnown (masked_word s.word s.starts (λ _. false) a) → ¬ IsLoudAt (masked s' s.cell (λ _. false)) a
-    still_first a known x = known_quiet s' first_law s.cell (λ _. false) (λ p. finds_same (s.cell p)) (λ p len ds i place m near loud inside. refl) a (known_head (s.starts a) (s.word a) a known) record {
-      p = x.p;
-      len = x.len;
-      ds = x.ds;
-      place = x.place;
-      marks = x.marks;
-      index = x.index;
-      near = x.near;
-      loud = x.loud;
-      inside = x.inside;
-      here = x.here;
-    }
+    -- no word is known but headers
+    rests_first : (a : ℕ) → IsKnown (masked_word s.word s.starts (λ _. false) a) → s.starts a ≡ false → RestsAt (masked s' s.cell (λ _. false)) a
+    rests_first a known plain = absurd (false≢true (sym plain ∙ known_head (s.starts a) (s.word a) a known))
 
     pub first_book_ties : BookTies b s'
-    first_book_ties = record { shown = first_shows; still = subst (λ (o : State). (a : ℕ) → IsKnown (o.word a) → ¬ IsLoudAt o a) (sym first_book_state) still_first }
+    first_book_ties = record { shown = first_shows; rests = subst (λ (o : State). (a : ℕ) → IsKnown (o.word a) → o.starts a ≡ false → RestsAt o a) (sym first_book_state) rests_first }
 
     -- MOVE, DROP and HOT count as set once where they stand, and as never taken away
     pub first_owner_ties : (m : ℕ) → OwnerTies b s' m (first_owner s honest m)

@@ -30,7 +30,7 @@ use Rattle.far_table.specs.StateOf.{book_state, cooled_at, known_word, retired_a
 use Rattle.far_table.specs.Views.{drops, has_hot, hots, moves}
 use Rattle.far_table.proofs.BookFrames.{BookStep, cells_stay, marks_stay}
 use Rattle.far_table.proofs.BookLift.{book_makes, book_reads}
-use Rattle.far_table.proofs.Masks.{counts, counts_quiet, epoch_is, finds, ties, words_are}
+use Rattle.far_table.proofs.Masks.{counts, epoch_is, finds, rests, ties, words_are}
 use Rattle.far_table.proofs.OwnSteps.{reads, state_is}
 use Rattle.far_table.proofs.Words.{WordsAre, cell_here, cell_word_set}
 
@@ -80,7 +80,7 @@ module _ (ws : List ℕ) (b : BookView) (os : List OwnerView) (f : Facts ws b os
     says = refl;
     becomes = reads f (after s (See p)) (saw_view p n b) os refl;
     book = λ law. ties ws (saw_view p n b) os law (counts b) (words_are ws b os f plain) (finds_put o.cell s.cell p n (finds ws b os f) refl)
-        (counts_found s.round s.clear o.cell (counts b) p n (counts_quiet ws b os f) (finds ws b os f p)) (epoch_is ws b os f);
+        (counts_found s o.cell (counts b) p n (rests ws b os f) (finds ws b os f p)) (epoch_is ws b os f);
     leaves = cells_stay refl refl refl (λ _ _. (refl, refl, refl));
   }
 
@@ -109,7 +109,7 @@ module _ (ws : List ℕ) (b : BookView) (os : List OwnerView) (f : Facts ws b os
       says = refl;
       becomes = state_is (set ws (cell_at p) w) (marked_view p n b) os (cell_after ws b os f p w few) refl refl refl;
       book = λ law. ties (set ws (cell_at p) w) (marked_view p n b) os law (counts b) (words_after ws b os f p w few plain) (finds_after ws b os f p w few)
-          (counts_marked s f.law o.cell (counts b) (finds ws b os f) p h (counts_quiet ws b os f)) (epoch_after ws b os f p w few);
+          (counts_marked s f.law o.cell (counts b) (finds ws b os f) p h (rests ws b os f)) (epoch_after ws b os f p w few);
       leaves = marks_stay (marks_as ws b os f p w few same_marks) (cell_after ws b os f p w few).scope_is refl (λ _ _. (refl, refl, refl));
     }
 

@@ -37,8 +37,7 @@ use Rattle.far_table.specs.Views.{drops, hots, moves}
 use Rattle.far_table.proofs.BookFrames.{BookStep, cells_stay}
 use Rattle.far_table.proofs.BookKnown.{elsewhere, forgotten, head_same, no_head, plain_more, put_known}
 use Rattle.far_table.proofs.BookLift.{book_makes, book_reads}
-use Rattle.far_table.proofs.Masks.{counts, epoch_is, finds, is_masked, ties, view_masked, words_are}
-use Rattle.far_table.proofs.Masks as masks
+use Rattle.far_table.proofs.Masks.{counts, epoch_is, finds, is_masked, rests, ties, view_masked, words_are}
 use Rattle.far_table.proofs.OwnSteps.{reads, state_is}
 use Rattle.far_table.proofs.Words.{data_word_set}
 
@@ -126,7 +125,7 @@ module _ (ws : List ℕ) (b : BookView) (os : List OwnerView) (f : Facts ws b os
     says = refl;
     becomes = reads f s (put_view a n b) os refl;
     book = λ law. ties ws (put_view a n b) os law (put (counts b) a true) (got_words (quiet_so quiet)) seen
-        (counts_read s f.law o.cell seen (counts b) l a false true (λ _. quiet_so quiet) (masks.counts_quiet ws b os f)) epoch;
+        (counts_read s o.cell (counts b) l a false true (λ _. quiet_so quiet) (rests ws b os f)) epoch;
     leaves = cells_stay refl refl refl (λ _ _. (refl, refl, refl));
   }
   get_step low false quiet = record {
@@ -166,7 +165,7 @@ module _ (ws : List ℕ) (b : BookView) (os : List OwnerView) (f : Facts ws b os
     legal = (h.0, h.1, may_free s o.cell (counts b) l true seen h.2);
     says = refl;
     becomes = reads f (with_free_log s l) left os free_becomes;
-    book = λ law. ties ws left os law (λ _. false) free_words seen (counts_none (book_state left).round o.clear o.cell) epoch;
+    book = λ law. ties ws left os law (λ _. false) free_words seen (counts_none (book_state left) o.cell) epoch;
     leaves = cells_stay refl refl refl (λ _ _. (refl, refl, refl));
   }
 
@@ -193,7 +192,7 @@ module _ (ws : List ℕ) (b : BookView) (os : List OwnerView) (f : Facts ws b os
               (put_known b a w no_start ∙ (ap (λ v. put v a w) (words_are ws b os f plain)
               ∙ (sym (count_word s.word s.starts (counts b) a w) ∙ ap (λ v. masked_word v o.starts (put (counts b) a true)) (sym are.word_is))))
               (subst (AllFind o.cell) (sym are.cell_is) seen)
-              (counts_past s f.law o.cell seen (counts b) l at h.2 inside (masks.counts_quiet ws b os f)) (are.epoch_is ∙ epoch);
+              (counts_past s o.cell (counts b) l at h.2 inside (rests ws b os f)) (are.epoch_is ∙ epoch);
           leaves = cells_stay are.cell_is are.scope_is refl (λ _ _. (refl, refl, refl));
         }
 

@@ -291,7 +291,7 @@ module _ (ws : List ℕ) (b : BookView) (os : List OwnerView) (f : Facts ws b os
     legal = legal;
     says = sym (ap (λ t. cond t Done (Word (cell_in ws p))) (eq-eqb (cell_in ws p) old won));
     becomes = led_by (won_state s p old new form won legal.1.1 ∙ row_becomes form legal.1.1) (state_is later b' os (cell_after ws b os f p new few) refl refl refl);
-    book = λ law. ties later b' os law (λ _. false) words_named (finds_named_too form) (counts_none (book_state b').round (book_state b').clear (book_state b').cell) (epoch_after ws b os f p new few ∙ sym sizes.3);
+    book = λ law. ties later b' os law (λ _. false) words_named (finds_named_too form) (counts_none (book_state b') (book_state b').cell) (epoch_after ws b os f p new few ∙ sym sizes.3);
     leaves = record {
       mutators = sizes.0;
       honest = sizes.1;
