@@ -22,7 +22,7 @@ use Rattle.far_hand.specs.Masked.{masked, masked_word}
 use Rattle.far_hand.specs.MayBe.{Shows, masked_shows}
 use Rattle.far_hand.specs.Quiet.{RestsAt}
 use Rattle.far_hand.proofs.Finding.{finds_same}
-use Rattle.far_table.specs.View.{BookView, OwnerView, Book}
+use Rattle.far_table.specs.View.{BookView, OwnerView, Role, Book}
 use Rattle.far_table.specs.First.{IsTableOf, first_book, first_owner, first_owners, rows_from}
 use Rattle.far_table.specs.Layout.{JOBS, cell_at, cell_in, data_at, job_at, scope_at, scope_in, word_in}
 use Rattle.far_table.specs.Rows.{over}
@@ -52,8 +52,8 @@ word_by : (b : BookView) (a : ℕ) (t : Bool) (w : ℕ) → head_at b a ≡ cond
 word_by b a true w e none = rw e refl
 word_by b a false w e none = rw e none
 
--- the owners that have no seat yet are no part of what the facts say of the book
-pub other_rest : (ws : List ℕ) (b : BookView) (os rest : List OwnerView) → Facts ws b os → Facts ws (record b { rest = rest }) os
+-- who has no seat yet is no part of what the facts say of the book
+pub other_rest : (ws : List ℕ) (b : BookView) (os : List OwnerView) (rest : List Role) → Facts ws b os → Facts ws (record b { rest = rest }) os
 other_rest ws b os rest f = record {
   law = f.law;
   agrees = f.agrees;
@@ -230,4 +230,4 @@ module _ (s : State) (honest : Bool) (law : Law s) (past : HasNothingPast s) whe
 -- what is asked where a table is made of these words and the book's first view
 pub opens : {S : Type 0} (s : State) (honest : Bool) (ws : List ℕ) → Law s → HasNothingPast s → IsTableOf ws s → ((p : ℕ) → s.cell p ≢ 0 → honest ≡ s.honest) →
     Running {S = S} (opening ws [] (Book (first_book s honest)))
-opens s honest ws law past table same = record { book = first_book s honest; dealt = []; views = refl; facts = first_facts s honest law past same ws table }
+opens s honest ws law past table same = record { book = first_book s honest; dealt = []; waits = first_owners s honest; views = refl; rest = refl; facts = first_facts s honest law past same ws table }

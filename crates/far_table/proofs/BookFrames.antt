@@ -13,7 +13,7 @@ use Rattle.far_core.proofs.Owing.{keeps}
 use Rattle.far_core.proofs.Steps.{agrees}
 use Rattle.far_hand.specs.Makers.{ByBook, maker}
 use Rattle.far_hand.proofs.Making.{legal_made}
-use Rattle.far_table.specs.View.{BookView, OwnerView}
+use Rattle.far_table.specs.View.{BookView, OwnerView, Role}
 use Rattle.far_table.specs.Layout.{cell_in, job_in, scope_in}
 use Rattle.far_table.specs.Rows.{over}
 use Rattle.far_table.specs.Rule.{BookTies, Facts, OwnerTies}
@@ -35,8 +35,8 @@ pub record LeavesOwners (ws : List ℕ) (b : BookView) (os : List OwnerView) (e 
   pub warm : (p : ℕ) → IsSome (held_by os p) → hots (cell_in later p) ≡ hots (cell_in ws p)
   pub told : (p : ℕ) → (taken_at b' p ≡ taken_by e r p (taken_at b p)) × (retired_at b' p ≡ retired_by e r p (retired_at b p)) × (cooled_at b' p ≡ cooled_by e r p (cooled_at b p))
 
--- what owners' ties read of the book's view, and the owners that have no seat yet
-abbrev counts_of : BookView → ℕ × Bool × List OwnerView × List (ℕ × ℕ) × List (ℕ × ℕ) × List (ℕ × ℕ)
+-- what owners' ties read of the book's view, and who has no seat yet
+abbrev counts_of : BookView → ℕ × Bool × List Role × List (ℕ × ℕ) × List (ℕ × ℕ) × List (ℕ × ℕ)
 counts_of b = (b.mutators, b.honest, b.rest, b.taken, b.retired, b.cooled)
 
 -- an event with this answer counts no mark

@@ -24,7 +24,7 @@ module _ {S : Type 0} where
       Allows Running slots id me i f then
   book_allows slots id i me b f then is asked s r wide at small =
       let p = book_place r.book r.dealt id b (subst (λ l. get_elem? l id ≡ some (Book b)) r.views (at ∙ ap some is)) in
-      let t = asked s.words (r.dealt ++ b.rest) (subst (λ z. Facts s.words z (r.dealt ++ z.rest)) p.1 r.facts) small in
+      let t = asked s.words (r.dealt ++ r.waits) (subst (λ z. Facts s.words z (r.dealt ++ r.waits)) p.1 r.facts) small in
       let w : BookView = t.0 in
       let x : ℕ = f (slice_index s.words i) in (
         Book w,
@@ -33,8 +33,10 @@ module _ {S : Type 0} where
         record {
           book = w;
           dealt = r.dealt;
+          waits = r.waits;
           views = ap (λ l. set l id (Book w)) r.views ∙ ap (λ j. set (Book r.book ∷ map Owner r.dealt) j (Book w)) p.0;
-          facts = subst (λ l. Facts (set s.words i x) w (r.dealt ++ l)) (sym t.1) t.2;
+          rest = t.1 ∙ (ap (λ (z : BookView). z.rest) (sym p.1) ∙ r.rest);
+          facts = t.2;
         },
         t.3,
       )

@@ -33,7 +33,7 @@ module _ {S : Type 0} where
   own_place s r id o e =
       let t = owner_behind r.book r.dealt id o (subst (λ l. get_elem? l id ≡ some (Owner o)) r.views e) in
       let k : ℕ = t.0 in
-      let is : k ≡ o.number = sym (r.facts.owners k o (at_longer r.dealt r.book.rest k o t.2)).number in
+      let is : k ≡ o.number = sym (r.facts.owners k o (at_longer r.dealt r.waits k o t.2)).number in
       (t.1 ∙ ap suc is, subst (λ n. get_elem? r.dealt n ≡ some o) is t.2)
 
   -- a step of an owner's seat owes the facts after it, of any words and views that meet them
@@ -44,7 +44,7 @@ module _ {S : Type 0} where
   owner_allows slots id i me o f then is asked s r wide at small =
       let p = own_place s r id o (at ∙ ap some is) in
       let k : ℕ = o.number in
-      let t = asked s.words r.book (r.dealt ++ r.book.rest) r.facts (at_longer r.dealt r.book.rest k o p.1) in
+      let t = asked s.words r.book (r.dealt ++ r.waits) r.facts (at_longer r.dealt r.waits k o p.1) in
       let w : OwnerView = t.0 in
       let x : ℕ = f (slice_index s.words i) in (
         Owner w,
@@ -53,8 +53,10 @@ module _ {S : Type 0} where
         record {
           book = r.book;
           dealt = set r.dealt k w;
+          waits = r.waits;
           views = ap (λ l. set l id (Owner w)) r.views ∙ (ap (λ j. set (Book r.book ∷ map Owner r.dealt) j (Owner w)) p.0 ∙ ap (λ l. Book r.book ∷ l) (sym (map-set Owner r.dealt k w)));
-          facts = subst (λ l. Facts (set s.words i x) r.book l) (set_before r.dealt r.book.rest k w o p.1) t.1;
+          rest = r.rest;
+          facts = subst (λ l. Facts (set s.words i x) r.book l) (set_before r.dealt r.waits k w o p.1) t.1;
         },
         t.2,
       )

@@ -15,7 +15,7 @@ use Rattle.far_core.specs.world.WorldOf.{world_of}
 use Rattle.far_hand.specs.Known.{IsKnown}
 use Rattle.far_hand.specs.MayBe.{Shows}
 use Rattle.far_hand.specs.Quiet.{RestsAt}
-use Rattle.far_table.specs.View.{BookView, ObjectView, OwnerView, View, Book, Owner}
+use Rattle.far_table.specs.View.{BookView, ObjectView, OwnerView, View, Book, Owner, AsOwner}
 use Rattle.far_table.specs.Layout.{TABLE_WORDS, job_in}
 use Rattle.far_table.specs.StateOf.{book_state, cooled_at, retired_at, state_of, taken_at}
 use Rattle.far_table.specs.Views.{object_at, asked_at, dropped_at, drops, heated_at, held_at, hots, moves, pinned_at, word_of}
@@ -58,9 +58,11 @@ pub record Facts (ws : List ℕ) (b : BookView) (os : List OwnerView) : Type 0 w
   pub wide : length ws ≡ TABLE_WORDS
   pub jobs : job_in ws ≡ (λ _. 0)
 
--- the rule: seat 0 is the book's, those after it the owners' that have one; the others stand in the book's view
+-- the rule: seat 0 is the book's, those after it the owners' that have one; the others wait in the book's view
 pub record Running {S : Type 0} (s : Table S View) : Type 0 where
   pub book : BookView
   pub dealt : List OwnerView
+  pub waits : List OwnerView
   pub views : s.views ≡ Book book ∷ map Owner dealt
-  pub facts : Facts s.words book (dealt ++ book.rest)
+  pub rest : book.rest ≡ map AsOwner waits
+  pub facts : Facts s.words book (dealt ++ waits)
