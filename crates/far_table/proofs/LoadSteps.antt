@@ -18,7 +18,7 @@ use Rattle.far_core.specs.world.World.{Object}
 use Rattle.far_core.proofs.Calls.{word_behind}
 use Rattle.far_core.proofs.Owing.{does}
 use Rattle.far_table.specs.View.{BookView, OwnerView, View, Owner}
-use Rattle.far_table.specs.Layout.{TABLE_WORDS, data_at, word_in}
+use Rattle.far_table.specs.Layout.{LOGS_AT, TABLE_WORDS, data_at, word_in}
 use Rattle.far_table.specs.Plays.{Loaded}
 use Rattle.far_table.specs.Rule.{Facts, Running}
 use Rattle.far_table.specs.Seats.{HasPlaces}
@@ -89,15 +89,15 @@ module _ {S : Type 0} (slots id : ℕ) (me : Me S View) (is : me.0 ≡ Owner (ow
     abbrev there : (place : Place) × (held_at view p ≡ Some place)
     there = some_there (held_at view p) held
 
-    led : data_at (addr there.0 + 1 + i) ≡ a + 1200
+    led : data_at (addr there.0 + 1 + i) ≡ a + LOGS_AT
     led = let here = (has p there.0 there.1).here in omega (arith, read)
 
-    pub loads_at : (a + 1200 < TABLE_WORDS) × Allows Running slots id me (a + 1200) (λ n. n) (Loaded (step slots (a + 1200) 0 0 none) me)
+    pub loads_at : (a + LOGS_AT < TABLE_WORDS) × Allows Running slots id me (a + LOGS_AT) (λ n. n) (Loaded (step slots (a + LOGS_AT) 0 0 none) me)
     loads_at = let fits = (has p there.0 there.1).fits in let word = led in (
       omega arith,
       subst (λ z. Allows Running slots id me z (λ n. n) (Loaded (step slots z 0 0 none) me)) led (loads p i there.0 (has p there.0 there.1).own there.1 inside),
     )
 
-    pub load_told : (found : ℕ) (me' : Me S View) → Loaded (step slots (a + 1200) 0 0 none) me found me' →
+    pub load_told : (found : ℕ) (me' : Me S View) → Loaded (step slots (a + LOGS_AT) 0 0 none) me found me' →
         (view.honest ≡ true → found ≡ word_in_view (object_at view p) i) × Tells me.0 me'.0 (Load view.number p i) (Word found) view
     load_told found me' h = h p i there.0 (has p there.0 there.1).own there.1 inside (sym led)

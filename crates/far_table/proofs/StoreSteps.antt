@@ -24,7 +24,7 @@ use Rattle.far_core.proofs.ObjectFacts.{object_agrees}
 use Rattle.far_core.proofs.Owing.{does, keeps}
 use Rattle.far_core.proofs.Put.{put_both, put_other, put_same}
 use Rattle.far_table.specs.View.{BookView, ObjectView, OwnerView, View, Owner}
-use Rattle.far_table.specs.Layout.{TABLE_WORDS, data_at, epoch_in, scope_in, cell_in, word_in}
+use Rattle.far_table.specs.Layout.{LOGS_AT, TABLE_WORDS, data_at, epoch_in, scope_in, cell_in, word_in}
 use Rattle.far_table.specs.Plays.{Stored}
 use Rattle.far_table.specs.Rule.{Facts, Has, Running}
 use Rattle.far_table.specs.Seats.{HasPlaces}
@@ -159,14 +159,14 @@ module _ {S : Type 0} (slots id : ℕ) (me : Me S View) (is : me.0 ≡ Owner (ow
     abbrev there : (place : Place) × (held_at view p ≡ Some place)
     there = some_there (held_at view p) held
 
-    led : data_at (addr there.0 + 1 + i) ≡ a + 1200
+    led : data_at (addr there.0 + 1 + i) ≡ a + LOGS_AT
     led = let here = (has p there.0 there.1).here in omega (arith, read)
 
-    pub stores_at : (a + 1200 < TABLE_WORDS) × Allows Running slots id me (a + 1200) (λ _. v) (λ _. Stored (step slots (a + 1200) v 0 none) me v)
+    pub stores_at : (a + LOGS_AT < TABLE_WORDS) × Allows Running slots id me (a + LOGS_AT) (λ _. v) (λ _. Stored (step slots (a + LOGS_AT) v 0 none) me v)
     stores_at = let fits = (has p there.0 there.1).fits in let at = led in (
       omega arith,
       subst (λ z. Allows Running slots id me z (λ _. v) (λ _. Stored (step slots z v 0 none) me v)) led (stores p i v there.0 (has p there.0 there.1).own there.1 inside word padded),
     )
 
-    pub store_told : (me' : Me S View) → Stored (step slots (a + 1200) v 0 none) me v me' → Tells me.0 me'.0 (Store view.number p i v) Done (stored_view p i v view)
+    pub store_told : (me' : Me S View) → Stored (step slots (a + LOGS_AT) v 0 none) me v me' → Tells me.0 me'.0 (Store view.number p i v) Done (stored_view p i v view)
     store_told me' h = h p i there.0 (has p there.0 there.1).own there.1 inside (sym led)

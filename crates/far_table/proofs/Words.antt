@@ -7,7 +7,7 @@ use lib.ListN.{length-set}
 use Rattle.far_word.specs.declared.sizes.TheConstants.{MOST_MUTATORS, POINTERS}
 use Rattle.far_core.specs.state.State.{put}
 use Rattle.far_core.proofs.Put.{put_both}
-use Rattle.far_table.specs.Layout.{EPOCH_AT, JOBS, TABLE_WORDS, scope_at, cell_at, data_at, job_at, epoch_in, scope_in, cell_in, job_in, word_in}
+use Rattle.far_table.specs.Layout.{EPOCH_AT, JOBS, LayoutIs, TABLE_WORDS, scope_at, cell_at, data_at, job_at, epoch_in, scope_in, cell_in, job_in, word_in}
 
 where_so : (t : Bool) (a b d : ℕ) → (t ≡ true → a ≡ b) → cond t a d ≡ cond t b d
 where_so true a b d h = h refl
@@ -40,6 +40,10 @@ jobs_apart : (q k : ℕ) → job_at q ≡ job_at k → q ≡ k
 jobs_apart q k e = omega arith
 
 -- ---- where a word stands
+-- in numbers, so that a change of a size doesn't go unseen
+pub layout_is : LayoutIs
+layout_is = record { epoch = refl; scopes = (refl, refl); cells = refl; jobs = refl; logs = refl; words = refl }
+
 pub scope_here : (ws : List ℕ) (m : ℕ) → m < MOST_MUTATORS → scope_in ws m ≡ slice_index ws (scope_at m)
 scope_here = part_here scope_at MOST_MUTATORS scopes_apart
 
