@@ -36,7 +36,10 @@ pub record LeavesOwners (ws : List ℕ) (b : BookView) (os : List OwnerView) (e 
   pub told : (p : ℕ) → (taken_at b' p ≡ taken_by e r p (taken_at b p)) × (retired_at b' p ≡ retired_by e r p (retired_at b p)) × (cooled_at b' p ≡ cooled_by e r p (cooled_at b p))
 
 -- what owners' ties read of the book's view, and who has no seat yet
-abbrev counts_of : BookView → ℕ × Bool × List Role × List (ℕ × ℕ) × List (ℕ × ℕ) × List (ℕ × ℕ)
+abbrev Counted : Type 0
+Counted = ℕ × Bool × List Role × List (ℕ × ℕ) × List (ℕ × ℕ) × List (ℕ × ℕ)
+
+abbrev counts_of : BookView → Counted
 counts_of b = (b.mutators, b.honest, b.rest, b.taken, b.retired, b.cooled)
 
 -- an event with this answer counts no mark
@@ -48,12 +51,12 @@ pub marks_stay : {ws later : List ℕ} {b b' : BookView} {os : List OwnerView} {
     ((p : ℕ) → (moves (cell_in later p) ≡ moves (cell_in ws p)) × (drops (cell_in later p) ≡ drops (cell_in ws p)) × (hots (cell_in later p) ≡ hots (cell_in ws p))) →
     scope_in later ≡ scope_in ws → counts_of b' ≡ counts_of b → CountsNone e r → LeavesOwners ws b os e r later b'
 marks_stay {ws} {later} {b} {b'} marks scopes same none =
-    let taken : taken_at b' ≡ taken_at b = ap (λ z. over z.3 (λ _. 0)) same in
-    let retired : retired_at b' ≡ retired_at b = ap (λ z. over z.4 (λ _. 0)) same in
-    let cooled : cooled_at b' ≡ cooled_at b = ap (λ z. over z.5 (λ _. 0)) same in record {
-      mutators = ap (λ z. z.0) same;
-      honest = ap (λ z. z.1) same;
-      rest = ap (λ z. z.2) same;
+    let taken : taken_at b' ≡ taken_at b = ap (λ (z : Counted). over z.3 (λ _. 0)) same in
+    let retired : retired_at b' ≡ retired_at b = ap (λ (z : Counted). over z.4 (λ _. 0)) same in
+    let cooled : cooled_at b' ≡ cooled_at b = ap (λ (z : Counted). over z.5 (λ _. 0)) same in record {
+      mutators = ap (λ (z : Counted). z.0) same;
+      honest = ap (λ (z : Counted). z.1) same;
+      rest = ap (λ (z : Counted). z.2) same;
       scopes = scopes;
       counts = λ p. (
         ap (λ f. f p + moves (cell_in ws p)) (sym taken) ∙ ap (λ n. taken_at b' p + n) (sym (marks p).0),
