@@ -4,7 +4,6 @@ use Rattle.std.specs.Prelude.{◌||◌, ◌&&◌}
 use Rattle.std.proofs.lemmas.Bool.{false≢true, true≢false, true_from_ne_false}
 use Rattle.far_word.specs.declared.mark.Mark.TheVariants.{Evac}
 use Rattle.far_word.specs.declared.mark.Marks.{Marks}
-use Rattle.far_word.specs.declared.pointer.Place.{Place}
 use Rattle.far_word.specs.declared.pointer.PtrWord.TheVariants.{Near}
 use Rattle.far_word.specs.declared.sizes.TheConstants.{CELLS}
 use Rattle.far_word.specs.Mark.{position, marks_with}
@@ -13,7 +12,7 @@ use Rattle.far_word.proofs.PointerLaws.{with_mark_read}
 use Rattle.far_core.specs.declared.event.Event.TheVariants.{Mark}
 use Rattle.far_core.specs.events.Legal.{Legal}
 use Rattle.far_core.specs.state.Law.{Law}
-use Rattle.far_core.specs.state.State.{State, addr, put}
+use Rattle.far_core.specs.state.State.{State, put}
 use Rattle.far_core.proofs.Put.{put_both}
 use Rattle.far_hand.specs.Masked.{masked, AllFind, CountsOnRest}
 use Rattle.far_hand.specs.Quiet.{IsQuietBy, is_quiet}

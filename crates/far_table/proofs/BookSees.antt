@@ -13,6 +13,7 @@ use Rattle.far_core.specs.declared.event.Reply.TheVariants.{Word}
 use Rattle.far_core.specs.events.Legal.{Legal}
 use Rattle.far_core.specs.events.Naming.{is_dropped}
 use Rattle.far_core.specs.events.Quiet.{has_move}
+use Rattle.far_core.specs.events.Step.{after}
 use Rattle.far_core.specs.state.State.{State, put}
 use Rattle.far_core.proofs.Put.{put_both}
 use Rattle.far_hand.specs.Finds.{Finds}
@@ -26,7 +27,7 @@ use Rattle.far_table.specs.BookViews.{marked_view, saw_view}
 use Rattle.far_table.specs.Layout.{cell_at, cell_in, epoch_in, job_in, scope_in, word_in}
 use Rattle.far_table.specs.Rule.{Facts, Running}
 use Rattle.far_table.specs.Stands.{IsPlain, book_of}
-use Rattle.far_table.specs.StateOf.{book_state, cooled_at, known_word, retired_at, state_of, taken_at}
+use Rattle.far_table.specs.StateOf.{book_state, known_word, state_of}
 use Rattle.far_table.specs.Views.{drops, has_hot, hots, moves}
 use Rattle.far_table.proofs.BookFrames.{BookStep, cells_stay, marks_stay}
 use Rattle.far_table.proofs.BookLift.{book_makes, book_reads}

@@ -37,12 +37,12 @@ use Rattle.far_table.specs.View.{BookView, OwnerView, View, Book}
 use Rattle.far_table.specs.BookPlays.{Named}
 use Rattle.far_table.specs.BookTells.{BookTells, cooled_by, retired_by, taken_by}
 use Rattle.far_table.specs.BookViews.{saw_view}
-use Rattle.far_table.specs.Layout.{cell_at, cell_in, epoch_in, scope_in, word_in}
+use Rattle.far_table.specs.Layout.{cell_at, cell_in, word_in}
 use Rattle.far_table.specs.NameViews.{exchange_reply, exchanged_view, form_view, formed_view, named_view, retires, span_view, view_by}
 use Rattle.far_table.specs.Rows.{over}
 use Rattle.far_table.specs.Rule.{Facts, Running}
 use Rattle.far_table.specs.Stands.{IsPlain, book_of}
-use Rattle.far_table.specs.StateOf.{book_state, cooled_at, head_at, head_or, held_by, known_word, remembered_by, retired_at, state_of, taken_at, used_by}
+use Rattle.far_table.specs.StateOf.{book_state, cooled_at, head_at, head_or, held_by, known_word, retired_at, state_of, taken_at}
 use Rattle.far_table.specs.Views.{drops, has_hot, hots, moves}
 use Rattle.far_table.proofs.BookFrames.{BookStep, cells_stay}
 use Rattle.far_table.proofs.BookKnown.{forgets, forgotten}
