@@ -1,5 +1,6 @@
 -- What is counted on rests, from call to call.
 use Rattle.std.proofs.Common.{◌≡◌, ◌⊎◌, ℕ, ◌+◌, ◌*◌, ◌/◌, ◌%◌, ◌<◌, ◌≤◌, Bool, true, false, inl, inr, refl, sym, ap, ◌∙◌, subst, arith}
+use Rattle.std.proofs.Math.Logic.{∥∥₁_map}
 use Rattle.std.proofs.lemmas.Bool.{false≢true}
 use Rattle.far_word.specs.declared.sizes.TheConstants.{LOG_WORDS}
 use Rattle.far_core.specs.events.Get.{after_get}
@@ -12,9 +13,11 @@ use Rattle.far_hand.proofs.Finding.{finds_same, near_found}
 use Rattle.far_hand.proofs.Masking.{moved_known, quiet_found}
 
 -- where quiet words stay so, what rests does
-pub rests_more : {A B C : Type 0} → (B → C) → A ⊎ B → A ⊎ C
-rests_more f (inl past) = inl past
-rests_more f (inr quiet) = inr (f quiet)
+pub rests_more : {A B C : Type 0} → (B → C) → ∥ (A ⊎ B) ∥₁ → ∥ (A ⊎ C) ∥₁
+rests_more {A} {B} {C} f rests = ∥∥₁_map rests one where
+  one : A ⊎ B → A ⊎ C
+  one (inl past) = inl past
+  one (inr quiet) = inr (f quiet)
 
 -- what is found shows as much as before, or more
 quiet_more : (mutators : ℕ) (round clear : ℕ → Bool) (cell found : ℕ → ℕ) (a : ℕ) → AllFind cell found → IsQuietBy mutators round clear cell a → IsQuietBy mutators round clear found a
@@ -53,13 +56,13 @@ module _ (s : State) (found : ℕ → ℕ) (counted : ℕ → Bool) where
   counts_past l at past inside =
       let log : (l * LOG_WORDS + at) / LOG_WORDS ≡ l = omega arith in
       let here : (l * LOG_WORDS + at) % LOG_WORDS ≡ at = omega arith in
-      counts_one (l * LOG_WORDS + at) (inl (subst (λ (x : ℕ × ℕ). s.tail x.0 ≤ x.1) (λ i. (sym log i, sym here i)) past))
+      counts_one (l * LOG_WORDS + at) ∣ inl (subst (λ (x : ℕ × ℕ). s.tail x.0 ≤ x.1) (λ i. (sym log i, sym here i)) past) ∣₁
 
   -- after a read
   pub counts_read : (l a : ℕ) (free quiet : Bool) → (quiet ≡ true → IsQuietAt (masked s found counted) a) → CountsOnRest s found counted →
       CountsOnRest (after_get s l free) found (recounted counted free quiet a)
   counts_read l a true quiet x counts = counts_none (after_get s l true) found
-  counts_read l a false true x counts = counts_one a (inr (x refl)) counts
+  counts_read l a false true x counts = counts_one a ∣ inr (x refl) ∣₁ counts
   counts_read l a false false x counts = counts
 
 -- each cell is found where it was found, and here

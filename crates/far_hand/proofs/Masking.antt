@@ -1,6 +1,7 @@
 -- What stays known to a hand while owners are at work.
-use Rattle.std.proofs.Common.{◌≡◌, ℕ, ◌+◌, ◌/◌, ◌%◌, ◌^◌, ◌<◌, Bool, true, false, cond, Some, inl, inr, refl, sym, ap, ◌∙◌, subst, arith}
+use Rattle.std.proofs.Common.{◌≡◌, ◌⊎◌, ℕ, ◌+◌, ◌/◌, ◌%◌, ◌^◌, ◌<◌, ◌≤◌, Bool, true, false, cond, Some, inl, inr, refl, sym, ap, ◌∙◌, subst, arith}
 use Rattle.std.specs.Prelude.{◌||◌, ◌&&◌}
+use Rattle.std.proofs.Math.Logic.{∥∥₁_elim}
 use Rattle.std.proofs.lemmas.Bool.{true≢false, true_from_ne_false}
 use mathlib.Core.Path.{fun_ext}
 use Rattle.far_word.specs.declared.mark.Marks.{Marks}
@@ -20,7 +21,7 @@ use Rattle.far_hand.specs.Known.{unknown}
 use Rattle.far_hand.specs.Masked.{masked, masked_word, AllFind, CountsOnRest}
 use Rattle.far_hand.specs.MayBe.{Shows}
 use Rattle.far_hand.specs.Owners.{IsLoudAt, OwnersChange}
-use Rattle.far_hand.specs.Quiet.{RestsAt, is_quiet}
+use Rattle.far_hand.specs.Quiet.{IsQuietBy, RestsAt, is_quiet}
 use Rattle.far_hand.proofs.Finding.{finds_more, near_found, near_known}
 
 -- ---- where near objects lie
@@ -91,17 +92,16 @@ pub quiet_found : (round clear : ℕ → Bool) (p : ℕ) (place : Place) (k m : 
 quiet_found round clear p place k m evac moved quiet =
     true_from_ne_false (is_quiet round clear p place m) (λ loud. true≢false (sym quiet ∙ quiet_known round clear p place k m evac moved loud))
 
--- ---- no owner stores into a word that rests
+-- ---- no owner stores into a word that rests: it is no data word of an object that wasn't found quiet
 module _ (s : State) (law : Law s) (found : ℕ → ℕ) (finds : AllFind found s.cell) (a : ℕ) where
-  -- a word that rests is no data word of an object that wasn't found quiet
-  pub rests_apart : RestsAt (record s { cell = found }) a → (p len ds i : ℕ) (place : Place) (m : Marks) → read_of (found p) ≡ Some (Near len ds place m) → is_quiet s.round s.clear p place m ≡ false →
+  apart : (s.tail (a / LOG_WORDS) ≤ a % LOG_WORDS) ⊎ IsQuietBy s.mutators s.round s.clear found a → (p len ds i : ℕ) (place : Place) (m : Marks) → read_of (found p) ≡ Some (Near len ds place m) → is_quiet s.round s.clear p place m ≡ false →
       i < words_for len → a ≡ addr place + 1 + i → ⊥
-  rests_apart (inl past) p len ds i place m near loud lt here =
+  apart (inl past) p len ds i place m near loud lt here =
       let x = near_found (found p) (s.cell p) (finds p) len ds place m near in
       let y = lies s law p len ds place x.marks x.near in
       let long : size_of (head_len (s.word (addr place))) ≡ size_of len = ap size_of y.long in
       past_tail s law (a / LOG_WORDS) (a % LOG_WORDS) (addr place) (1 + i) past (omega arith) y.heads.placed (omega arith) (omega (arith, here))
-  rests_apart (inr q) p len ds i place m near loud lt here =
+  apart (inr q) p len ds i place m near loud lt here =
       let x = near_found (found p) (s.cell p) (finds p) len ds place m near in
       let y = near_found (found q.p) (s.cell q.p) (finds q.p) q.len q.ds q.place q.marks q.near in
       let same : p ≡ q.p = one_owner s law p len ds i q.p q.len q.ds q.index place q.place (lies s law p len ds place x.marks x.near)
@@ -116,7 +116,7 @@ module _ (s : State) (law : Law s) (found : ℕ → ℕ) (finds : AllFind found 
   rests_still rests x =
       let k = known_loud (found x.p) (s.cell x.p) (finds x.p) s.round s.clear x.p x.len x.ds x.place x.marks x.near x.loud in
       let plain : s.starts a ≡ false = ap s.starts x.here ∙ no_header s law x.p x.len x.ds x.index x.place (lies s law x.p x.len x.ds x.place x.marks x.near) x.inside in
-      rests_apart (rests plain) x.p x.len x.ds x.index x.place k.marks k.near k.loud x.inside x.here
+      ∥∥₁_elim (rests plain) (λ odd. absurd odd) (λ at. apart at x.p x.len x.ds x.index x.place k.marks k.near k.loud x.inside x.here)
 
 -- nor into one that a view says rests
 pub shown_still : (o s : State) → Law s → Shows o s → (a : ℕ) → (o.starts a ≡ false → RestsAt o a) → ¬ IsLoudAt s a

@@ -38,7 +38,7 @@ IsQuietAt s a = IsQuietBy s.mutators s.round s.clear s.cell a
 
 -- nobody but the book writes the word at an address: it stands at or past the end of its log, or is a quiet object's. No word of a dead span is such
 abbrev pub RestsAt : State → ℕ → Type 0
-RestsAt s a = (s.tail (a / LOG_WORDS) ≤ a % LOG_WORDS) ⊎ IsQuietAt s a
+RestsAt s a = ∥ ((s.tail (a / LOG_WORDS) ≤ a % LOG_WORDS) ⊎ IsQuietAt s a) ∥₁
 
 -- an object is near and quiet: nobody stores into it
 pub record IsQuietNear (s : State) (p : ℕ) : Type 0 where
