@@ -1,5 +1,5 @@
 -- What leaves a round as it was: steps that leave the logs it holds.
-use Rattle.std.proofs.Common.{◌≡◌, ℕ, zero, suc, ◌+◌, ◌*◌, ◌<◌, ◌||◌, Bool, true, false, None, Some, List, [], ◌∷◌, take, drop, eqb, inl, inr, length, map, ap, sym, refl, ◌∙◌, subst}
+use Rattle.std.proofs.Common.{◌≡◌, ℕ, zero, suc, ◌+◌, ◌*◌, ◌<◌, ◌||◌, Bool, true, false, Some, List, [], ◌∷◌, take, drop, eqb, inl, inr, length, map, ap, sym, refl, ◌∙◌, subst}
 use Rattle.std.specs.List.{range_with_len}
 use Rattle.std.specs.Prelude.{slice_index}
 use Rattle.std.proofs.lemmas.Bool.{cond_both, eq-eqb, false≢true, true≢false}
@@ -15,6 +15,7 @@ use Rattle.far_core.specs.declared.event.Reply.TheVariants.{Refused}
 use Rattle.far_core.specs.events.Ranges.{after_events, stores}
 use Rattle.far_core.specs.events.Step.{after, answer, is_legal, step_of}
 use Rattle.far_core.specs.state.State.{State}
+use Rattle.far_hand.specs.Beside.{hidden}
 use Rattle.far_hand.specs.Owners.{OwnersChange}
 use Rattle.far_book.specs.book.NextLive.{IsBoundary}
 use Rattle.far_book.specs.book.SealedLogs.{KeepsSealed}
@@ -131,7 +132,7 @@ keeps_more s t u logs f g = record {
 
 -- marks were found, and words read or forgotten; or owners had a turn
 abbrev framed : State → State
-framed s = record s { cell = λ _. 0; word = λ _. 0; scope = λ _. 0; remembered = λ _. None; used = λ _. false; held = λ _. None; stored = λ _ _. 0 }
+framed s = record (hidden s (λ _. 0) (λ _. 0)) { stored = λ _ _. 0 }
 
 keeps_found : (s t : State) (logs : List ℕ) → framed t ≡ framed s → ((p : ℕ) → Finds (s.cell p) (t.cell p)) → KeepsLogs s t logs
 keeps_found s t logs rest found = record {

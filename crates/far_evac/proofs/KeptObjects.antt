@@ -19,6 +19,7 @@ use Rattle.far_core.specs.world.World.{FarSide, Group, Home, Object, World}
 use Rattle.far_core.specs.world.WorldOf.{object_of, world_of}
 use Rattle.far_core.proofs.Cells.{unused}
 use Rattle.far_core.proofs.Put.{put_both}
+use Rattle.far_hand.specs.Beside.{with_others}
 use Rattle.far_hand.specs.Quiet.{is_quiet}
 use Rattle.far_book.specs.book.Effects.{evicted, moved, with_free_cell}
 use Rattle.far_book.specs.book.Releasing.{released}
@@ -32,7 +33,7 @@ use Rattle.far_evac.specs.Walk.{Goes, Moves}
 
 -- ---- a step that leaves what owners change
 abbrev whole : State → State → State
-whole s t = record t { mutators = s.mutators; logs = s.logs; honest = s.honest; scope = s.scope; remembered = s.remembered; used = s.used; held = s.held }
+whole s t = record (with_others t s) { mutators = s.mutators; logs = s.logs; honest = s.honest }
 
 objects_kept : (s t u : State) → t ≡ whole s u → ((p : ℕ) → anywhere ((world_of t).object p) ≡ anywhere ((world_of s).object p)) →
     ((p : ℕ) → is_dropped (read_of (s.cell p)) ≡ false → (is_dropped (read_of (t.cell p)) ≡ false) × ((t.cell p ≡ 0) ↔ (s.cell p ≡ 0))) → KeepsObjects s t

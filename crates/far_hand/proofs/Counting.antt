@@ -1,71 +1,69 @@
--- What is counted on is never a word that its owner may store into.
-use Rattle.std.proofs.Common.{◌≡◌, ℕ, ◌+◌, ◌*◌, ◌<◌, ◌≤◌, Bool, true, false, Some, refl, sym, ap, ◌∙◌, subst, arith}
-use Rattle.std.proofs.lemmas.Bool.{true≢false}
-use Rattle.far_word.specs.declared.mark.Marks.{Marks}
-use Rattle.far_word.specs.declared.pointer.Place.{Place}
-use Rattle.far_word.specs.declared.pointer.PtrWord.TheVariants.{Near}
+-- What is counted on rests, from call to call.
+use Rattle.std.proofs.Common.{◌≡◌, ◌⊎◌, ℕ, ◌+◌, ◌*◌, ◌/◌, ◌%◌, ◌<◌, ◌≤◌, Bool, true, false, inl, inr, refl, sym, ap, ◌∙◌, subst, arith}
+use Rattle.std.proofs.Math.Logic.{∥∥₁_map}
+use Rattle.std.proofs.lemmas.Bool.{false≢true}
 use Rattle.far_word.specs.declared.sizes.TheConstants.{LOG_WORDS}
-use Rattle.far_word.specs.Pointer.{read_of}
-use Rattle.far_word.specs.Sizes.{size_of}
 use Rattle.far_core.specs.events.Get.{after_get}
-use Rattle.far_core.specs.state.Law.{Law, head_len}
-use Rattle.far_core.specs.state.State.{State, addr, put}
+use Rattle.far_core.specs.state.State.{State, put}
 use Rattle.far_core.proofs.Put.{put_both, put_other, put_same}
-use Rattle.far_core.proofs.SpanFrames.{past_tail}
 use Rattle.far_hand.specs.Finds.{Finds}
-use Rattle.far_hand.specs.Masked.{masked, AllFind, CountsOnQuiet, recounted}
-use Rattle.far_hand.specs.Quiet.{is_quiet, IsQuietAt}
+use Rattle.far_hand.specs.Masked.{masked, AllFind, CountsOnRest, recounted}
+use Rattle.far_hand.specs.Quiet.{IsQuietAt, IsQuietBy, RestsAt}
 use Rattle.far_hand.proofs.Finding.{finds_same, near_found}
-use Rattle.far_hand.proofs.Masking.{Lies, lies, one_owner, known_loud}
+use Rattle.far_hand.proofs.Masking.{moved_known, quiet_found}
+
+-- where quiet words stay so, what rests does
+pub rests_more : {A B C : Type 0} → (B → C) → ∥ (A ⊎ B) ∥₁ → ∥ (A ⊎ C) ∥₁
+rests_more {A} {B} {C} f rests = ∥∥₁_map rests one where
+  one : A ⊎ B → A ⊎ C
+  one (inl past) = inl past
+  one (inr quiet) = inr (f quiet)
 
 -- what is found shows as much as before, or more
-pub counts_found : (round clear : ℕ → Bool) (found : ℕ → ℕ) (counted : ℕ → Bool) (p w : ℕ) → CountsOnQuiet round clear found counted → Finds (found p) w →
-    CountsOnQuiet round clear (put found p w) counted
-counts_found round clear found counted p w counts f q len ds i place m near loud lt =
-    put_both (λ v. read_of v ≡ Some (Near len ds place m) → counted (addr place + 1 + i) ≡ false) found p w q
-    (λ e n. let g : Finds (found q) w = subst (λ k. Finds (found k) w) (sym e) f in
-    let k = known_loud (found q) w g round clear q len ds place m n loud in counts q len ds i place k.marks k.near k.loud lt)
-    (λ _ n. counts q len ds i place m n loud lt) near
+quiet_more : (mutators : ℕ) (round clear : ℕ → Bool) (cell found : ℕ → ℕ) (a : ℕ) → AllFind cell found → IsQuietBy mutators round clear cell a → IsQuietBy mutators round clear found a
+quiet_more mutators round clear cell found a finds x = let y = near_found (cell x.p) (found x.p) (finds x.p) x.len x.ds x.place x.marks x.near in record {
+  p = x.p;
+  len = x.len;
+  ds = x.ds;
+  place = x.place;
+  marks = y.marks;
+  index = x.index;
+  pointer = x.pointer;
+  near = y.near;
+  quiet = quiet_found round clear x.p x.place x.marks y.marks (sym y.same) (moved_known (cell x.p) (found x.p) x.len x.ds x.place x.marks y.marks (finds x.p) x.near y.near) x.quiet;
+  inside = x.inside;
+  here = x.here;
+}
+
+pub counts_found : (s : State) (found : ℕ → ℕ) (counted : ℕ → Bool) (p w : ℕ) → CountsOnRest s found counted → Finds (found p) w → CountsOnRest s (put found p w) counted
+counts_found s found counted p w counts f a known plain = rests_more
+    (quiet_more s.mutators s.round s.clear found (put found p w) a
+    (λ q. put_both (λ v. Finds (found q) v) found p w q (λ e. subst (λ k. Finds (found k) w) (sym e) f) (λ _. finds_same (found q))))
+    (counts a known plain)
 
 -- nothing is counted on
-pub counts_none : (round clear : ℕ → Bool) (found : ℕ → ℕ) → CountsOnQuiet round clear found (λ _. false)
-counts_none round clear found p len ds i place m near loud lt = refl
+pub counts_none : (s : State) (found : ℕ → ℕ) → CountsOnRest s found (λ _. false)
+counts_none s found a known plain = absurd (false≢true known)
 
-module _ (s : State) (law : Law s) (found : ℕ → ℕ) (finds : AllFind found s.cell) where
-  found_lies : (p len ds : ℕ) (place : Place) (m : Marks) → read_of (found p) ≡ Some (Near len ds place m) → Lies s p len ds place
-  found_lies p len ds place m near = let x = near_found (found p) (s.cell p) (finds p) len ds place m near in lies s law p len ds place x.marks x.near
+module _ (s : State) (found : ℕ → ℕ) (counted : ℕ → Bool) where
+  -- a word that rests, besides
+  pub counts_one : (a : ℕ) → RestsAt (record s { cell = found }) a → CountsOnRest s found counted → CountsOnRest s found (put counted a true)
+  counts_one a rests counts q = put_both (λ b. b ≡ true → s.starts q ≡ false → RestsAt (record s { cell = found }) q) counted a true q
+      (λ e _ _. subst (RestsAt (record s { cell = found })) (sym e) rests) (λ _ known plain. counts q known plain)
 
-  -- a word past a tail is of no object
-  pub counts_past : (counted : ℕ → Bool) (l at : ℕ) → s.tail l ≤ at → at < LOG_WORDS → CountsOnQuiet s.round s.clear found counted →
-      CountsOnQuiet s.round s.clear found (put counted (l * LOG_WORDS + at) true)
-  counts_past counted l at past inside counts p len ds i place m near loud lt =
-      let x = found_lies p len ds place m near in
-      let long : size_of (head_len (s.word (addr place))) ≡ size_of len = ap size_of x.long in
-      put_other counted (l * LOG_WORDS + at) true (addr place + 1 + i)
-      (λ e. past_tail s law l at (addr place) (1 + i) past inside x.heads.placed (omega arith) (omega arith))
-      ∙ counts p len ds i place m near loud lt
-
-  -- a word of a quiet object is of no other
-  pub counts_quiet : (counted : ℕ → Bool) (a : ℕ) → IsQuietAt (masked s found counted) a → CountsOnQuiet s.round s.clear found counted →
-      CountsOnQuiet s.round s.clear found (put counted a true)
-  counts_quiet counted a x counts p len ds i place m near loud lt =
-      put_other counted a true (addr place + 1 + i) (λ e.
-      let here : addr place + 1 + i ≡ addr x.place + 1 + x.index = e ∙ x.here in
-      let same : p ≡ x.p = one_owner s law p len ds i x.p x.len x.ds x.index place x.place (found_lies p len ds place m near)
-      (found_lies x.p x.len x.ds x.place x.marks x.near) lt x.inside here in
-      let both : Some (Near len ds place m) ≡ Some (Near x.len x.ds x.place x.marks) = sym near ∙ (ap (λ q. read_of (found q)) same ∙ x.near) in
-      let places : place ≡ x.place = cc in
-      let marks : m ≡ x.marks = cc in
-      let quiet : is_quiet s.round s.clear p place m ≡ true = ap (λ q. is_quiet s.round s.clear q place m) same ∙ (ap (λ l. is_quiet s.round s.clear x.p l m) places ∙ (ap (λ k. is_quiet s.round s.clear x.p x.place k) marks ∙ x.quiet)) in
-      true≢false (sym quiet ∙ loud))
-      ∙ counts p len ds i place m near loud lt
+  -- one past a tail
+  pub counts_past : (l at : ℕ) → s.tail l ≤ at → at < LOG_WORDS → CountsOnRest s found counted → CountsOnRest s found (put counted (l * LOG_WORDS + at) true)
+  counts_past l at past inside =
+      let log : (l * LOG_WORDS + at) / LOG_WORDS ≡ l = omega arith in
+      let here : (l * LOG_WORDS + at) % LOG_WORDS ≡ at = omega arith in
+      counts_one (l * LOG_WORDS + at) ∣ inl (subst (λ (x : ℕ × ℕ). s.tail x.0 ≤ x.1) (λ i. (sym log i, sym here i)) past) ∣₁
 
   -- after a read
-  pub counts_read : (counted : ℕ → Bool) (l a : ℕ) (free quiet : Bool) → (quiet ≡ true → IsQuietAt (masked s found counted) a) → CountsOnQuiet s.round s.clear found counted →
-      CountsOnQuiet (after_get s l free).round (after_get s l free).clear found (recounted counted free quiet a)
-  counts_read counted l a true quiet x counts = counts_none (after_get s l true).round s.clear found
-  counts_read counted l a false true x counts = counts_quiet counted a (x refl) counts
-  counts_read counted l a false false x counts = counts
+  pub counts_read : (l a : ℕ) (free quiet : Bool) → (quiet ≡ true → IsQuietAt (masked s found counted) a) → CountsOnRest s found counted →
+      CountsOnRest (after_get s l free) found (recounted counted free quiet a)
+  counts_read l a true quiet x counts = counts_none (after_get s l true) found
+  counts_read l a false true x counts = counts_one a ∣ inr (x refl) ∣₁ counts
+  counts_read l a false false x counts = counts
 
 -- each cell is found where it was found, and here
 pub finds_put : (found cell : ℕ → ℕ) (p w : ℕ) → AllFind found cell → cell p ≡ w → AllFind (put found p w) cell

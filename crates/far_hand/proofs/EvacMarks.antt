@@ -1,10 +1,9 @@
 -- EVAC, set by the book in a cell beside owners.
 use Rattle.std.proofs.Common.{◌≡◌, ℕ, ◌+◌, ◌/◌, ◌^◌, Bool, true, false, Some, refl, sym, ap, ◌∙◌, bit_or}
 use Rattle.std.specs.Prelude.{◌||◌, ◌&&◌}
-use Rattle.std.proofs.lemmas.Bool.{false≢true, true≢false}
+use Rattle.std.proofs.lemmas.Bool.{false≢true, true≢false, true_from_ne_false}
 use Rattle.far_word.specs.declared.mark.Mark.TheVariants.{Evac}
 use Rattle.far_word.specs.declared.mark.Marks.{Marks}
-use Rattle.far_word.specs.declared.pointer.Place.{Place}
 use Rattle.far_word.specs.declared.pointer.PtrWord.TheVariants.{Near}
 use Rattle.far_word.specs.declared.sizes.TheConstants.{CELLS}
 use Rattle.far_word.specs.Mark.{position, marks_with}
@@ -13,12 +12,13 @@ use Rattle.far_word.proofs.PointerLaws.{with_mark_read}
 use Rattle.far_core.specs.declared.event.Event.TheVariants.{Mark}
 use Rattle.far_core.specs.events.Legal.{Legal}
 use Rattle.far_core.specs.state.Law.{Law}
-use Rattle.far_core.specs.state.State.{State, addr, put}
+use Rattle.far_core.specs.state.State.{State, put}
 use Rattle.far_core.proofs.Put.{put_both}
-use Rattle.far_hand.specs.Masked.{masked, AllFind, CountsOnQuiet}
-use Rattle.far_hand.specs.Quiet.{is_quiet}
-use Rattle.far_hand.proofs.Finding.{near_found, near_known}
-use Rattle.far_hand.proofs.Masking.{Known, moved_known}
+use Rattle.far_hand.specs.Masked.{masked, AllFind, CountsOnRest}
+use Rattle.far_hand.specs.Quiet.{IsQuietBy, is_quiet}
+use Rattle.far_hand.proofs.Counting.{rests_more}
+use Rattle.far_hand.proofs.Finding.{near_found}
+use Rattle.far_hand.proofs.Masking.{moved_known}
 
 abbrev pub with_evac : ℕ → ℕ
 with_evac w = bit_or w (2 ^ position Evac)
@@ -40,28 +40,30 @@ module _ (s : State) (law : Law s) (found : ℕ → ℕ) (counted : ℕ → Bool
       let x = near_found (found p) (s.cell p) (finds p) near.0 near.1 near.2 near.3 near.4 in
       (legal.0, (near.0, near.1, near.2, x.marks, x.near, near.5, near.6))
 
-  known_before : (len ds : ℕ) (place : Place) (m : Marks) → read_of (with_evac (s.cell p)) ≡ Some (Near len ds place m) → is_quiet s.round s.clear p place m ≡ false →
-      Known (found p) len ds place s.round s.clear p
-  known_before len ds place m near loud =
-      let h = legal_mark.1 in
-      let marks = h.3 in
-      let cell : read_of (s.cell p) ≡ Some (Near h.0 h.1 h.2 marks) = h.4 in
-      let both : Some (Near h.0 h.1 h.2 (marks_with Evac marks)) ≡ Some (Near len ds place m) =
-      sym (with_mark_read Evac (s.cell p) (Near h.0 h.1 h.2 marks) (law.cells.cell_read p).0 cell refl) ∙ near in
-      let same : marks_with Evac marks ≡ m = cc in
-      let is : read_of (s.cell p) ≡ Some (Near len ds place marks) = cc in
-      let x = near_known (found p) (s.cell p) (finds p) len ds place marks is in
-      record {
-        marks = x.marks;
-        near = x.near;
-        loud = loud_before x.marks.moved x.marks.evac marks.moved (s.round place.log) (s.clear (p / CELLS))
-            (moved_known (found p) (s.cell p) len ds place x.marks marks (finds p) x.near is)
-            (ap (λ k. is_quiet s.round s.clear p place k) same ∙ loud);
+  -- what is known quiet stays so
+  quiet_marked : (a : ℕ) → IsQuietBy s.mutators s.round s.clear found a → IsQuietBy s.mutators s.round s.clear (put found p (with_evac (s.cell p))) a
+  quiet_marked a x =
+      let now = put_both (λ v. (k : Marks) × (read_of v ≡ Some (Near x.len x.ds x.place k)) × (is_quiet s.round s.clear x.p x.place k ≡ true)) found p (with_evac (s.cell p)) x.p
+      (λ e. let here : read_of (found p) ≡ Some (Near x.len x.ds x.place x.marks) = ap (λ q. read_of (found q)) (sym e) ∙ x.near in
+      let y = near_found (found p) (s.cell p) (finds p) x.len x.ds x.place x.marks here in (
+        marks_with Evac y.marks,
+        with_mark_read Evac (s.cell p) (Near x.len x.ds x.place y.marks) (law.cells.cell_read p).0 y.near refl,
+        true_from_ne_false _ (λ loud. true≢false (sym x.quiet ∙ loud_before x.marks.moved x.marks.evac y.marks.moved (s.round x.place.log) (s.clear (x.p / CELLS))
+            (moved_known (found p) (s.cell p) x.len x.ds x.place x.marks y.marks (finds p) here y.near) loud)),
+      ))
+      (λ _. (x.marks, x.near, x.quiet)) in record {
+        p = x.p;
+        len = x.len;
+        ds = x.ds;
+        place = x.place;
+        marks = now.0;
+        index = x.index;
+        pointer = x.pointer;
+        near = now.1;
+        quiet = now.2;
+        inside = x.inside;
+        here = x.here;
       }
 
-  -- nothing is counted on that wasn't, and what is known quiet stays so
-  pub counts_marked : CountsOnQuiet s.round s.clear found counted → CountsOnQuiet s.round s.clear (put found p (with_evac (s.cell p))) counted
-  counts_marked counts q len ds i place m near loud lt =
-      put_both (λ v. read_of v ≡ Some (Near len ds place m) → counted (addr place + 1 + i) ≡ false) found p (with_evac (s.cell p)) q
-      (λ e n. let k = known_before len ds place m n (ap (λ x. is_quiet s.round s.clear x place m) (sym e) ∙ loud) in counts p len ds i place k.marks k.near k.loud lt)
-      (λ _ n. counts q len ds i place m n loud lt) near
+  pub counts_marked : CountsOnRest s found counted → CountsOnRest s (put found p (with_evac (s.cell p))) counted
+  counts_marked counts a known plain = rests_more (quiet_marked a) (counts a known plain)

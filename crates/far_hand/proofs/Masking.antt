@@ -1,25 +1,28 @@
 -- What stays known to a hand while owners are at work.
-use Rattle.std.proofs.Common.{◌≡◌, ℕ, ◌+◌, ◌/◌, ◌^◌, ◌<◌, Bool, true, false, cond, Some, None, refl, sym, ap, ◌∙◌, subst, arith}
+use Rattle.std.proofs.Common.{◌≡◌, ◌⊎◌, ℕ, ◌+◌, ◌/◌, ◌%◌, ◌^◌, ◌<◌, ◌≤◌, Bool, true, false, cond, Some, inl, inr, refl, sym, ap, ◌∙◌, subst, arith}
 use Rattle.std.specs.Prelude.{◌||◌, ◌&&◌}
-use Rattle.std.proofs.lemmas.Bool.{false≢true, true≢false}
+use Rattle.std.proofs.Math.Logic.{∥∥₁_elim}
+use Rattle.std.proofs.lemmas.Bool.{true≢false, true_from_ne_false}
 use mathlib.Core.Path.{fun_ext}
 use Rattle.far_word.specs.declared.mark.Marks.{Marks}
 use Rattle.far_word.specs.declared.pointer.Place.{Place}
 use Rattle.far_word.specs.declared.pointer.PtrWord.TheVariants.{Near}
-use Rattle.far_word.specs.declared.sizes.TheConstants.{CELLS}
+use Rattle.far_word.specs.declared.sizes.TheConstants.{CELLS, LOG_WORDS}
 use Rattle.far_word.specs.Pointer.{read_of}
 use Rattle.far_word.specs.Sizes.{size_of, words_for}
 use Rattle.far_word.proofs.PointerLaws.{read_says}
 use Rattle.far_core.specs.state.Law.{Law, Heads, head_len}
 use Rattle.far_core.specs.state.State.{State, addr}
 use Rattle.far_core.proofs.Bounds.{one_name, span_len}
-use Rattle.far_core.proofs.SpanFrames.{spans_apart}
+use Rattle.far_core.proofs.SpanFrames.{past_tail, spans_apart}
+use Rattle.far_hand.specs.Beside.{hidden}
 use Rattle.far_hand.specs.Finds.{Finds, marks_in}
 use Rattle.far_hand.specs.Known.{unknown}
-use Rattle.far_hand.specs.Masked.{masked, masked_word, AllFind, CountsOnQuiet}
+use Rattle.far_hand.specs.Masked.{masked, masked_word, AllFind, CountsOnRest}
+use Rattle.far_hand.specs.MayBe.{Shows}
 use Rattle.far_hand.specs.Owners.{IsLoudAt, OwnersChange}
-use Rattle.far_hand.specs.Quiet.{is_quiet}
-use Rattle.far_hand.proofs.Finding.{finds_more, near_known}
+use Rattle.far_hand.specs.Quiet.{IsQuietBy, RestsAt, is_quiet}
+use Rattle.far_hand.proofs.Finding.{finds_more, near_found, near_known}
 
 -- ---- where near objects lie
 pub record Lies (s : State) (p len ds : ℕ) (place : Place) : Type 0 where
@@ -83,6 +86,43 @@ known_loud v w f round clear p len ds place m near loud =
     let x = near_known v w f len ds place m near in
     record { marks = x.marks; near = x.near; loud = quiet_known round clear p place x.marks m x.same (moved_known v w len ds place x.marks m f x.near near) loud }
 
+-- and what was found quiet is quiet
+pub quiet_found : (round clear : ℕ → Bool) (p : ℕ) (place : Place) (k m : Marks) → k.evac ≡ m.evac → (k.moved ≡ true → m.moved ≡ true) →
+    is_quiet round clear p place k ≡ true → is_quiet round clear p place m ≡ true
+quiet_found round clear p place k m evac moved quiet =
+    true_from_ne_false (is_quiet round clear p place m) (λ loud. true≢false (sym quiet ∙ quiet_known round clear p place k m evac moved loud))
+
+-- ---- no owner stores into a word that rests: it is no data word of an object that wasn't found quiet
+module _ (s : State) (law : Law s) (found : ℕ → ℕ) (finds : AllFind found s.cell) (a : ℕ) where
+  apart : (s.tail (a / LOG_WORDS) ≤ a % LOG_WORDS) ⊎ IsQuietBy s.mutators s.round s.clear found a → (p len ds i : ℕ) (place : Place) (m : Marks) → read_of (found p) ≡ Some (Near len ds place m) → is_quiet s.round s.clear p place m ≡ false →
+      i < words_for len → a ≡ addr place + 1 + i → ⊥
+  apart (inl past) p len ds i place m near loud lt here =
+      let x = near_found (found p) (s.cell p) (finds p) len ds place m near in
+      let y = lies s law p len ds place x.marks x.near in
+      let long : size_of (head_len (s.word (addr place))) ≡ size_of len = ap size_of y.long in
+      past_tail s law (a / LOG_WORDS) (a % LOG_WORDS) (addr place) (1 + i) past (omega arith) y.heads.placed (omega arith) (omega (arith, here))
+  apart (inr q) p len ds i place m near loud lt here =
+      let x = near_found (found p) (s.cell p) (finds p) len ds place m near in
+      let y = near_found (found q.p) (s.cell q.p) (finds q.p) q.len q.ds q.place q.marks q.near in
+      let same : p ≡ q.p = one_owner s law p len ds i q.p q.len q.ds q.index place q.place (lies s law p len ds place x.marks x.near)
+      (lies s law q.p q.len q.ds q.place y.marks y.near) lt q.inside (sym here ∙ q.here) in
+      let both : Some (Near len ds place m) ≡ Some (Near q.len q.ds q.place q.marks) = sym near ∙ (ap (λ k. read_of (found k)) same ∙ q.near) in
+      let places : place ≡ q.place = cc in
+      let marks : m ≡ q.marks = cc in
+      let quiet : is_quiet s.round s.clear p place m ≡ true = (λ i. is_quiet s.round s.clear (same i) (places i) (marks i)) ∙ q.quiet in
+      true≢false (sym quiet ∙ loud)
+
+  pub rests_still : (s.starts a ≡ false → RestsAt (record s { cell = found }) a) → ¬ IsLoudAt s a
+  rests_still rests x =
+      let k = known_loud (found x.p) (s.cell x.p) (finds x.p) s.round s.clear x.p x.len x.ds x.place x.marks x.near x.loud in
+      let plain : s.starts a ≡ false = ap s.starts x.here ∙ no_header s law x.p x.len x.ds x.index x.place (lies s law x.p x.len x.ds x.place x.marks x.near) x.inside in
+      ∥∥₁_elim (rests plain) (λ odd. absurd odd) (λ at. apart at x.p x.len x.ds x.index x.place k.marks k.near k.loud x.inside x.here)
+
+-- nor into one that a view says rests
+pub shown_still : (o s : State) → Law s → Shows o s → (a : ℕ) → (o.starts a ≡ false → RestsAt o a) → ¬ IsLoudAt s a
+shown_still o s law shown a rests = rests_still s law o.cell shown.cells a
+    (subst (λ (z : State). z.starts a ≡ false → RestsAt (record z { cell = o.cell }) a) (sym shown.rest) rests)
+
 -- ---- the view stays while owners take a turn
 pub same_where : (b : Bool) (x y u : ℕ) → (b ≡ true → x ≡ y) → cond b x u ≡ cond b y u
 same_where true x y u h = h refl
@@ -92,19 +132,12 @@ either_true : (a b : Bool) → (a || b) ≡ true → a ≡ false → b ≡ true
 either_true true b e h = absurd (true≢false h)
 either_true false b e h = e
 
-module _ (s : State) (law : Law s) (found : ℕ → ℕ) (counted : ℕ → Bool) (finds : AllFind found s.cell) (counts : CountsOnQuiet s.round s.clear found counted) where
+module _ (s : State) (law : Law s) (found : ℕ → ℕ) (counted : ℕ → Bool) (finds : AllFind found s.cell) (counts : CountsOnRest s found counted) where
   -- no owner stores into a word that is known
   pub known_quiet : (a : ℕ) → (s.starts a || counted a) ≡ true → ¬ IsLoudAt s a
-  known_quiet a known x =
-      let k = known_loud (found x.p) (s.cell x.p) (finds x.p) s.round s.clear x.p x.len x.ds x.place x.marks x.near x.loud in
-      let uncounted : counted a ≡ false = ap counted x.here ∙ counts x.p x.len x.ds x.index x.place k.marks k.near k.loud x.inside in
-      let plain : s.starts a ≡ false = ap s.starts x.here ∙ no_header s law x.p x.len x.ds x.index x.place (lies s law x.p x.len x.ds x.place x.marks x.near) x.inside in
-      false≢true (sym uncounted ∙ either_true (s.starts a) (counted a) known plain)
+  known_quiet a known = rests_still s law found finds a (λ plain. counts a (either_true (s.starts a) (counted a) known plain) plain)
 
   module _ (t : State) (turn : OwnersChange s t) where
-    abbrev hidden : State → (ℕ → ℕ) → State
-    hidden u word = record u { cell = found; word = word; scope = λ _. 0; remembered = λ _. None; used = λ _. false; held = λ _. None }
-
     same_starts : t.starts ≡ s.starts
     same_starts = ap (λ (u : State). u.starts) turn.rest
 
@@ -113,13 +146,13 @@ module _ (s : State) (law : Law s) (found : ℕ → ℕ) (counted : ℕ → Bool
         ∙ same_where (s.starts a || counted a) (t.word a) (s.word a) (unknown a) (λ known. turn.words a (known_quiet a known)))
 
     pub same_view : masked t found counted ≡ masked s found counted
-    same_view = ap (λ (u : State). hidden u (masked_word t.word t.starts counted)) turn.rest ∙ ap (hidden s) same_words
+    same_view = ap (λ (u : State). hidden u found (masked_word t.word t.starts counted)) turn.rest ∙ ap (hidden s found) same_words
 
     pub same_finds : AllFind found t.cell
     same_finds p = finds_more (found p) (s.cell p) (t.cell p) (finds p) (turn.cells p)
 
-    pub same_counts : CountsOnQuiet t.round t.clear found counted
-    same_counts = subst (λ (u : State). CountsOnQuiet u.round u.clear found counted) (sym turn.rest) counts
+    pub same_counts : CountsOnRest t found counted
+    same_counts = subst (λ (u : State). CountsOnRest u found counted) (sym turn.rest) counts
 
     pub same_mutators : t.mutators ≡ s.mutators
     same_mutators = ap (λ (u : State). u.mutators) turn.rest

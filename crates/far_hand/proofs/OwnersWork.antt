@@ -24,21 +24,23 @@ use Rattle.far_core.proofs.Owing.{is_fact}
 use Rattle.far_core.proofs.Put.{put_both, put_other}
 use Rattle.far_core.proofs.Quieting.{quiet_fact, quiet_unheld}
 use Rattle.far_core.specs.events.Quiet.{is_quiet_cell}
+use Rattle.far_hand.specs.Beside.{IsBeside}
 use Rattle.far_hand.specs.Finds.{Finds}
-use Rattle.far_hand.specs.Owners.{is_owners, IsLoudAt, OwnersChange}
+use Rattle.far_hand.specs.Makers.{is_owners}
+use Rattle.far_hand.specs.Owners.{IsLoudAt, OwnersChange}
 use Rattle.far_hand.specs.Quiet.{is_quiet}
 use Rattle.far_hand.proofs.Finding.{finds_is, finds_same, finds_mark}
 
 -- nothing in cells and words changes
 module _ (s t : State) (cells : t.cell ≡ s.cell) (words : t.word ≡ s.word)
-    (rest : t ≡ record s { cell = t.cell; word = t.word; scope = t.scope; remembered = t.remembered; used = t.used; held = t.held }) where
+    (rest : IsBeside s t) where
   stays : OwnersChange s t
   stays = record { cells = λ p. finds_is (s.cell p) (t.cell p) (ap (λ f. f p) cells); words = λ a _. ap (λ f. f a) words; rest = rest }
 
 -- the cell of a pointer that is used takes a mark more
 module _ (s t : State) (law : Law s) (p : ℕ) (k : MarkKind) (own : marking.is_owners k ≡ true) (used : s.used p ≡ true)
     (cells : t.cell ≡ put s.cell p (bit_or (s.cell p) (2 ^ position k))) (words : t.word ≡ s.word)
-    (rest : t ≡ record s { cell = t.cell; word = t.word; scope = t.scope; remembered = t.remembered; used = t.used; held = t.held }) where
+    (rest : IsBeside s t) where
   marked : (q : ℕ) → Finds (s.cell q) (put s.cell p (bit_or (s.cell p) (2 ^ position k)) q)
   marked q = put_both (λ w. Finds (s.cell q) w) s.cell p (bit_or (s.cell p) (2 ^ position k)) q
       (λ e. subst (λ v. Finds v (bit_or (s.cell p) (2 ^ position k))) (ap s.cell (sym e))

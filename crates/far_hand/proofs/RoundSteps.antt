@@ -10,12 +10,13 @@ use Rattle.far_core.specs.state.Law.{Law}
 use Rattle.far_core.specs.state.State.{State, put}
 use Rattle.far_core.proofs.Put.{put_both, put_same}
 use Rattle.far_hand.specs.Finds.{Finds}
-use Rattle.far_hand.specs.Masked.{masked, AllFind, CountsOnQuiet}
-use Rattle.far_hand.specs.Quiet.{is_quiet}
+use Rattle.far_hand.specs.Masked.{masked, AllFind, CountsOnRest}
+use Rattle.far_hand.specs.Quiet.{IsQuietBy, is_quiet}
 use Rattle.far_hand.specs.Rounds.{IsScopeAt, MayChoose}
 use Rattle.far_hand.specs.Quiet.{IsQuietNear}
+use Rattle.far_hand.proofs.Counting.{rests_more}
 use Rattle.far_hand.proofs.Finding.{near_found, near_known}
-use Rattle.far_hand.proofs.Masking.{moved_known, quiet_known}
+use Rattle.far_hand.proofs.Masking.{moved_known, quiet_found}
 
 -- logs that may be the round's as they are known may be so
 pub may_advance : (s : State) (found : ℕ → ℕ) (counted : ℕ → Bool) (logs : ℕ) → AllFind found s.cell → s.epoch + 1 < EPOCH_END → MayChoose (masked s found counted) logs → MayAdvance s logs
@@ -35,8 +36,7 @@ quiet_seen s p w f q =
       place = q.place;
       marks = x.marks;
       near = ap read_of (put_same s.cell p w p refl) ∙ x.near;
-      quiet = true_from_ne_false _ (λ loud. true≢false (sym q.quiet ∙ quiet_known s.round s.clear p q.place q.marks x.marks (sym x.same)
-          (moved_known (s.cell p) w q.len q.ds q.place q.marks x.marks f q.near x.near) loud));
+      quiet = quiet_found s.round s.clear p q.place q.marks x.marks (sym x.same) (moved_known (s.cell p) w q.len q.ds q.place q.marks x.marks f q.near x.near) q.quiet;
     }
 
 -- a scope word of a core
@@ -54,9 +54,23 @@ louder false true false c b h = refl
 louder false true true true b h = absurd (true≢false h)
 louder false true true false b h = refl
 
-pub counts_looked : (round clear : ℕ → Bool) (found : ℕ → ℕ) (counted : ℕ → Bool) (m : ℕ) (b : Bool) → CountsOnQuiet round clear found counted →
-    CountsOnQuiet round (put clear m (clear m || b)) found counted
-counts_looked round clear found counted m b counts p len ds i place k near loud lt = counts p len ds i place k near
-    (put_both (λ x. (k.moved || (k.evac && round place.log && x)) ≡ false → is_quiet round clear p place k ≡ false) clear m (clear m || b) (p / CELLS)
-    (λ own h. ap (λ x. k.moved || (k.evac && round place.log && x)) (ap clear own) ∙ louder k.moved k.evac (round place.log) (clear m) b h)
-    (λ _ h. h) loud) lt
+pub counts_looked : (s : State) (found : ℕ → ℕ) (counted : ℕ → Bool) (m : ℕ) (b : Bool) → CountsOnRest s found counted →
+    CountsOnRest (record s { clear = put s.clear m (s.clear m || b) }) found counted
+counts_looked s found counted m b counts a known plain = rests_more quiet (counts a known plain) where
+  quiet : IsQuietBy s.mutators s.round s.clear found a → IsQuietBy s.mutators s.round (put s.clear m (s.clear m || b)) found a
+  quiet x = let k = x.marks in record {
+    p = x.p;
+    len = x.len;
+    ds = x.ds;
+    place = x.place;
+    marks = k;
+    index = x.index;
+    pointer = x.pointer;
+    near = x.near;
+    quiet = true_from_ne_false _ (λ loud. true≢false (sym x.quiet
+        ∙ put_both (λ y. (k.moved || (k.evac && s.round x.place.log && y)) ≡ false → is_quiet s.round s.clear x.p x.place k ≡ false) s.clear m (s.clear m || b) (x.p / CELLS)
+        (λ own h. ap (λ y. k.moved || (k.evac && s.round x.place.log && y)) (ap s.clear own) ∙ louder k.moved k.evac (s.round x.place.log) (s.clear m) b h)
+        (λ _ h. h) loud));
+    inside = x.inside;
+    here = x.here;
+  }

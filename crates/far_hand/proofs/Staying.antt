@@ -8,9 +8,11 @@ use Rattle.far_core.specs.events.Step.{Fits, after, answer, is_legal, step_of}
 use Rattle.far_core.specs.state.Law.{Law}
 use Rattle.far_core.specs.state.State.{State}
 use Rattle.far_core.proofs.Owing.{is_fact, keeps}
-use Rattle.far_hand.specs.Masked.{masked, AllFind, CountsOnQuiet}
+use Rattle.far_hand.specs.Beside.{beside}
+use Rattle.far_hand.specs.Makers.{is_owners}
+use Rattle.far_hand.specs.Masked.{masked, AllFind, CountsOnRest}
 use Rattle.far_hand.specs.MayBe.{MayBeBeside, Shows, masked_shows}
-use Rattle.far_hand.specs.Owners.{IsLoudAt, OwnersChange, is_owners}
+use Rattle.far_hand.specs.Owners.{IsLoudAt, OwnersChange}
 use Rattle.far_hand.specs.Quiet.{is_quiet}
 use Rattle.far_hand.proofs.Finding.{finds_more}
 use Rattle.far_hand.proofs.Masking.{known_loud, same_finds, same_view}
@@ -28,14 +30,14 @@ module _ (s t u : State) (one : OwnersChange s t) (two : OwnersChange t u) where
   changes_join = record {
     cells = λ p. finds_more (s.cell p) (t.cell p) (u.cell p) (one.cells p) (two.cells p);
     words = λ a quiet. two.words a (λ x. quiet (loud_before a x)) ∙ one.words a quiet;
-    rest = two.rest ∙ ap (λ (v : State). record v { cell = u.cell; word = u.word; scope = u.scope; remembered = u.remembered; used = u.used; held = u.held }) one.rest;
+    rest = two.rest ∙ ap (λ (v : State). beside v u) one.rest;
   }
 
 step_lawful : (s : State) (e : Event) → Law s → Fits e → Law (step_of s e).0
 step_lawful s e law fits = cond_both (is_legal s e) (after s e, answer s e) (s, Refused) (λ (x : State × Reply). Law x.0)
     (λ h. keeps s e law fits (is_fact s e law h)) (λ _. law)
 
-pub stays_beside : (s : State) → Law s → (found : ℕ → ℕ) (counted : ℕ → Bool) → AllFind found s.cell → CountsOnQuiet s.round s.clear found counted →
+pub stays_beside : (s : State) → Law s → (found : ℕ → ℕ) (counted : ℕ → Bool) → AllFind found s.cell → CountsOnRest s found counted →
     (x : State) (e : Event) → is_owners e ≡ true → Fits e → MayBeBeside (masked s found counted) s x → MayBeBeside (masked s found counted) s (step_of x e).0
 stays_beside s law found counted finds counts x e own fits may =
     let t = (step_of x e).0 in

@@ -1,9 +1,11 @@
+pub mod Beside
 pub mod BesetView
 pub mod Came
 pub mod Cleared
 pub mod Finds
 pub mod Known
 pub mod Listed
+pub mod Makers
 pub mod Masked
 pub mod MayBe
 pub mod Owners

@@ -1,39 +1,27 @@
 -- What is known of a state by a hand beside which owners are at work.
-use Rattle.std.specs.Prelude.{◌≡◌, ◌+◌, ◌<◌, ◌||◌, ℕ, Bool, true, false, cond, Some, None, List, slice_index, slice_index_or}
-use Rattle.far_word.specs.declared.mark.Marks.{Marks}
-use Rattle.far_word.specs.declared.pointer.Place.{Place}
-use Rattle.far_word.specs.declared.pointer.PtrWord.TheVariants.{Near}
-use Rattle.far_word.specs.Pointer.{read_of}
-use Rattle.far_word.specs.Sizes.{words_for}
-use Rattle.far_core.specs.state.State.{State, addr, put}
+use Rattle.std.specs.Prelude.{◌≡◌, ◌||◌, ℕ, Bool, true, false, cond, List, slice_index, slice_index_or}
+use Rattle.far_core.specs.state.State.{State, put}
+use Rattle.far_hand.specs.Beside.{hidden}
 use Rattle.far_hand.specs.Finds.{Finds}
 use Rattle.far_hand.specs.Known.{unknown}
-use Rattle.far_hand.specs.Quiet.{is_quiet}
+use Rattle.far_hand.specs.Quiet.{RestsAt}
 
 -- the words of the logs, where headers and what is counted on are known
 abbrev pub masked_word : (ℕ → ℕ) → (ℕ → Bool) → (ℕ → Bool) → ℕ → ℕ
 masked_word word starts counted a = cond (starts a || counted a) (word a) (unknown a)
 
 -- the state as it is known where these words were found in the cells, and these words of the logs are counted on beside
--- headers; of what owners do nothing is known
+-- headers; of what others do nothing is known
 abbrev pub masked : State → (ℕ → ℕ) → (ℕ → Bool) → State
-masked s found counted = record s {
-  cell = found;
-  word = masked_word s.word s.starts counted;
-  scope = λ _. 0;
-  remembered = λ _. None;
-  used = λ _. false;
-  held = λ _. None;
-}
+masked s found counted = hidden s found (masked_word s.word s.starts counted)
 
 -- each cell is one that may be found where that word was found last
 abbrev pub AllFind : (ℕ → ℕ) → (ℕ → ℕ) → Type 0
 AllFind found cell = (p : ℕ) → Finds (found p) (cell p)
 
--- no word is counted on that its owner may store into: a data word of a near object that wasn't found quiet
-abbrev pub CountsOnQuiet : (ℕ → Bool) → (ℕ → Bool) → (ℕ → ℕ) → (ℕ → Bool) → Type 0
-CountsOnQuiet round clear found counted = (p len ds i : ℕ) (place : Place) (marks : Marks) → read_of (found p) ≡ Some (Near len ds place marks) →
-    is_quiet round clear p place marks ≡ false → i < words_for len → counted (addr place + 1 + i) ≡ false
+-- each word that is counted on and is no header rests, by what was found in the cells. So no owner stores there, and none is of a dead span
+abbrev pub CountsOnRest : State → (ℕ → ℕ) → (ℕ → Bool) → Type 0
+CountsOnRest s found counted = (a : ℕ) → counted a ≡ true → s.starts a ≡ false → RestsAt (record s { cell = found }) a
 
 -- what stands at a place of a hand's lists
 abbrev pub word_at : List ℕ → ℕ → ℕ

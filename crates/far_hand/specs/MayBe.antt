@@ -10,18 +10,19 @@ use Rattle.far_core.specs.declared.event.Reply.{Reply}
 use Rattle.far_core.specs.events.Step.{step_of}
 use Rattle.far_core.specs.state.Law.{Law}
 use Rattle.far_core.specs.state.State.{State}
+use Rattle.far_hand.specs.Beside.{IsBeside}
 use Rattle.far_hand.specs.Finds.{Finds}
 use Rattle.far_hand.specs.Known.{IsKnown, unknown}
 use Rattle.far_hand.specs.Masked.{AllFind, masked}
 use Rattle.far_hand.specs.Owners.{OwnersChange}
 
 -- the view o is right about the state s. Of each cell it has all but marks that owners have added since; the words that it knows stand there, and it knows
--- the headers of spans. All else is exact, but for what owners alone change: their scopes, and what they remember, use and hold
+-- the headers of spans. All else is exact, but for what others alone have
 pub record Shows (o s : State) : Type 0 where
   pub cells : (p : ℕ) → Finds (o.cell p) (s.cell p)
   pub words : (a : ℕ) → IsKnown (o.word a) → s.word a ≡ o.word a
   pub headers : (a : ℕ) → s.starts a ≡ true → s.word a ≡ o.word a
-  pub rest : s ≡ record o { cell = s.cell; word = s.word; scope = s.scope; remembered = s.remembered; used = s.used; held = s.held }
+  pub rest : IsBeside o s
 
 -- no owner holds a place in these logs
 abbrev pub NoneViews : (ℕ → Bool) → State → Type 0

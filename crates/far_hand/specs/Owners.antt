@@ -1,35 +1,17 @@
 -- What owners may do to a state while the book works.
-use Rattle.std.specs.Prelude.{◌≡◌, ◌+◌, ◌<◌, ℕ, Bool, true, false, Option, Some, None, if◌then◌else◌}
+use Rattle.std.specs.Prelude.{◌≡◌, ◌+◌, ◌<◌, ℕ, false, Option, Some, None, if◌then◌else◌}
 use Rattle.far_word.specs.declared.mark.Marks.{Marks}
 use Rattle.far_word.specs.declared.pointer.Place.{Place}
 use Rattle.far_word.specs.declared.pointer.PtrWord.TheVariants.{Near}
 use Rattle.far_word.specs.Pointer.{read_of}
 use Rattle.far_word.specs.Sizes.{words_for}
 use Rattle.far_core.specs.declared.event.Event.{Event}
-use Rattle.far_core.specs.declared.event.Event.TheVariants.{ReadEpoch, Open, Pin, Load, Store, Close, Adopt, Put, Name, See, Mark, Ask, Get, Clear, Advance, Look}
 use Rattle.far_core.specs.events.Step.{step_of}
 use Rattle.far_core.specs.state.State.{State, addr}
+use Rattle.far_hand.specs.Beside.{IsBeside}
 use Rattle.far_hand.specs.Finds.{Finds}
+use Rattle.far_hand.specs.Makers.{is_owners}
 use Rattle.far_hand.specs.Quiet.{is_quiet}
-
--- the events of owners; all others are the book's
-abbrev pub is_owners : Event → Bool
-is_owners (ReadEpoch m) = true
-is_owners (Open m) = true
-is_owners (Pin m p) = true
-is_owners (Load m p i) = true
-is_owners (Store m p i w) = true
-is_owners (Close m) = true
-is_owners (Adopt m p) = true
-is_owners (Ask m p k) = true
-is_owners (Put l at w) = false
-is_owners (Name p old new) = false
-is_owners (See p) = false
-is_owners (Mark p) = false
-is_owners (Clear p) = false
-is_owners (Get l at free) = false
-is_owners (Advance logs) = false
-is_owners (Look m) = false
 
 -- the state once owners had the turn for the next event of a list: an owner's event is made, if it is legal, any other
 -- passed over
@@ -50,9 +32,8 @@ pub record IsLoudAt (s : State) (a : ℕ) : Type 0 where
   pub inside : index < words_for len
   pub here : a ≡ addr place + 1 + index
 
--- owners add marks to cells, store into objects that aren't quiet, and change what they use, hold and remember and their
--- scopes; all else stays
+-- owners add marks to cells, store into objects that aren't quiet, and change what they alone have; all else stays
 pub record OwnersChange (s t : State) : Type 0 where
   pub cells : (p : ℕ) → Finds (s.cell p) (t.cell p)
   pub words : (a : ℕ) → ¬ IsLoudAt s a → t.word a ≡ s.word a
-  pub rest : t ≡ record s { cell = t.cell; word = t.word; scope = t.scope; remembered = t.remembered; used = t.used; held = t.held }
+  pub rest : IsBeside s t

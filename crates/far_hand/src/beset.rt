@@ -4,7 +4,7 @@ ghost use Rattle.std.specs.Prelude.{◌≡◌, ◌*◌};
 ghost use Rattle.std.specs.Vec.{vec_len};
 ghost use Rattle.far_word.specs.declared.sizes.TheConstants.{CELLS, LOG_WORDS};
 ghost use Rattle.far_core.specs.state.CoreState.{core_state};
-ghost use Rattle.far_hand.specs.Masked.{AllFind, CountsOnQuiet, word_at, is_counted};
+ghost use Rattle.far_hand.specs.Masked.{AllFind, CountsOnRest, word_at, is_counted};
 
 mod hand;
 mod laws;
@@ -29,5 +29,5 @@ pub struct Beset {
     ghost found_sized: { vec_len found ≡ CELLS * (core_state core).mutators },
     ghost counted_sized: { vec_len counted ≡ LOG_WORDS * (core_state core).logs },
     ghost finds: { AllFind (word_at found.items) (core_state core).cell },
-    ghost counts: { CountsOnQuiet (core_state core).round (core_state core).clear (word_at found.items) (is_counted counted.items) },
+    ghost counts: { CountsOnRest (core_state core) (word_at found.items) (is_counted counted.items) },
 }

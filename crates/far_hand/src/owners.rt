@@ -1,7 +1,7 @@
 //! Whose event an event is.
 
 ghost use Rattle.std.specs.Prelude.{◌≡◌};
-ghost use Rattle.far_hand.specs.Owners.{is_owners};
+ghost use Rattle.far_hand.specs.Makers.{is_owners};
 
 use far_core::Event;
 

@@ -121,8 +121,6 @@ module _ (ws : List ℕ) (b : BookView) (os : List OwnerView) (f : Facts ws b os
             (pointers_put os m o w at uses p true own (fun_ext (λ q. put_both (λ (x : Option ObjectView). is_some x ≡ put (uses o) p true q) (object_at o) p (Some (fresh c)) q
             (λ e. sym (put_same (uses o) p true q e)) (λ ne. sym (put_other (uses o) p true q ne)))))
             (pointers_same os m o w at held_at refl);
-        wide = f.wide;
-        jobs = f.jobs;
         mine = record {
           number = ties.number;
           honest = ties.honest;
@@ -147,8 +145,8 @@ module _ (ws : List ℕ) (b : BookView) (os : List OwnerView) (f : Facts ws b os
   adopt_case : (t : Bool) → in_use (read_of (cell_in ws p)) ≡ t → Case t (cell_in ws p)
   adopt_case true used = let w : OwnerView = adopted_view p (cell_in ws p) o in let k = adopt_step used in record {
     w = w;
-    facts = own_facts ws b os f o at (Adopt m p) refl refl tt (Word (cell_in ws p)) ws w k;
-    tells = record { after_is = refl; number = refl; made = own_made ws b os f o at (Adopt m p) refl refl tt (Word (cell_in ws p)) ws w k };
+    facts = own_facts ws b os f o at (Adopt m p) refl tt (Word (cell_in ws p)) ws w k;
+    tells = record { after_is = refl; number = refl; made = own_made ws b os f o at (Adopt m p) refl tt (Word (cell_in ws p)) ws w k };
   }
   adopt_case false used = record {
     w = noted_view p (cell_in ws p) o;

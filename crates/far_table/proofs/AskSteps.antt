@@ -39,7 +39,7 @@ use Rattle.far_table.specs.Tells.{Tells, owner_of}
 use Rattle.far_table.specs.Views.{asked_at, asked_view, dropped_at, drops, has_hot, held_at, hots, moves, object_at, uses}
 use Rattle.far_table.proofs.Lift.{owner_makes}
 use Rattle.far_table.proofs.Owners.{known_by, pointers_put, pointers_same, remembered_same}
-use Rattle.far_table.proofs.OwnSteps.{OwnStep, has_on, is_mutator, jobs_stay, state_is}
+use Rattle.far_table.proofs.OwnSteps.{OwnStep, has_on, is_mutator, state_is}
 use Rattle.far_table.proofs.Words.{cell_here, cell_word_set}
 
 used_moves : (x : Option PtrWord) → in_use x ≡ true → cond (has_move (map_mark Moved x)) 1 0 ≡ cond (has_move x) 1 0 + cond (has_move x) 0 1
@@ -137,8 +137,6 @@ module _ (ws : List ℕ) (b : BookView) (os : List OwnerView) (f : Facts ws b os
         says = refl;
         becomes = state_is (set ws (cell_at p) new) b (set os m w) (cell_word_set ws f.wide p new small) (remembered_same os m o w at refl)
             (pointers_same os m o w at uses refl) (pointers_same os m o w at held_at refl);
-        wide = (cell_word_set ws f.wide p new small).wide;
-        jobs = jobs_stay ws b os f (cell_at p) new (λ j l e. let low = small in omega arith);
         mine = record {
           number = ties.number;
           honest = ties.honest;
@@ -170,8 +168,6 @@ module _ (ws : List ℕ) (b : BookView) (os : List OwnerView) (f : Facts ws b os
             (pointers_put os m o w at uses p false own (fun_ext (λ q. put_both (λ (x : Option ObjectView). is_some x ≡ put (uses o) p false q) (object_at o) p None q
             (λ e. sym (put_same (uses o) p false q e)) (λ ne. sym (put_other (uses o) p false q ne)))))
             (pointers_same os m o w at held_at refl);
-        wide = (cell_word_set ws f.wide p new small).wide;
-        jobs = jobs_stay ws b os f (cell_at p) new (λ j l e. let low = small in omega arith);
         mine = record {
           number = ties.number;
           honest = ties.honest;
@@ -223,7 +219,7 @@ module _ {S : Type 0} (slots id : ℕ) (me : Me S View) (is : me.0 ≡ Owner (ow
 
   asks_of : (p : ℕ) (k : Mark) → is_request k ≡ true → p < POINTERS → p / CELLS ≡ view.number → uses view p ≡ true → held_at view p ≡ None →
       Allows Running slots id me (cell_at p) (λ n. bit_or n (2 ^ position k)) (Asked (step slots (cell_at p) (2 ^ position k) 0 none) me)
-  asks_of p k asks small own used free = owner_makes slots id (cell_at p) me is (Ask view.number p k) refl refl tt Word (λ n. asked_view p k n view)
+  asks_of p k asks small own used free = owner_makes slots id (cell_at p) me is (Ask view.number p k) refl tt Word (λ n. asked_view p k n view)
       (Asked (step slots (cell_at p) (2 ^ position k) 0 none) me) (λ n. bit_or n (2 ^ position k))
       (λ ws b os f at. ask_found ws b os f view at p small own used free k asks)
       (λ ws b os f at t q j is_one word mask. let n : ℕ = slice_index ws (cell_at p) in let same : p ≡ q = omega arith in let mark : k ≡ j = one_mark k j asks is_one mask in

@@ -20,12 +20,11 @@ use Rattle.far_core.proofs.Steps.{agrees}
 use Rattle.far_hand.specs.Known.{IsKnown, unknown}
 use Rattle.far_hand.specs.Masked.{masked, masked_word}
 use Rattle.far_hand.specs.MayBe.{Shows, masked_shows}
-use Rattle.far_hand.specs.Owners.{IsLoudAt}
+use Rattle.far_hand.specs.Quiet.{RestsAt}
 use Rattle.far_hand.proofs.Finding.{finds_same}
-use Rattle.far_hand.proofs.Masking.{known_quiet}
-use Rattle.far_table.specs.View.{BookView, OwnerView, Book}
+use Rattle.far_table.specs.View.{BookView, OwnerView, Role, Book}
 use Rattle.far_table.specs.First.{IsTableOf, first_book, first_owner, first_owners, rows_from}
-use Rattle.far_table.specs.Layout.{cell_at, cell_in, data_at, scope_at, scope_in, word_in}
+use Rattle.far_table.specs.Layout.{JOBS, cell_at, cell_in, data_at, job_at, scope_at, scope_in, word_in}
 use Rattle.far_table.specs.Rows.{over}
 use Rattle.far_table.specs.Rule.{BookTies, Facts, OwnerTies, Running}
 use Rattle.far_table.specs.StateOf.{book_state, head_at, held_by, known_word, remembered_by, state_of, stored_word, used_by}
@@ -44,7 +43,7 @@ some_where true w = refl
 some_where false w = refl
 
 -- a word that is known is a header
-known_head : (t : Bool) (w a : ℕ) → IsKnown (cond (t || false) w (unknown a)) → (t || false) ≡ true
+known_head : (t : Bool) (w a : ℕ) → IsKnown (cond (t || false) w (unknown a)) → t ≡ true
 known_head true w a known = refl
 known_head false w a known = absurd (omega arith)
 
@@ -53,12 +52,12 @@ word_by : (b : BookView) (a : ℕ) (t : Bool) (w : ℕ) → head_at b a ≡ cond
 word_by b a true w e none = rw e refl
 word_by b a false w e none = rw e none
 
--- the owners that have no seat yet are no part of what the facts say of the book
-pub other_rest : (ws : List ℕ) (b : BookView) (os rest : List OwnerView) → Facts ws b os → Facts ws (record b { rest = rest }) os
+-- who has no seat yet is no part of what the facts say of the book
+pub other_rest : (ws : List ℕ) (b : BookView) (os : List OwnerView) (rest : List Role) → Facts ws b os → Facts ws (record b { rest = rest }) os
 other_rest ws b os rest f = record {
   law = f.law;
   agrees = f.agrees;
-  book = record { shown = f.book.shown; still = f.book.still };
+  book = record { shown = f.book.shown; rests = f.book.rests };
   owners = λ m o at. let ties = f.owners m o at in record { number = ties.number; honest = ties.honest; scope = ties.scope; objects = ties.objects; asks = ties.asks; drops = ties.drops; hots = ties.hots; warm = ties.warm };
   many = f.many;
   wide = f.wide;
@@ -195,23 +194,12 @@ module _ (s : State) (honest : Bool) (law : Law s) (past : HasNothingPast s) whe
       unadopted = first_blank;
     }
 
-    -- no header is a word that an owner stores into
-    still_first : (a : ℕ) → IsKnown (masked_word s.word s.starts (λ _. false) a) → ¬ IsLoudAt (masked s' s.cell (λ _. false)) a
-    still_first a known x = known_quiet s' first_law s.cell (λ _. false) (λ p. finds_same (s.cell p)) (λ p len ds i place m near loud inside. refl) a (known_head (s.starts a) (s.word a) a known) record {
-      p = x.p;
-      len = x.len;
-      ds = x.ds;
-      place = x.place;
-      marks = x.marks;
-      index = x.index;
-      near = x.near;
-      loud = x.loud;
-      inside = x.inside;
-      here = x.here;
-    }
+    -- no word is known but headers
+    rests_first : (a : ℕ) → IsKnown (masked_word s.word s.starts (λ _. false) a) → s.starts a ≡ false → RestsAt (masked s' s.cell (λ _. false)) a
+    rests_first a known plain = absurd (false≢true (sym plain ∙ known_head (s.starts a) (s.word a) a known))
 
     pub first_book_ties : BookTies b s'
-    first_book_ties = record { shown = first_shows; still = subst (λ (o : State). (a : ℕ) → IsKnown (o.word a) → ¬ IsLoudAt o a) (sym first_book_state) still_first }
+    first_book_ties = record { shown = first_shows; rests = subst (λ (o : State). (a : ℕ) → IsKnown (o.word a) → o.starts a ≡ false → RestsAt o a) (sym first_book_state) rests_first }
 
     -- MOVE, DROP and HOT count as set once where they stand, and as never taken away
     pub first_owner_ties : (m : ℕ) → OwnerTies b s' m (first_owner s honest m)
@@ -236,10 +224,10 @@ module _ (s : State) (honest : Bool) (law : Law s) (past : HasNothingPast s) whe
           owners = λ m o at. let t = owner_stands s honest m o at in subst (λ (z : State). OwnerTies b z m o) is (subst (OwnerTies b s' m) t.1 (first_owner_ties m));
           many = many_owners s honest;
           wide = table.wide;
-          jobs = table.jobs;
+          jobs = part_is JOBS (λ j. slice_index ws (job_at j)) (λ _. 0) table.jobs (λ j most. refl);
         }
 
 -- what is asked where a table is made of these words and the book's first view
 pub opens : {S : Type 0} (s : State) (honest : Bool) (ws : List ℕ) → Law s → HasNothingPast s → IsTableOf ws s → ((p : ℕ) → s.cell p ≢ 0 → honest ≡ s.honest) →
     Running {S = S} (opening ws [] (Book (first_book s honest)))
-opens s honest ws law past table same = record { book = first_book s honest; dealt = []; views = refl; facts = first_facts s honest law past same ws table }
+opens s honest ws law past table same = record { book = first_book s honest; dealt = []; waits = first_owners s honest; views = refl; rest = refl; facts = first_facts s honest law past same ws table }

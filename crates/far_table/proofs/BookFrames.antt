@@ -1,5 +1,5 @@
 -- A step of the book's seat that is an event of the core keeps the rule: once for all kinds of step.
-use Rattle.std.proofs.Common.{◌≡◌, ◌+◌, ◌<◌, ℕ, false, List, length, sym, ap, ◌∙◌, subst}
+use Rattle.std.proofs.Common.{◌≡◌, ◌+◌, ℕ, Bool, List, sym, ap, ◌∙◌, subst}
 use Rattle.std.specs.Prelude.{IsSome}
 use mathlib.Core.Option.{some}
 use lib.ListN.{get_elem?}
@@ -11,26 +11,21 @@ use Rattle.far_core.specs.state.Law.{Law}
 use Rattle.far_core.specs.state.State.{State}
 use Rattle.far_core.proofs.Owing.{keeps}
 use Rattle.far_core.proofs.Steps.{agrees}
-use Rattle.far_hand.specs.Owners.{is_owners}
+use Rattle.far_hand.specs.Makers.{ByBook, maker}
 use Rattle.far_hand.proofs.Making.{legal_made}
-use Rattle.far_table.specs.View.{BookView, OwnerView}
-use Rattle.far_table.specs.Layout.{TABLE_WORDS, JOBS, cell_in, job_in, scope_in}
+use Rattle.far_table.specs.View.{BookView, OwnerView, Role}
+use Rattle.far_table.specs.Layout.{cell_in, job_in, scope_in}
+use Rattle.far_table.specs.Rows.{over}
 use Rattle.far_table.specs.Rule.{BookTies, Facts, OwnerTies}
 use Rattle.far_table.specs.StateOf.{cooled_at, held_by, retired_at, state_of, taken_at}
 use Rattle.far_table.specs.BookTells.{BookMade, cooled_by, retired_by, taken_by}
 use Rattle.far_table.specs.Views.{drops, held_at, hots, moves}
 use Rattle.far_table.proofs.BookObjects.{has_after}
 use Rattle.far_table.proofs.Owners.{known_by}
+use Rattle.far_table.proofs.OwnSteps.{Leads}
 
--- what a kind of step owes: its event is legal, with this answer; the words and the view after are the core's state; the book's own ties, of a state under the law; and of the owners that their
--- scope words stay, that MOVE, DROP and HOT are counted, and that HOT stays where a place is held
-pub record BookStep (ws : List ℕ) (b : BookView) (os : List OwnerView) (e : Event) (r : Reply) (later : List ℕ) (b' : BookView) : Type 0 where
-  pub legal : Legal (state_of ws b os) e
-  pub says : r ≡ answer (state_of ws b os) e
-  pub becomes : after (state_of ws b os) e ≡ state_of later b' os
-  pub wide : length later ≡ TABLE_WORDS
-  pub jobs : (j : ℕ) → j < JOBS → job_in later j ≡ 0
-  pub book : Law (state_of later b' os) → BookTies b' (state_of later b' os)
+-- what a step leaves of the owners' ties: their scope words stay, MOVE, DROP and HOT are counted, and HOT stays where a place is held
+pub record LeavesOwners (ws : List ℕ) (b : BookView) (os : List OwnerView) (e : Event) (r : Reply) (later : List ℕ) (b' : BookView) : Type 0 where
   pub mutators : b'.mutators ≡ b.mutators
   pub honest : b'.honest ≡ b.honest
   pub rest : b'.rest ≡ b.rest
@@ -40,7 +35,56 @@ pub record BookStep (ws : List ℕ) (b : BookView) (os : List OwnerView) (e : Ev
   pub warm : (p : ℕ) → IsSome (held_by os p) → hots (cell_in later p) ≡ hots (cell_in ws p)
   pub told : (p : ℕ) → (taken_at b' p ≡ taken_by e r p (taken_at b p)) × (retired_at b' p ≡ retired_by e r p (retired_at b p)) × (cooled_at b' p ≡ cooled_by e r p (cooled_at b p))
 
-module _ (ws : List ℕ) (b : BookView) (os : List OwnerView) (f : Facts ws b os) (e : Event) (own : is_owners e ≡ false) (fits : Fits e) (r : Reply) (later : List ℕ) (b' : BookView)
+-- what owners' ties read of the book's view, and who has no seat yet
+abbrev Counted : Type 0
+Counted = ℕ × Bool × List Role × List (ℕ × ℕ) × List (ℕ × ℕ) × List (ℕ × ℕ)
+
+abbrev counts_of : BookView → Counted
+counts_of b = (b.mutators, b.honest, b.rest, b.taken, b.retired, b.cooled)
+
+-- an event with this answer counts no mark
+abbrev CountsNone : Event → Reply → Type 0
+CountsNone e r = (p n : ℕ) → (taken_by e r p n ≡ n) × (retired_by e r p n ≡ n) × (cooled_by e r p n ≡ n)
+
+-- a step that leaves MOVE, DROP and HOT of all cells, and all scope words
+pub marks_stay : {ws later : List ℕ} {b b' : BookView} {os : List OwnerView} {e : Event} {r : Reply} →
+    ((p : ℕ) → (moves (cell_in later p) ≡ moves (cell_in ws p)) × (drops (cell_in later p) ≡ drops (cell_in ws p)) × (hots (cell_in later p) ≡ hots (cell_in ws p))) →
+    scope_in later ≡ scope_in ws → counts_of b' ≡ counts_of b → CountsNone e r → LeavesOwners ws b os e r later b'
+marks_stay {ws} {later} {b} {b'} marks scopes same none =
+    let taken : taken_at b' ≡ taken_at b = ap (λ (z : Counted). over z.3 (λ _. 0)) same in
+    let retired : retired_at b' ≡ retired_at b = ap (λ (z : Counted). over z.4 (λ _. 0)) same in
+    let cooled : cooled_at b' ≡ cooled_at b = ap (λ (z : Counted). over z.5 (λ _. 0)) same in record {
+      mutators = ap (λ (z : Counted). z.0) same;
+      honest = ap (λ (z : Counted). z.1) same;
+      rest = ap (λ (z : Counted). z.2) same;
+      scopes = scopes;
+      counts = λ p. (
+        ap (λ f. f p + moves (cell_in ws p)) (sym taken) ∙ ap (λ n. taken_at b' p + n) (sym (marks p).0),
+        ap (λ f. f p + drops (cell_in ws p)) (sym retired) ∙ ap (λ n. retired_at b' p + n) (sym (marks p).1),
+        ap (λ f. f p + hots (cell_in ws p)) (sym cooled) ∙ ap (λ n. cooled_at b' p + n) (sym (marks p).2),
+      );
+      warm = λ p _. (marks p).2;
+      told = λ p. (
+        ap (λ f. f p) taken ∙ sym (none p (taken_at b p)).0,
+        ap (λ f. f p) retired ∙ sym (none p (retired_at b p)).1,
+        ap (λ f. f p) cooled ∙ sym (none p (cooled_at b p)).2,
+      );
+    }
+
+-- a step that leaves all cells and scope words
+pub cells_stay : {ws later : List ℕ} {b b' : BookView} {os : List OwnerView} {e : Event} {r : Reply} → cell_in later ≡ cell_in ws → scope_in later ≡ scope_in ws → counts_of b' ≡ counts_of b → CountsNone e r →
+    LeavesOwners ws b os e r later b'
+cells_stay cells scopes same none = marks_stay (λ p. (ap (λ c. moves (c p)) cells, ap (λ c. drops (c p)) cells, ap (λ c. hots (c p)) cells)) scopes same none
+
+-- what a kind of step owes: its event is legal, with this answer; the words and the view after are the core's state; the book's own ties, of a state under the law; and what it leaves of the owners'
+pub record BookStep (ws : List ℕ) (b : BookView) (os : List OwnerView) (e : Event) (r : Reply) (later : List ℕ) (b' : BookView) : Type 0 where
+  pub legal : Legal (state_of ws b os) e
+  pub says : r ≡ answer (state_of ws b os) e
+  pub becomes : Leads (after (state_of ws b os) e) (job_in ws) later b' os
+  pub book : Law (state_of later b' os) → BookTies b' (state_of later b' os)
+  pub leaves : LeavesOwners ws b os e r later b'
+
+module _ (ws : List ℕ) (b : BookView) (os : List OwnerView) (f : Facts ws b os) (e : Event) (by : maker e ≡ ByBook) (fits : Fits e) (r : Reply) (later : List ℕ) (b' : BookView)
     (k : BookStep ws b os e r later b') where
   abbrev s : State
   s = state_of ws b os
@@ -49,18 +93,18 @@ module _ (ws : List ℕ) (b : BookView) (os : List OwnerView) (f : Facts ws b os
   t = state_of later b' os
 
   law : Law t
-  law = subst Law k.becomes (keeps s e f.law fits k.legal)
+  law = subst Law k.becomes.is (keeps s e f.law fits k.legal)
 
   owner : (m : ℕ) (o : OwnerView) → get_elem? os m ≡ some o → OwnerTies b s m o → OwnerTies b' t m o
   owner m o at ties = record {
     number = ties.number;
-    honest = ties.honest ∙ sym k.honest;
-    scope = ap (λ f. f m) k.scopes ∙ ties.scope;
-    objects = λ p x mine h. has_after s e own f.law fits k.legal t k.becomes k.honest p x (ties.objects p x mine h);
-    asks = λ p mine. ties.asks p mine ∙ (k.counts p).0;
-    drops = λ p mine. ties.drops p mine ∙ (k.counts p).1;
-    hots = λ p mine. ties.hots p mine ∙ (k.counts p).2;
-    warm = λ p mine pinned. let x = ties.warm p mine pinned in (x.0, k.warm p (subst IsSome (sym (known_by os m o o at held_at p mine)) x.0) ∙ x.1);
+    honest = ties.honest ∙ sym k.leaves.honest;
+    scope = ap (λ f. f m) k.leaves.scopes ∙ ties.scope;
+    objects = λ p x mine h. has_after s e by f.law fits k.legal t k.becomes.is k.leaves.honest p x (ties.objects p x mine h);
+    asks = λ p mine. ties.asks p mine ∙ (k.leaves.counts p).0;
+    drops = λ p mine. ties.drops p mine ∙ (k.leaves.counts p).1;
+    hots = λ p mine. ties.hots p mine ∙ (k.leaves.counts p).2;
+    warm = λ p mine pinned. let x = ties.warm p mine pinned in (x.0, k.leaves.warm p (subst IsSome (sym (known_by os m o o at held_at p mine)) x.0) ∙ x.1);
   }
 
   pub book_facts : Facts later b' os
@@ -69,9 +113,9 @@ module _ (ws : List ℕ) (b : BookView) (os : List OwnerView) (f : Facts ws b os
     agrees = agrees t law;
     book = k.book law;
     owners = λ m o at. owner m o at (f.owners m o at);
-    many = f.many ∙ sym k.mutators;
-    wide = k.wide;
-    jobs = k.jobs;
+    many = f.many ∙ sym k.leaves.mutators;
+    wide = k.becomes.wide;
+    jobs = k.becomes.jobs ∙ f.jobs;
   }
 
   pub book_made : BookMade e b r b'
@@ -82,10 +126,10 @@ module _ (ws : List ℕ) (b : BookView) (os : List OwnerView) (f : Facts ws b os
     legal = k.legal;
     says = k.says;
     later = later;
-    becomes = k.becomes;
+    becomes = k.becomes.is;
     keeps = book_facts;
-    taken = λ p. (k.told p).0;
-    retired = λ p. (k.told p).1;
-    cooled = λ p. (k.told p).2;
-    call = legal_made s t e r k.legal (sym k.becomes) (sym k.says);
+    taken = λ p. (k.leaves.told p).0;
+    retired = λ p. (k.leaves.told p).1;
+    cooled = λ p. (k.leaves.told p).2;
+    call = legal_made s t e r k.legal (sym k.becomes.is) (sym k.says);
   }

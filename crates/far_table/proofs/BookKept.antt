@@ -1,40 +1,21 @@
 -- What an owner's event leaves of the book's ties.
 use Rattle.std.proofs.Common.{◌≡◌, ◌<◌, ◌^◌, ℕ, false, sym, ap, ◌∙◌, subst}
-use Rattle.far_core.specs.events.Quiet.{is_quiet}
 use Rattle.far_core.specs.state.Law.{Law}
 use Rattle.far_core.specs.state.State.{State}
+use Rattle.far_hand.specs.Beside.{beside}
 use Rattle.far_hand.specs.Known.{IsKnown}
 use Rattle.far_hand.specs.MayBe.{Shows}
-use Rattle.far_hand.specs.Owners.{IsLoudAt, OwnersChange}
+use Rattle.far_hand.specs.Owners.{OwnersChange}
+use Rattle.far_hand.specs.Quiet.{RestsAt}
 use Rattle.far_hand.proofs.Finding.{finds_more}
-use Rattle.far_hand.proofs.Masking.{known_loud}
+use Rattle.far_hand.proofs.Masking.{shown_still}
 use Rattle.far_table.specs.View.{BookView}
 use Rattle.far_table.specs.Rule.{BookTies}
 use Rattle.far_table.specs.StateOf.{book_state}
 
--- a word that an owner may store into is one of which the view says so
-loud_seen : (o s : State) → Shows o s → (a : ℕ) → IsLoudAt s a → IsLoudAt o a
-loud_seen o s shown a x =
-    let round : s.round ≡ o.round = ap (λ (z : State). z.round) shown.rest in
-    let clear : s.clear ≡ o.clear = ap (λ (z : State). z.clear) shown.rest in
-    let loud : is_quiet o.round o.clear x.p x.place x.marks ≡ false =
-    (λ i. is_quiet (sym round i) (sym clear i) x.p x.place x.marks) ∙ x.loud in
-    let k = known_loud (o.cell x.p) (s.cell x.p) (shown.cells x.p) o.round o.clear x.p x.len x.ds x.place x.marks x.near loud in record {
-      p = x.p;
-      len = x.len;
-      ds = x.ds;
-      place = x.place;
-      marks = k.marks;
-      index = x.index;
-      near = k.near;
-      loud = k.loud;
-      inside = x.inside;
-      here = x.here;
-    }
-
-module _ (o s t : State) (law : Law s) (shown : Shows o s) (change : OwnersChange s t) (still : (a : ℕ) → IsKnown (o.word a) → ¬ IsLoudAt o a) where
+module _ (o s t : State) (law : Law s) (shown : Shows o s) (change : OwnersChange s t) (rests : (a : ℕ) → IsKnown (o.word a) → o.starts a ≡ false → RestsAt o a) where
   kept_word : (a : ℕ) → IsKnown (o.word a) → t.word a ≡ s.word a
-  kept_word a known = change.words a (λ loud. still a known (loud_seen o s shown a loud))
+  kept_word a known = change.words a (shown_still o s law shown a (rests a known))
 
   same_starts : t.starts ≡ s.starts
   same_starts = ap (λ (z : State). z.starts) change.rest
@@ -45,8 +26,8 @@ module _ (o s t : State) (law : Law s) (shown : Shows o s) (change : OwnersChang
     words = λ a known. kept_word a known ∙ shown.words a known;
     headers = λ a starts. let head = shown.headers a (sym (ap (λ f. f a) same_starts) ∙ starts) in
         kept_word a (subst (λ w. w < 2 ^ 64) head (law.spans.word_fits a)) ∙ head;
-    rest = change.rest ∙ ap (λ (z : State). record z { cell = t.cell; word = t.word; scope = t.scope; remembered = t.remembered; used = t.used; held = t.held }) shown.rest;
+    rest = change.rest ∙ ap (λ (z : State). beside z t) shown.rest;
   }
 
 pub book_on : (b : BookView) (s t : State) → Law s → BookTies b s → OwnersChange s t → BookTies b t
-book_on b s t law ties change = record { shown = shows_on (book_state b) s t law ties.shown change ties.still; still = ties.still }
+book_on b s t law ties change = record { shown = shows_on (book_state b) s t law ties.shown change ties.rests; rests = ties.rests }

@@ -1,5 +1,5 @@
 -- From the facts after a step of the book's seat to the rule of the table, once for all kinds of step.
-use Rattle.std.proofs.Common.{◌≡◌, ◌<◌, ◌^◌, ℕ, false, List, ◌∷◌, ◌++◌, map, set, sym, refl, ap, ◌∙◌, subst}
+use Rattle.std.proofs.Common.{◌≡◌, ◌<◌, ◌^◌, ℕ, List, ◌∷◌, ◌++◌, map, set, sym, refl, ap, ◌∙◌, subst}
 use Rattle.std.specs.Prelude.{slice_index}
 use mathlib.Core.Option.{some}
 use lib.ListN.{get_elem?}
@@ -8,7 +8,7 @@ use Rattle.atomic_table.specs.Table.{Me, keeps, Allows}
 use Rattle.far_core.specs.declared.event.Event.{Event}
 use Rattle.far_core.specs.declared.event.Reply.{Reply}
 use Rattle.far_core.specs.events.Step.{Fits}
-use Rattle.far_hand.specs.Owners.{is_owners}
+use Rattle.far_hand.specs.Makers.{ByBook, maker}
 use Rattle.far_table.specs.View.{BookView, OwnerView, View, Book, Owner}
 use Rattle.far_table.specs.BookTells.{BookTells}
 use Rattle.far_table.specs.Rule.{Facts, Running}
@@ -24,7 +24,7 @@ module _ {S : Type 0} where
       Allows Running slots id me i f then
   book_allows slots id i me b f then is asked s r wide at small =
       let p = book_place r.book r.dealt id b (subst (λ l. get_elem? l id ≡ some (Book b)) r.views (at ∙ ap some is)) in
-      let t = asked s.words (r.dealt ++ b.rest) (subst (λ z. Facts s.words z (r.dealt ++ z.rest)) p.1 r.facts) small in
+      let t = asked s.words (r.dealt ++ r.waits) (subst (λ z. Facts s.words z (r.dealt ++ r.waits)) p.1 r.facts) small in
       let w : BookView = t.0 in
       let x : ℕ = f (slice_index s.words i) in (
         Book w,
@@ -33,13 +33,15 @@ module _ {S : Type 0} where
         record {
           book = w;
           dealt = r.dealt;
+          waits = r.waits;
           views = ap (λ l. set l id (Book w)) r.views ∙ ap (λ j. set (Book r.book ∷ map Owner r.dealt) j (Book w)) p.0;
-          facts = subst (λ l. Facts (set s.words i x) w (r.dealt ++ l)) (sym t.1) t.2;
+          rest = t.1 ∙ (ap (λ (z : BookView). z.rest) (sym p.1) ∙ r.rest);
+          facts = t.2;
         },
         t.3,
       )
 
-  module _ (slots id i : ℕ) (me : Me S View) (is : me.0 ≡ Book (book_of me.0)) (e : Event) (own : is_owners e ≡ false)
+  module _ (slots id i : ℕ) (me : Me S View) (is : me.0 ≡ Book (book_of me.0)) (e : Event) (by : maker e ≡ ByBook)
       (r : ℕ → Reply) (w : ℕ → BookView) (then : ℕ → Me S View → Type 0) where
     abbrev b : BookView
     b = book_of me.0
@@ -55,9 +57,9 @@ module _ {S : Type 0} where
         let n : ℕ = slice_index ws i in
         let k = steps ws os facts small in (
           w n,
-          k.rest,
-          book_facts ws b os facts e own fits (r n) (set ws i (f n)) (w n) k,
-          tells ws os facts small record { after_is = refl; made = book_made ws b os facts e own fits (r n) (set ws i (f n)) (w n) k },
+          k.leaves.rest,
+          book_facts ws b os facts e by fits (r n) (set ws i (f n)) (w n) k,
+          tells ws os facts small record { after_is = refl; made = book_made ws b os facts e by fits (r n) (set ws i (f n)) (w n) k },
         ))
 
     -- a step that reads

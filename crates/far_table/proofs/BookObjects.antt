@@ -24,7 +24,7 @@ use Rattle.far_core.specs.world.WorldOf.{world_of}
 use Rattle.far_core.proofs.Namings.{naming_only}
 use Rattle.far_core.proofs.Owing.{does}
 use Rattle.far_core.proofs.Put.{put_both}
-use Rattle.far_hand.specs.Owners.{is_owners}
+use Rattle.far_hand.specs.Makers.{ByBook, ByOwner, maker}
 use Rattle.far_table.specs.View.{ObjectView}
 use Rattle.far_table.specs.Rule.{Has}
 
@@ -100,38 +100,41 @@ form_books p Stays = refl
 form_books p (Moves len ds from to) = refl
 form_books p (Fetches len ds place) = refl
 
-books_change : (s : State) (e : Event) → is_owners e ≡ false → Legal s e → Changes e (answer s e)
-books_change s (ReadEpoch m) own legal = absurd (false≢true (sym own))
-books_change s (Open m) own legal = absurd (false≢true (sym own))
-books_change s (Pin m p) own legal = absurd (false≢true (sym own))
-books_change s (Load m p i) own legal = absurd (false≢true (sym own))
-books_change s (Store m p i w) own legal = absurd (false≢true (sym own))
-books_change s (Close m) own legal = absurd (false≢true (sym own))
-books_change s (Adopt m p) own legal = absurd (false≢true (sym own))
-books_change s (Ask m p k) own legal = absurd (false≢true (sym own))
-books_change s (Put l at w) own legal = (change.Stays, refl, refl)
-books_change s (Name p old new) own legal = cond_both (s.cell p == old) Done (Word (s.cell p)) (λ r. Changes (Name p old new) r)
+owners_not : {m : ℕ} → ByOwner m ≡ ByBook → ⊥
+owners_not e = cc
+
+books_change : (s : State) (e : Event) → maker e ≡ ByBook → Legal s e → Changes e (answer s e)
+books_change s (ReadEpoch m) by legal = absurd (owners_not by)
+books_change s (Open m) by legal = absurd (owners_not by)
+books_change s (Pin m p) by legal = absurd (owners_not by)
+books_change s (Load m p i) by legal = absurd (owners_not by)
+books_change s (Store m p i w) by legal = absurd (owners_not by)
+books_change s (Close m) by legal = absurd (owners_not by)
+books_change s (Adopt m p) by legal = absurd (owners_not by)
+books_change s (Ask m p k) by legal = absurd (owners_not by)
+books_change s (Put l at w) by legal = (change.Stays, refl, refl)
+books_change s (Name p old new) by legal = cond_both (s.cell p == old) Done (Word (s.cell p)) (λ r. Changes (Name p old new) r)
     (λ _. (naming_change p legal.1.0, ap (change_by p) (naming_only legal.1.0 (read_of old) (read_of new) legal.1.1), form_books p legal.1.0)) (λ _. (change.Stays, refl, refl))
-books_change s (See p) own legal = (change.Stays, refl, refl)
-books_change s (Mark p) own legal = (change.Marks p, refl, refl)
-books_change s (Get l at true) own legal = (change.Releases l, refl, refl)
-books_change s (Get l at false) own legal = (change.Stays, refl, refl)
-books_change s (Clear p) own legal = (
+books_change s (See p) by legal = (change.Stays, refl, refl)
+books_change s (Mark p) by legal = (change.Marks p, refl, refl)
+books_change s (Get l at true) by legal = (change.Releases l, refl, refl)
+books_change s (Get l at false) by legal = (change.Stays, refl, refl)
+books_change s (Clear p) by legal = (
   cond (has_move (read_of (s.cell p))) change.Stays (change.Unmarks p),
   refl,
   cond_both (has_move (read_of (s.cell p))) change.Stays (change.Unmarks p) (λ c. is_books c ≡ true) (λ _. refl) (λ _. refl),
 )
-books_change s (Advance logs) own legal = (change.Stays, refl, refl)
-books_change s (Look m) own legal = (change.Stays, refl, refl)
+books_change s (Advance logs) by legal = (change.Stays, refl, refl)
+books_change s (Look m) by legal = (change.Stays, refl, refl)
 
 honest_is : (s : State) → (world_of s).honest ≡ s.honest
 unfolding world_of
 honest_is s = refl
 
 -- an object that an owner knows it knows after it
-pub has_after : (s : State) (e : Event) → is_owners e ≡ false → Law s → Fits e → Legal s e → (t : State) → after s e ≡ t → t.honest ≡ s.honest → (p : ℕ) (x : ObjectView) → Has s p x → Has t p x
-has_after s e own law fits legal t is honest p x has =
-    let c = books_change s e own legal in
+pub has_after : (s : State) (e : Event) → maker e ≡ ByBook → Law s → Fits e → Legal s e → (t : State) → after s e ≡ t → t.honest ≡ s.honest → (p : ℕ) (x : ObjectView) → Has s p x → Has t p x
+has_after s e by law fits legal t is honest p x has =
+    let c = books_change s e by legal in
     let done : Step c.0 (world_of s) (world_of t) = subst (λ (z : State). Step c.0 (world_of s) (world_of z)) is (subst (λ o. StepOf o (world_of s) (world_of (after s e))) c.1 (does s e law fits legal)) in
     let k = change_keeps c.0 c.2 (world_of s) (world_of t) done p has.object has.there in record {
       object = k.object;

@@ -38,12 +38,12 @@ use Rattle.far_table.specs.Rule.{Facts, Running}
 use Rattle.far_table.specs.Stands.{IsPlain, book_of}
 use Rattle.far_table.specs.StateOf.{book_state, head_at, head_or, known_word, state_of}
 use Rattle.far_table.specs.Views.{drops, has_hot, hots, moves}
-use Rattle.far_table.proofs.BookFrames.{BookStep}
+use Rattle.far_table.proofs.BookFrames.{BookStep, cells_stay, marks_stay}
 use Rattle.far_table.proofs.BookKnown.{forgets, forgotten, head_same}
 use Rattle.far_table.proofs.BookLift.{book_makes, book_reads}
-use Rattle.far_table.proofs.BookSees.{cell_after, cells_few, counts_after, counts_as, epoch_after, finds_after, found_at, jobs_after}
-use Rattle.far_table.proofs.Masks.{counts, counts_quiet, epoch_is, finds, ties, words_are}
-use Rattle.far_table.proofs.OwnSteps.{jobs_stay, state_is}
+use Rattle.far_table.proofs.BookSees.{cell_after, cells_few, epoch_after, finds_after, found_at, marks_as}
+use Rattle.far_table.proofs.Masks.{counts, epoch_is, finds, rests, ties, words_are}
+use Rattle.far_table.proofs.OwnSteps.{led_by, reads, state_is}
 use Rattle.far_table.proofs.Words.{cell_here, epoch_word_set, scope_here}
 
 -- a round that a log leaves
@@ -78,18 +78,10 @@ module _ (ws : List ℕ) (b : BookView) (os : List OwnerView) (f : Facts ws b os
   look_step plain m low = record {
     legal = low;
     says = refl;
-    becomes = refl;
-    wide = f.wide;
-    jobs = f.jobs;
+    becomes = reads f (after s (Look m)) (looked_view m (scope_in ws m) b) os refl;
     book = λ law. ties ws (looked_view m (scope_in ws m) b) os law (counts b) (words_are ws b os f plain) (finds ws b os f)
-        (counts_looked s.round s.clear o.cell (counts b) m (shows_clear b.epoch (scope_of (scope_in ws m))) (counts_quiet ws b os f)) (epoch_is ws b os f);
-    mutators = refl;
-    honest = refl;
-    rest = refl;
-    scopes = refl;
-    counts = λ _. (refl, refl, refl);
-    warm = λ _ _. refl;
-    told = λ _. (refl, refl, refl);
+        (counts_looked s o.cell (counts b) m (shows_clear b.epoch (scope_of (scope_in ws m))) (rests ws b os f)) (epoch_is ws b os f);
+    leaves = cells_stay refl refl refl (λ _ _. (refl, refl, refl));
   }
 
   look_scope : (m : ℕ) → IsScopeAt b.epoch (scope_in ws m)
@@ -123,18 +115,10 @@ module _ (ws : List ℕ) (b : BookView) (os : List OwnerView) (f : Facts ws b os
         let later : List ℕ = set ws (cell_at p) w in record {
           legal = clear_legal;
           says = refl;
-          becomes = (λ i. record (after s (Clear p)) { round = sym (round_rows b.round (is_among b.chosen) (read_of n)) i }) ∙ state_is later b' os (cell_after ws b os f p w few) refl refl refl;
-          wide = (cell_after ws b os f p w few).wide;
-          jobs = jobs_after ws b os f p w few;
+          becomes = led_by (λ i. record (after s (Clear p)) { round = sym (round_rows b.round (is_among b.chosen) (read_of n)) i }) (state_is later b' os (cell_after ws b os f p w few) refl refl refl);
           book = λ law. ties later b' os law (λ _. false) (heads_left (word_in later) (cell_after ws b os f p w few).word_is) (finds_after ws b os f p w few)
-              (counts_none (book_state b').round (book_state b').clear (book_state b').cell) (epoch_after ws b os f p w few);
-          mutators = refl;
-          honest = refl;
-          rest = refl;
-          scopes = (cell_after ws b os f p w few).scope_is;
-          counts = counts_after ws b os f p w few same_marks;
-          warm = λ q _. counts_as ws b os f p w few hots same_marks.2 q;
-          told = λ _. (refl, refl, refl);
+              (counts_none (book_state b') (book_state b').cell) (epoch_after ws b os f p w few);
+          leaves = marks_stay (marks_as ws b os f p w few same_marks) (cell_after ws b os f p w few).scope_is refl (λ _ _. (refl, refl, refl));
         }
 
   module _ (logs : ℕ) (h : MayChoose o logs) (below : b.epoch + 1 < EPOCH_END) where
@@ -149,22 +133,10 @@ module _ (ws : List ℕ) (b : BookView) (os : List OwnerView) (f : Facts ws b os
         let up : epoch_in ws + 1 ≡ b.epoch + 1 = ap (λ e. e + 1) (epoch_is ws b os f) in record {
           legal = advance_legal;
           says = ap Epoch (sym up);
-          becomes = (λ i. record (after s (Advance logs)) { epoch = up i; round_epoch = up i }) ∙ state_is later b' os are refl refl refl;
-          wide = are.wide;
-          jobs = jobs_stay ws b os f EPOCH_AT (b.epoch + 1) (λ j l e. omega arith);
+          becomes = led_by (λ i. record (after s (Advance logs)) { epoch = up i; round_epoch = up i }) (state_is later b' os are refl refl refl);
           book = λ law. ties later b' os law (λ _. false) (heads_left (word_in later) are.word_is) (subst (AllFind o.cell) (sym are.cell_is) (finds ws b os f))
-              (counts_none (book_state b').round (book_state b').clear o.cell) are.epoch_is;
-          mutators = refl;
-          honest = refl;
-          rest = refl;
-          scopes = are.scope_is;
-          counts = λ p. (
-            ap (λ c. over b.taken (λ _. 0) p + moves (c p)) (sym are.cell_is),
-            ap (λ c. over b.retired (λ _. 0) p + drops (c p)) (sym are.cell_is),
-            ap (λ c. over b.cooled (λ _. 0) p + hots (c p)) (sym are.cell_is),
-          );
-          warm = λ p _. ap (λ c. hots (c p)) are.cell_is;
-          told = λ _. (refl, refl, refl);
+              (counts_none (book_state b') o.cell) are.epoch_is;
+          leaves = cells_stay are.cell_is are.scope_is refl (λ _ _. (refl, refl, refl));
         }
 
 module _ {S : Type 0} (slots id : ℕ) (me : Me S View) (is : me.0 ≡ Book (book_of me.0)) where

@@ -1,5 +1,5 @@
 -- The book reads a cell, and marks one: each is its event of the core.
-use Rattle.std.proofs.Common.{◌≡◌, ◌+◌, ◌*◌, ◌<◌, ◌^◌, ℕ, cond, bit_or, List, set, sym, refl, ap, ◌∙◌, subst, arith}
+use Rattle.std.proofs.Common.{◌≡◌, ◌*◌, ◌<◌, ◌^◌, ℕ, cond, bit_or, List, set, sym, refl, ap, ◌∙◌, subst, arith}
 use Rattle.std.specs.Prelude.{slice_index}
 use mathlib.Core.Option.{none}
 use Rattle.atomic_table.specs.Table.{Me, step, Allows}
@@ -13,6 +13,7 @@ use Rattle.far_core.specs.declared.event.Reply.TheVariants.{Word}
 use Rattle.far_core.specs.events.Legal.{Legal}
 use Rattle.far_core.specs.events.Naming.{is_dropped}
 use Rattle.far_core.specs.events.Quiet.{has_move}
+use Rattle.far_core.specs.events.Step.{after}
 use Rattle.far_core.specs.state.State.{State, put}
 use Rattle.far_core.proofs.Put.{put_both}
 use Rattle.far_hand.specs.Finds.{Finds}
@@ -23,15 +24,15 @@ use Rattle.far_table.specs.View.{BookView, OwnerView, View, Book}
 use Rattle.far_table.specs.BookPlays.{Marked, Saw}
 use Rattle.far_table.specs.BookTells.{BookTells}
 use Rattle.far_table.specs.BookViews.{marked_view, saw_view}
-use Rattle.far_table.specs.Layout.{JOBS, cell_at, cell_in, epoch_in, job_in, scope_in, word_in}
+use Rattle.far_table.specs.Layout.{cell_at, cell_in, epoch_in, job_in, scope_in, word_in}
 use Rattle.far_table.specs.Rule.{Facts, Running}
 use Rattle.far_table.specs.Stands.{IsPlain, book_of}
-use Rattle.far_table.specs.StateOf.{book_state, cooled_at, known_word, retired_at, state_of, taken_at}
+use Rattle.far_table.specs.StateOf.{book_state, known_word, state_of}
 use Rattle.far_table.specs.Views.{drops, has_hot, hots, moves}
-use Rattle.far_table.proofs.BookFrames.{BookStep}
+use Rattle.far_table.proofs.BookFrames.{BookStep, cells_stay, marks_stay}
 use Rattle.far_table.proofs.BookLift.{book_makes, book_reads}
-use Rattle.far_table.proofs.Masks.{counts, counts_quiet, epoch_is, finds, ties, words_are}
-use Rattle.far_table.proofs.OwnSteps.{jobs_stay, state_is}
+use Rattle.far_table.proofs.Masks.{counts, epoch_is, finds, rests, ties, words_are}
+use Rattle.far_table.proofs.OwnSteps.{reads, state_is}
 use Rattle.far_table.proofs.Words.{WordsAre, cell_here, cell_word_set}
 
 -- ---- one cell becomes w
@@ -39,11 +40,8 @@ module _ (ws : List ℕ) (b : BookView) (os : List OwnerView) (f : Facts ws b os
   abbrev later : List ℕ
   later = set ws (cell_at p) w
 
-  pub cell_after : WordsAre later (epoch_in ws) (scope_in ws) (put (cell_in ws) p w) (word_in ws)
+  pub cell_after : WordsAre later (epoch_in ws) (scope_in ws) (put (cell_in ws) p w) (word_in ws) (job_in ws)
   cell_after = cell_word_set ws f.wide p w small
-
-  pub jobs_after : (j : ℕ) → j < JOBS → job_in later j ≡ 0
-  jobs_after = jobs_stay ws b os f (cell_at p) w (λ j l e. let low = small in omega arith)
 
   pub epoch_after : epoch_in later ≡ b.epoch
   epoch_after = cell_after.epoch_is ∙ epoch_is ws b os f
@@ -56,17 +54,13 @@ module _ (ws : List ℕ) (b : BookView) (os : List OwnerView) (f : Facts ws b os
   words_after plain = words_are ws b os f plain ∙ ap (λ v. masked_word v (book_state b).starts (counts b)) (sym cell_after.word_is)
 
   -- it has a mark where the cell had
-  pub counts_as : (count : ℕ → ℕ) → count w ≡ count (cell_in ws p) → (q : ℕ) → count (cell_in later q) ≡ count (cell_in ws q)
+  counts_as : (count : ℕ → ℕ) → count w ≡ count (cell_in ws p) → (q : ℕ) → count (cell_in later q) ≡ count (cell_in ws q)
   counts_as count same q = ap (λ c. count (c q)) cell_after.cell_is ∙ put_both (λ v. count v ≡ count (cell_in ws q)) (cell_in ws) p w q
       (λ e. same ∙ ap (λ z. count (cell_in ws z)) (sym e)) (λ _. refl)
 
-  stays : (count : ℕ → ℕ) → count w ≡ count (cell_in ws p) → (n q : ℕ) → n + count (cell_in ws q) ≡ n + count (cell_in later q)
-  stays count same n q = ap (λ v. n + v) (sym (counts_as count same q))
-
-  pub counts_after : (moves w ≡ moves (cell_in ws p)) × (drops w ≡ drops (cell_in ws p)) × (hots w ≡ hots (cell_in ws p)) → (q : ℕ) →
-      (taken_at b q + moves (cell_in ws q) ≡ taken_at b q + moves (cell_in later q)) × (retired_at b q + drops (cell_in ws q) ≡ retired_at b q + drops (cell_in later q))
-      × (cooled_at b q + hots (cell_in ws q) ≡ cooled_at b q + hots (cell_in later q))
-  counts_after same q = (stays moves same.0 (taken_at b q) q, stays drops same.1 (retired_at b q) q, stays hots same.2 (cooled_at b q) q)
+  pub marks_as : (moves w ≡ moves (cell_in ws p)) × (drops w ≡ drops (cell_in ws p)) × (hots w ≡ hots (cell_in ws p)) → (q : ℕ) →
+      (moves (cell_in later q) ≡ moves (cell_in ws q)) × (drops (cell_in later q) ≡ drops (cell_in ws q)) × (hots (cell_in later q) ≡ hots (cell_in ws q))
+  marks_as same q = (counts_as moves same.0 q, counts_as drops same.1 q, counts_as hots same.2 q)
 
 pub cells_few : (ws : List ℕ) (b : BookView) (os : List OwnerView) → Facts ws b os → (p : ℕ) → p < CELLS * b.mutators → p < POINTERS
 cells_few ws b os f p low = let most = f.law.shape.few_mutators in omega arith
@@ -85,18 +79,10 @@ module _ (ws : List ℕ) (b : BookView) (os : List OwnerView) (f : Facts ws b os
   see_step low = record {
     legal = low;
     says = refl;
-    becomes = refl;
-    wide = f.wide;
-    jobs = f.jobs;
+    becomes = reads f (after s (See p)) (saw_view p n b) os refl;
     book = λ law. ties ws (saw_view p n b) os law (counts b) (words_are ws b os f plain) (finds_put o.cell s.cell p n (finds ws b os f) refl)
-        (counts_found s.round s.clear o.cell (counts b) p n (counts_quiet ws b os f) (finds ws b os f p)) (epoch_is ws b os f);
-    mutators = refl;
-    honest = refl;
-    rest = refl;
-    scopes = refl;
-    counts = λ _. (refl, refl, refl);
-    warm = λ _ _. refl;
-    told = λ _. (refl, refl, refl);
+        (counts_found s o.cell (counts b) p n (rests ws b os f) (finds ws b os f p)) (epoch_is ws b os f);
+    leaves = cells_stay refl refl refl (λ _ _. (refl, refl, refl));
   }
 
   module _ (h : Legal o (Mark p)) where
@@ -123,17 +109,9 @@ module _ (ws : List ℕ) (b : BookView) (os : List OwnerView) (f : Facts ws b os
       legal = legal;
       says = refl;
       becomes = state_is (set ws (cell_at p) w) (marked_view p n b) os (cell_after ws b os f p w few) refl refl refl;
-      wide = (cell_after ws b os f p w few).wide;
-      jobs = jobs_after ws b os f p w few;
       book = λ law. ties (set ws (cell_at p) w) (marked_view p n b) os law (counts b) (words_after ws b os f p w few plain) (finds_after ws b os f p w few)
-          (counts_marked s f.law o.cell (counts b) (finds ws b os f) p h (counts_quiet ws b os f)) (epoch_after ws b os f p w few);
-      mutators = refl;
-      honest = refl;
-      rest = refl;
-      scopes = (cell_after ws b os f p w few).scope_is;
-      counts = counts_after ws b os f p w few same_marks;
-      warm = λ q _. counts_as ws b os f p w few hots same_marks.2 q;
-      told = λ _. (refl, refl, refl);
+          (counts_marked s f.law o.cell (counts b) (finds ws b os f) p h (rests ws b os f)) (epoch_after ws b os f p w few);
+      leaves = marks_stay (marks_as ws b os f p w few same_marks) (cell_after ws b os f p w few).scope_is refl (λ _ _. (refl, refl, refl));
     }
 
 module _ {S : Type 0} (slots id : ℕ) (me : Me S View) (is : me.0 ≡ Book (book_of me.0)) (plain : IsPlain (book_of me.0)) (p : ℕ) where

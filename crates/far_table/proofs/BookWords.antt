@@ -33,13 +33,11 @@ use Rattle.far_table.specs.Rows.{over}
 use Rattle.far_table.specs.Rule.{Facts, Running}
 use Rattle.far_table.specs.Stands.{IsPlain, book_of}
 use Rattle.far_table.specs.StateOf.{book_state, head_at, head_or, known_word, state_of}
-use Rattle.far_table.specs.Views.{drops, hots, moves}
-use Rattle.far_table.proofs.BookFrames.{BookStep}
+use Rattle.far_table.proofs.BookFrames.{BookStep, cells_stay}
 use Rattle.far_table.proofs.BookKnown.{elsewhere, forgotten, head_same, no_head, plain_more, put_known}
 use Rattle.far_table.proofs.BookLift.{book_makes, book_reads}
-use Rattle.far_table.proofs.Masks.{counts, epoch_is, finds, is_masked, ties, view_masked, words_are}
-use Rattle.far_table.proofs.Masks as masks
-use Rattle.far_table.proofs.OwnSteps.{jobs_stay, state_is}
+use Rattle.far_table.proofs.Masks.{counts, epoch_is, finds, is_masked, rests, ties, view_masked, words_are}
+use Rattle.far_table.proofs.OwnSteps.{reads, state_is}
 use Rattle.far_table.proofs.Words.{data_word_set}
 
 -- ---- which words the view shows quiet
@@ -124,33 +122,17 @@ module _ (ws : List ℕ) (b : BookView) (os : List OwnerView) (f : Facts ws b os
   get_step low true quiet = record {
     legal = (low, inside, tt);
     says = refl;
-    becomes = refl;
-    wide = f.wide;
-    jobs = f.jobs;
+    becomes = reads f s (put_view a n b) os refl;
     book = λ law. ties ws (put_view a n b) os law (put (counts b) a true) (got_words (quiet_so quiet)) seen
-        (counts_read s f.law o.cell seen (counts b) l a false true (λ _. quiet_so quiet) (masks.counts_quiet ws b os f)) epoch;
-    mutators = refl;
-    honest = refl;
-    rest = refl;
-    scopes = refl;
-    counts = λ _. (refl, refl, refl);
-    warm = λ _ _. refl;
-    told = λ _. (refl, refl, refl);
+        (counts_read s o.cell (counts b) l a false true (λ _. quiet_so quiet) (rests ws b os f)) epoch;
+    leaves = cells_stay refl refl refl (λ _ _. (refl, refl, refl));
   }
   get_step low false quiet = record {
     legal = (low, inside, tt);
     says = refl;
-    becomes = refl;
-    wide = f.wide;
-    jobs = f.jobs;
+    becomes = reads f s b os refl;
     book = λ _. f.book;
-    mutators = refl;
-    honest = refl;
-    rest = refl;
-    scopes = refl;
-    counts = λ _. (refl, refl, refl);
-    warm = λ _ _. refl;
-    told = λ _. (refl, refl, refl);
+    leaves = cells_stay refl refl refl (λ _ _. (refl, refl, refl));
   }
 
   -- what far_hand says of a beset hand's view, of this one
@@ -181,17 +163,9 @@ module _ (ws : List ℕ) (b : BookView) (os : List OwnerView) (f : Facts ws b os
   free_step h = record {
     legal = (h.0, h.1, may_free s o.cell (counts b) l true seen h.2);
     says = refl;
-    becomes = free_becomes;
-    wide = f.wide;
-    jobs = f.jobs;
-    book = λ law. ties ws left os law (λ _. false) free_words seen (counts_none (book_state left).round o.clear o.cell) epoch;
-    mutators = refl;
-    honest = refl;
-    rest = refl;
-    scopes = refl;
-    counts = λ _. (refl, refl, refl);
-    warm = λ _ _. refl;
-    told = λ _. (refl, refl, refl);
+    becomes = reads f (with_free_log s l) left os free_becomes;
+    book = λ law. ties ws left os law (λ _. false) free_words seen (counts_none (book_state left) o.cell) epoch;
+    leaves = cells_stay refl refl refl (λ _ _. (refl, refl, refl));
   }
 
   free_gets : Gets o (book_state left) l at true n
@@ -213,24 +187,12 @@ module _ (ws : List ℕ) (b : BookView) (os : List OwnerView) (f : Facts ws b os
           legal = h;
           says = refl;
           becomes = state_is later (put_view a w b) os are refl refl refl;
-          wide = are.wide;
-          jobs = jobs_stay ws b os f (data_at a) w (λ j small e. omega arith);
           book = λ law. ties later (put_view a w b) os law (put (counts b) a true)
               (put_known b a w no_start ∙ (ap (λ v. put v a w) (words_are ws b os f plain)
               ∙ (sym (count_word s.word s.starts (counts b) a w) ∙ ap (λ v. masked_word v o.starts (put (counts b) a true)) (sym are.word_is))))
               (subst (AllFind o.cell) (sym are.cell_is) seen)
-              (counts_past s f.law o.cell seen (counts b) l at h.2 inside (masks.counts_quiet ws b os f)) (are.epoch_is ∙ epoch);
-          mutators = refl;
-          honest = refl;
-          rest = refl;
-          scopes = are.scope_is;
-          counts = λ p. (
-            ap (λ c. over b.taken (λ _. 0) p + moves (c p)) (sym are.cell_is),
-            ap (λ c. over b.retired (λ _. 0) p + drops (c p)) (sym are.cell_is),
-            ap (λ c. over b.cooled (λ _. 0) p + hots (c p)) (sym are.cell_is),
-          );
-          warm = λ p _. ap (λ c. hots (c p)) are.cell_is;
-          told = λ _. (refl, refl, refl);
+              (counts_past s o.cell (counts b) l at h.2 inside (rests ws b os f)) (are.epoch_is ∙ epoch);
+          leaves = cells_stay are.cell_is are.scope_is refl (λ _ _. (refl, refl, refl));
         }
 
 -- what is put is known

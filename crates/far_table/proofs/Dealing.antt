@@ -6,7 +6,7 @@ use mathlib.Core.List.{map-append}
 use lib.ListN.{get_elem?}
 use Rattle.atomic_table.specs.Table.{State as Table, Splits}
 use Rattle.far_core.specs.state.State.{State}
-use Rattle.far_table.specs.View.{BookView, OwnerView, View, Book, Owner}
+use Rattle.far_table.specs.View.{BookView, OwnerView, Role, View, Book, Owner, AsOwner}
 use Rattle.far_table.specs.First.{first_book, first_owner, waiting}
 use Rattle.far_table.specs.Rule.{Facts, Running}
 use Rattle.far_table.specs.Tells.{owner_of}
@@ -23,22 +23,35 @@ pub book_place : (b : BookView) (dealt : List OwnerView) (id : ℕ) (c : BookVie
 book_place b dealt zero c e = let same : Book b ≡ Book c = some-injective (Book b) (Book c) e in let is : b ≡ c = cc in (refl, is)
 book_place b dealt (suc k) c e = absurd (no_book dealt k c e)
 
+-- who waits, where the first of them is an owner
+waits_behind : (waits : List OwnerView) (o : OwnerView) (rest : List Role) → AsOwner o ∷ rest ≡ map AsOwner waits → (later : List OwnerView) × (waits ≡ o ∷ later) × (rest ≡ map AsOwner later)
+waits_behind [] o rest e = let odd : AsOwner o ∷ rest ≡ [] = e in absurd (cc)
+waits_behind (w ∷ waits) o rest e =
+    let same : AsOwner o ∷ rest ≡ AsOwner w ∷ map AsOwner waits = e in
+    let first : AsOwner o ≡ AsOwner w = cc in
+    let is : o ≡ w = cc in
+    let more : rest ≡ map AsOwner waits = cc in
+    (waits, ap (λ z. z ∷ waits) (sym is), more)
+
 module _ {S : Type 0} where
-  deals_at : (id : ℕ) (b : BookView) (o : OwnerView) (os : List OwnerView) → b.rest ≡ o ∷ os → (s : Table S View) → Running s → get_elem? s.views id ≡ some (Book b) →
+  deals_at : (id : ℕ) (b : BookView) (o : OwnerView) (os : List Role) → b.rest ≡ AsOwner o ∷ os → (s : Table S View) → Running s → get_elem? s.views id ≡ some (Book b) →
       Running record { words = s.words; homes = s.homes; views = set s.views id (Book (record b { rest = os })) ++ Owner o ∷ [] }
   deals_at id b o os more s r at =
       let c : BookView = record b { rest = os } in
-      let p = book_place r.book r.dealt id b (subst (λ l. get_elem? l id ≡ some (Book b)) r.views at) in record {
+      let p = book_place r.book r.dealt id b (subst (λ l. get_elem? l id ≡ some (Book b)) r.views at) in
+      let w = waits_behind r.waits o os (sym more ∙ (ap (λ (z : BookView). z.rest) (sym p.1) ∙ r.rest)) in record {
         book = c;
         dealt = r.dealt ++ o ∷ [];
+        waits = w.0;
         views = ap (λ l. set l id (Book c) ++ Owner o ∷ []) r.views ∙ (ap (λ j. set (Book r.book ∷ map Owner r.dealt) j (Book c) ++ Owner o ∷ []) p.0 ∙ ap (λ l. Book c ∷ l) (sym (map-append Owner r.dealt (o ∷ []))));
-        facts = subst (λ l. Facts s.words c l) (sym (append_assoc r.dealt (o ∷ []) os))
-            (other_rest s.words b (r.dealt ++ o ∷ os) os (subst (λ l. Facts s.words b (r.dealt ++ l)) more (subst (λ z. Facts s.words z (r.dealt ++ z.rest)) p.1 r.facts)));
+        rest = w.2;
+        facts = subst (λ l. Facts s.words c l) (sym (append_assoc r.dealt (o ∷ []) w.0))
+            (other_rest s.words b (r.dealt ++ o ∷ w.0) os (subst (λ l. Facts s.words b (r.dealt ++ l)) w.1 (subst (λ z. Facts s.words z (r.dealt ++ r.waits)) p.1 r.facts)));
       }
 
-  pub deals : (id : ℕ) (v : View) (b : BookView) (o : OwnerView) (os : List OwnerView) → v ≡ Book b → b.rest ≡ o ∷ os → Splits {S = S} Running id v (left_of v) (right_of v)
+  pub deals : (id : ℕ) (v : View) (b : BookView) (o : OwnerView) (os : List Role) → v ≡ Book b → b.rest ≡ AsOwner o ∷ os → Splits {S = S} Running id v (left_of v) (right_of v)
   deals id v b o os is more s r at = subst (λ z. Running record { words = s.words; homes = s.homes; views = set s.views id (left_of z) ++ right_of z ∷ [] }) (sym is)
-      (subst (λ l. Running record { words = s.words; homes = s.homes; views = set s.views id (Book (record b { rest = others_rest l })) ++ Owner (first_rest l) ∷ [] }) (sym more)
+      (subst (λ l. Running record { words = s.words; homes = s.homes; views = set s.views id (Book (record b { rest = others_rest l })) ++ first_rest l ∷ [] }) (sym more)
       (deals_at id b o os more s r (at ∙ ap some is)))
 
 -- ---- one owner after the other
@@ -46,14 +59,14 @@ module _ (s : State) (honest : Bool) (n m : ℕ) (small : n < m) where
   one_less : m - n ≡ suc (m - (n + 1))
   one_less = omega arith
 
-  pub next_waits : (waiting s honest n (m - n)).rest ≡ first_owner s honest n ∷ (waiting s honest (n + 1) (m - (n + 1))).rest
-  next_waits = ap (λ k. map (first_owner s honest) (range_with_len n k)) one_less
+  pub next_waits : (waiting s honest n (m - n)).rest ≡ AsOwner (first_owner s honest n) ∷ (waiting s honest (n + 1) (m - (n + 1))).rest
+  next_waits = ap (λ k. map AsOwner (map (first_owner s honest) (range_with_len n k))) one_less
 
   pub left_waits : left_of (Book (waiting s honest n (m - n))) ≡ Book (waiting s honest (n + 1) (m - (n + 1)))
   left_waits = ap (λ l. Book (record (first_book s honest) { rest = others_rest l })) next_waits
 
   pub right_waits : right_of (Book (waiting s honest n (m - n))) ≡ Owner (first_owner s honest n)
-  right_waits = ap (λ l. Owner (first_rest l)) next_waits
+  right_waits = ap first_rest next_waits
 
 -- the seat that an owner got says itself whether the far side is honest
 pub own_honest : (s : State) (honest : Bool) (n : ℕ) (v : View) → v ≡ Owner (first_owner s honest n) → v ≡ Owner (first_owner s (owner_of v).honest n)

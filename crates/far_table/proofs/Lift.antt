@@ -1,5 +1,5 @@
 -- From facts about words, the book's view and the owners' views to the rule of the table, once for all kinds of step.
-use Rattle.std.proofs.Common.{◌≡◌, ℕ, zero, suc, true, List, [], ◌∷◌, ◌++◌, map, set, sym, refl, ap, ◌∙◌, subst}
+use Rattle.std.proofs.Common.{◌≡◌, ℕ, zero, suc, List, [], ◌∷◌, ◌++◌, map, set, sym, refl, ap, ◌∙◌, subst}
 use Rattle.std.specs.Prelude.{slice_index}
 use mathlib.Core.Option.{some, some-injective, some-ne-none}
 use lib.ListN.{get_elem?}
@@ -9,11 +9,10 @@ use Rattle.atomic_table.proofs.Lists.{at_longer}
 use Rattle.far_core.specs.declared.event.Event.{Event}
 use Rattle.far_core.specs.declared.event.Reply.{Reply}
 use Rattle.far_core.specs.events.Step.{Fits}
-use Rattle.far_hand.specs.Owners.{is_owners}
+use Rattle.far_hand.specs.Makers.{ByOwner, maker}
 use Rattle.far_table.specs.View.{BookView, OwnerView, View, Book, Owner}
 use Rattle.far_table.specs.Rule.{Facts, Running}
 use Rattle.far_table.specs.Tells.{Tells, owner_of}
-use Rattle.far_table.proofs.Others.{maker}
 use Rattle.far_table.proofs.OwnSteps.{OwnStep, own_facts, own_made}
 use Rattle.far_table.proofs.Places.{set_before}
 
@@ -34,7 +33,7 @@ module _ {S : Type 0} where
   own_place s r id o e =
       let t = owner_behind r.book r.dealt id o (subst (λ l. get_elem? l id ≡ some (Owner o)) r.views e) in
       let k : ℕ = t.0 in
-      let is : k ≡ o.number = sym (r.facts.owners k o (at_longer r.dealt r.book.rest k o t.2)).number in
+      let is : k ≡ o.number = sym (r.facts.owners k o (at_longer r.dealt r.waits k o t.2)).number in
       (t.1 ∙ ap suc is, subst (λ n. get_elem? r.dealt n ≡ some o) is t.2)
 
   -- a step of an owner's seat owes the facts after it, of any words and views that meet them
@@ -45,7 +44,7 @@ module _ {S : Type 0} where
   owner_allows slots id i me o f then is asked s r wide at small =
       let p = own_place s r id o (at ∙ ap some is) in
       let k : ℕ = o.number in
-      let t = asked s.words r.book (r.dealt ++ r.book.rest) r.facts (at_longer r.dealt r.book.rest k o p.1) in
+      let t = asked s.words r.book (r.dealt ++ r.waits) r.facts (at_longer r.dealt r.waits k o p.1) in
       let w : OwnerView = t.0 in
       let x : ℕ = f (slice_index s.words i) in (
         Owner w,
@@ -54,13 +53,15 @@ module _ {S : Type 0} where
         record {
           book = r.book;
           dealt = set r.dealt k w;
+          waits = r.waits;
           views = ap (λ l. set l id (Owner w)) r.views ∙ (ap (λ j. set (Book r.book ∷ map Owner r.dealt) j (Owner w)) p.0 ∙ ap (λ l. Book r.book ∷ l) (sym (map-set Owner r.dealt k w)));
-          facts = subst (λ l. Facts (set s.words i x) r.book l) (set_before r.dealt r.book.rest k w o p.1) t.1;
+          rest = r.rest;
+          facts = subst (λ l. Facts (set s.words i x) r.book l) (set_before r.dealt r.waits k w o p.1) t.1;
         },
         t.2,
       )
 
-  module _ (slots id i : ℕ) (me : Me S View) (is : me.0 ≡ Owner (owner_of me.0)) (e : Event) (own : is_owners e ≡ true) (by : maker e ≡ (owner_of me.0).number) (fits : Fits e)
+  module _ (slots id i : ℕ) (me : Me S View) (is : me.0 ≡ Owner (owner_of me.0)) (e : Event) (by : maker e ≡ ByOwner (owner_of me.0).number) (fits : Fits e)
       (r : ℕ → Reply) (w : ℕ → OwnerView) (then : ℕ → Me S View → Type 0) where
     abbrev o : OwnerView
     o = owner_of me.0
@@ -76,8 +77,8 @@ module _ {S : Type 0} where
         let n : ℕ = slice_index ws i in
         let k = steps ws b os facts at in (
           w n,
-          own_facts ws b os facts o at e own by fits (r n) (set ws i (f n)) (w n) k,
-          tells ws b os facts at record { after_is = refl; number = k.mine.number; made = own_made ws b os facts o at e own by fits (r n) (set ws i (f n)) (w n) k },
+          own_facts ws b os facts o at e by fits (r n) (set ws i (f n)) (w n) k,
+          tells ws b os facts at record { after_is = refl; number = k.mine.number; made = own_made ws b os facts o at e by fits (r n) (set ws i (f n)) (w n) k },
         ))
 
     -- a step that reads

@@ -1,5 +1,5 @@
 -- A load is its event of the core.
-use Rattle.std.proofs.Common.{◌≡◌, ◌+◌, ◌/◌, ◌%◌, ◌<◌, ℕ, true, List, sym, refl, ap, ◌∙◌, subst, arith, Some}
+use Rattle.std.proofs.Common.{◌≡◌, ◌+◌, ◌/◌, ◌%◌, ◌<◌, ℕ, true, List, set, sym, refl, ap, ◌∙◌, subst, arith, Some}
 use Rattle.std.specs.Prelude.{slice_index, IsSome}
 use mathlib.Core.Option.{some, none}
 use lib.ListN.{get_elem?}
@@ -18,7 +18,7 @@ use Rattle.far_core.specs.world.World.{Object}
 use Rattle.far_core.proofs.Calls.{word_behind}
 use Rattle.far_core.proofs.Owing.{does}
 use Rattle.far_table.specs.View.{BookView, OwnerView, View, Owner}
-use Rattle.far_table.specs.Layout.{TABLE_WORDS, data_at, word_in}
+use Rattle.far_table.specs.Layout.{LOGS_AT, TABLE_WORDS, data_at, word_in}
 use Rattle.far_table.specs.Plays.{Loaded}
 use Rattle.far_table.specs.Rule.{Facts, Running}
 use Rattle.far_table.specs.Seats.{HasPlaces}
@@ -27,7 +27,7 @@ use Rattle.far_table.specs.Tells.{Tells, owner_of}
 use Rattle.far_table.specs.Views.{held_at, len_of, object_at, word_in_view}
 use Rattle.far_table.proofs.HeldFacts.{HeldFacts, held_facts, held_so, one_word, some_there}
 use Rattle.far_table.proofs.Lift.{owner_reads}
-use Rattle.far_table.proofs.OwnSteps.{OwnStep}
+use Rattle.far_table.proofs.OwnSteps.{OwnStep, reads}
 
 module _ (ws : List ℕ) (b : BookView) (os : List OwnerView) (f : Facts ws b os) (o : OwnerView) (at : get_elem? os o.number ≡ some o)
     (p i : ℕ) (place : Place) (own : p / CELLS ≡ o.number) (held : held_at o p ≡ Some place) (inside : i < words_for (len_of (object_at o p))) where
@@ -55,9 +55,7 @@ module _ (ws : List ℕ) (b : BookView) (os : List OwnerView) (f : Facts ws b os
   load_step = record {
     legal = legal;
     says = ap (λ a. Word (word_in ws a)) (sym behind);
-    becomes = ap (state_of ws b) (sym (set_again os o.number o at));
-    wide = f.wide;
-    jobs = f.jobs;
+    becomes = reads f s b (set os o.number o) (ap (state_of ws b) (sym (set_again os o.number o at)));
     mine = f.owners o.number o at;
   }
 
@@ -75,7 +73,7 @@ module _ {S : Type 0} (slots id : ℕ) (me : Me S View) (is : me.0 ≡ Owner (ow
 
   loads : (p i : ℕ) (place : Place) → p / CELLS ≡ view.number → held_at view p ≡ Some place → i < words_for (len_of (object_at view p)) →
       Allows Running slots id me (data_at (addr place + 1 + i)) (λ n. n) (Loaded (step slots (data_at (addr place + 1 + i)) 0 0 none) me)
-  loads p i place own held inside = owner_reads slots id (data_at (addr place + 1 + i)) me is (Load view.number p i) refl refl tt Word (λ _. view)
+  loads p i place own held inside = owner_reads slots id (data_at (addr place + 1 + i)) me is (Load view.number p i) refl tt Word (λ _. view)
       (Loaded (step slots (data_at (addr place + 1 + i)) 0 0 none) me)
       (λ ws b os f at. load_step ws b os f view at p i place own held inside)
       (λ ws b os f at t q j other own' held' inside' e.
@@ -91,15 +89,15 @@ module _ {S : Type 0} (slots id : ℕ) (me : Me S View) (is : me.0 ≡ Owner (ow
     abbrev there : (place : Place) × (held_at view p ≡ Some place)
     there = some_there (held_at view p) held
 
-    led : data_at (addr there.0 + 1 + i) ≡ a + 1200
+    led : data_at (addr there.0 + 1 + i) ≡ a + LOGS_AT
     led = let here = (has p there.0 there.1).here in omega (arith, read)
 
-    pub loads_at : (a + 1200 < TABLE_WORDS) × Allows Running slots id me (a + 1200) (λ n. n) (Loaded (step slots (a + 1200) 0 0 none) me)
+    pub loads_at : (a + LOGS_AT < TABLE_WORDS) × Allows Running slots id me (a + LOGS_AT) (λ n. n) (Loaded (step slots (a + LOGS_AT) 0 0 none) me)
     loads_at = let fits = (has p there.0 there.1).fits in let word = led in (
       omega arith,
       subst (λ z. Allows Running slots id me z (λ n. n) (Loaded (step slots z 0 0 none) me)) led (loads p i there.0 (has p there.0 there.1).own there.1 inside),
     )
 
-    pub load_told : (found : ℕ) (me' : Me S View) → Loaded (step slots (a + 1200) 0 0 none) me found me' →
+    pub load_told : (found : ℕ) (me' : Me S View) → Loaded (step slots (a + LOGS_AT) 0 0 none) me found me' →
         (view.honest ≡ true → found ≡ word_in_view (object_at view p) i) × Tells me.0 me'.0 (Load view.number p i) (Word found) view
     load_told found me' h = h p i there.0 (has p there.0 there.1).own there.1 inside (sym led)

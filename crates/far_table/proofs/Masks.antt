@@ -1,15 +1,13 @@
 -- The book's view and the words, as a beset hand has them: words found in the cells, and words of the logs that are counted on.
-use Rattle.std.proofs.Common.{◌≡◌, ◌+◌, ◌<◌, ◌≤◌, ◌^◌, ℕ, Bool, true, false, cond, nat_lt, List, Option, Some, None, sym, refl, ap, ◌∙◌, subst, arith}
+use Rattle.std.proofs.Common.{◌≡◌, ◌<◌, ◌≤◌, ◌^◌, ℕ, Bool, true, false, cond, nat_lt, List, Option, Some, None, sym, refl, ap, ◌∙◌, subst, arith}
 use Rattle.std.specs.Prelude.{is_some, ◌||◌}
-use Rattle.std.proofs.lemmas.Bool.{false≢true, cond_both, ltb-true, ltb-false, false_from_ne_true}
+use Rattle.std.proofs.lemmas.Bool.{false≢true, cond_both, ltb-true, ltb-false}
 use mathlib.Core.Path.{fun_ext}
 use Rattle.far_core.specs.state.Law.{Law}
-use Rattle.far_core.specs.state.State.{State, addr}
+use Rattle.far_core.specs.state.State.{State}
 use Rattle.far_hand.specs.Known.{IsKnown, unknown}
-use Rattle.far_hand.specs.Masked.{masked, masked_word, AllFind, CountsOnQuiet}
-use Rattle.far_hand.specs.Owners.{IsLoudAt}
-use Rattle.far_hand.proofs.Finding.{near_found}
-use Rattle.far_hand.proofs.Masking.{lies, no_header}
+use Rattle.far_hand.specs.Masked.{masked, masked_word, AllFind, CountsOnRest}
+use Rattle.far_hand.specs.Quiet.{RestsAt}
 use Rattle.far_hand.proofs.Reading.{header_known}
 use Rattle.far_hand.proofs.Reading as reading
 use Rattle.far_table.specs.View.{BookView, OwnerView}
@@ -49,10 +47,8 @@ module _ (ws : List ℕ) (b : BookView) (os : List OwnerView) (f : Facts ws b os
   pub is_masked : IsPlain b → o ≡ masked s o.cell (counts b)
   is_masked plain = λ i. record o { epoch = sym epoch_is i; word = words_are plain i }
 
-  pub counts_quiet : CountsOnQuiet s.round s.clear o.cell (counts b)
-  counts_quiet p len ds i place marks near loud lt = false_from_ne_true (counts b (addr place + 1 + i)) (λ known.
-      f.book.still (addr place + 1 + i) (ltb-true (known_word b (addr place + 1 + i)) (2 ^ 64) known)
-      record { p = p; len = len; ds = ds; place = place; marks = marks; index = i; near = near; loud = loud; inside = lt; here = refl })
+  pub rests : CountsOnRest s o.cell (counts b)
+  rests a known plain = f.book.rests a (ltb-true (known_word b a) (2 ^ 64) known) plain
 
 -- what a beset hand's view would be
 pub view_masked : (ws : List ℕ) (b : BookView) (os : List OwnerView) (counted : ℕ → Bool) → known_word b ≡ masked_word (word_in ws) (λ a. is_some (head_at b a)) counted → epoch_in ws ≡ b.epoch →
@@ -71,19 +67,15 @@ counted_known false w a h = absurd (omega arith)
 -- and back
 module _ (ws : List ℕ) (b : BookView) (os : List OwnerView) (law : Law (state_of ws b os)) (counted : ℕ → Bool)
     (words : known_word b ≡ masked_word (word_in ws) (λ a. is_some (head_at b a)) counted) (all : AllFind (over b.cells (λ _. 0)) (cell_in ws))
-    (quiet : CountsOnQuiet (book_state b).round (book_state b).clear (over b.cells (λ _. 0)) counted) (epoch : epoch_in ws ≡ b.epoch) where
+    (rest : CountsOnRest (book_state b) (over b.cells (λ _. 0)) counted) (epoch : epoch_in ws ≡ b.epoch) where
   abbrev t : State
   t = state_of ws b os
 
   word_is : (a : ℕ) → known_word b a ≡ cond (t.starts a || counted a) (t.word a) (unknown a)
   word_is a = ap (λ f. f a) words
 
-  at_rest : (a : ℕ) → IsKnown (known_word b a) → ¬ IsLoudAt (book_state b) a
-  at_rest a known x =
-      let y = near_found ((book_state b).cell x.p) (t.cell x.p) (all x.p) x.len x.ds x.place x.marks x.near in
-      let uncounted : counted a ≡ false = ap counted x.here ∙ quiet x.p x.len x.ds x.index x.place x.marks x.near x.loud x.inside in
-      let plain : t.starts a ≡ false = ap t.starts x.here ∙ no_header t law x.p x.len x.ds x.index x.place (lies t law x.p x.len x.ds x.place y.marks y.near) x.inside in
-      false≢true (sym uncounted ∙ either (t.starts a) (counted a) (counted_known (t.starts a || counted a) (t.word a) a (subst IsKnown (word_is a) known)) plain)
+  at_rest : (a : ℕ) → IsKnown (known_word b a) → t.starts a ≡ false → RestsAt (book_state b) a
+  at_rest a known plain = rest a (either (t.starts a) (counted a) (counted_known (t.starts a || counted a) (t.word a) a (subst IsKnown (word_is a) known)) plain) plain
 
   pub ties : BookTies b t
   ties = record {
@@ -93,5 +85,5 @@ module _ (ws : List ℕ) (b : BookView) (os : List OwnerView) (law : Law (state_
       headers = λ a st. sym (word_is a ∙ header_known t.word t.starts counted a st);
       rest = λ i. record t { epoch = epoch i };
     };
-    still = at_rest;
+    rests = at_rest;
   }

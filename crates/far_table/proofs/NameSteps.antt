@@ -37,20 +37,20 @@ use Rattle.far_table.specs.View.{BookView, OwnerView, View, Book}
 use Rattle.far_table.specs.BookPlays.{Named}
 use Rattle.far_table.specs.BookTells.{BookTells, cooled_by, retired_by, taken_by}
 use Rattle.far_table.specs.BookViews.{saw_view}
-use Rattle.far_table.specs.Layout.{cell_at, cell_in, epoch_in, scope_in, word_in}
+use Rattle.far_table.specs.Layout.{cell_at, cell_in, word_in}
 use Rattle.far_table.specs.NameViews.{exchange_reply, exchanged_view, form_view, formed_view, named_view, retires, span_view, view_by}
 use Rattle.far_table.specs.Rows.{over}
 use Rattle.far_table.specs.Rule.{Facts, Running}
 use Rattle.far_table.specs.Stands.{IsPlain, book_of}
-use Rattle.far_table.specs.StateOf.{book_state, cooled_at, head_at, head_or, held_by, known_word, remembered_by, retired_at, state_of, taken_at, used_by}
+use Rattle.far_table.specs.StateOf.{book_state, cooled_at, head_at, head_or, held_by, known_word, retired_at, state_of, taken_at}
 use Rattle.far_table.specs.Views.{drops, has_hot, hots, moves}
-use Rattle.far_table.proofs.BookFrames.{BookStep}
+use Rattle.far_table.proofs.BookFrames.{BookStep, cells_stay}
 use Rattle.far_table.proofs.BookKnown.{forgets, forgotten}
 use Rattle.far_table.proofs.BookLift.{book_makes}
-use Rattle.far_table.proofs.BookSees.{cell_after, cells_few, epoch_after, finds_after, found_at, jobs_after, see_step}
+use Rattle.far_table.proofs.BookSees.{cell_after, cells_few, epoch_after, finds_after, found_at, see_step}
 use Rattle.far_table.proofs.Masks.{counts, finds, is_masked, ties}
 use Rattle.far_table.proofs.NameRows.{begins_put, stored_after}
-use Rattle.far_table.proofs.OwnSteps.{state_is}
+use Rattle.far_table.proofs.OwnSteps.{led_by, reads, state_is}
 use Rattle.far_table.proofs.Words.{cell_here}
 
 -- ---- what a form leaves of the view
@@ -231,15 +231,7 @@ module _ (ws : List ℕ) (b : BookView) (os : List OwnerView) (f : Facts ws b os
   leaving len place n i lt = f.book.shown.words (addr place + 1 + i) (known len place n i lt)
 
   abbrev made : Naming → State
-  made x = record (book_state (formed_view p old new x b)) {
-    epoch = epoch_in ws;
-    scope = scope_in ws;
-    cell = put (cell_in ws) p new;
-    word = word_in ws;
-    remembered = remembered_by os;
-    used = used_by os;
-    held = held_by os;
-  }
+  made x = record (state_of ws (formed_view p old new x b) os) { cell = put (cell_in ws) p new }
 
   row_becomes : (x : Naming) → IsNaming x (read_of old) (read_of new) → (naming_row s p new x).after ≡ made x
   row_becomes (Places len ds place) n = λ i. record (made (Places len ds place)) { starts = sym (begins_put (head_at b) (addr place) (head_word p len ds)) i }
@@ -298,34 +290,26 @@ module _ (ws : List ℕ) (b : BookView) (os : List OwnerView) (f : Facts ws b os
   won_step won = let sizes = form_sizes p form b in record {
     legal = legal;
     says = sym (ap (λ t. cond t Done (Word (cell_in ws p))) (eq-eqb (cell_in ws p) old won));
-    becomes = won_state s p old new form won legal.1.1 ∙ (row_becomes form legal.1.1 ∙ state_is later b' os (cell_after ws b os f p new few) refl refl refl);
-    wide = (cell_after ws b os f p new few).wide;
-    jobs = jobs_after ws b os f p new few;
-    book = λ law. ties later b' os law (λ _. false) words_named (finds_named_too form) (counts_none (book_state b').round (book_state b').clear (book_state b').cell) (epoch_after ws b os f p new few ∙ sym sizes.3);
-    mutators = sizes.0;
-    honest = sizes.1;
-    rest = sizes.2;
-    scopes = (cell_after ws b os f p new few).scope_is;
-    counts = counts_named won;
-    warm = warm_named won;
-    told = told_named;
+    becomes = led_by (won_state s p old new form won legal.1.1 ∙ row_becomes form legal.1.1) (state_is later b' os (cell_after ws b os f p new few) refl refl refl);
+    book = λ law. ties later b' os law (λ _. false) words_named (finds_named_too form) (counts_none (book_state b') (book_state b').cell) (epoch_after ws b os f p new few ∙ sym sizes.3);
+    leaves = record {
+      mutators = sizes.0;
+      honest = sizes.1;
+      rest = sizes.2;
+      scopes = (cell_after ws b os f p new few).scope_is;
+      counts = counts_named won;
+      warm = warm_named won;
+      told = told_named;
+    };
   }
 
   lost_step : cell_in ws p ≢ old → BookStep ws b os (Name p old new) (Word (cell_in ws p)) ws (saw_view p (cell_in ws p) b)
   lost_step ne = let seen = see_step ws b os f plain p h.0 in record {
     legal = legal;
     says = sym (ap (λ t. cond t Done (Word (cell_in ws p))) (ne_eqb (cell_in ws p) old ne));
-    becomes = lost_state s p old new ne;
-    wide = f.wide;
-    jobs = f.jobs;
+    becomes = reads f (after s (Name p old new)) (saw_view p (cell_in ws p) b) os (lost_state s p old new ne);
     book = seen.book;
-    mutators = refl;
-    honest = refl;
-    rest = refl;
-    scopes = refl;
-    counts = λ _. (refl, refl, refl);
-    warm = λ _ _. refl;
-    told = λ _. (refl, refl, refl);
+    leaves = cells_stay refl refl refl (λ _ _. (refl, refl, refl));
   }
 
   by_test : (t : Bool) → (cell_in ws p == old) ≡ t →

@@ -22,7 +22,7 @@ module _ (ws : List ℕ) (b : BookView) (os : List OwnerView) (f : Facts ws b os
   w = noted_view p n o
 
   same : state_of ws b os ≡ state_of ws b (set os o.number w)
-  same = state_is ws b (set os o.number w) (no_word ws f.wide) (remembered_same os o.number o w at refl) (pointers_same os o.number o w at uses refl) (pointers_same os o.number o w at held_at refl)
+  same = (state_is ws b (set os o.number w) (no_word ws f.wide) (remembered_same os o.number o w at refl) (pointers_same os o.number o w at uses refl) (pointers_same os o.number o w at held_at refl)).is
 
   mine : OwnerTies b (state_of ws b os) o.number w
   mine = let ties = f.owners o.number o at in record {

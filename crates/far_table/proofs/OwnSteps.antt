@@ -1,6 +1,6 @@
 -- A step of an owner's seat that is an event of the core keeps the rule: once for all kinds of step.
 use Rattle.std.specs.Prelude.{IsSome}
-use Rattle.std.proofs.Common.{◌≡◌, ◌≢◌, ◌+◌, ◌/◌, ◌<◌, ℕ, Bool, true, List, length, set, sym, ap, ◌∙◌, subst, ⊎_elim, Option, get_or-set_other}
+use Rattle.std.proofs.Common.{◌≡◌, ◌≢◌, ◌+◌, ◌/◌, ◌<◌, ℕ, Bool, true, List, length, set, refl, sym, ap, ◌∙◌, subst, ⊎_elim, Option}
 use mathlib.Core.Option.{some}
 use lib.ListN.{get_elem?, length-set}
 use Rattle.atomic_table.proofs.Lists.{at_set}
@@ -16,32 +16,51 @@ use Rattle.far_core.specs.state.State.{State}
 use Rattle.far_core.specs.world.WorldOf.{world_of}
 use Rattle.far_core.proofs.Owing.{keeps}
 use Rattle.far_core.proofs.Steps.{agrees}
-use Rattle.far_hand.specs.Owners.{is_owners}
+use Rattle.far_hand.specs.Makers.{ByOwner, is_owner, maker}
 use Rattle.far_hand.proofs.OwnersWork.{change}
 use Rattle.far_table.specs.View.{BookView, ObjectView, OwnerView}
-use Rattle.far_table.specs.Layout.{TABLE_WORDS, JOBS, job_at, job_in}
+use Rattle.far_table.specs.Layout.{TABLE_WORDS, job_in}
 use Rattle.far_table.specs.Rule.{BookTies, Facts, Has, OwnerTies}
 use Rattle.far_table.specs.StateOf.{book_state, cooled_at, held_by, remembered_by, retired_at, state_of, taken_at, used_by}
 use Rattle.far_table.specs.Tells.{OwnerMade, OwnerMayBe}
 use Rattle.far_table.specs.Views.{asked_at, dropped_at, drops, heated_at, held_at, hots, moves, object_at, pinned_at}
 use Rattle.far_table.proofs.BookKept.{book_on}
-use Rattle.far_table.proofs.Others.{KeepsOthers, keeps_others, maker}
+use Rattle.far_table.proofs.Others.{KeepsBy, KeepsOthers, keeps_others}
 use Rattle.far_table.proofs.Places.{below}
 use Rattle.far_table.proofs.Words.{WordsAre}
 
 -- ---- the state that words and views are, by its parts
-pub state_is : (ws : List ℕ) (b : BookView) (os : List OwnerView) {epoch : ℕ} {scope cell word : ℕ → ℕ} {remembered : ℕ → Option ℕ} {used : ℕ → Bool} {held : ℕ → Option Place} →
-    WordsAre ws epoch scope cell word → remembered_by os ≡ remembered → used_by os ≡ used → held_by os ≡ held →
-    record (book_state b) { epoch = epoch; scope = scope; cell = cell; word = word; remembered = remembered; used = used; held = held } ≡ state_of ws b os
-state_is ws b os words r u h = λ i. record (book_state b) {
-  epoch = sym words.epoch_is i;
-  scope = sym words.scope_is i;
-  cell = sym words.cell_is i;
-  word = sym words.word_is i;
-  remembered = sym r i;
-  used = sym u i;
-  held = sym h i;
+-- words and views are this state, and the words of the copiers' jobs these
+pub record Leads (s : State) (job : ℕ → ℕ) (ws : List ℕ) (b : BookView) (os : List OwnerView) : Type 0 where
+  pub is : s ≡ state_of ws b os
+  pub jobs : job_in ws ≡ job
+  pub wide : length ws ≡ TABLE_WORDS
+
+pub state_is : (ws : List ℕ) (b : BookView) (os : List OwnerView) {epoch : ℕ} {scope cell word job : ℕ → ℕ} {remembered : ℕ → Option ℕ} {used : ℕ → Bool} {held : ℕ → Option Place} →
+    WordsAre ws epoch scope cell word job → remembered_by os ≡ remembered → used_by os ≡ used → held_by os ≡ held →
+    Leads (record (book_state b) { epoch = epoch; scope = scope; cell = cell; word = word; remembered = remembered; used = used; held = held }) job ws b os
+state_is ws b os words r u h = record {
+  is = λ i. record (book_state b) {
+    epoch = sym words.epoch_is i;
+    scope = sym words.scope_is i;
+    cell = sym words.cell_is i;
+    word = sym words.word_is i;
+    remembered = sym r i;
+    used = sym u i;
+    held = sym h i;
+  };
+  jobs = words.job_is;
+  wide = words.wide;
 }
+
+-- the same of a state that is this one
+pub led_by : {s t : State} {job : ℕ → ℕ} {ws : List ℕ} {b : BookView} {os : List OwnerView} → s ≡ t → Leads t job ws b os → Leads s job ws b os
+led_by same leads = record { is = same ∙ leads.is; jobs = leads.jobs; wide = leads.wide }
+
+-- no word changes
+pub reads : {ws : List ℕ} {b : BookView} {os : List OwnerView} → Facts ws b os → (s : State) (b' : BookView) (later : List OwnerView) → s ≡ state_of ws b' later →
+    Leads s (job_in ws) ws b' later
+reads f s b' later is = record { is = is; jobs = refl; wide = f.wide }
 
 -- ---- ties of an owner that go on
 pub has_on : (s t : State) (p : ℕ) (x : ObjectView) → (world_of t).object p ≡ (world_of s).object p → t.honest ≡ s.honest → Has s p x → Has t p x
@@ -83,20 +102,15 @@ module _ (ws : List ℕ) (b : BookView) (os : List OwnerView) (f : Facts ws b os
   pub is_mutator : (m : ℕ) (o : OwnerView) → get_elem? os m ≡ some o → m < b.mutators
   is_mutator m o at = subst (λ n. m < n) f.many (below os m o at)
 
-  pub jobs_stay : (i x : ℕ) → ((j : ℕ) → j < JOBS → job_at j ≢ i) → (j : ℕ) → j < JOBS → job_in (set ws i x) j ≡ 0
-  jobs_stay i x apart j small = get_or-set_other ws i (job_at j) x 0 (apart j small) ∙ f.jobs j small
-
 -- what a kind of step owes: its event is legal, with this answer; the words and views after are the core's state; and the owner's own ties
 pub record OwnStep (ws : List ℕ) (b : BookView) (os : List OwnerView) (o : OwnerView) (e : Event) (r : Reply) (later : List ℕ) (w : OwnerView) : Type 0 where
   pub legal : Legal (state_of ws b os) e
   pub says : r ≡ answer (state_of ws b os) e
-  pub becomes : after (state_of ws b os) e ≡ state_of later b (set os o.number w)
-  pub wide : length later ≡ TABLE_WORDS
-  pub jobs : (j : ℕ) → j < JOBS → job_in later j ≡ 0
+  pub becomes : Leads (after (state_of ws b os) e) (job_in ws) later b (set os o.number w)
   pub mine : OwnerTies b (after (state_of ws b os) e) o.number w
 
 module _ (ws : List ℕ) (b : BookView) (os : List OwnerView) (f : Facts ws b os) (o : OwnerView) (at : get_elem? os o.number ≡ some o)
-    (e : Event) (own : is_owners e ≡ true) (by : maker e ≡ o.number) (fits : Fits e) (r : Reply) (later : List ℕ) (w : OwnerView) (k : OwnStep ws b os o e r later w) where
+    (e : Event) (by : maker e ≡ ByOwner o.number) (fits : Fits e) (r : Reply) (later : List ℕ) (w : OwnerView) (k : OwnStep ws b os o e r later w) where
   abbrev s : State
   s = state_of ws b os
 
@@ -104,7 +118,7 @@ module _ (ws : List ℕ) (b : BookView) (os : List OwnerView) (f : Facts ws b os
   t = after s e
 
   others : KeepsOthers s t o.number
-  others = subst (KeepsOthers s t) by (keeps_others s e own f.law fits k.legal)
+  others = subst (λ k. KeepsBy k s t) by (keeps_others s e f.law fits k.legal)
 
   each : (j : ℕ) (y : OwnerView) → get_elem? (set os o.number w) j ≡ some y → OwnerTies b t j y
   each j y h = ⊎_elim
@@ -113,17 +127,17 @@ module _ (ws : List ℕ) (b : BookView) (os : List OwnerView) (f : Facts ws b os
       (at_set os o.number j w y h)
 
   law : Law (state_of later b (set os o.number w))
-  law = subst Law k.becomes (keeps s e f.law fits k.legal)
+  law = subst Law k.becomes.is (keeps s e f.law fits k.legal)
 
   pub own_facts : Facts later b (set os o.number w)
   own_facts = record {
     law = law;
     agrees = agrees _ law;
-    book = subst (BookTies b) k.becomes (book_on b s t f.law f.book (change s e f.law own k.legal));
-    owners = λ j y h. subst (λ (z : State). OwnerTies b z j y) k.becomes (each j y h);
+    book = subst (BookTies b) k.becomes.is (book_on b s t f.law f.book (change s e f.law (ap is_owner by) k.legal));
+    owners = λ j y h. subst (λ (z : State). OwnerTies b z j y) k.becomes.is (each j y h);
     many = length-set os o.number w ∙ f.many;
-    wide = k.wide;
-    jobs = k.jobs;
+    wide = k.becomes.wide;
+    jobs = k.becomes.jobs ∙ f.jobs;
   }
 
   pub own_made : OwnerMade e o r w
@@ -136,6 +150,6 @@ module _ (ws : List ℕ) (b : BookView) (os : List OwnerView) (f : Facts ws b os
     legal = k.legal;
     says = k.says;
     later = later;
-    becomes = k.becomes;
+    becomes = k.becomes.is;
     keeps = own_facts;
   }

@@ -18,7 +18,7 @@ use Rattle.far_core.specs.events.Open.{scope_word_of}
 use Rattle.far_core.specs.events.Owners.{IsClosed, IsOpen}
 use Rattle.far_core.specs.events.Step.{Fits, after}
 use Rattle.far_core.specs.state.State.{State}
-use Rattle.far_hand.specs.Owners.{is_owners}
+use Rattle.far_hand.specs.Makers.{ByOwner, is_owners, maker}
 use Rattle.far_table.specs.BookSeats.{MayBe}
 use Rattle.far_table.specs.Rule.{Facts}
 use Rattle.far_table.specs.StateOf.{state_of}
@@ -27,7 +27,6 @@ use Rattle.far_table.specs.Views.{held_at, len_of, nobody, object_at, owner_at, 
 use Rattle.far_table.proofs.AdoptSteps.{adopt_step}
 use Rattle.far_table.proofs.AskSteps.{ask_step}
 use Rattle.far_table.proofs.HeldFacts.{held_facts, held_so}
-use Rattle.far_table.proofs.Others.{maker}
 use Rattle.far_table.proofs.Owners.{known_by, own_is}
 use Rattle.far_table.proofs.OwnSteps.{OwnStep, own_facts}
 use Rattle.far_table.proofs.PinSteps.{pin_step}
@@ -55,9 +54,9 @@ module _ (ws : List ℕ) (b : BookView) (os : List OwnerView) (f : Facts ws b os
   abbrev s : State
   s = state_of ws b os
 
-  acts : (o : OwnerView) (at : get_elem? os o.number ≡ some o) (e : Event) → is_owners e ≡ true → maker e ≡ o.number → Fits e → (r : Reply) (later : List ℕ) (w : OwnerView) →
+  acts : (o : OwnerView) (at : get_elem? os o.number ≡ some o) (e : Event) → maker e ≡ ByOwner o.number → Fits e → (r : Reply) (later : List ℕ) (w : OwnerView) →
       OwnStep ws b os o e r later w → MayBe b (after s e)
-  acts o at e own by fits r later w k = record { words = later; owners = set os o.number w; facts = own_facts ws b os f o at e own by fits r later w k; is = k.becomes }
+  acts o at e by fits r later w k = record { words = later; owners = set os o.number w; facts = own_facts ws b os f o at e by fits r later w k; is = k.becomes.is }
 
   -- an event of the owner of a number is one of its view's
   by_owner : (e : ℕ → Event) → ((o : OwnerView) → get_elem? os o.number ≡ some o → Legal s (e o.number) → MayBe b (after s (e o.number))) → (m : ℕ) → m < b.mutators →
@@ -85,25 +84,25 @@ module _ (ws : List ℕ) (b : BookView) (os : List OwnerView) (f : Facts ws b os
     held p x own h = sym (held_so ws b os f o at p own) ∙ h
 
     reads : Legal s (ReadEpoch o.number) → MayBe b (after s (ReadEpoch o.number))
-    reads h = acts o at (ReadEpoch o.number) refl refl tt _ _ _ (read_epoch_step ws b os f o at (shut h))
+    reads h = acts o at (ReadEpoch o.number) refl tt _ _ _ (read_epoch_step ws b os f o at (shut h))
 
     opens : Legal s (Open o.number) → MayBe b (after s (Open o.number))
-    opens h = acts o at (Open o.number) refl refl tt _ _ _
+    opens h = acts o at (Open o.number) refl tt _ _ _
         (open_step ws b os f o at (scope_word_of o.epoch) (shut h.0) (subst (λ (y : OwnerView). IsSome y.epoch) (own_is os o.number o o at) h.1) refl)
 
     closes : Legal s (Close o.number) → MayBe b (after s (Close o.number))
-    closes h = acts o at (Close o.number) refl refl tt _ _ _ (close_step ws b os f o at (opened h))
+    closes h = acts o at (Close o.number) refl tt _ _ _ (close_step ws b os f o at (opened h))
 
     pins : (p : ℕ) → Legal s (Pin o.number p) → MayBe b (after s (Pin o.number p))
-    pins p h = acts o at (Pin o.number p) refl refl tt _ _ _
+    pins p h = acts o at (Pin o.number p) refl tt _ _ _
         (pin_step ws b os f o at p (small p h.1) h.1 (used p true h.1 h.2) (held p None h.1 h.3) (opened h.0))
 
     adopts : (p : ℕ) → Legal s (Adopt o.number p) → MayBe b (after s (Adopt o.number p))
-    adopts p h = acts o at (Adopt o.number p) refl refl tt _ _ _
+    adopts p h = acts o at (Adopt o.number p) refl tt _ _ _
         (adopt_step ws b os f o at p (small p h.1) h.1 (unused_by (object_at o p) (used p false h.1 h.2)) h.3)
 
     asks : (p : ℕ) (k : Mark) → Legal s (Ask o.number p k) → MayBe b (after s (Ask o.number p k))
-    asks p k h = acts o at (Ask o.number p k) refl refl tt _ _ _
+    asks p k h = acts o at (Ask o.number p k) refl tt _ _ _
         (ask_step ws b os f o at p (small p h.2) h.2 (used p true h.2 h.3) (held p None h.2 h.4) k h.0)
 
     stores : (p i v : ℕ) → v < 2 ^ 64 → Legal s (Store o.number p i v) → MayBe b (after s (Store o.number p i v))
@@ -114,7 +113,7 @@ module _ (ws : List ℕ) (b : BookView) (os : List OwnerView) (f : Facts ws b os
         let cell : Some (Near x.len x.ds place x.marks) ≡ Some (Near len near.0 place near.1) = sym x.near ∙ near.2 in
         let lens : x.len ≡ len = cc in
         let long : len ≡ len_of (object_at o p) = sym (ap len_of x.used ∙ (x.long ∙ lens)) in
-        acts o at (Store o.number p i v) refl refl word _ _ _
+        acts o at (Store o.number p i v) refl word _ _ _
         (store_step ws b os f o at p i v place holds.own at_place (subst (λ n. i < words_for n) long inside) word (subst (λ n. v < 2 ^ (8 * (n - 8 * i))) long padded))
 
   -- who holds a place is one of the owners

@@ -39,7 +39,7 @@ use Rattle.far_table.proofs.HeldFacts.{may_hold, near_facts}
 use Rattle.far_table.proofs.Lift.{owner_makes}
 use Rattle.far_table.proofs.Others.{pin_objects}
 use Rattle.far_table.proofs.Owners.{known_by, pointers_put, pointers_same, remembered_same}
-use Rattle.far_table.proofs.OwnSteps.{OwnStep, jobs_stay, mine_on, state_is}
+use Rattle.far_table.proofs.OwnSteps.{OwnStep, mine_on, state_is}
 use Rattle.far_table.proofs.Steps.{open_so}
 use Rattle.far_table.proofs.Words.{cell_here, cell_word_set}
 
@@ -155,8 +155,6 @@ module _ (ws : List ℕ) (b : BookView) (os : List OwnerView) (f : Facts ws b os
         becomes = state_is (set ws (cell_at p) hot) b (set os m w) (cell_word_set ws f.wide p hot small)
             (remembered_same os m o w at (placed_same (λ y. y.epoch) p warm (λ _. refl) x))
             (pointers_same os m o w at uses (placed_same uses p warm (λ _. refl) x)) (held_after x);
-        wide = (cell_word_set ws f.wide p hot small).wide;
-        jobs = jobs_stay ws b os f (cell_at p) hot (λ j l e. let low = small in omega arith);
         mine = mine_on b s (after s (Pin m p)) m o w (f.owners m o at) (placed_same (λ y. y.number) p warm (λ _. refl) x) (placed_same (λ y. y.honest) p warm (λ _. refl) x) refl
             ((f.owners m o at).scope ∙ ap scope_word_of (sym opens)) (placed_same object_at p warm (λ _. refl) x) (placed_same asked_at p warm (λ _. refl) x) (placed_same dropped_at p warm (λ _. refl) x)
             (pin_objects c x m p _ _ (does s (Pin m p) f.law tt legal)) marks_after (λ q mine. ap (λ g. g q) (placed_same heated_at p warm (λ _. refl) x) ∙ heats_after q mine)
@@ -182,7 +180,7 @@ module _ {S : Type 0} (slots id : ℕ) (me : Me S View) (is : me.0 ≡ Owner (ow
 
   pins_hot : (p : ℕ) → p < POINTERS → p / CELLS ≡ view.number → uses view p ≡ true → held_at view p ≡ None → IsSome view.open_at →
       Allows Running slots id me (cell_at p) (λ n. bit_or n (2 ^ position Hot)) (Pinned (step slots (cell_at p) (2 ^ position Hot) 0 none) me)
-  pins_hot p small own used free opened = owner_makes slots id (cell_at p) me is (Pin view.number p) refl refl tt (λ n. pin_answer n (place_to_view (read_of n))) (λ n. pinned_view p n view)
+  pins_hot p small own used free opened = owner_makes slots id (cell_at p) me is (Pin view.number p) refl tt (λ n. pin_answer n (place_to_view (read_of n))) (λ n. pinned_view p n view)
       (Pinned (step slots (cell_at p) (2 ^ position Hot) 0 none) me) (λ n. bit_or n (2 ^ position Hot))
       (λ ws b os f at. pin_found ws b os f view at p small own used free opened)
       (λ ws b os f at t. (

@@ -16,7 +16,7 @@ use Rattle.far_core.specs.world.World.{World}
 use Rattle.far_core.proofs.Owing.{does}
 use Rattle.far_core.proofs.Put.{put_same}
 use Rattle.far_table.specs.View.{BookView, OwnerView, View, Owner}
-use Rattle.far_table.specs.Layout.{EPOCH_AT, scope_at, epoch_in, scope_in, cell_in, word_in}
+use Rattle.far_table.specs.Layout.{EPOCH_AT, scope_at, epoch_in, scope_in, cell_in, job_in, word_in}
 use Rattle.far_table.specs.Plays.{EpochRead, Opened, Closed}
 use Rattle.far_table.specs.Rule.{Facts, Running}
 use Rattle.far_table.specs.StateOf.{held_by, remembered_by, state_of}
@@ -24,7 +24,7 @@ use Rattle.far_table.specs.Tells.{owner_of}
 use Rattle.far_table.specs.Views.{closed_view, held_at, opened_view, read_view, uses}
 use Rattle.far_table.proofs.Lift.{owner_makes, owner_reads}
 use Rattle.far_table.proofs.Owners.{own_is, pointers_same, pointers_set, remembered_same, remembered_set}
-use Rattle.far_table.proofs.OwnSteps.{OwnStep, is_mutator, jobs_stay, mine_on, state_is}
+use Rattle.far_table.proofs.OwnSteps.{OwnStep, is_mutator, mine_on, state_is}
 use Rattle.far_table.proofs.Words.{WordsAre, no_word, scope_word_set}
 
 open_word : (x : Option ℕ) → IsSome x → scope_word_of x ≢ 0
@@ -49,8 +49,6 @@ module _ (ws : List ℕ) (b : BookView) (os : List OwnerView) (f : Facts ws b os
     legal = legal;
     says = refl;
     becomes = state_is ws b (set os m w) (no_word ws f.wide) (remembered_set os m o w at) (pointers_same os m o w at uses refl) (pointers_same os m o w at held_at refl);
-    wide = f.wide;
-    jobs = f.jobs;
     mine = mine_on b (state_of ws b os) (after (state_of ws b os) (ReadEpoch m)) m o w (f.owners m o at) refl refl refl (f.owners m o at).scope refl refl refl
         (ap (λ (z : World). z.object) (does (state_of ws b os) (ReadEpoch m) f.law tt legal)) (λ _. (refl, refl)) (f.owners m o at).hots (f.owners m o at).warm;
   }
@@ -63,10 +61,8 @@ module _ (ws : List ℕ) (b : BookView) (os : List OwnerView) (f : Facts ws b os
       let legal : Legal (state_of ws b os) (Open m) = (closed_so shut, subst IsSome (sym known) read) in record {
         legal = legal;
         says = refl;
-        becomes = state_is (set ws (scope_at m) x) b (set os m w) (subst (λ v. WordsAre (set ws (scope_at m) x) (epoch_in ws) (put (scope_in ws) m v) (cell_in ws) (word_in ws)) word (scope_word_set ws f.wide m x few))
+        becomes = state_is (set ws (scope_at m) x) b (set os m w) (subst (λ v. WordsAre (set ws (scope_at m) x) (epoch_in ws) (put (scope_in ws) m v) (cell_in ws) (word_in ws) (job_in ws)) word (scope_word_set ws f.wide m x few))
             (remembered_same os m o w at refl) (pointers_same os m o w at uses refl) (pointers_same os m o w at held_at refl);
-        wide = (scope_word_set ws f.wide m x few).wide;
-        jobs = jobs_stay ws b os f (scope_at m) x (λ j l e. let small = few in omega arith);
         mine = mine_on b (state_of ws b os) (after (state_of ws b os) (Open m)) m o w (f.owners m o at) refl refl refl
             (put_same (scope_in ws) m (scope_word_of (remembered_by os m)) m refl ∙ ap scope_word_of known) refl refl refl
             (ap (λ (z : World). z.object) (does (state_of ws b os) (Open m) f.law tt legal).after) (λ _. (refl, refl)) (f.owners m o at).hots (f.owners m o at).warm;
@@ -79,8 +75,6 @@ module _ (ws : List ℕ) (b : BookView) (os : List OwnerView) (f : Facts ws b os
     becomes = state_is (set ws (scope_at m) 0) b (set os m w) (scope_word_set ws f.wide m 0 few) (remembered_set os m o w at) (pointers_same os m o w at uses refl)
         (pointers_set os m o w at held_at (λ p. cond (p / CELLS == m) None (held_by os p))
         (λ p e. sym (ap (λ t. cond t None (held_by os p)) (eq-eqb (p / CELLS) m e))) (λ p ne. sym (ap (λ t. cond t None (held_by os p)) (ne_eqb (p / CELLS) m ne))));
-    wide = (scope_word_set ws f.wide m 0 few).wide;
-    jobs = jobs_stay ws b os f (scope_at m) 0 (λ j l e. let small = few in omega arith);
     mine = mine_on b (state_of ws b os) (after (state_of ws b os) (Close m)) m o w (f.owners m o at) refl refl refl (put_same (scope_in ws) m 0 m refl) refl refl refl
         (ap (λ (z : World). z.object) (does (state_of ws b os) (Close m) f.law tt legal).after) (λ _. (refl, refl)) (f.owners m o at).hots
         (λ p own pinned. absurd (false≢true pinned));
@@ -91,16 +85,16 @@ module _ {S : Type 0} (slots id : ℕ) (me : Me S View) (is : me.0 ≡ Owner (ow
   own = owner_of me.0
 
   pub reads_epoch : own.open_at ≡ None → Allows Running slots id me EPOCH_AT (λ n. n) (EpochRead (step slots EPOCH_AT 0 0 none) me)
-  reads_epoch shut = owner_reads slots id EPOCH_AT me is (ReadEpoch own.number) refl refl tt Epoch (λ n. read_view n own) (EpochRead (step slots EPOCH_AT 0 0 none) me)
+  reads_epoch shut = owner_reads slots id EPOCH_AT me is (ReadEpoch own.number) refl tt Epoch (λ n. read_view n own) (EpochRead (step slots EPOCH_AT 0 0 none) me)
       (λ ws b os f at. read_epoch_step ws b os f own at shut) (λ ws b os f at t. (f.law.scopes.epoch_below, t))
 
   pub opens : (m x : ℕ) → own.number ≡ m → own.open_at ≡ None → IsSome own.epoch → x ≡ scope_word_of own.epoch →
       Allows Running slots id me (scope_at m) (λ _. x) (λ _. Opened (step slots (scope_at m) x 0 none) me x)
   opens m x same shut read new = subst (λ z. Allows Running slots id me (scope_at z) (λ _. x) (λ _. Opened (step slots (scope_at z) x 0 none) me x)) same
-      (owner_makes slots id (scope_at own.number) me is (Open own.number) refl refl tt (λ _. Done) (λ _. opened_view own) (λ _. Opened (step slots (scope_at own.number) x 0 none) me x) (λ _. x)
+      (owner_makes slots id (scope_at own.number) me is (Open own.number) refl tt (λ _. Done) (λ _. opened_view own) (λ _. Opened (step slots (scope_at own.number) x 0 none) me x) (λ _. x)
       (λ ws b os f at. open_step ws b os f own at x shut read new) (λ ws b os f at t. t))
 
   pub closes : (m : ℕ) → own.number ≡ m → IsSome own.open_at → Allows Running slots id me (scope_at m) (λ _. 0) (λ _. Closed (step slots (scope_at m) 0 0 none) me 0)
   closes m same opened = subst (λ z. Allows Running slots id me (scope_at z) (λ _. 0) (λ _. Closed (step slots (scope_at z) 0 0 none) me 0)) same
-      (owner_makes slots id (scope_at own.number) me is (Close own.number) refl refl tt (λ _. Done) (λ _. closed_view own) (λ _. Closed (step slots (scope_at own.number) 0 0 none) me 0) (λ _. 0)
+      (owner_makes slots id (scope_at own.number) me is (Close own.number) refl tt (λ _. Done) (λ _. closed_view own) (λ _. Closed (step slots (scope_at own.number) 0 0 none) me 0) (λ _. 0)
       (λ ws b os f at. close_step ws b os f own at opened) (λ ws b os f at t. t))

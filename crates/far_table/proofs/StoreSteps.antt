@@ -24,7 +24,7 @@ use Rattle.far_core.proofs.ObjectFacts.{object_agrees}
 use Rattle.far_core.proofs.Owing.{does, keeps}
 use Rattle.far_core.proofs.Put.{put_both, put_other, put_same}
 use Rattle.far_table.specs.View.{BookView, ObjectView, OwnerView, View, Owner}
-use Rattle.far_table.specs.Layout.{TABLE_WORDS, data_at, epoch_in, scope_in, cell_in, word_in}
+use Rattle.far_table.specs.Layout.{LOGS_AT, TABLE_WORDS, data_at, epoch_in, scope_in, cell_in, job_in, word_in}
 use Rattle.far_table.specs.Plays.{Stored}
 use Rattle.far_table.specs.Rule.{Facts, Has, Running}
 use Rattle.far_table.specs.Seats.{HasPlaces}
@@ -34,7 +34,7 @@ use Rattle.far_table.specs.Views.{held_at, len_of, object_at, stored_view, uses,
 use Rattle.far_table.proofs.HeldFacts.{HeldFacts, held_facts, held_so, one_word, some_there}
 use Rattle.far_table.proofs.Lift.{owner_makes}
 use Rattle.far_table.proofs.Owners.{pointers_same, remembered_same}
-use Rattle.far_table.proofs.OwnSteps.{OwnStep, has_on, jobs_stay, state_is}
+use Rattle.far_table.proofs.OwnSteps.{OwnStep, has_on, state_is}
 use Rattle.far_table.proofs.Words.{WordsAre, data_word_set}
 
 with_word_used : (i v : ℕ) (x : Option ObjectView) → is_some (with_word i v x) ≡ is_some x
@@ -117,13 +117,11 @@ module _ (ws : List ℕ) (b : BookView) (os : List OwnerView) (f : Facts ws b os
       let words = data_word_set ws f.wide a v (omega arith) in record {
         legal = legal;
         says = refl;
-        becomes = state_is (set ws (data_at a) v) b (set os m w) (subst (λ k. WordsAre (set ws (data_at a) v) (epoch_in ws) (scope_in ws) (cell_in ws) (put (word_in ws) k v)) (sym behind) words)
+        becomes = state_is (set ws (data_at a) v) b (set os m w) (subst (λ k. WordsAre (set ws (data_at a) v) (epoch_in ws) (scope_in ws) (cell_in ws) (put (word_in ws) k v) (job_in ws)) (sym behind) words)
             (remembered_same os m o w at refl)
             (pointers_same os m o w at uses (fun_ext (λ q. put_both (λ (y : Option ObjectView). is_some y ≡ uses o q) (object_at o) p (with_word i v (object_at o p)) q
             (λ e. with_word_used i v (object_at o p) ∙ ap (uses o) (sym e)) (λ _. refl))))
             (pointers_same os m o w at held_at refl);
-        wide = words.wide;
-        jobs = jobs_stay ws b os f (data_at a) v (λ j l e. omega arith);
         mine = record {
           number = ties.number;
           honest = ties.honest;
@@ -147,7 +145,7 @@ module _ {S : Type 0} (slots id : ℕ) (me : Me S View) (is : me.0 ≡ Owner (ow
   stores : (p i v : ℕ) (place : Place) → p / CELLS ≡ view.number → held_at view p ≡ Some place → i < words_for (len_of (object_at view p)) → v < 2 ^ 64 →
       v < 2 ^ (8 * (len_of (object_at view p) - 8 * i)) →
       Allows Running slots id me (data_at (addr place + 1 + i)) (λ _. v) (λ _. Stored (step slots (data_at (addr place + 1 + i)) v 0 none) me v)
-  stores p i v place own held inside word padded = owner_makes slots id (data_at (addr place + 1 + i)) me is (Store view.number p i v) refl refl word (λ _. Done) (λ _. stored_view p i v view)
+  stores p i v place own held inside word padded = owner_makes slots id (data_at (addr place + 1 + i)) me is (Store view.number p i v) refl word (λ _. Done) (λ _. stored_view p i v view)
       (λ _. Stored (step slots (data_at (addr place + 1 + i)) v 0 none) me v) (λ _. v)
       (λ ws b os f at. store_step ws b os f view at p i v place own held inside word padded)
       (λ ws b os f at t q j other own' held' inside' e.
@@ -161,14 +159,14 @@ module _ {S : Type 0} (slots id : ℕ) (me : Me S View) (is : me.0 ≡ Owner (ow
     abbrev there : (place : Place) × (held_at view p ≡ Some place)
     there = some_there (held_at view p) held
 
-    led : data_at (addr there.0 + 1 + i) ≡ a + 1200
+    led : data_at (addr there.0 + 1 + i) ≡ a + LOGS_AT
     led = let here = (has p there.0 there.1).here in omega (arith, read)
 
-    pub stores_at : (a + 1200 < TABLE_WORDS) × Allows Running slots id me (a + 1200) (λ _. v) (λ _. Stored (step slots (a + 1200) v 0 none) me v)
+    pub stores_at : (a + LOGS_AT < TABLE_WORDS) × Allows Running slots id me (a + LOGS_AT) (λ _. v) (λ _. Stored (step slots (a + LOGS_AT) v 0 none) me v)
     stores_at = let fits = (has p there.0 there.1).fits in let at = led in (
       omega arith,
       subst (λ z. Allows Running slots id me z (λ _. v) (λ _. Stored (step slots z v 0 none) me v)) led (stores p i v there.0 (has p there.0 there.1).own there.1 inside word padded),
     )
 
-    pub store_told : (me' : Me S View) → Stored (step slots (a + 1200) v 0 none) me v me' → Tells me.0 me'.0 (Store view.number p i v) Done (stored_view p i v view)
+    pub store_told : (me' : Me S View) → Stored (step slots (a + LOGS_AT) v 0 none) me v me' → Tells me.0 me'.0 (Store view.number p i v) Done (stored_view p i v view)
     store_told me' h = h p i there.0 (has p there.0 there.1).own there.1 inside (sym led)

@@ -6,7 +6,7 @@ use Rattle.std.proofs.lemmas.Bool.{eq-eqb, le-ltb, lt-ltb}
 use Rattle.std.proofs.lemmas.List.FromFn.{get_or-map-range_with_len, length-map-range_with_len, map-range_with_len_more}
 use Rattle.far_core.specs.state.State.{State}
 use Rattle.far_table.specs.First.{IsTableOf}
-use Rattle.far_table.specs.Layout.{EPOCH_AT, TABLE_WORDS, cell_at, data_at, job_at, scope_at}
+use Rattle.far_table.specs.Layout.{EPOCH_AT, LINE, TABLE_WORDS, cell_at, data_at, job_at, scope_at}
 use Rattle.far_table.specs.Tabled.{line_word, table_word}
 
 -- a list that is filled from its first member on, with one member more
@@ -39,7 +39,7 @@ module _ (s : State) where
 
   scope_here : (m : ℕ) → line_word s.scope (scope_at m - scope_at 0) ≡ s.scope m
   scope_here m = let past : ℕ = scope_at m - scope_at 0 in
-      ap (λ t. cond t (s.scope (past / 16)) 0) (eq-eqb (past % 16) 0 (omega arith)) ∙ ap s.scope (omega arith)
+      ap (λ t. cond t (s.scope (past / LINE)) 0) (eq-eqb (past % LINE) 0 (omega arith)) ∙ ap s.scope (omega arith)
 
   pub is_table : IsTableOf table s
   is_table = record {

@@ -7,7 +7,7 @@ use lib.ListN.{length-set}
 use Rattle.far_word.specs.declared.sizes.TheConstants.{MOST_MUTATORS, POINTERS}
 use Rattle.far_core.specs.state.State.{put}
 use Rattle.far_core.proofs.Put.{put_both}
-use Rattle.far_table.specs.Layout.{EPOCH_AT, TABLE_WORDS, scope_at, cell_at, data_at, epoch_in, scope_in, cell_in, word_in}
+use Rattle.far_table.specs.Layout.{EPOCH_AT, JOBS, LayoutIs, TABLE_WORDS, scope_at, cell_at, data_at, job_at, epoch_in, scope_in, cell_in, job_in, word_in}
 
 where_so : (t : Bool) (a b d : ℕ) → (t ≡ true → a ≡ b) → cond t a d ≡ cond t b d
 where_so true a b d h = h refl
@@ -36,56 +36,67 @@ scopes_apart q k e = omega arith
 cells_apart : (q k : ℕ) → cell_at q ≡ cell_at k → q ≡ k
 cells_apart q k e = omega arith
 
+jobs_apart : (q k : ℕ) → job_at q ≡ job_at k → q ≡ k
+jobs_apart q k e = omega arith
+
 -- ---- where a word stands
+-- in numbers, so that a change of a size doesn't go unseen
+pub layout_is : LayoutIs
+layout_is = record { epoch = refl; scopes = (refl, refl); cells = refl; jobs = refl; logs = refl; words = refl }
+
 pub scope_here : (ws : List ℕ) (m : ℕ) → m < MOST_MUTATORS → scope_in ws m ≡ slice_index ws (scope_at m)
 scope_here = part_here scope_at MOST_MUTATORS scopes_apart
 
 pub cell_here : (ws : List ℕ) (p : ℕ) → p < POINTERS → cell_in ws p ≡ slice_index ws (cell_at p)
 cell_here = part_here cell_at POINTERS cells_apart
 
--- the heap's words as they are after a step
-pub record WordsAre (ws : List ℕ) (epoch : ℕ) (scope cell word : ℕ → ℕ) : Type 0 where
+-- the words of the table after a step: those of the heap, those of the copiers' jobs, and as many as there were
+pub record WordsAre (ws : List ℕ) (epoch : ℕ) (scope cell word job : ℕ → ℕ) : Type 0 where
   pub epoch_is : epoch_in ws ≡ epoch
   pub scope_is : scope_in ws ≡ scope
   pub cell_is : cell_in ws ≡ cell
   pub word_is : word_in ws ≡ word
+  pub job_is : job_in ws ≡ job
   pub wide : length ws ≡ TABLE_WORDS
 
 module _ (ws : List ℕ) (wide : length ws ≡ TABLE_WORDS) where
   same_length : (i x : ℕ) → length (set ws i x) ≡ TABLE_WORDS
   same_length i x = length-set ws i x ∙ wide
 
-  pub no_word : WordsAre ws (epoch_in ws) (scope_in ws) (cell_in ws) (word_in ws)
-  no_word = record { epoch_is = refl; scope_is = refl; cell_is = refl; word_is = refl; wide = wide }
+  pub no_word : WordsAre ws (epoch_in ws) (scope_in ws) (cell_in ws) (word_in ws) (job_in ws)
+  no_word = record { epoch_is = refl; scope_is = refl; cell_is = refl; word_is = refl; job_is = refl; wide = wide }
 
-  pub epoch_word_set : (x : ℕ) → WordsAre (set ws EPOCH_AT x) x (scope_in ws) (cell_in ws) (word_in ws)
+  pub epoch_word_set : (x : ℕ) → WordsAre (set ws EPOCH_AT x) x (scope_in ws) (cell_in ws) (word_in ws) (job_in ws)
   epoch_word_set x = record {
     epoch_is = get_or-set_same ws EPOCH_AT x 0 (omega arith);
     scope_is = part_other scope_at MOST_MUTATORS scopes_apart ws EPOCH_AT x (λ q l e. omega arith);
     cell_is = part_other cell_at POINTERS cells_apart ws EPOCH_AT x (λ q l e. omega arith);
     word_is = fun_ext (λ a. get_or-set_other ws EPOCH_AT (data_at a) x 0 (λ e. omega arith));
+    job_is = part_other job_at JOBS jobs_apart ws EPOCH_AT x (λ q l e. omega arith);
     wide = same_length EPOCH_AT x;
   }
 
-  pub scope_word_set : (m x : ℕ) → m < MOST_MUTATORS → WordsAre (set ws (scope_at m) x) (epoch_in ws) (put (scope_in ws) m x) (cell_in ws) (word_in ws)
+  pub scope_word_set : (m x : ℕ) → m < MOST_MUTATORS → WordsAre (set ws (scope_at m) x) (epoch_in ws) (put (scope_in ws) m x) (cell_in ws) (word_in ws) (job_in ws)
   scope_word_set m x small = record {
     epoch_is = get_or-set_other ws (scope_at m) EPOCH_AT x 0 (λ e. omega arith);
     scope_is = part_set scope_at MOST_MUTATORS scopes_apart ws m x small (omega arith);
     cell_is = part_other cell_at POINTERS cells_apart ws (scope_at m) x (λ q l e. omega arith);
     word_is = fun_ext (λ a. get_or-set_other ws (scope_at m) (data_at a) x 0 (λ e. omega arith));
+    job_is = part_other job_at JOBS jobs_apart ws (scope_at m) x (λ q l e. omega arith);
     wide = same_length (scope_at m) x;
   }
 
-  pub cell_word_set : (p x : ℕ) → p < POINTERS → WordsAre (set ws (cell_at p) x) (epoch_in ws) (scope_in ws) (put (cell_in ws) p x) (word_in ws)
+  pub cell_word_set : (p x : ℕ) → p < POINTERS → WordsAre (set ws (cell_at p) x) (epoch_in ws) (scope_in ws) (put (cell_in ws) p x) (word_in ws) (job_in ws)
   cell_word_set p x small = record {
     epoch_is = get_or-set_other ws (cell_at p) EPOCH_AT x 0 (λ e. omega arith);
     scope_is = part_other scope_at MOST_MUTATORS scopes_apart ws (cell_at p) x (λ q l e. omega arith);
     cell_is = part_set cell_at POINTERS cells_apart ws p x small (omega arith);
     word_is = fun_ext (λ a. get_or-set_other ws (cell_at p) (data_at a) x 0 (λ e. omega arith));
+    job_is = part_other job_at JOBS jobs_apart ws (cell_at p) x (λ q l e. omega arith);
     wide = same_length (cell_at p) x;
   }
 
-  pub data_word_set : (a x : ℕ) → data_at a < TABLE_WORDS → WordsAre (set ws (data_at a) x) (epoch_in ws) (scope_in ws) (cell_in ws) (put (word_in ws) a x)
+  pub data_word_set : (a x : ℕ) → data_at a < TABLE_WORDS → WordsAre (set ws (data_at a) x) (epoch_in ws) (scope_in ws) (cell_in ws) (put (word_in ws) a x) (job_in ws)
   data_word_set a x small = record {
     epoch_is = get_or-set_other ws (data_at a) EPOCH_AT x 0 (λ e. omega arith);
     scope_is = part_other scope_at MOST_MUTATORS scopes_apart ws (data_at a) x (λ q l e. omega arith);
@@ -93,5 +104,6 @@ module _ (ws : List ℕ) (wide : length ws ≡ TABLE_WORDS) where
     word_is = fun_ext (λ q. put_both (λ v. word_in (set ws (data_at a) x) q ≡ v) (word_in ws) a x q
         (λ e. ap (word_in (set ws (data_at a) x)) e ∙ get_or-set_same ws (data_at a) x 0 (omega arith))
         (λ ne. get_or-set_other ws (data_at a) (data_at q) x 0 (λ e. ne (omega arith))));
+    job_is = part_other job_at JOBS jobs_apart ws (data_at a) x (λ q l e. omega arith);
     wide = same_length (data_at a) x;
   }

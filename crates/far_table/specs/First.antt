@@ -10,7 +10,7 @@ use Rattle.far_word.specs.Sizes.{words_for}
 use Rattle.far_core.specs.state.State.{State}
 use Rattle.far_core.specs.world.World.{Object}
 use Rattle.far_core.specs.world.WorldOf.{world_of}
-use Rattle.far_table.specs.View.{BookView, ObjectView, OwnerView}
+use Rattle.far_table.specs.View.{BookView, ObjectView, OwnerView, AsOwner}
 use Rattle.far_table.specs.Layout.{JOBS, TABLE_WORDS, cell_at, data_at, epoch_in, job_at, scope_at}
 use Rattle.far_table.specs.Views.{drops, hots, moves}
 
@@ -85,9 +85,9 @@ first_book s honest = record {
   taken = [];
   retired = [];
   cooled = [];
-  rest = first_owners s honest;
+  rest = map AsOwner (first_owners s honest);
 }
 
 -- the book's view while so many owners from this one on have no seat
 abbrev pub waiting : State → Bool → ℕ → ℕ → BookView
-waiting s honest low n = record (first_book s honest) { rest = map (first_owner s honest) (range_with_len low n) }
+waiting s honest low n = record (first_book s honest) { rest = map AsOwner (map (first_owner s honest) (range_with_len low n)) }

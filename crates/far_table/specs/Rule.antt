@@ -1,5 +1,5 @@
 -- The rule of the table: the words and all views are a state of the core under its law, and each view is right about the words.
-use Rattle.std.specs.Prelude.{◌≡◌, ◌+◌, ◌/◌, ◌<◌, ℕ, true, Some, IsSome, List, ◌∷◌, ◌++◌, map, length}
+use Rattle.std.specs.Prelude.{◌≡◌, ◌+◌, ◌/◌, ◌<◌, ℕ, true, false, Some, IsSome, List, ◌∷◌, ◌++◌, map, length}
 use mathlib.Core.Option.{some}
 use lib.ListN.{get_elem?}
 use Rattle.atomic_table.specs.Table.{State as Table}
@@ -14,17 +14,18 @@ use Rattle.far_core.specs.world.World.{Object}
 use Rattle.far_core.specs.world.WorldOf.{world_of}
 use Rattle.far_hand.specs.Known.{IsKnown}
 use Rattle.far_hand.specs.MayBe.{Shows}
-use Rattle.far_hand.specs.Owners.{IsLoudAt}
-use Rattle.far_table.specs.View.{BookView, ObjectView, OwnerView, View, Book, Owner}
-use Rattle.far_table.specs.Layout.{TABLE_WORDS, JOBS, job_in}
+use Rattle.far_hand.specs.Quiet.{RestsAt}
+use Rattle.far_table.specs.View.{BookView, ObjectView, OwnerView, View, Book, Owner, AsOwner}
+use Rattle.far_table.specs.Layout.{TABLE_WORDS, job_in}
 use Rattle.far_table.specs.StateOf.{book_state, cooled_at, retired_at, state_of, taken_at}
 use Rattle.far_table.specs.Views.{object_at, asked_at, dropped_at, drops, heated_at, held_at, hots, moves, pinned_at, word_of}
 
 -- what the book's view says is so: the object, the place and EVAC of each cell, and marks at least where it has them; each word that it
--- knows, and the headers of all spans; and its own, exactly. No word that it knows is one that an owner may store into
+-- knows, and the headers of all spans; and its own, exactly. Each word that it knows and is no header rests, by the view: it stands at or past its log's end, or is of an
+-- object that the view shows quiet. So no owner stores there, and it knows no word of a dead span
 pub record BookTies (b : BookView) (s : State) : Type 0 where
   pub shown : Shows (book_state b) s
-  pub still : (a : ℕ) → IsKnown ((book_state b).word a) → ¬ IsLoudAt (book_state b) a
+  pub rests : (a : ℕ) → IsKnown ((book_state b).word a) → (book_state b).starts a ≡ false → RestsAt (book_state b) a
 
 -- an object as its owner knows it: it is in the world, of that data structure, with that many bytes; and with those bytes, where the far side is honest
 pub record Has (s : State) (p : ℕ) (x : ObjectView) : Type 0 where
@@ -55,11 +56,13 @@ pub record Facts (ws : List ℕ) (b : BookView) (os : List OwnerView) : Type 0 w
   pub owners : (m : ℕ) (o : OwnerView) → get_elem? os m ≡ some o → OwnerTies b (state_of ws b os) m o
   pub many : length os ≡ b.mutators
   pub wide : length ws ≡ TABLE_WORDS
-  pub jobs : (j : ℕ) → j < JOBS → job_in ws j ≡ 0
+  pub jobs : job_in ws ≡ (λ _. 0)
 
--- the rule: seat 0 is the book's, those after it the owners' that have one; the others stand in the book's view
+-- the rule: seat 0 is the book's, those after it the owners' that have one; the others wait in the book's view
 pub record Running {S : Type 0} (s : Table S View) : Type 0 where
   pub book : BookView
   pub dealt : List OwnerView
+  pub waits : List OwnerView
   pub views : s.views ≡ Book book ∷ map Owner dealt
-  pub facts : Facts s.words book (dealt ++ book.rest)
+  pub rest : book.rest ≡ map AsOwner waits
+  pub facts : Facts s.words book (dealt ++ waits)

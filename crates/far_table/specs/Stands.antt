@@ -4,7 +4,7 @@ use Rattle.std.specs.List.{range_with_len}
 use Rattle.atomic_table.specs.declared.shared.Seat.{Seat}
 use Rattle.atomic_table.specs.Seated.{TableId}
 use Rattle.far_word.specs.declared.sizes.TheConstants.{CELLS, EPOCH_END, LEAST_LOGS, LEAST_MUTATORS, MOST_LOGS, MOST_MUTATORS}
-use Rattle.far_table.specs.View.{BookView, ObjectView, OwnerView, View, Book, Owner, Copier}
+use Rattle.far_table.specs.View.{BookView, ObjectView, OwnerView, Role, View, Book, Owner, Copier, AsOwner, AsCopier}
 use Rattle.far_core.specs.events.Open.{scope_word_of}
 use Rattle.far_core.specs.state.State.{State}
 use Rattle.far_hand.specs.Known.{unknown}
@@ -80,14 +80,18 @@ IsDealer seat id = (seat.table_id ≡ id) × (id.words ≡ TABLE_WORDS) × (seat
 abbrev pub Seats : TableId → (ℕ → OwnerView) → ℕ → List Seated
 Seats id owner n = map (λ m. record { table = id; view = owner m }) (range_with_len 0 n)
 
--- how the book's view is cut in two: the first owner that has no seat gets one
-abbrev pub others_rest : List OwnerView → List OwnerView
+-- how the book's view is cut in two: the first of those that have no seat gets one
+abbrev pub others_rest : List Role → List Role
 others_rest [] = []
-others_rest (o ∷ os) = os
+others_rest (role ∷ rest) = rest
 
-abbrev pub first_rest : List OwnerView → OwnerView
-first_rest [] = nobody
-first_rest (o ∷ os) = o
+abbrev pub seat_of : Role → View
+seat_of (AsOwner o) = Owner o
+seat_of (AsCopier c) = Copier c
+
+abbrev pub first_rest : List Role → View
+first_rest [] = Owner nobody
+first_rest (role ∷ rest) = seat_of role
 
 abbrev pub left_of : View → View
 left_of (Book b) = Book (record b { rest = others_rest b.rest })
@@ -95,7 +99,7 @@ left_of (Owner o) = Owner o
 left_of (Copier c) = Copier c
 
 abbrev pub right_of : View → View
-right_of (Book b) = Owner (first_rest b.rest)
+right_of (Book b) = first_rest b.rest
 right_of (Owner o) = Owner o
 right_of (Copier c) = Copier c
 

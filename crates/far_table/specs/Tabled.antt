@@ -1,11 +1,11 @@
 -- The words of a state's table.
 use Rattle.std.specs.Prelude.{◌-◌, ◌/◌, ◌%◌, ◌==◌, cond, nat_lt, ℕ}
 use Rattle.far_core.specs.state.State.{State}
-use Rattle.far_table.specs.Layout.{EPOCH_AT, cell_at, data_at, job_at, scope_at}
+use Rattle.far_table.specs.Layout.{EPOCH_AT, LINE, cell_at, data_at, job_at, scope_at}
 
--- of the words from owner 0's scope on, each sixteenth is a scope
+-- of the words from owner 0's scope on, the first of each line is a scope
 abbrev pub line_word : (ℕ → ℕ) → ℕ → ℕ
-line_word scope j = cond (j % 16 == 0) (scope (j / 16)) 0
+line_word scope j = cond (j % LINE == 0) (scope (j / LINE)) 0
 
 -- the word at a place of the table of a state
 abbrev pub table_word : State → ℕ → ℕ

@@ -32,6 +32,15 @@ pub record OwnerView : Type 0 where
   -- the words that its pins, adoptions and requests found, by pointers. No tie is of them: what a call answers is the word as it stood
   pub found : List (ℕ × ℕ)
 
+-- what a copier's seat knows
+pub record CopierView : Type 0 where
+  pub number : ℕ
+
+-- what the seat of another than the book knows
+pub data Role : Type 0 where
+  AsOwner : OwnerView → Role
+  AsCopier : CopierView → Role
+
 -- what the book's seat knows
 pub record BookView : Type 0 where
   pub mutators : ℕ
@@ -60,12 +69,8 @@ pub record BookView : Type 0 where
   pub retired : List (ℕ × ℕ)
   -- how often it has taken HOT away, by pointers
   pub cooled : List (ℕ × ℕ)
-  -- the owners that have no seat yet
-  pub rest : List OwnerView
-
--- what a copier's seat knows
-pub record CopierView : Type 0 where
-  pub number : ℕ
+  -- who has no seat yet, first who gets one first
+  pub rest : List Role
 
 -- what a seat knows
 pub data View : Type 0 where

@@ -3,7 +3,7 @@ ghost use Rattle.far_core.specs.declared.event.Event.{Event as any_event};
 ghost use Rattle.far_core.specs.declared.event.Reply.{Reply as any_reply};
 ghost use Rattle.far_core.specs.events.Legal.{Legal};
 ghost use Rattle.far_core.specs.events.Step.{Fits, after};
-ghost use Rattle.far_hand.specs.Owners.{is_owners};
+ghost use Rattle.far_hand.specs.Makers.{is_owners};
 ghost use Rattle.far_hand.proofs.Reading.{Gets};
 ghost use Rattle.std.specs.Prelude.{◌≡◌, true, false};
 ghost use Rattle.far_core.specs.state.State.{State};

@@ -1,26 +1,30 @@
 // Where each shared word stands: one layout, for the largest heap. Word 0 is for the split of seats, and no word of the heap; the words of
 // the copiers' jobs stand between the cells and the logs. The epoch and each scope word have a line of cache, in which no other word is written.
+use far_word::{LOG_WORDS, MOST_LOGS, MOST_MUTATORS, POINTERS};
 
 /// How many words a line of cache has, of 128 bytes.
 pub(crate) const LINE: usize = 16;
 
+/// How many words are of copiers' jobs.
+pub(crate) const JOBS: usize = 16;
+
+/// How many words are of logs.
+pub(crate) const WORDS_OF_LOGS: usize = MOST_LOGS as usize * LOG_WORDS as usize;
+
 /// The epoch.
-pub(crate) const EPOCH: usize = 16;
+pub(crate) const EPOCH: usize = LINE;
 
 /// The scope word of owner 0; each further owner's is a line on.
-pub(crate) const SCOPES: usize = 32;
+pub(crate) const SCOPES: usize = 2 * LINE;
 
 /// The cell of pointer 0.
-pub(crate) const CELLS: usize = 160;
+pub(crate) const CELLS: usize = SCOPES + MOST_MUTATORS as usize * LINE;
 
 /// The word of job 0.
-pub(crate) const JOBS: usize = 1184;
+pub(crate) const JOBS_AT: usize = CELLS + POINTERS as usize;
 
 /// Word 0 of log 0.
-pub(crate) const LOGS: usize = 1200;
+pub(crate) const LOGS: usize = JOBS_AT + JOBS;
 
 /// How many words there are.
-pub(crate) const TABLE_WORDS: usize = 9392;
-
-/// How many of them are words of logs.
-pub(crate) const WORDS_OF_LOGS: usize = 8192;
+pub(crate) const TABLE_WORDS: usize = LOGS + WORDS_OF_LOGS;

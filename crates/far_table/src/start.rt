@@ -15,7 +15,7 @@ ghost use Rattle.far_word.specs.declared.refused.Refused.{Refused as any_refusal
 ghost use Rattle.far_word.specs.declared.sizes.TheConstants.{LOG_WORDS, MOST_LOGS};
 
 use crate::book::BookSeat;
-use crate::layout::{CELLS, EPOCH, JOBS, LINE, LOGS, SCOPES, TABLE_WORDS};
+use crate::layout::{CELLS, EPOCH, JOBS_AT, LINE, LOGS, SCOPES, TABLE_WORDS};
 use crate::rule::{Deal, FarTable, Plan};
 use crate::seat::MutSeat;
 use crate::view::View;
@@ -55,7 +55,7 @@ fn word_of(core: &Core, i: usize) -> u64
         } else {
             0
         }
-    } else if i < JOBS {
+    } else if i < JOBS_AT {
         core.cell((i - CELLS) as u16)
     } else if i < LOGS {
         0

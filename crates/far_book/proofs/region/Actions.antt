@@ -38,7 +38,7 @@ use Rattle.far_core.proofs.Put.{put_other, put_same}
 use Rattle.far_core.proofs.Steps.{agrees, happens}
 use Rattle.far_core.proofs.WorldLaws.{changes_keep, objects_stand}
 use Rattle.far_core.proofs.Worlds.{here_now}
-use Rattle.far_hand.specs.Owners.{is_owners}
+use Rattle.far_hand.specs.Makers.{is_owners}
 use Rattle.far_book.specs.book.Dealing.{has_evac}
 use Rattle.far_book.specs.book.Actions.{Action, Owns, Places, Retires, Looks, Steps, Moves, Evicts, Fetches, Does, DoesFetch, DoesMove, DoesRetire, DoesStep, EventsAreActions, Follows, LoadsGiveStored, stored_by, words_after, words_then}
 use Rattle.far_book.specs.book.Effects.{moved, stayed}

@@ -116,19 +116,7 @@ learned_leaves s t place n is bare h = (
 -- ---- one turn of the loop
 -- a word of a quiet object is so whatever words are known
 pub quiet_still : (s t : State) (a : ℕ) → t ≡ record s { word = t.word } → IsQuietAt s a → IsQuietAt t a
-quiet_still s t a is q = subst (λ (u : State). IsQuietAt u a) (sym is) record {
-  p = q.p;
-  len = q.len;
-  ds = q.ds;
-  place = q.place;
-  marks = q.marks;
-  index = q.index;
-  pointer = q.pointer;
-  near = q.near;
-  quiet = q.quiet;
-  inside = q.inside;
-  here = q.here;
-}
+quiet_still s t a is q = subst (λ (u : State). IsQuietAt u a) (sym is) q
 
 module _ (s t u : State) (len : ℕ) (place : Place) (i a w : ℕ) (object : IsQuietData s len place) (is : t ≡ record s { word = t.word }) (h : Learns s t.word place i) (lt : i < words_for len) (here : a ≡ addr place + 1 + i) where
   pub quiet_now : IsQuietAt t a

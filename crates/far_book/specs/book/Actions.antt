@@ -17,7 +17,7 @@ use Rattle.far_core.specs.state.Law.{IsStored, Law}
 use Rattle.far_core.specs.state.Room.{room}
 use Rattle.far_core.specs.state.State.{State}
 use Rattle.far_core.specs.world.Runs.{Passes}
-use Rattle.far_hand.specs.Owners.{is_owners}
+use Rattle.far_hand.specs.Makers.{is_owners}
 use Rattle.far_book.specs.book.Dealing.{goal, has_evac, moved_now}
 use Rattle.far_hand.specs.Quiet.{IsQuietNear}
 use Rattle.far_book.specs.book.Effects.{evicted, fetched, placed, retired}

@@ -1,21 +1,15 @@
 -- The book's own part of a state: what no owner changes.
-use Rattle.std.specs.Prelude.{◌≡◌, false, cond, None}
+use Rattle.std.specs.Prelude.{◌≡◌, false, cond}
 use Rattle.far_core.specs.state.Opening.{opening}
 use Rattle.far_core.specs.state.State.{State}
+use Rattle.far_hand.specs.Beside.{hidden}
 use Rattle.far_hand.specs.ShapeOf.{shape_of}
 
 -- all is left out that owners may change at any moment, or that the book can't know of them: of the words of the logs the
 -- headers of spans alone are left, and of the owners their scopes, and what they remember, use and hold, are those of
 -- owners that have done nothing. What an owner was promised of a far side isn't the book's either
 abbrev pub own_part : State → State
-own_part s = record s {
-  honest = false;
-  scope = λ _. 0;
-  word = λ a. cond (s.starts a) (s.word a) 0;
-  remembered = λ _. None;
-  used = λ _. false;
-  held = λ _. None;
-}
+own_part s = record (hidden s s.cell (λ a. cond (s.starts a) (s.word a) 0)) { honest = false }
 
 -- all cells are free and the logs are as at the start, whatever owners have done with their scopes
 abbrev pub IsAtStart : State → Type 0

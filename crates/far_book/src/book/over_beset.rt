@@ -9,7 +9,7 @@ ghost use Rattle.far_core.specs.state.Law.{Law};
 ghost use Rattle.far_core.specs.state.State.{State};
 ghost use Rattle.far_hand.specs.BesetView.{beset_may_be, beset_view};
 ghost use Rattle.far_hand.specs.MayBe.{NoneViews, ViewsNone};
-ghost use Rattle.far_hand.specs.Owners.{is_owners};
+ghost use Rattle.far_hand.specs.Makers.{is_owners};
 
 use crate::book::Book;
 use far_device::Device;

@@ -11,7 +11,8 @@ ghost use Rattle.far_core.specs.state.CoreState.{core_state};
 ghost use Rattle.far_core.specs.state.Law.{Law};
 ghost use Rattle.far_core.specs.world.Happens.{Happens};
 ghost use Rattle.far_core.specs.world.WorldOf.{world_of};
-ghost use Rattle.far_hand.specs.Owners.{OwnersChange, is_owners};
+ghost use Rattle.far_hand.specs.Makers.{is_owners};
+ghost use Rattle.far_hand.specs.Owners.{OwnersChange};
 ghost use Rattle.far_book.specs.book.Actions.{Does, Owns};
 
 use crate::book::Book;

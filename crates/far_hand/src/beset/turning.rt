@@ -4,7 +4,8 @@ ghost use Rattle.std.specs.Prelude.{◌≡◌, true};
 ghost use Rattle.far_core.specs.events.Step.{step_of};
 ghost use Rattle.far_core.specs.state.CoreState.{core_state};
 ghost use Rattle.far_hand.specs.BesetView.{beset_view, next_event, passed, turned};
-ghost use Rattle.far_hand.specs.Owners.{OwnersChange, is_owners};
+ghost use Rattle.far_hand.specs.Makers.{is_owners};
+ghost use Rattle.far_hand.specs.Owners.{OwnersChange};
 
 use crate::beset::Beset;
 use crate::owners::is_owners;

@@ -1,7 +1,7 @@
 use Rattle.std.proofs.Common.{sym, subst, ap, ◌∙◌, ◌*◌, ℕ, Bool}
 use Rattle.far_word.specs.declared.sizes.TheConstants.{LOG_WORDS}
 use Rattle.far_core.specs.state.CoreState.{core_state}
-use Rattle.far_hand.specs.Masked.{word_at, CountsOnQuiet}
+use Rattle.far_hand.specs.Masked.{word_at, CountsOnRest}
 use Rattle.far_hand.proofs.Counting.{counts_none}
 use Rattle.far_hand.proofs.Finding.{finds_is}
 use Rattle.far_hand.proofs.beset.Beset.new.Goals as goal
@@ -14,5 +14,5 @@ invariant_of-result c =
       found_sized = c.in-Ok.ensures.len;
       counted_sized = c.in-Ok-none_counted.ensures.len ∙ ap (λ n. LOG_WORDS * n) c.logs.ensures;
       finds = λ p. finds_is (found p) (s.cell p) (ap (λ (f : ℕ → ℕ). f p) (sym c.in-Ok.ensures.words));
-      counts = subst (λ (k : ℕ → Bool). CountsOnQuiet s.round s.clear found k) (sym c.in-Ok-none_counted.ensures.none) (counts_none s.round s.clear found);
+      counts = subst (λ (k : ℕ → Bool). CountsOnRest s found k) (sym c.in-Ok-none_counted.ensures.none) (counts_none s found);
     }

@@ -7,7 +7,7 @@ use Rattle.far_core.specs.state.CoreState.{core_state}
 use Rattle.far_core.specs.state.State.{State}
 use Rattle.far_hand.specs.BesetView.{beset_view}
 use Rattle.far_hand.specs.Known.{Forgets}
-use Rattle.far_hand.specs.Masked.{masked, word_at, is_counted, AllFind, CountsOnQuiet}
+use Rattle.far_hand.specs.Masked.{masked, word_at, is_counted, AllFind, CountsOnRest}
 use Rattle.far_hand.specs.Rounds.{MayChoose}
 use Rattle.far_hand.proofs.Counting.{counts_none}
 use Rattle.far_hand.proofs.Reading.{forgets, header_known}
@@ -33,7 +33,7 @@ invariant_of-self c =
       found_sized = hand.found_sized ∙ ap (λ (u : State). CELLS * u.mutators) (sym c.advance-epoch.ensures.state);
       counted_sized = c.forget.ensures.len ∙ (hand.counted_sized ∙ ap (λ (u : State). LOG_WORDS * u.logs) (sym c.advance-epoch.ensures.state));
       finds = subst (λ (u : State). AllFind found u.cell) (sym c.advance-epoch.ensures.state) hand.finds;
-      counts = subst (λ (k : ℕ → Bool). CountsOnQuiet t.round t.clear found k) (sym c.forget.ensures.none) (counts_none t.round t.clear found);
+      counts = subst (λ (k : ℕ → Bool). CountsOnRest t found k) (sym c.forget.ensures.none) (counts_none t found);
     }
 
 pub returns-then-not-may_rise : goal.returns-then-not-may_rise

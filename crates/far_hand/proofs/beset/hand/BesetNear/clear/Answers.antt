@@ -7,7 +7,7 @@ use Rattle.far_core.specs.state.CoreState.{core_state}
 use Rattle.far_core.specs.state.State.{State, put}
 use Rattle.far_hand.specs.BesetView.{beset_view}
 use Rattle.far_hand.specs.Known.{Forgets}
-use Rattle.far_hand.specs.Masked.{masked, word_at, is_counted, AllFind, CountsOnQuiet}
+use Rattle.far_hand.specs.Masked.{masked, word_at, is_counted, AllFind, CountsOnRest}
 use Rattle.far_hand.proofs.Counting.{counts_none, finds_named}
 use Rattle.far_hand.proofs.Reading.{forgets, header_known}
 use Rattle.far_core.specs.declared.event.Reply.TheVariants.{Word}
@@ -31,7 +31,7 @@ invariant_of-self c =
       found_sized = c.find.ensures.len ∙ (hand.found_sized ∙ ap (λ (u : State). CELLS * u.mutators) (sym c.clear-cell.ensures.state));
       counted_sized = c.forget.ensures.len ∙ (hand.counted_sized ∙ ap (λ (u : State). LOG_WORDS * u.logs) (sym c.clear-cell.ensures.state));
       finds = subst (λ (u : State). AllFind (word_at c.find.new.found.items) u.cell) (sym c.clear-cell.ensures.state) finds;
-      counts = subst (λ (k : ℕ → Bool). CountsOnQuiet t.round t.clear (word_at c.find.new.found.items) k) (sym c.forget.ensures.none) (counts_none t.round t.clear (word_at c.find.new.found.items));
+      counts = subst (λ (k : ℕ → Bool). CountsOnRest t (word_at c.find.new.found.items) k) (sym c.forget.ensures.none) (counts_none t (word_at c.find.new.found.items));
     }
 
 pub returns-clause-forgot : goal.returns-clause-forgot

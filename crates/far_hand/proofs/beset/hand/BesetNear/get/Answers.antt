@@ -6,7 +6,7 @@ use Rattle.far_core.specs.events.Legal.{Legal}
 use Rattle.far_core.specs.state.CoreState.{core_state}
 use Rattle.far_core.specs.state.State.{State}
 use Rattle.far_hand.specs.BesetView.{beset_view}
-use Rattle.far_hand.specs.Masked.{masked, word_at, is_counted, recounted, AllFind, CountsOnQuiet}
+use Rattle.far_hand.specs.Masked.{masked, word_at, is_counted, recounted, AllFind, CountsOnRest}
 use Rattle.far_hand.proofs.Counting.{counts_read}
 use Rattle.far_hand.proofs.Reading.{Gets, gets, may_free, stays_after}
 use Rattle.far_core.specs.declared.event.Reply.TheVariants.{Word}
@@ -28,13 +28,13 @@ invariant_of-self c =
     let free = c.args.free in
     let a = c.args.log * LOG_WORDS + c.args.at in
     let kept = stays_after s c.args.log free in
-    let counts = counts_read s hand.core.law found hand.finds counted c.args.log a free c.is_quiet_at-quiet.result c.is_quiet_at-quiet.ensures.quiet hand.counts in
-    let recount = subst (λ (k : ℕ → Bool). CountsOnQuiet (after_get s c.args.log free).round (after_get s c.args.log free).clear found k) (sym c.recount.ensures.words) counts in
+    let counts = counts_read s found counted c.args.log a free c.is_quiet_at-quiet.result c.is_quiet_at-quiet.ensures.quiet hand.counts in
+    let recount = subst (λ (k : ℕ → Bool). CountsOnRest (after_get s c.args.log free) found k) (sym c.recount.ensures.words) counts in
     record {
       found_sized = hand.found_sized ∙ ap (λ n. CELLS * n) (sym kept.0 ∙ ap (λ (u : State). u.mutators) (sym c.get-word.ensures.state));
       counted_sized = c.recount.ensures.len ∙ (hand.counted_sized ∙ ap (λ n. LOG_WORDS * n) (sym kept.1 ∙ ap (λ (u : State). u.logs) (sym c.get-word.ensures.state)));
       finds = subst (λ (f : ℕ → ℕ). AllFind found f) (sym kept.2 ∙ ap (λ (u : State). u.cell) (sym c.get-word.ensures.state)) hand.finds;
-      counts = subst (λ (u : State). CountsOnQuiet u.round u.clear found (is_counted c.recount.new.counted.items)) (sym c.get-word.ensures.state) recount;
+      counts = subst (λ (u : State). CountsOnRest u found (is_counted c.recount.new.counted.items)) (sym c.get-word.ensures.state) recount;
     }
 
 pub returns : goal.returns

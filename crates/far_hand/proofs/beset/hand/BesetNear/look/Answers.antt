@@ -5,7 +5,7 @@ use Rattle.far_core.specs.events.Look.{shows_clear}
 use Rattle.far_core.specs.state.CoreState.{core_state}
 use Rattle.far_core.specs.state.State.{State}
 use Rattle.far_hand.specs.BesetView.{beset_view}
-use Rattle.far_hand.specs.Masked.{masked, word_at, is_counted, AllFind, CountsOnQuiet}
+use Rattle.far_hand.specs.Masked.{masked, word_at, is_counted, AllFind, CountsOnRest}
 use Rattle.far_hand.specs.Rounds.{IsScopeAt, looked_at}
 use Rattle.far_hand.proofs.RoundSteps.{counts_looked, scope_at}
 use Rattle.far_core.specs.declared.event.Event.TheVariants.{Look}
@@ -25,8 +25,8 @@ invariant_of-self c =
       found_sized = hand.found_sized ∙ ap (λ (u : State). CELLS * u.mutators) (sym c.look.ensures.state);
       counted_sized = hand.counted_sized ∙ ap (λ (u : State). LOG_WORDS * u.logs) (sym c.look.ensures.state);
       finds = subst (λ (u : State). AllFind found u.cell) (sym c.look.ensures.state) hand.finds;
-      counts = subst (λ (u : State). CountsOnQuiet u.round u.clear found counted) (sym c.look.ensures.state)
-          (counts_looked s.round s.clear found counted c.args.owner (shows_clear s.round_epoch (scope_of (s.scope c.args.owner))) hand.counts);
+      counts = subst (λ (u : State). CountsOnRest u found counted) (sym c.look.ensures.state)
+          (counts_looked s found counted c.args.owner (shows_clear s.round_epoch (scope_of (s.scope c.args.owner))) hand.counts);
     }
 
 pub returns : goal.returns

@@ -5,7 +5,7 @@ use Rattle.far_core.specs.events.Legal.{Legal}
 use Rattle.far_core.specs.state.CoreState.{core_state}
 use Rattle.far_core.specs.state.State.{State, put}
 use Rattle.far_hand.specs.BesetView.{beset_view}
-use Rattle.far_hand.specs.Masked.{word_at, is_counted, AllFind, CountsOnQuiet}
+use Rattle.far_hand.specs.Masked.{word_at, is_counted, AllFind, CountsOnRest}
 use Rattle.far_hand.proofs.Counting.{finds_named}
 use Rattle.far_hand.proofs.EvacMarks.{with_evac, counts_marked, legal_mark}
 use Rattle.far_core.specs.declared.event.Reply.TheVariants.{Word}
@@ -24,12 +24,12 @@ invariant_of-self c =
     let word : bit_or c.mark-cell.result c.mask.result ≡ with_evac (s.cell p) = ap (λ m. bit_or c.mark-cell.result m) c.mask.ensures ∙ ap with_evac (sym is) in
     let words : word_at c.find.new.found.items ≡ put found p (with_evac (s.cell p)) = c.find.ensures.words ∙ ap (put found p) word in
     let finds = subst (λ (f : ℕ → ℕ). AllFind f (put s.cell p (with_evac (s.cell p)))) (sym words) (finds_named found s.cell p (with_evac (s.cell p)) hand.finds) in
-    let counts = subst (λ (f : ℕ → ℕ). CountsOnQuiet s.round s.clear f counted) (sym words) (counts_marked s hand.core.law found counted hand.finds p legal hand.counts) in
+    let counts = subst (λ (f : ℕ → ℕ). CountsOnRest s f counted) (sym words) (counts_marked s hand.core.law found counted hand.finds p legal hand.counts) in
     record {
       found_sized = c.find.ensures.len ∙ (hand.found_sized ∙ ap (λ (u : State). CELLS * u.mutators) (sym c.mark-cell.ensures.state));
       counted_sized = hand.counted_sized ∙ ap (λ (u : State). LOG_WORDS * u.logs) (sym c.mark-cell.ensures.state);
       finds = subst (λ (u : State). AllFind (word_at c.find.new.found.items) u.cell) (sym c.mark-cell.ensures.state) finds;
-      counts = subst (λ (u : State). CountsOnQuiet u.round u.clear (word_at c.find.new.found.items) counted) (sym c.mark-cell.ensures.state) counts;
+      counts = subst (λ (u : State). CountsOnRest u (word_at c.find.new.found.items) counted) (sym c.mark-cell.ensures.state) counts;
     }
 
 pub returns-clause-made : goal.returns-clause-made

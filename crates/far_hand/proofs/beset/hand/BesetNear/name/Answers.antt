@@ -8,7 +8,7 @@ use Rattle.far_core.specs.state.State.{State, put}
 use Rattle.far_hand.specs.BesetView.{beset_view}
 use Rattle.far_hand.specs.Finds.{Finds}
 use Rattle.far_hand.specs.Known.{KnowsLeaving}
-use Rattle.far_hand.specs.Masked.{masked, word_at, is_counted, AllFind, CountsOnQuiet}
+use Rattle.far_hand.specs.Masked.{masked, word_at, is_counted, AllFind, CountsOnRest}
 use Rattle.far_hand.proofs.Counting.{counts_found, counts_none, finds_named, finds_put}
 use Rattle.far_hand.proofs.Finding.{finds_seen}
 use Rattle.far_hand.proofs.Naming.{Names, legal_name, names, cells_named, sizes_named, won, lost, lost_word, lost_state}
@@ -43,7 +43,7 @@ invariant_of-self c =
       found_sized = c.find.ensures.len ∙ (hand.found_sized ∙ ap (λ n. CELLS * n) (sym sizes.0 ∙ ap (λ (u : State). u.mutators) (sym c.name.ensures.state)));
       counted_sized = c.forget.ensures.len ∙ (hand.counted_sized ∙ ap (λ n. LOG_WORDS * n) (sym sizes.1 ∙ ap (λ (u : State). u.logs) (sym c.name.ensures.state)));
       finds = subst (λ (f : ℕ → ℕ). AllFind (word_at c.find.new.found.items) f) (sym cells) named;
-      counts = subst (λ (k : ℕ → Bool). CountsOnQuiet t.round t.clear (word_at c.find.new.found.items) k) (sym c.forget.ensures.none) (counts_none t.round t.clear (word_at c.find.new.found.items));
+      counts = subst (λ (k : ℕ → Bool). CountsOnRest t (word_at c.find.new.found.items) k) (sym c.forget.ensures.none) (counts_none t (word_at c.find.new.found.items));
     }
 
 pub invariant_of-self-in-Err : goal.invariant_of-self-in-Err
@@ -59,13 +59,13 @@ invariant_of-self-in-Err c =
     let same : core_state c.name.new.self ≡ s = c.name.ensures.state ∙ lost_state s p old new (lost s p old new w c.in-Err.ensures.found) in
     let is : s.cell p ≡ w = lost_word s p old new w c.in-Err.ensures.found in
     let finds = subst (λ (f : ℕ → ℕ). AllFind f s.cell) (sym c.find-in-Err.ensures.words) (finds_put found s.cell p w hand.finds is) in
-    let counts = subst (λ (f : ℕ → ℕ). CountsOnQuiet s.round s.clear f counted) (sym c.find-in-Err.ensures.words)
-    (counts_found s.round s.clear found counted p w hand.counts (finds_seen found s.cell p w hand.finds is)) in
+    let counts = subst (λ (f : ℕ → ℕ). CountsOnRest s f counted) (sym c.find-in-Err.ensures.words)
+    (counts_found s found counted p w hand.counts (finds_seen found s.cell p w hand.finds is)) in
     record {
       found_sized = c.find-in-Err.ensures.len ∙ (hand.found_sized ∙ ap (λ (u : State). CELLS * u.mutators) (sym same));
       counted_sized = hand.counted_sized ∙ ap (λ (u : State). LOG_WORDS * u.logs) (sym same);
       finds = subst (λ (u : State). AllFind (word_at c.find-in-Err.new.found.items) u.cell) (sym same) finds;
-      counts = subst (λ (u : State). CountsOnQuiet u.round u.clear (word_at c.find-in-Err.new.found.items) counted) (sym same) counts;
+      counts = subst (λ (u : State). CountsOnRest u (word_at c.find-in-Err.new.found.items) counted) (sym same) counts;
     }
 
 pub returns-in-Ok-clause-done : goal.returns-in-Ok-clause-done

@@ -6,7 +6,7 @@ use Rattle.far_core.specs.events.Step.{after}
 use Rattle.far_core.specs.state.CoreState.{core_state}
 use Rattle.far_core.specs.state.State.{State, put}
 use Rattle.far_hand.specs.BesetView.{beset_view}
-use Rattle.far_hand.specs.Masked.{masked, word_at, is_counted, AllFind, CountsOnQuiet}
+use Rattle.far_hand.specs.Masked.{masked, word_at, is_counted, AllFind, CountsOnRest}
 use Rattle.far_hand.proofs.Counting.{counts_past}
 use Rattle.far_hand.proofs.Reading.{put_view}
 use Rattle.far_core.specs.declared.event.Reply.TheVariants.{Done}
@@ -19,13 +19,13 @@ invariant_of-self c =
     let s = core_state hand.core in
     let found = word_at hand.found.items in
     let legal : Legal (beset_view hand) (Put c.args.log c.args.at c.args.word) = subst (λ (u : State). Legal u (Put c.args.log c.args.at c.args.word)) (sym c.turn.ensures.view) c.requires.legal in
-    let counts = counts_past s hand.core.law found hand.finds (is_counted hand.counted.items) c.args.log c.args.at legal.2 legal.3 hand.counts in
-    let counted = subst (λ (k : ℕ → Bool). CountsOnQuiet s.round s.clear found k) (sym c.count.ensures.words) counts in
+    let counts = counts_past s found (is_counted hand.counted.items) c.args.log c.args.at legal.2 legal.3 hand.counts in
+    let counted = subst (λ (k : ℕ → Bool). CountsOnRest s found k) (sym c.count.ensures.words) counts in
     record {
       found_sized = hand.found_sized ∙ ap (λ (u : State). CELLS * u.mutators) (sym c.put.ensures.state);
       counted_sized = c.count.ensures.len ∙ (hand.counted_sized ∙ ap (λ (u : State). LOG_WORDS * u.logs) (sym c.put.ensures.state));
       finds = subst (λ (u : State). AllFind found u.cell) (sym c.put.ensures.state) hand.finds;
-      counts = subst (λ (u : State). CountsOnQuiet u.round u.clear found (is_counted c.count.new.counted.items)) (sym c.put.ensures.state) counted;
+      counts = subst (λ (u : State). CountsOnRest u found (is_counted c.count.new.counted.items)) (sym c.put.ensures.state) counted;
     }
 
 pub returns : goal.returns

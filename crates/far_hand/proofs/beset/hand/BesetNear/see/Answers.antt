@@ -1,6 +1,6 @@
 use Rattle.std.proofs.Common.{sym, subst, ◌∙◌, ◌≡◌, ℕ, refl}
 use Rattle.far_core.specs.state.CoreState.{core_state}
-use Rattle.far_hand.specs.Masked.{word_at, is_counted, AllFind, CountsOnQuiet}
+use Rattle.far_hand.specs.Masked.{word_at, is_counted, AllFind, CountsOnRest}
 use Rattle.far_hand.proofs.Counting.{counts_found, finds_put}
 use Rattle.far_hand.proofs.Finding.{finds_seen}
 use Rattle.far_core.specs.declared.event.Event.TheVariants.{See}
@@ -22,8 +22,8 @@ invariant_of-self c =
       found_sized = c.find.ensures.len ∙ hand.found_sized;
       counted_sized = hand.counted_sized;
       finds = subst (λ (f : ℕ → ℕ). AllFind f s.cell) (sym c.find.ensures.words) (finds_put (word_at hand.found.items) s.cell p w hand.finds is);
-      counts = subst (λ (f : ℕ → ℕ). CountsOnQuiet s.round s.clear f (is_counted hand.counted.items)) (sym c.find.ensures.words)
-          (counts_found s.round s.clear (word_at hand.found.items) (is_counted hand.counted.items) p w hand.counts (finds_seen (word_at hand.found.items) s.cell p w hand.finds is));
+      counts = subst (λ (f : ℕ → ℕ). CountsOnRest s f (is_counted hand.counted.items)) (sym c.find.ensures.words)
+          (counts_found s (word_at hand.found.items) (is_counted hand.counted.items) p w hand.counts (finds_seen (word_at hand.found.items) s.cell p w hand.finds is));
     }
 
 pub returns-clause-made : goal.returns-clause-made

@@ -1,0 +1,37 @@
+-- Who makes an event.
+use Rattle.std.specs.Prelude.{ℕ, Bool, true, false}
+use Rattle.far_core.specs.declared.event.Event.{Event}
+use Rattle.far_core.specs.declared.event.Event.TheVariants.{ReadEpoch, Open, Pin, Load, Store, Close, Adopt, Put, Name, See, Mark, Ask, Get, Clear, Advance, Look}
+
+-- the book, an owner or a copier, by its number. No event is a copier's yet
+pub data Maker : Type 0 where
+  ByBook : Maker
+  ByOwner : ℕ → Maker
+  ByCopier : ℕ → Maker
+
+abbrev pub maker : Event → Maker
+maker (ReadEpoch m) = ByOwner m
+maker (Open m) = ByOwner m
+maker (Pin m p) = ByOwner m
+maker (Load m p i) = ByOwner m
+maker (Store m p i w) = ByOwner m
+maker (Close m) = ByOwner m
+maker (Adopt m p) = ByOwner m
+maker (Ask m p k) = ByOwner m
+maker (Put l at w) = ByBook
+maker (Name p old new) = ByBook
+maker (See p) = ByBook
+maker (Mark p) = ByBook
+maker (Clear p) = ByBook
+maker (Get l at free) = ByBook
+maker (Advance logs) = ByBook
+maker (Look m) = ByBook
+
+abbrev pub is_owner : Maker → Bool
+is_owner ByBook = false
+is_owner (ByOwner m) = true
+is_owner (ByCopier c) = false
+
+-- the events of owners
+abbrev pub is_owners : Event → Bool
+is_owners e = is_owner (maker e)
