@@ -1,15 +1,15 @@
 // The two heaps: over a core of its own, and over shared words.
 
 use crate::work::Side;
-use far_book::{Book, Near, Home, Plain};
+use far_book::{Book, Home, Near, Plain};
 use far_core::{Core, Event, Reply, Shape};
 use far_device::{Device, MemDevice};
 use far_evac::{Evac, RoundEnd};
-use tests_owner::{Owner, shared};
 use far_policy::Oldest;
 use far_table::BookSeat;
 use far_word::{Mark, Refused};
 use std::alloc::Global;
+use tests_owner::{Owner, shared};
 
 const SHAPE: Shape = Shape {
     logs: 16,

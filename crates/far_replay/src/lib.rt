@@ -5,9 +5,9 @@
 //! laws, in the crate `far_replay_laws` above this one.
 #![tactic(auto)]
 
+mod dereferences;
 mod dropping;
 mod epochs;
-mod dereferences;
 mod inquiries;
 mod outcome;
 mod owners;

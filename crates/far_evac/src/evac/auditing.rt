@@ -14,7 +14,7 @@ ghost use Rattle.far_evac.specs.RoundSteps.{among};
 
 use crate::census::{Census, Housed, LogKind, LogState};
 use crate::evac::Evac;
-use far_book::{Near, Home};
+use far_book::{Home, Near};
 use far_core::Kind;
 use far_device::Device;
 use far_word::{CELLS, Refused};

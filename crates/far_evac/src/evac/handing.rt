@@ -27,7 +27,7 @@ ghost use Rattle.far_word.specs.declared.refused.Refused.TheVariants as refused;
 ghost use Rattle.far_hand.specs.Came.{Came};
 
 use crate::evac::Evac;
-use far_book::{Book, Near, Home};
+use far_book::{Book, Home, Near};
 use far_device::Device;
 use far_log::{LogRow, Span};
 use far_word::{Place, Refused};

@@ -1,7 +1,7 @@
 //! The steps of a round, and what they answer.
 
 use crate::tests::making::Heap;
-use far_book::{Near, Home};
+use far_book::{Home, Near};
 use far_evac::{Census, Marked, Polled, Progress, RoundEnd};
 use far_policy::Oldest;
 
