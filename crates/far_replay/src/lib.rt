@@ -5,7 +5,7 @@
 //! laws, in the crate `far_replay_laws` above this one.
 #![tactic(auto)]
 
-mod dereferences;
+mod dereferencing;
 mod dropping;
 mod epochs;
 mod inquiries;

@@ -26,7 +26,7 @@ ghost use Rattle.far_replay.specs.Objects.{data_of, lowest_cell, named_len, with
 ghost use Rattle.far_replay.specs.Moment.{KeepsRound, moment_in, state_in};
 ghost use Rattle.far_replay.specs.Turn.{effect, access_causes, first_cause, reply_to, refusal, with_new};
 
-use crate::dereferences::{dereference, open};
+use crate::dereferencing::{dereference, open};
 use crate::dropping::drop_object;
 use crate::epochs::read_epoch;
 use crate::inquiries::{audit, find_object, tell_log, tell_logs};

@@ -11,7 +11,7 @@ ghost use Rattle.far_replay.specs.Outcome.{reply_by, IsInScratch};
 ghost use Rattle.far_reply.specs.Reply.{Refused as Refusal};
 ghost use Rattle.far_replay.specs.Turn.{effect, reply_to};
 
-use crate::dereferences::{dereference, try_view};
+use crate::dereferencing::{dereference, try_view};
 use crate::outcome::Outcome;
 use crate::owners::{FarSide, core_of, own_pointer};
 use far_book::Plain;

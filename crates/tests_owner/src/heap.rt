@@ -47,7 +47,6 @@ fn owners_of(
 }
 
 /// Makes a new heap on shared words. Refused [`Refused::Shape`], and [`Refused::Memory`].
-#[tactic(auto, using(crate::proofs::Fitting::seat_start, crate::proofs::Fitting::fresh_seats))]
 pub fn shared(alloc: Global, shape: Shape) -> Result<Shared, Refused> {
     let device = MemDevice::new(alloc);
     let core = Core::new(alloc, shape, true)?;

@@ -334,7 +334,7 @@ impl<D: Device + Drop> Device for Watched<D> {
 }
 
 // A device, and what is seen of it.
-pub(super) fn watched<D: Device + Drop>(
+pub(super) fn watched_over<D: Device + Drop>(
     rt: &HostRuntime,
     inner: D,
 ) -> Result<(Watched<D>, Rc<Sight>), AllocError>

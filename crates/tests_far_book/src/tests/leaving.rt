@@ -7,7 +7,7 @@ use crate::tests::books::{
     DROP, HOT, MOVE, NO_MARKS, SMALL, beset, events_after, has, home, is_so_of, line, mark_sealed,
     marks_first, opened, opened_over, place_next,
 };
-use crate::tests::devices::{Picky, Starved, watched};
+use crate::tests::devices::{Picky, Starved, watched_over};
 use crate::tests::moving::moves_to;
 use far_book::{Beset, Book, Home, Near, Plain};
 use far_core::{Event, Kind, Reply};
@@ -223,7 +223,7 @@ fn evicts_over<D: Device + Drop>(
 
 // Whether it is so, and the device has bytes of it then exactly if it has gone far.
 fn evicts_beside(rt: &HostRuntime, events: Vec<Event>, wanted: Option<Marks>) -> bool {
-    match watched(rt, MemDevice::new(rt.alloc())) {
+    match watched_over(rt, MemDevice::new(rt.alloc())) {
         Ok((device, sight)) => {
             evicts_over(rt, device, events, wanted) && sight.holds.get() == wanted.is_some()
         }

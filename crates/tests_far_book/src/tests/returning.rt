@@ -7,7 +7,7 @@ use crate::tests::books::{
     DROP, HOT, MOVE, NO_MARKS, SMALL, ask, beset, events_after, has, home, is_near_at, is_so_of,
     line, mark_sealed, marks_first, opened, opened_over, place_next, places_next, shown,
 };
-use crate::tests::devices::{Lying, Sight, Stumbling, watched};
+use crate::tests::devices::{Lying, Sight, Stumbling, watched_over};
 use crate::tests::leaving::{evict_asked, goes, leaves, loads_counted, store_counted};
 use crate::tests::moving::{loaded, moves_to};
 use far_book::{Beset, Book, Home, Near, Plain};
@@ -139,7 +139,7 @@ fn comes_back(rt: &HostRuntime, len: u16, size: u16) -> bool
     requires some { 0 < len }
     requires most { len ≤ LONGEST }
 {
-    match watched(rt, MemDevice::new(rt.alloc())) {
+    match watched_over(rt, MemDevice::new(rt.alloc())) {
         Ok((device, sight)) => is_back_over(rt, device, &sight, len, size),
         Err(_) => false,
     }
@@ -219,7 +219,7 @@ fn a_refused_fetch_may_be_made_again(rt: HostRuntime) {
 
 // Whether the first fetch is refused so over a device that lends on, and each read was lent room for the longest object.
 fn lends_all(rt: &HostRuntime, fault: DeviceFault, why: Refused) -> bool {
-    match watched(rt, stumbling(rt, fault)) {
+    match watched_over(rt, stumbling(rt, fault)) {
         Ok((device, sight)) => {
             is_refused_over(rt, device, why) && sight.least.get() == LONGEST_OBJECT
         }
@@ -287,7 +287,7 @@ fn keeps_the_last_over<D: Device + Drop>(rt: &HostRuntime, device: D, sight: &Rc
 }
 
 fn stumbles_without_room(rt: &HostRuntime) -> bool {
-    match watched(rt, stumbling(rt, DeviceFault::Device)) {
+    match watched_over(rt, stumbling(rt, DeviceFault::Device)) {
         Ok((device, sight)) => keeps_the_last_over(rt, device, &sight),
         Err(_) => false,
     }
@@ -322,7 +322,7 @@ fn retires_far_over<D: Device + Drop>(rt: &HostRuntime, device: D, sight: &Rc<Si
 }
 
 fn retires_shown(rt: &HostRuntime) -> bool {
-    match watched(rt, MemDevice::new(rt.alloc())) {
+    match watched_over(rt, MemDevice::new(rt.alloc())) {
         Ok((device, sight)) => retires_far_over(rt, device, &sight),
         Err(_) => false,
     }
@@ -369,7 +369,7 @@ fn fetches_over<D: Device + Drop>(
 
 // Whether it is so, and the device has no bytes of it then.
 fn fetches_beside(rt: &HostRuntime, events: Vec<Event>, wanted: Option<Marks>) -> bool {
-    match watched(rt, MemDevice::new(rt.alloc())) {
+    match watched_over(rt, MemDevice::new(rt.alloc())) {
         Ok((device, sight)) => fetches_over(rt, device, events, wanted) && !sight.holds.get(),
         Err(_) => false,
     }

@@ -11,7 +11,7 @@ use Rattle.far_replay.proofs.Bringing.{asked_quiet, may_ask, near_done, near_ord
 use Rattle.far_replay.proofs.Dereferences.{comes_stores}
 use Rattle.far_replay.proofs.Giving.{comes_itself}
 use Rattle.far_replay.proofs.Spending.{spent_same}
-use Rattle.far_replay.proofs.dereferences.move_near.Goals as goal
+use Rattle.far_replay.proofs.dereferencing.move_near.Goals as goal
 
 pub move_now-requires-clause-quiet : goal.move_now-requires-clause-quiet
 move_now-requires-clause-quiet c =

@@ -8,7 +8,7 @@ use Rattle.far_book.specs.book.FarSide.{HoldsFar}
 use Rattle.far_replay.specs.Moment.{FarSide, state_in}
 use Rattle.far_replay.proofs.Bringing.{far_inside, far_refused, is_far}
 use Rattle.far_replay.proofs.Giving.{fetch_brings, refused_spends}
-use Rattle.far_replay.proofs.dereferences.fetch_far.Goals as goal
+use Rattle.far_replay.proofs.dereferencing.fetch_far.Goals as goal
 
 pub fetch-requires-clause-pointer : goal.fetch-requires-clause-pointer
 fetch-requires-clause-pointer c = far_inside (state_in c.args.evac.now) c.args.owner c.args.pointer c.args.evac.now.book.near.core.law c.requires.used c.requires.far

@@ -2,7 +2,7 @@ use Rattle.far_replay.specs.Interpreter.{as_given}
 use Rattle.far_replay.specs.Moment.{state_in}
 use Rattle.far_replay.proofs.Bringing.{came_opened, came_used}
 use Rattle.far_replay.proofs.Given.{came_views}
-use Rattle.far_replay.proofs.dereferences.bring_and_view.Goals as goal
+use Rattle.far_replay.proofs.dereferencing.bring_and_view.Goals as goal
 
 pub try_view-requires-clause-opened : goal.try_view-requires-clause-opened
 try_view-requires-clause-opened c =

@@ -1,6 +1,6 @@
 use Rattle.far_replay.specs.Commanded.{Serves}
 use Rattle.far_replay.proofs.Given.{derefs_at_once, derefs_or, far_or}
-use Rattle.far_replay.proofs.dereferences.dereference.Goals as goal
+use Rattle.far_replay.proofs.dereferencing.dereference.Goals as goal
 
 pub returns-in_default-clause-done : goal.returns-in_default-clause-done
 returns-in_default-clause-done c = (Serves, derefs_at_once c.args.evac.now c.try_view.new.evac c.args.owner c.args.pointer c.try_view.ensures.state c.in_default.ensures.viewed c.try_view.ensures.order c.try_view.ensures.device)
