@@ -20,7 +20,8 @@ use Rattle.far_replay.specs.Dereference.{dereferenced, has_no_room, sought}
 use Rattle.far_replay.specs.Effects.{with_object, with_epoch, with_scope, with_view, is_slow, with_data, without_object}
 use Rattle.far_replay.specs.Moment.{Moment, with_core}
 use Rattle.far_replay.specs.Objects.{uses, object_len, data_of, lowest_cell, is_range}
-use Rattle.far_reply.specs.Reply.{Reply, Done, Pointer, Data, Logs as Told, Lies, Audited, EpochRead, Refused, LogLine}
+use Rattle.far_reply.specs.Reply.{Reply, Done, Pointer, Data, Logs as Told, Lies, Audited, EpochRead, Refused}
+use Rattle.far_reply.specs.declared.reply.LogLine.{LogLine}
 use Rattle.far_replay.specs.Rounds.{refused_step, step_causes, step_effect, step_reply}
 
 -- ---- when a command is refused

@@ -5,7 +5,8 @@ use Rattle.far_core.specs.declared.machine.Core.{Core}
 use Rattle.far_core.specs.state.CoreState.{core_state}
 use Rattle.far_core.specs.state.State.{State}
 use Rattle.far_replay.specs.Moment.{state_in}
-use Rattle.far_reply.specs.Reply.{Logs, LogLine}
+use Rattle.far_reply.specs.Reply.{Logs}
+use Rattle.far_reply.specs.declared.reply.LogLine.{LogLine}
 use Rattle.far_replay.proofs.inquiries.tell_log.Goals as goal
 
 pub returns-clause-reply : goal.returns-clause-reply
