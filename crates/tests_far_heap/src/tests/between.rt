@@ -18,7 +18,7 @@ use std::thread::{Threads, join};
 const OBJECTS: u16 = 96;
 
 /// How many rounds are made at most, until one was seen between its turns.
-const ROUNDS: u64 = 2_000;
+const ROUNDS: u64 = 200_000;
 
 /// How often all objects are sent far and viewed.
 const PASSES: u64 = 12;
