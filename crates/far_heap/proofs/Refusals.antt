@@ -7,7 +7,6 @@ use mathlib.Core.Logic.{dite}
 use native.Mathlib.Decide.{ℕ_discrete}
 use Rattle.far_word.specs.declared.refused.Refused.{Refused}
 use Rattle.far_word.specs.declared.refused.Refused.TheVariants.{Held, NotHeld, Range}
-use Rattle.far_word.specs.declared.sizes.TheConstants.{LONGEST}
 use Rattle.far_heap.specs.Mine.{is_length, is_range, len_in, uses, views}
 use Rattle.far_heap.specs.Refusals.{RefusalsAreSo}
 
@@ -93,9 +92,9 @@ refusals_are_so = record {
   viewed = λ m p. viewed_by (uses m p) (views m p);
 }
 
--- an object has 1 to LONGEST bytes
-pub length_within : (len : ℕ) → is_length len ≡ true → (1 ≤ len) × (len ≤ LONGEST)
+-- an object has 1 to 1,016 bytes
+pub length_within : (len : ℕ) → is_length len ≡ true → (1 ≤ len) × (len ≤ 1016)
 length_within len h = (refusals_are_so.lengths len).0 h
 
-pub length_allowed : (len : ℕ) → 1 ≤ len → len ≤ LONGEST → is_length len ≡ true
+pub length_allowed : (len : ℕ) → 1 ≤ len → len ≤ 1016 → is_length len ≡ true
 length_allowed len some most = (refusals_are_so.lengths len).1 (some, most)
