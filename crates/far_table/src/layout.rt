@@ -1,5 +1,7 @@
 // Where each shared word stands: one layout, for the largest heap. Word 0 is for the split of seats, and no word of the heap; the words of
 // the copiers' jobs stand between the cells and the logs. The epoch and each scope word have a line of cache, in which no other word is written.
+ghost use Rattle.far_table.specs.Layout.{LayoutIs};
+
 use far_word::{LOG_WORDS, MOST_LOGS, MOST_MUTATORS, POINTERS};
 
 /// How many words a line of cache has, of 128 bytes.
@@ -28,3 +30,9 @@ pub(crate) const LOGS: usize = JOBS_AT + JOBS;
 
 /// How many words there are.
 pub(crate) const TABLE_WORDS: usize = LOGS + WORDS_OF_LOGS;
+
+/// Where each word stands, and how many there are, in numerals.
+#[tactic(auto, using(crate::proofs::Words::layout_is))]
+pub fn layout_is()
+    ensures { LayoutIs }
+{}

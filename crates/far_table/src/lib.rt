@@ -14,6 +14,7 @@ mod start;
 mod view;
 
 pub use book::BookSeat;
+pub use layout::layout_is;
 pub use rule::{FarRule, FarTable, Plan};
 pub use seat::MutSeat;
 pub use start::share;
