@@ -1,6 +1,6 @@
 -- What a memory's rows say past their ends, and that a state is what it says within them.
-use Rattle.std.proofs.Common.{◌≡◌, ℕ, ◌+◌, ◌*◌, ◌<◌, ◌≤◌, ◌∙◌, Bool, true, false, cond, nat_lt, arith, ap, refl, sym, inl, inr, get_or, None}
-use Rattle.std.proofs.lemmas.Bool.{cases_lt, le-ltb}
+use Rattle.std.proofs.Common.{◌≡◌, ℕ, ◌*◌, ◌<◌, ◌≤◌, ◌∙◌, false, arith, ap, refl, sym, inl, inr, None}
+use Rattle.std.proofs.lemmas.Bool.{cases_lt}
 use Rattle.std.proofs.lemmas.List.{get_or_past}
 use mathlib.Core.Path.{fun_ext}
 use Rattle.far_word.specs.declared.sizes.TheConstants.{CELLS, LOG_WORDS}
@@ -9,6 +9,7 @@ use Rattle.far_core.specs.declared.memory.Memory.{Memory}
 use Rattle.far_core.specs.laws.Ends.{HasNothingPast, IsWhatIsWithin}
 use Rattle.far_core.specs.state.Memory.{state_of}
 use Rattle.far_core.specs.state.State.{State}
+use Rattle.far_core.proofs.StoredRows.{stored_behind, stored_past}
 
 pub has_nothing_past : (c : Memory) → HasNothingPast (state_of c)
 unfolding state_of
@@ -24,12 +25,9 @@ has_nothing_past c = record {
   cells = λ p le. get_or_past c.cells.items p 0 (omega (arith, le, c.cells.ok.0, c.cells_sized));
   uses = λ p le. get_or_past c.used.items p false (omega (arith, le, c.used.ok.0, c.used_sized));
   holds = λ p le. get_or_past c.held.items p None (omega (arith, le, c.held.ok.0, c.held_sized));
-  stores = λ p i le. blank (nat_lt i LOG_WORDS) _ (get_or_past c.stored.items (p * LOG_WORDS + i) 0 (omega (arith, le, c.stored.ok.0, c.stored_within)));
-  rows = λ p i le. ap (λ b. cond b (get_or c.stored.items (p * LOG_WORDS + i) 0) 0) (le-ltb i LOG_WORDS le);
-} where
-  blank : (b : Bool) (x : ℕ) → x ≡ 0 → cond b x 0 ≡ 0
-  blank true x e = e
-  blank false x e = refl
+  stores = λ p i le. stored_past c.stored p i (omega (arith, le, c.stored.row_of.ok.0, c.stored_sized));
+  rows = λ p i le. stored_behind c.stored p i le;
+}
 
 -- two rows that agree up to their end, and have the same past it
 alike : {X : Type 0} (f g : ℕ → X) (n k : ℕ) (d : X) → n ≡ k → ((q : ℕ) → n ≤ q → f q ≡ d) → ((q : ℕ) → k ≤ q → g q ≡ d) → ((q : ℕ) → q < n → f q ≡ g q) → f ≡ g

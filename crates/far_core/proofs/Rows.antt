@@ -1,5 +1,5 @@
 -- Words of which some are those of a row.
-use Rattle.std.proofs.Common.{◌≢◌, ◌≡◌, ℕ, suc, ◌+◌, ◌-◌, ◌*◌, ◌/◌, ◌<◌, ◌≤◌, ◌⊎◌, true, false, cond, ◌&&◌, nat_lt, nat_le, refl, sym, ap, ◌∙◌, arith, inl, inr, List, ◌++◌, length, take, drop, get_or}
+use Rattle.std.proofs.Common.{◌≢◌, ◌≡◌, ℕ, suc, ◌+◌, ◌-◌, ◌*◌, ◌/◌, ◌<◌, ◌≤◌, ◌⊎◌, true, false, cond, ◌&&◌, nat_lt, nat_le, refl, sym, ap, ◌∙◌, subst, arith, inl, inr, List, ◌++◌, length, take, drop, get_or}
 use Rattle.std.specs.Prelude.{◌==◌, replicate}
 use Rattle.std.proofs.lemmas.List.{get_or-append_right, get_or_append_left, get_or-replicate, get_or-take, get_or-drop, length-drop, length-replicate, length-take-le, length-append, with_items_is}
 use Rattle.std.specs.Vec.{with_items}
@@ -7,6 +7,8 @@ use Rattle.std.specs.declared.vec.Vec.{Vec}
 use borrow.Rule.Slice.PartMut.{put_mid, post_of, mid_of}
 use Rattle.std.proofs.lemmas.Bool.{cases_lt, cases_eq, eq-eqb, ne_eqb}
 use Rattle.std.proofs.lemmas.Bool.Decides.{nat_tests}
+use Rattle.std.proofs.lemmas.Nat.{div-mul-add}
+use Rattle.std.proofs.Math.Nat.{div-mul-le_self, lt-div-mul-add}
 use mathlib.Core.Path.{fun_ext}
 use Rattle.far_core.specs.state.State.{put}
 use Rattle.far_core.proofs.Begins.{row_of}
@@ -98,35 +100,53 @@ module _ {Z : Type 0} (v : Vec ℕ Z) (xs ys : List ℕ) (a k : ℕ) (same : xs 
       row_written (replicate n 0) (is ∙ ap (λ m. replicate m 0) part) (size ∙ sym long) (omega (arith, long))
       ∙ (λ i. with_row (λ q. get_or v.items q 0) a (long i) (λ q. row_of (replicate n 0) n 0 refl q i))
 
--- a row whose part m, of the parts of 128, is x
-abbrev with_part : {X : Type 0} → (ℕ → X) → X → ℕ → ℕ → X
-with_part f x m q = cond (q / 128 == m) x (f q)
+-- a row whose part m, of the parts of n, is x
+abbrev with_part : {X : Type 0} → ℕ → (ℕ → X) → X → ℕ → ℕ → X
+with_part n f x m q = cond (q / n == m) x (f q)
 
--- one of the parts of 128 of a `Vec` filled with x
-module _ {X Z : Type 0} (v : Vec X Z) (xs ys : List X) (a k : ℕ) (same : xs ≡ v.items) (x d : X) (m : ℕ) (first : a ≡ m * 128) (size : k ≡ 128)
-    (is : ys ≡ replicate (length (mid_of a k xs)) x) (fits : a + 128 ≤ length v.items) where
+-- the part of the parts of n in which q lies
+module _ (n m q : ℕ) (some : 0 < n) where
+  part_low : q / n ≡ m → m * n ≤ q
+  part_low e = subst (λ r. r * n ≤ q) e (div-mul-le_self q n)
+
+  part_high : q / n ≡ m → q < m * n + n
+  part_high e = subst (λ r. q < r * n + n) e (lt-div-mul-add some)
+
+  part_out : q / n ≢ m → (q < m * n) ⊎ (m * n + n ≤ q)
+  part_out ne = elim (cases_lt q (m * n)) [
+    | inl low ↦ inl low
+    | inr high ↦ elim (cases_lt q (m * n + n)) [
+      | inl lt ↦ absurd (ne (
+          let at : m * n + (q - m * n) ≡ q = omega (arith, high) in
+          sym (ap (λ r. r / n) at) ∙ div-mul-add m n (q - m * n) (omega (arith, high, lt))))
+      | inr past ↦ inr past
+    ]
+  ]
+
+-- one of the parts of n of a `Vec` filled with x
+module _ {X Z : Type 0} (n : ℕ) (some : 0 < n) (v : Vec X Z) (xs ys : List X) (a k : ℕ) (same : xs ≡ v.items) (x d : X) (m : ℕ) (first : a ≡ m * n) (size : k ≡ n)
+    (is : ys ≡ replicate (length (mid_of a k xs)) x) (fits : a + n ≤ length v.items) where
   filled_list : (with_items v (put_mid a k xs ys)).items ≡ put_mid a k v.items (replicate k x)
   filled_list =
       let behind : length (drop a xs) ≡ length v.items - a = length-drop a xs ∙ ap (λ l. length l - a) same in
       let part : length (mid_of a k xs) ≡ k = length-take-le k (drop a xs) (omega (arith, behind)) in
       let long : length (put_mid a k v.items (replicate k x)) ≡ v.len = written_len a k v.items (replicate k x) (omega arith) (length-replicate k x) ∙ sym v.ok.0 in
-      (λ i. (with_items v (put_mid a k (same i) ((is ∙ ap (λ n. replicate n x) part) i))).items) ∙ with_items_is v (put_mid a k v.items (replicate k x)) long
+      (λ i. (with_items v (put_mid a k (same i) ((is ∙ ap (λ l. replicate l x) part) i))).items) ∙ with_items_is v (put_mid a k v.items (replicate k x)) long
 
-  filled_at : (q : ℕ) → get_or (put_mid a k v.items (replicate k x)) q d ≡ with_part (λ q. get_or v.items q d) x m q
-  filled_at q = elim (cases_eq (q / 128) m) [
-    | inl e ↦ written_in v.items (replicate k x) d a k q (sym long) (omega arith) (omega arith) (omega (arith, long))
-        ∙ get_or-replicate k (q - a) x d (omega arith) ∙ sym (ap (λ b. cond b x (get_or v.items q d)) (eq-eqb (q / 128) m e))
-    | inr ne ↦ written_out v.items (replicate k x) d a k q (sym long) (omega arith) (outside ne)
-        ∙ sym (ap (λ b. cond b x (get_or v.items q d)) (ne_eqb (q / 128) m ne))
+  filled_at : (q : ℕ) → get_or (put_mid a k v.items (replicate k x)) q d ≡ with_part n (λ q. get_or v.items q d) x m q
+  filled_at q = elim (cases_eq (q / n) m) [
+    | inl e ↦ (let low : m * n ≤ q = part_low n m q some e in let high : q < m * n + n = part_high n m q some e in
+        written_in v.items (replicate k x) d a k q (sym long) (omega arith) (omega (arith, low)) (omega (arith, long, high))
+        ∙ get_or-replicate k (q - a) x d (omega (arith, low, high)) ∙ sym (ap (λ b. cond b x (get_or v.items q d)) (eq-eqb (q / n) m e)))
+    | inr ne ↦ written_out v.items (replicate k x) d a k q (sym long) (omega arith) (outside (part_out n m q some ne))
+        ∙ sym (ap (λ b. cond b x (get_or v.items q d)) (ne_eqb (q / n) m ne))
   ] where
     long : length (replicate k x) ≡ k
     long = length-replicate k x
 
-    outside : q / 128 ≢ m → (q < a) ⊎ (a + length (replicate k x) ≤ q)
-    outside ne = elim (cases_lt q a) [
-      | inl low ↦ inl low
-      | inr high ↦ inr (omega (arith, long))
-    ]
+    outside : (q < m * n) ⊎ (m * n + n ≤ q) → (q < a) ⊎ (a + length (replicate k x) ≤ q)
+    outside (inl low) = inl (omega (arith, low))
+    outside (inr past) = inr (omega (arith, long, past))
 
-  pub part_filled : (λ (q : ℕ). get_or (with_items v (put_mid a k xs ys)).items q d) ≡ with_part (λ q. get_or v.items q d) x m
+  pub part_filled : (λ (q : ℕ). get_or (with_items v (put_mid a k xs ys)).items q d) ≡ with_part n (λ q. get_or v.items q d) x m
   part_filled = fun_ext (λ q. ap (λ l. get_or l q d) filled_list ∙ filled_at q)

@@ -4,6 +4,8 @@ pub mod Law
 pub mod Memory
 pub mod Opening
 pub mod Room
+pub mod Rows
 pub mod Shape
 pub mod Spans
 pub mod State
+pub mod StoredRows

@@ -1,7 +1,7 @@
 //! The words of a core and what each seat knows of them, as plain data.
 
 ghost use Rattle.std.specs.Prelude.{◌≡◌, ◌*◌, ◌<◌, ◌≤◌};
-ghost use Rattle.std.specs.Vec.{vec_capacity, vec_len};
+ghost use Rattle.std.specs.Vec.{vec_len};
 ghost use Rattle.far_word.specs.declared.sizes.TheConstants.{CELLS, LOG_WORDS, MOST_LOGS, MOST_MUTATORS};
 
 mod book;
@@ -11,9 +11,11 @@ mod quiet;
 mod ranges;
 pub(crate) mod reading;
 mod round;
+pub(crate) mod stored_rows;
 mod writing;
 
 use crate::event::Kind;
+use crate::memory::stored_rows::StoredRows;
 use far_word::Place;
 
 /// The words and views. All its memory is taken when it is made.
@@ -37,8 +39,8 @@ pub(crate) struct Memory {
     pub(crate) round: Vec<bool>,
     pub(crate) round_epoch: u64,
     pub(crate) clear: Vec<bool>,
-    // A row of words for each pointer, as far as one was stored: the room for all rows is taken, and nothing is written to it.
-    pub(crate) stored: Vec<u64>,
+    // The words of far objects, as they were stored.
+    pub(crate) stored: StoredRows,
     ghost remembered_sized: { vec_len remembered ≡ vec_len scopes },
     ghost kinds_sized: { vec_len kinds ≡ vec_len tails },
     ghost current_within: { current < vec_len tails },
@@ -51,6 +53,5 @@ pub(crate) struct Memory {
     ghost held_sized: { vec_len held ≡ CELLS * vec_len scopes },
     ghost round_sized: { vec_len round ≡ vec_len tails },
     ghost clear_sized: { vec_len clear ≡ vec_len scopes },
-    ghost stored_within: { vec_len stored ≤ LOG_WORDS * (CELLS * vec_len scopes) },
-    ghost stored_room: { LOG_WORDS * (CELLS * vec_len scopes) ≤ vec_capacity stored },
+    ghost stored_sized: { vec_len stored.row_of ≡ CELLS * vec_len scopes },
 }

@@ -6,7 +6,7 @@ use Rattle.far_word.specs.Mark.{field}
 use Rattle.far_word.specs.declared.job.Job.{Job}
 use Rattle.far_word.specs.declared.job.JobWord.{JobWord}
 use Rattle.far_word.specs.declared.job.JobWord.TheVariants.{Empty, Offered, Taken, Finished}
-use Rattle.far_word.specs.declared.sizes.TheConstants.{MOST_COPIERS, MOST_LOGS, POINTERS}
+use Rattle.far_word.specs.declared.sizes.TheConstants.{LAST_AT, MOST_COPIERS, MOST_LOGS, POINTERS}
 use Rattle.far_word.proofs.Words.{split_at, or_up, at_guard, at_choice}
 
 -- ---- a word is packed from its lowest field up
@@ -58,8 +58,8 @@ job_says w v e = subst (λ (o : Option JobWord). IfSome o (SaysJob w)) e (job_fo
 fits_back : (w : ℕ) → IsJob (job_in w) → field w 52 6 ≡ 0 → names_job w ≡ true
 fits_back w ok gap =
     let p : field w 0 16 < POINTERS = ok.cell in
-    let a : field w 26 8 < MOST_LOGS = ok.from.0 in let b : field w 16 10 ≤ 126 = ok.from.1 in
-    let c : field w 44 8 < MOST_LOGS = ok.to.0 in let d : field w 34 10 ≤ 126 = ok.to.1 in
+    let a : field w 26 8 < MOST_LOGS = ok.from.0 in let b : field w 16 10 ≤ LAST_AT = ok.from.1 in
+    let c : field w 44 8 < MOST_LOGS = ok.to.0 in let d : field w 34 10 ≤ LAST_AT = ok.to.1 in
     grind (arith, nat_tests)
 
 module _ (k : Job) (c stage : ℕ) (ok : IsJob k) (few : c < MOST_COPIERS) (some : 0 < stage) (three : stage ≤ 3) where

@@ -4,12 +4,12 @@ use Rattle.far_word.specs.declared.job.Job.{Job}
 use Rattle.far_word.specs.declared.job.JobWord.{JobWord}
 use Rattle.far_word.specs.declared.job.JobWord.TheVariants.{Empty, Offered, Taken, Finished}
 use Rattle.far_word.specs.declared.pointer.Place.{Place}
-use Rattle.far_word.specs.declared.sizes.TheConstants.{MOST_COPIERS, MOST_LOGS, POINTERS}
+use Rattle.far_word.specs.declared.sizes.TheConstants.{LAST_AT, MOST_COPIERS, MOST_LOGS, POINTERS}
 use Rattle.far_word.specs.Mark.{field}
 
 -- a place where a header may stand
 abbrev pub IsJobPlace : Place → Type 0
-IsJobPlace place = (place.log < MOST_LOGS) × (place.at ≤ 126)
+IsJobPlace place = (place.log < MOST_LOGS) × (place.at ≤ LAST_AT)
 
 -- a job that lies on the layout
 pub record IsJob (k : Job) : Type 0 where
@@ -40,7 +40,7 @@ abbrev pub job_in : ℕ → Job
 job_in w = record { pointer = field w 0 16; from = record { log = field w 26 8; at = field w 16 10 }; to = record { log = field w 44 8; at = field w 34 10 } }
 
 abbrev pub fits_place : Place → Bool
-fits_place place = nat_lt place.log MOST_LOGS && nat_le place.at 126
+fits_place place = nat_lt place.log MOST_LOGS && nat_le place.at LAST_AT
 
 abbrev pub fits_job : Job → Bool
 fits_job k = nat_lt k.pointer POINTERS && fits_place k.from && fits_place k.to

@@ -7,7 +7,7 @@ ghost use Rattle.far_word.specs.Job.{IsJob, IsJobWord, fits_job, fits_place, job
 
 use crate::field::field;
 use crate::pointer::Place;
-use crate::sizes::{MOST_COPIERS, MOST_LOGS, POINTERS};
+use crate::sizes::{LAST_AT, MOST_COPIERS, MOST_LOGS, POINTERS};
 
 const FROM_AT: u32 = 16;
 
@@ -22,9 +22,6 @@ const GAP: u32 = 52;
 const COPIER: u32 = 58;
 
 const STAGE: u32 = 62;
-
-// the last word of a log where the header of a span may stand
-const LAST_AT: u16 = 126;
 
 /// An object that is copied: its pointer, the place where it lies, and the place where its copy comes to stand.
 #[derive(Clone, Copy, Debug, PartialEq, Eq)]

@@ -1,7 +1,7 @@
 //! What holds of every word, and what the numbers are, as contracts of functions that do nothing.
 
 ghost use Rattle.std.specs.Prelude.{◌≡◌, ◌+◌, ◌*◌, ◌^◌};
-ghost use Rattle.far_word.specs.declared.sizes.TheConstants.{LOG_WORDS, LOG_BYTES, LONGEST, LEAST_LOGS, MOST_LOGS, LEAST_MUTATORS, MOST_MUTATORS, CELLS, POINTERS, JOBS, MOST_COPIERS, EPOCH_END};
+ghost use Rattle.far_word.specs.declared.sizes.TheConstants.{LOG_WORDS, LOG_BYTES, LAST_AT, LONGEST, LEAST_LOGS, MOST_LOGS, LEAST_MUTATORS, MOST_MUTATORS, CELLS, POINTERS, JOBS, MOST_COPIERS, EPOCH_END};
 ghost use Rattle.far_word.specs.Header.{len_in, ds_in, pointer_in, version_in, head_word};
 ghost use Rattle.far_word.specs.Mark.{field};
 ghost use Rattle.far_word.specs.Laws.{MarkIsSet, MarkIsRead, MarkIsRefused, EvacIsCleared, OwnerMarksAreCleared, ViewsRest, PointersReadBack, PointersPackBack, HeadersReadBack, HeadersPackBack, JobsReadBack, JobsPackBack, ScopesReadBack, ScopesPackBack, WordsHoldBytes, HeaderIsAdded, ObjectsFit, BytesUnpackBack, WordsPackBack, WrittenIsRead, RefusalsAreNumbered};
@@ -60,6 +60,7 @@ pub fn packed_bytes()
 pub fn sizes_are()
     ensures log_words { LOG_WORDS ≡ 128 }
     ensures log_bytes { LOG_BYTES ≡ 1024 }
+    ensures last_at { LAST_AT ≡ 126 }
     ensures longest { LONGEST ≡ 1016 }
     ensures least_logs { LEAST_LOGS ≡ 2 }
     ensures most_logs { MOST_LOGS ≡ 64 }

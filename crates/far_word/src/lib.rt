@@ -28,6 +28,6 @@ pub use pointer::{
 pub use refused::Refused;
 pub use scope::ScopeWord;
 pub use sizes::{
-    CELLS, EPOCH_END, JOBS, LEAST_LOGS, LEAST_MUTATORS, LOG_BYTES, LOG_WORDS, LONGEST,
+    CELLS, EPOCH_END, JOBS, LAST_AT, LEAST_LOGS, LEAST_MUTATORS, LOG_BYTES, LOG_WORDS, LONGEST,
     MOST_COPIERS, MOST_LOGS, MOST_MUTATORS, POINTERS, size_of, words_for,
 };

@@ -9,6 +9,9 @@ pub const LOG_WORDS: u16 = 128;
 /// The bytes of a log.
 pub const LOG_BYTES: u16 = LOG_WORDS * 8;
 
+/// The last word of a log where the header of an object may stand: one data word follows.
+pub const LAST_AT: u16 = LOG_WORDS - 2;
+
 /// The most data bytes of an object.
 pub const LONGEST: u16 = 1016;
 

@@ -1,12 +1,11 @@
 -- The state that a core's memory has.
-use Rattle.std.specs.Prelude.{◌+◌, ◌*◌, false, cond, nat_lt, None, slice_index, slice_index_or}
+use Rattle.std.specs.Prelude.{false, None, slice_index, slice_index_or}
 use Rattle.std.specs.Vec.{vec_len}
-use Rattle.far_word.specs.declared.sizes.TheConstants.{LOG_WORDS}
 use Rattle.far_core.specs.declared.event.Kind.TheVariants.{Free}
 use Rattle.far_core.specs.declared.memory.Memory.{Memory}
 use Rattle.far_core.specs.state.State.{State}
+use Rattle.far_core.specs.state.StoredRows.{stored_in}
 
--- stored words lie in a row for each pointer; behind what was written all words are 0
 unfoldable pub state_of : Memory → State
 state_of c = record {
   mutators = vec_len c.scopes;
@@ -26,5 +25,5 @@ state_of c = record {
   round = λ l. slice_index_or c.round.items l false;
   round_epoch = c.round_epoch;
   clear = λ m. slice_index_or c.clear.items m false;
-  stored = λ p i. cond (nat_lt i LOG_WORDS) (slice_index c.stored.items (p * LOG_WORDS + i)) 0;
+  stored = stored_in c.stored;
 }

@@ -14,6 +14,7 @@ ghost use Rattle.far_core.specs.state.Shape.{is_shape};
 use crate::event::Kind;
 use crate::machine::Core;
 use crate::memory::Memory;
+use crate::memory::stored_rows::StoredRows;
 use crate::shape::Shape;
 use far_word::{CELLS, LOG_WORDS, Refused};
 use std::alloc::{AllocError, Global};
@@ -61,7 +62,7 @@ impl Memory {
             round: vec![in alloc; false; logs]?,
             round_epoch: shape.epoch,
             clear: vec![in alloc; false; mutators]?,
-            stored: Vec::with_capacity(alloc, LOG_WORDS as usize * cells)?,
+            stored: StoredRows::new(alloc, cells)?,
         })
     }
 }

@@ -197,10 +197,7 @@ impl Memory {
         requires { index < LOG_WORDS }
         ensures { result ≡ (state_of self.now).stored pointer index }
     {
-        self.stored
-            .get(first_stored(pointer) + index as usize)
-            .copied()
-            .unwrap_or(0)
+        self.stored.word(pointer, index)
     }
 
     #[tactic(auto, unfolding(crate::specs::state::Memory::state_of))]
@@ -257,13 +254,6 @@ pub(crate) fn first_word(place: Place) -> usize
     ensures { result ≡ addr place }
 {
     place.log as usize * LOG_WORDS as usize + place.at as usize
-}
-
-/// Where the row of a pointer's stored words begins.
-pub(crate) fn first_stored(pointer: u16) -> usize
-    ensures { result ≡ pointer * LOG_WORDS }
-{
-    pointer as usize * LOG_WORDS as usize
 }
 
 /// Whether a cell is used and not dropped.

@@ -1,14 +1,12 @@
 //! One place of the memory written.
 
-ghost use Rattle.std.specs.Prelude.{◌≡◌, ◌+◌, ◌*◌, ◌<◌, ◌≤◌, ◌/◌, ◌==◌, cond, nat_lt, Some, None, true, false};
-ghost use Rattle.std.specs.Vec.{vec_len};
+ghost use Rattle.std.specs.Prelude.{◌≡◌, ◌+◌, ◌*◌, ◌<◌, ◌≤◌, ◌/◌, ◌==◌, cond, Some, None, true, false};
 ghost use Rattle.far_core.specs.events.namings.Evicts.{with_kept};
 ghost use Rattle.far_core.specs.state.State.{State, put};
 ghost use Rattle.far_core.specs.state.Memory.{state_of};
 
 use crate::event::Kind;
 use crate::memory::Memory;
-use crate::memory::reading::first_stored;
 use far_word::{CELLS, LOG_WORDS, Place};
 
 impl Memory {
@@ -152,41 +150,15 @@ impl Memory {
     }
 
     /// The words from one on are stored for a pointer, as many as they are; its other stored words stay.
+    #[tactic(auto, unfolding(crate::specs::state::Memory::state_of))]
     pub(crate) fn store_away(&mut self, pointer: u16, from: usize, count: u16)
         requires pointer { pointer < CELLS * (state_of self.old).mutators }
         requires row { count ≤ LOG_WORDS }
         requires inside { from + count ≤ LOG_WORDS * (state_of self.old).logs }
         ensures { state_of self.new ≡ record (state_of self.old) { stored = put (state_of self.old).stored pointer (with_kept (state_of self.old).word (state_of self.old).stored pointer from count) } }
     {
-        self.reach_row(pointer);
-        self.copy_row(pointer, from, count);
-    }
-
-    /// Zeros go into the rows of stored words up to a pointer's, where nothing was written yet.
-    #[tactic(auto, unfolding(crate::specs::state::Memory::state_of))]
-    fn reach_row(&mut self, pointer: u16)
-        requires { pointer < CELLS * (state_of self.old).mutators }
-        ensures state { state_of self.new ≡ state_of self.old }
-        ensures row { pointer * LOG_WORDS + LOG_WORDS ≤ vec_len self.new.stored }
-    {
-        let end = first_stored(pointer) + LOG_WORDS as usize;
-        if self.stored.len() < end {
-            self.stored.resize(end, 0).unwrap();
-        }
-    }
-
-    /// The words from one on become the first of a pointer's row.
-    #[tactic(auto, unfolding(crate::specs::state::Memory::state_of))]
-    fn copy_row(&mut self, pointer: u16, from: usize, count: u16)
-        requires row { count ≤ LOG_WORDS }
-        requires reached { pointer * LOG_WORDS + LOG_WORDS ≤ vec_len self.old.stored }
-        requires inside { from + count ≤ LOG_WORDS * (state_of self.old).logs }
-        ensures { state_of self.new ≡ record (state_of self.old) { stored = put (state_of self.old).stored pointer (with_kept (state_of self.old).word (state_of self.old).stored pointer from count) } }
-    {
-        let row = first_stored(pointer);
-        self.stored[row..row + count as usize].copy_from_slice(
-            &self.words[from..from + count as usize],
-        );
+        self.stored
+            .store(pointer, &self.words[from..from + count as usize]);
     }
 
     /// The owner holds nothing from now on.

@@ -1,5 +1,6 @@
 use Rattle.std.proofs.Common.{◌+◌, ◌-◌, ◌*◌, ℕ, ap, arith, refl, rules, Option, None}
 use Rattle.far_word.specs.declared.pointer.Place.{Place}
+use Rattle.far_word.specs.declared.sizes.TheConstants.{CELLS}
 use Rattle.far_core.specs.state.Memory.{state_of}
 use Rattle.far_core.proofs.Rows.{part_filled}
 use Rattle.far_core.proofs.memory.Memory.let_go.Goals as goal
@@ -7,5 +8,5 @@ use Rattle.far_core.proofs.memory.Memory.let_go.Goals as goal
 pub returns : goal.returns
 unfolding state_of
 returns c = ap (λ (f : ℕ → Option Place). record (state_of c.args.self.now) { held = f })
-    (part_filled c.args.self.now.held _ c.fill.new.self (c.args.owner * 128) (c.args.owner * 128 + 128 - c.args.owner * 128) c.deref_mut.ensures.value
+    (part_filled CELLS (omega arith) c.args.self.now.held _ c.fill.new.self (c.args.owner * CELLS) (c.args.owner * CELLS + CELLS - c.args.owner * CELLS) c.deref_mut.ensures.value
     None None c.args.owner refl (omega arith) (c.fill.ensures.after (λ y e. search rules)) (omega (arith, c.requires, c.args.self.now.held_sized)))

@@ -1,8 +1,7 @@
-use Rattle.std.proofs.Common.{◌+◌, ◌*◌, ap, false, get_or, None, rules}
-use Rattle.far_word.specs.declared.sizes.TheConstants.{LOG_WORDS}
+use Rattle.std.proofs.Common.{false, None, rules}
 use Rattle.far_core.specs.declared.event.Kind.TheVariants.{Free}
 use Rattle.far_core.specs.state.Memory.{state_of}
-use Rattle.far_core.proofs.Begins.{masked, row_of}
+use Rattle.far_core.proofs.Begins.{row_of}
 use Rattle.far_core.proofs.memory.Memory.unopened.Goals as goal
 
 pub returns : goal.returns
@@ -25,5 +24,5 @@ returns c = λ i. record {
   round = λ q. row_of _ _ false (c.in_ok-vec-9.ensures.items_if_clones_equal (λ y e. e)) q i;
   round_epoch = c.args.shape.epoch;
   clear = λ q. row_of _ _ false (c.in_ok-vec-10.ensures.items_if_clones_equal (λ y e. e)) q i;
-  stored = λ p j. masked j LOG_WORDS _ (ap (λ ys. get_or ys (p * LOG_WORDS + j) 0) c.in_ok-with_capacity.ensures.items) i;
+  stored = λ p j. c.in_ok-new.ensures.blank p j i;
 }
