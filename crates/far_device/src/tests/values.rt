@@ -7,27 +7,27 @@ use crate::{
     Device, DeviceFault, FailAt, Liar, MemDevice, hand_over, the_kth_call_fails, the_kth_read_lies,
 };
 use std::alloc::Global;
-use std::process::Abort;
 use std::test::*;
 
-// What is read under a key is this, and no fault is counted.
-fn gives(rt: &impl Abort, device: &mut MemDevice, id: u32, wanted: &[u8]) -> Result<(), Fail> {
+// Whether what is read under a key is this, and no fault is counted.
+fn gives(device: &mut MemDevice, id: u32, wanted: &[u8]) -> bool {
     let before = device.faults();
-    let given = device.read(id)?;
-    assert_eq!(rt; given.as_slice(), wanted, "under {id}");
-    assert_eq!(rt; device.faults(), before);
-    Ok(())
+    let is_given = match device.read(id) {
+        Ok(bytes) => bytes.as_slice() == wanted,
+        Err(_) => false,
+    };
+    is_given && device.faults() == before
 }
 
-// Under a key is nothing: a read of it is one fault.
-fn has_nothing(rt: &impl Abort, device: &mut MemDevice, id: u32) {
+// Whether these bytes are written under a key, and are read there then.
+fn keeps(device: &mut MemDevice, id: u32, bytes: &[u8]) -> bool {
+    device.write(id, bytes).is_ok() && gives(device, id, bytes)
+}
+
+// Whether nothing is under a key: a read of it is one fault.
+fn has_nothing(device: &mut MemDevice, id: u32) -> bool {
     let before = device.faults();
-    assert_eq!(rt;
-        device.read(id).err(),
-        Some(DeviceFault::Device),
-        "under {id}"
-    );
-    assert_eq!(rt; device.faults(), before.wrapping_add(1));
+    is_fault(&device.read(id)) && device.faults() == before.wrapping_add(1)
 }
 
 // Whether a write and two reads fail as these say, and all other calls give the byte 7.
@@ -63,56 +63,70 @@ fn readme(rt: HostRuntime) -> Result<(), Fail> {
 }
 
 #[test]
-fn keys_are_apart(rt: HostRuntime) -> Result<(), Fail> {
+fn keys_are_apart(rt: HostRuntime) {
     let mut device = MemDevice::new(rt.alloc());
     let rows: [(u32, &[u8]); 4] = [(0, &[7; 1016]), (u32::MAX, &[255]), (1, &[]), (0, &[8, 9])];
     for (id, bytes) in rows {
-        has_nothing(&rt, &mut device, 2);
-        device.write(id, bytes)?;
-        gives(&rt, &mut device, id, bytes)?;
+        assert!(rt; has_nothing(&mut device, 2) && keeps(&mut device, id, bytes));
     }
     device.forget(1);
     device.forget(2);
-    has_nothing(&rt, &mut device, 1);
-    gives(&rt, &mut device, 0, &[8, 9])?;
-    gives(&rt, &mut device, u32::MAX, &[255])
+    assert!(rt; has_nothing(&mut device, 1) && gives(&mut device, 0, &[8, 9]));
+    assert!(rt; gives(&mut device, u32::MAX, &[255]));
 }
 
-#[test]
-fn many_keys(rt: HostRuntime) -> Result<(), Fail> {
-    let mut device = MemDevice::new(rt.alloc());
+// Whether each of 1,024 keys is written, with its number as bytes.
+fn writes_all(device: &mut MemDevice) -> bool {
     for id in 0..1024u32 {
-        device.write(id, &id.to_le_bytes())?;
+        if device.write(id, &id.to_le_bytes()).is_err() {
+            return false;
+        }
     }
+    true
+}
+
+// Whether nothing is under each even key, once it was forgotten.
+fn forgets_even(device: &mut MemDevice) -> bool {
     for id in 0..512u32 {
         device.forget(2 * id);
-        has_nothing(&rt, &mut device, 2 * id);
+        if !has_nothing(device, 2 * id) {
+            return false;
+        }
     }
+    true
+}
+
+// Whether each odd key has its number still.
+fn gives_odd(device: &mut MemDevice) -> bool {
     for id in 0..512u32 {
         let odd = 2 * id + 1;
-        gives(&rt, &mut device, odd, &odd.to_le_bytes())?;
+        if !gives(device, odd, &odd.to_le_bytes()) {
+            return false;
+        }
     }
-    Ok(())
+    true
 }
 
 #[test]
-fn the_row_ends_at_1024(rt: HostRuntime) -> Result<(), Fail> {
+fn many_keys(rt: HostRuntime) {
+    let mut device = MemDevice::new(rt.alloc());
+    assert!(rt; writes_all(&mut device) && forgets_even(&mut device) && gives_odd(&mut device));
+}
+
+#[test]
+fn the_row_ends_at_1024(rt: HostRuntime) {
     let mut device = MemDevice::new(rt.alloc());
     let rows: [(u32, &[u8]); 4] = [(1024, &[4; 100]), (1023, &[3]), (1024, &[4]), (1023, &[])];
     for (id, bytes) in rows {
-        device.write(id, bytes)?;
-        gives(&rt, &mut device, id, bytes)?;
+        assert!(rt; keeps(&mut device, id, bytes));
     }
-    assert_eq!(rt; device.row.len(), 1024);
-    has_nothing(&rt, &mut device, 0);
-    has_nothing(&rt, &mut device, 1025);
+    assert!(rt; device.row.len() == 1024);
+    assert!(rt; has_nothing(&mut device, 0) && has_nothing(&mut device, 1025));
     device.forget(1024);
-    has_nothing(&rt, &mut device, 1024);
-    gives(&rt, &mut device, 1023, &[])?;
-    device.write(1024, &[5; 8])?;
+    assert!(rt; has_nothing(&mut device, 1024) && gives(&mut device, 1023, &[]));
+    assert!(rt; device.write(1024, &[5; 8]).is_ok());
     device.forget(1023);
-    has_nothing(&rt, &mut device, 1023);
-    gives(&rt, &mut device, 1024, &[5; 8])
+    assert!(rt; has_nothing(&mut device, 1023) && gives(&mut device, 1024, &[5; 8]));
 }
 
 // Whether the buffer of a key of the row has room for so many bytes, and no more.
@@ -123,8 +137,15 @@ fn has_room(device: &MemDevice, id: usize, room: usize) -> bool {
     }
 }
 
+// Whether bytes are kept under a key, and its buffer has room for so many after that.
+fn keeps_room(device: &mut MemDevice, id: u32, bytes: &[u8], room: usize) -> bool {
+    let is_kept = keeps(device, id, bytes);
+    device.forget(id);
+    is_kept && has_room(device, id as usize, room)
+}
+
 #[test]
-fn buffers_are_used_again(rt: HostRuntime) -> Result<(), Fail> {
+fn buffers_are_used_again(rt: HostRuntime) {
     let mut device = MemDevice::new(rt.alloc());
     let rows: [(u32, &[u8], usize); 5] = [
         (1, &[7; 64], 64),
@@ -134,36 +155,23 @@ fn buffers_are_used_again(rt: HostRuntime) -> Result<(), Fail> {
         (1, &[6; 64], 127),
     ];
     for (id, bytes, room) in rows {
-        device.write(id, bytes)?;
-        gives(&rt, &mut device, id, bytes)?;
-        device.forget(id);
-        assert!(rt; has_room(&device, id as usize, room), "under {id}");
+        assert!(rt; keeps_room(&mut device, id, bytes, room));
     }
-    device.write(1, &[3; 128])?;
-    assert!(rt; has_room(&device, 1, 128));
+    assert!(rt; device.write(1, &[3; 128]).is_ok() && has_room(&device, 1, 128));
     device.forget(1);
     assert!(rt; has_room(&device, 1, 0));
-    Ok(())
 }
 
 #[test]
 fn faults_wrap(rt: HostRuntime) {
     let mut device = MemDevice::new(rt.alloc());
     device.faults = u64::MAX;
-    has_nothing(&rt, &mut device, 3);
-    assert_eq!(rt; device.faults(), 0);
+    assert!(rt; has_nothing(&mut device, 3) && device.faults() == 0);
 }
 
-// What is read into a buffer under key 1 is this.
-fn reads_into<D: Device + Drop>(
-    rt: &impl Abort,
-    device: &mut D,
-    buffer: &mut Vec<u8>,
-    wanted: &[u8],
-) -> Result<(), Fail> {
-    device.read_into(1, buffer)?;
-    assert!(rt; buffer.as_slice() == wanted, "of {} bytes", wanted.len());
-    Ok(())
+// Whether what is read into a buffer under key 1 is this.
+fn reads_into<D: Device + Drop>(device: &mut D, buffer: &mut Vec<u8>, wanted: &[u8]) -> bool {
+    device.read_into(1, buffer).is_ok() && buffer.as_slice() == wanted
 }
 
 // Whether a read into a buffer fails.
@@ -171,46 +179,63 @@ fn fails_into<D: Device + Drop>(device: &mut D, id: u32, buffer: &mut Vec<u8>) -
     device.read_into(id, buffer) == Err(DeviceFault::Device)
 }
 
-#[test]
-fn a_buffer_is_read_into(rt: HostRuntime) -> Result<(), Fail> {
-    let mut device = MemDevice::new(rt.alloc());
-    let mut buffer = Vec::with_capacity(rt.alloc(), 1016)?;
+// Whether bytes of each length from 0 to 1,016 are read into a buffer, whose room stays.
+fn reads_each_length(device: &mut MemDevice, buffer: &mut Vec<u8>) -> bool {
     let room = buffer.capacity();
     for len in 0..1017usize {
         let row = [(len % 256) as u8; 1016];
-        device.write(1, &row[..len])?;
-        reads_into(&rt, &mut device, &mut buffer, &row[..len])?;
-        assert!(rt; buffer.capacity() == room);
+        let is_read = device.write(1, &row[..len]).is_ok()
+            && reads_into(device, buffer, &row[..len]);
+        if !is_read || buffer.capacity() != room {
+            return false;
+        }
     }
+    true
+}
+
+#[test]
+fn a_buffer_is_read_into(rt: HostRuntime) -> Result<(), Fail> {
+    let mut buffer = Vec::with_capacity(rt.alloc(), 1016)?;
+    let room = buffer.capacity();
+    let mut device = MemDevice::new(rt.alloc());
+    assert!(rt; reads_each_length(&mut device, &mut buffer));
     assert!(rt; fails_into(&mut device, 2, &mut buffer) && device.faults() == 1);
     assert!(rt; buffer.capacity() == room);
-    reads_into(&rt, &mut device, &mut Vec::new(rt.alloc()), &[248; 1016])
+    assert!(rt; reads_into(&mut device, &mut Vec::new(rt.alloc()), &[248; 1016]));
+    Ok(())
+}
+
+// Whether a device that fails in its first read, and is short in its second, counts reads into a buffer.
+fn counts_reads<D: Device + Drop>(device: &mut D, buffer: &mut Vec<u8>) -> bool {
+    device.write(1, &[1, 2]).is_ok()
+        && fails_into(device, 1, buffer)
+        && device.faults() == 1
+        && reads_into(device, buffer, &[1])
+        && reads_into(device, buffer, &[1, 2])
 }
 
 #[test]
 fn a_read_into_a_buffer_is_counted(rt: HostRuntime) -> Result<(), Fail> {
-    let alloc = rt.alloc();
-    let mut device = Liar::short(FailAt::new(MemDevice::new(alloc), 2), 2);
-    device.write(1, &[1, 2])?;
-    let mut buffer = vec![in alloc; 9, 9, 9]?;
-    assert!(rt; fails_into(&mut device, 1, &mut buffer) && device.faults() == 1);
-    reads_into(&rt, &mut device, &mut buffer, &[1])?;
-    reads_into(&rt, &mut device, &mut buffer, &[1, 2])
+    let mut buffer = vec![in rt.alloc(); 9, 9, 9]?;
+    let mut device = Liar::short(FailAt::new(MemDevice::new(rt.alloc()), 2), 2);
+    assert!(rt; counts_reads(&mut device, &mut buffer));
+    Ok(())
 }
 
 #[test]
 fn bytes_are_handed_over(rt: HostRuntime) -> Result<(), Fail> {
-    let alloc = rt.alloc();
+    let mut buffer = Vec::with_capacity(rt.alloc(), 9)?;
     let mut device = Short {
-        inner: MemDevice::new(alloc),
+        inner: MemDevice::new(rt.alloc()),
     };
-    device.write(1, &[1, 2, 3])?;
-    let mut buffer = Vec::with_capacity(alloc, 9)?;
-    reads_into(&rt, &mut device, &mut buffer, &[1, 2])?;
+    assert!(rt;
+        device.write(1, &[1, 2, 3]).is_ok() && reads_into(&mut device, &mut buffer, &[1, 2])
+    );
     assert!(rt; buffer.capacity() == 9);
-    buffer = Vec::new(alloc);
-    hand_over(vec![in alloc; 4, 5]?, &mut buffer);
-    assert!(rt; buffer.as_slice() == [4, 5].as_slice());
+    let bytes = vec![in rt.alloc(); 4, 5]?;
+    let mut other = Vec::new(rt.alloc());
+    hand_over(bytes, &mut other);
+    assert!(rt; other.as_slice() == [4, 5].as_slice());
     Ok(())
 }
 
@@ -253,9 +278,9 @@ fn one_call_fails(rt: HostRuntime) {
     ];
     for (k, write, first, second) in rows {
         let mut device = FailAt::new(MemDevice::new(rt.alloc()), k);
-        assert!(rt; fails_so(&mut device, write, first, second), "{k}");
+        assert!(rt; fails_so(&mut device, write, first, second));
         let faults = u64::from(first || second);
-        assert!(rt; device.faults() == faults, "{k}");
+        assert!(rt; device.faults() == faults);
     }
 }
 
@@ -285,46 +310,41 @@ fn both_counts_wrap(rt: HostRuntime) {
 }
 
 #[test]
-fn one_read_is_a_lie(rt: HostRuntime) -> Result<(), Fail> {
+fn one_read_is_a_lie(rt: HostRuntime) {
     let mut short = Liar::short(MemDevice::new(rt.alloc()), 2);
-    short.write(1, &[1, 2, 255])?;
-    assert!(rt; reads(&mut short, &[1, 2, 255]));
-    assert!(rt; reads(&mut short, &[1, 2]));
+    assert!(rt; short.write(1, &[1, 2, 255]).is_ok());
+    assert!(rt; reads(&mut short, &[1, 2, 255]) && reads(&mut short, &[1, 2]));
     assert!(rt; reads(&mut short, &[1, 2, 255]));
     let mut flip = Liar::flip(MemDevice::new(rt.alloc()), 1);
-    flip.write(1, &[0, 1, 0xa5, 255])?;
-    assert!(rt; reads(&mut flip, &[255, 254, 0x5a, 0]));
-    assert!(rt; reads(&mut flip, &[0, 1, 0xa5, 255]));
-    Ok(())
+    assert!(rt; flip.write(1, &[0, 1, 0xa5, 255]).is_ok());
+    assert!(rt; reads(&mut flip, &[255, 254, 0x5a, 0]) && reads(&mut flip, &[0, 1, 0xa5, 255]));
 }
 
 #[test]
-fn of_no_bytes_no_lie_is_made(rt: HostRuntime) -> Result<(), Fail> {
+fn of_no_bytes_no_lie_is_made(rt: HostRuntime) {
     let mut short = Liar::short(MemDevice::new(rt.alloc()), 1);
-    short.write(1, &[])?;
-    assert!(rt; reads(&mut short, &[]));
+    assert!(rt; short.write(1, &[]).is_ok() && reads(&mut short, &[]));
     let mut flip = Liar::flip(MemDevice::new(rt.alloc()), 1);
-    flip.write(1, &[])?;
-    assert!(rt; reads(&mut flip, &[]));
+    assert!(rt; flip.write(1, &[]).is_ok() && reads(&mut flip, &[]));
     let mut never = Liar::flip(MemDevice::new(rt.alloc()), 0);
-    never.write(1, &[9])?;
+    assert!(rt; never.write(1, &[9]).is_ok());
     assert!(rt; reads(&mut never, &[9]) && reads(&mut never, &[9]));
-    Ok(())
+}
+
+// Whether the first read under key 1 fails, as it does where a device under a liar fails.
+fn first_fails<D: Device + Drop>(device: &mut D, bytes: &[u8]) -> bool {
+    device.write(1, bytes).is_ok() && is_fault(&device.read(1)) && device.faults() == 1
 }
 
 #[test]
-fn a_lie_over_a_failure(rt: HostRuntime) -> Result<(), Fail> {
-    let mut device = Liar::short(FailAt::new(MemDevice::new(rt.alloc()), 2), 1);
-    device.write(1, &[1, 2])?;
-    assert!(rt; is_fault(&device.read(1)) && device.faults() == 1);
-    assert!(rt; reads(&mut device, &[1, 2]));
-    let mut device = Liar::flip(FailAt::new(MemDevice::new(rt.alloc()), 2), 2);
-    device.write(1, &[0])?;
-    assert!(rt; is_fault(&device.read(1)));
-    assert!(rt; reads(&mut device, &[255]) && reads(&mut device, &[0]));
-    device.forget(1);
-    assert!(rt; is_fault(&device.read(1)) && device.faults() == 2);
-    Ok(())
+fn a_lie_over_a_failure(rt: HostRuntime) {
+    let mut short = Liar::short(FailAt::new(MemDevice::new(rt.alloc()), 2), 1);
+    assert!(rt; first_fails(&mut short, &[1, 2]) && reads(&mut short, &[1, 2]));
+    let mut flip = Liar::flip(FailAt::new(MemDevice::new(rt.alloc()), 2), 2);
+    assert!(rt; first_fails(&mut flip, &[0]));
+    assert!(rt; reads(&mut flip, &[255]) && reads(&mut flip, &[0]));
+    flip.forget(1);
+    assert!(rt; is_fault(&flip.read(1)) && flip.faults() == 2);
 }
 
 #[test]
