@@ -2,12 +2,14 @@ pub mod Ages
 pub mod Asking
 pub mod Blanks
 pub mod BookOf
+pub mod Calls
 pub mod Dealing
 pub mod Actions
 pub mod Effects
 pub mod Evicting
 pub mod FarSide
 pub mod Fetching
+pub mod HandedOn
 pub mod Home
 pub mod Laws
 pub mod Ledger

@@ -1,36 +1,31 @@
 //! The book: where each object lies, and what each log has.
 
-ghost use Rattle.std.specs.Prelude.{◌≡◌, ◌≢◌, ◌+◌, ◌*◌, ◌^◌, ◌<◌, ◌≤◌, ◌↔◌, ℕ, bit_or, true, false, eqb, List, [], map, length, slice_index, Some, None, IsSome, IfOk, IfErr};
+ghost use Rattle.std.specs.Prelude.{◌≡◌, ◌+◌, ◌*◌, ◌<◌, ◌≤◌, ◌↔◌, ℕ, true, false, eqb, List, [], map, length, slice_index, Some, None, IsSome, IfOk, IfErr};
 ghost use Rattle.std.specs.List.{IsDistinct, list_any};
 ghost use Rattle.std.specs.Vec.{vec_capacity};
-ghost use Rattle.far_word.specs.declared.mark.Mark.TheVariants.{Evac};
 ghost use Rattle.far_word.specs.declared.pointer.PtrWord.TheVariants.{Near as near_at};
 ghost use Rattle.far_word.specs.declared.refused.Refused.TheVariants.{Memory, NoRoom};
 ghost use Rattle.far_word.specs.declared.sizes.TheConstants.{CELLS, LONGEST, LOG_WORDS};
 ghost use Rattle.far_word.specs.Header.{IsHead};
-ghost use Rattle.far_word.specs.Mark.{position};
 ghost use Rattle.far_word.specs.Pointer.{IsPtr, read_of, word_of};
 ghost use Rattle.far_word.specs.Sizes.{size_of};
 ghost use Rattle.far_log.specs.declared.span.Span.{Span as SpanOf};
 ghost use Rattle.far_log.specs.Walk.{IsWalk};
 ghost use Rattle.far_core.specs.declared.event.Kind.TheVariants.{Sealed};
 ghost use Rattle.far_core.specs.declared.event.Event.{Event};
-ghost use Rattle.far_core.specs.declared.event.Reply.{Reply};
 ghost use Rattle.far_core.specs.events.Legal.{IsNext, Legal};
 ghost use Rattle.far_core.specs.events.Naming.{no_marks, is_dropped};
 ghost use Rattle.far_core.specs.state.Law.{Law};
 ghost use Rattle.far_core.specs.state.Room.{room};
 ghost use Rattle.far_core.specs.state.Shape.{is_shape};
-ghost use Rattle.far_core.specs.state.Spans.{spans_of};
-ghost use Rattle.far_core.specs.state.State.{State, put};
-ghost use Rattle.far_device.specs.Following.{Follows, other_than};
-ghost use Rattle.far_hand.specs.Finds.{Finds, body_of};
+ghost use Rattle.far_hand.specs.Finds.{body_of};
 ghost use Rattle.far_hand.specs.Came.{Came, only};
 ghost use Rattle.far_hand.specs.Known.{Forgets};
-ghost use Rattle.far_book.specs.book.Actions.{Does, Places, Retires, Steps};
 ghost use Rattle.far_book.specs.book.Blanks.{IsPast, with_zeros};
-ghost use Rattle.far_book.specs.book.Effects.{with_blank_span, marked, placed, retired, order_after};
+ghost use Rattle.far_book.specs.book.Calls.{FindsHome, ListsSpans, PlacesObject, RetiresObject};
+ghost use Rattle.far_book.specs.book.Effects.{with_blank_span, placed, retired};
 ghost use Rattle.far_book.specs.book.FarSide.{HoldsFar};
+ghost use Rattle.far_book.specs.book.HandedOn.{MarksCell, SeesCell};
 ghost use Rattle.far_book.specs.book.Home.{home_of};
 ghost use Rattle.far_book.specs.book.Ledger.{IsLowestFree};
 ghost use Rattle.far_book.specs.book.Only.{Reads, Writes};
@@ -153,17 +148,7 @@ impl<N: Near + Drop, D: Device + Drop> Book<N, D> {
         requires free { (N.view self.old.near).cell pointer ≡ 0 }
         requires some { 0 < len }
         requires most { len ≤ LONGEST }
-        ensures room { IfOk result (λ place. room (N.view self.old.near) (size_of len) true ≡ Some place) }
-        ensures kept { IfOk result (λ place. N.view self.new.near ≡ record (placed (N.view self.old.near) pointer len ds place) { word = (N.view self.new.near).word }) }
-        ensures forgot { IfOk result (λ place. Forgets (placed (N.view self.old.near) pointer len ds place) (N.view self.new.near)) }
-        ensures exact { N.still → IfOk result (λ place. N.view self.new.near ≡ placed (N.view self.old.near) pointer len ds place) }
-        ensures came { Came N.makes self.old.near self.new.near }
-        ensures order { IfOk result (λ place. self.new.order ≡ order_after (N.view self.old.near) self.old.order place) }
-        ensures device { self.new.device ≡ self.old.device }
-        ensures refused { IfErr result (λ why. why ≡ NoRoom) }
-        ensures none { IfErr result (λ _. room (N.view self.old.near) (size_of len) true ≡ None) }
-        ensures unchanged { IfErr result (λ _. self.new ≡ self.old) }
-        ensures ran { N.still → Does (N.view self.old.near) (Places pointer len ds result) (N.view self.new.near) }
+        ensures { PlacesObject N.still N.view N.makes self.old self.new pointer len ds result }
     {
         let size = size_of(len);
         let Some(place) = self.ledger.room(size, true) else {
@@ -179,15 +164,7 @@ impl<N: Near + Drop, D: Device + Drop> Book<N, D> {
     pub fn retire(&mut self, pointer: u16)
         requires pointer { pointer < CELLS * (N.view self.old.near).mutators }
         requires dropped { is_dropped (read_of ((N.view self.old.near).cell pointer)) ≡ true }
-        ensures kept { N.view self.new.near ≡ record (retired (N.view self.old.near) pointer) { word = (N.view self.new.near).word } }
-        ensures forgot { Forgets (N.view self.old.near) (N.view self.new.near) }
-        ensures exact { N.still → N.view self.new.near ≡ retired (N.view self.old.near) pointer }
-        ensures came { Came N.makes self.old.near self.new.near }
-        ensures order { self.new.order ≡ self.old.order }
-        ensures called { D.lets_go self.old.device pointer self.new.device }
-        ensures gone { D.forgets → D.contents self.new.device pointer ≡ None }
-        ensures follows { Follows D.contents D.honest D.faults D.fails_at_most (other_than pointer) false self.old.device self.new.device }
-        ensures ran { N.still → Does (N.view self.old.near) (Retires pointer) (N.view self.new.near) }
+        ensures { RetiresObject N.still N.view N.makes D.contents D.honest D.faults D.fails_at_most D.lets_go D.forgets self.old self.new pointer }
     {
         let was = free_cell(&mut self.near, pointer);
         self.ledger.retire(pointer, was);
@@ -197,15 +174,7 @@ impl<N: Near + Drop, D: Device + Drop> Book<N, D> {
     /// The cell of a pointer, as it is found.
     pub fn see(&mut self, pointer: u16) -> u64
         requires pointer { pointer < CELLS * (N.view self.old.near).mutators }
-        ensures found { Finds ((N.view self.old.near).cell pointer) result }
-        ensures kept { N.view self.new.near ≡ record (N.view self.old.near) { cell = put (N.view self.old.near).cell pointer result } }
-        ensures exact { N.still → result ≡ (N.view self.old.near).cell pointer }
-        ensures set { N.still → N.view self.new.near ≡ N.view self.old.near }
-        ensures made { N.makes self.old.near (Event.See pointer) (Reply.Word result) self.new.near }
-        ensures saw { ∥ ((x : State) × N.may_be self.new.near x × (x.cell pointer ≡ result)) ∥₁ }
-        ensures came { Came N.makes self.old.near self.new.near }
-        ensures order { self.new.order ≡ self.old.order }
-        ensures device { self.new.device ≡ self.old.device }
+        ensures { SeesCell N.still N.view N.makes N.may_be self.old self.new pointer result }
     {
         self.near.see(pointer)
     }
@@ -213,15 +182,7 @@ impl<N: Near + Drop, D: Device + Drop> Book<N, D> {
     /// Sets EVAC on a near pointer whose place lies in a sealed log, and answers its word before, as it was found.
     pub fn mark(&mut self, pointer: u16) -> u64
         requires legal { Legal (N.view self.old.near) (Event.Mark pointer) }
-        ensures found { Finds ((N.view self.old.near).cell pointer) result }
-        ensures kept { N.view self.new.near ≡ record (N.view self.old.near) { cell = put (N.view self.old.near).cell pointer (bit_or result (2 ^ position Evac)) } }
-        ensures exact { N.still → result ≡ (N.view self.old.near).cell pointer }
-        ensures set { N.still → N.view self.new.near ≡ marked (N.view self.old.near) pointer }
-        ensures made { N.makes self.old.near (Event.Mark pointer) (Reply.Word result) self.new.near }
-        ensures came { Came N.makes self.old.near self.new.near }
-        ensures ran { N.still → Does (N.view self.old.near) (Steps (Event.Mark pointer)) (N.view self.new.near) }
-        ensures order { self.new.order ≡ self.old.order }
-        ensures device { self.new.device ≡ self.old.device }
+        ensures { MarksCell N.still N.view N.makes self.old self.new pointer result }
     {
         self.near.mark(pointer)
     }
@@ -229,17 +190,7 @@ impl<N: Near + Drop, D: Device + Drop> Book<N, D> {
     /// Where a pointer's object is, with the marks that its cell has now; `None` exactly where the cell is free.
     pub fn locate(&mut self, pointer: u16) -> Option<Home>
         requires pointer { pointer < CELLS * (N.view self.old.near).mutators }
-        ensures home { result ≡ home_of (read_of ((N.view self.new.near).cell pointer)) }
-        ensures found { Finds ((N.view self.old.near).cell pointer) ((N.view self.new.near).cell pointer) }
-        ensures free { (result ≡ None) ↔ ((N.view self.old.near).cell pointer ≡ 0) }
-        ensures gone { (result ≡ None) ↔ ((N.view self.new.near).cell pointer ≡ 0) }
-        ensures kept { N.view self.new.near ≡ record (N.view self.old.near) { cell = put (N.view self.old.near).cell pointer ((N.view self.new.near).cell pointer) } }
-        ensures exact { N.still → N.view self.new.near ≡ N.view self.old.near }
-        ensures made { N.makes self.old.near (Event.See pointer) (Reply.Word ((N.view self.new.near).cell pointer)) self.new.near }
-        ensures saw { ∥ ((x : State) × N.may_be self.new.near x × (x.cell pointer ≡ (N.view self.new.near).cell pointer)) ∥₁ }
-        ensures came { Came N.makes self.old.near self.new.near }
-        ensures order { self.new.order ≡ self.old.order }
-        ensures device { self.new.device ≡ self.old.device }
+        ensures { FindsHome N.still N.view N.makes N.may_be self.old self.new pointer result }
     {
         home_in(self.near.see(pointer))
     }
@@ -281,15 +232,7 @@ impl<N: Near + Drop, D: Device + Drop> Book<N, D> {
     /// The spans of a log, dead ones too, in their order. Refused [`Refused::Memory`] alone.
     pub fn spans(&mut self, log: u8) -> Result<Vec<Span>, Refused>
         requires log { log < (N.view self.old.near).logs }
-        ensures spans { IfOk result (λ spans. spans.items ≡ spans_of (N.view self.old.near) log) }
-        ensures refused { IfErr result (λ why. why ≡ Memory) }
-        ensures kept { N.view self.new.near ≡ record (N.view self.old.near) { word = (N.view self.new.near).word } }
-        ensures headers { (a : ℕ) → (N.view self.old.near).starts a ≡ true → (N.view self.new.near).word a ≡ (N.view self.old.near).word a }
-        ensures exact { N.still → N.view self.new.near ≡ N.view self.old.near }
-        ensures reads { Came (only (Reads log) N.makes) self.old.near self.new.near }
-        ensures came { Came N.makes self.old.near self.new.near }
-        ensures order { self.new.order ≡ self.old.order }
-        ensures device { self.new.device ≡ self.old.device }
+        ensures { ListsSpans N.still N.view N.makes self.old self.new log result }
     {
         let tail = self.ledger.tail(log);
         let words = read_words(&mut self.near, log, tail);

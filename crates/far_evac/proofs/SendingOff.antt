@@ -203,6 +203,12 @@ module _ (s : State) (p : ℕ) (q : IsQuietNear s p) (law : Law (own_part s)) (e
           seen_again : (v : State) (h : IsSeen u v p) → v.word ≡ u.word → v ≡ seen s p h.word
           seen_again v h words = h.leads ∙ (λ i. record (seen u p h.word) { word = words i }) ∙ ap (λ (x : State). seen x p h.word) is ∙ (λ i. record s { cell = put_put s.cell p w h.word i })
 
+-- a quiet object is quiet still, where words were read and one was found in its cell
+pub quiet_still : (s t : State) (p : ℕ) → IsSeen s t p → IsQuietNear s p → IsQuietNear t p
+quiet_still s t p h q =
+    let r = quiet_seen s p h.word h.found q in
+    subst (λ (x : State). IsQuietNear x p) (sym h.leads) record { len = r.len; ds = r.ds; place = r.place; marks = r.marks; near = r.near; quiet = r.quiet }
+
 -- ---- what is known where nothing was done
 pub seen_known : (s t : State) (p : ℕ) → IsSeen s t p → Law (own_part t) → Knows s t
 seen_known s t p h law =

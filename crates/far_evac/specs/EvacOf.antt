@@ -1,5 +1,5 @@
 -- An evacuator as its callers see it.
-use Rattle.std.specs.Prelude.{ℕ, List}
+use Rattle.std.specs.Prelude.{◌≡◌, ℕ, List}
 use Rattle.far_core.specs.state.CoreState.{core_state}
 use Rattle.far_core.specs.state.State.{State}
 use Rattle.far_hand.specs.declared.plain.Plain.{Plain}
@@ -12,6 +12,10 @@ pub record EvacOf (N D : Type 0) : Type 0 where
   pub book : BookOf N D
   pub phase : Phase
   pub collection : List ℕ
+
+-- the round of an evacuator stands where it stood
+abbrev pub SameRound : {N D : Type 0} → EvacOf N D → EvacOf N D → Type 0
+SameRound e f = (f.phase ≡ e.phase) × (f.collection ≡ e.collection)
 
 -- the moment that it stands at, as far as its hand knows the words
 abbrev pub moment : {N D : Type 0} → (N → State) → EvacOf N D → Moment

@@ -1,6 +1,7 @@
 pub mod AnyHand
 pub mod Asked
 pub mod Callers
+pub mod Calls
 pub mod Census
 pub mod Choosing
 pub mod Cursor

@@ -1,6 +1,6 @@
 //! How a far object comes near.
 
-ghost use Rattle.std.specs.Prelude.{◌≡◌, ◌≢◌, ◌+◌, ◌*◌, ◌^◌, ◌<◌, ◌≤◌, ℕ, true, None, Some, length, Ok, Err, IfOk, IfErr, IfSome, IfNone};
+ghost use Rattle.std.specs.Prelude.{◌≡◌, ◌+◌, ◌*◌, ◌^◌, ◌<◌, ◌≤◌, ℕ, true, None, Some, length, Ok, Err, IfOk, IfErr};
 ghost use Rattle.far_word.specs.declared.pointer.PtrWord.TheVariants.{Near as near_at};
 ghost use Rattle.far_word.specs.declared.refused.Refused.TheVariants as refused;
 ghost use Rattle.far_word.specs.declared.sizes.TheConstants.{CELLS};
@@ -11,15 +11,12 @@ ghost use Rattle.far_word.specs.Sizes.{words_for};
 ghost use Rattle.far_core.specs.events.Legal.{IsNext};
 ghost use Rattle.far_core.specs.events.Naming.{is_dropped, no_marks};
 ghost use Rattle.far_core.specs.state.Law.{IsStored};
-ghost use Rattle.far_device.specs.Following.{Follows, other_than};
 ghost use Rattle.far_hand.specs.Finds.{Finds};
 ghost use Rattle.far_hand.specs.Came.{Came, only};
-ghost use Rattle.far_book.specs.book.Asking.{AsksToFetch};
 ghost use Rattle.far_book.specs.book.Blanks.{IsPast, with_words};
-ghost use Rattle.far_book.specs.book.Dealing.{IsRetired, IsSeen, LearnsNone, is_failure};
-ghost use Rattle.far_book.specs.book.Actions.{Does, Fetches};
+ghost use Rattle.far_book.specs.book.Calls.{FetchesObject};
 ghost use Rattle.far_book.specs.book.Effects.{fetched, near_word, with_written_span};
-ghost use Rattle.far_book.specs.book.Fetching.{IsFar, IsFetched, RefusesFetch, order_fetched, room_for};
+ghost use Rattle.far_book.specs.book.Fetching.{IsFar};
 ghost use Rattle.far_book.specs.book.Only.{Writes};
 ghost use Rattle.far_book.specs.book.Placeable.{IsAbsent};
 ghost use Rattle.far_book.specs.book.Renaming.{Renamed, seen};
@@ -42,25 +39,7 @@ impl<N: Near + Drop, D: Device + Drop> Book<N, D> {
     pub fn fetch(&mut self, pointer: u16) -> Result<Option<Place>, Refused>
         requires pointer { pointer < CELLS * (N.view self.old.near).mutators }
         requires far { IsFar (N.view self.old.near) pointer }
-        ensures place { IfOk result (λ found. IfSome found (λ place. room_for (N.view self.old.near) pointer ≡ Some place)) }
-        ensures near { IfOk result (λ found. IfSome found (λ place. IsFetched N.still (D.honest self.old.device) (N.view self.old.near) (N.view self.new.near) pointer place)) }
-        ensures gone { IfOk result (λ found. IfNone found (IsRetired N.still (N.view self.old.near) (N.view self.new.near) pointer)) }
-        ensures unread { IfOk result (λ found. IfNone found (LearnsNone (N.view self.old.near) (N.view self.new.near))) }
-        ensures asked { is_dropped (read_of ((N.view self.old.near).cell pointer)) ≡ true → result ≡ Ok None }
-        ensures order { IfOk result (λ found. self.new.order ≡ order_fetched (N.view self.old.near) self.old.order found) }
-        ensures called { AsksToFetch D D.reads D.lets_go N.still (N.view self.old.near) (N.view self.new.near) pointer result self.old.device self.new.device }
-        ensures forgot { D.forgets → IfOk result (λ _. D.contents self.new.device pointer ≡ None) }
-        ensures follows { Follows D.contents D.honest D.faults D.fails_at_most (other_than pointer) (is_failure result) self.old.device self.new.device }
-        ensures refused { IfErr result (λ why. RefusesFetch why (room_for (N.view self.old.near) pointer) (D.honest self.old.device)) }
-        ensures in_place { D.reads_in_place → result ≢ Err refused.Memory }
-        ensures untouched { IfErr result (λ why. why ≡ refused.NoRoom → self.new.device ≡ self.old.device) }
-        ensures held { IfErr result (λ _. D.contents self.new.device ≡ D.contents self.old.device) }
-        ensures seen { IfErr result (λ _. IsSeen (N.view self.old.near) (N.view self.new.near) pointer) }
-        ensures kept { IfErr result (λ _. (N.view self.new.near).word ≡ (N.view self.old.near).word) }
-        ensures exact { N.still → IfErr result (λ _. N.view self.new.near ≡ N.view self.old.near) }
-        ensures came { Came N.makes self.old.near self.new.near }
-        ensures shut { IfErr result (λ _. self.new.order ≡ self.old.order) }
-        ensures ran { N.still → Does (N.view self.old.near) (Fetches pointer result) (N.view self.new.near) }
+        ensures { FetchesObject N.still N.view N.makes D.contents D.honest D.faults D.fails_at_most D.lets_go D.forgets D.reads D.reads_in_place self.old self.new pointer result }
     {
         let word = self.see(pointer);
         let PtrWord::Far { len, ds, marks } = PtrWord::known(word) else {

@@ -6,11 +6,10 @@ ghost use Rattle.far_word.specs.declared.sizes.TheConstants.{CELLS};
 ghost use Rattle.far_word.specs.Pointer.{read_of};
 ghost use Rattle.far_core.specs.events.Copies.{data_at};
 ghost use Rattle.far_core.specs.events.Naming.{is_dropped};
-ghost use Rattle.far_device.specs.Following.{Follows, other_than};
-ghost use Rattle.far_book.specs.book.Dealing.{FindsDrop, IsRetired, IsSeen, goal, has_evac, Leaves, moved_now, order_moved};
+ghost use Rattle.far_book.specs.book.Dealing.{FindsDrop, IsSeen, goal, has_evac, Leaves, moved_now, order_moved};
 ghost use Rattle.far_hand.specs.Quiet.{IsQuietNear};
 ghost use Rattle.far_hand.specs.Came.{Came, only};
-ghost use Rattle.far_book.specs.book.Actions.{Does, Moves};
+ghost use Rattle.far_book.specs.book.Calls.{MovesObject};
 ghost use Rattle.far_book.specs.book.Effects.{moved, near_word, order_after, stayed, with_written_span};
 ghost use Rattle.far_book.specs.book.Moving.{Copied, CopiedOnly, CopiesMore, HasCopied, MayCopy, MayStay};
 ghost use Rattle.far_book.specs.book.Only.{Names};
@@ -30,24 +29,7 @@ impl<N: Near + Drop, D: Device + Drop> Book<N, D> {
     pub fn move_now(&mut self, pointer: u16) -> Result<Option<Place>, Refused>
         requires pointer { pointer < CELLS * (N.view self.old.near).mutators }
         requires quiet { IsQuietNear (N.view self.old.near) pointer }
-        ensures place { IfOk result (λ o. IfSome o (λ place. goal (N.view self.old.near) pointer ≡ Some place)) }
-        ensures moved { IfOk result (λ o. IfSome o (λ place. Leaves (moved_now (N.view self.old.near) pointer place) (N.view self.new.near))) }
-        ensures order { IfOk result (λ o. MatchOption o (self.new.order ≡ self.old.order) (λ place. self.new.order ≡ order_moved (N.view self.old.near) pointer self.old.order place)) }
-        ensures device { IfOk result (λ o. IfSome o (λ _. self.new.device ≡ self.old.device)) }
-        ensures asked { is_dropped (read_of ((N.view self.old.near).cell pointer)) ≡ true → result ≡ Ok None }
-        ensures gone { IfOk result (λ o. IfNone o (IsRetired N.still (N.view self.old.near) (N.view self.new.near) pointer)) }
-        ensures called { IfOk result (λ o. IfNone o (D.lets_go self.old.device pointer self.new.device)) }
-        ensures forgotten { IfOk result (λ o. IfNone o (D.forgets → D.contents self.new.device pointer ≡ None)) }
-        ensures follows { Follows D.contents D.honest D.faults D.fails_at_most (other_than pointer) false self.old.device self.new.device }
-        ensures refused { IfErr result (λ why. why ≡ NoRoom) }
-        ensures none { IfErr result (λ _. goal (N.view self.old.near) pointer ≡ None) }
-        ensures seen { IfErr result (λ _. IsSeen (N.view self.old.near) (N.view self.new.near) pointer) }
-        ensures words { IfErr result (λ _. (N.view self.new.near).word ≡ (N.view self.old.near).word) }
-        ensures kept { IfErr result (λ _. self.new ≡ record self.old { near = self.new.near }) }
-        ensures exact { N.still → IfOk result (λ o. IfSome o (λ place. N.view self.new.near ≡ moved_now (N.view self.old.near) pointer place)) }
-        ensures unchanged { N.still → IfErr result (λ _. N.view self.new.near ≡ N.view self.old.near) }
-        ensures came { Came N.makes self.old.near self.new.near }
-        ensures ran { N.still → Does (N.view self.old.near) (Moves pointer result) (N.view self.new.near) }
+        ensures { MovesObject N.still N.view N.makes D.contents D.honest D.faults D.fails_at_most D.lets_go D.forgets self.old self.new pointer result }
     {
         match self.settle(pointer) {
             Ok(Some(place)) => Ok(Some(place)),

@@ -1,21 +1,15 @@
 //! The book's calls of a round: each is one of its hand's.
 
-ghost use Rattle.std.specs.Prelude.{◌≡◌, ◌+◌, ◌<◌, ◌↔◌, true, false, IfOk, IfErr};
-ghost use Rattle.far_word.specs.declared.refused.Refused.TheVariants.{EpochsSpent};
-ghost use Rattle.far_word.specs.declared.sizes.TheConstants.{EPOCH_END};
+ghost use Rattle.std.specs.Prelude.{◌≡◌, ◌+◌, ◌<◌, ◌↔◌, true, false};
 ghost use Rattle.far_core.specs.declared.event.Event.{Event};
-ghost use Rattle.far_core.specs.declared.event.Reply.{Reply};
 ghost use Rattle.far_core.specs.declared.event.Kind.TheVariants.{Sealed};
 ghost use Rattle.far_core.specs.events.Get.{IsVacant};
 ghost use Rattle.far_core.specs.events.Legal.{Legal};
-ghost use Rattle.far_core.specs.events.Step.{after};
-ghost use Rattle.far_core.specs.state.State.{State};
-ghost use Rattle.far_hand.specs.Cleared.{cleared};
 ghost use Rattle.far_hand.specs.Came.{Came, only};
-ghost use Rattle.far_hand.specs.Finds.{Finds};
 ghost use Rattle.far_hand.specs.Known.{Forgets};
-ghost use Rattle.far_hand.specs.Rounds.{IsScopeAt, MayChoose, looked_at};
+ghost use Rattle.far_hand.specs.Rounds.{MayChoose};
 ghost use Rattle.far_book.specs.book.Actions.{Does, Steps};
+ghost use Rattle.far_book.specs.book.HandedOn.{ClearsCell, LooksAtScope, RaisesEpoch};
 ghost use Rattle.far_book.specs.book.Releasing.{order_without, released};
 
 use crate::book::Book;
@@ -28,16 +22,7 @@ impl<N: Near + Drop, D: Device + Drop> Book<N, D> {
     /// forgotten then.
     pub fn clear(&mut self, pointer: u16) -> u64
         requires legal { Legal (N.view self.old.near) (Event.Clear pointer) }
-        ensures found { Finds ((N.view self.old.near).cell pointer) result }
-        ensures kept { N.view self.new.near ≡ record (cleared (N.view self.old.near) pointer result) { word = (N.view self.new.near).word } }
-        ensures forgot { Forgets (N.view self.old.near) (N.view self.new.near) }
-        ensures exact { N.still → result ≡ (N.view self.old.near).cell pointer }
-        ensures set { N.still → N.view self.new.near ≡ after (N.view self.old.near) (Event.Clear pointer) }
-        ensures made { N.makes self.old.near (Event.Clear pointer) (Reply.Word result) self.new.near }
-        ensures came { Came N.makes self.old.near self.new.near }
-        ensures ran { N.still → Does (N.view self.old.near) (Steps (Event.Clear pointer)) (N.view self.new.near) }
-        ensures order { self.new.order ≡ self.old.order }
-        ensures device { self.new.device ≡ self.old.device }
+        ensures { ClearsCell N.still N.view N.makes self.old self.new pointer result }
     {
         self.near.clear(pointer)
     }
@@ -46,18 +31,7 @@ impl<N: Near + Drop, D: Device + Drop> Book<N, D> {
     /// A refusal is [`Refused::EpochsSpent`], where there is no later epoch: nothing has changed then.
     pub fn advance(&mut self, logs: u64) -> Result<u64, Refused>
         requires chosen { MayChoose (N.view self.old.near) logs }
-        ensures epoch { IfOk result (λ epoch. (epoch ≡ (N.view self.old.near).epoch + 1) × (epoch < EPOCH_END)) }
-        ensures kept { IfOk result (λ _. N.view self.new.near ≡ record (after (N.view self.old.near) (Event.Advance logs)) { word = (N.view self.new.near).word }) }
-        ensures forgot { IfOk result (λ _. Forgets (N.view self.old.near) (N.view self.new.near)) }
-        ensures set { N.still → IfOk result (λ _. N.view self.new.near ≡ after (N.view self.old.near) (Event.Advance logs)) }
-        ensures made { IfOk result (λ epoch. N.makes self.old.near (Event.Advance logs) (Reply.Epoch epoch) self.new.near) }
-        ensures spent { IfErr result (λ _. N.makes self.old.near (Event.Advance logs) Reply.Refused self.new.near) }
-        ensures came { Came N.makes self.old.near self.new.near }
-        ensures ran { N.still → IfOk result (λ _. Does (N.view self.old.near) (Steps (Event.Advance logs)) (N.view self.new.near)) }
-        ensures refused { IfErr result (λ why. (why ≡ EpochsSpent) × ((N.view self.old.near).epoch + 1 ≡ EPOCH_END)) }
-        ensures unchanged { IfErr result (λ _. N.view self.new.near ≡ N.view self.old.near) }
-        ensures order { self.new.order ≡ self.old.order }
-        ensures device { self.new.device ≡ self.old.device }
+        ensures { RaisesEpoch N.still N.view N.makes self.old self.new logs result }
     {
         self.near.advance(logs)
     }
@@ -90,16 +64,7 @@ impl<N: Near + Drop, D: Device + Drop> Book<N, D> {
     /// or open at the round's epoch or later.
     pub fn look(&mut self, owner: u8) -> u64
         requires legal { Legal (N.view self.old.near) (Event.Look owner) }
-        ensures scope { IsScopeAt (N.view self.old.near).epoch result }
-        ensures kept { N.view self.new.near ≡ looked_at (N.view self.old.near) owner result }
-        ensures exact { N.still → result ≡ (N.view self.old.near).scope owner }
-        ensures set { N.still → N.view self.new.near ≡ after (N.view self.old.near) (Event.Look owner) }
-        ensures made { N.makes self.old.near (Event.Look owner) (Reply.Word result) self.new.near }
-        ensures came { Came N.makes self.old.near self.new.near }
-        ensures ran { N.still → Does (N.view self.old.near) (Steps (Event.Look owner)) (N.view self.new.near) }
-        ensures saw { ∥ ((x : State) × N.may_be self.new.near x × (x.scope owner ≡ result)) ∥₁ }
-        ensures order { self.new.order ≡ self.old.order }
-        ensures device { self.new.device ≡ self.old.device }
+        ensures { LooksAtScope N.still N.view N.makes N.may_be self.old self.new owner result }
     {
         self.near.look(owner)
     }

@@ -1,15 +1,14 @@
 //! What lies where, and what each log has.
 
-ghost use Rattle.std.specs.Prelude.{◌≡◌, ◌*◌, ◌<◌, ◌≤◌, [], true, IfOk, IfErr};
+ghost use Rattle.std.specs.Prelude.{◌≡◌, ◌*◌, ◌<◌, ◌≤◌, []};
 ghost use Rattle.std.specs.Vec.{vec_capacity};
-ghost use Rattle.far_word.specs.declared.refused.Refused.TheVariants.{Memory};
 ghost use Rattle.far_word.specs.declared.sizes.TheConstants.{CELLS};
 ghost use Rattle.far_hand.specs.Came.{Came};
 ghost use Rattle.far_book.specs.book.Rows.{row_of};
-ghost use Rattle.far_evac.specs.AnyHand.{Audits, Knows, KnowsMoment};
+ghost use Rattle.far_evac.specs.AnyHand.{Knows};
+ghost use Rattle.far_evac.specs.Calls.{TakesCensus};
 ghost use Rattle.far_evac.specs.Census.{has_drop, homes_of, kind_in, kind_named, logs_of};
 ghost use Rattle.far_evac.specs.EvacOf.{moment};
-ghost use Rattle.far_evac.specs.Listing.{ListsEach};
 ghost use Rattle.far_evac.specs.RoundSteps.{among};
 
 use crate::census::{Census, Housed, LogKind, LogState};
@@ -43,13 +42,7 @@ impl<N: Near + Drop, D: Device + Drop> Evac<N, D> {
     /// Where each object is that isn't dropped, once, by rising pointers, and what each log is and has, once, by number. Nothing
     /// has moved. Refused [`Refused::Memory`] alone.
     pub fn audit(&mut self) -> Result<Census, Refused>
-        ensures came { Came N.makes self.old.book.near self.new.book.near }
-        ensures lists { IfOk result (λ census. Audits (moment N.view self.old) (moment N.view self.new) census.homes.items census.logs.items) }
-        ensures each { IfOk result (λ census. ListsEach (moment N.view self.new) census.homes.items census.logs.items) }
-        ensures exact { N.still → moment N.view self.new ≡ moment N.view self.old }
-        ensures device { self.new.book.device ≡ self.old.book.device }
-        ensures refused { IfErr result (λ why. why ≡ Memory) }
-        ensures unchanged { IfErr result (λ _. self.new ≡ self.old) }
+        ensures { TakesCensus N.still N.view N.makes self.old self.new result }
     {
         let shape = self.book.shape();
         let cells = CELLS as usize * shape.mutators as usize;

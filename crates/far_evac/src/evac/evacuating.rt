@@ -1,8 +1,8 @@
 //! How the objects of the chosen logs leave, and the logs are given back.
 
-ghost use Rattle.std.specs.Prelude.{◌≡◌, ◌≢◌, ◌⊎◌, ◌<◌, ◌≤◌, ◌+◌, ◌*◌, ◌^◌, ◌∷◌, ℕ, List, [], false, true, cond, length, Err, IfOk, IfErr, IfSome, IfNone, IsSome};
+ghost use Rattle.std.specs.Prelude.{◌≡◌, ◌⊎◌, ◌<◌, ◌+◌, ◌*◌, ◌^◌, ◌∷◌, ℕ, List, [], false, true, cond, length, Err, IfOk, IfErr, IfSome, IfNone, IsSome};
 ghost use Rattle.far_device.specs.Following.{Follows, none_of, other_than};
-ghost use Rattle.far_word.specs.declared.refused.Refused.TheVariants.{Device as Failed, Memory, Phase as WrongPhase};
+ghost use Rattle.far_word.specs.declared.refused.Refused.TheVariants.{Device as Failed, Memory};
 ghost use Rattle.far_word.specs.declared.sizes.TheConstants.{CELLS};
 ghost use Rattle.far_word.specs.Pointer.{read_of};
 ghost use Rattle.far_core.specs.events.Naming.{is_dropped};
@@ -13,17 +13,17 @@ ghost use Rattle.far_book.specs.book.Dealing.{has_evac, is_failure};
 ghost use Rattle.far_hand.specs.Quiet.{IsQuietNear};
 ghost use Rattle.far_book.specs.book.Effects.{evicted};
 ghost use Rattle.far_book.specs.book.Releasing.{order_without, released};
-ghost use Rattle.far_evac.specs.AnyHand.{Evacuates, Knows, KnowsMoment, KnowsWalked, StopsAt, Walks};
-ghost use Rattle.far_evac.specs.Asked.{AsksOnItsWay, AsksSo, IsRefusedWrite, WalksAsking, asked_by, asked_of, first_live};
+ghost use Rattle.far_evac.specs.AnyHand.{Knows, KnowsMoment, KnowsWalked, StopsAt, Walks};
+ghost use Rattle.far_evac.specs.Asked.{AsksSo, IsRefusedWrite, WalksAsking, asked_by, first_live};
+ghost use Rattle.far_evac.specs.Calls.{DealsWithObjects};
 ghost use Rattle.far_evac.specs.Cursor.{IsNextLeaving};
-ghost use Rattle.far_evac.specs.EvacOf.{moment};
-ghost use Rattle.far_evac.specs.Failing.{fails};
+ghost use Rattle.far_evac.specs.EvacOf.{SameRound, moment};
 ghost use Rattle.far_evac.specs.Leaving.{AsksAs, GoesAway, LeavesAs, LeavesBy, counted_as, goes_near, near_fate, standing};
 ghost use Rattle.far_evac.specs.Live.{is_empty, live_in};
 ghost use Rattle.far_evac.specs.Moment.{nothing, objects_in, progress_of, tally_of};
 ghost use Rattle.far_evac.specs.MomentLaw.{is_idle};
-ghost use Rattle.far_evac.specs.Turning.{IsBounded, told_in};
-ghost use Rattle.far_evac.specs.Walk.{Walked, dealt_as, ended, is_done, left, settled, walked, way_of};
+ghost use Rattle.far_evac.specs.Turning.{IsBounded};
+ghost use Rattle.far_evac.specs.Walk.{dealt_as, ended, is_done, left, settled, walked, way_of};
 ghost use Rattle.far_evac.specs.declared.evac.evacuating.Fate.TheVariants as fates;
 ghost use Rattle.far_evac.specs.declared.phase.Phase.TheVariants as phase;
 
@@ -55,22 +55,7 @@ impl<N: Near + Drop, D: Device + Drop> Evac<N, D> {
     /// [`Refused::Memory`]: far_word::Refused::Memory
     /// [`Refused::Device`]: far_word::Refused::Device
     pub fn evacuate_some(&mut self, n: u64) -> Result<Progress, EvacFault>
-        ensures came { Came N.makes self.old.book.near self.new.book.near }
-        ensures walks { IfOk result (λ progress. Evacuates (moment N.view self.old) n (moment N.view self.new) (tally_of progress) progress.done) }
-        ensures exact { N.still → IfOk result (λ progress. (moment N.view self.new ≡ ended (walked (moment N.view self.old) n))
-            × (progress ≡ progress_of (walked (moment N.view self.old) n).tally (is_done (walked (moment N.view self.old) n)))) }
-        ensures evacuating { IfOk result (λ _. self.old.phase ≡ phase.Evacuating) }
-        ensures goes_on { IfOk result (λ progress. is_idle self.new.phase ≡ progress.done) }
-        ensures stays { IfErr result (λ _. self.new.phase ≡ self.old.phase) }
-        ensures bounded { IsBounded (told_in result) }
-        ensures barred { self.old.phase ≢ phase.Evacuating → IfErr result (λ fault. (fault.why ≡ WrongPhase) × (fault.so_far ≡ progress_of nothing false) × (self.new ≡ self.old)) }
-        ensures stops { self.old.phase ≡ phase.Evacuating → IfErr result (λ fault. StopsAt (moment N.view self.old) n (moment N.view self.new) (tally_of fault.so_far)) }
-        ensures stops_exact { N.still → self.old.phase ≡ phase.Evacuating → IfErr result (λ fault. (k : ℕ) × (k < n)
-            × (moment N.view self.new ≡ (walked (moment N.view self.old) k).moment) × (fault.so_far ≡ progress_of (walked (moment N.view self.old) k).tally false)) }
-        ensures why { self.old.phase ≡ phase.Evacuating → IfErr result (λ fault. (fault.why ≡ Memory) ⊎ (fault.why ≡ Failed)) }
-        ensures asked { IfOk result (λ progress. AsksOnItsWay D D.writes D.lets_go (moment N.view self.old) (moment N.view self.new) (tally_of progress) self.old.book.device self.new.book.device) }
-        ensures refused { self.old.phase ≡ phase.Evacuating → IfErr result (λ fault. IsRefusedWrite D D.writes D.lets_go (moment N.view self.old) (moment N.view self.new) (tally_of fault.so_far) fault.why self.old.book.device self.new.book.device) }
-        ensures follows { Follows D.contents D.honest D.faults D.fails_at_most (none_of (first_live (moment N.view self.old) (asked_of result))) (fails result) self.old.book.device self.new.book.device }
+        ensures { DealsWithObjects N.still N.view N.makes D.contents D.honest D.faults D.fails_at_most D.writes D.lets_go self.old self.new n result }
     {
         let mut progress = Progress {
             moved: 0,
@@ -241,7 +226,7 @@ impl<N: Near + Drop, D: Device + Drop> Evac<N, D> {
         ensures kept { IfErr result (λ _. KnowsMoment (moment N.view self.old) (moment N.view self.new)) }
         ensures same { N.still → IfErr result (λ _. moment N.view self.new ≡ moment N.view self.old) }
         ensures uncounted { IfErr result (λ _. progress.new ≡ progress.old) }
-        ensures round { (self.new.phase ≡ self.old.phase) × (self.new.collection ≡ self.old.collection) }
+        ensures round { SameRound self.old self.new }
         ensures rest { (progress.new.freed ≡ progress.old.freed) × (progress.new.done ≡ progress.old.done) }
         ensures refused { IfErr result (λ why. AsksToEvict D D.writes D.lets_go (N.view self.old.book.near) span.p (Err why) self.old.book.device self.new.book.device) }
         ensures follows { Follows D.contents D.honest D.faults D.fails_at_most (other_than span.p) (is_failure result) self.old.book.device self.new.book.device }

@@ -1,19 +1,18 @@
 //! How the objects of the chosen logs get EVAC, and lose it where a round is given up.
 
-ghost use Rattle.std.specs.Prelude.{◌≡◌, ◌≢◌, ◌+◌, ◌<◌, ◌≤◌, ℕ, true, not, fold, [], length, drop, IfOk, IfErr, IfSome, IfNone, IsSome};
-ghost use Rattle.far_word.specs.declared.refused.Refused.TheVariants.{Phase as WrongPhase};
+ghost use Rattle.std.specs.Prelude.{◌≡◌, ◌+◌, ◌<◌, ◌≤◌, ℕ, true, not, fold, [], length, drop, IfSome, IfNone, IsSome};
 ghost use Rattle.far_word.specs.declared.sizes.TheConstants.{MOST_LOGS};
 ghost use Rattle.far_word.specs.Pointer.{read_of};
 ghost use Rattle.far_core.specs.events.Advance.{is_among};
 ghost use Rattle.far_hand.specs.Came.{Came};
 ghost use Rattle.far_book.specs.book.Dealing.{has_evac};
 ghost use Rattle.far_book.specs.book.NextLive.{IsBoundary};
-ghost use Rattle.far_evac.specs.AnyHand.{GivesUp, Knows, KnowsMoment, MarksSome};
-ghost use Rattle.far_evac.specs.Choosing.{after_aborting};
+ghost use Rattle.far_evac.specs.AnyHand.{Knows, KnowsMoment};
+ghost use Rattle.far_evac.specs.Calls.{GivesRoundUp, MarksObjects};
 ghost use Rattle.far_evac.specs.Cursor.{IsNextLacking, StandsAt, first_marked, standing_at};
 ghost use Rattle.far_evac.specs.EvacOf.{moment};
 ghost use Rattle.far_evac.specs.Live.{is_empty, lacking, live_among, live_in};
-ghost use Rattle.far_evac.specs.Marking.{after_marking, marked_core, newly_marked, waiting_for};
+ghost use Rattle.far_evac.specs.Marking.{marked_core, newly_marked};
 ghost use Rattle.far_evac.specs.RoundSteps.{advanced, among, unmarked};
 ghost use Rattle.far_evac.specs.Standing.{InRound, MarkedBefore, collection_in};
 ghost use Rattle.far_evac.specs.Ready.{AllMarked};
@@ -36,13 +35,7 @@ impl<N: Near + Drop, D: Device + Drop> Evac<N, D> {
     /// Refused [`Refused::Phase`] exactly where the round isn't marking; nothing has changed then. Each object, and each span that is
     /// passed over, is looked at once in a round, beside the one at which a call stops.
     pub fn mark_some(&mut self, n: u64) -> Result<Marked, Refused>
-        ensures came { Came N.makes self.old.book.near self.new.book.near }
-        ensures marks { IfOk result (λ marked. MarksSome (moment N.view self.old) (moment N.view self.new) n marked.count marked.waiting) }
-        ensures exact { N.still → IfOk result (λ _. moment N.view self.new ≡ after_marking (moment N.view self.old) n) }
-        ensures device { self.new.book.device ≡ self.old.book.device }
-        ensures marking { IfOk result (λ _. self.old.phase ≡ phase.Marking) }
-        ensures refused { IfErr result (λ why. (why ≡ WrongPhase) × (self.old.phase ≢ phase.Marking)) }
-        ensures unchanged { IfErr result (λ _. self.new ≡ self.old) }
+        ensures { MarksObjects N.still N.view N.makes self.old self.new n result }
     {
         if self.round.phase != Phase::Marking {
             return Err(Refused::Phase);
@@ -147,13 +140,7 @@ impl<N: Near + Drop, D: Device + Drop> Evac<N, D> {
     ///
     /// Refused [`Refused::Phase`] exactly where no round is running; nothing has changed then.
     pub fn abort(&mut self) -> Result<(), Refused>
-        ensures came { Came N.makes self.old.book.near self.new.book.near }
-        ensures gives_up { IfOk result (λ _. GivesUp (moment N.view self.old) (moment N.view self.new)) }
-        ensures exact { N.still → IfOk result (λ _. moment N.view self.new ≡ after_aborting (moment N.view self.old)) }
-        ensures device { self.new.book.device ≡ self.old.book.device }
-        ensures running { IfOk result (λ _. self.old.phase ≢ phase.Idle) }
-        ensures refused { IfErr result (λ why. (why ≡ WrongPhase) × (self.old.phase ≡ phase.Idle)) }
-        ensures unchanged { IfErr result (λ _. self.new ≡ self.old) }
+        ensures { GivesRoundUp N.still N.view N.makes self.old self.new result }
     {
         if self.round.phase == Phase::Idle {
             return Err(Refused::Phase);

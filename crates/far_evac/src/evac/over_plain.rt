@@ -12,6 +12,7 @@ ghost use Rattle.far_core.specs.world.WorldOf.{world_of};
 ghost use Rattle.far_hand.specs.Makers.{is_owners};
 ghost use Rattle.far_hand.specs.Owners.{OwnersChange};
 ghost use Rattle.far_book.specs.book.Actions.{Does, Owns};
+ghost use Rattle.far_evac.specs.EvacOf.{SameRound};
 
 use crate::evac::Evac;
 use far_book::Plain;
@@ -32,7 +33,7 @@ impl<D: Device + Drop> Evac<Plain, D> {
         ensures changes { OwnersChange (core_state self.old.book.near.core) (core_state self.new.book.near.core) }
         ensures order { self.new.book.order ≡ self.old.book.order }
         ensures device { self.new.book.device ≡ self.old.book.device }
-        ensures round { (self.new.phase ≡ self.old.phase) × (self.new.collection ≡ self.old.collection) }
+        ensures round { SameRound self.old self.new }
     {
         self.book.owner(event)
     }
@@ -48,7 +49,7 @@ impl<D: Device + Drop> Evac<Plain, D> {
         ensures word { IfErr result (λ word. answer (core_state self.old.book.near.core) (Event.Pin owner pointer) ≡ Reply.Word word) }
         ensures order { self.new.book.order ≡ self.old.book.order }
         ensures device { self.new.book.device ≡ self.old.book.device }
-        ensures round { (self.new.phase ≡ self.old.phase) × (self.new.collection ≡ self.old.collection) }
+        ensures round { SameRound self.old self.new }
     {
         self.book.pin(owner, pointer)
     }
@@ -65,7 +66,7 @@ impl<D: Device + Drop> Evac<Plain, D> {
         ensures legal { AllLegal (core_state self.old.book.near.core) (stores owner pointer first words.now) }
         ensures order { self.new.book.order ≡ self.old.book.order }
         ensures device { self.new.book.device ≡ self.old.book.device }
-        ensures round { (self.new.phase ≡ self.old.phase) × (self.new.collection ≡ self.old.collection) }
+        ensures round { SameRound self.old self.new }
     {
         self.book.store_all(owner, pointer, first, words);
     }

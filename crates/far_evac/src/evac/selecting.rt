@@ -1,13 +1,6 @@
 //! How a round begins.
 
-ghost use Rattle.std.specs.Prelude.{◌≡◌, ◌⊎◌, Some, None, Ok, Err, IfOk, IfErr, map};
-ghost use Rattle.far_policy.specs.Choice.{IsBadChoice, IsChoice};
-ghost use Rattle.far_word.specs.declared.refused.Refused.{Refused as why_refused};
-ghost use Rattle.far_hand.specs.Came.{Came};
-ghost use Rattle.far_book.specs.book.Rows.{row_of};
-ghost use Rattle.far_evac.specs.Choosing.{after_selecting};
-ghost use Rattle.far_evac.specs.EvacOf.{moment};
-ghost use Rattle.far_evac.specs.Refusals.{unselectable};
+ghost use Rattle.far_evac.specs.Calls.{SelectsLogs};
 
 use crate::evac::Evac;
 use crate::phase::Phase;
@@ -24,17 +17,7 @@ impl<N: Near + Drop, D: Device + Drop> Evac<N, D> {
     /// Refused, in this order, [`Refused::Phase`] where a round is running; [`Refused::EpochsSpent`] where there is no later epoch;
     /// and what the policy refuses, which is [`Refused::BadChoice`]. Nothing has changed then but the policy. Takes no memory.
     pub fn select<P: Policy>(&mut self, policy: &mut P, most: usize) -> Result<Chosen, Refused>
-        ensures came { Came N.makes self.old.book.near self.new.book.near }
-        ensures begun { IfOk result (λ chosen. moment N.view self.new ≡ after_selecting (moment N.view self.old) chosen) }
-        ensures gives { IfOk result (λ chosen. P.gives policy.old (map (row_of (N.view self.old.book.near)) self.old.book.order) most (Ok chosen) policy.new) }
-        ensures chosen { IfOk result (λ chosen. IsChoice (map (row_of (N.view self.old.book.near)) self.old.book.order) most chosen) }
-        ensures device { self.new.book.device ≡ self.old.book.device }
-        ensures unchanged { IfErr result (λ _. self.new ≡ self.old) }
-        ensures barred { (why : why_refused) → unselectable (moment N.view self.old) ≡ Some why → (result ≡ Err why) × (policy.new ≡ policy.old) }
-        ensures why { IfErr result (λ why. (unselectable (moment N.view self.old) ≡ Some why)
-            ⊎ (IsBadChoice why × P.gives policy.old (map (row_of (N.view self.old.book.near)) self.old.book.order) most (Err why) policy.new)) }
-        ensures refused { IfErr result (λ why. unselectable (moment N.view self.old) ≡ None →
-            P.gives policy.old (map (row_of (N.view self.old.book.near)) self.old.book.order) most (Err why) policy.new) }
+        ensures { SelectsLogs N.still N.view N.makes P.gives self.old self.new policy.old policy.new most result }
     {
         if self.round.phase != Phase::Idle {
             return Err(Refused::Phase);

@@ -1,14 +1,15 @@
 //! Whole rounds, turn after turn.
 
-ghost use Rattle.std.specs.Prelude.{◌≡◌, ◌≢◌, ◌⊎◌, ◌+◌, ◌<◌, ℕ, Bool, List, Some, None, Ok, Err, false, IfOk, IfErr, map};
+ghost use Rattle.std.specs.Prelude.{◌≡◌, ◌⊎◌, ◌+◌, ◌<◌, ℕ, List, Some, None, Ok, Err, false, IfOk, IfErr, map};
 ghost use Rattle.far_book.specs.book.Rows.{row_of};
-ghost use Rattle.far_device.specs.Following.{Follows, none_of};
+ghost use Rattle.far_device.specs.Following.{Follows};
 ghost use Rattle.far_policy.specs.Choice.{IsBadChoice, IsChoice};
 ghost use Rattle.far_word.specs.declared.refused.Refused.{Refused as why_refused};
-ghost use Rattle.far_word.specs.declared.refused.Refused.TheVariants.{Device as Failed, Memory, Phase as WrongPhase};
+ghost use Rattle.far_word.specs.declared.refused.Refused.TheVariants.{Device as Failed, Memory};
 ghost use Rattle.far_hand.specs.Came.{Came};
 ghost use Rattle.far_evac.specs.AnyHand.{TurnsTo, StopsAt};
-ghost use Rattle.far_evac.specs.Asked.{AsksInTurn, IsRefusedWrite, KeepsKeys, asked_of, first_live};
+ghost use Rattle.far_evac.specs.Asked.{AsksInTurn, IsRefusedWrite, KeepsKeys, first_live};
+ghost use Rattle.far_evac.specs.Calls.{MakesTurn};
 ghost use Rattle.far_evac.specs.Choosing.{after_selecting};
 ghost use Rattle.far_evac.specs.EvacOf.{moment};
 ghost use Rattle.far_evac.specs.Failing.{fails, no_key};
@@ -16,8 +17,8 @@ ghost use Rattle.far_evac.specs.Moment.{Tally, nothing, objects_in, plus, progre
 ghost use Rattle.far_evac.specs.MomentLaw.{IsLawful, is_idle, is_waiting};
 ghost use Rattle.far_evac.specs.Refusals.{unselectable};
 ghost use Rattle.far_evac.specs.RoundAsked.{EndsAsking, RoundAsking, StopsAsking};
-ghost use Rattle.far_evac.specs.Turning.{GoesOn, IsBounded, IsWithin, told_in, turned_at};
-ghost use Rattle.far_evac.specs.Turns.{Halts, HaltsTurns, IsRound, begun_turns, round_end, turn_size, turned, turns_made};
+ghost use Rattle.far_evac.specs.Turning.{GoesOn, IsBounded, IsWithin, turned_at};
+ghost use Rattle.far_evac.specs.Turns.{Halts, HaltsTurns, IsRound, round_end, turn_size, turned, turns_made};
 ghost use Rattle.far_evac.specs.declared.phase.Phase.TheVariants as phase;
 
 use crate::answers::{EvacFault, Progress, RoundEnd};
@@ -36,20 +37,7 @@ impl<N: Near + Drop, D: Device + Drop> Evac<N, D> {
     ///
     /// [`Refused::Phase`]: far_word::Refused::Phase
     pub fn turn(&mut self) -> Result<Progress, EvacFault>
-        ensures came { Came N.makes self.old.book.near self.new.book.near }
-        ensures turns { IfOk result (λ progress. TurnsTo (moment N.view self.old) self.old.phase (tally_of progress) progress.done (moment N.view self.new)) }
-        ensures exact { N.still → IfOk result (λ progress. turned (begun_turns (moment N.view self.old)) self.old.phase ≡ record { moment = moment N.view self.new; tally = tally_of progress; over = progress.done }) }
-        ensures running { IfOk result (λ _. self.old.phase ≢ phase.Idle) }
-        ensures goes_on { IfOk result (λ progress. is_idle self.new.phase ≡ progress.done) }
-        ensures stays { IfErr result (λ _. self.new.phase ≡ self.old.phase) }
-        ensures bounded { IsBounded (told_in result) }
-        ensures barred { self.old.phase ≡ phase.Idle → IfErr result (λ fault. (fault.why ≡ WrongPhase) × (fault.so_far ≡ progress_of nothing false) × (self.new ≡ self.old)) }
-        ensures stops { self.old.phase ≢ phase.Idle → IfErr result (λ fault. (self.old.phase ≡ phase.Evacuating) × StopsAt (moment N.view self.old) turn_size (moment N.view self.new) (tally_of fault.so_far)) }
-        ensures halts { N.still → self.old.phase ≢ phase.Idle → IfErr result (λ fault. (tally : Tally) × Halts (moment N.view self.old) turn_size (moment N.view self.new) tally × (fault.so_far ≡ progress_of tally false)) }
-        ensures why { self.old.phase ≢ phase.Idle → IfErr result (λ fault. (fault.why ≡ Memory) ⊎ (fault.why ≡ Failed)) }
-        ensures asked { IfOk result (λ progress. AsksInTurn D D.writes D.lets_go (moment N.view self.old) self.old.phase (moment N.view self.new) (tally_of progress) self.old.book.device self.new.book.device) }
-        ensures refused { self.old.phase ≢ phase.Idle → IfErr result (λ fault. IsRefusedWrite D D.writes D.lets_go (moment N.view self.old) (moment N.view self.new) (tally_of fault.so_far) fault.why self.old.book.device self.new.book.device) }
-        ensures follows { Follows D.contents D.honest D.faults D.fails_at_most (none_of (first_live (moment N.view self.old) (asked_of result))) (fails result) self.old.book.device self.new.book.device }
+        ensures { MakesTurn N.still N.view N.makes D.contents D.honest D.faults D.fails_at_most D.writes D.lets_go self.old self.new result }
     {
         match self.phase() {
             Phase::Idle => Err(EvacFault {

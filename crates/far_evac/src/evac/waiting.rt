@@ -1,16 +1,11 @@
 //! How a round waits until every older scope is closed.
 
-ghost use Rattle.std.specs.Prelude.{◌≡◌, ◌≢◌, ◌+◌, ◌*◌, ◌<◌, ◌≤◌, ◌/◌, ℕ, true, false, IfOk, IfErr, IfSome, IfNone, IsSome};
-ghost use Rattle.far_word.specs.declared.refused.Refused.TheVariants.{Phase as WrongPhase};
+ghost use Rattle.std.specs.Prelude.{◌≡◌, ◌+◌, ◌*◌, ◌<◌, ◌≤◌, ◌/◌, ℕ, true, false, IfSome, IfNone, IsSome};
 ghost use Rattle.far_word.specs.Scope.{scope_of};
 ghost use Rattle.far_core.specs.events.Look.{shows_clear};
-ghost use Rattle.far_core.specs.state.State.{State};
 ghost use Rattle.far_hand.specs.Came.{Came, only};
-ghost use Rattle.far_hand.specs.MayBe.{NoneViews};
-ghost use Rattle.far_evac.specs.AnyHand.{Polls};
-ghost use Rattle.far_evac.specs.EvacOf.{moment};
-ghost use Rattle.far_evac.specs.RoundSteps.{among};
-ghost use Rattle.far_evac.specs.Waiting.{Looked, Looks, SawOpen, after_polling, polled};
+ghost use Rattle.far_evac.specs.Calls.{PollsOwners};
+ghost use Rattle.far_evac.specs.Waiting.{Looked, Looks, SawOpen, polled};
 ghost use Rattle.far_evac.specs.declared.answers.Polled.TheVariants.{Clear};
 ghost use Rattle.far_evac.specs.declared.phase.Phase.TheVariants as phase;
 
@@ -28,16 +23,7 @@ impl<N: Near + Drop, D: Device + Drop> Evac<N, D> {
     ///
     /// Refused [`Refused::Phase`] exactly where the round isn't waiting; nothing has changed then. It never blocks.
     pub fn poll_wait(&mut self) -> Result<Polled, Refused>
-        ensures came { Came N.makes self.old.book.near self.new.book.near }
-        ensures looks { Came (only Looks N.makes) self.old.book.near self.new.book.near }
-        ensures polls { IfOk result (λ answer. Polls (moment N.view self.old) (moment N.view self.new) answer) }
-        ensures exact { N.still → IfOk result (λ answer. (moment N.view self.new ≡ after_polling (moment N.view self.old)) × (answer ≡ polled (N.view self.old.book.near))) }
-        ensures unviewed { IfOk result (λ answer. answer ≡ Clear → (x : State) → N.may_be self.new.book.near x → NoneViews (among self.new.collection) x) }
-        ensures saw { IfOk result (SawOpen (N.may_be self.new.book.near)) }
-        ensures device { self.new.book.device ≡ self.old.book.device }
-        ensures waiting { IfOk result (λ _. self.old.phase ≡ phase.Waiting) }
-        ensures refused { IfErr result (λ why. (why ≡ WrongPhase) × (self.old.phase ≢ phase.Waiting)) }
-        ensures unchanged { IfErr result (λ _. self.new ≡ self.old) }
+        ensures { PollsOwners N.still N.view N.makes N.may_be self.old self.new result }
     {
         if self.round.phase != Phase::Waiting {
             return Err(Refused::Phase);

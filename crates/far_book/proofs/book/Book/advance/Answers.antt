@@ -1,5 +1,5 @@
 use Rattle.far_book.proofs.book.Book.advance.Goals as goal
-use Rattle.std.proofs.Common.{sym, subst}
+use Rattle.std.proofs.Common.{rules, sym, subst}
 use Rattle.far_hand.specs.Rounds.{MayChoose}
 use Rattle.far_book.specs.book.BookOf.{BookOf}
 use Rattle.far_book.proofs.region.Rounding.{advance_keeps}
@@ -17,5 +17,18 @@ invariant_of-self g c =
       c.self.invariant.1,
     )
 
-pub returns-clause-came : goal.returns-clause-came
-returns-clause-came g c = since_book c.self.view_is (call_result (Advance c.args.logs) Epoch (λ _. Refused) c.advance.result c.advance.ensures.made c.advance.ensures.spent)
+pub returns : goal.returns
+returns g c = record {
+  came = since_book c.self.view_is (call_result (Advance c.args.logs) Epoch (λ _. Refused) c.advance.result c.advance.ensures.made c.advance.ensures.spent);
+  made = search rules;
+  epoch = search rules;
+  kept = search rules;
+  forgot = search rules;
+  set = search rules;
+  ran = search rules;
+  refused = search rules;
+  spent = search rules;
+  unchanged = search rules;
+  order = search rules;
+  device = search rules;
+}

@@ -1,5 +1,5 @@
 use Rattle.far_book.proofs.book.Book.clear.Goals as goal
-use Rattle.std.proofs.Common.{sym, subst, arith}
+use Rattle.std.proofs.Common.{rules, sym, subst, arith}
 use Rattle.far_core.specs.declared.event.Event.TheVariants.{Clear}
 use Rattle.far_core.specs.events.Legal.{Legal}
 use Rattle.far_book.specs.book.BookOf.{BookOf}
@@ -16,5 +16,16 @@ invariant_of-self g c =
       c.self.invariant.1,
     )
 
-pub returns-clause-came : goal.returns-clause-came
-returns-clause-came g c = since_book c.self.view_is (first_call _ _ c.clear.ensures.made)
+pub returns : goal.returns
+returns g c = record {
+  made = search rules;
+  came = since_book c.self.view_is (first_call _ _ c.clear.ensures.made);
+  found = search rules;
+  kept = search rules;
+  forgot = search rules;
+  exact = search rules;
+  set = search rules;
+  ran = search rules;
+  order = search rules;
+  device = search rules;
+}

@@ -1,7 +1,7 @@
 use Rattle.far_book.proofs.book.Book.fetch.Given.{Over}
 use Rattle.far_book.proofs.book.Book.fetch.Goals.{After-room, In-Far, In-Ok-come_near}
 use Rattle.far_book.proofs.book.Book.fetch.Goals as goal
-use Rattle.std.proofs.Common.{◌≡◌, ◌∙◌, ◌^◌, ◌<◌, ◌≤◌, ℕ, true, false, ap, arith, sym, subst, inl, inr, length, Some}
+use Rattle.std.proofs.Common.{◌≡◌, ◌∙◌, ◌^◌, ◌<◌, ◌≤◌, ℕ, true, false, ap, arith, rules, sym, subst, inl, inr, length, Some}
 use Rattle.std.specs.Global.{Vec}
 use Rattle.std.specs.Vec.{vec_capacity}
 use Rattle.far_word.specs.declared.sizes.TheConstants.{LONGEST}
@@ -82,26 +82,6 @@ come_near-requires-clause-head g c =
     let fits = layout x.found in
     record { some = fits.0; most = fits.1; structure = fits.2; cell = omega (arith, pointer x.found, c.self.invariant.0.notes.law.shape.few_mutators) }
 
-pub returns-in_default-room-clause-refused : goal.returns-in_default-room-clause-refused
-returns-in_default-room-clause-refused g c = room_was (told g (goal.at.returns-in_default-room-clause-refused g c).After-room) ∙ c.in_default-room.is
-
-pub returns-in-Err-Memory-clause-refused : goal.returns-in-Err-Memory-clause-refused
-returns-in-Err-Memory-clause-refused g c = some_room (told g (goal.at.returns-in-Err-Memory-clause-refused g c).After-room) c.in-Some.place c.in-Some.is
-
-pub returns-in-Err-Device-clause-refused : goal.returns-in-Err-Device-clause-refused
-returns-in-Err-Device-clause-refused g c = some_room (told g (goal.at.returns-in-Err-Device-clause-refused g c).After-room) c.in-Some.place c.in-Some.is
-
-pub returns-clause-place : goal.returns-clause-place
-returns-clause-place g c = room_was (told g (goal.at.returns-clause-place g c).After-room) ∙ c.in-Some.is
-
-pub returns-then-len-clause-refused : goal.returns-then-len-clause-refused
-returns-then-len-clause-refused g c =
-    let h = told g (goal.at.returns-then-len-clause-refused g c).After-room in
-    let honest = ap g.D.Device.honest (device g (goal.at.returns-then-len-clause-refused g c).After-room) in
-    let short = false_from_ne_true (g.D.Device.honest c.args.self.now.device) (λ e.
-    let long : length c.read_into.new.buffer.items ≡ c.in-Far.len = as_long h c.read_into.new.buffer.items (c.in-Ok.ensures.given (honest ∙ e)) in absurd (omega arith)) in
-    (some_room h c.in-Some.place c.in-Some.is, short)
-
 pub come_near-requires-clause-layout : goal.come_near-requires-clause-layout
 come_near-requires-clause-layout g c = (placeable (has_room (told g (goal.at.come_near-requires-clause-layout g c).After-room) c.in-Some.place c.in-Some.is)).layout
 
@@ -130,35 +110,6 @@ invariant_of-self-in_default-come_near g c =
       enough c.self.inside.buffer c.replace-bytes.result c.read_into.new.buffer c.replace-bytes.ensures.value c.self.invariant.1 c.read_into.ensures.room,
     )
 
-pub returns-then-marks-clause-gone : goal.returns-then-marks-clause-gone
-returns-then-marks-clause-gone g c =
-    let x = found g (goal.at.returns-then-marks-clause-gone g c).In-Far in
-    let dropped : is_dropped (read_of c.see-word.result) ≡ true = ap is_dropped x.far ∙ c.if-marks.true in
-    retired_by g.N.Near.still (g.N.Near.view c.args.self.now.near) (g.N.Near.view c.see-word.new.self.near) (g.N.Near.view c.retire.new.self.near) c.args.pointer c.see-word.result x.finds dropped
-    (left_here x) c.retire.ensures.kept c.retire.ensures.forgot
-    (λ still. ap (λ v. is_dropped (read_of v)) (sym (c.see-word.ensures.exact still)) ∙ dropped)
-    (λ still. c.retire.ensures.exact still ∙ ap (λ (u : State). retired u c.args.pointer) (c.see-word.ensures.set still))
-
-pub returns-then-marks-clause-unread : goal.returns-then-marks-clause-unread
-returns-then-marks-clause-unread g c a _ k = subst (λ n. n < 2 ^ 64) (c.retire.ensures.forgot.known a k ∙ ap (λ (h : ℕ → ℕ). h a) (words_same (found g (goal.at.returns-then-marks-clause-unread g c).In-Far))) k
-
-pub returns-in_default-come_near-clause-gone : goal.returns-in_default-come_near-clause-gone
-returns-in_default-come_near-clause-gone g c =
-    let h = told g (goal.at.returns-in_default-come_near-clause-gone g c).After-room in
-    let y = c.in_default-come_near in
-    let u = g.N.Near.view c.come_near.new.near in
-    let z = c.retire-in_default-come_near in
-    retired_by g.N.Near.still (g.N.Near.view c.args.self.now.near) u (g.N.Near.view z.new.self.near) c.args.pointer y.field-0 (finds_more _ _ _ h.found.finds y.ensures.found) y.ensures.dropped
-    (left_written h c.in-Some.place c.in-Some.is (packed_word c.as_slice.result.now) u y.field-0 y.ensures.kept) z.ensures.kept z.ensures.forgot
-    (λ still. absurd (y.ensures.won still)) (λ still. absurd (y.ensures.won still))
-
-pub returns-in_default-come_near-clause-unread : goal.returns-in_default-come_near-clause-unread
-returns-in_default-come_near-clause-unread g c =
-    let y = c.in_default-come_near in
-    let z = c.retire-in_default-come_near in
-    unread_written (told g (goal.at.returns-in_default-come_near-clause-unread g c).After-room) c.in-Some.place c.in-Some.is (packed_word c.as_slice.result.now) (g.N.Near.view c.come_near.new.near) y.field-0 y.ensures.kept
-    (g.N.Near.view z.new.self.near) z.ensures.forgot
-
 pub invariant_of-self-2 : goal.invariant_of-self-2
 invariant_of-self-2 g c =
     let h = told g (goal.at.invariant_of-self-2 g c).After-room in
@@ -178,130 +129,214 @@ given g c =
     let long : length c.read_into.new.buffer.items ≡ c.in-Far.len = omega arith in
     has_given (told g (goal.at.In-Ok-come_near g c).After-room) c.in-Some.place c.in-Some.is c.as_slice.result.now c.if-marks.false (g.N.Near.view c.come_near.new.near) y.done g.N.Near.still y.set (ap length c.as_slice.ensures.value ∙ long)
 
-pub returns-clause-near : goal.returns-clause-near
-returns-clause-near g c =
-    let k = (goal.at.returns-clause-near g c).After-room in
-    is_fetched (told g k).found (g.D.Device.honest c.args.self.now.device) (given g (goal.at.returns-clause-near g c).In-Ok-come_near) c.come_near.ensures.padded
-    (λ e i lt. ap (λ b. packed_word b i) c.as_slice.ensures.value ∙ as_stored (told g k) c.read_into.new.buffer.items (c.in-Ok.ensures.given (ap g.D.Device.honest (device g k) ∙ e)) i lt)
+pub returns-then-marks : goal.returns-then-marks
+returns-then-marks g c = record {
+  came = then_came c.see-word.ensures.came c.retire.ensures.came;
+  place = tt;
+  near = tt;
+  gone = let x = found g (goal.at.returns-then-marks g c).In-Far in
+      let dropped : is_dropped (read_of c.see-word.result) ≡ true = ap is_dropped x.far ∙ c.if-marks.true in
+      retired_by g.N.Near.still (g.N.Near.view c.args.self.now.near) (g.N.Near.view c.see-word.new.self.near) (g.N.Near.view c.retire.new.self.near) c.args.pointer c.see-word.result x.finds dropped
+      (left_here x) c.retire.ensures.kept c.retire.ensures.forgot
+      (λ still. ap (λ v. is_dropped (read_of v)) (sym (c.see-word.ensures.exact still)) ∙ dropped)
+      (λ still. c.retire.ensures.exact still ∙ ap (λ (u : State). retired u c.args.pointer) (c.see-word.ensures.set still));
+  unread = λ a. λ _. λ k. subst (λ n. n < 2 ^ 64) (c.retire.ensures.forgot.known a k ∙ ap (λ (h : ℕ → ℕ). h a) (words_same (found g (goal.at.returns-then-marks g c).In-Far))) k;
+  asked = search rules;
+  order = search rules;
+  called = inl (subst (λ (d : g.row.D.Denot). g.D.Device.lets_go d c.args.pointer c.retire.new.self.device) c.see-word.ensures.device c.retire.ensures.called);
+  forgot = search rules;
+  follows = search rules;
+  refused = tt;
+  in_place = search rules;
+  untouched = tt;
+  held = tt;
+  seen = tt;
+  kept = tt;
+  exact = λ _. tt;
+  shut = tt;
+  ran = λ still. let dropped : is_dropped (read_of c.see-word.result) ≡ true = ap is_dropped (found g (goal.at.returns-then-marks g c).In-Far).far ∙ c.if-marks.true in
+      record {
+        pointer = c.requires.pointer;
+        dropped = ap (λ v. is_dropped (read_of v)) (sym (c.see-word.ensures.exact still)) ∙ dropped;
+        after = c.retire.ensures.exact still ∙ ap (λ (u : State). retired u c.args.pointer) (c.see-word.ensures.set still);
+      };
+}
 
-pub returns-in_default-room-clause-asked : goal.returns-in_default-room-clause-asked
-returns-in_default-room-clause-asked g c h = absurd (unasked (found g (goal.at.returns-in_default-room-clause-asked g c).In-Far) c.if-marks.false h)
+pub returns-in_default-room : goal.returns-in_default-room
+returns-in_default-room g c = record {
+  came = search rules;
+  place = tt;
+  near = tt;
+  gone = tt;
+  unread = tt;
+  asked = λ h. absurd (unasked (found g (goal.at.returns-in_default-room g c).In-Far) c.if-marks.false h);
+  order = tt;
+  called = search rules;
+  forgot = λ _. tt;
+  follows = search rules;
+  refused = room_was (told g (goal.at.returns-in_default-room g c).After-room) ∙ c.in_default-room.is;
+  in_place = search rules;
+  untouched = search rules;
+  held = search rules;
+  seen = is_seen (found g (goal.at.returns-in_default-room g c).In-Far) c.if-marks.false;
+  kept = search rules;
+  exact = search rules;
+  shut = search rules;
+  ran = search rules;
+}
 
-pub returns-in_default-room-clause-seen : goal.returns-in_default-room-clause-seen
-returns-in_default-room-clause-seen g c = is_seen (found g (goal.at.returns-in_default-room-clause-seen g c).In-Far) c.if-marks.false
+pub returns-in-Err-Memory : goal.returns-in-Err-Memory
+returns-in-Err-Memory g c = record {
+  came = search rules;
+  place = tt;
+  near = tt;
+  gone = tt;
+  unread = tt;
+  asked = λ h. absurd (unasked (found g (goal.at.returns-in-Err-Memory g c).In-Far) c.if-marks.false h);
+  order = tt;
+  called = read g (goal.at.returns-in-Err-Memory g c).After-room (Err Memory) c.read_into.new.self
+      (subst (λ (w : DeviceFault). g.D.Device.reads c.self.inside.device c.args.pointer (Err w) c.read_into.new.self) c.in-Err-Memory.field-0-is c.in-Err-Memory.ensures.called);
+  forgot = λ _. tt;
+  follows = follows g (goal.at.returns-in-Err-Memory g c).After-room (Err Memory) c.read_into.new.self
+      (subst (λ (w : DeviceFault). g.D.Device.reads c.self.inside.device c.args.pointer (Err w) c.read_into.new.self) c.in-Err-Memory.field-0-is c.in-Err-Memory.ensures.called);
+  refused = some_room (told g (goal.at.returns-in-Err-Memory g c).After-room) c.in-Some.place c.in-Some.is;
+  in_place = λ kind. λ same. holds_all (told g (goal.at.returns-in-Err-Memory g c).After-room) _ _
+      (subst (λ (b : Vec ℕ). LONGEST ≤ vec_capacity b) (sym c.replace-bytes.ensures.value) c.self.invariant.1) (c.in-Err-Memory.ensures.in_place kind) (ap (λ (w : DeviceFault). Err w) c.in-Err-Memory.field-0-is);
+  untouched = search rules;
+  held = search rules;
+  seen = is_seen (told g (goal.at.returns-in-Err-Memory g c).After-room).found c.if-marks.false;
+  kept = search rules;
+  exact = search rules;
+  shut = search rules;
+  ran = search rules;
+}
 
-pub returns-in-Err-Memory-clause-asked : goal.returns-in-Err-Memory-clause-asked
-returns-in-Err-Memory-clause-asked g c h = absurd (unasked (found g (goal.at.returns-in-Err-Memory-clause-asked g c).In-Far) c.if-marks.false h)
+pub returns-in-Err-Device : goal.returns-in-Err-Device
+returns-in-Err-Device g c = record {
+  came = search rules;
+  place = tt;
+  near = tt;
+  gone = tt;
+  unread = tt;
+  asked = λ h. absurd (unasked (found g (goal.at.returns-in-Err-Device g c).In-Far) c.if-marks.false h);
+  order = tt;
+  called = read g (goal.at.returns-in-Err-Device g c).After-room (Err Device) c.read_into.new.self
+      (subst (λ (w : DeviceFault). g.D.Device.reads c.self.inside.device c.args.pointer (Err w) c.read_into.new.self) c.in-Err-Device.field-0-is c.in-Err-Device.ensures.called);
+  forgot = λ _. tt;
+  follows = follows g (goal.at.returns-in-Err-Device g c).After-room (Err Device) c.read_into.new.self
+      (subst (λ (w : DeviceFault). g.D.Device.reads c.self.inside.device c.args.pointer (Err w) c.read_into.new.self) c.in-Err-Device.field-0-is c.in-Err-Device.ensures.called);
+  refused = some_room (told g (goal.at.returns-in-Err-Device g c).After-room) c.in-Some.place c.in-Some.is;
+  in_place = search rules;
+  untouched = search rules;
+  held = search rules;
+  seen = is_seen (told g (goal.at.returns-in-Err-Device g c).After-room).found c.if-marks.false;
+  kept = search rules;
+  exact = search rules;
+  shut = search rules;
+  ran = search rules;
+}
 
-pub returns-in-Err-Memory-clause-seen : goal.returns-in-Err-Memory-clause-seen
-returns-in-Err-Memory-clause-seen g c = is_seen (told g (goal.at.returns-in-Err-Memory-clause-seen g c).After-room).found c.if-marks.false
+pub returns-then-len : goal.returns-then-len
+returns-then-len g c = record {
+  came = search rules;
+  place = tt;
+  near = tt;
+  gone = tt;
+  unread = tt;
+  asked = λ h. absurd (unasked (found g (goal.at.returns-then-len g c).In-Far) c.if-marks.false h);
+  order = tt;
+  called = let old = was_long (told g (goal.at.returns-then-len g c).After-room).found in
+      let short = λ (e : length c.read_into.new.buffer.items ≡ far_len (read_of ((g.N.Near.view c.args.self.now.near).cell c.args.pointer))).
+      let long : length c.read_into.new.buffer.items ≡ c.in-Far.len = e ∙ old in absurd (omega arith) in
+      (c.read_into.new.buffer.items, read g (goal.at.returns-then-len g c).After-room (Ok c.read_into.new.buffer.items) c.read_into.new.self c.in-Ok.ensures.called, short);
+  forgot = λ _. tt;
+  follows = follows g (goal.at.returns-then-len g c).After-room (Ok c.read_into.new.buffer.items) c.read_into.new.self c.in-Ok.ensures.called;
+  refused = let h = told g (goal.at.returns-then-len g c).After-room in
+      let honest = ap g.D.Device.honest (device g (goal.at.returns-then-len g c).After-room) in
+      let short = false_from_ne_true (g.D.Device.honest c.args.self.now.device) (λ e.
+      let long : length c.read_into.new.buffer.items ≡ c.in-Far.len = as_long h c.read_into.new.buffer.items (c.in-Ok.ensures.given (honest ∙ e)) in absurd (omega arith)) in
+      (some_room h c.in-Some.place c.in-Some.is, short);
+  in_place = search rules;
+  untouched = search rules;
+  held = search rules;
+  seen = is_seen (told g (goal.at.returns-then-len g c).After-room).found c.if-marks.false;
+  kept = search rules;
+  exact = search rules;
+  shut = search rules;
+  ran = search rules;
+}
 
-pub returns-in-Err-Device-clause-asked : goal.returns-in-Err-Device-clause-asked
-returns-in-Err-Device-clause-asked g c h = absurd (unasked (found g (goal.at.returns-in-Err-Device-clause-asked g c).In-Far) c.if-marks.false h)
+pub returns-in_default-come_near : goal.returns-in_default-come_near
+returns-in_default-come_near g c = record {
+  came = then_came (then_came c.see-word.ensures.came (since_book c.self.view_is c.come_near.ensures.came)) c.retire-in_default-come_near.ensures.came;
+  place = tt;
+  near = tt;
+  gone = let h = told g (goal.at.returns-in_default-come_near g c).After-room in
+      let y = c.in_default-come_near in
+      let u = g.N.Near.view c.come_near.new.near in
+      let z = c.retire-in_default-come_near in
+      retired_by g.N.Near.still (g.N.Near.view c.args.self.now.near) u (g.N.Near.view z.new.self.near) c.args.pointer y.field-0 (finds_more _ _ _ h.found.finds y.ensures.found) y.ensures.dropped
+      (left_written h c.in-Some.place c.in-Some.is (packed_word c.as_slice.result.now) u y.field-0 y.ensures.kept) z.ensures.kept z.ensures.forgot
+      (λ still. absurd (y.ensures.won still)) (λ still. absurd (y.ensures.won still));
+  unread = let y = c.in_default-come_near in
+      let z = c.retire-in_default-come_near in
+      unread_written (told g (goal.at.returns-in_default-come_near g c).After-room) c.in-Some.place c.in-Some.is (packed_word c.as_slice.result.now) (g.N.Near.view c.come_near.new.near) y.field-0 y.ensures.kept
+      (g.N.Near.view z.new.self.near) z.ensures.forgot;
+  asked = search rules;
+  order = search rules;
+  called = let k = (goal.at.returns-in_default-come_near g c).After-room in
+      let asked = read g k (Ok c.read_into.new.buffer.items) c.read_into.new.self c.in-Ok.ensures.called in
+      inr (c.read_into.new.buffer.items, c.read_into.new.self, asked, c.retire-in_default-come_near.ensures.called, was_alive (told g k).found c.if-marks.false);
+  forgot = search rules;
+  follows = follows_on g.D.Device.contents g.D.Device.honest g.D.Device.faults g.D.Device.fails_at_most (other_than c.args.pointer) false _ _ _
+      (follows g (goal.at.returns-in_default-come_near g c).After-room (Ok c.read_into.new.buffer.items) c.read_into.new.self c.in-Ok.ensures.called) c.retire-in_default-come_near.ensures.follows;
+  refused = tt;
+  in_place = search rules;
+  untouched = tt;
+  held = tt;
+  seen = tt;
+  kept = tt;
+  exact = λ _. tt;
+  shut = tt;
+  ran = λ still. absurd (c.in_default-come_near.ensures.won still);
+}
 
-pub returns-in-Err-Device-clause-seen : goal.returns-in-Err-Device-clause-seen
-returns-in-Err-Device-clause-seen g c = is_seen (told g (goal.at.returns-in-Err-Device-clause-seen g c).After-room).found c.if-marks.false
-
-pub returns-then-len-clause-asked : goal.returns-then-len-clause-asked
-returns-then-len-clause-asked g c h = absurd (unasked (found g (goal.at.returns-then-len-clause-asked g c).In-Far) c.if-marks.false h)
-
-pub returns-then-len-clause-seen : goal.returns-then-len-clause-seen
-returns-then-len-clause-seen g c = is_seen (told g (goal.at.returns-then-len-clause-seen g c).After-room).found c.if-marks.false
-
-pub returns-clause-asked : goal.returns-clause-asked
-returns-clause-asked g c h = absurd (unasked (found g (goal.at.returns-clause-asked g c).In-Far) c.if-marks.false h)
-
-pub returns-in-Err-Memory-clause-follows : goal.returns-in-Err-Memory-clause-follows
-returns-in-Err-Memory-clause-follows g c =
-    follows g (goal.at.returns-in-Err-Memory-clause-follows g c).After-room (Err Memory) c.read_into.new.self
-    (subst (λ (w : DeviceFault). g.D.Device.reads c.self.inside.device c.args.pointer (Err w) c.read_into.new.self) c.in-Err-Memory.field-0-is c.in-Err-Memory.ensures.called)
-
-pub returns-in-Err-Memory-clause-in_place : goal.returns-in-Err-Memory-clause-in_place
-returns-in-Err-Memory-clause-in_place g c kind same =
-    holds_all (told g (goal.at.returns-in-Err-Memory-clause-in_place g c).After-room) _ _
-    (subst (λ (b : Vec ℕ). LONGEST ≤ vec_capacity b) (sym c.replace-bytes.ensures.value) c.self.invariant.1) (c.in-Err-Memory.ensures.in_place kind) (ap (λ (w : DeviceFault). Err w) c.in-Err-Memory.field-0-is)
-
-pub returns-in-Err-Device-clause-follows : goal.returns-in-Err-Device-clause-follows
-returns-in-Err-Device-clause-follows g c =
-    follows g (goal.at.returns-in-Err-Device-clause-follows g c).After-room (Err Device) c.read_into.new.self
-    (subst (λ (w : DeviceFault). g.D.Device.reads c.self.inside.device c.args.pointer (Err w) c.read_into.new.self) c.in-Err-Device.field-0-is c.in-Err-Device.ensures.called)
-
-pub returns-then-len-clause-follows : goal.returns-then-len-clause-follows
-returns-then-len-clause-follows g c = follows g (goal.at.returns-then-len-clause-follows g c).After-room (Ok c.read_into.new.buffer.items) c.read_into.new.self c.in-Ok.ensures.called
-
-pub returns-in_default-come_near-clause-follows : goal.returns-in_default-come_near-clause-follows
-returns-in_default-come_near-clause-follows g c =
-    follows_on g.D.Device.contents g.D.Device.honest g.D.Device.faults g.D.Device.fails_at_most (other_than c.args.pointer) false _ _ _
-    (follows g (goal.at.returns-in_default-come_near-clause-follows g c).After-room (Ok c.read_into.new.buffer.items) c.read_into.new.self c.in-Ok.ensures.called) c.retire-in_default-come_near.ensures.follows
-
-pub returns-clause-follows : goal.returns-clause-follows
-returns-clause-follows g c =
-    follows_on g.D.Device.contents g.D.Device.honest g.D.Device.faults g.D.Device.fails_at_most (other_than c.args.pointer) false _ _ _
-    (follows g (goal.at.returns-clause-follows g c).After-room (Ok c.read_into.new.buffer.items) c.read_into.new.self c.in-Ok.ensures.called) (g.met.D.Device.forget_follows _ _ _ c.forget.ensures.called)
-
-pub returns-then-marks-clause-ran : goal.returns-then-marks-clause-ran
-returns-then-marks-clause-ran g c still =
-    let dropped : is_dropped (read_of c.see-word.result) ≡ true = ap is_dropped (found g (goal.at.returns-then-marks-clause-ran g c).In-Far).far ∙ c.if-marks.true in
+pub returns : goal.returns
+returns g c =
+    let k = (goal.at.returns g c).After-room in
+    let here = room_was (told g k) ∙ c.in-Some.is in
+    let near =
+    is_fetched (told g k).found (g.D.Device.honest c.args.self.now.device) (given g (goal.at.returns g c).In-Ok-come_near) c.come_near.ensures.padded
+    (λ e i lt. ap (λ b. packed_word b i) c.as_slice.ensures.value ∙ as_stored (told g k) c.read_into.new.buffer.items (c.in-Ok.ensures.given (ap g.D.Device.honest (device g k) ∙ e)) i lt) in
     record {
-      pointer = c.requires.pointer;
-      dropped = ap (λ v. is_dropped (read_of v)) (sym (c.see-word.ensures.exact still)) ∙ dropped;
-      after = c.retire.ensures.exact still ∙ ap (λ (u : State). retired u c.args.pointer) (c.see-word.ensures.set still);
+      came = then_came c.see-word.ensures.came (since_book c.self.view_is c.come_near.ensures.came);
+      place = here;
+      near = near;
+      gone = tt;
+      unread = tt;
+      asked = λ h. absurd (unasked (found g (goal.at.returns g c).In-Far) c.if-marks.false h);
+      order = search rules;
+      called = let read = read g k (Ok c.read_into.new.buffer.items) c.read_into.new.self c.in-Ok.ensures.called in
+          let given = subst (HasGiven g.N.Near.still _ _ c.args.pointer c.in-Some.place) c.as_slice.ensures.value (given g (goal.at.returns g c).In-Ok-come_near) in
+          (c.read_into.new.buffer.items, c.read_into.new.self, read, c.forget.ensures.called, given);
+      forgot = search rules;
+      follows = follows_on g.D.Device.contents g.D.Device.honest g.D.Device.faults g.D.Device.fails_at_most (other_than c.args.pointer) false _ _ _
+          (follows g k (Ok c.read_into.new.buffer.items) c.read_into.new.self c.in-Ok.ensures.called) (g.met.D.Device.forget_follows _ _ _ c.forget.ensures.called);
+      refused = tt;
+      in_place = search rules;
+      untouched = tt;
+      held = tt;
+      seen = tt;
+      kept = tt;
+      exact = λ _. tt;
+      shut = tt;
+      ran = λ still. record {
+        far = c.requires.far;
+        alive = was_alive (told g k).found c.if-marks.false;
+        found = here;
+        row = near.row;
+        padded = near.padded;
+        stored = λ e. near.stored (sym (ap g.D.Device.honest (device g k)) ∙ c.self.invariant.0.honest (ap (λ (u : State). u.honest) (told g k).found.same ∙ e));
+        after = near.exact still;
+      };
     }
-
-pub returns-in_default-come_near-clause-ran : goal.returns-in_default-come_near-clause-ran
-returns-in_default-come_near-clause-ran g c still = absurd (c.in_default-come_near.ensures.won still)
-
-pub returns-clause-ran : goal.returns-clause-ran
-returns-clause-ran g c still =
-    let h = told g (goal.at.returns-clause-ran g c).After-room in
-    let near = returns-clause-near g c in
-    record {
-      far = c.requires.far;
-      alive = was_alive h.found c.if-marks.false;
-      found = returns-clause-place g c;
-      row = near.row;
-      padded = near.padded;
-      stored = λ e. near.stored (sym (ap g.D.Device.honest (device g (goal.at.returns-clause-ran g c).After-room)) ∙ c.self.invariant.0.honest (ap (λ (u : State). u.honest) h.found.same ∙ e));
-      after = near.exact still;
-    }
-
-pub returns-then-marks-clause-called : goal.returns-then-marks-clause-called
-returns-then-marks-clause-called g c = inl (subst (λ (d : g.row.D.Denot). g.D.Device.lets_go d c.args.pointer c.retire.new.self.device) c.see-word.ensures.device c.retire.ensures.called)
-
-pub returns-in-Err-Memory-clause-called : goal.returns-in-Err-Memory-clause-called
-returns-in-Err-Memory-clause-called g c =
-    read g (goal.at.returns-in-Err-Memory-clause-called g c).After-room (Err Memory) c.read_into.new.self
-    (subst (λ (w : DeviceFault). g.D.Device.reads c.self.inside.device c.args.pointer (Err w) c.read_into.new.self) c.in-Err-Memory.field-0-is c.in-Err-Memory.ensures.called)
-
-pub returns-in-Err-Device-clause-called : goal.returns-in-Err-Device-clause-called
-returns-in-Err-Device-clause-called g c =
-    read g (goal.at.returns-in-Err-Device-clause-called g c).After-room (Err Device) c.read_into.new.self
-    (subst (λ (w : DeviceFault). g.D.Device.reads c.self.inside.device c.args.pointer (Err w) c.read_into.new.self) c.in-Err-Device.field-0-is c.in-Err-Device.ensures.called)
-
-pub returns-then-len-clause-called : goal.returns-then-len-clause-called
-returns-then-len-clause-called g c =
-    let old = was_long (told g (goal.at.returns-then-len-clause-called g c).After-room).found in
-    let short = λ (e : length c.read_into.new.buffer.items ≡ far_len (read_of ((g.N.Near.view c.args.self.now.near).cell c.args.pointer))).
-    let long : length c.read_into.new.buffer.items ≡ c.in-Far.len = e ∙ old in absurd (omega arith) in
-    (c.read_into.new.buffer.items, read g (goal.at.returns-then-len-clause-called g c).After-room (Ok c.read_into.new.buffer.items) c.read_into.new.self c.in-Ok.ensures.called, short)
-
-pub returns-in_default-come_near-clause-called : goal.returns-in_default-come_near-clause-called
-returns-in_default-come_near-clause-called g c =
-    let k = (goal.at.returns-in_default-come_near-clause-called g c).After-room in
-    let asked = read g k (Ok c.read_into.new.buffer.items) c.read_into.new.self c.in-Ok.ensures.called in
-    inr (c.read_into.new.buffer.items, c.read_into.new.self, asked, c.retire-in_default-come_near.ensures.called, was_alive (told g k).found c.if-marks.false)
-
-pub returns-clause-called : goal.returns-clause-called
-returns-clause-called g c =
-    let read = read g (goal.at.returns-clause-called g c).After-room (Ok c.read_into.new.buffer.items) c.read_into.new.self c.in-Ok.ensures.called in
-    let given = subst (HasGiven g.N.Near.still _ _ c.args.pointer c.in-Some.place) c.as_slice.ensures.value (given g (goal.at.returns-clause-called g c).In-Ok-come_near) in
-    (c.read_into.new.buffer.items, c.read_into.new.self, read, c.forget.ensures.called, given)
-
-pub returns-then-marks-clause-came : goal.returns-then-marks-clause-came
-returns-then-marks-clause-came g c = then_came c.see-word.ensures.came c.retire.ensures.came
-
-pub returns-in_default-come_near-clause-came : goal.returns-in_default-come_near-clause-came
-returns-in_default-come_near-clause-came g c = then_came (then_came c.see-word.ensures.came (since_book c.self.view_is c.come_near.ensures.came)) c.retire-in_default-come_near.ensures.came
-
-pub returns-clause-came : goal.returns-clause-came
-returns-clause-came g c = then_came c.see-word.ensures.came (since_book c.self.view_is c.come_near.ensures.came)

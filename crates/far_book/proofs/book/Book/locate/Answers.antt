@@ -1,5 +1,5 @@
 use Rattle.far_book.proofs.book.Book.locate.Goals as goal
-use Rattle.std.proofs.Common.{ap, sym, subst, ◌∙◌, arith, refl, ◌≡◌}
+use Rattle.std.proofs.Common.{ap, sym, subst, ◌∙◌, arith, refl, rules, ◌≡◌}
 use Rattle.far_core.specs.state.State.{State}
 use Rattle.far_book.specs.book.BookOf.{BookOf}
 use Rattle.far_book.specs.book.FarSide.{InOrder}
@@ -19,24 +19,24 @@ invariant_of-self g c = (
   c.self.invariant.1,
 )
 
-pub returns-clause-free : goal.returns-clause-free
-returns-clause-free g c =
-    let same = ap (λ (b : BookOf g.row.N.Denot g.row.D.Denot). (g.N.Near.view b.near).cell c.args.pointer) c.self.view_is in (
-      λ none. sym same ∙ no_home ((g.N.Near.view c.self.inside.near).cell c.args.pointer) c.see.result c.see.ensures.found (c.self.invariant.0.notes.law.cells.cell_read c.args.pointer).1 (sym c.home_in.ensures ∙ none),
-      λ free. c.home_in.ensures ∙ free_home ((g.N.Near.view c.self.inside.near).cell c.args.pointer) c.see.result c.see.ensures.found (same ∙ free),
-    )
-
-pub returns-clause-gone : goal.returns-clause-gone
-returns-clause-gone g c =
-    let now : (g.N.Near.view c.see.new.self).cell c.args.pointer ≡ c.see.result = ap (λ (s : State). s.cell c.args.pointer) c.see.ensures.kept ∙ put_same (g.N.Near.view c.self.inside.near).cell c.args.pointer c.see.result c.args.pointer refl in
-    let some = some_found ((g.N.Near.view c.self.inside.near).cell c.args.pointer) c.see.result c.see.ensures.found (c.self.invariant.0.notes.law.cells.cell_read c.args.pointer).1 in
-    (λ none. now ∙ home_none c.see.result some (sym c.home_in.ensures ∙ none), λ free. c.home_in.ensures ∙ none_home c.see.result (sym now ∙ free))
-
-pub returns-clause-saw : goal.returns-clause-saw
-returns-clause-saw g c =
-    let now : (g.N.Near.view c.see.new.self).cell c.args.pointer ≡ c.see.result = ap (λ (s : State). s.cell c.args.pointer) c.see.ensures.kept ∙ put_same (g.N.Near.view c.self.inside.near).cell c.args.pointer c.see.result c.args.pointer refl in
-    subst (λ w. ∥ ((x : State) × g.N.Near.may_be c.see.new.self x × (x.cell c.args.pointer ≡ w)) ∥₁) (sym now)
-    (told_cell (g.N.Near.may_be c.self.inside.near) (g.N.Near.may_be c.see.new.self) c.args.pointer c.see.result (g.met.N.Near.told c.self.inside.near c.see.new.self _ _ c.see.ensures.made))
-
-pub returns-clause-came : goal.returns-clause-came
-returns-clause-came g c = since_book c.self.view_is (first_call _ _ c.see.ensures.made)
+pub returns : goal.returns
+returns g c = record {
+  came = since_book c.self.view_is (first_call _ _ c.see.ensures.made);
+  made = search rules;
+  found = search rules;
+  home = search rules;
+  free = let same = ap (λ (b : BookOf g.row.N.Denot g.row.D.Denot). (g.N.Near.view b.near).cell c.args.pointer) c.self.view_is in (
+    λ none. sym same ∙ no_home ((g.N.Near.view c.self.inside.near).cell c.args.pointer) c.see.result c.see.ensures.found (c.self.invariant.0.notes.law.cells.cell_read c.args.pointer).1 (sym c.home_in.ensures ∙ none),
+    λ free. c.home_in.ensures ∙ free_home ((g.N.Near.view c.self.inside.near).cell c.args.pointer) c.see.result c.see.ensures.found (same ∙ free),
+  );
+  gone = let now : (g.N.Near.view c.see.new.self).cell c.args.pointer ≡ c.see.result = ap (λ (s : State). s.cell c.args.pointer) c.see.ensures.kept ∙ put_same (g.N.Near.view c.self.inside.near).cell c.args.pointer c.see.result c.args.pointer refl in
+      let some = some_found ((g.N.Near.view c.self.inside.near).cell c.args.pointer) c.see.result c.see.ensures.found (c.self.invariant.0.notes.law.cells.cell_read c.args.pointer).1 in
+      (λ none. now ∙ home_none c.see.result some (sym c.home_in.ensures ∙ none), λ free. c.home_in.ensures ∙ none_home c.see.result (sym now ∙ free));
+  saw = let now : (g.N.Near.view c.see.new.self).cell c.args.pointer ≡ c.see.result = ap (λ (s : State). s.cell c.args.pointer) c.see.ensures.kept ∙ put_same (g.N.Near.view c.self.inside.near).cell c.args.pointer c.see.result c.args.pointer refl in
+      subst (λ w. ∥ ((x : State) × g.N.Near.may_be c.see.new.self x × (x.cell c.args.pointer ≡ w)) ∥₁) (sym now)
+      (told_cell (g.N.Near.may_be c.self.inside.near) (g.N.Near.may_be c.see.new.self) c.args.pointer c.see.result (g.met.N.Near.told c.self.inside.near c.see.new.self _ _ c.see.ensures.made));
+  kept = search rules;
+  exact = search rules;
+  order = search rules;
+  device = search rules;
+}

@@ -1,5 +1,5 @@
 use Rattle.far_book.proofs.book.Book.look.Goals as goal
-use Rattle.std.proofs.Common.{sym, subst}
+use Rattle.std.proofs.Common.{rules, sym, subst}
 use Rattle.far_core.specs.state.State.{State}
 use Rattle.far_book.specs.book.FarSide.{InOrder}
 use Rattle.far_book.proofs.region.Rounding.{looked_keeps}
@@ -13,5 +13,16 @@ invariant_of-self g c = (
   c.self.invariant.1,
 )
 
-pub returns-clause-came : goal.returns-clause-came
-returns-clause-came g c = since_book c.self.view_is (first_call _ _ c.look.ensures.made)
+pub returns : goal.returns
+returns g c = record {
+  made = search rules;
+  came = since_book c.self.view_is (first_call _ _ c.look.ensures.made);
+  scope = search rules;
+  kept = search rules;
+  exact = search rules;
+  set = search rules;
+  saw = search rules;
+  ran = search rules;
+  order = search rules;
+  device = search rules;
+}

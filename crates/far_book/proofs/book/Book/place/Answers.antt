@@ -1,8 +1,8 @@
 use Rattle.far_book.proofs.book.Book.place.Given.{Over}
 use Rattle.far_book.proofs.book.Book.place.Goals.{After-room, In-Some}
 use Rattle.far_book.proofs.book.Book.place.Goals as goal
-use Rattle.std.proofs.Common.{◌≡◌, ◌∙◌, ◌*◌, ◌<◌, ap, refl, sym, subst}
-use Rattle.std.specs.Prelude.{true}
+use Rattle.std.proofs.Common.{◌≡◌, ◌∙◌, ◌*◌, ◌<◌, ap, refl, rules, sym, subst}
+use Rattle.std.specs.Prelude.{Some, true}
 use Rattle.far_word.specs.declared.sizes.TheConstants.{CELLS}
 use Rattle.far_word.specs.Sizes.{size_of}
 use Rattle.far_core.specs.state.Room.{room}
@@ -40,11 +40,6 @@ there g c = let h = (goal.at.In-Some g c).After-room in record {
   found = told g h ∙ c.in-Some.is;
 }
 
-pub returns-in_default-clause-none : goal.returns-in_default-clause-none
-returns-in_default-clause-none g c =
-    let h = (goal.at.returns-in_default-clause-none g c).After-room in
-    ap (λ (s : State). room s (size_of c.args.len) true) (sym (same g h)) ∙ told g h ∙ c.in_default.is
-
 pub name_blank-requires-clause-layout : goal.name_blank-requires-clause-layout
 name_blank-requires-clause-layout g c = (placeable (there g (goal.at.name_blank-requires-clause-layout g c).In-Some)).layout
 
@@ -76,20 +71,45 @@ invariant_of-self g c =
       c.self.invariant.1,
     )
 
-pub returns-clause-room : goal.returns-clause-room
-returns-clause-room g c =
-    let h = (goal.at.returns-clause-room g c).After-room in
-    ap (λ (t : State). room t (size_of c.args.len) true) (sym (same g h)) ∙ told g h ∙ c.in-Some.is
+pub returns-in_default : goal.returns-in_default
+returns-in_default g c = record {
+  came = search rules;
+  room = tt;
+  kept = tt;
+  forgot = tt;
+  exact = λ _. tt;
+  order = tt;
+  device = search rules;
+  refused = search rules;
+  none = let h = (goal.at.returns-in_default g c).After-room in
+      ap (λ (s : State). room s (size_of c.args.len) true) (sym (same g h)) ∙ told g h ∙ c.in_default.is;
+  unchanged = search rules;
+  ran = search rules;
+}
 
-pub returns-clause-ran : goal.returns-clause-ran
-returns-clause-ran g c still =
+pub returns : goal.returns
+returns g c =
     let same = ap (λ (b : BookOf g.row.N.Denot g.row.D.Denot). g.N.Near.view b.near) c.self.view_is in
+    let h = (goal.at.returns g c).After-room in
+    let found : room (g.N.Near.view c.args.self.now.near) (size_of c.args.len) true ≡ Some c.in-Some.place = ap (λ (t : State). room t (size_of c.args.len) true) (sym same) ∙ told g h ∙ c.in-Some.is in
     record {
-      pointer = c.requires.pointer;
-      free = c.requires.free;
-      some = c.requires.some;
-      most = c.requires.most;
-      structure = c.ranges.ds.fits;
-      found = returns-clause-room g c;
-      after = c.name_blank.ensures.exact still ∙ ap (λ (t : State). placed t c.args.pointer c.args.len c.args.ds c.in-Some.place) same;
+      came = search rules;
+      room = found;
+      kept = search rules;
+      forgot = search rules;
+      exact = search rules;
+      order = search rules;
+      device = search rules;
+      refused = tt;
+      none = tt;
+      unchanged = tt;
+      ran = λ still. record {
+        pointer = c.requires.pointer;
+        free = c.requires.free;
+        some = c.requires.some;
+        most = c.requires.most;
+        structure = c.ranges.ds.fits;
+        found = found;
+        after = c.name_blank.ensures.exact still ∙ ap (λ (t : State). placed t c.args.pointer c.args.len c.args.ds c.in-Some.place) same;
+      };
     }

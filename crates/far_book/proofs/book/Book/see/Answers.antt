@@ -1,5 +1,5 @@
 use Rattle.far_book.proofs.book.Book.see.Goals as goal
-use Rattle.std.proofs.Common.{sym, subst, arith}
+use Rattle.std.proofs.Common.{rules, sym, subst, arith}
 use Rattle.far_core.specs.state.State.{State}
 use Rattle.far_book.specs.book.FarSide.{InOrder}
 use Rattle.far_book.proofs.region.InOrders.{found_keeps}
@@ -15,8 +15,15 @@ invariant_of-self g c = (
   c.self.invariant.1,
 )
 
-pub returns-clause-saw : goal.returns-clause-saw
-returns-clause-saw g c = told_cell (g.N.Near.may_be c.self.inside.near) (g.N.Near.may_be c.see.new.self) c.args.pointer c.see.result (g.met.N.Near.told c.self.inside.near c.see.new.self _ _ c.see.ensures.made)
-
-pub returns-clause-came : goal.returns-clause-came
-returns-clause-came g c = since_book c.self.view_is (first_call _ _ c.see.ensures.made)
+pub returns : goal.returns
+returns g c = record {
+  made = search rules;
+  came = since_book c.self.view_is (first_call _ _ c.see.ensures.made);
+  found = search rules;
+  kept = search rules;
+  exact = search rules;
+  set = search rules;
+  saw = told_cell (g.N.Near.may_be c.self.inside.near) (g.N.Near.may_be c.see.new.self) c.args.pointer c.see.result (g.met.N.Near.told c.self.inside.near c.see.new.self _ _ c.see.ensures.made);
+  order = search rules;
+  device = search rules;
+}

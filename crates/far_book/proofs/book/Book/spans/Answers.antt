@@ -1,5 +1,5 @@
 use Rattle.far_book.proofs.book.Book.spans.Goals as goal
-use Rattle.std.proofs.Common.{◌≡◌, ◌<◌, ap, sym, subst, ℕ, true}
+use Rattle.std.proofs.Common.{◌≡◌, ◌<◌, ap, rules, sym, subst, ℕ, true}
 use Rattle.std.specs.Prelude.{slice_index, IfOk}
 use Rattle.far_log.specs.Walk.{IsWalk}
 use Rattle.far_core.specs.state.Spans.{spans_of}
@@ -32,21 +32,23 @@ invariant_of-self g c = (
   c.self.invariant.1,
 )
 
-pub returns-clause-spans : goal.returns-clause-spans
-returns-clause-spans g c =
-    let s = g.N.Near.view c.self.inside.near in
-    let same = ap (λ (b : BookOf g.row.N.Denot g.row.D.Denot). g.N.Near.view b.near) c.self.view_is in
-    let within : c.args.log < s.logs = subst (λ (t : State). c.args.log < t.logs) (sym same) c.requires.log in
-    let tail : c.tail-tail.result ≡ s.tail c.args.log = c.tail-tail.ensures.is (own_part s) (c.self.invariant.0.notes, within) in
-    let walk : IsWalk (λ i. slice_index c.read_words-words.result i) c.tail-tail.result (spans_of s c.args.log) =
-    subst (λ n. IsWalk (λ i. slice_index c.read_words-words.result i) n (spans_of s c.args.log)) (sym tail)
-    (row_walks s c.self.invariant.0.notes.law c.args.log (λ i. slice_index c.read_words-words.result i) (λ i lt. c.read_words-words.ensures.words i (subst (λ n. i < n) (sym tail) lt))) in
-    subst (λ (t : State). IfOk c.listed.result (λ spans. spans.items ≡ spans_of t c.args.log)) same (c.listed.ensures.spans (spans_of s c.args.log) walk)
-
-pub returns-clause-headers : goal.returns-clause-headers
-returns-clause-headers g c =
-    subst (λ (s : State). (a : ℕ) → s.starts a ≡ true → (g.N.Near.view c.read_words-words.new.near).word a ≡ s.word a) (ap (λ (b : BookOf g.row.N.Denot g.row.D.Denot). g.N.Near.view b.near) c.self.view_is)
-    c.read_words-words.ensures.headers
-
-pub returns-clause-came : goal.returns-clause-came
-returns-clause-came g c = came_only _ (since_book c.self.view_is c.read_words-words.ensures.reads)
+pub returns : goal.returns
+returns g c = record {
+  reads = since_book c.self.view_is c.read_words-words.ensures.reads;
+  came = came_only _ (since_book c.self.view_is c.read_words-words.ensures.reads);
+  spans = let s = g.N.Near.view c.self.inside.near in
+      let same = ap (λ (b : BookOf g.row.N.Denot g.row.D.Denot). g.N.Near.view b.near) c.self.view_is in
+      let within : c.args.log < s.logs = subst (λ (t : State). c.args.log < t.logs) (sym same) c.requires.log in
+      let tail : c.tail-tail.result ≡ s.tail c.args.log = c.tail-tail.ensures.is (own_part s) (c.self.invariant.0.notes, within) in
+      let walk : IsWalk (λ i. slice_index c.read_words-words.result i) c.tail-tail.result (spans_of s c.args.log) =
+      subst (λ n. IsWalk (λ i. slice_index c.read_words-words.result i) n (spans_of s c.args.log)) (sym tail)
+      (row_walks s c.self.invariant.0.notes.law c.args.log (λ i. slice_index c.read_words-words.result i) (λ i lt. c.read_words-words.ensures.words i (subst (λ n. i < n) (sym tail) lt))) in
+      subst (λ (t : State). IfOk c.listed.result (λ spans. spans.items ≡ spans_of t c.args.log)) same (c.listed.ensures.spans (spans_of s c.args.log) walk);
+  refused = search rules;
+  kept = search rules;
+  headers = subst (λ (s : State). (a : ℕ) → s.starts a ≡ true → (g.N.Near.view c.read_words-words.new.near).word a ≡ s.word a) (ap (λ (b : BookOf g.row.N.Denot g.row.D.Denot). g.N.Near.view b.near) c.self.view_is)
+      c.read_words-words.ensures.headers;
+  exact = search rules;
+  order = search rules;
+  device = search rules;
+}

@@ -10,14 +10,14 @@ loop-pointer-preserved-in_default g c =
     let t = g.N.Near.view c.locate.new.self.book.near in
     let p = c.loop-pointer.pointer in
     let items = c.loop-pointer.homes.items in
-    let done = c.locate.ensures in
+    let done = c.locate.ensures.found in
     record {
       homes = listed_none s t p items done.kept h.homes (sym done.home ∙ c.in_default.is);
       count = omega (arith, h.count);
       room = h.room;
       end = h.end;
       known = found_more s t p items done.kept h.homes (g.N.Near.view c.args.self.now.book.near) done.found h.known;
-      rest = same_but_near c.args.self.now c.loop-pointer.self c.locate.new.self h.rest done.order done.device done.round;
+      rest = same_but_near c.args.self.now c.loop-pointer.self c.locate.new.self h.rest done.order done.device c.locate.ensures.round;
       exact = λ still. done.exact still ∙ h.exact still;
       came = then_came h.came done.came;
     }
@@ -29,14 +29,14 @@ loop-pointer-preserved-then-has_drop g c =
     let t = g.N.Near.view c.locate.new.self.book.near in
     let p = c.loop-pointer.pointer in
     let items = c.loop-pointer.homes.items in
-    let done = c.locate.ensures in
+    let done = c.locate.ensures.found in
     record {
       homes = listed_dropped s t p items done.kept h.homes c.in-Some.home (sym done.home ∙ c.in-Some.is) (sym c.has_drop.ensures ∙ c.if-has_drop.true);
       count = omega (arith, h.count);
       room = h.room;
       end = h.end;
       known = found_more s t p items done.kept h.homes (g.N.Near.view c.args.self.now.book.near) done.found h.known;
-      rest = same_but_near c.args.self.now c.loop-pointer.self c.locate.new.self h.rest done.order done.device done.round;
+      rest = same_but_near c.args.self.now c.loop-pointer.self c.locate.new.self h.rest done.order done.device c.locate.ensures.round;
       exact = λ still. done.exact still ∙ h.exact still;
       came = then_came h.came done.came;
     }
@@ -48,14 +48,14 @@ loop-pointer-preserved g c =
     let t = g.N.Near.view c.locate.new.self.book.near in
     let p = c.loop-pointer.pointer in
     let items = c.loop-pointer.homes.items in
-    let done = c.locate.ensures in
+    let done = c.locate.ensures.found in
     record {
       homes = listed_one s t p items done.kept h.homes c.in-Some.home c.push_reserved.new.self.items (sym done.home ∙ c.in-Some.is) (sym c.has_drop.ensures ∙ c.if-has_drop.false) (c.push_reserved.ensures.items);
       count = omega (arith, c.push_reserved.ensures.len, h.count);
       room = c.push_reserved.ensures.capacity ∙ h.room;
       end = h.end;
       known = found_more s t p items done.kept h.homes (g.N.Near.view c.args.self.now.book.near) done.found h.known;
-      rest = same_but_near c.args.self.now c.loop-pointer.self c.locate.new.self h.rest done.order done.device done.round;
+      rest = same_but_near c.args.self.now c.loop-pointer.self c.locate.new.self h.rest done.order done.device c.locate.ensures.round;
       exact = λ still. done.exact still ∙ h.exact still;
       came = then_came h.came done.came;
     }

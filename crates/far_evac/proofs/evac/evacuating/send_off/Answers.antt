@@ -5,7 +5,7 @@ use Rattle.far_hand.proofs.Closure.{then_came}
 use Rattle.far_evac.specs.Leaving.{AsksAs, LeavesBy, near_fate}
 use Rattle.far_evac.proofs.Asking.{asked_before, asked_there, finds_seen, finds_then, refused_before}
 use Rattle.far_evac.proofs.Hands.{knows_more}
-use Rattle.far_evac.proofs.SendingOff.{err_map, found_here, ok_map, no_answer, quiet_here, seen_known, sent_away, sent_cold, sent_there}
+use Rattle.far_evac.proofs.SendingOff.{err_map, found_here, ok_map, no_answer, quiet_here, quiet_still, seen_known, sent_away, sent_cold, sent_there}
 use Rattle.far_evac.proofs.evac.evacuating.send_off.Goals as goal
 
 pub send_far-requires-clause-quiet : goal.send_far-requires-clause-quiet
@@ -15,6 +15,11 @@ send_far-requires-clause-quiet g c =
 pub move_now-answer-requires-clause-quiet : goal.move_now-answer-requires-clause-quiet
 move_now-answer-requires-clause-quiet g c =
     quiet_here (g.N.Near.view c.args.book.now.near) c.args.pointer c.requires.quiet c.keeps_law.ensures.law c.requires.evac c.see.result c.see.ensures.found (g.N.Near.view c.see.new.self.near) c.see.ensures.kept
+
+pub send_far-requires-in-Err-clause-quiet : goal.send_far-requires-in-Err-clause-quiet
+send_far-requires-in-Err-clause-quiet g c =
+    quiet_still (g.N.Near.view c.see.new.self.near) (g.N.Near.view c.move_now-answer.new.self.near) c.args.pointer c.in-Err.ensures.seen
+    (quiet_here (g.N.Near.view c.args.book.now.near) c.args.pointer c.requires.quiet c.keeps_law.ensures.law c.requires.evac c.see.result c.see.ensures.found (g.N.Near.view c.see.new.self.near) c.see.ensures.kept)
 
 pub returns-then-not-goes_near-clause-leaves : goal.returns-then-not-goes_near-clause-leaves
 returns-then-not-goes_near-clause-leaves g c =
