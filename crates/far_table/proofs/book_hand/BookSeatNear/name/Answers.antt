@@ -6,7 +6,7 @@ use Rattle.far_hand.specs.Known.{Forgets}
 use Rattle.far_table.specs.Layout.{cell_at}
 use Rattle.far_table.specs.Stands.{book_of}
 use Rattle.far_table.specs.StateOf.{book_state}
-use Rattle.far_table.proofs.BookSeatLemmas.{book_stays, cell_inside, shape_stays, stands_after, view_is}
+use Rattle.far_table.proofs.BookSeatLemmas.{book_stays, cell_inside, seat_made, shape_stays, stands_after, view_is}
 use Rattle.far_table.proofs.NameSteps.{exchanged_keeps, exchanges, lost_tells, named_done, named_forgets, won_tells}
 use Rattle.far_table.proofs.SeatLemmas.{inside}
 use Rattle.far_table.proofs.book_hand.BookSeatNear.name.Goals as goal
@@ -26,6 +26,12 @@ invariant_of-self g c =
       fits = book_stays _ _ _ _ _ t _ _ _ _ _ _ _ i h.0 (shape_stays _ _ _ _ _ _ _ i k.logs k.mutators k.epoch k.rest k.plain);
       stands = stands_after _ _ _ _ _ t;
     }
+
+pub returns-then-found-old-clause-made : goal.returns-then-found-old-clause-made
+returns-then-found-old-clause-made g c = (
+  c.compare_exchange-found.ensures.0,
+  seat_made _ _ _ _ _ (won_tells _ _ _ c.args.pointer c.args.old c.args.new c.compare_exchange-found.result (c.compare_exchange-found.ensures.2 c.args.pointer refl).1 c.if-found-old.true),
+)
 
 pub returns-then-found-old-clause-done : goal.returns-then-found-old-clause-done
 returns-then-found-old-clause-done g c =
