@@ -1,5 +1,5 @@
 -- Why an object was made, dropped or brought, or wasn't: what was so of the heap's book, while its lock was held.
-use Rattle.std.specs.Prelude.{◌≡◌, ℕ, true, false, Option, Some, None, IsSome, Result, Ok, Err}
+use Rattle.std.specs.Prelude.{◌≡◌, ℕ, true, false, Option, Some, None, IsSome, Result, Ok, Err, IfOk, IfErr}
 use Rattle.far_word.specs.declared.pointer.PtrWord.{PtrWord}
 use Rattle.far_word.specs.declared.pointer.PtrWord.TheVariants.{Free, Near, Far}
 use Rattle.far_word.specs.declared.refused.Refused.{Refused}
@@ -16,6 +16,7 @@ use Rattle.far_evac.specs.EvacOf.{EvacOf, moment}
 use Rattle.far_evac.specs.MomentLaw.{IsLawful}
 use Rattle.far_heap.specs.Helping.{PlacesNew, core_of}
 use Rattle.far_heap.specs.HeapId.{HeapId, heap_of}
+use Rattle.far_heap.specs.Mine.{IsNoObject, Mine, adopting, is_length, owns, uses}
 
 -- there was a book of this heap of which that was so: by what it knew, and in each state that the words and all views may have been in beside it; and there
 -- is such a state
@@ -63,6 +64,18 @@ WhyNone number len other s = ⊥
 abbrev pub Places : {D : Type 0} → ℕ → ℕ → ℕ → Result ℕ Refused → EvacOf (BookSeat D) D → EvacOf (BookSeat D) D → Type 0
 Places number len ds (Ok p) e f = HasRoom number len p (core_of e) × PlacesNew e f p len ds
 Places number len ds (Err why) e f = WhyNone number len why (core_of e) × (f ≡ e)
+
+-- a mutator was to make a new object, by its pointer, and to use it
+pub record Allocates (D : Type 0) (heap : HeapId) (old new : Mine) (len ds : ℕ) (result : Result ℕ Refused) : Type 0 where
+  -- it uses the object from then on
+  pub made : IfOk result (λ p. (is_length len ≡ true) × (owns old p ≡ true) × (uses old p ≡ false) × (new ≡ adopting p len ds old))
+  -- the book had room for it, and placed it
+  pub had : IfOk result (λ p. BookHad D heap (HasRoom old.number len p))
+  pub did : is_length len ≡ true → BookDid D heap (Places old.number len ds result)
+  -- refused: the mutator is as before, and of an allowed length the book had no cell, or no room
+  pub refused : IfErr result (λ why. IsNoObject len why × (new ≡ old))
+  pub none : result ≡ Err why.NoPointer → BookHad D heap (NoneFree old.number)
+  pub full : result ≡ Err why.NoRoom → BookHad D heap (LacksRoom old.number len)
 
 -- ---- to drop one
 -- its cell is free

@@ -1,29 +1,22 @@
 //! What the lock of a heap keeps: its evacuator, with the book over the one seat of the named heap's table.
 
-ghost use Rattle.std.specs.Prelude.{◌≡◌, ◌≢◌, ◌*◌, ◌<◌, ◌↔◌, ℕ, [], None, true, IfOk, IfErr, map};
-ghost use Rattle.far_word.specs.Pointer.{read_of};
+ghost use Rattle.std.specs.Prelude.{◌≡◌, ◌*◌, ◌<◌, [], true, IfOk, IfErr, map};
 ghost use Rattle.far_word.specs.declared.refused.Refused.TheVariants.{Memory};
 ghost use Rattle.far_word.specs.declared.sizes.TheConstants.{CELLS};
-ghost use Rattle.far_core.specs.declared.event.Event.{Event};
-ghost use Rattle.far_core.specs.declared.event.Reply.{Reply};
 ghost use Rattle.far_core.specs.state.Law.{Law};
 ghost use Rattle.far_core.specs.state.Shape.{is_shape};
-ghost use Rattle.far_core.specs.state.Spans.{spans_of};
-ghost use Rattle.far_core.specs.state.State.{State, put};
-ghost use Rattle.far_hand.specs.Came.{Came};
-ghost use Rattle.far_hand.specs.Finds.{Finds};
+ghost use Rattle.far_core.specs.state.State.{State};
 ghost use Rattle.far_hand.specs.ShapeOf.{shape_of};
 ghost use Rattle.far_table.specs.BookSeats.{seat_makes, seat_may_be, seat_view};
 ghost use Rattle.far_table.specs.Viewed.{NoneIsGivenOut};
 ghost use Rattle.far_table.specs.Whole.{IsWhole};
+ghost use Rattle.far_book.specs.book.Calls.{FindsHome, ListsSpans};
 ghost use Rattle.far_book.specs.book.FarSide.{HoldsFar};
-ghost use Rattle.far_book.specs.book.Home.{home_of};
 ghost use Rattle.far_book.specs.book.Own.{own_part};
 ghost use Rattle.far_book.specs.book.Rows.{row_of};
-ghost use Rattle.far_evac.specs.AnyHand.{Audits};
+ghost use Rattle.far_evac.specs.Calls.{TakesCensus};
 ghost use Rattle.far_evac.specs.Census.{kind_in};
-ghost use Rattle.far_evac.specs.EvacOf.{moment};
-ghost use Rattle.far_evac.specs.Listing.{ListsEach};
+ghost use Rattle.far_evac.specs.EvacOf.{SameRound, moment};
 ghost use Rattle.far_evac.specs.MomentLaw.{MomentLaw};
 ghost use Rattle.far_evac.specs.declared.phase.Phase.TheVariants.{Idle};
 ghost use Rattle.far_heap.specs.HeapId.{heap_of};
@@ -132,14 +125,8 @@ impl<K: HeapName, D: Device + Drop> Evacuator<K, D> {
     /// The spans of a log, dead ones too, in their order. Refused [`Refused::Memory`] alone.
     pub fn spans(&mut self, log: u8) -> Result<Vec<Span>, Refused>
         requires log { log < (seat_view self.old.book.near).logs }
-        ensures came { Came seat_makes self.old.book.near self.new.book.near }
-        ensures spans { IfOk result (λ spans. spans.items ≡ spans_of (seat_view self.old.book.near) log) }
-        ensures refused { IfErr result (λ why. why ≡ Memory) }
-        ensures kept { seat_view self.new.book.near ≡ record (seat_view self.old.book.near) { word = (seat_view self.new.book.near).word } }
-        ensures headers { (a : ℕ) → (seat_view self.old.book.near).starts a ≡ true → (seat_view self.new.book.near).word a ≡ (seat_view self.old.book.near).word a }
-        ensures order { self.new.book.order ≡ self.old.book.order }
-        ensures device { self.new.book.device ≡ self.old.book.device }
-        ensures round { (self.new.phase ≡ self.old.phase) × (self.new.collection ≡ self.old.collection) }
+        ensures listed { ListsSpans ⊥ seat_view seat_makes self.old.book self.new.book log result }
+        ensures round { SameRound self.old self.new }
     {
         self.evac.spans(log)
     }
@@ -148,17 +135,8 @@ impl<K: HeapName, D: Device + Drop> Evacuator<K, D> {
     /// `None` exactly where the cell is free. Its owner may add marks at any moment.
     pub fn locate(&mut self, pointer: u16) -> Option<Home>
         requires pointer { pointer < CELLS * (seat_view self.old.book.near).mutators }
-        ensures came { Came seat_makes self.old.book.near self.new.book.near }
-        ensures home { result ≡ home_of (read_of ((seat_view self.new.book.near).cell pointer)) }
-        ensures found { Finds ((seat_view self.old.book.near).cell pointer) ((seat_view self.new.book.near).cell pointer) }
-        ensures free { (result ≡ None) ↔ ((seat_view self.old.book.near).cell pointer ≡ 0) }
-        ensures made { seat_makes self.old.book.near (Event.See pointer) (Reply.Word ((seat_view self.new.book.near).cell pointer)) self.new.book.near }
-        ensures gone { (result ≡ None) ↔ ((seat_view self.new.book.near).cell pointer ≡ 0) }
-        ensures saw { ∥ ((x : State) × seat_may_be self.new.book.near x × (x.cell pointer ≡ (seat_view self.new.book.near).cell pointer)) ∥₁ }
-        ensures kept { seat_view self.new.book.near ≡ record (seat_view self.old.book.near) { cell = put (seat_view self.old.book.near).cell pointer ((seat_view self.new.book.near).cell pointer) } }
-        ensures order { self.new.book.order ≡ self.old.book.order }
-        ensures device { self.new.book.device ≡ self.old.book.device }
-        ensures round { (self.new.phase ≡ self.old.phase) × (self.new.collection ≡ self.old.collection) }
+        ensures found { FindsHome ⊥ seat_view seat_makes seat_may_be self.old.book self.new.book pointer result }
+        ensures round { SameRound self.old self.new }
     {
         self.evac.locate(pointer)
     }
@@ -166,12 +144,7 @@ impl<K: HeapName, D: Device + Drop> Evacuator<K, D> {
     /// Where each object is whose cell wasn't found with DROP, once, by rising pointers, and what each log is and has, once, by number. Nothing has
     /// moved. Refused [`Refused::Memory`] alone.
     pub fn audit(&mut self) -> Result<Census, Refused>
-        ensures came { Came seat_makes self.old.book.near self.new.book.near }
-        ensures lists { IfOk result (λ census. Audits (moment seat_view self.old) (moment seat_view self.new) census.homes.items census.logs.items) }
-        ensures each { IfOk result (λ census. ListsEach (moment seat_view self.new) census.homes.items census.logs.items) }
-        ensures device { self.new.book.device ≡ self.old.book.device }
-        ensures refused { IfErr result (λ why. why ≡ Memory) }
-        ensures unchanged { IfErr result (λ _. self.new ≡ self.old) }
+        ensures { TakesCensus ⊥ seat_view seat_makes self.old self.new result }
     {
         self.evac.audit()
     }

@@ -1,10 +1,9 @@
 // A mutator whose scope is closed.
-ghost use Rattle.std.specs.Prelude.{◌≡◌, ◌<◌, ◌≤◌, true, false, None, Err, IfOk, IfErr, IfSome};
-ghost use Rattle.far_heap.specs.Mine.{IsNew, IsNoObject, IsOf, adopting, dropping, ds_in, is_length, len_in, newcomer, opening, owns, uses};
+ghost use Rattle.std.specs.Prelude.{◌≡◌, ◌<◌, ◌≤◌, true, false, None, IfOk, IfErr, IfSome};
+ghost use Rattle.far_heap.specs.Mine.{IsNew, IsOf, dropping, ds_in, len_in, newcomer, opening, uses};
 ghost use Rattle.far_heap.specs.MineLaw.{MineLaw};
-ghost use Rattle.far_heap.specs.BookHad.{BookDid, BookHad, HasRoom, IsFreed, LacksRoom, NoneFree, Places};
+ghost use Rattle.far_heap.specs.BookHad.{Allocates, BookHad, IsFreed};
 ghost use Rattle.far_word.specs.declared.refused.Refused.{Refused as any_refusal};
-ghost use Rattle.far_word.specs.declared.refused.Refused.TheVariants.{NoPointer, NoRoom};
 ghost use Rattle.far_word.specs.declared.sizes.TheConstants.{LONGEST, MOST_MUTATORS};
 
 use crate::heap::Lock;
@@ -82,12 +81,7 @@ impl<K: HeapName, D: Device + Drop> Mutator<K, D> {
     /// Nothing has changed then.
     #[inline(always)]
     pub fn alloc<R: Wait>(&mut self, rt: &R, len: u16, ds: u8) -> Result<u16, Refused>
-        ensures refused { IfErr result (λ why. IsNoObject len why × (self.new ≡ self.old)) }
-        ensures had { IfOk result (λ p. BookHad D K.heap (HasRoom self.old.number len p)) }
-        ensures none { result ≡ Err NoPointer → BookHad D K.heap (NoneFree self.old.number) }
-        ensures full { result ≡ Err NoRoom → BookHad D K.heap (LacksRoom self.old.number len) }
-        ensures did { is_length len ≡ true → BookDid D K.heap (Places self.old.number len ds result) }
-        ensures made { IfOk result (λ p. (is_length len ≡ true) × (owns self.old p ≡ true) × (uses self.old p ≡ false) × (self.new ≡ adopting p len ds self.old)) }
+        ensures { Allocates D K.heap self.old self.new len ds result }
     {
         under_lock::alloc(rt, &self.lock, &mut self.own, len, ds)
     }

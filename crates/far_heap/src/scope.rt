@@ -1,13 +1,13 @@
 // A mutator whose scope is open.
 ghost use Rattle.std.specs.Prelude.{◌≡◌, ◌⊎◌, ◌+◌, ◌<◌, ◌≤◌, true, false, length, slice_range, None, Some, Ok, Err, IfOk, IfErr, IfSome};
 ghost use Rattle.far_heap.specs.Made.{IsFoundSlow, Pinned};
+ghost use Rattle.far_heap.specs.declared.view.Tried.{Tried as any_tried};
 ghost use Rattle.far_heap.specs.MineLaw.{MineLaw};
 ghost use Rattle.far_heap.specs.LogsStay.{LogsStay};
-ghost use Rattle.far_heap.specs.declared.view.Tried.{Tried as any_tried};
-ghost use Rattle.far_heap.specs.Mine.{Asks, AsksToView, IsNoObject, IsNoView, IsOf, TriedSo, access_refusal, adopting, bytes_in, closing, drop_refusal, dropping, ds_in, is_length, len_in, owns, uses, view_of, viewing, views, writing};
-ghost use Rattle.far_heap.specs.BookHad.{BookDid, BookHad, HasRoom, IsFreed, LacksRoom, NoneFree, Places, Unbrought};
+ghost use Rattle.far_heap.specs.Mine.{Asks, AsksToView, IsNoView, IsOf, TriedSo, access_refusal, bytes_in, closing, drop_refusal, dropping, ds_in, len_in, uses, view_of, viewing, views, writing};
+ghost use Rattle.far_heap.specs.BookHad.{Allocates, BookHad, IsFreed, Unbrought};
 ghost use Rattle.far_word.specs.declared.refused.Refused.{Refused as any_refusal};
-ghost use Rattle.far_word.specs.declared.refused.Refused.TheVariants.{Damaged, NoPointer, NoRoom};
+ghost use Rattle.far_word.specs.declared.refused.Refused.TheVariants.{Damaged, NoRoom};
 ghost use Rattle.far_word.specs.declared.sizes.TheConstants.{LONGEST};
 
 use crate::heap::Lock;
@@ -70,12 +70,7 @@ impl<K: HeapName, D: Device + Drop> Scope<K, D> {
 
     /// Makes a new object, as [`Mutator::alloc`] does. The scope doesn't view it yet.
     pub fn alloc<R: Wait>(&mut self, rt: &R, len: u16, ds: u8) -> Result<u16, Refused>
-        ensures refused { IfErr result (λ why. IsNoObject len why × (self.new ≡ self.old)) }
-        ensures had { IfOk result (λ p. BookHad D K.heap (HasRoom self.old.number len p)) }
-        ensures none { result ≡ Err NoPointer → BookHad D K.heap (NoneFree self.old.number) }
-        ensures full { result ≡ Err NoRoom → BookHad D K.heap (LacksRoom self.old.number len) }
-        ensures did { is_length len ≡ true → BookDid D K.heap (Places self.old.number len ds result) }
-        ensures made { IfOk result (λ p. (is_length len ≡ true) × (owns self.old p ≡ true) × (uses self.old p ≡ false) × (self.new ≡ adopting p len ds self.old)) }
+        ensures { Allocates D K.heap self.old self.new len ds result }
     {
         under_lock::alloc(rt, &self.lock, &mut self.own, len, ds)
     }

@@ -1,8 +1,9 @@
 // What a mutator does with the lock.
 ghost use Rattle.std.specs.Prelude.{◌≡◌, ◌⊎◌, ◌/◌, ◌<◌, ◌≤◌, true, false, Ok, Err, Some, None, IfOk, IfErr, IfSome, IfNone};
-ghost use Rattle.far_heap.specs.Mine.{Asks, AsksToView, IsNoObject, IsUnbrought, adopting, drop_refusal, dropping, is_length, owns, refusal_of, uses, viewing, views};
-ghost use Rattle.far_heap.specs.Helping.{IsBrought, SameRound};
-ghost use Rattle.far_heap.specs.BookHad.{BookDid, BookHad, HasRoom, IsFreed, LacksRoom, NoneFree, Places, Unbrought};
+ghost use Rattle.far_heap.specs.Mine.{Asks, AsksToView, IsUnbrought, drop_refusal, dropping, refusal_of, uses, viewing, views};
+ghost use Rattle.far_evac.specs.EvacOf.{SameRound};
+ghost use Rattle.far_heap.specs.Helping.{IsBrought};
+ghost use Rattle.far_heap.specs.BookHad.{Allocates, BookDid, BookHad, HasRoom, IsFreed, LacksRoom, NoneFree, Places, Unbrought};
 ghost use Rattle.far_word.specs.declared.refused.Refused.{Refused as any_refusal};
 ghost use Rattle.far_word.specs.declared.refused.Refused.TheVariants.{NoPointer, NoRoom};
 ghost use Rattle.far_word.specs.declared.sizes.TheConstants.{CELLS, LONGEST};
@@ -49,12 +50,7 @@ pub(crate) fn alloc<K: HeapName, D: Device + Drop, R: Wait>(
     ds: u8,
 ) -> Result<u16, Refused>
     requires one { own.old.number < K.heap.mutators }
-    ensures refused { IfErr result (λ why. IsNoObject len why × (own.new ≡ own.old)) }
-    ensures had { IfOk result (λ p. BookHad D K.heap (HasRoom own.old.number len p)) }
-    ensures none { result ≡ Err NoPointer → BookHad D K.heap (NoneFree own.old.number) }
-    ensures full { result ≡ Err NoRoom → BookHad D K.heap (LacksRoom own.old.number len) }
-    ensures did { is_length len ≡ true → BookDid D K.heap (Places own.old.number len ds result) }
-    ensures made { IfOk result (λ p. (is_length len ≡ true) × (owns own.old p ≡ true) × (uses own.old p ≡ false) × (own.new ≡ adopting p len ds own.old)) }
+    ensures { Allocates D K.heap own.old own.new len ds result }
 {
     if len == 0 || len > LONGEST {
         return Err(Refused::Length);
@@ -168,7 +164,7 @@ fn pin_brought<K: HeapName, D: Device + Drop>(
     own: &mut Own<K, D>,
     p: u16,
 ) -> bool
-    requires brought { IsBrought D.contents D.honest D.faults D.fails_at_most D.lets_go D.forgets D.reads _book.now p }
+    requires brought { IsBrought D.contents D.honest D.faults D.fails_at_most D.lets_go D.forgets D.reads D.reads_in_place _book.now p }
     requires opened { own.old.opened ≡ true }
     requires used { uses own.old p ≡ true }
     requires unviewed { views own.old p ≡ false }
@@ -193,7 +189,7 @@ fn fetch_or_move<K: HeapName, D: Device + Drop>(
     requires unviewed { views own.old p ≡ false }
     ensures refused { IfErr result (λ why. IsUnbrought why × ((why ≡ NoRoom) ⊎ (own.new ≡ own.old))) }
     ensures cause { IfErr result (λ why. BookHad D K.heap (Unbrought p why)) }
-    ensures brought { result ≡ Ok true → IsBrought D.contents D.honest D.faults D.fails_at_most D.lets_go D.forgets D.reads book.new p }
+    ensures brought { result ≡ Ok true → IsBrought D.contents D.honest D.faults D.fails_at_most D.lets_go D.forgets D.reads D.reads_in_place book.new p }
     ensures asks { Asks p own.old own.new }
     ensures round { SameRound book.old book.new }
 {

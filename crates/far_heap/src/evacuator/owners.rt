@@ -12,8 +12,8 @@ ghost use Rattle.far_table.specs.BookSeats.{seat_makes, seat_view};
 ghost use Rattle.far_table.specs.declared.book.BookSeat.{BookSeat as seat_of};
 ghost use Rattle.far_book.specs.book.Home.{home_of};
 ghost use Rattle.far_book.specs.book.Ledger.{IsLowestFree};
-ghost use Rattle.far_evac.specs.EvacOf.{EvacOf};
-ghost use Rattle.far_heap.specs.Helping.{FetchesIt, Looks, MovesIt, PlacesNew, RetiresIt, SameRound, asks_move, cell_in, says_far};
+ghost use Rattle.far_evac.specs.EvacOf.{EvacOf, SameRound};
+ghost use Rattle.far_heap.specs.Helping.{FetchesIt, Looks, MovesIt, PlacesNew, RetiresIt, asks_move, cell_in, says_far};
 ghost use Rattle.far_heap.specs.Mine.{IsUnbrought};
 ghost use Rattle.far_heap.specs.BookHad.{BookHad, IsFreed, LacksRoom, NoneFree, Unbrought};
 
@@ -89,7 +89,7 @@ impl<K: HeapName, D: Device + Drop> Evacuator<K, D> {
         ensures cause { IfSome result (λ answer. IfErr answer (λ why. BookHad D K.heap (Unbrought pointer why))) }
         ensures fetched { (found : EvacOf (seat_of D) D) × Looks self.old found pointer
             × MatchOption result ((says_far (cell_in found pointer) ≡ false) × (self.new ≡ found))
-            (λ answer. (says_far (cell_in found pointer) ≡ true) × FetchesIt D.contents D.honest D.faults D.fails_at_most D.lets_go D.forgets D.reads found self.new pointer answer) }
+            (λ answer. (says_far (cell_in found pointer) ≡ true) × FetchesIt D.contents D.honest D.faults D.fails_at_most D.lets_go D.forgets D.reads D.reads_in_place found self.new pointer answer) }
     {
         if !is_far(self.evac.locate(pointer)) {
             return None;

@@ -18,12 +18,12 @@ returns-in-Err-clause-refused g c = (subst (λ a. IfErr a IsUnbrought) c.in-Err.
 pub returns-in-Ok-clause-brought : goal.returns-in-Ok-clause-brought
 returns-in-Ok-clause-brought g c = λ h.
     let f = c.in-Some.ensures.fetched in
-    brought_by _ _ _ _ _ _ _ f.0 c.fetch_far.new.self c.args.p c.in-Some.fetched c.in-Ok.place c.is_some.result (inl f.2.1) c.in-Ok.is c.is_some.ensures h
+    brought_by _ _ _ _ _ _ _ _ f.0 c.fetch_far.new.self c.args.p c.in-Some.fetched c.in-Ok.place c.is_some.result (inl f.2.1) c.in-Ok.is c.is_some.ensures h
 
 pub returns-in-Some-Ok-clause-brought : goal.returns-in-Some-Ok-clause-brought
 returns-in-Some-Ok-clause-brought g c = λ h.
     let d = g.D.Device in
     let f = c.move_asked.new.self in
     let m = c.in-Some-Ok.ensures.moved in
-    subst (λ (q : ℕ). IsBrought d.contents d.honest d.faults d.fails_at_most d.lets_go d.forgets d.reads f q) c.ask_move-asked.ensures.pointer
-    (brought_by _ _ _ _ _ _ _ m.0 f _ c.in-Some-Ok.field-0 c.in-Some-Ok.place c.is_some-in-Some-Ok.result (inr m.2.1) c.in-Some-Ok.field-0-is c.is_some-in-Some-Ok.ensures h)
+    subst (λ (q : ℕ). IsBrought d.contents d.honest d.faults d.fails_at_most d.lets_go d.forgets d.reads d.reads_in_place f q) c.ask_move-asked.ensures.pointer
+    (brought_by _ _ _ _ _ _ _ _ m.0 f _ c.in-Some-Ok.field-0 c.in-Some-Ok.place c.is_some-in-Some-Ok.result (inr m.2.1) c.in-Some-Ok.field-0-is c.is_some-in-Some-Ok.ensures h)

@@ -2,67 +2,50 @@ use Rattle.std.proofs.Common.{◌≡◌, true, subst, sym, refl, ◌∙◌}
 use Rattle.far_table.specs.declared.book.BookSeat.{BookSeat}
 use Rattle.far_table.specs.BookSeats.{seat_view}
 use Rattle.far_book.specs.book.BookOf.{BookOf}
-use Rattle.far_evac.specs.EvacOf.{EvacOf}
-use Rattle.far_heap.specs.Helping.{Looks, SameRound}
+use Rattle.far_evac.specs.EvacOf.{EvacOf, SameRound}
+use Rattle.far_heap.specs.Helping.{Looks}
 use Rattle.far_heap.proofs.Causes.{fetch_cause}
 use Rattle.far_heap.proofs.Named.{stays_named}
 use Rattle.far_heap.proofs.Under.{is_far}
 use Rattle.far_heap.proofs.evacuator.Evacuator.fetch_far.Goals as goal
 
 pub fetch-requires-clause-far : goal.fetch-requires-clause-far
-fetch-requires-clause-far g c = is_far _ c.args.pointer (sym (c.is_far.ensures _ c.locate.ensures.home) ∙ c.if-not-is_far.false)
+fetch-requires-clause-far g c = is_far _ c.args.pointer (sym (c.is_far.ensures _ c.locate.ensures.found.home) ∙ c.if-not-is_far.false)
 
 pub invariant_of-self-2 : goal.invariant_of-self-2
 invariant_of-self-2 g c =
-    stays_named _ c.locate.new.self.book.near c.fetch.new.self.book.near c.fetch.ensures.came
-    (stays_named _ c.self.inside.evac.book.near c.locate.new.self.book.near c.locate.ensures.came c.self.invariant)
+    stays_named _ c.locate.new.self.book.near c.fetch.new.self.book.near c.fetch.ensures.fetched.came
+    (stays_named _ c.self.inside.evac.book.near c.locate.new.self.book.near c.locate.ensures.found.came c.self.invariant)
 
 pub returns-then-not-is_far-clause-fetched : goal.returns-then-not-is_far-clause-fetched
 returns-then-not-is_far-clause-fetched g c =
-    let l = c.locate.ensures in (
+    let l = c.locate.ensures.found in (
       c.locate.new.self,
       subst (λ (e : EvacOf (BookSeat g.row.D.Denot) g.row.D.Denot). Looks e c.locate.new.self c.args.pointer) c.self.view_is
-          record { made = l.made; found = l.found; kept = l.kept; order = l.order; device = l.device; round = l.round },
+          record { made = l.made; found = l.found; kept = l.kept; order = l.order; device = l.device; round = c.locate.ensures.round },
       (sym (c.is_far.ensures _ l.home) ∙ c.if-not-is_far.true, refl),
     )
 
 pub returns-clause-fetched : goal.returns-clause-fetched
 returns-clause-fetched g c =
-    let l = c.locate.ensures in
+    let l = c.locate.ensures.found in
     let f = c.fetch.ensures in (
       c.locate.new.self,
       subst (λ (e : EvacOf (BookSeat g.row.D.Denot) g.row.D.Denot). Looks e c.locate.new.self c.args.pointer) c.self.view_is
-          record { made = l.made; found = l.found; kept = l.kept; order = l.order; device = l.device; round = l.round },
+          record { made = l.made; found = l.found; kept = l.kept; order = l.order; device = l.device; round = c.locate.ensures.round },
       (
         sym (c.is_far.ensures _ l.home) ∙ c.if-not-is_far.false,
-        record {
-          place = f.place;
-          near = f.near;
-          gone = f.gone;
-          unread = f.unread;
-          asked = f.asked;
-          order = f.order;
-          called = f.called;
-          forgot = f.forgot;
-          follows = f.follows;
-          refused = f.refused;
-          untouched = f.untouched;
-          held = f.held;
-          seen = f.seen;
-          kept = f.kept;
-          shut = f.shut;
-          round = f.round;
-        },
+        record { fetched = f.fetched; round = f.round },
       ),
     )
 
 pub returns-clause-cause : goal.returns-clause-cause
 returns-clause-cause g c =
     let found = c.locate.new.self in
-    let named = stays_named g.K.HeapName.heap c.self.inside.evac.book.near found.book.near c.locate.ensures.came c.self.invariant in
+    let named = stays_named g.K.HeapName.heap c.self.inside.evac.book.near found.book.near c.locate.ensures.found.came c.self.invariant in
     let honest = subst (λ (b : BookOf (BookSeat g.row.D.Denot) g.row.D.Denot). (seat_view b.near).honest ≡ true → g.D.Device.honest b.device ≡ true) c.book.ensures c.keeps_law.ensures.honest in
     fetch_cause g.K.HeapName.heap found.book.near named c.args.pointer (g.D.Device.honest found.book.device) c.fetch.result
-    (sym (c.is_far.ensures _ c.locate.ensures.home) ∙ c.if-not-is_far.false) honest c.fetch.ensures.refused
+    (sym (c.is_far.ensures _ c.locate.ensures.found.home) ∙ c.if-not-is_far.false) honest c.fetch.ensures.fetched.refused
 
 pub returns-then-not-is_far-clause-round : goal.returns-then-not-is_far-clause-round
 returns-then-not-is_far-clause-round g c = subst (λ (e : EvacOf (BookSeat g.row.D.Denot) g.row.D.Denot). SameRound e c.locate.new.self) c.self.view_is c.locate.ensures.round

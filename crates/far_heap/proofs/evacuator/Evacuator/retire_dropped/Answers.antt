@@ -2,51 +2,51 @@ use Rattle.std.proofs.Common.{ℕ, subst, sym, refl, ◌∙◌}
 use Rattle.std.proofs.lemmas.Bool.{false≢true}
 use Rattle.far_table.specs.declared.book.BookSeat.{BookSeat}
 use Rattle.far_table.specs.BookSeats.{seat_view}
-use Rattle.far_evac.specs.EvacOf.{EvacOf}
-use Rattle.far_heap.specs.Helping.{Looks, SameRound}
+use Rattle.far_evac.specs.EvacOf.{EvacOf, SameRound}
+use Rattle.far_heap.specs.Helping.{Looks}
 use Rattle.far_heap.proofs.Causes.{freed, retired_free}
 use Rattle.far_heap.proofs.Mines.{none_there}
 use Rattle.far_heap.proofs.Named.{stays_named}
 use Rattle.far_heap.proofs.evacuator.Evacuator.retire_dropped.Goals as goal
 
 pub retire-requires-clause-dropped : goal.retire-requires-clause-dropped
-retire-requires-clause-dropped g c = sym (c.has_drop.ensures _ c.locate-found.ensures.home) ∙ c.if-has_drop.true
+retire-requires-clause-dropped g c = sym (c.has_drop.ensures _ c.locate-found.ensures.found.home) ∙ c.if-has_drop.true
 
 pub invariant_of-self : goal.invariant_of-self
 invariant_of-self g c =
-    stays_named _ c.locate-found.new.self.book.near c.retire.new.self.book.near c.retire.ensures.came
-    (stays_named _ c.self.inside.evac.book.near c.locate-found.new.self.book.near c.locate-found.ensures.came c.self.invariant)
+    stays_named _ c.locate-found.new.self.book.near c.retire.new.self.book.near c.retire.ensures.retired.came
+    (stays_named _ c.self.inside.evac.book.near c.locate-found.new.self.book.near c.locate-found.ensures.found.came c.self.invariant)
 
 pub returns-then-has_drop : goal.returns-then-has_drop
 returns-then-has_drop g c =
     let p : ℕ = c.args.asked.pointer in
-    let l = c.locate-found.ensures in
+    let l = c.locate-found.ensures.found in
     let r = c.retire.ensures in
     let found = c.locate-found.new.self in
     let dropped = sym (c.has_drop.ensures _ l.home) ∙ c.if-has_drop.true in
-    let named = stays_named g.K.HeapName.heap found.book.near c.retire.new.self.book.near r.came (stays_named g.K.HeapName.heap c.self.inside.evac.book.near found.book.near l.came c.self.invariant) in record {
-      round = subst (λ (e : EvacOf (BookSeat g.row.D.Denot) g.row.D.Denot). SameRound e c.retire.new.self) c.self.view_is (r.round.0 ∙ l.round.0, r.round.1 ∙ l.round.1);
+    let named = stays_named g.K.HeapName.heap found.book.near c.retire.new.self.book.near r.retired.came (stays_named g.K.HeapName.heap c.self.inside.evac.book.near found.book.near l.came c.self.invariant) in record {
+      round = subst (λ (e : EvacOf (BookSeat g.row.D.Denot) g.row.D.Denot). SameRound e c.retire.new.self) c.self.view_is (r.round.0 ∙ c.locate-found.ensures.round.0, r.round.1 ∙ c.locate-found.ensures.round.1);
       retired = (
         found,
         subst (λ (e : EvacOf (BookSeat g.row.D.Denot) g.row.D.Denot). Looks e found p) c.self.view_is
-            record { made = l.made; found = l.found; kept = l.kept; order = l.order; device = l.device; round = l.round },
-        λ _. record { kept = r.kept; forgot = r.forgot; order = r.order; called = r.called; gone = r.gone; follows = r.follows; round = r.round },
+            record { made = l.made; found = l.found; kept = l.kept; order = l.order; device = l.device; round = c.locate-found.ensures.round },
+        λ _. record { retired = r.retired; round = r.round },
         λ h. absurd (false≢true (sym h ∙ dropped)),
       );
-      freed = freed g.K.HeapName.heap c.retire.new.self.book.near named p (retired_free (seat_view found.book.near) (seat_view c.retire.new.self.book.near) p dropped r.kept);
+      freed = freed g.K.HeapName.heap c.retire.new.self.book.near named p (retired_free (seat_view found.book.near) (seat_view c.retire.new.self.book.near) p dropped r.retired.kept);
       again = tt;
     }
 
 pub returns-then-is_some : goal.returns-then-is_some
 returns-then-is_some g c =
     let p : ℕ = c.args.asked.pointer in
-    let l = c.locate-found.ensures in
+    let l = c.locate-found.ensures.found in
     let found = c.locate-found.new.self in record {
-      round = subst (λ (e : EvacOf (BookSeat g.row.D.Denot) g.row.D.Denot). SameRound e found) c.self.view_is l.round;
+      round = subst (λ (e : EvacOf (BookSeat g.row.D.Denot) g.row.D.Denot). SameRound e found) c.self.view_is c.locate-found.ensures.round;
       retired = (
         found,
         subst (λ (e : EvacOf (BookSeat g.row.D.Denot) g.row.D.Denot). Looks e found p) c.self.view_is
-            record { made = l.made; found = l.found; kept = l.kept; order = l.order; device = l.device; round = l.round },
+            record { made = l.made; found = l.found; kept = l.kept; order = l.order; device = l.device; round = c.locate-found.ensures.round },
         λ h. absurd (false≢true (sym (sym (c.has_drop.ensures _ l.home) ∙ c.if-has_drop.false) ∙ h)),
         λ _. refl,
       );
@@ -57,14 +57,14 @@ returns-then-is_some g c =
 pub returns : goal.returns
 returns g c =
     let p : ℕ = c.args.asked.pointer in
-    let l = c.locate-found.ensures in
+    let l = c.locate-found.ensures.found in
     let found = c.locate-found.new.self in
     let named = stays_named g.K.HeapName.heap c.self.inside.evac.book.near found.book.near l.came c.self.invariant in record {
-      round = subst (λ (e : EvacOf (BookSeat g.row.D.Denot) g.row.D.Denot). SameRound e found) c.self.view_is l.round;
+      round = subst (λ (e : EvacOf (BookSeat g.row.D.Denot) g.row.D.Denot). SameRound e found) c.self.view_is c.locate-found.ensures.round;
       retired = (
         found,
         subst (λ (e : EvacOf (BookSeat g.row.D.Denot) g.row.D.Denot). Looks e found p) c.self.view_is
-            record { made = l.made; found = l.found; kept = l.kept; order = l.order; device = l.device; round = l.round },
+            record { made = l.made; found = l.found; kept = l.kept; order = l.order; device = l.device; round = c.locate-found.ensures.round },
         λ h. absurd (false≢true (sym (sym (c.has_drop.ensures _ l.home) ∙ c.if-has_drop.false) ∙ h)),
         λ _. refl,
       );
