@@ -1,7 +1,9 @@
 //! Whether book, evacuator and owners do on shared words what was meant, by worked values; in one thread, one call after the other.
 
-mod making;
+mod acts;
+mod heaps;
 mod moving;
+mod owners;
+mod pairs;
 mod rounds;
 mod stale;
-mod steps;

@@ -2,7 +2,7 @@ use Rattle.std.proofs.Common.{◌≡◌, ◌*◌, ℕ, arith}
 use Rattle.far_word.specs.declared.sizes.TheConstants.{CELLS}
 use Rattle.far_core.specs.state.State.{State}
 use Rattle.tests_seats.proofs.Uses.{marked_all}
-use Rattle.tests_seats.proofs.tests.stale.are_marked.Goals as goal
+use Rattle.tests_seats.proofs.tests.pairs.are_marked.Goals as goal
 
 pub returns-clause-marked : goal.returns-clause-marked
 returns-clause-marked g c = λ _.

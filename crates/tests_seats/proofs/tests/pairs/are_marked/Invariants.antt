@@ -2,7 +2,7 @@ use Rattle.std.proofs.Common.{◌≡◌, ◌*◌, ◌<◌, ◌≤◌, ℕ, true}
 use Rattle.far_word.specs.declared.sizes.TheConstants.{CELLS}
 use Rattle.far_word.specs.Pointer.{read_of}
 use Rattle.tests_seats.specs.Marked.{evac_in}
-use Rattle.tests_seats.proofs.tests.stale.are_marked.Given as goal
+use Rattle.tests_seats.proofs.tests.pairs.are_marked.Given as goal
 
 abbrev pub invariant-loop-pointer : goal.invariant-loop-pointer
 invariant-loop-pointer g l = record {
