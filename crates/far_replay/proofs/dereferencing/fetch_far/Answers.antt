@@ -20,8 +20,8 @@ pub returns-in-Ok-Some-clause-brought : goal.returns-in-Ok-Some-clause-brought
 returns-in-Ok-Some-clause-brought c = record {
   comes = fetch_brings c.args.evac.now c.fetch.new.self c.args.owner c.args.pointer c.args.evac.now.book.near.core.law c.requires.used c.requires.far
       (subst (λ (b : BookOf Plain FarSide). HoldsFar (core_state b.near.core) (λ q. bytes_at b.device.inner.inner q)) c.book.ensures c.keeps_law.ensures.far)
-      c.in-Ok-Some.field-0 c.in-Ok-Some.field-0-0 c.in-Ok-Some.field-0-is c.in-Ok-Some.ensures.place c.in-Ok-Some.ensures.near c.in-Ok-Some.ensures.called
-      (subst (λ (b : BookOf Plain FarSide). (core_state b.near.core).honest ≡ true → is_honest b.device.lie true ≡ true) c.book.ensures c.keeps_law.ensures.honest) c.in-Ok-Some.ensures.order;
+      c.in-Ok-Some.field-0 c.in-Ok-Some.field-0-0 c.in-Ok-Some.field-0-is c.in-Ok-Some.ensures.fetched.place c.in-Ok-Some.ensures.fetched.near c.in-Ok-Some.ensures.fetched.called
+      (subst (λ (b : BookOf Plain FarSide). (core_state b.near.core).honest ≡ true → is_honest b.device.lie true ≡ true) c.book.ensures c.keeps_law.ensures.honest) c.in-Ok-Some.ensures.fetched.order;
   refused = tt;
   shut = tt;
   round = search rules;
@@ -32,9 +32,9 @@ pub returns-in-Err-clause-brought : goal.returns-in-Err-clause-brought
 returns-in-Err-clause-brought c = record {
   comes = tt;
   refused = far_refused (state_in c.args.evac.now) c.args.owner c.args.pointer c.args.evac.now.book.near.core.law c.requires.used c.requires.far (state_in c.fetch.new.self) c.in-Err.why _
-      c.in-Err.ensures.refused (c.in-Err.ensures.exact tt);
+      c.in-Err.ensures.fetched.refused (c.in-Err.ensures.fetched.exact tt);
   shut = search rules;
   round = search rules;
   spent = refused_spends c.args.evac.now c.fetch.new.self c.args.owner c.args.pointer c.args.evac.now.book.near.core.law c.requires.used c.requires.far
-      (subst (λ (b : BookOf Plain FarSide). HoldsFar (core_state b.near.core) (λ (q : ℕ). bytes_at b.device.inner.inner q)) c.book.ensures c.keeps_law.ensures.far) c.in-Err.why c.in-Err.ensures.called;
+      (subst (λ (b : BookOf Plain FarSide). HoldsFar (core_state b.near.core) (λ (q : ℕ). bytes_at b.device.inner.inner q)) c.book.ensures c.keeps_law.ensures.far) c.in-Err.why c.in-Err.ensures.fetched.called;
 }

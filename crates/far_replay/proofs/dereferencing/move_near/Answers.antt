@@ -28,14 +28,14 @@ returns-in-Ok-Some-clause-brought c =
     let law = c.args.evac.now.book.near.core.law in
     let asked = (c.owner.ensures.legal refl (may_ask s m p law c.requires.opened c.requires.own c.requires.used c.requires.unheld c.requires.near)).0 in
     let done = near_done s m p law c.requires.opened c.requires.own c.requires.used c.requires.unheld c.requires.near _ (state_in c.owner.new.self) (state_in c.move_now.new.self) c.in-Ok-Some.field-0 c.in-Ok-Some.field-0-0 c.in-Ok-Some.field-0-is
-    asked c.in-Ok-Some.ensures.place (c.in-Ok-Some.ensures.exact tt) in
+    asked c.in-Ok-Some.ensures.moved.place (c.in-Ok-Some.ensures.moved.exact tt) in
     let room = near_room s m p law c.requires.opened c.requires.own c.requires.used c.requires.unheld c.requires.near (state_in c.owner.new.self) c.in-Ok-Some.field-0 c.in-Ok-Some.field-0-0 c.in-Ok-Some.field-0-is
-    asked c.in-Ok-Some.ensures.place in
+    asked c.in-Ok-Some.ensures.moved.place in
     let order = near_order s m p law c.requires.opened c.requires.own c.requires.used c.requires.unheld c.requires.near (state_in c.owner.new.self) c.owner.new.self.book.order c.move_now.new.self.book.order
-    c.in-Ok-Some.field-0 c.in-Ok-Some.field-0-0 c.in-Ok-Some.field-0-is asked c.in-Ok-Some.ensures.place c.in-Ok-Some.ensures.order
+    c.in-Ok-Some.field-0 c.in-Ok-Some.field-0-0 c.in-Ok-Some.field-0-is asked c.in-Ok-Some.ensures.moved.place c.in-Ok-Some.ensures.moved.order
     ∙ ap (λ order. order_come (asked_for s m p) order p) c.owner.ensures.order in
     let device : c.move_now.new.self.book.device ≡ c.owner.new.self.book.device =
-    subst (λ x. IfSome x (λ _. c.move_now.new.self.book.device ≡ c.owner.new.self.book.device)) c.in-Ok-Some.field-0-is c.in-Ok-Some.ensures.device in
+    subst (λ x. IfSome x (λ _. c.move_now.new.self.book.device ≡ c.owner.new.self.book.device)) c.in-Ok-Some.field-0-is c.in-Ok-Some.ensures.moved.device in
     record {
       comes = (
         Serves,
@@ -57,12 +57,12 @@ returns-in-Err-clause-brought c =
       comes = tt;
       refused = near_refused s c.args.owner c.args.pointer law c.requires.opened c.requires.own c.requires.used c.requires.unheld c.requires.near (state_in c.owner.new.self) (state_in c.move_now.new.self) c.in-Err.why
           (c.owner.ensures.legal refl (may_ask s c.args.owner c.args.pointer law c.requires.opened c.requires.own c.requires.used c.requires.unheld c.requires.near)).0
-          c.in-Err.ensures.refused c.in-Err.ensures.none (c.in-Err.ensures.unchanged tt);
+          c.in-Err.ensures.moved.refused c.in-Err.ensures.moved.none (c.in-Err.ensures.moved.unchanged tt);
       shut = search rules;
       round = search rules;
-      spent = subst (λ w. SpentBy (refuser w) c.args.evac.now c.move_now.new.self) (sym c.in-Err.ensures.refused)
-          (spent_same c.args.evac.now c.move_now.new.self (ap (λ evac. evac.book.device) c.in-Err.ensures.kept ∙ c.owner.ensures.device));
+      spent = subst (λ w. SpentBy (refuser w) c.args.evac.now c.move_now.new.self) (sym c.in-Err.ensures.moved.refused)
+          (spent_same c.args.evac.now c.move_now.new.self (ap (λ b. b.device) c.in-Err.ensures.moved.kept ∙ c.owner.ensures.device));
     }
 
 pub returns-in-Err-clause-far : goal.returns-in-Err-clause-far
-returns-in-Err-clause-far c keeps = absurd (subst KeepsFar c.in-Err.ensures.refused keeps)
+returns-in-Err-clause-far c keeps = absurd (subst KeepsFar c.in-Err.ensures.moved.refused keeps)

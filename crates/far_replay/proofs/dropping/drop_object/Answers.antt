@@ -35,10 +35,10 @@ returns-clause-state c =
     let ours : uses s c.args.owner p ≡ true = ap (uses s c.args.owner) own.0 ∙ uses_own s c.args.owner c.args.pointer own.1 own.2 in
     let unheld : s.held p ≡ None = unheld_is (s.held p) (sym (ap (λ (x : Core). is_some ((core_state x).held p)) c.core_of.ensures) ∙ sym c.is_held.ensures ∙ c.if-is_held.false) in
     let asked = (c.owner.ensures.legal refl (ask_fact s c.args.owner p c.requires.law c.requires.known ours unheld)).0 in
-    dropped_by_events (moment_in c.args.evac.now) (state_in c.retire.new.self) c.args.owner p c.requires.law c.requires.known ours unheld (c.retire.ensures.exact tt ∙ ap (λ (t : State). retired t p) asked)
+    dropped_by_events (moment_in c.args.evac.now) (state_in c.retire.new.self) c.args.owner p c.requires.law c.requires.known ours unheld (c.retire.ensures.retired.exact tt ∙ ap (λ (t : State). retired t p) asked)
     ∙ ap (λ q. after_events s (events_for (moment_in c.args.evac.now) (Mutator c.args.owner (Drop q)))) own.0
 
 pub returns-clause-spent : goal.returns-clause-spent
 returns-clause-spent c =
     spent_first Serves c.args.evac.now c.owner.new.self c.retire.new.self (spent_same c.args.evac.now c.owner.new.self c.owner.ensures.device)
-    (spent_none c.owner.new.self c.retire.new.self (go_no_more c.owner.new.self.book.device c.retire.new.self.book.device c.in-Some.pointer c.retire.ensures.called))
+    (spent_none c.owner.new.self c.retire.new.self (go_no_more c.owner.new.self.book.device c.retire.new.self.book.device c.in-Some.pointer c.retire.ensures.retired.called))

@@ -18,14 +18,14 @@ returns-clause-cell c = lowest_agrees (state_in c.args.evac.now) c.args.owner (S
 pub returns-in_default-place-clause-refusal : goal.returns-in_default-place-clause-refusal
 returns-in_default-place-clause-refusal c =
     let s : State = state_in c.args.evac.now in
-    sym (new_refusal s c.args.owner c.args.len c.args.ds (Some c.in-Some.pointer) None c.requires.known (omega arith) (omega arith) (omega arith) (lowest_agrees s c.args.owner (Some c.in-Some.pointer) c.in-Some.ensures) c.in_default-place.ensures.none)
+    sym (new_refusal s c.args.owner c.args.len c.args.ds (Some c.in-Some.pointer) None c.requires.known (omega arith) (omega arith) (omega arith) (lowest_agrees s c.args.owner (Some c.in-Some.pointer) c.in-Some.ensures) c.in_default-place.ensures.placed.none)
 
 pub returns-clause-refusal : goal.returns-clause-refusal
 returns-clause-refusal c =
     let s : State = state_in c.args.evac.now in
-    sym (new_refusal s c.args.owner c.args.len c.args.ds (Some c.in-Some.pointer) (Some c.in-Ok.field-0) c.requires.known (omega arith) (omega arith) (omega arith) (lowest_agrees s c.args.owner (Some c.in-Some.pointer) c.in-Some.ensures) c.in-Ok.ensures.room)
+    sym (new_refusal s c.args.owner c.args.len c.args.ds (Some c.in-Some.pointer) (Some c.in-Ok.field-0) c.requires.known (omega arith) (omega arith) (omega arith) (lowest_agrees s c.args.owner (Some c.in-Some.pointer) c.in-Some.ensures) c.in-Ok.ensures.placed.room)
 
 pub returns-clause-made : goal.returns-clause-made
 returns-clause-made c =
     object_made (state_in c.args.evac.now) _ (state_in c.owner.new.self) c.owner.result c.args.owner c.in-Some.pointer c.args.len c.args.ds c.in-Ok.field-0 c.args.evac.now.book.near.core.law c.requires.known c.in-Some.ensures
-    (omega arith) (omega arith) (omega arith) c.in-Ok.ensures.room (c.in-Ok.ensures.exact tt) (c.owner.ensures.made refl)
+    (omega arith) (omega arith) (omega arith) c.in-Ok.ensures.placed.room (c.in-Ok.ensures.placed.exact tt) (c.owner.ensures.made refl)
