@@ -1,6 +1,7 @@
 //! Whether the clauses say what was meant, by worked values.
 
 mod aborting;
+mod acts;
 mod asking;
 mod beside;
 mod choosing;
@@ -9,5 +10,6 @@ mod making;
 mod readme;
 mod refusals;
 mod rounds;
+mod stage;
 mod steps;
 mod waiting;

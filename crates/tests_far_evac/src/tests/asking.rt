@@ -1,36 +1,35 @@
 //! What an owner asked for while a round goes on: a move, a drop, a far object.
 
-use crate::tests::making::{
-    NO_MARKS, SMALL, answer_to_move, ask, drops, evacuator, fetches, is_far, is_log, is_near,
-    is_so_of, makes, makes_many, makes_sealed, makes_three, moves,
-};
-use crate::tests::steps::{deals, is_clear, is_in, marks, runs_through, selects};
+use crate::tests::acts::Act::*;
+use crate::tests::acts::Choice::{Eldest, Named};
+use crate::tests::acts::{Act, End, Moved};
+use crate::tests::making::{SMALL, evacuator};
+use crate::tests::stage::{does_all, plays};
+use crate::tests::steps::NO_MARKS;
 use far_book::{Home, Plain};
+use far_core::Shape;
 use far_device::MemDevice;
-use far_evac::{Evac, LogKind, Phase};
-use far_policy::{Oldest, Scripted};
+use far_evac::{Evac, LogKind, Phase, Polled};
 use far_word::{Mark, Marks, Place, Refused};
 
-// An object that isn't hot goes far in a round, also where its owner asks for a move.
-fn sends_what_is_asked_for(evac: &mut Evac<Plain, MemDevice>) -> bool {
-    if !makes_sealed(evac) {
-        return false;
-    }
-    evac.owner(ask(0, Mark::Moved));
-    runs_through(evac, &mut Oldest, 1, 9, [0, 1, 0, 1]) && is_far(evac, 0)
-}
+const ASKED_FOR: &[Act] = &[
+    MakesMany(1, 8),
+    MakesMany(1, 1016),
+    Asks(0, Mark::Moved),
+    Runs(Eldest, 1, 9, End::Done([0, 1, 0, 1])),
+    Far(0),
+];
 
+// An object that isn't hot goes far in a round, also where its owner asks for a move.
 #[test]
 fn who_asks_for_a_move_is_not_hot(rt: HostRuntime) {
-    assert!(rt; is_so_of(evacuator(&rt, SMALL), sends_what_is_asked_for));
+    assert!(rt; plays(&rt, SMALL, &[ASKED_FOR]));
 }
 
-// An audit lists an object whose owner asks for a move, with that mark.
+const ASKED_ALONE: &[Act] = &[MakesMany(1, 8), Asks(0, Mark::Moved)];
+
+// Whether an audit lists an object whose owner asks for a move, with that mark.
 fn lists_what_is_asked_for(evac: &mut Evac<Plain, MemDevice>) -> bool {
-    if !makes(evac, 8) {
-        return false;
-    }
-    evac.owner(ask(0, Mark::Moved));
     let marks = Marks {
         moved: true,
         ..NO_MARKS
@@ -47,44 +46,43 @@ fn lists_what_is_asked_for(evac: &mut Evac<Plain, MemDevice>) -> bool {
 
 #[test]
 fn an_audit_lists_what_asks_for_a_move(rt: HostRuntime) {
-    assert!(rt; is_so_of(evacuator(&rt, SMALL), lists_what_is_asked_for));
+    let Ok(mut evac) = evacuator(&rt, SMALL) else {
+        panic!(rt; "no evacuator is made");
+    };
+    assert!(rt; does_all(&mut evac, ASKED_ALONE) && lists_what_is_asked_for(&mut evac));
 }
 
-// Whether object 0 is far, and a second round deals with its objects.
-fn comes_to_evacuating(evac: &mut Evac<Plain, MemDevice>) -> bool {
-    makes_sealed(evac)
-        && runs_through(evac, &mut Oldest, 1, 9, [0, 1, 0, 1])
-        && makes(evac, 1016)
-        && selects(evac, &mut Oldest, 1, &[1])
-        && marks(evac, 2, 1, Some(2))
-        && is_clear(evac)
-        && is_in(evac, Phase::Evacuating)
-}
-
-// A far object comes near meanwhile, to a log that isn't the round's.
-fn fetches_while_evacuating(evac: &mut Evac<Plain, MemDevice>) -> bool {
-    comes_to_evacuating(evac)
-        && fetches(evac, 0)
-        && is_near(evac, 0, Place { log: 2, at: 0 }, false)
-        && deals(evac, 2, [0, 1, 0, 1], true)
-        && is_near(evac, 0, Place { log: 2, at: 0 }, false)
-        && is_log(evac, 1, LogKind::Free, [0, 0, 1024])
-}
+// Object 0 is far, and a second round deals with its objects. The far object comes near meanwhile, to a log that isn't the round's.
+const FETCHED_MEANWHILE: &[Act] = &[
+    MakesMany(1, 8),
+    MakesMany(1, 1016),
+    Runs(Eldest, 1, 9, End::Done([0, 1, 0, 1])),
+    MakesMany(1, 1016),
+    Selects(Eldest, 1, Ok(&[1])),
+    Marks(2, Ok((1, Some(2)))),
+    Polls(Ok(Polled::Clear)),
+    In(Phase::Evacuating),
+    Fetches(0),
+    Near(0, Place { log: 2, at: 0 }, false),
+    Deals(2, [0, 1, 0, 1], true),
+    Near(0, Place { log: 2, at: 0 }, false),
+    Log(1, LogKind::Free, [0, 0, 1024]),
+];
 
 #[test]
 fn a_fetch_while_objects_leave_keeps_out_of_the_round(rt: HostRuntime) {
-    assert!(rt; is_so_of(evacuator(&rt, SMALL), fetches_while_evacuating));
+    assert!(rt; plays(&rt, SMALL, &[FETCHED_MEANWHILE]));
 }
 
-// Of three sealed logs the middle one is given back: the others stand in their order.
-fn leaves_the_others(evac: &mut Evac<Plain, MemDevice>) -> bool {
-    let mut middle = Scripted { logs: &[1] };
-    if !(makes_many(evac, 4, 1016) && drops(evac, 1)) {
-        return false;
-    }
-    if !runs_through(evac, &mut middle, 1, 9, [0, 0, 0, 1]) {
-        return false;
-    }
+// Of three sealed logs the middle one is given back.
+const MIDDLE_FREED: &[Act] = &[
+    MakesMany(4, 1016),
+    Drops(1),
+    Runs(Named(&[1]), 1, 9, End::Done([0, 0, 0, 1])),
+];
+
+// Whether the others stand in their order.
+fn has_the_others(evac: &Evac<Plain, MemDevice>) -> bool {
     let Ok(rows) = evac.rows() else {
         return false;
     };
@@ -96,32 +94,28 @@ fn leaves_the_others(evac: &mut Evac<Plain, MemDevice>) -> bool {
 
 #[test]
 fn a_log_given_back_leaves_the_order(rt: HostRuntime) {
-    let five = far_core::Shape { logs: 5, ..SMALL };
-    assert!(rt; is_so_of(evacuator(&rt, five), leaves_the_others));
+    let Ok(mut evac) = evacuator(&rt, Shape { logs: 5, ..SMALL }) else {
+        panic!(rt; "no evacuator is made");
+    };
+    assert!(rt; does_all(&mut evac, MIDDLE_FREED) && has_the_others(&evac));
 }
 
-// Logs 0 and 1 are to be emptied, and what lay in log 0 fills the last free log.
-fn fills_the_last(evac: &mut Evac<Plain, MemDevice>) -> bool {
-    makes_three(evac)
-        && selects(evac, &mut Oldest, 2, &[0, 1])
-        && marks(evac, 3, 2, Some(1))
-        && moves(evac, 0)
-}
-
-// An object that its owner has dropped is retired where it asked for a move, room or no room.
-fn retires_without_room(evac: &mut Evac<Plain, MemDevice>) -> bool {
-    if !fills_the_last(evac) {
-        return false;
-    }
-    evac.owner(ask(1, Mark::Moved));
-    if answer_to_move(evac, 1) != Some(Err(Refused::NoRoom)) {
-        return false;
-    }
-    evac.owner(ask(1, Mark::Dropped));
-    answer_to_move(evac, 1) == Some(Ok(None)) && is_log(evac, 1, LogKind::Chosen, [0, 1024, 0])
-}
+// Logs 0 and 1 are to be emptied, and what lay in log 0 fills the last free log. An object that its owner has dropped is retired where it asked
+// for a move, room or no room.
+const RETIRED_WITHOUT_ROOM: &[Act] = &[
+    MakesMany(3, 1016),
+    Selects(Eldest, 2, Ok(&[0, 1])),
+    Marks(3, Ok((2, Some(1)))),
+    Asks(0, Mark::Moved),
+    Moves(0, Moved::ToAnotherLog),
+    Asks(1, Mark::Moved),
+    Moves(1, Moved::Refused(Refused::NoRoom)),
+    Asks(1, Mark::Dropped),
+    Moves(1, Moved::Retired),
+    Log(1, LogKind::Chosen, [0, 1024, 0]),
+];
 
 #[test]
 fn a_dropped_object_needs_no_room(rt: HostRuntime) {
-    assert!(rt; is_so_of(evacuator(&rt, SMALL), retires_without_room));
+    assert!(rt; plays(&rt, SMALL, &[RETIRED_WITHOUT_ROOM]));
 }

@@ -2,7 +2,7 @@
 
 ghost use Rattle.std.specs.Prelude.{◌≡◌};
 
-use crate::tests::making::home;
+use crate::tests::steps::home;
 use far_book::{Beset, Book, Home};
 use far_core::{Core, Event, Shape};
 use far_device::MemDevice;

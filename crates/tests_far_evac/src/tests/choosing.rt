@@ -2,51 +2,42 @@
 
 ghost use Rattle.std.specs.Prelude.{◌≡◌};
 
-use crate::tests::making::{
-    SMALL, drops, evacuator, is_log, is_so_of, makes, makes_many, makes_sealed, makes_three,
-};
-use crate::tests::steps::{
-    deals, gives_up, is_clear, is_in, marks, marks_none, runs_through, selects, selects_none,
-};
+use crate::tests::acts::Act::*;
+use crate::tests::acts::Choice::{Eldest, Emptiest, Named};
+use crate::tests::acts::{Act, End};
+use crate::tests::making::{SMALL, evacuator};
+use crate::tests::stage::{does_all, plays};
+use crate::tests::steps::selects;
 use far_book::Plain;
 use far_core::Shape;
 use far_device::MemDevice;
-use far_evac::{Evac, LogKind, Phase};
+use far_evac::{Evac, LogKind, Phase, Polled};
 use far_log::LogRow;
-use far_policy::{Chosen, LeastLive, Oldest, Policy, Scripted};
+use far_policy::{Chosen, Policy};
 use far_word::Refused;
 
-// Whether a script of these logs is refused for one of them.
-fn is_bad(evac: &mut Evac<Plain, MemDevice>, logs: &[u8], most: usize, log: u8) -> bool {
-    let mut script = Scripted { logs };
-    selects_none(evac, &mut script, most, Refused::BadChoice(log))
-}
-
-fn takes_no_bad_script(evac: &mut Evac<Plain, MemDevice>) -> bool {
-    makes_sealed(evac)
-        && is_bad(evac, &[1], 1, 1)
-        && is_bad(evac, &[0, 0], 2, 0)
-        && marks_none(evac, 1)
-        && is_log(evac, 0, LogKind::Sealed, [16, 0, 1008])
-}
+// The first log is sealed. Scripts of a log that isn't, or of a log that is named twice, are refused for that log.
+const BAD_SCRIPTS: &[Act] = &[
+    MakesMany(1, 8),
+    MakesMany(1, 1016),
+    Selects(Named(&[1]), 1, Err(Refused::BadChoice(1))),
+    Selects(Named(&[0, 0]), 2, Err(Refused::BadChoice(0))),
+    Marks(1, Err(Refused::Phase)),
+    Log(0, LogKind::Sealed, [16, 0, 1008]),
+];
 
 #[test]
 fn a_bad_script_begins_no_round(rt: HostRuntime) {
-    assert!(rt; is_so_of(evacuator(&rt, SMALL), takes_no_bad_script));
+    assert!(rt; plays(&rt, SMALL, &[BAD_SCRIPTS]));
 }
 
-// Whether a round of the oldest log is refused so.
-fn refuses_oldest(evac: &mut Evac<Plain, MemDevice>, why: Refused) -> bool {
-    selects_none(evac, &mut Oldest, 1, why)
-}
-
-fn has_no_epoch_left(evac: &mut Evac<Plain, MemDevice>) -> bool {
-    let mut bad = Scripted { logs: &[9] };
-    makes_sealed(evac)
-        && refuses_oldest(evac, Refused::EpochsSpent)
-        && selects_none(evac, &mut bad, 1, Refused::EpochsSpent)
-        && is_in(evac, Phase::Idle)
-}
+const NO_EPOCH_LEFT: &[Act] = &[
+    MakesMany(1, 8),
+    MakesMany(1, 1016),
+    Selects(Eldest, 1, Err(Refused::EpochsSpent)),
+    Selects(Named(&[9]), 1, Err(Refused::EpochsSpent)),
+    In(Phase::Idle),
+];
 
 #[test]
 fn the_last_epoch_begins_no_round(rt: HostRuntime) {
@@ -54,24 +45,21 @@ fn the_last_epoch_begins_no_round(rt: HostRuntime) {
         epoch: (1 << 62) - 1,
         ..SMALL
     };
-    assert!(rt; is_so_of(evacuator(&rt, last), has_no_epoch_left));
+    assert!(rt; plays(&rt, last, &[NO_EPOCH_LEFT]));
 }
 
-// Whether a round reaches the last epoch, and another is refused for the phase until then.
-fn reaches_the_last(evac: &mut Evac<Plain, MemDevice>) -> bool {
-    makes_sealed(evac)
-        && selects(evac, &mut Oldest, 1, &[0])
-        && refuses_oldest(evac, Refused::Phase)
-        && marks(evac, 1, 1, Some((1 << 62) - 1))
-        && refuses_oldest(evac, Refused::Phase)
-}
-
-// Whether it ends, and another is refused for the epoch.
-fn ends_at_the_last(evac: &mut Evac<Plain, MemDevice>) -> bool {
-    is_clear(evac)
-        && deals(evac, 1, [0, 1, 0, 1], true)
-        && refuses_oldest(evac, Refused::EpochsSpent)
-}
+// A round reaches the last epoch, and another is refused for the phase until then. It ends, and another is refused for the epoch.
+const TO_THE_LAST: &[Act] = &[
+    MakesMany(1, 8),
+    MakesMany(1, 1016),
+    Selects(Eldest, 1, Ok(&[0])),
+    Selects(Eldest, 1, Err(Refused::Phase)),
+    Marks(1, Ok((1, Some((1 << 62) - 1)))),
+    Selects(Eldest, 1, Err(Refused::Phase)),
+    Polls(Ok(Polled::Clear)),
+    Deals(1, [0, 1, 0, 1], true),
+    Selects(Eldest, 1, Err(Refused::EpochsSpent)),
+];
 
 // While a round is running that has reached the last epoch, another is refused for the phase.
 #[test]
@@ -80,12 +68,7 @@ fn a_running_round_comes_before_the_last_epoch(rt: HostRuntime) {
         epoch: (1 << 62) - 2,
         ..SMALL
     };
-    assert!(rt;
-        is_so_of(
-            evacuator(&rt, last_but_one),
-            |evac| reaches_the_last(evac) && ends_at_the_last(evac),
-        )
-    );
+    assert!(rt; plays(&rt, last_but_one, &[TO_THE_LAST]));
 }
 
 /// Takes no log, and counts how often it is asked, with how many rows and with which first.
@@ -107,38 +90,47 @@ impl Policy for Asked {
     }
 }
 
-// Whether a policy is asked with a row of each log but the open one and the one that is kept free, of a heap of 64.
-fn has_62_rows(evac: &mut Evac<Plain, MemDevice>) -> bool {
-    let mut asked = Asked {
+// One that was asked for nothing yet.
+fn unasked() -> Asked {
+    Asked {
         times: 0,
         rows: 0,
         first: None,
-    };
-    makes_many(evac, 63, 1016)
-        && selects(evac, &mut asked, 64, &[])
+    }
+}
+
+// Whether a policy is asked with a row of each log but the open one and the one that is kept free, of a heap of 64.
+fn has_62_rows(evac: &mut Evac<Plain, MemDevice>) -> bool {
+    let mut asked = unasked();
+    does_all(evac, &[MakesMany(63, 1016)])
+        && selects(evac, &mut asked, 64, Ok(&[]))
         && (asked.times, asked.rows) == (1, 62)
-        && selects(evac, &mut Oldest, 3, &[0, 1, 2])
+        && does_all(evac, &[Selects(Eldest, 3, Ok(&[0, 1, 2]))])
 }
 
 #[test]
 fn a_policy_is_handed_all_rows_of_the_largest_heap(rt: HostRuntime) {
-    let largest = Shape { logs: 64, ..SMALL };
-    assert!(rt; is_so_of(evacuator(&rt, largest), has_62_rows));
+    let Ok(mut evac) = evacuator(&rt, Shape { logs: 64, ..SMALL }) else {
+        panic!(rt; "no evacuator is made");
+    };
+    assert!(rt; has_62_rows(&mut evac));
 }
 
-fn six() -> Shape {
-    Shape { logs: 6, ..SMALL }
-}
+const SIX: Shape = Shape {
+    logs: 6,
+    mutators: 1,
+    epoch: 0,
+};
 
-// Whether logs 2, 0 and 1 are sealed in this order.
-fn seals_out_of_order(evac: &mut Evac<Plain, MemDevice>) -> bool {
-    makes_three(evac)
-        && drops(evac, 0)
-        && drops(evac, 1)
-        && runs_through(evac, &mut Oldest, 2, 9, [0, 0, 0, 2])
-        && makes(evac, 8)
-        && makes_many(evac, 2, 1016)
-}
+// Logs 2, 0 and 1 are sealed in this order.
+const OUT_OF_ORDER: &[Act] = &[
+    MakesMany(3, 1016),
+    Drops(0),
+    Drops(1),
+    Runs(Eldest, 2, 9, End::Done([0, 0, 0, 2])),
+    MakesMany(1, 8),
+    MakesMany(2, 1016),
+];
 
 // Whether it was asked once, with three rows, of which the first was that of log 2.
 fn was_asked_once(asked: &Asked) -> bool {
@@ -152,88 +144,58 @@ fn was_asked_once(asked: &Asked) -> bool {
     asked.times == 1 && asked.rows == 3 && asked.first == Some(first)
 }
 
-fn asks_once(evac: &mut Evac<Plain, MemDevice>, asked: &mut Asked) -> bool {
-    seals_out_of_order(evac)
-        && selects(evac, asked, 9, &[])
-        && is_in(evac, Phase::Idle)
-        && was_asked_once(asked)
-}
-
-// Whether it isn't asked while a round is running.
-fn asks_no_more(evac: &mut Evac<Plain, MemDevice>, asked: &mut Asked) -> bool {
-    selects(evac, &mut Oldest, 1, &[2])
-        && selects_none(evac, asked, 9, Refused::Phase)
+// Whether it is asked once where a round may begin, and not while one is running.
+fn asks_once(evac: &mut Evac<Plain, MemDevice>) -> bool {
+    let mut asked = unasked();
+    does_all(evac, OUT_OF_ORDER)
+        && selects(evac, &mut asked, 9, Ok(&[]))
+        && was_asked_once(&asked)
+        && does_all(evac, &[In(Phase::Idle), Selects(Eldest, 1, Ok(&[2]))])
+        && selects(evac, &mut asked, 9, Err(Refused::Phase))
         && asked.times == 1
-}
-
-fn asks_a_policy_once(evac: &mut Evac<Plain, MemDevice>) -> bool {
-    let mut asked = Asked {
-        times: 0,
-        rows: 0,
-        first: None,
-    };
-    asks_once(evac, &mut asked) && asks_no_more(evac, &mut asked)
 }
 
 // A policy is asked once, and only where a round may begin, with all sealed logs, the oldest first.
 #[test]
 fn a_policy_is_asked_once(rt: HostRuntime) {
-    assert!(rt; is_so_of(evacuator(&rt, six()), asks_a_policy_once));
+    let Ok(mut evac) = evacuator(&rt, SIX) else {
+        panic!(rt; "no evacuator is made");
+    };
+    assert!(rt; asks_once(&mut evac));
 }
 
-// Whether the oldest two logs are chosen, and then the two with the least live bytes.
-fn chooses_by_age_and_use(evac: &mut Evac<Plain, MemDevice>) -> bool {
-    seals_out_of_order(evac)
-        && selects(evac, &mut Oldest, 2, &[2, 0])
-        && gives_up(evac)
-        && selects(evac, &mut LeastLive, 2, &[0, 1])
-        && gives_up(evac)
-}
-
-// Whether a script's logs are chosen, and no other.
-fn chooses_by_script(evac: &mut Evac<Plain, MemDevice>, script: &mut Scripted) -> bool {
-    selects(evac, script, 3, &[1, 2])
-        && is_log(evac, 0, LogKind::Sealed, [16, 0, 1008])
-        && is_log(evac, 1, LogKind::Chosen, [1024, 0, 0])
-        && is_log(evac, 2, LogKind::Chosen, [1024, 0, 0])
-        && gives_up(evac)
-        && runs_through(evac, script, 3, 9, [0, 2, 0, 2])
-}
-
-fn chooses_by_each(evac: &mut Evac<Plain, MemDevice>) -> bool {
-    let mut script = Scripted { logs: &[1, 2] };
-    chooses_by_age_and_use(evac) && chooses_by_script(evac, &mut script)
-}
+// The oldest two logs are chosen, then the two with the least live bytes, and then a script's logs, and no other.
+const BY_EACH: &[Act] = &[
+    Selects(Eldest, 2, Ok(&[2, 0])),
+    GivesUp(Ok(())),
+    Selects(Emptiest, 2, Ok(&[0, 1])),
+    GivesUp(Ok(())),
+    Selects(Named(&[1, 2]), 3, Ok(&[1, 2])),
+    Log(0, LogKind::Sealed, [16, 0, 1008]),
+    Log(1, LogKind::Chosen, [1024, 0, 0]),
+    Log(2, LogKind::Chosen, [1024, 0, 0]),
+    GivesUp(Ok(())),
+    Runs(Named(&[1, 2]), 3, 9, End::Done([0, 2, 0, 2])),
+];
 
 #[test]
 fn each_policy_chooses(rt: HostRuntime) {
-    assert!(rt; is_so_of(evacuator(&rt, six()), chooses_by_each));
+    assert!(rt; plays(&rt, SIX, &[OUT_OF_ORDER, BY_EACH]));
 }
 
-// Whether a round of logs 1 and 0 comes to where objects leave.
-fn begins_turned(evac: &mut Evac<Plain, MemDevice>) -> bool {
-    let mut script = Scripted { logs: &[1, 0] };
-    seals_out_of_order(evac)
-        && selects(evac, &mut script, 2, &[1, 0])
-        && marks(evac, 9, 2, Some(2))
-        && is_clear(evac)
-}
-
-// Whether log 1 is emptied first.
-fn empties_turned(evac: &mut Evac<Plain, MemDevice>) -> bool {
-    deals(evac, 1, [0, 1, 0, 1], false)
-        && is_log(evac, 1, LogKind::Free, [0, 0, 1024])
-        && is_log(evac, 0, LogKind::Chosen, [16, 0, 1008])
-        && deals(evac, 1, [0, 1, 0, 1], true)
-}
+// A round of logs 1 and 0 comes to where objects leave, and log 1 is emptied first.
+const TURNED: &[Act] = &[
+    Selects(Named(&[1, 0]), 2, Ok(&[1, 0])),
+    Marks(9, Ok((2, Some(2)))),
+    Polls(Ok(Polled::Clear)),
+    Deals(1, [0, 1, 0, 1], false),
+    Log(1, LogKind::Free, [0, 0, 1024]),
+    Log(0, LogKind::Chosen, [16, 0, 1008]),
+    Deals(1, [0, 1, 0, 1], true),
+];
 
 // A script's order is that in which logs are emptied.
 #[test]
 fn logs_are_emptied_in_their_order(rt: HostRuntime) {
-    assert!(rt;
-        is_so_of(
-            evacuator(&rt, six()),
-            |evac| begins_turned(evac) && empties_turned(evac)
-        )
-    );
+    assert!(rt; plays(&rt, SIX, &[OUT_OF_ORDER, TURNED]));
 }

@@ -7,18 +7,15 @@ ghost use Rattle.far_device.specs.Following.{Follows, any_key, other_than};
 ghost use Rattle.far_device.specs.Mem.{bytes_at, faults_of};
 ghost use Rattle.far_device.specs.Wrapping.{wrapped_below};
 
-use crate::tests::making::{
-    NO_MARKS, SMALL, evacuator_over, home, is_far, is_log, is_near, is_so_of, makes, makes_many,
-    reads, writes,
-};
-use crate::tests::steps::{
-    comes_to_leaving, counts, deals, deals_until, gives_up, is_in, runs_until,
-};
-use far_book::{Home, Near, Plain};
+use crate::tests::acts::Act::*;
+use crate::tests::acts::Choice::Eldest;
+use crate::tests::acts::{Act, End};
+use crate::tests::making::{SMALL, evacuator_over};
+use crate::tests::stage::plays_on;
+use far_book::Plain;
 use far_device::{Device, DeviceFault, MemDevice, hand_over};
 use far_evac::{Evac, LogKind, Phase};
-use far_policy::Oldest;
-use far_word::{Marks, Place, Refused};
+use far_word::{Place, Refused};
 
 // One read of what is in memory, with its answer taken apart.
 fn read_inner(inner: &mut MemDevice, id: u32) -> Result<Vec<u8>, DeviceFault>
@@ -116,102 +113,75 @@ fn over_stumbling(
     evacuator_over(rt, SMALL, device)
 }
 
-// Whether an object lies in log 0 at a word, and the book wants that log.
-fn is_leaving<N: Near + Drop, D: Device + Drop>(
-    evac: &mut Evac<N, D>,
-    pointer: u16,
-    at: u16,
-) -> bool {
-    let marks = Marks {
-        evac: true,
-        ..NO_MARKS
-    };
-    let place = Place { log: 0, at };
-    home(evac, pointer) == Some(Home::Near { place, marks })
-}
-
 // Pointers 0 to 2 lie in log 0, of which the first is hot; the next fills log 1.
-fn makes_four(evac: &mut Evac<Plain, Stumbling>) -> bool {
-    makes_many(evac, 3, 8) && writes(evac, 0, 7) && makes(evac, 1016)
-}
+const FOUR: &[Act] = &[MakesMany(3, 8), Writes(0, 7), MakesMany(1, 1016)];
 
-// Whether a round that comes to where objects leave is refused so at the second.
-fn stumbles(evac: &mut Evac<Plain, Stumbling>, most: u64, why: Refused) -> bool {
-    comes_to_leaving(evac, &mut Oldest, 1) && deals_until(evac, most, [1, 0, 0, 0], why)
-}
-
-// Whether the first object has moved, and the others wait.
-fn stands_at_the_second(evac: &mut Evac<Plain, Stumbling>) -> bool {
-    is_in(evac, Phase::Evacuating)
-        && is_near(evac, 0, Place { log: 2, at: 0 }, false)
-        && is_leaving(evac, 1, 2)
-        && is_leaving(evac, 2, 4)
-        && is_log(evac, 0, LogKind::Chosen, [32, 16, 976])
-}
-
-// Whether the round ends then, and both are far.
-fn ends_after_all(evac: &mut Evac<Plain, Stumbling>) -> bool {
-    deals(evac, 9, [0, 2, 0, 1], true)
-        && is_far(evac, 1)
-        && is_far(evac, 2)
-        && counts(evac, 2, 2, 1040)
-        && reads(evac, 0, 7)
-        && reads(evac, 1, 0)
-}
-
-fn stops_and_goes_on(evac: &mut Evac<Plain, Stumbling>) -> bool {
-    makes_four(evac)
-        && stumbles(evac, 9, Refused::Device)
-        && stands_at_the_second(evac)
-        && ends_after_all(evac)
-}
+// A round that comes to where objects leave is refused at the second: the first object has moved, and the others wait. Then the round ends, and
+// both are far.
+const STOPPED: &[Act] = &[
+    Runs(Eldest, 1, 2, End::Limit(Phase::Evacuating)),
+    DealsUntil(9, [1, 0, 0, 0], Refused::Device),
+    In(Phase::Evacuating),
+    Near(0, Place { log: 2, at: 0 }, false),
+    Leaving(1, Place { log: 0, at: 2 }),
+    Leaving(2, Place { log: 0, at: 4 }),
+    Log(0, LogKind::Chosen, [32, 16, 976]),
+    Deals(9, [0, 2, 0, 1], true),
+    Far(1),
+    Far(2),
+    Counts(2, 2, 1040),
+    Reads(0, 7),
+    Reads(1, 0),
+];
 
 // The first object has moved, the second can't go far, the third waits behind it.
 #[test]
 fn a_failure_stops_at_an_object(rt: HostRuntime) {
     assert!(rt;
-        is_so_of(
+        plays_on(
             over_stumbling(&rt, 0, DeviceFault::Device),
-            stops_and_goes_on
+            &[FOUR, STOPPED]
         )
     );
 }
 
-fn stops_a_round(evac: &mut Evac<Plain, Stumbling>) -> bool {
-    makes_four(evac)
-        && runs_until(evac, &mut Oldest, 1, [1, 1, 0, 0], Refused::Device)
-        && is_far(evac, 1)
-        && is_leaving(evac, 2, 4)
-        && deals(evac, 9, [0, 1, 0, 1], true)
-        && counts(evac, 2, 2, 1040)
-}
+const STOPPED_ROUND: &[Act] = &[
+    Runs(Eldest, 1, 9, End::Stopped([1, 1, 0, 0], Refused::Device)),
+    Far(1),
+    Leaving(2, Place { log: 0, at: 4 }),
+    Deals(9, [0, 1, 0, 1], true),
+    Counts(2, 2, 1040),
+];
 
 // A whole round sums what was done before the failure, and stands where it is.
 #[test]
 fn a_failure_stops_a_round(rt: HostRuntime) {
-    assert!(rt; is_so_of(over_stumbling(&rt, 1, DeviceFault::Device), stops_a_round));
+    assert!(rt;
+        plays_on(
+            over_stumbling(&rt, 1, DeviceFault::Device),
+            &[FOUR, STOPPED_ROUND]
+        )
+    );
 }
 
-// Whether the round is given up, and the object that was refused is there.
-fn stays_there(evac: &mut Evac<Plain, Stumbling>) -> bool {
-    gives_up(evac)
-        && is_near(evac, 1, Place { log: 0, at: 2 }, false)
-        && is_log(evac, 0, LogKind::Sealed, [32, 16, 976])
-        && reads(evac, 0, 7)
-        && reads(evac, 2, 0)
-}
-
-fn is_refused_and_stays(evac: &mut Evac<Plain, Stumbling>) -> bool {
-    makes_four(evac) && stumbles(evac, 2, Refused::Memory) && stays_there(evac)
-}
+// The round is given up, and the object that was refused is there.
+const GIVEN_UP: &[Act] = &[
+    Runs(Eldest, 1, 2, End::Limit(Phase::Evacuating)),
+    DealsUntil(2, [1, 0, 0, 0], Refused::Memory),
+    GivesUp(Ok(())),
+    Near(1, Place { log: 0, at: 2 }, false),
+    Log(0, LogKind::Sealed, [32, 16, 976]),
+    Reads(0, 7),
+    Reads(2, 0),
+];
 
 // The device has no memory for an object; the round is given up, and the object is there.
 #[test]
 fn a_refused_object_stays(rt: HostRuntime) {
     assert!(rt;
-        is_so_of(
+        plays_on(
             over_stumbling(&rt, 0, DeviceFault::Memory),
-            is_refused_and_stays
+            &[FOUR, GIVEN_UP]
         )
     );
 }

@@ -1,40 +1,19 @@
 //! Evacuators for the tests, and what the first owner does with one: it makes objects, writes, reads and drops them.
 
-ghost use Rattle.std.specs.Borrow.{MutBor};
 ghost use Rattle.std.specs.Prelude.{◌≡◌, true};
 
+use crate::tests::acts::{Act, Moved};
 use far_book::{Book, Home, Near, Plain};
 use far_core::{Core, Event, Reply, Shape};
 use far_device::{Device, MemDevice};
-use far_evac::{Evac, LogKind, LogState};
-use far_log::LogRow;
-use far_word::{LONGEST, Mark, Marks, Place, Refused};
+use far_evac::Evac;
+use far_word::{LONGEST, Mark, Refused};
 
 pub(super) const SMALL: Shape = Shape {
     logs: 4,
     mutators: 1,
     epoch: 0,
 };
-
-pub(super) const NO_MARKS: Marks = Marks {
-    hot: false,
-    evac: false,
-    moved: false,
-    dropped: false,
-};
-
-/// Whether something was made, and this is so of it.
-pub(super) fn is_so_of<T: Drop, E: Drop, F: FnOnce(&mut T) -> bool>(
-    made: Result<T, E>,
-    is_so: F,
-) -> bool
-    requires { (p : MutBor T) → F.pre is_so p }
-{
-    match made {
-        Ok(mut it) => is_so(&mut it),
-        Err(_) => false,
-    }
-}
 
 pub(super) fn evacuator(rt: &HostRuntime, shape: Shape) -> Result<Evac<Plain, MemDevice>, Refused> {
     evacuator_over(rt, shape, MemDevice::new(rt.alloc()))
@@ -77,80 +56,19 @@ fn make<D: Device + Drop>(evac: &mut Evac<Plain, D>, len: u16) -> Result<u16, Re
     Ok(pointer)
 }
 
-// Whether a new object of this length is made.
-pub(super) fn makes<D: Device + Drop>(evac: &mut Evac<Plain, D>, len: u16) -> bool {
-    make(evac, len).is_ok()
-}
-
-// Whether it is, and gets this pointer.
-pub(super) fn makes_at<D: Device + Drop>(
-    evac: &mut Evac<Plain, D>,
-    len: u16,
-    pointer: u16,
-) -> bool {
-    make(evac, len) == Ok(pointer)
-}
-
-// Whether it is refused, since no log has room.
-pub(super) fn has_no_room<D: Device + Drop>(evac: &mut Evac<Plain, D>, len: u16) -> bool {
-    make(evac, len) == Err(Refused::NoRoom)
-}
-
 // Whether so many objects of this length are made.
-pub(super) fn makes_many<D: Device + Drop>(
-    evac: &mut Evac<Plain, D>,
-    objects: u8,
-    len: u16,
-) -> bool {
+fn makes_many<D: Device + Drop>(evac: &mut Evac<Plain, D>, objects: u8, len: u16) -> bool {
     for _ in 0..objects {
-        if !makes(evac, len) {
+        if make(evac, len).is_err() {
             return false;
         }
     }
     true
 }
 
-// Makes an object of 8 bytes, and one that fills the next log, so that the first log is sealed.
-pub(super) fn makes_sealed<D: Device + Drop>(evac: &mut Evac<Plain, D>) -> bool {
-    makes(evac, 8) && makes(evac, 1016)
-}
-
-// Makes three objects, each of which fills a log.
-pub(super) fn makes_three<D: Device + Drop>(evac: &mut Evac<Plain, D>) -> bool {
-    makes_many(evac, 3, 1016)
-}
-
-pub(super) fn open<D: Device + Drop>(evac: &mut Evac<Plain, D>) -> bool {
-    evac.owner(Event::ReadEpoch { owner: 0 });
-    evac.owner(Event::Open { owner: 0 }) == Reply::Done
-}
-
-pub(super) fn close<D: Device + Drop>(evac: &mut Evac<Plain, D>) -> bool {
-    evac.owner(Event::Close { owner: 0 }) == Reply::Done
-}
-
-pub(super) fn pins<D: Device + Drop>(evac: &mut Evac<Plain, D>, pointer: u16) -> bool {
-    let pin = Event::Pin { owner: 0, pointer };
-    matches!(evac.owner(pin), Reply::Held(_))
-}
-
-// Its owner views an object in its scope: where it can't be pinned, it is fetched or moved before.
-pub(super) fn views<D: Device + Drop>(evac: &mut Evac<Plain, D>, pointer: u16) -> bool {
-    if pins(evac, pointer) {
-        return true;
-    }
-    if !fetches(evac, pointer) && !moves(evac, pointer) {
-        return false;
-    }
-    pins(evac, pointer)
-}
-
 // Brings a far object near; false where it isn't far, or doesn't come.
 #[tactic(auto, using(crate::proofs::Uses::far_home))]
-pub(super) fn fetches<N: Near + Drop, D: Device + Drop>(
-    evac: &mut Evac<N, D>,
-    pointer: u16,
-) -> bool {
+fn fetches<N: Near + Drop, D: Device + Drop>(evac: &mut Evac<N, D>, pointer: u16) -> bool {
     if pointer as u64 >= 128 * evac.book().shape().mutators {
         return false;
     }
@@ -160,46 +78,23 @@ pub(super) fn fetches<N: Near + Drop, D: Device + Drop>(
     matches!(evac.fetch(pointer), Ok(Some(_)))
 }
 
-// The owner asks for a near object to be moved, and it is; false where it isn't.
-pub(super) fn moves<D: Device + Drop>(evac: &mut Evac<Plain, D>, pointer: u16) -> bool {
-    evac.owner(ask(pointer, Mark::Moved));
-    moves_asked(evac, pointer)
-}
-
-fn moves_asked<N: Near + Drop, D: Device + Drop>(evac: &mut Evac<N, D>, pointer: u16) -> bool {
-    matches!(answer_to_move(evac, pointer), Some(Ok(Some(_))))
-}
-
-// What a move answers that an owner has asked for; `None` where no near object asks for one.
+// What a move answers that an owner has asked for.
 #[tactic(auto, using(crate::proofs::Uses::quiet_home))]
-pub(super) fn answer_to_move<N: Near + Drop, D: Device + Drop>(
-    evac: &mut Evac<N, D>,
-    pointer: u16,
-) -> Option<Result<Option<Place>, Refused>> {
+fn moved<N: Near + Drop, D: Device + Drop>(evac: &mut Evac<N, D>, pointer: u16) -> Moved {
     if pointer as u64 >= 128 * evac.book().shape().mutators {
-        return None;
+        return Moved::NotAsked;
     }
     let Some(Home::Near { marks, .. }) = evac.locate(pointer) else {
-        return None;
+        return Moved::NotAsked;
     };
     if !marks.moved {
-        return None;
+        return Moved::NotAsked;
     }
-    Some(evac.move_now(pointer))
-}
-
-pub(super) fn ask(pointer: u16, mark: Mark) -> Event {
-    Event::Ask {
-        owner: 0,
-        pointer,
-        mark,
+    match evac.move_now(pointer) {
+        Ok(Some(_)) => Moved::ToAnotherLog,
+        Ok(None) => Moved::Retired,
+        Err(why) => Moved::Refused(why),
     }
-}
-
-// Its owner drops a near object, which is retired.
-pub(super) fn drops<D: Device + Drop>(evac: &mut Evac<Plain, D>, pointer: u16) -> bool {
-    evac.owner(ask(pointer, Mark::Dropped));
-    retires(evac, pointer)
 }
 
 #[tactic(auto, using(crate::proofs::Uses::dropped_home))]
@@ -217,91 +112,115 @@ fn retires<N: Near + Drop, D: Device + Drop>(evac: &mut Evac<N, D>, pointer: u16
     true
 }
 
-// The first word of an object that is viewed.
-pub(super) fn stores<D: Device + Drop>(evac: &mut Evac<Plain, D>, pointer: u16, word: u64) -> bool {
-    let store = Event::Store {
-        owner: 0,
+// The first owner sets a mark.
+fn asks<D: Device + Drop>(evac: &mut Evac<Plain, D>, pointer: u16, mark: Mark) -> Reply {
+    let owner = 0;
+    evac.owner(Event::Ask {
+        owner,
         pointer,
-        index: 0,
+        mark,
+    })
+}
+
+// It pins an object.
+fn pin<D: Device + Drop>(evac: &mut Evac<Plain, D>, pointer: u16) -> Reply {
+    evac.owner(Event::Pin { owner: 0, pointer })
+}
+
+// Whether it reads the epoch, and its scope opens.
+fn opens<D: Device + Drop>(evac: &mut Evac<Plain, D>) -> bool {
+    evac.owner(Event::ReadEpoch { owner: 0 });
+    evac.owner(Event::Open { owner: 0 }) == Reply::Done
+}
+
+fn closes<D: Device + Drop>(evac: &mut Evac<Plain, D>) -> bool {
+    evac.owner(Event::Close { owner: 0 }) == Reply::Done
+}
+
+// Whether it views an object in its scope: where it can't be pinned, it is fetched or moved before.
+fn views<D: Device + Drop>(evac: &mut Evac<Plain, D>, pointer: u16) -> bool {
+    if matches!(pin(evac, pointer), Reply::Held(_)) {
+        return true;
+    }
+    if !fetches(evac, pointer) {
+        asks(evac, pointer, Mark::Moved);
+        if moved(evac, pointer) != Moved::ToAnotherLog {
+            return false;
+        }
+    }
+    matches!(pin(evac, pointer), Reply::Held(_))
+}
+
+// Whether a viewed object has this word from now on; or has it.
+fn stores<D: Device + Drop>(evac: &mut Evac<Plain, D>, pointer: u16, word: u64) -> bool {
+    let (owner, index) = (0, 0);
+    let store = Event::Store {
+        owner,
+        pointer,
+        index,
         word,
     };
     evac.owner(store) == Reply::Done
 }
 
-pub(super) fn loads<D: Device + Drop>(evac: &mut Evac<Plain, D>, pointer: u16, word: u64) -> bool {
+fn loads<D: Device + Drop>(evac: &mut Evac<Plain, D>, pointer: u16, word: u64) -> bool {
+    let (owner, index) = (0, 0);
     let load = Event::Load {
-        owner: 0,
+        owner,
         pointer,
-        index: 0,
+        index,
     };
     evac.owner(load) == Reply::Word(word)
 }
 
-// The same in a scope of its own.
-pub(super) fn writes<D: Device + Drop>(evac: &mut Evac<Plain, D>, pointer: u16, word: u64) -> bool {
-    open(evac) && views(evac, pointer) && stores(evac, pointer, word) && close(evac)
-}
-
-pub(super) fn reads<D: Device + Drop>(evac: &mut Evac<Plain, D>, pointer: u16, word: u64) -> bool {
-    open(evac) && views(evac, pointer) && loads(evac, pointer, word) && close(evac)
-}
-
-// Where a pointer's object is; `None` for a number that is no pointer's.
-pub(super) fn home<N: Near + Drop, D: Device + Drop>(
-    evac: &mut Evac<N, D>,
-    pointer: u16,
-) -> Option<Home> {
-    if (pointer as u64) < 128 * evac.book().shape().mutators {
-        evac.locate(pointer)
-    } else {
-        None
+/// Whether an act of the first owner comes out as it should; `None` if it is none.
+pub(super) fn owner_does<D: Device + Drop>(evac: &mut Evac<Plain, D>, act: Act) -> Option<bool> {
+    match act {
+        Act::Makes(len, pointer) => Some(make(evac, len) == Ok(pointer)),
+        Act::MakesMany(objects, len) => Some(makes_many(evac, objects, len)),
+        Act::MakesNone(len) => Some(make(evac, len) == Err(Refused::NoRoom)),
+        Act::Drops(pointer) => {
+            asks(evac, pointer, Mark::Dropped);
+            Some(retires(evac, pointer))
+        }
+        Act::Asks(pointer, mark) => {
+            asks(evac, pointer, mark);
+            Some(true)
+        }
+        Act::Fetches(pointer) => Some(fetches(evac, pointer)),
+        Act::Moves(pointer, wanted) => Some(moved(evac, pointer) == wanted),
+        _ => does_in_scope(evac, act),
     }
 }
 
-// Whether an object lies at a place, with no marks but HOT perhaps.
-pub(super) fn is_near<N: Near + Drop, D: Device + Drop>(
-    evac: &mut Evac<N, D>,
-    pointer: u16,
-    place: Place,
-    hot: bool,
-) -> bool {
-    let marks = Marks { hot, ..NO_MARKS };
-    home(evac, pointer) == Some(Home::Near { place, marks })
-}
-
-// Whether an object is far, with no marks.
-pub(super) fn is_far<N: Near + Drop, D: Device + Drop>(
-    evac: &mut Evac<N, D>,
-    pointer: u16,
-) -> bool {
-    home(evac, pointer) == Some(Home::Far { marks: NO_MARKS })
-}
-
-// What a log is and has; `None` for a number that is no log's.
-pub(super) fn shown<N: Near + Drop, D: Device + Drop>(
-    evac: &Evac<N, D>,
-    log: u8,
-) -> Option<LogState> {
-    if (log as u64) < evac.book().shape().logs {
-        Some(evac.log(log))
-    } else {
-        None
+// The same of what belongs to a scope.
+fn does_in_scope<D: Device + Drop>(evac: &mut Evac<Plain, D>, act: Act) -> Option<bool> {
+    let owner = 0;
+    match act {
+        Act::ReadsEpoch(epoch) => {
+            Some(evac.owner(Event::ReadEpoch { owner }) == Reply::Epoch(epoch))
+        }
+        Act::OpensLate => Some(evac.owner(Event::Open { owner }) == Reply::Done),
+        Act::Opens => Some(opens(evac)),
+        Act::Closes => Some(closes(evac)),
+        Act::Pins(pointer) => Some(matches!(pin(evac, pointer), Reply::Held(_))),
+        Act::Finds(pointer, word) => Some(pin(evac, pointer) == Reply::Word(word)),
+        _ => does_with_words(evac, act),
     }
 }
 
-// Whether a log is so, and has so many live, dead and unused bytes.
-pub(super) fn is_log<N: Near + Drop, D: Device + Drop>(
-    evac: &Evac<N, D>,
-    log: u8,
-    kind: LogKind,
-    bytes: [u16; 3],
-) -> bool {
-    let [live, dead, unused] = bytes;
-    let row = LogRow {
-        log,
-        live,
-        dead,
-        unused,
-    };
-    shown(evac, log) == Some(LogState { kind, row })
+// The same of what views an object.
+fn does_with_words<D: Device + Drop>(evac: &mut Evac<Plain, D>, act: Act) -> Option<bool> {
+    match act {
+        Act::Views(pointer) => Some(views(evac, pointer)),
+        Act::Stores(pointer, word) => Some(stores(evac, pointer, word)),
+        Act::Loads(pointer, word) => Some(loads(evac, pointer, word)),
+        Act::Writes(pointer, word) => Some(
+            opens(evac) && views(evac, pointer) && stores(evac, pointer, word) && closes(evac),
+        ),
+        Act::Reads(pointer, word) => {
+            Some(opens(evac) && views(evac, pointer) && loads(evac, pointer, word) && closes(evac))
+        }
+        _ => None,
+    }
 }

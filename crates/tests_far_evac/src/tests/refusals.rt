@@ -1,141 +1,85 @@
 //! What each call is refused in each phase to which it doesn't belong, with nothing changed.
 
-ghost use Rattle.std.specs.Borrow.{MutBor};
-
-use crate::tests::making::{SMALL, evacuator, home, is_so_of, makes_three, shown};
-use crate::tests::steps::{
-    comes_to_leaving, deals_until, has_none_to_give_up, is_clear, marks, marks_none, progress,
-    runs_until, selects, selects_none,
-};
-use far_book::{Home, Plain};
-use far_device::MemDevice;
-use far_evac::{Evac, EvacFault, LogState, Phase, Progress};
-use far_policy::Oldest;
+use crate::tests::acts::Act::*;
+use crate::tests::acts::Choice::Eldest;
+use crate::tests::acts::{Act, End};
+use crate::tests::making::SMALL;
+use crate::tests::stage::plays;
+use far_evac::{EvacFault, Phase, Polled, Progress};
 use far_word::Refused;
 use std::test::Fail;
 
-/// All that can be seen of an evacuator with four logs and three objects: the phase, the epoch, the logs, where the objects are.
-#[derive(Clone, Copy, PartialEq)]
-struct Seen {
-    phase: Phase,
-    epoch: u64,
-    logs: [Option<LogState>; 4],
-    homes: [Option<Home>; 3],
-}
-
-fn look(evac: &mut Evac<Plain, MemDevice>) -> Seen {
-    Seen {
-        phase: evac.phase(),
-        epoch: evac.book().shape().epoch,
-        logs: [
-            shown(evac, 0),
-            shown(evac, 1),
-            shown(evac, 2),
-            shown(evac, 3),
-        ],
-        homes: [home(evac, 0), home(evac, 1), home(evac, 2)],
-    }
-}
-
-fn bars_selecting(evac: &mut Evac<Plain, MemDevice>) -> bool {
-    selects_none(evac, &mut Oldest, 1, Refused::Phase)
-        && runs_until(evac, &mut Oldest, 1, [0, 0, 0, 0], Refused::Phase)
-}
-
-fn bars_marking(evac: &mut Evac<Plain, MemDevice>) -> bool {
-    marks_none(evac, 0) && marks_none(evac, 9)
-}
-
-fn bars_waiting(evac: &mut Evac<Plain, MemDevice>) -> bool {
-    evac.poll_wait() == Err(Refused::Phase)
-}
-
-fn bars_leaving(evac: &mut Evac<Plain, MemDevice>) -> bool {
-    deals_until(evac, 0, [0, 0, 0, 0], Refused::Phase)
-        && deals_until(evac, 9, [0, 0, 0, 0], Refused::Phase)
-}
-
-fn bars_turns(evac: &mut Evac<Plain, MemDevice>) -> bool {
-    let so_far = progress([0, 0, 0, 0], false);
-    let why = Refused::Phase;
-    evac.turn() == Err(EvacFault { so_far, why }) && has_none_to_give_up(evac)
-}
-
-// Whether this is so, and all that can be seen is as before.
-fn changes_nothing<F: FnOnce(&mut Evac<Plain, MemDevice>) -> bool>(
-    evac: &mut Evac<Plain, MemDevice>,
-    is_so: F,
-) -> bool
-    requires { (p : MutBor (Evac Plain MemDevice)) → F.pre is_so p }
-{
-    let before = look(evac);
-    is_so(evac) && look(evac) == before
-}
-
-fn bars_all(evac: &mut Evac<Plain, MemDevice>) -> bool {
-    bars_marking(evac) && bars_waiting(evac) && bars_leaving(evac) && bars_turns(evac)
-}
+const WITHOUT_A_ROUND: &[Act] = &[
+    MakesMany(3, 1016),
+    Notes,
+    Marks(0, Err(Refused::Phase)),
+    Marks(9, Err(Refused::Phase)),
+    Polls(Err(Refused::Phase)),
+    DealsUntil(0, [0, 0, 0, 0], Refused::Phase),
+    DealsUntil(9, [0, 0, 0, 0], Refused::Phase),
+    TurnsNone(Refused::Phase),
+    GivesUp(Err(Refused::Phase)),
+    AsNoted,
+];
 
 #[test]
 fn nothing_runs_without_a_round(rt: HostRuntime) {
-    assert!(rt;
-        is_so_of(
-            evacuator(&rt, SMALL),
-            |evac| makes_three(evac) && changes_nothing(evac, bars_all),
-        )
-    );
+    assert!(rt; plays(&rt, SMALL, &[WITHOUT_A_ROUND]));
 }
 
-// Whether a round of the first two of three full logs begins.
-fn begins(evac: &mut Evac<Plain, MemDevice>) -> bool {
-    makes_three(evac) && selects(evac, &mut Oldest, 2, &[0, 1])
-}
+// A round of the first two of three full logs begins.
+const BEGUN: &[Act] = &[MakesMany(3, 1016), Selects(Eldest, 2, Ok(&[0, 1]))];
 
-fn bars_all_but_marking(evac: &mut Evac<Plain, MemDevice>) -> bool {
-    bars_selecting(evac) && bars_waiting(evac) && bars_leaving(evac)
-}
-
-fn marks_first(evac: &mut Evac<Plain, MemDevice>) -> bool {
-    begins(evac)
-        && marks(evac, 1, 1, None)
-        && changes_nothing(evac, bars_all_but_marking)
-        && marks(evac, 1, 1, Some(1))
-}
+const MARKING: &[Act] = &[
+    Marks(1, Ok((1, None))),
+    Notes,
+    Selects(Eldest, 1, Err(Refused::Phase)),
+    Runs(Eldest, 1, 9, End::Stopped([0, 0, 0, 0], Refused::Phase)),
+    Polls(Err(Refused::Phase)),
+    DealsUntil(0, [0, 0, 0, 0], Refused::Phase),
+    DealsUntil(9, [0, 0, 0, 0], Refused::Phase),
+    AsNoted,
+    Marks(1, Ok((1, Some(1)))),
+];
 
 #[test]
 fn marking_comes_first(rt: HostRuntime) {
-    assert!(rt; is_so_of(evacuator(&rt, SMALL), marks_first));
+    assert!(rt; plays(&rt, SMALL, &[BEGUN, MARKING]));
 }
 
-fn bars_all_but_waiting(evac: &mut Evac<Plain, MemDevice>) -> bool {
-    bars_selecting(evac) && bars_marking(evac) && bars_leaving(evac)
-}
-
-fn waits_next(evac: &mut Evac<Plain, MemDevice>) -> bool {
-    begins(evac)
-        && marks(evac, 9, 2, Some(1))
-        && changes_nothing(evac, bars_all_but_waiting)
-        && is_clear(evac)
-}
+const WAITING: &[Act] = &[
+    Marks(9, Ok((2, Some(1)))),
+    Notes,
+    Selects(Eldest, 1, Err(Refused::Phase)),
+    Runs(Eldest, 1, 9, End::Stopped([0, 0, 0, 0], Refused::Phase)),
+    Marks(0, Err(Refused::Phase)),
+    Marks(9, Err(Refused::Phase)),
+    DealsUntil(0, [0, 0, 0, 0], Refused::Phase),
+    DealsUntil(9, [0, 0, 0, 0], Refused::Phase),
+    AsNoted,
+    Polls(Ok(Polled::Clear)),
+];
 
 #[test]
 fn waiting_comes_next(rt: HostRuntime) {
-    assert!(rt; is_so_of(evacuator(&rt, SMALL), waits_next));
+    assert!(rt; plays(&rt, SMALL, &[BEGUN, WAITING]));
 }
 
-fn bars_all_but_leaving(evac: &mut Evac<Plain, MemDevice>) -> bool {
-    bars_selecting(evac) && bars_marking(evac) && bars_waiting(evac)
-}
-
-fn leaves_last(evac: &mut Evac<Plain, MemDevice>) -> bool {
-    makes_three(evac)
-        && comes_to_leaving(evac, &mut Oldest, 2)
-        && changes_nothing(evac, bars_all_but_leaving)
-}
+const LEAVING: &[Act] = &[
+    MakesMany(3, 1016),
+    Runs(Eldest, 2, 2, End::Limit(Phase::Evacuating)),
+    Notes,
+    Selects(Eldest, 1, Err(Refused::Phase)),
+    Runs(Eldest, 1, 9, End::Stopped([0, 0, 0, 0], Refused::Phase)),
+    Marks(0, Err(Refused::Phase)),
+    Marks(9, Err(Refused::Phase)),
+    Polls(Err(Refused::Phase)),
+    AsNoted,
+];
 
 #[test]
 fn leaving_comes_last(rt: HostRuntime) {
-    assert!(rt; is_so_of(evacuator(&rt, SMALL), leaves_last));
+    assert!(rt; plays(&rt, SMALL, &[LEAVING]));
 }
 
 #[test]

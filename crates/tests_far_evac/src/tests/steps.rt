@@ -1,10 +1,31 @@
-//! A round's calls, each with the answer that is wanted, and what a census counts.
+//! The steps of a round, each with the answer that is wanted; and what an evacuator shows.
 
+use crate::tests::acts::{Act, Choice, End};
 use far_book::{Home, Near, Plain};
-use far_device::{Device, MemDevice};
-use far_evac::{Census, Evac, EvacFault, Marked, Phase, Polled, Progress, RoundEnd};
-use far_policy::Policy;
-use far_word::Refused;
+use far_device::Device;
+use far_evac::{Census, Evac, EvacFault, LogKind, LogState, Marked, Progress, RoundEnd};
+use far_log::LogRow;
+use far_policy::{Chosen, LeastLive, Oldest, Policy, Scripted};
+use far_word::{Marks, Refused};
+
+pub(super) const NO_MARKS: Marks = Marks {
+    hot: false,
+    evac: false,
+    moved: false,
+    dropped: false,
+};
+
+impl Policy for Choice {
+    ghost gives = { λ old rows most outcome new. Unit {0} };
+
+    fn choose(&mut self, rows: &[LogRow], most: usize, out: &mut Chosen) -> Result<(), Refused> {
+        match *self {
+            Choice::Eldest => Oldest.choose(rows, most, out),
+            Choice::Emptiest => LeastLive.choose(rows, most, out),
+            Choice::Named(logs) => Scripted { logs }.choose(rows, most, out),
+        }
+    }
+}
 
 // So many objects moved, sent far and dropped, and logs given back.
 pub(super) fn progress(counts: [u64; 4], done: bool) -> Progress {
@@ -18,160 +39,142 @@ pub(super) fn progress(counts: [u64; 4], done: bool) -> Progress {
     }
 }
 
-pub(super) fn is_in<N: Near + Drop, D: Device + Drop>(evac: &Evac<N, D>, phase: Phase) -> bool {
-    evac.phase() == phase
+// So much was done before this refusal.
+pub(super) fn stop(counts: [u64; 4], why: Refused) -> EvacFault {
+    let so_far = progress(counts, false);
+    EvacFault { so_far, why }
 }
 
-pub(super) fn has_epoch<N: Near + Drop, D: Device + Drop>(evac: &Evac<N, D>, epoch: u64) -> bool {
-    evac.book().shape().epoch == epoch
+// Whether a round ended so.
+fn comes_to(came: Result<RoundEnd, EvacFault>, end: End) -> bool {
+    match end {
+        End::Done(counts) => came == Ok(RoundEnd::Done(progress(counts, true))),
+        End::Nothing => came == Ok(RoundEnd::Nothing),
+        End::Limit(phase) => came == Ok(RoundEnd::Limit(phase)),
+        End::Stopped(counts, why) => came == Err(stop(counts, why)),
+    }
 }
 
-// Whether the round is given up.
-pub(super) fn gives_up<N: Near + Drop, D: Device + Drop>(evac: &mut Evac<N, D>) -> bool {
-    evac.abort() == Ok(())
-}
-
-// Whether there is none to be given up.
-pub(super) fn has_none_to_give_up<N: Near + Drop, D: Device + Drop>(evac: &mut Evac<N, D>) -> bool {
-    evac.abort() == Err(Refused::Phase)
-}
-
-// Whether a policy, asked for so many logs at most, chooses these.
+// Whether a round of these logs begins; or none, for this reason.
 pub(super) fn selects<N: Near + Drop, D: Device + Drop, P: Policy>(
     evac: &mut Evac<N, D>,
     policy: &mut P,
     most: usize,
-    logs: &[u8],
+    logs: Result<&[u8], Refused>,
 ) -> bool {
-    match evac.select(policy, most) {
-        Ok(chosen) => chosen.as_slice() == logs,
-        Err(_) => false,
+    match (evac.select(policy, most), logs) {
+        (Ok(chosen), Ok(logs)) => chosen.as_slice() == logs,
+        (Err(found), Err(why)) => found == why,
+        _ => false,
     }
 }
 
-// Whether a selection is refused so.
-pub(super) fn selects_none<N: Near + Drop, D: Device + Drop, P: Policy>(
+// Whether so many objects are marked, after which the round waits for this epoch, or goes on marking; or none, for this reason.
+fn marks<N: Near + Drop, D: Device + Drop>(
     evac: &mut Evac<N, D>,
-    policy: &mut P,
-    most: usize,
-    why: Refused,
+    n: u64,
+    marked: Result<(u64, Option<u64>), Refused>,
 ) -> bool {
-    match evac.select(policy, most) {
-        Ok(_) => false,
-        Err(found) => found == why,
+    let marked = match marked {
+        Ok((count, waiting)) => Ok(Marked { count, waiting }),
+        Err(why) => Err(why),
+    };
+    evac.mark_some(n) == marked
+}
+
+/// Whether an act of a round comes out as it should; or a look at an evacuator shows what it should.
+pub(super) fn round_does<D: Device + Drop>(evac: &mut Evac<Plain, D>, act: Act) -> bool {
+    match act {
+        Act::Selects(mut choice, most, logs) => selects(evac, &mut choice, most, logs),
+        Act::Marks(n, marked) => marks(evac, n, marked),
+        Act::Polls(polled) => evac.poll_wait() == polled,
+        Act::Deals(n, counts, done) => evac.evacuate_some(n) == Ok(progress(counts, done)),
+        Act::DealsUntil(n, counts, why) => evac.evacuate_some(n) == Err(stop(counts, why)),
+        _ => runs(evac, act),
     }
 }
 
-// Whether a marking of n objects counts so many, and whether it ends at this epoch.
-pub(super) fn marks<N: Near + Drop, D: Device + Drop>(
+// The same of a whole round.
+fn runs<D: Device + Drop>(evac: &mut Evac<Plain, D>, act: Act) -> bool {
+    match act {
+        Act::TurnsNone(why) => evac.turn() == Err(stop([0, 0, 0, 0], why)),
+        Act::GivesUp(given) => evac.abort() == given,
+        Act::Runs(mut choice, most, turns, end) => {
+            comes_to(evac.run_round(&mut choice, most, turns), end)
+        }
+        Act::RunsAlone(most, turns, end) => {
+            comes_to(evac.run_round_alone(&mut Oldest, most, turns), end)
+        }
+        _ => shows(evac, act),
+    }
+}
+
+// The same of a look.
+fn shows<N: Near + Drop, D: Device + Drop>(evac: &mut Evac<N, D>, act: Act) -> bool {
+    match act {
+        Act::In(phase) => evac.phase() == phase,
+        Act::Epoch(epoch) => evac.book().shape().epoch == epoch,
+        Act::Near(pointer, place, hot) => {
+            let marks = Marks { hot, ..NO_MARKS };
+            home(evac, pointer) == Some(Home::Near { place, marks })
+        }
+        Act::Leaving(pointer, place) => {
+            let marks = Marks {
+                evac: true,
+                ..NO_MARKS
+            };
+            home(evac, pointer) == Some(Home::Near { place, marks })
+        }
+        Act::Far(pointer) => home(evac, pointer) == Some(Home::Far { marks: NO_MARKS }),
+        Act::Log(log, kind, bytes) => is_log(evac, log, kind, bytes),
+        Act::Counts(near, far, live) => counts(evac, near, far, live),
+        _ => false,
+    }
+}
+
+// Where a pointer's object is; `None` for a number that is no pointer's.
+pub(super) fn home<N: Near + Drop, D: Device + Drop>(
     evac: &mut Evac<N, D>,
-    n: u64,
-    count: u64,
-    waiting: Option<u64>,
+    pointer: u16,
+) -> Option<Home> {
+    if (pointer as u64) < 128 * evac.book().shape().mutators {
+        evac.locate(pointer)
+    } else {
+        None
+    }
+}
+
+// What a log is and has; `None` for a number that is no log's.
+pub(super) fn shown<N: Near + Drop, D: Device + Drop>(
+    evac: &Evac<N, D>,
+    log: u8,
+) -> Option<LogState> {
+    if (log as u64) < evac.book().shape().logs {
+        Some(evac.log(log))
+    } else {
+        None
+    }
+}
+
+// Whether a log is so, and has so many live, dead and unused bytes.
+fn is_log<N: Near + Drop, D: Device + Drop>(
+    evac: &Evac<N, D>,
+    log: u8,
+    kind: LogKind,
+    bytes: [u16; 3],
 ) -> bool {
-    evac.mark_some(n) == Ok(Marked { count, waiting })
-}
-
-// Whether a marking of n objects is refused, since no round is to be marked.
-pub(super) fn marks_none<N: Near + Drop, D: Device + Drop>(evac: &mut Evac<N, D>, n: u64) -> bool {
-    evac.mark_some(n) == Err(Refused::Phase)
-}
-
-pub(super) fn is_clear<N: Near + Drop, D: Device + Drop>(evac: &mut Evac<N, D>) -> bool {
-    evac.poll_wait() == Ok(Polled::Clear)
-}
-
-pub(super) fn is_open<N: Near + Drop, D: Device + Drop>(
-    evac: &mut Evac<N, D>,
-    owner: u8,
-    epoch: u64,
-) -> bool {
-    evac.poll_wait() == Ok(Polled::StillOpen(owner, epoch))
-}
-
-// Whether a dealing with n objects counts so, and ends the round or not.
-pub(super) fn deals<N: Near + Drop, D: Device + Drop>(
-    evac: &mut Evac<N, D>,
-    n: u64,
-    counts: [u64; 4],
-    done: bool,
-) -> bool {
-    evac.evacuate_some(n) == Ok(progress(counts, done))
-}
-
-// Whether it is refused so, after this.
-pub(super) fn deals_until<N: Near + Drop, D: Device + Drop>(
-    evac: &mut Evac<N, D>,
-    n: u64,
-    counts: [u64; 4],
-    why: Refused,
-) -> bool {
-    let so_far = progress(counts, false);
-    evac.evacuate_some(n) == Err(EvacFault { so_far, why })
-}
-
-// Whether a round of at most so many logs and turns ends so.
-pub(super) fn runs<N: Near + Drop, D: Device + Drop, P: Policy>(
-    evac: &mut Evac<N, D>,
-    policy: &mut P,
-    most: usize,
-    turns: u64,
-    end: RoundEnd,
-) -> bool {
-    evac.run_round(policy, most, turns) == Ok(end)
-}
-
-// The same of a round where nobody else acts.
-pub(super) fn runs_alone<P: Policy>(
-    evac: &mut Evac<Plain, MemDevice>,
-    policy: &mut P,
-    most: usize,
-    turns: u64,
-    end: RoundEnd,
-) -> bool {
-    evac.run_round_alone(policy, most, turns) == Ok(end)
-}
-
-// Whether it is over, and counts so.
-pub(super) fn runs_through<N: Near + Drop, D: Device + Drop, P: Policy>(
-    evac: &mut Evac<N, D>,
-    policy: &mut P,
-    most: usize,
-    turns: u64,
-    counts: [u64; 4],
-) -> bool {
-    runs(
-        evac,
-        policy,
-        most,
-        turns,
-        RoundEnd::Done(progress(counts, true)),
-    )
-}
-
-// Whether it is refused so, after this.
-pub(super) fn runs_until<N: Near + Drop, D: Device + Drop, P: Policy>(
-    evac: &mut Evac<N, D>,
-    policy: &mut P,
-    most: usize,
-    counts: [u64; 4],
-    why: Refused,
-) -> bool {
-    let so_far = progress(counts, false);
-    evac.run_round(policy, most, 9) == Err(EvacFault { so_far, why })
-}
-
-// Brings a round of at most so many logs to where objects leave.
-pub(super) fn comes_to_leaving<N: Near + Drop, D: Device + Drop, P: Policy>(
-    evac: &mut Evac<N, D>,
-    policy: &mut P,
-    most: usize,
-) -> bool {
-    runs(evac, policy, most, 2, RoundEnd::Limit(Phase::Evacuating))
+    let [live, dead, unused] = bytes;
+    let row = LogRow {
+        log,
+        live,
+        dead,
+        unused,
+    };
+    shown(evac, log) == Some(LogState { kind, row })
 }
 
 // Whether so many objects are near and so many far, and so many bytes are live.
-pub(super) fn counts<N: Near + Drop, D: Device + Drop>(
+fn counts<N: Near + Drop, D: Device + Drop>(
     evac: &mut Evac<N, D>,
     near: u64,
     far: u64,

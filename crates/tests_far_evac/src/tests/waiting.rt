@@ -1,187 +1,159 @@
 //! Rounds that wait for a scope, and owners that move their objects themselves.
 
-use crate::tests::making::{
-    SMALL, close, evacuator, is_far, is_log, is_near, is_so_of, loads, makes, makes_sealed,
-    makes_three, open, pins, reads, stores, views, writes,
-};
-use crate::tests::steps::{
-    deals, gives_up, is_clear, is_open, marks, progress, runs_alone, selects,
-};
-use far_book::Plain;
-use far_core::{Event, Reply};
-use far_device::MemDevice;
-use far_evac::{Evac, LogKind, Phase, RoundEnd};
-use far_policy::Oldest;
+use crate::tests::acts::Act::*;
+use crate::tests::acts::Choice::Eldest;
+use crate::tests::acts::{Act, End};
+use crate::tests::making::SMALL;
+use crate::tests::stage::plays;
+use far_evac::{LogKind, Phase, Polled};
 use far_word::Place;
 
-/// The cell of pointer 0, an object of 8 bytes of data structure 1 at the start of log 0, with HOT and EVAC.
+/// The cell of pointer 0, an object of 8 bytes of data structure 1 at the start of log 0, with HOT and EVAC; and with EVAC alone.
 const HOT_AND_LEAVING: u64 = 0xe400_0000_0001_0008;
 
-// Whether the first owner's event is answered so.
-fn answers(evac: &mut Evac<Plain, MemDevice>, event: Event, reply: Reply) -> bool {
-    evac.owner(event) == reply
-}
+const LEAVING: u64 = 0xa400_0000_0001_0008;
 
-// Whether its owner views pointer 0, whose log is sealed.
-fn views_a_sealed_one(evac: &mut Evac<Plain, MemDevice>) -> bool {
-    makes_sealed(evac) && open(evac) && views(evac, 0)
-}
+// Its owner views pointer 0, whose log is sealed.
+const VIEWED: &[Act] = &[MakesMany(1, 8), MakesMany(1, 1016), Opens, Views(0)];
 
-// Whether a round of log 0 marks so many objects, and the epoch rises.
-fn marks_all(evac: &mut Evac<Plain, MemDevice>, count: u64) -> bool {
-    selects(evac, &mut Oldest, 1, &[0]) && marks(evac, 9, count, Some(1))
-}
+// A round of log 0 marks one object, and the epoch rises.
+const ONE_MARKED: &[Act] = &[Selects(Eldest, 1, Ok(&[0])), Marks(9, Ok((1, Some(1))))];
 
-// Whether the round is clear once the scope is closed, and its one object moves.
-fn ends_once_closed(evac: &mut Evac<Plain, MemDevice>) -> bool {
-    close(evac) && is_clear(evac) && deals(evac, 9, [1, 0, 0, 1], true)
-}
+// The round is clear once the scope is closed, and its one object moves.
+const ENDS_ONCE_CLOSED: &[Act] = &[
+    Closes,
+    Polls(Ok(Polled::Clear)),
+    Deals(9, [1, 0, 0, 1], true),
+];
 
-fn waits_for_a_scope(evac: &mut Evac<Plain, MemDevice>) -> bool {
-    views_a_sealed_one(evac)
-        && marks_all(evac, 1)
-        && is_open(evac, 0, 0)
-        && is_open(evac, 0, 0)
-        && ends_once_closed(evac)
-}
+const STILL_OPEN: &[Act] = &[
+    Polls(Ok(Polled::StillOpen(0, 0))),
+    Polls(Ok(Polled::StillOpen(0, 0))),
+];
 
 #[test]
 fn a_round_waits_for_a_scope(rt: HostRuntime) {
-    assert!(rt; is_so_of(evacuator(&rt, SMALL), waits_for_a_scope));
+    assert!(rt;
+        plays(
+            &rt,
+            SMALL,
+            &[VIEWED, ONE_MARKED, STILL_OPEN, ENDS_ONCE_CLOSED]
+        )
+    );
 }
 
-// Whether a round of one log alone, whose turns don't run out, ends so.
-fn ends_alone(evac: &mut Evac<Plain, MemDevice>, end: RoundEnd) -> bool {
-    runs_alone(evac, &mut Oldest, 1, u64::MAX, end)
-}
-
-fn ends_where_it_waits(evac: &mut Evac<Plain, MemDevice>) -> bool {
-    views_a_sealed_one(evac)
-        && ends_alone(evac, RoundEnd::Limit(Phase::Waiting))
-        && close(evac)
-        && gives_up(evac)
-        && ends_alone(evac, RoundEnd::Done(progress([1, 0, 0, 1], true)))
-}
+const ALONE: &[Act] = &[
+    RunsAlone(1, u64::MAX, End::Limit(Phase::Waiting)),
+    Closes,
+    GivesUp(Ok(())),
+    RunsAlone(1, u64::MAX, End::Done([1, 0, 0, 1])),
+];
 
 // The first poll that finds the scope open ends it, however many turns are left; and a round alone goes on where none is.
 #[test]
 fn a_round_alone_ends_where_it_waits(rt: HostRuntime) {
-    assert!(rt; is_so_of(evacuator(&rt, SMALL), ends_where_it_waits));
+    assert!(rt; plays(&rt, SMALL, &[VIEWED, ALONE]));
 }
 
-// Whether an owner reads the epoch, and a round is clear after that.
-fn reads_the_epoch_first(evac: &mut Evac<Plain, MemDevice>) -> bool {
-    let read = Event::ReadEpoch { owner: 0 };
-    makes(evac, 8)
-        && writes(evac, 0, 0xaa)
-        && makes(evac, 1016)
-        && answers(evac, read, Reply::Epoch(0))
-        && marks_all(evac, 1)
-        && is_clear(evac)
-}
+// An owner reads the epoch.
+const EPOCH_READ: &[Act] = &[
+    MakesMany(1, 8),
+    Writes(0, 0xaa),
+    MakesMany(1, 1016),
+    ReadsEpoch(0),
+];
 
-// Whether the owner opens then, and isn't given what leaves, until it has moved it itself.
-fn opens_late(evac: &mut Evac<Plain, MemDevice>) -> bool {
-    let (owner, pointer) = (0, 0);
-    let pin = Event::Pin { owner, pointer };
-    answers(evac, Event::Open { owner }, Reply::Done)
-        && answers(evac, pin, Reply::Word(HOT_AND_LEAVING))
-        && views(evac, 0)
-        && loads(evac, 0, 0xaa)
-        && deals(evac, 9, [0, 0, 0, 1], true)
-        && is_near(evac, 0, Place { log: 2, at: 0 }, true)
-}
+// The round is clear after that. The owner opens then, and isn't given what leaves, until it has moved it itself.
+const OPENED_LATE: &[Act] = &[
+    Polls(Ok(Polled::Clear)),
+    OpensLate,
+    Finds(0, HOT_AND_LEAVING),
+    Views(0),
+    Loads(0, 0xaa),
+    Deals(9, [0, 0, 0, 1], true),
+    Near(0, Place { log: 2, at: 0 }, true),
+];
 
 // It read the epoch before the round's, and opened after all were seen clear.
 #[test]
 fn a_scope_opens_at_an_old_epoch(rt: HostRuntime) {
-    assert!(rt;
-        is_so_of(
-            evacuator(&rt, SMALL),
-            |evac| reads_the_epoch_first(evac) && opens_late(evac)
-        )
-    );
+    assert!(rt; plays(&rt, SMALL, &[EPOCH_READ, ONE_MARKED, OPENED_LATE]));
 }
 
-fn views_until_it_ends(evac: &mut Evac<Plain, MemDevice>) -> bool {
-    views_a_sealed_one(evac)
-        && marks_all(evac, 1)
-        && stores(evac, 0, 0xbb)
-        && is_open(evac, 0, 0)
-        && ends_once_closed(evac)
-        && reads(evac, 0, 0xbb)
-}
+const WRITTEN_LATE: &[Act] = &[Stores(0, 0xbb), Polls(Ok(Polled::StillOpen(0, 0)))];
+
+const READ_LATE: &[Act] = &[Reads(0, 0xbb)];
 
 // What was viewed before its object was marked is viewed until the scope ends.
 #[test]
 fn a_view_outlives_a_mark(rt: HostRuntime) {
-    assert!(rt; is_so_of(evacuator(&rt, SMALL), views_until_it_ends));
+    let parts = [
+        VIEWED,
+        ONE_MARKED,
+        WRITTEN_LATE,
+        ENDS_ONCE_CLOSED,
+        READ_LATE,
+    ];
+    assert!(rt; plays(&rt, SMALL, &parts));
 }
 
-fn moves_its_own(evac: &mut Evac<Plain, MemDevice>) -> bool {
-    makes(evac, 8)
-        && makes_sealed(evac)
-        && marks_all(evac, 2)
-        && is_clear(evac)
-        && open(evac)
-        && views_both(evac)
-        && deals(evac, 9, [0, 0, 0, 1], true)
-}
-
-fn views_both(evac: &mut Evac<Plain, MemDevice>) -> bool {
-    views(evac, 0) && views(evac, 1)
-}
+const MOVES_ITS_OWN: &[Act] = &[
+    MakesMany(2, 8),
+    MakesMany(1, 1016),
+    Selects(Eldest, 1, Ok(&[0])),
+    Marks(9, Ok((2, Some(1)))),
+    Polls(Ok(Polled::Clear)),
+    Opens,
+    Views(0),
+    Views(1),
+    Deals(9, [0, 0, 0, 1], true),
+];
 
 // Alone against a walk that counts what has left already.
 #[test]
 fn an_owner_moves_its_objects_first(rt: HostRuntime) {
-    assert!(rt; is_so_of(evacuator(&rt, SMALL), moves_its_own));
+    assert!(rt; plays(&rt, SMALL, &[MOVES_ITS_OWN]));
 }
 
-// Whether the first of two objects that are to leave is hot, and none is viewed.
-fn leaves_a_hot_one(evac: &mut Evac<Plain, MemDevice>) -> bool {
-    makes_three(evac)
-        && open(evac)
-        && views(evac, 0)
-        && close(evac)
-        && selects(evac, &mut Oldest, 2, &[0, 1])
-        && marks(evac, 9, 2, Some(1))
-        && is_clear(evac)
-}
+// The first of two objects that are to leave is hot, and none is viewed.
+const HOT_LEAVES: &[Act] = &[
+    MakesMany(3, 1016),
+    Opens,
+    Views(0),
+    Closes,
+    Selects(Eldest, 2, Ok(&[0, 1])),
+    Marks(9, Ok((2, Some(1)))),
+    Polls(Ok(Polled::Clear)),
+];
 
-// Whether the owner moves the second to the last free log, and the first goes far then.
-fn has_no_room_for_it(evac: &mut Evac<Plain, MemDevice>) -> bool {
-    open(evac)
-        && views(evac, 1)
-        && is_log(evac, 3, LogKind::Open, [1024, 0, 0])
-        && deals(evac, 9, [0, 1, 0, 2], true)
-        && is_far(evac, 0)
-}
+// The owner moves the second to the last free log, and the first goes far then.
+const NO_ROOM_FOR_IT: &[Act] = &[
+    Opens,
+    Views(1),
+    Log(3, LogKind::Open, [1024, 0, 0]),
+    Deals(9, [0, 1, 0, 2], true),
+    Far(0),
+];
 
 // The owner's move took the last free log, so the first object goes far.
 #[test]
 fn a_hot_object_goes_far_without_room(rt: HostRuntime) {
-    assert!(rt;
-        is_so_of(
-            evacuator(&rt, SMALL),
-            |evac| leaves_a_hot_one(evac) && has_no_room_for_it(evac),
-        )
-    );
+    assert!(rt; plays(&rt, SMALL, &[HOT_LEAVES, NO_ROOM_FOR_IT]));
 }
 
+const SEALED: &[Act] = &[MakesMany(1, 8), MakesMany(1, 1016)];
+
 // The object was hot before it left, so it moves.
-fn is_clear_though_open(evac: &mut Evac<Plain, MemDevice>) -> bool {
-    makes_sealed(evac)
-        && marks_all(evac, 1)
-        && open(evac)
-        && !pins(evac, 0)
-        && is_clear(evac)
-        && deals(evac, 9, [1, 0, 0, 1], true)
-        && pins(evac, 0)
-}
+const CLEAR_THOUGH_OPEN: &[Act] = &[
+    Opens,
+    Finds(0, LEAVING),
+    Polls(Ok(Polled::Clear)),
+    Deals(9, [1, 0, 0, 1], true),
+    Pins(0),
+];
 
 // An owner who opened after the epoch rose is clear, and is refused what leaves.
 #[test]
 fn a_new_scope_is_clear(rt: HostRuntime) {
-    assert!(rt; is_so_of(evacuator(&rt, SMALL), is_clear_though_open));
+    assert!(rt; plays(&rt, SMALL, &[SEALED, ONE_MARKED, CLEAR_THOUGH_OPEN]));
 }
