@@ -1,5 +1,6 @@
 //! Heaps with the answers that were worked out by hand, in one thread and in many.
 
+mod acts;
 mod beside;
 mod between;
 mod choices;
@@ -9,8 +10,8 @@ mod eight;
 mod failing;
 mod flag;
 mod growing;
+mod hands;
 mod left_open;
-mod lend;
 mod liars;
 mod looks;
 mod placing;
@@ -20,6 +21,7 @@ mod refusals;
 mod rounds;
 mod rows;
 mod scopes;
+mod stage;
 mod steps;
 mod threads;
 mod told;

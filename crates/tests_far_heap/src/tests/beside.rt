@@ -3,7 +3,6 @@
 ghost use Rattle.std.specs.Prelude.{◌≡◌};
 
 use crate::tests::flag::Tally;
-use crate::tests::lend::of_book;
 use crate::tests::looks::{has_objects, new_blank, sized};
 use crate::tests::writers::Writer;
 use far_device::MemDevice;
@@ -186,7 +185,7 @@ fn ends_with_a_round<K: HeapName, R: Wait>(rt: &R, heap: &Heap<K, MemDevice>) ->
 
 // Whether one more round comes, and all objects are there.
 fn stands<K: HeapName, R: Wait>(rt: &R, heap: &Heap<K, MemDevice>) -> bool {
-    ends_with_a_round(rt, heap) && of_book!(rt, heap, book, has_objects(book, 64))
+    ends_with_a_round(rt, heap) && has_objects(&mut *heap.book(rt), 64)
 }
 
 // How many rounds were done while all wrote; `None` where something was wrong.

@@ -2,13 +2,15 @@
 
 ghost use Rattle.std.specs.Prelude.{◌≡◌};
 
+use crate::tests::acts::Act::*;
+use crate::tests::acts::Choice::Eldest;
+use crate::tests::acts::{Act, End, ZEROS};
 use crate::tests::flag::Tally;
-use crate::tests::lend::{Lent, closed, opened};
-use crate::tests::looks::{is_marked, is_unpinned, new_blank, sized};
+use crate::tests::looks::{is_marked, is_unpinned, sized};
+use crate::tests::stage::{Signals, Stage};
 use far_device::MemDevice;
-use far_evac::{LogKind, Phase, RoundEnd};
-use far_heap::{Blank, Evacuator, Heap, HeapName, Mutator, Scope, Tried};
-use far_policy::Oldest;
+use far_evac::{LogKind, Phase};
+use far_heap::{Blank, Evacuator, Heap, HeapName};
 use std::alloc::Global;
 use std::marker::Brand;
 use std::sync::Wait;
@@ -29,61 +31,67 @@ const LOOKS: u64 = 1_000_000_000;
 /// Turns enough for any round.
 const TURNS: u64 = 1_000_000;
 
-// Makes all objects.
-fn makes_all<K: HeapName, R: Wait>(rt: &R, lent: &mut Lent<K, MemDevice>) -> bool {
-    for pointer in 0..OBJECTS {
-        if !lent.makes(rt, 8, pointer) {
-            return false;
-        }
-    }
-    true
+/// What one thread makes again and again, while another keeps taking the lock.
+#[derive(Clone, Copy)]
+enum Made {
+    Rounds,
+    Views,
 }
 
-// Views all objects, wherever they are.
-fn views_all<K: HeapName, R: Wait>(rt: &R, scope: &mut Scope<K, MemDevice>) -> bool {
-    for pointer in 0..OBJECTS {
-        if scope.view(rt, pointer).is_err() {
-            return false;
-        }
-    }
-    true
-}
-
-// Whether a round of all sealed logs is done.
-fn makes_round<K: HeapName, R: Wait>(rt: &R, heap: &Heap<K, MemDevice>) -> bool {
-    matches!(
-        heap.run_round(rt, &mut Oldest, 64, TURNS),
-        Ok(RoundEnd::Done(_))
-    )
-}
-
-/// How often a round was seen in the midst of marking, and in the midst of dealing with objects; and whether no more are made.
+/// What both tell.
 #[derive(Drop)]
-struct Seen {
+struct Told {
+    /// How often a round was seen in the midst of marking, and in the midst of dealing with objects.
     marking: Tally,
     leaving: Tally,
+    /// Which view is made: an odd count while one is, of the pointer of half of it. How often such an object was near and not pinned.
+    turn: Tally,
+    unpinned: Tally,
+    /// Whether no more are made.
     over: Tally,
 }
 
-impl Seen {
-    // Whether both were seen.
+impl Told {
+    fn new() -> Told {
+        Told {
+            marking: Tally::new(),
+            leaving: Tally::new(),
+            turn: Tally::new(),
+            unpinned: Tally::new(),
+            over: Tally::new(),
+        }
+    }
+
+    // Whether a round was seen in both.
     fn has_both(&self) -> bool {
         self.marking.count() > 0 && self.leaving.count() > 0
     }
 }
 
-// Makes rounds, in which each object moves, until both were seen: whether each was done.
+// Views all objects in a scope, wherever they are.
+fn views_all<K: HeapName, R: Wait>(rt: &R, stage: &mut Stage<'_, K, MemDevice>) -> bool {
+    if !stage.does(rt, Opens) {
+        return false;
+    }
+    for pointer in 0..OBJECTS {
+        if !stage.does(rt, Brings(pointer, ZEROS)) {
+            return false;
+        }
+    }
+    stage.does(rt, Closes)
+}
+
+// Makes rounds of all sealed logs, in which each object moves, until one was seen in both: whether each was done.
 fn keeps_rounding<K: HeapName, R: Wait>(
     rt: &R,
-    heap: &Heap<K, MemDevice>,
-    lent: &mut Lent<K, MemDevice>,
-    seen: &Seen,
+    stage: &mut Stage<'_, K, MemDevice>,
+    told: &Told,
 ) -> bool {
     for _ in 0..ROUNDS {
-        if seen.has_both() {
+        if told.has_both() {
             break;
         }
-        if !opened!(lent, scope, views_all(rt, scope)) || !makes_round(rt, heap) {
+        if !views_all(rt, stage) || !stage.does(rt, Runs(Eldest, 64, TURNS, End::Over)) {
             return false;
         }
     }
@@ -114,115 +122,33 @@ fn has_marked_some<K: HeapName>(book: &mut Evacuator<K, MemDevice>) -> bool {
 }
 
 // Counts what is seen of a round.
-fn look<K: HeapName>(book: &mut Evacuator<K, MemDevice>, seen: &Seen) {
+fn look<K: HeapName>(book: &mut Evacuator<K, MemDevice>, told: &Told) {
     match book.phase() {
         Phase::Marking => {
             if has_marked_some(book) {
-                seen.marking.raise();
+                told.marking.raise();
             }
         }
         Phase::Evacuating => {
             if has_left_some(book) {
-                seen.leaving.raise();
+                told.leaving.raise();
             }
         }
         _ => {}
     }
 }
 
-// Looks until no more rounds are made.
-fn keeps_looking<K: HeapName, R: Wait>(rt: &R, heap: &Heap<K, MemDevice>, seen: &Seen) {
-    for _ in 0..LOOKS {
-        if seen.over.count() > 0 {
-            break;
-        }
-        look(&mut *heap.book(rt), seen);
-    }
-}
-
-// Makes rounds, and tells when no more are made.
-fn rounds_on<K: HeapName, R: Wait>(
-    rt: &R,
-    heap: &Heap<K, MemDevice>,
-    lent: &mut Lent<K, MemDevice>,
-    seen: &Seen,
-) -> bool {
-    let done = keeps_rounding(rt, heap, lent, seen);
-    seen.over.raise();
-    done
-}
-
-// Rounds beside a thread that keeps taking the lock.
-fn sees_between<K: HeapName + Send + Sync, R: Threads + Wait + Sync>(
-    rt: &R,
-    heap: &Heap<K, MemDevice>,
-    lent: &mut Lent<K, MemDevice>,
-) -> bool {
-    let seen = Seen {
-        marking: Tally::new(),
-        leaving: Tally::new(),
-        over: Tally::new(),
-    };
-    let told = &seen;
-    let (done, _) = join(
-        rt,
-        move || rounds_on(rt, heap, lent, told),
-        move || keeps_looking(rt, heap, told),
-    );
-    done && seen.has_both()
-}
-
-fn run_rounds<K: HeapName + Send + Sync, R: Threads + Wait + Sync>(
-    rt: &R,
-    alloc: Global,
-    blank: Blank<MemDevice>,
-) -> bool
-    requires { blank.heap ≡ K.heap }
-{
-    match Heap::<K, MemDevice>::new(alloc, blank) {
-        Ok((heap, mut mutators)) => {
-            let mut lent = Lent::last_of(&mut mutators);
-            makes_all(rt, &mut lent) && sees_between(rt, &heap, &mut lent)
-        }
-        Err(_) => false,
-    }
-}
-
-// A log has 64 objects, and a turn deals with 16: so there are moments between two turns.
-#[test]
-fn the_lock_is_let_go_between_turns(rt: HostRuntime) {
-    let alloc = rt.alloc();
-    assert!(rt; run_rounds::<Brand, HostRuntime>(&rt, alloc, new_blank(&rt, alloc, sized(8, 1))));
-}
-
-// Whether a new object of a whole log is made and dropped, so that the log before it is sealed.
-fn seals<K: HeapName, R: Wait>(rt: &R, mutator: &mut Mutator<K, MemDevice>) -> bool {
-    match mutator.alloc(rt, 1016, 1) {
-        Ok(pointer) => mutator.drop_object(rt, pointer).is_ok(),
-        Err(_) => false,
-    }
-}
-
-// Whether two rounds are made: the first moves what was viewed, the next sends it far.
-fn sends_all_far<K: HeapName, R: Wait>(
-    rt: &R,
-    heap: &Heap<K, MemDevice>,
-    lent: &mut Lent<K, MemDevice>,
-) -> bool {
-    closed!(lent, mutator, seals(rt, mutator))
-        && makes_round(rt, heap)
-        && closed!(lent, mutator, seals(rt, mutator))
-        && makes_round(rt, heap)
-}
-
-/// Which view is made: an odd count while one is, of the pointer of half of it. How often such an object was near and not pinned; and whether no
-/// more are made.
-#[derive(Drop)]
-struct Views {
-    turn: Tally,
-    unpinned: Tally,
-    over: Tally,
-}
+// Two rounds: the first moves what was viewed, the next sends it far. Before each a new object of a whole log is made and dropped, so that the log
+// before it is sealed.
+const SENT_FAR: &[Act] = &[
+    Makes(1016, Ok(OBJECTS)),
+    Drops(OBJECTS, Ok(())),
+    Runs(Eldest, 64, TURNS, End::Over),
+    Makes(1016, Ok(OBJECTS)),
+    Drops(OBJECTS, Ok(())),
+    Runs(Eldest, 64, TURNS, End::Over),
+    Opens,
+];
 
 // The pointer that is viewed at this count.
 fn pointer_at(turn: u64) -> u16 {
@@ -230,45 +156,49 @@ fn pointer_at(turn: u64) -> u16 {
 }
 
 // Views an object, which is far: that is told as long as the call lasts.
-fn views_far<K: HeapName, R: Wait>(rt: &R, scope: &mut Scope<K, MemDevice>, views: &Views) -> bool {
-    let pointer = pointer_at(views.turn.count());
-    if !matches!(scope.try_view(pointer), Ok(Tried::Slow(_))) {
+fn views_far<K: HeapName, R: Wait>(
+    rt: &R,
+    stage: &mut Stage<'_, K, MemDevice>,
+    told: &Told,
+) -> bool {
+    let pointer = pointer_at(told.turn.count());
+    if !stage.does(rt, IsSlow(pointer)) {
         return false;
     }
-    views.turn.raise();
-    let found = scope.view(rt, pointer).is_ok();
-    views.turn.raise();
+    told.turn.raise();
+    let found = stage.does(rt, Brings(pointer, ZEROS));
+    told.turn.raise();
     found
 }
 
-// Views all objects, which are far, in their order.
+// Has all objects sent far, and views them in their order.
 fn views_all_far<K: HeapName, R: Wait>(
     rt: &R,
-    scope: &mut Scope<K, MemDevice>,
-    views: &Views,
+    stage: &mut Stage<'_, K, MemDevice>,
+    told: &Told,
 ) -> bool {
+    if !stage.does_all(rt, SENT_FAR) {
+        return false;
+    }
     for _ in 0..OBJECTS {
-        if !views_far(rt, scope, views) {
+        if !views_far(rt, stage, told) {
             return false;
         }
     }
-    true
+    stage.does(rt, Closes)
 }
 
-// Has all objects sent far and brought back, many times.
+// The same many times.
 fn keeps_viewing<K: HeapName, R: Wait>(
     rt: &R,
-    heap: &Heap<K, MemDevice>,
-    lent: &mut Lent<K, MemDevice>,
-    views: &Views,
+    stage: &mut Stage<'_, K, MemDevice>,
+    told: &Told,
 ) -> bool {
     for _ in 0..PASSES {
-        if views.unpinned.count() > 0 {
+        if told.unpinned.count() > 0 {
             break;
         }
-        if !sends_all_far(rt, heap, lent)
-            || !opened!(lent, scope, views_all_far(rt, scope, views))
-        {
+        if !views_all_far(rt, stage, told) {
             return false;
         }
     }
@@ -276,76 +206,97 @@ fn keeps_viewing<K: HeapName, R: Wait>(
 }
 
 // Counts where an object is near and not pinned while the view that brought it hasn't returned.
-fn watch<K: HeapName>(book: &mut Evacuator<K, MemDevice>, views: &Views, turn: u64) {
-    if is_unpinned(book, pointer_at(turn)) && views.turn.count() == turn {
-        views.unpinned.raise();
+fn watch<K: HeapName, R: Wait>(rt: &R, heap: &Heap<K, MemDevice>, told: &Told) {
+    let turn = told.turn.count();
+    if turn % 2 == 1
+        && is_unpinned(&mut *heap.book(rt), pointer_at(turn))
+        && told.turn.count() == turn
+    {
+        told.unpinned.raise();
     }
 }
 
-// Watches each view, under the lock.
-fn keeps_watching<K: HeapName, R: Wait>(rt: &R, heap: &Heap<K, MemDevice>, views: &Views) {
-    for _ in 0..LOOKS {
-        if views.over.count() > 0 {
-            break;
-        }
-        let turn = views.turn.count();
-        if turn % 2 == 1 {
-            watch(&mut *heap.book(rt), views, turn);
-        }
-    }
-}
-
-// Views, and tells when no more are made.
-fn views_on<K: HeapName, R: Wait>(
+// Makes all, and tells when no more are made.
+fn makes<K: HeapName, R: Wait>(
     rt: &R,
-    heap: &Heap<K, MemDevice>,
-    lent: &mut Lent<K, MemDevice>,
-    views: &Views,
+    stage: &mut Stage<'_, K, MemDevice>,
+    told: &Told,
+    made: Made,
 ) -> bool {
-    let done = keeps_viewing(rt, heap, lent, views);
-    views.over.raise();
+    let done = match made {
+        Made::Rounds => keeps_rounding(rt, stage, told),
+        Made::Views => keeps_viewing(rt, stage, told),
+    };
+    told.over.raise();
     done
 }
 
-// Views beside a thread that keeps taking the lock.
-fn is_pinned_at_once<K: HeapName + Send + Sync, R: Threads + Wait + Sync>(
-    rt: &R,
-    heap: &Heap<K, MemDevice>,
-    lent: &mut Lent<K, MemDevice>,
-) -> bool {
-    let views = Views {
-        turn: Tally::new(),
-        unpinned: Tally::new(),
-        over: Tally::new(),
-    };
-    let told = &views;
-    let (done, _) = join(
-        rt,
-        move || views_on(rt, heap, lent, told),
-        move || keeps_watching(rt, heap, told),
-    );
-    done && views.unpinned.count() == 0
+// Looks, under the lock, until no more are made.
+fn keeps_looking<K: HeapName, R: Wait>(rt: &R, heap: &Heap<K, MemDevice>, told: &Told, made: Made) {
+    for _ in 0..LOOKS {
+        if told.over.count() > 0 {
+            break;
+        }
+        match made {
+            Made::Rounds => look(&mut *heap.book(rt), told),
+            Made::Views => watch(rt, heap, told),
+        }
+    }
 }
 
-fn run_views<K: HeapName + Send + Sync, R: Threads + Wait + Sync>(
+// Both threads.
+fn both<K: HeapName + Send + Sync, R: Threads + Wait + Sync>(
+    rt: &R,
+    heap: &Heap<K, MemDevice>,
+    stage: &mut Stage<'_, K, MemDevice>,
+    told: &Told,
+    made: Made,
+) -> bool {
+    let (done, _) = join(
+        rt,
+        move || makes(rt, stage, told, made),
+        move || keeps_looking(rt, heap, told, made),
+    );
+    match made {
+        Made::Rounds => done && told.has_both(),
+        Made::Views => done && told.unpinned.count() == 0,
+    }
+}
+
+fn play<K: HeapName + Send + Sync, R: Threads + Wait + Sync>(
     rt: &R,
     alloc: Global,
     blank: Blank<MemDevice>,
+    made: Made,
 ) -> bool
     requires { blank.heap ≡ K.heap }
 {
     match Heap::<K, MemDevice>::new(alloc, blank) {
         Ok((heap, mut mutators)) => {
-            let mut lent = Lent::last_of(&mut mutators);
-            makes_all(rt, &mut lent) && is_pinned_at_once(rt, &heap, &mut lent)
+            let (signals, told) = (Signals::new(), Told::new());
+            let mut stage = Stage::new(&heap, &signals, &mut mutators);
+            stage.does(rt, Fills(OBJECTS, 8)) && both(rt, &heap, &mut stage, &told, made)
         }
         Err(_) => false,
     }
 }
 
+// Whether that comes out as it should on a heap of so many logs.
+fn comes_out<R: Threads + Wait + Sync>(rt: &R, alloc: Global, logs: u64, made: Made) -> bool {
+    match Blank::new(alloc, sized(logs, 1), MemDevice::new(alloc)) {
+        Ok(blank) => play::<Brand, R>(rt, alloc, blank, made),
+        Err(_) => false,
+    }
+}
+
+// A log has 64 objects, and a turn deals with 16: so there are moments between two turns.
+#[test]
+fn the_lock_is_let_go_between_turns(rt: HostRuntime) {
+    assert!(rt; comes_out(&rt, rt.alloc(), 8, Made::Rounds));
+}
+
 // What a view has brought near is pinned under the same hold of the lock.
 #[test]
 fn a_fetched_object_is_pinned_before_the_lock_is_let_go(rt: HostRuntime) {
-    let alloc = rt.alloc();
-    assert!(rt; run_views::<Brand, HostRuntime>(&rt, alloc, new_blank(&rt, alloc, sized(16, 1))));
+    assert!(rt; comes_out(&rt, rt.alloc(), 16, Made::Views));
 }

@@ -1,133 +1,67 @@
 //! What a whole round makes of its policy's choice: it runs those logs and no others, asks once, and stands where its turns are over.
 
-ghost use Rattle.std.specs.Prelude.{◌≡◌};
+use crate::tests::acts::Act::*;
+use crate::tests::acts::Choice::Named;
+use crate::tests::acts::{Act, End};
+use crate::tests::looks::sized;
+use crate::tests::stage::plays;
+use far_evac::{LogKind, Phase};
 
-use crate::tests::lend::{Lent, Trial, of_book, try_one_in_memory};
-use crate::tests::looks::{is_far, is_free, is_log, is_near, sized};
-use crate::tests::steps::{gives_up, progress};
-use far_device::MemDevice;
-use far_evac::{LogKind, Phase, RoundEnd};
-use far_heap::{Evacuator, Heap, HeapName};
-use far_log::LogRow;
-use far_policy::{Chosen, Policy, Scripted};
-use far_word::Refused;
-use std::sync::Wait;
+// Three logs have an object each, and all are sealed.
+const THREE_LOGS: &[Act] = &[
+    Makes(1016, Ok(0)),
+    Makes(1016, Ok(1)),
+    Makes(1016, Ok(2)),
+    Makes(8, Ok(3)),
+];
 
-/// Takes one log, and counts how often it is asked.
-#[derive(Clone, Copy)]
-struct Counting {
-    logs: [u8; 1],
-    times: u64,
-}
-
-impl Policy for Counting {
-    ghost gives = { λ old rows most outcome new. Unit {0} };
-
-    fn choose(&mut self, rows: &[LogRow], most: usize, out: &mut Chosen) -> Result<(), Refused> {
-        self.times = self.times.saturating_add(1);
-        let mut script = Scripted { logs: &self.logs };
-        script.choose(rows, most, out)
-    }
-}
-
-// Takes the second log, which isn't the oldest.
-fn second_log() -> Counting {
-    Counting {
-        logs: [1],
-        times: 0,
-    }
-}
-
-// Three logs with an object each, all sealed.
-fn seals_three<K: HeapName, R: Wait>(rt: &R, lent: &mut Lent<K, MemDevice>) -> bool {
-    lent.makes(rt, 1016, 0)
-        && lent.makes(rt, 1016, 1)
-        && lent.makes(rt, 1016, 2)
-        && lent.makes(rt, 8, 3)
-}
-
-// Whether the first and the third log are sealed and full.
-fn has_the_others<K: HeapName>(book: &mut Evacuator<K, MemDevice>) -> bool {
-    is_log(book, 0, LogKind::Sealed, [1024, 0, 0]) && is_log(book, 2, LogKind::Sealed, [1024, 0, 0])
-}
-
-// Whether the round of the second log stands in this phase, and none of it was given back; then it is given up.
-fn stands_in<K: HeapName>(book: &mut Evacuator<K, MemDevice>, phase: Phase) -> bool {
-    book.phase() == phase
-        && is_log(book, 1, LogKind::Chosen, [1024, 0, 0])
-        && has_the_others(book)
-        && gives_up(book)
-}
-
-// Whether a round of so many turns ends in this phase, and stands there.
-fn ends_at<K: HeapName, R: Wait>(
-    rt: &R,
-    heap: &Heap<K, MemDevice>,
-    turns: u64,
-    phase: Phase,
-) -> bool {
-    let mut policy = second_log();
-    heap.run_round(rt, &mut policy, 1, turns) == Ok(RoundEnd::Limit(phase))
-        && policy.times == 1
-        && of_book!(rt, heap, book, stands_in(book, phase))
-}
+// The round of the second log, which isn't the oldest, stands, and none of it was given back; the others are sealed and full. Then it is given up.
+const STANDS: &[Act] = &[
+    Asked(1),
+    Log(1, LogKind::Chosen, [1024, 0, 0]),
+    Log(0, LogKind::Sealed, [1024, 0, 0]),
+    Log(2, LogKind::Sealed, [1024, 0, 0]),
+    GivesUp(Ok(())),
+];
 
 // Rounds whose turns are over before they are.
-struct Limited;
+const NO_TURN: &[Act] = &[
+    Runs(Named(&[1]), 1, 0, End::Limit(Phase::Marking)),
+    In(Phase::Marking),
+];
 
-impl Trial<MemDevice> for Limited {
-    fn holds<K: HeapName, R: Wait>(
-        &self,
-        rt: &R,
-        heap: &Heap<K, MemDevice>,
-        lent: &mut Lent<K, MemDevice>,
-    ) -> bool {
-        seals_three(rt, lent)
-            && ends_at(rt, heap, 0, Phase::Marking)
-            && ends_at(rt, heap, 1, Phase::Waiting)
-            && ends_at(rt, heap, 2, Phase::Evacuating)
-    }
-}
+const ONE_TURN: &[Act] = &[
+    Runs(Named(&[1]), 1, 1, End::Limit(Phase::Waiting)),
+    In(Phase::Waiting),
+];
+
+const TWO_TURNS: &[Act] = &[
+    Runs(Named(&[1]), 1, 2, End::Limit(Phase::Evacuating)),
+    In(Phase::Evacuating),
+];
 
 #[test]
 fn a_limit_leaves_the_round_standing(rt: HostRuntime) {
-    assert!(rt; try_one_in_memory(&rt, rt.alloc(), sized(6, 1), &Limited));
+    let parts = [
+        THREE_LOGS, NO_TURN, STANDS, ONE_TURN, STANDS, TWO_TURNS, STANDS,
+    ];
+    assert!(rt; plays(&rt, rt.alloc(), sized(6, 1), &parts));
 }
 
-// Whether the second log alone was given back, and its object alone went far.
-fn is_the_second_free<K: HeapName>(book: &mut Evacuator<K, MemDevice>) -> bool {
-    book.phase() == Phase::Idle
-        && is_free(book, 1)
-        && has_the_others(book)
-        && is_near(book, 0, (0, 0), false)
-        && is_far(book, 1, false)
-        && is_near(book, 2, (2, 0), false)
-}
-
-// Whether a whole round asks the policy once, and is of one log.
-fn runs_once<K: HeapName, R: Wait>(rt: &R, heap: &Heap<K, MemDevice>) -> bool {
-    let mut policy = second_log();
-    heap.run_round(rt, &mut policy, 1, 9) == Ok(RoundEnd::Done(progress([0, 1, 0, 1], true)))
-        && policy.times == 1
-}
-
-// A whole round of a log that isn't the oldest.
-struct ChosenAlone;
-
-impl Trial<MemDevice> for ChosenAlone {
-    fn holds<K: HeapName, R: Wait>(
-        &self,
-        rt: &R,
-        heap: &Heap<K, MemDevice>,
-        lent: &mut Lent<K, MemDevice>,
-    ) -> bool {
-        seals_three(rt, lent)
-            && runs_once(rt, heap)
-            && of_book!(rt, heap, book, is_the_second_free(book))
-    }
-}
+// A whole round of the second log: that alone is given back, and its object alone goes far.
+const CHOSEN_ALONE: &[Act] = &[
+    Runs(Named(&[1]), 1, 9, End::Done([0, 1, 0, 1])),
+    Asked(1),
+    In(Phase::Idle),
+    Free(1),
+    Log(0, LogKind::Sealed, [1024, 0, 0]),
+    Log(2, LogKind::Sealed, [1024, 0, 0]),
+    Near(0, (0, 0), false),
+    Far(1, false),
+    Near(2, (2, 0), false),
+];
 
 #[test]
 fn a_round_empties_what_its_policy_chose(rt: HostRuntime) {
-    assert!(rt; try_one_in_memory(&rt, rt.alloc(), sized(6, 1), &ChosenAlone));
+    assert!(rt; plays(&rt, rt.alloc(), sized(6, 1), &[THREE_LOGS, CHOSEN_ALONE]));
 }

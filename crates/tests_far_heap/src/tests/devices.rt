@@ -7,14 +7,13 @@ ghost use Rattle.far_device.specs.Following.{Follows, any_key, other_than};
 ghost use Rattle.far_device.specs.Mem.{bytes_at, faults_of};
 ghost use Rattle.far_device.specs.Wrapping.{wrapped_below};
 
-use crate::tests::lend::{Lent, Trial, of_book, opened, try_over};
-use crate::tests::looks::{is_far, is_log, is_near, sized};
-use crate::tests::scopes::{EIGHT, is_slow, reads, reads_slowly, writes};
-use crate::tests::steps::{deals, runs_none, runs_through};
+use crate::tests::acts::Act::*;
+use crate::tests::acts::Choice::{Eldest, Named};
+use crate::tests::acts::{Act, EIGHT, End};
+use crate::tests::looks::sized;
+use crate::tests::stage::plays_over;
 use far_device::{Device, DeviceFault, MemDevice, hand_over};
 use far_evac::{LogKind, Phase};
-use far_heap::{Evacuator, Heap, HeapName, Scope};
-use far_policy::{Oldest, Scripted};
 use far_word::Refused;
 use std::alloc::Global;
 use std::sync::Wait;
@@ -153,78 +152,32 @@ fn faulty_device(alloc: Global, before: u64, fault: Fault) -> Faulty {
     }
 }
 
-// Whether the first object is written, and a round has moved it to log 2, which is sealed then.
-pub(super) fn comes_to_log_two<K: HeapName, D: Device + Drop, R: Wait>(
-    rt: &R,
-    heap: &Heap<K, D>,
-    lent: &mut Lent<K, D>,
-) -> bool {
-    lent.makes(rt, 8, 0)
-        && lent.makes(rt, 1016, 1)
-        && opened!(lent, scope, writes(scope, 0, EIGHT))
-        && runs_through(rt, heap, &mut Oldest, [1, 0, 0, 1])
-        && lent.makes(rt, 1016, 2)
-}
+// The first object is written, and a round has moved it to log 2, which is sealed then.
+pub(super) const IN_LOG_TWO: &[Act] = &[
+    Makes(8, Ok(0)),
+    Makes(1016, Ok(1)),
+    Opens,
+    Writes(0, EIGHT),
+    Closes,
+    Runs(Eldest, 1, 9, End::Done([1, 0, 0, 1])),
+    Makes(1016, Ok(2)),
+];
 
-// Whether a round of log 2 sends its object far.
-pub(super) fn sends_it_far<K: HeapName, D: Device + Drop, R: Wait>(
-    rt: &R,
-    heap: &Heap<K, D>,
-) -> bool {
-    let mut script = Scripted { logs: &[2] };
-    runs_through(rt, heap, &mut script, [0, 1, 0, 1])
-        && of_book!(rt, heap, book, is_far(book, 0, false))
-}
+// A round of log 2 sends its object far.
+pub(super) const SENT_FAR: &[Act] = &[
+    Runs(Named(&[2]), 1, 9, End::Done([0, 1, 0, 1])),
+    Far(0, false),
+];
 
-// Whether a view of it is refused for this reason, and it stays far.
-fn stays_far<K: HeapName, D: Device + Drop, R: Wait>(
-    rt: &R,
-    heap: &Heap<K, D>,
-    scope: &mut Scope<K, D>,
-    why: Refused,
-) -> bool {
-    is_slow(scope, 0)
-        && scope.view(rt, 0) == Err(why)
-        && of_book!(rt, heap, book, is_far(book, 0, true))
-}
+// A view that was refused in this scope is given, with what was written.
+pub(super) const COMES_BACK: &[Act] = &[IsSlow(0), Brings(0, EIGHT), Reads(0, EIGHT)];
 
-// Whether a view of it is refused once, and the same call gives it after that, with what was written.
-pub(super) fn comes_back<K: HeapName, D: Device + Drop, R: Wait>(
-    rt: &R,
-    heap: &Heap<K, D>,
-    scope: &mut Scope<K, D>,
-    why: Refused,
-) -> bool {
-    stays_far(rt, heap, scope, why)
-        && is_slow(scope, 0)
-        && reads_slowly(rt, scope, 0, EIGHT)
-        && reads(scope, 0, EIGHT)
-}
-
-// A view is refused for this reason, once.
-#[derive(Clone, Copy)]
-struct RefusedView {
-    why: Refused,
-}
-
-impl Trial<Faulty> for RefusedView {
-    fn holds<K: HeapName, R: Wait>(
-        &self,
-        rt: &R,
-        heap: &Heap<K, Faulty>,
-        lent: &mut Lent<K, Faulty>,
-    ) -> bool {
-        let why = self.why;
-        comes_to_log_two(rt, heap, lent)
-            && sends_it_far(rt, heap)
-            && opened!(lent, scope, comes_back(rt, heap, scope, why))
-    }
-}
-
-// Whether a view comes out so where the device's read, its second call, has this fault.
+// Whether a view is refused for this reason, once, where the device's read, its second call, has this fault; the object stays far then.
 fn view_comes_out<R: Wait>(rt: &R, alloc: Global, fault: Fault, why: Refused) -> bool {
     let device = faulty_device(alloc, 1, fault);
-    try_over(rt, alloc, sized(4, 1), device, &RefusedView { why })
+    let refused = [Opens, IsSlow(0), ViewsNone(0, why), Far(0, true)];
+    let parts = [IN_LOG_TWO, SENT_FAR, &refused, COMES_BACK];
+    plays_over(rt, alloc, sized(4, 1), device, &parts)
 }
 
 #[test]
@@ -235,73 +188,46 @@ fn a_refused_view_may_be_tried_again(rt: HostRuntime) {
     assert!(rt; view_comes_out(&rt, rt.alloc(), Fault::Short, Refused::Damaged));
 }
 
-// Whether the round stands where the object is to leave, which is there.
-fn stands<K: HeapName>(book: &mut Evacuator<K, Faulty>) -> bool {
-    book.phase() == Phase::Evacuating && is_log(book, 2, LogKind::Chosen, [16, 0, 1008])
-}
+// The round goes on, and the object goes far.
+const GOES_ON: &[Act] = &[
+    Deals(9, Ok([0, 1, 0, 1])),
+    Far(0, false),
+    Opens,
+    Brings(0, EIGHT),
+];
 
-// Whether the round goes on then.
-fn goes_on<K: HeapName>(book: &mut Evacuator<K, Faulty>) -> bool {
-    deals(book, 9, [0, 1, 0, 1], true) && is_far(book, 0, false)
-}
+// The round is given up, and the object stays.
+const IS_GIVEN_UP: &[Act] = &[
+    GivesUp(Ok(())),
+    Near(0, (2, 0), false),
+    Log(2, LogKind::Sealed, [16, 0, 1008]),
+    Opens,
+    Brings(0, EIGHT),
+];
 
-// Whether the round is given up then, and the object stays.
-fn gives_up<K: HeapName>(book: &mut Evacuator<K, Faulty>) -> bool {
-    book.abort().is_ok()
-        && is_near(book, 0, (2, 0), false)
-        && is_log(book, 2, LogKind::Sealed, [16, 0, 1008])
-}
-
-// Whether the round goes on, or is given up.
-fn ends<K: HeapName, R: Wait>(rt: &R, heap: &Heap<K, Faulty>, by_going_on: bool) -> bool {
-    if by_going_on {
-        of_book!(rt, heap, book, goes_on(book))
-    } else {
-        of_book!(rt, heap, book, gives_up(book))
-    }
-}
-
-// A round is refused for this reason, once, and goes on or is given up.
-#[derive(Clone, Copy)]
-struct RefusedRound {
-    why: Refused,
-    goes_on: bool,
-}
-
-impl Trial<Faulty> for RefusedRound {
-    fn holds<K: HeapName, R: Wait>(
-        &self,
-        rt: &R,
-        heap: &Heap<K, Faulty>,
-        lent: &mut Lent<K, Faulty>,
-    ) -> bool {
-        let mut script = Scripted { logs: &[2] };
-        comes_to_log_two(rt, heap, lent)
-            && runs_none(rt, heap, &mut script, self.why)
-            && of_book!(rt, heap, book, stands(book))
-            && ends(rt, heap, self.goes_on)
-            && opened!(lent, scope, reads_slowly(rt, scope, 0, EIGHT))
-    }
-}
-
-// Whether a round comes out so where the device's write, its first call, fails: it goes on, or is given up.
-fn round_comes_out<R: Wait>(rt: &R, alloc: Global, fault: DeviceFault, run: RefusedRound) -> bool {
+// Whether a round is refused for this reason, once, where the device's write, its first call, fails so: the round stands where the object is to leave, which is
+// there, and ends like this.
+fn round_comes_out<R: Wait>(
+    rt: &R,
+    alloc: Global,
+    (fault, why): (DeviceFault, Refused),
+    end: &[Act],
+) -> bool {
     let device = faulty_device(alloc, 0, Fault::Fails(fault));
-    try_over(rt, alloc, sized(4, 1), device, &run)
-}
-
-// Whether both do.
-fn rounds_come_out<R: Wait>(rt: &R, alloc: Global, fault: DeviceFault, why: Refused) -> bool {
-    let on = RefusedRound { why, goes_on: true };
-    let over = RefusedRound {
-        why,
-        goes_on: false,
-    };
-    round_comes_out(rt, alloc, fault, on) && round_comes_out(rt, alloc, fault, over)
+    let stands = [
+        Runs(Named(&[2]), 9, 9, End::Refused(why)),
+        In(Phase::Evacuating),
+        Log(2, LogKind::Chosen, [16, 0, 1008]),
+    ];
+    plays_over(rt, alloc, sized(4, 1), device, &[IN_LOG_TWO, &stands, end])
 }
 
 #[test]
 fn a_refused_round_may_go_on(rt: HostRuntime) {
-    assert!(rt; rounds_come_out(&rt, rt.alloc(), DeviceFault::Device, Refused::Device));
-    assert!(rt; rounds_come_out(&rt, rt.alloc(), DeviceFault::Memory, Refused::Memory));
+    let fails = (DeviceFault::Device, Refused::Device);
+    assert!(rt; round_comes_out(&rt, rt.alloc(), fails, GOES_ON));
+    assert!(rt; round_comes_out(&rt, rt.alloc(), fails, IS_GIVEN_UP));
+    let lacks = (DeviceFault::Memory, Refused::Memory);
+    assert!(rt; round_comes_out(&rt, rt.alloc(), lacks, GOES_ON));
+    assert!(rt; round_comes_out(&rt, rt.alloc(), lacks, IS_GIVEN_UP));
 }

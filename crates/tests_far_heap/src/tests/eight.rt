@@ -2,13 +2,15 @@
 
 ghost use Rattle.std.specs.Prelude.{◌≡◌};
 
-use crate::tests::lend::of_book;
-use crate::tests::looks::{counts, has_objects, is_log, new_blank, sized};
-use crate::tests::scopes::{makes_none, reads_slowly, writes};
-use far_device::{Device, MemDevice};
-use far_evac::{LogKind, RoundEnd};
-use far_heap::{Blank, Evacuator, Heap, HeapName, Mutator, Scope};
-use far_policy::Oldest;
+use crate::tests::acts::Act::*;
+use crate::tests::acts::Choice::Eldest;
+use crate::tests::acts::{Act, End};
+use crate::tests::hands::Hand;
+use crate::tests::looks::sized;
+use crate::tests::stage::{Signals, Stage};
+use far_device::MemDevice;
+use far_evac::LogKind;
+use far_heap::{Blank, Heap, HeapName, Mutator};
 use far_word::Refused;
 use std::alloc::{AllocError, Global};
 use std::marker::Brand;
@@ -16,11 +18,33 @@ use std::sync::Wait;
 use std::thread;
 use std::thread::Threads;
 
-/// A mutator, with its number.
+/// A mutator, with its number; and whether all came out as it should.
 #[derive(Drop)]
 struct Numbered<K: HeapName> {
     number: u16,
-    mutator: Mutator<K, MemDevice>,
+    hand: Hand<K, MemDevice>,
+    well: bool,
+}
+
+/// What each mutator does in a thread of its own: in a scope, with each of so many objects, which have their pointers in their bytes.
+#[derive(Clone, Copy)]
+enum Work {
+    /// An object of this length is made, has its pointer, and is written.
+    Fill(u16),
+    /// An object has what was written, wherever it is.
+    Read,
+    /// A new object is refused for this reason.
+    Refuse(Refused),
+}
+
+/// What all do: each fills its objects, the book comes out like this, each reads its objects, and is refused another.
+#[derive(Clone, Copy)]
+struct Plan {
+    logs: u64,
+    objects: u16,
+    len: u16,
+    book: &'static [Act],
+    why: Refused,
 }
 
 fn with_numbers<K: HeapName>(
@@ -30,250 +54,161 @@ fn with_numbers<K: HeapName>(
     let mut all = Vec::new(alloc);
     let mut number = 0u16;
     for mutator in mutators {
-        all.push(Numbered { number, mutator })?;
+        let (hand, well) = (Hand::Closed(mutator), true);
+        all.push(Numbered { number, hand, well })?;
         number = number.saturating_add(1);
     }
     Ok(all)
 }
 
-// A pointer of a mutator.
-fn pointer_of(number: u16, cell: u16) -> u16 {
-    number.saturating_mul(128).saturating_add(cell)
+// Whether an act comes out as it should.
+fn does<K: HeapName, R: Wait>(rt: &R, hand: &mut Hand<K, MemDevice>, act: Act) -> bool {
+    hand.does(rt, None, act) == Some(true)
 }
 
-// The bytes of an object, which has its pointer in them.
-fn bytes_of(pointer: u16) -> [u8; 8] {
-    (pointer as u64).to_le_bytes()
-}
-
-// Whether so many objects of this length are made, each has its pointer, and is written.
-fn fills<K: HeapName, R: Wait>(
+// Whether the work on one object comes out as it should.
+fn does_one<K: HeapName, R: Wait>(
     rt: &R,
-    scope: &mut Scope<K, MemDevice>,
-    number: u16,
-    objects: u16,
-    len: u16,
+    hand: &mut Hand<K, MemDevice>,
+    pointer: u16,
+    work: Work,
+) -> bool {
+    let bytes = (pointer as u64).to_le_bytes();
+    match work {
+        Work::Fill(len) => {
+            does(rt, hand, Makes(len, Ok(pointer))) && does(rt, hand, Writes(pointer, bytes))
+        }
+        Work::Read => does(rt, hand, Brings(pointer, bytes)),
+        Work::Refuse(why) => does(rt, hand, Makes(8, Err(why))),
+    }
+}
+
+// The same of so many objects of a mutator, by number.
+fn does_each<K: HeapName, R: Wait>(
+    rt: &R,
+    hand: &mut Hand<K, MemDevice>,
+    (number, objects): (u16, u16),
+    work: Work,
 ) -> bool {
     for cell in 0..objects {
-        let pointer = pointer_of(number, cell);
-        if scope.alloc(rt, len, 1) != Ok(pointer) || !writes(scope, pointer, bytes_of(pointer)) {
+        let pointer = number.saturating_mul(128).saturating_add(cell);
+        if !does_one(rt, hand, pointer, work) {
             return false;
         }
     }
     true
 }
 
-// Makes so many objects of this length, and writes each; `None` where one is refused, or has another pointer.
-fn filled<K: HeapName, R: Wait>(
+// The same in a scope of its own.
+fn worked<K: HeapName, R: Wait>(rt: &R, one: Numbered<K>, objects: u16, work: Work) -> Numbered<K> {
+    let Numbered {
+        number,
+        mut hand,
+        well,
+    } = one;
+    let came = does(rt, &mut hand, Opens)
+        && does_each(rt, &mut hand, (number, objects), work)
+        && does(rt, &mut hand, Closes);
+    let well = well && came;
+    Numbered { number, hand, well }
+}
+
+// The same of all, each in a thread of its own.
+fn all_worked<K: HeapName + Send + Sync, R: Threads + Wait + Sync>(
     rt: &R,
-    one: Numbered<K>,
-    objects: u16,
-    len: u16,
-) -> Option<Numbered<K>> {
-    let Numbered { number, mutator } = one;
-    let mut scope = mutator.open();
-    let done = fills(rt, &mut scope, number, objects, len);
-    let mutator = scope.close();
-    if done {
-        Some(Numbered { number, mutator })
-    } else {
-        None
-    }
-}
-
-// Whether each object has what was written, wherever it is.
-fn has_all<K: HeapName, R: Wait>(
-    rt: &R,
-    scope: &mut Scope<K, MemDevice>,
-    number: u16,
-    objects: u16,
-) -> bool {
-    for cell in 0..objects {
-        let pointer = pointer_of(number, cell);
-        if !reads_slowly(rt, scope, pointer, bytes_of(pointer)) {
-            return false;
-        }
-    }
-    true
-}
-
-// Reads each object; `None` where one has something else.
-fn read_back<K: HeapName, R: Wait>(rt: &R, one: Numbered<K>, objects: u16) -> Option<Numbered<K>> {
-    let Numbered { number, mutator } = one;
-    let mut scope = mutator.open();
-    let done = has_all(rt, &mut scope, number, objects);
-    let mutator = scope.close();
-    if done {
-        Some(Numbered { number, mutator })
-    } else {
-        None
-    }
-}
-
-// All of these, if there is each.
-fn each<K: HeapName>(alloc: Global, found: Vec<Option<Numbered<K>>>) -> Option<Vec<Numbered<K>>> {
-    let mut all = Vec::new(alloc);
-    for one in found {
-        let Some(one) = one else {
-            return None;
-        };
-        if all.push(one).is_err() {
-            return None;
-        }
-    }
-    Some(all)
-}
-
-// Each mutator fills its part in a thread of its own.
-fn all_filled<K: HeapName + Send + Sync, R: Threads + Wait + Sync>(
-    rt: &R,
-    alloc: Global,
     all: Vec<Numbered<K>>,
     objects: u16,
-    len: u16,
-) -> Option<Vec<Numbered<K>>> {
-    match thread::map_vec(rt, all, &|one| filled(rt, one, objects, len)) {
-        Ok(found) => each(alloc, found),
-        Err(_) => None,
-    }
+    work: Work,
+) -> Result<Vec<Numbered<K>>, AllocError> {
+    thread::map_vec(rt, all, &|one| worked(rt, one, objects, work))
 }
 
-// Each mutator reads its part in a thread of its own.
-fn all_read<K: HeapName + Send + Sync, R: Threads + Wait + Sync>(
-    rt: &R,
-    alloc: Global,
-    all: Vec<Numbered<K>>,
-    objects: u16,
-) -> Option<Vec<Numbered<K>>> {
-    match thread::map_vec(rt, all, &|one| read_back(rt, one, objects)) {
-        Ok(found) => each(alloc, found),
-        Err(_) => None,
-    }
-}
-
-// Whether a new object of each mutator is refused for this reason.
-fn all_refused<K: HeapName, R: Wait>(rt: &R, all: Vec<Numbered<K>>, why: Refused) -> bool {
+// Whether there are eight, and all came out as it should.
+fn are_well<K: HeapName>(all: &[Numbered<K>]) -> bool {
     for one in all {
-        let Numbered { mut mutator, .. } = one;
-        if !makes_none(rt, &mut mutator, 8, why) {
+        if !one.well {
             return false;
         }
     }
-    true
+    all.len() == 8
 }
 
-// Whether the one log that isn't kept back is full, of eight objects.
-fn is_full<K: HeapName, D: Device + Drop>(book: &mut Evacuator<K, D>) -> bool {
-    is_log(book, 0, LogKind::Open, [1024, 0, 0])
-        && is_log(book, 1, LogKind::Free, [0, 0, 1024])
-        && counts(book, 8, 0, 1024)
-}
-
-// Whether the log is full, and no round begins.
-fn stays_full<K: HeapName, R: Wait>(rt: &R, heap: &Heap<K, MemDevice>) -> bool {
-    of_book!(rt, heap, book, is_full(book))
-        && heap.run_round(rt, &mut Oldest, 2, 9) == Ok(RoundEnd::Nothing)
-}
-
-fn fill_two_logs<K: HeapName + Send + Sync, R: Threads + Wait + Sync>(
+// What each did; or memory was refused.
+fn all_played<K: HeapName + Send + Sync, R: Threads + Wait + Sync>(
     rt: &R,
-    alloc: Global,
-    heap: &Heap<K, MemDevice>,
-    mutators: Vec<Mutator<K, MemDevice>>,
-) -> bool {
-    let Ok(all) = with_numbers(alloc, mutators) else {
-        return false;
-    };
-    let Some(all) = all_filled(rt, alloc, all, 1, 120) else {
-        return false;
-    };
-    let stays = stays_full(rt, heap);
-    match all_read(rt, alloc, all, 1) {
-        Some(all) => all.len() == 8 && all_refused(rt, all, Refused::NoRoom) && stays,
-        None => false,
-    }
+    all: Vec<Numbered<K>>,
+    stage: &mut Stage<'_, K, MemDevice>,
+    plan: &Plan,
+) -> Result<bool, AllocError> {
+    let all = all_worked(rt, all, plan.objects, Work::Fill(plan.len))?;
+    let came = stage.does_all(rt, plan.book);
+    let all = all_worked(rt, all, plan.objects, Work::Read)?;
+    let all = all_worked(rt, all, 1, Work::Refuse(plan.why))?;
+    Ok(came && are_well(&all))
 }
 
-fn in_two_logs<K: HeapName + Send + Sync, R: Threads + Wait + Sync>(
+fn begin<K: HeapName + Send + Sync, R: Threads + Wait + Sync>(
     rt: &R,
     alloc: Global,
     blank: Blank<MemDevice>,
+    plan: &Plan,
 ) -> bool
     requires { blank.heap ≡ K.heap }
 {
-    match Heap::<K, MemDevice>::new(alloc, blank) {
-        Ok((heap, mutators)) => fill_two_logs(rt, alloc, &heap, mutators),
+    let Ok((heap, mutators)) = Heap::<K, MemDevice>::new(alloc, blank) else {
+        return false;
+    };
+    let (signals, mut none) = (Signals::new(), Vec::new(alloc));
+    let mut stage = Stage::new(&heap, &signals, &mut none);
+    match with_numbers(alloc, mutators) {
+        Ok(all) => all_played(rt, all, &mut stage, plan) == Ok(true),
         Err(_) => false,
     }
 }
 
-// Eight mutators fill the one log of two that isn't kept back, and no round begins.
+// Whether a plan comes out as it should.
+fn comes_out<R: Threads + Wait + Sync>(rt: &R, alloc: Global, plan: &Plan) -> bool {
+    match Blank::new(alloc, sized(plan.logs, 8), MemDevice::new(alloc)) {
+        Ok(blank) => begin::<Brand, R>(rt, alloc, blank, plan),
+        Err(_) => false,
+    }
+}
+
+// Eight objects fill the one log of two that isn't kept back, and no round begins.
+const TWO_LOGS: Plan = Plan {
+    logs: 2,
+    objects: 1,
+    len: 120,
+    book: &[
+        Log(0, LogKind::Open, [1024, 0, 0]),
+        Log(1, LogKind::Free, [0, 0, 1024]),
+        Counts(8, 0, 1024),
+        Runs(Eldest, 2, 9, End::Nothing),
+    ],
+    why: Refused::NoRoom,
+};
+
 #[test]
 fn eight_mutators_in_two_logs(rt: HostRuntime) {
-    let alloc = rt.alloc();
-    assert!(rt; in_two_logs::<Brand, _>(&rt, alloc, new_blank(&rt, alloc, sized(2, 8))));
+    assert!(rt; comes_out(&rt, rt.alloc(), &TWO_LOGS));
 }
 
-// Whether a round of all sealed logs moves or sends far all but the sixteen objects of the open log.
-fn empties_all<K: HeapName, R: Wait>(rt: &R, heap: &Heap<K, MemDevice>) -> bool {
-    match heap.run_round(rt, &mut Oldest, 64, 1000) {
-        Ok(RoundEnd::Done(done)) => {
-            done.moved.saturating_add(done.far) == 1008 && done.freed == 56
-        }
-        _ => false,
-    }
-}
+// All pointers are used; a round of all sealed logs moves or sends far all but the sixteen objects of the open log; the next sends objects far,
+// since nobody has viewed them meanwhile, and all are there; each mutator has its objects brought back.
+const MOST_LOGS: Plan = Plan {
+    logs: 64,
+    objects: 128,
+    len: 48,
+    book: &[
+        Counts(1024, 0, 57_344),
+        Runs(Eldest, 64, 1000, End::Emptied(1008, 56)),
+        Runs(Eldest, 64, 1000, End::FarAbove(900)),
+        Has(1024),
+    ],
+    why: Refused::NoPointer,
+};
 
-// Whether the next round sends objects far, since nobody has viewed them meanwhile, and all are there.
-fn sends_far<K: HeapName, R: Wait>(rt: &R, heap: &Heap<K, MemDevice>) -> bool {
-    match heap.run_round(rt, &mut Oldest, 64, 1000) {
-        Ok(RoundEnd::Done(done)) => done.far > 900 && has_objects(&mut *heap.book(rt), 1024),
-        _ => false,
-    }
-}
-
-// Whether all objects are there, two rounds move them and send them far.
-fn goes_round<K: HeapName, R: Wait>(rt: &R, heap: &Heap<K, MemDevice>) -> bool {
-    of_book!(rt, heap, book, counts(book, 1024, 0, 57_344))
-        && empties_all(rt, heap)
-        && sends_far(rt, heap)
-}
-
-fn fill_most_logs<K: HeapName + Send + Sync, R: Threads + Wait + Sync>(
-    rt: &R,
-    alloc: Global,
-    heap: &Heap<K, MemDevice>,
-    mutators: Vec<Mutator<K, MemDevice>>,
-) -> bool {
-    let Ok(all) = with_numbers(alloc, mutators) else {
-        return false;
-    };
-    let Some(all) = all_filled(rt, alloc, all, 128, 48) else {
-        return false;
-    };
-    let goes = goes_round(rt, heap);
-    match all_read(rt, alloc, all, 128) {
-        Some(all) => all.len() == 8 && all_refused(rt, all, Refused::NoPointer) && goes,
-        None => false,
-    }
-}
-
-fn in_most_logs<K: HeapName + Send + Sync, R: Threads + Wait + Sync>(
-    rt: &R,
-    alloc: Global,
-    blank: Blank<MemDevice>,
-) -> bool
-    requires { blank.heap ≡ K.heap }
-{
-    match Heap::<K, MemDevice>::new(alloc, blank) {
-        Ok((heap, mutators)) => fill_most_logs(rt, alloc, &heap, mutators),
-        Err(_) => false,
-    }
-}
-
-// Eight mutators use all their pointers; a round moves all that lies in sealed logs, the next sends it far, and each mutator has it brought back.
 #[test]
 fn eight_mutators_in_most_logs(rt: HostRuntime) {
-    let alloc = rt.alloc();
-    assert!(rt; in_most_logs::<Brand, _>(&rt, alloc, new_blank(&rt, alloc, sized(64, 8))));
+    assert!(rt; comes_out(&rt, rt.alloc(), &MOST_LOGS));
 }

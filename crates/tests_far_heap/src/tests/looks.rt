@@ -1,5 +1,6 @@
 //! Blank heaps, and looks at the book of one.
 
+use crate::tests::acts::Act;
 use far_book::Home;
 use far_core::Shape;
 use far_device::{Device, MemDevice};
@@ -48,8 +49,8 @@ fn home<K: HeapName, D: Device + Drop>(book: &mut Evacuator<K, D>, pointer: u16)
     }
 }
 
-/// Whether an object lies at a word of a log, with no marks but HOT perhaps.
-pub(super) fn is_near<K: HeapName, D: Device + Drop>(
+// Whether an object lies at a word of a log, with no marks but HOT perhaps.
+fn is_near<K: HeapName, D: Device + Drop>(
     book: &mut Evacuator<K, D>,
     pointer: u16,
     place: (u8, u16),
@@ -61,8 +62,8 @@ pub(super) fn is_near<K: HeapName, D: Device + Drop>(
     home(book, pointer) == Some(Home::Near { place, marks })
 }
 
-/// Whether an object is far, with no marks but HOT perhaps.
-pub(super) fn is_far<K: HeapName, D: Device + Drop>(
+// Whether an object is far, with no marks but HOT perhaps.
+fn is_far<K: HeapName, D: Device + Drop>(
     book: &mut Evacuator<K, D>,
     pointer: u16,
     hot: bool,
@@ -104,14 +105,6 @@ pub(super) fn is_unpinned<K: HeapName, D: Device + Drop>(
     }
 }
 
-/// Whether a pointer's cell is free.
-pub(super) fn is_gone<K: HeapName, D: Device + Drop>(
-    book: &mut Evacuator<K, D>,
-    pointer: u16,
-) -> bool {
-    home(book, pointer).is_none()
-}
-
 /// Whether a log is so, and has so many live, dead and unused bytes.
 pub(super) fn is_log<K: HeapName, D: Device + Drop>(
     book: &mut Evacuator<K, D>,
@@ -130,11 +123,6 @@ pub(super) fn is_log<K: HeapName, D: Device + Drop>(
         unused,
     };
     book.log(log) == LogState { kind, row }
-}
-
-/// Whether a log is free.
-pub(super) fn is_free<K: HeapName, D: Device + Drop>(book: &mut Evacuator<K, D>, log: u8) -> bool {
-    is_log(book, log, LogKind::Free, [0, 0, 1024])
 }
 
 /// What a census counts.
@@ -172,21 +160,22 @@ fn bytes(census: &Census) -> (u64, bool) {
     (live, whole)
 }
 
-/// What the census of a heap counts; `None` where memory was refused.
-pub(super) fn census_of<K: HeapName, D: Device + Drop>(
-    book: &mut Evacuator<K, D>,
-) -> Option<Counted> {
+/// What a census counts.
+pub(super) fn count_of(census: &Census) -> Counted {
+    let (near, far) = objects(census);
+    let (live, whole) = bytes(census);
+    Counted {
+        near,
+        far,
+        live,
+        whole,
+    }
+}
+
+// What the census of a book counts; `None` where memory was refused.
+fn census_of<K: HeapName, D: Device + Drop>(book: &mut Evacuator<K, D>) -> Option<Counted> {
     match book.audit() {
-        Ok(census) => {
-            let (near, far) = objects(&census);
-            let (live, whole) = bytes(&census);
-            Some(Counted {
-                near,
-                far,
-                live,
-                whole,
-            })
-        }
+        Ok(census) => Some(count_of(&census)),
         Err(_) => None,
     }
 }
@@ -216,5 +205,21 @@ pub(super) fn has_objects<K: HeapName, D: Device + Drop>(
     match census_of(book) {
         Some(found) => found.whole && found.near.saturating_add(found.far) == objects,
         None => false,
+    }
+}
+
+/// Whether a look at the book shows what it should.
+pub(super) fn shows<K: HeapName, D: Device + Drop>(book: &mut Evacuator<K, D>, act: Act) -> bool {
+    match act {
+        Act::In(phase) => book.phase() == phase,
+        Act::Epoch(epoch) => book.shape().epoch == epoch,
+        Act::Near(pointer, place, hot) => is_near(book, pointer, place, hot),
+        Act::Far(pointer, hot) => is_far(book, pointer, hot),
+        Act::Gone(pointer) => home(book, pointer).is_none(),
+        Act::Log(log, kind, bytes) => is_log(book, log, kind, bytes),
+        Act::Free(log) => is_log(book, log, LogKind::Free, [0, 0, 1024]),
+        Act::Counts(near, far, live) => counts(book, near, far, live),
+        Act::Has(objects) => has_objects(book, objects),
+        _ => false,
     }
 }

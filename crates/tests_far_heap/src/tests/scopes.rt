@@ -1,32 +1,8 @@
 //! What a mutator does in its scope, each with the answer that is wanted.
 
 use far_device::Device;
-use far_heap::{HeapName, Mutator, Scope, Tried, View};
-use far_word::Refused;
+use far_heap::{HeapName, Scope, Tried, View};
 use std::sync::Wait;
-
-/// Eight bytes, no two of them the same.
-pub(super) const EIGHT: [u8; 8] = [1, 2, 3, 4, 5, 6, 7, 8];
-
-/// Whether a new object of this length gets this pointer.
-pub(super) fn makes<K: HeapName, D: Device + Drop, R: Wait>(
-    rt: &R,
-    mutator: &mut Mutator<K, D>,
-    len: u16,
-    pointer: u16,
-) -> bool {
-    mutator.alloc(rt, len, 1) == Ok(pointer)
-}
-
-/// Whether a new object of this length is refused for this reason.
-pub(super) fn makes_none<K: HeapName, D: Device + Drop, R: Wait>(
-    rt: &R,
-    mutator: &mut Mutator<K, D>,
-    len: u16,
-    why: Refused,
-) -> bool {
-    mutator.alloc(rt, len, 1) == Err(why)
-}
 
 /// A view of an object, if one step gives it.
 pub(super) fn viewed<K: HeapName, D: Device + Drop>(

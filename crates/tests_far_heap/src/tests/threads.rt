@@ -2,15 +2,16 @@
 
 ghost use Rattle.std.specs.Prelude.{◌≡◌};
 
-use crate::tests::flag::Tally;
-use crate::tests::lend::{Lent, of_book, opened};
-use crate::tests::looks::{has_objects, is_dropped, new_blank, sized};
-use crate::tests::scopes::{EIGHT, has, reads, viewed, writes};
-use crate::tests::steps::{deals, gives_up, is_clear, marks, selects};
+use crate::tests::acts::Act::*;
+use crate::tests::acts::Choice::Eldest;
+use crate::tests::acts::{Act, EIGHT, End, ZEROS};
+use crate::tests::looks::{is_dropped, new_blank, sized};
+use crate::tests::scopes::{has, reads, viewed, writes};
+use crate::tests::stage::{Signals, Stage};
+use crate::tests::steps::steps;
 use far_device::MemDevice;
-use far_evac::Phase;
+use far_evac::{Phase, Polled};
 use far_heap::{Blank, Evacuator, Heap, HeapName, Mutator, Scope, View};
-use far_policy::Oldest;
 use far_word::Refused;
 use std::alloc::Global;
 use std::marker::Brand;
@@ -18,78 +19,186 @@ use std::sync::Wait;
 use std::thread;
 use std::thread::{Threads, join};
 
-// Has the book until another thread has read: whether that came.
-fn holds_the_book<K: HeapName, R: Wait>(
-    rt: &R,
-    heap: &Heap<K, MemDevice>,
-    held: &Tally,
-    read: &Tally,
-) -> bool {
+/// What another thread does.
+#[derive(Clone, Copy)]
+enum Beside {
+    /// It has the book until its hold is ended.
+    Holds,
+    /// It has the book until the first object is dropped, and does this before its owner gets the lock.
+    HoldsTillDropped(&'static [Act]),
+    /// It gives up the round as soon as that waits.
+    GivesUpWaiting,
+}
+
+/// What two threads do, and before and after that one of them.
+#[derive(Clone, Copy)]
+struct Duet {
+    before: &'static [Act],
+    beside: Beside,
+    acts: &'static [Act],
+    after: &'static [Act],
+}
+
+// Has the book until the hold is ended: whether that came.
+fn holds<K: HeapName, R: Wait>(rt: &R, heap: &Heap<K, MemDevice>, signals: &Signals) -> bool {
     let book = heap.book(rt);
-    held.raise();
-    let came = read.wait_for(1);
-    came && book.shape().logs == 4
+    signals.held.raise();
+    signals.ended.wait_for(1) && book.shape().logs == 4
 }
 
-// Whether a view of an object is written and read.
-fn views<K: HeapName, R: Wait>(rt: &R, scope: &mut Scope<K, MemDevice>) -> bool {
-    match scope.view(rt, 0) {
-        Ok(view) => scope.write(&view, 0, &EIGHT).is_ok() && has(scope, &view, EIGHT),
-        Err(_) => false,
+// Whether each act of the book comes out as it should, under one hold of the lock.
+fn does_all<K: HeapName>(book: &mut Evacuator<K, MemDevice>, acts: &[Act]) -> bool {
+    for act in acts {
+        if !steps(book, *act) {
+            return false;
+        }
     }
+    true
 }
 
-// The same in a scope of its own, while another thread has the book.
-fn reads_beside<K: HeapName, R: Wait>(
-    rt: &R,
-    lent: &mut Lent<K, MemDevice>,
-    held: &Tally,
-    read: &Tally,
-) -> bool {
-    if !held.wait_for(1) {
-        return false;
-    }
-    let done = opened!(lent, scope, views(rt, scope));
-    read.raise();
-    done
-}
-
-// A thread has the book until another has read.
-fn reads_under_book<K: HeapName + Send + Sync, R: Threads + Wait + Sync>(
+// Has the book until the first object is dropped, and goes on before its owner gets the lock.
+fn holds_till_dropped<K: HeapName, R: Wait>(
     rt: &R,
     heap: &Heap<K, MemDevice>,
-    lent: &mut Lent<K, MemDevice>,
+    signals: &Signals,
+    acts: &[Act],
 ) -> bool {
-    let (held, read) = (Tally::new(), Tally::new());
-    let (began, ended) = (&held, &read);
-    let (came, done) = join(
-        rt,
-        move || holds_the_book(rt, heap, began, ended),
-        move || reads_beside(rt, lent, began, ended),
-    );
-    came && done
+    let mut guard = heap.book(rt);
+    let book = &mut *guard;
+    signals.held.raise();
+    for _ in 0..1_000_000_000u64 {
+        if is_dropped(book, 0) {
+            return does_all(book, acts);
+        }
+        thread::yield_now();
+    }
+    false
 }
 
-fn held_book<K: HeapName + Send + Sync, R: Threads + Wait + Sync>(
+// Gives up a round that waits; whether one did.
+fn ends_waiting<K: HeapName>(book: &mut Evacuator<K, MemDevice>) -> bool {
+    book.phase() == Phase::Waiting && book.abort() == Ok(())
+}
+
+// Gives up the round of another thread as soon as it waits.
+fn gives_up_waiting<K: HeapName, R: Wait>(rt: &R, heap: &Heap<K, MemDevice>) -> bool {
+    for _ in 0..1_000_000_000u64 {
+        if ends_waiting(&mut *heap.book(rt)) {
+            return true;
+        }
+        thread::yield_now();
+    }
+    false
+}
+
+// What the other thread does.
+fn plays_beside<K: HeapName, R: Wait>(
+    rt: &R,
+    heap: &Heap<K, MemDevice>,
+    signals: &Signals,
+    beside: Beside,
+) -> bool {
+    match beside {
+        Beside::Holds => holds(rt, heap, signals),
+        Beside::HoldsTillDropped(acts) => holds_till_dropped(rt, heap, signals, acts),
+        Beside::GivesUpWaiting => gives_up_waiting(rt, heap),
+    }
+}
+
+// Both threads.
+fn both<K: HeapName + Send + Sync, R: Threads + Wait + Sync>(
+    rt: &R,
+    heap: &Heap<K, MemDevice>,
+    signals: &Signals,
+    stage: &mut Stage<'_, K, MemDevice>,
+    duet: &Duet,
+) -> bool {
+    let (there, here) = join(
+        rt,
+        move || plays_beside(rt, heap, signals, duet.beside),
+        move || stage.does_all(rt, duet.acts),
+    );
+    there && here
+}
+
+fn play<K: HeapName + Send + Sync, R: Threads + Wait + Sync>(
     rt: &R,
     alloc: Global,
     blank: Blank<MemDevice>,
+    duet: &Duet,
 ) -> bool
     requires { blank.heap ≡ K.heap }
 {
     match Heap::<K, MemDevice>::new(alloc, blank) {
         Ok((heap, mut mutators)) => {
-            let mut lent = Lent::last_of(&mut mutators);
-            lent.makes(rt, 8, 0) && reads_under_book(rt, &heap, &mut lent)
+            let signals = Signals::new();
+            let mut stage = Stage::new(&heap, &signals, &mut mutators);
+            stage.does_all(rt, duet.before)
+                && both(rt, &heap, &signals, &mut stage, duet)
+                && stage.does_all(rt, duet.after)
         }
         Err(_) => false,
     }
 }
 
+// Whether a duet comes out as it should on a heap of four logs and one mutator.
+fn comes_out<R: Threads + Wait + Sync>(rt: &R, alloc: Global, duet: &Duet) -> bool {
+    match Blank::new(alloc, sized(4, 1), MemDevice::new(alloc)) {
+        Ok(blank) => play::<Brand, R>(rt, alloc, blank, duet),
+        Err(_) => false,
+    }
+}
+
+// An object is viewed, written and read while another thread has the book.
+const HELD_BOOK: Duet = Duet {
+    before: &[Makes(8, Ok(0))],
+    beside: Beside::Holds,
+    acts: &[
+        AwaitsHold,
+        Opens,
+        KeepsSlowly(0),
+        WritesAt(0, &EIGHT),
+        ReadsAt(0, &EIGHT),
+        Closes,
+        EndsHold,
+    ],
+    after: &[],
+};
+
 #[test]
 fn read_under_held_book(rt: HostRuntime) {
-    let alloc = rt.alloc();
-    assert!(rt; held_book::<Brand, _>(&rt, alloc, new_blank(&rt, alloc, sized(4, 1))));
+    assert!(rt; comes_out(&rt, rt.alloc(), &HELD_BOOK));
+}
+
+// A round may retire an object between its owner's mark and the lock; another is made at its pointer then.
+const DROPPED_BESIDE: Duet = Duet {
+    before: &[Makes(8, Ok(0)), Makes(1016, Ok(1))],
+    beside: Beside::HoldsTillDropped(&[
+        Selects(Eldest, 1, Ok(&[0])),
+        Marks(9, Ok((1, Some(1)))),
+        Polls(Ok(Polled::Clear)),
+        Deals(9, Ok([0, 0, 1, 1])),
+    ]),
+    acts: &[AwaitsHold, Drops(0, Ok(()))],
+    after: &[Has(1), Makes(8, Ok(0))],
+};
+
+#[test]
+fn a_round_may_retire_what_is_dropped(rt: HostRuntime) {
+    assert!(rt; comes_out(&rt, rt.alloc(), &DROPPED_BESIDE));
+}
+
+// A round that waits for a scope, which stays open, is refused once another thread has ended it.
+const ENDED_ROUND: Duet = Duet {
+    before: &[Makes(8, Ok(0)), Makes(1016, Ok(1)), Opens],
+    beside: Beside::GivesUpWaiting,
+    acts: &[Runs(Eldest, 1, 1_000_000_000, End::Refused(Refused::Phase))],
+    after: &[Reads(0, ZEROS)],
+};
+
+#[test]
+fn a_round_may_be_ended_by_another(rt: HostRuntime) {
+    assert!(rt; comes_out(&rt, rt.alloc(), &ENDED_ROUND));
 }
 
 // Reads by a view that another thread made, and closes the scope.
@@ -104,39 +213,28 @@ fn ends_scope<K: HeapName>(
     }
 }
 
-// A view of an object that is written.
-fn written<K: HeapName>(scope: &mut Scope<K, MemDevice>) -> Option<View> {
-    if writes(scope, 0, EIGHT) {
+// A view of a new object that is written.
+fn written<K: HeapName, R: Wait>(rt: &R, scope: &mut Scope<K, MemDevice>) -> Option<View> {
+    if scope.alloc(rt, 8, 1) == Ok(0) && writes(scope, 0, EIGHT) {
         viewed(scope, 0)
     } else {
         None
     }
 }
 
-// A scope with a view goes to another thread, and its mutator comes back.
+// A scope with a view goes to another thread, and its mutator comes back and reads.
 fn moves_there<K: HeapName + Send + Sync + 'static, R: Threads + Wait>(
     rt: &R,
     mut scope: Scope<K, MemDevice>,
-) -> Option<Mutator<K, MemDevice>> {
-    match written(&mut scope) {
-        Some(view) => match thread::spawn(rt, move || ends_scope(scope, view)) {
-            Ok(there) => there.join(rt),
-            Err(_) => None,
-        },
-        None => None,
-    }
-}
-
-// The same of a new scope, and then one more reads.
-fn moves_and_reads<K: HeapName + Send + Sync + 'static, R: Threads + Wait>(
-    rt: &R,
-    lent: &mut Lent<K, MemDevice>,
 ) -> bool {
-    match lent.take() {
-        Some(mutator) => match moves_there(rt, mutator.open()) {
-            Some(back) => reads(&mut back.open(), 0, EIGHT),
-            None => false,
-        },
+    let Some(view) = written(rt, &mut scope) else {
+        return false;
+    };
+    let Ok(there) = thread::spawn(rt, move || ends_scope(scope, view)) else {
+        return false;
+    };
+    match there.join(rt) {
+        Some(back) => reads(&mut back.open(), 0, EIGHT),
         None => false,
     }
 }
@@ -149,10 +247,10 @@ fn moved_scope<K: HeapName + Send + Sync + 'static, R: Threads + Wait>(
     requires { blank.heap ≡ K.heap }
 {
     match Heap::<K, MemDevice>::new(alloc, blank) {
-        Ok((_heap, mut mutators)) => {
-            let mut lent = Lent::last_of(&mut mutators);
-            lent.makes(rt, 8, 0) && moves_and_reads(rt, &mut lent)
-        }
+        Ok((_heap, mut mutators)) => match mutators.pop() {
+            Some(mutator) => moves_there(rt, mutator.open()),
+            None => false,
+        },
         Err(_) => false,
     }
 }
@@ -161,153 +259,4 @@ fn moved_scope<K: HeapName + Send + Sync + 'static, R: Threads + Wait>(
 fn moves_between_threads(rt: HostRuntime) {
     let alloc = rt.alloc();
     assert!(rt; moved_scope::<Brand, _>(&rt, alloc, new_blank(&rt, alloc, sized(4, 1))));
-}
-
-// Whether a round retires the one object of the first log, which is dropped.
-fn retires<K: HeapName>(book: &mut Evacuator<K, MemDevice>) -> bool {
-    selects(book, &mut Oldest, 1, &[0])
-        && marks(book, 9, 1, Some(1))
-        && is_clear(book)
-        && deals(book, 9, [0, 0, 1, 1], true)
-}
-
-// Has the book until an object is dropped, and makes a round before its owner gets the lock.
-fn retires_first<K: HeapName, R: Wait>(rt: &R, heap: &Heap<K, MemDevice>, held: &Tally) -> bool {
-    let mut guard = heap.book(rt);
-    let book = &mut *guard;
-    held.raise();
-    for _ in 0..1_000_000_000u64 {
-        if is_dropped(book, 0) {
-            return retires(book);
-        }
-        thread::yield_now();
-    }
-    false
-}
-
-// Drops an object while another thread has the book.
-fn drops_beside<K: HeapName, R: Wait>(rt: &R, lent: &mut Lent<K, MemDevice>, held: &Tally) -> bool {
-    held.wait_for(1) && lent.drops(rt, 0)
-}
-
-// A round retires what its owner drops beside it.
-fn retires_beside<K: HeapName + Send + Sync, R: Threads + Wait + Sync>(
-    rt: &R,
-    heap: &Heap<K, MemDevice>,
-    lent: &mut Lent<K, MemDevice>,
-) -> bool {
-    let held = Tally::new();
-    let began = &held;
-    let (retired, dropped) = join(
-        rt,
-        move || retires_first(rt, heap, began),
-        move || drops_beside(rt, lent, began),
-    );
-    retired && dropped
-}
-
-// Two objects, of which the first is dropped, and another made at its pointer.
-fn drops_and_makes<K: HeapName + Send + Sync, R: Threads + Wait + Sync>(
-    rt: &R,
-    heap: &Heap<K, MemDevice>,
-    lent: &mut Lent<K, MemDevice>,
-) -> bool {
-    lent.makes(rt, 8, 0)
-        && lent.makes(rt, 1016, 1)
-        && retires_beside(rt, heap, lent)
-        && of_book!(rt, heap, book, has_objects(book, 1))
-        && lent.makes(rt, 8, 0)
-}
-
-fn dropped_beside<K: HeapName + Send + Sync, R: Threads + Wait + Sync>(
-    rt: &R,
-    alloc: Global,
-    blank: Blank<MemDevice>,
-) -> bool
-    requires { blank.heap ≡ K.heap }
-{
-    match Heap::<K, MemDevice>::new(alloc, blank) {
-        Ok((heap, mut mutators)) => {
-            let mut lent = Lent::last_of(&mut mutators);
-            drops_and_makes(rt, &heap, &mut lent)
-        }
-        Err(_) => false,
-    }
-}
-
-// A round may retire an object between its owner's mark and the lock.
-#[test]
-fn a_round_may_retire_what_is_dropped(rt: HostRuntime) {
-    let alloc = rt.alloc();
-    assert!(rt; dropped_beside::<Brand, _>(&rt, alloc, new_blank(&rt, alloc, sized(4, 1))));
-}
-
-// Gives up a round that waits; whether one did.
-fn ends_waiting<K: HeapName>(book: &mut Evacuator<K, MemDevice>) -> bool {
-    book.phase() == Phase::Waiting && gives_up(book)
-}
-
-// Gives up the round of another thread as soon as it waits.
-fn ends_other<K: HeapName, R: Wait>(rt: &R, heap: &Heap<K, MemDevice>) -> bool {
-    for _ in 0..1_000_000_000u64 {
-        if ends_waiting(&mut *heap.book(rt)) {
-            return true;
-        }
-        thread::yield_now();
-    }
-    false
-}
-
-// Whether a round is refused, since another thread has ended it.
-fn is_ended<K: HeapName, R: Wait>(rt: &R, heap: &Heap<K, MemDevice>) -> bool {
-    match heap.run_round(rt, &mut Oldest, 1, 1_000_000_000) {
-        Ok(_) => false,
-        Err(fault) => fault.why == Refused::Phase && fault.so_far.freed == 0,
-    }
-}
-
-// A round that waits for an open scope is ended by another thread.
-fn ends_beside<K: HeapName + Send + Sync, R: Threads + Wait + Sync>(
-    rt: &R,
-    heap: &Heap<K, MemDevice>,
-) -> bool {
-    let (refused, gave_up) = join(rt, move || is_ended(rt, heap), move || ends_other(rt, heap));
-    refused && gave_up
-}
-
-// Two objects, and a round beside a scope that stays open.
-fn ends_and_reads<K: HeapName + Send + Sync, R: Threads + Wait + Sync>(
-    rt: &R,
-    heap: &Heap<K, MemDevice>,
-    lent: &mut Lent<K, MemDevice>,
-) -> bool {
-    lent.makes(rt, 8, 0)
-        && lent.makes(rt, 1016, 1)
-        && opened!(
-            lent,
-            scope,
-            ends_beside(rt, heap) && reads(scope, 0, [0; 8])
-        )
-}
-
-fn ended_round<K: HeapName + Send + Sync, R: Threads + Wait + Sync>(
-    rt: &R,
-    alloc: Global,
-    blank: Blank<MemDevice>,
-) -> bool
-    requires { blank.heap ≡ K.heap }
-{
-    match Heap::<K, MemDevice>::new(alloc, blank) {
-        Ok((heap, mut mutators)) => {
-            let mut lent = Lent::last_of(&mut mutators);
-            ends_and_reads(rt, &heap, &mut lent)
-        }
-        Err(_) => false,
-    }
-}
-
-#[test]
-fn a_round_may_be_ended_by_another(rt: HostRuntime) {
-    let alloc = rt.alloc();
-    assert!(rt; ended_round::<Brand, _>(&rt, alloc, new_blank(&rt, alloc, sized(4, 1))));
 }

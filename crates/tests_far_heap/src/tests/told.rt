@@ -1,71 +1,37 @@
 //! What a mutator and its scope tell of objects without a step: how long each is, and of which data structure.
 
-use crate::tests::lend::{Lent, Trial, closed, opened, try_one_in_memory};
+use crate::tests::acts::Act;
+use crate::tests::acts::Act::*;
 use crate::tests::looks::sized;
-use far_device::MemDevice;
-use far_heap::{Heap, HeapName, Mutator, Scope};
-use std::sync::Wait;
+use crate::tests::stage::plays;
 
-// Whether a mutator tells this of a pointer.
-fn tells<K: HeapName>(
-    mutator: &Mutator<K, MemDevice>,
-    pointer: u16,
-    len: Option<u16>,
-    ds: Option<u8>,
-) -> bool {
-    mutator.len_of(pointer) == len && mutator.structure_of(pointer) == ds
-}
+// Two new objects of different lengths and data structures are told as they were made.
+const TOLD_OBJECTS: &[Act] = &[
+    MakesOf(24, 255, 0),
+    MakesOf(1016, 0, 1),
+    Tells(0, Some(24), Some(255)),
+    Tells(1, Some(1016), Some(0)),
+    Tells(2, None, None),
+    Tells(128, None, None),
+    Tells(u16::MAX, None, None),
+];
 
-// Whether a scope tells this of a pointer.
-fn tells_in_scope<K: HeapName>(
-    scope: &Scope<K, MemDevice>,
-    pointer: u16,
-    len: Option<u16>,
-    ds: Option<u8>,
-) -> bool {
-    scope.len_of(pointer) == len && scope.structure_of(pointer) == ds
-}
-
-// Whether two new objects of different lengths and data structures are told as they were made.
-fn tells_two<K: HeapName, R: Wait>(rt: &R, mutator: &mut Mutator<K, MemDevice>) -> bool {
-    mutator.alloc(rt, 24, 255) == Ok(0)
-        && mutator.alloc(rt, 1016, 0) == Ok(1)
-        && tells(mutator, 0, Some(24), Some(255))
-        && tells(mutator, 1, Some(1016), Some(0))
-        && tells(mutator, 2, None, None)
-        && tells(mutator, 128, None, None)
-        && tells(mutator, u16::MAX, None, None)
-}
-
-// Whether a scope tells the same, and another object at the pointer of one that it dropped.
-fn tells_the_next<K: HeapName, R: Wait>(rt: &R, scope: &mut Scope<K, MemDevice>) -> bool {
-    tells_in_scope(scope, 0, Some(24), Some(255))
-        && tells_in_scope(scope, 1, Some(1016), Some(0))
-        && tells_in_scope(scope, 128, None, None)
-        && scope.drop_object(rt, 0).is_ok()
-        && tells_in_scope(scope, 0, None, None)
-        && scope.alloc(rt, 8, 7) == Ok(0)
-        && tells_in_scope(scope, 0, Some(8), Some(7))
-}
-
-// Two objects, of which the first is dropped, and another made at its pointer.
-struct ToldObjects;
-
-impl Trial<MemDevice> for ToldObjects {
-    fn holds<K: HeapName, R: Wait>(
-        &self,
-        rt: &R,
-        _heap: &Heap<K, MemDevice>,
-        lent: &mut Lent<K, MemDevice>,
-    ) -> bool {
-        closed!(lent, mutator, tells_two(rt, mutator))
-            && opened!(lent, scope, tells_the_next(rt, scope))
-            && closed!(lent, mutator, tells(mutator, 0, Some(8), Some(7)))
-    }
-}
+// A scope tells the same, and another object at the pointer of one that it dropped; the mutator tells that too.
+const TOLD_IN_SCOPE: &[Act] = &[
+    Opens,
+    Tells(0, Some(24), Some(255)),
+    Tells(1, Some(1016), Some(0)),
+    Tells(128, None, None),
+    Drops(0, Ok(())),
+    Tells(0, None, None),
+    MakesOf(8, 7, 0),
+    Tells(0, Some(8), Some(7)),
+    Closes,
+    Tells(0, Some(8), Some(7)),
+];
 
 // A mutator tells the length and the data structure of what it uses, and so does its scope.
 #[test]
 fn an_object_is_told_as_it_was_made(rt: HostRuntime) {
-    assert!(rt; try_one_in_memory(&rt, rt.alloc(), sized(4, 1), &ToldObjects));
+    assert!(rt; plays(&rt, rt.alloc(), sized(4, 1), &[TOLD_OBJECTS, TOLD_IN_SCOPE]));
 }

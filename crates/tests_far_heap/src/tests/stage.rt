@@ -1,0 +1,240 @@
+//! A heap on which a test is played, act by act.
+
+ghost use Rattle.std.specs.Prelude.{◌≡◌};
+
+use crate::tests::acts::{Act, Choice, End};
+use crate::tests::flag::Tally;
+use crate::tests::hands::Hand;
+use crate::tests::looks::{Counted, count_of};
+use crate::tests::steps::{By, comes_to, steps};
+use far_core::Shape;
+use far_device::{Device, MemDevice};
+use far_evac::{Census, Phase};
+use far_heap::{Blank, Evacuator, Heap, HeapName, Mutator, View};
+use std::alloc::Global;
+use std::marker::Brand;
+use std::mem;
+use std::sync::Wait;
+
+/// How a book stands: its round, and what lives where.
+#[derive(Drop)]
+struct Stand {
+    phase: Phase,
+    shape: Shape,
+    census: Census,
+}
+
+// How a book stands; `None` where memory was refused.
+fn stand_of<K: HeapName, D: Device + Drop>(book: &mut Evacuator<K, D>) -> Option<Stand> {
+    let (phase, shape) = (book.phase(), book.shape());
+    match book.audit() {
+        Ok(census) => Some(Stand {
+            phase,
+            shape,
+            census,
+        }),
+        Err(_) => None,
+    }
+}
+
+// Whether two are the same.
+fn are_same(before: &Stand, after: &Stand) -> bool {
+    before.phase == after.phase
+        && before.shape == after.shape
+        && before.census.homes.as_slice() == after.census.homes.as_slice()
+        && before.census.logs.as_slice() == after.census.logs.as_slice()
+}
+
+// Whether one object more is near, of so many bytes with its header, and the far ones are as they were.
+fn has_one_more(before: Counted, after: Counted, size: u64) -> bool {
+    after.near == before.near.saturating_add(1)
+        && after.far == before.far
+        && after.live == before.live.saturating_add(size)
+        && after.whole
+}
+
+/// What two threads tell each other: that one has the book, and that it need not have it any more.
+#[derive(Drop)]
+pub(super) struct Signals {
+    pub held: Tally,
+    pub ended: Tally,
+}
+
+impl Signals {
+    pub(super) fn new() -> Signals {
+        Signals {
+            held: Tally::new(),
+            ended: Tally::new(),
+        }
+    }
+}
+
+/// A heap and its mutators, two at most, of which one is at hand; and what was kept of them.
+#[derive(Drop)]
+pub(super) struct Stage<'h, K: HeapName, D: Device + Drop> {
+    heap: &'h Heap<K, D>,
+    signals: &'h Signals,
+    at_hand: Hand<K, D>,
+    other: Hand<K, D>,
+    view: Option<View>,
+    // How often the last whole round asked its policy.
+    asked: u64,
+    noted: Option<Stand>,
+}
+
+impl<'h, K: HeapName, D: Device + Drop> Stage<'h, K, D> {
+    /// One whose first mutator is at hand.
+    pub(super) fn new(
+        heap: &'h Heap<K, D>,
+        signals: &'h Signals,
+        mutators: &mut Vec<Mutator<K, D>>,
+    ) -> Stage<'h, K, D> {
+        Stage {
+            heap,
+            signals,
+            at_hand: Hand::first_of(mutators),
+            other: Hand::first_of(mutators),
+            view: None,
+            asked: 0,
+            noted: None,
+        }
+    }
+
+    // Ends the other thread's hold of the book.
+    fn ends_hold(&self) -> bool {
+        self.signals.ended.raise();
+        true
+    }
+
+    // The other mutator is at hand from now on.
+    fn turns(&mut self) -> bool {
+        let first = mem::replace(&mut self.at_hand, Hand::Gone);
+        self.at_hand = mem::replace(&mut self.other, first);
+        true
+    }
+
+    // Keeps a view; whether there is one.
+    fn keeps<R: Wait>(&mut self, rt: &R, pointer: u16, slowly: bool) -> bool {
+        self.view = self.at_hand.views(rt, pointer, slowly);
+        self.view.is_some()
+    }
+
+    // Whether a whole round ends so.
+    fn runs<R: Wait>(&mut self, rt: &R, choice: Choice, most: usize, turns: u64, end: End) -> bool {
+        let mut policy = By::new(choice);
+        let came = self.heap.run_round(rt, &mut policy, most, turns);
+        self.asked = policy.times();
+        comes_to(came, end)
+    }
+
+    // Notes how the book stands.
+    fn notes<R: Wait>(&mut self, rt: &R) -> bool {
+        self.noted = stand_of(&mut *self.heap.book(rt));
+        self.noted.is_some()
+    }
+
+    // Whether the book stands as it was noted; or, with one object more of so many bytes.
+    fn is_as_noted<R: Wait>(&mut self, rt: &R, more: Option<u64>) -> bool {
+        let found = stand_of(&mut *self.heap.book(rt));
+        match (&self.noted, &found, more) {
+            (Some(before), Some(after), None) => are_same(before, after),
+            (Some(before), Some(after), Some(size)) => {
+                has_one_more(count_of(&before.census), count_of(&after.census), size)
+            }
+            _ => false,
+        }
+    }
+
+    /// Whether an act comes out as it should.
+    pub(super) fn does<R: Wait>(&mut self, rt: &R, act: Act) -> bool {
+        match act {
+            Act::AwaitsHold => self.signals.held.wait_for(1),
+            Act::EndsHold => self.ends_hold(),
+            Act::Turns => self.turns(),
+            Act::Keeps(pointer) => self.keeps(rt, pointer, false),
+            Act::KeepsSlowly(pointer) => self.keeps(rt, pointer, true),
+            Act::Runs(choice, most, turns, end) => self.runs(rt, choice, most, turns, end),
+            Act::Asked(times) => self.asked == times,
+            Act::Notes => self.notes(rt),
+            Act::AsNoted => self.is_as_noted(rt, None),
+            Act::OneMore(size) => self.is_as_noted(rt, Some(size)),
+            _ => self.does_at_hand(rt, act),
+        }
+    }
+
+    // The same of the mutator at hand, or of the book.
+    fn does_at_hand<R: Wait>(&mut self, rt: &R, act: Act) -> bool {
+        let view = self.view;
+        match self.at_hand.does(rt, view, act) {
+            Some(done) => done,
+            None => steps(&mut *self.heap.book(rt), act),
+        }
+    }
+
+    /// The same of each act.
+    pub(super) fn does_all<R: Wait>(&mut self, rt: &R, acts: &[Act]) -> bool {
+        for act in acts {
+            if !self.does(rt, *act) {
+                return false;
+            }
+        }
+        true
+    }
+
+    // The same of each part.
+    fn plays<R: Wait>(&mut self, rt: &R, parts: &[&[Act]]) -> bool {
+        for part in parts {
+            if !self.does_all(rt, part) {
+                return false;
+            }
+        }
+        true
+    }
+}
+
+fn play_on<K: HeapName, D: Device + Drop, R: Wait>(
+    rt: &R,
+    alloc: Global,
+    blank: Blank<D>,
+    parts: &[&[Act]],
+) -> bool
+    requires { blank.heap ≡ K.heap }
+{
+    match Heap::<K, D>::new(alloc, blank) {
+        Ok((heap, mut mutators)) => {
+            let signals = Signals::new();
+            let mut stage = Stage::new(&heap, &signals, &mut mutators);
+            stage.plays(rt, parts)
+        }
+        Err(_) => false,
+    }
+}
+
+// Whether each act comes out as it should on a heap of these parts.
+fn play_named<D: Device + Drop, R: Wait>(
+    rt: &R,
+    alloc: Global,
+    blank: Blank<D>,
+    parts: &[&[Act]],
+) -> bool {
+    play_on::<Brand, D, R>(rt, alloc, blank, parts)
+}
+
+/// Whether each act, part by part, comes out as it should on a new heap of this shape over this device. The first mutator is at hand.
+pub(super) fn plays_over<D: Device + Drop, R: Wait>(
+    rt: &R,
+    alloc: Global,
+    shape: Shape,
+    device: D,
+    parts: &[&[Act]],
+) -> bool {
+    match Blank::new(alloc, shape, device) {
+        Ok(blank) => play_named(rt, alloc, blank, parts),
+        Err(_) => false,
+    }
+}
+
+/// The same over a device in memory.
+pub(super) fn plays<R: Wait>(rt: &R, alloc: Global, shape: Shape, parts: &[&[Act]]) -> bool {
+    plays_over(rt, alloc, shape, MemDevice::new(alloc), parts)
+}
