@@ -133,6 +133,13 @@ pub(crate) struct Asks<const DEED: u8> {
     ghost idle: { IsIdle owner.seat.view owner.pointer },
 }
 
+// Whether a naming leaves an object where it lies.
+fn is_stay(old: u64, new: u64) -> bool
+    ensures { result ≡ true → IsStay old new }
+{
+    matches!(Naming::of(old, new), Some(Naming::Stays))
+}
+
 impl<const DEED: u8> Asks<DEED> {
     // Whether the object may stay where it lies. It is a call, so that the turns with and without a naming have it alike.
     #[inline(never)]
@@ -141,11 +148,10 @@ impl<const DEED: u8> Asks<DEED> {
         ensures stays { result ≡ true → IsStay self.new.found self.new.plain }
     {
         self.owner.seat.ask(self.owner.pointer, Mark::Moved);
-        let old = self.hand.see();
-        let new = without_owner_marks(old);
-        self.found = old;
-        self.plain = new;
-        matches!(Naming::of(old, new), Some(Naming::Stays))
+        let found = self.hand.see();
+        self.found = found;
+        self.plain = without_owner_marks(found);
+        is_stay(self.found, self.plain)
     }
 }
 

@@ -64,35 +64,41 @@ enum Step {
     Pin,
 }
 
+// Each work by its name.
+const WORKS: [(&str, Work); 24] = [
+    ("share", Work::Seat(Call::Share)),
+    ("read_epoch", Work::Seat(Call::ReadEpoch)),
+    ("scope", Work::Seat(Call::Scope)),
+    ("pin", Work::Seat(Call::Pin)),
+    ("place", Work::Seat(Call::Place)),
+    ("load", Work::Seat(Call::Load)),
+    ("store", Work::Seat(Call::Store)),
+    ("see", Work::Book(Deed::See)),
+    ("mark", Work::Book(Deed::Mark)),
+    ("clear", Work::Book(Deed::Clear)),
+    ("get", Work::Book(Deed::Get)),
+    ("put", Work::Book(Deed::Put)),
+    ("ask", Work::Book(Deed::Ask)),
+    ("name", Work::Book(Deed::Name)),
+    ("advance", Work::Book(Deed::Advance)),
+    ("look", Work::Book(Deed::Look)),
+    ("empty", Work::Bare(Step::Empty)),
+    ("bare_load", Work::Bare(Step::Load)),
+    ("bare_store", Work::Bare(Step::Store)),
+    ("bare_or", Work::Bare(Step::Or)),
+    ("bare_and", Work::Bare(Step::And)),
+    ("bare_exchange", Work::Bare(Step::Exchange)),
+    ("bare_scope", Work::Bare(Step::Scope)),
+    ("bare_pin", Work::Bare(Step::Pin)),
+];
+
 fn named(name: &str) -> Option<Work> {
-    let work = match name {
-        "share" => Work::Seat(Call::Share),
-        "read_epoch" => Work::Seat(Call::ReadEpoch),
-        "scope" => Work::Seat(Call::Scope),
-        "pin" => Work::Seat(Call::Pin),
-        "place" => Work::Seat(Call::Place),
-        "load" => Work::Seat(Call::Load),
-        "store" => Work::Seat(Call::Store),
-        "see" => Work::Book(Deed::See),
-        "mark" => Work::Book(Deed::Mark),
-        "clear" => Work::Book(Deed::Clear),
-        "get" => Work::Book(Deed::Get),
-        "put" => Work::Book(Deed::Put),
-        "ask" => Work::Book(Deed::Ask),
-        "name" => Work::Book(Deed::Name),
-        "advance" => Work::Book(Deed::Advance),
-        "look" => Work::Book(Deed::Look),
-        "empty" => Work::Bare(Step::Empty),
-        "bare_load" => Work::Bare(Step::Load),
-        "bare_store" => Work::Bare(Step::Store),
-        "bare_or" => Work::Bare(Step::Or),
-        "bare_and" => Work::Bare(Step::And),
-        "bare_exchange" => Work::Bare(Step::Exchange),
-        "bare_scope" => Work::Bare(Step::Scope),
-        "bare_pin" => Work::Bare(Step::Pin),
-        _ => return None,
-    };
-    Some(work)
+    for (word, work) in WORKS {
+        if word == name {
+            return Some(work);
+        }
+    }
+    None
 }
 
 // How often, of which pointer of owner 0, and at which word.
