@@ -46,137 +46,89 @@ impl Bare {
         table.shared.load::<Nothing>(seat, word as usize)
     }
 
-    fn store(&mut self, word: u16, new: u64)
+    fn store(&mut self, word: u16, new: u64) -> u64
         requires { word < 9392 }
     {
         let Bare { table, seat } = self;
         table.shared.store::<Nothing>(seat, word as usize, new);
+        0
     }
 
-    fn fetch_or(&mut self, word: u16, bits: u64) -> u64
-        requires { word < 9392 }
-    {
-        let Bare { table, seat } = self;
-        table.shared.fetch_or::<Nothing>(seat, word as usize, bits)
-    }
-
-    fn fetch_and(&mut self, word: u16, bits: u64) -> u64
-        requires { word < 9392 }
-    {
-        let Bare { table, seat } = self;
-        table.shared.fetch_and::<Nothing>(seat, word as usize, bits)
-    }
-
-    fn compare_exchange(&mut self, word: u16, old: u64, new: u64) -> u64
+    fn fetch_or(&mut self, word: u16) -> u64
         requires { word < 9392 }
     {
         let Bare { table, seat } = self;
         table
             .shared
-            .compare_exchange::<Nothing>(seat, word as usize, old, new)
+            .fetch_or::<Nothing>(seat, word as usize, 1 << 62)
+    }
+
+    fn fetch_and(&mut self, word: u16) -> u64
+        requires { word < 9392 }
+    {
+        let Bare { table, seat } = self;
+        table
+            .shared
+            .fetch_and::<Nothing>(seat, word as usize, !(1 << 61))
+    }
+
+    fn compare_exchange(&mut self, word: u16, old: u64) -> u64
+        requires { word < 9392 }
+    {
+        let Bare { table, seat } = self;
+        table
+            .shared
+            .compare_exchange::<Nothing>(seat, word as usize, old, old)
     }
 }
 
-/// Nothing: what a turn costs by itself.
-#[derive(Drop)]
-pub(crate) struct Empties {
-    pub bare: Bare,
-}
+/// What a turn does to the table: what it costs by itself, for [`EMPTY`].
+pub(crate) const EMPTY: u8 = 0;
 
-impl Turn for Empties {
-    fn turn(&mut self, _index: u16, _word: u64) -> u64 {
-        0
-    }
-}
+pub(crate) const LOAD: u8 = 1;
 
-/// A load.
-#[derive(Drop)]
-pub(crate) struct Loads {
-    pub bare: Bare,
-}
+pub(crate) const STORE: u8 = 2;
 
-impl Turn for Loads {
-    fn turn(&mut self, index: u16, _word: u64) -> u64 {
-        self.bare.load(index)
-    }
-}
+pub(crate) const OR: u8 = 3;
 
-/// A store.
-#[derive(Drop)]
-pub(crate) struct Stores {
-    pub bare: Bare,
-}
+pub(crate) const AND: u8 = 4;
 
-impl Turn for Stores {
-    fn turn(&mut self, index: u16, word: u64) -> u64 {
-        self.bare.store(index, word);
-        0
-    }
-}
-
-/// A fetch-or.
-#[derive(Drop)]
-pub(crate) struct Ors {
-    pub bare: Bare,
-}
-
-impl Turn for Ors {
-    fn turn(&mut self, index: u16, _word: u64) -> u64 {
-        self.bare.fetch_or(index, 1 << 62)
-    }
-}
-
-/// A fetch-and.
-#[derive(Drop)]
-pub(crate) struct Ands {
-    pub bare: Bare,
-}
-
-impl Turn for Ands {
-    fn turn(&mut self, index: u16, _word: u64) -> u64 {
-        self.bare.fetch_and(index, !(1 << 61))
-    }
-}
-
-/// A compare-exchange.
-#[derive(Drop)]
-pub(crate) struct Exchanges {
-    pub bare: Bare,
-}
-
-impl Turn for Exchanges {
-    fn turn(&mut self, index: u16, word: u64) -> u64 {
-        self.bare.compare_exchange(index, word, word)
-    }
-}
+pub(crate) const EXCHANGE: u8 = 5;
 
 /// A load and two stores, as a scope is.
-#[derive(Drop)]
-pub(crate) struct Scopes {
-    pub bare: Bare,
-}
-
-impl Turn for Scopes {
-    fn turn(&mut self, index: u16, _word: u64) -> u64 {
-        let found = self.bare.load(16);
-        self.bare.store(index, found);
-        self.bare.store(index, 0);
-        found
-    }
-}
+pub(crate) const SCOPE: u8 = 6;
 
 /// The same, with a fetch-or between the stores.
+pub(crate) const PIN: u8 = 7;
+
+/// Turns of one of these operations.
 #[derive(Drop)]
-pub(crate) struct Pins {
+pub(crate) struct Bares<const STEP: u8> {
     pub bare: Bare,
 }
 
-impl Turn for Pins {
-    fn turn(&mut self, index: u16, _word: u64) -> u64 {
-        let found = self.bare.load(16);
-        self.bare.store(index, found);
-        let word = self.bare.fetch_or(index, 1 << 62);
-        self.bare.store(index, 0);
-        word
+impl<const STEP: u8> Turn for Bares<STEP> {
+    fn turn(&mut self, index: u16, word: u64) -> u64 {
+        match STEP {
+            LOAD => self.bare.load(index),
+            STORE => self.bare.store(index, word),
+            OR => self.bare.fetch_or(index),
+            AND => self.bare.fetch_and(index),
+            EXCHANGE => self.bare.compare_exchange(index, word),
+            SCOPE => {
+                let found = self.bare.load(16);
+                self.bare.store(index, found);
+                self.bare.store(index, 0);
+                found
+            }
+            PIN => {
+                let found = self.bare.load(16);
+                self.bare.store(index, found);
+                let word = self.bare.fetch_or(index);
+                self.bare.store(index, 0);
+                word
+            }
+            _ => 0,
+        }
     }
 }

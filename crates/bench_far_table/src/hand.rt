@@ -48,10 +48,11 @@ impl BookHand {
     }
 
     #[inline(always)]
-    fn put(&mut self, index: u16, word: u64)
+    fn put(&mut self, index: u16, word: u64) -> u64
         requires { index < 8 }
     {
         self.seat.put(self.log, index, word);
+        0
     }
 
     // An object whose owner asked for a move stays where it lies: 0, or the word that was found instead.
@@ -77,94 +78,54 @@ impl BookHand {
     }
 }
 
-/// The book sees a cell.
-#[derive(Drop)]
-pub(crate) struct Sees {
-    pub hand: BookHand,
-}
+/// What a turn of the book does: it sees a cell.
+pub(crate) const SEE: u8 = 0;
 
-impl Turn for Sees {
-    fn turn(&mut self, _index: u16, _word: u64) -> u64 {
-        self.hand.see()
-    }
-}
+/// The book sets EVAC, and takes it away.
+pub(crate) const MARK: u8 = 1;
 
-/// The book sets EVAC.
-#[derive(Drop)]
-pub(crate) struct Marks {
-    pub hand: BookHand,
-}
+pub(crate) const CLEAR: u8 = 2;
 
-impl Turn for Marks {
-    fn turn(&mut self, _index: u16, _word: u64) -> u64 {
-        self.hand.mark()
-    }
-}
+/// The book reads a word of a log, and writes one.
+pub(crate) const GET: u8 = 3;
 
-/// The book takes EVAC away.
-#[derive(Drop)]
-pub(crate) struct Clears {
-    pub hand: BookHand,
-}
-
-impl Turn for Clears {
-    fn turn(&mut self, _index: u16, _word: u64) -> u64 {
-        self.hand.clear()
-    }
-}
-
-/// The book reads a word of a log.
-#[derive(Drop)]
-pub(crate) struct Gets {
-    pub hand: BookHand,
-}
-
-impl Turn for Gets {
-    fn turn(&mut self, index: u16, _word: u64) -> u64 {
-        self.hand.get(index)
-    }
-}
-
-/// The book writes one.
-#[derive(Drop)]
-pub(crate) struct Puts {
-    pub hand: BookHand,
-}
-
-impl Turn for Puts {
-    fn turn(&mut self, index: u16, word: u64) -> u64 {
-        self.hand.put(index, word);
-        0
-    }
-}
+pub(crate) const PUT: u8 = 4;
 
 /// The epoch rises, and a round of no logs begins.
-#[derive(Drop)]
-pub(crate) struct Advances {
-    pub hand: BookHand,
-}
-
-impl Turn for Advances {
-    fn turn(&mut self, _index: u16, _word: u64) -> u64 {
-        self.hand.advance()
-    }
-}
+pub(crate) const ADVANCE: u8 = 5;
 
 /// The book looks at an owner's scope.
+pub(crate) const LOOK: u8 = 6;
+
+/// Turns of the book alone.
 #[derive(Drop)]
-pub(crate) struct Looks {
+pub(crate) struct Deeds<const DEED: u8> {
     pub hand: BookHand,
 }
 
-impl Turn for Looks {
-    fn turn(&mut self, _index: u16, _word: u64) -> u64 {
-        self.hand.look()
+impl<const DEED: u8> Turn for Deeds<DEED> {
+    fn turn(&mut self, index: u16, word: u64) -> u64 {
+        match DEED {
+            MARK => self.hand.mark(),
+            CLEAR => self.hand.clear(),
+            GET => self.hand.get(index),
+            PUT => self.hand.put(index, word),
+            ADVANCE => self.hand.advance(),
+            LOOK => self.hand.look(),
+            _ => self.hand.see(),
+        }
     }
 }
 
-/// An owner asks for a move, and the book sees that: the word without marks, which stand beside the word that was found.
+/// Whether the book names the object that an owner asked to be moved, or only sees that it may.
+pub(crate) const ASK: u8 = 0;
+
+pub(crate) const NAME: u8 = 1;
+
+/// An owner asks for a move, and the book sees that the object may stay where it lies: the word that it had then, and the same without the owner's
+/// marks.
 #[derive(Drop)]
-pub(crate) struct Asks {
+pub(crate) struct Asks<const DEED: u8> {
     pub hand: BookHand,
     pub owner: Owner,
     pub found: u64,
@@ -179,7 +140,7 @@ fn is_stay(old: u64, new: u64) -> bool
     matches!(Naming::of(old, new), Some(Naming::Stays))
 }
 
-impl Asks {
+impl<const DEED: u8> Asks<DEED> {
     // Whether the object may stay where it lies. It is a call, so that the turns with and without a naming have it alike.
     #[inline(never)]
     fn asked(&mut self) -> bool
@@ -194,24 +155,14 @@ impl Asks {
     }
 }
 
-impl Turn for Asks {
+impl<const DEED: u8> Turn for Asks<DEED> {
     fn turn(&mut self, _index: u16, _word: u64) -> u64 {
-        if self.asked() { self.plain } else { 0 }
-    }
-}
-
-/// The same, and the book names the object anew, which stays where it lies.
-#[derive(Drop)]
-pub(crate) struct Names {
-    pub asks: Asks,
-}
-
-impl Turn for Names {
-    fn turn(&mut self, _index: u16, _word: u64) -> u64 {
-        if !self.asks.asked() {
+        if !self.asked() {
             return 0;
         }
-        let (old, new) = (self.asks.found, self.asks.plain);
-        self.asks.hand.name(old, new)
+        if DEED == ASK {
+            return self.plain;
+        }
+        self.hand.name(self.found, self.plain)
     }
 }

@@ -10,11 +10,11 @@ mod making;
 mod owner;
 mod turn;
 
-use bare::Bare;
+use bare::{Bare, Bares};
 use far_word::Refused;
-use hand::{Asks, BookHand};
+use hand::{Asks, BookHand, Deeds};
 use making::made;
-use owner::{Owner, views};
+use owner::{Idles, Owner, viewing};
 use std::alloc::{AllocError, Global};
 use std::process::ExitCode;
 use std::{env, io};
@@ -64,35 +64,41 @@ enum Step {
     Pin,
 }
 
+// Each work by its name.
+const WORKS: [(&str, Work); 24] = [
+    ("share", Work::Seat(Call::Share)),
+    ("read_epoch", Work::Seat(Call::ReadEpoch)),
+    ("scope", Work::Seat(Call::Scope)),
+    ("pin", Work::Seat(Call::Pin)),
+    ("place", Work::Seat(Call::Place)),
+    ("load", Work::Seat(Call::Load)),
+    ("store", Work::Seat(Call::Store)),
+    ("see", Work::Book(Deed::See)),
+    ("mark", Work::Book(Deed::Mark)),
+    ("clear", Work::Book(Deed::Clear)),
+    ("get", Work::Book(Deed::Get)),
+    ("put", Work::Book(Deed::Put)),
+    ("ask", Work::Book(Deed::Ask)),
+    ("name", Work::Book(Deed::Name)),
+    ("advance", Work::Book(Deed::Advance)),
+    ("look", Work::Book(Deed::Look)),
+    ("empty", Work::Bare(Step::Empty)),
+    ("bare_load", Work::Bare(Step::Load)),
+    ("bare_store", Work::Bare(Step::Store)),
+    ("bare_or", Work::Bare(Step::Or)),
+    ("bare_and", Work::Bare(Step::And)),
+    ("bare_exchange", Work::Bare(Step::Exchange)),
+    ("bare_scope", Work::Bare(Step::Scope)),
+    ("bare_pin", Work::Bare(Step::Pin)),
+];
+
 fn named(name: &str) -> Option<Work> {
-    let work = match name {
-        "share" => Work::Seat(Call::Share),
-        "read_epoch" => Work::Seat(Call::ReadEpoch),
-        "scope" => Work::Seat(Call::Scope),
-        "pin" => Work::Seat(Call::Pin),
-        "place" => Work::Seat(Call::Place),
-        "load" => Work::Seat(Call::Load),
-        "store" => Work::Seat(Call::Store),
-        "see" => Work::Book(Deed::See),
-        "mark" => Work::Book(Deed::Mark),
-        "clear" => Work::Book(Deed::Clear),
-        "get" => Work::Book(Deed::Get),
-        "put" => Work::Book(Deed::Put),
-        "ask" => Work::Book(Deed::Ask),
-        "name" => Work::Book(Deed::Name),
-        "advance" => Work::Book(Deed::Advance),
-        "look" => Work::Book(Deed::Look),
-        "empty" => Work::Bare(Step::Empty),
-        "bare_load" => Work::Bare(Step::Load),
-        "bare_store" => Work::Bare(Step::Store),
-        "bare_or" => Work::Bare(Step::Or),
-        "bare_and" => Work::Bare(Step::And),
-        "bare_exchange" => Work::Bare(Step::Exchange),
-        "bare_scope" => Work::Bare(Step::Scope),
-        "bare_pin" => Work::Bare(Step::Pin),
-        _ => return None,
-    };
-    Some(work)
+    for (word, work) in WORKS {
+        if word == name {
+            return Some(work);
+        }
+    }
+    None
 }
 
 // How often, of which pointer of owner 0, and at which word.
@@ -104,45 +110,22 @@ struct Task {
     index: u16,
 }
 
-fn viewed(mut owner: Owner, call: Call, task: Task) -> Option<u64>
-    requires idle { IsIdle owner.seat.view owner.pointer }
-    requires inside { task.index < 8 }
-{
-    if !views(&mut owner) {
-        return None;
-    }
-    let last = match call {
-        Call::Load => turns(&mut owner::Loads { owner }, task.index, task.turns),
-        Call::Store => turns(&mut owner::Stores { owner }, task.index, task.turns),
-        _ => 0,
-    };
-    Some(last)
-}
-
+// `None` where the object doesn't come into view.
 fn on_seat(owner: Owner, call: Call, task: Task) -> Option<u64>
     requires idle { IsIdle owner.seat.view owner.pointer }
     requires inside { task.index < 8 }
 {
+    let (index, count) = (task.index, task.turns);
     let last = match call {
         Call::Share => 0,
-        Call::ReadEpoch => turns(&mut owner::Epochs { owner }, task.index, task.turns),
-        Call::Scope => turns(&mut owner::Scopes { owner }, task.index, task.turns),
-        Call::Pin => turns(&mut owner::Pins { owner }, task.index, task.turns),
-        Call::Place => turns(&mut owner::Places { owner }, task.index, task.turns),
-        Call::Load | Call::Store => return viewed(owner, call, task),
+        Call::ReadEpoch => turns(&mut Idles::<{ owner::EPOCH }> { owner }, index, count),
+        Call::Scope => turns(&mut Idles::<{ owner::SCOPE }> { owner }, index, count),
+        Call::Pin => turns(&mut Idles::<{ owner::PIN }> { owner }, index, count),
+        Call::Place => turns(&mut Idles::<{ owner::PLACE }> { owner }, index, count),
+        Call::Load => turns(&mut viewing::<{ owner::LOAD }>(owner)?, index, count),
+        Call::Store => turns(&mut viewing::<{ owner::STORE }>(owner)?, index, count),
     };
     Some(last)
-}
-
-fn asks_of(hand: BookHand, owner: Owner) -> Asks
-    requires { IsIdle owner.seat.view owner.pointer }
-{
-    Asks {
-        hand,
-        owner,
-        found: 0,
-        plain: 0,
-    }
 }
 
 fn on_book(hand: BookHand, owner: Owner, deed: Deed, task: Task) -> u64
@@ -150,35 +133,52 @@ fn on_book(hand: BookHand, owner: Owner, deed: Deed, task: Task) -> u64
     requires inside { task.index < 8 }
 {
     let (index, count) = (task.index, task.turns);
+    let (found, plain) = (0, 0);
     match deed {
-        Deed::See => turns(&mut hand::Sees { hand }, index, count),
-        Deed::Mark => turns(&mut hand::Marks { hand }, index, count),
-        Deed::Clear => turns(&mut hand::Clears { hand }, index, count),
-        Deed::Get => turns(&mut hand::Gets { hand }, index, count),
-        Deed::Put => turns(&mut hand::Puts { hand }, index, count),
-        Deed::Ask => turns(&mut asks_of(hand, owner), index, count),
-        Deed::Name => {
-            let asks = asks_of(hand, owner);
-            turns(&mut hand::Names { asks }, index, count)
-        }
-        Deed::Advance => turns(&mut hand::Advances { hand }, index, count),
-        Deed::Look => turns(&mut hand::Looks { hand }, index, count),
+        Deed::See => turns(&mut Deeds::<{ hand::SEE }> { hand }, index, count),
+        Deed::Mark => turns(&mut Deeds::<{ hand::MARK }> { hand }, index, count),
+        Deed::Clear => turns(&mut Deeds::<{ hand::CLEAR }> { hand }, index, count),
+        Deed::Get => turns(&mut Deeds::<{ hand::GET }> { hand }, index, count),
+        Deed::Put => turns(&mut Deeds::<{ hand::PUT }> { hand }, index, count),
+        Deed::Advance => turns(&mut Deeds::<{ hand::ADVANCE }> { hand }, index, count),
+        Deed::Look => turns(&mut Deeds::<{ hand::LOOK }> { hand }, index, count),
+        Deed::Ask => turns(
+            &mut Asks::<{ hand::ASK }> {
+                hand,
+                owner,
+                found,
+                plain,
+            },
+            index,
+            count,
+        ),
+        Deed::Name => turns(
+            &mut Asks::<{ hand::NAME }> {
+                hand,
+                owner,
+                found,
+                plain,
+            },
+            index,
+            count,
+        ),
     }
 }
 
 fn on_bare(alloc: Global, step: Step, task: Task) -> Result<u64, AllocError>
     requires { task.index < 8 }
 {
+    let (index, count) = (task.index, task.turns);
     let bare = Bare::new(alloc)?;
     let last = match step {
-        Step::Empty => turns(&mut bare::Empties { bare }, task.index, task.turns),
-        Step::Load => turns(&mut bare::Loads { bare }, task.index, task.turns),
-        Step::Store => turns(&mut bare::Stores { bare }, task.index, task.turns),
-        Step::Or => turns(&mut bare::Ors { bare }, task.index, task.turns),
-        Step::And => turns(&mut bare::Ands { bare }, task.index, task.turns),
-        Step::Exchange => turns(&mut bare::Exchanges { bare }, task.index, task.turns),
-        Step::Scope => turns(&mut bare::Scopes { bare }, task.index, task.turns),
-        Step::Pin => turns(&mut bare::Pins { bare }, task.index, task.turns),
+        Step::Empty => turns(&mut Bares::<{ bare::EMPTY }> { bare }, index, count),
+        Step::Load => turns(&mut Bares::<{ bare::LOAD }> { bare }, index, count),
+        Step::Store => turns(&mut Bares::<{ bare::STORE }> { bare }, index, count),
+        Step::Or => turns(&mut Bares::<{ bare::OR }> { bare }, index, count),
+        Step::And => turns(&mut Bares::<{ bare::AND }> { bare }, index, count),
+        Step::Exchange => turns(&mut Bares::<{ bare::EXCHANGE }> { bare }, index, count),
+        Step::Scope => turns(&mut Bares::<{ bare::SCOPE }> { bare }, index, count),
+        Step::Pin => turns(&mut Bares::<{ bare::PIN }> { bare }, index, count),
     };
     Ok(last)
 }
@@ -208,21 +208,15 @@ fn done(alloc: Global, task: Task) -> Result<Option<u64>, Refused> {
     }
 }
 
-fn number(words: &[String], at: usize) -> Option<u64> {
-    words.get(at)?.parse::<u64>().ok()
-}
-
-fn small(words: &[String], at: usize) -> Option<u16> {
-    u16::try_from(number(words, at)?).ok()
-}
-
 fn task_of(words: &[String]) -> Option<Task> {
-    let work = named(words.get(1)?.as_str())?;
+    let [_, work, turns, pointer, index, ..] = words else {
+        return None;
+    };
     Some(Task {
-        work,
-        turns: number(words, 2)?,
-        pointer: small(words, 3)?,
-        index: small(words, 4)?,
+        work: named(work.as_str())?,
+        turns: turns.parse::<u64>().ok()?,
+        pointer: pointer.parse::<u16>().ok()?,
+        index: index.parse::<u16>().ok()?,
     })
 }
 

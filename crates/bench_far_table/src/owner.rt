@@ -1,5 +1,4 @@
 // An owner's seat, and what is counted on it.
-ghost use Rattle.std.specs.Prelude.{◌≡◌, true};
 ghost use Rattle.bench_far_table.specs.States.{IsIdle, IsViewing};
 
 use crate::turn::Turn;
@@ -13,112 +12,86 @@ pub(crate) struct Owner {
     pub pointer: u16,
 }
 
-/// A load of the epoch.
-#[derive(Drop)]
-pub(crate) struct Epochs {
-    pub owner: Owner,
-    ghost idle: { IsIdle owner.seat.view owner.pointer },
-}
-
-impl Turn for Epochs {
-    fn turn(&mut self, _index: u16, _word: u64) -> u64 {
-        self.owner.seat.read_epoch()
-    }
-}
+/// What a turn of an idle owner does: a load of the epoch.
+pub(crate) const EPOCH: u8 = 0;
 
 /// A scope: the epoch is read, the scope opened and closed.
-#[derive(Drop)]
-pub(crate) struct Scopes {
-    pub owner: Owner,
-    ghost idle: { IsIdle owner.seat.view owner.pointer },
-}
-
-impl Turn for Scopes {
-    fn turn(&mut self, _index: u16, _word: u64) -> u64 {
-        let seat = &mut self.owner.seat;
-        let epoch = seat.read_epoch();
-        seat.open();
-        seat.close();
-        epoch
-    }
-}
+pub(crate) const SCOPE: u8 = 1;
 
 /// The same, with a pin: 1 where it holds.
-#[derive(Drop)]
-pub(crate) struct Pins {
-    pub owner: Owner,
-    ghost idle: { IsIdle owner.seat.view owner.pointer },
-}
-
-impl Turn for Pins {
-    fn turn(&mut self, _index: u16, _word: u64) -> u64 {
-        let pointer = self.owner.pointer;
-        let seat = &mut self.owner.seat;
-        seat.read_epoch();
-        seat.open();
-        let held = seat.pin(pointer).is_ok();
-        seat.close();
-        held as u64
-    }
-}
+pub(crate) const PIN: u8 = 2;
 
 /// The same, with what the pin answers: the word of the place, or the word that was found.
+pub(crate) const PLACE: u8 = 3;
+
+/// Turns that leave an owner idle.
 #[derive(Drop)]
-pub(crate) struct Places {
+pub(crate) struct Idles<const CALL: u8> {
     pub owner: Owner,
     ghost idle: { IsIdle owner.seat.view owner.pointer },
 }
 
-impl Turn for Places {
+impl<const CALL: u8> Turn for Idles<CALL> {
     fn turn(&mut self, _index: u16, _word: u64) -> u64 {
-        let pointer = self.owner.pointer;
-        let seat = &mut self.owner.seat;
-        seat.read_epoch();
-        seat.open();
-        let found = match seat.pin(pointer) {
-            Ok(place) => place.at as u64,
-            Err(word) => word,
-        };
-        seat.close();
-        found
+        let Owner { seat, pointer } = &mut self.owner;
+        let epoch = seat.read_epoch();
+        match CALL {
+            SCOPE => {
+                seat.open();
+                seat.close();
+                epoch
+            }
+            PIN => {
+                seat.open();
+                let held = seat.pin(*pointer).is_ok();
+                seat.close();
+                held as u64
+            }
+            PLACE => {
+                seat.open();
+                let found = match seat.pin(*pointer) {
+                    Ok(place) => place.at as u64,
+                    Err(word) => word,
+                };
+                seat.close();
+                found
+            }
+            _ => epoch,
+        }
     }
 }
 
-/// A load of a word of the object.
+/// What a turn of an owner who views its object does: a load of a word of it, or a store.
+pub(crate) const LOAD: u8 = 0;
+
+pub(crate) const STORE: u8 = 1;
+
+/// Turns that leave the object in view.
 #[derive(Drop)]
-pub(crate) struct Loads {
-    pub owner: Owner,
+pub(crate) struct Views<const CALL: u8> {
+    owner: Owner,
     ghost viewing: { IsViewing owner.seat.view owner.pointer },
 }
 
-impl Turn for Loads {
-    fn turn(&mut self, index: u16, _word: u64) -> u64 {
-        let pointer = self.owner.pointer;
-        self.owner.seat.load(pointer, index)
-    }
-}
-
-/// A store of one.
-#[derive(Drop)]
-pub(crate) struct Stores {
-    pub owner: Owner,
-    ghost viewing: { IsViewing owner.seat.view owner.pointer },
-}
-
-impl Turn for Stores {
+impl<const CALL: u8> Turn for Views<CALL> {
     fn turn(&mut self, index: u16, word: u64) -> u64 {
-        let pointer = self.owner.pointer;
-        self.owner.seat.store(pointer, index, word);
+        let Owner { seat, pointer } = &mut self.owner;
+        if CALL == LOAD {
+            return seat.load(*pointer, index);
+        }
+        seat.store(*pointer, index, word);
         0
     }
 }
 
-/// Brings the object into view, if it is near without marks.
-pub(crate) fn views(owner: &mut Owner) -> bool
-    requires { IsIdle owner.old.seat.view owner.old.pointer }
-    ensures { result ≡ true → IsViewing owner.new.seat.view owner.new.pointer }
+/// Turns of an owner whose object comes into view, if it is near without marks.
+pub(crate) fn viewing<const CALL: u8>(mut owner: Owner) -> Option<Views<CALL>>
+    requires { IsIdle owner.seat.view owner.pointer }
 {
     owner.seat.read_epoch();
     owner.seat.open();
-    owner.seat.pin(owner.pointer).is_ok()
+    if owner.seat.pin(owner.pointer).is_err() {
+        return None;
+    }
+    Some(Views { owner })
 }
