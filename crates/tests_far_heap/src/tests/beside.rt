@@ -2,18 +2,20 @@
 
 ghost use Rattle.std.specs.Prelude.{◌≡◌};
 
+use crate::tests::acts::Act::*;
+use crate::tests::acts::Choice::Eldest;
 use crate::tests::flag::Tally;
-use crate::tests::looks::{has_objects, new_blank, sized};
+use crate::tests::looks::{new_blank, sized};
+use crate::tests::stage::{Signals, Stage};
 use crate::tests::writers::Writer;
 use far_device::MemDevice;
 use far_evac::RoundEnd;
 use far_heap::{Blank, Heap, HeapName, Mutator};
-use far_policy::Oldest;
-use std::alloc::{AllocError, Global};
+use std::alloc::Global;
 use std::marker::Brand;
 use std::sync::Wait;
 use std::thread;
-use std::thread::Threads;
+use std::thread::{Threads, join};
 
 /// How many mutators there are.
 const WRITERS: u64 = 4;
@@ -46,170 +48,131 @@ struct Gate {
     rounds: Tally,
 }
 
-/// What a thread does.
-#[derive(Drop)]
-enum Job<K: HeapName> {
-    Write(Writer<K>),
-    Rounds,
-}
-
-/// What came of it.
-#[derive(Drop)]
-enum Done<K: HeapName> {
-    Written(Writer<K>),
-    Rounds,
-    Wrong,
-}
-
-// Writes as long as the writer is told to; `None` where something was wrong.
-fn written<K: HeapName, R: Wait>(
+// Writes as long as the writer is told to; `false` where something was wrong.
+fn keeps_writing<K: HeapName, R: Wait>(
     rt: &R,
-    mut writer: Writer<K>,
+    writer: &mut Writer<K>,
     gate: &Gate,
     work: Work,
-) -> Option<Writer<K>> {
+) -> bool {
     for part in 0..work.most {
         if part >= work.least && gate.rounds.count() >= work.rounds {
             break;
         }
-        let Some(next) = writer.worked(rt) else {
-            return None;
-        };
-        writer = next;
+        if !writer.works(rt) {
+            return false;
+        }
     }
-    Some(writer)
+    true
 }
 
-// Makes objects, writes, and ends.
-fn writes<K: HeapName, R: Wait>(rt: &R, mut writer: Writer<K>, gate: &Gate, work: Work) -> Done<K> {
+// What a mutator does in a thread of its own: it makes objects, writes, and ends; `None` where something was wrong.
+fn writes<K: HeapName, R: Wait>(
+    rt: &R,
+    mutator: Mutator<K, MemDevice>,
+    gate: &Gate,
+    work: Work,
+) -> Option<Writer<K>> {
+    let mut writer = Writer::new(mutator);
     let made = writer.makes_objects(rt);
     gate.begun.raise();
-    let written = written(rt, writer, gate, work);
+    let written = keeps_writing(rt, &mut writer, gate, work);
     gate.ended.raise();
-    match written {
-        Some(writer) => {
-            if made {
-                Done::Written(writer)
-            } else {
-                Done::Wrong
-            }
-        }
-        None => Done::Wrong,
-    }
+    if made && written { Some(writer) } else { None }
 }
 
 // Makes a round, which is given up where its turns are over: whether it was done; `None` where something was wrong.
 fn makes_round<K: HeapName, R: Wait>(
     rt: &R,
-    heap: &Heap<K, MemDevice>,
+    stage: &mut Stage<'_, K, MemDevice>,
     turns: u64,
 ) -> Option<bool> {
-    match heap.run_round(rt, &mut Oldest, 2, turns) {
+    match stage.round(rt, Eldest, 2, turns) {
         Ok(RoundEnd::Done(_)) => Some(true),
         Ok(RoundEnd::Nothing) => Some(false),
-        Ok(RoundEnd::Limit(_)) => heap.book(rt).abort().is_ok().then_some(false),
+        Ok(RoundEnd::Limit(_)) => stage.does(rt, GivesUp(Ok(()))).then_some(false),
         Err(_) => None,
     }
 }
 
-// Makes rounds from when all write.
+// Makes rounds from when all write; `false` where something was wrong.
 fn rounds<K: HeapName, R: Wait>(
     rt: &R,
-    heap: &Heap<K, MemDevice>,
+    stage: &mut Stage<'_, K, MemDevice>,
     gate: &Gate,
     plan: Plan,
-) -> Done<K> {
+) -> bool {
     gate.begun.wait_for(WRITERS);
     for _ in 0..plan.rounds {
         if plan.stops && gate.ended.count() == WRITERS {
             break;
         }
-        let Some(done) = makes_round(rt, heap, plan.turns) else {
-            return Done::Wrong;
+        let Some(done) = makes_round(rt, stage, plan.turns) else {
+            return false;
         };
         if done && gate.ended.count() == 0 {
             gate.rounds.raise();
         }
         thread::yield_now();
     }
-    Done::Rounds
+    true
 }
 
-fn run<K: HeapName, R: Wait>(
+// Each mutator writes in a thread of its own; `None` where memory was refused.
+fn all_write<K: HeapName + Send + Sync, R: Threads + Wait + Sync>(
     rt: &R,
-    heap: &Heap<K, MemDevice>,
-    gate: &Gate,
-    plan: Plan,
-    job: Job<K>,
-) -> Done<K> {
-    match job {
-        Job::Write(writer) => writes(rt, writer, gate, plan.work),
-        Job::Rounds => rounds(rt, heap, gate, plan),
-    }
-}
-
-// A job for each mutator, and one that makes rounds.
-fn jobs_of<K: HeapName>(
-    alloc: Global,
     mutators: Vec<Mutator<K, MemDevice>>,
-) -> Result<Vec<Job<K>>, AllocError> {
-    let mut jobs = Vec::new(alloc);
-    for mutator in mutators {
-        jobs.push(Job::Write(Writer::new(alloc, mutator)))?;
-    }
-    jobs.push(Job::Rounds)?;
-    Ok(jobs)
+    gate: &Gate,
+    work: Work,
+) -> Option<Vec<Option<Writer<K>>>> {
+    thread::map_vec(rt, mutators, &|mutator| writes(rt, mutator, gate, work)).ok()
 }
 
 // Whether nothing was wrong, and each object has what it was filled with last.
-fn are_right<K: HeapName, R: Wait>(rt: &R, done: Vec<Done<K>>) -> bool {
-    for one in done {
+fn are_right<K: HeapName, R: Wait>(rt: &R, written: Vec<Option<Writer<K>>>) -> bool {
+    for one in written {
         match one {
-            Done::Written(writer) => {
+            Some(mut writer) => {
                 if !writer.has_all(rt) {
                     return false;
                 }
             }
-            Done::Rounds => {}
-            Done::Wrong => return false,
+            None => return false,
         }
     }
     true
 }
 
-// Whether one more round is done, or finds nothing to do.
-fn ends_with_a_round<K: HeapName, R: Wait>(rt: &R, heap: &Heap<K, MemDevice>) -> bool {
-    let end = heap.run_round(rt, &mut Oldest, 2, 100_000);
-    matches!(end, Ok(RoundEnd::Done(_)) | Ok(RoundEnd::Nothing))
-}
-
-// Whether one more round comes, and all objects are there.
-fn stands<K: HeapName, R: Wait>(rt: &R, heap: &Heap<K, MemDevice>) -> bool {
-    ends_with_a_round(rt, heap) && has_objects(&mut *heap.book(rt), 64)
+// Whether one more round is done, or finds nothing to do, and all objects are there.
+fn stands<K: HeapName, R: Wait>(rt: &R, stage: &mut Stage<'_, K, MemDevice>) -> bool {
+    let end = stage.round(rt, Eldest, 2, 100_000);
+    matches!(end, Ok(RoundEnd::Done(_) | RoundEnd::Nothing)) && stage.does(rt, Has(64))
 }
 
 // How many rounds were done while all wrote; `None` where something was wrong.
 fn works_beside<K: HeapName + Send + Sync, R: Threads + Wait + Sync>(
     rt: &R,
-    alloc: Global,
-    heap: &Heap<K, MemDevice>,
+    stage: &mut Stage<'_, K, MemDevice>,
     mutators: Vec<Mutator<K, MemDevice>>,
     plan: Plan,
 ) -> Option<u64> {
-    let Ok(jobs) = jobs_of(alloc, mutators) else {
-        return None;
-    };
     let gate = Gate {
         begun: Tally::new(),
         ended: Tally::new(),
         rounds: Tally::new(),
     };
-    let beside = &gate;
-    let Ok(done) = thread::map_vec(rt, jobs, &|job| run(rt, heap, beside, plan, job)) else {
-        return None;
+    let (beside, at_rounds) = (&gate, &mut *stage);
+    let (written, came) = join(
+        rt,
+        move || all_write(rt, mutators, beside, plan.work),
+        move || rounds(rt, at_rounds, beside, plan),
+    );
+    let stood = stands(rt, stage);
+    let right = match written {
+        Some(written) => are_right(rt, written),
+        None => false,
     };
-    let (came, right) = (stands(rt, heap), are_right(rt, done));
-    (came && right).then_some(gate.rounds.count())
+    (came && stood && right).then_some(gate.rounds.count())
 }
 
 fn made_beside<K: HeapName + Send + Sync, R: Threads + Wait + Sync>(
@@ -221,7 +184,11 @@ fn made_beside<K: HeapName + Send + Sync, R: Threads + Wait + Sync>(
     requires { blank.heap ≡ K.heap }
 {
     match Heap::<K, MemDevice>::new(alloc, blank) {
-        Ok((heap, mutators)) => works_beside(rt, alloc, &heap, mutators, plan),
+        Ok((heap, mutators)) => {
+            let (signals, mut none) = (Signals::new(), Vec::new(alloc));
+            let mut stage = Stage::new(&heap, &signals, &mut none);
+            works_beside(rt, &mut stage, mutators, plan)
+        }
         Err(_) => None,
     }
 }

@@ -53,8 +53,8 @@ impl<K: HeapName, D: Device + Drop> Hand<K, D> {
         matches!(mem::replace(self, Hand::Gone), Hand::Open(_))
     }
 
-    // A new object.
-    fn makes<R: Wait>(&mut self, rt: &R, len: u16, ds: u8) -> Result<u16, Refused> {
+    /// A new object.
+    pub(super) fn makes<R: Wait>(&mut self, rt: &R, len: u16, ds: u8) -> Result<u16, Refused> {
         match self {
             Hand::Closed(mutator) => mutator.alloc(rt, len, ds),
             Hand::Open(scope) => scope.alloc(rt, len, ds),

@@ -2,14 +2,14 @@
 
 ghost use Rattle.std.specs.Prelude.{◌≡◌};
 
-use crate::tests::acts::{Act, Choice, End};
+use crate::tests::acts::{Act, Choice};
 use crate::tests::flag::Tally;
 use crate::tests::hands::Hand;
 use crate::tests::looks::{Counted, count_of};
 use crate::tests::steps::{By, comes_to, steps};
 use far_core::Shape;
 use far_device::{Device, MemDevice};
-use far_evac::{Census, Phase};
+use far_evac::{Census, EvacFault, Phase, RoundEnd};
 use far_heap::{Blank, Evacuator, Heap, HeapName, Mutator, View};
 use std::alloc::Global;
 use std::marker::Brand;
@@ -119,12 +119,18 @@ impl<'h, K: HeapName, D: Device + Drop> Stage<'h, K, D> {
         self.view.is_some()
     }
 
-    // Whether a whole round ends so.
-    fn runs<R: Wait>(&mut self, rt: &R, choice: Choice, most: usize, turns: u64, end: End) -> bool {
+    /// Makes a whole round.
+    pub(super) fn round<R: Wait>(
+        &mut self,
+        rt: &R,
+        choice: Choice,
+        most: usize,
+        turns: u64,
+    ) -> Result<RoundEnd, EvacFault> {
         let mut policy = By::new(choice);
         let came = self.heap.run_round(rt, &mut policy, most, turns);
         self.asked = policy.times();
-        comes_to(came, end)
+        came
     }
 
     // Notes how the book stands.
@@ -153,7 +159,10 @@ impl<'h, K: HeapName, D: Device + Drop> Stage<'h, K, D> {
             Act::Turns => self.turns(),
             Act::Keeps(pointer) => self.keeps(rt, pointer, false),
             Act::KeepsSlowly(pointer) => self.keeps(rt, pointer, true),
-            Act::Runs(choice, most, turns, end) => self.runs(rt, choice, most, turns, end),
+            Act::Runs(choice, most, turns, end) => comes_to(
+                self.round(rt, choice, most, turns),
+                end,
+            ),
             Act::Asked(times) => self.asked == times,
             Act::Notes => self.notes(rt),
             Act::AsNoted => self.is_as_noted(rt, None),
