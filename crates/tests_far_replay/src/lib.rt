@@ -7,6 +7,8 @@ mod devices;
 #[cfg(test)]
 mod differing;
 #[cfg(test)]
+mod epochs;
+#[cfg(test)]
 mod limits;
 #[cfg(test)]
 mod refusing;

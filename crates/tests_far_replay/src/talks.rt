@@ -702,62 +702,6 @@ log 1
   log 1 free live 0 dead 0 unused 1024
 ";
 
-/// The epoch is the first one until a round raises it; it is read with the scope closed.
-const EPOCHS: &str = "\
-heap 4 2 4611686018427387903
-  ok
-epoch 0
-  epoch 4611686018427387903
-epoch 0
-  epoch 4611686018427387903
-open 0
-  ok
-epoch 0
-  refused 6
-epoch 1
-  epoch 4611686018427387903
-epoch 2
-  refused 8
-close 0
-  ok
-close 0
-  refused 5
-open 1
-  ok
-new 1 8 1
-  pointer 128
-read 1 128 0 8
-  data 0000000000000000
-epoch 1
-  refused 6
-close 1
-  ok
-epoch 1
-  epoch 4611686018427387903
-";
-
-/// A heap begins at epoch 0 where its line says none.
-const FIRST_EPOCH: &str = "\
-heap 2 8
-  ok
-epoch 7
-  epoch 0
-epoch 8
-  refused 8
-";
-
-/// Or at the one that it says.
-const SAID_EPOCH: &str = "\
-heap 2 1 7
-  ok
-open 0
-  ok
-close 0
-  ok
-epoch 0
-  epoch 7
-";
-
 /// The smallest heap: another mutator than its own, a data structure too high, and a pointer that was never made.
 const OUT_OF_RANGE: &str = "\
 heap 2 1
@@ -772,7 +716,7 @@ read 0 5 0 8
   refused 7
 ";
 
-const TALKS: [&str; 28] = [
+const TALKS: [&str; 25] = [
     FIRST_OBJECT,
     PAGE,
     COMMENTS,
@@ -797,9 +741,6 @@ const TALKS: [&str; 28] = [
     TRIED,
     GIVEN_ANEW,
     DEAD_LOGS,
-    EPOCHS,
-    FIRST_EPOCH,
-    SAID_EPOCH,
     OUT_OF_RANGE,
 ];
 
