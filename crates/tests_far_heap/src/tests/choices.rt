@@ -6,6 +6,7 @@ use crate::tests::acts::{Act, End};
 use crate::tests::looks::sized;
 use crate::tests::stage::plays;
 use far_evac::{LogKind, Phase};
+use far_word::Refused;
 
 // Three logs have an object each, and all are sealed.
 const THREE_LOGS: &[Act] = &[
@@ -64,4 +65,20 @@ const CHOSEN_ALONE: &[Act] = &[
 #[test]
 fn a_round_empties_what_its_policy_chose(rt: HostRuntime) {
     assert!(rt; plays(&rt, rt.alloc(), sized(6, 1), &[THREE_LOGS, CHOSEN_ALONE]));
+}
+
+// A policy that names a free log is refused, and one that comes while a round is running is not asked.
+const REFUSED: &[Act] = &[
+    Runs(Named(&[5]), 1, 9, End::Refused(Refused::BadChoice(5))),
+    Asked(1),
+    In(Phase::Idle),
+    Selects(Named(&[1]), 1, Ok(&[1])),
+    Runs(Named(&[2]), 1, 9, End::Refused(Refused::Phase)),
+    Asked(0),
+    In(Phase::Marking),
+];
+
+#[test]
+fn a_policy_that_is_refused_is_not_asked_again(rt: HostRuntime) {
+    assert!(rt; plays(&rt, rt.alloc(), sized(6, 1), &[THREE_LOGS, REFUSED]));
 }
