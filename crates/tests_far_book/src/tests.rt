@@ -1,10 +1,14 @@
 //! Whether the clauses say what was meant, by worked values.
 
+mod acts;
 mod books;
+mod calls;
 mod devices;
 mod hands;
 mod leaving;
 mod moving;
 mod owners;
+mod owning;
 mod returning;
 mod rounds;
+mod stage;

@@ -1,6 +1,6 @@
-//! Devices of the tests' own: what is in each is what one in memory has, and something is wrong with it, or looked at.
+//! A device of the tests' own: what is in it is what one in memory has, something may be wrong with it, and it is looked at.
 
-ghost use Rattle.std.specs.Prelude.{◌≡◌, ◌+◌, ◌%◌, ◌^◌, ℕ, List, None, Some, IsSome, false, true, IfOk};
+ghost use Rattle.std.specs.Prelude.{◌≡◌, ◌+◌, ◌%◌, ◌^◌, ℕ, Some, IsSome, false, true, IfOk};
 ghost use Rattle.far_device.specs.Calls.{given};
 ghost use Rattle.far_device.specs.Faults.{is_fault};
 ghost use Rattle.far_device.specs.Following.{Follows, any_key, other_than};
@@ -8,9 +8,69 @@ ghost use Rattle.far_device.specs.Mem.{bytes_at, faults_of};
 ghost use Rattle.far_device.specs.Wrapping.{wrapped_below};
 
 use far_device::{Device, DeviceFault, MemDevice, hand_over};
-use std::alloc::AllocError;
 use std::cell::Cell;
-use std::rc::Rc;
+
+/// What is wrong with a device.
+#[derive(Clone, Copy)]
+pub(super) enum Flaw {
+    Nothing,
+    /// It has no memory for what it is given.
+    Starved,
+    /// It fails unless it is given so many counted bytes.
+    Picky(u16),
+    /// Its next read fails so.
+    Stumbling(DeviceFault),
+    /// Its next read gives as many bytes, whatever it holds.
+    Lying(usize),
+}
+
+/// What is seen of a device: whether anything is under key 0, and the least room that it was lent for a read.
+#[derive(Drop)]
+pub(super) struct Sight {
+    pub(super) holds: Cell<bool>,
+    pub(super) least: Cell<usize>,
+}
+
+impl Sight {
+    pub(super) fn new() -> Sight {
+        Sight {
+            holds: Cell::new(false),
+            least: Cell::new(usize::MAX),
+        }
+    }
+}
+
+/// A device with a flaw. It isn't honest where it lies, before and after.
+#[derive(Drop)]
+pub(super) struct Flawed<'s> {
+    pub(super) inner: MemDevice,
+    pub(super) flaw: Flaw,
+    pub(super) honest: bool,
+    pub(super) faults: u64,
+    pub(super) sight: &'s Sight,
+}
+
+/// Word i of an object of so many counted bytes: bytes 1 to 8, the first of them i more.
+pub(super) fn counted_word(len: u16, i: u16) -> u64 {
+    let word = 0x0807_0605_0403_0201 + i as u64;
+    let left = len.saturating_sub(i.saturating_mul(8));
+    if left >= 8 {
+        word
+    } else {
+        word % (1 << (8 * left))
+    }
+}
+
+// Whether these are so many counted bytes.
+fn are_counted(bytes: &[u8], len: u16) -> bool {
+    for k in 0..len {
+        let word = counted_word(len, k / 8).to_le_bytes();
+        if bytes.get(k as usize).copied() != Some(word[(k % 8) as usize]) {
+            return false;
+        }
+    }
+    bytes.len() == len as usize
+}
 
 // One read of what is in memory, with its answer taken apart.
 fn read_inner(inner: &mut MemDevice, id: u32) -> Result<Vec<u8>, DeviceFault>
@@ -25,18 +85,21 @@ fn read_inner(inner: &mut MemDevice, id: u32) -> Result<Vec<u8>, DeviceFault>
     }
 }
 
-/// Fails unless it is given these bytes.
-#[derive(Drop)]
-pub(super) struct Picky {
-    pub(super) inner: MemDevice,
-    pub(super) wanted: Vec<u8>,
-    pub(super) faults: u64,
+impl<'s> Flawed<'s> {
+    // Why it doesn't take these bytes.
+    fn refusal(&self, bytes: &[u8]) -> Option<DeviceFault> {
+        match self.flaw {
+            Flaw::Starved => Some(DeviceFault::Memory),
+            Flaw::Picky(len) if !are_counted(bytes, len) => Some(DeviceFault::Device),
+            _ => None,
+        }
+    }
 }
 
-impl Device for Picky {
+impl<'s> Device for Flawed<'s> {
     ghost contents = { λ s. bytes_at s.inner };
 
-    ghost honest = { λ _. true };
+    ghost honest = { λ s. s.honest };
 
     ghost faults = { λ s. (faults_of s.inner + s.faults) % 2 ^ 64 };
 
@@ -48,11 +111,11 @@ impl Device for Picky {
 
     ghost wraps = { λ s. wrapped_below (faults_of s.inner + s.faults) };
 
-    ghost writes = { λ old id _ answer new. Follows (λ s. bytes_at s.inner) (λ _. true) (λ s. (faults_of s.inner + s.faults) % 2 ^ 64) (λ _ _. ⊥) (other_than id) (is_fault answer) old new };
+    ghost writes = { λ old id _ answer new. Follows (λ s. bytes_at s.inner) (λ s. s.honest) (λ s. (faults_of s.inner + s.faults) % 2 ^ 64) (λ _ _. ⊥) (other_than id) (is_fault answer) old new };
 
-    ghost reads = { λ old id answer new. Follows (λ s. bytes_at s.inner) (λ _. true) (λ s. (faults_of s.inner + s.faults) % 2 ^ 64) (λ _ _. IsSome (bytes_at old.inner id) × ⊥) any_key (is_fault answer) old new };
+    ghost reads = { λ old id answer new. Follows (λ s. bytes_at s.inner) (λ s. s.honest) (λ s. (faults_of s.inner + s.faults) % 2 ^ 64) (λ _ _. IsSome (bytes_at old.inner id) × ⊥) any_key (is_fault answer) old new };
 
-    ghost lets_go = { λ old id new. Follows (λ s. bytes_at s.inner) (λ _. true) (λ s. (faults_of s.inner + s.faults) % 2 ^ 64) (λ _ _. ⊥) (other_than id) false old new };
+    ghost lets_go = { λ old id new. Follows (λ s. bytes_at s.inner) (λ s. s.honest) (λ s. (faults_of s.inner + s.faults) % 2 ^ 64) (λ _ _. ⊥) (other_than id) false old new };
 
     ghost write_follows = { λ _ _ _ _ _ h. h };
 
@@ -61,249 +124,12 @@ impl Device for Picky {
     ghost forget_follows = { λ _ _ _ h. h };
 
     fn write(&mut self, id: u32, bytes: &[u8]) -> Result<(), DeviceFault> {
-        if bytes != self.wanted.as_slice() {
-            self.faults = self.faults.wrapping_add(1);
-            return Err(DeviceFault::Device);
+        if let Some(fault) = self.refusal(bytes) {
+            if fault == DeviceFault::Device {
+                self.faults = self.faults.wrapping_add(1);
+            }
+            return Err(fault);
         }
-        self.inner.write(id, bytes)
-    }
-
-    fn read(&mut self, id: u32) -> Result<Vec<u8>, DeviceFault> {
-        read_inner(&mut self.inner, id)
-    }
-
-    fn read_into(&mut self, id: u32, buffer: &mut Vec<u8>) -> Result<(), DeviceFault> {
-        hand_over(self.read(id)?, buffer);
-        Ok(())
-    }
-
-    fn forget(&mut self, id: u32) {
-        self.inner.forget(id);
-    }
-
-    fn faults(&self) -> u64 {
-        self.inner.faults().wrapping_add(self.faults)
-    }
-}
-
-/// Is refused memory at each call.
-#[derive(Drop)]
-pub(super) struct Starved {}
-
-impl Device for Starved {
-    ghost contents = { λ _ _. None };
-
-    ghost honest = { λ _. true };
-
-    ghost faults = { λ _. 0 };
-
-    ghost forgets = { Unit {0} };
-
-    ghost reads_in_place = { ⊥ };
-
-    ghost fails_at_most = { λ _ _. Unit {0} };
-
-    ghost wraps = { λ _. wrapped_below 0 };
-
-    ghost writes = { λ old id _ answer new. Follows (λ _ _. None) (λ _. true) (λ _. 0) (λ _ _. Unit {0}) (other_than id) (is_fault answer) old new };
-
-    ghost reads = { λ old id answer new. Follows (λ _ _. None) (λ _. true) (λ _. 0) (λ _ _. IsSome {T = List ℕ} None × Unit {0}) any_key (is_fault answer) old new };
-
-    ghost lets_go = { λ old id new. Follows (λ _ _. None) (λ _. true) (λ _. 0) (λ _ _. Unit {0}) (other_than id) false old new };
-
-    ghost write_follows = { λ _ _ _ _ _ h. h };
-
-    ghost read_follows = { λ _ _ _ _ h. h };
-
-    ghost forget_follows = { λ _ _ _ h. h };
-
-    fn write(&mut self, _id: u32, _bytes: &[u8]) -> Result<(), DeviceFault> {
-        Err(DeviceFault::Memory)
-    }
-
-    fn read(&mut self, _id: u32) -> Result<Vec<u8>, DeviceFault> {
-        Err(DeviceFault::Memory)
-    }
-
-    fn read_into(&mut self, id: u32, buffer: &mut Vec<u8>) -> Result<(), DeviceFault> {
-        hand_over(self.read(id)?, buffer);
-        Ok(())
-    }
-
-    fn forget(&mut self, _id: u32) {}
-
-    fn faults(&self) -> u64 {
-        0
-    }
-}
-
-/// Answers its next read with this fault, if there is one.
-#[derive(Drop)]
-pub(super) struct Stumbling {
-    pub(super) inner: MemDevice,
-    pub(super) next: Option<DeviceFault>,
-    pub(super) faults: u64,
-}
-
-impl Device for Stumbling {
-    ghost contents = { λ s. bytes_at s.inner };
-
-    ghost honest = { λ _. true };
-
-    ghost faults = { λ s. (faults_of s.inner + s.faults) % 2 ^ 64 };
-
-    ghost forgets = { Unit {0} };
-
-    ghost reads_in_place = { ⊥ };
-
-    ghost fails_at_most = { λ _ _. ⊥ };
-
-    ghost wraps = { λ s. wrapped_below (faults_of s.inner + s.faults) };
-
-    ghost writes = { λ old id _ answer new. Follows (λ s. bytes_at s.inner) (λ _. true) (λ s. (faults_of s.inner + s.faults) % 2 ^ 64) (λ _ _. ⊥) (other_than id) (is_fault answer) old new };
-
-    ghost reads = { λ old id answer new. Follows (λ s. bytes_at s.inner) (λ _. true) (λ s. (faults_of s.inner + s.faults) % 2 ^ 64) (λ _ _. IsSome (bytes_at old.inner id) × ⊥) any_key (is_fault answer) old new };
-
-    ghost lets_go = { λ old id new. Follows (λ s. bytes_at s.inner) (λ _. true) (λ s. (faults_of s.inner + s.faults) % 2 ^ 64) (λ _ _. ⊥) (other_than id) false old new };
-
-    ghost write_follows = { λ _ _ _ _ _ h. h };
-
-    ghost read_follows = { λ _ _ _ _ h. h };
-
-    ghost forget_follows = { λ _ _ _ h. h };
-
-    fn write(&mut self, id: u32, bytes: &[u8]) -> Result<(), DeviceFault> {
-        self.inner.write(id, bytes)
-    }
-
-    fn read(&mut self, id: u32) -> Result<Vec<u8>, DeviceFault> {
-        let Some(fault) = self.next.take() else {
-            return read_inner(&mut self.inner, id);
-        };
-        if fault == DeviceFault::Device {
-            self.faults = self.faults.wrapping_add(1);
-        }
-        Err(fault)
-    }
-
-    fn read_into(&mut self, id: u32, buffer: &mut Vec<u8>) -> Result<(), DeviceFault> {
-        hand_over(self.read(id)?, buffer);
-        Ok(())
-    }
-
-    fn forget(&mut self, id: u32) {
-        self.inner.forget(id);
-    }
-
-    fn faults(&self) -> u64 {
-        self.inner.faults().wrapping_add(self.faults)
-    }
-}
-
-/// Gives as many bytes at its next read, if it is told to, whatever it holds.
-#[derive(Drop)]
-pub(super) struct Lying {
-    pub(super) inner: MemDevice,
-    pub(super) next: Option<usize>,
-}
-
-impl Device for Lying {
-    ghost contents = { λ s. bytes_at s.inner };
-
-    ghost honest = { λ _. false };
-
-    ghost faults = { λ s. faults_of s.inner };
-
-    ghost forgets = { Unit {0} };
-
-    ghost reads_in_place = { ⊥ };
-
-    ghost fails_at_most = { λ _ _. ⊥ };
-
-    ghost wraps = { λ s. wrapped_below s.inner.faults };
-
-    ghost writes = { λ old id _ answer new. Follows (λ s. bytes_at s.inner) (λ _. false) (λ s. faults_of s.inner) (λ _ _. ⊥) (other_than id) (is_fault answer) old new };
-
-    ghost reads = { λ old id answer new. Follows (λ s. bytes_at s.inner) (λ _. false) (λ s. faults_of s.inner) (λ _ _. IsSome (bytes_at old.inner id) × ⊥) any_key (is_fault answer) old new };
-
-    ghost lets_go = { λ old id new. Follows (λ s. bytes_at s.inner) (λ _. false) (λ s. faults_of s.inner) (λ _ _. ⊥) (other_than id) false old new };
-
-    ghost write_follows = { λ _ _ _ _ _ h. h };
-
-    ghost read_follows = { λ _ _ _ _ h. h };
-
-    ghost forget_follows = { λ _ _ _ h. h };
-
-    fn write(&mut self, id: u32, bytes: &[u8]) -> Result<(), DeviceFault> {
-        self.inner.write(id, bytes)
-    }
-
-    fn read(&mut self, id: u32) -> Result<Vec<u8>, DeviceFault> {
-        let mut bytes = read_inner(&mut self.inner, id)?;
-        if let Some(len) = self.next.take() {
-            let Ok(()) = bytes.resize(len, 0xee) else {
-                return Err(DeviceFault::Memory);
-            };
-        }
-        Ok(bytes)
-    }
-
-    fn read_into(&mut self, id: u32, buffer: &mut Vec<u8>) -> Result<(), DeviceFault> {
-        hand_over(self.read(id)?, buffer);
-        Ok(())
-    }
-
-    fn forget(&mut self, id: u32) {
-        self.inner.forget(id);
-    }
-
-    fn faults(&self) -> u64 {
-        self.inner.faults()
-    }
-}
-
-/// What is seen of a device: whether anything is under key 0, and the least room that it was lent for a read.
-#[derive(Drop)]
-pub(super) struct Sight {
-    pub(super) holds: Cell<bool>,
-    pub(super) least: Cell<usize>,
-}
-
-/// One that is watched.
-#[derive(Drop)]
-pub(super) struct Watched<D: Device + Drop> {
-    pub(super) inner: D,
-    pub(super) sight: Rc<Sight>,
-}
-
-impl<D: Device + Drop> Device for Watched<D> {
-    ghost contents = { λ s. D.contents s.inner };
-
-    ghost honest = { λ s. D.honest s.inner };
-
-    ghost faults = { λ s. D.faults s.inner };
-
-    ghost forgets = { D.forgets };
-
-    ghost reads_in_place = { D.reads_in_place };
-
-    ghost fails_at_most = { λ s. D.fails_at_most s.inner };
-
-    ghost wraps = { λ s. D.wraps s.inner };
-
-    ghost writes = { λ old id _ answer new. Follows (λ s. D.contents s.inner) (λ s. D.honest s.inner) (λ s. D.faults s.inner) (λ s. D.fails_at_most s.inner) (other_than id) (is_fault answer) old new };
-
-    ghost reads = { λ old id answer new. Follows (λ s. D.contents s.inner) (λ s. D.honest s.inner) (λ s. D.faults s.inner) (λ s n. IsSome (D.contents old.inner id) × D.fails_at_most s.inner n) any_key (is_fault answer) old new };
-
-    ghost lets_go = { λ old id new. Follows (λ s. D.contents s.inner) (λ s. D.honest s.inner) (λ s. D.faults s.inner) (λ s. D.fails_at_most s.inner) (other_than id) false old new };
-
-    ghost write_follows = { λ _ _ _ _ _ h. h };
-
-    ghost read_follows = { λ _ _ _ _ h. h };
-
-    ghost forget_follows = { λ _ _ _ h. h };
-
-    fn write(&mut self, id: u32, bytes: &[u8]) -> Result<(), DeviceFault> {
         self.inner.write(id, bytes)?;
         if id == 0 {
             self.sight.holds.set(true);
@@ -312,13 +138,31 @@ impl<D: Device + Drop> Device for Watched<D> {
     }
 
     fn read(&mut self, id: u32) -> Result<Vec<u8>, DeviceFault> {
-        self.inner.read(id)
+        match self.flaw {
+            Flaw::Stumbling(fault) => {
+                self.flaw = Flaw::Nothing;
+                if fault == DeviceFault::Device {
+                    self.faults = self.faults.wrapping_add(1);
+                }
+                Err(fault)
+            }
+            Flaw::Lying(len) if !self.honest => {
+                self.flaw = Flaw::Nothing;
+                let mut bytes = read_inner(&mut self.inner, id)?;
+                let Ok(()) = bytes.resize(len, 0xee) else {
+                    return Err(DeviceFault::Memory);
+                };
+                Ok(bytes)
+            }
+            _ => read_inner(&mut self.inner, id),
+        }
     }
 
     fn read_into(&mut self, id: u32, buffer: &mut Vec<u8>) -> Result<(), DeviceFault> {
         let least = self.sight.least.get().min(buffer.capacity());
         self.sight.least.set(least);
-        self.inner.read_into(id, buffer)
+        hand_over(self.read(id)?, buffer);
+        Ok(())
     }
 
     fn forget(&mut self, id: u32) {
@@ -329,23 +173,6 @@ impl<D: Device + Drop> Device for Watched<D> {
     }
 
     fn faults(&self) -> u64 {
-        self.inner.faults()
+        self.inner.faults().wrapping_add(self.faults)
     }
-}
-
-// A device, and what is seen of it.
-pub(super) fn watched_over<D: Device + Drop>(
-    rt: &HostRuntime,
-    inner: D,
-) -> Result<(Watched<D>, Rc<Sight>), AllocError>
-    ensures { IfOk result (λ made. made.0.inner ≡ inner) }
-{
-    let holds = Cell::new(false);
-    let least = Cell::new(usize::MAX);
-    let sight = Rc::new(rt.alloc(), Sight { holds, least })?;
-    let device = Watched {
-        inner,
-        sight: sight.clone()?,
-    };
-    Ok((device, sight))
 }

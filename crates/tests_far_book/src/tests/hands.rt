@@ -12,26 +12,15 @@ ghost use Rattle.far_core.specs.state.Opening.{opening};
 ghost use Rattle.far_hand.specs.BesetView.{beset_view};
 ghost use Rattle.far_hand.specs.Masked.{masked, word_at};
 
-use crate::tests::books::{name, put};
+use crate::tests::acts::{ADOPT, CLOSE, DROP, HOT, MOVE, NEAR, OPEN, READ, SMALL, WAS_HOT};
+use crate::tests::owners::answers_all;
 use far_book::{Beset, Near, Plain};
-use far_core::{Core, Event, Kind, Reply, Shape};
-use far_word::{Mark, PtrWord, Refused};
+use far_core::{Core, Event, Kind, Reply};
+use far_word::{PtrWord, Refused};
 use std::alloc::Global;
-use std::test::Fail;
 
-const SMALL: Shape = Shape {
-    logs: 4,
-    mutators: 1,
-    epoch: 0,
-};
-
-/// The header of pointer 0, an object of 8 bytes of data structure 1, and its cell at the start of log 0: as it is
-/// named, with HOT, with HOT and MOVE, with DROP too.
+/// The header of pointer 0, an object of 8 bytes of data structure 1; and its cell at the start of log 0 with HOT and MOVE, and with DROP too.
 const HEADER: u64 = 0xa100_0000_0001_0008;
-
-const NEAR: u64 = 0x8400_0000_0001_0008;
-
-const HOT: u64 = 0xc400_0000_0001_0008;
 
 const MOVED: u64 = 0xd400_0000_0001_0008;
 
@@ -41,6 +30,29 @@ const DROPPED: u64 = 0xdc00_0000_0001_0008;
 const FILLING: u64 = 0xa100_0000_0001_03f8;
 
 const GONE: u64 = 0x8c00_0000_0001_03f8;
+
+/// What is done by a hand on the shared words of [`SMALL`], or looked at, each with what is to come of it.
+#[derive(Clone, Copy)]
+enum Touch {
+    /// The cell of pointer 0 is seen with this word.
+    Sees(u64),
+    /// A word of log 0 is read so.
+    Gets(u16, u64),
+    /// EVAC is taken from pointer 0, which had this word, if it is seen to be near.
+    Clears(Option<u64>),
+    /// Pointer 0 is seen to be dropped, and its cell is free again.
+    Retires,
+    /// The first word of log 0 is read so, and with it the log is given back.
+    GivesBack(u64),
+    /// The core has this word in the cell of pointer 0.
+    Cell(u64),
+    /// The hand has found this one there.
+    Found(u64),
+    /// Whether the first two words of log 0 are counted on, beside headers.
+    Counts(bool, bool),
+    /// An owner's event, with its answer.
+    Owns(Event, Reply),
+}
 
 /// Pointer 0 gets the first two words of log 0.
 fn place_first<N: Near>(near: &mut N) -> Result<(), u64>
@@ -91,150 +103,42 @@ fn beset_hand(alloc: Global, events: Vec<Event>) -> Result<Beset, Refused>
     Beset::new(alloc, core, events)
 }
 
-fn ask(mark: Mark) -> Event {
-    Event::Ask {
-        owner: 0,
-        pointer: 0,
-        mark,
+// Whether a call of a hand comes out as it should.
+fn touches<N: Near>(hand: &mut N, touch: Touch) -> bool {
+    let shape = hand.shape();
+    if shape != SMALL || shape.mutators == 0 || shape.logs == 0 {
+        return false;
+    }
+    match touch {
+        Touch::Sees(word) => hand.see(0) == word,
+        Touch::Gets(at, word) => at < 2 && hand.get(0, at, false) == word,
+        Touch::Clears(word) => clear_first(hand) == word,
+        Touch::Retires => retire_first(hand) == Some(Ok(())),
+        _ => false,
     }
 }
 
-// Whether pointer 0 and its two words are seen as they were written.
-fn shows_first(hand: &mut Plain) -> bool {
-    hand.core.mutators() == 1
-        && hand.core.logs() == 4
-        && hand.core.cell(0) == NEAR
-        && hand.see(0) == NEAR
-        && hand.get(0, 0, false) == HEADER
-        && hand.get(0, 1, false) == 0
-}
-
-// Whether its owner takes pointer 0 over and drops it, and it is retired.
-fn lets_first_go(hand: &mut Plain) -> bool {
-    let adopt = Event::Adopt {
-        owner: 0,
-        pointer: 0,
-    };
-    hand.core.step(adopt) == Reply::Word(NEAR)
-        && hand.core.step(ask(Mark::Dropped)) == Reply::Word(NEAR)
-        && hand.core.mutators() == 1
-        && retire_first(hand) == Some(Ok(()))
-        && hand.core.cell(0) == 0
-}
-
-#[test]
-fn plain_words_stay(rt: HostRuntime) -> Result<(), Fail> {
-    let mut hand = plain_hand(rt.alloc())?;
-    let named = place_first(&mut hand);
-    assert!(rt; named == Ok(()));
-    assert!(rt; hand.shape() == SMALL);
-    assert!(rt; shows_first(&mut hand));
-    assert!(rt; lets_first_go(&mut hand));
-    Ok(())
-}
-
-// Whether the first two words of log 0 are counted on so, beside headers.
-fn counts(hand: &Beset, first: bool, second: bool) -> bool {
-    hand.counted.get(0).copied() == Some(first) && hand.counted.get(1).copied() == Some(second)
-}
-
-// Whether the cell of pointer 0 is seen with this word.
-fn sees(hand: &mut Beset, word: u64) -> bool {
-    hand.core.mutators() == 1 && hand.see(0) == word
-}
-
-// Whether the second word of log 0 is read so.
-fn gets(hand: &mut Beset, word: u64) -> bool {
-    hand.core.logs() == 4 && hand.get(0, 1, false) == word
-}
-
-// Whether pointer 0 is seen to be dropped, and its cell is free again.
-fn retires(hand: &mut Beset) -> bool {
-    hand.core.mutators() == 1 && retire_first(hand) == Some(Ok(())) && hand.core.cell(0) == 0
-}
-
-// Whether pointer 0's owner stores into the object, so that what is read isn't counted on.
-fn stores_meanwhile(hand: &mut Beset) -> bool {
-    counts(hand, false, false)
-        && sees(hand, NEAR)
-        && sees(hand, HOT)
-        && gets(hand, 7)
-        && gets(hand, 8)
-        && counts(hand, false, false)
-}
-
-// Whether its second word is counted on once it has MOVE.
-fn is_counted_on(hand: &mut Beset) -> bool {
-    sees(hand, HOT)
-        && sees(hand, HOT)
-        && sees(hand, MOVED)
-        && gets(hand, 8)
-        && counts(hand, false, true)
-}
-
-// Whether it is quiet then, until it is retired.
-fn is_quiet(hand: &mut Beset) -> bool {
-    is_counted_on(hand)
-        && hand.core.cell(0) == DROPPED
-        && hand.shape() == SMALL
-        && retires(hand)
-        && counts(hand, false, false)
-}
-
-// The event by which pointer 0's owner stores a word.
-fn store(word: u64) -> Event {
-    Event::Store {
-        owner: 0,
-        pointer: 0,
-        index: 0,
-        word,
+// The same of one on a core that nobody else steps.
+fn plain_touches(hand: &mut Plain, touch: Touch) -> bool {
+    match touch {
+        Touch::Cell(word) => hand.core.cell(0) == word,
+        Touch::Owns(event, reply) => hand.core.step(event) == reply,
+        _ => touches(hand, touch),
     }
 }
 
-#[test]
-fn owners_are_at_work(rt: HostRuntime) -> Result<(), Fail> {
-    let (owner, pointer) = (0, 0);
-    let events = vec![in rt.alloc();
-        Event::ReadEpoch { owner },
-        Event::Open { owner },
-        // The cell is free, so this isn't legal.
-        Event::Adopt { owner, pointer },
-        Event::Adopt { owner, pointer },
-        Event::Pin { owner, pointer },
-        store(7),
-        store(8),
-        // The book's events are passed over.
-        Event::See { pointer },
-        Event::Close { owner },
-        ask(Mark::Moved),
-        ask(Mark::Dropped),
-    ]?;
-    let mut hand = beset_hand(rt.alloc(), events)?;
-    let named = place_first(&mut hand);
-    assert!(rt; named == Ok(()));
-    assert!(rt; stores_meanwhile(&mut hand));
-    assert!(rt; is_quiet(&mut hand));
-    Ok(())
-}
-
-/// Pointer 0 is dropped, and its object fills log 0, which is sealed.
-fn dropped_core(alloc: Global) -> Result<Core, Refused> {
-    let mut core = Core::new(alloc, SMALL, true)?;
-    let events = [
-        put(0, FILLING),
-        name(0, 0x8400_0000_0001_03f8),
-        put(1, 0xa100_0000_0101_0008),
-        name(1, 0x8400_0004_0001_0008),
-        Event::Adopt {
-            owner: 0,
-            pointer: 0,
-        },
-        ask(Mark::Dropped),
-    ];
-    for event in events {
-        core.step(event);
+// The same of one beside whose calls owners are at work.
+fn beset_touches(hand: &mut Beset, touch: Touch) -> bool {
+    match touch {
+        Touch::Cell(word) => hand.core.cell(0) == word,
+        Touch::Found(word) => hand.found.get(0).copied() == Some(word),
+        Touch::Counts(first, second) => {
+            hand.counted.get(0).copied() == Some(first)
+                && hand.counted.get(1).copied() == Some(second)
+        }
+        Touch::GivesBack(word) => gives_back(hand, word),
+        _ => touches(hand, touch),
     }
-    Ok(core)
 }
 
 /// Whether a cell names a place in a log.
@@ -267,59 +171,226 @@ fn is_vacant(found: &Vec<u64>, log: u8) -> bool
     true
 }
 
-// Whether EVAC is taken from pointer 0, and the hand has found its cell so.
-fn takes_evac_back(hand: &mut Beset) -> bool {
-    hand.core.mutators() == 1
-        && clear_first(hand) == Some(0xac00_0000_0001_03f8)
-        && hand.core.cell(0) == GONE
-        && hand.found.get(0).copied() == Some(GONE)
-}
-
-// Whether there is no object from which it is taken.
-fn takes_nothing_back(hand: &mut Plain) -> bool {
-    hand.core.mutators() == 1 && clear_first(hand).is_none()
-}
-
-#[test]
-fn evac_is_taken_back(rt: HostRuntime) -> Result<(), Fail> {
-    let mut core = dropped_core(rt.alloc())?;
-    assert!(rt; core.step(Event::Mark { pointer: 0 }) == Reply::Word(GONE));
-    let owners = vec![in rt.alloc()]?;
-    let mut hand = Beset::new(rt.alloc(), core, owners)?;
-    assert!(rt; takes_evac_back(&mut hand));
-    let mut hand = plain_hand(rt.alloc())?;
-    assert!(rt; takes_nothing_back(&mut hand));
-    Ok(())
-}
-
-// Whether the first word of log 0 is read, and with it the log is given back.
-fn gives_back(hand: &mut Beset) -> bool {
+// Whether the first word of log 0 is read so, and with it the log is given back.
+fn gives_back(hand: &mut Beset, word: u64) -> bool {
     hand.core.logs() == 4
         && hand.core.kind(0) == Kind::Sealed
         && is_vacant(&hand.found, 0)
-        && hand.get(0, 0, true) == FILLING
+        && hand.get(0, 0, true) == word
         && hand.core.logs() == 4
         && hand.core.kind(0) == Kind::Free
         && hand.core.tail(0) == 0
 }
 
+fn plain_does_all(hand: &mut Plain, touches: &[Touch]) -> bool {
+    for touch in touches {
+        if !plain_touches(hand, *touch) {
+            return false;
+        }
+    }
+    true
+}
+
+fn beset_does_all(hand: &mut Beset, touches: &[Touch]) -> bool {
+    for touch in touches {
+        if !beset_touches(hand, *touch) {
+            return false;
+        }
+    }
+    true
+}
+
+// Whether each comes out as it should once pointer 0 was placed.
+fn plays_plain(alloc: Global, touches: &[Touch]) -> bool {
+    match plain_hand(alloc) {
+        Ok(mut hand) => place_first(&mut hand) == Ok(()) && plain_does_all(&mut hand, touches),
+        Err(_) => false,
+    }
+}
+
+// The same beside owners that make these events, one before each call.
+fn plays_beset(alloc: Global, events: &[Event], touches: &[Touch]) -> bool {
+    let mut all = Vec::new(alloc);
+    if all.extend_from_slice(events).is_err() {
+        return false;
+    }
+    match beset_hand(alloc, all) {
+        Ok(mut hand) => place_first(&mut hand) == Ok(()) && beset_does_all(&mut hand, touches),
+        Err(_) => false,
+    }
+}
+
+// The same on this core.
+fn plays_over(alloc: Global, core: Core, events: &[Event], touches: &[Touch]) -> bool {
+    let mut all = Vec::new(alloc);
+    if all.extend_from_slice(events).is_err() {
+        return false;
+    }
+    match Beset::new(alloc, core, all) {
+        Ok(mut hand) => beset_does_all(&mut hand, touches),
+        Err(_) => false,
+    }
+}
+
+// The same on a core that answers these events so.
+fn plays_after(
+    alloc: Global,
+    answers: &[(Event, Reply)],
+    events: &[Event],
+    touches: &[Touch],
+) -> bool {
+    match Core::new(alloc, SMALL, true) {
+        Ok(mut core) => {
+            answers_all(&mut core, answers) && plays_over(alloc, core, events, touches)
+        }
+        Err(_) => false,
+    }
+}
+
+// Pointer 0 and its two words are seen as they were written.
+const SHOWN: &[Touch] = &[
+    Touch::Cell(NEAR),
+    Touch::Sees(NEAR),
+    Touch::Gets(0, HEADER),
+    Touch::Gets(1, 0),
+    Touch::Owns(ADOPT, Reply::Word(NEAR)),
+    Touch::Owns(DROP, Reply::Word(NEAR)),
+    Touch::Retires,
+    Touch::Cell(0),
+];
+
 #[test]
-fn beset_log_is_given_back(rt: HostRuntime) -> Result<(), Fail> {
-    let core = dropped_core(rt.alloc())?;
-    let events = vec![in rt.alloc();
-        Event::ReadEpoch { owner: 0 },
-        Event::Open { owner: 0 },
-        Event::Adopt {
-            owner: 0,
-            pointer: 1,
-        },
-        Event::Pin {
-            owner: 0,
-            pointer: 1,
-        },
-    ]?;
-    let mut hand = Beset::new(rt.alloc(), core, events)?;
-    assert!(rt; retires(&mut hand));
-    assert!(rt; gives_back(&mut hand));
-    Ok(())
+fn plain_words_stay(rt: HostRuntime) {
+    assert!(rt; plays_plain(rt.alloc(), SHOWN));
+}
+
+const SEE: Event = Event::See { pointer: 0 };
+
+const STORE_7: Event = Event::Store {
+    owner: 0,
+    pointer: 0,
+    index: 0,
+    word: 7,
+};
+
+const STORE_8: Event = Event::Store {
+    owner: 0,
+    pointer: 0,
+    index: 0,
+    word: 8,
+};
+
+// The third event isn't legal, since the cell is free; the book's is passed over.
+const AT_WORK: &[Event] = &[
+    READ, OPEN, ADOPT, ADOPT, HOT, STORE_7, STORE_8, SEE, CLOSE, MOVE, DROP,
+];
+
+// Pointer 0's owner stores into the object, so that what is read isn't counted on. Its second word is once it has MOVE, and then it is quiet, until it is
+// retired.
+const BESIDE_THEM: &[Touch] = &[
+    Touch::Counts(false, false),
+    Touch::Sees(NEAR),
+    Touch::Sees(WAS_HOT),
+    Touch::Gets(1, 7),
+    Touch::Gets(1, 8),
+    Touch::Counts(false, false),
+    Touch::Sees(WAS_HOT),
+    Touch::Sees(WAS_HOT),
+    Touch::Sees(MOVED),
+    Touch::Gets(1, 8),
+    Touch::Counts(false, true),
+    Touch::Cell(DROPPED),
+    Touch::Retires,
+    Touch::Cell(0),
+    Touch::Counts(false, false),
+];
+
+#[test]
+fn owners_are_at_work(rt: HostRuntime) {
+    assert!(rt; plays_beset(rt.alloc(), AT_WORK, BESIDE_THEM));
+}
+
+const PUT_FULL: Event = Event::Put {
+    log: 0,
+    at: 0,
+    word: FILLING,
+};
+
+const NAME_FULL: Event = Event::Name {
+    pointer: 0,
+    old: 0,
+    new: 0x8400_0000_0001_03f8,
+};
+
+const PUT_NEXT: Event = Event::Put {
+    log: 1,
+    at: 0,
+    word: 0xa100_0000_0101_0008,
+};
+
+const NAME_NEXT: Event = Event::Name {
+    pointer: 1,
+    old: 0,
+    new: 0x8400_0004_0001_0008,
+};
+
+const MARK: Event = Event::Mark { pointer: 0 };
+
+// Pointer 0 is dropped, and its object fills log 0, which is sealed; and it has EVAC.
+const DROPS_FULL: &[(Event, Reply)] = &[
+    (PUT_FULL, Reply::Done),
+    (NAME_FULL, Reply::Done),
+    (PUT_NEXT, Reply::Done),
+    (NAME_NEXT, Reply::Done),
+    (ADOPT, Reply::Word(0x8400_0000_0001_03f8)),
+    (DROP, Reply::Word(0x8400_0000_0001_03f8)),
+];
+
+const MARKS_FULL: &[(Event, Reply)] = &[
+    (PUT_FULL, Reply::Done),
+    (NAME_FULL, Reply::Done),
+    (PUT_NEXT, Reply::Done),
+    (NAME_NEXT, Reply::Done),
+    (ADOPT, Reply::Word(0x8400_0000_0001_03f8)),
+    (DROP, Reply::Word(0x8400_0000_0001_03f8)),
+    (MARK, Reply::Word(GONE)),
+];
+
+// EVAC is taken from pointer 0, and the hand has found its cell so.
+const TAKES_EVAC_BACK: &[Touch] = &[
+    Touch::Clears(Some(0xac00_0000_0001_03f8)),
+    Touch::Cell(GONE),
+    Touch::Found(GONE),
+];
+
+// There is no object any more from which it is taken.
+const TAKES_NOTHING_BACK: &[Touch] = &[
+    Touch::Owns(ADOPT, Reply::Word(NEAR)),
+    Touch::Owns(DROP, Reply::Word(NEAR)),
+    Touch::Retires,
+    Touch::Clears(None),
+];
+
+#[test]
+fn evac_is_taken_back(rt: HostRuntime) {
+    assert!(rt; plays_after(rt.alloc(), MARKS_FULL, &[], TAKES_EVAC_BACK));
+    assert!(rt; plays_plain(rt.alloc(), TAKES_NOTHING_BACK));
+}
+
+const ADOPT_NEXT: Event = Event::Adopt {
+    owner: 0,
+    pointer: 1,
+};
+
+const PIN_NEXT: Event = Event::Pin {
+    owner: 0,
+    pointer: 1,
+};
+
+const GIVES_BACK: &[Touch] = &[Touch::Retires, Touch::Cell(0), Touch::GivesBack(FILLING)];
+
+#[test]
+fn beset_log_is_given_back(rt: HostRuntime) {
+    let events = [READ, OPEN, ADOPT_NEXT, PIN_NEXT];
+    assert!(rt; plays_after(rt.alloc(), DROPS_FULL, &events, GIVES_BACK));
 }

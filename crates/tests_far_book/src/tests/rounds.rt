@@ -1,263 +1,138 @@
 //! The calls of a round by worked values: a log is given back and taken anew, EVAC is taken back, the epoch rises to its end, scopes are
 //! looked at, and the live spans of a log come one after the other.
 
-ghost use Rattle.std.specs.Prelude.{◌≡◌, ◌<◌};
-
-use crate::tests::books::{
-    DROP, IDLE, NO_MARKS, SMALL, ask, beset_by, has, is_near_at, is_so_of, line, mark_sealed,
-    opened, places_next, retire_dropped,
+use crate::tests::acts::Act::*;
+use crate::tests::acts::{
+    ADOPT, Act, CLOSE, DROP, IDLE, IS_DROPPED, NEAR, NO_MARKS, OPEN, READ, SMALL,
 };
-use crate::tests::moving::{asks_two, loaded, moves_to, refuses_move};
-use far_book::{Beset, Book, Near, Plain, live_spans_follow};
-use far_core::{Event, Kind, Reply, Shape};
-use far_device::{Device, MemDevice};
-use far_log::Span;
-use far_word::{Mark, Marks, Place, PtrWord, Refused, ScopeWord, size_of};
+use crate::tests::devices::Flaw;
+use crate::tests::moving::ASKS_TWO;
+use crate::tests::stage::{plays, plays_beside, plays_over};
+use far_core::{Kind, Reply, Shape};
+use far_log::{LogRow, Span};
+use far_word::{Mark, Place, Refused, ScopeWord};
 
-/// The cell of pointer 0, an object of 8 bytes of data structure 1 at the start of log 0: with EVAC, and without marks.
+/// The cell of pointer 0, an object of 8 bytes of data structure 1 at the start of log 0, with EVAC.
 const WANTED: u64 = 0xa400_0000_0001_0008;
-
-const NEAR: u64 = 0x8400_0000_0001_0008;
 
 /// The last epoch.
 const LAST: u64 = (1 << 62) - 1;
 
-// Gives a log back, where no object lies there; `None` where the number is no sealed log's.
-fn release_sealed<N: Near + Drop, D: Device + Drop>(
-    book: &mut Book<N, D>,
-    log: u8,
-) -> Option<bool> {
-    if log as u64 >= book.shape().logs || book.log(log).0 != Kind::Sealed {
-        return None;
-    }
-    Some(book.release(log))
-}
+// The move of pointer 1 is refused as long as the object of pointer 2, dropped or not, lies in log 2; log 3 is open.
+const HAS_NO_ROOM: &[Act] = &[
+    Moves(0, Some(Ok(Some(Place { log: 3, at: 0 })))),
+    Near(0, (3, 0), NO_MARKS),
+    Moves(1, Some(Err(Refused::NoRoom))),
+    Releases(2, Some(false)),
+    Asks(2, Mark::Dropped),
+    Releases(2, Some(false)),
+    Moves(1, Some(Err(Refused::NoRoom))),
+    Retires(2, true),
+    Log(2, Kind::Sealed, [0, 1024, 0]),
+    Releases(3, None),
+];
 
-// Takes EVAC from a near object, and answers its word before; `None` where the pointer names none.
-fn clear_near<N: Near + Drop, D: Device + Drop>(
-    book: &mut Book<N, D>,
-    pointer: u16,
-) -> Option<u64> {
-    if pointer as u64 >= 128 * book.shape().mutators {
-        return None;
-    }
-    let Some(PtrWord::Near { .. }) = PtrWord::read(book.see(pointer)) else {
-        return None;
-    };
-    Some(book.clear(pointer))
-}
-
-// A round of no logs begins.
-#[tactic(auto, using(crate::proofs::Uses::none_chosen))]
-fn advance_none<N: Near + Drop, D: Device + Drop>(book: &mut Book<N, D>) -> Result<u64, Refused> {
-    book.advance(0)
-}
-
-// A round of these logs begins; `None` where they can't be its logs.
-fn advance_chosen(book: &mut Book<Plain, MemDevice>, logs: u64) -> Option<Result<u64, Refused>> {
-    if !book.core().may_advance(logs) {
-        return None;
-    }
-    Some(book.advance(logs))
-}
-
-// What an owner's scope says; `None` where the number is no owner's.
-fn look_at<N: Near + Drop, D: Device + Drop>(
-    book: &mut Book<N, D>,
-    owner: u8,
-) -> Option<ScopeWord> {
-    if owner as u64 >= book.shape().mutators {
-        return None;
-    }
-    ScopeWord::read(book.look(owner))
-}
-
-// Whether the live spans of a log, one after the other, are these.
-fn has_live<N: Near + Drop, D: Device + Drop>(
-    book: &mut Book<N, D>,
-    log: u8,
-    wanted: &[Span],
-) -> bool {
-    if log as u64 >= book.shape().logs {
-        return false;
-    }
-    book.keeps_law();
-    live_spans_follow();
-    let mut at = 0;
-    for span in wanted {
-        let Some(found) = book.next_live(log, at) else {
-            return false;
-        };
-        if found != *span {
-            return false;
-        }
-        at = found.at + size_of(found.len);
-    }
-    book.next_live(log, at).is_none()
-}
-
-// The first live span from the one on that stands at this place in the list of a log's spans; `None` where none stands there.
-fn next_from<N: Near + Drop, D: Device + Drop>(
-    book: &mut Book<N, D>,
-    log: u8,
-    number: usize,
-) -> Result<Option<Option<Span>>, Refused> {
-    if log as u64 >= book.shape().logs {
-        return Ok(None);
-    }
-    book.keeps_law();
-    live_spans_follow();
-    let spans = book.spans(log)?;
-    if number >= spans.len() {
-        return Ok(None);
-    }
-    Ok(Some(book.next_live(log, spans[number].at)))
-}
-
-// Whether the first live span from the one at this place in the list on is this.
-fn finds_from(book: &mut Book<Plain, MemDevice>, number: usize, wanted: Option<Span>) -> bool {
-    next_from(book, 0, number) == Ok(Some(wanted))
-}
-
-// Its owner takes a pointer over and drops it.
-fn drop_next(book: &mut Book<Plain, MemDevice>, pointer: u16) {
-    let owner = 0;
-    book.owner(Event::Adopt { owner, pointer });
-    book.owner(ask(pointer, Mark::Dropped));
-}
-
-// Whether an object is dropped and retired.
-fn lets_go(book: &mut Book<Plain, MemDevice>, pointer: u16) -> bool {
-    drop_next(book, pointer);
-    retire_dropped(book, pointer)
-}
-
-// Whether a log is given back, and is free.
-fn gives_back(book: &mut Book<Plain, MemDevice>, log: u8) -> bool {
-    release_sealed(book, log) == Some(true) && has(book, log, line(Kind::Free, log, 0, 0, 1024))
-}
-
-// Whether a log isn't given back, since an object lies there.
-fn keeps_log(book: &mut Book<Plain, MemDevice>, log: u8) -> bool {
-    release_sealed(book, log) == Some(false)
-}
-
-// Whether the move of pointer 1 is refused as long as the object of pointer 2, dropped or not, lies in log 2; log 3 is open.
-fn has_no_room(book: &mut Book<Plain, MemDevice>) -> bool {
-    let full = moves_to(book, 0, Place { log: 3, at: 0 })
-        && refuses_move(book, 1, Refused::NoRoom)
-        && keeps_log(book, 2);
-    drop_next(book, 2);
-    full && keeps_log(book, 2)
-        && refuses_move(book, 1, Refused::NoRoom)
-        && retire_dropped(book, 2)
-        && has(book, 2, line(Kind::Sealed, 2, 0, 1024, 0))
-        && release_sealed(book, 3).is_none()
-}
-
-// Whether it is made once that log is given back.
-fn has_room(book: &mut Book<Plain, MemDevice>) -> bool {
-    gives_back(book, 2)
-        && release_sealed(book, 2).is_none()
-        && moves_to(book, 1, Place { log: 2, at: 0 })
-        && loaded(book, 1, 1) == Reply::Word(2)
-        && has(book, 2, line(Kind::Open, 2, 1024, 0, 0))
-}
-
-// Whether it is refused before, and made after.
-fn moves_at_last(book: &mut Book<Plain, MemDevice>) -> bool {
-    asks_two(book) && has_no_room(book) && has_room(book)
-}
+// It is made once that log is given back.
+const HAS_ROOM: &[Act] = &[
+    Releases(2, Some(true)),
+    Log(2, Kind::Free, [0, 0, 1024]),
+    Releases(2, None),
+    Moves(1, Some(Ok(Some(Place { log: 2, at: 0 })))),
+    Near(1, (2, 0), NO_MARKS),
+    Loads(1, 1016),
+    Log(2, Kind::Open, [1024, 0, 0]),
+];
 
 #[test]
 fn a_refused_move_is_made_once_there_is_room(rt: HostRuntime) {
-    assert!(rt; is_so_of(opened(&rt, SMALL), moves_at_last));
+    assert!(rt; plays(&rt, &[ASKS_TWO, HAS_NO_ROOM, HAS_ROOM]));
 }
 
-// Whether two objects lie in log 0, and one fills each of the next two.
-fn fills_three(book: &mut Book<Plain, MemDevice>) -> bool {
-    places_next(book, 8, 0, Place { log: 0, at: 0 })
-        && places_next(book, 9, 1, Place { log: 0, at: 2 })
-        && places_next(book, 1016, 2, Place { log: 1, at: 0 })
-        && places_next(book, 1016, 3, Place { log: 2, at: 0 })
-}
+// Two objects lie in log 0, and one fills each of the next two.
+const FILLS_THREE: &[Act] = &[
+    Makes(8, 0, (0, 0)),
+    Makes(9, 1, (0, 2)),
+    Makes(1016, 2, (1, 0)),
+    Makes(1016, 3, (2, 0)),
+];
 
-// Whether log 0 is given back once the last of its objects is retired, and the first of the sealed ones is still log 1.
-fn gives_the_first_back(book: &mut Book<Plain, MemDevice>) -> bool {
-    lets_go(book, 0)
-        && lets_go(book, 2)
-        && keeps_log(book, 0)
-        && has(book, 0, line(Kind::Sealed, 0, 24, 16, 984))
-        && lets_go(book, 1)
-        && gives_back(book, 0)
-        && matches!(book.rows(), Ok(rows) if rows.len() == 1)
-        && gives_back(book, 1)
-}
+const DEAD: LogRow = LogRow {
+    log: 1,
+    live: 0,
+    dead: 1024,
+    unused: 0,
+};
 
-// Whether log 0 opens anew for an object that fills it, and log 1 is free.
-fn opens_anew(book: &mut Book<Plain, MemDevice>) -> bool {
-    fills_three(book)
-        && gives_the_first_back(book)
-        && places_next(book, 1016, 0, Place { log: 0, at: 0 })
-        && has(book, 0, line(Kind::Open, 0, 1024, 0, 0))
-        && has(book, 1, line(Kind::Free, 1, 0, 0, 1024))
-}
+// Log 0 is given back once the last of its objects is retired, and the first of the sealed ones is still log 1.
+const GIVES_THE_FIRST_BACK: &[Act] = &[
+    Asks(0, Mark::Dropped),
+    Retires(0, true),
+    Asks(2, Mark::Dropped),
+    Retires(2, true),
+    Releases(0, Some(false)),
+    Log(0, Kind::Sealed, [24, 16, 984]),
+    Asks(1, Mark::Dropped),
+    Retires(1, true),
+    Releases(0, Some(true)),
+    Log(0, Kind::Free, [0, 0, 1024]),
+    Rows(&[DEAD]),
+    Releases(1, Some(true)),
+    Log(1, Kind::Free, [0, 0, 1024]),
+];
+
+// It opens anew for an object that fills it, and log 1 is free.
+const OPENS_ANEW: &[Act] = &[
+    Makes(1016, 0, (0, 0)),
+    Log(0, Kind::Open, [1024, 0, 0]),
+    Log(1, Kind::Free, [0, 0, 1024]),
+];
 
 #[test]
 fn a_log_given_back_opens_anew(rt: HostRuntime) {
-    assert!(rt; is_so_of(opened(&rt, SMALL), opens_anew));
+    assert!(rt; plays(&rt, &[FILLS_THREE, GIVES_THE_FIRST_BACK, OPENS_ANEW]));
 }
 
-// Whether an object lies in log 0, which the next one seals.
-fn seals_the_first(book: &mut Book<Plain, MemDevice>) -> bool {
-    places_next(book, 8, 0, Place { log: 0, at: 0 })
-        && places_next(book, 1016, 1, Place { log: 1, at: 0 })
-}
+// An object lies in log 0, which the next one seals; no round begins before it is marked.
+const SEALS_THE_FIRST: &[Act] = &[
+    Makes(8, 0, (0, 0)),
+    Makes(1016, 1, (1, 0)),
+    Begins(1, None),
+    Marks(0, Some(NEAR)),
+];
 
-// Whether a round of log 0 begins with this epoch, once the object is marked.
-fn begins_round(book: &mut Book<Plain, MemDevice>, epoch: u64) -> bool {
-    mark_sealed(book, 0) == Some(NEAR)
-        && advance_chosen(book, 1) == Some(Ok(epoch))
-        && book.core().is_in_round(0)
-}
-
-// Whether EVAC is taken back, and log 0 left the round with it.
-fn takes_evac_back(book: &mut Book<Plain, MemDevice>) -> bool {
-    clear_near(book, 0) == Some(WANTED)
-        && !book.core().is_in_round(0)
-        && book.core().cell(0) == NEAR
-        && clear_near(book, 0) == Some(NEAR)
-        && clear_near(book, 2).is_none()
-}
-
-// Whether a round begins once its object is marked, and EVAC is taken back.
-fn takes_back(book: &mut Book<Plain, MemDevice>) -> bool {
-    seals_the_first(book)
-        && advance_chosen(book, 1).is_none()
-        && begins_round(book, 1)
-        && takes_evac_back(book)
-}
+// EVAC is taken back, and log 0 left the round with it.
+const TAKES_EVAC_BACK: &[Act] = &[
+    Begins(1, Some(Ok(1))),
+    InRound(0, true),
+    Clears(0, Some(WANTED)),
+    InRound(0, false),
+    Cell(0, NEAR),
+    Clears(0, Some(NEAR)),
+    Clears(2, None),
+];
 
 #[test]
 fn evac_is_taken_back_in_a_round(rt: HostRuntime) {
-    assert!(rt; is_so_of(opened(&rt, SMALL), takes_back));
+    assert!(rt; plays(&rt, &[SEALS_THE_FIRST, TAKES_EVAC_BACK]));
 }
 
-// Whether no round begins after the last epoch, and that of log 0 goes on: its owner is still seen clear in it.
-fn goes_on_to_the_end(book: &mut Book<Plain, MemDevice>) -> bool {
-    look_at(book, 0) == Some(ScopeWord::Closed)
-        && advance_none(book) == Err(Refused::EpochsSpent)
-        && book.shape().epoch == LAST
-        && book.core().is_in_round(0)
-        && book.core().is_clear(0)
-        && book.core().cell(0) == WANTED
-        && has(book, 0, line(Kind::Sealed, 0, 16, 0, 1008))
-}
+const AT_LAST: Shape = Shape {
+    epoch: LAST,
+    ..SMALL
+};
 
-// Whether a round begins with the last epoch, and goes on.
-fn reaches_the_last(book: &mut Book<Plain, MemDevice>) -> bool {
-    seals_the_first(book) && begins_round(book, LAST) && goes_on_to_the_end(book)
-}
+// No round begins after the last epoch, and that of log 0 goes on: its owner is still seen clear in it.
+const GOES_ON_TO_THE_END: &[Act] = &[
+    Begins(1, Some(Ok(LAST))),
+    InRound(0, true),
+    Looks(0, Some(ScopeWord::Closed)),
+    BeginsNone(Err(Refused::EpochsSpent)),
+    Is(AT_LAST),
+    InRound(0, true),
+    IsClear(0, true),
+    Cell(0, WANTED),
+    Log(0, Kind::Sealed, [16, 0, 1008]),
+];
 
 #[test]
 fn the_last_epoch_is_the_last(rt: HostRuntime) {
@@ -265,67 +140,57 @@ fn the_last_epoch_is_the_last(rt: HostRuntime) {
         epoch: LAST - 1,
         ..SMALL
     };
-    assert!(rt; is_so_of(opened(&rt, shape), reaches_the_last));
+    assert!(rt;
+        plays_over(
+            &rt,
+            shape,
+            Flaw::Nothing,
+            &[SEALS_THE_FIRST, GOES_ON_TO_THE_END]
+        )
+    );
 }
 
-fn open_scope(book: &mut Book<Plain, MemDevice>) {
-    let owner = 0;
-    book.owner(Event::ReadEpoch { owner });
-    book.owner(Event::Open { owner });
-}
+// The owner, in a scope from before the round, is seen clear once it is closed and looked at.
+const IS_CLEAR_ONCE_CLOSED: &[Act] = &[
+    Does(&[READ, OPEN]),
+    BeginsNone(Ok(1)),
+    Looks(0, Some(ScopeWord::Open { epoch: 0 })),
+    IsClear(0, false),
+    Owns(CLOSE, Reply::Done),
+    IsClear(0, false),
+    Looks(0, Some(ScopeWord::Closed)),
+    IsClear(0, true),
+];
 
-// Whether the owner, in a scope from before the round, is seen clear once it is closed and looked at.
-fn is_clear_once_closed(book: &mut Book<Plain, MemDevice>) -> bool {
-    let before = advance_none(book) == Ok(1)
-        && look_at(book, 0) == Some(ScopeWord::Open { epoch: 0 })
-        && !book.core().is_clear(0);
-    book.owner(Event::Close { owner: 0 });
-    before
-        && !book.core().is_clear(0)
-        && look_at(book, 0) == Some(ScopeWord::Closed)
-        && book.core().is_clear(0)
-}
-
-// Whether it is so in the next round, in a scope that it opens in it.
-fn is_clear_in_a_new_scope(book: &mut Book<Plain, MemDevice>) -> bool {
-    let before = advance_none(book) == Ok(2) && !book.core().is_clear(0);
-    open_scope(book);
-    before
-        && look_at(book, 0) == Some(ScopeWord::Open { epoch: 2 })
-        && book.core().is_clear(0)
-        && look_at(book, 1).is_none()
-}
-
-// Whether an owner is seen clear once its scope is closed, and in a new one.
-fn sees_scopes(book: &mut Book<Plain, MemDevice>) -> bool {
-    open_scope(book);
-    is_clear_once_closed(book) && is_clear_in_a_new_scope(book)
-}
+// It is so in the next round, in a scope that it opens in it.
+const IS_CLEAR_IN_A_NEW_SCOPE: &[Act] = &[
+    BeginsNone(Ok(2)),
+    IsClear(0, false),
+    Does(&[READ, OPEN]),
+    Looks(0, Some(ScopeWord::Open { epoch: 2 })),
+    IsClear(0, true),
+    Looks(1, None),
+];
 
 #[test]
 fn scopes_are_looked_at(rt: HostRuntime) {
-    assert!(rt; is_so_of(opened(&rt, SMALL), sees_scopes));
+    assert!(rt; plays(&rt, &[IS_CLEAR_ONCE_CLOSED, IS_CLEAR_IN_A_NEW_SCOPE]));
 }
 
-// Whether a scope is seen closed, open and closed again, and a round begins meanwhile.
-fn opens_between_looks(book: &mut Book<Beset, MemDevice>) -> bool {
-    look_at(book, 0) == Some(ScopeWord::Closed)
-        && look_at(book, 0) == Some(ScopeWord::Open { epoch: 0 })
-        && advance_none(book) == Ok(1)
-        && look_at(book, 0) == Some(ScopeWord::Closed)
-        && book.shape() == Shape { epoch: 1, ..SMALL }
-}
+const AT_FIRST: Shape = Shape { epoch: 1, ..SMALL };
+
+// A scope is seen closed, open and closed again, and a round begins meanwhile.
+const OPENS_BETWEEN_LOOKS: &[Act] = &[
+    Looks(0, Some(ScopeWord::Closed)),
+    Looks(0, Some(ScopeWord::Open { epoch: 0 })),
+    BeginsNone(Ok(1)),
+    Looks(0, Some(ScopeWord::Closed)),
+    Is(AT_FIRST),
+];
 
 #[test]
 fn scopes_open_between_looks(rt: HostRuntime) {
-    let owner = 0;
-    let events = [
-        Event::ReadEpoch { owner },
-        Event::Open { owner },
-        IDLE,
-        Event::Close { owner },
-    ];
-    assert!(rt; is_so_of(beset_by(&rt, &events), opens_between_looks));
+    assert!(rt; plays_beside(&rt, &[READ, OPEN, IDLE, CLOSE], OPENS_BETWEEN_LOOKS));
 }
 
 const FIRST: Span = Span {
@@ -356,81 +221,75 @@ const FOURTH: Span = Span {
     ds: 1,
 };
 
-// Whether four objects are placed, and are all that lives in log 0.
-fn places_four(book: &mut Book<Plain, MemDevice>) -> bool {
-    has_live(book, 0, &[])
-        && places_next(book, 8, 0, Place { log: 0, at: 0 })
-        && places_next(book, 9, 1, Place { log: 0, at: 2 })
-        && places_next(book, 16, 2, Place { log: 0, at: 5 })
-        && places_next(book, 1, 3, Place { log: 0, at: 8 })
-        && has_live(book, 0, &[FIRST, SECOND, THIRD, FOURTH])
-}
+// Four objects are placed, and are all that lives in log 0.
+const PLACES_FOUR: &[Act] = &[
+    Live(0, &[]),
+    Makes(8, 0, (0, 0)),
+    Makes(9, 1, (0, 2)),
+    Makes(16, 2, (0, 5)),
+    Makes(1, 3, (0, 8)),
+    Live(0, &[FIRST, SECOND, THIRD, FOURTH]),
+];
 
-// Whether the first and the third are passed over once they are retired, and not before.
-fn passes_two(book: &mut Book<Plain, MemDevice>) -> bool {
-    drop_next(book, 0);
-    drop_next(book, 2);
-    has_live(book, 0, &[FIRST, SECOND, THIRD, FOURTH])
-        && retire_dropped(book, 0)
-        && has_live(book, 0, &[SECOND, THIRD, FOURTH])
-        && retire_dropped(book, 2)
-        && has_live(book, 0, &[SECOND, FOURTH])
-}
+// The first and the third are passed over once they are retired, and not before.
+const PASSES_TWO: &[Act] = &[
+    Asks(0, Mark::Dropped),
+    Asks(2, Mark::Dropped),
+    Live(0, &[FIRST, SECOND, THIRD, FOURTH]),
+    Retires(0, true),
+    Live(0, &[SECOND, THIRD, FOURTH]),
+    Retires(2, true),
+    Live(0, &[SECOND, FOURTH]),
+];
 
-// Whether what is found from a span on, retired or not, is the next live one.
-fn finds_from_each(book: &mut Book<Plain, MemDevice>) -> bool {
-    finds_from(book, 0, Some(SECOND))
-        && finds_from(book, 1, Some(SECOND))
-        && finds_from(book, 2, Some(FOURTH))
-        && finds_from(book, 3, Some(FOURTH))
-        && lets_go(book, 3)
-        && finds_from(book, 2, None)
-        && finds_from(book, 3, None)
-        && next_from(book, 0, 4) == Ok(None)
-}
+// What is found from a span on, retired or not, is the next live one.
+const FINDS_FROM_EACH: &[Act] = &[
+    From(0, Some(Some(SECOND))),
+    From(1, Some(Some(SECOND))),
+    From(2, Some(Some(FOURTH))),
+    From(3, Some(Some(FOURTH))),
+    Asks(3, Mark::Dropped),
+    Retires(3, true),
+    From(2, Some(None)),
+    From(3, Some(None)),
+    From(4, None),
+];
 
-// Whether they are found so in a log that is full, and none in one that is free.
-fn finds_in_others(book: &mut Book<Plain, MemDevice>) -> bool {
-    places_next(book, 1016, 0, Place { log: 1, at: 0 })
-        && has_live(book, 1, &[Span { len: 1016, ..FIRST }])
-        && has_live(book, 3, &[])
-        && has(book, 0, line(Kind::Sealed, 0, 24, 56, 944))
-}
+const FULL: Span = Span { len: 1016, ..FIRST };
 
-// Whether the live ones are found, from each span on.
-fn finds_all(book: &mut Book<Plain, MemDevice>) -> bool {
-    places_four(book) && passes_two(book) && finds_from_each(book) && finds_in_others(book)
-}
+// They are found so in a log that is full, and none in one that is free.
+const FINDS_IN_OTHERS: &[Act] = &[
+    Makes(1016, 0, (1, 0)),
+    Live(1, &[FULL]),
+    Live(3, &[]),
+    Log(0, Kind::Sealed, [24, 56, 944]),
+];
 
 #[test]
 fn live_spans_come_one_after_the_other(rt: HostRuntime) {
-    assert!(rt; is_so_of(opened(&rt, SMALL), finds_all));
+    assert!(rt;
+        plays(
+            &rt,
+            &[PLACES_FOUR, PASSES_TWO, FINDS_FROM_EACH, FINDS_IN_OTHERS]
+        )
+    );
 }
 
-// Whether an object that is dropped while a walk reads its header is still found, and passed over once it is retired.
-fn finds_the_dropped(book: &mut Book<Beset, MemDevice>) -> bool {
-    let second = Span { len: 8, ..SECOND };
-    let place = Place { log: 0, at: 0 };
-    let marks = Marks {
-        dropped: true,
-        ..NO_MARKS
-    };
-    places_next(book, 8, 0, place)
-        && places_next(book, 8, 1, Place { log: 0, at: 2 })
-        && has_live(book, 0, &[FIRST, second])
-        && is_near_at(book, 0, place, marks)
-        && retire_dropped(book, 0)
-        && has_live(book, 0, &[second])
-}
+const EIGHT: Span = Span { len: 8, ..SECOND };
 
+// An object that is dropped while a walk reads its header is still found, and passed over once it is retired.
+const FINDS_THE_DROPPED: &[Act] = &[
+    Makes(8, 0, (0, 0)),
+    Makes(8, 1, (0, 2)),
+    Live(0, &[FIRST, EIGHT]),
+    Near(0, (0, 0), IS_DROPPED),
+    Retires(0, true),
+    Live(0, &[EIGHT]),
+];
+
+// Two objects are placed in three turns each. Before the first header is read its pointer is taken over, and it is dropped before its cell is seen.
 #[test]
 fn live_spans_come_while_owners_drop(rt: HostRuntime) {
-    let adopt = Event::Adopt {
-        owner: 0,
-        pointer: 0,
-    };
-    // Two objects are placed in three turns each. Before the first header is read its pointer is taken over, and it is dropped
-    // before its cell is seen.
-    let events = [IDLE, IDLE, IDLE, IDLE, IDLE, IDLE, adopt, DROP];
-    assert!(rt; is_so_of(beset_by(&rt, &events), finds_the_dropped));
+    let events = [IDLE, IDLE, IDLE, IDLE, IDLE, IDLE, ADOPT, DROP];
+    assert!(rt; plays_beside(&rt, &events, FINDS_THE_DROPPED));
 }

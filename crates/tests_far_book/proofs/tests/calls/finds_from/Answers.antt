@@ -1,4 +1,4 @@
-use Rattle.tests_far_book.proofs.tests.rounds.next_from.Goals as goal
+use Rattle.tests_far_book.proofs.tests.calls.finds_from.Goals as goal
 use Rattle.std.proofs.Common.{arith, sym}
 use Rattle.tests_far_book.proofs.Uses.{begins_there}
 

@@ -1,4 +1,4 @@
-use Rattle.tests_far_book.proofs.tests.books.store_word.Goals as goal
+use Rattle.tests_far_book.proofs.tests.owning.store_word.Goals as goal
 use Rattle.std.proofs.Common.{◌≡◌, ◌<◌, ◌≤◌, ◌+◌, ◌-◌, ◌*◌, ◌^◌, ◌∙◌, ℕ, zero, suc, Some, ap, sym, arith, [], ◌∷◌}
 use Rattle.std.specs.Prelude.{slice_index}
 use Rattle.std.proofs.Math.Nat.{pow-le-pow_right}
@@ -15,7 +15,7 @@ fits_pair word index len zero fits low long one =
 fits_pair word index len (suc k) fits low long one = absurd (omega arith)
 
 pub store_all-requires-clause-padding : goal.store_all-requires-clause-padding
-store_all-requires-clause-padding c k one =
+store_all-requires-clause-padding g c k one =
     let step = c.in-Some-Near-eq16-default-default-default in
     let long : data_len (core_state c.args.book.now.near.core) c.args.pointer ≡ 16 =
     ap (λ core. data_len (core_state core) c.args.pointer) (sym c.core-core.ensures)

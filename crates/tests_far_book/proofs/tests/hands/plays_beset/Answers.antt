@@ -1,7 +1,7 @@
 use Rattle.std.proofs.Common.{◌*◌, ◌<◌, ap, sym, subst, arith}
 use Rattle.far_word.specs.declared.sizes.TheConstants.{CELLS}
 use Rattle.far_core.specs.state.State.{State}
-use Rattle.tests_far_book.proofs.tests.hands.owners_are_at_work.Goals as goal
+use Rattle.tests_far_book.proofs.tests.hands.plays_beset.Goals as goal
 
 pub place_first-named-requires-clause-cell : goal.place_first-named-requires-clause-cell
 place_first-named-requires-clause-cell g c =
