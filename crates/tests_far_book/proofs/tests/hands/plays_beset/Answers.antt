@@ -3,6 +3,6 @@ use Rattle.far_word.specs.declared.sizes.TheConstants.{CELLS}
 use Rattle.far_core.specs.state.State.{State}
 use Rattle.tests_far_book.proofs.tests.hands.plays_beset.Goals as goal
 
-pub place_first-named-requires-clause-cell : goal.place_first-named-requires-clause-cell
-place_first-named-requires-clause-cell g c =
-    (ap (λ (u : State). u.cell 0) c.in_ok-hand.ensures, subst (λ (u : State). 0 < CELLS * u.mutators) (sym c.in_ok-hand.ensures) (omega arith))
+pub place_first-requires-clause-cell : goal.place_first-requires-clause-cell
+place_first-requires-clause-cell c =
+    (ap (λ (u : State). u.cell 0) c.in-Ok.ensures, subst (λ (u : State). 0 < CELLS * u.mutators) (sym c.in-Ok.ensures) (omega arith))
