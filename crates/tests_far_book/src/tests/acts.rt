@@ -70,6 +70,8 @@ pub(super) enum Act {
     StoresOne(u16, u64, bool),
     Words(Option<[u64; 2]>),
 
+    /// What the first log is, which a heap always has, and its bytes.
+    FirstLog(Kind, [u16; 3]),
     /// The core's word of a cell, whether a log is in the round, whether an owner was seen clear.
     Cell(u16, u64),
     InRound(u8, bool),

@@ -77,7 +77,7 @@ const STORES_AND_LOADS: &[Act] = &[
     StoresOne(0, u64::MAX, true),
     Words(Some([u64::MAX, 7])),
     Owns(LOAD_SECOND, Reply::Word(7)),
-    Log(0, Kind::Open, [24, 0, 1000]),
+    FirstLog(Kind::Open, [24, 0, 1000]),
     Owns(CLOSE, Reply::Done),
     Owns(LOAD_SECOND, Reply::Refused),
     StoresOne(1, 8, false),

@@ -252,6 +252,17 @@ pub(super) fn has_rows<N: Near + Drop, D: Device + Drop>(
     }
 }
 
+/// A log's row with so many live, dead and unused bytes.
+pub(super) fn row_of(log: u8, bytes: [u16; 3]) -> LogRow {
+    let [live, dead, unused] = bytes;
+    LogRow {
+        log,
+        live,
+        dead,
+        unused,
+    }
+}
+
 /// Whether a log is this, and has so many live, dead and unused bytes.
 pub(super) fn is_log<N: Near + Drop, D: Device + Drop>(
     book: &Book<N, D>,
@@ -259,15 +270,5 @@ pub(super) fn is_log<N: Near + Drop, D: Device + Drop>(
     kind: Kind,
     bytes: [u16; 3],
 ) -> bool {
-    if log as u64 >= book.shape().logs {
-        return false;
-    }
-    let [live, dead, unused] = bytes;
-    let row = LogRow {
-        log,
-        live,
-        dead,
-        unused,
-    };
-    book.log(log) == (kind, row)
+    (log as u64) < book.shape().logs && book.log(log) == (kind, row_of(log, bytes))
 }

@@ -1,8 +1,9 @@
 //! What the first owner does beside a book that nobody else steps, and what the core shows.
 
+use crate::tests::calls::row_of;
 use crate::tests::devices::counted_word;
 use far_book::{Book, Plain};
-use far_core::{Event, Reply};
+use far_core::{Event, Kind, Reply};
 use far_device::Device;
 use far_word::{CELLS, Mark, PtrWord, Refused, words_for};
 
@@ -114,4 +115,14 @@ pub(super) fn begins<D: Device + Drop>(
         return None;
     }
     Some(book.advance(logs))
+}
+
+/// Whether the first log, which a heap always has, is this, and has so many live, dead and unused bytes.
+pub(super) fn is_first<D: Device + Drop>(
+    book: &Book<Plain, D>,
+    kind: Kind,
+    bytes: [u16; 3],
+) -> bool {
+    book.core_keeps_law();
+    book.log(0) == (kind, row_of(0, bytes))
 }

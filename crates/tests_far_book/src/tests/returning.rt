@@ -88,31 +88,21 @@ fn is_refused(rt: &HostRuntime, flaw: Flaw, why: Refused) -> bool {
     )
 }
 
-// The device's first read fails so.
-fn fails_once(rt: &HostRuntime, fault: DeviceFault, why: Refused) -> bool {
-    is_refused(rt, Flaw::Stumbling(fault), why)
-}
-
-// It gives so many bytes.
-fn lies_once(rt: &HostRuntime, len: usize) -> bool {
-    is_refused(rt, Flaw::Lying(len), Refused::Damaged)
-}
-
 // Alone against a fetch that forgets the key of what failed or was damaged, judges a length by `<`, or takes one fault for the other.
 #[test]
 fn a_refused_fetch_may_be_made_again(rt: HostRuntime) {
-    assert!(rt; fails_once(&rt, DeviceFault::Memory, Refused::Memory));
-    assert!(rt; fails_once(&rt, DeviceFault::Device, Refused::Device));
-    assert!(rt; lies_once(&rt, 0));
-    assert!(rt; lies_once(&rt, 8));
-    assert!(rt; lies_once(&rt, 10));
+    assert!(rt; is_refused(&rt, Flaw::Stumbling(DeviceFault::Memory), Refused::Memory));
+    assert!(rt; is_refused(&rt, Flaw::Stumbling(DeviceFault::Device), Refused::Device));
+    assert!(rt; is_refused(&rt, Flaw::Lying(0), Refused::Damaged));
+    assert!(rt; is_refused(&rt, Flaw::Lying(8), Refused::Damaged));
+    assert!(rt; is_refused(&rt, Flaw::Lying(10), Refused::Damaged));
 }
 
 // Alone against a fetch that lets its buffer go where the read is refused: the next one takes memory then.
 #[test]
 fn a_refused_fetch_keeps_its_buffer(rt: HostRuntime) {
-    assert!(rt; fails_once(&rt, DeviceFault::Memory, Refused::Memory));
-    assert!(rt; fails_once(&rt, DeviceFault::Device, Refused::Device));
+    assert!(rt; is_refused(&rt, Flaw::Stumbling(DeviceFault::Memory), Refused::Memory));
+    assert!(rt; is_refused(&rt, Flaw::Stumbling(DeviceFault::Device), Refused::Device));
 }
 
 // Pointer 0 is far and pointer 1 has EVAC and MOVE; of four logs only the last is free, and the one before it is open and full.

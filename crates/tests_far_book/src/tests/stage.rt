@@ -8,7 +8,9 @@ use crate::tests::calls::{
     looks, marks, moves, place_next, places_many, releases, retires,
 };
 use crate::tests::devices::{Flaw, Flawed, Sight};
-use crate::tests::owning::{asks, begins, loads, makes_all, store_word, stores, words_of};
+use crate::tests::owning::{
+    asks, begins, is_first, loads, makes_all, store_word, stores, words_of,
+};
 use far_book::{Beset, Book, Home, Near, Plain};
 use far_core::{Core, Event, Shape};
 use far_device::{Device, MemDevice};
@@ -121,6 +123,7 @@ fn owner_does<D: Device + Drop>(book: &mut Book<Plain, D>, act: Act) -> bool {
 // The same of a look at the core, or of the book.
 fn core_shows<D: Device + Drop>(book: &mut Book<Plain, D>, act: Act) -> bool {
     match act {
+        Act::FirstLog(kind, bytes) => is_first(book, kind, bytes),
         Act::Cell(pointer, word) => book.core().cell(pointer) == word,
         Act::InRound(log, is_in) => book.core().is_in_round(log) == is_in,
         Act::IsClear(owner, is_clear) => book.core().is_clear(owner) == is_clear,
