@@ -1,13 +1,13 @@
 //! Rounds of small steps, with the lock let go between two.
 
-use crate::counts::{Counts, one};
+use crate::counts::{Count, Counts};
 use crate::gate::Gate;
 use crate::random::Random;
-use crate::rounds::{pause, take, take_refusal};
+use crate::rounds::{take, take_refusal};
 use far_device::MemDevice;
-use far_evac::{Phase, Polled};
+use far_evac::{EvacFault, Marked, Phase, Polled, Progress};
 use far_heap::{Evacuator, Heap, HeapName};
-use far_policy::Oldest;
+use far_word::Refused;
 use std::sync::Wait;
 use std::thread;
 
@@ -19,72 +19,67 @@ pub fn gives_up<K: HeapName>(book: &mut Evacuator<K, MemDevice>, counts: &mut Co
     if book.phase() == Phase::Idle {
         return;
     }
-    if book.abort().is_ok() && book.phase() == Phase::Idle {
-        one(&mut counts.aborts);
+    let right = book.abort().is_ok() && book.phase() == Phase::Idle;
+    counts.one(if right {
+        Count::Aborts
     } else {
-        one(&mut counts.wrong_answers);
-    }
+        Count::WrongAnswers
+    });
 }
 
-// Marks some objects.
-fn mark<K: HeapName>(book: &mut Evacuator<K, MemDevice>, n: u64, counts: &mut Counts) {
-    match book.mark_some(n) {
+// The phase that must come once at most so many objects were marked.
+fn marked(counts: &mut Counts, answer: Result<Marked, Refused>, most: u64) -> Option<Phase> {
+    match answer {
         Ok(marked) => {
-            let waits = book.phase() == Phase::Waiting;
-            if marked.count > n || marked.waiting.is_some() != waits {
-                one(&mut counts.wrong_answers);
+            counts.expect(marked.count <= most);
+            match marked.waiting {
+                Some(_) => Some(Phase::Waiting),
+                None => Some(Phase::Marking),
             }
         }
         Err(why) => take_refusal(counts, why),
     }
 }
 
-// Looks at scopes.
-fn poll<K: HeapName>(book: &mut Evacuator<K, MemDevice>, counts: &mut Counts) {
-    match book.poll_wait() {
-        Ok(Polled::Clear) => {
-            if book.phase() != Phase::Evacuating {
-                one(&mut counts.wrong_answers);
-            }
-        }
-        Ok(Polled::StillOpen(_, _)) => {
-            if book.phase() != Phase::Waiting {
-                one(&mut counts.wrong_answers);
-            }
-        }
+// The same once scopes were looked at.
+fn polled(counts: &mut Counts, answer: Result<Polled, Refused>) -> Option<Phase> {
+    match answer {
+        Ok(Polled::Clear) => Some(Phase::Evacuating),
+        Ok(Polled::StillOpen(_, _)) => Some(Phase::Waiting),
         Err(why) => take_refusal(counts, why),
     }
 }
 
-// Deals with some objects.
-fn evacuate<K: HeapName>(book: &mut Evacuator<K, MemDevice>, n: u64, counts: &mut Counts) {
-    match book.evacuate_some(n) {
+// The same once some objects were dealt with.
+fn evacuated(counts: &mut Counts, answer: Result<Progress, EvacFault>) -> Option<Phase> {
+    match answer {
         Ok(progress) => {
             take(counts, progress);
-            if progress.done {
-                one(&mut counts.rounds);
-                one(&mut counts.by_hand);
+            if !progress.done {
+                return Some(Phase::Evacuating);
             }
-            if progress.done != (book.phase() == Phase::Idle) {
-                one(&mut counts.wrong_answers);
-            }
+            counts.one(Count::Rounds);
+            counts.one(Count::ByHand);
+            Some(Phase::Idle)
         }
         Err(fault) => {
             take(counts, fault.so_far);
-            take_refusal(counts, fault.why);
+            take_refusal(counts, fault.why)
         }
     }
 }
 
 // A step by the phase: whether a round is running after it.
 fn step<K: HeapName>(book: &mut Evacuator<K, MemDevice>, n: u64, counts: &mut Counts) -> bool {
-    match book.phase() {
-        Phase::Idle => {}
-        Phase::Marking => mark(book, n, counts),
-        Phase::Waiting => poll(book, counts),
-        Phase::Evacuating => evacuate(book, n, counts),
-    }
-    book.phase() != Phase::Idle
+    let then = match book.phase() {
+        Phase::Idle => return false,
+        Phase::Marking => marked(counts, book.mark_some(n), n),
+        Phase::Waiting => polled(counts, book.poll_wait()),
+        Phase::Evacuating => evacuated(counts, book.evacuate_some(n)),
+    };
+    let after = book.phase();
+    counts.expect(then.unwrap_or(after) == after);
+    after != Phase::Idle
 }
 
 /// Makes small steps until the round is over, or all are made.
@@ -100,23 +95,7 @@ pub fn goes_on_by_hand<K: HeapName, R: Wait>(
         if !step(&mut *heap.book(rt), n, counts) {
             return;
         }
-        pause(gate);
+        gate.pause();
         thread::yield_now();
     }
-}
-
-/// Makes a round by hand, with the two oldest logs.
-pub fn make_by_hand<K: HeapName, R: Wait>(
-    rt: &R,
-    heap: &Heap<K, MemDevice>,
-    gate: &Gate,
-    random: &mut Random,
-    counts: &mut Counts,
-) {
-    let answer = heap.book(rt).select(&mut Oldest, 2);
-    if let Err(why) = answer {
-        take_refusal(counts, why);
-    }
-    goes_on_by_hand(rt, heap, gate, random, counts);
-    gives_up(&mut *heap.book(rt), counts);
 }

@@ -1,29 +1,23 @@
 //! What a census of the heap must say.
 
+use crate::counts::{Count, Counts};
 use far_book::Home;
 use far_device::MemDevice;
 use far_evac::Census;
 use far_heap::{Evacuator, HeapName};
 use far_word::LOG_BYTES;
 
-// Whether each log's bytes make its size.
-fn adds_up(census: &Census) -> bool {
+// How many bytes live in all logs, if each log's bytes make its size.
+fn live(census: &Census) -> Option<u64> {
+    let mut live = 0u64;
     for log in &census.logs {
         let row = log.row;
         if row.live.saturating_add(row.dead).saturating_add(row.unused) != LOG_BYTES {
-            return false;
+            return None;
         }
+        live = live.saturating_add(row.live as u64);
     }
-    true
-}
-
-// How many bytes live in all logs.
-fn live(census: &Census) -> u64 {
-    let mut live = 0u64;
-    for log in &census.logs {
-        live = live.saturating_add(log.row.live as u64);
-    }
-    live
+    Some(live)
 }
 
 // How many objects are near.
@@ -37,21 +31,35 @@ fn near(census: &Census) -> u64 {
     near
 }
 
-/// Whether a census is right as far as it can be told beside mutators: each log's bytes make its size, and there are bytes for each near
-/// object. `None` where memory was refused.
-pub fn audits<K: HeapName>(book: &mut Evacuator<K, MemDevice>) -> Option<bool> {
+// Whether it is right as far as it can be told beside mutators: each log's bytes make its size, and there are bytes for each near object;
+// and whether it has so many objects, if that is known.
+fn is_right(census: &Census, objects: Option<usize>) -> bool {
+    let Some(live) = live(census) else {
+        return false;
+    };
+    near(census).saturating_mul(16) <= live
+        && objects.unwrap_or(census.homes.len()) == census.homes.len()
+}
+
+/// Whether a heap's census is right, and has so many objects, if that is known. `None` where memory was refused.
+pub fn audits<K: HeapName>(
+    book: &mut Evacuator<K, MemDevice>,
+    objects: Option<usize>,
+) -> Option<bool> {
     match book.audit() {
-        Ok(census) => {
-            Some(adds_up(&census) && near(&census).saturating_mul(16) <= live(&census))
-        }
+        Ok(census) => Some(is_right(&census, objects)),
         Err(_) => None,
     }
 }
 
-/// Whether a census is right, and has so many objects.
-pub fn counts_objects<K: HeapName>(book: &mut Evacuator<K, MemDevice>, objects: u64) -> bool {
-    match book.audit() {
-        Ok(census) => adds_up(&census) && census.homes.len() as u64 == objects,
-        Err(_) => false,
+/// Counts an audit beside mutators.
+pub fn audit<K: HeapName>(book: &mut Evacuator<K, MemDevice>, counts: &mut Counts) {
+    let Some(right) = audits(book, None) else {
+        counts.one(Count::Faults);
+        return;
+    };
+    counts.one(Count::Audits);
+    if !right {
+        counts.one(Count::WrongAudits);
     }
 }

@@ -1,8 +1,8 @@
 //! What a mutator does in a scope, with a record of its own of all that it wrote.
 
-use crate::counts::{Counts, add, one};
+use crate::counts::{Count, Counts};
 use crate::random::Random;
-use crate::record::Record;
+use crate::record::{Part, Pick, ROOM, Record};
 use far_device::MemDevice;
 use far_heap::{HeapName, Mutator, Scope, Tried, View};
 use far_word::{LONGEST, POINTERS, Refused, pointer_len};
@@ -10,45 +10,22 @@ use std::alloc::Global;
 use std::sync::Wait;
 
 /// How many objects a mutator has at most, and how long they are.
-const MOST_OBJECTS: u64 = 40;
+const MOST_OBJECTS: usize = 40;
 
 const MOST_BYTES: u64 = 200;
-
-/// The room for a range that is read or written.
-const ROOM: usize = 256;
-
-/// A range of an object's bytes.
-#[derive(Clone, Copy)]
-struct Range {
-    from: u16,
-    count: u16,
-}
 
 /// What a mutator keeps beside its mutator.
 #[derive(Drop)]
 pub struct Desk {
     records: Vec<Record>,
-    random: Random,
-    alloc: Global,
     /// The count of the scope that is open, above 0.
     scope: u64,
     /// A view of an object that was dropped.
     stale: Option<View>,
     /// Whether there was no room for something.
     short: bool,
+    random: Random,
     pub counts: Counts,
-}
-
-// Whether a refusal of a view is allowed.
-fn may_be(why: Refused, viewed: bool) -> bool {
-    !viewed && matches!(why, Refused::NoRoom | Refused::Memory)
-}
-
-// Bytes at random.
-fn fill(random: &mut Random, bytes: &mut [u8]) {
-    for byte in bytes {
-        *byte = random.byte();
-    }
 }
 
 impl Desk {
@@ -56,18 +33,17 @@ impl Desk {
     pub fn new(alloc: Global, seed: u64) -> Desk {
         Desk {
             records: Vec::new(alloc),
-            random: Random::new(seed),
-            alloc,
             scope: 0,
             stale: None,
             short: false,
+            random: Random::new(seed),
             counts: Counts::new(),
         }
     }
 
     /// How many objects it has.
-    pub fn objects(&self) -> u64 {
-        self.records.len() as u64
+    pub fn objects(&self) -> usize {
+        self.records.len()
     }
 
     /// A mutator's turn: it makes an object or drops one, at times, and works in a scope.
@@ -76,14 +52,12 @@ impl Desk {
         rt: &R,
         mut mutator: Mutator<K, MemDevice>,
     ) -> Mutator<K, MemDevice> {
-        match self.random.below(16) {
-            0 | 1 => self.make(rt, &mut mutator),
-            2 if self.may_drop() => self.drop_one(rt, &mut mutator),
-            _ => {}
-        }
-        let mut scope = mutator.open();
         self.begin_scope();
-        self.work(rt, &mut scope);
+        self.change(rt, &mut mutator);
+        let mut scope = mutator.open();
+        for _ in 0..self.uses() {
+            self.step(rt, &mut scope);
+        }
         scope.close()
     }
 
@@ -94,405 +68,334 @@ impl Desk {
         short
     }
 
-    // Whether an object is to be dropped: seldom, if there are few.
-    fn may_drop(&mut self) -> bool {
-        self.records.len() > 12 || self.random.once_in(16)
+    fn begin_scope(&mut self) {
+        self.scope = self.scope.saturating_add(1);
+        self.counts.one(Count::Scopes);
     }
 
-    fn begin_scope(&mut self) {
-        one(&mut self.scope);
-        one(&mut self.counts.scopes);
+    // Makes an object or drops one, at times, before the scope is opened.
+    fn change<K: HeapName, R: Wait>(&mut self, rt: &R, mutator: &mut Mutator<K, MemDevice>) {
+        match self.random.below(16) {
+            0 | 1 => {
+                if let Some(len) = self.next_len() {
+                    self.take_made(len, mutator.alloc(rt, len, 1));
+                }
+            }
+            2 if self.may_drop() => {
+                if let Some(pick) = self.pick() {
+                    self.take_dropped(pick, mutator.drop_object(rt, pick.pointer));
+                }
+            }
+            _ => {}
+        }
     }
 
     // How often the open scope uses an object; now and then for long.
     fn uses(&mut self) -> u64 {
         if self.random.once_in(128) {
-            one(&mut self.counts.long_scopes);
+            self.counts.one(Count::LongScopes);
             return 200;
         }
         self.random.below(9)
     }
 
-    fn work<K: HeapName, R: Wait>(&mut self, rt: &R, scope: &mut Scope<K, MemDevice>) {
-        for _ in 0..self.uses() {
-            self.step(rt, scope);
-        }
-    }
-
     // Uses an object, or asks at times for what may be refused.
     fn step<K: HeapName, R: Wait>(&mut self, rt: &R, scope: &mut Scope<K, MemDevice>) {
         match self.random.below(64) {
-            0 => self.make_in_scope(rt, scope),
-            1 if self.may_drop() => self.drop_in_scope(rt, scope),
-            2 => self.use_stale(scope),
+            0 => {
+                if let Some(len) = self.next_len() {
+                    self.take_made(len, scope.alloc(rt, len, 1));
+                }
+            }
+            1 if self.may_drop() => {
+                if let Some(pick) = self.pick() {
+                    self.take_dropped(pick, scope.drop_object(rt, pick.pointer));
+                }
+            }
+            2 => self.use_unviewed(scope, self.stale),
             3 => self.use_stranger(rt, scope),
-            4 | 5 => self.use_earlier(scope),
+            4 | 5 => {
+                if let Some(pick) = self.pick() {
+                    self.use_unviewed(scope, pick.view);
+                }
+            }
             _ => self.use_one(rt, scope),
         }
     }
 
-    // The place of one of its records, at random.
-    fn any(&mut self) -> Option<usize> {
-        let all = self.records.len();
-        let at = self.random.below(all as u64) as usize;
-        if at < all { Some(at) } else { None }
+    // Whether an object is to be dropped: seldom, if there are few.
+    fn may_drop(&mut self) -> bool {
+        self.records.len() > 12 || self.random.once_in(16)
     }
 
-    fn has(&self, pointer: u16) -> bool {
-        self.records.iter().any(|record| record.pointer == pointer)
+    // The object at a place.
+    fn object(&self, at: usize) -> Option<Pick> {
+        let record = self.records.get(at)?;
+        Some(Pick {
+            at,
+            pointer: record.pointer,
+            len: record.len,
+            view: record.view,
+            viewed: record.scope == self.scope,
+        })
     }
 
-    // The length of the next object; now and then one that is none.
-    fn next_len(&mut self) -> u16 {
+    // One of its objects, at random.
+    fn pick(&mut self) -> Option<Pick> {
+        let at = self.random.below(self.records.len() as u64);
+        self.object(at as usize)
+    }
+
+    // Whether the open scope views the object of a pointer. `None` where it has no such object.
+    fn viewed(&self, pointer: u16) -> Option<bool> {
+        for record in &self.records {
+            if record.pointer == pointer {
+                return Some(record.scope == self.scope);
+            }
+        }
+        None
+    }
+
+    // The length of the next object, if there is to be one; now and then one that is none.
+    fn next_len(&mut self) -> Option<u16> {
+        if self.records.len() >= MOST_OBJECTS {
+            return None;
+        }
         match self.random.below(64) {
-            0 => 0,
-            1 => LONGEST + 1,
-            _ => (1 + self.random.below(MOST_BYTES)) as u16,
+            0 => Some(0),
+            1 => Some(LONGEST + 1),
+            _ => Some((1 + self.random.below(MOST_BYTES)) as u16),
         }
     }
 
-    // Makes an object of zeros, if there is room.
-    fn make<K: HeapName, R: Wait>(&mut self, rt: &R, mutator: &mut Mutator<K, MemDevice>) {
-        if self.records.len() as u64 >= MOST_OBJECTS {
-            return;
-        }
-        let len = self.next_len();
-        let answer = mutator.alloc(rt, len, 1);
-        self.take_made(len, answer);
-    }
-
-    fn make_in_scope<K: HeapName, R: Wait>(&mut self, rt: &R, scope: &mut Scope<K, MemDevice>) {
-        if self.records.len() as u64 >= MOST_OBJECTS {
-            return;
-        }
-        let len = self.next_len();
-        let answer = scope.alloc(rt, len, 1);
-        self.take_made(len, answer);
-    }
-
+    // Takes what came of making an object of zeros.
     fn take_made(&mut self, len: u16, answer: Result<u16, Refused>) {
         let is_length = len != 0 && len <= LONGEST;
         match answer {
             Ok(pointer) => {
-                if !is_length || self.has(pointer) {
-                    one(&mut self.counts.wrong_answers);
+                let right = is_length && self.viewed(pointer).is_none();
+                self.counts.expect(right);
+                self.counts.one(Count::Made);
+                if self.records.push(Record::new(pointer, len)).is_err() {
+                    self.counts.one(Count::Faults);
                 }
-                self.record(pointer, len);
             }
-            Err(Refused::Length) => self.counts.judge(!is_length),
             Err(Refused::NoRoom) if is_length => {
                 self.short = true;
-                one(&mut self.counts.unmade);
+                self.counts.one(Count::Unmade);
             }
-            Err(Refused::NoPointer) if is_length => one(&mut self.counts.unnamed),
-            Err(_) => one(&mut self.counts.wrong_answers),
+            Err(Refused::NoPointer) if is_length => self.counts.one(Count::Unnamed),
+            Err(_) if is_length => self.counts.one(Count::WrongAnswers),
+            Err(why) => self.counts.judge(&[Some(why)], Refused::Length),
         }
     }
 
-    fn record(&mut self, pointer: u16, len: u16) {
-        one(&mut self.counts.made);
-        match Record::new(self.alloc, pointer, len) {
-            Ok(record) => {
-                if self.records.push(record).is_err() {
-                    one(&mut self.counts.faults);
-                }
+    // Takes what came of dropping an object, which is refused if the open scope views it.
+    fn take_dropped(&mut self, pick: Pick, answer: Result<(), Refused>) {
+        if pick.viewed {
+            self.counts.judge(&[answer.err()], Refused::Held);
+            return;
+        }
+        if answer.is_err() || pick.at >= self.records.len() {
+            self.counts.one(Count::WrongAnswers);
+            return;
+        }
+        self.records.swap_remove(pick.at);
+        self.counts.one(Count::Dropped);
+        if pick.view.is_some() {
+            self.stale = pick.view;
+        }
+    }
+
+    // Reads and writes a range that must be refused so.
+    fn use_refused<K: HeapName>(
+        &mut self,
+        scope: &mut Scope<K, MemDevice>,
+        view: View,
+        from: u16,
+        bytes: &mut [u8],
+        why: Refused,
+    ) {
+        let read = scope.read(&view, from, bytes).err();
+        let written = scope.write(&view, from, bytes).err();
+        self.counts.judge(&[read, written], why);
+    }
+
+    // Uses a view, of an earlier scope or of an object that was dropped, of a pointer that the open scope doesn't view.
+    fn use_unviewed<K: HeapName>(&mut self, scope: &mut Scope<K, MemDevice>, view: Option<View>) {
+        if let Some(view) = view {
+            if self.viewed(view.pointer()) != Some(true) {
+                self.use_refused(scope, view, 0, &mut [255; 1], Refused::NotHeld);
             }
-            Err(_) => one(&mut self.counts.faults),
-        }
-    }
-
-    // Drops an object out of a scope.
-    fn drop_one<K: HeapName, R: Wait>(&mut self, rt: &R, mutator: &mut Mutator<K, MemDevice>) {
-        let Some(at) = self.any() else {
-            return;
-        };
-        let Some(record) = self.records.get(at) else {
-            return;
-        };
-        let answer = mutator.drop_object(rt, record.pointer);
-        self.take_dropped(at, answer);
-    }
-
-    // Drops an object in a scope, which is refused if that views it.
-    fn drop_in_scope<K: HeapName, R: Wait>(&mut self, rt: &R, scope: &mut Scope<K, MemDevice>) {
-        let Some(at) = self.any() else {
-            return;
-        };
-        let Some(record) = self.records.get(at) else {
-            return;
-        };
-        let viewed = record.view_in(self.scope).is_some();
-        let answer = scope.drop_object(rt, record.pointer);
-        if viewed {
-            self.counts.judge(matches!(answer, Err(Refused::Held)));
-        } else {
-            self.take_dropped(at, answer);
-        }
-    }
-
-    fn take_dropped(&mut self, at: usize, answer: Result<(), Refused>) {
-        if answer.is_err() || at >= self.records.len() {
-            one(&mut self.counts.wrong_answers);
-            return;
-        }
-        let record = self.records.swap_remove(at);
-        one(&mut self.counts.dropped);
-        if let Some(view) = record.last_view() {
-            self.stale = Some(view);
-        }
-    }
-
-    // Whether the open scope views a pointer.
-    fn is_viewed(&self, pointer: u16) -> bool {
-        let scope = self.scope;
-        self.records.iter().any(|record| record.pointer == pointer
-            && record.view_in(scope).is_some())
-    }
-
-    // Uses a view that the open scope didn't make.
-    fn use_unviewed<K: HeapName>(&mut self, scope: &mut Scope<K, MemDevice>, view: &View) {
-        if self.is_viewed(view.pointer()) {
-            return;
-        }
-        let read = scope.read(view, 0, &mut [0; 1]);
-        self.counts.judge(matches!(read, Err(Refused::NotHeld)));
-        let written = scope.write(view, 0, &[255; 1]);
-        self.counts.judge(matches!(written, Err(Refused::NotHeld)));
-    }
-
-    // Uses a view of an object that was dropped.
-    fn use_stale<K: HeapName>(&mut self, scope: &mut Scope<K, MemDevice>) {
-        if let Some(view) = self.stale {
-            self.use_unviewed(scope, &view);
-        }
-    }
-
-    // Uses a view of an earlier scope.
-    fn use_earlier<K: HeapName>(&mut self, scope: &mut Scope<K, MemDevice>) {
-        let Some(at) = self.any() else {
-            return;
-        };
-        let Some(record) = self.records.get(at) else {
-            return;
-        };
-        if let Some(view) = record.last_view() {
-            self.use_unviewed(scope, &view);
         }
     }
 
     // Uses a pointer that it doesn't use: another mutator's, or one that is free.
     fn use_stranger<K: HeapName, R: Wait>(&mut self, rt: &R, scope: &mut Scope<K, MemDevice>) {
         let pointer = self.random.below(POINTERS as u64) as u16;
-        if self.has(pointer) {
+        if self.viewed(pointer).is_some() {
             return;
         }
-        let tried = scope.try_view(pointer);
-        self.counts.judge(matches!(tried, Err(Refused::NotHeld)));
-        let viewed = scope.view(rt, pointer);
-        self.counts.judge(matches!(viewed, Err(Refused::NotHeld)));
-        let dropped = scope.drop_object(rt, pointer);
-        self.counts.judge(matches!(dropped, Err(Refused::NotHeld)));
+        let tried = scope.try_view(pointer).err();
+        let viewed = scope.view(rt, pointer).err();
+        let dropped = scope.drop_object(rt, pointer).err();
+        self.counts
+            .judge(&[tried, viewed, dropped], Refused::NotHeld);
     }
 
     // Views an object, and reads or writes bytes of it.
     fn use_one<K: HeapName, R: Wait>(&mut self, rt: &R, scope: &mut Scope<K, MemDevice>) {
-        let Some(at) = self.any() else {
+        let Some(pick) = self.pick() else {
             return;
         };
-        let Some(view) = self.view(rt, scope, at) else {
+        let Some(whole) = self.view(rt, scope, pick) else {
             return;
         };
-        let len = view.len();
         match self.random.below(8) {
-            0 => self.write(
-                scope,
-                at,
-                &view,
-                Range {
-                    from: 0,
-                    count: len,
-                },
-            ),
+            0 => self.write(scope, whole),
             1 | 2 => {
-                let range = self.range(len);
-                self.write(scope, at, &view, range);
+                let part = self.part(whole);
+                self.write(scope, part);
             }
-            3 => self.pass_end(scope, &view),
-            4 => self.read(
-                scope,
-                at,
-                &view,
-                Range {
-                    from: 0,
-                    count: len,
-                },
-            ),
+            3 => self.pass_end(scope, whole.view),
+            4 => self.read(scope, whole),
             _ => {}
         }
-        let range = self.range(len);
-        self.read(scope, at, &view, range);
+        let part = self.part(whole);
+        self.read(scope, part);
     }
 
-    // A view of a record's object: the one that this scope made already, or a new one.
+    // An object's bytes, in a view of it: the one that this scope made already, or a new one, without the lock if that does, but now and
+    // then with it at once.
     fn view<K: HeapName, R: Wait>(
         &mut self,
         rt: &R,
         scope: &mut Scope<K, MemDevice>,
-        at: usize,
-    ) -> Option<View> {
-        let record = self.records.get(at)?;
-        let (pointer, len) = (record.pointer, record.len());
-        let kept = record.view_in(self.scope);
-        let viewed = kept.is_some();
-        if viewed && !self.random.once_in(4) {
-            return kept;
+        pick: Pick,
+    ) -> Option<Part> {
+        if pick.viewed && !self.random.once_in(4) {
+            return self.seen(pick, pick.view);
         }
-        let view = if self.random.once_in(8) {
-            one(&mut self.counts.at_once);
-            self.view_slowly(rt, scope, pointer, viewed)?
+        let quick = if self.random.once_in(8) {
+            None
         } else {
-            self.view_quickly(rt, scope, pointer, viewed)?
+            Some(scope.try_view(pick.pointer))
         };
-        self.take_view(at, view, pointer, len)
+        let found = match quick {
+            Some(Ok(Tried::View(view))) => Some(view),
+            _ => self.brought(pick, scope.view(rt, pick.pointer)),
+        };
+        self.take_quick(pick, quick);
+        self.seen(pick, found)
     }
 
-    fn take_view(&mut self, at: usize, view: View, pointer: u16, len: u64) -> Option<View> {
-        if view.pointer() != pointer || view.len() as u64 != len {
-            one(&mut self.counts.wrong_answers);
+    // Takes what came of asking for a view without the lock, if that was done.
+    fn take_quick(&mut self, pick: Pick, quick: Option<Result<Tried, Refused>>) {
+        match quick {
+            None => self.counts.one(Count::AtOnce),
+            Some(Ok(Tried::View(_))) => self.counts.one(Count::Quick),
+            Some(Ok(Tried::Slow(word))) => {
+                self.counts.one(Count::Slow);
+                self.counts.expect(!pick.viewed && pointer_len(word) != 0);
+            }
+            Some(Err(_)) => self.counts.one(Count::WrongAnswers),
+        }
+    }
+
+    // Takes what came of asking with the lock.
+    fn brought(&mut self, pick: Pick, answer: Result<View, Refused>) -> Option<View> {
+        let right = match answer {
+            Ok(view) => return Some(view),
+            Err(Refused::NoRoom | Refused::Memory) => !pick.viewed,
+            Err(_) => false,
+        };
+        self.short = true;
+        self.counts.one(Count::Full);
+        self.counts.expect(right);
+        None
+    }
+
+    // The bytes of an object that is viewed so.
+    fn seen(&mut self, pick: Pick, found: Option<View>) -> Option<Part> {
+        let view = found?;
+        if view.pointer() != pick.pointer || view.len() != pick.len {
+            self.counts.one(Count::WrongAnswers);
             return None;
         }
-        self.records.get_mut(at)?.keep(view, self.scope);
-        Some(view)
+        let record = self.records.get_mut(pick.at)?;
+        record.view = Some(view);
+        record.scope = self.scope;
+        Some(Part {
+            at: pick.at,
+            view,
+            from: 0,
+            count: pick.len,
+        })
     }
 
-    // Without the lock, if that does.
-    fn view_quickly<K: HeapName, R: Wait>(
-        &mut self,
-        rt: &R,
-        scope: &mut Scope<K, MemDevice>,
-        pointer: u16,
-        viewed: bool,
-    ) -> Option<View> {
-        match scope.try_view(pointer) {
-            Ok(Tried::View(view)) => {
-                one(&mut self.counts.quick);
-                Some(view)
-            }
-            Ok(Tried::Slow(word)) => {
-                one(&mut self.counts.slow);
-                if viewed || pointer_len(word) == 0 {
-                    one(&mut self.counts.wrong_answers);
-                }
-                self.view_slowly(rt, scope, pointer, viewed)
-            }
-            Err(_) => {
-                one(&mut self.counts.wrong_answers);
-                None
-            }
-        }
-    }
-
-    // With the lock, if need be.
-    fn view_slowly<K: HeapName, R: Wait>(
-        &mut self,
-        rt: &R,
-        scope: &mut Scope<K, MemDevice>,
-        pointer: u16,
-        viewed: bool,
-    ) -> Option<View> {
-        match scope.view(rt, pointer) {
-            Ok(view) => Some(view),
-            Err(why) => {
-                self.short = true;
-                one(&mut self.counts.full);
-                if !may_be(why, viewed) {
-                    one(&mut self.counts.wrong_answers);
-                }
-                None
-            }
-        }
-    }
-
-    // A range of an object of this length.
-    fn range(&mut self, len: u16) -> Range {
-        let from = self.random.below(len as u64) as u16;
-        let left = len.saturating_sub(from);
+    // A part of an object, at random.
+    fn part(&mut self, whole: Part) -> Part {
+        let from = self.random.below(whole.count as u64) as u16;
+        let left = whole.count.saturating_sub(from);
         let count = self.random.below(left as u64) as u16;
-        Range {
+        Part {
             from,
             count: count.saturating_add(1).min(left),
+            ..whole
         }
     }
 
-    // Reads a range, and compares it with the record.
-    fn read<K: HeapName>(
-        &mut self,
-        scope: &mut Scope<K, MemDevice>,
-        at: usize,
-        view: &View,
-        range: Range,
-    ) {
+    // Reads a part, and compares it with the record.
+    fn read<K: HeapName>(&mut self, scope: &mut Scope<K, MemDevice>, part: Part) {
         let mut room = [0; ROOM];
-        let Some(out) = room.get_mut(..range.count as usize) else {
+        let out = &mut room[..(part.count as usize).min(ROOM)];
+        let done = scope.read(&part.view, part.from, out).is_ok();
+        self.take_read(part, done, out);
+    }
+
+    fn take_read(&mut self, part: Part, done: bool, found: &[u8]) {
+        let Some(record) = self.records.get(part.at) else {
             return;
         };
-        let answer = scope.read(view, range.from, out);
-        let Some(record) = self.records.get(at) else {
-            return;
-        };
-        one(&mut self.counts.reads);
-        add(&mut self.counts.bytes, range.count as u64);
-        if answer.is_err() || !record.has(range.from as usize, out) {
-            one(&mut self.counts.wrong_reads);
+        let right = done && record.has(part.from as usize, found);
+        self.counts.one(Count::Reads);
+        self.counts.add(Count::Bytes, part.count as u64);
+        if !right {
+            self.counts.one(Count::WrongReads);
         }
     }
 
-    // Writes a range, and puts it into the record.
-    fn write<K: HeapName>(
-        &mut self,
-        scope: &mut Scope<K, MemDevice>,
-        at: usize,
-        view: &View,
-        range: Range,
-    ) {
-        let mut room = [0; ROOM];
-        let Some(bytes) = room.get_mut(..range.count as usize) else {
+    // Writes a part, in its record too.
+    fn write<K: HeapName>(&mut self, scope: &mut Scope<K, MemDevice>, part: Part) {
+        let Some(record) = self.records.get_mut(part.at) else {
             return;
         };
-        fill(&mut self.random, bytes);
-        if scope.write(view, range.from, bytes).is_err() {
-            one(&mut self.counts.wrong_answers);
+        let from = part.from as usize;
+        let Some(bytes) = record.bytes.get_mut(from..from + part.count as usize) else {
             return;
-        }
-        one(&mut self.counts.writes);
-        if let Some(record) = self.records.get_mut(at) {
-            record.put(range.from as usize, bytes);
-        }
-    }
-
-    // More than so many bytes.
-    fn past(&mut self, left: u16) -> u16 {
-        let more = self.random.below(16) as u16;
-        left.saturating_add(1).saturating_add(more)
+        };
+        self.random.fill(bytes);
+        let written = scope.write(&part.view, part.from, bytes).is_ok();
+        self.counts.one(if written {
+            Count::Writes
+        } else {
+            Count::WrongAnswers
+        });
     }
 
     // Reads and writes a range that passes the object's end, or has no byte.
-    fn pass_end<K: HeapName>(&mut self, scope: &mut Scope<K, MemDevice>, view: &View) {
-        let len = view.len();
-        let from = self.random.below(len.saturating_add(8) as u64) as u16;
+    fn pass_end<K: HeapName>(&mut self, scope: &mut Scope<K, MemDevice>, view: View) {
+        let len = view.len() as u64;
+        let from = self.random.below(len + 8);
         let count = if self.random.once_in(4) {
             0
         } else {
-            self.past(len.saturating_sub(from))
+            len.saturating_sub(from) + 1 + self.random.below(16)
         };
         let mut room = [0; ROOM];
-        let Some(out) = room.get_mut(..count as usize) else {
-            return;
-        };
-        let read = scope.read(view, from, out);
-        self.counts.judge(matches!(read, Err(Refused::Range)));
-        let written = scope.write(view, from, out);
-        self.counts.judge(matches!(written, Err(Refused::Range)));
+        let bytes = &mut room[..(count as usize).min(ROOM)];
+        let from = from.min(u16::MAX as u64) as u16;
+        self.use_refused(scope, view, from, bytes, Refused::Range);
     }
 
     /// Reads all of an object in a scope of its own: whether there was room to view it.
@@ -503,11 +406,13 @@ impl Desk {
         at: usize,
     ) -> bool {
         self.begin_scope();
-        let Some(view) = self.view(rt, scope, at) else {
+        let Some(pick) = self.object(at) else {
             return false;
         };
-        let count = view.len();
-        self.read(scope, at, &view, Range { from: 0, count });
+        let Some(whole) = self.view(rt, scope, pick) else {
+            return false;
+        };
+        self.read(scope, whole);
         true
     }
 }

@@ -6,32 +6,34 @@ use std::thread;
 /// How often a mutator without room looks whether a round has ended.
 const PATIENCE: u64 = 1_000;
 
-/// How many mutators are at work, and whether anything was found wrong: then all end.
+/// Whether all mutators have ended, and whether anything was found wrong: then all threads end.
 #[derive(Drop)]
 pub struct Gate {
-    left: AtomicU64,
+    entered: AtomicU64,
+    ended: AtomicU64,
     wrong: AtomicU64,
     rounds: AtomicU64,
 }
 
 impl Gate {
-    /// Of so many mutators.
-    pub fn new(mutators: u64) -> Gate {
+    /// Before the first mutator.
+    pub fn new() -> Gate {
         Gate {
-            left: AtomicU64::new(mutators),
+            entered: AtomicU64::new(0),
+            ended: AtomicU64::new(0),
             wrong: AtomicU64::new(0),
             rounds: AtomicU64::new(0),
         }
     }
 
-    /// A mutator has ended.
-    pub fn leave(&self) {
-        self.left.fetch_sub(1, Ordering::SeqCst);
+    /// A mutator begins: how many did before.
+    pub fn enter(&self) -> u64 {
+        self.entered.fetch_add(1, Ordering::SeqCst)
     }
 
-    /// Something was wrong.
-    pub fn stop(&self) {
-        self.wrong.store(1, Ordering::SeqCst);
+    /// All mutators have ended.
+    pub fn end(&self) {
+        self.ended.store(1, Ordering::SeqCst);
     }
 
     /// A round has ended.
@@ -50,13 +52,25 @@ impl Gate {
         }
     }
 
-    /// Whether mutators go on.
-    pub fn goes_on(&self) -> bool {
+    /// Whether a thread that found so much wrong goes on: none does once one found anything.
+    pub fn goes_on(&self, wrong: u64) -> bool {
+        if wrong != 0 {
+            self.wrong.store(1, Ordering::SeqCst);
+        }
         self.wrong.load(Ordering::SeqCst) == 0
     }
 
-    /// Whether rounds go on beside them.
+    /// Whether rounds go on, beside mutators.
     pub fn has_mutators(&self) -> bool {
-        self.goes_on() && self.left.load(Ordering::SeqCst) != 0
+        self.goes_on(0) && self.ended.load(Ordering::SeqCst) == 0
+    }
+
+    /// Leaves the heap's lock to others for a while.
+    pub fn pause(&self) {
+        for _ in 0..64u8 {
+            if !self.has_mutators() {
+                return;
+            }
+        }
     }
 }

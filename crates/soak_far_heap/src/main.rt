@@ -14,12 +14,11 @@ mod record;
 mod rounds;
 mod writer;
 
-use census::counts_objects;
-use counts::{Counts, one};
+use census::audits;
+use counts::{Count, Counts};
 use far_core::Shape;
 use far_device::MemDevice;
 use far_heap::{Blank, Heap, HeapName, Mutator};
-use far_word::Refused;
 use gate::Gate;
 use rounds::make_rounds;
 use std::alloc::{AllocError, Global};
@@ -28,7 +27,7 @@ use std::process::ExitCode;
 use std::sync::Wait;
 use std::thread::Threads;
 use std::{env, io, thread};
-use writer::Writer;
+use writer::{Writer, read_all, write};
 
 /// What the program was asked for.
 #[derive(Clone, Copy)]
@@ -40,87 +39,49 @@ struct Asked {
     logs: u64,
 }
 
-/// What a thread does.
-#[derive(Drop)]
-enum Job<K: HeapName> {
-    Write(Writer<K>),
-    Rounds,
-}
-
-/// What a thread leaves.
-#[derive(Drop)]
-enum Done<K: HeapName> {
-    Written(Writer<K>),
-    Rounds(Counts),
-}
-
-// Does a job to its end.
-fn run<K: HeapName, R: Wait>(
-    rt: &R,
-    heap: &Heap<K, MemDevice>,
-    gate: &Gate,
-    asked: Asked,
-    job: Job<K>,
-) -> Done<K> {
-    match job {
-        Job::Write(writer) => {
-            let writer = writer.work(rt, gate, asked.turns);
-            gate.leave();
-            Done::Written(writer)
-        }
-        Job::Rounds => Done::Rounds(make_rounds(rt, heap, gate, asked.seed)),
+impl Asked {
+    // The seed of a mutator.
+    fn seed_of(self, number: u64) -> u64 {
+        self.seed
+            .wrapping_mul(64)
+            .wrapping_add(number)
+            .wrapping_add(1)
     }
 }
 
-// The seed of a mutator.
-fn seed_of(seed: u64, number: u64) -> u64 {
-    seed.wrapping_mul(64).wrapping_add(number).wrapping_add(1)
+// What all writers counted together, once all objects were read again, with a wrong audit more where the heap has another number of objects.
+fn judge<K: HeapName, R: Wait>(
+    rt: &R,
+    heap: &Heap<K, MemDevice>,
+    writers: Vec<Writer<K>>,
+    all: &mut Counts,
+) {
+    let mut objects = 0usize;
+    for writer in writers {
+        let desk = read_all(rt, heap, writer);
+        all.add_all(&desk.counts);
+        objects = objects.saturating_add(desk.objects());
+    }
+    if audits(&mut *heap.book(rt), Some(objects)) != Some(true) {
+        all.one(Count::WrongAudits);
+    }
 }
 
-// A job for each mutator, and one that makes rounds.
-fn jobs_of<K: HeapName>(
+// What all mutators did, each in a thread of its own.
+fn write_all<K: HeapName + Send + Sync, R: Threads + Wait + Sync>(
+    rt: &R,
     alloc: Global,
+    gate: &Gate,
     mutators: Vec<Mutator<K, MemDevice>>,
-    seed: u64,
-) -> Result<Vec<Job<K>>, AllocError> {
-    let mut jobs = Vec::new(alloc);
-    for mutator in mutators {
-        let number = jobs.len() as u64;
-        let writer = Writer::new(alloc, mutator, seed_of(seed, number));
-        jobs.push(Job::Write(writer))?;
-    }
-    jobs.push(Job::Rounds)?;
-    Ok(jobs)
-}
-
-// What all threads counted together, and how many objects there are, once all were read again.
-fn sum<K: HeapName, R: Wait>(
-    rt: &R,
-    heap: &Heap<K, MemDevice>,
-    done: Vec<Done<K>>,
-) -> (Counts, u64) {
-    let mut all = Counts::new();
-    let mut objects = 0u64;
-    for one in done {
-        match one {
-            Done::Written(writer) => {
-                let (counts, left) = writer.ends(rt, heap);
-                all.add(&counts);
-                objects = objects.saturating_add(left);
-            }
-            Done::Rounds(counts) => all.add(&counts),
-        }
-    }
-    (all, objects)
-}
-
-// What was counted, with a wrong audit more where a heap has another number of objects.
-fn judged<K: HeapName, R: Wait>(rt: &R, heap: &Heap<K, MemDevice>, done: Vec<Done<K>>) -> Counts {
-    let (mut all, objects) = sum(rt, heap, done);
-    if !counts_objects(&mut *heap.book(rt), objects) {
-        one(&mut all.wrong_audits);
-    }
-    all
+    asked: Asked,
+) -> Result<Vec<Writer<K>>, AllocError> {
+    let written = thread::map_vec(
+        rt,
+        mutators,
+        &|mutator| write(rt, alloc, gate, asked, mutator),
+    );
+    gate.end();
+    written
 }
 
 // What all threads did with a heap.
@@ -131,13 +92,18 @@ fn work_beside<K: HeapName + Send + Sync, R: Threads + Wait + Sync>(
     mutators: Vec<Mutator<K, MemDevice>>,
     asked: Asked,
 ) -> Option<Counts> {
-    let Ok(jobs) = jobs_of(alloc, mutators, asked.seed) else {
-        return None;
-    };
-    let gate = Gate::new(asked.mutators);
+    let gate = Gate::new();
     let passed = &gate;
-    match thread::map_vec(rt, jobs, &|job| run(rt, heap, passed, asked, job)) {
-        Ok(done) => Some(judged(rt, heap, done)),
+    let (written, mut counts) = thread::join(
+        rt,
+        || write_all(rt, alloc, passed, mutators, asked),
+        || make_rounds(rt, heap, passed, asked.seed),
+    );
+    match written {
+        Ok(writers) => {
+            judge(rt, heap, writers, &mut counts);
+            Some(counts)
+        }
         Err(_) => None,
     }
 }
@@ -157,50 +123,40 @@ fn beside<K: HeapName + Send + Sync, R: Threads + Wait + Sync>(
     }
 }
 
-// The parts of a heap of the size that was asked for.
-fn blank(alloc: Global, asked: Asked) -> Result<Blank<MemDevice>, Refused> {
+fn soak<R: Threads + Wait + Sync>(rt: &R, alloc: Global, asked: Asked) -> Option<Counts> {
     let shape = Shape {
         logs: asked.logs,
         mutators: asked.mutators,
         epoch: 0,
     };
-    Blank::new(alloc, shape, MemDevice::new(alloc))
+    match Blank::new(alloc, shape, MemDevice::new(alloc)) {
+        Ok(blank) => beside::<Brand, _>(rt, alloc, blank, asked),
+        Err(_) => None,
+    }
 }
 
-fn soak<R: Threads + Wait + Sync>(rt: &R, alloc: Global, asked: Asked) -> Option<Counts> {
-    let Ok(blank) = blank(alloc, asked) else {
-        return None;
-    };
-    beside::<Brand, _>(rt, alloc, blank, asked)
-}
-
-fn number(word: &str) -> u64 {
-    word.parse::<u64>().unwrap_or(0)
+// A number among the words; 0 where the word is none.
+fn number(words: &[String], at: usize, unsaid: u64) -> u64 {
+    match words.get(at) {
+        Some(word) => word.parse::<u64>().unwrap_or(0),
+        None => unsaid,
+    }
 }
 
 // The turns of each mutator, the seed, whether all counts are to be told, and how large the heap is.
-fn arguments(rt: &HostRuntime) -> Asked {
-    let mut asked = Asked {
-        turns: 0,
-        seed: 0,
-        tells: false,
-        mutators: 4,
-        logs: 16,
-    };
-    let Ok(words) = env::args(rt) else {
-        return asked;
-    };
-    for (i, word) in words.enumerate() {
-        match i {
-            0 => {}
-            1 => asked.turns = number(&word),
-            2 => asked.seed = number(&word),
-            3 => asked.tells = number(&word) == 0,
-            4 => asked.mutators = number(&word),
-            _ => asked.logs = number(&word),
-        }
+fn asked_by(words: &[String]) -> Asked {
+    Asked {
+        turns: number(words, 1, 0),
+        seed: number(words, 2, 0),
+        tells: number(words, 3, 1) == 0,
+        mutators: number(words, 4, 4),
+        logs: number(words, 5, 16),
     }
-    asked
+}
+
+fn arguments(rt: &HostRuntime) -> io::Result<Asked> {
+    let words: Vec<String> = env::args(rt)?.collect(rt.alloc())?;
+    Ok(asked_by(words.as_slice()))
 }
 
 fn tell(rt: &impl Print, counts: &Counts, tells: bool) -> io::Result<()> {
@@ -212,7 +168,9 @@ fn tell(rt: &impl Print, counts: &Counts, tells: bool) -> io::Result<()> {
 }
 
 fn main(rt: HostRuntime) -> ExitCode {
-    let asked = arguments(&rt);
+    let Ok(asked) = arguments(&rt) else {
+        return ExitCode::from(2);
+    };
     let Some(counts) = soak(&rt, rt.alloc(), asked) else {
         return ExitCode::from(2);
     };

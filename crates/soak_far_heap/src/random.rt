@@ -3,7 +3,7 @@
 ghost use Rattle.std.specs.Prelude.{◌≤◌};
 
 /// A row of such numbers.
-#[derive(Clone, Copy)]
+#[derive(Drop)]
 pub struct Random {
     state: u64,
 }
@@ -16,8 +16,8 @@ impl Random {
         }
     }
 
-    /// The next number.
-    pub fn next(&mut self) -> u64 {
+    // The next number.
+    fn next(&mut self) -> u64 {
         let mut x = self.state;
         x ^= x << 13;
         x ^= x >> 7;
@@ -39,8 +39,10 @@ impl Random {
         self.below(times) == 0
     }
 
-    /// A byte.
-    pub fn byte(&mut self) -> u8 {
-        (self.next() / 256 % 256) as u8
+    /// Puts bytes at random in place of some.
+    pub fn fill(&mut self, bytes: &mut [u8]) {
+        for byte in bytes {
+            *byte = (self.next() / 256 % 256) as u8;
+        }
     }
 }

@@ -1,13 +1,13 @@
 //! Whole rounds, one after the other, beside mutators.
 
-use crate::by_hand::{gives_up, goes_on_by_hand, make_by_hand};
-use crate::census::audits;
-use crate::counts::{Counts, add, one};
+use crate::by_hand::{gives_up, goes_on_by_hand};
+use crate::census::audit;
+use crate::counts::{Count, Counts};
 use crate::gate::Gate;
 use crate::random::Random;
 use far_device::MemDevice;
 use far_evac::{EvacFault, Phase, Progress, RoundEnd};
-use far_heap::{Heap, HeapName};
+use far_heap::{Evacuator, Heap, HeapName};
 use far_policy::{LeastLive, Oldest, Policy, Scripted};
 use far_word::Refused;
 use std::sync::Wait;
@@ -15,52 +15,55 @@ use std::sync::Wait;
 /// How many turns a round has, unless it has few.
 const PATIENCE: u64 = 100_000;
 
+/// What comes after a round's turns.
+enum Then {
+    Over,
+    GivesUp,
+    GoesOn,
+}
+
 /// Adds what a part of a round did.
 pub fn take(counts: &mut Counts, progress: Progress) {
-    add(&mut counts.round_moved, progress.moved);
-    add(&mut counts.round_far, progress.far);
-    add(&mut counts.round_dropped, progress.dropped);
-    add(&mut counts.round_freed, progress.freed);
+    counts.add(Count::RoundMoved, progress.moved);
+    counts.add(Count::RoundFar, progress.far);
+    counts.add(Count::RoundDropped, progress.dropped);
+    counts.add(Count::RoundFreed, progress.freed);
 }
 
-/// Counts a call that was refused, which only want of memory excuses.
-pub fn take_refusal(counts: &mut Counts, why: Refused) {
-    if matches!(why, Refused::Memory) {
-        one(&mut counts.faults);
-    } else {
-        one(&mut counts.wrong_answers);
-    }
+/// Counts a call that was refused, which only want of memory excuses. It doesn't say in which phase the round is then.
+pub fn take_refusal(counts: &mut Counts, why: Refused) -> Option<Phase> {
+    counts.one(match why {
+        Refused::Memory => Count::Faults,
+        _ => Count::WrongAnswers,
+    });
+    None
 }
 
-// What comes after a round's turns: it is over, it is given up, or goes on by hand.
-fn ends<K: HeapName, R: Wait>(
-    rt: &R,
-    heap: &Heap<K, MemDevice>,
-    gate: &Gate,
-    random: &mut Random,
-    counts: &mut Counts,
-    end: Result<RoundEnd, EvacFault>,
-) {
+// A round of so many turns: it is over, or given up, or it may go on by hand.
+fn ended(counts: &mut Counts, random: &mut Random, end: Result<RoundEnd, EvacFault>) -> Then {
     match end {
+        Ok(RoundEnd::Nothing) => {
+            counts.one(Count::Nothing);
+            Then::Over
+        }
         Ok(RoundEnd::Done(progress)) => {
             take(counts, progress);
-            one(&mut counts.rounds);
+            counts.one(Count::Rounds);
+            Then::Over
         }
-        Ok(RoundEnd::Nothing) => one(&mut counts.nothing),
         Ok(RoundEnd::Limit(phase)) => {
-            one(&mut counts.limits);
-            if phase == Phase::Idle {
-                one(&mut counts.wrong_answers);
-            }
+            counts.one(Count::Limits);
+            counts.expect(phase != Phase::Idle);
             if random.once_in(2) {
-                goes_on_by_hand(rt, heap, gate, random, counts);
+                Then::GoesOn
+            } else {
+                Then::GivesUp
             }
-            gives_up(&mut *heap.book(rt), counts);
         }
         Err(fault) => {
             take(counts, fault.so_far);
             take_refusal(counts, fault.why);
-            gives_up(&mut *heap.book(rt), counts);
+            Then::GivesUp
         }
     }
 }
@@ -69,30 +72,61 @@ fn ends<K: HeapName, R: Wait>(
 fn make_with<K: HeapName, R: Wait, P: Policy>(
     rt: &R,
     heap: &Heap<K, MemDevice>,
-    gate: &Gate,
     random: &mut Random,
     counts: &mut Counts,
     policy: &mut P,
-) {
-    let most = (1 + random.below(4)) as usize;
+) -> Then {
+    let most = (1 + random.below(4)).min(4) as usize;
     let turns = if random.once_in(4) {
         random.below(12)
     } else {
         PATIENCE
     };
-    let end = heap.run_round(rt, policy, most.min(4), turns);
-    ends(rt, heap, gate, random, counts, end);
+    let end = heap.run_round(rt, policy, most, turns);
+    ended(counts, random, end)
 }
 
 // The youngest sealed log.
-fn youngest<K: HeapName, R: Wait>(rt: &R, heap: &Heap<K, MemDevice>) -> Option<u8> {
-    match heap.book(rt).rows() {
-        Ok(rows) => Some(rows.last()?.log),
-        Err(_) => None,
+fn youngest<K: HeapName>(book: &mut Evacuator<K, MemDevice>) -> Option<u8> {
+    let Ok(mut rows) = book.rows() else {
+        return None;
+    };
+    match rows.pop() {
+        Some(row) => Some(row.log),
+        None => None,
     }
 }
 
-// A round of each policy in its turn, or one by hand.
+// Begins a round by hand, with the two oldest logs.
+fn select<K: HeapName>(book: &mut Evacuator<K, MemDevice>, counts: &mut Counts) -> Then {
+    if let Err(why) = book.select(&mut Oldest, 2) {
+        take_refusal(counts, why);
+    }
+    Then::GoesOn
+}
+
+// A round of each policy in its turn, or one by hand, as far as its turns go.
+fn begin_round<K: HeapName, R: Wait>(
+    rt: &R,
+    heap: &Heap<K, MemDevice>,
+    random: &mut Random,
+    counts: &mut Counts,
+) -> Then {
+    match random.below(8) {
+        0 | 1 => make_with(rt, heap, random, counts, &mut Oldest),
+        2 | 3 => make_with(rt, heap, random, counts, &mut LeastLive),
+        4 | 5 => {
+            let found = youngest(&mut *heap.book(rt));
+            match found {
+                Some(log) => { make_with(rt, heap, random, counts, &mut Scripted { logs: &[log] }) }
+                None => Then::Over,
+            }
+        }
+        _ => select(&mut *heap.book(rt), counts),
+    }
+}
+
+// A whole round.
 fn make_round<K: HeapName, R: Wait>(
     rt: &R,
     heap: &Heap<K, MemDevice>,
@@ -100,39 +134,12 @@ fn make_round<K: HeapName, R: Wait>(
     random: &mut Random,
     counts: &mut Counts,
 ) {
-    match random.below(8) {
-        0 | 1 => make_with(rt, heap, gate, random, counts, &mut Oldest),
-        2 | 3 => make_with(rt, heap, gate, random, counts, &mut LeastLive),
-        4 | 5 => {
-            if let Some(log) = youngest(rt, heap) {
-                let logs = [log];
-                let mut script = Scripted { logs: &logs };
-                make_with(rt, heap, gate, random, counts, &mut script);
-            }
-        }
-        _ => make_by_hand(rt, heap, gate, random, counts),
+    match begin_round(rt, heap, random, counts) {
+        Then::Over => return,
+        Then::GoesOn => goes_on_by_hand(rt, heap, gate, random, counts),
+        Then::GivesUp => {}
     }
-}
-
-fn audit<K: HeapName, R: Wait>(rt: &R, heap: &Heap<K, MemDevice>, counts: &mut Counts) {
-    match audits(&mut *heap.book(rt)) {
-        Some(right) => {
-            one(&mut counts.audits);
-            if !right {
-                one(&mut counts.wrong_audits);
-            }
-        }
-        None => one(&mut counts.faults),
-    }
-}
-
-/// Leaves the lock to others for a while.
-pub fn pause(gate: &Gate) {
-    for _ in 0..64u8 {
-        if !gate.has_mutators() {
-            return;
-        }
-    }
+    gives_up(&mut *heap.book(rt), counts);
 }
 
 /// Makes rounds until all mutators have ended, and audits now and then.
@@ -148,12 +155,12 @@ pub fn make_rounds<K: HeapName, R: Wait>(
         make_round(rt, heap, gate, &mut random, &mut counts);
         gate.end_round();
         if random.once_in(16) {
-            audit(rt, heap, &mut counts);
+            audit(&mut *heap.book(rt), &mut counts);
         }
-        if counts.wrong() != 0 {
-            gate.stop();
+        if !gate.goes_on(counts.wrong()) {
+            break;
         }
-        pause(gate);
+        gate.pause();
         if !gate.has_mutators() {
             break;
         }

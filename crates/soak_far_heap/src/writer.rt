@@ -1,6 +1,7 @@
 //! A mutator at work.
 
-use crate::counts::{Counts, one};
+use crate::Asked;
+use crate::counts::Count;
 use crate::desk::Desk;
 use crate::gate::Gate;
 use far_device::MemDevice;
@@ -17,6 +18,27 @@ const TRIES: u8 = 16;
 pub struct Writer<K: HeapName> {
     mutator: Mutator<K, MemDevice>,
     desk: Desk,
+}
+
+/// Takes all turns, or fewer if something is wrong.
+pub fn write<K: HeapName, R: Wait>(
+    rt: &R,
+    alloc: Global,
+    gate: &Gate,
+    asked: Asked,
+    mut mutator: Mutator<K, MemDevice>,
+) -> Writer<K> {
+    let mut desk = Desk::new(alloc, asked.seed_of(gate.enter()));
+    for _ in 0..asked.turns {
+        mutator = desk.turn(rt, mutator);
+        if !gate.goes_on(desk.counts.wrong()) {
+            break;
+        }
+        if desk.takes_short() {
+            gate.wait_for_round();
+        }
+    }
+    Writer { mutator, desk }
 }
 
 // Reads an object whole, with rounds before it if there is no room.
@@ -36,50 +58,22 @@ fn read_again<K: HeapName, R: Wait>(
         }
         let _end = heap.run_round(rt, &mut Oldest, 4, 100_000);
     }
-    one(&mut desk.counts.wrong_answers);
+    desk.counts.one(Count::WrongAnswers);
     mutator
 }
 
-impl<K: HeapName> Writer<K> {
-    /// One that has no object yet.
-    pub fn new(alloc: Global, mutator: Mutator<K, MemDevice>, seed: u64) -> Writer<K> {
-        Writer {
-            mutator,
-            desk: Desk::new(alloc, seed),
-        }
+/// Reads all objects once more.
+pub fn read_all<K: HeapName, R: Wait>(
+    rt: &R,
+    heap: &Heap<K, MemDevice>,
+    writer: Writer<K>,
+) -> Desk {
+    let Writer {
+        mut mutator,
+        mut desk,
+    } = writer;
+    for at in 0..desk.objects() {
+        mutator = read_again(rt, heap, mutator, &mut desk, at);
     }
-
-    /// Takes so many turns, or fewer if something is wrong.
-    pub fn work<R: Wait>(self, rt: &R, gate: &Gate, turns: u64) -> Writer<K> {
-        let Writer {
-            mut mutator,
-            mut desk,
-        } = self;
-        for _ in 0..turns {
-            if !gate.goes_on() {
-                break;
-            }
-            mutator = desk.turn(rt, mutator);
-            if desk.takes_short() {
-                gate.wait_for_round();
-            }
-            if desk.counts.wrong() != 0 {
-                gate.stop();
-            }
-        }
-        Writer { mutator, desk }
-    }
-
-    /// Reads all objects once more: what was counted, and how many there are.
-    pub fn ends<R: Wait>(self, rt: &R, heap: &Heap<K, MemDevice>) -> (Counts, u64) {
-        let Writer {
-            mut mutator,
-            mut desk,
-        } = self;
-        let objects = desk.objects();
-        for at in 0..objects {
-            mutator = read_again(rt, heap, mutator, &mut desk, at as usize);
-        }
-        (desk.counts, objects)
-    }
+    desk
 }
