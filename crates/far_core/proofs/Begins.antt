@@ -1,7 +1,7 @@
 -- The law at the start.
 use Rattle.std.proofs.Common.{◌≡◌, ◌≢◌, ℕ, ◌<◌, ◌≤◌, Bool, true, false, cond, Some, refl, arith, sym, ap, ◌∙◌, List, get_or, inl, inr, zero}
 use Rattle.std.specs.Prelude.{replicate, nat_lt}
-use Rattle.std.proofs.lemmas.Bool.{false≢true, cases_lt}
+use Rattle.std.proofs.lemmas.Bool.{cond_both, false≢true, cases_lt}
 use Rattle.std.proofs.lemmas.Bool.Decides.{nat_tests}
 use Rattle.std.proofs.lemmas.List.{get_or-replicate, get_or_past, length-replicate}
 use Rattle.far_word.specs.declared.pointer.PtrWord.TheVariants as pointer
@@ -15,6 +15,7 @@ use Rattle.far_core.specs.state.Opening.{opening}
 use Rattle.far_core.specs.state.Shape.{is_shape}
 use Rattle.far_core.proofs.Cells.{unused}
 use Rattle.far_core.proofs.KeepOwner.{closed_word}
+use Rattle.far_core.proofs.KeepJobs.{no_copies}
 use Rattle.far_core.proofs.Put.{put_both}
 
 -- a row of one value has it everywhere
@@ -75,6 +76,7 @@ begins shape honest fits = let range = in_range shape fits in record {
     near = λ len ds place m e. let f : Some pointer.Free ≡ Some (Near len ds place m) = sym unused ∙ e in absurd cc;
     far = λ len ds m e. let f : Some pointer.Free ≡ Some (Far len ds m) = sym unused ∙ e in absurd cc;
   };
+  copies = no_copies (λ _. 0) (λ _. 0) (λ _. false) (λ _. false) shape.epoch (λ _. false);
 }
 
 same : (b : Bool) → cond b zero zero ≡ zero
@@ -84,3 +86,7 @@ same false = refl
 -- a mask of zeros
 pub masked : (j n x : ℕ) → x ≡ 0 → cond (nat_lt j n) x 0 ≡ 0
 masked j n x e = ap (λ y. cond (nat_lt j n) y 0) e ∙ same (nat_lt j n)
+
+-- the same of rows of other values
+pub masked_row : {X : Type 0} (j n : ℕ) (d x : X) → x ≡ d → cond (nat_lt j n) x d ≡ d
+masked_row j n d x e = cond_both (nat_lt j n) x d (λ y. y ≡ d) (λ _. e) (λ _. refl)

@@ -1,15 +1,50 @@
 -- What a memory's rows say past their ends, and that a state is what it says within them.
-use Rattle.std.proofs.Common.{◌≡◌, ℕ, ◌*◌, ◌<◌, ◌≤◌, ◌∙◌, false, arith, ap, refl, sym, inl, inr, None}
-use Rattle.std.proofs.lemmas.Bool.{cases_lt}
+use Rattle.std.proofs.Common.{◌≡◌, ℕ, ◌+◌, ◌*◌, ◌<◌, ◌≤◌, ◌∙◌, Bool, true, false, cond, nat_lt, arith, ap, refl, sym, inl, inr, None}
+use Rattle.std.specs.Prelude.{◌⊎◌}
+use Rattle.std.proofs.lemmas.Bool.{cases_lt, false≢true, le-ltb}
 use Rattle.std.proofs.lemmas.List.{get_or_past}
 use mathlib.Core.Path.{fun_ext}
-use Rattle.far_word.specs.declared.sizes.TheConstants.{CELLS, LOG_WORDS}
+use Rattle.far_word.specs.declared.sizes.TheConstants.{CELLS, JOBS, LOG_WORDS, MOST_COPIERS}
 use Rattle.far_core.specs.declared.event.Kind.TheVariants.{Free}
 use Rattle.far_core.specs.declared.memory.Memory.{Memory}
+use Rattle.far_core.specs.declared.memory.jobs.Jobs.{Jobs}
 use Rattle.far_core.specs.laws.Ends.{HasNothingPast, IsWhatIsWithin}
-use Rattle.far_core.specs.state.Memory.{state_of}
+use Rattle.far_core.specs.state.Memory.{copying_of, state_of}
 use Rattle.far_core.specs.state.State.{State}
 use Rattle.far_core.proofs.StoredRows.{stored_behind, stored_past}
+
+-- ---- the jobs and the copiers
+module _ (k : Jobs) where
+  no_jobs : (j : ℕ) → JOBS ≤ j → ((copying_of k).word j ≡ 0) × ((copying_of k).since j ≡ 0) × ((copying_of k).named j ≡ false)
+  unfolding copying_of
+  no_jobs j le = (
+    get_or_past k.words.items j 0 (omega (arith, le, k.words.ok.0, k.words_sized)),
+    get_or_past k.since.items j 0 (omega (arith, le, k.since.ok.0, k.since_sized)),
+    get_or_past k.named.items j false (omega (arith, le, k.named.ok.0, k.named_sized)),
+  )
+
+  no_tasks : (c : ℕ) → MOST_COPIERS ≤ c → ((copying_of k).task c ≡ None) × ((copying_of k).length c ≡ None)
+  unfolding copying_of
+  no_tasks c le = (
+    get_or_past k.tasks.items c None (omega (arith, le, k.tasks.ok.0, k.tasks_sized)),
+    get_or_past k.lengths.items c None (omega (arith, le, k.lengths.ok.0, k.lengths_sized)),
+  )
+
+  -- a row's word, where it is past the row or the last row
+  none_there : {X : Type 0} (b : Bool) (x d : X) → (b ≡ true → x ≡ d) → cond b x d ≡ d
+  none_there true x d e = e refl
+  none_there false x d e = refl
+
+  no_copies : (c i : ℕ) → (MOST_COPIERS ≤ c) ⊎ (LOG_WORDS ≤ i) → ((copying_of k).read c i ≡ None) × ((copying_of k).written c i ≡ false)
+  unfolding copying_of
+  no_copies c i (inl le) = (
+    none_there (nat_lt i LOG_WORDS) _ None (λ _. get_or_past k.read.items (c * LOG_WORDS + i) None (omega (arith, le, k.read.ok.0, k.read_within))),
+    none_there (nat_lt i LOG_WORDS) _ false (λ _. get_or_past k.written.items (c * LOG_WORDS + i) false (omega (arith, le, k.written.ok.0, k.written_within))),
+  )
+  no_copies c i (inr le) = (
+    none_there (nat_lt i LOG_WORDS) _ None (λ low. absurd (false≢true (sym (le-ltb i LOG_WORDS le) ∙ low))),
+    none_there (nat_lt i LOG_WORDS) _ false (λ low. absurd (false≢true (sym (le-ltb i LOG_WORDS le) ∙ low))),
+  )
 
 pub has_nothing_past : (c : Memory) → HasNothingPast (state_of c)
 unfolding state_of
@@ -27,6 +62,9 @@ has_nothing_past c = record {
   holds = λ p le. get_or_past c.held.items p None (omega (arith, le, c.held.ok.0, c.held_sized));
   stores = λ p i le. stored_past c.stored p i (omega (arith, le, c.stored.row_of.ok.0, c.stored_sized));
   rows = λ p i le. stored_behind c.stored p i le;
+  jobs = no_jobs c.jobs;
+  tasks = no_tasks c.jobs;
+  copies = no_copies c.jobs;
 }
 
 -- two rows that agree up to their end, and have the same past it
@@ -53,6 +91,7 @@ is_what_is_within s a t b w = λ i. record {
   round_epoch = w.round_epoch i;
   clear = alike s.clear t.clear s.mutators t.mutators false w.mutators a.clears b.clears w.clears i;
   stored = stored i;
+  copying = w.copying i;
 } where
   pointers : CELLS * s.mutators ≡ CELLS * t.mutators
   pointers = ap (λ n. CELLS * n) w.mutators

@@ -11,6 +11,7 @@ use Rattle.far_core.specs.state.Law.{Law, ScopeLaw, ViewLaw, RoundLaw, ClearLaw,
 use Rattle.far_core.specs.declared.event.Kind.{Kind}
 use Rattle.far_core.specs.state.State.{State, put}
 use Rattle.far_core.proofs.Cells.{Remarked, body, is_dropped, is_some-remarked, near_of, far_of}
+use Rattle.far_core.proofs.KeepJobs.{copies_fewer, copies_remarked}
 use Rattle.far_core.proofs.Put.{put_both}
 
 -- scopes and owners' views
@@ -18,7 +19,7 @@ pub law_with_owners : (s : State) (scope : ℕ → ℕ) (remembered : ℕ → Op
     ScopeLaw s.mutators s.epoch scope remembered → ViewLaw s.cell scope used held → ClearLaw scope held s.round s.round_epoch s.clear →
     BlankLaw s.honest s.cell s.word s.stored used → Law record s { scope = scope; remembered = remembered; used = used; held = held }
 law_with_owners s scope remembered used held law scopes views clears blanks =
-    record { shape = law.shape; cells = law.cells; spans = law.spans; logs = law.logs; scopes = scopes; views = views; rounds = law.rounds; clears = clears; unadopted = blanks }
+    record { shape = law.shape; cells = law.cells; spans = law.spans; logs = law.logs; scopes = scopes; views = views; rounds = law.rounds; clears = clears; unadopted = blanks; copies = law.copies }
 
 -- what owners remember
 pub law_with_remembered : (s : State) (remembered : ℕ → Option ℕ) → Law s → ((m e : ℕ) → remembered m ≡ Some e → (e ≤ s.epoch) × (m < s.mutators)) → Law record s { remembered = remembered }
@@ -66,6 +67,7 @@ module _ (s : State) (round : ℕ → Bool) (law : Law s) (out : (l : ℕ) → s
     };
     clears = fewer_clear;
     unadopted = law.unadopted;
+    copies = copies_fewer s round s.clear law was_chosen (λ m h. h);
   }
 
 -- a cell with another word
@@ -119,6 +121,7 @@ module _ (s : State) (law : Law s) (p w : ℕ) (fits : w < 2 ^ 64) (r : Remarked
     rounds = rounds_with_cell s.epoch s.kind s.cell s.round s.round_epoch p w law.rounds evac;
     clears = law.clears;
     unadopted = blanks;
+    copies = copies_remarked s p w law r;
   }
 
 module _ (s : State) (law : Law s) (p w : ℕ) (fits : w < 2 ^ 64) (r : Remarked (read_of (s.cell p)) (read_of w)) (evac : HasEvac s.round (read_of w)) (nonzero : s.cell p ≢ 0)

@@ -1,8 +1,8 @@
 -- What guards say, as tests and as facts.
-use Rattle.std.proofs.Common.{None, Option, Some, ap, arith, false, refl, subst, sym, true, ℕ, ◌/◌, ◌<◌, ◌∙◌, ◌≡◌, ◌≢◌}
+use Rattle.std.proofs.Common.{None, Option, Some, ap, arith, false, refl, subst, sym, true, ℕ, ◌/◌, ◌<◌, ◌∙◌, ◌≡◌, ◌≢◌, Bool}
 use Rattle.std.proofs.lemmas.Bool.{false≢true, true≢false}
 use Rattle.std.proofs.lemmas.Bool.Decides.{nat_tests}
-use Rattle.std.specs.Prelude.{is_some, not}
+use Rattle.std.specs.Prelude.{is_some, not, ◌&&◌}
 use Rattle.far_core.proofs.Bounds.{held_of}
 use Rattle.far_core.proofs.Cells.{held_near}
 use Rattle.far_core.specs.declared.event.Kind.{Kind}
@@ -50,3 +50,8 @@ sealed_fact Sealed h = refl
 pub none_from : {X : Type 0} (o : Option X) → not (is_some o) ≡ true → o ≡ None
 none_from None h = refl
 none_from (Some x) h = absurd (false≢true h)
+
+-- what holds of all but the last, and of the last
+pub parts : (a b : Bool) → (a && b) ≡ true → (a ≡ true) × (b ≡ true)
+parts true b h = (refl, h)
+parts false b h = absurd (false≢true h)

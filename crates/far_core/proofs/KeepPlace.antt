@@ -12,10 +12,12 @@ use Rattle.far_word.specs.Header.{head_of, head_word}
 use Rattle.far_word.specs.Pointer.{read_of}
 use Rattle.far_word.specs.Sizes.{size_of}
 use Rattle.far_core.specs.declared.event.Kind.TheVariants.{Free, Open, Sealed}
-use Rattle.far_core.specs.state.Law.{Law, SpanAt, Padded, HasEvac, NamesBack, StoresBack, IsBlank, Blank, held_place, in_use, head_len}
+use Rattle.far_core.specs.state.Law.{Heads, Law, SpanAt, Padded, HasEvac, NamesBack, StoresBack, IsBlank, Blank, held_place, in_use, head_len}
 use Rattle.far_core.specs.state.State.{State, put, addr}
-use Rattle.far_core.specs.events.NewSpans.{with_span}
+use Rattle.far_core.specs.events.NewSpans.{with_begun, with_span}
+use Rattle.far_core.specs.state.Jobs.{near_place, CopyLaw}
 use Rattle.far_core.proofs.Cells.{Heads-same}
+use Rattle.far_core.proofs.KeepJobs.{copies_with_begun, copies_with_span}
 use Rattle.far_core.proofs.Put.{put_both, put_same, put_other}
 
 -- ---- the spans with one more at the tail of its log
@@ -82,11 +84,10 @@ NamesBack-more word old new more p o h = λ len ds place m e. record { placed = 
 abbrev pub header : ℕ → ℕ → ℕ → HeadWord
 header p len ds = record { pointer = p; len = len; ds = ds }
 
-module _ (s : State) (law : Law s) (p len ds : ℕ) (place : Place) (m : Marks) (new : ℕ)
-    (says : read_of new ≡ Some (Near len ds place m)) (fits : new < 2 ^ 64) (cell : p < CELLS * s.mutators) (unheld : s.held p ≡ None) (live : s.used p ≡ true → in_use (read_of new) ≡ true)
+-- ---- a span is begun, and no pointer names it
+module _ (s : State) (law : Law s) (p len ds : ℕ) (place : Place) (cell : p < CELLS * s.mutators)
     (some : 0 < len) (most : len ≤ LONGEST) (room : place.at + size_of len ≤ LOG_WORDS) (log : place.log < s.logs) (unsealed : s.kind place.log ≢ Sealed)
-    (here : place.at ≡ s.tail place.log) (named : s.word (addr place) ≡ head_word p len ds) (head : head_of (s.word (addr place)) ≡ Some (header p len ds))
-    (pads : Padded s.word (addr place) len) (blank : s.honest ≡ true → s.used p ≡ false → Blank s.word len place) where
+    (here : place.at ≡ s.tail place.log) (head : head_of (s.word (addr place)) ≡ Some (header p len ds)) (pads : Padded s.word (addr place) len) where
   size : head_len (s.word (addr place)) ≡ len
   size = rw head refl
 
@@ -94,21 +95,21 @@ module _ (s : State) (law : Law s) (p len ds : ℕ) (place : Place) (m : Marks) 
   more a h = put_both (λ b. b ≡ true) s.starts (addr place) true a (λ _. refl) (λ _. h)
 
   -- the log isn't sealed, so it isn't in the round
-  out : s.round place.log ≡ false
+  pub out : s.round place.log ≡ false
   out = false_from_ne_true (s.round place.log) (λ inside. unsealed (law.rounds.round_sealed place.log inside))
 
-  pub law_with_span : Law (with_span s p new len place)
-  law_with_span = record {
+  -- no span began there
+  pub none_here : s.starts (addr place) ≡ false
+  none_here = ap s.starts (omega arith) ∙ none_past s law len place some most room here 0 (omega arith)
+
+  pub law_with_begun : Law (with_begun s len place)
+  law_with_begun = record {
     shape = law.shape;
     cells = record {
-      cell_read = λ q. put_both (λ w. (w < 2 ^ 64) × IsSome (read_of w)) s.cell p new q (λ _. (fits, rw says refl)) (λ _. law.cells.cell_read q);
-      cell_range = λ q. put_both (λ w. w ≢ 0 → q < CELLS * s.mutators) s.cell p new q (λ e _. rw e cell) (λ _. law.cells.cell_range q);
-      cell_near = λ q. put_both (λ w. NamesBack s.word (put s.starts (addr place) true) q (read_of w)) s.cell p new q
-          (λ e n d at k is. let is2 : Some (Near len ds place m) ≡ Some (Near n d at k) = sym says ∙ is in
-          Heads-same s.word (put s.starts (addr place) true) q len ds n d place at (cc) (cc) (cc) (record { placed = put_same s.starts (addr place) true (addr place) refl; head = rw e named }))
-          (λ _. NamesBack-more s.word s.starts _ more q _ (law.cells.cell_near q));
-      cell_far = λ q. put_both (λ w. StoresBack (s.stored q) (read_of w)) s.cell p new q
-          (λ _ n d k is. let odd : Some (Near len ds place m) ≡ Some (Far n d k) = sym says ∙ is in absurd cc) (λ _. law.cells.cell_far q);
+      cell_read = law.cells.cell_read;
+      cell_range = law.cells.cell_range;
+      cell_near = λ q. NamesBack-more s.word s.starts _ more q _ (law.cells.cell_near q);
+      cell_far = law.cells.cell_far;
     };
     spans = record {
       word_fits = law.spans.word_fits;
@@ -141,6 +142,39 @@ module _ (s : State) (law : Law s) (p len ds : ℕ) (place : Place) (m : Marks) 
           (λ _. put_both (λ k. k ≡ Open → l ≡ place.log) s.kind s.current Sealed l (λ _ is. absurd cc) (λ ne is. absurd (ne (law.logs.one_open l is))));
     };
     scopes = law.scopes;
+    views = law.views;
+    rounds = record {
+      round_sealed = λ l inside. put_both (λ k. k ≡ Sealed) (put s.kind s.current Sealed) place.log Open l (λ e. absurd (false≢true (sym (ap s.round e ∙ out) ∙ inside)))
+          (λ _. put_both (λ k. k ≡ Sealed) s.kind s.current Sealed l (λ _. refl) (λ _. law.rounds.round_sealed l inside));
+      round_evac = law.rounds.round_evac;
+      own_epoch = law.rounds.own_epoch;
+    };
+    clears = law.clears;
+    unadopted = law.unadopted;
+    copies = copies_with_begun s (put s.starts (addr place) true) law more;
+  }
+
+-- ---- a span that is placed is named, outside the round
+module _ (s : State) (law : Law s) (p len ds : ℕ) (place : Place) (m : Marks) (new : ℕ)
+    (says : read_of new ≡ Some (Near len ds place m)) (fits : new < 2 ^ 64) (cell : p < CELLS * s.mutators) (unheld : s.held p ≡ None) (live : s.used p ≡ true → in_use (read_of new) ≡ true)
+    (heads : Heads s.word s.starts p len ds place) (out : s.round place.log ≡ false) (blank : s.honest ≡ true → s.used p ≡ false → Blank s.word len place)
+    (copies : CopyLaw (put s.cell p new) s.word s.starts s.round s.round_epoch s.clear s.copying) where
+  pub law_with_named : Law record s { cell = put s.cell p new }
+  law_with_named = record {
+    shape = law.shape;
+    cells = record {
+      cell_read = λ q. put_both (λ w. (w < 2 ^ 64) × IsSome (read_of w)) s.cell p new q (λ _. (fits, rw says refl)) (λ _. law.cells.cell_read q);
+      cell_range = λ q. put_both (λ w. w ≢ 0 → q < CELLS * s.mutators) s.cell p new q (λ e _. rw e cell) (λ _. law.cells.cell_range q);
+      cell_near = λ q. put_both (λ w. NamesBack s.word s.starts q (read_of w)) s.cell p new q
+          (λ e n d at k is. let is2 : Some (Near len ds place m) ≡ Some (Near n d at k) = sym says ∙ is in
+          Heads-same s.word s.starts q len ds n d place at (cc) (cc) (cc) (rw e heads))
+          (λ _. law.cells.cell_near q);
+      cell_far = λ q. put_both (λ w. StoresBack (s.stored q) (read_of w)) s.cell p new q
+          (λ _ n d k is. let odd : Some (Near len ds place m) ≡ Some (Far n d k) = sym says ∙ is in absurd cc) (λ _. law.cells.cell_far q);
+    };
+    spans = law.spans;
+    logs = law.logs;
+    scopes = law.scopes;
     views = record {
       held_open = law.views.held_open;
       held_names = λ q at h. put_both (λ w. held_place (read_of w) ≡ Some at) s.cell p new q
@@ -149,8 +183,7 @@ module _ (s : State) (law : Law s) (p len ds : ℕ) (place : Place) (m : Marks) 
       used_cell = λ q h. put_both (λ w. in_use (read_of w) ≡ true) s.cell p new q (λ e. live (ap s.used (sym e) ∙ h)) (λ _. law.views.used_cell q h);
     };
     rounds = record {
-      round_sealed = λ l inside. put_both (λ k. k ≡ Sealed) (put s.kind s.current Sealed) place.log Open l (λ e. absurd (false≢true (sym (ap s.round e ∙ out) ∙ inside)))
-          (λ _. put_both (λ k. k ≡ Sealed) s.kind s.current Sealed l (λ _. refl) (λ _. law.rounds.round_sealed l inside));
+      round_sealed = law.rounds.round_sealed;
       round_evac = λ q. put_both (λ w. HasEvac s.round (read_of w)) s.cell p new q
           (λ _ n d at k is inside. let is2 : Some (Near len ds place m) ≡ Some (Near n d at k) = sym says ∙ is in let there : place ≡ at = cc in
           absurd (false≢true (sym out ∙ ap (λ (x : Place). s.round x.log) there ∙ inside)))
@@ -166,4 +199,21 @@ module _ (s : State) (law : Law s) (p len ds : ℕ) (place : Place) (m : Marks) 
           far = λ n d k is. let odd : Some (Near len ds place m) ≡ Some (Far n d k) = sym says ∙ is in absurd cc;
         })
         (λ _. law.unadopted honest q free);
+    copies = copies;
   }
+
+-- ---- a new span is named
+module _ (s : State) (law : Law s) (p len ds : ℕ) (place : Place) (m : Marks) (new : ℕ)
+    (says : read_of new ≡ Some (Near len ds place m)) (fits : new < 2 ^ 64) (cell : p < CELLS * s.mutators) (unheld : s.held p ≡ None) (live : s.used p ≡ true → in_use (read_of new) ≡ true)
+    (some : 0 < len) (most : len ≤ LONGEST) (room : place.at + size_of len ≤ LOG_WORDS) (log : place.log < s.logs) (unsealed : s.kind place.log ≢ Sealed)
+    (here : place.at ≡ s.tail place.log) (named : s.word (addr place) ≡ head_word p len ds) (head : head_of (s.word (addr place)) ≡ Some (header p len ds))
+    (pads : Padded s.word (addr place) len) (blank : s.honest ≡ true → s.used p ≡ false → Blank s.word len place) where
+  pub law_with_span : Law (with_span s p new len place)
+  law_with_span =
+      let begun = law_with_begun s law p len ds place cell some most room log unsealed here head pads in
+      law_with_named (with_begun s len place) begun p len ds place m new says fits cell unheld live
+      (record { placed = put_same s.starts (addr place) true (addr place) refl; head = named })
+      (out s law p len ds place cell some most room log unsealed here head pads) blank
+      (copies_with_span s p new (put s.starts (addr place) true) law (more s law p len ds place cell some most room log unsealed here head pads)
+      (λ at is. let there : Some place ≡ Some at = sym (ap near_place says) ∙ is in let same : place ≡ at = cc in
+      ap (λ (x : Place). s.starts (addr x)) (sym same) ∙ none_here s law p len ds place cell some most room log unsealed here head pads))

@@ -5,7 +5,9 @@ use Rattle.far_word.specs.declared.sizes.TheConstants.{LOG_WORDS}
 use Rattle.far_word.specs.Header.{head_of}
 use Rattle.far_word.specs.Sizes.{words_for}
 use Rattle.far_core.specs.state.Law.{Law, SpanAt, Padded, NamesBack, BlankLaw, head_len}
+use Rattle.far_core.specs.state.Jobs.{SameAs}
 use Rattle.far_core.specs.state.State.{State, put}
+use Rattle.far_core.proofs.KeepJobs.{copies_with_words, keeps_same, task_unnamed}
 use Rattle.far_core.proofs.Put.{put_both, put_other}
 use Rattle.far_core.proofs.SpanFrames.{spans_apart, past_tail}
 
@@ -18,7 +20,8 @@ module _ (s : State) (law : Law s) (new : ℕ → ℕ)
     (fits : (a : ℕ) → new a < 2 ^ 64)
     (heads : (a : ℕ) → s.starts a ≡ true → new a ≡ s.word a)
     (pads : (a : ℕ) → s.starts a ≡ true → Padded new a (head_len (s.word a)))
-    (blanks : BlankLaw s.honest s.cell new s.stored s.used) where
+    (blanks : BlankLaw s.honest s.cell new s.stored s.used)
+    (same : SameAs s.round_epoch s.round new s.copying) where
   pub keeps_words : Law record s { word = new }
   keeps_words = record {
     shape = law.shape;
@@ -41,6 +44,7 @@ module _ (s : State) (law : Law s) (new : ℕ → ℕ)
     rounds = law.rounds;
     clears = law.clears;
     unadopted = blanks;
+    copies = copies_with_words s new law heads same;
   }
 
 -- ---- a data word of a span
@@ -64,9 +68,9 @@ module _ (s : State) (law : Law s) (a : ℕ) (placed : s.starts a ≡ true) (i :
       let at : j ≡ i = omega arith in rw (same, at) pad)
       (λ _. law.spans.span_padding b h j lt)
 
-  pub keeps_store : BlankLaw s.honest s.cell replaced s.stored s.used → Law record s { word = replaced }
-  keeps_store blanks = keeps_words s law replaced
-      (λ b. put_both (λ x. x < 2 ^ 64) s.word (a + 1 + i) w b (λ _. wide) (λ _. law.spans.word_fits b)) head_stays padded_at blanks
+  pub keeps_store : BlankLaw s.honest s.cell replaced s.stored s.used → SameAs s.round_epoch s.round replaced s.copying → Law record s { word = replaced }
+  keeps_store blanks same = keeps_words s law replaced
+      (λ b. put_both (λ x. x < 2 ^ 64) s.word (a + 1 + i) w b (λ _. wide) (λ _. law.spans.word_fits b)) head_stays padded_at blanks same
 
 -- ---- a word past a tail
 module _ (s : State) (law : Law s) (l at w : ℕ) (past : s.tail l ≤ at) (inside : at < LOG_WORDS) (wide : w < 2 ^ 64) where
@@ -78,3 +82,13 @@ module _ (s : State) (law : Law s) (l at w : ℕ) (past : s.tail l ≤ at) (insi
 
   pub data_kept : (b j : ℕ) → s.starts b ≡ true → j < words_for (head_len (s.word b)) → written (b + 1 + j) ≡ s.word (b + 1 + j)
   data_kept b j h lt = put_other s.word (l * LOG_WORDS + at) w (b + 1 + j) (λ e. past_tail s law l at b (1 + j) past inside h (omega arith) (omega arith))
+
+  -- the words of jobs' spans stay
+  pub same_kept : SameAs s.round_epoch s.round written s.copying
+  same_kept =
+      let jobs = law.copies.jobs in
+      keeps_same s.round_epoch s.round s.word written s.copying law.copies.taken law.copies.same
+      (λ j job e. head_kept _ (jobs.job_spans j job e).from)
+      (λ j job e good i lt. data_kept _ i (jobs.job_spans j job e).from lt)
+      (λ j job e unnamed i lt. data_kept _ i (jobs.job_spans j job e).to (rw (jobs.job_spans j job e).alike lt))
+      (task_unnamed s.word s.starts s.copying jobs law.copies.taken)

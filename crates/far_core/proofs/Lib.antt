@@ -2,10 +2,16 @@ pub mod Begins
 pub mod Bounds
 pub mod Calls
 pub mod Cells
+pub mod CopierCalls
 pub mod Copies
+pub mod CopierRows
 pub mod Ends
 pub mod Frames
 pub mod Guards
+pub mod Items
+pub mod JobLaws
+pub mod JobPlaces
+pub mod KeepJobs
 pub mod KeepOwner
 pub mod KeepPlace
 pub mod KeepWords
@@ -25,6 +31,7 @@ pub mod Owing
 pub mod Put
 pub mod Quieting
 pub mod Ranges
+pub mod RefusedCopying
 pub mod RefusedEvents
 pub mod RefusedNamings
 pub mod RoomLaws

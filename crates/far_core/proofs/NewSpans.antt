@@ -7,13 +7,13 @@ use Rattle.far_word.specs.declared.pointer.Place.{Place}
 use Rattle.far_word.specs.Sizes.{size_of}
 use Rattle.far_core.specs.declared.event.Kind.{Kind}
 use Rattle.far_core.specs.declared.event.Kind.TheVariants.{Free, Open, Sealed}
-use Rattle.far_core.specs.events.NewSpans.{IsNext, IsNewSpan, goes_at, is_new_span, with_span, Takes}
+use Rattle.far_core.specs.events.NewSpans.{IsNext, IsNewSpan, goes_at, is_new_span, with_begun, with_span, Takes}
 use Rattle.far_core.specs.events.Touch.{CellAt, BookView, Touches}
 use Rattle.far_core.specs.state.Law.{Law}
 use Rattle.far_core.specs.state.State.{State, put, addr}
 use Rattle.far_core.specs.world.WorldOf.{is_group}
 use Rattle.far_core.proofs.Put.{put_both, put_same, put_other}
-use Rattle.far_core.proofs.Touching.{one_cell}
+use Rattle.far_core.proofs.Touching.{same_copier, one_cell}
 
 next_fact : (k : Kind) (at tail : ℕ) → goes_at k at tail ≡ true → ((k ≡ Open) × (at ≡ tail)) ⊎ ((k ≡ Free) × (at ≡ 0))
 next_fact Free at tail h = inr (refl, eqb-true at 0 h)
@@ -45,8 +45,8 @@ unsealed s at (log, inl h) shut = let odd : Open ≡ Sealed = sym h.0 ∙ shut i
 unsealed s at (log, inr h) shut = let odd : Free ≡ Sealed = sym h.0 ∙ shut in cc
 
 -- ---- what taking a span changes
-pub takes_span : (s : State) → Law s → (p new len : ℕ) (place : Place) → Takes s len place (with_span s p new len place)
-takes_span s law p new len place = record {
+pub takes_begun : (s : State) → Law s → (len : ℕ) (place : Place) → Takes s len place (with_begun s len place)
+takes_begun s law len place = record {
   ends = put_same s.tail place.log (place.at + size_of len) place.log refl;
   opens = (put_same (put s.kind s.current Sealed) place.log Open place.log refl, refl);
   seals = λ l ne is. put_other (put s.kind s.current Sealed) place.log Open l ne ∙ put_same s.kind s.current Sealed l (law.logs.one_open l is);
@@ -61,13 +61,20 @@ takes_span s law p new len place = record {
   stored = refl;
 }
 
+-- and naming it nothing more
+pub takes_span : (s : State) → Law s → (p new len : ℕ) (place : Place) → Takes s len place (with_span s p new len place)
+takes_span s law p new len place =
+    let x = takes_begun s law len place in
+    record { ends = x.ends; opens = x.opens; seals = x.seals; others = x.others; begins = x.begins; starts = x.starts; round = refl; clear = refl; stored = refl }
+
 pub touch_span : (s : State) (p new len : ℕ) (place : Place) → Touches s (record { word = Some (CellAt p); part = BookView }) (with_span s p new len place)
 touch_span s p new len place = record {
-  words = one_cell s.epoch s.scope s.cell s.word p new;
+  words = one_cell s.epoch s.scope s.cell s.word s.copying.word p new;
   remembered = λ k a b. refl;
   used = λ q a. refl;
   held = λ q a b. refl;
   book = λ ne. absurd (ne refl);
+  copiers = λ c ne. same_copier;
   rest = (refl, refl, refl);
 }
 

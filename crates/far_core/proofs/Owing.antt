@@ -1,7 +1,7 @@
 -- What every event owes, by its own file; and what follows of any event.
 use Rattle.std.proofs.Common.{◌≡◌, ◌≢◌, true}
 use Rattle.far_core.specs.declared.event.Event.{Event}
-use Rattle.far_core.specs.declared.event.Event.TheVariants.{ReadEpoch, Open, Pin, Load, Store, Close, Adopt, Put, Name, See, Mark, Ask, Get, Clear, Advance, Look}
+use Rattle.far_core.specs.declared.event.Event.TheVariants.{ReadEpoch, Open, Pin, Load, Store, Close, Adopt, Put, Name, See, Mark, Ask, Get, Clear, Advance, Look, Offer, PeekJob, SeeJob, Claim, ReadLength, Read, Write, Finish, Collect}
 use Rattle.far_core.specs.declared.event.Reply.TheVariants.{Refused}
 use Rattle.far_core.specs.world.Happens.{Happens}
 use Rattle.far_core.specs.state.Law.{Law}
@@ -27,6 +27,15 @@ use Rattle.far_core.proofs.events.Get.{get_owed}
 use Rattle.far_core.proofs.events.Clear.{clear_owed}
 use Rattle.far_core.proofs.events.Advance.{advance_owed}
 use Rattle.far_core.proofs.events.Look.{look_owed}
+use Rattle.far_core.proofs.events.Offer.{offer_owed}
+use Rattle.far_core.proofs.events.PeekJob.{peek_job_owed}
+use Rattle.far_core.proofs.events.SeeJob.{see_job_owed}
+use Rattle.far_core.proofs.events.Claim.{claim_owed}
+use Rattle.far_core.proofs.events.ReadLength.{read_length_owed}
+use Rattle.far_core.proofs.events.Read.{read_owed}
+use Rattle.far_core.proofs.events.Write.{write_owed}
+use Rattle.far_core.proofs.events.Finish.{finish_owed}
+use Rattle.far_core.proofs.events.Collect.{collect_owed}
 
 pub owed : (e : Event) → Owed e
 owed (ReadEpoch m) = read_epoch_owed m
@@ -45,6 +54,15 @@ owed (Get l at free) = get_owed l at free
 owed (Clear p) = clear_owed p
 owed (Advance logs) = advance_owed logs
 owed (Look m) = look_owed m
+owed (Offer j p to) = offer_owed j p to
+owed (PeekJob c j) = peek_job_owed c j
+owed (SeeJob j) = see_job_owed j
+owed (Claim c j old) = claim_owed c j old
+owed (ReadLength c) = read_length_owed c
+owed (Read c i) = read_owed c i
+owed (Write c i) = write_owed c i
+owed (Finish c) = finish_owed c
+owed (Collect j old) = collect_owed j old
 
 -- what passes the test is legal
 pub is_fact : (s : State) (e : Event) → Law s → is_legal s e ≡ true → Legal s e

@@ -1,5 +1,6 @@
 -- A function changed at one argument.
-use Rattle.std.proofs.Common.{◌≡◌, ◌≢◌, ℕ, ◌+◌, Bool, true, false, arith, cond, nat_eq, nat_lt, sym, refl, ap, ◌∙◌}
+use Rattle.std.proofs.Common.{◌≡◌, ◌≢◌, ℕ, ◌+◌, Bool, true, false, arith, inl, inr, cond, nat_eq, nat_lt, sym, refl, ap, ◌∙◌}
+use Rattle.std.specs.Prelude.{◌⊎◌}
 use Rattle.std.proofs.lemmas.Bool.{cond_both, eqb-true, eqb-false, ne_eqb, eq-eqb, lt-ltb, le-ltb, ltb-true, ltb-false}
 use mathlib.Core.Path.{fun_ext}
 use Rattle.far_core.specs.state.State.{put}
@@ -14,6 +15,13 @@ module _ {X : Type 0} where
 
   pub put_other : (f : ℕ → X) (k : ℕ) (v : X) (q : ℕ) → q ≢ k → put f k v q ≡ f q
   put_other f k v q ne = ap (λ b. cond b v (f q)) (ne_eqb q k ne)
+
+  -- what is found is the new value at k, or an old one elsewhere
+  pub put_cases : (f : ℕ → X) (k : ℕ) (v : X) (q : ℕ) (r : X) → put f k v q ≡ r → ((q ≡ k) × (v ≡ r)) ⊎ ((q ≢ k) × (f q ≡ r))
+  put_cases f k v q r = put_both (λ x. x ≡ r → ((q ≡ k) × (v ≡ r)) ⊎ ((q ≢ k) × (f q ≡ r))) f k v q (λ e is. inl (e, is)) (λ ne is. inr (ne, is))
+
+  pub put_cases_of : (f : ℕ → X) (k : ℕ) (v : X) (q : ℕ) (P : X → Type 0) → P (put f k v q) → ((q ≡ k) × P v) ⊎ ((q ≢ k) × P (f q))
+  put_cases_of f k v q P = put_both (λ x. P x → ((q ≡ k) × P v) ⊎ ((q ≢ k) × P (f q))) f k v q (λ e is. inl (e, is)) (λ ne is. inr (ne, is))
 
   -- the same of two functions changed at one argument
   pub put_two : {Y : Type 0} (P : X → Y → Type 0) (f : ℕ → X) (g : ℕ → Y) (k : ℕ) (v : X) (w : Y) (q : ℕ) → (q ≡ k → P v w) → (q ≢ k → P (f q) (g q)) → P (put f k v q) (put g k w q)

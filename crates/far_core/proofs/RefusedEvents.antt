@@ -1,5 +1,5 @@
 -- Why events are refused: each cause speaks against what a legal event is.
-use Rattle.std.proofs.Common.{◌≡◌, ◌≢◌, ℕ, ◌+◌, ◌-◌, ◌*◌, ◌/◌, ◌%◌, ◌^◌, ◌<◌, ◌≤◌, ◌∙◌, true, cond, arith, ap, refl, sym, subst, Some, None}
+use Rattle.std.proofs.Common.{◌≡◌, ◌≢◌, ℕ, ◌+◌, ◌-◌, ◌*◌, ◌/◌, ◌%◌, ◌^◌, ◌<◌, ◌≤◌, ◌∙◌, true, cond, arith, ap, inl, inr, refl, sym, subst, Some, None}
 use Rattle.std.proofs.lemmas.Bool.{false_from_ne_true, false≢true, true≢false, lt-ltb}
 use Rattle.std.proofs.Math.Nat.{div-eq_of_lt}
 use Rattle.std.specs.Prelude.{is_some}
@@ -9,18 +9,22 @@ use Rattle.far_word.specs.declared.mark.Marks.{Marks}
 use Rattle.far_word.specs.declared.pointer.Place.{Place}
 use Rattle.far_word.specs.declared.pointer.PtrWord.TheVariants as pointer
 use Rattle.far_word.specs.declared.pointer.PtrWord.TheVariants.{Near, Far}
+use Rattle.far_word.specs.declared.sizes.TheConstants.{LOG_WORDS}
 use Rattle.far_word.specs.Pointer.{read_of}
+use Rattle.far_word.specs.Sizes.{size_of, words_for}
 use Rattle.far_word.proofs.PointerLaws.{read_says}
 use Rattle.far_core.specs.declared.event.Event.{Event}
 use Rattle.far_core.specs.declared.event.Event.TheVariants as event
 use Rattle.far_core.specs.declared.event.Reply.TheVariants.{Refused}
 use Rattle.far_core.specs.events.Advance.{is_among}
 use Rattle.far_core.specs.events.Legal.{Legal, HoldsWord}
+use Rattle.far_core.specs.events.Offer.{MayOffer}
 use Rattle.far_core.specs.events.Step.{is_legal, after, answer}
-use Rattle.far_core.specs.laws.Refusals.{IsRefused, ScopesAreRefused, PointersAreRefused, WordsAreRefused, LogsAreRefused, RoundsAreRefused}
+use Rattle.far_core.specs.laws.Refusals.{IsRefused, ScopesAreRefused, PointersAreRefused, WordsAreRefused, LogsAreRefused, OffersAreRefused, RoundsAreRefused, TargetsAreRefused, CopiesAreRefused}
 use Rattle.far_core.specs.state.Law.{Law, in_use}
-use Rattle.far_core.specs.state.State.{State}
+use Rattle.far_core.specs.state.State.{State, addr}
 use Rattle.far_core.proofs.Cells.{held_near, unused}
+use Rattle.far_core.proofs.NewSpans.{at_tail, unsealed}
 use Rattle.far_core.proofs.NamingFacts.{use_bit}
 use Rattle.far_core.proofs.Owing.{is_fact}
 
@@ -99,6 +103,7 @@ module _ (s : State) (law : Law s) where
     free_occupied = λ l at p len ds place k is there. refused s law (event.Get l at true) (λ h. h.2.1 p len ds place k is there);
     free_viewed = λ l at p place is there. refused s law (event.Get l at true)
         (λ h. let x = held_near _ place (law.views.held_names p place is) in h.2.1 p x.len x.ds place x.marks x.near there);
+    free_copied = λ l at j job is there. refused s law (event.Get l at true) (λ h. elim there [ inl from ↦ (h.2.2 j job is).0 from | inr to ↦ (h.2.2 j job is).1 to ]);
     put_past = λ l at w le. refused s law (event.Put l at w) (λ h. omega (arith, h.0, le));
     put_over = λ l at w le. refused s law (event.Put l at w) (λ h. omega (arith, h.3, le));
     put_sealed = λ l at w is. refused s law (event.Put l at w) (λ h. h.1 is);
@@ -133,9 +138,50 @@ module _ (s : State) (law : Law s) where
     clear_free = λ p is. refused s law (event.Clear p) (λ h. near_not_free p h.1.0 h.1.1 h.1.2 h.1.3 is h.1.4);
     clear_far = λ p len ds k is. refused s law (event.Clear p) (λ h. near_not_far p len ds h.1.0 h.1.1 h.1.2 k h.1.3 is h.1.4);
     look_past = λ m le. refused s law (event.Look m) (λ h. omega (arith, h, le));
+    see_job_past = λ j le. refused s law (event.SeeJob j) (λ h. omega (arith, h, le));
+    peek_job_past = λ c j le. refused s law (event.PeekJob c j) (λ h. omega (arith, h.1, le));
+    peek_job_none = λ c j le. refused s law (event.PeekJob c j) (λ h. omega (arith, h.0, le));
     advance_last = λ logs is. refused s law (event.Advance logs) (λ h. omega (arith, h.below, is));
     advance_unsealed = λ logs l lt is ne. refused s law (event.Advance logs) (λ h. ne (h.shut l (among logs l lt is)).1);
     advance_past = λ logs l lt is le. refused s law (event.Advance logs) (λ h. let low : l < s.logs = (h.shut l (among logs l lt is)).0 in omega (arith, low, le));
     advance_unmarked = λ logs p len ds place k near is none. refused s law (event.Advance logs)
         (λ h. false≢true (sym none ∙ h.marked p len ds place k near (among logs place.log (near_log p len ds place k near) is)));
   }
+
+  -- what is offered is near, with its own length and data structure, at its own place
+  offers_near : (j p len ds : ℕ) (to from : Place) (k : Marks) → read_of (s.cell p) ≡ Some (Near len ds from k) → Legal s (event.Offer j p to) → MayOffer s p len ds from to k
+  offers_near j p len ds to from k is h =
+      let same : Some (Near h.3.0 h.3.1 h.3.2 h.3.3) ≡ Some (Near len ds from k) = sym h.3.4.near ∙ is in
+      let long : h.3.0 ≡ len = cc in
+      let of : h.3.1 ≡ ds = cc in
+      let there : h.3.2 ≡ from = cc in
+      let marks : h.3.3 ≡ k = cc in
+      subst (λ (n : ℕ). MayOffer s p n ds from to k) long (subst (λ (d : ℕ). MayOffer s p h.3.0 d from to k) of
+      (subst (λ (x : Place). MayOffer s p h.3.0 h.3.1 x to k) there (subst (λ (m : Marks). MayOffer s p h.3.0 h.3.1 h.3.2 to m) marks h.3.4)))
+
+  offers_refused : (j p : ℕ) (to : Place) → OffersAreRefused s j p to
+  offers_refused j p to = record {
+    past_jobs = λ le. refused s law (event.Offer j p to) (λ h. omega (arith, h.0, le));
+    past = λ le. refused s law (event.Offer j p to) (λ h. omega (arith, h.1, le));
+    twice = λ ne. refused s law (event.Offer j p to) (λ h. ne h.2);
+    free = λ is. refused s law (event.Offer j p to) (λ h. near_not_free p h.3.0 h.3.1 h.3.2 h.3.3 is h.3.4.near);
+    far = λ len ds k is. refused s law (event.Offer j p to) (λ h. near_not_far p len ds h.3.0 h.3.1 h.3.2 k h.3.3 is h.3.4.near);
+    unmarked = λ len ds from k is none. refused s law (event.Offer j p to) (λ h. false≢true (sym none ∙ (offers_near j p len ds to from k is h).marked));
+    outside = λ len ds from k is none. refused s law (event.Offer j p to) (λ h. false≢true (sym none ∙ (offers_near j p len ds to from k is h).chosen));
+    unseen = λ none. refused s law (event.Offer j p to) (λ h. false≢true (sym none ∙ h.3.4.seen));
+  }
+
+  targets_refused : (j p len ds : ℕ) (to from : Place) (k : Marks) → read_of (s.cell p) ≡ Some (Near len ds from k) → TargetsAreRefused s j p len ds to
+  targets_refused j p len ds to from k is = record {
+    past_logs = λ le. refused s law (event.Offer j p to) (λ h. omega (arith, h.3.4.span.next.0, le));
+    shut = λ shut. refused s law (event.Offer j p to) (λ h. unsealed s to h.3.4.span.next shut);
+    off_tail = λ open_log ne. refused s law (event.Offer j p to) (λ h. ne (at_tail s law to h.3.4.span.next));
+    off_start = λ free ne. refused s law (event.Offer j p to) (λ h. ne (at_tail s law to h.3.4.span.next ∙ law.logs.free_tail to.log free));
+    over = λ lt. refused s law (event.Offer j p to) (λ h. let fits : to.at + size_of len ≤ LOG_WORDS = (offers_near j p len ds to from k is h).fits in omega (arith, fits, lt));
+    headless = λ ne. refused s law (event.Offer j p to) (λ h. ne (offers_near j p len ds to from k is h).span.head);
+    not_blank = λ i low last ne. refused s law (event.Offer j p to)
+        (λ h. let at : words_for len - 1 ≡ i = omega arith in ne (ap (λ n. s.word (addr to + 1 + n)) (sym at) ∙ (offers_near j p len ds to from k is h).ends));
+  }
+
+  pub copies_refused : CopiesAreRefused s
+  copies_refused = (offers_refused, targets_refused)

@@ -1,5 +1,6 @@
 pub mod Agreement
 pub mod Ends
+pub mod Jobs
 pub mod Live
 pub mod Namings
 pub mod Observed

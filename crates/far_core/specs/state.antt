@@ -1,5 +1,6 @@
 pub mod Agrees
 pub mod CoreState
+pub mod Jobs
 pub mod Law
 pub mod Memory
 pub mod Opening

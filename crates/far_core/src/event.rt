@@ -1,6 +1,6 @@
 //! The atomic steps and what they answer.
 
-use far_word::{Mark, Place};
+use far_word::{Job, Mark, Place};
 
 /// One atomic step, which changes one shared word at most. An event whose guard is false is refused and changes nothing.
 ///
@@ -45,8 +45,8 @@ pub enum Event {
         owner: u8,
         pointer: u16,
     },
-    /// The word `at` of a log is read. With `free` the log, which is sealed and has no live span, is given back too: it is
-    /// free, its tail is 0, and it leaves the round; its words stay. Answers `Word`.
+    /// The word `at` of a log is read. With `free` the log, which is sealed and has no live span, and which no job reads or
+    /// writes, is given back too: it is free, its tail is 0, and it leaves the round; its words stay. Answers `Word`.
     Get {
         log: u8,
         at: u16,
@@ -108,6 +108,61 @@ pub enum Event {
     Look {
         owner: u8,
     },
+    /// The book offers job `job`, which is empty, to the copiers: an object's copy at `to`. The object is near with EVAC, dropped or
+    /// not, its log is in the round, and its owner was seen clear. At `to` a new span is taken: a header for the pointer is
+    /// written there, and a last data word of 0, and it ends within its log. No pointer names it yet. Answers `Done`.
+    Offer {
+        job: u8,
+        pointer: u16,
+        to: Place,
+    },
+    /// A copier, below 8, reads the word of a job, below 16. Answers `Word`.
+    PeekJob {
+        copier: u8,
+        job: u8,
+    },
+    /// The book reads the word of a job, below 16. Answers `Word`.
+    SeeJob {
+        job: u8,
+    },
+    /// A copier without a job takes an offered one, where its word is `old`, which offers a job. Answers `Done` then, and
+    /// `Word` with the job's word, which stays, else.
+    Claim {
+        copier: u8,
+        job: u8,
+        old: u64,
+    },
+    /// A copier with a job reads the header of its source, and remembers the length. Answers `Word`.
+    ReadLength {
+        copier: u8,
+    },
+    /// A copier with a job reads data word `index` of its source, and remembers it. Answers `Word`.
+    Read {
+        copier: u8,
+        index: u16,
+    },
+    /// A copier that has read data word `index` of its job's source writes it to the target. Answers `Done`.
+    Write {
+        copier: u8,
+        index: u16,
+    },
+    /// A copier that has written all words of its job says so, and has no job. Answers `Done`.
+    Finish {
+        copier: u8,
+    },
+    /// A finished or offered job is empty from then on, where its word is `old`, a finished or an offered job's. Answers
+    /// `Done` then, and `Word` with the job's word, which stays, else.
+    Collect {
+        job: u8,
+        old: u64,
+    },
+}
+
+/// A job that a copier has: which of the 16 it is, and what it says.
+#[derive(Clone, Copy, Debug, PartialEq, Eq)]
+pub struct Task {
+    pub number: u8,
+    pub job: Job,
 }
 
 /// What an event answers.

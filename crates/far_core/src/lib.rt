@@ -12,7 +12,7 @@ mod memory;
 mod naming;
 mod shape;
 
-pub use event::{Event, Kind, Reply};
+pub use event::{Event, Kind, Reply, Task};
 pub use machine::Core;
 pub use machine::laws::{
     events_leave_others, namings_are_plain, opening_is_start, refusals_are_said, scopes_show,

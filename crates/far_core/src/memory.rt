@@ -6,6 +6,9 @@ ghost use Rattle.far_word.specs.declared.sizes.TheConstants.{CELLS, LOG_WORDS, M
 
 mod book;
 mod copies;
+mod copying;
+pub(crate) mod jobs;
+mod offering;
 mod owner;
 mod quiet;
 mod ranges;
@@ -15,6 +18,7 @@ pub(crate) mod stored_rows;
 mod writing;
 
 use crate::event::Kind;
+use crate::memory::jobs::Jobs;
 use crate::memory::stored_rows::StoredRows;
 use far_word::Place;
 
@@ -41,6 +45,8 @@ pub(crate) struct Memory {
     pub(crate) clear: Vec<bool>,
     // The words of far objects, as they were stored.
     pub(crate) stored: StoredRows,
+    // The jobs and the copiers.
+    pub(crate) jobs: Jobs,
     ghost remembered_sized: { vec_len remembered ≡ vec_len scopes },
     ghost kinds_sized: { vec_len kinds ≡ vec_len tails },
     ghost current_within: { current < vec_len tails },

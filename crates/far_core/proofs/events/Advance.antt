@@ -16,14 +16,15 @@ use Rattle.far_core.specs.declared.event.Kind.TheVariants.{Free, Sealed}
 use Rattle.far_core.specs.events.Advance.{is_among, is_marked_among, is_sealed_among, all_marked, all_sealed, MayAdvance, advanced}
 use Rattle.far_core.specs.events.Mark.{is_sealed}
 use Rattle.far_core.specs.events.Step.{change_of, is_legal}
-use Rattle.far_core.specs.events.Touch.{Spot, EpochAt, ScopeAt, CellAt, WordAt, spot_word}
+use Rattle.far_core.specs.events.Touch.{Spot, EpochAt, ScopeAt, CellAt, WordAt, JobAt, spot_word}
 use Rattle.far_core.specs.laws.Worlds.{Caused}
 use Rattle.far_core.specs.state.Law.{Law, HasEvac}
 use Rattle.far_core.specs.state.State.{State}
 use Rattle.far_core.specs.world.WorldOf.{world_of}
 use Rattle.far_core.proofs.Cells.{unused}
-use Rattle.far_core.proofs.Guards.{sealed_fact}
+use Rattle.far_core.proofs.Guards.{parts, sealed_fact}
 use Rattle.far_core.proofs.Owed.{Owed, replies}
+use Rattle.far_core.proofs.Touching.{same_copier}
 
 -- ---- the guard: the logs
 -- a log that is sealed, if it is in the set
@@ -36,11 +37,6 @@ sealed_here s logs l h among =
 
       shut : (nat_lt l s.logs && is_sealed (s.kind l)) ≡ true → is_sealed (s.kind l) ≡ true
       shut b = grind (arith, nat_tests)
-
--- what holds of all but the last, and of the last
-parts : (a b : Bool) → (a && b) ≡ true → (a ≡ true) × (b ≡ true)
-parts true b h = (refl, h)
-parts false b h = absurd (false≢true h)
 
 sealed_below : (s : State) (logs n l : ℕ) → all_sealed s logs n ≡ true → l < n → is_among logs l ≡ true → (l < s.logs) × (s.kind l ≡ Sealed)
 sealed_below s logs zero l h lt among = absurd (omega arith)
@@ -136,6 +132,10 @@ module _ (logs : ℕ) where
     marked = marked_fact_all s law logs c;
   }
 
+  -- no job is of a round that comes only now
+  past : (s : State) → Law s → (j : ℕ) → s.copying.since j ≢ s.epoch + 1
+  past s law j e = let old : s.copying.since j ≤ s.round_epoch = law.copies.good.begun j in omega (arith, law.rounds.own_epoch)
+
   -- no owner is open at an epoch that comes only now
   keeps_advance : (s : State) → Law s → MayAdvance s logs → Law (advanced s logs)
   keeps_advance s law h = record {
@@ -158,13 +158,29 @@ module _ (logs : ℕ) where
       late_unviewed = λ p e place held is late. absurd (let old : e ≤ s.epoch = law.scopes.open_bound (p / CELLS) e is in omega arith);
     };
     unadopted = law.unadopted;
+    copies = record {
+      jobs = law.copies.jobs;
+      taken = law.copies.taken;
+      aims = law.copies.aims;
+      good = record {
+        begun = λ j. let old : s.copying.since j ≤ s.round_epoch = law.copies.good.begun j in omega (arith, law.rounds.own_epoch);
+        seen = λ j job e good. absurd (past s law j good.0);
+        outside = λ j job e good. absurd (past s law j good.0);
+      };
+      same = record {
+        read = λ c i w t e good. absurd (past s law t.number good.0);
+        written = λ c i t e good. absurd (past s law t.number good.0);
+        finished = λ j c job e good. absurd (past s law j good.0);
+      };
+    };
   }
 
-  one_epoch : (e f : ℕ) (scope cell word : ℕ → ℕ) (a : Spot) → Some EpochAt ≢ Some a → spot_word e scope cell word a ≡ spot_word f scope cell word a
-  one_epoch e f scope cell word EpochAt ne = absurd (ne refl)
-  one_epoch e f scope cell word (ScopeAt m) ne = refl
-  one_epoch e f scope cell word (CellAt p) ne = refl
-  one_epoch e f scope cell word (WordAt a) ne = refl
+  one_epoch : (e f : ℕ) (scope cell word job : ℕ → ℕ) (a : Spot) → Some EpochAt ≢ Some a → spot_word e scope cell word job a ≡ spot_word f scope cell word job a
+  one_epoch e f scope cell word job EpochAt ne = absurd (ne refl)
+  one_epoch e f scope cell word job (ScopeAt m) ne = refl
+  one_epoch e f scope cell word job (CellAt p) ne = refl
+  one_epoch e f scope cell word job (WordAt a) ne = refl
+  one_epoch e f scope cell word job (JobAt j) ne = refl
 
   stays : (s : State) → world_of (advanced s logs) ≡ world_of s
   unfolding world_of
@@ -180,11 +196,12 @@ module _ (logs : ℕ) where
     keeps = λ s law fits h. keeps_advance s law h;
     does = λ s law fits h. stays s;
     within = λ s. record {
-      words = one_epoch (s.epoch + 1) s.epoch s.scope s.cell s.word;
+      words = one_epoch (s.epoch + 1) s.epoch s.scope s.cell s.word s.copying.word;
       remembered = λ k a b. refl;
       used = λ q a. refl;
       held = λ q a b. refl;
       book = λ ne. absurd (ne refl);
+      copiers = λ c ne. same_copier;
       rest = (refl, refl, refl);
     };
     part = λ s h. inr (inr (inr (inl (logs, refl))));

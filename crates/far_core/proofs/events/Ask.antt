@@ -162,7 +162,7 @@ module _ (m p : ℕ) (k : Mark) where
     test = λ s h. let low : m < s.mutators = h.1 in let a : nat_lt m s.mutators ≡ true = grind (arith, nat_tests) in rw (h.0, a, eq-eqb _ _ h.2, h.3, h.4) refl;
     keeps = λ s law fits h. keeps_ask m p k s law h;
     does = λ s law fits h. does_ask m p k s law h;
-    within = λ s. touched (one_cell s.epoch s.scope s.cell s.word p _) (λ a b c. refl) (λ q a. used_other s.used p k q (λ e. a (ap Uses (sym e)))) (λ q a b. refl);
+    within = λ s. touched (one_cell s.epoch s.scope s.cell s.word s.copying.word p _) (λ a b c. refl) (λ q a. used_other s.used p k q (λ e. a (ap Uses (sym e)))) (λ q a b. refl);
     part = λ s h. inr (k, by_owner (λ a b. Ask a b k) m p p (grind (arith, nat_tests)) refl);
     word = λ s h. inr (inr (inr (inl (k, by_owner (λ a b. Ask a b k) m p p (grind (arith, nat_tests)) refl))));
     reports = λ s law h. (

@@ -24,7 +24,7 @@ use Rattle.far_core.proofs.Frames.{law_with_cell_marks, law_with_fewer_chosen}
 use Rattle.far_core.proofs.Marking.{same_world, unmarks_world}
 use Rattle.far_core.proofs.Owed.{Owed, replies}
 use Rattle.far_core.proofs.Put.{put_both, put_same, put_other}
-use Rattle.far_core.proofs.Touching.{one_cell}
+use Rattle.far_core.proofs.Touching.{same_copier, one_cell}
 
 -- ---- the guard
 near_fact : (s : State) (p : ℕ) (o : Option PtrWord) → read_of (s.cell p) ≡ o → is_near o ≡ true → IsNear s p
@@ -148,11 +148,12 @@ module _ (p : ℕ) where
     keeps = λ s law fits h. keeps_clear s law (near_test s p h.1);
     does = λ s law fits h. does_clear s law (near_test s p h.1) (has_move (read_of (s.cell p))) refl;
     within = λ s. record {
-      words = one_cell s.epoch s.scope s.cell s.word p _;
+      words = one_cell s.epoch s.scope s.cell s.word s.copying.word p _;
       remembered = λ k a b. refl;
       used = λ q a. refl;
       held = λ q a b. refl;
       book = λ ne. absurd (ne refl);
+      copiers = λ c ne. same_copier;
       rest = (refl, refl, refl);
     };
     part = λ s h. inr (inr (inl (p, refl)));

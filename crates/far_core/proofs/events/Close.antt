@@ -76,7 +76,7 @@ module _ (m : ℕ) where
     test = λ s h. open_test s m h;
     keeps = λ s law fits h. keeps_close s m law;
     does = λ s law fits h. close_closes s m h.1;
-    within = λ s. touched (one_scope s.epoch s.scope s.cell s.word m 0) (λ k a b. put_other s.remembered m None k (λ e. b (ap LetsGo (sym e)))) (λ q a. refl)
+    within = λ s. touched (one_scope s.epoch s.scope s.cell s.word s.copying.word m 0) (λ k a b. put_other s.remembered m None k (λ e. b (ap LetsGo (sym e)))) (λ q a. refl)
         (λ q a b. cond_both (nat_eq (q / CELLS) m) None (s.held q) (λ x. x ≡ s.held q) (λ e. absurd (b (ap LetsGo (sym (eqb-true (q / CELLS) m e))))) (λ _. refl));
     part = λ s h. refl;
     word = λ s h. inr refl;

@@ -1,14 +1,17 @@
 -- What the event Get owes.
 use Rattle.std.proofs.Common.{inl, inr, ◌≡◌, ◌≢◌, ℕ, ◌+◌, ◌*◌, ◌/◌, ◌%◌, ◌<◌, ◌≤◌, ◌∙◌, Bool, true, false, cond, nat_lt, nat_eq, zero, suc, arith, ap, refl, sym, Option, Some, None}
-use Rattle.std.proofs.lemmas.Bool.{cases_eq, cond_both, eq-eqb, eqb-true, false≢true, false_from_ne_true}
+use Rattle.std.proofs.lemmas.Bool.{cases_eq, cond_both, eq-eqb, eqb-true, false≢true, true≢false, ne_eqb, false_from_ne_true}
 use Rattle.std.proofs.lemmas.Bool.Decides.{nat_tests}
 use mathlib.Core.Path.{fun_ext}
+use Rattle.std.specs.Prelude.{◌⊎◌, ◌||◌, ◌&&◌}
+use Rattle.far_word.specs.declared.job.Job.{Job}
+use Rattle.far_word.specs.Job.{job_of}
 use Rattle.far_word.specs.declared.mark.Marks.{Marks}
 use Rattle.far_word.specs.declared.pointer.Place.{Place}
 use Rattle.far_word.specs.declared.pointer.PtrWord.{PtrWord}
 use Rattle.far_word.specs.declared.pointer.PtrWord.TheVariants as pointer
 use Rattle.far_word.specs.declared.pointer.PtrWord.TheVariants.{Near, Far}
-use Rattle.far_word.specs.declared.sizes.TheConstants.{LOG_WORDS}
+use Rattle.far_word.specs.declared.sizes.TheConstants.{JOBS, LOG_WORDS}
 use Rattle.far_word.specs.Header.{head_of}
 use Rattle.far_word.specs.Pointer.{read_of}
 use Rattle.far_word.specs.Sizes.{size_of}
@@ -18,7 +21,7 @@ use Rattle.far_core.specs.declared.event.Event.TheVariants.{Get}
 use Rattle.far_core.specs.declared.event.Kind.TheVariants.{Free, Open, Sealed}
 use Rattle.far_core.specs.declared.event.Reply.{Reply}
 use Rattle.far_core.specs.declared.event.Reply.TheVariants.{Word}
-use Rattle.far_core.specs.events.Get.{is_live_at, none_live, IsVacant, may_free, MayFree, with_free_log, Frees, FreeReports, after_get, part_of}
+use Rattle.far_core.specs.events.Get.{is_copied_at, none_copied, IsUncopied, is_live_at, none_live, IsVacant, may_free, MayFree, with_free_log, Frees, FreeReports, after_get, part_of}
 use Rattle.far_core.specs.events.Legal.{Legal}
 use Rattle.far_core.specs.events.Step.{after, change_of, touches}
 use Rattle.far_core.specs.events.Touch.{Touches}
@@ -26,7 +29,8 @@ use Rattle.far_core.specs.events.Leaves.{PartBy}
 use Rattle.far_core.specs.laws.Worlds.{Caused}
 use Rattle.far_core.specs.state.Law.{Law, SpanAt}
 use Rattle.far_core.specs.state.Spans.{names_place}
-use Rattle.far_core.specs.state.State.{State, put, addr}
+use Rattle.far_core.specs.state.Jobs.{job_at, job_said}
+use Rattle.far_core.specs.state.State.{Copying, State, put, addr}
 use Rattle.far_core.specs.world.Happens.{Happens}
 use Rattle.far_core.specs.world.Steps as world
 use Rattle.far_core.specs.world.World.{Object, Group, FarSide}
@@ -34,10 +38,13 @@ use Rattle.far_core.specs.world.WorldOf.{world_of, object_of, is_group}
 use Rattle.far_core.proofs.Bounds.{span_len}
 use Rattle.far_core.proofs.Cells.{live_names}
 use Rattle.far_core.proofs.Frames.{fewer_clear}
-use Rattle.far_core.proofs.Guards.{sealed_fact}
+use Rattle.far_core.specs.events.Mark.{is_sealed}
+use Rattle.far_core.proofs.Guards.{parts, sealed_fact}
+use Rattle.far_core.proofs.JobPlaces.{job_bounds}
+use Rattle.far_core.proofs.KeepJobs.{copies_fewer, keeps_jobs, unworded}
 use Rattle.far_core.proofs.Owed.{Owed, replies}
 use Rattle.far_core.proofs.Put.{put_both, put_two, put_same, put_other}
-use Rattle.far_core.proofs.Touching.{untouched}
+use Rattle.far_core.proofs.Touching.{same_copier, untouched}
 use Rattle.far_core.proofs.Worlds.{World-ext}
 
 -- ---- the guard
@@ -77,16 +84,54 @@ vacant_test s l vacant = none_all s l LOG_WORDS (λ i lt. false_from_ne_true _ (
     let names = live_names (read_of (s.cell (pointer_in (head_of (s.word (l * LOG_WORDS + i)))))) l i named in
     vacant p names.0 names.1 names.2 names.3 names.4 names.5))
 
+-- ---- the jobs
+uncopied_below : (k : Copying) (l n j : ℕ) → none_copied k l n ≡ true → j < n → is_copied_at l (job_at k.word j) ≡ false
+uncopied_below k l zero j h lt = absurd (omega arith)
+uncopied_below k l (suc n) j h lt = elim (cases_eq j n) [
+  | inl e ↦ (let here : is_copied_at l (job_at k.word n) ≡ false = grind (arith, nat_tests) in ap (λ i. is_copied_at l (job_at k.word i)) e ∙ here)
+  | inr ne ↦ uncopied_below k l n j (grind (arith, nat_tests)) (omega arith)
+]
+
+-- a job there shows
+pub copied_at : (k : Copying) (l n j : ℕ) → j < n → is_copied_at l (job_at k.word j) ≡ true → none_copied k l n ≡ false
+copied_at k l n j lt there = false_from_ne_true _ (λ h. false≢true (sym (uncopied_below k l n j h lt) ∙ there))
+
+uncopied_all : (k : Copying) (l n : ℕ) → ((j : ℕ) → j < n → is_copied_at l (job_at k.word j) ≡ false) → none_copied k l n ≡ true
+uncopied_all k l zero h = refl
+uncopied_all k l (suc n) h = rw (uncopied_all k l n (λ j lt. h j (omega arith)), h n (omega arith)) refl
+
+apart_fact : (l : ℕ) (job : Job) → is_copied_at l (Some job) ≡ false → (job.from.log ≢ l) × (job.to.log ≢ l)
+apart_fact l job h = (λ e. absurd (true≢false (sym (either_is _ _ (inl (eq-eqb job.from.log l e))) ∙ h)), λ e. absurd (true≢false (sym (either_is _ _ (inr (eq-eqb job.to.log l e))) ∙ h))) where
+  either_is : (a b : Bool) → (a ≡ true) ⊎ (b ≡ true) → (a || b) ≡ true
+  either_is true b h = refl
+  either_is false b (inl e) = absurd (false≢true e)
+  either_is false b (inr e) = e
+
+uncopied_fact : (s : State) → Law s → (l : ℕ) → none_copied s.copying l JOBS ≡ true → IsUncopied s.copying l
+uncopied_fact s law l h j job at =
+    let there : s.copying.word j ≢ 0 = (λ z. let odd : None ≡ Some job = sym (ap job_said unworded) ∙ sym (ap (λ w. job_said (job_of w)) z) ∙ at in cc) in
+    apart_fact l job (ap (is_copied_at l) (sym at) ∙ uncopied_below s.copying l JOBS j h (law.copies.jobs.job_range j there))
+
+apart_test : (l : ℕ) (o : Option Job) → ((job : Job) → o ≡ Some job → (job.from.log ≢ l) × (job.to.log ≢ l)) → is_copied_at l o ≡ false
+apart_test l None h = refl
+apart_test l (Some job) h = rw (ne_eqb job.from.log l (h job refl).0, ne_eqb job.to.log l (h job refl).1) refl
+
+uncopied_test : (k : Copying) (l : ℕ) → IsUncopied k l → none_copied k l JOBS ≡ true
+uncopied_test k l h = uncopied_all k l JOBS (λ j lt. apart_test l (job_at k.word j) (h j))
+
 free_fact : (s : State) → Law s → (l : ℕ) (free : Bool) → may_free s l free ≡ true → MayFree s l free
 free_fact s law l false h = tt
-free_fact s law l true h = (sealed_fact (s.kind l) (grind (arith, nat_tests)), vacant_fact s law l (grind (arith, nat_tests)))
+free_fact s law l true h =
+    let x = parts (is_sealed (s.kind l) && none_live s l LOG_WORDS) (none_copied s.copying l JOBS) h in
+    let y = parts (is_sealed (s.kind l)) (none_live s l LOG_WORDS) x.0 in
+    (sealed_fact (s.kind l) y.0, vacant_fact s law l y.1, uncopied_fact s law l x.1)
 
 free_test : (s : State) (l : ℕ) (free : Bool) → MayFree s l free → may_free s l free ≡ true
 free_test s l false h = refl
-free_test s l true h = rw (h.0, vacant_test s l h.1) refl
+free_test s l true h = rw (h.0, vacant_test s l h.1, uncopied_test s.copying l h.2) refl
 
 -- ---- a log given back
-module _ (s : State) (law : Law s) (l : ℕ) (shut : s.kind l ≡ Sealed) (vacant : IsVacant s l) where
+module _ (s : State) (law : Law s) (l : ℕ) (shut : s.kind l ≡ Sealed) (vacant : IsVacant s l) (uncopied : IsUncopied s.copying l) where
   abbrev starts : ℕ → Bool
   starts a = cond (nat_eq (a / LOG_WORDS) l) false (s.starts a)
 
@@ -118,6 +163,17 @@ module _ (s : State) (law : Law s) (l : ℕ) (shut : s.kind l ≡ Sealed) (vacan
 
   not_current : s.current ≢ l
   not_current e = let odd : Open ≡ Sealed = sym law.logs.is_open ∙ ap s.kind e ∙ shut in cc
+
+  -- the spans of jobs stand in other logs
+  job_stands : (j : ℕ) (job : Job) → job_at s.copying.word j ≡ Some job →
+      (starts (addr job.from) ≡ true) × (starts (addr job.to) ≡ true) × (s.word (addr job.from) ≡ s.word (addr job.from)) × (s.word (addr job.to) ≡ s.word (addr job.to))
+  job_stands j job at =
+      let x = law.copies.jobs.job_spans j job at in
+      let bounds = job_bounds s.copying j job at in
+      let from = bounds.from in let to = bounds.to in
+      let a : addr job.from / LOG_WORDS ≡ job.from.log = omega arith in
+      let b : addr job.to / LOG_WORDS ≡ job.to.log = omega arith in
+      (begins_still (addr job.from) (λ e. (uncopied j job at).0 (sym a ∙ e)) x.from, begins_still (addr job.to) (λ e. (uncopied j job at).1 (sym b ∙ e)) x.to, refl, refl)
 
   pub law_with_free_log : Law (with_free_log s l)
   law_with_free_log = record {
@@ -161,6 +217,9 @@ module _ (s : State) (law : Law s) (l : ℕ) (shut : s.kind l ≡ Sealed) (vacan
     };
     clears = fewer_clear s (put s.round l false) law (λ k out. put_both (λ b. b ≡ false) s.round l false k (λ _. refl) (λ _. out));
     unadopted = law.unadopted;
+    copies =
+        let fewer = copies_fewer s (put s.round l false) s.clear law (λ k. put_both (λ b. b ≡ true → s.round k ≡ true) s.round l false k (λ _ h. absurd (false≢true h)) (λ _ h. h)) (λ m h. h) in
+        record { jobs = keeps_jobs s.word s.starts s.word starts s.copying law.copies.jobs job_stands; taken = fewer.taken; aims = fewer.aims; good = fewer.good; same = fewer.same };
   }
 
   no_object : (p : ℕ) (c : Option PtrWord) → read_of (s.cell p) ≡ c → (o : Object) → object_of s.word (s.stored p) p c ≡ Some o → o.home ≢ Group l
@@ -199,15 +258,15 @@ frees s l = record {
 module _ (l at : ℕ) where
   keeps_get : (free : Bool) (s : State) → Law s → Legal s (Get l at free) → Law (after s (Get l at free))
   keeps_get false s law h = law
-  keeps_get true s law h = law_with_free_log s law l h.2.0 h.2.1
+  keeps_get true s law h = law_with_free_log s law l h.2.0 h.2.1 h.2.2
 
   does_get : (free : Bool) (s : State) → Law s → Legal s (Get l at free) → Happens (world_of s) (Get l at free) (Word (s.word (l * LOG_WORDS + at))) (world_of (after s (Get l at free)))
   does_get false s law h = refl
-  does_get true s law h = free_releases s law l h.2.0 h.2.1
+  does_get true s law h = free_releases s law l h.2.0 h.2.1 h.2.2
 
   touch_get : (free : Bool) (s : State) → Touches s (touches s (Get l at free)) (after s (Get l at free))
   touch_get false s = untouched s _
-  touch_get true s = record { words = λ a ne. refl; remembered = λ k a b. refl; used = λ q a. refl; held = λ q a b. refl; book = λ ne. absurd (ne refl); rest = (refl, refl, refl) }
+  touch_get true s = record { words = λ a ne. refl; remembered = λ k a b. refl; used = λ q a. refl; held = λ q a b. refl; book = λ ne. absurd (ne refl); copiers = λ c ne. same_copier; rest = (refl, refl, refl) }
 
   part_get : (free : Bool) → PartBy (Get l at free) (part_of free)
   part_get false = tt

@@ -16,8 +16,10 @@ use Rattle.far_core.specs.laws.Worlds.{Caused}
 use Rattle.far_core.specs.state.Law.{Law}
 use Rattle.far_core.specs.state.State.{State}
 use Rattle.far_core.specs.world.WorldOf.{world_of}
+use Rattle.far_core.proofs.KeepJobs.{copies_fewer}
 use Rattle.far_core.proofs.Owed.{Owed, replies}
 use Rattle.far_core.proofs.Put.{put_both, put_same, put_other}
+use Rattle.far_core.proofs.Touching.{same_copier}
 
 or_fact : (a b : Bool) → (a || b) ≡ true → (a ≡ true) ⊎ (b ≡ true)
 or_fact true b h = inl refl
@@ -27,7 +29,7 @@ or_left : (a b : Bool) → a ≡ true → (a || b) ≡ true
 or_left true b h = refl
 or_left false b h = absurd (false≢true h)
 
-or_right : (a b : Bool) → b ≡ true → (a || b) ≡ true
+pub or_right : (a b : Bool) → b ≡ true → (a || b) ≡ true
 or_right true b h = refl
 or_right false b h = h
 
@@ -66,6 +68,7 @@ module _ (m : ℕ) where
       late_unviewed = law.clears.late_unviewed;
     };
     unadopted = law.unadopted;
+    copies = copies_fewer s s.round (looked s m).clear law (λ l h. h) (λ k h. put_both (λ b. b ≡ true) s.clear m _ k (λ e. or_left (s.clear m) _ (ap s.clear (sym e) ∙ h)) (λ _. h));
   }
 
   looks : (s : State) → Looks s m (looked s m)
@@ -95,9 +98,10 @@ module _ (m : ℕ) where
       used = λ q a. refl;
       held = λ q a b. refl;
       book = λ ne. absurd (ne refl);
+      copiers = λ c ne. same_copier;
       rest = (refl, refl, refl);
     };
-    part = λ s h. inr (inr (inr (inr (m, refl))));
+    part = λ s h. inr (inr (inr (inr (inl (m, refl)))));
     word = λ s h. tt;
     reports = λ s law h. (refl, looks s);
     silent = λ s t h. h;

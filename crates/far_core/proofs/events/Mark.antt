@@ -86,7 +86,7 @@ module _ (p : ℕ) where
     test = λ s h. let low : p < CELLS * s.mutators = h.0 in let a : nat_lt p (CELLS * s.mutators) ≡ true = grind (arith, nat_tests) in rw (a, near_test s p h.1) refl;
     keeps = λ s law fits h. keeps_mark s law (near_test s p h.1);
     does = λ s law fits h. mark_marks s p _ (read_evac s (s.cell p) _ (law.cells.cell_read p).0 refl (near_test s p h.1)).0 (near_test s p h.1);
-    within = λ s. touched (one_cell s.epoch s.scope s.cell s.word p _) (λ k a b. refl) (λ q a. refl) (λ q a b. refl);
+    within = λ s. touched (one_cell s.epoch s.scope s.cell s.word s.copying.word p _) (λ k a b. refl) (λ q a. refl) (λ q a b. refl);
     part = λ s h. tt;
     word = λ s h. inr (inl refl);
     reports = λ s law h. (refl, λ v e. ap read_of (put_same s.cell p (evac (s.cell p)) p refl) ∙ (read_evac s (s.cell p) _ (law.cells.cell_read p).0 refl (near_test s p h.1)).0 ∙ ap (map_mark Evac) e);

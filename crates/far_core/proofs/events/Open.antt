@@ -92,7 +92,7 @@ module _ (m : ℕ) where
     test = λ s h. rw (closed_test s m h.0, h.1) refl;
     keeps = λ s law fits h. at_remembered s m (s.remembered m) law h.0.0 h.0.1 refl h.1;
     does = λ s law fits h. do_open s m (s.remembered m) h.0.1 h.1;
-    within = λ s. touched (one_scope s.epoch s.scope s.cell s.word m _) (λ k a b. refl) (λ q a. refl) (λ q a b. refl);
+    within = λ s. touched (one_scope s.epoch s.scope s.cell s.word s.copying.word m _) (λ k a b. refl) (λ q a. refl) (λ q a b. refl);
     part = λ s h. tt;
     word = λ s h. inl refl;
     reports = λ s law h. reports_open s m (s.remembered m) refl h.1;

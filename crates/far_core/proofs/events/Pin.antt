@@ -135,8 +135,8 @@ pin_told w None y = cc
 pin_told w (Some place) y = cc
 
 touch_pin : (s : State) (p : ℕ) (o : Option Place) → Touches s (record { word = Some (CellAt p); part = Rests p }) record s { cell = put s.cell p (bit_or (s.cell p) (2 ^ position Hot)); held = with_hold s.held p o }
-touch_pin s p None = touched (one_cell s.epoch s.scope s.cell s.word p _) (λ k a b. refl) (λ q a. refl) (λ q a b. refl)
-touch_pin s p (Some place) = touched (one_cell s.epoch s.scope s.cell s.word p _) (λ k a b. refl) (λ q a. refl) (λ q a b. put_other s.held p (Some place) q (λ e. a (ap Rests (sym e))))
+touch_pin s p None = touched (one_cell s.epoch s.scope s.cell s.word s.copying.word p _) (λ k a b. refl) (λ q a. refl) (λ q a b. refl)
+touch_pin s p (Some place) = touched (one_cell s.epoch s.scope s.cell s.word s.copying.word p _) (λ k a b. refl) (λ q a. refl) (λ q a b. put_other s.held p (Some place) q (λ e. a (ap Rests (sym e))))
 
 -- what the event owes
 module _ (m p : ℕ) where

@@ -1,9 +1,9 @@
 -- What the event Put owes.
-use Rattle.std.proofs.Common.{◌≢◌, inr, arith, nat_lt, refl, true, ℕ, ◌*◌, ◌+◌, ◌<◌, ◌^◌, ◌∙◌, ◌≡◌, ◌≤◌}
+use Rattle.std.proofs.Common.{◌≢◌, inl, inr, arith, nat_lt, refl, true, ℕ, ◌*◌, ◌+◌, ◌<◌, ◌^◌, ◌∙◌, ◌≡◌, ◌≤◌}
 use Rattle.std.proofs.lemmas.Bool.{false≢true}
 use Rattle.std.proofs.lemmas.Bool.Decides.{nat_tests}
 use Rattle.far_core.proofs.Bounds.{span_len}
-use Rattle.far_core.proofs.KeepWords.{data_kept, head_kept, keeps_words}
+use Rattle.far_core.proofs.KeepWords.{data_kept, head_kept, keeps_words, same_kept}
 use Rattle.far_core.proofs.Touching.{touched, one_word}
 use Rattle.far_core.proofs.Owed.{Owed, replies}
 use Rattle.far_core.specs.laws.Worlds.{Caused}
@@ -43,6 +43,7 @@ keeps_put s law l at w past inside wide = keeps_words s law (put s.word (l * LOG
           let size : head_len (s.word (addr place)) ≡ n = rw (span_len s law q n d place k e) refl in
           data_kept s law l at w past inside wide (addr place) j there.placed (omega (arith, size)) ∙ (law.unadopted honest q free).near n d place k e kept j lt;
     })
+    (same_kept s law l at w past inside wide)
 
 pub put_stays : (s : State) (law : Law s) (l at w : ℕ) → s.tail l ≤ at → at < LOG_WORDS → w < 2 ^ 64 → world_of record s { word = put s.word (l * LOG_WORDS + at) w } ≡ world_of s
 unfolding world_of
@@ -67,9 +68,9 @@ module _ (l at w : ℕ) where
         rw (a, b, past_test (s.kind l) at (s.tail l) h.1 h.2) refl;
     keeps = λ s law fits h. keeps_put s law l at w h.2 h.3 fits;
     does = λ s law fits h. put_stays s law l at w h.2 h.3 fits;
-    within = λ s. touched (one_word s.epoch s.scope s.cell s.word (l * LOG_WORDS + at) w) (λ k a b. refl) (λ q a. refl) (λ q a b. refl);
+    within = λ s. touched (one_word s.epoch s.scope s.cell s.word s.copying.word (l * LOG_WORDS + at) w) (λ k a b. refl) (λ q a. refl) (λ q a b. refl);
     part = λ s h. tt;
-    word = λ s h. inr (l, at, w, refl, refl);
+    word = λ s h. inr (inl (l, at, w, refl, refl));
     reports = λ s law h. put_same s.word (l * LOG_WORDS + at) w (l * LOG_WORDS + at) refl;
     silent = λ s t h. h;
     answers = λ s x. cc;

@@ -5,7 +5,9 @@ use Rattle.std.proofs.lemmas.Bool.{true≢false}
 use Rattle.std.proofs.lemmas.Bool.Decides.{nat_tests}
 use Rattle.far_core.proofs.Bounds.{one_name, span_len}
 use Rattle.far_core.proofs.Guards.{word_fact, word_test}
-use Rattle.far_core.proofs.KeepWords.{data_stays, keeps_store}
+use Rattle.far_core.proofs.KeepWords.{data_stays, head_stays, keeps_store}
+use Rattle.far_core.proofs.JobPlaces.{not_source, not_target}
+use Rattle.far_core.proofs.KeepJobs.{keeps_same, task_unnamed}
 use Rattle.far_core.proofs.Touching.{touched, one_word}
 use Rattle.far_core.proofs.Owed.{Owed, replies}
 use Rattle.far_core.specs.laws.Worlds.{Caused}
@@ -52,6 +54,13 @@ module _ (s : State) (law : Law s) (m p i w len : ℕ) (held : HoldsWord s m p i
             let apart : addr at ≢ addr place = (λ same. true≢false (sym used ∙ ap s.used (one_name s.word p q len n held.1.near.0 d (addr place) heads.head (ap s.word (sym same) ∙ there.head) (omega (arith, y.0)) (omega (arith, x.0)) (omega (arith, y.0)) (omega (arith, x.0))) ∙ free)) in
             data_stays s law (addr place) heads.placed i (omega (arith, held.2, long)) w wide (rw long pad) (addr at) there.placed apart j (omega (arith, size)) ∙ (law.unadopted honest q free).near n d at k e kept j lt;
       })
+      (let jobs = law.copies.jobs in
+      let wrote = data_stays s law (addr place) heads.placed i (omega (arith, held.2, long)) w wide (rw long pad) in
+      keeps_same s.round_epoch s.round s.word (put s.word (addr place + 1 + i) w) s.copying law.copies.taken law.copies.same
+      (λ j job e. head_stays s law (addr place) heads.placed i (omega (arith, held.2, long)) w wide (rw long pad) _ (jobs.job_spans j job e).from)
+      (λ j job e good k lt. wrote _ (jobs.job_spans j job e).from (λ same. not_source s law p len held.1.near.0 place held.1.near.1 near j job e held.1.rests good (sym same)) k lt)
+      (λ j job e unnamed k lt. wrote _ (jobs.job_spans j job e).to (λ same. not_target s law p len held.1.near.0 place held.1.near.1 near j job e unnamed (sym same)) k (rw (jobs.job_spans j job e).alike lt))
+      (task_unnamed s.word s.starts s.copying jobs law.copies.taken))
 
 -- what the event owes
 module _ (m p i w : ℕ) where
@@ -73,7 +82,7 @@ module _ (m p i w : ℕ) where
     does = λ s law fits h.
         let at : data_word s p i ≡ addr h.1.0 + 1 + i = ap (λ o. near_data o + i) h.1.1.near.2 in
         rw at (store_writes s law m p i h.0 h.1.1.near.0 h.1.0 h.1.1.near.1 h.1.1.own h.1.1.rests h.1.1.near.2 h.1.2 w fits h.2);
-    within = λ s. touched (one_word s.epoch s.scope s.cell s.word (data_word s p i) w) (λ k a b. refl) (λ q a. refl) (λ q a b. refl);
+    within = λ s. touched (one_word s.epoch s.scope s.cell s.word s.copying.word (data_word s p i) w) (λ k a b. refl) (λ q a. refl) (λ q a b. refl);
     part = λ s h. tt;
     word = λ s h. let mine : p / CELLS ≡ m = grind (arith, nat_tests) in inl (p, i, w, ap (λ k. Store k p i w) (sym mine), refl);
     reports = λ s law h. (h.1.0, h.1.1.rests, put_same s.word (data_word s p i) w (addr h.1.0 + 1 + i) (sym (ap (λ o. near_data o + i) h.1.1.near.2)));

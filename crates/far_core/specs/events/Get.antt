@@ -1,9 +1,10 @@
--- The book reads a word of a log; or it gives back a log in which no span is live, and reads the word too.
-use Rattle.std.specs.Prelude.{◌≡◌, ◌≢◌, ◌+◌, ◌*◌, ◌/◌, ◌<◌, ◌==◌, ◌&&◌, ℕ, Bool, true, false, cond, not, nat_lt, zero, suc, Option, Some, None}
+-- The book reads a word of a log; or it gives back a log in which no span is live, and which no job reads or writes, and reads the word too.
+use Rattle.std.specs.Prelude.{◌≡◌, ◌≢◌, ◌+◌, ◌*◌, ◌/◌, ◌<◌, ◌==◌, ◌&&◌, ◌||◌, ℕ, Bool, true, false, cond, not, nat_lt, zero, suc, Option, Some, None}
+use Rattle.far_word.specs.declared.job.Job.{Job}
 use Rattle.far_word.specs.declared.mark.Marks.{Marks}
 use Rattle.far_word.specs.declared.pointer.Place.{Place}
 use Rattle.far_word.specs.declared.pointer.PtrWord.TheVariants.{Near}
-use Rattle.far_word.specs.declared.sizes.TheConstants.{LOG_WORDS}
+use Rattle.far_word.specs.declared.sizes.TheConstants.{JOBS, LOG_WORDS}
 use Rattle.far_word.specs.Header.{head_of}
 use Rattle.far_word.specs.Pointer.{read_of}
 use Rattle.far_log.specs.Spans.{pointer_in}
@@ -11,7 +12,8 @@ use Rattle.far_core.specs.declared.event.Kind.TheVariants.{Free, Sealed}
 use Rattle.far_core.specs.declared.event.Reply.{Reply}
 use Rattle.far_core.specs.declared.event.Reply.TheVariants.{Word}
 use Rattle.far_core.specs.state.Spans.{names_place}
-use Rattle.far_core.specs.state.State.{State, put}
+use Rattle.far_core.specs.state.Jobs.{job_at}
+use Rattle.far_core.specs.state.State.{Copying, State, put}
 use Rattle.far_core.specs.events.Mark.{is_sealed}
 use Rattle.far_core.specs.events.Rule.{Form, Rule}
 use Rattle.far_core.specs.events.Touch.{Part, NoPart, BookView}
@@ -31,14 +33,28 @@ none_live s l (suc n) = none_live s l n && not (is_live_at s l n)
 abbrev pub IsVacant : State → ℕ → Type 0
 IsVacant s l = (p len ds : ℕ) (place : Place) (m : Marks) → read_of (s.cell p) ≡ Some (Near len ds place m) → place.log ≢ l
 
+-- a job reads or writes the log
+abbrev pub is_copied_at : ℕ → Option Job → Bool
+is_copied_at l None = false
+is_copied_at l (Some job) = (job.from.log == l) || (job.to.log == l)
+
+-- none of the first n jobs does
+abbrev pub none_copied : Copying → ℕ → ℕ → Bool
+none_copied k l zero = true
+none_copied k l (suc n) = none_copied k l n && not (is_copied_at l (job_at k.word n))
+
+-- no job reads or writes the log
+abbrev pub IsUncopied : Copying → ℕ → Type 0
+IsUncopied k l = (j : ℕ) (job : Job) → job_at k.word j ≡ Some job → (job.from.log ≢ l) × (job.to.log ≢ l)
+
 -- the log may be given back, where it is to be
 abbrev pub may_free : State → ℕ → Bool → Bool
 may_free s l false = true
-may_free s l true = is_sealed (s.kind l) && none_live s l LOG_WORDS
+may_free s l true = is_sealed (s.kind l) && none_live s l LOG_WORDS && none_copied s.copying l JOBS
 
 abbrev pub MayFree : State → ℕ → Bool → Type 0
 MayFree s l false = Unit {0}
-MayFree s l true = (s.kind l ≡ Sealed) × IsVacant s l
+MayFree s l true = (s.kind l ≡ Sealed) × IsVacant s l × IsUncopied s.copying l
 
 -- the state with a log given back: it is free and has no spans; its words stay
 abbrev pub with_free_log : State → ℕ → State

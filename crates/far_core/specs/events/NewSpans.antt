@@ -30,6 +30,15 @@ abbrev pub zeros : (ℕ → ℕ) → ℕ → ℕ → Bool
 zeros word a zero = true
 zeros word a (suc n) = zeros word a n && (word (a + n) == 0)
 
+-- a span is begun at a new place: it ends its log, and its log is the open one
+abbrev pub with_begun : State → ℕ → Place → State
+with_begun s len place = record s {
+  tail = put s.tail place.log (place.at + size_of len);
+  kind = put (put s.kind s.current Sealed) place.log Open;
+  current = place.log;
+  starts = put s.starts (addr place) true;
+}
+
 -- the state with the span at a new place taken, and named by p's cell: the span ends its log, and its log is the open one
 abbrev pub with_span : State → ℕ → ℕ → ℕ → Place → State
 with_span s p new len place = record s {

@@ -1,7 +1,7 @@
 -- What each event does: its rule; the step that it makes. Each event stands in its own file.
 use Rattle.std.specs.Prelude.{Option, Some, Bool, if◌then◌else◌}
 use Rattle.far_core.specs.declared.event.Event.{Event}
-use Rattle.far_core.specs.declared.event.Event.TheVariants.{ReadEpoch, Open, Pin, Load, Store, Close, Adopt, Put, Name, See, Mark, Ask, Get, Clear, Advance, Look}
+use Rattle.far_core.specs.declared.event.Event.TheVariants.{ReadEpoch, Open, Pin, Load, Store, Close, Adopt, Put, Name, See, Mark, Ask, Get, Clear, Advance, Look, Offer, PeekJob, SeeJob, Claim, ReadLength, Read, Write, Finish, Collect}
 use Rattle.far_core.specs.declared.event.Reply.{Reply}
 use Rattle.far_core.specs.declared.event.Reply.TheVariants.{Refused}
 use Rattle.far_core.specs.state.State.{State}
@@ -24,6 +24,15 @@ use Rattle.far_core.specs.events.Get.{get_rule, get_form}
 use Rattle.far_core.specs.events.Clear.{clear_rule, clear_form}
 use Rattle.far_core.specs.events.Advance.{advance_rule, advance_form}
 use Rattle.far_core.specs.events.Look.{look_rule, look_form}
+use Rattle.far_core.specs.events.Offer.{offer_rule, offer_form}
+use Rattle.far_core.specs.events.PeekJob.{peek_job_rule, peek_job_form}
+use Rattle.far_core.specs.events.SeeJob.{see_job_rule, see_job_form}
+use Rattle.far_core.specs.events.Claim.{claim_rule, claim_form}
+use Rattle.far_core.specs.events.ReadLength.{read_length_rule, read_length_form}
+use Rattle.far_core.specs.events.Read.{read_rule, read_form}
+use Rattle.far_core.specs.events.Write.{write_rule, write_form}
+use Rattle.far_core.specs.events.Finish.{finish_rule, finish_form}
+use Rattle.far_core.specs.events.Collect.{collect_rule, collect_form}
 pub use Rattle.far_core.specs.events.Owners.{is_closed, is_opened, holds, near_len, near_data, data_len, data_word, keeps_padding}
 pub use Rattle.far_core.specs.events.Open.{scope_word_of}
 pub use Rattle.far_core.specs.events.Pin.{with_hold, place_to_view, after_pin, pin_answer}
@@ -48,6 +57,15 @@ rule s (Get l at free) = get_rule s l at free
 rule s (Clear p) = clear_rule s p
 rule s (Advance logs) = advance_rule s logs
 rule s (Look m) = look_rule s m
+rule s (Offer j p to) = offer_rule s j p to
+rule s (PeekJob c j) = peek_job_rule s c j
+rule s (SeeJob j) = see_job_rule s j
+rule s (Claim c j old) = claim_rule s c j old
+rule s (ReadLength c) = read_length_rule s c
+rule s (Read c i) = read_rule s c i
+rule s (Write c i) = write_rule s c i
+rule s (Finish c) = finish_rule s c
+rule s (Collect j old) = collect_rule s j old
 
 abbrev pub is_legal : State → Event → Bool
 is_legal s e = (rule s e).test
@@ -82,6 +100,15 @@ form (Get l at free) = get_form l at free
 form (Clear p) = clear_form p
 form (Advance logs) = advance_form
 form (Look m) = look_form
+form (Offer j p to) = offer_form to
+form (PeekJob c j) = peek_job_form
+form (SeeJob j) = see_job_form
+form (Claim c j old) = claim_form old
+form (ReadLength c) = read_length_form
+form (Read c i) = read_form
+form (Write c i) = write_form
+form (Finish c) = finish_form
+form (Collect j old) = collect_form old
 
 -- a word that an event carries is 64 bits wide
 abbrev pub Fits : Event → Type 0

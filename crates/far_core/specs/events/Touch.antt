@@ -1,7 +1,7 @@
 -- What an event may touch: one shared word at most, and a part of one view.
 use Rattle.std.specs.Prelude.{◌≡◌, ◌≢◌, ℕ, ◌/◌, Option, Some}
 use Rattle.far_word.specs.declared.sizes.TheConstants.{CELLS}
-use Rattle.far_core.specs.state.State.{State}
+use Rattle.far_core.specs.state.State.{Copying, State}
 
 -- a shared word
 pub data Spot : Type 0 where
@@ -9,9 +9,10 @@ pub data Spot : Type 0 where
   ScopeAt : ℕ → Spot
   CellAt : ℕ → Spot
   WordAt : ℕ → Spot
+  JobAt : ℕ → Spot
 
 -- a part of a view: what an owner remembers; a cell that it uses; a place that it holds; what it remembers and all that it
--- holds; and the book's view
+-- holds; the book's view; and a copier's view
 pub data Part : Type 0 where
   NoPart : Part
   Remembers : ℕ → Part
@@ -19,20 +20,29 @@ pub data Part : Type 0 where
   Rests : ℕ → Part
   LetsGo : ℕ → Part
   BookView : Part
+  CopierAt : ℕ → Part
 
 pub record Touch : Type 0 where
   pub word : Option Spot
   pub part : Part
 
 -- the word at a spot
-abbrev pub spot_word : ℕ → (ℕ → ℕ) → (ℕ → ℕ) → (ℕ → ℕ) → Spot → ℕ
-spot_word epoch scope cell word EpochAt = epoch
-spot_word epoch scope cell word (ScopeAt m) = scope m
-spot_word epoch scope cell word (CellAt p) = cell p
-spot_word epoch scope cell word (WordAt a) = word a
+abbrev pub spot_word : ℕ → (ℕ → ℕ) → (ℕ → ℕ) → (ℕ → ℕ) → (ℕ → ℕ) → Spot → ℕ
+spot_word epoch scope cell word job EpochAt = epoch
+spot_word epoch scope cell word job (ScopeAt m) = scope m
+spot_word epoch scope cell word job (CellAt p) = cell p
+spot_word epoch scope cell word job (WordAt a) = word a
+spot_word epoch scope cell word job (JobAt j) = job j
 
 abbrev pub shared_word : State → Spot → ℕ
-shared_word s a = spot_word s.epoch s.scope s.cell s.word a
+shared_word s a = spot_word s.epoch s.scope s.cell s.word s.copying.word a
+
+-- a copier knows what it knew
+pub record SameCopier (c : ℕ) (k n : Copying) : Type 0 where
+  pub task : n.task c ≡ k.task c
+  pub length : n.length c ≡ k.length c
+  pub read : n.read c ≡ k.read c
+  pub written : n.written c ≡ k.written c
 
 -- from s to t nothing changes but what is touched
 pub record Touches (s : State) (x : Touch) (t : State) : Type 0 where
@@ -41,4 +51,6 @@ pub record Touches (s : State) (x : Touch) (t : State) : Type 0 where
   pub used : (p : ℕ) → x.part ≢ Uses p → t.used p ≡ s.used p
   pub held : (p : ℕ) → x.part ≢ Rests p → x.part ≢ LetsGo (p / CELLS) → t.held p ≡ s.held p
   pub book : x.part ≢ BookView → (t.kind ≡ s.kind) × (t.tail ≡ s.tail) × (t.current ≡ s.current) × (t.starts ≡ s.starts) × (t.round ≡ s.round) × (t.round_epoch ≡ s.round_epoch) × (t.clear ≡ s.clear) × (t.stored ≡ s.stored)
+      × (t.copying.since ≡ s.copying.since) × (t.copying.named ≡ s.copying.named)
+  pub copiers : (c : ℕ) → x.part ≢ CopierAt c → SameCopier c s.copying t.copying
   pub rest : (t.mutators ≡ s.mutators) × (t.logs ≡ s.logs) × (t.honest ≡ s.honest)

@@ -1,12 +1,13 @@
 -- What stands past the ends of a heap: nothing, so that a state is what it says of its own owners, pointers and logs.
-use Rattle.std.specs.Prelude.{◌≡◌, ℕ, ◌*◌, ◌<◌, ◌≤◌, false, None}
-use Rattle.far_word.specs.declared.sizes.TheConstants.{CELLS, LOG_WORDS}
+use Rattle.std.specs.Prelude.{◌≡◌, ◌⊎◌, ℕ, ◌*◌, ◌<◌, ◌≤◌, false, None}
+use Rattle.far_word.specs.declared.sizes.TheConstants.{CELLS, JOBS, LOG_WORDS, MOST_COPIERS}
 use Rattle.far_core.specs.declared.event.Kind.TheVariants.{Free}
 use Rattle.far_core.specs.state.State.{State}
 
 -- past the last log no word is other than 0, no span begins, and each log is free, with tail 0, outside the round; past the last owner each
 -- scope is closed, no epoch is remembered, and nobody was seen clear; past the last pointer each cell is 0, unused and not held, and its
--- stored words are 0, as all are past the length of a log
+-- stored words are 0, as all are past the length of a log; past the last job there is none, and past the last copier none has a job, has read
+-- a length, or has read or written a word, nor has any past the length of a log
 pub record HasNothingPast (s : State) : Type 0 where
   pub words : (a : ℕ) → LOG_WORDS * s.logs ≤ a → s.word a ≡ 0
   pub spans : (a : ℕ) → LOG_WORDS * s.logs ≤ a → s.starts a ≡ false
@@ -21,6 +22,9 @@ pub record HasNothingPast (s : State) : Type 0 where
   pub holds : (p : ℕ) → CELLS * s.mutators ≤ p → s.held p ≡ None
   pub stores : (p i : ℕ) → CELLS * s.mutators ≤ p → s.stored p i ≡ 0
   pub rows : (p i : ℕ) → LOG_WORDS ≤ i → s.stored p i ≡ 0
+  pub jobs : (j : ℕ) → JOBS ≤ j → (s.copying.word j ≡ 0) × (s.copying.since j ≡ 0) × (s.copying.named j ≡ false)
+  pub tasks : (c : ℕ) → MOST_COPIERS ≤ c → (s.copying.task c ≡ None) × (s.copying.length c ≡ None)
+  pub copies : (c i : ℕ) → (MOST_COPIERS ≤ c) ⊎ (LOG_WORDS ≤ i) → (s.copying.read c i ≡ None) × (s.copying.written c i ≡ false)
 
 -- two states have the same shape, epochs and open log, and say the same of each owner, pointer, log and word that the shape has
 pub record IsSameWithin (s t : State) : Type 0 where
@@ -42,6 +46,7 @@ pub record IsSameWithin (s t : State) : Type 0 where
   pub uses : (p : ℕ) → p < CELLS * s.mutators → s.used p ≡ t.used p
   pub holds : (p : ℕ) → p < CELLS * s.mutators → s.held p ≡ t.held p
   pub stores : (p i : ℕ) → p < CELLS * s.mutators → i < LOG_WORDS → s.stored p i ≡ t.stored p i
+  pub copying : s.copying ≡ t.copying
 
 -- a state is what it says within its shape: no other with nothing past its ends says the same there
 abbrev pub IsWhatIsWithin : State → Type 0

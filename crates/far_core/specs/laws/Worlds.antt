@@ -9,7 +9,7 @@ use Rattle.far_word.specs.Bytes.{packed_word}
 use Rattle.far_word.specs.Pointer.{read_of}
 use Rattle.far_word.specs.Rows.{no_marks}
 use Rattle.far_core.specs.declared.event.Event.{Event}
-use Rattle.far_core.specs.declared.event.Event.TheVariants.{Open, Pin, Load, Store, Close, Name, Mark, Ask, Get, Clear}
+use Rattle.far_core.specs.declared.event.Event.TheVariants.{Open, Pin, Load, Store, Close, Name, Mark, Ask, Get, Clear, Offer}
 use Rattle.far_core.specs.declared.event.Reply.{Reply}
 use Rattle.far_core.specs.declared.event.Reply.TheVariants.{Word}
 use Rattle.far_core.specs.world.Changes.{Change, Step}
@@ -75,7 +75,7 @@ ChangesKeep = (w v : World) (c : Change) → Step c w v → ChangeKeeps w c v
 abbrev pub IsFetch : ℕ → ℕ → Type 0
 IsFetch old new = (len ds : ℕ) × (m : Marks) × (place : Place) × (read_of old ≡ Some (Far len ds m)) × (read_of new ≡ Some (Near len ds place no_marks))
 
--- which event makes a change; the others come with no event yet
+-- which event makes a change
 abbrev pub Causes : Event → Change → Type 0
 Causes e change.Stays = Unit {0}
 Causes e (change.Opens m) = e ≡ Open m
@@ -91,7 +91,7 @@ Causes e (change.Unmarks p) = (e ≡ Clear p) ⊎ ((old new : ℕ) × (e ≡ Nam
 Causes e (change.GoesFar p) = (old new : ℕ) × (e ≡ Name p old new)
 Causes e (change.Drops m p) = e ≡ Ask m p Dropped
 Causes e (change.Releases g) = (at : ℕ) × (e ≡ Get g at true)
-Causes e c = ⊥
+Causes e (change.Holds g) = (j p : ℕ) × (to : Place) × (e ≡ Offer j p to) × (to.log ≡ g)
 
 abbrev pub Caused : Event → Option Change → Type 0
 Caused e None = Unit {0}

@@ -15,6 +15,7 @@ use Rattle.far_word.specs.Sizes.{size_of, words_for}
 pub use Rattle.far_log.specs.Spans.{head_len, len_in}
 use Rattle.far_core.specs.declared.event.Kind.{Kind}
 use Rattle.far_core.specs.declared.event.Kind.TheVariants.{Free, Open, Sealed}
+use Rattle.far_core.specs.state.Jobs.{CopyLaw}
 use Rattle.far_core.specs.state.State.{State, addr}
 
 -- a span of this length stands at a: it ends below its log's tail, no other span begins in it, and the next follows it
@@ -150,3 +151,4 @@ pub record Law (s : State) : Type 0 where
   pub rounds : RoundLaw s.epoch s.kind s.cell s.round s.round_epoch
   pub clears : ClearLaw s.scope s.held s.round s.round_epoch s.clear
   pub unadopted : BlankLaw s.honest s.cell s.word s.stored s.used
+  pub copies : CopyLaw s.cell s.word s.starts s.round s.round_epoch s.clear s.copying

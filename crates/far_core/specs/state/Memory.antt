@@ -1,10 +1,24 @@
 -- The state that a core's memory has.
-use Rattle.std.specs.Prelude.{false, None, slice_index, slice_index_or}
+use Rattle.std.specs.Prelude.{◌+◌, ◌*◌, false, cond, nat_lt, None, slice_index, slice_index_or}
 use Rattle.std.specs.Vec.{vec_len}
+use Rattle.far_word.specs.declared.sizes.TheConstants.{LOG_WORDS}
 use Rattle.far_core.specs.declared.event.Kind.TheVariants.{Free}
 use Rattle.far_core.specs.declared.memory.Memory.{Memory}
-use Rattle.far_core.specs.state.State.{State}
+use Rattle.far_core.specs.declared.memory.jobs.Jobs.{Jobs}
+use Rattle.far_core.specs.state.State.{Copying, State}
 use Rattle.far_core.specs.state.StoredRows.{stored_in}
+
+-- the words that a copier has read and written lie in a row of a log's length
+unfoldable pub copying_of : Jobs → Copying
+copying_of c = record {
+  word = λ j. slice_index c.words.items j;
+  since = λ j. slice_index c.since.items j;
+  named = λ j. slice_index_or c.named.items j false;
+  task = λ k. slice_index_or c.tasks.items k None;
+  length = λ k. slice_index_or c.lengths.items k None;
+  read = λ k i. cond (nat_lt i LOG_WORDS) (slice_index_or c.read.items (k * LOG_WORDS + i) None) None;
+  written = λ k i. cond (nat_lt i LOG_WORDS) (slice_index_or c.written.items (k * LOG_WORDS + i) false) false;
+}
 
 unfoldable pub state_of : Memory → State
 state_of c = record {
@@ -26,4 +40,5 @@ state_of c = record {
   round_epoch = c.round_epoch;
   clear = λ m. slice_index_or c.clear.items m false;
   stored = stored_in c.stored;
+  copying = copying_of c.jobs;
 }

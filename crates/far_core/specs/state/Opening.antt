@@ -2,7 +2,11 @@
 use Rattle.std.specs.Prelude.{Bool, false, None}
 use Rattle.far_core.specs.declared.event.Kind.TheVariants.{Free, Open}
 use Rattle.far_core.specs.declared.shape.Shape.{Shape}
-use Rattle.far_core.specs.state.State.{State, put}
+use Rattle.far_core.specs.state.State.{Copying, State, put}
+
+-- no job, and no copier has one
+abbrev pub no_copying : Copying
+no_copying = record { word = λ _. 0; since = λ _. 0; named = λ _. false; task = λ _. None; length = λ _. None; read = λ _ _. None; written = λ _ _. false }
 
 -- all words but the epoch are 0; all logs are free; nothing is used, held or remembered; the round is empty, with the
 -- first epoch as its own
@@ -26,6 +30,7 @@ unopened shape honest = record {
   round_epoch = shape.epoch;
   clear = λ _. false;
   stored = λ _ _. 0;
+  copying = no_copying;
 }
 
 -- the same with log 0 open

@@ -3,6 +3,20 @@ use Rattle.std.specs.Prelude.{ℕ, Bool, cond, ◌==◌, ◌+◌, ◌*◌, Optio
 use Rattle.far_word.specs.declared.pointer.Place.{Place}
 use Rattle.far_word.specs.declared.sizes.TheConstants.{LOG_WORDS}
 use Rattle.far_core.specs.declared.event.Kind.{Kind}
+use Rattle.far_core.specs.declared.event.Task.{Task}
+
+-- What is copied outside the lock: 16 jobs, at most 8 copiers
+pub record Copying : Type 0 where
+  -- the shared words of the jobs
+  pub word : ℕ → ℕ
+  -- the book's view of a job: the epoch of the round in which it was offered, and whether its pointer was named to its target
+  pub since : ℕ → ℕ
+  pub named : ℕ → Bool
+  -- a copier's view: its job, the length that it has read in the source's header, the words that it has read, those that it has written
+  pub task : ℕ → Option Task
+  pub length : ℕ → Option ℕ
+  pub read : ℕ → ℕ → Option ℕ
+  pub written : ℕ → ℕ → Bool
 
 -- A state says what stands where, by functions. Owners have numbers below mutators, logs below logs; pointer p is of
 -- the owner p / CELLS; word i of log l is the word l * LOG_WORDS + i
@@ -31,6 +45,8 @@ pub record State : Type 0 where
   pub clear : ℕ → Bool
   -- the words of each far object, as they were stored: word i of pointer p
   pub stored : ℕ → ℕ → ℕ
+  -- the jobs and the copiers
+  pub copying : Copying
 
 -- a function with v at k
 abbrev pub put : {X : Type 0} → (ℕ → X) → ℕ → X → ℕ → X

@@ -17,7 +17,7 @@ ghost use Rattle.far_core.specs.world.WorldOf.{world_of};
 use crate::event::{Event, Reply};
 use crate::machine::Core;
 use crate::memory::Memory;
-use far_word::{Mark, Place, Refused};
+use far_word::{JOBS, MOST_COPIERS, Mark, Place, Refused};
 use std::alloc::Global;
 
 /// One event by each call, whose guard is the condition. Owners, pointers, logs and words are numbered as in [`Event`]. No call
@@ -142,8 +142,8 @@ impl Core {
         self.memory.name(pointer, old, new)
     }
 
-    /// Word `at` of a log. With `free` the log, which is sealed and has no live span, is given back too: its spans, at most
-    /// 128, are forgotten.
+    /// Word `at` of a log. With `free` the log, which is sealed and has no live span, and which no job reads or writes, is given
+    /// back too: its spans, at most 128, are forgotten.
     #[inline]
     pub fn get(&mut self, log: u8, at: u16, free: bool) -> u64
         requires legal { Legal (core_state self.old) (Event.Get log at free) }
@@ -160,6 +160,24 @@ impl Core {
         ensures word { answer (core_state self.now) (Event.See pointer) ≡ Reply.Word result }
     {
         self.memory.cell_at(pointer)
+    }
+
+    /// The word of a job, as the book reads it.
+    #[inline]
+    pub fn see_job(&self, job: u8) -> u64
+        requires legal { Legal (core_state self.now) (Event.SeeJob job) }
+        ensures word { answer (core_state self.now) (Event.SeeJob job) ≡ Reply.Word result }
+    {
+        self.memory.job(job)
+    }
+
+    /// The word of a job, as a copier reads it.
+    #[inline]
+    pub fn peek_job(&self, copier: u8, job: u8) -> u64
+        requires legal { Legal (core_state self.now) (Event.PeekJob copier job) }
+        ensures word { answer (core_state self.now) (Event.PeekJob copier job) ≡ Reply.Word result }
+    {
+        self.memory.job(job)
     }
 
     /// A near pointer loses EVAC, and its log leaves the round: its word before.
@@ -194,6 +212,77 @@ impl Core {
         self.memory.look(owner)
     }
 
+    /// The book offers an object's copy at `to`, as a job that is empty so far.
+    #[inline]
+    pub fn offer(&mut self, job: u8, pointer: u16, to: Place)
+        requires legal { Legal (core_state self.old) (Event.Offer job pointer to) }
+        ensures state { core_state self.new ≡ after (core_state self.old) (Event.Offer job pointer to) }
+    {
+        self.memory.offer(job, pointer, to);
+    }
+
+    /// A copier without a job takes an offered one, where its word is `old`; else `Err` with the word that was found, and nothing
+    /// has changed.
+    #[inline]
+    pub fn claim(&mut self, copier: u8, job: u8, old: u64) -> Result<(), u64>
+        requires legal { Legal (core_state self.old) (Event.Claim copier job old) }
+        ensures state { core_state self.new ≡ after (core_state self.old) (Event.Claim copier job old) }
+        ensures won { IfOk result (λ _. answer (core_state self.old) (Event.Claim copier job old) ≡ Reply.Done) }
+        ensures found { IfErr result (λ word. answer (core_state self.old) (Event.Claim copier job old) ≡ Reply.Word word) }
+    {
+        self.memory.claim(copier, job, old)
+    }
+
+    /// The header at the source of a copier's job, whose length the copier remembers.
+    #[inline]
+    pub fn read_length(&mut self, copier: u8) -> u64
+        requires legal { Legal (core_state self.old) (Event.ReadLength copier) }
+        ensures state { core_state self.new ≡ after (core_state self.old) (Event.ReadLength copier) }
+        ensures word { answer (core_state self.old) (Event.ReadLength copier) ≡ Reply.Word result }
+    {
+        self.memory.read_length(copier)
+    }
+
+    /// Data word `index` at the source of a copier's job, which the copier remembers.
+    #[inline]
+    pub fn read_source(&mut self, copier: u8, index: u16) -> u64
+        requires legal { Legal (core_state self.old) (Event.Read copier index) }
+        ensures state { core_state self.new ≡ after (core_state self.old) (Event.Read copier index) }
+        ensures word { answer (core_state self.old) (Event.Read copier index) ≡ Reply.Word result }
+    {
+        self.memory.read(copier, index)
+    }
+
+    /// A data word that a copier has read at its job's source stands at the target from then on.
+    #[inline]
+    pub fn write_target(&mut self, copier: u8, index: u16)
+        requires legal { Legal (core_state self.old) (Event.Write copier index) }
+        ensures state { core_state self.new ≡ after (core_state self.old) (Event.Write copier index) }
+    {
+        self.memory.write(copier, index);
+    }
+
+    /// A copier that has written all words of its job says so, and has no job from then on.
+    #[inline]
+    pub fn finish(&mut self, copier: u8)
+        requires legal { Legal (core_state self.old) (Event.Finish copier) }
+        ensures state { core_state self.new ≡ after (core_state self.old) (Event.Finish copier) }
+    {
+        self.memory.finish(copier);
+    }
+
+    /// A finished or offered job is empty from then on, where its word is `old`; else `Err` with the word that was found, and
+    /// nothing has changed.
+    #[inline]
+    pub fn collect(&mut self, job: u8, old: u64) -> Result<(), u64>
+        requires legal { Legal (core_state self.old) (Event.Collect job old) }
+        ensures state { core_state self.new ≡ after (core_state self.old) (Event.Collect job old) }
+        ensures won { IfOk result (λ _. answer (core_state self.old) (Event.Collect job old) ≡ Reply.Done) }
+        ensures found { IfErr result (λ word. answer (core_state self.old) (Event.Collect job old) ≡ Reply.Word word) }
+    {
+        self.memory.collect(job, old)
+    }
+
     /// A near pointer whose place lies in a sealed log gets EVAC: its word before.
     #[inline]
     pub fn mark(&mut self, pointer: u16) -> u64
@@ -222,6 +311,14 @@ impl Core {
         ensures { IsTrue result ↔ Legal (core_state self.now) (Event.Get log at free) }
     {
         self.memory.may_get(log, at, free)
+    }
+
+    /// Whether an object's copy may be offered at a place, as a job that is empty so far.
+    #[inline]
+    pub fn may_offer(&self, job: u8, pointer: u16, to: Place) -> bool
+        ensures { IsTrue result ↔ Legal (core_state self.now) (Event.Offer job pointer to) }
+    {
+        self.memory.may_offer(job, pointer, to)
     }
 
     /// Whether a round of these logs may begin: the epoch may rise, each log is sealed, and whatever lies near there has EVAC. This
@@ -267,6 +364,18 @@ impl Memory {
             Event::Clear { pointer } if self.may_clear(pointer) => Reply::Word(self.clear(pointer)),
             Event::Advance { logs } if self.may_advance(logs) => Reply::Epoch(self.advance(logs)),
             Event::Look { owner } if self.has_owner(owner) => Reply::Word(self.look(owner)),
+            Event::Offer { job, pointer, to } if self.may_offer(job, pointer, to) => { self.offer(job, pointer, to); Reply::Done }
+            Event::PeekJob { copier, job } if copier < MOST_COPIERS && job < JOBS => Reply::Word(self.job(job)),
+            Event::SeeJob { job } if job < JOBS => Reply::Word(self.job(job)),
+            Event::Claim { copier, job, old } if self.may_claim(copier, job, old) =>
+                match self.claim(copier, job, old) { Ok(()) => Reply::Done, Err(word) => Reply::Word(word) },
+            Event::ReadLength { copier } if self.may_read_length(copier) => Reply::Word(self.read_length(copier)),
+            Event::Read { copier, index } if self.may_read(copier, index) => Reply::Word(self.read(copier, index)),
+            Event::Write { copier, index } if self.may_write(copier, index) =>
+                { self.write(copier, index); Reply::Done }
+            Event::Finish { copier } if self.may_finish(copier) => { self.finish(copier); Reply::Done }
+            Event::Collect { job, old } if self.may_collect(job, old) =>
+                match self.collect(job, old) { Ok(()) => Reply::Done, Err(word) => Reply::Word(word) },
             _ => Reply::Refused,
         }
     }

@@ -14,6 +14,7 @@ ghost use Rattle.far_core.specs.state.Law.{Law};
 ghost use Rattle.far_core.specs.events.Leaves.{EventsLeave};
 ghost use Rattle.far_core.specs.events.Legal.{Legal};
 ghost use Rattle.far_core.specs.laws.Ends.{HasNothingPast, IsWhatIsWithin};
+ghost use Rattle.far_core.specs.laws.Jobs.{JobsStand};
 ghost use Rattle.far_core.specs.laws.Live.{LiveIs, LiveBytesAre};
 ghost use Rattle.far_core.specs.laws.Observed.{live_bytes, dead_bytes, unused_bytes, HasOnePlace, NamesOnce, LogsStand, NearHasOneLive, PlacedExactly};
 ghost use Rattle.far_core.specs.state.Opening.{opening};
@@ -25,7 +26,7 @@ ghost use Rattle.far_core.specs.events.Reports.{RepliesReport, RefusalsReportNot
 ghost use Rattle.far_core.specs.world.World.{start};
 ghost use Rattle.far_core.specs.laws.Agreement.{ViewRests, MarksAgree, MarksExist, ObjectAgrees};
 ghost use Rattle.far_core.specs.laws.Namings.{NamingsArePlain};
-ghost use Rattle.far_core.specs.laws.Refusals.{ScopesAreRefused, PointersAreRefused, WordsAreRefused, LogsAreRefused, RoundsAreRefused};
+ghost use Rattle.far_core.specs.laws.Refusals.{ScopesAreRefused, PointersAreRefused, WordsAreRefused, LogsAreRefused, RoundsAreRefused, CopiesAreRefused, CopyingIsRefused};
 ghost use Rattle.far_core.specs.laws.RefusedNamings.{NamingsAreRefused};
 ghost use Rattle.far_core.specs.laws.Rooms.{RoomIsRight};
 ghost use Rattle.far_core.specs.laws.Rounds.{RoundStands, ScopesShow, OneLogIsABit, SetsAreJoined, NoLogIsZero, FiveIsTwoLogs};
@@ -98,6 +99,15 @@ impl Core {
         let _memory = &self.memory;
     }
 
+    /// What is offered to copiers stands. No log that a job reads or writes is free, and no two jobs write at one place. No pointer is named
+    /// to a job's target before the book has written so down of the job; until then both places of a finished job have the same words, as
+    /// long as the round of its offer lasts and the source's log is in it. A job that is taken is of one copier, which has no other.
+    pub fn jobs_stand(&self)
+        ensures { JobsStand (core_state self.now) }
+    {
+        let _memory = &self.memory;
+    }
+
     /// Room for a span of at most 128 words is the end of the open log where the span fits there, else the start of the
     /// lowest free log, but not of the only one where the reserve is kept; none only where neither may be had.
     pub fn room_is_right(&self)
@@ -108,8 +118,8 @@ impl Core {
 
     /// Past the ends of a core there is nothing. Past the last log all words are 0, no span begins, and each log is free, with tail 0, outside the
     /// round; past the last owner each scope is closed, nothing is remembered, and nobody was seen clear; past the last pointer each cell is
-    /// 0, not used and not held, with zeros stored. So a core's state is what it says of its own owners, pointers, logs and words: no other with
-    /// nothing past its ends says the same of them.
+    /// 0, not used and not held, with zeros stored; past the last job and the last copier there is none. So a core's state is what it says of its
+    /// own owners, pointers, logs and words, and of what is copied: no other with nothing past its ends says the same of them.
     pub fn nothing_is_past(&self)
         ensures past { HasNothingPast (core_state self.now) }
         ensures within { IsWhatIsWithin (core_state self.now) }
@@ -187,12 +197,14 @@ pub fn namings_are_plain()
 {}
 
 /// Causes for which an event is refused and changes nothing, a row each: of scopes, pointers, an object's words, logs, cells and
-/// rounds, and namings. A row says what is so in the state; no guard stands in it.
+/// rounds, namings, offers of copies, and copying. A row says what is so in the state; no guard stands in it.
 pub fn refusals_are_said()
     ensures scopes { (s : State) → Law s → ScopesAreRefused s }
     ensures pointers { (s : State) → Law s → PointersAreRefused s }
     ensures words { (s : State) → Law s → WordsAreRefused s }
     ensures logs { (s : State) → Law s → LogsAreRefused s }
     ensures rounds { (s : State) → Law s → RoundsAreRefused s }
+    ensures copying { (s : State) → Law s → CopyingIsRefused s }
     ensures namings { (s : State) → Law s → NamingsAreRefused s }
+    ensures offers { (s : State) → Law s → CopiesAreRefused s }
 {}

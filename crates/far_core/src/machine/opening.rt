@@ -14,6 +14,7 @@ ghost use Rattle.far_core.specs.state.Shape.{is_shape};
 use crate::event::Kind;
 use crate::machine::Core;
 use crate::memory::Memory;
+use crate::memory::jobs::Jobs;
 use crate::memory::stored_rows::StoredRows;
 use crate::shape::Shape;
 use far_word::{CELLS, LOG_WORDS, Refused};
@@ -63,6 +64,7 @@ impl Memory {
             round_epoch: shape.epoch,
             clear: vec![in alloc; false; mutators]?,
             stored: StoredRows::new(alloc, cells)?,
+            jobs: Jobs::new(alloc)?,
         })
     }
 }

@@ -9,12 +9,14 @@ ghost use Rattle.far_core.specs.events.Clear.{is_near};
 ghost use Rattle.far_core.specs.events.Name.{after_naming};
 ghost use Rattle.far_core.specs.events.Naming.{IsOnLayout, naming_of, naming_row, no_marks};
 ghost use Rattle.far_core.specs.events.namings.Evicts.{evicts_row, IsAt};
-ghost use Rattle.far_core.specs.events.NewSpans.{goes_at, is_new_span, with_span};
+ghost use Rattle.far_core.specs.events.NewSpans.{goes_at, is_new_span, with_begun, with_span};
 ghost use Rattle.far_core.specs.events.Next.{next_state};
 ghost use Rattle.far_core.specs.events.Step.{answer, is_legal, is_past};
-ghost use Rattle.far_core.specs.events.Get.{is_live_at, may_free, none_live, with_free_log};
+ghost use Rattle.far_core.specs.events.Get.{is_copied_at, is_live_at, may_free, none_copied, none_live, with_free_log};
 ghost use Rattle.far_core.specs.events.Mark.{may_mark, is_sealed};
+ghost use Rattle.far_core.specs.state.Jobs.{job_said};
 ghost use Rattle.far_core.specs.state.Spans.{names_place};
+ghost use Rattle.far_word.specs.Job.{job_of};
 ghost use Rattle.far_log.specs.Spans.{pointer_in};
 ghost use Rattle.far_word.specs.Header.{head_of};
 ghost use Rattle.far_core.specs.state.Memory.{state_of};
@@ -26,8 +28,8 @@ use crate::memory::Memory;
 use crate::memory::reading::first_word;
 use crate::naming::Naming;
 use far_word::{
-    CELLS, HeadWord, LOG_WORDS, Mark, Place, PtrWord, pointer_len, resting_place, size_of,
-    words_for,
+    CELLS, HeadWord, JOBS, Job, JobWord, LOG_WORDS, Mark, Place, PtrWord, pointer_len,
+    resting_place, size_of, words_for,
 };
 
 #[tactic(auto, unfolding(crate::specs::events::Next::next_state))]
@@ -46,7 +48,9 @@ impl Memory {
         ensures { result ≡ may_free (state_of self.now) log free }
     {
         if free {
-            is_sealed(self.kind(log)) && self.none_live(log, LOG_WORDS)
+            is_sealed(self.kind(log))
+                && self.none_live(log, LOG_WORDS)
+                && self.none_copied(log, JOBS)
         } else {
             true
         }
@@ -85,6 +89,18 @@ impl Memory {
     {
         for at in 0..words {
             if self.is_live_at(log, at) {
+                return false;
+            }
+        }
+        true
+    }
+
+    /// Whether none of the first jobs reads or writes a log.
+    fn none_copied(&self, log: u8, jobs: u8) -> bool
+        ensures { result ≡ none_copied (state_of self.now).copying log jobs }
+    {
+        for job in 0..jobs {
+            if is_copied_at(log, job_in(self.job(job))) {
                 return false;
             }
         }
@@ -274,6 +290,15 @@ impl Memory {
         ensures { state_of self.new ≡ with_span (state_of self.old) pointer new len place }
     {
         self.set_cell(pointer, new);
+        self.begin(len, place);
+    }
+
+    /// Begins a span at a new place: it ends its log, and its log is the open one. No pointer names it yet.
+    pub(crate) fn begin(&mut self, len: u16, place: Place)
+        requires log { place.log < (state_of self.old).logs }
+        requires fits { place.at + size_of len ≤ LOG_WORDS }
+        ensures { state_of self.new ≡ with_begun (state_of self.old) len place }
+    {
         self.begin_span(first_word(place));
         self.set_tail(place.log, place.at + size_of(len));
         self.set_kind(self.current(), Kind::Sealed);
@@ -330,6 +355,28 @@ fn names_place(cell: u64, log: u8, at: u16) -> bool
     match PtrWord::known(cell) {
         PtrWord::Near { place, .. } => place.log == log && place.at == at,
         PtrWord::Free | PtrWord::Far { .. } => false,
+    }
+}
+
+/// The job that a word says.
+fn job_in(word: u64) -> Option<Job>
+    ensures { result ≡ job_said (job_of word) }
+{
+    match JobWord::read(word) {
+        None | Some(JobWord::Empty) => None,
+        Some(
+            JobWord::Offered { job } | JobWord::Taken { job, .. } | JobWord::Finished { job, .. },
+        ) => Some(job),
+    }
+}
+
+/// Whether a job reads or writes a log.
+fn is_copied_at(log: u8, job: Option<Job>) -> bool
+    ensures { result ≡ is_copied_at log job }
+{
+    match job {
+        None => false,
+        Some(job) => job.from.log == log || job.to.log == log,
     }
 }
 

@@ -56,6 +56,13 @@ impl Memory {
     }
 
     #[tactic(auto, unfolding(crate::specs::state::Memory::state_of))]
+    pub(crate) fn job(&self, job: u8) -> u64
+        ensures { result ≡ (state_of self.now).copying.word job }
+    {
+        self.jobs.word(job)
+    }
+
+    #[tactic(auto, unfolding(crate::specs::state::Memory::state_of))]
     pub(crate) fn is_closed(&self, owner: u8) -> bool
         ensures { result ≡ is_closed (state_of self.now) owner }
     {

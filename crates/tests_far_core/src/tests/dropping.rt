@@ -1,7 +1,12 @@
 //! What an owner asks for, and what the book retires.
 
-use super::*;
-use far_word::Mark;
+use crate::tests::acts::Act::*;
+use crate::tests::acts::{Act, Play, TWO_OWNERS};
+use crate::tests::peopled::PEOPLED;
+use crate::tests::stage::play;
+use far_core::Event::*;
+use far_core::Reply::*;
+use far_word::Mark::{Dropped, Evac, Hot, Moved};
 
 const PLACED: u64 = 0x8400_0000_0701_0008;
 
@@ -9,56 +14,38 @@ const MOVING: u64 = 0x9400_0000_0701_0008;
 
 const DROPPED: u64 = 0x9c00_0000_0701_0008;
 
-fn ask(owner: u8, pointer: u16, mark: Mark) -> Event {
-    Event::Ask {
-        owner,
-        pointer,
-        mark,
-    }
-}
+#[rattlefmt::skip]
+const NOT_ASKED: &[Act] = &[
+    Refuses(&[
+        Ask { owner: 0, pointer: 0, mark: Dropped },
+        Ask { owner: 0, pointer: 1, mark: Moved },
+        Ask { owner: 0, pointer: 2, mark: Hot },
+        Ask { owner: 0, pointer: 2, mark: Evac },
+        Ask { owner: 1, pointer: 2, mark: Dropped },
+        Ask { owner: 2, pointer: 256, mark: Dropped },
+        Name { pointer: 2, old: PLACED, new: 0 },
+    ]),
+];
 
-fn retire(old: u64) -> Event {
-    Event::Name {
-        pointer: 2,
-        old,
-        new: 0,
-    }
-}
+#[rattlefmt::skip]
+const RETIRED: &[Act] = &[
+    Does(Ask { owner: 0, pointer: 2, mark: Moved }, Word(PLACED)),
+    Does(Ask { owner: 0, pointer: 2, mark: Dropped }, Word(MOVING)),
+    Does(Ask { owner: 0, pointer: 2, mark: Dropped }, Refused),
+    Does(See { pointer: 2 }, Word(DROPPED)),
+    Does(Name { pointer: 2, old: 0x8c00_0000_0701_0008, new: 0 }, Word(DROPPED)),
+    Does(Name { pointer: 2, old: DROPPED, new: 0 }, Done),
+    Does(See { pointer: 2 }, Word(0)),
+    Used(2, false),
+];
 
-#[test]
-fn a_request_of_what_may_not_be_asked(rt: HostRuntime) {
-    let core = peopled(&rt, rt.alloc());
-    goes_so(
-        &rt,
-        core,
-        &[],
-        &[
-            ask(0, 0, Mark::Dropped),
-            ask(0, 1, Mark::Moved),
-            ask(0, 2, Mark::Hot),
-            ask(0, 2, Mark::Evac),
-            ask(1, 2, Mark::Dropped),
-            ask(2, 256, Mark::Dropped),
-            retire(PLACED),
-        ],
-    );
-}
+#[rattlefmt::skip]
+const PLAYS: &[Play] = &[
+    Play { name: "a_request_of_what_may_not_be_asked", shape: TWO_OWNERS, honest: true, parts: &[PEOPLED, NOT_ASKED] },
+    Play { name: "an_object_is_dropped_and_retired", shape: TWO_OWNERS, honest: true, parts: &[PEOPLED, RETIRED] },
+];
 
 #[test]
-fn an_object_is_dropped_and_retired(rt: HostRuntime) {
-    let mut core = peopled(&rt, rt.alloc());
-    answers(
-        &rt,
-        &mut core,
-        &[
-            (ask(0, 2, Mark::Moved), Reply::Word(PLACED)),
-            (ask(0, 2, Mark::Dropped), Reply::Word(MOVING)),
-            (ask(0, 2, Mark::Dropped), Reply::Refused),
-            (Event::See { pointer: 2 }, Reply::Word(DROPPED)),
-            (retire(0x8c00_0000_0701_0008), Reply::Word(DROPPED)),
-            (retire(DROPPED), Reply::Done),
-            (Event::See { pointer: 2 }, Reply::Word(0)),
-        ],
-    );
-    assert!(rt; !core.is_used(2));
+fn objects_are_dropped(rt: HostRuntime) {
+    play(&rt, rt.alloc(), PLAYS);
 }

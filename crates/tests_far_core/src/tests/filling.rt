@@ -1,95 +1,92 @@
 //! Logs filled to their last word.
 
-use super::*;
+use crate::tests::acts::Act::*;
+use crate::tests::acts::{Act, Play, SMALL, TWO_OWNERS};
+use crate::tests::peopled::PEOPLED;
+use crate::tests::stage::{does_all, play};
+use far_core::Event::*;
+use far_core::Reply::*;
+use far_core::{Core, Event, Kind};
 
-const FULL: (Kind, u16) = (Kind::Sealed, 128);
+#[rattlefmt::skip]
+const LONGEST_FILLS: &[Act] = &[
+    Does(Put { log: 0, at: 0, word: 0xa100_0000_0001_03f8 }, Done),
+    Does(Put { log: 0, at: 127, word: 0 }, Done),
+    Does(Name { pointer: 0, old: 0, new: 0x8400_0000_0001_03f8 }, Done),
+    Log(0, Kind::Open, 128),
+    Does(Put { log: 1, at: 0, word: 0xa100_0000_0101_0001 }, Done),
+    Does(Name { pointer: 1, old: 0, new: 0x8400_0004_0001_0001 }, Done),
+    Log(0, Kind::Sealed, 128),
+    Log(1, Kind::Open, 2),
+    OpenLog(1),
+    Cell(0, 0x8400_0000_0001_03f8),
+    Cell(1, 0x8400_0004_0001_0001),
+];
 
-#[test]
-fn longest_object_fills_a_log(rt: HostRuntime) {
-    let mut core = made(&rt, rt.alloc(), SMALL, true);
-    answers(
-        &rt,
-        &mut core,
-        &[
-            put(0, 0, 0xa100_0000_0001_03f8),
-            put(0, 127, 0),
-            named(0, 0x8400_0000_0001_03f8),
-        ],
-    );
-    assert!(rt; log_shown(&rt, &core, 0) == (Kind::Open, 128));
-    answers(
-        &rt,
-        &mut core,
-        &[
-            put(1, 0, 0xa100_0000_0101_0001),
-            named(1, 0x8400_0004_0001_0001),
-        ],
-    );
-    assert!(rt; log_shown(&rt, &core, 0) == FULL);
-    assert!(rt; log_shown(&rt, &core, 1) == (Kind::Open, 2));
-    assert!(rt; core.open_log() == 1);
-    assert!(rt; core.cell(0) == 0x8400_0000_0001_03f8);
-    assert!(rt; core.cell(1) == 0x8400_0004_0001_0001);
+// Whether a pointer's object of 1 byte takes the next two words of log 0.
+fn places_shortest(core: &mut Core, number: u8) -> bool {
+    let pointer = number as u16;
+    let at = 2 * pointer;
+    let word = 0xa100_0000_0001_0001 | (pointer as u64) << 24;
+    let new = 0x8400_0000_0001_0001 | (at as u64) << 24;
+    let put = Event::Put { log: 0, at, word };
+    let name = Event::Name {
+        pointer,
+        old: 0,
+        new,
+    };
+    let row = [
+        Act::Does(put, Done),
+        Act::Does(name, Done),
+        Act::Log(0, Kind::Open, at + 2),
+    ];
+    does_all(core, &row)
 }
+
+// Whether 64 such objects fill the log.
+fn places_all(core: &mut Core) -> bool {
+    for number in 0u8..64 {
+        if !places_shortest(core, number) {
+            return false;
+        }
+    }
+    true
+}
+
+#[rattlefmt::skip]
+const FULL: &[Act] = &[
+    Does(Put { log: 0, at: 127, word: 0 }, Refused),
+    Does(Put { log: 3, at: 0, word: 0xa100_0000_4001_0008 }, Done),
+    Does(Name { pointer: 64, old: 0, new: 0x8400_000c_0001_0008 }, Done),
+    Log(0, Kind::Sealed, 128),
+    Log(3, Kind::Open, 2),
+    OpenLog(3),
+];
 
 #[test]
 fn shortest_objects_fill_a_log(rt: HostRuntime) {
-    let mut core = made(&rt, rt.alloc(), SMALL, true);
-    for pointer in 0u16..64 {
-        let place = (2 * pointer as u64) << 24;
-        answers(
-            &rt,
-            &mut core,
-            &[
-                put(
-                    0,
-                    2 * pointer,
-                    0xa100_0000_0001_0001 | (pointer as u64) << 24,
-                ),
-                named(pointer, 0x8400_0000_0001_0001 | place),
-            ],
-        );
-        assert!(rt; log_shown(&rt, &core, 0) == (Kind::Open, 2 * pointer + 2));
-    }
-    let refused = Event::Put {
-        log: 0,
-        at: 127,
-        word: 0,
+    let Ok(mut core) = Core::new(rt.alloc(), SMALL, true) else {
+        panic!(rt; "no core is made");
     };
-    answers(
-        &rt,
-        &mut core,
-        &[
-            (refused, Reply::Refused),
-            put(3, 0, 0xa100_0000_4001_0008),
-            named(64, 0x8400_000c_0001_0008),
-        ],
-    );
-    assert!(rt; log_shown(&rt, &core, 0) == FULL);
-    assert!(rt; log_shown(&rt, &core, 3) == (Kind::Open, 2));
-    assert!(rt; core.open_log() == 3);
+    assert!(rt; places_all(&mut core) && does_all(&mut core, FULL));
 }
 
-/// A naming that comes too late answers the cell, and neither takes the span nor opens the log.
+#[rattlefmt::skip]
+const NAMED_LATE: &[Act] = &[
+    Does(Put { log: 0, at: 9, word: 0xa100_0000_0101_0008 }, Done),
+    Does(Put { log: 2, at: 0, word: 0xa100_0000_0101_0008 }, Done),
+    Leaves(Name { pointer: 1, old: 0, new: 0x8400_0000_0901_0008 }, Word(0x8400_0000_0301_0008)),
+    Leaves(Name { pointer: 1, old: 0, new: 0x8400_0008_0001_0008 }, Word(0x8400_0000_0301_0008)),
+];
+
+#[rattlefmt::skip]
+const PLAYS: &[Play] = &[
+    Play { name: "longest_object_fills_a_log", shape: SMALL, honest: true, parts: &[LONGEST_FILLS] },
+    // A naming that comes too late answers the cell, and neither takes the span nor opens the log.
+    Play { name: "named_cell_is_not_named_again", shape: TWO_OWNERS, honest: true, parts: &[PEOPLED, NAMED_LATE] },
+];
+
 #[test]
-fn named_cell_is_not_named_again(rt: HostRuntime) {
-    let mut core = peopled(&rt, rt.alloc());
-    answers(
-        &rt,
-        &mut core,
-        &[
-            put(0, 9, 0xa100_0000_0101_0008),
-            put(2, 0, 0xa100_0000_0101_0008),
-        ],
-    );
-    let before = observed(&rt, &mut core);
-    for new in [0x8400_0000_0901_0008, 0x8400_0008_0001_0008] {
-        let reply = core.step(Event::Name {
-            pointer: 1,
-            old: 0,
-            new,
-        });
-        assert!(rt; reply == Reply::Word(0x8400_0000_0301_0008));
-        assert!(rt; observed(&rt, &mut core) == before);
-    }
+fn logs_are_filled(rt: HostRuntime) {
+    play(&rt, rt.alloc(), PLAYS);
 }

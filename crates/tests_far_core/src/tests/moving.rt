@@ -1,7 +1,13 @@
 //! Objects that go to another place, near or far before.
 
-use super::*;
-use far_word::Mark;
+use crate::tests::acts::Act::*;
+use crate::tests::acts::{Act, Play, TWO_OWNERS};
+use crate::tests::stage::play;
+use far_core::Event::*;
+use far_core::Kind;
+use far_core::Reply::*;
+use far_word::Mark::Moved;
+use far_word::Place;
 
 /// The cell of pointer 1, an object of 9 bytes at word 3 of log 0: as it was placed, viewed before, and asked to be moved then.
 const PLACED: u64 = 0x8400_0000_0301_0009;
@@ -24,286 +30,257 @@ const HEADER: u64 = 0xa100_0000_0101_0009;
 
 const FIRST: u64 = 0x0807_0605_0403_0201;
 
-fn ask(pointer: u16, mark: Mark) -> Event {
-    Event::Ask {
-        owner: 0,
-        pointer,
-        mark,
-    }
-}
+const OPENED: &[Act] = &[
+    Does(ReadEpoch { owner: 0 }, Epoch(5)),
+    Does(Open { owner: 0 }, Done),
+];
 
-fn opened() -> [(Event, Reply); 2] {
-    [
-        (Event::ReadEpoch { owner: 0 }, Reply::Epoch(5)),
-        (Event::Open { owner: 0 }, Reply::Done),
-    ]
-}
+/// Pointer 0's object lies below pointer 1's, at word 3 of log 0, and owner 0 uses both.
+#[rattlefmt::skip]
+const MADE: &[Act] = &[
+    Does(Put { log: 0, at: 0, word: 0xa100_0000_0001_0009 }, Done),
+    Does(Name { pointer: 0, old: 0, new: 0x8400_0000_0001_0009 }, Done),
+    Does(Put { log: 0, at: 3, word: HEADER }, Done),
+    Does(Name { pointer: 1, old: 0, new: PLACED }, Done),
+    Does(Adopt { owner: 0, pointer: 0 }, Word(0x8400_0000_0001_0009)),
+    Does(Adopt { owner: 0, pointer: 1 }, Word(PLACED)),
+];
 
-/// A core in which owner 0 has stored bytes 1 to 9 in pointer 1's object, at word 3 of log 0, and has closed its scope. Pointer
-/// 0's object lies below it. Header and words of pointer 1 are written at the tail, 6, and at the start of log 1.
-fn written(rt: &impl Abort, alloc: Global, honest: bool) -> Core {
-    let mut core = made(rt, alloc, TWO_OWNERS, honest);
-    answers(
-        rt,
-        &mut core,
-        &[
-            put(0, 0, 0xa100_0000_0001_0009),
-            named(0, 0x8400_0000_0001_0009),
-            put(0, 3, HEADER),
-            named(1, PLACED),
-            adopted(0, 0, 0x8400_0000_0001_0009),
-            adopted(0, 1, PLACED),
-        ],
-    );
-    answers(rt, &mut core, &opened());
-    answers(
-        rt,
-        &mut core,
-        &[
-            pinned(1, 0, 3),
-            stored(1, 0, FIRST),
-            stored(1, 1, 9),
-            (Event::Close { owner: 0 }, Reply::Done),
-            put(0, 6, HEADER),
-            put(0, 7, FIRST),
-            put(0, 8, 9),
-            put(1, 0, HEADER),
-            put(1, 1, FIRST),
-            put(1, 2, 9),
-        ],
-    );
-    core
-}
+/// Owner 0, whose scope is open, stores bytes 1 to 9 in pointer 1's object and closes it. Header and words of pointer 1 are
+/// written at the tail, 6, and at the start of log 1.
+#[rattlefmt::skip]
+const WRITTEN: &[Act] = &[
+    Does(Pin { owner: 0, pointer: 1 }, Held(Place { log: 0, at: 3 })),
+    Does(Store { owner: 0, pointer: 1, index: 0, word: FIRST }, Done),
+    Does(Store { owner: 0, pointer: 1, index: 1, word: 9 }, Done),
+    Does(Close { owner: 0 }, Done),
+    Does(Put { log: 0, at: 6, word: HEADER }, Done),
+    Does(Put { log: 0, at: 7, word: FIRST }, Done),
+    Does(Put { log: 0, at: 8, word: 9 }, Done),
+    Does(Put { log: 1, at: 0, word: HEADER }, Done),
+    Does(Put { log: 1, at: 1, word: FIRST }, Done),
+    Does(Put { log: 1, at: 2, word: 9 }, Done),
+];
 
-/// The object is viewed again and has bytes 1 to 9 still.
-fn stands_at(rt: &impl Abort, core: &mut Core, log: u8, at: u16) {
-    answers(rt, core, &opened());
-    answers(
-        rt,
-        core,
-        &[pinned(1, log, at), loaded(1, 0, FIRST), loaded(1, 1, 9)],
-    );
-}
+/// The viewed object has bytes 1 to 9 still.
+#[rattlefmt::skip]
+const KEPT: &[Act] = &[
+    Does(Load { owner: 0, pointer: 1, index: 0 }, Word(FIRST)),
+    Does(Load { owner: 0, pointer: 1, index: 1 }, Word(9)),
+];
 
-#[test]
-fn an_object_moves_to_the_tail(rt: HostRuntime) {
-    let mut core = written(&rt, rt.alloc(), true);
-    answers(
-        &rt,
-        &mut core,
-        &[
-            (ask(1, Mark::Moved), Reply::Word(VIEWED)),
-            (name(1, VIEWED, AT_TAIL), Reply::Word(MOVING)),
-            (name(1, MOVING, AT_TAIL), Reply::Done),
-            (Event::See { pointer: 1 }, Reply::Word(AT_TAIL)),
-            (name(1, MOVING, AT_TAIL), Reply::Refused),
-        ],
-    );
-    assert!(rt; log_shown(&rt, &core, 0) == (Kind::Open, 9));
-    stands_at(&rt, &mut core, 0, 6);
-}
+#[rattlefmt::skip]
+const MOVED_TO_TAIL: &[Act] = &[
+    Does(Ask { owner: 0, pointer: 1, mark: Moved }, Word(VIEWED)),
+    Does(Name { pointer: 1, old: VIEWED, new: AT_TAIL }, Word(MOVING)),
+    Does(Name { pointer: 1, old: MOVING, new: AT_TAIL }, Done),
+    Does(See { pointer: 1 }, Word(AT_TAIL)),
+    Does(Name { pointer: 1, old: MOVING, new: AT_TAIL }, Refused),
+    Log(0, Kind::Open, 9),
+];
 
-#[test]
-fn an_object_moves_into_a_free_log(rt: HostRuntime) {
-    let mut core = written(&rt, rt.alloc(), true);
-    answers(
-        &rt,
-        &mut core,
-        &[
-            (ask(1, Mark::Moved), Reply::Word(VIEWED)),
-            (name(1, MOVING, AT_START), Reply::Done),
-        ],
-    );
-    assert!(rt; log_shown(&rt, &core, 0) == (Kind::Sealed, 6));
-    assert!(rt; log_shown(&rt, &core, 1) == (Kind::Open, 3));
-    stands_at(&rt, &mut core, 1, 0);
-}
+#[rattlefmt::skip]
+const HELD_AT_TAIL: &[Act] = &[
+    Does(Pin { owner: 0, pointer: 1 }, Held(Place { log: 0, at: 6 })),
+];
 
-#[test]
-fn an_object_that_is_not_quiet_stays(rt: HostRuntime) {
-    let mut core = written(&rt, rt.alloc(), true);
-    refuses(&rt, &mut core, &[name(1, VIEWED, AT_TAIL)]);
-    answers(&rt, &mut core, &opened());
-    answers(&rt, &mut core, &[pinned(1, 0, 3)]);
-    refuses(
-        &rt,
-        &mut core,
-        &[name(1, VIEWED, AT_TAIL), ask(1, Mark::Moved)],
-    );
-}
+#[rattlefmt::skip]
+const MOVED_TO_START: &[Act] = &[
+    Does(Ask { owner: 0, pointer: 1, mark: Moved }, Word(VIEWED)),
+    Does(Name { pointer: 1, old: MOVING, new: AT_START }, Done),
+    Log(0, Kind::Sealed, 6),
+    Log(1, Kind::Open, 3),
+];
 
-/// EVAC in a log that is in no round makes nothing quiet.
-#[test]
-fn an_object_that_is_only_marked_stays(rt: HostRuntime) {
-    let mut core = written(&rt, rt.alloc(), true);
-    let evac = 0xe400_0000_0301_0009;
-    answers(
-        &rt,
-        &mut core,
-        &[
-            put(2, 0, 0xa100_0000_0201_0008),
-            named(2, 0x8400_0008_0001_0008),
-            (Event::Mark { pointer: 1 }, Reply::Word(VIEWED)),
-            (Event::See { pointer: 1 }, Reply::Word(evac)),
-        ],
-    );
-    refuses(&rt, &mut core, &[name(1, evac, AT_START)]);
-}
+#[rattlefmt::skip]
+const HELD_AT_START: &[Act] = &[
+    Does(Pin { owner: 0, pointer: 1 }, Held(Place { log: 1, at: 0 })),
+];
 
-#[test]
-fn words_that_move_nothing_refuse(rt: HostRuntime) {
-    let core = written(&rt, rt.alloc(), true);
-    goes_so(
-        &rt,
-        core,
-        &[(ask(1, Mark::Moved), Reply::Word(VIEWED))],
-        &[
-            // Marks on the new word; another length; another data structure.
-            name(1, MOVING, AT_TAIL | 1 << 62),
-            name(1, MOVING, AT_TAIL | 1 << 60),
-            name(1, MOVING, 0x8400_0000_0601_0008),
-            name(1, MOVING, 0x8400_0000_0602_0009),
-            // A dropped word; a place in log 5; another pointer; no new span.
-            name(1, 0xdc00_0000_0301_0009, AT_TAIL),
-            name(1, 0xd400_0014_0301_0009, AT_TAIL),
-            name(0, 0x8400_0000_0001_0009, AT_TAIL),
-            name(1, MOVING, 0x8400_0000_0701_0009),
-            name(1, MOVING, 0x8400_0004_0101_0009),
-            name(1, MOVING, 0x8400_0008_0001_0009),
-        ],
-    );
-}
+#[rattlefmt::skip]
+const STAYS_UNASKED: &[Act] = &[
+    Refuses(&[Name { pointer: 1, old: VIEWED, new: AT_TAIL }]),
+];
 
-#[test]
-fn a_copy_that_is_not_whole_refuses(rt: HostRuntime) {
-    let core = written(&rt, rt.alloc(), true);
-    goes_so(
-        &rt,
-        core,
-        &[
-            (ask(1, Mark::Moved), Reply::Word(VIEWED)),
-            put(0, 8, 8),
-            (name(1, MOVING, AT_TAIL), Reply::Refused),
-            put(0, 8, 9),
-            put(0, 7, 0),
-            (name(1, MOVING, AT_TAIL), Reply::Refused),
-            put(0, 7, FIRST),
-            put(0, 6, 0xa100_0000_0001_0009),
-            (name(1, MOVING, AT_TAIL), Reply::Refused),
-            put(0, 6, HEADER),
-            (name(1, MOVING, AT_TAIL), Reply::Done),
-        ],
-        &[],
-    );
-}
+#[rattlefmt::skip]
+const STAYS_HELD: &[Act] = &[
+    Does(Pin { owner: 0, pointer: 1 }, Held(Place { log: 0, at: 3 })),
+    Refuses(&[
+        Name { pointer: 1, old: VIEWED, new: AT_TAIL },
+        Ask { owner: 0, pointer: 1, mark: Moved },
+    ]),
+];
 
-/// Of an object that isn't far no words are stored, so with an honest far side none come near; with another any may, with
-/// zeros after the last byte.
-#[test]
-fn what_is_not_far_is_not_fetched(rt: HostRuntime) {
-    let mut core = written(&rt, rt.alloc(), true);
-    refuses(
-        &rt,
-        &mut core,
-        &[
-            name(1, FAR, AT_TAIL),
-            name(3, FAR, AT_TAIL),
-            name(1, FAR | 1 << 59, AT_TAIL),
-        ],
-    );
-    let core = written(&rt, rt.alloc(), false);
-    goes_so(
-        &rt,
-        core,
-        &[
-            (name(1, FAR, AT_TAIL), Reply::Word(VIEWED)),
-            (name(1, FAR | 1 << 59, AT_TAIL), Reply::Refused),
-            (name(1, FAR, 0x8400_0000_0601_0008), Reply::Refused),
-            put(0, 8, 0x100),
-            (name(1, FAR, AT_TAIL), Reply::Refused),
-        ],
-        &[],
-    );
-}
+#[rattlefmt::skip]
+const ONLY_MARKED: &[Act] = &[
+    Does(Put { log: 2, at: 0, word: 0xa100_0000_0201_0008 }, Done),
+    Does(Name { pointer: 2, old: 0, new: 0x8400_0008_0001_0008 }, Done),
+    Does(Mark { pointer: 1 }, Word(VIEWED)),
+    Does(See { pointer: 1 }, Word(0xe400_0000_0301_0009)),
+    Refuses(&[Name { pointer: 1, old: 0xe400_0000_0301_0009, new: AT_START }]),
+];
 
-/// The same core with log 2 open, its tail 2, and pointer 1's object far.
-fn away(rt: &impl Abort, alloc: Global, honest: bool) -> Core {
-    let mut core = written(rt, alloc, honest);
-    answers(
-        rt,
-        &mut core,
-        &[
-            put(2, 0, 0xa100_0000_0201_0008),
-            named(2, 0x8400_0008_0001_0008),
-            (Event::Mark { pointer: 1 }, Reply::Word(VIEWED)),
-            (ask(1, Mark::Moved), Reply::Word(0xe400_0000_0301_0009)),
-            (name(1, 0xf400_0000_0301_0009, FAR), Reply::Done),
-            (Event::See { pointer: 1 }, Reply::Word(FAR)),
-        ],
-    );
-    core
-}
+#[rattlefmt::skip]
+const MOVES_NOTHING: &[Act] = &[
+    Does(Ask { owner: 0, pointer: 1, mark: Moved }, Word(VIEWED)),
+    Refuses(&[
+        // Marks on the new word; another length; another data structure.
+        Name { pointer: 1, old: MOVING, new: AT_TAIL | 1 << 62 },
+        Name { pointer: 1, old: MOVING, new: AT_TAIL | 1 << 60 },
+        Name { pointer: 1, old: MOVING, new: 0x8400_0000_0601_0008 },
+        Name { pointer: 1, old: MOVING, new: 0x8400_0000_0602_0009 },
+        // A dropped word; a place in log 5; another pointer; no new span.
+        Name { pointer: 1, old: 0xdc00_0000_0301_0009, new: AT_TAIL },
+        Name { pointer: 1, old: 0xd400_0014_0301_0009, new: AT_TAIL },
+        Name { pointer: 0, old: 0x8400_0000_0001_0009, new: AT_TAIL },
+        Name { pointer: 1, old: MOVING, new: 0x8400_0000_0701_0009 },
+        Name { pointer: 1, old: MOVING, new: 0x8400_0004_0101_0009 },
+        Name { pointer: 1, old: MOVING, new: 0x8400_0008_0001_0009 },
+    ]),
+];
 
-#[test]
-fn an_object_goes_away_and_comes_back(rt: HostRuntime) {
-    let mut core = away(&rt, rt.alloc(), true);
-    answers(
-        &rt,
-        &mut core,
-        &[
-            put(2, 2, HEADER),
-            put(2, 3, FIRST),
-            put(2, 4, 9),
-            (name(1, FAR, BACK), Reply::Done),
-            (name(1, FAR, BACK), Reply::Refused),
-        ],
-    );
-    assert!(rt; log_shown(&rt, &core, 2) == (Kind::Open, 5));
-    stands_at(&rt, &mut core, 2, 2);
-}
+#[rattlefmt::skip]
+const HALF_COPIED: &[Act] = &[
+    Does(Ask { owner: 0, pointer: 1, mark: Moved }, Word(VIEWED)),
+    Does(Put { log: 0, at: 8, word: 8 }, Done),
+    Does(Name { pointer: 1, old: MOVING, new: AT_TAIL }, Refused),
+    Does(Put { log: 0, at: 8, word: 9 }, Done),
+    Does(Put { log: 0, at: 7, word: 0 }, Done),
+    Does(Name { pointer: 1, old: MOVING, new: AT_TAIL }, Refused),
+    Does(Put { log: 0, at: 7, word: FIRST }, Done),
+    Does(Put { log: 0, at: 6, word: 0xa100_0000_0001_0009 }, Done),
+    Does(Name { pointer: 1, old: MOVING, new: AT_TAIL }, Refused),
+    Does(Put { log: 0, at: 6, word: HEADER }, Done),
+    Does(Name { pointer: 1, old: MOVING, new: AT_TAIL }, Done),
+];
 
-#[test]
-fn other_words_than_those_stored_refuse(rt: HostRuntime) {
-    let core = away(&rt, rt.alloc(), true);
-    goes_so(
-        &rt,
-        core,
-        &[
-            put(2, 2, HEADER),
-            put(2, 3, FIRST),
-            put(2, 4, 8),
-            (name(1, FAR, BACK), Reply::Refused),
-            put(2, 3, 0),
-            put(2, 4, 9),
-            (name(1, FAR, BACK), Reply::Refused),
-            put(2, 3, FIRST),
-            (name(1, FAR | 1 << 59, BACK), Reply::Refused),
-            (name(1, FAR | 1 << 62, BACK), Reply::Word(FAR)),
-            (name(1, FAR, BACK), Reply::Done),
-        ],
-        &[],
-    );
-}
+#[rattlefmt::skip]
+const NOT_FETCHED: &[Act] = &[
+    Refuses(&[
+        Name { pointer: 1, old: FAR, new: AT_TAIL },
+        Name { pointer: 3, old: FAR, new: AT_TAIL },
+        Name { pointer: 1, old: FAR | 1 << 59, new: AT_TAIL },
+    ]),
+];
+
+#[rattlefmt::skip]
+const FETCHED_LATE: &[Act] = &[
+    Does(Name { pointer: 1, old: FAR, new: AT_TAIL }, Word(VIEWED)),
+    Does(Name { pointer: 1, old: FAR | 1 << 59, new: AT_TAIL }, Refused),
+    Does(Name { pointer: 1, old: FAR, new: 0x8400_0000_0601_0008 }, Refused),
+    Does(Put { log: 0, at: 8, word: 0x100 }, Done),
+    Does(Name { pointer: 1, old: FAR, new: AT_TAIL }, Refused),
+];
+
+/// Log 2 is open, its tail 2, and pointer 1's object far.
+#[rattlefmt::skip]
+const AWAY: &[Act] = &[
+    Does(Put { log: 2, at: 0, word: 0xa100_0000_0201_0008 }, Done),
+    Does(Name { pointer: 2, old: 0, new: 0x8400_0008_0001_0008 }, Done),
+    Does(Mark { pointer: 1 }, Word(VIEWED)),
+    Does(Ask { owner: 0, pointer: 1, mark: Moved }, Word(0xe400_0000_0301_0009)),
+    Does(Name { pointer: 1, old: 0xf400_0000_0301_0009, new: FAR }, Done),
+    Does(See { pointer: 1 }, Word(FAR)),
+];
+
+#[rattlefmt::skip]
+const COME_BACK: &[Act] = &[
+    Does(Put { log: 2, at: 2, word: HEADER }, Done),
+    Does(Put { log: 2, at: 3, word: FIRST }, Done),
+    Does(Put { log: 2, at: 4, word: 9 }, Done),
+    Does(Name { pointer: 1, old: FAR, new: BACK }, Done),
+    Does(Name { pointer: 1, old: FAR, new: BACK }, Refused),
+    Log(2, Kind::Open, 5),
+];
+
+#[rattlefmt::skip]
+const HELD_IN_2: &[Act] = &[
+    Does(Pin { owner: 0, pointer: 1 }, Held(Place { log: 2, at: 2 })),
+];
+
+#[rattlefmt::skip]
+const OTHER_WORDS: &[Act] = &[
+    Does(Put { log: 2, at: 2, word: HEADER }, Done),
+    Does(Put { log: 2, at: 3, word: FIRST }, Done),
+    Does(Put { log: 2, at: 4, word: 8 }, Done),
+    Does(Name { pointer: 1, old: FAR, new: BACK }, Refused),
+    Does(Put { log: 2, at: 3, word: 0 }, Done),
+    Does(Put { log: 2, at: 4, word: 9 }, Done),
+    Does(Name { pointer: 1, old: FAR, new: BACK }, Refused),
+    Does(Put { log: 2, at: 3, word: FIRST }, Done),
+    Does(Name { pointer: 1, old: FAR | 1 << 59, new: BACK }, Refused),
+    Does(Name { pointer: 1, old: FAR | 1 << 62, new: BACK }, Word(FAR)),
+    Does(Name { pointer: 1, old: FAR, new: BACK }, Done),
+];
+
+#[rattlefmt::skip]
+const ANY_WORDS: &[Act] = &[
+    Does(Put { log: 2, at: 2, word: HEADER }, Done),
+    Does(Put { log: 2, at: 3, word: u64::MAX }, Done),
+    Does(Put { log: 2, at: 4, word: 0x100 }, Done),
+    Does(Name { pointer: 1, old: FAR, new: BACK }, Refused),
+    Does(Put { log: 2, at: 4, word: 0xff }, Done),
+    Does(Name { pointer: 1, old: FAR, new: BACK }, Done),
+];
+
+#[rattlefmt::skip]
+const ANY_LOADED: &[Act] = &[
+    Does(Load { owner: 0, pointer: 1, index: 0 }, Word(u64::MAX)),
+    Does(Load { owner: 0, pointer: 1, index: 1 }, Word(0xff)),
+];
+
+#[rattlefmt::skip]
+const PLAYS: &[Play] = &[
+    Play {
+        name: "an_object_moves_to_the_tail", shape: TWO_OWNERS, honest: true,
+        parts: &[MADE, OPENED, WRITTEN, MOVED_TO_TAIL, OPENED, HELD_AT_TAIL, KEPT],
+    },
+    Play {
+        name: "an_object_moves_into_a_free_log", shape: TWO_OWNERS, honest: true,
+        parts: &[MADE, OPENED, WRITTEN, MOVED_TO_START, OPENED, HELD_AT_START, KEPT],
+    },
+    Play {
+        name: "an_object_that_is_not_quiet_stays", shape: TWO_OWNERS, honest: true,
+        parts: &[MADE, OPENED, WRITTEN, STAYS_UNASKED, OPENED, STAYS_HELD],
+    },
+    // EVAC in a log that is in no round makes nothing quiet.
+    Play {
+        name: "an_object_that_is_only_marked_stays", shape: TWO_OWNERS, honest: true,
+        parts: &[MADE, OPENED, WRITTEN, ONLY_MARKED],
+    },
+    Play {
+        name: "words_that_move_nothing_refuse", shape: TWO_OWNERS, honest: true,
+        parts: &[MADE, OPENED, WRITTEN, MOVES_NOTHING],
+    },
+    Play {
+        name: "a_copy_that_is_not_whole_refuses", shape: TWO_OWNERS, honest: true,
+        parts: &[MADE, OPENED, WRITTEN, HALF_COPIED],
+    },
+    // Of an object that isn't far no words are stored, so with an honest far side none come near; with another any may, with
+    // zeros after the last byte.
+    Play {
+        name: "what_is_not_far_is_not_fetched", shape: TWO_OWNERS, honest: true,
+        parts: &[MADE, OPENED, WRITTEN, NOT_FETCHED],
+    },
+    Play {
+        name: "what_is_not_far_is_not_fetched", shape: TWO_OWNERS, honest: false,
+        parts: &[MADE, OPENED, WRITTEN, FETCHED_LATE],
+    },
+    Play {
+        name: "an_object_goes_away_and_comes_back", shape: TWO_OWNERS, honest: true,
+        parts: &[MADE, OPENED, WRITTEN, AWAY, COME_BACK, OPENED, HELD_IN_2, KEPT],
+    },
+    Play {
+        name: "other_words_than_those_stored_refuse", shape: TWO_OWNERS, honest: true,
+        parts: &[MADE, OPENED, WRITTEN, AWAY, OTHER_WORDS],
+    },
+    Play {
+        name: "a_lying_far_side_gives_any_words", shape: TWO_OWNERS, honest: false,
+        parts: &[MADE, OPENED, WRITTEN, AWAY, ANY_WORDS, OPENED, HELD_IN_2, ANY_LOADED],
+    },
+];
 
 #[test]
-fn a_lying_far_side_gives_any_words(rt: HostRuntime) {
-    let mut core = away(&rt, rt.alloc(), false);
-    answers(
-        &rt,
-        &mut core,
-        &[
-            put(2, 2, HEADER),
-            put(2, 3, u64::MAX),
-            put(2, 4, 0x100),
-            (name(1, FAR, BACK), Reply::Refused),
-            put(2, 4, 0xff),
-            (name(1, FAR, BACK), Reply::Done),
-        ],
-    );
-    answers(&rt, &mut core, &opened());
-    answers(
-        &rt,
-        &mut core,
-        &[pinned(1, 2, 2), loaded(1, 0, u64::MAX), loaded(1, 1, 0xff)],
-    );
+fn objects_move(rt: HostRuntime) {
+    play(&rt, rt.alloc(), PLAYS);
 }

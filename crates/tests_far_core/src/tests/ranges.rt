@@ -1,83 +1,96 @@
 //! Several words at once.
 
-use super::*;
-use far_word::{CELLS, LOG_WORDS, PtrWord};
+use crate::tests::acts::Act::*;
+use crate::tests::acts::{Act, Play, TWO_OWNERS};
+use crate::tests::stage::play;
+use far_core::Event::*;
+use far_core::Reply::*;
+use far_core::{Core, Kind};
+use far_word::{CELLS, LOG_WORDS, Place, PtrWord};
+
+/// Whether owner 0 stores a word at an index of a pointer's object, of two words.
+pub(super) fn stores_at(core: &mut Core, pointer: u16, index: u16, word: u64) -> bool {
+    if pointer < CELLS && core.is_held(pointer) && index < 2 {
+        if let Some(PtrWord::Near { len: 16, .. }) = PtrWord::read(core.cell(pointer)) {
+            core.store_all(0, pointer, index, &[word]);
+            return true;
+        }
+    }
+    false
+}
+
+/// Whether pointer 0's object has these two words.
+pub(super) fn has_pair(core: &Core, words: [u64; 2]) -> bool {
+    if !core.is_held(0) {
+        return false;
+    }
+    let Some(PtrWord::Near { len: 16, .. }) = PtrWord::read(core.cell(0)) else {
+        return false;
+    };
+    let mut found = [0; 2];
+    core.load_all(0, 0, 0, &mut found);
+    found == words
+}
+
+/// Whether so many words of 0 are put at a place.
+pub(super) fn puts_zeros(core: &mut Core, place: Place, count: u16) -> bool {
+    if place.log >= core.logs() || place.at >= LOG_WORDS || count > LOG_WORDS - place.at {
+        return false;
+    }
+    if core.kind(place.log) == Kind::Sealed || core.tail(place.log) > place.at {
+        return false;
+    }
+    core.put_zeros(place, count);
+    true
+}
 
 const PAIR: u64 = 0x8400_0000_0001_0010;
 
-/// A core in which owner 0 holds an object of two words.
-fn holding_pair(rt: &impl Abort, alloc: Global) -> Core {
-    let mut core = made(rt, alloc, TWO_OWNERS, true);
-    answers(
-        rt,
-        &mut core,
-        &[
-            put(0, 0, 0xa100_0000_0001_0010),
-            named(0, PAIR),
-            adopted(0, 0, PAIR),
-            (Event::ReadEpoch { owner: 0 }, Reply::Epoch(5)),
-            (Event::Open { owner: 0 }, Reply::Done),
-            pinned(0, 0, 0),
-        ],
-    );
-    core
-}
+/// Owner 0 holds an object of two words.
+#[rattlefmt::skip]
+const HOLDING_PAIR: &[Act] = &[
+    Does(Put { log: 0, at: 0, word: 0xa100_0000_0001_0010 }, Done),
+    Does(Name { pointer: 0, old: 0, new: PAIR }, Done),
+    Does(Adopt { owner: 0, pointer: 0 }, Word(PAIR)),
+    Does(ReadEpoch { owner: 0 }, Epoch(5)),
+    Does(Open { owner: 0 }, Done),
+    Does(Pin { owner: 0, pointer: 0 }, Held(Place { log: 0, at: 0 })),
+];
 
-fn store_word(rt: &impl Abort, core: &mut Core, pointer: u16, first: u16, word: u64) {
-    assert!(rt; pointer < CELLS && core.is_held(pointer) && first < 2);
-    let Some(PtrWord::Near { len: 16, .. }) = PtrWord::read(core.cell(pointer)) else {
-        panic!(rt; "the object isn't near with 16 bytes");
-    };
-    core.store_all(0, pointer, first, &[word]);
-}
+#[rattlefmt::skip]
+const STORED_AND_LOADED: &[Act] = &[
+    HasPair([0, 0]),
+    StoresAt(1, 7),
+    HasPair([0, 7]),
+    StoresAt(0, u64::MAX),
+    HasPair([u64::MAX, 7]),
+    Does(Load { owner: 0, pointer: 0, index: 0 }, Word(u64::MAX)),
+    Does(Load { owner: 0, pointer: 0, index: 1 }, Word(7)),
+];
 
-fn words_of(rt: &impl Abort, core: &Core, pointer: u16) -> [u64; 2] {
-    assert!(rt; pointer < CELLS && core.is_held(pointer));
-    let Some(PtrWord::Near { len: 16, .. }) = PtrWord::read(core.cell(pointer)) else {
-        panic!(rt; "the object isn't near with 16 bytes");
-    };
-    let mut words = [0; 2];
-    core.load_all(0, pointer, 0, &mut words);
-    words
-}
+#[rattlefmt::skip]
+const ZEROS_PUT: &[Act] = &[
+    Does(Put { log: 0, at: 3, word: 3 }, Done),
+    Does(Put { log: 0, at: 4, word: 4 }, Done),
+    Does(Put { log: 0, at: 5, word: 5 }, Done),
+    Does(Put { log: 0, at: 6, word: 6 }, Done),
+    PutsZeros(Place { log: 0, at: 4 }, 2),
+    WordAt(Place { log: 0, at: 3 }, 3),
+    WordAt(Place { log: 0, at: 4 }, 0),
+    WordAt(Place { log: 0, at: 5 }, 0),
+    WordAt(Place { log: 0, at: 6 }, 6),
+];
 
-fn put_zeros(rt: &impl Abort, core: &mut Core, place: Place, count: u16) {
-    assert!(rt; place.log < core.logs() && core.kind(place.log) != Kind::Sealed);
-    assert!(rt; core.tail(place.log) <= place.at && place.at < LOG_WORDS);
-    assert!(rt; count <= LOG_WORDS - place.at);
-    core.put_zeros(place, count);
-}
-
-fn word_at(rt: &impl Abort, core: &Core, at: u16) -> u64 {
-    assert!(rt; at < LOG_WORDS && core.logs() > 0);
-    core.word(0, at)
-}
+#[rattlefmt::skip]
+const PLAYS: &[Play] = &[
+    Play {
+        name: "words_are_stored_and_loaded", shape: TWO_OWNERS, honest: true,
+        parts: &[HOLDING_PAIR, STORED_AND_LOADED],
+    },
+    Play { name: "zeros_are_put", shape: TWO_OWNERS, honest: true, parts: &[HOLDING_PAIR, ZEROS_PUT] },
+];
 
 #[test]
-fn words_are_stored_and_loaded(rt: HostRuntime) {
-    let mut core = holding_pair(&rt, rt.alloc());
-    assert!(rt; words_of(&rt, &core, 0) == [0, 0]);
-    store_word(&rt, &mut core, 0, 1, 7);
-    assert!(rt; words_of(&rt, &core, 0) == [0, 7]);
-    store_word(&rt, &mut core, 0, 0, u64::MAX);
-    assert!(rt; words_of(&rt, &core, 0) == [u64::MAX, 7]);
-    answers(&rt, &mut core, &[loaded(0, 0, u64::MAX), loaded(0, 1, 7)]);
-}
-
-#[test]
-fn zeros_are_put(rt: HostRuntime) {
-    let mut core = holding_pair(&rt, rt.alloc());
-    answers(
-        &rt,
-        &mut core,
-        &[put(0, 3, 3), put(0, 4, 4), put(0, 5, 5), put(0, 6, 6)],
-    );
-    put_zeros(&rt, &mut core, Place { log: 0, at: 4 }, 2);
-    let words = [
-        word_at(&rt, &core, 3),
-        word_at(&rt, &core, 4),
-        word_at(&rt, &core, 5),
-        word_at(&rt, &core, 6),
-    ];
-    assert!(rt; words == [3, 0, 0, 6]);
+fn several_words_at_once(rt: HostRuntime) {
+    play(&rt, rt.alloc(), PLAYS);
 }

@@ -1,213 +1,175 @@
 //! Each event with its guard false, in each way.
 
-use super::*;
+use crate::tests::acts::Act::*;
+use crate::tests::acts::{Act, Play, TWO_OWNERS};
+use crate::tests::peopled::PEOPLED;
+use crate::tests::stage::play;
+use far_core::Event::*;
+use far_core::Kind;
+use far_core::Reply::*;
+
+const SCOPES: &[Act] = &[Refuses(&[
+    ReadEpoch { owner: 0 },
+    ReadEpoch { owner: 2 },
+    ReadEpoch { owner: 255 },
+    Open { owner: 0 },
+    Open { owner: 1 },
+    Open { owner: 2 },
+    Open { owner: 255 },
+    Close { owner: 1 },
+    Close { owner: 2 },
+    Close { owner: 255 },
+])];
+
+#[rattlefmt::skip]
+const VIEWS: &[Act] = &[
+    Refuses(&[
+        Pin { owner: 0, pointer: 0 },
+        Pin { owner: 0, pointer: 1 },
+        Pin { owner: 0, pointer: 3 },
+        Pin { owner: 0, pointer: 128 },
+        Pin { owner: 1, pointer: 128 },
+        Pin { owner: 1, pointer: 2 },
+        Pin { owner: 2, pointer: 256 },
+        Pin { owner: 0, pointer: u16::MAX },
+        Load { owner: 0, pointer: 0, index: 2 },
+        Load { owner: 0, pointer: 0, index: u16::MAX },
+        Load { owner: 0, pointer: 1, index: 0 },
+        Load { owner: 0, pointer: 2, index: 0 },
+        Load { owner: 1, pointer: 0, index: 0 },
+        Load { owner: 1, pointer: 128, index: 0 },
+        Load { owner: 2, pointer: 256, index: 0 },
+        Load { owner: 255, pointer: u16::MAX, index: 0 },
+    ]),
+];
+
+#[rattlefmt::skip]
+const STORES: &[Act] = &[
+    Refuses(&[
+        Store { owner: 0, pointer: 0, index: 1, word: 0x100 },
+        Store { owner: 0, pointer: 0, index: 1, word: u64::MAX },
+        Store { owner: 0, pointer: 0, index: 2, word: 0 },
+        Store { owner: 0, pointer: 0, index: 2, word: 1 },
+        Store { owner: 0, pointer: 0, index: u16::MAX, word: 1 },
+        Store { owner: 0, pointer: 2, index: 0, word: 1 },
+        Store { owner: 1, pointer: 0, index: 0, word: 1 },
+        Store { owner: 1, pointer: 128, index: 0, word: 1 },
+        Store { owner: 2, pointer: 256, index: 0, word: 1 },
+        Store { owner: 255, pointer: u16::MAX, index: 0, word: 1 },
+    ]),
+];
+
+#[rattlefmt::skip]
+const ADOPTIONS: &[Act] = &[
+    Refuses(&[
+        Adopt { owner: 0, pointer: 0 },
+        Adopt { owner: 0, pointer: 3 },
+        Adopt { owner: 1, pointer: 1 },
+        Adopt { owner: 2, pointer: 1 },
+        Adopt { owner: 2, pointer: 256 },
+        Adopt { owner: 255, pointer: u16::MAX },
+    ]),
+];
+
+#[rattlefmt::skip]
+const PUTS: &[Act] = &[
+    Refuses(&[
+        Put { log: 0, at: 0, word: 0 },
+        Put { log: 0, at: 1, word: 0 },
+        Put { log: 0, at: 8, word: 1 },
+        Put { log: 0, at: 128, word: 0 },
+        Put { log: 3, at: u16::MAX, word: 0 },
+        Put { log: 4, at: 0, word: 0 },
+        Put { log: 255, at: 127, word: 0 },
+    ]),
+];
+
+#[rattlefmt::skip]
+const NAMES_NOTHING: &[Act] = &[
+    Does(Put { log: 0, at: 9, word: 0xa100_0000_0301_0008 }, Done),
+    Refuses(&[
+        Name { pointer: 3, old: 1, new: 0x8400_0000_0901_0008 },
+        Name { pointer: 3, old: 0x8400_0000_0901_0008, new: 0x8400_0000_0901_0008 },
+        Name { pointer: 3, old: 0, new: 0 },
+        Name { pointer: 3, old: 0, new: 0x0000_0000_0001_0008 },
+        Name { pointer: 3, old: 0, new: 0x8400_0000_0001_0000 },
+        Name { pointer: 3, old: 0, new: 0x8400_0000_0001_03f9 },
+        Name { pointer: 3, old: 0, new: 0x8400_0000_7f01_0008 },
+        Name { pointer: 3, old: 0, new: 0x0400_0000_0001_0008 },
+        Name { pointer: 3, old: 0, new: 0x0400_0000_0101_0008 },
+        Name { pointer: 3, old: 0, new: 0x2400_0000_0001_0008 },
+        Name { pointer: 3, old: 0, new: 0xc400_0000_0901_0008 },
+        Name { pointer: 3, old: 0, new: 0xa400_0000_0901_0008 },
+        Name { pointer: 3, old: 0, new: 0x9400_0000_0901_0008 },
+        Name { pointer: 3, old: 0, new: 0x8c00_0000_0901_0008 },
+        Name { pointer: 3, old: 0, new: 0x8400_0000_0901_0007 },
+        Name { pointer: 3, old: 0, new: 0x8400_0000_0902_0008 },
+        Name { pointer: 4, old: 0, new: 0x8400_0000_0901_0008 },
+        Name { pointer: u16::MAX, old: 0, new: 0x8400_0000_0901_0008 },
+        Name { pointer: 2, old: 0x8400_0000_0701_0008, new: 0x8400_0000_0901_0008 },
+        Name { pointer: 2, old: 0x8400_0000_0701_0008, new: 0 },
+    ]),
+    Does(Name { pointer: 3, old: 0, new: 0x8400_0000_0901_0008 }, Done),
+];
+
+#[rattlefmt::skip]
+const NOT_NEXT: &[Act] = &[
+    Does(Put { log: 0, at: 11, word: 0xa100_0000_0301_0008 }, Done),
+    Does(Put { log: 1, at: 1, word: 0xa100_0000_0301_0008 }, Done),
+    Does(Put { log: 0, at: 9, word: 0xa100_0001_0001_0008 }, Done),
+    Refuses(&[
+        Name { pointer: 3, old: 0, new: 0x8400_0000_0b01_0008 },
+        Name { pointer: 3, old: 0, new: 0x8400_0004_0101_0008 },
+        Name { pointer: 3, old: 0, new: 0x8400_0004_0001_0008 },
+        Name { pointer: 3, old: 0, new: 0x8400_0010_0001_0008 },
+        Name { pointer: 256, old: 0, new: 0x8400_0000_0901_0008 },
+        Name { pointer: 2, old: 0, new: 0x8400_0000_0701_0008 },
+        Name { pointer: 1, old: 0, new: 0x8400_0000_0301_0008 },
+    ]),
+];
+
+#[rattlefmt::skip]
+const NOT_ZERO: &[Act] = &[
+    Does(Put { log: 0, at: 9, word: 0xa100_0000_0301_0009 }, Done),
+    Does(Put { log: 0, at: 10, word: 1 }, Done),
+    Refuses(&[Name { pointer: 3, old: 0, new: 0x8400_0000_0901_0009 }]),
+    Does(Put { log: 0, at: 10, word: 0 }, Done),
+    Does(Put { log: 0, at: 11, word: 1 << 63 }, Done),
+    Refuses(&[Name { pointer: 3, old: 0, new: 0x8400_0000_0901_0009 }]),
+    Does(Put { log: 0, at: 11, word: 0 }, Done),
+    Does(Put { log: 0, at: 12, word: 1 }, Done),
+    Does(Name { pointer: 3, old: 0, new: 0x8400_0000_0901_0009 }, Done),
+    Log(0, Kind::Open, 12),
+];
+
+#[rattlefmt::skip]
+const SEALED: &[Act] = &[
+    Does(Put { log: 0, at: 9, word: 0xa100_0000_0401_0008 }, Done),
+    Does(Put { log: 2, at: 0, word: 0xa100_0000_0301_0008 }, Done),
+    Does(Name { pointer: 3, old: 0, new: 0x8400_0008_0001_0008 }, Done),
+    Log(0, Kind::Sealed, 9),
+    OpenLog(2),
+    Refuses(&[
+        Name { pointer: 4, old: 0, new: 0x8400_0000_0901_0008 },
+        Put { log: 0, at: 9, word: 0 },
+        Put { log: 0, at: 127, word: 0 },
+    ]),
+];
+
+#[rattlefmt::skip]
+const PLAYS: &[Play] = &[
+    Play { name: "scopes_refuse", shape: TWO_OWNERS, honest: true, parts: &[PEOPLED, SCOPES] },
+    Play { name: "views_refuse", shape: TWO_OWNERS, honest: true, parts: &[PEOPLED, VIEWS] },
+    Play { name: "stores_refuse", shape: TWO_OWNERS, honest: true, parts: &[PEOPLED, STORES] },
+    Play { name: "adoptions_refuse", shape: TWO_OWNERS, honest: true, parts: &[PEOPLED, ADOPTIONS] },
+    Play { name: "puts_refuse", shape: TWO_OWNERS, honest: true, parts: &[PEOPLED, PUTS] },
+    Play { name: "words_that_name_nothing_refuse", shape: TWO_OWNERS, honest: true, parts: &[PEOPLED, NAMES_NOTHING] },
+    Play { name: "places_that_are_not_next_refuse", shape: TWO_OWNERS, honest: true, parts: &[PEOPLED, NOT_NEXT] },
+    Play { name: "data_that_is_not_zero_refuses", shape: TWO_OWNERS, honest: true, parts: &[PEOPLED, NOT_ZERO] },
+    Play { name: "sealed_log_refuses", shape: TWO_OWNERS, honest: true, parts: &[PEOPLED, SEALED] },
+];
 
 #[test]
-fn scopes_refuse(rt: HostRuntime) {
-    let core = peopled(&rt, rt.alloc());
-    goes_so(
-        &rt,
-        core,
-        &[],
-        &[
-            Event::ReadEpoch { owner: 0 },
-            Event::ReadEpoch { owner: 2 },
-            Event::ReadEpoch { owner: 255 },
-            Event::Open { owner: 0 },
-            Event::Open { owner: 1 },
-            Event::Open { owner: 2 },
-            Event::Open { owner: 255 },
-            Event::Close { owner: 1 },
-            Event::Close { owner: 2 },
-            Event::Close { owner: 255 },
-        ],
-    );
-}
-
-#[test]
-fn views_refuse(rt: HostRuntime) {
-    let core = peopled(&rt, rt.alloc());
-    goes_so(
-        &rt,
-        core,
-        &[],
-        &[
-            pin(0, 0),
-            pin(0, 1),
-            pin(0, 3),
-            pin(0, 128),
-            pin(1, 128),
-            pin(1, 2),
-            pin(2, 256),
-            pin(0, u16::MAX),
-            load(0, 0, 2),
-            load(0, 0, u16::MAX),
-            load(0, 1, 0),
-            load(0, 2, 0),
-            load(1, 0, 0),
-            load(1, 128, 0),
-            load(2, 256, 0),
-            load(255, u16::MAX, 0),
-        ],
-    );
-}
-
-#[test]
-fn stores_refuse(rt: HostRuntime) {
-    let core = peopled(&rt, rt.alloc());
-    goes_so(
-        &rt,
-        core,
-        &[],
-        &[
-            store(0, 0, 1, 0x100),
-            store(0, 0, 1, u64::MAX),
-            store(0, 0, 2, 0),
-            store(0, 0, 2, 1),
-            store(0, 0, u16::MAX, 1),
-            store(0, 2, 0, 1),
-            store(1, 0, 0, 1),
-            store(1, 128, 0, 1),
-            store(2, 256, 0, 1),
-            store(255, u16::MAX, 0, 1),
-        ],
-    );
-}
-
-#[test]
-fn adoptions_refuse(rt: HostRuntime) {
-    let core = peopled(&rt, rt.alloc());
-    goes_so(
-        &rt,
-        core,
-        &[],
-        &[
-            adopt(0, 0),
-            adopt(0, 3),
-            adopt(1, 1),
-            adopt(2, 1),
-            adopt(2, 256),
-            adopt(255, u16::MAX),
-        ],
-    );
-}
-
-#[test]
-fn puts_refuse(rt: HostRuntime) {
-    let core = peopled(&rt, rt.alloc());
-    goes_so(
-        &rt,
-        core,
-        &[],
-        &[
-            write(0, 0, 0),
-            write(0, 1, 0),
-            write(0, 8, 1),
-            write(0, 128, 0),
-            write(3, u16::MAX, 0),
-            write(4, 0, 0),
-            write(255, 127, 0),
-        ],
-    );
-}
-
-#[test]
-fn words_that_name_nothing_refuse(rt: HostRuntime) {
-    let mut core = peopled(&rt, rt.alloc());
-    answers(&rt, &mut core, &[put(0, 9, 0xa100_0000_0301_0008)]);
-    refuses(
-        &rt,
-        &mut core,
-        &[
-            name(3, 1, 0x8400_0000_0901_0008),
-            name(3, 0x8400_0000_0901_0008, 0x8400_0000_0901_0008),
-            name(3, 0, 0),
-            name(3, 0, 0x0000_0000_0001_0008),
-            name(3, 0, 0x8400_0000_0001_0000),
-            name(3, 0, 0x8400_0000_0001_03f9),
-            name(3, 0, 0x8400_0000_7f01_0008),
-            name(3, 0, 0x0400_0000_0001_0008),
-            name(3, 0, 0x0400_0000_0101_0008),
-            name(3, 0, 0x2400_0000_0001_0008),
-            name(3, 0, 0xc400_0000_0901_0008),
-            name(3, 0, 0xa400_0000_0901_0008),
-            name(3, 0, 0x9400_0000_0901_0008),
-            name(3, 0, 0x8c00_0000_0901_0008),
-            name(3, 0, 0x8400_0000_0901_0007),
-            name(3, 0, 0x8400_0000_0902_0008),
-            name(4, 0, 0x8400_0000_0901_0008),
-            name(u16::MAX, 0, 0x8400_0000_0901_0008),
-            name(2, 0x8400_0000_0701_0008, 0x8400_0000_0901_0008),
-            name(2, 0x8400_0000_0701_0008, 0),
-        ],
-    );
-    answers(&rt, &mut core, &[named(3, 0x8400_0000_0901_0008)]);
-}
-
-#[test]
-fn places_that_are_not_next_refuse(rt: HostRuntime) {
-    let core = peopled(&rt, rt.alloc());
-    goes_so(
-        &rt,
-        core,
-        &[
-            put(0, 11, 0xa100_0000_0301_0008),
-            put(1, 1, 0xa100_0000_0301_0008),
-            put(0, 9, 0xa100_0001_0001_0008),
-        ],
-        &[
-            name(3, 0, 0x8400_0000_0b01_0008),
-            name(3, 0, 0x8400_0004_0101_0008),
-            name(3, 0, 0x8400_0004_0001_0008),
-            name(3, 0, 0x8400_0010_0001_0008),
-            name(256, 0, 0x8400_0000_0901_0008),
-            name(2, 0, 0x8400_0000_0701_0008),
-            name(1, 0, 0x8400_0000_0301_0008),
-        ],
-    );
-}
-
-#[test]
-fn data_that_is_not_zero_refuses(rt: HostRuntime) {
-    let mut core = peopled(&rt, rt.alloc());
-    let new = 0x8400_0000_0901_0009;
-    answers(
-        &rt,
-        &mut core,
-        &[put(0, 9, 0xa100_0000_0301_0009), put(0, 10, 1)],
-    );
-    refuses(&rt, &mut core, &[name(3, 0, new)]);
-    answers(&rt, &mut core, &[put(0, 10, 0), put(0, 11, 1 << 63)]);
-    refuses(&rt, &mut core, &[name(3, 0, new)]);
-    answers(
-        &rt,
-        &mut core,
-        &[put(0, 11, 0), put(0, 12, 1), named(3, new)],
-    );
-    assert!(rt; log_shown(&rt, &core, 0) == (Kind::Open, 12));
-}
-
-#[test]
-fn sealed_log_refuses(rt: HostRuntime) {
-    let mut core = peopled(&rt, rt.alloc());
-    answers(
-        &rt,
-        &mut core,
-        &[
-            put(0, 9, 0xa100_0000_0401_0008),
-            put(2, 0, 0xa100_0000_0301_0008),
-            named(3, 0x8400_0008_0001_0008),
-        ],
-    );
-    assert!(rt; log_shown(&rt, &core, 0) == (Kind::Sealed, 9));
-    assert!(rt; core.open_log() == 2);
-    refuses(
-        &rt,
-        &mut core,
-        &[
-            name(4, 0, 0x8400_0000_0901_0008),
-            write(0, 9, 0),
-            write(0, 127, 0),
-        ],
-    );
+fn events_are_refused(rt: HostRuntime) {
+    play(&rt, rt.alloc(), PLAYS);
 }

@@ -1,11 +1,14 @@
 //! Rounds: how they begin, who is seen clear in them, and what may be done to their objects then.
 
-use super::*;
-use far_word::Mark;
-
-const HEADER: u64 = 0xa100_0000_0001_0008;
-
-const NEAR: u64 = 0x8400_0000_0001_0008;
+use crate::tests::acts::Act::*;
+use crate::tests::acts::{Act, Play, SMALL, TWO_OWNERS};
+use crate::tests::peopled::{HEADER, NEAR, SETTLED};
+use crate::tests::stage::play;
+use far_core::Event::*;
+use far_core::Reply::*;
+use far_core::Shape;
+use far_word::Mark::Dropped;
+use far_word::Place;
 
 const WITH_EVAC: u64 = 0xa400_0000_0001_0008;
 
@@ -15,220 +18,145 @@ const WITH_HOT_AND_EVAC: u64 = 0xe400_0000_0001_0008;
 
 const FAR: u64 = 0x0400_0000_0001_0008;
 
-const NEXT: u64 = 0x8400_0004_0001_0008;
-
 const MOVED: u64 = 0x8400_0004_0201_0008;
 
-fn advance(logs: u64) -> Event {
-    Event::Advance { logs }
-}
+#[rattlefmt::skip]
+const BEGINS: &[Act] = &[
+    Refuses(&[
+        Advance { logs: 1 },
+        Advance { logs: 2 },
+        Advance { logs: 4 },
+        Advance { logs: 16 },
+        Advance { logs: 1 << 63 },
+    ]),
+    Does(Mark { pointer: 0 }, Word(NEAR)),
+    Refuses(&[
+        Advance { logs: 2 },
+        Advance { logs: 3 },
+        Advance { logs: 17 },
+        Advance { logs: 1 | 1 << 63 },
+    ]),
+    Does(Advance { logs: 1 }, Epoch(1)),
+    InRound(0, true),
+    InRound(1, false),
+    SeenClear(0, false),
+    Begun(1, true),
+];
 
-fn advanced(logs: u64, epoch: u64) -> (Event, Reply) {
-    (Event::Advance { logs }, Reply::Epoch(epoch))
-}
+#[rattlefmt::skip]
+const DROPPED_TOO: &[Act] = &[
+    Does(Ask { owner: 0, pointer: 0, mark: Dropped }, Word(NEAR)),
+    Refuses(&[Advance { logs: 1 }]),
+    Does(Mark { pointer: 0 }, Word(NEAR | 1 << 59)),
+    Does(Advance { logs: 1 }, Epoch(1)),
+];
 
-fn looked(owner: u8, word: u64) -> (Event, Reply) {
-    (Event::Look { owner }, Reply::Word(word))
-}
+const LAST_BUT_ONE: Shape = Shape {
+    logs: 4,
+    mutators: 1,
+    epoch: (1 << 62) - 2,
+};
 
-fn marked(pointer: u16, cell: u64) -> (Event, Reply) {
-    (Event::Mark { pointer }, Reply::Word(cell))
-}
+const LAST_EPOCH: &[Act] = &[
+    Does(Advance { logs: 0 }, Epoch((1 << 62) - 1)),
+    Refuses(&[Advance { logs: 0 }]),
+];
 
-fn epoch_read(owner: u8, epoch: u64) -> (Event, Reply) {
-    (Event::ReadEpoch { owner }, Reply::Epoch(epoch))
-}
+const ONE_IS_CLEAR: &[Act] = &[
+    Does(ReadEpoch { owner: 0 }, Epoch(5)),
+    Does(ReadEpoch { owner: 1 }, Epoch(5)),
+    Does(Open { owner: 1 }, Done),
+    Does(Mark { pointer: 0 }, Word(NEAR)),
+    Does(Advance { logs: 1 }, Epoch(6)),
+    Does(Look { owner: 1 }, Word(11)),
+    SeenClear(1, false),
+    Does(Look { owner: 0 }, Word(0)),
+    SeenClear(0, true),
+];
 
-fn opened(owner: u8) -> (Event, Reply) {
-    (Event::Open { owner }, Reply::Done)
-}
+const BOTH_ARE_CLEAR: &[Act] = &[
+    Does(Open { owner: 0 }, Done),
+    Does(Look { owner: 0 }, Word(11)),
+    Does(Close { owner: 1 }, Done),
+    Does(ReadEpoch { owner: 1 }, Epoch(6)),
+    Does(Open { owner: 1 }, Done),
+    Does(Look { owner: 1 }, Word(13)),
+    SeenClear(0, true),
+    SeenClear(1, true),
+    Refuses(&[Look { owner: 2 }]),
+    Does(Advance { logs: 1 }, Epoch(7)),
+    SeenClear(0, false),
+    SeenClear(1, false),
+];
 
-fn closed(owner: u8) -> (Event, Reply) {
-    (Event::Close { owner }, Reply::Done)
-}
+#[rattlefmt::skip]
+const STALE: &[Act] = &[
+    Does(ReadEpoch { owner: 0 }, Epoch(0)),
+    Does(Open { owner: 0 }, Done),
+    Does(Pin { owner: 0, pointer: 0 }, Held(Place { log: 0, at: 0 })),
+    Does(Store { owner: 0, pointer: 0, index: 0, word: 0xaa }, Done),
+    Does(Close { owner: 0 }, Done),
+    Does(ReadEpoch { owner: 0 }, Epoch(0)),
+    Does(Mark { pointer: 0 }, Word(WITH_HOT)),
+    Does(Advance { logs: 1 }, Epoch(1)),
+    Does(Look { owner: 0 }, Word(0)),
+    Does(Open { owner: 0 }, Done),
+    Does(Pin { owner: 0, pointer: 0 }, Word(WITH_HOT_AND_EVAC)),
+    Pointer(0, WITH_HOT_AND_EVAC, true, false),
+];
 
-/// A core whose sealed log 0 has pointer 0's object, which its owner uses, and whose log 1 is open, with pointer 1's.
-fn settled(rt: &impl Abort, alloc: Global, shape: Shape) -> Core {
-    let mut core = made(rt, alloc, shape, true);
-    answers(
-        rt,
-        &mut core,
-        &[
-            put(0, 0, HEADER),
-            named(0, NEAR),
-            put(1, 0, 0xa100_0000_0101_0008),
-            named(1, NEXT),
-            adopted(0, 0, NEAR),
-        ],
-    );
-    core
-}
+#[rattlefmt::skip]
+const SENT_FAR: &[Act] = &[
+    Does(Look { owner: 0 }, Word(0)),
+    Does(Mark { pointer: 0 }, Word(NEAR)),
+    Refuses(&[Name { pointer: 0, old: WITH_EVAC, new: FAR }]),
+    Does(Advance { logs: 1 }, Epoch(1)),
+    Refuses(&[Name { pointer: 0, old: WITH_EVAC, new: FAR }]),
+    Does(Look { owner: 0 }, Word(0)),
+    Does(Name { pointer: 0, old: WITH_EVAC, new: FAR }, Done),
+    Does(Get { log: 0, at: 0, free: true }, Word(HEADER)),
+    InRound(0, false),
+];
 
-#[test]
-fn a_round_begins(rt: HostRuntime) {
-    let mut core = settled(&rt, rt.alloc(), SMALL);
-    refuses(
-        &rt,
-        &mut core,
-        &[
-            advance(1),
-            advance(2),
-            advance(4),
-            advance(16),
-            advance(1 << 63),
-        ],
-    );
-    answers(&rt, &mut core, &[marked(0, NEAR)]);
-    refuses(
-        &rt,
-        &mut core,
-        &[advance(2), advance(3), advance(17), advance(1 | 1 << 63)],
-    );
-    answers(&rt, &mut core, &[advanced(1, 1)]);
-    assert!(rt; core.is_in_round(0));
-    assert!(rt; !core.is_in_round(1));
-    assert!(rt; !core.is_clear(0));
-    assert!(rt; core.epoch() == 1);
-}
+#[rattlefmt::skip]
+const MOVED_BY_ROUND: &[Act] = &[
+    Does(Mark { pointer: 0 }, Word(NEAR)),
+    Does(Put { log: 1, at: 2, word: HEADER }, Done),
+    May(Advance { logs: 1 }, true),
+    Calls(Advance { logs: 1 }, Epoch(1)),
+    Calls(Look { owner: 0 }, Word(0)),
+    Does(Name { pointer: 0, old: WITH_EVAC, new: MOVED }, Done),
+];
 
-#[test]
-fn a_dropped_object_is_marked_too(rt: HostRuntime) {
-    let mut core = settled(&rt, rt.alloc(), SMALL);
-    let ask = Event::Ask {
-        owner: 0,
-        pointer: 0,
-        mark: Mark::Dropped,
-    };
-    answers(&rt, &mut core, &[(ask, Reply::Word(NEAR))]);
-    refuses(&rt, &mut core, &[advance(1)]);
-    answers(&rt, &mut core, &[marked(0, NEAR | 1 << 59), advanced(1, 1)]);
-}
+#[rattlefmt::skip]
+const CLEARED: &[Act] = &[
+    Does(Mark { pointer: 0 }, Word(NEAR)),
+    Does(Advance { logs: 1 }, Epoch(1)),
+    Does(Look { owner: 0 }, Word(0)),
+    Does(Clear { pointer: 0 }, Word(WITH_EVAC)),
+    Does(Mark { pointer: 0 }, Word(NEAR)),
+    InRound(0, false),
+    Refuses(&[Name { pointer: 0, old: WITH_EVAC, new: FAR }]),
+];
 
-#[test]
-fn the_epoch_stays_below_its_end(rt: HostRuntime) {
-    let shape = Shape {
-        logs: 4,
-        mutators: 1,
-        epoch: (1 << 62) - 2,
-    };
-    let mut core = made(&rt, rt.alloc(), shape, true);
-    answers(&rt, &mut core, &[advanced(0, (1 << 62) - 1)]);
-    refuses(&rt, &mut core, &[advance(0)]);
-}
-
-#[test]
-fn who_is_seen_clear(rt: HostRuntime) {
-    let mut core = settled(&rt, rt.alloc(), TWO_OWNERS);
-    answers(
-        &rt,
-        &mut core,
-        &[
-            epoch_read(0, 5),
-            epoch_read(1, 5),
-            opened(1),
-            marked(0, NEAR),
-            advanced(1, 6),
-            looked(1, 11),
-        ],
-    );
-    assert!(rt; !core.is_clear(1));
-    answers(&rt, &mut core, &[looked(0, 0)]);
-    assert!(rt; core.is_clear(0));
-    answers(
-        &rt,
-        &mut core,
-        &[
-            opened(0),
-            looked(0, 11),
-            closed(1),
-            epoch_read(1, 6),
-            opened(1),
-            looked(1, 13),
-        ],
-    );
-    assert!(rt; core.is_clear(0));
-    assert!(rt; core.is_clear(1));
-    refuses(&rt, &mut core, &[Event::Look { owner: 2 }]);
-    answers(&rt, &mut core, &[advanced(1, 7)]);
-    assert!(rt; !core.is_clear(0));
-    assert!(rt; !core.is_clear(1));
-}
-
-/// An owner reads the epoch before it rises and opens its scope at it after: it was seen clear, and its pin finds EVAC.
-#[test]
-fn a_stale_epoch_views_nothing(rt: HostRuntime) {
-    let mut core = settled(&rt, rt.alloc(), SMALL);
-    answers(
-        &rt,
-        &mut core,
-        &[
-            epoch_read(0, 0),
-            opened(0),
-            pinned(0, 0, 0),
-            stored(0, 0, 0xaa),
-            closed(0),
-            epoch_read(0, 0),
-            marked(0, WITH_HOT),
-            advanced(1, 1),
-            looked(0, 0),
-            opened(0),
-            (pin(0, 0), Reply::Word(WITH_HOT_AND_EVAC)),
-        ],
-    );
-    assert!(rt; !core.is_held(0));
-}
-
-/// A whole round: its object goes far once its owner is seen clear, and its log is given back.
-#[test]
-fn a_round_sends_an_object_far(rt: HostRuntime) {
-    let mut core = settled(&rt, rt.alloc(), SMALL);
-    answers(&rt, &mut core, &[looked(0, 0), marked(0, NEAR)]);
-    refuses(&rt, &mut core, &[name(0, WITH_EVAC, FAR)]);
-    answers(&rt, &mut core, &[advanced(1, 1)]);
-    refuses(&rt, &mut core, &[name(0, WITH_EVAC, FAR)]);
-    answers(
-        &rt,
-        &mut core,
-        &[
-            looked(0, 0),
-            (name(0, WITH_EVAC, FAR), Reply::Done),
-            (
-                Event::Get {
-                    log: 0,
-                    at: 0,
-                    free: true,
-                },
-                Reply::Word(HEADER),
-            ),
-        ],
-    );
-    assert!(rt; !core.is_in_round(0));
-}
+#[rattlefmt::skip]
+const PLAYS: &[Play] = &[
+    Play { name: "a_round_begins", shape: SMALL, honest: true, parts: &[SETTLED, BEGINS] },
+    Play { name: "a_dropped_object_is_marked_too", shape: SMALL, honest: true, parts: &[SETTLED, DROPPED_TOO] },
+    Play { name: "the_epoch_stays_below_its_end", shape: LAST_BUT_ONE, honest: true, parts: &[LAST_EPOCH] },
+    Play {
+        name: "who_is_seen_clear", shape: TWO_OWNERS, honest: true,
+        parts: &[SETTLED, ONE_IS_CLEAR, BOTH_ARE_CLEAR],
+    },
+    // An owner reads the epoch before it rises and opens its scope at it after: it was seen clear, and its pin finds EVAC.
+    Play { name: "a_stale_epoch_views_nothing", shape: SMALL, honest: true, parts: &[SETTLED, STALE] },
+    // A whole round: its object goes far once its owner is seen clear, and its log is given back.
+    Play { name: "a_round_sends_an_object_far", shape: SMALL, honest: true, parts: &[SETTLED, SENT_FAR] },
+    Play { name: "a_round_moves_an_object", shape: SMALL, honest: true, parts: &[SETTLED, MOVED_BY_ROUND] },
+    Play { name: "a_cleared_log_leaves_the_round", shape: SMALL, honest: true, parts: &[SETTLED, CLEARED] },
+];
 
 #[test]
-fn a_round_moves_an_object(rt: HostRuntime) {
-    let mut core = settled(&rt, rt.alloc(), SMALL);
-    answers(&rt, &mut core, &[marked(0, NEAR), put(1, 2, HEADER)]);
-    assert!(rt; core.may_advance(1));
-    assert!(rt; core.advance(1) == 1);
-    assert!(rt; core.look(0) == 0);
-    answers(&rt, &mut core, &[(name(0, WITH_EVAC, MOVED), Reply::Done)]);
-}
-
-#[test]
-fn a_cleared_log_leaves_the_round(rt: HostRuntime) {
-    let mut core = settled(&rt, rt.alloc(), SMALL);
-    answers(
-        &rt,
-        &mut core,
-        &[
-            marked(0, NEAR),
-            advanced(1, 1),
-            looked(0, 0),
-            (Event::Clear { pointer: 0 }, Reply::Word(WITH_EVAC)),
-            marked(0, NEAR),
-        ],
-    );
-    assert!(rt; !core.is_in_round(0));
-    refuses(&rt, &mut core, &[name(0, WITH_EVAC, FAR)]);
+fn rounds_are_made(rt: HostRuntime) {
+    play(&rt, rt.alloc(), PLAYS);
 }

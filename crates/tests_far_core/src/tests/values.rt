@@ -1,8 +1,9 @@
 //! Whether values of the public types that differ compare as different. All other tests rest on it.
 
-use super::*;
-use far_core::Naming;
-use far_word::Mark;
+use far_core::Event::*;
+use far_core::{Event, Kind, Naming, Reply, Shape};
+use far_word::Mark::{Dropped, Moved};
+use far_word::Place;
 
 /// Whether a value is equal to that of the same number among these, and to no other.
 fn is_alone<T: PartialEq>(values: &[T], index: usize, one: &T) -> bool {
@@ -24,156 +25,106 @@ fn all_differ<T: PartialEq>(values: &[T]) -> bool {
     true
 }
 
-fn read_epoch(owner: u8) -> Event {
-    Event::ReadEpoch { owner }
-}
+const START: Place = Place { log: 0, at: 0 };
 
-fn open(owner: u8) -> Event {
-    Event::Open { owner }
-}
+const NEXT_LOG: Place = Place { log: 1, at: 0 };
 
-fn close(owner: u8) -> Event {
-    Event::Close { owner }
-}
-
-fn see(pointer: u16) -> Event {
-    Event::See { pointer }
-}
-
-fn mark(pointer: u16) -> Event {
-    Event::Mark { pointer }
-}
-
-fn clear(pointer: u16) -> Event {
-    Event::Clear { pointer }
-}
-
-fn ask(owner: u8, pointer: u16, mark: Mark) -> Event {
-    Event::Ask {
-        owner,
-        pointer,
-        mark,
-    }
-}
-
-fn advance(logs: u64) -> Event {
-    Event::Advance { logs }
-}
-
-fn look(owner: u8) -> Event {
-    Event::Look { owner }
-}
-
-fn get(log: u8, at: u16, free: bool) -> Event {
-    Event::Get { log, at, free }
-}
-
-fn moves(len: u16, ds: u8, from: (u8, u16), to: (u8, u16)) -> Naming {
-    Naming::Moves {
-        len,
-        ds,
-        from: Place {
-            log: from.0,
-            at: from.1,
-        },
-        to: Place {
-            log: to.0,
-            at: to.1,
-        },
-    }
-}
+const NEXT_WORD: Place = Place { log: 0, at: 1 };
 
 /// A row an event: zeros, and each field changed.
 #[rattlefmt::skip]
-fn events() -> [Event; 48] {
-    [
-        read_epoch(0), read_epoch(1),
-        open(0), open(1),
-        pin(0, 0), pin(1, 0), pin(0, 1),
-        load(0, 0, 0), load(1, 0, 0), load(0, 1, 0), load(0, 0, 1),
-        store(0, 0, 0, 0), store(1, 0, 0, 0), store(0, 1, 0, 0), store(0, 0, 1, 0), store(0, 0, 0, 1),
-        close(0), close(1),
-        adopt(0, 0), adopt(1, 0), adopt(0, 1),
-        write(0, 0, 0), write(1, 0, 0), write(0, 1, 0), write(0, 0, 1),
-        name(0, 0, 0), name(1, 0, 0), name(0, 1, 0), name(0, 0, 1),
-        see(0), see(1),
-        mark(0), mark(1),
-        clear(0), clear(1),
-        advance(0), advance(1),
-        look(0), look(1),
-        ask(0, 0, Mark::Moved), ask(1, 0, Mark::Moved), ask(0, 1, Mark::Moved), ask(0, 0, Mark::Dropped),
-        get(0, 0, false), get(1, 0, false), get(0, 1, false), get(0, 0, true),
-        Event::Name { pointer: 0, old: 1, new: 1 },
-    ]
-}
+const EVENTS: &[Event] = &[
+    ReadEpoch { owner: 0 }, ReadEpoch { owner: 1 },
+    Open { owner: 0 }, Open { owner: 1 },
+    Pin { owner: 0, pointer: 0 }, Pin { owner: 1, pointer: 0 }, Pin { owner: 0, pointer: 1 },
+    Load { owner: 0, pointer: 0, index: 0 }, Load { owner: 1, pointer: 0, index: 0 },
+    Load { owner: 0, pointer: 1, index: 0 }, Load { owner: 0, pointer: 0, index: 1 },
+    Store { owner: 0, pointer: 0, index: 0, word: 0 }, Store { owner: 1, pointer: 0, index: 0, word: 0 },
+    Store { owner: 0, pointer: 1, index: 0, word: 0 }, Store { owner: 0, pointer: 0, index: 1, word: 0 },
+    Store { owner: 0, pointer: 0, index: 0, word: 1 },
+    Close { owner: 0 }, Close { owner: 1 },
+    Adopt { owner: 0, pointer: 0 }, Adopt { owner: 1, pointer: 0 }, Adopt { owner: 0, pointer: 1 },
+    Put { log: 0, at: 0, word: 0 }, Put { log: 1, at: 0, word: 0 },
+    Put { log: 0, at: 1, word: 0 }, Put { log: 0, at: 0, word: 1 },
+    Name { pointer: 0, old: 0, new: 0 }, Name { pointer: 1, old: 0, new: 0 },
+    Name { pointer: 0, old: 1, new: 0 }, Name { pointer: 0, old: 0, new: 1 },
+    See { pointer: 0 }, See { pointer: 1 },
+    Mark { pointer: 0 }, Mark { pointer: 1 },
+    Clear { pointer: 0 }, Clear { pointer: 1 },
+    Advance { logs: 0 }, Advance { logs: 1 },
+    Look { owner: 0 }, Look { owner: 1 },
+    Offer { job: 0, pointer: 0, to: START }, Offer { job: 1, pointer: 0, to: START }, Offer { job: 0, pointer: 1, to: START },
+    Offer { job: 0, pointer: 0, to: NEXT_LOG }, Offer { job: 0, pointer: 0, to: NEXT_WORD },
+    PeekJob { copier: 0, job: 0 }, PeekJob { copier: 1, job: 0 }, PeekJob { copier: 0, job: 1 },
+    SeeJob { job: 0 }, SeeJob { job: 1 },
+    Claim { copier: 0, job: 0, old: 0 }, Claim { copier: 1, job: 0, old: 0 },
+    Claim { copier: 0, job: 1, old: 0 }, Claim { copier: 0, job: 0, old: 1 },
+    ReadLength { copier: 0 }, ReadLength { copier: 1 },
+    Read { copier: 0, index: 0 }, Read { copier: 1, index: 0 }, Read { copier: 0, index: 1 },
+    Write { copier: 0, index: 0 }, Write { copier: 1, index: 0 }, Write { copier: 0, index: 1 },
+    Finish { copier: 0 }, Finish { copier: 1 },
+    Collect { job: 0, old: 0 }, Collect { job: 1, old: 0 }, Collect { job: 0, old: 1 },
+    Ask { owner: 0, pointer: 0, mark: Moved }, Ask { owner: 1, pointer: 0, mark: Moved },
+    Ask { owner: 0, pointer: 1, mark: Moved }, Ask { owner: 0, pointer: 0, mark: Dropped },
+    Get { log: 0, at: 0, free: false }, Get { log: 1, at: 0, free: false },
+    Get { log: 0, at: 1, free: false }, Get { log: 0, at: 0, free: true },
+    Name { pointer: 0, old: 1, new: 1 },
+];
 
 #[test]
 fn events_differ(rt: HostRuntime) {
-    assert!(rt; all_differ(&events()));
+    assert!(rt; all_differ(EVENTS));
 }
+
+const REPLIES: &[Reply] = &[
+    Reply::Refused,
+    Reply::Done,
+    Reply::Epoch(0),
+    Reply::Epoch(1),
+    Reply::Epoch(1 << 63),
+    Reply::Word(0),
+    Reply::Word(1),
+    Reply::Word(1 << 63),
+    Reply::Held(Place { log: 0, at: 0 }),
+    Reply::Held(Place { log: 1, at: 0 }),
+    Reply::Held(Place { log: 0, at: 1 }),
+];
 
 #[test]
 fn replies_differ(rt: HostRuntime) {
-    assert!(rt;
-        all_differ(&[
-            Reply::Refused,
-            Reply::Done,
-            Reply::Epoch(0),
-            Reply::Epoch(1),
-            Reply::Epoch(1 << 63),
-            Reply::Word(0),
-            Reply::Word(1),
-            Reply::Word(1 << 63),
-            Reply::Held(Place { log: 0, at: 0 }),
-            Reply::Held(Place { log: 1, at: 0 }),
-            Reply::Held(Place { log: 0, at: 1 }),
-        ])
-    );
+    assert!(rt; all_differ(REPLIES));
 }
+
+#[rattlefmt::skip]
+const NAMINGS: &[Naming] = &[
+    Naming::Retires,
+    Naming::Moves { len: 8, ds: 1, from: START, to: NEXT_LOG },
+    Naming::Moves { len: 9, ds: 1, from: START, to: NEXT_LOG },
+    Naming::Moves { len: 8, ds: 2, from: START, to: NEXT_LOG },
+    Naming::Moves { len: 8, ds: 1, from: Place { log: 2, at: 0 }, to: NEXT_LOG },
+    Naming::Moves { len: 8, ds: 1, from: NEXT_WORD, to: NEXT_LOG },
+    Naming::Moves { len: 8, ds: 1, from: START, to: Place { log: 2, at: 0 } },
+    Naming::Moves { len: 8, ds: 1, from: START, to: Place { log: 1, at: 1 } },
+    Naming::Fetches { len: 8, ds: 1, place: START },
+    Naming::Fetches { len: 9, ds: 1, place: START },
+    Naming::Fetches { len: 8, ds: 2, place: START },
+    Naming::Fetches { len: 8, ds: 1, place: NEXT_LOG },
+    Naming::Fetches { len: 8, ds: 1, place: NEXT_WORD },
+    Naming::Stays,
+    Naming::Evicts { len: 8, place: START },
+    Naming::Evicts { len: 9, place: START },
+    Naming::Evicts { len: 8, place: NEXT_LOG },
+    Naming::Evicts { len: 8, place: NEXT_WORD },
+    Naming::Places { len: 8, ds: 1, place: START },
+    Naming::Places { len: 9, ds: 1, place: START },
+    Naming::Places { len: 8, ds: 2, place: START },
+    Naming::Places { len: 8, ds: 1, place: NEXT_LOG },
+    Naming::Places { len: 8, ds: 1, place: NEXT_WORD },
+];
 
 #[test]
 fn namings_differ(rt: HostRuntime) {
-    let places = |len, ds, log, at| Naming::Places {
-        len,
-        ds,
-        place: Place { log, at },
-    };
-    let fetches = |len, ds, log, at| Naming::Fetches {
-        len,
-        ds,
-        place: Place { log, at },
-    };
-    let evicts = |len, log, at| Naming::Evicts {
-        len,
-        place: Place { log, at },
-    };
-    assert!(rt;
-        all_differ(&[
-            Naming::Retires,
-            moves(8, 1, (0, 0), (1, 0)),
-            moves(9, 1, (0, 0), (1, 0)),
-            moves(8, 2, (0, 0), (1, 0)),
-            moves(8, 1, (2, 0), (1, 0)),
-            moves(8, 1, (0, 1), (1, 0)),
-            moves(8, 1, (0, 0), (2, 0)),
-            moves(8, 1, (0, 0), (1, 1)),
-            fetches(8, 1, 0, 0),
-            fetches(9, 1, 0, 0),
-            fetches(8, 2, 0, 0),
-            fetches(8, 1, 1, 0),
-            fetches(8, 1, 0, 1),
-            Naming::Stays,
-            evicts(8, 0, 0),
-            evicts(9, 0, 0),
-            evicts(8, 1, 0),
-            evicts(8, 0, 1),
-            places(8, 1, 0, 0),
-            places(9, 1, 0, 0),
-            places(8, 2, 0, 0),
-            places(8, 1, 1, 0),
-            places(8, 1, 0, 1),
-        ])
-    );
+    assert!(rt; all_differ(NAMINGS));
 }
 
 #[test]
@@ -181,19 +132,15 @@ fn kinds_differ(rt: HostRuntime) {
     assert!(rt; all_differ(&[Kind::Free, Kind::Open, Kind::Sealed]));
 }
 
+#[rattlefmt::skip]
+const SHAPES: &[Shape] = &[
+    Shape { logs: 0, mutators: 0, epoch: 0 },
+    Shape { logs: 1, mutators: 0, epoch: 0 },
+    Shape { logs: 0, mutators: 1, epoch: 0 },
+    Shape { logs: 0, mutators: 0, epoch: 1 },
+];
+
 #[test]
 fn shapes_differ(rt: HostRuntime) {
-    let shape = |logs, mutators, epoch| Shape {
-        logs,
-        mutators,
-        epoch,
-    };
-    assert!(rt;
-        all_differ(&[
-            shape(0, 0, 0),
-            shape(1, 0, 0),
-            shape(0, 1, 0),
-            shape(0, 0, 1),
-        ])
-    );
+    assert!(rt; all_differ(SHAPES));
 }

@@ -22,10 +22,12 @@ use Rattle.far_core.specs.world.World.{Object, Group, FarSide}
 use Rattle.far_core.specs.world.WorldOf.{world_of, object_of, is_marked}
 use Rattle.far_core.proofs.Bounds.{span_len}
 use Rattle.far_core.proofs.Frames.{rounds_with_cell}
+use Rattle.far_core.specs.state.Jobs.{near_place}
+use Rattle.far_core.proofs.KeepJobs.{copies_with_cell}
 use Rattle.far_core.proofs.NamingOwed.{NamingOwed}
 use Rattle.far_core.proofs.Put.{put_both, put_two, put_same, put_other}
 use Rattle.far_core.proofs.Quieting.{quiet_fact, quiet_test, quiet_unheld}
-use Rattle.far_core.proofs.Touching.{one_cell}
+use Rattle.far_core.proofs.Touching.{same_copier, one_cell}
 use Rattle.far_core.proofs.Worlds.{World-ext}
 
 -- a word that is stored
@@ -87,6 +89,7 @@ module _ (s : State) (law : Law s) (p new len ds : ℕ) (place : Place) (m : Mar
     clears = law.clears;
     unadopted = λ honest q free. put_two (λ w (r : ℕ → ℕ). IsBlank s.word r (read_of w)) s.cell s.stored p new away q
         (λ e. no_zeros honest (ap s.used (sym e) ∙ free)) (λ _. law.unadopted honest q free);
+    copies = copies_with_cell s p new law (λ place is. let odd : None ≡ Some place = sym (ap near_place says) ∙ is in absurd cc);
   }
 
   -- ---- the world
@@ -128,11 +131,12 @@ module _ (s : State) (law : Law s) (p new len ds : ℕ) (place : Place) (m : Mar
 module _ (p new len : ℕ) (place : Place) where
   touch_evict : (s : State) → Touches s (record { word = Some (CellAt p); part = BookView }) (evicts_row s p new len place).after
   touch_evict s = record {
-    words = one_cell s.epoch s.scope s.cell s.word p new;
+    words = one_cell s.epoch s.scope s.cell s.word s.copying.word p new;
     remembered = λ k a b. refl;
     used = λ q a. refl;
     held = λ q a b. refl;
     book = λ ne. absurd (ne refl);
+    copiers = λ c ne. same_copier;
     rest = (refl, refl, refl);
   }
 

@@ -13,6 +13,8 @@ use Rattle.far_core.specs.state.Law.{Law, NamesBack, StoresBack, IsBlank, held_p
 use Rattle.far_core.specs.state.State.{State, put}
 use Rattle.far_core.specs.world.WorldOf.{world_of, object_of, is_marked}
 use Rattle.far_core.proofs.Frames.{rounds_with_cell}
+use Rattle.far_core.specs.state.Jobs.{near_place}
+use Rattle.far_core.proofs.KeepJobs.{copies_with_cell}
 use Rattle.far_core.proofs.NamingOwed.{NamingOwed}
 use Rattle.far_core.proofs.Put.{put_both, put_same}
 use Rattle.far_core.proofs.Touching.{one_cell, touched}
@@ -71,6 +73,7 @@ module _ (s : State) (law : Law s) (p new : ℕ) (fits : new < 2 ^ 64) (cell : p
           far = λ n d k is. let odd : Some Free ≡ Some (Far n d k) = sym free ∙ is in absurd cc;
         })
         (λ _. law.unadopted honest q unadopted);
+    copies = copies_with_cell s p new law (λ place is. let odd : None ≡ Some place = sym (ap near_place free) ∙ is in absurd cc);
   }
 
   pub retire_stays : world_of record s { cell = put s.cell p new } ≡ world_of s
@@ -90,7 +93,7 @@ module _ (p new : ℕ) where
     test = λ s h. refl;
     keeps = λ s made. keeps_retire s made.law p new made.fits made.cell made.naming.0 made.naming.1;
     does = λ s made. retire_stays s made.law p new made.fits made.cell made.naming.0 made.naming.1;
-    within = λ s. touched (one_cell s.epoch s.scope s.cell s.word p new) (λ k a b. refl) (λ q a. refl) (λ q a b. refl);
+    within = λ s. touched (one_cell s.epoch s.scope s.cell s.word s.copying.word p new) (λ k a b. refl) (λ q a. refl) (λ q a b. refl);
     names = λ s. put_same s.cell p new p refl;
     reports = λ s law. refl;
     causes = λ old says. tt;

@@ -55,7 +55,7 @@ module _ (p new : ℕ) where
     test = λ s h. refl;
     keeps = λ s made. let n = made.naming in keeps_stay s p new n.0 n.1 n.2 n.3 made n.4 n.5 n.6 n.7 n.8;
     does = λ s made. let n = made.naming in stay_unmarks s p new n.0 n.1 n.2 n.3 made n.4 n.5 n.6 n.7 n.8;
-    within = λ s. touched (one_cell s.epoch s.scope s.cell s.word p new) (λ k a b. refl) (λ q a. refl) (λ q a b. refl);
+    within = λ s. touched (one_cell s.epoch s.scope s.cell s.word s.copying.word p new) (λ k a b. refl) (λ q a. refl) (λ q a b. refl);
     names = λ s. put_same s.cell p new p refl;
     reports = λ s law. refl;
     causes = λ old says. inr (old, new, refl);

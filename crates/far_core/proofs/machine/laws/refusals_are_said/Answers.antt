@@ -1,4 +1,5 @@
-use Rattle.far_core.proofs.RefusedEvents.{scopes_refused, pointers_refused, words_refused, logs_refused, rounds_refused}
+use Rattle.far_core.proofs.RefusedCopying.{copying_refused}
+use Rattle.far_core.proofs.RefusedEvents.{scopes_refused, pointers_refused, words_refused, logs_refused, rounds_refused, copies_refused}
 use Rattle.far_core.proofs.RefusedNamings.{namings_refused}
 use Rattle.far_core.proofs.machine.laws.refusals_are_said.Goals as goal
 
@@ -17,5 +18,11 @@ returns-clause-logs c = logs_refused
 pub returns-clause-rounds : goal.returns-clause-rounds
 returns-clause-rounds c = rounds_refused
 
+pub returns-clause-copying : goal.returns-clause-copying
+returns-clause-copying c = copying_refused
+
 pub returns-clause-namings : goal.returns-clause-namings
 returns-clause-namings c = namings_refused
+
+pub returns-clause-offers : goal.returns-clause-offers
+returns-clause-offers c = copies_refused

@@ -25,4 +25,5 @@ returns c = λ i. record {
   round_epoch = c.args.shape.epoch;
   clear = λ q. row_of _ _ false (c.in_ok-vec-10.ensures.items_if_clones_equal (λ y e. e)) q i;
   stored = λ p j. c.in_ok-new.ensures.blank p j i;
+  copying = c.in_ok-new-2.ensures i;
 }

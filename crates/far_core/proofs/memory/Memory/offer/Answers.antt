@@ -1,0 +1,13 @@
+use Rattle.std.proofs.Common.{ap, sym, ◌∙◌, Some}
+use Rattle.far_word.specs.Pointer.{read_of}
+use Rattle.far_core.specs.declared.event.Event.TheVariants.{Offer}
+use Rattle.far_core.specs.state.Memory.{state_of}
+use Rattle.far_core.proofs.Owing.{is_fact}
+use Rattle.far_core.proofs.events.Offer.{offer_layout}
+use Rattle.far_core.proofs.memory.Memory.offer.Goals as goal
+
+pub set_offer-requires-clause-layout : goal.set_offer-requires-clause-layout
+set_offer-requires-clause-layout c =
+    let s = state_of c.args.self.now in
+    offer_layout s c.requires.law c.args.job c.args.pointer c.args.to (is_fact s (Offer c.args.job c.args.pointer c.args.to) c.requires.law c.requires.legal)
+    c.in-Near.len c.in-Near.ds c.in-Near.place c.in-Near.marks (ap read_of (sym c.cell.ensures) ∙ c.known.ensures ∙ ap (λ v. Some v) c.in-Near.is)

@@ -1,0 +1,177 @@
+//! One place of the jobs' rows read or written.
+
+ghost use Rattle.std.specs.Prelude.{◌≡◌, ◌+◌, ◌*◌, ◌<◌, ◌≤◌, true, false, Some, None, IfOk, is_some};
+ghost use Rattle.std.specs.Vec.{vec_len};
+ghost use Rattle.far_core.specs.state.Memory.{copying_of};
+ghost use Rattle.far_core.specs.state.Opening.{no_copying};
+ghost use Rattle.far_core.specs.state.State.{Copying, put};
+ghost use Rattle.far_word.specs.declared.sizes.TheConstants.{JOBS, LOG_WORDS, MOST_COPIERS};
+
+use crate::event::Task;
+use crate::memory::jobs::{COPIED, Jobs};
+use far_word::{JOBS, LOG_WORDS, MOST_COPIERS};
+use std::alloc::{AllocError, Global};
+
+#[tactic(auto, unfolding(crate::specs::state::Memory::copying_of))]
+impl Jobs {
+    /// No job, and no copier has one.
+    pub(crate) fn new(alloc: Global) -> Result<Jobs, AllocError>
+        ensures { IfOk result (λ jobs. copying_of jobs ≡ no_copying) }
+    {
+        Ok(Jobs {
+            words: vec![in alloc; 0; JOBS as usize]?,
+            since: vec![in alloc; 0; JOBS as usize]?,
+            named: vec![in alloc; false; JOBS as usize]?,
+            tasks: vec![in alloc; None; MOST_COPIERS as usize]?,
+            lengths: vec![in alloc; None; MOST_COPIERS as usize]?,
+            read: Vec::with_capacity(alloc, COPIED)?,
+            written: Vec::with_capacity(alloc, COPIED)?,
+        })
+    }
+
+    pub(crate) fn word(&self, job: u8) -> u64
+        ensures { result ≡ (copying_of self.now).word job }
+    {
+        self.words.get(job as usize).copied().unwrap_or(0)
+    }
+
+    pub(crate) fn set_word(&mut self, job: u8, word: u64)
+        requires { job < JOBS }
+        ensures { copying_of self.new ≡ record (copying_of self.old) { word = put (copying_of self.old).word job word } }
+    {
+        self.words[job as usize] = word;
+    }
+
+    pub(crate) fn set_since(&mut self, job: u8, epoch: u64)
+        requires { job < JOBS }
+        ensures { copying_of self.new ≡ record (copying_of self.old) { since = put (copying_of self.old).since job epoch } }
+    {
+        self.since[job as usize] = epoch;
+    }
+
+    /// The job's pointer isn't named to its target.
+    pub(crate) fn set_unnamed(&mut self, job: u8)
+        requires { job < JOBS }
+        ensures { copying_of self.new ≡ record (copying_of self.old) { named = put (copying_of self.old).named job false } }
+    {
+        self.named[job as usize] = false;
+    }
+
+    pub(crate) fn has_task(&self, copier: u8) -> bool
+        requires { copier < MOST_COPIERS }
+        ensures { result ≡ is_some ((copying_of self.now).task copier) }
+    {
+        self.tasks[copier as usize].is_some()
+    }
+
+    pub(crate) fn task(&self, copier: u8) -> Option<Task>
+        ensures { result ≡ (copying_of self.now).task copier }
+    {
+        self.tasks.get(copier as usize).copied().flatten()
+    }
+
+    pub(crate) fn has_written(&self, copier: u8, index: u16) -> bool
+        ensures { result ≡ (copying_of self.now).written copier index }
+    {
+        index < LOG_WORDS
+            && self
+                .written
+                .get(copier as usize * LOG_WORDS as usize + index as usize)
+                .copied()
+                .unwrap_or(false)
+    }
+
+    pub(crate) fn read_word(&self, copier: u8, index: u16) -> Option<u64>
+        ensures { result ≡ (copying_of self.now).read copier index }
+    {
+        if index >= LOG_WORDS {
+            return None;
+        }
+        self.read
+            .get(copier as usize * LOG_WORDS as usize + index as usize)
+            .copied()
+            .flatten()
+    }
+
+    /// The rows of words reach as far as a copier's, where nothing was written yet.
+    pub(crate) fn reach(&mut self, copier: u8)
+        requires { copier < MOST_COPIERS }
+        ensures state { copying_of self.new ≡ copying_of self.old }
+        ensures read { copier * LOG_WORDS + LOG_WORDS ≤ vec_len self.new.read }
+        ensures written { copier * LOG_WORDS + LOG_WORDS ≤ vec_len self.new.written }
+    {
+        self.reach_read(copier);
+        self.reach_written(copier);
+    }
+
+    fn reach_read(&mut self, copier: u8)
+        requires { copier < MOST_COPIERS }
+        ensures state { copying_of self.new ≡ copying_of self.old }
+        ensures read { copier * LOG_WORDS + LOG_WORDS ≤ vec_len self.new.read }
+    {
+        let end = copier as usize * LOG_WORDS as usize + LOG_WORDS as usize;
+        if self.read.len() < end {
+            self.read.resize(end, None).unwrap();
+        }
+    }
+
+    fn reach_written(&mut self, copier: u8)
+        requires { copier < MOST_COPIERS }
+        ensures state { copying_of self.new ≡ copying_of self.old }
+        ensures written { copier * LOG_WORDS + LOG_WORDS ≤ vec_len self.new.written }
+        ensures read { vec_len self.new.read ≡ vec_len self.old.read }
+    {
+        let end = copier as usize * LOG_WORDS as usize + LOG_WORDS as usize;
+        if self.written.len() < end {
+            self.written.resize(end, false).unwrap();
+        }
+    }
+
+    pub(crate) fn set_read(&mut self, copier: u8, index: u16, word: Option<u64>)
+        requires reached { copier * LOG_WORDS + LOG_WORDS ≤ vec_len self.old.read }
+        requires index { index < LOG_WORDS }
+        ensures { copying_of self.new ≡ record (copying_of self.old) { read = put (copying_of self.old).read copier (put ((copying_of self.old).read copier) index word) } }
+    {
+        self.read[copier as usize * LOG_WORDS as usize + index as usize] = word;
+    }
+
+    pub(crate) fn set_written(&mut self, copier: u8, index: u16)
+        requires reached { copier * LOG_WORDS + LOG_WORDS ≤ vec_len self.old.written }
+        requires index { index < LOG_WORDS }
+        ensures { copying_of self.new ≡ record (copying_of self.old) { written = put (copying_of self.old).written copier (put ((copying_of self.old).written copier) index true) } }
+    {
+        self.written[copier as usize * LOG_WORDS as usize + index as usize] = true;
+    }
+
+    pub(crate) fn set_task(&mut self, copier: u8, task: Option<Task>)
+        requires { copier < MOST_COPIERS }
+        ensures { copying_of self.new ≡ record (copying_of self.old) { task = put (copying_of self.old).task copier task } }
+    {
+        self.tasks[copier as usize] = task;
+    }
+
+    pub(crate) fn set_length(&mut self, copier: u8, length: Option<u16>)
+        requires { copier < MOST_COPIERS }
+        ensures { copying_of self.new ≡ record (copying_of self.old) { length = put (copying_of self.old).length copier length } }
+    {
+        self.lengths[copier as usize] = length;
+    }
+
+    pub(crate) fn forget_read(&mut self, copier: u8)
+        requires { copier * LOG_WORDS + LOG_WORDS ≤ vec_len self.old.read }
+        ensures length { vec_len self.new.written ≡ vec_len self.old.written }
+        ensures state { copying_of self.new ≡ record (copying_of self.old) { read = put (copying_of self.old).read copier (λ _. None) } }
+    {
+        let from = copier as usize * LOG_WORDS as usize;
+        self.read[from..from + LOG_WORDS as usize].fill(None);
+    }
+
+    pub(crate) fn forget_written(&mut self, copier: u8)
+        requires { copier * LOG_WORDS + LOG_WORDS ≤ vec_len self.old.written }
+        ensures length { vec_len self.new.read ≡ vec_len self.old.read }
+        ensures state { copying_of self.new ≡ record (copying_of self.old) { written = put (copying_of self.old).written copier (λ _. false) } }
+    {
+        let from = copier as usize * LOG_WORDS as usize;
+        self.written[from..from + LOG_WORDS as usize].fill(false);
+    }
+}
