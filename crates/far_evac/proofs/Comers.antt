@@ -1,21 +1,28 @@
 -- As long as the epoch doesn't rise no log comes into the core's round, and nothing comes to lie in one of its logs.
-use Rattle.std.proofs.Common.{◌≡◌, ℕ, ◌+◌, ◌^◌, ◌≤◌, ◌==◌, Bool, true, false, Option, Some, List, [], ◌∷◌, arith, ap, sym, refl, ◌∙◌, subst, bit_or}
+use Rattle.std.proofs.Common.{◌≡◌, ℕ, ◌+◌, ◌^◌, ◌≤◌, ◌==◌, Bool, true, false, Option, Some, None, List, [], ◌∷◌, arith, ap, sym, refl, ◌∙◌, subst, bit_or}
 use Rattle.std.specs.List.{AllByRecursion}
 use Rattle.std.proofs.lemmas.Bool.{cond_both, eqb-true, false≢true}
+use Rattle.far_word.specs.declared.job.Job.{Job}
 use Rattle.far_word.specs.declared.mark.Mark.TheVariants.{Evac}
 use Rattle.far_word.specs.declared.mark.Marks.{Marks}
 use Rattle.far_word.specs.declared.pointer.Place.{Place}
 use Rattle.far_word.specs.declared.pointer.PtrWord.{PtrWord}
 use Rattle.far_word.specs.declared.pointer.PtrWord.TheVariants as pointer
+use Rattle.far_word.specs.Job.{job_of}
 use Rattle.far_word.specs.Mark.{position}
 use Rattle.far_word.specs.Pointer.{read_of}
 use Rattle.far_core.specs.declared.event.Event.{Event}
-use Rattle.far_core.specs.declared.event.Event.TheVariants.{ReadEpoch, Open, Pin, Load, Store, Close, Adopt, Put, Name, See, Mark, Ask, Get, Clear, Advance, Look}
+use Rattle.far_core.specs.declared.event.Event.TheVariants.{ReadEpoch, Open, Pin, Load, Store, Close, Adopt, Put, Name, See, Mark, Ask, Get, Clear, Advance, Look, Offer, PeekJob, SeeJob, Claim, ReadLength, Read, Write, Finish, Collect}
 use Rattle.far_core.specs.declared.event.Reply.{Reply}
 use Rattle.far_core.specs.declared.event.Reply.TheVariants.{Refused}
+use Rattle.far_core.specs.declared.event.Task.{Task}
 use Rattle.far_core.specs.declared.naming.Naming.{Naming}
 use Rattle.far_core.specs.declared.naming.Naming.TheVariants.{Places, Retires, Evicts, Stays, Moves, Fetches}
+use Rattle.far_core.specs.events.Claim.{after_claim, offered_in}
 use Rattle.far_core.specs.events.Clear.{evac_cleared, round_left}
+use Rattle.far_core.specs.events.Collect.{collected}
+use Rattle.far_core.specs.events.Finish.{after_finish}
+use Rattle.far_core.specs.events.Offer.{after_offer}
 use Rattle.far_core.specs.events.Legal.{Legal}
 use Rattle.far_core.specs.events.Name.{after_naming}
 use Rattle.far_core.specs.events.Naming.{IsNaming, naming_of, naming_row, no_marks}
@@ -23,7 +30,7 @@ use Rattle.far_core.specs.events.NewSpans.{IsNext, with_span}
 use Rattle.far_core.specs.events.Ranges.{after_events}
 use Rattle.far_core.specs.events.Step.{Fits, after, answer, is_legal, step_of}
 use Rattle.far_core.specs.state.Law.{Law}
-use Rattle.far_core.specs.state.State.{State, put}
+use Rattle.far_core.specs.state.State.{Copying, State, put}
 use Rattle.far_core.proofs.Keeps.{step_keeps}
 use Rattle.far_core.proofs.Namings.{naming_only}
 use Rattle.far_core.proofs.Owing.{is_fact}
@@ -155,6 +162,23 @@ still_none s t same comes = record { rises = omega (arith, same); none = λ _. c
 owners_none : (s t : State) → t.epoch ≡ s.epoch → OwnersChange s t → Brings s t
 owners_none s t same owners = still_none s t same (owners_bring_none s t owners)
 
+-- what is copied brings nothing
+copying_brings : (s : State) (k : Copying) → Brings s record s { copying = k }
+copying_brings s k = still_none s record s { copying = k } refl (record { round = λ k is. is; near = λ p len ds place marks near is. (marks, near) })
+
+claim_brings : (s : State) (c j : ℕ) (o : Option Job) → Brings s (after_claim s c j o)
+claim_brings s c j None = still_none s s refl (none_same s)
+claim_brings s c j (Some job) = copying_brings s _
+
+finish_brings : (s : State) (c : ℕ) (o : Option Task) → Brings s (after_finish s c o)
+finish_brings s c None = still_none s s refl (none_same s)
+finish_brings s c (Some t) = copying_brings s _
+
+-- an offer begins a span alone
+offer_brings : (s : State) (j p : ℕ) (to : Place) (cell : Option PtrWord) → Brings s (after_offer s j p to cell)
+offer_brings s j p to (Some (pointer.Near len ds from marks)) = still_none s _ refl (record { round = λ k is. is; near = λ q n d at k near is. (k, near) })
+offer_brings s j p to _ = still_none s s refl (none_same s)
+
 legal_brings : (s : State) (e : Event) → Law s → Legal s e → Brings s (after s e)
 legal_brings s (ReadEpoch m) law legal = owners_none s (after s (ReadEpoch m)) refl (change s (ReadEpoch m) law refl legal)
 legal_brings s (Open m) law legal = owners_none s (after s (Open m)) refl (change s (Open m) law refl legal)
@@ -167,6 +191,15 @@ legal_brings s (Ask m p k) law legal = owners_none s (after s (Ask m p k)) refl 
 legal_brings s (Put l at w) law legal = still_none s (after s (Put l at w)) refl (record { round = λ k is. is; near = λ p len ds place marks near is. (marks, near) })
 legal_brings s (Name p old new) law legal = still_none s (after s (Name p old new)) (ap (λ (u : State). u.epoch) (name_one s p new old).frame) (name_none s law p new old legal)
 legal_brings s (See p) law legal = still_none s s refl (none_same s)
+legal_brings s (Offer j p to) law legal = offer_brings s j p to (read_of (s.cell p))
+legal_brings s (PeekJob c j) law legal = still_none s s refl (none_same s)
+legal_brings s (SeeJob j) law legal = still_none s s refl (none_same s)
+legal_brings s (Claim c j old) law legal = cond_both (s.copying.word j == old) (after_claim s c j (offered_in (job_of old))) s (Brings s) (λ _. claim_brings s c j (offered_in (job_of old))) (λ _. still_none s s refl (none_same s))
+legal_brings s (ReadLength c) law legal = copying_brings s _
+legal_brings s (Read c i) law legal = copying_brings s _
+legal_brings s (Write c i) law legal = still_none s (after s (Write c i)) refl (record { round = λ k is. is; near = λ p len ds place marks near is. (marks, near) })
+legal_brings s (Finish c) law legal = finish_brings s c (s.copying.task c)
+legal_brings s (Collect j old) law legal = cond_both (s.copying.word j == old) (collected s j) s (Brings s) (λ _. copying_brings s _) (λ _. still_none s s refl (none_same s))
 legal_brings s (Mark p) law (range, (len, ds, place, marks, near, inside, shut)) = still_none s (after s (Mark p)) refl (mark_none s law p len ds place marks near)
 legal_brings s (Get l at free) law legal = still_none s (after s (Get l at free)) (get_epoch s l at free) (get_none s l at free)
 legal_brings s (Clear p) law (range, (len, ds, place, marks, near)) = still_none s (after s (Clear p)) refl (clear_none s law p len ds place marks near)

@@ -19,7 +19,7 @@ use Rattle.far_core.specs.events.Clear.{IsNear, evac_cleared}
 use Rattle.far_core.specs.events.Legal.{Legal}
 use Rattle.far_core.specs.events.Step.{Fits, after}
 use Rattle.far_core.specs.state.Law.{Law}
-use Rattle.far_core.specs.state.State.{State}
+use Rattle.far_core.specs.state.State.{Copying, State}
 use Rattle.far_core.proofs.Put.{put_both}
 use Rattle.far_core.proofs.Guards.{sealed_fact}
 use Rattle.far_book.specs.book.Reached.{IsOfBook, Reached}
@@ -79,6 +79,7 @@ selecting m (l ∷ ls) law moment idle left once of_order = record {
     only = λ risen. absurd (false≢true risen);
     clear = λ leaves. absurd cc;
     later = λ _. epoch_left m.core law left;
+    alone = moment.alone;
   };
 }
 
@@ -112,6 +113,7 @@ module _ (m : Moment) (law : Law m.core) (moment : MomentLaw m) (waits : m.phase
     only = λ _. moment.only (ap has_risen waits);
     clear = λ leaves j lt. below (m.core.clear j) j k (subst (λ n. j < n) (sym (all leaves)) lt);
     later = λ marks. absurd (false≢true (sym (ap has_risen marks) ∙ risen));
+    alone = moment.alone;
   }
 
   leads_by : (k : ℕ) (phase : Phase) → k ≤ m.core.mutators → ((j : ℕ) → j < k → holds_up m.core j ≡ false) → has_risen phase ≡ true → is_idle phase ≡ false → (phase ≡ Evacuating → k ≡ m.core.mutators) →
@@ -175,6 +177,10 @@ kinds_unmarked : (ps : List ℕ) (s : State) → (fold unmarked s ps).kind ≡ s
 kinds_unmarked [] s = refl
 kinds_unmarked (p ∷ ps) s = kinds_unmarked ps (unmarked s p)
 
+jobs_unmarked : (ps : List ℕ) (s : State) → (fold unmarked s ps).copying ≡ s.copying
+jobs_unmarked [] s = refl
+jobs_unmarked (p ∷ ps) s = jobs_unmarked ps (unmarked s p)
+
 pub aborting : AbortingLeads
 aborting m law moment =
     let ps = live_among m.core m.collection in
@@ -193,5 +199,6 @@ aborting m law moment =
         only = λ risen. absurd (false≢true risen);
         clear = λ leaves. absurd cc;
         later = λ marks. absurd cc;
+        alone = λ j. ap (λ (k : Copying). k.word j) (jobs_unmarked ps m.core) ∙ moment.alone j;
       };
     }

@@ -103,6 +103,7 @@ module _ (m : Moment) (n : ℕ) (law : Law m.core) (moment : MomentLaw m) (marks
       only = λ risen. absurd (not_risen risen);
       clear = λ leaves. absurd (not_risen (ap has_risen leaves));
       later = moment.later;
+      alone = moment.alone;
     };
   }
 
@@ -155,6 +156,7 @@ module _ (m : Moment) (n : ℕ) (law : Law m.core) (moment : MomentLaw m) (marks
         only = λ _ l member. member;
         clear = λ leaves. absurd cc;
         later = λ odd. absurd cc;
+        alone = λ j. ap (λ (u : State). u.copying.word j) (marks_cells ps m.core) ∙ moment.alone j;
       };
     }
 

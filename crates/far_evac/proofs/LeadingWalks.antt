@@ -22,12 +22,13 @@ use Rattle.far_core.proofs.Put.{put_other, put_same}
 use Rattle.far_hand.specs.Quiet.{is_quiet}
 use Rattle.far_book.specs.book.Effects.{moved, order_after}
 use Rattle.far_book.specs.book.Laws.{IsMoved}
+use Rattle.far_book.specs.book.Own.{HasNoJob}
 use Rattle.far_book.specs.book.Reached.{Reached}
 use Rattle.far_book.specs.book.Releasing.{order_without, released}
 use Rattle.far_book.specs.book.SealedLogs.{KeepsSealed}
 use Rattle.far_book.proofs.region.EvictingLaw.{evicting}
 use Rattle.far_book.proofs.region.MovesReached.{moving}
-use Rattle.far_book.proofs.region.Owns.{own_law}
+use Rattle.far_book.proofs.region.Owns.{none_copied, own_law}
 use Rattle.far_book.proofs.region.Reaching.{reached_law, reached_more, reached_one, retiring}
 use Rattle.far_book.proofs.region.Retires.{retired_is}
 use Rattle.far_book.proofs.region.SealedKept.{sealed_logs_stay}
@@ -42,6 +43,7 @@ use Rattle.far_evac.specs.Owned.{KeepsObjects, WalkingKeepsObjects}
 use Rattle.far_evac.specs.Ready.{IsOfRound, Ready}
 use Rattle.far_evac.specs.RoundSteps.{among}
 use Rattle.far_evac.specs.Walk.{Drops, Goes, Moves, Walked, Way, begun, ended, freed, hot_way, is_done, walked, way_of}
+use Rattle.far_evac.proofs.Framed.{so_one}
 use Rattle.far_evac.proofs.Fronts.{vacant_in}
 use Rattle.far_evac.proofs.KeptObjects.{evicted_objects, freed_objects, moved_objects, objects_more, objects_none, released_objects}
 use Rattle.far_evac.proofs.Leading.{in_heap, reached_none}
@@ -70,6 +72,7 @@ pub record GoesOn (m : Moment) (s : State) (order : List ℕ) (phase : Phase) (h
   clear : (k : ℕ) → k < s.mutators → s.clear k ≡ true
   leaves : phase ≡ Evacuating
   objects : KeepsObjects m.core s
+  alone : HasNoJob s
 
 abbrev pub GoesOf : Moment → Walked → Type 0
 GoesOf m w = GoesOn m w.moment.core w.moment.order w.moment.phase w.moment.collection
@@ -83,7 +86,7 @@ module _ (m : Moment) (s : State) (order : List ℕ) (phase : Phase) (l : ℕ) (
   shut = ready.logs.0.0
 
   way_back : Reached s (released s l)
-  way_back = reached_one s (Get l 0 true) (sealed_inside s (own_law s h.law) l shut, omega arith, (shut, vacant)) tt tt
+  way_back = reached_one s (Get l 0 true) (sealed_inside s (own_law s h.law) l shut, omega arith, (shut, vacant, none_copied s h.alone l)) tt tt
 
   released_on : GoesOn m (released s l) (order_without l order) phase ls
   released_on = record {
@@ -101,6 +104,7 @@ module _ (m : Moment) (s : State) (order : List ℕ) (phase : Phase) (l : ℕ) (
     clear = h.clear;
     leaves = h.leaves;
     objects = objects_more m.core s (released s l) h.objects (released_objects s l);
+    alone = h.alone;
   }
 
 -- ---- an object is dealt with
@@ -192,6 +196,7 @@ module _ (m : Moment) (s : State) (order : List ℕ) (phase : Phase) (l : ℕ) (
     clear = λ k lt. ap (λ clear. clear k) keeps.clear ∙ h.clear k (subst (λ n. k < n) keeps.mutators lt);
     leaves = h.leaves;
     objects = objects_more m.core s (core_so s p way) h.objects objects;
+    alone = λ j. ap (λ (u : State). u.copying.word j) (so_one s p way).frame ∙ h.alone j;
   }
 
   goes_on : (way : Way) → GoesLawfully s l p way → GoesOn m (core_so s p way) (order_by s order way) phase (l ∷ ls)
@@ -240,6 +245,7 @@ module _ (m : Moment) (P : Walked → Type 0) (keeps : KeepsLawfully P) where
       clear = moment.clear leaves;
       leaves = leaves;
       objects = objects_none m.core;
+      alone = moment.alone;
     }
 
 walks_on : (m : Moment) (n : ℕ) → Law m.core → MomentLaw m → m.phase ≡ Evacuating → Ready (walked m n).moment.core (walked m n).moment.collection × GoesOf m (walked m n)
@@ -266,6 +272,7 @@ module _ (m : Moment) (w : Walked) (ready : Ready w.moment.core w.moment.collect
       only = λ _. h.only;
       clear = λ _. h.clear;
       later = λ marks. absurd (other marks);
+      alone = h.alone;
     };
   }
 

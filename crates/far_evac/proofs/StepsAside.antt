@@ -95,6 +95,7 @@ module _ (m : Moment) (t : State) (law : Law m.core) (moment : MomentLaw m) (the
     only = λ risen l is. moment.only risen l (sym (ap (λ (round : ℕ → Bool). round l) aside.round) ∙ is);
     clear = λ leaves k lt. ap (λ (clear : ℕ → Bool). clear k) aside.clear ∙ moment.clear leaves k (subst (λ n. k < n) aside.mutators lt);
     later = λ marks. subst (λ e. e + 1 < EPOCH_END) (sym aside.epoch) (moment.later marks);
+    alone = λ j. ap (λ (words : ℕ → ℕ). words j) aside.jobs ∙ moment.alone j;
   }
 
 pub steps_keep : StepsKeep
@@ -109,6 +110,7 @@ steps_join s t u a b one = record {
   round = b.round ∙ a.round;
   round_epoch = b.round_epoch ∙ a.round_epoch;
   clear = b.clear ∙ a.clear;
+  jobs = b.jobs ∙ a.jobs;
   stay = λ l shut. b.stay l (a.stay l shut);
   others = λ l ne other. elim one [
     | inl same ↦ b.others l (λ e. ne (e ∙ same)) other ∙ a.others l ne (λ e. ne (e ∙ same))
@@ -122,13 +124,14 @@ steps_join s t u a b one = record {
 
 -- ---- which steps are such
 pub still_aside : StillStepsAside
-still_aside s t mutators logs epoch round round_epoch clear kind current = record {
+still_aside s t mutators logs epoch round round_epoch clear jobs kind current = record {
   mutators = mutators;
   logs = logs;
   epoch = epoch;
   round = round;
   round_epoch = round_epoch;
   clear = clear;
+  jobs = jobs;
   stay = λ l shut. ap (λ (kind : ℕ → Kind). kind l) kind ∙ shut;
   others = λ l ne other. ap (λ (kind : ℕ → Kind). kind l) kind;
   shut = λ other. absurd (other current);
@@ -136,7 +139,7 @@ still_aside s t mutators logs epoch round round_epoch clear kind current = recor
 
 pub owners_aside : OwnersStepAside
 owners_aside s t change = still_aside s t (ap (λ (u : State). u.mutators) change.rest) (ap (λ (u : State). u.logs) change.rest) (ap (λ (u : State). u.epoch) change.rest) (ap (λ (u : State). u.round) change.rest)
-    (ap (λ (u : State). u.round_epoch) change.rest) (ap (λ (u : State). u.clear) change.rest) (ap (λ (u : State). u.kind) change.rest) (ap (λ (u : State). u.current) change.rest)
+    (ap (λ (u : State). u.round_epoch) change.rest) (ap (λ (u : State). u.clear) change.rest) (ap (λ (u : State). u.copying.word) change.rest) (ap (λ (u : State). u.kind) change.rest) (ap (λ (u : State). u.current) change.rest)
 
 -- a span is taken where the next may stand
 taken_aside : (s : State) → Law s → (word : ℕ → ℕ) (p new len : ℕ) (to : Place) → IsNext s to → StepsAside s (with_span (record s { word = word }) p new len to)
@@ -147,6 +150,7 @@ taken_aside s law word p new len to next = record {
   round = refl;
   round_epoch = refl;
   clear = refl;
+  jobs = refl;
   stay = λ l shut.
       put_other (put s.kind s.current kinds.Sealed) to.log kinds.Open l (λ e. next_unsealed s to next (ap s.kind (sym e) ∙ shut))
       ∙ put_other s.kind s.current kinds.Sealed l (λ e. open_unsealed (s.kind s.current) law.logs.is_open (ap s.kind (sym e) ∙ shut)) ∙ shut;
@@ -198,7 +202,7 @@ module _ (s : State) (p : ℕ) (to : Place) (law : Law s) (q : IsQuietNear s p) 
         stayed_is s p q.len q.ds q.place q.marks q.near undropped (has_moved s p q q.len q.ds q.place q.marks q.near bare) bare (says.0, says.1, says.2, says.3, says.4)
 
     stayed_aside : StepsAside s (stayed s p)
-    stayed_aside = subst (StepsAside s) (sym stayed_cell) (still_aside s _ refl refl refl refl refl refl refl refl)
+    stayed_aside = subst (StepsAside s) (sym stayed_cell) (still_aside s _ refl refl refl refl refl refl refl refl refl)
 
 pub moving_aside : MovingStepsAside
 moving_aside s p to law q alive found = cond_both (has_evac (read_of (s.cell p))) (moved s p to) (stayed s p) (StepsAside s) (moved_aside s p to law q alive found) (stayed_aside s p to law q alive found)
@@ -220,7 +224,7 @@ pub fetching_aside : FetchingStepsAside
 fetching_aside s p place row law far alive found = fetched_aside s p place row law far alive found
 
 pub retiring_aside : RetiringStepsAside
-retiring_aside s p dropped = subst (StepsAside s) (sym (retired_is s p dropped)) (still_aside s _ refl refl refl refl refl refl refl refl)
+retiring_aside s p dropped = subst (StepsAside s) (sym (retired_is s p dropped)) (still_aside s _ refl refl refl refl refl refl refl refl refl)
 
 -- ---- the order of the sealed logs
 abbrev order_then_by : ℕ → ℕ → List ℕ → List ℕ

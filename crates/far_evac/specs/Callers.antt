@@ -18,7 +18,7 @@ use Rattle.far_book.specs.book.Fetching.{IsFar, room_for}
 use Rattle.far_evac.specs.Moment.{Moment, with_core}
 use Rattle.far_evac.specs.MomentLaw.{MomentLaw}
 
--- from s to t the round is left alone: its logs, its epoch and who was seen clear stay, and each sealed log stays sealed. Another log may have been
+-- from s to t the round is left alone: its logs, its epoch and who was seen clear stay, the jobs' words too, and each sealed log stays sealed. Another log may have been
 -- opened; then the one that was open is sealed, and no third log has changed its kind
 pub record StepsAside (s t : State) : Type 0 where
   pub mutators : t.mutators ≡ s.mutators
@@ -27,6 +27,7 @@ pub record StepsAside (s t : State) : Type 0 where
   pub round : t.round ≡ s.round
   pub round_epoch : t.round_epoch ≡ s.round_epoch
   pub clear : t.clear ≡ s.clear
+  pub jobs : t.copying.word ≡ s.copying.word
   pub stay : (l : ℕ) → s.kind l ≡ Sealed → t.kind l ≡ Sealed
   pub others : (l : ℕ) → l ≢ s.current → l ≢ t.current → t.kind l ≡ s.kind l
   pub shut : t.current ≢ s.current → t.kind s.current ≡ Sealed
@@ -40,9 +41,9 @@ abbrev pub StepsJoin : Type 0
 StepsJoin = (s t u : State) → StepsAside s t → StepsAside t u → (t.current ≡ s.current) ⊎ (u.current ≡ t.current) → StepsAside s u
 
 -- ---- which steps are such
--- no log changes its kind, and the round stays
+-- no log changes its kind, and the round and the jobs stay
 abbrev pub StillStepsAside : Type 0
-StillStepsAside = (s t : State) → t.mutators ≡ s.mutators → t.logs ≡ s.logs → t.epoch ≡ s.epoch → t.round ≡ s.round → t.round_epoch ≡ s.round_epoch → t.clear ≡ s.clear →
+StillStepsAside = (s t : State) → t.mutators ≡ s.mutators → t.logs ≡ s.logs → t.epoch ≡ s.epoch → t.round ≡ s.round → t.round_epoch ≡ s.round_epoch → t.clear ≡ s.clear → t.copying.word ≡ s.copying.word →
     t.kind ≡ s.kind → t.current ≡ s.current → StepsAside s t
 
 -- whatever owners do

@@ -5,7 +5,7 @@ use Rattle.far_word.specs.declared.sizes.TheConstants.{EPOCH_END}
 use Rattle.far_core.specs.declared.event.Kind.TheVariants.{Sealed}
 use Rattle.far_core.specs.events.Mark.{is_sealed}
 use Rattle.far_core.specs.state.Law.{Law}
-use Rattle.far_book.specs.book.Own.{own_part}
+use Rattle.far_book.specs.book.Own.{HasNoJob, own_part}
 use Rattle.far_evac.specs.declared.phase.Phase.{Phase}
 use Rattle.far_evac.specs.declared.phase.Phase.TheVariants.{Idle, Marking, Waiting, Evacuating}
 use Rattle.far_evac.specs.Live.{is_empty}
@@ -46,6 +46,8 @@ pub record MomentLaw (m : Moment) : Type 0 where
   pub clear : m.phase ≡ Evacuating → (k : ℕ) → k < m.core.mutators → m.core.clear k ≡ true
   -- while objects are marked there is a later epoch
   pub later : m.phase ≡ Marking → m.core.epoch + 1 < EPOCH_END
+  -- nothing is copied beside it
+  pub alone : HasNoJob m.core
 
 -- over any hand: this, and of the core's law the book's part
 abbrev pub IsLawful : Moment → Type 0

@@ -4,7 +4,7 @@ use Rattle.std.specs.Prelude.{slice_get}
 use Rattle.std.proofs.Math.Seq.{drop-nil}
 use Rattle.std.proofs.lemmas.Bool.{false≢true}
 use Rattle.far_core.specs.declared.event.Event.{Event}
-use Rattle.far_core.specs.declared.event.Event.TheVariants.{ReadEpoch, Open, Pin, Load, Store, Close, Adopt, Put, Name, See, Mark, Ask, Get, Clear, Advance, Look}
+use Rattle.far_core.specs.declared.event.Event.TheVariants.{ReadEpoch, Open, Pin, Load, Store, Close, Adopt, Put, Name, See, Mark, Ask, Get, Clear, Advance, Look, Offer, PeekJob, SeeJob, Claim, ReadLength, Read, Write, Finish, Collect}
 use Rattle.far_core.specs.declared.event.Reply.{Reply}
 use Rattle.far_core.specs.events.Step.{after, is_legal}
 use Rattle.far_core.specs.state.CoreState.{core_state}
@@ -49,6 +49,15 @@ so_own (Clear p) h = absurd (false≢true h)
 so_own (Get l at free) h = absurd (false≢true h)
 so_own (Advance logs) h = absurd (false≢true h)
 so_own (Look m) h = absurd (false≢true h)
+so_own (Offer j p to) h = absurd (false≢true h)
+so_own (PeekJob c j) h = absurd (false≢true h)
+so_own (SeeJob j) h = absurd (false≢true h)
+so_own (Claim c j old) h = absurd (false≢true h)
+so_own (ReadLength c) h = absurd (false≢true h)
+so_own (Read c i) h = absurd (false≢true h)
+so_own (Write c i) h = absurd (false≢true h)
+so_own (Finish c) h = absurd (false≢true h)
+so_own (Collect j old) h = absurd (false≢true h)
 
 -- ---- a turn
 made_turn : (s : State) (e : Event) → is_owners e ≡ true → is_legal s e ≡ true → after_turn s (Some e) ≡ after s e

@@ -9,7 +9,7 @@ use Rattle.far_word.specs.declared.pointer.PtrWord.TheVariants.{Near}
 use Rattle.far_word.specs.Mark.{position}
 use Rattle.far_word.specs.Pointer.{read_of}
 use Rattle.far_core.specs.declared.event.Event.{Event}
-use Rattle.far_core.specs.declared.event.Event.TheVariants.{ReadEpoch, Open, Pin, Load, Store, Close, Adopt, Put, Name, See, Mark, Ask, Get, Clear, Advance, Look}
+use Rattle.far_core.specs.declared.event.Event.TheVariants.{ReadEpoch, Open, Pin, Load, Store, Close, Adopt, Put, Name, See, Mark, Ask, Get, Clear, Advance, Look, Offer, PeekJob, SeeJob, Claim, ReadLength, Read, Write, Finish, Collect}
 use Rattle.far_core.specs.declared.event.Reply.{Reply}
 use Rattle.far_core.specs.declared.event.Reply.TheVariants.{Refused}
 use Rattle.far_core.specs.events.Ask.{is_request}
@@ -103,6 +103,15 @@ change s (Clear p) law own legal = absurd (false≢true own)
 change s (Get l at free) law own legal = absurd (false≢true own)
 change s (Advance logs) law own legal = absurd (false≢true own)
 change s (Look m) law own legal = absurd (false≢true own)
+change s (Offer j p to) law own legal = absurd (false≢true own)
+change s (PeekJob c j) law own legal = absurd (false≢true own)
+change s (SeeJob j) law own legal = absurd (false≢true own)
+change s (Claim c j old) law own legal = absurd (false≢true own)
+change s (ReadLength c) law own legal = absurd (false≢true own)
+change s (Read c i) law own legal = absurd (false≢true own)
+change s (Write c i) law own legal = absurd (false≢true own)
+change s (Finish c) law own legal = absurd (false≢true own)
+change s (Collect j old) law own legal = absurd (false≢true own)
 
 -- the same of a step, legal or not
 pub step_changes : (s : State) (e : Event) → Law s → is_owners e ≡ true → OwnersChange s (step_of s e).0

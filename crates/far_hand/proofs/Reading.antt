@@ -60,7 +60,7 @@ vacant s found counted l finds empty p len ds place m near =
 
 pub may_free : (s : State) (found : ℕ → ℕ) (counted : ℕ → Bool) (l : ℕ) (free : Bool) → AllFind found s.cell → MayFree (masked s found counted) l free → MayFree s l free
 may_free s found counted l false finds h = tt
-may_free s found counted l true finds h = (h.0, vacant s found counted l finds h.1)
+may_free s found counted l true finds h = (h.0, vacant s found counted l finds h.1, h.2)
 
 -- a header that is left was one
 left_header : (starts : ℕ → Bool) (l a : ℕ) → cond (nat_eq (a / LOG_WORDS) l) false (starts a) ≡ true → starts a ≡ true

@@ -1,9 +1,9 @@
 -- Who makes an event.
 use Rattle.std.specs.Prelude.{ℕ, Bool, true, false}
 use Rattle.far_core.specs.declared.event.Event.{Event}
-use Rattle.far_core.specs.declared.event.Event.TheVariants.{ReadEpoch, Open, Pin, Load, Store, Close, Adopt, Put, Name, See, Mark, Ask, Get, Clear, Advance, Look}
+use Rattle.far_core.specs.declared.event.Event.TheVariants.{ReadEpoch, Open, Pin, Load, Store, Close, Adopt, Put, Name, See, Mark, Ask, Get, Clear, Advance, Look, Offer, PeekJob, SeeJob, Claim, ReadLength, Read, Write, Finish, Collect}
 
--- the book, an owner or a copier, by its number. No event is a copier's yet
+-- the book, an owner or a copier, by its number
 pub data Maker : Type 0 where
   ByBook : Maker
   ByOwner : ℕ → Maker
@@ -26,6 +26,15 @@ maker (Clear p) = ByBook
 maker (Get l at free) = ByBook
 maker (Advance logs) = ByBook
 maker (Look m) = ByBook
+maker (Offer j p to) = ByBook
+maker (SeeJob j) = ByBook
+maker (Collect j old) = ByBook
+maker (PeekJob c j) = ByCopier c
+maker (Claim c j old) = ByCopier c
+maker (ReadLength c) = ByCopier c
+maker (Read c i) = ByCopier c
+maker (Write c i) = ByCopier c
+maker (Finish c) = ByCopier c
 
 abbrev pub is_owner : Maker → Bool
 is_owner ByBook = false

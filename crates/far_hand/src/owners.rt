@@ -5,7 +5,7 @@ ghost use Rattle.far_hand.specs.Makers.{is_owners};
 
 use far_core::Event;
 
-/// Whether an event is an owner's; all others are the book's.
+/// Whether an event is an owner's; all others are the book's or a copier's.
 pub fn is_owners(event: Event) -> bool
     ensures { result ≡ is_owners event }
 {
@@ -25,6 +25,15 @@ pub fn is_owners(event: Event) -> bool
         | Event::Get { .. }
         | Event::Clear { .. }
         | Event::Advance { .. }
-        | Event::Look { .. } => false,
+        | Event::Look { .. }
+        | Event::Offer { .. }
+        | Event::PeekJob { .. }
+        | Event::SeeJob { .. }
+        | Event::Claim { .. }
+        | Event::ReadLength { .. }
+        | Event::Read { .. }
+        | Event::Write { .. }
+        | Event::Finish { .. }
+        | Event::Collect { .. } => false,
     }
 }

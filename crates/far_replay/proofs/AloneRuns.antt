@@ -11,7 +11,7 @@ use Rattle.far_word.specs.declared.pointer.PtrWord.{PtrWord}
 use Rattle.far_word.specs.declared.pointer.PtrWord.TheVariants.{Free, Near, Far}
 use Rattle.far_word.specs.declared.sizes.TheConstants.{CELLS}
 use Rattle.far_core.specs.declared.event.Event.{Event}
-use Rattle.far_core.specs.declared.event.Event.TheVariants.{ReadEpoch, Open, Pin, Load, Store, Close, Adopt, Put, Name, See, Mark, Ask, Get, Clear, Advance, Look}
+use Rattle.far_core.specs.declared.event.Event.TheVariants.{ReadEpoch, Open, Pin, Load, Store, Close, Adopt, Put, Name, See, Mark, Ask, Get, Clear, Advance, Look, Offer, PeekJob, SeeJob, Claim, ReadLength, Read, Write, Finish, Collect}
 use Rattle.far_core.specs.declared.event.Reply.{Reply as Answer}
 use Rattle.far_core.specs.declared.event.Reply.TheVariants.{Refused, Done, Epoch, Word, Held}
 use Rattle.far_core.specs.declared.naming.Naming.{Naming}
@@ -278,3 +278,12 @@ was_legal s e law = cond_both (is_legal s e) (after s e, answer s e) (s, Refused
   no_refusal (Clear p) h = h
   no_refusal (Advance logs) h = h
   no_refusal (Look m) h = h
+  no_refusal (Offer j p to) h = h
+  no_refusal (PeekJob c j) h = h
+  no_refusal (SeeJob j) h = h
+  no_refusal (Claim c j old) h = h
+  no_refusal (ReadLength c) h = h
+  no_refusal (Read c i) h = h
+  no_refusal (Write c i) h = h
+  no_refusal (Finish c) h = h
+  no_refusal (Collect j old) h = h

@@ -42,6 +42,7 @@ law_as_if s p row law used fits = record {
     near = blank.near;
     far = λ len ds m is kept i lt. put_both (λ (words : ℕ → ℕ). words i ≡ 0) s.stored p row q (λ e. absurd (true≢false (sym used ∙ ap s.used (sym e) ∙ unused))) (λ _. blank.far len ds m is kept i lt);
   };
+  copies = law.copies;
 }
 
 pub round_as_if : (now : Moment) (p : ℕ) (row : ℕ → ℕ) → MomentLaw now → MomentLaw (as_if_stored now p row)
@@ -55,6 +56,7 @@ round_as_if now p row x = record {
   only = x.only;
   clear = x.clear;
   later = x.later;
+  alone = x.alone;
 }
 
 pub between_as_if : (s : State) (p : ℕ) (row : ℕ → ℕ) → Between s → Between (with_stored s p row)

@@ -57,13 +57,13 @@ sought_current s m p = asked_current (with_view s p) m p (read_of ((with_view s 
 
 -- ---- and the round is left alone
 pub same_aside : (s : State) → StepsAside s s
-same_aside s = still_aside s s refl refl refl refl refl refl refl refl
+same_aside s = still_aside s s refl refl refl refl refl refl refl refl refl
 
 pub view_aside : (s : State) (p : ℕ) → StepsAside s (with_view s p)
-view_aside s p = cond_both (is_some (s.held p)) s (after_pin s p) (StepsAside s) (λ _. same_aside s) (λ _. still_aside s (after_pin s p) refl refl refl refl refl refl refl refl)
+view_aside s p = cond_both (is_some (s.held p)) s (after_pin s p) (StepsAside s) (λ _. same_aside s) (λ _. still_aside s (after_pin s p) refl refl refl refl refl refl refl refl refl)
 
 asked_aside : (s : State) (m p : ℕ) (o : Option PtrWord) → StepsAside s (sought_of s m p o)
-asked_aside s m p (Some (Near len ds place marks)) = still_aside s (after s (Ask m p Moved)) refl refl refl refl refl refl refl refl
+asked_aside s m p (Some (Near len ds place marks)) = still_aside s (after s (Ask m p Moved)) refl refl refl refl refl refl refl refl refl
 asked_aside s m p _ = same_aside s
 
 pub sought_aside : (s : State) (m p : ℕ) → StepsAside s (sought s m p)
@@ -72,16 +72,16 @@ sought_aside s m p = steps_join s (with_view s p) (sought s m p) (view_aside s p
 pub without_aside : (s : State) (m p : ℕ) → StepsAside s (without_object s m p)
 without_aside s m p =
     let t : State = after s (Ask m p Dropped) in
-    retired_either (StepsAside s) t p (still_aside s t refl refl refl refl refl refl refl refl) (still_aside s (with_free_cell t p) refl refl refl refl refl refl refl refl)
+    retired_either (StepsAside s) t p (still_aside s t refl refl refl refl refl refl refl refl refl) (still_aside s (with_free_cell t p) refl refl refl refl refl refl refl refl refl)
 
 pub scope_aside : (s : State) (m : ℕ) → StepsAside s (with_scope s m)
-scope_aside s m = still_aside s (with_scope s m) refl refl refl refl refl refl refl refl
+scope_aside s m = still_aside s (with_scope s m) refl refl refl refl refl refl refl refl refl
 
 pub epoch_aside : (s : State) (m : ℕ) → StepsAside s (with_epoch s m)
-epoch_aside s m = still_aside s (with_epoch s m) refl refl refl refl refl refl refl refl
+epoch_aside s m = still_aside s (with_epoch s m) refl refl refl refl refl refl refl refl refl
 
 pub close_aside : (s : State) (m : ℕ) → StepsAside s (after_close s m)
-close_aside s m = still_aside s (after_close s m) refl refl refl refl refl refl refl refl
+close_aside s m = still_aside s (after_close s m) refl refl refl refl refl refl refl refl refl
 
 -- ---- a new object
 -- its log is the open one
@@ -98,7 +98,7 @@ pub new_aside : (s : State) (m len ds p : ℕ) (place : Place) → Law s → 0 <
 new_aside s m len ds p place law some most structure cell found =
     let t : State = placed s p len ds place in
     let u : State = with_object s m p len ds place in
-    steps_join s t u (placing_aside s p len ds place true law (lowest_cell_is s m p cell).2 some most structure found) (still_aside t u refl refl refl refl refl refl refl refl) (inr refl)
+    steps_join s t u (placing_aside s p len ds place true law (lowest_cell_is s m p cell).2 some most structure found) (still_aside t u refl refl refl refl refl refl refl refl refl) (inr refl)
 
 -- ---- an object that comes to where a view may rest
 -- near it has moved, or stayed
@@ -192,4 +192,4 @@ order_derefs now m p law opened ours found = deref_order now.core m p law opened
 pub writes_aside : (s : State) (m p from : ℕ) (bytes : List ℕ) → Law s → is_opened s m ≡ true → uses s m p ≡ true → has_no_room s m p ≡ false → StepsAside s (with_data (dereferenced s m p) p from bytes)
 writes_aside s m p from bytes law opened ours found =
     let t : State = dereferenced s m p in
-    steps_join s t (with_data t p from bytes) (derefs_aside s m p law opened ours found) (still_aside t (with_data t p from bytes) refl refl refl refl refl refl refl refl) (inr refl)
+    steps_join s t (with_data t p from bytes) (derefs_aside s m p law opened ours found) (still_aside t (with_data t p from bytes) refl refl refl refl refl refl refl refl refl) (inr refl)

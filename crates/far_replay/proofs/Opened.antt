@@ -34,6 +34,7 @@ opening_round logs mutators epoch honest fits = record {
   only = λ risen. absurd (false≢true risen);
   clear = λ leaves. absurd cc;
   later = λ marks. absurd cc;
+  alone = λ j. refl;
 }
 
 -- and the core has none

@@ -1,23 +1,30 @@
 -- What is viewed has HOT, in every moment: a pin sets it, and no event takes it from a cell on which a view rests.
 use Rattle.std.proofs.Common.{◌≡◌, ◌≢◌, ℕ, ◌/◌, ◌^◌, ◌==◌, Bool, true, false, cond, refl, sym, ap, subst, ◌∙◌, is_some, Option, Some, None, List, [], ◌∷◌, inl, inr, bit_or, if◌then◌else◌}
-use Rattle.std.proofs.lemmas.Bool.{cases_eq, eqb-true, false≢true}
+use Rattle.std.proofs.lemmas.Bool.{cases_eq, cond_both, eqb-true, false≢true}
+use Rattle.far_word.specs.declared.job.Job.{Job}
 use Rattle.far_word.specs.declared.mark.Mark.TheVariants.{Hot, Evac}
 use Rattle.far_word.specs.declared.mark.Marks.{Marks}
 use Rattle.far_word.specs.declared.pointer.Place.{Place}
 use Rattle.far_word.specs.declared.pointer.PtrWord.{PtrWord}
 use Rattle.far_word.specs.declared.pointer.PtrWord.TheVariants.{Free, Near, Far}
 use Rattle.far_word.specs.declared.sizes.TheConstants.{CELLS}
+use Rattle.far_word.specs.Job.{job_of}
 use Rattle.far_word.specs.Mark.{position}
 use Rattle.far_word.specs.Pointer.{read_of, with_mark, without_evac}
 use Rattle.far_core.specs.declared.event.Event.{Event}
-use Rattle.far_core.specs.declared.event.Event.TheVariants.{Pin, Close, Name, Mark, Ask, Get, Clear}
+use Rattle.far_core.specs.declared.event.Event.TheVariants.{Pin, Close, Name, Mark, Ask, Get, Clear, Offer, Claim, Finish, Collect}
 use Rattle.far_core.specs.declared.event.Reply.{Reply as Answer}
+use Rattle.far_core.specs.declared.event.Task.{Task}
 use Rattle.far_core.specs.declared.naming.Naming.{Naming}
 use Rattle.far_core.specs.declared.naming.Naming.TheVariants.{Places, Retires, Evicts, Stays, Moves, Fetches}
+use Rattle.far_core.specs.events.Claim.{after_claim, offered_in}
 use Rattle.far_core.specs.events.Clear.{evac_cleared}
+use Rattle.far_core.specs.events.Collect.{collected}
+use Rattle.far_core.specs.events.Finish.{after_finish}
 use Rattle.far_core.specs.events.Legal.{Legal}
 use Rattle.far_core.specs.events.Name.{after_naming}
 use Rattle.far_core.specs.events.Naming.{IsNaming, is_dropped, naming_of, naming_row}
+use Rattle.far_core.specs.events.Offer.{after_offer}
 use Rattle.far_core.specs.events.Quiet.{has_move}
 use Rattle.far_core.specs.events.Step.{after, place_to_view, step_of, with_hold}
 use Rattle.far_core.specs.state.Law.{Law, held_place}
@@ -134,6 +141,18 @@ module _ (s : State) (law : Law s) (hot : AllHot s) where
       cell_hot s p new hot (λ h. ap (λ w. is_hot (read_of w)) (sym (put_same s.cell p new p refl))
       ∙ cleared_hot (read_of (s.cell p)) (read_of (put s.cell p new p)) (hot p h) (replies_report s law (Clear p) legal).1)
 
+  claim_hot : (c j : ℕ) (o : Option Job) → AllHot (after_claim s c j o)
+  claim_hot c j None = hot
+  claim_hot c j (Some job) = hot
+
+  finish_hot : (c : ℕ) (o : Option Task) → AllHot (after_finish s c o)
+  finish_hot c None = hot
+  finish_hot c (Some t) = hot
+
+  offer_hot : (j p : ℕ) (to : Place) (o : Option PtrWord) → AllHot (after_offer s j p to o)
+  offer_hot j p to (Some (Near len ds from marks)) = hot
+  offer_hot j p to _ = hot
+
   after_hot : (e : Event) → Legal s e → Law (after s e) → AllHot (after s e)
   after_hot (Pin m p) legal next = pin_hot m p legal next
   after_hot (Close m) legal next = λ p h. hot p (held_yet (p / CELLS == m) (s.held p) h)
@@ -142,6 +161,10 @@ module _ (s : State) (law : Law s) (hot : AllHot s) where
   after_hot (Ask m p k) legal next = cell_hot s p (bit_or (s.cell p) (2 ^ position k)) hot (λ h. absurd (no_view (s.held p) legal.4 h))
   after_hot (Get l at true) legal next = hot
   after_hot (Clear p) legal next = clear_hot p legal
+  after_hot (Claim c j old) legal next = cond_both (s.copying.word j == old) (after_claim s c j (offered_in (job_of old))) s AllHot (λ _. claim_hot c j (offered_in (job_of old))) (λ _. hot)
+  after_hot (Finish c) legal next = finish_hot c (s.copying.task c)
+  after_hot (Collect j old) legal next = cond_both (s.copying.word j == old) (collected s j) s AllHot (λ _. hot) (λ _. hot)
+  after_hot (Offer j p to) legal next = offer_hot j p to (read_of (s.cell p))
   after_hot _ legal next = hot
 
 -- ---- rows of events, and commands

@@ -1,6 +1,6 @@
 -- The rule holds at the start: for the words and the views of any core.
 use Rattle.std.proofs.Common.{◌≡◌, ◌≢◌, ◌*◌, ◌/◌, ◌%◌, ◌<◌, ◌≤◌, ◌^◌, ℕ, Bool, true, false, cond, nat_lt, List, [], sym, refl, ap, ◌∙◌, subst, arith, inl, inr, Option, Some, None}
-use Rattle.std.specs.Prelude.{is_some, slice_index, ◌||◌, ◌&&◌, ◌==◌}
+use Rattle.std.specs.Prelude.{is_some, slice_index, ◌||◌, ◌&&◌, ◌==◌, ◌⊎◌}
 use Rattle.std.proofs.lemmas.Bool.{cases_lt, false≢true, le-ltb, lt-ltb}
 use Rattle.std.proofs.lemmas.List.{get_or_past}
 use mathlib.Core.Logic.{dite}
@@ -8,7 +8,7 @@ use mathlib.Core.Path.{fun_ext}
 use native.Mathlib.Decide.{ℕ_discrete}
 use Rattle.atomic_table.specs.Table.{opening}
 use Rattle.far_word.specs.declared.pointer.PtrWord.TheVariants.{Free, Near, Far}
-use Rattle.far_word.specs.declared.sizes.TheConstants.{LOG_WORDS, MOST_LOGS, MOST_MUTATORS, POINTERS}
+use Rattle.far_word.specs.declared.sizes.TheConstants.{LOG_WORDS, MOST_COPIERS, MOST_LOGS, MOST_MUTATORS, POINTERS}
 use Rattle.far_word.specs.Pointer.{read_of}
 use Rattle.far_core.specs.declared.event.Kind.TheVariants as kinds
 use Rattle.far_core.specs.events.Advance.{is_among}
@@ -27,7 +27,7 @@ use Rattle.far_table.specs.First.{IsTableOf, first_book, first_owner, first_owne
 use Rattle.far_table.specs.Layout.{JOBS, cell_at, cell_in, data_at, job_at, scope_at, scope_in, word_in}
 use Rattle.far_table.specs.Rows.{over}
 use Rattle.far_table.specs.Rule.{BookTies, Facts, OwnerTies, Running}
-use Rattle.far_table.specs.StateOf.{book_state, head_at, held_by, known_word, remembered_by, state_of, stored_word, used_by}
+use Rattle.far_table.specs.StateOf.{book_state, copied, head_at, held_by, known_word, remembered_by, state_of, stored_word, used_by}
 use Rattle.far_table.specs.Views.{held_at, uses}
 use Rattle.far_table.proofs.FirstViews.{first_asked, first_dropped, first_has, first_heated, first_held, first_scope, first_uses, many_owners, over_all, over_beside, over_within, owner_here, owner_past, owner_stands, pointers_first}
 
@@ -119,6 +119,27 @@ module _ (s : State) (honest : Bool) (law : Law s) (past : HasNothingPast s) whe
         ∙ fun_ext (λ i. sym (past.stores p i (omega (arith, law.shape.few_mutators))))
   ])
 
+  -- the rows of each of so many copiers are its row, with nothing past them
+  rows_first : {X : Type 0} (f : ℕ → ℕ → X) (d : X) → ((c i : ℕ) → (MOST_COPIERS ≤ c) ⊎ (LOG_WORDS ≤ i) → f c i ≡ d) →
+      (λ c. over (over (rows_from 0 MOST_COPIERS (λ q. rows_from 0 LOG_WORDS (f q))) (λ _. []) c) (λ _. d)) ≡ f
+  rows_first {X} f d none = fun_ext (λ c. elim (cases_lt c MOST_COPIERS) [
+    | inl lt ↦ ap (λ (rows : List (ℕ × X)). over rows (λ _. d)) (over_within (λ q. rows_from 0 LOG_WORDS (f q)) (λ _. []) MOST_COPIERS 0 c (omega arith) (omega arith))
+        ∙ over_all (f c) (λ _. d) LOG_WORDS (λ i le. none c i (inr le))
+    | inr le ↦ ap (λ (rows : List (ℕ × X)). over rows (λ _. d)) (over_beside (λ q. rows_from 0 LOG_WORDS (f q)) (λ _. []) MOST_COPIERS 0 c (λ x y. omega arith))
+        ∙ fun_ext (λ i. sym (none c i (inl le)))
+  ])
+
+  copied_first : copied b ≡ s.copying
+  copied_first = λ i. record {
+    word = over_all s.copying.word (λ _. 0) JOBS (λ j le. (past.jobs j le).0) i;
+    since = over_all s.copying.since (λ _. 0) JOBS (λ j le. (past.jobs j le).1) i;
+    named = over_all s.copying.named (λ _. false) JOBS (λ j le. (past.jobs j le).2) i;
+    task = over_all s.copying.task (λ _. None) MOST_COPIERS (λ c le. (past.tasks c le).0) i;
+    length = over_all s.copying.length (λ _. None) MOST_COPIERS (λ c le. (past.tasks c le).1) i;
+    read = rows_first s.copying.read None (λ c k le. (past.copies c k le).0) i;
+    written = rows_first s.copying.written false (λ c k le. (past.copies c k le).1) i;
+  }
+
   cells_first : over b.cells (λ _. 0) ≡ s.cell
   cells_first = over_all s.cell (λ _. 0) POINTERS (λ p le. past.cells p (omega (arith, law.shape.few_mutators)))
 
@@ -134,6 +155,7 @@ module _ (s : State) (honest : Bool) (law : Law s) (past : HasNothingPast s) whe
     round_epoch = sym law.rounds.own_epoch i;
     clear = clear_first i;
     stored = stored_first i;
+    copying = copied_first i;
   }
 
   pub first_shows : Shows (book_state b) s'
@@ -169,6 +191,7 @@ module _ (s : State) (honest : Bool) (law : Law s) (past : HasNothingPast s) whe
       round_epoch = sym law.rounds.own_epoch i;
       clear = clear_first i;
       stored = stored_first i;
+      copying = copied_first i;
     }
 
   -- ---- the rule, where the honesty is the core's own as soon as a cell is in use
@@ -192,6 +215,7 @@ module _ (s : State) (honest : Bool) (law : Law s) (past : HasNothingPast s) whe
       rounds = law.rounds;
       clears = law.clears;
       unadopted = first_blank;
+      copies = law.copies;
     }
 
     -- no word is known but headers

@@ -5,7 +5,7 @@ use Rattle.std.proofs.lemmas.Bool.{false≢true, cond_both}
 use Rattle.far_word.specs.Bytes.{packed_word}
 use Rattle.far_word.specs.Pointer.{read_of}
 use Rattle.far_core.specs.declared.event.Event.{Event}
-use Rattle.far_core.specs.declared.event.Event.TheVariants.{ReadEpoch, Open, Pin, Load, Store, Close, Adopt, Put, Name, See, Mark, Ask, Get, Clear, Advance, Look}
+use Rattle.far_core.specs.declared.event.Event.TheVariants.{ReadEpoch, Open, Pin, Load, Store, Close, Adopt, Put, Name, See, Mark, Ask, Get, Clear, Advance, Look, Offer, PeekJob, SeeJob, Claim, ReadLength, Read, Write, Finish, Collect}
 use Rattle.far_core.specs.declared.event.Reply.{Reply}
 use Rattle.far_core.specs.declared.event.Reply.TheVariants.{Done, Word}
 use Rattle.far_core.specs.declared.naming.Naming.{Naming}
@@ -24,7 +24,7 @@ use Rattle.far_core.specs.world.WorldOf.{world_of}
 use Rattle.far_core.proofs.Namings.{naming_only}
 use Rattle.far_core.proofs.Owing.{does}
 use Rattle.far_core.proofs.Put.{put_both}
-use Rattle.far_hand.specs.Makers.{ByBook, ByOwner, maker}
+use Rattle.far_hand.specs.Makers.{ByBook, ByCopier, ByOwner, maker}
 use Rattle.far_table.specs.View.{ObjectView}
 use Rattle.far_table.specs.Rule.{Has}
 
@@ -103,6 +103,9 @@ form_books p (Fetches len ds place) = refl
 owners_not : {m : ℕ} → ByOwner m ≡ ByBook → ⊥
 owners_not e = cc
 
+copiers_not : {c : ℕ} → ByCopier c ≡ ByBook → ⊥
+copiers_not e = cc
+
 books_change : (s : State) (e : Event) → maker e ≡ ByBook → Legal s e → Changes e (answer s e)
 books_change s (ReadEpoch m) by legal = absurd (owners_not by)
 books_change s (Open m) by legal = absurd (owners_not by)
@@ -126,6 +129,15 @@ books_change s (Clear p) by legal = (
 )
 books_change s (Advance logs) by legal = (change.Stays, refl, refl)
 books_change s (Look m) by legal = (change.Stays, refl, refl)
+books_change s (Offer j p to) by legal = (change.Holds to.log, refl, refl)
+books_change s (PeekJob c j) by legal = absurd (copiers_not by)
+books_change s (SeeJob j) by legal = (change.Stays, refl, refl)
+books_change s (Claim c j old) by legal = absurd (copiers_not by)
+books_change s (ReadLength c) by legal = absurd (copiers_not by)
+books_change s (Read c i) by legal = absurd (copiers_not by)
+books_change s (Write c i) by legal = absurd (copiers_not by)
+books_change s (Finish c) by legal = absurd (copiers_not by)
+books_change s (Collect j old) by legal = cond_both (s.copying.word j == old) Done (Word (s.copying.word j)) (λ r. Changes (Collect j old) r) (λ _. (change.Stays, refl, refl)) (λ _. (change.Stays, refl, refl))
 
 honest_is : (s : State) → (world_of s).honest ≡ s.honest
 unfolding world_of

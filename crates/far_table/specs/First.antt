@@ -4,7 +4,7 @@ use Rattle.std.specs.List.{range_with_len}
 use Rattle.far_word.specs.Bytes.{packed_word}
 use Rattle.far_word.specs.declared.scope.ScopeWord.{ScopeWord}
 use Rattle.far_word.specs.declared.scope.ScopeWord.TheVariants as scoped
-use Rattle.far_word.specs.declared.sizes.TheConstants.{CELLS, LOG_WORDS, MOST_LOGS, MOST_MUTATORS, POINTERS}
+use Rattle.far_word.specs.declared.sizes.TheConstants.{CELLS, LOG_WORDS, MOST_COPIERS, MOST_LOGS, MOST_MUTATORS, POINTERS}
 use Rattle.far_word.specs.Scope.{scope_of}
 use Rattle.far_word.specs.Sizes.{words_for}
 use Rattle.far_core.specs.state.State.{State}
@@ -85,6 +85,13 @@ first_book s honest = record {
   taken = [];
   retired = [];
   cooled = [];
+  jobs = rows_from 0 JOBS s.copying.word;
+  since = rows_from 0 JOBS s.copying.since;
+  named = rows_from 0 JOBS s.copying.named;
+  tasks = rows_from 0 MOST_COPIERS s.copying.task;
+  lengths = rows_from 0 MOST_COPIERS s.copying.length;
+  read = rows_from 0 MOST_COPIERS (λ c. rows_from 0 LOG_WORDS (s.copying.read c));
+  written = rows_from 0 MOST_COPIERS (λ c. rows_from 0 LOG_WORDS (s.copying.written c));
   rest = map AsOwner (first_owners s honest);
 }
 

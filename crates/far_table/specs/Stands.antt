@@ -37,6 +37,13 @@ no_book = record {
   taken = [];
   retired = [];
   cooled = [];
+  jobs = [];
+  since = [];
+  named = [];
+  tasks = [];
+  lengths = [];
+  read = [];
+  written = [];
   rest = [];
 }
 

@@ -4,7 +4,7 @@ use Rattle.far_word.specs.declared.pointer.Place.{Place}
 use Rattle.far_word.specs.declared.sizes.TheConstants.{CELLS}
 use Rattle.far_core.specs.declared.event.Kind.TheVariants.{Free}
 use Rattle.far_core.specs.events.Advance.{is_among}
-use Rattle.far_core.specs.state.State.{State}
+use Rattle.far_core.specs.state.State.{Copying, State}
 use Rattle.far_hand.specs.Known.{unknown}
 use Rattle.far_table.specs.View.{BookView, OwnerView}
 use Rattle.far_table.specs.Layout.{epoch_in, scope_in, cell_in, word_in}
@@ -48,6 +48,18 @@ retired_at b = over b.retired (λ _. 0)
 abbrev pub cooled_at : BookView → ℕ → ℕ
 cooled_at b = over b.cooled (λ _. 0)
 
+-- the jobs and the copiers
+abbrev pub copied : BookView → Copying
+copied b = record {
+  word = over b.jobs (λ _. 0);
+  since = over b.since (λ _. 0);
+  named = over b.named (λ _. false);
+  task = over b.tasks (λ _. None);
+  length = over b.lengths (λ _. None);
+  read = λ c. over (over b.read (λ _. []) c) (λ _. None);
+  written = λ c. over (over b.written (λ _. []) c) (λ _. false);
+}
+
 -- the book's view as a state: what it knows of the words, and of what owners do nothing
 abbrev pub book_state : BookView → State
 book_state b = record {
@@ -69,6 +81,7 @@ book_state b = record {
   round_epoch = b.epoch;
   clear = over b.clear (λ _. false);
   stored = stored_word b;
+  copying = copied b;
 }
 
 -- the state that the words, the book's view and the owners' views are

@@ -2,6 +2,7 @@
 use Rattle.std.specs.Prelude.{ℕ, Bool, Option, List}
 use Rattle.far_word.specs.declared.pointer.Place.{Place}
 use Rattle.far_core.specs.declared.event.Kind.{Kind}
+use Rattle.far_core.specs.declared.event.Task.{Task}
 
 -- what an owner knows of an object that it uses: its length, its data structure, and its words, 0 where no row has one
 pub record ObjectView : Type 0 where
@@ -69,6 +70,16 @@ pub record BookView : Type 0 where
   pub retired : List (ℕ × ℕ)
   -- how often it has taken HOT away, by pointers
   pub cooled : List (ℕ × ℕ)
+  -- the words of the jobs, the epochs of the rounds in which they were offered, and whether their pointers were named to their targets, by
+  -- jobs; and what copiers know, by copiers: the job that each has, the length that it has read, the words that it has read, and those that it
+  -- has written. No step changes them yet
+  pub jobs : List (ℕ × ℕ)
+  pub since : List (ℕ × ℕ)
+  pub named : List (ℕ × Bool)
+  pub tasks : List (ℕ × Option Task)
+  pub lengths : List (ℕ × Option ℕ)
+  pub read : List (ℕ × List (ℕ × Option ℕ))
+  pub written : List (ℕ × List (ℕ × Bool))
   -- who has no seat yet, first who gets one first
   pub rest : List Role
 

@@ -230,6 +230,7 @@ module _ {s : State} {p len ds : ℕ} {place : Place} (x : MayLeave s p len ds p
     rounds = law_named.rounds;
     clears = law_named.clears;
     unadopted = λ e. absurd (false≢true e);
+    copies = law_named.copies;
   }
 
   spans_sent : (l : ℕ) → spans_of (own_part (sent s p len ds place)) l ≡ spans_of (with_free_cell o p) l
@@ -285,6 +286,7 @@ module _ {s : State} {p len ds : ℕ} {place : Place} (x : MayLeave s p len ds p
       once = subst (λ (n : Ledger). IsDistinct eqb n.order.items) (sym loses.rest) notes.once;
       room = subst (λ (n : Ledger). s.logs ≤ vec_capacity n.order) (sym loses.rest) notes.room;
       cells = ap (λ (n : Ledger). vec_len n.free_cells) loses.rest ∙ notes.cells;
+      unoffered = notes.unoffered;
       cell = λ q lt. ap (λ (n : Ledger). is_noted_free n q) loses.rest ∙ notes.cell q lt ∙ put_both (λ c. (s.cell q == 0) ≡ (c == 0)) s.cell p (far_word len ds) q
           (λ e. ap (λ k. s.cell k == 0) e ∙ near_used (s.cell p) len ds place x.quiet.marks x.quiet.near ∙ sym is_used) (λ _. refl);
     }

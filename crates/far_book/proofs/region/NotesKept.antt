@@ -152,6 +152,7 @@ module _ (s : State) (ledger new : Ledger) (notes : Notes s ledger) (p len ds : 
     room = omega (arith, takes.room, notes.room);
     cells = takes.cells ∙ notes.cells;
     cell = cell_then;
+    unoffered = notes.unoffered;
   }
 
 -- ---- a cell is freed
@@ -179,6 +180,7 @@ module _ (s : State) (ledger new : Ledger) (notes : Notes s ledger) (p : ℕ) (i
         room = subst (λ (n : Ledger). s.logs ≤ vec_capacity n.order) (sym frees.rest) notes.room;
         cells = frees.cells ∙ notes.cells;
         cell = cell_freed frees.cell;
+        unoffered = notes.unoffered;
       }
 
   -- the object was near
@@ -207,5 +209,6 @@ module _ (s : State) (ledger new : Ledger) (notes : Notes s ledger) (p : ℕ) (i
         once = subst (λ (n : Ledger). IsDistinct eqb n.order.items) (sym rest) notes.once;
         room = subst (λ (n : Ledger). s.logs ≤ vec_capacity n.order) (sym rest) notes.room;
         cells = frees.cells ∙ ap (λ (n : Ledger). vec_len n.free_cells) loses.rest ∙ notes.cells;
+        unoffered = notes.unoffered;
         cell = cell_freed (λ q. frees.cell q ∙ ap (λ (n : Ledger). (q == p) || is_noted_free n q) loses.rest);
       }

@@ -14,7 +14,7 @@ use Rattle.far_log.specs.Spans.{spans_in, taken_by}
 use Rattle.far_log.proofs.Members.{here, there}
 use Rattle.far_core.specs.declared.event.Event.TheVariants.{Get}
 use Rattle.far_core.specs.declared.event.Kind.TheVariants.{Free, Sealed}
-use Rattle.far_core.specs.events.Get.{IsVacant, with_free_log}
+use Rattle.far_core.specs.events.Get.{IsUncopied, IsVacant, with_free_log}
 use Rattle.far_core.specs.events.Mark.{is_sealed}
 use Rattle.far_core.specs.laws.Observed.{live_bytes}
 use Rattle.far_core.specs.state.Law.{Law}
@@ -73,7 +73,7 @@ nested true c w = refl
 nested false true w = refl
 nested false false w = refl
 
-module _ (s : State) (law : Law (own_part s)) (l : ℕ) (shut : s.kind l ≡ Sealed) (vacant : IsVacant s l) where
+module _ (s : State) (law : Law (own_part s)) (l : ℕ) (shut : s.kind l ≡ Sealed) (vacant : IsVacant s l) (uncopied : IsUncopied s.copying l) where
   abbrev o : State
   o = own_part s
 
@@ -84,7 +84,7 @@ module _ (s : State) (law : Law (own_part s)) (l : ℕ) (shut : s.kind l ≡ Sea
   inside = law.logs.log_range l (λ f. let odd : Sealed ≡ Free = sym shut ∙ f in cc)
 
   law_bare : Law (with_free_log o l)
-  law_bare = keeps o (Get l 0 true) law tt (inside, omega arith, (shut, vacant))
+  law_bare = keeps o (Get l 0 true) law tt (inside, omega arith, (shut, vacant, uncopied))
 
   own_is : own_part (with_free_log o l) ≡ own_part then
   own_is = λ i. record (own_part then) { word = fun_ext (λ a. nested (a / LOG_WORDS == l) (s.starts a) (s.word a)) i }
@@ -130,6 +130,7 @@ module _ (s : State) (law : Law (own_part s)) (l : ℕ) (shut : s.kind l ≡ Sea
       room = subst (λ n. s.logs ≤ n) (sym b.room) notes.room;
       cells = ap (λ (n : Ledger). vec_len n.free_cells) b.rest ∙ notes.cells;
       cell = λ p lt. ap (λ (n : Ledger). is_noted_free n p) b.rest ∙ notes.cell p lt;
+      unoffered = notes.unoffered;
     }
 
   pub released_keeps : (t : State) (old new : Ledger) (held : ℕ → Option (List ℕ)) (is_honest : Bool) → InOrder s old held is_honest → GivesBack old new l →

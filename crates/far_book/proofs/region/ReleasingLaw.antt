@@ -35,8 +35,8 @@ is_released s l law = record {
 }
 
 pub releasing : ReleasingIsLegal
-releasing s l law shut vacant =
+releasing s l law shut vacant uncopied =
     let e : Event = Get l 0 true in
-    let legal : Legal s e = (inside s (own_law s law) l shut vacant, omega arith, (shut, vacant)) in
+    let legal : Legal s e = (inside s (own_law s law) l shut vacant uncopied, omega arith, (shut, vacant, uncopied)) in
     let then : Law (released s l) = keeps s e law tt legal in
     (reached_one s e legal tt tt, then, does s e law tt legal, is_released s l then)

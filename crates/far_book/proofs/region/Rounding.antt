@@ -1,5 +1,7 @@
 -- What a round's steps leave of a book: it stays in order.
-use Rattle.std.proofs.Common.{◌≡◌, ℕ, ◌+◌, ◌<◌, ◌^◌, Bool, arith, refl, sym, ap, ◌∙◌, subst, Option, Some, List, Result, Ok, Err, IfOk, IfErr}
+use Rattle.std.proofs.Common.{◌≡◌, ℕ, ◌+◌, ◌<◌, ◌^◌, Bool, true, false, arith, refl, sym, ap, ◌∙◌, subst, Option, Some, List, Result, Ok, Err, IfOk, IfErr}
+use Rattle.std.specs.Prelude.{◌||◌}
+use Rattle.std.proofs.lemmas.Bool.{false≢true}
 use Rattle.far_word.specs.declared.pointer.PtrWord.TheVariants.{Near, Far}
 use Rattle.far_word.specs.declared.refused.Refused.{Refused}
 use Rattle.far_word.specs.declared.sizes.TheConstants.{EPOCH_END}
@@ -16,8 +18,9 @@ use Rattle.far_core.specs.state.Spans.{names_place, spans_of}
 use Rattle.far_core.specs.state.State.{State, put}
 use Rattle.far_core.proofs.events.Clear.{out_still}
 use Rattle.far_core.proofs.Frames.{law_with_fewer_chosen}
+use Rattle.far_core.proofs.KeepJobs.{copies_fewer}
 use Rattle.far_core.proofs.Owing.{keeps}
-use Rattle.far_core.proofs.Put.{put_same}
+use Rattle.far_core.proofs.Put.{put_both, put_same}
 use Rattle.far_book.specs.declared.ledger.Ledger.{Ledger}
 use Rattle.far_hand.specs.Cleared.{cleared}
 use Rattle.far_hand.specs.Finds.{Finds}
@@ -54,12 +57,21 @@ module _ (s : State) (ledger : Ledger) (notes : Notes (own_part s) ledger) (epoc
     room = notes.room;
     cells = notes.cells;
     cell = notes.cell;
+    unoffered = notes.unoffered;
   }
+
+-- who was seen clear is so still
+clear_still : (a b : Bool) → a ≡ true → (a || b) ≡ true
+clear_still true b h = refl
+clear_still false b h = absurd (false≢true h)
+
+looked_still : (s : State) (m w k : ℕ) → s.clear k ≡ true → (looked_at s m w).clear k ≡ true
+looked_still s m w k h = put_both (λ b. b ≡ true) s.clear m _ k (λ e. clear_still (s.clear m) _ (ap s.clear (sym e) ∙ h)) (λ _. h)
 
 module _ (s : State) (ledger : Ledger) (held : ℕ → Option (List ℕ)) (is_honest : Bool) (h : InOrder s ledger held is_honest) where
   -- ---- a scope is looked at
-  law_looked : (clear : ℕ → Bool) → Law (own_part record s { clear = clear })
-  law_looked clear = let law = h.notes.law in record {
+  law_looked : (clear : ℕ → Bool) → ((m : ℕ) → s.clear m ≡ true → clear m ≡ true) → Law (own_part record s { clear = clear })
+  law_looked clear still = let law = h.notes.law in record {
     shape = law.shape;
     cells = law.cells;
     spans = law.spans;
@@ -69,11 +81,12 @@ module _ (s : State) (ledger : Ledger) (held : ℕ → Option (List ℕ)) (is_ho
     rounds = law.rounds;
     clears = record { clear_unviewed = λ p place v. absurd cc; late_unviewed = λ p e place v. absurd cc };
     unadopted = law.unadopted;
+    copies = copies_fewer (own_part s) s.round clear law (λ l h. h) still;
   }
 
   pub looked_keeps : (m w : ℕ) → InOrder (looked_at s m w) ledger held is_honest
   looked_keeps m w = record {
-    notes = notes_in_round s ledger h.notes s.epoch s.round s.round_epoch (looked_at s m w).clear (law_looked (looked_at s m w).clear);
+    notes = notes_in_round s ledger h.notes s.epoch s.round s.round_epoch (looked_at s m w).clear (law_looked (looked_at s m w).clear (looked_still s m w));
     far = h.far;
     honest = h.honest;
   }

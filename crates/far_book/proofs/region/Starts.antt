@@ -74,6 +74,7 @@ module _ (shape : Shape) (fits : is_shape shape ≡ true) (ledger : Ledger) (mad
     lives = λ l lt. ap (λ (f : Filled). f.live) (row_of ledger.filled.items shape.logs record { tail = 0; live = 0 } made.filled l) ∙ sym (no_live l);
     sealed = λ l. ap (list_any (eqb l)) made.order ∙ sealed_at l;
     once = subst (IsDistinct eqb) (sym made.order) none_distinct;
+    unoffered = λ j. refl;
     room = made.room;
     cells = made.cells;
     cell = λ p lt. ap (λ (set : NumberSet). has set (p % 64))

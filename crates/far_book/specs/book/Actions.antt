@@ -6,7 +6,7 @@ use Rattle.far_word.specs.declared.sizes.TheConstants.{CELLS, LONGEST}
 use Rattle.far_word.specs.Pointer.{read_of}
 use Rattle.far_word.specs.Sizes.{size_of, words_for}
 use Rattle.far_core.specs.declared.event.Event.{Event}
-use Rattle.far_core.specs.declared.event.Event.TheVariants.{ReadEpoch, Open, Pin, Load, Store, Close, Adopt, Ask, Put, Name, See, Mark, Get, Clear, Advance, Look}
+use Rattle.far_core.specs.declared.event.Event.TheVariants.{ReadEpoch, Open, Pin, Load, Store, Close, Adopt, Ask, Put, Name, See, Mark, Get, Clear, Advance, Look, Offer, PeekJob, SeeJob, Claim, ReadLength, Read, Write, Finish, Collect}
 use Rattle.far_core.specs.declared.event.Reply.{Reply}
 use Rattle.far_core.specs.declared.event.Reply.TheVariants.{Done, Word}
 use Rattle.far_core.specs.events.Copies.{Alike}
@@ -96,6 +96,15 @@ is_rounds (Ask m p k) = false
 is_rounds (Put l at w) = false
 is_rounds (Name p old new) = false
 is_rounds (See p) = false
+is_rounds (Offer j p to) = false
+is_rounds (PeekJob c j) = false
+is_rounds (SeeJob j) = false
+is_rounds (Claim c j old) = false
+is_rounds (ReadLength c) = false
+is_rounds (Read c i) = false
+is_rounds (Write c i) = false
+is_rounds (Finish c) = false
+is_rounds (Collect j old) = false
 is_rounds (Mark p) = true
 is_rounds (Clear p) = true
 is_rounds (Get l at free) = true

@@ -10,7 +10,7 @@ use Rattle.far_word.specs.Pointer.{read_of}
 use Rattle.far_word.specs.Sizes.{size_of, words_for}
 use Rattle.far_core.specs.declared.event.Kind.TheVariants.{Free, Open, Sealed}
 use Rattle.far_core.specs.events.Copies.{Alike, data_at}
-use Rattle.far_core.specs.events.Get.{IsVacant}
+use Rattle.far_core.specs.events.Get.{IsUncopied, IsVacant}
 use Rattle.far_core.specs.events.Naming.{is_dropped, no_marks}
 use Rattle.far_core.specs.events.Quiet.{is_quiet}
 use Rattle.far_core.specs.state.Law.{Law, Blank, IsStored}
@@ -146,7 +146,7 @@ pub record IsReleased (s t : State) (l : ℕ) : Type 0 where
   pub spans : (k : ℕ) → k ≢ l → spans_of t k ≡ spans_of s k
   pub rest : t ≡ record s { kind = t.kind; tail = t.tail; starts = t.starts; round = t.round }
 
--- a sealed log in which no object lies, dropped or not: in the world its group is given back, and nothing else changes
+-- a sealed log in which no object lies, dropped or not, and which no job reads or writes: in the world its group is given back, and nothing else changes
 abbrev pub ReleasingIsLegal : Type 0
-ReleasingIsLegal = (s : State) (l : ℕ) → Law s → s.kind l ≡ Sealed → IsVacant s l →
+ReleasingIsLegal = (s : State) (l : ℕ) → Law s → s.kind l ≡ Sealed → IsVacant s l → IsUncopied s.copying l →
     Reached s (released s l) × Law (released s l) × Step (Releases l) (world_of s) (world_of (released s l)) × IsReleased s (released s l) l

@@ -17,6 +17,7 @@ use Rattle.far_book.specs.declared.ledger.Ledger.{Ledger}
 use Rattle.far_book.specs.declared.ledger.TheConstants.{SETS}
 use Rattle.far_hand.specs.Finds.{body_of}
 use Rattle.far_book.specs.book.NumberSet.{has}
+use Rattle.far_book.specs.book.Own.{HasNoJob}
 
 -- what is written down of a log
 abbrev pub filled_of : Ledger → ℕ → Filled
@@ -43,6 +44,8 @@ pub record Notes (s : State) (ledger : Ledger) : Type 0 where
   -- which cells are free
   pub cells : vec_len ledger.free_cells ≡ SETS * s.mutators
   pub cell : (p : ℕ) → p < CELLS * s.mutators → is_noted_free ledger p ≡ (s.cell p == 0)
+  -- nothing is copied beside it
+  pub unoffered : HasNoJob s
 
 -- it is right about a state that has this log
 abbrev pub KnowsLog : State → Ledger → ℕ → Type 0

@@ -1,15 +1,23 @@
 -- The book's own part of a state: what no owner changes.
-use Rattle.std.specs.Prelude.{◌≡◌, false, cond}
+use Rattle.std.specs.Prelude.{◌≡◌, ℕ, false, cond, None}
 use Rattle.far_core.specs.state.Opening.{opening}
-use Rattle.far_core.specs.state.State.{State}
+use Rattle.far_core.specs.state.State.{Copying, State}
 use Rattle.far_hand.specs.Beside.{hidden}
 use Rattle.far_hand.specs.ShapeOf.{shape_of}
 
+-- what is copied, without what copiers know of lengths and words
+abbrev pub unread : Copying → Copying
+unread k = record k { length = λ _. None; read = λ _ _. None; written = λ _ _. false }
+
+-- no job is offered
+abbrev pub HasNoJob : State → Type 0
+HasNoJob s = (j : ℕ) → s.copying.word j ≡ 0
+
 -- all is left out that owners may change at any moment, or that the book can't know of them: of the words of the logs the
 -- headers of spans alone are left, and of the owners their scopes, and what they remember, use and hold, are those of
--- owners that have done nothing. What an owner was promised of a far side isn't the book's either
+-- owners that have done nothing. What an owner was promised of a far side isn't the book's either, nor what copiers have read
 abbrev pub own_part : State → State
-own_part s = record (hidden s s.cell (λ a. cond (s.starts a) (s.word a) 0)) { honest = false }
+own_part s = record (hidden s s.cell (λ a. cond (s.starts a) (s.word a) 0)) { honest = false; copying = unread s.copying }
 
 -- all cells are free and the logs are as at the start, whatever owners have done with their scopes
 abbrev pub IsAtStart : State → Type 0

@@ -1,12 +1,12 @@
 -- Which states the legal events of the core lead to.
 use Rattle.std.specs.Prelude.{◌≡◌, List, All}
 use Rattle.far_core.specs.declared.event.Event.{Event}
-use Rattle.far_core.specs.declared.event.Event.TheVariants.{Adopt, Ask, Close, Load, Open, Pin, ReadEpoch, Store}
+use Rattle.far_core.specs.declared.event.Event.TheVariants.{Adopt, Ask, Claim, Close, Finish, Load, Open, PeekJob, Pin, Read, ReadEpoch, ReadLength, Store, Write}
 use Rattle.far_core.specs.events.Ranges.{AllLegal, after_events}
 use Rattle.far_core.specs.events.Step.{Fits}
 use Rattle.far_core.specs.state.State.{State}
 
--- an event that no owner makes: the book's alone
+-- an event that no owner and no copier makes: the book's alone
 abbrev pub IsOfBook : Event → Type 0
 IsOfBook (ReadEpoch m) = ⊥
 IsOfBook (Open m) = ⊥
@@ -16,6 +16,12 @@ IsOfBook (Store m p i w) = ⊥
 IsOfBook (Close m) = ⊥
 IsOfBook (Adopt m p) = ⊥
 IsOfBook (Ask m p mark) = ⊥
+IsOfBook (PeekJob c j) = ⊥
+IsOfBook (Claim c j old) = ⊥
+IsOfBook (ReadLength c) = ⊥
+IsOfBook (Read c i) = ⊥
+IsOfBook (Write c i) = ⊥
+IsOfBook (Finish c) = ⊥
 IsOfBook e = Unit {0}
 
 -- some events of the book lead from s to t, each legal when it is made and with words of 64 bits

@@ -3,12 +3,13 @@ use Rattle.std.proofs.Common.{◌≡◌, ◌<◌, ◌∙◌, ap, arith, refl, su
 use Rattle.std.proofs.lemmas.Bool.{eq-eqb, eqb-true, false≢true}
 use Rattle.far_core.specs.declared.event.Event.TheVariants.{Get}
 use Rattle.far_core.specs.declared.event.Kind.TheVariants.{Sealed}
-use Rattle.far_core.specs.events.Get.{IsVacant}
+use Rattle.far_core.specs.events.Get.{IsUncopied, IsVacant}
 use Rattle.far_core.specs.events.Step.{after}
 use Rattle.far_core.specs.laws.Observed.{live_bytes}
 use Rattle.far_core.specs.state.State.{State}
 use Rattle.far_book.specs.book.BookOf.{BookOf}
 use Rattle.far_book.specs.book.Own.{own_part}
+use Rattle.far_book.proofs.region.Owns.{none_copied}
 use Rattle.far_book.proofs.region.Releasing.{released_keeps, vacant_fact, vacant_test}
 use Rattle.far_hand.proofs.Closure.{first_call}
 use Rattle.far_book.proofs.region.Handed.{since_book}
@@ -20,7 +21,7 @@ get-requires g c =
     let low : c.args.log < s.logs = subst (λ (u : State). c.args.log < u.logs) (sym same) c.requires.log in
     let shut : s.kind c.args.log ≡ Sealed = ap (λ (u : State). u.kind c.args.log) same ∙ c.requires.sealed in
     let none : live_bytes (own_part s) c.args.log ≡ 0 = eqb-true _ _ (sym (c.is_vacant.ensures (own_part s) (c.self.invariant.0.notes, low)) ∙ c.if-not-is_vacant.false) in
-    record { legal = (low, omega arith, (shut, vacant_fact (own_part s) c.self.invariant.0.notes.law c.args.log none)) }
+    record { legal = (low, omega arith, (shut, vacant_fact (own_part s) c.self.invariant.0.notes.law c.args.log none, none_copied s c.self.invariant.0.notes.unoffered c.args.log)) }
 
 pub give_back-requires : goal.give_back-requires
 give_back-requires g c =
@@ -36,7 +37,7 @@ invariant_of-self g c =
     let low : c.args.log < s.logs = subst (λ (u : State). c.args.log < u.logs) (sym same) c.requires.log in
     let shut : s.kind c.args.log ≡ Sealed = ap (λ (u : State). u.kind c.args.log) same ∙ c.requires.sealed in
     let none : live_bytes (own_part s) c.args.log ≡ 0 = eqb-true _ _ (sym (c.is_vacant.ensures (own_part s) (c.self.invariant.0.notes, low)) ∙ c.if-not-is_vacant.false) in (
-      released_keeps s c.self.invariant.0.notes.law c.args.log shut (vacant_fact (own_part s) c.self.invariant.0.notes.law c.args.log none) (g.N.Near.view c.get.new.self)
+      released_keeps s c.self.invariant.0.notes.law c.args.log shut (vacant_fact (own_part s) c.self.invariant.0.notes.law c.args.log none) (none_copied s c.self.invariant.0.notes.unoffered c.args.log) (g.N.Near.view c.get.new.self)
           c.self.inside.ledger c.give_back.new.self (g.D.Device.contents c.self.inside.device) (g.D.Device.honest c.self.inside.device) c.self.invariant.0 c.give_back.ensures c.get.ensures.rest (c.get.ensures.forgot refl),
       c.self.invariant.1,
     )
@@ -67,7 +68,15 @@ returns-clause-ran g c still =
     let none : live_bytes (own_part s) c.args.log ≡ 0 = eqb-true _ _ (sym (c.is_vacant.ensures (own_part s) (c.self.invariant.0.notes, low)) ∙ c.if-not-is_vacant.false) in
     λ _. record {
       rounds = refl;
-      legal = (c.requires.log, omega arith, (c.requires.sealed, subst (λ (u : State). IsVacant u c.args.log) same (vacant_fact (own_part s) c.self.invariant.0.notes.law c.args.log none)));
+      legal = (
+        c.requires.log,
+        omega arith,
+        (
+          c.requires.sealed,
+          subst (λ (u : State). IsVacant u c.args.log) same (vacant_fact (own_part s) c.self.invariant.0.notes.law c.args.log none),
+          subst (λ (u : State). IsUncopied u.copying c.args.log) same (none_copied s c.self.invariant.0.notes.unoffered c.args.log),
+        ),
+      );
       after = c.get.ensures.set still ∙ ap (λ (u : State). after u (Get c.args.log 0 true)) same;
     }
 
