@@ -1,22 +1,21 @@
 // Ranges of bytes are read and written.
 use crate::numbers::mix;
-use crate::task::Access;
-use crate::trouble::Trouble;
+use crate::task::Task;
 use far_device::MemDevice;
-use far_heap::{HeapName, Mutator, Scope, View};
-use far_word::LONGEST;
-use std::alloc::{AllocError, Global};
+use far_heap::{HeapName, Scope, View};
+use far_word::{LONGEST, Refused};
 use std::sync::Wait;
 
-// So many bytes, each `step` more than the one before.
-fn stepping(alloc: Global, len: u16, first: u8, step: u8) -> Result<Vec<u8>, AllocError> {
-    let mut bytes = Vec::new(alloc);
+/// The bytes of the longest object, and one more, so that a range may be too long.
+const ROOM: usize = LONGEST as usize + 1;
+
+// Fills bytes, each with `step` more than the one before.
+fn step_through(bytes: &mut [u8], first: u8, step: u8) {
     let mut next = first;
-    for _ in 0..len {
-        bytes.push(next)?;
+    for byte in bytes {
+        *byte = next;
         next = next.wrapping_add(step);
     }
-    Ok(bytes)
 }
 
 // The first byte, and 256 times the last.
@@ -28,24 +27,14 @@ fn ends(bytes: &[u8]) -> u64 {
     }
 }
 
-// A scope that views a new object of the greatest length.
-fn viewing<K: HeapName, R: Wait>(
-    rt: &R,
-    mut mutator: Mutator<K, MemDevice>,
-) -> Result<(Scope<K, MemDevice>, View), Trouble> {
-    let p = mutator.alloc(rt, LONGEST, 1)?;
-    let mut scope = mutator.open();
-    let view = scope.view(rt, p)?;
-    Ok((scope, view))
-}
-
+#[inline(never)]
 fn reads<K: HeapName>(
     scope: &mut Scope<K, MemDevice>,
     view: &View,
     from: u16,
     out: &mut [u8],
     count: u64,
-) -> Result<u64, Trouble> {
+) -> Result<u64, Refused> {
     let mut sum = 0;
     for _ in 0..count {
         scope.read(view, from, out)?;
@@ -54,39 +43,7 @@ fn reads<K: HeapName>(
     Ok(sum)
 }
 
-// The same of an object that is filled with these bytes.
-fn fills_and_reads<K: HeapName>(
-    scope: &mut Scope<K, MemDevice>,
-    view: &View,
-    bytes: &[u8],
-    from: u16,
-    out: &mut [u8],
-    count: u64,
-) -> Result<u64, Trouble> {
-    scope.write(view, 0, bytes)?;
-    reads(scope, view, from, out, count)
-}
-
-pub(crate) fn read<K: HeapName, R: Wait>(
-    rt: &R,
-    alloc: Global,
-    mutator: Mutator<K, MemDevice>,
-    access: Access,
-    count: u64,
-) -> Result<u64, Trouble> {
-    let bytes = stepping(alloc, LONGEST, 1, 7)?;
-    let mut out = stepping(alloc, access.len, 0, 0)?;
-    let (mut scope, view) = viewing(rt, mutator)?;
-    fills_and_reads(
-        &mut scope,
-        &view,
-        bytes.as_slice(),
-        access.from,
-        out.as_mut_slice(),
-        count,
-    )
-}
-
+#[inline(never)]
 fn writes<K: HeapName>(
     scope: &mut Scope<K, MemDevice>,
     view: &View,
@@ -94,7 +51,7 @@ fn writes<K: HeapName>(
     even: &[u8],
     odd: &[u8],
     count: u64,
-) -> Result<(), Trouble> {
+) -> Result<(), Refused> {
     for i in 0..count {
         let bytes = if i % 2 == 0 { even } else { odd };
         scope.write(view, from, bytes)?;
@@ -110,39 +67,47 @@ fn sum_of(bytes: &[u8]) -> u64 {
     sum
 }
 
-// The same, and a sum over the whole object then.
-fn writes_and_sums<K: HeapName>(
-    scope: &mut Scope<K, MemDevice>,
-    view: &View,
-    from: u16,
-    even: &[u8],
-    odd: &[u8],
-    out: &mut [u8],
-    count: u64,
-) -> Result<u64, Trouble> {
-    writes(scope, view, from, even, odd, count)?;
-    scope.read(view, 0, out)?;
-    Ok(sum_of(out))
+// A view of a new object of the greatest length.
+fn viewing<K: HeapName, R: Wait>(rt: &R, scope: &mut Scope<K, MemDevice>) -> Result<View, Refused> {
+    let p = scope.alloc(rt, LONGEST, 1)?;
+    scope.view(rt, p)
 }
 
+/// Reads a range of such an object.
+pub(crate) fn read<K: HeapName, R: Wait>(
+    rt: &R,
+    scope: &mut Scope<K, MemDevice>,
+    task: Task,
+) -> Result<u64, Refused> {
+    let view = viewing(rt, scope)?;
+    let mut bytes = [0; LONGEST as usize];
+    step_through(&mut bytes, 1, 7);
+    scope.write(&view, 0, &bytes)?;
+    let len = (task.len as usize).min(ROOM);
+    let mut out = [0; ROOM];
+    reads(scope, &view, task.from, &mut out[..len], task.count)
+}
+
+/// Writes a range of such an object, with two kinds of bytes in turn, and sums the whole object then.
 pub(crate) fn write<K: HeapName, R: Wait>(
     rt: &R,
-    alloc: Global,
-    mutator: Mutator<K, MemDevice>,
-    access: Access,
-    count: u64,
-) -> Result<u64, Trouble> {
-    let even = stepping(alloc, access.len, 1, 1)?;
-    let odd = stepping(alloc, access.len, 3, 2)?;
-    let mut out = stepping(alloc, LONGEST, 0, 0)?;
-    let (mut scope, view) = viewing(rt, mutator)?;
-    writes_and_sums(
-        &mut scope,
+    scope: &mut Scope<K, MemDevice>,
+    task: Task,
+) -> Result<u64, Refused> {
+    let view = viewing(rt, scope)?;
+    let len = (task.len as usize).min(ROOM);
+    let (mut even, mut odd) = ([0; ROOM], [0; ROOM]);
+    step_through(&mut even[..len], 1, 1);
+    step_through(&mut odd[..len], 3, 2);
+    writes(
+        scope,
         &view,
-        access.from,
-        even.as_slice(),
-        odd.as_slice(),
-        out.as_mut_slice(),
-        count,
-    )
+        task.from,
+        &even[..len],
+        &odd[..len],
+        task.count,
+    )?;
+    let mut out = [0; LONGEST as usize];
+    scope.read(&view, 0, &mut out)?;
+    Ok(sum_of(&out))
 }

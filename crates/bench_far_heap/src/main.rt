@@ -4,77 +4,55 @@
 ghost use Rattle.std.specs.Prelude.{◌≡◌};
 
 mod bytes;
-mod heaps;
 mod numbers;
+mod objects;
 mod rounds;
-mod scale;
-mod scopes;
 mod task;
-mod trouble;
+mod works;
 
 use far_device::MemDevice;
 use far_heap::{Blank, Heap, HeapName, Mutator};
+use far_word::Refused;
 use std::alloc::Global;
 use std::marker::Brand;
 use std::process::ExitCode;
 use std::sync::Wait;
 use std::thread::Threads;
-use std::{env, io};
-use task::{Task, Work};
-use trouble::Trouble;
+use std::{env, io, thread};
+use task::Task;
+use works::sum_of_one;
 
-// The sum of a task of one mutator.
-fn sum_of_one<K: HeapName, R: Wait>(
-    rt: &R,
-    alloc: Global,
-    heap: &Heap<K, MemDevice>,
-    mutator: Mutator<K, MemDevice>,
-    task: Task,
-) -> Result<u64, Trouble> {
-    match task.work {
-        Work::Read(access) => bytes::read(rt, alloc, mutator, access, task.count),
-        Work::Write(access) => bytes::write(rt, alloc, mutator, access, task.count),
-        Work::Scope => Ok(scopes::scope(mutator, task.count)),
-        Work::Again => scopes::again(rt, alloc, mutator, task.count),
-        Work::View => scopes::view(rt, alloc, mutator, task.count),
-        Work::Churn => rounds::churn(rt, heap, mutator, task.count),
-        Work::Slow => rounds::slow(rt, alloc, heap, mutator, task.count),
-        Work::Rounds | Work::Scale(_) => rounds::rounds(rt, alloc, heap, mutator, task.count),
+fn total(sums: &[Result<u64, Refused>]) -> Result<u64, Refused> {
+    let mut total: u64 = 0;
+    for sum in sums {
+        total = total.wrapping_add((*sum)?);
     }
+    Ok(total)
 }
 
-// The sum of a task over a heap.
-fn sum_over<K: HeapName + Send + Sync, R: Threads + Wait + Sync>(
-    rt: &R,
-    alloc: Global,
-    heap: &Heap<K, MemDevice>,
-    mutators: Vec<Mutator<K, MemDevice>>,
-    task: Task,
-) -> Result<u64, Trouble> {
-    match task.work {
-        Work::Scale(_) => scale::scale(rt, alloc, mutators, task.count),
-        _ => sum_of_one(rt, alloc, heap, heaps::first(mutators)?, task),
-    }
-}
-
-// The same over a new one.
+// The sum of a task over a new heap, each of whose mutators has a thread.
 fn sum_of<K: HeapName + Send + Sync, R: Threads + Wait + Sync>(
     rt: &R,
     alloc: Global,
     blank: Blank<MemDevice>,
     task: Task,
-) -> Result<u64, Trouble>
+) -> Result<u64, Refused>
     requires { blank.heap ≡ K.heap }
 {
-    match Heap::<K, MemDevice>::new(alloc, blank) {
-        Ok((heap, mutators)) => sum_over(rt, alloc, &heap, mutators, task),
-        Err(why) => Err(Trouble::Refused(why)),
+    let (heap, mutators) = Heap::<K, MemDevice>::new(alloc, blank)?;
+    let passed = &heap;
+    let each = |mutator: Mutator<K, MemDevice>| sum_of_one(rt, passed, mutator, task);
+    match thread::map_vec(rt, mutators, &each) {
+        Ok(sums) => total(sums.as_slice()),
+        Err(_) => Err(Refused::Memory),
     }
 }
 
-fn done<R: Threads + Wait + Sync>(rt: &R, alloc: Global, task: Task) -> Result<u64, Trouble> {
-    let blank = Blank::new(alloc, task.shape(), MemDevice::new(alloc))?;
-    sum_of::<Brand, _>(rt, alloc, blank, task)
+fn done<R: Threads + Wait + Sync>(rt: &R, alloc: Global, task: Task) -> Result<u64, Refused> {
+    match Blank::new(alloc, task.shape, MemDevice::new(alloc)) {
+        Ok(blank) => sum_of::<Brand, _>(rt, alloc, blank, task),
+        Err(why) => Err(why),
+    }
 }
 
 fn asked(rt: &HostRuntime) -> io::Result<Option<Task>> {

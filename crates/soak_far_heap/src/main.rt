@@ -75,13 +75,11 @@ fn write_all<K: HeapName + Send + Sync, R: Threads + Wait + Sync>(
     mutators: Vec<Mutator<K, MemDevice>>,
     asked: Asked,
 ) -> Result<Vec<Writer<K>>, AllocError> {
-    let written = thread::map_vec(
+    thread::map_vec(
         rt,
         mutators,
         &|mutator| write(rt, alloc, gate, asked, mutator),
-    );
-    gate.end();
-    written
+    )
 }
 
 // What all threads did with a heap.
@@ -94,11 +92,13 @@ fn work_beside<K: HeapName + Send + Sync, R: Threads + Wait + Sync>(
 ) -> Option<Counts> {
     let gate = Gate::new();
     let passed = &gate;
-    let (written, mut counts) = thread::join(
-        rt,
-        || write_all(rt, alloc, passed, mutators, asked),
-        || make_rounds(rt, heap, passed, asked.seed),
-    );
+    let writers = || {
+        let written = write_all(rt, alloc, passed, mutators, asked);
+        passed.end();
+        written
+    };
+    let rounds = || make_rounds(rt, heap, passed, asked.seed);
+    let (written, mut counts) = thread::join(rt, writers, rounds);
     match written {
         Ok(writers) => {
             judge(rt, heap, writers, &mut counts);

@@ -1,10 +1,9 @@
 //! Talks to heaps whose device fails in one call, or lies in one read.
 
 use super::rounds::PLAIN_ROUND;
-use super::talk::is_answered;
+use super::talk::{is_answered, is_made_and_answered};
 use far_replay::{End, run};
-use std::process::Abort;
-use std::test::Fail;
+use std::alloc::{AllocError, Global};
 
 /// The device fails where an object is to leave, which stays; after an abort all is as it was.
 const DEVICE_FAILS: &str = "\
@@ -282,24 +281,26 @@ const TALKS: [&str; 9] = [
 ];
 
 #[test]
-fn devices_are_flawed(rt: HostRuntime) -> Result<(), Fail> {
+fn devices_are_flawed(rt: HostRuntime) {
     for talk in TALKS {
-        is_answered(&rt, talk)?;
+        assert!(rt; is_answered(rt.alloc(), talk), "at {talk}");
     }
-    Ok(())
+}
+
+// The plain round over a device that is named so.
+fn round_over(alloc: Global, device: &str) -> Result<String, AllocError> {
+    let rest = PLAIN_ROUND.strip_prefix("heap 4 1\n  ok\n").unwrap_or("");
+    Ok(format!(in alloc; "heap 4 1\n  ok\ndevice {device}\n  ok\n{rest}")?)
 }
 
 /// The plain round asks for one read.
 #[test]
-fn a_lie_may_never_come(rt: HostRuntime) -> Result<(), Fail> {
-    let Some(rest) = PLAIN_ROUND.strip_prefix("heap 4 1\n  ok\n") else {
-        return Err("its heap is another".into());
-    };
+fn a_lie_may_never_come(rt: HostRuntime) {
+    assert!(rt; PLAIN_ROUND.starts_with("heap 4 1\n  ok\n"));
     for device in ["short 0", "flip 0", "short 2", "flip 18446744073709551615"] {
-        let talk = format!(in rt.alloc(); "heap 4 1\n  ok\ndevice {device}\n  ok\n{rest}")?;
-        is_answered(&rt, &talk)?;
+        let talk = round_over(rt.alloc(), device);
+        assert!(rt; is_made_and_answered(rt.alloc(), talk), "with {device}");
     }
-    Ok(())
 }
 
 /// Commands after a heap, reads of all its objects, and what they give: the bytes, or those after a read that was inverted.
@@ -318,21 +319,19 @@ struct Flawed {
     shown: &'static str,
 }
 
-/// The replies of a text, all of whose lines are made.
-fn replies(rt: &(impl Abort + AllocGlobal), text: &str) -> Result<String, Fail> {
+// The replies of a text, all of whose lines are made.
+fn replies(alloc: Global, text: &str) -> Option<String> {
     let mut reader = text.as_bytes();
-    let mut written = Vec::new(rt.alloc());
-    let ended = run(rt.alloc(), &mut reader, &mut written);
-    assert_eq!(rt; ended, Ok(End::Ran), "at {text}");
-    let told = String::from_utf8_lossy(rt.alloc(), &written)?;
-    let mut owned = String::new(rt.alloc());
-    owned.push_str(&told)?;
-    Ok(owned)
+    let mut written = Vec::new(alloc);
+    if run(alloc, &mut reader, &mut written) != Ok(End::Ran) {
+        return None;
+    }
+    String::from_utf8(written).ok()
 }
 
-/// The first lines of a text, up to the one of this number.
-fn up_to(rt: &impl AllocGlobal, text: &str, at: usize) -> Result<String, Fail> {
-    let mut first = String::new(rt.alloc());
+// The first lines of a text, up to the one of this number.
+fn up_to(alloc: Global, text: &str, at: usize) -> Result<String, AllocError> {
+    let mut first = String::new(alloc);
     for (i, line) in text.lines().enumerate() {
         if i <= at {
             first.push_str(line)?;
@@ -342,66 +341,116 @@ fn up_to(rt: &impl AllocGlobal, text: &str, at: usize) -> Result<String, Fail> {
     Ok(first)
 }
 
-/// The text of a row whose device has its flaw in this call, with reads of all objects at its end.
-fn flawed_text(rt: &impl AllocGlobal, row: Row, flaw: Flawed, call: u64) -> Result<String, Fail> {
+// The text of a row whose device has its flaw in this call, with reads of all objects at its end.
+fn flawed_text(alloc: Global, row: &Row, flaw: Flawed, call: u64) -> Result<String, AllocError> {
     let (name, commands, reads) = (flaw.name, row.commands, row.reads);
-    Ok(format!(in rt.alloc(); "heap 4 1\ndevice {name} {call}\n{commands}{reads}")?)
+    Ok(format!(in alloc; "heap 4 1\ndevice {name} {call}\n{commands}{reads}")?)
 }
 
-/// The number of the first reply that has these words, and whether it tells that a round was stopped there.
-fn shown_at(told: &str, shown: &str) -> Option<(usize, bool)> {
-    for (i, line) in told.lines().enumerate() {
+/// Where a flaw shows in what is told: the number of the first reply that has its words, and whether that tells that a round
+/// was stopped there.
+#[derive(Clone, Copy)]
+struct Shown {
+    at: usize,
+    stopped: bool,
+}
+
+fn shown_at(told: &str, shown: &str) -> Option<Shown> {
+    for (at, line) in told.lines().enumerate() {
         if line.contains(shown) {
-            return Some((i, line.contains(" moved ")));
+            let stopped = line.contains(" moved ");
+            return Some(Shown { at, stopped });
         }
     }
     None
 }
 
-/// Whether a reply of this text shows the flaw. Then the text is ended after that command, a round that was stopped there is given up, and
-/// reads of all objects, twice, give the row's bytes: only an inverted read changes them.
-fn shows(
-    rt: &(impl Abort + AllocGlobal),
-    row: Row,
-    flaw: Flawed,
-    text: &str,
-) -> Result<bool, Fail> {
-    let reads = row.reads;
-    let told = replies(rt, text)?;
-    let Some((at, stopped)) = shown_at(&told, flaw.shown) else {
-        assert!(rt; told.ends_with(row.bytes), "at {text}");
-        return Ok(false);
-    };
-    let abort = if stopped { "abort\n" } else { "" };
-    let before = up_to(rt, text, at)?;
-    let mut begin = up_to(rt, &told, at)?;
-    if stopped {
+// The text ended after the command at which the flaw shows: a round that was stopped there is given up, and all objects are read twice.
+fn ended(alloc: Global, row: &Row, text: &str, shown: Shown) -> Result<String, AllocError> {
+    let mut text = up_to(alloc, text, shown.at)?;
+    if shown.stopped {
+        text.push_str("abort\n")?;
+    }
+    text.push_str("open 0\n")?;
+    text.push_str(row.reads)?;
+    text.push_str(row.reads)?;
+    Ok(text)
+}
+
+// How the replies to that begin.
+fn begin_of(alloc: Global, told: &str, shown: Shown) -> Result<String, AllocError> {
+    let mut begin = up_to(alloc, told, shown.at)?;
+    if shown.stopped {
         begin.push_str("ok\n")?;
     }
+    Ok(begin)
+}
+
+// How they end: by the row's bytes, twice. Only an inverted read changes them.
+fn end_of(alloc: Global, row: &Row, flaw: Flawed) -> Result<String, AllocError> {
     let bytes = if flaw.name == "flip" {
         row.inverted
     } else {
         row.bytes
     };
-    let end = format!(in rt.alloc(); "{bytes}{bytes}")?;
-    let text = format!(in rt.alloc(); "{before}{abort}open 0\n{reads}{reads}")?;
-    let told = replies(rt, &text)?;
-    assert!(rt;
-        told.starts_with(begin.as_str()) && told.ends_with(end.as_str()),
-        "at {text}"
-    );
-    Ok(true)
+    Ok(format!(in alloc; "{bytes}{bytes}")?)
 }
 
-/// In how many calls, one after the other, the device of a row may have its flaw: fewer than nine.
-fn shows_each(rt: &(impl Abort + AllocGlobal), row: Row, flaw: Flawed) -> Result<u64, Fail> {
-    for call in 1..9u64 {
-        let text = flawed_text(rt, row, flaw, call)?;
-        if !shows(rt, row, flaw, &text)? {
-            return Ok(call - 1);
+// Whether the replies to the text, ended so, begin and end so.
+fn ends_so(alloc: Global, text: &str, begin: &str, end: &str) -> bool {
+    match replies(alloc, text) {
+        Some(told) => told.starts_with(begin) && told.ends_with(end),
+        None => false,
+    }
+}
+
+// Whether the device's flaw leaves all else as it is, where it shows.
+fn leaves_all(
+    alloc: Global,
+    row: &Row,
+    flaw: Flawed,
+    text: &str,
+    told: &str,
+    shown: Shown,
+) -> bool {
+    let Ok(text) = ended(alloc, row, text, shown) else {
+        return false;
+    };
+    let Ok(begin) = begin_of(alloc, told, shown) else {
+        return false;
+    };
+    match end_of(alloc, row, flaw) {
+        Ok(end) => ends_so(alloc, &text, &begin, &end),
+        Err(_) => false,
+    }
+}
+
+// Whether a reply of this text shows the flaw, which leaves all else as it is; `None` where it doesn't.
+fn shows(alloc: Global, row: &Row, flaw: Flawed, text: &str) -> Option<bool> {
+    let told = replies(alloc, text)?;
+    match shown_at(&told, flaw.shown) {
+        Some(shown) if leaves_all(alloc, row, flaw, text, &told, shown) => Some(true),
+        None if told.ends_with(row.bytes) => Some(false),
+        _ => None,
+    }
+}
+
+// The same of the row's text with the flaw in this call.
+fn shows_in(alloc: Global, row: &Row, flaw: Flawed, call: u64) -> Option<bool> {
+    match flawed_text(alloc, row, flaw, call) {
+        Ok(text) => shows(alloc, row, flaw, &text),
+        Err(_) => None,
+    }
+}
+
+// Whether the device of a row may have its flaw in each of so many calls, one after the other, and in no further one.
+fn shows_times(alloc: Global, row: &Row, flaw: Flawed, times: u64) -> bool {
+    for call in 1..times.saturating_add(1) {
+        if shows_in(alloc, row, flaw, call) != Some(true) {
+            return false;
         }
     }
-    Err("it shows nine times".into())
+    shows_in(alloc, row, flaw, times.saturating_add(1)) == Some(false)
 }
 
 /// The plain round.
@@ -452,23 +501,29 @@ where 0 0
     inverted: "data ff\ndata 00\ndata 00\n",
 };
 
-#[test]
-fn fail_each(rt: HostRuntime) -> Result<(), Fail> {
-    let flaw = Flawed {
-        name: "fail",
-        shown: "refused 10",
-    };
-    assert_eq!(rt; shows_each(&rt, PLAIN_ROW, flaw)?, 2);
-    assert_eq!(rt; shows_each(&rt, HOT_ROW, flaw)?, 2);
-    Ok(())
+const FAIL: Flawed = Flawed {
+    name: "fail",
+    shown: "refused 10",
+};
+
+const SHORT_READ: Flawed = Flawed {
+    name: "short",
+    shown: "refused 11",
+};
+
+const INVERTED_READ: Flawed = Flawed {
+    name: "flip",
+    shown: "ff",
+};
+
+// Whether the devices of both rows may have a flaw in so many calls.
+fn both_show(alloc: Global, flaw: Flawed, times: u64) -> bool {
+    shows_times(alloc, &PLAIN_ROW, flaw, times) && shows_times(alloc, &HOT_ROW, flaw, times)
 }
 
 #[test]
-fn lie_each(rt: HostRuntime) -> Result<(), Fail> {
-    for (name, shown) in [("short", "refused 11"), ("flip", "ff")] {
-        let flaw = Flawed { name, shown };
-        assert_eq!(rt; shows_each(&rt, PLAIN_ROW, flaw)?, 1);
-        assert_eq!(rt; shows_each(&rt, HOT_ROW, flaw)?, 1);
-    }
-    Ok(())
+fn flaws_come_in_each_call(rt: HostRuntime) {
+    assert!(rt; both_show(rt.alloc(), FAIL, 2));
+    assert!(rt; both_show(rt.alloc(), SHORT_READ, 1));
+    assert!(rt; both_show(rt.alloc(), INVERTED_READ, 1));
 }

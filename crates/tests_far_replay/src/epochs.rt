@@ -1,7 +1,6 @@
 //! Talks about epochs, as talks.rt has about all else.
 
 use super::talk::is_answered;
-use std::test::Fail;
 
 /// The epoch is the first one until a round raises it; it is read with the scope closed.
 const EPOCHS: &str = "\
@@ -62,9 +61,8 @@ epoch 0
 const TALKS: [&str; 3] = [EPOCHS, FIRST_EPOCH, SAID_EPOCH];
 
 #[test]
-fn epochs_are_told(rt: HostRuntime) -> Result<(), Fail> {
+fn epochs_are_told(rt: HostRuntime) {
     for talk in TALKS {
-        is_answered(&rt, talk)?;
+        assert!(rt; is_answered(rt.alloc(), talk), "at {talk}");
     }
-    Ok(())
 }

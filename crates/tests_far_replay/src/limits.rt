@@ -1,9 +1,8 @@
 //! The longest texts, lines and answers; the smallest and largest heaps; all pointers, and the longest objects.
 
-use super::talk::{answers, is_answered, push_times};
+use super::talk::{built, is_made_and_answered, is_made_and_run};
 use far_replay::End;
-use std::process::Abort;
-use std::test::Fail;
+use std::alloc::{AllocError, Global};
 
 // 64 bytes.
 const COMMENT: &str = "# one of the many lines of a text that is as long as it may be \n";
@@ -11,90 +10,97 @@ const COMMENT: &str = "# one of the many lines of a text that is as long as it m
 // 64 bytes.
 const LAST: &str = "# the last comment, and then commands here...\nheap 4 1\nnew 0 8 1";
 
-#[test]
-fn the_longest_text(rt: HostRuntime) -> Result<(), Fail> {
-    let mut text = String::new(rt.alloc());
-    push_times(&mut text, COMMENT, 16_383)?;
-    text.push_str(LAST)?;
-    assert_eq!(rt; text.len(), 1_048_576);
-    answers(&rt, &text, "ok\npointer 0\n", End::Ran)?;
-    for more in ["0", "\nbad\n", COMMENT] {
-        text.push_str(more)?;
-        answers(&rt, &text, "refused 16 0\n", End::Refused)?;
-    }
-    Ok(())
-}
-
-// A line of so many bytes that begins so and goes on by zeros, between a heap and nothing.
-fn with_line(
-    rt: &(impl Abort + AllocGlobal),
-    front: &str,
-    len: u64,
-    answer: &str,
+/// Parts of a text, each so many times; its answer; and how its run ends.
+#[derive(Clone, Copy)]
+struct Row {
+    parts: &'static [(&'static str, u64)],
+    answer: &'static str,
     end: End,
-) -> Result<(), Fail> {
-    let mut text = String::new(rt.alloc());
-    text.push_str("heap 4 1\n")?;
-    text.push_str(front)?;
-    push_times(&mut text, "0", len.saturating_sub(front.len() as u64))?;
-    answers(rt, &text, answer, end)?;
-    text.push('\n')?;
-    answers(rt, &text, answer, end)
+}
+
+#[rattlefmt::skip]
+const ROWS: &[Row] = &[
+    // The longest text has 1,048,576 bytes.
+    Row { parts: &[(COMMENT, 16_383), (LAST, 1)], answer: "ok\npointer 0\n", end: End::Ran },
+    Row { parts: &[(COMMENT, 16_383), (LAST, 1), ("0", 1)], answer: "refused 16 0\n", end: End::Refused },
+    Row { parts: &[(COMMENT, 16_383), (LAST, 1), ("0\nbad\n", 1)], answer: "refused 16 0\n", end: End::Refused },
+    Row { parts: &[(COMMENT, 16_383), (LAST, 1), ("0\nbad\n", 1), (COMMENT, 1)], answer: "refused 16 0\n", end: End::Refused },
+
+    // The longest line has 4,096 bytes, with a newline after it or none.
+    Row { parts: &[("heap 4 1\n#", 1), ("0", 4095)], answer: "ok\n", end: End::Ran },
+    Row { parts: &[("heap 4 1\n#", 1), ("0", 4095), ("\n", 1)], answer: "ok\n", end: End::Ran },
+    Row { parts: &[("heap 4 1\n#", 1), ("0", 4096)], answer: "refused 16 2\n", end: End::Refused },
+    Row { parts: &[("heap 4 1\n#", 1), ("0", 4096), ("\n", 1)], answer: "refused 16 2\n", end: End::Refused },
+    Row { parts: &[("heap 4 1\nwrite 1 1 1 ", 1), ("0", 4084)], answer: "ok\nrefused 8\n", end: End::Ran },
+    Row { parts: &[("heap 4 1\nwrite 1 1 1 ", 1), ("0", 4084), ("\n", 1)], answer: "ok\nrefused 8\n", end: End::Ran },
+    Row { parts: &[("heap 4 1\nwrite 1 1 11 ", 1), ("0", 4084)], answer: "refused 16 2\n", end: End::Refused },
+    Row { parts: &[("heap 4 1\nwrite 1 1 11 ", 1), ("0", 4084), ("\n", 1)], answer: "refused 16 2\n", end: End::Refused },
+];
+
+// Whether a row's text is answered so.
+fn comes_out(alloc: Global, row: &Row) -> bool {
+    is_made_and_run(alloc, built(alloc, row.parts), row.answer, row.end)
 }
 
 #[test]
-fn the_longest_line(rt: HostRuntime) -> Result<(), Fail> {
-    with_line(&rt, "#", 4096, "ok\n", End::Ran)?;
-    with_line(&rt, "#", 4097, "refused 16 2\n", End::Refused)?;
-    with_line(&rt, "write 1 1 1 ", 4096, "ok\nrefused 8\n", End::Ran)?;
-    with_line(&rt, "write 1 1 11 ", 4097, "refused 16 2\n", End::Refused)
+fn the_longest_texts_and_lines(rt: HostRuntime) {
+    assert!(rt; 16_383 * COMMENT.len() + LAST.len() == 1_048_576);
+    for (at, row) in ROWS.iter().enumerate() {
+        assert!(rt; comes_out(rt.alloc(), row), "row {at}");
+    }
 }
 
-// Adds `logs` with its answer, of logs from one on that are free.
-fn push_logs(talk: &mut String, rt: &impl AllocGlobal, first: &str, logs: u64) -> Result<(), Fail> {
-    talk.push_str("logs\n  log 0 ")?;
-    talk.push_str(first)?;
+// Adds the answer to `logs`, of logs from one on that are free.
+fn push_logs(talk: &mut String, alloc: Global, logs: u64) -> Result<(), AllocError> {
+    talk.push_str("logs\n  log 0 open live 0 dead 0 unused 1024\n")?;
     for log in 1..logs {
-        let line = format!(in rt.alloc(); "\n  log {log} free live 0 dead 0 unused 1024")?;
+        let line = format!(in alloc; "  log {log} free live 0 dead 0 unused 1024\n")?;
         talk.push_str(&line)?;
     }
-    talk.push_str("\n")?;
     Ok(())
 }
 
-#[test]
-fn smallest_and_largest_heaps(rt: HostRuntime) -> Result<(), Fail> {
-    for (logs, mutators) in [(2, 1), (2, 8), (64, 1), (64, 8)] {
-        let mut talk = format!(in rt.alloc(); "heap {logs} {mutators}\n  ok\n")?;
-        push_logs(&mut talk, &rt, "open live 0 dead 0 unused 1024", logs)?;
-        for mutator in 0..mutators {
-            talk.push_str(&format!(in rt.alloc(); "open {mutator}\n  ok\n")?)?;
-        }
-        talk.push_str(&format!(in rt.alloc(); "open {mutators}\n  refused 8\n")?)?;
-        is_answered(&rt, &talk)?;
+// A talk of a heap of this size, whose mutators open their scopes.
+fn size_talk(alloc: Global, logs: u64, mutators: u64) -> Result<String, AllocError> {
+    let mut talk = format!(in alloc; "heap {logs} {mutators}\n  ok\n")?;
+    push_logs(&mut talk, alloc, logs)?;
+    for mutator in 0..mutators {
+        talk.push_str(&format!(in alloc; "open {mutator}\n  ok\n")?)?;
     }
-    Ok(())
+    talk.push_str(&format!(in alloc; "open {mutators}\n  refused 8\n")?)?;
+    Ok(talk)
+}
+
+// Whether it is answered so.
+fn is_size(alloc: Global, logs: u64, mutators: u64) -> bool {
+    is_made_and_answered(alloc, size_talk(alloc, logs, mutators))
+}
+
+#[test]
+fn smallest_and_largest_heaps(rt: HostRuntime) {
+    assert!(rt; is_size(rt.alloc(), 2, 1) && is_size(rt.alloc(), 2, 8));
+    assert!(rt; is_size(rt.alloc(), 64, 1) && is_size(rt.alloc(), 64, 8));
 }
 
 // Adds 128 objects of a byte, whose pointers are numbered from this one on, and one more that gets no pointer.
-fn push_all_pointers(talk: &mut String, rt: &impl AllocGlobal, mutator: u64) -> Result<(), Fail> {
+fn push_all_pointers(talk: &mut String, alloc: Global, mutator: u64) -> Result<(), AllocError> {
     for i in 0u64..128 {
         let pointer = (mutator % 8) * 128 + i;
-        let line = format!(in rt.alloc(); "new {mutator} 1 1\n  pointer {pointer}\n")?;
+        let line = format!(in alloc; "new {mutator} 1 1\n  pointer {pointer}\n")?;
         talk.push_str(&line)?;
     }
-    talk.push_str(&format!(in rt.alloc(); "new {mutator} 1 1\n  refused 3\n")?)?;
-    Ok(())
+    talk.push_str(&format!(in alloc; "new {mutator} 1 1\n  refused 3\n")?)
 }
 
-#[test]
-fn each_mutator_has_128_pointers(rt: HostRuntime) -> Result<(), Fail> {
-    let mut talk = format!(in rt.alloc(); "heap 64 8\n  ok\n")?;
+// A talk in which each mutator uses up its pointers.
+fn all_pointers_talk(alloc: Global) -> Result<String, AllocError> {
+    let mut talk = String::new(alloc);
+    talk.push_str("heap 64 8\n  ok\n")?;
     for mutator in [7, 0, 3, 1, 6, 2, 5, 4] {
-        push_all_pointers(&mut talk, &rt, mutator)?;
+        push_all_pointers(&mut talk, alloc, mutator)?;
     }
     talk.push_str("new 8 1 1\n  refused 8\nopen 7\n  ok\nread 7 1023 0 1\n  data 00\n")?;
-    is_answered(&rt, &talk)
+    Ok(talk)
 }
 
 // With both logs full and all pointers used up, 3 comes before 2.
@@ -123,25 +129,46 @@ logs
   log 2 free live 0 dead 0 unused 1024
 ";
 
-#[test]
-fn causes_in_order_where_pointers_and_room_are_used_up(rt: HostRuntime) -> Result<(), Fail> {
-    let mut talk = format!(in rt.alloc(); "heap 3 2\n  ok\n")?;
-    push_all_pointers(&mut talk, &rt, 0)?;
+// A talk in which one mutator uses up its pointers, and two the room.
+fn used_up_talk(alloc: Global) -> Result<String, AllocError> {
+    let mut talk = String::new(alloc);
+    talk.push_str("heap 3 2\n  ok\n")?;
+    push_all_pointers(&mut talk, alloc, 0)?;
     talk.push_str(USED_UP)?;
-    is_answered(&rt, &talk)
+    Ok(talk)
+}
+
+// After 63 of the longest objects there is no room, and the last is written and read.
+const FULL: &[(&str, u64)] = &[
+    (
+        "new 0 1016 1\n  refused 2\nnew 0 1 1\n  refused 2\nwrite 0 62 0 ",
+        1,
+    ),
+    ("5a", 1016),
+    ("\n  ok\nread 0 62 0 1016\n  data ", 1),
+    ("5a", 1016),
+    (
+        "\nread 0 61 1015 1\n  data 00\nread 0 62 1015 1\n  data 5a\n",
+        1,
+    ),
+];
+
+// The talk that makes them.
+fn longest_objects_talk(alloc: Global) -> Result<String, AllocError> {
+    let mut talk = String::new(alloc);
+    talk.push_str("heap 64 1\n  ok\nopen 0\n  ok\n")?;
+    for pointer in 0u64..63 {
+        let line = format!(in alloc; "new 0 1016 1\n  pointer {pointer}\n")?;
+        talk.push_str(&line)?;
+    }
+    talk.push_str(&built(alloc, FULL)?)?;
+    Ok(talk)
 }
 
 #[test]
-fn the_largest_heap_holds_63_of_the_longest_objects(rt: HostRuntime) -> Result<(), Fail> {
-    let mut talk = format!(in rt.alloc(); "heap 64 1\n  ok\nopen 0\n  ok\n")?;
-    for pointer in 0u64..63 {
-        let line = format!(in rt.alloc(); "new 0 1016 1\n  pointer {pointer}\n")?;
-        talk.push_str(&line)?;
-    }
-    talk.push_str("new 0 1016 1\n  refused 2\nnew 0 1 1\n  refused 2\nwrite 0 62 0 ")?;
-    push_times(&mut talk, "5a", 1016)?;
-    talk.push_str("\n  ok\nread 0 62 0 1016\n  data ")?;
-    push_times(&mut talk, "5a", 1016)?;
-    talk.push_str("\nread 0 61 1015 1\n  data 00\nread 0 62 1015 1\n  data 5a\n")?;
-    is_answered(&rt, &talk)
+fn pointers_and_room_are_used_up(rt: HostRuntime) {
+    let alloc = rt.alloc();
+    assert!(rt; is_made_and_answered(alloc, all_pointers_talk(alloc)));
+    assert!(rt; is_made_and_answered(alloc, used_up_talk(alloc)));
+    assert!(rt; is_made_and_answered(alloc, longest_objects_talk(alloc)));
 }

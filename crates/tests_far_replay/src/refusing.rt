@@ -1,8 +1,8 @@
 //! Commands that are refused: the first cause's number comes, and nothing changes.
 
-use super::talk::{answers, is_answered, push_times};
+use super::talk::{built, is_made_and_answered, is_made_and_run, push_times};
 use far_replay::End;
-use std::test::Fail;
+use std::alloc::{AllocError, Global};
 
 // Mutator 0 is open and has two objects. Mutator 1 is closed and has one.
 const START: &str = "\
@@ -240,29 +240,42 @@ const REFUSED: &str = "\
 8 log 18446744073709551615
 ";
 
-#[test]
-fn refused_commands_change_nothing(rt: HostRuntime) -> Result<(), Fail> {
-    let mut talk = String::new(rt.alloc());
+// Adds a command that is refused, and what shows that nothing has changed.
+fn push_refused(talk: &mut String, row: &str) -> Result<(), AllocError> {
+    let (number, command) = row.split_once(' ').unwrap_or(("", row));
+    talk.push_str(command)?;
+    talk.push_str("\n  refused ")?;
+    talk.push_str(number)?;
+    talk.push('\n')?;
+    talk.push_str(SHOWN)
+}
+
+// The whole talk.
+fn refused_talk(alloc: Global) -> Result<String, AllocError> {
+    let mut talk = String::new(alloc);
     talk.push_str(START)?;
-    for line in REFUSED.lines() {
-        let (number, command) = line.split_once(' ').unwrap_or(("", line));
-        for part in [command, "\n  refused ", number, "\n", SHOWN] {
-            talk.push_str(part)?;
-        }
+    for row in REFUSED.lines() {
+        push_refused(&mut talk, row)?;
     }
     for bytes in [1016u64, 1017, 1024, 2041, 2042] {
         talk.push_str("write 0 0 0 ")?;
         push_times(&mut talk, "ff", bytes)?;
-        talk.push_str(&format!(in rt.alloc(); "\n  refused 8\n{SHOWN}")?)?;
+        talk.push_str("\n  refused 8\n")?;
+        talk.push_str(SHOWN)?;
     }
     talk.push_str(REST)?;
-    is_answered(&rt, &talk)
+    Ok(talk)
 }
 
 #[test]
-fn a_write_that_is_too_long_for_a_line(rt: HostRuntime) -> Result<(), Fail> {
-    let mut text = String::new(rt.alloc());
-    text.push_str("heap 4 1\nwrite 0 0 0 ")?;
-    push_times(&mut text, "ff", 2043)?;
-    answers(&rt, &text, "refused 16 2\n", End::Refused)
+fn refused_commands_change_nothing(rt: HostRuntime) {
+    assert!(rt; is_made_and_answered(rt.alloc(), refused_talk(rt.alloc())));
+}
+
+const TOO_LONG: &[(&str, u64)] = &[("heap 4 1\nwrite 0 0 0 ", 1), ("ff", 2043)];
+
+#[test]
+fn a_write_that_is_too_long_for_a_line(rt: HostRuntime) {
+    let made = built(rt.alloc(), TOO_LONG);
+    assert!(rt; is_made_and_run(rt.alloc(), made, "refused 16 2\n", End::Refused));
 }

@@ -1,7 +1,6 @@
 //! Talks about rounds: logs are chosen, marked, waited for and emptied.
 
 use super::talk::is_answered;
-use std::test::Fail;
 
 /// A round moves what was used lately, sends the rest far, and gives the log back.
 pub const PLAIN_ROUND: &str = "\
@@ -742,9 +741,8 @@ const ROUNDS: [&str; 21] = [
 ];
 
 #[test]
-fn rounds_are_answered(rt: HostRuntime) -> Result<(), Fail> {
+fn rounds_are_answered(rt: HostRuntime) {
     for talk in ROUNDS {
-        is_answered(&rt, talk)?;
+        assert!(rt; is_answered(rt.alloc(), talk), "at {talk}");
     }
-    Ok(())
 }

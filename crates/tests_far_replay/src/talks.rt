@@ -1,7 +1,6 @@
 //! Talks: commands of a text, each followed by the lines of its reply, two spaces in.
 
 use super::talk::is_answered;
-use std::test::Fail;
 
 /// The first object is made and read.
 const FIRST_OBJECT: &str = "\
@@ -745,9 +744,8 @@ const TALKS: [&str; 25] = [
 ];
 
 #[test]
-fn talks_are_answered(rt: HostRuntime) -> Result<(), Fail> {
+fn talks_are_answered(rt: HostRuntime) {
     for talk in TALKS {
-        is_answered(&rt, talk)?;
+        assert!(rt; is_answered(rt.alloc(), talk), "at {talk}");
     }
-    Ok(())
 }

@@ -1,15 +1,17 @@
 //! Texts that are refused, and texts without a command.
 
-use super::talk::answers;
+use super::talk::is_run;
 use far_replay::End;
-use std::test::Fail;
+use std::alloc::{AllocError, Global};
+
+const NO_COMMANDS: [&str; 6] = ["", "\n", "\n\n\n", "#", "# alone\n", "\n# one\n\n#two\n#"];
 
 #[test]
-fn no_commands_get_no_answer(rt: HostRuntime) -> Result<(), Fail> {
-    for text in ["", "\n", "\n\n\n", "#", "# alone\n", "\n# one\n\n#two\n#"] {
-        answers(&rt, text, "", End::Ran)?;
+fn no_commands_get_no_answer(rt: HostRuntime) {
+    for text in NO_COMMANDS {
+        assert!(rt; is_run(rt.alloc(), text, "", End::Ran), "at {text}");
     }
-    answers(&rt, "heap 4 1", "ok\n", End::Ran)
+    assert!(rt; is_run(rt.alloc(), "heap 4 1", "ok\n", End::Ran));
 }
 
 // The number of the first line off the grammar, and the text, with / for a newline.
@@ -127,15 +129,27 @@ const BAD_TEXTS: &str = "\
 2 heap 4 1/open 18446744073709551616/
 ";
 
-#[test]
-fn one_bad_line_refuses_the_whole_text(rt: HostRuntime) -> Result<(), Fail> {
-    for row in BAD_TEXTS.lines() {
-        let (number, text) = row.split_once(' ').unwrap_or(("", row));
-        let text = text.replace(rt.alloc(), "/", "\n")?;
-        let answer = format!(in rt.alloc(); "refused 16 {number}\n")?;
-        answers(&rt, &text, &answer, End::Refused)?;
+// A row's text, and its answer.
+fn parts_of(alloc: Global, row: &str) -> Result<(String, String), AllocError> {
+    let (number, text) = row.split_once(' ').unwrap_or(("", row));
+    let text = text.replace(alloc, "/", "\n")?;
+    let answer = format!(in alloc; "refused 16 {number}\n")?;
+    Ok((text, answer))
+}
+
+// Whether a row's text is refused for its line.
+fn is_refused(alloc: Global, row: &str) -> bool {
+    match parts_of(alloc, row) {
+        Ok((text, answer)) => is_run(alloc, &text, &answer, End::Refused),
+        Err(_) => false,
     }
-    Ok(())
+}
+
+#[test]
+fn one_bad_line_refuses_the_whole_text(rt: HostRuntime) {
+    for row in BAD_TEXTS.lines() {
+        assert!(rt; is_refused(rt.alloc(), row), "at {row}");
+    }
 }
 
 const BAD_SHAPES: [&str; 17] = [
@@ -159,9 +173,11 @@ const BAD_SHAPES: [&str; 17] = [
 ];
 
 #[test]
-fn shapes_out_of_range_are_refused(rt: HostRuntime) -> Result<(), Fail> {
+fn shapes_out_of_range_are_refused(rt: HostRuntime) {
     for text in BAD_SHAPES {
-        answers(&rt, text, "refused 15\n", End::Refused)?;
+        assert!(rt;
+            is_run(rt.alloc(), text, "refused 15\n", End::Refused),
+            "at {text}"
+        );
     }
-    Ok(())
 }

@@ -1,7 +1,7 @@
 // What is known of an owner and one of its pointers when a test runs.
 
 /// What an owner knows of its scope and of one pointer.
-#[derive(Clone, Copy, Debug, PartialEq, Eq)]
+#[derive(Clone, Copy)]
 pub struct Known {
     /// Whether the scope is open.
     pub opened: bool,

@@ -1,5 +1,5 @@
 //! Whether the calls of owners' seats do what was meant, by worked values. Words of cells come from the layout's own table of
-//! examples, and headers are made field by field.
+//! examples.
 
 mod beside;
 mod calls;
@@ -16,60 +16,29 @@ use crate::Known;
 use far_core::{Core, Event, Reply, Shape};
 use far_device::MemDevice;
 use far_table::{MutSeat, share};
-use far_word::{CELLS, Place, Refused};
+use far_word::Refused;
 use owner::{Act, Owner, known_of};
 use std::alloc::{AllocError, Global};
-use std::process::Abort;
 use std::snapshot::Snapshot;
 
-/// The header word of an object, field by field.
-fn header(pointer: u16, len: u16, ds: u8) -> u64 {
-    0xa1 << 56 | (pointer as u64) << 24 | (ds as u64) << 16 | len as u64
-}
-
-fn put(log: u8, at: u16, word: u64) -> (Event, Reply) {
-    (Event::Put { log, at, word }, Reply::Done)
-}
-
-fn named(pointer: u16, new: u64) -> (Event, Reply) {
-    (
-        Event::Name {
-            pointer,
-            old: 0,
-            new,
-        },
-        Reply::Done,
-    )
-}
-
-fn adopted(owner: u8, pointer: u16, cell: u64) -> (Event, Reply) {
-    (Event::Adopt { owner, pointer }, Reply::Word(cell))
-}
-
-fn held(log: u8, at: u16) -> Reply {
-    Reply::Held(Place { log, at })
-}
-
-fn is_answered(core: &mut Core, event: Event, reply: Reply) -> bool {
-    core.step(event) == reply
-}
-
-/// The events answer these replies, in order.
-fn happens(rt: &impl Abort, core: &mut Core, cases: &[(Event, Reply)]) {
+// Whether the events are answered so, in order.
+fn happens(core: &mut Core, cases: &[(Event, Reply)]) -> bool {
     for (event, reply) in cases {
-        assert!(rt; is_answered(core, *event, *reply), "at {event:?}");
+        if core.step(*event) != *reply {
+            return false;
+        }
     }
+    true
 }
 
-fn is_given(owner: &mut Owner, act: Act, reply: Reply) -> bool {
-    owner.act(act) == reply
-}
-
-/// An owner's calls answer these replies, in order.
-fn answers(rt: &impl Abort, owner: &mut Owner, cases: &[(Act, Reply)]) {
+// Whether an owner's calls are answered so, in order.
+fn answers(owner: &mut Owner, cases: &[(Act, Reply)]) -> bool {
     for (act, reply) in cases {
-        assert!(rt; is_given(owner, *act, *reply), "at {act:?}");
+        if owner.act(*act) != *reply {
+            return false;
+        }
     }
+    true
 }
 
 // What the owners of a core know, by their numbers.
@@ -113,4 +82,35 @@ fn shared(alloc: Global, core: Core) -> Result<Vec<Owner>, Refused> {
         }
     }
     Ok(owners)
+}
+
+// A core of this shape on which these events have happened.
+fn made(alloc: Global, shape: Shape, before: &[(Event, Reply)]) -> Result<Core, Refused> {
+    let mut core = Core::new(alloc, shape, true)?;
+    if happens(&mut core, before) {
+        Ok(core)
+    } else {
+        Err(Refused::Range)
+    }
+}
+
+/// Whether the calls of the owner of this number are answered so, once a core of this shape is shared on which these events have happened.
+fn goes_on(
+    alloc: Global,
+    shape: Shape,
+    before: &[(Event, Reply)],
+    number: usize,
+    cases: &[(Act, Reply)],
+) -> bool {
+    let Ok(core) = made(alloc, shape, before) else {
+        return false;
+    };
+    let Ok(mut owners) = shared(alloc, core) else {
+        return false;
+    };
+    let count = owners.len();
+    if count as u64 != shape.mutators || number >= count {
+        return false;
+    }
+    answers(&mut owners[count - 1 - number], cases)
 }

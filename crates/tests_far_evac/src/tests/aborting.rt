@@ -2,12 +2,18 @@
 
 use crate::tests::acts::Act::*;
 use crate::tests::acts::Choice::{Eldest, Named};
-use crate::tests::acts::{Act, End};
+use crate::tests::acts::{Act, End, Play};
 use crate::tests::making::SMALL;
-use crate::tests::stage::plays;
+use crate::tests::stage::play;
 use far_core::Shape;
 use far_evac::{LogKind, Phase};
 use far_word::{Place, Refused};
+
+const FIVE: Shape = Shape {
+    logs: 5,
+    mutators: 1,
+    epoch: 0,
+};
 
 // A round of the first two of three full logs begins, the second first.
 const BEGUN_TURNED: &[Act] = &[MakesMany(3, 1016), Selects(Named(&[1, 0]), 2, Ok(&[1, 0]))];
@@ -27,23 +33,12 @@ const BOTH_MARKED: &[Act] = &[
     Epoch(1),
 ];
 
-#[test]
-fn marks_come_one_by_one(rt: HostRuntime) {
-    assert!(rt; plays(&rt, SMALL, &[BEGUN_TURNED, BOTH_MARKED]));
-}
-
 const NO_MARK: &[Act] = &[
     MakesMany(3, 1016),
     Drops(0),
     Selects(Eldest, 1, Ok(&[0])),
     Marks(0, Ok((0, Some(1)))),
 ];
-
-// Where no object lives there is none to be marked, so the epoch rises at once.
-#[test]
-fn no_mark_is_needed(rt: HostRuntime) {
-    assert!(rt; plays(&rt, SMALL, &[NO_MARK]));
-}
 
 // Logs 0 and 1 are sealed in this order, and have what they had.
 const AS_BEFORE: &[Act] = &[
@@ -57,22 +52,11 @@ const AS_BEFORE: &[Act] = &[
 
 const GIVEN_UP_MARKING: &[Act] = &[Marks(1, Ok((1, None))), GivesUp(Ok(())), Epoch(0)];
 
-// The logs were chosen in the other order.
-#[test]
-fn a_round_is_given_up_while_marking(rt: HostRuntime) {
-    assert!(rt; plays(&rt, SMALL, &[BEGUN_TURNED, GIVEN_UP_MARKING, AS_BEFORE]));
-}
-
 const GIVEN_UP_WAITING: &[Act] = &[
     Marks(9, Ok((2, Some(1)))),
     GivesUp(Ok(())),
     GivesUp(Err(Refused::Phase)),
 ];
-
-#[test]
-fn a_round_is_given_up_while_waiting(rt: HostRuntime) {
-    assert!(rt; plays(&rt, SMALL, &[BEGUN_TURNED, GIVEN_UP_WAITING, AS_BEFORE]));
-}
 
 // A round of the first two of three full logs is given up once the first is empty: its first object is far, and its second still there.
 const GIVEN_UP_MIDWAY: &[Act] = &[
@@ -86,12 +70,6 @@ const GIVEN_UP_MIDWAY: &[Act] = &[
     Log(1, LogKind::Sealed, [1024, 0, 0]),
     Selects(Eldest, 2, Ok(&[1])),
 ];
-
-// What has left stays away, and a log that was given back stays free.
-#[test]
-fn a_round_is_given_up_midway(rt: HostRuntime) {
-    assert!(rt; plays(&rt, SMALL, &[GIVEN_UP_MIDWAY]));
-}
 
 // The first of two small objects in log 0 is dealt with, and the log is sealed as it was once the round is given up.
 const HALF_EMPTY: &[Act] = &[
@@ -111,9 +89,27 @@ const EMPTY: &[Act] = &[
     Selects(Eldest, 9, Ok(&[1, 2])),
 ];
 
-// A log in which one of two objects was dealt with is sealed as it was; the next round takes the other.
+#[rattlefmt::skip]
+const PLAYS: &[Play] = &[
+    Play { name: "marks_come_one_by_one", shape: SMALL, parts: &[BEGUN_TURNED, BOTH_MARKED] },
+    // Where no object lives there is none to be marked, so the epoch rises at once.
+    Play { name: "no_mark_is_needed", shape: SMALL, parts: &[NO_MARK] },
+    // The logs were chosen in the other order.
+    Play {
+        name: "a_round_is_given_up_while_marking", shape: SMALL,
+        parts: &[BEGUN_TURNED, GIVEN_UP_MARKING, AS_BEFORE],
+    },
+    Play {
+        name: "a_round_is_given_up_while_waiting", shape: SMALL,
+        parts: &[BEGUN_TURNED, GIVEN_UP_WAITING, AS_BEFORE],
+    },
+    // What has left stays away, and a log that was given back stays free.
+    Play { name: "a_round_is_given_up_midway", shape: SMALL, parts: &[GIVEN_UP_MIDWAY] },
+    // A log in which one of two objects was dealt with is sealed as it was; the next round takes the other.
+    Play { name: "a_log_is_half_empty", shape: FIVE, parts: &[HALF_EMPTY, EMPTY] },
+];
+
 #[test]
-fn a_log_is_half_empty(rt: HostRuntime) {
-    let five = Shape { logs: 5, ..SMALL };
-    assert!(rt; plays(&rt, five, &[HALF_EMPTY, EMPTY]));
+fn rounds_are_given_up(rt: HostRuntime) {
+    play(&rt, rt.alloc(), PLAYS);
 }

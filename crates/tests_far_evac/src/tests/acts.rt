@@ -1,5 +1,6 @@
-//! Tests as data: what an evacuator and the first owner do, or show, each with what is to come of it.
+//! Tests as data: what an evacuator and the first owner do, or show, each with what is to come of it. A further test is a row.
 
+use far_core::Shape;
 use far_evac::{LogKind, Phase, Polled};
 use far_word::{Mark, Place, Refused};
 
@@ -103,9 +104,21 @@ pub(super) enum Act {
     Log(u8, LogKind, [u16; 3]),
     /// So many objects are near and so many far, and so many bytes are live.
     Counts(u64, u64, u64),
+    /// An audit lists this object alone, which lies at a place and asks for a move.
+    ListsAsked(u16, Place),
+    /// These logs are sealed, in this order.
+    Sealed(&'static [u8]),
 
     /// All that can be seen is noted.
     Notes,
     /// All that can be seen is as it was noted.
     AsNoted,
+}
+
+/// A test: its name, the shape of its heap, and its parts.
+#[derive(Clone, Copy)]
+pub(super) struct Play {
+    pub name: &'static str,
+    pub shape: Shape,
+    pub parts: &'static [&'static [Act]],
 }

@@ -4,9 +4,9 @@ ghost use Rattle.std.specs.Prelude.{◌≡◌};
 
 use crate::tests::acts::Act::*;
 use crate::tests::acts::Choice::{Eldest, Emptiest, Named};
-use crate::tests::acts::{Act, End};
+use crate::tests::acts::{Act, End, Play};
 use crate::tests::making::{SMALL, evacuator};
-use crate::tests::stage::{does_all, plays};
+use crate::tests::stage::{does_all, play};
 use crate::tests::steps::selects;
 use far_book::Plain;
 use far_core::Shape;
@@ -26,10 +26,18 @@ const BAD_SCRIPTS: &[Act] = &[
     Log(0, LogKind::Sealed, [16, 0, 1008]),
 ];
 
-#[test]
-fn a_bad_script_begins_no_round(rt: HostRuntime) {
-    assert!(rt; plays(&rt, SMALL, &[BAD_SCRIPTS]));
-}
+// A heap at the last epoch, and one that has one epoch left.
+const AT_LAST_EPOCH: Shape = Shape {
+    logs: 4,
+    mutators: 1,
+    epoch: (1 << 62) - 1,
+};
+
+const BEFORE_IT: Shape = Shape {
+    logs: 4,
+    mutators: 1,
+    epoch: (1 << 62) - 2,
+};
 
 const NO_EPOCH_LEFT: &[Act] = &[
     MakesMany(1, 8),
@@ -38,15 +46,6 @@ const NO_EPOCH_LEFT: &[Act] = &[
     Selects(Named(&[9]), 1, Err(Refused::EpochsSpent)),
     In(Phase::Idle),
 ];
-
-#[test]
-fn the_last_epoch_begins_no_round(rt: HostRuntime) {
-    let last = Shape {
-        epoch: (1 << 62) - 1,
-        ..SMALL
-    };
-    assert!(rt; plays(&rt, last, &[NO_EPOCH_LEFT]));
-}
 
 // A round reaches the last epoch, and another is refused for the phase until then. It ends, and another is refused for the epoch.
 const TO_THE_LAST: &[Act] = &[
@@ -61,15 +60,11 @@ const TO_THE_LAST: &[Act] = &[
     Selects(Eldest, 1, Err(Refused::EpochsSpent)),
 ];
 
-// While a round is running that has reached the last epoch, another is refused for the phase.
-#[test]
-fn a_running_round_comes_before_the_last_epoch(rt: HostRuntime) {
-    let last_but_one = Shape {
-        epoch: (1 << 62) - 2,
-        ..SMALL
-    };
-    assert!(rt; plays(&rt, last_but_one, &[TO_THE_LAST]));
-}
+const LARGEST: Shape = Shape {
+    logs: 64,
+    mutators: 1,
+    epoch: 0,
+};
 
 /// Takes no log, and counts how often it is asked, with how many rows and with which first.
 #[derive(Drop)]
@@ -110,7 +105,7 @@ fn has_62_rows(evac: &mut Evac<Plain, MemDevice>) -> bool {
 
 #[test]
 fn a_policy_is_handed_all_rows_of_the_largest_heap(rt: HostRuntime) {
-    let Ok(mut evac) = evacuator(&rt, Shape { logs: 64, ..SMALL }) else {
+    let Ok(mut evac) = evacuator(rt.alloc(), LARGEST) else {
         panic!(rt; "no evacuator is made");
     };
     assert!(rt; has_62_rows(&mut evac));
@@ -158,7 +153,7 @@ fn asks_once(evac: &mut Evac<Plain, MemDevice>) -> bool {
 // A policy is asked once, and only where a round may begin, with all sealed logs, the oldest first.
 #[test]
 fn a_policy_is_asked_once(rt: HostRuntime) {
-    let Ok(mut evac) = evacuator(&rt, SIX) else {
+    let Ok(mut evac) = evacuator(rt.alloc(), SIX) else {
         panic!(rt; "no evacuator is made");
     };
     assert!(rt; asks_once(&mut evac));
@@ -178,11 +173,6 @@ const BY_EACH: &[Act] = &[
     Runs(Named(&[1, 2]), 3, 9, End::Done([0, 2, 0, 2])),
 ];
 
-#[test]
-fn each_policy_chooses(rt: HostRuntime) {
-    assert!(rt; plays(&rt, SIX, &[OUT_OF_ORDER, BY_EACH]));
-}
-
 // A round of logs 1 and 0 comes to where objects leave, and log 1 is emptied first.
 const TURNED: &[Act] = &[
     Selects(Named(&[1, 0]), 2, Ok(&[1, 0])),
@@ -194,8 +184,18 @@ const TURNED: &[Act] = &[
     Deals(1, [0, 1, 0, 1], true),
 ];
 
-// A script's order is that in which logs are emptied.
+#[rattlefmt::skip]
+const PLAYS: &[Play] = &[
+    Play { name: "a_bad_script_begins_no_round", shape: SMALL, parts: &[BAD_SCRIPTS] },
+    Play { name: "the_last_epoch_begins_no_round", shape: AT_LAST_EPOCH, parts: &[NO_EPOCH_LEFT] },
+    // While a round is running that has reached the last epoch, another is refused for the phase.
+    Play { name: "a_running_round_comes_before_the_last_epoch", shape: BEFORE_IT, parts: &[TO_THE_LAST] },
+    Play { name: "each_policy_chooses", shape: SIX, parts: &[OUT_OF_ORDER, BY_EACH] },
+    // A script's order is that in which logs are emptied.
+    Play { name: "logs_are_emptied_in_their_order", shape: SIX, parts: &[OUT_OF_ORDER, TURNED] },
+];
+
 #[test]
-fn logs_are_emptied_in_their_order(rt: HostRuntime) {
-    assert!(rt; plays(&rt, SIX, &[OUT_OF_ORDER, TURNED]));
+fn logs_are_chosen(rt: HostRuntime) {
+    play(&rt, rt.alloc(), PLAYS);
 }

@@ -16,6 +16,7 @@ use far_book::Plain;
 use far_device::{Device, DeviceFault, MemDevice, hand_over};
 use far_evac::{Evac, LogKind, Phase};
 use far_word::{Place, Refused};
+use std::alloc::Global;
 
 // One read of what is in memory, with its answer taken apart.
 fn read_inner(inner: &mut MemDevice, id: u32) -> Result<Vec<u8>, DeviceFault>
@@ -100,17 +101,17 @@ impl Device for Stumbling {
 
 // An evacuator over one.
 fn over_stumbling(
-    rt: &HostRuntime,
+    alloc: Global,
     writes: u8,
     fault: DeviceFault,
 ) -> Result<Evac<Plain, Stumbling>, Refused> {
     let device = Stumbling {
-        inner: MemDevice::new(rt.alloc()),
+        inner: MemDevice::new(alloc),
         writes,
         fault: Some(fault),
         faults: 0,
     };
-    evacuator_over(rt, SMALL, device)
+    evacuator_over(alloc, SMALL, device)
 }
 
 // Pointers 0 to 2 lie in log 0, of which the first is hot; the next fills log 1.
@@ -134,17 +135,6 @@ const STOPPED: &[Act] = &[
     Reads(1, 0),
 ];
 
-// The first object has moved, the second can't go far, the third waits behind it.
-#[test]
-fn a_failure_stops_at_an_object(rt: HostRuntime) {
-    assert!(rt;
-        plays_on(
-            over_stumbling(&rt, 0, DeviceFault::Device),
-            &[FOUR, STOPPED]
-        )
-    );
-}
-
 const STOPPED_ROUND: &[Act] = &[
     Runs(Eldest, 1, 9, End::Stopped([1, 1, 0, 0], Refused::Device)),
     Far(1),
@@ -152,17 +142,6 @@ const STOPPED_ROUND: &[Act] = &[
     Deals(9, [0, 1, 0, 1], true),
     Counts(2, 2, 1040),
 ];
-
-// A whole round sums what was done before the failure, and stands where it is.
-#[test]
-fn a_failure_stops_a_round(rt: HostRuntime) {
-    assert!(rt;
-        plays_on(
-            over_stumbling(&rt, 1, DeviceFault::Device),
-            &[FOUR, STOPPED_ROUND]
-        )
-    );
-}
 
 // The round is given up, and the object that was refused is there.
 const GIVEN_UP: &[Act] = &[
@@ -175,13 +154,32 @@ const GIVEN_UP: &[Act] = &[
     Reads(2, 0),
 ];
 
-// The device has no memory for an object; the round is given up, and the object is there.
+/// A test: its name, after how many writes the device fails, how, and its parts.
+#[derive(Clone, Copy)]
+struct Stumble {
+    name: &'static str,
+    writes: u8,
+    fault: DeviceFault,
+    parts: &'static [&'static [Act]],
+}
+
+#[rattlefmt::skip]
+const STUMBLES: &[Stumble] = &[
+    // The first object has moved, the second can't go far, the third waits behind it.
+    Stumble { name: "a_failure_stops_at_an_object", writes: 0, fault: DeviceFault::Device, parts: &[FOUR, STOPPED] },
+    // A whole round sums what was done before the failure, and stands where it is.
+    Stumble { name: "a_failure_stops_a_round", writes: 1, fault: DeviceFault::Device, parts: &[FOUR, STOPPED_ROUND] },
+    // The device has no memory for an object; the round is given up, and the object is there.
+    Stumble { name: "a_refused_object_stays", writes: 0, fault: DeviceFault::Memory, parts: &[FOUR, GIVEN_UP] },
+];
+
+fn comes_out(alloc: Global, test: &Stumble) -> bool {
+    plays_on(over_stumbling(alloc, test.writes, test.fault), test.parts)
+}
+
 #[test]
-fn a_refused_object_stays(rt: HostRuntime) {
-    assert!(rt;
-        plays_on(
-            over_stumbling(&rt, 0, DeviceFault::Memory),
-            &[FOUR, GIVEN_UP]
-        )
-    );
+fn devices_fail(rt: HostRuntime) {
+    for test in STUMBLES {
+        assert!(rt; comes_out(rt.alloc(), test), "{}", test.name);
+    }
 }

@@ -8,6 +8,7 @@ use far_core::{Core, Event, Reply, Shape};
 use far_device::{Device, MemDevice};
 use far_evac::Evac;
 use far_word::{LONGEST, Mark, Refused};
+use std::alloc::Global;
 
 pub(super) const SMALL: Shape = Shape {
     logs: 4,
@@ -15,21 +16,21 @@ pub(super) const SMALL: Shape = Shape {
     epoch: 0,
 };
 
-pub(super) fn evacuator(rt: &HostRuntime, shape: Shape) -> Result<Evac<Plain, MemDevice>, Refused> {
-    evacuator_over(rt, shape, MemDevice::new(rt.alloc()))
+pub(super) fn evacuator(alloc: Global, shape: Shape) -> Result<Evac<Plain, MemDevice>, Refused> {
+    evacuator_over(alloc, shape, MemDevice::new(alloc))
 }
 
 // The same over another device.
 #[tactic(auto, using(crate::proofs::Uses::at_start))]
 pub(super) fn evacuator_over<D: Device + Drop>(
-    rt: &HostRuntime,
+    alloc: Global,
     shape: Shape,
     device: D,
 ) -> Result<Evac<Plain, D>, Refused>
     requires { D.honest device ≡ true }
 {
-    let core = Core::new(rt.alloc(), shape, true)?;
-    let book = Book::new(rt.alloc(), Plain { core }, device)?;
+    let core = Core::new(alloc, shape, true)?;
+    let book = Book::new(alloc, Plain { core }, device)?;
     Ok(Evac::new(book))
 }
 

@@ -6,27 +6,36 @@ use far_device::MemDevice;
 use far_evac::{Evac, Progress, RoundEnd};
 use far_policy::Oldest;
 use far_word::Refused;
-use std::test::Fail;
+use std::alloc::Global;
 
-#[test]
+const SHAPE: Shape = Shape {
+    logs: 4,
+    mutators: 1,
+    epoch: 0,
+};
+
 #[tactic(auto, using(crate::proofs::Uses::at_start))]
-fn readme(rt: HostRuntime) -> Result<(), Fail> {
-    let shape = Shape {
-        logs: 4,
-        mutators: 1,
-        epoch: 0,
-    };
-    let core = Core::new(rt.alloc(), shape, true)?;
-    let book = Book::new(rt.alloc(), Plain { core }, MemDevice::new(rt.alloc()))?;
-    let mut evac = Evac::new(book);
+fn made(alloc: Global) -> Result<Evac<Plain, MemDevice>, Refused> {
+    let core = Core::new(alloc, SHAPE, true)?;
+    let book = Book::new(alloc, Plain { core }, MemDevice::new(alloc))?;
+    Ok(Evac::new(book))
+}
+
+// The second object fills log 1, so that log 0 is sealed.
+fn places(evac: &mut Evac<Plain, MemDevice>) -> Result<(), Refused> {
     for len in [8, 1016] {
         evac.keeps_law();
         let Some(pointer) = evac.book().free_cell(0) else {
-            return Err(Refused::NoPointer)?;
+            return Err(Refused::NoPointer);
         };
         evac.place(pointer, len, 1)?;
         evac.owner(Event::Adopt { owner: 0, pointer });
     }
+    Ok(())
+}
+
+// The object's first word is to be 7, and it is hot from now on.
+fn writes(evac: &mut Evac<Plain, MemDevice>) {
     let (owner, pointer, index, word) = (0, 0, 0, 7);
     evac.owner(Event::ReadEpoch { owner });
     evac.owner(Event::Open { owner });
@@ -38,6 +47,10 @@ fn readme(rt: HostRuntime) -> Result<(), Fail> {
         word,
     });
     evac.owner(Event::Close { owner });
+}
+
+// At most 1 log, at most 9 turns.
+fn is_rounded(evac: &mut Evac<Plain, MemDevice>) -> bool {
     let done = Progress {
         moved: 1,
         far: 0,
@@ -45,17 +58,28 @@ fn readme(rt: HostRuntime) -> Result<(), Fail> {
         freed: 1,
         done: true,
     };
-    assert_eq!(rt; evac.run_round(&mut Oldest, 1, 9), Ok(RoundEnd::Done(done)));
+    evac.run_round(&mut Oldest, 1, 9) == Ok(RoundEnd::Done(done))
+}
+
+fn is_read(evac: &mut Evac<Plain, MemDevice>) -> bool {
+    let (owner, pointer, index) = (0, 0, 0);
     evac.owner(Event::ReadEpoch { owner });
     evac.owner(Event::Open { owner });
     evac.owner(Event::Pin { owner, pointer });
-    assert_eq!(rt;
-        evac.owner(Event::Load {
-            owner,
-            pointer,
-            index
-        }),
-        Reply::Word(7)
-    );
-    Ok(())
+    let load = Event::Load {
+        owner,
+        pointer,
+        index,
+    };
+    evac.owner(load) == Reply::Word(7)
+}
+
+#[test]
+fn readme(rt: HostRuntime) {
+    let Ok(mut evac) = made(rt.alloc()) else {
+        panic!(rt; "no evacuator is made");
+    };
+    assert!(rt; places(&mut evac).is_ok());
+    writes(&mut evac);
+    assert!(rt; is_rounded(&mut evac) && is_read(&mut evac));
 }

@@ -2,9 +2,9 @@
 
 use crate::tests::acts::Act::*;
 use crate::tests::acts::Choice::Eldest;
-use crate::tests::acts::{Act, End};
+use crate::tests::acts::{Act, End, Play};
 use crate::tests::making::SMALL;
-use crate::tests::stage::plays;
+use crate::tests::stage::play;
 use far_evac::{EvacFault, Phase, Polled, Progress};
 use far_word::Refused;
 use std::test::Fail;
@@ -22,11 +22,6 @@ const WITHOUT_A_ROUND: &[Act] = &[
     AsNoted,
 ];
 
-#[test]
-fn nothing_runs_without_a_round(rt: HostRuntime) {
-    assert!(rt; plays(&rt, SMALL, &[WITHOUT_A_ROUND]));
-}
-
 // A round of the first two of three full logs begins.
 const BEGUN: &[Act] = &[MakesMany(3, 1016), Selects(Eldest, 2, Ok(&[0, 1]))];
 
@@ -42,11 +37,6 @@ const MARKING: &[Act] = &[
     Marks(1, Ok((1, Some(1)))),
 ];
 
-#[test]
-fn marking_comes_first(rt: HostRuntime) {
-    assert!(rt; plays(&rt, SMALL, &[BEGUN, MARKING]));
-}
-
 const WAITING: &[Act] = &[
     Marks(9, Ok((2, Some(1)))),
     Notes,
@@ -60,11 +50,6 @@ const WAITING: &[Act] = &[
     Polls(Ok(Polled::Clear)),
 ];
 
-#[test]
-fn waiting_comes_next(rt: HostRuntime) {
-    assert!(rt; plays(&rt, SMALL, &[BEGUN, WAITING]));
-}
-
 const LEAVING: &[Act] = &[
     MakesMany(3, 1016),
     Runs(Eldest, 2, 2, End::Limit(Phase::Evacuating)),
@@ -76,11 +61,6 @@ const LEAVING: &[Act] = &[
     Polls(Err(Refused::Phase)),
     AsNoted,
 ];
-
-#[test]
-fn leaving_comes_last(rt: HostRuntime) {
-    assert!(rt; plays(&rt, SMALL, &[LEAVING]));
-}
 
 #[test]
 fn a_fault_tells_why_and_what_was_done(rt: HostRuntime) -> Result<(), Fail> {
@@ -98,4 +78,17 @@ fn a_fault_tells_why_and_what_was_done(rt: HostRuntime) -> Result<(), Fail> {
     let text = format!(in rt.alloc(); "{fault}")?;
     assert!(rt; text.as_str() == "the device failed; done before: moved 1 far 2 dropped 3 freed 4");
     Ok(())
+}
+
+#[rattlefmt::skip]
+const PLAYS: &[Play] = &[
+    Play { name: "nothing_runs_without_a_round", shape: SMALL, parts: &[WITHOUT_A_ROUND] },
+    Play { name: "marking_comes_first", shape: SMALL, parts: &[BEGUN, MARKING] },
+    Play { name: "waiting_comes_next", shape: SMALL, parts: &[BEGUN, WAITING] },
+    Play { name: "leaving_comes_last", shape: SMALL, parts: &[LEAVING] },
+];
+
+#[test]
+fn each_phase_refuses(rt: HostRuntime) {
+    play(&rt, rt.alloc(), PLAYS);
 }

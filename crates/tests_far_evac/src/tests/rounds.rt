@@ -2,12 +2,24 @@
 
 use crate::tests::acts::Act::*;
 use crate::tests::acts::Choice::Eldest;
-use crate::tests::acts::{Act, End};
+use crate::tests::acts::{Act, End, Play};
 use crate::tests::making::SMALL;
-use crate::tests::stage::plays;
+use crate::tests::stage::play;
 use far_core::Shape;
 use far_evac::{LogKind, Phase};
 use far_word::{Mark, Place, Refused};
+
+const THREE: Shape = Shape {
+    logs: 3,
+    mutators: 1,
+    epoch: 0,
+};
+
+const LARGEST: Shape = Shape {
+    logs: 64,
+    mutators: 1,
+    epoch: 0,
+};
 
 /// The bytes 1 to 8 in a word.
 const COUNTED: u64 = 0x0807_0605_0403_0201;
@@ -20,12 +32,6 @@ const ROOM_MADE: &[Act] = &[
     Makes(8, 0),
     Log(0, LogKind::Open, [16, 0, 1008]),
 ];
-
-#[test]
-fn a_round_makes_room(rt: HostRuntime) {
-    let three = Shape { logs: 3, ..SMALL };
-    assert!(rt; plays(&rt, three, &[ROOM_MADE]));
-}
 
 // Of two objects in log 0 the one that was written moves, and the other goes far.
 const TWO_PART: &[Act] = &[
@@ -48,12 +54,6 @@ const PARTED: &[Act] = &[
     Near(1, Place { log: 2, at: 2 }, true),
 ];
 
-// An object that was written lately goes to another log, one that wasn't goes far.
-#[test]
-fn a_plain_round(rt: HostRuntime) {
-    assert!(rt; plays(&rt, SMALL, &[TWO_PART, PARTED]));
-}
-
 const OPENED_ANEW: &[Act] = &[
     MakesMany(3, 1016),
     Opens,
@@ -63,12 +63,6 @@ const OPENED_ANEW: &[Act] = &[
     Near(1, Place { log: 0, at: 0 }, false),
     Log(0, LogKind::Open, [1024, 0, 0]),
 ];
-
-// Log 0 is given back, opened anew for the object of log 1, and isn't emptied again.
-#[test]
-fn a_log_that_is_opened_anew_stays(rt: HostRuntime) {
-    assert!(rt; plays(&rt, SMALL, &[OPENED_ANEW]));
-}
 
 // A round with no turn stands before its marking, and no other begins meanwhile; one more turn brings it to the next phase each time.
 const TURN_BY_TURN: &[Act] = &[
@@ -83,11 +77,6 @@ const TURN_BY_TURN: &[Act] = &[
     Deals(9, [0, 1, 0, 1], true),
 ];
 
-#[test]
-fn turns_run_out_in_each_phase(rt: HostRuntime) {
-    assert!(rt; plays(&rt, SMALL, &[TURN_BY_TURN]));
-}
-
 const IN_TIME: &[Act] = &[
     Runs(Eldest, 1, 9, End::Nothing),
     MakesMany(1, 8),
@@ -96,12 +85,6 @@ const IN_TIME: &[Act] = &[
     Runs(Eldest, 1, 3, End::Done([0, 1, 0, 1])),
     In(Phase::Idle),
 ];
-
-// The turn that gives the last log back is the last that is needed.
-#[test]
-fn the_last_turn_may_end_a_round(rt: HostRuntime) {
-    assert!(rt; plays(&rt, SMALL, &[IN_TIME]));
-}
 
 const SIXTEEN: &[Act] = &[
     MakesMany(16, 48),
@@ -120,12 +103,6 @@ const SEVENTEEN: &[Act] = &[
     Deals(9, [0, 1, 0, 1], true),
 ];
 
-#[test]
-fn a_turn_has_16_objects(rt: HostRuntime) {
-    assert!(rt; plays(&rt, SMALL, &[SIXTEEN]));
-    assert!(rt; plays(&rt, SMALL, &[SEVENTEEN]));
-}
-
 // The log of a dropped object waits in a round. It is given back where nothing is dealt with, and the log of a live one isn't.
 const DEAD_LOG: &[Act] = &[
     MakesMany(3, 1016),
@@ -140,12 +117,6 @@ const DEAD_LOG: &[Act] = &[
     Log(1, LogKind::Free, [0, 0, 1024]),
 ];
 
-// Log 0, where no object lives, is given back although nothing is dealt with; log 1 is not.
-#[test]
-fn no_object_is_dealt_with(rt: HostRuntime) {
-    assert!(rt; plays(&rt, SMALL, &[DEAD_LOG]));
-}
-
 const ONE_RETIRED: &[Act] = &[
     MakesMany(2, 8),
     MakesMany(1, 1016),
@@ -155,12 +126,6 @@ const ONE_RETIRED: &[Act] = &[
     Deals(1, [0, 0, 1, 1], true),
     Counts(1, 1, 1024),
 ];
-
-// An object that was dropped since it was marked is retired.
-#[test]
-fn a_dropped_object_is_retired(rt: HostRuntime) {
-    assert!(rt; plays(&rt, SMALL, &[ONE_RETIRED]));
-}
 
 // Objects 0 to 2 lie in log 0 and are hot, and 3 fills log 1.
 const THREE_HOT: &[Act] = &[
@@ -189,21 +154,35 @@ const FOUR_READ: &[Act] = &[
     Counts(5, 0, 2096),
 ];
 
-#[test]
-fn three_rounds_in_a_row(rt: HostRuntime) {
-    assert!(rt; plays(&rt, SMALL, &[THREE_HOT, THREE_ROUNDS, FOUR_READ]));
-}
-
-const LARGEST: &[Act] = &[
+const ALL_LOGS: &[Act] = &[
     MakesMany(63, 1016),
     MakesNone(1016),
     Runs(Eldest, 64, 9, End::Done([0, 62, 0, 62])),
     Counts(1, 62, 1024),
 ];
 
-// A round of all logs that the largest heap lets be sealed.
+#[rattlefmt::skip]
+const PLAYS: &[Play] = &[
+    Play { name: "a_round_makes_room", shape: THREE, parts: &[ROOM_MADE] },
+    // An object that was written lately goes to another log, one that wasn't goes far.
+    Play { name: "a_plain_round", shape: SMALL, parts: &[TWO_PART, PARTED] },
+    // Log 0 is given back, opened anew for the object of log 1, and isn't emptied again.
+    Play { name: "a_log_that_is_opened_anew_stays", shape: SMALL, parts: &[OPENED_ANEW] },
+    Play { name: "turns_run_out_in_each_phase", shape: SMALL, parts: &[TURN_BY_TURN] },
+    // The turn that gives the last log back is the last that is needed.
+    Play { name: "the_last_turn_may_end_a_round", shape: SMALL, parts: &[IN_TIME] },
+    Play { name: "a_turn_has_16_objects", shape: SMALL, parts: &[SIXTEEN] },
+    Play { name: "a_turn_has_16_objects", shape: SMALL, parts: &[SEVENTEEN] },
+    // Log 0, where no object lives, is given back although nothing is dealt with; log 1 is not.
+    Play { name: "no_object_is_dealt_with", shape: SMALL, parts: &[DEAD_LOG] },
+    // An object that was dropped since it was marked is retired.
+    Play { name: "a_dropped_object_is_retired", shape: SMALL, parts: &[ONE_RETIRED] },
+    Play { name: "three_rounds_in_a_row", shape: SMALL, parts: &[THREE_HOT, THREE_ROUNDS, FOUR_READ] },
+    // A round of all logs that the largest heap lets be sealed.
+    Play { name: "the_largest_round", shape: LARGEST, parts: &[ALL_LOGS] },
+];
+
 #[test]
-fn the_largest_round(rt: HostRuntime) {
-    let largest = Shape { logs: 64, ..SMALL };
-    assert!(rt; plays(&rt, largest, &[LARGEST]));
+fn whole_rounds_are_made(rt: HostRuntime) {
+    play(&rt, rt.alloc(), PLAYS);
 }

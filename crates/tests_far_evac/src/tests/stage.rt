@@ -1,13 +1,14 @@
 //! An evacuator on which a test is played, act by act.
 
-use crate::tests::acts::Act;
+use crate::tests::acts::{Act, Play};
 use crate::tests::making::{evacuator, owner_does};
 use crate::tests::steps::{home, round_does, shown};
 use far_book::{Home, Near, Plain};
-use far_core::Shape;
-use far_device::{Device, MemDevice};
+use far_device::Device;
 use far_evac::{Evac, LogState, Phase};
 use far_word::Refused;
+use std::alloc::Global;
+use std::process::Abort;
 
 /// All that can be seen of an evacuator with four logs and three objects: the phase, the epoch, the logs, where the objects are.
 #[derive(Clone, Copy, PartialEq)]
@@ -58,23 +59,34 @@ pub(super) fn does_all<D: Device + Drop>(evac: &mut Evac<Plain, D>, acts: &[Act]
     true
 }
 
-/// The same of each part, on a new evacuator, if that is made.
-pub(super) fn plays_on<D: Device + Drop>(
-    made: Result<Evac<Plain, D>, Refused>,
-    parts: &[&[Act]],
-) -> bool {
-    let Ok(mut evac) = made else {
-        return false;
-    };
+// The same of each part.
+fn does_parts<D: Device + Drop>(evac: &mut Evac<Plain, D>, parts: &[&[Act]]) -> bool {
     for part in parts {
-        if !does_all(&mut evac, part) {
+        if !does_all(evac, part) {
             return false;
         }
     }
     true
 }
 
-/// The same over a device in memory.
-pub(super) fn plays(rt: &HostRuntime, shape: Shape, parts: &[&[Act]]) -> bool {
-    plays_on::<MemDevice>(evacuator(rt, shape), parts)
+/// The same on a new evacuator, if that is made.
+pub(super) fn plays_on<D: Device + Drop>(
+    made: Result<Evac<Plain, D>, Refused>,
+    parts: &[&[Act]],
+) -> bool {
+    match made {
+        Ok(mut evac) => does_parts(&mut evac, parts),
+        Err(_) => false,
+    }
+}
+
+/// Each test comes out as it should, over a device in memory.
+pub(super) fn play(rt: &impl Abort, alloc: Global, tests: &[Play]) {
+    for test in tests {
+        assert!(rt;
+            plays_on(evacuator(alloc, test.shape), test.parts),
+            "{}",
+            test.name
+        );
+    }
 }

@@ -6,7 +6,7 @@ use far_device::Device;
 use far_evac::{Census, Evac, EvacFault, LogKind, LogState, Marked, Progress, RoundEnd};
 use far_log::LogRow;
 use far_policy::{Chosen, LeastLive, Oldest, Policy, Scripted};
-use far_word::{Marks, Refused};
+use far_word::{Marks, Place, Refused};
 
 pub(super) const NO_MARKS: Marks = Marks {
     hot: false,
@@ -128,6 +128,8 @@ fn shows<N: Near + Drop, D: Device + Drop>(evac: &mut Evac<N, D>, act: Act) -> b
         Act::Far(pointer) => home(evac, pointer) == Some(Home::Far { marks: NO_MARKS }),
         Act::Log(log, kind, bytes) => is_log(evac, log, kind, bytes),
         Act::Counts(near, far, live) => counts(evac, near, far, live),
+        Act::ListsAsked(pointer, place) => lists_asked(evac, pointer, place),
+        Act::Sealed(logs) => are_sealed(evac, logs),
         _ => false,
     }
 }
@@ -171,6 +173,46 @@ fn is_log<N: Near + Drop, D: Device + Drop>(
         unused,
     };
     shown(evac, log) == Some(LogState { kind, row })
+}
+
+// Whether an audit lists this object alone, at a place and with MOVE.
+fn lists_asked<N: Near + Drop, D: Device + Drop>(
+    evac: &mut Evac<N, D>,
+    pointer: u16,
+    place: Place,
+) -> bool {
+    match evac.audit() {
+        Ok(census) => is_asked(&census, pointer, place),
+        Err(_) => false,
+    }
+}
+
+fn is_asked(census: &Census, pointer: u16, place: Place) -> bool {
+    let marks = Marks {
+        moved: true,
+        ..NO_MARKS
+    };
+    let [housed] = census.homes.as_slice() else {
+        return false;
+    };
+    housed.pointer == pointer && housed.home == Home::Near { place, marks }
+}
+
+// Whether these logs are sealed, in this order.
+fn are_sealed<N: Near + Drop, D: Device + Drop>(evac: &Evac<N, D>, logs: &[u8]) -> bool {
+    match evac.rows() {
+        Ok(rows) => are_rows_of(&rows, logs),
+        Err(_) => false,
+    }
+}
+
+fn are_rows_of(rows: &[LogRow], logs: &[u8]) -> bool {
+    for (row, log) in rows.iter().zip(logs.iter()) {
+        if row.log != *log {
+            return false;
+        }
+    }
+    rows.len() == logs.len()
 }
 
 // Whether so many objects are near and so many far, and so many bytes are live.

@@ -2,9 +2,9 @@
 
 use crate::tests::acts::Act::*;
 use crate::tests::acts::Choice::Eldest;
-use crate::tests::acts::{Act, End};
+use crate::tests::acts::{Act, End, Play};
 use crate::tests::making::SMALL;
-use crate::tests::stage::plays;
+use crate::tests::stage::play;
 use far_evac::{LogKind, Phase, Polled};
 use far_word::Place;
 
@@ -31,29 +31,12 @@ const STILL_OPEN: &[Act] = &[
     Polls(Ok(Polled::StillOpen(0, 0))),
 ];
 
-#[test]
-fn a_round_waits_for_a_scope(rt: HostRuntime) {
-    assert!(rt;
-        plays(
-            &rt,
-            SMALL,
-            &[VIEWED, ONE_MARKED, STILL_OPEN, ENDS_ONCE_CLOSED]
-        )
-    );
-}
-
 const ALONE: &[Act] = &[
     RunsAlone(1, u64::MAX, End::Limit(Phase::Waiting)),
     Closes,
     GivesUp(Ok(())),
     RunsAlone(1, u64::MAX, End::Done([1, 0, 0, 1])),
 ];
-
-// The first poll that finds the scope open ends it, however many turns are left; and a round alone goes on where none is.
-#[test]
-fn a_round_alone_ends_where_it_waits(rt: HostRuntime) {
-    assert!(rt; plays(&rt, SMALL, &[VIEWED, ALONE]));
-}
 
 // An owner reads the epoch.
 const EPOCH_READ: &[Act] = &[
@@ -74,28 +57,9 @@ const OPENED_LATE: &[Act] = &[
     Near(0, Place { log: 2, at: 0 }, true),
 ];
 
-// It read the epoch before the round's, and opened after all were seen clear.
-#[test]
-fn a_scope_opens_at_an_old_epoch(rt: HostRuntime) {
-    assert!(rt; plays(&rt, SMALL, &[EPOCH_READ, ONE_MARKED, OPENED_LATE]));
-}
-
 const WRITTEN_LATE: &[Act] = &[Stores(0, 0xbb), Polls(Ok(Polled::StillOpen(0, 0)))];
 
 const READ_LATE: &[Act] = &[Reads(0, 0xbb)];
-
-// What was viewed before its object was marked is viewed until the scope ends.
-#[test]
-fn a_view_outlives_a_mark(rt: HostRuntime) {
-    let parts = [
-        VIEWED,
-        ONE_MARKED,
-        WRITTEN_LATE,
-        ENDS_ONCE_CLOSED,
-        READ_LATE,
-    ];
-    assert!(rt; plays(&rt, SMALL, &parts));
-}
 
 const MOVES_ITS_OWN: &[Act] = &[
     MakesMany(2, 8),
@@ -108,12 +72,6 @@ const MOVES_ITS_OWN: &[Act] = &[
     Views(1),
     Deals(9, [0, 0, 0, 1], true),
 ];
-
-// Alone against a walk that counts what has left already.
-#[test]
-fn an_owner_moves_its_objects_first(rt: HostRuntime) {
-    assert!(rt; plays(&rt, SMALL, &[MOVES_ITS_OWN]));
-}
 
 // The first of two objects that are to leave is hot, and none is viewed.
 const HOT_LEAVES: &[Act] = &[
@@ -135,12 +93,6 @@ const NO_ROOM_FOR_IT: &[Act] = &[
     Far(0),
 ];
 
-// The owner's move took the last free log, so the first object goes far.
-#[test]
-fn a_hot_object_goes_far_without_room(rt: HostRuntime) {
-    assert!(rt; plays(&rt, SMALL, &[HOT_LEAVES, NO_ROOM_FOR_IT]));
-}
-
 const SEALED: &[Act] = &[MakesMany(1, 8), MakesMany(1, 1016)];
 
 // The object was hot before it left, so it moves.
@@ -152,8 +104,30 @@ const CLEAR_THOUGH_OPEN: &[Act] = &[
     Pins(0),
 ];
 
-// An owner who opened after the epoch rose is clear, and is refused what leaves.
+#[rattlefmt::skip]
+const PLAYS: &[Play] = &[
+    Play {
+        name: "a_round_waits_for_a_scope", shape: SMALL,
+        parts: &[VIEWED, ONE_MARKED, STILL_OPEN, ENDS_ONCE_CLOSED],
+    },
+    // The first poll that finds the scope open ends it, however many turns are left; and a round alone goes on where none is.
+    Play { name: "a_round_alone_ends_where_it_waits", shape: SMALL, parts: &[VIEWED, ALONE] },
+    // It read the epoch before the round's, and opened after all were seen clear.
+    Play { name: "a_scope_opens_at_an_old_epoch", shape: SMALL, parts: &[EPOCH_READ, ONE_MARKED, OPENED_LATE] },
+    // What was viewed before its object was marked is viewed until the scope ends.
+    Play {
+        name: "a_view_outlives_a_mark", shape: SMALL,
+        parts: &[VIEWED, ONE_MARKED, WRITTEN_LATE, ENDS_ONCE_CLOSED, READ_LATE],
+    },
+    // Alone against a walk that counts what has left already.
+    Play { name: "an_owner_moves_its_objects_first", shape: SMALL, parts: &[MOVES_ITS_OWN] },
+    // The owner's move took the last free log, so the first object goes far.
+    Play { name: "a_hot_object_goes_far_without_room", shape: SMALL, parts: &[HOT_LEAVES, NO_ROOM_FOR_IT] },
+    // An owner who opened after the epoch rose is clear, and is refused what leaves.
+    Play { name: "a_new_scope_is_clear", shape: SMALL, parts: &[SEALED, ONE_MARKED, CLEAR_THOUGH_OPEN] },
+];
+
 #[test]
-fn a_new_scope_is_clear(rt: HostRuntime) {
-    assert!(rt; plays(&rt, SMALL, &[SEALED, ONE_MARKED, CLEAR_THOUGH_OPEN]));
+fn rounds_wait(rt: HostRuntime) {
+    play(&rt, rt.alloc(), PLAYS);
 }

@@ -1,26 +1,55 @@
 //! A mutator's lines that are refused whatever other threads do, in the order of their causes.
 
-use super::talk::{commands, prints, replies};
+use super::talk::prints;
 use far_split::NoGate;
-use std::alloc::Global;
+use std::alloc::{AllocError, Global};
 use std::sync::Wait;
-use std::test::Fail;
 use std::thread::Threads;
 
-// Whether a talk of the first mutator, after a heap of this shape, is answered so. Mutators after it print this.
+// The text of a talk of the first mutator, after a heap of this shape, and what is printed: its replies, and then what mutators after it
+// and the book print.
+fn texts_of(
+    alloc: Global,
+    heap: &str,
+    talk: &str,
+    rest: &str,
+) -> Result<(String, String), AllocError> {
+    let mut text = String::new(alloc);
+    let mut wanted = String::new(alloc);
+    text.push_str(heap)?;
+    wanted.push_str("mutator 0\n")?;
+    for line in talk.lines() {
+        push_line(&mut text, &mut wanted, line)?;
+    }
+    wanted.push_str(rest)?;
+    Ok((text, wanted))
+}
+
+// Adds a line of a talk: a command, or its reply, two spaces in.
+fn push_line(text: &mut String, wanted: &mut String, line: &str) -> Result<(), AllocError> {
+    match line.strip_prefix("  ") {
+        Some(reply) => push_with_end(wanted, reply),
+        None => push_with_end(text, line),
+    }
+}
+
+fn push_with_end(text: &mut String, line: &str) -> Result<(), AllocError> {
+    text.push_str(line)?;
+    text.push('\n')
+}
+
+// Whether the talk is answered so.
 fn is_answered<R: Threads + Wait + Sync>(
     rt: &R,
     alloc: Global,
     heap: &str,
     talk: &str,
     rest: &str,
-) -> Result<bool, Fail> {
-    let mut text = String::new(alloc);
-    text.push_str(heap)?;
-    text.push_str(&commands(alloc, talk)?)?;
-    let mut wanted = replies(alloc, "mutator 0", talk)?;
-    wanted.push_str(rest)?;
-    Ok(prints(rt, alloc, &text, &NoGate, &wanted))
+) -> bool {
+    match texts_of(alloc, heap, talk, rest) {
+        Ok((text, wanted)) => prints(rt, alloc, &text, &NoGate, &wanted),
+        Err(_) => false,
+    }
 }
 
 const NEW: &str = "\
@@ -54,16 +83,8 @@ new 0 8 1
   refused 2
 ";
 
-// There are two logs: the second is kept free for rounds.
-#[test]
-fn a_new_object_is_refused_in_order(rt: HostRuntime) -> Result<(), Fail> {
-    assert!(rt; is_answered(&rt, rt.alloc(), "heap 2 1\n", NEW, "book\n")?);
-    Ok(())
-}
-
-#[test]
-fn a_mutator_has_so_many_pointers(rt: HostRuntime) -> Result<(), Fail> {
-    let alloc = rt.alloc();
+// A text that makes 128 objects, and more after some are dropped, and what is printed.
+fn many_pointers(alloc: Global) -> Result<(String, String), AllocError> {
     let mut text = String::new(alloc);
     let mut wanted = String::new(alloc);
     text.push_str("heap 3 1\n")?;
@@ -74,8 +95,15 @@ fn a_mutator_has_so_many_pointers(rt: HostRuntime) -> Result<(), Fail> {
     }
     text.push_str("new 0 1 1\nnew 0 0 1\ndrop 0 9\nnew 0 1017 1\nnew 0 1 1\nnew 0 1 1\n")?;
     wanted.push_str("refused 3\nrefused 4\nok\nrefused 4\nrefused 2\nrefused 2\nbook\n")?;
-    assert!(rt; prints(&rt, alloc, &text, &NoGate, &wanted));
-    Ok(())
+    Ok((text, wanted))
+}
+
+#[test]
+fn a_mutator_has_so_many_pointers(rt: HostRuntime) {
+    let Ok((text, wanted)) = many_pointers(rt.alloc()) else {
+        panic!(rt; "no text is made");
+    };
+    assert!(rt; prints(&rt, rt.alloc(), &text, &NoGate, &wanted));
 }
 
 // Another mutator has pointer 128.
@@ -199,14 +227,18 @@ read 0 0 0 8
   data 0000000000000000
 ";
 
+/// A heap, a talk of its first mutator, and what mutators after it and the book print.
+const TALKS: [(&str, &str, &str); 4] = [
+    // There are two logs: the second is kept free for rounds.
+    ("heap 2 1\n", NEW, "book\n"),
+    ("heap 8 2\n", SCOPES, "mutator 1\npointer 128\nbook\n"),
+    ("heap 8 2\n", POINTERS, "mutator 1\npointer 128\nbook\n"),
+    ("heap 8 2\n", VIEWS, "mutator 1\npointer 128\nbook\n"),
+];
+
 #[test]
-fn scopes_pointers_and_views_refuse_in_order(rt: HostRuntime) -> Result<(), Fail> {
-    let rest = "mutator 1\npointer 128\nbook\n";
-    for talk in [SCOPES, POINTERS, VIEWS] {
-        assert!(rt;
-            is_answered(&rt, rt.alloc(), "heap 8 2\n", talk, rest)?,
-            "at {talk}"
-        );
+fn a_mutators_lines_are_refused_in_order(rt: HostRuntime) {
+    for (heap, talk, rest) in TALKS {
+        assert!(rt; is_answered(&rt, rt.alloc(), heap, talk, rest), "at {talk}");
     }
-    Ok(())
 }

@@ -6,7 +6,8 @@ use far_reply::{LogLine, Reply};
 use far_split::{NoGate, Replies, SplitOut, Told, run_split};
 use std::alloc::{AllocError, Global};
 use std::str;
-use std::test::Fail;
+use std::sync::Wait;
+use std::thread::Threads;
 
 /// Two mutators, each with an object.
 pub(super) const TWO: &str = "\
@@ -86,16 +87,20 @@ fn is_second(told: &Replies) -> bool {
         && is_byte(&told.at(2), 0)
 }
 
-#[test]
-fn replies_have_types(rt: HostRuntime) -> Result<(), Fail> {
-    let Ok(SplitOut::Ran { mutators, book }) = run_split(rt.alloc(), &rt, TWO.as_bytes(), &NoGate)
-    else {
-        assert!(rt; false);
-        return Ok(());
+// Whether a run of the text for two gives each of them its replies, and the book none.
+fn are_of_two<R: Threads + Wait + Sync>(rt: &R, alloc: Global) -> bool {
+    let Ok(SplitOut::Ran { mutators, book }) = run_split(alloc, rt, TWO.as_bytes(), &NoGate) else {
+        return false;
     };
-    assert!(rt; mutators.len() == 2 && book.is_empty());
-    assert!(rt; is_first(&mutators[0]) && is_second(&mutators[1]));
-    Ok(())
+    let [first, second] = mutators.as_slice() else {
+        return false;
+    };
+    book.is_empty() && is_first(first) && is_second(second)
+}
+
+#[test]
+fn replies_have_types(rt: HostRuntime) {
+    assert!(rt; are_of_two(&rt, rt.alloc()));
 }
 
 // Whether a log of an empty heap is told: it has nothing.
@@ -130,15 +135,18 @@ fn is_books(told: &Replies) -> bool {
         && are_unused(&told.at(4), 63, 64)
 }
 
-#[test]
-fn the_books_replies_have_types(rt: HostRuntime) -> Result<(), Fail> {
+// Whether a run of these inquiries gives those replies.
+fn are_books<R: Threads + Wait + Sync>(rt: &R, alloc: Global) -> bool {
     let text = b"heap 64 1\nlogs\nlog 9\naudit\nround oldest 1 9\nlogs\n";
-    let Ok(SplitOut::Ran { book, .. }) = run_split(rt.alloc(), &rt, text, &NoGate) else {
-        assert!(rt; false);
-        return Ok(());
-    };
-    assert!(rt; is_books(&book));
-    Ok(())
+    match run_split(alloc, rt, text, &NoGate) {
+        Ok(SplitOut::Ran { book, .. }) => is_books(&book),
+        _ => false,
+    }
+}
+
+#[test]
+fn the_books_replies_have_types(rt: HostRuntime) {
+    assert!(rt; are_books(&rt, rt.alloc()));
 }
 
 // What each of eight mutators asks, and the book beside it: M is its number, P that of its first pointer.
@@ -189,9 +197,15 @@ fn push_filled(
     of: (&str, &str, &str),
 ) -> Result<(), AllocError> {
     let (mutator, first, next) = of;
-    let filled = form.replace(alloc, "M", mutator)?;
-    let filled = filled.replace(alloc, "P", first)?;
-    text.push_str(&filled.replace(alloc, "Q", next)?)
+    for sign in form.chars() {
+        match sign {
+            'M' => text.push_str(mutator)?,
+            'P' => text.push_str(first)?,
+            'Q' => text.push_str(next)?,
+            _ => text.push(sign)?,
+        }
+    }
+    Ok(())
 }
 
 // Whether these are replies to rounds, and to logs between them.
@@ -220,9 +234,8 @@ fn is_of_eight(told: Option<Vec<u8>>, wanted: &str) -> bool {
     }
 }
 
-#[test]
-fn eight_mutators_run_beside_rounds(rt: HostRuntime) -> Result<(), Fail> {
-    let alloc = rt.alloc();
+// The text of eight mutators, and what they are answered.
+fn texts_of_eight(alloc: Global) -> Result<(String, String), AllocError> {
     let mut text = String::new(alloc);
     let mut wanted = String::new(alloc);
     text.push_str("heap 64 8\n")?;
@@ -231,8 +244,15 @@ fn eight_mutators_run_beside_rounds(rt: HostRuntime) -> Result<(), Fail> {
         push_filled(&mut wanted, alloc, ANSWERS, of)?;
     }
     wanted.push_str("book\n")?;
+    Ok((text, wanted))
+}
+
+#[test]
+fn eight_mutators_run_beside_rounds(rt: HostRuntime) {
+    let Ok((text, wanted)) = texts_of_eight(rt.alloc()) else {
+        panic!(rt; "no text is made");
+    };
     for _ in 0..20u8 {
-        assert!(rt; is_of_eight(printed(&rt, alloc, &text, &NoGate), &wanted));
+        assert!(rt; is_of_eight(printed(&rt, rt.alloc(), &text, &NoGate), &wanted));
     }
-    Ok(())
 }

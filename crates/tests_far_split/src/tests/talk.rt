@@ -2,7 +2,7 @@
 
 use far_reply::Output;
 use far_split::{Gate, SplitFault, run_split};
-use std::alloc::{AllocError, Global};
+use std::alloc::Global;
 use std::sync::Wait;
 use std::thread::Threads;
 
@@ -49,30 +49,4 @@ pub(super) fn is_stopped<R: Threads + Wait + Sync, G: Gate>(
     thread: u8,
 ) -> bool {
     matches!(run_split(alloc, rt, text.as_bytes(), gate), Err(SplitFault::Gate(who)) if who == thread)
-}
-
-/// A talk has commands, and after each the lines of its reply, two spaces in: its commands.
-pub(super) fn commands(alloc: Global, talk: &str) -> Result<String, AllocError> {
-    let mut text = String::new(alloc);
-    for line in talk.lines() {
-        if !line.starts_with("  ") {
-            text.push_str(line)?;
-            text.push('\n')?;
-        }
-    }
-    Ok(text)
-}
-
-/// What a mutator's heading and the replies of a talk are printed as.
-pub(super) fn replies(alloc: Global, heading: &str, talk: &str) -> Result<String, AllocError> {
-    let mut text = String::new(alloc);
-    text.push_str(heading)?;
-    text.push('\n')?;
-    for line in talk.lines() {
-        if let Some(reply) = line.strip_prefix("  ") {
-            text.push_str(reply)?;
-            text.push('\n')?;
-        }
-    }
-    Ok(text)
 }

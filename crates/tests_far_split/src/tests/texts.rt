@@ -2,24 +2,25 @@
 
 use super::talk::prints;
 use far_split::NoGate;
-use std::test::Fail;
+use std::alloc::{AllocError, Global};
+use std::sync::Wait;
+use std::thread::Threads;
 
-#[test]
-fn no_commands_have_no_mutators(rt: HostRuntime) {
-    for text in ["", "\n", "\n\n\n", "#", "# alone\n", "\n# one\n\n#two\n#"] {
-        assert!(rt;
-            prints(&rt, rt.alloc(), text, &NoGate, "book\n"),
-            "at {text}"
-        );
-    }
-}
-
-#[test]
-fn a_heap_alone_has_its_mutators(rt: HostRuntime) {
-    assert!(rt; prints(&rt, rt.alloc(), "heap 2 1", &NoGate, "mutator 0\nbook\n"));
-    let three = "mutator 0\nmutator 1\nmutator 2\nbook\n";
-    assert!(rt; prints(&rt, rt.alloc(), "# words\n\nheap 64 3 9\n", &NoGate, three));
-}
+/// Texts that are made whole, and what is printed.
+const SHORT_TEXTS: [(&str, &str); 8] = [
+    ("", "book\n"),
+    ("\n", "book\n"),
+    ("\n\n\n", "book\n"),
+    ("#", "book\n"),
+    ("# alone\n", "book\n"),
+    ("\n# one\n\n#two\n#", "book\n"),
+    // A heap alone has its mutators.
+    ("heap 2 1", "mutator 0\nbook\n"),
+    (
+        "# words\n\nheap 64 3 9\n",
+        "mutator 0\nmutator 1\nmutator 2\nbook\n",
+    ),
+];
 
 // Shapes out of range, also where a mutator has lines that the heap would have.
 const BAD_SHAPES: [&str; 12] = [
@@ -37,14 +38,22 @@ const BAD_SHAPES: [&str; 12] = [
     "heap 1 18446744073709551615\nopen 18446744073709551614\nlogs",
 ];
 
-#[test]
-fn shapes_out_of_range_are_refused(rt: HostRuntime) {
+// Whether each of these shapes is refused.
+fn are_refused<R: Threads + Wait + Sync>(rt: &R, alloc: Global) -> bool {
     for text in BAD_SHAPES {
-        assert!(rt;
-            prints(&rt, rt.alloc(), text, &NoGate, "refused 15\n"),
-            "at {text}"
-        );
+        if !prints(rt, alloc, text, &NoGate, "refused 15\n") {
+            return false;
+        }
     }
+    true
+}
+
+#[test]
+fn short_texts_are_answered(rt: HostRuntime) {
+    for (text, wanted) in SHORT_TEXTS {
+        assert!(rt; prints(&rt, rt.alloc(), text, &NoGate, wanted), "at {text}");
+    }
+    assert!(rt; are_refused(&rt, rt.alloc()));
 }
 
 // The number of the first line off the grammar, and the text, with / for a newline: what no thread runs, mutators that the heap hasn't, words
@@ -85,28 +94,48 @@ const BAD_TEXTS: &str = "\
 2 heap 4 18446744073709551615/open 18446744073709551615
 ";
 
-#[test]
-fn one_bad_line_refuses_the_whole_text(rt: HostRuntime) -> Result<(), Fail> {
-    for row in BAD_TEXTS.lines() {
-        let (number, text) = row.split_once(' ').unwrap_or(("", row));
-        let text = text.replace(rt.alloc(), "/", "\n")?;
-        let answer = format!(in rt.alloc(); "refused 16 {number}\n")?;
-        assert!(rt;
-            prints(&rt, rt.alloc(), &text, &NoGate, &answer),
-            "at {row}"
-        );
+// A row's text, and what is printed.
+fn texts_of(alloc: Global, row: &str) -> Result<(String, String), AllocError> {
+    let (number, text) = row.split_once(' ').unwrap_or(("", row));
+    let text = text.replace(alloc, "/", "\n")?;
+    let answer = format!(in alloc; "refused 16 {number}\n")?;
+    Ok((text, answer))
+}
+
+// Whether a row's text is refused for its line.
+fn is_refused<R: Threads + Wait + Sync>(rt: &R, alloc: Global, row: &str) -> bool {
+    match texts_of(alloc, row) {
+        Ok((text, answer)) => prints(rt, alloc, &text, &NoGate, &answer),
+        Err(_) => false,
     }
-    Ok(())
 }
 
 #[test]
-fn a_text_has_so_many_bytes_at_most(rt: HostRuntime) -> Result<(), Fail> {
-    let mut text = String::new(rt.alloc());
-    for _ in 0..1_048_576u64 {
+fn one_bad_line_refuses_the_whole_text(rt: HostRuntime) {
+    for row in BAD_TEXTS.lines() {
+        assert!(rt; is_refused(&rt, rt.alloc(), row), "at {row}");
+    }
+}
+
+// A text of so many empty lines.
+fn lines_of(alloc: Global, count: u64) -> Result<String, AllocError> {
+    let mut text = String::new(alloc);
+    for _ in 0..count {
         text.push('\n')?;
     }
-    assert!(rt; prints(&rt, rt.alloc(), &text, &NoGate, "book\n"));
-    text.push('\n')?;
-    assert!(rt; prints(&rt, rt.alloc(), &text, &NoGate, "refused 16 0\n"));
-    Ok(())
+    Ok(text)
+}
+
+// Whether it prints this.
+fn prints_so<R: Threads + Wait + Sync>(rt: &R, alloc: Global, count: u64, wanted: &str) -> bool {
+    match lines_of(alloc, count) {
+        Ok(text) => prints(rt, alloc, &text, &NoGate, wanted),
+        Err(_) => false,
+    }
+}
+
+#[test]
+fn a_text_has_so_many_bytes_at_most(rt: HostRuntime) {
+    assert!(rt; prints_so(&rt, rt.alloc(), 1_048_576, "book\n"));
+    assert!(rt; prints_so(&rt, rt.alloc(), 1_048_577, "refused 16 0\n"));
 }

@@ -1,66 +1,61 @@
 //! Owners side by side, each in a thread of its own.
 
-use super::*;
-use far_word::Mark;
-use std::test::Fail;
+ghost use Rattle.std.specs.Prelude.{◌<◌};
+
+use crate::tests::owner::{Act, Owner};
+use crate::tests::shared;
+use far_core::{Core, Event, Reply, Shape};
+use far_word::{CELLS, Mark, Refused};
+use std::alloc::Global;
 use std::thread;
 use std::thread::{Threads, join};
 
-fn shape(mutators: u64) -> Shape {
-    Shape {
-        logs: 4,
-        mutators,
-        epoch: 5,
-    }
+// Places an object of 8 bytes for an owner's first pointer in log 0, after those of the owners before it.
+fn places_first(core: &mut Core, owner: u8) -> bool {
+    let (pointer, at) = (CELLS * owner as u16, 2 * owner as u16);
+    let word = 0xa100_0000_0001_0008 | (pointer as u64) << 24;
+    let new = 0x8400_0000_0001_0008 | (at as u64) << 24;
+    let put = Event::Put { log: 0, at, word };
+    let name = Event::Name {
+        pointer,
+        old: 0,
+        new,
+    };
+    core.step(put) == Reply::Done && core.step(name) == Reply::Done
 }
 
-// Places an object of 8 bytes for the first pointer of so many owners, one after the other in log 0.
+// The same for so many owners.
 fn places_for(core: &mut Core, owners: u8) -> bool {
     for owner in 0..owners {
-        let (pointer, at) = (128 * owner as u64, 2 * owner as u64);
-        let word = 0xa100_0000_0001_0008 | pointer << 24;
-        let new = 0x8400_0000_0001_0008 | at << 24;
-        let place = Event::Put {
-            log: 0,
-            at: at as u16,
-            word,
-        };
-        let name = Event::Name {
-            pointer: pointer as u16,
-            old: 0,
-            new,
-        };
-        if !is_answered(core, place, Reply::Done) || !is_answered(core, name, Reply::Done) {
+        if !places_first(core, owner) {
             return false;
         }
     }
     true
 }
 
-fn pinned(owner: &mut Owner) -> bool {
-    matches!(owner.act(Act::Pin), Reply::Held(_))
+// Whether an owner opens its scope and views its object.
+fn views(owner: &mut Owner) -> bool {
+    owner.act(Act::ReadEpoch) == Reply::Epoch(5)
+        && owner.act(Act::Open) == Reply::Done
+        && matches!(owner.act(Act::Pin), Reply::Held(_))
 }
 
 // Whether an owner opens its scope, writes a word, reads it and closes its scope.
 fn takes_a_turn(owner: &mut Owner, before: u64, word: u64) -> bool {
-    is_given(owner, Act::ReadEpoch, Reply::Epoch(5))
-        && is_given(owner, Act::Open, Reply::Done)
-        && pinned(owner)
-        && is_given(owner, Act::Load(0), Reply::Word(before))
-        && is_given(owner, Act::Store(0, word), Reply::Done)
-        && is_given(owner, Act::Load(0), Reply::Word(word))
-        && is_given(owner, Act::Close, Reply::Done)
+    views(owner)
+        && owner.act(Act::Load(0)) == Reply::Word(before)
+        && owner.act(Act::Store(0, word)) == Reply::Done
+        && owner.act(Act::Load(0)) == Reply::Word(word)
+        && owner.act(Act::Close) == Reply::Done
 }
 
-// Whether an owner adopts its object and takes so many turns with words of its own, each of which it finds at the next.
-fn takes_turns(mut owner: Owner, turns: u64, own: u64) -> bool {
-    if owner.act(Act::Adopt) == Reply::Refused {
-        return false;
-    }
+// Whether an owner takes so many turns with words of its own, each of which it finds at the next.
+fn takes_each(owner: &mut Owner, turns: u64, own: u64) -> bool {
     let mut before = 0;
     for turn in 0..turns {
         let word = own ^ turn;
-        if !takes_a_turn(&mut owner, before, word) {
+        if !takes_a_turn(owner, before, word) {
             return false;
         }
         before = word;
@@ -68,8 +63,18 @@ fn takes_turns(mut owner: Owner, turns: u64, own: u64) -> bool {
     true
 }
 
+// Whether an owner adopts its object and takes them.
+fn takes_turns(mut owner: Owner, turns: u64, own: u64) -> bool {
+    owner.act(Act::Adopt) != Reply::Refused && takes_each(&mut owner, turns, own)
+}
+
 fn placed(alloc: Global, owners: u8) -> Result<Core, Refused> {
-    let mut core = Core::new(alloc, shape(owners as u64), true)?;
+    let shape = Shape {
+        logs: 4,
+        mutators: owners as u64,
+        epoch: 5,
+    };
+    let mut core = Core::new(alloc, shape, true)?;
     if places_for(&mut core, owners) {
         Ok(core)
     } else {
@@ -82,31 +87,41 @@ fn made(alloc: Global, owners: u8) -> Result<Vec<Owner>, Refused> {
     shared(alloc, core)
 }
 
-#[test]
-fn owners_side_by_side(rt: HostRuntime) -> Result<(), Fail> {
-    let mut owners = made(rt.alloc(), 2)?;
-    let (Some(first), Some(second)) = (owners.pop(), owners.pop()) else {
-        return Err(Fail::from("two seats"));
-    };
+// Whether two owners take turns side by side.
+fn both_take_turns<R: Threads>(rt: &R, first: Owner, second: Owner) -> bool {
     let (a, b) = join(
-        &rt,
+        rt,
         move || takes_turns(first, 1000, 0xaaaa_0000),
         move || takes_turns(second, 1000, 0x5555_0000),
     );
-    assert!(rt; a && b);
-    Ok(())
+    a && b
 }
 
 #[test]
-fn eight_owners_in_eight_threads(rt: HostRuntime) -> Result<(), Fail> {
-    let owners = made(rt.alloc(), 8)?;
-    assert!(rt; owners.len() == 8);
-    let done = thread::map_vec(&rt, owners, &|owner| takes_turns(owner, 200, 0xff00))?;
-    assert!(rt; done.len() == 8);
-    for each in &done {
-        assert!(rt; *each);
-    }
-    Ok(())
+fn owners_side_by_side(rt: HostRuntime) {
+    let Ok(mut owners) = made(rt.alloc(), 2) else {
+        panic!(rt; "no owner is made");
+    };
+    let (Some(first), Some(second)) = (owners.pop(), owners.pop()) else {
+        panic!(rt; "two seats");
+    };
+    assert!(rt; both_take_turns(&rt, first, second));
+}
+
+// Whether eight owners take turns, each in a thread of its own.
+fn all_take_turns<R: Threads + Sync>(rt: &R, owners: Vec<Owner>) -> bool {
+    let Ok(done) = thread::map_vec(rt, owners, &|owner| takes_turns(owner, 200, 0xff00)) else {
+        return false;
+    };
+    done.as_slice() == [true; 8].as_slice()
+}
+
+#[test]
+fn eight_owners_in_eight_threads(rt: HostRuntime) {
+    let Ok(owners) = made(rt.alloc(), 8) else {
+        panic!(rt; "no owner is made");
+    };
+    assert!(rt; all_take_turns(&rt, owners));
 }
 
 // The next of a row of numbers that look chosen at random.
@@ -131,28 +146,38 @@ fn act_of(state: u64) -> Act {
     }
 }
 
-// Whether the owners of a core that was shared, the last first, get the answers that their events get of a core that wasn't.
-fn goes_alike(mut owners: Vec<Owner>, mut core: Core) -> bool {
+// Whether an owner of eight that were shared, the last first, gets the answer that its event gets of a core that wasn't.
+fn goes_alike(owners: &mut Vec<Owner>, core: &mut Core, number: u8, act: Act) -> bool
+    requires { number < 8 }
+{
+    let event = act.event(number, CELLS * number as u16);
+    match owners.get_mut(7 - number as usize) {
+        Some(owner) => owner.act(act) == core.step(event),
+        None => false,
+    }
+}
+
+// Whether they do so at many events.
+fn go_alike(owners: &mut Vec<Owner>, core: &mut Core) -> bool {
     let mut state = 1;
     for _ in 0..4000u16 {
         state = next(state);
-        let number = (state >> 61) as u8;
-        let act = act_of(state);
-        let Some(owner) = owners.get_mut(7 - number as usize) else {
-            return false;
-        };
-        let event = act.event(number, CELLS * number as u16);
-        if owner.act(act) != core.step(event) {
+        if !goes_alike(owners, core, (state >> 61) as u8, act_of(state)) {
             return false;
         }
     }
     true
 }
 
+// The same of owners and a core that are made.
+fn are_alike(alloc: Global) -> bool {
+    match (placed(alloc, 8), made(alloc, 8)) {
+        (Ok(mut core), Ok(mut owners)) => go_alike(&mut owners, &mut core),
+        _ => false,
+    }
+}
+
 #[test]
-fn calls_answer_as_events_of_a_core(rt: HostRuntime) -> Result<(), Fail> {
-    let core = placed(rt.alloc(), 8)?;
-    let owners = made(rt.alloc(), 8)?;
-    assert!(rt; goes_alike(owners, core));
-    Ok(())
+fn calls_answer_as_events_of_a_core(rt: HostRuntime) {
+    assert!(rt; are_alike(rt.alloc()));
 }

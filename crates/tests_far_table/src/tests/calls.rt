@@ -1,8 +1,11 @@
 //! Each call, by each kind of answer.
 
-use super::*;
-use far_word::Mark;
-use std::test::Fail;
+use crate::tests::goes_on;
+use crate::tests::owner::Act;
+use crate::tests::owner::Act::*;
+use far_core::{Event, Reply, Shape};
+use far_word::Mark::{Dropped, Moved};
+use far_word::Place;
 
 const ONE: Shape = Shape {
     logs: 4,
@@ -10,88 +13,59 @@ const ONE: Shape = Shape {
     epoch: 5,
 };
 
-/// A core with an object of 9 bytes of pointer 0, which its owner doesn't use.
-fn placed(rt: &impl Abort, alloc: Global) -> Result<Core, Refused> {
-    let mut core = Core::new(alloc, ONE, true)?;
-    happens(
-        rt,
-        &mut core,
-        &[put(0, 0, header(0, 9, 1)), named(0, 0x8400_0000_0001_0009)],
-    );
-    Ok(core)
-}
+/// An object of 9 bytes of pointer 0, which its owner doesn't use.
+#[rattlefmt::skip]
+const PLACED: &[(Event, Reply)] = &[
+    (Event::Put { log: 0, at: 0, word: 0xa100_0000_0001_0009 }, Reply::Done),
+    (Event::Name { pointer: 0, old: 0, new: 0x8400_0000_0001_0009 }, Reply::Done),
+];
 
-/// The calls of the one owner of a core answer so.
-fn goes_so(
-    rt: &impl Abort,
-    alloc: Global,
-    core: Core,
-    cases: &[(Act, Reply)],
-) -> Result<(), Refused> {
-    for mut owner in shared(alloc, core)? {
-        answers(rt, &mut owner, cases);
-    }
-    Ok(())
-}
-
-#[test]
-fn an_object_is_viewed(rt: HostRuntime) -> Result<(), Fail> {
-    let core = placed(&rt, rt.alloc())?;
-    goes_so(
-        &rt,
-        rt.alloc(),
-        core,
-        &[
-            (Act::Adopt, Reply::Word(0x8400_0000_0001_0009)),
-            (Act::ReadEpoch, Reply::Epoch(5)),
-            (Act::Open, Reply::Done),
-            (Act::Pin, held(0, 0)),
-            (Act::Load(0), Reply::Word(0)),
-            (Act::Load(1), Reply::Word(0)),
-            (Act::Store(0, 0x0807_0605_0403_0201), Reply::Done),
-            (Act::Store(1, 9), Reply::Done),
-            (Act::Load(0), Reply::Word(0x0807_0605_0403_0201)),
-            (Act::Load(1), Reply::Word(9)),
-            (Act::Close, Reply::Done),
-            (Act::ReadEpoch, Reply::Epoch(5)),
-            (Act::ReadEpoch, Reply::Epoch(5)),
-            (Act::Open, Reply::Done),
-            (Act::Pin, held(0, 0)),
-            (Act::Load(0), Reply::Word(0x0807_0605_0403_0201)),
-            (Act::Load(1), Reply::Word(9)),
-        ],
-    )?;
-    Ok(())
-}
+const VIEWED: &[(Act, Reply)] = &[
+    (Adopt, Reply::Word(0x8400_0000_0001_0009)),
+    (ReadEpoch, Reply::Epoch(5)),
+    (Open, Reply::Done),
+    (Pin, Reply::Held(Place { log: 0, at: 0 })),
+    (Load(0), Reply::Word(0)),
+    (Load(1), Reply::Word(0)),
+    (Store(0, 0x0807_0605_0403_0201), Reply::Done),
+    (Store(1, 9), Reply::Done),
+    (Load(0), Reply::Word(0x0807_0605_0403_0201)),
+    (Load(1), Reply::Word(9)),
+    (Close, Reply::Done),
+    (ReadEpoch, Reply::Epoch(5)),
+    (ReadEpoch, Reply::Epoch(5)),
+    (Open, Reply::Done),
+    (Pin, Reply::Held(Place { log: 0, at: 0 })),
+    (Load(0), Reply::Word(0x0807_0605_0403_0201)),
+    (Load(1), Reply::Word(9)),
+];
 
 #[test]
-fn an_object_is_asked_for(rt: HostRuntime) -> Result<(), Fail> {
-    let core = placed(&rt, rt.alloc())?;
-    goes_so(
-        &rt,
-        rt.alloc(),
-        core,
-        &[
-            (Act::Adopt, Reply::Word(0x8400_0000_0001_0009)),
-            (Act::Ask(Mark::Moved), Reply::Word(0x8400_0000_0001_0009)),
-            (Act::Ask(Mark::Moved), Reply::Word(0x9400_0000_0001_0009)),
-            (Act::ReadEpoch, Reply::Epoch(5)),
-            (Act::Open, Reply::Done),
-            (Act::Pin, Reply::Word(0x9400_0000_0001_0009)),
-            (Act::Pin, Reply::Word(0xd400_0000_0001_0009)),
-            (Act::Ask(Mark::Dropped), Reply::Word(0xd400_0000_0001_0009)),
-            (Act::Adopt, Reply::Refused),
-            (Act::Close, Reply::Done),
-            (Act::Adopt, Reply::Refused),
-        ],
-    )?;
-    Ok(())
+fn an_object_is_viewed(rt: HostRuntime) {
+    assert!(rt; goes_on(rt.alloc(), ONE, PLACED, 0, VIEWED));
+}
+
+const ASKED_FOR: &[(Act, Reply)] = &[
+    (Adopt, Reply::Word(0x8400_0000_0001_0009)),
+    (Ask(Moved), Reply::Word(0x8400_0000_0001_0009)),
+    (Ask(Moved), Reply::Word(0x9400_0000_0001_0009)),
+    (ReadEpoch, Reply::Epoch(5)),
+    (Open, Reply::Done),
+    (Pin, Reply::Word(0x9400_0000_0001_0009)),
+    (Pin, Reply::Word(0xd400_0000_0001_0009)),
+    (Ask(Dropped), Reply::Word(0xd400_0000_0001_0009)),
+    (Adopt, Reply::Refused),
+    (Close, Reply::Done),
+    (Adopt, Reply::Refused),
+];
+
+#[test]
+fn an_object_is_asked_for(rt: HostRuntime) {
+    assert!(rt; goes_on(rt.alloc(), ONE, PLACED, 0, ASKED_FOR));
 }
 
 // A free cell is no object's.
 #[test]
-fn a_free_cell_is_not_adopted(rt: HostRuntime) -> Result<(), Fail> {
-    let core = Core::new(rt.alloc(), ONE, true)?;
-    goes_so(&rt, rt.alloc(), core, &[(Act::Adopt, Reply::Refused)])?;
-    Ok(())
+fn a_free_cell_is_not_adopted(rt: HostRuntime) {
+    assert!(rt; goes_on(rt.alloc(), ONE, &[], 0, &[(Adopt, Reply::Refused)]));
 }

@@ -1,6 +1,10 @@
 //! Memory that is refused. `rt try --test --fail-alloc 1..` refuses each growth in turn.
 
-use super::*;
+use crate::tests::owner::Owner;
+use crate::tests::{made, shared};
+use far_core::Shape;
+use far_word::Refused;
+use std::alloc::Global;
 
 const TWO: Shape = Shape {
     logs: 2,
@@ -8,14 +12,14 @@ const TWO: Shape = Shape {
     epoch: 0,
 };
 
-fn made(alloc: Global) -> Result<Vec<Owner>, Refused> {
-    let core = Core::new(alloc, TWO, true)?;
+fn owners_of(alloc: Global) -> Result<Vec<Owner>, Refused> {
+    let core = made(alloc, TWO, &[])?;
     shared(alloc, core)
 }
 
 // Whether there are all owners, or memory was refused.
 fn ends_lawfully(alloc: Global) -> bool {
-    match made(alloc) {
+    match owners_of(alloc) {
         Ok(owners) => owners.len() == 2,
         Err(why) => why == Refused::Memory,
     }

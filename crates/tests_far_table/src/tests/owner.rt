@@ -15,7 +15,7 @@ use far_table::MutSeat;
 use far_word::{CELLS, Mark, PtrWord, ScopeWord, words_for};
 
 /// A call of an owner's seat.
-#[derive(Clone, Copy, Debug, PartialEq, Eq)]
+#[derive(Clone, Copy)]
 pub(super) enum Act {
     ReadEpoch,
     Open,
