@@ -1,54 +1,79 @@
 // The two heaps: over a core of its own, and over shared words.
 
-use crate::work::Side;
 use far_book::{Book, Home, Near, Plain};
 use far_core::{Core, Event, Reply, Shape};
-use far_device::{Device, MemDevice};
-use far_evac::{Evac, RoundEnd};
-use far_policy::Oldest;
+use far_device::MemDevice;
+use far_evac::Evac;
 use far_table::BookSeat;
 use far_word::{Mark, Refused};
 use std::alloc::Global;
-use tests_owner::{Owner, shared};
+use tests_owner::Owner;
 
-const SHAPE: Shape = Shape {
+/// How large both are.
+pub const SHAPE: Shape = Shape {
     logs: 16,
     mutators: 1,
     epoch: 0,
 };
 
-/// A heap over a core of its own.
-#[derive(Drop)]
-pub struct Alone {
-    evac: Evac<Plain, MemDevice>,
+/// Who makes the events of owner 0.
+pub trait Owns<N: Near + Drop> {
+    /// Makes an event: what is answered.
+    fn call(&mut self, evac: &mut Evac<N, MemDevice>, event: Event) -> Reply;
 }
 
-/// A heap over shared words, with the owner's seat beside it.
+/// A core of its own makes them.
 #[derive(Drop)]
-pub struct Shared {
-    evac: Evac<BookSeat<MemDevice>, MemDevice>,
-    owner: Owner<MemDevice>,
+pub struct ByCore;
+
+impl Owns<Plain> for ByCore {
+    #[inline(always)]
+    fn call(&mut self, evac: &mut Evac<Plain, MemDevice>, event: Event) -> Reply {
+        evac.owner(event)
+    }
+}
+
+impl Owns<BookSeat<MemDevice>> for Owner<MemDevice> {
+    #[inline(always)]
+    fn call(&mut self, _evac: &mut Evac<BookSeat<MemDevice>, MemDevice>, event: Event) -> Reply {
+        let done = match event {
+            Event::Pin { pointer, .. } => return self.pin(pointer),
+            Event::Store {
+                pointer,
+                index,
+                word,
+                ..
+            } => self.store(pointer, index, word),
+            Event::Ask { pointer, mark, .. } => self.ask(pointer, mark).is_some(),
+            Event::Adopt { pointer, .. } => self.adopt(pointer).is_some(),
+            Event::ReadEpoch { .. } => self.read_epoch().is_some(),
+            Event::Open { .. } => self.open(),
+            Event::Close { .. } => self.close(),
+            _ => false,
+        };
+        if done { Reply::Done } else { Reply::Refused }
+    }
 }
 
 #[tactic(auto, using(crate::proofs::Begins::at_start))]
-pub fn heap_alone(alloc: Global) -> Result<Alone, Refused> {
+pub fn heap_alone(alloc: Global) -> Result<Evac<Plain, MemDevice>, Refused> {
     let core = Core::new(alloc, SHAPE, true)?;
     let book = Book::new(alloc, Plain { core }, MemDevice::new(alloc))?;
-    let evac = Evac::new(book);
-    Ok(Alone { evac })
+    Ok(Evac::new(book))
 }
 
-pub fn heap_shared(alloc: Global) -> Result<Shared, Refused> {
-    let (book, mut owners) = shared(alloc, SHAPE)?;
-    let Some(owner) = owners.pop() else {
-        return Err(Refused::Shape);
+/// Places an object of 64 bytes for the owner's lowest free cell, and adopts it: whether it could.
+pub fn make<N: Near + Drop, O: Owns<N>>(evac: &mut Evac<N, MemDevice>, owner: &mut O) -> bool {
+    let Some(pointer) = place(evac) else {
+        return false;
     };
-    let evac = Evac::new(book);
-    Ok(Shared { evac, owner })
+    !matches!(
+        owner.call(evac, Event::Adopt { owner: 0, pointer }),
+        Reply::Refused
+    )
 }
 
-// Places an object of 64 bytes for the owner's lowest free cell.
-fn place<N: Near + Drop, D: Device + Drop>(evac: &mut Evac<N, D>) -> Option<u16> {
+fn place<N: Near + Drop>(evac: &mut Evac<N, MemDevice>) -> Option<u16> {
     if evac.book().shape().mutators == 0 {
         return None;
     }
@@ -62,7 +87,7 @@ fn place<N: Near + Drop, D: Device + Drop>(evac: &mut Evac<N, D>) -> Option<u16>
 
 // Brings a far object near: whether it was far and came.
 #[tactic(auto, using(crate::proofs::Begins::far_home))]
-fn fetches<N: Near + Drop, D: Device + Drop>(evac: &mut Evac<N, D>, pointer: u16) -> bool {
+fn fetches<N: Near + Drop>(evac: &mut Evac<N, MemDevice>, pointer: u16) -> bool {
     if pointer as u64 >= 128 * evac.book().shape().mutators {
         return false;
     }
@@ -74,7 +99,7 @@ fn fetches<N: Near + Drop, D: Device + Drop>(evac: &mut Evac<N, D>, pointer: u16
 
 // Moves a near object that was asked for.
 #[tactic(auto, using(crate::proofs::Begins::quiet_home))]
-fn moves<N: Near + Drop, D: Device + Drop>(evac: &mut Evac<N, D>, pointer: u16) -> bool {
+fn moves<N: Near + Drop>(evac: &mut Evac<N, MemDevice>, pointer: u16) -> bool {
     if pointer as u64 >= 128 * evac.book().shape().mutators {
         return false;
     }
@@ -87,91 +112,42 @@ fn moves<N: Near + Drop, D: Device + Drop>(evac: &mut Evac<N, D>, pointer: u16) 
     matches!(evac.move_now(pointer), Ok(Some(_)))
 }
 
-fn run<N: Near + Drop, D: Device + Drop>(
-    evac: &mut Evac<N, D>,
-    policy: &mut Oldest,
-) -> Option<RoundEnd> {
-    evac.run_round(policy, 4, 1000).ok()
+// Brings an object that a pin didn't hold where it can be viewed, and pins it again.
+#[inline(always)]
+fn bring<N: Near + Drop, O: Owns<N>>(evac: &mut Evac<N, MemDevice>, owner: &mut O, pointer: u16) {
+    if !fetches(evac, pointer) {
+        let mark = Mark::Moved;
+        owner.call(
+            evac,
+            Event::Ask {
+                owner: 0,
+                pointer,
+                mark,
+            },
+        );
+        moves(evac, pointer);
+    }
+    owner.call(evac, Event::Pin { owner: 0, pointer });
 }
 
-fn pin(pointer: u16) -> Event {
-    Event::Pin { owner: 0, pointer }
-}
-
-impl Side for Alone {
-    fn make(&mut self) -> bool {
-        let Some(pointer) = place(&mut self.evac) else {
-            return false;
-        };
-        self.evac.owner(Event::Adopt { owner: 0, pointer }) != Reply::Refused
+/// Writes a word of an object, which is brought where it can be viewed: whether it could.
+#[inline(always)]
+pub fn write<N: Near + Drop, O: Owns<N>>(
+    evac: &mut Evac<N, MemDevice>,
+    owner: &mut O,
+    pointer: u16,
+    index: u16,
+    word: u64,
+) -> bool {
+    let pin = owner.call(evac, Event::Pin { owner: 0, pointer });
+    if !matches!(pin, Reply::Held(_) | Reply::Refused) {
+        bring(evac, owner, pointer);
     }
-
-    fn open(&mut self) {
-        self.evac.owner(Event::ReadEpoch { owner: 0 });
-        self.evac.owner(Event::Open { owner: 0 });
-    }
-
-    fn write(&mut self, pointer: u16, index: u16, word: u64) -> bool {
-        if !matches!(
-            self.evac.owner(pin(pointer)),
-            Reply::Held(_) | Reply::Refused
-        ) {
-            if !fetches(&mut self.evac, pointer) {
-                self.evac.owner(Event::Ask {
-                    owner: 0,
-                    pointer,
-                    mark: Mark::Moved,
-                });
-                moves(&mut self.evac, pointer);
-            }
-            self.evac.owner(pin(pointer));
-        }
-        self.evac.owner(Event::Store {
-            owner: 0,
-            pointer,
-            index,
-            word,
-        }) == Reply::Done
-    }
-
-    fn close(&mut self) {
-        self.evac.owner(Event::Close { owner: 0 });
-    }
-
-    fn round(&mut self, policy: &mut Oldest) -> Option<RoundEnd> {
-        run(&mut self.evac, policy)
-    }
-}
-
-impl Side for Shared {
-    fn make(&mut self) -> bool {
-        match place(&mut self.evac) {
-            Some(pointer) => self.owner.adopt(pointer).is_some(),
-            None => false,
-        }
-    }
-
-    fn open(&mut self) {
-        self.owner.read_epoch();
-        self.owner.open();
-    }
-
-    fn write(&mut self, pointer: u16, index: u16, word: u64) -> bool {
-        if !matches!(self.owner.pin(pointer), Reply::Held(_) | Reply::Refused) {
-            if !fetches(&mut self.evac, pointer) {
-                self.owner.ask(pointer, Mark::Moved);
-                moves(&mut self.evac, pointer);
-            }
-            self.owner.pin(pointer);
-        }
-        self.owner.store(pointer, index, word)
-    }
-
-    fn close(&mut self) {
-        self.owner.close();
-    }
-
-    fn round(&mut self, policy: &mut Oldest) -> Option<RoundEnd> {
-        run(&mut self.evac, policy)
-    }
+    let store = Event::Store {
+        owner: 0,
+        pointer,
+        index,
+        word,
+    };
+    matches!(owner.call(evac, store), Reply::Done)
 }

@@ -4,11 +4,13 @@
 mod heaps;
 mod work;
 
+use far_evac::Evac;
 use far_word::Refused;
-use heaps::{Alone, Shared, heap_alone, heap_shared};
+use heaps::{ByCore, SHAPE, heap_alone};
 use std::alloc::Global;
 use std::process::ExitCode;
 use std::{env, io};
+use tests_owner::shared;
 use work::rounds;
 
 // Over which words, and how many rounds.
@@ -28,15 +30,23 @@ fn task_of(words: &[String]) -> Option<Task> {
     Some(Task { shared, count })
 }
 
-// A sum over what the rounds did; `None` where they couldn't be made.
+// A sum over what the rounds did over shared words; `None` where they couldn't be made.
+fn on_shared(alloc: Global, count: u64) -> Result<Option<u64>, Refused> {
+    let (book, mut owners) = shared(alloc, SHAPE)?;
+    let mut evac = Evac::new(book);
+    match owners.get_mut(0) {
+        Some(owner) => Ok(rounds(&mut evac, owner, count)),
+        None => Err(Refused::Shape),
+    }
+}
+
+// The same over the words that the task names.
 fn done(alloc: Global, task: Task) -> Result<Option<u64>, Refused> {
     if task.shared {
-        let mut heap: Shared = heap_shared(alloc)?;
-        Ok(rounds(&mut heap, task.count))
-    } else {
-        let mut heap: Alone = heap_alone(alloc)?;
-        Ok(rounds(&mut heap, task.count))
+        return on_shared(alloc, task.count);
     }
+    let mut evac = heap_alone(alloc)?;
+    Ok(rounds(&mut evac, &mut ByCore, task.count))
 }
 
 fn asked(rt: &HostRuntime) -> io::Result<Option<Task>> {

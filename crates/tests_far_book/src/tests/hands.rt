@@ -174,7 +174,7 @@ fn is_vacant(found: &Vec<u64>, log: u8) -> bool
 // Whether the first word of log 0 is read so, and with it the log is given back.
 fn gives_back(hand: &mut Beset, word: u64) -> bool {
     hand.core.logs() == 4
-        && hand.core.kind(0) == Kind::Sealed
+        && hand.core.may_get(0, 0, true)
         && is_vacant(&hand.found, 0)
         && hand.get(0, 0, true) == word
         && hand.core.logs() == 4

@@ -1,5 +1,6 @@
-use Rattle.std.proofs.Common.{ℕ, inl, inr, refl, subst}
+use Rattle.std.proofs.Common.{ℕ, ◌<◌, ◌*◌, inl, inr, refl, rules, subst, sym}
 use Rattle.std.specs.Prelude.{IfErr}
+use Rattle.far_word.specs.declared.sizes.TheConstants.{CELLS}
 use Rattle.far_heap.specs.Helping.{IsBrought}
 use Rattle.far_heap.specs.Mine.{IsUnbrought}
 use Rattle.far_heap.proofs.Asking.{asks_none}
@@ -27,3 +28,8 @@ returns-in-Some-Ok-clause-brought g c = λ h.
     let m = c.in-Some-Ok.ensures.moved in
     subst (λ (q : ℕ). IsBrought d.contents d.honest d.faults d.fails_at_most d.lets_go d.forgets d.reads d.reads_in_place f q) c.ask_move-asked.ensures.pointer
     (brought_by _ _ _ _ _ _ _ _ m.0 f _ c.in-Some-Ok.field-0 c.in-Some-Ok.place c.is_some-in-Some-Ok.result (inr m.2.1) c.in-Some-Ok.field-0-is c.is_some-in-Some-Ok.ensures h)
+
+pub move_asked-requires : goal.move_asked-requires
+move_asked-requires g c =
+    let low : c.args.p < CELLS * g.K.HeapName.heap.mutators = search rules in
+    record { pointer = subst (λ (q : ℕ). q < CELLS * g.K.HeapName.heap.mutators) (sym c.ask_move-asked.ensures.pointer) low }
