@@ -22,6 +22,7 @@ use Rattle.far_core.specs.state.Room.{room, free_logs, is_free, lowest}
 use Rattle.far_core.specs.state.Spans.{spans_of, is_live, names_place}
 use Rattle.far_core.specs.state.State.{State, put, addr}
 use Rattle.far_core.specs.events.Clear.{is_near}
+use Rattle.far_core.proofs.Copied.{NoCopy, no_copy_unoffered}
 use Rattle.far_core.proofs.Put.{put_both, put_other, put_same}
 use Rattle.far_book.specs.book.Effects.{moved, evicted, near_word, far_word, with_free_cell, with_written_span}
 use Rattle.far_book.proofs.region.Evictions.{evicted_is, far_says, sent}
@@ -124,6 +125,7 @@ module _ (s : State) (held : List ℕ) (ready : Ready s held) (p : ℕ) where
       few = ready.few;
       logs = held_still s p (with_free_cell s p) 0 refl held (same_logs _ (λ l. (λ len ds place marks e _. free_place len ds place marks e, refl, refl)) held) ready.logs;
       once = ready.once;
+      alone = ready.alone;
     };
   }
 
@@ -166,6 +168,7 @@ module _ (s : State) (held : List ℕ) (ready : Ready s held) (p : ℕ) where
         logs = held_still s p (sent s p len ds from) (far_word len ds) refl held
             (same_logs _ (λ l. (λ n d place k e _. far_place n d place k e, refl, refl)) held) ready.logs;
         once = ready.once;
+        alone = ready.alone;
       };
     }
 
@@ -192,6 +195,9 @@ module _ (s : State) (held : List ℕ) (ready : Ready s held) (p : ℕ) where
     module _ (to : Place) (goes : room s (size_of len) false ≡ Some to) where
       new : NewPlace s (size_of len) to
       new = room_new s ready.opens ready.current (size_of len) (omega (arith, layout.4)) to goes
+
+      uncopied : NoCopy s.copying p from to
+      uncopied = no_copy_unoffered s.copying ready.alone p from to
 
       near_layout : IsPtr (Near len ds to no_marks)
       near_layout = (layout.0, layout.1, layout.2, omega (arith, new.log, ready.few), new.fits)
@@ -268,17 +274,18 @@ module _ (s : State) (held : List ℕ) (ready : Ready s held) (p : ℕ) where
           few = ready.few;
           logs = held_still s p then (near_word len ds to) refl held (logs_moved held ready.logs) ready.logs;
           once = ready.once;
+          alone = ready.alone;
         };
       }
 
       pub leaves_moved : Leaves s p (moved s p to) held
-      leaves_moved = subst (λ t. Leaves s p t held) (sym (moved_is s p len ds from to marks near alive evac near_layout)) leaves_then
+      leaves_moved = subst (λ t. Leaves s p t held) (sym (moved_is s p len ds from to marks near alive evac near_layout uncopied)) leaves_then
 
       here_near : read_of (then.cell p) ≡ Some (Near len ds to no_marks)
       here_near = ap read_of (put_same s.cell p (near_word len ds to) p refl) ∙ near_says
 
       pub says_moved : read_of ((moved s p to).cell p) ≡ Some (Near len ds to no_marks)
-      says_moved = ap (λ (t : State). read_of (t.cell p)) (moved_is s p len ds from to marks near alive evac near_layout) ∙ here_near
+      says_moved = ap (λ (t : State). read_of (t.cell p)) (moved_is s p len ds from to marks near alive evac near_layout uncopied) ∙ here_near
 
       off_moved : (ls : List ℕ) → AllByRecursion (IsOfRound s) ls → AllByRecursion (λ l. (at : ℕ) → names_place (read_of (then.cell p)) l at ≡ false) ls
       off_moved [] h = tt
@@ -288,4 +295,4 @@ module _ (s : State) (held : List ℕ) (ready : Ready s held) (p : ℕ) where
       gone_then = record { says = ap is_near here_near; off = off_moved held ready.logs }
 
       pub gone_moved : Gone s p (moved s p to) held is_near
-      gone_moved = subst (λ t. Gone s p t held is_near) (sym (moved_is s p len ds from to marks near alive evac near_layout)) gone_then
+      gone_moved = subst (λ t. Gone s p t held is_near) (sym (moved_is s p len ds from to marks near alive evac near_layout uncopied)) gone_then

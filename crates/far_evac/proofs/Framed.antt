@@ -8,9 +8,11 @@ use Rattle.far_word.specs.Pointer.{read_of}
 use Rattle.far_core.specs.declared.event.Event.TheVariants.{Name}
 use Rattle.far_core.specs.declared.naming.Naming.{Naming}
 use Rattle.far_core.specs.declared.naming.Naming.TheVariants.{Places, Retires, Evicts, Stays, Moves as moving, Fetches}
+use Rattle.far_core.specs.events.Copied.{copied_job}
 use Rattle.far_core.specs.events.Copies.{data_at}
 use Rattle.far_core.specs.events.Name.{after_naming}
 use Rattle.far_core.specs.events.Naming.{naming_of, naming_row}
+use Rattle.far_core.specs.events.namings.Moves.{after_move}
 use Rattle.far_core.specs.events.Step.{after}
 use Rattle.far_core.specs.state.State.{State}
 use Rattle.far_core.proofs.Put.{put_other}
@@ -19,9 +21,9 @@ use Rattle.far_evac.specs.Live.{is_empty, live_in}
 use Rattle.far_evac.specs.Walk.{Walked, Way, Drops, Moves, Goes, freed, passed}
 use Rattle.far_evac.proofs.Tours.{core_so}
 
--- all that owners change, and the round, is as it was
+-- all that owners change, and the round, is as it was; of jobs too, but whether their pointers were named to their targets
 abbrev pub framed : State → State → State
-framed s t = record s { cell = t.cell; word = t.word; kind = t.kind; tail = t.tail; current = t.current; starts = t.starts; stored = t.stored }
+framed s t = record s { cell = t.cell; word = t.word; kind = t.kind; tail = t.tail; current = t.current; starts = t.starts; stored = t.stored; copying = record s.copying { named = t.copying.named } }
 
 pub record ChangesOne (s : State) (p : ℕ) (t : State) : Type 0 where
   pub frame : t ≡ framed s t
@@ -31,12 +33,16 @@ same_one : (s : State) (p : ℕ) → ChangesOne s p s
 same_one s p = record { frame = refl; cells = λ q other. refl }
 
 module _ (s : State) (p new : ℕ) where
+  move_one : (len : ℕ) (to : Place) (j : Option ℕ) → ChangesOne s p (after_move s p new len to j)
+  move_one len to None = record { frame = refl; cells = put_other s.cell p new }
+  move_one len to (Some j) = record { frame = refl; cells = put_other s.cell p new }
+
   row_one : (form : Naming) → ChangesOne s p (naming_row s p new form).after
   row_one (Places len ds place) = record { frame = refl; cells = put_other s.cell p new }
   row_one Retires = record { frame = refl; cells = put_other s.cell p new }
   row_one (Evicts len place) = record { frame = refl; cells = put_other s.cell p new }
   row_one Stays = record { frame = refl; cells = put_other s.cell p new }
-  row_one (moving len ds from to) = record { frame = refl; cells = put_other s.cell p new }
+  row_one (moving len ds from to) = move_one len to (copied_job s p from to)
   row_one (Fetches len ds place) = record { frame = refl; cells = put_other s.cell p new }
 
   naming_one : (form : Option Naming) → ChangesOne s p (after_naming s p new form)

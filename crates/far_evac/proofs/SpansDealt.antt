@@ -23,6 +23,7 @@ use Rattle.far_core.specs.laws.Observed.{span_for}
 use Rattle.far_core.specs.state.Room.{free_logs, is_free, lowest, room}
 use Rattle.far_core.specs.state.Spans.{names_place, spans_of, word_in}
 use Rattle.far_core.specs.state.State.{State, addr, put}
+use Rattle.far_core.proofs.Copied.{no_copy_unoffered}
 use Rattle.far_core.proofs.Put.{put_other, put_same}
 use Rattle.far_hand.specs.Finds.{Finds, marks_in}
 use Rattle.far_book.specs.book.Effects.{evicted, far_word, moved, near_word, with_free_cell, with_written_span}
@@ -160,7 +161,7 @@ module _ (s : State) (sound : Sound s) (held : List ℕ) (ready : Ready s held) 
       moves_then = comes s then sound p (near_word len ds to) len ds from to marks no_marks near (read_back (Near len ds to no_marks) near_layout) at_end new.fits new.log new.unsealed refl refl refl ready.opens refl spans_here spans_there
 
       pub moves : Dealt s (moved s p to) p
-      moves = subst (λ t. Dealt s t p) (sym (moved_is s p len ds from to marks near alive evac near_layout)) moves_then
+      moves = subst (λ t. Dealt s t p) (sym (moved_is s p len ds from to marks near alive evac near_layout (no_copy_unoffered s.copying ready.alone p from to))) moves_then
 
 -- ---- the first object, as a word says that was found in its cell
 module _ (s : State) (sound : Sound s) (l : ℕ) (ls : List ℕ) (p : ℕ) (ps : List ℕ) (ready : Ready s (l ∷ ls)) (first : live_in s l ≡ p ∷ ps) (word : ℕ) (finds : Finds (s.cell p) word) where

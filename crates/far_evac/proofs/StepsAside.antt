@@ -29,7 +29,8 @@ use Rattle.far_hand.specs.Quiet.{IsQuietNear}
 use Rattle.far_book.specs.book.Effects.{fetched, moved, near_word, order_after, placed, retired, stayed, with_blank_span, with_written_span}
 use Rattle.far_book.specs.book.Fetching.{IsFar, far_len, room_for}
 use Rattle.far_book.proofs.region.Fetched.{fetched_come}
-use Rattle.far_book.proofs.region.Moved.{drop_of, evac_of, goal_there, has_moved, moved_is, stayed_is}
+use Rattle.far_book.proofs.region.Moved.{drop_of, evac_of, goal_there, has_moved, moved_is, no_copy_in_room, stayed_is}
+use Rattle.far_book.proofs.region.Owns.{own_law}
 use Rattle.far_book.proofs.region.Places.{named_is, next_unsealed}
 use Rattle.far_book.proofs.region.Retires.{retired_is}
 use Rattle.far_evac.specs.Callers.{CoresJoin, FetchingOrder, FetchingStepsAside, MovingOrder, MovingStepsAside, OwnersStepAside, PlacingOrder, PlacingStepsAside, RetiringOrder, RetiringStepsAside, StepsAside, StepsJoin, StepsKeep, StillOrder, StillStepsAside}
@@ -191,6 +192,7 @@ module _ (s : State) (p : ℕ) (to : Place) (law : Law s) (q : IsQuietNear s p) 
 
     moved_taken : moved s p to ≡ with_span (with_written_span s p q.len q.ds to (data_at s.word q.place)) p (near_word q.len q.ds to) q.len to
     moved_taken = moved_is s p q.len q.ds q.place to q.marks q.near undropped evac (layout s law q.len q.ds to false says.0 says.1 says.2 there)
+        (no_copy_in_room s (own_law s law) p (size_of q.len) q.place to false (omega arith) (omega (arith, says.1)) there)
 
     moved_aside : StepsAside s (moved s p to)
     moved_aside = subst (StepsAside s) (sym moved_taken) (taken_aside s law _ p (near_word q.len q.ds to) q.len to (is_room s law q.len q.ds to false says.0 says.1 says.2 there).next)

@@ -1,7 +1,7 @@
 -- What a beset hand knows after it has named a word, and why what is legal by its view is legal.
-use Rattle.std.proofs.Common.{◌≡◌, ◌≢◌, ℕ, ◌+◌, ◌-◌, ◌*◌, ◌^◌, ◌<◌, ◌≤◌, Bool, true, false, cond, nat_lt, Option, Some, None, refl, sym, ap, ◌∙◌, subst, arith}
-use Rattle.std.specs.Prelude.{◌||◌, ◌==◌}
-use Rattle.std.proofs.lemmas.Bool.{cond_both, eqb-true, eqb-false, eq-eqb, ne_eqb, ltb-true}
+use Rattle.std.proofs.Common.{◌≡◌, ◌≢◌, ℕ, ◌+◌, ◌-◌, ◌*◌, ◌^◌, ◌<◌, ◌≤◌, Bool, true, false, cond, nat_lt, Option, Some, None, inl, inr, refl, sym, ap, ◌∙◌, subst, arith}
+use Rattle.std.specs.Prelude.{◌⊎◌, ◌||◌, ◌==◌, is_some}
+use Rattle.std.proofs.lemmas.Bool.{cond_both, eqb-true, eqb-false, eq-eqb, false≢true, ne_eqb, ltb-true}
 use mathlib.Core.Path.{fun_ext}
 use Rattle.far_word.specs.declared.pointer.Place.{Place}
 use Rattle.far_word.specs.declared.pointer.PtrWord.TheVariants.{Near}
@@ -16,20 +16,24 @@ use Rattle.far_core.specs.declared.event.Reply.{Reply}
 use Rattle.far_core.specs.declared.event.Reply.TheVariants.{Done, Word}
 use Rattle.far_core.specs.declared.naming.Naming.{Naming}
 use Rattle.far_core.specs.declared.naming.Naming.TheVariants.{Places, Retires, Evicts, Stays, Moves, Fetches}
+use Rattle.far_core.specs.events.Copied.{WasCopied, copied_job}
 use Rattle.far_core.specs.events.Copies.{EndsPadded}
 use Rattle.far_core.specs.events.Legal.{Legal}
 use Rattle.far_core.specs.events.Name.{after_naming}
 use Rattle.far_core.specs.events.namings.Evicts.{with_kept}
+use Rattle.far_core.specs.events.namings.Moves.{MayMove, after_move}
 use Rattle.far_core.specs.events.Naming.{naming_of, IsNaming, naming_row, no_marks}
 use Rattle.far_core.specs.events.NewSpans.{IsNewSpan}
 use Rattle.far_core.specs.events.Step.{after, answer}
 use Rattle.far_core.specs.state.Law.{Law}
 use Rattle.far_core.specs.state.State.{State, addr, put}
+use Rattle.far_core.proofs.Copied.{copied_same, copied_test, was_copied_same}
 use Rattle.far_core.proofs.KeepPlace.{header}
 use Rattle.far_core.proofs.Namings.{naming_only}
 use Rattle.far_core.proofs.Put.{put_both}
 use Rattle.far_hand.specs.Known.{IsKnown, Forgets, KnowsLeaving}
 use Rattle.far_hand.specs.Masked.{masked, AllFind}
+use Rattle.far_hand.proofs.Finding.{place_found}
 use Rattle.far_hand.proofs.Knowing.{alike_words, quiet_too, stored_too, stored_fits, few_bits}
 use Rattle.far_hand.proofs.Reading.{known_word, header_known, forgets}
 
@@ -51,6 +55,19 @@ module _ (s : State) (p old new : ℕ) where
   won_state form e n = ap (λ b. cond b (after_naming s p new (naming_of (read_of old) (read_of new))) s) (eq-eqb (s.cell p) old e)
       ∙ ap (after_naming s p new) (naming_only form (read_of old) (read_of new) n)
 
+-- a move takes a span, or names what was copied
+move_word : (s : State) (p new len : ℕ) (to : Place) (o : Option ℕ) → (after_move s p new len to o).word ≡ s.word
+move_word s p new len to None = refl
+move_word s p new len to (Some j) = refl
+
+move_cell : (s : State) (p new len : ℕ) (to : Place) (o : Option ℕ) → (after_move s p new len to o).cell ≡ put s.cell p new
+move_cell s p new len to None = refl
+move_cell s p new len to (Some j) = refl
+
+move_sizes : (s : State) (p new len : ℕ) (to : Place) (o : Option ℕ) → ((after_move s p new len to o).mutators ≡ s.mutators) × ((after_move s p new len to o).logs ≡ s.logs)
+move_sizes s p new len to None = (refl, refl)
+move_sizes s p new len to (Some j) = (refl, refl)
+
 -- a naming changes no word, and forgets none
 name_word : (s : State) (p new : ℕ) (o : Option Naming) → (after_naming s p new o).word ≡ s.word
 name_word s p new None = refl
@@ -58,7 +75,7 @@ name_word s p new (Some (Places len ds place)) = refl
 name_word s p new (Some Retires) = refl
 name_word s p new (Some (Evicts len place)) = refl
 name_word s p new (Some Stays) = refl
-name_word s p new (Some (Moves len ds from to)) = refl
+name_word s p new (Some (Moves len ds from to)) = move_word s p new len to (copied_job s p from to)
 name_word s p new (Some (Fetches len ds place)) = refl
 
 pub name_forgets : (s : State) (p old new : ℕ) → Forgets s (after s (Name p old new))
@@ -97,18 +114,32 @@ module _ (s : State) (law : Law s) (found : ℕ → ℕ) (counted : ℕ → Bool
       word_is (addr place + 1 + (words_for len - 1)) (o.word (addr place + 1 + (words_for len - 1))) (omega (arith, h, low)) refl in
       subst (λ w. w < 2 ^ (8 * (len - 8 * (words_for len - 1)))) (sym last) h
 
+  may_move : (len ds : ℕ) (from to : Place) → read_of new ≡ Some (Near len ds to no_marks) → MayMove o p len ds from to → MayMove s p len ds from to
+  may_move len ds from to says h = record {
+    span = new_span len ds to says h.span;
+    padded = padded len to (some_bytes len ds to says) h.padded;
+    quiet = quiet_too s found counted p (finds p) h.quiet;
+    log = h.log;
+    same = λ i lt. alike_words s found counted law (addr to + 1 + i) (addr from + 1 + i) (h.same i lt);
+  }
+
+  -- what the view says was copied, was copied
+  copied_too : (from to : Place) → WasCopied o p from to → WasCopied s p from to
+  copied_too from to = was_copied_same s o p from to refl refl refl (place_found (found p) (s.cell p) (finds p))
+
+  job_too : (from to : Place) → copied_job o p from to ≡ copied_job s p from to
+  job_too from to = copied_same s o p from to refl refl refl (place_found (found p) (s.cell p) (finds p))
+
+  move_legal : (len ds : ℕ) (from to : Place) → read_of new ≡ Some (Near len ds to no_marks) → MayMove o p len ds from to ⊎ WasCopied o p from to → MayMove s p len ds from to ⊎ WasCopied s p from to
+  move_legal len ds from to says (inl h) = inl (may_move len ds from to says h)
+  move_legal len ds from to says (inr has) = inr (copied_too from to has)
+
   row_legal : (form : Naming) → IsNaming form (read_of old) (read_of new) → (naming_row o p new form).Legal → (naming_row s p new form).Legal
   row_legal (Places len ds place) n h = (new_span len ds place n.1 h.0, λ i lt. word_is (addr place + 1 + i) 0 (omega arith) (h.1 i lt))
   row_legal Retires n h = tt
   row_legal (Evicts len place) n h = quiet_too s found counted p (finds p) h
   row_legal Stays n h = tt
-  row_legal (Moves len ds from to) n h = record {
-    span = new_span len ds to n.1 h.span;
-    padded = padded len to (some_bytes len ds to n.1) h.padded;
-    quiet = quiet_too s found counted p (finds p) h.quiet;
-    log = h.log;
-    same = λ i lt. alike_words s found counted law (addr to + 1 + i) (addr from + 1 + i) (h.same i lt);
-  }
+  row_legal (Moves len ds from to) n h = move_legal len ds from to n.1 h
   row_legal (Fetches len ds place) n h = record {
     span = new_span len ds place n.1 h.span;
     padded = padded len place (some_bytes len ds place n.1) h.padded;
@@ -128,6 +159,12 @@ module _ (s : State) (law : Law s) (found : ℕ → ℕ) (counted : ℕ → Bool
       ap s.word e ∙ (here ∙ ap o.word (sym e)))
       (λ _ st. sym (header_known s.word s.starts counted a st))
 
+  move_headers : (len ds : ℕ) (from to : Place) → read_of new ≡ Some (Near len ds to no_marks) → MayMove o p len ds from to ⊎ WasCopied o p from to → (j : Option ℕ) → copied_job s p from to ≡ j →
+      (a : ℕ) → (after_move s p new len to j).starts a ≡ true → s.word a ≡ o.word a
+  move_headers len ds from to says h (Some j) e a = λ st. sym (header_known s.word s.starts counted a st)
+  move_headers len ds from to says (inl h) None e a = span_headers len ds to says h.span.head a
+  move_headers len ds from to says (inr has) None e a = absurd (false≢true (sym (ap is_some e) ∙ copied_test s p from to (copied_too from to has)))
+
   -- each header is known: those that were, and that of a new span
   headers_same : (form : Naming) → IsNaming form (read_of old) (read_of new) → (naming_row o p new form).Legal →
       (a : ℕ) → (naming_row s p new form).after.starts a ≡ true → s.word a ≡ o.word a
@@ -135,7 +172,7 @@ module _ (s : State) (law : Law s) (found : ℕ → ℕ) (counted : ℕ → Bool
   headers_same Retires n h a = λ st. sym (header_known s.word s.starts counted a st)
   headers_same (Evicts len place) n h a = λ st. sym (header_known s.word s.starts counted a st)
   headers_same Stays n h a = λ st. sym (header_known s.word s.starts counted a st)
-  headers_same (Moves len ds from to) n h a = span_headers len ds to n.1 h.span.head a
+  headers_same (Moves len ds from to) n h a = move_headers len ds from to n.1 h (copied_job s p from to) refl a
   headers_same (Fetches len ds place) n h a = span_headers len ds place n.1 h.span.head a
 
   abbrev v : Naming → State
@@ -149,13 +186,18 @@ module _ (s : State) (law : Law s) (found : ℕ → ℕ) (counted : ℕ → Bool
       (λ t. ap (λ b. cond b (s.word (addr place + 1 + i)) (s.stored p i)) t ∙ sym (known_word (s.starts (addr place + 1 + i) || counted (addr place + 1 + i)) (s.word (addr place + 1 + i)) (addr place + 1 + i) (known i (ltb-true i (words_for len) t))))
       (λ f. ap (λ b. cond b (s.word (addr place + 1 + i)) (s.stored p i)) f))
 
+  move_done : (len : ℕ) (to : Place) (j : Option ℕ) → masked (after_move s p new len to j) (put found p new) (λ _. false) ≡
+      record (after_move o p new len to j) { word = (masked (after_move s p new len to j) (put found p new) (λ _. false)).word }
+  move_done len to None = refl
+  move_done len to (Some j) = refl
+
   row_done : (form : Naming) → IsNaming form (read_of old) (read_of new) → KnowsLeaving o old new → v form ≡ record (naming_row o p new form).after { word = (v form).word }
   row_done (Places len ds place) n known = refl
   row_done Retires n known = refl
   row_done (Evicts len place) n known =
       ap (λ r. record (v (Evicts len place)) { stored = put s.stored p r }) (kept_same len place (known len place n))
   row_done Stays n known = refl
-  row_done (Moves len ds from to) n known = refl
+  row_done (Moves len ds from to) n known = move_done len to (copied_job s p from to) ∙ ap (λ j. record (after_move o p new len to j) { word = (v (Moves len ds from to)).word }) (sym (job_too from to))
   row_done (Fetches len ds place) n known = refl
 
   row_word : (form : Naming) → (naming_row s p new form).after.word ≡ s.word
@@ -163,7 +205,7 @@ module _ (s : State) (law : Law s) (found : ℕ → ℕ) (counted : ℕ → Bool
   row_word Retires = refl
   row_word (Evicts len place) = refl
   row_word Stays = refl
-  row_word (Moves len ds from to) = refl
+  row_word (Moves len ds from to) = move_word s p new len to (copied_job s p from to)
   row_word (Fetches len ds place) = refl
 
   row_cell : (form : Naming) → (naming_row s p new form).after.cell ≡ put s.cell p new
@@ -171,7 +213,7 @@ module _ (s : State) (law : Law s) (found : ℕ → ℕ) (counted : ℕ → Bool
   row_cell Retires = refl
   row_cell (Evicts len place) = refl
   row_cell Stays = refl
-  row_cell (Moves len ds from to) = refl
+  row_cell (Moves len ds from to) = move_cell s p new len to (copied_job s p from to)
   row_cell (Fetches len ds place) = refl
 
   row_sizes : (form : Naming) → ((naming_row s p new form).after.mutators ≡ s.mutators) × ((naming_row s p new form).after.logs ≡ s.logs)
@@ -179,7 +221,7 @@ module _ (s : State) (law : Law s) (found : ℕ → ℕ) (counted : ℕ → Bool
   row_sizes Retires = (refl, refl)
   row_sizes (Evicts len place) = (refl, refl)
   row_sizes Stays = (refl, refl)
-  row_sizes (Moves len ds from to) = (refl, refl)
+  row_sizes (Moves len ds from to) = move_sizes s p new len to (copied_job s p from to)
   row_sizes (Fetches len ds place) = (refl, refl)
 
   row_forgets : (form : Naming) → IsNaming form (read_of old) (read_of new) → (naming_row o p new form).Legal → Forgets o (v form)

@@ -1,5 +1,5 @@
 -- An object that lies in none of the chosen logs stays where it lies, with its bytes, through a walk, and through the turns of a round.
-use Rattle.std.proofs.Common.{◌≡◌, ◌≢◌, ℕ, true, false, Option, Some, None, List, ◌∷◌, ap, sym, refl, ◌∙◌, subst, inl, inr}
+use Rattle.std.proofs.Common.{◌≡◌, ◌≢◌, ℕ, true, false, Option, Some, None, List, ◌∷◌, ap, sym, refl, ◌∙◌, subst, inl, inr, arith}
 use Rattle.std.specs.Prelude.{Contains}
 use Rattle.std.proofs.lemmas.Bool.{cond_both}
 use Rattle.far_word.specs.declared.pointer.PtrWord.TheVariants.{Near}
@@ -16,8 +16,9 @@ use Rattle.far_core.specs.world.WorldOf.{object_of, world_of}
 use Rattle.far_core.proofs.Put.{put_other}
 use Rattle.far_book.specs.book.Effects.{evicted, moved, with_free_cell}
 use Rattle.far_book.specs.book.Releasing.{released}
+use Rattle.far_book.proofs.region.Owns.{own_law}
 use Rattle.far_book.proofs.region.EvictingLaw.{evicting}
-use Rattle.far_book.proofs.region.Moved.{moved_is}
+use Rattle.far_book.proofs.region.Moved.{moved_is, no_copy_in_room}
 use Rattle.far_book.proofs.region.MovesReached.{moving}
 use Rattle.far_evac.specs.declared.phase.Phase.TheVariants.{Idle, Evacuating}
 use Rattle.far_evac.specs.Live.{lacking, live_among}
@@ -95,7 +96,8 @@ module _ (s : State) (l p q : ℕ) (other : q ≢ p) where
       let why = moves_when x.marks.dropped x.marks.hot (room s (size_of x.len) false) to x.is in
       let way = moving s p x.len x.ds x.place to x.marks x.law x.near x.quiet why.0 x.evac why.1 in
       let says = (read_says (s.cell p) (Near x.len x.ds x.place x.marks) (x.law.cells.cell_read p).0 x.near).0 in
-      let made = moved_is s p x.len x.ds x.place to x.marks x.near why.0 x.evac (layout s x.law x.len x.ds to false says.0 says.1 says.2 why.1) in
+      let made = moved_is s p x.len x.ds x.place to x.marks x.near why.0 x.evac (layout s x.law x.len x.ds to false says.0 says.1 says.2 why.1)
+      (no_copy_in_room s (own_law s x.law) p (size_of x.len) x.place to false (omega arith) (omega (arith, says.1)) why.1) in
       let gone = way.2.moved in
       record {
         cell = way.3.cells q other;

@@ -1,6 +1,6 @@
 -- The book exchanges a cell: it is its event of the core, won or lost.
-use Rattle.std.proofs.Common.{◌≡◌, ◌≢◌, ◌+◌, ◌<◌, ◌^◌, ℕ, Bool, true, false, cond, inl, List, Option, Some, None, set, sym, refl, ap, ◌∙◌, subst, arith, eqb-true}
-use Rattle.std.specs.Prelude.{is_some, IsSome, slice_index, ◌==◌, ◌||◌}
+use Rattle.std.proofs.Common.{◌≡◌, ◌≢◌, ◌+◌, ◌<◌, ◌^◌, ℕ, Bool, true, false, cond, inl, inr, [], ◌∷◌, List, Option, Some, None, set, sym, refl, ap, ◌∙◌, subst, arith, eqb-true}
+use Rattle.std.specs.Prelude.{is_some, IsSome, slice_index, ◌⊎◌, ◌==◌, ◌||◌}
 use Rattle.std.proofs.lemmas.Bool.{cond_both, eq-eqb, eqb-false, false≢true, ne_eqb}
 use mathlib.Core.Logic.{dite}
 use native.Mathlib.Decide.{ℕ_discrete}
@@ -20,25 +20,30 @@ use Rattle.far_core.specs.declared.event.Event.TheVariants.{Name}
 use Rattle.far_core.specs.declared.event.Reply.TheVariants.{Done, Word}
 use Rattle.far_core.specs.declared.naming.Naming.{Naming}
 use Rattle.far_core.specs.declared.naming.Naming.TheVariants.{Places, Retires, Evicts, Stays, Moves, Fetches}
+use Rattle.far_core.specs.events.Copied.{WasCopied, copied_job}
 use Rattle.far_core.specs.events.Legal.{Legal}
 use Rattle.far_core.specs.events.Naming.{IsNaming, is_dropped, naming_of, naming_row}
+use Rattle.far_core.specs.events.namings.Moves.{MayMove, after_move}
 use Rattle.far_core.specs.events.Quiet.{has_move}
 use Rattle.far_core.specs.events.Step.{after}
+use Rattle.far_core.specs.state.Jobs.{near_place}
 use Rattle.far_core.specs.state.Law.{Law, held_place}
 use Rattle.far_core.specs.state.State.{State, addr, put}
+use Rattle.far_core.proofs.Copied.{copied_same, copied_test, moves_quiet, was_copied_same}
 use Rattle.far_core.proofs.Namings.{naming_only}
 use Rattle.far_core.proofs.Put.{put_both, put_other, put_same}
 use Rattle.far_core.proofs.Quieting.{quiet_unheld}
 use Rattle.far_hand.specs.Known.{Forgets, KnowsLeaving, unknown}
 use Rattle.far_hand.specs.Masked.{AllFind, masked_word}
 use Rattle.far_hand.proofs.Counting.{counts_none}
+use Rattle.far_hand.proofs.Finding.{place_found}
 use Rattle.far_hand.proofs.Naming.{legal_name, lost_state, won_state}
 use Rattle.far_table.specs.View.{BookView, OwnerView, View, Book}
 use Rattle.far_table.specs.BookPlays.{Named}
 use Rattle.far_table.specs.BookTells.{BookTells, cooled_by, retired_by, taken_by}
 use Rattle.far_table.specs.BookViews.{saw_view}
 use Rattle.far_table.specs.Layout.{cell_at, cell_in, word_in}
-use Rattle.far_table.specs.NameViews.{exchange_reply, exchanged_view, form_view, formed_view, named_view, retires, span_view, view_by}
+use Rattle.far_table.specs.NameViews.{exchange_reply, exchanged_view, form_view, formed_view, move_view, named_view, retires, span_view, view_by}
 use Rattle.far_table.specs.Rows.{over}
 use Rattle.far_table.specs.Rule.{Facts, Running}
 use Rattle.far_table.specs.Stands.{IsPlain, book_of}
@@ -54,12 +59,22 @@ use Rattle.far_table.proofs.OwnSteps.{led_by, reads, state_is}
 use Rattle.far_table.proofs.Words.{cell_here}
 
 -- ---- what a form leaves of the view
+-- a move takes a span, or names what was copied
+move_sizes : (p len ds : ℕ) (to : Place) (j : Option ℕ) (b : BookView) →
+    ((move_view p len ds to j b).mutators ≡ b.mutators) × ((move_view p len ds to j b).honest ≡ b.honest) × ((move_view p len ds to j b).rest ≡ b.rest) × ((move_view p len ds to j b).epoch ≡ b.epoch)
+move_sizes p len ds to None b = (refl, refl, refl, refl)
+move_sizes p len ds to (Some j) b = (refl, refl, refl, refl)
+
+move_logs : (p len ds : ℕ) (to : Place) (j : Option ℕ) (b : BookView) → (move_view p len ds to j b).logs ≡ b.logs
+move_logs p len ds to None b = refl
+move_logs p len ds to (Some j) b = refl
+
 form_sizes : (p : ℕ) (form : Naming) (b : BookView) → ((form_view p form b).mutators ≡ b.mutators) × ((form_view p form b).honest ≡ b.honest) × ((form_view p form b).rest ≡ b.rest) × ((form_view p form b).epoch ≡ b.epoch)
 form_sizes p (Places len ds place) b = (refl, refl, refl, refl)
 form_sizes p Retires b = (refl, refl, refl, refl)
 form_sizes p (Evicts len place) b = (refl, refl, refl, refl)
 form_sizes p Stays b = (refl, refl, refl, refl)
-form_sizes p (Moves len ds from to) b = (refl, refl, refl, refl)
+form_sizes p (Moves len ds from to) b = move_sizes p len ds to (copied_job (book_state b) p from to) b
 form_sizes p (Fetches len ds place) b = (refl, refl, refl, refl)
 
 form_logs : (p : ℕ) (form : Naming) (b : BookView) → (form_view p form b).logs ≡ b.logs
@@ -67,7 +82,7 @@ form_logs p (Places len ds place) b = refl
 form_logs p Retires b = refl
 form_logs p (Evicts len place) b = refl
 form_logs p Stays b = refl
-form_logs p (Moves len ds from to) b = refl
+form_logs p (Moves len ds from to) b = move_logs p len ds to (copied_job (book_state b) p from to) b
 form_logs p (Fetches len ds place) b = refl
 
 -- what an exchange leaves as the seat's struct has it
@@ -143,7 +158,7 @@ module _ (s : State) (law : Law s) (p : ℕ) where
   unheld Retires old new won n legal = none_held (dropped_place (read_of (s.cell p)) (ap (λ w. is_dropped (read_of w)) won ∙ n.0))
   unheld (Evicts len place) old new won n legal = quiet_unheld s law p legal
   unheld Stays old new won n legal = quiet_unheld s law p (inl (ap has_move (ap read_of won ∙ n.4) ∙ n.6))
-  unheld (Moves len ds from to) old new won n legal = quiet_unheld s law p legal.quiet
+  unheld (Moves len ds from to) old new won n legal = quiet_unheld s law p (moves_quiet s law p len ds from to legal)
   unheld (Fetches len ds place) old new won n legal = none_held (ap held_place (ap read_of won ∙ n.0.1))
 
 -- where a header stands, it is this word
@@ -161,25 +176,47 @@ module _ (b : BookView) (p new : ℕ) (word : ℕ → ℕ) (old_heads : (a x : �
   span_heads len ds place head a x = put_both (λ v. v ≡ Some x → word a ≡ x) (head_at b) (addr place) (Some (head_word p len ds)) a
       (λ at e. let is : head_word p len ds ≡ x = cc in ap word at ∙ (head ∙ is)) (λ _ e. old_heads a x e)
 
-  pub form_heads : (s : State) → s.word ≡ word → (form : Naming) → (naming_row s p new form).Legal → (a x : ℕ) → head_at (form_view p form b) a ≡ Some x → word a ≡ x
-  form_heads s same (Places len ds place) legal = span_heads len ds place (ap (λ f. f (addr place)) (sym same) ∙ legal.0.head)
-  form_heads s same Retires legal = old_heads
-  form_heads s same (Evicts len place) legal = old_heads
-  form_heads s same Stays legal = old_heads
-  form_heads s same (Moves len ds from to) legal = span_heads len ds to (ap (λ f. f (addr to)) (sym same) ∙ legal.span.head)
-  form_heads s same (Fetches len ds place) legal = span_heads len ds place (ap (λ f. f (addr place)) (sym same) ∙ legal.span.head)
+  -- in a state that was copied in as the view says
+  module _ (s : State) (same : s.word ≡ word) (copied : (from to : Place) → WasCopied s p from to → WasCopied (book_state b) p from to) where
+    move_heads : (len ds : ℕ) (from to : Place) → MayMove s p len ds from to ⊎ WasCopied s p from to → (j : Option ℕ) → copied_job (book_state b) p from to ≡ j →
+        (a x : ℕ) → head_at (move_view p len ds to j b) a ≡ Some x → word a ≡ x
+    move_heads len ds from to legal (Some j) e = old_heads
+    move_heads len ds from to (inl legal) None e = span_heads len ds to (ap (λ f. f (addr to)) (sym same) ∙ legal.span.head)
+    move_heads len ds from to (inr has) None e = absurd (false≢true (sym (ap is_some e) ∙ copied_test (book_state b) p from to (copied from to has)))
+
+    pub form_heads : (form : Naming) → (naming_row s p new form).Legal → (a x : ℕ) → head_at (form_view p form b) a ≡ Some x → word a ≡ x
+    form_heads (Places len ds place) legal = span_heads len ds place (ap (λ f. f (addr place)) (sym same) ∙ legal.0.head)
+    form_heads Retires legal = old_heads
+    form_heads (Evicts len place) legal = old_heads
+    form_heads Stays legal = old_heads
+    form_heads (Moves len ds from to) legal = move_heads len ds from to legal (copied_job (book_state b) p from to) refl
+    form_heads (Fetches len ds place) legal = span_heads len ds place (ap (λ f. f (addr place)) (sym same) ∙ legal.span.head)
 
 -- ---- the view after a naming is what the core's event makes of the view, but for words
 module _ (b : BookView) (p old new : ℕ) where
   abbrev v : Naming → BookView
   v form = formed_view p old new form b
 
+  -- by the job that has copied the object, if one has
+  abbrev moved_by : ℕ → ℕ → Place → Option ℕ → BookView
+  moved_by len ds to j = record (move_view p len ds to j b) {
+    cells = (p, new) ∷ b.cells;
+    taken = (p, taken_at b p + moves old) ∷ b.taken;
+    retired = (p, retired_at b p + 0) ∷ b.retired;
+    cooled = (p, cooled_at b p + hots old) ∷ b.cooled;
+    known = [];
+  }
+
+  move_done : (len ds : ℕ) (to : Place) (j : Option ℕ) → book_state (moved_by len ds to j) ≡ record (after_move (book_state b) p new len to j) { word = known_word (moved_by len ds to j) }
+  move_done len ds to None = λ i. record (book_state (moved_by len ds to None)) { starts = begins_put (head_at b) (addr to) (head_word p len ds) i }
+  move_done len ds to (Some j) = refl
+
   form_done : (form : Naming) → book_state (v form) ≡ record (naming_row (book_state b) p new form).after { word = known_word (v form) }
   form_done (Places len ds place) = λ i. record (book_state (v (Places len ds place))) { starts = begins_put (head_at b) (addr place) (head_word p len ds) i }
   form_done Retires = refl
   form_done (Evicts len place) = λ i. record (book_state (v (Evicts len place))) { stored = sym (stored_after b p len place (known_word b) (λ _ _. refl)) i }
   form_done Stays = refl
-  form_done (Moves len ds from to) = λ i. record (book_state (v (Moves len ds from to))) { starts = begins_put (head_at b) (addr to) (head_word p len ds) i }
+  form_done (Moves len ds from to) = move_done len ds to (copied_job (book_state b) p from to)
   form_done (Fetches len ds place) = λ i. record (book_state (v (Fetches len ds place))) { starts = begins_put (head_at b) (addr place) (head_word p len ds) i }
 
   module _ (h : Legal (book_state b) (Name p old new)) (seen : old ≡ (book_state b).cell p) where
@@ -194,7 +231,7 @@ module _ (b : BookView) (p old new : ℕ) where
         (form_done h.1.0 ∙ ap (λ (u : State). record u { word = known_word (v h.1.0) }) (sym (won_state o p old new h.1.0 (sym seen) h.1.1)))
 
     head_same : (a x : ℕ) → head_at (v h.1.0) a ≡ Some x → known_word b a ≡ x
-    head_same = form_heads b p new (known_word b) (λ a x e. ap (λ z. head_or z (over b.known unknown a)) e) o refl h.1.0 h.1.2
+    head_same = form_heads b p new (known_word b) (λ a x e. ap (λ z. head_or z (over b.known unknown a)) e) o refl (λ from to has. has) h.1.0 h.1.2
 
     pub named_forgets : Forgets o (book_state (named_view p old new b))
     named_forgets = subst (λ z. Forgets o (book_state z)) (sym named_is)
@@ -233,16 +270,30 @@ module _ (ws : List ℕ) (b : BookView) (os : List OwnerView) (f : Facts ws b os
   abbrev made : Naming → State
   made x = record (state_of ws (formed_view p old new x b) os) { cell = put (cell_in ws) p new }
 
+  -- what the view says was copied, was copied
+  lies : near_place (read_of (s.cell p)) ≡ near_place (read_of (view.cell p))
+  lies = sym (place_found (view.cell p) (s.cell p) (finds ws b os f p))
+
+  copied_too : (from to : Place) → WasCopied s p from to → WasCopied view p from to
+  copied_too from to = was_copied_same view s p from to refl refl refl lies
+
+  job_too : (from to : Place) → copied_job s p from to ≡ copied_job view p from to
+  job_too from to = copied_same view s p from to refl refl refl lies
+
+  move_becomes : (len ds : ℕ) (to : Place) (j : Option ℕ) → after_move s p new len to j ≡ record (state_of ws (moved_by b p old new len ds to j) os) { cell = put (cell_in ws) p new }
+  move_becomes len ds to None = λ i. record (state_of ws (moved_by b p old new len ds to None) os) { cell = put (cell_in ws) p new; starts = sym (begins_put (head_at b) (addr to) (head_word p len ds)) i }
+  move_becomes len ds to (Some j) = refl
+
   row_becomes : (x : Naming) → IsNaming x (read_of old) (read_of new) → (naming_row s p new x).after ≡ made x
   row_becomes (Places len ds place) n = λ i. record (made (Places len ds place)) { starts = sym (begins_put (head_at b) (addr place) (head_word p len ds)) i }
   row_becomes Retires n = refl
   row_becomes (Evicts len place) n = λ i. record (made (Evicts len place)) { stored = stored_after b p len place s.word (leaving len place n) i }
   row_becomes Stays n = refl
-  row_becomes (Moves len ds from to) n = λ i. record (made (Moves len ds from to)) { starts = sym (begins_put (head_at b) (addr to) (head_word p len ds)) i }
+  row_becomes (Moves len ds from to) n = ap (after_move s p new len to) (job_too from to) ∙ move_becomes len ds to (copied_job view p from to)
   row_becomes (Fetches len ds place) n = λ i. record (made (Fetches len ds place)) { starts = sym (begins_put (head_at b) (addr place) (head_word p len ds)) i }
 
   words_named : known_word b' ≡ masked_word (word_in later) (λ a. is_some (head_at b' a)) (λ _. false)
-  words_named = forgotten b' (word_in later) (λ a st. header_is (head_at b' a) (word_in later a) (unknown a) (λ x e. ap (λ g. g a) (cell_after ws b os f p new few).word_is ∙ form_heads b p new s.word old_heads s refl form legal.1.2 a x e) st)
+  words_named = forgotten b' (word_in later) (λ a st. header_is (head_at b' a) (word_in later a) (unknown a) (λ x e. ap (λ g. g a) (cell_after ws b os f p new few).word_is ∙ form_heads b p new s.word old_heads s refl copied_too form legal.1.2 a x e) st)
 
   -- what was counted before, and once more where the old word has the mark, which the new one hasn't
   counted : (count before : ℕ → ℕ) → count new ≡ 0 → cell_in ws p ≡ old → (q : ℕ) → before q + count (cell_in ws q) ≡ put before p (before p + count old) q + count (cell_in later q)

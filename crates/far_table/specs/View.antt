@@ -72,7 +72,7 @@ pub record BookView : Type 0 where
   pub cooled : List (ℕ × ℕ)
   -- the words of the jobs, the epochs of the rounds in which they were offered, and whether their pointers were named to their targets, by
   -- jobs; and what copiers know, by copiers: the job that each has, the length that it has read, the words that it has read, and those that it
-  -- has written. No step changes them yet
+  -- has written. A naming of what was copied changes them, and no other step yet
   pub jobs : List (ℕ × ℕ)
   pub since : List (ℕ × ℕ)
   pub named : List (ℕ × Bool)
