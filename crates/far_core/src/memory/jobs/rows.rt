@@ -19,11 +19,11 @@ impl Jobs {
         ensures { IfOk result (λ jobs. copying_of jobs ≡ no_copying) }
     {
         Ok(Jobs {
-            words: vec![in alloc; 0; JOBS as usize]?,
-            since: vec![in alloc; 0; JOBS as usize]?,
-            named: vec![in alloc; false; JOBS as usize]?,
-            tasks: vec![in alloc; None; MOST_COPIERS as usize]?,
-            lengths: vec![in alloc; None; MOST_COPIERS as usize]?,
+            words: [0; JOBS as usize],
+            since: [0; JOBS as usize],
+            named: [false; JOBS as usize],
+            tasks: [None; MOST_COPIERS as usize],
+            lengths: [None; MOST_COPIERS as usize],
             read: Vec::with_capacity(alloc, COPIED)?,
             written: Vec::with_capacity(alloc, COPIED)?,
         })

@@ -6,4 +6,4 @@ use Rattle.far_core.proofs.memory.jobs.Jobs.set_named.Goals as goal
 pub returns : goal.returns
 unfolding copying_of
 returns c = ap (λ (f : ℕ → Bool). record (copying_of c.args.self.now) { named = f })
-    (item_put c.args.self.now.named.items c.args.job c.args.named false (omega (arith, c.requires, c.args.self.now.named_sized, c.args.self.now.named.ok.0)))
+    (item_put c.args.self.now.named c.args.job c.args.named false (omega (arith, c.requires, c.args.self.now.named_sized)))
