@@ -283,7 +283,7 @@ module _ (s : State) (held : List ℕ) (ready : Ready s held) (p : ℕ) where
       logs_moved : (job : Option ℕ) (ls : List ℕ) → AllByRecursion (IsOfRound s) ls →
           AllByRecursion (λ l. ((n d : ℕ) (place : Place) (k : Marks) → read_of (near_word len ds to) ≡ Some (Near n d place k) → place.log ≢ l) × ((then job).kind l ≡ s.kind l) × ((then job).round l ≡ s.round l)) ls
       logs_moved job [] h = tt
-      logs_moved job (l ∷ ls) h = ((elsewhere l h.0.0, round_still l h.0.0 job), logs_moved job ls h.1)
+      logs_moved job (l ∷ ls) h = ((elsewhere l h.0.0, (round_still l h.0.0 job).0, (round_still l h.0.0 job).1), logs_moved job ls h.1)
 
       leaves_then : (job : Option ℕ) → Leaves s p (then job) held
       leaves_then None = record {
