@@ -7,7 +7,7 @@ pub mod Listing
 pub mod Making
 pub mod Masking
 pub mod Naming
-pub mod OwnersWork
+pub mod OthersWork
 pub mod Quietness
 pub mod Reading
 pub mod RoundSteps

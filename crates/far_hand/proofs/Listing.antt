@@ -17,7 +17,7 @@ use Rattle.far_hand.specs.Came.{Runs}
 use Rattle.far_hand.specs.Listed.{ActOut, IsOfOwner, TakesTurn, events_left}
 use Rattle.far_hand.specs.Makers.{is_owners}
 use Rattle.far_hand.specs.MayBe.{Made}
-use Rattle.far_hand.specs.Owners.{after_turn}
+use Rattle.far_hand.specs.Others.{after_turn}
 
 -- ---- whose an event is
 own_so : (e : Event) → IsOfOwner e → is_owners e ≡ true

@@ -20,7 +20,7 @@ use Rattle.far_hand.specs.Finds.{Finds, marks_in}
 use Rattle.far_hand.specs.Known.{unknown}
 use Rattle.far_hand.specs.Masked.{masked, masked_word, AllFind, CountsOnRest}
 use Rattle.far_hand.specs.MayBe.{Shows}
-use Rattle.far_hand.specs.Owners.{IsLoudAt, OwnersChange}
+use Rattle.far_hand.specs.Others.{IsLoudAt, OthersChange}
 use Rattle.far_hand.specs.Quiet.{IsQuietBy, RestsAt, is_quiet}
 use Rattle.far_hand.proofs.Finding.{finds_more, near_found, near_known}
 
@@ -137,7 +137,7 @@ module _ (s : State) (law : Law s) (found : ℕ → ℕ) (counted : ℕ → Bool
   pub known_quiet : (a : ℕ) → (s.starts a || counted a) ≡ true → ¬ IsLoudAt s a
   known_quiet a known = rests_still s law found finds a (λ plain. counts a (either_true (s.starts a) (counted a) known plain) plain)
 
-  module _ (t : State) (turn : OwnersChange s t) where
+  module _ (t : State) (turn : OthersChange s t) where
     same_starts : t.starts ≡ s.starts
     same_starts = ap (λ (u : State). u.starts) turn.rest
 

@@ -12,21 +12,21 @@ use Rattle.far_hand.specs.Beside.{beside}
 use Rattle.far_hand.specs.Makers.{is_owners}
 use Rattle.far_hand.specs.Masked.{masked, AllFind, CountsOnRest}
 use Rattle.far_hand.specs.MayBe.{MayBeBeside, Shows, masked_shows}
-use Rattle.far_hand.specs.Owners.{IsLoudAt, OwnersChange}
+use Rattle.far_hand.specs.Others.{IsLoudAt, OthersChange}
 use Rattle.far_hand.specs.Quiet.{is_quiet}
 use Rattle.far_hand.proofs.Finding.{finds_more}
 use Rattle.far_hand.proofs.Masking.{known_loud, same_finds, same_view}
-use Rattle.far_hand.proofs.OwnersWork.{step_changes}
+use Rattle.far_hand.proofs.OthersWork.{step_changes}
 
 -- two changes, one after the other
-module _ (s t u : State) (one : OwnersChange s t) (two : OwnersChange t u) where
+module _ (s t u : State) (one : OthersChange s t) (two : OthersChange t u) where
   loud_before : (a : ℕ) → IsLoudAt t a → IsLoudAt s a
   loud_before a x =
       let loud = subst (λ (v : State). is_quiet v.round v.clear x.p x.place x.marks ≡ false) one.rest x.loud in
       let k = known_loud (s.cell x.p) (t.cell x.p) (one.cells x.p) s.round s.clear x.p x.len x.ds x.place x.marks x.near loud in
       record { p = x.p; len = x.len; ds = x.ds; place = x.place; marks = k.marks; index = x.index; near = k.near; loud = k.loud; inside = x.inside; here = x.here }
 
-  pub changes_join : OwnersChange s u
+  pub changes_join : OthersChange s u
   changes_join = record {
     cells = λ p. finds_more (s.cell p) (t.cell p) (u.cell p) (one.cells p) (two.cells p);
     words = λ a quiet. two.words a (λ x. quiet (loud_before a x)) ∙ one.words a quiet;

@@ -1,7 +1,8 @@
-//! The beset hand's calls: each comes after a turn of the owners.
+//! The beset hand's calls: each comes after a turn of the others.
 
 ghost use Rattle.std.specs.Prelude.{◌≡◌, ◌+◌, ◌*◌, ◌<◌, ℕ, true, false};
 ghost use Rattle.far_word.specs.declared.sizes.TheConstants.{LOG_WORDS};
+ghost use Rattle.far_word.specs.Job.{IsJob, job_word};
 ghost use Rattle.far_word.specs.Pointer.{read_of};
 ghost use Rattle.far_hand.specs.BesetView.{TurnThen, beset_alone, beset_lawful, beset_may_be, beset_shown, beset_there, beset_told, beset_view};
 ghost use Rattle.std.specs.Vec.{vec_len};
@@ -14,7 +15,7 @@ use crate::beset::rows::{count, find, forget, found_in, recount};
 use crate::hand::Near;
 use crate::plain::{may_rise, shape_of};
 use far_core::Shape;
-use far_word::{CELLS, Mark, PtrWord, Refused, words_for};
+use far_word::{CELLS, Job, JobWord, Mark, Place, PtrWord, Refused, words_for};
 
 impl Near for Beset {
     ghost view = { beset_view };
@@ -101,9 +102,46 @@ impl Near for Beset {
         self.core.look(owner)
     }
 
+    fn offer(&mut self, job: u8, pointer: u16, from: Place, to: Place) {
+        self.turn();
+        self.core.offer(job, pointer, to);
+        self.jobs[job as usize] = offered(pointer, from, to);
+        forget(&mut self.counted);
+    }
+
+    fn see_job(&mut self, job: u8) -> u64 {
+        self.turn();
+        let word = self.core.see_job(job);
+        self.jobs[job as usize] = word;
+        word
+    }
+
+    fn collect(&mut self, job: u8, old: u64) -> Result<(), u64> {
+        self.turn();
+        let collected = self.core.collect(job, old);
+        self.jobs[job as usize] = match collected {
+            Ok(()) => 0,
+            Err(found) => found,
+        };
+        collected
+    }
+
     fn shape(&self) -> Shape {
         shape_of(&self.core)
     }
+}
+
+/// The word of a job that is offered.
+fn offered(pointer: u16, from: Place, to: Place) -> u64
+    requires { IsJob record { pointer = pointer; from = from; to = to } }
+    ensures { result ≡ job_word (JobWord.Offered record { pointer = pointer; from = from; to = to }) }
+{
+    let job = Job {
+        pointer,
+        from,
+        to,
+    };
+    JobWord::Offered { job }.pack()
 }
 
 impl Beset {

@@ -2,12 +2,13 @@
 
 ghost use Rattle.std.specs.Prelude.{◌≡◌, ◌+◌, ◌*◌, ◌<◌, ℕ, false, true, length, IfOk};
 ghost use Rattle.std.specs.Vec.{vec_len};
+ghost use Rattle.far_word.specs.declared.sizes.TheConstants.{JOBS};
 ghost use Rattle.far_core.specs.state.CoreState.{core_state};
 ghost use Rattle.far_core.specs.state.State.{put};
 ghost use Rattle.far_hand.specs.Masked.{word_at, is_counted, recounted};
 
 use far_core::Core;
-use far_word::{CELLS, LOG_WORDS};
+use far_word::{CELLS, JOBS, LOG_WORDS};
 use std::alloc::{AllocError, Global};
 
 /// The cells of a core.
@@ -21,6 +22,19 @@ pub(crate) fn cells_of(alloc: Global, core: &Core) -> Result<Vec<u64>, AllocErro
         cells.push(core.cell(pointer))?;
     }
     Ok(cells)
+}
+
+/// The words of a core's jobs.
+pub(crate) fn jobs_of(core: &Core) -> [u64; JOBS as usize]
+    ensures len { length result ≡ JOBS }
+    ensures words { word_at result ≡ (core_state core.now).copying.word }
+{
+    core.keeps_law();
+    let mut jobs = [0; JOBS as usize];
+    for job in 0..JOBS {
+        jobs[job as usize] = core.see_job(job);
+    }
+    jobs
 }
 
 /// A row for so many words, of which none is counted on.

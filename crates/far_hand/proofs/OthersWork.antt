@@ -27,14 +27,14 @@ use Rattle.far_core.specs.events.Quiet.{is_quiet_cell}
 use Rattle.far_hand.specs.Beside.{IsBeside}
 use Rattle.far_hand.specs.Finds.{Finds}
 use Rattle.far_hand.specs.Makers.{is_owners}
-use Rattle.far_hand.specs.Owners.{IsLoudAt, OwnersChange}
+use Rattle.far_hand.specs.Others.{IsLoudAt, OthersChange}
 use Rattle.far_hand.specs.Quiet.{is_quiet}
 use Rattle.far_hand.proofs.Finding.{finds_is, finds_same, finds_mark}
 
 -- nothing in cells and words changes
 module _ (s t : State) (cells : t.cell ≡ s.cell) (words : t.word ≡ s.word)
     (rest : IsBeside s t) where
-  stays : OwnersChange s t
+  stays : OthersChange s t
   stays = record { cells = λ p. finds_is (s.cell p) (t.cell p) (ap (λ f. f p) cells); words = λ a _. ap (λ f. f a) words; rest = rest }
 
 -- the cell of a pointer that is used takes a mark more
@@ -47,7 +47,7 @@ module _ (s t : State) (law : Law s) (p : ℕ) (k : MarkKind) (own : marking.is_
       (finds_mark k (s.cell p) (bit_or (s.cell p) (2 ^ position k)) own (read_mark k (s.cell p) own (law.cells.cell_read p).0 (law.views.used_cell p used)).0))
       (λ _. finds_same (s.cell q))
 
-  marks : OwnersChange s t
+  marks : OthersChange s t
   marks = record { cells = λ q. subst (λ (f : ℕ → ℕ). Finds (s.cell q) (f q)) (sym cells) (marked q); words = λ a _. ap (λ f. f a) words; rest = rest }
 
 -- what is held isn't quiet
@@ -72,7 +72,7 @@ module _ (s : State) (law : Law s) (m p i w : ℕ) (legal : Legal s (Store m p i
     here = word_behind s law p i held.0 object.rests;
   }
 
-  stores : OwnersChange s (after s (Store m p i w))
+  stores : OthersChange s (after s (Store m p i w))
   stores = record {
     cells = λ q. finds_same (s.cell q);
     words = λ a quiet. put_other s.word (data_word s p i) w a (λ e. quiet (subst (IsLoudAt s) (sym e) loud));
@@ -86,7 +86,7 @@ requests Moved h = refl
 requests Dropped h = refl
 
 -- what a legal event of an owner changes
-pub change : (s : State) (e : Event) → Law s → is_owners e ≡ true → Legal s e → OwnersChange s (after s e)
+pub change : (s : State) (e : Event) → Law s → is_owners e ≡ true → Legal s e → OthersChange s (after s e)
 change s (ReadEpoch m) law own legal = stays s (after s (ReadEpoch m)) refl refl refl
 change s (Open m) law own legal = stays s (after s (Open m)) refl refl refl
 change s (Pin m p) law own legal = marks s (after s (Pin m p)) law p Hot refl legal.2 refl refl refl
@@ -114,9 +114,9 @@ change s (Finish c) law own legal = absurd (false≢true own)
 change s (Collect j old) law own legal = absurd (false≢true own)
 
 -- the same of a step, legal or not
-pub step_changes : (s : State) (e : Event) → Law s → is_owners e ≡ true → OwnersChange s (step_of s e).0
-step_changes s e law own = cond_both (is_legal s e) (after s e, answer s e) (s, Refused) (λ (x : State × Reply). OwnersChange s x.0)
+pub step_changes : (s : State) (e : Event) → Law s → is_owners e ≡ true → OthersChange s (step_of s e).0
+step_changes s e law own = cond_both (is_legal s e) (after s e, answer s e) (s, Refused) (λ (x : State × Reply). OthersChange s x.0)
     (λ h. change s e law own (is_fact s e law h)) (λ _. stays s s refl refl refl)
 
-pub made_changes : (s t : State) (e : Event) (r : Reply) → Law s → is_owners e ≡ true → (t, r) ≡ step_of s e → OwnersChange s t
-made_changes s t e r law own is = subst (λ (x : State × Reply). OwnersChange s x.0) (sym is) (step_changes s e law own)
+pub made_changes : (s t : State) (e : Event) (r : Reply) → Law s → is_owners e ≡ true → (t, r) ≡ step_of s e → OthersChange s t
+made_changes s t e r law own is = subst (λ (x : State × Reply). OthersChange s x.0) (sym is) (step_changes s e law own)
