@@ -2,6 +2,7 @@ pub mod Closure
 pub mod Counting
 pub mod EvacMarks
 pub mod Finding
+pub mod JobsFound
 pub mod Knowing
 pub mod Listing
 pub mod Making

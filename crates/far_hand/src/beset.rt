@@ -1,8 +1,8 @@
 //! A hand beside which owners and copiers are at work.
 
-ghost use Rattle.std.specs.Prelude.{◌≡◌, ◌*◌, length};
+ghost use Rattle.std.specs.Prelude.{◌≡◌, ◌*◌};
 ghost use Rattle.std.specs.Vec.{vec_len};
-ghost use Rattle.far_word.specs.declared.sizes.TheConstants.{CELLS, JOBS, LOG_WORDS};
+ghost use Rattle.far_word.specs.declared.sizes.TheConstants.{CELLS, LOG_WORDS};
 ghost use Rattle.far_core.specs.state.CoreState.{core_state};
 ghost use Rattle.far_hand.specs.Masked.{AllFind, AllFindJobs, CountsOnRest, word_at, is_counted};
 
@@ -30,7 +30,6 @@ pub struct Beset {
     pub events: Vec<Event>,
     pub made: usize,
     ghost found_sized: { vec_len found ≡ CELLS * (core_state core).mutators },
-    ghost jobs_sized: { length jobs ≡ JOBS },
     ghost counted_sized: { vec_len counted ≡ LOG_WORDS * (core_state core).logs },
     ghost finds: { AllFind (word_at found.items) (core_state core).cell },
     ghost finds_jobs: { AllFindJobs (word_at jobs) (core_state core).copying.word },

@@ -11,7 +11,7 @@ ghost use Rattle.far_hand.specs.Masked.{word_at};
 ghost use Rattle.far_hand.specs.Quiet.{IsQuietAt, is_quiet_word};
 
 use crate::beset::Beset;
-use crate::beset::rows::{count, find, forget, found_in, recount};
+use crate::beset::rows::{count, find, find_job, forget, found_in, recount};
 use crate::hand::Near;
 use crate::plain::{may_rise, shape_of};
 use far_core::Shape;
@@ -105,25 +105,29 @@ impl Near for Beset {
     fn offer(&mut self, job: u8, pointer: u16, from: Place, to: Place) {
         self.turn();
         self.core.offer(job, pointer, to);
-        self.jobs[job as usize] = offered(pointer, from, to);
+        find_job(&mut self.jobs, job, offered(pointer, from, to));
         forget(&mut self.counted);
     }
 
     fn see_job(&mut self, job: u8) -> u64 {
         self.turn();
         let word = self.core.see_job(job);
-        self.jobs[job as usize] = word;
+        find_job(&mut self.jobs, job, word);
         word
     }
 
     fn collect(&mut self, job: u8, old: u64) -> Result<(), u64> {
         self.turn();
-        let collected = self.core.collect(job, old);
-        self.jobs[job as usize] = match collected {
-            Ok(()) => 0,
-            Err(found) => found,
-        };
-        collected
+        match self.core.collect(job, old) {
+            Ok(()) => {
+                find_job(&mut self.jobs, job, 0);
+                Ok(())
+            }
+            Err(found) => {
+                find_job(&mut self.jobs, job, found);
+                Err(found)
+            }
+        }
     }
 
     fn shape(&self) -> Shape {

@@ -26,8 +26,7 @@ pub(crate) fn cells_of(alloc: Global, core: &Core) -> Result<Vec<u64>, AllocErro
 
 /// The words of a core's jobs.
 pub(crate) fn jobs_of(core: &Core) -> [u64; JOBS as usize]
-    ensures len { length result ≡ JOBS }
-    ensures words { word_at result ≡ (core_state core.now).copying.word }
+    ensures { word_at result ≡ (core_state core.now).copying.word }
 {
     core.keeps_law();
     let mut jobs = [0; JOBS as usize];
@@ -60,6 +59,14 @@ pub(crate) fn find(found: &mut Vec<u64>, pointer: u16, word: u64)
     ensures words { word_at found.new.items ≡ put (word_at found.old.items) pointer word }
 {
     found[pointer as usize] = word;
+}
+
+/// A word was found of a job.
+pub(crate) fn find_job(jobs: &mut [u64; JOBS as usize], job: u8, word: u64)
+    requires { job < JOBS }
+    ensures { word_at jobs.new ≡ put (word_at jobs.old) job word }
+{
+    jobs[job as usize] = word;
 }
 
 /// A word of a log is counted on from now on.
