@@ -31,7 +31,7 @@ pub(crate) fn jobs_of(core: &Core) -> [u64; JOBS as usize]
     core.keeps_law();
     let mut jobs = [0; JOBS as usize];
     for job in 0..JOBS {
-        jobs[job as usize] = core.see_job(job);
+        find_job(&mut jobs, job, core.see_job(job));
     }
     jobs
 }
