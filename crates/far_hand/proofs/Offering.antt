@@ -1,13 +1,11 @@
 -- What a beset hand knows after it has offered a job, or collected one, and why what is legal by its view is legal.
-use Rattle.std.proofs.Common.{◌≡◌, ◌≢◌, ℕ, ◌+◌, ◌-◌, ◌*◌, ◌^◌, ◌<◌, ◌≤◌, Bool, true, false, cond, Some, refl, sym, ap, ◌∙◌, subst, arith}
+use Rattle.std.proofs.Common.{◌≡◌, ◌≢◌, ℕ, ◌+◌, ◌-◌, ◌^◌, ◌<◌, Bool, true, false, cond, Some, refl, sym, ap, ◌∙◌, subst, arith}
 use Rattle.std.specs.Prelude.{◌==◌, ◌||◌}
 use Rattle.std.proofs.lemmas.Bool.{cond_both, eqb-true, eqb-false, eq-eqb, ne_eqb}
 use Rattle.far_word.specs.declared.job.Job.{Job}
 use Rattle.far_word.specs.declared.job.JobWord.TheVariants.{Offered}
-use Rattle.far_word.specs.declared.mark.Marks.{Marks}
 use Rattle.far_word.specs.declared.pointer.Place.{Place}
 use Rattle.far_word.specs.declared.pointer.PtrWord.TheVariants.{Near}
-use Rattle.far_word.specs.declared.sizes.TheConstants.{CELLS}
 use Rattle.far_word.specs.Header.{head_word}
 use Rattle.far_word.specs.Job.{IsJob, job_word}
 use Rattle.far_word.specs.Pointer.{IsPtr, read_of, word_of}
@@ -18,9 +16,7 @@ use Rattle.far_core.specs.declared.event.Event.TheVariants.{Collect, Offer}
 use Rattle.far_core.specs.declared.event.Reply.{Reply}
 use Rattle.far_core.specs.declared.event.Reply.TheVariants.{Done, Word}
 use Rattle.far_core.specs.events.Collect.{collected}
-use Rattle.far_core.specs.events.Copies.{data_at}
 use Rattle.far_core.specs.events.Legal.{Legal}
-use Rattle.far_core.specs.events.NewSpans.{IsNewSpan}
 use Rattle.far_core.specs.events.Offer.{MayOffer, after_offer, offered}
 use Rattle.far_core.specs.events.Step.{after, answer}
 use Rattle.far_core.specs.state.Jobs.{near_place}

@@ -140,11 +140,7 @@ fn offered(pointer: u16, from: Place, to: Place) -> u64
     requires { IsJob record { pointer = pointer; from = from; to = to } }
     ensures { result ≡ job_word (JobWord.Offered record { pointer = pointer; from = from; to = to }) }
 {
-    let job = Job {
-        pointer,
-        from,
-        to,
-    };
+    let job = Job { pointer, from, to };
     JobWord::Offered { job }.pack()
 }
 

@@ -2,7 +2,7 @@ use Rattle.std.proofs.Common.{sym, ◌∙◌, ◌<◌, ◌*◌, arith}
 use Rattle.std.proofs.lemmas.Bool.{false≢true}
 use Rattle.far_word.specs.declared.sizes.TheConstants.{CELLS}
 use Rattle.far_core.specs.state.CoreState.{core_state}
-use Rattle.far_hand.specs.Masked.{word_at, is_counted}
+use Rattle.far_hand.specs.Masked.{word_at}
 use Rattle.far_hand.proofs.Quietness.{quiet_fact, quiet_test}
 use Rattle.far_hand.proofs.beset.Beset.is_quiet_at.Goals as goal
 

@@ -96,8 +96,8 @@ returns c =
     let is = c.offer.ensures.state ∙ next_is before hand c.turn.ensures.view j c.args.pointer c.args.from c.args.to c.requires.legal c.requires.lies in
     let set : word_at c.find_job.new.jobs ≡ put (word_at hand.jobs) j word = c.find_job.ensures ∙ ap (put (word_at hand.jobs) j) c.offered.ensures in
     let view : masked (core_state c.offer.new.self) (word_at hand.found.items) (is_counted c.forget.new.counted.items) (word_at c.find_job.new.jobs)
-        ≡ masked (next before hand c.turn.ensures.view j c.args.pointer c.args.from c.args.to c.requires.legal c.requires.lies) (word_at hand.found.items) (λ _. false) (put (word_at hand.jobs) j word) =
-        λ i. masked (is i) (word_at hand.found.items) (c.forget.ensures.none i) (set i) in
+    ≡ masked (next before hand c.turn.ensures.view j c.args.pointer c.args.from c.args.to c.requires.legal c.requires.lies) (word_at hand.found.items) (λ _. false) (put (word_at hand.jobs) j word) =
+    λ i. masked (is i) (word_at hand.found.items) (c.forget.ensures.none i) (set i) in
     let kept_so = kept before hand c.turn.ensures.view j c.args.pointer c.args.from c.args.to c.requires.legal c.requires.lies in
     record {
       kept = subst (λ (u : State). u ≡ record (after (beset_view before) e) { word = u.word }) (sym view) kept_so;
