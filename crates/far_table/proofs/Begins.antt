@@ -53,7 +53,7 @@ word_by b a true w e none = rw e refl
 word_by b a false w e none = rw e none
 
 -- who has no seat yet is no part of what the facts say of the book
-pub other_rest : (ws : List ℕ) (b : BookView) (os : List OwnerView) (rest : List Role) → Facts ws b os → Facts ws (record b { rest = rest }) os
+pub other_rest : (ws : List ℕ) (b : BookView) (os : OtherViews) (rest : List Role) → Facts ws b os → Facts ws (record b { rest = rest }) os
 other_rest ws b os rest f = record {
   law = f.law;
   agrees = f.agrees;
@@ -76,16 +76,16 @@ module _ (s : State) (honest : Bool) (law : Law s) (past : HasNothingPast s) whe
   abbrev s' : State
   s' = record s { honest = honest }
 
-  remembered_first : remembered_by os ≡ s.remembered
+  remembered_first : remembered_by os.owners ≡ s.remembered
   remembered_first = fun_ext (λ m. elim (cases_lt m s.mutators) [
     | inl lt ↦ ap (λ (y : OwnerView). y.epoch) (owner_here s honest m lt)
     | inr le ↦ ap (λ (y : OwnerView). y.epoch) (owner_past s honest m le) ∙ sym (past.epochs m le)
   ])
 
-  used_first : used_by os ≡ s.used
+  used_first : used_by os.owners ≡ s.used
   used_first = pointers_first s honest uses s.used (λ m p own. first_uses s honest m p own law) past.uses
 
-  held_first : held_by os ≡ s.held
+  held_first : held_by os.owners ≡ s.held
   held_first = pointers_first s honest held_at s.held (first_held s honest) past.holds
 
   kinds_first : over b.kinds (λ _. kinds.Free) ≡ s.kind

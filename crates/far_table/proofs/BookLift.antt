@@ -19,7 +19,7 @@ use Rattle.far_table.proofs.BookFrames.{BookStep, book_facts, book_made}
 module _ {S : Type 0} where
   -- a step of the book's seat owes the facts after it, of any words and owners' views that meet them
   pub book_allows : (slots id i : ℕ) (me : Me S View) (b : BookView) (f : ℕ → ℕ) (then : ℕ → Me S View → Type 0) → me.0 ≡ Book b →
-      ((ws : List ℕ) (os : List OwnerView) → Facts ws b os → slice_index ws i < 2 ^ 64 →
+      ((ws : List ℕ) (os : OtherViews) → Facts ws b os → slice_index ws i < 2 ^ 64 →
       (w : BookView) × (w.rest ≡ b.rest) × Facts (set ws i (f (slice_index ws i))) w os × then (slice_index ws i) (Book w, me.1)) →
       Allows Running slots id me i f then
   book_allows slots id i me b f then is asked s r wide at small =
@@ -48,9 +48,9 @@ module _ {S : Type 0} where
 
     -- a step that writes: it is this event, the reply and the view after go by the word found
     pub book_makes : (f : ℕ → ℕ) → Fits e →
-        ((ws : List ℕ) (os : List OwnerView) → Facts ws b os → slice_index ws i < 2 ^ 64 →
+        ((ws : List ℕ) (os : OtherViews) → Facts ws b os → slice_index ws i < 2 ^ 64 →
         BookStep ws b os e (r (slice_index ws i)) (set ws i (f (slice_index ws i))) (w (slice_index ws i))) →
-        ((ws : List ℕ) (os : List OwnerView) → Facts ws b os → slice_index ws i < 2 ^ 64 →
+        ((ws : List ℕ) (os : OtherViews) → Facts ws b os → slice_index ws i < 2 ^ 64 →
         BookTells me.0 (Book (w (slice_index ws i))) e (r (slice_index ws i)) (w (slice_index ws i)) → then (slice_index ws i) (Book (w (slice_index ws i)), me.1)) →
         Allows Running slots id me i f then
     book_makes f fits steps tells = book_allows slots id i me b f then is (λ ws os facts small.
@@ -64,9 +64,9 @@ module _ {S : Type 0} where
 
     -- a step that reads
     pub book_reads : Fits e →
-        ((ws : List ℕ) (os : List OwnerView) → Facts ws b os → slice_index ws i < 2 ^ 64 →
+        ((ws : List ℕ) (os : OtherViews) → Facts ws b os → slice_index ws i < 2 ^ 64 →
         BookStep ws b os e (r (slice_index ws i)) ws (w (slice_index ws i))) →
-        ((ws : List ℕ) (os : List OwnerView) → Facts ws b os → slice_index ws i < 2 ^ 64 →
+        ((ws : List ℕ) (os : OtherViews) → Facts ws b os → slice_index ws i < 2 ^ 64 →
         BookTells me.0 (Book (w (slice_index ws i))) e (r (slice_index ws i)) (w (slice_index ws i)) → then (slice_index ws i) (Book (w (slice_index ws i)), me.1)) →
         Allows Running slots id me i (λ n. n) then
     book_reads fits steps = book_makes (λ n. n) fits (λ ws os facts small.

@@ -60,7 +60,7 @@ cleared_kept b p n = λ i. record (book_state (cleared_view p n b)) { round = ro
 pub forgets_all : (b b' : BookView) → b'.heads ≡ b.heads → (known_word b' ≡ (λ a. head_or (head_at b' a) (unknown a))) → Forgets (book_state b) (book_state b')
 forgets_all b b' heads all = forgets b b' all (λ a st. head_same (head_at b' a) (unknown a) (over b.known unknown a) st ∙ ap (λ rows. head_or (over rows (λ _. None) a) (over b.known unknown a)) heads)
 
-module _ (ws : List ℕ) (b : BookView) (os : List OwnerView) (f : Facts ws b os) where
+module _ (ws : List ℕ) (b : BookView) (os : OtherViews) (f : Facts ws b os) where
   abbrev s : State
   s = state_of ws b os
 

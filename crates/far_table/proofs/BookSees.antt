@@ -36,7 +36,7 @@ use Rattle.far_table.proofs.OwnSteps.{reads, state_is}
 use Rattle.far_table.proofs.Words.{WordsAre, cell_here, cell_word_set}
 
 -- ---- one cell becomes w
-module _ (ws : List ℕ) (b : BookView) (os : List OwnerView) (f : Facts ws b os) (p w : ℕ) (small : p < POINTERS) where
+module _ (ws : List ℕ) (b : BookView) (os : OtherViews) (f : Facts ws b os) (p w : ℕ) (small : p < POINTERS) where
   abbrev later : List ℕ
   later = set ws (cell_at p) w
 
@@ -62,10 +62,10 @@ module _ (ws : List ℕ) (b : BookView) (os : List OwnerView) (f : Facts ws b os
       (moves (cell_in later q) ≡ moves (cell_in ws q)) × (drops (cell_in later q) ≡ drops (cell_in ws q)) × (hots (cell_in later q) ≡ hots (cell_in ws q))
   marks_as same q = (counts_as moves same.0 q, counts_as drops same.1 q, counts_as hots same.2 q)
 
-pub cells_few : (ws : List ℕ) (b : BookView) (os : List OwnerView) → Facts ws b os → (p : ℕ) → p < CELLS * b.mutators → p < POINTERS
+pub cells_few : (ws : List ℕ) (b : BookView) (os : OtherViews) → Facts ws b os → (p : ℕ) → p < CELLS * b.mutators → p < POINTERS
 cells_few ws b os f p low = let most = f.law.shape.few_mutators in omega arith
 
-module _ (ws : List ℕ) (b : BookView) (os : List OwnerView) (f : Facts ws b os) (plain : IsPlain b) (p : ℕ) where
+module _ (ws : List ℕ) (b : BookView) (os : OtherViews) (f : Facts ws b os) (plain : IsPlain b) (p : ℕ) where
   abbrev s : State
   s = state_of ws b os
 
@@ -122,7 +122,7 @@ module _ {S : Type 0} (slots id : ℕ) (me : Me S View) (is : me.0 ≡ Book (boo
   abbrev pub FoundAt : ℕ → ℕ → (ℕ → Type 0) → Type 0
   FoundAt z found told = Finds ((book_state view).cell z) found × told z
 
-  pub found_at : (ws : List ℕ) (os : List OwnerView) (f : Facts ws view os) → p < CELLS * view.mutators → (q : ℕ) → cell_at p ≡ cell_at q → (told : ℕ → Type 0) → told p →
+  pub found_at : (ws : List ℕ) (os : OtherViews) (f : Facts ws view os) → p < CELLS * view.mutators → (q : ℕ) → cell_at p ≡ cell_at q → (told : ℕ → Type 0) → told p →
       FoundAt q (slice_index ws (cell_at p)) told
   found_at ws os f low q e told t =
       let here : cell_in ws p ≡ slice_index ws (cell_at p) = cell_here ws p (cells_few ws view os f p low) in

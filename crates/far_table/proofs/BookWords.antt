@@ -77,7 +77,7 @@ pub plain_got : (q : Bool) (b : BookView) (a n : ℕ) → IsPlain b → n < 2 ^ 
 plain_got true b a n plain fits = plain_more b a n plain fits
 plain_got false b a n plain fits = plain
 
-module _ (ws : List ℕ) (b : BookView) (os : List OwnerView) (f : Facts ws b os) (plain : IsPlain b) (l at : ℕ) (inside : at < LOG_WORDS) where
+module _ (ws : List ℕ) (b : BookView) (os : OtherViews) (f : Facts ws b os) (plain : IsPlain b) (l at : ℕ) (inside : at < LOG_WORDS) where
   abbrev s : State
   s = state_of ws b os
 

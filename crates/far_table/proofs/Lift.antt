@@ -38,8 +38,8 @@ module _ {S : Type 0} where
 
   -- a step of an owner's seat owes the facts after it, of any words and views that meet them
   pub owner_allows : (slots id i : ℕ) (me : Me S View) (o : OwnerView) (f : ℕ → ℕ) (then : ℕ → Me S View → Type 0) → me.0 ≡ Owner o →
-      ((ws : List ℕ) (b : BookView) (os : List OwnerView) → Facts ws b os → get_elem? os o.number ≡ some o →
-      (w : OwnerView) × Facts (set ws i (f (slice_index ws i))) b (set os o.number w) × then (slice_index ws i) (Owner w, me.1)) →
+      ((ws : List ℕ) (b : BookView) (os : OtherViews) → Facts ws b os → get_elem? os.owners o.number ≡ some o →
+      (w : OwnerView) × Facts (set ws i (f (slice_index ws i))) b (with_owner os o.number w) × then (slice_index ws i) (Owner w, me.1)) →
       Allows Running slots id me i f then
   owner_allows slots id i me o f then is asked s r wide at small =
       let p = own_place s r id o (at ∙ ap some is) in
@@ -68,9 +68,9 @@ module _ {S : Type 0} where
 
     -- a step that writes: it is this event, the reply and the view after go by the word found
     pub owner_makes : (f : ℕ → ℕ) →
-        ((ws : List ℕ) (b : BookView) (os : List OwnerView) → Facts ws b os → get_elem? os o.number ≡ some o →
+        ((ws : List ℕ) (b : BookView) (os : OtherViews) → Facts ws b os → get_elem? os.owners o.number ≡ some o →
         OwnStep ws b os o e (r (slice_index ws i)) (set ws i (f (slice_index ws i))) (w (slice_index ws i))) →
-        ((ws : List ℕ) (b : BookView) (os : List OwnerView) → Facts ws b os → get_elem? os o.number ≡ some o →
+        ((ws : List ℕ) (b : BookView) (os : OtherViews) → Facts ws b os → get_elem? os.owners o.number ≡ some o →
         Tells me.0 (Owner (w (slice_index ws i))) e (r (slice_index ws i)) (w (slice_index ws i)) → then (slice_index ws i) (Owner (w (slice_index ws i)), me.1)) →
         Allows Running slots id me i f then
     owner_makes f steps tells = owner_allows slots id i me o f then is (λ ws b os facts at.
@@ -83,9 +83,9 @@ module _ {S : Type 0} where
 
     -- a step that reads
     pub owner_reads :
-        ((ws : List ℕ) (b : BookView) (os : List OwnerView) → Facts ws b os → get_elem? os o.number ≡ some o →
+        ((ws : List ℕ) (b : BookView) (os : OtherViews) → Facts ws b os → get_elem? os.owners o.number ≡ some o →
         OwnStep ws b os o e (r (slice_index ws i)) ws (w (slice_index ws i))) →
-        ((ws : List ℕ) (b : BookView) (os : List OwnerView) → Facts ws b os → get_elem? os o.number ≡ some o →
+        ((ws : List ℕ) (b : BookView) (os : OtherViews) → Facts ws b os → get_elem? os.owners o.number ≡ some o →
         Tells me.0 (Owner (w (slice_index ws i))) e (r (slice_index ws i)) (w (slice_index ws i)) → then (slice_index ws i) (Owner (w (slice_index ws i)), me.1)) →
         Allows Running slots id me i (λ n. n) then
     owner_reads steps = owner_makes (λ n. n) (λ ws b os facts at.

@@ -29,7 +29,7 @@ use Rattle.far_table.proofs.HeldFacts.{HeldFacts, held_facts, held_so, one_word,
 use Rattle.far_table.proofs.Lift.{owner_reads}
 use Rattle.far_table.proofs.OwnSteps.{OwnStep, reads}
 
-module _ (ws : List ℕ) (b : BookView) (os : List OwnerView) (f : Facts ws b os) (o : OwnerView) (at : get_elem? os o.number ≡ some o)
+module _ (ws : List ℕ) (b : BookView) (os : OtherViews) (f : Facts ws b os) (o : OwnerView) (at : get_elem? os.owners o.number ≡ some o)
     (p i : ℕ) (place : Place) (own : p / CELLS ≡ o.number) (held : held_at o p ≡ Some place) (inside : i < words_for (len_of (object_at o p))) where
   abbrev s : State
   s = state_of ws b os
@@ -55,7 +55,7 @@ module _ (ws : List ℕ) (b : BookView) (os : List OwnerView) (f : Facts ws b os
   load_step = record {
     legal = legal;
     says = ap (λ a. Word (word_in ws a)) (sym behind);
-    becomes = reads f s b (set os o.number o) (ap (state_of ws b) (sym (set_again os o.number o at)));
+    becomes = reads f s b (with_owner os o.number o) (ap (state_of ws b) (sym (set_again os.owners o.number o at)));
     mine = f.owners o.number o at;
   }
 

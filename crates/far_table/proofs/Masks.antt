@@ -28,7 +28,7 @@ word_here (Some x) k w a heads words plain = sym (heads refl)
 word_here None k w a heads words plain = cond_both (nat_lt k (2 ^ 64)) w (unknown a) (λ v. k ≡ v) (λ t. sym (words (ltb-true k (2 ^ 64) t))) (λ t. plain (ltb-false k (2 ^ 64) t))
 
 -- from the rule to what a beset hand has
-module _ (ws : List ℕ) (b : BookView) (os : List OwnerView) (f : Facts ws b os) where
+module _ (ws : List ℕ) (b : BookView) (os : OtherViews) (f : Facts ws b os) where
   abbrev s : State
   s = state_of ws b os
 
@@ -51,7 +51,7 @@ module _ (ws : List ℕ) (b : BookView) (os : List OwnerView) (f : Facts ws b os
   rests a known plain = f.book.rests a (ltb-true (known_word b a) (2 ^ 64) known) plain
 
 -- what a beset hand's view would be
-pub view_masked : (ws : List ℕ) (b : BookView) (os : List OwnerView) (counted : ℕ → Bool) → known_word b ≡ masked_word (word_in ws) (λ a. is_some (head_at b a)) counted → epoch_in ws ≡ b.epoch →
+pub view_masked : (ws : List ℕ) (b : BookView) (os : OtherViews) (counted : ℕ → Bool) → known_word b ≡ masked_word (word_in ws) (λ a. is_some (head_at b a)) counted → epoch_in ws ≡ b.epoch →
     book_state b ≡ masked (state_of ws b os) (over b.cells (λ _. 0)) counted
 view_masked ws b os counted words epoch = λ i. record (book_state b) { epoch = sym epoch i; word = words i }
 
@@ -65,7 +65,7 @@ counted_known true w a h = refl
 counted_known false w a h = absurd (omega arith)
 
 -- and back
-module _ (ws : List ℕ) (b : BookView) (os : List OwnerView) (law : Law (state_of ws b os)) (counted : ℕ → Bool)
+module _ (ws : List ℕ) (b : BookView) (os : OtherViews) (law : Law (state_of ws b os)) (counted : ℕ → Bool)
     (words : known_word b ≡ masked_word (word_in ws) (λ a. is_some (head_at b a)) counted) (all : AllFind (over b.cells (λ _. 0)) (cell_in ws))
     (rest : CountsOnRest (book_state b) (over b.cells (λ _. 0)) counted) (epoch : epoch_in ws ≡ b.epoch) where
   abbrev t : State

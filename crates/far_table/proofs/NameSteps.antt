@@ -167,7 +167,7 @@ header_is None w k same there = absurd (cc)
 header_is (Some x) w k same there = same x refl
 
 -- the headers that the view knows are those that stand there
-known_heads : (ws : List ℕ) (b : BookView) (os : List OwnerView) → Facts ws b os → (a x : ℕ) → head_at b a ≡ Some x → word_in ws a ≡ x
+known_heads : (ws : List ℕ) (b : BookView) (os : OtherViews) → Facts ws b os → (a x : ℕ) → head_at b a ≡ Some x → word_in ws a ≡ x
 known_heads ws b os f a x e = f.book.shown.headers a (ap is_some e) ∙ ap (λ z. head_or z (over b.known unknown a)) e
 
 -- ---- headers, where a span of p may begin: each of them is the word that stands there
@@ -238,7 +238,7 @@ module _ (b : BookView) (p old new : ℕ) where
         (forgets b (v h.1.0) refl (λ a st. sym (header_is (head_at (v h.1.0) a) (known_word b a) (unknown a) (head_same a) st)))
 
 -- ---- the step
-module _ (ws : List ℕ) (b : BookView) (os : List OwnerView) (f : Facts ws b os) (plain : IsPlain b) (p old new : ℕ) (fits : new < 2 ^ 64)
+module _ (ws : List ℕ) (b : BookView) (os : OtherViews) (f : Facts ws b os) (plain : IsPlain b) (p old new : ℕ) (fits : new < 2 ^ 64)
     (h : Legal (book_state b) (Name p old new)) (known : KnowsLeaving (book_state b) old new) where
   abbrev s : State
   s = state_of ws b os
@@ -319,10 +319,10 @@ module _ (ws : List ℕ) (b : BookView) (os : List OwnerView) (f : Facts ws b os
   )
 
   -- what is held has HOT as it had
-  warm_named : cell_in ws p ≡ old → (q : ℕ) → IsSome (held_by os q) → hots (cell_in later q) ≡ hots (cell_in ws q)
+  warm_named : cell_in ws p ≡ old → (q : ℕ) → IsSome (held_by os.owners q) → hots (cell_in later q) ≡ hots (cell_in ws q)
   warm_named won q held =
-      let free : held_by os p ≡ None = unheld s f.law p form old new won legal.1.1 legal.1.2 in
-      let ne : q ≢ p = λ e. false≢true (sym (ap is_some (ap (held_by os) e ∙ free)) ∙ held) in
+      let free : held_by os.owners p ≡ None = unheld s f.law p form old new won legal.1.1 legal.1.2 in
+      let ne : q ≢ p = λ e. false≢true (sym (ap is_some (ap (held_by os.owners) e ∙ free)) ∙ held) in
       ap hots (ap (λ g. g q) (cell_after ws b os f p new few).cell_is ∙ put_other (cell_in ws) p new q ne)
 
   -- so says the step

@@ -2,6 +2,7 @@ pub mod View
 pub mod Layout
 pub mod Rows
 pub mod Views
+pub mod CopierViews
 pub mod StateOf
 pub mod First
 pub mod Rule

@@ -9,6 +9,7 @@ mod book;
 mod book_hand;
 mod layout;
 mod rule;
+mod scratch;
 mod seat;
 mod start;
 mod view;
