@@ -1,5 +1,5 @@
 -- An adoption is its event of the core; or it is refused, and nothing changes but that the word found is noted.
-use Rattle.std.proofs.Common.{◌≡◌, ◌+◌, ◌*◌, ◌/◌, ◌<◌, ℕ, zero, suc, Bool, true, false, cond, List, length, set, sym, refl, ap, ◌∙◌, subst, arith, Option, Some, None}
+use Rattle.std.proofs.Common.{◌≡◌, ◌+◌, ◌*◌, ◌/◌, ◌<◌, ℕ, zero, suc, Bool, true, false, cond, List, length, sym, refl, ap, ◌∙◌, subst, arith, Option, Some, None}
 use Rattle.std.specs.Prelude.{slice_index, is_some, IsSome, replicate, not}
 use Rattle.std.proofs.lemmas.Bool.{false≢true}
 use mathlib.Core.Logic.{dite}
@@ -27,7 +27,7 @@ use Rattle.far_core.specs.world.World.{Object, World, Group, FarSide}
 use Rattle.far_core.specs.world.WorldOf.{object_of, world_of}
 use Rattle.far_core.proofs.Owing.{does}
 use Rattle.far_core.proofs.Put.{put_both, put_other, put_same}
-use Rattle.far_table.specs.View.{BookView, ObjectView, OwnerView, View, Owner}
+use Rattle.far_table.specs.View.{BookView, ObjectView, OwnerView, View, Owner, OtherViews, with_owner}
 use Rattle.far_table.specs.Layout.{cell_at, cell_in}
 use Rattle.far_table.specs.Plays.{Adopted, AdoptTells}
 use Rattle.far_table.specs.Rule.{Facts, Has, Running}
@@ -151,7 +151,7 @@ module _ (ws : List ℕ) (b : BookView) (os : OtherViews) (f : Facts ws b os) (o
   adopt_case false used = record {
     w = noted_view p (cell_in ws p) o;
     facts = noted_facts ws b os f o at p (cell_in ws p);
-    tells = (refl, record { words = ws; book = b; owners = os; facts = f; stands = at; refused = λ legal. false≢true (sym used ∙ legal.3) });
+    tells = (refl, record { words = ws; book = b; others = os; facts = f; stands = at; refused = λ legal. false≢true (sym used ∙ legal.3) });
   }
 
 module _ {S : Type 0} (slots id : ℕ) (me : Me S View) (is : me.0 ≡ Owner (owner_of me.0)) where

@@ -30,7 +30,7 @@ use Rattle.far_core.proofs.Cells.{map_mark}
 use Rattle.far_core.proofs.Marking.{read_mark}
 use Rattle.far_core.proofs.Owing.{does}
 use Rattle.far_core.proofs.Put.{put_both, put_other, put_same}
-use Rattle.far_table.specs.View.{BookView, ObjectView, OwnerView, View, Owner}
+use Rattle.far_table.specs.View.{BookView, ObjectView, OwnerView, View, Owner, OtherViews, with_owner}
 use Rattle.far_table.specs.Layout.{cell_at, cell_in}
 use Rattle.far_table.specs.Plays.{Asked}
 use Rattle.far_table.specs.Rule.{Facts, Running}

@@ -13,7 +13,7 @@ use Rattle.far_core.proofs.Owing.{keeps}
 use Rattle.far_core.proofs.Steps.{agrees}
 use Rattle.far_hand.specs.Makers.{ByBook, maker}
 use Rattle.far_hand.proofs.Making.{legal_made}
-use Rattle.far_table.specs.View.{BookView, OwnerView, Role}
+use Rattle.far_table.specs.View.{BookView, OwnerView, Role, OtherViews}
 use Rattle.far_table.specs.Layout.{cell_in, job_in, scope_in}
 use Rattle.far_table.specs.Rows.{over}
 use Rattle.far_table.specs.Rule.{BookTies, Facts, OwnerTies}

@@ -9,7 +9,7 @@ use Rattle.far_core.specs.declared.event.Event.{Event}
 use Rattle.far_core.specs.declared.event.Reply.{Reply}
 use Rattle.far_core.specs.events.Step.{Fits}
 use Rattle.far_hand.specs.Makers.{ByBook, maker}
-use Rattle.far_table.specs.View.{BookView, OwnerView, View, Book, Owner}
+use Rattle.far_table.specs.View.{BookView, View, Book, Owner, OtherViews}
 use Rattle.far_table.specs.BookTells.{BookTells}
 use Rattle.far_table.specs.Rule.{Facts, Running}
 use Rattle.far_table.specs.Stands.{book_of}

@@ -28,7 +28,7 @@ use Rattle.far_hand.proofs.Counting.{counts_none}
 use Rattle.far_hand.proofs.Finding.{near_found}
 use Rattle.far_hand.proofs.RoundSteps.{counts_looked, may_advance}
 use Rattle.far_hand.proofs.RoundSteps as looking
-use Rattle.far_table.specs.View.{BookView, OwnerView, View, Book}
+use Rattle.far_table.specs.View.{BookView, View, Book, OtherViews}
 use Rattle.far_table.specs.BookPlays.{Advanced, Cleared, Looked}
 use Rattle.far_table.specs.BookTells.{BookTells}
 use Rattle.far_table.specs.BookViews.{cleared_view, looked_view, raised_view, rows_left}

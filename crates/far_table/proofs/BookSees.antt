@@ -20,7 +20,7 @@ use Rattle.far_hand.specs.Finds.{Finds}
 use Rattle.far_hand.specs.Masked.{AllFind, masked_word}
 use Rattle.far_hand.proofs.Counting.{counts_found, finds_named, finds_put}
 use Rattle.far_hand.proofs.EvacMarks.{counts_marked, legal_mark}
-use Rattle.far_table.specs.View.{BookView, OwnerView, View, Book}
+use Rattle.far_table.specs.View.{BookView, View, Book, OtherViews}
 use Rattle.far_table.specs.BookPlays.{Marked, Saw}
 use Rattle.far_table.specs.BookTells.{BookTells}
 use Rattle.far_table.specs.BookViews.{marked_view, saw_view}

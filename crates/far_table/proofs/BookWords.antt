@@ -24,7 +24,7 @@ use Rattle.far_hand.proofs.Finding.{near_found}
 use Rattle.far_hand.proofs.Masking.{lies, no_header}
 use Rattle.far_hand.proofs.Quietness.{quiet_fact, quiet_test}
 use Rattle.far_hand.proofs.Reading.{Gets, count_read, count_word, gets, may_free}
-use Rattle.far_table.specs.View.{BookView, OwnerView, View, Book}
+use Rattle.far_table.specs.View.{BookView, View, Book, OtherViews}
 use Rattle.far_table.specs.BookPlays.{Freed, Got, Putted}
 use Rattle.far_table.specs.BookTells.{BookTells}
 use Rattle.far_table.specs.BookViews.{freed_view, got_view, is_quiet_at, is_quiet_below, put_view}

@@ -19,7 +19,7 @@ use Rattle.far_core.specs.world.World.{Object}
 use Rattle.far_core.proofs.Cells.{held_near}
 use Rattle.far_core.proofs.ObjectFacts.{object_agrees}
 use Rattle.far_hand.proofs.Masking.{lies, one_owner}
-use Rattle.far_table.specs.View.{BookView, ObjectView, OwnerView}
+use Rattle.far_table.specs.View.{BookView, ObjectView, OwnerView, OtherViews}
 use Rattle.far_table.specs.Rule.{Facts, Has}
 use Rattle.far_table.specs.StateOf.{state_of}
 use Rattle.far_table.specs.Views.{held_at, len_of, object_at, uses}

@@ -10,7 +10,7 @@ use Rattle.far_hand.specs.Masked.{masked, masked_word, AllFind, CountsOnRest}
 use Rattle.far_hand.specs.Quiet.{RestsAt}
 use Rattle.far_hand.proofs.Reading.{header_known}
 use Rattle.far_hand.proofs.Reading as reading
-use Rattle.far_table.specs.View.{BookView, OwnerView}
+use Rattle.far_table.specs.View.{BookView, OtherViews}
 use Rattle.far_table.specs.Layout.{cell_in, epoch_in, word_in}
 use Rattle.far_table.specs.Rows.{over}
 use Rattle.far_table.specs.Rule.{BookTies, Facts}

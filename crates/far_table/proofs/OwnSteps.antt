@@ -16,8 +16,8 @@ use Rattle.far_core.specs.state.State.{State}
 use Rattle.far_core.specs.world.WorldOf.{world_of}
 use Rattle.far_core.proofs.Owing.{keeps}
 use Rattle.far_core.proofs.Steps.{agrees}
-use Rattle.far_hand.specs.Makers.{ByOwner, is_owner, maker}
-use Rattle.far_hand.proofs.OwnersWork.{change}
+use Rattle.far_hand.specs.Makers.{ByOwner, is_other, maker}
+use Rattle.far_hand.proofs.OthersWork.{change}
 use Rattle.far_table.specs.View.{BookView, ObjectView, OtherViews, OwnerView, with_owner}
 use Rattle.far_table.specs.Layout.{TABLE_WORDS}
 use Rattle.far_table.specs.Rule.{BookTies, Facts, Has, OwnerTies}
@@ -131,7 +131,7 @@ module _ (ws : List ℕ) (b : BookView) (os : OtherViews) (f : Facts ws b os) (o
   own_facts = record {
     law = law;
     agrees = agrees _ law;
-    book = subst (BookTies b) k.becomes.is (book_on b s t f.law f.book (change s e f.law (ap is_owner by) k.legal));
+    book = subst (BookTies b) k.becomes.is (book_on b s t f.law f.book (change s e f.law (ap is_other by) k.legal));
     owners = λ j y h. subst (λ (z : State). OwnerTies b z j y) k.becomes.is (each j y h);
     copiers = f.copiers;
     many = length-set os.owners o.number w ∙ f.many;

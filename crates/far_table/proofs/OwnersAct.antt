@@ -1,5 +1,5 @@
 -- Owners may do what the core allows: a legal event of an owner leads to words and views for which the rule holds, beside the same view of the book.
-use Rattle.std.proofs.Common.{◌≡◌, ◌≢◌, ◌/◌, ◌<◌, ◌-◌, ◌*◌, ◌^◌, ℕ, zero, suc, Bool, true, false, List, [], ◌∷◌, length, Option, Some, None, is_some, set, refl, sym, ap, ◌∙◌, subst, arith, inl, inr}
+use Rattle.std.proofs.Common.{◌≡◌, ◌≢◌, ◌/◌, ◌<◌, ◌-◌, ◌*◌, ◌^◌, ℕ, zero, suc, Bool, true, false, List, [], ◌∷◌, length, Option, Some, None, is_some, refl, sym, ap, ◌∙◌, subst, arith, inl, inr}
 use Rattle.std.specs.Prelude.{IsSome}
 use Rattle.std.proofs.lemmas.Bool.{cases_lt, false≢true}
 use Rattle.std.proofs.lemmas.List.{get_or_past}
@@ -22,7 +22,7 @@ use Rattle.far_hand.specs.Makers.{ByOwner, is_owners, maker}
 use Rattle.far_table.specs.BookSeats.{MayBe}
 use Rattle.far_table.specs.Rule.{Facts}
 use Rattle.far_table.specs.StateOf.{state_of}
-use Rattle.far_table.specs.View.{BookView, ObjectView, OwnerView}
+use Rattle.far_table.specs.View.{BookView, ObjectView, OwnerView, OtherViews, with_owner}
 use Rattle.far_table.specs.Views.{held_at, len_of, nobody, object_at, owner_at, uses}
 use Rattle.far_table.proofs.AdoptSteps.{adopt_step}
 use Rattle.far_table.proofs.AskSteps.{ask_step}
@@ -45,10 +45,10 @@ unused_by : (x : Option ObjectView) → is_some x ≡ false → x ≡ None
 unused_by None e = refl
 unused_by (Some x) e = absurd (false≢true (sym e))
 
-pub one_there : (os : OtherViews) (m : ℕ) → m < length os.owners → (o : OwnerView) × (get_elem? os.owners m ≡ some o)
+pub one_there : (os : List OwnerView) (m : ℕ) → m < length os → (o : OwnerView) × (get_elem? os m ≡ some o)
 one_there [] m lt = absurd (omega (arith, lt))
 one_there (o ∷ os) zero lt = (o, refl)
-one_there (o ∷ os) (suc m) lt = one_there os.owners m (omega (arith, lt))
+one_there (o ∷ os) (suc m) lt = one_there os m (omega (arith, lt))
 
 module _ (ws : List ℕ) (b : BookView) (os : OtherViews) (f : Facts ws b os) where
   abbrev s : State
@@ -56,7 +56,7 @@ module _ (ws : List ℕ) (b : BookView) (os : OtherViews) (f : Facts ws b os) wh
 
   acts : (o : OwnerView) (at : get_elem? os.owners o.number ≡ some o) (e : Event) → maker e ≡ ByOwner o.number → Fits e → (r : Reply) (later : List ℕ) (w : OwnerView) →
       OwnStep ws b os o e r later w → MayBe b (after s e)
-  acts o at e by fits r later w k = record { words = later; owners = with_owner os o.number w; facts = own_facts ws b os f o at e by fits r later w k; is = k.becomes.is }
+  acts o at e by fits r later w k = record { words = later; others = with_owner os o.number w; facts = own_facts ws b os f o at e by fits r later w k; is = k.becomes.is }
 
   -- an event of the owner of a number is one of its view's
   by_owner : (e : ℕ → Event) → ((o : OwnerView) → get_elem? os.owners o.number ≡ some o → Legal s (e o.number) → MayBe b (after s (e o.number))) → (m : ℕ) → m < b.mutators →
@@ -129,7 +129,7 @@ module _ (ws : List ℕ) (b : BookView) (os : OtherViews) (f : Facts ws b os) wh
   may_act (Open m) own fits h = by_owner Open opens m h.0.0 h
   may_act (Close m) own fits h = by_owner Close closes m h.0 h
   may_act (Pin m p) own fits h = by_owner (λ k. Pin k p) (λ o at. pins o at p) m h.0.0 h
-  may_act (Load m p i) own fits h = record { words = ws; owners = os; facts = f; is = refl }
+  may_act (Load m p i) own fits h = record { words = ws; others = os; facts = f; is = refl }
   may_act (Store m p i v) own fits h = by_owner (λ k. Store k p i v) (λ o at. stores o at p i v fits) m (holder p m h.1.0 h.1.1.own h.1.1.rests) h
   may_act (Adopt m p) own fits h = by_owner (λ k. Adopt k p) (λ o at. adopts o at p) m h.0 h
   may_act (Ask m p k) own fits h = by_owner (λ j. Ask j p k) (λ o at. asks o at p k) m h.1 h

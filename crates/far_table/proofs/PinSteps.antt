@@ -28,7 +28,7 @@ use Rattle.far_core.proofs.Cells.{map_mark}
 use Rattle.far_core.proofs.KeepOwner.{hot_read}
 use Rattle.far_core.proofs.Owing.{does}
 use Rattle.far_core.proofs.Put.{put_both, put_other, put_same}
-use Rattle.far_table.specs.View.{BookView, OwnerView, View, Owner}
+use Rattle.far_table.specs.View.{BookView, OwnerView, View, Owner, OtherViews, with_owner}
 use Rattle.far_table.specs.Layout.{cell_at, cell_in}
 use Rattle.far_table.specs.Plays.{Pinned, Lies}
 use Rattle.far_table.specs.Rule.{Facts, Running}
@@ -100,7 +100,7 @@ module _ (ws : List ℕ) (b : BookView) (os : OtherViews) (f : Facts ws b os) (o
   abbrev warm : OwnerView
   warm = warmed_view p c o
 
-  held_after : (x : Option Place) → held_by (with_owner os m (with_place p x warm)) ≡ with_hold (held_by os.owners) p x
+  held_after : (x : Option Place) → held_by (set os.owners m (with_place p x warm)) ≡ with_hold (held_by os.owners) p x
   held_after None = pointers_same os.owners m o warm at held_at refl
   held_after (Some place) = pointers_put os.owners m o (held_view p place warm) at held_at p (Some place) own refl
 

@@ -15,7 +15,7 @@ use Rattle.far_core.specs.state.State.{put}
 use Rattle.far_core.specs.world.World.{World}
 use Rattle.far_core.proofs.Owing.{does}
 use Rattle.far_core.proofs.Put.{put_same}
-use Rattle.far_table.specs.View.{BookView, OwnerView, View, Owner}
+use Rattle.far_table.specs.View.{BookView, OwnerView, View, Owner, OtherViews, with_owner}
 use Rattle.far_table.specs.Layout.{EPOCH_AT, scope_at, epoch_in, scope_in, cell_in, job_in, word_in}
 use Rattle.far_table.specs.Plays.{EpochRead, Opened, Closed}
 use Rattle.far_table.specs.Rule.{Facts, Running}

@@ -23,7 +23,7 @@ use Rattle.far_core.proofs.Calls.{word_behind}
 use Rattle.far_core.proofs.ObjectFacts.{object_agrees}
 use Rattle.far_core.proofs.Owing.{does, keeps}
 use Rattle.far_core.proofs.Put.{put_both, put_other, put_same}
-use Rattle.far_table.specs.View.{BookView, ObjectView, OwnerView, View, Owner}
+use Rattle.far_table.specs.View.{BookView, ObjectView, OwnerView, View, Owner, OtherViews, with_owner}
 use Rattle.far_table.specs.Layout.{LOGS_AT, TABLE_WORDS, data_at, epoch_in, scope_in, cell_in, job_in, word_in}
 use Rattle.far_table.specs.Plays.{Stored}
 use Rattle.far_table.specs.Rule.{Facts, Has, Running}

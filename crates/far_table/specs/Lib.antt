@@ -15,6 +15,8 @@ pub mod BookTells
 pub mod BookPlays
 pub mod Tabled
 pub mod BookSeats
+pub mod CopierPlays
+pub mod CopySeats
 pub mod NameViews
 pub mod Viewed
 pub mod Whole

@@ -7,14 +7,15 @@
 
 mod book;
 mod book_hand;
+mod copy_seat;
 mod layout;
 mod rule;
-mod scratch;
 mod seat;
 mod start;
 mod view;
 
 pub use book::BookSeat;
+pub use copy_seat::{CopySeat, Job};
 pub use layout::layout_is;
 pub use rule::{FarRule, FarTable, Plan};
 pub use seat::MutSeat;

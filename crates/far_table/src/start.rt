@@ -58,7 +58,7 @@ fn word_of(core: &Core, i: usize) -> u64
     } else if i < JOBS_AT {
         core.cell((i - CELLS) as u16)
     } else if i < LOGS {
-        0
+        core.see_job((i - JOBS_AT) as u8)
     } else {
         log_word(core, i - LOGS)
     }
