@@ -20,7 +20,7 @@ use Rattle.far_core.proofs.Steps.{agrees}
 use Rattle.far_hand.specs.Beside.{uncopied}
 use Rattle.far_hand.specs.Known.{IsKnown, unknown}
 use Rattle.far_hand.specs.Masked.{masked, masked_word}
-use Rattle.far_hand.specs.MayBe.{Shows, masked_shows}
+use Rattle.far_hand.specs.MayBe.{Shows, job_itself, masked_shows}
 use Rattle.far_hand.specs.Quiet.{RestsAt}
 use Rattle.far_hand.proofs.Finding.{finds_same}
 use Rattle.far_table.specs.View.{BookView, CopierView, OtherViews, OwnerView, Role, Book}
@@ -146,8 +146,8 @@ module _ (s : State) (honest : Bool) (law : Law s) (past : HasNothingPast s) whe
   cells_first = over_all s.cell (λ _. 0) POINTERS (λ p le. past.cells p (omega (arith, law.shape.few_mutators)))
 
   -- ---- the book's view is the core's state, of whose words it knows the headers alone
-  pub first_book_state : book_state b ≡ masked s' s.cell (λ _. false)
-  first_book_state = λ i. record (masked s' s.cell (λ _. false)) {
+  pub first_book_state : book_state b ≡ masked s' s.cell (λ _. false) s.copying.word
+  first_book_state = λ i. record (masked s' s.cell (λ _. false) s.copying.word) {
     cell = cells_first i;
     word = words_first i;
     kind = kinds_first i;
@@ -161,7 +161,7 @@ module _ (s : State) (honest : Bool) (law : Law s) (past : HasNothingPast s) whe
   }
 
   pub first_shows : Shows (book_state b) s'
-  first_shows = subst (λ (o : State). Shows o s') (sym first_book_state) (masked_shows s' s.cell (λ _. false) (λ p. finds_same (s.cell p)))
+  first_shows = subst (λ (o : State). Shows o s') (sym first_book_state) (masked_shows s' s.cell (λ _. false) s.copying.word (λ p. finds_same (s.cell p)) (λ j. job_itself (s.copying.word j)))
 
   -- ---- the words and the views are the core's state
   module _ (ws : List ℕ) (table : IsTableOf ws s) where
@@ -232,7 +232,7 @@ module _ (s : State) (honest : Bool) (law : Law s) (past : HasNothingPast s) whe
     }
 
     -- no word is known but headers
-    rests_first : (a : ℕ) → IsKnown (masked_word s.word s.starts (λ _. false) a) → s.starts a ≡ false → RestsAt (masked s' s.cell (λ _. false)) a
+    rests_first : (a : ℕ) → IsKnown (masked_word s.word s.starts (λ _. false) a) → s.starts a ≡ false → RestsAt (masked s' s.cell (λ _. false) s.copying.word) a
     rests_first a known plain = absurd (false≢true (sym plain ∙ known_head (s.starts a) (s.word a) a known))
 
     pub first_book_ties : BookTies b s'

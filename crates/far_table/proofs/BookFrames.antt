@@ -14,7 +14,7 @@ use Rattle.far_core.proofs.Steps.{agrees}
 use Rattle.far_hand.specs.Makers.{ByBook, maker}
 use Rattle.far_hand.proofs.Making.{legal_made}
 use Rattle.far_table.specs.View.{BookView, OwnerView, Role, OtherViews}
-use Rattle.far_table.specs.Layout.{cell_in, job_in, scope_in}
+use Rattle.far_table.specs.Layout.{cell_in, scope_in}
 use Rattle.far_table.specs.Rows.{over}
 use Rattle.far_table.specs.Rule.{BookTies, Facts, OwnerTies}
 use Rattle.far_table.specs.StateOf.{cooled_at, held_by, retired_at, state_of, taken_at}
@@ -80,7 +80,7 @@ cells_stay cells scopes same none = marks_stay (λ p. (ap (λ c. moves (c p)) ce
 pub record BookStep (ws : List ℕ) (b : BookView) (os : OtherViews) (e : Event) (r : Reply) (later : List ℕ) (b' : BookView) : Type 0 where
   pub legal : Legal (state_of ws b os) e
   pub says : r ≡ answer (state_of ws b os) e
-  pub becomes : Leads (after (state_of ws b os) e) (job_in ws) later b' os
+  pub becomes : Leads (after (state_of ws b os) e) later b' os
   pub book : Law (state_of later b' os) → BookTies b' (state_of later b' os)
   pub leaves : LeavesOwners ws b os e r later b'
 
@@ -113,15 +113,16 @@ module _ (ws : List ℕ) (b : BookView) (os : OtherViews) (f : Facts ws b os) (e
     agrees = agrees t law;
     book = k.book law;
     owners = λ m o at. owner m o at (f.owners m o at);
+    copiers = f.copiers;
     many = f.many ∙ sym k.leaves.mutators;
+    eight = f.eight;
     wide = k.becomes.wide;
-    jobs = k.becomes.jobs ∙ f.jobs;
   }
 
   pub book_made : BookMade e b r b'
   book_made = record {
     words = ws;
-    owners = os;
+    others = os;
     facts = f;
     legal = k.legal;
     says = k.says;

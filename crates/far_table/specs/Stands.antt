@@ -128,6 +128,6 @@ pub record Starts (s : State) (honest : Bool) (b : BookView) : Type 0 where
   pub words : List ℕ
   pub facts : Facts words b (first_others s honest)
   pub state : state_of words b (first_others s honest) ≡ record s { honest = honest }
-  pub book : book_state b ≡ masked (record s { honest = honest }) s.cell (λ _. false)
+  pub book : book_state b ≡ masked (record s { honest = honest }) s.cell (λ _. false) s.copying.word
   pub owners : (m : ℕ) → SaysOwner s honest m (first_owner s honest m)
   pub copiers : (c : ℕ) → c < MOST_COPIERS → SaysCopier s c (first_copier s c)
