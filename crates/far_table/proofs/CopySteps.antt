@@ -198,27 +198,26 @@ module _ {S : Type 0} (slots id : ℕ) (me : Me S View) (is : me.0 ≡ Copier (c
     one_task : (u : Task) → mine.task ≡ Some u → t ≡ u
     one_task u other = let both : Some t ≡ Some u = sym task ∙ other in cc
 
-    pub measures : Allows Running slots id me (data_at (addr t.job.from)) (λ n. n) (LengthRead (step slots (data_at (addr t.job.from)) 0 0 none) me)
-    measures = copier_reads slots id (data_at (addr t.job.from)) me is (ReadLength mine.number) refl tt Word (λ n. measured_view n mine) (LengthRead (step slots (data_at (addr t.job.from)) 0 0 none) me)
+    pub measures : (a : ℕ) → a ≡ data_at (addr t.job.from) → Allows Running slots id me a (λ n. n) (LengthRead (step slots a 0 0 none) me)
+    measures a here = subst (λ z. Allows Running slots id me z (λ n. n) (LengthRead (step slots z 0 0 none) me)) (sym here) (copier_reads slots id (data_at (addr t.job.from)) me is (ReadLength mine.number) refl tt Word (λ n. measured_view n mine) (LengthRead (step slots (data_at (addr t.job.from)) 0 0 none) me)
         (λ ws b os f at. measure_step ws b os f mine at t task)
-        (λ ws b os f at tells. ((source_lies (state_of ws b os) f.law mine.number t (has ws b os f mine at t task)).1, tells))
+        (λ ws b os f at tells. ((source_lies (state_of ws b os) f.law mine.number t (has ws b os f mine at t task)).1, tells)))
 
-    pub reads_source : (n i : ℕ) → mine.length ≡ Some n → i < words_for n →
-        Allows Running slots id me (data_at (addr t.job.from + 1 + i)) (λ n. n) (SourceRead (step slots (data_at (addr t.job.from + 1 + i)) 0 0 none) me)
-    reads_source n i long low = copier_reads slots id (data_at (addr t.job.from + 1 + i)) me is (Read mine.number i) refl tt Word (λ x. word_read_view i x mine)
+    pub reads_source : (n i a : ℕ) → mine.length ≡ Some n → i < words_for n → a ≡ data_at (addr t.job.from + 1 + i) → Allows Running slots id me a (λ n. n) (SourceRead (step slots a 0 0 none) me)
+    reads_source n i a long low here = subst (λ z. Allows Running slots id me z (λ n. n) (SourceRead (step slots z 0 0 none) me)) (sym here) (copier_reads slots id (data_at (addr t.job.from + 1 + i)) me is (Read mine.number i) refl tt Word (λ x. word_read_view i x mine)
         (SourceRead (step slots (data_at (addr t.job.from + 1 + i)) 0 0 none) me)
         (λ ws b os f at. read_step ws b os f mine at t task n i long low)
         (λ ws b os f at tells k u other e. let x : ℕ = slice_index ws (data_at (addr t.job.from + 1 + i)) in
         let from : addr t.job.from ≡ addr u.job.from = ap (λ (z : Task). addr z.job.from) (one_task u other) in let same : i ≡ k = omega (arith, e, from) in
-        subst (λ z. CopierTells me.0 (Copier (word_read_view i x mine)) (Read mine.number z) (Word x) (word_read_view z x mine)) same tells)
+        subst (λ z. CopierTells me.0 (Copier (word_read_view i x mine)) (Read mine.number z) (Word x) (word_read_view z x mine)) same tells))
 
-    pub writes_target : (i x : ℕ) → words_read mine i ≡ Some x → Allows Running slots id me (data_at (addr t.job.to + 1 + i)) (λ _. x) (λ _. TargetWritten (step slots (data_at (addr t.job.to + 1 + i)) x 0 none) me x)
-    writes_target i x got = copier_makes slots id (data_at (addr t.job.to + 1 + i)) me is (Write mine.number i) refl tt (λ _. Done) (λ _. word_written_view i mine)
+    pub writes_target : (i x a : ℕ) → words_read mine i ≡ Some x → a ≡ data_at (addr t.job.to + 1 + i) → Allows Running slots id me a (λ _. x) (λ _. TargetWritten (step slots a x 0 none) me x)
+    writes_target i x a got here = subst (λ z. Allows Running slots id me z (λ _. x) (λ _. TargetWritten (step slots z x 0 none) me x)) (sym here) (copier_makes slots id (data_at (addr t.job.to + 1 + i)) me is (Write mine.number i) refl tt (λ _. Done) (λ _. word_written_view i mine)
         (λ _. TargetWritten (step slots (data_at (addr t.job.to + 1 + i)) x 0 none) me x) (λ _. x)
         (λ ws b os f at. write_step ws b os f mine at t task i x got)
         (λ ws b os f at tells k u other e.
         let to : addr t.job.to ≡ addr u.job.to = ap (λ (z : Task). addr z.job.to) (one_task u other) in let same : i ≡ k = omega (arith, e, to) in
-        subst (λ z. CopierTells me.0 (Copier (word_written_view i mine)) (Write mine.number z) Done (word_written_view z mine)) same tells)
+        subst (λ z. CopierTells me.0 (Copier (word_written_view i mine)) (Write mine.number z) Done (word_written_view z mine)) same tells))
 
     pub finishes : (n x : ℕ) → mine.length ≡ Some n → ((i : ℕ) → i < words_for n → words_written mine i ≡ true) → x ≡ job_word (Finished t.job mine.number) →
         Allows Running slots id me (job_at t.number) (λ _. x) (λ _. JobFinished (step slots (job_at t.number) x 0 none) me x)

@@ -7,7 +7,7 @@ use Rattle.far_core.specs.declared.event.Reply.{Reply}
 use Rattle.far_core.specs.events.Legal.{Legal}
 use Rattle.far_core.specs.events.Step.{after, answer}
 use Rattle.far_core.specs.state.State.{State}
-use Rattle.far_table.specs.View.{BookView, CopierView, OtherViews, OwnerView, Role, View, Book, Owner, Copier, AsOwner, AsCopier, idle, seat_of, with_copier, with_owner}
+use Rattle.far_table.specs.View.{BookView, CopierView, OtherViews, OwnerView, Role, View, Book, Owner, Copier, AsOwner, AsCopier, idle, with_copier, with_owner}
 use Rattle.far_table.specs.Rule.{Facts}
 use Rattle.far_table.specs.StateOf.{state_of}
 use Rattle.far_table.specs.Views.{nobody}
@@ -65,12 +65,6 @@ pub record RoleMayBe (v : Role) (x : State) : Type 0 where
 abbrev pub RoleStands : Role → Type 0
 RoleStands v = ∥ ((x : State) × RoleMayBe v x) ∥₁
 
--- the seat's view before and after the step: the event was made
-pub record RoleTells (now : View) (e : Event) (v : Role) (r : Reply) (v' : Role) : Type 0 where
-  pub after_is : now ≡ seat_of v'
-  pub number : number_in v' ≡ number_in v
-  pub made : RoleMade e v r v'
-
 -- ---- of an owner
 abbrev pub OwnerMade : Event → OwnerView → Reply → OwnerView → Type 0
 OwnerMade e o r o' = RoleMade e (AsOwner o) r (AsOwner o')
@@ -81,8 +75,11 @@ OwnerMayBe o x = RoleMayBe (AsOwner o) x
 abbrev pub HasState : OwnerView → Type 0
 HasState o = RoleStands (AsOwner o)
 
-abbrev pub Tells : View → View → Event → Reply → OwnerView → Type 0
-Tells before now e r o' = RoleTells now e (AsOwner (owner_of before)) r (AsOwner o')
+-- the seat's view before and after the step: the event was made
+pub record Tells (before now : View) (e : Event) (r : Reply) (o' : OwnerView) : Type 0 where
+  pub after_is : now ≡ Owner o'
+  pub number : o'.number ≡ (owner_of before).number
+  pub made : OwnerMade e (owner_of before) r o'
 
 -- the event was refused: in some state that met the rule, in which the owner's view was o, it wasn't legal
 pub record OwnerRefused (e : Event) (o : OwnerView) : Type 0 where
@@ -107,5 +104,8 @@ CopierMayBe v x = RoleMayBe (AsCopier v) x
 abbrev pub CopierStands : CopierView → Type 0
 CopierStands v = RoleStands (AsCopier v)
 
-abbrev pub CopierTells : View → View → Event → Reply → CopierView → Type 0
-CopierTells before now e r v' = RoleTells now e (AsCopier (copier_of before)) r (AsCopier v')
+-- the seat's view before and after the step: the event was made
+pub record CopierTells (before now : View) (e : Event) (r : Reply) (v' : CopierView) : Type 0 where
+  pub after_is : now ≡ Copier v'
+  pub number : v'.number ≡ (copier_of before).number
+  pub made : CopierMade e (copier_of before) r v'

@@ -150,7 +150,7 @@ impl<D: Device> CopySeat<D> {
     fn peek(&mut self, number: u8) -> u64
         requires job { number < JOBS }
         ensures same { self.new ≡ self.old }
-        ensures event { CopierMade (Event.PeekJob self.old.view.number number) self.old.view (Reply.Word result) self.old.view }
+        ensures event { CopierMade (Event.PeekJob self.old.view.number number) self.old.view (Reply.Word result) self.new.view }
     {
         self.table
             .shared
