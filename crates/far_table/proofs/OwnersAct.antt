@@ -30,6 +30,7 @@ use Rattle.far_table.proofs.HeldFacts.{held_facts, held_so}
 use Rattle.far_table.proofs.Owners.{known_by, own_is}
 use Rattle.far_table.proofs.OwnSteps.{OwnStep, own_facts}
 use Rattle.far_table.proofs.PinSteps.{pin_step}
+use Rattle.far_table.proofs.Places.{one_there}
 use Rattle.far_table.proofs.Steps.{close_step, few, open_step, read_epoch_step}
 use Rattle.far_table.proofs.StoreSteps.{store_step}
 
@@ -44,11 +45,6 @@ open_by (Some n) ne = refl
 unused_by : (x : Option ObjectView) → is_some x ≡ false → x ≡ None
 unused_by None e = refl
 unused_by (Some x) e = absurd (false≢true (sym e))
-
-pub one_there : (os : List OwnerView) (m : ℕ) → m < length os → (o : OwnerView) × (get_elem? os m ≡ some o)
-one_there [] m lt = absurd (omega (arith, lt))
-one_there (o ∷ os) zero lt = (o, refl)
-one_there (o ∷ os) (suc m) lt = one_there os m (omega (arith, lt))
 
 module _ (ws : List ℕ) (b : BookView) (os : OtherViews) (f : Facts ws b os) where
   abbrev s : State

@@ -14,7 +14,7 @@ use Rattle.far_table.specs.First.{first_copier, first_others, first_owner}
 use Rattle.far_table.specs.Layout.{TABLE_WORDS}
 use Rattle.far_table.specs.Rows.{over}
 use Rattle.far_table.specs.Rule.{Facts, Has}
-use Rattle.far_table.specs.Seats.{Seated}
+use Rattle.far_table.specs.Seats.{CopierSeated, Seated}
 use Rattle.far_table.specs.StateOf.{book_state, state_of}
 use Rattle.far_table.specs.Views.{held_at, nobody, object_at, uses}
 
@@ -83,6 +83,10 @@ IsDealer seat id = (seat.table_id ≡ id) × (id.words ≡ TABLE_WORDS) × (seat
 -- the seats of so many owners, by number, all of one table
 abbrev pub Seats : TableId → (ℕ → OwnerView) → ℕ → List Seated
 Seats id owner n = map (λ m. record { table = id; view = owner m }) (range_with_len 0 n)
+
+-- and of so many copiers
+abbrev pub CopierSeats : TableId → (ℕ → CopierView) → ℕ → List CopierSeated
+CopierSeats id copier n = map (λ c. record { table = id; view = copier c }) (range_with_len 0 n)
 
 -- how the book's view is cut in two: the first of those that have no seat gets one
 abbrev pub others_rest : List Role → List Role
