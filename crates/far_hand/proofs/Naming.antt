@@ -162,7 +162,7 @@ module _ (s : State) (law : Law s) (found : ℕ → ℕ) (counted : ℕ → Bool
       let y = copied_fact s p from to j eb in
       ap (λ k. Some k) (one_job from to i j x.0 y.0 (finished_too from to i x.0 x.1) y.1)
 
-  job_too : (len ds : ℕ) (from to : Place) → read_of new ≡ Some (Near len ds to no_marks) → MayMove o p len ds from to ⊎ WasCopied o p from to → copied_job o p from to ≡ copied_job s p from to
+  pub job_too : (len ds : ℕ) (from to : Place) → read_of new ≡ Some (Near len ds to no_marks) → MayMove o p len ds from to ⊎ WasCopied o p from to → copied_job o p from to ≡ copied_job s p from to
   job_too len ds from to says (inl h) =
       let bounds = read_says new (Near len ds to no_marks) fits says in
       none_too from to (copied_job o p from to) (copied_job s p from to) refl refl (unbegun s law to h.span.next (omega (arith, bounds.0)))

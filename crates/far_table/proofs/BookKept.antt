@@ -8,6 +8,7 @@ use Rattle.far_hand.specs.MayBe.{Shows}
 use Rattle.far_hand.specs.Others.{OthersChange}
 use Rattle.far_hand.specs.Quiet.{RestsAt}
 use Rattle.far_hand.proofs.Finding.{finds_more}
+use Rattle.far_hand.proofs.JobsFound.{job_more}
 use Rattle.far_hand.proofs.Masking.{shown_still}
 use Rattle.far_table.specs.View.{BookView}
 use Rattle.far_table.specs.Rule.{BookTies}
@@ -26,6 +27,7 @@ module _ (o s t : State) (law : Law s) (shown : Shows o s) (change : OthersChang
     words = λ a known. kept_word a known ∙ shown.words a known;
     headers = λ a starts. let head = shown.headers a (sym (ap (λ f. f a) same_starts) ∙ starts) in
         kept_word a (subst (λ w. w < 2 ^ 64) head (law.spans.word_fits a)) ∙ head;
+    jobs = λ j. job_more (o.copying.word j) (s.copying.word j) (t.copying.word j) (shown.jobs j) (change.jobs j);
     rest = change.rest ∙ ap (λ (z : State). beside z t) shown.rest;
   }
 

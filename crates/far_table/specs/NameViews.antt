@@ -1,7 +1,10 @@
--- How an exchange of a cell by the book's seat changes its view.
-use Rattle.std.specs.Prelude.{ℕ, ◌+◌, ◌==◌, true, cond, Option, Some, None, List, [], ◌∷◌, ◌++◌}
+-- How an exchange of a cell by the book's seat changes its view, and how a job that it offers does.
+use Rattle.std.specs.Prelude.{ℕ, ◌+◌, ◌==◌, true, false, cond, Option, Some, None, List, [], ◌∷◌, ◌++◌}
+use Rattle.far_word.specs.declared.job.Job.{Job}
+use Rattle.far_word.specs.declared.job.JobWord.TheVariants.{Offered}
 use Rattle.far_word.specs.declared.pointer.Place.{Place}
 use Rattle.far_word.specs.Header.{head_word}
+use Rattle.far_word.specs.Job.{job_word}
 use Rattle.far_word.specs.Pointer.{read_of}
 use Rattle.far_word.specs.Sizes.{size_of, words_for}
 use Rattle.far_core.specs.declared.event.Kind.TheVariants.{Open, Sealed}
@@ -80,3 +83,13 @@ exchanged_view p old new found b = cond (found == old) (named_view p old new b) 
 -- what it answers
 abbrev pub exchange_reply : ℕ → ℕ → Reply
 exchange_reply old found = cond (found == old) Done (Word found)
+
+-- ---- a job is offered
+-- the span at its target is taken, and no word is known any more but headers
+abbrev pub offered_view : ℕ → ℕ → ℕ → Job → BookView → BookView
+offered_view j len ds job b = record (span_view job.pointer len ds job.to b) {
+  jobs = (j, job_word (Offered job)) ∷ b.jobs;
+  since = (j, b.epoch) ∷ b.since;
+  named = (j, false) ∷ b.named;
+  known = [];
+}
