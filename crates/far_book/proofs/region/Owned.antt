@@ -70,7 +70,7 @@ module _ (s t : State) (law : Law s) (next : Law t) (change : OwnersChange s t) 
     room = notes.room;
     cells = notes.cells;
     cell = λ p lt. notes.cell p lt ∙ sym (same_free p);
-    unoffered = notes.unoffered;
+    jobs = notes.jobs;
   }
 
   pub owned : (ledger : Ledger) (held : ℕ → Option (List ℕ)) (is_honest : Bool) → InOrder s ledger held is_honest → InOrder t ledger held is_honest
