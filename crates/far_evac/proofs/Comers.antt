@@ -39,9 +39,9 @@ use Rattle.far_core.proofs.Keeps.{step_keeps}
 use Rattle.far_core.proofs.Namings.{naming_only}
 use Rattle.far_core.proofs.Owing.{is_fact}
 use Rattle.far_core.proofs.Put.{put_both}
-use Rattle.far_hand.specs.Owners.{OwnersChange}
+use Rattle.far_hand.specs.Others.{OthersChange}
 use Rattle.far_hand.proofs.Finding.{near_known}
-use Rattle.far_hand.proofs.OwnersWork.{change}
+use Rattle.far_hand.proofs.OthersWork.{change}
 use Rattle.far_book.proofs.region.Places.{next_unsealed}
 use Rattle.far_evac.specs.Laws.{but_evac}
 use Rattle.far_evac.specs.Strays.{ComersJoin, EventsBringNone, NoneComes, OwnersBringNone}
@@ -174,7 +174,7 @@ pub record Brings (s t : State) : Type 0 where
 still_none : (s t : State) → t.epoch ≡ s.epoch → NoneComes s t → Brings s t
 still_none s t same comes = record { rises = omega (arith, same); none = λ _. comes }
 
-owners_none : (s t : State) → t.epoch ≡ s.epoch → OwnersChange s t → Brings s t
+owners_none : (s t : State) → t.epoch ≡ s.epoch → OthersChange s t → Brings s t
 owners_none s t same owners = still_none s t same (owners_bring_none s t owners)
 
 -- what is copied brings nothing

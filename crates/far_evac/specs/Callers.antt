@@ -9,7 +9,7 @@ use Rattle.far_core.specs.events.Naming.{is_dropped}
 use Rattle.far_core.specs.state.Law.{Law}
 use Rattle.far_core.specs.state.Room.{room}
 use Rattle.far_core.specs.state.State.{State}
-use Rattle.far_hand.specs.Owners.{OwnersChange}
+use Rattle.far_hand.specs.Others.{OthersChange}
 use Rattle.far_book.specs.book.Ages.{SealsBehind}
 use Rattle.far_book.specs.book.Dealing.{goal, moved_now, order_moved}
 use Rattle.far_hand.specs.Quiet.{IsQuietNear}
@@ -48,7 +48,7 @@ StillStepsAside = (s t : State) → t.mutators ≡ s.mutators → t.logs ≡ s.l
 
 -- whatever owners do
 abbrev pub OwnersStepAside : Type 0
-OwnersStepAside = (s t : State) → OwnersChange s t → StepsAside s t
+OwnersStepAside = (s t : State) → OthersChange s t → StepsAside s t
 
 -- a new object is placed where room is
 abbrev pub PlacingStepsAside : Type 0

@@ -11,7 +11,7 @@ use Rattle.far_core.specs.events.Ranges.{after_events}
 use Rattle.far_core.specs.events.Step.{Fits}
 use Rattle.far_core.specs.state.Law.{Law}
 use Rattle.far_core.specs.state.State.{State}
-use Rattle.far_hand.specs.Owners.{OwnersChange}
+use Rattle.far_hand.specs.Others.{OthersChange}
 use Rattle.far_book.specs.book.Own.{own_part}
 use Rattle.far_evac.specs.declared.answers.Polled.{Polled}
 use Rattle.far_evac.specs.declared.answers.Progress.{Progress}
@@ -100,7 +100,7 @@ ComersJoin = (s t u : State) → NoneComes s t → NoneComes t u → NoneComes s
 
 -- whatever owners do while the book works
 abbrev pub OwnersBringNone : Type 0
-OwnersBringNone = (s t : State) → OwnersChange s t → NoneComes s t
+OwnersBringNone = (s t : State) → OthersChange s t → NoneComes s t
 
 -- and any row of events, an owner's or the book's, that leaves the epoch as it is
 abbrev pub EventsBringNone : Type 0

@@ -17,7 +17,7 @@ use Rattle.far_core.specs.world.WorldOf.{world_of}
 use Rattle.far_core.proofs.Owing.{keeps}
 use Rattle.far_core.proofs.Steps.{agrees}
 use Rattle.far_hand.specs.Makers.{ByOwner, is_owner, maker}
-use Rattle.far_hand.proofs.OwnersWork.{change}
+use Rattle.far_hand.proofs.OthersWork.{change}
 use Rattle.far_table.specs.View.{BookView, ObjectView, OwnerView}
 use Rattle.far_table.specs.Layout.{TABLE_WORDS, job_in}
 use Rattle.far_table.specs.Rule.{BookTies, Facts, Has, OwnerTies}

@@ -14,17 +14,17 @@ use Rattle.far_core.specs.state.State.{State, addr}
 use Rattle.far_core.proofs.Bounds.{span_len}
 use Rattle.far_core.proofs.Keeps.{step_keeps}
 use Rattle.far_book.specs.declared.ledger.Ledger.{Ledger}
-use Rattle.far_hand.specs.Owners.{OwnersChange}
+use Rattle.far_hand.specs.Others.{OthersChange}
 use Rattle.far_book.specs.book.FarSide.{InOrder}
 use Rattle.far_book.specs.book.Ledger.{Notes}
 use Rattle.far_book.specs.book.Own.{own_part}
-use Rattle.far_hand.proofs.OwnersWork.{step_changes}
+use Rattle.far_hand.proofs.OthersWork.{step_changes}
 use Rattle.far_book.proofs.region.FarSide.{far_owned}
 use Rattle.far_book.proofs.region.Founds.{names_found, free_found, free_known}
 use Rattle.far_book.proofs.region.Owns.{own_law}
 use Rattle.far_book.proofs.region.SpanLists.{taken_same}
 
-module _ (s t : State) (law : Law s) (next : Law t) (change : OwnersChange s t) where
+module _ (s t : State) (law : Law s) (next : Law t) (change : OthersChange s t) where
   -- a header is no data word
   header_stays : (a : ℕ) → s.starts a ≡ true → t.word a ≡ s.word a
   header_stays a begun = change.words a (λ loud.

@@ -1,5 +1,5 @@
 use Rattle.far_hand.proofs.Listing.{acts_out, goes_on}
-use Rattle.far_hand.proofs.beset.Beset.owners_act_out_the_list.Goals as goal
+use Rattle.far_hand.proofs.beset.Beset.others_act_out_the_list.Goals as goal
 
 pub returns-clause-acted : goal.returns-clause-acted
 returns-clause-acted c = λ calls later runs. acts_out calls c.args.self.now later runs
