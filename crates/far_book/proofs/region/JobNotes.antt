@@ -1,7 +1,7 @@
 -- What is written down of jobs is right again after they have changed.
 use Rattle.std.proofs.Common.{◌≡◌, ◌≢◌, ℕ, ◌<◌, ◌≤◌, ◌∙◌, Bool, true, false, arith, ap, refl, sym, subst, inl, inr, Option, Some, None}
-use Rattle.std.specs.Prelude.{◌==◌, ◌&&◌, ◌||◌, ◌⊎◌, cond, is_some, not, option_map, length}
-use Rattle.std.proofs.lemmas.Bool.{cases_eq, eq-eqb, eqb-true, ne_eqb, cond_both, false≢true, true≢false}
+use Rattle.std.specs.Prelude.{◌==◌, ◌&&◌, ◌||◌, ◌⊎◌, is_some, not, option_map, length}
+use Rattle.std.proofs.lemmas.Bool.{cases_eq, eq-eqb, eqb-true, ne_eqb, false≢true, true≢false}
 use Rattle.far_word.specs.declared.job.Job.{Job}
 use Rattle.far_word.specs.declared.pointer.PtrWord.{PtrWord}
 use Rattle.far_word.specs.declared.pointer.PtrWord.TheVariants.{Free, Near, Far}
@@ -13,11 +13,10 @@ use Rattle.far_core.specs.state.Opening.{no_copying}
 use Rattle.far_core.specs.state.State.{Copying, State, put}
 use Rattle.far_core.proofs.KeepJobs.{job_low, unworded}
 use Rattle.far_core.proofs.events.Look.{or_right}
-use Rattle.far_core.proofs.Put.{put_other, put_same}
+use Rattle.far_core.proofs.Put.{put_other}
 use Rattle.far_book.specs.declared.jobs.Jobs.{Jobs}
-use Rattle.far_book.specs.declared.jobs.Noted.{Noted}
 use Rattle.far_book.specs.declared.ledger.Ledger.{Ledger}
-use Rattle.far_book.specs.book.Jobs.{EndsJobs, NotesJobs, WritesJob, copies_at, ended, is_good, lies_in, noted_at, noted_of}
+use Rattle.far_book.specs.book.Jobs.{EndsJobs, NotesJobs, copies_at, ended, is_good, lies_in, noted_at, noted_of}
 use Rattle.far_book.specs.book.Ledger.{Notes}
 use Rattle.far_book.specs.book.NumberSet.{has}
 use Rattle.far_book.specs.book.Own.{own_part, unread}
@@ -50,6 +49,14 @@ no_jobs epoch round jobs sized noted waiting =
 module _ (epoch : ℕ) (round : ℕ → Bool) (k : Copying) (jobs : Jobs) (notes : NotesJobs epoch round k jobs) where
   pub idle : (j : ℕ) → j < JOBS → has jobs.waiting j ≡ false → noted_at jobs j ≡ None
   idle j lt none = notes.noted j ∙ none_noted (job_at k.word j) (is_good epoch round k.since j) (sym (notes.waiting j (omega arith)) ∙ none)
+
+  -- how far they have come isn't written down
+  pub notes_same : (word : ℕ → ℕ) → ((j : ℕ) → job_at word j ≡ job_at k.word j) → NotesJobs epoch round (record k { word = word }) jobs
+  notes_same word same = record {
+    sized = notes.sized;
+    noted = λ j. notes.noted j ∙ ap (λ o. noted_of o (is_good epoch round k.since j)) (sym (same j));
+    waiting = λ j lt. notes.waiting j lt ∙ ap is_some (sym (same j));
+  }
 
   -- the rounds of some are over
   pub notes_ended : (late : ℕ) (left : ℕ → Bool) (new : Jobs) (ends : Job → Bool) → EndsJobs ends jobs new →

@@ -1,5 +1,5 @@
 -- The book's own part of a state: it keeps the law, has the same spans, and changes by the book's calls alone.
-use Rattle.std.proofs.Common.{◌≡◌, ℕ, ◌+◌, ◌-◌, ◌*◌, ◌^◌, ◌<◌, ◌≤◌, true, false, cond, zero, suc, arith, sym, refl, ap, subst, ◌∙◌, Some, None, List, [], ◌∷◌, inl, inr, nat_lt}
+use Rattle.std.proofs.Common.{◌≡◌, ℕ, ◌+◌, ◌-◌, ◌*◌, ◌^◌, ◌<◌, ◌≤◌, true, false, cond, zero, suc, arith, sym, refl, ap, subst, ◌∙◌, Some, List, [], ◌∷◌, inl, inr, nat_lt}
 use Rattle.std.specs.Prelude.{Contains, not}
 use Rattle.std.proofs.lemmas.Bool.{cond_both, cases_eq, false≢true, ltb-true, ltb-false}
 use Rattle.std.proofs.lemmas.Nat.{pow_pos}

@@ -10,7 +10,6 @@ use Rattle.far_core.specs.declared.event.Event.TheVariants.{Advance, Clear}
 use Rattle.far_core.specs.events.Advance.{advanced}
 use Rattle.far_core.specs.events.Clear.{evac_cleared, round_left}
 use Rattle.far_core.specs.events.Legal.{Legal}
-use Rattle.far_core.specs.events.Step.{after}
 use Rattle.far_core.specs.laws.Observed.{live_bytes}
 use Rattle.far_core.specs.state.Law.{Law}
 use Rattle.far_core.specs.state.Spans.{names_place, spans_of}

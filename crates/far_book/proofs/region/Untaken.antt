@@ -1,8 +1,6 @@
 -- What a job's word says without its copier.
-use Rattle.std.proofs.Common.{◌≡◌, ◌≢◌, ℕ, ◌^◌, ◌<◌, ◌∙◌, Bool, true, false, ap, refl, sym, subst, Option, Some, None}
+use Rattle.std.proofs.Common.{◌≡◌, ◌≢◌, ℕ, ◌^◌, ◌<◌, ◌∙◌, Bool, ap, refl, sym, subst, Option, Some, None}
 use Rattle.std.specs.Prelude.{IsSome}
-use Rattle.std.proofs.lemmas.Bool.{false≢true}
-use mathlib.Core.Path.{fun_ext}
 use Rattle.far_word.specs.declared.job.Job.{Job}
 use Rattle.far_word.specs.declared.job.JobWord.{JobWord}
 use Rattle.far_word.specs.declared.job.JobWord.TheVariants.{Empty, Offered, Taken, Finished}
