@@ -19,6 +19,7 @@ pub mod Fetching
 pub mod Founds
 pub mod Handed
 pub mod InOrders
+pub mod JobNotes
 pub mod Learning
 pub mod LearningOn
 pub mod Leaving
@@ -45,5 +46,6 @@ pub mod SealedKept
 pub mod Settled
 pub mod SpanLists
 pub mod Starts
+pub mod Untaken
 pub mod Whole
 pub mod Written

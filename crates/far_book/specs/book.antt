@@ -11,6 +11,7 @@ pub mod FarSide
 pub mod Fetching
 pub mod HandedOn
 pub mod Home
+pub mod Jobs
 pub mod Laws
 pub mod Ledger
 pub mod Moving

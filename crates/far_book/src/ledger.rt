@@ -1,4 +1,4 @@
-//! What the book has written down of logs and cells, so that none of its calls searches.
+//! What the book has written down of logs, cells and jobs, so that none of its calls searches.
 
 ghost use Rattle.std.specs.Prelude.{◌≡◌, ◌≢◌, ℕ, ◌+◌, ◌-◌, ◌*◌, ◌/◌, ◌<◌, ◌≤◌, ◌==◌, true, false, Some, None, List, [], IfOk, MatchOption};
 ghost use Rattle.std.specs.Vec.{vec_len, vec_capacity};
@@ -15,6 +15,7 @@ ghost use Rattle.far_book.specs.book.Own.{own_part};
 ghost use Rattle.far_book.specs.book.Releasing.{GivesBack, order_without};
 ghost use Rattle.far_book.specs.book.Rows.{row_of};
 
+use crate::jobs::Jobs;
 use crate::number_set::NumberSet;
 use far_core::{Kind, Shape};
 use far_log::LogRow;
@@ -33,7 +34,7 @@ pub(crate) struct Filled {
     pub(crate) live: u16,
 }
 
-/// What the book has written down of logs and cells. All its room is taken when it is made.
+/// What the book has written down of logs, cells and jobs. All its room is taken when it is made.
 #[derive(Debug, Drop)]
 pub(crate) struct Ledger {
     /// The open log.
@@ -45,6 +46,8 @@ pub(crate) struct Ledger {
     pub(crate) order: Vec<u8>,
     /// The free cells, [`SETS`] sets a mutator.
     pub(crate) free_cells: Vec<NumberSet>,
+    /// The jobs that are offered to copiers.
+    pub(crate) jobs: Jobs,
 }
 
 impl Ledger {
@@ -64,6 +67,7 @@ impl Ledger {
             filled: vec![in alloc; Filled { tail: 0, live: 0 }; logs]?,
             order: Vec::with_capacity(alloc, logs)?,
             free_cells: vec![in alloc; NumberSet::below(64); sets]?,
+            jobs: Jobs::new(),
         })
     }
 

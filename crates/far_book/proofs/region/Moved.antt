@@ -42,6 +42,7 @@ use Rattle.far_book.specs.book.Renaming.{seen, MayRename, Renamed}
 use Rattle.far_hand.proofs.Finding.{near_found}
 use Rattle.far_book.proofs.region.Calls.{put_put}
 use Rattle.far_book.proofs.region.Copying.{below_outside, first, from_inside, layout_there, outside, start_outside}
+use Rattle.far_book.proofs.region.Untaken.{no_copy_all}
 
 -- ---- the forms
 pub no_stay : (from to : Place) (m : Marks) → m.evac ≡ true → is_stay from to m ≡ false
@@ -69,7 +70,7 @@ module _ (s : State) (p old len ds : ℕ) (place : Place) (m : Marks) (is : s.ce
 
 -- where the next span of a log may stand no job has copied anything
 pub no_copy : (s : State) → Law (own_part s) → (p : ℕ) (from to : Place) → IsNext s to → to.at < LOG_WORDS → NoCopy s.copying p from to
-no_copy s law p from to next low = no_copy_there (own_part s) law p from to (unbegun (own_part s) law to next low)
+no_copy s law p from to next low = no_copy_all s.copying p from to (no_copy_there (own_part s) law p from to (unbegun (own_part s) law to next low))
 
 pub no_copy_in_room : (s : State) → Law (own_part s) → (p size : ℕ) (from to : Place) (reserve : Bool) → 0 < size → size ≤ LOG_WORDS → room s size reserve ≡ Some to → NoCopy s.copying p from to
 no_copy_in_room s law p size from to reserve some most found =

@@ -29,6 +29,7 @@ use Rattle.far_book.specs.declared.ledger.Filled.{Filled}
 use Rattle.far_book.specs.declared.ledger.Ledger.{Ledger}
 use Rattle.far_book.specs.book.Effects.{near_word, with_free_cell}
 use Rattle.far_book.specs.book.Ledger.{Notes, filled_of, is_noted_free, Takes, Loses, Frees}
+use Rattle.far_book.specs.book.Jobs.{NotesJobs}
 use Rattle.far_book.specs.book.NumberSet.{has}
 use Rattle.far_book.specs.book.Placeable.{Placeable, with_object}
 use Rattle.far_book.proofs.region.Places as places
@@ -152,7 +153,7 @@ module _ (s : State) (ledger new : Ledger) (notes : Notes s ledger) (p len ds : 
     room = omega (arith, takes.room, notes.room);
     cells = takes.cells ∙ notes.cells;
     cell = cell_then;
-    unoffered = notes.unoffered;
+    jobs = subst (NotesJobs s.round_epoch s.round s.copying) (sym takes.jobs) notes.jobs;
   }
 
 -- ---- a cell is freed
@@ -180,7 +181,7 @@ module _ (s : State) (ledger new : Ledger) (notes : Notes s ledger) (p : ℕ) (i
         room = subst (λ (n : Ledger). s.logs ≤ vec_capacity n.order) (sym frees.rest) notes.room;
         cells = frees.cells ∙ notes.cells;
         cell = cell_freed frees.cell;
-        unoffered = notes.unoffered;
+        jobs = subst (λ (n : Ledger). NotesJobs s.round_epoch s.round s.copying n.jobs) (sym frees.rest) notes.jobs;
       }
 
   -- the object was near
@@ -209,6 +210,6 @@ module _ (s : State) (ledger new : Ledger) (notes : Notes s ledger) (p : ℕ) (i
         once = subst (λ (n : Ledger). IsDistinct eqb n.order.items) (sym rest) notes.once;
         room = subst (λ (n : Ledger). s.logs ≤ vec_capacity n.order) (sym rest) notes.room;
         cells = frees.cells ∙ ap (λ (n : Ledger). vec_len n.free_cells) loses.rest ∙ notes.cells;
-        unoffered = notes.unoffered;
+        jobs = subst (λ (n : Ledger). NotesJobs s.round_epoch s.round s.copying n.jobs) (sym rest) notes.jobs;
         cell = cell_freed (λ q. frees.cell q ∙ ap (λ (n : Ledger). (q == p) || is_noted_free n q) loses.rest);
       }

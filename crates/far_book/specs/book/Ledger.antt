@@ -16,8 +16,8 @@ use Rattle.far_book.specs.declared.ledger.Filled.{Filled}
 use Rattle.far_book.specs.declared.ledger.Ledger.{Ledger}
 use Rattle.far_book.specs.declared.ledger.TheConstants.{SETS}
 use Rattle.far_hand.specs.Finds.{body_of}
+use Rattle.far_book.specs.book.Jobs.{NotesJobs}
 use Rattle.far_book.specs.book.NumberSet.{has}
-use Rattle.far_book.specs.book.Own.{HasNoJob}
 
 -- what is written down of a log
 abbrev pub filled_of : Ledger → ℕ → Filled
@@ -44,8 +44,8 @@ pub record Notes (s : State) (ledger : Ledger) : Type 0 where
   -- which cells are free
   pub cells : vec_len ledger.free_cells ≡ SETS * s.mutators
   pub cell : (p : ℕ) → p < CELLS * s.mutators → is_noted_free ledger p ≡ (s.cell p == 0)
-  -- nothing is copied beside it
-  pub unoffered : HasNoJob s
+  -- the jobs
+  pub jobs : NotesJobs s.round_epoch s.round s.copying ledger.jobs
 
 -- it is right about a state that has this log
 abbrev pub KnowsLog : State → Ledger → ℕ → Type 0
@@ -84,6 +84,7 @@ pub record Takes (old new : Ledger) (p size : ℕ) (place : Place) : Type 0 wher
   pub there : (l : ℕ) → l ≢ place.log → filled_of new l ≡ filled_of old l
   pub cells : vec_len new.free_cells ≡ vec_len old.free_cells
   pub cell : (q : ℕ) → is_noted_free new q ≡ (not (q == p) && is_noted_free old q)
+  pub jobs : new.jobs ≡ old.jobs
 
 -- a live span of a log is dead, and nothing else changes
 pub record Loses (old new : Ledger) (log size : ℕ) : Type 0 where
