@@ -31,6 +31,7 @@ pub mod Tables
 pub mod Seating
 pub mod NameRows
 pub mod NameSteps
+pub mod BookJobs
 pub mod BookKnown
 pub mod BookRounds
 pub mod BookWords

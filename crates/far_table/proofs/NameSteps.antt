@@ -174,12 +174,12 @@ module _ (s : State) (law : Law s) (p : ℕ) where
   unheld (Fetches len ds place) old new won n legal = none_held (ap held_place (ap read_of won ∙ n.0.1))
 
 -- where a header stands, it is this word
-header_is : (h : Option ℕ) (w k : ℕ) → ((x : ℕ) → h ≡ Some x → w ≡ x) → is_some h ≡ true → w ≡ head_or h k
+pub header_is : (h : Option ℕ) (w k : ℕ) → ((x : ℕ) → h ≡ Some x → w ≡ x) → is_some h ≡ true → w ≡ head_or h k
 header_is None w k same there = absurd (cc)
 header_is (Some x) w k same there = same x refl
 
 -- the headers that the view knows are those that stand there
-known_heads : (ws : List ℕ) (b : BookView) (os : OtherViews) → Facts ws b os → (a x : ℕ) → head_at b a ≡ Some x → word_in ws a ≡ x
+pub known_heads : (ws : List ℕ) (b : BookView) (os : OtherViews) → Facts ws b os → (a x : ℕ) → head_at b a ≡ Some x → word_in ws a ≡ x
 known_heads ws b os f a x e = f.book.shown.headers a (ap is_some e) ∙ ap (λ z. head_or z (over b.known unknown a)) e
 
 -- which job has copied an object that moves, is what the view says
@@ -188,13 +188,13 @@ IsJobTold b p s (Moves len ds from to) = copied_job s p from to ≡ copied_job (
 IsJobTold b p s form = Unit {0}
 
 -- ---- headers, where a span of p may begin: each of them is the word that stands there
-module _ (b : BookView) (p new : ℕ) (word : ℕ → ℕ) (old_heads : (a x : ℕ) → head_at b a ≡ Some x → word a ≡ x) where
-  span_heads : (len ds : ℕ) (place : Place) → word (addr place) ≡ head_word p len ds → (a x : ℕ) → head_at (span_view p len ds place b) a ≡ Some x → word a ≡ x
+module _ (b : BookView) (p : ℕ) (word : ℕ → ℕ) (old_heads : (a x : ℕ) → head_at b a ≡ Some x → word a ≡ x) where
+  pub span_heads : (len ds : ℕ) (place : Place) → word (addr place) ≡ head_word p len ds → (a x : ℕ) → head_at (span_view p len ds place b) a ≡ Some x → word a ≡ x
   span_heads len ds place head a x = put_both (λ v. v ≡ Some x → word a ≡ x) (head_at b) (addr place) (Some (head_word p len ds)) a
       (λ at e. let is : head_word p len ds ≡ x = cc in ap word at ∙ (head ∙ is)) (λ _ e. old_heads a x e)
 
   -- in a state in which the job that has copied the object is the one that has by the view
-  module _ (s : State) (same : s.word ≡ word) where
+  module _ (new : ℕ) (s : State) (same : s.word ≡ word) where
     move_heads : (len ds : ℕ) (from to : Place) → MayMove s p len ds from to ⊎ WasCopied s p from to → (j : Option ℕ) → copied_job s p from to ≡ j →
         (a x : ℕ) → head_at (move_view p len ds to j b) a ≡ Some x → word a ≡ x
     move_heads len ds from to legal (Some j) e = old_heads
@@ -256,7 +256,7 @@ module _ (b : BookView) (p old new : ℕ) where
         (form_done h.1.0 ∙ ap (λ (u : State). record u { word = known_word (v h.1.0) }) (sym (won_state o p old new h.1.0 (sym seen) h.1.1)))
 
     head_same : (a x : ℕ) → head_at (v h.1.0) a ≡ Some x → known_word b a ≡ x
-    head_same = form_heads b p new (known_word b) (λ a x e. ap (λ z. head_or z (over b.known unknown a)) e) o refl h.1.0 (told_itself h.1.0) h.1.2
+    head_same = form_heads b p (known_word b) (λ a x e. ap (λ z. head_or z (over b.known unknown a)) e) new o refl h.1.0 (told_itself h.1.0) h.1.2
 
     pub named_forgets : Forgets o (book_state (named_view p old new b))
     named_forgets = subst (λ z. Forgets o (book_state z)) (sym named_is)
@@ -328,7 +328,7 @@ module _ (ws : List ℕ) (b : BookView) (os : OtherViews) (f : Facts ws b os) (p
   row_becomes (Fetches len ds place) t n = λ i. record (made (Fetches len ds place)) { starts = sym (begins_put (head_at b) (addr place) (head_word p len ds)) i }
 
   words_named : known_word b' ≡ masked_word (word_in later) (λ a. is_some (head_at b' a)) (λ _. false)
-  words_named = forgotten b' (word_in later) (λ a st. header_is (head_at b' a) (word_in later a) (unknown a) (λ x e. ap (λ g. g a) (cell_after ws b os f p new few).word_is ∙ form_heads b p new s.word old_heads s refl form (told form by_view.1.1 by_view.1.2) form_legal a x e) st)
+  words_named = forgotten b' (word_in later) (λ a st. header_is (head_at b' a) (word_in later a) (unknown a) (λ x e. ap (λ g. g a) (cell_after ws b os f p new few).word_is ∙ form_heads b p s.word old_heads new s refl form (told form by_view.1.1 by_view.1.2) form_legal a x e) st)
 
   -- what was counted before, and once more where the old word has the mark, which the new one hasn't
   counted : (count before : ℕ → ℕ) → count new ≡ 0 → cell_in ws p ≡ old → (q : ℕ) → before q + count (cell_in ws q) ≡ put before p (before p + count old) q + count (cell_in later q)
