@@ -60,6 +60,7 @@ pub mod Standings
 pub mod StepsAside
 pub mod Strays
 pub mod Subjects
+pub mod Targets
 pub mod Tours
 pub mod TurnSteps
 pub mod TurnsOn

@@ -50,7 +50,6 @@ risen_is_ready m law moment risen = record {
     moment.round risen l member,
   ));
   once = moment.collection_once;
-  alone = moment.alone;
 }
 
 -- ---- the steps of a round are events

@@ -70,7 +70,7 @@ keeps_some m = record {
   marks = λ u n tally lawful is (objects, h). (objects, on_alike m objects u (after_marking u n) h (marking_alike u n (λ p. (lawful.0.cells.cell_read p).0)) (marking_held u n));
   looks = λ u k phase tally lawful is (objects, h). (objects, on_alike m objects u (record u { core = with_clear_below u.core k; phase = phase }) h (clear_alike u.core k) refl);
   walks = λ u k w tally lawful leaves walks (objects, h).
-      (objects ++ take k (live_among u.core u.collection), walks_taken m u objects h k w (risen_is_ready u lawful.0 lawful.1 (ap has_risen leaves)) walks);
+      (objects ++ take k (live_among u.core u.collection), walks_taken m u objects h lawful.0 k w (risen_is_ready u lawful.0 lawful.1 (ap has_risen leaves)) walks);
   ends = λ u tally h. h;
 }
 

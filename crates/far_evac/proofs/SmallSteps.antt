@@ -39,7 +39,6 @@ module _ (s t : State) (known : Knows s t) where
     few = subst (λ (u : State). u.logs ≤ MOST_LOGS) (sym known.rest) ready.few;
     logs = each_map held_known held ready.logs;
     once = ready.once;
-    alone = λ j. ap (λ (u : State). u.copying.word j) known.rest ∙ ready.alone j;
   }
 
   pub left_known : (held : List ℕ) → live_among t held ≡ live_among s held

@@ -77,7 +77,6 @@ module _ (s : State) (l : ℕ) (ls : List ℕ) (ready : Ready s (l ∷ ls)) wher
     few = ready.few;
     logs = held_on ls (others l ls ready.once) ready.logs.1;
     once = IsDistinct-tail eqb l ls ready.once;
-    alone = ready.alone;
   }
 
   tour_on : (ks : List ℕ) → AllByRecursion (λ k. k ≢ l) ks → tour (released s l) ks ≡ tour s ks

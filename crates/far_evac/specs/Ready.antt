@@ -9,7 +9,6 @@ use Rattle.far_word.specs.Pointer.{IsPtr, read_of}
 use Rattle.far_core.specs.declared.event.Kind.TheVariants.{Open, Sealed}
 use Rattle.far_core.specs.events.Naming.{no_marks}
 use Rattle.far_core.specs.state.State.{State}
-use Rattle.far_book.specs.book.Own.{HasNoJob}
 
 -- each object that lies in a log has EVAC
 abbrev pub AllMarked : State → ℕ → Type 0
@@ -32,5 +31,3 @@ pub record Ready (s : State) (collection : List ℕ) : Type 0 where
   pub few : s.logs ≤ MOST_LOGS
   pub logs : AllByRecursion (IsOfRound s) collection
   pub once : IsDistinct eqb collection
-  -- nothing is copied beside it
-  pub alone : HasNoJob s

@@ -20,6 +20,7 @@ use Rattle.far_evac.specs.declared.phase.Phase.TheVariants.{Idle, Evacuating}
 use Rattle.far_evac.proofs.RoomLaw.{sound_of}
 use Rattle.far_evac.proofs.SpanBytes.{Dealt}
 use Rattle.far_evac.proofs.SpansDealt.{way_dealt}
+use Rattle.far_evac.proofs.Targets.{lie_below}
 use Rattle.far_evac.proofs.Tours.{core_so}
 use Rattle.far_replay.specs.Rounds.{after_round}
 use Rattle.far_replay_laws.proofs.RoundCounts.{spans}
@@ -60,7 +61,7 @@ module _ (logs : List ℕ) where
   keeps_free = record {
     gives = λ w l ls h. freed_free w.moment.core l ls h;
     deals = λ w l ls p way ready x h. let s : State = w.moment.core in
-        dealt_free s (core_so s p way) (l ∷ ls) p (way_dealt s (sound_of s (own_law s x.law)) l ls p x.rest ready x.live (s.cell p) (finds_same (s.cell p)) way x.goes) h;
+        dealt_free s (core_so s p way) (l ∷ ls) p (way_dealt s (sound_of s (own_law s x.law)) (lie_below s (own_law s x.law)) l ls p x.rest ready x.live (s.cell p) (finds_same (s.cell p)) way x.goes) h;
   }
 
 -- ---- a walk
