@@ -46,7 +46,7 @@ use Rattle.far_book.proofs.region.Places.{next_unsealed}
 use Rattle.far_evac.specs.Laws.{but_evac}
 use Rattle.far_evac.specs.Strays.{ComersJoin, EventsBringNone, NoneComes, OwnersBringNone}
 use Rattle.far_evac.proofs.Marks.{IsNearWord, clear_sets, mark_sets}
-use Rattle.far_evac.proofs.Strays.{near_but}
+use Rattle.far_evac.proofs.NearBut.{near_but}
 use Rattle.far_evac.proofs.Framed.{name_one}
 
 -- ---- steps after each other

@@ -12,6 +12,7 @@ use Rattle.far_core.proofs.Copied.{copied_fact}
 use Rattle.far_core.proofs.JobPlaces.{job_bounds}
 use Rattle.far_core.proofs.Put.{put_both, put_other}
 use Rattle.far_book.specs.book.Own.{own_part, unread}
+use Rattle.far_book.proofs.region.Untaken.{untaken_said}
 use Rattle.far_book.specs.book.Releasing.{released}
 use Rattle.far_evac.specs.AnyHand.{Knows}
 use Rattle.far_evac.proofs.Framed.{framed}
@@ -21,7 +22,8 @@ abbrev pub LieBelow : State → Type 0
 LieBelow s = (j : ℕ) (job : Job) → job_at s.copying.word j ≡ Some job → IsGood s.round_epoch s.round s.copying.since j job → (job.to.at < s.tail job.to.log) × (s.round job.to.log ≡ false)
 
 pub lie_below : (s : State) → Law (own_part s) → LieBelow s
-lie_below s law j job at good =
+lie_below s law j job said good =
+    let at : job_at (own_part s).copying.word j ≡ Some job = untaken_said (s.copying.word j) ∙ said in
     let begun = (law.copies.jobs.job_spans j job at).to in
     let span = law.spans.span (addr job.to) begun in
     let bounds = (job_bounds (unread s.copying) j job at).to in

@@ -131,12 +131,12 @@ module _ (m : Moment) (q : ℕ) (none : IsApart m.core m.collection q) where
         record { put_there = put_more m.core s (core_so s p way) q h.put_there (gone_put s l p q other way x); fewer = h.fewer };
   }
 
-  walk_put : Law m.core → MomentLaw m → m.phase ≡ Evacuating → (n : ℕ) → HasStayed (walked m n).moment
-  walk_put law moment leaves n = (lifted_lawfully m (λ w. HasStayed w.moment) keeps_put law moment leaves (stayed_none m.core m.collection q) n).2.keeps.1
+  walk_put : Law m.core → MomentLaw m → m.copying ≡ false → m.phase ≡ Evacuating → (n : ℕ) → HasStayed (walked m n).moment
+  walk_put law moment alone leaves n = (lifted_lawfully m (λ w. HasStayed w.moment) keeps_put law moment alone leaves (stayed_none m.core m.collection q) n).2.keeps.1
 
-pub ended_put : (m : Moment) → Law m.core → MomentLaw m → m.phase ≡ Evacuating → (q : ℕ) → IsApart m.core m.collection q → (n : ℕ) → Stayed m.core m.collection q (ended (walked m n)).core (ended (walked m n)).collection
-ended_put m law moment leaves q none n =
-    let h = walk_put m q none law moment leaves n in
+pub ended_put : (m : Moment) → Law m.core → MomentLaw m → m.copying ≡ false → m.phase ≡ Evacuating → (q : ℕ) → IsApart m.core m.collection q → (n : ℕ) → Stayed m.core m.collection q (ended (walked m n)).core (ended (walked m n)).collection
+ended_put m law moment alone leaves q none n =
+    let h = walk_put m q none law moment alone leaves n in
     cond_both (is_done (walked m n)) (record (walked m n).moment { phase = Idle }) (walked m n).moment (λ (t : Moment). Stayed m.core m.collection q t.core t.collection) (λ _. h) (λ _. h)
 
 -- ---- marking and waiting
@@ -183,11 +183,11 @@ keeps_turns m q none = record {
   learns = tt;
   marks = λ u n tally lawful is h. stayed_more m.core u.core (after_marking u n).core m.collection u.collection (after_marking u n).collection q h (marking_put u n q lawful.0 (still_apart m.core u.core m.collection u.collection q none h));
   looks = λ u k phase tally lawful is h. record { put_there = put_more m.core u.core (with_clear_below u.core k) q h.put_there (looked_put u q k); fewer = h.fewer };
-  walks = λ u n tally law moment is h.
-      stayed_more m.core u.core (walked u n).moment.core m.collection u.collection (walked u n).moment.collection q h (walk_put u q (still_apart m.core u.core m.collection u.collection q none h) law moment is n);
+  walks = λ u n tally law moment alone is h.
+      stayed_more m.core u.core (walked u n).moment.core m.collection u.collection (walked u n).moment.collection q h (walk_put u q (still_apart m.core u.core m.collection u.collection q none h) law moment alone is n);
   ends = λ u tally h. h;
 }
 
-pub turns_put : (m : Moment) (q : ℕ) → Law m.core → MomentLaw m → is_idle m.phase ≡ false → IsApart m.core m.collection q → (n : ℕ) →
+pub turns_put : (m : Moment) (q : ℕ) → Law m.core → MomentLaw m → m.copying ≡ false → is_idle m.phase ≡ false → IsApart m.core m.collection q → (n : ℕ) →
     Stayed m.core m.collection q (turns_made m n).moment.core (turns_made m n).moment.collection
-turns_put m q law moment runs none n = turns_kept_exactly (λ t tally. Stayed m.core m.collection q t.core t.collection) (keeps_turns m q none) m n law moment runs (stayed_none m.core m.collection q)
+turns_put m q law moment alone runs none n = turns_kept_exactly (λ t tally. Stayed m.core m.collection q t.core t.collection) (keeps_turns m q none) m n law moment alone runs (stayed_none m.core m.collection q)
