@@ -131,10 +131,10 @@ keeps_named s t law keeps frame =
       still = λ j job. still_before s t words (ap (λ (u : State). u.copying.since) frame) (ap (λ (u : State). u.round_epoch) frame) j job
           (λ is. sym (ap (λ (u : State). u.round job.from.log) frame) ∙ is)
           (λ is in_round.
-              let x = lies_near (read_of (t.cell job.pointer)) job.from is in
-              let sealed = law.rounds.round_sealed job.from.log (sym (ap (λ (u : State). u.round job.from.log) frame) ∙ in_round) in
-              let was = keeps.near job.pointer x.len x.ds job.from x.marks x.near sealed in
-              ap near_place was.1);
+          let x = lies_near (read_of (t.cell job.pointer)) job.from is in
+          let sealed = law.rounds.round_sealed job.from.log (sym (ap (λ (u : State). u.round job.from.log) frame) ∙ in_round) in
+          let was = keeps.near job.pointer x.len x.ds job.from x.marks x.near sealed in
+          ap near_place was.1);
     }
 
 -- a log was given back

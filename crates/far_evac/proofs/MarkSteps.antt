@@ -201,6 +201,6 @@ module _ {s t : State} {r next : Round} (sought : Sought s t r next) where
       still = λ j job. still_before t u same_words (ap (λ (v : State). v.copying.since) is) (ap (λ (v : State). v.round_epoch) is) j job
           (λ in_it. sym (ap (λ (v : State). v.round job.from.log) is) ∙ in_it)
           (λ lies _.
-              let x = lies_near (read_of (u.cell job.pointer)) job.from lies in
-              ap near_place (lay job.pointer x.len x.ds job.from x.marks x.near).near);
+          let x = lies_near (read_of (u.cell job.pointer)) job.from lies in
+          ap near_place (lay job.pointer x.len x.ds job.from x.marks x.near).near);
     }

@@ -88,7 +88,7 @@ keeps_taken m v before = record {
   deals = λ k w l ls p ps way first h.
       let objects = before ++ take k (live_among v.core v.collection) in (
         subst (Taken m (core_so w.moment.core p way) (l ∷ ls)) (append_assoc before (take k (live_among v.core v.collection)) (p ∷ []) ∙ ap (λ xs. before ++ xs) (sym first.more))
-        (so_taken m v objects k w.moment.core l ls p ps way first h.0 h.1),
+            (so_taken m v objects k w.moment.core l ls p ps way first h.0 h.1),
         so_below m v objects k w.moment.core l ls p ps way first h.0 h.1,
       );
 }

@@ -103,8 +103,8 @@ module _ (m : Moment) (t : State) (law : Law m.core) (moment : MomentLaw m) (the
     words = aside.jobs;
     still = λ j job. still_before m.core t aside.jobs aside.since aside.round_epoch j job (comes.round job.from.log)
         (λ lies in_round.
-            let x = lies_near (read_of (t.cell job.pointer)) job.from lies in
-            ap near_place (comes.near job.pointer x.len x.ds job.from x.marks x.near in_round).1);
+        let x = lies_near (read_of (t.cell job.pointer)) job.from lies in
+        ap near_place (comes.near job.pointer x.len x.ds job.from x.marks x.near in_round).1);
   }
 
   alone_aside : m.copying ≡ false → HasNoJob t
