@@ -106,11 +106,7 @@ impl<D: Device> Near for BookSeat<D> {
     }
 
     fn offer(&mut self, job: u8, pointer: u16, from: Place, to: Place) {
-        let offered = Job {
-            pointer,
-            from,
-            to,
-        };
+        let offered = Job { pointer, from, to };
         self.table.shared.store::<rule::Offer>(
             &mut self.seat,
             job as usize + JOBS_AT,

@@ -7,7 +7,7 @@ use Rattle.far_core.specs.declared.event.Task.{Task}
 use Rattle.far_table.specs.CopierViews.{claimed_view}
 use Rattle.far_table.specs.Layout.{job_at}
 use Rattle.far_table.specs.Seats.{CopierSeated}
-use Rattle.far_table.specs.Tells.{CopierMade, copier_of}
+use Rattle.far_table.specs.Tells.{CopierMade}
 use Rattle.far_table.specs.View.{CopierView}
 use Rattle.far_table.proofs.CopySeatLemmas.{claim_lost, claim_won, copier_made, copier_stays, view_after}
 use Rattle.far_table.proofs.CopySteps.{claims}
@@ -32,13 +32,16 @@ returns-clause-took g c =
     elim c.if-found-word.branch [
       | then-found-word w ↦ (let t = claim_won _ _ _ c.args.number c.peek-word.result c.compare_exchange-found.result c.in-Some-Offered.job (sym c.read.ensures.exact ∙ (c.in-Some-Offered.is ∙ ap Some c.in-Some-Offered.field-0-is))
           (c.compare_exchange-found.ensures.2 c.args.number refl) w.if-found-word.true in
-          if_some _ _ _ w.result-is (refl, record {
-            found = c.peek-word.result;
-            offers = sym c.read.ensures.exact ∙ (c.in-Some-Offered.is ∙ ap Some c.in-Some-Offered.field-0-is);
-            peeks = subst (λ (z : CopierSeated). CopierMade (PeekJob c.args.self.now.view.number c.args.number) c.args.self.now.view (Word c.peek-word.result) z.view) c.peek-word.ensures.same c.peek-word.ensures.event;
-            claims = copier_made _ _ _ (λ (v : CopierView). Claim v.number c.args.number c.peek-word.result) _ _ before t;
-            view = view_after _ _ _ _ _ (claimed_view c.args.number c.in-Some-Offered.job) before t;
-          }))
+          if_some _ _ _ w.result-is (
+            refl,
+            record {
+              found = c.peek-word.result;
+              offers = sym c.read.ensures.exact ∙ (c.in-Some-Offered.is ∙ ap Some c.in-Some-Offered.field-0-is);
+              peeks = subst (λ (z : CopierSeated). CopierMade (PeekJob c.args.self.now.view.number c.args.number) c.args.self.now.view (Word c.peek-word.result) z.view) c.peek-word.ensures.same c.peek-word.ensures.event;
+              claims = copier_made _ _ _ (λ (v : CopierView). Claim v.number c.args.number c.peek-word.result) _ _ before t;
+              view = view_after _ _ _ _ _ (claimed_view c.args.number c.in-Some-Offered.job) before t;
+            },
+          ))
       | else-found-word w ↦ if_none _ _ w.result-is
     ]
 
@@ -60,7 +63,7 @@ returns-clause-missed g c =
                 c.compare_exchange-found.result,
                 w.if-found-word.false,
                 subst (λ (z : CopierView). CopierMade (Claim c.args.self.now.view.number c.args.number c.peek-word.result) c.args.self.now.view (Word c.compare_exchange-found.result) z) view
-                (copier_made _ _ _ (λ (v : CopierView). Claim v.number c.args.number c.peek-word.result) _ _ (ap (λ (z : CopierSeated). z.view) before) t),
+                    (copier_made _ _ _ (λ (v : CopierView). Claim v.number c.args.number c.peek-word.result) _ _ (ap (λ (z : CopierSeated). z.view) before) t),
               ),
             ),
           ))
