@@ -19,6 +19,7 @@ pub mod Fetching
 pub mod Founds
 pub mod Going
 pub mod Handed
+pub mod HavingJobs
 pub mod InOrders
 pub mod JobNotes
 pub mod JobSteps

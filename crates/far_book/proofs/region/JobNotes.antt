@@ -157,7 +157,7 @@ pub good_late : (epoch late : ℕ) (round left : ℕ → Bool) (since : ℕ → 
 good_late epoch late round left since j job low lt = and_false (is_good epoch round since j job) ∙ sym (ap (λ b. b && left job.from.log) (ne_eqb (since j) late (λ e. omega (arith, low, lt, e))))
 
 -- ---- a log that no job reads or writes
-either_of : (a b : Bool) → (a || b) ≡ true → (a ≡ true) ⊎ (b ≡ true)
+pub either_of : (a b : Bool) → (a || b) ≡ true → (a ≡ true) ⊎ (b ≡ true)
 either_of true b e = inl refl
 either_of false b e = inr e
 

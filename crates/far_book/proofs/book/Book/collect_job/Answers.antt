@@ -1,5 +1,5 @@
 use Rattle.far_book.proofs.book.Book.collect_job.Given.{Over}
-use Rattle.far_book.proofs.book.Book.collect_job.Goals.{After-end_job-arg-1, In-Some}
+use Rattle.far_book.proofs.book.Book.collect_job.Goals.{In-Some}
 use Rattle.far_book.proofs.book.Book.collect_job.Goals as goal
 use Rattle.std.proofs.Common.{◌≡◌, ◌∙◌, ◌*◌, ◌<◌, ℕ, Bool, Option, Some, None, ap, refl, subst, sym, false}
 use Rattle.far_word.specs.declared.job.Job.{Job}
@@ -53,14 +53,14 @@ see-cell-requires g c =
     record { pointer = subst (λ (x : State). c.in-Some.noted.job.pointer < CELLS * x.mutators) (same g h ∙ sym (λ i. record (c.see_job-word.ensures.kept i) { copying = (g.N.Near.view c.args.self.now.near).copying })) low }
 
 -- ---- it was looked at
-found : (g : Over) (c : After-end_job-arg-1 g) → g.N.Near.view c.see-cell.new.self.near ≡ found_so (g.N.Near.view c.args.self.now.near) c.args.job c.in-Some.noted.job c.see_job-word.result c.see-cell.result
-found g c = c.see-cell.ensures.kept ∙ ap (λ (x : State). record x { cell = put x.cell c.in-Some.noted.job.pointer c.see-cell.result }) c.see_job-word.ensures.kept
+found_by : (s t u : State) (j word cell : ℕ) (job : Job) → t ≡ job_found s j word → u ≡ record t { cell = put t.cell job.pointer cell } → u ≡ found_so s j job word cell
+found_by s t u j word cell job jobs cells = cells ∙ ap (λ (x : State). record x { cell = put x.cell job.pointer cell }) jobs
 
 pub end_job-requires-clause-is : goal.end_job-requires-clause-is
 end_job-requires-clause-is g c =
     let h = goal.at.end_job-requires-clause-is g c in
     let s = g.N.Near.view c.args.self.now.near in
-    ap (λ (x : State). job_at x.copying.word c.args.job) (found g h.After-end_job-arg-1) ∙ ap (λ w. job_said (job_of w)) (put_same s.copying.word c.args.job c.see_job-word.result c.args.job refl)
+    ap (λ (x : State). job_at x.copying.word c.args.job) (found_by s _ _ c.args.job c.see_job-word.result c.see-cell.result c.in-Some.noted.job c.see_job-word.ensures.kept c.see-cell.ensures.kept) ∙ ap (λ w. job_said (job_of w)) (put_same s.copying.word c.args.job c.see_job-word.result c.args.job refl)
     ∙ same_job (s.copying.word c.args.job) c.see_job-word.result c.see_job-word.ensures.found ∙ here g h.In-Some
 
 pub returns-clause-collects : goal.returns-clause-collects
@@ -71,7 +71,7 @@ returns-clause-collects g c =
     let sees : Finds (s.cell job.pointer) c.see-cell.result = subst (λ (x : State). Finds (x.cell job.pointer) c.see-cell.result) c.see_job-word.ensures.kept c.see-cell.ensures.found in
     by_some s (g.N.Near.view c.end_job.new.self.near) c.args.job _ job c.end_job.result (here g h.In-Some)
     (goes_on s c.args.job job c.see_job-word.result c.see-cell.result (g.N.Near.view c.end_job.new.self.near) c.end_job.result c.see_job-word.ensures.found sees
-    (subst (λ (x : State). GoesAsFound x (g.N.Near.view c.end_job.new.self.near) c.args.job job c.end_job.result) (found g h.After-end_job-arg-1) c.end_job.ensures.goes))
+    (subst (λ (x : State). GoesAsFound x (g.N.Near.view c.end_job.new.self.near) c.args.job job c.end_job.result) (found_by s _ _ c.args.job c.see_job-word.result c.see-cell.result job c.see_job-word.ensures.kept c.see-cell.ensures.kept) c.end_job.ensures.goes))
 
 pub returns-clause-came : goal.returns-clause-came
 returns-clause-came g c = then_came (then_came c.see_job-word.ensures.came c.see-cell.ensures.came) c.end_job.ensures.came
