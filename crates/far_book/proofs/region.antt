@@ -29,6 +29,7 @@ pub mod Leaving
 pub mod Marked
 pub mod Moved
 pub mod MovesReached
+pub mod NamingCopies
 pub mod NextLives
 pub mod NotesKept
 pub mod Notings

@@ -21,7 +21,7 @@ use Rattle.far_book.proofs.region.JobNotes.{either_of}
 use Rattle.far_book.proofs.region.Untaken.{same_jobs}
 
 -- ---- one job
-place_is : (x y : Place) → is_place x y ≡ true → x ≡ y
+pub place_is : (x y : Place) → is_place x y ≡ true → x ≡ y
 place_is x y h =
     let e = parts (x.log == y.log) (x.at == y.at) h in
     let a = eqb-true x.log y.log e.0 in let b = eqb-true x.at y.at e.1 in λ i. record { log = a i; at = b i }

@@ -148,14 +148,14 @@ impl<N: Near + Drop, D: Device + Drop> Book<N, D> {
         ensures order { self.new.order ≡ self.old.order }
         ensures device { self.new.device ≡ self.old.device }
     {
+        self.keeps_law();
         let PtrWord::Near { len, ds, .. } = PtrWord::known(cell) else {
             unreachable!()
         };
         let new = near_word(len, ds, what.to);
-        match rename(&mut self.near, what.pointer, cell, new) {
-            Ok(()) => {}
-            Err(_) => return false,
-        }
+        let Ok(()) = rename(&mut self.near, what.pointer, cell, new) else {
+            return false;
+        };
         self.ledger.pass(what.from.log, what.to.log, size_of(len));
         true
     }
