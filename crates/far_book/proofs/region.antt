@@ -34,6 +34,8 @@ pub mod NextLives
 pub mod NotesKept
 pub mod Notings
 pub mod NumberSets
+pub mod OfferingCopies
+pub mod Offers
 pub mod Owned
 pub mod Owns
 pub mod Packing

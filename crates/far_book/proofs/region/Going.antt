@@ -8,13 +8,10 @@ use Rattle.far_word.specs.declared.job.JobWord.TheVariants.{Empty, Offered, Take
 use Rattle.far_word.specs.Job.{job_of, job_word}
 use Rattle.far_word.specs.Pointer.{read_of}
 use Rattle.far_word.proofs.JobLaws.{job_says}
-use Rattle.far_core.specs.declared.event.Event.TheVariants as events
 use Rattle.far_core.specs.events.Collect.{collected}
-use Rattle.far_core.specs.events.Naming.{is_dropped}
 use Rattle.far_core.specs.events.Step.{after}
 use Rattle.far_core.specs.state.Jobs.{is_finished, job_at, job_said}
-use Rattle.far_core.specs.state.Spans.{names_place}
-use Rattle.far_core.specs.state.State.{State, put}
+use Rattle.far_core.specs.state.State.{State}
 use Rattle.far_core.proofs.Put.{put_old, put_same}
 use Rattle.far_hand.specs.Finds.{Finds}
 use Rattle.far_hand.specs.FindsJob.{FindsJob, job_found}
@@ -22,7 +19,7 @@ use Rattle.far_hand.specs.Known.{Forgets}
 use Rattle.far_hand.specs.MayBe.{job_itself}
 use Rattle.far_hand.proofs.Finding.{finds_more, finds_same}
 use Rattle.far_hand.proofs.JobsFound.{job_more, same_job}
-use Rattle.far_book.specs.book.Collecting.{BackKnown, Collects, CollectsJob, TakesBack, all_back, all_collected, back_known, goes, more, Fate, taken_back, GoesAsFound, IsDropped, IsNamed, Stays, Empties, Names, fate_in, fate_of, found_so, is_named, is_void, made_of, named}
+use Rattle.far_book.specs.book.Collecting.{BackKnown, Collects, CollectsJob, TakesBack, all_back, all_collected, back_known, goes, more, Fate, taken_back, GoesAsFound, IsNamed, Stays, Empties, Names, fate_in, fate_of, found_so, is_named, is_void, made_of, named}
 use Rattle.far_book.specs.book.Jobs.{is_good}
 use Rattle.far_book.specs.book.Renaming.{seen}
 use Rattle.far_book.proofs.region.Calls.{put_put}

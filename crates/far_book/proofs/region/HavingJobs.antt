@@ -1,18 +1,17 @@
 -- Whether an object has a job.
-use Rattle.std.proofs.Common.{◌≡◌, ◌∙◌, ◌<◌, ℕ, suc, zero, Bool, true, false, inl, inr, arith, ap, refl, sym, subst, Option, Some, None}
-use Rattle.std.specs.Prelude.{◌&&◌, ◌||◌, ◌==◌, ◌⊎◌}
+use Rattle.std.proofs.Common.{◌≡◌, ◌∙◌, ◌<◌, ℕ, suc, zero, Bool, true, false, inl, inr, arith, ap, refl, sym, Option, Some, None}
+use Rattle.std.specs.Prelude.{◌&&◌, ◌||◌, ◌==◌}
 use Rattle.std.proofs.lemmas.Bool.{cases_lt, eq-eqb, eqb-true, false≢true, true≢false, false_from_ne_true}
 use Rattle.far_word.specs.declared.job.Job.{Job}
 use Rattle.far_word.specs.declared.pointer.Place.{Place}
 use Rattle.far_word.specs.declared.sizes.TheConstants.{JOBS}
 use Rattle.far_word.specs.Pointer.{read_of}
 use Rattle.far_core.specs.events.Copied.{is_place}
-use Rattle.far_core.specs.state.Jobs.{IsGood, job_at, near_place}
+use Rattle.far_core.specs.state.Jobs.{job_at, near_place}
 use Rattle.far_core.specs.state.State.{State}
 use Rattle.far_core.proofs.Guards.{parts}
 use Rattle.far_core.proofs.KeepJobs.{job_low}
 use Rattle.far_core.proofs.events.Look.{or_right}
-use Rattle.far_book.specs.declared.jobs.Noted.{Noted}
 use Rattle.far_book.specs.declared.ledger.Ledger.{Ledger}
 use Rattle.far_book.specs.book.Jobs.{HasJob, copies_from, has_job, has_job_at, is_good, noted_at, noted_of, some_copies}
 use Rattle.far_book.specs.book.Ledger.{Notes}

@@ -1,14 +1,17 @@
 -- What is written down of jobs is right again after they have changed.
 use Rattle.std.proofs.Common.{◌≡◌, ◌≢◌, ℕ, ◌*◌, ◌<◌, ◌≤◌, ◌∙◌, Bool, true, false, arith, ap, refl, sym, subst, inl, inr, Option, Some, None}
-use Rattle.std.specs.Prelude.{◌==◌, ◌&&◌, ◌||◌, ◌⊎◌, cond, is_some, not, option_map, length}
+use Rattle.std.specs.Prelude.{◌==◌, ◌&&◌, ◌||◌, ◌⊎◌, cond, is_some, not, IsSome, option_map, length}
 use Rattle.std.proofs.lemmas.Bool.{cases_eq, eq-eqb, eqb-true, ne_eqb, false≢true, true≢false}
 use Rattle.far_word.specs.declared.header.HeadWord.{HeadWord}
 use Rattle.far_word.specs.declared.job.Job.{Job}
+use Rattle.far_word.specs.declared.job.JobWord.{JobWord}
+use Rattle.far_word.specs.declared.job.JobWord.TheVariants.{Empty, Offered, Taken, Finished}
 use Rattle.far_word.specs.declared.pointer.PtrWord.{PtrWord}
 use Rattle.far_word.specs.declared.pointer.PtrWord.TheVariants.{Free, Near, Far}
 use Rattle.far_word.specs.declared.sizes.TheConstants.{CELLS, JOBS}
 use Rattle.far_word.specs.Header.{head_of}
 use Rattle.far_word.specs.Job.{job_of}
+use Rattle.far_word.proofs.JobLaws.{job_says}
 use Rattle.far_log.specs.Spans.{len_in, pointer_in}
 use Rattle.far_core.specs.events.Clear.{round_left}
 use Rattle.far_core.specs.events.Get.{IsUncopied}
@@ -26,7 +29,7 @@ use Rattle.far_book.specs.book.Jobs.{EndsJobs, NotesJobs, WritesJob, copies_at, 
 use Rattle.far_book.specs.book.Ledger.{Notes}
 use Rattle.far_book.specs.book.NumberSet.{has}
 use Rattle.far_book.specs.book.Own.{HasNoJob, own_part, unread}
-use Rattle.far_book.proofs.region.Untaken.{same_jobs}
+use Rattle.far_book.proofs.region.Untaken.{same_jobs, untaken_zero}
 
 -- ---- what is written down of one
 noted_same : (o : Option Job) (f g : Job → Bool) → ((job : Job) → o ≡ Some job → f job ≡ g job) → noted_of o f ≡ noted_of o g
@@ -201,3 +204,29 @@ job_pointer s law j job e =
 -- where none is offered
 pub none_job : (s : State) → HasNoJob s → (j : ℕ) → job_at s.copying.word j ≡ None
 none_job s none j = ap (λ w. job_said (job_of w)) (none j) ∙ ap job_said unworded
+
+-- ---- which jobs are empty
+empty_said : (o : Option JobWord) → IsSome o → job_said o ≡ None → o ≡ Some Empty
+empty_said None some e = absurd (false≢true some)
+empty_said (Some Empty) some e = refl
+empty_said (Some (Offered job)) some e = absurd cc
+empty_said (Some (Taken job c)) some e = absurd cc
+empty_said (Some (Finished job c)) some e = absurd cc
+
+none_some : (o : Option Job) → is_some o ≡ false → o ≡ None
+none_some None e = refl
+none_some (Some job) e = absurd cc
+
+module _ (s : State) (ledger : Ledger) (notes : Notes (own_part s) ledger) where
+  -- one that isn't written down is empty
+  pub empty_word : (j : ℕ) → j < JOBS → has ledger.jobs.waiting j ≡ false → s.copying.word j ≡ 0
+  empty_word j lt none =
+      let w = (own_part s).copying.word j in
+      let said = none_some (job_at (own_part s).copying.word j) (sym (notes.jobs.waiting j (omega arith)) ∙ none) in
+      untaken_zero (s.copying.word j) (sym (job_says w Empty (empty_said (job_of w) (notes.law.copies.jobs.job_read j).1 said)).1)
+
+  -- and one that is isn't
+  pub waiting_word : (j : ℕ) → j < JOBS → has ledger.jobs.waiting j ≡ true → s.copying.word j ≢ 0
+  waiting_word j lt some empty =
+      let none : job_at (own_part s).copying.word j ≡ None = same_jobs s.copying j ∙ ap (λ w. job_said (job_of w)) empty ∙ ap job_said unworded in
+      true≢false (sym some ∙ notes.jobs.waiting j (omega arith) ∙ ap is_some none)

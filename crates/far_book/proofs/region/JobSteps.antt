@@ -1,9 +1,8 @@
 -- A job's word is found, or the job is emptied: a book stays in order.
-use Rattle.std.proofs.Common.{◌≡◌, ◌≢◌, ℕ, ◌+◌, ◌<◌, ◌^◌, ◌∙◌, Bool, true, false, arith, ap, inl, inr, refl, sym, subst, Option, Some, None, List}
-use Rattle.std.specs.Prelude.{IsSome, option_map}
-use Rattle.std.proofs.lemmas.Bool.{cases_eq, eq-eqb, false≢true, true≢false, false_from_ne_true}
+use Rattle.std.proofs.Common.{◌≡◌, ℕ, ◌+◌, ◌<◌, ◌^◌, ◌∙◌, Bool, true, false, arith, ap, refl, sym, subst, Option, Some, None, List}
+use Rattle.std.specs.Prelude.{IsSome}
+use Rattle.std.proofs.lemmas.Bool.{eq-eqb, false≢true, true≢false, false_from_ne_true}
 use mathlib.Core.Path.{fun_ext}
-use Rattle.far_word.specs.declared.job.Job.{Job}
 use Rattle.far_word.specs.declared.job.JobWord.{JobWord}
 use Rattle.far_word.specs.declared.job.JobWord.TheVariants.{Empty, Offered, Taken, Finished}
 use Rattle.far_word.specs.declared.sizes.TheConstants.{JOBS}
@@ -26,12 +25,12 @@ use Rattle.far_hand.proofs.JobsFound.{same_job}
 use Rattle.far_book.specs.declared.jobs.Jobs.{Jobs}
 use Rattle.far_book.specs.declared.ledger.Ledger.{Ledger}
 use Rattle.far_book.specs.book.FarSide.{InOrder}
-use Rattle.far_book.specs.book.Jobs.{NotesJobs, WritesJob}
+use Rattle.far_book.specs.book.Jobs.{WritesJob}
 use Rattle.far_book.specs.book.Ledger.{Notes}
 use Rattle.far_book.specs.book.Own.{own_part, unread, untaken, untaken_of}
 use Rattle.far_book.proofs.region.JobNotes.{notes_same, notes_wrote}
 use Rattle.far_book.proofs.region.Owns.{own_bare}
-use Rattle.far_book.proofs.region.Untaken.{empty_kept, finished_known, loosed, none_taken, some_loosed, untaken_finished, untaken_fits, untaken_said, untaken_says}
+use Rattle.far_book.proofs.region.Untaken.{empty_kept, loosed, none_taken, some_loosed, untaken_finished, untaken_fits, untaken_said, untaken_says}
 
 -- ---- a word of a job is another
 pub untaken_put : (word : ℕ → ℕ) (j w : ℕ) → (λ i. untaken (put word j w i)) ≡ put (λ i. untaken (word i)) j (untaken w)

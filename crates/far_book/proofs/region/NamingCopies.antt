@@ -1,24 +1,23 @@
 -- A pointer is named to the copy that a finished job has made: that is allowed, and a book stays in order.
-use Rattle.std.proofs.Common.{◌≡◌, ◌≢◌, ◌∙◌, ℕ, ◌+◌, ◌*◌, ◌/◌, ◌%◌, ◌^◌, ◌<◌, ◌≤◌, Bool, true, false, arith, ap, inl, inr, refl, sym, subst, Option, Some, None, List}
-use Rattle.std.specs.Prelude.{◌==◌, ◌&&◌, eqb, is_some}
+use Rattle.std.proofs.Common.{◌≡◌, ◌≢◌, ◌∙◌, ℕ, ◌*◌, ◌/◌, ◌%◌, ◌<◌, ◌≤◌, Bool, true, false, arith, ap, inl, inr, refl, sym, subst, Option, Some, None, List}
+use Rattle.std.specs.Prelude.{◌==◌, eqb, is_some}
 use Rattle.std.specs.List.{IsDistinct, list_any}
 use Rattle.std.specs.Vec.{vec_len, vec_capacity}
-use Rattle.std.proofs.lemmas.Bool.{cases_eq, eq-eqb, eqb-true, ne_eqb, false≢true, true≢false}
+use Rattle.std.proofs.lemmas.Bool.{cases_eq, eq-eqb, eqb-true, false≢true, true≢false}
 use Rattle.far_word.specs.declared.job.Job.{Job}
 use Rattle.far_word.specs.declared.job.JobWord.TheVariants.{Finished}
 use Rattle.far_word.specs.declared.mark.Marks.{Marks}
 use Rattle.far_word.specs.declared.pointer.Place.{Place}
 use Rattle.far_word.specs.declared.pointer.PtrWord.{PtrWord}
-use Rattle.far_word.specs.declared.pointer.PtrWord.TheVariants.{Free, Near, Far}
-use Rattle.far_word.specs.declared.sizes.TheConstants.{CELLS, JOBS, LOG_WORDS}
+use Rattle.far_word.specs.declared.pointer.PtrWord.TheVariants.{Near, Far}
+use Rattle.far_word.specs.declared.sizes.TheConstants.{CELLS, LOG_WORDS}
 use Rattle.far_word.specs.Job.{job_of}
 use Rattle.far_word.specs.Pointer.{IsPtr, read_of}
-use Rattle.far_word.specs.Sizes.{size_of, bytes_taken}
+use Rattle.far_word.specs.Sizes.{size_of}
 use Rattle.far_word.proofs.PointerLaws.{read_back, read_says, word_fits}
 use Rattle.far_core.specs.declared.event.Event.TheVariants as events
 use Rattle.far_core.specs.declared.naming.Naming.TheVariants.{Moves}
-use Rattle.far_core.specs.events.Copied.{IsCopied, WasCopied, copied_job, with_named}
-use Rattle.far_core.specs.events.Mark.{is_sealed}
+use Rattle.far_core.specs.events.Copied.{IsCopied, copied_job, with_named}
 use Rattle.far_core.specs.events.Name.{after_naming}
 use Rattle.far_core.specs.events.Naming.{is_dropped, no_marks}
 use Rattle.far_core.specs.events.namings.Moves.{after_move}
@@ -27,7 +26,7 @@ use Rattle.far_core.specs.laws.Observed.{live_bytes}
 use Rattle.far_core.specs.state.Jobs.{job_at, job_said, near_place}
 use Rattle.far_core.specs.state.Law.{Law, head_len}
 use Rattle.far_core.specs.state.Spans.{names_place, spans_of}
-use Rattle.far_core.specs.state.State.{State, addr, put}
+use Rattle.far_core.specs.state.State.{State, addr}
 use Rattle.far_core.proofs.Bounds.{span_len}
 use Rattle.far_core.proofs.Copied.{copied_fact, copied_outside, copied_stands, copied_test, keeps_named}
 use Rattle.far_core.proofs.Guards.{parts}
@@ -39,13 +38,13 @@ use Rattle.far_hand.specs.Known.{Forgets}
 use Rattle.far_hand.proofs.Finding.{near_found}
 use Rattle.far_book.specs.declared.ledger.Filled.{Filled}
 use Rattle.far_book.specs.declared.ledger.Ledger.{Ledger}
-use Rattle.far_book.specs.book.Collecting.{IsDropped, IsNamed, MayBeNamed, named, named_of}
+use Rattle.far_book.specs.book.Collecting.{IsNamed, MayBeNamed, named, named_of}
 use Rattle.far_book.specs.book.Effects.{near_word, with_free_cell}
 use Rattle.far_book.specs.book.FarSide.{HoldsFar, InOrder}
-use Rattle.far_book.specs.book.Jobs.{NotesJobs, is_good}
+use Rattle.far_book.specs.book.Jobs.{NotesJobs}
 use Rattle.far_book.specs.book.Ledger.{Notes, Passes, filled_of, is_noted_free}
 use Rattle.far_book.specs.book.NumberSet.{has}
-use Rattle.far_book.specs.book.Own.{own_part, unread}
+use Rattle.far_book.specs.book.Own.{own_part}
 use Rattle.far_book.specs.book.Renaming.{MayRename, Renamed, seen}
 use Rattle.far_book.proofs.region.Calls.{put_put}
 use Rattle.far_book.proofs.region.FarSide.{far_without}

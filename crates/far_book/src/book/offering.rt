@@ -66,7 +66,15 @@ impl<N: Near + Drop, D: Device + Drop> Book<N, D> {
 }
 
 // Writes the ends of a span for the copy of an object, and offers it.
-fn offer_copy<N: Near>(near: &mut N, job: u8, pointer: u16, len: u16, ds: u8, from: Place, to: Place)
+fn offer_copy<N: Near>(
+    near: &mut N,
+    job: u8,
+    pointer: u16,
+    len: u16,
+    ds: u8,
+    from: Place,
+    to: Place,
+)
     requires { IsCopyable (N.view near.old) job pointer len ds from to }
     ensures kept { N.view near.new ≡ record (after (with_ends (N.view near.old) pointer len ds to) (Event.Offer job pointer to)) { word = (N.view near.new).word } }
     ensures forgot { Forgets (after (with_ends (N.view near.old) pointer len ds to) (Event.Offer job pointer to)) (N.view near.new) }

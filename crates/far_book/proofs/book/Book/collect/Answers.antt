@@ -1,7 +1,7 @@
 use Rattle.far_book.proofs.book.Book.collect.Given.{Over}
 use Rattle.far_book.proofs.book.Book.collect.Goals.{Joined-collect_job, else-collect_job, then-collect_job}
 use Rattle.far_book.proofs.book.Book.collect.Goals as goal
-use Rattle.std.proofs.Common.{◌≡◌, ◌≤◌, ◌+◌, ◌∙◌, ℕ, Bool, Option, None, true, false, ap, arith, refl, subst, sym}
+use Rattle.std.proofs.Common.{◌≡◌, ◌≤◌, ◌+◌, ◌∙◌, ℕ, Bool, Option, None, true, false, ap, arith, subst, sym}
 use Rattle.far_word.specs.declared.job.Job.{Job}
 use Rattle.far_core.specs.state.Jobs.{job_at}
 use Rattle.far_core.specs.state.State.{State}

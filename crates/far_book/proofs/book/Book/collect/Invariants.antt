@@ -1,4 +1,4 @@
-use Rattle.std.proofs.Common.{◌≡◌, ◌≤◌, ℕ}
+use Rattle.std.proofs.Common.{◌≡◌, ◌≤◌}
 use Rattle.far_hand.specs.Came.{Came}
 use Rattle.far_book.specs.book.Collecting.{Collects, all_collected}
 use Rattle.far_book.specs.book.Own.{HasNoJob}

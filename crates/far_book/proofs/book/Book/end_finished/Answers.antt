@@ -3,14 +3,13 @@ use Rattle.far_book.proofs.book.Book.end_finished.Goals.{After-empty_finished, A
 use Rattle.far_book.proofs.book.Book.end_finished.Goals as goal
 use Rattle.std.proofs.Common.{◌≡◌, ◌∙◌, Bool, ap, refl, subst, sym, true, false, cond, ℕ}
 use Rattle.std.specs.Prelude.{◌||◌}
-use Rattle.std.proofs.lemmas.Bool.{false≢true}
 use Rattle.far_word.specs.Job.{job_of}
 use Rattle.far_word.specs.Pointer.{read_of}
 use Rattle.far_core.specs.events.Collect.{collected}
 use Rattle.far_core.specs.events.Naming.{is_dropped}
 use Rattle.far_core.specs.state.State.{State}
 use Rattle.far_hand.specs.Finds.{Finds}
-use Rattle.far_book.specs.book.Collecting.{Empties, Fate, GoesAsFound, IsDropped, IsNamed, Names, fate_in, fate_of, is_void}
+use Rattle.far_book.specs.book.Collecting.{Empties, GoesAsFound, IsDropped, IsNamed, Names, fate_in, is_void}
 use Rattle.far_hand.proofs.Closure.{then_came}
 use Rattle.far_book.proofs.region.Going.{fate_finished, goes_empty, goes_empty_dropped, goes_named, void_same}
 use Rattle.far_core.proofs.events.Look.{or_right}

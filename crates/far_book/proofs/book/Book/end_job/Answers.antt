@@ -1,14 +1,12 @@
 use Rattle.far_book.proofs.book.Book.end_job.Goals.{else-void-via-then-void+else-is_offered, else-void-via-else-void}
 use Rattle.far_book.proofs.book.Book.end_job.Goals as goal
-use Rattle.std.proofs.Common.{◌≡◌, ◌∙◌, Bool, ap, sym, true, false}
+use Rattle.std.proofs.Common.{◌≡◌, ◌∙◌, ap, sym}
 use Rattle.std.specs.Prelude.{◌||◌, not}
 use Rattle.far_word.specs.Job.{job_of}
 use Rattle.far_word.specs.Pointer.{read_of}
 use Rattle.far_core.specs.events.Naming.{is_dropped}
 use Rattle.far_core.specs.state.Spans.{names_place}
-use Rattle.far_core.specs.state.State.{State}
 use Rattle.far_book.specs.book.Collecting.{Stays, fate_in, fate_of, is_void}
-use Rattle.far_book.specs.book.Jobs.{is_good}
 use Rattle.far_book.proofs.region.Going.{fate_going, goes_stays, not_offered}
 
 pub returns-else-void-clause-goes : goal.returns-else-void-clause-goes

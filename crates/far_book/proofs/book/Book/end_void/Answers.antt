@@ -1,13 +1,13 @@
 use Rattle.far_book.proofs.book.Book.end_void.Goals as goal
-use Rattle.std.proofs.Common.{◌≡◌, ◌∙◌, ap, subst, sym, true, false}
+use Rattle.std.proofs.Common.{◌∙◌, ap, subst, sym, true, false}
 use Rattle.far_word.specs.Job.{job_of}
 use Rattle.far_word.specs.Pointer.{read_of}
 use Rattle.far_core.specs.events.Collect.{collected}
 use Rattle.far_core.specs.events.Naming.{is_dropped}
 use Rattle.far_core.specs.state.State.{State}
-use Rattle.far_book.specs.book.Collecting.{Empties, GoesAsFound, Stays, fate_in, fate_of}
+use Rattle.far_book.specs.book.Collecting.{GoesAsFound, fate_in, fate_of}
 use Rattle.far_hand.proofs.Closure.{then_came}
-use Rattle.far_hand.specs.FindsJob.{FindsJob, job_found}
+use Rattle.far_hand.specs.FindsJob.{FindsJob}
 use Rattle.far_book.proofs.region.Going.{fate_ended, fate_going, fate_offered, goes_empty, goes_empty_found, goes_found, offered_lost}
 
 pub returns-in_default-clause-goes : goal.returns-in_default-clause-goes

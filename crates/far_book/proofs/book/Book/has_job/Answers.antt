@@ -1,5 +1,5 @@
 use Rattle.far_book.proofs.book.Book.has_job.Goals as goal
-use Rattle.std.proofs.Common.{◌≡◌, ◌∙◌, Some, ap, subst, sym, true}
+use Rattle.std.proofs.Common.{◌≡◌, ◌∙◌, ap, subst, true}
 use Rattle.far_word.specs.Pointer.{read_of}
 use Rattle.far_core.specs.state.Jobs.{near_place}
 use Rattle.far_core.specs.state.State.{State}

@@ -1,11 +1,10 @@
 use Rattle.far_book.proofs.book.Book.name_copy.Given.{Over}
 use Rattle.far_book.proofs.book.Book.name_copy.Goals.{In-Near}
 use Rattle.far_book.proofs.book.Book.name_copy.Goals as goal
-use Rattle.std.proofs.Common.{◌≡◌, ◌∙◌, ap, arith, refl, subst, sym, Some}
+use Rattle.std.proofs.Common.{◌≡◌, ◌∙◌, ap, arith, subst, sym, Some}
 use Rattle.far_word.specs.declared.pointer.PtrWord.TheVariants.{Near}
 use Rattle.far_word.specs.Pointer.{read_of}
-use Rattle.far_word.specs.Sizes.{size_of}
-use Rattle.far_core.specs.state.State.{State, put}
+use Rattle.far_core.specs.state.State.{State}
 use Rattle.far_book.specs.book.BookOf.{BookOf}
 use Rattle.far_book.specs.book.Collecting.{IsNamed, MayBeNamed}
 use Rattle.far_book.specs.book.FarSide.{InOrder}
@@ -15,7 +14,7 @@ use Rattle.far_hand.specs.Finds.{Finds}
 use Rattle.far_hand.proofs.Closure.{came_only}
 use Rattle.far_book.proofs.region.Handed.{since_book}
 use Rattle.far_book.proofs.region.InOrders.{found_keeps}
-use Rattle.far_book.proofs.region.NamingCopies.{apart, is_named, jobs_stay, layout, layout_from, may_rename, named_keeps, passes_from, passes_live, passes_room, passes_to, pointer}
+use Rattle.far_book.proofs.region.NamingCopies.{is_named, jobs_stay, layout, layout_from, may_rename, named_keeps, passes_live, passes_room, passes_to, pointer}
 
 -- ---- the object's length and data structure are known
 module _ (g : Over) (c : In-Near g) where

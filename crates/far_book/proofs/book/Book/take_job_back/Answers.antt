@@ -1,7 +1,7 @@
 use Rattle.far_book.proofs.book.Book.take_job_back.Given.{Over}
 use Rattle.far_book.proofs.book.Book.take_job_back.Goals.{After-empty_job}
 use Rattle.far_book.proofs.book.Book.take_job_back.Goals as goal
-use Rattle.std.proofs.Common.{◌≡◌, ◌≢◌, ◌∙◌, true, false, Option, Some, None, Result, Ok, Err, IfOk, IfErr, ℕ, ap, refl, subst, sym}
+use Rattle.std.proofs.Common.{◌≡◌, ◌≢◌, ◌∙◌, true, false, Option, Some, None, Result, Ok, Err, IfOk, IfErr, ℕ, ap, refl, sym}
 use Rattle.std.specs.Prelude.{is_some, not}
 use Rattle.far_word.specs.declared.job.Job.{Job}
 use Rattle.far_word.specs.declared.job.JobWord.TheVariants.{Offered}
