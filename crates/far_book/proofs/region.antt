@@ -17,9 +17,12 @@ pub mod FarSide
 pub mod Fetched
 pub mod Fetching
 pub mod Founds
+pub mod Going
 pub mod Handed
+pub mod HavingJobs
 pub mod InOrders
 pub mod JobNotes
+pub mod JobSteps
 pub mod Learning
 pub mod LearningOn
 pub mod Leaving
