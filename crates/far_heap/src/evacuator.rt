@@ -60,7 +60,8 @@ impl<K: HeapName, D: Device + Drop> Model for Evacuator<K, D> {
 impl<K: HeapName, D: Device + Drop> Evacuator<K, D> {
     // Over a book of the named heap, in no round.
     pub(crate) fn new(book: Book<BookSeat<D>, D>) -> Evacuator<K, D>
-        requires { heap_of book.near ≡ K.heap }
+        requires named { heap_of book.near ≡ K.heap }
+        requires alone { HasNoJob (seat_view book.near) }
         ensures book { result.book ≡ book }
         ensures idle { result.phase ≡ Idle }
         ensures none { result.collection ≡ [] }
