@@ -95,7 +95,7 @@ stop_free m law moment alone runs n objects goes leaves =
           (subst (λ logs. GivenFree logs (walked h.at (h.many + objects)).moment.core (walked h.at (h.many + objects)).moment.collection) h.held (walked_free h.at h.law h.moment h.alone h.leaves (h.many + objects)))))
     ]
 
-pub round_free : (now : Moment) → Law now.core → (logs : List ℕ) (turns : ℕ) → MomentLaw (after_selecting now logs) →
+pub round_free : (now : Moment) → Law now.core → (logs : List ℕ) (turns : ℕ) → MomentLaw (after_selecting now logs) → now.copying ≡ false →
     GivenFree (after_selecting now logs).collection (after_round now logs turns).core (after_round now logs turns).collection
-round_free now law [] turns begun = still_held now.core now.collection now.collection refl
-round_free now law (l ∷ ls) turns begun = turns_free (after_selecting now (l ∷ ls)) law begun refl turns
+round_free now law [] turns begun alone = still_held now.core now.collection now.collection refl
+round_free now law (l ∷ ls) turns begun alone = turns_free (after_selecting now (l ∷ ls)) law begun alone refl turns

@@ -272,7 +272,7 @@ module _ (now : Moment) (law : Law now.core) (moment : MomentLaw now) (alone : n
         logs,
         policy_takes now law moment alone policy most,
         begun_core logs (Contains logs) t
-            (moves_take (after_selecting now logs) t taken.0 taken.1 leads.law (round_free now law logs turns begun.moment) (Contains logs) (λ l c. held l ∙ in_among l logs c) (λ l off. held l ∙ not_named logs l off) (chosen_held t) (not_chosen t leads.moment)),
+            (moves_take (after_selecting now logs) t taken.0 taken.1 leads.law (round_free now law logs turns begun.moment alone) (Contains logs) (λ l c. held l ∙ in_among l logs c) (λ l off. held l ∙ not_named logs l off) (chosen_held t) (not_chosen t leads.moment)),
       )
 
   -- a round that was stopped
