@@ -50,7 +50,7 @@ fn owners_of(
 pub fn shared(alloc: Global, shape: Shape) -> Result<Shared, Refused> {
     let device = MemDevice::new(alloc);
     let core = Core::new(alloc, shape, true)?;
-    let (seat, seats) = share(alloc, core, Snapshot::of(&device))?;
+    let (seat, seats, _copiers) = share(alloc, core, Snapshot::of(&device))?;
     let Ok(owners) = owners_of(alloc, seats) else {
         return Err(Refused::Memory);
     };
