@@ -88,7 +88,7 @@ fn seats_of(alloc: Global, core: Core, pointer: u16) -> Result<Option<(BookHand,
         return Ok(None);
     }
     let device = MemDevice::new(alloc);
-    let (book, mut seats) = share(alloc, core, Snapshot::of(&device))?;
+    let (book, mut seats, _copiers) = share(alloc, core, Snapshot::of(&device))?;
     let Some(seat) = seats.pop() else {
         return Ok(None);
     };

@@ -130,9 +130,9 @@ keeps_more s t u logs f g = record {
   epoch = g.epoch ∙ f.epoch;
 }
 
--- marks were found, and words read or forgotten; or owners had a turn
+-- marks were found, and words read or forgotten; or others had a turn
 abbrev framed : State → State
-framed s = record (hidden s (λ _. 0) (λ _. 0)) { stored = λ _ _. 0 }
+framed s = record (hidden s (λ _. 0) (λ _. 0) (λ _. 0)) { stored = λ _ _. 0 }
 
 keeps_found : (s t : State) (logs : List ℕ) → framed t ≡ framed s → ((p : ℕ) → Finds (s.cell p) (t.cell p)) → KeepsLogs s t logs
 keeps_found s t logs rest found = record {

@@ -25,7 +25,10 @@ use Rattle.far_core.specs.state.State.{State, put}
 use Rattle.far_core.proofs.Put.{put_other, put_same}
 use Rattle.far_core.proofs.RoomLaws.{room_right}
 use Rattle.far_book.specs.book.Dealing.{goal, has_evac}
+use Rattle.far_hand.specs.FindsJob.{FindsJob}
+use Rattle.far_hand.specs.MayBe.{job_itself}
 use Rattle.far_hand.specs.Quiet.{IsQuietNear}
+use Rattle.far_hand.proofs.JobsFound.{empty_found, job_is, job_more}
 use Rattle.far_book.specs.book.Effects.{fetched, moved, near_word, order_after, placed, retired, stayed, with_blank_span, with_written_span}
 use Rattle.far_book.specs.book.Fetching.{IsFar, far_len, room_for}
 use Rattle.far_book.proofs.region.Fetched.{fetched_come}
@@ -96,7 +99,7 @@ module _ (m : Moment) (t : State) (law : Law m.core) (moment : MomentLaw m) (the
     only = λ risen l is. moment.only risen l (sym (ap (λ (round : ℕ → Bool). round l) aside.round) ∙ is);
     clear = λ leaves k lt. ap (λ (clear : ℕ → Bool). clear k) aside.clear ∙ moment.clear leaves k (subst (λ n. k < n) aside.mutators lt);
     later = λ marks. subst (λ e. e + 1 < EPOCH_END) (sym aside.epoch) (moment.later marks);
-    alone = λ j. ap (λ (words : ℕ → ℕ). words j) aside.jobs ∙ moment.alone j;
+    alone = λ j. empty_found (m.core.copying.word j) (t.copying.word j) (aside.jobs j) (moment.alone j);
   }
 
 pub steps_keep : StepsKeep
@@ -111,7 +114,7 @@ steps_join s t u a b one = record {
   round = b.round ∙ a.round;
   round_epoch = b.round_epoch ∙ a.round_epoch;
   clear = b.clear ∙ a.clear;
-  jobs = b.jobs ∙ a.jobs;
+  jobs = λ j. job_more (s.copying.word j) (t.copying.word j) (u.copying.word j) (a.jobs j) (b.jobs j);
   stay = λ l shut. b.stay l (a.stay l shut);
   others = λ l ne other. elim one [
     | inl same ↦ b.others l (λ e. ne (e ∙ same)) other ∙ a.others l ne (λ e. ne (e ∙ same))
@@ -124,8 +127,9 @@ steps_join s t u a b one = record {
 }
 
 -- ---- which steps are such
-pub still_aside : StillStepsAside
-still_aside s t mutators logs epoch round round_epoch clear jobs kind current = record {
+going_aside : (s t : State) → t.mutators ≡ s.mutators → t.logs ≡ s.logs → t.epoch ≡ s.epoch → t.round ≡ s.round → t.round_epoch ≡ s.round_epoch → t.clear ≡ s.clear →
+    ((j : ℕ) → FindsJob (s.copying.word j) (t.copying.word j)) → t.kind ≡ s.kind → t.current ≡ s.current → StepsAside s t
+going_aside s t mutators logs epoch round round_epoch clear jobs kind current = record {
   mutators = mutators;
   logs = logs;
   epoch = epoch;
@@ -138,9 +142,13 @@ still_aside s t mutators logs epoch round round_epoch clear jobs kind current = 
   shut = λ other. absurd (other current);
 }
 
+pub still_aside : StillStepsAside
+still_aside s t mutators logs epoch round round_epoch clear jobs kind current =
+    going_aside s t mutators logs epoch round round_epoch clear (λ j. job_is (s.copying.word j) (t.copying.word j) (ap (λ (words : ℕ → ℕ). words j) jobs)) kind current
+
 pub owners_aside : OwnersStepAside
-owners_aside s t change = still_aside s t (ap (λ (u : State). u.mutators) change.rest) (ap (λ (u : State). u.logs) change.rest) (ap (λ (u : State). u.epoch) change.rest) (ap (λ (u : State). u.round) change.rest)
-    (ap (λ (u : State). u.round_epoch) change.rest) (ap (λ (u : State). u.clear) change.rest) (ap (λ (u : State). u.copying.word) change.rest) (ap (λ (u : State). u.kind) change.rest) (ap (λ (u : State). u.current) change.rest)
+owners_aside s t change = going_aside s t (ap (λ (u : State). u.mutators) change.rest) (ap (λ (u : State). u.logs) change.rest) (ap (λ (u : State). u.epoch) change.rest) (ap (λ (u : State). u.round) change.rest)
+    (ap (λ (u : State). u.round_epoch) change.rest) (ap (λ (u : State). u.clear) change.rest) change.jobs (ap (λ (u : State). u.kind) change.rest) (ap (λ (u : State). u.current) change.rest)
 
 -- a span is taken where the next may stand
 taken_aside : (s : State) → Law s → (word : ℕ → ℕ) (p new len : ℕ) (to : Place) → IsNext s to → StepsAside s (with_span (record s { word = word }) p new len to)
@@ -151,7 +159,7 @@ taken_aside s law word p new len to next = record {
   round = refl;
   round_epoch = refl;
   clear = refl;
-  jobs = refl;
+  jobs = λ j. job_itself (s.copying.word j);
   stay = λ l shut.
       put_other (put s.kind s.current kinds.Sealed) to.log kinds.Open l (λ e. next_unsealed s to next (ap s.kind (sym e) ∙ shut))
       ∙ put_other s.kind s.current kinds.Sealed l (λ e. open_unsealed (s.kind s.current) law.logs.is_open (ap s.kind (sym e) ∙ shut)) ∙ shut;

@@ -1,4 +1,4 @@
--- What callers do between two calls of a round: owners' events, and calls of the book that are none of the round's. They leave the round alone.
+-- What callers do between two calls of a round: owners' events and copiers', and calls of the book that are none of the round's. They leave the round alone.
 use Rattle.std.specs.Prelude.{◌≡◌, ◌≢◌, ◌⊎◌, ℕ, ◌<◌, ◌≤◌, true, false, Bool, Some}
 use Rattle.far_word.specs.declared.pointer.Place.{Place}
 use Rattle.far_word.specs.declared.sizes.TheConstants.{LONGEST}
@@ -9,6 +9,7 @@ use Rattle.far_core.specs.events.Naming.{is_dropped}
 use Rattle.far_core.specs.state.Law.{Law}
 use Rattle.far_core.specs.state.Room.{room}
 use Rattle.far_core.specs.state.State.{State}
+use Rattle.far_hand.specs.FindsJob.{FindsJob}
 use Rattle.far_hand.specs.Others.{OthersChange}
 use Rattle.far_book.specs.book.Ages.{SealsBehind}
 use Rattle.far_book.specs.book.Dealing.{goal, moved_now, order_moved}
@@ -18,8 +19,8 @@ use Rattle.far_book.specs.book.Fetching.{IsFar, room_for}
 use Rattle.far_evac.specs.Moment.{Moment, with_core}
 use Rattle.far_evac.specs.MomentLaw.{MomentLaw}
 
--- from s to t the round is left alone: its logs, its epoch and who was seen clear stay, the jobs' words too, and each sealed log stays sealed. Another log may have been
--- opened; then the one that was open is sealed, and no third log has changed its kind
+-- from s to t the round is left alone: its logs, its epoch and who was seen clear stay, copiers alone have gone on with jobs, and each sealed log stays sealed. Another log
+-- may have been opened; then the one that was open is sealed, and no third log has changed its kind
 pub record StepsAside (s t : State) : Type 0 where
   pub mutators : t.mutators ≡ s.mutators
   pub logs : t.logs ≡ s.logs
@@ -27,7 +28,7 @@ pub record StepsAside (s t : State) : Type 0 where
   pub round : t.round ≡ s.round
   pub round_epoch : t.round_epoch ≡ s.round_epoch
   pub clear : t.clear ≡ s.clear
-  pub jobs : t.copying.word ≡ s.copying.word
+  pub jobs : (j : ℕ) → FindsJob (s.copying.word j) (t.copying.word j)
   pub stay : (l : ℕ) → s.kind l ≡ Sealed → t.kind l ≡ Sealed
   pub others : (l : ℕ) → l ≢ s.current → l ≢ t.current → t.kind l ≡ s.kind l
   pub shut : t.current ≢ s.current → t.kind s.current ≡ Sealed
@@ -46,7 +47,7 @@ abbrev pub StillStepsAside : Type 0
 StillStepsAside = (s t : State) → t.mutators ≡ s.mutators → t.logs ≡ s.logs → t.epoch ≡ s.epoch → t.round ≡ s.round → t.round_epoch ≡ s.round_epoch → t.clear ≡ s.clear → t.copying.word ≡ s.copying.word →
     t.kind ≡ s.kind → t.current ≡ s.current → StepsAside s t
 
--- whatever owners do
+-- whatever owners and copiers do
 abbrev pub OwnersStepAside : Type 0
 OwnersStepAside = (s t : State) → OthersChange s t → StepsAside s t
 

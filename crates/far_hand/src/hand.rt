@@ -80,10 +80,11 @@ pub trait Near {
         ensures set { still → view self.new ≡ after (view self.old) (Event.Clear pointer) }
         ensures made { makes self.old (Event.Clear pointer) (Reply.Word result) self.new };
 
-    /// Word `at` of a log. With `free` the log, which is sealed and has no live span, is given back too.
+    /// Word `at` of a log. With `free` the log, which is sealed, has no live span, and is read and written by no job, is given
+    /// back too.
     ///
     /// The word is known from then on where it was, or where the view shows it to be a data word of a quiet object, and nowhere else: an
-    /// owner may store into it. As a log is given back, words may be forgotten.
+    /// owner may store into it, or a copier write there. As a log is given back, words may be forgotten.
     fn get(&mut self, log: u8, at: u16, free: bool) -> u64
         requires legal { Legal (view self.old) (Event.Get log at free) }
         ensures known { IsKnown ((view self.old).word (log * LOG_WORDS + at)) → result ≡ (view self.old).word (log * LOG_WORDS + at) }

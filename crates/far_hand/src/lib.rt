@@ -6,10 +6,10 @@
 
 mod beset;
 mod hand;
-mod makers;
+mod owners;
 mod plain;
 
 pub use beset::Beset;
 pub use hand::Near;
-pub use makers::is_owners;
+pub use owners::is_owners;
 pub use plain::Plain;

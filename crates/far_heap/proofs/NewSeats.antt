@@ -59,8 +59,8 @@ none_used v start = record {
 }
 
 -- what the book's seat knows at the start
-pub shape_start : (s v : State) (shape : Shape) (honest : Bool) → s ≡ opening shape false → v ≡ masked (record s { honest = honest }) s.cell (λ _. false) → shape_of v ≡ shape
-shape_start s v shape honest e is = ap shape_of (is ∙ ap (λ (t : State). masked (record t { honest = honest }) t.cell (λ _. false)) e)
+pub shape_start : (s v : State) (shape : Shape) (honest : Bool) → s ≡ opening shape false → v ≡ masked (record s { honest = honest }) s.cell (λ _. false) s.copying.word → shape_of v ≡ shape
+shape_start s v shape honest e is = ap shape_of (is ∙ ap (λ (t : State). masked (record t { honest = honest }) t.cell (λ _. false) t.copying.word) e)
 
-pub seat_start : (s v : State) (shape : Shape) (honest : Bool) → s ≡ opening shape false → v ≡ masked (record s { honest = honest }) s.cell (λ _. false) → IsAtStart v
-seat_start s v shape honest e is = subst IsAtStart (sym (is ∙ ap (λ (t : State). masked (record t { honest = honest }) t.cell (λ _. false)) e)) refl
+pub seat_start : (s v : State) (shape : Shape) (honest : Bool) → s ≡ opening shape false → v ≡ masked (record s { honest = honest }) s.cell (λ _. false) s.copying.word → IsAtStart v
+seat_start s v shape honest e is = subst IsAtStart (sym (is ∙ ap (λ (t : State). masked (record t { honest = honest }) t.cell (λ _. false) t.copying.word) e)) refl

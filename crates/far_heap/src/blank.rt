@@ -52,7 +52,7 @@ impl<D: Device + Drop> Blank<D> {
             Ok(core) => core,
             Err(why) => return Err(why),
         };
-        let Ok((seat, seats)) = share(alloc, core, Snapshot::of(&device)) else {
+        let Ok((seat, seats, _copiers)) = share(alloc, core, Snapshot::of(&device)) else {
             return Err(Refused::Memory);
         };
         let Ok(book) = Book::new(alloc, seat, device) else {

@@ -1,6 +1,6 @@
 -- What the struct of a copier's seat keeps over a step, for all kinds of step, and what is so of a job that it has.
-use Rattle.std.proofs.Common.{◌≡◌, ◌≢◌, ◌+◌, ◌*◌, ◌<◌, ◌≤◌, ℕ, Bool, true, false, cond, set, refl, sym, ap, ◌∙◌, subst, arith, Some, None}
-use Rattle.std.specs.Prelude.{◌==◌}
+use Rattle.std.proofs.Common.{◌≡◌, ◌≢◌, ◌+◌, ◌*◌, ◌<◌, ◌≤◌, ℕ, Bool, true, false, cond, set, refl, sym, ap, ◌∙◌, subst, arith, Option, Some, None}
+use Rattle.std.specs.Prelude.{◌==◌, option_map}
 use Rattle.std.proofs.lemmas.Bool.{eq-eqb, ne_eqb}
 use Rattle.std.proofs.Math.Logic.{∥∥₁_elim}
 use Rattle.std.proofs.Props.{props}
@@ -92,18 +92,26 @@ task_within v t there task = ∥∥₁_elim there (hlevel props) (λ (x : (s : S
     let lies = task_lies (state_of may.words may.book may.others) may.facts.law v.number t (has may.words may.book may.others may.facts v may.stands t task) in
     (lies.0, lies.1.0))
 
+-- the length of which the words are
+length_of : (x : Option ℕ) (w : ℕ) → option_map words_for x ≡ Some w → (n : ℕ) × (x ≡ Some n) × (words_for n ≡ w)
+length_of None w e = absurd cc
+length_of (Some n) w e = let is : words_for n ≡ w = cc in (n, refl, is)
+
 module _ (v : CopierView) (job : Job) (own : IsJobOf job v) where
+  pub len : (n : ℕ) × (v.length ≡ Some n) × (words_for n ≡ job.words)
+  len = length_of v.length job.words own.long
+
   pub job_fits : CopierStands v → (addr job.task.job.from + 1 + job.words ≤ MOST_LOGS * LOG_WORDS) × (addr job.task.job.to + 1 + job.words ≤ MOST_LOGS * LOG_WORDS)
   job_fits there = ∥∥₁_elim there (hlevel props) (λ (x : (s : State) × CopierMayBe v s).
       let may = x.1 in
       let k = has may.words may.book may.others may.facts v may.stands job.task own.task in
-      let long = may.facts.law.copies.taken.long v.number own.len job.task k (ap (λ (y : CopierView). y.length) (copier_is may.others.copiers v.number v v may.stands) ∙ own.long) in
-      let words = own.words ∙ ap words_for long in
+      let long = may.facts.law.copies.taken.long v.number len.0 job.task k (ap (λ (y : CopierView). y.length) (copier_is may.others.copiers v.number v v may.stands) ∙ len.1) in
+      let words = sym len.2 ∙ ap words_for long in
       let fits = task_fits may.words may.book may.others may.facts v may.stands job.task own.task in
       (omega (arith, fits.0, words), omega (arith, fits.1, words)))
 
-  pub all_written : IsCopied job → (i : ℕ) → i < words_for own.len → words_written v i ≡ true
-  all_written whole i low = own.written i (let words = own.words in omega (arith, whole, words, low))
+  pub all_written : IsCopied job → (i : ℕ) → i < words_for len.0 → words_written v i ≡ true
+  all_written whole i low = own.written i (let words = len.2 in omega (arith, whole, words, low))
 
   -- it is the copier's alone
   pub taken_by : (s : State) → CopierMayBe v s → IsTakenBy v.number job s
@@ -112,13 +120,13 @@ module _ (v : CopierView) (job : Job) (own : IsJobOf job v) where
       let k = has may.words may.book may.others may.facts v may.stands job.task own.task in
       let taken = may.facts.law.copies.taken in
       let says = taken.takes v.number job.task k in
-      let long = taken.long v.number own.len job.task k (ap (λ (y : CopierView). y.length) (copier_is may.others.copiers v.number v v may.stands) ∙ own.long) in
+      let long = taken.long v.number len.0 job.task k (ap (λ (y : CopierView). y.length) (copier_is may.others.copiers v.number v v may.stands) ∙ len.1) in
       subst (IsTakenBy v.number job) (sym may.is) record {
         says = says;
         has = k;
         alone = λ d t other same.
             let both : Some (Taken t.job d) ≡ Some (Taken job.task.job v.number) = sym (taken.takes d t other) ∙ ap (λ j. job_of (x.copying.word j)) same ∙ says in cc;
-        words = own.words ∙ ap words_for long;
+        words = sym len.2 ∙ ap words_for long;
       }
 
 -- a write changes the next word of the target alone
@@ -151,9 +159,7 @@ module _ (v mid : View) (job : Job) (own : IsJobOf job (copier_of v)) (word : �
     pub own_on : job.copied ≢ job.words → IsJobOf (copied_on job) (copier_of v')
     own_on left = subst (IsJobOf (copied_on job)) (sym written_on) record {
       task = own.task;
-      len = own.len;
       long = own.long;
-      words = own.words;
       some = let most = own.some in omega arith;
       written = λ i lt. put_both (λ b. b ≡ true) (words_written (copier_of v)) job.copied true i (λ _. refl) (λ ne. own.written i (omega (arith, lt)));
     }

@@ -1,5 +1,5 @@
 -- What a contract sees of a copier's seat, and of a job that it has.
-use Rattle.std.specs.Prelude.{◌≡◌, ◌≢◌, ◌⊎◌, ◌+◌, ◌<◌, ◌≤◌, ℕ, true, Some, None}
+use Rattle.std.specs.Prelude.{◌≡◌, ◌≢◌, ◌⊎◌, ◌+◌, ◌<◌, ◌≤◌, ℕ, true, Some, None, option_map}
 use Rattle.far_word.specs.declared.job.JobWord.TheVariants.{Offered, Taken}
 use Rattle.far_word.specs.Job.{job_of}
 use Rattle.far_word.specs.Sizes.{words_for}
@@ -19,9 +19,7 @@ use Rattle.far_table.specs.View.{CopierView}
 -- the job is the one that the copier has, of as many words as the length that it has read says; so many of them were written, from the first on
 pub record IsJobOf (job : Job) (v : CopierView) : Type 0 where
   pub task : v.task ≡ Some job.task
-  pub len : ℕ
-  pub long : v.length ≡ Some len
-  pub words : job.words ≡ words_for len
+  pub long : option_map words_for v.length ≡ Some job.words
   pub some : job.copied ≤ job.words
   pub written : (i : ℕ) → i < job.copied → words_written v i ≡ true
 

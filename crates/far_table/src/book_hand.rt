@@ -129,7 +129,7 @@ impl<D: Device> Near for BookSeat<D> {
             .table
             .shared
             .compare_exchange::<rule::Collect>(&mut self.seat, job as usize + JOBS_AT, old, 0);
-        if found == old { Ok(()) } else { Err(found) }
+        if old == found { Ok(()) } else { Err(found) }
     }
 
     fn shape(&self) -> Shape {

@@ -137,8 +137,8 @@ fn deal_copier<D: Device>(
 {
     let _plan = plan;
     let table = Arc::try_clone(table)?;
-    let dealt = table.shared.split_seat::<Deal>(seat);
-    Ok(CopySeat::new(table, dealt, number))
+    let copier = table.shared.split_seat::<Deal>(seat);
+    Ok(CopySeat::new(table, copier, number))
 }
 
 // The seats of all copiers, in their order. They come before the owners'.

@@ -62,5 +62,5 @@ fresh_seats xs table shape honest s e few is =
     }
 
 -- what the book's seat knows at the start
-pub seat_start : (s v : State) (shape : Shape) (honest : Bool) → s ≡ opening shape honest → v ≡ masked (record s { honest = honest }) s.cell (λ _. false) → IsAtStart v
-seat_start s v shape honest e is = subst IsAtStart (sym (is ∙ ap (λ (t : State). masked (record t { honest = honest }) t.cell (λ _. false)) e)) refl
+pub seat_start : (s v : State) (shape : Shape) (honest : Bool) → s ≡ opening shape honest → v ≡ masked (record s { honest = honest }) s.cell (λ _. false) s.copying.word → IsAtStart v
+seat_start s v shape honest e is = subst IsAtStart (sym (is ∙ ap (λ (t : State). masked (record t { honest = honest }) t.cell (λ _. false) t.copying.word) e)) refl

@@ -105,8 +105,8 @@ impl Near for Beset {
     fn offer(&mut self, job: u8, pointer: u16, from: Place, to: Place) {
         self.turn();
         self.core.offer(job, pointer, to);
-        find_job(&mut self.jobs, job, offered(pointer, from, to));
         forget(&mut self.counted);
+        find_job(&mut self.jobs, job, offered(pointer, from, to));
     }
 
     fn see_job(&mut self, job: u8) -> u64 {

@@ -8,7 +8,6 @@ ghost use Rattle.far_hand.specs.Makers.{is_others};
 ghost use Rattle.far_hand.specs.Others.{OthersChange};
 
 use crate::beset::Beset;
-use crate::makers::is_others;
 use far_core::{Core, Event};
 
 impl Beset {
@@ -37,4 +36,37 @@ fn step_other(core: &mut Core, event: Event)
     ensures change { OthersChange (core_state core.old) (core_state core.new) }
 {
     core.step(event);
+}
+
+/// Whether an event is an owner's or a copier's; all others are the book's.
+fn is_others(event: Event) -> bool
+    ensures { result ≡ is_others event }
+{
+    match event {
+        Event::ReadEpoch { .. }
+        | Event::Open { .. }
+        | Event::Pin { .. }
+        | Event::Load { .. }
+        | Event::Store { .. }
+        | Event::Close { .. }
+        | Event::Adopt { .. }
+        | Event::Ask { .. }
+        | Event::PeekJob { .. }
+        | Event::Claim { .. }
+        | Event::ReadLength { .. }
+        | Event::Read { .. }
+        | Event::Write { .. }
+        | Event::Finish { .. } => true,
+        Event::Put { .. }
+        | Event::Name { .. }
+        | Event::See { .. }
+        | Event::Mark { .. }
+        | Event::Get { .. }
+        | Event::Clear { .. }
+        | Event::Advance { .. }
+        | Event::Look { .. }
+        | Event::Offer { .. }
+        | Event::SeeJob { .. }
+        | Event::Collect { .. } => false,
+    }
 }

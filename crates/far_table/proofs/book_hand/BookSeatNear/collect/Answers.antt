@@ -24,17 +24,17 @@ invariant_of-self g c =
       stands = stands_after _ _ _ _ _ t;
     }
 
-pub returns-then-found-old-clause-done : goal.returns-then-found-old-clause-done
-returns-then-found-old-clause-done g c =
-    let t = emptied_tells _ _ _ c.args.job c.args.old c.compare_exchange-found.result (c.compare_exchange-found.ensures.2 c.args.job refl).1 c.if-found-old.true in
+pub returns-then-old-found-clause-done : goal.returns-then-old-found-clause-done
+returns-then-old-found-clause-done g c =
+    let t = emptied_tells _ _ _ c.args.job c.args.old c.compare_exchange-found.result (c.compare_exchange-found.ensures.2 c.args.job refl).1 (sym c.if-old-found.true) in
     ap book_state (view_is _ _ _ _ _ t) ∙ sym (collect_empties (book_state (book_of c.args.self.now.seat.me.0)) c.args.job c.args.old (sym c.requires.seen))
 
-pub returns-then-found-old-clause-made : goal.returns-then-found-old-clause-made
-returns-then-found-old-clause-made g c = (
+pub returns-then-old-found-clause-made : goal.returns-then-old-found-clause-made
+returns-then-old-found-clause-made g c = (
   c.compare_exchange-found.ensures.0,
-  seat_made _ _ _ _ _ (emptied_tells _ _ _ c.args.job c.args.old c.compare_exchange-found.result (c.compare_exchange-found.ensures.2 c.args.job refl).1 c.if-found-old.true),
+  seat_made _ _ _ _ _ (emptied_tells _ _ _ c.args.job c.args.old c.compare_exchange-found.result (c.compare_exchange-found.ensures.2 c.args.job refl).1 (sym c.if-old-found.true)),
 )
 
-pub returns-else-found-old-clause-kept : goal.returns-else-found-old-clause-kept
-returns-else-found-old-clause-kept g c =
-    ap book_state (view_is _ _ _ _ _ (kept_tells _ _ _ c.args.job c.args.old c.compare_exchange-found.result (c.compare_exchange-found.ensures.2 c.args.job refl).1 c.if-found-old.false))
+pub returns-else-old-found-clause-kept : goal.returns-else-old-found-clause-kept
+returns-else-old-found-clause-kept g c =
+    ap book_state (view_is _ _ _ _ _ (kept_tells _ _ _ c.args.job c.args.old c.compare_exchange-found.result (c.compare_exchange-found.ensures.2 c.args.job refl).1 (λ e. c.if-old-found.false (sym e))))

@@ -4,7 +4,7 @@ use Rattle.far_table.specs.CopySeats.{CopiedNext, IsJobOf}
 use Rattle.far_table.specs.Layout.{data_at}
 use Rattle.far_table.specs.Seats.{CopierSeated}
 use Rattle.far_table.specs.Tells.{copier_of}
-use Rattle.far_table.proofs.CopySeatLemmas.{copied_next, copier_stays, got_on, job_fits, own_on, task_on}
+use Rattle.far_table.proofs.CopySeatLemmas.{copied_next, copier_stays, got_on, job_fits, len, own_on, task_on}
 use Rattle.far_table.proofs.CopySteps.{reads_source, writes_target}
 use Rattle.far_table.proofs.SeatLemmas.{inside}
 use Rattle.far_table.proofs.copy_seat.CopySeat.copy_word.Goals as goal
@@ -15,10 +15,10 @@ load-word-requires g c =
     let job = c.args.job.now in
     let own = subst (λ (z : CopierSeated). IsJobOf job z.view) (sym c.self.view_is) c.requires.own in
     let fits = (job_fits _ job own i.5).0 in
-    let some = own.some in let words = own.words in let left = c.if-job.false in
+    let long = len _ job own in let some = own.some in let words = long.2 in let left = c.if-job.false in
     let here : c.head_at.result + (job.copied + 1 + 1200) ≡ data_at (addr job.task.job.from + 1 + job.copied) = omega (arith, c.head_at.ensures) in
     let t = inside _ _ _ (c.head_at.result + (job.copied + 1 + 1200)) i.0 (ap (λ t. t.shared.table_id) c.deref.ensures) i.1 (omega (arith, here, fits, some, left)) in
-    (t.0, t.1, reads_source _ _ _ i.2 job.task own.task own.len job.copied _ own.long (omega (arith, some, left, words)) here)
+    (t.0, t.1, reads_source _ _ _ i.2 job.task own.task long.0 job.copied _ long.1 (omega (arith, some, left, words)) here)
 
 pub overflow_add-to : goal.overflow_add-to
 overflow_add-to g c =

@@ -46,7 +46,7 @@ pub returns-clause-missed : goal.returns-clause-missed
 returns-clause-missed g c =
     let before = c.self.view_is ∙ c.peek-word.ensures.same in
     elim c.if-found-word.branch [
-      | then-found-word w ↦ (λ e. let odd : Some record { number = c.args.number; job = c.in-Some-Offered.job } ≡ None = sym w.result-is ∙ e in absurd cc)
+      | then-found-word w ↦ (λ e. let task : Task = record { number = c.args.number; job = c.in-Some-Offered.job } in let odd : Some task ≡ None = sym w.result-is ∙ e in absurd cc)
       | else-found-word w ↦ (λ _.
           let t = claim_lost _ _ _ c.args.number c.peek-word.result c.compare_exchange-found.result c.in-Some-Offered.job (sym c.read.ensures.exact ∙ (c.in-Some-Offered.is ∙ ap Some c.in-Some-Offered.field-0-is))
           (c.compare_exchange-found.ensures.2 c.args.number refl) w.if-found-word.false in
