@@ -1,5 +1,5 @@
 -- What is known for the book's calls about jobs.
-use Rattle.std.specs.Prelude.{◌≡◌, ◌⊎◌, ◌+◌, ◌*◌, ◌<◌, ◌≤◌, ℕ, Bool, true, false, Option, Some}
+use Rattle.std.specs.Prelude.{◌≡◌, ◌⊎◌, ◌+◌, ◌<◌, ◌≤◌, ℕ, Bool, true, false, Option, Some}
 use Rattle.far_word.specs.declared.job.Job.{Job}
 use Rattle.far_word.specs.declared.mark.Marks.{Marks}
 use Rattle.far_word.specs.declared.pointer.Place.{Place}
@@ -10,7 +10,6 @@ use Rattle.far_core.specs.declared.event.Kind.{Kind}
 use Rattle.far_core.specs.declared.event.Kind.TheVariants.{Free, Open}
 use Rattle.far_core.specs.events.Naming.{no_marks}
 use Rattle.far_core.specs.state.State.{State}
-use Rattle.tests_seats.specs.declared.tests.jobs.Object.{Object}
 
 -- the first two logs are in the round, and the first owner was seen clear in it; the next span of the open log begins at a place, and a log is free,
 -- if there is one
@@ -28,7 +27,11 @@ pub record RoomBy (mutators logs current : ℕ) (kind : ℕ → Kind) (tail : �
 abbrev pub HasRoom : State → Place → Option ℕ → Type 0
 HasRoom s = RoomBy s.mutators s.logs s.current s.kind s.tail s.round s.clear
 
--- so many jobs, the first ones, were offered in this round; and the word of one job, as it was last found
+-- so many jobs, the first ones, were offered in this round
+abbrev pub HasBegun : State → ℕ → Type 0
+HasBegun s offered = (j : ℕ) → j < offered → s.copying.since j ≡ s.round_epoch
+
+-- and the word of one job is as it was last found
 pub record JobsBy (jobs since : ℕ → ℕ) (epoch offered job word : ℕ) : Type 0 where
   pub few : offered ≤ JOBS
   pub begun : (j : ℕ) → j < offered → since j ≡ epoch
@@ -39,16 +42,23 @@ abbrev pub KnowsJobs : State → ℕ → ℕ → ℕ → Type 0
 KnowsJobs s = JobsBy s.copying.word s.copying.since s.round_epoch
 
 -- the pointer's object lies in one of the first two logs with EVAC
-pub record IsMarked (s : State) (p : ℕ) (x : Object) : Type 0 where
+pub record MarkedBy (cell : ℕ → ℕ) (p len ds : ℕ) (place : Place) : Type 0 where
   pub marks : Marks
-  pub near : read_of (s.cell p) ≡ Some (Near x.len x.ds x.place marks)
-  pub layout : IsPtr (Near x.len x.ds x.place marks)
+  pub near : read_of (cell p) ≡ Some (Near len ds place marks)
+  pub layout : IsPtr (Near len ds place marks)
   pub marked : marks.evac ≡ true
-  pub chosen : x.place.log < 2
+  pub chosen : place.log < 2
+
+abbrev pub IsMarked : State → ℕ → ℕ → ℕ → Place → Type 0
+IsMarked s = MarkedBy s.cell
 
 -- a span of so many words goes to a place: to the end of the open log, or to the start of the free one, and ends within its log
 abbrev pub IsRoom : Place → Option ℕ → ℕ → Place → Type 0
 IsRoom next spare size to = ((to ≡ next) ⊎ ((spare ≡ Some to.log) × (to.at ≡ 0))) × (to.at + size ≤ LOG_WORDS)
+
+-- a log that is free still, once a span was taken there
+abbrev pub IsLeft : Place → Option ℕ → Place → Option ℕ → Type 0
+IsLeft next spare to spare' = (l : ℕ) → spare' ≡ Some l → (spare ≡ Some l) × (to.log ≡ next.log)
 
 -- a cell names the source of a job, with EVAC and without DROP; and another word names its target
 pub record IsMoved (job : Job) (cell new : ℕ) : Type 0 where

@@ -9,7 +9,7 @@ ghost use Rattle.far_core.specs.events.Collect.{is_loose};
 ghost use Rattle.far_core.specs.events.Copies.{data_at};
 ghost use Rattle.far_core.specs.events.Legal.{IsNext};
 ghost use Rattle.far_core.specs.state.State.{addr};
-ghost use Rattle.tests_seats.specs.Offers.{HasRoom, IsMarked, IsMoved, IsRoom, KnowsJobs};
+ghost use Rattle.tests_seats.specs.Offers.{HasRoom, IsLeft, IsMarked, IsMoved, IsRoom, KnowsJobs};
 
 use crate::tests::pairs::NO_MARKS;
 use far_hand::Near;
@@ -48,7 +48,7 @@ pub(super) struct JobBook<N: Near + Drop> {
 fn marked<N: Near>(near: &mut N, pointer: u16) -> Option<Object>
     requires { pointer < CELLS * (N.view near.old).mutators }
     ensures kept { N.view near.new ≡ record (N.view near.old) { cell = (N.view near.new).cell } }
-    ensures found { IfSome result (λ object. IsMarked (N.view near.new) pointer object) }
+    ensures found { IfSome result (λ object. IsMarked (N.view near.new) pointer object.len object.ds object.place) }
 {
     match PtrWord::read(near.see(pointer)) {
         Some(
@@ -76,6 +76,13 @@ fn room(next: Place, spare: Option<u8>, size: u16) -> Option<Place>
         return None;
     };
     Some(Place { log, at: 0 })
+}
+
+/// The free log that is left once a span was taken.
+fn left(next: Place, spare: Option<u8>, to: Place) -> Option<u8>
+    ensures { IsLeft next spare to result }
+{
+    if to.log == next.log { spare } else { None }
 }
 
 /// Writes what an offer asks for at the place of a new span: a header, and a last data word of 0.
@@ -196,9 +203,7 @@ impl<N: Near + Drop> JobBook<N> {
         };
         blank(&mut self.near, head, to);
         self.near.offer(job, pointer, object.place, to);
-        if to.log != self.next.log {
-            self.spare = None;
-        }
+        self.spare = left(self.next, self.spare, to);
         self.next = Place {
             log: to.log,
             at: to.at + size,
@@ -221,7 +226,10 @@ impl<N: Near + Drop> JobBook<N> {
         let Some(new) = moved(cell, job) else {
             return false;
         };
-        self.near.name(job.pointer, cell, new).is_ok()
+        match self.near.name(job.pointer, cell, new) {
+            Ok(()) => true,
+            Err(_) => false,
+        }
     }
 
     /// Empties the job at hand, if nobody has it; else its word.
