@@ -2,6 +2,7 @@
 
 mod acts;
 mod heaps;
+mod jobs;
 mod moving;
 mod owners;
 mod pairs;
