@@ -139,12 +139,16 @@ module _ (u : State) (next : Place) (spare : Option ℕ) (offered n word c old n
   form = ((moved.marks, moved.was, moved.kept, stays_not job.from job.to moved.marks moved.marked), moved.is)
 
   copied : WasCopied u job.pointer job.from job.to
-  copied = (n, c, record {
-    low = jobs.low;
-    lies = ap (λ w. near_place (read_of w)) at ∙ ap near_place moved.was;
-    finished = ap job_of jobs.found ∙ ends;
-    good = (jobs.begun n lt, room.chosen job.from.log chosen);
-  })
+  copied = (
+    n,
+    c,
+    record {
+      low = jobs.low;
+      lies = ap (λ w. near_place (read_of w)) at ∙ ap near_place moved.was;
+      finished = ap job_of jobs.found ∙ ends;
+      good = (jobs.begun n lt, room.chosen job.from.log chosen);
+    },
+  )
 
   pub may_name : job.pointer < CELLS → Legal u (Name job.pointer old new)
   may_name small = let owner = room.owner in (omega (arith, owner), (Moves moved.len moved.ds job.from job.to, form, inr copied))

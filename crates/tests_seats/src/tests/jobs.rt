@@ -112,14 +112,11 @@ fn moved(cell: u64, job: Job) -> Option<u64>
             place,
             marks,
         },
-    ) = PtrWord::read(cell) else {
+    ) = PtrWord::read(cell)
+    else {
         return None;
     };
-    if place != job.from
-        || marks.dropped
-        || !marks.evac
-        || job.to.at + size_of(len) > LOG_WORDS
-    {
+    if place != job.from || marks.dropped || !marks.evac || job.to.at + size_of(len) > LOG_WORDS {
         return None;
     }
     let copy = PtrWord::Near {
