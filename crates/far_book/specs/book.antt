@@ -3,6 +3,8 @@ pub mod Asking
 pub mod Blanks
 pub mod BookOf
 pub mod Calls
+pub mod Collecting
+pub mod Copies
 pub mod Dealing
 pub mod Actions
 pub mod Effects
@@ -18,6 +20,7 @@ pub mod Moving
 pub mod NextLive
 pub mod NumberSet
 pub mod Only
+pub mod Offering
 pub mod Own
 pub mod Placeable
 pub mod Reached

@@ -34,10 +34,12 @@ ghost use Rattle.far_hand.specs.ShapeOf.{shape_of};
 ghost use Rattle.far_book.specs.book.Reading.{HeadersKnown, IsReadAt};
 ghost use Rattle.far_book.specs.book.Rows.{row_of};
 
+mod collecting;
 mod fetching;
 mod leaving;
 mod moving;
 mod next;
+mod offering;
 mod over_beset;
 mod over_plain;
 mod renaming;

@@ -73,7 +73,7 @@ kept_far s t p why keeps h = absurd keeps
 
 module _ (now next : Moment) (m p : ℕ) (law : Law now.core) (opened : is_opened now.core m ≡ true) (own : p / CELLS ≡ m) (used : now.core.used p ≡ true) (why : Refusal) (keeps : KeepsFar why)
     (refuses : RefusesView now.core m p why next.core) (far : says_near (read_of (now.core.cell p)) ≡ false)
-    (order : next.order ≡ now.order) (phase : next.phase ≡ now.phase) (held : next.collection ≡ now.collection) where
+    (order : next.order ≡ now.order) (phase : next.phase ≡ now.phase) (held : next.collection ≡ now.collection) (copying : next.copying ≡ now.copying) where
   lies : SaysFar (read_of (now.core.cell p))
   lies = far_is (read_of (now.core.cell p)) far (law.views.used_cell p used)
 

@@ -1,19 +1,16 @@
 -- The book offers a job, reads a job's word, and empties one: each is its event of the core.
-use Rattle.std.proofs.Common.{◌≡◌, ◌≢◌, ◌+◌, ◌*◌, ◌<◌, ◌^◌, ℕ, Bool, true, false, cond, List, set, refl, sym, ap, ◌∙◌, subst, arith, Option, Some, None}
-use Rattle.std.specs.Prelude.{is_some, slice_index, ◌==◌}
+use Rattle.std.proofs.Common.{◌≡◌, ◌≢◌, ◌<◌, ◌^◌, ℕ, Bool, true, false, cond, List, set, refl, sym, ap, ◌∙◌, subst, arith, Some}
+use Rattle.std.specs.Prelude.{slice_index, ◌==◌}
 use Rattle.std.proofs.Math.Logic.{∥∥₁_elim}
 use Rattle.std.proofs.Props.{props}
 use Rattle.std.proofs.lemmas.Bool.{eq-eqb, eqb-false, eqb-true, ne_eqb}
-use mathlib.Core.Option.{some, none}
+use mathlib.Core.Option.{none}
 use prog.Atomic.{either}
 use lib.Seq.{set-get_or}
 use Rattle.atomic_table.specs.Table.{Me, step, Allows}
 use Rattle.far_word.specs.declared.job.Job.{Job}
-use Rattle.far_word.specs.declared.job.JobWord.{JobWord}
 use Rattle.far_word.specs.declared.job.JobWord.TheVariants.{Offered}
 use Rattle.far_word.specs.declared.mark.Marks.{Marks}
-use Rattle.far_word.specs.declared.pointer.Place.{Place}
-use Rattle.far_word.specs.declared.pointer.PtrWord.{PtrWord}
 use Rattle.far_word.specs.declared.pointer.PtrWord.TheVariants.{Near}
 use Rattle.far_word.specs.declared.sizes.TheConstants.{JOBS}
 use Rattle.far_word.specs.Header.{head_word}
@@ -34,13 +31,13 @@ use Rattle.far_hand.specs.Known.{Forgets, unknown}
 use Rattle.far_hand.specs.Masked.{AllFind, AllFindJobs, masked, masked_word}
 use Rattle.far_hand.proofs.Counting.{counts_none}
 use Rattle.far_hand.proofs.Finding.{IsNearTo, near_found}
-use Rattle.far_hand.proofs.JobsFound.{job_seen, jobs_put, jobs_set}
+use Rattle.far_hand.proofs.JobsFound.{jobs_put, jobs_set}
 use Rattle.far_hand.proofs.Offering.{collect_empties, collect_stays, legal_offer}
 use Rattle.far_table.specs.View.{BookView, OtherViews, View, Book}
 use Rattle.far_table.specs.BookPlays.{JobCollected, JobOffered, JobSeen}
 use Rattle.far_table.specs.BookTells.{BookTells}
 use Rattle.far_table.specs.BookViews.{collected_view, saw_job_view}
-use Rattle.far_table.specs.Layout.{epoch_in, job_at, job_in, word_in}
+use Rattle.far_table.specs.Layout.{job_at, job_in, word_in}
 use Rattle.far_table.specs.NameViews.{exchange_reply, offered_view}
 use Rattle.far_table.specs.Rows.{over}
 use Rattle.far_table.specs.Rule.{Facts, Running}
@@ -53,7 +50,7 @@ use Rattle.far_table.proofs.Masks.{counts, epoch_is, finds, going, is_masked, re
 use Rattle.far_table.proofs.NameRows.{begins_put}
 use Rattle.far_table.proofs.NameSteps.{header_is, known_heads, span_heads}
 use Rattle.far_table.proofs.OwnSteps.{led_by, reads, state_is}
-use Rattle.far_table.proofs.Words.{WordsAre, job_here, job_word_set}
+use Rattle.far_table.proofs.Words.{job_here, job_word_set}
 
 module _ (ws : List ℕ) (b : BookView) (os : OtherViews) (f : Facts ws b os) (plain : IsPlain b) (j : ℕ) where
   abbrev s : State

@@ -1,5 +1,5 @@
 -- A step of a copier's seat that is an event of the core keeps the rule: once for all kinds of step.
-use Rattle.std.proofs.Common.{◌≡◌, ◌≢◌, ◌<◌, ℕ, Bool, List, length, set, refl, sym, ap, ◌∙◌, subst, ⊎_elim, Option, get_or-set_other, get_or-set_same}
+use Rattle.std.proofs.Common.{◌≡◌, ◌≢◌, ◌<◌, ℕ, Bool, List, set, sym, ap, ◌∙◌, subst, ⊎_elim, Option, get_or-set_other, get_or-set_same}
 use mathlib.Core.Logic.{dite}
 use mathlib.Core.Option.{some}
 use mathlib.Core.Path.{fun_ext}

@@ -1,5 +1,5 @@
 -- What the struct of a copier's seat keeps over a step, for all kinds of step, and what is so of a job that it has.
-use Rattle.std.proofs.Common.{◌≡◌, ◌≢◌, ◌+◌, ◌*◌, ◌<◌, ◌≤◌, ℕ, Bool, true, false, cond, set, refl, sym, ap, ◌∙◌, subst, arith, Option, Some, None}
+use Rattle.std.proofs.Common.{◌≡◌, ◌≢◌, ◌+◌, ◌*◌, ◌<◌, ◌≤◌, ℕ, Bool, true, false, cond, refl, sym, ap, ◌∙◌, subst, arith, Option, Some, None}
 use Rattle.std.specs.Prelude.{◌==◌, option_map}
 use Rattle.std.proofs.lemmas.Bool.{eq-eqb, ne_eqb}
 use Rattle.std.proofs.Math.Logic.{∥∥₁_elim}
@@ -12,7 +12,7 @@ use Rattle.atomic_table.proofs.Lists.{set_here}
 use Rattle.atomic_table.specs.Seated.{TableId}
 use Rattle.far_word.specs.declared.job.Job.{Job as Places}
 use Rattle.far_word.specs.declared.job.JobWord.TheVariants.{Offered, Taken}
-use Rattle.far_word.specs.declared.sizes.TheConstants.{JOBS, LAST_AT, LOG_WORDS, MOST_COPIERS, MOST_LOGS}
+use Rattle.far_word.specs.declared.sizes.TheConstants.{JOBS, LOG_WORDS, MOST_COPIERS, MOST_LOGS}
 use Rattle.far_word.specs.Job.{IsJob, job_of}
 use Rattle.far_word.specs.Sizes.{words_for}
 use Rattle.far_core.specs.declared.event.Event.{Event}
@@ -22,7 +22,6 @@ use Rattle.far_core.specs.declared.event.Reply.TheVariants.{Done, Word}
 use Rattle.far_core.specs.declared.event.Task.{Task}
 use Rattle.far_core.specs.events.Claim.{offered_in}
 use Rattle.far_core.specs.events.Step.{after}
-use Rattle.far_core.specs.state.Law.{Law}
 use Rattle.far_core.specs.state.State.{State, addr}
 use Rattle.far_core.proofs.JobPlaces.{task_lies}
 use Rattle.far_core.proofs.Put.{put_both, put_other, put_same}

@@ -1,6 +1,6 @@
 -- Each kind of step of a copier's seat is its event of the core.
-use Rattle.std.proofs.Common.{◌≡◌, ◌≢◌, ◌+◌, ◌*◌, ◌/◌, ◌%◌, ◌<◌, ◌≤◌, ℕ, Bool, true, false, cond, List, set, sym, refl, ap, ◌∙◌, subst, arith, Option, Some, None}
-use Rattle.std.specs.Prelude.{IsSome, slice_index, ◌==◌, ◌^◌}
+use Rattle.std.proofs.Common.{◌≡◌, ◌≢◌, ◌+◌, ◌*◌, ◌/◌, ◌<◌, ◌≤◌, ℕ, Bool, true, false, cond, List, set, sym, refl, ap, ◌∙◌, subst, arith, Some, None}
+use Rattle.std.specs.Prelude.{slice_index, ◌==◌, ◌^◌}
 use Rattle.std.proofs.lemmas.Bool.{eq-eqb, eqb-false, eqb-true, ne_eqb}
 use mathlib.Core.Option.{some, none}
 use prog.Atomic.{either}
@@ -10,7 +10,6 @@ use Rattle.atomic_table.specs.Table.{Me, step, Allows}
 use Rattle.far_word.specs.declared.job.Job.{Job}
 use Rattle.far_word.specs.declared.job.JobWord.TheVariants.{Finished, Offered, Taken}
 use Rattle.far_word.specs.declared.sizes.TheConstants.{JOBS, LOG_WORDS, MOST_LOGS}
-use Rattle.far_word.specs.Header.{head_of}
 use Rattle.far_word.specs.Job.{job_of, job_word}
 use Rattle.far_word.specs.Sizes.{words_for}
 use Rattle.far_core.specs.declared.event.Event.TheVariants.{PeekJob, Claim, ReadLength, Read, Write, Finish}
@@ -18,16 +17,15 @@ use Rattle.far_core.specs.declared.event.Reply.TheVariants.{Done, Word}
 use Rattle.far_core.specs.declared.event.Task.{Task}
 use Rattle.far_core.specs.events.Claim.{after_claim, offered_in}
 use Rattle.far_core.specs.events.Legal.{Legal}
-use Rattle.far_core.specs.events.Step.{after}
-use Rattle.far_core.specs.state.Jobs.{job_words, source}
+use Rattle.far_core.specs.state.Jobs.{job_words}
 use Rattle.far_core.specs.state.Law.{head_len}
 use Rattle.far_core.specs.state.State.{State, addr, put}
 use Rattle.far_core.proofs.JobPlaces.{job_bounds, source_lies, task_lies}
 use Rattle.far_core.proofs.KeepJobs.{task_at}
 use Rattle.far_table.specs.View.{BookView, CopierView, OtherViews, View, Copier, with_copier}
 use Rattle.far_table.specs.CopierPlays.{JobClaimed, JobFinished, JobPeeked, LengthRead, SourceRead, TargetWritten}
-use Rattle.far_table.specs.CopierViews.{claim_view, claimed_view, copier_at, finished_view, measured_view, taken_view, word_read_view, word_written_view, words_read, words_written}
-use Rattle.far_table.specs.Layout.{TABLE_WORDS, cell_in, data_at, epoch_in, job_at, job_in, scope_in, word_in}
+use Rattle.far_table.specs.CopierViews.{claim_view, claimed_view, finished_view, measured_view, taken_view, word_read_view, word_written_view, words_read, words_written}
+use Rattle.far_table.specs.Layout.{TABLE_WORDS, data_at, job_at, job_in, word_in}
 use Rattle.far_table.specs.NameViews.{exchange_reply}
 use Rattle.far_table.specs.Rule.{Facts, Running}
 use Rattle.far_table.specs.StateOf.{state_of}
@@ -35,7 +33,7 @@ use Rattle.far_table.specs.Tells.{CopierTells, copier_of}
 use Rattle.far_table.proofs.CopyFrames.{CopyStep, copied_is, copier_is, copies_none, is_copier, known_same, known_set}
 use Rattle.far_table.proofs.OwnSteps.{Leads}
 use Rattle.far_table.proofs.Lift.{copier_makes, copier_reads}
-use Rattle.far_table.proofs.Words.{WordsAre, data_word_set, job_here, job_word_set, no_word}
+use Rattle.far_table.proofs.Words.{data_word_set, job_here, job_word_set, no_word}
 
 module _ (ws : List ℕ) (b : BookView) (os : OtherViews) (f : Facts ws b os) (v : CopierView) (at : get_elem? os.copiers v.number ≡ some v) where
   abbrev s : State

@@ -1,12 +1,12 @@
 -- How the book's first seat gives each of the others its own.
-use Rattle.std.proofs.Common.{◌≡◌, ℕ, suc, ◌+◌, ◌-◌, ◌<◌, Bool, List, [], ◌∷◌, ◌++◌, map, set, sym, refl, ap, ◌∙◌, subst, arith, append_assoc}
+use Rattle.std.proofs.Common.{◌≡◌, ℕ, suc, ◌+◌, ◌-◌, ◌<◌, Bool, List, [], ◌∷◌, ◌++◌, map, set, sym, ap, ◌∙◌, subst, arith, append_assoc}
 use Rattle.std.specs.List.{range_with_len}
 use mathlib.Core.Option.{some}
 use mathlib.Core.List.{map-append}
 use lib.ListN.{get_elem?}
 use Rattle.atomic_table.specs.Table.{State as Table, Splits}
 use Rattle.far_core.specs.state.State.{State}
-use Rattle.far_table.specs.View.{BookView, Role, View, Book, Copier, Owner, AsCopier, AsOwner, roles, seat_of}
+use Rattle.far_table.specs.View.{BookView, Role, View, Book, Copier, Owner, AsCopier, AsOwner, seat_of}
 use Rattle.far_table.specs.First.{first_book, first_copier, first_owner, first_owners, unseated, waiting}
 use Rattle.far_table.specs.Rule.{Facts, Running}
 use Rattle.far_table.specs.Tells.{owner_of}

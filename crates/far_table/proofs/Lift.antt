@@ -1,7 +1,7 @@
 -- From facts about words and all views to the rule of the table, once for all kinds of step of an owner's seat and of a copier's.
-use Rattle.std.proofs.Common.{◌≡◌, ℕ, zero, suc, List, [], ◌∷◌, ◌++◌, map, set, sym, refl, ap, ◌∙◌, subst}
+use Rattle.std.proofs.Common.{◌≡◌, ℕ, suc, List, ◌∷◌, map, set, sym, refl, ap, ◌∙◌, subst}
 use Rattle.std.specs.Prelude.{slice_index}
-use mathlib.Core.Option.{some, some-injective, some-ne-none}
+use mathlib.Core.Option.{some}
 use lib.ListN.{get_elem?}
 use lib.Seq.{map-set, set-get_or}
 use Rattle.atomic_table.specs.Table.{State, Me, keeps, Allows}

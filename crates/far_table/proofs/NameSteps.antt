@@ -26,7 +26,6 @@ use Rattle.far_core.specs.events.Naming.{IsNaming, is_dropped, naming_of, naming
 use Rattle.far_core.specs.events.namings.Moves.{MayMove, after_move}
 use Rattle.far_core.specs.events.Quiet.{has_move}
 use Rattle.far_core.specs.events.Step.{after}
-use Rattle.far_core.specs.state.Jobs.{near_place}
 use Rattle.far_core.specs.state.Law.{Law, held_place}
 use Rattle.far_core.specs.state.State.{State, addr, put}
 use Rattle.far_core.proofs.Copied.{copied_test, moves_quiet}
@@ -36,7 +35,6 @@ use Rattle.far_core.proofs.Quieting.{quiet_unheld}
 use Rattle.far_hand.specs.Known.{Forgets, KnowsLeaving, unknown}
 use Rattle.far_hand.specs.Masked.{AllFind, AllFindJobs, masked, masked_word}
 use Rattle.far_hand.proofs.Counting.{counts_none}
-use Rattle.far_hand.proofs.Finding.{place_found}
 use Rattle.far_hand.proofs.Naming.{job_too, legal_name, lost_state, won_state}
 use Rattle.far_table.specs.View.{BookView, View, Book, OtherViews}
 use Rattle.far_table.specs.BookPlays.{Named}

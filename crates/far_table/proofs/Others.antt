@@ -12,7 +12,7 @@ use Rattle.far_core.specs.declared.event.Task.{Task}
 use Rattle.far_core.specs.events.Finish.{job_spot}
 use Rattle.far_core.specs.events.Legal.{Legal}
 use Rattle.far_core.specs.events.Step.{Fits, after, pin_answer, touches}
-use Rattle.far_core.specs.events.Touch.{Spot, CellAt, ScopeAt}
+use Rattle.far_core.specs.events.Touch.{CellAt, ScopeAt}
 use Rattle.far_core.specs.state.Law.{Law}
 use Rattle.far_core.specs.state.State.{State}
 use Rattle.far_core.specs.world.Happens.{Happens}

@@ -1,6 +1,6 @@
 -- A step of an owner's seat that is an event of the core keeps the rule: once for all kinds of step.
 use Rattle.std.specs.Prelude.{IsSome}
-use Rattle.std.proofs.Common.{◌≡◌, ◌≢◌, ◌+◌, ◌/◌, ◌<◌, ℕ, Bool, true, List, length, set, refl, sym, ap, ◌∙◌, subst, ⊎_elim, Option}
+use Rattle.std.proofs.Common.{◌≡◌, ◌≢◌, ◌+◌, ◌/◌, ◌<◌, ℕ, Bool, true, List, length, set, sym, ap, ◌∙◌, subst, ⊎_elim, Option}
 use mathlib.Core.Option.{some}
 use lib.ListN.{get_elem?, length-set}
 use Rattle.atomic_table.proofs.Lists.{at_set}

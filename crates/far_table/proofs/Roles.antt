@@ -1,11 +1,10 @@
 -- Places among those that have seats, or wait for them: copiers first, then owners.
-use Rattle.std.proofs.Common.{◌≡◌, ℕ, zero, suc, ◌+◌, List, [], ◌∷◌, ◌++◌, map, length, set, refl, sym, ap, ◌∙◌, subst, arith}
+use Rattle.std.proofs.Common.{◌≡◌, ℕ, zero, suc, List, [], ◌∷◌, ◌++◌, map, set, refl, sym, ap, ◌∙◌, subst}
 use mathlib.Core.Option.{some, some-injective, some-ne-none}
 use lib.ListN.{get_elem?}
 use lib.Seq.{map-set}
-use Rattle.far_table.specs.View.{BookView, CopierView, OtherViews, OwnerView, Role, View, Book, Owner, Copier, AsOwner, AsCopier, roles, seat_of, with_copier, with_owner}
+use Rattle.far_table.specs.View.{BookView, CopierView, OtherViews, OwnerView, Role, Book, AsOwner, AsCopier, roles, seat_of, with_copier, with_owner}
 use Rattle.far_table.specs.Rule.{Facts}
-use Rattle.far_table.proofs.Places.{set_before}
 
 -- a seat is of one role
 one_role : (x v : Role) → seat_of x ≡ seat_of v → x ≡ v

@@ -1,5 +1,5 @@
 -- A log in which a place is held isn't given out.
-use Rattle.std.proofs.Common.{◌≡◌, ◌/◌, ℕ, zero, suc, List, Some, set, refl, sym, ap, ◌∙◌, subst, arith}
+use Rattle.std.proofs.Common.{◌≡◌, ◌/◌, ℕ, zero, suc, Some, refl, sym, ap, ◌∙◌, subst, arith}
 use mathlib.Core.Option.{some}
 use lib.ListN.{get_elem?}
 use Rattle.atomic_table.proofs.Lists.{set_here}

@@ -1,12 +1,7 @@
 -- What each kind of step of a copier's seat tells: of the step, the seat before, the word found (at a store, the word stored) and the seat after.
-use Rattle.std.specs.Prelude.{◌≡◌, ◌<◌, ◌≤◌, ◌+◌, ℕ, Some, IsSome}
+use Rattle.std.specs.Prelude.{◌≡◌, ◌+◌, ℕ, Some, IsSome}
 use Rattle.atomic_table.specs.Table.{Me, Step}
-use Rattle.far_word.specs.declared.job.Job.{Job}
-use Rattle.far_word.specs.declared.job.JobWord.TheVariants.{Offered}
-use Rattle.far_word.specs.declared.sizes.TheConstants.{LONGEST}
 use Rattle.far_word.specs.Header.{head_of}
-use Rattle.far_word.specs.Job.{job_of}
-use Rattle.far_log.specs.Spans.{head_len}
 use Rattle.far_core.specs.declared.event.Event.TheVariants.{PeekJob, Claim, ReadLength, Read, Write, Finish}
 use Rattle.far_core.specs.declared.event.Reply.TheVariants.{Done, Word}
 use Rattle.far_core.specs.declared.event.Task.{Task}

@@ -1,26 +1,35 @@
 -- What is written down of jobs is right again after they have changed.
-use Rattle.std.proofs.Common.{◌≡◌, ◌≢◌, ℕ, ◌<◌, ◌≤◌, ◌∙◌, Bool, true, false, arith, ap, refl, sym, subst, inl, inr, Option, Some, None}
-use Rattle.std.specs.Prelude.{◌==◌, ◌&&◌, ◌||◌, ◌⊎◌, is_some, not, option_map, length}
+use Rattle.std.proofs.Common.{◌≡◌, ◌≢◌, ℕ, ◌*◌, ◌<◌, ◌≤◌, ◌∙◌, Bool, true, false, arith, ap, refl, sym, subst, inl, inr, Option, Some, None}
+use Rattle.std.specs.Prelude.{◌==◌, ◌&&◌, ◌||◌, ◌⊎◌, cond, is_some, not, IsSome, option_map, length}
 use Rattle.std.proofs.lemmas.Bool.{cases_eq, eq-eqb, eqb-true, ne_eqb, false≢true, true≢false}
+use Rattle.far_word.specs.declared.header.HeadWord.{HeadWord}
 use Rattle.far_word.specs.declared.job.Job.{Job}
+use Rattle.far_word.specs.declared.job.JobWord.{JobWord}
+use Rattle.far_word.specs.declared.job.JobWord.TheVariants.{Empty, Offered, Taken, Finished}
 use Rattle.far_word.specs.declared.pointer.PtrWord.{PtrWord}
 use Rattle.far_word.specs.declared.pointer.PtrWord.TheVariants.{Free, Near, Far}
-use Rattle.far_word.specs.declared.sizes.TheConstants.{JOBS}
+use Rattle.far_word.specs.declared.sizes.TheConstants.{CELLS, JOBS}
+use Rattle.far_word.specs.Header.{head_of}
+use Rattle.far_word.specs.Job.{job_of}
+use Rattle.far_word.proofs.JobLaws.{job_says}
+use Rattle.far_log.specs.Spans.{len_in, pointer_in}
 use Rattle.far_core.specs.events.Clear.{round_left}
 use Rattle.far_core.specs.events.Get.{IsUncopied}
 use Rattle.far_core.specs.state.Jobs.{job_at, job_said}
 use Rattle.far_core.specs.state.Opening.{no_copying}
-use Rattle.far_core.specs.state.State.{Copying, State, put}
+use Rattle.far_core.specs.state.Law.{Law}
+use Rattle.far_core.specs.state.State.{Copying, State, addr, put}
 use Rattle.far_core.proofs.KeepJobs.{job_low, unworded}
 use Rattle.far_core.proofs.events.Look.{or_right}
 use Rattle.far_core.proofs.Put.{put_other}
 use Rattle.far_book.specs.declared.jobs.Jobs.{Jobs}
+use Rattle.far_book.specs.declared.jobs.Noted.{Noted}
 use Rattle.far_book.specs.declared.ledger.Ledger.{Ledger}
-use Rattle.far_book.specs.book.Jobs.{EndsJobs, NotesJobs, copies_at, ended, is_good, lies_in, noted_at, noted_of}
+use Rattle.far_book.specs.book.Jobs.{EndsJobs, NotesJobs, WritesJob, copies_at, ended, is_good, lies_in, noted_at, noted_of}
 use Rattle.far_book.specs.book.Ledger.{Notes}
 use Rattle.far_book.specs.book.NumberSet.{has}
-use Rattle.far_book.specs.book.Own.{own_part, unread}
-use Rattle.far_book.proofs.region.Untaken.{same_jobs}
+use Rattle.far_book.specs.book.Own.{HasNoJob, own_part, unread}
+use Rattle.far_book.proofs.region.Untaken.{same_jobs, untaken_zero}
 
 -- ---- what is written down of one
 noted_same : (o : Option Job) (f g : Job → Bool) → ((job : Job) → o ≡ Some job → f job ≡ g job) → noted_of o f ≡ noted_of o g
@@ -34,6 +43,10 @@ noted_ended (Some job) f g ends same = ap (λ b. Some record { job = job; good =
 none_noted : (o : Option Job) (f : Job → Bool) → is_some o ≡ false → noted_of o f ≡ None
 none_noted None f e = refl
 none_noted (Some job) f e = absurd cc
+
+some_noted : (o : Option Job) (f : Job → Bool) → is_some (noted_of o f) ≡ is_some o
+some_noted None f = refl
+some_noted (Some job) f = refl
 
 -- ---- none is offered
 pub no_jobs : (epoch : ℕ) (round : ℕ → Bool) (jobs : Jobs) → length jobs.noted ≡ JOBS → ((j : ℕ) → noted_at jobs j ≡ None) → ((j : ℕ) → j < 64 → has jobs.waiting j ≡ false) →
@@ -58,6 +71,23 @@ module _ (epoch : ℕ) (round : ℕ → Bool) (k : Copying) (jobs : Jobs) (notes
     waiting = λ j lt. notes.waiting j lt ∙ ap is_some (sym (same j));
   }
 
+  -- one job is another, or empty now
+  pub notes_wrote : (now : Copying) (new : Jobs) (j : ℕ) (o : Option Job) → WritesJob jobs new j (noted_of o (is_good epoch round now.since j)) → job_at now.word j ≡ o →
+      ((i : ℕ) → i ≢ j → job_at now.word i ≡ job_at k.word i) → ((i : ℕ) → i ≢ j → now.since i ≡ k.since i) → NotesJobs epoch round now new
+  notes_wrote now new j o w here there since = record {
+    sized = w.sized ∙ notes.sized;
+    noted = λ i. elim (cases_eq i j) [
+      | inl e ↦ subst (λ n. noted_at new n ≡ noted_of (job_at now.word n) (is_good epoch round now.since n)) (sym e) (w.here ∙ ap (λ x. noted_of x (is_good epoch round now.since j)) (sym here))
+      | inr ne ↦ w.there i ne ∙ notes.noted i ∙ ap (λ n. noted_of (job_at k.word i) (λ job. (n == epoch) && round job.from.log)) (sym (since i ne))
+          ∙ ap (λ x. noted_of x (is_good epoch round now.since i)) (sym (there i ne))
+    ];
+    waiting = λ i lt. w.waiting i lt ∙ elim (cases_eq i j) [
+      | inl e ↦ ap (λ b. cond b (is_some (noted_of o (is_good epoch round now.since j))) (has jobs.waiting i)) (eq-eqb i j e) ∙ some_noted o (is_good epoch round now.since j) ∙ ap is_some (sym here)
+          ∙ ap (λ n. is_some (job_at now.word n)) (sym e)
+      | inr ne ↦ ap (λ b. cond b (is_some (noted_of o (is_good epoch round now.since j))) (has jobs.waiting i)) (ne_eqb i j ne) ∙ notes.waiting i lt ∙ ap is_some (sym (there i ne))
+    ];
+  }
+
   -- the rounds of some are over
   pub notes_ended : (late : ℕ) (left : ℕ → Bool) (new : Jobs) (ends : Job → Bool) → EndsJobs ends jobs new →
       ((j : ℕ) (job : Job) → job_at k.word j ≡ Some job → (is_good epoch round k.since j job && not (ends job)) ≡ is_good late left k.since j job) → NotesJobs late left k new
@@ -75,6 +105,26 @@ module _ (epoch : ℕ) (round : ℕ → Bool) (k : Copying) (jobs : Jobs) (notes
         (λ job e. ap (λ b. (k.since j == epoch) && b) (sym (put_other round l false job.from.log (none j job e).0)));
     waiting = notes.waiting;
   }
+
+-- ---- a job that is written down
+known_of : (o : Option Job) (f : Job → Bool) (noted : Noted) → noted_of o f ≡ Some noted → (o ≡ Some noted.job) × (noted.good ≡ f noted.job)
+known_of None f noted e = absurd cc
+known_of (Some job) f noted e =
+    let both : record { job = job; good = f job } ≡ noted = cc in
+    (ap (λ (n : Noted). Some n.job) both, sym (ap (λ (n : Noted). n.good) both) ∙ ap (λ (n : Noted). f n.job) both)
+
+unknown_of : (o : Option Job) (f : Job → Bool) → noted_of o f ≡ None → o ≡ None
+unknown_of None f e = refl
+unknown_of (Some job) f e = absurd cc
+
+module _ (epoch : ℕ) (round : ℕ → Bool) (k : Copying) (jobs : Jobs) (notes : NotesJobs epoch round (unread k) jobs) (j : ℕ) where
+  pub known_job : (noted : Noted) → noted_at jobs j ≡ Some noted → (job_at k.word j ≡ Some noted.job) × (noted.good ≡ is_good epoch round k.since j noted.job)
+  known_job noted e =
+      let x = known_of (job_at (unread k).word j) (is_good epoch round k.since j) noted (sym (notes.noted j) ∙ e) in
+      (sym (same_jobs k j) ∙ x.0, x.1)
+
+  pub unknown_job : noted_at jobs j ≡ None → job_at k.word j ≡ None
+  unknown_job e = sym (same_jobs k j) ∙ unknown_of (job_at (unread k).word j) (is_good epoch round k.since j) (sym (notes.noted j) ∙ e)
 
 -- ---- a log leaves the round
 both_not : (a b c : Bool) → ((a && b) && not c) ≡ (a && (b && not c))
@@ -110,7 +160,7 @@ pub good_late : (epoch late : ℕ) (round left : ℕ → Bool) (since : ℕ → 
 good_late epoch late round left since j job low lt = and_false (is_good epoch round since j job) ∙ sym (ap (λ b. b && left job.from.log) (ne_eqb (since j) late (λ e. omega (arith, low, lt, e))))
 
 -- ---- a log that no job reads or writes
-either_of : (a b : Bool) → (a || b) ≡ true → (a ≡ true) ⊎ (b ≡ true)
+pub either_of : (a b : Bool) → (a || b) ≡ true → (a ≡ true) ⊎ (b ≡ true)
 either_of true b e = inl refl
 either_of false b e = inr e
 
@@ -138,3 +188,45 @@ module _ (s : State) (ledger : Ledger) (notes : Notes (own_part s) ledger) (l : 
   pub some_copies : (j : ℕ) → copies_at l (noted_at ledger.jobs j) ≡ true → IsUncopied s.copying l → ⊥
   some_copies j e none = copies_none l (job_at (unread s.copying).word j) (is_good s.round_epoch s.round s.copying.since j) (ap (copies_at l) (sym (notes.jobs.noted j)) ∙ e)
       (λ job at. none j job (sym (same_jobs s.copying j) ∙ at))
+
+-- a job's pointer is one of the heap's
+header_of : (o : Option HeadWord) → 0 < len_in o → (h : HeadWord) × (o ≡ Some h)
+header_of None some = absurd (omega arith)
+header_of (Some h) some = (h, refl)
+
+pub job_pointer : (s : State) → Law (own_part s) → (j : ℕ) (job : Job) → job_at s.copying.word j ≡ Some job → job.pointer < CELLS * s.mutators
+job_pointer s law j job e =
+    let spans = law.copies.jobs.job_spans j job (same_jobs s.copying j ∙ e) in
+    let h = header_of (head_of ((own_part s).word (addr job.from))) (law.spans.span (addr job.from) spans.from).some in
+    let low = law.spans.span_header (addr job.from) h.0 spans.from h.1 in
+    subst (λ p. p < CELLS * s.mutators) (sym (ap pointer_in h.1) ∙ spans.pointer) low
+
+-- where none is offered
+pub none_job : (s : State) → HasNoJob s → (j : ℕ) → job_at s.copying.word j ≡ None
+none_job s none j = ap (λ w. job_said (job_of w)) (none j) ∙ ap job_said unworded
+
+-- ---- which jobs are empty
+empty_said : (o : Option JobWord) → IsSome o → job_said o ≡ None → o ≡ Some Empty
+empty_said None some e = absurd (false≢true some)
+empty_said (Some Empty) some e = refl
+empty_said (Some (Offered job)) some e = absurd cc
+empty_said (Some (Taken job c)) some e = absurd cc
+empty_said (Some (Finished job c)) some e = absurd cc
+
+none_some : (o : Option Job) → is_some o ≡ false → o ≡ None
+none_some None e = refl
+none_some (Some job) e = absurd cc
+
+module _ (s : State) (ledger : Ledger) (notes : Notes (own_part s) ledger) where
+  -- one that isn't written down is empty
+  pub empty_word : (j : ℕ) → j < JOBS → has ledger.jobs.waiting j ≡ false → s.copying.word j ≡ 0
+  empty_word j lt none =
+      let w = (own_part s).copying.word j in
+      let said = none_some (job_at (own_part s).copying.word j) (sym (notes.jobs.waiting j (omega arith)) ∙ none) in
+      untaken_zero (s.copying.word j) (sym (job_says w Empty (empty_said (job_of w) (notes.law.copies.jobs.job_read j).1 said)).1)
+
+  -- and one that is isn't
+  pub waiting_word : (j : ℕ) → j < JOBS → has ledger.jobs.waiting j ≡ true → s.copying.word j ≢ 0
+  waiting_word j lt some empty =
+      let none : job_at (own_part s).copying.word j ≡ None = same_jobs s.copying j ∙ ap (λ w. job_said (job_of w)) empty ∙ ap job_said unworded in
+      true≢false (sym some ∙ notes.jobs.waiting j (omega arith) ∙ ap is_some none)

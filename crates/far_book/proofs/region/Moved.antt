@@ -52,7 +52,7 @@ no_stay from to m wanted = ap (λ b. (from.log == to.log) && (from.at == to.at) 
   and_false false = refl
 
 -- what names a place sends nothing far
-not_to_near : (old len ds n : ℕ) (to place : Place) → IsPtr (Near len ds to no_marks) → IsNaming (Evicts n place) (read_of old) (read_of (near_word len ds to)) → ⊥
+pub not_to_near : (old len ds n : ℕ) (to place : Place) → IsPtr (Near len ds to no_marks) → IsNaming (Evicts n place) (read_of old) (read_of (near_word len ds to)) → ⊥
 not_to_near old len ds n to place layout x = let odd : Some (Near len ds to no_marks) ≡ Some (Far n x.0 no_marks) = sym (read_back (Near len ds to no_marks) layout) ∙ x.5 in absurd cc
 
 module _ (s : State) (p old len ds : ℕ) (from to : Place) (m : Marks) (is : s.cell p ≡ old) (near : read_of old ≡ Some (Near len ds from m)) (alive : m.dropped ≡ false) (layout : IsPtr (Near len ds to no_marks)) where

@@ -52,7 +52,7 @@ untaken_said w = ap job_said (untaken_says w) ∙ loosed_said (job_of w)
 pub untaken_finished : (w : ℕ) → is_finished (job_of (untaken w)) ≡ is_finished (job_of w)
 untaken_finished w = ap is_finished (untaken_says w) ∙ loosed_finished (job_of w)
 
-some_loosed : (o : Option JobWord) → IsSome o → IsSome (loosed o)
+pub some_loosed : (o : Option JobWord) → IsSome o → IsSome (loosed o)
 some_loosed None h = h
 some_loosed (Some Empty) h = refl
 some_loosed (Some (Offered job)) h = refl

@@ -1,13 +1,14 @@
 -- What the book has written down of jobs, and how that changes.
-use Rattle.std.specs.Prelude.{◌≡◌, ◌≢◌, ◌<◌, ℕ, ◌==◌, ◌&&◌, ◌||◌, Bool, false, not, cond, is_some, Option, Some, None, option_map, length, slice_index_or}
+use Rattle.std.specs.Prelude.{◌≡◌, ◌≢◌, ◌<◌, ℕ, zero, suc, ◌==◌, ◌&&◌, ◌||◌, Bool, false, not, cond, is_some, Option, Some, None, option_map, length, slice_index_or}
 use Rattle.far_word.specs.declared.job.Job.{Job}
 use Rattle.far_word.specs.declared.pointer.Place.{Place}
 use Rattle.far_word.specs.declared.pointer.PtrWord.{PtrWord}
 use Rattle.far_word.specs.declared.pointer.PtrWord.TheVariants.{Free, Near, Far}
+use Rattle.far_word.specs.Pointer.{read_of}
 use Rattle.far_word.specs.declared.sizes.TheConstants.{JOBS}
 use Rattle.far_core.specs.events.Copied.{is_place}
-use Rattle.far_core.specs.state.Jobs.{job_at}
-use Rattle.far_core.specs.state.State.{Copying}
+use Rattle.far_core.specs.state.Jobs.{IsGood, job_at, near_place}
+use Rattle.far_core.specs.state.State.{Copying, State}
 use Rattle.far_book.specs.declared.jobs.Jobs.{Jobs}
 use Rattle.far_book.specs.declared.jobs.Noted.{Noted}
 use Rattle.far_book.specs.book.NumberSet.{has}
@@ -40,6 +41,28 @@ copies_at l (Some noted) = (noted.job.from.log == l) || (noted.job.to.log == l)
 abbrev pub copies_from : ℕ → Place → Option Noted → Bool
 copies_from p at None = false
 copies_from p at (Some noted) = noted.good && (noted.job.pointer == p) && is_place noted.job.from at
+
+-- one of the first n jobs does
+abbrev pub some_copies : State → ℕ → Place → ℕ → Bool
+some_copies s p at zero = false
+some_copies s p at (suc n) = some_copies s p at n || copies_from p at (noted_of (job_at s.copying.word n) (is_good s.round_epoch s.round s.copying.since n))
+
+abbrev pub has_job_at : State → ℕ → Option Place → Bool
+has_job_at s p None = false
+has_job_at s p (Some at) = some_copies s p at JOBS
+
+-- a job that isn't void copies p's object: a good one, from where it lies
+abbrev pub has_job : State → ℕ → Bool
+has_job s p = has_job_at s p (near_place (read_of (s.cell p)))
+
+-- the same as a fact
+pub record HasJob (s : State) (p : ℕ) : Type 0 where
+  pub number : ℕ
+  pub job : Job
+  pub is : job_at s.copying.word number ≡ Some job
+  pub pointer : job.pointer ≡ p
+  pub good : IsGood s.round_epoch s.round s.copying.since number job
+  pub lies : near_place (read_of (s.cell p)) ≡ Some job.from
 
 -- ---- changes
 -- one job is written down, or one less

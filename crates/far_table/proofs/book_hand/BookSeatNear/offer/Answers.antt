@@ -1,4 +1,4 @@
-use Rattle.std.proofs.Common.{◌≡◌, ◌∙◌, refl, sym, ap, subst, arith}
+use Rattle.std.proofs.Common.{◌≡◌, refl, sym, ap, subst, arith}
 use Rattle.far_word.specs.declared.job.Job.{Job}
 use Rattle.far_core.specs.declared.event.Reply.TheVariants.{Done}
 use Rattle.far_core.specs.events.Step.{after}

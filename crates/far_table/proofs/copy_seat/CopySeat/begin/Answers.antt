@@ -1,11 +1,8 @@
-use Rattle.std.proofs.Common.{◌≡◌, ◌+◌, ◌∙◌, Some, refl, sym, ap, subst, arith}
-use Rattle.far_core.specs.declared.event.Event.TheVariants.{ReadLength}
+use Rattle.std.proofs.Common.{◌≡◌, ◌+◌, Some, sym, ap, subst, arith}
 use Rattle.far_core.specs.state.State.{addr}
 use Rattle.far_table.specs.Layout.{LOGS_AT, data_at}
 use Rattle.far_table.specs.Seats.{CopierSeated}
-use Rattle.far_table.specs.Tells.{copier_of}
-use Rattle.far_table.specs.View.{CopierView}
-use Rattle.far_table.proofs.CopySeatLemmas.{copier_made, copier_stays, task_within}
+use Rattle.far_table.proofs.CopySeatLemmas.{copier_stays, task_within}
 use Rattle.far_table.proofs.CopySteps.{measures}
 use Rattle.far_table.proofs.SeatLemmas.{inside}
 use Rattle.far_table.proofs.copy_seat.CopySeat.begin.Goals as goal

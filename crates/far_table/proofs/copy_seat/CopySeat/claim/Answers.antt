@@ -1,6 +1,6 @@
-use Rattle.std.proofs.Common.{◌≡◌, ◌<◌, ◌∙◌, ℕ, None, refl, sym, ap, subst, arith}
+use Rattle.std.proofs.Common.{◌≡◌, ◌∙◌, None, refl, sym, ap, subst, arith}
 use Rattle.far_core.specs.declared.event.Task.{Task}
-use Rattle.far_table.specs.CopySeats.{Measured, Missed, Took}
+use Rattle.far_table.specs.CopySeats.{Took}
 use Rattle.far_table.specs.Seats.{CopierSeated}
 use Rattle.far_table.proofs.CopySeatLemmas.{missed_more}
 use Rattle.far_table.proofs.copy_seat.CopySeat.claim.Goals as goal

@@ -1,4 +1,4 @@
-use Rattle.std.proofs.Common.{◌≡◌, ◌+◌, ◌∙◌, true, refl, sym, ap, subst, arith}
+use Rattle.std.proofs.Common.{◌≡◌, ◌+◌, refl, sym, ap, subst, arith}
 use Rattle.far_core.specs.state.State.{addr}
 use Rattle.far_table.specs.CopySeats.{CopiedNext, IsJobOf}
 use Rattle.far_table.specs.Layout.{data_at}

@@ -1,12 +1,9 @@
-use Rattle.std.proofs.Common.{◌≡◌, ◌∙◌, refl, sym, ap, subst, arith}
+use Rattle.std.proofs.Common.{◌∙◌, sym, ap, subst, arith}
 use Rattle.far_word.specs.declared.job.JobWord.TheVariants.{Finished}
 use Rattle.far_word.specs.Job.{job_word}
-use Rattle.far_core.specs.declared.event.Event.TheVariants.{Finish}
 use Rattle.far_table.specs.CopySeats.{IsJobOf}
 use Rattle.far_table.specs.Layout.{job_at}
 use Rattle.far_table.specs.Seats.{CopierSeated}
-use Rattle.far_table.specs.Tells.{copier_of}
-use Rattle.far_table.specs.View.{CopierView}
 use Rattle.far_table.proofs.CopySeatLemmas.{all_written, copier_stays, len, task_within}
 use Rattle.far_table.proofs.CopySteps.{finishes}
 use Rattle.far_table.proofs.SeatLemmas.{inside}

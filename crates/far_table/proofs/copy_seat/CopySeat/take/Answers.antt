@@ -7,7 +7,7 @@ use Rattle.far_core.specs.declared.event.Task.{Task}
 use Rattle.far_table.specs.CopierViews.{claimed_view}
 use Rattle.far_table.specs.Layout.{job_at}
 use Rattle.far_table.specs.Seats.{CopierSeated}
-use Rattle.far_table.specs.Tells.{CopierMade, copier_of}
+use Rattle.far_table.specs.Tells.{CopierMade}
 use Rattle.far_table.specs.View.{CopierView}
 use Rattle.far_table.proofs.CopySeatLemmas.{claim_lost, claim_won, copier_made, copier_stays, view_after}
 use Rattle.far_table.proofs.CopySteps.{claims}
