@@ -11,5 +11,5 @@ owners_of-requires c = fresh_seats _ _ c.args.shape true _ c.in_ok-core.ensures.
 pub new-requires-2-clause-start : goal.new-requires-2-clause-start
 new-requires-2-clause-start c = seat_start (core_state c.in_ok-core.core) _ c.args.shape true c.in_ok-core.ensures.opening c.in_ok-seat.ensures.starts.book
 
-pub returns-clause-alone : goal.returns-clause-alone
-returns-clause-alone c = subst (λ b. HasNoJob (seat_view b)) (sym c.in_ok-book.ensures.near) (jobs_start (core_state c.in_ok-core.core) _ c.args.shape true c.in_ok-core.ensures.opening c.in_ok-seat.ensures.starts.book)
+pub returns : goal.returns
+returns c = record { alone = subst (λ b. HasNoJob (seat_view b)) (sym c.in_ok-book.ensures.near) (jobs_start (core_state c.in_ok-core.core) _ c.args.shape true c.in_ok-core.ensures.opening c.in_ok-seat.ensures.starts.book) }
