@@ -36,10 +36,7 @@ pub(super) struct Pair<N: Near + Drop> {
 }
 
 /// A new book over its seat, beside one owner.
-pub(super) fn pair_of(
-    rt: &HostRuntime,
-    shape: Shape,
-) -> Result<Pair<BookSeat<MemDevice>>, Refused>
+pub(super) fn pair_of(rt: &HostRuntime, shape: Shape) -> Result<Pair<BookSeat<MemDevice>>, Refused>
     ensures alone { IfOk result (λ pair. HasNoJob (seat_view pair.book.near)) }
 {
     let (book, mut owners) = shared(rt.alloc(), shape)?;
