@@ -43,7 +43,7 @@ first_legal s opened tail logs small = (
   ),
 )
 
--- which leaves the shape
+-- and the naming leaves the shape
 named_shape : (s t : State) → s.cell 0 ≡ 0 → (0 < CELLS * s.mutators) × (0 < s.logs) → t ≡ record (after s (Name 0 0 0x8400_0000_0001_0008)) { word = t.word } →
     (0 < CELLS * t.mutators) × (0 < t.logs)
 named_shape s t free some is =
@@ -61,8 +61,8 @@ name-requires-clause-known g c len place n i lt = absurd (not_from_free _ len pl
 pub returns : goal.returns
 returns g c = record {
   shape =
-    let s : State = g.N.Near.view c.args.near.now in
-    let t : State = g.N.Near.view c.name.new.self in
-    IfOk-weaker c.name.result _ _ (λ _ done. named_shape (written s) t c.requires.cell.0 (c.requires.cell.1, c.requires.log.2)
+      let s : State = g.N.Near.view c.args.near.now in
+      let t : State = g.N.Near.view c.name.new.self in
+      IfOk-weaker c.name.result _ _ (λ _ done. named_shape (written s) t c.requires.cell.0 (c.requires.cell.1, c.requires.log.2)
       (subst (λ (u : State). t ≡ record (after u (Name 0 0 0x8400_0000_0001_0008)) { word = t.word }) (both_put s _ _ c.put.ensures.set c.put-2.ensures.set) done)) c.name.ensures.done;
 }
