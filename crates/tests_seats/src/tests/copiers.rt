@@ -257,10 +257,10 @@ fn plays(rt: &HostRuntime, acts: &[Act]) -> bool {
     }
 }
 
-/// The words of job 0, the copy of pointer 2, while the first copier has it, and once it is finished.
-const TAKEN: u64 = 0x9c00_2008_0004_0002;
+/// The words of job 0, the copy of pointer 2, once copier 0 has it, and once it is finished.
+const TAKEN: u64 = 0x8000_2008_0004_0002;
 
-const FINISHED: u64 = 0xdc00_2008_0004_0002;
+const FINISHED: u64 = 0xc000_2008_0004_0002;
 
 // A job that one copier has is no other's. It is copied, named and emptied, and the owner reads what was copied.
 const ONE_COPIES: &[Act] = &[
