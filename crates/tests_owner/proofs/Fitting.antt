@@ -11,7 +11,7 @@ use Rattle.far_core.specs.state.State.{State}
 use Rattle.far_core.specs.world.WorldOf.{world_of}
 use Rattle.far_core.proofs.KeepOwner.{closed_word}
 use Rattle.far_hand.specs.Masked.{masked}
-use Rattle.far_book.specs.book.Own.{IsAtStart}
+use Rattle.far_book.specs.book.Own.{HasNoJob, IsAtStart}
 use Rattle.far_table.specs.First.{first_owner, open_epoch, seen_object}
 use Rattle.far_table.specs.Seats.{Seated}
 use Rattle.far_table.specs.Stands.{Seats}
@@ -64,3 +64,7 @@ fresh_seats xs table shape honest s e few is =
 -- what the book's seat knows at the start
 pub seat_start : (s v : State) (shape : Shape) (honest : Bool) → s ≡ opening shape honest → v ≡ masked (record s { honest = honest }) s.cell (λ _. false) s.copying.word → IsAtStart v
 seat_start s v shape honest e is = subst IsAtStart (sym (is ∙ ap (λ (t : State). masked (record t { honest = honest }) t.cell (λ _. false) t.copying.word) e)) refl
+
+-- and that there is no job
+pub no_jobs : (s v : State) (shape : Shape) (honest : Bool) → s ≡ opening shape honest → v ≡ masked (record s { honest = honest }) s.cell (λ _. false) s.copying.word → HasNoJob v
+no_jobs s v shape honest e is j = ap (λ (z : State). z.copying.word j) is ∙ ap (λ (z : State). z.copying.word j) e

@@ -170,17 +170,9 @@ struct Stage {
     second: Copier<MemDevice>,
 }
 
-// The seats of a core, if a round has begun in it, and there is room.
-fn book_of(
-    alloc: Global,
-    core: Core,
-) -> Option<
-    (
-        JobBook<BookSeat<MemDevice>>,
-        Owner<MemDevice>,
-        Vec<Copier<MemDevice>>,
-    ),
-> {
+// The seats of a core with all objects, in which a round has begun, if there is room for copies.
+fn stage_of(alloc: Global) -> Option<Stage> {
+    let core = core_of(alloc)?;
     if !has_begun(&core) || !has_room(&core) {
         return None;
     }
@@ -194,19 +186,13 @@ fn book_of(
     let Seats {
         book,
         owner,
-        copiers,
+        mut copiers,
     } = seats;
-    Some((JobBook::new(book, NEXT, SPARE), owner, copiers))
-}
-
-fn stage_of(alloc: Global) -> Option<Stage> {
-    let core = core_of(alloc)?;
-    let (book, owner, mut copiers) = book_of(alloc, core)?;
     let (Some(first), Some(second)) = (copiers.pop(), copiers.pop()) else {
         return None;
     };
     Some(Stage {
-        book,
+        book: JobBook::new(book, NEXT, SPARE),
         owner,
         first,
         second,
