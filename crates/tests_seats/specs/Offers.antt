@@ -11,12 +11,17 @@ use Rattle.far_core.specs.declared.event.Kind.TheVariants.{Free, Open}
 use Rattle.far_core.specs.events.Naming.{no_marks}
 use Rattle.far_core.specs.state.State.{State}
 
--- the first two logs are in the round, and the first owner was seen clear in it; the next span of the open log begins at a place, and a log is free,
--- if there is one
-pub record RoomBy (mutators logs current : ℕ) (kind : ℕ → Kind) (tail : ℕ → ℕ) (round clear : ℕ → Bool) (next : Place) (spare : Option ℕ) : Type 0 where
+-- there is an owner; the first two logs are in the round, and the first owner was seen clear in it
+pub record RoundBy (mutators : ℕ) (round clear : ℕ → Bool) : Type 0 where
   pub owner : 0 < mutators
   pub chosen : (l : ℕ) → l < 2 → round l ≡ true
   pub seen : clear 0 ≡ true
+
+abbrev pub HasRound : State → Type 0
+HasRound s = RoundBy s.mutators s.round s.clear
+
+-- the next span of the open log begins at a place, and a log is free, if there is one
+pub record RoomBy (logs current : ℕ) (kind : ℕ → Kind) (tail : ℕ → ℕ) (next : Place) (spare : Option ℕ) : Type 0 where
   pub within : next.log < logs
   pub opened : kind next.log ≡ Open
   pub current_is : current ≡ next.log
@@ -25,7 +30,14 @@ pub record RoomBy (mutators logs current : ℕ) (kind : ℕ → Kind) (tail : �
   pub free : (l : ℕ) → spare ≡ Some l → (l < logs) × (kind l ≡ Free) × (tail l ≡ 0)
 
 abbrev pub HasRoom : State → Place → Option ℕ → Type 0
-HasRoom s = RoomBy s.mutators s.logs s.current s.kind s.tail s.round s.clear
+HasRoom s = RoomBy s.logs s.current s.kind s.tail
+
+-- so it is, if that place is known
+pub record RoomIfKnown (logs current : ℕ) (kind : ℕ → Kind) (tail : ℕ → ℕ) (next : Option Place) (spare : Option ℕ) : Type 0 where
+  pub there : (place : Place) → next ≡ Some place → RoomBy logs current kind tail place spare
+
+abbrev pub KnowsRoom : State → Option Place → Option ℕ → Type 0
+KnowsRoom s = RoomIfKnown s.logs s.current s.kind s.tail
 
 -- so many jobs, the first ones, were offered in this round
 abbrev pub HasBegun : State → ℕ → Type 0
