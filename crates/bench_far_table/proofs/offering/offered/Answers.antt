@@ -7,4 +7,4 @@ pub returns : goal.returns
 returns c =
     let one = c.in-Some-pop.ensures.len in
     let last = sym c.in-Some-pop.is ∙ c.pop.ensures.value c.in-Some-pop.copier (omega arith) in
-    last_idle _ _ _ c.in_ok-book.ensures.copiers (c.if-not-are_idle.ensures refl) (vec_len c.in_ok-book.copiers - 1) (omega arith) c.in-Some-pop.copier c.in-Some-pop.copier last
+    last_idle (core_state c.offers.new.core) _ _ c.in_ok-book.ensures.copiers (c.if-not-are_idle.ensures refl) (vec_len c.in_ok-book.copiers - 1) (omega arith) c.in-Some-pop.copier c.in-Some-pop.copier last
