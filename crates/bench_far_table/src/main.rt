@@ -209,8 +209,16 @@ fn on_job(
         Part::Claim => turns(&mut claiming(copier), index, count),
         Part::Copy => turns(&mut copying(copier)?, index, count),
         Part::Finish => turns(&mut finishing(copying(copier)?)?, index, count),
-        Part::Await => turns(&mut Collects::<{ copying::AWAIT }> { seat, job }, index, count),
-        Part::Collect => turns(&mut Collects::<{ copying::COLLECT }> { seat, job }, index, count),
+        Part::Await => turns(
+            &mut Collects::<{ copying::AWAIT }> { seat, job },
+            index,
+            count,
+        ),
+        Part::Collect => turns(
+            &mut Collects::<{ copying::COLLECT }> { seat, job },
+            index,
+            count,
+        ),
     };
     Some(last)
 }
