@@ -10,8 +10,8 @@ an object stays where it lies, before its owner has asked for a move and the boo
 empty turn, make its turn. The bare table lies in an Arc too, as threads share it.
 
 A job is of 8 words, so copy_word is done 4 and 8 times. A claim, a finish and a collect are done once: what a run with one turn costs more than one with
-none, and an empty turn for what the same of the empty work costs, make the turn; for a collect, what that costs more than to see that the job may be
-emptied (`await`). A claim looks at each job before the one that is offered: what such a look costs is told below the table.
+none, and an empty turn for what the same of the empty work costs, make the turn. Before a collect the book sees that the job may be emptied (`await`): what
+both cost more than that, and an empty turn, make its turn. A claim looks at each job before the one that is offered: what such a look costs is told below the table.
 """
 import pathlib
 import re
@@ -50,14 +50,13 @@ def once(program, work, index=0):
 
 def measured(program):
     works = ["read_epoch", "scope", "pin", "place", "load", "store"]
-    works += ["see", "mark", "clear", "get", "put", "ask", "name", "advance", "look", "see_job"]
+    works += ["see", "mark", "clear", "get", "put", "ask", "name", "advance", "look", "see_job", "await"]
     works += ["empty"] + [f"bare_{step}" for step in ("load", "store", "or", "and", "exchange", "scope", "pin", "claim", "copy")]
     cost = {work: a_turn(program, work) for work in works}
     cost["copy_word"] = a_turn(program, "copy_word", WORDS // 2)
     none = once(program, "empty")
-    for work in ("claim", "finish"):
+    for work in ("claim", "finish", "collect"):
         cost[work] = once(program, work) - none + cost["empty"]
-    cost["collect"] = once(program, "collect") - once(program, "await") + cost["empty"]
     cost["a look"] = (once(program, "claim", INDEX) - once(program, "claim")) / INDEX
     return cost
 
@@ -88,7 +87,7 @@ def main():
         ("advance", cost["advance"], cost["bare_exchange"]),
         ("look", cost["look"], cost["bare_load"]),
         ("see_job", cost["see_job"], cost["bare_load"]),
-        ("collect", cost["collect"], cost["bare_exchange"]),
+        ("collect", cost["collect"] - cost["await"] + empty, cost["bare_exchange"]),
         ("a copier's claim of job 0", cost["claim"], cost["bare_claim"]),
         ("copy_word", cost["copy_word"], cost["bare_copy"]),
         ("finish", cost["finish"], cost["bare_store"]),

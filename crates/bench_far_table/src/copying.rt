@@ -1,9 +1,10 @@
 // A job that is offered, and what is counted of it: a copier's calls, and what the book does once it is to be taken back.
-ghost use Rattle.std.specs.Prelude.{◌≡◌, ◌<◌, true, None, IfSome, Some};
+ghost use Rattle.std.specs.Prelude.{◌≡◌, ◌<◌, None};
 ghost use Rattle.far_word.specs.Job.{job_of};
 ghost use Rattle.far_word.specs.declared.sizes.TheConstants.{JOBS};
 ghost use Rattle.far_core.specs.events.Collect.{is_loose};
-ghost use Rattle.far_table.specs.CopySeats.{IsCopied, IsJobOf};
+ghost use Rattle.far_table.specs.BookSeats.{seat_view};
+ghost use Rattle.far_table.specs.CopySeats.{IsJobOf};
 ghost use Rattle.bench_far_table.specs.Copiers.{IsFree, IsWhole};
 
 use crate::turn::Turn;
@@ -97,16 +98,16 @@ pub(crate) const AWAIT: u8 = 0;
 
 pub(crate) const COLLECT: u8 = 1;
 
-/// The book's seat, and a job.
+/// The book's seat, and a job, with the word that was found there.
 #[derive(Drop)]
 pub(crate) struct Collects<const DEED: u8> {
     pub seat: BookSeat<MemDevice>,
     pub job: u8,
+    pub found: u64,
     ghost some: { job < JOBS },
 }
 
-// Whether nobody has a job, by its word. It is a call, so that the turns with and without an emptying have it alike.
-#[inline(never)]
+// Whether nobody has a job, by its word.
 fn is_loose(word: u64) -> bool
     ensures { result ≡ is_loose (job_of word) }
 {
@@ -116,15 +117,29 @@ fn is_loose(word: u64) -> bool
     )
 }
 
+impl<const DEED: u8> Collects<DEED> {
+    // Whether the job may be emptied. It is a call, so that the turns with and without an emptying have it alike.
+    #[inline(never)]
+    fn awaits(&mut self) -> bool
+        ensures seen { (seat_view self.new.seat).copying.word self.new.job ≡ self.new.found }
+        ensures loose { result ≡ is_loose (job_of self.new.found) }
+    {
+        self.found = self.seat.see_job(self.job);
+        is_loose(self.found)
+    }
+}
+
 impl<const DEED: u8> Turn for Collects<DEED> {
     fn turn(&mut self, _index: u16, _word: u64) -> u64 {
-        let found = self.seat.see_job(self.job);
-        if !is_loose(found) {
+        if !self.awaits() {
             return 0;
         }
         if DEED == AWAIT {
-            return 1;
+            return self.found;
         }
-        self.seat.collect(self.job, found).is_ok() as u64
+        match self.seat.collect(self.job, self.found) {
+            Ok(()) => 0,
+            Err(found) => found,
+        }
     }
 }

@@ -204,18 +204,18 @@ fn on_job(
     requires inside { task.index < 8 }
 {
     let (index, count) = (task.index, task.turns);
-    let (seat, job) = (book, index as u8);
+    let (seat, job, found) = (book, index as u8, 0);
     let last = match part {
         Part::Claim => turns(&mut claiming(copier), index, count),
         Part::Copy => turns(&mut copying(copier)?, index, count),
         Part::Finish => turns(&mut finishing(copying(copier)?)?, index, count),
         Part::Await => turns(
-            &mut Collects::<{ copying::AWAIT }> { seat, job },
+            &mut Collects::<{ copying::AWAIT }> { seat, job, found },
             index,
             count,
         ),
         Part::Collect => turns(
-            &mut Collects::<{ copying::COLLECT }> { seat, job },
+            &mut Collects::<{ copying::COLLECT }> { seat, job, found },
             index,
             count,
         ),
