@@ -1,5 +1,5 @@
 #!/usr/bin/env python3
-"""What a call of a seat, an owner's or the book's, costs beside the same atomic operation on a bare table: instructions, by callgrind.
+"""What a call of a seat, an owner's, a copier's or the book's, costs beside the same atomic operation on a bare table: instructions, by callgrind.
 
     bench/seats.py [PROGRAM]     PROGRAM: crates/bench_far_table/out/bench_far_table, which `rt run` builds
 
@@ -8,6 +8,10 @@ round it, the same for all works; within it the operation is inline. All is coun
 close. A pin can't be made again before its scope is closed: what a scope with a pin costs more, and an empty turn, make its turn. Nor can a naming, by which
 an object stays where it lies, before its owner has asked for a move and the book has seen that (`ask`): what the three cost more than those two, and an
 empty turn, make its turn. The bare table lies in an Arc too, as threads share it.
+
+A job is of 8 words, so copy_word is done 4 and 8 times. A claim, a finish and a collect are done once: what a run with one turn costs more than one with
+none, and an empty turn for what the same of the empty work costs, make the turn. Before a collect the book sees that the job may be emptied (`await`): what
+both cost more than that, and an empty turn, make its turn. A claim looks at each job before the one that is offered: what such a look costs is told below the table.
 """
 import pathlib
 import re
@@ -17,32 +21,44 @@ import tempfile
 
 TURNS = 10_000
 POINTER, INDEX = 5, 3
+WORDS = 8
 
 
-def counted(program, work, turns):
+def counted(program, work, turns, index=INDEX):
     """Instructions of a run."""
     with tempfile.TemporaryDirectory() as folder:
         run = subprocess.run(
-            ["valgrind", "--tool=callgrind", f"--callgrind-out-file={folder}/out", program, work, str(turns), str(POINTER), str(INDEX)],
+            ["valgrind", "--tool=callgrind", f"--callgrind-out-file={folder}/out", program, work, str(turns), str(POINTER), str(index)],
             capture_output=True, text=True)
     if run.returncode != 0:
         sys.exit(f"seats: {work}: status {run.returncode}: {run.stderr[-400:]}")
     return int(re.search(r"Collected : (\d+)", run.stderr).group(1))
 
 
-def a_turn(program, work):
+def a_turn(program, work, turns=TURNS):
     """Instructions of one turn."""
-    more = counted(program, work, 2 * TURNS) - counted(program, work, TURNS)
-    if more % TURNS:
-        print(f"seats: {work}: {more} for {TURNS} turns isn't even", file=sys.stderr)
-    return more / TURNS
+    more = counted(program, work, 2 * turns) - counted(program, work, turns)
+    if more % turns:
+        print(f"seats: {work}: {more} for {turns} turns isn't even", file=sys.stderr)
+    return more / turns
+
+
+def once(program, work, index=0):
+    """Instructions by which a run with one turn exceeds one with none; of a job it is that with the number `index` which is offered."""
+    return counted(program, work, 1, index) - counted(program, work, 0, index)
 
 
 def measured(program):
     works = ["read_epoch", "scope", "pin", "place", "load", "store"]
-    works += ["see", "mark", "clear", "get", "put", "ask", "name", "advance", "look"]
-    works += ["empty"] + [f"bare_{step}" for step in ("load", "store", "or", "and", "exchange", "scope", "pin")]
-    return {work: a_turn(program, work) for work in works}
+    works += ["see", "mark", "clear", "get", "put", "ask", "name", "advance", "look", "see_job", "await"]
+    works += ["empty"] + [f"bare_{step}" for step in ("load", "store", "or", "and", "exchange", "scope", "pin", "claim", "copy")]
+    cost = {work: a_turn(program, work) for work in works}
+    cost["copy_word"] = a_turn(program, "copy_word", WORDS // 2)
+    none = once(program, "empty")
+    for work in ("claim", "finish", "collect"):
+        cost[work] = once(program, work) - none + cost["empty"]
+    cost["a look"] = (once(program, "claim", INDEX) - once(program, "claim")) / INDEX
+    return cost
 
 
 def main():
@@ -70,12 +86,18 @@ def main():
         ("name", cost["name"] - cost["ask"] + empty, cost["bare_exchange"]),
         ("advance", cost["advance"], cost["bare_exchange"]),
         ("look", cost["look"], cost["bare_load"]),
+        ("see_job", cost["see_job"], cost["bare_load"]),
+        ("collect", cost["collect"] - cost["await"] + empty, cost["bare_exchange"]),
+        ("a copier's claim of job 0", cost["claim"], cost["bare_claim"]),
+        ("copy_word", cost["copy_word"], cost["bare_copy"]),
+        ("finish", cost["finish"], cost["bare_store"]),
     ]
     print(f"Instructions a turn, {TURNS:,} turns; an empty turn has {empty:g}:\n")
     print("| Turn | A seat's | Bare | Ratio |")
     print("|---|---|---|---|")
     for name, turn, bare in rows:
         print(f"| {name} | {turn:g} | {bare:g} | {turn / bare:.2f} |")
+    print(f"\nA claim looks at a job that is empty: {cost['a look']:g}.")
 
 
 if __name__ == "__main__":

@@ -1,2 +1,3 @@
+pub mod Copiers
 pub mod Hands
 pub mod States

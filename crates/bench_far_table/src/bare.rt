@@ -101,6 +101,12 @@ pub(crate) const SCOPE: u8 = 6;
 /// The same, with a fetch-or between the stores.
 pub(crate) const PIN: u8 = 7;
 
+/// A load, a compare-exchange and another load, as a claim is.
+pub(crate) const CLAIM: u8 = 8;
+
+/// A load and a store, as a word is copied.
+pub(crate) const COPY: u8 = 9;
+
 /// Turns of one of these operations.
 #[derive(Drop)]
 pub(crate) struct Bares<const STEP: u8> {
@@ -127,6 +133,15 @@ impl<const STEP: u8> Turn for Bares<STEP> {
                 let word = self.bare.fetch_or(index);
                 self.bare.store(index, 0);
                 word
+            }
+            CLAIM => {
+                let found = self.bare.load(index);
+                self.bare.compare_exchange(index, found);
+                self.bare.load(16)
+            }
+            COPY => {
+                let found = self.bare.load(index);
+                self.bare.store(16, found)
             }
             _ => 0,
         }

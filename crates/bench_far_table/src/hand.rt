@@ -76,6 +76,13 @@ impl BookHand {
     fn look(&mut self) -> u64 {
         self.seat.look(self.owner)
     }
+
+    #[inline(always)]
+    fn see_job(&mut self, job: u16) -> u64
+        requires { job < 8 }
+    {
+        self.seat.see_job(job as u8)
+    }
 }
 
 /// What a turn of the book does: it sees a cell.
@@ -97,6 +104,9 @@ pub(crate) const ADVANCE: u8 = 5;
 /// The book looks at an owner's scope.
 pub(crate) const LOOK: u8 = 6;
 
+/// The book sees a job.
+pub(crate) const SEE_JOB: u8 = 7;
+
 /// Turns of the book alone.
 #[derive(Drop)]
 pub(crate) struct Deeds<const DEED: u8> {
@@ -112,6 +122,7 @@ impl<const DEED: u8> Turn for Deeds<DEED> {
             PUT => self.hand.put(index, word),
             ADVANCE => self.hand.advance(),
             LOOK => self.hand.look(),
+            SEE_JOB => self.hand.see_job(index),
             _ => self.hand.see(),
         }
     }

@@ -1,30 +1,37 @@
-//! Makes a call of a seat, an owner's or the book's, many times, or the same atomic operation on a bare table, so that what a call costs can be counted.
+//! Makes a call of a seat, an owner's, a copier's or the book's, many times, or the same atomic operation on a bare table, so that what a call costs can be counted.
 #![tactic(auto)]
 
-ghost use Rattle.std.specs.Prelude.{◌<◌};
+ghost use Rattle.std.specs.Prelude.{◌≡◌, ◌<◌, None};
 ghost use Rattle.bench_far_table.specs.States.{IsIdle};
 
 mod bare;
+mod copying;
 mod hand;
 mod making;
+mod offering;
 mod owner;
 mod turn;
 
 use bare::{Bare, Bares};
+use copying::{Collects, claiming, copying, finishing};
+use far_device::MemDevice;
+use far_table::{BookSeat, CopySeat};
 use far_word::Refused;
 use hand::{Asks, BookHand, Deeds};
 use making::made;
+use offering::offered;
 use owner::{Idles, Owner, viewing};
 use std::alloc::{AllocError, Global};
 use std::process::ExitCode;
 use std::{env, io};
 use turn::turns;
 
-// What is done: a call of an owner's seat, one of the book's, or an operation on a bare table.
+// What is done: a call of an owner's seat, one of the book's, one about a job that is offered, or an operation on a bare table.
 #[derive(Clone, Copy)]
 enum Work {
     Seat(Call),
     Book(Deed),
+    Job(Part),
     Bare(Step),
 }
 
@@ -50,6 +57,16 @@ enum Deed {
     Name,
     Advance,
     Look,
+    SeeJob,
+}
+
+#[derive(Clone, Copy)]
+enum Part {
+    Claim,
+    Copy,
+    Finish,
+    Await,
+    Collect,
 }
 
 #[derive(Clone, Copy)]
@@ -62,10 +79,12 @@ enum Step {
     Exchange,
     Scope,
     Pin,
+    Claim,
+    Copy,
 }
 
 // Each work by its name.
-const WORKS: [(&str, Work); 24] = [
+const WORKS: [(&str, Work); 32] = [
     ("share", Work::Seat(Call::Share)),
     ("read_epoch", Work::Seat(Call::ReadEpoch)),
     ("scope", Work::Seat(Call::Scope)),
@@ -82,6 +101,12 @@ const WORKS: [(&str, Work); 24] = [
     ("name", Work::Book(Deed::Name)),
     ("advance", Work::Book(Deed::Advance)),
     ("look", Work::Book(Deed::Look)),
+    ("see_job", Work::Book(Deed::SeeJob)),
+    ("claim", Work::Job(Part::Claim)),
+    ("copy_word", Work::Job(Part::Copy)),
+    ("finish", Work::Job(Part::Finish)),
+    ("await", Work::Job(Part::Await)),
+    ("collect", Work::Job(Part::Collect)),
     ("empty", Work::Bare(Step::Empty)),
     ("bare_load", Work::Bare(Step::Load)),
     ("bare_store", Work::Bare(Step::Store)),
@@ -90,6 +115,8 @@ const WORKS: [(&str, Work); 24] = [
     ("bare_exchange", Work::Bare(Step::Exchange)),
     ("bare_scope", Work::Bare(Step::Scope)),
     ("bare_pin", Work::Bare(Step::Pin)),
+    ("bare_claim", Work::Bare(Step::Claim)),
+    ("bare_copy", Work::Bare(Step::Copy)),
 ];
 
 fn named(name: &str) -> Option<Work> {
@@ -142,6 +169,7 @@ fn on_book(hand: BookHand, owner: Owner, deed: Deed, task: Task) -> u64
         Deed::Put => turns(&mut Deeds::<{ hand::PUT }> { hand }, index, count),
         Deed::Advance => turns(&mut Deeds::<{ hand::ADVANCE }> { hand }, index, count),
         Deed::Look => turns(&mut Deeds::<{ hand::LOOK }> { hand }, index, count),
+        Deed::SeeJob => turns(&mut Deeds::<{ hand::SEE_JOB }> { hand }, index, count),
         Deed::Ask => turns(
             &mut Asks::<{ hand::ASK }> {
                 hand,
@@ -165,6 +193,36 @@ fn on_book(hand: BookHand, owner: Owner, deed: Deed, task: Task) -> u64
     }
 }
 
+// `None` where the copier can't do it. The job's number is that of the word.
+fn on_job(
+    book: BookSeat<MemDevice>,
+    copier: CopySeat<MemDevice>,
+    part: Part,
+    task: Task,
+) -> Option<u64>
+    requires idle { copier.view.task ≡ None }
+    requires inside { task.index < 8 }
+{
+    let (index, count) = (task.index, task.turns);
+    let (seat, job, found) = (book, index as u8, 0);
+    let last = match part {
+        Part::Claim => turns(&mut claiming(copier), index, count),
+        Part::Copy => turns(&mut copying(copier)?, index, count),
+        Part::Finish => turns(&mut finishing(copying(copier)?)?, index, count),
+        Part::Await => turns(
+            &mut Collects::<{ copying::AWAIT }> { seat, job, found },
+            index,
+            count,
+        ),
+        Part::Collect => turns(
+            &mut Collects::<{ copying::COLLECT }> { seat, job, found },
+            index,
+            count,
+        ),
+    };
+    Some(last)
+}
+
 fn on_bare(alloc: Global, step: Step, task: Task) -> Result<u64, AllocError>
     requires { task.index < 8 }
 {
@@ -179,6 +237,8 @@ fn on_bare(alloc: Global, step: Step, task: Task) -> Result<u64, AllocError>
         Step::Exchange => turns(&mut Bares::<{ bare::EXCHANGE }> { bare }, index, count),
         Step::Scope => turns(&mut Bares::<{ bare::SCOPE }> { bare }, index, count),
         Step::Pin => turns(&mut Bares::<{ bare::PIN }> { bare }, index, count),
+        Step::Claim => turns(&mut Bares::<{ bare::CLAIM }> { bare }, index, count),
+        Step::Copy => turns(&mut Bares::<{ bare::COPY }> { bare }, index, count),
     };
     Ok(last)
 }
@@ -204,6 +264,12 @@ fn done(alloc: Global, task: Task) -> Result<Option<u64>, Refused> {
                 return Ok(None);
             };
             Ok(Some(on_book(hand, owner, deed, task)))
+        }
+        Work::Job(part) => {
+            let Some((book, copier)) = offered(alloc, task.pointer, task.index as u8)? else {
+                return Ok(None);
+            };
+            Ok(on_job(book, copier, part, task))
         }
     }
 }

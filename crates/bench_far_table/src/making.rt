@@ -22,8 +22,8 @@ const SHAPE: Shape = Shape {
     epoch: 5,
 };
 
-// The log that stays empty.
-const EMPTY: u8 = 2;
+/// The log that stays empty.
+pub(crate) const EMPTY: u8 = 2;
 
 // Places an object of 64 bytes at the start of a log, if the pointer and the log are free.
 fn places(core: &mut Core, pointer: u16, log: u8) -> bool {
@@ -38,8 +38,8 @@ fn places(core: &mut Core, pointer: u16, log: u8) -> bool {
     core.step(put) == Reply::Done && core.step(name) == Reply::Done
 }
 
-// A core with an object of one of owner 0's pointers in log 0, and one of another in log 1, so that log 0 is sealed.
-fn core_of(alloc: Global, pointer: u16) -> Result<Option<Core>, Refused> {
+/// A core with an object of one of owner 0's pointers in log 0, and one of another in log 1, so that log 0 is sealed.
+pub(crate) fn core_of(alloc: Global, pointer: u16) -> Result<Option<Core>, Refused> {
     let mut core = Core::new(alloc, SHAPE, true)?;
     if places(&mut core, pointer, 0) && places(&mut core, pointer ^ 1, 1) {
         Ok(Some(core))
@@ -88,7 +88,7 @@ fn seats_of(alloc: Global, core: Core, pointer: u16) -> Result<Option<(BookHand,
         return Ok(None);
     }
     let device = MemDevice::new(alloc);
-    let (book, mut seats) = share(alloc, core, Snapshot::of(&device))?;
+    let (book, mut seats, _copiers) = share(alloc, core, Snapshot::of(&device))?;
     let Some(seat) = seats.pop() else {
         return Ok(None);
     };

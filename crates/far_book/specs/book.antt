@@ -3,6 +3,8 @@ pub mod Asking
 pub mod Blanks
 pub mod BookOf
 pub mod Calls
+pub mod Collecting
+pub mod Copies
 pub mod Dealing
 pub mod Actions
 pub mod Effects
@@ -11,12 +13,14 @@ pub mod FarSide
 pub mod Fetching
 pub mod HandedOn
 pub mod Home
+pub mod Jobs
 pub mod Laws
 pub mod Ledger
 pub mod Moving
 pub mod NextLive
 pub mod NumberSet
 pub mod Only
+pub mod Offering
 pub mod Own
 pub mod Placeable
 pub mod Reached

@@ -29,15 +29,17 @@ ghost use Rattle.far_book.specs.book.HandedOn.{MarksCell, SeesCell};
 ghost use Rattle.far_book.specs.book.Home.{home_of};
 ghost use Rattle.far_book.specs.book.Ledger.{IsLowestFree};
 ghost use Rattle.far_book.specs.book.Only.{Reads, Writes};
-ghost use Rattle.far_book.specs.book.Own.{own_part, HasNoJob, IsAtStart};
+ghost use Rattle.far_book.specs.book.Own.{own_part, IsAtStart};
 ghost use Rattle.far_hand.specs.ShapeOf.{shape_of};
 ghost use Rattle.far_book.specs.book.Reading.{HeadersKnown, IsReadAt};
 ghost use Rattle.far_book.specs.book.Rows.{row_of};
 
+mod collecting;
 mod fetching;
 mod leaving;
 mod moving;
 mod next;
+mod offering;
 mod over_beset;
 mod over_plain;
 mod renaming;
@@ -240,15 +242,13 @@ impl<N: Near + Drop, D: Device + Drop> Book<N, D> {
     }
 
     /// What the book knows keeps its part of the law of the core, and its order names each sealed log, once. Its device holds
-    /// the bytes of each far object as they were stored, and is honest where the words say that the far side is. No job is
-    /// offered: nothing is copied beside the book.
+    /// the bytes of each far object as they were stored, and is honest where the words say that the far side is.
     pub fn keeps_law(&self)
         ensures law { Law (own_part (N.view self.now.near)) }
         ensures sealed { (l : ℕ) → (list_any (eqb l) self.now.order ≡ true) ↔ ((N.view self.now.near).kind l ≡ Sealed) }
         ensures once { IsDistinct eqb self.now.order }
         ensures far { HoldsFar (N.view self.now.near) (D.contents self.now.device) }
         ensures honest { (N.view self.now.near).honest ≡ true → D.honest self.now.device ≡ true }
-        ensures alone { HasNoJob (N.view self.now.near) }
     {
         let _ = &self.ledger;
     }

@@ -1,4 +1,4 @@
-//! What the book has written down of logs and cells, so that none of its calls searches.
+//! What the book has written down of logs, cells and jobs, so that none of its calls searches.
 
 ghost use Rattle.std.specs.Prelude.{◌≡◌, ◌≢◌, ℕ, ◌+◌, ◌-◌, ◌*◌, ◌/◌, ◌<◌, ◌≤◌, ◌==◌, true, false, Some, None, List, [], IfOk, MatchOption};
 ghost use Rattle.std.specs.Vec.{vec_len, vec_capacity};
@@ -9,12 +9,13 @@ ghost use Rattle.far_core.specs.state.Room.{room};
 ghost use Rattle.far_core.specs.state.Shape.{is_shape};
 ghost use Rattle.far_core.specs.state.State.{State};
 ghost use Rattle.far_book.specs.book.Effects.{with_free_cell};
-ghost use Rattle.far_book.specs.book.Ledger.{Notes, KnowsLog, filled_of, is_noted_free, MayTake, MayRetire, Takes, Loses, Frees, IsLowestFree};
+ghost use Rattle.far_book.specs.book.Ledger.{Notes, KnowsLog, filled_of, is_noted_free, MayBegin, MayTake, MayRetire, Begins, Opens, Passes, Takes, Loses, Frees, IsLowestFree};
 ghost use Rattle.far_book.specs.book.NumberSet.{HasNoneLeft, IsLowestLeft};
 ghost use Rattle.far_book.specs.book.Own.{own_part};
 ghost use Rattle.far_book.specs.book.Releasing.{GivesBack, order_without};
 ghost use Rattle.far_book.specs.book.Rows.{row_of};
 
+use crate::jobs::Jobs;
 use crate::number_set::NumberSet;
 use far_core::{Kind, Shape};
 use far_log::LogRow;
@@ -33,7 +34,7 @@ pub(crate) struct Filled {
     pub(crate) live: u16,
 }
 
-/// What the book has written down of logs and cells. All its room is taken when it is made.
+/// What the book has written down of logs, cells and jobs. All its room is taken when it is made.
 #[derive(Debug, Drop)]
 pub(crate) struct Ledger {
     /// The open log.
@@ -45,6 +46,8 @@ pub(crate) struct Ledger {
     pub(crate) order: Vec<u8>,
     /// The free cells, [`SETS`] sets a mutator.
     pub(crate) free_cells: Vec<NumberSet>,
+    /// The jobs that are offered to copiers.
+    pub(crate) jobs: Jobs,
 }
 
 impl Ledger {
@@ -64,6 +67,7 @@ impl Ledger {
             filled: vec![in alloc; Filled { tail: 0, live: 0 }; logs]?,
             order: Vec::with_capacity(alloc, logs)?,
             free_cells: vec![in alloc; NumberSet::below(64); sets]?,
+            jobs: Jobs::new(),
         })
     }
 
@@ -169,13 +173,32 @@ impl Ledger {
         requires { MayTake self.old pointer size place }
         ensures { Takes self.old self.new pointer size place }
     {
-        if place.log != self.current {
-            self.order.push_reserved(self.current);
-            self.current = place.log;
-        }
-        self.free_logs.remove(place.log);
+        self.open(place.log);
         self.fill(place.log, size);
         self.free_cells[pointer as usize / 64].remove((pointer % 64) as u8);
+    }
+
+    /// A dead span of so many words is taken at a place.
+    pub(crate) fn begin(&mut self, size: u16, place: Place)
+        requires { MayBegin self.old size place }
+        ensures { Begins self.old self.new size place }
+    {
+        self.open(place.log);
+        self.filled[place.log as usize].tail += size;
+    }
+
+    // A log is the open one; one that was open before is sealed.
+    #[inline]
+    fn open(&mut self, log: u8)
+        requires few { log < 64 }
+        requires order { log ≢ self.old.current → vec_len self.old.order < vec_capacity self.old.order }
+        ensures { Opens self.old self.new log }
+    {
+        if log != self.current {
+            self.order.push_reserved(self.current);
+            self.current = log;
+        }
+        self.free_logs.remove(log);
     }
 
     // A log has one live span of so many words more.
@@ -215,6 +238,20 @@ impl Ledger {
         ensures { Loses self.old self.new log size }
     {
         self.filled[log as usize].live -= 8 * size;
+    }
+
+    /// An object is live in another log, in a span of as many words.
+    pub(crate) fn pass(&mut self, from: u8, to: u8, size: u16)
+        requires from { from < vec_len self.old.filled }
+        requires to { to < vec_len self.old.filled }
+        requires other { from ≢ to }
+        requires live { 8 * size ≤ (filled_of self.old from).live }
+        requires size { size ≤ LOG_WORDS }
+        requires room { (filled_of self.old to).live ≤ 8 * LOG_WORDS }
+        ensures { Passes self.old self.new from to size }
+    {
+        self.lose(from, size);
+        self.filled[to as usize].live += 8 * size;
     }
 
     /// A log is given back: it is free, and has nothing.

@@ -5,6 +5,7 @@
 
 mod book;
 mod home;
+mod jobs;
 mod laws;
 mod ledger;
 mod log_rows;

@@ -27,6 +27,13 @@ impl NumberSet {
         self.word >> k & 1 == 1
     }
 
+    /// Whether no number is in the set.
+    pub(crate) fn is_empty(self) -> bool
+        ensures { result ≡ true → (k : ℕ) → k < 64 → has self k ≡ false }
+    {
+        self.word == 0
+    }
+
     /// Puts a number into the set.
     pub(crate) fn insert(&mut self, k: u8)
         requires { k < 64 }

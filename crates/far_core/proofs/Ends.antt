@@ -18,16 +18,16 @@ module _ (k : Jobs) where
   no_jobs : (j : ℕ) → JOBS ≤ j → ((copying_of k).word j ≡ 0) × ((copying_of k).since j ≡ 0) × ((copying_of k).named j ≡ false)
   unfolding copying_of
   no_jobs j le = (
-    get_or_past k.words.items j 0 (omega (arith, le, k.words.ok.0, k.words_sized)),
-    get_or_past k.since.items j 0 (omega (arith, le, k.since.ok.0, k.since_sized)),
-    get_or_past k.named.items j false (omega (arith, le, k.named.ok.0, k.named_sized)),
+    get_or_past k.words j 0 (omega (arith, le, k.words_sized)),
+    get_or_past k.since j 0 (omega (arith, le, k.since_sized)),
+    get_or_past k.named j false (omega (arith, le, k.named_sized)),
   )
 
   no_tasks : (c : ℕ) → MOST_COPIERS ≤ c → ((copying_of k).task c ≡ None) × ((copying_of k).length c ≡ None)
   unfolding copying_of
   no_tasks c le = (
-    get_or_past k.tasks.items c None (omega (arith, le, k.tasks.ok.0, k.tasks_sized)),
-    get_or_past k.lengths.items c None (omega (arith, le, k.lengths.ok.0, k.lengths_sized)),
+    get_or_past k.tasks c None (omega (arith, le, k.tasks_sized)),
+    get_or_past k.lengths c None (omega (arith, le, k.lengths_sized)),
   )
 
   -- a row's word, where it is past the row or the last row

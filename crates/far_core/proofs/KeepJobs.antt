@@ -1,11 +1,10 @@
 -- The law of jobs where some functions of a state change: what is left to show.
-use Rattle.std.proofs.Common.{◌≡◌, ◌≢◌, ℕ, ◌+◌, ◌-◌, ◌*◌, ◌/◌, ◌^◌, ◌<◌, ◌≤◌, ◌∙◌, Bool, true, false, arith, sym, refl, ap, subst, inl, inr, Option, Some, None}
+use Rattle.std.proofs.Common.{◌≡◌, ◌≢◌, ℕ, ◌^◌, ◌<◌, ◌∙◌, Bool, true, false, arith, sym, refl, ap, inl, inr, Option, Some, None}
 use Rattle.std.specs.Prelude.{◌⊎◌, IsSome}
 use Rattle.far_word.specs.declared.sizes.TheConstants.{JOBS}
 use Rattle.far_log.specs.Spans.{pointer_in}
-use Rattle.std.proofs.lemmas.Bool.{cases_eq, false≢true, true≢false}
+use Rattle.std.proofs.lemmas.Bool.{false≢true, true≢false}
 use Rattle.far_word.specs.declared.job.Job.{Job}
-use Rattle.far_word.specs.declared.job.JobWord.{JobWord}
 use Rattle.far_word.specs.declared.job.JobWord.TheVariants.{Empty, Taken, Finished}
 use Rattle.far_word.specs.declared.pointer.Place.{Place}
 use Rattle.far_word.specs.declared.pointer.PtrWord.{PtrWord}
@@ -13,10 +12,9 @@ use Rattle.far_word.specs.declared.pointer.PtrWord.TheVariants.{Free, Near, Far}
 use Rattle.far_word.specs.Header.{head_of}
 use Rattle.far_word.specs.Job.{job_of}
 use Rattle.far_word.specs.Pointer.{read_of}
-use Rattle.far_word.specs.Sizes.{size_of, words_for}
 use Rattle.far_core.specs.declared.event.Task.{Task}
-use Rattle.far_core.specs.state.Jobs.{is_finished, job_at, job_said, near_place, IsGood, job_words, source, target, JobSpans, JobLaw, TakenLaw, AimLaw, GoodLaw, SameAs, CopyLaw}
-use Rattle.far_core.specs.state.Law.{Law, head_len}
+use Rattle.far_core.specs.state.Jobs.{is_finished, job_at, job_said, near_place, IsGood, job_words, source, target, JobLaw, TakenLaw, AimLaw, GoodLaw, SameAs, CopyLaw}
+use Rattle.far_core.specs.state.Law.{Law}
 use Rattle.far_core.specs.state.Opening.{no_copying}
 use Rattle.far_core.specs.world.WorldOf.{world_of}
 use Rattle.far_core.specs.state.State.{Copying, State, addr, put}

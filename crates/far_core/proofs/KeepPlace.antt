@@ -13,7 +13,7 @@ use Rattle.far_word.specs.Pointer.{read_of}
 use Rattle.far_word.specs.Sizes.{size_of}
 use Rattle.far_core.specs.declared.event.Kind.TheVariants.{Free, Open, Sealed}
 use Rattle.far_core.specs.state.Law.{Heads, Law, SpanAt, Padded, HasEvac, NamesBack, StoresBack, IsBlank, Blank, held_place, in_use, head_len}
-use Rattle.far_core.specs.state.State.{State, put, addr}
+use Rattle.far_core.specs.state.State.{Copying, State, put, addr}
 use Rattle.far_core.specs.events.NewSpans.{with_begun, with_span}
 use Rattle.far_core.specs.state.Jobs.{near_place, CopyLaw}
 use Rattle.far_core.proofs.Cells.{Heads-same}
@@ -158,8 +158,8 @@ module _ (s : State) (law : Law s) (p len ds : ℕ) (place : Place) (cell : p < 
 module _ (s : State) (law : Law s) (p len ds : ℕ) (place : Place) (m : Marks) (new : ℕ)
     (says : read_of new ≡ Some (Near len ds place m)) (fits : new < 2 ^ 64) (cell : p < CELLS * s.mutators) (unheld : s.held p ≡ None) (live : s.used p ≡ true → in_use (read_of new) ≡ true)
     (heads : Heads s.word s.starts p len ds place) (out : s.round place.log ≡ false) (blank : s.honest ≡ true → s.used p ≡ false → Blank s.word len place)
-    (copies : CopyLaw (put s.cell p new) s.word s.starts s.round s.round_epoch s.clear s.copying) where
-  pub law_with_named : Law record s { cell = put s.cell p new }
+    (k : Copying) (copies : CopyLaw (put s.cell p new) s.word s.starts s.round s.round_epoch s.clear k) where
+  pub law_with_named : Law record s { cell = put s.cell p new; copying = k }
   law_with_named = record {
     shape = law.shape;
     cells = record {
@@ -213,7 +213,7 @@ module _ (s : State) (law : Law s) (p len ds : ℕ) (place : Place) (m : Marks) 
       let begun = law_with_begun s law p len ds place cell some most room log unsealed here head pads in
       law_with_named (with_begun s len place) begun p len ds place m new says fits cell unheld live
       (record { placed = put_same s.starts (addr place) true (addr place) refl; head = named })
-      (out s law p len ds place cell some most room log unsealed here head pads) blank
+      (out s law p len ds place cell some most room log unsealed here head pads) blank s.copying
       (copies_with_span s p new (put s.starts (addr place) true) law (more s law p len ds place cell some most room log unsealed here head pads)
       (λ at is. let there : Some place ≡ Some at = sym (ap near_place says) ∙ is in let same : place ≡ at = cc in
       ap (λ (x : Place). s.starts (addr x)) (sym same) ∙ none_here s law p len ds place cell some most room log unsealed here head pads))

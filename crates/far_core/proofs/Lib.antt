@@ -2,6 +2,7 @@ pub mod Begins
 pub mod Bounds
 pub mod Calls
 pub mod Cells
+pub mod Copied
 pub mod CopierCalls
 pub mod Copies
 pub mod CopierRows
@@ -40,6 +41,7 @@ pub mod Rows
 pub mod SpanFrames
 pub mod StoredRows
 pub mod Steps
+pub mod TakingCopies
 pub mod TakingSpans
 pub mod Touching
 pub mod WorldFacts

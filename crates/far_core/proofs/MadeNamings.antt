@@ -1,6 +1,6 @@
 -- What a legal naming of a cell makes of the state, by its new word.
 use Rattle.std.proofs.Common.{◌≡◌, ◌≢◌, ℕ, ◌+◌, ◌*◌, ◌/◌, ◌%◌, ◌<◌, ◌≤◌, ◌^◌, true, false, arith, sym, refl, ap, subst, ◌∙◌, Some, None, inl, inr}
-use Rattle.std.specs.Prelude.{◌⊎◌}
+use Rattle.std.specs.Prelude.{◌⊎◌, is_some, Option}
 use Rattle.std.proofs.lemmas.Bool.{false≢true, false_from_ne_true}
 use Rattle.far_word.specs.declared.mark.Marks.{Marks}
 use Rattle.far_word.specs.declared.pointer.Place.{Place}
@@ -21,13 +21,17 @@ use Rattle.far_core.specs.events.NewSpans.{IsNext, with_span}
 use Rattle.far_core.specs.events.Step.{is_legal}
 use Rattle.far_core.specs.state.Law.{Law, head_len}
 use Rattle.far_core.specs.state.State.{State, put, addr}
+use Rattle.far_core.specs.events.Copied.{copied_job, with_named}
+use Rattle.far_core.specs.events.namings.Moves.{after_move}
+use Rattle.far_core.specs.state.Jobs.{near_place}
+use Rattle.far_core.proofs.Copied.{copied_elsewhere, copied_fact, copied_stands, copied_test}
 use Rattle.far_core.proofs.Bounds.{near_inside}
 use Rattle.far_core.proofs.Namings.{naming_only}
 use Rattle.far_core.proofs.NewSpans.{at_tail}
 use Rattle.far_core.proofs.Owing.{is_fact}
 
 -- no span begins yet where a new one may stand
-unbegun : (s : State) → Law s → (place : Place) → IsNext s place → place.at < LOG_WORDS → s.starts (addr place) ≡ false
+pub unbegun : (s : State) → Law s → (place : Place) → IsNext s place → place.at < LOG_WORDS → s.starts (addr place) ≡ false
 unbegun s law place next low = false_from_ne_true _ (λ h.
     let span = law.spans.span (addr place) h in
     let log : addr place / LOG_WORDS ≡ place.log = omega arith in
@@ -45,11 +49,22 @@ pub record StaysThere (s : State) (p new len ds : ℕ) (place : Place) (t : Stat
   pub near : read_of (s.cell p) ≡ Some (Near len ds place marks)
   pub after : t ≡ record s { cell = put s.cell p new }
 
+-- or a copy that is named
+pub record NamesCopied (s : State) (p new : ℕ) (place : Place) (t : State) : Type 0 where
+  pub log : place.log < s.logs
+  pub begun : s.starts (addr place) ≡ true
+  pub from : Place
+  pub lies : near_place (read_of (s.cell p)) ≡ Some from
+  pub elsewhere : place ≢ from
+  pub job : ℕ
+  pub found : copied_job s p from place ≡ Some job
+  pub after : t ≡ with_named s p new job
+
 pub record ComesNear (s : State) (p new : ℕ) (place : Place) (t : State) : Type 0 where
   pub len : ℕ
   pub ds : ℕ
   pub near : read_of new ≡ Some (Near len ds place no_marks)
-  pub where_to : TakesNew s p new len place t ⊎ StaysThere s p new len ds place t
+  pub where_to : TakesNew s p new len place t ⊎ (StaysThere s p new len ds place t ⊎ NamesCopied s p new place t)
 
 -- it says no place: the cell is free, or the object goes far from where it lies
 pub record GoesFar (s : State) (p new : ℕ) (t : State) : Type 0 where
@@ -72,7 +87,7 @@ module _ (s : State) (law : Law s) (p new : ℕ) (fits : new < 2 ^ 64) (place : 
   there : (place.log < s.logs) × (place.at + size_of came.len ≤ LOG_WORDS) × (0 < size_of came.len)
   there =
       let x = read_says new (Near came.len came.ds place no_marks) fits came.near in
-      (elim came.where_to [ inl takes ↦ takes.log | inr stays ↦ (near_inside s law p came.len came.ds place stays.marks stays.near).0 ], omega (arith, x.0), omega (arith, x.0))
+      (elim came.where_to [ inl takes ↦ takes.log | inr (inl stays) ↦ (near_inside s law p came.len came.ds place stays.marks stays.near).0 | inr (inr copy) ↦ copy.log ], omega (arith, x.0), omega (arith, x.0))
 
   pub in_log : (place.log < s.logs) × (place.at + size_of came.len ≤ LOG_WORDS)
   in_log = (there.0, there.1)
@@ -83,13 +98,14 @@ module _ (s : State) (law : Law s) (p new : ℕ) (fits : new < 2 ^ 64) (place : 
   pub taken : s.starts (addr place) ≡ false → t ≡ with_span s p new came.len place
   taken none = elim came.where_to [
     | inl takes ↦ takes.after
-    | inr stays ↦ absurd (false≢true (sym none ∙ (law.cells.cell_near p came.len came.ds place stays.marks stays.near).placed))
+    | inr (inl stays) ↦ absurd (false≢true (sym none ∙ (law.cells.cell_near p came.len came.ds place stays.marks stays.near).placed))
+    | inr (inr copy) ↦ absurd (false≢true (sym none ∙ copy.begun))
   ]
 
-  pub stayed : s.starts (addr place) ≡ true → t ≡ record s { cell = put s.cell p new }
+  pub stayed : s.starts (addr place) ≡ true → StaysThere s p new came.len came.ds place t ⊎ NamesCopied s p new place t
   stayed some = elim came.where_to [
     | inl takes ↦ absurd (false≢true (sym takes.begins ∙ some))
-    | inr stays ↦ stays.after
+    | inr either ↦ either
   ]
 
 module _ (s : State) (law : Law s) (p old new : ℕ) (fits : new < 2 ^ 64) (is : s.cell p ≡ old) where
@@ -108,8 +124,21 @@ module _ (s : State) (law : Law s) (p old new : ℕ) (fits : new < 2 ^ 64) (is :
       let there : Some place ≡ Some at = view (Near len ds at no_marks) stays in
       let e : at ≡ place = cc in
       subst (λ y. ComesNear s p new y (record s { cell = put s.cell p new })) e
-      (record { len = len; ds = ds; near = stays; where_to = inr (record { marks = m; near = ap read_of is ∙ near; after = refl }) })
-  comes (Moves len ds from at) (moves, near) legal place view = let there : Some place ≡ Some at = view (Near len ds at no_marks) near in takes_new len ds at place (cc) near legal.span.next
+      (record { len = len; ds = ds; near = stays; where_to = inr (inl (record { marks = m; near = ap read_of is ∙ near; after = refl })) })
+  comes (Moves len ds from at) (moves, near) legal place view = at_copy (copied_job s p from at) refl where
+    there : at ≡ place
+    there = let e : Some place ≡ Some at = view (Near len ds at no_marks) near in cc
+
+    at_copy : (o : Option ℕ) → copied_job s p from at ≡ o → ComesNear s p new place (after_move s p new len at o)
+    at_copy None e = elim legal [
+      | inl moves ↦ takes_new len ds at place there near moves.span.next
+      | inr has ↦ absurd (false≢true (sym (ap is_some e) ∙ copied_test s p from at has))
+    ]
+    at_copy (Some j) e =
+        let x = copied_fact s p from at j e in
+        let stands = copied_stands s law p from at j x.0 x.1 in
+        subst (λ (y : Place). ComesNear s p new y (with_named s p new j)) there
+        (record { len = len; ds = ds; near = near; where_to = inr (inr (record { log = stands.1; begun = stands.0; from = from; lies = x.1.lies; elsewhere = copied_elsewhere s law p from at j x.0 x.1; job = j; found = e; after = refl })) })
   comes (Fetches len ds at) (far, near) legal place view = let there : Some place ≡ Some at = view (Near len ds at no_marks) near in takes_new len ds at place (cc) near legal.span.next
 
   leaves : (form : Naming) → IsNaming form (read_of old) (read_of new) → ((v : PtrWord) → read_of new ≡ Some v → view_place v ≡ None) →
@@ -160,3 +189,43 @@ module _ (s : State) (law : Law s) (p old new : ℕ) (fits : new < 2 ^ 64) (is :
           let here : place ≡ far.place = cc in
           (λ i. (evicts_row s p new (long i) (here i)).after) ∙ sym far.after)
     ]
+
+-- ---- a place where a span begins already
+abbrev pub with_job : State → ℕ → ℕ → Option ℕ → State
+with_job s p new None = record s { cell = put s.cell p new }
+with_job s p new (Some j) = with_named s p new j
+
+module _ (s : State) (law : Law s) (p old new : ℕ) (fits : new < 2 ^ 64) (is : s.cell p ≡ old) (legal : is_legal s (Name p old new) ≡ true)
+    (place : Place) (view : (v : PtrWord) → read_of new ≡ Some v → Some place ≡ view_place v) (begun : s.starts (addr place) ≡ true) where
+  came : ComesNear s p new place (after_naming s p new (naming_of (read_of old) (read_of new)))
+  came = comes_near s law p old new fits is legal place view
+
+  -- the object lies near
+  pub placed_near : (v : PtrWord) → read_of old ≡ Some v → IsNearWord v
+  placed_near v e = elim (stayed s law p new fits place _ came begun) [
+    | inl stays ↦ (let both : Some v ≡ Some (Near came.len came.ds place stays.marks) = sym e ∙ ap read_of (sym is) ∙ stays.near in
+        record { len = came.len; ds = came.ds; place = place; marks = stays.marks; is = cc })
+    | inr copy ↦ near_there v copy.from (ap near_place (sym e ∙ ap read_of (sym is)) ∙ copy.lies)
+  ] where
+    near_there : (v : PtrWord) (from : Place) → near_place (Some v) ≡ Some from → IsNearWord v
+    near_there Free from h = absurd cc
+    near_there (Near len ds at m) from h = record { len = len; ds = ds; place = at; marks = m; is = refl }
+    near_there (Far len ds m) from h = absurd cc
+
+  -- it stays where it is, or a copy is named
+  pub placed_is : (len ds : ℕ) (from : Place) (m : Marks) → read_of old ≡ Some (Near len ds from m) →
+      with_job s p new (copied_job s p from place) ≡ after_naming s p new (naming_of (read_of old) (read_of new))
+  placed_is len ds from m e = elim (stayed s law p new fits place _ came begun) [
+    | inl stays ↦ (let both : Some (Near len ds from m) ≡ Some (Near came.len came.ds place stays.marks) = sym e ∙ ap read_of (sym is) ∙ stays.near in
+        let here : from ≡ place = cc in
+        ap (with_job s p new) (ap (λ (x : Place). copied_job s p x place) here ∙ none_here) ∙ sym stays.after)
+    | inr copy ↦ (let both : Some from ≡ Some copy.from = sym (ap near_place e) ∙ ap near_place (ap read_of (sym is)) ∙ copy.lies in
+        let here : from ≡ copy.from = cc in
+        ap (with_job s p new) (ap (λ (x : Place). copied_job s p x place) here ∙ copy.found) ∙ sym copy.after)
+  ] where
+    none_of : (o : Option ℕ) → copied_job s p place place ≡ o → o ≡ None
+    none_of None e = refl
+    none_of (Some j) e = let x = copied_fact s p place place j e in absurd (copied_elsewhere s law p place place j x.0 x.1 refl)
+
+    none_here : copied_job s p place place ≡ None
+    none_here = none_of (copied_job s p place place) refl

@@ -1,14 +1,12 @@
 -- Why events about jobs are refused.
-use Rattle.std.proofs.Common.{◌≡◌, ◌≢◌, ℕ, ◌+◌, ◌*◌, ◌/◌, ◌^◌, ◌<◌, ◌≤◌, ◌⊎◌, ◌∙◌, true, arith, ap, inl, inr, refl, sym, subst, Option, Some, None}
+use Rattle.std.proofs.Common.{◌≡◌, ◌≢◌, ℕ, ◌/◌, ◌^◌, ◌<◌, ◌⊎◌, ◌∙◌, true, arith, ap, inl, inr, refl, sym, subst, Option, Some, None}
 use Rattle.std.proofs.lemmas.Bool.{false≢true}
 use Rattle.far_word.specs.declared.job.Job.{Job}
 use Rattle.far_word.specs.declared.job.JobWord.{JobWord}
 use Rattle.far_word.specs.declared.job.JobWord.TheVariants.{Empty, Offered, Taken, Finished}
-use Rattle.far_word.specs.declared.sizes.TheConstants.{JOBS, LAST_AT, MOST_COPIERS, MOST_LOGS, POINTERS}
+use Rattle.far_word.specs.declared.sizes.TheConstants.{MOST_COPIERS, POINTERS}
 use Rattle.far_word.specs.Job.{IsJob, job_of, job_sum}
-use Rattle.far_word.specs.Sizes.{words_for}
 use Rattle.far_word.proofs.JobLaws.{job_says}
-use Rattle.far_log.specs.Spans.{head_len}
 use Rattle.far_core.specs.declared.event.Event.TheVariants as event
 use Rattle.far_core.specs.declared.event.Task.{Task}
 use Rattle.far_core.specs.events.Collect.{is_loose}
@@ -16,7 +14,7 @@ use Rattle.far_core.specs.events.Tasks.{HasTask}
 use Rattle.far_core.specs.laws.Refusals.{CopyingIsRefused}
 use Rattle.far_core.specs.state.Jobs.{job_words}
 use Rattle.far_core.specs.state.Law.{Law}
-use Rattle.far_core.specs.state.State.{State, addr}
+use Rattle.far_core.specs.state.State.{State}
 use Rattle.far_core.proofs.RefusedEvents.{refused}
 
 -- the stage of a job stands in the two highest bits

@@ -21,6 +21,8 @@ use Rattle.far_core.specs.events.Naming.{IsNaming, is_dropped, naming_row, no_ma
 use Rattle.far_core.specs.events.Quiet.{has_move, IsQuiet}
 use Rattle.far_core.specs.laws.Namings.{IsPlain}
 use Rattle.far_core.specs.laws.RefusedNamings.{NewWordIsRefused, ReachedIsRefused, StayIsRefused, PlaceIsRefused, IsElsewhere, NamingsAreRefused}
+use Rattle.far_core.specs.events.Copied.{WasCopied}
+use Rattle.far_core.proofs.Copied.{copied_elsewhere, copied_quiet}
 use Rattle.far_core.specs.state.Law.{Law, Blank, head_len}
 use Rattle.far_core.specs.state.State.{State, addr}
 use Rattle.far_core.proofs.Cells.{held_near, unused}
@@ -102,15 +104,15 @@ module _ (s : State) (law : Law s) (p old new : ℕ) where
 
 -- ---- by the object
 -- a near object without DROP and MOVE is named anew only where it is quiet
-was_quiet : (s : State) (p new : ℕ) (form : Naming) (a b : Option PtrWord) (len ds : ℕ) (place : Place) (m : Marks) → IsNaming form a b → (naming_row s p new form).Legal →
+was_quiet : (s : State) → Law s → (p new : ℕ) (form : Naming) (a b : Option PtrWord) (len ds : ℕ) (place : Place) (m : Marks) → IsNaming form a b → (naming_row s p new form).Legal →
     a ≡ Some (Near len ds place m) → m.dropped ≡ false → m.moved ≡ false → IsQuiet s p
-was_quiet s p new (Places n d at) a b len ds place m h legal e alive still = let odd : Some Free ≡ Some (Near len ds place m) = sym h.0 ∙ e in absurd cc
-was_quiet s p new Retires a b len ds place m h legal e alive still = absurd (false≢true (sym alive ∙ sym (ap is_dropped e) ∙ h.0))
-was_quiet s p new (Evicts n at) a b len ds place m h legal e alive still = legal
-was_quiet s p new Stays a b len ds place m (n, d, at, k, was, kept, moved, out, is) legal e alive still =
+was_quiet s law p new (Places n d at) a b len ds place m h legal e alive still = let odd : Some Free ≡ Some (Near len ds place m) = sym h.0 ∙ e in absurd cc
+was_quiet s law p new Retires a b len ds place m h legal e alive still = absurd (false≢true (sym alive ∙ sym (ap is_dropped e) ∙ h.0))
+was_quiet s law p new (Evicts n at) a b len ds place m h legal e alive still = legal
+was_quiet s law p new Stays a b len ds place m (n, d, at, k, was, kept, moved, out, is) legal e alive still =
     absurd (false≢true (sym still ∙ sym (ap has_move e) ∙ ap has_move was ∙ moved))
-was_quiet s p new (Moves n d from to) a b len ds place m h legal e alive still = legal.quiet
-was_quiet s p new (Fetches n d at) a b len ds place m ((k, was, kept), is) legal e alive still = let odd : Some (Far n d k) ≡ Some (Near len ds place m) = sym was ∙ e in absurd cc
+was_quiet s law p new (Moves n d from to) a b len ds place m h legal e alive still = elim legal [ inl moves ↦ moves.quiet | inr has ↦ copied_quiet s law p from to has.0 has.1 has.2 ]
+was_quiet s law p new (Fetches n d at) a b len ds place m ((k, was, kept), is) legal e alive still = let odd : Some (Far n d k) ≡ Some (Near len ds place m) = sym was ∙ e in absurd cc
 
 module _ (s : State) (law : Law s) (p old new : ℕ) where
   -- what the cell's quiet says, where it has no MOVE
@@ -130,13 +132,13 @@ module _ (s : State) (law : Law s) (p old new : ℕ) where
   quiet_now : (len ds : ℕ) (place : Place) (m : Marks) → Legal s (Name p old new) → s.cell p ≡ old → read_of old ≡ Some (Near len ds place m) → m.dropped ≡ false → m.moved ≡ false →
       Unreached place m
   quiet_now len ds place m h is near alive still =
-      unreached len ds place m (was_quiet s p new h.1.0 (read_of old) (read_of new) len ds place m h.1.1 h.1.2 near alive still) (ap read_of is ∙ near) still
+      unreached len ds place m (was_quiet s law p new h.1.0 (read_of old) (read_of new) len ds place m h.1.1 h.1.2 near alive still) (ap read_of is ∙ near) still
 
   pub reached_refused : ReachedIsRefused s p old new
   reached_refused = record {
     viewed = λ place is rests. refused s law (Name p old new) (λ h.
         let x = held_near _ place (law.views.held_names p place rests) in
-        let quiet = was_quiet s p new h.1.0 (read_of old) (read_of new) x.len x.ds place x.marks h.1.1 h.1.2 (ap read_of (sym is) ∙ x.near) x.kept x.unmoved in
+        let quiet = was_quiet s law p new h.1.0 (read_of old) (read_of new) x.len x.ds place x.marks h.1.1 h.1.2 (ap read_of (sym is) ∙ x.near) x.kept x.unmoved in
         let odd : Some place ≡ None = sym rests ∙ quiet_unheld s law p quiet in cc);
     unwanted = λ len ds place m is near alive still out. refused s law (Name p old new) (λ h. false≢true (sym out ∙ (quiet_now len ds place m h is near alive still).wanted));
     outside = λ len ds place m is near alive still out. refused s law (Name p old new) (λ h. false≢true (sym out ∙ (quiet_now len ds place m h is near alive still).chosen));
@@ -145,7 +147,7 @@ module _ (s : State) (law : Law s) (p old new : ℕ) where
 
 -- ---- by the place
 -- a new span is taken: what stands there
-record Spanned (s : State) (p : ℕ) (a : Option PtrWord) (len ds : ℕ) (to : Place) : Type 0 where
+pub record Spanned (s : State) (p : ℕ) (a : Option PtrWord) (len ds : ℕ) (to : Place) : Type 0 where
   pub span : IsNewSpan s p len ds to
   pub blank : a ≡ Some Free → Blank s.word len to
   pub copied : (n d : ℕ) (from : Place) (m : Marks) → a ≡ Some (Near n d from m) → Alike (data_at s.word to) (data_at s.word from) (words_for len)
@@ -159,22 +161,26 @@ same_spanned s p a n d len ds at to j k e h =
     let z : at ≡ to = cc in
     subst (λ l. Spanned s p a l ds to) x (subst (λ t. Spanned s p a n t to) y (subst (λ (w : Place). Spanned s p a n d w) z h))
 
-spanned : (s : State) (p new : ℕ) (form : Naming) (a b : Option PtrWord) (len ds : ℕ) (to : Place) (k : Marks) → IsNaming form a b → (naming_row s p new form).Legal →
-    b ≡ Some (Near len ds to k) → ((n d : ℕ) (m : Marks) → a ≢ Some (Near n d to m)) → Spanned s p a len ds to
-spanned s p new (Places n d at) a b len ds to k h legal e elsewhere = same_spanned s p a n d len ds at to no_marks k (sym h.1 ∙ e) record {
+pub spanned : (s : State) (p new : ℕ) (form : Naming) (a b : Option PtrWord) (len ds : ℕ) (to : Place) (k : Marks) → IsNaming form a b → (naming_row s p new form).Legal →
+    b ≡ Some (Near len ds to k) → ((n d : ℕ) (m : Marks) → a ≢ Some (Near n d to m)) → ((from : Place) → ¬ WasCopied s p from to) → Spanned s p a len ds to
+spanned s p new (Places n d at) a b len ds to k h legal e elsewhere uncopied = same_spanned s p a n d len ds at to no_marks k (sym h.1 ∙ e) record {
   span = legal.0;
   blank = λ _. legal.1;
   copied = λ l t from m is. let odd : Some Free ≡ Some (Near l t from m) = sym h.0 ∙ is in absurd cc;
   fetched = λ l t m is. let odd : Some Free ≡ Some (Far l t m) = sym h.0 ∙ is in absurd cc;
   padded = λ some. let last : words_for n - 1 < words_for n = omega (arith, some) in subst (λ x. x < 2 ^ (8 * (n - 8 * (words_for n - 1)))) (sym (legal.1 (words_for n - 1) last)) (pow_pos _);
 }
-spanned s p new Retires a b len ds to k h legal e elsewhere = let odd : Some Free ≡ Some (Near len ds to k) = sym h.1 ∙ e in absurd cc
-spanned s p new (Evicts n at) a b len ds to k (d, m, was, alive, wanted, is) legal e elsewhere = let odd : Some (Far n d no_marks) ≡ Some (Near len ds to k) = sym is ∙ e in absurd cc
-spanned s p new Stays a b len ds to k (n, d, at, m, was, alive, moved, out, is) legal e elsewhere =
+spanned s p new Retires a b len ds to k h legal e elsewhere uncopied = let odd : Some Free ≡ Some (Near len ds to k) = sym h.1 ∙ e in absurd cc
+spanned s p new (Evicts n at) a b len ds to k (d, m, was, alive, wanted, is) legal e elsewhere uncopied = let odd : Some (Far n d no_marks) ≡ Some (Near len ds to k) = sym is ∙ e in absurd cc
+spanned s p new Stays a b len ds to k (n, d, at, m, was, alive, moved, out, is) legal e elsewhere uncopied =
     let same : Some (Near n d at no_marks) ≡ Some (Near len ds to k) = sym is ∙ e in
     let there : at ≡ to = cc in
     absurd (elsewhere n d m (was ∙ ap (λ x. Some (Near n d x m)) there))
-spanned s p new (Moves n d from at) a b len ds to k ((m, was, alive, other), is) legal e elsewhere = same_spanned s p a n d len ds at to no_marks k (sym is ∙ e) record {
+spanned s p new (Moves n d from at) a b len ds to k ((m, was, alive, other), is) (inr has) e elsewhere uncopied =
+    let same : Some (Near n d at no_marks) ≡ Some (Near len ds to k) = sym is ∙ e in
+    let there : at ≡ to = cc in
+    absurd (uncopied from (subst (WasCopied s p from) there has))
+spanned s p new (Moves n d from at) a b len ds to k ((m, was, alive, other), is) (inl legal) e elsewhere uncopied = same_spanned s p a n d len ds at to no_marks k (sym is ∙ e) record {
   span = legal.span;
   blank = λ free. let odd : Some Free ≡ Some (Near n d from m) = sym free ∙ was in absurd cc;
   copied = λ l t place j near.
@@ -184,7 +190,7 @@ spanned s p new (Moves n d from at) a b len ds to k ((m, was, alive, other), is)
   fetched = λ l t j far. let odd : Some (Near n d from m) ≡ Some (Far l t j) = sym was ∙ far in absurd cc;
   padded = λ _. legal.padded;
 }
-spanned s p new (Fetches n d at) a b len ds to k ((m, was, alive), is) legal e elsewhere = same_spanned s p a n d len ds at to no_marks k (sym is ∙ e) record {
+spanned s p new (Fetches n d at) a b len ds to k ((m, was, alive), is) legal e elsewhere uncopied = same_spanned s p a n d len ds at to no_marks k (sym is ∙ e) record {
   span = legal.span;
   blank = λ free. let odd : Some Free ≡ Some (Far n d m) = sym free ∙ was in absurd cc;
   copied = λ l t place j near. let odd : Some (Far n d m) ≡ Some (Near l t place j) = sym was ∙ near in absurd cc;
@@ -192,9 +198,9 @@ spanned s p new (Fetches n d at) a b len ds to k ((m, was, alive), is) legal e e
   padded = λ _. legal.padded;
 }
 
-module _ (s : State) (law : Law s) (p old new len ds : ℕ) (to : Place) (k : Marks) (near : read_of new ≡ Some (Near len ds to k)) (elsewhere : IsElsewhere old to) where
+module _ (s : State) (law : Law s) (p old new len ds : ℕ) (to : Place) (k : Marks) (near : read_of new ≡ Some (Near len ds to k)) (elsewhere : IsElsewhere old to) (uncopied : (from : Place) → ¬ WasCopied s p from to) where
   taken : Legal s (Name p old new) → Spanned s p (read_of old) len ds to
-  taken h = spanned s p new h.1.0 (read_of old) (read_of new) len ds to k h.1.1 h.1.2 near elsewhere
+  taken h = spanned s p new h.1.0 (read_of old) (read_of new) len ds to k h.1.1 h.1.2 near elsewhere uncopied
 
   pub place_refused : PlaceIsRefused s p old new len ds to
   place_refused = record {
@@ -214,7 +220,7 @@ module _ (s : State) (law : Law s) (p old new len ds : ℕ) (to : Place) (k : Ma
 
 -- what is named where it lies already is asked for and not wanted, or the next span may stand there
 stayed : (s : State) (p new : ℕ) (form : Naming) (a b : Option PtrWord) (n d len ds : ℕ) (place : Place) (m k : Marks) → IsNaming form a b → (naming_row s p new form).Legal →
-    a ≡ Some (Near n d place m) → b ≡ Some (Near len ds place k) → ((m.moved ≡ true) × (m.evac ≡ false)) ⊎ IsNext s place
+    a ≡ Some (Near n d place m) → b ≡ Some (Near len ds place k) → ((m.moved ≡ true) × (m.evac ≡ false)) ⊎ (IsNext s place ⊎ WasCopied s p place place)
 stayed s p new (Places l t at) a b n d len ds place m k h legal was is = let odd : Some Free ≡ Some (Near n d place m) = sym h.0 ∙ was in absurd cc
 stayed s p new Retires a b n d len ds place m k h legal was is = let odd : Some Free ≡ Some (Near len ds place k) = sym h.1 ∙ is in absurd cc
 stayed s p new (Evicts l at) a b n d len ds place m k (t, j, old, alive, wanted, says) legal was is = let odd : Some (Far l t no_marks) ≡ Some (Near len ds place k) = sym says ∙ is in absurd cc
@@ -222,10 +228,16 @@ stayed s p new Stays a b n d len ds place m k (l, t, at, j, old, alive, moved, o
     let same : Some (Near l t at j) ≡ Some (Near n d place m) = sym old ∙ was in
     let marks : j ≡ m = cc in
     inl (ap (λ (x : Marks). x.moved) (sym marks) ∙ moved, ap (λ (x : Marks). x.evac) (sym marks) ∙ out)
-stayed s p new (Moves l t from to) a b n d len ds place m k (h, says) legal was is =
+stayed s p new (Moves l t from to) a b n d len ds place m k (h, says) (inl legal) was is =
     let same : Some (Near l t to no_marks) ≡ Some (Near len ds place k) = sym says ∙ is in
     let there : to ≡ place = cc in
-    inr (subst (λ (x : Place). IsNext s x) there legal.span.next)
+    inr (inl (subst (λ (x : Place). IsNext s x) there legal.span.next))
+stayed s p new (Moves l t from to) a b n d len ds place m k (h, says) (inr has) was is =
+    let same : Some (Near l t to no_marks) ≡ Some (Near len ds place k) = sym says ∙ is in
+    let there : to ≡ place = cc in
+    let both : Some (Near l t from h.0) ≡ Some (Near n d place m) = sym h.1 ∙ was in
+    let here : from ≡ place = cc in
+    inr (inr (subst (λ (x : Place). WasCopied s p place x) there (subst (λ (x : Place). WasCopied s p x to) here has)))
 stayed s p new (Fetches l t at) a b n d len ds place m k ((j, old, alive), says) legal was is = let odd : Some (Far l t j) ≡ Some (Near n d place m) = sym old ∙ was in absurd cc
 
 -- where an object lies no next span may stand
@@ -241,7 +253,8 @@ module _ (s : State) (law : Law s) (p old new len ds n d : ℕ) (place : Place) 
   staying : Legal s (Name p old new) → (m.moved ≡ true) × (m.evac ≡ false)
   staying h = elim (stayed s p new h.1.0 (read_of old) (read_of new) n d len ds place m k h.1.1 h.1.2 was near) [
     | inl x ↦ x
-    | inr next ↦ absurd (no_room_there s law p n d place m (ap read_of is ∙ was) next)
+    | inr (inl next) ↦ absurd (no_room_there s law p n d place m (ap read_of is ∙ was) next)
+    | inr (inr has) ↦ absurd (copied_elsewhere s law p place place has.0 has.1 has.2 refl)
   ]
 
   pub stay_refused : StayIsRefused s p old new m
@@ -255,5 +268,5 @@ namings_refused s law = record {
   words = λ p old new a b. new_word_refused s law p old new a b;
   reached = λ p old new. reached_refused s law p old new;
   stays = λ p old new len ds n d place m k is was near. stay_refused s law p old new len ds n d place m k is was near;
-  places = λ p old new len ds to k near elsewhere. place_refused s law p old new len ds to k near elsewhere;
+  places = λ p old new len ds to k near elsewhere uncopied. place_refused s law p old new len ds to k near elsewhere uncopied;
 }

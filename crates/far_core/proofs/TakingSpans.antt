@@ -9,16 +9,17 @@ use Rattle.far_word.specs.Pointer.{read_of}
 use Rattle.far_word.proofs.HeaderLaws.{head_back}
 use Rattle.far_word.proofs.PointerLaws.{read_says}
 use Rattle.far_core.specs.events.Copies.{EndsPadded}
+use Rattle.far_core.specs.events.Copied.{with_named}
 use Rattle.far_core.specs.events.Naming.{no_marks}
 use Rattle.far_core.specs.events.NewSpans.{IsNewSpan, with_span}
 use Rattle.far_core.specs.state.Law.{Law, Blank, in_use}
 use Rattle.far_core.specs.state.State.{State, put, addr}
 use Rattle.far_core.specs.world.World.{Object}
-use Rattle.far_core.specs.world.WorldOf.{world_of, object_of, is_marked}
+use Rattle.far_core.specs.world.WorldOf.{world_of, object_of, is_group, is_marked}
 use Rattle.far_core.proofs.Copies.{padded_all}
 use Rattle.far_core.proofs.KeepPlace.{header, law_with_span}
 use Rattle.far_core.proofs.NewSpans.{at_tail, groups_then, unsealed}
-use Rattle.far_core.proofs.Put.{put_both, put_same, put_other}
+use Rattle.far_core.proofs.Put.{put_both, put_old, put_same, put_other}
 use Rattle.far_core.proofs.Worlds.{World-ext}
 
 module _ (s : State) (law : Law s) (p new len ds : ℕ) (place : Place) (says : read_of new ≡ Some (Near len ds place no_marks)) where
@@ -32,6 +33,18 @@ module _ (s : State) (law : Law s) (p new len ds : ℕ) (place : Place) (says : 
       (omega (arith, x.0)) (omega (arith, x.0)) (omega (arith, x.0)) span.next.0 (unsealed s place span.next) (at_tail s law place span.next) span.head back
       (padded_all s.word law.spans.word_fits len place (omega (arith, x.0)) padded) blank
 
+  -- what objects and marks are, where the cell names the place
+  objects_then : (x : Object) → object_of s.word (s.stored p) p (read_of new) ≡ Some x →
+      (λ q. object_of s.word (s.stored q) q (read_of (put s.cell p new q))) ≡ put (λ q. object_of s.word (s.stored q) q (read_of (s.cell q))) p (Some x)
+  objects_then x is = fun_ext (λ q. put_both (λ w. object_of s.word (s.stored q) q (read_of w) ≡ put (λ r. object_of s.word (s.stored r) r (read_of (s.cell r))) p (Some x) q) s.cell p new q
+      (λ e. ap (λ r. object_of s.word (s.stored r) r (read_of new)) e ∙ is ∙ sym (put_same (λ r. object_of s.word (s.stored r) r (read_of (s.cell r))) p _ q e))
+      (λ ne. sym (put_other (λ r. object_of s.word (s.stored r) r (read_of (s.cell r))) p _ q ne)))
+
+  marks_then : (λ q. is_marked (read_of (put s.cell p new q))) ≡ put (λ q. is_marked (read_of (s.cell q))) p false
+  marks_then = fun_ext (λ q. put_both (λ w. is_marked (read_of w) ≡ put (λ r. is_marked (read_of (s.cell r))) p false q) s.cell p new q
+      (λ e. ap is_marked says ∙ sym (put_same (λ r. is_marked (read_of (s.cell r))) p false q e))
+      (λ ne. sym (put_other (λ r. is_marked (read_of (s.cell r))) p false q ne)))
+
   -- the object that is meant from then on, unmarked, in a group that is held
   pub span_world : (x : Object) → object_of s.word (s.stored p) p (read_of new) ≡ Some x →
       world_of (with_span s p new len place) ≡ record (world_of s) {
@@ -40,13 +53,14 @@ module _ (s : State) (law : Law s) (p new len ds : ℕ) (place : Place) (says : 
         group = put (world_of s).group place.log true;
       }
   unfolding world_of
-  span_world x is = World-ext _ _
-      (fun_ext (λ q. put_both (λ w. object_of s.word (s.stored q) q (read_of w) ≡ put (λ r. object_of s.word (s.stored r) r (read_of (s.cell r))) p (Some x) q) s.cell p new q
-      (λ e. ap (λ r. object_of s.word (s.stored r) r (read_of new)) e ∙ is ∙ sym (put_same (λ r. object_of s.word (s.stored r) r (read_of (s.cell r))) p _ q e))
-      (λ ne. sym (put_other (λ r. object_of s.word (s.stored r) r (read_of (s.cell r))) p _ q ne))))
-      refl refl
-      (fun_ext (λ q. put_both (λ w. is_marked (read_of w) ≡ put (λ r. is_marked (read_of (s.cell r))) p false q) s.cell p new q
-      (λ e. ap is_marked says ∙ sym (put_same (λ r. is_marked (read_of (s.cell r))) p false q e))
-      (λ ne. sym (put_other (λ r. is_marked (read_of (s.cell r))) p false q ne))))
-      (fun_ext (groups_then s.kind s.current place.log law.logs.is_open))
-      refl
+  span_world x is = World-ext _ _ (objects_then x is) refl refl marks_then (fun_ext (groups_then s.kind s.current place.log law.logs.is_open)) refl
+
+  -- the same of a copy, whose group is held already
+  pub named_world : (j : ℕ) (x : Object) → object_of s.word (s.stored p) p (read_of new) ≡ Some x → is_group (s.kind place.log) ≡ true →
+      world_of (with_named s p new j) ≡ record (world_of s) {
+        object = put (world_of s).object p (Some x);
+        marked = put (world_of s).marked p false;
+        group = put (world_of s).group place.log true;
+      }
+  unfolding world_of
+  named_world j x is held = World-ext _ _ (objects_then x is) refl refl marks_then (sym (put_old (λ l. is_group (s.kind l)) place.log true held)) refl

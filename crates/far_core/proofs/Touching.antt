@@ -4,7 +4,7 @@ use Rattle.far_word.specs.declared.pointer.Place.{Place}
 use Rattle.far_word.specs.declared.sizes.TheConstants.{CELLS}
 use Rattle.far_core.specs.declared.event.Event.{Event}
 use Rattle.far_core.specs.state.State.{Copying, State, put}
-use Rattle.far_core.specs.events.Touch.{Spot, EpochAt, ScopeAt, CellAt, WordAt, JobAt, SameCopier, Part, CopierAt, Remembers, Uses, Rests, LetsGo, Touch, Touches, shared_word, spot_word}
+use Rattle.far_core.specs.events.Touch.{Spot, EpochAt, ScopeAt, CellAt, WordAt, JobAt, SameCopier, CopierAt, Remembers, Uses, Rests, LetsGo, Touch, Touches, shared_word, spot_word}
 use Rattle.far_core.proofs.Put.{put_other}
 
 -- one word changes

@@ -5,6 +5,7 @@ pub mod Claim
 pub mod Clear
 pub mod Close
 pub mod Collect
+pub mod Copied
 pub mod Copies
 pub mod Finish
 pub mod Get

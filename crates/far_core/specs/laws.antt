@@ -8,4 +8,5 @@ pub mod Refusals
 pub mod RefusedNamings
 pub mod Rooms
 pub mod Rounds
+pub mod Taking
 pub mod Worlds

@@ -66,7 +66,8 @@ pub enum Event {
     /// - Retire: `old` has DROP, and `new` is 0.
     /// - Move: `old` is near without DROP, and `new` is of the same length and data structure, near at a new span, whose
     ///   data words are those at the old place. The object is quiet: its cell has MOVE; or it has EVAC, its log is in
-    ///   the round and its owner was seen clear.
+    ///   the round and its owner was seen clear. Or a finished job has copied the object to the new place, and
+    ///   isn't void: it was offered in this round, which the source's log hasn't left, and the object lies there still.
     /// - Fetch: `old` is far without DROP, and `new` is of the same length and data structure, near at a new span, whose
     ///   data words are those that were stored, if the far side is honest.
     /// - Evict: `old` is near with EVAC and without DROP, and `new` is of the same length and data structure, far and

@@ -94,10 +94,11 @@ module _ (s t : State) (p : ℕ) (items : List Housed) (is : t ≡ record s { ce
 
 -- ---- words alone are known anew
 pub same_but_near : {N D : Type 0} (first then last : EvacOf N D) → then ≡ record first { book = record first.book { near = then.book.near } } →
-    last.book.order ≡ then.book.order → last.book.device ≡ then.book.device → (last.phase ≡ then.phase) × (last.collection ≡ then.collection) → last ≡ record first { book = record first.book { near = last.book.near } }
+    last.book.order ≡ then.book.order → last.book.device ≡ then.book.device → (last.phase ≡ then.phase) × (last.collection ≡ then.collection) × (last.copying ≡ then.copying) → last ≡ record first { book = record first.book { near = last.book.near } }
 same_but_near {N = N} {D = D} first then last is order device round =
     let orders : last.book.order ≡ first.book.order = order ∙ ap (λ (e : EvacOf N D). e.book.order) is in
     let devices : last.book.device ≡ first.book.device = device ∙ ap (λ (e : EvacOf N D). e.book.device) is in
     let phases : last.phase ≡ first.phase = round.0 ∙ ap (λ (e : EvacOf N D). e.phase) is in
     let helds : last.collection ≡ first.collection = round.1 ∙ ap (λ (e : EvacOf N D). e.collection) is in
-    λ i. record { book = record { near = last.book.near; device = devices i; order = orders i }; phase = phases i; collection = helds i }
+    let copies : last.copying ≡ first.copying = round.2 ∙ ap (λ (e : EvacOf N D). e.copying) is in
+    λ i. record { book = record { near = last.book.near; device = devices i; order = orders i }; phase = phases i; collection = helds i; copying = copies i }

@@ -1,6 +1,7 @@
 -- As long as the epoch doesn't rise no log comes into the core's round, and nothing comes to lie in one of its logs.
-use Rattle.std.proofs.Common.{◌≡◌, ℕ, ◌+◌, ◌^◌, ◌≤◌, ◌==◌, Bool, true, false, Option, Some, None, List, [], ◌∷◌, arith, ap, sym, refl, ◌∙◌, subst, bit_or}
+use Rattle.std.proofs.Common.{◌≡◌, ℕ, ◌+◌, ◌^◌, ◌≤◌, ◌==◌, Bool, true, false, Option, Some, None, List, [], ◌∷◌, inl, inr, arith, ap, sym, refl, ◌∙◌, subst, bit_or}
 use Rattle.std.specs.List.{AllByRecursion}
+use Rattle.std.specs.Prelude.{◌⊎◌, is_some}
 use Rattle.std.proofs.lemmas.Bool.{cond_both, eqb-true, false≢true}
 use Rattle.far_word.specs.declared.job.Job.{Job}
 use Rattle.far_word.specs.declared.mark.Mark.TheVariants.{Evac}
@@ -21,28 +22,31 @@ use Rattle.far_core.specs.declared.naming.Naming.TheVariants.{Places, Retires, E
 use Rattle.far_core.specs.events.Claim.{after_claim, offered_in}
 use Rattle.far_core.specs.events.Clear.{evac_cleared, round_left}
 use Rattle.far_core.specs.events.Collect.{collected}
+use Rattle.far_core.specs.events.Copied.{WasCopied, copied_job, with_named}
 use Rattle.far_core.specs.events.Finish.{after_finish}
 use Rattle.far_core.specs.events.Offer.{after_offer}
 use Rattle.far_core.specs.events.Legal.{Legal}
 use Rattle.far_core.specs.events.Name.{after_naming}
 use Rattle.far_core.specs.events.Naming.{IsNaming, naming_of, naming_row, no_marks}
+use Rattle.far_core.specs.events.namings.Moves.{MayMove, after_move}
 use Rattle.far_core.specs.events.NewSpans.{IsNext, with_span}
 use Rattle.far_core.specs.events.Ranges.{after_events}
 use Rattle.far_core.specs.events.Step.{Fits, after, answer, is_legal, step_of}
 use Rattle.far_core.specs.state.Law.{Law}
 use Rattle.far_core.specs.state.State.{Copying, State, put}
+use Rattle.far_core.proofs.Copied.{copied_fact, copied_outside, copied_test}
 use Rattle.far_core.proofs.Keeps.{step_keeps}
 use Rattle.far_core.proofs.Namings.{naming_only}
 use Rattle.far_core.proofs.Owing.{is_fact}
 use Rattle.far_core.proofs.Put.{put_both}
-use Rattle.far_hand.specs.Owners.{OwnersChange}
+use Rattle.far_hand.specs.Others.{OthersChange}
 use Rattle.far_hand.proofs.Finding.{near_known}
-use Rattle.far_hand.proofs.OwnersWork.{change}
+use Rattle.far_hand.proofs.OthersWork.{change}
 use Rattle.far_book.proofs.region.Places.{next_unsealed}
 use Rattle.far_evac.specs.Laws.{but_evac}
 use Rattle.far_evac.specs.Strays.{ComersJoin, EventsBringNone, NoneComes, OwnersBringNone}
 use Rattle.far_evac.proofs.Marks.{IsNearWord, clear_sets, mark_sets}
-use Rattle.far_evac.proofs.Strays.{near_but}
+use Rattle.far_evac.proofs.NearBut.{near_but}
 use Rattle.far_evac.proofs.Framed.{name_one}
 
 -- ---- steps after each other
@@ -105,6 +109,17 @@ module _ (s : State) (law : Law s) (p new : ℕ) where
       (λ k e place marks near is.
       absurd (next_unsealed s to next (law.rounds.round_sealed to.log (ap (λ (x : Place). s.round x.log) (same_place n d to no_marks k e place marks (sym says ∙ near)) ∙ is))))
 
+  -- an object that moves takes such a span, or was copied to another log
+  move_none : (len ds : ℕ) (from to : Place) → read_of new ≡ Some (pointer.Near len ds to no_marks) → MayMove s p len ds from to ⊎ WasCopied s p from to → (o : Option ℕ) → copied_job s p from to ≡ o →
+      NoneComes s (after_move s p new len to o)
+  move_none len ds from to says (inl legal) None e = taken_none len ds len to says legal.span.next
+  move_none len ds from to says (inr has) None e = absurd (false≢true (sym (ap is_some e) ∙ copied_test s p from to has))
+  move_none len ds from to says legal (Some j) e =
+      let x = copied_fact s p from to j e in
+      one_cell s (with_named s p new j) p new refl (λ l is. is)
+      (λ n d place marks near is.
+      absurd (false≢true (sym (copied_outside s law p from to j x.0 x.1) ∙ ap (λ (y : Place). s.round y.log) (same_place len ds to no_marks n d place marks (sym says ∙ near)) ∙ is)))
+
   form_none : (form : Naming) → IsNaming form (read_of (s.cell p)) (read_of new) → (naming_row s p new form).Legal → NoneComes s (naming_row s p new form).after
   form_none (Places len ds place) says legal = taken_none len ds len place says.1 legal.0.next
   form_none Retires says legal = one_cell s (record s { cell = put s.cell p new }) p new refl (λ l is. is) (λ len ds place marks near is. absurd (free_near len ds place marks (sym says.1 ∙ near)))
@@ -112,7 +127,7 @@ module _ (s : State) (law : Law s) (p new : ℕ) where
       (λ len ds place marks near is. absurd (far_near n d no_marks len ds place marks (sym says ∙ near)))
   form_none Stays (n, d, at, m, was, alive, asked, unwanted, says) legal = one_cell s (record s { cell = put s.cell p new }) p new refl (λ l is. is)
       (λ len ds place marks near is. (m, was ∙ stays_there n d at no_marks m len ds place marks (sym says ∙ near)))
-  form_none (Moves len ds from to) says legal = taken_none len ds len to says.1 legal.span.next
+  form_none (Moves len ds from to) says legal = move_none len ds from to says.1 legal (copied_job s p from to) refl
   form_none (Fetches len ds place) says legal = taken_none len ds len place says.1 legal.span.next
 
   name_none : (old : ℕ) → Legal s (Name p old new) → NoneComes s (after s (Name p old new))
@@ -159,7 +174,7 @@ pub record Brings (s t : State) : Type 0 where
 still_none : (s t : State) → t.epoch ≡ s.epoch → NoneComes s t → Brings s t
 still_none s t same comes = record { rises = omega (arith, same); none = λ _. comes }
 
-owners_none : (s t : State) → t.epoch ≡ s.epoch → OwnersChange s t → Brings s t
+owners_none : (s t : State) → t.epoch ≡ s.epoch → OthersChange s t → Brings s t
 owners_none s t same owners = still_none s t same (owners_bring_none s t owners)
 
 -- what is copied brings nothing

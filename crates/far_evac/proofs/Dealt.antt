@@ -1,7 +1,7 @@
 -- An object that is dealt with leaves its log's list of live objects, and the walk may go on.
-use Rattle.std.proofs.Common.{◌≡◌, ◌≢◌, ℕ, zero, suc, ◌+◌, ◌*◌, ◌<◌, ◌≤◌, Bool, true, false, ◌&&◌, nat_eq, nat_le, Option, Some, List, [], ◌∷◌, filter, arith, ap, sym, refl, ◌∙◌, subst}
+use Rattle.std.proofs.Common.{◌≡◌, ◌≢◌, ℕ, zero, suc, ◌+◌, ◌*◌, ◌<◌, ◌≤◌, Bool, true, false, ◌&&◌, nat_eq, nat_le, Option, Some, None, List, [], ◌∷◌, filter, arith, ap, sym, refl, ◌∙◌, subst}
 use Rattle.std.specs.List.{AllByRecursion, range_with_len}
-use Rattle.std.proofs.lemmas.Bool.{cond_both, ne_eqb, false≢true}
+use Rattle.std.proofs.lemmas.Bool.{cond_both, eq-eqb, ne_eqb, false≢true}
 use Rattle.std.proofs.lemmas.Bool.Decides.{nat_tests}
 use Rattle.far_word.specs.declared.mark.Marks.{Marks}
 use Rattle.far_word.specs.declared.pointer.Place.{Place}
@@ -16,16 +16,20 @@ use Rattle.far_log.specs.Spans.{spans_in}
 use Rattle.far_core.specs.declared.event.Kind.{Kind}
 use Rattle.far_core.specs.declared.event.Kind.TheVariants as kinds
 use Rattle.far_core.specs.events.Copies.{data_at}
+use Rattle.far_core.specs.declared.naming.Naming.TheVariants.{Moves}
+use Rattle.far_core.specs.events.Copied.{copied_job}
+use Rattle.far_core.specs.events.Name.{after_naming}
 use Rattle.far_core.specs.events.Naming.{no_marks}
-use Rattle.far_core.specs.events.NewSpans.{with_span}
+use Rattle.far_core.specs.events.namings.Moves.{after_move}
 use Rattle.far_core.specs.state.Room.{room, free_logs, is_free, lowest}
 use Rattle.far_core.specs.state.Spans.{spans_of, is_live, names_place}
 use Rattle.far_core.specs.state.State.{State, put, addr}
 use Rattle.far_core.specs.events.Clear.{is_near}
+use Rattle.far_core.proofs.Namings.{naming_only}
 use Rattle.far_core.proofs.Put.{put_both, put_other, put_same}
-use Rattle.far_book.specs.book.Effects.{moved, evicted, near_word, far_word, with_free_cell, with_written_span}
+use Rattle.far_book.specs.book.Effects.{moved, moved_of, evicted, near_word, far_word, with_free_cell, with_written_span}
 use Rattle.far_book.proofs.region.Evictions.{evicted_is, far_says, sent}
-use Rattle.far_book.proofs.region.Moved.{moved_is}
+use Rattle.far_book.proofs.region.Moved.{no_stay}
 use Rattle.far_book.proofs.region.Written.{row_other}
 use Rattle.far_evac.specs.Dealings.{is_away, is_nowhere}
 use Rattle.far_evac.specs.Live.{live_in, pointers_of}
@@ -33,6 +37,15 @@ use Rattle.far_evac.specs.Ready.{Ready, IsOfRound, AllMarked, OnLayout}
 use Rattle.far_evac.proofs.LiveLists.{live_left, same_spans}
 use Rattle.far_evac.proofs.LiveOnce.{but}
 use Rattle.far_evac.proofs.OfOneKind.{open_unsealed}
+
+-- ---- an object that moves takes a span, or is named to what a job has copied
+pub moved_as : (s : State) (p len ds : ℕ) (from to : Place) (m : Marks) → read_of (s.cell p) ≡ Some (Near len ds from m) → m.dropped ≡ false → m.evac ≡ true → IsPtr (Near len ds to no_marks) →
+    let written = with_written_span s p len ds to (data_at s.word from) in moved s p to ≡ after_move written p (near_word len ds to) len to (copied_job written p from to)
+moved_as s p len ds from to m near alive wanted layout =
+    let written = with_written_span s p len ds to (data_at s.word from) in
+    let new = near_word len ds to in
+    ap (moved_of s p to) near
+    ∙ rw (eq-eqb (s.cell p) (s.cell p) refl) (ap (after_naming written p new) (naming_only (Moves len ds from to) (read_of (s.cell p)) (read_of new) ((m, near, alive, no_stay from to m wanted), read_back (Near len ds to no_marks) layout)))
 
 -- ---- where a hot object goes: to no sealed log
 pub record NewPlace (s : State) (size : ℕ) (place : Place) : Type 0 where
@@ -196,8 +209,19 @@ module _ (s : State) (held : List ℕ) (ready : Ready s held) (p : ℕ) where
       near_layout : IsPtr (Near len ds to no_marks)
       near_layout = (layout.0, layout.1, layout.2, omega (arith, new.log, ready.few), new.fits)
 
-      abbrev then : State
-      then = with_span (with_written_span s p len ds to (data_at s.word from)) p (near_word len ds to) len to
+      abbrev written : State
+      written = with_written_span s p len ds to (data_at s.word from)
+
+      -- a span is taken there; or what a job has copied there is named
+      abbrev then : Option ℕ → State
+      then job = after_move written p (near_word len ds to) len to job
+
+      moved_then : moved s p to ≡ then (copied_job written p from to)
+      moved_then = moved_as s p len ds from to marks near alive evac near_layout
+
+      cell_then : (job : Option ℕ) → (then job).cell ≡ put s.cell p (near_word len ds to)
+      cell_then None = refl
+      cell_then (Some j) = refl
 
       near_says : read_of (near_word len ds to) ≡ Some (Near len ds to no_marks)
       near_says = read_back (Near len ds to no_marks) near_layout
@@ -217,11 +241,9 @@ module _ (s : State) (held : List ℕ) (ready : Ready s held) (p : ℕ) where
         kept : l ≢ s.current
         kept e = open_unsealed (s.kind s.current) ready.opens (ap s.kind (sym e) ∙ is_sealed)
 
-        kind_still : then.kind l ≡ s.kind l
-        kind_still = put_other (put s.kind s.current kinds.Sealed) to.log kinds.Open l other ∙ put_other s.kind s.current kinds.Sealed l kept
-
-        tail_still : then.tail l ≡ s.tail l
-        tail_still = put_other s.tail to.log (to.at + size_of len) l other
+        round_still : (job : Option ℕ) → ((then job).kind l ≡ s.kind l) × ((then job).round l ≡ s.round l)
+        round_still None = (put_other (put s.kind s.current kinds.Sealed) to.log kinds.Open l other ∙ put_other s.kind s.current kinds.Sealed l kept, refl)
+        round_still (Some j) = (refl, refl)
 
         elsewhere : (n d : ℕ) (place : Place) (k : Marks) → read_of (near_word len ds to) ≡ Some (Near n d place k) → place.log ≢ l
         elsewhere n d place k e is =
@@ -232,60 +254,74 @@ module _ (s : State) (held : List ℕ) (ready : Ready s held) (p : ℕ) where
         gone : (at : ℕ) → names_place (read_of (near_word len ds to)) l at ≡ false
         gone at = ap (λ o. names_place o l at) near_says ∙ ap (λ b. b && nat_eq to.at at) (ne_eqb to.log l (λ e. other (sym e)))
 
-        word_still : (i : ℕ) → i < s.tail l → then.word (l * LOG_WORDS + i) ≡ s.word (l * LOG_WORDS + i)
+        word_still : (i : ℕ) → i < s.tail l → written.word (l * LOG_WORDS + i) ≡ s.word (l * LOG_WORDS + i)
         word_still i below =
             row_other (put s.word (addr to) (head_word p len ds)) (addr to + 1) (words_for len) (data_at s.word from) (l * LOG_WORDS + i)
             (λ after before. other (omega (arith, after, before, below, ready.short l, new.fits)))
             ∙ put_other s.word (addr to) (head_word p len ds) (l * LOG_WORDS + i) (λ e. other (omega (arith, e, below, ready.short l, new.fits)))
 
-        spans_still : spans_of then l ≡ spans_of s l
+        spans_written : spans_in (λ i. written.word (l * LOG_WORDS + i)) (s.tail l) ≡ spans_of s l
         unfolding spans_of spans_in
-        spans_still =
-            ap (λ tail. spans_in (λ i. then.word (l * LOG_WORDS + i)) tail) tail_still
-            ∙ same_spans (λ i. s.word (l * LOG_WORDS + i)) (λ i. then.word (l * LOG_WORDS + i)) (s.tail l) 0 (s.tail l) word_still
+        spans_written = same_spans (λ i. s.word (l * LOG_WORDS + i)) (λ i. written.word (l * LOG_WORDS + i)) (s.tail l) 0 (s.tail l) word_still
 
-        live_moved : live_in then l ≡ but p (live_in s l)
+        spans_still : (job : Option ℕ) → spans_of (then job) l ≡ spans_of s l
+        unfolding spans_of
+        spans_still None = ap (spans_in (λ i. written.word (l * LOG_WORDS + i))) (put_other s.tail to.log (to.at + size_of len) l other) ∙ spans_written
+        spans_still (Some j) = spans_written
+
+        live_moved : (job : Option ℕ) → live_in (then job) l ≡ but p (live_in s l)
         unfolding live_in spans_of
-        live_moved = ap (λ spans. pointers_of (filter (is_live (record s { cell = put s.cell p (near_word len ds to) }) l) spans)) spans_still ∙ live_left s p (near_word len ds to) l gone
+        live_moved job =
+            ap (λ cell. pointers_of (filter (is_live (record s { cell = cell }) l) (spans_of (then job) l))) (cell_then job)
+            ∙ ap (λ spans. pointers_of (filter (is_live (record s { cell = put s.cell p (near_word len ds to) }) l) spans)) (spans_still job)
+            ∙ live_left s p (near_word len ds to) l gone
 
-      lists_moved : (ls : List ℕ) → AllByRecursion (IsOfRound s) ls → AllByRecursion (λ l. live_in then l ≡ but p (live_in s l)) ls
-      lists_moved [] h = tt
-      lists_moved (l ∷ ls) h = (live_moved l h.0.0, lists_moved ls h.1)
+      lists_moved : (job : Option ℕ) (ls : List ℕ) → AllByRecursion (IsOfRound s) ls → AllByRecursion (λ l. live_in (then job) l ≡ but p (live_in s l)) ls
+      lists_moved job [] h = tt
+      lists_moved job (l ∷ ls) h = (live_moved l h.0.0 job, lists_moved job ls h.1)
 
-      logs_moved : (ls : List ℕ) → AllByRecursion (IsOfRound s) ls →
-          AllByRecursion (λ l. ((n d : ℕ) (place : Place) (k : Marks) → read_of (near_word len ds to) ≡ Some (Near n d place k) → place.log ≢ l) × (then.kind l ≡ s.kind l) × (then.round l ≡ s.round l)) ls
-      logs_moved [] h = tt
-      logs_moved (l ∷ ls) h = ((elsewhere l h.0.0, kind_still l h.0.0, refl), logs_moved ls h.1)
+      logs_moved : (job : Option ℕ) (ls : List ℕ) → AllByRecursion (IsOfRound s) ls →
+          AllByRecursion (λ l. ((n d : ℕ) (place : Place) (k : Marks) → read_of (near_word len ds to) ≡ Some (Near n d place k) → place.log ≢ l) × ((then job).kind l ≡ s.kind l) × ((then job).round l ≡ s.round l)) ls
+      logs_moved job [] h = tt
+      logs_moved job (l ∷ ls) h = ((elsewhere l h.0.0, (round_still l h.0.0 job).0, (round_still l h.0.0 job).1), logs_moved job ls h.1)
 
-      leaves_then : Leaves s p then held
-      leaves_then = record {
-        lists = lists_moved held ready.logs;
+      leaves_then : (job : Option ℕ) → Leaves s p (then job) held
+      leaves_then None = record {
+        lists = lists_moved None held ready.logs;
         ready = record {
-          layout = layout_still s p then (near_word len ds to) refl near_there ready.layout;
+          layout = layout_still s p (then None) (near_word len ds to) refl near_there ready.layout;
           short = λ l. put_both (λ tail. tail ≤ LOG_WORDS) s.tail to.log (to.at + size_of len) l (λ _. new.fits) (λ _. ready.short l);
           opens = put_both (λ kind. kind ≡ kinds.Open) (put s.kind s.current kinds.Sealed) to.log kinds.Open to.log (λ _. refl) (λ other. absurd (other refl));
           current = new.log;
           few = ready.few;
-          logs = held_still s p then (near_word len ds to) refl held (logs_moved held ready.logs) ready.logs;
+          logs = held_still s p (then None) (near_word len ds to) refl held (logs_moved None held ready.logs) ready.logs;
+          once = ready.once;
+        };
+      }
+      leaves_then (Some j) = record {
+        lists = lists_moved (Some j) held ready.logs;
+        ready = record {
+          layout = layout_still s p (then (Some j)) (near_word len ds to) refl near_there ready.layout;
+          short = ready.short;
+          opens = ready.opens;
+          current = ready.current;
+          few = ready.few;
+          logs = held_still s p (then (Some j)) (near_word len ds to) refl held (logs_moved (Some j) held ready.logs) ready.logs;
           once = ready.once;
         };
       }
 
       pub leaves_moved : Leaves s p (moved s p to) held
-      leaves_moved = subst (λ t. Leaves s p t held) (sym (moved_is s p len ds from to marks near alive evac near_layout)) leaves_then
-
-      here_near : read_of (then.cell p) ≡ Some (Near len ds to no_marks)
-      here_near = ap read_of (put_same s.cell p (near_word len ds to) p refl) ∙ near_says
+      leaves_moved = subst (λ t. Leaves s p t held) (sym moved_then) (leaves_then (copied_job written p from to))
 
       pub says_moved : read_of ((moved s p to).cell p) ≡ Some (Near len ds to no_marks)
-      says_moved = ap (λ (t : State). read_of (t.cell p)) (moved_is s p len ds from to marks near alive evac near_layout) ∙ here_near
+      says_moved =
+          ap (λ (t : State). read_of (t.cell p)) moved_then ∙ ap (λ f. read_of (f p)) (cell_then (copied_job written p from to))
+          ∙ ap read_of (put_same s.cell p (near_word len ds to) p refl) ∙ near_says
 
-      off_moved : (ls : List ℕ) → AllByRecursion (IsOfRound s) ls → AllByRecursion (λ l. (at : ℕ) → names_place (read_of (then.cell p)) l at ≡ false) ls
+      off_moved : (ls : List ℕ) → AllByRecursion (IsOfRound s) ls → AllByRecursion (λ l. (at : ℕ) → names_place (read_of ((moved s p to).cell p)) l at ≡ false) ls
       off_moved [] h = tt
-      off_moved (l ∷ ls) h = (λ at. ap (λ o. names_place o l at) here_near ∙ sym (ap (λ o. names_place o l at) near_says) ∙ gone l h.0.0 at, off_moved ls h.1)
-
-      gone_then : Gone s p then held is_near
-      gone_then = record { says = ap is_near here_near; off = off_moved held ready.logs }
+      off_moved (l ∷ ls) h = (λ at. ap (λ o. names_place o l at) says_moved ∙ sym (ap (λ o. names_place o l at) near_says) ∙ gone l h.0.0 at, off_moved ls h.1)
 
       pub gone_moved : Gone s p (moved s p to) held is_near
-      gone_moved = subst (λ t. Gone s p t held is_near) (sym (moved_is s p len ds from to marks near alive evac near_layout)) gone_then
+      gone_moved = record { says = ap is_near says_moved; off = off_moved held ready.logs }

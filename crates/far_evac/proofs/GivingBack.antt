@@ -1,5 +1,5 @@
 -- What giving the log in front back leaves of the round.
-use Rattle.std.proofs.Common.{◌≡◌, ◌≢◌, ℕ, suc, ◌+◌, ◌-◌, ◌<◌, ◌≤◌, ◌||◌, true, false, List, [], ◌∷◌, length, drop, eqb, inl, inr, arith, ap, sym, refl, ◌∙◌, subst}
+use Rattle.std.proofs.Common.{◌≡◌, ◌≢◌, ℕ, suc, ◌+◌, ◌-◌, ◌<◌, ◌≤◌, ◌||◌, true, false, List, [], ◌∷◌, length, drop, eqb, inl, inr, arith, ap, sym, refl, ◌∙◌, subst, Bool}
 use Rattle.std.specs.List.{IsDistinct}
 use Rattle.std.proofs.Math.ListN.{drop_of_length-le}
 use Rattle.std.proofs.lemmas.Bool.{cases_eq, ne_eqb, false≢true}
@@ -20,9 +20,10 @@ use Rattle.far_evac.specs.AnyHand.{Knows}
 use Rattle.far_evac.specs.Live.{is_empty}
 use Rattle.far_evac.specs.MomentLaw.{has_risen, is_idle}
 use Rattle.far_evac.specs.RoundSteps.{among}
-use Rattle.far_evac.specs.Standing.{InRound, collection_in, collection_of}
+use Rattle.far_evac.specs.Standing.{HoldsJobs, InRound, collection_in, collection_of}
 use Rattle.far_evac.proofs.SmallSteps.{drop_next}
 use Rattle.far_evac.proofs.Hands.{knows_forgotten}
+use Rattle.far_evac.proofs.HeldJobs.{KeepsJobs, jobs_freed, jobs_more, jobs_over, keeps_released, knows_jobs}
 use Rattle.far_evac.proofs.LiveOnce.{member_each}
 use Rattle.far_evac.proofs.Standings.{idle_round}
 use Rattle.far_evac.proofs.Tours.{others}
@@ -114,3 +115,19 @@ module _ (s t : State) (r : Round) (in_round : InRound s r) (law : Law (own_part
 
   pub ends : InRound t (record r { phase = Idle; index = r.index + 1; at = 0 })
   ends = idle_round t (record r { phase = Idle; index = r.index + 1; at = 0 }) refl (held_next r walks l ls front).1
+
+  -- jobs, once it is out of the round: t's words may have been forgotten
+  jobs_given : KeepsJobs s t
+  jobs_given = jobs_more s (released s l) t (keeps_released s l) (knows_jobs (released s l) t knows)
+
+  out : t.round l ≡ false
+  out = ap (λ (u : State). u.round l) knows.rest ∙ put_same s.round l false l refl
+
+  jobs_next : {copying : Bool} → HoldsJobs s copying r.phase (collection_in r) → HoldsJobs t copying r.phase ls
+  jobs_next {copying} h = jobs_freed s t copying jobs_given r.phase l ls out (subst (HoldsJobs s copying r.phase) front h)
+
+  pub jobs_on : {copying : Bool} → HoldsJobs s copying r.phase (collection_in r) → HoldsJobs t copying r.phase (collection_of r.phase r.chosen (r.index + 1))
+  jobs_on {copying} h = subst (HoldsJobs t copying r.phase) (sym held) (jobs_next h)
+
+  pub jobs_end : length r.chosen ≤ r.index + 1 → {copying : Bool} → HoldsJobs s copying r.phase (collection_in r) → HoldsJobs t copying Idle []
+  jobs_end all {copying} h = jobs_over t copying r.phase Idle (subst (HoldsJobs t copying r.phase) (last_held r walks l ls front all) (jobs_next h))

@@ -14,6 +14,7 @@ use Rattle.far_core.specs.state.Law.{Law}
 use Rattle.far_core.specs.state.Spans.{spans_of}
 use Rattle.far_core.specs.state.State.{State, addr}
 use Rattle.far_core.specs.events.namings.Evicts.{with_kept}
+use Rattle.far_core.proofs.Copied.{NoCopy}
 use Rattle.far_core.proofs.Put.{put_both, put_other, put_same}
 use Rattle.far_hand.specs.Finds.{Finds, marks_in}
 use Rattle.far_hand.specs.Known.{Forgets, IsKnown}
@@ -102,11 +103,11 @@ module _ (s : State) (p word len ds : ℕ) (from : Place) (marks : Marks) (near 
       let x = near_found (s.cell p) word finds len ds from marks near in
       neither x.marks.dropped marks.dropped (λ h. sym (ap (λ o. (marks_in o).dropped) x.near) ∙ finds.dropped (ap (λ o. (marks_in o).dropped) near ∙ h)) (sym (ap is_dropped x.near) ∙ alive)
 
-  pub moved_seen : (to : Place) → IsPtr (Near len ds to no_marks) → moved (seen s p word) p to ≡ moved s p to
-  moved_seen to layout =
-      moved_is (seen s p word) p len ds from to found.0 found.1 found.2 found.3 layout
+  pub moved_seen : (to : Place) → IsPtr (Near len ds to no_marks) → NoCopy s.copying p from to → moved (seen s p word) p to ≡ moved s p to
+  moved_seen to layout uncopied =
+      moved_is (seen s p word) p len ds from to found.0 found.1 found.2 found.3 layout uncopied
       ∙ (λ i. record (with_span (with_written_span s p len ds to (data_at s.word from)) p (near_word len ds to) len to) { cell = put_put s.cell p word (near_word len ds to) i })
-      ∙ sym (moved_is s p len ds from to marks near alive_before evac layout)
+      ∙ sym (moved_is s p len ds from to marks near alive_before evac layout uncopied)
 
   pub evicted_seen : IsPtr (Far len ds no_marks) → evicted (seen s p word) p ≡ evicted s p
   evicted_seen layout =

@@ -1,5 +1,5 @@
 -- Two walks, one after the other, are one walk.
-use Rattle.std.proofs.Common.{◌≡◌, ℕ, zero, suc, ◌+◌, cond, List, [], ◌∷◌, arith, ap, sym, refl, ◌∙◌}
+use Rattle.std.proofs.Common.{◌≡◌, ℕ, zero, suc, ◌+◌, cond, List, [], ◌∷◌, arith, ap, sym, refl, ◌∙◌, Bool}
 use Rattle.std.proofs.lemmas.Bool.{cond_both}
 use Rattle.far_word.specs.Pointer.{read_of}
 use Rattle.far_core.specs.state.State.{State}
@@ -48,9 +48,9 @@ module _ (x : Tally) where
   steps_before (suc n) w = ap (λ v. dealt_first v (left v)) (steps_before n w) ∙ first_before (steps n w) (left (steps n w))
 
 -- ---- a walk that has stopped begins again where it stands
-settled_front : (s : State) (order : List ℕ) (phase : Phase) (held : List ℕ) (tally : Tally) → BeginsLive s held → settled (stand s order phase held tally) ≡ stand s order phase held tally
-settled_front s order phase [] tally begins = refl
-settled_front s order phase (l ∷ ls) tally begins = ap (λ b. cond b (passed (freed (stand s order phase (l ∷ ls) tally) l) ls) (stand s order phase (l ∷ ls) tally)) begins
+settled_front : (s : State) (order : List ℕ) (phase : Phase) (copying : Bool) (held : List ℕ) (tally : Tally) → BeginsLive s held → settled (stand s order phase copying held tally) ≡ stand s order phase copying held tally
+settled_front s order phase copying [] tally begins = refl
+settled_front s order phase copying (l ∷ ls) tally begins = ap (λ b. cond b (passed (freed (stand s order phase copying (l ∷ ls) tally) l) ls) (stand s order phase copying (l ∷ ls) tally)) begins
 
 none_more : (n : ℕ) → n + 0 ≡ n
 none_more n = omega arith
@@ -70,7 +70,7 @@ walk_at m tally = record { moment = m; tally = tally }
 pub walks_join : (m : Moment) (a b : ℕ) → walked m (a + b) ≡ with_before (walked m a).tally (walked (walked m a).moment b)
 walks_join m a b =
     let w = walked m a in
-    let begins_again : settled (begun w.moment) ≡ begun w.moment = settled_front w.moment.core w.moment.order w.moment.phase w.moment.collection nothing (walked_front m a) in
+    let begins_again : settled (begun w.moment) ≡ begun w.moment = settled_front w.moment.core w.moment.order w.moment.phase w.moment.copying w.moment.collection nothing (walked_front m a) in
     walked_on m a b
     ∙ ap (λ tally. steps b (walk_at w.moment tally)) (sym (plus_nothing w.tally))
     ∙ steps_before w.tally b (begun w.moment)

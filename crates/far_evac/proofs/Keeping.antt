@@ -16,7 +16,7 @@ use Rattle.far_core.specs.events.Ranges.{after_events, stores}
 use Rattle.far_core.specs.events.Step.{after, answer, is_legal, step_of}
 use Rattle.far_core.specs.state.State.{State}
 use Rattle.far_hand.specs.Beside.{hidden}
-use Rattle.far_hand.specs.Owners.{OwnersChange}
+use Rattle.far_hand.specs.Others.{OthersChange}
 use Rattle.far_book.specs.book.NextLive.{IsBoundary}
 use Rattle.far_book.specs.book.SealedLogs.{KeepsSealed}
 use Rattle.far_hand.specs.Finds.{Finds}
@@ -130,9 +130,9 @@ keeps_more s t u logs f g = record {
   epoch = g.epoch ∙ f.epoch;
 }
 
--- marks were found, and words read or forgotten; or owners had a turn
+-- marks were found, and words read or forgotten; or others had a turn
 abbrev framed : State → State
-framed s = record (hidden s (λ _. 0) (λ _. 0)) { stored = λ _ _. 0 }
+framed s = record (hidden s (λ _. 0) (λ _. 0) (λ _. 0)) { stored = λ _ _. 0 }
 
 keeps_found : (s t : State) (logs : List ℕ) → framed t ≡ framed s → ((p : ℕ) → Finds (s.cell p) (t.cell p)) → KeepsLogs s t logs
 keeps_found s t logs rest found = record {
@@ -150,7 +150,7 @@ keeps_found s t logs rest found = record {
 pub keeps_known : (s t : State) (logs : List ℕ) → Knows s t → KeepsLogs s t logs
 keeps_known s t logs known = keeps_found s t logs (ap framed known.rest) known.found
 
-pub keeps_owners : (s t : State) (logs : List ℕ) → OwnersChange s t → KeepsLogs s t logs
+pub keeps_owners : (s t : State) (logs : List ℕ) → OthersChange s t → KeepsLogs s t logs
 keeps_owners s t logs change = keeps_found s t logs (ap framed change.rest) change.cells
 
 -- an effect of the book leaves the sealed logs, which these are
@@ -177,7 +177,7 @@ pub round_found : (s t : State) (r : Round) → InRound s r → Knows s t → In
 round_found s t r in_round known = round_kept s t r (keeps_known s t (collection_in r) known) in_round
 
 -- owners had a turn
-pub round_of_owners : (s t : State) (r : Round) → InRound s r → OwnersChange s t → InRound t r
+pub round_of_owners : (s t : State) (r : Round) → InRound s r → OthersChange s t → InRound t r
 round_of_owners s t r in_round change = round_kept s t r (keeps_owners s t (collection_in r) change) in_round
 
 -- words were stored

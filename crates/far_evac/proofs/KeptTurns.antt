@@ -57,14 +57,14 @@ keeps_objects s = record {
   learns = tt;
   marks = λ m n tally lawful is h. objects_more s m.core (after_marking m n).core h (marking_objects m n lawful.0 lawful.1 is);
   looks = λ m k phase tally lawful is h. objects_more s m.core (with_clear_below m.core k) h (looked_objects m k phase);
-  walks = λ m n tally law moment is h. objects_more s m.core (walked m n).moment.core h (walking_objects m n law moment is).midst;
+  walks = λ m n tally law moment alone is h. objects_more s m.core (walked m n).moment.core h (walking_objects m n law moment alone is).midst;
   ends = λ m tally h. h;
 }
 
 pub turns_objects : TurnsKeepObjects
-turns_objects m n law moment runs = turns_kept_exactly (λ t tally. KeepsObjects m.core t.core) (keeps_objects m.core) m n law moment runs (objects_none m.core)
+turns_objects m n law moment alone runs = turns_kept_exactly (λ t tally. KeepsObjects m.core t.core) (keeps_objects m.core) m n law moment alone runs (objects_none m.core)
 
 pub whole_objects : RoundKeepsObjects
-whole_objects m logs turns end t law moment idle left once of_order is =
-    round_kept_exactly (λ u. KeepsObjects m.core u.core) (λ u n law moment runs h. objects_more m.core u.core (turns_made u n).moment.core h (turns_objects u n law moment runs))
-    m logs turns end t law moment idle left once of_order is (selecting_objects m logs)
+whole_objects m logs turns end t law moment alone idle left once of_order is =
+    round_kept_exactly (λ u. KeepsObjects m.core u.core) (λ u n law moment alone runs h. objects_more m.core u.core (turns_made u n).moment.core h (turns_objects u n law moment alone runs))
+    m logs turns end t law moment alone idle left once of_order is (selecting_objects m logs)

@@ -38,6 +38,7 @@ use Rattle.far_evac.specs.Moment.{Moment}
 use Rattle.far_evac.specs.MomentLaw.{MomentLaw, has_risen, is_idle}
 use Rattle.far_evac.specs.RoundSteps.{among, unmarked, with_clear_below}
 use Rattle.far_evac.specs.Waiting.{first_open, holds_up, polled_to}
+use Rattle.far_evac.proofs.GivenUpJobs.{none_after_aborting}
 use Rattle.far_evac.proofs.LiveOnce.{LivesIn, all_append, each_map, live_named, near_at}
 use Rattle.far_evac.proofs.Readiness.{looks_see}
 use Rattle.far_evac.proofs.Standings.{none_once}
@@ -65,7 +66,7 @@ epoch_left : (s : State) → Law s → is_spent s ≡ false → s.epoch + 1 < EP
 epoch_left s law left = let not_last : s.epoch + 1 ≢ EPOCH_END = λ e. true≢false (sym (eq-eqb (s.epoch + 1) EPOCH_END e) ∙ left) in omega (arith, not_last, law.scopes.epoch_below)
 
 pub selecting : SelectingLeads
-selecting m [] law moment idle left once of_order = record { reached = reached_none m.core; law = law; moment = moment }
+selecting m [] law moment idle left once of_order = record { reached = reached_none m.core; law = law; moment = moment; copying = refl }
 selecting m (l ∷ ls) law moment idle left once of_order = record {
   reached = reached_none m.core;
   law = law;
@@ -80,7 +81,9 @@ selecting m (l ∷ ls) law moment idle left once of_order = record {
     clear = λ leaves. absurd cc;
     later = λ _. epoch_left m.core law left;
     alone = moment.alone;
+    held = λ j job still. absurd (false≢true (sym (ap is_idle (moment.held j job still).0) ∙ idle));
   };
+  copying = refl;
 }
 
 -- ---- polling
@@ -114,12 +117,13 @@ module _ (m : Moment) (law : Law m.core) (moment : MomentLaw m) (waits : m.phase
     clear = λ leaves j lt. below (m.core.clear j) j k (subst (λ n. j < n) (sym (all leaves)) lt);
     later = λ marks. absurd (false≢true (sym (ap has_risen marks) ∙ risen));
     alone = moment.alone;
+    held = λ j job still. let odd : Waiting ≡ Evacuating = sym waits ∙ (moment.held j job record { says = still.says; good = still.good; lies = still.lies }).0 in absurd cc;
   }
 
   leads_by : (k : ℕ) (phase : Phase) → k ≤ m.core.mutators → ((j : ℕ) → j < k → holds_up m.core j ≡ false) → has_risen phase ≡ true → is_idle phase ≡ false → (phase ≡ Evacuating → k ≡ m.core.mutators) →
       Leads m (record m { core = with_clear_below m.core k; phase = phase })
   leads_by k phase le each risen running all =
-      let way = reached_clear k le each in record { reached = way; law = reached_law m.core (with_clear_below m.core k) law way; moment = moment_clear k phase risen running all }
+      let way = reached_clear k le each in record { reached = way; law = reached_law m.core (with_clear_below m.core k) law way; moment = moment_clear k phase risen running all; copying = refl }
 
   polled_leads : (o : Option ℕ) → first_open m.core ≡ o → Leads m (polled_to m o)
   polled_leads None e =
@@ -199,6 +203,8 @@ aborting m law moment =
         only = λ risen. absurd (false≢true risen);
         clear = λ leaves. absurd cc;
         later = λ marks. absurd cc;
-        alone = λ j. ap (λ (k : Copying). k.word j) (jobs_unmarked ps m.core) ∙ moment.alone j;
+        alone = λ e j. ap (λ (k : Copying). k.word j) (jobs_unmarked ps m.core) ∙ moment.alone e j;
+        held = λ j job still. absurd (none_after_aborting m (own_law m.core law) moment.held j job still);
       };
+      copying = refl;
     }

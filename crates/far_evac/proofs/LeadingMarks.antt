@@ -6,6 +6,7 @@ use Rattle.std.proofs.lemmas.List.{drop_all}
 use Rattle.std.proofs.lemmas.Nat.Bits.{bit_at-zero}
 use Rattle.std.proofs.Math.Bool.{and-false, or_comm}
 use Rattle.far_word.specs.declared.mark.Mark.TheVariants.{Evac}
+use Rattle.far_word.specs.declared.job.Job.{Job}
 use Rattle.far_word.specs.declared.mark.Marks.{Marks}
 use Rattle.far_word.specs.declared.pointer.Place.{Place}
 use Rattle.far_word.specs.declared.pointer.PtrWord.TheVariants.{Near}
@@ -17,6 +18,7 @@ use Rattle.far_core.specs.declared.event.Event.TheVariants.{Advance, Mark}
 use Rattle.far_core.specs.declared.event.Kind.TheVariants as kinds
 use Rattle.far_core.specs.events.Advance.{MayAdvance, is_among}
 use Rattle.far_core.specs.events.Mark.{IsSealedNear, is_sealed}
+use Rattle.far_core.specs.state.Jobs.{near_place}
 use Rattle.far_core.specs.state.Law.{Law}
 use Rattle.far_core.specs.state.State.{State}
 use Rattle.far_core.proofs.Put.{put_both}
@@ -25,18 +27,22 @@ use Rattle.far_book.specs.book.Effects.{marked}
 use Rattle.far_book.specs.book.Reached.{Reached}
 use Rattle.far_book.proofs.region.Owns.{own_law}
 use Rattle.far_book.proofs.region.Reaching.{reached_law, reached_more, reached_one}
-use Rattle.far_evac.specs.declared.phase.Phase.TheVariants.{Marking, Waiting}
+use Rattle.far_evac.specs.declared.phase.Phase.TheVariants.{Evacuating, Marking, Waiting}
+use Rattle.far_evac.specs.Laws.{but_evac}
 use Rattle.far_evac.specs.Leading.{Leads, MarkingLeads}
 use Rattle.far_evac.specs.Live.{lacking, live_among}
 use Rattle.far_evac.specs.Marking.{leaves_some, marked_core, newly_marked}
 use Rattle.far_evac.specs.Moment.{Moment}
 use Rattle.far_evac.specs.MomentLaw.{MomentLaw, has_risen, is_idle}
 use Rattle.far_evac.specs.RoundSteps.{advanced, among}
+use Rattle.far_evac.specs.StillCopies.{StillCopies}
+use Rattle.far_evac.proofs.HeldJobs.{lies_near, none_copies}
 use Rattle.far_evac.proofs.Leading.{all_lives, in_heap, reached_each}
 use Rattle.far_evac.proofs.LiveOnce.{LivesIn, near_at}
 use Rattle.far_evac.proofs.Lacking.{each_has, left_to}
 use Rattle.far_evac.proofs.LogBits.{with_log}
-use Rattle.far_evac.proofs.Marks.{all_filter, all_take, marks_cells}
+use Rattle.far_evac.proofs.Marks.{all_filter, all_take, marking_like, marks_cells}
+use Rattle.far_evac.proofs.NearBut.{near_but}
 use Rattle.far_evac.proofs.Onward.{sealed_inside}
 use Rattle.far_evac.proofs.Readiness.{round_is_event}
 use Rattle.far_evac.proofs.Bools.{or_left, or_right}
@@ -89,6 +95,13 @@ module _ (m : Moment) (n : ℕ) (law : Law m.core) (moment : MomentLaw m) (marks
   not_risen : has_risen m.phase ≡ true → ⊥
   not_risen risen = false≢true (sym (ap has_risen marks) ∙ risen)
 
+  -- jobs are all void, as they were
+  held_marking : (j : ℕ) (job : Job) → StillCopies (record m.core { cell = t.cell }) j job → (m.phase ≡ Evacuating) × (among m.collection job.from.log ≡ true)
+  held_marking j job still =
+      let x = lies_near (read_of (t.cell job.pointer)) job.from still.lies in
+      let was = near_but (read_of (m.core.cell job.pointer)) x.len x.ds job.from x.marks (ap but_evac (sym x.near) ∙ (marking_like m n (λ p. (law.cells.cell_read p).0) job.pointer).same) in
+      moment.held j job record { says = still.says; good = still.good; lies = ap near_place was.1 }
+
   leads_on : Leads m (record m { core = t })
   leads_on = record {
     reached = way;
@@ -104,7 +117,9 @@ module _ (m : Moment) (n : ℕ) (law : Law m.core) (moment : MomentLaw m) (marks
       clear = λ leaves. absurd (not_risen (ap has_risen leaves));
       later = moment.later;
       alone = moment.alone;
+      held = held_marking;
     };
+    copying = refl;
   }
 
   module _ (none : leaves_some m n ≡ false) where
@@ -156,8 +171,10 @@ module _ (m : Moment) (n : ℕ) (law : Law m.core) (moment : MomentLaw m) (marks
         only = λ _ l member. member;
         clear = λ leaves. absurd cc;
         later = λ odd. absurd cc;
-        alone = λ j. ap (λ (u : State). u.copying.word j) (marks_cells ps m.core) ∙ moment.alone j;
+        alone = λ e j. ap (λ (u : State). u.copying.word j) (marks_cells ps m.core) ∙ moment.alone e j;
+        held = λ j job still. absurd (none_copies t (own_law t law_then) (advanced t m.collection) refl refl j job still);
       };
+      copying = refl;
     }
 
 pub marking : MarkingLeads

@@ -28,7 +28,7 @@ use Rattle.far_book.specs.book.Releasing.{order_without, released}
 use Rattle.far_book.specs.book.SealedLogs.{KeepsSealed}
 use Rattle.far_book.proofs.region.EvictingLaw.{evicting}
 use Rattle.far_book.proofs.region.MovesReached.{moving}
-use Rattle.far_book.proofs.region.Owns.{none_copied, own_law}
+use Rattle.far_book.proofs.region.Owns.{own_law}
 use Rattle.far_book.proofs.region.Reaching.{reached_law, reached_more, reached_one, retiring}
 use Rattle.far_book.proofs.region.Retires.{retired_is}
 use Rattle.far_book.proofs.region.SealedKept.{sealed_logs_stay}
@@ -45,6 +45,7 @@ use Rattle.far_evac.specs.RoundSteps.{among}
 use Rattle.far_evac.specs.Walk.{Drops, Goes, Moves, Walked, Way, begun, ended, freed, hot_way, is_done, walked, way_of}
 use Rattle.far_evac.proofs.Framed.{so_one}
 use Rattle.far_evac.proofs.Fronts.{vacant_in}
+use Rattle.far_evac.proofs.HeldJobs.{none_copied, none_held}
 use Rattle.far_evac.proofs.KeptObjects.{evicted_objects, freed_objects, moved_objects, objects_more, objects_none, released_objects}
 use Rattle.far_evac.proofs.Leading.{in_heap, reached_none}
 use Rattle.far_evac.proofs.LiveOnce.{NearAt, first_named, member_each, near_at}
@@ -233,8 +234,8 @@ module _ (m : Moment) (P : Walked → Type 0) (keeps : KeepsLawfully P) where
         (goes_on m w.moment.core w.moment.order w.moment.phase l ls h.0 first.ready p way x, keeps.deals w l ls p way first.ready x h.1);
   }
 
-  pub lifted_lawfully : Law m.core → MomentLaw m → m.phase ≡ Evacuating → P (begun m) → (n : ℕ) → (k : ℕ) × (n ≤ length (live_among m.core m.collection) → k ≡ n) × Stands m (λ k w. GoesOf m w × P w) k (walked m n)
-  lifted_lawfully law moment leaves h = lifted_walked m (λ k w. GoesOf m w × P w) keeps_on (risen_is_ready m (own_law m.core law) moment (ap has_risen leaves)) (begun_on, h) where
+  pub lifted_lawfully : Law m.core → MomentLaw m → m.copying ≡ false → m.phase ≡ Evacuating → P (begun m) → (n : ℕ) → (k : ℕ) × (n ≤ length (live_among m.core m.collection) → k ≡ n) × Stands m (λ k w. GoesOf m w × P w) k (walked m n)
+  lifted_lawfully law moment alone leaves h = lifted_walked m (λ k w. GoesOf m w × P w) keeps_on (risen_is_ready m (own_law m.core law) moment (ap has_risen leaves)) (begun_on, h) where
     begun_on : GoesOn m m.core m.order m.phase m.collection
     begun_on = record {
       reached = reached_none m.core;
@@ -245,15 +246,16 @@ module _ (m : Moment) (P : Walked → Type 0) (keeps : KeepsLawfully P) where
       clear = moment.clear leaves;
       leaves = leaves;
       objects = objects_none m.core;
-      alone = moment.alone;
+      alone = moment.alone alone;
     }
 
-walks_on : (m : Moment) (n : ℕ) → Law m.core → MomentLaw m → m.phase ≡ Evacuating → Ready (walked m n).moment.core (walked m n).moment.collection × GoesOf m (walked m n)
-walks_on m n law moment leaves =
-    let h = (lifted_lawfully m (λ w. Unit {0}) record { gives = λ w l ls h. tt; deals = λ w l ls p way ready x h. tt } law moment leaves tt n).2 in (h.ready, h.keeps.0)
+walks_on : (m : Moment) (n : ℕ) → Law m.core → MomentLaw m → m.copying ≡ false → m.phase ≡ Evacuating →
+    Ready (walked m n).moment.core (walked m n).moment.collection × GoesOf m (walked m n) × ((walked m n).moment.copying ≡ m.copying)
+walks_on m n law moment alone leaves =
+    let h = (lifted_lawfully m (λ w. w.moment.copying ≡ m.copying) record { gives = λ w l ls h. h; deals = λ w l ls p way ready x h. h } law moment alone leaves refl n).2 in (h.ready, h.keeps.0, h.keeps.1)
 
 -- ---- what a call leaves
-module _ (m : Moment) (w : Walked) (ready : Ready w.moment.core w.moment.collection) (h : GoesOf m w) where
+module _ (m : Moment) (w : Walked) (ready : Ready w.moment.core w.moment.collection) (h : GoesOf m w) (same : w.moment.copying ≡ m.copying) where
   held_sealed : (l : ℕ) → among w.moment.collection l ≡ true → w.moment.core.kind l ≡ kinds.Sealed
   held_sealed l member = (member_each (IsOfRound w.moment.core) w.moment.collection ready.logs l member).0
 
@@ -272,8 +274,10 @@ module _ (m : Moment) (w : Walked) (ready : Ready w.moment.core w.moment.collect
       only = λ _. h.only;
       clear = λ _. h.clear;
       later = λ marks. absurd (other marks);
-      alone = h.alone;
+      alone = λ _. h.alone;
+      held = none_held w.moment.core phase w.moment.collection h.alone;
     };
+    copying = same;
   }
 
   midst_leads : is_done w ≡ false → Leads m w.moment
@@ -283,22 +287,22 @@ module _ (m : Moment) (w : Walked) (ready : Ready w.moment.core w.moment.collect
   answer_leads = cond_both (is_done w) (record w.moment { phase = Idle }) w.moment (Leads m) (λ done. leads_so Idle done (λ marks. cc)) midst_leads
 
 pub walking : WalkingLeads
-walking m n law moment leaves =
-    let (ready, h) = walks_on m n law moment leaves in record { midst = midst_leads m (walked m n) ready h; answer = answer_leads m (walked m n) ready h }
+walking m n law moment alone leaves =
+    let (ready, h, same) = walks_on m n law moment alone leaves in record { midst = midst_leads m (walked m n) ready h same; answer = answer_leads m (walked m n) ready h same }
 
 -- the law stays in its midst too
-pub walking_law : (m : Moment) (n : ℕ) → Law m.core → MomentLaw m → m.phase ≡ Evacuating → Law (walked m n).moment.core
-walking_law m n law moment leaves = (walks_on m n law moment leaves).1.law
+pub walking_law : (m : Moment) (n : ℕ) → Law m.core → MomentLaw m → m.copying ≡ false → m.phase ≡ Evacuating → Law (walked m n).moment.core
+walking_law m n law moment alone leaves = (walks_on m n law moment alone leaves).1.law
 
 -- once the epoch has risen no log outside the collection set is in the round; so it is to the end
-pub walking_only : (m : Moment) (n : ℕ) → Law m.core → MomentLaw m → m.phase ≡ Evacuating → (l : ℕ) → (walked m n).moment.core.round l ≡ true → among (walked m n).moment.collection l ≡ true
-walking_only m n law moment leaves = (walks_on m n law moment leaves).1.only
+pub walking_only : (m : Moment) (n : ℕ) → Law m.core → MomentLaw m → m.copying ≡ false → m.phase ≡ Evacuating → (l : ℕ) → (walked m n).moment.core.round l ≡ true → among (walked m n).moment.collection l ≡ true
+walking_only m n law moment alone leaves = (walks_on m n law moment alone leaves).1.only
 
 -- ---- what owners have
 ended_core : (w : Walked) → (ended w).core ≡ w.moment.core
 ended_core w = cond_both (is_done w) (record w.moment { phase = Idle }) w.moment (λ (t : Moment). t.core ≡ w.moment.core) (λ _. refl) (λ _. refl)
 
 pub walking_objects : WalkingKeepsObjects
-walking_objects m n law moment leaves =
-    let h = (walks_on m n law moment leaves).1 in
+walking_objects m n law moment alone leaves =
+    let h = (walks_on m n law moment alone leaves).1 in
     record { midst = h.objects; answer = subst (KeepsObjects m.core) (sym (ended_core (walked m n))) h.objects }

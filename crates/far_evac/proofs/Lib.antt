@@ -15,11 +15,13 @@ pub mod Failures
 pub mod Framed
 pub mod Fronts
 pub mod Given
+pub mod GivenUpJobs
 pub mod GivingBack
 pub mod Going
 pub mod HandKept
 pub mod Handing
 pub mod Hands
+pub mod HeldJobs
 pub mod InOrder
 pub mod Joined
 pub mod Keeping
@@ -40,6 +42,7 @@ pub mod MarkRuns
 pub mod MarkSteps
 pub mod Marks
 pub mod Named
+pub mod NearBut
 pub mod OfOneKind
 pub mod Onward
 pub mod Passing
@@ -54,12 +57,14 @@ pub mod Rounds
 pub mod SendingOff
 pub mod Settling
 pub mod SmallSteps
+pub mod Sound
 pub mod SpanBytes
 pub mod SpansDealt
 pub mod Standings
 pub mod StepsAside
 pub mod Strays
 pub mod Subjects
+pub mod Targets
 pub mod Tours
 pub mod TurnSteps
 pub mod TurnsOn

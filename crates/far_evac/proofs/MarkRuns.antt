@@ -1,5 +1,5 @@
 -- What many steps of marking make of a moment, and where none is left the epoch rises.
-use Rattle.std.proofs.Common.{◌≡◌, ◌≢◌, ℕ, zero, suc, ◌+◌, ◌^◌, ◌<◌, ◌≤◌, true, false, cond, not, eqb, Option, Some, None, List, [], ◌∷◌, length, take, drop, arith, ap, sym, refl, ◌∙◌, subst}
+use Rattle.std.proofs.Common.{◌≡◌, ◌≢◌, ℕ, zero, suc, ◌+◌, ◌^◌, ◌<◌, ◌≤◌, Bool, true, false, cond, not, eqb, Option, Some, None, List, [], ◌∷◌, length, take, drop, arith, ap, sym, refl, ◌∙◌, subst}
 use Rattle.far_evac.proofs.Settling.{moment_more}
 use Rattle.far_evac.proofs.LiveOnce.{one_more}
 use Rattle.std.specs.Prelude.{IfSome, IfNone, fold, is_some}
@@ -26,10 +26,11 @@ use Rattle.far_evac.specs.Marking.{after_marking, leaves_some, marked_core, newl
 use Rattle.far_evac.specs.Moment.{Moment}
 use Rattle.far_evac.specs.MomentLaw.{is_idle}
 use Rattle.far_evac.specs.RoundSteps.{advanced, among}
-use Rattle.far_evac.specs.Standing.{InRound, collection_in}
+use Rattle.far_evac.specs.Standing.{HoldsJobs, InRound, collection_in}
 use Rattle.far_evac.proofs.Changing.{advanced_known}
 use Rattle.far_evac.proofs.SmallSteps.{drop_next}
 use Rattle.far_evac.proofs.Hands.{knows_forgotten, knows_more}
+use Rattle.far_evac.proofs.HeldJobs.{none_copies}
 use Rattle.far_evac.proofs.Lacking.{each_has, lacking_known, left_to, next_known, next_marked}
 use Rattle.far_evac.proofs.MarkSteps.{Sought, none_shown, some_shown}
 use Rattle.far_evac.proofs.Onward.{chosen_sealed, held_marking, sealed_inside}
@@ -205,6 +206,13 @@ module _ (s : State) (r : Round) (in_round : InRound s r) (marks : r.phase ≡ M
         seen = λ _ k lt. absurd (omega (arith, lt));
         unseen = λ _ k _. ap (λ (u : State). u.clear k) rises_so;
       };
+    }
+
+    -- no job is one of a round that has just begun
+    pub jobs_wait : Law (own_part s) → {copying : Bool} → HoldsJobs s copying r.phase (collection_in r) → HoldsJobs t copying Waiting r.chosen
+    jobs_wait old h = record {
+      alone = λ e j. ap (λ (u : State). u.copying.word j) rises_so ∙ h.alone e j;
+      held = λ j job still. absurd (none_copies s old t (ap (λ (u : State). u.copying.since) rises_so) (ap (λ (u : State). u.round_epoch) rises_so) j job still);
     }
 
     pub rises_known : Forgets s t → Knows (advanced s (collection_in r)) t

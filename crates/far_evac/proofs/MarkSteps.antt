@@ -1,5 +1,5 @@
 -- What marking makes of a moment: the first object that lacks EVAC gets it, and where none lacks it the round waits.
-use Rattle.std.proofs.Common.{◌≡◌, ℕ, ◌+◌, ◌^◌, ◌<◌, true, false, not, Some, List, [], ◌∷◌, length, bit_or, inl, inr, ap, sym, refl, ◌∙◌, subst}
+use Rattle.std.proofs.Common.{◌≡◌, ℕ, ◌+◌, ◌^◌, ◌<◌, Bool, true, false, not, Some, List, [], ◌∷◌, length, bit_or, inl, inr, ap, sym, refl, ◌∙◌, subst}
 use Rattle.std.proofs.lemmas.Bool.{cases_eq, cases_lt}
 use Rattle.far_word.specs.declared.mark.Mark.TheVariants.{Evac}
 use Rattle.far_word.specs.declared.mark.Marks.{Marks}
@@ -12,14 +12,17 @@ use Rattle.far_word.proofs.PointerLaws.{with_mark_read}
 use Rattle.far_log.specs.declared.span.Span.{Span}
 use Rattle.far_core.specs.declared.event.Event.TheVariants.{Mark}
 use Rattle.far_core.specs.events.Legal.{Legal}
+use Rattle.far_core.specs.state.Jobs.{near_place}
 use Rattle.far_core.specs.state.Law.{Law}
 use Rattle.far_core.specs.state.State.{State, put}
 use Rattle.far_core.proofs.Put.{put_other, put_same}
 use Rattle.far_hand.specs.Finds.{Finds}
+use Rattle.far_hand.specs.Masked.{AllFindJobs}
 use Rattle.far_book.specs.book.Effects.{marked}
 use Rattle.far_book.specs.book.NextLive.{IsBoundary}
 use Rattle.far_book.specs.book.Own.{own_part}
 use Rattle.far_hand.proofs.Finding.{near_found}
+use Rattle.far_hand.proofs.JobsFound.{job_is}
 use Rattle.far_evac.specs.declared.phase.Phase.{Phase}
 use Rattle.far_evac.specs.declared.phase.Phase.TheVariants.{Marking}
 use Rattle.far_evac.specs.declared.round.Round.{Round}
@@ -30,18 +33,19 @@ use Rattle.far_evac.specs.Moment.{Moment}
 use Rattle.far_evac.specs.Standing.{InRound, MarkedBefore, collection_in}
 use Rattle.far_evac.proofs.Changing.{mark_leaves, marked_known}
 use Rattle.far_evac.proofs.Hands.{knows_more}
+use Rattle.far_evac.proofs.HeldJobs.{KeepsJobs, lies_near, still_before}
 use Rattle.far_evac.proofs.Keeping.{dropped_among}
 use Rattle.far_evac.proofs.Lacking.{first_lacks, first_near, lacking_known, none_lack}
 use Rattle.far_evac.proofs.Marks.{IsNearWord}
 use Rattle.far_evac.proofs.Onward.{all_marked, chosen_sealed, front_inside, held_marking, moved_on, not_leaving, not_waiting}
 
 -- ---- moments
-module _ {core made : State} {order then : List ℕ} {phase later : Phase} {held left : List ℕ} (ordered : then ≡ order) (phases : later ≡ phase) (holds : left ≡ held) where
-  pub moment_so : core ≡ made → let m : Moment = record { core = core; order = then; phase = later; collection = left } in m ≡ record { core = made; order = order; phase = phase; collection = held }
-  moment_so same = λ i. record { core = same i; order = ordered i; phase = phases i; collection = holds i }
+module _ {core made : State} {order then : List ℕ} {phase later : Phase} {held left : List ℕ} {copying : Bool} (ordered : then ≡ order) (phases : later ≡ phase) (holds : left ≡ held) where
+  pub moment_so : core ≡ made → let m : Moment = record { core = core; order = then; phase = later; collection = left; copying = copying } in m ≡ record { core = made; order = order; phase = phase; collection = held; copying = copying }
+  moment_so same = λ i. record { core = same i; order = ordered i; phase = phases i; collection = holds i; copying = copying }
 
-  pub knows_so : {m : Moment} → record { core = made; order = order; phase = phase; collection = held } ≡ m → Knows made core → KnowsMoment m (record { core = core; order = then; phase = later; collection = left })
-  knows_so {m} is known = subst (λ x. KnowsMoment x (record { core = core; order = then; phase = later; collection = left })) is record { core = known; rest = λ i. record { core = core; order = ordered i; phase = phases i; collection = holds i } }
+  pub knows_so : {m : Moment} → record { core = made; order = order; phase = phase; collection = held; copying = copying } ≡ m → Knows made core → KnowsMoment m (record { core = core; order = then; phase = later; collection = left; copying = copying })
+  knows_so {m} is known = subst (λ x. KnowsMoment x (record { core = core; order = then; phase = later; collection = left; copying = copying })) is record { core = known; rest = λ i. record { core = core; order = ordered i; phase = phases i; collection = holds i; copying = copying } }
 
 -- ---- the round has gone on
 pub record Sought (s t : State) (r next : Round) : Type 0 where
@@ -186,3 +190,17 @@ module _ {s t : State} {r next : Round} (sought : Sought s t r next) where
     pub goes_on : (size : ℕ) → size ≡ size_of span.len → InRound u record next { at = span.at + size }
     goes_on size e = subst (λ n. InRound u record next { at = span.at + n }) (sym e)
         (moved_on u next (subst (λ (v : State). InRound v next) same_cell stays) next_marks stands.log stands.more stands.front past behind marked_past)
+
+    -- jobs are as they were
+    same_words : AllFindJobs t.copying.word u.copying.word
+    same_words j = job_is (t.copying.word j) (u.copying.word j) (ap (λ (v : State). v.copying.word j) is)
+
+    pub jobs_on : KeepsJobs t u
+    jobs_on = record {
+      words = same_words;
+      still = λ j job. still_before t u same_words (ap (λ (v : State). v.copying.since) is) (ap (λ (v : State). v.round_epoch) is) j job
+          (λ in_it. sym (ap (λ (v : State). v.round job.from.log) is) ∙ in_it)
+          (λ lies _.
+          let x = lies_near (read_of (u.cell job.pointer)) job.from lies in
+          ap near_place (lay job.pointer x.len x.ds job.from x.marks x.near).near);
+    }

@@ -193,7 +193,7 @@ module _ (m : Moment) (n : ℕ) (fits : (p : ℕ) → m.core.cell p < 2 ^ 64) wh
   new_near : AllByRecursion (λ p. IsNearWord (m.core.cell p)) (newly_marked m n)
   new_near = all_take (λ p. IsNearWord (m.core.cell p)) n (lacking m.core m.collection) lacking_near
 
-  marking_like : (p : ℕ) → Like true (m.core.cell p) ((marked_core m n).cell p)
+  pub marking_like : (p : ℕ) → Like true (m.core.cell p) ((marked_core m n).cell p)
   marking_like = all_like true marked (λ w. bit_or w (2 ^ position Evac)) (λ s p. refl) mark_sets (newly_marked m n) m.core new_near
 
   marking_set : AllByRecursion (λ p. has_evac (read_of ((marked_core m n).cell p)) ≡ true) (newly_marked m n)

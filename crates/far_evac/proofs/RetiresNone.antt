@@ -46,17 +46,17 @@ count_none : (f : ℕ → Bool) (xs : List ℕ) → AllByRecursion (λ x. f x �
 count_none f xs h = counted_from f 0 xs h
 
 -- ---- a walk
-module _ (m : Moment) (n : ℕ) (law : Law m.core) (moment : MomentLaw m) (leaves : m.phase ≡ Evacuating) (none : NoneDropped m.core) where
+module _ (m : Moment) (n : ℕ) (law : Law m.core) (moment : MomentLaw m) (alone : m.copying ≡ false) (leaves : m.phase ≡ Evacuating) (none : NoneDropped m.core) where
   abbrev t : State
   t = (walked m n).moment.core
 
   law_then : Law t
-  law_then = walking_law m n law moment leaves
+  law_then = walking_law m n law moment alone leaves
 
   -- a live object's cell is used, and stays so
   stays_used : (p : ℕ) → m.core.cell p ≢ 0 → is_nowhere (read_of (t.cell p)) ≡ false
   stays_used p used =
-      let kept = (walking_objects m n law moment leaves).midst in
+      let kept = (walking_objects m n law moment alone leaves).midst in
       somewhere (read_of (t.cell p)) (law_then.cells.cell_read p).1 (λ e. used ((kept.free p (none p)).0 (free_only (t.cell p) (law_then.cells.cell_read p).0 e)))
 
   all_used : AllByRecursion (λ p. m.core.cell p ≢ 0) (live_among m.core m.collection)
@@ -72,7 +72,7 @@ module _ (m : Moment) (n : ℕ) (law : Law m.core) (moment : MomentLaw m) (leave
       ∙ count_none (λ p. is_nowhere (says (walked m n).moment p)) objects (each_map (λ p used. stays_used p used) objects (all_take (λ p. m.core.cell p ≢ 0) walks.0 (live_among m.core m.collection) all_used))
 
 pub walk_retires_none : WalkRetiresNone
-walk_retires_none m n law moment leaves none = walk_retires m n law moment leaves none
+walk_retires_none m n law moment alone leaves none = walk_retires m n law moment alone leaves none
 
 -- ---- turn after turn
 keeps_undropped : KeepsTurns true (λ m tally. NoneDropped m.core × (tally.dropped ≡ 0))
@@ -80,10 +80,10 @@ keeps_undropped = record {
   learns = tt;
   marks = λ m n tally lawful is (none, h). ((λ p. (marking_objects m n lawful.0 lawful.1 is).alive p (none p)), h);
   looks = λ m k phase tally lawful is h. h;
-  walks = λ m n tally law moment is (none, h).
-      ((λ p. (walking_objects m n law moment is).midst.alive p (none p)), ap (λ a. a + (walked m n).tally.dropped) h ∙ ap (λ b. 0 + b) (walk_retires m n law moment is none));
+  walks = λ m n tally law moment alone is (none, h).
+      ((λ p. (walking_objects m n law moment alone is).midst.alive p (none p)), ap (λ a. a + (walked m n).tally.dropped) h ∙ ap (λ b. 0 + b) (walk_retires m n law moment alone is none));
   ends = λ m tally h. h;
 }
 
 pub turns_retire_none : TurnsRetireNone
-turns_retire_none m n law moment runs none = (turns_kept_exactly (λ m tally. NoneDropped m.core × (tally.dropped ≡ 0)) keeps_undropped m n law moment runs (none, refl)).1
+turns_retire_none m n law moment alone runs none = (turns_kept_exactly (λ m tally. NoneDropped m.core × (tally.dropped ≡ 0)) keeps_undropped m n law moment alone runs (none, refl)).1

@@ -31,8 +31,9 @@ use Rattle.far_evac.proofs.Framed.{so_one}
 use Rattle.far_evac.proofs.LiveOnce.{each_map, every, first_named, member_each}
 use Rattle.far_evac.proofs.RoomTaken.{IsOff, Taken, alike_known, none_taken, off_none, sum_none, taken_alike, taken_back, taken_more}
 use Rattle.far_evac.proofs.SmallSteps.{GoesFirst, Keeps, finds_first, first_gone, lifted_walks}
-use Rattle.far_evac.proofs.SpanBytes.{Sound, all_used}
+use Rattle.far_evac.proofs.SpanBytes.{Dealt, Sound, all_used}
 use Rattle.far_evac.proofs.SpansDealt.{way_dealt}
+use Rattle.far_evac.proofs.Targets.{LieBelow, below_framed, below_known, below_released, lie_below}
 use Rattle.far_evac.proofs.Tours.{core_so, others}
 
 -- ---- the book's part of the law
@@ -53,7 +54,10 @@ sound_of s law = record {
       let few = law.shape.few_mutators in omega (arith, range, few);
 }
 
--- ---- small steps
+-- ---- small steps: what was taken, and that nothing was copied to where the next object comes
+abbrev Stands : Moment → Moment → List ℕ → Type 0
+Stands m t objects = Taken m t.core t.collection objects × LieBelow t.core
+
 known_taken : (m : Moment) (objects : List ℕ) (w t : Walked) → KnowsWalked w t → Taken m w.moment.core w.moment.collection objects → Taken m t.moment.core t.moment.collection objects
 known_taken m objects w t known h =
     subst (λ held. Taken m t.moment.core held objects) (sym (ap (λ (n : Moment). n.collection) known.moment.rest))
@@ -62,26 +66,38 @@ known_taken m objects w t known h =
 off_each : (s : State) (p : ℕ) (held : List ℕ) → AllByRecursion (λ l. (at : ℕ) → names_place (read_of (s.cell p)) l at ≡ false) held → IsOff s held p
 off_each s p held each l at is = member_each (λ l. (at : ℕ) → names_place (read_of (s.cell p)) l at ≡ false) held each l is at
 
-so_taken : (m v : Moment) (objects : List ℕ) (k : ℕ) (s : State) (l : ℕ) (ls : List ℕ) (p : ℕ) (ps : List ℕ) (way : Way) → GoesFirst false v k s l ls p ps way → Taken m s (l ∷ ls) objects →
-    Taken m (core_so s p way) (l ∷ ls) (objects ++ p ∷ [])
-so_taken m v objects k s l ls p ps way first h =
-    taken_more m s (core_so s p way) (l ∷ ls) objects h p l (first_named s l p ps first.live) (ap (λ b. b || among ls l) (eq-eqb l l refl))
-    (way_dealt s h.sound l ls p ps first.ready first.live first.word (finds_first first) way first.is) (so_one s p way).cells (off_each (core_so s p way) p (l ∷ ls) (first_gone first).off)
+module _ (m v : Moment) (objects : List ℕ) (k : ℕ) (s : State) (l : ℕ) (ls : List ℕ) (p : ℕ) (ps : List ℕ) (way : Way) (first : GoesFirst false v k s l ls p ps way) (h : Taken m s (l ∷ ls) objects) (below : LieBelow s) where
+  dealt : Dealt s (core_so s p way) p
+  dealt = way_dealt s h.sound below l ls p ps first.ready first.live first.word (finds_first first) way first.is
+
+  so_taken : Taken m (core_so s p way) (l ∷ ls) (objects ++ p ∷ [])
+  so_taken = taken_more m s (core_so s p way) (l ∷ ls) objects h p l (first_named s l p ps first.live) (ap (λ b. b || among ls l) (eq-eqb l l refl))
+      dealt (so_one s p way).cells (off_each (core_so s p way) p (l ∷ ls) (first_gone first).off)
+
+  so_below : LieBelow (core_so s p way)
+  so_below = below_framed s (core_so s p way) (so_one s p way).frame (λ l. let a = dealt.tail l in omega (arith, a)) below
 
 -- ---- object after object, from where other walks have led
-keeps_taken : (m v : Moment) (before : List ℕ) → Keeps false v (λ k w. Taken m w.moment.core w.moment.collection (before ++ take k (live_among v.core v.collection)))
+keeps_taken : (m v : Moment) (before : List ℕ) → Keeps false v (λ k w. Stands m w.moment (before ++ take k (live_among v.core v.collection)))
 keeps_taken m v before = record {
-  learns = λ k. known_taken m (before ++ take k (live_among v.core v.collection));
-  gives = λ k w l ls ready none h. taken_back w.moment.core l h.sound none m ls (before ++ take k (live_among v.core v.collection)) ready.once (member_each (λ k. k ≢ l) ls (others l ls ready.once)) h;
+  learns = λ k w t known h. (known_taken m (before ++ take k (live_among v.core v.collection)) w t known h.0, below_known w.moment.core t.moment.core known.moment.core h.1);
+  gives = λ k w l ls ready none h. (
+    taken_back w.moment.core l h.0.sound none m ls (before ++ take k (live_among v.core v.collection)) ready.once (member_each (λ k. k ≢ l) ls (others l ls ready.once)) h.0,
+    below_released w.moment.core l ready.logs.0.2 h.1,
+  );
   deals = λ k w l ls p ps way first h.
-      subst (Taken m (core_so w.moment.core p way) (l ∷ ls)) (append_assoc before (take k (live_among v.core v.collection)) (p ∷ []) ∙ ap (λ xs. before ++ xs) (sym first.more))
-      (so_taken m v (before ++ take k (live_among v.core v.collection)) k w.moment.core l ls p ps way first h);
+      let objects = before ++ take k (live_among v.core v.collection) in (
+        subst (Taken m (core_so w.moment.core p way) (l ∷ ls)) (append_assoc before (take k (live_among v.core v.collection)) (p ∷ []) ∙ ap (λ xs. before ++ xs) (sym first.more))
+            (so_taken m v objects k w.moment.core l ls p ps way first h.0 h.1),
+        so_below m v objects k w.moment.core l ls p ps way first h.0 h.1,
+      );
 }
 
-pub walks_taken : (m v : Moment) (before : List ℕ) → Taken m v.core v.collection before → (k : ℕ) (t : Walked) → Ready v.core v.collection → WalksTo v k t →
+pub walks_taken : (m v : Moment) (before : List ℕ) → Taken m v.core v.collection before → Law (own_part v.core) → (k : ℕ) (t : Walked) → Ready v.core v.collection → WalksTo v k t →
     Taken m t.moment.core t.moment.collection (before ++ take k (live_among v.core v.collection))
-walks_taken m v before h k t ready walks =
-    (lifted_walks v (λ k w. Taken m w.moment.core w.moment.collection (before ++ take k (live_among v.core v.collection))) (keeps_taken m v before) ready (subst (Taken m v.core v.collection) (sym (append-nil before)) h) k t walks).keeps
+walks_taken m v before h law k t ready walks =
+    (lifted_walks v (λ k w. Stands m w.moment (before ++ take k (live_among v.core v.collection))) (keeps_taken m v before) ready
+    (subst (Taken m v.core v.collection) (sym (append-nil before)) h, lie_below v.core law) k t walks).keeps.0
 
 -- ---- all logs together
 sums_same : (a b c d : ℕ → ℕ) → ((x : ℕ) → a x + b x ≡ c x + d x) → (xs : List ℕ) → sum_by a xs + sum_by b xs ≡ sum_by c xs + sum_by d xs
@@ -224,4 +240,4 @@ module _ (m t : Moment) (sound : Sound m.core) (objects : List ℕ) (h : Taken m
 pub walk_takes_room : WalkTakesRoom
 walk_takes_room m k t law ready walks =
     let sound = sound_of m.core law in
-    room_taken m t.moment sound (take k (live_among m.core m.collection)) (walks_taken m m [] (none_taken m sound) k t ready walks)
+    room_taken m t.moment sound (take k (live_among m.core m.collection)) (walks_taken m m [] (none_taken m sound) law k t ready walks)

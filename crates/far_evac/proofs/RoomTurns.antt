@@ -70,7 +70,7 @@ keeps_some m = record {
   marks = λ u n tally lawful is (objects, h). (objects, on_alike m objects u (after_marking u n) h (marking_alike u n (λ p. (lawful.0.cells.cell_read p).0)) (marking_held u n));
   looks = λ u k phase tally lawful is (objects, h). (objects, on_alike m objects u (record u { core = with_clear_below u.core k; phase = phase }) h (clear_alike u.core k) refl);
   walks = λ u k w tally lawful leaves walks (objects, h).
-      (objects ++ take k (live_among u.core u.collection), walks_taken m u objects h k w (risen_is_ready u lawful.0 lawful.1 (ap has_risen leaves)) walks);
+      (objects ++ take k (live_among u.core u.collection), walks_taken m u objects h lawful.0 k w (risen_is_ready u lawful.0 lawful.1 (ap has_risen leaves)) walks);
   ends = λ u tally h. h;
 }
 
@@ -105,12 +105,12 @@ round_takes_some m t logs turns law =
 
 -- ---- where no word changes but by this
 pub turns_take_room : TurnsTakeRoom
-turns_take_room m n law moment runs =
-    let h = turns_are m law moment runs n in turns_take_some m h.tallies (turns_made m n).over (turns_made m n).moment (own_law m.core law) h.made
+turns_take_room m n law moment alone runs =
+    let h = turns_are m law moment alone runs n in turns_take_some m h.tallies (turns_made m n).over (turns_made m n).moment (own_law m.core law) h.made
 
 pub round_takes_room : RoundTakesRoom
-round_takes_room m [] turns end t law moment idle left once of_order is = (round_takes_some m t [] turns (own_law m.core law)).0 end is
-round_takes_room m (l ∷ ls) turns end t law moment idle left once of_order is =
+round_takes_room m [] turns end t law moment alone idle left once of_order is = (round_takes_some m t [] turns (own_law m.core law)).0 end is
+round_takes_room m (l ∷ ls) turns end t law moment alone idle left once of_order is =
     let begun = selecting m (l ∷ ls) law moment idle left once of_order in
     let u = after_selecting m (l ∷ ls) in
-    subst (TakesSome u) (sym is.1) (turns_take_room u turns begun.law begun.moment refl)
+    subst (TakesSome u) (sym is.1) (turns_take_room u turns begun.law begun.moment alone refl)

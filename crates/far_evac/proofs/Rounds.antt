@@ -131,19 +131,19 @@ over_still m n r over h = record {
   runs = h.runs;
 }
 
-pub turns_are : (m : Moment) → Law m.core → MomentLaw m → is_idle m.phase ≡ false → (n : ℕ) → Made m n (turns_made m n)
-turns_are m law moment runs =
-    through_turns (Made m) m law moment runs record { tallies = []; made = (refl, refl, refl); sum = refl; most = omega arith; every = λ _. refl; runs = λ _. runs } (over_still m)
-    (λ n r law moment goes h. turn_made m n r h goes (own_law r.moment.core law, moment))
+pub turns_are : (m : Moment) → Law m.core → MomentLaw m → m.copying ≡ false → is_idle m.phase ≡ false → (n : ℕ) → Made m n (turns_made m n)
+turns_are m law moment alone runs =
+    through_turns (Made m) m law moment alone runs record { tallies = []; made = (refl, refl, refl); sum = refl; most = omega arith; every = λ _. refl; runs = λ _. runs } (over_still m)
+    (λ n r law moment alone goes h. turn_made m n r h goes (own_law r.moment.core law, moment))
 
 ends : (turns : ℕ) (m : Moment) (r : Turned) (h : Made m turns r) (over : Bool) → r.over ≡ over → EndsRound turns h.tallies over r.moment.phase (round_end r)
 ends turns m r h true e = ap (λ b. cond b (Done (progress_of r.tally true)) (Limit r.moment.phase)) e ∙ ap (λ tally. Done (progress_of tally true)) (sym h.sum)
 ends turns m r h false e = (h.every e, ap (λ b. cond b (Done (progress_of r.tally true)) (Limit r.moment.phase)) e)
 
 pub round_is : RoundIsAllowed
-round_is m l ls turns law moment idle left once of_order =
+round_is m l ls turns law moment alone idle left once of_order =
     let u = after_selecting m (l ∷ ls) in
     let begun = selecting m (l ∷ ls) law moment idle left once of_order in
     let r = turns_made u turns in
-    let h = turns_are u begun.law begun.moment refl turns in
+    let h = turns_are u begun.law begun.moment alone refl turns in
     (h.tallies, r.over, h.made, h.most, ends turns u r h r.over refl)

@@ -12,6 +12,7 @@ use Rattle.far_core.specs.events.Naming.{is_dropped, no_marks}
 use Rattle.far_core.specs.state.Law.{Law}
 use Rattle.far_core.specs.state.Room.{room}
 use Rattle.far_core.specs.state.State.{State}
+use Rattle.far_core.proofs.Copied.{NoCopy}
 use Rattle.far_core.proofs.Put.{put_same}
 use Rattle.far_hand.specs.Finds.{Finds, marks_in}
 use Rattle.far_book.specs.book.Dealing.{IsRetired, IsSeen, Leaves, goal, has_evac, moved_now, order_moved}
@@ -25,7 +26,7 @@ use Rattle.far_hand.proofs.Finding.{IsNearTo, finds_more, near_found}
 use Rattle.far_hand.proofs.RoundSteps.{quiet_seen}
 use Rattle.far_book.proofs.region.Calls.{put_put}
 use Rattle.far_book.proofs.region.Evictions.{evicted_is}
-use Rattle.far_book.proofs.region.Moved.{drop_of, evac_of, goal_there}
+use Rattle.far_book.proofs.region.Moved.{drop_of, evac_of, goal_there, no_copy_in_room}
 use Rattle.far_book.proofs.region.SealedKept.{sealed_logs_kept}
 use Rattle.far_evac.specs.declared.evac.evacuating.Fate.{Fate}
 use Rattle.far_evac.specs.declared.evac.evacuating.Fate.TheVariants as fates
@@ -64,6 +65,9 @@ module _ (s : State) (p : ℕ) (q : IsQuietNear s p) (law : Law (own_part s)) (e
       let current = law.logs.log_range s.current (λ free. let odd = sym free ∙ law.logs.is_open in absurd cc) in
       let new : NewPlace s (size_of q.len) to = room_new s law.logs.is_open current (size_of q.len) (omega (arith, layout.4)) to is in
       (layout.0, layout.1, layout.2, omega (arith, new.log, law.shape.few_logs), new.fits)
+
+  uncopied : (to : Place) → room s (size_of q.len) false ≡ Some to → NoCopy s.copying p q.place to
+  uncopied to is = no_copy_in_room s law p (size_of q.len) q.place to false (omega arith) (omega (arith, layout.4)) is
 
   -- it went far, and its cell said before that it isn't dropped
   pub far_known : (t : State) → Law (own_part t) → is_dropped (read_of (s.cell p)) ≡ false → GoesFar s t p → Knows (evicted s p) t
@@ -175,7 +179,7 @@ module _ (s : State) (p : ℕ) (q : IsQuietNear s p) (law : Law (own_part s)) (e
         let there : room s (size_of q.len) false ≡ Some place = sym goal_is ∙ to in
         let alive : is_dropped (read_of w) ≡ false = false_from_ne_true (is_dropped (read_of w)) (λ d. undropped (ap (λ (x : State). is_dropped (read_of (x.cell p))) is ∙ ap (λ x. is_dropped (read_of x)) (word_here w finds) ∙ d)) in
         let way : way_of s (read_of w) ≡ Moves place = hot w finds h alive ∙ ap hot_way there in
-        let made : moved_now u p place ≡ moved s p place = moved_is_moved place ∙ ap (λ (x : State). moved x p place) is ∙ moved_seen s p w q.len q.ds q.place q.marks q.near finds alive wanted place (to_layout place there) in
+        let made : moved_now u p place ≡ moved s p place = moved_is_moved place ∙ ap (λ (x : State). moved x p place) is ∙ moved_seen s p w q.len q.ds q.place q.marks q.near finds alive wanted place (to_layout place there) (uncopied place there) in
         record {
           word = w;
           found = finds;

@@ -50,11 +50,12 @@ pub record Alike (u v : Walked) : Type 0 where
   pub core : Knows u.moment.core v.moment.core
   pub order : v.moment.order ≡ u.moment.order
   pub phase : v.moment.phase ≡ u.moment.phase
+  pub copying : v.moment.copying ≡ u.moment.copying
   pub tally : v.tally ≡ u.tally
 
 alike_walked : (u v : Walked) → Alike u v → (held : List ℕ) → KnowsWalked (record u { moment = record u.moment { collection = held } }) (record v { moment = record v.moment { collection = held } })
 alike_walked u v alike held = record {
-  moment = record { core = alike.core; rest = λ i. record { core = v.moment.core; order = alike.order i; phase = alike.phase i; collection = held } };
+  moment = record { core = alike.core; rest = λ i. record { core = v.moment.core; order = alike.order i; phase = alike.phase i; collection = held; copying = alike.copying i } };
   tally = alike.tally;
 }
 
@@ -67,6 +68,7 @@ freed_alike u v l alike = record {
   core = released_known u.moment.core v.moment.core l alike.core;
   order = ap (order_without l) alike.order;
   phase = alike.phase;
+  copying = alike.copying;
   tally = ap (λ (tally : Tally). record tally { freed = tally.freed + 1 }) alike.tally;
 }
 
@@ -85,6 +87,7 @@ settled_known u v known =
       core = known.moment.core;
       order = ap (λ (m : Moment). m.order) known.moment.rest;
       phase = ap (λ (m : Moment). m.phase) known.moment.rest;
+      copying = ap (λ (m : Moment). m.copying) known.moment.rest;
       tally = known.tally;
     } in
     subst (λ ls. KnowsWalked (settled u) (passed v ls)) (sym held) (passed_alike u v u.moment.collection alike)
@@ -121,7 +124,7 @@ module _ {N D : Type 0} (view : N → State) where
 
   -- the log in front of e is given back: f is where marks were found in it, and h is after it
   module _ (e f h : EvacOf N D) (progress next : Progress) (l : ℕ) (ls : List ℕ) (front : e.collection ≡ l ∷ ls) (none : live_in (view e.book.near) l ≡ [])
-      (order : h.book.order ≡ order_without l f.book.order) (held : f.collection ≡ l ∷ h.collection) (counted : tally_of next ≡ record (tally_of progress) { freed = progress.freed + 1 }) where
+      (order : h.book.order ≡ order_without l f.book.order) (held : f.collection ≡ l ∷ h.collection) (copies : h.copying ≡ f.copying) (counted : tally_of next ≡ record (tally_of progress) { freed = progress.freed + 1 }) where
     same_rest : e.collection ≡ l ∷ h.collection → h.collection ≡ ls
     same_rest same = let both : l ∷ ls ≡ l ∷ h.collection = sym front ∙ same in cc
 
@@ -133,6 +136,7 @@ module _ {N D : Type 0} (view : N → State) where
           core = knows_more (released (view e.book.near) l) (released (view f.book.near) l) (view h.book.near) (released_known (view e.book.near) (view f.book.near) l known.core) given;
           order = order ∙ ap (order_without l) orders;
           phase = refl;
+          copying = copies ∙ ap (λ (m : Moment). m.copying) known.rest;
           tally = counted;
         }
 
@@ -142,5 +146,6 @@ module _ {N D : Type 0} (view : N → State) where
         let orders : h.book.order ≡ order_without l e.book.order = order ∙ ap (λ (m : Moment). order_without l m.order) known in
         let core : view h.book.near ≡ released (view e.book.near) l = given ∙ ap (λ (m : Moment). released m.core l) known in
         let rest = same_rest (sym same ∙ held) in
+        let copying : h.copying ≡ e.copying = copies ∙ ap (λ (m : Moment). m.copying) known in
         next_exact (standing view e progress) l ls front none (standing view h next) rest
-        (λ i. record { moment = record { core = core i; order = orders i; phase = Evacuating; collection = rest i }; tally = counted i })
+        (λ i. record { moment = record { core = core i; order = orders i; phase = Evacuating; collection = rest i; copying = copying i }; tally = counted i })

@@ -98,7 +98,7 @@ more_far _ n = n
 
 abbrev pub gone_so : Walked → List ℕ → ℕ → Way → Walked
 gone_so w held p way = record {
-  moment = record { core = core_so w.moment.core p way; order = order_by w.moment.core w.moment.order way; phase = w.moment.phase; collection = held };
+  moment = record { core = core_so w.moment.core p way; order = order_by w.moment.core w.moment.order way; phase = w.moment.phase; collection = held; copying = w.moment.copying };
   tally = record { moved = more_moved way w.tally.moved; far = more_far way w.tally.far; dropped = more_dropped way w.tally.dropped; freed = w.tally.freed };
 }
 

@@ -1,5 +1,5 @@
 -- What an object that is dealt with makes of the spans of the logs, by its way.
-use Rattle.std.proofs.Common.{◌≡◌, ◌≢◌, ℕ, ◌+◌, ◌*◌, ◌<◌, ◌≤◌, true, false, nat_le, Option, Some, List, [], ◌∷◌, ◌++◌, inl, inr, arith, ap, sym, refl, ◌∙◌, subst}
+use Rattle.std.proofs.Common.{◌≡◌, ◌≢◌, ℕ, ◌+◌, ◌*◌, ◌<◌, ◌≤◌, true, false, nat_le, Option, Some, None, List, [], ◌∷◌, ◌++◌, inl, inr, arith, ap, sym, refl, ◌∙◌, subst}
 use Rattle.std.specs.List.{AllByRecursion}
 use Rattle.std.specs.Prelude.{◌⊎◌}
 use Rattle.std.proofs.lemmas.Bool.{cases_eq, cond_both, false≢true, cases_lt}
@@ -16,29 +16,32 @@ use Rattle.far_word.proofs.PointerLaws.{read_back}
 use Rattle.far_log.specs.Spans.{ds_in, head_len, len_in, pointer_in, span_at, spans_from, spans_in}
 use Rattle.far_core.specs.declared.event.Kind.{Kind}
 use Rattle.far_core.specs.declared.event.Kind.TheVariants as kinds
+use Rattle.far_core.specs.events.Copied.{copied_job}
 use Rattle.far_core.specs.events.Copies.{data_at}
 use Rattle.far_core.specs.events.Naming.{no_marks}
+use Rattle.far_core.specs.events.namings.Moves.{after_move}
 use Rattle.far_core.specs.events.NewSpans.{with_span}
 use Rattle.far_core.specs.laws.Observed.{span_for}
 use Rattle.far_core.specs.state.Room.{free_logs, is_free, lowest, room}
 use Rattle.far_core.specs.state.Spans.{names_place, spans_of, word_in}
 use Rattle.far_core.specs.state.State.{State, addr, put}
+use Rattle.far_core.proofs.Copied.{copied_same}
 use Rattle.far_core.proofs.Put.{put_other, put_same}
 use Rattle.far_hand.specs.Finds.{Finds, marks_in}
 use Rattle.far_book.specs.book.Effects.{evicted, far_word, moved, near_word, with_free_cell, with_written_span}
 use Rattle.far_hand.proofs.Finding.{IsNearTo, near_found}
 use Rattle.far_book.proofs.region.Evictions.{evicted_is, far_says, sent}
-use Rattle.far_book.proofs.region.Moved.{moved_is}
 use Rattle.far_book.proofs.region.Written.{row_other}
 use Rattle.far_evac.specs.Live.{live_in}
 use Rattle.far_evac.specs.Ready.{Ready}
 use Rattle.far_evac.specs.TakesRoom.{bytes_at}
 use Rattle.far_evac.specs.Walk.{Drops, Goes, Moves, Way, way_of}
 use Rattle.far_evac.proofs.Bools.{neither}
-use Rattle.far_evac.proofs.Dealt.{IsFreeLog, NewPlace, free_gone, free_place, frees, room_new}
+use Rattle.far_evac.proofs.Dealt.{IsFreeLog, NewPlace, free_gone, free_place, frees, moved_as, room_new}
 use Rattle.far_evac.proofs.LiveLists.{same_spans}
 use Rattle.far_evac.proofs.LiveOnce.{NearAt, first_named, near_at}
 use Rattle.far_evac.proofs.SpanBytes.{Dealt, Sound, comes, leaves, spans_more}
+use Rattle.far_evac.proofs.Targets.{LieBelow, none_at_tail}
 use Rattle.far_evac.proofs.Tours.{core_so, goes_when, moves_when}
 
 -- ---- where a hot object goes: behind the last span of its log
@@ -61,7 +64,7 @@ module _ (s : State) (sound : Sound s) where
       (λ _ e. let is : end ≡ place = cc in subst (λ (x : Place). x.at ≡ s.tail x.log) is refl)
       (λ _ e. lowest_end (free_logs s) (frees s 0 s.logs (omega arith)) place e)
 
-module _ (s : State) (sound : Sound s) (held : List ℕ) (ready : Ready s held) (p len ds : ℕ) (from : Place) (marks : Marks) (near : read_of (s.cell p) ≡ Some (Near len ds from marks)) where
+module _ (s : State) (sound : Sound s) (below : LieBelow s) (held : List ℕ) (ready : Ready s held) (p len ds : ℕ) (from : Place) (marks : Marks) (near : read_of (s.cell p) ≡ Some (Near len ds from marks)) where
   layout : IsPtr (Near len ds from no_marks)
   layout = ready.layout p len ds from marks near
 
@@ -97,8 +100,14 @@ module _ (s : State) (sound : Sound s) (held : List ℕ) (ready : Ready s held) 
       near_layout : IsPtr (Near len ds to no_marks)
       near_layout = (layout.0, layout.1, layout.2, omega (arith, new.log, ready.few), new.fits)
 
+      abbrev written : State
+      written = with_written_span s p len ds to (data_at s.word from)
+
       abbrev then : State
-      then = with_span (with_written_span s p len ds to (data_at s.word from)) p (near_word len ds to) len to
+      then = with_span written p (near_word len ds to) len to
+
+      uncopied : copied_job written p from to ≡ None
+      uncopied = copied_same s written p from to refl refl refl refl ∙ none_at_tail s below p from to at_end
 
       abbrev header : HeadWord
       header = record { pointer = p; len = len; ds = ds }
@@ -160,10 +169,10 @@ module _ (s : State) (sound : Sound s) (held : List ℕ) (ready : Ready s held) 
       moves_then = comes s then sound p (near_word len ds to) len ds from to marks no_marks near (read_back (Near len ds to no_marks) near_layout) at_end new.fits new.log new.unsealed refl refl refl ready.opens refl spans_here spans_there
 
       pub moves : Dealt s (moved s p to) p
-      moves = subst (λ t. Dealt s t p) (sym (moved_is s p len ds from to marks near alive evac near_layout)) moves_then
+      moves = subst (λ t. Dealt s t p) (sym (moved_as s p len ds from to marks near alive evac near_layout ∙ ap (after_move written p (near_word len ds to) len to) uncopied)) moves_then
 
 -- ---- the first object, as a word says that was found in its cell
-module _ (s : State) (sound : Sound s) (l : ℕ) (ls : List ℕ) (p : ℕ) (ps : List ℕ) (ready : Ready s (l ∷ ls)) (first : live_in s l ≡ p ∷ ps) (word : ℕ) (finds : Finds (s.cell p) word) where
+module _ (s : State) (sound : Sound s) (below : LieBelow s) (l : ℕ) (ls : List ℕ) (p : ℕ) (ps : List ℕ) (ready : Ready s (l ∷ ls)) (first : live_in s l ≡ p ∷ ps) (word : ℕ) (finds : Finds (s.cell p) word) where
   at_home : NearAt (read_of (s.cell p)) l (first_named s l p ps first).0
   at_home = near_at (read_of (s.cell p)) l (first_named s l p ps first).0 (first_named s l p ps first).1
 
@@ -178,10 +187,10 @@ module _ (s : State) (sound : Sound s) (l : ℕ) (ls : List ℕ) (p : ℕ) (ps :
       (λ h. sym (ap (λ o. (marks_in o).dropped) seen.near) ∙ finds.dropped (ap (λ o. (marks_in o).dropped) at_home.near ∙ h))
 
   pub way_dealt : (way : Way) → way_of s (read_of word) ≡ way → Dealt s (core_so s p way) p
-  way_dealt Drops e = drops s sound (l ∷ ls) ready p at_home.len at_home.ds at_home.place at_home.marks at_home.near
+  way_dealt Drops e = drops s sound below (l ∷ ls) ready p at_home.len at_home.ds at_home.place at_home.marks at_home.near
   way_dealt (Moves place) e =
       let why = moves_when seen.marks.dropped seen.marks.hot (room s (size_of at_home.len) false) place (sym (ap (way_of s) seen.near) ∙ e) in
-      moves s sound (l ∷ ls) ready p at_home.len at_home.ds at_home.place at_home.marks at_home.near marked (alive_before why.0) place why.1
+      moves s sound below (l ∷ ls) ready p at_home.len at_home.ds at_home.place at_home.marks at_home.near marked (alive_before why.0) place why.1
   way_dealt Goes e =
-      goes s sound (l ∷ ls) ready p at_home.len at_home.ds at_home.place at_home.marks at_home.near marked
+      goes s sound below (l ∷ ls) ready p at_home.len at_home.ds at_home.place at_home.marks at_home.near marked
       (alive_before (goes_when seen.marks.dropped seen.marks.hot (room s (size_of at_home.len) false) (sym (ap (way_of s) seen.near) ∙ e)))

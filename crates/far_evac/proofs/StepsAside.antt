@@ -1,11 +1,12 @@
 -- Steps of callers that leave a round alone, and that such steps keep what is true between two calls of it.
-use Rattle.std.proofs.Common.{◌≡◌, ◌≢◌, ℕ, ◌+◌, ◌<◌, ◌≤◌, ◌==◌, ◌||◌, Bool, true, false, cond, eqb, Some, List, [], ◌∷◌, ◌++◌, inl, inr, arith, ap, sym, refl, ◌∙◌, subst}
+use Rattle.std.proofs.Common.{◌≡◌, ◌≢◌, ℕ, ◌+◌, ◌<◌, ◌≤◌, ◌==◌, ◌||◌, ◌⊎◌, Bool, true, false, cond, eqb, Some, List, [], ◌∷◌, ◌++◌, inl, inr, arith, ap, sym, refl, ◌∙◌, subst}
 use Rattle.std.specs.Cmp.{nat_eq_equiv}
 use Rattle.std.specs.List.{IsDistinct}
 use Rattle.std.proofs.Math.Bool.{or-false}
 use Rattle.std.proofs.lemmas.Bool.{cases_eq, cond_both, eq-eqb, eqb-false, eqb-true, ne_eqb}
 use Rattle.std.proofs.lemmas.List.Folds.{list_any-append}
 use Rattle.std.proofs.lemmas.Map.Keys.{IsDistinct-push}
+use Rattle.far_word.specs.declared.job.Job.{Job}
 use Rattle.far_word.specs.declared.pointer.Place.{Place}
 use Rattle.far_word.specs.declared.pointer.PtrWord.TheVariants.{Near, Far}
 use Rattle.far_word.specs.declared.sizes.TheConstants.{EPOCH_END, LONGEST}
@@ -21,23 +22,35 @@ use Rattle.far_core.specs.events.NewSpans.{IsNext, with_span}
 use Rattle.far_core.specs.laws.Rooms.{IsRoom, RoomIs}
 use Rattle.far_core.specs.state.Law.{Law}
 use Rattle.far_core.specs.state.Room.{room}
-use Rattle.far_core.specs.state.State.{State, put}
+use Rattle.far_core.specs.state.Jobs.{near_place}
+use Rattle.far_core.specs.state.State.{Copying, State, put}
 use Rattle.far_core.proofs.Put.{put_other, put_same}
 use Rattle.far_core.proofs.RoomLaws.{room_right}
 use Rattle.far_book.specs.book.Dealing.{goal, has_evac}
 use Rattle.far_hand.specs.Quiet.{IsQuietNear}
 use Rattle.far_book.specs.book.Effects.{fetched, moved, near_word, order_after, placed, retired, stayed, with_blank_span, with_written_span}
 use Rattle.far_book.specs.book.Fetching.{IsFar, far_len, room_for}
+use Rattle.far_book.specs.book.Own.{HasNoJob}
 use Rattle.far_book.proofs.region.Fetched.{fetched_come}
-use Rattle.far_book.proofs.region.Moved.{drop_of, evac_of, goal_there, has_moved, moved_is, stayed_is}
+use Rattle.far_hand.proofs.JobsFound.{empty_found, job_is, job_more}
+use Rattle.far_book.proofs.region.Moved.{drop_of, evac_of, goal_there, has_moved, moved_is, no_copy_in_room, stayed_is}
+use Rattle.far_book.proofs.region.Owns.{own_law}
 use Rattle.far_book.proofs.region.Places.{named_is, next_unsealed}
 use Rattle.far_book.proofs.region.Retires.{retired_is}
 use Rattle.far_evac.specs.Callers.{CoresJoin, FetchingOrder, FetchingStepsAside, MovingOrder, MovingStepsAside, OwnersStepAside, PlacingOrder, PlacingStepsAside, RetiringOrder, RetiringStepsAside, StepsAside, StepsJoin, StepsKeep, StillOrder, StillStepsAside}
 use Rattle.far_evac.specs.Moment.{Moment, with_core}
 use Rattle.far_evac.specs.MomentLaw.{MomentLaw}
 use Rattle.far_evac.specs.RoundSteps.{among}
+use Rattle.far_evac.specs.StillCopies.{StillCopies}
+use Rattle.far_evac.specs.Strays.{NoneComes}
+use Rattle.far_evac.specs.declared.phase.Phase.TheVariants.{Evacuating}
 use Rattle.far_evac.proofs.Bools.{or_right}
+use Rattle.far_evac.proofs.HeldJobs.{KeepsJobs, lies_near, none_held, still_before}
 use Rattle.far_evac.proofs.OfOneKind.{open_unsealed}
+
+either : (b : Bool) → (b ≡ true) ⊎ (b ≡ false)
+either true = inl refl
+either false = inr refl
 
 -- ---- what is true between two calls
 unsealed : (kind : Kind) → kind ≢ kinds.Sealed → is_sealed kind ≡ false
@@ -83,7 +96,26 @@ module _ (s t : State) (law : Law s) (then : Law t) (stay : (l : ℕ) → s.kind
   once_then once = cond_both (t.current == was) order (order ++ was ∷ []) (IsDistinct eqb)
       (λ _. once) (λ _. IsDistinct-push nat_eq_equiv order was once (has_sealed was ∙ ap is_sealed law.logs.is_open))
 
-module _ (m : Moment) (t : State) (law : Law m.core) (moment : MomentLaw m) (then : Law t) (aside : StepsAside m.core t) where
+module _ (m : Moment) (t : State) (law : Law m.core) (moment : MomentLaw m) (then : Law t) (aside : StepsAside m.core t) (none : m.copying ≡ true → NoneComes m.core t) where
+  -- a job that isn't void wasn't before
+  jobs_aside : m.copying ≡ true → KeepsJobs m.core t
+  jobs_aside copies = let comes = none copies in record {
+    words = aside.jobs;
+    still = λ j job. still_before m.core t aside.jobs aside.since aside.round_epoch j job (comes.round job.from.log)
+        (λ lies in_round.
+        let x = lies_near (read_of (t.cell job.pointer)) job.from lies in
+        ap near_place (comes.near job.pointer x.len x.ds job.from x.marks x.near in_round).1);
+  }
+
+  alone_aside : m.copying ≡ false → HasNoJob t
+  alone_aside e j = empty_found (m.core.copying.word j) (t.copying.word j) (aside.jobs j) (moment.alone e j)
+
+  held_aside : (j : ℕ) (job : Job) → StillCopies t j job → (m.phase ≡ Evacuating) × (among m.collection job.from.log ≡ true)
+  held_aside j job still = elim (either m.copying) [
+    | inl copies ↦ moment.held j job ((jobs_aside copies).still j job still)
+    | inr alone ↦ none_held t m.phase m.collection (alone_aside alone) j job still
+  ]
+
   pub law_kept : MomentLaw (with_core m t)
   law_kept = record {
     order = order_then m.core t law then aside.stay aside.others aside.shut m.order moment.order;
@@ -95,11 +127,12 @@ module _ (m : Moment) (t : State) (law : Law m.core) (moment : MomentLaw m) (the
     only = λ risen l is. moment.only risen l (sym (ap (λ (round : ℕ → Bool). round l) aside.round) ∙ is);
     clear = λ leaves k lt. ap (λ (clear : ℕ → Bool). clear k) aside.clear ∙ moment.clear leaves k (subst (λ n. k < n) aside.mutators lt);
     later = λ marks. subst (λ e. e + 1 < EPOCH_END) (sym aside.epoch) (moment.later marks);
-    alone = λ j. ap (λ (words : ℕ → ℕ). words j) aside.jobs ∙ moment.alone j;
+    alone = alone_aside;
+    held = held_aside;
   }
 
 pub steps_keep : StepsKeep
-steps_keep m t law moment then aside = law_kept m t law moment then aside
+steps_keep m t law moment then aside none = law_kept m t law moment then aside none
 
 -- ---- two steps
 pub steps_join : StepsJoin
@@ -110,7 +143,8 @@ steps_join s t u a b one = record {
   round = b.round ∙ a.round;
   round_epoch = b.round_epoch ∙ a.round_epoch;
   clear = b.clear ∙ a.clear;
-  jobs = b.jobs ∙ a.jobs;
+  jobs = λ j. job_more (s.copying.word j) (t.copying.word j) (u.copying.word j) (a.jobs j) (b.jobs j);
+  since = b.since ∙ a.since;
   stay = λ l shut. b.stay l (a.stay l shut);
   others = λ l ne other. elim one [
     | inl same ↦ b.others l (λ e. ne (e ∙ same)) other ∙ a.others l ne (λ e. ne (e ∙ same))
@@ -124,22 +158,34 @@ steps_join s t u a b one = record {
 
 -- ---- which steps are such
 pub still_aside : StillStepsAside
-still_aside s t mutators logs epoch round round_epoch clear jobs kind current = record {
+still_aside s t mutators logs epoch round round_epoch clear copying kind current = record {
   mutators = mutators;
   logs = logs;
   epoch = epoch;
   round = round;
   round_epoch = round_epoch;
   clear = clear;
-  jobs = jobs;
+  jobs = λ j. job_is (s.copying.word j) (t.copying.word j) (ap (λ (k : Copying). k.word j) copying);
+  since = ap (λ (k : Copying). k.since) copying;
   stay = λ l shut. ap (λ (kind : ℕ → Kind). kind l) kind ∙ shut;
   others = λ l ne other. ap (λ (kind : ℕ → Kind). kind l) kind;
   shut = λ other. absurd (other current);
 }
 
 pub owners_aside : OwnersStepAside
-owners_aside s t change = still_aside s t (ap (λ (u : State). u.mutators) change.rest) (ap (λ (u : State). u.logs) change.rest) (ap (λ (u : State). u.epoch) change.rest) (ap (λ (u : State). u.round) change.rest)
-    (ap (λ (u : State). u.round_epoch) change.rest) (ap (λ (u : State). u.clear) change.rest) (ap (λ (u : State). u.copying.word) change.rest) (ap (λ (u : State). u.kind) change.rest) (ap (λ (u : State). u.current) change.rest)
+owners_aside s t change = record {
+  mutators = ap (λ (u : State). u.mutators) change.rest;
+  logs = ap (λ (u : State). u.logs) change.rest;
+  epoch = ap (λ (u : State). u.epoch) change.rest;
+  round = ap (λ (u : State). u.round) change.rest;
+  round_epoch = ap (λ (u : State). u.round_epoch) change.rest;
+  clear = ap (λ (u : State). u.clear) change.rest;
+  jobs = change.jobs;
+  since = ap (λ (u : State). u.copying.since) change.rest;
+  stay = λ l shut. ap (λ (u : State). u.kind l) change.rest ∙ shut;
+  others = λ l ne other. ap (λ (u : State). u.kind l) change.rest;
+  shut = λ other. absurd (other (ap (λ (u : State). u.current) change.rest));
+}
 
 -- a span is taken where the next may stand
 taken_aside : (s : State) → Law s → (word : ℕ → ℕ) (p new len : ℕ) (to : Place) → IsNext s to → StepsAside s (with_span (record s { word = word }) p new len to)
@@ -150,7 +196,8 @@ taken_aside s law word p new len to next = record {
   round = refl;
   round_epoch = refl;
   clear = refl;
-  jobs = refl;
+  jobs = λ j. job_is (s.copying.word j) (s.copying.word j) refl;
+  since = refl;
   stay = λ l shut.
       put_other (put s.kind s.current kinds.Sealed) to.log kinds.Open l (λ e. next_unsealed s to next (ap s.kind (sym e) ∙ shut))
       ∙ put_other s.kind s.current kinds.Sealed l (λ e. open_unsealed (s.kind s.current) law.logs.is_open (ap s.kind (sym e) ∙ shut)) ∙ shut;
@@ -191,6 +238,7 @@ module _ (s : State) (p : ℕ) (to : Place) (law : Law s) (q : IsQuietNear s p) 
 
     moved_taken : moved s p to ≡ with_span (with_written_span s p q.len q.ds to (data_at s.word q.place)) p (near_word q.len q.ds to) q.len to
     moved_taken = moved_is s p q.len q.ds q.place to q.marks q.near undropped evac (layout s law q.len q.ds to false says.0 says.1 says.2 there)
+        (no_copy_in_room s (own_law s law) p (size_of q.len) q.place to false (omega arith) (omega (arith, says.1)) there)
 
     moved_aside : StepsAside s (moved s p to)
     moved_aside = subst (StepsAside s) (sym moved_taken) (taken_aside s law _ p (near_word q.len q.ds to) q.len to (is_room s law q.len q.ds to false says.0 says.1 says.2 there).next)

@@ -33,6 +33,7 @@ use Rattle.far_evac.specs.declared.answers.Polled.{Polled}
 use Rattle.far_evac.specs.declared.answers.Polled.TheVariants.{Clear, StillOpen}
 use Rattle.far_evac.specs.AnyHand.{Polls, WalksTo}
 use Rattle.far_evac.proofs.Framed.{so_one}
+use Rattle.far_evac.proofs.NearBut.{still_near}
 use Rattle.far_evac.proofs.Readiness.{risen_is_ready}
 use Rattle.far_evac.proofs.Rounds.{turns_are}
 use Rattle.far_evac.proofs.TurnSteps.{KeepsTurns, round_kept, round_kept_exactly, stop_kept, stopped_kept, turn_kept, turns_kept, walk_kept}
@@ -44,21 +45,8 @@ no_round m none p len ds place marks near is = absurd (false≢true (sym (none p
 pub risen : RisenStraysNone
 risen m moment is_risen p len ds place marks near is = moment.only is_risen place.log is
 
--- ---- cells that have changed EVAC alone name the places that they named
-pub near_but : (cell : Option PtrWord) (len ds : ℕ) (place : Place) (marks : Marks) → but_evac (Some (Near len ds place marks)) ≡ but_evac cell → (old : Marks) × (cell ≡ Some (Near len ds place old))
-near_but (Some (Near n d at old)) len ds place marks e =
-    let lens : n ≡ len = cc in
-    let structures : d ≡ ds = cc in
-    let places : at ≡ place = cc in
-    (old, rw (lens, structures, places) refl)
-near_but _ len ds place marks e = absurd cc
-
 fits : (s : State) → Law (own_part s) → (p : ℕ) → s.cell p < 2 ^ 64
 fits s law p = (law.cells.cell_read p).0
-
-module _ (m t : Moment) (same : (p : ℕ) → but_evac (says t p) ≡ but_evac (says m p)) where
-  still_near : (p len ds : ℕ) (place : Place) (marks : Marks) → read_of (t.core.cell p) ≡ Some (Near len ds place marks) → (old : Marks) × (read_of (m.core.cell p) ≡ Some (Near len ds place old))
-  still_near p len ds place marks near = near_but (read_of (m.core.cell p)) len ds place marks (ap but_evac (sym near) ∙ same p)
 
 -- ---- selecting
 pub selecting_none : SelectingStraysNone
@@ -91,9 +79,9 @@ polling_none m none = polled_none m (first_open m.core) none
 
 -- ---- objects leave
 pub walking_none : WalkingStraysNone
-walking_none m n law moment leaves =
+walking_none m n law moment alone leaves =
     let w = walked m n in
-    let only = walking_only m n law moment leaves in
+    let only = walking_only m n law moment alone leaves in
     cond_both (is_done w) (record w.moment { phase = Idle }) w.moment NoneStrays (λ _ p len ds place marks near is. only place.log is) (λ _ p len ds place marks near is. only place.log is)
 
 -- ---- giving up
@@ -172,10 +160,10 @@ rounds_none m t logs turns moment idle none =
 
 -- ---- where no word changes but by this
 pub turns_none : TurnsStrayNone
-turns_none m n law moment runs none = let h = turns_are m law moment runs n in rows_none m (turns_made m n).moment h.tallies (turns_made m n).over h.made none
+turns_none m n law moment alone runs none = let h = turns_are m law moment alone runs n in rows_none m (turns_made m n).moment h.tallies (turns_made m n).over h.made none
 
 pub round_none : RoundStraysNone
-round_none m logs turns end t law moment idle left once of_order is none = round_kept_exactly NoneStrays turns_none m logs turns end t law moment idle left once of_order is (selecting_none m logs moment idle none)
+round_none m logs turns end t law moment alone idle left once of_order is none = round_kept_exactly NoneStrays turns_none m logs turns end t law moment alone idle left once of_order is (selecting_none m logs moment idle none)
 
 -- ---- what callers do
 pub callers_none : CallersStrayNone

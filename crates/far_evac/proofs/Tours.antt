@@ -32,8 +32,8 @@ use Rattle.far_evac.proofs.LiveLists.{live_released}
 use Rattle.far_evac.proofs.LiveOnce.{NearAt, but, but_first, but_none, first_named, near_at, not_there, once_live}
 
 -- a walk by its parts
-abbrev pub stand : State → List ℕ → Phase → List ℕ → Tally → Walked
-stand s order phase held tally = record { moment = record { core = s; order = order; phase = phase; collection = held }; tally = tally }
+abbrev pub stand : State → List ℕ → Phase → Bool → List ℕ → Tally → Walked
+stand s order phase copying held tally = record { moment = record { core = s; order = order; phase = phase; collection = held; copying = copying }; tally = tally }
 
 -- ---- so many objects more
 abbrev pub steps : ℕ → Walked → Walked
@@ -128,7 +128,7 @@ goes_when false hot o e = refl
 
 -- the state after an object was dealt with in a way
 abbrev pub core_so : State → ℕ → Way → State
-core_so s p way = (dealt_so (stand s [] phases.Idle [] nothing) p way).moment.core
+core_so s p way = (dealt_so (stand s [] phases.Idle false [] nothing) p way).moment.core
 
 -- what its cell says then
 abbrev pub test_of : Way → Option PtrWord → Bool
@@ -181,57 +181,57 @@ abbrev pub first_live : State → List ℕ → List ℕ
 first_live s [] = []
 first_live s (l ∷ ls) = live_in s l
 
-abbrev Tours : List Stop → ℕ → Phase → State → List ℕ → List ℕ → Tally → Type 0
-Tours stops n phase s order held tally = Ready s held → tour s held ≡ stops → fold stopped (stand s order phase held tally) (front n stops) ≡ steps n (settled (stand s order phase held tally))
+abbrev Tours : List Stop → ℕ → Phase → Bool → State → List ℕ → List ℕ → Tally → Type 0
+Tours stops n phase copying s order held tally = Ready s held → tour s held ≡ stops → fold stopped (stand s order phase copying held tally) (front n stops) ≡ steps n (settled (stand s order phase copying held tally))
 
-dealt_tours : (rest : List Stop) (n : ℕ) (phase : Phase) (s : State) (order : List ℕ) (l : ℕ) (ls : List ℕ) (tally : Tally) (p : ℕ) (ps : List ℕ) →
+dealt_tours : (rest : List Stop) (n : ℕ) (phase : Phase) (copying : Bool) (s : State) (order : List ℕ) (l : ℕ) (ls : List ℕ) (tally : Tally) (p : ℕ) (ps : List ℕ) →
     Ready s (l ∷ ls) → live_in s l ≡ p ∷ ps → (map Object ps ++ (End l ∷ [])) ++ tour s ls ≡ rest →
-    ((t : State) (now : List ℕ) (sum : Tally) → Tours rest n phase t now (l ∷ ls) sum) →
+    ((t : State) (now : List ℕ) (sum : Tally) → Tours rest n phase copying t now (l ∷ ls) sum) →
     (way : Way) → way_of s (read_of (s.cell p)) ≡ way →
-    fold stopped (dealt_so (stand s order phase (l ∷ ls) tally) p way) (front n rest) ≡ steps n (settled (dealt_so (stand s order phase (l ∷ ls) tally) p way))
-dealt_tours rest n phase s order l ls tally p ps ready first is next Drops e =
+    fold stopped (dealt_so (stand s order phase copying (l ∷ ls) tally) p way) (front n rest) ≡ steps n (settled (dealt_so (stand s order phase copying (l ∷ ls) tally) p way))
+dealt_tours rest n phase copying s order l ls tally p ps ready first is next Drops e =
     let after = leaves_so s l ls p ps ready first Drops e in
     next (core_so s p Drops) order (record tally { dropped = tally.dropped + 1 }) after.ready (tour_next s l ls p ps ready first (core_so s p Drops) after ∙ is)
-dealt_tours rest n phase s order l ls tally p ps ready first is next (Moves place) e =
+dealt_tours rest n phase copying s order l ls tally p ps ready first is next (Moves place) e =
     let after = leaves_so s l ls p ps ready first (Moves place) e in
     next (core_so s p (Moves place)) (order_after s order place) (record tally { moved = tally.moved + 1 }) after.ready (tour_next s l ls p ps ready first (core_so s p (Moves place)) after ∙ is)
-dealt_tours rest n phase s order l ls tally p ps ready first is next Goes e =
+dealt_tours rest n phase copying s order l ls tally p ps ready first is next Goes e =
     let after = leaves_so s l ls p ps ready first Goes e in
     next (core_so s p Goes) order (record tally { far = tally.far + 1 }) after.ready (tour_next s l ls p ps ready first (core_so s p Goes) after ∙ is)
 
 -- what begins with an object or an end is no other list
-tours : (stops : List Stop) (n : ℕ) (phase : Phase) (s : State) (order held : List ℕ) (tally : Tally) (live : List ℕ) → first_live s held ≡ live → Tours stops n phase s order held tally
-tours [] n phase s order [] tally live f = λ ready e. sym (steps_over n (stand s order phase [] tally) refl)
-tours [] n phase s order (l ∷ ls) tally [] f = λ ready e. let odd : End l ∷ tour s ls ≡ [] = sym (ap (λ xs. (map Object xs ++ (End l ∷ [])) ++ tour s ls) f) ∙ e in absurd cc
-tours [] n phase s order (l ∷ ls) tally (p ∷ ps) f =
+tours : (stops : List Stop) (n : ℕ) (phase : Phase) (copying : Bool) (s : State) (order held : List ℕ) (tally : Tally) (live : List ℕ) → first_live s held ≡ live → Tours stops n phase copying s order held tally
+tours [] n phase copying s order [] tally live f = λ ready e. sym (steps_over n (stand s order phase copying [] tally) refl)
+tours [] n phase copying s order (l ∷ ls) tally [] f = λ ready e. let odd : End l ∷ tour s ls ≡ [] = sym (ap (λ xs. (map Object xs ++ (End l ∷ [])) ++ tour s ls) f) ∙ e in absurd cc
+tours [] n phase copying s order (l ∷ ls) tally (p ∷ ps) f =
     λ ready e. let odd : Object p ∷ ((map Object ps ++ (End l ∷ [])) ++ tour s ls) ≡ [] = sym (ap (λ xs. (map Object xs ++ (End l ∷ [])) ++ tour s ls) f) ∙ e in absurd cc
-tours (End k ∷ rest) n phase s order (l ∷ ls) tally [] f = λ ready e.
+tours (End k ∷ rest) n phase copying s order (l ∷ ls) tally [] f = λ ready e.
     let both : End l ∷ tour s ls ≡ End k ∷ rest = sym (ap (λ xs. (map Object xs ++ (End l ∷ [])) ++ tour s ls) f) ∙ e in
     let same : l ≡ k = cc in
     let more : tour s ls ≡ rest = cc in
-    let w = stand s order phase (l ∷ ls) tally in
+    let w = stand s order phase copying (l ∷ ls) tally in
     let v = stopped w (End l) in
     ap (λ x. fold stopped (stopped w (End x)) (front n rest)) (sym same)
-    ∙ tours rest n phase (released s l) v.moment.order ls v.tally (first_live (released s l) ls) refl (ready_released s l ls ready) (tour_released s l ls ready ∙ more)
+    ∙ tours rest n phase copying (released s l) v.moment.order ls v.tally (first_live (released s l) ls) refl (ready_released s l ls ready) (tour_released s l ls ready ∙ more)
     ∙ ap (steps n) (passed_any (freed w l) ls ls ∙ sym (ap (λ xs. cond (is_empty xs) (passed (freed w l) ls) w) f))
-tours (End k ∷ rest) n phase s order (l ∷ ls) tally (p ∷ ps) f =
+tours (End k ∷ rest) n phase copying s order (l ∷ ls) tally (p ∷ ps) f =
     λ ready e. let odd : Object p ∷ ((map Object ps ++ (End l ∷ [])) ++ tour s ls) ≡ End k ∷ rest = sym (ap (λ xs. (map Object xs ++ (End l ∷ [])) ++ tour s ls) f) ∙ e in absurd cc
-tours (Object q ∷ rest) n phase s order (l ∷ ls) tally [] f =
+tours (Object q ∷ rest) n phase copying s order (l ∷ ls) tally [] f =
     λ ready e. let odd : End l ∷ tour s ls ≡ Object q ∷ rest = sym (ap (λ xs. (map Object xs ++ (End l ∷ [])) ++ tour s ls) f) ∙ e in absurd cc
-tours (Object q ∷ rest) zero phase s order (l ∷ ls) tally (p ∷ ps) f = λ ready e.
-    let w = stand s order phase (l ∷ ls) tally in sym (ap (λ xs. cond (is_empty xs) (passed (freed w l) ls) w) f)
-tours (Object q ∷ rest) (suc n) phase s order (l ∷ ls) tally (p ∷ ps) f = λ ready e.
+tours (Object q ∷ rest) zero phase copying s order (l ∷ ls) tally (p ∷ ps) f = λ ready e.
+    let w = stand s order phase copying (l ∷ ls) tally in sym (ap (λ xs. cond (is_empty xs) (passed (freed w l) ls) w) f)
+tours (Object q ∷ rest) (suc n) phase copying s order (l ∷ ls) tally (p ∷ ps) f = λ ready e.
     let both : Object p ∷ ((map Object ps ++ (End l ∷ [])) ++ tour s ls) ≡ Object q ∷ rest = sym (ap (λ xs. (map Object xs ++ (End l ∷ [])) ++ tour s ls) f) ∙ e in
     let same : p ≡ q = cc in
     let more : (map Object ps ++ (End l ∷ [])) ++ tour s ls ≡ rest = cc in
-    let w = stand s order phase (l ∷ ls) tally in
+    let w = stand s order phase copying (l ∷ ls) tally in
     let rests : settled w ≡ w = ap (λ xs. cond (is_empty xs) (passed (freed w l) ls) w) f in
     let lives : left w ≡ p ∷ (ps ++ live_among s ls) = ap (λ xs. xs ++ live_among s ls) f in
     ap (λ x. fold stopped (stopped w (Object x)) (front n rest)) (sym same)
-    ∙ dealt_tours rest n phase s order l ls tally p ps ready f more (λ t now sum. tours rest n phase t now (l ∷ ls) sum (live_in t l) refl) (way_of s (read_of (s.cell p))) refl
+    ∙ dealt_tours rest n phase copying s order l ls tally p ps ready f more (λ t now sum. tours rest n phase copying t now (l ∷ ls) sum (live_in t l) refl) (way_of s (read_of (s.cell p))) refl
     ∙ sym (ap (steps (suc n)) rests ∙ steps_first n w ∙ ap (λ xs. steps n (dealt_first w xs)) lives)
-tours _ n phase s order [] tally live f = λ ready e. absurd cc
+tours _ n phase copying s order [] tally live f = λ ready e. absurd cc
 
 -- where a walk may go on, it is the tour
 pub walk_tours : (m : Moment) (n : ℕ) → Ready m.core m.collection → walked m n ≡ toured m n
-walk_tours m n ready = walked_steps m n ∙ sym (tours (tour m.core m.collection) n m.phase m.core m.order m.collection nothing (first_live m.core m.collection) refl ready refl)
+walk_tours m n ready = walked_steps m n ∙ sym (tours (tour m.core m.collection) n m.phase m.copying m.core m.order m.collection nothing (first_live m.core m.collection) refl ready refl)

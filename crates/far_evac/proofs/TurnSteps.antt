@@ -32,7 +32,7 @@ LearnsSo true P = Unit {0}
 LearnsSo false P = (m t : Moment) (tally : Tally) → KnowsMoment m t → P m tally → P t tally
 
 abbrev pub KeepsWalks : Bool → (Moment → Tally → Type 0) → Type 0
-KeepsWalks true P = (m : Moment) (n : ℕ) (tally : Tally) → Law m.core → MomentLaw m → m.phase ≡ Evacuating → P m tally → P (walked m n).moment (plus tally (walked m n).tally)
+KeepsWalks true P = (m : Moment) (n : ℕ) (tally : Tally) → Law m.core → MomentLaw m → m.copying ≡ false → m.phase ≡ Evacuating → P m tally → P (walked m n).moment (plus tally (walked m n).tally)
 KeepsWalks false P = (m : Moment) (k : ℕ) (w : Walked) (tally : Tally) → IsLawful m → m.phase ≡ Evacuating → WalksTo m k w → P m tally → P w.moment (plus tally w.tally)
 
 -- each small step keeps what holds of a moment, and of what was counted so far
@@ -97,20 +97,20 @@ module _ (P : Moment → Tally → Type 0) (keeps : KeepsTurns true P) where
   polled_kept m tally law moment is h None = keeps.looks m m.core.mutators Evacuating tally (law, moment) is h
   polled_kept m tally law moment is h (Some k) = keeps.looks m k m.phase tally (law, moment) is h
 
-  turned_kept : (r : Turned) → Law r.moment.core → MomentLaw r.moment → P r.moment r.tally → (phase : Phase) → r.moment.phase ≡ phase → P (turned r phase).moment (turned r phase).tally
-  turned_kept r law moment h Idle is = h
-  turned_kept r law moment h Marking is = keeps.marks r.moment turn_size r.tally (law, moment) is h
-  turned_kept r law moment h Waiting is = polled_kept r.moment r.tally law moment is h (first_open r.moment.core)
-  turned_kept r law moment h Evacuating is =
-      let w = walked r.moment turn_size in ended_kept true P keeps w (plus r.tally w.tally) (keeps.walks r.moment turn_size r.tally law moment is h)
+  turned_kept : (r : Turned) → Law r.moment.core → MomentLaw r.moment → r.moment.copying ≡ false → P r.moment r.tally → (phase : Phase) → r.moment.phase ≡ phase → P (turned r phase).moment (turned r phase).tally
+  turned_kept r law moment alone h Idle is = h
+  turned_kept r law moment alone h Marking is = keeps.marks r.moment turn_size r.tally (law, moment) is h
+  turned_kept r law moment alone h Waiting is = polled_kept r.moment r.tally law moment is h (first_open r.moment.core)
+  turned_kept r law moment alone h Evacuating is =
+      let w = walked r.moment turn_size in ended_kept true P keeps w (plus r.tally w.tally) (keeps.walks r.moment turn_size r.tally law moment alone is h)
 
-  pub turns_kept_exactly : (m : Moment) (n : ℕ) → Law m.core → MomentLaw m → is_idle m.phase ≡ false → P m nothing → P (turns_made m n).moment (turns_made m n).tally
-  turns_kept_exactly m n law moment runs h = through_turns (λ k r. P r.moment r.tally) m law moment runs h (λ k r over h. h) (λ k r law moment goes h. turned_kept r law moment h r.moment.phase refl) n
+  pub turns_kept_exactly : (m : Moment) (n : ℕ) → Law m.core → MomentLaw m → m.copying ≡ false → is_idle m.phase ≡ false → P m nothing → P (turns_made m n).moment (turns_made m n).tally
+  turns_kept_exactly m n law moment alone runs h = through_turns (λ k r. P r.moment r.tally) m law moment alone runs h (λ k r over h. h) (λ k r law moment alone goes h. turned_kept r law moment alone h r.moment.phase refl) n
 
 -- what turns keep, a whole round keeps from its begin on
-pub round_kept_exactly : (P : Moment → Type 0) → ((m : Moment) (n : ℕ) → Law m.core → MomentLaw m → is_idle m.phase ≡ false → P m → P (turns_made m n).moment) →
-    (m : Moment) (logs : List ℕ) (turns : ℕ) (end : RoundEnd) (t : Moment) → Law m.core → MomentLaw m → is_idle m.phase ≡ true → is_spent m.core ≡ false → IsDistinct eqb logs →
+pub round_kept_exactly : (P : Moment → Type 0) → ((m : Moment) (n : ℕ) → Law m.core → MomentLaw m → m.copying ≡ false → is_idle m.phase ≡ false → P m → P (turns_made m n).moment) →
+    (m : Moment) (logs : List ℕ) (turns : ℕ) (end : RoundEnd) (t : Moment) → Law m.core → MomentLaw m → m.copying ≡ false → is_idle m.phase ≡ true → is_spent m.core ≡ false → IsDistinct eqb logs →
     ((l : ℕ) → among logs l ≡ true → among m.order l ≡ true) → IsRound m logs turns end t → P (after_selecting m logs) → P t
-round_kept_exactly P keeps m [] turns end t law moment idle left once of_order is h = subst P (sym is.1) h
-round_kept_exactly P keeps m (l ∷ ls) turns end t law moment idle left once of_order is h =
-    let begun = selecting m (l ∷ ls) law moment idle left once of_order in subst P (sym is.1) (keeps (after_selecting m (l ∷ ls)) turns begun.law begun.moment refl h)
+round_kept_exactly P keeps m [] turns end t law moment alone idle left once of_order is h = subst P (sym is.1) h
+round_kept_exactly P keeps m (l ∷ ls) turns end t law moment alone idle left once of_order is h =
+    let begun = selecting m (l ∷ ls) law moment idle left once of_order in subst P (sym is.1) (keeps (after_selecting m (l ∷ ls)) turns begun.law begun.moment alone refl h)

@@ -27,7 +27,9 @@ use Rattle.far_evac.specs.Ready.{Ready}
 use Rattle.far_evac.specs.RoundSteps.{among}
 use Rattle.far_evac.specs.Standing.{InRound, LiesFrom, collection_in}
 use Rattle.far_evac.specs.Walk.{Walked, Way, Goes, dealt_as, dealt_so, way_of}
+use Rattle.far_evac.proofs.Framed.{framed, so_one}
 use Rattle.far_evac.proofs.Fronts.{first_lives}
+use Rattle.far_evac.proofs.HeldJobs.{KeepsJobs, jobs_more, keeps_named, knows_jobs}
 use Rattle.far_evac.proofs.Keeping.{KeepsLogs, bounded_kept, keeps_known, keeps_more, keeps_sealed, round_kept}
 use Rattle.far_evac.proofs.LiveLists.{finds_place, knows_live}
 use Rattle.far_evac.proofs.Passing.{boundary_known, one_or_behind}
@@ -96,6 +98,11 @@ module _ (s t : State) (r : Round) (in_round : InRound s r) (walks : r.phase ≡
         | inr other ↦ next.others p len ds place was.0 was.1 log other
       ]
 
+  pub jobs_on : KeepsJobs s t
+  jobs_on = jobs_more s (core_by s span.p way) t
+      (keeps_named s (core_by s span.p way) law (sealed_kept s span.p q law evac leaves.word leaves.found way refl) (subst (λ (u : State). u ≡ framed s u) (so_by s span.p way) (so_one s span.p way).frame))
+      (knows_jobs (core_by s span.p way) t leaves.core)
+
   pub walks_on : (size : ℕ) → size ≡ size_of span.len → InRound t (record r { at = span.at + size })
   walks_on size e = subst (λ n. InRound t (record r { at = span.at + n })) (sym e)
       (stands_at t r (round_kept s t r keeps in_round) then walks next.log next.more next.front (span.at + size_of span.len)
@@ -103,33 +110,33 @@ module _ (s t : State) (r : Round) (in_round : InRound s r) (walks : r.phase ≡
 
 -- ---- and is counted
 dealt_way : (w : Walked) (t : Moment) (tally : Tally) (p : ℕ) (fate : Fate) (way : Way) → Knows (core_by w.moment.core p way) t.core → t.order ≡ order_by w.moment.core w.moment.order way → fate ≡ fate_by way →
-    t.phase ≡ w.moment.phase → t.collection ≡ w.moment.collection → tally ≡ counted_as w.tally fate → KnowsWalked (dealt_so w p way) (record { moment = t; tally = tally })
-dealt_way w t tally p fate Goes core order is phase held counted = record {
-  moment = record { core = core; rest = λ i. record { core = t.core; order = order i; phase = phase i; collection = held i } };
+    t.phase ≡ w.moment.phase → t.collection ≡ w.moment.collection → t.copying ≡ w.moment.copying → tally ≡ counted_as w.tally fate → KnowsWalked (dealt_so w p way) (record { moment = t; tally = tally })
+dealt_way w t tally p fate Goes core order is phase held copies counted = record {
+  moment = record { core = core; rest = λ i. record { core = t.core; order = order i; phase = phase i; collection = held i; copying = copies i } };
   tally = counted ∙ ap (counted_as w.tally) is;
 }
-dealt_way w t tally p fate _ core order is phase held counted = record {
-  moment = record { core = core; rest = λ i. record { core = t.core; order = order i; phase = phase i; collection = held i } };
+dealt_way w t tally p fate _ core order is phase held copies counted = record {
+  moment = record { core = core; rest = λ i. record { core = t.core; order = order i; phase = phase i; collection = held i; copying = copies i } };
   tally = counted ∙ ap (counted_as w.tally) is;
 }
 
-pub dealt_known : (w : Walked) (t : Moment) (tally : Tally) (p : ℕ) (fate : Fate) (leaves : LeavesBy w.moment.core w.moment.order t.core t.order p fate) → t.phase ≡ w.moment.phase → t.collection ≡ w.moment.collection →
+pub dealt_known : (w : Walked) (t : Moment) (tally : Tally) (p : ℕ) (fate : Fate) (leaves : LeavesBy w.moment.core w.moment.order t.core t.order p fate) → t.phase ≡ w.moment.phase → t.collection ≡ w.moment.collection → t.copying ≡ w.moment.copying →
     tally ≡ counted_as w.tally fate → KnowsWalked (dealt_as w p (read_of leaves.word)) (record { moment = t; tally = tally })
-dealt_known w t tally p fate leaves phase held counted =
-    dealt_way w t tally p fate (way_of w.moment.core (read_of leaves.word)) leaves.core leaves.sealed leaves.is phase held counted
+dealt_known w t tally p fate leaves phase held copies counted =
+    dealt_way w t tally p fate (way_of w.moment.core (read_of leaves.word)) leaves.core leaves.sealed leaves.is phase held copies counted
 
 -- ---- the same, where no word changes but by this
 exact_way : (w v : Walked) (p : ℕ) (fate : Fate) (way : Way) → v.moment.core ≡ core_by w.moment.core p way → v.moment.order ≡ order_by w.moment.core w.moment.order way → fate ≡ fate_by way →
-    v.moment.phase ≡ w.moment.phase → v.moment.collection ≡ w.moment.collection → v.tally ≡ counted_as w.tally fate → v ≡ dealt_so w p way
-exact_way w v p fate Goes core order is phase held counted = λ i. record {
-  moment = record { core = core i; order = order i; phase = phase i; collection = held i };
+    v.moment.phase ≡ w.moment.phase → v.moment.collection ≡ w.moment.collection → v.moment.copying ≡ w.moment.copying → v.tally ≡ counted_as w.tally fate → v ≡ dealt_so w p way
+exact_way w v p fate Goes core order is phase held copies counted = λ i. record {
+  moment = record { core = core i; order = order i; phase = phase i; collection = held i; copying = copies i };
   tally = (counted ∙ ap (counted_as w.tally) is) i;
 }
-exact_way w v p fate _ core order is phase held counted = λ i. record {
-  moment = record { core = core i; order = order i; phase = phase i; collection = held i };
+exact_way w v p fate _ core order is phase held copies counted = λ i. record {
+  moment = record { core = core i; order = order i; phase = phase i; collection = held i; copying = copies i };
   tally = (counted ∙ ap (counted_as w.tally) is) i;
 }
 
-pub dealt_exact : (w v : Walked) (p word : ℕ) (fate : Fate) → LeavesAs w.moment.core w.moment.order v.moment.core v.moment.order p word fate → v.moment.phase ≡ w.moment.phase → v.moment.collection ≡ w.moment.collection →
+pub dealt_exact : (w v : Walked) (p word : ℕ) (fate : Fate) → LeavesAs w.moment.core w.moment.order v.moment.core v.moment.order p word fate → v.moment.phase ≡ w.moment.phase → v.moment.collection ≡ w.moment.collection → v.moment.copying ≡ w.moment.copying →
     v.tally ≡ counted_as w.tally fate → v ≡ dealt_as w p (read_of word)
-dealt_exact w v p word fate leaves phase held counted = exact_way w v p fate (way_of w.moment.core (read_of word)) leaves.core leaves.sealed leaves.is phase held counted
+dealt_exact w v p word fate leaves phase held copies counted = exact_way w v p fate (way_of w.moment.core (read_of word)) leaves.core leaves.sealed leaves.is phase held copies counted

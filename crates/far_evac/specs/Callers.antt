@@ -9,7 +9,8 @@ use Rattle.far_core.specs.events.Naming.{is_dropped}
 use Rattle.far_core.specs.state.Law.{Law}
 use Rattle.far_core.specs.state.Room.{room}
 use Rattle.far_core.specs.state.State.{State}
-use Rattle.far_hand.specs.Owners.{OwnersChange}
+use Rattle.far_hand.specs.Masked.{AllFindJobs}
+use Rattle.far_hand.specs.Others.{OthersChange}
 use Rattle.far_book.specs.book.Ages.{SealsBehind}
 use Rattle.far_book.specs.book.Dealing.{goal, moved_now, order_moved}
 use Rattle.far_hand.specs.Quiet.{IsQuietNear}
@@ -17,9 +18,10 @@ use Rattle.far_book.specs.book.Effects.{fetched, order_after, placed, retired}
 use Rattle.far_book.specs.book.Fetching.{IsFar, room_for}
 use Rattle.far_evac.specs.Moment.{Moment, with_core}
 use Rattle.far_evac.specs.MomentLaw.{MomentLaw}
+use Rattle.far_evac.specs.Strays.{NoneComes}
 
--- from s to t the round is left alone: its logs, its epoch and who was seen clear stay, the jobs' words too, and each sealed log stays sealed. Another log may have been
--- opened; then the one that was open is sealed, and no third log has changed its kind
+-- from s to t the round is left alone: its logs, its epoch and who was seen clear stay, and each sealed log stays sealed. Copiers may have gone on with jobs, and nobody has offered or emptied
+-- one. Another log may have been opened; then the one that was open is sealed, and no third log has changed its kind
 pub record StepsAside (s t : State) : Type 0 where
   pub mutators : t.mutators ≡ s.mutators
   pub logs : t.logs ≡ s.logs
@@ -27,14 +29,15 @@ pub record StepsAside (s t : State) : Type 0 where
   pub round : t.round ≡ s.round
   pub round_epoch : t.round_epoch ≡ s.round_epoch
   pub clear : t.clear ≡ s.clear
-  pub jobs : t.copying.word ≡ s.copying.word
+  pub jobs : AllFindJobs s.copying.word t.copying.word
+  pub since : t.copying.since ≡ s.copying.since
   pub stay : (l : ℕ) → s.kind l ≡ Sealed → t.kind l ≡ Sealed
   pub others : (l : ℕ) → l ≢ s.current → l ≢ t.current → t.kind l ≡ s.kind l
   pub shut : t.current ≢ s.current → t.kind s.current ≡ Sealed
 
--- such a step keeps what is true between two calls
+-- such a step keeps what is true between two calls; where copies may be offered, if nothing comes to lie in a log of the round
 abbrev pub StepsKeep : Type 0
-StepsKeep = (m : Moment) (t : State) → Law m.core → MomentLaw m → Law t → StepsAside m.core t → MomentLaw (with_core m t)
+StepsKeep = (m : Moment) (t : State) → Law m.core → MomentLaw m → Law t → StepsAside m.core t → (m.copying ≡ true → NoneComes m.core t) → MomentLaw (with_core m t)
 
 -- two such steps are one, unless both open another log
 abbrev pub StepsJoin : Type 0
@@ -43,12 +46,12 @@ StepsJoin = (s t u : State) → StepsAside s t → StepsAside t u → (t.current
 -- ---- which steps are such
 -- no log changes its kind, and the round and the jobs stay
 abbrev pub StillStepsAside : Type 0
-StillStepsAside = (s t : State) → t.mutators ≡ s.mutators → t.logs ≡ s.logs → t.epoch ≡ s.epoch → t.round ≡ s.round → t.round_epoch ≡ s.round_epoch → t.clear ≡ s.clear → t.copying.word ≡ s.copying.word →
+StillStepsAside = (s t : State) → t.mutators ≡ s.mutators → t.logs ≡ s.logs → t.epoch ≡ s.epoch → t.round ≡ s.round → t.round_epoch ≡ s.round_epoch → t.clear ≡ s.clear → t.copying ≡ s.copying →
     t.kind ≡ s.kind → t.current ≡ s.current → StepsAside s t
 
 -- whatever owners do
 abbrev pub OwnersStepAside : Type 0
-OwnersStepAside = (s t : State) → OwnersChange s t → StepsAside s t
+OwnersStepAside = (s t : State) → OthersChange s t → StepsAside s t
 
 -- a new object is placed where room is
 abbrev pub PlacingStepsAside : Type 0

@@ -50,7 +50,7 @@ TurnIsAllowed = (r : Turned) → r.over ≡ false → is_idle r.moment.phase ≡
 
 -- and with a whole round, whose turns begin at lawful moments: that is, of sealed logs, each once, while a later epoch is left
 abbrev pub RoundIsAllowed : Type 0
-RoundIsAllowed = (m : Moment) (l : ℕ) (ls : List ℕ) (turns : ℕ) → Law m.core → MomentLaw m → is_idle m.phase ≡ true → is_spent m.core ≡ false → IsDistinct eqb (l ∷ ls) →
+RoundIsAllowed = (m : Moment) (l : ℕ) (ls : List ℕ) (turns : ℕ) → Law m.core → MomentLaw m → m.copying ≡ false → is_idle m.phase ≡ true → is_spent m.core ≡ false → IsDistinct eqb (l ∷ ls) →
     ((k : ℕ) → among (l ∷ ls) k ≡ true → among m.order k ≡ true) →
     let r = turns_made (after_selecting m (l ∷ ls)) turns in RunsRound m (l ∷ ls) turns (round_end r) r.moment
 

@@ -20,6 +20,8 @@ pub record Leads (m t : Moment) : Type 0 where
   pub reached : Reached m.core t.core
   pub law : Law t.core
   pub moment : MomentLaw t
+  -- whether copies may be offered stays
+  pub copying : t.copying ≡ m.copying
 
 -- a choice of sealed logs, each once, while a later epoch is left
 abbrev pub SelectingLeads : Type 0
@@ -45,12 +47,12 @@ pub record WalkLeads (m : Moment) (w : Walked) : Type 0 where
   pub answer : Leads m (ended w)
 
 abbrev pub WalkingLeads : Type 0
-WalkingLeads = (m : Moment) (n : ℕ) → Law m.core → MomentLaw m → m.phase ≡ Evacuating → WalkLeads m (walked m n)
+WalkingLeads = (m : Moment) (n : ℕ) → Law m.core → MomentLaw m → m.copying ≡ false → m.phase ≡ Evacuating → WalkLeads m (walked m n)
 
 -- so many turns of a running round, and a whole round of sealed logs, each once
 abbrev pub TurnsLead : Type 0
-TurnsLead = (m : Moment) (n : ℕ) → Law m.core → MomentLaw m → is_idle m.phase ≡ false → Leads m (turns_made m n).moment
+TurnsLead = (m : Moment) (n : ℕ) → Law m.core → MomentLaw m → m.copying ≡ false → is_idle m.phase ≡ false → Leads m (turns_made m n).moment
 
 abbrev pub RoundLeads : Type 0
-RoundLeads = (m : Moment) (logs : List ℕ) (turns : ℕ) (end : RoundEnd) (t : Moment) → Law m.core → MomentLaw m → is_idle m.phase ≡ true → is_spent m.core ≡ false → IsDistinct eqb logs →
+RoundLeads = (m : Moment) (logs : List ℕ) (turns : ℕ) (end : RoundEnd) (t : Moment) → Law m.core → MomentLaw m → m.copying ≡ false → is_idle m.phase ≡ true → is_spent m.core ≡ false → IsDistinct eqb logs →
     ((l : ℕ) → among logs l ≡ true → among m.order l ≡ true) → IsRound m logs turns end t → Leads m t

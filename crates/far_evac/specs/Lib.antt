@@ -24,6 +24,7 @@ pub mod Refusals
 pub mod RoundAsked
 pub mod RoundSteps
 pub mod Standing
+pub mod StillCopies
 pub mod Stops
 pub mod Strays
 pub mod TakesRoom

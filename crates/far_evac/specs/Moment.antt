@@ -15,6 +15,8 @@ pub record Moment : Type 0 where
   pub phase : Phase
   -- the chosen logs that weren't given back in this round, in the order in which they were chosen
   pub collection : List ℕ
+  -- whether copies may be offered to copiers
+  pub copying : Bool
 
 -- a span was placed there, and this is the core then
 abbrev pub with_placed : Moment → Place → State → Moment

@@ -1,6 +1,7 @@
 -- What is true of a heap between two calls of the evacuator, beside the law of its core.
 use Rattle.std.specs.Prelude.{◌≡◌, ℕ, ◌+◌, ◌<◌, Bool, true, false, eqb}
 use Rattle.std.specs.List.{IsDistinct}
+use Rattle.far_word.specs.declared.job.Job.{Job}
 use Rattle.far_word.specs.declared.sizes.TheConstants.{EPOCH_END}
 use Rattle.far_core.specs.declared.event.Kind.TheVariants.{Sealed}
 use Rattle.far_core.specs.events.Mark.{is_sealed}
@@ -11,6 +12,7 @@ use Rattle.far_evac.specs.declared.phase.Phase.TheVariants.{Idle, Marking, Waiti
 use Rattle.far_evac.specs.Live.{is_empty}
 use Rattle.far_evac.specs.Moment.{Moment}
 use Rattle.far_evac.specs.RoundSteps.{among}
+use Rattle.far_evac.specs.StillCopies.{StillCopies}
 
 abbrev pub is_idle : Phase → Bool
 is_idle Idle = true
@@ -46,8 +48,10 @@ pub record MomentLaw (m : Moment) : Type 0 where
   pub clear : m.phase ≡ Evacuating → (k : ℕ) → k < m.core.mutators → m.core.clear k ≡ true
   -- while objects are marked there is a later epoch
   pub later : m.phase ≡ Marking → m.core.epoch + 1 < EPOCH_END
-  -- nothing is copied beside it
-  pub alone : HasNoJob m.core
+  -- unless copies may be offered, there is no job
+  pub alone : m.copying ≡ false → HasNoJob m.core
+  -- a job that isn't void copies from a log of the collection set, while objects leave
+  pub held : (j : ℕ) (job : Job) → StillCopies m.core j job → (m.phase ≡ Evacuating) × (among m.collection job.from.log ≡ true)
 
 -- over any hand: this, and of the core's law the book's part
 abbrev pub IsLawful : Moment → Type 0

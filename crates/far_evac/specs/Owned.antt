@@ -53,17 +53,17 @@ pub record WalkKeepsObjects (m : Moment) (w : Walked) : Type 0 where
   pub answer : KeepsObjects m.core (ended w).core
 
 abbrev pub WalkingKeepsObjects : Type 0
-WalkingKeepsObjects = (m : Moment) (n : ℕ) → Law m.core → MomentLaw m → m.phase ≡ Evacuating → WalkKeepsObjects m (walked m n)
+WalkingKeepsObjects = (m : Moment) (n : ℕ) → Law m.core → MomentLaw m → m.copying ≡ false → m.phase ≡ Evacuating → WalkKeepsObjects m (walked m n)
 
 abbrev pub AbortingKeepsObjects : Type 0
 AbortingKeepsObjects = (m : Moment) → Law m.core → MomentLaw m → KeepsObjects m.core (after_aborting m).core
 
 abbrev pub TurnsKeepObjects : Type 0
-TurnsKeepObjects = (m : Moment) (n : ℕ) → Law m.core → MomentLaw m → is_idle m.phase ≡ false → KeepsObjects m.core (turns_made m n).moment.core
+TurnsKeepObjects = (m : Moment) (n : ℕ) → Law m.core → MomentLaw m → m.copying ≡ false → is_idle m.phase ≡ false → KeepsObjects m.core (turns_made m n).moment.core
 
 -- a whole round of sealed logs, each once
 abbrev pub RoundKeepsObjects : Type 0
-RoundKeepsObjects = (m : Moment) (logs : List ℕ) (turns : ℕ) (end : RoundEnd) (t : Moment) → Law m.core → MomentLaw m → is_idle m.phase ≡ true → is_spent m.core ≡ false → IsDistinct eqb logs →
+RoundKeepsObjects = (m : Moment) (logs : List ℕ) (turns : ℕ) (end : RoundEnd) (t : Moment) → Law m.core → MomentLaw m → m.copying ≡ false → is_idle m.phase ≡ true → is_spent m.core ≡ false → IsDistinct eqb logs →
     ((l : ℕ) → among logs l ≡ true → among m.order l ≡ true) → IsRound m logs turns end t → KeepsObjects m.core t.core
 
 -- no owner has dropped an object that isn't retired yet
@@ -72,7 +72,7 @@ NoneDropped s = (p : ℕ) → is_dropped (read_of (s.cell p)) ≡ false
 
 -- then a walk retires none, nor do turns
 abbrev pub WalkRetiresNone : Type 0
-WalkRetiresNone = (m : Moment) (n : ℕ) → Law m.core → MomentLaw m → m.phase ≡ Evacuating → NoneDropped m.core → (walked m n).tally.dropped ≡ 0
+WalkRetiresNone = (m : Moment) (n : ℕ) → Law m.core → MomentLaw m → m.copying ≡ false → m.phase ≡ Evacuating → NoneDropped m.core → (walked m n).tally.dropped ≡ 0
 
 abbrev pub TurnsRetireNone : Type 0
-TurnsRetireNone = (m : Moment) (n : ℕ) → Law m.core → MomentLaw m → is_idle m.phase ≡ false → NoneDropped m.core → (turns_made m n).tally.dropped ≡ 0
+TurnsRetireNone = (m : Moment) (n : ℕ) → Law m.core → MomentLaw m → m.copying ≡ false → is_idle m.phase ≡ false → NoneDropped m.core → (turns_made m n).tally.dropped ≡ 0

@@ -1,6 +1,7 @@
 -- What is true of the record that an evacuator keeps of its round.
-use Rattle.std.specs.Prelude.{◌≡◌, ℕ, ◌+◌, ◌<◌, ◌≤◌, true, false, Some, List, [], ◌∷◌, length, take, drop, eqb}
+use Rattle.std.specs.Prelude.{◌≡◌, ℕ, ◌+◌, ◌<◌, ◌≤◌, Bool, true, false, Some, List, [], ◌∷◌, length, take, drop, eqb}
 use Rattle.std.specs.List.{IsDistinct}
+use Rattle.far_word.specs.declared.job.Job.{Job}
 use Rattle.far_word.specs.declared.mark.Marks.{Marks}
 use Rattle.far_word.specs.declared.pointer.Place.{Place}
 use Rattle.far_word.specs.declared.pointer.PtrWord.TheVariants.{Near}
@@ -9,12 +10,14 @@ use Rattle.far_word.specs.Pointer.{read_of}
 use Rattle.far_core.specs.declared.event.Kind.TheVariants.{Sealed}
 use Rattle.far_core.specs.state.State.{State}
 use Rattle.far_book.specs.book.NextLive.{IsBoundary}
+use Rattle.far_book.specs.book.Own.{HasNoJob}
 use Rattle.far_evac.specs.declared.phase.Phase.{Phase}
 use Rattle.far_evac.specs.declared.phase.Phase.TheVariants.{Idle, Marking, Waiting, Evacuating}
 use Rattle.far_evac.specs.declared.round.Round.{Round}
 use Rattle.far_evac.specs.Live.{is_empty}
 use Rattle.far_evac.specs.MomentLaw.{has_risen, is_idle}
 use Rattle.far_evac.specs.RoundSteps.{among}
+use Rattle.far_evac.specs.StillCopies.{StillCopies}
 
 -- the chosen logs that weren't given back: while objects leave, those from where the walk stands
 abbrev pub collection_of : Phase → List ℕ → ℕ → List ℕ
@@ -64,3 +67,16 @@ pub record Stands (s : State) (r : Round) : Type 0 where
 pub record InRound (s : State) (r : Round) : Type 0 where
   pub holds : Holds s r.phase (collection_in r)
   pub stands : Stands s r
+
+-- unless copies may be offered there is no job; one that isn't void copies from a log of the collection set, while objects leave
+pub record HoldsJobs (s : State) (copying : Bool) (phase : Phase) (collection : List ℕ) : Type 0 where
+  pub alone : copying ≡ false → HasNoJob s
+  pub held : (j : ℕ) (job : Job) → StillCopies s j job → (phase ≡ Evacuating) × (among collection job.from.log ≡ true)
+
+-- what is true of an evacuator: its round stands, and its jobs are held; over a hand that is still it offers no copies
+pub record IsSound (still : Type 0) (s : State) (copying : Bool) (r : Round) : Type 0 where
+  pub round : InRound s r
+  pub jobs : HoldsJobs s copying r.phase (collection_in r)
+  pub exact : still → copying ≡ false
+  -- nothing is offered yet
+  pub plain : copying ≡ false

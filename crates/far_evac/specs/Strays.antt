@@ -11,7 +11,7 @@ use Rattle.far_core.specs.events.Ranges.{after_events}
 use Rattle.far_core.specs.events.Step.{Fits}
 use Rattle.far_core.specs.state.Law.{Law}
 use Rattle.far_core.specs.state.State.{State}
-use Rattle.far_hand.specs.Owners.{OwnersChange}
+use Rattle.far_hand.specs.Others.{OthersChange}
 use Rattle.far_book.specs.book.Own.{own_part}
 use Rattle.far_evac.specs.declared.answers.Polled.{Polled}
 use Rattle.far_evac.specs.declared.answers.Progress.{Progress}
@@ -51,16 +51,16 @@ abbrev pub PollingStraysNone : Type 0
 PollingStraysNone = (m : Moment) → NoneStrays m → NoneStrays (after_polling m)
 
 abbrev pub WalkingStraysNone : Type 0
-WalkingStraysNone = (m : Moment) (n : ℕ) → Law m.core → MomentLaw m → m.phase ≡ Evacuating → NoneStrays (ended (walked m n))
+WalkingStraysNone = (m : Moment) (n : ℕ) → Law m.core → MomentLaw m → m.copying ≡ false → m.phase ≡ Evacuating → NoneStrays (ended (walked m n))
 
 abbrev pub AbortingStraysNone : Type 0
 AbortingStraysNone = (m : Moment) → Law m.core → NoneStrays m → NoneStrays (after_aborting m)
 
 abbrev pub TurnsStrayNone : Type 0
-TurnsStrayNone = (m : Moment) (n : ℕ) → Law m.core → MomentLaw m → is_idle m.phase ≡ false → NoneStrays m → NoneStrays (turns_made m n).moment
+TurnsStrayNone = (m : Moment) (n : ℕ) → Law m.core → MomentLaw m → m.copying ≡ false → is_idle m.phase ≡ false → NoneStrays m → NoneStrays (turns_made m n).moment
 
 abbrev pub RoundStraysNone : Type 0
-RoundStraysNone = (m : Moment) (logs : List ℕ) (turns : ℕ) (end : RoundEnd) (t : Moment) → Law m.core → MomentLaw m → is_idle m.phase ≡ true → is_spent m.core ≡ false → IsDistinct eqb logs →
+RoundStraysNone = (m : Moment) (logs : List ℕ) (turns : ℕ) (end : RoundEnd) (t : Moment) → Law m.core → MomentLaw m → m.copying ≡ false → is_idle m.phase ≡ true → is_spent m.core ≡ false → IsDistinct eqb logs →
     ((l : ℕ) → among logs l ≡ true → among m.order l ≡ true) → IsRound m logs turns end t → NoneStrays m → NoneStrays t
 
 -- ---- the same over any hand
@@ -100,7 +100,7 @@ ComersJoin = (s t u : State) → NoneComes s t → NoneComes t u → NoneComes s
 
 -- whatever owners do while the book works
 abbrev pub OwnersBringNone : Type 0
-OwnersBringNone = (s t : State) → OwnersChange s t → NoneComes s t
+OwnersBringNone = (s t : State) → OthersChange s t → NoneComes s t
 
 -- and any row of events, an owner's or the book's, that leaves the epoch as it is
 abbrev pub EventsBringNone : Type 0

@@ -122,8 +122,8 @@ RoundTakesSome = (m t : Moment) (logs : List ℕ) (turns : ℕ) → Law (own_par
 
 -- so many turns of a running round, and a whole round of sealed logs, each once, where no word changes but by this
 abbrev pub TurnsTakeRoom : Type 0
-TurnsTakeRoom = (m : Moment) (n : ℕ) → Law m.core → MomentLaw m → is_idle m.phase ≡ false → TakesSome m (turns_made m n).moment
+TurnsTakeRoom = (m : Moment) (n : ℕ) → Law m.core → MomentLaw m → m.copying ≡ false → is_idle m.phase ≡ false → TakesSome m (turns_made m n).moment
 
 abbrev pub RoundTakesRoom : Type 0
-RoundTakesRoom = (m : Moment) (logs : List ℕ) (turns : ℕ) (end : RoundEnd) (t : Moment) → Law m.core → MomentLaw m → is_idle m.phase ≡ true → is_spent m.core ≡ false → IsDistinct eqb logs →
+RoundTakesRoom = (m : Moment) (logs : List ℕ) (turns : ℕ) (end : RoundEnd) (t : Moment) → Law m.core → MomentLaw m → m.copying ≡ false → is_idle m.phase ≡ true → is_spent m.core ≡ false → IsDistinct eqb logs →
     ((l : ℕ) → among logs l ≡ true → among m.order l ≡ true) → IsRound m logs turns end t → TakesSome (after_selecting m logs) t

@@ -4,7 +4,7 @@ ghost use Rattle.std.specs.Prelude.{◌≡◌, ℕ, [], false, true};
 ghost use Rattle.far_core.specs.state.Law.{Law};
 ghost use Rattle.far_core.specs.state.State.{State};
 ghost use Rattle.far_hand.specs.MayBe.{NoneViews, ViewsNone};
-ghost use Rattle.far_book.specs.book.Own.{own_part};
+ghost use Rattle.far_book.specs.book.Own.{HasNoJob, own_part};
 ghost use Rattle.far_evac.specs.declared.phase.Phase.TheVariants.{Evacuating, Idle};
 ghost use Rattle.far_evac.specs.EvacOf.{moment};
 ghost use Rattle.far_evac.specs.MomentLaw.{MomentLaw, has_risen};
@@ -34,25 +34,29 @@ use std::marker::Model;
 pub struct Evac<N: Near + Drop, D: Device + Drop> {
     book: Book<N, D>,
     round: Round,
+    // Whether hot objects are offered to copiers, while they leave.
+    copying: bool,
 }
 
 impl<N: Near + Drop, D: Device + Drop> Model for Evac<N, D> {
     ghost use Rattle.far_evac.specs.EvacOf.{EvacOf};
-    ghost use Rattle.far_evac.specs.Standing.{InRound, collection_in};
+    ghost use Rattle.far_evac.specs.Standing.{IsSound, collection_in};
 
     ghost Value = { EvacOf N D };
 
-    ghost view = { λ e. record { book = e.book; phase = e.round.phase; collection = collection_in e.round } };
+    ghost view = { λ e. record { book = e.book; phase = e.round.phase; collection = collection_in e.round; copying = e.copying } };
 
-    ghost invariant = { λ e. InRound (N.view e.book.near) e.round };
+    ghost invariant = { λ e. IsSound N.still (N.view e.book.near) e.copying e.round };
 }
 
 impl<N: Near + Drop, D: Device + Drop> Evac<N, D> {
-    /// An evacuator over a book, in no round.
+    /// An evacuator over a book, in no round. It leaves nothing to copiers.
     pub fn new(book: Book<N, D>) -> Evac<N, D>
+        requires alone { HasNoJob (N.view book.near) }
         ensures book { result.book ≡ book }
         ensures phase { result.phase ≡ Idle }
         ensures collection { result.collection ≡ [] }
+        ensures copying { result.copying ≡ false }
     {
         Evac {
             book,
@@ -63,6 +67,7 @@ impl<N: Near + Drop, D: Device + Drop> Evac<N, D> {
                 at: 0,
                 seen: 0,
             },
+            copying: false,
         }
     }
 
@@ -77,6 +82,7 @@ impl<N: Near + Drop, D: Device + Drop> Evac<N, D> {
     pub fn keeps_law(&self)
         ensures law { Law (own_part (N.view self.now.book.near)) }
         ensures moment { MomentLaw (moment N.view self.now) }
+        ensures exact { N.still → self.now.copying ≡ false }
     {
         self.book.keeps_law();
     }

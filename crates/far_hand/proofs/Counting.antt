@@ -7,7 +7,7 @@ use Rattle.far_core.specs.events.Get.{after_get}
 use Rattle.far_core.specs.state.State.{State, put}
 use Rattle.far_core.proofs.Put.{put_both, put_other, put_same}
 use Rattle.far_hand.specs.Finds.{Finds}
-use Rattle.far_hand.specs.Masked.{masked, AllFind, CountsOnRest, recounted}
+use Rattle.far_hand.specs.Masked.{AllFind, CountsOnRest, recounted}
 use Rattle.far_hand.specs.Quiet.{IsQuietAt, IsQuietBy, RestsAt}
 use Rattle.far_hand.proofs.Finding.{finds_same, near_found}
 use Rattle.far_hand.proofs.Masking.{moved_known, quiet_found}
@@ -59,7 +59,7 @@ module _ (s : State) (found : ℕ → ℕ) (counted : ℕ → Bool) where
       counts_one (l * LOG_WORDS + at) ∣ inl (subst (λ (x : ℕ × ℕ). s.tail x.0 ≤ x.1) (λ i. (sym log i, sym here i)) past) ∣₁
 
   -- after a read
-  pub counts_read : (l a : ℕ) (free quiet : Bool) → (quiet ≡ true → IsQuietAt (masked s found counted) a) → CountsOnRest s found counted →
+  pub counts_read : (l a : ℕ) (free quiet : Bool) → (quiet ≡ true → IsQuietAt (record s { cell = found }) a) → CountsOnRest s found counted →
       CountsOnRest (after_get s l free) found (recounted counted free quiet a)
   counts_read l a true quiet x counts = counts_none (after_get s l true) found
   counts_read l a false true x counts = counts_one a ∣ inr (x refl) ∣₁ counts

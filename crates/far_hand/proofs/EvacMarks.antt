@@ -1,5 +1,5 @@
 -- EVAC, set by the book in a cell beside owners.
-use Rattle.std.proofs.Common.{◌≡◌, ℕ, ◌+◌, ◌/◌, ◌^◌, Bool, true, false, Some, refl, sym, ap, ◌∙◌, bit_or}
+use Rattle.std.proofs.Common.{◌≡◌, ℕ, ◌/◌, ◌^◌, Bool, true, false, Some, refl, sym, ap, ◌∙◌, bit_or}
 use Rattle.std.specs.Prelude.{◌||◌, ◌&&◌}
 use Rattle.std.proofs.lemmas.Bool.{false≢true, true≢false, true_from_ne_false}
 use Rattle.far_word.specs.declared.mark.Mark.TheVariants.{Evac}
@@ -14,7 +14,7 @@ use Rattle.far_core.specs.events.Legal.{Legal}
 use Rattle.far_core.specs.state.Law.{Law}
 use Rattle.far_core.specs.state.State.{State, put}
 use Rattle.far_core.proofs.Put.{put_both}
-use Rattle.far_hand.specs.Masked.{masked, AllFind, CountsOnRest}
+use Rattle.far_hand.specs.Masked.{AllFind, CountsOnRest}
 use Rattle.far_hand.specs.Quiet.{IsQuietBy, is_quiet}
 use Rattle.far_hand.proofs.Counting.{rests_more}
 use Rattle.far_hand.proofs.Finding.{near_found}
@@ -32,7 +32,7 @@ loud_before false false moved r c h e = refl
 loud_before false true true r c h e = absurd (true≢false e)
 loud_before false true false r c h e = e
 
-module _ (s : State) (law : Law s) (found : ℕ → ℕ) (counted : ℕ → Bool) (finds : AllFind found s.cell) (p : ℕ) (legal : Legal (masked s found counted) (Mark p)) where
+module _ (s : State) (law : Law s) (found : ℕ → ℕ) (counted : ℕ → Bool) (finds : AllFind found s.cell) (p : ℕ) (legal : Legal (record s { cell = found }) (Mark p)) where
   -- what may be marked as it is known may be marked as it is
   pub legal_mark : Legal s (Mark p)
   legal_mark =

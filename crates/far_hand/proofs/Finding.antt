@@ -10,6 +10,7 @@ use Rattle.far_word.specs.declared.pointer.PtrWord.{PtrWord}
 use Rattle.far_word.specs.declared.pointer.PtrWord.TheVariants.{Free, Near, Far}
 use Rattle.far_word.specs.Mark.{marks_with}
 use Rattle.far_word.specs.Pointer.{read_of}
+use Rattle.far_core.specs.state.Jobs.{near_place}
 use Rattle.far_core.proofs.Cells.{map_mark}
 use Rattle.far_core.proofs.Marking.{is_owners}
 use Rattle.far_hand.specs.Finds.{Finds, body_of, marks_in}
@@ -81,6 +82,16 @@ pub some_found : (v w : ℕ) → Finds v w → IsSome (read_of v) → IsSome (re
 some_found v w f some = sym (some_body (read_of w)) ∙ (ap is_some f.body ∙ (some_body (read_of v) ∙ some))
 
 -- ---- a near object is found near, at the same place
+place_body : (o : Option PtrWord) → near_place (body_of o) ≡ near_place o
+place_body None = refl
+place_body (Some Free) = refl
+place_body (Some (Near len ds place m)) = refl
+place_body (Some (Far len ds m)) = refl
+
+-- what is found lies where what was known lay
+pub place_found : (v w : ℕ) → Finds v w → near_place (read_of v) ≡ near_place (read_of w)
+place_found v w f = sym (place_body (read_of v)) ∙ ap near_place (sym f.body) ∙ place_body (read_of w)
+
 pub record IsNearTo (o : Option PtrWord) (len ds : ℕ) (place : Place) (evac : Bool) : Type 0 where
   pub marks : Marks
   pub near : o ≡ Some (Near len ds place marks)

@@ -27,9 +27,9 @@ both_same true false v w x y f g one e = absurd (omega arith)
 both_same false true v w x y f g one e = absurd (omega arith)
 both_same false false v w x y f g one e = one (omega arith)
 
-module _ (s : State) (found : ℕ → ℕ) (counted : ℕ → Bool) where
+module _ (s : State) (found : ℕ → ℕ) (counted : ℕ → Bool) (jobs : ℕ → ℕ) where
   abbrev o : State
-  o = masked s found counted
+  o = masked s found counted jobs
 
   pub alike_words : Law s → (a b : ℕ) → o.word a ≡ o.word b → s.word a ≡ s.word b
   alike_words law a b e = both_same (s.starts a || counted a) (s.starts b || counted b) (s.word a) (s.word b) a b (law.spans.word_fits a) (law.spans.word_fits b) (ap s.word) e

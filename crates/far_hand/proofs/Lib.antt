@@ -2,12 +2,14 @@ pub mod Closure
 pub mod Counting
 pub mod EvacMarks
 pub mod Finding
+pub mod JobsFound
 pub mod Knowing
 pub mod Listing
 pub mod Making
 pub mod Masking
 pub mod Naming
-pub mod OwnersWork
+pub mod Offering
+pub mod OthersWork
 pub mod Quietness
 pub mod Reading
 pub mod RoundSteps

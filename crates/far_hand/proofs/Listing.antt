@@ -1,6 +1,6 @@
 -- A beset hand goes through its list, an event at each call.
 use Rattle.std.proofs.Common.{◌≡◌, ◌+◌, ℕ, zero, suc, Bool, true, false, List, [], ◌∷◌, drop, length, Option, Some, None, inl, inr, refl, sym, ap, ◌∙◌, subst, arith}
-use Rattle.std.specs.Prelude.{slice_get}
+use Rattle.std.specs.Prelude.{◌⊎◌, slice_get}
 use Rattle.std.proofs.Math.Seq.{drop-nil}
 use Rattle.std.proofs.lemmas.Bool.{false≢true}
 use Rattle.far_core.specs.declared.event.Event.{Event}
@@ -14,64 +14,70 @@ use Rattle.far_core.proofs.Owing.{is_fact, is_test}
 use Rattle.far_hand.specs.declared.beset.Beset.{Beset}
 use Rattle.far_hand.specs.BesetView.{TurnThen, next_event, passed}
 use Rattle.far_hand.specs.Came.{Runs}
-use Rattle.far_hand.specs.Listed.{ActOut, IsOfOwner, TakesTurn, events_left}
-use Rattle.far_hand.specs.Makers.{is_owners}
+use Rattle.far_hand.specs.Listed.{ActOut, IsOfCopier, IsOfOwner, TakesTurn, events_left}
+use Rattle.far_hand.specs.Makers.{is_others}
 use Rattle.far_hand.specs.MayBe.{Made}
-use Rattle.far_hand.specs.Owners.{after_turn}
+use Rattle.far_hand.specs.Others.{after_turn}
 
 -- ---- whose an event is
-own_so : (e : Event) → IsOfOwner e → is_owners e ≡ true
-own_so e of = elim of [
-  | inl x ↦ ap is_owners x.1
-  | inr (inl x) ↦ ap is_owners x.1
-  | inr (inr (inl x)) ↦ ap is_owners x.1
-  | inr (inr (inr (inl x))) ↦ ap is_owners x.2
-  | inr (inr (inr (inr (inl x)))) ↦ ap is_owners x.3
-  | inr (inr (inr (inr (inr (inl x))))) ↦ ap is_owners x.4
-  | inr (inr (inr (inr (inr (inr (inl x)))))) ↦ ap is_owners x.2
-  | inr (inr (inr (inr (inr (inr (inr x)))))) ↦ ap is_owners x.3
+other_so : (e : Event) → IsOfOwner e ⊎ IsOfCopier e → is_others e ≡ true
+other_so e of = elim of [
+  | inl (inl x) ↦ ap is_others x.1
+  | inl (inr (inl x)) ↦ ap is_others x.1
+  | inl (inr (inr (inl x))) ↦ ap is_others x.1
+  | inl (inr (inr (inr (inl x)))) ↦ ap is_others x.2
+  | inl (inr (inr (inr (inr (inl x))))) ↦ ap is_others x.3
+  | inl (inr (inr (inr (inr (inr (inl x)))))) ↦ ap is_others x.4
+  | inl (inr (inr (inr (inr (inr (inr (inl x))))))) ↦ ap is_others x.2
+  | inl (inr (inr (inr (inr (inr (inr (inr x))))))) ↦ ap is_others x.3
+  | inr (inl x) ↦ ap is_others x.2
+  | inr (inr (inl x)) ↦ ap is_others x.3
+  | inr (inr (inr (inl x))) ↦ ap is_others x.1
+  | inr (inr (inr (inr (inl x)))) ↦ ap is_others x.2
+  | inr (inr (inr (inr (inr (inl x))))) ↦ ap is_others x.2
+  | inr (inr (inr (inr (inr (inr x))))) ↦ ap is_others x.1
 ]
 
-so_own : (e : Event) → is_owners e ≡ true → IsOfOwner e
-so_own (ReadEpoch m) h = inl (m, refl)
-so_own (Open m) h = inr (inl (m, refl))
-so_own (Close m) h = inr (inr (inl (m, refl)))
-so_own (Pin m p) h = inr (inr (inr (inl (m, p, refl))))
-so_own (Load m p i) h = inr (inr (inr (inr (inl (m, p, i, refl)))))
-so_own (Store m p i w) h = inr (inr (inr (inr (inr (inl (m, p, i, w, refl))))))
-so_own (Adopt m p) h = inr (inr (inr (inr (inr (inr (inl (m, p, refl)))))))
-so_own (Ask m p k) h = inr (inr (inr (inr (inr (inr (inr (m, p, k, refl)))))))
-so_own (Put l at w) h = absurd (false≢true h)
-so_own (Name p old new) h = absurd (false≢true h)
-so_own (See p) h = absurd (false≢true h)
-so_own (Mark p) h = absurd (false≢true h)
-so_own (Clear p) h = absurd (false≢true h)
-so_own (Get l at free) h = absurd (false≢true h)
-so_own (Advance logs) h = absurd (false≢true h)
-so_own (Look m) h = absurd (false≢true h)
-so_own (Offer j p to) h = absurd (false≢true h)
-so_own (PeekJob c j) h = absurd (false≢true h)
-so_own (SeeJob j) h = absurd (false≢true h)
-so_own (Claim c j old) h = absurd (false≢true h)
-so_own (ReadLength c) h = absurd (false≢true h)
-so_own (Read c i) h = absurd (false≢true h)
-so_own (Write c i) h = absurd (false≢true h)
-so_own (Finish c) h = absurd (false≢true h)
-so_own (Collect j old) h = absurd (false≢true h)
+so_other : (e : Event) → is_others e ≡ true → IsOfOwner e ⊎ IsOfCopier e
+so_other (ReadEpoch m) h = inl (inl (m, refl))
+so_other (Open m) h = inl (inr (inl (m, refl)))
+so_other (Close m) h = inl (inr (inr (inl (m, refl))))
+so_other (Pin m p) h = inl (inr (inr (inr (inl (m, p, refl)))))
+so_other (Load m p i) h = inl (inr (inr (inr (inr (inl (m, p, i, refl))))))
+so_other (Store m p i w) h = inl (inr (inr (inr (inr (inr (inl (m, p, i, w, refl)))))))
+so_other (Adopt m p) h = inl (inr (inr (inr (inr (inr (inr (inl (m, p, refl))))))))
+so_other (Ask m p k) h = inl (inr (inr (inr (inr (inr (inr (inr (m, p, k, refl))))))))
+so_other (PeekJob c j) h = inr (inl (c, j, refl))
+so_other (Claim c j old) h = inr (inr (inl (c, j, old, refl)))
+so_other (ReadLength c) h = inr (inr (inr (inl (c, refl))))
+so_other (Read c i) h = inr (inr (inr (inr (inl (c, i, refl)))))
+so_other (Write c i) h = inr (inr (inr (inr (inr (inl (c, i, refl))))))
+so_other (Finish c) h = inr (inr (inr (inr (inr (inr (c, refl))))))
+so_other (Put l at w) h = absurd (false≢true h)
+so_other (Name p old new) h = absurd (false≢true h)
+so_other (See p) h = absurd (false≢true h)
+so_other (Mark p) h = absurd (false≢true h)
+so_other (Clear p) h = absurd (false≢true h)
+so_other (Get l at free) h = absurd (false≢true h)
+so_other (Advance logs) h = absurd (false≢true h)
+so_other (Look m) h = absurd (false≢true h)
+so_other (Offer j p to) h = absurd (false≢true h)
+so_other (SeeJob j) h = absurd (false≢true h)
+so_other (Collect j old) h = absurd (false≢true h)
 
 -- ---- a turn
-made_turn : (s : State) (e : Event) → is_owners e ≡ true → is_legal s e ≡ true → after_turn s (Some e) ≡ after s e
+made_turn : (s : State) (e : Event) → is_others e ≡ true → is_legal s e ≡ true → after_turn s (Some e) ≡ after s e
 made_turn s e own legal = rw (own, legal) refl
 
-passed_turn : (s : State) (e : Event) (own legal : Bool) → is_owners e ≡ own → is_legal s e ≡ legal → ¬ ((own ≡ true) × (legal ≡ true)) → after_turn s (Some e) ≡ s
+passed_turn : (s : State) (e : Event) (own legal : Bool) → is_others e ≡ own → is_legal s e ≡ legal → ¬ ((own ≡ true) × (legal ≡ true)) → after_turn s (Some e) ≡ s
 passed_turn s e false legal o l never = rw o refl
 passed_turn s e true false o l never = rw (o, l) refl
 passed_turn s e true true o l never = absurd (never (refl, refl))
 
 takes_turn : (s : State) (e : Event) → Law s → TakesTurn s e (after_turn s (Some e))
 takes_turn s e law = record {
-  made = λ of legal. made_turn s e (own_so e of) (is_test s e legal);
-  passed = λ never. passed_turn s e (is_owners e) (is_legal s e) refl refl (λ h. never (so_own e h.0, is_fact s e law h.1));
+  made = λ of legal. made_turn s e (other_so e of) (is_test s e legal);
+  passed = λ never. passed_turn s e (is_others e) (is_legal s e) refl refl (λ h. never (so_other e h.0, is_fact s e law h.1));
 }
 
 -- ---- the list

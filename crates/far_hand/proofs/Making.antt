@@ -17,7 +17,7 @@ use Rattle.far_core.proofs.Owing.{is_fact, is_test}
 use Rattle.far_hand.specs.declared.beset.Beset.{Beset}
 use Rattle.far_hand.specs.BesetView.{beset_may_be, beset_view, core_may_be, turned}
 use Rattle.far_hand.specs.MayBe.{Made, Shows}
-use Rattle.far_hand.specs.Owners.{OwnersChange}
+use Rattle.far_hand.specs.Others.{OthersChange}
 
 abbrev with_answer : State → Reply → State × Reply
 with_answer s r = (s, r)
@@ -41,7 +41,7 @@ spent_made s t logs law same last =
 
 -- ---- over a beset hand
 -- after the owners' turn the core is as it might have been before the call
-pub turn_may_be : (hand later : Beset) → beset_view later ≡ beset_view hand → core_state later.core ≡ turned hand → OwnersChange (core_state hand.core) (core_state later.core) →
+pub turn_may_be : (hand later : Beset) → beset_view later ≡ beset_view hand → core_state later.core ≡ turned hand → OthersChange (core_state hand.core) (core_state later.core) →
     beset_may_be hand (turned hand)
 turn_may_be hand later view made change =
     let may : beset_may_be hand (core_state later.core) = record {

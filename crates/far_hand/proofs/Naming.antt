@@ -1,12 +1,13 @@
 -- What a beset hand knows after it has named a word, and why what is legal by its view is legal.
-use Rattle.std.proofs.Common.{◌≡◌, ◌≢◌, ℕ, ◌+◌, ◌-◌, ◌*◌, ◌^◌, ◌<◌, ◌≤◌, Bool, true, false, cond, nat_lt, Option, Some, None, refl, sym, ap, ◌∙◌, subst, arith}
-use Rattle.std.specs.Prelude.{◌||◌, ◌==◌}
-use Rattle.std.proofs.lemmas.Bool.{cond_both, eqb-true, eqb-false, eq-eqb, ne_eqb, ltb-true}
+use Rattle.std.proofs.Common.{◌≡◌, ◌≢◌, ℕ, ◌+◌, ◌-◌, ◌*◌, ◌^◌, ◌<◌, ◌≤◌, Bool, true, false, cond, nat_lt, Option, Some, None, inl, inr, refl, sym, ap, ◌∙◌, subst, arith}
+use Rattle.std.specs.Prelude.{◌⊎◌, ◌||◌, ◌==◌, is_some}
+use Rattle.std.proofs.lemmas.Bool.{cond_both, eqb-true, eqb-false, eq-eqb, false≢true, ne_eqb, ltb-true}
 use mathlib.Core.Path.{fun_ext}
 use Rattle.far_word.specs.declared.pointer.Place.{Place}
 use Rattle.far_word.specs.declared.pointer.PtrWord.TheVariants.{Near}
 use Rattle.far_word.specs.declared.sizes.TheConstants.{CELLS}
 use Rattle.far_word.specs.Header.{head_word}
+use Rattle.far_word.specs.Job.{job_of}
 use Rattle.far_word.specs.Pointer.{read_of}
 use Rattle.far_word.specs.Sizes.{words_for}
 use Rattle.far_word.proofs.HeaderLaws.{head_fits}
@@ -16,20 +17,26 @@ use Rattle.far_core.specs.declared.event.Reply.{Reply}
 use Rattle.far_core.specs.declared.event.Reply.TheVariants.{Done, Word}
 use Rattle.far_core.specs.declared.naming.Naming.{Naming}
 use Rattle.far_core.specs.declared.naming.Naming.TheVariants.{Places, Retires, Evicts, Stays, Moves, Fetches}
+use Rattle.far_core.specs.events.Copied.{IsCopied, WasCopied, copied_job}
 use Rattle.far_core.specs.events.Copies.{EndsPadded}
 use Rattle.far_core.specs.events.Legal.{Legal}
 use Rattle.far_core.specs.events.Name.{after_naming}
 use Rattle.far_core.specs.events.namings.Evicts.{with_kept}
+use Rattle.far_core.specs.events.namings.Moves.{MayMove, after_move}
 use Rattle.far_core.specs.events.Naming.{naming_of, IsNaming, naming_row, no_marks}
 use Rattle.far_core.specs.events.NewSpans.{IsNewSpan}
 use Rattle.far_core.specs.events.Step.{after, answer}
+use Rattle.far_core.specs.state.Jobs.{is_finished, job_said}
 use Rattle.far_core.specs.state.Law.{Law}
 use Rattle.far_core.specs.state.State.{State, addr, put}
+use Rattle.far_core.proofs.Copied.{copied_fact, copied_test, none_copied_there}
 use Rattle.far_core.proofs.KeepPlace.{header}
+use Rattle.far_core.proofs.MadeNamings.{unbegun}
 use Rattle.far_core.proofs.Namings.{naming_only}
 use Rattle.far_core.proofs.Put.{put_both}
 use Rattle.far_hand.specs.Known.{IsKnown, Forgets, KnowsLeaving}
-use Rattle.far_hand.specs.Masked.{masked, AllFind}
+use Rattle.far_hand.specs.Masked.{masked, AllFind, AllFindJobs}
+use Rattle.far_hand.proofs.Finding.{place_found}
 use Rattle.far_hand.proofs.Knowing.{alike_words, quiet_too, stored_too, stored_fits, few_bits}
 use Rattle.far_hand.proofs.Reading.{known_word, header_known, forgets}
 
@@ -51,6 +58,23 @@ module _ (s : State) (p old new : ℕ) where
   won_state form e n = ap (λ b. cond b (after_naming s p new (naming_of (read_of old) (read_of new))) s) (eq-eqb (s.cell p) old e)
       ∙ ap (after_naming s p new) (naming_only form (read_of old) (read_of new) n)
 
+-- a move takes a span, or names what was copied
+move_word : (s : State) (p new len : ℕ) (to : Place) (o : Option ℕ) → (after_move s p new len to o).word ≡ s.word
+move_word s p new len to None = refl
+move_word s p new len to (Some j) = refl
+
+move_cell : (s : State) (p new len : ℕ) (to : Place) (o : Option ℕ) → (after_move s p new len to o).cell ≡ put s.cell p new
+move_cell s p new len to None = refl
+move_cell s p new len to (Some j) = refl
+
+move_jobs : (s : State) (p new len : ℕ) (to : Place) (o : Option ℕ) → (after_move s p new len to o).copying.word ≡ s.copying.word
+move_jobs s p new len to None = refl
+move_jobs s p new len to (Some j) = refl
+
+move_sizes : (s : State) (p new len : ℕ) (to : Place) (o : Option ℕ) → ((after_move s p new len to o).mutators ≡ s.mutators) × ((after_move s p new len to o).logs ≡ s.logs)
+move_sizes s p new len to None = (refl, refl)
+move_sizes s p new len to (Some j) = (refl, refl)
+
 -- a naming changes no word, and forgets none
 name_word : (s : State) (p new : ℕ) (o : Option Naming) → (after_naming s p new o).word ≡ s.word
 name_word s p new None = refl
@@ -58,7 +82,7 @@ name_word s p new (Some (Places len ds place)) = refl
 name_word s p new (Some Retires) = refl
 name_word s p new (Some (Evicts len place)) = refl
 name_word s p new (Some Stays) = refl
-name_word s p new (Some (Moves len ds from to)) = refl
+name_word s p new (Some (Moves len ds from to)) = move_word s p new len to (copied_job s p from to)
 name_word s p new (Some (Fetches len ds place)) = refl
 
 pub name_forgets : (s : State) (p old new : ℕ) → Forgets s (after s (Name p old new))
@@ -70,9 +94,10 @@ pub record Names (o v : State) (p old new : ℕ) : Type 0 where
   pub done : v ≡ record (after o (Name p old new)) { word = v.word }
   pub forgot : Forgets o v
 
-module _ (s : State) (law : Law s) (found : ℕ → ℕ) (counted : ℕ → Bool) (finds : AllFind found s.cell) (p old new : ℕ) (small : p < CELLS * s.mutators) (fits : new < 2 ^ 64) where
+module _ (s : State) (law : Law s) (found : ℕ → ℕ) (counted : ℕ → Bool) (jobs : ℕ → ℕ) (finds : AllFind found s.cell) (going : AllFindJobs jobs s.copying.word) (p old new : ℕ)
+    (small : p < CELLS * s.mutators) (fits : new < 2 ^ 64) where
   abbrev o : State
-  o = masked s found counted
+  o = masked s found counted jobs
 
   -- a word of the view that is a word, is the word itself
   word_is : (a w : ℕ) → w < 2 ^ 64 → o.word a ≡ w → s.word a ≡ w
@@ -97,18 +122,62 @@ module _ (s : State) (law : Law s) (found : ℕ → ℕ) (counted : ℕ → Bool
       word_is (addr place + 1 + (words_for len - 1)) (o.word (addr place + 1 + (words_for len - 1))) (omega (arith, h, low)) refl in
       subst (λ w. w < 2 ^ (8 * (len - 8 * (words_for len - 1)))) (sym last) h
 
+  may_move : (len ds : ℕ) (from to : Place) → read_of new ≡ Some (Near len ds to no_marks) → MayMove o p len ds from to → MayMove s p len ds from to
+  may_move len ds from to says h = record {
+    span = new_span len ds to says h.span;
+    padded = padded len to (some_bytes len ds to says) h.padded;
+    quiet = quiet_too s found counted jobs p (finds p) h.quiet;
+    log = h.log;
+    same = λ i lt. alike_words s found counted jobs law (addr to + 1 + i) (addr from + 1 + i) (h.same i lt);
+  }
+
+  -- what the view says was copied, was copied: of a finished job it has the word
+  finished_too : (from to : Place) (j c : ℕ) → IsCopied o p from to j c → IsCopied s p from to j c
+  finished_too from to j c h = record {
+    low = h.low;
+    lies = sym (place_found (found p) (s.cell p) (finds p)) ∙ h.lies;
+    finished = ap job_of ((going j).ended (ap is_finished h.finished)) ∙ h.finished;
+    good = h.good;
+  }
+
+  copied_too : (from to : Place) → WasCopied o p from to → WasCopied s p from to
+  copied_too from to (j, c, h) = (j, c, finished_too from to j c h)
+
+  -- and by the same job, since no two have one target; where a new span is taken, by none
+  one_job : (from to : Place) (i j c d : ℕ) → IsCopied s p from to i c → IsCopied s p from to j d → i ≡ j
+  one_job from to i j c d x y = law.copies.jobs.targets_differ i j _ _ (ap job_said x.finished) (ap job_said y.finished) refl
+
+  none_too : (from to : Place) (a b : Option ℕ) → copied_job o p from to ≡ a → copied_job s p from to ≡ b → s.starts (addr to) ≡ false → a ≡ b
+  none_too from to None None ea eb fresh = refl
+  none_too from to None (Some j) ea eb fresh = sym (none_copied_there s p from to law fresh) ∙ eb
+  none_too from to (Some i) b ea eb fresh =
+      let x = copied_fact o p from to i ea in
+      absurd (false≢true (ap is_some (sym (none_copied_there s p from to law fresh)) ∙ copied_test s p from to (i, x.0, finished_too from to i x.0 x.1)))
+
+  some_too : (from to : Place) (a b : Option ℕ) → copied_job o p from to ≡ a → copied_job s p from to ≡ b → WasCopied o p from to → a ≡ b
+  some_too from to None b ea eb has = absurd (false≢true (ap is_some (sym ea) ∙ copied_test o p from to has))
+  some_too from to a None ea eb has = absurd (false≢true (ap is_some (sym eb) ∙ copied_test s p from to (copied_too from to has)))
+  some_too from to (Some i) (Some j) ea eb has =
+      let x = copied_fact o p from to i ea in
+      let y = copied_fact s p from to j eb in
+      ap (λ k. Some k) (one_job from to i j x.0 y.0 (finished_too from to i x.0 x.1) y.1)
+
+  pub job_too : (len ds : ℕ) (from to : Place) → read_of new ≡ Some (Near len ds to no_marks) → MayMove o p len ds from to ⊎ WasCopied o p from to → copied_job o p from to ≡ copied_job s p from to
+  job_too len ds from to says (inl h) =
+      let bounds = read_says new (Near len ds to no_marks) fits says in
+      none_too from to (copied_job o p from to) (copied_job s p from to) refl refl (unbegun s law to h.span.next (omega (arith, bounds.0)))
+  job_too len ds from to says (inr has) = some_too from to (copied_job o p from to) (copied_job s p from to) refl refl has
+
+  move_legal : (len ds : ℕ) (from to : Place) → read_of new ≡ Some (Near len ds to no_marks) → MayMove o p len ds from to ⊎ WasCopied o p from to → MayMove s p len ds from to ⊎ WasCopied s p from to
+  move_legal len ds from to says (inl h) = inl (may_move len ds from to says h)
+  move_legal len ds from to says (inr has) = inr (copied_too from to has)
+
   row_legal : (form : Naming) → IsNaming form (read_of old) (read_of new) → (naming_row o p new form).Legal → (naming_row s p new form).Legal
   row_legal (Places len ds place) n h = (new_span len ds place n.1 h.0, λ i lt. word_is (addr place + 1 + i) 0 (omega arith) (h.1 i lt))
   row_legal Retires n h = tt
-  row_legal (Evicts len place) n h = quiet_too s found counted p (finds p) h
+  row_legal (Evicts len place) n h = quiet_too s found counted jobs p (finds p) h
   row_legal Stays n h = tt
-  row_legal (Moves len ds from to) n h = record {
-    span = new_span len ds to n.1 h.span;
-    padded = padded len to (some_bytes len ds to n.1) h.padded;
-    quiet = quiet_too s found counted p (finds p) h.quiet;
-    log = h.log;
-    same = λ i lt. alike_words s found counted law (addr to + 1 + i) (addr from + 1 + i) (h.same i lt);
-  }
+  row_legal (Moves len ds from to) n h = move_legal len ds from to n.1 h
   row_legal (Fetches len ds place) n h = record {
     span = new_span len ds place n.1 h.span;
     padded = padded len place (some_bytes len ds place n.1) h.padded;
@@ -128,6 +197,12 @@ module _ (s : State) (law : Law s) (found : ℕ → ℕ) (counted : ℕ → Bool
       ap s.word e ∙ (here ∙ ap o.word (sym e)))
       (λ _ st. sym (header_known s.word s.starts counted a st))
 
+  move_headers : (len ds : ℕ) (from to : Place) → read_of new ≡ Some (Near len ds to no_marks) → MayMove o p len ds from to ⊎ WasCopied o p from to → (j : Option ℕ) → copied_job s p from to ≡ j →
+      (a : ℕ) → (after_move s p new len to j).starts a ≡ true → s.word a ≡ o.word a
+  move_headers len ds from to says h (Some j) e a = λ st. sym (header_known s.word s.starts counted a st)
+  move_headers len ds from to says (inl h) None e a = span_headers len ds to says h.span.head a
+  move_headers len ds from to says (inr has) None e a = absurd (false≢true (sym (ap is_some e) ∙ copied_test s p from to (copied_too from to has)))
+
   -- each header is known: those that were, and that of a new span
   headers_same : (form : Naming) → IsNaming form (read_of old) (read_of new) → (naming_row o p new form).Legal →
       (a : ℕ) → (naming_row s p new form).after.starts a ≡ true → s.word a ≡ o.word a
@@ -135,11 +210,11 @@ module _ (s : State) (law : Law s) (found : ℕ → ℕ) (counted : ℕ → Bool
   headers_same Retires n h a = λ st. sym (header_known s.word s.starts counted a st)
   headers_same (Evicts len place) n h a = λ st. sym (header_known s.word s.starts counted a st)
   headers_same Stays n h a = λ st. sym (header_known s.word s.starts counted a st)
-  headers_same (Moves len ds from to) n h a = span_headers len ds to n.1 h.span.head a
+  headers_same (Moves len ds from to) n h a = move_headers len ds from to n.1 h (copied_job s p from to) refl a
   headers_same (Fetches len ds place) n h a = span_headers len ds place n.1 h.span.head a
 
   abbrev v : Naming → State
-  v form = masked (naming_row s p new form).after (put found p new) (λ _. false)
+  v form = masked (naming_row s p new form).after (put found p new) (λ _. false) jobs
 
   -- what an eviction stores is what the view shows
   kept_same : (len : ℕ) (place : Place) → ((i : ℕ) → i < words_for len → IsKnown (o.word (addr place + 1 + i))) →
@@ -149,21 +224,27 @@ module _ (s : State) (law : Law s) (found : ℕ → ℕ) (counted : ℕ → Bool
       (λ t. ap (λ b. cond b (s.word (addr place + 1 + i)) (s.stored p i)) t ∙ sym (known_word (s.starts (addr place + 1 + i) || counted (addr place + 1 + i)) (s.word (addr place + 1 + i)) (addr place + 1 + i) (known i (ltb-true i (words_for len) t))))
       (λ f. ap (λ b. cond b (s.word (addr place + 1 + i)) (s.stored p i)) f))
 
-  row_done : (form : Naming) → IsNaming form (read_of old) (read_of new) → KnowsLeaving o old new → v form ≡ record (naming_row o p new form).after { word = (v form).word }
-  row_done (Places len ds place) n known = refl
-  row_done Retires n known = refl
-  row_done (Evicts len place) n known =
+  move_done : (len : ℕ) (to : Place) (j : Option ℕ) → masked (after_move s p new len to j) (put found p new) (λ _. false) jobs ≡
+      record (after_move o p new len to j) { word = (masked (after_move s p new len to j) (put found p new) (λ _. false) jobs).word }
+  move_done len to None = refl
+  move_done len to (Some j) = refl
+
+  row_done : (form : Naming) → IsNaming form (read_of old) (read_of new) → (naming_row o p new form).Legal → KnowsLeaving o old new → v form ≡ record (naming_row o p new form).after { word = (v form).word }
+  row_done (Places len ds place) n h known = refl
+  row_done Retires n h known = refl
+  row_done (Evicts len place) n h known =
       ap (λ r. record (v (Evicts len place)) { stored = put s.stored p r }) (kept_same len place (known len place n))
-  row_done Stays n known = refl
-  row_done (Moves len ds from to) n known = refl
-  row_done (Fetches len ds place) n known = refl
+  row_done Stays n h known = refl
+  row_done (Moves len ds from to) n h known =
+      move_done len to (copied_job s p from to) ∙ ap (λ j. record (after_move o p new len to j) { word = (v (Moves len ds from to)).word }) (sym (job_too len ds from to n.1 h))
+  row_done (Fetches len ds place) n h known = refl
 
   row_word : (form : Naming) → (naming_row s p new form).after.word ≡ s.word
   row_word (Places len ds place) = refl
   row_word Retires = refl
   row_word (Evicts len place) = refl
   row_word Stays = refl
-  row_word (Moves len ds from to) = refl
+  row_word (Moves len ds from to) = move_word s p new len to (copied_job s p from to)
   row_word (Fetches len ds place) = refl
 
   row_cell : (form : Naming) → (naming_row s p new form).after.cell ≡ put s.cell p new
@@ -171,15 +252,23 @@ module _ (s : State) (law : Law s) (found : ℕ → ℕ) (counted : ℕ → Bool
   row_cell Retires = refl
   row_cell (Evicts len place) = refl
   row_cell Stays = refl
-  row_cell (Moves len ds from to) = refl
+  row_cell (Moves len ds from to) = move_cell s p new len to (copied_job s p from to)
   row_cell (Fetches len ds place) = refl
+
+  row_jobs : (form : Naming) → (naming_row s p new form).after.copying.word ≡ s.copying.word
+  row_jobs (Places len ds place) = refl
+  row_jobs Retires = refl
+  row_jobs (Evicts len place) = refl
+  row_jobs Stays = refl
+  row_jobs (Moves len ds from to) = move_jobs s p new len to (copied_job s p from to)
+  row_jobs (Fetches len ds place) = refl
 
   row_sizes : (form : Naming) → ((naming_row s p new form).after.mutators ≡ s.mutators) × ((naming_row s p new form).after.logs ≡ s.logs)
   row_sizes (Places len ds place) = (refl, refl)
   row_sizes Retires = (refl, refl)
   row_sizes (Evicts len place) = (refl, refl)
   row_sizes Stays = (refl, refl)
-  row_sizes (Moves len ds from to) = (refl, refl)
+  row_sizes (Moves len ds from to) = move_sizes s p new len to (copied_job s p from to)
   row_sizes (Fetches len ds place) = (refl, refl)
 
   row_forgets : (form : Naming) → IsNaming form (read_of old) (read_of new) → (naming_row o p new form).Legal → Forgets o (v form)
@@ -187,19 +276,22 @@ module _ (s : State) (law : Law s) (found : ℕ → ℕ) (counted : ℕ → Bool
       (λ a st. ap (λ f. f a) (row_word form) ∙ headers_same form n h a st)
 
   module _ (legal : Legal o (Name p old new)) (seen : old ≡ found p) (won_it : s.cell p ≡ old) where
-    pub names : KnowsLeaving o old new → Names o (masked (after s (Name p old new)) (put found p new) (λ _. false)) p old new
+    pub names : KnowsLeaving o old new → Names o (masked (after s (Name p old new)) (put found p new) (λ _. false) jobs) p old new
     names known =
         let form = legal.1.0 in
         let mine : after s (Name p old new) ≡ (naming_row s p new form).after = won_state s p old new form won_it legal.1.1 in
         let its : after o (Name p old new) ≡ (naming_row o p new form).after = won_state o p old new form (sym seen) legal.1.1 in
-        let same : masked (after s (Name p old new)) (put found p new) (λ _. false) ≡ v form = ap (λ (u : State). masked u (put found p new) (λ _. false)) mine in
+        let same : masked (after s (Name p old new)) (put found p new) (λ _. false) jobs ≡ v form = ap (λ (u : State). masked u (put found p new) (λ _. false) jobs) mine in
         subst (λ x. Names o x p old new) (sym same) (record {
-          done = row_done form legal.1.1 known ∙ ap (λ (u : State). record u { word = (v form).word }) (sym its);
+          done = row_done form legal.1.1 legal.1.2 known ∙ ap (λ (u : State). record u { word = (v form).word }) (sym its);
           forgot = row_forgets form legal.1.1 legal.1.2;
         })
 
     pub cells_named : (after s (Name p old new)).cell ≡ put s.cell p new
     cells_named = ap (λ (u : State). u.cell) (won_state s p old new legal.1.0 won_it legal.1.1) ∙ row_cell legal.1.0
+
+    pub jobs_named : (after s (Name p old new)).copying.word ≡ s.copying.word
+    jobs_named = ap (λ (u : State). u.copying.word) (won_state s p old new legal.1.0 won_it legal.1.1) ∙ row_jobs legal.1.0
 
     pub sizes_named : ((after s (Name p old new)).mutators ≡ s.mutators) × ((after s (Name p old new)).logs ≡ s.logs)
     sizes_named = let e = won_state s p old new legal.1.0 won_it legal.1.1 in let x = row_sizes legal.1.0 in

@@ -13,7 +13,7 @@ use Rattle.far_word.specs.Sizes.{words_for}
 use Rattle.far_word.proofs.PointerLaws.{read_says}
 use Rattle.far_core.specs.state.Law.{Law}
 use Rattle.far_core.specs.state.State.{State}
-use Rattle.far_hand.specs.Masked.{masked, AllFind}
+use Rattle.far_hand.specs.Masked.{AllFind}
 use Rattle.far_hand.specs.Quiet.{IsQuietAt, is_quiet, is_quiet_word}
 use Rattle.far_hand.proofs.Finding.{near_found}
 
@@ -54,8 +54,8 @@ word_test round clear p o l at len ds place m e quiet log low high =
       within : ((place.log == l) && nat_lt place.at at && nat_le at (place.at + words_for len)) ≡ true
       within = grind (arith, nat_tests)
 
-module _ (s : State) (law : Law s) (found : ℕ → ℕ) (counted : ℕ → Bool) (finds : AllFind found s.cell) (l at : ℕ) where
-  pub quiet_fact : (p : ℕ) → p < CELLS * s.mutators → is_quiet_word s.round s.clear p (read_of (found p)) l at ≡ true → IsQuietAt (masked s found counted) (l * LOG_WORDS + at)
+module _ (s : State) (law : Law s) (found : ℕ → ℕ) (finds : AllFind found s.cell) (l at : ℕ) where
+  pub quiet_fact : (p : ℕ) → p < CELLS * s.mutators → is_quiet_word s.round s.clear p (read_of (found p)) l at ≡ true → IsQuietAt (record s { cell = found }) (l * LOG_WORDS + at)
   quiet_fact p small h = let x = word_fact s.round s.clear p (read_of (found p)) l at h in record {
     p = p;
     len = x.len;
@@ -70,7 +70,7 @@ module _ (s : State) (law : Law s) (found : ℕ → ℕ) (counted : ℕ → Bool
     here = (let log : x.place.log * LOG_WORDS ≡ l * LOG_WORDS = ap (λ k. k * LOG_WORDS) x.log in omega (arith, x.low, x.high));
   }
 
-  pub quiet_test : at < LOG_WORDS → (x : IsQuietAt (masked s found counted) (l * LOG_WORDS + at)) → is_quiet_word s.round s.clear x.p (read_of (found x.p)) l at ≡ true
+  pub quiet_test : at < LOG_WORDS → (x : IsQuietAt (record s { cell = found }) (l * LOG_WORDS + at)) → is_quiet_word s.round s.clear x.p (read_of (found x.p)) l at ≡ true
   quiet_test low x =
       let cell = near_found (found x.p) (s.cell x.p) (finds x.p) x.len x.ds x.place x.marks x.near in
       let says = read_says (s.cell x.p) (Near x.len x.ds x.place cell.marks) (law.cells.cell_read x.p).0 cell.near in

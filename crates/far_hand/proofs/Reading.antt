@@ -12,10 +12,12 @@ use Rattle.far_core.specs.events.Step.{after}
 use Rattle.far_core.specs.state.Law.{Law}
 use Rattle.far_core.specs.state.State.{State, put}
 use Rattle.far_core.proofs.Put.{put_both, put_same, put_other, put_old}
+use Rattle.far_hand.specs.Beside.{uncopied}
 use Rattle.far_hand.specs.Known.{unknown, IsKnown, IsPaddedAt, Forgets}
-use Rattle.far_hand.specs.Masked.{masked, masked_word, AllFind, recounted}
+use Rattle.far_hand.specs.Masked.{masked, masked_word, AllFind, AllFindJobs, recounted}
 use Rattle.far_hand.specs.Quiet.{IsQuietAt}
 use Rattle.far_hand.proofs.Finding.{near_known}
+use Rattle.far_hand.proofs.JobsFound.{uncopied_found}
 
 -- ---- words that are known
 -- a word of a view that is known is the word itself
@@ -54,13 +56,14 @@ count_read word starts counted a =
 
 -- ---- a log is given back
 -- what is vacant in the view is vacant
-pub vacant : (s : State) (found : ℕ → ℕ) (counted : ℕ → Bool) (l : ℕ) → AllFind found s.cell → IsVacant (masked s found counted) l → IsVacant s l
-vacant s found counted l finds empty p len ds place m near =
+pub vacant : (s : State) (found : ℕ → ℕ) (l : ℕ) → AllFind found s.cell → IsVacant (record s { cell = found }) l → IsVacant s l
+vacant s found l finds empty p len ds place m near =
     let x = near_known (found p) (s.cell p) (finds p) len ds place m near in empty p len ds place x.marks x.near
 
-pub may_free : (s : State) (found : ℕ → ℕ) (counted : ℕ → Bool) (l : ℕ) (free : Bool) → AllFind found s.cell → MayFree (masked s found counted) l free → MayFree s l free
-may_free s found counted l false finds h = tt
-may_free s found counted l true finds h = (h.0, vacant s found counted l finds h.1, h.2)
+pub may_free : (s : State) (found : ℕ → ℕ) (counted : ℕ → Bool) (jobs : ℕ → ℕ) (l : ℕ) (free : Bool) → AllFind found s.cell → AllFindJobs jobs s.copying.word →
+    MayFree (masked s found counted jobs) l free → MayFree s l free
+may_free s found counted jobs l false finds going h = tt
+may_free s found counted jobs l true finds going h = (h.0, vacant s found l finds h.1, uncopied_found (uncopied s.copying jobs) s.copying going l h.2)
 
 -- a header that is left was one
 left_header : (starts : ℕ → Bool) (l a : ℕ) → cond (nat_eq (a / LOG_WORDS) l) false (starts a) ≡ true → starts a ≡ true
@@ -90,12 +93,12 @@ pub record Gets (o v : State) (l at : ℕ) (free : Bool) (w : ℕ) : Type 0 wher
   pub forgot : free ≡ true → Forgets o v
   pub rest : v ≡ record (after o (Get l at free)) { word = v.word }
 
-module _ (s : State) (law : Law s) (found : ℕ → ℕ) (counted : ℕ → Bool) (l at : ℕ) where
+module _ (s : State) (law : Law s) (found : ℕ → ℕ) (counted : ℕ → Bool) (jobs : ℕ → ℕ) (l at : ℕ) where
   abbrev a : ℕ
   a = l * LOG_WORDS + at
 
   abbrev o : State
-  o = masked s found counted
+  o = masked s found counted jobs
 
   padding : IsPaddedAt o a (s.word a)
   padding b i st lt e =
@@ -109,10 +112,10 @@ module _ (s : State) (law : Law s) (found : ℕ → ℕ) (counted : ℕ → Bool
   known h = sym (known_word (s.starts a || counted a) (s.word a) a h)
 
   -- the word is known from then on
-  counted_view : masked s found (put counted a true) ≡ record o { word = put o.word a (s.word a) }
+  counted_view : masked s found (put counted a true) jobs ≡ record o { word = put o.word a (s.word a) }
   counted_view = ap (λ w. record o { word = w }) (count_read s.word s.starts counted a)
 
-  pub gets : (free quiet : Bool) → (free ≡ false → quiet ≡ true → IsQuietAt o a) → (quiet ≡ false → ¬ IsQuietAt o a) → Gets o (masked (after_get s l free) found (recounted counted free quiet a)) l at free (s.word a)
+  pub gets : (free quiet : Bool) → (free ≡ false → quiet ≡ true → IsQuietAt o a) → (quiet ≡ false → ¬ IsQuietAt o a) → Gets o (masked (after_get s l free) found (recounted counted free quiet a) jobs) l at free (s.word a)
   gets true quiet some none = record {
     known = known;
     padding = padding;
@@ -121,7 +124,7 @@ module _ (s : State) (law : Law s) (found : ℕ → ℕ) (counted : ℕ → Bool
     unread = λ e. absurd (true≢false e);
     here = λ e. absurd (true≢false e);
     others = λ e. absurd (true≢false e);
-    forgot = λ _. forgets o (masked (with_free_log s l) found (λ _. false)) (λ q. cond (nat_eq (q / LOG_WORDS) l) false (s.starts q)) refl s.word refl
+    forgot = λ _. forgets o (masked (with_free_log s l) found (λ _. false) jobs) (λ q. cond (nat_eq (q / LOG_WORDS) l) false (s.starts q)) refl s.word refl
         (λ q h. sym (header_known s.word s.starts counted q (left_header s.starts l q h)));
     rest = refl;
   }
@@ -149,11 +152,11 @@ module _ (s : State) (law : Law s) (found : ℕ → ℕ) (counted : ℕ → Bool
   }
 
 -- what a log given back leaves
-pub stays_after : (s : State) (l : ℕ) (free : Bool) → ((after_get s l free).mutators ≡ s.mutators) × ((after_get s l free).logs ≡ s.logs) × ((after_get s l free).cell ≡ s.cell)
-stays_after s l false = (refl, refl, refl)
-stays_after s l true = (refl, refl, refl)
+pub stays_after : (s : State) (l : ℕ) (free : Bool) → ((after_get s l free).mutators ≡ s.mutators) × ((after_get s l free).logs ≡ s.logs) × ((after_get s l free).cell ≡ s.cell) × ((after_get s l free).copying.word ≡ s.copying.word)
+stays_after s l false = (refl, refl, refl, refl)
+stays_after s l true = (refl, refl, refl, refl)
 
 -- ---- a word is written
-pub put_view : (s : State) (found : ℕ → ℕ) (counted : ℕ → Bool) (a w : ℕ) →
-    masked (record s { word = put s.word a w }) found (put counted a true) ≡ record (masked s found counted) { word = put (masked s found counted).word a w }
-put_view s found counted a w = ap (λ f. record (masked s found counted) { word = f }) (count_word s.word s.starts counted a w)
+pub put_view : (s : State) (found : ℕ → ℕ) (counted : ℕ → Bool) (jobs : ℕ → ℕ) (a w : ℕ) →
+    masked (record s { word = put s.word a w }) found (put counted a true) jobs ≡ record (masked s found counted jobs) { word = put (masked s found counted jobs).word a w }
+put_view s found counted jobs a w = ap (λ f. record (masked s found counted jobs) { word = f }) (count_word s.word s.starts counted a w)

@@ -19,8 +19,8 @@ use Rattle.far_hand.proofs.Finding.{near_found, near_known}
 use Rattle.far_hand.proofs.Masking.{moved_known, quiet_found}
 
 -- logs that may be the round's as they are known may be so
-pub may_advance : (s : State) (found : ℕ → ℕ) (counted : ℕ → Bool) (logs : ℕ) → AllFind found s.cell → s.epoch + 1 < EPOCH_END → MayChoose (masked s found counted) logs → MayAdvance s logs
-may_advance s found counted logs finds below h = record {
+pub may_advance : (s : State) (found : ℕ → ℕ) (counted : ℕ → Bool) (jobs : ℕ → ℕ) (logs : ℕ) → AllFind found s.cell → s.epoch + 1 < EPOCH_END → MayChoose (masked s found counted jobs) logs → MayAdvance s logs
+may_advance s found counted jobs logs finds below h = record {
   below = below;
   shut = h.shut;
   marked = λ p len ds place m e inside. let x = near_known (found p) (s.cell p) (finds p) len ds place m e in sym x.same ∙ h.marked p len ds place x.marks x.near inside;

@@ -8,30 +8,30 @@ use Rattle.far_core.specs.state.State.{State}
 use Rattle.far_hand.specs.declared.beset.Beset.{Beset}
 use Rattle.far_hand.specs.Masked.{masked, word_at, is_counted}
 use Rattle.far_hand.specs.MayBe.{Made, MayBeBeside, Shows, Tells, beside_itself}
-use Rattle.far_hand.specs.Owners.{after_turn}
+use Rattle.far_hand.specs.Others.{after_turn}
 
 abbrev pub beset_view : Beset → State
-beset_view hand = masked (core_state hand.core) (word_at hand.found.items) (is_counted hand.counted.items)
+beset_view hand = masked (core_state hand.core) (word_at hand.found.items) (is_counted hand.counted.items) (word_at hand.jobs)
 
--- the core's state, as owners may change it until the next call
+-- the core's state, as others may change it until the next call
 abbrev pub beset_may_be : Beset → State → Type 0
 beset_may_be hand = MayBeBeside (beset_view hand) (core_state hand.core)
 
--- the owners' next event
+-- the others' next event
 abbrev pub next_event : Beset → Option Event
 next_event hand = slice_get hand.events.items hand.made
 
--- how many events of the list the owners are past, once they had their turn
+-- how many events of the list the others are past, once they had their turn
 abbrev pub passed : Option Event → ℕ → ℕ
 passed None made = made
 passed (Some e) made = made + 1
 
--- the core's state once owners had their turn
+-- the core's state once others had their turn
 abbrev pub turned : Beset → State
 turned hand = after_turn (core_state hand.core) (next_event hand)
 
--- from a hand to a later one: owners have their turn, in which the next event of the list is made, if it is one of theirs and legal; then this event is
--- made, with this answer; and nothing else happens
+-- from a hand to a later one: others have their turn, in which the next event of the list is made, if it is an owner's or a copier's, and legal; then this
+-- event is made, with this answer; and nothing else happens
 pub record TurnThen (hand : Beset) (e : Event) (r : Reply) (later : Beset) : Type 0 where
   pub turn : beset_may_be hand (turned hand)
   pub call : Made (turned hand) e r (core_state later.core)
@@ -40,7 +40,7 @@ pub record TurnThen (hand : Beset) (e : Event) (r : Reply) (later : Beset) : Typ
 
 -- ---- what is so of each beset hand
 pub core_may_be : (hand : Beset) → beset_may_be hand (core_state hand.core)
-core_may_be hand = beside_itself (core_state hand.core) (word_at hand.found.items) (is_counted hand.counted.items) hand.core.law hand.finds
+core_may_be hand = beside_itself (core_state hand.core) (word_at hand.found.items) (is_counted hand.counted.items) (word_at hand.jobs) hand.core.law hand.finds hand.finds_jobs
 
 pub beset_lawful : (hand : Beset) (x : State) → beset_may_be hand x → Law x
 beset_lawful hand x may = may.law

@@ -3,12 +3,13 @@ pub mod BesetView
 pub mod Came
 pub mod Cleared
 pub mod Finds
+pub mod FindsJob
 pub mod Known
 pub mod Listed
 pub mod Makers
 pub mod Masked
 pub mod MayBe
-pub mod Owners
+pub mod Others
 pub mod Quiet
 pub mod Rounds
 pub mod ShapeOf

@@ -44,3 +44,12 @@ is_owner (ByCopier c) = false
 -- the events of owners
 abbrev pub is_owners : Event → Bool
 is_owners e = is_owner (maker e)
+
+abbrev pub is_other : Maker → Bool
+is_other ByBook = false
+is_other (ByOwner m) = true
+is_other (ByCopier c) = true
+
+-- the events of owners and copiers: of all but the book
+abbrev pub is_others : Event → Bool
+is_others e = is_other (maker e)

@@ -1,8 +1,9 @@
--- What is known of a state by a hand beside which owners are at work.
+-- What is known of a state by a hand beside which others are at work.
 use Rattle.std.specs.Prelude.{◌≡◌, ◌||◌, ℕ, Bool, true, false, cond, List, slice_index, slice_index_or}
 use Rattle.far_core.specs.state.State.{State, put}
 use Rattle.far_hand.specs.Beside.{hidden}
 use Rattle.far_hand.specs.Finds.{Finds}
+use Rattle.far_hand.specs.FindsJob.{FindsJob}
 use Rattle.far_hand.specs.Known.{unknown}
 use Rattle.far_hand.specs.Quiet.{RestsAt}
 
@@ -10,16 +11,21 @@ use Rattle.far_hand.specs.Quiet.{RestsAt}
 abbrev pub masked_word : (ℕ → ℕ) → (ℕ → Bool) → (ℕ → Bool) → ℕ → ℕ
 masked_word word starts counted a = cond (starts a || counted a) (word a) (unknown a)
 
--- the state as it is known where these words were found in the cells, and these words of the logs are counted on beside
--- headers; of what others do nothing is known
-abbrev pub masked : State → (ℕ → ℕ) → (ℕ → Bool) → State
-masked s found counted = hidden s found (masked_word s.word s.starts counted)
+-- the state as it is known where these words were found in the cells, these words of the logs are counted on beside
+-- headers, and these words were found of the jobs; of what others do nothing is known
+abbrev pub masked : State → (ℕ → ℕ) → (ℕ → Bool) → (ℕ → ℕ) → State
+masked s found counted jobs = hidden s found (masked_word s.word s.starts counted) jobs
 
 -- each cell is one that may be found where that word was found last
 abbrev pub AllFind : (ℕ → ℕ) → (ℕ → ℕ) → Type 0
 AllFind found cell = (p : ℕ) → Finds (found p) (cell p)
 
--- each word that is counted on and is no header rests, by what was found in the cells. So no owner stores there, and none is of a dead span
+-- and each job's word
+abbrev pub AllFindJobs : (ℕ → ℕ) → (ℕ → ℕ) → Type 0
+AllFindJobs jobs word = (j : ℕ) → FindsJob (jobs j) (word j)
+
+-- each word that is counted on and is no header rests, by what was found in the cells. So no owner stores there and no copier writes there, and none is
+-- of a dead span
 abbrev pub CountsOnRest : State → (ℕ → ℕ) → (ℕ → Bool) → Type 0
 CountsOnRest s found counted = (a : ℕ) → counted a ≡ true → s.starts a ≡ false → RestsAt (record s { cell = found }) a
 

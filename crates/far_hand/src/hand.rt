@@ -1,19 +1,22 @@
 //! The book's hand on the shared words.
 
-ghost use Rattle.std.specs.Prelude.{◌≡◌, ◌≢◌, ◌+◌, ◌*◌, ◌^◌, ◌<◌, ℕ, true, false, bit_or, IfOk, IfErr};
+ghost use Rattle.std.specs.Prelude.{◌≡◌, ◌≢◌, ◌+◌, ◌*◌, ◌^◌, ◌<◌, ℕ, true, false, bit_or, Some, IfOk, IfErr};
 ghost use Rattle.far_word.specs.declared.mark.Mark.TheVariants.{Evac};
 ghost use Rattle.far_word.specs.declared.refused.Refused.TheVariants.{EpochsSpent};
 ghost use Rattle.far_word.specs.declared.sizes.TheConstants.{EPOCH_END, LOG_WORDS};
 ghost use Rattle.far_word.specs.Mark.{position};
+ghost use Rattle.far_word.specs.Pointer.{read_of};
 ghost use Rattle.far_core.specs.declared.event.Event.{Event as any_event};
 ghost use Rattle.far_core.specs.declared.event.Reply.{Reply as any_reply};
 ghost use Rattle.far_core.specs.events.Legal.{Legal};
 ghost use Rattle.far_core.specs.events.Step.{after};
+ghost use Rattle.far_core.specs.state.Jobs.{near_place};
 ghost use Rattle.far_core.specs.state.Law.{Law};
 ghost use Rattle.far_core.specs.state.Shape.{is_shape};
 ghost use Rattle.far_core.specs.state.State.{State, put};
 ghost use Rattle.far_hand.specs.Cleared.{cleared};
 ghost use Rattle.far_hand.specs.Finds.{Finds};
+ghost use Rattle.far_hand.specs.FindsJob.{FindsJob, job_found};
 ghost use Rattle.far_hand.specs.Known.{IsKnown, Forgets, IsPaddedAt, KnowsLeaving};
 ghost use Rattle.far_hand.specs.MayBe.{Shows, Tells};
 ghost use Rattle.far_hand.specs.Quiet.{IsQuietAt};
@@ -21,18 +24,21 @@ ghost use Rattle.far_hand.specs.Rounds.{IsScopeAt, MayChoose, looked_at};
 ghost use Rattle.far_hand.specs.ShapeOf.{shape_of};
 
 use far_core::{Event, Reply, Shape};
-use far_word::Refused;
+use far_word::{Place, Refused};
 
 /// The book's hand on the shared words. Each call is one event of [`far_core`] on at most one word, takes no memory and
 /// always answers.
 ///
 /// Between any two calls, and before each one, owners may add HOT, MOVE or DROP to a cell, change their scope words, and
-/// store into objects that aren't quiet.
+/// store into objects that aren't quiet; and copiers may take jobs that are offered, finish those that they took, and write
+/// to the targets of jobs that aren't finished.
 pub trait Near {
     /// What the book knows of the state. Kinds, tails, spans, the round and the epoch are its own, and exact; of a cell the
     /// object, its place and EVAC are exact, and HOT, MOVE and DROP a floor: they are there at least where the view has
-    /// them. A word of a log is the word itself or unknown. Nothing may be concluded from the view's scopes, nor from
-    /// what it says that owners use, hold or remember, but where the hand is still.
+    /// them. Of a job the pointer, the places, the epoch of its offer and whether it was named are exact, and so is that
+    /// there is none; how far it has come is a floor. A word of a log is the word itself or unknown. Nothing may be
+    /// concluded from the view's scopes, nor from what it says that owners use, hold or remember, or that copiers copy,
+    /// have read or have written, but where the hand is still.
     ghost view: { Self → State };
 
     /// No word changes but by the book's calls, and the view is the state itself.
@@ -41,7 +47,7 @@ pub trait Near {
     /// Which states the words may be in, until the next call: the one that they are in, and whatever the hand can't tell from it.
     ghost may_be: { Self → State → Type 0 };
 
-    /// From a hand to the hand after a call: the call was this event, with this answer, and beside it nothing but what owners did.
+    /// From a hand to the hand after a call: the call was this event, with this answer, and beside it nothing but what owners and copiers did.
     ghost makes: { Self → any_event → any_reply → Self → Type 0 };
 
     /// The cell of a pointer, as it is found. The view has it from then on.
@@ -74,10 +80,11 @@ pub trait Near {
         ensures set { still → view self.new ≡ after (view self.old) (Event.Clear pointer) }
         ensures made { makes self.old (Event.Clear pointer) (Reply.Word result) self.new };
 
-    /// Word `at` of a log. With `free` the log, which is sealed and has no live span, is given back too.
+    /// Word `at` of a log. With `free` the log, which is sealed, has no live span, and is read and written by no job, is given
+    /// back too.
     ///
     /// The word is known from then on where it was, or where the view shows it to be a data word of a quiet object, and nowhere else: an
-    /// owner may store into it. As a log is given back, words may be forgotten.
+    /// owner may store into it, or a copier write there. As a log is given back, words may be forgotten.
     fn get(&mut self, log: u8, at: u16, free: bool) -> u64
         requires legal { Legal (view self.old) (Event.Get log at free) }
         ensures known { IsKnown ((view self.old).word (log * LOG_WORDS + at)) → result ≡ (view self.old).word (log * LOG_WORDS + at) }
@@ -139,6 +146,39 @@ pub trait Near {
         ensures set { still → view self.new ≡ after (view self.old) (Event.Look owner) }
         ensures made { makes self.old (Event.Look owner) (Reply.Word result) self.new }
         ensures saw { ∥ ((x : State) × may_be self.new x × (x.scope owner ≡ result)) ∥₁ };
+
+    /// An empty job is offered from then on: the copy of a quiet object, which lies at `from`, to `to`, where a header for it
+    /// and a last data word of 0 were put. The span at `to` is taken. Words may be forgotten then: copiers write there.
+    fn offer(&mut self, job: u8, pointer: u16, from: Place, to: Place)
+        requires legal { Legal (view self.old) (Event.Offer job pointer to) }
+        requires lies { near_place (read_of ((view self.old).cell pointer)) ≡ Some from }
+        ensures kept { view self.new ≡ record (after (view self.old) (Event.Offer job pointer to)) { word = (view self.new).word } }
+        ensures forgot { Forgets (view self.old) (view self.new) }
+        ensures set { still → view self.new ≡ after (view self.old) (Event.Offer job pointer to) }
+        ensures made { makes self.old (Event.Offer job pointer to) Reply.Done self.new };
+
+    /// The word of a job, as it is found. The view has it from then on.
+    fn see_job(&mut self, job: u8) -> u64
+        requires legal { Legal (view self.old) (Event.SeeJob job) }
+        ensures found { FindsJob ((view self.old).copying.word job) result }
+        ensures kept { view self.new ≡ job_found (view self.old) job result }
+        ensures exact { still → result ≡ (view self.old).copying.word job }
+        ensures set { still → view self.new ≡ after (view self.old) (Event.SeeJob job) }
+        ensures made { makes self.old (Event.SeeJob job) (Reply.Word result) self.new };
+
+    /// A job goes from `old`, the word last found there, which is offered or finished, to empty, where it still is `old`. Else
+    /// `Err` with the word that was found, and nothing has changed: of a finished job that can't be.
+    fn collect(&mut self, job: u8, old: u64) -> Result<(), u64>
+        requires seen { old ≡ (view self.old).copying.word job }
+        requires legal { Legal (view self.old) (Event.Collect job old) }
+        ensures done { IfOk result (λ _. view self.new ≡ after (view self.old) (Event.Collect job old)) }
+        ensures other { IfErr result (λ found. found ≢ old) }
+        ensures found { IfErr result (λ found. FindsJob old found) }
+        ensures kept { IfErr result (λ found. view self.new ≡ job_found (view self.old) job found) }
+        ensures won { still → IfErr result (λ _. ⊥) }
+        ensures set { still → view self.new ≡ after (view self.old) (Event.Collect job old) }
+        ensures made { IfOk result (λ _. makes self.old (Event.Collect job old) Reply.Done self.new) }
+        ensures lost { IfErr result (λ found. makes self.old (Event.Collect job old) (Reply.Word found) self.new) };
 
     /// How large the heap is, and its epoch now.
     fn shape(&self) -> Shape

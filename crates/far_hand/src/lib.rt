@@ -1,7 +1,7 @@
 //! The hand on the shared words of a heap: each call is one event on one word.
 //!
-//! [`Near`] is what may be counted on, of a hand beside which owners act too; [`Plain`] is a core that nobody else steps,
-//! [`Beset`] one whose owners act before each call.
+//! [`Near`] is what may be counted on, of a hand beside which owners and copiers act too; [`Plain`] is a core that nobody
+//! else steps, [`Beset`] one whose owners and copiers act before each call.
 #![tactic(auto)]
 
 mod beset;

@@ -8,7 +8,7 @@ ghost use Rattle.far_hand.specs.ShapeOf.{shape_of};
 
 use crate::hand::Near;
 use far_core::{Core, Shape};
-use far_word::{EPOCH_END, Refused};
+use far_word::{EPOCH_END, Place, Refused};
 
 /// A core as the book's hand. It is still: what the view says is the state, whose words change by the book's calls alone.
 #[derive(Debug, Drop)]
@@ -69,6 +69,18 @@ impl Near for Plain {
 
     fn look(&mut self, owner: u8) -> u64 {
         self.core.look(owner)
+    }
+
+    fn offer(&mut self, job: u8, pointer: u16, _from: Place, to: Place) {
+        self.core.offer(job, pointer, to);
+    }
+
+    fn see_job(&mut self, job: u8) -> u64 {
+        self.core.see_job(job)
+    }
+
+    fn collect(&mut self, job: u8, old: u64) -> Result<(), u64> {
+        self.core.collect(job, old)
     }
 
     fn shape(&self) -> Shape {

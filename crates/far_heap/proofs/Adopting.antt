@@ -31,12 +31,12 @@ word_found w x says = cc
 
 pub adopted_used : (o o' : OwnerView) (p w : ℕ) → OwnerMade (Adopt o.number p) o (Word w) o' → in_use (read_of w) ≡ true
 adopted_used o o' p w made =
-    let s : State = state_of made.words made.book made.owners in
+    let s : State = state_of made.words made.book made.others in
     ap (λ n. in_use (read_of n)) (word_found w (s.cell p) made.says) ∙ made.legal.3
 
 pub adopted_fits : (o o' : OwnerView) (p w : ℕ) → OwnerMade (Adopt o.number p) o (Word w) o' → w < 2 ^ 64
 adopted_fits o o' p w made =
-    let s : State = state_of made.words made.book made.owners in
+    let s : State = state_of made.words made.book made.others in
     let low = (made.facts.law.cells.cell_read p).0 in
     let is = word_found w (s.cell p) made.says in
     subst (λ n. n < 2 ^ 64) (sym is) low

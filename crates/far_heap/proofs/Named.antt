@@ -17,7 +17,7 @@ module _ {D : Type 0} (heap : HeapId) where
   -- an event leaves size and honesty
   one_event : (s t : BookSeat D) (e : Event) (r : Reply) → table_of t ≡ table_of s → BookMade e (book_in s) r (book_in t) → heap_of t ≡ heap_of s
   one_event s t e r same made =
-      let rest = ((owed e).within (state_of made.words (book_in s) made.owners)).rest in
+      let rest = ((owed e).within (state_of made.words (book_in s) made.others)).rest in
       let is = sym made.becomes in
       let logs : (book_in t).logs ≡ (book_in s).logs = ap (λ (z : State). z.logs) is ∙ rest.1 in
       let mutators : (book_in t).mutators ≡ (book_in s).mutators = ap (λ (z : State). z.mutators) is ∙ rest.0 in

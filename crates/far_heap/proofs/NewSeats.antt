@@ -17,7 +17,7 @@ use Rattle.far_heap.specs.Blanks.{AreNew, IsUnused, NewSeats}
 use Rattle.far_heap.specs.Mine.{IsNew}
 use Rattle.far_hand.specs.Masked.{masked}
 use Rattle.far_hand.specs.ShapeOf.{shape_of}
-use Rattle.far_book.specs.book.Own.{IsAtStart}
+use Rattle.far_book.specs.book.Own.{HasNoJob, IsAtStart}
 use Rattle.far_heap.proofs.Newcomers.{new_owner, none_asked}
 
 -- ---- as they are shared
@@ -59,8 +59,14 @@ none_used v start = record {
 }
 
 -- what the book's seat knows at the start
-pub shape_start : (s v : State) (shape : Shape) (honest : Bool) → s ≡ opening shape false → v ≡ masked (record s { honest = honest }) s.cell (λ _. false) → shape_of v ≡ shape
-shape_start s v shape honest e is = ap shape_of (is ∙ ap (λ (t : State). masked (record t { honest = honest }) t.cell (λ _. false)) e)
+abbrev known_at : Bool → State → State
+known_at honest s = masked (record s { honest = honest }) s.cell (λ _. false) s.copying.word
 
-pub seat_start : (s v : State) (shape : Shape) (honest : Bool) → s ≡ opening shape false → v ≡ masked (record s { honest = honest }) s.cell (λ _. false) → IsAtStart v
-seat_start s v shape honest e is = subst IsAtStart (sym (is ∙ ap (λ (t : State). masked (record t { honest = honest }) t.cell (λ _. false)) e)) refl
+pub shape_start : (s v : State) (shape : Shape) (honest : Bool) → s ≡ opening shape false → v ≡ known_at honest s → shape_of v ≡ shape
+shape_start s v shape honest e is = ap shape_of (is ∙ ap (known_at honest) e)
+
+pub seat_start : (s v : State) (shape : Shape) (honest : Bool) → s ≡ opening shape false → v ≡ known_at honest s → IsAtStart v
+seat_start s v shape honest e is = subst IsAtStart (sym (is ∙ ap (known_at honest) e)) refl
+
+pub jobs_start : (s v : State) (shape : Shape) (honest : Bool) → s ≡ opening shape false → v ≡ known_at honest s → HasNoJob v
+jobs_start s v shape honest e is = subst HasNoJob (sym (is ∙ ap (known_at honest) e)) (λ _. refl)

@@ -51,7 +51,7 @@ there_of s p y e = e
 pub slow_word : (o o' : OwnerView) (p w : ℕ) (x : ObjectView) → OwnerMade (Pin o.number p) o (Word w) o' → p / CELLS ≡ o.number → object_at o p ≡ Some x →
     place_to_view (read_of w) ≡ None → IsSlow x.len x.ds (read_of w)
 slow_word o o' p w x made own used none =
-    let s : State = state_of made.words made.book made.owners in
+    let s : State = state_of made.words made.book made.others in
     let is : w ≡ s.cell p = found_is w (s.cell p) (place_to_view (read_of (s.cell p))) made.says in
     let has = (made.facts.owners o.number o made.stands).objects p x own used in
     let slow = slow_of s.word (s.stored p) p (read_of (s.cell p)) has.object (there_of s p has.object has.there) (ap (λ n. place_to_view (read_of n)) (sym is) ∙ none) in

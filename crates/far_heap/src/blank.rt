@@ -23,6 +23,8 @@ pub struct Blank<D: Device + Drop> {
 }
 
 impl<D: Device + Drop> Model for Blank<D> {
+    ghost use Rattle.far_table.specs.BookSeats.{seat_view};
+    ghost use Rattle.far_book.specs.book.Own.{HasNoJob};
     ghost use Rattle.far_heap.specs.Blanks.{BlankOf, NewSeats};
     ghost use Rattle.far_heap.specs.HeapId.{heap_of};
 
@@ -30,7 +32,7 @@ impl<D: Device + Drop> Model for Blank<D> {
 
     ghost view = { λ b. record { heap = heap_of b.book.near; book = b.book } };
 
-    ghost invariant = { λ b. NewSeats (heap_of b.book.near) b.seats.items };
+    ghost invariant = { λ b. NewSeats (heap_of b.book.near) b.seats.items × HasNoJob (seat_view b.book.near) };
 }
 
 impl<D: Device + Drop> Blank<D> {
@@ -52,7 +54,7 @@ impl<D: Device + Drop> Blank<D> {
             Ok(core) => core,
             Err(why) => return Err(why),
         };
-        let Ok((seat, seats)) = share(alloc, core, Snapshot::of(&device)) else {
+        let Ok((seat, seats, _copiers)) = share(alloc, core, Snapshot::of(&device)) else {
             return Err(Refused::Memory);
         };
         let Ok(book) = Book::new(alloc, seat, device) else {

@@ -12,7 +12,7 @@ ghost use Rattle.far_table.specs.Viewed.{NoneIsGivenOut};
 ghost use Rattle.far_table.specs.Whole.{IsWhole};
 ghost use Rattle.far_book.specs.book.Calls.{FindsHome, ListsSpans};
 ghost use Rattle.far_book.specs.book.FarSide.{HoldsFar};
-ghost use Rattle.far_book.specs.book.Own.{own_part};
+ghost use Rattle.far_book.specs.book.Own.{HasNoJob, own_part};
 ghost use Rattle.far_book.specs.book.Rows.{row_of};
 ghost use Rattle.far_evac.specs.Calls.{TakesCensus};
 ghost use Rattle.far_evac.specs.Census.{kind_in};
@@ -58,9 +58,10 @@ impl<K: HeapName, D: Device + Drop> Model for Evacuator<K, D> {
 }
 
 impl<K: HeapName, D: Device + Drop> Evacuator<K, D> {
-    // Over a book of the named heap, in no round.
+    // Over a book of the named heap, in no round, with no job.
     pub(crate) fn new(book: Book<BookSeat<D>, D>) -> Evacuator<K, D>
-        requires { heap_of book.near ≡ K.heap }
+        requires named { heap_of book.near ≡ K.heap }
+        requires alone { HasNoJob (seat_view book.near) }
         ensures book { result.book ≡ book }
         ensures idle { result.phase ≡ Idle }
         ensures none { result.collection ≡ [] }

@@ -57,6 +57,7 @@ round_as_if now p row x = record {
   clear = x.clear;
   later = x.later;
   alone = x.alone;
+  held = λ j job still. x.held j job record { says = still.says; good = still.good; lies = still.lies };
 }
 
 pub between_as_if : (s : State) (p : ℕ) (row : ℕ → ℕ) → Between s → Between (with_stored s p row)

@@ -1,5 +1,5 @@
 -- What mutators make of a core beside a round: which log is open then, and so the order of the sealed ones; and that the round is left alone.
-use Rattle.std.proofs.Common.{◌≡◌, ℕ, ◌<◌, ◌≤◌, ◌==◌, ◌&&◌, Bool, true, false, cond, not, refl, sym, ap, subst, ◌∙◌, Option, Some, None, is_some, List, [], ◌∷◌, ◌++◌, inl, inr, if◌then◌else◌}
+use Rattle.std.proofs.Common.{◌≡◌, ℕ, ◌<◌, ◌≤◌, ◌==◌, ◌&&◌, Bool, true, false, cond, not, refl, sym, ap, subst, ◌∙◌, Option, Some, None, is_some, List, [], ◌∷◌, ◌++◌, inl, inr, if◌then◌else◌, arith}
 use Rattle.std.proofs.lemmas.Bool.{cond_both, eq-eqb}
 use Rattle.far_word.specs.declared.mark.Mark.TheVariants.{Dropped, Moved}
 use Rattle.far_word.specs.declared.mark.Marks.{Marks}
@@ -20,8 +20,9 @@ use Rattle.far_hand.specs.Quiet.{is_quiet}
 use Rattle.far_book.specs.book.Dealing.{goal, goal_of, has_evac, moved_now}
 use Rattle.far_book.specs.book.Effects.{fetched, moved, order_after, placed, stayed, with_blank_span, with_free_cell}
 use Rattle.far_book.specs.book.Fetching.{far_len, order_fetched}
+use Rattle.far_book.proofs.region.Owns.{own_law}
 use Rattle.far_book.proofs.region.Fetched.{fetched_come}
-use Rattle.far_book.proofs.region.Moved.{moved_is, stayed_is}
+use Rattle.far_book.proofs.region.Moved.{moved_is, stayed_is, no_copy_in_room}
 use Rattle.far_book.proofs.region.Places.{named_is}
 use Rattle.far_evac.specs.Callers.{StepsAside}
 use Rattle.far_evac.proofs.StepsAside.{fetching_aside, layout, moving_aside, placing_aside, steps_join, still_aside}
@@ -107,7 +108,8 @@ module _ (s : State) (law : Law s) (p len ds : ℕ) (from place : Place) (marks 
   says = (read_says (s.cell p) (Near len ds from marks) (law.cells.cell_read p).0 near).0
 
   moved_current : marks.evac ≡ true → room s (size_of len) false ≡ Some place → (moved s p place).current ≡ place.log
-  moved_current wanted found = ap (λ (t : State). t.current) (moved_is s p len ds from place marks near alive wanted (layout s law len ds place false says.0 says.1 says.2 found))
+  moved_current wanted found = ap (λ (t : State). t.current) (moved_is s p len ds from place marks near alive wanted (layout s law len ds place false says.0 says.1 says.2 found)
+      (no_copy_in_room s (own_law s law) p (size_of len) from place false (omega arith) (omega (arith, says.1)) found))
 
   stayed_current : marks.evac ≡ false → (stayed s p).current ≡ s.current
   stayed_current unwanted = ap (λ (t : State). t.current) (stayed_is s p len ds from marks near alive asked unwanted (says.0, says.1, says.2, says.3, says.4))

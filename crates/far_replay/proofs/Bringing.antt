@@ -10,9 +10,11 @@ use Rattle.far_word.specs.declared.pointer.PtrWord.TheVariants.{Near, Far}
 use Rattle.far_word.specs.declared.sizes.TheConstants.{CELLS}
 use Rattle.far_word.specs.Mark.{marks_with}
 use Rattle.far_word.specs.Pointer.{read_of}
+use Rattle.far_core.specs.events.Copied.{copied_job}
+use Rattle.far_core.specs.events.namings.Moves.{after_move}
 use Rattle.far_core.specs.declared.event.Event.TheVariants.{Ask, Name}
 use Rattle.far_core.specs.declared.naming.Naming.{Naming}
-use Rattle.far_core.specs.declared.naming.Naming.TheVariants.{Stays}
+use Rattle.far_core.specs.declared.naming.Naming.TheVariants.{Stays, Moves}
 use Rattle.far_core.specs.events.Legal.{Legal}
 use Rattle.far_core.specs.events.Name.{after_naming}
 use Rattle.far_core.specs.events.Naming.{naming_of, naming_row}
@@ -165,8 +167,13 @@ pub record KeepsOwners (p : ℕ) (s t : State) : Type 0 where
 kept : (p : ℕ) (s : State) → KeepsOwners p s s
 kept p s = record { scope = refl; used = refl; mutators = refl; held = refl; cells = λ q ne. refl }
 
+move_keeps : (s : State) (p new len : ℕ) (to : Place) (j : Option ℕ) → KeepsOwners p s (after_move s p new len to j)
+move_keeps s p new len to None = record { scope = refl; used = refl; mutators = refl; held = refl; cells = λ q ne. put_other s.cell p new q ne }
+move_keeps s p new len to (Some j) = record { scope = refl; used = refl; mutators = refl; held = refl; cells = λ q ne. put_other s.cell p new q ne }
+
 form_keeps : (s : State) (p new : ℕ) (form : Naming) → KeepsOwners p s (naming_row s p new form).after
 form_keeps s p new Stays = record { scope = refl; used = refl; mutators = refl; held = refl; cells = λ q ne. put_other s.cell p new q ne }
+form_keeps s p new (Moves len ds from to) = move_keeps s p new len to (copied_job s p from to)
 form_keeps s p new _ = record { scope = refl; used = refl; mutators = refl; held = refl; cells = λ q ne. put_other s.cell p new q ne }
 
 naming_keeps : (s : State) (p new : ℕ) (o : Option Naming) → KeepsOwners p s (after_naming s p new o)

@@ -27,6 +27,7 @@ use Rattle.far_core.specs.state.Spans.{names_place}
 use Rattle.far_core.specs.state.State.{State, put, addr}
 use Rattle.far_core.specs.world.World.{World, Object}
 use Rattle.far_core.specs.world.WorldOf.{world_of, object_of}
+use Rattle.far_core.proofs.Copied.{NoCopy}
 use Rattle.far_core.proofs.Bounds.{span_len}
 use Rattle.far_core.proofs.Cells.{unused}
 use Rattle.far_core.proofs.NewSpans.{at_tail}
@@ -41,7 +42,7 @@ use Rattle.far_hand.proofs.Finding.{finds_same}
 use Rattle.far_book.proofs.region.Coming.{may_come, stands}
 use Rattle.far_book.proofs.region.Copying.{first, from_outside, head, layout_there, outside}
 use Rattle.far_book.proofs.region.Fetched.{fetched_come}
-use Rattle.far_book.proofs.region.Moved.{may_rename, moved_is, stayed_is}
+use Rattle.far_book.proofs.region.Moved.{may_rename, moved_is, stayed_is, no_copy}
 use Rattle.far_book.proofs.region.MovesReached.{moving, staying}
 use Rattle.far_book.proofs.region.Owns.{own_law}
 use Rattle.far_book.proofs.region.ReachingFar.{fetching}
@@ -128,6 +129,9 @@ module _ (s : State) (law : Law s) (p len ds : ℕ) (from to : Place) (m : Marks
       (leads_append s written (after written (Names p (s.cell p) (near_word len ds to))) (span_events p len ds to row) (name_events s p len ds to) written_leads
       (leads_one written (Names p (s.cell p) (near_word len ds to)) named_legal ((law.cells.cell_read p).0, word_fits (Near len ds to no_marks) (layout_there s p len ds from to may))))
 
+  uncopied : NoCopy s.copying p from to
+  uncopied = no_copy s may.law p from to is_room.next (omega (arith, is_room.fits))
+
   pub moved_brought : Brought s p (span_events p len ds to row ++ name_events s p len ds to) (moved s p to)
   moved_brought =
       let done = moving s p len ds from to m law near quiet alive wanted found in
@@ -141,11 +145,11 @@ module _ (s : State) (law : Law s) (p len ds : ℕ) (from to : Place) (m : Marks
         long = ap named_len near;
         bytes = ((λ q. ap (λ (w : World). bytes_in_world (w.object q)) is ∙ bytes_at (world_of s) p o _ there refl q), ap (λ (w : World). w.opened) is);
         held = (moved_keeps s p to (read_of (s.cell p))).held;
-        stored = ap (λ (t : State). t.stored) (moved_is s p len ds from to m near alive wanted (layout_there s p len ds from to may));
+        stored = ap (λ (t : State). t.stored) (moved_is s p len ds from to m near alive wanted (layout_there s p len ds from to may) uncopied);
         takes = subst (λ o. BringTakes s o (moved s p to)) (sym near) (subst (λ b. MatchBool b (TakesSpan s len (Some from.log) false (moved s p to)) (TakesNone s (moved s p to))) (sym wanted) (
           to,
           found,
-          ap (λ (t : State). t.tail) (moved_is s p len ds from to m near alive wanted (layout_there s p len ds from to may)),
+          ap (λ (t : State). t.tail) (moved_is s p len ds from to m near alive wanted (layout_there s p len ds from to may) uncopied),
           bytes_move s (moved s p to) law done.1 p len ds to (at_tail s law to is_room.next) done.3.cell done.3.cells done.3.header done.3.words done.3.tail done.3.tails (Some from.log) (Some (Near len ds from m)) near (λ l. refl),
         ));
       }

@@ -228,7 +228,7 @@ module _ (old mid : EvacOf Plain FarSide) (a : Access) (o : Outside) (law : Law 
       record {
         reply = read_told now a here x.room next.core x.state r told;
         moment = read_made now a here x.room next
-            (moment_joined now next (dereferenced now.core a.owner a.pointer) x.state (ordered ∙ sym (order_derefs now a.owner a.pointer now_law here.opened (uses_own now.core a.owner a.pointer here.own here.used) x.room)) round.0 round.1);
+            (moment_joined now next (dereferenced now.core a.owner a.pointer) x.state (ordered ∙ sym (order_derefs now a.owner a.pointer now_law here.opened (uses_own now.core a.owner a.pointer here.own here.used) x.room)) round.0 round.1 round.2);
       }
       (λ why e. let odd : Data (slice_range (data_of (state_in mid) a.pointer) a.from (a.from + a.count)) ≡ Refused why = sym told ∙ e in absurd cc)
       range_viewed.held (ap (λ (f : ℕ → ℕ → ℕ). f a.pointer) x.stored) x.spent
@@ -254,7 +254,7 @@ module _ (old mid : EvacOf Plain FarSide) (a : Access) (o : Outside) (law : Law 
           reply = ap (λ r. unless r Refused Done) (sym (writes_room now a here bytes long false x.room));
           moment = write_made now a here x.room bytes long end
               (moment_joined now end (with_data (dereferenced now.core a.owner a.pointer) a.pointer a.from bytes) written_there
-              (order ∙ ordered ∙ sym (order_derefs now a.owner a.pointer now_law here.opened (uses_own now.core a.owner a.pointer here.own here.used) x.room)) (later.0 ∙ round.0) (later.1 ∙ round.1));
+              (order ∙ ordered ∙ sym (order_derefs now a.owner a.pointer now_law here.opened (uses_own now.core a.owner a.pointer here.own here.used) x.room)) (later.0 ∙ round.0) (later.1 ∙ round.1) (later.2 ∙ round.2));
         }
         (λ why e. let odd : Done ≡ Refused why = e in absurd cc)
         (ap (λ (t : State). is_some (t.held a.pointer)) written_there ∙ sym (ap (λ (t : State). is_some (t.held a.pointer)) x.state) ∙ range_viewed.held)
@@ -283,7 +283,7 @@ module _ (old new : EvacOf Plain FarSide) (m p : ℕ) (o : Outside) (law : Law (
       record {
         reply = ap (λ r. unless r Refused Done) (sym (view_cause before later m p opened own used false x.room));
         moment = view_made before later m p opened own used x.room
-            (moment_joined before later (dereferenced before.core m p) x.state (x.order ∙ sym (order_derefs before m p before_law opened (uses_own before.core m p own used) x.room)) round.0 round.1);
+            (moment_joined before later (dereferenced before.core m p) x.state (x.order ∙ sym (order_derefs before m p before_law opened (uses_own before.core m p own used) x.room)) round.0 round.1 round.2);
       }
       (λ why e. let odd : Done ≡ Refused why = e in absurd cc)
       (ap (λ (t : State). is_some (t.held p)) x.state ∙ ap is_some led.view.holds.rests)

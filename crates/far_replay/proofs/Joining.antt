@@ -27,10 +27,10 @@ use Rattle.far_replay.proofs.WithCore.{moment_joined, same_order}
 
 -- its core by its events, and the rest by its parts
 pub made_whole : (now next : Moment) (c : Command) → IsNoStep c → Law now.core → Between now.core → WritesBytes c → next.core ≡ after_events now.core (events_for now c) →
-    next.order ≡ (effect now c).order → next.phase ≡ now.phase → next.collection ≡ now.collection → next ≡ effect now c
-made_whole now next c told law between small core order phase held =
+    next.order ≡ (effect now c).order → next.phase ≡ now.phase → next.collection ≡ now.collection → next.copying ≡ now.copying → next ≡ effect now c
+made_whole now next c told law between small core order phase held copying =
     let aside = told_effect now c told in
-    moment_joined now next (effect now c).core (events_make now next.core c told law between small core) (order ∙ ap (λ (m : Moment). m.order) aside) phase held ∙ sym aside
+    moment_joined now next (effect now c).core (events_make now next.core c told law between small core) (order ∙ ap (λ (m : Moment). m.order) aside) phase held copying ∙ sym aside
 
 -- ---- commands that open no other log
 kept_by : (now : Moment) (o : Option Refusal) (t : State) → t.current ≡ now.core.current → (unless o (λ _. now) (with_core now t)).order ≡ now.order

@@ -1,5 +1,5 @@
 -- What lasts between two commands: the law, and what the program keeps of it; so each command is carried out by its events.
-use Rattle.std.proofs.Common.{◌≡◌, ℕ, Bool, true, sym, ap, subst, ◌∙◌, refl, List, [], ◌∷◌, inl, inr}
+use Rattle.std.proofs.Common.{◌≡◌, ℕ, Bool, true, sym, ap, subst, ◌∙◌, refl, List, [], ◌∷◌, inl, inr, false}
 use Rattle.std.specs.Prelude.{All, Contains}
 use Rattle.std.proofs.lemmas.Bool.{cond_both}
 use Rattle.far_core.specs.declared.event.Event.{Event}
@@ -30,7 +30,7 @@ use Rattle.far_replay.specs.Turn.{effect, reply_to}
 use Rattle.far_text.proofs.Each.{Each}
 use Rattle.far_word.specs.Pointer.{read_of}
 use Rattle.far_replay.proofs.AsIfStored.{between_as_if, far_is_used, law_as_if, misled_fits, round_as_if, stored_again, viewed_stores}
-use Rattle.far_replay.proofs.ToldRounds.{told_round}
+use Rattle.far_replay.proofs.ToldRounds.{told_round, told_effect}
 use Rattle.far_replay.proofs.Outcomes.{by_outcome}
 use Rattle.far_replay.proofs.Opened.{opening_law, opening_between, opening_round, opening_strays}
 use Rattle.far_replay.proofs.RoundLeads.{between_kept, step_keeps as step_leaves, step_leads}
@@ -40,6 +40,7 @@ use Rattle.far_replay.proofs.Turns.{turns}
 pub record Lasts (now : Moment) : Type 0 where
   pub law : Law now.core
   pub round : MomentLaw now
+  pub alone : now.copying ≡ false
   pub between : Between now.core
   pub strays : NoneStrays now
 
@@ -70,19 +71,21 @@ told_lasts now c told lasts bytes =
     let law : Law (effect now c).core = subst Law x.ends x.law in
     record {
       law = law;
-      round = told_round now c told lasts.law law lasts.round;
+      round = told_round now c told lasts.law law lasts.round lasts.alone;
+      alone = ap (λ (m : Moment). m.copying) (told_effect now c told) ∙ lasts.alone;
       between = subst Between x.ends x.between;
       strays = told_strays now c (events_for now c) told lasts.law x.fit x.ends lasts.strays;
     }
 
 step_lasts : (now : Moment) (step : Step) → Lasts now → Lasts (effect now (Evacuator step))
 step_lasts now step lasts =
-    let leads = step_leads now step lasts.law lasts.round in
+    let leads = step_leads now step lasts.law lasts.round lasts.alone in
     record {
       law = leads.law;
       round = leads.moment;
-      between = between_kept now.core (effect now (Evacuator step)).core lasts.between (step_leaves now step lasts.law lasts.round);
-      strays = step_strays now step lasts.law lasts.round lasts.strays;
+      alone = leads.copying ∙ lasts.alone;
+      between = between_kept now.core (effect now (Evacuator step)).core lasts.between (step_leaves now step lasts.law lasts.round lasts.alone);
+      strays = step_strays now step lasts.law lasts.round lasts.alone lasts.strays;
     }
 
 pub effect_lasts : (now : Moment) (c : Command) → Lasts now → WritesBytes c → Lasts (effect now c)
@@ -101,6 +104,7 @@ pub lasts_as_if : (now : Moment) (p : ℕ) (row : ℕ → ℕ) → Lasts now →
 lasts_as_if now p row lasts used fits = record {
   law = law_as_if now.core p row lasts.law used fits;
   round = round_as_if now p row lasts.round;
+  alone = lasts.alone;
   between = between_as_if now.core p row lasts.between;
   strays = lasts.strays;
 }
@@ -139,6 +143,7 @@ pub first_lasts : (logs mutators epoch : ℕ) (honest : Bool) → is_shape (shap
 first_lasts logs mutators epoch honest fits = record {
   law = opening_law logs mutators epoch honest fits;
   round = opening_round logs mutators epoch honest fits;
+  alone = refl;
   between = opening_between logs mutators epoch honest fits;
   strays = opening_strays logs mutators epoch honest fits;
 }
@@ -184,7 +189,7 @@ each_is_moment now (d ∷ cs) (r ∷ rs) (m ∷ ms) is bytes h x c =
 each_is_moment now _ _ _ is bytes h x c = absurd h
 
 lawful : (now : Moment) → IsMoment now → Lawful now
-lawful now is = let x = moment_lasts now is in record { reached = is; law = x.law; round = x.round; named = x.between.named }
+lawful now is = let x = moment_lasts now is in record { reached = is; law = x.law; round = x.round; alone = x.alone; named = x.between.named }
 
 pub first_lawful : (logs mutators epoch : ℕ) (honest : Bool) → is_shape (shape_of logs mutators epoch) ≡ true → Lawful (first_moment logs mutators epoch honest)
 first_lawful logs mutators epoch honest fits = lawful (first_moment logs mutators epoch honest) (first_is_moment logs mutators epoch honest fits)

@@ -37,7 +37,7 @@ pub request_made : (old new : EvacOf Plain FarSide) (m : ℕ) (kept r : Request)
     told ≡ reply_to (moment_in old) (Mutator m r) → SpentBy Serves old new → Makes old (Mutator m kept) told new
 request_made old new m kept r told same small law between state order round reply spent =
     subst (λ q. Makes old (Mutator m q) told new) same
-    (made_served old new (Mutator m r) told (made_whole (moment_in old) (moment_in new) (Mutator m r) tt law between small state order round.0 round.1) reply spent)
+    (made_served old new (Mutator m r) told (made_whole (moment_in old) (moment_in new) (Mutator m r) tt law between small state order round.0 round.1 round.2) reply spent)
 
 -- by what the refusal of an object comes to
 pub made_or_wanted : {E : Type 0} (old new : EvacOf Plain FarSide) (c : Command) (scratch : Scratch) (r : Result Outcome E) (why : Refusal) → IfOk r (λ outcome. (outcome ≡ outcomes.Refused why) × (why ≢ Memory)) →

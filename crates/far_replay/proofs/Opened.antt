@@ -1,5 +1,7 @@
 -- What holds of the first state.
-use Rattle.std.proofs.Common.{◌≡◌, ◌==◌, ℕ, Bool, true, false, refl}
+use Rattle.std.proofs.Common.{◌≡◌, ◌==◌, ℕ, Bool, true, false, refl, []}
+use Rattle.far_evac.specs.declared.phase.Phase.TheVariants.{Idle}
+use Rattle.far_evac.proofs.HeldJobs.{none_held}
 use Rattle.std.proofs.lemmas.Bool.{cond_both, false≢true}
 use Rattle.far_core.specs.declared.event.Kind.{Kind}
 use Rattle.far_core.specs.declared.event.Kind.TheVariants.{Free, Open}
@@ -34,7 +36,8 @@ opening_round logs mutators epoch honest fits = record {
   only = λ risen. absurd (false≢true risen);
   clear = λ leaves. absurd cc;
   later = λ marks. absurd cc;
-  alone = λ j. refl;
+  alone = λ _ j. refl;
+  held = none_held (first_moment logs mutators epoch honest).core Idle [] (λ j. refl);
 }
 
 -- and the core has none

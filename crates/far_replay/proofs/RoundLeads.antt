@@ -114,9 +114,9 @@ pub waits : (now : Moment) (mutator epoch : ℕ) → refusal now (Evacuator Wait
 waits now mutator epoch = some_first (now.phase ≡ Waiting) (not (is_waiting now.phase)) WrongPhase (StillOpen mutator epoch) (wait_causes (polled now.core)) (λ _ e. absurd cc) (λ no _. waiting_is now.phase no)
 
 -- ---- each step leads on
-module _ (now : Moment) (law : Law now.core) (moment : MomentLaw now) where
+module _ (now : Moment) (law : Law now.core) (moment : MomentLaw now) (alone : now.copying ≡ false) where
   leads_nowhere : Leads now now
-  leads_nowhere = record { reached = reached_none now.core; law = law; moment = moment }
+  leads_nowhere = record { reached = reached_none now.core; law = law; moment = moment; copying = refl }
 
   wait_refused : (why : Refusal) → refusal now (Evacuator Wait) ≡ Some why → Leads now (refused_step now Wait why)
   wait_refused (StillOpen mutator epoch) e = polling now law moment (waits now mutator epoch e)
@@ -134,19 +134,19 @@ module _ (now : Moment) (law : Law now.core) (moment : MomentLaw now) where
       selecting now (logs_given given) law moment may.0.idle may.0.left chosen.once chosen.of_order
   made_leads (Mark count) e = marking now count law moment (marking_is now.phase (none_first (not (is_marking now.phase)) WrongPhase [] e).0)
   made_leads Wait e = polling now law moment (waiting_is now.phase (none_first (not (is_waiting now.phase)) WrongPhase (wait_causes (polled now.core)) e).0)
-  made_leads (Evacuate count) e = (walking now count law moment (evacuating_is now.phase (none_first (not (is_evacuating now.phase)) WrongPhase [] e).0)).answer
+  made_leads (Evacuate count) e = (walking now count law moment alone (evacuating_is now.phase (none_first (not (is_evacuating now.phase)) WrongPhase [] e).0)).answer
   made_leads Abort e = aborting now law moment
   made_leads (Round policy most turns) e =
       let logs = chosen_by policy (rows_in now) most in
       let may = begins now [] e in
       let chosen = policy_chooses now policy most moment in
-      round_leads now logs turns (round_told now logs turns) (after_round now logs turns) law moment may.0.idle may.0.left chosen.once chosen.of_order (is_round now logs turns)
+      round_leads now logs turns (round_told now logs turns) (after_round now logs turns) law moment alone may.0.idle may.0.left chosen.once chosen.of_order (is_round now logs turns)
 
-pub step_leads : (now : Moment) (step : Step) → Law now.core → MomentLaw now → Leads now (effect now (Evacuator step))
-step_leads now step law moment = by_outcome (Leads now) now step (refused_leads now law moment step) (made_leads now law moment step)
+pub step_leads : (now : Moment) (step : Step) → Law now.core → MomentLaw now → now.copying ≡ false → Leads now (effect now (Evacuator step))
+step_leads now step law moment alone = by_outcome (Leads now) now step (refused_leads now law moment alone step) (made_leads now law moment alone step)
 
 -- ---- and leaves what owners have
-module _ (now : Moment) (law : Law now.core) (moment : MomentLaw now) where
+module _ (now : Moment) (law : Law now.core) (moment : MomentLaw now) (alone : now.copying ≡ false) where
   abbrev Keeps : Moment → Type 0
   Keeps next = KeepsObjects now.core next.core
 
@@ -162,16 +162,16 @@ module _ (now : Moment) (law : Law now.core) (moment : MomentLaw now) where
   made_leaves (Select choice most) e = selecting_objects now (logs_given (given_by choice (rows_in now) most))
   made_leaves (Mark count) e = marking_objects now count law moment (marking_is now.phase (none_first (not (is_marking now.phase)) WrongPhase [] e).0)
   made_leaves Wait e = polling_objects now
-  made_leaves (Evacuate count) e = (walking_objects now count law moment (evacuating_is now.phase (none_first (not (is_evacuating now.phase)) WrongPhase [] e).0)).answer
+  made_leaves (Evacuate count) e = (walking_objects now count law moment alone (evacuating_is now.phase (none_first (not (is_evacuating now.phase)) WrongPhase [] e).0)).answer
   made_leaves Abort e = aborting_objects now law moment
   made_leaves (Round policy most turns) e =
       let logs = chosen_by policy (rows_in now) most in
       let may = begins now [] e in
       let chosen = policy_chooses now policy most moment in
-      whole_objects now logs turns (round_told now logs turns) (after_round now logs turns) law moment may.0.idle may.0.left chosen.once chosen.of_order (is_round now logs turns)
+      whole_objects now logs turns (round_told now logs turns) (after_round now logs turns) law moment alone may.0.idle may.0.left chosen.once chosen.of_order (is_round now logs turns)
 
-pub step_keeps : (now : Moment) (step : Step) → Law now.core → MomentLaw now → KeepsObjects now.core (effect now (Evacuator step)).core
-step_keeps now step law moment = by_outcome (Keeps now law moment) now step (λ why _. refused_leaves now law moment step why) (made_leaves now law moment step)
+pub step_keeps : (now : Moment) (step : Step) → Law now.core → MomentLaw now → now.copying ≡ false → KeepsObjects now.core (effect now (Evacuator step)).core
+step_keeps now step law moment alone = by_outcome (Keeps now law moment alone) now step (λ why _. refused_leaves now law moment alone step why) (made_leaves now law moment alone step)
 
 -- ---- what is left as it was
 zero_kept : (cell : ℕ) → cell ≡ 0 → is_dropped (read_of cell) ≡ false

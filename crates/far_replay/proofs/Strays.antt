@@ -1,5 +1,5 @@
 -- Through each command an object that lies in a log of the core's round lies in one of the collection set.
-use Rattle.std.proofs.Common.{◌≡◌, Bool, true, not, None, List, [], ◌∷◌, sym, subst, refl}
+use Rattle.std.proofs.Common.{◌≡◌, Bool, true, not, None, List, [], ◌∷◌, sym, subst, refl, false}
 use Rattle.far_word.specs.declared.refused.Refused.{Refused as Refusal}
 use Rattle.far_word.specs.declared.refused.Refused.TheVariants.{Phase as WrongPhase, StillOpen}
 use Rattle.far_core.specs.declared.event.Event.{Event}
@@ -27,7 +27,7 @@ use Rattle.far_replay.proofs.RoundLeads.{begins, by_outcome, evacuating_is, is_r
 use Rattle.far_replay.proofs.ToldRounds.{aside, told_effect}
 
 -- ---- a step of the evacuator
-module _ (now : Moment) (law : Law now.core) (moment : MomentLaw now) (none : NoneStrays now) where
+module _ (now : Moment) (law : Law now.core) (moment : MomentLaw now) (alone : now.copying ≡ false) (none : NoneStrays now) where
   refused_strays : (step : Step) (why : Refusal) → NoneStrays (refused_step now step why)
   refused_strays Wait (StillOpen mutator epoch) = polling_none now none
   refused_strays step why = none
@@ -39,16 +39,16 @@ module _ (now : Moment) (law : Law now.core) (moment : MomentLaw now) (none : No
       selecting_none now (logs_given given) moment may.0.idle none
   made_strays (Mark count) e = marking_none now count law none
   made_strays Wait e = polling_none now none
-  made_strays (Evacuate count) e = walking_none now count law moment (evacuating_is now.phase (none_first (not (is_evacuating now.phase)) WrongPhase [] e).0)
+  made_strays (Evacuate count) e = walking_none now count law moment alone (evacuating_is now.phase (none_first (not (is_evacuating now.phase)) WrongPhase [] e).0)
   made_strays Abort e = aborting_none now law none
   made_strays (Round policy most turns) e =
       let logs = chosen_by policy (rows_in now) most in
       let may = begins now [] e in
       let chosen = policy_chooses now policy most moment in
-      round_none now logs turns (round_told now logs turns) (after_round now logs turns) law moment may.0.idle may.0.left chosen.once chosen.of_order (is_round now logs turns) none
+      round_none now logs turns (round_told now logs turns) (after_round now logs turns) law moment alone may.0.idle may.0.left chosen.once chosen.of_order (is_round now logs turns) none
 
-pub step_strays : (now : Moment) (step : Step) → Law now.core → MomentLaw now → NoneStrays now → NoneStrays (effect now (Evacuator step))
-step_strays now step law moment none = by_outcome NoneStrays now step (λ why _. refused_strays now law moment none step why) (made_strays now law moment none step)
+pub step_strays : (now : Moment) (step : Step) → Law now.core → MomentLaw now → now.copying ≡ false → NoneStrays now → NoneStrays (effect now (Evacuator step))
+step_strays now step law moment alone none = by_outcome NoneStrays now step (λ why _. refused_strays now law moment alone none step why) (made_strays now law moment alone none step)
 
 -- ---- any other command
 rows_bring : (s : State) (e : Event) (es : List Event) → Law s → Each Fits (e ∷ es) → Brings s (after_events s (e ∷ es))

@@ -1,5 +1,6 @@
 -- Each command that is told by events leaves a round alone, and so keeps what is true of a heap between two calls of the evacuator.
-use Rattle.std.proofs.Common.{◌≡◌, ℕ, true, ◌&&◌, nat_lt, nat_le, refl, sym, subst, Option, Some, None, is_some, length}
+use Rattle.std.proofs.Common.{◌≡◌, ℕ, true, ◌&&◌, nat_lt, nat_le, refl, sym, subst, Option, Some, None, is_some, length, false, ◌∙◌}
+use Rattle.std.proofs.lemmas.Bool.{false≢true}
 use Rattle.far_word.specs.declared.pointer.Place.{Place}
 use Rattle.far_word.specs.declared.refused.Refused.{Refused as Refusal}
 use Rattle.far_word.specs.declared.refused.Refused.TheVariants.{NoRoom, NoPointer, Length, Closed, NotHeld, Range, Marked}
@@ -91,5 +92,6 @@ pub aside : (now : Moment) (c : Command) → IsNoStep c → Law now.core → Ste
 aside now c told law = aside_at now c (refusal now c) told law refl
 
 -- ---- and keeps what is true between two calls
-pub told_round : (now : Moment) (c : Command) → IsNoStep c → Law now.core → Law (effect now c).core → MomentLaw now → MomentLaw (effect now c)
-told_round now c told law then moment = subst MomentLaw (sym (told_effect now c told)) (steps_keep now (effect now c).core law moment then (aside now c told law))
+pub told_round : (now : Moment) (c : Command) → IsNoStep c → Law now.core → Law (effect now c).core → MomentLaw now → now.copying ≡ false → MomentLaw (effect now c)
+told_round now c told law then moment alone =
+    subst MomentLaw (sym (told_effect now c told)) (steps_keep now (effect now c).core law moment then (aside now c told law) (λ copies. absurd (false≢true (sym alone ∙ copies))))

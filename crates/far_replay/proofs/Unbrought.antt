@@ -73,7 +73,7 @@ kept_far s t p why keeps h = absurd keeps
 
 module _ (now next : Moment) (m p : ℕ) (law : Law now.core) (opened : is_opened now.core m ≡ true) (own : p / CELLS ≡ m) (used : now.core.used p ≡ true) (why : Refusal) (keeps : KeepsFar why)
     (refuses : RefusesView now.core m p why next.core) (far : says_near (read_of (now.core.cell p)) ≡ false)
-    (order : next.order ≡ now.order) (phase : next.phase ≡ now.phase) (held : next.collection ≡ now.collection) where
+    (order : next.order ≡ now.order) (phase : next.phase ≡ now.phase) (held : next.collection ≡ now.collection) (copying : next.copying ≡ now.copying) where
   lies : SaysFar (read_of (now.core.cell p))
   lies = far_is (read_of (now.core.cell p)) far (law.views.used_cell p used)
 
@@ -90,7 +90,7 @@ module _ (now next : Moment) (m p : ℕ) (law : Law now.core) (opened : is_opene
   tried_moment =
       let c : Command = Mutator m (Try p) in
       moment_joined now next (with_view now.core p) (left.1 ∙ far_sought now.core m p law opened own used refuses.0 lies)
-      (order ∙ sym (same_order now (with_view now.core p) (ap (λ (t : State). t.current) (slow_view now.core p refuses.0)))) phase held
+      (order ∙ sym (same_order now (with_view now.core p) (ap (λ (t : State). t.current) (slow_view now.core p refuses.0)))) phase held copying
       ∙ ap (λ o. unless o (refused_effect now c) (turn_effect now c)) (sym cause)
 
   unbrought : (c : Command) → refusal now c ≡ None → Unbrought why now c m p (Refused why) next
@@ -111,10 +111,10 @@ lacks_room s t m p h = rw (h.0, h.1.0) refl
 
 -- a command that seeks it and is refused so
 unplaced : (now next : Moment) (m p : ℕ) (c : Command) → refusal now c ≡ Some NoRoom → refused_effect now c NoRoom ≡ with_core now (sought now.core m p) → RefusesView now.core m p NoRoom next.core →
-    next.order ≡ now.order → next.phase ≡ now.phase → next.collection ≡ now.collection → Served now c (Refused NoRoom) next
-unplaced now next m p c cause leaves refuses order phase held = record {
+    next.order ≡ now.order → next.phase ≡ now.phase → next.collection ≡ now.collection → next.copying ≡ now.copying → Served now c (Refused NoRoom) next
+unplaced now next m p c cause leaves refuses order phase held copying = record {
   reply = ap (λ o. unless o Refused (turn_reply now c)) (sym cause);
-  moment = moment_joined now next (sought now.core m p) refuses.1.1 (order ∙ sym (same_order now (sought now.core m p) (sought_current now.core m p))) phase held
+  moment = moment_joined now next (sought now.core m p) refuses.1.1 (order ∙ sym (same_order now (sought now.core m p) (sought_current now.core m p))) phase held copying
       ∙ sym leaves ∙ ap (λ o. unless o (refused_effect now c) (turn_effect now c)) (sym cause);
 }
 
@@ -150,7 +150,7 @@ module _ {old new : EvacOf Plain FarSide} {m p : ℕ} {c : Command} {why : Refus
   within : why ≡ NoRoom → Makes old c (Refused why) new
   within room =
       let refuses = subst (λ w. RefusesView (state_in old) m p w (state_in new)) room x.refuses in
-      let served = unplaced (moment_in old) (moment_in new) m p c (x.cause true (lacks_room (state_in old) (state_in new) m p refuses)) x.leaves refuses x.shut x.round.0 x.round.1 in
+      let served = unplaced (moment_in old) (moment_in new) m p c (x.cause true (lacks_room (state_in old) (state_in new) m p refuses)) x.leaves refuses x.shut x.round.0 x.round.1 x.round.2 in
       subst (λ w. Makes old c (Refused w) new) (sym room) (Serves, served, subst (λ w. SpentBy (refuser w) old new) room x.spent)
 
   outside : KeepsFar why → Makes old c (Refused why) new
@@ -158,8 +158,8 @@ module _ {old new : EvacOf Plain FarSide} {m p : ℕ} {c : Command} {why : Refus
       let now : Moment = moment_in old in
       let next : Moment = moment_in new in
       let law = old.book.near.core.law in
-      let room = has_room now next m p law x.opened x.own x.used why keeps x.refuses (x.far keeps) x.shut x.round.0 x.round.1 in
-      let stops = unbrought now next m p law x.opened x.own x.used why keeps x.refuses (x.far keeps) x.shut x.round.0 x.round.1 c (x.cause false room) in
+      let room = has_room now next m p law x.opened x.own x.used why keeps x.refuses (x.far keeps) x.shut x.round.0 x.round.1 x.round.2 in
+      let stops = unbrought now next m p law x.opened x.own x.used why keeps x.refuses (x.far keeps) x.shut x.round.0 x.round.1 x.round.2 c (x.cause false room) in
       (Refuses why 0 0, x.stops stops, subst (λ o. SpentBy o old new) (refuser_is why keeps) x.spent)
 
   -- whatever stands in the buffers

@@ -11,5 +11,5 @@ pub same_core : (m : Moment) → with_core m m.core ≡ m
 same_core m = ap (λ order. record m { order = order }) (same_order m m.core refl)
 
 -- a moment by its parts
-pub moment_joined : (m next : Moment) (t : State) → next.core ≡ t → next.order ≡ (with_core m t).order → next.phase ≡ m.phase → next.collection ≡ m.collection → next ≡ with_core m t
-moment_joined m next t core order phase held = λ i. record { core = core i; order = order i; phase = phase i; collection = held i }
+pub moment_joined : (m next : Moment) (t : State) → next.core ≡ t → next.order ≡ (with_core m t).order → next.phase ≡ m.phase → next.collection ≡ m.collection → next.copying ≡ m.copying → next ≡ with_core m t
+moment_joined m next t core order phase held copying = λ i. record { core = core i; order = order i; phase = phase i; collection = held i; copying = copying i }

@@ -1,5 +1,5 @@
 -- What is true of each moment of an output.
-use Rattle.std.specs.Prelude.{◌≡◌, ◌≢◌, ℕ, true}
+use Rattle.std.specs.Prelude.{◌≡◌, ◌≢◌, ℕ, false, true}
 use Rattle.far_core.specs.state.Law.{Law}
 use Rattle.far_evac.specs.MomentLaw.{MomentLaw}
 use Rattle.far_replay.specs.Answers.{IsMoment}
@@ -10,4 +10,6 @@ pub record Lawful (now : Moment) : Type 0 where
   pub reached : IsMoment now
   pub law : Law now.core
   pub round : MomentLaw now
+  -- nothing is offered to copiers
+  pub alone : now.copying ≡ false
   pub named : (p : ℕ) → now.core.cell p ≢ 0 → now.core.used p ≡ true

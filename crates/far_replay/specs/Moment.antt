@@ -1,5 +1,5 @@
 -- A heap between two commands: all that a command's refusal, effect and reply may hang on.
-use Rattle.std.specs.Prelude.{◌≡◌, ℕ, []}
+use Rattle.std.specs.Prelude.{◌≡◌, ℕ, false, []}
 use Rattle.far_core.specs.state.CoreState.{core_state}
 use Rattle.far_core.specs.state.State.{State, put}
 use Rattle.far_device.specs.declared.fail_at.FailAt.{FailAt}
@@ -10,9 +10,9 @@ use Rattle.far_evac.specs.EvacOf.{EvacOf}
 pub use Rattle.far_evac.specs.Moment.{Moment, with_core}
 use Rattle.far_evac.specs.declared.phase.Phase.TheVariants.{Idle}
 
--- a core of which no log was ever sealed, in no round
+-- a core of which no log was ever sealed, in no round; nothing is offered to copiers
 abbrev pub moment_of : State → Moment
-moment_of s = record { core = s; order = []; phase = Idle; collection = [] }
+moment_of s = record { core = s; order = []; phase = Idle; collection = []; copying = false }
 
 -- the far side: a device in memory, of which one call may fail, and one read may be a lie
 abbrev pub FarSide : Type 0
@@ -31,8 +31,8 @@ state_in evac = core_state evac.book.near.core
 
 -- where an evacuator stands
 abbrev pub moment_in : EvacOf Plain FarSide → Moment
-moment_in evac = record { core = state_in evac; order = evac.book.order; phase = evac.phase; collection = evac.collection }
+moment_in evac = record { core = state_in evac; order = evac.book.order; phase = evac.phase; collection = evac.collection; copying = evac.copying }
 
 -- from one evacuator to another the round stays as it was
 abbrev pub KeepsRound : EvacOf Plain FarSide → EvacOf Plain FarSide → Type 0
-KeepsRound old new = (new.phase ≡ old.phase) × (new.collection ≡ old.collection)
+KeepsRound old new = (new.phase ≡ old.phase) × (new.collection ≡ old.collection) × (new.copying ≡ old.copying)

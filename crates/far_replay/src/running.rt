@@ -1,6 +1,6 @@
 //! A whole run: a text in, replies out.
 
-ghost use Rattle.std.specs.Prelude.{◌≡◌, ◌≢◌, ◌<◌, ◌∷◌, ◌++◌, ℕ, Option, true, cond, List, length, slice_index, take, Ok, Err, IfOk, IfErr, IfSome, OnOk};
+ghost use Rattle.std.specs.Prelude.{◌≡◌, ◌≢◌, ◌<◌, ◌∷◌, ◌++◌, ℕ, Option, true, false, cond, List, length, slice_index, take, Ok, Err, IfOk, IfErr, IfSome, OnOk};
 ghost use Rattle.far_reply.specs.Reply.{refusal_text};
 ghost use Rattle.far_replay.specs.Outcome.{reply_by, told_by, IsInScratch};
 ghost use Rattle.far_reply.specs.Stream.{Holds, Writes};
@@ -153,6 +153,7 @@ fn answer_commands<W: Write>(
 ) -> Result<(), RunFault>
     requires between { Between (state_in evac) }
     requires round { MomentLaw (moment_in evac) }
+    requires alone { evac.copying ≡ false }
     requires strays { NoneStrays (moment_in evac) }
     requires few { may_spoil (lie_of (option_map as_device device)) evac (flaws (option_map as_device device)) }
     ensures { (outside : List Outside) × (replies : List Answer) × (moments : List Moment) × FlawedAtMost (lie_of (option_map as_device device)) (flaws (option_map as_device device)) outside × AnsweredBy outside (moment_in evac) commands.now replies moments

@@ -123,15 +123,15 @@ keeps_turns logs order = record {
   marks = λ m n tally lawful is h. cond_both (leaves_some m n) (record m { core = marked_core m n }) (record m { core = advanced (marked_core m n) m.collection; phase = Waiting }) (Stands logs order)
       (λ _. record { ages = h.ages; within = h.within }) (λ _. record { ages = h.ages; within = h.within });
   looks = λ m k phase tally lawful is h. record { ages = h.ages; within = h.within };
-  walks = λ m n tally law moment is h. walked_ages logs order m n h;
+  walks = λ m n tally law moment alone is h. walked_ages logs order m n h;
   ends = λ m tally h. record { ages = h.ages; within = h.within };
 }
 
 begun_ages : (now : Moment) (l : ℕ) (ls : List ℕ) → Stands (l ∷ ls) now.order (after_selecting now (l ∷ ls))
 begun_ages now l ls = record { ages = same_ages (l ∷ ls) now.order now.order refl; within = λ k h. h }
 
-turns_ages : (logs order : List ℕ) (m : Moment) (n : ℕ) → Law m.core → MomentLaw m → is_idle m.phase ≡ false → Stands logs order m → Stands logs order (turns_made m n).moment
-turns_ages logs order m n law moment runs h = turns_kept_exactly (λ t tally. Stands logs order t) (keeps_turns logs order) m n law moment runs h
+turns_ages : (logs order : List ℕ) (m : Moment) (n : ℕ) → Law m.core → MomentLaw m → m.copying ≡ false → is_idle m.phase ≡ false → Stands logs order m → Stands logs order (turns_made m n).moment
+turns_ages logs order m n law moment alone runs h = turns_kept_exactly (λ t tally. Stands logs order t) (keeps_turns logs order) m n law moment alone runs h
 
 -- ---- commands
 from_ages : (now : Moment) (c : Command) (after : Moment) (logs : List ℕ) → Ages logs now.order after.order → ((l : ℕ) → among logs l ≡ true → MayGiveBack now c l) → KeepsAges now c after
@@ -158,15 +158,15 @@ polled_order : (now : Moment) (o : Option ℕ) → (polled_to now o).order ≡ n
 polled_order now None = refl
 polled_order now (Some k) = refl
 
-module _ (now : Moment) (law : Law now.core) (moment : MomentLaw now) where
+module _ (now : Moment) (law : Law now.core) (moment : MomentLaw now) (alone : now.copying ≡ false) where
   round_keeps : (policy : Policy) (most turns : ℕ) → refusal now (Evacuator (Round policy most turns)) ≡ None → (logs : List ℕ) → chosen_by policy (rows_in now) most ≡ logs → KeepsAges now (Evacuator (Round policy most turns)) (after_round now logs turns)
   round_keeps policy most turns may [] e = still now (Evacuator (Round policy most turns)) now refl
   round_keeps policy most turns may (l ∷ ls) e =
       let m : Moment = after_selecting now (l ∷ ls) in
-      let begun = starts now law moment policy most turns may (l ∷ ls) e in
-      let x = turns_ages (l ∷ ls) now.order m turns begun.law begun.moment refl (begun_ages now l ls) in
+      let begun = starts now law moment alone policy most turns may (l ∷ ls) e in
+      let x = turns_ages (l ∷ ls) now.order m turns begun.law begun.moment (begun.copying ∙ alone) refl (begun_ages now l ls) in
       from_ages now (Evacuator (Round policy most turns)) (turns_made m turns).moment (l ∷ ls) x.ages
-      (λ k h. (l ∷ ls, subst (Takes now (By policy) most) e (policy_takes now law moment policy most), among_in k (l ∷ ls) h))
+      (λ k h. (l ∷ ls, subst (Takes now (By policy) most) e (policy_takes now law moment alone policy most), among_in k (l ∷ ls) h))
 
   made_keeps : (step : Step) → refusal now (Evacuator step) ≡ None → KeepsAges now (Evacuator step) (step_effect now step)
   made_keeps (Select choice most) may = still now (Evacuator (Select choice most)) (step_effect now (Select choice most)) (selected_order now (logs_given (given_by choice (rows_in now) most)))
@@ -187,7 +187,7 @@ module _ (now : Moment) (law : Law now.core) (moment : MomentLaw now) where
 effect_keeps : (now : Moment) (c : Command) → Lasts now → KeepsAges now c (effect now c)
 effect_keeps now (Mutator m request) lasts = told_keeps now (Mutator m request) tt
 effect_keeps now (Book inquiry) lasts = told_keeps now (Book inquiry) tt
-effect_keeps now (Evacuator step) lasts = step_keeps now lasts.law lasts.round step (refusal now (Evacuator step)) refl
+effect_keeps now (Evacuator step) lasts = step_keeps now lasts.law lasts.round lasts.alone step (refusal now (Evacuator step)) refl
 
 served_keeps : (now : Moment) (c : Command) (r : Reply) (next : Moment) → IsMoment now → Served now c r next → KeepsAges now c next
 served_keeps now c r next is h = subst (KeepsAges now c) (sym h.moment) (effect_keeps now c (moment_lasts now is))
@@ -198,12 +198,12 @@ stop_keeps : (now : Moment) → Lasts now → (policy : Policy) (most turns coun
 stop_keeps now lasts policy most turns count objects stood next progress h left =
     let logs = h.log ∷ h.logs in
     let m : Moment = after_selecting now logs in
-    let began = begun now lasts.law lasts.round policy most turns stood h in
-    let x : Stands logs now.order stood = subst (Stands logs now.order) (sym h.stands) (turns_ages logs now.order m turns began.law began.moment refl (begun_ages now h.log h.logs)) in
+    let began = begun now lasts.law lasts.round lasts.alone policy most turns stood h in
+    let x : Stands logs now.order stood = subst (Stands logs now.order) (sym h.stands) (turns_ages logs now.order m turns began.law began.moment (began.copying ∙ lasts.alone) refl (begun_ages now h.log h.logs)) in
     let w = walked_ages logs now.order stood objects x in
     let ages : Ages logs now.order next.order = subst (λ (y : Moment). Ages logs now.order y.order) (sym left.stands) w.ages in
     from_ages now (Evacuator (Round policy most count)) next logs ages
-    (λ k e. (logs, subst (Takes now (By policy) most) h.chosen (policy_takes now lasts.law lasts.round policy most), among_in k logs e))
+    (λ k e. (logs, subst (Takes now (By policy) most) h.chosen (policy_takes now lasts.law lasts.round lasts.alone policy most), among_in k logs e))
 
 -- a command that was given other words gives none back
 misled_keeps : (row : ℕ → ℕ) (now : Moment) (r : Reply) (next : Moment) (m p : ℕ) → IsMoment now → (c : Command) → AsksFor m p c → Misled row now c p r next → KeepsAges (as_if_stored now p row) c (as_if_stored next p row) → KeepsAges now c next

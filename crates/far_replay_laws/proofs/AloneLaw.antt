@@ -96,7 +96,7 @@ served_mutators now (Mutator k request) r next lasts small h =
     ap (λ (t : State). t.mutators) (command_carried now (Mutator k request) r next tt lasts small h).state ∙ made_mutators now.core (events_for now (Mutator k request))
 served_mutators now (Book inquiry) r next lasts small h =
     ap (λ (t : State). t.mutators) (command_carried now (Book inquiry) r next tt lasts small h).state ∙ made_mutators now.core (events_for now (Book inquiry))
-served_mutators now (Evacuator step) r next lasts small h = ap (λ (m : Moment). m.core.mutators) h.moment ∙ (step_keeps now step lasts.law lasts.round).mutators
+served_mutators now (Evacuator step) r next lasts small h = ap (λ (m : Moment). m.core.mutators) h.moment ∙ (step_keeps now step lasts.law lasts.round lasts.alone).mutators
 
 -- and the device lies no more and no less
 made_honest : (s : State) (es : List Event) → (after_events s es).honest ≡ s.honest
@@ -108,7 +108,7 @@ served_honest now (Mutator k request) r next lasts small h =
     ap (λ (t : State). t.honest) (command_carried now (Mutator k request) r next tt lasts small h).state ∙ made_honest now.core (events_for now (Mutator k request))
 served_honest now (Book inquiry) r next lasts small h =
     ap (λ (t : State). t.honest) (command_carried now (Book inquiry) r next tt lasts small h).state ∙ made_honest now.core (events_for now (Book inquiry))
-served_honest now (Evacuator step) r next lasts small h = ap (λ (m : Moment). m.core.honest) h.moment ∙ (step_keeps now step lasts.law lasts.round).honest
+served_honest now (Evacuator step) r next lasts small h = ap (λ (m : Moment). m.core.honest) h.moment ∙ (step_keeps now step lasts.law lasts.round lasts.alone).honest
 
 -- each command tells a mutator what its reply says, or nothing
 served_taught : (now : Moment) (m : ℕ) (c : Command) (r : Reply) (next : Moment) → Lasts now → m < now.core.mutators → WritesBytes c → Served now c r next → Taught now.core m c r next.core
@@ -117,7 +117,7 @@ served_taught now m (Mutator k request) r next lasts within small h =
 served_taught now m (Book inquiry) r next lasts within small h =
     taught now m (Book inquiry) r next.core tt lasts.law lasts.between within small (command_carried now (Book inquiry) r next tt lasts small h)
 served_taught now m (Evacuator step) r next lasts within small h =
-    ap (λ (x : Moment). own_of (world_of x.core) m) h.moment ∙ owned_same now.core (effect now (Evacuator step)).core m (step_keeps now step lasts.law lasts.round)
+    ap (λ (x : Moment). own_of (world_of x.core) m) h.moment ∙ owned_same now.core (effect now (Evacuator step)).core m (step_keeps now step lasts.law lasts.round lasts.alone)
 
 -- whether the device tells what was written or may not
 known_by : (b honest : Bool) (m : ℕ) (o q : Own) (c : Command) (r : Reply) (E : Type 0) → MatchBool b (Knows m o c r q) E → MatchBool b (KnowsBy honest m o c r q) E

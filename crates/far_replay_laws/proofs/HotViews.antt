@@ -11,6 +11,8 @@ use Rattle.far_word.specs.declared.sizes.TheConstants.{CELLS}
 use Rattle.far_word.specs.Job.{job_of}
 use Rattle.far_word.specs.Mark.{position}
 use Rattle.far_word.specs.Pointer.{read_of, with_mark, without_evac}
+use Rattle.far_core.specs.events.Copied.{copied_job}
+use Rattle.far_core.specs.events.namings.Moves.{after_move}
 use Rattle.far_core.specs.declared.event.Event.{Event}
 use Rattle.far_core.specs.declared.event.Event.TheVariants.{Pin, Close, Name, Mark, Ask, Get, Clear, Offer, Claim, Finish, Collect}
 use Rattle.far_core.specs.declared.event.Reply.{Reply as Answer}
@@ -29,6 +31,7 @@ use Rattle.far_core.specs.events.Quiet.{has_move}
 use Rattle.far_core.specs.events.Step.{after, place_to_view, step_of, with_hold}
 use Rattle.far_core.specs.state.Law.{Law, held_place}
 use Rattle.far_core.specs.state.State.{State, put}
+use Rattle.far_core.proofs.Copied.{moves_quiet}
 use Rattle.far_core.proofs.Bounds.{some_of}
 use Rattle.far_core.proofs.Cells.{held_near, map_mark, read_hot}
 use Rattle.far_core.proofs.Owing.{is_fact, replies_report}
@@ -70,10 +73,16 @@ cell_hot s p new hot there q h = put_both (λ w. is_hot (read_of w) ≡ true) s.
 no_view : (o : Option Place) → o ≡ None → is_some o ≡ true → ⊥
 no_view o e h = false≢true (sym (ap is_some e) ∙ h)
 
+-- a move takes a span, or names what was copied
+move_hot : (s : State) (p new len : ℕ) (to : Place) (j : Option ℕ) → AllHot s → (is_some (s.held p) ≡ true → ⊥) → AllHot (after_move s p new len to j)
+move_hot s p new len to None hot none = cell_hot s p new hot (λ h. absurd (none h))
+move_hot s p new len to (Some j) hot none = cell_hot s p new hot (λ h. absurd (none h))
+
 -- a naming, of what isn't held
 named_hot : (s : State) (p new : ℕ) (o : Option Naming) → AllHot s → (is_some (s.held p) ≡ true → ⊥) → AllHot (after_naming s p new o)
 named_hot s p new None hot none = hot
 named_hot s p new (Some (Places len ds place)) hot none = cell_hot s p new hot (λ h. absurd (none h))
+named_hot s p new (Some (Moves len ds from to)) hot none = move_hot s p new len to (copied_job s p from to) hot none
 named_hot s p new _ hot none = cell_hot s p new hot (λ h. absurd (none h))
 
 -- no form names what is held
@@ -98,7 +107,7 @@ module _ (s : State) (law : Law s) (p old new : ℕ) (is : s.cell p ≡ old) (he
   no_form Retires h legal = false≢true (sym says.4 ∙ h.0)
   no_form (Evicts len place) h legal = unquiet (quiet_unheld s law p legal)
   no_form Stays (len, ds, place, m, was, alive, moved, unwanted, now) legal = false≢true (sym says.3 ∙ ap has_move was ∙ moved)
-  no_form (Moves len ds from to) h legal = unquiet (quiet_unheld s law p legal.quiet)
+  no_form (Moves len ds from to) h legal = unquiet (quiet_unheld s law p (moves_quiet s law p len ds from to legal))
   no_form (Fetches len ds place) ((m, was, alive), now) legal = let odd : Some (Far len ds m) ≡ Some (Near says.0 says.1 says.2 says.5) = sym was ∙ says.6 in cc
 
 -- ---- each event

@@ -13,9 +13,11 @@ use Rattle.far_word.specs.Mark.{position}
 use Rattle.far_word.specs.Pointer.{IsPtr, read_of}
 use Rattle.far_word.specs.Sizes.{size_of}
 use Rattle.far_word.proofs.PointerLaws.{read_back}
+use Rattle.far_core.specs.events.Copied.{copied_job}
+use Rattle.far_core.specs.events.namings.Moves.{after_move}
 use Rattle.far_core.specs.declared.event.Event.TheVariants.{Ask, Name}
 use Rattle.far_core.specs.declared.naming.Naming.{Naming}
-use Rattle.far_core.specs.declared.naming.Naming.TheVariants.{Places}
+use Rattle.far_core.specs.declared.naming.Naming.TheVariants.{Places, Moves}
 use Rattle.far_core.specs.events.Copies.{data_at}
 use Rattle.far_core.specs.events.Name.{after_naming}
 use Rattle.far_core.specs.events.Naming.{naming_of, naming_row, no_marks}
@@ -60,9 +62,15 @@ both s t u p a b = record {
   remembered = λ m. b.remembered m ∙ a.remembered m;
 }
 
+-- a move takes a span, or names what was copied
+move_form : (s : State) (p new len : ℕ) (to : Place) (j : Option ℕ) → AllButObject s (after_move s p new len to j) p
+move_form s p new len to None = record { cells = λ q ne. put_other s.cell p new q ne; used = λ q ne. refl; views = λ q ne. refl; scopes = λ m. refl; remembered = λ m. refl }
+move_form s p new len to (Some j) = record { cells = λ q ne. put_other s.cell p new q ne; used = λ q ne. refl; views = λ q ne. refl; scopes = λ m. refl; remembered = λ m. refl }
+
 -- a cell is named anew
 named_form : (s : State) (p new : ℕ) (form : Naming) → AllButObject s (naming_row s p new form).after p
 named_form s p new (Places len ds place) = record { cells = λ q ne. put_other s.cell p new q ne; used = λ q ne. refl; views = λ q ne. refl; scopes = λ m. refl; remembered = λ m. refl }
+named_form s p new (Moves len ds from to) = move_form s p new len to (copied_job s p from to)
 named_form s p new _ = record { cells = λ q ne. put_other s.cell p new q ne; used = λ q ne. refl; views = λ q ne. refl; scopes = λ m. refl; remembered = λ m. refl }
 
 named_by : (s : State) (p new : ℕ) (o : Option Naming) → AllButObject s (after_naming s p new o) p

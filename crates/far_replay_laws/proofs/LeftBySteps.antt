@@ -51,8 +51,8 @@ anywhere_is (Some o) (Some x) e =
     (ap (λ (y : Object). y.owner) same, ap (λ (y : Object). y.ds) same, ap (λ (y : Object). y.bytes) same)
 anywhere_is _ _ e = absurd cc
 
-objects_are : (now : Moment) (step : Step) → Law now.core → MomentLaw now → (p : ℕ) → IsAnywhere ((world_of now.core).object p) ((world_of (effect now (Evacuator step)).core).object p)
-objects_are now step law moment p = anywhere_is ((world_of now.core).object p) ((world_of (effect now (Evacuator step)).core).object p) ((step_keeps now step law moment).object p)
+objects_are : (now : Moment) (step : Step) → Law now.core → MomentLaw now → now.copying ≡ false → (p : ℕ) → IsAnywhere ((world_of now.core).object p) ((world_of (effect now (Evacuator step)).core).object p)
+objects_are now step law moment alone p = anywhere_is ((world_of now.core).object p) ((world_of (effect now (Evacuator step)).core).object p) ((step_keeps now step law moment alone).object p)
 
 -- ---- where no cell changes
 still_put : (now : Moment) (step : Step) (r : Reply) (t : State) → ((a : Marks) → MarksBy step r a a) → t ≡ record now.core { clear = t.clear } → AllStayPut now.core step r t
@@ -91,7 +91,7 @@ refused_rest now Abort why = still_put now Abort (Refused why) now.core (λ a. r
 refused_rest now (Round policy most turns) why = still_put now (Round policy most turns) (Refused why) now.core (λ a. refl) refl
 
 -- ---- a step that is made
-module _ (now : Moment) (law : Law now.core) (moment : MomentLaw now) where
+module _ (now : Moment) (law : Law now.core) (moment : MomentLaw now) (alone : now.copying ≡ false) where
   fits : (p : ℕ) → now.core.cell p < 2 ^ 64
   fits p = (law.cells.cell_read p).0
 
@@ -148,7 +148,7 @@ module _ (now : Moment) (law : Law now.core) (moment : MomentLaw now) where
         let tells : Served now (Evacuator (Select (By policy) most)) (Selected (l ∷ ls)) m =
         subst (λ (xs : List ℕ). Served now (Evacuator (Select (By policy) most)) (Selected xs) (after_selecting now xs)) e (made_so now (Select (By policy) most) may) in
         let apart : IsApart m.core m.collection q = λ k c. none k (l ∷ ls, m, tells, c) in
-        (turns_put m q law (starts now law moment policy most turns may (l ∷ ls) e).moment refl apart turns).put_there
+        (turns_put m q law (starts now law moment alone policy most turns may (l ∷ ls) e).moment alone refl apart turns).put_there
 
   -- what lies where it lay
   round_marked : (policy : Policy) (most turns : ℕ) → refusal now (Evacuator (Round policy most turns)) ≡ None → (q l : ℕ) → LiesIn now.core q l →
@@ -159,12 +159,12 @@ module _ (now : Moment) (law : Law now.core) (moment : MomentLaw now) where
     by_logs (k ∷ ks) e is =
         let m : Moment = after_selecting now (k ∷ ks) in
         let t : Moment = after_round now (k ∷ ks) turns in
-        has_stayed StaysMarked m.core m.collection q t.core t.collection (turns_fate m q law (starts now law moment policy most turns may (k ∷ ks) e).moment refl turns) l was is
+        has_stayed StaysMarked m.core m.collection q t.core t.collection (turns_fate m q law (starts now law moment alone policy most turns may (k ∷ ks) e).moment alone refl turns) l was is
 
   some_stay : (Stays : State → State → ℕ → Type 0) (step : Step) → ((p l : ℕ) → LiesIn now.core p l → LiesIn (step_effect now step).core p l → Stays now.core (step_effect now step).core p) →
       refusal now (Evacuator step) ≡ None → SomeStay Stays now.core (step_effect now step).core
   some_stay Stays step unreached e =
-      let kept = made_leaves now law moment step e in
+      let kept = made_leaves now law moment alone step e in
       record { unreached = unreached; used = kept.used; held = kept.held; scope = kept.scope; remembered = kept.remembered }
 
   made_rest : (step : Step) → refusal now (Evacuator step) ≡ None → LeavesRest now step (step_reply now step) (step_effect now step)
@@ -176,7 +176,7 @@ module _ (now : Moment) (law : Law now.core) (moment : MomentLaw now) where
   made_rest (Evacuate count) e =
       let leaves : now.phase ≡ Evacuating = evacuating_is now.phase (none_first (not (is_evacuating now.phase)) WrongPhase [] e).0 in
       let t : Moment = ended (walked now count) in
-      some_stay StaysPut (Evacuate count) (λ p l was is. has_stayed StaysPut now.core now.collection p t.core t.collection (ended_fate now law moment leaves p count) l was is) e
+      some_stay StaysPut (Evacuate count) (λ p l was is. has_stayed StaysPut now.core now.collection p t.core t.collection (ended_fate now law moment alone leaves p count) l was is) e
   made_rest Abort e = abort_rest
   made_rest (Round policy most turns) e = some_stay StaysMarked (Round policy most turns) (λ p l was is. round_marked policy most turns e p l was is) e
 
@@ -186,7 +186,7 @@ module _ (now : Moment) (law : Law now.core) (moment : MomentLaw now) where
   made_others Wait e q none = (polling_put now q).put_there
   made_others (Evacuate count) e q none =
       let leaves : now.phase ≡ Evacuating = evacuating_is now.phase (none_first (not (is_evacuating now.phase)) WrongPhase [] e).0 in
-      (ended_put now law moment leaves q (apart_if q none) count).put_there
+      (ended_put now law moment alone leaves q (apart_if q none) count).put_there
   made_others Abort e q none = abort_put q (apart_if q none)
   made_others (Round policy most turns) e q none = round_put policy most turns e q none
 
@@ -201,7 +201,7 @@ module _ (now : Moment) (law : Law now.core) (moment : MomentLaw now) where
 
   step_leaves : (step : Step) → StepLeaves now step (reply_to now (Evacuator step)) (effect now (Evacuator step))
   step_leaves step = record {
-    objects = objects_are now step law moment;
+    objects = objects_are now step law moment alone;
     others = others_by step (refusal now (Evacuator step)) refl;
     rest = rest_by step (refusal now (Evacuator step)) refl;
   }
@@ -209,7 +209,7 @@ module _ (now : Moment) (law : Law now.core) (moment : MomentLaw now) where
 -- ---- each step
 served_left : (now : Moment) (step : Step) (r : Reply) (next : Moment) → Lasts now → Served now (Evacuator step) r next → StepLeaves now step r next
 served_left now step r next lasts h =
-    subst (λ (x : Moment). StepLeaves now step r x) (sym h.moment) (subst (λ (x : Reply). StepLeaves now step x (effect now (Evacuator step))) (sym h.reply) (step_leaves now lasts.law lasts.round step))
+    subst (λ (x : Moment). StepLeaves now step r x) (sym h.moment) (subst (λ (x : Reply). StepLeaves now step x (effect now (Evacuator step))) (sym h.reply) (step_leaves now lasts.law lasts.round lasts.alone step))
 
 -- ---- one that the device stops
 anywhere_more : (o x y : Option Object) → IsAnywhere o x → IsAnywhere x y → IsAnywhere o y
@@ -231,14 +231,14 @@ round_left now why turns objects policy most count r next lasts h later =
     let left = left_some h.stood objects h.progress next h.left h.unfinished in
     let logs = stood.log ∷ stood.logs in
     let m : Moment = after_selecting now logs in
-    let started = begun now lasts.law lasts.round policy most turns h.stood stood in
+    let started = begun now lasts.law lasts.round lasts.alone policy most turns h.stood stood in
     let x = served_left now (Round policy most turns) (Ended (Limit Evacuating)) h.stood lasts h.turned in
     let y = served_left h.stood (Evacuate objects) (Evacuated h.progress) next later h.left in
     let tells : Served now (Evacuator (Select (By policy) most)) (Selected logs) m =
     subst (λ (xs : List ℕ). Served now (Evacuator (Select (By policy) most)) (Selected xs) (after_selecting now xs)) stood.chosen (made_so now (Select (By policy) most) stood.may) in
-    let fate = λ (q : ℕ). subst (λ (z : Moment). Fate StaysMarked m.core m.collection q z.core z.collection) (sym stood.stands) (turns_fate m q started.law started.moment refl turns) in
+    let fate = λ (q : ℕ). subst (λ (z : Moment). Fate StaysMarked m.core m.collection q z.core z.collection) (sym stood.stands) (turns_fate m q started.law started.moment (started.copying ∙ lasts.alone) refl turns) in
     let ends : ended (walked h.stood objects) ≡ next = ap (λ b. cond b (record (walked h.stood objects).moment { phase = Idle }) (walked h.stood objects).moment) left.goes ∙ sym left.stands in
-    let last = λ (q : ℕ). subst (λ (z : Moment). Fate StaysPut h.stood.core h.stood.collection q z.core z.collection) ends (ended_fate h.stood later.law later.round left.leaves q objects) in
+    let last = λ (q : ℕ). subst (λ (z : Moment). Fate StaysPut h.stood.core h.stood.collection q z.core z.collection) ends (ended_fate h.stood later.law later.round later.alone left.leaves q objects) in
     subst (λ z. StepLeaves now (Round policy most count) z next) (sym h.reply) record {
       objects = λ p. anywhere_more ((world_of now.core).object p) ((world_of h.stood.core).object p) ((world_of next.core).object p) (x.objects p) (y.objects p);
       others = λ p none.

@@ -1,5 +1,5 @@
 -- An object that lies in none of the chosen logs stays where it lies, with its bytes, through a walk, and through the turns of a round.
-use Rattle.std.proofs.Common.{◌≡◌, ◌≢◌, ℕ, true, false, Option, Some, None, List, ◌∷◌, ap, sym, refl, ◌∙◌, subst, inl, inr}
+use Rattle.std.proofs.Common.{◌≡◌, ◌≢◌, ℕ, true, false, Option, Some, None, List, ◌∷◌, ap, sym, refl, ◌∙◌, subst, inl, inr, arith}
 use Rattle.std.specs.Prelude.{Contains}
 use Rattle.std.proofs.lemmas.Bool.{cond_both}
 use Rattle.far_word.specs.declared.pointer.PtrWord.TheVariants.{Near}
@@ -16,8 +16,9 @@ use Rattle.far_core.specs.world.WorldOf.{object_of, world_of}
 use Rattle.far_core.proofs.Put.{put_other}
 use Rattle.far_book.specs.book.Effects.{evicted, moved, with_free_cell}
 use Rattle.far_book.specs.book.Releasing.{released}
+use Rattle.far_book.proofs.region.Owns.{own_law}
 use Rattle.far_book.proofs.region.EvictingLaw.{evicting}
-use Rattle.far_book.proofs.region.Moved.{moved_is}
+use Rattle.far_book.proofs.region.Moved.{moved_is, no_copy_in_room}
 use Rattle.far_book.proofs.region.MovesReached.{moving}
 use Rattle.far_evac.specs.declared.phase.Phase.TheVariants.{Idle, Evacuating}
 use Rattle.far_evac.specs.Live.{lacking, live_among}
@@ -95,7 +96,8 @@ module _ (s : State) (l p q : ℕ) (other : q ≢ p) where
       let why = moves_when x.marks.dropped x.marks.hot (room s (size_of x.len) false) to x.is in
       let way = moving s p x.len x.ds x.place to x.marks x.law x.near x.quiet why.0 x.evac why.1 in
       let says = (read_says (s.cell p) (Near x.len x.ds x.place x.marks) (x.law.cells.cell_read p).0 x.near).0 in
-      let made = moved_is s p x.len x.ds x.place to x.marks x.near why.0 x.evac (layout s x.law x.len x.ds to false says.0 says.1 says.2 why.1) in
+      let made = moved_is s p x.len x.ds x.place to x.marks x.near why.0 x.evac (layout s x.law x.len x.ds to false says.0 says.1 says.2 why.1)
+      (no_copy_in_room s (own_law s x.law) p (size_of x.len) x.place to false (omega arith) (omega (arith, says.1)) why.1) in
       let gone = way.2.moved in
       record {
         cell = way.3.cells q other;
@@ -129,12 +131,12 @@ module _ (m : Moment) (q : ℕ) (none : IsApart m.core m.collection q) where
         record { put_there = put_more m.core s (core_so s p way) q h.put_there (gone_put s l p q other way x); fewer = h.fewer };
   }
 
-  walk_put : Law m.core → MomentLaw m → m.phase ≡ Evacuating → (n : ℕ) → HasStayed (walked m n).moment
-  walk_put law moment leaves n = (lifted_lawfully m (λ w. HasStayed w.moment) keeps_put law moment leaves (stayed_none m.core m.collection q) n).2.keeps.1
+  walk_put : Law m.core → MomentLaw m → m.copying ≡ false → m.phase ≡ Evacuating → (n : ℕ) → HasStayed (walked m n).moment
+  walk_put law moment alone leaves n = (lifted_lawfully m (λ w. HasStayed w.moment) keeps_put law moment alone leaves (stayed_none m.core m.collection q) n).2.keeps.1
 
-pub ended_put : (m : Moment) → Law m.core → MomentLaw m → m.phase ≡ Evacuating → (q : ℕ) → IsApart m.core m.collection q → (n : ℕ) → Stayed m.core m.collection q (ended (walked m n)).core (ended (walked m n)).collection
-ended_put m law moment leaves q none n =
-    let h = walk_put m q none law moment leaves n in
+pub ended_put : (m : Moment) → Law m.core → MomentLaw m → m.copying ≡ false → m.phase ≡ Evacuating → (q : ℕ) → IsApart m.core m.collection q → (n : ℕ) → Stayed m.core m.collection q (ended (walked m n)).core (ended (walked m n)).collection
+ended_put m law moment alone leaves q none n =
+    let h = walk_put m q none law moment alone leaves n in
     cond_both (is_done (walked m n)) (record (walked m n).moment { phase = Idle }) (walked m n).moment (λ (t : Moment). Stayed m.core m.collection q t.core t.collection) (λ _. h) (λ _. h)
 
 -- ---- marking and waiting
@@ -181,11 +183,11 @@ keeps_turns m q none = record {
   learns = tt;
   marks = λ u n tally lawful is h. stayed_more m.core u.core (after_marking u n).core m.collection u.collection (after_marking u n).collection q h (marking_put u n q lawful.0 (still_apart m.core u.core m.collection u.collection q none h));
   looks = λ u k phase tally lawful is h. record { put_there = put_more m.core u.core (with_clear_below u.core k) q h.put_there (looked_put u q k); fewer = h.fewer };
-  walks = λ u n tally law moment is h.
-      stayed_more m.core u.core (walked u n).moment.core m.collection u.collection (walked u n).moment.collection q h (walk_put u q (still_apart m.core u.core m.collection u.collection q none h) law moment is n);
+  walks = λ u n tally law moment alone is h.
+      stayed_more m.core u.core (walked u n).moment.core m.collection u.collection (walked u n).moment.collection q h (walk_put u q (still_apart m.core u.core m.collection u.collection q none h) law moment alone is n);
   ends = λ u tally h. h;
 }
 
-pub turns_put : (m : Moment) (q : ℕ) → Law m.core → MomentLaw m → is_idle m.phase ≡ false → IsApart m.core m.collection q → (n : ℕ) →
+pub turns_put : (m : Moment) (q : ℕ) → Law m.core → MomentLaw m → m.copying ≡ false → is_idle m.phase ≡ false → IsApart m.core m.collection q → (n : ℕ) →
     Stayed m.core m.collection q (turns_made m n).moment.core (turns_made m n).moment.collection
-turns_put m q law moment runs none n = turns_kept_exactly (λ t tally. Stayed m.core m.collection q t.core t.collection) (keeps_turns m q none) m n law moment runs (stayed_none m.core m.collection q)
+turns_put m q law moment alone runs none n = turns_kept_exactly (λ t tally. Stayed m.core m.collection q t.core t.collection) (keeps_turns m q none) m n law moment alone runs (stayed_none m.core m.collection q)

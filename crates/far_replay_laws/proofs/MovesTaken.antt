@@ -240,15 +240,15 @@ not_named logs l off = by_among (among logs l) refl where
   by_among false e = refl
 
 -- ---- `evacuate`, and `round`
-module _ (now : Moment) (law : Law now.core) (moment : MomentLaw now) where
+module _ (now : Moment) (law : Law now.core) (moment : MomentLaw now) (alone : now.copying ≡ false) where
   evacuate_takes : (count : ℕ) → refusal now (Evacuator (Evacuate count)) ≡ None → MovesTake now (IsChosen now) (step_effect now (Evacuate count))
   evacuate_takes count e =
-      let leads = made_leads now law moment (Evacuate count) e in
+      let leads = made_leads now law moment alone (Evacuate count) e in
       let phase = evacuating_is now.phase (none_first (not (is_evacuating now.phase)) WrongPhase [] e).0 in
       let t = ended (walked now count) in
       let walk = walk_is now count in
       let taken = (call_takes_room now t count (walked now count).tally (is_done (walked now count)) (own_law now.core law) moment).0 phase (walk.0, walked now count, walk.1, refl, refl, refl) in
-      moves_take now t taken.0 taken.1 leads.law (ended_free now law moment phase count) (IsChosen now) (chosen_held now) (not_chosen now moment) (chosen_held t) (not_chosen t leads.moment)
+      moves_take now t taken.0 taken.1 leads.law (ended_free now law moment alone phase count) (IsChosen now) (chosen_held now) (not_chosen now moment) (chosen_held t) (not_chosen t leads.moment)
 
   begun_core : (logs : List ℕ) (Held : ℕ → Type 0) (t : Moment) → MovesTake (after_selecting now logs) Held t → MovesTake now Held t
   begun_core [] Held t h = h
@@ -261,18 +261,18 @@ module _ (now : Moment) (law : Law now.core) (moment : MomentLaw now) where
   round_takes : (policy : Policy) (most turns : ℕ) → refusal now (Evacuator (Round policy most turns)) ≡ None →
       (logs : List ℕ) × Takes now (By policy) most logs × MovesTake now (Contains logs) (step_effect now (Round policy most turns))
   round_takes policy most turns e =
-      let leads = made_leads now law moment (Round policy most turns) e in
+      let leads = made_leads now law moment alone (Round policy most turns) e in
       let may = begins now [] e in
       let logs = chosen_by policy (rows_in now) most in
       let chosen = policy_chooses now policy most moment in
       let t = after_round now logs turns in
       let begun = selecting now logs law moment may.0.idle may.0.left chosen.once chosen.of_order in
-      let taken = round_takes_room now logs turns (round_told now logs turns) t law moment may.0.idle may.0.left chosen.once chosen.of_order (is_round now logs turns) in
+      let taken = round_takes_room now logs turns (round_told now logs turns) t law moment alone may.0.idle may.0.left chosen.once chosen.of_order (is_round now logs turns) in
       let held = begun_held logs may.0.idle in (
         logs,
-        policy_takes now law moment policy most,
+        policy_takes now law moment alone policy most,
         begun_core logs (Contains logs) t
-            (moves_take (after_selecting now logs) t taken.0 taken.1 leads.law (round_free now law logs turns begun.moment) (Contains logs) (λ l c. held l ∙ in_among l logs c) (λ l off. held l ∙ not_named logs l off) (chosen_held t) (not_chosen t leads.moment)),
+            (moves_take (after_selecting now logs) t taken.0 taken.1 leads.law (round_free now law logs turns begun.moment alone) (Contains logs) (λ l c. held l ∙ in_among l logs c) (λ l off. held l ∙ not_named logs l off) (chosen_held t) (not_chosen t leads.moment)),
       )
 
   -- a round that was stopped
@@ -281,15 +281,15 @@ module _ (now : Moment) (law : Law now.core) (moment : MomentLaw now) where
   stop_takes policy most turns count objects stood next progress h few within left =
       let logs = h.log ∷ h.logs in
       let m = after_selecting now logs in
-      let start = begun now law moment policy most turns stood h in
-      let led = turns_led now law moment policy most turns stood h in
-      let after = left_led stood led.law led.moment objects progress next left in
-      let taken = (round_takes_some now next logs count (own_law now.core law)).1 _ (stopped_so now law moment policy most turns stood h count objects progress next few within left) in
+      let start = begun now law moment alone policy most turns stood h in
+      let led = turns_led now law moment alone policy most turns stood h in
+      let after = left_led stood led.law led.moment (led.copying ∙ alone) objects progress next left in
+      let taken = (round_takes_some now next logs count (own_law now.core law)).1 _ (stopped_so now law moment alone policy most turns stood h count objects progress next few within left) in
       let free : GivenFree m.collection next.core next.collection = subst (λ (x : Moment). GivenFree m.collection x.core x.collection) (sym left.stands)
-      (subst (λ (x : Moment). GivenFree m.collection (walked x objects).moment.core (walked x objects).moment.collection) (sym h.stands) (stop_free m start.law start.moment refl turns objects h.goes h.leaves)) in
+      (subst (λ (x : Moment). GivenFree m.collection (walked x objects).moment.core (walked x objects).moment.collection) (sym h.stands) (stop_free m start.law start.moment (start.copying ∙ alone) refl turns objects h.goes h.leaves)) in
       let held = begun_held logs (begins now [] h.may).0.idle in (
         logs,
-        subst (Takes now (By policy) most) h.chosen (policy_takes now law moment policy most),
+        subst (Takes now (By policy) most) h.chosen (policy_takes now law moment alone policy most),
         begun_core logs (Contains logs) next
             (moves_take m next taken.0 taken.1 after.law free (Contains logs) (λ l c. held l ∙ in_among l logs c) (λ l off. held l ∙ not_named logs l off) (chosen_held next) (not_chosen next after.moment)),
       )
@@ -339,15 +339,15 @@ module _ (now : Moment) (law : Law now.core) where
   takes_step (Round policy most turns) None e moves = moves
   takes_step _ (Some why) e moves = none_taken now.core
 
-pub step_takes : (now : Moment) (step : Step) (o : Option Refusal) → Law now.core → MomentLaw now → refusal now (Evacuator step) ≡ o →
+pub step_takes : (now : Moment) (step : Step) (o : Option Refusal) → Law now.core → MomentLaw now → now.copying ≡ false → refusal now (Evacuator step) ≡ o →
     TakesRoom now (Evacuator step) (unless o Refused (turn_reply now (Evacuator step))) (unless o (refused_effect now (Evacuator step)) (turn_effect now (Evacuator step)))
-step_takes now step o law moment e = takes_step now law step o e (owed step o e) where
+step_takes now step o law moment alone e = takes_step now law step o e (owed step o e) where
   owed : (step : Step) (o : Option Refusal) → refusal now (Evacuator step) ≡ o → MovesTakeFor now step o
   owed (Select choice most) o e = tt
   owed (Mark count) o e = tt
   owed Wait o e = tt
-  owed (Evacuate count) None e = evacuate_takes now law moment count e
+  owed (Evacuate count) None e = evacuate_takes now law moment alone count e
   owed (Evacuate count) (Some why) e = tt
   owed Abort o e = tt
-  owed (Round policy most turns) None e = round_takes now law moment policy most turns e
+  owed (Round policy most turns) None e = round_takes now law moment alone policy most turns e
   owed (Round policy most turns) (Some why) e = tt

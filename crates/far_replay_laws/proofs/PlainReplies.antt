@@ -1,5 +1,5 @@
 -- Each reply of a heap is told in full by its lines.
-use Rattle.std.proofs.Common.{◌≡◌, ℕ, zero, suc, ◌+◌, ◌-◌, ◌*◌, ◌<◌, ◌≤◌, nat_lt, not, refl, sym, subst, ap, arith, inl, inr, Option, Some, None, List, [], ◌∷◌, map, length, drop}
+use Rattle.std.proofs.Common.{◌≡◌, ℕ, zero, suc, ◌+◌, ◌-◌, ◌*◌, ◌<◌, ◌≤◌, nat_lt, not, refl, sym, subst, ap, arith, inl, inr, Option, Some, None, List, [], ◌∷◌, map, length, drop, false}
 use Rattle.std.specs.Prelude.{slice_range, All, sum, sum_by}
 use Rattle.std.specs.List.{range_with_len, AllByRecursion}
 use Rattle.std.proofs.Math.Nat.{min-le_left}
@@ -112,33 +112,33 @@ plain_causes now (Evacuator step) law bytes = plain_step_causes now law step byt
 plain_causes now _ law bytes = (tt, (tt, tt))
 
 -- the reply of a command that isn't refused
-plain_turn : (now : Moment) (c : Command) → Law now.core → MomentLaw now → refusal now c ≡ None → IsToldInFull (turn_reply now c)
-plain_turn now (Mutator m (New len ds)) law moment e =
+plain_turn : (now : Moment) (c : Command) → Law now.core → MomentLaw now → now.copying ≡ false → refusal now c ≡ None → IsToldInFull (turn_reply now c)
+plain_turn now (Mutator m (New len ds)) law moment alone e =
     let parts = new_tests now.core m len ds e in
     plain_pointer now.core m (lowest_cell now.core m) law (is_structure now.core m ds (ap not parts.0)).0 refl
-plain_turn now (Mutator m (Read p from len)) law moment e = plain_data (dereferenced now.core m p) p from len
-plain_turn now (Mutator m (Where p)) law moment e = plain_home (read_of (now.core.cell p)) (λ v is. (read_says (now.core.cell p) v (law.cells.cell_read p).0 is).0)
-plain_turn now (Mutator m Epoch) law moment e = omega (arith, law.scopes.epoch_below)
-plain_turn now (Book Logs) law moment e = plain_logs now law
-plain_turn now (Book (Log l)) law moment e = (plain_line now law l (log_inside now l e), tt)
-plain_turn now (Book Audit) law moment e = plain_counts now.core law
-plain_turn now (Evacuator step) law moment e = plain_step now law moment step e
-plain_turn now _ law moment e = tt
+plain_turn now (Mutator m (Read p from len)) law moment alone e = plain_data (dereferenced now.core m p) p from len
+plain_turn now (Mutator m (Where p)) law moment alone e = plain_home (read_of (now.core.cell p)) (λ v is. (read_says (now.core.cell p) v (law.cells.cell_read p).0 is).0)
+plain_turn now (Mutator m Epoch) law moment alone e = omega (arith, law.scopes.epoch_below)
+plain_turn now (Book Logs) law moment alone e = plain_logs now law
+plain_turn now (Book (Log l)) law moment alone e = (plain_line now law l (log_inside now l e), tt)
+plain_turn now (Book Audit) law moment alone e = plain_counts now.core law
+plain_turn now (Evacuator step) law moment alone e = plain_step now law moment alone step e
+plain_turn now _ law moment alone e = tt
 
-plain_unless : (now : Moment) (c : Command) (o : Option Refusal) → Law now.core → MomentLaw now → WritesBytes c → refusal now c ≡ o → IsToldInFull (unless o Refused (turn_reply now c))
-plain_unless now c None law moment bytes e = plain_turn now c law moment e
-plain_unless now c (Some why) law moment bytes e = among IsRefusalToldInFull (causes now c) why (each_first IsRefusalToldInFull (causes now c) (plain_causes now c law bytes)) e
+plain_unless : (now : Moment) (c : Command) (o : Option Refusal) → Law now.core → MomentLaw now → now.copying ≡ false → WritesBytes c → refusal now c ≡ o → IsToldInFull (unless o Refused (turn_reply now c))
+plain_unless now c None law moment alone bytes e = plain_turn now c law moment alone e
+plain_unless now c (Some why) law moment alone bytes e = among IsRefusalToldInFull (causes now c) why (each_first IsRefusalToldInFull (causes now c) (plain_causes now c law bytes)) e
 
 -- each reply
-pub plain_reply : (now : Moment) (c : Command) → Law now.core → MomentLaw now → WritesBytes c → IsToldInFull (reply_to now c)
-plain_reply now c law moment bytes = plain_unless now c (refusal now c) law moment bytes refl
+pub plain_reply : (now : Moment) (c : Command) → Law now.core → MomentLaw now → now.copying ≡ false → WritesBytes c → IsToldInFull (reply_to now c)
+plain_reply now c law moment alone bytes = plain_unless now c (refusal now c) law moment alone bytes refl
 
 -- of a command that was served or refused in its midst
 far_told : (why : Refusal) → KeepsFar why → IsRefusalToldInFull why
 far_told why h = of_far IsRefusalToldInFull why h tt tt
 
 served_plain : (now : Moment) (c : Command) (r : Reply) (next : Moment) → Lasts now → WritesBytes c → Served now c r next → IsToldInFull r
-served_plain now c r next lasts bytes h = subst IsToldInFull (sym h.reply) (plain_reply now c lasts.law lasts.round bytes)
+served_plain now c r next lasts bytes h = subst IsToldInFull (sym h.reply) (plain_reply now c lasts.law lasts.round lasts.alone bytes)
 
 outcome_plain : (now : Moment) (c : Command) (r : Reply) (next : Moment) → Lasts now → WritesBytes c → Commanded now c r next → IsToldInFull r
 outcome_plain now c r next lasts bytes h = by_outcome now r next (λ d. WritesBytes d → IsToldInFull r)
@@ -148,7 +148,7 @@ outcome_plain now c r next lasts bytes h = by_outcome now r next (λ d. WritesBy
     (λ why m p h _. subst IsToldInFull (sym h.reply) (far_told why h.cause))
     (λ why objects count h _. subst IsToldInFull (sym h.reply) (h.cause, served_plain now (Evacuator (Evacuate objects)) (Evacuated h.progress) next lasts tt h.left, h.unfinished))
     (λ why turns objects policy most count h bytes.
-    subst IsToldInFull (sym h.reply) (h.cause, plain_stop now lasts.law lasts.round policy most turns h.stood (stood_so now policy most turns h.stood h.turned) objects h.progress next (left_some h.stood objects h.progress next h.left h.unfinished), refl))
+    subst IsToldInFull (sym h.reply) (h.cause, plain_stop now lasts.law lasts.round lasts.alone policy most turns h.stood (stood_so now policy most turns h.stood h.turned) objects h.progress next (left_some h.stood objects h.progress next h.left h.unfinished), refl))
     (λ row m p d asks h bytes. served_plain (as_if_stored now p row) d r (as_if_stored next p row) (misled_before row now d p r next lasts h) bytes h.served)
     c h bytes
 

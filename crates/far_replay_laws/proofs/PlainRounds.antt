@@ -80,12 +80,12 @@ module _ (now : Moment) (law : Law now.core) where
   plain_step_causes _ bytes = (tt, tt)
 
 -- ---- rounds: no sum of turns is too large
-turns_go_on : (m : Moment) → Law m.core → MomentLaw m → is_idle m.phase ≡ false → (n : ℕ) → let r = turns_made m n in GoesOn r.moment r.tally r.over
-turns_go_on m law moment runs = through_turns (λ n r. GoesOn r.moment r.tally r.over) m law moment runs
+turns_go_on : (m : Moment) → Law m.core → MomentLaw m → m.copying ≡ false → is_idle m.phase ≡ false → (n : ℕ) → let r = turns_made m n in GoesOn r.moment r.tally r.over
+turns_go_on m law moment alone runs = through_turns (λ n r. GoesOn r.moment r.tally r.over) m law moment alone runs
     record { bounded = record { objects = omega arith; logs = omega arith }; more = λ _. (starts_within m (own_law m.core law) moment, runs) } (λ n r over h. h)
-    (λ n r law moment goes h.
+    (λ n r law moment alone goes h.
     let t = turned r r.moment.phase in
-    let leads = turn_leads r law moment r.moment.phase refl in
+    let leads = turn_leads r law moment alone r.moment.phase refl in
     let (within, on) = h.more goes in
     let (tally, turn, sum) = turn_is_allowed r goes on in
     subst (λ total. GoesOn t.moment total t.over) (sym sum) (turn_goes_on r.moment t.moment (own_law r.moment.core law) moment (own_law t.moment.core leads.law) leads.moment r.tally tally t.over within turn))
@@ -93,20 +93,20 @@ turns_go_on m law moment runs = through_turns (λ n r. GoesOn r.moment r.tally r
 plain_end : (r : Turned) → IsBounded r.tally → IsEndToldInFull (round_end r)
 plain_end r few = cond_both r.over (ends.Done (progress_of r.tally true)) (ends.Limit r.moment.phase) IsEndToldInFull (λ _. (plain_tally r.tally true few, refl)) (λ _. tt)
 
-plain_round : (now : Moment) (logs : List ℕ) (turns : ℕ) → Leads now (after_selecting now logs) → IsEndToldInFull (round_told now logs turns)
-plain_round now [] turns begun = tt
-plain_round now (l ∷ ls) turns begun =
+plain_round : (now : Moment) (logs : List ℕ) (turns : ℕ) → now.copying ≡ false → Leads now (after_selecting now logs) → IsEndToldInFull (round_told now logs turns)
+plain_round now [] turns alone begun = tt
+plain_round now (l ∷ ls) turns alone begun =
     let m = after_selecting now (l ∷ ls) in
-    plain_end (turns_made m turns) (turns_go_on m begun.law begun.moment refl turns).bounded
+    plain_end (turns_made m turns) (turns_go_on m begun.law begun.moment (begun.copying ∙ alone) refl turns).bounded
 
 -- ---- a round that was stopped: its turns, and what was done in the last one
-pub plain_stop : (now : Moment) → Law now.core → MomentLaw now → (policy : Policy) (most turns : ℕ) (stood : Moment) (h : Stood now policy most turns stood) (objects : ℕ) (progress : Progress) (next : Moment) → LeftSome stood objects progress next →
+pub plain_stop : (now : Moment) → Law now.core → MomentLaw now → now.copying ≡ false → (policy : Policy) (most turns : ℕ) (stood : Moment) (h : Stood now policy most turns stood) (objects : ℕ) (progress : Progress) (next : Moment) → LeftSome stood objects progress next →
     IsProgressToldInFull (progress_of (plus (turns_made (after_selecting now (chosen_by policy (rows_in now) most)) turns).tally (tally_of progress)) false)
-plain_stop now law moment policy most turns stood h objects progress next left =
+plain_stop now law moment alone policy most turns stood h objects progress next left =
     let m = after_selecting now (h.log ∷ h.logs) in
     let r = turns_made m turns in
-    let led = turns_led now law moment policy most turns stood h in
-    let on = turns_go_on m (begun now law moment policy most turns stood h).law (begun now law moment policy most turns stood h).moment refl turns in
+    let led = turns_led now law moment alone policy most turns stood h in
+    let on = turns_go_on m (begun now law moment alone policy most turns stood h).law (begun now law moment alone policy most turns stood h).moment alone refl turns in
     let walks = walk_is stood objects in
     let within : IsWithin stood r.tally = subst (λ (x : Moment). IsWithin x r.tally) (sym h.stands) (on.more h.goes).0 in
     let ready = risen_is_ready stood (own_law stood.core led.law) led.moment (ap has_risen left.leaves) in
@@ -115,7 +115,7 @@ plain_stop now law moment policy most turns stood h objects progress next left =
     (subst (λ (p : Progress). IsProgressToldInFull (progress_of (plus r.tally (tally_of p)) false)) (sym left.told) (plain_tally (plus r.tally (walked stood objects).tally) false bounded))
 
 -- ---- steps
-module _ (now : Moment) (law : Law now.core) (moment : MomentLaw now) where
+module _ (now : Moment) (law : Law now.core) (moment : MomentLaw now) (alone : now.copying ≡ false) where
   log_small : (l : ℕ) → among now.order l ≡ true → l < 2 ^ 64
   log_small l there = omega (arith, law.logs.log_range l (sealed_used (now.core.kind l) (sym (moment.order l) ∙ there)), law.shape.few_logs)
 
@@ -148,5 +148,5 @@ module _ (now : Moment) (law : Law now.core) (moment : MomentLaw now) where
       plain_tally w.tally (is_done w) (bounded_alone w.tally (walk_bounded now nothing within ready walks.0 w walks.1.walks))
   plain_step (Round policy most turns) e =
       let logs = chosen_by policy (rows_in now) most in
-      plain_round now logs turns (starts now law moment policy most turns e logs refl)
+      plain_round now logs turns alone (starts now law moment alone policy most turns e logs refl)
   plain_step _ e = tt

@@ -70,6 +70,7 @@ pub record Late (m : Moment) (r : Turned) : Type 0 where
   pub many : ℕ
   pub law : Law at.core
   pub moment : MomentLaw at
+  pub alone : at.copying ≡ false
   pub leaves : at.phase ≡ Evacuating
   pub alike : Alike m at
   pub held : at.collection ≡ m.collection
@@ -81,7 +82,7 @@ pub record Late (m : Moment) (r : Turned) : Type 0 where
 late_phase : (m : Moment) (r : Turned) → Late m r → r.over ≡ false → r.moment.phase ≡ Evacuating
 late_phase m r h goes = ap (λ (x : Moment). x.phase) h.is ∙ ended_phase h.at h.many ∙ ap (λ b. cond b Idle h.at.phase) (sym h.over ∙ goes) ∙ h.leaves
 
-module _ (m : Moment) (r : Turned) (law : Law r.moment.core) (moment : MomentLaw r.moment) where
+module _ (m : Moment) (r : Turned) (law : Law r.moment.core) (moment : MomentLaw r.moment) (alone : r.moment.copying ≡ false) where
   marked_early : Early m r → Early m (turned r Marking)
   marked_early h =
       let x = is_marked r.moment turn_size (λ p. (law.cells.cell_read p).0) in
@@ -103,6 +104,7 @@ module _ (m : Moment) (r : Turned) (law : Law r.moment.core) (moment : MomentLaw
     many = turn_size;
     law = law;
     moment = moment;
+    alone = alone;
     leaves = e;
     alike = h.alike;
     held = h.held;
@@ -122,6 +124,7 @@ module _ (m : Moment) (r : Turned) (law : Law r.moment.core) (moment : MomentLaw
         many = h.many + turn_size;
         law = h.law;
         moment = h.moment;
+        alone = h.alone;
         leaves = h.leaves;
         alike = h.alike;
         held = h.held;
@@ -139,26 +142,26 @@ module _ (m : Moment) (r : Turned) (law : Law r.moment.core) (moment : MomentLaw
   turn_spans goes Evacuating e (inl h) = inr (begins_late e h)
   turn_spans goes Evacuating e (inr h) = inr (goes_late goes h)
 
-pub spans : (m : Moment) → Law m.core → MomentLaw m → is_idle m.phase ≡ false → (n : ℕ) → Early m (turns_made m n) ⊎ Late m (turns_made m n)
-spans m law moment runs = through_turns (λ n t. Early m t ⊎ Late m t) m law moment runs (inl record { alike = λ p. refl; held = refl; tally = refl; goes = refl }) (λ n r over h. h)
-    (λ n r own stands goes h. turn_spans m r own stands goes r.moment.phase refl h)
+pub spans : (m : Moment) → Law m.core → MomentLaw m → m.copying ≡ false → is_idle m.phase ≡ false → (n : ℕ) → Early m (turns_made m n) ⊎ Late m (turns_made m n)
+spans m law moment alone runs = through_turns (λ n t. Early m t ⊎ Late m t) m law moment alone runs (inl record { alike = λ p. refl; held = refl; tally = refl; goes = refl }) (λ n r over h. h)
+    (λ n r own stands alone goes h. turn_spans m r own stands alone goes r.moment.phase refl h)
 
 late_counts : (m : Moment) (r : Turned) → Late m r → r.over ≡ true → CountsRound m m.collection (progress_of r.tally true) r.moment
 late_counts m r h over =
     let w : Walked = walked h.at h.many in
     let t : State = (ended w).core in
-    let x = tells_leaving h.at h.many h.law h.moment h.leaves in
+    let x = tells_leaving h.at h.many h.law h.moment h.alone h.leaves in
     let back : Alike h.at m = λ p. sym (h.alike p) in
     let counts : CountsRound m m.collection (progress_of w.tally true) (ended w) = record {
       moved = how_many_same (IsMoved h.at.core t) (IsMoved m.core t) w.tally.moved (moved_alike m h.at t h.alike) (moved_alike h.at m t back) x.moved;
       far = how_many_same (IsSentFar h.at.core t) (IsSentFar m.core t) w.tally.far (far_alike m h.at t h.alike) (far_alike h.at m t back) x.far;
       dropped = how_many_same (IsRetired h.at.core t) (IsRetired m.core t) w.tally.dropped (retired_alike m h.at t h.alike) (retired_alike h.at m t back) x.dropped;
-      freed = all_freed h.at h.many h.law h.moment h.leaves (sym h.over ∙ over) ∙ ap (λ (xs : List ℕ). length xs) h.held;
+      freed = all_freed h.at h.many h.law h.moment h.alone h.leaves (sym h.over ∙ over) ∙ ap (λ (xs : List ℕ). length xs) h.held;
     } in
     subst (λ (y : Moment). CountsRound m m.collection (progress_of r.tally true) y) (sym h.is) (subst (λ (y : Tally). CountsRound m m.collection (progress_of y true) (ended w)) (sym h.tally) counts)
 
-pub counts_round : (m : Moment) → Law m.core → MomentLaw m → is_idle m.phase ≡ false → (n : ℕ) → (turns_made m n).over ≡ true → CountsRound m m.collection (progress_of (turns_made m n).tally true) (turns_made m n).moment
-counts_round m law moment runs n over = elim (spans m law moment runs n) [
+pub counts_round : (m : Moment) → Law m.core → MomentLaw m → m.copying ≡ false → is_idle m.phase ≡ false → (n : ℕ) → (turns_made m n).over ≡ true → CountsRound m m.collection (progress_of (turns_made m n).tally true) (turns_made m n).moment
+counts_round m law moment alone runs n over = elim (spans m law moment alone runs n) [
   | inl h ↦ absurd (false≢true (sym h.goes ∙ over))
   | inr h ↦ late_counts m (turns_made m n) h over
 ]

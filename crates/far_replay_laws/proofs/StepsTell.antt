@@ -133,7 +133,7 @@ found_there t p len ds place marks (Some (Near n d at m)) is same = (n, d, at, m
 found_there t p len ds place marks _ is same = absurd (false≢true (ap is_near same))
 
 -- ---- objects leave
-module _ (now : Moment) (count : ℕ) (law : Law now.core) (moment : MomentLaw now) (leaves : now.phase ≡ Evacuating) where
+module _ (now : Moment) (count : ℕ) (law : Law now.core) (moment : MomentLaw now) (alone : now.copying ≡ false) (leaves : now.phase ≡ Evacuating) where
   abbrev w : Walked
   w = walked now count
 
@@ -202,7 +202,7 @@ module _ (now : Moment) (count : ℕ) (law : Law now.core) (moment : MomentLaw n
   far_gone p (near, (len, ds, marks, next)) = (not_apart p near (ap is_near next), ap is_away next)
 
   retired_by : (p : ℕ) → Contains gone p → (o : Option PtrWord) → says w.moment p ≡ o → is_nowhere o ≡ true → IsRetired now.core t p
-  retired_by p c None e h = absurd (false≢true (subst IsSome e ((walking_law now count law moment leaves).cells.cell_read p).1))
+  retired_by p c None e h = absurd (false≢true (subst IsSome e ((walking_law now count law moment alone leaves).cells.cell_read p).1))
   retired_by p c (Some Free) e h = (was_near p c, e)
   retired_by p c _ e h = absurd (false≢true h)
 
@@ -344,7 +344,7 @@ module _ (now : Moment) (law : Law now.core) where
   }
 
 -- ---- marking
-module _ (now : Moment) (count : ℕ) (law : Law now.core) (moment : MomentLaw now) (marks : now.phase ≡ Marking) where
+module _ (now : Moment) (count : ℕ) (law : Law now.core) (moment : MomentLaw now) (alone : now.copying ≡ false) (marks : now.phase ≡ Marking) where
   abbrev new : List ℕ
   new = newly_marked now count
 
@@ -506,7 +506,7 @@ tells_open s law m epoch e = somebody s law (first_open s) refl m epoch e
 pub sealed_used : (kind : Kind) → is_sealed kind ≡ true → kind ≢ kinds.Free
 sealed_used kind shut free = true≢false (sym shut ∙ ap is_sealed free)
 
-module _ (now : Moment) (law : Law now.core) (moment : MomentLaw now) where
+module _ (now : Moment) (law : Law now.core) (moment : MomentLaw now) (alone : now.copying ≡ false) where
   are_rows : AreRows (rows_in now)
   are_rows = (rows_told now.order (row_of now.core) (λ l. refl) moment.order_once
       (λ l there. omega (arith, law.logs.log_range l (sealed_used (now.core.kind l) (sym (moment.order l) ∙ there)), law.shape.few_logs))).0

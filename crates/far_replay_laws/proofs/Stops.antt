@@ -103,28 +103,28 @@ stood_so now policy most turns stood h =
         record { may = may; log = l; logs = ls; chosen = is; goes = h.0; leaves = h.1; stands = at }
 
 -- ---- a round that isn't refused begins
-pub starts : (now : Moment) → Law now.core → MomentLaw now → (policy : Policy) (most turns : ℕ) → refusal now (Evacuator (Round policy most turns)) ≡ None → (logs : List ℕ) → chosen_by policy (rows_in now) most ≡ logs →
+pub starts : (now : Moment) → Law now.core → MomentLaw now → now.copying ≡ false → (policy : Policy) (most turns : ℕ) → refusal now (Evacuator (Round policy most turns)) ≡ None → (logs : List ℕ) → chosen_by policy (rows_in now) most ≡ logs →
     Leads now (after_selecting now logs)
-starts now law moment policy most turns may logs e =
+starts now law moment alone policy most turns may logs e =
     let fit = begins now [] may in
     let chosen = policy_chooses now policy most moment in
     subst (λ (xs : List ℕ). Leads now (after_selecting now xs)) e (selecting now (chosen_by policy (rows_in now) most) law moment fit.0.idle fit.0.left chosen.once chosen.of_order)
 
 -- ---- a round that was stopped, as the evacuator tells it over any hand
-module _ (now : Moment) (law : Law now.core) (moment : MomentLaw now) (policy : Policy) (most turns : ℕ) (stood : Moment) (h : Stood now policy most turns stood) where
+module _ (now : Moment) (law : Law now.core) (moment : MomentLaw now) (alone : now.copying ≡ false) (policy : Policy) (most turns : ℕ) (stood : Moment) (h : Stood now policy most turns stood) where
   abbrev began : Moment
   began = after_selecting now (h.log ∷ h.logs)
 
   pub begun : Leads now began
-  begun = starts now law moment policy most turns h.may (h.log ∷ h.logs) h.chosen
+  begun = starts now law moment alone policy most turns h.may (h.log ∷ h.logs) h.chosen
 
   pub turns_led : Leads began stood
-  turns_led = subst (λ (x : Moment). Leads began x) (sym h.stands) (turns_lead began turns begun.law begun.moment refl)
+  turns_led = subst (λ (x : Moment). Leads began x) (sym h.stands) (turns_lead began turns begun.law begun.moment alone refl)
 
   pub stopped_so : (count objects : ℕ) (progress : Progress) (next : Moment) → turns < count → objects < turn_size → LeftSome stood objects progress next →
       StopsSo now (h.log ∷ h.logs) count (progress_of (plus (turns_made began turns).tally (tally_of progress)) false) next
   stopped_so count objects progress next few within left =
-      let made = turns_are began begun.law begun.moment refl turns in
+      let made = turns_are began begun.law begun.moment alone refl turns in
       let walk = walk_is stood objects in
       let w = walked stood objects in
       let lawful = turns_led in (
@@ -139,7 +139,7 @@ module _ (now : Moment) (law : Law now.core) (moment : MomentLaw now) (policy : 
         (own_law stood.core lawful.law, lawful.moment),
       )
 
-pub left_led : (now : Moment) → Law now.core → MomentLaw now → (objects : ℕ) (progress : Progress) (next : Moment) → LeftSome now objects progress next → Leads now next
-left_led now law moment objects progress next h =
+pub left_led : (now : Moment) → Law now.core → MomentLaw now → now.copying ≡ false → (objects : ℕ) (progress : Progress) (next : Moment) → LeftSome now objects progress next → Leads now next
+left_led now law moment alone objects progress next h =
     let w = walked now objects in
-    subst (λ (x : Moment). Leads now x) (ap (λ b. cond b (record w.moment { phase = Idle }) w.moment) h.goes ∙ sym h.stands) (made_leads now law moment (Evacuate objects) h.may)
+    subst (λ (x : Moment). Leads now x) (ap (λ b. cond b (record w.moment { phase = Idle }) w.moment) h.goes ∙ sym h.stands) (made_leads now law moment alone (Evacuate objects) h.may)

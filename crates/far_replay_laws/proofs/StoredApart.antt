@@ -17,14 +17,17 @@ use Rattle.far_core.specs.declared.event.Reply.{Reply as Answer}
 use Rattle.far_core.specs.declared.event.Reply.TheVariants.{Refused as Failed}
 use Rattle.far_core.specs.declared.naming.Naming.{Naming}
 use Rattle.far_core.specs.declared.naming.Naming.TheVariants.{Places, Retires, Evicts, Stays, Moves, Fetches}
+use Rattle.far_core.specs.events.Copied.{copied_job}
 use Rattle.far_core.specs.events.Name.{after_naming, may_name}
 use Rattle.far_core.specs.events.Naming.{is_kept, naming_of}
 use Rattle.far_core.specs.events.Copies.{ends_padded}
 use Rattle.far_core.specs.events.NewSpans.{is_new_span}
+use Rattle.far_core.specs.events.namings.Moves.{after_move, may_move}
 use Rattle.far_core.specs.events.namings.Fetches.{is_stored_at}
 use Rattle.far_core.specs.events.Step.{after, answer, is_legal, is_opened, step_of}
 use Rattle.far_core.specs.state.Law.{Law}
 use Rattle.far_core.specs.state.State.{State}
+use Rattle.far_core.proofs.Copied.{copied_same}
 use Rattle.far_core.proofs.Cells.{map_mark}
 use Rattle.far_core.proofs.Leaving.{events_leave}
 use Rattle.far_text.specs.Command.{Command}
@@ -80,9 +83,13 @@ module _ (s : State) (p : ℕ) (row : ℕ → ℕ) (lies : s.honest ≡ false) w
   naming_may q new (Some Retires) = refl
   naming_may q new (Some (Evicts len place)) = refl
   naming_may q new (Some Stays) = refl
-  naming_may q new (Some (Moves len ds from to)) = refl
+  naming_may q new (Some (Moves len ds from to)) = ap (λ j. may_move s q len ds from to || is_some j) (copied_same s other q from to refl refl refl refl)
   naming_may q new (Some (Fetches len ds place)) =
       ap (λ b. is_new_span s q len ds place && ends_padded s.word len place && b) (either_way s.honest (is_stored_at other q len place) (is_stored_at s q len place) lies)
+
+  move_after : (q new len : ℕ) (to : Place) (j : Option ℕ) → after_move other q new len to j ≡ with_stored (after_move s q new len to j) p row
+  move_after q new len to None = refl
+  move_after q new len to (Some j) = refl
 
   naming_after : (q new : ℕ) (form : Option Naming) → SendsNone form → after_naming other q new form ≡ with_stored (after_naming s q new form) p row
   naming_after q new None none = refl
@@ -90,7 +97,7 @@ module _ (s : State) (p : ℕ) (row : ℕ → ℕ) (lies : s.honest ≡ false) w
   naming_after q new (Some Retires) none = refl
   naming_after q new (Some (Evicts len place)) none = absurd (none len place refl)
   naming_after q new (Some Stays) none = refl
-  naming_after q new (Some (Moves len ds from to)) none = refl
+  naming_after q new (Some (Moves len ds from to)) none = ap (after_move other q new len to) (copied_same s other q from to refl refl refl refl) ∙ move_after q new len to (copied_job s q from to)
   naming_after q new (Some (Fetches len ds place)) none = refl
 
   same_legal : (e : Event) → StoresNone e → is_legal other e ≡ is_legal s e

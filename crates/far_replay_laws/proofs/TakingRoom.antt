@@ -120,51 +120,51 @@ none_takes s m p law opened ours full =
     let both = and_parts (is_slow s p) (not (is_some (comes_to (sought s m p) p))) full in
     sought_lacks s m p law opened ours both.0 (none_found (comes_to (sought s m p) p) both.1)
 
-takes : (now : Moment) (c : Command) (o : Option Refusal) → Law now.core → MomentLaw now → refusal now c ≡ o →
+takes : (now : Moment) (c : Command) (o : Option Refusal) → Law now.core → MomentLaw now → now.copying ≡ false → refusal now c ≡ o →
     TakesRoom now c (unless o Refused (turn_reply now c)) (unless o (refused_effect now c) (turn_effect now c))
-takes now (Mutator m (New len ds)) None law moment e = new_takes now.core m len ds None (lowest_cell now.core m) (room now.core (size_of len) true) refl (λ none.
+takes now (Mutator m (New len ds)) None law moment alone e = new_takes now.core m len ds None (lowest_cell now.core m) (room now.core (size_of len) true) refl (λ none.
     let parts = new_tests now.core m len ds (subst (λ r. refusal now (Mutator m (New len ds)) ≡ r) none e) in
     (parts.2, parts.3))
     (λ none p place cell found. new_taken now.core m len ds p place law (subst (λ r. refusal now (Mutator m (New len ds)) ≡ r) none e) cell found)
-takes now (Mutator m Open) None law moment e = celled_takes now.core (with_scope now.core m) refl refl refl refl
-takes now (Mutator m (Write p from bytes)) None law moment e =
+takes now (Mutator m Open) None law moment alone e = celled_takes now.core (with_scope now.core m) refl refl refl refl
+takes now (Mutator m (Write p from bytes)) None law moment alone e =
     let at = led now.core m p from (length bytes) law (access_fact now.core m p from (length bytes) e) in
     let t : State = dereferenced now.core m p in
     deref_more now.core t (with_data t p from bytes) p (write_takes t m p at.law at.view (packed_word (with_range (data_of t p) from bytes))) at.takes
-takes now (Mutator m (Write p from bytes)) (Some NoRoom) law moment e =
+takes now (Mutator m (Write p from bytes)) (Some NoRoom) law moment alone e =
     let h = room_lacks (nat_lt m now.core.mutators) (is_opened now.core m) (uses now.core m p) (is_range (object_len now.core p) from (length bytes)) (has_no_room now.core m p) e in
     none_takes now.core m p law h.1 h.2 h.3
-takes now (Mutator m (Read p from len)) None law moment e = (led now.core m p from len law (access_fact now.core m p from len e)).takes
-takes now (Mutator m (Read p from len)) (Some NoRoom) law moment e =
+takes now (Mutator m (Read p from len)) None law moment alone e = (led now.core m p from len law (access_fact now.core m p from len e)).takes
+takes now (Mutator m (Read p from len)) (Some NoRoom) law moment alone e =
     let h = room_lacks (nat_lt m now.core.mutators) (is_opened now.core m) (uses now.core m p) (is_range (object_len now.core p) from len) (has_no_room now.core m p) e in
     none_takes now.core m p law h.1 h.2 h.3
-takes now (Mutator m Close) None law moment e = celled_takes now.core (after_close now.core m) refl refl refl refl
-takes now (Mutator m (Where p)) None law moment e = none_taken now.core
-takes now (Mutator m (Drop p)) None law moment e =
+takes now (Mutator m Close) None law moment alone e = celled_takes now.core (after_close now.core m) refl refl refl refl
+takes now (Mutator m (Where p)) None law moment alone e = none_taken now.core
+takes now (Mutator m (Drop p)) None law moment alone e =
     let h = three (nat_lt m now.core.mutators) (uses now.core m p) (is_some (now.core.held p)) Range NotHeld Held e in
     drop_takes now.core m p law (ltb-true m now.core.mutators h.0) h.1 (unheld_is (now.core.held p) h.2) (read_of (now.core.cell p)) refl
-takes now (Mutator m (View p)) None law moment e =
+takes now (Mutator m (View p)) None law moment alone e =
     let h = tried (nat_lt m now.core.mutators) (is_opened now.core m) (uses now.core m p) (has_no_room now.core m p) Range Closed NotHeld NoRoom e in
     (derefs now.core m p law h.1 h.2 h.3).takes
-takes now (Mutator m (View p)) (Some NoRoom) law moment e =
+takes now (Mutator m (View p)) (Some NoRoom) law moment alone e =
     let h = room_last (nat_lt m now.core.mutators) (is_opened now.core m) (uses now.core m p) (has_no_room now.core m p) e in
     none_takes now.core m p law h.1 h.2 h.3
-takes now (Mutator m (Try p)) None law moment e =
+takes now (Mutator m (Try p)) None law moment alone e =
     let h = tried (nat_lt m now.core.mutators) (is_opened now.core m) (uses now.core m p) (is_slow now.core p) Range Closed NotHeld (Marked (now.core.cell p)) e in
     view_takes now.core m p law h.1 h.2
-takes now (Mutator m (Try p)) (Some (Marked word)) law moment e =
+takes now (Mutator m (Try p)) (Some (Marked word)) law moment alone e =
     let h = marked_last (nat_lt m now.core.mutators) (is_opened now.core m) (uses now.core m p) (is_slow now.core p) (now.core.cell p) word e in
     view_takes now.core m p law h.1 h.2
-takes now (Mutator m Epoch) None law moment e = celled_takes now.core (with_epoch now.core m) refl refl refl refl
-takes now (Book inquiry) None law moment e = none_taken now.core
-takes now (Evacuator step) o law moment e = step_takes now step o law moment e
-takes now _ (Some why) law moment e = none_taken now.core
+takes now (Mutator m Epoch) None law moment alone e = celled_takes now.core (with_epoch now.core m) refl refl refl refl
+takes now (Book inquiry) None law moment alone e = none_taken now.core
+takes now (Evacuator step) o law moment alone e = step_takes now step o law moment alone e
+takes now _ (Some why) law moment alone e = none_taken now.core
 
 served_take : (now : Moment) (c : Command) (r : Reply) (next : Moment) → IsMoment now → Served now c r next → TakesRoom now c r next
 served_take now c r next is h =
     let lasts = moment_lasts now is in
     subst (λ x. TakesRoom now c x next) (sym h.reply)
-    (subst (λ (x : Moment). TakesRoom now c (reply_to now c) x) (sym h.moment) (takes now c (refusal now c) lasts.law lasts.round refl))
+    (subst (λ (x : Moment). TakesRoom now c (reply_to now c) x) (sym h.moment) (takes now c (refusal now c) lasts.law lasts.round lasts.alone refl))
 
 -- one that the device refuses takes nothing, as a try doesn't
 far_takes : (now : Moment) (c : Command) (m p : ℕ) (why : Refusal) (r : Reply) (next : Moment) → IsMoment now → Unbrought why now c m p r next → TakesNone now.core next.core
@@ -210,7 +210,7 @@ commands_take now c r next is h =
     (λ why m p h. subst (λ x. TakesRoom now (Mutator m (View p)) x next) (sym h.reply) (view_takes_none now next m p why h.cause (far_takes now (Mutator m (View p)) m p why r next is h)))
     (λ why objects count h. subst (λ x. TakesRoom now (Evacuator (Evacuate count)) x next) (sym h.reply) (served_take now (Evacuator (Evacuate objects)) (Evacuated h.progress) next is h.left))
     (λ why turns objects policy most count h. subst (λ x. TakesRoom now (Evacuator (Round policy most count)) x next) (sym h.reply)
-    (stop_takes now lasts.law lasts.round policy most turns count objects h.stood next h.progress (stood_so now policy most turns h.stood h.turned) h.before h.within (left_some h.stood objects h.progress next h.left h.unfinished)))
+    (stop_takes now lasts.law lasts.round lasts.alone policy most turns count objects h.stood next h.progress (stood_so now policy most turns h.stood h.turned) h.before h.within (left_some h.stood objects h.progress next h.left h.unfinished)))
     (λ row m p d asks h. as_misled row now r next m p TakesRoom (λ from bytes. as_takes now.core next.core p row) (λ from len bytes. as_takes now.core next.core p row) (as_takes now.core next.core p row)
     d asks h (served_take (as_if_stored now p row) d r (as_if_stored next p row) (misled_from row now d p r next is h) h.served))
     c h

@@ -153,18 +153,18 @@ idle_phase : (phase : Phase) → is_idle phase ≡ true → phase ≡ Idle
 idle_phase Idle h = refl
 idle_phase _ h = absurd (false≢true h)
 
-module _ (now : Moment) (law : Law now.core) (moment : MomentLaw now) (policy : Policy) (most turns : ℕ) (may : refusal now (Evacuator (Round policy most turns)) ≡ None) where
+module _ (now : Moment) (law : Law now.core) (moment : MomentLaw now) (alone : now.copying ≡ false) (policy : Policy) (most turns : ℕ) (may : refusal now (Evacuator (Round policy most turns)) ≡ None) where
   idle : now.phase ≡ Idle
   idle = idle_phase now.phase (begins now [] may).0.idle
 
   counts : (l : ℕ) (ls : List ℕ) → chosen_by policy (rows_in now) most ≡ l ∷ ls → (turns_made (after_selecting now (l ∷ ls)) turns).over ≡ true →
       CountsRound now (l ∷ ls) (progress_of (turns_made (after_selecting now (l ∷ ls)) turns).tally true) (turns_made (after_selecting now (l ∷ ls)) turns).moment
   counts l ls e over =
-      let x = counts_round (after_selecting now (l ∷ ls)) law (starts now law moment policy most turns may (l ∷ ls) e).moment refl turns over in
+      let x = counts_round (after_selecting now (l ∷ ls)) law (starts now law moment alone policy most turns may (l ∷ ls) e).moment alone refl turns over in
       record { moved = x.moved; far = x.far; dropped = x.dropped; freed = x.freed }
 
   tells_logs : (logs : List ℕ) → chosen_by policy (rows_in now) most ≡ logs → TellsRound now policy most turns (round_told now logs turns) (after_round now logs turns)
-  tells_logs [] e = (subst (Takes now (By policy) most) e (policy_takes now law moment policy most), refl)
+  tells_logs [] e = (subst (Takes now (By policy) most) e (policy_takes now law moment alone policy most), refl)
   tells_logs (l ∷ ls) e =
       let m : Moment = after_selecting now (l ∷ ls) in
       let r = turns_made m turns in
@@ -193,7 +193,7 @@ module _ (now : Moment) (law : Law now.core) (moment : MomentLaw now) (policy : 
   }
 
 -- ---- a step that is made
-module _ (now : Moment) (law : Law now.core) (moment : MomentLaw now) where
+module _ (now : Moment) (law : Law now.core) (moment : MomentLaw now) (alone : now.copying ≡ false) where
   given_ok : (choice : Choice) (most : ℕ) (given : Result (List ℕ) Refusal) → given_by choice (rows_in now) most ≡ given → first_cause (choice_causes given) ≡ None → given_by choice (rows_in now) most ≡ Ok (logs_given given)
   given_ok choice most (Ok logs) is e = is
   given_ok choice most (Err why) is e = absurd cc
@@ -211,22 +211,22 @@ module _ (now : Moment) (law : Law now.core) (moment : MomentLaw now) where
       let given = given_by choice (rows_in now) most in
       let may = begins now (choice_causes given) e in
       record {
-        tells = tells_choice now law moment choice most (logs_given given) may.0.idle (given_ok choice most given refl may.1);
+        tells = tells_choice now law moment alone choice most (logs_given given) may.0.idle (given_ok choice most given refl may.1);
         phase = chosen_phase now choice most (logs_given given);
         time = λ _. idle_phase now.phase may.0.idle;
       }
   made_tells (Mark count) e =
       let marks = marking_is now.phase (none_first (not (is_marking now.phase)) WrongPhase [] e).0 in
-      record { tells = tells_marks now count law moment marks; phase = marked_phase now count law moment marks; time = λ _. marks }
+      record { tells = tells_marks now count law moment alone marks; phase = marked_phase now count law moment alone marks; time = λ _. marks }
   made_tells Wait e =
       let may = none_first (not (is_waiting now.phase)) WrongPhase (wait_causes (polled now.core)) e in
       let clear = cleared (polled now.core) may.1 in
       record { tells = tells_clear now.core clear; phase = cleared_phase (first_open now.core) clear; time = λ _. waiting_is now.phase may.0 }
   made_tells (Evacuate count) e =
       let leaves = evacuating_is now.phase (none_first (not (is_evacuating now.phase)) WrongPhase [] e).0 in
-      record { tells = tells_leaving now count law moment leaves; phase = ended_phase now count; time = λ _. leaves }
+      record { tells = tells_leaving now count law moment alone leaves; phase = ended_phase now count; time = λ _. leaves }
   made_tells Abort e = record { tells = tells_end now law; phase = refl; time = λ _ idle. true≢false (sym (ap is_idle idle) ∙ (none_first (is_idle now.phase) WrongPhase [] e).0) }
-  made_tells (Round policy most turns) e = tells_round now law moment policy most turns e
+  made_tells (Round policy most turns) e = tells_round now law moment alone policy most turns e
 
   -- ---- one that is refused
   abbrev Why : Step → Refusal → Type 0
@@ -294,7 +294,7 @@ module _ (now : Moment) (law : Law now.core) (moment : MomentLaw now) where
 pub served_told : (now : Moment) (step : Step) (r : Reply) (next : Moment) → Lasts now → Served now (Evacuator step) r next → TellsStep now step r next
 served_told now step r next lasts h =
     subst (λ (x : Moment). TellsStep now step r x) (sym h.moment)
-    (subst (λ (x : Reply). TellsStep now step x (effect now (Evacuator step))) (sym h.reply) (step_tells now lasts.law lasts.round step (refusal now (Evacuator step)) refl))
+    (subst (λ (x : Reply). TellsStep now step x (effect now (Evacuator step))) (sym h.reply) (step_tells now lasts.law lasts.round lasts.alone step (refusal now (Evacuator step)) refl))
 
 -- ---- a step that the device stops
 served_so : (now : Moment) (c : Command) (r : Reply) (next : Moment) → Lasts now → Served now c r next → Told now c r next

@@ -257,9 +257,9 @@ module _ (m : Moment) (q : ℕ) where
     deals = λ w l ls p way ready x h. put_fate m.core w.moment.core (core_so w.moment.core p way) m.collection (l ∷ ls) (l ∷ ls) q h (gone_fate w.moment.core l ls p ready way x q);
   }
 
-module _ (m : Moment) (law : Law m.core) (moment : MomentLaw m) (leaves : m.phase ≡ Evacuating) (q : ℕ) where
+module _ (m : Moment) (law : Law m.core) (moment : MomentLaw m) (alone : m.copying ≡ false) (leaves : m.phase ≡ Evacuating) (q : ℕ) where
   walk_fate : (n : ℕ) → HasFate m q (walked m n)
-  walk_fate n = (lifted_lawfully m (HasFate m q) (keeps_fate m q) law moment leaves (fate_stayed m.core m.core m.collection m.collection q (stayed_none m.core m.collection q)) n).2.keeps.1
+  walk_fate n = (lifted_lawfully m (HasFate m q) (keeps_fate m q) law moment alone leaves (fate_stayed m.core m.core m.collection m.collection q (stayed_none m.core m.collection q)) n).2.keeps.1
 
   pub ended_fate : (n : ℕ) → Fate StaysPut m.core m.collection q (ended (walked m n)).core (ended (walked m n)).collection
   ended_fate n = cond_both (is_done (walked m n)) (record (walked m n).moment { phase = Idle }) (walked m n).moment (λ (t : Moment). Fate StaysPut m.core m.collection q t.core t.collection) (λ _. walk_fate n) (λ _. walk_fate n)
@@ -293,10 +293,10 @@ keeps_turns m q = record {
   marks = λ u n tally lawful is h. marked_fate m.core u.core (after_marking u n).core m.collection u.collection (after_marking u n).collection q h (marking_fate u n q lawful.0);
   looks = λ u k phase tally lawful is h. marked_fate m.core u.core (with_clear_below u.core k) m.collection u.collection u.collection q h
       (fate_marked u.core (with_clear_below u.core k) u.collection u.collection q (fate_stayed u.core (with_clear_below u.core k) u.collection u.collection q record { put_there = looked_put u q k; fewer = λ l c. c }));
-  walks = λ u n tally law moment is h. let w : Walked = walked u n in
-      marked_fate m.core u.core w.moment.core m.collection u.collection w.moment.collection q h (fate_marked u.core w.moment.core u.collection w.moment.collection q (walk_fate u law moment is q n));
+  walks = λ u n tally law moment alone is h. let w : Walked = walked u n in
+      marked_fate m.core u.core w.moment.core m.collection u.collection w.moment.collection q h (fate_marked u.core w.moment.core u.collection w.moment.collection q (walk_fate u law moment alone is q n));
   ends = λ u tally h. h;
 }
 
-pub turns_fate : (m : Moment) (q : ℕ) → Law m.core → MomentLaw m → is_idle m.phase ≡ false → (n : ℕ) → Fate StaysMarked m.core m.collection q (turns_made m n).moment.core (turns_made m n).moment.collection
-turns_fate m q law moment runs n = turns_kept_exactly (λ t tally. Fate StaysMarked m.core m.collection q t.core t.collection) (keeps_turns m q) m n law moment runs (fate_none m.core m.collection q)
+pub turns_fate : (m : Moment) (q : ℕ) → Law m.core → MomentLaw m → m.copying ≡ false → is_idle m.phase ≡ false → (n : ℕ) → Fate StaysMarked m.core m.collection q (turns_made m n).moment.core (turns_made m n).moment.collection
+turns_fate m q law moment alone runs n = turns_kept_exactly (λ t tally. Fate StaysMarked m.core m.collection q t.core t.collection) (keeps_turns m q) m n law moment alone runs (fate_none m.core m.collection q)

@@ -172,7 +172,7 @@ told_views now c r next told lasts later h =
 served_views : (now : Moment) (c : Command) (r : Reply) (next : Moment) → Lasts now → WritesBytes c → Served now c r next → ViewsAfter now.core c r next.core
 served_views now (Mutator m request) r next lasts later h = told_views now (Mutator m request) r next tt lasts later h
 served_views now (Book inquiry) r next lasts later h = told_views now (Book inquiry) r next tt lasts later h
-served_views now (Evacuator step) r next lasts later h = ap (λ (x : Moment). x.core.held) h.moment ∙ (step_keeps now step lasts.law lasts.round).held
+served_views now (Evacuator step) r next lasts later h = ap (λ (x : Moment). x.core.held) h.moment ∙ (step_keeps now step lasts.law lasts.round lasts.alone).held
 
 tried_views : (now : Moment) (c : Command) (why : Refusal) (m p : ℕ) (r : Reply) (next : Moment) → Lasts now → Unbrought why now c m p r next → next.core.held ≡ now.core.held
 tried_views now c why m p r next lasts h = served_views now (Mutator m (Try p)) (Refused (Marked (now.core.cell p))) next lasts tt h.tried
@@ -300,7 +300,7 @@ told_reach now c r next told lasts bytes h =
 
 -- what a step reaches, and steps one after the other
 step_way : (now : Moment) (step : Step) (r : Reply) (next : Moment) → Lasts now → Served now (Evacuator step) r next → Reached now.core next.core
-step_way now step r next lasts h = subst (λ (x : Moment). Reached now.core x.core) (sym h.moment) (step_leads now step lasts.law lasts.round).reached
+step_way now step r next lasts h = subst (λ (x : Moment). Reached now.core x.core) (sym h.moment) (step_leads now step lasts.law lasts.round lasts.alone).reached
 
 way_reach : (now : Moment) (step : Step) (r : Reply) (next : Moment) → Lasts now → Reached now.core next.core → Reaches now (Evacuator step) r next
 way_reach now step r next lasts way =

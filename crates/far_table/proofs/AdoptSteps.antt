@@ -1,5 +1,5 @@
 -- An adoption is its event of the core; or it is refused, and nothing changes but that the word found is noted.
-use Rattle.std.proofs.Common.{◌≡◌, ◌+◌, ◌*◌, ◌/◌, ◌<◌, ℕ, zero, suc, Bool, true, false, cond, List, length, set, sym, refl, ap, ◌∙◌, subst, arith, Option, Some, None}
+use Rattle.std.proofs.Common.{◌≡◌, ◌+◌, ◌*◌, ◌/◌, ◌<◌, ℕ, zero, suc, Bool, true, false, cond, List, length, sym, refl, ap, ◌∙◌, subst, arith, Option, Some, None}
 use Rattle.std.specs.Prelude.{slice_index, is_some, IsSome, replicate, not}
 use Rattle.std.proofs.lemmas.Bool.{false≢true}
 use mathlib.Core.Logic.{dite}
@@ -27,7 +27,7 @@ use Rattle.far_core.specs.world.World.{Object, World, Group, FarSide}
 use Rattle.far_core.specs.world.WorldOf.{object_of, world_of}
 use Rattle.far_core.proofs.Owing.{does}
 use Rattle.far_core.proofs.Put.{put_both, put_other, put_same}
-use Rattle.far_table.specs.View.{BookView, ObjectView, OwnerView, View, Owner}
+use Rattle.far_table.specs.View.{BookView, ObjectView, OwnerView, View, Owner, OtherViews, with_owner}
 use Rattle.far_table.specs.Layout.{cell_at, cell_in}
 use Rattle.far_table.specs.Plays.{Adopted, AdoptTells}
 use Rattle.far_table.specs.Rule.{Facts, Has, Running}
@@ -95,7 +95,7 @@ not_held : (h : Option Place) (used : Bool) → (IsSome h → used ≡ true) →
 not_held None used why e = refl
 not_held (Some place) used why e = let odd : false ≡ true = sym e ∙ why refl in absurd (false≢true odd)
 
-module _ (ws : List ℕ) (b : BookView) (os : List OwnerView) (f : Facts ws b os) (o : OwnerView) (at : get_elem? os o.number ≡ some o)
+module _ (ws : List ℕ) (b : BookView) (os : OtherViews) (f : Facts ws b os) (o : OwnerView) (at : get_elem? os.owners o.number ≡ some o)
     (p : ℕ) (small : p < POINTERS) (own : p / CELLS ≡ o.number) (unused : object_at o p ≡ None) where
   abbrev s : State
   s = state_of ws b os
@@ -104,10 +104,10 @@ module _ (ws : List ℕ) (b : BookView) (os : List OwnerView) (f : Facts ws b os
   m = o.number
 
   unused_so : s.used p ≡ false
-  unused_so = known_by os m o o at uses p own ∙ ap is_some unused
+  unused_so = known_by os.owners m o o at uses p own ∙ ap is_some unused
 
   free : held_at o p ≡ None
-  free = sym (known_by os m o o at held_at p own) ∙ not_held (s.held p) (s.used p) (f.law.views.held_used p) unused_so
+  free = sym (known_by os.owners m o o at held_at p own) ∙ not_held (s.held p) (s.used p) (f.law.views.held_used p) unused_so
 
   pub adopt_step : in_use (read_of (cell_in ws p)) ≡ true → OwnStep ws b os o (Adopt m p) (Word (cell_in ws p)) ws (adopted_view p (cell_in ws p) o)
   adopt_step used =
@@ -117,10 +117,10 @@ module _ (ws : List ℕ) (b : BookView) (os : List OwnerView) (f : Facts ws b os
       let legal : Legal s (Adopt m p) = (is_mutator ws b os f m o at, own, unused_so, used) in record {
         legal = legal;
         says = refl;
-        becomes = state_is ws b (set os m w) (no_word ws f.wide) (remembered_same os m o w at refl)
-            (pointers_put os m o w at uses p true own (fun_ext (λ q. put_both (λ (x : Option ObjectView). is_some x ≡ put (uses o) p true q) (object_at o) p (Some (fresh c)) q
+        becomes = state_is ws b (with_owner os m w) (no_word ws f.wide) (remembered_same os.owners m o w at refl)
+            (pointers_put os.owners m o w at uses p true own (fun_ext (λ q. put_both (λ (x : Option ObjectView). is_some x ≡ put (uses o) p true q) (object_at o) p (Some (fresh c)) q
             (λ e. sym (put_same (uses o) p true q e)) (λ ne. sym (put_other (uses o) p true q ne)))))
-            (pointers_same os m o w at held_at refl);
+            (pointers_same os.owners m o w at held_at refl);
         mine = record {
           number = ties.number;
           honest = ties.honest;
@@ -139,7 +139,7 @@ module _ (ws : List ℕ) (b : BookView) (os : List OwnerView) (f : Facts ws b os
 
   record Case (t : Bool) (n : ℕ) : Type 0 where
     w : OwnerView
-    facts : Facts ws b (set os m w)
+    facts : Facts ws b (with_owner os m w)
     tells : AdoptTells t (Owner o) (Owner w) p n
 
   adopt_case : (t : Bool) → in_use (read_of (cell_in ws p)) ≡ t → Case t (cell_in ws p)
@@ -151,7 +151,7 @@ module _ (ws : List ℕ) (b : BookView) (os : List OwnerView) (f : Facts ws b os
   adopt_case false used = record {
     w = noted_view p (cell_in ws p) o;
     facts = noted_facts ws b os f o at p (cell_in ws p);
-    tells = (refl, record { words = ws; book = b; owners = os; facts = f; stands = at; refused = λ legal. false≢true (sym used ∙ legal.3) });
+    tells = (refl, record { words = ws; book = b; others = os; facts = f; stands = at; refused = λ legal. false≢true (sym used ∙ legal.3) });
   }
 
 module _ {S : Type 0} (slots id : ℕ) (me : Me S View) (is : me.0 ≡ Owner (owner_of me.0)) where
@@ -165,7 +165,7 @@ module _ {S : Type 0} (slots id : ℕ) (me : Me S View) (is : me.0 ≡ Owner (ow
       let k = adopt_case ws b os f view at p small own unused (in_use (read_of c)) refl in
       let here = cell_here ws p small in (
         k.w,
-        subst (λ l. Facts l b (set os view.number k.w)) (sym (set-get_or ws (cell_at p) 0)) k.facts,
+        subst (λ l. Facts l b (with_owner os view.number k.w)) (sym (set-get_or ws (cell_at p) 0)) k.facts,
         λ q e. let same : p ≡ q = omega arith in
             subst (λ (z : ℕ × ℕ). IsSome (read_of z.1) × (held_at view z.0 ≡ None) × AdoptTells (in_use (read_of z.1)) me.0 (Owner k.w) z.0 z.1) (λ i. (same i, here i))
             ((f.law.cells.cell_read p).1, free ws b os f view at p small own unused, subst (λ v. AdoptTells (in_use (read_of c)) v (Owner k.w) p c) (sym is) k.tells),

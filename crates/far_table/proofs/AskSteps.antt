@@ -30,7 +30,7 @@ use Rattle.far_core.proofs.Cells.{map_mark}
 use Rattle.far_core.proofs.Marking.{read_mark}
 use Rattle.far_core.proofs.Owing.{does}
 use Rattle.far_core.proofs.Put.{put_both, put_other, put_same}
-use Rattle.far_table.specs.View.{BookView, ObjectView, OwnerView, View, Owner}
+use Rattle.far_table.specs.View.{BookView, ObjectView, OwnerView, View, Owner, OtherViews, with_owner}
 use Rattle.far_table.specs.Layout.{cell_at, cell_in}
 use Rattle.far_table.specs.Plays.{Asked}
 use Rattle.far_table.specs.Rule.{Facts, Running}
@@ -95,7 +95,7 @@ dropped_now (Some Free) u = absurd (false≢true u)
 dropped_now (Some (Near len ds place m)) u = refl
 dropped_now (Some (Far len ds m)) u = refl
 
-module _ (ws : List ℕ) (b : BookView) (os : List OwnerView) (f : Facts ws b os) (o : OwnerView) (at : get_elem? os o.number ≡ some o)
+module _ (ws : List ℕ) (b : BookView) (os : OtherViews) (f : Facts ws b os) (o : OwnerView) (at : get_elem? os.owners o.number ≡ some o)
     (p : ℕ) (small : p < POINTERS) (own : p / CELLS ≡ o.number) (used : uses o p ≡ true) (free : held_at o p ≡ None) where
   abbrev s : State
   s = state_of ws b os
@@ -107,10 +107,10 @@ module _ (ws : List ℕ) (b : BookView) (os : List OwnerView) (f : Facts ws b os
   m = o.number
 
   used_so : s.used p ≡ true
-  used_so = known_by os m o o at uses p own ∙ used
+  used_so = known_by os.owners m o o at uses p own ∙ used
 
   legal : (k : Mark) → is_request k ≡ true → Legal s (Ask m p k)
-  legal k asks = (asks, is_mutator ws b os f m o at, own, used_so, known_by os m o o at held_at p own ∙ free)
+  legal k asks = (asks, is_mutator ws b os f m o at, own, used_so, known_by os.owners m o o at held_at p own ∙ free)
 
   move_read : read_of (bit_or c (2 ^ position Moved)) ≡ map_mark Moved (read_of c)
   move_read = (read_mark Moved c refl (f.law.cells.cell_read p).0 (f.law.views.used_cell p used_so)).0
@@ -135,8 +135,8 @@ module _ (ws : List ℕ) (b : BookView) (os : List OwnerView) (f : Facts ws b os
       let n : ℕ = asked_at o p + cond (has_move (read_of c)) 0 1 in record {
         legal = legal Moved refl;
         says = refl;
-        becomes = state_is (set ws (cell_at p) new) b (set os m w) (cell_word_set ws f.wide p new small) (remembered_same os m o w at refl)
-            (pointers_same os m o w at uses refl) (pointers_same os m o w at held_at refl);
+        becomes = state_is (set ws (cell_at p) new) b (with_owner os m w) (cell_word_set ws f.wide p new small) (remembered_same os.owners m o w at refl)
+            (pointers_same os.owners m o w at uses refl) (pointers_same os.owners m o w at held_at refl);
         mine = record {
           number = ties.number;
           honest = ties.honest;
@@ -164,10 +164,10 @@ module _ (ws : List ℕ) (b : BookView) (os : List OwnerView) (f : Facts ws b os
       let gone = does s (Ask m p Dropped) f.law tt (legal Dropped refl) in record {
         legal = legal Dropped refl;
         says = refl;
-        becomes = state_is (set ws (cell_at p) new) b (set os m w) (cell_word_set ws f.wide p new small) (remembered_same os m o w at refl)
-            (pointers_put os m o w at uses p false own (fun_ext (λ q. put_both (λ (x : Option ObjectView). is_some x ≡ put (uses o) p false q) (object_at o) p None q
+        becomes = state_is (set ws (cell_at p) new) b (with_owner os m w) (cell_word_set ws f.wide p new small) (remembered_same os.owners m o w at refl)
+            (pointers_put os.owners m o w at uses p false own (fun_ext (λ q. put_both (λ (x : Option ObjectView). is_some x ≡ put (uses o) p false q) (object_at o) p None q
             (λ e. sym (put_same (uses o) p false q e)) (λ ne. sym (put_other (uses o) p false q ne)))))
-            (pointers_same os m o w at held_at refl);
+            (pointers_same os.owners m o w at held_at refl);
         mine = record {
           number = ties.number;
           honest = ties.honest;

@@ -1,6 +1,6 @@
 -- The rule holds at the start: for the words and the views of any core.
 use Rattle.std.proofs.Common.{◌≡◌, ◌≢◌, ◌*◌, ◌/◌, ◌%◌, ◌<◌, ◌≤◌, ◌^◌, ℕ, Bool, true, false, cond, nat_lt, List, [], sym, refl, ap, ◌∙◌, subst, arith, inl, inr, Option, Some, None}
-use Rattle.std.specs.Prelude.{is_some, slice_index, ◌||◌, ◌&&◌, ◌==◌, ◌⊎◌}
+use Rattle.std.specs.Prelude.{is_some, slice_index, ◌||◌, ◌&&◌, ◌==◌}
 use Rattle.std.proofs.lemmas.Bool.{cases_lt, false≢true, le-ltb, lt-ltb}
 use Rattle.std.proofs.lemmas.List.{get_or_past}
 use mathlib.Core.Logic.{dite}
@@ -8,7 +8,7 @@ use mathlib.Core.Path.{fun_ext}
 use native.Mathlib.Decide.{ℕ_discrete}
 use Rattle.atomic_table.specs.Table.{opening}
 use Rattle.far_word.specs.declared.pointer.PtrWord.TheVariants.{Free, Near, Far}
-use Rattle.far_word.specs.declared.sizes.TheConstants.{LOG_WORDS, MOST_COPIERS, MOST_LOGS, MOST_MUTATORS, POINTERS}
+use Rattle.far_word.specs.declared.sizes.TheConstants.{JOBS, LOG_WORDS, MOST_LOGS, MOST_MUTATORS, POINTERS}
 use Rattle.far_word.specs.Pointer.{read_of}
 use Rattle.far_core.specs.declared.event.Kind.TheVariants as kinds
 use Rattle.far_core.specs.events.Advance.{is_among}
@@ -17,19 +17,22 @@ use Rattle.far_core.specs.state.Law.{BlankLaw, Law}
 use Rattle.far_core.specs.state.State.{State}
 use Rattle.far_core.proofs.Cells.{unused}
 use Rattle.far_core.proofs.Steps.{agrees}
+use Rattle.far_hand.specs.Beside.{uncopied}
 use Rattle.far_hand.specs.Known.{IsKnown, unknown}
 use Rattle.far_hand.specs.Masked.{masked, masked_word}
-use Rattle.far_hand.specs.MayBe.{Shows, masked_shows}
+use Rattle.far_hand.specs.MayBe.{Shows, job_itself, masked_shows}
 use Rattle.far_hand.specs.Quiet.{RestsAt}
 use Rattle.far_hand.proofs.Finding.{finds_same}
-use Rattle.far_table.specs.View.{BookView, OwnerView, Role, Book}
-use Rattle.far_table.specs.First.{IsTableOf, first_book, first_owner, first_owners, rows_from}
-use Rattle.far_table.specs.Layout.{JOBS, cell_at, cell_in, data_at, job_at, scope_at, scope_in, word_in}
+use Rattle.far_table.specs.View.{BookView, CopierView, OtherViews, OwnerView, Role, Book}
+use Rattle.far_table.specs.First.{IsTableOf, first_book, first_copier, first_others, first_owner, rows_from}
+use Rattle.far_table.specs.Layout.{cell_at, cell_in, data_at, job_at, job_in, scope_at, scope_in, word_in}
 use Rattle.far_table.specs.Rows.{over}
 use Rattle.far_table.specs.Rule.{BookTies, Facts, OwnerTies, Running}
-use Rattle.far_table.specs.StateOf.{book_state, copied, head_at, held_by, known_word, remembered_by, state_of, stored_word, used_by}
+use Rattle.far_table.specs.StateOf.{book_state, head_at, held_by, known_word, remembered_by, state_of, stored_word, used_by}
+use Rattle.far_table.specs.CopierViews.{words_read, words_written}
+use Rattle.far_table.specs.Stands.{SaysCopier}
 use Rattle.far_table.specs.Views.{held_at, uses}
-use Rattle.far_table.proofs.FirstViews.{first_asked, first_dropped, first_has, first_heated, first_held, first_scope, first_uses, many_owners, over_all, over_beside, over_within, owner_here, owner_past, owner_stands, pointers_first}
+use Rattle.far_table.proofs.FirstViews.{copier_stands, copiers_first, eight_copiers, first_asked, first_dropped, first_has, first_heated, first_held, first_scope, first_uses, many_owners, over_all, over_beside, over_within, owner_here, owner_past, owner_stands, pointers_first}
 
 -- a part of the words makes a function, if past its end that is 0
 part_is : (n : ℕ) (f g : ℕ → ℕ) → ((q : ℕ) → q < n → f q ≡ g q) → ((q : ℕ) → n ≤ q → g q ≡ 0) → (λ q. cond (nat_lt q n) (f q) 0) ≡ g
@@ -53,15 +56,16 @@ word_by b a true w e none = rw e refl
 word_by b a false w e none = rw e none
 
 -- who has no seat yet is no part of what the facts say of the book
-pub other_rest : (ws : List ℕ) (b : BookView) (os : List OwnerView) (rest : List Role) → Facts ws b os → Facts ws (record b { rest = rest }) os
+pub other_rest : (ws : List ℕ) (b : BookView) (os : OtherViews) (rest : List Role) → Facts ws b os → Facts ws (record b { rest = rest }) os
 other_rest ws b os rest f = record {
   law = f.law;
   agrees = f.agrees;
   book = record { shown = f.book.shown; rests = f.book.rests };
   owners = λ m o at. let ties = f.owners m o at in record { number = ties.number; honest = ties.honest; scope = ties.scope; objects = ties.objects; asks = ties.asks; drops = ties.drops; hots = ties.hots; warm = ties.warm };
+  copiers = f.copiers;
   many = f.many;
+  eight = f.eight;
   wide = f.wide;
-  jobs = f.jobs;
 }
 
 -- ---- the views, past the ends of the core
@@ -69,23 +73,23 @@ module _ (s : State) (honest : Bool) (law : Law s) (past : HasNothingPast s) whe
   abbrev b : BookView
   b = first_book s honest
 
-  abbrev os : List OwnerView
-  os = first_owners s honest
+  abbrev os : OtherViews
+  os = first_others s honest
 
   -- the core's state, as honest as is said
   abbrev s' : State
   s' = record s { honest = honest }
 
-  remembered_first : remembered_by os ≡ s.remembered
+  remembered_first : remembered_by os.owners ≡ s.remembered
   remembered_first = fun_ext (λ m. elim (cases_lt m s.mutators) [
     | inl lt ↦ ap (λ (y : OwnerView). y.epoch) (owner_here s honest m lt)
     | inr le ↦ ap (λ (y : OwnerView). y.epoch) (owner_past s honest m le) ∙ sym (past.epochs m le)
   ])
 
-  used_first : used_by os ≡ s.used
+  used_first : used_by os.owners ≡ s.used
   used_first = pointers_first s honest uses s.used (λ m p own. first_uses s honest m p own law) past.uses
 
-  held_first : held_by os ≡ s.held
+  held_first : held_by os.owners ≡ s.held
   held_first = pointers_first s honest held_at s.held (first_held s honest) past.holds
 
   kinds_first : over b.kinds (λ _. kinds.Free) ≡ s.kind
@@ -119,33 +123,31 @@ module _ (s : State) (honest : Bool) (law : Law s) (past : HasNothingPast s) whe
         ∙ fun_ext (λ i. sym (past.stores p i (omega (arith, law.shape.few_mutators))))
   ])
 
-  -- the rows of each of so many copiers are its row, with nothing past them
-  rows_first : {X : Type 0} (f : ℕ → ℕ → X) (d : X) → ((c i : ℕ) → (MOST_COPIERS ≤ c) ⊎ (LOG_WORDS ≤ i) → f c i ≡ d) →
-      (λ c. over (over (rows_from 0 MOST_COPIERS (λ q. rows_from 0 LOG_WORDS (f q))) (λ _. []) c) (λ _. d)) ≡ f
-  rows_first {X} f d none = fun_ext (λ c. elim (cases_lt c MOST_COPIERS) [
-    | inl lt ↦ ap (λ (rows : List (ℕ × X)). over rows (λ _. d)) (over_within (λ q. rows_from 0 LOG_WORDS (f q)) (λ _. []) MOST_COPIERS 0 c (omega arith) (omega arith))
-        ∙ over_all (f c) (λ _. d) LOG_WORDS (λ i le. none c i (inr le))
-    | inr le ↦ ap (λ (rows : List (ℕ × X)). over rows (λ _. d)) (over_beside (λ q. rows_from 0 LOG_WORDS (f q)) (λ _. []) MOST_COPIERS 0 c (λ x y. omega arith))
-        ∙ fun_ext (λ i. sym (none c i (inl le)))
-  ])
+  jobs_first : over b.jobs (λ _. 0) ≡ s.copying.word
+  jobs_first = over_all s.copying.word (λ _. 0) JOBS (λ j le. (past.jobs j le).0)
 
-  copied_first : copied b ≡ s.copying
-  copied_first = λ i. record {
-    word = over_all s.copying.word (λ _. 0) JOBS (λ j le. (past.jobs j le).0) i;
-    since = over_all s.copying.since (λ _. 0) JOBS (λ j le. (past.jobs j le).1) i;
-    named = over_all s.copying.named (λ _. false) JOBS (λ j le. (past.jobs j le).2) i;
-    task = over_all s.copying.task (λ _. None) MOST_COPIERS (λ c le. (past.tasks c le).0) i;
-    length = over_all s.copying.length (λ _. None) MOST_COPIERS (λ c le. (past.tasks c le).1) i;
-    read = rows_first s.copying.read None (λ c k le. (past.copies c k le).0) i;
-    written = rows_first s.copying.written false (λ c k le. (past.copies c k le).1) i;
-  }
+  since_first : over b.since (λ _. 0) ≡ s.copying.since
+  since_first = over_all s.copying.since (λ _. 0) JOBS (λ j le. (past.jobs j le).1)
+
+  named_first : over b.named (λ _. false) ≡ s.copying.named
+  named_first = over_all s.copying.named (λ _. false) JOBS (λ j le. (past.jobs j le).2)
+
+  -- ---- copiers
+  read_first : (c : ℕ) → words_read (first_copier s c) ≡ s.copying.read c
+  read_first c = over_all (s.copying.read c) (λ _. None) LOG_WORDS (λ i le. (past.copies c i (inr le)).0)
+
+  written_first : (c : ℕ) → words_written (first_copier s c) ≡ s.copying.written c
+  written_first c = over_all (s.copying.written c) (λ _. false) LOG_WORDS (λ i le. (past.copies c i (inr le)).1)
+
+  pub copier_says : (c : ℕ) → SaysCopier s c (first_copier s c)
+  copier_says c = record { number = refl; task = refl; length = refl; read = read_first c; written = written_first c }
 
   cells_first : over b.cells (λ _. 0) ≡ s.cell
   cells_first = over_all s.cell (λ _. 0) POINTERS (λ p le. past.cells p (omega (arith, law.shape.few_mutators)))
 
   -- ---- the book's view is the core's state, of whose words it knows the headers alone
-  pub first_book_state : book_state b ≡ masked s' s.cell (λ _. false)
-  first_book_state = λ i. record (masked s' s.cell (λ _. false)) {
+  pub first_book_state : book_state b ≡ masked s' s.cell (λ _. false) s.copying.word
+  first_book_state = λ i. record (masked s' s.cell (λ _. false) s.copying.word) {
     cell = cells_first i;
     word = words_first i;
     kind = kinds_first i;
@@ -155,11 +157,11 @@ module _ (s : State) (honest : Bool) (law : Law s) (past : HasNothingPast s) whe
     round_epoch = sym law.rounds.own_epoch i;
     clear = clear_first i;
     stored = stored_first i;
-    copying = copied_first i;
+    copying = record (uncopied s.copying s.copying.word) { word = jobs_first i; since = since_first i; named = named_first i };
   }
 
   pub first_shows : Shows (book_state b) s'
-  first_shows = subst (λ (o : State). Shows o s') (sym first_book_state) (masked_shows s' s.cell (λ _. false) (λ p. finds_same (s.cell p)))
+  first_shows = subst (λ (o : State). Shows o s') (sym first_book_state) (masked_shows s' s.cell (λ _. false) s.copying.word (λ p. finds_same (s.cell p)) (λ j. job_itself (s.copying.word j)))
 
   -- ---- the words and the views are the core's state
   module _ (ws : List ℕ) (table : IsTableOf ws s) where
@@ -174,6 +176,9 @@ module _ (s : State) (honest : Bool) (law : Law s) (past : HasNothingPast s) whe
       | inl lt ↦ table.words a lt
       | inr le ↦ get_or_past ws (data_at a) 0 (omega (arith, table.wide)) ∙ sym (past.words a (omega (arith, law.shape.few_logs)))
     ])
+
+    job_first : job_in ws ≡ s.copying.word
+    job_first = part_is JOBS (λ j. slice_index ws (job_at j)) s.copying.word table.jobs (λ j le. (past.jobs j le).0)
 
     pub first_state : state_of ws b os ≡ s'
     first_state = λ i. record s' {
@@ -191,7 +196,15 @@ module _ (s : State) (honest : Bool) (law : Law s) (past : HasNothingPast s) whe
       round_epoch = sym law.rounds.own_epoch i;
       clear = clear_first i;
       stored = stored_first i;
-      copying = copied_first i;
+      copying = record {
+        word = job_first i;
+        since = since_first i;
+        named = named_first i;
+        task = copiers_first s (λ (v : CopierView). v.task) s.copying.task (λ _. refl) (λ c le. (past.tasks c le).0) i;
+        length = copiers_first s (λ (v : CopierView). v.length) s.copying.length (λ _. refl) (λ c le. (past.tasks c le).1) i;
+        read = copiers_first s words_read s.copying.read read_first (λ c le. fun_ext (λ k. (past.copies c k (inl le)).0)) i;
+        written = copiers_first s words_written s.copying.written written_first (λ c le. fun_ext (λ k. (past.copies c k (inl le)).1)) i;
+      };
     }
 
   -- ---- the rule, where the honesty is the core's own as soon as a cell is in use
@@ -219,7 +232,7 @@ module _ (s : State) (honest : Bool) (law : Law s) (past : HasNothingPast s) whe
     }
 
     -- no word is known but headers
-    rests_first : (a : ℕ) → IsKnown (masked_word s.word s.starts (λ _. false) a) → s.starts a ≡ false → RestsAt (masked s' s.cell (λ _. false)) a
+    rests_first : (a : ℕ) → IsKnown (masked_word s.word s.starts (λ _. false) a) → s.starts a ≡ false → RestsAt (masked s' s.cell (λ _. false) s.copying.word) a
     rests_first a known plain = absurd (false≢true (sym plain ∙ known_head (s.starts a) (s.word a) a known))
 
     pub first_book_ties : BookTies b s'
@@ -246,12 +259,13 @@ module _ (s : State) (honest : Bool) (law : Law s) (past : HasNothingPast s) whe
           agrees = agrees (state_of ws b os) here;
           book = subst (BookTies b) is first_book_ties;
           owners = λ m o at. let t = owner_stands s honest m o at in subst (λ (z : State). OwnerTies b z m o) is (subst (OwnerTies b s' m) t.1 (first_owner_ties m));
+          copiers = λ c v at. ap (λ (z : CopierView). z.number) (sym (copier_stands s c v at).1);
           many = many_owners s honest;
+          eight = eight_copiers s;
           wide = table.wide;
-          jobs = part_is JOBS (λ j. slice_index ws (job_at j)) (λ _. 0) table.jobs (λ j most. refl);
         }
 
 -- what is asked where a table is made of these words and the book's first view
 pub opens : {S : Type 0} (s : State) (honest : Bool) (ws : List ℕ) → Law s → HasNothingPast s → IsTableOf ws s → ((p : ℕ) → s.cell p ≢ 0 → honest ≡ s.honest) →
     Running {S = S} (opening ws [] (Book (first_book s honest)))
-opens s honest ws law past table same = record { book = first_book s honest; dealt = []; waits = first_owners s honest; views = refl; rest = refl; facts = first_facts s honest law past same ws table }
+opens s honest ws law past table same = record { book = first_book s honest; others = first_others s honest; dealt = []; views = refl; all = refl; facts = first_facts s honest law past same ws table }

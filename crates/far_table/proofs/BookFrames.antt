@@ -13,8 +13,8 @@ use Rattle.far_core.proofs.Owing.{keeps}
 use Rattle.far_core.proofs.Steps.{agrees}
 use Rattle.far_hand.specs.Makers.{ByBook, maker}
 use Rattle.far_hand.proofs.Making.{legal_made}
-use Rattle.far_table.specs.View.{BookView, OwnerView, Role}
-use Rattle.far_table.specs.Layout.{cell_in, job_in, scope_in}
+use Rattle.far_table.specs.View.{BookView, OwnerView, Role, OtherViews}
+use Rattle.far_table.specs.Layout.{cell_in, scope_in}
 use Rattle.far_table.specs.Rows.{over}
 use Rattle.far_table.specs.Rule.{BookTies, Facts, OwnerTies}
 use Rattle.far_table.specs.StateOf.{cooled_at, held_by, retired_at, state_of, taken_at}
@@ -25,14 +25,14 @@ use Rattle.far_table.proofs.Owners.{known_by}
 use Rattle.far_table.proofs.OwnSteps.{Leads}
 
 -- what a step leaves of the owners' ties: their scope words stay, MOVE, DROP and HOT are counted, and HOT stays where a place is held
-pub record LeavesOwners (ws : List ℕ) (b : BookView) (os : List OwnerView) (e : Event) (r : Reply) (later : List ℕ) (b' : BookView) : Type 0 where
+pub record LeavesOwners (ws : List ℕ) (b : BookView) (os : OtherViews) (e : Event) (r : Reply) (later : List ℕ) (b' : BookView) : Type 0 where
   pub mutators : b'.mutators ≡ b.mutators
   pub honest : b'.honest ≡ b.honest
   pub rest : b'.rest ≡ b.rest
   pub scopes : scope_in later ≡ scope_in ws
   pub counts : (p : ℕ) → (taken_at b p + moves (cell_in ws p) ≡ taken_at b' p + moves (cell_in later p)) × (retired_at b p + drops (cell_in ws p) ≡ retired_at b' p + drops (cell_in later p))
       × (cooled_at b p + hots (cell_in ws p) ≡ cooled_at b' p + hots (cell_in later p))
-  pub warm : (p : ℕ) → IsSome (held_by os p) → hots (cell_in later p) ≡ hots (cell_in ws p)
+  pub warm : (p : ℕ) → IsSome (held_by os.owners p) → hots (cell_in later p) ≡ hots (cell_in ws p)
   pub told : (p : ℕ) → (taken_at b' p ≡ taken_by e r p (taken_at b p)) × (retired_at b' p ≡ retired_by e r p (retired_at b p)) × (cooled_at b' p ≡ cooled_by e r p (cooled_at b p))
 
 -- what owners' ties read of the book's view, and who has no seat yet
@@ -47,7 +47,7 @@ abbrev CountsNone : Event → Reply → Type 0
 CountsNone e r = (p n : ℕ) → (taken_by e r p n ≡ n) × (retired_by e r p n ≡ n) × (cooled_by e r p n ≡ n)
 
 -- a step that leaves MOVE, DROP and HOT of all cells, and all scope words
-pub marks_stay : {ws later : List ℕ} {b b' : BookView} {os : List OwnerView} {e : Event} {r : Reply} →
+pub marks_stay : {ws later : List ℕ} {b b' : BookView} {os : OtherViews} {e : Event} {r : Reply} →
     ((p : ℕ) → (moves (cell_in later p) ≡ moves (cell_in ws p)) × (drops (cell_in later p) ≡ drops (cell_in ws p)) × (hots (cell_in later p) ≡ hots (cell_in ws p))) →
     scope_in later ≡ scope_in ws → counts_of b' ≡ counts_of b → CountsNone e r → LeavesOwners ws b os e r later b'
 marks_stay {ws} {later} {b} {b'} marks scopes same none =
@@ -72,19 +72,19 @@ marks_stay {ws} {later} {b} {b'} marks scopes same none =
     }
 
 -- a step that leaves all cells and scope words
-pub cells_stay : {ws later : List ℕ} {b b' : BookView} {os : List OwnerView} {e : Event} {r : Reply} → cell_in later ≡ cell_in ws → scope_in later ≡ scope_in ws → counts_of b' ≡ counts_of b → CountsNone e r →
+pub cells_stay : {ws later : List ℕ} {b b' : BookView} {os : OtherViews} {e : Event} {r : Reply} → cell_in later ≡ cell_in ws → scope_in later ≡ scope_in ws → counts_of b' ≡ counts_of b → CountsNone e r →
     LeavesOwners ws b os e r later b'
 cells_stay cells scopes same none = marks_stay (λ p. (ap (λ c. moves (c p)) cells, ap (λ c. drops (c p)) cells, ap (λ c. hots (c p)) cells)) scopes same none
 
 -- what a kind of step owes: its event is legal, with this answer; the words and the view after are the core's state; the book's own ties, of a state under the law; and what it leaves of the owners'
-pub record BookStep (ws : List ℕ) (b : BookView) (os : List OwnerView) (e : Event) (r : Reply) (later : List ℕ) (b' : BookView) : Type 0 where
+pub record BookStep (ws : List ℕ) (b : BookView) (os : OtherViews) (e : Event) (r : Reply) (later : List ℕ) (b' : BookView) : Type 0 where
   pub legal : Legal (state_of ws b os) e
   pub says : r ≡ answer (state_of ws b os) e
-  pub becomes : Leads (after (state_of ws b os) e) (job_in ws) later b' os
+  pub becomes : Leads (after (state_of ws b os) e) later b' os
   pub book : Law (state_of later b' os) → BookTies b' (state_of later b' os)
   pub leaves : LeavesOwners ws b os e r later b'
 
-module _ (ws : List ℕ) (b : BookView) (os : List OwnerView) (f : Facts ws b os) (e : Event) (by : maker e ≡ ByBook) (fits : Fits e) (r : Reply) (later : List ℕ) (b' : BookView)
+module _ (ws : List ℕ) (b : BookView) (os : OtherViews) (f : Facts ws b os) (e : Event) (by : maker e ≡ ByBook) (fits : Fits e) (r : Reply) (later : List ℕ) (b' : BookView)
     (k : BookStep ws b os e r later b') where
   abbrev s : State
   s = state_of ws b os
@@ -95,7 +95,7 @@ module _ (ws : List ℕ) (b : BookView) (os : List OwnerView) (f : Facts ws b os
   law : Law t
   law = subst Law k.becomes.is (keeps s e f.law fits k.legal)
 
-  owner : (m : ℕ) (o : OwnerView) → get_elem? os m ≡ some o → OwnerTies b s m o → OwnerTies b' t m o
+  owner : (m : ℕ) (o : OwnerView) → get_elem? os.owners m ≡ some o → OwnerTies b s m o → OwnerTies b' t m o
   owner m o at ties = record {
     number = ties.number;
     honest = ties.honest ∙ sym k.leaves.honest;
@@ -104,7 +104,7 @@ module _ (ws : List ℕ) (b : BookView) (os : List OwnerView) (f : Facts ws b os
     asks = λ p mine. ties.asks p mine ∙ (k.leaves.counts p).0;
     drops = λ p mine. ties.drops p mine ∙ (k.leaves.counts p).1;
     hots = λ p mine. ties.hots p mine ∙ (k.leaves.counts p).2;
-    warm = λ p mine pinned. let x = ties.warm p mine pinned in (x.0, k.leaves.warm p (subst IsSome (sym (known_by os m o o at held_at p mine)) x.0) ∙ x.1);
+    warm = λ p mine pinned. let x = ties.warm p mine pinned in (x.0, k.leaves.warm p (subst IsSome (sym (known_by os.owners m o o at held_at p mine)) x.0) ∙ x.1);
   }
 
   pub book_facts : Facts later b' os
@@ -113,15 +113,16 @@ module _ (ws : List ℕ) (b : BookView) (os : List OwnerView) (f : Facts ws b os
     agrees = agrees t law;
     book = k.book law;
     owners = λ m o at. owner m o at (f.owners m o at);
+    copiers = f.copiers;
     many = f.many ∙ sym k.leaves.mutators;
+    eight = f.eight;
     wide = k.becomes.wide;
-    jobs = k.becomes.jobs ∙ f.jobs;
   }
 
   pub book_made : BookMade e b r b'
   book_made = record {
     words = ws;
-    owners = os;
+    others = os;
     facts = f;
     legal = k.legal;
     says = k.says;

@@ -9,22 +9,22 @@ use Rattle.far_core.specs.declared.event.Event.{Event}
 use Rattle.far_core.specs.declared.event.Reply.{Reply}
 use Rattle.far_core.specs.events.Step.{Fits}
 use Rattle.far_hand.specs.Makers.{ByBook, maker}
-use Rattle.far_table.specs.View.{BookView, OwnerView, View, Book, Owner}
+use Rattle.far_table.specs.View.{BookView, OtherViews, View, Book, seat_of}
 use Rattle.far_table.specs.BookTells.{BookTells}
 use Rattle.far_table.specs.Rule.{Facts, Running}
 use Rattle.far_table.specs.Stands.{book_of}
-use Rattle.far_table.proofs.Dealing.{book_place}
+use Rattle.far_table.proofs.Roles.{book_place}
 use Rattle.far_table.proofs.BookFrames.{BookStep, book_facts, book_made}
 
 module _ {S : Type 0} where
-  -- a step of the book's seat owes the facts after it, of any words and owners' views that meet them
+  -- a step of the book's seat owes the facts after it, of any words and others' views that meet them
   pub book_allows : (slots id i : ℕ) (me : Me S View) (b : BookView) (f : ℕ → ℕ) (then : ℕ → Me S View → Type 0) → me.0 ≡ Book b →
-      ((ws : List ℕ) (os : List OwnerView) → Facts ws b os → slice_index ws i < 2 ^ 64 →
+      ((ws : List ℕ) (os : OtherViews) → Facts ws b os → slice_index ws i < 2 ^ 64 →
       (w : BookView) × (w.rest ≡ b.rest) × Facts (set ws i (f (slice_index ws i))) w os × then (slice_index ws i) (Book w, me.1)) →
       Allows Running slots id me i f then
   book_allows slots id i me b f then is asked s r wide at small =
       let p = book_place r.book r.dealt id b (subst (λ l. get_elem? l id ≡ some (Book b)) r.views (at ∙ ap some is)) in
-      let t = asked s.words (r.dealt ++ r.waits) (subst (λ z. Facts s.words z (r.dealt ++ r.waits)) p.1 r.facts) small in
+      let t = asked s.words r.others (subst (λ z. Facts s.words z r.others) p.1 r.facts) small in
       let w : BookView = t.0 in
       let x : ℕ = f (slice_index s.words i) in (
         Book w,
@@ -32,10 +32,10 @@ module _ {S : Type 0} where
         tt,
         record {
           book = w;
+          others = r.others;
           dealt = r.dealt;
-          waits = r.waits;
-          views = ap (λ l. set l id (Book w)) r.views ∙ ap (λ j. set (Book r.book ∷ map Owner r.dealt) j (Book w)) p.0;
-          rest = t.1 ∙ (ap (λ (z : BookView). z.rest) (sym p.1) ∙ r.rest);
+          views = ap (λ l. set l id (Book w)) r.views ∙ ap (λ j. set (Book r.book ∷ map seat_of r.dealt) j (Book w)) p.0;
+          all = ap (λ l. r.dealt ++ l) (t.1 ∙ ap (λ (z : BookView). z.rest) (sym p.1)) ∙ r.all;
           facts = t.2;
         },
         t.3,
@@ -48,9 +48,9 @@ module _ {S : Type 0} where
 
     -- a step that writes: it is this event, the reply and the view after go by the word found
     pub book_makes : (f : ℕ → ℕ) → Fits e →
-        ((ws : List ℕ) (os : List OwnerView) → Facts ws b os → slice_index ws i < 2 ^ 64 →
+        ((ws : List ℕ) (os : OtherViews) → Facts ws b os → slice_index ws i < 2 ^ 64 →
         BookStep ws b os e (r (slice_index ws i)) (set ws i (f (slice_index ws i))) (w (slice_index ws i))) →
-        ((ws : List ℕ) (os : List OwnerView) → Facts ws b os → slice_index ws i < 2 ^ 64 →
+        ((ws : List ℕ) (os : OtherViews) → Facts ws b os → slice_index ws i < 2 ^ 64 →
         BookTells me.0 (Book (w (slice_index ws i))) e (r (slice_index ws i)) (w (slice_index ws i)) → then (slice_index ws i) (Book (w (slice_index ws i)), me.1)) →
         Allows Running slots id me i f then
     book_makes f fits steps tells = book_allows slots id i me b f then is (λ ws os facts small.
@@ -64,9 +64,9 @@ module _ {S : Type 0} where
 
     -- a step that reads
     pub book_reads : Fits e →
-        ((ws : List ℕ) (os : List OwnerView) → Facts ws b os → slice_index ws i < 2 ^ 64 →
+        ((ws : List ℕ) (os : OtherViews) → Facts ws b os → slice_index ws i < 2 ^ 64 →
         BookStep ws b os e (r (slice_index ws i)) ws (w (slice_index ws i))) →
-        ((ws : List ℕ) (os : List OwnerView) → Facts ws b os → slice_index ws i < 2 ^ 64 →
+        ((ws : List ℕ) (os : OtherViews) → Facts ws b os → slice_index ws i < 2 ^ 64 →
         BookTells me.0 (Book (w (slice_index ws i))) e (r (slice_index ws i)) (w (slice_index ws i)) → then (slice_index ws i) (Book (w (slice_index ws i)), me.1)) →
         Allows Running slots id me i (λ n. n) then
     book_reads fits steps = book_makes (λ n. n) fits (λ ws os facts small.

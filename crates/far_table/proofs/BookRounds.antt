@@ -22,13 +22,13 @@ use Rattle.far_core.specs.events.Step.{after}
 use Rattle.far_core.specs.state.State.{State}
 use Rattle.far_hand.specs.Cleared.{cleared}
 use Rattle.far_hand.specs.Known.{Forgets, unknown}
-use Rattle.far_hand.specs.Masked.{AllFind, masked_word}
+use Rattle.far_hand.specs.Masked.{AllFind, AllFindJobs, masked_word}
 use Rattle.far_hand.specs.Rounds.{IsScopeAt, MayChoose}
 use Rattle.far_hand.proofs.Counting.{counts_none}
 use Rattle.far_hand.proofs.Finding.{near_found}
 use Rattle.far_hand.proofs.RoundSteps.{counts_looked, may_advance}
 use Rattle.far_hand.proofs.RoundSteps as looking
-use Rattle.far_table.specs.View.{BookView, OwnerView, View, Book}
+use Rattle.far_table.specs.View.{BookView, View, Book, OtherViews}
 use Rattle.far_table.specs.BookPlays.{Advanced, Cleared, Looked}
 use Rattle.far_table.specs.BookTells.{BookTells}
 use Rattle.far_table.specs.BookViews.{cleared_view, looked_view, raised_view, rows_left}
@@ -41,8 +41,8 @@ use Rattle.far_table.specs.Views.{drops, has_hot, hots, moves}
 use Rattle.far_table.proofs.BookFrames.{BookStep, cells_stay, marks_stay}
 use Rattle.far_table.proofs.BookKnown.{forgets, forgotten, head_same}
 use Rattle.far_table.proofs.BookLift.{book_makes, book_reads}
-use Rattle.far_table.proofs.BookSees.{cell_after, cells_few, epoch_after, finds_after, found_at, marks_as}
-use Rattle.far_table.proofs.Masks.{counts, epoch_is, finds, rests, ties, words_are}
+use Rattle.far_table.proofs.BookSees.{cell_after, cells_few, epoch_after, finds_after, found_at, marks_as, going_after}
+use Rattle.far_table.proofs.Masks.{counts, epoch_is, finds, going, rests, ties, words_are}
 use Rattle.far_table.proofs.OwnSteps.{led_by, reads, state_is}
 use Rattle.far_table.proofs.Words.{cell_here, epoch_word_set, scope_here}
 
@@ -60,7 +60,7 @@ cleared_kept b p n = λ i. record (book_state (cleared_view p n b)) { round = ro
 pub forgets_all : (b b' : BookView) → b'.heads ≡ b.heads → (known_word b' ≡ (λ a. head_or (head_at b' a) (unknown a))) → Forgets (book_state b) (book_state b')
 forgets_all b b' heads all = forgets b b' all (λ a st. head_same (head_at b' a) (unknown a) (over b.known unknown a) st ∙ ap (λ rows. head_or (over rows (λ _. None) a) (over b.known unknown a)) heads)
 
-module _ (ws : List ℕ) (b : BookView) (os : List OwnerView) (f : Facts ws b os) where
+module _ (ws : List ℕ) (b : BookView) (os : OtherViews) (f : Facts ws b os) where
   abbrev s : State
   s = state_of ws b os
 
@@ -80,7 +80,7 @@ module _ (ws : List ℕ) (b : BookView) (os : List OwnerView) (f : Facts ws b os
     says = refl;
     becomes = reads f (after s (Look m)) (looked_view m (scope_in ws m) b) os refl;
     book = λ law. ties ws (looked_view m (scope_in ws m) b) os law (counts b) (words_are ws b os f plain) (finds ws b os f)
-        (counts_looked s o.cell (counts b) m (shows_clear b.epoch (scope_of (scope_in ws m))) (rests ws b os f)) (epoch_is ws b os f);
+        (counts_looked s o.cell (counts b) m (shows_clear b.epoch (scope_of (scope_in ws m))) (rests ws b os f)) (epoch_is ws b os f) (going ws b os f);
     leaves = cells_stay refl refl refl (λ _ _. (refl, refl, refl));
   }
 
@@ -117,13 +117,13 @@ module _ (ws : List ℕ) (b : BookView) (os : List OwnerView) (f : Facts ws b os
           says = refl;
           becomes = led_by (λ i. record (after s (Clear p)) { round = sym (round_rows b.round (is_among b.chosen) (read_of n)) i }) (state_is later b' os (cell_after ws b os f p w few) refl refl refl);
           book = λ law. ties later b' os law (λ _. false) (heads_left (word_in later) (cell_after ws b os f p w few).word_is) (finds_after ws b os f p w few)
-              (counts_none (book_state b') (book_state b').cell) (epoch_after ws b os f p w few);
+              (counts_none (book_state b') (book_state b').cell) (epoch_after ws b os f p w few) (going_after ws b os f p w few);
           leaves = marks_stay (marks_as ws b os f p w few same_marks) (cell_after ws b os f p w few).scope_is refl (λ _ _. (refl, refl, refl));
         }
 
   module _ (logs : ℕ) (h : MayChoose o logs) (below : b.epoch + 1 < EPOCH_END) where
     advance_legal : Legal s (Advance logs)
-    advance_legal = may_advance s o.cell (counts b) logs (finds ws b os f) (subst (λ e. e + 1 < EPOCH_END) (sym (epoch_is ws b os f)) below) record { shut = h.shut; marked = h.marked }
+    advance_legal = may_advance s o.cell (counts b) o.copying.word logs (finds ws b os f) (subst (λ e. e + 1 < EPOCH_END) (sym (epoch_is ws b os f)) below) record { shut = h.shut; marked = h.marked }
 
     advance_step : BookStep ws b os (Advance logs) (Epoch (b.epoch + 1)) (set ws EPOCH_AT (b.epoch + 1)) (raised_view logs b)
     advance_step =
@@ -135,7 +135,7 @@ module _ (ws : List ℕ) (b : BookView) (os : List OwnerView) (f : Facts ws b os
           says = ap Epoch (sym up);
           becomes = led_by (λ i. record (after s (Advance logs)) { epoch = up i; round_epoch = up i }) (state_is later b' os are refl refl refl);
           book = λ law. ties later b' os law (λ _. false) (heads_left (word_in later) are.word_is) (subst (AllFind o.cell) (sym are.cell_is) (finds ws b os f))
-              (counts_none (book_state b') o.cell) are.epoch_is;
+              (counts_none (book_state b') o.cell) are.epoch_is (subst (AllFindJobs o.copying.word) (sym are.job_is) (going ws b os f));
           leaves = cells_stay are.cell_is are.scope_is refl (λ _ _. (refl, refl, refl));
         }
 

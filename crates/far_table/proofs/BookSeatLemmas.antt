@@ -49,7 +49,7 @@ pub scope_found : (b b' : BookView) (m n : ℕ) → BookMade (Look m) b (Word n)
 scope_found b b' m n made =
     let says : Word n ≡ Word (scope_in made.words m) = made.says in
     let is : n ≡ scope_in made.words m = cc in
-    ∣ (state_of made.later b' made.owners, record { words = made.later; owners = made.owners; facts = made.keeps; is = refl }, sym (ap (λ (z : State). z.scope m) made.becomes) ∙ sym is) ∣₁
+    ∣ (state_of made.later b' made.others, record { words = made.later; others = made.others; facts = made.keeps; is = refl }, sym (ap (λ (z : State). z.scope m) made.becomes) ∙ sym is) ∣₁
 
 module _ (v v' : View) (e : Event) (r : Reply) (b' : BookView) (t : BookTells v v' e r b') where
   pub view_is : book_of v' ≡ b'
@@ -74,7 +74,7 @@ module _ (v v' : View) (e : Event) (r : Reply) (b' : BookView) (t : BookTells v 
 
   -- there are words with which the rule holds
   pub stands_after : ∥ Stands (book_of v') ∥₁
-  stands_after = subst (λ (z : BookView). ∥ Stands z ∥₁) (sym view_is) ∣ record { words = t.made.later; owners = t.made.owners; facts = t.made.keeps } ∣₁
+  stands_after = subst (λ (z : BookView). ∥ Stands z ∥₁) (sym view_is) ∣ record { words = t.made.later; others = t.made.others; facts = t.made.keeps } ∣₁
 
   pub seat_made : BookMade e (book_of v) r (book_of v')
   seat_made = subst (λ z. BookMade e (book_of v) r z) (sym view_is) t.made

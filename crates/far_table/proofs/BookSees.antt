@@ -17,10 +17,10 @@ use Rattle.far_core.specs.events.Step.{after}
 use Rattle.far_core.specs.state.State.{State, put}
 use Rattle.far_core.proofs.Put.{put_both}
 use Rattle.far_hand.specs.Finds.{Finds}
-use Rattle.far_hand.specs.Masked.{AllFind, masked_word}
+use Rattle.far_hand.specs.Masked.{AllFind, AllFindJobs, masked_word}
 use Rattle.far_hand.proofs.Counting.{counts_found, finds_named, finds_put}
 use Rattle.far_hand.proofs.EvacMarks.{counts_marked, legal_mark}
-use Rattle.far_table.specs.View.{BookView, OwnerView, View, Book}
+use Rattle.far_table.specs.View.{BookView, View, Book, OtherViews}
 use Rattle.far_table.specs.BookPlays.{Marked, Saw}
 use Rattle.far_table.specs.BookTells.{BookTells}
 use Rattle.far_table.specs.BookViews.{marked_view, saw_view}
@@ -31,12 +31,12 @@ use Rattle.far_table.specs.StateOf.{book_state, known_word, state_of}
 use Rattle.far_table.specs.Views.{drops, has_hot, hots, moves}
 use Rattle.far_table.proofs.BookFrames.{BookStep, cells_stay, marks_stay}
 use Rattle.far_table.proofs.BookLift.{book_makes, book_reads}
-use Rattle.far_table.proofs.Masks.{counts, epoch_is, finds, rests, ties, words_are}
+use Rattle.far_table.proofs.Masks.{counts, epoch_is, finds, going, rests, ties, words_are}
 use Rattle.far_table.proofs.OwnSteps.{reads, state_is}
 use Rattle.far_table.proofs.Words.{WordsAre, cell_here, cell_word_set}
 
 -- ---- one cell becomes w
-module _ (ws : List ℕ) (b : BookView) (os : List OwnerView) (f : Facts ws b os) (p w : ℕ) (small : p < POINTERS) where
+module _ (ws : List ℕ) (b : BookView) (os : OtherViews) (f : Facts ws b os) (p w : ℕ) (small : p < POINTERS) where
   abbrev later : List ℕ
   later = set ws (cell_at p) w
 
@@ -50,6 +50,10 @@ module _ (ws : List ℕ) (b : BookView) (os : List OwnerView) (f : Facts ws b os
   pub finds_after : AllFind (put (book_state b).cell p w) (cell_in later)
   finds_after = subst (AllFind (put (book_state b).cell p w)) (sym cell_after.cell_is) (finds_named (book_state b).cell (cell_in ws) p w (finds ws b os f))
 
+  -- and each job where it was
+  pub going_after : AllFindJobs (book_state b).copying.word (job_in later)
+  going_after = subst (AllFindJobs (book_state b).copying.word) (sym cell_after.job_is) (going ws b os f)
+
   pub words_after : IsPlain b → known_word b ≡ masked_word (word_in later) (book_state b).starts (counts b)
   words_after plain = words_are ws b os f plain ∙ ap (λ v. masked_word v (book_state b).starts (counts b)) (sym cell_after.word_is)
 
@@ -62,10 +66,10 @@ module _ (ws : List ℕ) (b : BookView) (os : List OwnerView) (f : Facts ws b os
       (moves (cell_in later q) ≡ moves (cell_in ws q)) × (drops (cell_in later q) ≡ drops (cell_in ws q)) × (hots (cell_in later q) ≡ hots (cell_in ws q))
   marks_as same q = (counts_as moves same.0 q, counts_as drops same.1 q, counts_as hots same.2 q)
 
-pub cells_few : (ws : List ℕ) (b : BookView) (os : List OwnerView) → Facts ws b os → (p : ℕ) → p < CELLS * b.mutators → p < POINTERS
+pub cells_few : (ws : List ℕ) (b : BookView) (os : OtherViews) → Facts ws b os → (p : ℕ) → p < CELLS * b.mutators → p < POINTERS
 cells_few ws b os f p low = let most = f.law.shape.few_mutators in omega arith
 
-module _ (ws : List ℕ) (b : BookView) (os : List OwnerView) (f : Facts ws b os) (plain : IsPlain b) (p : ℕ) where
+module _ (ws : List ℕ) (b : BookView) (os : OtherViews) (f : Facts ws b os) (plain : IsPlain b) (p : ℕ) where
   abbrev s : State
   s = state_of ws b os
 
@@ -81,7 +85,7 @@ module _ (ws : List ℕ) (b : BookView) (os : List OwnerView) (f : Facts ws b os
     says = refl;
     becomes = reads f (after s (See p)) (saw_view p n b) os refl;
     book = λ law. ties ws (saw_view p n b) os law (counts b) (words_are ws b os f plain) (finds_put o.cell s.cell p n (finds ws b os f) refl)
-        (counts_found s o.cell (counts b) p n (rests ws b os f) (finds ws b os f p)) (epoch_is ws b os f);
+        (counts_found s o.cell (counts b) p n (rests ws b os f) (finds ws b os f p)) (epoch_is ws b os f) (going ws b os f);
     leaves = cells_stay refl refl refl (λ _ _. (refl, refl, refl));
   }
 
@@ -110,7 +114,7 @@ module _ (ws : List ℕ) (b : BookView) (os : List OwnerView) (f : Facts ws b os
       says = refl;
       becomes = state_is (set ws (cell_at p) w) (marked_view p n b) os (cell_after ws b os f p w few) refl refl refl;
       book = λ law. ties (set ws (cell_at p) w) (marked_view p n b) os law (counts b) (words_after ws b os f p w few plain) (finds_after ws b os f p w few)
-          (counts_marked s f.law o.cell (counts b) (finds ws b os f) p h (rests ws b os f)) (epoch_after ws b os f p w few);
+          (counts_marked s f.law o.cell (counts b) (finds ws b os f) p h (rests ws b os f)) (epoch_after ws b os f p w few) (going_after ws b os f p w few);
       leaves = marks_stay (marks_as ws b os f p w few same_marks) (cell_after ws b os f p w few).scope_is refl (λ _ _. (refl, refl, refl));
     }
 
@@ -122,7 +126,7 @@ module _ {S : Type 0} (slots id : ℕ) (me : Me S View) (is : me.0 ≡ Book (boo
   abbrev pub FoundAt : ℕ → ℕ → (ℕ → Type 0) → Type 0
   FoundAt z found told = Finds ((book_state view).cell z) found × told z
 
-  pub found_at : (ws : List ℕ) (os : List OwnerView) (f : Facts ws view os) → p < CELLS * view.mutators → (q : ℕ) → cell_at p ≡ cell_at q → (told : ℕ → Type 0) → told p →
+  pub found_at : (ws : List ℕ) (os : OtherViews) (f : Facts ws view os) → p < CELLS * view.mutators → (q : ℕ) → cell_at p ≡ cell_at q → (told : ℕ → Type 0) → told p →
       FoundAt q (slice_index ws (cell_at p)) told
   found_at ws os f low q e told t =
       let here : cell_in ws p ≡ slice_index ws (cell_at p) = cell_here ws p (cells_few ws view os f p low) in

@@ -17,14 +17,14 @@ use Rattle.far_core.specs.events.Step.{after}
 use Rattle.far_core.specs.state.State.{State, put}
 use Rattle.far_core.proofs.SpanFrames.{past_tail}
 use Rattle.far_hand.specs.Known.{unknown}
-use Rattle.far_hand.specs.Masked.{AllFind, masked, masked_word}
+use Rattle.far_hand.specs.Masked.{AllFind, AllFindJobs, masked, masked_word}
 use Rattle.far_hand.specs.Quiet.{IsQuietAt, is_quiet_word}
 use Rattle.far_hand.proofs.Counting.{counts_none, counts_past, counts_read}
 use Rattle.far_hand.proofs.Finding.{near_found}
 use Rattle.far_hand.proofs.Masking.{lies, no_header}
 use Rattle.far_hand.proofs.Quietness.{quiet_fact, quiet_test}
 use Rattle.far_hand.proofs.Reading.{Gets, count_read, count_word, gets, may_free}
-use Rattle.far_table.specs.View.{BookView, OwnerView, View, Book}
+use Rattle.far_table.specs.View.{BookView, View, Book, OtherViews}
 use Rattle.far_table.specs.BookPlays.{Freed, Got, Putted}
 use Rattle.far_table.specs.BookTells.{BookTells}
 use Rattle.far_table.specs.BookViews.{freed_view, got_view, is_quiet_at, is_quiet_below, put_view}
@@ -36,7 +36,7 @@ use Rattle.far_table.specs.StateOf.{book_state, head_at, head_or, known_word, st
 use Rattle.far_table.proofs.BookFrames.{BookStep, cells_stay}
 use Rattle.far_table.proofs.BookKnown.{elsewhere, forgotten, head_same, no_head, plain_more, put_known}
 use Rattle.far_table.proofs.BookLift.{book_makes, book_reads}
-use Rattle.far_table.proofs.Masks.{counts, epoch_is, finds, is_masked, rests, ties, view_masked, words_are}
+use Rattle.far_table.proofs.Masks.{counts, epoch_is, finds, going, is_masked, rests, ties, view_masked, words_are}
 use Rattle.far_table.proofs.OwnSteps.{reads, state_is}
 use Rattle.far_table.proofs.Words.{data_word_set}
 
@@ -77,7 +77,7 @@ pub plain_got : (q : Bool) (b : BookView) (a n : ℕ) → IsPlain b → n < 2 ^ 
 plain_got true b a n plain fits = plain_more b a n plain fits
 plain_got false b a n plain fits = plain
 
-module _ (ws : List ℕ) (b : BookView) (os : List OwnerView) (f : Facts ws b os) (plain : IsPlain b) (l at : ℕ) (inside : at < LOG_WORDS) where
+module _ (ws : List ℕ) (b : BookView) (os : OtherViews) (f : Facts ws b os) (plain : IsPlain b) (l at : ℕ) (inside : at < LOG_WORDS) where
   abbrev s : State
   s = state_of ws b os
 
@@ -91,7 +91,7 @@ module _ (ws : List ℕ) (b : BookView) (os : List OwnerView) (f : Facts ws b os
   n = word_in ws a
 
   abbrev known : State
-  known = masked s o.cell (counts b)
+  known = masked s o.cell (counts b) o.copying.word
 
   mask : o ≡ known
   mask = is_masked ws b os f plain
@@ -103,10 +103,10 @@ module _ (ws : List ℕ) (b : BookView) (os : List OwnerView) (f : Facts ws b os
   epoch = epoch_is ws b os f
 
   quiet_so : is_quiet_at b l at ≡ true → IsQuietAt known a
-  quiet_so h = let x = quiet_found b l at (CELLS * b.mutators) h in quiet_fact s f.law o.cell (counts b) seen l at x.0 x.1 x.2
+  quiet_so h = let x = quiet_found b l at (CELLS * b.mutators) h in quiet_fact s f.law o.cell seen l at x.0 x.1 x.2
 
   quiet_not : is_quiet_at b l at ≡ false → ¬ IsQuietAt known a
-  quiet_not h x = false≢true (sym (quiet_none b l at (CELLS * b.mutators) x.p h x.pointer) ∙ quiet_test s f.law o.cell (counts b) seen l at inside x)
+  quiet_not h x = false≢true (sym (quiet_none b l at (CELLS * b.mutators) x.p h x.pointer) ∙ quiet_test s f.law o.cell seen l at inside x)
 
   -- a quiet object's word is no header
   quiet_plain : IsQuietAt known a → head_at b a ≡ None
@@ -124,7 +124,7 @@ module _ (ws : List ℕ) (b : BookView) (os : List OwnerView) (f : Facts ws b os
     says = refl;
     becomes = reads f s (put_view a n b) os refl;
     book = λ law. ties ws (put_view a n b) os law (put (counts b) a true) (got_words (quiet_so quiet)) seen
-        (counts_read s o.cell (counts b) l a false true (λ _. quiet_so quiet) (rests ws b os f)) epoch;
+        (counts_read s o.cell (counts b) l a false true (λ _. quiet_so quiet) (rests ws b os f)) epoch (going ws b os f);
     leaves = cells_stay refl refl refl (λ _ _. (refl, refl, refl));
   }
   get_step low false quiet = record {
@@ -140,9 +140,9 @@ module _ (ws : List ℕ) (b : BookView) (os : List OwnerView) (f : Facts ws b os
   as_seen free v v' same g = subst (λ (z : State × State). Gets z.0 z.1 l at free n) (λ i. (sym mask i, sym same i)) g
 
   got_gets : (q : Bool) → is_quiet_at b l at ≡ q → Gets o (book_state (got_view q a n b)) l at false n
-  got_gets true quiet = as_seen false (book_state (put_view a n b)) (masked s o.cell (put (counts b) a true)) (view_masked ws (put_view a n b) os (put (counts b) a true) (got_words (quiet_so quiet)) epoch)
-      (gets s f.law o.cell (counts b) l at false true (λ _ _. quiet_so quiet) (λ e. absurd (true≢false e)))
-  got_gets false quiet = as_seen false o known mask (gets s f.law o.cell (counts b) l at false false (λ _ e. absurd (false≢true e)) (λ _. quiet_not quiet))
+  got_gets true quiet = as_seen false (book_state (put_view a n b)) (masked s o.cell (put (counts b) a true) o.copying.word) (view_masked ws (put_view a n b) os (put (counts b) a true) (got_words (quiet_so quiet)) epoch)
+      (gets s f.law o.cell (counts b) o.copying.word l at false true (λ _ _. quiet_so quiet) (λ e. absurd (true≢false e)))
+  got_gets false quiet = as_seen false o known mask (gets s f.law o.cell (counts b) o.copying.word l at false false (λ _ e. absurd (false≢true e)) (λ _. quiet_not quiet))
 
   -- ---- a log is given back
   abbrev left : BookView
@@ -161,17 +161,17 @@ module _ (ws : List ℕ) (b : BookView) (os : List OwnerView) (f : Facts ws b os
 
   free_step : Legal o (Get l at true) → BookStep ws b os (Get l at true) (Word n) ws left
   free_step h = record {
-    legal = (h.0, h.1, may_free s o.cell (counts b) l true seen h.2);
+    legal = (h.0, h.1, may_free s o.cell (counts b) o.copying.word l true seen (going ws b os f) h.2);
     says = refl;
     becomes = reads f (with_free_log s l) left os free_becomes;
-    book = λ law. ties ws left os law (λ _. false) free_words seen (counts_none (book_state left) o.cell) epoch;
+    book = λ law. ties ws left os law (λ _. false) free_words seen (counts_none (book_state left) o.cell) epoch (going ws b os f);
     leaves = cells_stay refl refl refl (λ _ _. (refl, refl, refl));
   }
 
   free_gets : Gets o (book_state left) l at true n
-  free_gets = as_seen true (book_state left) (masked (with_free_log s l) o.cell (λ _. false))
-      (view_masked ws left os (λ _. false) free_words epoch ∙ ap (λ (u : State). masked u o.cell (λ _. false)) (sym free_becomes))
-      (gets s f.law o.cell (counts b) l at true true (λ e. absurd (true≢false e)) (λ e. absurd (true≢false e)))
+  free_gets = as_seen true (book_state left) (masked (with_free_log s l) o.cell (λ _. false) o.copying.word)
+      (view_masked ws left os (λ _. false) free_words epoch ∙ ap (λ (u : State). masked u o.cell (λ _. false) o.copying.word) (sym free_becomes))
+      (gets s f.law o.cell (counts b) o.copying.word l at true true (λ e. absurd (true≢false e)) (λ e. absurd (true≢false e)))
 
   -- ---- a word is written
   module _ (w : ℕ) (h : Legal o (Put l at w)) where
@@ -191,7 +191,7 @@ module _ (ws : List ℕ) (b : BookView) (os : List OwnerView) (f : Facts ws b os
               (put_known b a w no_start ∙ (ap (λ v. put v a w) (words_are ws b os f plain)
               ∙ (sym (count_word s.word s.starts (counts b) a w) ∙ ap (λ v. masked_word v o.starts (put (counts b) a true)) (sym are.word_is))))
               (subst (AllFind o.cell) (sym are.cell_is) seen)
-              (counts_past s o.cell (counts b) l at h.2 inside (rests ws b os f)) (are.epoch_is ∙ epoch);
+              (counts_past s o.cell (counts b) l at h.2 inside (rests ws b os f)) (are.epoch_is ∙ epoch) (subst (AllFindJobs o.copying.word) (sym are.job_is) (going ws b os f));
           leaves = cells_stay are.cell_is are.scope_is refl (λ _ _. (refl, refl, refl));
         }
 

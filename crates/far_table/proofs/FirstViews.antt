@@ -15,7 +15,7 @@ use Rattle.far_word.specs.declared.pointer.PtrWord.{PtrWord}
 use Rattle.far_word.specs.declared.pointer.PtrWord.TheVariants.{Free, Near, Far}
 use Rattle.far_word.specs.declared.scope.ScopeWord.{ScopeWord}
 use Rattle.far_word.specs.declared.scope.ScopeWord.TheVariants as scoped
-use Rattle.far_word.specs.declared.sizes.TheConstants.{CELLS, LOG_WORDS, MOST_LOGS}
+use Rattle.far_word.specs.declared.sizes.TheConstants.{CELLS, LOG_WORDS, MOST_COPIERS, MOST_LOGS}
 use Rattle.far_word.specs.Pointer.{read_of}
 use Rattle.far_word.specs.Scope.{scope_of}
 use Rattle.far_word.specs.Sizes.{words_for}
@@ -29,11 +29,12 @@ use Rattle.far_core.specs.world.WorldOf.{object_of, world_of}
 use Rattle.far_core.proofs.Cells.{held_near}
 use Rattle.far_core.proofs.ObjectFacts.{object_agrees}
 use Rattle.far_core.proofs.Put.{put_both}
-use Rattle.far_table.specs.View.{ObjectView, OwnerView}
-use Rattle.far_table.specs.First.{first_owner, first_owners, open_epoch, rows_from, seen, seen_object}
+use Rattle.far_table.specs.View.{CopierView, ObjectView, OwnerView, idle}
+use Rattle.far_table.specs.First.{first_copier, first_copiers, first_owner, first_owners, open_epoch, rows_from, seen, seen_object}
 use Rattle.far_table.specs.Rows.{over}
 use Rattle.far_table.specs.Rule.{Has}
 use Rattle.far_table.specs.Seats.{HasPlaces, Remembers}
+use Rattle.far_table.specs.CopierViews.{copier_at}
 use Rattle.far_table.specs.Views.{asked_at, dropped_at, drops, heated_at, held_at, hots, len_of, moves, nobody, object_at, owner_at, uses}
 use Rattle.far_table.proofs.Places.{below, get_is}
 
@@ -194,4 +195,25 @@ module _ (s : State) (honest : Bool) where
   pointers_first g F own past = fun_ext (λ p. elim (cases_lt (p / CELLS) s.mutators) [
     | inl lt ↦ ap (λ y. g y p) (owner_here (p / CELLS) lt) ∙ own (p / CELLS) p refl
     | inr le ↦ ap (λ y. g y p) (owner_past (p / CELLS) le) ∙ sym (past p (omega arith))
+  ])
+
+-- ---- all copiers
+module _ (s : State) where
+  abbrev cs : List CopierView
+  cs = first_copiers s
+
+  pub eight_copiers : length cs ≡ MOST_COPIERS
+  eight_copiers = length-map-range_with_len (first_copier s) 0 MOST_COPIERS
+
+  copier_here : (c : ℕ) → c < MOST_COPIERS → copier_at cs c ≡ first_copier s c
+  copier_here c lt = get_or-map-range_with_len (first_copier s) 0 MOST_COPIERS c c (idle 0) lt (omega arith)
+
+  pub copier_stands : (c : ℕ) (v : CopierView) → get_elem? cs c ≡ some v → (c < MOST_COPIERS) × (first_copier s c ≡ v)
+  copier_stands c v at = let low : c < MOST_COPIERS = omega (arith, below cs c v at, eight_copiers) in (low, sym (copier_here c low) ∙ get_is cs c v (idle 0) at)
+
+  -- what copiers know, where past the last there is nothing
+  pub copiers_first : {X : Type 0} (g : CopierView → X) (F : ℕ → X) → ((c : ℕ) → g (first_copier s c) ≡ F c) → ((c : ℕ) → MOST_COPIERS ≤ c → F c ≡ g (idle 0)) → (λ c. g (copier_at cs c)) ≡ F
+  copiers_first g F own past = fun_ext (λ c. elim (cases_lt c MOST_COPIERS) [
+    | inl lt ↦ ap g (copier_here c lt) ∙ own c
+    | inr le ↦ ap g (get_or_past cs c (idle 0) (omega (arith, eight_copiers))) ∙ sym (past c le)
   ])

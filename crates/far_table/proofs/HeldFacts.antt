@@ -19,7 +19,7 @@ use Rattle.far_core.specs.world.World.{Object}
 use Rattle.far_core.proofs.Cells.{held_near}
 use Rattle.far_core.proofs.ObjectFacts.{object_agrees}
 use Rattle.far_hand.proofs.Masking.{lies, one_owner}
-use Rattle.far_table.specs.View.{BookView, ObjectView, OwnerView}
+use Rattle.far_table.specs.View.{BookView, ObjectView, OwnerView, OtherViews}
 use Rattle.far_table.specs.Rule.{Facts, Has}
 use Rattle.far_table.specs.StateOf.{state_of}
 use Rattle.far_table.specs.Views.{held_at, len_of, object_at, uses}
@@ -54,7 +54,7 @@ pub record HeldFacts (s : State) (o : OwnerView) (p : ℕ) (place : Place) : Typ
   pub kind : view.ds ≡ ds
   pub fits : addr place + 1 + words_for len ≤ MOST_LOGS * LOG_WORDS
 
-module _ (ws : List ℕ) (b : BookView) (os : List OwnerView) (f : Facts ws b os) (o : OwnerView) (at : get_elem? os o.number ≡ some o) where
+module _ (ws : List ℕ) (b : BookView) (os : OtherViews) (f : Facts ws b os) (o : OwnerView) (at : get_elem? os.owners o.number ≡ some o) where
   abbrev s : State
   s = state_of ws b os
 
@@ -81,12 +81,12 @@ module _ (ws : List ℕ) (b : BookView) (os : List OwnerView) (f : Facts ws b os
       }
 
   pub held_so : (p : ℕ) → p / CELLS ≡ o.number → s.held p ≡ held_at o p
-  held_so p own = known_by os o.number o o at held_at p own
+  held_so p own = known_by os.owners o.number o o at held_at p own
 
   pub held_facts : (p : ℕ) (place : Place) → p / CELLS ≡ o.number → held_at o p ≡ Some place → HeldFacts s o p place
   held_facts p place own held =
       let rests : s.held p ≡ Some place = held_so p own ∙ held in
-      near_facts p place own (sym (known_by os o.number o o at uses p own) ∙ f.law.views.held_used p (ap is_some rests)) (f.law.views.held_names p place rests)
+      near_facts p place own (sym (known_by os.owners o.number o o at uses p own) ∙ f.law.views.held_used p (ap is_some rests)) (f.law.views.held_names p place rests)
 
   -- a word is of one object that is held
   pub one_word : (p i : ℕ) (place : Place) (q j : ℕ) (other : Place) → HeldFacts s o p place → HeldFacts s o q other →

@@ -1,10 +1,14 @@
 pub mod Places
+pub mod Roles
 pub mod Words
 pub mod Owners
 pub mod BookKept
 pub mod Others
 pub mod OwnSteps
+pub mod CopyFrames
 pub mod Lift
+pub mod CopySteps
+pub mod CopySeatLemmas
 pub mod Steps
 pub mod HeldFacts
 pub mod PinSteps
@@ -27,6 +31,7 @@ pub mod Tables
 pub mod Seating
 pub mod NameRows
 pub mod NameSteps
+pub mod BookJobs
 pub mod BookKnown
 pub mod BookRounds
 pub mod BookWords

@@ -1,5 +1,5 @@
 -- A load is its event of the core.
-use Rattle.std.proofs.Common.{◌≡◌, ◌+◌, ◌/◌, ◌%◌, ◌<◌, ℕ, true, List, set, sym, refl, ap, ◌∙◌, subst, arith, Some}
+use Rattle.std.proofs.Common.{◌≡◌, ◌+◌, ◌/◌, ◌%◌, ◌<◌, ℕ, true, List, sym, refl, ap, ◌∙◌, subst, arith, Some}
 use Rattle.std.specs.Prelude.{slice_index, IsSome}
 use mathlib.Core.Option.{some, none}
 use lib.ListN.{get_elem?}
@@ -17,7 +17,7 @@ use Rattle.far_core.specs.state.State.{State, addr}
 use Rattle.far_core.specs.world.World.{Object}
 use Rattle.far_core.proofs.Calls.{word_behind}
 use Rattle.far_core.proofs.Owing.{does}
-use Rattle.far_table.specs.View.{BookView, OwnerView, View, Owner}
+use Rattle.far_table.specs.View.{BookView, OwnerView, View, Owner, OtherViews, with_owner}
 use Rattle.far_table.specs.Layout.{LOGS_AT, TABLE_WORDS, data_at, word_in}
 use Rattle.far_table.specs.Plays.{Loaded}
 use Rattle.far_table.specs.Rule.{Facts, Running}
@@ -29,7 +29,7 @@ use Rattle.far_table.proofs.HeldFacts.{HeldFacts, held_facts, held_so, one_word,
 use Rattle.far_table.proofs.Lift.{owner_reads}
 use Rattle.far_table.proofs.OwnSteps.{OwnStep, reads}
 
-module _ (ws : List ℕ) (b : BookView) (os : List OwnerView) (f : Facts ws b os) (o : OwnerView) (at : get_elem? os o.number ≡ some o)
+module _ (ws : List ℕ) (b : BookView) (os : OtherViews) (f : Facts ws b os) (o : OwnerView) (at : get_elem? os.owners o.number ≡ some o)
     (p i : ℕ) (place : Place) (own : p / CELLS ≡ o.number) (held : held_at o p ≡ Some place) (inside : i < words_for (len_of (object_at o p))) where
   abbrev s : State
   s = state_of ws b os
@@ -55,7 +55,7 @@ module _ (ws : List ℕ) (b : BookView) (os : List OwnerView) (f : Facts ws b os
   load_step = record {
     legal = legal;
     says = ap (λ a. Word (word_in ws a)) (sym behind);
-    becomes = reads f s b (set os o.number o) (ap (state_of ws b) (sym (set_again os o.number o at)));
+    becomes = reads f s b (with_owner os o.number o) (ap (λ (l : List OwnerView). state_of ws b (record os { owners = l })) (sym (set_again os.owners o.number o at)));
     mine = f.owners o.number o at;
   }
 

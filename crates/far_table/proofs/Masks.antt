@@ -6,12 +6,12 @@ use mathlib.Core.Path.{fun_ext}
 use Rattle.far_core.specs.state.Law.{Law}
 use Rattle.far_core.specs.state.State.{State}
 use Rattle.far_hand.specs.Known.{IsKnown, unknown}
-use Rattle.far_hand.specs.Masked.{masked, masked_word, AllFind, CountsOnRest}
+use Rattle.far_hand.specs.Masked.{masked, masked_word, AllFind, AllFindJobs, CountsOnRest}
 use Rattle.far_hand.specs.Quiet.{RestsAt}
 use Rattle.far_hand.proofs.Reading.{header_known}
 use Rattle.far_hand.proofs.Reading as reading
-use Rattle.far_table.specs.View.{BookView, OwnerView}
-use Rattle.far_table.specs.Layout.{cell_in, epoch_in, word_in}
+use Rattle.far_table.specs.View.{BookView, OtherViews}
+use Rattle.far_table.specs.Layout.{cell_in, epoch_in, job_in, word_in}
 use Rattle.far_table.specs.Rows.{over}
 use Rattle.far_table.specs.Rule.{BookTies, Facts}
 use Rattle.far_table.specs.Stands.{IsPlain}
@@ -28,7 +28,7 @@ word_here (Some x) k w a heads words plain = sym (heads refl)
 word_here None k w a heads words plain = cond_both (nat_lt k (2 ^ 64)) w (unknown a) (λ v. k ≡ v) (λ t. sym (words (ltb-true k (2 ^ 64) t))) (λ t. plain (ltb-false k (2 ^ 64) t))
 
 -- from the rule to what a beset hand has
-module _ (ws : List ℕ) (b : BookView) (os : List OwnerView) (f : Facts ws b os) where
+module _ (ws : List ℕ) (b : BookView) (os : OtherViews) (f : Facts ws b os) where
   abbrev s : State
   s = state_of ws b os
 
@@ -44,15 +44,18 @@ module _ (ws : List ℕ) (b : BookView) (os : List OwnerView) (f : Facts ws b os
   pub words_are : IsPlain b → known_word b ≡ masked_word s.word s.starts (counts b)
   words_are plain = fun_ext (λ a. word_here (head_at b a) (over b.known unknown a) (s.word a) a (f.book.shown.headers a) (f.book.shown.words a) (plain a))
 
-  pub is_masked : IsPlain b → o ≡ masked s o.cell (counts b)
+  pub going : AllFindJobs o.copying.word s.copying.word
+  going = f.book.shown.jobs
+
+  pub is_masked : IsPlain b → o ≡ masked s o.cell (counts b) o.copying.word
   is_masked plain = λ i. record o { epoch = sym epoch_is i; word = words_are plain i }
 
   pub rests : CountsOnRest s o.cell (counts b)
   rests a known plain = f.book.rests a (ltb-true (known_word b a) (2 ^ 64) known) plain
 
 -- what a beset hand's view would be
-pub view_masked : (ws : List ℕ) (b : BookView) (os : List OwnerView) (counted : ℕ → Bool) → known_word b ≡ masked_word (word_in ws) (λ a. is_some (head_at b a)) counted → epoch_in ws ≡ b.epoch →
-    book_state b ≡ masked (state_of ws b os) (over b.cells (λ _. 0)) counted
+pub view_masked : (ws : List ℕ) (b : BookView) (os : OtherViews) (counted : ℕ → Bool) → known_word b ≡ masked_word (word_in ws) (λ a. is_some (head_at b a)) counted → epoch_in ws ≡ b.epoch →
+    book_state b ≡ masked (state_of ws b os) (over b.cells (λ _. 0)) counted (over b.jobs (λ _. 0))
 view_masked ws b os counted words epoch = λ i. record (book_state b) { epoch = sym epoch i; word = words i }
 
 either : (a b : Bool) → (a || b) ≡ true → a ≡ false → b ≡ true
@@ -65,9 +68,10 @@ counted_known true w a h = refl
 counted_known false w a h = absurd (omega arith)
 
 -- and back
-module _ (ws : List ℕ) (b : BookView) (os : List OwnerView) (law : Law (state_of ws b os)) (counted : ℕ → Bool)
+module _ (ws : List ℕ) (b : BookView) (os : OtherViews) (law : Law (state_of ws b os)) (counted : ℕ → Bool)
     (words : known_word b ≡ masked_word (word_in ws) (λ a. is_some (head_at b a)) counted) (all : AllFind (over b.cells (λ _. 0)) (cell_in ws))
-    (rest : CountsOnRest (book_state b) (over b.cells (λ _. 0)) counted) (epoch : epoch_in ws ≡ b.epoch) where
+    (rest : CountsOnRest (book_state b) (over b.cells (λ _. 0)) counted) (epoch : epoch_in ws ≡ b.epoch)
+    (jobs : AllFindJobs (over b.jobs (λ _. 0)) (job_in ws)) where
   abbrev t : State
   t = state_of ws b os
 
@@ -83,6 +87,7 @@ module _ (ws : List ℕ) (b : BookView) (os : List OwnerView) (law : Law (state_
       cells = all;
       words = λ a known. sym (word_is a ∙ reading.known_word (t.starts a || counted a) (t.word a) a (subst IsKnown (word_is a) known));
       headers = λ a st. sym (word_is a ∙ header_known t.word t.starts counted a st);
+      jobs = jobs;
       rest = λ i. record t { epoch = epoch i };
     };
     rests = at_rest;

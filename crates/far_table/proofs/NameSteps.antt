@@ -1,6 +1,6 @@
 -- The book exchanges a cell: it is its event of the core, won or lost.
-use Rattle.std.proofs.Common.{◌≡◌, ◌≢◌, ◌+◌, ◌<◌, ◌^◌, ℕ, Bool, true, false, cond, inl, List, Option, Some, None, set, sym, refl, ap, ◌∙◌, subst, arith, eqb-true}
-use Rattle.std.specs.Prelude.{is_some, IsSome, slice_index, ◌==◌, ◌||◌}
+use Rattle.std.proofs.Common.{◌≡◌, ◌≢◌, ◌+◌, ◌<◌, ◌^◌, ℕ, Bool, true, false, cond, inl, inr, [], ◌∷◌, List, Option, Some, None, set, sym, refl, ap, ◌∙◌, subst, arith, eqb-true}
+use Rattle.std.specs.Prelude.{is_some, IsSome, slice_index, ◌⊎◌, ◌==◌, ◌||◌}
 use Rattle.std.proofs.lemmas.Bool.{cond_both, eq-eqb, eqb-false, false≢true, ne_eqb}
 use mathlib.Core.Logic.{dite}
 use native.Mathlib.Decide.{ℕ_discrete}
@@ -20,25 +20,28 @@ use Rattle.far_core.specs.declared.event.Event.TheVariants.{Name}
 use Rattle.far_core.specs.declared.event.Reply.TheVariants.{Done, Word}
 use Rattle.far_core.specs.declared.naming.Naming.{Naming}
 use Rattle.far_core.specs.declared.naming.Naming.TheVariants.{Places, Retires, Evicts, Stays, Moves, Fetches}
+use Rattle.far_core.specs.events.Copied.{WasCopied, copied_job}
 use Rattle.far_core.specs.events.Legal.{Legal}
 use Rattle.far_core.specs.events.Naming.{IsNaming, is_dropped, naming_of, naming_row}
+use Rattle.far_core.specs.events.namings.Moves.{MayMove, after_move}
 use Rattle.far_core.specs.events.Quiet.{has_move}
 use Rattle.far_core.specs.events.Step.{after}
 use Rattle.far_core.specs.state.Law.{Law, held_place}
 use Rattle.far_core.specs.state.State.{State, addr, put}
+use Rattle.far_core.proofs.Copied.{copied_test, moves_quiet}
 use Rattle.far_core.proofs.Namings.{naming_only}
 use Rattle.far_core.proofs.Put.{put_both, put_other, put_same}
 use Rattle.far_core.proofs.Quieting.{quiet_unheld}
 use Rattle.far_hand.specs.Known.{Forgets, KnowsLeaving, unknown}
-use Rattle.far_hand.specs.Masked.{AllFind, masked_word}
+use Rattle.far_hand.specs.Masked.{AllFind, AllFindJobs, masked, masked_word}
 use Rattle.far_hand.proofs.Counting.{counts_none}
-use Rattle.far_hand.proofs.Naming.{legal_name, lost_state, won_state}
-use Rattle.far_table.specs.View.{BookView, OwnerView, View, Book}
+use Rattle.far_hand.proofs.Naming.{job_too, legal_name, lost_state, won_state}
+use Rattle.far_table.specs.View.{BookView, View, Book, OtherViews}
 use Rattle.far_table.specs.BookPlays.{Named}
 use Rattle.far_table.specs.BookTells.{BookTells, cooled_by, retired_by, taken_by}
 use Rattle.far_table.specs.BookViews.{saw_view}
-use Rattle.far_table.specs.Layout.{cell_at, cell_in, word_in}
-use Rattle.far_table.specs.NameViews.{exchange_reply, exchanged_view, form_view, formed_view, named_view, retires, span_view, view_by}
+use Rattle.far_table.specs.Layout.{cell_at, cell_in, job_in, word_in}
+use Rattle.far_table.specs.NameViews.{exchange_reply, exchanged_view, form_view, formed_view, move_view, named_view, retires, span_view, view_by}
 use Rattle.far_table.specs.Rows.{over}
 use Rattle.far_table.specs.Rule.{Facts, Running}
 use Rattle.far_table.specs.Stands.{IsPlain, book_of}
@@ -47,19 +50,33 @@ use Rattle.far_table.specs.Views.{drops, has_hot, hots, moves}
 use Rattle.far_table.proofs.BookFrames.{BookStep, cells_stay}
 use Rattle.far_table.proofs.BookKnown.{forgets, forgotten}
 use Rattle.far_table.proofs.BookLift.{book_makes}
-use Rattle.far_table.proofs.BookSees.{cell_after, cells_few, epoch_after, finds_after, found_at, see_step}
-use Rattle.far_table.proofs.Masks.{counts, finds, is_masked, ties}
+use Rattle.far_table.proofs.BookSees.{cell_after, cells_few, epoch_after, finds_after, found_at, see_step, going_after}
+use Rattle.far_table.proofs.Masks.{counts, finds, going, is_masked, ties}
 use Rattle.far_table.proofs.NameRows.{begins_put, stored_after}
 use Rattle.far_table.proofs.OwnSteps.{led_by, reads, state_is}
 use Rattle.far_table.proofs.Words.{cell_here}
 
 -- ---- what a form leaves of the view
+-- a move takes a span, or names what was copied
+move_sizes : (p len ds : ℕ) (to : Place) (j : Option ℕ) (b : BookView) →
+    ((move_view p len ds to j b).mutators ≡ b.mutators) × ((move_view p len ds to j b).honest ≡ b.honest) × ((move_view p len ds to j b).rest ≡ b.rest) × ((move_view p len ds to j b).epoch ≡ b.epoch)
+move_sizes p len ds to None b = (refl, refl, refl, refl)
+move_sizes p len ds to (Some j) b = (refl, refl, refl, refl)
+
+move_logs : (p len ds : ℕ) (to : Place) (j : Option ℕ) (b : BookView) → (move_view p len ds to j b).logs ≡ b.logs
+move_logs p len ds to None b = refl
+move_logs p len ds to (Some j) b = refl
+
+move_jobs : (p len ds : ℕ) (to : Place) (j : Option ℕ) (b : BookView) → over (move_view p len ds to j b).jobs (λ _. 0) ≡ over b.jobs (λ _. 0)
+move_jobs p len ds to None b = refl
+move_jobs p len ds to (Some j) b = refl
+
 form_sizes : (p : ℕ) (form : Naming) (b : BookView) → ((form_view p form b).mutators ≡ b.mutators) × ((form_view p form b).honest ≡ b.honest) × ((form_view p form b).rest ≡ b.rest) × ((form_view p form b).epoch ≡ b.epoch)
 form_sizes p (Places len ds place) b = (refl, refl, refl, refl)
 form_sizes p Retires b = (refl, refl, refl, refl)
 form_sizes p (Evicts len place) b = (refl, refl, refl, refl)
 form_sizes p Stays b = (refl, refl, refl, refl)
-form_sizes p (Moves len ds from to) b = (refl, refl, refl, refl)
+form_sizes p (Moves len ds from to) b = move_sizes p len ds to (copied_job (book_state b) p from to) b
 form_sizes p (Fetches len ds place) b = (refl, refl, refl, refl)
 
 form_logs : (p : ℕ) (form : Naming) (b : BookView) → (form_view p form b).logs ≡ b.logs
@@ -67,8 +84,16 @@ form_logs p (Places len ds place) b = refl
 form_logs p Retires b = refl
 form_logs p (Evicts len place) b = refl
 form_logs p Stays b = refl
-form_logs p (Moves len ds from to) b = refl
+form_logs p (Moves len ds from to) b = move_logs p len ds to (copied_job (book_state b) p from to) b
 form_logs p (Fetches len ds place) b = refl
+
+form_jobs : (p : ℕ) (form : Naming) (b : BookView) → over (form_view p form b).jobs (λ _. 0) ≡ over b.jobs (λ _. 0)
+form_jobs p (Places len ds place) b = refl
+form_jobs p Retires b = refl
+form_jobs p (Evicts len place) b = refl
+form_jobs p Stays b = refl
+form_jobs p (Moves len ds from to) b = move_jobs p len ds to (copied_job (book_state b) p from to) b
+form_jobs p (Fetches len ds place) b = refl
 
 -- what an exchange leaves as the seat's struct has it
 pub record KeepsShape (b b' : BookView) : Type 0 where
@@ -143,48 +168,83 @@ module _ (s : State) (law : Law s) (p : ℕ) where
   unheld Retires old new won n legal = none_held (dropped_place (read_of (s.cell p)) (ap (λ w. is_dropped (read_of w)) won ∙ n.0))
   unheld (Evicts len place) old new won n legal = quiet_unheld s law p legal
   unheld Stays old new won n legal = quiet_unheld s law p (inl (ap has_move (ap read_of won ∙ n.4) ∙ n.6))
-  unheld (Moves len ds from to) old new won n legal = quiet_unheld s law p legal.quiet
+  unheld (Moves len ds from to) old new won n legal = quiet_unheld s law p (moves_quiet s law p len ds from to legal)
   unheld (Fetches len ds place) old new won n legal = none_held (ap held_place (ap read_of won ∙ n.0.1))
 
 -- where a header stands, it is this word
-header_is : (h : Option ℕ) (w k : ℕ) → ((x : ℕ) → h ≡ Some x → w ≡ x) → is_some h ≡ true → w ≡ head_or h k
+pub header_is : (h : Option ℕ) (w k : ℕ) → ((x : ℕ) → h ≡ Some x → w ≡ x) → is_some h ≡ true → w ≡ head_or h k
 header_is None w k same there = absurd (cc)
 header_is (Some x) w k same there = same x refl
 
 -- the headers that the view knows are those that stand there
-known_heads : (ws : List ℕ) (b : BookView) (os : List OwnerView) → Facts ws b os → (a x : ℕ) → head_at b a ≡ Some x → word_in ws a ≡ x
+pub known_heads : (ws : List ℕ) (b : BookView) (os : OtherViews) → Facts ws b os → (a x : ℕ) → head_at b a ≡ Some x → word_in ws a ≡ x
 known_heads ws b os f a x e = f.book.shown.headers a (ap is_some e) ∙ ap (λ z. head_or z (over b.known unknown a)) e
 
+-- which job has copied an object that moves, is what the view says
+abbrev IsJobTold : BookView → ℕ → State → Naming → Type 0
+IsJobTold b p s (Moves len ds from to) = copied_job s p from to ≡ copied_job (book_state b) p from to
+IsJobTold b p s form = Unit {0}
+
 -- ---- headers, where a span of p may begin: each of them is the word that stands there
-module _ (b : BookView) (p new : ℕ) (word : ℕ → ℕ) (old_heads : (a x : ℕ) → head_at b a ≡ Some x → word a ≡ x) where
-  span_heads : (len ds : ℕ) (place : Place) → word (addr place) ≡ head_word p len ds → (a x : ℕ) → head_at (span_view p len ds place b) a ≡ Some x → word a ≡ x
+module _ (b : BookView) (p : ℕ) (word : ℕ → ℕ) (old_heads : (a x : ℕ) → head_at b a ≡ Some x → word a ≡ x) where
+  pub span_heads : (len ds : ℕ) (place : Place) → word (addr place) ≡ head_word p len ds → (a x : ℕ) → head_at (span_view p len ds place b) a ≡ Some x → word a ≡ x
   span_heads len ds place head a x = put_both (λ v. v ≡ Some x → word a ≡ x) (head_at b) (addr place) (Some (head_word p len ds)) a
       (λ at e. let is : head_word p len ds ≡ x = cc in ap word at ∙ (head ∙ is)) (λ _ e. old_heads a x e)
 
-  pub form_heads : (s : State) → s.word ≡ word → (form : Naming) → (naming_row s p new form).Legal → (a x : ℕ) → head_at (form_view p form b) a ≡ Some x → word a ≡ x
-  form_heads s same (Places len ds place) legal = span_heads len ds place (ap (λ f. f (addr place)) (sym same) ∙ legal.0.head)
-  form_heads s same Retires legal = old_heads
-  form_heads s same (Evicts len place) legal = old_heads
-  form_heads s same Stays legal = old_heads
-  form_heads s same (Moves len ds from to) legal = span_heads len ds to (ap (λ f. f (addr to)) (sym same) ∙ legal.span.head)
-  form_heads s same (Fetches len ds place) legal = span_heads len ds place (ap (λ f. f (addr place)) (sym same) ∙ legal.span.head)
+  -- in a state in which the job that has copied the object is the one that has by the view
+  module _ (new : ℕ) (s : State) (same : s.word ≡ word) where
+    move_heads : (len ds : ℕ) (from to : Place) → MayMove s p len ds from to ⊎ WasCopied s p from to → (j : Option ℕ) → copied_job s p from to ≡ j →
+        (a x : ℕ) → head_at (move_view p len ds to j b) a ≡ Some x → word a ≡ x
+    move_heads len ds from to legal (Some j) e = old_heads
+    move_heads len ds from to (inl legal) None e = span_heads len ds to (ap (λ f. f (addr to)) (sym same) ∙ legal.span.head)
+    move_heads len ds from to (inr has) None e = absurd (false≢true (sym (ap is_some e) ∙ copied_test s p from to has))
+
+    pub form_heads : (form : Naming) → IsJobTold b p s form → (naming_row s p new form).Legal → (a x : ℕ) → head_at (form_view p form b) a ≡ Some x → word a ≡ x
+    form_heads (Places len ds place) told legal = span_heads len ds place (ap (λ f. f (addr place)) (sym same) ∙ legal.0.head)
+    form_heads Retires told legal = old_heads
+    form_heads (Evicts len place) told legal = old_heads
+    form_heads Stays told legal = old_heads
+    form_heads (Moves len ds from to) told legal = move_heads len ds from to legal (copied_job (book_state b) p from to) told
+    form_heads (Fetches len ds place) told legal = span_heads len ds place (ap (λ f. f (addr place)) (sym same) ∙ legal.span.head)
 
 -- ---- the view after a naming is what the core's event makes of the view, but for words
 module _ (b : BookView) (p old new : ℕ) where
   abbrev v : Naming → BookView
   v form = formed_view p old new form b
 
+  -- by the job that has copied the object, if one has
+  abbrev moved_by : ℕ → ℕ → Place → Option ℕ → BookView
+  moved_by len ds to j = record (move_view p len ds to j b) {
+    cells = (p, new) ∷ b.cells;
+    taken = (p, taken_at b p + moves old) ∷ b.taken;
+    retired = (p, retired_at b p + 0) ∷ b.retired;
+    cooled = (p, cooled_at b p + hots old) ∷ b.cooled;
+    known = [];
+  }
+
+  move_done : (len ds : ℕ) (to : Place) (j : Option ℕ) → book_state (moved_by len ds to j) ≡ record (after_move (book_state b) p new len to j) { word = known_word (moved_by len ds to j) }
+  move_done len ds to None = λ i. record (book_state (moved_by len ds to None)) { starts = begins_put (head_at b) (addr to) (head_word p len ds) i }
+  move_done len ds to (Some j) = refl
+
   form_done : (form : Naming) → book_state (v form) ≡ record (naming_row (book_state b) p new form).after { word = known_word (v form) }
   form_done (Places len ds place) = λ i. record (book_state (v (Places len ds place))) { starts = begins_put (head_at b) (addr place) (head_word p len ds) i }
   form_done Retires = refl
   form_done (Evicts len place) = λ i. record (book_state (v (Evicts len place))) { stored = sym (stored_after b p len place (known_word b) (λ _ _. refl)) i }
   form_done Stays = refl
-  form_done (Moves len ds from to) = λ i. record (book_state (v (Moves len ds from to))) { starts = begins_put (head_at b) (addr to) (head_word p len ds) i }
+  form_done (Moves len ds from to) = move_done len ds to (copied_job (book_state b) p from to)
   form_done (Fetches len ds place) = λ i. record (book_state (v (Fetches len ds place))) { starts = begins_put (head_at b) (addr place) (head_word p len ds) i }
 
   module _ (h : Legal (book_state b) (Name p old new)) (seen : old ≡ (book_state b).cell p) where
     abbrev o : State
     o = book_state b
+
+    told_itself : (form : Naming) → IsJobTold b p o form
+    told_itself (Places len ds place) = tt
+    told_itself Retires = tt
+    told_itself (Evicts len place) = tt
+    told_itself Stays = tt
+    told_itself (Moves len ds from to) = refl
+    told_itself (Fetches len ds place) = tt
 
     named_is : named_view p old new b ≡ v h.1.0
     named_is = ap (λ x. view_by p old new x b) (naming_only h.1.0 (read_of old) (read_of new) h.1.1)
@@ -194,14 +254,14 @@ module _ (b : BookView) (p old new : ℕ) where
         (form_done h.1.0 ∙ ap (λ (u : State). record u { word = known_word (v h.1.0) }) (sym (won_state o p old new h.1.0 (sym seen) h.1.1)))
 
     head_same : (a x : ℕ) → head_at (v h.1.0) a ≡ Some x → known_word b a ≡ x
-    head_same = form_heads b p new (known_word b) (λ a x e. ap (λ z. head_or z (over b.known unknown a)) e) o refl h.1.0 h.1.2
+    head_same = form_heads b p (known_word b) (λ a x e. ap (λ z. head_or z (over b.known unknown a)) e) new o refl h.1.0 (told_itself h.1.0) h.1.2
 
     pub named_forgets : Forgets o (book_state (named_view p old new b))
     named_forgets = subst (λ z. Forgets o (book_state z)) (sym named_is)
         (forgets b (v h.1.0) refl (λ a st. sym (header_is (head_at (v h.1.0) a) (known_word b a) (unknown a) (head_same a) st)))
 
 -- ---- the step
-module _ (ws : List ℕ) (b : BookView) (os : List OwnerView) (f : Facts ws b os) (plain : IsPlain b) (p old new : ℕ) (fits : new < 2 ^ 64)
+module _ (ws : List ℕ) (b : BookView) (os : OtherViews) (f : Facts ws b os) (plain : IsPlain b) (p old new : ℕ) (fits : new < 2 ^ 64)
     (h : Legal (book_state b) (Name p old new)) (known : KnowsLeaving (book_state b) old new) where
   abbrev s : State
   s = state_of ws b os
@@ -209,11 +269,21 @@ module _ (ws : List ℕ) (b : BookView) (os : List OwnerView) (f : Facts ws b os
   abbrev view : State
   view = book_state b
 
+  -- it is legal by the view of a beset hand
+  by_view : Legal (masked s view.cell (counts b) view.copying.word) (Name p old new)
+  by_view = subst (λ (z : State). Legal z (Name p old new)) (is_masked ws b os f plain) h
+
   legal : Legal s (Name p old new)
-  legal = legal_name s f.law view.cell (counts b) (finds ws b os f) p old new h.0 fits (subst (λ (z : State). Legal z (Name p old new)) (is_masked ws b os f plain) h)
+  legal = legal_name s f.law view.cell (counts b) view.copying.word (finds ws b os f) (going ws b os f) p old new h.0 fits by_view
 
   abbrev form : Naming
-  form = legal.1.0
+  form = by_view.1.0
+
+  form_legal : (naming_row s p new form).Legal
+  form_legal =
+      let both : Some legal.1.0 ≡ Some form = sym (naming_only legal.1.0 (read_of old) (read_of new) legal.1.1) ∙ naming_only form (read_of old) (read_of new) by_view.1.1 in
+      let same : legal.1.0 ≡ form = cc in
+      subst (λ x. (naming_row s p new x).Legal) same legal.1.2
 
   few : p < POINTERS
   few = cells_few ws b os f p h.0
@@ -233,16 +303,30 @@ module _ (ws : List ℕ) (b : BookView) (os : List OwnerView) (f : Facts ws b os
   abbrev made : Naming → State
   made x = record (state_of ws (formed_view p old new x b) os) { cell = put (cell_in ws) p new }
 
-  row_becomes : (x : Naming) → IsNaming x (read_of old) (read_of new) → (naming_row s p new x).after ≡ made x
-  row_becomes (Places len ds place) n = λ i. record (made (Places len ds place)) { starts = sym (begins_put (head_at b) (addr place) (head_word p len ds)) i }
-  row_becomes Retires n = refl
-  row_becomes (Evicts len place) n = λ i. record (made (Evicts len place)) { stored = stored_after b p len place s.word (leaving len place n) i }
-  row_becomes Stays n = refl
-  row_becomes (Moves len ds from to) n = λ i. record (made (Moves len ds from to)) { starts = sym (begins_put (head_at b) (addr to) (head_word p len ds)) i }
-  row_becomes (Fetches len ds place) n = λ i. record (made (Fetches len ds place)) { starts = sym (begins_put (head_at b) (addr place) (head_word p len ds)) i }
+  -- what the view says was copied, was copied
+  told : (x : Naming) → IsNaming x (read_of old) (read_of new) → (naming_row (masked s view.cell (counts b) view.copying.word) p new x).Legal → IsJobTold b p s x
+  told (Places len ds place) n l = tt
+  told Retires n l = tt
+  told (Evicts len place) n l = tt
+  told Stays n l = tt
+  told (Moves len ds from to) n l = sym (job_too s f.law view.cell (counts b) view.copying.word (finds ws b os f) (going ws b os f) p old new h.0 fits len ds from to n.1 l)
+      ∙ ap (λ (z : State). copied_job z p from to) (sym (is_masked ws b os f plain))
+  told (Fetches len ds place) n l = tt
+
+  move_becomes : (len ds : ℕ) (to : Place) (j : Option ℕ) → after_move s p new len to j ≡ record (state_of ws (moved_by b p old new len ds to j) os) { cell = put (cell_in ws) p new }
+  move_becomes len ds to None = λ i. record (state_of ws (moved_by b p old new len ds to None) os) { cell = put (cell_in ws) p new; starts = sym (begins_put (head_at b) (addr to) (head_word p len ds)) i }
+  move_becomes len ds to (Some j) = refl
+
+  row_becomes : (x : Naming) → IsJobTold b p s x → IsNaming x (read_of old) (read_of new) → (naming_row s p new x).after ≡ made x
+  row_becomes (Places len ds place) t n = λ i. record (made (Places len ds place)) { starts = sym (begins_put (head_at b) (addr place) (head_word p len ds)) i }
+  row_becomes Retires t n = refl
+  row_becomes (Evicts len place) t n = λ i. record (made (Evicts len place)) { stored = stored_after b p len place s.word (leaving len place n) i }
+  row_becomes Stays t n = refl
+  row_becomes (Moves len ds from to) t n = ap (after_move s p new len to) t ∙ move_becomes len ds to (copied_job view p from to)
+  row_becomes (Fetches len ds place) t n = λ i. record (made (Fetches len ds place)) { starts = sym (begins_put (head_at b) (addr place) (head_word p len ds)) i }
 
   words_named : known_word b' ≡ masked_word (word_in later) (λ a. is_some (head_at b' a)) (λ _. false)
-  words_named = forgotten b' (word_in later) (λ a st. header_is (head_at b' a) (word_in later a) (unknown a) (λ x e. ap (λ g. g a) (cell_after ws b os f p new few).word_is ∙ form_heads b p new s.word old_heads s refl form legal.1.2 a x e) st)
+  words_named = forgotten b' (word_in later) (λ a st. header_is (head_at b' a) (word_in later a) (unknown a) (λ x e. ap (λ g. g a) (cell_after ws b os f p new few).word_is ∙ form_heads b p s.word old_heads new s refl form (told form by_view.1.1 by_view.1.2) form_legal a x e) st)
 
   -- what was counted before, and once more where the old word has the mark, which the new one hasn't
   counted : (count before : ℕ → ℕ) → count new ≡ 0 → cell_in ws p ≡ old → (q : ℕ) → before q + count (cell_in ws q) ≡ put before p (before p + count old) q + count (cell_in later q)
@@ -257,21 +341,21 @@ module _ (ws : List ℕ) (b : BookView) (os : List OwnerView) (f : Facts ws b os
       let more : put before p (before p + count old) q ≡ before q = put_other before p (before p + count old) q ne in omega arith)
 
   drops_old : retired_at b' ≡ put (retired_at b) p (retired_at b p + drops old)
-  drops_old = ap (λ n. put (retired_at b) p (retired_at b p + n)) (sym (old_drops form old new legal.1.1))
+  drops_old = ap (λ n. put (retired_at b) p (retired_at b p + n)) (sym (old_drops form old new by_view.1.1))
 
   counts_named : cell_in ws p ≡ old → (q : ℕ) → (taken_at b q + moves (cell_in ws q) ≡ taken_at b' q + moves (cell_in later q)) × (retired_at b q + drops (cell_in ws q) ≡ retired_at b' q + drops (cell_in later q))
       × (cooled_at b q + hots (cell_in ws q) ≡ cooled_at b' q + hots (cell_in later q))
   counts_named won q = (
-    counted moves (taken_at b) (new_moves form old new legal.1.1) won q,
-    counted drops (retired_at b) (new_drops form old new legal.1.1) won q ∙ ap (λ g. g q + drops (cell_in later q)) (sym drops_old),
-    counted hots (cooled_at b) (new_hots form old new legal.1.1) won q,
+    counted moves (taken_at b) (new_moves form old new by_view.1.1) won q,
+    counted drops (retired_at b) (new_drops form old new by_view.1.1) won q ∙ ap (λ g. g q + drops (cell_in later q)) (sym drops_old),
+    counted hots (cooled_at b) (new_hots form old new by_view.1.1) won q,
   )
 
   -- what is held has HOT as it had
-  warm_named : cell_in ws p ≡ old → (q : ℕ) → IsSome (held_by os q) → hots (cell_in later q) ≡ hots (cell_in ws q)
+  warm_named : cell_in ws p ≡ old → (q : ℕ) → IsSome (held_by os.owners q) → hots (cell_in later q) ≡ hots (cell_in ws q)
   warm_named won q held =
-      let free : held_by os p ≡ None = unheld s f.law p form old new won legal.1.1 legal.1.2 in
-      let ne : q ≢ p = λ e. false≢true (sym (ap is_some (ap (held_by os) e ∙ free)) ∙ held) in
+      let free : held_by os.owners p ≡ None = unheld s f.law p form old new won by_view.1.1 form_legal in
+      let ne : q ≢ p = λ e. false≢true (sym (ap is_some (ap (held_by os.owners) e ∙ free)) ∙ held) in
       ap hots (ap (λ g. g q) (cell_after ws b os f p new few).cell_is ∙ put_other (cell_in ws) p new q ne)
 
   -- so says the step
@@ -283,6 +367,10 @@ module _ (ws : List ℕ) (b : BookView) (os : List OwnerView) (f : Facts ws b os
         (λ e. put_same before p (before p + count old) q e ∙ (ap (λ z. before z + count old) (sym e) ∙ sym (ap (λ t. cond t (before q + count old) (before q)) (eq-eqb p q (sym e)))))
         (λ ne. put_other before p (before p + count old) q ne ∙ sym (ap (λ t. cond t (before q + count old) (before q)) (ne_eqb p q (λ e. ne (sym e)))))
 
+  -- no naming changes a job's word
+  going_named : (x : Naming) → AllFindJobs (over (formed_view p old new x b).jobs (λ _. 0)) (job_in later)
+  going_named x = subst (λ (z : ℕ → ℕ). AllFindJobs z (job_in later)) (sym (form_jobs p x b)) (going_after ws b os f p new few)
+
   finds_named_too : (x : Naming) → AllFind (over (formed_view p old new x b).cells (λ _. 0)) (cell_in later)
   finds_named_too x = finds_after ws b os f p new few
 
@@ -290,8 +378,8 @@ module _ (ws : List ℕ) (b : BookView) (os : List OwnerView) (f : Facts ws b os
   won_step won = let sizes = form_sizes p form b in record {
     legal = legal;
     says = sym (ap (λ t. cond t Done (Word (cell_in ws p))) (eq-eqb (cell_in ws p) old won));
-    becomes = led_by (won_state s p old new form won legal.1.1 ∙ row_becomes form legal.1.1) (state_is later b' os (cell_after ws b os f p new few) refl refl refl);
-    book = λ law. ties later b' os law (λ _. false) words_named (finds_named_too form) (counts_none (book_state b') (book_state b').cell) (epoch_after ws b os f p new few ∙ sym sizes.3);
+    becomes = led_by (won_state s p old new form won by_view.1.1 ∙ row_becomes form (told form by_view.1.1 by_view.1.2) by_view.1.1) (state_is later b' os (cell_after ws b os f p new few) refl refl refl);
+    book = λ law. ties later b' os law (λ _. false) words_named (finds_named_too form) (counts_none (book_state b') (book_state b').cell) (epoch_after ws b os f p new few ∙ sym sizes.3) (going_named form);
     leaves = record {
       mutators = sizes.0;
       honest = sizes.1;
@@ -314,7 +402,7 @@ module _ (ws : List ℕ) (b : BookView) (os : List OwnerView) (f : Facts ws b os
 
   by_test : (t : Bool) → (cell_in ws p == old) ≡ t →
       BookStep ws b os (Name p old new) (cond t Done (Word (cell_in ws p))) (set ws (cell_at p) (either t new (cell_in ws p))) (cond t (named_view p old new b) (saw_view p (cell_in ws p) b))
-  by_test true e = subst (λ z. BookStep ws b os (Name p old new) Done later z) (sym (ap (λ x. view_by p old new x b) (naming_only form (read_of old) (read_of new) legal.1.1))) (won_step (eqb-true (cell_in ws p) old e))
+  by_test true e = subst (λ z. BookStep ws b os (Name p old new) Done later z) (sym (ap (λ x. view_by p old new x b) (naming_only form (read_of old) (read_of new) by_view.1.1))) (won_step (eqb-true (cell_in ws p) old e))
   by_test false e = subst (λ l. BookStep ws b os (Name p old new) (Word (cell_in ws p)) l (saw_view p (cell_in ws p) b)) (sym (ap (set ws (cell_at p)) (cell_here ws p few) ∙ set-get_or ws (cell_at p) 0)) (lost_step (eqb-false (cell_in ws p) old e))
 
   pub exchange_step : BookStep ws b os (Name p old new) (exchange_reply old (cell_in ws p)) (set ws (cell_at p) (either (cell_in ws p == old) new (cell_in ws p))) (exchanged_view p old new (cell_in ws p) b)

@@ -1,6 +1,6 @@
 -- A step of an owner's seat that is an event of the core keeps the rule: once for all kinds of step.
 use Rattle.std.specs.Prelude.{IsSome}
-use Rattle.std.proofs.Common.{◌≡◌, ◌≢◌, ◌+◌, ◌/◌, ◌<◌, ℕ, Bool, true, List, length, set, refl, sym, ap, ◌∙◌, subst, ⊎_elim, Option}
+use Rattle.std.proofs.Common.{◌≡◌, ◌≢◌, ◌+◌, ◌/◌, ◌<◌, ℕ, Bool, true, List, length, set, sym, ap, ◌∙◌, subst, ⊎_elim, Option}
 use mathlib.Core.Option.{some}
 use lib.ListN.{get_elem?, length-set}
 use Rattle.atomic_table.proofs.Lists.{at_set}
@@ -16,31 +16,30 @@ use Rattle.far_core.specs.state.State.{State}
 use Rattle.far_core.specs.world.WorldOf.{world_of}
 use Rattle.far_core.proofs.Owing.{keeps}
 use Rattle.far_core.proofs.Steps.{agrees}
-use Rattle.far_hand.specs.Makers.{ByOwner, is_owner, maker}
-use Rattle.far_hand.proofs.OwnersWork.{change}
-use Rattle.far_table.specs.View.{BookView, ObjectView, OwnerView}
-use Rattle.far_table.specs.Layout.{TABLE_WORDS, job_in}
+use Rattle.far_hand.specs.Makers.{ByOwner, is_other, maker}
+use Rattle.far_hand.proofs.OthersWork.{change}
+use Rattle.far_table.specs.View.{BookView, ObjectView, OtherViews, OwnerView, with_owner}
+use Rattle.far_table.specs.Layout.{TABLE_WORDS}
 use Rattle.far_table.specs.Rule.{BookTies, Facts, Has, OwnerTies}
-use Rattle.far_table.specs.StateOf.{book_state, cooled_at, held_by, remembered_by, retired_at, state_of, taken_at, used_by}
+use Rattle.far_table.specs.StateOf.{cooled_at, copying_of, held_by, remembered_by, retired_at, state_of, taken_at, used_by}
 use Rattle.far_table.specs.Tells.{OwnerMade, OwnerMayBe}
 use Rattle.far_table.specs.Views.{asked_at, dropped_at, drops, heated_at, held_at, hots, moves, object_at, pinned_at}
 use Rattle.far_table.proofs.BookKept.{book_on}
-use Rattle.far_table.proofs.Others.{KeepsBy, KeepsOthers, keeps_others}
+use Rattle.far_table.proofs.Others.{KeepsBy, KeepsOwner, keeps_others}
 use Rattle.far_table.proofs.Places.{below}
 use Rattle.far_table.proofs.Words.{WordsAre}
 
 -- ---- the state that words and views are, by its parts
--- words and views are this state, and the words of the copiers' jobs these
-pub record Leads (s : State) (job : ℕ → ℕ) (ws : List ℕ) (b : BookView) (os : List OwnerView) : Type 0 where
+-- words and views are this state
+pub record Leads (s : State) (ws : List ℕ) (b : BookView) (os : OtherViews) : Type 0 where
   pub is : s ≡ state_of ws b os
-  pub jobs : job_in ws ≡ job
   pub wide : length ws ≡ TABLE_WORDS
 
-pub state_is : (ws : List ℕ) (b : BookView) (os : List OwnerView) {epoch : ℕ} {scope cell word job : ℕ → ℕ} {remembered : ℕ → Option ℕ} {used : ℕ → Bool} {held : ℕ → Option Place} →
-    WordsAre ws epoch scope cell word job → remembered_by os ≡ remembered → used_by os ≡ used → held_by os ≡ held →
-    Leads (record (book_state b) { epoch = epoch; scope = scope; cell = cell; word = word; remembered = remembered; used = used; held = held }) job ws b os
+pub state_is : (ws : List ℕ) (b : BookView) (os : OtherViews) {epoch : ℕ} {scope cell word job : ℕ → ℕ} {remembered : ℕ → Option ℕ} {used : ℕ → Bool} {held : ℕ → Option Place} →
+    WordsAre ws epoch scope cell word job → remembered_by os.owners ≡ remembered → used_by os.owners ≡ used → held_by os.owners ≡ held →
+    Leads (record (state_of ws b os) { epoch = epoch; scope = scope; cell = cell; word = word; remembered = remembered; used = used; held = held; copying = record (copying_of ws b os.copiers) { word = job } }) ws b os
 state_is ws b os words r u h = record {
-  is = λ i. record (book_state b) {
+  is = λ i. record (state_of ws b os) {
     epoch = sym words.epoch_is i;
     scope = sym words.scope_is i;
     cell = sym words.cell_is i;
@@ -48,34 +47,33 @@ state_is ws b os words r u h = record {
     remembered = sym r i;
     used = sym u i;
     held = sym h i;
+    copying = record (copying_of ws b os.copiers) { word = sym words.job_is i };
   };
-  jobs = words.job_is;
   wide = words.wide;
 }
 
 -- the same of a state that is this one
-pub led_by : {s t : State} {job : ℕ → ℕ} {ws : List ℕ} {b : BookView} {os : List OwnerView} → s ≡ t → Leads t job ws b os → Leads s job ws b os
-led_by same leads = record { is = same ∙ leads.is; jobs = leads.jobs; wide = leads.wide }
+pub led_by : {s t : State} {ws : List ℕ} {b : BookView} {os : OtherViews} → s ≡ t → Leads t ws b os → Leads s ws b os
+led_by same leads = record { is = same ∙ leads.is; wide = leads.wide }
 
 -- no word changes
-pub reads : {ws : List ℕ} {b : BookView} {os : List OwnerView} → Facts ws b os → (s : State) (b' : BookView) (later : List OwnerView) → s ≡ state_of ws b' later →
-    Leads s (job_in ws) ws b' later
-reads f s b' later is = record { is = is; jobs = refl; wide = f.wide }
+pub reads : {ws : List ℕ} {b : BookView} {os : OtherViews} → Facts ws b os → (s : State) (b' : BookView) (later : OtherViews) → s ≡ state_of ws b' later → Leads s ws b' later
+reads f s b' later is = record { is = is; wide = f.wide }
 
 -- ---- ties of an owner that go on
 pub has_on : (s t : State) (p : ℕ) (x : ObjectView) → (world_of t).object p ≡ (world_of s).object p → t.honest ≡ s.honest → Has s p x → Has t p x
 has_on s t p x same honest h = record { object = h.object; there = same ∙ h.there; len = h.len; ds = h.ds; words = λ is. h.words (sym honest ∙ is) }
 
-owner_on : (b : BookView) (s t : State) (m j : ℕ) (y : OwnerView) → KeepsOthers s t m → j ≢ m → OwnerTies b s j y → OwnerTies b t j y
-owner_on b s t m j y keep ne ties = record {
+pub owner_on : (b : BookView) (s t : State) (j : ℕ) (y : OwnerView) → KeepsOwner s t j → OwnerTies b s j y → OwnerTies b t j y
+owner_on b s t j y keep ties = record {
   number = ties.number;
   honest = ties.honest ∙ sym keep.honest;
-  scope = keep.scope j ne ∙ ties.scope;
-  objects = λ p x own h. has_on s t p x (keep.object p (λ e. ne (sym own ∙ e))) keep.honest (ties.objects p x own h);
-  asks = λ p own. ties.asks p own ∙ ap (λ w. taken_at b p + moves w) (sym (keep.cell p (λ e. ne (sym own ∙ e))));
-  drops = λ p own. ties.drops p own ∙ ap (λ w. retired_at b p + drops w) (sym (keep.cell p (λ e. ne (sym own ∙ e))));
-  hots = λ p own. ties.hots p own ∙ ap (λ w. cooled_at b p + hots w) (sym (keep.cell p (λ e. ne (sym own ∙ e))));
-  warm = λ p own pinned. let x = ties.warm p own pinned in (x.0, ap hots (keep.cell p (λ e. ne (sym own ∙ e))) ∙ x.1);
+  scope = keep.scope ∙ ties.scope;
+  objects = λ p x own h. has_on s t p x (keep.object p own) keep.honest (ties.objects p x own h);
+  asks = λ p own. ties.asks p own ∙ ap (λ w. taken_at b p + moves w) (sym (keep.cell p own));
+  drops = λ p own. ties.drops p own ∙ ap (λ w. retired_at b p + drops w) (sym (keep.cell p own));
+  hots = λ p own. ties.hots p own ∙ ap (λ w. cooled_at b p + hots w) (sym (keep.cell p own));
+  warm = λ p own pinned. let x = ties.warm p own pinned in (x.0, ap hots (keep.cell p own) ∙ x.1);
 }
 
 -- the ties of the owner itself, where no object of it changes, and no count but of HOT
@@ -98,18 +96,18 @@ mine_on b s t m o w ties number honest same scope objects asked dropped world ma
 pub pinned_hot : (o : OwnerView) (x : State) (p : ℕ) → OwnerMayBe o x → p / CELLS ≡ o.number → pinned_at o p ≡ true → hots (x.cell p) ≡ 1
 pinned_hot o x p may own pinned = ap (λ (s : State). hots (s.cell p)) may.is ∙ ((may.facts.owners o.number o may.stands).warm p own pinned).1
 
-module _ (ws : List ℕ) (b : BookView) (os : List OwnerView) (f : Facts ws b os) where
-  pub is_mutator : (m : ℕ) (o : OwnerView) → get_elem? os m ≡ some o → m < b.mutators
-  is_mutator m o at = subst (λ n. m < n) f.many (below os m o at)
+module _ (ws : List ℕ) (b : BookView) (os : OtherViews) (f : Facts ws b os) where
+  pub is_mutator : (m : ℕ) (o : OwnerView) → get_elem? os.owners m ≡ some o → m < b.mutators
+  is_mutator m o at = subst (λ n. m < n) f.many (below os.owners m o at)
 
 -- what a kind of step owes: its event is legal, with this answer; the words and views after are the core's state; and the owner's own ties
-pub record OwnStep (ws : List ℕ) (b : BookView) (os : List OwnerView) (o : OwnerView) (e : Event) (r : Reply) (later : List ℕ) (w : OwnerView) : Type 0 where
+pub record OwnStep (ws : List ℕ) (b : BookView) (os : OtherViews) (o : OwnerView) (e : Event) (r : Reply) (later : List ℕ) (w : OwnerView) : Type 0 where
   pub legal : Legal (state_of ws b os) e
   pub says : r ≡ answer (state_of ws b os) e
-  pub becomes : Leads (after (state_of ws b os) e) (job_in ws) later b (set os o.number w)
+  pub becomes : Leads (after (state_of ws b os) e) later b (with_owner os o.number w)
   pub mine : OwnerTies b (after (state_of ws b os) e) o.number w
 
-module _ (ws : List ℕ) (b : BookView) (os : List OwnerView) (f : Facts ws b os) (o : OwnerView) (at : get_elem? os o.number ≡ some o)
+module _ (ws : List ℕ) (b : BookView) (os : OtherViews) (f : Facts ws b os) (o : OwnerView) (at : get_elem? os.owners o.number ≡ some o)
     (e : Event) (by : maker e ≡ ByOwner o.number) (fits : Fits e) (r : Reply) (later : List ℕ) (w : OwnerView) (k : OwnStep ws b os o e r later w) where
   abbrev s : State
   s = state_of ws b os
@@ -117,34 +115,35 @@ module _ (ws : List ℕ) (b : BookView) (os : List OwnerView) (f : Facts ws b os
   abbrev t : State
   t = after s e
 
-  others : KeepsOthers s t o.number
+  others : (j : ℕ) → j ≢ o.number → KeepsOwner s t j
   others = subst (λ k. KeepsBy k s t) by (keeps_others s e f.law fits k.legal)
 
-  each : (j : ℕ) (y : OwnerView) → get_elem? (set os o.number w) j ≡ some y → OwnerTies b t j y
+  each : (j : ℕ) (y : OwnerView) → get_elem? (set os.owners o.number w) j ≡ some y → OwnerTies b t j y
   each j y h = ⊎_elim
       (λ (x : (j ≡ o.number) × (w ≡ y)). subst (λ (z : ℕ × OwnerView). OwnerTies b t z.0 z.1) (λ i. (sym x.0 i, x.1 i)) k.mine)
-      (λ (x : (j ≢ o.number) × (get_elem? os j ≡ some y)). owner_on b s t o.number j y others x.0 (f.owners j y x.1))
-      (at_set os o.number j w y h)
+      (λ (x : (j ≢ o.number) × (get_elem? os.owners j ≡ some y)). owner_on b s t j y (others j x.0) (f.owners j y x.1))
+      (at_set os.owners o.number j w y h)
 
-  law : Law (state_of later b (set os o.number w))
+  law : Law (state_of later b (with_owner os o.number w))
   law = subst Law k.becomes.is (keeps s e f.law fits k.legal)
 
-  pub own_facts : Facts later b (set os o.number w)
+  pub own_facts : Facts later b (with_owner os o.number w)
   own_facts = record {
     law = law;
     agrees = agrees _ law;
-    book = subst (BookTies b) k.becomes.is (book_on b s t f.law f.book (change s e f.law (ap is_owner by) k.legal));
+    book = subst (BookTies b) k.becomes.is (book_on b s t f.law f.book (change s e f.law (ap is_other by) k.legal));
     owners = λ j y h. subst (λ (z : State). OwnerTies b z j y) k.becomes.is (each j y h);
-    many = length-set os o.number w ∙ f.many;
+    copiers = f.copiers;
+    many = length-set os.owners o.number w ∙ f.many;
+    eight = f.eight;
     wide = k.becomes.wide;
-    jobs = k.becomes.jobs ∙ f.jobs;
   }
 
   pub own_made : OwnerMade e o r w
   own_made = record {
     words = ws;
     book = b;
-    owners = os;
+    others = os;
     facts = f;
     stands = at;
     legal = k.legal;

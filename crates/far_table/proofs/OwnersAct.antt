@@ -1,5 +1,5 @@
 -- Owners may do what the core allows: a legal event of an owner leads to words and views for which the rule holds, beside the same view of the book.
-use Rattle.std.proofs.Common.{◌≡◌, ◌≢◌, ◌/◌, ◌<◌, ◌-◌, ◌*◌, ◌^◌, ℕ, zero, suc, Bool, true, false, List, [], ◌∷◌, length, Option, Some, None, is_some, set, refl, sym, ap, ◌∙◌, subst, arith, inl, inr}
+use Rattle.std.proofs.Common.{◌≡◌, ◌≢◌, ◌/◌, ◌<◌, ◌-◌, ◌*◌, ◌^◌, ℕ, Bool, true, false, List, length, Option, Some, None, is_some, refl, sym, ap, ◌∙◌, subst, arith, inl, inr}
 use Rattle.std.specs.Prelude.{IsSome}
 use Rattle.std.proofs.lemmas.Bool.{cases_lt, false≢true}
 use Rattle.std.proofs.lemmas.List.{get_or_past}
@@ -22,7 +22,7 @@ use Rattle.far_hand.specs.Makers.{ByOwner, is_owners, maker}
 use Rattle.far_table.specs.BookSeats.{MayBe}
 use Rattle.far_table.specs.Rule.{Facts}
 use Rattle.far_table.specs.StateOf.{state_of}
-use Rattle.far_table.specs.View.{BookView, ObjectView, OwnerView}
+use Rattle.far_table.specs.View.{BookView, ObjectView, OwnerView, OtherViews, with_owner}
 use Rattle.far_table.specs.Views.{held_at, len_of, nobody, object_at, owner_at, uses}
 use Rattle.far_table.proofs.AdoptSteps.{adopt_step}
 use Rattle.far_table.proofs.AskSteps.{ask_step}
@@ -30,6 +30,7 @@ use Rattle.far_table.proofs.HeldFacts.{held_facts, held_so}
 use Rattle.far_table.proofs.Owners.{known_by, own_is}
 use Rattle.far_table.proofs.OwnSteps.{OwnStep, own_facts}
 use Rattle.far_table.proofs.PinSteps.{pin_step}
+use Rattle.far_table.proofs.Places.{one_there}
 use Rattle.far_table.proofs.Steps.{close_step, few, open_step, read_epoch_step}
 use Rattle.far_table.proofs.StoreSteps.{store_step}
 
@@ -45,29 +46,24 @@ unused_by : (x : Option ObjectView) → is_some x ≡ false → x ≡ None
 unused_by None e = refl
 unused_by (Some x) e = absurd (false≢true (sym e))
 
-pub one_there : (os : List OwnerView) (m : ℕ) → m < length os → (o : OwnerView) × (get_elem? os m ≡ some o)
-one_there [] m lt = absurd (omega (arith, lt))
-one_there (o ∷ os) zero lt = (o, refl)
-one_there (o ∷ os) (suc m) lt = one_there os m (omega (arith, lt))
-
-module _ (ws : List ℕ) (b : BookView) (os : List OwnerView) (f : Facts ws b os) where
+module _ (ws : List ℕ) (b : BookView) (os : OtherViews) (f : Facts ws b os) where
   abbrev s : State
   s = state_of ws b os
 
-  acts : (o : OwnerView) (at : get_elem? os o.number ≡ some o) (e : Event) → maker e ≡ ByOwner o.number → Fits e → (r : Reply) (later : List ℕ) (w : OwnerView) →
+  acts : (o : OwnerView) (at : get_elem? os.owners o.number ≡ some o) (e : Event) → maker e ≡ ByOwner o.number → Fits e → (r : Reply) (later : List ℕ) (w : OwnerView) →
       OwnStep ws b os o e r later w → MayBe b (after s e)
-  acts o at e by fits r later w k = record { words = later; owners = set os o.number w; facts = own_facts ws b os f o at e by fits r later w k; is = k.becomes.is }
+  acts o at e by fits r later w k = record { words = later; others = with_owner os o.number w; facts = own_facts ws b os f o at e by fits r later w k; is = k.becomes.is }
 
   -- an event of the owner of a number is one of its view's
-  by_owner : (e : ℕ → Event) → ((o : OwnerView) → get_elem? os o.number ≡ some o → Legal s (e o.number) → MayBe b (after s (e o.number))) → (m : ℕ) → m < b.mutators →
+  by_owner : (e : ℕ → Event) → ((o : OwnerView) → get_elem? os.owners o.number ≡ some o → Legal s (e o.number) → MayBe b (after s (e o.number))) → (m : ℕ) → m < b.mutators →
       Legal s (e m) → MayBe b (after s (e m))
   by_owner e act m small legal =
       let many = f.many in
-      let x = one_there os m (omega (arith, small, many)) in
+      let x = one_there os.owners m (omega (arith, small, many)) in
       let number : (x.0).number ≡ m = (f.owners m x.0 x.1).number in
-      subst (λ k. Legal s (e k) → MayBe b (after s (e k))) number (act x.0 (ap (get_elem? os) number ∙ x.1)) legal
+      subst (λ k. Legal s (e k) → MayBe b (after s (e k))) number (act x.0 (ap (get_elem? os.owners) number ∙ x.1)) legal
 
-  module _ (o : OwnerView) (at : get_elem? os o.number ≡ some o) where
+  module _ (o : OwnerView) (at : get_elem? os.owners o.number ≡ some o) where
     shut : IsClosed s o.number → o.open_at ≡ None
     shut h = shut_by o.open_at (sym (f.owners o.number o at).scope ∙ h.1)
 
@@ -78,7 +74,7 @@ module _ (ws : List ℕ) (b : BookView) (os : List OwnerView) (f : Facts ws b os
     small p own = let low = few ws b os f o at in omega arith
 
     used : (p : ℕ) (t : Bool) → p / CELLS ≡ o.number → s.used p ≡ t → uses o p ≡ t
-    used p t own h = sym (known_by os o.number o o at uses p own) ∙ h
+    used p t own h = sym (known_by os.owners o.number o o at uses p own) ∙ h
 
     held : (p : ℕ) (x : Option Place) → p / CELLS ≡ o.number → s.held p ≡ x → held_at o p ≡ x
     held p x own h = sym (held_so ws b os f o at p own) ∙ h
@@ -88,7 +84,7 @@ module _ (ws : List ℕ) (b : BookView) (os : List OwnerView) (f : Facts ws b os
 
     opens : Legal s (Open o.number) → MayBe b (after s (Open o.number))
     opens h = acts o at (Open o.number) refl tt _ _ _
-        (open_step ws b os f o at (scope_word_of o.epoch) (shut h.0) (subst (λ (y : OwnerView). IsSome y.epoch) (own_is os o.number o o at) h.1) refl)
+        (open_step ws b os f o at (scope_word_of o.epoch) (shut h.0) (subst (λ (y : OwnerView). IsSome y.epoch) (own_is os.owners o.number o o at) h.1) refl)
 
     closes : Legal s (Close o.number) → MayBe b (after s (Close o.number))
     closes h = acts o at (Close o.number) refl tt _ _ _ (close_step ws b os f o at (opened h))
@@ -118,9 +114,9 @@ module _ (ws : List ℕ) (b : BookView) (os : List OwnerView) (f : Facts ws b os
 
   -- who holds a place is one of the owners
   holder : (p m : ℕ) (place : Place) → p / CELLS ≡ m → s.held p ≡ Some place → m < b.mutators
-  holder p m place own h = elim (cases_lt m (length os)) [
+  holder p m place own h = elim (cases_lt m (length os.owners)) [
     | inl lt ↦ (let many = f.many in omega (arith, lt, many))
-    | inr le ↦ (let nobody_is : owner_at os (p / CELLS) ≡ nobody = get_or_past os (p / CELLS) nobody (omega (arith, le, own)) in
+    | inr le ↦ (let nobody_is : owner_at os.owners (p / CELLS) ≡ nobody = get_or_past os.owners (p / CELLS) nobody (omega (arith, le, own)) in
         let odd : None ≡ Some place = sym (ap (λ (y : OwnerView). held_at y p) nobody_is) ∙ h in cc)
   ]
 
@@ -129,7 +125,7 @@ module _ (ws : List ℕ) (b : BookView) (os : List OwnerView) (f : Facts ws b os
   may_act (Open m) own fits h = by_owner Open opens m h.0.0 h
   may_act (Close m) own fits h = by_owner Close closes m h.0 h
   may_act (Pin m p) own fits h = by_owner (λ k. Pin k p) (λ o at. pins o at p) m h.0.0 h
-  may_act (Load m p i) own fits h = record { words = ws; owners = os; facts = f; is = refl }
+  may_act (Load m p i) own fits h = record { words = ws; others = os; facts = f; is = refl }
   may_act (Store m p i v) own fits h = by_owner (λ k. Store k p i v) (λ o at. stores o at p i v fits) m (holder p m h.1.0 h.1.1.own h.1.1.rests) h
   may_act (Adopt m p) own fits h = by_owner (λ k. Adopt k p) (λ o at. adopts o at p) m h.0 h
   may_act (Ask m p k) own fits h = by_owner (λ j. Ask j p k) (λ o at. asks o at p k) m h.1 h

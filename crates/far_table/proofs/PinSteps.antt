@@ -28,7 +28,7 @@ use Rattle.far_core.proofs.Cells.{map_mark}
 use Rattle.far_core.proofs.KeepOwner.{hot_read}
 use Rattle.far_core.proofs.Owing.{does}
 use Rattle.far_core.proofs.Put.{put_both, put_other, put_same}
-use Rattle.far_table.specs.View.{BookView, OwnerView, View, Owner}
+use Rattle.far_table.specs.View.{BookView, OwnerView, View, Owner, OtherViews, with_owner}
 use Rattle.far_table.specs.Layout.{cell_at, cell_in}
 use Rattle.far_table.specs.Plays.{Pinned, Lies}
 use Rattle.far_table.specs.Rule.{Facts, Running}
@@ -79,7 +79,7 @@ placed_same : {X : Type 0} (g : OwnerView → X) (p : ℕ) (o : OwnerView) → (
 placed_same g p o h None = refl
 placed_same g p o h (Some place) = h place
 
-module _ (ws : List ℕ) (b : BookView) (os : List OwnerView) (f : Facts ws b os) (o : OwnerView) (at : get_elem? os o.number ≡ some o)
+module _ (ws : List ℕ) (b : BookView) (os : OtherViews) (f : Facts ws b os) (o : OwnerView) (at : get_elem? os.owners o.number ≡ some o)
     (p : ℕ) (small : p < POINTERS) (own : p / CELLS ≡ o.number) (used : uses o p ≡ true) (free : held_at o p ≡ None) (opened : IsSome o.open_at) where
   abbrev s : State
   s = state_of ws b os
@@ -91,18 +91,18 @@ module _ (ws : List ℕ) (b : BookView) (os : List OwnerView) (f : Facts ws b os
   m = o.number
 
   used_so : s.used p ≡ true
-  used_so = known_by os m o o at uses p own ∙ used
+  used_so = known_by os.owners m o o at uses p own ∙ used
 
   legal : Legal s (Pin m p)
-  legal = (open_so ws b os f o at opened, own, used_so, known_by os m o o at held_at p own ∙ free)
+  legal = (open_so ws b os f o at opened, own, used_so, known_by os.owners m o o at held_at p own ∙ free)
 
   -- HOT is counted
   abbrev warm : OwnerView
   warm = warmed_view p c o
 
-  held_after : (x : Option Place) → held_by (set os m (with_place p x warm)) ≡ with_hold (held_by os) p x
-  held_after None = pointers_same os m o warm at held_at refl
-  held_after (Some place) = pointers_put os m o (held_view p place warm) at held_at p (Some place) own refl
+  held_after : (x : Option Place) → held_by (set os.owners m (with_place p x warm)) ≡ with_hold (held_by os.owners) p x
+  held_after None = pointers_same os.owners m o warm at held_at refl
+  held_after (Some place) = pointers_put os.owners m o (held_view p place warm) at held_at p (Some place) own refl
 
   marks_after : (q : ℕ) → (moves (put s.cell p (bit_or c (2 ^ position Hot)) q) ≡ moves (s.cell q)) × (drops (put s.cell p (bit_or c (2 ^ position Hot)) q) ≡ drops (s.cell q))
   marks_after q = put_both (λ v. (moves v ≡ moves (s.cell q)) × (drops v ≡ drops (s.cell q))) s.cell p (bit_or c (2 ^ position Hot)) q
@@ -152,9 +152,9 @@ module _ (ws : List ℕ) (b : BookView) (os : List OwnerView) (f : Facts ws b os
       let opens : w.open_at ≡ o.open_at = placed_same (λ y. y.open_at) p warm (λ _. refl) x in record {
         legal = legal;
         says = refl;
-        becomes = state_is (set ws (cell_at p) hot) b (set os m w) (cell_word_set ws f.wide p hot small)
-            (remembered_same os m o w at (placed_same (λ y. y.epoch) p warm (λ _. refl) x))
-            (pointers_same os m o w at uses (placed_same uses p warm (λ _. refl) x)) (held_after x);
+        becomes = state_is (set ws (cell_at p) hot) b (with_owner os m w) (cell_word_set ws f.wide p hot small)
+            (remembered_same os.owners m o w at (placed_same (λ y. y.epoch) p warm (λ _. refl) x))
+            (pointers_same os.owners m o w at uses (placed_same uses p warm (λ _. refl) x)) (held_after x);
         mine = mine_on b s (after s (Pin m p)) m o w (f.owners m o at) (placed_same (λ y. y.number) p warm (λ _. refl) x) (placed_same (λ y. y.honest) p warm (λ _. refl) x) refl
             ((f.owners m o at).scope ∙ ap scope_word_of (sym opens)) (placed_same object_at p warm (λ _. refl) x) (placed_same asked_at p warm (λ _. refl) x) (placed_same dropped_at p warm (λ _. refl) x)
             (pin_objects c x m p _ _ (does s (Pin m p) f.law tt legal)) marks_after (λ q mine. ap (λ g. g q) (placed_same heated_at p warm (λ _. refl) x) ∙ heats_after q mine)

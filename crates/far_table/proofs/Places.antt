@@ -19,3 +19,8 @@ module _ {A : Type 0} where
   get_is [] i a d e = absurd (some-ne-none a (sym e))
   get_is (x ∷ xs) zero a d e = some-injective x a e
   get_is (x ∷ xs) (suc i) a d e = get_is xs i a d e
+
+  pub one_there : (l : List A) (i : ℕ) → i < length l → (a : A) × (get_elem? l i ≡ some a)
+  one_there [] i lt = absurd (omega (arith, lt))
+  one_there (x ∷ xs) zero lt = (x, refl)
+  one_there (x ∷ xs) (suc i) lt = one_there xs i (omega (arith, lt))

@@ -6,21 +6,21 @@ use Rattle.std.specs.List.{range_with_len}
 use Rattle.std.proofs.lemmas.List.FromFn.{get_or-map-range_with_len, length-map-range_with_len}
 use Rattle.atomic_table.specs.Seated.{TableId}
 use Rattle.far_word.specs.declared.pointer.Place.{Place}
-use Rattle.far_word.specs.declared.sizes.TheConstants.{CELLS, LOG_WORDS, MOST_LOGS}
+use Rattle.far_word.specs.declared.sizes.TheConstants.{CELLS, LOG_WORDS, MOST_COPIERS, MOST_LOGS}
 use Rattle.far_core.specs.state.Law.{Law}
 use Rattle.far_core.specs.state.State.{State, addr}
 use Rattle.far_table.specs.View.{BookView, OwnerView, View, Book, Owner}
 use Rattle.far_core.specs.laws.Ends.{HasNothingPast}
-use Rattle.far_table.specs.First.{first_book, first_owner, first_owners, waiting}
+use Rattle.far_table.specs.First.{first_book, first_copier, first_copiers, first_others, first_owner, first_owners, waiting}
 use Rattle.far_table.specs.Layout.{TABLE_WORDS}
 use Rattle.far_table.specs.Rule.{Facts}
 use Rattle.far_table.specs.Seats.{HasPlaces, Remembers, data_begin}
 use Rattle.far_table.specs.Stands.{BookOk, IsPlain, SaysOwner, Stands, Starts, book_of}
 use Rattle.far_table.specs.StateOf.{state_of}
-use Rattle.far_table.specs.Tells.{HasState, owner_of}
-use Rattle.far_table.proofs.FirstViews.{first_fits, first_has, first_held, first_held_none, first_object_none, first_places, first_remembers, first_scope, first_uses, many_owners, owner_stands}
-use Rattle.far_table.proofs.Begins.{first_book_state, first_facts, first_state, other_rest}
-use Rattle.far_table.proofs.OwnersAct.{one_there}
+use Rattle.far_table.specs.Tells.{CopierStands, HasState, owner_of}
+use Rattle.far_table.proofs.FirstViews.{copier_stands, eight_copiers, first_fits, first_has, first_held, first_held_none, first_object_none, first_places, first_remembers, first_scope, first_uses, many_owners, owner_stands}
+use Rattle.far_table.proofs.Begins.{copier_says, first_book_state, first_facts, first_state, other_rest}
+use Rattle.far_table.proofs.Places.{one_there}
 use Rattle.far_table.proofs.SeatLemmas.{SeatOk}
 use Rattle.far_table.proofs.Tables.{is_table, table}
 
@@ -92,8 +92,8 @@ owner_says s law honest m = record {
 
 -- ---- the rule at the start, once each owner has its seat
 module _ (s : State) (honest : Bool) (law : Law s) (past : HasNothingPast s) (same : (p : ℕ) → s.cell p ≢ 0 → honest ≡ s.honest) where
-  facts_start : Facts (table s) (waiting s honest s.mutators 0) (first_owners s honest)
-  facts_start = other_rest (table s) (first_book s honest) (first_owners s honest) [] (first_facts s honest law past same (table s) (is_table s))
+  facts_start : Facts (table s) (waiting s honest s.mutators 0) (first_others s honest)
+  facts_start = other_rest (table s) (first_book s honest) (first_others s honest) [] (first_facts s honest law past same (table s) (is_table s))
 
   pub rule_starts : Starts s honest (waiting s honest s.mutators 0)
   rule_starts = record {
@@ -102,10 +102,11 @@ module _ (s : State) (honest : Bool) (law : Law s) (past : HasNothingPast s) (sa
     state = first_state s honest law past (table s) (is_table s);
     book = first_book_state s honest law past;
     owners = λ m. owner_says s law honest m;
+    copiers = λ c _. copier_says s honest law past c;
   }
 
   pub rule_stands : (b : BookView) → b ≡ waiting s honest s.mutators 0 → ∥ Stands b ∥₁
-  rule_stands b is = subst (λ z. ∥ Stands z ∥₁) (sym is) ∣ record { words = table s; owners = first_owners s honest; facts = facts_start } ∣₁
+  rule_stands b is = subst (λ z. ∥ Stands z ∥₁) (sym is) ∣ record { words = table s; others = first_others s honest; facts = facts_start } ∣₁
 
   -- beside each owner's first view there is a state
   pub first_there : (m : ℕ) → m < s.mutators → HasState (first_owner s honest m)
@@ -114,11 +115,29 @@ module _ (s : State) (honest : Bool) (law : Law s) (past : HasNothingPast s) (sa
       let one = one_there (first_owners s honest) m (omega arith) in
       let same : one.0 ≡ first_owner s honest m = sym (owner_stands s honest m one.0 one.1).1 in
       ∣ (
-        state_of (table s) (waiting s honest s.mutators 0) (first_owners s honest),
+        state_of (table s) (waiting s honest s.mutators 0) (first_others s honest),
         record {
           words = table s;
           book = waiting s honest s.mutators 0;
-          owners = first_owners s honest;
+          others = first_others s honest;
+          facts = facts_start;
+          stands = one.1 ∙ ap some same;
+          is = refl;
+        },
+      ) ∣₁
+
+  -- and beside each copier's
+  pub first_copier_there : (c : ℕ) → c < MOST_COPIERS → CopierStands (first_copier s c)
+  first_copier_there c low =
+      let eight = eight_copiers s in
+      let one = one_there (first_copiers s) c (omega arith) in
+      let same : one.0 ≡ first_copier s c = sym (copier_stands s c one.0 one.1).1 in
+      ∣ (
+        state_of (table s) (waiting s honest s.mutators 0) (first_others s honest),
+        record {
+          words = table s;
+          book = waiting s honest s.mutators 0;
+          others = first_others s honest;
           facts = facts_start;
           stands = one.1 ∙ ap some same;
           is = refl;

@@ -15,7 +15,7 @@ use Rattle.far_core.specs.state.State.{put}
 use Rattle.far_core.specs.world.World.{World}
 use Rattle.far_core.proofs.Owing.{does}
 use Rattle.far_core.proofs.Put.{put_same}
-use Rattle.far_table.specs.View.{BookView, OwnerView, View, Owner}
+use Rattle.far_table.specs.View.{BookView, OwnerView, View, Owner, OtherViews, with_owner}
 use Rattle.far_table.specs.Layout.{EPOCH_AT, scope_at, epoch_in, scope_in, cell_in, job_in, word_in}
 use Rattle.far_table.specs.Plays.{EpochRead, Opened, Closed}
 use Rattle.far_table.specs.Rule.{Facts, Running}
@@ -31,7 +31,7 @@ open_word : (x : Option ℕ) → IsSome x → scope_word_of x ≢ 0
 open_word None there e = cc
 open_word (Some epoch) there e = omega arith
 
-module _ (ws : List ℕ) (b : BookView) (os : List OwnerView) (f : Facts ws b os) (o : OwnerView) (at : get_elem? os o.number ≡ some o) where
+module _ (ws : List ℕ) (b : BookView) (os : OtherViews) (f : Facts ws b os) (o : OwnerView) (at : get_elem? os.owners o.number ≡ some o) where
   abbrev m : ℕ
   m = o.number
 
@@ -48,7 +48,7 @@ module _ (ws : List ℕ) (b : BookView) (os : List OwnerView) (f : Facts ws b os
   read_epoch_step shut = let w : OwnerView = read_view (epoch_in ws) o in let legal = closed_so shut in record {
     legal = legal;
     says = refl;
-    becomes = state_is ws b (set os m w) (no_word ws f.wide) (remembered_set os m o w at) (pointers_same os m o w at uses refl) (pointers_same os m o w at held_at refl);
+    becomes = state_is ws b (with_owner os m w) (no_word ws f.wide) (remembered_set os.owners m o w at) (pointers_same os.owners m o w at uses refl) (pointers_same os.owners m o w at held_at refl);
     mine = mine_on b (state_of ws b os) (after (state_of ws b os) (ReadEpoch m)) m o w (f.owners m o at) refl refl refl (f.owners m o at).scope refl refl refl
         (ap (λ (z : World). z.object) (does (state_of ws b os) (ReadEpoch m) f.law tt legal)) (λ _. (refl, refl)) (f.owners m o at).hots (f.owners m o at).warm;
   }
@@ -56,15 +56,15 @@ module _ (ws : List ℕ) (b : BookView) (os : List OwnerView) (f : Facts ws b os
   pub open_step : (x : ℕ) → o.open_at ≡ None → IsSome o.epoch → x ≡ scope_word_of o.epoch → OwnStep ws b os o (Open m) Done (set ws (scope_at m) x) (opened_view o)
   open_step x shut read new =
       let w : OwnerView = opened_view o in
-      let known : remembered_by os m ≡ o.epoch = ap (λ (y : OwnerView). y.epoch) (own_is os m o w at) in
-      let word : x ≡ scope_word_of (remembered_by os m) = new ∙ ap scope_word_of (sym known) in
+      let known : remembered_by os.owners m ≡ o.epoch = ap (λ (y : OwnerView). y.epoch) (own_is os.owners m o w at) in
+      let word : x ≡ scope_word_of (remembered_by os.owners m) = new ∙ ap scope_word_of (sym known) in
       let legal : Legal (state_of ws b os) (Open m) = (closed_so shut, subst IsSome (sym known) read) in record {
         legal = legal;
         says = refl;
-        becomes = state_is (set ws (scope_at m) x) b (set os m w) (subst (λ v. WordsAre (set ws (scope_at m) x) (epoch_in ws) (put (scope_in ws) m v) (cell_in ws) (word_in ws) (job_in ws)) word (scope_word_set ws f.wide m x few))
-            (remembered_same os m o w at refl) (pointers_same os m o w at uses refl) (pointers_same os m o w at held_at refl);
+        becomes = state_is (set ws (scope_at m) x) b (with_owner os m w) (subst (λ v. WordsAre (set ws (scope_at m) x) (epoch_in ws) (put (scope_in ws) m v) (cell_in ws) (word_in ws) (job_in ws)) word (scope_word_set ws f.wide m x few))
+            (remembered_same os.owners m o w at refl) (pointers_same os.owners m o w at uses refl) (pointers_same os.owners m o w at held_at refl);
         mine = mine_on b (state_of ws b os) (after (state_of ws b os) (Open m)) m o w (f.owners m o at) refl refl refl
-            (put_same (scope_in ws) m (scope_word_of (remembered_by os m)) m refl ∙ ap scope_word_of known) refl refl refl
+            (put_same (scope_in ws) m (scope_word_of (remembered_by os.owners m)) m refl ∙ ap scope_word_of known) refl refl refl
             (ap (λ (z : World). z.object) (does (state_of ws b os) (Open m) f.law tt legal).after) (λ _. (refl, refl)) (f.owners m o at).hots (f.owners m o at).warm;
       }
 
@@ -72,9 +72,9 @@ module _ (ws : List ℕ) (b : BookView) (os : List OwnerView) (f : Facts ws b os
   close_step opened = let w : OwnerView = closed_view o in let legal = open_so opened in record {
     legal = legal;
     says = refl;
-    becomes = state_is (set ws (scope_at m) 0) b (set os m w) (scope_word_set ws f.wide m 0 few) (remembered_set os m o w at) (pointers_same os m o w at uses refl)
-        (pointers_set os m o w at held_at (λ p. cond (p / CELLS == m) None (held_by os p))
-        (λ p e. sym (ap (λ t. cond t None (held_by os p)) (eq-eqb (p / CELLS) m e))) (λ p ne. sym (ap (λ t. cond t None (held_by os p)) (ne_eqb (p / CELLS) m ne))));
+    becomes = state_is (set ws (scope_at m) 0) b (with_owner os m w) (scope_word_set ws f.wide m 0 few) (remembered_set os.owners m o w at) (pointers_same os.owners m o w at uses refl)
+        (pointers_set os.owners m o w at held_at (λ p. cond (p / CELLS == m) None (held_by os.owners p))
+        (λ p e. sym (ap (λ t. cond t None (held_by os.owners p)) (eq-eqb (p / CELLS) m e))) (λ p ne. sym (ap (λ t. cond t None (held_by os.owners p)) (ne_eqb (p / CELLS) m ne))));
     mine = mine_on b (state_of ws b os) (after (state_of ws b os) (Close m)) m o w (f.owners m o at) refl refl refl (put_same (scope_in ws) m 0 m refl) refl refl refl
         (ap (λ (z : World). z.object) (does (state_of ws b os) (Close m) f.law tt legal).after) (λ _. (refl, refl)) (f.owners m o at).hots
         (λ p own pinned. absurd (false≢true pinned));

@@ -23,7 +23,7 @@ use Rattle.far_core.proofs.Calls.{word_behind}
 use Rattle.far_core.proofs.ObjectFacts.{object_agrees}
 use Rattle.far_core.proofs.Owing.{does, keeps}
 use Rattle.far_core.proofs.Put.{put_both, put_other, put_same}
-use Rattle.far_table.specs.View.{BookView, ObjectView, OwnerView, View, Owner}
+use Rattle.far_table.specs.View.{BookView, ObjectView, OwnerView, View, Owner, OtherViews, with_owner}
 use Rattle.far_table.specs.Layout.{LOGS_AT, TABLE_WORDS, data_at, epoch_in, scope_in, cell_in, job_in, word_in}
 use Rattle.far_table.specs.Plays.{Stored}
 use Rattle.far_table.specs.Rule.{Facts, Has, Running}
@@ -41,7 +41,7 @@ with_word_used : (i v : ℕ) (x : Option ObjectView) → is_some (with_word i v 
 with_word_used i v None = refl
 with_word_used i v (Some x) = refl
 
-module _ (ws : List ℕ) (b : BookView) (os : List OwnerView) (f : Facts ws b os) (o : OwnerView) (at : get_elem? os o.number ≡ some o)
+module _ (ws : List ℕ) (b : BookView) (os : OtherViews) (f : Facts ws b os) (o : OwnerView) (at : get_elem? os.owners o.number ≡ some o)
     (p i v : ℕ) (place : Place) (own : p / CELLS ≡ o.number) (held : held_at o p ≡ Some place) (inside : i < words_for (len_of (object_at o p)))
     (word : v < 2 ^ 64) (padded : v < 2 ^ (8 * (len_of (object_at o p) - 8 * i))) where
   abbrev s : State
@@ -117,11 +117,11 @@ module _ (ws : List ℕ) (b : BookView) (os : List OwnerView) (f : Facts ws b os
       let words = data_word_set ws f.wide a v (omega arith) in record {
         legal = legal;
         says = refl;
-        becomes = state_is (set ws (data_at a) v) b (set os m w) (subst (λ k. WordsAre (set ws (data_at a) v) (epoch_in ws) (scope_in ws) (cell_in ws) (put (word_in ws) k v) (job_in ws)) (sym behind) words)
-            (remembered_same os m o w at refl)
-            (pointers_same os m o w at uses (fun_ext (λ q. put_both (λ (y : Option ObjectView). is_some y ≡ uses o q) (object_at o) p (with_word i v (object_at o p)) q
+        becomes = state_is (set ws (data_at a) v) b (with_owner os m w) (subst (λ k. WordsAre (set ws (data_at a) v) (epoch_in ws) (scope_in ws) (cell_in ws) (put (word_in ws) k v) (job_in ws)) (sym behind) words)
+            (remembered_same os.owners m o w at refl)
+            (pointers_same os.owners m o w at uses (fun_ext (λ q. put_both (λ (y : Option ObjectView). is_some y ≡ uses o q) (object_at o) p (with_word i v (object_at o p)) q
             (λ e. with_word_used i v (object_at o p) ∙ ap (uses o) (sym e)) (λ _. refl))))
-            (pointers_same os m o w at held_at refl);
+            (pointers_same os.owners m o w at held_at refl);
         mine = record {
           number = ties.number;
           honest = ties.honest;

@@ -28,13 +28,13 @@ module _ (s : State) where
   word_here i small = get_or-map-range_with_len (table_word s) 0 TABLE_WORDS i i 0 small (omega arith)
 
   -- past the words of the split and the epoch
-  from_scopes : (i : ℕ) → scope_at 0 ≤ i → table_word s i ≡ cond (nat_lt i (cell_at 0)) (line_word s.scope (i - scope_at 0)) (cond (nat_lt i (job_at 0)) (s.cell (i - cell_at 0)) (cond (nat_lt i (data_at 0)) 0 (s.word (i - data_at 0))))
+  from_scopes : (i : ℕ) → scope_at 0 ≤ i → table_word s i ≡ cond (nat_lt i (cell_at 0)) (line_word s.scope (i - scope_at 0)) (cond (nat_lt i (job_at 0)) (s.cell (i - cell_at 0)) (cond (nat_lt i (data_at 0)) (s.copying.word (i - job_at 0)) (s.word (i - data_at 0))))
   from_scopes i most = past i (scope_at 0) _ _ most
 
-  from_cells : (i : ℕ) → cell_at 0 ≤ i → table_word s i ≡ cond (nat_lt i (job_at 0)) (s.cell (i - cell_at 0)) (cond (nat_lt i (data_at 0)) 0 (s.word (i - data_at 0)))
+  from_cells : (i : ℕ) → cell_at 0 ≤ i → table_word s i ≡ cond (nat_lt i (job_at 0)) (s.cell (i - cell_at 0)) (cond (nat_lt i (data_at 0)) (s.copying.word (i - job_at 0)) (s.word (i - data_at 0)))
   from_cells i most = from_scopes i (omega arith) ∙ past i (cell_at 0) _ _ most
 
-  from_jobs : (i : ℕ) → job_at 0 ≤ i → table_word s i ≡ cond (nat_lt i (data_at 0)) 0 (s.word (i - data_at 0))
+  from_jobs : (i : ℕ) → job_at 0 ≤ i → table_word s i ≡ cond (nat_lt i (data_at 0)) (s.copying.word (i - job_at 0)) (s.word (i - data_at 0))
   from_jobs i most = from_cells i (omega arith) ∙ past i (job_at 0) _ _ most
 
   scope_here : (m : ℕ) → line_word s.scope (scope_at m - scope_at 0) ≡ s.scope m
@@ -48,5 +48,5 @@ module _ (s : State) where
     scopes = λ m small. word_here (scope_at m) (omega arith) ∙ (from_scopes (scope_at m) (omega arith) ∙ (below (scope_at m) (cell_at 0) _ _ (omega arith) ∙ scope_here m));
     cells = λ p small. word_here (cell_at p) (omega arith) ∙ (from_cells (cell_at p) (omega arith) ∙ (below (cell_at p) (job_at 0) _ _ (omega arith) ∙ ap s.cell (omega arith)));
     words = λ a small. word_here (data_at a) (omega arith) ∙ (from_jobs (data_at a) (omega arith) ∙ (past (data_at a) (data_at 0) _ _ (omega arith) ∙ ap s.word (omega arith)));
-    jobs = λ j small. word_here (job_at j) (omega arith) ∙ (from_jobs (job_at j) (omega arith) ∙ below (job_at j) (data_at 0) _ _ (omega arith));
+    jobs = λ j small. word_here (job_at j) (omega arith) ∙ (from_jobs (job_at j) (omega arith) ∙ (below (job_at j) (data_at 0) _ _ (omega arith) ∙ ap s.copying.word (omega arith)));
   }

@@ -1,5 +1,5 @@
 -- A log in which a place is held isn't given out.
-use Rattle.std.proofs.Common.{◌≡◌, ◌/◌, ℕ, zero, suc, List, Some, set, refl, sym, ap, ◌∙◌, subst, arith}
+use Rattle.std.proofs.Common.{◌≡◌, ◌/◌, ℕ, zero, suc, Some, refl, sym, ap, ◌∙◌, subst, arith}
 use mathlib.Core.Option.{some}
 use lib.ListN.{get_elem?}
 use Rattle.atomic_table.proofs.Lists.{set_here}
@@ -18,7 +18,7 @@ use Rattle.far_word.specs.declared.sizes.TheConstants.{CELLS}
 use Rattle.far_table.specs.RowTells.{StoredEach}
 use Rattle.far_table.specs.StateOf.{state_of}
 use Rattle.far_table.specs.Tells.{HasState, OwnerMade, OwnerMayBe}
-use Rattle.far_table.specs.View.{OwnerView}
+use Rattle.far_table.specs.View.{OtherViews, OwnerView, with_owner}
 use Rattle.far_table.specs.Viewed.{NoneIsGivenOut, StaysGiven}
 use Rattle.far_table.specs.Views.{held_at}
 use Rattle.far_table.proofs.Owners.{known_by}
@@ -45,16 +45,16 @@ none_is_given_out s law p place held = stays_given s law p place held
 -- ---- beside an owner's seat
 pub held_stays : (o : OwnerView) (x : State) (p : ℕ) (place : Place) → OwnerMayBe o x → p / CELLS ≡ o.number → held_at o p ≡ Some place → (x.held p ≡ Some place) × StaysGiven x p place
 held_stays o x p place may own at =
-    let here : x.held p ≡ Some place = ap (λ (s : State). s.held p) may.is ∙ (known_by may.owners o.number o o may.stands held_at p own ∙ at) in
+    let here : x.held p ≡ Some place = ap (λ (s : State). s.held p) may.is ∙ (known_by may.others.owners o.number o o may.stands held_at p own ∙ at) in
     (here, none_is_given_out x (subst Law (sym may.is) may.facts.law) p place here)
 
 -- a call of it left such a state
 pub left_there : (e : Event) (o : OwnerView) (r : Reply) (w : OwnerView) → OwnerMade e o r w → HasState w
 left_there e o r w made =
-    let owners : List OwnerView = set made.owners o.number w in
-    let here : get_elem? owners o.number ≡ some w = set_here made.owners o.number w (below made.owners o.number o made.stands) in
+    let others : OtherViews = with_owner made.others o.number w in
+    let here : get_elem? others.owners o.number ≡ some w = set_here made.others.owners o.number w (below made.others.owners o.number o made.stands) in
     let number : w.number ≡ o.number = (made.keeps.owners o.number w here).number in
-    ∣ (state_of made.later made.book owners, record { words = made.later; book = made.book; owners = owners; facts = made.keeps; stands = ap (get_elem? owners) number ∙ here; is = refl }) ∣₁
+    ∣ (state_of made.later made.book others, record { words = made.later; book = made.book; others = others; facts = made.keeps; stands = ap (get_elem? others.owners) number ∙ here; is = refl }) ∣₁
 
 -- and so did a call that stored a row
 pub row_there : (p first : ℕ) (row : ℕ → ℕ) (n : ℕ) (o w : OwnerView) → StoredEach p first row n o w → HasState o → HasState w

@@ -4,10 +4,10 @@ use Rattle.std.specs.Prelude.{slice_index}
 use Rattle.std.proofs.lemmas.Bool.{lt-ltb, ltb-true}
 use mathlib.Core.Path.{fun_ext}
 use lib.ListN.{length-set}
-use Rattle.far_word.specs.declared.sizes.TheConstants.{MOST_MUTATORS, POINTERS}
+use Rattle.far_word.specs.declared.sizes.TheConstants.{JOBS, MOST_MUTATORS, POINTERS}
 use Rattle.far_core.specs.state.State.{put}
 use Rattle.far_core.proofs.Put.{put_both}
-use Rattle.far_table.specs.Layout.{EPOCH_AT, JOBS, LayoutIs, TABLE_WORDS, scope_at, cell_at, data_at, job_at, epoch_in, scope_in, cell_in, job_in, word_in}
+use Rattle.far_table.specs.Layout.{EPOCH_AT, LayoutIs, TABLE_WORDS, scope_at, cell_at, data_at, job_at, epoch_in, scope_in, cell_in, job_in, word_in}
 
 where_so : (t : Bool) (a b d : ℕ) → (t ≡ true → a ≡ b) → cond t a d ≡ cond t b d
 where_so true a b d h = h refl
@@ -50,7 +50,10 @@ scope_here = part_here scope_at MOST_MUTATORS scopes_apart
 pub cell_here : (ws : List ℕ) (p : ℕ) → p < POINTERS → cell_in ws p ≡ slice_index ws (cell_at p)
 cell_here = part_here cell_at POINTERS cells_apart
 
--- the words of the table after a step: those of the heap, those of the copiers' jobs, and as many as there were
+pub job_here : (ws : List ℕ) (j : ℕ) → j < JOBS → job_in ws j ≡ slice_index ws (job_at j)
+job_here = part_here job_at JOBS jobs_apart
+
+-- the words of the table after a step: those of the heap, those of the jobs, and as many as there were
 pub record WordsAre (ws : List ℕ) (epoch : ℕ) (scope cell word job : ℕ → ℕ) : Type 0 where
   pub epoch_is : epoch_in ws ≡ epoch
   pub scope_is : scope_in ws ≡ scope
@@ -94,6 +97,16 @@ module _ (ws : List ℕ) (wide : length ws ≡ TABLE_WORDS) where
     word_is = fun_ext (λ a. get_or-set_other ws (cell_at p) (data_at a) x 0 (λ e. omega arith));
     job_is = part_other job_at JOBS jobs_apart ws (cell_at p) x (λ q l e. omega arith);
     wide = same_length (cell_at p) x;
+  }
+
+  pub job_word_set : (j x : ℕ) → j < JOBS → WordsAre (set ws (job_at j) x) (epoch_in ws) (scope_in ws) (cell_in ws) (word_in ws) (put (job_in ws) j x)
+  job_word_set j x small = record {
+    epoch_is = get_or-set_other ws (job_at j) EPOCH_AT x 0 (λ e. omega arith);
+    scope_is = part_other scope_at MOST_MUTATORS scopes_apart ws (job_at j) x (λ q l e. omega arith);
+    cell_is = part_other cell_at POINTERS cells_apart ws (job_at j) x (λ q l e. omega arith);
+    word_is = fun_ext (λ a. get_or-set_other ws (job_at j) (data_at a) x 0 (λ e. omega arith));
+    job_is = part_set job_at JOBS jobs_apart ws j x small (omega arith);
+    wide = same_length (job_at j) x;
   }
 
   pub data_word_set : (a x : ℕ) → data_at a < TABLE_WORDS → WordsAre (set ws (data_at a) x) (epoch_in ws) (scope_in ws) (cell_in ws) (put (word_in ws) a x) (job_in ws)

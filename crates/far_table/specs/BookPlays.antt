@@ -1,20 +1,27 @@
 -- What each kind of step of the book's seat tells: of the step, the seat before, the word found (at a store, the word stored) and the seat after.
-use Rattle.std.specs.Prelude.{◌≡◌, ◌+◌, ◌-◌, ◌*◌, ◌^◌, ◌<◌, ℕ, true, false, None}
+use Rattle.std.specs.Prelude.{◌≡◌, ◌+◌, ◌-◌, ◌*◌, ◌^◌, ◌<◌, ℕ, true, false, Some, None}
 use mathlib.Core.Option.{some}
 use Rattle.atomic_table.specs.Table.{Me, Step}
+use Rattle.far_word.specs.declared.job.Job.{Job}
+use Rattle.far_word.specs.declared.job.JobWord.TheVariants.{Offered}
+use Rattle.far_word.specs.declared.mark.Marks.{Marks}
+use Rattle.far_word.specs.declared.pointer.PtrWord.TheVariants.{Near}
+use Rattle.far_word.specs.Job.{IsJob, job_word}
 use Rattle.far_word.specs.Mark.{position}
+use Rattle.far_word.specs.Pointer.{read_of}
 use Rattle.far_word.specs.declared.mark.Mark.TheVariants.{Evac}
 use Rattle.far_word.specs.declared.sizes.TheConstants.{LOG_WORDS}
-use Rattle.far_core.specs.declared.event.Event.TheVariants.{See, Mark, Clear, Get, Put, Name, Advance, Look}
+use Rattle.far_core.specs.declared.event.Event.TheVariants.{See, Mark, Clear, Get, Put, Name, Advance, Look, Offer, SeeJob, Collect}
 use Rattle.far_core.specs.declared.event.Reply.TheVariants.{Done, Epoch, Word}
 use Rattle.far_hand.specs.Finds.{Finds}
+use Rattle.far_hand.specs.FindsJob.{FindsJob}
 use Rattle.far_hand.specs.Rounds.{IsScopeAt}
 use Rattle.far_hand.proofs.Reading.{Gets}
 use Rattle.far_table.specs.View.{View}
 use Rattle.far_table.specs.BookTells.{BookTells}
-use Rattle.far_table.specs.BookViews.{cleared_view, freed_view, got_view, is_quiet_at, looked_view, marked_view, put_view, raised_view, saw_view}
-use Rattle.far_table.specs.Layout.{cell_at, data_at, scope_at}
-use Rattle.far_table.specs.NameViews.{exchange_reply, exchanged_view}
+use Rattle.far_table.specs.BookViews.{cleared_view, collected_view, freed_view, got_view, is_quiet_at, looked_view, marked_view, put_view, raised_view, saw_job_view, saw_view}
+use Rattle.far_table.specs.Layout.{cell_at, data_at, job_at, scope_at}
+use Rattle.far_table.specs.NameViews.{exchange_reply, exchanged_view, offered_view}
 use Rattle.far_table.specs.Stands.{IsPlain, book_of}
 use Rattle.far_table.specs.StateOf.{book_state, head_at}
 
@@ -57,6 +64,19 @@ module _ {S : Type 0} where
   abbrev pub Looked : Step S → Me S View → ℕ → Me S View → Type 0
   Looked st me found me' = (m : ℕ) → st.word ≡ scope_at m → IsScopeAt (book_of me.0).epoch found
       × BookTells me.0 me'.0 (Look m) (Word found) (looked_view m found (book_of me.0))
+
+  abbrev pub JobSeen : Step S → Me S View → ℕ → Me S View → Type 0
+  JobSeen st me found me' = (j : ℕ) → st.word ≡ job_at j → FindsJob ((book_state (book_of me.0)).copying.word j) found
+      × BookTells me.0 me'.0 (SeeJob j) (Word found) (saw_job_view j found (book_of me.0))
+
+  abbrev pub JobCollected : Step S → Me S View → ℕ → Me S View → Type 0
+  JobCollected st me found me' = (j : ℕ) → st.word ≡ job_at j → FindsJob ((book_state (book_of me.0)).copying.word j) found
+      × BookTells me.0 me'.0 (Collect j st.first) (exchange_reply st.first found) (collected_view j st.first found (book_of me.0))
+
+  -- the word offers this job, whose source is where the view's cell has the object
+  abbrev pub JobOffered : Step S → Me S View → ℕ → Me S View → Type 0
+  JobOffered st me word me' = (j len ds : ℕ) (job : Job) (m : Marks) → st.word ≡ job_at j → IsJob job → word ≡ job_word (Offered job) →
+      read_of ((book_state (book_of me.0)).cell job.pointer) ≡ Some (Near len ds job.from m) → BookTells me.0 me'.0 (Offer j job.pointer job.to) Done (offered_view j len ds job (book_of me.0))
 
 -- the round is of the logs that were announced
 abbrev pub Advanced : Step ℕ → Me ℕ View → ℕ → Me ℕ View → Type 0

@@ -13,7 +13,7 @@ use Rattle.far_core.specs.state.State.{State}
 use Rattle.far_hand.specs.MayBe.{Made, Shows, Tells}
 use Rattle.far_hand.proofs.Making.{spent_made}
 use Rattle.far_table.specs.declared.book.BookSeat.{BookSeat}
-use Rattle.far_table.specs.View.{BookView, OwnerView}
+use Rattle.far_table.specs.View.{BookView, OtherViews}
 use Rattle.far_table.specs.BookTells.{BookMade}
 use Rattle.far_table.specs.Rule.{Facts}
 use Rattle.far_table.specs.Stands.{Stands, book_of}
@@ -27,12 +27,12 @@ table_of s = s.seat.table_id
 abbrev pub book_in : {D : Type 0} → BookSeat D → BookView
 book_in s = book_of s.seat.me.0
 
--- a state that words and owners' views make beside this view of the book, for which the rule holds
+-- a state that words and all others' views make beside this view of the book, for which the rule holds
 pub record MayBe (b : BookView) (x : State) : Type 0 where
   pub words : List ℕ
-  pub owners : List OwnerView
-  pub facts : Facts words b owners
-  pub is : x ≡ state_of words b owners
+  pub others : OtherViews
+  pub facts : Facts words b others
+  pub is : x ≡ state_of words b others
 
 -- ---- the seat as a hand
 abbrev pub seat_view : {D : Type 0} → BookSeat D → State
@@ -52,31 +52,31 @@ seat_lawful s x may = subst Law (sym may.is) may.facts.law
 pub seat_shown : {D : Type 0} (s : BookSeat D) (x : State) → seat_may_be s x → Shows (seat_view s) x
 seat_shown s x may = subst (Shows (seat_view s)) (sym may.is) may.facts.book.shown
 
-stands_may : (b : BookView) (h : Stands b) → MayBe b (state_of h.words b h.owners)
-stands_may b h = record { words = h.words; owners = h.owners; facts = h.facts; is = refl }
+stands_may : (b : BookView) (h : Stands b) → MayBe b (state_of h.words b h.others)
+stands_may b h = record { words = h.words; others = h.others; facts = h.facts; is = refl }
 
 pub seat_there : {D : Type 0} (s : BookSeat D) → ∥ ((x : State) × seat_may_be s x) ∥₁
-seat_there s = ∥∥₁_map s.stands (λ (h : Stands (book_in s)). (state_of h.words (book_in s) h.owners, stands_may (book_in s) h))
+seat_there s = ∥∥₁_map s.stands (λ (h : Stands (book_in s)). (state_of h.words (book_in s) h.others, stands_may (book_in s) h))
 
 pub seat_alone : {D : Type 0} (s : BookSeat D) → ⊥ → (x : State) → seat_may_be s x → x ≡ seat_view s
 seat_alone s still x may = absurd still
 
 made_tells : (b b' : BookView) (e : Event) (r : Reply) → BookMade e b r b' → Tells (MayBe b) (MayBe b') e r
 made_tells b b' e r m = record {
-  was = state_of m.words b m.owners;
-  now = state_of m.later b' m.owners;
-  might = record { words = m.words; owners = m.owners; facts = m.facts; is = refl };
-  may = record { words = m.later; owners = m.owners; facts = m.keeps; is = refl };
+  was = state_of m.words b m.others;
+  now = state_of m.later b' m.others;
+  might = record { words = m.words; others = m.others; facts = m.facts; is = refl };
+  may = record { words = m.later; others = m.others; facts = m.keeps; is = refl };
   call = m.call;
 }
 
 -- in the last epoch no round begins
-spent : (b : BookView) (h : Stands b) (logs : ℕ) → b.epoch + 1 ≡ EPOCH_END → Made (state_of h.words b h.owners) (Advance logs) Refused (state_of h.words b h.owners)
-spent b h logs last = let x = state_of h.words b h.owners in spent_made x x logs h.facts.law refl (ap (λ (z : State). z.epoch + 1) h.facts.book.shown.rest ∙ last)
+spent : (b : BookView) (h : Stands b) (logs : ℕ) → b.epoch + 1 ≡ EPOCH_END → Made (state_of h.words b h.others) (Advance logs) Refused (state_of h.words b h.others)
+spent b h logs last = let x = state_of h.words b h.others in spent_made x x logs h.facts.law refl (ap (λ (z : State). z.epoch + 1) h.facts.book.shown.rest ∙ last)
 
 refused_tells : (b b' : BookView) (e : Event) (logs : ℕ) → b' ≡ b → e ≡ Advance logs → b.epoch + 1 ≡ EPOCH_END → Stands b → Tells (MayBe b) (MayBe b') e Refused
 refused_tells b b' e logs same is last h =
-    let x = state_of h.words b h.owners in record {
+    let x = state_of h.words b h.others in record {
       was = x;
       now = x;
       might = stands_may b h;

@@ -7,7 +7,7 @@ use Rattle.far_core.specs.declared.event.Reply.TheVariants.{Done}
 use Rattle.far_core.specs.events.Legal.{Legal}
 use Rattle.far_core.specs.events.Step.{after, answer}
 use Rattle.far_hand.specs.MayBe.{Made}
-use Rattle.far_table.specs.View.{BookView, OwnerView, View, Book}
+use Rattle.far_table.specs.View.{BookView, OtherViews, View, Book}
 use Rattle.far_table.specs.Rule.{Facts}
 use Rattle.far_table.specs.Stands.{book_of}
 use Rattle.far_table.specs.StateOf.{cooled_at, retired_at, state_of, taken_at}
@@ -31,17 +31,17 @@ cooled_by e r p n = n
 -- are the state that the core's step makes, and meet the rule; the view counts what it took away
 pub record BookMade (e : Event) (b : BookView) (r : Reply) (b' : BookView) : Type 0 where
   pub words : List ℕ
-  pub owners : List OwnerView
-  pub facts : Facts words b owners
-  pub legal : Legal (state_of words b owners) e
-  pub says : r ≡ answer (state_of words b owners) e
+  pub others : OtherViews
+  pub facts : Facts words b others
+  pub legal : Legal (state_of words b others) e
+  pub says : r ≡ answer (state_of words b others) e
   pub later : List ℕ
-  pub becomes : after (state_of words b owners) e ≡ state_of later b' owners
-  pub keeps : Facts later b' owners
+  pub becomes : after (state_of words b others) e ≡ state_of later b' others
+  pub keeps : Facts later b' others
   pub taken : (p : ℕ) → taken_at b' p ≡ taken_by e r p (taken_at b p)
   pub retired : (p : ℕ) → retired_at b' p ≡ retired_by e r p (retired_at b p)
   pub cooled : (p : ℕ) → cooled_at b' p ≡ cooled_by e r p (cooled_at b p)
-  pub call : Made (state_of words b owners) e r (state_of later b' owners)
+  pub call : Made (state_of words b others) e r (state_of later b' others)
 
 -- the seat's view before and after the step: the event was made
 pub record BookTells (before now : View) (e : Event) (r : Reply) (b' : BookView) : Type 0 where

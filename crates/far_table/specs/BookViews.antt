@@ -70,3 +70,11 @@ raised_view logs b = record b { epoch = b.epoch + 1; chosen = logs; round = []; 
 
 abbrev pub looked_view : ℕ → ℕ → BookView → BookView
 looked_view m found b = record b { clear = (m, over b.clear (λ _. false) m || shows_clear b.epoch (scope_of found)) ∷ b.clear }
+
+-- the word was found in a job, or left there
+abbrev pub saw_job_view : ℕ → ℕ → BookView → BookView
+saw_job_view j found b = record b { jobs = (j, found) ∷ b.jobs }
+
+-- the view after an exchange of a job's word by 0, by the word found: it won, or that word is what is seen now
+abbrev pub collected_view : ℕ → ℕ → ℕ → BookView → BookView
+collected_view j old found b = saw_job_view j (cond (found == old) 0 found) b

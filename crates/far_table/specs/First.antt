@@ -1,27 +1,27 @@
 -- The words and the views of a core that is shared, before any step.
-use Rattle.std.specs.Prelude.{◌≡◌, ℕ, ◌*◌, ◌<◌, Bool, cond, Option, Some, None, List, [], length, map, slice_index}
+use Rattle.std.specs.Prelude.{◌≡◌, ℕ, ◌*◌, ◌<◌, Bool, cond, Option, Some, None, List, [], ◌++◌, length, map, slice_index}
 use Rattle.std.specs.List.{range_with_len}
 use Rattle.far_word.specs.Bytes.{packed_word}
 use Rattle.far_word.specs.declared.scope.ScopeWord.{ScopeWord}
 use Rattle.far_word.specs.declared.scope.ScopeWord.TheVariants as scoped
-use Rattle.far_word.specs.declared.sizes.TheConstants.{CELLS, LOG_WORDS, MOST_COPIERS, MOST_LOGS, MOST_MUTATORS, POINTERS}
+use Rattle.far_word.specs.declared.sizes.TheConstants.{CELLS, JOBS, LOG_WORDS, MOST_COPIERS, MOST_LOGS, MOST_MUTATORS, POINTERS}
 use Rattle.far_word.specs.Scope.{scope_of}
 use Rattle.far_word.specs.Sizes.{words_for}
 use Rattle.far_core.specs.state.State.{State}
 use Rattle.far_core.specs.world.World.{Object}
 use Rattle.far_core.specs.world.WorldOf.{world_of}
-use Rattle.far_table.specs.View.{BookView, ObjectView, OwnerView, AsOwner}
-use Rattle.far_table.specs.Layout.{JOBS, TABLE_WORDS, cell_at, data_at, epoch_in, job_at, scope_at}
+use Rattle.far_table.specs.View.{BookView, CopierView, ObjectView, OtherViews, OwnerView, AsCopier, AsOwner, roles}
+use Rattle.far_table.specs.Layout.{TABLE_WORDS, cell_at, data_at, epoch_in, job_at, scope_at}
 use Rattle.far_table.specs.Views.{drops, hots, moves}
 
--- the words are those of the state, each at its place, and 0 where a copier's job stands. A word of nobody may be any
+-- the words are those of the state, each at its place. A word of nobody may be any
 pub record IsTableOf (ws : List ℕ) (s : State) : Type 0 where
   pub wide : length ws ≡ TABLE_WORDS
   pub epoch : epoch_in ws ≡ s.epoch
   pub scopes : (m : ℕ) → m < MOST_MUTATORS → slice_index ws (scope_at m) ≡ s.scope m
   pub cells : (p : ℕ) → p < POINTERS → slice_index ws (cell_at p) ≡ s.cell p
   pub words : (a : ℕ) → a < MOST_LOGS * LOG_WORDS → slice_index ws (data_at a) ≡ s.word a
-  pub jobs : (j : ℕ) → j < JOBS → slice_index ws (job_at j) ≡ 0
+  pub jobs : (j : ℕ) → j < JOBS → slice_index ws (job_at j) ≡ s.copying.word j
 
 -- rows for so many numbers from one on. No proof writes them out, since there are 8192 of headers: FirstViews says what they make
 unfoldable pub rows_from : {X : Type 0} → ℕ → ℕ → (ℕ → X) → List (ℕ × X)
@@ -65,6 +65,22 @@ first_owner s honest m = record {
 abbrev pub first_owners : State → Bool → List OwnerView
 first_owners s honest = map (first_owner s honest) (range_with_len 0 s.mutators)
 
+-- a copier's view: what the core says of it
+abbrev pub first_copier : State → ℕ → CopierView
+first_copier s c = record {
+  number = c;
+  task = s.copying.task c;
+  length = s.copying.length c;
+  read = rows_from 0 LOG_WORDS (s.copying.read c);
+  written = rows_from 0 LOG_WORDS (s.copying.written c);
+}
+
+abbrev pub first_copiers : State → List CopierView
+first_copiers s = map (first_copier s) (range_with_len 0 MOST_COPIERS)
+
+abbrev pub first_others : State → Bool → OtherViews
+first_others s honest = record { owners = first_owners s honest; copiers = first_copiers s }
+
 -- the book's view: the core's state, of whose words it knows the headers alone
 abbrev pub first_book : State → Bool → BookView
 first_book s honest = record {
@@ -88,13 +104,13 @@ first_book s honest = record {
   jobs = rows_from 0 JOBS s.copying.word;
   since = rows_from 0 JOBS s.copying.since;
   named = rows_from 0 JOBS s.copying.named;
-  tasks = rows_from 0 MOST_COPIERS s.copying.task;
-  lengths = rows_from 0 MOST_COPIERS s.copying.length;
-  read = rows_from 0 MOST_COPIERS (λ c. rows_from 0 LOG_WORDS (s.copying.read c));
-  written = rows_from 0 MOST_COPIERS (λ c. rows_from 0 LOG_WORDS (s.copying.written c));
-  rest = map AsOwner (first_owners s honest);
+  rest = roles (first_others s honest);
 }
 
--- the book's view while so many owners from this one on have no seat
+-- the book's view while so many copiers from this one on have no seat, and no owner has one
+abbrev pub unseated : State → Bool → ℕ → ℕ → BookView
+unseated s honest low n = record (first_book s honest) { rest = map AsCopier (map (first_copier s) (range_with_len low n)) ++ map AsOwner (first_owners s honest) }
+
+-- while so many owners from this one on have none
 abbrev pub waiting : State → Bool → ℕ → ℕ → BookView
 waiting s honest low n = record (first_book s honest) { rest = map AsOwner (map (first_owner s honest) (range_with_len low n)) }

@@ -1,15 +1,11 @@
 -- Where each shared word stands. The layout is that of the largest heap; the words of the logs are last. The epoch and each scope word have a line of cache: what is
 -- between them is nobody's.
 use Rattle.std.specs.Prelude.{◌≡◌, ℕ, ◌+◌, ◌*◌, cond, nat_lt, List, slice_index}
-use Rattle.far_word.specs.declared.sizes.TheConstants.{LOG_WORDS, MOST_LOGS, MOST_MUTATORS, POINTERS}
+use Rattle.far_word.specs.declared.sizes.TheConstants.{JOBS, LOG_WORDS, MOST_LOGS, MOST_MUTATORS, POINTERS}
 
 -- the words of a line of cache, of 128 bytes
 abbrev pub LINE : ℕ
 LINE = 16
-
--- the words of the copiers' jobs
-abbrev pub JOBS : ℕ
-JOBS = 16
 
 -- word 0 is for the split of seats
 abbrev pub EPOCH_AT : ℕ

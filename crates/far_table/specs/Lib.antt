@@ -2,6 +2,7 @@ pub mod View
 pub mod Layout
 pub mod Rows
 pub mod Views
+pub mod CopierViews
 pub mod StateOf
 pub mod First
 pub mod Rule
@@ -14,6 +15,8 @@ pub mod BookTells
 pub mod BookPlays
 pub mod Tabled
 pub mod BookSeats
+pub mod CopierPlays
+pub mod CopySeats
 pub mod NameViews
 pub mod Viewed
 pub mod Whole

@@ -1,7 +1,10 @@
--- How an exchange of a cell by the book's seat changes its view.
-use Rattle.std.specs.Prelude.{ℕ, ◌+◌, ◌==◌, cond, Option, Some, None, List, [], ◌∷◌, ◌++◌}
+-- How an exchange of a cell by the book's seat changes its view, and how a job that it offers does.
+use Rattle.std.specs.Prelude.{ℕ, ◌+◌, ◌==◌, true, false, cond, Option, Some, None, List, [], ◌∷◌, ◌++◌}
+use Rattle.far_word.specs.declared.job.Job.{Job}
+use Rattle.far_word.specs.declared.job.JobWord.TheVariants.{Offered}
 use Rattle.far_word.specs.declared.pointer.Place.{Place}
 use Rattle.far_word.specs.Header.{head_word}
+use Rattle.far_word.specs.Job.{job_word}
 use Rattle.far_word.specs.Pointer.{read_of}
 use Rattle.far_word.specs.Sizes.{size_of, words_for}
 use Rattle.far_core.specs.declared.event.Kind.TheVariants.{Open, Sealed}
@@ -9,13 +12,14 @@ use Rattle.far_core.specs.declared.event.Reply.{Reply}
 use Rattle.far_core.specs.declared.event.Reply.TheVariants.{Done, Word}
 use Rattle.far_core.specs.declared.naming.Naming.{Naming}
 use Rattle.far_core.specs.declared.naming.Naming.TheVariants.{Places, Retires, Evicts, Stays, Moves, Fetches}
+use Rattle.far_core.specs.events.Copied.{copied_job}
 use Rattle.far_core.specs.events.Naming.{naming_of}
 use Rattle.far_core.specs.state.State.{addr}
 use Rattle.far_table.specs.View.{BookView}
 use Rattle.far_table.specs.BookViews.{saw_view}
 use Rattle.far_table.specs.First.{rows_from}
 use Rattle.far_table.specs.Rows.{over}
-use Rattle.far_table.specs.StateOf.{cooled_at, known_word, retired_at, taken_at}
+use Rattle.far_table.specs.StateOf.{book_state, cooled_at, known_word, retired_at, taken_at}
 use Rattle.far_table.specs.Views.{hots, moves}
 
 -- the next span of a log is taken, for p: the log ends behind it and is the open one
@@ -31,13 +35,18 @@ span_view p len ds place b = record b {
 abbrev pub stored_rows : ℕ → ℕ → Place → BookView → List (ℕ × ℕ)
 stored_rows p len place b = rows_from 0 (words_for len) (λ i. known_word b (addr place + 1 + i)) ++ over b.stored (λ _. []) p
 
+-- an object that moves takes a span; or it is named where a job has copied it
+abbrev pub move_view : ℕ → ℕ → ℕ → Place → Option ℕ → BookView → BookView
+move_view p len ds to None b = span_view p len ds to b
+move_view p len ds to (Some j) b = record b { named = (j, true) ∷ b.named }
+
 -- what a form changes beside the cell
 abbrev pub form_view : ℕ → Naming → BookView → BookView
 form_view p (Places len ds place) b = span_view p len ds place b
 form_view p Retires b = b
 form_view p (Evicts len place) b = record b { stored = (p, stored_rows p len place b) ∷ b.stored }
 form_view p Stays b = b
-form_view p (Moves len ds from to) b = span_view p len ds to b
+form_view p (Moves len ds from to) b = move_view p len ds to (copied_job (book_state b) p from to) b
 form_view p (Fetches len ds place) b = span_view p len ds place b
 
 -- how many objects a form retires
@@ -74,3 +83,13 @@ exchanged_view p old new found b = cond (found == old) (named_view p old new b) 
 -- what it answers
 abbrev pub exchange_reply : ℕ → ℕ → Reply
 exchange_reply old found = cond (found == old) Done (Word found)
+
+-- ---- a job is offered
+-- the span at its target is taken, and no word is known any more but headers
+abbrev pub offered_view : ℕ → ℕ → ℕ → Job → BookView → BookView
+offered_view j len ds job b = record (span_view job.pointer len ds job.to b) {
+  jobs = (j, job_word (Offered job)) ∷ b.jobs;
+  since = (j, b.epoch) ∷ b.since;
+  named = (j, false) ∷ b.named;
+  known = [];
+}

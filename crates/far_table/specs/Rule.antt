@@ -4,7 +4,7 @@ use mathlib.Core.Option.{some}
 use lib.ListN.{get_elem?}
 use Rattle.atomic_table.specs.Table.{State as Table}
 use Rattle.far_word.specs.Bytes.{packed_word}
-use Rattle.far_word.specs.declared.sizes.TheConstants.{CELLS}
+use Rattle.far_word.specs.declared.sizes.TheConstants.{CELLS, MOST_COPIERS}
 use Rattle.far_word.specs.Sizes.{words_for}
 use Rattle.far_core.specs.events.Open.{scope_word_of}
 use Rattle.far_core.specs.state.Agrees.{Agrees}
@@ -15,8 +15,8 @@ use Rattle.far_core.specs.world.WorldOf.{world_of}
 use Rattle.far_hand.specs.Known.{IsKnown}
 use Rattle.far_hand.specs.MayBe.{Shows}
 use Rattle.far_hand.specs.Quiet.{RestsAt}
-use Rattle.far_table.specs.View.{BookView, ObjectView, OwnerView, View, Book, Owner, AsOwner}
-use Rattle.far_table.specs.Layout.{TABLE_WORDS, job_in}
+use Rattle.far_table.specs.View.{BookView, CopierView, ObjectView, OtherViews, OwnerView, Role, View, Book, roles, seat_of}
+use Rattle.far_table.specs.Layout.{TABLE_WORDS}
 use Rattle.far_table.specs.StateOf.{book_state, cooled_at, retired_at, state_of, taken_at}
 use Rattle.far_table.specs.Views.{object_at, asked_at, dropped_at, drops, heated_at, held_at, hots, moves, pinned_at, word_of}
 
@@ -48,21 +48,22 @@ pub record OwnerTies (b : BookView) (s : State) (m : ℕ) (o : OwnerView) : Type
   pub warm : (p : ℕ) → p / CELLS ≡ m → pinned_at o p ≡ true → IsSome (held_at o p) × (hots (s.cell p) ≡ 1)
   pub hots : (p : ℕ) → p / CELLS ≡ m → heated_at o p ≡ cooled_at b p + hots (s.cell p)
 
--- what holds of the words, the book's view and the owners' views between any two steps
-pub record Facts (ws : List ℕ) (b : BookView) (os : List OwnerView) : Type 0 where
+-- what holds of the words and all views between any two steps. Of a copier nothing but its number: all else that is so of its view, the law has
+pub record Facts (ws : List ℕ) (b : BookView) (os : OtherViews) : Type 0 where
   pub law : Law (state_of ws b os)
   pub agrees : Agrees (state_of ws b os)
   pub book : BookTies b (state_of ws b os)
-  pub owners : (m : ℕ) (o : OwnerView) → get_elem? os m ≡ some o → OwnerTies b (state_of ws b os) m o
-  pub many : length os ≡ b.mutators
+  pub owners : (m : ℕ) (o : OwnerView) → get_elem? os.owners m ≡ some o → OwnerTies b (state_of ws b os) m o
+  pub copiers : (c : ℕ) (v : CopierView) → get_elem? os.copiers c ≡ some v → v.number ≡ c
+  pub many : length os.owners ≡ b.mutators
+  pub eight : length os.copiers ≡ MOST_COPIERS
   pub wide : length ws ≡ TABLE_WORDS
-  pub jobs : job_in ws ≡ (λ _. 0)
 
--- the rule: seat 0 is the book's, those after it the owners' that have one; the others wait in the book's view
+-- the rule: seat 0 is the book's, those after it are of the others that have one; the rest of them wait in the book's view
 pub record Running {S : Type 0} (s : Table S View) : Type 0 where
   pub book : BookView
-  pub dealt : List OwnerView
-  pub waits : List OwnerView
-  pub views : s.views ≡ Book book ∷ map Owner dealt
-  pub rest : book.rest ≡ map AsOwner waits
-  pub facts : Facts s.words book (dealt ++ waits)
+  pub others : OtherViews
+  pub dealt : List Role
+  pub views : s.views ≡ Book book ∷ map seat_of dealt
+  pub all : dealt ++ book.rest ≡ roles others
+  pub facts : Facts s.words book others

@@ -7,13 +7,18 @@ use Rattle.far_word.specs.Sizes.{words_for}
 use Rattle.far_core.specs.declared.event.Reply.{Reply}
 use Rattle.far_core.specs.declared.event.Reply.TheVariants.{Held, Word}
 use Rattle.far_core.specs.state.State.{addr}
-use Rattle.far_table.specs.View.{OwnerView}
+use Rattle.far_table.specs.View.{CopierView, OwnerView}
 use Rattle.far_table.specs.Views.{held_at, len_of, object_at}
 
 -- the table that it is of, and its view
 pub record Seated : Type 0 where
   pub table : TableId
   pub view : OwnerView
+
+-- the same of a copier's
+pub record CopierSeated : Type 0 where
+  pub table : TableId
+  pub view : CopierView
 
 -- the number that a seat keeps is the epoch that its view remembers
 abbrev pub Remembers : Option ℕ → ℕ → Type 0

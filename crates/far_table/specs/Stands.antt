@@ -3,17 +3,18 @@ use Rattle.std.specs.Prelude.{◌≡◌, ◌≢◌, ◌/◌, ◌^◌, ◌<◌, �
 use Rattle.std.specs.List.{range_with_len}
 use Rattle.atomic_table.specs.declared.shared.Seat.{Seat}
 use Rattle.atomic_table.specs.Seated.{TableId}
-use Rattle.far_word.specs.declared.sizes.TheConstants.{CELLS, EPOCH_END, LEAST_LOGS, LEAST_MUTATORS, MOST_LOGS, MOST_MUTATORS}
-use Rattle.far_table.specs.View.{BookView, ObjectView, OwnerView, Role, View, Book, Owner, Copier, AsOwner, AsCopier}
+use Rattle.far_word.specs.declared.sizes.TheConstants.{CELLS, EPOCH_END, LEAST_LOGS, LEAST_MUTATORS, MOST_COPIERS, MOST_LOGS, MOST_MUTATORS}
+use Rattle.far_table.specs.View.{BookView, CopierView, ObjectView, OtherViews, OwnerView, Role, View, Book, Owner, Copier, seat_of}
 use Rattle.far_core.specs.events.Open.{scope_word_of}
 use Rattle.far_core.specs.state.State.{State}
 use Rattle.far_hand.specs.Known.{unknown}
 use Rattle.far_hand.specs.Masked.{masked}
-use Rattle.far_table.specs.First.{first_owner, first_owners}
+use Rattle.far_table.specs.CopierViews.{words_read, words_written}
+use Rattle.far_table.specs.First.{first_copier, first_others, first_owner}
 use Rattle.far_table.specs.Layout.{TABLE_WORDS}
 use Rattle.far_table.specs.Rows.{over}
 use Rattle.far_table.specs.Rule.{Facts, Has}
-use Rattle.far_table.specs.Seats.{Seated}
+use Rattle.far_table.specs.Seats.{CopierSeated, Seated}
 use Rattle.far_table.specs.StateOf.{book_state, state_of}
 use Rattle.far_table.specs.Views.{held_at, nobody, object_at, uses}
 
@@ -40,10 +41,6 @@ no_book = record {
   jobs = [];
   since = [];
   named = [];
-  tasks = [];
-  lengths = [];
-  read = [];
-  written = [];
   rest = [];
 }
 
@@ -56,7 +53,7 @@ book_of (Copier c) = no_book
 abbrev pub IsPlain : BookView → Type 0
 IsPlain b = (a : ℕ) → 2 ^ 64 ≤ over b.known unknown a → over b.known unknown a ≡ unknown a
 
--- the seat is of its table, and its view is the book's, of which the struct keeps the shape and the epoch as numbers; each owner has its seat
+-- the seat is of its table, and its view is the book's, of which the struct keeps the shape and the epoch as numbers; all others have their seats
 pub record BookOk (id here : TableId) (v : View) (logs mutators epoch : ℕ) : Type 0 where
   pub same : id ≡ here
   pub wide : id.words ≡ TABLE_WORDS
@@ -72,14 +69,14 @@ pub record BookOk (id here : TableId) (v : View) (logs mutators epoch : ℕ) : T
   pub dealt : (book_of v).rest ≡ []
   pub plain : IsPlain (book_of v)
 
--- there are words, and views of the owners, with which the rule holds
+-- there are words, and views of all others, with which the rule holds
 pub record Stands (b : BookView) : Type 0 where
   pub words : List ℕ
-  pub owners : List OwnerView
-  pub facts : Facts words b owners
+  pub others : OtherViews
+  pub facts : Facts words b others
 
 -- ---- seats at the start
--- the book's seat of a table, while it gives seats to owners
+-- the book's seat of a table, while it gives seats to others
 abbrev pub IsDealer : {S : Type 0} → Seat S View → TableId → Type 0
 IsDealer seat id = (seat.table_id ≡ id) × (id.words ≡ TABLE_WORDS) × (seat.me.0 ≡ Book (book_of seat.me.0))
 
@@ -87,14 +84,14 @@ IsDealer seat id = (seat.table_id ≡ id) × (id.words ≡ TABLE_WORDS) × (seat
 abbrev pub Seats : TableId → (ℕ → OwnerView) → ℕ → List Seated
 Seats id owner n = map (λ m. record { table = id; view = owner m }) (range_with_len 0 n)
 
+-- and of so many copiers
+abbrev pub CopierSeats : TableId → (ℕ → CopierView) → ℕ → List CopierSeated
+CopierSeats id copier n = map (λ c. record { table = id; view = copier c }) (range_with_len 0 n)
+
 -- how the book's view is cut in two: the first of those that have no seat gets one
 abbrev pub others_rest : List Role → List Role
 others_rest [] = []
 others_rest (role ∷ rest) = rest
-
-abbrev pub seat_of : Role → View
-seat_of (AsOwner o) = Owner o
-seat_of (AsCopier c) = Copier c
 
 abbrev pub first_rest : List Role → View
 first_rest [] = Owner nobody
@@ -121,11 +118,20 @@ pub record SaysOwner (s : State) (honest : Bool) (m : ℕ) (o : OwnerView) : Typ
   pub objects : (p : ℕ) (x : ObjectView) → p / CELLS ≡ m → object_at o p ≡ Some x → Has (record s { honest = honest }) p x
   pub others : (p : ℕ) → p / CELLS ≢ m → (object_at o p ≡ None) × (held_at o p ≡ None)
 
--- the start: with some words and the owners' views the rule holds, and together they are the core's state, honest as the far side is. The book's view
--- is that state with what its seat can't know masked, all words but headers among it; and each owner's is what the core says of it
+-- a copier's view is what a state says of that copier: its job, the length that it has read, and the words that it has read and written
+pub record SaysCopier (s : State) (c : ℕ) (v : CopierView) : Type 0 where
+  pub number : v.number ≡ c
+  pub task : v.task ≡ s.copying.task c
+  pub length : v.length ≡ s.copying.length c
+  pub read : words_read v ≡ s.copying.read c
+  pub written : words_written v ≡ s.copying.written c
+
+-- the start: with some words and all others' views the rule holds, and together they are the core's state, honest as the far side is. The book's view
+-- is that state with what its seat can't know masked, all words but headers among it; and each other's is what the core says of it
 pub record Starts (s : State) (honest : Bool) (b : BookView) : Type 0 where
   pub words : List ℕ
-  pub facts : Facts words b (first_owners s honest)
-  pub state : state_of words b (first_owners s honest) ≡ record s { honest = honest }
-  pub book : book_state b ≡ masked (record s { honest = honest }) s.cell (λ _. false)
+  pub facts : Facts words b (first_others s honest)
+  pub state : state_of words b (first_others s honest) ≡ record s { honest = honest }
+  pub book : book_state b ≡ masked (record s { honest = honest }) s.cell (λ _. false) s.copying.word
   pub owners : (m : ℕ) → SaysOwner s honest m (first_owner s honest m)
+  pub copiers : (c : ℕ) → c < MOST_COPIERS → SaysCopier s c (first_copier s c)

@@ -6,9 +6,10 @@ use Rattle.far_core.specs.declared.event.Kind.TheVariants.{Free}
 use Rattle.far_core.specs.events.Advance.{is_among}
 use Rattle.far_core.specs.state.State.{Copying, State}
 use Rattle.far_hand.specs.Known.{unknown}
-use Rattle.far_table.specs.View.{BookView, OwnerView}
-use Rattle.far_table.specs.Layout.{epoch_in, scope_in, cell_in, word_in}
+use Rattle.far_table.specs.View.{BookView, CopierView, OtherViews, OwnerView}
+use Rattle.far_table.specs.Layout.{epoch_in, scope_in, cell_in, job_in, word_in}
 use Rattle.far_table.specs.Rows.{over}
+use Rattle.far_table.specs.CopierViews.{copier_at, words_read, words_written}
 use Rattle.far_table.specs.Views.{held_at, owner_at, uses}
 
 -- ---- what owners know
@@ -48,19 +49,31 @@ retired_at b = over b.retired (λ _. 0)
 abbrev pub cooled_at : BookView → ℕ → ℕ
 cooled_at b = over b.cooled (λ _. 0)
 
--- the jobs and the copiers
-abbrev pub copied : BookView → Copying
-copied b = record {
+-- the jobs: it knows nothing of what copiers do but by the jobs' words
+abbrev pub jobs_known : BookView → Copying
+jobs_known b = record {
   word = over b.jobs (λ _. 0);
   since = over b.since (λ _. 0);
   named = over b.named (λ _. false);
-  task = over b.tasks (λ _. None);
-  length = over b.lengths (λ _. None);
-  read = λ c. over (over b.read (λ _. []) c) (λ _. None);
-  written = λ c. over (over b.written (λ _. []) c) (λ _. false);
+  task = λ _. None;
+  length = λ _. None;
+  read = λ _ _. None;
+  written = λ _ _. false;
 }
 
--- the book's view as a state: what it knows of the words, and of what owners do nothing
+-- ---- what copiers know
+-- the jobs' words, what the book knows of jobs, and what copiers know
+abbrev pub copying_of : List ℕ → BookView → List CopierView → Copying
+copying_of ws b cs = record (jobs_known b) {
+  word = job_in ws;
+  task = λ c. (copier_at cs c).task;
+  length = λ c. (copier_at cs c).length;
+  read = λ c. words_read (copier_at cs c);
+  written = λ c. words_written (copier_at cs c);
+}
+
+-- ---- all together
+-- the book's view as a state: what it knows of the words, and of what others do nothing
 abbrev pub book_state : BookView → State
 book_state b = record {
   mutators = b.mutators;
@@ -81,17 +94,18 @@ book_state b = record {
   round_epoch = b.epoch;
   clear = over b.clear (λ _. false);
   stored = stored_word b;
-  copying = copied b;
+  copying = jobs_known b;
 }
 
--- the state that the words, the book's view and the owners' views are
-abbrev pub state_of : List ℕ → BookView → List OwnerView → State
+-- the state that the words, the book's view and all others' are
+abbrev pub state_of : List ℕ → BookView → OtherViews → State
 state_of ws b os = record (book_state b) {
   epoch = epoch_in ws;
   scope = scope_in ws;
   cell = cell_in ws;
   word = word_in ws;
-  remembered = remembered_by os;
-  used = used_by os;
-  held = held_by os;
+  remembered = remembered_by os.owners;
+  used = used_by os.owners;
+  held = held_by os.owners;
+  copying = copying_of ws b os.copiers;
 }

@@ -10,4 +10,4 @@ line_word scope j = cond (j % LINE == 0) (scope (j / LINE)) 0
 -- the word at a place of the table of a state
 abbrev pub table_word : State → ℕ → ℕ
 table_word s i = cond (nat_lt i (scope_at 0)) (cond (i == EPOCH_AT) s.epoch 0) (cond (nat_lt i (cell_at 0)) (line_word s.scope (i - scope_at 0))
-    (cond (nat_lt i (job_at 0)) (s.cell (i - cell_at 0)) (cond (nat_lt i (data_at 0)) 0 (s.word (i - data_at 0)))))
+    (cond (nat_lt i (job_at 0)) (s.cell (i - cell_at 0)) (cond (nat_lt i (data_at 0)) (s.copying.word (i - job_at 0)) (s.word (i - data_at 0)))))

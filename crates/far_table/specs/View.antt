@@ -1,5 +1,5 @@
 -- What the seats know, as plain data. Rows are pairs of a number and what stands there, newest first; what was written over stays behind.
-use Rattle.std.specs.Prelude.{ℕ, Bool, Option, List}
+use Rattle.std.specs.Prelude.{ℕ, Bool, Option, None, List, [], ◌++◌, map, slice_set}
 use Rattle.far_word.specs.declared.pointer.Place.{Place}
 use Rattle.far_core.specs.declared.event.Kind.{Kind}
 use Rattle.far_core.specs.declared.event.Task.{Task}
@@ -36,6 +36,13 @@ pub record OwnerView : Type 0 where
 -- what a copier's seat knows
 pub record CopierView : Type 0 where
   pub number : ℕ
+  -- the job that it has
+  pub task : Option Task
+  -- the length that it has read in the header of the job's source
+  pub length : Option ℕ
+  -- the words that it has read of the source, and those that it has written to the target, by their numbers
+  pub read : List (ℕ × Option ℕ)
+  pub written : List (ℕ × Bool)
 
 -- what the seat of another than the book knows
 pub data Role : Type 0 where
@@ -70,16 +77,10 @@ pub record BookView : Type 0 where
   pub retired : List (ℕ × ℕ)
   -- how often it has taken HOT away, by pointers
   pub cooled : List (ℕ × ℕ)
-  -- the words of the jobs, the epochs of the rounds in which they were offered, and whether their pointers were named to their targets, by
-  -- jobs; and what copiers know, by copiers: the job that each has, the length that it has read, the words that it has read, and those that it
-  -- has written. No step changes them yet
+  -- the word last found or left in each job, the epoch of the round in which it was offered, and whether its pointer was named to its target
   pub jobs : List (ℕ × ℕ)
   pub since : List (ℕ × ℕ)
   pub named : List (ℕ × Bool)
-  pub tasks : List (ℕ × Option Task)
-  pub lengths : List (ℕ × Option ℕ)
-  pub read : List (ℕ × List (ℕ × Option ℕ))
-  pub written : List (ℕ × List (ℕ × Bool))
   -- who has no seat yet, first who gets one first
   pub rest : List Role
 
@@ -89,6 +90,31 @@ pub data View : Type 0 where
   Owner : OwnerView → View
   Copier : CopierView → View
 
+-- a copier that has no job
+abbrev pub idle : ℕ → CopierView
+idle c = record { number = c; task = None; length = None; read = []; written = [] }
+
 -- what stands where nobody knows anything
 abbrev pub no_view : View
-no_view = Copier record { number = 0 }
+no_view = Copier (idle 0)
+
+-- ---- all others than the book
+-- what their seats know, by number
+pub record OtherViews : Type 0 where
+  pub owners : List OwnerView
+  pub copiers : List CopierView
+
+abbrev pub seat_of : Role → View
+seat_of (AsOwner o) = Owner o
+seat_of (AsCopier c) = Copier c
+
+-- in the order in which they get their seats
+abbrev pub roles : OtherViews → List Role
+roles os = map AsCopier os.copiers ++ map AsOwner os.owners
+
+-- the views once an owner's is another, and once a copier's is
+abbrev pub with_owner : OtherViews → ℕ → OwnerView → OtherViews
+with_owner os m o = record os { owners = slice_set os.owners m o }
+
+abbrev pub with_copier : OtherViews → ℕ → CopierView → OtherViews
+with_copier os c v = record os { copiers = slice_set os.copiers c v }

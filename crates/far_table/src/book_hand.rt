@@ -12,12 +12,12 @@ ghost use Rattle.far_table.specs.Viewed.{NoneIsGivenOut};
 ghost use Rattle.far_table.specs.Whole.{IsWhole};
 
 use crate::book::BookSeat;
-use crate::layout::{CELLS, EPOCH, LINE, LOGS, SCOPES};
+use crate::layout::{CELLS, EPOCH, JOBS_AT, LINE, LOGS, SCOPES};
 use crate::rule;
 use far_core::{Event, Reply, Shape};
 use far_device::Device;
 use far_hand::Near;
-use far_word::{EPOCH_END, LOG_WORDS, Mark, Refused};
+use far_word::{EPOCH_END, Job, JobWord, LOG_WORDS, Mark, Place, Refused};
 
 impl<D: Device> Near for BookSeat<D> {
     ghost use Rattle.far_table.specs.BookSeats.{seat_alone, seat_lawful, seat_makes, seat_may_be, seat_shown, seat_there, seat_told, seat_view};
@@ -103,6 +103,29 @@ impl<D: Device> Near for BookSeat<D> {
         self.table
             .shared
             .load::<rule::Look>(&mut self.seat, owner as usize * LINE + SCOPES)
+    }
+
+    fn offer(&mut self, job: u8, pointer: u16, from: Place, to: Place) {
+        let offered = Job { pointer, from, to };
+        self.table.shared.store::<rule::Offer>(
+            &mut self.seat,
+            job as usize + JOBS_AT,
+            JobWord::Offered { job: offered }.pack(),
+        );
+    }
+
+    fn see_job(&mut self, job: u8) -> u64 {
+        self.table
+            .shared
+            .load::<rule::SeeJob>(&mut self.seat, job as usize + JOBS_AT)
+    }
+
+    fn collect(&mut self, job: u8, old: u64) -> Result<(), u64> {
+        let found = self
+            .table
+            .shared
+            .compare_exchange::<rule::Collect>(&mut self.seat, job as usize + JOBS_AT, old, 0);
+        if old == found { Ok(()) } else { Err(found) }
     }
 
     fn shape(&self) -> Shape {

@@ -2,13 +2,10 @@
 // the copiers' jobs stand between the cells and the logs. The epoch and each scope word have a line of cache, in which no other word is written.
 ghost use Rattle.far_table.specs.Layout.{LayoutIs};
 
-use far_word::{LOG_WORDS, MOST_LOGS, MOST_MUTATORS, POINTERS};
+use far_word::{JOBS, LOG_WORDS, MOST_LOGS, MOST_MUTATORS, POINTERS};
 
 /// How many words a line of cache has, of 128 bytes.
 pub(crate) const LINE: usize = 16;
-
-/// How many words are of copiers' jobs.
-pub(crate) const JOBS: usize = 16;
 
 /// How many words are of logs.
 pub(crate) const WORDS_OF_LOGS: usize = MOST_LOGS as usize * LOG_WORDS as usize;
@@ -26,7 +23,7 @@ pub(crate) const CELLS: usize = SCOPES + MOST_MUTATORS as usize * LINE;
 pub(crate) const JOBS_AT: usize = CELLS + POINTERS as usize;
 
 /// Word 0 of log 0.
-pub(crate) const LOGS: usize = JOBS_AT + JOBS;
+pub(crate) const LOGS: usize = JOBS_AT + JOBS as usize;
 
 /// How many words there are.
 pub(crate) const TABLE_WORDS: usize = LOGS + WORDS_OF_LOGS;

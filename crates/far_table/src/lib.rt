@@ -7,6 +7,7 @@
 
 mod book;
 mod book_hand;
+mod copy_seat;
 mod layout;
 mod rule;
 mod seat;
@@ -14,6 +15,7 @@ mod start;
 mod view;
 
 pub use book::BookSeat;
+pub use copy_seat::{CopySeat, Job};
 pub use layout::layout_is;
 pub use rule::{FarRule, FarTable, Plan};
 pub use seat::MutSeat;

@@ -180,3 +180,75 @@ impl Play<u64, View> for Name {
 
     ghost then = { Named };
 }
+
+pub(crate) struct Offer;
+
+impl Play<u64, View> for Offer {
+    ghost use Rattle.far_table.specs.BookPlays.{JobOffered};
+
+    ghost then = { JobOffered };
+}
+
+pub(crate) struct SeeJob;
+
+impl Play<u64, View> for SeeJob {
+    ghost use Rattle.far_table.specs.BookPlays.{JobSeen};
+
+    ghost then = { JobSeen };
+}
+
+pub(crate) struct Collect;
+
+impl Play<u64, View> for Collect {
+    ghost use Rattle.far_table.specs.BookPlays.{JobCollected};
+
+    ghost then = { JobCollected };
+}
+
+pub(crate) struct PeekJob;
+
+impl Play<u64, View> for PeekJob {
+    ghost use Rattle.far_table.specs.CopierPlays.{JobPeeked};
+
+    ghost then = { JobPeeked };
+}
+
+pub(crate) struct Claim;
+
+impl Play<u64, View> for Claim {
+    ghost use Rattle.far_table.specs.CopierPlays.{JobClaimed};
+
+    ghost then = { JobClaimed };
+}
+
+pub(crate) struct ReadLength;
+
+impl Play<u64, View> for ReadLength {
+    ghost use Rattle.far_table.specs.CopierPlays.{LengthRead};
+
+    ghost then = { LengthRead };
+}
+
+pub(crate) struct Read;
+
+impl Play<u64, View> for Read {
+    ghost use Rattle.far_table.specs.CopierPlays.{SourceRead};
+
+    ghost then = { SourceRead };
+}
+
+pub(crate) struct Write;
+
+impl Play<u64, View> for Write {
+    ghost use Rattle.far_table.specs.CopierPlays.{TargetWritten};
+
+    ghost then = { TargetWritten };
+}
+
+pub(crate) struct Finish;
+
+impl Play<u64, View> for Finish {
+    ghost use Rattle.far_table.specs.CopierPlays.{JobFinished};
+
+    ghost then = { JobFinished };
+}

@@ -5,16 +5,17 @@ ghost use Rattle.std.specs.List.{range_with_len};
 ghost use Rattle.far_core.specs.state.CoreState.{core_state};
 ghost use Rattle.far_core.specs.state.State.{State};
 ghost use Rattle.far_table.specs.BookSeats.{table_of, book_in};
-ghost use Rattle.far_table.specs.First.{first_owner, waiting};
+ghost use Rattle.far_table.specs.First.{first_copier, first_owner, unseated, waiting};
 ghost use Rattle.far_table.specs.Layout.{TABLE_WORDS};
-ghost use Rattle.far_table.specs.Stands.{IsDealer, Seats, Stands, Starts, book_of};
-ghost use Rattle.far_table.specs.Tells.{HasState};
+ghost use Rattle.far_table.specs.Stands.{CopierSeats, IsDealer, Seats, Stands, Starts, book_of};
+ghost use Rattle.far_table.specs.Tells.{CopierStands, HasState};
 ghost use Rattle.far_table.specs.Tabled.{table_word};
 ghost use Rattle.far_table.specs.View.{Book};
 ghost use Rattle.far_word.specs.declared.refused.Refused.{Refused as any_refusal};
-ghost use Rattle.far_word.specs.declared.sizes.TheConstants.{LOG_WORDS, MOST_LOGS};
+ghost use Rattle.far_word.specs.declared.sizes.TheConstants.{LOG_WORDS, MOST_COPIERS, MOST_LOGS};
 
 use crate::book::BookSeat;
+use crate::copy_seat::CopySeat;
 use crate::layout::{CELLS, EPOCH, JOBS_AT, LINE, LOGS, SCOPES, TABLE_WORDS};
 use crate::rule::{Deal, FarTable, Plan};
 use crate::seat::MutSeat;
@@ -22,7 +23,7 @@ use crate::view::View;
 use atomic_table::{Seat, Table};
 use far_core::Core;
 use far_device::Device;
-use far_word::{LOG_WORDS, Refused};
+use far_word::{LOG_WORDS, MOST_COPIERS, Refused};
 use std::alloc::{AllocError, Global};
 use std::snapshot::Snapshot;
 use std::sync::Arc;
@@ -58,7 +59,7 @@ fn word_of(core: &Core, i: usize) -> u64
     } else if i < JOBS_AT {
         core.cell((i - CELLS) as u16)
     } else if i < LOGS {
-        0
+        core.see_job((i - JOBS_AT) as u8)
     } else {
         log_word(core, i - LOGS)
     }
@@ -119,8 +120,51 @@ fn deal_all<D: Device>(
     Ok(owners)
 }
 
+// The seat of the first copier that has none.
+fn deal_copier<D: Device>(
+    table: &Arc<FarTable<D>, Global>,
+    seat: &mut Seat<u64, View>,
+    plan: &Plan<D>,
+    number: u8,
+) -> Result<CopySeat<D>, AllocError>
+    requires dealer { IsDealer seat.old (arc_value table.now).shared.table_id }
+    requires next { seat.old.me.0 ≡ Book (unseated (core_state plan.now.core) (D.honest plan.now.device.value) number (MOST_COPIERS - number)) }
+    requires some { number < MOST_COPIERS }
+    requires there { CopierStands (first_copier (core_state plan.now.core) number) }
+    ensures dealer { OnOk result (IsDealer seat.new (arc_value table.now).shared.table_id) }
+    ensures left { OnOk result (seat.new.me.0 ≡ Book (unseated (core_state plan.now.core) (D.honest plan.now.device.value) (number + 1) (MOST_COPIERS - (number + 1)))) }
+    ensures dealt { IfOk result (λ s. s ≡ record { table = (arc_value table.now).shared.table_id; view = first_copier (core_state plan.now.core) number }) }
+{
+    let _plan = plan;
+    let table = Arc::try_clone(table)?;
+    let copier = table.shared.split_seat::<Deal>(seat);
+    Ok(CopySeat::new(table, copier, number))
+}
+
+// The seats of all copiers, in their order. They come before the owners'.
+fn deal_copiers<D: Device>(
+    alloc: Global,
+    table: &Arc<FarTable<D>, Global>,
+    seat: &mut Seat<u64, View>,
+    plan: &Plan<D>,
+) -> Result<Vec<CopySeat<D>>, AllocError>
+    requires dealer { IsDealer seat.old (arc_value table.now).shared.table_id }
+    requires first { seat.old.me.0 ≡ Book (unseated (core_state plan.now.core) (D.honest plan.now.device.value) 0 MOST_COPIERS) }
+    requires there { (c : ℕ) → c < MOST_COPIERS → CopierStands (first_copier (core_state plan.now.core) c) }
+    ensures dealer { OnOk result (IsDealer seat.new (arc_value table.now).shared.table_id) }
+    ensures left { OnOk result (seat.new.me.0 ≡ Book (unseated (core_state plan.now.core) (D.honest plan.now.device.value) MOST_COPIERS 0)) }
+    ensures dealt { IfOk result (λ v. v.items ≡ CopierSeats (arc_value table.now).shared.table_id (first_copier (core_state plan.now.core)) MOST_COPIERS) }
+{
+    let mut copiers = Vec::with_capacity(alloc, MOST_COPIERS as usize)?;
+    for number in 0..MOST_COPIERS {
+        let copier = deal_copier(table, seat, plan, number)?;
+        copiers.push_reserved(copier);
+    }
+    Ok(copiers)
+}
+
 impl<D: Device> BookSeat<D> {
-    // The book's seat, once each owner has one.
+    // The book's seat, once all others have theirs.
     fn new(table: Arc<FarTable<D>, Global>, seat: Seat<u64, View>, core: &Core) -> BookSeat<D>
         requires dealer { IsDealer seat (arc_value table).shared.table_id }
         requires view { (honest : Bool) × (book_of seat.me.0 ≡ waiting (core_state core.now) honest (core_state core.now).mutators 0) }
@@ -146,10 +190,11 @@ impl<D: Device> BookSeat<D> {
 fn seats_of<D: Device>(
     alloc: Global,
     plan: &Plan<D>,
-) -> Result<(BookSeat<D>, Vec<MutSeat<D>>), AllocError>
+) -> Result<(BookSeat<D>, Vec<MutSeat<D>>, Vec<CopySeat<D>>), AllocError>
     requires honest { (p : ℕ) → (core_state plan.now.core).cell p ≢ 0 → D.honest plan.now.device.value ≡ (core_state plan.now.core).honest }
     ensures book { IfOk result (λ r. book_in r.0 ≡ waiting (core_state plan.now.core) (D.honest plan.now.device.value) (core_state plan.now.core).mutators 0) }
     ensures owners { IfOk result (λ r. r.1.items ≡ Seats (table_of r.0) (first_owner (core_state plan.now.core) (D.honest plan.now.device.value)) (core_state plan.now.core).mutators) }
+    ensures copiers { IfOk result (λ r. r.2.items ≡ CopierSeats (table_of r.0) (first_copier (core_state plan.now.core)) MOST_COPIERS) }
     ensures starts { IfOk result (λ r. Starts (core_state plan.now.core) (D.honest plan.now.device.value) (book_in r.0)) }
 {
     plan.core.keeps_law();
@@ -157,25 +202,27 @@ fn seats_of<D: Device>(
     let words = words_of(alloc, &plan.core)?;
     let (table, mut seat) = Table::of_words(alloc, words.as_slice(), plan)?;
     let table = Arc::new(alloc, table)?;
+    let copiers = deal_copiers(alloc, &table, &mut seat, plan)?;
     let owners = deal_all(alloc, &table, &mut seat, plan)?;
-    Ok((BookSeat::new(table, seat, &plan.core), owners))
+    Ok((BookSeat::new(table, seat, &plan.core), owners, copiers))
 }
 
 /// Makes the shared table of a core's words, with the core's views as the seats': scopes that are open, places that are held,
-/// objects that are used, near or far, the round under way. The book's seat, and the owners' by number. All room that a seat
-/// ever needs is taken here. The rule is honest where the device is; where some cell is in use that has to be the core's own
-/// honesty.
+/// objects that are used, near or far, the round under way, jobs and what copiers have of them. The book's seat, the owners' by
+/// number, and the eight copiers' by number. All room that a seat ever needs is taken here. The rule is honest where the device
+/// is; where some cell is in use that has to be the core's own honesty.
 ///
 /// Refused [`Refused::Memory`] alone; then nothing was made, and the core is dropped.
 pub fn share<D: Device>(
     alloc: Global,
     core: Core,
     device: Snapshot<D>,
-) -> Result<(BookSeat<D>, Vec<MutSeat<D>>), Refused>
+) -> Result<(BookSeat<D>, Vec<MutSeat<D>>, Vec<CopySeat<D>>), Refused>
     requires honest { (p : ℕ) → (core_state core).cell p ≢ 0 → D.honest device.value ≡ (core_state core).honest }
     ensures refused { IfErr result (λ why. why ≡ Refused.Memory) }
     ensures book { IfOk result (λ r. book_in r.0 ≡ waiting (core_state core) (D.honest device.value) (core_state core).mutators 0) }
     ensures owners { IfOk result (λ r. r.1.items ≡ Seats (table_of r.0) (first_owner (core_state core) (D.honest device.value)) (core_state core).mutators) }
+    ensures copiers { IfOk result (λ r. r.2.items ≡ CopierSeats (table_of r.0) (first_copier (core_state core)) MOST_COPIERS) }
     ensures starts { IfOk result (λ r. Starts (core_state core) (D.honest device.value) (book_in r.0)) }
 {
     let plan = Plan { core, device };

@@ -1,5 +1,5 @@
 -- The job word: what a word says, and the word that says it.
-use Rattle.std.proofs.Common.{◌≡◌, ℕ, ◌+◌, ◌*◌, ◌/◌, ◌^◌, ◌<◌, ◌≤◌, true, false, nat_eq, nat_lt, sym, ◌∙◌, subst, refl, arith, Option, Some, IfSome, bit_or}
+use Rattle.std.proofs.Common.{◌≡◌, ℕ, ◌+◌, ◌*◌, ◌/◌, ◌^◌, ◌<◌, ◌≤◌, true, false, nat_eq, nat_lt, ◌∙◌, subst, refl, arith, Option, Some, IfSome, bit_or}
 use Rattle.std.proofs.lemmas.Bool.Decides.{nat_tests}
 use Rattle.far_word.specs.Job.{IsJob, IsJobWord, job_sum, job_word, job_in, names_job, staged, job_of}
 use Rattle.far_word.specs.Mark.{field}

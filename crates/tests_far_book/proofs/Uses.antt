@@ -30,8 +30,8 @@ use Rattle.far_book.specs.book.Own.{IsAtStart, own_part}
 pub at_start : (s : State) (shape : Shape) (honest : Bool) → s ≡ opening shape honest → IsAtStart s
 at_start s shape honest e = subst IsAtStart (sym e) refl
 
-pub beset_start : (s v : State) (shape : Shape) (honest : Bool) → s ≡ opening shape honest → v ≡ masked s s.cell (λ _. false) → IsAtStart v
-beset_start s v shape honest e is = subst IsAtStart (sym (is ∙ ap (λ (t : State). masked t t.cell (λ _. false)) e)) refl
+pub beset_start : (s v : State) (shape : Shape) (honest : Bool) → s ≡ opening shape honest → v ≡ masked s s.cell (λ _. false) s.copying.word → IsAtStart v
+beset_start s v shape honest e is = subst IsAtStart (sym (is ∙ ap (λ (t : State). masked t t.cell (λ _. false) t.copying.word) e)) refl
 
 pub dropped_home : (o : Option PtrWord) (place : Place) (marks : Marks) → Some (Near place marks) ≡ home_of o → marks.dropped ≡ true → is_dropped o ≡ true
 dropped_home None place marks e h = absurd cc

@@ -2,6 +2,7 @@
 
 mod acts;
 mod calls;
+mod copied;
 mod copiers;
 mod dropping;
 mod filling;

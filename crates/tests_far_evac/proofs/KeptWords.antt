@@ -115,8 +115,8 @@ may_begin m true false idle spent free = (idle, spent)
 may_begin m true true idle spent free = absurd (free refused.EpochsSpent (ap (λ b. cond b (cond (is_spent m.core) (Some refused.EpochsSpent) None) (Some refused.Phase)) idle ∙ ap (λ b. cond b (Some refused.EpochsSpent) None) spent))
 may_begin m false spent idle is free = absurd (free refused.Phase (ap (λ b. cond b (cond (is_spent m.core) (Some refused.EpochsSpent) None) (Some refused.Phase)) idle))
 
-pub made_round_keeps : (m t : Moment) (logs : List ℕ) (most turns : ℕ) (end : RoundEnd) → Law m.core → MomentLaw m → ((why : Refused) → unselectable m ≡ Some why → ⊥) →
+pub made_round_keeps : (m t : Moment) (logs : List ℕ) (most turns : ℕ) (end : RoundEnd) → Law m.core → MomentLaw m → m.copying ≡ false → ((why : Refused) → unselectable m ≡ Some why → ⊥) →
     IsChoice (map (row_of m.core) m.order) most logs → IsRound m logs turns end t → RoundKeepsObjects → KeepsObjects m.core t.core
-made_round_keeps m t logs most turns end law moment free choice round keeps =
+made_round_keeps m t logs most turns end law moment alone free choice round keeps =
     let begins = may_begin m (is_idle m.phase) (is_spent m.core) refl refl free in
-    keeps m logs turns end t law moment begins.0 begins.1 choice.once (λ l h. subst (λ ls. is_among ls l ≡ true) (rows_are m.core m.order) (choice.of_rows l h)) round
+    keeps m logs turns end t law moment alone begins.0 begins.1 choice.once (λ l h. subst (λ ls. is_among ls l ≡ true) (rows_are m.core m.order) (choice.of_rows l h)) round

@@ -12,17 +12,29 @@ use Rattle.far_core.specs.events.Naming.{is_dropped}
 use Rattle.far_core.specs.state.Opening.{opening}
 use Rattle.far_core.specs.state.State.{State}
 use Rattle.far_book.specs.declared.home.Home.TheVariants.{Near, Far}
+use Rattle.far_core.specs.state.CoreState.{core_state}
+use Rattle.far_hand.specs.BesetView.{beset_view}
+use Rattle.far_hand.specs.declared.beset.Beset.{Beset}
+use Rattle.far_hand.specs.declared.plain.Plain.{Plain}
 use Rattle.far_hand.specs.Masked.{masked}
 use Rattle.far_hand.specs.Quiet.{IsQuietNear}
 use Rattle.far_book.specs.book.Fetching.{IsFar}
 use Rattle.far_book.specs.book.Home.{home_of}
-use Rattle.far_book.specs.book.Own.{IsAtStart}
+use Rattle.far_book.specs.book.BookOf.{BookOf}
+use Rattle.far_book.specs.book.Own.{HasNoJob, IsAtStart}
 
 pub at_start : (s : State) (shape : Shape) (honest : Bool) → s ≡ opening shape honest → IsAtStart s
 at_start s shape honest e = subst IsAtStart (sym e) refl
 
-pub beset_start : (s v : State) (shape : Shape) (honest : Bool) → s ≡ opening shape honest → v ≡ masked s s.cell (λ _. false) → IsAtStart v
-beset_start s v shape honest e is = subst IsAtStart (sym (is ∙ ap (λ (t : State). masked t t.cell (λ _. false)) e)) refl
+pub beset_start : (s v : State) (shape : Shape) (honest : Bool) → s ≡ opening shape honest → v ≡ masked s s.cell (λ _. false) s.copying.word → IsAtStart v
+beset_start s v shape honest e is = subst IsAtStart (sym (is ∙ ap (λ (t : State). masked t t.cell (λ _. false) t.copying.word) e)) refl
+
+-- a book over a new core has no job
+pub at_start_alone : {D : Type 0} (b : BookOf Plain D) (near : Plain) (shape : Shape) (honest : Bool) → b.near ≡ near → core_state near.core ≡ opening shape honest → HasNoJob (core_state b.near.core)
+at_start_alone b near shape honest same e = subst HasNoJob (sym (ap (λ (x : Plain). core_state x.core) same ∙ e)) (λ j. refl)
+
+pub beset_alone : {D : Type 0} (b : BookOf Beset D) (near : Beset) (s : State) (shape : Shape) (honest : Bool) → b.near ≡ near → s ≡ opening shape honest → beset_view near ≡ masked s s.cell (λ _. false) s.copying.word → HasNoJob (beset_view b.near)
+beset_alone b near s shape honest same e is = subst HasNoJob (sym (ap beset_view same ∙ is ∙ ap (λ (t : State). masked t t.cell (λ _. false) t.copying.word) e)) (λ j. refl)
 
 pub dropped_home : (o : Option PtrWord) (place : Place) (marks : Marks) → Some (Near place marks) ≡ home_of o → marks.dropped ≡ true → is_dropped o ≡ true
 dropped_home None place marks e h = absurd cc

@@ -66,7 +66,7 @@ fn seats_of(alloc: Global, core: Core) -> Result<(Vec<MutSeat<MemDevice>>, Vec<K
     let Ok(all) = all_known(alloc, &core) else {
         return Err(Refused::Memory);
     };
-    let (_book, seats) = share(alloc, core, Snapshot::of(&device))?;
+    let (_book, seats, _copiers) = share(alloc, core, Snapshot::of(&device))?;
     Ok((seats, all))
 }
 

@@ -11,7 +11,7 @@ use Rattle.far_core.specs.state.State.{State}
 use Rattle.far_core.specs.world.WorldOf.{world_of}
 use Rattle.far_core.proofs.KeepOwner.{closed_word}
 use Rattle.far_hand.specs.Masked.{masked}
-use Rattle.far_book.specs.book.Own.{IsAtStart}
+use Rattle.far_book.specs.book.Own.{HasNoJob, IsAtStart}
 use Rattle.far_table.specs.First.{first_owner, open_epoch, seen_object}
 use Rattle.far_table.specs.Seats.{Seated}
 use Rattle.far_table.specs.Stands.{Seats}
@@ -62,5 +62,11 @@ fresh_seats xs table shape honest s e few is =
     }
 
 -- what the book's seat knows at the start
-pub seat_start : (s v : State) (shape : Shape) (honest : Bool) → s ≡ opening shape honest → v ≡ masked (record s { honest = honest }) s.cell (λ _. false) → IsAtStart v
-seat_start s v shape honest e is = subst IsAtStart (sym (is ∙ ap (λ (t : State). masked (record t { honest = honest }) t.cell (λ _. false)) e)) refl
+abbrev known_at : Bool → State → State
+known_at honest s = masked (record s { honest = honest }) s.cell (λ _. false) s.copying.word
+
+pub seat_start : (s v : State) (shape : Shape) (honest : Bool) → s ≡ opening shape honest → v ≡ known_at honest s → IsAtStart v
+seat_start s v shape honest e is = subst IsAtStart (sym (is ∙ ap (known_at honest) e)) refl
+
+pub jobs_start : (s v : State) (shape : Shape) (honest : Bool) → s ≡ opening shape honest → v ≡ known_at honest s → HasNoJob v
+jobs_start s v shape honest e is = subst HasNoJob (sym (is ∙ ap (known_at honest) e)) (λ _. refl)

@@ -1,1 +1,2 @@
 pub mod Fitting
+pub mod Resting

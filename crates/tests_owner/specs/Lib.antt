@@ -1,1 +1,3 @@
 pub mod Fits
+pub mod Used
+pub mod Works

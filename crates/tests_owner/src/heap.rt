@@ -1,5 +1,8 @@
 //! A heap whose words are shared from the start.
 
+ghost use Rattle.std.specs.Prelude.{IfOk};
+ghost use Rattle.far_book.specs.book.Own.{HasNoJob};
+ghost use Rattle.far_table.specs.BookSeats.{seat_view};
 ghost use Rattle.tests_owner.specs.Fits.{Fresh};
 
 use crate::owner::Owner;
@@ -46,11 +49,13 @@ fn owners_of(
     Ok(owners)
 }
 
-/// Makes a new heap on shared words. Refused [`Refused::Shape`], and [`Refused::Memory`].
-pub fn shared(alloc: Global, shape: Shape) -> Result<Shared, Refused> {
+/// Makes a new heap on shared words, with no job. Refused [`Refused::Shape`], and [`Refused::Memory`].
+pub fn shared(alloc: Global, shape: Shape) -> Result<Shared, Refused>
+    ensures alone { IfOk result (λ made. HasNoJob (seat_view made.0.near)) }
+{
     let device = MemDevice::new(alloc);
     let core = Core::new(alloc, shape, true)?;
-    let (seat, seats) = share(alloc, core, Snapshot::of(&device))?;
+    let (seat, seats, _copiers) = share(alloc, core, Snapshot::of(&device))?;
     let Ok(owners) = owners_of(alloc, seats) else {
         return Err(Refused::Memory);
     };

@@ -45,6 +45,21 @@ impl<D: Device> Owner<D> {
         })
     }
 
+    /// The first owner, whose scope is closed and who remembers no epoch, with how long the objects are that it uses, by its pointers. It
+    /// holds none of them.
+    pub(crate) fn knowing(seat: MutSeat<D>, lens: Vec<Option<u16>>, held: Vec<bool>) -> Owner<D>
+        requires { Fits seat.view 0 false false lens.items held.items }
+    {
+        Owner {
+            seat,
+            number: 0,
+            opened: false,
+            read: false,
+            lens,
+            held,
+        }
+    }
+
     /// Its number among the owners.
     pub fn number(&self) -> u8
         ensures { result < MOST_MUTATORS }
@@ -171,8 +186,8 @@ impl<D: Device> Owner<D> {
     }
 }
 
-// The length that a word says; 0 where it says none.
-fn len_in(word: u64) -> u16
+/// The length that a word says; 0 where it says none.
+pub(crate) fn len_in(word: u64) -> u16
     ensures { result ≡ said_len (read_of word) }
 {
     match PtrWord::read(word) {

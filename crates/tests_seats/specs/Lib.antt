@@ -1,1 +1,2 @@
 pub mod Marked
+pub mod Offers

@@ -40,7 +40,7 @@ use Rattle.far_book.proofs.region.Calls.{HasRoom, free_unplaced, placeable, put_
 use Rattle.far_book.proofs.region.FarSide.{far_without}
 use Rattle.far_book.proofs.region.Founds.{near_used, notes_found, notes_seen}
 use Rattle.far_book.proofs.region.InOrders.{found_keeps, headers_keep}
-use Rattle.far_book.proofs.region.Moved.{is_stayed, layout_here, moved_is, named_stays}
+use Rattle.far_book.proofs.region.Moved.{is_stayed, layout_here, moved_is, named_stays, no_copy}
 use Rattle.far_book.proofs.region.NotesKept.{notes_placed}
 use Rattle.far_book.proofs.region.Owns.{own_headers, own_written}
 use Rattle.far_book.proofs.region.Places.{law_then}
@@ -120,7 +120,7 @@ module _ {s : State} {ledger : Ledger} {held : ℕ → Option (List ℕ)} {is_ho
 
       module _ (u : State) (alive : m.dropped ≡ false) (wanted : m.evac ≡ true) (leaves : Leaves (moved s p to) u) where
         now : moved s p to ≡ with_span (with_written_span s p len ds to (data_at s.word from)) p (near_word len ds to) len to
-        now = moved_is s p len ds from to m x.near alive wanted able.layout
+        now = moved_is s p len ds from to m x.near alive wanted able.layout (no_copy s x.order.notes.law p from to is_room.next (omega (arith, is_room.fits)))
 
         own_moved : own_part u ≡ with_object (own_part freed) p len ds to
         own_moved = own_headers (moved s p to) u leaves.0 (λ a begun. leaves.1.headers a (ap (λ (v : State). v.starts a) leaves.0 ∙ begun))

@@ -45,6 +45,7 @@ use Rattle.far_book.specs.book.Effects.{evicted, evicted_of, far_word, with_free
 use Rattle.far_book.specs.book.Evicting.{IsQuietData, IsQuietIn, Learns}
 use Rattle.far_book.specs.book.FarSide.{HoldsFar, InOrder}
 use Rattle.far_book.specs.book.Ledger.{Loses, Notes, filled_of, is_noted_free}
+use Rattle.far_book.specs.book.Jobs.{NotesJobs}
 use Rattle.far_book.specs.book.NumberSet.{has}
 use Rattle.far_book.specs.book.Own.{own_part}
 use Rattle.far_book.specs.book.Renaming.{MayRename, Renamed, seen}
@@ -286,7 +287,7 @@ module _ {s : State} {p len ds : ℕ} {place : Place} (x : MayLeave s p len ds p
       once = subst (λ (n : Ledger). IsDistinct eqb n.order.items) (sym loses.rest) notes.once;
       room = subst (λ (n : Ledger). s.logs ≤ vec_capacity n.order) (sym loses.rest) notes.room;
       cells = ap (λ (n : Ledger). vec_len n.free_cells) loses.rest ∙ notes.cells;
-      unoffered = notes.unoffered;
+      jobs = subst (λ (n : Ledger). NotesJobs s.round_epoch s.round (own_part s).copying n.jobs) (sym loses.rest) notes.jobs;
       cell = λ q lt. ap (λ (n : Ledger). is_noted_free n q) loses.rest ∙ notes.cell q lt ∙ put_both (λ c. (s.cell q == 0) ≡ (c == 0)) s.cell p (far_word len ds) q
           (λ e. ap (λ k. s.cell k == 0) e ∙ near_used (s.cell p) len ds place x.quiet.marks x.quiet.near ∙ sym is_used) (λ _. refl);
     }

@@ -8,7 +8,7 @@ use Rattle.far_core.specs.state.State.{State, put}
 use Rattle.far_core.proofs.Put.{put_both}
 use Rattle.far_device.specs.Contents.{KeepsOthers}
 use Rattle.far_hand.specs.Finds.{Finds, body_of}
-use Rattle.far_hand.specs.Owners.{OwnersChange}
+use Rattle.far_hand.specs.Others.{OthersChange}
 use Rattle.far_book.specs.book.FarSide.{HoldsFar}
 use Rattle.far_book.proofs.region.Leaving.{far_cell}
 
@@ -23,7 +23,7 @@ module _ (s : State) (held : ℕ → Option (List ℕ)) (far : HoldsFar s held) 
       (λ same n. let x = far_known (s.cell p) w len ds m f n in far q len ds x.0 (ap (λ k. read_of (s.cell k)) same ∙ x.1)) (λ _ n. far q len ds m n) e
 
   -- owners are at work
-  pub far_owned : (t : State) → OwnersChange s t → HoldsFar t held
+  pub far_owned : (t : State) → OthersChange s t → HoldsFar t held
   far_owned t change p len ds m e =
       let x = far_known (s.cell p) (t.cell p) len ds m (change.cells p) e in
       far p len ds x.0 x.1 ∙ ap (λ (u : State). Some (bytes_of (u.stored p) len)) (sym change.rest)

@@ -106,7 +106,7 @@ module _ (s : State) (p w : ℕ) (names : (l at : ℕ) → names_place (read_of 
     once = notes.once;
     room = notes.room;
     cells = notes.cells;
-    unoffered = notes.unoffered;
+    jobs = notes.jobs;
     cell = λ q lt. notes.cell q lt ∙ put_both (λ c. (s.cell q == 0) ≡ (c == 0)) s.cell p w q (λ e. ap (λ x. s.cell x == 0) e ∙ sym free) (λ _. refl);
   }
 

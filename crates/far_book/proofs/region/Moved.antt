@@ -1,5 +1,5 @@
 -- A near object's cell names another place, or the same without marks, by the word that was found last.
-use Rattle.std.proofs.Common.{◌≡◌, ℕ, ◌*◌, ◌/◌, ◌%◌, ◌^◌, ◌<◌, Bool, true, false, cond, arith, sym, refl, ap, subst, ◌∙◌, Option, Some}
+use Rattle.std.proofs.Common.{◌≡◌, ℕ, ◌*◌, ◌/◌, ◌%◌, ◌^◌, ◌<◌, ◌≤◌, Bool, true, false, cond, arith, inl, sym, refl, ap, subst, ◌∙◌, Option, Some}
 use Rattle.std.specs.Prelude.{◌==◌, ◌&&◌, ◌||◌, not}
 use Rattle.std.proofs.lemmas.Bool.{eq-eqb, false≢true}
 use Rattle.far_word.specs.declared.mark.Marks.{Marks}
@@ -17,13 +17,19 @@ use Rattle.far_core.specs.events.Legal.{IsNext}
 use Rattle.far_core.specs.events.Name.{after_naming}
 use Rattle.far_core.specs.events.Naming.{IsNaming, is_dropped, is_stay, no_marks}
 use Rattle.far_core.specs.events.NewSpans.{with_span}
+use Rattle.far_core.specs.events.namings.Moves.{after_move}
 use Rattle.far_core.specs.events.Quiet.{is_quiet_cell}
 use Rattle.far_core.specs.events.Step.{after}
+use Rattle.far_core.specs.laws.Rooms.{IsRoom, RoomIs}
+use Rattle.far_core.specs.state.Law.{Law}
 use Rattle.far_core.specs.state.Room.{room}
 use Rattle.far_core.specs.state.State.{State, put, addr}
+use Rattle.far_core.proofs.Copied.{NoCopy, no_copy_there, none_copied}
+use Rattle.far_core.proofs.MadeNamings.{unbegun}
 use Rattle.far_core.proofs.Namings.{naming_only}
 use Rattle.far_core.proofs.Put.{put_same, put_both}
 use Rattle.far_core.proofs.Quieting.{quiet_fact}
+use Rattle.far_core.proofs.RoomLaws.{room_right}
 use Rattle.far_hand.specs.Finds.{Finds, marks_in}
 use Rattle.far_hand.specs.Known.{IsKnown}
 use Rattle.far_hand.specs.Quiet.{is_quiet}
@@ -31,10 +37,12 @@ use Rattle.far_book.specs.book.Dealing.{FindsDrop, Leaves, goal, goal_of, has_ev
 use Rattle.far_hand.specs.Quiet.{IsQuietNear}
 use Rattle.far_book.specs.book.Effects.{moved, moved_of, near_word, stayed, stayed_of, with_written_span}
 use Rattle.far_book.specs.book.Moving.{MayCopy, MayStay, Copied}
+use Rattle.far_book.specs.book.Own.{own_part}
 use Rattle.far_book.specs.book.Renaming.{seen, MayRename, Renamed}
 use Rattle.far_hand.proofs.Finding.{near_found}
 use Rattle.far_book.proofs.region.Calls.{put_put}
 use Rattle.far_book.proofs.region.Copying.{below_outside, first, from_inside, layout_there, outside, start_outside}
+use Rattle.far_book.proofs.region.Untaken.{no_copy_all}
 
 -- ---- the forms
 pub no_stay : (from to : Place) (m : Marks) → m.evac ≡ true → is_stay from to m ≡ false
@@ -44,14 +52,15 @@ no_stay from to m wanted = ap (λ b. (from.log == to.log) && (from.at == to.at) 
   and_false false = refl
 
 -- what names a place sends nothing far
-not_to_near : (old len ds n : ℕ) (to place : Place) → IsPtr (Near len ds to no_marks) → IsNaming (Evicts n place) (read_of old) (read_of (near_word len ds to)) → ⊥
+pub not_to_near : (old len ds n : ℕ) (to place : Place) → IsPtr (Near len ds to no_marks) → IsNaming (Evicts n place) (read_of old) (read_of (near_word len ds to)) → ⊥
 not_to_near old len ds n to place layout x = let odd : Some (Near len ds to no_marks) ≡ Some (Far n x.0 no_marks) = sym (read_back (Near len ds to no_marks) layout) ∙ x.5 in absurd cc
 
 module _ (s : State) (p old len ds : ℕ) (from to : Place) (m : Marks) (is : s.cell p ≡ old) (near : read_of old ≡ Some (Near len ds from m)) (alive : m.dropped ≡ false) (layout : IsPtr (Near len ds to no_marks)) where
-  -- a cell that names another place takes the span there
-  pub named_moves : m.evac ≡ true → after s (events.Name p old (near_word len ds to)) ≡ with_span s p (near_word len ds to) len to
-  named_moves wanted = rw (eq-eqb (s.cell p) old is)
-      (ap (after_naming s p (near_word len ds to)) (naming_only (Moves len ds from to) (read_of old) (read_of (near_word len ds to)) ((m, near, alive, no_stay from to m wanted), read_back (Near len ds to no_marks) layout)))
+  -- a cell that names another place takes the span there, where no job has copied the object
+  pub named_moves : m.evac ≡ true → NoCopy s.copying p from to → after s (events.Name p old (near_word len ds to)) ≡ with_span s p (near_word len ds to) len to
+  named_moves wanted uncopied = rw (eq-eqb (s.cell p) old is)
+      (ap (after_naming s p (near_word len ds to)) (naming_only (Moves len ds from to) (read_of old) (read_of (near_word len ds to)) ((m, near, alive, no_stay from to m wanted), read_back (Near len ds to no_marks) layout))
+      ∙ ap (after_move s p (near_word len ds to) len to) (none_copied s p from to uncopied))
 
 module _ (s : State) (p old len ds : ℕ) (place : Place) (m : Marks) (is : s.cell p ≡ old) (near : read_of old ≡ Some (Near len ds place m)) (alive : m.dropped ≡ false) (layout : IsPtr (Near len ds place no_marks)) where
   -- one that names the same place loses its marks
@@ -59,9 +68,18 @@ module _ (s : State) (p old len ds : ℕ) (place : Place) (m : Marks) (is : s.ce
   named_stays asked unwanted = rw (eq-eqb (s.cell p) old is)
       (ap (after_naming s p (near_word len ds place)) (naming_only Stays (read_of old) (read_of (near_word len ds place)) (len, ds, place, m, near, alive, asked, unwanted, read_back (Near len ds place no_marks) layout)))
 
-pub moved_is : (s : State) (p len ds : ℕ) (from to : Place) (m : Marks) → read_of (s.cell p) ≡ Some (Near len ds from m) → m.dropped ≡ false → m.evac ≡ true → IsPtr (Near len ds to no_marks) →
+-- where the next span of a log may stand no job has copied anything
+pub no_copy : (s : State) → Law (own_part s) → (p : ℕ) (from to : Place) → IsNext s to → to.at < LOG_WORDS → NoCopy s.copying p from to
+no_copy s law p from to next low = no_copy_all s.copying p from to (no_copy_there (own_part s) law p from to (unbegun (own_part s) law to next low))
+
+pub no_copy_in_room : (s : State) → Law (own_part s) → (p size : ℕ) (from to : Place) (reserve : Bool) → 0 < size → size ≤ LOG_WORDS → room s size reserve ≡ Some to → NoCopy s.copying p from to
+no_copy_in_room s law p size from to reserve some most found =
+    let is_room : IsRoom (own_part s) size reserve to = subst (RoomIs (own_part s) size reserve) found (room_right (own_part s) law size reserve most) in
+    no_copy s law p from to is_room.next (omega (arith, is_room.fits, some))
+
+pub moved_is : (s : State) (p len ds : ℕ) (from to : Place) (m : Marks) → read_of (s.cell p) ≡ Some (Near len ds from m) → m.dropped ≡ false → m.evac ≡ true → IsPtr (Near len ds to no_marks) → NoCopy s.copying p from to →
     moved s p to ≡ with_span (with_written_span s p len ds to (data_at s.word from)) p (near_word len ds to) len to
-moved_is s p len ds from to m near alive wanted layout = ap (moved_of s p to) near ∙ named_moves (with_written_span s p len ds to (data_at s.word from)) p (s.cell p) len ds from to m refl near alive layout wanted
+moved_is s p len ds from to m near alive wanted layout uncopied = ap (moved_of s p to) near ∙ named_moves (with_written_span s p len ds to (data_at s.word from)) p (s.cell p) len ds from to m refl near alive layout wanted uncopied
 
 pub stayed_is : (s : State) (p len ds : ℕ) (place : Place) (m : Marks) → read_of (s.cell p) ≡ Some (Near len ds place m) → m.dropped ≡ false → m.moved ≡ true → m.evac ≡ false → IsPtr (Near len ds place no_marks) →
     stayed s p ≡ record s { cell = put s.cell p (near_word len ds place) }
@@ -131,6 +149,9 @@ module _ (s t : State) (p len ds : ℕ) (from to : Place) (h : MayCopy s p len d
   evac : h.marks.evac ≡ true
   evac = evac_of (read_of (s.cell p)) true len ds from h.marks h.near wanted
 
+  uncopied : NoCopy s.copying p from to
+  uncopied = no_copy s h.law p from to h.next (omega (arith, h.fits))
+
   cell_same : t.cell ≡ s.cell
   cell_same = ap (λ (x : State). x.cell) c.is
 
@@ -154,13 +175,13 @@ module _ (s t : State) (p len ds : ℕ) (from to : Place) (h : MayCopy s p len d
           (
             Moves len ds from to,
             ((x.marks, x.near, drop_of (read_of w) len ds from x.marks x.near kept, no_stay from to x.marks (x.same ∙ evac)), read_back (Near len ds to no_marks) layout),
-            record {
+            inl (record {
               span = record { next = subst (λ (y : State). IsNext y to) (sym c.is) h.next; head = c.header };
               padded = c.padded;
               quiet = quiet_fact (seen t p w) p is_quiet_now;
               log = subst (λ (y : State). from.log < y.logs) (sym c.is) (from_inside s p len ds from to h);
               same = c.same;
-            },
+            }),
           ),
         ),
         λ n place x i lt. absurd (not_to_near w len ds n to place layout x),
@@ -170,7 +191,7 @@ module _ (s t : State) (p len ds : ℕ) (from to : Place) (h : MayCopy s p len d
   written = with_written_span s p len ds to (data_at s.word from)
 
   is_moved : moved s p to ≡ with_span written p new len to
-  is_moved = moved_is s p len ds from to h.marks h.near (drop_of (read_of (s.cell p)) len ds from h.marks h.near alive) evac layout
+  is_moved = moved_is s p len ds from to h.marks h.near (drop_of (read_of (s.cell p)) len ds from h.marks h.near alive) evac layout uncopied
 
   pub moved_leaves : (u : State) → Renamed t u p new → Leaves (moved s p to) u
   moved_leaves u r = (leads, record { known = known; headers = headers }) where
@@ -179,7 +200,7 @@ module _ (s t : State) (p len ds : ℕ) (from to : Place) (h : MayCopy s p len d
 
     leads : u ≡ record (moved s p to) { word = u.word }
     leads = r.leads
-        ∙ ap (λ (y : State). record y { word = u.word }) (named_moves (seen t p r.word) p r.word len ds from to x.0 (put_same t.cell p r.word p refl) x.1 x.3 layout x.2)
+        ∙ ap (λ (y : State). record y { word = u.word }) (named_moves (seen t p r.word) p r.word len ds from to x.0 (put_same t.cell p r.word p refl) x.1 x.3 layout x.2 (subst (λ (y : State). NoCopy y.copying p from to) (sym c.is) uncopied))
         ∙ ap (λ (y : State). record (with_span (seen y p r.word) p new len to) { word = u.word }) c.is
         ∙ (λ i. record (with_span s p new len to) { cell = put_put s.cell p r.word new i; word = u.word })
         ∙ ap (λ (y : State). record y { word = u.word }) (sym is_moved)

@@ -20,6 +20,7 @@ use Rattle.far_core.specs.state.State.{State, addr}
 use Rattle.far_core.specs.world.Changes.{Step, Moves, Unmarks}
 use Rattle.far_core.specs.world.WorldOf.{world_of}
 use Rattle.far_core.proofs.Bounds.{span_len}
+use Rattle.far_core.proofs.Copied.{NoCopy}
 use Rattle.far_core.proofs.Namings.{naming_only}
 use Rattle.far_core.proofs.NewSpans.{takes_span}
 use Rattle.far_core.proofs.Put.{put_same, put_other, put_old}
@@ -33,7 +34,7 @@ use Rattle.far_book.specs.book.Reached.{Reached}
 use Rattle.far_hand.proofs.Finding.{finds_same}
 use Rattle.far_book.proofs.region.Coming.{stands}
 use Rattle.far_book.proofs.region.Copying.{at_end, first, from_outside, head, layout_there, outside}
-use Rattle.far_book.proofs.region.Moved.{may_rename, moved_is, no_stay, stayed_is}
+use Rattle.far_book.proofs.region.Moved.{may_rename, moved_is, no_copy, no_stay, stayed_is}
 use Rattle.far_book.proofs.region.Owns.{own_law}
 use Rattle.far_book.proofs.region.Reaching.{named, written_named}
 
@@ -54,6 +55,9 @@ module _ (s : State) (law : Law s) (p len ds : ℕ) (from to : Place) (m : Marks
 
   layout : IsPtr (Near len ds to no_marks)
   layout = layout_there s p len ds from to may
+
+  uncopied : NoCopy s.copying p from to
+  uncopied = no_copy s may.law p from to is_room.next (omega (arith, is_room.fits))
 
   abbrev row : ℕ → ℕ
   row = data_at s.word from
@@ -96,7 +100,7 @@ module _ (s : State) (law : Law s) (p len ds : ℕ) (from to : Place) (m : Marks
 
   is_moved : IsMoved s (moved s p to) p len ds from to
   is_moved = let span = takes_span s law p new len to in
-      subst (λ (t : State). IsMoved s t p len ds from to) (sym (moved_is s p len ds from to m near alive wanted layout)) record {
+      subst (λ (t : State). IsMoved s t p len ds from to) (sym (moved_is s p len ds from to m near alive wanted layout uncopied)) record {
         cell = ap read_of (put_same s.cell p new p refl) ∙ read_back (Near len ds to no_marks) layout;
         cells = λ q ne. put_other s.cell p new q ne;
         header = first s p len ds from to may;

@@ -1,6 +1,6 @@
 -- A ledger that was right is right again after a span was taken, or a cell freed.
 use Rattle.std.proofs.Common.{◌≡◌, ◌≢◌, ℕ, ◌+◌, ◌*◌, ◌<◌, ◌≤◌, Bool, true, false, arith, sym, refl, ap, subst, ◌∙◌, Some, List, [], ◌∷◌, ◌++◌, length, inl, inr, nat_lt}
-use Rattle.std.specs.Prelude.{◌&&◌, ◌||◌, ◌==◌, not, eqb, slice_index_or}
+use Rattle.std.specs.Prelude.{◌&&◌, ◌||◌, ◌==◌, not, cond, eqb, slice_index_or}
 use Rattle.std.specs.Cmp.{nat_eq_equiv}
 use Rattle.std.specs.List.{IsDistinct, list_any}
 use Rattle.std.specs.Vec.{vec_len, vec_capacity}
@@ -27,8 +27,10 @@ use Rattle.far_core.specs.state.State.{State, put}
 use Rattle.far_core.proofs.Put.{put_both}
 use Rattle.far_book.specs.declared.ledger.Filled.{Filled}
 use Rattle.far_book.specs.declared.ledger.Ledger.{Ledger}
+use Rattle.far_book.specs.declared.number_set.NumberSet.{NumberSet}
 use Rattle.far_book.specs.book.Effects.{near_word, with_free_cell}
 use Rattle.far_book.specs.book.Ledger.{Notes, filled_of, is_noted_free, Takes, Loses, Frees}
+use Rattle.far_book.specs.book.Jobs.{NotesJobs}
 use Rattle.far_book.specs.book.NumberSet.{has}
 use Rattle.far_book.specs.book.Placeable.{Placeable, with_object}
 use Rattle.far_book.proofs.region.Places as places
@@ -78,51 +80,57 @@ and_false : (b : Bool) → (b && false) ≡ false
 and_false true = refl
 and_false false = refl
 
--- ---- a span is taken
-module _ (s : State) (ledger new : Ledger) (notes : Notes s ledger) (p len ds : ℕ) (place : Place) (h : Placeable s p len ds place) (kept : Law (with_object s p len ds place)) (takes : Takes ledger new p (size_of len) place) where
-  abbrev then : State
-  then = with_object s p len ds place
+-- ---- a log is the open one
+module _ (s : State) (ledger : Ledger) (notes : Notes s ledger) (place : Place) (next : IsNext s place) where
+  -- the kinds after it: the log is open, the one that was open is sealed
+  abbrev kind_then : ℕ → Kind
+  kind_then = put (put s.kind s.current kinds.Sealed) place.log kinds.Open
 
   -- where the log isn't the open one, it was free
   was_free : place.log ≢ s.current → s.kind place.log ≡ kinds.Free
-  was_free ne = by_next h.next where
+  was_free ne = by_next next where
     by_next : IsNext s place → s.kind place.log ≡ kinds.Free
     by_next (log, inl end) = absurd (ne (notes.law.logs.one_open place.log end.0))
     by_next (log, inr free) = free.0
 
-  -- the kinds after it: the log is open, the one that was open is sealed
-  by_kind : (f : Kind → Bool) (l : ℕ) (b : Bool) → (l ≡ place.log → b ≡ f kinds.Open) → (l ≢ place.log → l ≡ s.current → b ≡ f kinds.Sealed) → (l ≢ place.log → l ≢ s.current → b ≡ f (s.kind l)) → b ≡ f (then.kind l)
+  by_kind : (f : Kind → Bool) (l : ℕ) (b : Bool) → (l ≡ place.log → b ≡ f kinds.Open) → (l ≢ place.log → l ≡ s.current → b ≡ f kinds.Sealed) → (l ≢ place.log → l ≢ s.current → b ≡ f (s.kind l)) → b ≡ f (kind_then l)
   by_kind f l b here was other = put_both (λ k. b ≡ f k) (put s.kind s.current kinds.Sealed) place.log kinds.Open l here
       (λ ne. put_both (λ k. b ≡ f k) s.kind s.current kinds.Sealed l (was ne) (other ne))
 
-  free_then : (l : ℕ) → l < 64 → has new.free_logs l ≡ (nat_lt l s.logs && is_free (then.kind l))
-  free_then l few = takes.free l few ∙ by_kind (λ k. nat_lt l s.logs && is_free k) l (not (l == place.log) && has ledger.free_logs l)
+  pub free_then : (logs : NumberSet) → ((l : ℕ) → l < 64 → has logs l ≡ (not (l == place.log) && has ledger.free_logs l)) → (l : ℕ) → l < 64 → has logs l ≡ (nat_lt l s.logs && is_free (kind_then l))
+  free_then logs less l few = less l few ∙ by_kind (λ k. nat_lt l s.logs && is_free k) l (not (l == place.log) && has ledger.free_logs l)
       (λ e. rw (eq-eqb l place.log e) (sym (and_false (nat_lt l s.logs))))
       (λ ne e. rw (ne_eqb l place.log ne) (notes.free l few ∙ ap (λ k. nat_lt l s.logs && is_free k) (ap s.kind e ∙ notes.law.logs.is_open)))
       (λ ne _. rw (ne_eqb l place.log ne) (notes.free l few))
 
-  sealed_then : (l : ℕ) → list_any (eqb l) new.order.items ≡ is_sealed (then.kind l)
-  sealed_then l = ap (list_any (eqb l)) takes.order ∙ cond_both (place.log == ledger.current) ledger.order.items (ledger.order.items ++ ledger.current ∷ []) (λ (xs : List ℕ). list_any (eqb l) xs ≡ is_sealed (then.kind l))
-      (λ e. let same : place.log ≡ s.current = eqb-true place.log ledger.current e ∙ notes.current in by_kind is_sealed l (list_any (eqb l) ledger.order.items)
-      (λ e2. notes.sealed l ∙ ap is_sealed (ap s.kind (e2 ∙ same) ∙ notes.law.logs.is_open))
-      (λ ne e2. absurd (ne (e2 ∙ sym same)))
-      (λ _ _. notes.sealed l))
-      (λ ne. let other : place.log ≢ s.current = (λ is. eqb-false place.log ledger.current ne (is ∙ sym notes.current)) in
-      let more : list_any (eqb l) (ledger.order.items ++ ledger.current ∷ []) ≡ (is_sealed (s.kind l) || eqb l s.current) = list_any-append (eqb l) ledger.order.items (ledger.current ∷ []) ∙ (λ i. notes.sealed l i || or_false (eqb l (notes.current i)) i) in
-      more ∙ by_kind is_sealed l (is_sealed (s.kind l) || eqb l s.current)
-      (λ e2. rw (e2, was_free other) (ne_eqb place.log s.current other))
-      (λ _ e2. rw (e2, notes.law.logs.is_open) (eq-eqb s.current s.current refl))
-      (λ _ ne2. rw (ne_eqb l s.current ne2) (or_false (is_sealed (s.kind l)))))
+  module _ (order : List ℕ) (is : order ≡ cond (place.log == ledger.current) ledger.order.items (ledger.order.items ++ ledger.current ∷ [])) where
+    pub sealed_then : (l : ℕ) → list_any (eqb l) order ≡ is_sealed (kind_then l)
+    sealed_then l = ap (list_any (eqb l)) is ∙ cond_both (place.log == ledger.current) ledger.order.items (ledger.order.items ++ ledger.current ∷ []) (λ (xs : List ℕ). list_any (eqb l) xs ≡ is_sealed (kind_then l))
+        (λ e. let same : place.log ≡ s.current = eqb-true place.log ledger.current e ∙ notes.current in by_kind is_sealed l (list_any (eqb l) ledger.order.items)
+        (λ e2. notes.sealed l ∙ ap is_sealed (ap s.kind (e2 ∙ same) ∙ notes.law.logs.is_open))
+        (λ ne e2. absurd (ne (e2 ∙ sym same)))
+        (λ _ _. notes.sealed l))
+        (λ ne. let other : place.log ≢ s.current = (λ is. eqb-false place.log ledger.current ne (is ∙ sym notes.current)) in
+        let more : list_any (eqb l) (ledger.order.items ++ ledger.current ∷ []) ≡ (is_sealed (s.kind l) || eqb l s.current) = list_any-append (eqb l) ledger.order.items (ledger.current ∷ []) ∙ (λ i. notes.sealed l i || or_false (eqb l (notes.current i)) i) in
+        more ∙ by_kind is_sealed l (is_sealed (s.kind l) || eqb l s.current)
+        (λ e2. rw (e2, was_free other) (ne_eqb place.log s.current other))
+        (λ _ e2. rw (e2, notes.law.logs.is_open) (eq-eqb s.current s.current refl))
+        (λ _ ne2. rw (ne_eqb l s.current ne2) (or_false (is_sealed (s.kind l)))))
 
-  once_then : IsDistinct eqb new.order.items
-  once_then = subst (IsDistinct eqb) (sym takes.order) (cond_both (place.log == ledger.current) ledger.order.items (ledger.order.items ++ ledger.current ∷ []) (IsDistinct eqb)
-      (λ _. notes.once) (λ _. subst (λ c. IsDistinct eqb (ledger.order.items ++ c ∷ [])) (sym notes.current) (with_current s ledger notes)))
+    pub once_then : IsDistinct eqb order
+    once_then = subst (IsDistinct eqb) (sym is) (cond_both (place.log == ledger.current) ledger.order.items (ledger.order.items ++ ledger.current ∷ []) (IsDistinct eqb)
+        (λ _. notes.once) (λ _. subst (λ c. IsDistinct eqb (ledger.order.items ++ c ∷ [])) (sym notes.current) (with_current s ledger notes)))
 
-  tail_then : (l : ℕ) → l < s.logs → (filled_of new l).tail ≡ then.tail l
-  tail_then l lt = put_both (λ t. (filled_of new l).tail ≡ t) s.tail place.log (place.at + size_of len) l
-      (λ e. let at : place.at ≡ s.tail place.log = places.at_end s notes.law p len ds place h in
-      ap (λ k. (filled_of new k).tail) e ∙ ap (λ (f : Filled). f.tail) takes.here ∙ ap (λ n. n + size_of len) (notes.tails place.log h.next.0 ∙ sym at))
-      (λ ne. ap (λ (f : Filled). f.tail) (takes.there l ne) ∙ notes.tails l lt)
+  pub tail_then : (new : Ledger) (size : ℕ) → place.at ≡ s.tail place.log → (filled_of new place.log).tail ≡ (filled_of ledger place.log).tail + size →
+      ((l : ℕ) → l ≢ place.log → filled_of new l ≡ filled_of ledger l) → (l : ℕ) → l < s.logs → (filled_of new l).tail ≡ put s.tail place.log (place.at + size) l
+  tail_then new size at here there l lt = put_both (λ t. (filled_of new l).tail ≡ t) s.tail place.log (place.at + size) l
+      (λ e. ap (λ k. (filled_of new k).tail) e ∙ here ∙ ap (λ n. n + size) (notes.tails place.log next.0 ∙ sym at))
+      (λ ne. ap (λ (f : Filled). f.tail) (there l ne) ∙ notes.tails l lt)
+
+-- ---- a span is taken
+module _ (s : State) (ledger new : Ledger) (notes : Notes s ledger) (p len ds : ℕ) (place : Place) (h : Placeable s p len ds place) (kept : Law (with_object s p len ds place)) (takes : Takes ledger new p (size_of len) place) where
+  abbrev then : State
+  then = with_object s p len ds place
 
   live_then : (l : ℕ) → l < s.logs → (filled_of new l).live ≡ live_bytes then l
   live_then l lt = elim (cases_eq l place.log) [
@@ -143,16 +151,16 @@ module _ (s : State) (ledger new : Ledger) (notes : Notes s ledger) (p len ds : 
   notes_placed = record {
     law = kept;
     current = takes.current;
-    free = free_then;
+    free = free_then s ledger notes place h.next new.free_logs takes.free;
     logs = takes.logs ∙ notes.logs;
-    tails = tail_then;
+    tails = tail_then s ledger notes place h.next new (size_of len) (places.at_end s notes.law p len ds place h) (ap (λ (f : Filled). f.tail) takes.here) takes.there;
     lives = live_then;
-    sealed = sealed_then;
-    once = once_then;
+    sealed = sealed_then s ledger notes place h.next new.order.items takes.order;
+    once = once_then s ledger notes place h.next new.order.items takes.order;
     room = omega (arith, takes.room, notes.room);
     cells = takes.cells ∙ notes.cells;
     cell = cell_then;
-    unoffered = notes.unoffered;
+    jobs = subst (NotesJobs s.round_epoch s.round s.copying) (sym takes.jobs) notes.jobs;
   }
 
 -- ---- a cell is freed
@@ -180,7 +188,7 @@ module _ (s : State) (ledger new : Ledger) (notes : Notes s ledger) (p : ℕ) (i
         room = subst (λ (n : Ledger). s.logs ≤ vec_capacity n.order) (sym frees.rest) notes.room;
         cells = frees.cells ∙ notes.cells;
         cell = cell_freed frees.cell;
-        unoffered = notes.unoffered;
+        jobs = subst (λ (n : Ledger). NotesJobs s.round_epoch s.round s.copying n.jobs) (sym frees.rest) notes.jobs;
       }
 
   -- the object was near
@@ -209,6 +217,6 @@ module _ (s : State) (ledger new : Ledger) (notes : Notes s ledger) (p : ℕ) (i
         once = subst (λ (n : Ledger). IsDistinct eqb n.order.items) (sym rest) notes.once;
         room = subst (λ (n : Ledger). s.logs ≤ vec_capacity n.order) (sym rest) notes.room;
         cells = frees.cells ∙ ap (λ (n : Ledger). vec_len n.free_cells) loses.rest ∙ notes.cells;
-        unoffered = notes.unoffered;
+        jobs = subst (λ (n : Ledger). NotesJobs s.round_epoch s.round s.copying n.jobs) (sym rest) notes.jobs;
         cell = cell_freed (λ q. frees.cell q ∙ ap (λ (n : Ledger). (q == p) || is_noted_free n q) loses.rest);
       }

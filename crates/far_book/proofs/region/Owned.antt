@@ -1,48 +1,61 @@
 -- Owners' events, one or a row of stores, leave a book in order.
-use Rattle.std.proofs.Common.{◌≡◌, ℕ, ◌+◌, ◌^◌, ◌<◌, true, cond, arith, sym, refl, ap, subst, ◌∙◌, List, [], ◌∷◌, map, inl, inr}
+use Rattle.std.proofs.Common.{◌≡◌, ℕ, ◌+◌, ◌^◌, ◌<◌, true, cond, sym, refl, ap, subst, ◌∙◌, List, [], ◌∷◌, map, inl, inr}
 use Rattle.std.specs.Prelude.{◌==◌, Bool, Option, slice_index}
-use Rattle.std.proofs.lemmas.Bool.{cond_both, cases_eq, eq-eqb, ne_eqb, false≢true}
+use Rattle.std.proofs.lemmas.Bool.{cond_both, cases_eq, eq-eqb, ne_eqb}
 use Rattle.far_log.specs.Spans.{taken_by}
 use Rattle.far_core.specs.declared.event.Event.{Event}
 use Rattle.far_core.specs.declared.event.Event.TheVariants.{Store}
 use Rattle.far_core.specs.events.Ranges.{after_events}
 use Rattle.far_core.specs.events.Step.{step_of}
 use Rattle.far_core.specs.laws.Observed.{live_bytes}
-use Rattle.far_core.specs.state.Law.{Law, head_len}
+use Rattle.far_core.specs.state.Jobs.{job_at}
+use Rattle.far_core.specs.state.Law.{Law}
 use Rattle.far_core.specs.state.Spans.{spans_of, is_live}
-use Rattle.far_core.specs.state.State.{State, addr}
-use Rattle.far_core.proofs.Bounds.{span_len}
+use Rattle.far_core.specs.state.State.{State}
 use Rattle.far_core.proofs.Keeps.{step_keeps}
 use Rattle.far_book.specs.declared.ledger.Ledger.{Ledger}
-use Rattle.far_hand.specs.Owners.{OwnersChange}
+use Rattle.far_hand.specs.Makers.{ByBook, ByCopier, ByOwner, Maker, is_other, is_others, is_owner, is_owners, maker}
+use Rattle.far_hand.specs.Others.{OthersChange}
 use Rattle.far_book.specs.book.FarSide.{InOrder}
 use Rattle.far_book.specs.book.Ledger.{Notes}
-use Rattle.far_book.specs.book.Own.{own_part}
-use Rattle.far_hand.proofs.OwnersWork.{step_changes}
+use Rattle.far_book.specs.book.Own.{own_part, untaken}
+use Rattle.far_hand.proofs.JobsFound.{same_job}
+use Rattle.far_hand.proofs.Masking.{header_still}
+use Rattle.far_hand.proofs.OthersWork.{step_changes}
 use Rattle.far_book.proofs.region.FarSide.{far_owned}
 use Rattle.far_book.proofs.region.Founds.{names_found, free_found, free_known}
+use Rattle.far_book.proofs.region.JobNotes.{notes_same}
 use Rattle.far_book.proofs.region.Owns.{own_law}
 use Rattle.far_book.proofs.region.SpanLists.{taken_same}
+use Rattle.far_book.proofs.region.Untaken.{untaken_said}
 
-module _ (s t : State) (law : Law s) (next : Law t) (change : OwnersChange s t) where
+-- an owner is another than the book
+other_owner : (m : Maker) → is_owner m ≡ true → is_other m ≡ true
+other_owner ByBook h = h
+other_owner (ByOwner m) h = refl
+other_owner (ByCopier c) h = refl
+
+pub owners_others : (e : Event) → is_owners e ≡ true → is_others e ≡ true
+owners_others e h = other_owner (maker e) h
+
+module _ (s t : State) (law : Law s) (next : Law t) (change : OthersChange s t) where
   -- a header is no data word
   header_stays : (a : ℕ) → s.starts a ≡ true → t.word a ≡ s.word a
-  header_stays a begun = change.words a (λ loud.
-      let there = law.cells.cell_near loud.p loud.len loud.ds loud.place loud.marks loud.near in
-      let span = law.spans.span (addr loud.place) there.placed in
-      let long : head_len (s.word (addr loud.place)) ≡ loud.len = rw (span_len s law loud.p loud.len loud.ds loud.place loud.marks loud.near) refl in
-      let at : addr loud.place + (1 + loud.index) ≡ a = omega (arith, loud.here) in
-      false≢true (sym (span.alone (1 + loud.index) (omega arith) (omega (arith, loud.inside))) ∙ ap s.starts at ∙ begun))
+  header_stays a begun = change.words a (header_still s law a begun)
 
   own_word : (a : ℕ) → cond (s.starts a) (t.word a) 0 ≡ cond (s.starts a) (s.word a) 0
   own_word a = cond_both (s.starts a) (t.word a) 0 (λ w. w ≡ cond (s.starts a) (s.word a) 0)
       (λ begun. header_stays a begun ∙ sym (ap (λ b. cond b (s.word a) 0) begun)) (λ none. sym (ap (λ b. cond b (s.word a) 0) none))
 
-  own_is : own_part t ≡ record (own_part s) { cell = t.cell }
-  own_is = ap own_part change.rest ∙ (λ i. record (own_part s) { cell = t.cell; word = λ a. own_word a i })
+  own_is : own_part t ≡ record (own_part s) { cell = t.cell; copying = record (own_part s).copying { word = λ j. untaken (t.copying.word j) } }
+  own_is = ap own_part change.rest ∙ (λ i. record (own_part s) { cell = t.cell; word = λ a. own_word a i; copying = record (own_part s).copying { word = λ j. untaken (t.copying.word j) } })
 
   abbrev changed : State
-  changed = record (own_part s) { cell = t.cell }
+  changed = record (own_part s) { cell = t.cell; copying = record (own_part s).copying { word = λ j. untaken (t.copying.word j) } }
+
+  -- copiers have gone on with jobs, and each is the same
+  jobs_same : (j : ℕ) → job_at changed.copying.word j ≡ job_at (own_part s).copying.word j
+  jobs_same j = untaken_said (t.copying.word j) ∙ same_job (s.copying.word j) (t.copying.word j) (change.jobs j) ∙ sym (untaken_said (s.copying.word j))
 
   same_spans : (l : ℕ) → spans_of changed l ≡ spans_of (own_part s) l
   unfolding spans_of
@@ -70,7 +83,7 @@ module _ (s t : State) (law : Law s) (next : Law t) (change : OwnersChange s t) 
     room = notes.room;
     cells = notes.cells;
     cell = λ p lt. notes.cell p lt ∙ sym (same_free p);
-    unoffered = notes.unoffered;
+    jobs = notes_same s.round_epoch s.round (own_part s).copying ledger.jobs notes.jobs (λ j. untaken (t.copying.word j)) jobs_same;
   }
 
   pub owned : (ledger : Ledger) (held : ℕ → Option (List ℕ)) (is_honest : Bool) → InOrder s ledger held is_honest → InOrder t ledger held is_honest

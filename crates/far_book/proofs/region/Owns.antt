@@ -1,5 +1,5 @@
 -- The book's own part of a state: it keeps the law, has the same spans, and changes by the book's calls alone.
-use Rattle.std.proofs.Common.{◌≡◌, ℕ, ◌+◌, ◌-◌, ◌*◌, ◌^◌, ◌<◌, ◌≤◌, true, false, cond, zero, suc, arith, sym, refl, ap, subst, ◌∙◌, Some, None, List, [], ◌∷◌, inl, inr, nat_lt}
+use Rattle.std.proofs.Common.{◌≡◌, ℕ, ◌+◌, ◌-◌, ◌*◌, ◌^◌, ◌<◌, ◌≤◌, true, false, cond, zero, suc, arith, sym, refl, ap, subst, ◌∙◌, Some, List, [], ◌∷◌, inl, inr, nat_lt}
 use Rattle.std.specs.Prelude.{Contains, not}
 use Rattle.std.proofs.lemmas.Bool.{cond_both, cases_eq, false≢true, ltb-true, ltb-false}
 use Rattle.std.proofs.lemmas.Nat.{pow_pos}
@@ -8,32 +8,31 @@ use Rattle.far_word.specs.declared.pointer.Place.{Place}
 use Rattle.far_word.specs.declared.scope.ScopeWord.TheVariants as scoped
 use Rattle.far_word.specs.declared.sizes.TheConstants.{LOG_WORDS}
 use Rattle.far_word.specs.Header.{head_of, head_word}
-use Rattle.far_word.specs.Job.{job_of}
 use Rattle.far_word.specs.Sizes.{size_of, words_for}
 use Rattle.far_log.specs.declared.span.Span.{Span}
 use Rattle.far_log.specs.Spans.{Tile, span_at, spans_from, spans_in, taken_by, pointer_in, ds_in}
 use Rattle.far_log.proofs.Members.{here, there}
 use Rattle.far_log.proofs.SpanLaws.{tile_low}
 use Rattle.far_word.specs.Pointer.{read_of}
-use Rattle.far_core.specs.events.Get.{IsUncopied}
 use Rattle.far_core.specs.events.Naming.{is_dropped}
 use Rattle.far_core.specs.events.NewSpans.{with_span}
 use Rattle.far_core.specs.events.Ranges.{with_row}
 use Rattle.far_core.specs.laws.Observed.{live_bytes, dead_bytes}
-use Rattle.far_core.specs.state.Jobs.{CopyLaw, job_said}
+use Rattle.far_core.specs.state.Jobs.{CopyLaw}
 use Rattle.far_core.specs.state.Law.{Law, head_len}
 use Rattle.far_core.specs.state.Spans.{spans_of, word_in, is_live}
 use Rattle.far_core.specs.state.State.{State, put, addr}
-use Rattle.far_core.proofs.KeepJobs.{keeps_jobs, stand_still, unworded}
+use Rattle.far_core.proofs.KeepJobs.{keeps_jobs, stand_still}
 use Rattle.far_core.proofs.KeepOwner.{closed_word}
 use Rattle.far_core.proofs.Observations.{found, walks}
 use Rattle.far_core.proofs.Put.{put_same, put_other}
 use Rattle.far_hand.specs.Known.{Forgets}
 use Rattle.far_book.specs.book.Effects.{near_word, placed, retired, with_blank_span, with_free_cell, with_written_span}
-use Rattle.far_book.specs.book.Own.{HasNoJob, own_part, unread}
+use Rattle.far_book.specs.book.Own.{own_part, unread}
 use Rattle.far_book.specs.book.Placeable.{Placeable, with_object}
 use Rattle.far_book.proofs.region.Places.{named_is, none_past}
 use Rattle.far_book.proofs.region.Retires.{retired_is}
+use Rattle.far_book.proofs.region.Untaken.{finished_known, none_taken, untaken_aims, untaken_good, untaken_jobs}
 use Rattle.far_book.proofs.region.Written.{row_other}
 
 -- a header is the word itself, and no other word is there
@@ -56,24 +55,21 @@ own_copies s law =
     let k = s.copying in
     let jobs = law.copies.jobs in
     record {
-      jobs = keeps_jobs s.word s.starts (own_part s).word s.starts k jobs (stand_still s.word s.starts (own_part s).word s.starts k jobs (λ a h. (h, own_header s a h)));
-      taken = record { taken_by = law.copies.taken.taken_by; takes = law.copies.taken.takes; long = λ c n t e l. absurd cc; fits = λ c i w t e r. absurd cc };
-      aims = law.copies.aims;
-      good = law.copies.good;
+      jobs = keeps_jobs s.word s.starts (own_part s).word s.starts (unread k) (untaken_jobs k s.word s.starts jobs)
+          (stand_still s.word s.starts (own_part s).word s.starts (unread k) (untaken_jobs k s.word s.starts jobs) (λ a h. (h, own_header s a h)));
+      taken = none_taken k (own_part s).word;
+      aims = untaken_aims k s.cell law.copies.aims;
+      good = untaken_good k s.round_epoch s.round s.clear law.copies.good;
       same = record {
         read = λ c i w t e g r. absurd cc;
         written = λ c i t e g r. absurd (false≢true r);
         finished = λ j c job e g none i lt.
-            let spans = jobs.job_spans j job (rw e refl) in
+            let spans = jobs.job_spans j job (rw (finished_known (k.word j) job c e) refl) in
             let here : i < words_for (head_len (s.word (addr job.from))) = subst (λ w. i < words_for (head_len w)) (own_header s (addr job.from) spans.from) lt in
             let there : i < words_for (head_len (s.word (addr job.to))) = subst (λ w. i < words_for (head_len w)) (sym spans.alike) here in
             own_data s law (addr job.to) i spans.to there ∙ sym (own_data s law (addr job.from) i spans.from here);
       };
     }
-
--- where no job is offered no log is read or written by one
-pub none_copied : (s : State) → HasNoJob s → (l : ℕ) → IsUncopied s.copying l
-none_copied s none l j job at = let odd : None ≡ Some job = sym (ap job_said unworded) ∙ sym (ap (λ w. job_said (job_of w)) (none j)) ∙ at in absurd cc
 
 -- ---- the law
 pub own_law : (s : State) → Law s → Law (own_part s)

@@ -29,12 +29,15 @@ use Rattle.far_book.specs.declared.ledger.Ledger.{Ledger}
 use Rattle.far_hand.specs.Known.{Forgets}
 use Rattle.far_book.specs.book.FarSide.{InOrder}
 use Rattle.far_book.specs.book.Ledger.{Notes, filled_of, is_noted_free}
+use Rattle.far_book.specs.book.Jobs.{NotesJobs}
 use Rattle.far_book.specs.book.NumberSet.{has}
-use Rattle.far_book.specs.book.Own.{own_part}
+use Rattle.far_book.specs.book.Own.{own_part, unread}
 use Rattle.far_book.specs.book.Releasing.{GivesBack, released}
 use Rattle.far_book.proofs.region.InOrders.{headers_keep}
+use Rattle.far_book.proofs.region.JobNotes as jobs
 use Rattle.far_book.proofs.region.Owns.{own_law, own_live}
 use Rattle.far_book.proofs.region.Retires as retires
+use Rattle.far_book.proofs.region.Untaken.{uncopied_own, unread_twice}
 
 -- ---- a log is vacant exactly where its live bytes are 0
 none_taken : (f : Span → Bool) (xs : List Span) → ((x : Span) → Contains xs x → f x ≡ false) → taken_by f xs ≡ 0
@@ -84,10 +87,10 @@ module _ (s : State) (law : Law (own_part s)) (l : ℕ) (shut : s.kind l ≡ Sea
   inside = law.logs.log_range l (λ f. let odd : Sealed ≡ Free = sym shut ∙ f in cc)
 
   law_bare : Law (with_free_log o l)
-  law_bare = keeps o (Get l 0 true) law tt (inside, omega arith, (shut, vacant, uncopied))
+  law_bare = keeps o (Get l 0 true) law tt (inside, omega arith, (shut, vacant, uncopied_own s.copying l uncopied))
 
   own_is : own_part (with_free_log o l) ≡ own_part then
-  own_is = λ i. record (own_part then) { word = fun_ext (λ a. nested (a / LOG_WORDS == l) (s.starts a) (s.word a)) i }
+  own_is = λ i. record (own_part then) { word = fun_ext (λ a. nested (a / LOG_WORDS == l) (s.starts a) (s.word a)) i; copying = unread_twice s.copying i }
 
   law_then : Law (own_part then)
   law_then = subst Law own_is (own_law (with_free_log o l) law_bare)
@@ -130,7 +133,7 @@ module _ (s : State) (law : Law (own_part s)) (l : ℕ) (shut : s.kind l ≡ Sea
       room = subst (λ n. s.logs ≤ n) (sym b.room) notes.room;
       cells = ap (λ (n : Ledger). vec_len n.free_cells) b.rest ∙ notes.cells;
       cell = λ p lt. ap (λ (n : Ledger). is_noted_free n p) b.rest ∙ notes.cell p lt;
-      unoffered = notes.unoffered;
+      jobs = subst (λ (n : Ledger). NotesJobs s.round_epoch then.round (unread s.copying) n.jobs) (sym b.rest) (jobs.notes_released s.round_epoch s.round (unread s.copying) old.jobs notes.jobs l (uncopied_own s.copying l uncopied));
     }
 
   pub released_keeps : (t : State) (old new : Ledger) (held : ℕ → Option (List ℕ)) (is_honest : Bool) → InOrder s old held is_honest → GivesBack old new l →

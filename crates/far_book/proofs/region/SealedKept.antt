@@ -14,6 +14,7 @@ use Rattle.far_core.specs.events.NewSpans.{IsNext, with_span}
 use Rattle.far_core.specs.state.Law.{Law}
 use Rattle.far_core.specs.state.Room.{room}
 use Rattle.far_core.specs.state.State.{State, addr, put}
+use Rattle.far_core.proofs.Copied.{NoCopy}
 use Rattle.far_core.proofs.Put.{put_both, put_other}
 use Rattle.far_core.specs.laws.Rooms.{IsRoom, RoomIs}
 use Rattle.far_core.proofs.RoomLaws.{room_right}
@@ -22,7 +23,7 @@ use Rattle.far_book.specs.book.Own.{own_part}
 use Rattle.far_book.specs.book.SealedLogs.{KeepsSealed, SealedLogsStay}
 use Rattle.far_book.proofs.region.Evictions.{evicted_is, far_says}
 use Rattle.far_book.proofs.region.Fetched.{fetched_come}
-use Rattle.far_book.proofs.region.Moved.{moved_is, stayed_is}
+use Rattle.far_book.proofs.region.Moved.{moved_is, no_copy, stayed_is}
 use Rattle.far_book.proofs.region.Places.{named_is, next_unsealed}
 
 module _ (s : State) (p : ℕ) where
@@ -101,6 +102,9 @@ module _ (s : State) (p len ds : ℕ) (law : Law (own_part s)) where
     layout_there : IsPtr (Near len ds place no_marks)
     layout_there = (some, most, structure, omega (arith, is_room.next.0, law.shape.few_logs), is_room.fits)
 
+    uncopied : (from : Place) → NoCopy s.copying p from place
+    uncopied from = no_copy s law p from place is_room.next (omega (arith, is_room.fits))
+
     taken : (word : ℕ → ℕ) → KeepsSealed s (with_span (record s { word = word }) p (near_word len ds place) len place)
     taken word = taken_kept s p len ds place law layout_there is_room.next (omega (arith, is_room.fits)) word
 
@@ -110,7 +114,7 @@ module _ (s : State) (p len ds : ℕ) (law : Law (own_part s)) where
         subst (KeepsSealed s) (sym (named_is (with_blank_span s p len ds place) p len ds place free (layout_there true place some most structure found))) (taken true place some most structure found _);
     moves = λ from to marks near evac alive found.
         let layout = (read_says (s.cell p) (Near len ds from marks) (law.cells.cell_read p).0 near).0 in
-        subst (KeepsSealed s) (sym (moved_is s p len ds from to marks near alive evac (layout_there false to layout.0 layout.1 layout.2 found))) (taken false to layout.0 layout.1 layout.2 found _);
+        subst (KeepsSealed s) (sym (moved_is s p len ds from to marks near alive evac (layout_there false to layout.0 layout.1 layout.2 found) (uncopied false to layout.0 layout.1 layout.2 found from))) (taken false to layout.0 layout.1 layout.2 found _);
     stays = λ place marks near unwanted asked alive.
         let layout = (read_says (s.cell p) (Near len ds place marks) (law.cells.cell_read p).0 near).0 in
         let bare : IsPtr (Near len ds place no_marks) = (layout.0, layout.1, layout.2, layout.3, layout.4) in

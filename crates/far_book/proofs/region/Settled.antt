@@ -18,6 +18,7 @@ use Rattle.far_core.specs.laws.Rooms.{IsRoom, RoomIs}
 use Rattle.far_core.specs.state.Law.{Law}
 use Rattle.far_core.specs.state.Room.{room}
 use Rattle.far_core.specs.state.State.{State}
+use Rattle.far_core.proofs.Copied.{NoCopy}
 use Rattle.far_core.proofs.Put.{put_same}
 use Rattle.far_core.proofs.RoomLaws.{room_right}
 use Rattle.far_hand.specs.Finds.{Finds, body_of, marks_in}
@@ -29,7 +30,7 @@ use Rattle.far_book.specs.book.Renaming.{seen}
 use Rattle.far_hand.proofs.Finding.{finds_more, near_found}
 use Rattle.far_book.proofs.region.Calls.{put_put}
 use Rattle.far_book.proofs.region.Founds.{drop_found}
-use Rattle.far_book.proofs.region.Moved.{drop_of, evac_of, goal_there, has_moved, moved_is, stayed_is}
+use Rattle.far_book.proofs.region.Moved.{drop_of, evac_of, goal_there, has_moved, moved_is, no_copy, stayed_is}
 
 -- what follows of a place that is answered, from two facts of it
 pub both_of : (r : Result (Option Place) Refused) (A B C : Place → Type 0) → ((x : Place) → A x → B x → C x) → IfOk r (λ o. IfSome o A) → IfOk r (λ o. IfSome o B) → IfOk r (λ o. IfSome o C)
@@ -113,9 +114,10 @@ module _ (s : State) (p w : ℕ) (f : Finds (s.cell p) w) where
         let free : room s (size_of q.len) false ≡ Some place = sym (goal_there s p q q.len q.ds q.place q.marks q.near wanted) ∙ sym goal_seen ∙ at in
         let is_room : IsRoom (own_part s) (size_of q.len) false place = subst (RoomIs (own_part s) (size_of q.len) false) free (room_right (own_part s) law (size_of q.len) false (omega (arith, layout))) in
         let there : IsPtr (Near q.len q.ds place no_marks) = (omega (arith, layout), omega (arith, layout), omega (arith, layout), omega (arith, is_room.next.0, law.shape.few_logs), is_room.fits) in
-        moved_is then p q.len q.ds q.place place found.0 found.1 found.3 (found.2 ∙ wanted) there
+        let uncopied : NoCopy s.copying p q.place place = no_copy s law p q.place place is_room.next (omega (arith, is_room.fits)) in
+        moved_is then p q.len q.ds q.place place found.0 found.1 found.3 (found.2 ∙ wanted) there uncopied
         ∙ (λ i. record (with_span (with_written_span s p q.len q.ds place (data_at s.word q.place)) p (near_word q.len q.ds place) q.len place) { cell = put_put s.cell p w (near_word q.len q.ds place) i })
-        ∙ sym (moved_is s p q.len q.ds q.place place q.marks q.near kept wanted there)
+        ∙ sym (moved_is s p q.len q.ds q.place place q.marks q.near kept wanted there uncopied)
         ∙ sym (ap (λ b. cond b (moved s p place) (stayed s p)) (evac_seen ∙ h))
 
     pub stayed_seen : has_evac (read_of w) ≡ false → (place : Place) → stayed then p ≡ moved_now s p place

@@ -1,10 +1,11 @@
 -- The ledger of a heap at the start is right.
-use Rattle.std.proofs.Common.{inl, inr, ◌≡◌, ℕ, ◌*◌, ◌/◌, ◌%◌, ◌<◌, ◌≤◌, Bool, true, false, arith, sym, refl, ap, subst, ◌∙◌, [], nat_lt}
-use Rattle.std.specs.Prelude.{◌&&◌, ◌==◌, not, replicate, slice_index_or, eqb}
+use Rattle.std.proofs.Common.{inl, inr, ◌≡◌, ℕ, ◌*◌, ◌/◌, ◌%◌, ◌<◌, ◌≤◌, Bool, true, false, arith, sym, refl, ap, subst, ◌∙◌, [], nat_lt, None}
+use Rattle.std.specs.Prelude.{◌&&◌, ◌==◌, not, replicate, slice_index_or, eqb, length}
 use Rattle.std.specs.List.{list_any, IsDistinct}
 use Rattle.std.specs.Vec.{vec_len, vec_capacity}
 use Rattle.std.proofs.lemmas.Bool.{cases_eq, eq-eqb, ne_eqb}
 use Rattle.std.proofs.lemmas.List.{get_or-replicate}
+use Rattle.far_word.specs.declared.sizes.TheConstants.{JOBS}
 use Rattle.far_log.specs.Spans.{spans_in}
 use Rattle.far_core.specs.declared.event.Kind.TheVariants.{Free, Open}
 use Rattle.far_core.specs.declared.shape.Shape.{Shape}
@@ -20,9 +21,11 @@ use Rattle.far_book.specs.declared.ledger.Filled.{Filled}
 use Rattle.far_book.specs.declared.ledger.Ledger.{Ledger}
 use Rattle.far_book.specs.declared.ledger.TheConstants.{SETS}
 use Rattle.far_book.specs.declared.number_set.NumberSet.{NumberSet}
+use Rattle.far_book.specs.book.Jobs.{noted_at}
 use Rattle.far_book.specs.book.Ledger.{Notes}
 use Rattle.far_book.specs.book.NumberSet.{has}
 use Rattle.far_book.specs.book.Own.{own_part}
+use Rattle.far_book.proofs.region.JobNotes.{no_jobs}
 use Rattle.far_book.proofs.region.Owns.{own_law}
 
 -- the parts of a ledger as they are made
@@ -37,6 +40,9 @@ pub record Made (shape : Shape) (ledger : Ledger) : Type 0 where
   pub every : (k : ℕ) → k < 64 → has all k ≡ true
   pub sets : ledger.free_cells.items ≡ replicate (SETS * shape.mutators) all
   pub cells : vec_len ledger.free_cells ≡ SETS * shape.mutators
+  pub jobs_sized : length ledger.jobs.noted ≡ JOBS
+  pub jobs_noted : (j : ℕ) → noted_at ledger.jobs j ≡ None
+  pub jobs_waiting : (j : ℕ) → j < 64 → has ledger.jobs.waiting j ≡ false
 
 none_distinct : IsDistinct eqb []
 unfolding IsDistinct
@@ -74,7 +80,7 @@ module _ (shape : Shape) (fits : is_shape shape ≡ true) (ledger : Ledger) (mad
     lives = λ l lt. ap (λ (f : Filled). f.live) (row_of ledger.filled.items shape.logs record { tail = 0; live = 0 } made.filled l) ∙ sym (no_live l);
     sealed = λ l. ap (list_any (eqb l)) made.order ∙ sealed_at l;
     once = subst (IsDistinct eqb) (sym made.order) none_distinct;
-    unoffered = λ j. refl;
+    jobs = no_jobs shape.epoch (λ _. false) ledger.jobs made.jobs_sized made.jobs_noted made.jobs_waiting;
     room = made.room;
     cells = made.cells;
     cell = λ p lt. ap (λ (set : NumberSet). has set (p % 64))

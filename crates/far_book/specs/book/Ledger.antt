@@ -16,8 +16,8 @@ use Rattle.far_book.specs.declared.ledger.Filled.{Filled}
 use Rattle.far_book.specs.declared.ledger.Ledger.{Ledger}
 use Rattle.far_book.specs.declared.ledger.TheConstants.{SETS}
 use Rattle.far_hand.specs.Finds.{body_of}
+use Rattle.far_book.specs.book.Jobs.{NotesJobs}
 use Rattle.far_book.specs.book.NumberSet.{has}
-use Rattle.far_book.specs.book.Own.{HasNoJob}
 
 -- what is written down of a log
 abbrev pub filled_of : Ledger → ℕ → Filled
@@ -44,8 +44,8 @@ pub record Notes (s : State) (ledger : Ledger) : Type 0 where
   -- which cells are free
   pub cells : vec_len ledger.free_cells ≡ SETS * s.mutators
   pub cell : (p : ℕ) → p < CELLS * s.mutators → is_noted_free ledger p ≡ (s.cell p == 0)
-  -- nothing is copied beside it
-  pub unoffered : HasNoJob s
+  -- the jobs
+  pub jobs : NotesJobs s.round_epoch s.round s.copying ledger.jobs
 
 -- it is right about a state that has this log
 abbrev pub KnowsLog : State → Ledger → ℕ → Type 0
@@ -72,6 +72,14 @@ pub record MayRetire (s : State) (p : ℕ) (was : PtrWord) : Type 0 where
   pub dropped : is_dropped (read_of (s.cell p)) ≡ true
   pub is : body_of (Some was) ≡ body_of (read_of (s.cell p))
 
+-- a log is the open one; one that was open before is sealed, the youngest
+pub record Opens (old new : Ledger) (log : ℕ) : Type 0 where
+  pub current : new.current ≡ log
+  pub free : (l : ℕ) → l < 64 → has new.free_logs l ≡ (not (l == log) && has old.free_logs l)
+  pub order : new.order.items ≡ (if log == old.current then old.order.items else old.order.items ++ old.current ∷ [])
+  pub room : vec_capacity new.order ≡ vec_capacity old.order
+  pub rest : new ≡ record old { current = new.current; free_logs = new.free_logs; order = new.order }
+
 -- a span is taken: its log is the open one, ends later and has more live bytes; a log that was open is sealed, the youngest;
 -- the cell isn't free
 pub record Takes (old new : Ledger) (p size : ℕ) (place : Place) : Type 0 where
@@ -84,12 +92,36 @@ pub record Takes (old new : Ledger) (p size : ℕ) (place : Place) : Type 0 wher
   pub there : (l : ℕ) → l ≢ place.log → filled_of new l ≡ filled_of old l
   pub cells : vec_len new.free_cells ≡ vec_len old.free_cells
   pub cell : (q : ℕ) → is_noted_free new q ≡ (not (q == p) && is_noted_free old q)
+  pub jobs : new.jobs ≡ old.jobs
+
+-- a dead span may be written down as taken
+pub record MayBegin (ledger : Ledger) (size : ℕ) (place : Place) : Type 0 where
+  pub few : place.log < 64
+  pub log : place.log < vec_len ledger.filled
+  pub tail : (filled_of ledger place.log).tail + size ≤ LOG_WORDS
+  pub order : place.log ≢ ledger.current → vec_len ledger.order < vec_capacity ledger.order
+
+-- a dead span is taken: its log is the open one, and ends later; a log that was open is sealed, the youngest
+pub record Begins (old new : Ledger) (size : ℕ) (place : Place) : Type 0 where
+  pub opens : Opens old (record new { filled = old.filled }) place.log
+  pub logs : vec_len new.filled ≡ vec_len old.filled
+  pub here : filled_of new place.log ≡ record { tail = (filled_of old place.log).tail + size; live = (filled_of old place.log).live }
+  pub there : (l : ℕ) → l ≢ place.log → filled_of new l ≡ filled_of old l
 
 -- a live span of a log is dead, and nothing else changes
 pub record Loses (old new : Ledger) (log size : ℕ) : Type 0 where
   pub here : (filled_of new log).live + 8 * size ≡ (filled_of old log).live
   pub tail : (filled_of new log).tail ≡ (filled_of old log).tail
   pub there : (l : ℕ) → l ≢ log → filled_of new l ≡ filled_of old l
+  pub logs : vec_len new.filled ≡ vec_len old.filled
+  pub rest : new ≡ record old { filled = new.filled }
+
+-- an object is live in another log, in a span of the same size
+pub record Passes (old new : Ledger) (from to size : ℕ) : Type 0 where
+  pub less : (filled_of new from).live + 8 * size ≡ (filled_of old from).live
+  pub more : (filled_of new to).live ≡ (filled_of old to).live + 8 * size
+  pub tails : (l : ℕ) → (filled_of new l).tail ≡ (filled_of old l).tail
+  pub there : (l : ℕ) → l ≢ from → l ≢ to → filled_of new l ≡ filled_of old l
   pub logs : vec_len new.filled ≡ vec_len old.filled
   pub rest : new ≡ record old { filled = new.filled }
 

@@ -1,13 +1,27 @@
 -- The book's own part of a state: what no owner changes.
-use Rattle.std.specs.Prelude.{◌≡◌, ℕ, false, cond, None}
+use Rattle.std.specs.Prelude.{◌≡◌, ℕ, false, cond, Option, Some, None}
+use Rattle.far_word.specs.declared.job.JobWord.{JobWord}
+use Rattle.far_word.specs.declared.job.JobWord.TheVariants.{Empty, Offered, Taken, Finished}
+use Rattle.far_word.specs.Job.{job_of, job_word}
 use Rattle.far_core.specs.state.Opening.{opening}
 use Rattle.far_core.specs.state.State.{Copying, State}
-use Rattle.far_hand.specs.Beside.{hidden}
+use Rattle.far_hand.specs.Beside.{hidden, uncopied}
 use Rattle.far_hand.specs.ShapeOf.{shape_of}
 
--- what is copied, without what copiers know of lengths and words
+-- a job's word without its copier: one that is taken is as it was offered
+abbrev pub untaken_of : ℕ → Option JobWord → ℕ
+untaken_of w None = w
+untaken_of w (Some Empty) = w
+untaken_of w (Some (Offered job)) = w
+untaken_of w (Some (Taken job c)) = job_word (Offered job)
+untaken_of w (Some (Finished job c)) = w
+
+abbrev pub untaken : ℕ → ℕ
+untaken w = untaken_of w (job_of w)
+
+-- what is copied, without copiers
 abbrev pub unread : Copying → Copying
-unread k = record k { length = λ _. None; read = λ _ _. None; written = λ _ _. false }
+unread k = uncopied k (λ j. untaken (k.word j))
 
 -- no job is offered
 abbrev pub HasNoJob : State → Type 0
@@ -15,9 +29,9 @@ HasNoJob s = (j : ℕ) → s.copying.word j ≡ 0
 
 -- all is left out that owners may change at any moment, or that the book can't know of them: of the words of the logs the
 -- headers of spans alone are left, and of the owners their scopes, and what they remember, use and hold, are those of
--- owners that have done nothing. What an owner was promised of a far side isn't the book's either, nor what copiers have read
+-- owners that have done nothing. What an owner was promised of a far side isn't the book's either, nor what copiers have
 abbrev pub own_part : State → State
-own_part s = record (hidden s s.cell (λ a. cond (s.starts a) (s.word a) 0)) { honest = false; copying = unread s.copying }
+own_part s = record (hidden s s.cell (λ a. cond (s.starts a) (s.word a) 0) (λ j. untaken (s.copying.word j))) { honest = false }
 
 -- all cells are free and the logs are as at the start, whatever owners have done with their scopes
 abbrev pub IsAtStart : State → Type 0

@@ -97,8 +97,8 @@ impl<N: Near + Drop, D: Device + Drop> Book<N, D> {
     }
 }
 
-// Whether a cell names a place.
-fn names_place(cell: u64, log: u8, at: u16) -> bool
+/// Whether a cell names a place.
+pub(crate) fn names_place(cell: u64, log: u8, at: u16) -> bool
     requires { IsSome (read_of cell) }
     ensures { result ≡ names_place (read_of cell) log at }
 {

@@ -12,7 +12,7 @@ ghost use Rattle.far_core.specs.state.Law.{Law};
 ghost use Rattle.far_core.specs.world.Happens.{Happens};
 ghost use Rattle.far_core.specs.world.WorldOf.{world_of};
 ghost use Rattle.far_hand.specs.Makers.{is_owners};
-ghost use Rattle.far_hand.specs.Owners.{OwnersChange};
+ghost use Rattle.far_hand.specs.Others.{OthersChange};
 ghost use Rattle.far_book.specs.book.Actions.{Does, Owns};
 
 use crate::book::Book;
@@ -44,7 +44,7 @@ impl<D: Device + Drop> Book<Plain, D> {
         ensures refused { is_owners event ≡ false → (result ≡ Reply.Refused) × (self.new.near ≡ self.old.near) }
         ensures world { Happens (world_of (core_state self.old.near.core)) event result (world_of (core_state self.new.near.core)) }
         ensures ran { is_owners event ≡ true → Does (core_state self.old.near.core) (Owns event result) (core_state self.new.near.core) }
-        ensures changes { OwnersChange (core_state self.old.near.core) (core_state self.new.near.core) }
+        ensures changes { OthersChange (core_state self.old.near.core) (core_state self.new.near.core) }
         ensures order { self.new.order ≡ self.old.order }
         ensures device { self.new.device ≡ self.old.device }
     {
@@ -61,7 +61,7 @@ impl<D: Device + Drop> Book<Plain, D> {
     pub fn pin(&mut self, owner: u8, pointer: u16) -> Result<Place, u64>
         requires legal { Legal (core_state self.old.near.core) (Event.Pin owner pointer) }
         ensures state { core_state self.new.near.core ≡ after (core_state self.old.near.core) (Event.Pin owner pointer) }
-        ensures changes { OwnersChange (core_state self.old.near.core) (core_state self.new.near.core) }
+        ensures changes { OthersChange (core_state self.old.near.core) (core_state self.new.near.core) }
         ensures held { IfOk result (λ place. answer (core_state self.old.near.core) (Event.Pin owner pointer) ≡ Reply.Held place) }
         ensures word { IfErr result (λ word. answer (core_state self.old.near.core) (Event.Pin owner pointer) ≡ Reply.Word word) }
         ensures order { self.new.order ≡ self.old.order }

@@ -3,7 +3,7 @@
 ghost use Rattle.std.specs.Prelude.{◌≡◌, ◌+◌, ◌<◌, ◌↔◌, true, false};
 ghost use Rattle.far_core.specs.declared.event.Event.{Event};
 ghost use Rattle.far_core.specs.declared.event.Kind.TheVariants.{Sealed};
-ghost use Rattle.far_core.specs.events.Get.{IsVacant};
+ghost use Rattle.far_core.specs.events.Get.{IsUncopied, IsVacant};
 ghost use Rattle.far_core.specs.events.Legal.{Legal};
 ghost use Rattle.far_hand.specs.Came.{Came, only};
 ghost use Rattle.far_hand.specs.Known.{Forgets};
@@ -24,7 +24,9 @@ impl<N: Near + Drop, D: Device + Drop> Book<N, D> {
         requires legal { Legal (N.view self.old.near) (Event.Clear pointer) }
         ensures { ClearsCell N.still N.view N.makes self.old self.new pointer result }
     {
-        self.near.clear(pointer)
+        let found = self.near.clear(pointer);
+        self.ledger.jobs.leave_round(found);
+        found
     }
 
     /// The epoch rises by 1, and a round begins of the logs whose bit is 1 in `logs`: the new epoch. Words may be forgotten then.
@@ -33,15 +35,21 @@ impl<N: Near + Drop, D: Device + Drop> Book<N, D> {
         requires chosen { MayChoose (N.view self.old.near) logs }
         ensures { RaisesEpoch N.still N.view N.makes self.old self.new logs result }
     {
-        self.near.advance(logs)
+        match self.near.advance(logs) {
+            Ok(epoch) => {
+                self.ledger.jobs.end_round();
+                Ok(epoch)
+            }
+            Err(why) => Err(why),
+        }
     }
 
-    /// Gives a sealed log back, and answers true, where no object lies there, dropped or not; else nothing has changed. Words may
-    /// be forgotten then.
+    /// Gives a sealed log back, and answers true, if no object lies there, dropped or not, and no job reads or writes it, void or
+    /// not; else nothing has changed. Words may be forgotten then.
     pub fn release(&mut self, log: u8) -> bool
         requires log { log < (N.view self.old.near).logs }
         requires sealed { (N.view self.old.near).kind log ≡ Sealed }
-        ensures vacant { (result ≡ true) ↔ IsVacant (N.view self.old.near) log }
+        ensures vacant { (result ≡ true) ↔ IsVacant (N.view self.old.near) log × IsUncopied (N.view self.old.near).copying log }
         ensures kept { result ≡ true → N.view self.new.near ≡ record (released (N.view self.old.near) log) { word = (N.view self.new.near).word } }
         ensures forgot { result ≡ true → Forgets (N.view self.old.near) (N.view self.new.near) }
         ensures exact { N.still → result ≡ true → N.view self.new.near ≡ released (N.view self.old.near) log }
@@ -53,6 +61,9 @@ impl<N: Near + Drop, D: Device + Drop> Book<N, D> {
         ensures unchanged { result ≡ false → self.new ≡ self.old }
     {
         if !self.ledger.is_vacant(log) {
+            return false;
+        }
+        if self.ledger.jobs.copies_at(log) {
             return false;
         }
         self.near.get(log, 0, true);

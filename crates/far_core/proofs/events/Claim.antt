@@ -1,7 +1,7 @@
 -- What the event Claim owes.
-use Rattle.std.proofs.Common.{◌≡◌, ◌≢◌, ℕ, ◌<◌, ◌^◌, ◌∙◌, Bool, true, false, cond, nat_eq, nat_lt, arith, inl, inr, ap, refl, sym, Option, Some, None}
-use Rattle.std.specs.Prelude.{is_some, not, IsSome, ◌&&◌}
-use Rattle.std.proofs.lemmas.Bool.{cases_eq, cond_both, eqb-false, eqb-true, false≢true}
+use Rattle.std.proofs.Common.{◌≡◌, ◌≢◌, ℕ, ◌<◌, ◌∙◌, Bool, true, false, cond, nat_eq, nat_lt, arith, inl, inr, ap, refl, sym, Option, Some, None}
+use Rattle.std.specs.Prelude.{is_some, not, ◌&&◌}
+use Rattle.std.proofs.lemmas.Bool.{cond_both, eqb-false, eqb-true, false≢true}
 use Rattle.std.proofs.lemmas.Bool.Decides.{nat_tests}
 use Rattle.far_word.specs.declared.job.Job.{Job}
 use Rattle.far_word.specs.declared.job.JobWord.{JobWord}
@@ -16,7 +16,7 @@ use Rattle.far_core.specs.declared.event.Task.{Task}
 use Rattle.far_core.specs.events.Claim.{offered_in, claimed, after_claim, IsOffer, Claims}
 use Rattle.far_core.specs.events.Legal.{Legal}
 use Rattle.far_core.specs.events.Reports.{Reports}
-use Rattle.far_core.specs.events.Step.{after, change_of, touches}
+use Rattle.far_core.specs.events.Step.{change_of, touches}
 use Rattle.far_core.specs.events.Touch.{JobAt, CopierAt, Touches}
 use Rattle.far_core.specs.laws.Worlds.{Caused}
 use Rattle.far_core.specs.state.Jobs.{job_at, job_said}

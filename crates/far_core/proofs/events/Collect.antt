@@ -1,6 +1,6 @@
 -- What the event Collect owes.
-use Rattle.std.proofs.Common.{◌≡◌, ◌≢◌, ℕ, ◌<◌, ◌^◌, ◌∙◌, Bool, true, false, cond, nat_eq, nat_lt, arith, inl, inr, ap, refl, sym, Option, Some, None}
-use Rattle.std.specs.Prelude.{IsSome, ◌&&◌}
+use Rattle.std.proofs.Common.{◌≡◌, ◌≢◌, ℕ, ◌<◌, ◌^◌, ◌∙◌, Bool, true, false, cond, nat_eq, nat_lt, arith, inl, inr, ap, refl, sym, Some, None}
+use Rattle.std.specs.Prelude.{IsSome}
 use Rattle.std.proofs.lemmas.Bool.{cond_both, eqb-false, eqb-true, false≢true}
 use Rattle.std.proofs.lemmas.Bool.Decides.{nat_tests}
 use Rattle.far_word.specs.declared.job.Job.{Job}
@@ -11,7 +11,6 @@ use Rattle.far_core.specs.declared.event.Event.TheVariants.{Collect}
 use Rattle.far_core.specs.declared.event.Reply.{Reply}
 use Rattle.far_core.specs.declared.event.Reply.TheVariants.{Done, Refused, Word}
 use Rattle.far_core.specs.events.Collect.{collected, is_loose}
-use Rattle.far_core.specs.events.Legal.{Legal}
 use Rattle.far_core.specs.events.Reports.{Reports}
 use Rattle.far_core.specs.events.Step.{change_of, touches}
 use Rattle.far_core.specs.events.Touch.{JobAt, NoPart, Touches}
@@ -25,7 +24,7 @@ use Rattle.far_core.proofs.Guards.{parts}
 use Rattle.far_core.proofs.KeepJobs.{copying_stays, law_with_copying, unworded}
 use Rattle.far_core.proofs.Owed.{Owed, replies}
 use Rattle.far_core.proofs.Put.{put_both, put_cases_of, put_other, put_same}
-use Rattle.far_core.proofs.Touching.{one_job, same_copier, untouched}
+use Rattle.far_core.proofs.Touching.{one_job, untouched}
 
 module _ (s : State) (law : Law s) (j : ℕ) (loose : is_loose (job_of (s.copying.word j)) ≡ true) where
   abbrev jobs : ℕ → ℕ

@@ -1,17 +1,13 @@
 -- What the event Finish owes.
-use Rattle.std.proofs.Common.{◌≡◌, ◌≢◌, ℕ, ◌<◌, ◌∙◌, Bool, true, false, suc, zero, arith, inl, inr, ap, refl, sym, subst, Option, Some, None}
-use Rattle.std.specs.Prelude.{◌&&◌}
+use Rattle.std.proofs.Common.{◌≡◌, ℕ, ◌<◌, ◌∙◌, Bool, true, false, suc, zero, arith, inl, inr, ap, refl, sym, subst, Option, Some, None}
 use Rattle.std.proofs.lemmas.Bool.{cases_eq, false_from_ne_true, false≢true, true≢false}
-use Rattle.far_word.specs.declared.job.Job.{Job}
 use Rattle.far_word.specs.declared.job.JobWord.TheVariants.{Taken, Finished}
 use Rattle.far_word.specs.declared.sizes.TheConstants.{JOBS, MOST_COPIERS}
 use Rattle.far_word.specs.Job.{IsJob, job_of, job_word}
 use Rattle.far_word.proofs.JobLaws.{job_back, job_fits, job_says}
 use Rattle.far_core.specs.declared.event.Event.TheVariants.{Finish}
-use Rattle.far_core.specs.declared.event.Reply.TheVariants.{Done}
 use Rattle.far_core.specs.declared.event.Task.{Task}
 use Rattle.far_core.specs.events.Finish.{after_finish, finished, job_spot}
-use Rattle.far_core.specs.events.Legal.{Legal}
 use Rattle.far_core.specs.events.Leaves.{WordBy}
 use Rattle.far_core.specs.events.Step.{change_of}
 use Rattle.far_core.specs.events.Tasks.{AllWritten, HasTask, all_written, task_written}
@@ -19,13 +15,13 @@ use Rattle.far_core.specs.events.Touch.{CopierAt, Touches}
 use Rattle.far_core.specs.laws.Worlds.{Caused}
 use Rattle.far_core.specs.state.Jobs.{IsGood, is_finished, job_at, job_said, job_words, source, target}
 use Rattle.far_core.specs.state.Law.{Law}
-use Rattle.far_core.specs.state.State.{State, put}
+use Rattle.far_core.specs.state.State.{State}
 use Rattle.far_core.specs.world.WorldOf.{world_of}
 use Rattle.far_core.proofs.Guards.{parts}
 use Rattle.far_core.proofs.KeepJobs.{copying_stays, job_low, law_with_copying, reworded_jobs, reworded_aims, reworded_good, task_at}
 use Rattle.far_core.proofs.Owed.{Owed, replies}
 use Rattle.far_core.proofs.Put.{put_cases, put_cases_of, put_other, put_same}
-use Rattle.far_core.proofs.Touching.{copier_touched, one_job, same_copier, untouched}
+use Rattle.far_core.proofs.Touching.{copier_touched, one_job, untouched}
 
 -- ---- the guard
 written_below : (written : ℕ → Bool) (n i : ℕ) → all_written written n ≡ true → i < n → written i ≡ true

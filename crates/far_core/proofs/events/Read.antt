@@ -1,11 +1,11 @@
 -- What the event Read owes.
-use Rattle.std.proofs.Common.{◌≡◌, ℕ, ◌-◌, ◌*◌, ◌^◌, ◌<◌, ◌∙◌, true, nat_lt, arith, inl, inr, ap, refl, sym, subst, Option, Some, None}
+use Rattle.std.proofs.Common.{◌≡◌, ℕ, ◌-◌, ◌*◌, ◌^◌, ◌<◌, ◌∙◌, true, arith, inl, inr, ap, refl, sym, subst, Option, Some, None}
 use Rattle.std.proofs.lemmas.Bool.{false≢true}
 use Rattle.std.proofs.lemmas.Bool.Decides.{nat_tests}
 use Rattle.far_log.specs.Spans.{head_len}
 use Rattle.far_core.specs.declared.event.Event.TheVariants.{Read}
 use Rattle.far_core.specs.declared.event.Task.{Task}
-use Rattle.far_core.specs.events.Read.{after_read, source_of}
+use Rattle.far_core.specs.events.Read.{after_read}
 use Rattle.far_core.specs.events.Step.{change_of}
 use Rattle.far_core.specs.events.Tasks.{HasTask, is_task_word}
 use Rattle.far_core.specs.laws.Worlds.{Caused}

@@ -5,7 +5,7 @@ use Rattle.std.proofs.lemmas.Bool.{false≢true}
 use Rattle.far_log.specs.Spans.{head_len}
 use Rattle.far_core.specs.declared.event.Event.TheVariants.{ReadLength}
 use Rattle.far_core.specs.declared.event.Task.{Task}
-use Rattle.far_core.specs.events.ReadLength.{after_length, header_of}
+use Rattle.far_core.specs.events.ReadLength.{after_length}
 use Rattle.far_core.specs.events.Step.{change_of}
 use Rattle.far_core.specs.events.Tasks.{HasTask}
 use Rattle.far_core.specs.laws.Worlds.{Caused}

@@ -1,6 +1,6 @@
 -- What the event Write owes.
 use Rattle.std.proofs.Common.{◌≡◌, ◌≢◌, ℕ, ◌+◌, ◌-◌, ◌*◌, ◌^◌, ◌<◌, ◌∙◌, true, false, arith, inl, inr, ap, refl, sym, subst, Option, Some, None}
-use Rattle.std.specs.Prelude.{Bool, is_some, ◌&&◌, ◌⊎◌}
+use Rattle.std.specs.Prelude.{Bool, is_some, ◌⊎◌}
 use Rattle.std.proofs.lemmas.Bool.{cases_eq, false≢true}
 use mathlib.Core.Path.{fun_ext}
 use Rattle.far_word.specs.declared.job.Job.{Job}
@@ -15,7 +15,7 @@ use Rattle.far_core.specs.declared.event.Event.TheVariants.{Write}
 use Rattle.far_core.specs.declared.event.Task.{Task}
 use Rattle.far_core.specs.events.Step.{change_of}
 use Rattle.far_core.specs.events.Tasks.{HasTask}
-use Rattle.far_core.specs.events.Write.{after_write, got, target_at}
+use Rattle.far_core.specs.events.Write.{after_write}
 use Rattle.far_core.specs.laws.Worlds.{Caused}
 use Rattle.far_core.specs.state.Jobs.{IsGood, SameAs, job_at, job_words, source, target}
 use Rattle.far_core.specs.state.Law.{Law, head_len}
@@ -27,7 +27,7 @@ use Rattle.far_core.proofs.JobPlaces.{job_bounds, not_target, same_place}
 use Rattle.far_core.proofs.KeepJobs.{law_with_copying, task_at, task_unnamed}
 use Rattle.far_core.proofs.KeepWords.{data_stays, head_stays, keeps_store}
 use Rattle.far_core.proofs.Owed.{Owed, replies}
-use Rattle.far_core.proofs.Put.{put_both, put_cases, put_cases_of, put_other, put_same}
+use Rattle.far_core.proofs.Put.{put_cases, put_cases_of, put_other, put_same}
 use Rattle.far_core.proofs.Touching.{copier_touched, one_word}
 use Rattle.far_core.proofs.Worlds.{World-ext, object_same}
 use Rattle.far_core.proofs.events.ReadLength.{task_fact}

@@ -1,5 +1,5 @@
 -- What the events of a copier that has a job look at.
-use Rattle.std.specs.Prelude.{◌≡◌, ◌<◌, ◌&&◌, ℕ, Bool, true, false, nat_lt, suc, zero, Option, Some, None, is_some}
+use Rattle.std.specs.Prelude.{◌≡◌, ◌<◌, ◌&&◌, ℕ, Bool, true, false, nat_lt, suc, zero, Option, Some, None}
 use Rattle.far_core.specs.declared.event.Task.{Task}
 use Rattle.far_core.specs.state.Jobs.{job_words}
 use Rattle.far_core.specs.state.State.{State}

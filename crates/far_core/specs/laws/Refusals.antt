@@ -10,8 +10,8 @@ use Rattle.far_word.specs.declared.sizes.TheConstants.{CELLS, JOBS, LOG_WORDS, M
 use Rattle.far_word.specs.Header.{head_word}
 use Rattle.far_word.specs.Mark.{field}
 use Rattle.far_word.specs.Pointer.{read_of}
-use Rattle.far_log.specs.Spans.{head_len}
 use Rattle.far_word.specs.Sizes.{size_of}
+use Rattle.far_log.specs.Spans.{head_len}
 use Rattle.far_core.specs.declared.event.Event.{Event}
 use Rattle.far_core.specs.declared.event.Event.TheVariants as event
 use Rattle.far_core.specs.declared.event.Kind.TheVariants.{Free, Open, Sealed}

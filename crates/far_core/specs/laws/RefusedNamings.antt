@@ -9,6 +9,7 @@ use Rattle.far_word.specs.Mark.{field}
 use Rattle.far_word.specs.Pointer.{read_of}
 use Rattle.far_core.specs.declared.event.Event.TheVariants.{Name}
 use Rattle.far_core.specs.declared.event.Kind.TheVariants.{Free, Open, Sealed}
+use Rattle.far_core.specs.events.Copied.{WasCopied}
 use Rattle.far_core.specs.laws.Refusals.{IsRefused}
 use Rattle.far_core.specs.state.State.{State, addr}
 
@@ -63,10 +64,11 @@ pub record PlaceIsRefused (s : State) (p old new len ds : ℕ) (to : Place) : Ty
 abbrev pub IsElsewhere : ℕ → Place → Type 0
 IsElsewhere old to = (n d : ℕ) (m : Marks) → read_of old ≢ Some (Near n d to m)
 
--- of each pointer and two words of 64 bits
+-- of each pointer and two words of 64 bits; of a place, where no job that is finished and not void has copied the pointer's object there
 pub record NamingsAreRefused (s : State) : Type 0 where
   pub words : (p old new : ℕ) → old < 2 ^ 64 → new < 2 ^ 64 → NewWordIsRefused s p old new
   pub reached : (p old new : ℕ) → ReachedIsRefused s p old new
   pub stays : (p old new len ds n d : ℕ) (place : Place) (m k : Marks) → s.cell p ≡ old → read_of old ≡ Some (Near n d place m) → read_of new ≡ Some (Near len ds place k) →
       StayIsRefused s p old new m
-  pub places : (p old new len ds : ℕ) (to : Place) (k : Marks) → read_of new ≡ Some (Near len ds to k) → IsElsewhere old to → PlaceIsRefused s p old new len ds to
+  pub places : (p old new len ds : ℕ) (to : Place) (k : Marks) → read_of new ≡ Some (Near len ds to k) → IsElsewhere old to →
+      ((from : Place) → ¬ WasCopied s p from to) → PlaceIsRefused s p old new len ds to

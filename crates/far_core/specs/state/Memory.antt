@@ -11,11 +11,11 @@ use Rattle.far_core.specs.state.StoredRows.{stored_in}
 -- the words that a copier has read and written lie in a row of a log's length
 unfoldable pub copying_of : Jobs → Copying
 copying_of c = record {
-  word = λ j. slice_index c.words.items j;
-  since = λ j. slice_index c.since.items j;
-  named = λ j. slice_index_or c.named.items j false;
-  task = λ k. slice_index_or c.tasks.items k None;
-  length = λ k. slice_index_or c.lengths.items k None;
+  word = λ j. slice_index c.words j;
+  since = λ j. slice_index c.since j;
+  named = λ j. slice_index_or c.named j false;
+  task = λ k. slice_index_or c.tasks k None;
+  length = λ k. slice_index_or c.lengths k None;
   read = λ k i. cond (nat_lt i LOG_WORDS) (slice_index_or c.read.items (k * LOG_WORDS + i) None) None;
   written = λ k i. cond (nat_lt i LOG_WORDS) (slice_index_or c.written.items (k * LOG_WORDS + i) false) false;
 }

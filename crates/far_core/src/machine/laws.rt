@@ -26,10 +26,11 @@ ghost use Rattle.far_core.specs.events.Reports.{RepliesReport, RefusalsReportNot
 ghost use Rattle.far_core.specs.world.World.{start};
 ghost use Rattle.far_core.specs.laws.Agreement.{ViewRests, MarksAgree, MarksExist, ObjectAgrees};
 ghost use Rattle.far_core.specs.laws.Namings.{NamingsArePlain};
-ghost use Rattle.far_core.specs.laws.Refusals.{ScopesAreRefused, PointersAreRefused, WordsAreRefused, LogsAreRefused, RoundsAreRefused, CopiesAreRefused, CopyingIsRefused};
+ghost use Rattle.far_core.specs.laws.Refusals.{ScopesAreRefused, PointersAreRefused, WordsAreRefused, LogsAreRefused, RoundsAreRefused, CopyingIsRefused, CopiesAreRefused};
 ghost use Rattle.far_core.specs.laws.RefusedNamings.{NamingsAreRefused};
 ghost use Rattle.far_core.specs.laws.Rooms.{RoomIsRight};
 ghost use Rattle.far_core.specs.laws.Rounds.{RoundStands, ScopesShow, OneLogIsABit, SetsAreJoined, NoLogIsZero, FiveIsTwoLogs};
+ghost use Rattle.far_core.specs.laws.Taking.{CopiesAreTaken, TakingIsRefused};
 ghost use Rattle.far_core.specs.laws.Worlds.{ObjectsStand, StepsKeep, LoadsRead, StepsAreOne, LyingIsOpen, ChangesKeep, ChangesAreOne, EventsCause};
 ghost use Rattle.far_core.specs.world.WorldOf.{world_of};
 
@@ -196,8 +197,15 @@ pub fn namings_are_plain()
     ensures { NamingsArePlain }
 {}
 
+/// A pointer comes to a job's target by a naming alone that takes the copy: its object lies at the source still, the job is finished and not
+/// void, and the words at both places are the same. By such a naming alone the book comes to note of a job that its pointer was named to the
+/// target, and it does until another job is offered there.
+pub fn copies_are_taken()
+    ensures { (s : State) → Law s → CopiesAreTaken s }
+{}
+
 /// Causes for which an event is refused and changes nothing, a row each: of scopes, pointers, an object's words, logs, cells and
-/// rounds, namings, offers of copies, and copying. A row says what is so in the state; no guard stands in it.
+/// rounds, copying, namings, offers of copies, and of what a job still needs. A row says what is so in the state; no guard stands in it.
 pub fn refusals_are_said()
     ensures scopes { (s : State) → Law s → ScopesAreRefused s }
     ensures pointers { (s : State) → Law s → PointersAreRefused s }
@@ -206,5 +214,6 @@ pub fn refusals_are_said()
     ensures rounds { (s : State) → Law s → RoundsAreRefused s }
     ensures copying { (s : State) → Law s → CopyingIsRefused s }
     ensures namings { (s : State) → Law s → NamingsAreRefused s }
-    ensures offers { (s : State) → Law s → CopiesAreRefused s }
+    ensures copies { (s : State) → Law s → CopiesAreRefused s }
+    ensures taking { (s : State) → Law s → TakingIsRefused s }
 {}

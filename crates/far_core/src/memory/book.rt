@@ -1,7 +1,7 @@
 //! The events of the book.
 
 ghost use Rattle.std.specs.Prelude.{◌≡◌, ◌<◌, ◌≤◌, ◌+◌, ◌*◌, ℕ, true, IfErr, IfOk, IsSome, None, Some};
-ghost use Rattle.far_core.specs.state.State.{State};
+ghost use Rattle.far_core.specs.state.State.{State, addr};
 ghost use Rattle.far_core.specs.declared.event.Event.{Event};
 ghost use Rattle.far_core.specs.declared.event.Reply.{Reply};
 ghost use Rattle.far_core.specs.state.Law.{Law};
@@ -180,7 +180,7 @@ impl Memory {
     }
 
     /// Makes a legal naming of the pointer's cell, which is the old word. What it does shows in the new one: an object comes to
-    /// a place, where a span begins already if it stays there; or it leaves its place.
+    /// a place, where a span begins already if it stays there or was copied there; or it leaves its place.
     #[inline(always)]
     fn make_naming(&mut self, pointer: u16, old: u64, new: u64)
         requires law { Law (state_of self.old) }
@@ -191,12 +191,32 @@ impl Memory {
         match resting_place(new) {
             Some(place) => {
                 if self.starts(first_word(place)) {
-                    self.set_cell(pointer, new);
+                    self.name_placed(pointer, old, new, place);
                 } else {
                     self.take(pointer, new, pointer_len(new), place);
                 }
             }
             None => self.name_away(pointer, old, new),
+        }
+    }
+
+    /// Makes a legal naming to a place where a span begins already: the object stays there, or a job has copied it there.
+    #[inline(always)]
+    fn name_placed(&mut self, pointer: u16, old: u64, new: u64, place: Place)
+        requires law { Law (state_of self.old) }
+        requires legal { is_legal (state_of self.old) (Event.Name pointer old new) ≡ true }
+        requires cell { (state_of self.old).cell pointer ≡ old }
+        requires near { (v : PtrWord) → read_of new ≡ Some v → Some place ≡ view_place v }
+        requires begun { (state_of self.old).starts (addr place) ≡ true }
+        ensures { state_of self.new ≡ after_naming (state_of self.old) pointer new (naming_of (read_of old) (read_of new)) }
+    {
+        let PtrWord::Near { place: from, .. } = PtrWord::known(old) else {
+            unreachable!()
+        };
+        let job = self.copied_job(pointer, from, place);
+        self.set_cell(pointer, new);
+        if let Some(job) = job {
+            self.set_job_named(job, true);
         }
     }
 
@@ -348,7 +368,7 @@ fn pointer_in(word: u64) -> u16
 }
 
 /// Whether a cell names a place.
-fn names_place(cell: u64, log: u8, at: u16) -> bool
+pub(crate) fn names_place(cell: u64, log: u8, at: u16) -> bool
     requires { IsSome (read_of cell) }
     ensures { result ≡ names_place (read_of cell) log at }
 {

@@ -1,22 +1,26 @@
 //! Whether the words of an object stand at a new span.
 
 ghost use Rattle.std.specs.Prelude.{◌≡◌, ◌*◌, ◌+◌, ◌<◌, ◌≤◌, ℕ, IsSome};
+ghost use Rattle.far_core.specs.events.Copied.{copied_job, has_copied, is_place, says_copied};
 ghost use Rattle.far_core.specs.events.Copies.{alike, data_at, ends_padded};
 ghost use Rattle.far_core.specs.events.NewSpans.{is_new_span};
 ghost use Rattle.far_core.specs.events.Naming.{no_marks, naming_row};
 ghost use Rattle.far_core.specs.events.namings.Fetches.{is_stored_at, words_stored};
+ghost use Rattle.far_core.specs.events.namings.Moves.{may_move};
 ghost use Rattle.far_core.specs.declared.naming.Naming.{Naming};
 ghost use Rattle.far_core.specs.state.Law.{Law};
 ghost use Rattle.far_core.specs.state.Memory.{state_of};
 ghost use Rattle.far_core.specs.state.State.{State};
+ghost use Rattle.far_word.specs.Job.{job_of};
 ghost use Rattle.far_word.specs.Pointer.{IsPtr, read_of};
 ghost use Rattle.far_word.specs.Sizes.{words_for};
 ghost use Rattle.far_word.specs.declared.sizes.TheConstants.{CELLS, LOG_WORDS};
 
 use crate::memory::Memory;
+use crate::memory::book::names_place;
 use crate::memory::owner::keeps_padding;
 use crate::memory::reading::first_word;
-use far_word::{Place, PtrWord, words_for};
+use far_word::{JOBS, JobWord, Place, PtrWord, words_for};
 
 impl Memory {
     /// Whether a near object may move.
@@ -27,11 +31,56 @@ impl Memory {
         requires law { Law (state_of self.now) }
         ensures { (new : ℕ) → result ≡ (naming_row (state_of self.now) pointer new (Naming.Moves len ds from to)).test }
     {
+        self.may_take(pointer, len, ds, from, to) || self.copied_job(pointer, from, to).is_some()
+    }
+
+    /// Whether a near object may move to a new span.
+    fn may_take(&self, pointer: u16, len: u16, ds: u8, from: Place, to: Place) -> bool
+        requires from { IsPtr (PtrWord.Near len ds from no_marks) }
+        requires to { IsPtr (PtrWord.Near len ds to no_marks) }
+        requires pointer { pointer < CELLS * (state_of self.now).mutators }
+        requires law { Law (state_of self.now) }
+        ensures { result ≡ may_move (state_of self.now) pointer len ds from to }
+    {
         self.is_new_span(pointer, len, ds, to)
             && self.ends_padded(len, to)
             && self.is_quiet(pointer)
             && self.has_log(from.log)
             && self.has_copy(first_word(to) + 1, first_word(from) + 1, words_for(len))
+    }
+
+    /// The job that has copied an object from where it lies still to a place, and isn't void.
+    pub(crate) fn copied_job(&self, pointer: u16, from: Place, to: Place) -> Option<u8>
+        requires pointer { pointer < CELLS * (state_of self.now).mutators }
+        requires law { Law (state_of self.now) }
+        ensures { result ≡ copied_job (state_of self.now) pointer from to }
+    {
+        if !names_place(self.cell(pointer), from.log, from.at) {
+            return None;
+        }
+        let mut found = None;
+        for job in 0..JOBS {
+            if self.has_copied(pointer, from, to, job) {
+                found = Some(job);
+            }
+        }
+        found
+    }
+
+    /// Whether a job has copied an object from a place to another, in the round that lasts, and the first one's log is in it.
+    fn has_copied(&self, pointer: u16, from: Place, to: Place, job: u8) -> bool
+        ensures { result ≡ has_copied (state_of self.now) pointer from to job }
+    {
+        says_copied(pointer, from, to, self.job(job))
+            && self.job_since(job) == self.round_epoch()
+            && self.is_in_round(from.log)
+    }
+
+    #[tactic(auto, unfolding(crate::specs::state::Memory::state_of))]
+    fn job_since(&self, job: u8) -> u64
+        ensures { result ≡ (state_of self.now).copying.since job }
+    {
+        self.jobs.since(job)
     }
 
     /// Whether a far object may come near.
@@ -97,6 +146,25 @@ impl Memory {
         }
         true
     }
+}
+
+/// Whether a job's word says that an object was copied from a place to another.
+fn says_copied(pointer: u16, from: Place, to: Place, word: u64) -> bool
+    ensures { result ≡ says_copied pointer from to (job_of word) }
+{
+    match JobWord::read(word) {
+        Some(JobWord::Finished { job, .. }) => {
+            job.pointer == pointer && is_place(job.from, from) && is_place(job.to, to)
+        }
+        None | Some(JobWord::Empty | JobWord::Offered { .. } | JobWord::Taken { .. }) => false,
+    }
+}
+
+/// Whether two places are one.
+fn is_place(one: Place, other: Place) -> bool
+    ensures { result ≡ is_place one other }
+{
+    one.log == other.log && one.at == other.at
 }
 
 /// How many words are stored of what a cell names: those of a far object.

@@ -114,7 +114,7 @@ impl Memory {
         let word = JobWord::Offered { job: offer }.pack();
         self.set_job_word(job, word);
         self.set_job_since(job, self.round_epoch());
-        self.set_job_unnamed(job);
+        self.set_job_named(job, false);
     }
 
     #[tactic(auto, unfolding(crate::specs::state::Memory::state_of))]
@@ -134,10 +134,10 @@ impl Memory {
     }
 
     #[tactic(auto, unfolding(crate::specs::state::Memory::state_of))]
-    fn set_job_unnamed(&mut self, job: u8)
+    pub(crate) fn set_job_named(&mut self, job: u8, named: bool)
         requires { job < JOBS }
-        ensures { state_of self.new ≡ record (state_of self.old) { copying = record (state_of self.old).copying { named = put (state_of self.old).copying.named job false } } }
+        ensures { state_of self.new ≡ record (state_of self.old) { copying = record (state_of self.old).copying { named = put (state_of self.old).copying.named job named } } }
     {
-        self.jobs.set_unnamed(job);
+        self.jobs.set_named(job, named);
     }
 }

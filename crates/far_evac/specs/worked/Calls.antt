@@ -71,7 +71,7 @@ pub data Answer : Type 0 where
 
 -- a heap at the start
 abbrev pub start : ℕ → ℕ → ℕ → Moment
-start logs mutators epoch = record { core = opening record { logs = logs; mutators = mutators; epoch = epoch } true; order = []; phase = Idle; collection = [] }
+start logs mutators epoch = record { core = opening record { logs = logs; mutators = mutators; epoch = epoch } true; order = []; phase = Idle; collection = []; copying = false }
 
 abbrev with_core : Moment → State → Moment
 with_core m s = record m { core = s }

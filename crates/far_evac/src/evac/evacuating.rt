@@ -85,6 +85,7 @@ impl<N: Near + Drop, D: Device + Drop> Evac<N, D> {
     // Deals with n objects, or all, and counts them; whether the collection set is empty then.
     fn evacuate_up_to(&mut self, n: u64, progress: &mut Progress) -> Result<bool, Refused>
         requires phase { self.old.phase ≡ phase.Evacuating }
+        requires alone { self.old.copying ≡ false }
         requires begun { progress.old ≡ progress_of nothing false }
         ensures came { Came N.makes self.old.book.near self.new.book.near }
         ensures walks { IfOk result (λ _. (k : ℕ) × Walks (moment N.view self.old) n k (standing N.view self.new progress.new)) }
@@ -120,6 +121,7 @@ impl<N: Near + Drop, D: Device + Drop> Evac<N, D> {
     #[inline(always)]
     fn settle(&mut self, progress: &mut Progress) -> Option<Span>
         requires phase { self.old.phase ≡ phase.Evacuating }
+        requires alone { self.old.copying ≡ false }
         requires room { progress.old.freed + length self.old.collection < 2 ^ 64 }
         ensures came { Came N.makes self.old.book.near self.new.book.near }
         ensures known { KnowsWalked (settled (standing N.view self.old progress.old)) (standing N.view self.new progress.new) }
@@ -128,6 +130,7 @@ impl<N: Near + Drop, D: Device + Drop> Evac<N, D> {
         ensures first { IfSome result (λ span. (rest : List ℕ) × (left (standing N.view self.new progress.new) ≡ span.p ∷ rest)) }
         ensures next { IfSome result (λ span. IsNextLeaving (N.view self.new.book.near) self.new.collection span) }
         ensures none { IfNone result (self.new.collection ≡ []) }
+        ensures copying { self.new.copying ≡ self.old.copying }
         ensures freed { progress.new.freed + length self.new.collection ≡ progress.old.freed + length self.old.collection }
         ensures done { progress.new.done ≡ progress.old.done }
         ensures device { self.new.book.device ≡ self.old.book.device }
@@ -193,11 +196,13 @@ impl<N: Near + Drop, D: Device + Drop> Evac<N, D> {
         requires phase { self.old.phase ≡ phase.Evacuating }
         requires front { (logs : List ℕ) × (self.old.collection ≡ log ∷ logs) }
         requires none { live_in (N.view self.old.book.near) log ≡ [] }
+        requires alone { self.old.copying ≡ false }
         ensures came { Came N.makes self.old.book.near self.new.book.near }
         ensures core { Knows (released (N.view self.old.book.near) log) (N.view self.new.book.near) }
         ensures exact { N.still → N.view self.new.book.near ≡ released (N.view self.old.book.near) log }
         ensures order { self.new.book.order ≡ order_without log self.old.book.order }
         ensures collection { self.old.collection ≡ log ∷ self.new.collection }
+        ensures copying { self.new.copying ≡ false }
         ensures ends { self.new.phase ≡ cond (is_empty self.new.collection) phase.Idle phase.Evacuating }
         ensures device { self.new.book.device ≡ self.old.book.device }
     {

@@ -1,7 +1,8 @@
-//! The beset hand's calls: each comes after a turn of the owners.
+//! The beset hand's calls: each comes after a turn of the others.
 
 ghost use Rattle.std.specs.Prelude.{◌≡◌, ◌+◌, ◌*◌, ◌<◌, ℕ, true, false};
 ghost use Rattle.far_word.specs.declared.sizes.TheConstants.{LOG_WORDS};
+ghost use Rattle.far_word.specs.Job.{IsJob, job_word};
 ghost use Rattle.far_word.specs.Pointer.{read_of};
 ghost use Rattle.far_hand.specs.BesetView.{TurnThen, beset_alone, beset_lawful, beset_may_be, beset_shown, beset_there, beset_told, beset_view};
 ghost use Rattle.std.specs.Vec.{vec_len};
@@ -10,11 +11,11 @@ ghost use Rattle.far_hand.specs.Masked.{word_at};
 ghost use Rattle.far_hand.specs.Quiet.{IsQuietAt, is_quiet_word};
 
 use crate::beset::Beset;
-use crate::beset::rows::{count, find, forget, found_in, recount};
+use crate::beset::rows::{count, find, find_job, forget, found_in, recount};
 use crate::hand::Near;
 use crate::plain::{may_rise, shape_of};
 use far_core::Shape;
-use far_word::{CELLS, Mark, PtrWord, Refused, words_for};
+use far_word::{CELLS, Job, JobWord, Mark, Place, PtrWord, Refused, words_for};
 
 impl Near for Beset {
     ghost view = { beset_view };
@@ -101,9 +102,46 @@ impl Near for Beset {
         self.core.look(owner)
     }
 
+    fn offer(&mut self, job: u8, pointer: u16, from: Place, to: Place) {
+        self.turn();
+        self.core.offer(job, pointer, to);
+        forget(&mut self.counted);
+        find_job(&mut self.jobs, job, offered(pointer, from, to));
+    }
+
+    fn see_job(&mut self, job: u8) -> u64 {
+        self.turn();
+        let word = self.core.see_job(job);
+        find_job(&mut self.jobs, job, word);
+        word
+    }
+
+    fn collect(&mut self, job: u8, old: u64) -> Result<(), u64> {
+        self.turn();
+        match self.core.collect(job, old) {
+            Ok(()) => {
+                find_job(&mut self.jobs, job, 0);
+                Ok(())
+            }
+            Err(found) => {
+                find_job(&mut self.jobs, job, found);
+                Err(found)
+            }
+        }
+    }
+
     fn shape(&self) -> Shape {
         shape_of(&self.core)
     }
+}
+
+/// The word of a job that is offered.
+fn offered(pointer: u16, from: Place, to: Place) -> u64
+    requires { IsJob record { pointer = pointer; from = from; to = to } }
+    ensures { result ≡ job_word (JobWord.Offered record { pointer = pointer; from = from; to = to }) }
+{
+    let job = Job { pointer, from, to };
+    JobWord::Offered { job }.pack()
 }
 
 impl Beset {

@@ -12,10 +12,10 @@ ghost use Rattle.far_hand.specs.Listed.{ActOut, events_left};
 use crate::beset::Beset;
 
 impl Beset {
-    /// Over any calls of the book owners act out the list in order: before each call the next event has its turn, in which an
-    /// owner's event that is legal then is made, and nothing else. After n calls the first n events had theirs, or all, if
-    /// there are fewer.
-    pub fn owners_act_out_the_list(&self)
+    /// Over any calls of the book owners and copiers act out the list in order: before each call the next event has its turn,
+    /// in which an owner's event or a copier's that is legal then is made, and nothing else. After n calls the first n events
+    /// had theirs, or all, if there are fewer.
+    pub fn others_act_out_the_list(&self)
         ensures acted { (calls : List (any_event × any_reply)) (later : any_hand) → Runs TurnThen self.now calls later → ActOut calls (events_left self.now) (core_state self.now.core) (core_state later.core) }
         ensures left { (calls : List (any_event × any_reply)) (later : any_hand) → Runs TurnThen self.now calls later → events_left later ≡ drop (length calls) (events_left self.now) }
     {

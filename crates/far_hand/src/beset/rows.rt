@@ -2,12 +2,13 @@
 
 ghost use Rattle.std.specs.Prelude.{◌≡◌, ◌+◌, ◌*◌, ◌<◌, ℕ, false, true, length, IfOk};
 ghost use Rattle.std.specs.Vec.{vec_len};
+ghost use Rattle.far_word.specs.declared.sizes.TheConstants.{JOBS};
 ghost use Rattle.far_core.specs.state.CoreState.{core_state};
 ghost use Rattle.far_core.specs.state.State.{put};
 ghost use Rattle.far_hand.specs.Masked.{word_at, is_counted, recounted};
 
 use far_core::Core;
-use far_word::{CELLS, LOG_WORDS};
+use far_word::{CELLS, JOBS, LOG_WORDS};
 use std::alloc::{AllocError, Global};
 
 /// The cells of a core.
@@ -21,6 +22,18 @@ pub(crate) fn cells_of(alloc: Global, core: &Core) -> Result<Vec<u64>, AllocErro
         cells.push(core.cell(pointer))?;
     }
     Ok(cells)
+}
+
+/// The words of a core's jobs.
+pub(crate) fn jobs_of(core: &Core) -> [u64; JOBS as usize]
+    ensures { word_at result ≡ (core_state core.now).copying.word }
+{
+    core.keeps_law();
+    let mut jobs = [0; JOBS as usize];
+    for job in 0..JOBS {
+        find_job(&mut jobs, job, core.see_job(job));
+    }
+    jobs
 }
 
 /// A row for so many words, of which none is counted on.
@@ -46,6 +59,14 @@ pub(crate) fn find(found: &mut Vec<u64>, pointer: u16, word: u64)
     ensures words { word_at found.new.items ≡ put (word_at found.old.items) pointer word }
 {
     found[pointer as usize] = word;
+}
+
+/// A word was found of a job.
+pub(crate) fn find_job(jobs: &mut [u64; JOBS as usize], job: u8, word: u64)
+    requires { job < JOBS }
+    ensures { word_at jobs.new ≡ put (word_at jobs.old) job word }
+{
+    jobs[job as usize] = word;
 }
 
 /// A word of a log is counted on from now on.

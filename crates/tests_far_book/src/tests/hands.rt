@@ -97,7 +97,7 @@ fn plain_hand(alloc: Global) -> Result<Plain, Refused>
 
 /// A hand on a core at the start, whose owners make these events.
 fn beset_hand(alloc: Global, events: Vec<Event>) -> Result<Beset, Refused>
-    ensures { IfOk result (λ hand. beset_view hand ≡ masked (opening SMALL true) (λ _. 0) (λ _. false)) }
+    ensures { IfOk result (λ hand. beset_view hand ≡ masked (opening SMALL true) (λ _. 0) (λ _. false) (λ _. 0)) }
 {
     let core = Core::new(alloc, SMALL, true)?;
     Beset::new(alloc, core, events)

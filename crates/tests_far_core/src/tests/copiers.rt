@@ -125,11 +125,9 @@ const SHORT_COPIED: &[Act] = &[
     Does(SeeJob { job: 1 }, Word(SHORT_FINISHED)),
 ];
 
-/// The short one's owner drops it.
 #[rattlefmt::skip]
-const SHORT_RETIRED: &[Act] = &[
-    Does(Ask { owner: 0, pointer: 1, mark: Dropped }, Word(SHORT)),
-    Does(Name { pointer: 1, old: 0xec00_0000_0301_0008, new: 0 }, Done),
+const SHORT_NAMED: &[Act] = &[
+    Does(Name { pointer: 1, old: SHORT, new: SHORT_COPY }, Done),
     Does(Collect { job: 1, old: SHORT_FINISHED }, Done),
     Does(SeeJob { job: 1 }, Word(0)),
 ];
@@ -171,6 +169,32 @@ const BOTH_COPY: &[Act] = &[
     Refuses(&[ReadLength { copier: 5 }, Read { copier: 5, index: 0 }, Write { copier: 5, index: 0 }, Finish { copier: 5 }]),
 ];
 
+#[rattlefmt::skip]
+const BOTH_NAMED: &[Act] = &[
+    Does(Name { pointer: 1, old: SHORT, new: SHORT_COPY }, Done),
+    Does(Name { pointer: 0, old: LONG, new: LONG_COPY }, Done),
+    WordAt(Place { log: 1, at: 3 }, 7),
+    WordAt(Place { log: 1, at: 4 }, 9),
+    Does(ReadEpoch { owner: 0 }, Epoch(1)),
+    Does(Open { owner: 0 }, Done),
+    Does(Pin { owner: 0, pointer: 0 }, Held(Place { log: 1, at: 2 })),
+    Does(Pin { owner: 0, pointer: 1 }, Held(Place { log: 1, at: 5 })),
+    Does(Load { owner: 0, pointer: 0, index: 1 }, Word(9)),
+    Does(Load { owner: 0, pointer: 1, index: 0 }, Word(5)),
+];
+
+/// The source's log is given back once both jobs are empty.
+#[rattlefmt::skip]
+const BOTH_COLLECTED: &[Act] = &[
+    Refuses(&[Get { log: 0, at: 0, free: true }]),
+    Does(Collect { job: 1, old: SHORT_FINISHED }, Done),
+    Does(SeeJob { job: 0 }, Word(LONG_FINISHED)),
+    Refuses(&[Get { log: 0, at: 0, free: true }]),
+    Does(Collect { job: 0, old: LONG_FINISHED }, Done),
+    Does(Get { log: 0, at: 0, free: true }, Word(LONG_HEADER)),
+    Log(0, Kind::Free, 0),
+];
+
 /// Copier 5, which has finished the short one's job, takes the long one's, of which it has read and written nothing. It writes the
 /// last word first.
 #[rattlefmt::skip]
@@ -186,6 +210,8 @@ const THEN_LONG: &[Act] = &[
     Does(Write { copier: 5, index: 0 }, Done),
     Does(Finish { copier: 5 }, Done),
     Does(SeeJob { job: 0 }, Word(0xd400_1008_0000_0000)),
+    Does(Name { pointer: 0, old: LONG, new: LONG_COPY }, Done),
+    Does(Name { pointer: 1, old: SHORT, new: SHORT_COPY }, Done),
 ];
 
 #[rattlefmt::skip]
@@ -307,6 +333,7 @@ const COPIED_ANEW: &[Act] = &[
     Does(Write { copier: 2, index: 1 }, Done),
     Does(Finish { copier: 2 }, Done),
     Refuses(&[Name { pointer: 0, old: LONG, new: LONG_COPY }]),
+    Does(Name { pointer: 0, old: LONG, new: ELSEWHERE }, Done),
     WordAt(Place { log: 1, at: 8 }, 7),
     WordAt(Place { log: 1, at: 9 }, 9),
 ];
@@ -358,7 +385,7 @@ const DROPPED_OFFERED: &[Act] = &[
 const PLAYS: &[Play] = &[
     Play {
         name: "two_copiers_have_a_job_each", shape: SMALL, honest: true,
-        parts: &[MADE, IN_ROUND, OFFERS, BOTH_TAKEN, BOTH_COPY, LONG_ENDED],
+        parts: &[MADE, IN_ROUND, OFFERS, BOTH_TAKEN, BOTH_COPY, LONG_ENDED, BOTH_NAMED, BOTH_COLLECTED],
     },
     Play {
         name: "a_copier_has_one_job_after_the_other", shape: SMALL, honest: true,
@@ -368,14 +395,14 @@ const PLAYS: &[Play] = &[
     Play {
         name: "a_move_goes_before_a_claim", shape: SMALL, honest: true,
         parts: &[
-            MADE, IN_ROUND, OFFERS, LONG_MOVED, MOVED_ALREADY, SHORT_COPIED, SHORT_RETIRED, SOURCE_KEPT, LONG_BEGUN, SOURCE_KEPT,
+            MADE, IN_ROUND, OFFERS, LONG_MOVED, MOVED_ALREADY, SHORT_COPIED, SHORT_NAMED, SOURCE_KEPT, LONG_BEGUN, SOURCE_KEPT,
             LONG_ENDED, MOVED_ALREADY, SOURCE_KEPT, SOURCE_GIVEN_BACK,
         ],
     },
     Play {
         name: "a_move_goes_before_the_last_word", shape: SMALL, honest: true,
         parts: &[
-            MADE, IN_ROUND, OFFERS, LONG_BEGUN, LONG_MOVED, MOVED_ALREADY, SHORT_COPIED, SHORT_RETIRED, SOURCE_KEPT,
+            MADE, IN_ROUND, OFFERS, LONG_BEGUN, LONG_MOVED, MOVED_ALREADY, SHORT_COPIED, SHORT_NAMED, SOURCE_KEPT,
             LONG_ENDED, MOVED_ALREADY, SOURCE_KEPT, SOURCE_GIVEN_BACK,
         ],
     },
@@ -383,7 +410,7 @@ const PLAYS: &[Play] = &[
     Play {
         name: "a_drop_goes_before_the_last_word", shape: SMALL, honest: true,
         parts: &[
-            MADE, IN_ROUND, OFFERS, LONG_BEGUN, LONG_RETIRED, RETIRED_ALREADY, SHORT_COPIED, SHORT_RETIRED, SOURCE_KEPT,
+            MADE, IN_ROUND, OFFERS, LONG_BEGUN, LONG_RETIRED, RETIRED_ALREADY, SHORT_COPIED, SHORT_NAMED, SOURCE_KEPT,
             LONG_ENDED, RETIRED_ALREADY, SOURCE_KEPT, SOURCE_GIVEN_BACK,
         ],
     },

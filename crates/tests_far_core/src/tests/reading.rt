@@ -7,7 +7,8 @@ use crate::tests::stage::{does_all, play};
 use far_core::Event::*;
 use far_core::Reply::*;
 use far_core::{
-    Core, Event, Kind, Reply, Shape, events_leave_others, opening_is_start, steps_keep_views,
+    Core, Event, Kind, Reply, Shape, copies_are_taken, events_leave_others, opening_is_start,
+    steps_keep_views,
 };
 use far_word::Place;
 use std::alloc::Global;
@@ -214,6 +215,7 @@ fn laws_can_be_called(rt: HostRuntime) {
     opening_is_start(SMALL, true);
     steps_keep_views();
     events_leave_others();
+    copies_are_taken();
 }
 
 #[rattlefmt::skip]

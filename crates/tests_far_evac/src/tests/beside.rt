@@ -87,7 +87,7 @@ fn fills(events: &mut Vec<Event>, seed: u64) -> bool {
         && events.push(Event::Close { owner: 1 }).is_ok()
 }
 
-#[tactic(auto, using(crate::proofs::Uses::beset_start))]
+#[tactic(auto, using(crate::proofs::Uses::beset_start, crate::proofs::Uses::beset_alone))]
 fn beset(rt: &HostRuntime, events: Vec<Event>) -> Result<Evac<Beset, MemDevice>, Refused> {
     let core = Core::new(rt.alloc(), SHAPE, true)?;
     let hand = Beset::new(rt.alloc(), core, events)?;

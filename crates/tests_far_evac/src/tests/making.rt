@@ -21,7 +21,7 @@ pub(super) fn evacuator(alloc: Global, shape: Shape) -> Result<Evac<Plain, MemDe
 }
 
 // The same over another device.
-#[tactic(auto, using(crate::proofs::Uses::at_start))]
+#[tactic(auto, using(crate::proofs::Uses::at_start, crate::proofs::Uses::at_start_alone))]
 pub(super) fn evacuator_over<D: Device + Drop>(
     alloc: Global,
     shape: Shape,

@@ -14,7 +14,7 @@ const SHAPE: Shape = Shape {
     epoch: 0,
 };
 
-#[tactic(auto, using(crate::proofs::Uses::at_start))]
+#[tactic(auto, using(crate::proofs::Uses::at_start, crate::proofs::Uses::at_start_alone))]
 fn made(alloc: Global) -> Result<Evac<Plain, MemDevice>, Refused> {
     let core = Core::new(alloc, SHAPE, true)?;
     let book = Book::new(alloc, Plain { core }, MemDevice::new(alloc))?;

@@ -2,6 +2,7 @@
 
 use far_evac::LogKind;
 use far_word::{Mark, Place};
+use tests_owner::Went;
 
 /// An act, of a book or an evacuator, or of the one owner beside it. An object's word is its first.
 #[derive(Clone, Copy)]
@@ -61,4 +62,19 @@ pub(super) enum Act {
     Fetches(u16),
     /// An object that its owner asks for is moved.
     Moves(u16),
+
+    /// The first copier goes on by one call, or the second.
+    First(Went),
+    Second(Went),
+    /// The copy of an object is offered, as the next job, which is at hand then.
+    Offers(u16),
+    /// A job is at hand, and has this word.
+    Job(u8, u64),
+    /// The job at hand is finished, and the same words stand at both of its places. Its pointer is named to the copy, or isn't.
+    IsCopied,
+    Names,
+    NamesNothing,
+    /// The job at hand is emptied; or it isn't, and this word is found.
+    Collects,
+    CollectsNothing(u64),
 }

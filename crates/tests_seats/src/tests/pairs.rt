@@ -1,7 +1,9 @@
 //! A book on shared words beside one owner, and its acts.
 
-ghost use Rattle.std.specs.Prelude.{◌≡◌, ℕ, true};
+ghost use Rattle.std.specs.Prelude.{◌≡◌, ℕ, true, IfOk};
 ghost use Rattle.far_word.specs.Pointer.{read_of};
+ghost use Rattle.far_book.specs.book.Own.{HasNoJob};
+ghost use Rattle.far_table.specs.BookSeats.{seat_view};
 ghost use Rattle.tests_seats.specs.Marked.{evac_in};
 
 use crate::tests::acts::Act;
@@ -33,11 +35,10 @@ pub(super) struct Pair<N: Near + Drop> {
     pub owner: Owner<MemDevice>,
 }
 
-/// A new book over its seat, beside one owner.
-pub(super) fn pair_of(
-    rt: &HostRuntime,
-    shape: Shape,
-) -> Result<Pair<BookSeat<MemDevice>>, Refused> {
+/// A new book over its seat, with no job, beside one owner.
+pub(super) fn pair_of(rt: &HostRuntime, shape: Shape) -> Result<Pair<BookSeat<MemDevice>>, Refused>
+    ensures { IfOk result (λ pair. HasNoJob (seat_view pair.book.near)) }
+{
     let (book, mut owners) = shared(rt.alloc(), shape)?;
     let Some(owner) = owners.pop() else {
         return Err(Refused::Shape);

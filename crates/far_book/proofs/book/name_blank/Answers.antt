@@ -6,6 +6,8 @@ use Rattle.far_core.specs.state.State.{State}
 use Rattle.far_book.specs.book.Effects.{near_word, with_blank_span}
 use Rattle.far_book.proofs.region.Calls.{may_name}
 use Rattle.far_book.proofs.region.Founds.{free_found}
+use Rattle.far_book.proofs.region.Places.{named_is}
+use Rattle.far_hand.specs.Known.{Forgets}
 use Rattle.far_hand.proofs.Knowing.{not_from_free}
 use Rattle.far_hand.proofs.Closure.{then_call, came_only}
 
@@ -21,6 +23,14 @@ unreachable-requires g c = c.in_default.ensures.other (free_found 0 c.in_default
 
 pub name-requires-clause-known : goal.name-requires-clause-known
 name-requires-clause-known g c len place n i lt = absurd (not_from_free _ len place n)
+
+pub returns-clause-forgot : goal.returns-clause-forgot
+returns-clause-forgot g c =
+    let s : State = g.N.Near.view c.args.near.now in
+    let t : State = g.N.Near.view c.name.new.self in
+    let blank : State = with_blank_span s c.args.pointer c.args.len c.args.ds c.args.place in
+    let f : Forgets blank t = subst (λ (x : State). Forgets x t) c.put_blank.ensures.set c.in-Ok.ensures.forgot in
+    subst (λ (x : State). Forgets x t) (sym (named_is blank c.args.pointer c.args.len c.args.ds c.args.place c.requires.free c.requires.layout)) (record { known = λ a known. f.known a known; headers = λ a begun. f.headers a begun })
 
 pub returns-clause-came : goal.returns-clause-came
 returns-clause-came g c = then_call _ _ (came_only _ c.put_blank.ensures.puts) c.in-Ok.ensures.made

@@ -19,11 +19,11 @@ impl Jobs {
         ensures { IfOk result (λ jobs. copying_of jobs ≡ no_copying) }
     {
         Ok(Jobs {
-            words: vec![in alloc; 0; JOBS as usize]?,
-            since: vec![in alloc; 0; JOBS as usize]?,
-            named: vec![in alloc; false; JOBS as usize]?,
-            tasks: vec![in alloc; None; MOST_COPIERS as usize]?,
-            lengths: vec![in alloc; None; MOST_COPIERS as usize]?,
+            words: [0; JOBS as usize],
+            since: [0; JOBS as usize],
+            named: [false; JOBS as usize],
+            tasks: [None; MOST_COPIERS as usize],
+            lengths: [None; MOST_COPIERS as usize],
             read: Vec::with_capacity(alloc, COPIED)?,
             written: Vec::with_capacity(alloc, COPIED)?,
         })
@@ -42,6 +42,13 @@ impl Jobs {
         self.words[job as usize] = word;
     }
 
+    /// The epoch of the round in which the job was offered.
+    pub(crate) fn since(&self, job: u8) -> u64
+        ensures { result ≡ (copying_of self.now).since job }
+    {
+        self.since.get(job as usize).copied().unwrap_or(0)
+    }
+
     pub(crate) fn set_since(&mut self, job: u8, epoch: u64)
         requires { job < JOBS }
         ensures { copying_of self.new ≡ record (copying_of self.old) { since = put (copying_of self.old).since job epoch } }
@@ -49,12 +56,12 @@ impl Jobs {
         self.since[job as usize] = epoch;
     }
 
-    /// The job's pointer isn't named to its target.
-    pub(crate) fn set_unnamed(&mut self, job: u8)
+    /// Whether the job's pointer is named to its target.
+    pub(crate) fn set_named(&mut self, job: u8, named: bool)
         requires { job < JOBS }
-        ensures { copying_of self.new ≡ record (copying_of self.old) { named = put (copying_of self.old).named job false } }
+        ensures { copying_of self.new ≡ record (copying_of self.old) { named = put (copying_of self.old).named job named } }
     {
-        self.named[job as usize] = false;
+        self.named[job as usize] = named;
     }
 
     pub(crate) fn has_task(&self, copier: u8) -> bool

@@ -1,5 +1,6 @@
 use Rattle.std.specs.Prelude.{refl}
 use Rattle.far_word.specs.Header.{head_of}
+use Rattle.far_word.specs.Job.{job_of}
 use Rattle.far_word.specs.Pointer.{read_of}
 use Rattle.far_log.specs.Spans.{spans_in}
 use Rattle.far_core.specs.state.Spans.{spans_of}
@@ -10,7 +11,7 @@ use Rattle.far_evac.proofs.worked.AsCalled.{as_called}
 
 -- the worked examples, computed
 pub returns : goal.returns
-unfolding read_of head_of spans_in spans_of live_in turn_size
+unfolding read_of head_of job_of spans_in spans_of live_in turn_size
 returns c = record {
   as_called = as_called;
   reserve_is_kept = refl;

@@ -22,6 +22,7 @@ loop-at-init g c =
     record {
       between = c.requires.between;
       round = c.requires.round;
+      alone = c.requires.alone;
       strays = c.requires.strays;
       ran = (
         [],
@@ -50,11 +51,12 @@ loop-at-preserved g c =
     let (o, made, spent) = c.in-Ok.ensures.made in
     let spared = spoiled_more (lie_of device) (flaws device) left outside o c.loop-at.evac c.turn.new.evac spent few allowed in
     let held = c.answer_one.ensures start (flat_map reply_text (opened device ++ replies)) holds in
-    let lasts = still_lasts now command r next (record { law = c.loop-at.evac.book.near.core.law; round = c.loop-at.invariant.round; between = c.loop-at.invariant.between; strays = c.loop-at.invariant.strays })
+    let lasts = still_lasts now command r next (record { law = c.loop-at.evac.book.near.core.law; round = c.loop-at.invariant.round; alone = c.loop-at.invariant.alone; between = c.loop-at.invariant.between; strays = c.loop-at.invariant.strays })
     c.at-command.ensures.bytes (o, made) in
     record {
       between = lasts.between;
       round = lasts.round;
+      alone = lasts.alone;
       strays = lasts.strays;
       ran = (
         outside ++ o ∷ [],

@@ -1,4 +1,4 @@
-use Rattle.std.proofs.Common.{ℕ, List, ◌++◌, drop}
+use Rattle.std.proofs.Common.{◌≡◌, ℕ, List, ◌++◌, drop, false}
 use Rattle.std.specs.Option.{option_map}
 use Rattle.std.specs.List.{flat_map}
 use Rattle.far_evac.specs.MomentLaw.{MomentLaw}
@@ -16,6 +16,7 @@ abbrev pub invariant-loop-at : goal.invariant-loop-at
 invariant-loop-at g l = let contents = g.W.Write.contents in let device = option_map as_device l.fn.device in record {
   between : Between (state_in l.evac);
   round : MomentLaw (moment_in l.evac);
+  alone : l.evac.copying ≡ false;
   strays : NoneStrays (moment_in l.evac);
   ran : (outside : List Outside) × (replies : List Reply) × (moments : List Moment) × (left : ℕ) × may_spoil (lie_of device) l.evac left
       × ((os : List Outside) → FlawedAtMost (lie_of device) left os → FlawedAtMost (lie_of device) (flaws device) (outside ++ os))

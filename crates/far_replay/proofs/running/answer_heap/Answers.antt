@@ -1,4 +1,4 @@
-use Rattle.std.proofs.Common.{inl, inr, subst, sym}
+use Rattle.std.proofs.Common.{ap, inl, inr, subst, sym}
 use Rattle.far_core.specs.state.Shape.{is_shape}
 use Rattle.far_evac.specs.MomentLaw.{MomentLaw}
 use Rattle.far_evac.specs.Strays.{NoneStrays}
@@ -25,6 +25,9 @@ pub answer_commands-requires-clause-round : goal.answer_commands-requires-clause
 answer_commands-requires-clause-round g c =
     let shape = c.args.shape in
     subst MomentLaw (sym c.in-Ok.ensures.moment) (opening_round shape.logs shape.mutators shape.epoch (is_true (option_map as_device c.args.device)) c.in-Ok.ensures.range)
+
+pub answer_commands-requires-clause-alone : goal.answer_commands-requires-clause-alone
+answer_commands-requires-clause-alone g c = ap (λ (m : Moment). m.copying) c.in-Ok.ensures.moment
 
 pub answer_commands-requires-clause-strays : goal.answer_commands-requires-clause-strays
 answer_commands-requires-clause-strays g c =

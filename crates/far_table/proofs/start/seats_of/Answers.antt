@@ -6,7 +6,7 @@ use Rattle.far_table.specs.Rule.{Running}
 use Rattle.far_table.specs.Stands.{Starts, book_of}
 use Rattle.atomic_table.specs.Table.{opening}
 use Rattle.far_table.proofs.Begins.{opens}
-use Rattle.far_table.proofs.Seating.{first_there, rule_stands, rule_starts}
+use Rattle.far_table.proofs.Seating.{first_copier_there, first_there, rule_stands, rule_starts}
 use Rattle.far_table.proofs.Tables.{is_table, table}
 use Rattle.far_table.proofs.start.seats_of.Goals as goal
 
@@ -15,16 +15,20 @@ of_words-requires g c = let s = core_state c.args.plan.now.core in let h = g.D.D
     subst (λ l. Running (opening l [] (Book (first_book s h)))) (sym (c.as_slice.ensures.value ∙ c.in_ok-words.ensures))
     (opens s h (table s) c.keeps_law.ensures.law c.nothing_is_past.ensures.past (is_table s) c.requires.honest)
 
-pub deal_all-requires-clause-dealer : goal.deal_all-requires-clause-dealer
-deal_all-requires-clause-dealer g c =
+pub deal_copiers-requires-clause-dealer : goal.deal_copiers-requires-clause-dealer
+deal_copiers-requires-clause-dealer g c =
     let e = c.in_ok-table.ensures in
     let h = ap (λ t. t.shared.table_id) c.in_ok-table-2.ensures.ok in
     let long = ap length (c.as_slice.ensures.value ∙ c.in_ok-words.ensures) ∙ (is_table (core_state c.args.plan.now.core)).wide in
     let is = ap (λ z. z.0) e.4 in
     (e.2 ∙ sym h, ap (λ z. z.words) h ∙ (e.0 ∙ long), is ∙ ap Book (sym (ap book_of is)))
 
-pub deal_all-requires-clause-first : goal.deal_all-requires-clause-first
-deal_all-requires-clause-first g c = ap (λ z. z.0) c.in_ok-table.ensures.4
+pub deal_copiers-requires-clause-first : goal.deal_copiers-requires-clause-first
+deal_copiers-requires-clause-first g c = ap (λ z. z.0) c.in_ok-table.ensures.4
+
+pub deal_copiers-requires-clause-there : goal.deal_copiers-requires-clause-there
+deal_copiers-requires-clause-there g c = let s = core_state c.args.plan.now.core in let h = g.D.Device.honest c.args.plan.now.device.value in
+    first_copier_there s h c.keeps_law.ensures.law c.nothing_is_past.ensures.past c.requires.honest
 
 pub deal_all-requires-clause-there : goal.deal_all-requires-clause-there
 deal_all-requires-clause-there g c = let s = core_state c.args.plan.now.core in let h = g.D.Device.honest c.args.plan.now.device.value in

@@ -10,7 +10,7 @@ keeps_objects : (c : goal.In-Ok) → KeepsObjects (core_state c.args.evac.now.bo
 keeps_objects c =
     let law : Law (core_state c.args.evac.now.book.near.core) = subst (λ (x : Core). Law (core_state x)) c.core_of.ensures c.keeps_law-2.ensures.law in
     let runs = c.in-Ok.ensures.runs in
-    made_round_keeps _ _ runs.0 1 9 c.in-Ok.field-0 law c.keeps_law.ensures.moment
+    made_round_keeps _ _ runs.0 1 9 c.in-Ok.field-0 law c.keeps_law.ensures.moment (c.keeps_law.ensures.exact tt)
     (λ why e. let both = sym c.in-Ok.is ∙ (c.run_round.ensures.barred why e).0 in absurd cc)
     runs.2 (runs.3 tt) c.rounds_keep_objects.ensures.whole
 

@@ -1,6 +1,8 @@
-use Rattle.std.proofs.Common.{true}
+use Rattle.std.proofs.Common.{true, sym, subst}
 use Rattle.far_core.specs.state.CoreState.{core_state}
-use Rattle.tests_owner.proofs.Fitting.{fresh_seats, seat_start}
+use Rattle.far_book.specs.book.Own.{HasNoJob}
+use Rattle.far_table.specs.BookSeats.{seat_view}
+use Rattle.tests_owner.proofs.Fitting.{fresh_seats, jobs_start, seat_start}
 use Rattle.tests_owner.proofs.heap.shared.Goals as goal
 
 pub owners_of-requires : goal.owners_of-requires
@@ -8,3 +10,6 @@ owners_of-requires c = fresh_seats _ _ c.args.shape true _ c.in_ok-core.ensures.
 
 pub new-requires-2-clause-start : goal.new-requires-2-clause-start
 new-requires-2-clause-start c = seat_start (core_state c.in_ok-core.core) _ c.args.shape true c.in_ok-core.ensures.opening c.in_ok-seat.ensures.starts.book
+
+pub returns : goal.returns
+returns c = record { alone = subst (λ b. HasNoJob (seat_view b)) (sym c.in_ok-book.ensures.near) (jobs_start (core_state c.in_ok-core.core) _ c.args.shape true c.in_ok-core.ensures.opening c.in_ok-seat.ensures.starts.book) }

@@ -16,4 +16,7 @@ returns-clause-notes c = starts c.args.shape c.requires _ record {
   every = λ k few. c.below.ensures k few ∙ lt-ltb k 64 few;
   sets = c.in_ok-vec-2.ensures.items_if_clones_equal (λ y e. e);
   cells = c.in_ok-vec-2.ensures.len;
+  jobs_sized = c.new.ensures.sized;
+  jobs_noted = c.new.ensures.noted;
+  jobs_waiting = c.new.ensures.waiting;
 }

@@ -1,6 +1,7 @@
 use Rattle.far_core.proofs.RefusedCopying.{copying_refused}
 use Rattle.far_core.proofs.RefusedEvents.{scopes_refused, pointers_refused, words_refused, logs_refused, rounds_refused, copies_refused}
 use Rattle.far_core.proofs.RefusedNamings.{namings_refused}
+use Rattle.far_core.proofs.TakingCopies.{taking_refused}
 use Rattle.far_core.proofs.machine.laws.refusals_are_said.Goals as goal
 
 pub returns-clause-scopes : goal.returns-clause-scopes
@@ -24,5 +25,8 @@ returns-clause-copying c = copying_refused
 pub returns-clause-namings : goal.returns-clause-namings
 returns-clause-namings c = namings_refused
 
-pub returns-clause-offers : goal.returns-clause-offers
-returns-clause-offers c = copies_refused
+pub returns-clause-copies : goal.returns-clause-copies
+returns-clause-copies c = copies_refused
+
+pub returns-clause-taking : goal.returns-clause-taking
+returns-clause-taking c = taking_refused

@@ -14,10 +14,11 @@ use Rattle.far_evac.specs.Ready.{Ready}
 use Rattle.far_evac.specs.Standing.{collection_in}
 use Rattle.far_evac.specs.Walk.{way_of}
 use Rattle.far_evac.proofs.Asking.{asks_alike}
-use Rattle.far_evac.proofs.Keeping.{round_found}
+use Rattle.far_evac.proofs.HeldJobs.{jobs_kept}
 use Rattle.far_evac.proofs.Readiness.{risen_is_ready}
 use Rattle.far_evac.proofs.SendingOff.{Wanted, first_wanted}
-use Rattle.far_evac.proofs.WalkingOn.{dealt_exact, dealt_known, walks_on}
+use Rattle.far_evac.proofs.Sound.{sound_found}
+use Rattle.far_evac.proofs.WalkingOn.{dealt_exact, dealt_known, jobs_on, walks_on}
 use Rattle.far_evac.proofs.evac.Evac.deal.Goals as goal
 
 pub send_off-requires : goal.send_off-requires
@@ -36,11 +37,21 @@ invariant_of-self g c =
     let next = subst (λ (e : EvacOf g.row.N.Denot g.row.D.Denot). IsNextLeaving (view e.book.near) e.collection c.args.span) (sym c.self.view_is) c.requires.next in
     let risen = risen_is_ready (moment view c.args.self.now) c.keeps_law.ensures.law c.keeps_law.ensures.moment (ap has_risen c.requires.phase) in
     let ready = subst (λ (e : EvacOf g.row.N.Denot g.row.D.Denot). Ready (view e.book.near) e.collection) (sym c.self.view_is) risen in
-    walks_on (view c.self.inside.book.near) (view c.send_off.new.book.near) c.self.inside.round c.self.invariant phase c.args.span next ready wanted.quiet law c.keeps_law-in-Ok.ensures.law wanted.evac
-    c.self.inside.book.order c.send_off.new.book.order c.in-Ok.fate c.in-Ok.ensures.leaves c.size_of.result c.size_of.ensures
+    let s = view c.self.inside.book.near in
+    let t = view c.send_off.new.book.near in
+    let r = c.self.inside.round in
+    record {
+      round = walks_on s t r c.self.invariant.round phase c.args.span next ready wanted.quiet law c.keeps_law-in-Ok.ensures.law wanted.evac
+          c.self.inside.book.order c.send_off.new.book.order c.in-Ok.fate c.in-Ok.ensures.leaves c.size_of.result c.size_of.ensures;
+      jobs = jobs_kept s t c.self.inside.copying
+          (jobs_on s t r c.self.invariant.round phase c.args.span next ready wanted.quiet law c.keeps_law-in-Ok.ensures.law wanted.evac
+          c.self.inside.book.order c.send_off.new.book.order c.in-Ok.fate c.in-Ok.ensures.leaves) r.phase (collection_in r) c.self.invariant.jobs;
+      exact = c.self.invariant.exact;
+      plain = c.self.invariant.plain;
+    }
 
 pub invariant_of-self-in-Err : goal.invariant_of-self-in-Err
-invariant_of-self-in-Err g c = round_found (g.N.Near.view c.self.inside.book.near) (g.N.Near.view c.send_off.new.book.near) c.self.inside.round c.self.invariant c.in-Err.ensures.kept
+invariant_of-self-in-Err g c = sound_found (g.N.Near.view c.self.inside.book.near) (g.N.Near.view c.send_off.new.book.near) c.self.inside.round c.self.invariant c.in-Err.ensures.kept
 
 pub returns-in-Ok-clause-dealt : goal.returns-in-Ok-clause-dealt
 returns-in-Ok-clause-dealt g c =
@@ -51,8 +62,8 @@ returns-in-Ok-clause-dealt g c =
     let old = c.args.self.now.book.device in
     let new = c.send_off.new.book.device in
     let leaves = subst (λ (e : EvacOf g.row.N.Denot g.row.D.Denot). LeavesBy (view e.book.near) e.book.order t c.send_off.new.book.order p c.in-Ok.fate) c.self.view_is c.in-Ok.ensures.leaves in
-    let dealt = dealt_known (standing view c.args.self.now c.args.progress.now) (record { core = t; order = c.send_off.new.book.order; phase = Evacuating; collection = collection_in c.self.inside.round })
-    (tally_of c.count.new.progress) p c.in-Ok.fate leaves refl (ap (λ (e : EvacOf g.row.N.Denot g.row.D.Denot). e.collection) c.self.view_is) (ap tally_of c.count.ensures) in
+    let dealt = dealt_known (standing view c.args.self.now c.args.progress.now) (record { core = t; order = c.send_off.new.book.order; phase = Evacuating; collection = collection_in c.self.inside.round; copying = c.self.inside.copying })
+    (tally_of c.count.new.progress) p c.in-Ok.fate leaves refl (ap (λ (e : EvacOf g.row.N.Denot g.row.D.Denot). e.collection) c.self.view_is) (ap (λ (e : EvacOf g.row.N.Denot g.row.D.Denot). e.copying) c.self.view_is) (ap tally_of c.count.ensures) in
     let asked = subst (λ (e : EvacOf g.row.N.Denot g.row.D.Denot). AsksAs g.row.D.Denot g.D.Device.writes g.D.Device.lets_go (view e.book.near) p c.in-Ok.fate e.book.device new) c.self.view_is c.in-Ok.ensures.asked in
     (leaves.word, leaves.found, dealt, asks_alike g.row.D.Denot g.D.Device.writes g.D.Device.lets_go s p asked.0 (way_of s (read_of leaves.word)) old new (sym asked.1 ∙ leaves.is) asked.2)
 
@@ -64,9 +75,9 @@ returns-in-Ok-clause-exact g c still =
     let leaves = subst (λ (e : EvacOf g.row.N.Denot g.row.D.Denot). LeavesAs (view e.book.near) e.book.order t c.send_off.new.book.order p ((view e.book.near).cell p) c.in-Ok.fate) c.self.view_is
     (c.in-Ok.ensures.exact still) in
     dealt_exact (standing view c.args.self.now c.args.progress.now) (record {
-      moment = record { core = t; order = c.send_off.new.book.order; phase = Evacuating; collection = collection_in c.self.inside.round };
+      moment = record { core = t; order = c.send_off.new.book.order; phase = Evacuating; collection = collection_in c.self.inside.round; copying = c.self.inside.copying };
       tally = tally_of c.count.new.progress;
-    }) p ((view c.args.self.now.book.near).cell p) c.in-Ok.fate leaves refl (ap (λ (e : EvacOf g.row.N.Denot g.row.D.Denot). e.collection) c.self.view_is) (ap tally_of c.count.ensures)
+    }) p ((view c.args.self.now.book.near).cell p) c.in-Ok.fate leaves refl (ap (λ (e : EvacOf g.row.N.Denot g.row.D.Denot). e.collection) c.self.view_is) (ap (λ (e : EvacOf g.row.N.Denot g.row.D.Denot). e.copying) c.self.view_is) (ap tally_of c.count.ensures)
 
 pub returns-in-Err-clause-refused : goal.returns-in-Err-clause-refused
 returns-in-Err-clause-refused g c =

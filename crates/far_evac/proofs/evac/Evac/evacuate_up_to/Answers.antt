@@ -75,6 +75,7 @@ loop-preserved g c =
     let now = c.settle.new.self.book.device in
     record {
       phase = did.round.0 ∙ leaving;
+      alone = did.round.2 ∙ c.settle.ensures.copying ∙ before.alone;
       walks = λ (t : Walked) known. one_more m c.loop.counter w v t c.in-Some.span.p some.0 did.dealt.0 some.1 did.dealt.1 did.dealt.2 known walks;
       exact = λ still. one_exact m c.loop.counter w v (settled v) c.in-Some.span.p some.0 some.1 (did.exact still) refl (c.settle.ensures.exact still ∙ before.exact still);
       freed = omega (arith, c.settle.ensures.freed, did.rest.0, long, before.freed);

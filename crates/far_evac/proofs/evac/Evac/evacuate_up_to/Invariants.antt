@@ -13,6 +13,7 @@ use Rattle.far_evac.proofs.evac.Evac.evacuate_up_to.Given as goal
 abbrev pub invariant-loop : goal.invariant-loop
 invariant-loop g l = record {
   phase : l.self.phase ≡ phase.Evacuating;
+  alone : l.self.copying ≡ false;
   walks : (t : Walked) → KnowsWalked (settled (standing g.N.Near.view l.self l.progress)) t → WalksTo (moment g.N.Near.view l.fn.self) l.counter t;
   exact : g.N.Near.still → settled (standing g.N.Near.view l.self l.progress) ≡ walked (moment g.N.Near.view l.fn.self) l.counter;
   freed : l.progress.freed + length l.self.collection ≡ length l.fn.self.collection;

@@ -3,7 +3,7 @@ use Rattle.far_evac.specs.EvacOf.{EvacOf, moment}
 use Rattle.far_evac.specs.Live.{live_in}
 use Rattle.far_evac.proofs.Fronts.{first_lives, knows_cells, none_lives}
 use Rattle.far_evac.proofs.HandKept.{since_evac}
-use Rattle.far_evac.proofs.Keeping.{round_found}
+use Rattle.far_evac.proofs.Sound.{sound_found}
 use Rattle.far_evac.proofs.Walking.{found_moment, front_begins, front_lies, front_range, stands_first}
 use Rattle.far_evac.proofs.WalkingOn.{next_leaving}
 use Rattle.far_evac.proofs.evac.Evac.first_in.Goals as goal
@@ -14,15 +14,15 @@ next_live-requires g c =
     let held = ap (λ (e : EvacOf g.row.N.Denot g.row.D.Denot). e.collection) c.self.view_is ∙ c.requires.front.1 in
     let s = g.N.Near.view c.self.inside.book.near in
     let law = c.keeps_law.ensures.law in record {
-      log = front_range s c.self.inside.round c.self.invariant law phase c.args.log c.requires.front.0 held;
-      begins = front_begins s c.self.inside.round c.self.invariant law phase c.args.log c.requires.front.0 held;
+      log = front_range s c.self.inside.round c.self.invariant.round law phase c.args.log c.requires.front.0 held;
+      begins = front_begins s c.self.inside.round c.self.invariant.round law phase c.args.log c.requires.front.0 held;
     }
 
 pub invariant_of-self : goal.invariant_of-self
 invariant_of-self g c =
     let s = g.N.Near.view c.self.inside.book.near in
     let t = g.N.Near.view c.next_live.new.self.near in
-    round_found s t c.self.inside.round c.self.invariant (knows_cells s t c.next_live.ensures.found c.next_live.ensures.kept)
+    sound_found s t c.self.inside.round c.self.invariant (knows_cells s t c.next_live.ensures.found c.next_live.ensures.kept)
 
 pub returns-in_default-clause-known : goal.returns-in_default-clause-known
 returns-in_default-clause-known g c =
@@ -36,7 +36,7 @@ returns-in_default-clause-none g c =
     let held = ap (λ (e : EvacOf g.row.N.Denot g.row.D.Denot). e.collection) c.self.view_is ∙ c.requires.front.1 in
     let s = g.N.Near.view c.self.inside.book.near in
     let law = c.keeps_law.ensures.law in
-    let lies = front_lies s c.self.inside.round c.self.invariant law phase c.args.log c.requires.front.0 held in
+    let lies = front_lies s c.self.inside.round c.self.invariant.round law phase c.args.log c.requires.front.0 held in
     subst (λ (e : EvacOf g.row.N.Denot g.row.D.Denot). live_in (g.N.Near.view e.book.near) c.args.log ≡ []) c.self.view_is
     (none_lives s law c.args.log c.self.inside.round.at lies c.in_default.ensures.none)
 
@@ -46,8 +46,8 @@ invariant_of-self-2 g c =
     let held = ap (λ (e : EvacOf g.row.N.Denot g.row.D.Denot). e.collection) c.self.view_is ∙ c.requires.front.1 in
     let s = g.N.Near.view c.self.inside.book.near in
     let t = g.N.Near.view c.next_live.new.self.near in
-    let moved = stands_first s c.self.inside.round c.self.invariant c.keeps_law.ensures.law phase c.args.log c.requires.front.0 held c.in-Some.span c.in-Some.ensures.first in
-    round_found s t _ moved (knows_cells s t c.next_live.ensures.found c.next_live.ensures.kept)
+    let moved = stands_first s c.self.inside.round c.self.invariant.round c.keeps_law.ensures.law phase c.args.log c.requires.front.0 held c.in-Some.span c.in-Some.ensures.first in
+    sound_found s t _ record { round = moved; jobs = c.self.invariant.jobs; exact = c.self.invariant.exact; plain = c.self.invariant.plain } (knows_cells s t c.next_live.ensures.found c.next_live.ensures.kept)
 
 pub returns : goal.returns
 returns g c =
@@ -57,7 +57,7 @@ returns g c =
     let t = g.N.Near.view c.next_live.new.self.near in
     let law = c.keeps_law.ensures.law in
     let known = knows_cells s t c.next_live.ensures.found c.next_live.ensures.kept in
-    let lies = front_lies s c.self.inside.round c.self.invariant law phase c.args.log c.requires.front.0 held in
+    let lies = front_lies s c.self.inside.round c.self.invariant.round law phase c.args.log c.requires.front.0 held in
     let first = c.in-Some.ensures.first in
     let lives = first_lives s law c.args.log c.self.inside.round.at lies c.in-Some.span first in
     record {

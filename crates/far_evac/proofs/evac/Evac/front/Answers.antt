@@ -21,7 +21,7 @@ returns-in-Evacuating-clause-some g c =
     let held = ap (λ (phase : Phase). collection_of phase r.chosen r.index) walks in
     let ys = c.as_slice.result.now in
     let long = length-drop r.index r.chosen in
-    let more = some_in (drop r.index r.chosen) (sym (ap is_empty held) ∙ c.self.invariant.holds.runs ∙ ap is_idle walks) in
+    let more = some_in (drop r.index r.chosen) (sym (ap is_empty held) ∙ c.self.invariant.round.holds.runs ∙ ap is_idle walks) in
     let some : r.index < length r.chosen = omega (arith, long, more) in
     let front = front_is r.chosen ys r.index (length r.chosen) c.as_slice.ensures refl some in
     (drop (r.index + 1) r.chosen, sym (ap (λ (e : EvacOf g.row.N.Denot g.row.D.Denot). e.collection) c.self.view_is) ∙ held ∙ front)

@@ -1,4 +1,4 @@
-use Rattle.std.proofs.Common.{◌≡◌, ◌∙◌, ap, refl, subst, not, length, IfSome, IfNone}
+use Rattle.std.proofs.Common.{◌≡◌, ◌∙◌, ap, refl, sym, subst, not, length, IfSome, IfNone}
 use Rattle.far_log.specs.declared.span.Span.{Span}
 use Rattle.far_evac.proofs.HandKept.{since_evac}
 use Rattle.far_hand.proofs.Closure.{then_came}
@@ -6,7 +6,10 @@ use Rattle.far_evac.specs.Cursor.{StandsAt, first_marked, standing_at}
 use Rattle.far_evac.specs.EvacOf.{EvacOf, moment}
 use Rattle.far_evac.specs.Live.{is_empty, lacking}
 use Rattle.far_evac.specs.Moment.{Moment}
-use Rattle.far_evac.proofs.MarkSteps.{Sought, goes_on, knows_so, marks_exactly, marks_known, may_mark, moment_so, next_held, next_phase, none_known, none_same, none_shown, some_shown}
+use Rattle.far_evac.specs.Standing.{collection_in}
+use Rattle.far_evac.proofs.HeldJobs.{jobs_left, jobs_more, knows_jobs}
+use Rattle.far_evac.proofs.Onward.{not_leaving}
+use Rattle.far_evac.proofs.MarkSteps.{Sought, goes_on, jobs_on, knows_so, marks_exactly, marks_known, may_mark, moment_so, next_held, next_phase, none_known, none_same, none_shown, some_shown}
 use Rattle.far_evac.proofs.evac.Evac.mark_next.Given.{Over}
 use Rattle.far_evac.proofs.evac.Evac.mark_next.Goals.{After-seek-next}
 use Rattle.far_evac.proofs.evac.Evac.mark_next.Goals as goal
@@ -45,7 +48,18 @@ invariant_of-self-2 g c =
     let h = sought g (goal.at.invariant_of-self-2 g c).After-seek-next in
     let stands = subst (λ o. IfSome o (λ (span : Span). StandsAt (g.N.Near.view c.seek-next.new.book.near) (standing_at c.self.inside.round c.seek-next.result.0) span)) c.in-Some.is c.seek-next.ensures.next in
     let m = c.mark.ensures in
-    goes_on h c.keeps_law.ensures.law c.keeps_law-2.ensures.law c.in-Some.span stands (g.N.Near.view c.mark.new.self.near) c.mark.result m.found c.mark.type_inv m.kept c.size_of.result c.size_of.ensures
+    let s = g.N.Near.view c.self.inside.book.near in
+    let t = g.N.Near.view c.seek-next.new.book.near in
+    let u = g.N.Near.view c.mark.new.self.near in
+    let law = c.keeps_law.ensures.law in
+    let then = c.keeps_law-2.ensures.law in
+    let keeps = jobs_more s t u (knows_jobs s t c.seek-next.ensures.known) (jobs_on h law then c.in-Some.span stands u c.mark.result m.found c.mark.type_inv m.kept) in
+    record {
+      round = goes_on h law then c.in-Some.span stands u c.mark.result m.found c.mark.type_inv m.kept c.size_of.result c.size_of.ensures;
+      jobs = jobs_left s u c.self.inside.copying keeps c.self.inside.round.phase c.self.inside.round.phase (collection_in c.self.inside.round) _ (λ e. not_leaving (sym h.marks ∙ e)) c.self.invariant.jobs;
+      exact = c.self.invariant.exact;
+      plain = c.self.invariant.plain;
+    }
 
 pub returns : goal.returns
 returns g c =

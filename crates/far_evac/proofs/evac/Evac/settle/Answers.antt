@@ -18,6 +18,7 @@ loop-log-init g c = record {
   exact = λ still. refl;
   ends = c.requires.phase ∙ sym (ap (λ none. cond none phase.Idle phase.Evacuating) (c.keeps_law.ensures.moment.runs ∙ ap is_idle c.requires.phase));
   freed = refl;
+  alone = c.requires.alone;
   done = refl;
   device = refl;
   came = no_call refl;
@@ -46,16 +47,18 @@ loop-log-preserved g c =
     let none = c.in_default-first_in.ensures.none in
     let held = c.give_back.ensures.collection in
     let order = c.give_back.ensures.order in
+    let copies = c.give_back.ensures.copying ∙ sym (ap (λ (m : Moment). m.copying) c.first_in.ensures.known.rest ∙ c.loop-log.invariant.alone) in
     let before = c.loop-log.invariant in
     let same = ap (λ (m : Moment). m.collection) c.first_in.ensures.known.rest in
     let next : Progress = record c.loop-log.progress { freed = c.loop-log.progress.freed + 1 } in
     let long = ap length (sym same ∙ held) in
     record {
       known = walked_known_more (settled (standing view c.args.self.now c.args.progress.now)) (settled (standing view e c.loop-log.progress)) (settled (standing view h next)) before.known
-          (step_known view e f h c.loop-log.progress next log some.0 some.1 none order held refl c.first_in.ensures.known c.give_back.ensures.core);
-      exact = λ still. step_exact view e f h c.loop-log.progress next log some.0 some.1 none order held refl (c.first_in.ensures.exact still) (c.give_back.ensures.exact still) ∙ before.exact still;
+          (step_known view e f h c.loop-log.progress next log some.0 some.1 none order held copies refl c.first_in.ensures.known c.give_back.ensures.core);
+      exact = λ still. step_exact view e f h c.loop-log.progress next log some.0 some.1 none order held copies refl (c.first_in.ensures.exact still) (c.give_back.ensures.exact still) ∙ before.exact still;
       ends = c.give_back.ensures.ends;
       freed = omega (arith, long, before.freed);
+      alone = c.give_back.ensures.copying;
       done = before.done;
       device = c.give_back.ensures.device ∙ c.first_in.ensures.device ∙ before.device;
       came = then_came (then_came before.came c.first_in.ensures.came) c.give_back.ensures.came;

@@ -1,4 +1,4 @@
-use Rattle.std.proofs.Common.{◌≡◌, ◌+◌, cond, length}
+use Rattle.std.proofs.Common.{◌≡◌, ◌+◌, cond, false, length}
 use Rattle.far_hand.specs.Came.{Came}
 use Rattle.far_evac.specs.declared.phase.Phase.TheVariants as phase
 use Rattle.far_evac.specs.AnyHand.{KnowsWalked}
@@ -13,6 +13,7 @@ invariant-loop-log g l = record {
   exact : g.N.Near.still → settled (standing g.N.Near.view l.self l.progress) ≡ settled (standing g.N.Near.view l.fn.self l.fn.progress);
   ends : l.self.phase ≡ cond (is_empty l.self.collection) phase.Idle phase.Evacuating;
   freed : l.progress.freed + length l.self.collection ≡ l.fn.progress.freed + length l.fn.self.collection;
+  alone : l.self.copying ≡ false;
   done : l.progress.done ≡ l.fn.progress.done;
   device : l.self.book.device ≡ l.fn.self.book.device;
   came : Came g.N.Near.makes l.fn.self.book.near l.self.book.near;

@@ -2,7 +2,7 @@ use Rattle.std.proofs.Common.{sym, ◌∙◌, ◌<◌, ◌*◌, arith}
 use Rattle.std.proofs.lemmas.Bool.{false≢true}
 use Rattle.far_word.specs.declared.sizes.TheConstants.{CELLS}
 use Rattle.far_core.specs.state.CoreState.{core_state}
-use Rattle.far_hand.specs.Masked.{word_at, is_counted}
+use Rattle.far_hand.specs.Masked.{word_at}
 use Rattle.far_hand.proofs.Quietness.{quiet_fact, quiet_test}
 use Rattle.far_hand.proofs.beset.Beset.is_quiet_at.Goals as goal
 
@@ -11,7 +11,7 @@ returns-then-is_quiet_word-clause-quiet c = λ _.
     let hand = c.args.self.now in
     let s = core_state hand.core in
     let small : c.loop-pointer.pointer < CELLS * s.mutators = omega (arith, hand.found_sized, c.len-pointer-end.ensures) in
-    quiet_fact s hand.core.law (word_at hand.found.items) (is_counted hand.counted.items) hand.finds c.args.log c.args.at c.loop-pointer.pointer small
+    quiet_fact s hand.core.law (word_at hand.found.items) hand.finds c.args.log c.args.at c.loop-pointer.pointer small
     (sym c.is_quiet_word.ensures ∙ c.if-is_quiet_word.true)
 
 pub returns-clause-all : goal.returns-clause-all
@@ -19,4 +19,4 @@ returns-clause-all c = λ _ x.
     let hand = c.args.self.now in
     let s = core_state hand.core in
     let small : x.p < c.loop-pointer.pointer = omega (arith, hand.found_sized, c.len-pointer-end.ensures, x.pointer, c.loop-pointer-test.false) in
-    false≢true (sym (c.loop-pointer.invariant x.p small) ∙ quiet_test s hand.core.law (word_at hand.found.items) (is_counted hand.counted.items) hand.finds c.args.log c.args.at c.requires x)
+    false≢true (sym (c.loop-pointer.invariant x.p small) ∙ quiet_test s hand.core.law (word_at hand.found.items) hand.finds c.args.log c.args.at c.requires x)

@@ -4,6 +4,7 @@ use Rattle.far_core.specs.state.CoreState.{core_state}
 use Rattle.far_hand.specs.Masked.{word_at, CountsOnRest}
 use Rattle.far_hand.proofs.Counting.{counts_none}
 use Rattle.far_hand.proofs.Finding.{finds_is}
+use Rattle.far_hand.proofs.JobsFound.{job_is}
 use Rattle.far_hand.proofs.beset.Beset.new.Goals as goal
 
 pub invariant_of-result : goal.invariant_of-result
@@ -14,5 +15,6 @@ invariant_of-result c =
       found_sized = c.in-Ok.ensures.len;
       counted_sized = c.in-Ok-none_counted.ensures.len ∙ ap (λ n. LOG_WORDS * n) c.logs.ensures;
       finds = λ p. finds_is (found p) (s.cell p) (ap (λ (f : ℕ → ℕ). f p) (sym c.in-Ok.ensures.words));
+      finds_jobs = λ j. job_is (word_at c.jobs_of-jobs.result j) (s.copying.word j) (ap (λ (f : ℕ → ℕ). f j) (sym c.jobs_of-jobs.ensures));
       counts = subst (λ (k : ℕ → Bool). CountsOnRest s found k) (sym c.in-Ok-none_counted.ensures.none) (counts_none s found);
     }

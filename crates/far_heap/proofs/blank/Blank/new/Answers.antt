@@ -4,9 +4,10 @@ use Rattle.far_core.specs.state.State.{State}
 use Rattle.far_table.specs.View.{BookView}
 use Rattle.far_table.specs.BookSeats.{seat_view, table_of}
 use Rattle.far_hand.specs.ShapeOf.{shape_of}
+use Rattle.far_book.specs.book.Own.{HasNoJob}
 use Rattle.far_heap.specs.Blanks.{IsUnused, NewSeats}
 use Rattle.far_heap.specs.HeapId.{heap_of}
-use Rattle.far_heap.proofs.NewSeats.{new_seats, none_used, seat_start, shape_start}
+use Rattle.far_heap.proofs.NewSeats.{jobs_start, new_seats, none_used, seat_start, shape_start}
 use Rattle.far_heap.proofs.blank.Blank.new.Goals as goal
 
 pub invariant_of-result : goal.invariant_of-result
@@ -15,9 +16,11 @@ invariant_of-result g c =
     let honest : Bool = g.D.Device.honest c.of.result.value in
     let shared = c.in-Ok-share in
     let seats = shared.seats.items in
-    subst (λ b. NewSeats (heap_of b) seats) (sym c.in-Ok-new.ensures.near)
-    (subst (λ (z : BookView). NewSeats (record { table = table_of shared.seat; logs = z.logs; mutators = z.mutators; honest = z.honest }) seats) (sym shared.ensures.book)
-    (new_seats (table_of shared.seat) s honest c.args.shape c.in-Ok.ensures.opening shared.ensures.starts.owners s.logs seats c.in-Ok.ensures.law.shape.few_mutators shared.ensures.owners))
+    subst (λ b. NewSeats (heap_of b) seats × HasNoJob (seat_view b)) (sym c.in-Ok-new.ensures.near) (
+      subst (λ (z : BookView). NewSeats (record { table = table_of shared.seat; logs = z.logs; mutators = z.mutators; honest = z.honest }) seats) (sym shared.ensures.book)
+          (new_seats (table_of shared.seat) s honest c.args.shape c.in-Ok.ensures.opening shared.ensures.starts.owners s.logs seats c.in-Ok.ensures.law.shape.few_mutators shared.ensures.owners),
+      jobs_start s _ c.args.shape honest c.in-Ok.ensures.opening shared.ensures.starts.book,
+    )
 
 pub new-requires-2-clause-start : goal.new-requires-2-clause-start
 new-requires-2-clause-start g c = seat_start (core_state c.in-Ok.core) _ c.args.shape (g.D.Device.honest c.of.result.value) c.in-Ok.ensures.opening c.in-Ok-share.ensures.starts.book

@@ -54,4 +54,4 @@ pub returns-clause-round : goal.returns-clause-round
 returns-clause-round g c =
     let l = c.locate.ensures.round in
     let f = c.fetch.ensures.round in
-    subst (λ (e : EvacOf (BookSeat g.row.D.Denot) g.row.D.Denot). SameRound e c.fetch.new.self) c.self.view_is (f.0 ∙ l.0, f.1 ∙ l.1)
+    subst (λ (e : EvacOf (BookSeat g.row.D.Denot) g.row.D.Denot). SameRound e c.fetch.new.self) c.self.view_is (f.0 ∙ l.0, f.1 ∙ l.1, f.2 ∙ l.2)

@@ -51,4 +51,4 @@ pub returns-clause-round : goal.returns-clause-round
 returns-clause-round g c =
     let l = c.locate.ensures.round in
     let m = c.move_now.ensures.round in
-    subst (λ (e : EvacOf (BookSeat g.row.D.Denot) g.row.D.Denot). SameRound e c.move_now.new.self) c.self.view_is (m.0 ∙ l.0, m.1 ∙ l.1)
+    subst (λ (e : EvacOf (BookSeat g.row.D.Denot) g.row.D.Denot). SameRound e c.move_now.new.self) c.self.view_is (m.0 ∙ l.0, m.1 ∙ l.1, m.2 ∙ l.2)

@@ -25,7 +25,7 @@ returns-then-has_drop g c =
     let found = c.locate-found.new.self in
     let dropped = sym (c.has_drop.ensures _ l.home) ∙ c.if-has_drop.true in
     let named = stays_named g.K.HeapName.heap found.book.near c.retire.new.self.book.near r.retired.came (stays_named g.K.HeapName.heap c.self.inside.evac.book.near found.book.near l.came c.self.invariant) in record {
-      round = subst (λ (e : EvacOf (BookSeat g.row.D.Denot) g.row.D.Denot). SameRound e c.retire.new.self) c.self.view_is (r.round.0 ∙ c.locate-found.ensures.round.0, r.round.1 ∙ c.locate-found.ensures.round.1);
+      round = subst (λ (e : EvacOf (BookSeat g.row.D.Denot) g.row.D.Denot). SameRound e c.retire.new.self) c.self.view_is (r.round.0 ∙ c.locate-found.ensures.round.0, r.round.1 ∙ c.locate-found.ensures.round.1, r.round.2 ∙ c.locate-found.ensures.round.2);
       retired = (
         found,
         subst (λ (e : EvacOf (BookSeat g.row.D.Denot) g.row.D.Denot). Looks e found p) c.self.view_is

@@ -9,4 +9,4 @@ use Rattle.far_table.proofs.book.BookSeat.owners_may_act.Goals as goal
 pub returns : goal.returns
 returns g c = λ x may e own fits.
     let b = book_in c.args.self.now in
-    subst (λ (z : State). Legal z e → MayBe b (after z e)) (sym may.is) (may_act may.words b may.owners may.facts e own fits)
+    subst (λ (z : State). Legal z e → MayBe b (after z e)) (sym may.is) (may_act may.words b may.others may.facts e own fits)

@@ -6,4 +6,4 @@ use Rattle.far_core.proofs.memory.jobs.Jobs.set_length.Goals as goal
 pub returns : goal.returns
 unfolding copying_of
 returns c = ap (λ (f : ℕ → Option ℕ). record (copying_of c.args.self.now) { length = f })
-    (item_put c.args.self.now.lengths.items c.args.copier c.args.length None (omega (arith, c.requires, c.args.self.now.lengths_sized, c.args.self.now.lengths.ok.0)))
+    (item_put c.args.self.now.lengths c.args.copier c.args.length None (omega (arith, c.requires, c.args.self.now.lengths_sized)))

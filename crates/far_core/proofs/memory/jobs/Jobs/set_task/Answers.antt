@@ -7,4 +7,4 @@ use Rattle.far_core.proofs.memory.jobs.Jobs.set_task.Goals as goal
 pub returns : goal.returns
 unfolding copying_of
 returns c = ap (λ (f : ℕ → Option Task). record (copying_of c.args.self.now) { task = f })
-    (item_put c.args.self.now.tasks.items c.args.copier c.args.task None (omega (arith, c.requires, c.args.self.now.tasks_sized, c.args.self.now.tasks.ok.0)))
+    (item_put c.args.self.now.tasks c.args.copier c.args.task None (omega (arith, c.requires, c.args.self.now.tasks_sized)))

@@ -7,7 +7,7 @@ use Rattle.far_core.specs.state.CoreState.{core_state}
 use Rattle.far_core.specs.state.State.{State, put}
 use Rattle.far_hand.specs.BesetView.{beset_view}
 use Rattle.far_hand.specs.Known.{Forgets}
-use Rattle.far_hand.specs.Masked.{masked, word_at, is_counted, AllFind, CountsOnRest}
+use Rattle.far_hand.specs.Masked.{masked, word_at, is_counted, AllFind, AllFindJobs, CountsOnRest}
 use Rattle.far_hand.proofs.Counting.{counts_none, finds_named}
 use Rattle.far_hand.proofs.Reading.{forgets, header_known}
 use Rattle.far_core.specs.declared.event.Reply.TheVariants.{Word}
@@ -31,6 +31,7 @@ invariant_of-self c =
       found_sized = c.find.ensures.len ∙ (hand.found_sized ∙ ap (λ (u : State). CELLS * u.mutators) (sym c.clear-cell.ensures.state));
       counted_sized = c.forget.ensures.len ∙ (hand.counted_sized ∙ ap (λ (u : State). LOG_WORDS * u.logs) (sym c.clear-cell.ensures.state));
       finds = subst (λ (u : State). AllFind (word_at c.find.new.found.items) u.cell) (sym c.clear-cell.ensures.state) finds;
+      finds_jobs = subst (λ (u : State). AllFindJobs (word_at hand.jobs) u.copying.word) (sym c.clear-cell.ensures.state) hand.finds_jobs;
       counts = subst (λ (k : ℕ → Bool). CountsOnRest t (word_at c.find.new.found.items) k) (sym c.forget.ensures.none) (counts_none t (word_at c.find.new.found.items));
     }
 
@@ -40,11 +41,12 @@ returns-clause-forgot c =
     let s = core_state hand.core in
     let counted = is_counted hand.counted.items in
     let found = word_at c.find.new.found.items in
+    let jobs = word_at hand.jobs in
     let next = after s (Clear c.args.pointer) in
-    let bare = forgets (masked s (word_at hand.found.items) counted) (masked next found (λ _. false)) s.starts refl s.word refl (λ a st. sym (header_known s.word s.starts counted a st)) in
-    let old = subst (λ (o : State). Forgets o (masked next found (λ _. false))) c.turn.ensures.view bare in
-    let none = subst (λ (k : ℕ → Bool). Forgets (beset_view c.args.self.now) (masked next found k)) (sym c.forget.ensures.none) old in
-    subst (λ (u : State). Forgets (beset_view c.args.self.now) (masked u found (is_counted c.forget.new.counted.items))) (sym c.clear-cell.ensures.state) none
+    let bare = forgets (masked s (word_at hand.found.items) counted jobs) (masked next found (λ _. false) jobs) s.starts refl s.word refl (λ a st. sym (header_known s.word s.starts counted a st)) in
+    let old = subst (λ (o : State). Forgets o (masked next found (λ _. false) jobs)) c.turn.ensures.view bare in
+    let none = subst (λ (k : ℕ → Bool). Forgets (beset_view c.args.self.now) (masked next found k jobs)) (sym c.forget.ensures.none) old in
+    subst (λ (u : State). Forgets (beset_view c.args.self.now) (masked u found (is_counted c.forget.new.counted.items) jobs)) (sym c.clear-cell.ensures.state) none
 
 pub returns-clause-made : goal.returns-clause-made
 returns-clause-made c =

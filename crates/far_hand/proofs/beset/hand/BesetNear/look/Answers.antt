@@ -5,7 +5,7 @@ use Rattle.far_core.specs.events.Look.{shows_clear}
 use Rattle.far_core.specs.state.CoreState.{core_state}
 use Rattle.far_core.specs.state.State.{State}
 use Rattle.far_hand.specs.BesetView.{beset_view}
-use Rattle.far_hand.specs.Masked.{masked, word_at, is_counted, AllFind, CountsOnRest}
+use Rattle.far_hand.specs.Masked.{masked, word_at, is_counted, AllFind, AllFindJobs, CountsOnRest}
 use Rattle.far_hand.specs.Rounds.{IsScopeAt, looked_at}
 use Rattle.far_hand.proofs.RoundSteps.{counts_looked, scope_at}
 use Rattle.far_core.specs.declared.event.Event.TheVariants.{Look}
@@ -25,6 +25,7 @@ invariant_of-self c =
       found_sized = hand.found_sized ∙ ap (λ (u : State). CELLS * u.mutators) (sym c.look.ensures.state);
       counted_sized = hand.counted_sized ∙ ap (λ (u : State). LOG_WORDS * u.logs) (sym c.look.ensures.state);
       finds = subst (λ (u : State). AllFind found u.cell) (sym c.look.ensures.state) hand.finds;
+      finds_jobs = subst (λ (u : State). AllFindJobs (word_at hand.jobs) u.copying.word) (sym c.look.ensures.state) hand.finds_jobs;
       counts = subst (λ (u : State). CountsOnRest u found counted) (sym c.look.ensures.state)
           (counts_looked s found counted c.args.owner (shows_clear s.round_epoch (scope_of (s.scope c.args.owner))) hand.counts);
     }
@@ -35,11 +36,12 @@ returns c =
     let s = core_state hand.core in
     let found = word_at hand.found.items in
     let counted = is_counted hand.counted.items in
+    let jobs = word_at hand.jobs in
     let is : s.scope c.args.owner ≡ c.look.result = cc in
     let legal : Legal (beset_view hand) (Look c.args.owner) = subst (λ (u : State). Legal u (Look c.args.owner)) (sym c.turn.ensures.view) c.requires.legal in
     record {
       scope = subst (λ (u : State). IsScopeAt u.epoch c.look.result) c.turn.ensures.view (scope_at s hand.core.law c.args.owner c.look.result is);
-      kept = ap (λ (u : State). masked u found counted) c.look.ensures.state
+      kept = ap (λ (u : State). masked u found counted jobs) c.look.ensures.state
           ∙ (ap (looked_at (beset_view hand) c.args.owner) is
           ∙ ap (λ (u : State). looked_at u c.args.owner c.look.result) c.turn.ensures.view);
       exact = λ x. absurd x;
@@ -50,5 +52,5 @@ returns c =
         list = c.turn.ensures.events;
         past = c.turn.ensures.next;
       };
-      saw = ∣ (core_state c.look.new.self, beside_itself (core_state c.look.new.self) found counted c.look.new.self.law (subst (λ (u : State). AllFind found u.cell) (sym c.look.ensures.state) hand.finds), ap (λ (u : State). u.scope c.args.owner) c.look.ensures.state ∙ is) ∣₁;
+      saw = ∣ (core_state c.look.new.self, beside_itself (core_state c.look.new.self) found counted jobs c.look.new.self.law (subst (λ (u : State). AllFind found u.cell) (sym c.look.ensures.state) hand.finds) (subst (λ (u : State). AllFindJobs jobs u.copying.word) (sym c.look.ensures.state) hand.finds_jobs), ap (λ (u : State). u.scope c.args.owner) c.look.ensures.state ∙ is) ∣₁;
     }

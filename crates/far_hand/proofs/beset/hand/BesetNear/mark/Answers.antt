@@ -5,7 +5,7 @@ use Rattle.far_core.specs.events.Legal.{Legal}
 use Rattle.far_core.specs.state.CoreState.{core_state}
 use Rattle.far_core.specs.state.State.{State, put}
 use Rattle.far_hand.specs.BesetView.{beset_view}
-use Rattle.far_hand.specs.Masked.{word_at, is_counted, AllFind, CountsOnRest}
+use Rattle.far_hand.specs.Masked.{word_at, is_counted, AllFind, AllFindJobs, CountsOnRest}
 use Rattle.far_hand.proofs.Counting.{finds_named}
 use Rattle.far_hand.proofs.EvacMarks.{with_evac, counts_marked, legal_mark}
 use Rattle.far_core.specs.declared.event.Reply.TheVariants.{Word}
@@ -29,6 +29,7 @@ invariant_of-self c =
       found_sized = c.find.ensures.len ∙ (hand.found_sized ∙ ap (λ (u : State). CELLS * u.mutators) (sym c.mark-cell.ensures.state));
       counted_sized = hand.counted_sized ∙ ap (λ (u : State). LOG_WORDS * u.logs) (sym c.mark-cell.ensures.state);
       finds = subst (λ (u : State). AllFind (word_at c.find.new.found.items) u.cell) (sym c.mark-cell.ensures.state) finds;
+      finds_jobs = subst (λ (u : State). AllFindJobs (word_at hand.jobs) u.copying.word) (sym c.mark-cell.ensures.state) hand.finds_jobs;
       counts = subst (λ (u : State). CountsOnRest u (word_at c.find.new.found.items) counted) (sym c.mark-cell.ensures.state) counts;
     }
 

@@ -8,10 +8,10 @@ use Rattle.far_core.specs.state.State.{State, put}
 use Rattle.far_hand.specs.BesetView.{beset_view}
 use Rattle.far_hand.specs.Finds.{Finds}
 use Rattle.far_hand.specs.Known.{KnowsLeaving}
-use Rattle.far_hand.specs.Masked.{masked, word_at, is_counted, AllFind, CountsOnRest}
+use Rattle.far_hand.specs.Masked.{masked, word_at, is_counted, AllFind, AllFindJobs, CountsOnRest}
 use Rattle.far_hand.proofs.Counting.{counts_found, counts_none, finds_named, finds_put}
 use Rattle.far_hand.proofs.Finding.{finds_seen}
-use Rattle.far_hand.proofs.Naming.{Names, legal_name, names, cells_named, sizes_named, won, lost, lost_word, lost_state}
+use Rattle.far_hand.proofs.Naming.{Names, legal_name, names, cells_named, jobs_named, sizes_named, won, lost, lost_word, lost_state}
 use Rattle.far_core.specs.declared.event.Reply.TheVariants.{Done, Word}
 use Rattle.far_hand.proofs.Making.{turn_may_be, turned_made}
 use Rattle.far_hand.proofs.beset.hand.BesetNear.name.Goals as goal
@@ -21,7 +21,7 @@ name-requires c =
     let hand = c.turn.new.self in
     let s = core_state hand.core in
     let legal : Legal (beset_view hand) (Name c.args.pointer c.args.old c.args.new) = subst (λ (u : State). Legal u (Name c.args.pointer c.args.old c.args.new)) (sym c.turn.ensures.view) c.requires.legal in
-    record { legal = legal_name s hand.core.law (word_at hand.found.items) (is_counted hand.counted.items) hand.finds c.args.pointer c.args.old c.args.new legal.0 c.ranges.new.fits legal }
+    record { legal = legal_name s hand.core.law (word_at hand.found.items) (is_counted hand.counted.items) (word_at hand.jobs) hand.finds hand.finds_jobs c.args.pointer c.args.old c.args.new legal.0 c.ranges.new.fits legal }
 
 pub invariant_of-self : goal.invariant_of-self
 invariant_of-self c =
@@ -30,19 +30,21 @@ invariant_of-self c =
     let t = core_state c.name.new.self in
     let found = word_at hand.found.items in
     let counted = is_counted hand.counted.items in
+    let jobs = word_at hand.jobs in
     let p = c.args.pointer in
     let old = c.args.old in
     let new = c.args.new in
     let legal : Legal (beset_view hand) (Name p old new) = subst (λ (u : State). Legal u (Name p old new)) (sym c.turn.ensures.view) c.requires.legal in
     let seen : old ≡ found p = c.requires.seen ∙ ap (λ (u : State). u.cell p) (sym c.turn.ensures.view) in
     let won_it : s.cell p ≡ old = won s p old new c.in-Ok.ensures.won in
-    let sizes = sizes_named s hand.core.law found counted hand.finds p old new legal.0 c.ranges.new.fits legal seen won_it in
-    let cells : t.cell ≡ put s.cell p new = ap (λ (u : State). u.cell) c.name.ensures.state ∙ cells_named s hand.core.law found counted hand.finds p old new legal.0 c.ranges.new.fits legal seen won_it in
+    let sizes = sizes_named s hand.core.law found counted jobs hand.finds hand.finds_jobs p old new legal.0 c.ranges.new.fits legal seen won_it in
+    let cells : t.cell ≡ put s.cell p new = ap (λ (u : State). u.cell) c.name.ensures.state ∙ cells_named s hand.core.law found counted jobs hand.finds hand.finds_jobs p old new legal.0 c.ranges.new.fits legal seen won_it in
     let named = subst (λ (f : ℕ → ℕ). AllFind f (put s.cell p new)) (sym c.find.ensures.words) (finds_named found s.cell p new hand.finds) in
     record {
       found_sized = c.find.ensures.len ∙ (hand.found_sized ∙ ap (λ n. CELLS * n) (sym sizes.0 ∙ ap (λ (u : State). u.mutators) (sym c.name.ensures.state)));
       counted_sized = c.forget.ensures.len ∙ (hand.counted_sized ∙ ap (λ n. LOG_WORDS * n) (sym sizes.1 ∙ ap (λ (u : State). u.logs) (sym c.name.ensures.state)));
       finds = subst (λ (f : ℕ → ℕ). AllFind (word_at c.find.new.found.items) f) (sym cells) named;
+      finds_jobs = subst (AllFindJobs jobs) (sym (ap (λ (u : State). u.copying.word) c.name.ensures.state ∙ jobs_named s hand.core.law found counted jobs hand.finds hand.finds_jobs p old new legal.0 c.ranges.new.fits legal seen won_it)) hand.finds_jobs;
       counts = subst (λ (k : ℕ → Bool). CountsOnRest t (word_at c.find.new.found.items) k) (sym c.forget.ensures.none) (counts_none t (word_at c.find.new.found.items));
     }
 
@@ -52,6 +54,7 @@ invariant_of-self-in-Err c =
     let s = core_state hand.core in
     let found = word_at hand.found.items in
     let counted = is_counted hand.counted.items in
+    let jobs = word_at hand.jobs in
     let p = c.args.pointer in
     let old = c.args.old in
     let new = c.args.new in
@@ -65,6 +68,7 @@ invariant_of-self-in-Err c =
       found_sized = c.find-in-Err.ensures.len ∙ (hand.found_sized ∙ ap (λ (u : State). CELLS * u.mutators) (sym same));
       counted_sized = hand.counted_sized ∙ ap (λ (u : State). LOG_WORDS * u.logs) (sym same);
       finds = subst (λ (u : State). AllFind (word_at c.find-in-Err.new.found.items) u.cell) (sym same) finds;
+      finds_jobs = subst (λ (u : State). AllFindJobs jobs u.copying.word) (sym same) hand.finds_jobs;
       counts = subst (λ (u : State). CountsOnRest u (word_at c.find-in-Err.new.found.items) counted) (sym same) counts;
     }
 
@@ -74,18 +78,19 @@ returns-in-Ok-clause-done c =
     let s = core_state hand.core in
     let found = word_at hand.found.items in
     let counted = is_counted hand.counted.items in
+    let jobs = word_at hand.jobs in
     let p = c.args.pointer in
     let old = c.args.old in
     let new = c.args.new in
     let legal : Legal (beset_view hand) (Name p old new) = subst (λ (u : State). Legal u (Name p old new)) (sym c.turn.ensures.view) c.requires.legal in
     let seen : old ≡ found p = c.requires.seen ∙ ap (λ (u : State). u.cell p) (sym c.turn.ensures.view) in
     let known : KnowsLeaving (beset_view hand) old new = subst (λ (u : State). KnowsLeaving u old new) (sym c.turn.ensures.view) c.requires.known in
-    let tells = names s hand.core.law found counted hand.finds p old new legal.0 c.ranges.new.fits legal seen (won s p old new c.in-Ok.ensures.won) known in
-    let view : masked (core_state c.name.new.self) (word_at c.find.new.found.items) (is_counted c.forget.new.counted.items) ≡ masked (after s (Name p old new)) (put found p new) (λ _. false) =
-    ap (λ (u : State). masked u (word_at c.find.new.found.items) (is_counted c.forget.new.counted.items)) c.name.ensures.state
-    ∙ (ap (λ (f : ℕ → ℕ). masked (after s (Name p old new)) f (is_counted c.forget.new.counted.items)) c.find.ensures.words
-    ∙ ap (λ (k : ℕ → Bool). masked (after s (Name p old new)) (put found p new) k) c.forget.ensures.none) in
-    let from_old = subst (λ (o : State). Names o (masked (after s (Name p old new)) (put found p new) (λ _. false)) p old new) c.turn.ensures.view tells in
+    let tells = names s hand.core.law found counted jobs hand.finds hand.finds_jobs p old new legal.0 c.ranges.new.fits legal seen (won s p old new c.in-Ok.ensures.won) known in
+    let view : masked (core_state c.name.new.self) (word_at c.find.new.found.items) (is_counted c.forget.new.counted.items) jobs ≡ masked (after s (Name p old new)) (put found p new) (λ _. false) jobs =
+    ap (λ (u : State). masked u (word_at c.find.new.found.items) (is_counted c.forget.new.counted.items) jobs) c.name.ensures.state
+    ∙ (ap (λ (f : ℕ → ℕ). masked (after s (Name p old new)) f (is_counted c.forget.new.counted.items) jobs) c.find.ensures.words
+    ∙ ap (λ (k : ℕ → Bool). masked (after s (Name p old new)) (put found p new) k jobs) c.forget.ensures.none) in
+    let from_old = subst (λ (o : State). Names o (masked (after s (Name p old new)) (put found p new) (λ _. false) jobs) p old new) c.turn.ensures.view tells in
     let both = subst (λ (v : State). Names (beset_view c.args.self.now) v p old new) (sym view) from_old in
     both.done
 
@@ -95,18 +100,19 @@ returns-in-Ok-clause-forgot c =
     let s = core_state hand.core in
     let found = word_at hand.found.items in
     let counted = is_counted hand.counted.items in
+    let jobs = word_at hand.jobs in
     let p = c.args.pointer in
     let old = c.args.old in
     let new = c.args.new in
     let legal : Legal (beset_view hand) (Name p old new) = subst (λ (u : State). Legal u (Name p old new)) (sym c.turn.ensures.view) c.requires.legal in
     let seen : old ≡ found p = c.requires.seen ∙ ap (λ (u : State). u.cell p) (sym c.turn.ensures.view) in
     let known : KnowsLeaving (beset_view hand) old new = subst (λ (u : State). KnowsLeaving u old new) (sym c.turn.ensures.view) c.requires.known in
-    let tells = names s hand.core.law found counted hand.finds p old new legal.0 c.ranges.new.fits legal seen (won s p old new c.in-Ok.ensures.won) known in
-    let view : masked (core_state c.name.new.self) (word_at c.find.new.found.items) (is_counted c.forget.new.counted.items) ≡ masked (after s (Name p old new)) (put found p new) (λ _. false) =
-    ap (λ (u : State). masked u (word_at c.find.new.found.items) (is_counted c.forget.new.counted.items)) c.name.ensures.state
-    ∙ (ap (λ (f : ℕ → ℕ). masked (after s (Name p old new)) f (is_counted c.forget.new.counted.items)) c.find.ensures.words
-    ∙ ap (λ (k : ℕ → Bool). masked (after s (Name p old new)) (put found p new) k) c.forget.ensures.none) in
-    let from_old = subst (λ (o : State). Names o (masked (after s (Name p old new)) (put found p new) (λ _. false)) p old new) c.turn.ensures.view tells in
+    let tells = names s hand.core.law found counted jobs hand.finds hand.finds_jobs p old new legal.0 c.ranges.new.fits legal seen (won s p old new c.in-Ok.ensures.won) known in
+    let view : masked (core_state c.name.new.self) (word_at c.find.new.found.items) (is_counted c.forget.new.counted.items) jobs ≡ masked (after s (Name p old new)) (put found p new) (λ _. false) jobs =
+    ap (λ (u : State). masked u (word_at c.find.new.found.items) (is_counted c.forget.new.counted.items) jobs) c.name.ensures.state
+    ∙ (ap (λ (f : ℕ → ℕ). masked (after s (Name p old new)) f (is_counted c.forget.new.counted.items) jobs) c.find.ensures.words
+    ∙ ap (λ (k : ℕ → Bool). masked (after s (Name p old new)) (put found p new) k jobs) c.forget.ensures.none) in
+    let from_old = subst (λ (o : State). Names o (masked (after s (Name p old new)) (put found p new) (λ _. false) jobs) p old new) c.turn.ensures.view tells in
     let both = subst (λ (v : State). Names (beset_view c.args.self.now) v p old new) (sym view) from_old in
     both.forgot
 
@@ -125,7 +131,7 @@ returns-in-Ok-clause-made c =
     let s = core_state hand.core in
     let p = c.args.pointer in
     let legal : Legal (beset_view hand) (Name p c.args.old c.args.new) = subst (λ (u : State). Legal u (Name p c.args.old c.args.new)) (sym c.turn.ensures.view) c.requires.legal in
-    let own = legal_name s hand.core.law (word_at hand.found.items) (is_counted hand.counted.items) hand.finds p c.args.old c.args.new legal.0 c.ranges.new.fits legal in
+    let own = legal_name s hand.core.law (word_at hand.found.items) (is_counted hand.counted.items) (word_at hand.jobs) hand.finds hand.finds_jobs p c.args.old c.args.new legal.0 c.ranges.new.fits legal in
     record {
       turn = turn_may_be c.args.self.now hand c.turn.ensures.view c.turn.ensures.made c.turn.ensures.change;
       call = turned_made c.args.self.now hand (Name p c.args.old c.args.new) Done (core_state c.name.new.self) c.turn.ensures.made own c.name.ensures.state c.in-Ok.ensures.won;
@@ -139,7 +145,7 @@ returns-in-Err-clause-lost c =
     let s = core_state hand.core in
     let p = c.args.pointer in
     let legal : Legal (beset_view hand) (Name p c.args.old c.args.new) = subst (λ (u : State). Legal u (Name p c.args.old c.args.new)) (sym c.turn.ensures.view) c.requires.legal in
-    let own = legal_name s hand.core.law (word_at hand.found.items) (is_counted hand.counted.items) hand.finds p c.args.old c.args.new legal.0 c.ranges.new.fits legal in
+    let own = legal_name s hand.core.law (word_at hand.found.items) (is_counted hand.counted.items) (word_at hand.jobs) hand.finds hand.finds_jobs p c.args.old c.args.new legal.0 c.ranges.new.fits legal in
     record {
       turn = turn_may_be c.args.self.now hand c.turn.ensures.view c.turn.ensures.made c.turn.ensures.change;
       call = turned_made c.args.self.now hand (Name p c.args.old c.args.new) (Word c.in-Err.found) (core_state c.name.new.self) c.turn.ensures.made own c.name.ensures.state c.in-Err.ensures.found;

@@ -22,6 +22,7 @@ invariant_of-self c =
       found_sized = c.find.ensures.len ∙ hand.found_sized;
       counted_sized = hand.counted_sized;
       finds = subst (λ (f : ℕ → ℕ). AllFind f s.cell) (sym c.find.ensures.words) (finds_put (word_at hand.found.items) s.cell p w hand.finds is);
+      finds_jobs = hand.finds_jobs;
       counts = subst (λ (f : ℕ → ℕ). CountsOnRest s f (is_counted hand.counted.items)) (sym c.find.ensures.words)
           (counts_found s (word_at hand.found.items) (is_counted hand.counted.items) p w hand.counts (finds_seen (word_at hand.found.items) s.cell p w hand.finds is));
     }

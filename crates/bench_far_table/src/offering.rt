@@ -1,0 +1,83 @@
+// A heap that is shared while a job is offered: the seats of the book and of a copier.
+ghost use Rattle.std.specs.Prelude.{◌≡◌, ℕ, true, false, None, IfOk, IfSome};
+ghost use Rattle.far_word.specs.Job.{job_of};
+ghost use Rattle.far_core.specs.state.CoreState.{core_state};
+ghost use Rattle.bench_far_table.specs.Copiers.{is_taken};
+
+use crate::making::{EMPTY, core_of};
+use far_core::{Core, Event, Reply};
+use far_device::MemDevice;
+use far_table::{BookSeat, CopySeat, share};
+use far_word::{JOBS, JobWord, Place, Refused};
+use std::alloc::Global;
+use std::snapshot::Snapshot;
+
+// Begins a round of log 0, and offers the copy of the object there to the start of the empty log, if there is one of 64 bytes.
+fn offers(core: &mut Core, pointer: u16, job: u8) -> bool {
+    let head = 0xa100_0000_0001_0040 | (pointer as u64) << 24;
+    let to = Place { log: EMPTY, at: 0 };
+    let events = [
+        Event::Mark { pointer },
+        Event::Advance { logs: 1 },
+        Event::Look { owner: 0 },
+        Event::Put {
+            log: EMPTY,
+            at: 0,
+            word: head,
+        },
+        Event::Put {
+            log: EMPTY,
+            at: 8,
+            word: 0,
+        },
+        Event::Offer { job, pointer, to },
+    ];
+    for event in events {
+        if core.step(event) == Reply::Refused {
+            return false;
+        }
+    }
+    true
+}
+
+// Whether a copier has a job, by the job's word.
+fn is_taken(word: u64) -> bool
+    ensures { result ≡ is_taken (job_of word) }
+{
+    matches!(JobWord::read(word), Some(JobWord::Taken { .. }))
+}
+
+// Whether no copier of a core has a job.
+fn are_idle(core: &Core) -> bool
+    ensures { result ≡ true → (c : ℕ) → (core_state core.now).copying.task c ≡ None }
+{
+    core.keeps_law();
+    for job in 0..JOBS {
+        if is_taken(core.see_job(job)) {
+            return false;
+        }
+    }
+    true
+}
+
+/// The book's seat, and that of a copier that has no job, of a heap in which the copy of an object of 64 bytes is offered; `None` where it can't be.
+pub(crate) fn offered(
+    alloc: Global,
+    pointer: u16,
+    job: u8,
+) -> Result<Option<(BookSeat<MemDevice>, CopySeat<MemDevice>)>, Refused>
+    ensures { IfOk result (λ found. IfSome found (λ both. both.1.view.task ≡ None)) }
+{
+    let Some(mut core) = core_of(alloc, pointer)? else {
+        return Ok(None);
+    };
+    if !offers(&mut core, pointer, job) || !core.is_honest() || !are_idle(&core) {
+        return Ok(None);
+    }
+    let device = MemDevice::new(alloc);
+    let (book, _owners, mut copiers) = share(alloc, core, Snapshot::of(&device))?;
+    let Some(copier) = copiers.pop() else {
+        return Ok(None);
+    };
+    Ok(Some((book, copier)))
+}

@@ -1,0 +1,6 @@
+use Rattle.std.proofs.Common.{◌≡◌, ◌<◌, ℕ, false}
+use Rattle.far_book.specs.book.Jobs.{copies_from, noted_at}
+use Rattle.far_book.proofs.jobs.Jobs.copies_from.Given as goal
+
+abbrev pub invariant-loop-job : goal.invariant-loop-job
+invariant-loop-job l = (j : ℕ) → j < l.job → copies_from l.pointer l.at (noted_at l.self j) ≡ false

@@ -1,0 +1,35 @@
+use Rattle.std.proofs.Common.{◌≡◌, ◌≢◌, ◌∙◌, ℕ, true, sym, ap, refl, Option, Some, None}
+use Rattle.far_core.specs.state.Memory.{state_of}
+use Rattle.far_core.specs.state.State.{State, put}
+use Rattle.far_core.proofs.Copied.{copied_fact}
+use Rattle.far_core.proofs.MadeNamings.{placed_is, placed_near, with_job}
+use Rattle.far_core.proofs.memory.Memory.name_placed.Goals as goal
+
+none_else : (o : Option ℕ) → ((j : ℕ) → o ≢ Some j) → o ≡ None
+none_else None h = refl
+none_else (Some j) h = absurd (h j refl)
+
+pub unreachable-requires : goal.unreachable-requires
+unreachable-requires c =
+    let near = placed_near (state_of c.args.self.now) c.requires.law c.args.pointer c.args.old c.args.new c.ranges.new.fits c.requires.cell c.requires.legal c.args.place c.requires.near c.requires.begun c.known.result c.known.ensures in
+    c.in_default.not-Near _ _ _ _ near.is
+
+pub set_job_named-requires : goal.set_job_named-requires
+set_job_named-requires c =
+    let x = copied_fact (state_of c.args.self.now) c.args.pointer c.in-Near.from c.args.place c.in-Some.job (sym c.copied_job-job.ensures ∙ c.in-Some.is) in
+    x.1.low
+
+pub returns-in-Some : goal.returns-in-Some
+returns-in-Some c =
+    let s = state_of c.args.self.now in
+    c.set_job_named.ensures ∙ ap (λ (t : State). record t { copying = record t.copying { named = put t.copying.named c.in-Some.job true } }) c.set_cell.ensures
+    ∙ ap (with_job s c.args.pointer c.args.new) (sym (sym c.copied_job-job.ensures ∙ c.in-Some.is))
+    ∙ placed_is s c.requires.law c.args.pointer c.args.old c.args.new c.ranges.new.fits c.requires.cell c.requires.legal c.args.place c.requires.near c.requires.begun
+    c.in-Near.len c.in-Near.ds c.in-Near.from c.in-Near.marks (c.known.ensures ∙ ap Some c.in-Near.is)
+
+pub returns-in_default-job : goal.returns-in_default-job
+returns-in_default-job c =
+    let s = state_of c.args.self.now in
+    c.set_cell.ensures ∙ ap (with_job s c.args.pointer c.args.new) (sym (sym c.copied_job-job.ensures ∙ none_else c.copied_job-job.result (λ j e. c.in_default-job.not-Some j e)))
+    ∙ placed_is s c.requires.law c.args.pointer c.args.old c.args.new c.ranges.new.fits c.requires.cell c.requires.legal c.args.place c.requires.near c.requires.begun
+    c.in-Near.len c.in-Near.ds c.in-Near.from c.in-Near.marks (c.known.ensures ∙ ap Some c.in-Near.is)

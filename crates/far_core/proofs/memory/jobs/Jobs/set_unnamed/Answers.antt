@@ -1,9 +1,0 @@
-use Rattle.std.proofs.Common.{ℕ, ap, arith, Bool, false}
-use Rattle.far_core.specs.state.Memory.{copying_of}
-use Rattle.far_core.proofs.Items.{item_put}
-use Rattle.far_core.proofs.memory.jobs.Jobs.set_unnamed.Goals as goal
-
-pub returns : goal.returns
-unfolding copying_of
-returns c = ap (λ (f : ℕ → Bool). record (copying_of c.args.self.now) { named = f })
-    (item_put c.args.self.now.named.items c.args.job false false (omega (arith, c.requires, c.args.self.now.named_sized, c.args.self.now.named.ok.0)))

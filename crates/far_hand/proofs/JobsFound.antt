@@ -1,0 +1,92 @@
+-- What the word found of a job shares with the word that was known.
+use Rattle.std.proofs.Common.{◌≡◌, ℕ, Option, Some, None, refl, sym, ap, ◌∙◌, subst, arith}
+use Rattle.std.proofs.lemmas.Bool.{false≢true}
+use Rattle.far_word.specs.declared.job.Job.{Job}
+use Rattle.far_word.specs.declared.job.JobWord.{JobWord}
+use Rattle.far_word.specs.declared.job.JobWord.TheVariants.{Empty, Offered, Taken, Finished}
+use Rattle.far_word.specs.Job.{job_of}
+use Rattle.far_word.proofs.JobLaws.{job_says}
+use Rattle.far_core.specs.events.Get.{IsUncopied}
+use Rattle.far_core.specs.state.Jobs.{is_finished, job_said}
+use Rattle.far_core.specs.state.State.{Copying, put}
+use Rattle.far_core.proofs.KeepJobs.{unworded}
+use Rattle.far_core.proofs.Put.{put_both, put_other, put_same}
+use Rattle.far_hand.specs.FindsJob.{FindsJob, copier_in, job_body}
+use Rattle.far_hand.specs.Masked.{AllFindJobs}
+use Rattle.far_hand.specs.MayBe.{job_itself}
+
+pub job_is : (v w : ℕ) → w ≡ v → FindsJob v w
+job_is v w e = subst (FindsJob v) (sym e) (job_itself v)
+
+pub job_more : (u v w : ℕ) → FindsJob u v → FindsJob v w → FindsJob u w
+job_more u v w f g = record {
+  body = g.body ∙ f.body;
+  rises = omega (arith, f.rises, g.rises);
+  taker = λ c h. g.taker c (f.taker c h);
+  ended = λ h. g.ended (ap (λ x. is_finished (job_of x)) (f.ended h) ∙ h) ∙ f.ended h;
+}
+
+-- ---- the same job, or none
+abbrev job_within : Option (Option Job) → Option Job
+job_within None = None
+job_within (Some o) = o
+
+said_body : (o : Option JobWord) → job_within (job_body o) ≡ job_said o
+said_body None = refl
+said_body (Some Empty) = refl
+said_body (Some (Offered job)) = refl
+said_body (Some (Taken job c)) = refl
+said_body (Some (Finished job c)) = refl
+
+pub same_job : (v w : ℕ) → FindsJob v w → job_said (job_of w) ≡ job_said (job_of v)
+same_job v w f = sym (said_body (job_of w)) ∙ (ap job_within f.body ∙ said_body (job_of v))
+
+empty_body : (o : Option JobWord) → job_body o ≡ Some None → o ≡ Some Empty
+empty_body None e = absurd cc
+empty_body (Some Empty) e = refl
+empty_body (Some (Offered job)) e = absurd cc
+empty_body (Some (Taken job c)) e = absurd cc
+empty_body (Some (Finished job c)) e = absurd cc
+
+-- a job that was known empty is found empty, and one that is found empty was known so
+pub empty_found : (v w : ℕ) → FindsJob v w → v ≡ 0 → w ≡ 0
+empty_found v w f e = sym (job_says w Empty (empty_body (job_of w) (f.body ∙ ap (λ x. job_body (job_of x)) e ∙ ap job_body unworded))).1
+
+pub empty_known : (v w : ℕ) → FindsJob v w → w ≡ 0 → v ≡ 0
+empty_known v w f e = sym (job_says v Empty (empty_body (job_of v) (sym f.body ∙ ap (λ x. job_body (job_of x)) e ∙ ap job_body unworded))).1
+
+-- no job reads or writes a log, if none is known that does
+pub uncopied_found : (known : Copying) (k : Copying) → AllFindJobs known.word k.word → (l : ℕ) → IsUncopied known l → IsUncopied k l
+uncopied_found known k finds l none j job at = none j job (sym (same_job (known.word j) (k.word j) (finds j)) ∙ at)
+
+-- ---- a copier goes on
+pub taken_found : (v w : ℕ) (job : Job) (c : ℕ) → job_of v ≡ Some (Offered job) → job_of w ≡ Some (Taken job c) → FindsJob v w
+taken_found v w job c was is = record {
+  body = ap job_body is ∙ sym (ap job_body was);
+  rises = rw (was, is) (omega arith);
+  taker = λ d h. (let odd : None ≡ Some d = sym (ap copier_in was) ∙ h in absurd cc);
+  ended = λ h. absurd (false≢true (sym (ap is_finished was) ∙ h));
+}
+
+pub finished_found : (v w : ℕ) (job : Job) (c : ℕ) → job_of v ≡ Some (Taken job c) → job_of w ≡ Some (Finished job c) → FindsJob v w
+finished_found v w job c was is = record {
+  body = ap job_body is ∙ sym (ap job_body was);
+  rises = rw (was, is) (omega arith);
+  taker = λ d h. ap copier_in is ∙ sym (ap copier_in was) ∙ h;
+  ended = λ h. absurd (false≢true (sym (ap is_finished was) ∙ h));
+}
+
+-- ---- each job is found as it was found, and here
+pub jobs_put : (jobs word : ℕ → ℕ) (j w : ℕ) → AllFindJobs jobs word → word j ≡ w → AllFindJobs (put jobs j w) word
+jobs_put jobs word j w finds e i = put_both (λ v. FindsJob v (word i)) jobs j w i
+    (λ same. job_is w (word i) (ap word same ∙ e)) (λ _. finds i)
+
+-- a word written is found
+pub jobs_set : (jobs word : ℕ → ℕ) (j w : ℕ) → AllFindJobs jobs word → AllFindJobs (put jobs j w) (put word j w)
+jobs_set jobs word j w finds i = put_both (λ v. FindsJob v (put word j w i)) jobs j w i
+    (λ same. job_is w (put word j w i) (put_same word j w i same))
+    (λ ne. subst (λ v. FindsJob (jobs i) v) (sym (put_other word j w i ne)) (finds i))
+
+-- what a word of a job is may be found of it
+pub job_seen : (jobs word : ℕ → ℕ) (j w : ℕ) → AllFindJobs jobs word → word j ≡ w → FindsJob (jobs j) w
+job_seen jobs word j w finds e = subst (FindsJob (jobs j)) e (finds j)

@@ -1,6 +1,0 @@
-use Rattle.far_core.specs.state.CoreState.{core_state}
-use Rattle.far_hand.proofs.OwnersWork.{made_changes}
-use Rattle.far_hand.proofs.beset.turning.step_owner.Goals as goal
-
-pub returns-clause-change : goal.returns-clause-change
-returns-clause-change c = made_changes (core_state c.args.core.now) (core_state c.step.new.self) c.args.event c.step.result c.args.core.now.law c.requires c.step.ensures.step

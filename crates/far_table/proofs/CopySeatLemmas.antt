@@ -1,0 +1,173 @@
+-- What the struct of a copier's seat keeps over a step, for all kinds of step, and what is so of a job that it has.
+use Rattle.std.proofs.Common.{◌≡◌, ◌≢◌, ◌+◌, ◌*◌, ◌<◌, ◌≤◌, ℕ, Bool, true, false, cond, refl, sym, ap, ◌∙◌, subst, arith, Option, Some, None}
+use Rattle.std.specs.Prelude.{◌==◌, option_map}
+use Rattle.std.proofs.lemmas.Bool.{eq-eqb, ne_eqb}
+use Rattle.std.proofs.Math.Logic.{∥∥₁_elim}
+use Rattle.std.proofs.Props.{props}
+use mathlib.Core.Logic.{dite}
+use mathlib.Core.Option.{some}
+use native.Mathlib.Decide.{ℕ_discrete}
+use lib.ListN.{get_elem?}
+use Rattle.atomic_table.proofs.Lists.{set_here}
+use Rattle.atomic_table.specs.Seated.{TableId}
+use Rattle.far_word.specs.declared.job.Job.{Job as Places}
+use Rattle.far_word.specs.declared.job.JobWord.TheVariants.{Offered, Taken}
+use Rattle.far_word.specs.declared.sizes.TheConstants.{JOBS, LOG_WORDS, MOST_COPIERS, MOST_LOGS}
+use Rattle.far_word.specs.Job.{IsJob, job_of}
+use Rattle.far_word.specs.Sizes.{words_for}
+use Rattle.far_core.specs.declared.event.Event.{Event}
+use Rattle.far_core.specs.declared.event.Event.TheVariants.{Read, Write}
+use Rattle.far_core.specs.declared.event.Reply.{Reply}
+use Rattle.far_core.specs.declared.event.Reply.TheVariants.{Done, Word}
+use Rattle.far_core.specs.declared.event.Task.{Task}
+use Rattle.far_core.specs.events.Claim.{offered_in}
+use Rattle.far_core.specs.events.Step.{after}
+use Rattle.far_core.specs.state.State.{State, addr}
+use Rattle.far_core.proofs.JobPlaces.{task_lies}
+use Rattle.far_core.proofs.Put.{put_both, put_other, put_same}
+use Rattle.far_table.specs.declared.copy_seat.Job.{Job}
+use Rattle.far_table.specs.CopierViews.{claim_view, claimed_view, taken_view, word_read_view, word_written_view, words_read, words_written}
+use Rattle.far_table.specs.CopySeats.{CopiedNext, IsCopied, IsJobOf, IsTakenBy, Missed, OnlyWord, copied_on}
+use Rattle.far_table.specs.Layout.{TABLE_WORDS}
+use Rattle.far_table.specs.NameViews.{exchange_reply}
+use Rattle.far_table.specs.StateOf.{state_of}
+use Rattle.far_table.specs.Tells.{CopierMade, CopierMayBe, CopierStands, CopierTells, copier_of}
+use Rattle.far_table.specs.View.{CopierView, OtherViews, View, Copier, with_copier}
+use Rattle.far_table.proofs.CopyFrames.{copier_is}
+use Rattle.far_table.proofs.CopySteps.{has, knows, task_fits}
+use Rattle.far_table.proofs.Places.{below}
+
+-- ---- the struct
+abbrev pub CopierOk : TableId → TableId → View → ℕ → Type 0
+CopierOk id here v number = (id ≡ here) × (id.words ≡ TABLE_WORDS) × (v ≡ Copier (copier_of v)) × ((copier_of v).number ≡ number) × (number < MOST_COPIERS) × CopierStands (copier_of v)
+
+-- a call left a state beside the view
+copier_left : (e : Event) (v : CopierView) (r : Reply) (w : CopierView) → CopierMade e v r w → CopierStands w
+copier_left e v r w made =
+    let others : OtherViews = with_copier made.others v.number w in
+    let here : get_elem? others.copiers v.number ≡ some w = set_here made.others.copiers v.number w (below made.others.copiers v.number v made.stands) in
+    let number : w.number ≡ v.number = made.keeps.copiers v.number w here in
+    ∣ (state_of made.later made.book others, record { words = made.later; book = made.book; others = others; facts = made.keeps; stands = ap (get_elem? others.copiers) number ∙ here; is = refl }) ∣₁
+
+pub copier_stays : (id later here : TableId) (v v' : View) (number : ℕ) (e : Event) (r : Reply) (w : CopierView) → CopierOk id here v number → later ≡ id → CopierTells v v' e r w → CopierOk later here v' number
+copier_stays id later here v v' number e r w i same t =
+    let view : copier_of v' ≡ w = ap copier_of t.after_is in (
+      same ∙ i.0,
+      ap (λ (z : TableId). z.words) same ∙ i.1,
+      t.after_is ∙ ap (λ z. Copier (copier_of z)) (sym t.after_is),
+      ap (λ (z : CopierView). z.number) view ∙ (t.number ∙ i.3),
+      i.4,
+      subst CopierStands (sym view) (copier_left e (copier_of v) r w t.made),
+    )
+
+-- the event that a step tells of, as a caller names it
+pub copier_made : (v v' : View) (old : CopierView) (e : CopierView → Event) (r : Reply) (w : CopierView) → copier_of v ≡ old → CopierTells v v' (e (copier_of v)) r w → CopierMade (e old) old r (copier_of v')
+copier_made v v' old e r w is t = subst (λ z. CopierMade (e z) z r (copier_of v')) is (subst (λ z. CopierMade (e (copier_of v)) (copier_of v) r z) (sym (ap copier_of t.after_is)) t.made)
+
+-- ---- a claim, once it is known whether it won
+module _ (v v' : View) (e : Event) (j old found : ℕ) (job : Places) (offers : job_of old ≡ Some (Offered job)) (t : CopierTells v v' e (exchange_reply old found) (claim_view j old found (copier_of v))) where
+  at_test : (x : Bool) → (found == old) ≡ x → CopierTells v v' e (cond x Done (Word found)) (cond x (taken_view j (offered_in (job_of old)) (copier_of v)) (copier_of v))
+  at_test x is = subst (λ y. CopierTells v v' e (cond y Done (Word found)) (cond y (taken_view j (offered_in (job_of old)) (copier_of v)) (copier_of v))) is t
+
+  pub claim_won : found ≡ old → CopierTells v v' e Done (claimed_view j job (copier_of v))
+  claim_won is = subst (λ x. CopierTells v v' e Done (taken_view j (offered_in x) (copier_of v))) offers (at_test true (eq-eqb found old is))
+
+  pub claim_lost : found ≢ old → CopierTells v v' e (Word found) (copier_of v)
+  claim_lost ne = at_test false (ne_eqb found old ne)
+
+-- looks at one job more
+pub missed_more : (v w : CopierView) (n : ℕ) → w ≡ v → ((j : ℕ) → j < n → Missed v j) → Missed w n → (j : ℕ) → j < n + 1 → Missed v j
+missed_more v w n same before here j lt = dite (ℕ_discrete j n)
+    (λ e. subst (λ (z : CopierView × ℕ). Missed z.0 z.1) (λ i. (same i, sym e i)) here) (λ ne. before j (omega (arith, lt, ne)))
+
+-- the view after, as a caller names the one before
+pub view_after : (v v' : View) (old : CopierView) (e : Event) (r : Reply) (w : CopierView → CopierView) → copier_of v ≡ old → CopierTells v v' e r (w (copier_of v)) → copier_of v' ≡ w old
+view_after v v' old e r w is t = ap copier_of t.after_is ∙ ap w is
+
+-- ---- where the words of its job stand
+pub task_within : (v : CopierView) (t : Task) → CopierStands v → v.task ≡ Some t → (t.number < JOBS) × IsJob t.job
+task_within v t there task = ∥∥₁_elim there (hlevel props) (λ (x : (s : State) × CopierMayBe v s).
+    let may = x.1 in
+    let lies = task_lies (state_of may.words may.book may.others) may.facts.law v.number t (has may.words may.book may.others may.facts v may.stands t task) in
+    (lies.0, lies.1.0))
+
+-- the length of which the words are
+length_of : (x : Option ℕ) (w : ℕ) → option_map words_for x ≡ Some w → (n : ℕ) × (x ≡ Some n) × (words_for n ≡ w)
+length_of None w e = absurd cc
+length_of (Some n) w e = let is : words_for n ≡ w = cc in (n, refl, is)
+
+module _ (v : CopierView) (job : Job) (own : IsJobOf job v) where
+  pub len : (n : ℕ) × (v.length ≡ Some n) × (words_for n ≡ job.words)
+  len = length_of v.length job.words own.long
+
+  pub job_fits : CopierStands v → (addr job.task.job.from + 1 + job.words ≤ MOST_LOGS * LOG_WORDS) × (addr job.task.job.to + 1 + job.words ≤ MOST_LOGS * LOG_WORDS)
+  job_fits there = ∥∥₁_elim there (hlevel props) (λ (x : (s : State) × CopierMayBe v s).
+      let may = x.1 in
+      let k = has may.words may.book may.others may.facts v may.stands job.task own.task in
+      let long = may.facts.law.copies.taken.long v.number len.0 job.task k (ap (λ (y : CopierView). y.length) (copier_is may.others.copiers v.number v v may.stands) ∙ len.1) in
+      let words = sym len.2 ∙ ap words_for long in
+      let fits = task_fits may.words may.book may.others may.facts v may.stands job.task own.task in
+      (omega (arith, fits.0, words), omega (arith, fits.1, words)))
+
+  pub all_written : IsCopied job → (i : ℕ) → i < words_for len.0 → words_written v i ≡ true
+  all_written whole i low = own.written i (let words = len.2 in omega (arith, whole, words, low))
+
+  -- it is the copier's alone
+  pub taken_by : (s : State) → CopierMayBe v s → IsTakenBy v.number job s
+  taken_by s may =
+      let x : State = state_of may.words may.book may.others in
+      let k = has may.words may.book may.others may.facts v may.stands job.task own.task in
+      let taken = may.facts.law.copies.taken in
+      let says = taken.takes v.number job.task k in
+      let long = taken.long v.number len.0 job.task k (ap (λ (y : CopierView). y.length) (copier_is may.others.copiers v.number v v may.stands) ∙ len.1) in
+      subst (IsTakenBy v.number job) (sym may.is) record {
+        says = says;
+        has = k;
+        alone = λ d t other same.
+            let both : Some (Taken t.job d) ≡ Some (Taken job.task.job v.number) = sym (taken.takes d t other) ∙ ap (λ j. job_of (x.copying.word j)) same ∙ says in cc;
+        words = sym len.2 ∙ ap words_for long;
+      }
+
+-- a write changes the next word of the target alone
+pub only_word : (v : CopierView) (t : Task) (i w : ℕ) → v.task ≡ Some t → words_read v i ≡ Some w → (s : State) → CopierMayBe v s → OnlyWord (addr t.job.to + 1 + i) w s (after s (Write v.number i))
+only_word v t i w task got s may =
+    let x : State = state_of may.words may.book may.others in
+    let k = has may.words may.book may.others may.facts v may.stands t task in
+    let r = knows may.words may.book may.others may.facts v may.stands t task i w got in
+    subst (λ (z : State). OnlyWord (addr t.job.to + 1 + i) w z (after z (Write v.number i))) (sym may.is)
+    (rw (k, r) record { here = put_same x.word (addr t.job.to + 1 + i) w _ refl; words = λ b ne. put_other x.word (addr t.job.to + 1 + i) w b ne; rest = (refl, refl, refl, refl) })
+
+-- ---- a word is copied: it was read, and then written
+module _ (v mid : View) (job : Job) (own : IsJobOf job (copier_of v)) (word : ℕ) (reads : CopierTells v mid (Read (copier_of v).number job.copied) (Word word) (word_read_view job.copied word (copier_of v))) where
+  abbrev between : CopierView
+  between = word_read_view job.copied word (copier_of v)
+
+  pub read_on : copier_of mid ≡ between
+  read_on = ap copier_of reads.after_is
+
+  pub task_on : (copier_of mid).task ≡ Some job.task
+  task_on = ap (λ (z : CopierView). z.task) read_on ∙ own.task
+
+  pub got_on : words_read (copier_of mid) job.copied ≡ Some word
+  got_on = ap (λ (z : CopierView). words_read z job.copied) read_on ∙ put_same (words_read (copier_of v)) job.copied (Some word) job.copied refl
+
+  module _ (v' : View) (writes : CopierTells mid v' (Write (copier_of mid).number job.copied) Done (word_written_view job.copied (copier_of mid))) where
+    written_on : copier_of v' ≡ word_written_view job.copied between
+    written_on = ap copier_of writes.after_is ∙ ap (word_written_view job.copied) read_on
+
+    pub own_on : job.copied ≢ job.words → IsJobOf (copied_on job) (copier_of v')
+    own_on left = subst (IsJobOf (copied_on job)) (sym written_on) record {
+      task = own.task;
+      long = own.long;
+      some = let most = own.some in omega arith;
+      written = λ i lt. put_both (λ b. b ≡ true) (words_written (copier_of v)) job.copied true i (λ _. refl) (λ ne. own.written i (omega (arith, lt)));
+    }
+
+    pub copied_next : CopiedNext job (copier_of v) (copier_of v')
+    copied_next = record {
+      word = word;
+      reads = reads.made;
+      writes = subst (λ (z : CopierView × CopierView). CopierMade (Write z.0.number job.copied) z.0 Done z.1) (λ i. (read_on i, sym (ap copier_of writes.after_is) i)) writes.made;
+      view = written_on;
+      alone = only_word between job.task job.copied word own.task (put_same (words_read (copier_of v)) job.copied (Some word) job.copied refl);
+    }

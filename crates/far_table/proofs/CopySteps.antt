@@ -1,0 +1,224 @@
+-- Each kind of step of a copier's seat is its event of the core.
+use Rattle.std.proofs.Common.{◌≡◌, ◌≢◌, ◌+◌, ◌*◌, ◌/◌, ◌<◌, ◌≤◌, ℕ, Bool, true, false, cond, List, set, sym, refl, ap, ◌∙◌, subst, arith, Some, None}
+use Rattle.std.specs.Prelude.{slice_index, ◌==◌, ◌^◌}
+use Rattle.std.proofs.lemmas.Bool.{eq-eqb, eqb-false, eqb-true, ne_eqb}
+use mathlib.Core.Option.{some, none}
+use prog.Atomic.{either}
+use lib.ListN.{get_elem?}
+use lib.Seq.{set-get_or}
+use Rattle.atomic_table.specs.Table.{Me, step, Allows}
+use Rattle.far_word.specs.declared.job.Job.{Job}
+use Rattle.far_word.specs.declared.job.JobWord.TheVariants.{Finished, Offered, Taken}
+use Rattle.far_word.specs.declared.sizes.TheConstants.{JOBS, LOG_WORDS, MOST_LOGS}
+use Rattle.far_word.specs.Job.{job_of, job_word}
+use Rattle.far_word.specs.Sizes.{words_for}
+use Rattle.far_core.specs.declared.event.Event.TheVariants.{PeekJob, Claim, ReadLength, Read, Write, Finish}
+use Rattle.far_core.specs.declared.event.Reply.TheVariants.{Done, Word}
+use Rattle.far_core.specs.declared.event.Task.{Task}
+use Rattle.far_core.specs.events.Claim.{after_claim, offered_in}
+use Rattle.far_core.specs.events.Legal.{Legal}
+use Rattle.far_core.specs.state.Jobs.{job_words}
+use Rattle.far_core.specs.state.Law.{head_len}
+use Rattle.far_core.specs.state.State.{State, addr, put}
+use Rattle.far_core.proofs.JobPlaces.{job_bounds, source_lies, task_lies}
+use Rattle.far_core.proofs.KeepJobs.{task_at}
+use Rattle.far_table.specs.View.{BookView, CopierView, OtherViews, View, Copier, with_copier}
+use Rattle.far_table.specs.CopierPlays.{JobClaimed, JobFinished, JobPeeked, LengthRead, SourceRead, TargetWritten}
+use Rattle.far_table.specs.CopierViews.{claim_view, claimed_view, finished_view, measured_view, taken_view, word_read_view, word_written_view, words_read, words_written}
+use Rattle.far_table.specs.Layout.{TABLE_WORDS, data_at, job_at, job_in, word_in}
+use Rattle.far_table.specs.NameViews.{exchange_reply}
+use Rattle.far_table.specs.Rule.{Facts, Running}
+use Rattle.far_table.specs.StateOf.{state_of}
+use Rattle.far_table.specs.Tells.{CopierTells, copier_of}
+use Rattle.far_table.proofs.CopyFrames.{CopyStep, copied_is, copier_is, copies_none, is_copier, known_same, known_set}
+use Rattle.far_table.proofs.OwnSteps.{Leads}
+use Rattle.far_table.proofs.Lift.{copier_makes, copier_reads}
+use Rattle.far_table.proofs.Words.{data_word_set, job_here, job_word_set, no_word}
+
+module _ (ws : List ℕ) (b : BookView) (os : OtherViews) (f : Facts ws b os) (v : CopierView) (at : get_elem? os.copiers v.number ≡ some v) where
+  abbrev s : State
+  s = state_of ws b os
+
+  abbrev c : ℕ
+  c = v.number
+
+  -- what the copier knows, as the state has it
+  task_is : s.copying.task c ≡ v.task
+  task_is = ap (λ (y : CopierView). y.task) (copier_is os.copiers c v v at)
+
+  read_is : s.copying.read c ≡ words_read v
+  read_is = ap words_read (copier_is os.copiers c v v at)
+
+  written_is : s.copying.written c ≡ words_written v
+  written_is = ap words_written (copier_is os.copiers c v v at)
+
+  -- ---- looks
+  pub peek_step : (j : ℕ) → j < JOBS → CopyStep ws b os v (PeekJob c j) (Word (job_in ws j)) ws v
+  peek_step j low = record { legal = (is_copier ws b os f v at, low); says = refl; becomes = copies_none f v at; number = refl }
+
+  -- ---- claims
+  module _ (j old : ℕ) (job : Job) (low : j < JOBS) (none : v.task ≡ None) (offers : job_of old ≡ Some (Offered job)) where
+    abbrev new : ℕ
+    new = job_word (Taken job c)
+
+    claim_legal : Legal s (Claim c j old)
+    claim_legal = (is_copier ws b os f v at, low, task_is ∙ none, (job, offers))
+
+    won_step : job_in ws j ≡ old → CopyStep ws b os v (Claim c j old) Done (set ws (job_at j) new) (taken_view j (offered_in (job_of old)) v)
+    won_step won =
+        let w : CopierView = claimed_view j job v in
+        let is : (job_in ws j == old) ≡ true = eq-eqb (job_in ws j) old won in
+        let view : taken_view j (offered_in (job_of old)) v ≡ w = ap (λ x. taken_view j (offered_in x) v) offers in
+        subst (λ z. CopyStep ws b os v (Claim c j old) Done (set ws (job_at j) new) z) (sym view) record {
+          legal = claim_legal;
+          says = sym (ap (λ t. cond t Done (Word (job_in ws j))) is);
+          becomes = subst (λ z. Leads z (set ws (job_at j) new) b (with_copier os c w)) (sym (ap (λ t. cond t (after_claim s c j (offered_in (job_of old))) s) is ∙ ap (λ x. after_claim s c j (offered_in x)) offers))
+              (copied_is ws (set ws (job_at j) new) b os c w (job_word_set ws f.wide j new low) (known_set os.copiers c v w at (λ (y : CopierView). y.task)) (known_set os.copiers c v w at (λ (y : CopierView). y.length))
+              (known_set os.copiers c v w at words_read) (known_set os.copiers c v w at words_written));
+          number = refl;
+        }
+
+    lost_step : job_in ws j ≢ old → CopyStep ws b os v (Claim c j old) (Word (job_in ws j)) ws v
+    lost_step lost =
+        let is : (job_in ws j == old) ≡ false = ne_eqb (job_in ws j) old lost in record {
+          legal = claim_legal;
+          says = sym (ap (λ t. cond t Done (Word (job_in ws j))) is);
+          becomes = subst (λ z. Leads z ws b (with_copier os c v)) (sym (ap (λ t. cond t (after_claim s c j (offered_in (job_of old))) s) is)) (copies_none f v at);
+          number = refl;
+        }
+
+    by_test : (t : Bool) → (job_in ws j == old) ≡ t →
+        CopyStep ws b os v (Claim c j old) (cond t Done (Word (job_in ws j))) (set ws (job_at j) (cond t new (job_in ws j))) (cond t (taken_view j (offered_in (job_of old)) v) v)
+    by_test true e = won_step (eqb-true (job_in ws j) old e)
+    by_test false e = subst (λ l. CopyStep ws b os v (Claim c j old) (Word (job_in ws j)) l v) (sym (ap (set ws (job_at j)) (job_here ws j low) ∙ set-get_or ws (job_at j) 0)) (lost_step (eqb-false (job_in ws j) old e))
+
+    pub claim_step : CopyStep ws b os v (Claim c j old) (exchange_reply old (job_in ws j)) (set ws (job_at j) (cond (job_in ws j == old) new (job_in ws j))) (claim_view j old (job_in ws j) v)
+    claim_step = by_test (job_in ws j == old) refl
+
+  -- ---- of the job that it has
+  module _ (t : Task) (task : v.task ≡ Some t) where
+    pub has : s.copying.task c ≡ Some t
+    has = task_is ∙ task
+
+    -- both places of the job lie within the logs
+    pub task_fits : (addr t.job.from + 1 + job_words s.word t.job ≤ MOST_LOGS * LOG_WORDS) × (addr t.job.to + 1 + job_words s.word t.job ≤ MOST_LOGS * LOG_WORDS)
+    task_fits =
+        let job = task_at s.word s.copying f.law.copies.taken c t has in
+        let spans = f.law.copies.jobs.job_spans t.number t.job job in
+        let bounds = job_bounds s.copying t.number t.job job in
+        let from = (f.law.spans.span (addr t.job.from) spans.from).fits in
+        let to = (f.law.spans.span (addr t.job.to) spans.to).fits in
+        let long : words_for (head_len (s.word (addr t.job.to))) ≡ job_words s.word t.job = ap (λ y. words_for (head_len y)) spans.alike in
+        let end = f.law.logs.tail_end (addr t.job.from / LOG_WORDS) in
+        let last = f.law.logs.tail_end (addr t.job.to / LOG_WORDS) in
+        (omega (arith, from, bounds.from.0, bounds.from.1, end), omega (arith, to, long, bounds.to.0, bounds.to.1, last))
+
+    pub measure_step : CopyStep ws b os v (ReadLength c) (Word (word_in ws (addr t.job.from))) ws (measured_view (word_in ws (addr t.job.from)) v)
+    measure_step = let w : CopierView = measured_view (word_in ws (addr t.job.from)) v in record {
+      legal = (t, has);
+      says = rw has refl;
+      becomes = rw has (copied_is ws ws b os c w (no_word ws f.wide) (known_same os.copiers c v w at (λ (y : CopierView). y.task) refl) (known_set os.copiers c v w at (λ (y : CopierView). y.length))
+          (known_same os.copiers c v w at words_read refl) (known_same os.copiers c v w at words_written refl));
+      number = refl;
+    }
+
+    -- the words of the source, once its length is known
+    module _ (n i : ℕ) (long : v.length ≡ Some n) (low : i < words_for n) where
+      inside : i < job_words s.word t.job
+      inside = subst (λ k. i < words_for k) (f.law.copies.taken.long c n t has (ap (λ (y : CopierView). y.length) (copier_is os.copiers c v v at) ∙ long)) low
+
+      pub read_step : CopyStep ws b os v (Read c i) (Word (word_in ws (addr t.job.from + 1 + i))) ws (word_read_view i (word_in ws (addr t.job.from + 1 + i)) v)
+      read_step = let w : CopierView = word_read_view i (word_in ws (addr t.job.from + 1 + i)) v in record {
+        legal = (t, has, inside);
+        says = rw has refl;
+        becomes = rw has (copied_is ws ws b os c w (no_word ws f.wide) (known_same os.copiers c v w at (λ (y : CopierView). y.task) refl) (known_same os.copiers c v w at (λ (y : CopierView). y.length) refl)
+            (known_set os.copiers c v w at words_read ∙ ap (λ f. put s.copying.read c (put f i (Some (word_in ws (addr t.job.from + 1 + i))))) (sym read_is)) (known_same os.copiers c v w at words_written refl));
+        number = refl;
+      }
+
+    -- a word that was read
+    module _ (i x : ℕ) (got : words_read v i ≡ Some x) where
+      pub knows : s.copying.read c i ≡ Some x
+      knows = ap (λ f. f i) read_is ∙ got
+
+      -- the target lies within the table
+      within : data_at (addr t.job.to + 1 + i) < TABLE_WORDS
+      within = let low = (f.law.copies.taken.fits c i x t has knows).0 in let end = task_fits.1 in omega arith
+
+      pub write_step : CopyStep ws b os v (Write c i) Done (set ws (data_at (addr t.job.to + 1 + i)) x) (word_written_view i v)
+      write_step = let w : CopierView = word_written_view i v in record {
+        legal = (t, x, has, knows);
+        says = refl;
+        becomes = rw (has, knows) (copied_is ws (set ws (data_at (addr t.job.to + 1 + i)) x) b os c w (data_word_set ws f.wide (addr t.job.to + 1 + i) x within)
+            (known_same os.copiers c v w at (λ (y : CopierView). y.task) refl) (known_same os.copiers c v w at (λ (y : CopierView). y.length) refl) (known_same os.copiers c v w at words_read refl)
+            (known_set os.copiers c v w at words_written ∙ ap (λ f. put s.copying.written c (put f i true)) (sym written_is)));
+        number = refl;
+      }
+
+    -- all words were written
+    module _ (n : ℕ) (long : v.length ≡ Some n) (all : (i : ℕ) → i < words_for n → words_written v i ≡ true) where
+      pub finish_step : CopyStep ws b os v (Finish c) Done (set ws (job_at t.number) (job_word (Finished t.job c))) (finished_view v)
+      finish_step =
+          let w : CopierView = finished_view v in
+          let length : n ≡ head_len (s.word (addr t.job.from)) = f.law.copies.taken.long c n t has (ap (λ (y : CopierView). y.length) (copier_is os.copiers c v v at) ∙ long) in record {
+            legal = (t, has, λ i lt. ap (λ f. f i) written_is ∙ all i (subst (λ k. i < words_for k) (sym length) lt));
+            says = refl;
+            becomes = rw has (copied_is ws (set ws (job_at t.number) (job_word (Finished t.job c))) b os c w (job_word_set ws f.wide t.number (job_word (Finished t.job c)) (task_lies s f.law c t has).0)
+                (known_set os.copiers c v w at (λ (y : CopierView). y.task)) (known_same os.copiers c v w at (λ (y : CopierView). y.length) refl) (known_same os.copiers c v w at words_read refl)
+                (known_same os.copiers c v w at words_written refl));
+            number = refl;
+          }
+
+-- ---- what a step on the table asks
+module _ {S : Type 0} (slots id : ℕ) (me : Me S View) (is : me.0 ≡ Copier (copier_of me.0)) where
+  abbrev mine : CopierView
+  mine = copier_of me.0
+
+  pub peeks : (j : ℕ) → j < JOBS → Allows Running slots id me (job_at j) (λ n. n) (JobPeeked (step slots (job_at j) 0 0 none) me)
+  peeks j low = copier_reads slots id (job_at j) me is (PeekJob mine.number j) refl tt Word (λ _. mine) (JobPeeked (step slots (job_at j) 0 0 none) me)
+      (λ ws b os f at. subst (λ n. CopyStep ws b os mine (PeekJob mine.number j) (Word n) ws mine) (job_here ws j low) (peek_step ws b os f mine at j low))
+      (λ ws b os f at t q e. let same : j ≡ q = omega arith in subst (λ z. CopierTells me.0 (Copier mine) (PeekJob mine.number z) (Word (slice_index ws (job_at j))) mine) same t)
+
+  pub claims : (j old x : ℕ) (job : Job) → j < JOBS → old < 2 ^ 64 → mine.task ≡ None → job_of old ≡ Some (Offered job) → x ≡ job_word (Taken job mine.number) →
+      Allows Running slots id me (job_at j) (λ n. either (n == old) x n) (JobClaimed (step slots (job_at j) old x none) me)
+  claims j old x job low fits free offers word = copier_makes slots id (job_at j) me is (Claim mine.number j old) refl fits (exchange_reply old) (λ n. claim_view j old n mine)
+      (JobClaimed (step slots (job_at j) old x none) me) (λ n. either (n == old) x n)
+      (λ ws b os f at.
+      subst (λ z. CopyStep ws b os mine (Claim mine.number j old) (exchange_reply old (slice_index ws (job_at j))) (set ws (job_at j) (either (slice_index ws (job_at j) == old) z (slice_index ws (job_at j))))
+      (claim_view j old (slice_index ws (job_at j)) mine)) (sym word)
+      (subst (λ n. CopyStep ws b os mine (Claim mine.number j old) (exchange_reply old n) (set ws (job_at j) (cond (n == old) (job_word (Taken job mine.number)) n)) (claim_view j old n mine)) (job_here ws j low)
+      (claim_step ws b os f mine at j old job low free offers)))
+      (λ ws b os f at t q e. let n : ℕ = slice_index ws (job_at j) in let same : j ≡ q = omega arith in
+      subst (λ z. CopierTells me.0 (Copier (claim_view j old n mine)) (Claim mine.number z old) (exchange_reply old n) (claim_view z old n mine)) same t)
+
+  module _ (t : Task) (task : mine.task ≡ Some t) where
+    -- a task is one
+    one_task : (u : Task) → mine.task ≡ Some u → t ≡ u
+    one_task u other = let both : Some t ≡ Some u = sym task ∙ other in cc
+
+    pub measures : (a : ℕ) → a ≡ data_at (addr t.job.from) → Allows Running slots id me a (λ n. n) (LengthRead (step slots a 0 0 none) me)
+    measures a here = subst (λ z. Allows Running slots id me z (λ n. n) (LengthRead (step slots z 0 0 none) me)) (sym here) (copier_reads slots id (data_at (addr t.job.from)) me is (ReadLength mine.number) refl tt Word (λ n. measured_view n mine) (LengthRead (step slots (data_at (addr t.job.from)) 0 0 none) me)
+        (λ ws b os f at. measure_step ws b os f mine at t task)
+        (λ ws b os f at tells. ((source_lies (state_of ws b os) f.law mine.number t (has ws b os f mine at t task)).1, tells)))
+
+    pub reads_source : (n i a : ℕ) → mine.length ≡ Some n → i < words_for n → a ≡ data_at (addr t.job.from + 1 + i) → Allows Running slots id me a (λ n. n) (SourceRead (step slots a 0 0 none) me)
+    reads_source n i a long low here = subst (λ z. Allows Running slots id me z (λ n. n) (SourceRead (step slots z 0 0 none) me)) (sym here) (copier_reads slots id (data_at (addr t.job.from + 1 + i)) me is (Read mine.number i) refl tt Word (λ x. word_read_view i x mine)
+        (SourceRead (step slots (data_at (addr t.job.from + 1 + i)) 0 0 none) me)
+        (λ ws b os f at. read_step ws b os f mine at t task n i long low)
+        (λ ws b os f at tells k u other e. let x : ℕ = slice_index ws (data_at (addr t.job.from + 1 + i)) in
+        let from : addr t.job.from ≡ addr u.job.from = ap (λ (z : Task). addr z.job.from) (one_task u other) in let same : i ≡ k = omega (arith, e, from) in
+        subst (λ z. CopierTells me.0 (Copier (word_read_view i x mine)) (Read mine.number z) (Word x) (word_read_view z x mine)) same tells))
+
+    pub writes_target : (i x a : ℕ) → words_read mine i ≡ Some x → a ≡ data_at (addr t.job.to + 1 + i) → Allows Running slots id me a (λ _. x) (λ _. TargetWritten (step slots a x 0 none) me x)
+    writes_target i x a got here = subst (λ z. Allows Running slots id me z (λ _. x) (λ _. TargetWritten (step slots z x 0 none) me x)) (sym here) (copier_makes slots id (data_at (addr t.job.to + 1 + i)) me is (Write mine.number i) refl tt (λ _. Done) (λ _. word_written_view i mine)
+        (λ _. TargetWritten (step slots (data_at (addr t.job.to + 1 + i)) x 0 none) me x) (λ _. x)
+        (λ ws b os f at. write_step ws b os f mine at t task i x got)
+        (λ ws b os f at tells k u other e.
+        let to : addr t.job.to ≡ addr u.job.to = ap (λ (z : Task). addr z.job.to) (one_task u other) in let same : i ≡ k = omega (arith, e, to) in
+        subst (λ z. CopierTells me.0 (Copier (word_written_view i mine)) (Write mine.number z) Done (word_written_view z mine)) same tells))
+
+    pub finishes : (n x : ℕ) → mine.length ≡ Some n → ((i : ℕ) → i < words_for n → words_written mine i ≡ true) → x ≡ job_word (Finished t.job mine.number) →
+        Allows Running slots id me (job_at t.number) (λ _. x) (λ _. JobFinished (step slots (job_at t.number) x 0 none) me x)
+    finishes n x long all word = copier_makes slots id (job_at t.number) me is (Finish mine.number) refl tt (λ _. Done) (λ _. finished_view mine) (λ _. JobFinished (step slots (job_at t.number) x 0 none) me x) (λ _. x)
+        (λ ws b os f at. subst (λ z. CopyStep ws b os mine (Finish mine.number) Done (set ws (job_at t.number) z) (finished_view mine)) (sym word) (finish_step ws b os f mine at t task n long all))
+        (λ ws b os f at tells. tells)

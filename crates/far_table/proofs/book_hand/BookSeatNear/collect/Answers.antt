@@ -1,0 +1,40 @@
+use Rattle.std.proofs.Common.{◌∙◌, refl, sym, ap, arith}
+use Rattle.far_hand.proofs.Offering.{collect_empties}
+use Rattle.far_table.specs.Layout.{job_at}
+use Rattle.far_table.specs.Stands.{book_of}
+use Rattle.far_table.specs.StateOf.{book_state}
+use Rattle.far_table.proofs.BookJobs.{collects, emptied_tells, kept_tells}
+use Rattle.far_table.proofs.BookSeatLemmas.{book_stays, seat_made, shape_stays, stands_after, view_is}
+use Rattle.far_table.proofs.SeatLemmas.{inside}
+use Rattle.far_table.proofs.book_hand.BookSeatNear.collect.Goals as goal
+
+pub compare_exchange-found-requires : goal.compare_exchange-found-requires
+compare_exchange-found-requires g c =
+    let i = c.args.self.now.fits in
+    let low = c.requires.legal.0 in
+    let t = inside _ _ _ (job_at c.args.job) i.same (ap (λ t. t.shared.table_id) c.deref.ensures) i.wide (omega arith) in
+    (t.0, t.1, collects _ _ _ i.is_book i.plain c.args.job c.args.old c.ranges.old.fits c.requires.legal)
+
+pub invariant_of-self : goal.invariant_of-self
+invariant_of-self g c =
+    let i = c.args.self.now.fits in
+    let h = c.compare_exchange-found.ensures in
+    let t = (h.2 c.args.job refl).1 in record {
+      fits = book_stays _ _ _ _ _ t _ _ _ _ _ _ _ i h.0 (shape_stays _ _ _ _ _ _ _ i refl refl refl refl i.plain);
+      stands = stands_after _ _ _ _ _ t;
+    }
+
+pub returns-then-old-found-clause-done : goal.returns-then-old-found-clause-done
+returns-then-old-found-clause-done g c =
+    let t = emptied_tells _ _ _ c.args.job c.args.old c.compare_exchange-found.result (c.compare_exchange-found.ensures.2 c.args.job refl).1 (sym c.if-old-found.true) in
+    ap book_state (view_is _ _ _ _ _ t) ∙ sym (collect_empties (book_state (book_of c.args.self.now.seat.me.0)) c.args.job c.args.old (sym c.requires.seen))
+
+pub returns-then-old-found-clause-made : goal.returns-then-old-found-clause-made
+returns-then-old-found-clause-made g c = (
+  c.compare_exchange-found.ensures.0,
+  seat_made _ _ _ _ _ (emptied_tells _ _ _ c.args.job c.args.old c.compare_exchange-found.result (c.compare_exchange-found.ensures.2 c.args.job refl).1 (sym c.if-old-found.true)),
+)
+
+pub returns-else-old-found-clause-kept : goal.returns-else-old-found-clause-kept
+returns-else-old-found-clause-kept g c =
+    ap book_state (view_is _ _ _ _ _ (kept_tells _ _ _ c.args.job c.args.old c.compare_exchange-found.result (c.compare_exchange-found.ensures.2 c.args.job refl).1 (λ e. c.if-old-found.false (sym e))))

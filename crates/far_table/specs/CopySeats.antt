@@ -1,0 +1,81 @@
+-- What a contract sees of a copier's seat, and of a job that it has.
+use Rattle.std.specs.Prelude.{◌≡◌, ◌≢◌, ◌⊎◌, ◌+◌, ◌<◌, ◌≤◌, ℕ, true, Some, None, option_map}
+use Rattle.far_word.specs.declared.job.JobWord.TheVariants.{Offered, Taken}
+use Rattle.far_word.specs.Job.{job_of}
+use Rattle.far_word.specs.Sizes.{words_for}
+use Rattle.far_log.specs.Spans.{head_len}
+use Rattle.far_core.specs.declared.event.Event.TheVariants.{PeekJob, Claim, ReadLength, Read, Write}
+use Rattle.far_core.specs.declared.event.Reply.TheVariants.{Done, Word}
+use Rattle.far_core.specs.declared.event.Task.{Task}
+use Rattle.far_core.specs.events.Claim.{offered_in}
+use Rattle.far_core.specs.events.Step.{after}
+use Rattle.far_core.specs.state.Jobs.{job_words}
+use Rattle.far_core.specs.state.State.{State, addr}
+use Rattle.far_table.specs.declared.copy_seat.Job.{Job}
+use Rattle.far_table.specs.CopierViews.{claimed_view, measured_view, word_read_view, word_written_view, words_written}
+use Rattle.far_table.specs.Tells.{CopierMade, CopierMayBe}
+use Rattle.far_table.specs.View.{CopierView}
+
+-- the job is the one that the copier has, of as many words as the length that it has read says; so many of them were written, from the first on
+pub record IsJobOf (job : Job) (v : CopierView) : Type 0 where
+  pub task : v.task ≡ Some job.task
+  pub long : option_map words_for v.length ≡ Some job.words
+  pub some : job.copied ≤ job.words
+  pub written : (i : ℕ) → i < job.copied → words_written v i ≡ true
+
+-- no word is left
+abbrev pub IsCopied : Job → Type 0
+IsCopied job = job.copied ≡ job.words
+
+-- one word more is copied
+abbrev pub copied_on : Job → Job
+copied_on job = record job { copied = job.copied + 1 }
+
+-- ---- a claim
+-- a look at job j that didn't get it: its word offers none; or it did, and another had changed it before the exchange
+abbrev pub Missed : CopierView → ℕ → Type 0
+Missed v j = (found : ℕ) × CopierMade (PeekJob v.number j) v (Word found) v
+    × ((offered_in (job_of found) ≡ None) ⊎ ((later : ℕ) × (later ≢ found) × CopierMade (Claim v.number j found) v (Word later) v))
+
+-- a job was taken: its word offered it, and the exchange won
+pub record Took (task : Task) (v v' : CopierView) : Type 0 where
+  pub found : ℕ
+  pub offers : job_of found ≡ Some (Offered task.job)
+  pub peeks : CopierMade (PeekJob v.number task.number) v (Word found) v
+  pub claims : CopierMade (Claim v.number task.number found) v Done v'
+  pub view : v' ≡ claimed_view task.number task.job v
+
+-- the header of its source was read: it has as many words as the header says, of which none is copied
+pub record Measured (job : Job) (v v' : CopierView) : Type 0 where
+  pub head : ℕ
+  pub reads : CopierMade (ReadLength v.number) v (Word head) v'
+  pub view : v' ≡ measured_view head v
+  pub words : job.words ≡ words_for (head_len head)
+  pub copied : job.copied ≡ 0
+
+-- both, one after the other
+abbrev pub Claimed : Job → CopierView → CopierView → Type 0
+Claimed job v v' = (taken : CopierView) × Took job.task v taken × Measured job taken v'
+
+-- the job's word says that this copier has taken it, and the copier has it; no other has it
+pub record IsTakenBy (c : ℕ) (job : Job) (s : State) : Type 0 where
+  pub says : job_of (s.copying.word job.task.number) ≡ Some (Taken job.task.job c)
+  pub has : s.copying.task c ≡ Some job.task
+  pub alone : (d : ℕ) (t : Task) → s.copying.task d ≡ Some t → t.number ≡ job.task.number → d ≡ c
+  pub words : job.words ≡ job_words s.word job.task.job
+
+-- ---- a word
+-- of the shared words one alone changes, word a of the logs, and is w then
+pub record OnlyWord (a w : ℕ) (s t : State) : Type 0 where
+  pub here : t.word a ≡ w
+  pub words : (b : ℕ) → b ≢ a → t.word b ≡ s.word b
+  pub rest : (t.epoch ≡ s.epoch) × (t.scope ≡ s.scope) × (t.cell ≡ s.cell) × (t.copying.word ≡ s.copying.word)
+
+-- the next word of a job was copied: it was read of the source, and this word was written to the target. The write changes no other word, in
+-- whatever state it was made
+pub record CopiedNext (job : Job) (v v' : CopierView) : Type 0 where
+  pub word : ℕ
+  pub reads : CopierMade (Read v.number job.copied) v (Word word) (word_read_view job.copied word v)
+  pub writes : CopierMade (Write v.number job.copied) (word_read_view job.copied word v) Done v'
+  pub view : v' ≡ word_written_view job.copied (word_read_view job.copied word v)
+  pub alone : (s : State) → CopierMayBe (word_read_view job.copied word v) s → OnlyWord (addr job.task.job.to + 1 + job.copied) word s (after s (Write v.number job.copied))
