@@ -9,9 +9,11 @@ close. A pin can't be made again before its scope is closed: what a scope with a
 an object stays where it lies, before its owner has asked for a move and the book has seen that (`ask`): what the three cost more than those two, and an
 empty turn, make its turn. The bare table lies in an Arc too, as threads share it.
 
-A job is of 8 words, so copy_word is done 4 and 8 times. A claim, a finish and a collect are done once: what a run with one turn costs more than one with
-none, and an empty turn for what the same of the empty work costs, make the turn. Before a collect the book sees that the job may be emptied (`await`): what
-both cost more than that, and an empty turn, make its turn. A claim looks at each job before the one that is offered: what such a look costs is told below the table.
+A job is of 8 words, so copy_word is done 4 and 8 times. An offer, a claim, a finish and a collect are done once: what a run with one turn costs more than one
+with none, and an empty turn for what the same of the empty work costs, make the turn. Before a collect the book sees that the job may be emptied (`await`):
+what both cost more than that, and an empty turn, make its turn. A claim looks at each job before the one that is offered: what such a look costs is told below
+the table. Beside a copier's calls and the book's offer stands the same work by hand, with the same answers (crates/bench_far_table/src/by_hand.rt, offers.rt):
+a word of a job is made of its parts or taken apart by shifts and masks, and stored, loaded or exchanged in the bare table.
 """
 import pathlib
 import re
@@ -51,13 +53,15 @@ def once(program, work, index=0):
 def measured(program):
     works = ["read_epoch", "scope", "pin", "place", "load", "store"]
     works += ["see", "mark", "clear", "get", "put", "ask", "name", "advance", "look", "see_job", "await"]
-    works += ["empty"] + [f"bare_{step}" for step in ("load", "store", "or", "and", "exchange", "scope", "pin", "claim", "copy")]
+    works += ["empty"] + [f"bare_{step}" for step in ("load", "store", "or", "and", "exchange", "scope", "pin")]
     cost = {work: a_turn(program, work) for work in works}
-    cost["copy_word"] = a_turn(program, "copy_word", WORDS // 2)
     none = once(program, "empty")
-    for work in ("claim", "finish", "collect"):
+    for work in ("copy_word", "bare_copy_word"):
+        cost[work] = a_turn(program, work, WORDS // 2)
+    for work in ("offer", "bare_offer", "claim", "bare_claim", "finish", "bare_finish", "collect"):
         cost[work] = once(program, work) - none + cost["empty"]
-    cost["a look"] = (once(program, "claim", INDEX) - once(program, "claim")) / INDEX
+    for work in ("claim", "bare_claim"):
+        cost[f"a look of {work}"] = (once(program, work, INDEX) - once(program, work)) / INDEX
     return cost
 
 
@@ -86,18 +90,19 @@ def main():
         ("name", cost["name"] - cost["ask"] + empty, cost["bare_exchange"]),
         ("advance", cost["advance"], cost["bare_exchange"]),
         ("look", cost["look"], cost["bare_load"]),
+        ("offer", cost["offer"], cost["bare_offer"]),
         ("see_job", cost["see_job"], cost["bare_load"]),
         ("collect", cost["collect"] - cost["await"] + empty, cost["bare_exchange"]),
         ("a copier's claim of job 0", cost["claim"], cost["bare_claim"]),
-        ("copy_word", cost["copy_word"], cost["bare_copy"]),
-        ("finish", cost["finish"], cost["bare_store"]),
+        ("copy_word", cost["copy_word"], cost["bare_copy_word"]),
+        ("finish", cost["finish"], cost["bare_finish"]),
     ]
     print(f"Instructions a turn, {TURNS:,} turns; an empty turn has {empty:g}:\n")
     print("| Turn | A seat's | Bare | Ratio |")
     print("|---|---|---|---|")
     for name, turn, bare in rows:
         print(f"| {name} | {turn:g} | {bare:g} | {turn / bare:.2f} |")
-    print(f"\nA claim looks at a job that is empty: {cost['a look']:g}.")
+    print(f"\nA claim looks at a job that is empty: {cost['a look of claim']:g}; by hand: {cost['a look of bare_claim']:g}.")
 
 
 if __name__ == "__main__":

@@ -54,7 +54,7 @@ class Alone(Heap):
 
     def __init__(self, logs: int, mutators: int, is_short: bool = False, flaw: Flaw = Flaw()):
         super().__init__(logs, mutators)
-        self.logs, self.reply, self.may_lack, self.lacks = logs, "", ("refused 2", "refused 1")[: 1 + is_short], ()
+        self.logs, self.reply, self.may_lack, self.lacks = logs, "", ("refused 1",) * is_short, ()
         self.flaw_of, self.others = flaw, {}  # (what each object would have, had it come back inverted at one of its views)
 
     def place(self, found: Thing, kept: int) -> bool:
@@ -95,7 +95,7 @@ class Alone(Heap):
 
     def expected(self, name: str, operands: list, reply: str) -> str:
         """The reply, where it may come; else one that may."""
-        self.reply, self.lacks = reply, self.may_lack + (self.flaw_of.refused if name != "new" else ())
+        self.reply, self.lacks = reply, ("refused 2",) + (self.may_lack + self.flaw_of.refused if name != "new" else ())
         said = self.answer(name, operands)
         return reply if said == "refused 2" and reply in self.lacks else said
 
@@ -129,7 +129,7 @@ class Told:
     def is_round_answered(self, lines: list, policy: str, most: int, turns: int) -> bool:
         if not self.is_idle or self.epoch == LAST_EPOCH:
             return lines == ["refused 12" if not self.is_idle else "refused 13"]
-        if lines == ["round none"] or (self.is_short and lines == ["refused 1"]):
+        if lines == ["round none"]:
             return True
         if (halted := HALTED.fullmatch(lines[0])) and halted[1] in self.halts:
             self.is_idle = False

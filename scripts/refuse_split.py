@@ -3,9 +3,13 @@
 
 usage: refuse_split.py PROGRAM
 A run must end with status 0 and replies that follow from each mutator's own lines, of which some may be refused for want of
-memory; or with `memory`, status 1, and nothing written. Both must come, and the whole output. Prints only what is wrong.
+memory, as may an audit, and a round with its counts; or with `memory`, status 1, and nothing written. Both must come, a round and an
+audit that are refused, and the whole output. Prints only what is wrong.
+
+The book's thread begins first, and is alone for a while: so the text asks it for much before and between rounds.
 """
 import os
+import re
 import subprocess
 import sys
 import tempfile
@@ -14,14 +18,14 @@ sys.dont_write_bytecode = True
 from differ_split import wrong  # noqa: E402
 
 HERE = os.path.dirname(os.path.abspath(__file__))
+ROUNDS = (b"log 0\n" * 60 + b"round oldest 1 1000\n") * 12
 TEXT = b"""heap 6 2
 new 0 8 1
 new 0 1016 1
 new 1 16 2
 new 1 1016 2
 audit
-round oldest 1 1000
-open 0
+%sopen 0
 write 0 0 0 0102030405060708
 read 0 0 0 8
 view 0 1
@@ -33,7 +37,8 @@ close 1
 logs
 round leastlive 2 1000
 audit
-"""
+""" % ROUNDS
+REFUSED = re.compile(rb"^refused 1( |$)", re.M)
 RUNS = 4  # of each growth, since threads come in any order
 
 
@@ -44,7 +49,7 @@ def run(program: str, library: str, count: str, refused: int) -> tuple:
 
 
 def main() -> int:
-    program, endings = sys.argv[1], {"whole": 0, "refused": 0, "memory": 0}
+    program, endings = sys.argv[1], {"whole": 0, "refused": 0, "memory": 0, "round": 0, "audit": 0}
     with tempfile.TemporaryDirectory() as work:
         library, count = f"{work}/fail_malloc.so", f"{work}/count"
         subprocess.run(["cc", "-O2", "-shared", "-fPIC", "-o", library, f"{HERE}/fail_malloc.c", "-ldl"], check=True)
@@ -59,7 +64,9 @@ def main() -> int:
                 print(f"refuse_split: growth {refused // RUNS} of {asked}: status {status}, {said or found}:\n{output.decode()}")
                 return 1
             else:
-                endings["refused" if b"refused 1" in output else "whole"] += 1
+                endings["refused" if REFUSED.search(output) else "whole"] += 1
+                endings["round"] += b"\nrefused 1 moved " in output
+                endings["audit"] += b"\nrefused 1\n" in b"\n" + output.partition(b"\nbook\n")[2]
     if 0 in endings.values():
         print(f"refuse_split: of {asked} growths: {endings}")
         return 1

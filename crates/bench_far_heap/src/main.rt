@@ -2,24 +2,30 @@
 #![tactic(auto)]
 
 ghost use Rattle.std.specs.Prelude.{◌≡◌};
+ghost use Rattle.far_heap.specs.HeapId.{with_copiers};
 
 mod bytes;
+mod copies;
 mod numbers;
 mod objects;
 mod rounds;
 mod task;
+mod turns;
 mod works;
 
+use copies::copy_all;
 use far_device::MemDevice;
-use far_heap::{Blank, Heap, HeapName, Mutator};
+use far_heap::{Blank, Copier, Heap, HeapName, Mutator};
 use far_word::Refused;
 use std::alloc::Global;
 use std::marker::Brand;
 use std::process::ExitCode;
 use std::sync::Wait;
+use std::sync::atomic::{AtomicU64, Ordering};
 use std::thread::Threads;
 use std::{env, io, thread};
-use task::Task;
+use task::{Task, Work};
+use turns::steps;
 use works::sum_of_one;
 
 fn total(sums: &[Result<u64, Refused>]) -> Result<u64, Refused> {
@@ -30,7 +36,44 @@ fn total(sums: &[Result<u64, Refused>]) -> Result<u64, Refused> {
     Ok(total)
 }
 
-// The sum of a task over a new heap, each of whose mutators has a thread.
+// The sum of a task over a heap, each of whose mutators has a thread.
+fn sum_over<K: HeapName + Send + Sync, R: Threads + Wait + Sync>(
+    rt: &R,
+    heap: &Heap<K, MemDevice>,
+    mutators: Vec<Mutator<K, MemDevice>>,
+    task: Task,
+) -> Result<u64, Refused> {
+    let each = |mutator: Mutator<K, MemDevice>| sum_of_one(rt, heap, mutator, task);
+    match thread::map_vec(rt, mutators, &each) {
+        Ok(sums) => total(sums.as_slice()),
+        Err(_) => Err(Refused::Memory),
+    }
+}
+
+// The same beside copiers, each of which has a thread too.
+fn sum_beside<K: HeapName + Send + Sync, R: Threads + Wait + Sync>(
+    rt: &R,
+    heap: &Heap<K, MemDevice>,
+    mutators: Vec<Mutator<K, MemDevice>>,
+    copiers: Vec<Copier<K, MemDevice>>,
+    task: Task,
+) -> Result<u64, Refused> {
+    let over = AtomicU64::new(0);
+    let ended = &over;
+    let (copied, sum) = thread::join(
+        rt,
+        move || copy_all(rt, copiers, ended),
+        move || {
+            let sum = sum_over(rt, heap, mutators, task);
+            ended.store(1, Ordering::SeqCst);
+            sum
+        },
+    );
+    copied?;
+    sum
+}
+
+// The sum of a task over a new heap.
 fn sum_of<K: HeapName + Send + Sync, R: Threads + Wait + Sync>(
     rt: &R,
     alloc: Global,
@@ -40,17 +83,41 @@ fn sum_of<K: HeapName + Send + Sync, R: Threads + Wait + Sync>(
     requires { blank.heap ≡ K.heap }
 {
     let (heap, mutators) = Heap::<K, MemDevice>::new(alloc, blank)?;
-    let passed = &heap;
-    let each = |mutator: Mutator<K, MemDevice>| sum_of_one(rt, passed, mutator, task);
-    match thread::map_vec(rt, mutators, &each) {
-        Ok(sums) => total(sums.as_slice()),
-        Err(_) => Err(Refused::Memory),
+    match task.work {
+        Work::Turns => steps(rt, &heap, mutators, None, task.count),
+        _ => sum_over(rt, &heap, mutators, task),
+    }
+}
+
+// The same with copiers.
+fn sum_copied<K: HeapName + Send + Sync, R: Threads + Wait + Sync>(
+    rt: &R,
+    alloc: Global,
+    blank: Blank<MemDevice>,
+    task: Task,
+) -> Result<u64, Refused>
+    requires { with_copiers blank.heap ≡ K.heap }
+{
+    let (heap, mutators, mut copiers) = Heap::<K, MemDevice>::with_copiers(
+        alloc,
+        blank,
+        task.copiers,
+    )?;
+    match task.work {
+        Work::Turns => steps(rt, &heap, mutators, copiers.pop(), task.count),
+        _ => sum_beside(rt, &heap, mutators, copiers, task),
     }
 }
 
 fn done<R: Threads + Wait + Sync>(rt: &R, alloc: Global, task: Task) -> Result<u64, Refused> {
     match Blank::new(alloc, task.shape, MemDevice::new(alloc)) {
-        Ok(blank) => sum_of::<Brand, _>(rt, alloc, blank, task),
+        Ok(blank) => {
+            if task.copiers > 0 {
+                sum_copied::<Brand, _>(rt, alloc, blank, task)
+            } else {
+                sum_of::<Brand, _>(rt, alloc, blank, task)
+            }
+        }
         Err(why) => Err(why),
     }
 }
@@ -72,7 +139,7 @@ fn main(rt: HostRuntime) -> ExitCode {
     let Some(task) = asked else {
         return failed(
             &rt,
-            "usage: bench_far_heap WORK [LEN | MUTATORS] COUNT [FROM]",
+            "usage: bench_far_heap WORK [LEN | MUTATORS | COPIERS] COUNT [FROM]",
             2,
         );
     };

@@ -16,6 +16,18 @@ pub(crate) fn ended(end: Result<RoundEnd, EvacFault>) -> Result<(), Refused> {
     }
 }
 
+/// A round of at most four logs beside copiers, which is given up where it doesn't end.
+pub(crate) fn ended_beside<K: HeapName, R: Wait>(
+    rt: &R,
+    heap: &Heap<K, MemDevice>,
+) -> Result<(), Refused> {
+    match heap.run_round(rt, &mut Oldest, 4, 100_000) {
+        Ok(RoundEnd::Limit(_)) => heap.book(rt).abort(),
+        Ok(_) => Ok(()),
+        Err(fault) => Err(fault.why),
+    }
+}
+
 // Drops what a slot has, if anything, and makes a new object for it.
 #[inline]
 fn replace<K: HeapName, R: Wait>(

@@ -14,10 +14,14 @@ pub(crate) enum Work {
     Rounds,
     /// By some mutators, each in a thread of its own.
     Scale,
+    /// As `Rounds`, beside some copiers, each in a thread of its own.
+    Copied,
+    /// Turns that empty logs, by hand.
+    Turns,
 }
 
 // Each work by its name, with how many logs its heap has.
-const WORKS: [(&str, Work, u64); 9] = [
+const WORKS: [(&str, Work, u64); 11] = [
     ("read", Work::Read, 4),
     ("write", Work::Write, 4),
     ("scope", Work::Scope, 4),
@@ -27,6 +31,8 @@ const WORKS: [(&str, Work, u64); 9] = [
     ("slow", Work::Slow, 32),
     ("rounds", Work::Rounds, 16),
     ("scale", Work::Scale, 16),
+    ("copied", Work::Copied, 16),
+    ("turns", Work::Turns, 64),
 ];
 
 /// What is done, and how often.
@@ -37,8 +43,9 @@ pub(crate) struct Task {
     /// The range of bytes of an object.
     pub len: u16,
     pub from: u16,
-    /// The heap that it is done on.
+    /// The heap that it is done on, and how many copiers that has.
     pub shape: Shape,
+    pub copiers: u8,
 }
 
 fn named(name: &str) -> Option<(Work, u64)> {
@@ -71,6 +78,7 @@ pub(crate) fn read(words: &[String]) -> Option<Task> {
             mutators: 1,
             epoch: 0,
         },
+        copiers: 0,
     };
     match work {
         Work::Read | Work::Write => {
@@ -82,6 +90,10 @@ pub(crate) fn read(words: &[String]) -> Option<Task> {
         }
         Work::Scale => {
             task.shape.mutators = task.count;
+            task.count = number(words, 3)?;
+        }
+        Work::Copied | Work::Turns => {
+            task.copiers = u8::try_from(task.count).ok()?;
             task.count = number(words, 3)?;
         }
         _ => {}

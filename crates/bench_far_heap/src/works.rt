@@ -2,7 +2,7 @@
 use crate::bytes;
 use crate::numbers::{Random, mix};
 use crate::objects::{MOST, make, read_all, view_again, view_each, write_some};
-use crate::rounds::{churn, ended, sweep};
+use crate::rounds::{churn, ended, ended_beside, sweep};
 use crate::task::{Task, Work};
 use far_device::MemDevice;
 use far_heap::{Heap, HeapName, Mutator, Scope};
@@ -30,11 +30,11 @@ impl Tally {
 // How many objects a mutator has, and how many turns it takes.
 fn extent(task: Task) -> (usize, u64) {
     match task.work {
-        Work::Scope | Work::Churn | Work::Read | Work::Write => (0, 0),
+        Work::Scope | Work::Churn | Work::Read | Work::Write | Work::Turns => (0, 0),
         Work::Again => (16, 0),
         Work::View | Work::Scale => (16, task.count),
         Work::Slow => (96, task.count.div_ceil(96)),
-        Work::Rounds => (MOST, task.count),
+        Work::Rounds | Work::Copied => (MOST, task.count),
     }
 }
 
@@ -87,7 +87,9 @@ fn within<K: HeapName, R: Wait>(
     tally: &mut Tally,
 ) -> Result<(), Refused> {
     let len = match work {
-        Work::Rounds => return write_some(rt, scope, pointers, &mut tally.random),
+        Work::Rounds | Work::Copied => {
+            return write_some(rt, scope, pointers, &mut tally.random);
+        }
         Work::Scale => 64,
         _ => 8,
     };
@@ -106,10 +108,11 @@ fn after<K: HeapName, R: Wait>(
     heap: &Heap<K, MemDevice>,
     work: Work,
 ) -> Result<(), Refused> {
-    let Work::Rounds = work else {
-        return Ok(());
-    };
-    ended(heap.run_round(rt, &mut Oldest, 4, 1000))
+    match work {
+        Work::Rounds => ended(heap.run_round(rt, &mut Oldest, 4, 1000)),
+        Work::Copied => ended_beside(rt, heap),
+        _ => Ok(()),
+    }
 }
 
 // After all turns: what the objects have.
@@ -120,7 +123,7 @@ fn at_end<K: HeapName, R: Wait>(
     work: Work,
     tally: &mut Tally,
 ) -> Result<(), Refused> {
-    if let Work::Rounds = work {
+    if let Work::Rounds | Work::Copied = work {
         tally.sum = read_all(rt, scope, pointers)?;
     }
     Ok(())

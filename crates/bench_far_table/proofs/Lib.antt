@@ -1,3 +1,4 @@
 pub mod Fresh
 pub mod Idle
 pub mod Ready
+pub mod Copyable

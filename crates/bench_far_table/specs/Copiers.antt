@@ -2,17 +2,16 @@
 use Rattle.std.specs.Prelude.{◌≡◌, Bool, true, false, Option, Some, None}
 use Rattle.far_word.specs.declared.job.JobWord.{JobWord}
 use Rattle.far_word.specs.declared.job.JobWord.TheVariants.{Empty, Offered, Taken, Finished}
-use Rattle.far_table.specs.CopySeats.{IsCopied, IsJobOf}
+use Rattle.far_table.specs.CopySeats.{CopyJob, IsCopied, IsJobOf}
 use Rattle.far_table.specs.View.{CopierView}
-use Rattle.far_table.specs.declared.copy_seat.Job.{Job}
 
 -- where no job is kept, the copier has none
-abbrev pub IsFree : CopierView → Option Job → Type 0
+abbrev pub IsFree : CopierView → Option CopyJob → Type 0
 IsFree v kept = kept ≡ None → v.task ≡ None
 
 -- a job that is kept is the copier's, and all its words are copied
-abbrev pub IsWhole : CopierView → Option Job → Type 0
-IsWhole v kept = (job : Job) → kept ≡ Some job → IsJobOf job v × IsCopied job
+abbrev pub IsWhole : CopierView → Option CopyJob → Type 0
+IsWhole v kept = (job : CopyJob) → kept ≡ Some job → IsJobOf job v × IsCopied job
 
 -- a copier has the job
 abbrev pub is_taken : Option JobWord → Bool

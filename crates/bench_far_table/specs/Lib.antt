@@ -1,3 +1,4 @@
 pub mod Copiers
 pub mod Hands
 pub mod States
+pub mod Offers

@@ -1,5 +1,5 @@
-// A table as long as that of a heap, under a rule that says nothing, shared as those of owners in threads are; and what is counted on it.
-ghost use Rattle.std.specs.Prelude.{◌≡◌, ◌<◌};
+// A table as long as that of a heap, and 128 words more, under a rule that says nothing, shared as those of owners in threads are; and what is counted on it.
+ghost use Rattle.std.specs.Prelude.{◌≡◌, ◌<◌, length};
 ghost use Rattle.std.specs.Arc.{arc_value};
 
 use crate::turn::Turn;
@@ -7,7 +7,7 @@ use atomic_table::{Play, Seat, Table, TableRule};
 use std::alloc::{AllocError, Global};
 use std::sync::Arc;
 
-pub(crate) const WORDS: usize = 9392;
+pub(crate) const WORDS: usize = 9520;
 
 pub(crate) struct Anything;
 
@@ -28,57 +28,60 @@ impl Play<u64, u64> for Nothing {
 pub(crate) struct Bare {
     table: Arc<Table<u64, u64, u64, Anything, Global>, Global>,
     seat: Seat<u64, u64>,
-    ghost fits: { (seat.table_id ≡ (arc_value table).shared.table_id) × ((arc_value table).shared.table_id.words ≡ 9392) },
+    ghost fits: { (seat.table_id ≡ (arc_value table).shared.table_id) × ((arc_value table).shared.table_id.words ≡ 9520) },
 }
 
 impl Bare {
     pub(crate) fn new(alloc: Global) -> Result<Bare, AllocError> {
         let words = vec![in alloc; 0; WORDS]?;
-        let (table, seat) = Table::of_words(alloc, words.as_slice(), &0)?;
+        Bare::of(alloc, words.as_slice())
+    }
+
+    /// Of these words.
+    pub(crate) fn of(alloc: Global, words: &[u64]) -> Result<Bare, AllocError>
+        requires { length words.now ≡ 9520 }
+    {
+        let (table, seat) = Table::of_words(alloc, words, &0)?;
         let table = Arc::new(alloc, table)?;
         Ok(Bare { table, seat })
     }
 
-    fn load(&mut self, word: u16) -> u64
-        requires { word < 9392 }
+    pub(crate) fn load(&mut self, word: usize) -> u64
+        requires { word < 9520 }
     {
         let Bare { table, seat } = self;
-        table.shared.load::<Nothing>(seat, word as usize)
+        table.shared.load::<Nothing>(seat, word)
     }
 
-    fn store(&mut self, word: u16, new: u64) -> u64
-        requires { word < 9392 }
+    pub(crate) fn store(&mut self, word: usize, new: u64) -> u64
+        requires { word < 9520 }
     {
         let Bare { table, seat } = self;
-        table.shared.store::<Nothing>(seat, word as usize, new);
+        table.shared.store::<Nothing>(seat, word, new);
         0
     }
 
-    fn fetch_or(&mut self, word: u16) -> u64
-        requires { word < 9392 }
+    fn fetch_or(&mut self, word: usize) -> u64
+        requires { word < 9520 }
     {
         let Bare { table, seat } = self;
-        table
-            .shared
-            .fetch_or::<Nothing>(seat, word as usize, 1 << 62)
+        table.shared.fetch_or::<Nothing>(seat, word, 1 << 62)
     }
 
-    fn fetch_and(&mut self, word: u16) -> u64
-        requires { word < 9392 }
+    fn fetch_and(&mut self, word: usize) -> u64
+        requires { word < 9520 }
     {
         let Bare { table, seat } = self;
-        table
-            .shared
-            .fetch_and::<Nothing>(seat, word as usize, !(1 << 61))
+        table.shared.fetch_and::<Nothing>(seat, word, !(1 << 61))
     }
 
-    fn compare_exchange(&mut self, word: u16, old: u64) -> u64
-        requires { word < 9392 }
+    pub(crate) fn compare_exchange(&mut self, word: usize, old: u64, new: u64) -> u64
+        requires { word < 9520 }
     {
         let Bare { table, seat } = self;
         table
             .shared
-            .compare_exchange::<Nothing>(seat, word as usize, old, old)
+            .compare_exchange::<Nothing>(seat, word, old, new)
     }
 }
 
@@ -101,12 +104,6 @@ pub(crate) const SCOPE: u8 = 6;
 /// The same, with a fetch-or between the stores.
 pub(crate) const PIN: u8 = 7;
 
-/// A load, a compare-exchange and another load, as a claim is.
-pub(crate) const CLAIM: u8 = 8;
-
-/// A load and a store, as a word is copied.
-pub(crate) const COPY: u8 = 9;
-
 /// Turns of one of these operations.
 #[derive(Drop)]
 pub(crate) struct Bares<const STEP: u8> {
@@ -115,12 +112,13 @@ pub(crate) struct Bares<const STEP: u8> {
 
 impl<const STEP: u8> Turn for Bares<STEP> {
     fn turn(&mut self, index: u16, word: u64) -> u64 {
+        let index = index as usize;
         match STEP {
             LOAD => self.bare.load(index),
             STORE => self.bare.store(index, word),
             OR => self.bare.fetch_or(index),
             AND => self.bare.fetch_and(index),
-            EXCHANGE => self.bare.compare_exchange(index, word),
+            EXCHANGE => self.bare.compare_exchange(index, word, word),
             SCOPE => {
                 let found = self.bare.load(16);
                 self.bare.store(index, found);
@@ -133,15 +131,6 @@ impl<const STEP: u8> Turn for Bares<STEP> {
                 let word = self.bare.fetch_or(index);
                 self.bare.store(index, 0);
                 word
-            }
-            CLAIM => {
-                let found = self.bare.load(index);
-                self.bare.compare_exchange(index, found);
-                self.bare.load(16)
-            }
-            COPY => {
-                let found = self.bare.load(index);
-                self.bare.store(16, found)
             }
             _ => 0,
         }

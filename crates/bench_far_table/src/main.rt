@@ -5,33 +5,40 @@ ghost use Rattle.std.specs.Prelude.{◌≡◌, ◌<◌, None};
 ghost use Rattle.bench_far_table.specs.States.{IsIdle};
 
 mod bare;
+mod by_hand;
 mod copying;
 mod hand;
 mod making;
 mod offering;
+mod offers;
 mod owner;
 mod turn;
 
 use bare::{Bare, Bares};
+use by_hand::{HandCopier, hand_claiming, hand_copying, hand_finishing};
 use copying::{Collects, claiming, copying, finishing};
 use far_device::MemDevice;
 use far_table::{BookSeat, CopySeat};
-use far_word::Refused;
+use far_word::{POINTERS, Place, Refused};
 use hand::{Asks, BookHand, Deeds};
 use making::made;
-use offering::offered;
+use offering::{beginning, offered};
+use offers::{HandOffers, offering};
 use owner::{Idles, Owner, viewing};
 use std::alloc::{AllocError, Global};
 use std::process::ExitCode;
 use std::{env, io};
 use turn::turns;
 
-// What is done: a call of an owner's seat, one of the book's, one about a job that is offered, or an operation on a bare table.
+// What is done: a call of an owner's seat, one of the book's, one about a job that is offered, the same by hand, or an operation on a bare table.
 #[derive(Clone, Copy)]
 enum Work {
     Seat(Call),
     Book(Deed),
+    Offer,
+    BareOffer,
     Job(Part),
+    Hand(Part),
     Bare(Step),
 }
 
@@ -79,12 +86,10 @@ enum Step {
     Exchange,
     Scope,
     Pin,
-    Claim,
-    Copy,
 }
 
 // Each work by its name.
-const WORKS: [(&str, Work); 32] = [
+const WORKS: [(&str, Work); 35] = [
     ("share", Work::Seat(Call::Share)),
     ("read_epoch", Work::Seat(Call::ReadEpoch)),
     ("scope", Work::Seat(Call::Scope)),
@@ -102,6 +107,7 @@ const WORKS: [(&str, Work); 32] = [
     ("advance", Work::Book(Deed::Advance)),
     ("look", Work::Book(Deed::Look)),
     ("see_job", Work::Book(Deed::SeeJob)),
+    ("offer", Work::Offer),
     ("claim", Work::Job(Part::Claim)),
     ("copy_word", Work::Job(Part::Copy)),
     ("finish", Work::Job(Part::Finish)),
@@ -115,8 +121,10 @@ const WORKS: [(&str, Work); 32] = [
     ("bare_exchange", Work::Bare(Step::Exchange)),
     ("bare_scope", Work::Bare(Step::Scope)),
     ("bare_pin", Work::Bare(Step::Pin)),
-    ("bare_claim", Work::Bare(Step::Claim)),
-    ("bare_copy", Work::Bare(Step::Copy)),
+    ("bare_offer", Work::BareOffer),
+    ("bare_claim", Work::Hand(Part::Claim)),
+    ("bare_copy_word", Work::Hand(Part::Copy)),
+    ("bare_finish", Work::Hand(Part::Finish)),
 ];
 
 fn named(name: &str) -> Option<Work> {
@@ -223,6 +231,19 @@ fn on_job(
     Some(last)
 }
 
+// `None` where the copier can't do it, or the book is to.
+fn on_hand(copier: HandCopier, part: Part, task: Task) -> Option<u64>
+    requires inside { task.index < 8 }
+{
+    let (index, count) = (task.index, task.turns);
+    match part {
+        Part::Claim => Some(turns(&mut hand_claiming(copier), index, count)),
+        Part::Copy => Some(turns(&mut hand_copying(copier)?, index, count)),
+        Part::Finish => Some(turns(&mut hand_finishing(hand_copying(copier)?)?, index, count)),
+        Part::Await | Part::Collect => None,
+    }
+}
+
 fn on_bare(alloc: Global, step: Step, task: Task) -> Result<u64, AllocError>
     requires { task.index < 8 }
 {
@@ -237,8 +258,6 @@ fn on_bare(alloc: Global, step: Step, task: Task) -> Result<u64, AllocError>
         Step::Exchange => turns(&mut Bares::<{ bare::EXCHANGE }> { bare }, index, count),
         Step::Scope => turns(&mut Bares::<{ bare::SCOPE }> { bare }, index, count),
         Step::Pin => turns(&mut Bares::<{ bare::PIN }> { bare }, index, count),
-        Step::Claim => turns(&mut Bares::<{ bare::CLAIM }> { bare }, index, count),
-        Step::Copy => turns(&mut Bares::<{ bare::COPY }> { bare }, index, count),
     };
     Ok(last)
 }
@@ -264,6 +283,39 @@ fn done(alloc: Global, task: Task) -> Result<Option<u64>, Refused> {
                 return Ok(None);
             };
             Ok(Some(on_book(hand, owner, deed, task)))
+        }
+        Work::Offer => {
+            let Some(hand) = beginning(alloc, task.pointer)? else {
+                return Ok(None);
+            };
+            let Some(mut offers) = offering(hand, task.index as u8) else {
+                return Ok(None);
+            };
+            Ok(Some(turns(&mut offers, task.index, task.turns)))
+        }
+        Work::BareOffer => match Bare::new(alloc) {
+            Ok(bare) => Ok(Some(turns(
+                &mut HandOffers {
+                    bare,
+                    job: task.index as u8,
+                    pointer: task.pointer,
+                    from: Place { log: 0, at: 0 },
+                    to: Place { log: 2, at: 0 },
+                    done: false,
+                },
+                task.index,
+                task.turns,
+            ))),
+            Err(_) => Err(Refused::Memory),
+        },
+        Work::Hand(part) => {
+            if task.pointer >= POINTERS {
+                return Ok(None);
+            }
+            match HandCopier::new(alloc, task.pointer, task.index as usize) {
+                Ok(copier) => Ok(on_hand(copier, part, task)),
+                Err(_) => Err(Refused::Memory),
+            }
         }
         Work::Job(part) => {
             let Some((book, copier)) = offered(alloc, task.pointer, task.index as u8)? else {

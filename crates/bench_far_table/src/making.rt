@@ -63,8 +63,8 @@ fn is_fresh(core: &Core, pointer: u16) -> bool
         && core.held(pointer).is_none()
 }
 
-// Whether the object of a pointer lies in a sealed log, and another log is empty.
-fn is_ready(core: &Core, pointer: u16) -> bool
+/// Whether the object of a pointer lies in a sealed log, and another log is empty.
+pub(crate) fn is_ready(core: &Core, pointer: u16) -> bool
     requires few { pointer < CELLS }
     requires one { (core_state core.now).mutators ≡ 1 }
     ensures { result ≡ true → IsReady (core_state core.now) pointer EMPTY 0 }

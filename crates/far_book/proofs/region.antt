@@ -23,6 +23,7 @@ pub mod HavingJobs
 pub mod InOrders
 pub mod JobNotes
 pub mod JobSteps
+pub mod JobsEnd
 pub mod Learning
 pub mod LearningOn
 pub mod Leaving

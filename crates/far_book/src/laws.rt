@@ -3,9 +3,12 @@
 ghost use Rattle.std.specs.Prelude.{◌≡◌, ◌*◌, ◌<◌, ◌≤◌, ℕ, true};
 ghost use Rattle.far_book.specs.book.Ages.{FetchingSealsBehind, MovingSealsBehind, PlacingSealsBehind, WithoutKeepsAges};
 ghost use Rattle.far_book.specs.book.Actions.{EventsAreActions, LoadsGiveStored};
+ghost use Rattle.far_book.specs.book.Collecting.{NamedAreCopies, NoneFinished, NoneOffered};
 ghost use Rattle.far_book.specs.book.Laws.{EvictingIsLegal, PlacingIsLegal, RetiringIsLegal, FetchingIsLegal, MovingIsLegal, ReleasingIsLegal, StayingIsLegal};
+ghost use Rattle.far_book.specs.book.Offering.{OffersAreJobs};
 ghost use Rattle.far_book.specs.book.SealedLogs.{SealedLogsKept};
 ghost use Rattle.far_book.specs.book.NextLive.{LivesFromStart, LivesBehind, SpansAreBounded};
+ghost use Rattle.far_book.specs.worked.JobRows.{CopyIsOffered, DroppedIsntNamed, FinishedIsNamed, FinishedStays, LeftIsntNamed, LowestIsNext, MovedIsntNamed, NowhereToCopy, OfferedIsTakenBack, OldIsntNamed, TakenStays, VoidIsEmpty};
 
 /// Placing a new object where room is leads from a state to the next by legal events of the core: its header and zeros are
 /// put, and its cell is named. So the law of the core is kept, and the world makes one step: the object. Its cell says near at
@@ -68,6 +71,32 @@ pub fn order_is_by_age()
     ensures fetched { FetchingSealsBehind }
     ensures moved { MovingSealsBehind }
     ensures released { WithoutKeepsAges }
+{}
+
+/// A job that is offered says whose object a copier may copy, from where to where. Once jobs were collected none is known to be
+/// finished; one that was named was found finished and stood, and its pointer names its target from then on. Once jobs were taken
+/// back none is known to be offered.
+pub fn jobs_come_and_go()
+    ensures offered { OffersAreJobs }
+    ensures named { NamedAreCopies }
+    ensures collected { NoneFinished }
+    ensures taken_back { NoneOffered }
+{}
+
+/// Worked examples of jobs: lists of calls and of others' events, on a heap that nobody else steps, and what they answer.
+pub fn jobs_are_so()
+    ensures copy_is_offered { CopyIsOffered }
+    ensures finished_is_named { FinishedIsNamed }
+    ensures moved_isnt_named { MovedIsntNamed }
+    ensures dropped_isnt_named { DroppedIsntNamed }
+    ensures old_isnt_named { OldIsntNamed }
+    ensures left_isnt_named { LeftIsntNamed }
+    ensures void_is_empty { VoidIsEmpty }
+    ensures taken_stays { TakenStays }
+    ensures offered_is_taken_back { OfferedIsTakenBack }
+    ensures finished_stays { FinishedStays }
+    ensures lowest_is_next { LowestIsNext }
+    ensures nowhere_to_copy { NowhereToCopy }
 {}
 
 /// From the start on, whatever owners and the book do, in whatever order, a load of a word gives the word that was last

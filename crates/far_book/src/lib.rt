@@ -15,8 +15,8 @@ pub use book::Book;
 pub use far_hand::{Beset, Near, Plain};
 pub use home::Home;
 pub use laws::{
-    evicting_is_legal, fetching_is_legal, live_spans_follow, loads_give_stored, moving_is_legal,
-    order_is_by_age, placing_is_legal, releasing_is_legal, retiring_is_legal, sealed_logs_stay,
-    staying_is_legal,
+    evicting_is_legal, fetching_is_legal, jobs_are_so, jobs_come_and_go, live_spans_follow,
+    loads_give_stored, moving_is_legal, order_is_by_age, placing_is_legal, releasing_is_legal,
+    retiring_is_legal, sealed_logs_stay, staying_is_legal,
 };
 pub use log_rows::LogRows;

@@ -7,3 +7,8 @@ use Rattle.std.proofs.lemmas.Bool.{true≢false}
 pub neither : (a b : Bool) → (b ≡ true → a ≡ true) → a ≡ false → b ≡ false
 neither a true up none = absurd (true≢false (sym (up refl) ∙ none))
 neither a false up none = refl
+
+-- by whether copies may be offered
+pub by_copying : {P : Type 0} (copying : Bool) → (copying ≡ false → P) → (copying ≡ true → P) → P
+by_copying true alone beside = beside refl
+by_copying false alone beside = alone refl

@@ -1,5 +1,5 @@
 -- How many objects and logs a round deals with at most, so that no sum of its turns is too large.
-use Rattle.std.proofs.Common.{◌≡◌, ◌≢◌, ℕ, zero, suc, ◌+◌, ◌*◌, ◌≤◌, Bool, false, cond, nat_lt, List, [], ◌∷◌, length, arith, ap, sym, refl, ◌∙◌, subst, filter}
+use Rattle.std.proofs.Common.{◌≡◌, ◌≢◌, ℕ, zero, suc, ◌+◌, ◌*◌, ◌<◌, ◌≤◌, Bool, true, false, cond, nat_lt, List, [], ◌∷◌, length, arith, ap, sym, refl, ◌∙◌, subst, filter}
 use Rattle.std.proofs.lemmas.Bool.{cond_both, true≢false}
 use Rattle.std.proofs.lemmas.List.{length-append, length-drop, length-map}
 use Rattle.std.proofs.lemmas.Map.Steps.{length-le_from_distinct_below}
@@ -13,13 +13,14 @@ use Rattle.far_core.specs.state.State.{State}
 use Rattle.far_book.specs.book.Own.{own_part}
 use Rattle.far_evac.specs.declared.phase.Phase.{Phase}
 use Rattle.far_evac.specs.declared.phase.Phase.TheVariants.{Idle, Marking, Waiting, Evacuating}
-use Rattle.far_evac.specs.AnyHand.{Evacuates, StopsAt, TurnsTo, WalksTo}
+use Rattle.far_evac.specs.AnyHand.{Evacuates, StopsAt, WalksTo}
+use Rattle.far_evac.specs.AnyTurns.{TurnsTo}
 use Rattle.far_evac.specs.Laws.{DealtInOrder}
 use Rattle.far_evac.specs.Live.{live_in, live_among, pointers_of}
 use Rattle.far_evac.specs.Moment.{Moment, Tally, nothing, plus}
 use Rattle.far_evac.specs.MomentLaw.{MomentLaw, has_risen}
 use Rattle.far_evac.specs.Ready.{Ready}
-use Rattle.far_evac.specs.Turning.{GoesOn, IsBounded, IsWithin, most_objects}
+use Rattle.far_evac.specs.Turning.{GoesOn, IsBounded, IsBoundedBy, IsCountedIn, IsSmall, IsWithin, most_objects, most_turns}
 use Rattle.far_evac.specs.Turns.{turn_size}
 use Rattle.far_evac.specs.Walk.{Walked, ended, is_done, left}
 use Rattle.far_evac.proofs.InOrder.{in_order}
@@ -96,7 +97,7 @@ not_leaving phase early e = true≢false (sym (ap has_risen e) ∙ early)
 waits_not : (phase : Phase) → phase ≡ Waiting → phase ≢ Evacuating
 waits_not phase waits leaves = absurd cc
 
-module _ (m t : Moment) (law : Law (own_part m.core)) (agrees : MomentLaw m) (law_then : Law (own_part t.core)) (agrees_then : MomentLaw t) (total tally : Tally) (done : Bool) (within : IsWithin m total) where
+module _ (m t : Moment) (law : Law (own_part m.core)) (agrees : MomentLaw m) (law_then : Law (own_part t.core)) (agrees_then : MomentLaw t) (alone : m.copying ≡ false) (total tally : Tally) (done : Bool) (within : IsWithin m total) where
   abbrev StaysWithin : Type 0
   StaysWithin = IsBounded (plus total tally) × (done ≡ false → IsWithin t (plus total tally))
 
@@ -120,7 +121,7 @@ module _ (m t : Moment) (law : Law (own_part m.core)) (agrees : MomentLaw m) (la
   stays_by Idle e turns = absurd turns
   stays_by Marking e (none, _, _) = counts_none (not_leaving m.phase (ap has_risen e)) none
   stays_by Waiting e (none, _, _) = counts_none (waits_not m.phase e) none
-  stays_by Evacuating e turns = leaves_some e turns
+  stays_by Evacuating e turns = leaves_some e (turns.alone alone)
 
   pub turn_goes_on : TurnsTo m m.phase tally done t → GoesOn t (plus total tally) done
   turn_goes_on turns = let (bounded, after) = stays_by m.phase refl turns in record { bounded = bounded; more = λ goes. (after goes, turn_ends m t m.phase tally done refl turns ∙ goes) }
@@ -135,3 +136,19 @@ pub walk_counts : (m : Moment) → Law (own_part m.core) → MomentLaw m → m.p
 walk_counts m law agrees leaves k w walks =
     let sum = walk_bounded m nothing (starts_within m law agrees) (risen_is_ready m law agrees (ap has_risen leaves)) k w walks in
     record { objects = omega (arith, sum.objects); logs = omega (arith, sum.logs) }
+
+-- ---- the sums of turns are words
+pub small_bounded : (total : Tally) → IsBounded total → IsSmall total
+small_bounded total h = record { objects = omega (arith, h.objects); logs = omega (arith, h.logs) }
+
+pub bounded_beside : (copying : Bool) → copying ≡ true → (total : Tally) → IsBoundedBy copying total → IsBoundedBy true total
+bounded_beside copying is total h = subst (λ b. IsBoundedBy b total) is h
+
+pub counts_more : (turns : ℕ) (before more : Tally) → IsCountedIn turns before → IsBoundedBy true more → IsCountedIn (turns + 1) (plus before more)
+counts_more turns before more h g = record { objects = omega (arith, h.objects, g.objects); logs = omega (arith, h.logs, g.logs) }
+
+pub few_more : (turns : ℕ) → turns < most_turns → turns + 1 ≤ most_turns
+few_more turns few = omega (arith, few)
+
+pub small_counted : (turns : ℕ) (total : Tally) → turns ≤ most_turns → IsCountedIn turns total → IsSmall total
+small_counted turns total few h = record { objects = omega (arith, few, h.objects); logs = omega (arith, few, h.logs) }

@@ -3,7 +3,6 @@ use Rattle.std.proofs.Common.{◌≡◌, ℕ, ◌<◌, ◌≤◌, ◌^◌, ◌&&
 use Rattle.std.specs.Prelude.{fold}
 use Rattle.std.proofs.lemmas.Bool.{and_parts}
 use Rattle.far_word.specs.declared.job.Job.{Job}
-use Rattle.far_word.specs.declared.pointer.PtrWord.{PtrWord}
 use Rattle.far_word.specs.Pointer.{read_of}
 use Rattle.far_core.specs.state.Jobs.{near_place}
 use Rattle.far_core.specs.state.Law.{Law}
@@ -87,5 +86,4 @@ module _ {still : Type 0} (s t : State) {copying : Bool} (r : Round) (sound : Is
     round = idle_round t next idle index;
     jobs = record { alone = alone_then; held = λ j job h. absurd (none_after_aborting begun law sound.jobs.held j job ((knows_jobs left t is_known).still j job h)) };
     exact = sound.exact;
-    plain = sound.plain;
   }

@@ -147,6 +147,11 @@ keeps_found s t logs rest found = record {
   epoch = ap (λ (u : State). u.epoch) rest;
 }
 
+-- jobs went alone
+pub round_jobs : (s t : State) (r : Round) → InRound s r → t ≡ record s { copying = record s.copying { word = t.copying.word } } → InRound t r
+round_jobs s t r in_round rest =
+    round_kept s t r (keeps_found s t (collection_in r) (ap framed rest) (λ p. subst (Finds (s.cell p)) (sym (ap (λ (u : State). u.cell p) rest)) (finds_same (s.cell p)))) in_round
+
 pub keeps_known : (s t : State) (logs : List ℕ) → Knows s t → KeepsLogs s t logs
 keeps_known s t logs known = keeps_found s t logs (ap framed known.rest) known.found
 

@@ -55,6 +55,7 @@ aborting_objects m law moment =
 keeps_objects : (s : State) → KeepsTurns true (λ m tally. KeepsObjects s m.core)
 keeps_objects s = record {
   learns = tt;
+  beside = tt;
   marks = λ m n tally lawful is h. objects_more s m.core (after_marking m n).core h (marking_objects m n lawful.0 lawful.1 is);
   looks = λ m k phase tally lawful is h. objects_more s m.core (with_clear_below m.core k) h (looked_objects m k phase);
   walks = λ m n tally law moment alone is h. objects_more s m.core (walked m n).moment.core h (walking_objects m n law moment alone is).midst;

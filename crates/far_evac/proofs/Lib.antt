@@ -1,6 +1,13 @@
 pub mod Ageing
 pub mod Asking
 pub mod Auditing
+pub mod BesideDealt
+pub mod BesideKept
+pub mod BesideLater
+pub mod BesideOver
+pub mod BesideRounds
+pub mod BesideSteps
+pub mod BesideWalk
 pub mod Bools
 pub mod Bounds
 pub mod Censuses
@@ -8,6 +15,8 @@ pub mod Changing
 pub mod Chosen
 pub mod Comers
 pub mod ComingBack
+pub mod Copied
+pub mod CopiedBack
 pub mod Counted
 pub mod Dealt
 pub mod Evacuations
@@ -17,6 +26,7 @@ pub mod Fronts
 pub mod Given
 pub mod GivenUpJobs
 pub mod GivingBack
+pub mod GivingUp
 pub mod Going
 pub mod HandKept
 pub mod Handing
@@ -44,6 +54,12 @@ pub mod Marks
 pub mod Named
 pub mod NearBut
 pub mod OfOneKind
+pub mod OfferingCall
+pub mod OfferingCells
+pub mod OfferingFree
+pub mod OfferingOver
+pub mod OfferingRounds
+pub mod OfferingSound
 pub mod Onward
 pub mod Passing
 pub mod Polls
@@ -64,6 +80,7 @@ pub mod Standings
 pub mod StepsAside
 pub mod Strays
 pub mod Subjects
+pub mod TakenBack
 pub mod Targets
 pub mod Tours
 pub mod TurnSteps

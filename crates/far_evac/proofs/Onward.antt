@@ -34,7 +34,7 @@ held_marking phase chosen i e = ap (λ (ph : Phase). collection_of ph chosen i) 
 head_of : (l k : ℕ) (ls ks xs : List ℕ) → xs ≡ l ∷ ls → xs ≡ k ∷ ks → l ≡ k
 head_of l k ls ks xs e f = let both : l ∷ ls ≡ k ∷ ks = sym e ∙ f in cc
 
-last_among : (xs : List ℕ) (l k : ℕ) → among (xs ++ l ∷ []) k ≡ true → (among xs k ≡ true) ⊎ (k ≡ l)
+pub last_among : (xs : List ℕ) (l k : ℕ) → among (xs ++ l ∷ []) k ≡ true → (among xs k ≡ true) ⊎ (k ≡ l)
 last_among [] l k h = elim (or_split (eqb k l) false h) [
   | inl e ↦ inr (eqb-true k l e)
   | inr e ↦ absurd (false≢true e)

@@ -78,6 +78,7 @@ walk_retires_none m n law moment alone leaves none = walk_retires m n law moment
 keeps_undropped : KeepsTurns true (λ m tally. NoneDropped m.core × (tally.dropped ≡ 0))
 keeps_undropped = record {
   learns = tt;
+  beside = tt;
   marks = λ m n tally lawful is (none, h). ((λ p. (marking_objects m n lawful.0 lawful.1 is).alive p (none p)), h);
   looks = λ m k phase tally lawful is h. h;
   walks = λ m n tally law moment alone is (none, h).

@@ -8,7 +8,8 @@ use Rattle.far_core.specs.state.Spans.{spans_of}
 use Rattle.far_core.specs.state.State.{State}
 use Rattle.far_book.specs.book.Own.{own_part}
 use Rattle.far_book.proofs.region.Owns.{own_law}
-use Rattle.far_evac.specs.AnyHand.{KnowsMoment, sum_of}
+use Rattle.far_evac.specs.AnyHand.{KnowsMoment}
+use Rattle.far_evac.specs.AnyTurns.{sum_of}
 use Rattle.far_evac.specs.Choosing.{after_selecting}
 use Rattle.far_evac.specs.Laws.{but_evac}
 use Rattle.far_evac.specs.Live.{live_among}
@@ -24,7 +25,7 @@ use Rattle.far_evac.proofs.Readiness.{risen_is_ready}
 use Rattle.far_evac.proofs.RoomLaw.{room_taken, sound_of, walks_taken}
 use Rattle.far_evac.proofs.RoomTaken.{Alike, Taken, alike_known, none_taken, taken_alike}
 use Rattle.far_evac.proofs.Rounds.{turns_are}
-use Rattle.far_evac.proofs.TurnSteps.{KeepsTurns, round_kept, stop_kept, stopped_kept, turn_kept, turns_kept, walk_kept}
+use Rattle.far_evac.proofs.TurnSteps.{Alone, KeepsAlone, KeepsTurns, keeps_alone, round_kept, stop_alone, stopped_kept, turn_kept, turns_kept, walk_alone}
 
 -- a moment as a whole
 abbrev Stands : Moment → Moment → List ℕ → Type 0
@@ -64,7 +65,7 @@ module _ (m : Moment) (objects : List ℕ) where
 abbrev StandsSome : Moment → Moment → Tally → Type 0
 StandsSome m t tally = (objects : List ℕ) × Stands m t objects
 
-keeps_some : (m : Moment) → KeepsTurns false (StandsSome m)
+keeps_some : (m : Moment) → KeepsAlone (StandsSome m)
 keeps_some m = record {
   learns = λ u t tally known (objects, h). (objects, on_known m objects u t h known);
   marks = λ u n tally lawful is (objects, h). (objects, on_alike m objects u (after_marking u n) h (marking_alike u n (λ p. (lawful.0.cells.cell_read p).0)) (marking_held u n));
@@ -81,35 +82,47 @@ module _ (m : Moment) (law : Law (own_part m.core)) where
   some_taken : (t : Moment) (tally : Tally) → StandsSome m t tally → TakesSome m t
   some_taken t tally h = (h.0, room_taken m t (sound_of m.core law) h.0 h.1)
 
+-- and of turns
+abbrev AloneSome : Moment → Moment → Tally → Type 0
+AloneSome m = Alone (StandsSome m)
+
+keeps_turns : (m : Moment) → KeepsTurns false (AloneSome m)
+keeps_turns m = keeps_alone (StandsSome m) (keeps_some m)
+
 pub call_takes_room : CallTakesRoom
 call_takes_room m t n tally done law moment = (
-  λ leaves walk. some_taken m law t tally (walk_kept (StandsSome m) (keeps_some m) m t (law, moment) nothing (starts m law) n tally done leaves walk),
-  λ leaves stop. some_taken m law t tally (stop_kept (StandsSome m) (keeps_some m) m t (law, moment) nothing (starts m law) n tally leaves stop),
-  λ turn. some_taken m law t tally (turn_kept (StandsSome m) (keeps_some m) m t (law, moment) nothing (starts m law) tally done turn),
+  λ leaves walk. some_taken m law t tally (walk_alone (StandsSome m) (keeps_some m) m t (law, moment) nothing (starts m law) n tally done leaves walk),
+  λ leaves stop. some_taken m law t tally (stop_alone (StandsSome m) (keeps_some m) m t (law, moment) nothing (starts m law) n tally leaves stop),
+  λ alone turn. some_taken m law t tally (turn_kept (AloneSome m) (keeps_turns m) m t (law, moment) nothing (alone, starts m law) tally done turn).1,
 )
 
 pub turns_take_some : TurnsTakeSome
-turns_take_some m tallies over t law made = some_taken m law t (sum_of tallies) (turns_kept (StandsSome m) (keeps_some m) m (starts m law) tallies over t made)
+turns_take_some m tallies over t law alone made = some_taken m law t (sum_of tallies) (turns_kept (AloneSome m) (keeps_turns m) m (alone, starts m law) tallies over t made).1
 
 begun_law : (m : Moment) (logs : List ℕ) → Law (own_part m.core) → Law (own_part (after_selecting m logs).core)
 begun_law m [] law = law
 begun_law m (l ∷ ls) law = law
 
+begun_alone : (m : Moment) (logs : List ℕ) → m.copying ≡ false → (after_selecting m logs).copying ≡ false
+begun_alone m [] alone = alone
+begun_alone m (l ∷ ls) alone = alone
+
 pub round_takes_some : RoundTakesSome
-round_takes_some m t logs turns law =
+round_takes_some m t logs turns law alone =
     let v : Moment = after_selecting m logs in
-    let begun = begun_law m logs law in (
-      λ end ran. (let (tally, h) = round_kept (StandsSome v) (keeps_some v) m t logs turns end (starts v begun) ran in some_taken v begun t tally h),
-      λ so_far stopped. (let (tally, h) = stopped_kept (StandsSome v) (keeps_some v) m t logs turns so_far (starts v begun) stopped in some_taken v begun t tally h),
+    let begun = begun_law m logs law in
+    let still = begun_alone m logs alone in (
+      λ end ran. (let (tally, h) = round_kept (AloneSome v) (keeps_turns v) m t logs turns end (still, starts v begun) ran in some_taken v begun t tally h.1),
+      λ so_far stopped. (let (tally, h) = stopped_kept (AloneSome v) (keeps_turns v) m t logs turns so_far (still, starts v begun) stopped in some_taken v begun t tally h.1),
     )
 
 -- ---- where no word changes but by this
 pub turns_take_room : TurnsTakeRoom
 turns_take_room m n law moment alone runs =
-    let h = turns_are m law moment alone runs n in turns_take_some m h.tallies (turns_made m n).over (turns_made m n).moment (own_law m.core law) h.made
+    let h = turns_are m law moment alone runs n in turns_take_some m h.tallies (turns_made m n).over (turns_made m n).moment (own_law m.core law) alone h.made
 
 pub round_takes_room : RoundTakesRoom
-round_takes_room m [] turns end t law moment alone idle left once of_order is = (round_takes_some m t [] turns (own_law m.core law)).0 end is
+round_takes_room m [] turns end t law moment alone idle left once of_order is = (round_takes_some m t [] turns (own_law m.core law) alone).0 end is
 round_takes_room m (l ∷ ls) turns end t law moment alone idle left once of_order is =
     let begun = selecting m (l ∷ ls) law moment idle left once of_order in
     let u = after_selecting m (l ∷ ls) in

@@ -20,7 +20,7 @@ use Rattle.far_evac.proofs.SmallSteps.{left_known}
 use Rattle.far_evac.proofs.Readiness.{risen_is_ready}
 use Rattle.far_evac.proofs.RoomTaken.{Alike, names_spot}
 use Rattle.far_evac.proofs.RoomTurns.{clear_alike, marking_alike, marking_held}
-use Rattle.far_evac.proofs.TurnSteps.{KeepsTurns}
+use Rattle.far_evac.proofs.TurnSteps.{Alone, KeepsTurns, keeps_alone}
 
 -- ---- lists in two parts
 both_parts : (P : ℕ → Type 0) (xs ys : List ℕ) → AllByRecursion P (xs ++ ys) → AllByRecursion P xs × AllByRecursion P ys
@@ -52,8 +52,8 @@ known_live m t known = ap (live_among t.core) (ap (λ (x : Moment). x.collection
 abbrev pub LeftOf : Moment → Moment → Tally → Type 0
 LeftOf m t tally = live_among t.core t.collection ≡ drop (objects_in tally) (live_among m.core m.collection)
 
-pub keeps_left : (m : Moment) → KeepsTurns false (LeftOf m)
-keeps_left m = record {
+pub keeps_left : (m : Moment) → KeepsTurns false (Alone (LeftOf m))
+keeps_left m = keeps_alone (LeftOf m) record {
   learns = λ u t tally known h. known_live u t known ∙ h;
   marks = λ u n tally lawful is h.
       ap (live_among (after_marking u n).core) (marking_held u n) ∙ same_live u.core (after_marking u n).core (marking_alike u n (λ p. (lawful.0.cells.cell_read p).0)) u.collection ∙ h;

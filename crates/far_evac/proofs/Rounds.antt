@@ -1,6 +1,6 @@
 -- What polls and whole rounds do where no word changes but by them, they may do over any hand.
 use Rattle.std.proofs.Common.{◌≡◌, ℕ, suc, ◌/◌, ◌≤◌, Bool, true, false, cond, ◌||◌, ◌==◌, nat_le, Option, Some, None, List, [], ◌∷◌, length, arith, ap, sym, refl, ◌∙◌, subst}
-use Rattle.std.proofs.lemmas.Bool.{cond_both, true≢false, or_parts, not-true}
+use Rattle.std.proofs.lemmas.Bool.{cond_both, false≢true, true≢false, or_parts, not-true}
 use Rattle.std.proofs.lemmas.Bool.Decides.{nat_tests}
 use Rattle.far_core.specs.state.Law.{Law}
 use Rattle.far_book.proofs.region.Owns.{own_law}
@@ -9,7 +9,10 @@ use Rattle.far_evac.specs.declared.answers.Polled.TheVariants.{Clear, StillOpen}
 use Rattle.far_evac.specs.declared.answers.RoundEnd.TheVariants.{Done, Limit}
 use Rattle.far_evac.specs.declared.phase.Phase.{Phase}
 use Rattle.far_evac.specs.declared.phase.Phase.TheVariants.{Idle, Marking, Waiting, Evacuating}
-use Rattle.far_evac.specs.AnyHand.{EndsRound, Polls, TurnsMade, TurnsTo, sum_of, WalksTo}
+use Rattle.far_evac.specs.AnyHand.{Evacuates, Polls, WalksTo}
+use Rattle.far_evac.specs.AnyTurns.{EndsRound, TurnsMade, TurnsTo, sum_of}
+use Rattle.far_evac.specs.Beside.{EvacuatesBeside}
+use Rattle.far_evac.specs.ByCopying.{EvacuatesBy}
 use Rattle.far_evac.specs.Choosing.{after_selecting}
 use Rattle.far_evac.specs.Laws.{RoundIsAllowed, TurnIsAllowed}
 use Rattle.far_evac.specs.Marking.{after_marking, leaves_some, marked_core, newly_marked, waiting_for}
@@ -19,6 +22,8 @@ use Rattle.far_evac.specs.RoundSteps.{advanced, is_clear_now}
 use Rattle.far_evac.specs.Turns.{Turned, round_end, turn_size, turned, turns_made}
 use Rattle.far_evac.specs.Waiting.{after_polling, first_open, holds_up, polled, polled_at, polled_to}
 use Rattle.far_evac.specs.Walk.{Walked, ended, is_done, left, walked}
+use Rattle.far_evac.proofs.BesideRounds.{walks_so}
+use Rattle.far_evac.proofs.Bools.{by_copying}
 use Rattle.far_evac.proofs.Joined.{plus_nothing}
 pub use Rattle.far_evac.proofs.Unviewed.{found_in}
 use Rattle.far_evac.proofs.Leading.{selecting}
@@ -66,11 +71,15 @@ pub turn_ends : (m t : Moment) (phase : Phase) (tally : Tally) (done : Bool) →
 turn_ends m t Idle tally done e odd = absurd odd
 turn_ends m t Marking tally done e (_, goes, (count, waiting, marks)) = ap (λ (x : Moment). is_idle x.phase) marks.leaves.rest ∙ marking_runs m e ∙ sym goes
 turn_ends m t Waiting tally done e (_, goes, (answer, polls)) = polled_runs m t answer e polls ∙ sym goes
-turn_ends m t Evacuating tally done e (k, w, walks, is, _, over) =
-    ap (λ (x : Moment). is_idle x.phase) is ∙ ends_so w.moment (walks_phase m k w walks.walks ∙ e) (is_done w) ∙ sym over
+turn_ends m t Evacuating tally done e turn = by_copying m.copying (λ alone. ends_alone (turn.alone alone)) (λ copying. ends_beside (turn.beside copying)) where
+  ends_alone : Evacuates m turn_size t tally done → is_idle t.phase ≡ done
+  ends_alone (k, w, walks, is, _, over) = ap (λ (x : Moment). is_idle x.phase) is ∙ ends_so w.moment (walks_phase m k w walks.walks ∙ e) (is_done w) ∙ sym over
+
+  ends_beside : EvacuatesBeside m turn_size t tally done → is_idle t.phase ≡ done
+  ends_beside h = ap (λ (x : Moment). is_idle x.phase) h.ends ∙ ends_so h.stood.moment ((walks_so m turn_size h.stood h.end h.walks).0 ∙ e) (is_done h.stood) ∙ sym h.over
 
 -- ---- one turn
-module _ (r : Turned) (goes : r.over ≡ false) where
+module _ (r : Turned) (alone : r.moment.copying ≡ false) (goes : r.over ≡ false) where
   turn_is : (phase : Phase) → r.moment.phase ≡ phase → is_idle r.moment.phase ≡ false →
       let t = turned r phase in (tally : Tally) × TurnsTo r.moment r.moment.phase tally t.over t.moment × (t.tally ≡ plus r.tally tally)
   turn_is Idle e runs = absurd (true≢false (sym (ap is_idle e) ∙ runs))
@@ -91,10 +100,11 @@ module _ (r : Turned) (goes : r.over ≡ false) where
   turn_is Evacuating e runs =
       let w = walked r.moment turn_size in
       let walks = walk_is r.moment turn_size in
-      (w.tally, subst (λ phase. TurnsTo r.moment phase w.tally (is_done w) (ended w)) (sym e) (walks.0, w, walks.1, refl, refl, refl), refl)
+      let turn : EvacuatesBy r.moment turn_size (ended w) w.tally (is_done w) = record { alone = λ _. (walks.0, w, walks.1, refl, refl, refl); beside = λ odd. absurd (false≢true (sym alone ∙ odd)) } in
+      (w.tally, subst (λ phase. TurnsTo r.moment phase w.tally (is_done w) (ended w)) (sym e) turn, refl)
 
 pub turn_is_allowed : TurnIsAllowed
-turn_is_allowed r goes runs = turn_is r goes r.moment.phase refl runs
+turn_is_allowed r alone goes runs = turn_is r alone goes r.moment.phase refl runs
 
 -- ---- turn after turn
 pub record Made (m : Moment) (n : ℕ) (r : Turned) : Type 0 where
@@ -108,10 +118,10 @@ pub record Made (m : Moment) (n : ℕ) (r : Turned) : Type 0 where
 one_more : (a n : ℕ) → a ≡ n → suc a ≡ suc n
 one_more a n e = ap (λ x. suc x) e
 
-turn_made : (m : Moment) (n : ℕ) (r : Turned) → Made m n r → r.over ≡ false → IsLawful r.moment → Made m (suc n) (turned r r.moment.phase)
-turn_made m n r h goes lawful =
+turn_made : (m : Moment) (n : ℕ) (r : Turned) → Made m n r → r.moment.copying ≡ false → r.over ≡ false → IsLawful r.moment → Made m (suc n) (turned r r.moment.phase)
+turn_made m n r h alone goes lawful =
     let t = turned r r.moment.phase in
-    let x = turn_is_allowed r goes (h.runs goes) in
+    let x = turn_is_allowed r alone goes (h.runs goes) in
     record {
       tallies = x.0 ∷ h.tallies;
       made = (r.moment, tt, subst (λ over. TurnsMade m h.tallies over r.moment) goes h.made, x.1, tt, lawful);
@@ -134,7 +144,7 @@ over_still m n r over h = record {
 pub turns_are : (m : Moment) → Law m.core → MomentLaw m → m.copying ≡ false → is_idle m.phase ≡ false → (n : ℕ) → Made m n (turns_made m n)
 turns_are m law moment alone runs =
     through_turns (Made m) m law moment alone runs record { tallies = []; made = (refl, refl, refl); sum = refl; most = omega arith; every = λ _. refl; runs = λ _. runs } (over_still m)
-    (λ n r law moment alone goes h. turn_made m n r h goes (own_law r.moment.core law, moment))
+    (λ n r law moment alone goes h. turn_made m n r h alone goes (own_law r.moment.core law, moment))
 
 ends : (turns : ℕ) (m : Moment) (r : Turned) (h : Made m turns r) (over : Bool) → r.over ≡ over → EndsRound turns h.tallies over r.moment.phase (round_end r)
 ends turns m r h true e = ap (λ b. cond b (Done (progress_of r.tally true)) (Limit r.moment.phase)) e ∙ ap (λ tally. Done (progress_of tally true)) (sym h.sum)

@@ -1,5 +1,5 @@
 -- An object leaves its log as a word says that was found in its cell.
-use Rattle.std.proofs.Common.{◌≡◌, ◌≢◌, ℕ, ◌*◌, ◌/◌, ◌<◌, ◌||◌, ◌&&◌, Bool, true, false, cond, eqb, Option, Some, None, Result, Ok, Err, List, [], ◌∷◌, ◌++◌, IfOk, IfErr, IfSome, IfNone, MatchOption, arith, ap, sym, refl, ◌∙◌, subst}
+use Rattle.std.proofs.Common.{◌≡◌, ℕ, ◌*◌, ◌/◌, ◌<◌, ◌||◌, ◌&&◌, Bool, true, false, cond, eqb, Option, Some, None, Result, Ok, Err, List, [], ◌∷◌, ◌++◌, IfOk, IfErr, IfSome, IfNone, MatchOption, arith, ap, sym, refl, ◌∙◌, subst}
 use Rattle.std.proofs.lemmas.Bool.{eq-eqb, true≢false, false_from_ne_true, or_parts}
 use Rattle.far_word.specs.declared.pointer.Place.{Place}
 use Rattle.far_word.specs.declared.pointer.PtrWord.TheVariants.{Near, Far}
@@ -51,7 +51,7 @@ or_other false b h none = h
 
 -- ---- a quiet near object with EVAC
 module _ (s : State) (p : ℕ) (q : IsQuietNear s p) (law : Law (own_part s)) (evac : has_evac (read_of (s.cell p)) ≡ true) where
-  wanted : q.marks.evac ≡ true
+  pub wanted : q.marks.evac ≡ true
   wanted = evac_of (read_of (s.cell p)) true q.len q.ds q.place q.marks q.near evac
 
   layout : IsPtr (Near q.len q.ds q.place no_marks)
@@ -80,14 +80,14 @@ module _ (s : State) (p : ℕ) (q : IsQuietNear s p) (law : Law (own_part s)) (e
     pub found : IsNearTo (read_of w) q.len q.ds q.place q.marks.evac
     found = near_found (s.cell p) w finds q.len q.ds q.place q.marks q.near
 
-    alive_before : found.marks.dropped ≡ false → q.marks.dropped ≡ false
+    pub alive_before : found.marks.dropped ≡ false → q.marks.dropped ≡ false
     alive_before = neither found.marks.dropped q.marks.dropped
         (λ h. sym (ap (λ o. (marks_in o).dropped) found.near) ∙ finds.dropped (ap (λ o. (marks_in o).dropped) q.near ∙ h))
 
     abbrev hot_one : Way
     hot_one = hot_way (room s (size_of q.len) false)
 
-    drops : is_dropped (read_of w) ≡ true → way_of s (read_of w) ≡ Drops
+    pub drops : is_dropped (read_of w) ≡ true → way_of s (read_of w) ≡ Drops
     drops h = ap (way_of s) found.near ∙ ap (λ b. cond b Drops (cond found.marks.hot hot_one Goes)) (sym (ap is_dropped found.near) ∙ h)
 
     cold : goes_near (read_of w) ≡ false → way_of s (read_of w) ≡ Goes
@@ -117,11 +117,14 @@ module _ (s : State) (p : ℕ) (q : IsQuietNear s p) (law : Law (own_part s)) (e
     pub quiet_here : (u : State) → u ≡ seen s p w → IsQuietNear u p
     quiet_here u is = subst (λ (x : State). IsQuietNear x p) (sym is) (quiet_seen s p w finds q)
 
-    later_found : (v : ℕ) → Finds ((seen s p w).cell p) v → Finds (s.cell p) v
+    pub later_found : (v : ℕ) → Finds ((seen s p w).cell p) v → Finds (s.cell p) v
     later_found v f = finds_more (s.cell p) w v finds (subst (λ x. Finds x v) word_here f)
 
-    evicted_there : is_dropped (read_of w) ≡ false → evicted (seen s p w) p ≡ evicted s p
+    pub evicted_there : is_dropped (read_of w) ≡ false → evicted (seen s p w) p ≡ evicted s p
     evicted_there alive = evicted_seen s p w q.len q.ds q.place q.marks q.near finds alive wanted far_layout
+
+    pub moved_there : is_dropped (read_of w) ≡ false → (place : Place) → room s (size_of q.len) false ≡ Some place → moved (seen s p w) p place ≡ moved s p place
+    moved_there alive place there = moved_seen s p w q.len q.ds q.place q.marks q.near finds alive wanted place (to_layout place there) (uncopied place there)
 
   -- a DROP was found later
   drop_leaves : (w : ℕ) → Finds (s.cell p) w → (t : State) (order after : List ℕ) (v : ℕ) → Finds ((seen s p w).cell p) v → is_dropped (read_of v) ≡ true → Knows (with_free_cell (seen s p w) p) t → after ≡ order →
@@ -164,7 +167,7 @@ module _ (s : State) (p : ℕ) (q : IsQuietNear s p) (law : Law (own_part s)) (e
     here_evac : IsNearTo (read_of (u.cell p)) q.len q.ds q.place q.marks.evac
     here_evac = let f = found w finds in record { marks = f.marks; near = ap (λ (x : State). read_of (x.cell p)) is ∙ ap read_of (word_here w finds) ∙ f.near; same = f.same }
 
-    goal_is : goal u p ≡ room s (size_of q.len) false
+    pub goal_is : goal u p ≡ room s (size_of q.len) false
     goal_is = goal_there u p (quiet_here w finds u is) q.len q.ds q.place here_evac.marks here_evac.near (here_evac.same ∙ wanted) ∙ ap (λ (x : State). room x (size_of q.len) false) is
 
     moved_is_moved : (place : Place) → moved_now u p place ≡ moved u p place
@@ -262,7 +265,7 @@ first_among : (s : State) (ls : List ℕ) (p : ℕ) (rest : List ℕ) → live_a
 first_among s [] p rest e = absurd cc
 first_among s (l ∷ ls) p rest e = first_here s l ls p rest (live_in s l) refl e (first_among s ls p rest)
 
-quiet_by : (m e r c : Bool) → e ≡ true → r ≡ true → c ≡ true → (m || (e && r && c)) ≡ true
+pub quiet_by : (m e r c : Bool) → e ≡ true → r ≡ true → c ≡ true → (m || (e && r && c)) ≡ true
 quiet_by true e r c evac round clear = refl
 quiet_by false e r c evac round clear = rw (evac, round, clear) refl
 

@@ -1,5 +1,5 @@
 -- What leaves true what is true of an evacuator.
-use Rattle.std.proofs.Common.{◌≡◌, ℕ, Bool, List, refl, subst}
+use Rattle.std.proofs.Common.{◌≡◌, ℕ, Bool, List}
 use Rattle.far_core.specs.events.Ranges.{after_events, stores}
 use Rattle.far_core.specs.state.Law.{Law}
 use Rattle.far_core.specs.state.State.{State}
@@ -15,7 +15,7 @@ use Rattle.far_evac.proofs.Keeping.{round_called, round_found, round_of_owners, 
 
 module _ {still : Type 0} (s t : State) {copying : Bool} (r : Round) (sound : IsSound still s copying r) where
   pub sound_kept : InRound t r → KeepsJobs s t → IsSound still t copying r
-  sound_kept round keeps = record { round = round; jobs = jobs_kept s t copying keeps r.phase (collection_in r) sound.jobs; exact = sound.exact; plain = sound.plain }
+  sound_kept round keeps = record { round = round; jobs = jobs_kept s t copying keeps r.phase (collection_in r) sound.jobs; exact = sound.exact }
 
   -- marks were found alone
   pub sound_found : Knows s t → IsSound still t copying r

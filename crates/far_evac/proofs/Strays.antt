@@ -1,16 +1,19 @@
 -- What lies in a log of the core's round lies in one that the evacuator holds.
-use Rattle.std.proofs.Common.{◌≡◌, ℕ, ◌^◌, ◌<◌, ◌&&◌, Bool, true, false, cond, Option, Some, None, [], ◌∷◌, arith, ap, sym, refl, ◌∙◌, ◌||◌, inl, inr}
+use Rattle.std.proofs.Common.{◌≡◌, ℕ, ◌^◌, ◌<◌, ◌&&◌, Bool, true, false, cond, Option, Some, None, [], ◌∷◌, arith, ap, sym, refl, ◌∙◌, ◌||◌, inl, inr, subst}
 use Rattle.std.proofs.lemmas.Bool.{and_parts, cond_both, false≢true, cases_eq, ne_eqb}
 use Rattle.far_word.specs.declared.mark.Marks.{Marks}
 use Rattle.far_word.specs.declared.pointer.Place.{Place}
 use Rattle.far_word.specs.declared.pointer.PtrWord.{PtrWord}
 use Rattle.far_word.specs.declared.pointer.PtrWord.TheVariants.{Near}
+use Rattle.far_word.specs.declared.sizes.TheConstants.{JOBS}
 use Rattle.far_word.specs.Pointer.{read_of}
 use Rattle.far_core.specs.state.Law.{Law}
-use Rattle.far_core.specs.state.State.{State}
+use Rattle.far_core.specs.state.Spans.{spans_of}
+use Rattle.far_core.specs.state.State.{Copying, State}
 use Rattle.far_book.specs.book.Own.{own_part}
 use Rattle.far_book.proofs.region.Owns.{own_law}
 use Rattle.far_evac.specs.declared.phase.Phase.TheVariants.{Idle, Waiting, Evacuating}
+use Rattle.far_evac.specs.ByCopying.{GivesUpBeside}
 use Rattle.far_evac.specs.Choosing.{after_aborting}
 use Rattle.far_evac.specs.Dealings.{says}
 use Rattle.far_evac.specs.Laws.{but_evac}
@@ -23,6 +26,8 @@ use Rattle.far_evac.specs.Strays.{AbortingStraysNone, CallersStrayNone, MarkingS
 use Rattle.far_evac.specs.Turns.{turns_made}
 use Rattle.far_evac.specs.Waiting.{first_open, polled_to}
 use Rattle.far_evac.specs.Walk.{is_done, walked, Walked}
+use Rattle.far_evac.proofs.BesideRounds.{walks_only}
+use Rattle.far_evac.proofs.Bools.{by_copying}
 use Rattle.far_evac.proofs.Fronts.{vacant_in}
 use Rattle.far_evac.proofs.Marks.{marks_cells, is_given_up, is_marked}
 use Rattle.far_evac.proofs.LeadingWalks.{walking_only}
@@ -34,6 +39,7 @@ use Rattle.far_evac.specs.declared.answers.Polled.TheVariants.{Clear, StillOpen}
 use Rattle.far_evac.specs.AnyHand.{Polls, WalksTo}
 use Rattle.far_evac.proofs.Framed.{so_one}
 use Rattle.far_evac.proofs.NearBut.{still_near}
+use Rattle.far_evac.proofs.TakenBack.{taken_rest}
 use Rattle.far_evac.proofs.Readiness.{risen_is_ready}
 use Rattle.far_evac.proofs.Rounds.{turns_are}
 use Rattle.far_evac.proofs.TurnSteps.{KeepsTurns, round_kept, round_kept_exactly, stop_kept, stopped_kept, turn_kept, turns_kept, walk_kept}
@@ -84,19 +90,39 @@ walking_none m n law moment alone leaves =
     let only = walking_only m n law moment alone leaves in
     cond_both (is_done w) (record w.moment { phase = Idle }) w.moment NoneStrays (λ _ p len ds place marks near is. only place.log is) (λ _ p len ds place marks near is. only place.log is)
 
--- ---- giving up
-module _ (m : Moment) (law : Law (own_part m.core)) (none : NoneStrays m) (p len ds : ℕ) (place : Place) (marks : Marks) (near : read_of (m.core.cell p) ≡ Some (Near len ds place marks)) where
-  out_of_round : (held : Bool) → among m.collection place.log ≡ held → cond held (m.core.round place.log && is_empty (live_in m.core place.log)) (m.core.round place.log) ≡ true → ⊥
-  out_of_round true e is =
-      let empty = (and_parts (m.core.round place.log) (is_empty (live_in m.core place.log)) is).1 in
-      vacant_in m.core law place.log 0 (λ q n d at k there log. omega arith) (none_there (live_in m.core place.log) empty) p len ds place marks near refl
-  out_of_round false e is = false≢true (sym e ∙ none p len ds place marks near is)
+-- ---- giving up, once jobs may have gone
+module _ (m : Moment) (law : Law (own_part m.core)) (none : NoneStrays m) (u : State) (jobs : u ≡ record m.core { copying = u.copying }) where
+  abbrev v : Moment
+  v = record m { core = u }
+
+  fits_then : (p : ℕ) → u.cell p < 2 ^ 64
+  fits_then p = subst (λ w. w < 2 ^ 64) (sym (ap (λ (s : State). s.cell p) jobs)) (fits m.core law p)
+
+  same_lives : (k : Copying) (l : ℕ) → live_in (record m.core { copying = k }) l ≡ live_in m.core l
+  unfolding live_in spans_of
+  same_lives k l = refl
+
+  lives : (l : ℕ) → live_in u l ≡ live_in m.core l
+  lives l = ap (λ s. live_in s l) jobs ∙ same_lives u.copying l
+
+  module _ (p len ds : ℕ) (place : Place) (marks : Marks) (near : read_of (u.cell p) ≡ Some (Near len ds place marks)) where
+    near_before : read_of (m.core.cell p) ≡ Some (Near len ds place marks)
+    near_before = sym (ap (λ (s : State). read_of (s.cell p)) jobs) ∙ near
+
+    out_of_round : (held : Bool) → among m.collection place.log ≡ held → cond held (u.round place.log && is_empty (live_in u place.log)) (u.round place.log) ≡ true → ⊥
+    out_of_round true e is =
+        let empty = (and_parts (u.round place.log) (is_empty (live_in u place.log)) is).1 in
+        vacant_in m.core law place.log 0 (λ q n d at k there log. omega arith) (none_there (live_in m.core place.log) (sym (ap is_empty (lives place.log)) ∙ empty)) p len ds place marks near_before refl
+    out_of_round false e is = false≢true (sym e ∙ none p len ds place marks near_before (sym (ap (λ (s : State). s.round place.log) jobs) ∙ is))
+
+  aborting_jobs : NoneStrays (after_aborting v)
+  aborting_jobs p len ds place marks near is =
+      let given = is_given_up v fits_then in
+      let x = still_near v (after_aborting v) given.same p len ds place marks near in
+      absurd (out_of_round p len ds place x.0 x.1 (among m.collection place.log) refl (sym (given.round place.log) ∙ is))
 
 pub aborting_own : (m : Moment) → Law (own_part m.core) → NoneStrays m → NoneStrays (after_aborting m)
-aborting_own m law none p len ds place marks near is =
-    let given = is_given_up m (fits m.core law) in
-    let x = still_near m (after_aborting m) given.same p len ds place marks near in
-    absurd (out_of_round m law none p len ds place x.0 x.1 (among m.collection place.log) refl (sym (given.round place.log) ∙ is))
+aborting_own m law none = aborting_jobs m law none m.core refl
 
 pub aborting_none : AbortingStraysNone
 aborting_none m law none = aborting_own m (own_law m.core law) none
@@ -132,6 +158,7 @@ keeps_none = record {
   marks = λ m n tally lawful is. marking_own m n lawful.0;
   looks = λ m k phase tally lawful is none. none;
   walks = λ m k w tally lawful leaves walks none p len ds place marks near. walk_only m lawful leaves k w walks place.log;
+  beside = λ m n w end tally lawful copying leaves walks none p len ds place marks near. walks_only m n w end walks (lawful.1.only (ap has_risen leaves)) place.log;
   ends = λ m tally none. none;
 }
 
@@ -144,12 +171,15 @@ calls_none m t law moment none = (
   polls_none,
   λ n tally done leaves. walk_kept Of keeps_none m t (law, moment) nothing none n tally done leaves,
   λ n tally leaves. stop_kept Of keeps_none m t (law, moment) nothing none n tally leaves,
-  λ gives. found_none (after_aborting m) t gives (aborting_own m law none),
+  λ gives. by_copying m.copying (λ alone. found_none (after_aborting m) t (gives.alone alone) (aborting_own m law none)) (λ copies. given_up (gives.beside copies)),
   turn_kept Of keeps_none m t (law, moment) nothing none,
 ) where
   polls_none : (answer : Polled) → Polls m t answer → NoneStrays t
   polls_none Clear polls = found_none (record m { core = with_clear_below m.core m.core.mutators; phase = Evacuating }) t polls none
   polls_none (StillOpen k epoch) polls = found_none (record m { core = with_clear_below m.core k }) t polls.leaves none
+
+  given_up : GivesUpBeside m t → NoneStrays t
+  given_up (u, takes, gives) = found_none (after_aborting (record m { core = u })) t gives (aborting_jobs m law none u (taken_rest m.core JOBS u takes))
 
 pub rows_none : RowsStrayNone
 rows_none m t tallies over made none = turns_kept Of keeps_none m none tallies over t made

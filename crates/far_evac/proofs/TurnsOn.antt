@@ -9,8 +9,9 @@ use Rattle.far_evac.specs.declared.answers.Progress.{Progress}
 use Rattle.far_evac.specs.declared.answers.RoundEnd.TheVariants.{Done, Limit}
 use Rattle.far_evac.specs.declared.phase.Phase.{Phase}
 use Rattle.far_evac.specs.declared.phase.Phase.TheVariants.{Evacuating, Idle}
-use Rattle.far_evac.specs.AnyHand.{StopsAt, TurnsMade, TurnsTo, sum_of}
-use Rattle.far_evac.specs.Asked.{AsksInTurn, IsRefusedWrite, KeepsKeys, first_live}
+use Rattle.far_evac.specs.AnyTurns.{AsksInTurn, TurnsMade, TurnsTo, sum_of}
+use Rattle.far_evac.specs.Asked.{KeepsKeys, first_live}
+use Rattle.far_evac.specs.ByCopying.{RefusesBy, StopsBy}
 use Rattle.far_evac.specs.Live.{live_among}
 use Rattle.far_evac.specs.Moment.{Moment, Tally, nothing, objects_in, plus, progress_of}
 use Rattle.far_evac.specs.MomentLaw.{IsLawful, is_idle}
@@ -18,7 +19,7 @@ use Rattle.far_evac.specs.RoundAsked.{EndsAsking, StopsAsking, TurnsAsking}
 use Rattle.far_evac.specs.Turning.{turned_at}
 use Rattle.far_evac.specs.Turns.{Turned, turn_size, turned, turns_made}
 use Rattle.far_evac.proofs.RoundKeys.{LeftOf, keeps_left, keys_on, keys_stop}
-use Rattle.far_evac.proofs.TurnSteps.{turn_kept}
+use Rattle.far_evac.proofs.TurnSteps.{Alone, turn_kept}
 
 pub not_idle : (phase : Phase) → is_idle phase ≡ false → phase ≢ Idle
 not_idle phase runs e = true≢false (sym (ap is_idle e) ∙ runs)
@@ -49,15 +50,16 @@ module _ (m : Moment) (n : ℕ) where
 pub record Made (D : Type 0) (writes : D → ℕ → List ℕ → Result (Unit {0}) DeviceFault → D → Type 0) (lets_go : D → ℕ → D → Type 0) (contents : D → ℕ → Option (List ℕ)) (m t : Moment) (n : ℕ) (total : Tally) (old new : D) : Type 0 where
   pub tallies : List Tally
   pub made : TurnsMade m tallies false t
-  pub asked : TurnsAsking D writes lets_go m tallies false t old new
+  pub asked : TurnsAsking D writes lets_go contents m tallies false t old new
   pub many : length tallies ≡ n
   pub sum : sum_of tallies ≡ total
-  pub left : live_among t.core t.collection ≡ drop (objects_in total) (live_among m.core m.collection)
-  pub keys : KeepsKeys (first_live m (objects_in total)) (contents old) (contents new)
+  -- where no copy may be offered
+  pub left : m.copying ≡ false → Alone (LeftOf m) t total
+  pub keys : m.copying ≡ false → KeepsKeys (first_live m (objects_in total)) (contents old) (contents new)
 
 module _ {D : Type 0} {writes : D → ℕ → List ℕ → Result (Unit {0}) DeviceFault → D → Type 0} {lets_go : D → ℕ → D → Type 0} {contents : D → ℕ → Option (List ℕ)} {m : Moment} where
   pub none_made : (device : D) → Made D writes lets_go contents m m 0 nothing device device
-  none_made device = record { tallies = []; made = (refl, refl, refl); asked = (refl, refl, refl); many = refl; sum = refl; left = refl; keys = λ p none. refl }
+  none_made device = record { tallies = []; made = (refl, refl, refl); asked = (refl, refl, refl); many = refl; sum = refl; left = λ alone. (alone, refl); keys = λ alone p none. refl }
 
   module _ {u : Moment} {n : ℕ} {before : Tally} {old between : D} (h : Made D writes lets_go contents m u n before old between) where
     -- no turn more
@@ -70,14 +72,14 @@ module _ {D : Type 0} {writes : D → ℕ → List ℕ → Result (Unit {0}) Dev
       omega (arith, h.many, within),
       ap Limit is,
       λ e. (h.many ∙ all e, ap Limit is),
-      subst (λ (a : Tally). KeepsKeys (first_live m (objects_in a)) (contents old) (contents between)) (sym h.sum) h.keys,
+      λ single. subst (λ (a : Tally). KeepsKeys (first_live m (objects_in a)) (contents old) (contents between)) (sym h.sum) (h.keys single),
     )
 
     -- one turn more
-    module _ (lawful : IsLawful u) (t : Moment) (tally total : Tally) (new : D) (is : total ≡ plus before tally) (asks : AsksInTurn D writes lets_go u u.phase t tally between new)
-        (keys : KeepsKeys (first_live u (objects_in tally)) (contents between) (contents new)) where
-      keys_then : KeepsKeys (first_live m (objects_in (plus before tally))) (contents old) (contents new)
-      keys_then = keys_on m u before h.left (contents old) (contents between) (contents new) h.keys tally keys
+    module _ (lawful : IsLawful u) (t : Moment) (tally total : Tally) (new : D) (is : total ≡ plus before tally) (asks : AsksInTurn D writes lets_go contents u u.phase t tally between new)
+        (keys : u.copying ≡ false → KeepsKeys (first_live u (objects_in tally)) (contents between) (contents new)) where
+      keys_then : m.copying ≡ false → KeepsKeys (first_live m (objects_in (plus before tally))) (contents old) (contents new)
+      keys_then single = let (alone, left) = h.left single in keys_on m u before left (contents old) (contents between) (contents new) (h.keys single) tally (keys alone)
 
       pub made_more : (over : Bool) → over ≡ false → TurnsTo u u.phase tally over t → Made D writes lets_go contents m t (n + 1) total old new
       made_more true odd turns = absurd (true≢false odd)
@@ -87,8 +89,8 @@ module _ {D : Type 0} {writes : D → ℕ → List ℕ → Result (Unit {0}) Dev
         asked = (u, between, h.asked, turns, asks, lawful);
         many = omega (arith, h.many);
         sum = ap (λ a. plus a tally) h.sum ∙ sym is;
-        left = subst (λ (a : Tally). live_among t.core t.collection ≡ drop (objects_in a) (live_among m.core m.collection)) (sym is) (turn_kept (LeftOf m) (keeps_left m) u t lawful before h.left tally false turns);
-        keys = subst (λ (a : Tally). KeepsKeys (first_live m (objects_in a)) (contents old) (contents new)) (sym is) keys_then;
+        left = λ single. subst (Alone (LeftOf m) t) (sym is) (turn_kept (Alone (LeftOf m)) (keeps_left m) u t lawful before (h.left single) tally false turns);
+        keys = λ single. subst (λ (a : Tally). KeepsKeys (first_live m (objects_in a)) (contents old) (contents new)) (sym is) (keys_then single);
       }
 
       -- the last one
@@ -104,13 +106,13 @@ module _ {D : Type 0} {writes : D → ℕ → List ℕ → Result (Unit {0}) Dev
             omega (arith, h.many, within),
             tells,
             λ _. tells,
-            subst (λ (a : Tally). KeepsKeys (first_live m (objects_in (plus a tally))) (contents old) (contents new)) (sym h.sum) keys_then,
+            λ single. subst (λ (a : Tally). KeepsKeys (first_live m (objects_in (plus a tally))) (contents old) (contents new)) (sym h.sum) (keys_then single),
           )
 
     -- one that stopped
-    pub asked_stop : IsLawful u → (t : Moment) (tally : Tally) (turns : ℕ) (so_far : Progress) (why : Refused) (new : D) → n < turns → u.phase ≡ Evacuating → StopsAt u turn_size t tally →
-        IsRefusedWrite D writes lets_go u t tally why between new → so_far ≡ progress_of (plus before tally) false → KeepsKeys (first_live u (objects_in tally + 1)) (contents between) (contents new) →
-        StopsAsking D writes lets_go contents m turns so_far why t old new
+    pub asked_stop : IsLawful u → (t : Moment) (tally : Tally) (turns : ℕ) (so_far : Progress) (why : Refused) (new : D) → n < turns → u.phase ≡ Evacuating → StopsBy u turn_size t tally →
+        RefusesBy D writes lets_go contents u turn_size t tally why between new → so_far ≡ progress_of (plus before tally) false →
+        (u.copying ≡ false → KeepsKeys (first_live u (objects_in tally + 1)) (contents between) (contents new)) → StopsAsking D writes lets_go contents m turns so_far why t old new
     asked_stop lawful t tally turns so_far why new within leaves stops refused is keys = (
       h.tallies,
       u,
@@ -124,6 +126,6 @@ module _ {D : Type 0} {writes : D → ℕ → List ℕ → Result (Unit {0}) Dev
       refused,
       is ∙ ap (λ a. progress_of (plus a tally) false) (sym h.sum),
       lawful,
-      subst (λ (a : Tally). KeepsKeys (first_live m (objects_in (plus a tally) + 1)) (contents old) (contents new)) (sym h.sum)
-          (keys_stop m u before h.left (contents old) (contents between) (contents new) h.keys tally keys),
+      λ single. subst (λ (a : Tally). KeepsKeys (first_live m (objects_in (plus a tally) + 1)) (contents old) (contents new)) (sym h.sum)
+          (let (alone, left) = h.left single in keys_stop m u before left (contents old) (contents between) (contents new) (h.keys single) tally (keys alone)),
     )

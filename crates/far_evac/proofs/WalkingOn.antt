@@ -62,11 +62,11 @@ module _ (s t : State) (law : Law (own_part s)) (known : Knows s t) (l at : ℕ)
       }
 
 -- ---- it has left
-so_by : (s : State) (p : ℕ) (way : Way) → core_so s p way ≡ core_by s p way
+pub so_by : (s : State) (p : ℕ) (way : Way) → core_so s p way ≡ core_by s p way
 so_by s p Goes = refl
 so_by s p _ = refl
 
-names_own : (len ds l : ℕ) (place : Place) (marks : Marks) → place.log ≡ l → names_place (Some (Near len ds place marks)) l place.at ≡ true
+pub names_own : (len ds l : ℕ) (place : Place) (marks : Marks) → place.log ≡ l → names_place (Some (Near len ds place marks)) l place.at ≡ true
 names_own len ds l place marks e = ap (λ b. b && nat_eq place.at place.at) (eq-eqb place.log l e) ∙ eq-eqb place.at place.at refl
 
 module _ (s t : State) (r : Round) (in_round : InRound s r) (walks : r.phase ≡ Evacuating) (span : Span) (next : IsNextLeaving s (collection_in r) span) (ready : Ready s (collection_in r))
@@ -109,7 +109,7 @@ module _ (s t : State) (r : Round) (in_round : InRound s r) (walks : r.phase ≡
       (bounded_kept s t r keeps in_round next.log (span.at + size_of span.len) front_among next.behind) lies_behind)
 
 -- ---- and is counted
-dealt_way : (w : Walked) (t : Moment) (tally : Tally) (p : ℕ) (fate : Fate) (way : Way) → Knows (core_by w.moment.core p way) t.core → t.order ≡ order_by w.moment.core w.moment.order way → fate ≡ fate_by way →
+pub dealt_way : (w : Walked) (t : Moment) (tally : Tally) (p : ℕ) (fate : Fate) (way : Way) → Knows (core_by w.moment.core p way) t.core → t.order ≡ order_by w.moment.core w.moment.order way → fate ≡ fate_by way →
     t.phase ≡ w.moment.phase → t.collection ≡ w.moment.collection → t.copying ≡ w.moment.copying → tally ≡ counted_as w.tally fate → KnowsWalked (dealt_so w p way) (record { moment = t; tally = tally })
 dealt_way w t tally p fate Goes core order is phase held copies counted = record {
   moment = record { core = core; rest = λ i. record { core = t.core; order = order i; phase = phase i; collection = held i; copying = copies i } };

@@ -11,20 +11,14 @@ use Rattle.far_hand.specs.Finds.{Finds}
 use Rattle.far_hand.specs.Known.{IsKnown}
 use Rattle.far_evac.specs.declared.answers.Polled.{Polled}
 use Rattle.far_evac.specs.declared.answers.Polled.TheVariants.{Clear, StillOpen}
-use Rattle.far_evac.specs.declared.answers.Progress.{Progress}
-use Rattle.far_evac.specs.declared.answers.RoundEnd.{RoundEnd}
-use Rattle.far_evac.specs.declared.answers.RoundEnd.TheVariants.{Done, Nothing, Limit}
 use Rattle.far_evac.specs.declared.census.Housed.{Housed}
 use Rattle.far_evac.specs.declared.census.LogState.{LogState}
-use Rattle.far_evac.specs.declared.phase.Phase.{Phase}
-use Rattle.far_evac.specs.declared.phase.Phase.TheVariants.{Idle, Marking, Waiting, Evacuating}
+use Rattle.far_evac.specs.declared.phase.Phase.TheVariants.{Evacuating}
 use Rattle.far_evac.specs.Census.{homes_of, logs_of}
-use Rattle.far_evac.specs.Choosing.{after_selecting, after_aborting}
+use Rattle.far_evac.specs.Choosing.{after_aborting}
 use Rattle.far_evac.specs.Marking.{newly_marked, after_marking, waiting_for}
-use Rattle.far_evac.specs.Moment.{Moment, Tally, nothing, plus, progress_of}
-use Rattle.far_evac.specs.MomentLaw.{IsLawful}
+use Rattle.far_evac.specs.Moment.{Moment, Tally}
 use Rattle.far_evac.specs.RoundSteps.{with_clear_below}
-use Rattle.far_evac.specs.Turns.{turn_size}
 use Rattle.far_evac.specs.Walk.{Walked, begun, dealt_as, settled, left, is_done, ended}
 
 -- ---- what was found meanwhile
@@ -119,40 +113,3 @@ Evacuates m n t tally done = (k : ℕ) × (w : Walked) × Walks m n k w × (t �
 -- fewer than n were dealt with, and the walk stopped at the next one, of which alone more may be known than before
 abbrev pub StopsAt : Moment → ℕ → Moment → Tally → Type 0
 StopsAt m n t tally = (k : ℕ) × (w : Walked) × WalksTo m k w × (k < n) × (is_done w ≡ false) × KnowsMoment w.moment t × (tally ≡ w.tally)
-
--- ---- rounds: a turn by its phase
-abbrev pub TurnsTo : Moment → Phase → Tally → Bool → Moment → Type 0
-TurnsTo m Idle tally done t = ⊥
-TurnsTo m Marking tally done t = (tally ≡ nothing) × (done ≡ false) × ((count : ℕ) × (waiting : Option ℕ) × MarksSome m t turn_size count waiting)
-TurnsTo m Waiting tally done t = (tally ≡ nothing) × (done ≡ false) × ((answer : Polled) × Polls m t answer)
-TurnsTo m Evacuating tally done t = Evacuates m turn_size t tally done
-
--- turns one after the other, the last one first in the list, each from a moment that is lawful; and what each asked of a device
-module _ (D : Type 0) (Asks : Moment → Moment → Tally → D → D → Type 0) where
-  abbrev pub TurnsBy : Moment → List Tally → Bool → Moment → D → D → Type 0
-  TurnsBy m [] done t old new = (t ≡ m) × (done ≡ false) × (new ≡ old)
-  TurnsBy m (tally ∷ tallies) done t old new = (u : Moment) × (between : D) × TurnsBy m tallies false u old between × TurnsTo u u.phase tally done t × Asks u t tally between new × IsLawful u
-
--- the same, of no device
-abbrev pub TurnsMade : Moment → List Tally → Bool → Moment → Type 0
-TurnsMade m tallies done t = TurnsBy (Unit {0}) (λ u v tally old new. Unit {0}) m tallies done t tt tt
-
-abbrev pub sum_of : List Tally → Tally
-sum_of [] = nothing
-sum_of (tally ∷ tallies) = plus (sum_of tallies) tally
-
--- after so many turns, of which these were made, the round is over; or all were made, and it stands in a phase
-abbrev pub EndsRound : ℕ → List Tally → Bool → Phase → RoundEnd → Type 0
-EndsRound turns tallies true phase end = end ≡ Done (progress_of (sum_of tallies) true)
-EndsRound turns tallies false phase end = (length tallies ≡ turns) × (end ≡ Limit phase)
-
--- a round of these logs
-abbrev pub RunsRound : Moment → List ℕ → ℕ → RoundEnd → Moment → Type 0
-RunsRound m [] turns end t = (end ≡ Nothing) × (t ≡ m)
-RunsRound m (l ∷ ls) turns end t = (tallies : List Tally) × (over : Bool) × TurnsMade (after_selecting m (l ∷ ls)) tallies over t
-    × (length tallies ≤ turns) × EndsRound turns tallies over t.phase end
-
--- the same, but that a turn stopped at an object
-abbrev pub StopsRound : Moment → List ℕ → ℕ → Progress → Moment → Type 0
-StopsRound m logs turns so_far t = (tallies : List Tally) × (u : Moment) × (tally : Tally) × TurnsMade (after_selecting m logs) tallies false u
-    × (length tallies < turns) × (u.phase ≡ Evacuating) × StopsAt u turn_size t tally × (so_far ≡ progress_of (plus (sum_of tallies) tally) false) × IsLawful u

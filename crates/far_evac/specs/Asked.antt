@@ -8,8 +8,6 @@ use Rattle.far_core.specs.state.State.{State}
 use Rattle.far_book.specs.book.Asking.{AsksToEvict}
 use Rattle.far_evac.specs.declared.answers.EvacFault.{EvacFault}
 use Rattle.far_evac.specs.declared.answers.Progress.{Progress}
-use Rattle.far_evac.specs.declared.phase.Phase.{Phase}
-use Rattle.far_evac.specs.declared.phase.Phase.TheVariants.{Idle, Marking, Waiting, Evacuating}
 use Rattle.far_evac.specs.AnyHand.{KnowsMoment, WalksBy}
 use Rattle.far_evac.specs.Live.{live_among}
 use Rattle.far_evac.specs.Moment.{Moment, Tally, objects_in, tally_of}
@@ -53,13 +51,6 @@ module _ (D : Type 0) (writes : D → ℕ → List ℕ → Result (Unit {0}) Dev
   -- a walk dealt with as many objects as it has counted, each in the way in which it is counted, and ended at t
   abbrev pub AsksOnItsWay : Moment → Moment → Tally → D → D → Type 0
   AsksOnItsWay m t tally old new = (w : Walked) × WalksAsking m (objects_in tally) w old new × (t ≡ ended w) × (tally ≡ w.tally)
-
-  -- a turn asks for something only where objects leave
-  abbrev pub AsksInTurn : Moment → Phase → Moment → Tally → D → D → Type 0
-  AsksInTurn m Idle t tally old new = ⊥
-  AsksInTurn m Marking t tally old new = new ≡ old
-  AsksInTurn m Waiting t tally old new = new ≡ old
-  AsksInTurn m Evacuating t tally old new = AsksOnItsWay m t tally old new
 
 -- a walk was refused: it had dealt with as many objects as it has counted, and asked for them; then it asked for one write of the bytes of the next one, which was
 -- refused so, and t is where it stopped

@@ -20,8 +20,10 @@ use Rattle.far_evac.specs.declared.answers.Polled.TheVariants.{Clear}
 use Rattle.far_evac.specs.declared.answers.Progress.{Progress}
 use Rattle.far_evac.specs.declared.census.Census.{Census}
 use Rattle.far_evac.specs.declared.phase.Phase.TheVariants.{Evacuating, Idle, Marking, Waiting}
-use Rattle.far_evac.specs.AnyHand.{Audits, Evacuates, GivesUp, MarksSome, Polls, StopsAt, TurnsTo}
-use Rattle.far_evac.specs.Asked.{AsksInTurn, AsksOnItsWay, IsRefusedWrite, asked_of, first_live}
+use Rattle.far_evac.specs.AnyHand.{Audits, MarksSome, Polls}
+use Rattle.far_evac.specs.AnyTurns.{AsksInTurn, TurnsTo}
+use Rattle.far_evac.specs.Asked.{asked_of}
+use Rattle.far_evac.specs.ByCopying.{AsksBy, EvacuatesBy, GivesUpBy, RefusesBy, StopsBy, asked_live}
 use Rattle.far_evac.specs.Choosing.{after_aborting, after_selecting}
 use Rattle.far_evac.specs.EvacOf.{EvacOf, moment}
 use Rattle.far_evac.specs.Failing.{fails}
@@ -31,7 +33,7 @@ use Rattle.far_evac.specs.Moment.{Tally, nothing, progress_of, tally_of}
 use Rattle.far_evac.specs.MomentLaw.{is_idle}
 use Rattle.far_evac.specs.Refusals.{unselectable}
 use Rattle.far_evac.specs.RoundSteps.{among}
-use Rattle.far_evac.specs.Turning.{IsBounded, told_in}
+use Rattle.far_evac.specs.Turning.{IsBoundedBy, told_in}
 use Rattle.far_evac.specs.Turns.{Halts, begun_turns, turn_size, turned}
 use Rattle.far_evac.specs.Waiting.{Looks, SawOpen, after_polling, polled}
 use Rattle.far_evac.specs.Walk.{ended, is_done, walked}
@@ -41,6 +43,8 @@ module _ {N D : Type 0} (still : Type 0) (view : N → State) (makes : N → Eve
   pub record SelectsLogs {P : Type 0} (policy_gives : P → List LogRow → ℕ → Result (List ℕ) Refused → P → Type 0) (old new : EvacOf N D) (policy later : P) (most : ℕ) (result : Result (List ℕ) Refused) : Type 0 where
     -- the hand was called, and nothing else put in its place
     pub came : Came makes old.book.near new.book.near
+    -- whether copies may be offered stays
+    pub copying : new.copying ≡ old.copying
     pub begun : IfOk result (λ chosen. moment view new ≡ after_selecting (moment view old) chosen)
     -- the policy was handed what each sealed log has, and its choice is one
     pub gives : IfOk result (λ chosen. policy_gives policy (map (row_of (view old.book.near)) old.book.order) most (Ok chosen) later)
@@ -56,6 +60,7 @@ module _ {N D : Type 0} (still : Type 0) (view : N → State) (makes : N → Eve
   -- the first n live objects of the chosen logs that lacked EVAC have it, or all
   pub record MarksObjects (old new : EvacOf N D) (n : ℕ) (result : Result Marked Refused) : Type 0 where
     pub came : Came makes old.book.near new.book.near
+    pub copying : new.copying ≡ old.copying
     -- marks may have been found meanwhile; over a hand that is still none were
     pub marks : IfOk result (λ marked. MarksSome (moment view old) (moment view new) n marked.count marked.waiting)
     pub exact : still → IfOk result (λ _. moment view new ≡ after_marking (moment view old) n)
@@ -68,6 +73,7 @@ module _ {N D : Type 0} (still : Type 0) (view : N → State) (makes : N → Eve
   -- the scopes of owners who weren't seen clear were looked at
   pub record PollsOwners (may_be : N → State → Type 0) (old new : EvacOf N D) (result : Result Polled Refused) : Type 0 where
     pub came : Came makes old.book.near new.book.near
+    pub copying : new.copying ≡ old.copying
     -- by looks alone
     pub looks : Came (only Looks makes) old.book.near new.book.near
     pub polls : IfOk result (λ answer. Polls (moment view old) (moment view new) answer)
@@ -84,6 +90,7 @@ module _ {N D : Type 0} (still : Type 0) (view : N → State) (makes : N → Eve
   -- it was told where each undropped object is, and what each log is and has
   pub record TakesCensus (old new : EvacOf N D) (result : Result Census Refused) : Type 0 where
     pub came : Came makes old.book.near new.book.near
+    pub copying : new.copying ≡ old.copying
     -- marks may have been found meanwhile, and nothing else has changed; over a hand that is still nothing has
     pub lists : IfOk result (λ census. Audits (moment view old) (moment view new) census.homes.items census.logs.items)
     pub each : IfOk result (λ census. ListsEach (moment view new) census.homes.items census.logs.items)
@@ -96,7 +103,8 @@ module _ {N D : Type 0} (still : Type 0) (view : N → State) (makes : N → Eve
   -- the round was given up: what lives in the collection set has lost EVAC
   pub record GivesRoundUp (old new : EvacOf N D) (result : Result (Unit {0}) Refused) : Type 0 where
     pub came : Came makes old.book.near new.book.near
-    pub gives_up : IfOk result (λ _. GivesUp (moment view old) (moment view new))
+    pub copying : new.copying ≡ old.copying
+    pub gives_up : IfOk result (λ _. GivesUpBy (moment view old) (moment view new))
     pub exact : still → IfOk result (λ _. moment view new ≡ after_aborting (moment view old))
     pub device : new.book.device ≡ old.book.device
     -- refused exactly where no round is running, and nothing has changed
@@ -109,43 +117,45 @@ module _ {N D : Type 0} (still : Type 0) (view : N → State) (makes : N → Eve
     -- the first n live objects of the collection set left, or all
     pub record DealsWithObjects (old new : EvacOf N D) (n : ℕ) (result : Result Progress EvacFault) : Type 0 where
       pub came : Came makes old.book.near new.book.near
+      pub copying : new.copying ≡ old.copying
       -- each as a word says that was found in its cell; over a hand that is still, the word that was there
-      pub walks : IfOk result (λ progress. Evacuates (moment view old) n (moment view new) (tally_of progress) progress.done)
+      pub walks : IfOk result (λ progress. EvacuatesBy (moment view old) n (moment view new) (tally_of progress) progress.done)
       pub exact : still → IfOk result (λ progress. (moment view new ≡ ended (walked (moment view old) n)) × (progress ≡ progress_of (walked (moment view old) n).tally (is_done (walked (moment view old) n))))
       -- the round is over exactly where the answer says so, and stands still at a refusal
       pub evacuating : IfOk result (λ _. old.phase ≡ Evacuating)
       pub goes_on : IfOk result (λ progress. is_idle new.phase ≡ progress.done)
       pub stays : IfErr result (λ _. new.phase ≡ old.phase)
-      pub bounded : IsBounded (told_in result)
+      pub bounded : IsBoundedBy old.copying (told_in result)
       -- where objects don't leave now nothing is done
       pub barred : old.phase ≢ Evacuating → IfErr result (λ fault. (fault.why ≡ refusals.Phase) × (fault.so_far ≡ progress_of nothing false) × (new ≡ old))
       -- else a refusal is the device's, at an object that is as before; what was done before it stays
-      pub stops : old.phase ≡ Evacuating → IfErr result (λ fault. StopsAt (moment view old) n (moment view new) (tally_of fault.so_far))
+      pub stops : old.phase ≡ Evacuating → IfErr result (λ fault. StopsBy (moment view old) n (moment view new) (tally_of fault.so_far))
       pub stops_exact : still → old.phase ≡ Evacuating → IfErr result (λ fault. (k : ℕ) × (k < n)
           × (moment view new ≡ (walked (moment view old) k).moment) × (fault.so_far ≡ progress_of (walked (moment view old) k).tally false))
       pub why : old.phase ≡ Evacuating → IfErr result (λ fault. (fault.why ≡ refusals.Memory) ⊎ (fault.why ≡ refusals.Device))
       -- what the device was asked, and what that left of it
-      pub asked : IfOk result (λ progress. AsksOnItsWay D writes lets_go (moment view old) (moment view new) (tally_of progress) old.book.device new.book.device)
-      pub refused : old.phase ≡ Evacuating → IfErr result (λ fault. IsRefusedWrite D writes lets_go (moment view old) (moment view new) (tally_of fault.so_far) fault.why old.book.device new.book.device)
-      pub follows : Follows contents is_honest faults fails_at_most (none_of (first_live (moment view old) (asked_of result))) (fails result) old.book.device new.book.device
+      pub asked : IfOk result (λ progress. AsksBy D writes lets_go contents (moment view old) n (moment view new) (tally_of progress) old.book.device new.book.device)
+      pub refused : old.phase ≡ Evacuating → IfErr result (λ fault. RefusesBy D writes lets_go contents (moment view old) n (moment view new) (tally_of fault.so_far) fault.why old.book.device new.book.device)
+      pub follows : Follows contents is_honest faults fails_at_most (none_of (asked_live (moment view old) (asked_of result))) (fails result) old.book.device new.book.device
 
     -- one step of the round was made, by its phase
     pub record MakesTurn (old new : EvacOf N D) (result : Result Progress EvacFault) : Type 0 where
       pub came : Came makes old.book.near new.book.near
+      pub copying : new.copying ≡ old.copying
       pub turns : IfOk result (λ progress. TurnsTo (moment view old) old.phase (tally_of progress) progress.done (moment view new))
       pub exact : still → IfOk result (λ progress. turned (begun_turns (moment view old)) old.phase ≡ record { moment = moment view new; tally = tally_of progress; over = progress.done })
       -- the round is over exactly where the answer says so, and stands still at a refusal
       pub running : IfOk result (λ _. old.phase ≢ Idle)
       pub goes_on : IfOk result (λ progress. is_idle new.phase ≡ progress.done)
       pub stays : IfErr result (λ _. new.phase ≡ old.phase)
-      pub bounded : IsBounded (told_in result)
+      pub bounded : IsBoundedBy old.copying (told_in result)
       -- where no round is running nothing is done
       pub barred : old.phase ≡ Idle → IfErr result (λ fault. (fault.why ≡ refusals.Phase) × (fault.so_far ≡ progress_of nothing false) × (new ≡ old))
       -- else a refusal is the device's, at an object that was to leave and is as before; what was done before it stays
-      pub stops : old.phase ≢ Idle → IfErr result (λ fault. (old.phase ≡ Evacuating) × StopsAt (moment view old) turn_size (moment view new) (tally_of fault.so_far))
+      pub stops : old.phase ≢ Idle → IfErr result (λ fault. (old.phase ≡ Evacuating) × StopsBy (moment view old) turn_size (moment view new) (tally_of fault.so_far))
       pub halts : still → old.phase ≢ Idle → IfErr result (λ fault. (tally : Tally) × Halts (moment view old) turn_size (moment view new) tally × (fault.so_far ≡ progress_of tally false))
       pub why : old.phase ≢ Idle → IfErr result (λ fault. (fault.why ≡ refusals.Memory) ⊎ (fault.why ≡ refusals.Device))
       -- what the device was asked, and what that left of it
-      pub asked : IfOk result (λ progress. AsksInTurn D writes lets_go (moment view old) old.phase (moment view new) (tally_of progress) old.book.device new.book.device)
-      pub refused : old.phase ≢ Idle → IfErr result (λ fault. IsRefusedWrite D writes lets_go (moment view old) (moment view new) (tally_of fault.so_far) fault.why old.book.device new.book.device)
-      pub follows : Follows contents is_honest faults fails_at_most (none_of (first_live (moment view old) (asked_of result))) (fails result) old.book.device new.book.device
+      pub asked : IfOk result (λ progress. AsksInTurn D writes lets_go contents (moment view old) old.phase (moment view new) (tally_of progress) old.book.device new.book.device)
+      pub refused : old.phase ≢ Idle → IfErr result (λ fault. RefusesBy D writes lets_go contents (moment view old) turn_size (moment view new) (tally_of fault.so_far) fault.why old.book.device new.book.device)
+      pub follows : Follows contents is_honest faults fails_at_most (none_of (asked_live (moment view old) (asked_of result))) (fails result) old.book.device new.book.device

@@ -22,7 +22,8 @@ use Rattle.far_evac.specs.Census.{homes_of}
 use Rattle.far_evac.specs.declared.answers.Polled.{Polled}
 use Rattle.far_evac.specs.declared.answers.Polled.TheVariants.{Clear, StillOpen}
 use Rattle.far_evac.specs.declared.phase.Phase.TheVariants.{Idle, Waiting, Evacuating}
-use Rattle.far_evac.specs.AnyHand.{Polls, RunsRound, TurnsTo, WalksTo, Walks}
+use Rattle.far_evac.specs.AnyHand.{Polls, WalksTo, Walks}
+use Rattle.far_evac.specs.AnyTurns.{RunsRound, TurnsTo}
 use Rattle.far_evac.specs.Choosing.{after_aborting, after_selecting, is_spent}
 use Rattle.far_evac.specs.Dealings.{BeginsLive, DealsWith, GivesBack, says}
 use Rattle.far_evac.specs.Live.{is_empty, lacking, live_among, live_in}
@@ -45,7 +46,7 @@ abbrev pub PollIsAllowed : Type 0
 PollIsAllowed = (m : Moment) → Polls m (after_polling m) (polled m.core)
 
 abbrev pub TurnIsAllowed : Type 0
-TurnIsAllowed = (r : Turned) → r.over ≡ false → is_idle r.moment.phase ≡ false →
+TurnIsAllowed = (r : Turned) → r.moment.copying ≡ false → r.over ≡ false → is_idle r.moment.phase ≡ false →
     let t = turned r r.moment.phase in (tally : Tally) × TurnsTo r.moment r.moment.phase tally t.over t.moment × (t.tally ≡ plus r.tally tally)
 
 -- and with a whole round, whose turns begin at lawful moments: that is, of sealed logs, each once, while a later epoch is left

@@ -1,9 +1,15 @@
 pub mod AnyHand
+pub mod AnyTurns
 pub mod Asked
+pub mod Beside
+pub mod BookStands
+pub mod ByCopying
 pub mod Callers
 pub mod Calls
 pub mod Census
 pub mod Choosing
+pub mod Copied
+pub mod CopiedBack
 pub mod Cursor
 pub mod Dealings
 pub mod Emptied
@@ -32,5 +38,6 @@ pub mod Turning
 pub mod Turns
 pub mod Waiting
 pub mod Walk
+pub mod WalkedLogs
 pub mod WayLaws
 pub mod worked

@@ -78,5 +78,3 @@ pub record IsSound (still : Type 0) (s : State) (copying : Bool) (r : Round) : T
   pub round : InRound s r
   pub jobs : HoldsJobs s copying r.phase (collection_in r)
   pub exact : still → copying ≡ false
-  -- nothing is offered yet
-  pub plain : copying ≡ false

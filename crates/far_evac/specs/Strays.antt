@@ -17,7 +17,9 @@ use Rattle.far_evac.specs.declared.answers.Polled.{Polled}
 use Rattle.far_evac.specs.declared.answers.Progress.{Progress}
 use Rattle.far_evac.specs.declared.answers.RoundEnd.{RoundEnd}
 use Rattle.far_evac.specs.declared.phase.Phase.TheVariants.{Evacuating}
-use Rattle.far_evac.specs.AnyHand.{Evacuates, GivesUp, KnowsMoment, MarksSome, Polls, RunsRound, StopsAt, StopsRound, TurnsMade, TurnsTo}
+use Rattle.far_evac.specs.AnyHand.{KnowsMoment, MarksSome, Polls}
+use Rattle.far_evac.specs.AnyTurns.{RunsRound, StopsRound, TurnsMade, TurnsTo}
+use Rattle.far_evac.specs.ByCopying.{EvacuatesBy, GivesUpBy, StopsBy}
 use Rattle.far_evac.specs.Choosing.{after_aborting, after_selecting, is_spent}
 use Rattle.far_evac.specs.Marking.{after_marking}
 use Rattle.far_evac.specs.Moment.{Moment, Tally, with_core}
@@ -73,9 +75,9 @@ abbrev pub CallsStrayNone : Type 0
 CallsStrayNone = (m t : Moment) → Law (own_part m.core) → MomentLaw m → NoneStrays m →
     ((n count : ℕ) (waiting : Option ℕ) → MarksSome m t n count waiting → NoneStrays t)
     × ((answer : Polled) → Polls m t answer → NoneStrays t)
-    × ((n : ℕ) (tally : Tally) (done : Bool) → m.phase ≡ Evacuating → Evacuates m n t tally done → NoneStrays t)
-    × ((n : ℕ) (tally : Tally) → m.phase ≡ Evacuating → StopsAt m n t tally → NoneStrays t)
-    × (GivesUp m t → NoneStrays t)
+    × ((n : ℕ) (tally : Tally) (done : Bool) → m.phase ≡ Evacuating → EvacuatesBy m n t tally done → NoneStrays t)
+    × ((n : ℕ) (tally : Tally) → m.phase ≡ Evacuating → StopsBy m n t tally → NoneStrays t)
+    × (GivesUpBy m t → NoneStrays t)
     × ((tally : Tally) (done : Bool) → TurnsTo m m.phase tally done t → NoneStrays t)
 
 -- turns, one after the other; and a whole round, also one that stopped at an object

@@ -16,7 +16,8 @@ use Rattle.far_book.specs.book.Own.{own_part}
 use Rattle.far_evac.specs.declared.answers.Progress.{Progress}
 use Rattle.far_evac.specs.declared.answers.RoundEnd.{RoundEnd}
 use Rattle.far_evac.specs.declared.phase.Phase.TheVariants.{Evacuating}
-use Rattle.far_evac.specs.AnyHand.{Evacuates, RunsRound, StopsAt, StopsRound, TurnsMade, TurnsTo, WalksTo}
+use Rattle.far_evac.specs.AnyHand.{Evacuates, StopsAt, WalksTo}
+use Rattle.far_evac.specs.AnyTurns.{RunsRound, StopsRound, TurnsMade, TurnsTo}
 use Rattle.far_evac.specs.Choosing.{after_selecting, is_spent}
 use Rattle.far_evac.specs.Dealings.{HasLeft, says}
 use Rattle.far_evac.specs.Live.{live_among}
@@ -110,14 +111,14 @@ TakesSome m t = (objects : List ℕ) × TakesRoom m t objects
 -- over any hand: a walk over n objects, or all, one that was refused at an object, and a turn
 abbrev pub CallTakesRoom : Type 0
 CallTakesRoom = (m t : Moment) (n : ℕ) (tally : Tally) (done : Bool) → Law (own_part m.core) → MomentLaw m →
-    (m.phase ≡ Evacuating → Evacuates m n t tally done → TakesSome m t) × (m.phase ≡ Evacuating → StopsAt m n t tally → TakesSome m t) × (TurnsTo m m.phase tally done t → TakesSome m t)
+    (m.phase ≡ Evacuating → Evacuates m n t tally done → TakesSome m t) × (m.phase ≡ Evacuating → StopsAt m n t tally → TakesSome m t) × (m.copying ≡ false → TurnsTo m m.phase tally done t → TakesSome m t)
 
 -- turns, one after the other; and a whole round, from its begin on, also one that stopped at an object in one of its turns
 abbrev pub TurnsTakeSome : Type 0
-TurnsTakeSome = (m : Moment) (tallies : List Tally) (over : Bool) (t : Moment) → Law (own_part m.core) → TurnsMade m tallies over t → TakesSome m t
+TurnsTakeSome = (m : Moment) (tallies : List Tally) (over : Bool) (t : Moment) → Law (own_part m.core) → m.copying ≡ false → TurnsMade m tallies over t → TakesSome m t
 
 abbrev pub RoundTakesSome : Type 0
-RoundTakesSome = (m t : Moment) (logs : List ℕ) (turns : ℕ) → Law (own_part m.core) →
+RoundTakesSome = (m t : Moment) (logs : List ℕ) (turns : ℕ) → Law (own_part m.core) → m.copying ≡ false →
     ((end : RoundEnd) → RunsRound m logs turns end t → TakesSome (after_selecting m logs) t) × ((so_far : Progress) → StopsRound m logs turns so_far t → TakesSome (after_selecting m logs) t)
 
 -- so many turns of a running round, and a whole round of sealed logs, each once, where no word changes but by this

@@ -1,6 +1,6 @@
 -- Where turns stand, one after the other, and what bounds their sums.
-use Rattle.std.specs.Prelude.{◌≡◌, ◌≢◌, ℕ, ◌+◌, ◌*◌, ◌≤◌, Bool, false, length, Result, Ok, Err}
-use Rattle.far_word.specs.declared.sizes.TheConstants.{LOG_WORDS, MOST_LOGS}
+use Rattle.std.specs.Prelude.{◌≡◌, ◌≢◌, ℕ, ◌+◌, ◌*◌, ◌^◌, ◌<◌, ◌≤◌, Bool, true, false, cond, length, Result, Ok, Err}
+use Rattle.far_word.specs.declared.sizes.TheConstants.{JOBS, LOG_WORDS, MOST_LOGS}
 use Rattle.far_evac.specs.declared.answers.EvacFault.{EvacFault}
 use Rattle.far_evac.specs.declared.answers.Progress.{Progress}
 use Rattle.far_evac.specs.declared.phase.Phase.TheVariants.{Evacuating}
@@ -23,10 +23,32 @@ pub record IsWithin (m : Moment) (total : Tally) : Type 0 where
   pub logs : total.freed + length m.collection ≤ MOST_LOGS
   pub fresh : m.phase ≢ Evacuating → total ≡ nothing
 
--- a call, or calls together, count no more than that, whoever else moves objects: so many lie in a heap's logs at most
+-- calls together count no more than that, whoever else moves objects: so many lie in a heap's logs at most
 pub record IsBounded (total : Tally) : Type 0 where
   pub objects : objects_in total ≤ most_objects
   pub logs : total.freed ≤ MOST_LOGS
+
+-- so does a call, which counts those too that were collected, where copies may be offered
+abbrev pub most_counted : Bool → ℕ
+most_counted copying = cond copying (most_objects + JOBS) most_objects
+
+pub record IsBoundedBy (copying : Bool) (total : Tally) : Type 0 where
+  pub objects : objects_in total ≤ most_counted copying
+  pub logs : total.freed ≤ MOST_LOGS
+
+-- so many turns count no more than that, where copies may be offered
+pub record IsCountedIn (turns : ℕ) (total : Tally) : Type 0 where
+  pub objects : objects_in total ≤ turns * most_counted true
+  pub logs : total.freed ≤ turns * MOST_LOGS
+
+-- the most turns of a round where copies may be offered
+abbrev pub most_turns : ℕ
+most_turns = 2 ^ 48
+
+-- a sum is a word
+pub record IsSmall (total : Tally) : Type 0 where
+  pub objects : objects_in total < 2 ^ 64
+  pub logs : total.freed < 2 ^ 64
 
 -- what a call has counted, also one that was refused
 abbrev pub told_in : Result Progress EvacFault → Tally

@@ -1,3 +1,4 @@
 pub mod AsCalled
 pub mod Calls
+pub mod Copied
 pub mod Rows

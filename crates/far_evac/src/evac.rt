@@ -12,9 +12,11 @@ ghost use Rattle.far_evac.specs.RoundSteps.{among};
 
 mod alone;
 mod auditing;
+mod beside;
 mod evacuating;
 mod handing;
 mod marking;
+mod offering;
 mod over_plain;
 mod selecting;
 mod turning;
@@ -58,6 +60,30 @@ impl<N: Near + Drop, D: Device + Drop> Evac<N, D> {
         ensures collection { result.collection ≡ [] }
         ensures copying { result.copying ≡ false }
     {
+        Evac::in_no_round(book, false)
+    }
+
+    /// An evacuator over a book, in no round, whose hot objects are offered to copiers while they leave. Its hand isn't still, as copiers act beside it.
+    pub fn copying(book: Book<N, D>) -> Evac<N, D>
+        requires moves { N.still → ⊥ }
+        requires alone { HasNoJob (N.view book.near) }
+        ensures book { result.book ≡ book }
+        ensures phase { result.phase ≡ Idle }
+        ensures collection { result.collection ≡ [] }
+        ensures copying { result.copying ≡ true }
+    {
+        Evac::in_no_round(book, true)
+    }
+
+    // The same, by whether copies may be offered.
+    fn in_no_round(book: Book<N, D>, copying: bool) -> Evac<N, D>
+        requires exact { N.still → copying ≡ false }
+        requires alone { HasNoJob (N.view book.near) }
+        ensures book { result.book ≡ book }
+        ensures phase { result.phase ≡ Idle }
+        ensures collection { result.collection ≡ [] }
+        ensures copying { result.copying ≡ copying }
+    {
         Evac {
             book,
             round: Round {
@@ -67,8 +93,15 @@ impl<N: Near + Drop, D: Device + Drop> Evac<N, D> {
                 at: 0,
                 seen: 0,
             },
-            copying: false,
+            copying,
         }
+    }
+
+    /// Whether hot objects are offered to copiers, while they leave.
+    pub fn is_copying(&self) -> bool
+        ensures { result ≡ self.now.copying }
+    {
+        self.copying
     }
 
     /// Where the round stands.

@@ -1,6 +1,8 @@
 //! What the definitions of a round come to, as contracts of functions that do nothing.
 
 ghost use Rattle.std.specs.Prelude.{◌≡◌};
+ghost use Rattle.far_evac.specs.Copied.{CopiedIsAllowed};
+ghost use Rattle.far_evac.specs.CopiedBack.{CopiedComesBack};
 ghost use Rattle.far_evac.specs.Callers.{CallersSealBehind, CoresJoin, FetchingOrder, FetchingStepsAside, MovingOrder, MovingStepsAside, OwnersStepAside, PlacingOrder, PlacingStepsAside, RetiringOrder, RetiringStepsAside, StepsJoin, StepsKeep, StillOrder, StillStepsAside};
 ghost use Rattle.far_evac.specs.Leading.{AbortingLeads, ChoiceIsOfSealed, MarkingLeads, PollingLeads, RoundLeads, SelectingLeads, TurnsLead, WalkingLeads};
 ghost use Rattle.far_evac.specs.Owned.{AbortingKeepsObjects, MarkingKeepsObjects, PollingKeepsObjects, RoundKeepsObjects, SelectingKeepsObjects, TurnsKeepObjects, TurnsRetireNone, WalkRetiresNone, WalkingKeepsObjects};
@@ -13,6 +15,7 @@ ghost use Rattle.far_evac.specs.TakesRoom.{CallTakesRoom, RoundTakesRoom, RoundT
 ghost use Rattle.far_evac.specs.WayLaws.{ObjectsGoTheirWay};
 ghost use Rattle.far_evac.specs.Laws.{CensusIsExact, ClearIsShown, ClearMeansUnviewed, ClearViewsNothing, DealingIsInOrder, ExactIsAllowed, GivingUpIsRight, LooksSeeClear, MarkingIsCounted, MarkingIsRight, PollIsAllowed, PollIsOnce, RisenIsReady, RoundIsAllowed, RoundIsEvent, TurnIsAllowed, WaitIsNamed, WaitingStays, WalkIsTour, WalksJoin};
 ghost use Rattle.far_evac.specs.worked.AsCalled.{AsCalled};
+ghost use Rattle.far_evac.specs.worked.Copied.{CopierByHand, DroppedIsRetired, DroppedMeanwhile, NoJobIsEmpty, NoRoomForCopies, OffersAreTakenBack, OneAtATime, OtherLogsGoOn, OwnerFirst};
 ghost use Rattle.far_evac.specs.worked.Rows.{EmptiestIsFirst, EpochsAreNamed, FirstLiesFirst, GivenUp, HotWithoutRoom, LastEpoch, NothingToChoose, OldEpoch, OldView, OldestIsFirst, OpenScopeIsWaitedFor, OpenedAnew, OwnerIsFirst, PhasesAreKept, PlainRound, ReserveIsKept, StepByStep, TurnsRunOut};
 
 /// The exact evacuation, over words that nobody else changes, is one of those that are allowed over any hand.
@@ -242,4 +245,28 @@ pub fn rounds_are_so()
     ensures oldest_is_first { OldestIsFirst }
     ensures epochs_are_named { EpochsAreNamed }
     ensures emptiest_is_first { EmptiestIsFirst }
+{}
+
+/// Where copies may be offered: however the jobs were collected, the walk that goes by the words that are there is one of those that are allowed.
+pub fn copied_is_allowed()
+    ensures { CopiedIsAllowed }
+{}
+
+/// Where copies may be offered, over any hand: what an evacuation leaves of the collection set are some of its logs, in their order. The others are counted as given
+/// back, and each of them is out of the round.
+pub fn copied_comes_back()
+    ensures { CopiedComesBack }
+{}
+
+/// Worked examples where copies may be offered: copiers' events stand in the lists too.
+pub fn copies_are_so()
+    ensures copier_by_hand { CopierByHand }
+    ensures owner_first { OwnerFirst }
+    ensures one_at_a_time { OneAtATime }
+    ensures no_room { NoRoomForCopies }
+    ensures others_go_on { OtherLogsGoOn }
+    ensures dropped { DroppedIsRetired }
+    ensures dropped_meanwhile { DroppedMeanwhile }
+    ensures taken_back { OffersAreTakenBack }
+    ensures no_job { NoJobIsEmpty }
 {}

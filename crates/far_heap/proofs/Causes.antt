@@ -27,6 +27,7 @@ use Rattle.far_evac.specs.EvacOf.{EvacOf}
 use Rattle.far_heap.specs.BookHad.{BookHad, HasNowhere, HasRoom, IsCause, IsFreed, LacksRoom, MayCome, NoneFree, Places, Unbrought}
 use Rattle.far_heap.specs.Helping.{PlacesNew, asks_move, core_of, says_far}
 use Rattle.far_heap.specs.HeapId.{HeapId, heap_of}
+use Rattle.far_heap.proofs.Named.{named_alone}
 
 -- ---- an object that can't be brought, by one word of it, and by another that was found since
 nowhere_so : (o x : State) (v w : Option PtrWord) → body_of w ≡ body_of v → ((marks_in v).moved ≡ true → (marks_in w).moved ≡ true) →
@@ -118,7 +119,13 @@ module _ (o x : State) (shows : Shows o x) where
   cause_shown p Damaged may = (may_shown p may.0, ap (λ (s : State). s.honest) shows.rest ∙ may.1)
   cause_shown p why says = absurd says
 
-module _ {D : Type 0} (heap : HeapId) (seat : BookSeat D) (named : heap_of seat ≡ heap) where
+module _ {D : Type 0} (heap : HeapId) (e : EvacOf (BookSeat D) D) (of : heap_of e.copying e.book.near ≡ heap) where
+  abbrev seat : BookSeat D
+  seat = e.book.near
+
+  named : heap_of heap.copying seat ≡ heap
+  named = named_alone heap e of
+
   has_room : (m len p : ℕ) → HasRoom m len p (seat_view seat) → BookHad D heap (HasRoom m len p)
   has_room m len p has = record {
     seat = seat;

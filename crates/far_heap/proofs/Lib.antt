@@ -11,6 +11,7 @@ pub mod Adopting
 pub mod Named
 pub mod FarSides
 pub mod NewSeats
+pub mod NewCopiers
 pub mod Under
 pub mod Calls
 pub mod Undone

@@ -34,7 +34,7 @@ module _ (table : TableId) (s : State) (honest : Bool) (shape : Shape) (opens : 
   long seats is = ap length is ∙ length-map-range_with_len (λ m. record { table = table; view = first_owner s honest m }) 0 s.mutators
 
   pub new_seats : (logs : ℕ) (seats : List Seated) → s.mutators ≤ MOST_MUTATORS → seats ≡ Seats table (first_owner s honest) s.mutators →
-      NewSeats (record { table = table; logs = logs; mutators = s.mutators; honest = honest }) seats
+      NewSeats (record { table = table; logs = logs; mutators = s.mutators; honest = honest; copying = false }) seats
   new_seats logs seats few is = record {
     many = long seats is;
     few = subst (λ n. n ≤ MOST_MUTATORS) (sym (long seats is)) few;

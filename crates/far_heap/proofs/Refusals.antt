@@ -77,6 +77,7 @@ no_ranges len from count = (
 
 pub refusals_are_so : RefusalsAreSo
 refusals_are_so = record {
+  copiers = λ n. (λ h. (grind (arith, nat_tests), grind (arith, nat_tests)), λ h. let some = h.0 in let most = h.1 in grind (arith, nat_tests));
   lengths = λ len. (λ h. (grind (arith, nat_tests), grind (arith, nat_tests)), λ h. let some = h.0 in let most = h.1 in grind (arith, nat_tests));
   reached = λ m p from count.
       let a = reaches (views m p) (is_range (len_in m p) from count) in

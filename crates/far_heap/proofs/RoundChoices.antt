@@ -15,7 +15,7 @@ use Rattle.far_heap.specs.HeapId.{HeapId, heap_of}
 use Rattle.far_heap.specs.Rounds.{Chooses, ChoosesNone, IsUnchosen, rows_of}
 
 module _ {P D : Type 0} (gives : P → List LogRow → ℕ → Result (List ℕ) Refused → P → Type 0) (heap : HeapId) (before : P) (most : ℕ) (after : P) (e f : EvacOf (BookSeat D) D)
-    (named : heap_of e.book.near ≡ heap) (lawful : IsLawful (moment seat_view e)) (result : Result (List ℕ) Refused)
+    (named : heap_of e.copying e.book.near ≡ heap) (lawful : IsLawful (moment seat_view e)) (result : Result (List ℕ) Refused)
     (barred : (why : Refused) → unselectable (moment seat_view e) ≡ Some why → (result ≡ Err why) × (after ≡ before)) where
   not_both : (r : Result (List ℕ) Refused) (logs : List ℕ) (why : Refused) → r ≡ Ok logs → r ≡ Err why → ⊥
   not_both r logs why a b = cc

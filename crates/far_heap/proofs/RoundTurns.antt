@@ -8,7 +8,7 @@ use Rattle.far_evac.specs.declared.answers.EvacFault.{EvacFault}
 use Rattle.far_evac.specs.declared.answers.Progress.{Progress}
 use Rattle.far_evac.specs.declared.answers.RoundEnd.{RoundEnd}
 use Rattle.far_evac.specs.declared.answers.RoundEnd.TheVariants.{Nothing}
-use Rattle.far_evac.specs.AnyHand.{sum_of}
+use Rattle.far_evac.specs.AnyTurns.{sum_of}
 use Rattle.far_evac.specs.Moment.{Tally, plus, progress_of, tally_of}
 use Rattle.far_evac.specs.MomentLaw.{is_idle}
 use Rattle.far_heap.specs.HeapId.{HeapId}

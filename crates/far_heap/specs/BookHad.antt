@@ -22,7 +22,7 @@ use Rattle.far_heap.specs.Mine.{IsNoObject, Mine, adopting, is_length, owns, use
 -- is such a state
 pub record BookHad (D : Type 0) (heap : HeapId) (P : State → Type 0) : Type 0 where
   pub seat : BookSeat D
-  pub named : heap_of seat ≡ heap
+  pub named : heap_of heap.copying seat ≡ heap
   pub known : P (seat_view seat)
   pub is : (x : State) → seat_may_be seat x → P x
   pub there : ∥ ((x : State) × seat_may_be seat x) ∥₁
@@ -32,7 +32,7 @@ pub record BookHad (D : Type 0) (heap : HeapId) (P : State → Type 0) : Type 0 
 pub record BookDid (D : Type 0) (heap : HeapId) (R : EvacOf (BookSeat D) D → EvacOf (BookSeat D) D → Type 0) : Type 0 where
   pub before : EvacOf (BookSeat D) D
   pub later : EvacOf (BookSeat D) D
-  pub named : heap_of before.book.near ≡ heap
+  pub named : heap_of before.copying before.book.near ≡ heap
   pub lawful : IsLawful (moment seat_view before)
   pub came : Came seat_makes before.book.near later.book.near
   pub there : ∥ ((x : State) × seat_may_be before.book.near x) ∥₁

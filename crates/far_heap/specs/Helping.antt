@@ -13,7 +13,6 @@ use Rattle.far_hand.specs.Finds.{Finds}
 use Rattle.far_table.specs.declared.book.BookSeat.{BookSeat}
 use Rattle.far_table.specs.BookSeats.{seat_makes, seat_view}
 use Rattle.far_book.specs.book.Calls.{FetchesObject, MovesObject, PlacesObject, RetiresObject}
-use Rattle.far_book.specs.book.Effects.{placed, retired}
 use Rattle.far_evac.specs.EvacOf.{EvacOf, SameRound}
 
 -- ---- what a cell says

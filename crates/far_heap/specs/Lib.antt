@@ -1,4 +1,5 @@
 pub mod HeapId
+pub mod Copiers
 pub mod Mine
 pub mod MineLaw
 pub mod Made

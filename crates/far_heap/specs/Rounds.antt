@@ -1,6 +1,6 @@
 -- What a round by turns, each under the lock anew, may answer.
 use Rattle.std.specs.Prelude.{◌≡◌, ◌≢◌, ◌⊎◌, ◌-◌, ◌^◌, ◌<◌, ◌≤◌, ℕ, min, Bool, true, false, not, ◌&&◌, eqb, Some, None, List, [], ◌∷◌, drop, length, map, Result, Ok, Err}
-use Rattle.std.specs.List.{ends_with}
+use Rattle.std.specs.List.{ends_with, list_all}
 use Rattle.far_log.specs.declared.row.LogRow.{LogRow}
 use Rattle.far_policy.specs.Choice.{IsBadChoice, IsChoice}
 use Rattle.far_word.specs.declared.refused.Refused.{Refused}
@@ -14,13 +14,15 @@ use Rattle.far_evac.specs.declared.answers.RoundEnd.{RoundEnd}
 use Rattle.far_evac.specs.declared.answers.RoundEnd.TheVariants.{Done, Nothing, Limit}
 use Rattle.far_evac.specs.declared.phase.Phase.{Phase}
 use Rattle.far_evac.specs.declared.phase.Phase.TheVariants.{Evacuating, Idle, Marking}
-use Rattle.far_evac.specs.AnyHand.{StopsAt, TurnsTo, sum_of}
+use Rattle.far_evac.specs.AnyTurns.{TurnsTo, sum_of}
+use Rattle.far_evac.specs.ByCopying.{StopsBy}
 use Rattle.far_evac.specs.Choosing.{after_selecting}
 use Rattle.far_evac.specs.EvacOf.{EvacOf, moment}
 use Rattle.far_evac.specs.Live.{is_empty}
 use Rattle.far_evac.specs.Moment.{Tally, nothing, plus, progress_of}
 use Rattle.far_evac.specs.MomentLaw.{IsLawful, is_idle}
 use Rattle.far_evac.specs.Refusals.{unselectable}
+use Rattle.far_evac.specs.RoundSteps.{among}
 use Rattle.far_evac.specs.Turns.{turn_size}
 use Rattle.far_heap.specs.HeapId.{HeapId, heap_of}
 
@@ -33,7 +35,7 @@ module _ {P D : Type 0} (gives : P → List LogRow → ℕ → Result (List ℕ)
   -- e is a book of this heap in no round, with an epoch left for one. The policy was handed what its sealed logs have, and chose these logs; f is the book
   -- where their round begins, or the same where there are none
   pub record Chooses (logs : List ℕ) (e f : EvacOf (BookSeat D) D) : Type 0 where
-    pub named : heap_of e.book.near ≡ heap
+    pub named : heap_of e.copying e.book.near ≡ heap
     pub lawful : IsLawful (moment seat_view e)
     pub free : unselectable (moment seat_view e) ≡ None
     pub given : gives before (rows_of e) most (Ok logs) after
@@ -48,7 +50,7 @@ module _ {P D : Type 0} (gives : P → List LogRow → ℕ → Result (List ℕ)
       ⊎ ((unselectable (moment seat_view e) ≡ None) × IsBadChoice why × gives before (rows_of e) most (Err why) after)
 
   pub record ChoosesNone (why : Refused) (e f : EvacOf (BookSeat D) D) : Type 0 where
-    pub named : heap_of e.book.near ≡ heap
+    pub named : heap_of e.copying e.book.near ≡ heap
     pub lawful : IsLawful (moment seat_view e)
     pub cause : IsUnchosen e why
     pub same : f ≡ e
@@ -65,36 +67,42 @@ pub record ChoseNone {P : Type 0} (gives : P → List LogRow → ℕ → Result 
   pub refuses : ChoosesNone gives heap before most after why book later
 
 -- ---- turns of the heap's book, in the round of the logs that were chosen
--- of these logs those are left: the last of them, or none
-abbrev pub IsRest : List ℕ → List ℕ → Type 0
-IsRest logs left = (given : ℕ) × (left ≡ drop given logs)
+-- of these logs those are left: without copiers the last of them, or none; with copiers, who may hold any of them, each of those is one of them
+abbrev pub IsRest : Bool → List ℕ → List ℕ → Type 0
+IsRest false logs left = (given : ℕ) × (left ≡ drop given logs)
+IsRest true logs left = (l : ℕ) → among left l ≡ true → among logs l ≡ true
 
--- a round that has these logs left is one of those, as far as a book can tell: some are left, and they are the last of those
-abbrev pub is_round_of : List ℕ → List ℕ → Bool
-is_round_of logs left = not (is_empty left) && ends_with eqb logs left
+-- a round that has these logs left is one of those, as far as a book can tell: some are left, and they are the last of those; or, with copiers, each is one of
+-- those
+abbrev pub is_rest : Bool → List ℕ → List ℕ → Bool
+is_rest false logs left = ends_with eqb logs left
+is_rest true logs left = list_all (among logs) left
+
+abbrev pub is_round_of : Bool → List ℕ → List ℕ → Bool
+is_round_of copying logs left = not (is_empty left) && is_rest copying logs left
 
 module _ {D : Type 0} (heap : HeapId) (logs : List ℕ) where
   -- e is a book of this heap in which the round of these logs is running. One turn led from it to f, by the book's own calls alone; it counted this, and left
   -- the round in this phase, or over, exactly where the last of the logs was given back
   pub record Turns (tally : Tally) (over : Bool) (phase : Phase) (e f : EvacOf (BookSeat D) D) : Type 0 where
-    pub named : heap_of e.book.near ≡ heap
+    pub named : heap_of e.copying e.book.near ≡ heap
     pub lawful : IsLawful (moment seat_view e)
-    pub running : is_round_of logs e.collection ≡ true
+    pub running : is_round_of e.copying logs e.collection ≡ true
     pub came : Came seat_makes e.book.near f.book.near
     pub turns : TurnsTo (moment seat_view e) e.phase tally over (moment seat_view f)
-    pub left : IsRest logs f.collection
+    pub left : IsRest e.copying logs f.collection
     pub none : is_empty f.collection ≡ over
     pub stands : f.phase ≡ phase
     pub ends : is_idle phase ≡ over
 
   -- one that was refused: the round of these logs wasn't running, or not any more; or objects were leaving, and it stopped at one
   pub record StopsTurn (tally : Tally) (why : Refused) (e f : EvacOf (BookSeat D) D) : Type 0 where
-    pub named : heap_of e.book.near ≡ heap
+    pub named : heap_of e.copying e.book.near ≡ heap
     pub lawful : IsLawful (moment seat_view e)
     pub came : Came seat_makes e.book.near f.book.near
-    pub barred : is_round_of logs e.collection ≡ false → (why ≡ refused.Phase) × (tally ≡ nothing) × (f ≡ e)
-    pub stops : is_round_of logs e.collection ≡ true → ((why ≡ refused.Memory) ⊎ (why ≡ refused.Device)) × (e.phase ≡ Evacuating) × (f.phase ≡ Evacuating) × IsRest logs f.collection
-        × StopsAt (moment seat_view e) turn_size (moment seat_view f) tally
+    pub barred : is_round_of e.copying logs e.collection ≡ false → (why ≡ refused.Phase) × (tally ≡ nothing) × (f ≡ e)
+    pub stops : is_round_of e.copying logs e.collection ≡ true → ((why ≡ refused.Memory) ⊎ (why ≡ refused.Device)) × (e.phase ≡ Evacuating) × (f.phase ≡ Evacuating) × IsRest e.copying logs f.collection
+        × StopsBy (moment seat_view e) turn_size (moment seat_view f) tally
 
 pub record TurnMade (D : Type 0) (heap : HeapId) (logs : List ℕ) (tally : Tally) (over : Bool) (phase : Phase) : Type 0 where
   pub before : EvacOf (BookSeat D) D

@@ -9,30 +9,33 @@ ghost use Rattle.far_word.specs.declared.refused.Refused.{Refused as any_refusal
 use far_book::Book;
 use far_core::{Core, Shape};
 use far_device::Device;
-use far_table::{BookSeat, MutSeat, share};
+use far_table::{BookSeat, CopySeat, MutSeat, share};
 use far_word::Refused;
 use std::alloc::Global;
 use std::marker::Model;
 use std::snapshot::Snapshot;
 
-/// The parts of a heap that nobody has begun to use: the book, and the seats of the owners, on the shared words of a new core.
+/// The parts of a heap that nobody has begun to use: the book, and the seats of the owners and of eight copiers, on the shared words of a new core.
 #[derive(Drop)]
 pub struct Blank<D: Device + Drop> {
     pub(crate) book: Book<BookSeat<D>, D>,
     pub(crate) seats: Vec<MutSeat<D>>,
+    pub(crate) copiers: Vec<CopySeat<D>>,
 }
 
 impl<D: Device + Drop> Model for Blank<D> {
     ghost use Rattle.far_table.specs.BookSeats.{seat_view};
     ghost use Rattle.far_book.specs.book.Own.{HasNoJob};
     ghost use Rattle.far_heap.specs.Blanks.{BlankOf, NewSeats};
+    ghost use Rattle.far_heap.specs.Copiers.{NewCopiers};
     ghost use Rattle.far_heap.specs.HeapId.{heap_of};
+    ghost use Rattle.std.specs.Prelude.{false};
 
     ghost Value = { BlankOf D };
 
-    ghost view = { λ b. record { heap = heap_of b.book.near; book = b.book } };
+    ghost view = { λ b. record { heap = heap_of false b.book.near; book = b.book } };
 
-    ghost invariant = { λ b. NewSeats (heap_of b.book.near) b.seats.items × HasNoJob (seat_view b.book.near) };
+    ghost invariant = { λ b. NewSeats (heap_of false b.book.near) b.seats.items × NewCopiers (heap_of false b.book.near) b.copiers.items × HasNoJob (seat_view b.book.near) };
 }
 
 impl<D: Device + Drop> Blank<D> {
@@ -42,6 +45,7 @@ impl<D: Device + Drop> Blank<D> {
     /// Refused, in this order: [`Refused::Shape`] exactly where the shape is out of range, [`Refused::Memory`]. The device is dropped then.
     pub fn new(alloc: Global, shape: Shape, device: D) -> Result<Blank<D>, Refused>
         ensures size { IfOk result (λ blank. (blank.heap.logs ≡ shape.logs) × (blank.heap.mutators ≡ shape.mutators)) }
+        ensures alone { IfOk result (λ blank. blank.heap.copying ≡ false) }
         ensures honest { IfOk result (λ blank. blank.heap.honest ≡ D.honest device) }
         ensures core { IfOk result (λ blank. shape_of (seat_view blank.book.near) ≡ shape) }
         ensures unused { IfOk result (λ blank. IsUnused (seat_view blank.book.near)) }
@@ -54,12 +58,16 @@ impl<D: Device + Drop> Blank<D> {
             Ok(core) => core,
             Err(why) => return Err(why),
         };
-        let Ok((seat, seats, _copiers)) = share(alloc, core, Snapshot::of(&device)) else {
+        let Ok((seat, seats, copiers)) = share(alloc, core, Snapshot::of(&device)) else {
             return Err(Refused::Memory);
         };
         let Ok(book) = Book::new(alloc, seat, device) else {
             return Err(Refused::Memory);
         };
-        Ok(Blank { book, seats })
+        Ok(Blank {
+            book,
+            seats,
+            copiers,
+        })
     }
 }

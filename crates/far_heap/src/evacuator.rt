@@ -1,6 +1,6 @@
 //! What the lock of a heap keeps: its evacuator, with the book over the one seat of the named heap's table.
 
-ghost use Rattle.std.specs.Prelude.{◌≡◌, ◌*◌, ◌<◌, [], true, IfOk, IfErr, map};
+ghost use Rattle.std.specs.Prelude.{◌≡◌, ◌*◌, ◌<◌, [], false, true, IfOk, IfErr, map};
 ghost use Rattle.far_word.specs.declared.refused.Refused.TheVariants.{Memory};
 ghost use Rattle.far_word.specs.declared.sizes.TheConstants.{CELLS};
 ghost use Rattle.far_core.specs.state.Law.{Law};
@@ -54,13 +54,13 @@ impl<K: HeapName, D: Device + Drop> Model for Evacuator<K, D> {
 
     ghost view = { λ e. e.evac };
 
-    ghost invariant = { λ e. heap_of e.evac.book.near ≡ K.heap };
+    ghost invariant = { λ e. heap_of e.evac.copying e.evac.book.near ≡ K.heap };
 }
 
 impl<K: HeapName, D: Device + Drop> Evacuator<K, D> {
-    // Over a book of the named heap, in no round, with no job.
+    // Over a book of the named heap, in no round, with no job. It leaves nothing to copiers.
     pub(crate) fn new(book: Book<BookSeat<D>, D>) -> Evacuator<K, D>
-        requires named { heap_of book.near ≡ K.heap }
+        requires named { heap_of false book.near ≡ K.heap }
         requires alone { HasNoJob (seat_view book.near) }
         ensures book { result.book ≡ book }
         ensures idle { result.phase ≡ Idle }
@@ -72,13 +72,27 @@ impl<K: HeapName, D: Device + Drop> Evacuator<K, D> {
         }
     }
 
-    /// What holds whenever the lock is got, whatever any policy chose: the book is of the heap that the name names, with its size and its honesty; what it knows keeps its part of
+    // The same, whose hot objects are offered to copiers while they leave.
+    pub(crate) fn copying(book: Book<BookSeat<D>, D>) -> Evacuator<K, D>
+        requires named { heap_of true book.near ≡ K.heap }
+        requires alone { HasNoJob (seat_view book.near) }
+        ensures book { result.book ≡ book }
+        ensures idle { result.phase ≡ Idle }
+        ensures none { result.collection ≡ [] }
+    {
+        Evacuator {
+            evac: Evac::copying(book),
+            of: PhantomData,
+        }
+    }
+
+    /// What holds whenever the lock is got, whatever any policy chose: the book is of the heap that the name names, with its size and its honesty, and offers copies exactly where that has copiers; what it knows keeps its part of
     /// the law of the core, and the round agrees with it. In every state that the words and all views may be in objects and logs are whole: each object in
     /// use has one place, its pointer and the header there name each other, and a log's live, dead and unused bytes make its size. No log is given out
     /// in which an owner holds a place. The device holds the bytes of each far object as they were stored, and is honest where the owners are told so. And
     /// there is such a state.
     pub fn keeps_law(&self)
-        ensures named { heap_of self.now.book.near ≡ K.heap }
+        ensures named { heap_of self.now.copying self.now.book.near ≡ K.heap }
         ensures law { Law (own_part (seat_view self.now.book.near)) }
         ensures moment { MomentLaw (moment seat_view self.now) }
         ensures whole { (x : State) → seat_may_be self.now.book.near x → IsWhole x }

@@ -1,19 +1,24 @@
 // A heap, which its mutators share.
-ghost use Rattle.std.specs.Prelude.{◌≡◌, ℕ, List, false, IfOk, IfErr};
-ghost use Rattle.far_word.specs.declared.refused.Refused.TheVariants.{Memory};
+ghost use Rattle.std.specs.Prelude.{◌≡◌, ◌↔◌, ◌≤◌, ℕ, List, Err, cond, false, length, IfOk, IfErr};
+ghost use Rattle.far_word.specs.declared.refused.Refused.{Refused as any_refusal};
+ghost use Rattle.far_word.specs.declared.refused.Refused.TheVariants.{Memory, Shape};
+ghost use Rattle.far_word.specs.declared.sizes.TheConstants.{MOST_COPIERS};
 ghost use Rattle.far_evac.specs.Moment.{Tally, plus, progress_of, tally_of};
 ghost use Rattle.far_heap.specs.Blanks.{NewSeats, newcomers};
+ghost use Rattle.far_heap.specs.Copiers.{AreFree, NewCopiers, is_many};
+ghost use Rattle.far_heap.specs.HeapId.{with_copiers};
 ghost use Rattle.far_heap.specs.Rounds.{Chose, EndsAfter, EndsTurns, RefusesRound, StopsTurns, TurnMade, TurnRefused, told_of};
 
 use crate::blank::Blank;
+use crate::copier::Copier;
 use crate::evacuator::{Evacuator, nothing_done};
 use crate::mutator::Mutator;
 use crate::name::HeapName;
 use far_device::Device;
 use far_evac::{EvacFault, Phase, Progress, RoundEnd};
 use far_policy::{Chosen, Policy};
-use far_table::MutSeat;
-use far_word::Refused;
+use far_table::{CopySeat, MutSeat};
+use far_word::{MOST_COPIERS, Refused};
 use std::alloc::{AllocError, Global};
 use std::sync::{Arc, Mutex, MutexGuard, Wait};
 use std::thread;
@@ -47,6 +52,25 @@ fn mutators_of<K: HeapName, D: Device + Drop>(
     Ok(mutators)
 }
 
+// The copiers of the first of these seats, so many.
+fn copiers_of<K: HeapName, D: Device + Drop>(
+    alloc: Global,
+    mut seats: Vec<CopySeat<D>>,
+    many: u8,
+) -> Result<Vec<Copier<K, D>>, AllocError>
+    requires seats { NewCopiers K.heap seats.items }
+    requires few { many ≤ MOST_COPIERS }
+    ensures many { IfOk result (λ copiers. length copiers.items ≡ many) }
+    ensures free { IfOk result (λ copiers. AreFree K.heap.table 0 copiers.items) }
+{
+    let mut copiers = Vec::with_capacity(alloc, many as usize)?;
+    for _number in 0..many {
+        let free = seats.remove(0);
+        copiers.push_reserved(Copier::new(free));
+    }
+    Ok(copiers)
+}
+
 // What was done in two parts. Other callers' rounds may have come between, so that no bound of one round holds: the sums stop at the greatest number.
 fn sum(before: Progress, more: Progress, done: bool) -> Progress
     ensures { result ≡ progress_of (told_of (plus (tally_of before) (tally_of more))) done }
@@ -70,7 +94,11 @@ impl<K: HeapName, D: Device + Drop> Heap<K, D> {
         ensures mutators { IfOk result (λ made. made.1.items ≡ newcomers K.heap) }
         ensures refused { IfErr result (λ why. why ≡ Memory) }
     {
-        let Blank { book, seats } = blank;
+        let Blank {
+            book,
+            seats,
+            copiers: _copiers,
+        } = blank;
         let evacuator = Evacuator::new(book);
         let Ok(lock) = Arc::new(alloc, Mutex::new(evacuator)) else {
             return Err(Refused::Memory);
@@ -81,14 +109,49 @@ impl<K: HeapName, D: Device + Drop> Heap<K, D> {
         Ok((Heap { lock }, mutators))
     }
 
+    /// Begins a heap with copiers, so many of eight, by number: while a round empties its logs, an object viewed since it was last placed is offered to
+    /// them, to be copied while the lock is free. Else as [`Heap::new`].
+    ///
+    /// Refused, in this order: [`Refused::Shape`] exactly where there aren't 1 to 8 copiers, [`Refused::Memory`]. The blank is dropped then.
+    pub fn with_copiers(
+        alloc: Global,
+        blank: Blank<D>,
+        many: u8,
+    ) -> Result<(Heap<K, D>, Vec<Mutator<K, D>>, Vec<Copier<K, D>>), Refused>
+        requires name { with_copiers blank.heap ≡ K.heap }
+        ensures mutators { IfOk result (λ made. made.1.items ≡ newcomers K.heap) }
+        ensures copiers { IfOk result (λ made. (length made.2.items ≡ many) × AreFree K.heap.table 0 made.2.items) }
+        ensures shape { (result ≡ Err Shape) ↔ (is_many many ≡ false) }
+        ensures refused { IfErr result (λ why. why ≡ cond (is_many many) Memory Shape) }
+    {
+        if many == 0 || many > MOST_COPIERS {
+            return Err(Refused::Shape);
+        }
+        let Blank {
+            book,
+            seats,
+            copiers,
+        } = blank;
+        let Ok(lock) = Arc::new(alloc, Mutex::new(Evacuator::copying(book))) else {
+            return Err(Refused::Memory);
+        };
+        let Ok(mutators) = mutators_of(alloc, &lock, seats) else {
+            return Err(Refused::Memory);
+        };
+        let Ok(copiers) = copiers_of(alloc, copiers, many) else {
+            return Err(Refused::Memory);
+        };
+        Ok((Heap { lock }, mutators, copiers))
+    }
+
     /// Takes the lock: the book and the evacuator, until the guard is dropped.
     pub fn book<R: Wait>(&self, rt: &R) -> MutexGuard<'_, Evacuator<K, D>> {
         self.lock.lock(rt)
     }
 
     /// Makes a round: asks a policy for logs, at most `most`, and makes so many turns, or fewer if the round is over before. The lock is taken for the
-    /// choice, and anew for each turn; where a look finds a scope open for which the round waits, other threads run before the next.
-    /// [`RoundEnd::Nothing`] exactly where no log was chosen, [`RoundEnd::Done`] where a turn gave the last of the round's logs back, and else
+    /// choice, and anew for each turn; where a turn finds nothing to do, since a scope is open for which the round waits, or a copy isn't finished, other
+    /// threads run before the next. [`RoundEnd::Nothing`] exactly where no log was chosen, [`RoundEnd::Done`] where a turn gave the last of the round's logs back, and else
     /// [`RoundEnd::Limit`], with the phase after the last turn: the round goes on by [`Evacuator::turn`], or is given up by [`Evacuator::abort`]. What the
     /// turns did is summed. A policy is offered sealed logs alone, those that were full when another was opened.
     ///
@@ -132,7 +195,8 @@ impl<K: HeapName, D: Device + Drop> Heap<K, D> {
         let mut total = nothing_done();
         let mut phase = Phase::Marking;
         for _ in 0..turns {
-            let waited = phase == Phase::Waiting;
+            let stood = phase;
+            let counted = total;
             match self.turn_more(rt, chosen, total) {
                 Ok((sum, after)) => {
                     total = sum;
@@ -143,7 +207,7 @@ impl<K: HeapName, D: Device + Drop> Heap<K, D> {
             if total.done {
                 return Ok(RoundEnd::Done(total));
             }
-            if waited && phase == Phase::Waiting {
+            if phase == stood && phase != Phase::Marking && total == counted {
                 thread::yield_now();
             }
         }

@@ -6,6 +6,7 @@
 #![tactic(auto)]
 
 mod blank;
+mod copier;
 mod evacuator;
 mod heap;
 mod laws;
@@ -18,6 +19,7 @@ mod under_lock;
 mod view;
 
 pub use blank::Blank;
+pub use copier::{Copier, Copying};
 pub use evacuator::Evacuator;
 pub use heap::Heap;
 pub use laws::{reads_give_last_writes, refusals_are_so};

@@ -1,9 +1,9 @@
 -- What a policy gives is what its function says, and a round of these logs is the one that is told.
-use Rattle.std.proofs.Common.{◌≡◌, ◌≢◌, ◌⊎◌, inl, inr, ℕ, ◌<◌, Bool, true, false, cond, not, Option, Some, None, List, [], ◌∷◌, take, Result, Ok, Err, arith, ap, sym, refl, ◌∙◌, subst}
+use Rattle.std.proofs.Common.{◌≡◌, ◌≢◌, ℕ, ◌<◌, Bool, true, false, cond, not, Option, Some, None, List, [], ◌∷◌, take, Result, Ok, Err, arith, ap, sym, refl, ◌∙◌, subst}
 use Rattle.std.specs.Prelude.{IfErr, IfOk, OnOk}
 use Rattle.std.proofs.lemmas.Bool.{false≢true}
 use Rattle.far_word.specs.declared.refused.Refused.{Refused as Refusal}
-use Rattle.far_word.specs.declared.refused.Refused.TheVariants.{Memory, Phase as WrongPhase, EpochsSpent}
+use Rattle.far_word.specs.declared.refused.Refused.TheVariants.{Phase as WrongPhase, EpochsSpent}
 use Rattle.far_word.specs.declared.sizes.TheConstants.{MOST_LOGS}
 use Rattle.far_log.specs.declared.row.LogRow.{LogRow}
 use Rattle.far_policy.specs.Choice.{IsChoice}

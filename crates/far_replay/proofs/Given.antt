@@ -19,7 +19,7 @@ use Rattle.far_core.proofs.Cells.{map_mark}
 use Rattle.far_hand.specs.declared.plain.Plain.{Plain}
 use Rattle.far_evac.specs.EvacOf.{EvacOf}
 use Rattle.far_text.specs.Command.{Command, Mutator, Read, View, Write}
-use Rattle.far_replay.specs.Commanded.{AsksFor, KeepsFar, Misled, MisledBy, Outside, Serves, Refuses, Gives, Served}
+use Rattle.far_replay.specs.Commanded.{AsksFor, KeepsFar, Misled, MisledBy, Outside, Serves, Refuses, Gives, Lacks, Served}
 use Rattle.far_replay.specs.Dereference.{asked_for, come, comes_to, dereferenced, has_no_room, says_near, sought}
 use Rattle.far_replay.specs.Effects.{is_slow, with_data, with_view}
 use Rattle.far_replay.specs.Interpreter.{Comes, Dereferences, IsAccess, IsViewed, MayGive, Views, as_given, order_come, order_dereferenced, words_by}
@@ -83,6 +83,7 @@ module _ (s : State) (m p : ℕ) (law : Law s) (opened : is_opened s m ≡ true)
   gives_before : (o : Outside) → MayGive o (with_view s p) p → MayGive o s p
   gives_before Serves h = tt
   gives_before (Refuses why turns objects) h = h
+  gives_before (Lacks turns objects) h = h
   gives_before (Gives row) h = (sym honest_view ∙ h.0, far_before s m p law opened own used slow (with_view s p) refl h.1, fits_before row h.2)
 
   words_before : (o : Outside) → words_by o (with_view s p) p ≡ words_by o s p
@@ -147,6 +148,7 @@ given_made old new m p Serves c r law used given asks served answered viewed sto
     let later : as_if_stored next p words ≡ next = ap (λ (s : State). record next { core = s }) (as_it_was next.core p words (sym stored)) in
     (Serves, subst (λ (x : Moment). Served now c r x) later (subst (λ (x : Moment). Served x c r (as_if_stored next p words)) before served), spent)
 given_made old new m p (Refuses why turns objects) c r law used given asks served answered viewed stored spent = absurd given
+given_made old new m p (Lacks turns objects) c r law used given asks served answered viewed stored spent = absurd given
 given_made old new m p (Gives row) c r law used given asks served answered viewed stored spent =
     let told = far_is (read_of ((state_in old).cell p)) given.1 (law.views.used_cell p used) in (
       Gives row,

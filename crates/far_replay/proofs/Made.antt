@@ -1,6 +1,5 @@
 -- A command was made: served, or refused in its midst.
-use Rattle.std.proofs.Common.{◌≡◌, ◌≢◌, inl, inr, ℕ, Bool, true, false, Some, List, [], ◌∷◌, length, Result, Ok, Err, refl, sym, ap, subst, ◌∙◌}
-use Rattle.std.specs.Prelude.{IfErr, IfOk, OnOk}
+use Rattle.std.proofs.Common.{◌≡◌, ◌≢◌, ◌⊎◌, inl, inr, ℕ, Bool, true, false, Some, None, List, [], ◌∷◌, length, refl, sym, ap, subst, ◌∙◌}
 use Rattle.far_word.specs.declared.refused.Refused.{Refused as Refusal}
 use Rattle.far_word.specs.declared.refused.Refused.TheVariants.{Closed, Device, Memory, NoRoom, NotHeld, Range}
 use Rattle.far_core.specs.state.Law.{Law}
@@ -10,20 +9,16 @@ use Rattle.far_evac.specs.EvacOf.{EvacOf}
 use Rattle.far_text.specs.Command.{Command, Mutator, Read, Request, Write}
 use Rattle.far_text.specs.Written.{WritesBytes}
 use Rattle.far_replay.specs.Between.{Between}
-use Rattle.far_replay.specs.Commanded.{Serves, Refuses, StopsSo}
+use Rattle.far_replay.specs.Commanded.{Lacks, Refuses, Served, Serves, Stopped, StopsSo}
 use Rattle.far_replay.specs.Interpreter.{stopper_of}
 use Rattle.far_replay.specs.Dereference.{has_no_room}
 use Rattle.far_replay.specs.EventRows.{after_events}
 use Rattle.far_replay.specs.Events.{events_for}
 use Rattle.far_replay.specs.Moment.{FarSide, KeepsRound, Moment, moment_in, state_in}
-use Rattle.far_replay.specs.Outcome.{IsOutside, reply_by}
+use Rattle.far_replay.specs.Outcome.{IsOutside}
 use Rattle.far_reply.specs.Reply.{Reply, Halted, Refused}
 use Rattle.far_replay.specs.Spent.{Makes, SpentBy}
 use Rattle.far_replay.specs.Turn.{access_causes, effect, first_cause, refusal, refused_effect, reply_to, turn_effect, turn_reply, unless}
-use Rattle.far_replay.specs.declared.outcome.Outcome.{Outcome}
-use Rattle.far_replay.specs.declared.outcome.Outcome.TheVariants as outcomes
-use Rattle.far_replay.specs.declared.outcome.Scratch.{Scratch}
-use Rattle.far_replay.specs.declared.outcome.Stepped.{Stepped}
 use Rattle.far_replay.proofs.Joining.{made_whole}
 use Rattle.far_replay.proofs.Spending.{any_turn}
 
@@ -39,40 +34,51 @@ request_made old new m kept r told same small law between state order round repl
     subst (λ q. Makes old (Mutator m q) told new) same
     (made_served old new (Mutator m r) told (made_whole (moment_in old) (moment_in new) (Mutator m r) tt law between small state order round.0 round.1 round.2) reply spent)
 
--- by what the refusal of an object comes to
-pub made_or_wanted : {E : Type 0} (old new : EvacOf Plain FarSide) (c : Command) (scratch : Scratch) (r : Result Outcome E) (why : Refusal) → IfOk r (λ outcome. (outcome ≡ outcomes.Refused why) × (why ≢ Memory)) →
-    (why ≢ Memory → Makes old c (Refused why) new) → IfOk r (λ outcome. Makes old c (reply_by scratch outcome) new)
-made_or_wanted old new c scratch (Ok outcome) why (is, other) made = subst (λ o. Makes old c (reply_by scratch o) new) (sym is) (made other)
-made_or_wanted old new c scratch (Err e) why told made = tt
+-- ---- a step that is refused
+-- from outside, or not
+outside_or : (why : Refusal) → IsOutside why ⊎ ¬ IsOutside why
+outside_or Memory = inl (inl refl)
+outside_or Device = inl (inr refl)
+outside_or why = inr (λ either. elim either [
+  | inl memory ↦ cc
+  | inr failed ↦ cc
+])
 
--- what stands then of a step
-pub step_stops : (old new : EvacOf Plain FarSide) (c : Command) (r : Result Stepped Refusal) (fault : EvacFault) (scratch : Scratch) →
-    IfErr r (λ by. (by ≡ fault.why) × IsOutside fault.why × (scratch.progress ≡ fault.so_far)) → SpentBy (stopper_of fault.why) old new →
-    (fault.why ≡ Device → StopsSo Device (moment_in old) c (Halted Device fault.so_far) (moment_in new)) → IfErr r (λ by. by ≢ Memory → Makes old c (Halted by scratch.progress) new)
-step_stops old new c (Ok x) fault scratch h spent stops = tt
-step_stops old new c (Err by) fault scratch (is, inl memory, counts) spent stops = λ other. absurd (other (is ∙ memory))
-step_stops old new c (Err by) fault scratch (is, inr failed, counts) spent stops = λ other.
-    let (turns, objects, stopped) = stops failed in
+-- it isn't
+pub allowed_served : (now next : Moment) (c : Command) (r : Reply) → refusal now c ≡ None → next ≡ turn_effect now c → r ≡ turn_reply now c → Served now c r next
+allowed_served now next c r allowed moment reply = record {
+  reply = reply ∙ ap (λ o. unless o Refused (turn_reply now c)) (sym allowed);
+  moment = moment ∙ ap (λ o. unless o (refused_effect now c) (turn_effect now c)) (sym allowed);
+}
+
+-- before it began
+pub refused_served : (now next : Moment) (c : Command) (why : Refusal) → refusal now c ≡ Some why → refused_effect now c why ≡ now → next ≡ now → Served now c (Refused why) next
+refused_served now next c why cause leaves same = record {
+  reply = ap (λ o. unless o Refused (turn_reply now c)) (sym cause);
+  moment = same ∙ sym leaves ∙ ap (λ o. unless o (refused_effect now c) (turn_effect now c)) (sym cause);
+}
+
+-- or in its midst
+stopper_stops : (why : Refusal) (old new : EvacOf Plain FarSide) (c : Command) (r : Reply) → IsOutside why → StopsSo why (moment_in old) c r (moment_in new) → SpentBy (stopper_of why) old new → Makes old c r new
+stopper_stops why old new c r (inl memory) (turns, objects, stopped) spent =
+    (Lacks turns objects, subst (λ w. Stopped w turns objects (moment_in old) c r (moment_in new)) memory stopped, subst (λ w. SpentBy (stopper_of w) old new) memory spent)
+stopper_stops why old new c r (inr failed) (turns, objects, stopped) spent =
     let spends : SpentBy (Refuses Device 0 0) old new = subst (λ w. SpentBy (stopper_of w) old new) failed spent in
-    subst (λ (w : Refusal). Makes old c (Halted w scratch.progress) new) (sym (is ∙ failed))
-    (subst (λ so_far. Makes old c (Halted Device so_far) new) (sym counts) (Refuses Device turns objects, stopped, any_turn Device turns objects old new spends))
+    (Refuses Device turns objects, subst (λ w. Stopped w turns objects (moment_in old) c r (moment_in new)) failed stopped, any_turn Device turns objects old new spends)
 
--- and of one that was served, also where it was refused
-pub step_served : (X : Stepped → Type 0) (old new : EvacOf Plain FarSide) (r : Result Stepped Refusal) (fault : EvacFault) → IfOk r (λ stepped. X stepped × (fault.why ≢ Memory) × (fault.why ≢ Device)) →
-    SpentBy (stopper_of fault.why) old new → OnOk r (SpentBy Serves old new)
-step_served X old new (Ok x) fault told spent = by fault.why told.2 spent where
-  by : (why : Refusal) → why ≢ Device → SpentBy (stopper_of why) old new → SpentBy Serves old new
-  by Device b h = absurd (b refl)
-  by why b h = h
-step_served X old new (Err e) fault told spent = tt
+-- where it is refused otherwise nothing is spent
+stopper_serves : (why : Refusal) (old new : EvacOf Plain FarSide) → ¬ IsOutside why → SpentBy (stopper_of why) old new → SpentBy Serves old new
+stopper_serves Memory old new other spent = absurd (other (inl refl))
+stopper_serves Device old new other spent = absurd (other (inr refl))
+stopper_serves why old new other spent = spent
 
--- a step that asks its device for nothing
-
--- whatever stands in the buffers
-pub made_for : {E : Type 0} (old new : EvacOf Plain FarSide) (c : Command) (r : Result Outcome E) (scratch : Scratch) → IfOk r (λ outcome. (buffers : Scratch) → Makes old c (reply_by buffers outcome) new) →
-    IfOk r (λ outcome. Makes old c (reply_by scratch outcome) new)
-made_for old new c (Ok outcome) scratch h = h scratch
-made_for old new c (Err e) scratch h = tt
+pub step_refused : (old new : EvacOf Plain FarSide) (c : Command) (r : Reply) (fault : EvacFault) → (IsOutside fault.why → r ≡ Halted fault.why fault.so_far) → (¬ IsOutside fault.why → r ≡ Refused fault.why) →
+    SpentBy (stopper_of fault.why) old new → (IsOutside fault.why → StopsSo fault.why (moment_in old) c (Halted fault.why fault.so_far) (moment_in new)) →
+    (¬ IsOutside fault.why → Served (moment_in old) c (Refused fault.why) (moment_in new)) → Makes old c r new
+step_refused old new c r fault halted refused spent stops served = elim (outside_or fault.why) [
+  | inl either ↦ subst (λ x. Makes old c x new) (sym (halted either)) (stopper_stops fault.why old new c (Halted fault.why fault.so_far) either (stops either) spent)
+  | inr other ↦ subst (λ x. Makes old c x new) (sym (refused other)) (Serves, served other, stopper_serves fault.why old new other spent)
+]
 
 -- ---- a range that may not be reached
 named : (why cause : Refusal) → Some why ≡ Some cause → cause ≡ why

@@ -1,8 +1,9 @@
 -- What is so of each command, whether it is served, refused in its midst, or given other words.
 use Rattle.std.proofs.Common.{ℕ, List, refl}
 use Rattle.far_word.specs.declared.refused.Refused.{Refused as Refusal}
+use Rattle.far_word.specs.declared.refused.Refused.TheVariants.{Memory}
 use Rattle.far_text.specs.Command.{Command, Write, Read, View, Mutator, Evacuator, Policy, Evacuate, Round}
-use Rattle.far_replay.specs.Commanded.{AsksFor, Commanded, Serves, Refuses, Gives, Served, Stopped, Unbrought, StopsLeaving, StopsRound, Misled, MisledBy}
+use Rattle.far_replay.specs.Commanded.{AsksFor, Commanded, Serves, Refuses, Gives, Lacks, Served, Stopped, Unbrought, StopsLeaving, StopsRound, Misled, MisledBy}
 use Rattle.far_replay.specs.Moment.{Moment}
 use Rattle.far_reply.specs.Reply.{Reply}
 
@@ -41,6 +42,7 @@ module _ (now : Moment) (r : Reply) (after : Moment) (P : Command → Type 0)
   pub by_outcome : (c : Command) → Commanded now c r after → P c
   by_outcome c (Serves, h) = served c h
   by_outcome c (Refuses why turns objects, h) = by_stop why turns objects now r after P (writes why) (reads why) (views why) (leaves why objects) (rounds why turns objects) c h
+  by_outcome c (Lacks turns objects, h) = by_stop Memory turns objects now r after P (writes Memory) (reads Memory) (views Memory) (leaves Memory objects) (rounds Memory turns objects) c h
   by_outcome c (Gives row, h) = by_lie row now r after P (misled row) c h
 
 -- a command that asks the outside for nothing is served

@@ -9,7 +9,7 @@ use Rattle.far_word.specs.declared.refused.Refused.{Refused as Refusal}
 use Rattle.far_word.specs.declared.refused.Refused.TheVariants.{Damaged, Device}
 use Rattle.far_hand.specs.declared.plain.Plain.{Plain}
 use Rattle.far_evac.specs.EvacOf.{EvacOf}
-use Rattle.far_replay.specs.Commanded.{Outside, Serves, Refuses, Gives}
+use Rattle.far_replay.specs.Commanded.{Outside, Serves, Refuses, Gives, Lacks}
 use Rattle.far_replay.specs.Moment.{FarSide}
 use Rattle.far_replay.specs.Spent.{IsLeft, Spends, SpentBy}
 use Rattle.far_replay.proofs.FarReads.{NoMore, Passed, failed_leaves, failed_spends, none_left, still_left}
@@ -27,6 +27,7 @@ spent_first o old between new a b lie n few = b lie n (a lie n few)
 -- where it came last
 served_last : (lie : Lie) (o : Outside) (n : ℕ) (between new : EvacOf Plain FarSide) → SpentBy Serves between new → Spends lie o n between → Spends lie o n new
 served_last lie Serves n between new b h = b lie n h
+served_last lie (Lacks turns objects) n between new b h = b lie n h
 served_last lie (Refuses why turns objects) (suc n) between new b h = (h.0, b lie n h.1)
 served_last lie (Gives row) (suc n) between new b h = (h.0, b lie n h.1)
 served_last lie _ zero between new b h = absurd h

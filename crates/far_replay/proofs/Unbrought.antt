@@ -1,6 +1,5 @@
--- Where the device fails, or gives another number of bytes, a command that is to reach a far object is left with what a try of that object leaves; and where there is no room it is refused.
-use Rattle.std.proofs.Common.{◌≡◌, ◌≢◌, inl, inr, ℕ, ◌/◌, Bool, true, false, not, IsSome, [], ◌∷◌, Option, Some, None, if◌then◌else◌, Result, Ok, Err, refl, sym, ap, subst, ◌∙◌}
-use Rattle.std.specs.Prelude.{IfErr, IfOk}
+-- Where memory is refused, or the device fails or gives another number of bytes, a command that is to reach a far object is left with what a try of that object leaves; and where there is no room it is refused.
+use Rattle.std.proofs.Common.{◌≡◌, ◌⊎◌, inl, inr, ℕ, ◌/◌, Bool, true, false, not, IsSome, [], ◌∷◌, Option, Some, None, if◌then◌else◌, refl, sym, ap, subst, ◌∙◌}
 use Rattle.std.proofs.lemmas.Bool.{false≢true}
 use Rattle.far_word.specs.declared.mark.Mark.TheVariants.{Hot}
 use Rattle.far_word.specs.declared.pointer.PtrWord.{PtrWord}
@@ -16,18 +15,14 @@ use Rattle.far_core.proofs.Cells.{map_mark}
 use Rattle.far_hand.specs.declared.plain.Plain.{Plain}
 use Rattle.far_evac.specs.EvacOf.{EvacOf}
 use Rattle.far_text.specs.Command.{Command, Mutator, Try}
-use Rattle.far_replay.specs.Commanded.{KeepsFar, Serves, Refuses, Served, Stopped, Unbrought}
+use Rattle.far_replay.specs.Commanded.{CommandedBy, KeepsFar, Serves, Served, Stopped, Unbrought}
 use Rattle.far_replay.specs.Dereference.{RefusesBringing, RefusesView, comes_to, has_no_room, says_near, sought, sought_of}
 use Rattle.far_replay.specs.Effects.{is_slow, with_view}
 use Rattle.far_replay.specs.Interpreter.{refuser}
 use Rattle.far_replay.specs.Moment.{FarSide, KeepsRound, Moment, moment_in, state_in, with_core}
-use Rattle.far_replay.specs.Outcome.{IsFromOutside, reply_by}
-use Rattle.far_reply.specs.Reply.{Refused}
+use Rattle.far_reply.specs.Reply.{Reply, Refused}
 use Rattle.far_replay.specs.Spent.{Makes, SpentBy}
 use Rattle.far_replay.specs.Turn.{effect, first_cause, refusal, refused_effect, turn_effect, turn_reply, unless}
-use Rattle.far_replay.specs.declared.outcome.Outcome.{Outcome}
-use Rattle.far_replay.specs.declared.outcome.Outcome.TheVariants as outcomes
-use Rattle.far_replay.specs.declared.outcome.Scratch.{Scratch}
 use Rattle.far_replay.proofs.Bringing.{SaysFar, far_is}
 use Rattle.far_replay.proofs.RangeTurns.{opened_inside, uses_own}
 use Rattle.far_replay.proofs.Views.{pin_read, slow_view}
@@ -59,16 +54,18 @@ module _ (s : State) (m p : ℕ) (law : Law s) (opened : is_opened s m ≡ true)
   far_sought o = ap (sought_of (with_view s p) m p) (pinned ∙ ap (map_mark Hot) o.is)
 
 -- ---- a refusal from outside
--- the outside refuses nothing but by its device
-refuser_is : (why : Refusal) → KeepsFar why → refuser why ≡ Refuses why 0 0
-refuser_is Device keeps = refl
-refuser_is Damaged keeps = refl
-refuser_is why keeps = absurd keeps
+-- the outside refuses memory, or by its device
+refuser_stops : (why : Refusal) (now : Moment) (c : Command) (r : Reply) (next : Moment) → KeepsFar why → Stopped why 0 0 now c r next → CommandedBy (refuser why) now c r next
+refuser_stops Device now c r next keeps h = h
+refuser_stops Damaged now c r next keeps h = h
+refuser_stops Memory now c r next keeps h = h
+refuser_stops why now c r next keeps h = absurd keeps
 
 -- there was room, and nothing has changed but by the pin and the asking
 kept_far : (s t : State) (p : ℕ) (why : Refusal) → KeepsFar why → RefusesBringing s p why t → IsSome (comes_to s p) × (t ≡ s)
 kept_far s t p Device keeps h = h
 kept_far s t p Damaged keeps h = h
+kept_far s t p Memory keeps h = h
 kept_far s t p why keeps h = absurd keeps
 
 module _ (now next : Moment) (m p : ℕ) (law : Law now.core) (opened : is_opened now.core m ≡ true) (own : p / CELLS ≡ m) (used : now.core.used p ≡ true) (why : Refusal) (keeps : KeepsFar why)
@@ -119,18 +116,13 @@ unplaced now next m p c cause leaves refuses order phase held copying = record {
 }
 
 -- ---- by what the refusal comes to
--- the book refuses an object for want of room alone, where it isn't refused from outside
-unless_room : (s t : State) (m p : ℕ) (why : Refusal) → RefusesView s m p why t → why ≢ Memory → why ≢ Device → why ≢ Damaged → why ≡ NoRoom
-unless_room s t m p NoRoom h a b c = refl
-unless_room s t m p Memory h a b c = absurd (a refl)
-unless_room s t m p Device h a b c = absurd (b refl)
-unless_room s t m p Damaged h a b c = absurd (c refl)
-unless_room s t m p why h a b c = absurd h.1
-
-from_outside : (why : Refusal) → IsFromOutside why → why ≢ Memory → KeepsFar why
-from_outside why (inl memory) other = absurd (other memory)
-from_outside why (inr (inl failed)) other = subst KeepsFar (sym failed) tt
-from_outside why (inr (inr damaged)) other = subst KeepsFar (sym damaged) tt
+-- the book refuses an object for want of room, or it is refused from outside
+room_or_far : (s t : State) (m p : ℕ) (why : Refusal) → RefusesView s m p why t → (why ≡ NoRoom) ⊎ KeepsFar why
+room_or_far s t m p NoRoom h = inl refl
+room_or_far s t m p Memory h = inr tt
+room_or_far s t m p Device h = inr tt
+room_or_far s t m p Damaged h = inr tt
+room_or_far s t m p why h = absurd h.1
 
 -- a command sought its object in vain, and would have been refused for want of room alone
 pub record IsVain (old new : EvacOf Plain FarSide) (m p : ℕ) (c : Command) (why : Refusal) : Type 0 where
@@ -160,13 +152,10 @@ module _ {old new : EvacOf Plain FarSide} {m p : ℕ} {c : Command} {why : Refus
       let law = old.book.near.core.law in
       let room = has_room now next m p law x.opened x.own x.used why keeps x.refuses (x.far keeps) x.shut x.round.0 x.round.1 x.round.2 in
       let stops = unbrought now next m p law x.opened x.own x.used why keeps x.refuses (x.far keeps) x.shut x.round.0 x.round.1 x.round.2 c (x.cause false room) in
-      (Refuses why 0 0, x.stops stops, subst (λ o. SpentBy o old new) (refuser_is why keeps) x.spent)
+      (refuser why, refuser_stops why now c (Refused why) next keeps (x.stops stops), x.spent)
 
-  -- whatever stands in the buffers
-  pub vain_within : (r : Result Outcome Refusal) → IfOk r (λ outcome. (outcome ≡ outcomes.Refused why) × (why ≢ Memory) × (why ≢ Device) × (why ≢ Damaged)) → IfOk r (λ outcome. (scratch : Scratch) → Makes old c (reply_by scratch outcome) new)
-  vain_within (Ok outcome) (is, a, b, d) = λ scratch. subst (λ o. Makes old c (reply_by scratch o) new) (sym is) (within (unless_room (state_in old) (state_in new) m p why x.refuses a b d))
-  vain_within (Err e) told = tt
-
-  pub vain_outside : (r : Result Outcome Refusal) → IfErr r (λ by. (by ≡ why) × IsFromOutside why) → IfErr r (λ by. by ≢ Memory → Makes old c (Refused by) new)
-  vain_outside (Ok outcome) told = tt
-  vain_outside (Err by) (is, failed) = λ other. subst (λ w. Makes old c (Refused w) new) (sym is) (outside (from_outside why failed (λ memory. other (is ∙ memory))))
+  pub vain_made : Makes old c (Refused why) new
+  vain_made = elim (room_or_far (state_in old) (state_in new) m p why x.refuses) [
+    | inl room ↦ within room
+    | inr keeps ↦ outside keeps
+  ]

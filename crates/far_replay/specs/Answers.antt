@@ -1,5 +1,5 @@
 -- What is written for a text.
-use Rattle.std.specs.Prelude.{◌≡◌, ◌⊎◌, ℕ, zero, suc, Bool, false, true, Option, Some, None, List, [], ◌∷◌, ◌++◌, Result, Ok, Err, if◌then◌else◌}
+use Rattle.std.specs.Prelude.{◌≡◌, ◌⊎◌, ℕ, zero, suc, Bool, true, Option, Some, None, List, [], ◌∷◌, ◌++◌, Result, Ok, Err, if◌then◌else◌}
 use Rattle.std.specs.Bool.{MatchBool}
 use Rattle.std.specs.List.{flat_map}
 use Rattle.std.specs.Io.KnownBytes.{Appends, Keeps}
@@ -12,9 +12,9 @@ use Rattle.far_device.specs.Liar.{is_honest}
 use Rattle.far_device.specs.declared.liar.Lie.{Lie}
 use Rattle.far_device.specs.declared.liar.Lie.TheVariants.{Never, Short as Shortens, Flip as Inverts}
 use Rattle.far_word.specs.Pointer.{read_of}
-use Rattle.far_text.specs.Command.{Command, Device, Flawed, Fail, Short, Flip, Trace, Nothing, Heap}
+use Rattle.far_text.specs.Command.{Command, Device, Flawed, Short, Flip, Trace, Nothing, Heap}
 use Rattle.far_text.specs.Grammar.{trace_of}
-pub use Rattle.far_replay.specs.Commanded.{Commanded, CommandedBy, Outside, Serves, Refuses, Gives, Served, Stopped, Unbrought, StopsLeaving, StopsRound, Misled, MisledBy}
+pub use Rattle.far_replay.specs.Commanded.{Commanded, CommandedBy, Outside, Serves, Refuses, Gives, Lacks, Served, Stopped, Unbrought, StopsLeaving, StopsRound, Misled, MisledBy}
 use Rattle.far_replay.specs.Moment.{Moment, as_if_stored, moment_of}
 use Rattle.far_reply.specs.Reply.{Reply, Done, Refused, reply_text}
 use Rattle.far_replay.specs.declared.running.End.{End}
@@ -22,7 +22,7 @@ use Rattle.far_replay.specs.declared.running.End.TheVariants.{Ran, Refused as Tu
 use Rattle.far_replay.specs.declared.running.RunFault.{RunFault}
 use Rattle.far_replay.specs.declared.running.RunFault.TheVariants as faults
 use Rattle.far_reply.specs.Stream.{AppendsFront, AppendsPart}
-use Rattle.far_text.specs.Written.{AllWriteBytes, WritesBytes}
+use Rattle.far_text.specs.Written.{WritesBytes}
 
 -- one reply a command, and a list of moments, each after its command from the one before
 abbrev pub Answered : Moment → List Command → List Reply → List Moment → Type 0
@@ -44,10 +44,11 @@ IsFlaw Shortens (Refuses why turns objects) = why ≡ Damaged
 IsFlaw Inverts (Gives row) = Unit {0}
 IsFlaw lie o = ⊥
 
--- no more than so many commands come to that; all others are served
+-- no more than so many commands come to that; each other one is served, or refused memory
 abbrev pub FlawedAtMost : Lie → ℕ → List Outside → Type 0
 FlawedAtMost lie n [] = Unit {0}
 FlawedAtMost lie n (Serves ∷ os) = FlawedAtMost lie n os
+FlawedAtMost lie n (Lacks turns objects ∷ os) = FlawedAtMost lie n os
 FlawedAtMost lie zero (Refuses why turns objects ∷ os) = ⊥
 FlawedAtMost lie zero (Gives row ∷ os) = ⊥
 FlawedAtMost lie (suc n) (Refuses why turns objects ∷ os) = IsFlaw lie (Refuses why turns objects) × FlawedAtMost lie n os
@@ -90,7 +91,7 @@ pub data IsMoment : Moment → Type 0 where
   Stores : {x : Moment} (now : Moment) (p : ℕ) (row : ℕ → ℕ) → IsMoment now → now.core.used p ≡ true → StoresBack row (read_of (now.core.cell p)) → x ≡ as_if_stored now p row → IsMoment x
 
 -- the output of what a text is read as: off the grammar that refusal alone; for nothing nothing; for a heap out of range its
--- refusal alone; else `ok`, another for its device if it is said, and the lines of the replies, from the heap's first moment on; one command at most comes to what the device's flaw makes of it
+-- refusal alone; else `ok`, another for its device if it is said, and the lines of the replies, from the heap's first moment on; one command at most comes to what the device's flaw makes of it, and any of them may be refused memory
 abbrev pub IsOutput : Result Trace ℕ → List ℕ → Type 0
 IsOutput (Err line) output = output ≡ reply_text (Refused (Syntax line))
 IsOutput (Ok Nothing) output = output ≡ []
@@ -111,24 +112,17 @@ end_of (Err line) = Turned
 abbrev pub WritesOutput : Option (List ℕ) → Option (List ℕ) → Result Trace ℕ → Type 0
 WritesOutput old new read = (output : List ℕ) × IsOutput read output × Appends old new output
 
--- replies were written, all; or a proper prefix of them after a failed write, or where a command was refused memory
-abbrev pub Leads : {A : Type 0} → Option (List ℕ) → Option (List ℕ) → Result A RunFault → List ℕ → Type 0
-Leads old new (Ok x) bytes = Appends old new bytes
-Leads old new (Err faults.Write) bytes = AppendsPart old new bytes
-Leads old new (Err faults.Memory) bytes = AppendsPart old new bytes
-Leads old new (Err faults.Read) bytes = ⊥
-
 -- a heap of this shape may be refused memory
 abbrev pub MayMakeHeap : Result Trace ℕ → Type 0
 MayMakeHeap (Ok (Heap logs mutators epoch device commands)) = is_shape (shape_of logs mutators epoch) ≡ true
 MayMakeHeap _ = ⊥
 
--- what a fault leaves: a failed write, a proper prefix of the output; out of memory, nothing, or where there is a heap a prefix of the one line that says so,
--- or a proper one of the output where a command was refused; a failed read, nothing
+-- what a fault leaves: a failed write, a proper prefix of the output; out of memory before the first command, nothing, or where there is a heap a prefix of the one line that says so;
+-- a failed read, nothing
 abbrev pub LeavesBehind : RunFault → Option (List ℕ) → Option (List ℕ) → Result Trace ℕ → Type 0
 LeavesBehind faults.Write old new read = (output : List ℕ) × IsOutput read output × AppendsPart old new output
 LeavesBehind faults.Memory old new read =
-    Keeps old new ⊎ (MayMakeHeap read × (AppendsFront old new (reply_text (Refused Memory)) ⊎ ((output : List ℕ) × IsOutput read output × AppendsPart old new output)))
+    Keeps old new ⊎ (MayMakeHeap read × AppendsFront old new (reply_text (Refused Memory)))
 LeavesBehind faults.Read old new read = Keeps old new
 
 -- this is the output for the text

@@ -1,9 +1,9 @@
--- What one command comes to: it is served; or what is outside the heap, its device, refuses it in its midst, or gives it other bytes than were stored; and the run goes on.
+-- What one command comes to: it is served; or what is outside the heap, its device or the memory that there is, refuses it in its midst, or gives it other bytes than were stored; and the run goes on.
 use Rattle.std.specs.Prelude.{◌≡◌, ◌≢◌, ℕ, ◌<◌, false, Some, None, IsSome}
 use Rattle.far_word.specs.declared.mark.Marks.{Marks}
 use Rattle.far_word.specs.declared.pointer.PtrWord.TheVariants.{Far}
 use Rattle.far_word.specs.declared.refused.Refused.{Refused as Refusal}
-use Rattle.far_word.specs.declared.refused.Refused.TheVariants.{Damaged, Device, Marked}
+use Rattle.far_word.specs.declared.refused.Refused.TheVariants.{Damaged, Device, Marked, Memory}
 use Rattle.far_word.specs.Pointer.{read_of}
 use Rattle.far_core.specs.state.Law.{IsStored}
 use Rattle.far_core.specs.state.State.{State}
@@ -26,20 +26,23 @@ pub record Served (now : Moment) (c : Command) (r : Reply) (after : Moment) : Ty
 
 -- ---- it is refused in its midst
 -- what the outside made of a command: all that was asked; or it refused something, for this reason, after so many turns of a round and after so many objects; or it gave
--- these words of a far object, whatever was stored
+-- these words of a far object, whatever was stored; or it refused memory, after so many turns of a round and after so many objects
 pub data Outside : Type 0 where
   Serves : Outside
   Refuses : (why : Refusal) (turns objects : ℕ) → Outside
   Gives : (row : ℕ → ℕ) → Outside
+  Lacks : (turns objects : ℕ) → Outside
 
--- why an object isn't brought: the device failed, or gave another number of bytes. Why one doesn't leave: the device failed
+-- why an object isn't brought: memory was refused, the device failed, or gave another number of bytes. Why one doesn't leave: memory was refused, or the device failed
 abbrev pub KeepsFar : Refusal → Type 0
 KeepsFar Device = Unit {0}
+KeepsFar Memory = Unit {0}
 KeepsFar Damaged = Unit {0}
 KeepsFar why = ⊥
 
 abbrev pub KeepsNear : Refusal → Type 0
 KeepsNear Device = Unit {0}
+KeepsNear Memory = Unit {0}
 KeepsNear why = ⊥
 
 abbrev pub LiesFar : State → ℕ → Type 0
@@ -118,6 +121,7 @@ abbrev pub CommandedBy : Outside → Moment → Command → Reply → Moment →
 CommandedBy Serves now c r after = Served now c r after
 CommandedBy (Refuses why turns objects) now c r after = Stopped why turns objects now c r after
 CommandedBy (Gives row) now c r after = MisledBy row now c r after
+CommandedBy (Lacks turns objects) now c r after = Stopped Memory turns objects now c r after
 
 -- one command, from a moment to the next, with its reply, whatever the outside made of it
 abbrev pub Commanded : Moment → Command → Reply → Moment → Type 0

@@ -18,11 +18,11 @@ use Rattle.far_replay.specs.Outcome.{reply_by}
 use Rattle.far_reply.specs.Reply.{Reply}
 use Rattle.far_replay.specs.declared.outcome.Outcome.{Outcome}
 use Rattle.far_replay.specs.declared.outcome.Scratch.{Scratch}
-use Rattle.far_word.specs.declared.refused.Refused.TheVariants.{Damaged, Device}
-use Rattle.far_replay.specs.Dereference.{RefusesBringing, RefusesView, asked_for, come, comes_to, dereferenced, has_no_room, says_near, sought}
+use Rattle.far_word.specs.declared.refused.Refused.TheVariants.{Damaged, Device, Memory}
+use Rattle.far_replay.specs.Dereference.{RefusesBringing, asked_for, come, comes_to, dereferenced, has_no_room, says_near, sought}
 use Rattle.far_replay.specs.Effects.{is_slow, with_view}
 use Rattle.far_core.specs.state.Law.{StoresBack}
-use Rattle.far_replay.specs.Commanded.{Outside, Serves, Refuses, Gives}
+use Rattle.far_replay.specs.Commanded.{Outside, Serves, Refuses, Gives, Lacks}
 use Rattle.far_replay.specs.Moment.{FarSide, KeepsRound, state_in, with_stored}
 use Rattle.far_replay.specs.Spent.{SpentBy}
 use Rattle.far_replay.specs.Objects.{object_len}
@@ -77,11 +77,13 @@ abbrev pub words_by : Outside → State → ℕ → ℕ → ℕ
 words_by Serves s p = s.stored p
 words_by (Refuses why turns objects) s p = s.stored p
 words_by (Gives row) s p = row
+words_by (Lacks turns objects) s p = s.stored p
 
 -- others only of a far object, as many as it has, where the far side isn't honest
 abbrev pub MayGive : Outside → State → ℕ → Type 0
 MayGive Serves s p = Unit {0}
 MayGive (Refuses why turns objects) s p = ⊥
+MayGive (Lacks turns objects) s p = ⊥
 MayGive (Gives row) s p = (s.honest ≡ false) × (says_near (read_of (s.cell p)) ≡ false) × StoresBack row (read_of (s.cell p))
 
 -- the state as if those were stored
@@ -101,6 +103,7 @@ pub record Comes (old new : EvacOf Plain FarSide) (m p : ℕ) (o : Outside) : Ty
 abbrev pub refuser : Refusal → Outside
 refuser Device = Refuses Device 0 0
 refuser Damaged = Refuses Damaged 0 0
+refuser Memory = Lacks 0 0
 refuser why = Serves
 
 -- or it is refused a place, or refused by what is outside the heap, and nothing has changed but that it was asked for
@@ -132,6 +135,7 @@ pub record Views (old new : EvacOf Plain FarSide) (m p : ℕ) (o : Outside) : Ty
 -- what the outside made of a step that the evacuator answered so
 abbrev pub stopper_of : Refusal → Outside
 stopper_of Device = Refuses Device 0 0
+stopper_of Memory = Lacks 0 0
 stopper_of why = Serves
 
 abbrev pub stopper : {A : Type 0} → Result A EvacFault → Outside

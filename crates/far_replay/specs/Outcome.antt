@@ -1,7 +1,7 @@
 -- The reply that an outcome reports, read from the buffers.
 use Rattle.std.specs.Prelude.{◌≡◌, ◌⊎◌, ◌+◌, ◌*◌, ◌≤◌, take, slice_range}
 use Rattle.far_word.specs.declared.refused.Refused.{Refused as Refusal}
-use Rattle.far_word.specs.declared.refused.Refused.TheVariants.{Damaged, Device, Memory}
+use Rattle.far_word.specs.declared.refused.Refused.TheVariants.{Device, Memory}
 use Rattle.far_word.specs.declared.sizes.TheConstants.{LOG_WORDS, LONGEST, MOST_LOGS}
 use Rattle.far_replay.specs.declared.outcome.Outcome.{Outcome}
 use Rattle.far_replay.specs.declared.outcome.Outcome.TheVariants as outcomes
@@ -32,12 +32,9 @@ reply_by scratch (outcomes.EpochRead epoch) = EpochRead epoch
 reply_by scratch outcomes.Stepped = told_by scratch scratch.stepped
 reply_by scratch (outcomes.Refused why) = Refused why
 
--- it isn't the heap that refuses a step so, but what is outside it; and so an object
+-- it isn't the heap that refuses a step so, but what is outside it: the memory that there is, or the device
 abbrev pub IsOutside : Refusal → Type 0
 IsOutside why = (why ≡ Memory) ⊎ (why ≡ Device)
-
-abbrev pub IsFromOutside : Refusal → Type 0
-IsFromOutside why = (why ≡ Memory) ⊎ (why ≡ Device) ⊎ (why ≡ Damaged)
 
 -- the outcome speaks of what the buffers have room for
 abbrev pub IsInScratch : Outcome → Type 0

@@ -6,7 +6,7 @@ use Rattle.far_device.specs.declared.liar.Lie.TheVariants.{Never, Short, Flip}
 use Rattle.far_hand.specs.declared.plain.Plain.{Plain}
 use Rattle.far_evac.specs.EvacOf.{EvacOf}
 use Rattle.far_text.specs.Command.{Command}
-use Rattle.far_replay.specs.Answers.{CommandedBy, IsFlaw, Outside, Serves, Refuses, Gives}
+use Rattle.far_replay.specs.Answers.{CommandedBy, IsFlaw, Outside, Serves, Refuses, Gives, Lacks}
 use Rattle.far_replay.specs.Moment.{FarSide, moment_in}
 use Rattle.far_reply.specs.Reply.{Reply}
 
@@ -19,9 +19,10 @@ IsLeft Flip device n = MayFail device.inner.left (λ k. Unit {0}) 0 × MayFail d
 abbrev pub may_spoil : Lie → EvacOf Plain FarSide → ℕ → Type 0
 may_spoil lie evac n = (evac.book.device.lie ≡ lie) × IsLeft lie evac.book.device n
 
--- where so many were left, no more are, where a command is served; where it isn't, it came to what the flaw makes of it, and one less is left
+-- where so many were left, no more are, where a command is served, or refused memory; where it isn't, it came to what the flaw makes of it, and one less is left
 abbrev pub Spends : Lie → Outside → ℕ → EvacOf Plain FarSide → Type 0
 Spends lie Serves n new = may_spoil lie new n
+Spends lie (Lacks turns objects) n new = may_spoil lie new n
 Spends lie (Refuses why turns objects) zero new = ⊥
 Spends lie (Refuses why turns objects) (suc n) new = IsFlaw lie (Refuses why turns objects) × may_spoil lie new n
 Spends lie (Gives row) zero new = ⊥

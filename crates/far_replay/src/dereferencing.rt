@@ -57,8 +57,9 @@ pub fn try_view(evac: &mut Evac<Plain, FarSide>, owner: u8, pointer: u16) -> Res
 /// Dereferences an owner's object: pins it, and where that gives no view, has it brought to where one may rest, and pins it
 /// again. What is viewed already stays so. A far object comes with the bytes that the device gives, whatever was stored.
 ///
-/// Refused [`Refused::NoRoom`] where there is no place for it, or as the device refuses, or [`Refused::Damaged`] where what it
-/// gave isn't as long as the object: HOT is left then, and, where the object is near, MOVE.
+/// Refused [`Refused::NoRoom`] where there is no place for it: HOT is left then, and, where the object is near, MOVE. Refused
+/// [`Refused::Memory`] or [`Refused::Device`] as the device is, or [`Refused::Damaged`] where what it gave isn't as long as the object: the object
+/// is far still, and HOT is left.
 #[inline]
 pub fn dereference(evac: &mut Evac<Plain, FarSide>, owner: u8, pointer: u16) -> Result<(), Refused>
     requires opened { is_opened (state_in evac.old) owner ≡ true }

@@ -1,14 +1,13 @@
 //! What a command comes to, and the buffers that its reply is read from.
 
-ghost use Rattle.std.specs.Prelude.{◌≡◌, ◌≢◌, IfErr, IfOk};
+ghost use Rattle.std.specs.Prelude.{◌≡◌, ◌≢◌};
 ghost use Rattle.far_reply.specs.Reply.{reply_of, IsShort};
-ghost use Rattle.far_replay.specs.Outcome.{reply_by, told_by, IsInScratch, IsFromOutside};
+ghost use Rattle.far_replay.specs.Outcome.{reply_by, told_by, IsInScratch};
 
 use far_book::Home;
 use far_evac::{LogKind, Marked, Progress, RoundEnd};
 use far_reply::{Counts, LogLine, Reply};
 use far_word::{LOG_WORDS, MOST_LOGS, Refused};
-use std::alloc::AllocError;
 
 /// What a command comes to. What a reply tells at length stands in the buffers.
 #[derive(Clone, Copy)]
@@ -45,32 +44,6 @@ pub enum Stepped {
     Refused(Refused),
     /// The step was refused in its midst; what was done before stands in the buffers.
     Halted(Refused),
-}
-
-impl Outcome {
-    /// What it comes to that a command was refused in its midst: a reply; but want of memory is none, and ends the run.
-    pub fn stopped(why: Refused) -> Result<Outcome, AllocError>
-        ensures told { IfOk result (λ outcome. (outcome ≡ Outcome.Refused why) × (why ≢ Refused.Memory)) }
-    {
-        match why {
-            Refused::Memory => Err(AllocError),
-            failed => Ok(Outcome::Refused(failed)),
-        }
-    }
-
-    /// What a refusal of the book comes to: a reply; but the device's, and want of memory, is none of the command that was
-    /// served.
-    pub fn refused(why: Refused) -> Result<Outcome, Refused>
-        ensures told { IfOk result (λ outcome. (outcome ≡ Outcome.Refused why) × (why ≢ Refused.Memory) × (why ≢ Refused.Device) × (why ≢ Refused.Damaged)) }
-        ensures stops { IfErr result (λ by. (by ≡ why) × IsFromOutside why) }
-    {
-        match why {
-            Refused::Memory => Err(Refused::Memory),
-            Refused::Device => Err(Refused::Device),
-            Refused::Damaged => Err(Refused::Damaged),
-            why => Ok(Outcome::Refused(why)),
-        }
-    }
 }
 
 /// Buffers for the words and bytes of an object, for a line of each log, and for what a round's step tells.

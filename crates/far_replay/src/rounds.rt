@@ -1,11 +1,10 @@
 //! What the evacuator is asked: to choose logs, to mark, to wait, to have objects leave, to give up, and a whole round.
 
-ghost use Rattle.std.specs.Prelude.{◌≡◌, ◌≢◌, ◌≤◌, None, Some, length, take, IfErr, IfOk, OnOk};
+ghost use Rattle.std.specs.Prelude.{◌≡◌, ◌≤◌, None, Some, length, take, IfErr, IfOk, OnOk};
 ghost use Rattle.far_word.specs.declared.sizes.TheConstants.{MOST_LOGS};
 ghost use Rattle.far_replay.specs.Interpreter.{stopper};
 ghost use Rattle.far_replay.specs.Spent.{Makes, SpentBy};
-ghost use Rattle.far_replay.specs.Commanded.{Serves, StopsSo};
-ghost use Rattle.far_word.specs.declared.refused.Refused.TheVariants.{Device as Failed, Memory};
+ghost use Rattle.far_replay.specs.Commanded.{StopsSo};
 ghost use Rattle.far_evac.specs.Choosing.{after_selecting};
 ghost use Rattle.far_text.specs.Command.{Abort, Evacuate, Evacuator, Mark, Round, Select, Wait, as_choice, as_policy, as_step};
 ghost use Rattle.far_text.specs.Written.{WritesBytes};
@@ -13,7 +12,7 @@ ghost use Rattle.far_replay.specs.Moment.{moment_in};
 ghost use Rattle.far_replay.specs.declared.outcome.Scratch.{Scratch};
 ghost use Rattle.far_replay.specs.Outcome.{IsOutside, told_by};
 ghost use Rattle.far_replay.specs.Rounds.{given_by, logs_given, rows_in, step_effect, step_reply};
-ghost use Rattle.far_reply.specs.Reply.{Ended, Halted};
+ghost use Rattle.far_reply.specs.Reply.{Ended, Halted, Refused as Refusal};
 ghost use Rattle.far_replay.specs.Turn.{effect, refusal, reply_to};
 
 use crate::outcome::{Scratch, Stepped};
@@ -23,7 +22,6 @@ use far_evac::{Evac, EvacFault, Polled, RoundEnd};
 use far_policy::{Chosen, LeastLive, Oldest, Scripted};
 use far_text::{Choice, Policy, Step};
 use far_word::Refused;
-use std::alloc::AllocError;
 
 // Begins a round of the logs that a choice gives, at most so many.
 fn choose(evac: &mut Evac<Plain, FarSide>, choice: Choice, most: u8) -> Result<Chosen, Refused>
@@ -106,35 +104,28 @@ fn wait(evac: &mut Evac<Plain, FarSide>) -> Stepped
     }
 }
 
-// What a refusal of the evacuator comes to: a reply; but the device's, and want of memory, is none of the step that was served.
-// What was done before stands in the buffers then.
-fn refused_step(scratch: &mut Scratch, fault: EvacFault) -> Result<Stepped, Refused>
-    ensures told { IfOk result (λ stepped. (stepped ≡ Stepped.Refused fault.why) × (fault.why ≢ Memory) × (fault.why ≢ Failed)) }
-    ensures stops { IfErr result (λ by. (by ≡ fault.why) × IsOutside fault.why × (scratch.new.progress ≡ fault.so_far)) }
+// What a refusal of the evacuator comes to. Where the device refused, or memory, it was in the midst of the step: what was done
+// before is told then.
+fn refused_step(scratch: &mut Scratch, fault: EvacFault) -> Stepped
+    ensures halted { IsOutside fault.why → told_by scratch.new result ≡ Halted fault.why fault.so_far }
+    ensures refused { ¬ IsOutside fault.why → told_by scratch.new result ≡ Refusal fault.why }
 {
     scratch.progress = fault.so_far;
     match fault.why {
-        Refused::Memory => Err(Refused::Memory),
-        Refused::Device => Err(Refused::Device),
-        why => Ok(Stepped::Refused(why)),
+        Refused::Memory | Refused::Device => Stepped::Halted(fault.why),
+        why => Stepped::Refused(why),
     }
 }
 
-// Has so many objects leave, or all that are left. `Err` where the device fails, or is refused memory.
-fn evacuate(
-    evac: &mut Evac<Plain, FarSide>,
-    scratch: &mut Scratch,
-    count: u64,
-) -> Result<Stepped, Refused>
-    ensures moment { OnOk result (moment_in evac.new ≡ effect (moment_in evac.old) (Evacuator (Evacuate count))) }
-    ensures reply { IfOk result (λ stepped. told_by scratch.new stepped ≡ reply_to (moment_in evac.old) (Evacuator (Evacuate count))) }
-    ensures spent { OnOk result (SpentBy Serves evac.old evac.new) }
-    ensures stopped { IfErr result (λ why. why ≢ Memory → Makes evac.old (Evacuator (Evacuate count)) (Halted why scratch.new.progress) evac.new) }
+// Has so many objects leave, or all that are left.
+fn evacuate(evac: &mut Evac<Plain, FarSide>, scratch: &mut Scratch, count: u64) -> Stepped
+    ensures made { Makes evac.old (Evacuator (Evacuate count)) (told_by scratch.new result) evac.new }
 {
+    evac.keeps_law();
     match evac.evacuate_some(count) {
         Ok(progress) => {
             scratch.progress = progress;
-            Ok(Stepped::Evacuated)
+            Stepped::Evacuated
         }
         Err(fault) => refused_step(scratch, fault),
     }
@@ -162,9 +153,9 @@ fn run_by(
     ensures allowed { IfOk result (λ _. refusal (moment_in evac.old) (Evacuator (Round (as_policy policy) most turns)) ≡ None) }
     ensures moment { OnOk result (moment_in evac.new ≡ step_effect (moment_in evac.old) (Round (as_policy policy) most turns)) }
     ensures end { IfOk result (λ end. Ended end ≡ step_reply (moment_in evac.old) (Round (as_policy policy) most turns)) }
-    ensures refused { IfErr result (λ fault. fault.why ≢ Memory → fault.why ≢ Failed → refusal (moment_in evac.old) (Evacuator (Round (as_policy policy) most turns)) ≡ Some fault.why) }
-    ensures unchanged { IfErr result (λ fault. fault.why ≢ Memory → fault.why ≢ Failed → moment_in evac.new ≡ moment_in evac.old) }
-    ensures stopped { IfErr result (λ fault. fault.why ≡ Failed → StopsSo Failed (moment_in evac.old) (Evacuator (Round (as_policy policy) most turns)) (Halted Failed fault.so_far) (moment_in evac.new)) }
+    ensures refused { IfErr result (λ fault. ¬ IsOutside fault.why → refusal (moment_in evac.old) (Evacuator (Round (as_policy policy) most turns)) ≡ Some fault.why) }
+    ensures unchanged { IfErr result (λ fault. ¬ IsOutside fault.why → moment_in evac.new ≡ moment_in evac.old) }
+    ensures stopped { IfErr result (λ fault. IsOutside fault.why → StopsSo fault.why (moment_in evac.old) (Evacuator (Round (as_policy policy) most turns)) (Halted fault.why fault.so_far) (moment_in evac.new)) }
     ensures spent { SpentBy (stopper result) evac.old evac.new }
 {
     evac.keeps_law();
@@ -175,46 +166,36 @@ fn run_by(
     }
 }
 
-// Makes a round, and tells how it ends. `Err` where the device fails, or is refused memory.
+// Makes a round, and tells how it ends.
 fn round(
     evac: &mut Evac<Plain, FarSide>,
     scratch: &mut Scratch,
     policy: Policy,
     most: u8,
     turns: u64,
-) -> Result<Stepped, Refused>
-    ensures moment { OnOk result (moment_in evac.new ≡ effect (moment_in evac.old) (Evacuator (Round (as_policy policy) most turns))) }
-    ensures reply { IfOk result (λ stepped. told_by scratch.new stepped ≡ reply_to (moment_in evac.old) (Evacuator (Round (as_policy policy) most turns))) }
-    ensures spent { OnOk result (SpentBy Serves evac.old evac.new) }
-    ensures stopped { IfErr result (λ why. why ≢ Memory → Makes evac.old (Evacuator (Round (as_policy policy) most turns)) (Halted why scratch.new.progress) evac.new) }
+) -> Stepped
+    ensures made { Makes evac.old (Evacuator (Round (as_policy policy) most turns)) (told_by scratch.new result) evac.new }
 {
     match run_by(evac, policy, most, turns) {
         Ok(end) => {
             scratch.end = end;
-            Ok(Stepped::Ended)
+            Stepped::Ended
         }
         Err(fault) => refused_step(scratch, fault),
     }
 }
 
-// Makes a step of the evacuator, and answers what it comes to. `Err` where the device fails, or it is refused memory.
-fn step_made(
-    evac: &mut Evac<Plain, FarSide>,
-    scratch: &mut Scratch,
-    step: Step,
-) -> Result<Stepped, Refused>
+// Makes a step of the evacuator, and answers what it comes to.
+fn step_made(evac: &mut Evac<Plain, FarSide>, scratch: &mut Scratch, step: Step) -> Stepped
     requires small { WritesBytes (Evacuator (as_step step)) }
-    ensures moment { OnOk result (moment_in evac.new ≡ effect (moment_in evac.old) (Evacuator (as_step step.entry))) }
-    ensures reply { IfOk result (λ stepped. told_by scratch.new stepped ≡ reply_to (moment_in evac.old) (Evacuator (as_step step.entry))) }
-    ensures spent { OnOk result (SpentBy Serves evac.old evac.new) }
-    ensures stopped { IfErr result (λ why. why ≢ Memory → Makes evac.old (Evacuator (as_step step.entry)) (Halted why scratch.new.progress) evac.new) }
+    ensures made { Makes evac.old (Evacuator (as_step step.entry)) (told_by scratch.new result) evac.new }
 {
     match step {
-        Step::Select { choice, most } => Ok(select(evac, scratch, choice, most)),
-        Step::Mark { count } => Ok(mark(evac, scratch, count)),
-        Step::Wait => Ok(wait(evac)),
+        Step::Select { choice, most } => select(evac, scratch, choice, most),
+        Step::Mark { count } => mark(evac, scratch, count),
+        Step::Wait => wait(evac),
         Step::Evacuate { count } => evacuate(evac, scratch, count),
-        Step::Abort => Ok(abort(evac)),
+        Step::Abort => abort(evac),
         Step::Round {
             policy,
             most,
@@ -223,28 +204,12 @@ fn step_made(
     }
 }
 
-/// Makes a step of the evacuator; what it comes to stands in the buffers then, also where the device fails in its midst. `Err`
-/// where it is refused memory.
+/// Makes a step of the evacuator; what it comes to stands in the buffers then, also where memory is refused, or the device fails, in
+/// its midst.
 #[inline(never)]
-pub fn make_step(
-    evac: &mut Evac<Plain, FarSide>,
-    scratch: &mut Scratch,
-    step: Step,
-) -> Result<(), AllocError>
+pub fn make_step(evac: &mut Evac<Plain, FarSide>, scratch: &mut Scratch, step: Step)
     requires small { WritesBytes (Evacuator (as_step step)) }
-    ensures made { IfOk result (λ _. Makes evac.old (Evacuator (as_step step.entry)) (told_by scratch.new scratch.new.stepped) evac.new) }
+    ensures made { Makes evac.old (Evacuator (as_step step.entry)) (told_by scratch.new scratch.new.stepped) evac.new }
 {
-    match step_made(evac, scratch, step) {
-        Ok(stepped) => {
-            scratch.stepped = stepped;
-            Ok(())
-        }
-        Err(why) => match why {
-            Refused::Memory => Err(AllocError),
-            why => {
-                scratch.stepped = Stepped::Halted(why);
-                Ok(())
-            }
-        },
-    }
+    scratch.stepped = step_made(evac, scratch, step);
 }

@@ -11,7 +11,7 @@ ghost use Rattle.far_replay.specs.Moment.{Moment, moment_in, moment_of, state_in
 ghost use Rattle.std.specs.Option.{option_map};
 ghost use Rattle.far_text.specs.Command.{as_device};
 ghost use Rattle.far_replay.specs.Spent.{IsLeft, may_spoil};
-ghost use Rattle.far_replay.specs.Answers.{AnsweredBy, FlawedAtMost, opened, flaws, is_true, lie_of, Outside, MayMakeHeap, Leads, WritesOutput, WritesAnswer, LeavesBehind, Leaves, end_of};
+ghost use Rattle.far_replay.specs.Answers.{AnsweredBy, FlawedAtMost, opened, flaws, is_true, lie_of, Outside, MayMakeHeap, WritesOutput, WritesAnswer, LeavesBehind, Leaves, end_of};
 ghost use Rattle.far_text.specs.declared.text.TheConstants.{LONGEST_TEXT};
 ghost use Rattle.far_text.specs.Grammar.{trace_of};
 ghost use Rattle.far_text.specs.Command.{Heap};
@@ -141,8 +141,7 @@ fn answer_opening<W: Write>(writer: &mut W, replies: &mut ReplyWriter, device: O
     }
 }
 
-// Makes the commands after the heap, and writes their replies. Once a write has failed it makes them without writing. Where
-// one wants memory and is refused it, no other is made, and replies that wait aren't written.
+// Makes the commands after the heap, and writes their replies. Once a write has failed it makes them without writing.
 fn answer_commands<W: Write>(
     writer: &mut W,
     replies: &mut ReplyWriter,
@@ -150,28 +149,23 @@ fn answer_commands<W: Write>(
     scratch: &mut Scratch,
     device: Option<Device>,
     commands: &Commands,
-) -> Result<(), RunFault>
+) -> Result<(), WriteFault>
     requires between { Between (state_in evac) }
     requires round { MomentLaw (moment_in evac) }
     requires alone { evac.copying ≡ false }
     requires strays { NoneStrays (moment_in evac) }
     requires few { may_spoil (lie_of (option_map as_device device)) evac (flaws (option_map as_device device)) }
     ensures { (outside : List Outside) × (replies : List Answer) × (moments : List Moment) × FlawedAtMost (lie_of (option_map as_device device)) (flaws (option_map as_device device)) outside × AnsweredBy outside (moment_in evac) commands.now replies moments
-        × Leads (W.contents writer.old) (W.contents writer.new) result (flat_map reply_text (opened (option_map as_device device) ++ replies)) }
+        × Writes (W.contents writer.old) (W.contents writer.new) result (flat_map reply_text (opened (option_map as_device device) ++ replies)) }
 {
     let mut evac = evac;
     answer_opening(writer, replies, device);
     for at in 0..commands.len() {
         let command = commands.at(at);
-        let Ok(outcome) = turn(&mut evac, scratch, &command) else {
-            return Err(RunFault::Memory);
-        };
+        let outcome = turn(&mut evac, scratch, &command);
         answer_one(writer, replies, scratch, outcome);
     }
-    match replies.finish(writer) {
-        Ok(()) => Ok(()),
-        Err(_) => Err(RunFault::Write),
-    }
+    replies.finish(writer)
 }
 
 // The far side of a heap, with the flaw that its device is said to have, if any.
@@ -238,10 +232,8 @@ fn answer_heap<W: Write>(
     match new_heap(alloc, shape, device) {
         Ok(evac) => {
             let mut scratch = Scratch::new();
-            match answer_commands(writer, replies, evac, &mut scratch, device, commands) {
-                Ok(()) => Ok(End::Ran),
-                Err(fault) => Err(fault),
-            }
+            answer_commands(writer, replies, evac, &mut scratch, device, commands)?;
+            Ok(End::Ran)
         }
         Err(Refused::Memory) => {
             let _ = refuse(writer, replies, Refused::Memory);
@@ -311,12 +303,12 @@ fn answer_text<W: Write>(
 
 /// Reads a text, runs its commands, and writes their replies.
 ///
-/// All memory but the heap's, and that of the device where objects go far, is taken before the first command is made. A text that is off the grammar,
-/// or whose heap's shape is out of range, is answered by that one refusal, and nothing else is run.
+/// All memory but the heap's, and that of the device where objects go far or come back, is taken before the first command is made. A text that is off the
+/// grammar, or whose heap's shape is out of range, is answered by that one refusal, and nothing else is run. A command that is refused memory in its midst is answered so,
+/// and the run goes on.
 ///
-/// Faults: [`RunFault::Read`] where the reader fails, any error of it; [`RunFault::Memory`] where memory is refused: then
-/// nothing was written, but `refused 1` where it was the heap's, or a prefix of the output where it was the device's;
-/// [`RunFault::Write`] where the writer fails or takes nothing: what was written is a proper prefix of the output.
+/// Faults: [`RunFault::Read`] where the reader fails, any error of it; [`RunFault::Memory`] where memory is refused before the first command: then
+/// nothing was written, but `refused 1` where it was the heap's; [`RunFault::Write`] where the writer fails or takes nothing: what was written is a proper prefix of the output.
 pub fn run<R: Read, W: Write>(
     alloc: Global,
     reader: &mut R,

@@ -16,9 +16,8 @@ ghost use Rattle.hex.specs.Hex.{IsBytes};
 ghost use Rattle.far_text.specs.Written.{WritesBytes};
 ghost use Rattle.far_replay.specs.EventRows.{after_events};
 ghost use Rattle.far_text.specs.Command.{Mutator, Book, New, Open, Write, Read, Close, Where, Drop, View, Try, Logs, Log, Audit};
-ghost use Rattle.far_reply.specs.Reply.{Data, Refused as Refusal};
+ghost use Rattle.far_reply.specs.Reply.{Data};
 ghost use Rattle.far_replay.specs.Spent.{Makes};
-ghost use Rattle.far_word.specs.declared.refused.Refused.TheVariants.{Memory};
 ghost use Rattle.far_replay.specs.Outcome.{reply_by, IsInScratch};
 ghost use Rattle.far_replay.specs.Between.{Between};
 ghost use Rattle.far_replay.specs.Events.{events_for, first_word, store_events, words_touched, starts_inside, ends_inside};
@@ -39,7 +38,6 @@ use far_core::Event;
 use far_evac::Evac;
 use far_text::{Command, Inquiry, Request};
 use far_word::{LOG_WORDS, LONGEST, Refused, pack_bytes, pointer_len, unpack_bytes};
-use std::alloc::AllocError;
 
 /// Some bytes of an object that its owner may reach: the numbers of the owner and the pointer, and the range.
 #[derive(Clone, Copy)]
@@ -155,20 +153,15 @@ fn read_viewed(evac: &Evac<Plain, FarSide>, scratch: &mut Scratch, access: Acces
     }
 }
 
-// Reads a range of bytes. `Err` where the object is far, and the device fails or gives too few bytes, or they are refused memory.
-fn read(
-    evac: &mut Evac<Plain, FarSide>,
-    scratch: &mut Scratch,
-    access: Access,
-) -> Result<Outcome, Refused>
+// Reads a range of bytes.
+fn read(evac: &mut Evac<Plain, FarSide>, scratch: &mut Scratch, access: Access) -> Outcome
     requires access { IsAccess (state_in evac.old) access.owner access.pointer access.from access.count access }
-    ensures made { IfOk result (λ outcome. Makes evac.old (Mutator access.owner (Read access.pointer access.from access.count)) (reply_by scratch.new outcome) evac.new) }
-    ensures fits { IfOk result (λ outcome. IsInScratch outcome) }
-    ensures stopped { IfErr result (λ why. why ≢ Memory → Makes evac.old (Mutator access.owner (Read access.pointer access.from access.count)) (Refusal why) evac.new) }
+    ensures made { Makes evac.old (Mutator access.owner (Read access.pointer access.from access.count)) (reply_by scratch.new result) evac.new }
+    ensures fits { IsInScratch result }
 {
     match dereference(evac, access.owner, access.pointer) {
-        Ok(()) => Ok(read_viewed(evac, scratch, access)),
-        Err(why) => Outcome::refused(why),
+        Ok(()) => read_viewed(evac, scratch, access),
+        Err(why) => Outcome::Refused(why),
     }
 }
 
@@ -274,26 +267,25 @@ fn write_viewed(
     store_front(evac, access, &scratch.words);
 }
 
-// Writes bytes over a range. `Err` where the object is far, and the device fails or gives too few bytes, or they are refused memory.
+// Writes bytes over a range.
 fn write(
     evac: &mut Evac<Plain, FarSide>,
     scratch: &mut Scratch,
     access: Access,
     bytes: &[u8],
-) -> Result<Outcome, Refused>
+) -> Outcome
     requires access { IsAccess (state_in evac.old) access.owner access.pointer access.from access.count access }
     requires bytes { length bytes.now ≡ access.count }
     requires small { IsBytes bytes.now }
-    ensures made { IfOk result (λ outcome. Makes evac.old (Mutator access.owner (Write access.pointer access.from bytes.now)) (reply_by scratch.new outcome) evac.new) }
-    ensures fits { IfOk result (λ outcome. IsInScratch outcome) }
-    ensures stopped { IfErr result (λ why. why ≢ Memory → Makes evac.old (Mutator access.owner (Write access.pointer access.from bytes.now)) (Refusal why) evac.new) }
+    ensures made { Makes evac.old (Mutator access.owner (Write access.pointer access.from bytes.now)) (reply_by scratch.new result) evac.new }
+    ensures fits { IsInScratch result }
 {
     match dereference(evac, access.owner, access.pointer) {
         Ok(()) => {
             write_viewed(evac, scratch, access, bytes);
-            Ok(Outcome::Done)
+            Outcome::Done
         }
-        Err(why) => Outcome::refused(why),
+        Err(why) => Outcome::Refused(why),
     }
 }
 
@@ -385,16 +377,15 @@ fn read_range(
     pointer: u64,
     from: u64,
     len: u64,
-) -> Result<Outcome, Refused>
+) -> Outcome
     requires known { owner < (state_in evac.old).mutators }
     requires law { Law (state_in evac.old) }
-    ensures made { IfOk result (λ outcome. Makes evac.old (Mutator owner (Read pointer from len)) (reply_by scratch.new outcome) evac.new) }
-    ensures fits { IfOk result (λ outcome. IsInScratch outcome) }
-    ensures stopped { IfErr result (λ why. why ≢ Memory → Makes evac.old (Mutator owner (Read pointer from len)) (Refusal why) evac.new) }
+    ensures made { Makes evac.old (Mutator owner (Read pointer from len)) (reply_by scratch.new result) evac.new }
+    ensures fits { IsInScratch result }
 {
     match reach(evac, owner, pointer, from, len) {
         Ok(access) => read(evac, scratch, access),
-        Err(why) => Ok(Outcome::Refused(why)),
+        Err(why) => Outcome::Refused(why),
     }
 }
 
@@ -406,39 +397,36 @@ fn write_range(
     pointer: u64,
     from: u64,
     bytes: &[u8],
-) -> Result<Outcome, Refused>
+) -> Outcome
     requires known { owner < (state_in evac.old).mutators }
     requires law { Law (state_in evac.old) }
     requires small { IsBytes bytes.now }
-    ensures made { IfOk result (λ outcome. Makes evac.old (Mutator owner (Write pointer from bytes.now)) (reply_by scratch.new outcome) evac.new) }
-    ensures fits { IfOk result (λ outcome. IsInScratch outcome) }
-    ensures stopped { IfErr result (λ why. why ≢ Memory → Makes evac.old (Mutator owner (Write pointer from bytes.now)) (Refusal why) evac.new) }
+    ensures made { Makes evac.old (Mutator owner (Write pointer from bytes.now)) (reply_by scratch.new result) evac.new }
+    ensures fits { IsInScratch result }
 {
     match reach(evac, owner, pointer, from, bytes.len() as u64) {
         Ok(access) => write(evac, scratch, access, bytes),
-        Err(why) => Ok(Outcome::Refused(why)),
+        Err(why) => Outcome::Refused(why),
     }
 }
 
-// Makes the events of an owner's request, and answers what it comes to. `Err` where an object is far, and the device fails or
-// gives too few bytes, or they are refused memory.
+// Makes the events of an owner's request, and answers what it comes to.
 fn make_request(
     evac: &mut Evac<Plain, FarSide>,
     scratch: &mut Scratch,
     owner: u8,
     request: Request,
-) -> Result<Outcome, Refused>
+) -> Outcome
     requires known { owner < (state_in evac.old).mutators }
     requires between { Between (state_in evac.old) }
     requires law { Law (state_in evac.old) }
     requires small { WritesBytes (Mutator owner (as_request request)) }
-    ensures made { IfOk result (λ outcome. Makes evac.old (Mutator owner (as_request request.entry)) (reply_by scratch.new outcome) evac.new) }
-    ensures fits { IfOk result (λ outcome. IsInScratch outcome) }
-    ensures stopped { IfErr result (λ why. why ≢ Memory → Makes evac.old (Mutator owner (as_request request.entry)) (Refusal why) evac.new) }
+    ensures made { Makes evac.old (Mutator owner (as_request request.entry)) (reply_by scratch.new result) evac.new }
+    ensures fits { IsInScratch result }
 {
     match request {
-        Request::New { len, structure } => Ok(make_object(evac, owner, len, structure)),
-        Request::Open => Ok(open_scope(evac, owner)),
+        Request::New { len, structure } => make_object(evac, owner, len, structure),
+        Request::Open => open_scope(evac, owner),
         Request::Write {
             pointer,
             from,
@@ -447,80 +435,39 @@ fn make_request(
         Request::Read { pointer, from, len } => {
             read_range(evac, scratch, owner, pointer, from, len)
         }
-        Request::Close => Ok(close_scope(evac, owner)),
-        Request::Where { pointer } => Ok(find_object(evac, owner, pointer)),
-        Request::Drop { pointer } => Ok(drop_object(evac, owner, pointer)),
+        Request::Close => close_scope(evac, owner),
+        Request::Where { pointer } => find_object(evac, owner, pointer),
+        Request::Drop { pointer } => drop_object(evac, owner, pointer),
         Request::View { pointer } => view_object(evac, owner, pointer),
-        Request::Try { pointer } => Ok(try_object(evac, owner, pointer)),
-        Request::Epoch => Ok(read_epoch(evac, owner)),
+        Request::Try { pointer } => try_object(evac, owner, pointer),
+        Request::Epoch => read_epoch(evac, owner),
     }
 }
 
-// Makes the events of an owner's request, and answers what it comes to. `Err` where an object is far and its words are
-// refused memory.
-fn request_made(
-    evac: &mut Evac<Plain, FarSide>,
-    scratch: &mut Scratch,
-    owner: u8,
-    request: Request,
-) -> Result<Outcome, AllocError>
-    requires known { owner < (state_in evac.old).mutators }
-    requires between { Between (state_in evac.old) }
-    requires law { Law (state_in evac.old) }
-    requires small { WritesBytes (Mutator owner (as_request request)) }
-    ensures made { IfOk result (λ outcome. Makes evac.old (Mutator owner (as_request request.entry)) (reply_by scratch.new outcome) evac.new) }
-    ensures fits { IfOk result (λ outcome. IsInScratch outcome) }
-{
-    match make_request(evac, scratch, owner, request) {
-        Ok(outcome) => Ok(outcome),
-        Err(why) => Outcome::stopped(why),
-    }
-}
-
-// Makes the events of one command, and answers what it comes to.
-fn make_events(
-    evac: &mut Evac<Plain, FarSide>,
-    scratch: &mut Scratch,
-    command: &Command,
-) -> Result<Outcome, AllocError>
+/// Makes one command, and answers what it comes to, also where memory is refused, or the device fails or lies, in its midst.
+pub fn turn(evac: &mut Evac<Plain, FarSide>, scratch: &mut Scratch, command: &Command) -> Outcome
     requires between { Between (state_in evac.old) }
     requires law { Law (state_in evac.old) }
     requires small { WritesBytes (as_command command.now) }
-    ensures made { IfOk result (λ outcome. Makes evac.old (as_command command.now) (reply_by scratch.new outcome) evac.new) }
-    ensures fits { IfOk result (λ outcome. IsInScratch outcome) }
+    ensures made { Makes evac.old (as_command command.now) (reply_by scratch.new result) evac.new }
+    ensures fits { IsInScratch result }
 {
     match *command {
         Command::Mutator { mutator, request } => {
             let Some(owner) = owner_of(evac, mutator) else {
-                return Ok(Outcome::Refused(Refused::Range));
+                return Outcome::Refused(Refused::Range);
             };
-            request_made(evac, scratch, owner, request)
+            make_request(evac, scratch, owner, request)
         }
         Command::Book(Inquiry::Logs) => {
             tell_logs(evac, &mut scratch.lines);
-            Ok(Outcome::Logs(core_of(evac).logs()))
+            Outcome::Logs(core_of(evac).logs())
         }
-        Command::Book(Inquiry::Log { log }) => Ok(tell_log(evac, scratch, log)),
-        Command::Book(Inquiry::Audit) => Ok(audit(evac)),
-        Command::Evacuator(step) => match make_step(evac, scratch, step) {
-            Ok(()) => Ok(Outcome::Stepped),
-            Err(e) => Err(e),
-        },
+        Command::Book(Inquiry::Log { log }) => tell_log(evac, scratch, log),
+        Command::Book(Inquiry::Audit) => audit(evac),
+        Command::Evacuator(step) => {
+            make_step(evac, scratch, step);
+            Outcome::Stepped
+        }
     }
-}
-
-/// Makes one command, and answers what it comes to, also where the device fails or lies in its midst. `Err` where an object is far
-/// and its words are refused memory: that is no reply, and no command is made after it.
-pub fn turn(
-    evac: &mut Evac<Plain, FarSide>,
-    scratch: &mut Scratch,
-    command: &Command,
-) -> Result<Outcome, AllocError>
-    requires between { Between (state_in evac.old) }
-    requires law { Law (state_in evac.old) }
-    requires small { WritesBytes (as_command command.now) }
-    ensures made { IfOk result (λ outcome. Makes evac.old (as_command command.now) (reply_by scratch.new outcome) evac.new) }
-    ensures fits { IfOk result (λ outcome. IsInScratch outcome) }
-{
-    make_events(evac, scratch, command)
 }

@@ -1,14 +1,12 @@
 //! Objects are viewed, or tried: pinned, and not asked for.
 
-ghost use Rattle.std.specs.Prelude.{◌≡◌, ◌≢◌, ◌<◌, IfErr, IfOk, OnOk};
+ghost use Rattle.std.specs.Prelude.{◌≡◌, ◌<◌};
 ghost use Rattle.far_replay.specs.Spent.{Makes};
 ghost use Rattle.far_replay.specs.declared.outcome.Scratch.{Scratch};
-ghost use Rattle.far_word.specs.declared.refused.Refused.TheVariants.{Memory};
 ghost use Rattle.far_text.specs.Command.{Mutator, Try, View};
 ghost use Rattle.far_replay.specs.Interpreter.{StandsFor};
 ghost use Rattle.far_replay.specs.Moment.{moment_in, state_in};
 ghost use Rattle.far_replay.specs.Outcome.{reply_by, IsInScratch};
-ghost use Rattle.far_reply.specs.Reply.{Refused as Refusal};
 ghost use Rattle.far_replay.specs.Turn.{effect, reply_to};
 
 use crate::dereferencing::{dereference, try_view};
@@ -38,26 +36,20 @@ pub fn try_object(evac: &mut Evac<Plain, FarSide>, owner: u8, pointer: u64) -> O
     }
 }
 
-/// Views an owner's object, whatever marks it has. `Err` where it is far, and the device fails or gives too few
-/// bytes, or they are refused memory.
-pub fn view_object(
-    evac: &mut Evac<Plain, FarSide>,
-    owner: u8,
-    pointer: u64,
-) -> Result<Outcome, Refused>
+/// Views an owner's object, whatever marks it has.
+pub fn view_object(evac: &mut Evac<Plain, FarSide>, owner: u8, pointer: u64) -> Outcome
     requires known { owner < (state_in evac.old).mutators }
-    ensures made { IfOk result (λ outcome. (scratch : Scratch) → Makes evac.old (Mutator owner (View pointer)) (reply_by scratch outcome) evac.new) }
-    ensures fits { IfOk result (λ outcome. IsInScratch outcome) }
-    ensures stopped { IfErr result (λ why. why ≢ Memory → Makes evac.old (Mutator owner (View pointer)) (Refusal why) evac.new) }
+    ensures made { (scratch : Scratch) → Makes evac.old (Mutator owner (View pointer)) (reply_by scratch result) evac.new }
+    ensures fits { IsInScratch result }
 {
     if !core_of(evac).is_open(owner) {
-        return Ok(Outcome::Refused(Refused::Closed));
+        return Outcome::Refused(Refused::Closed);
     }
     let Some(pointer) = own_pointer(evac, owner, pointer) else {
-        return Ok(Outcome::Refused(Refused::NotHeld));
+        return Outcome::Refused(Refused::NotHeld);
     };
     match dereference(evac, owner, pointer) {
-        Ok(()) => Ok(Outcome::Done),
-        Err(why) => Outcome::refused(why),
+        Ok(()) => Outcome::Done,
+        Err(why) => Outcome::Refused(why),
     }
 }

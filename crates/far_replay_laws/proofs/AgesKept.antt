@@ -120,6 +120,7 @@ walked_ages logs order m n h = (walked_kept (λ k w. Stands logs order w.moment)
 keeps_turns : (logs order : List ℕ) → KeepsTurns true (λ m tally. Stands logs order m)
 keeps_turns logs order = record {
   learns = tt;
+  beside = tt;
   marks = λ m n tally lawful is h. cond_both (leaves_some m n) (record m { core = marked_core m n }) (record m { core = advanced (marked_core m n) m.collection; phase = Waiting }) (Stands logs order)
       (λ _. record { ages = h.ages; within = h.within }) (λ _. record { ages = h.ages; within = h.within });
   looks = λ m k phase tally lawful is h. record { ages = h.ages; within = h.within };

@@ -11,12 +11,12 @@ use Rattle.far_core.specs.world.WorldOf.{world_of}
 use Rattle.far_core.proofs.Leaving.{events_leave}
 use Rattle.far_replay.specs.Moment.{Moment, moment_of, as_if_stored}
 use Rattle.far_replay.specs.Alone.{IsIn, Own, Knows, Alone, Learns, own_of, is_by, speaker, KnowsBy}
-use Rattle.far_replay.specs.Answers.{Answered, Commanded, Served, Unbrought, IsMoment, AnsweredBy, CommandedBy, Outside, Serves, Refuses, Gives}
+use Rattle.far_replay.specs.Answers.{Answered, Commanded, Served, Stopped, Unbrought, IsMoment, AnsweredBy, CommandedBy, Outside, Serves, Refuses, Gives, Lacks}
 use Rattle.far_replay.specs.Commanded.{KeepsFar, AsksFor, Misled}
 use Rattle.far_replay.specs.Objects.{object_len}
 use Rattle.far_evac.specs.declared.answers.RoundEnd.TheVariants.{Limit}
 use Rattle.far_evac.specs.declared.phase.Phase.TheVariants.{Evacuating}
-use Rattle.far_word.specs.declared.refused.Refused.TheVariants.{Marked}
+use Rattle.far_word.specs.declared.refused.Refused.TheVariants.{Marked, Memory}
 use Rattle.far_replay.proofs.AloneStates.{own_used}
 use Rattle.far_replay.proofs.Outcomes.{by_outcome, by_lie, by_stop}
 use Rattle.far_replay.proofs.Turns.{access_fact}
@@ -130,13 +130,13 @@ known s m c r t h = known_by (is_by m (speaker c)) s.honest m (own_of (world_of 
 
 -- one that the device refuses tells what a try would, and that nothing else refuses it
 known_write : (k : ℕ) (o q : Own) (p from : ℕ) (new all : List ℕ) (why : Refusal) → KeepsFar why → o.opened ≡ true → o.viewed p ≡ false → q ≡ o → o.object p ≡ Some all → IsIn all from (length new) → Knows k o (Mutator k (Write p from new)) (Refused why) q
-known_write k o q p from new all why h opened free same is inside = of_far (λ x. Knows k o (Mutator k (Write p from new)) (Refused x) q) why h (opened, free, same, (all, is, inside)) (opened, free, same, (all, is, inside))
+known_write k o q p from new all why h opened free same is inside = of_far (λ x. Knows k o (Mutator k (Write p from new)) (Refused x) q) why h (opened, free, same, (all, is, inside)) (opened, free, same, (all, is, inside)) (opened, free, same, (all, is, inside))
 
 known_read : (k : ℕ) (o q : Own) (p from len : ℕ) (all : List ℕ) (why : Refusal) → KeepsFar why → o.opened ≡ true → o.viewed p ≡ false → q ≡ o → o.object p ≡ Some all → IsIn all from len → Knows k o (Mutator k (Read p from len)) (Refused why) q
-known_read k o q p from len all why h opened free same is inside = of_far (λ x. Knows k o (Mutator k (Read p from len)) (Refused x) q) why h (opened, free, same, (all, is, inside)) (opened, free, same, (all, is, inside))
+known_read k o q p from len all why h opened free same is inside = of_far (λ x. Knows k o (Mutator k (Read p from len)) (Refused x) q) why h (opened, free, same, (all, is, inside)) (opened, free, same, (all, is, inside)) (opened, free, same, (all, is, inside))
 
 known_view : (k : ℕ) (o q : Own) (p : ℕ) (all : List ℕ) (why : Refusal) → KeepsFar why → o.opened ≡ true → o.viewed p ≡ false → q ≡ o → o.object p ≡ Some all → Knows k o (Mutator k (View p)) (Refused why) q
-known_view k o q p all why h opened free same is = of_far (λ x. Knows k o (Mutator k (View p)) (Refused x) q) why h (opened, free, same, (all, is)) (opened, free, same, (all, is))
+known_view k o q p all why h opened free same is = of_far (λ x. Knows k o (Mutator k (View p)) (Refused x) q) why h (opened, free, same, (all, is)) (opened, free, same, (all, is)) (opened, free, same, (all, is))
 
 try_teaches : (why : Refusal) (now : Moment) (c : Command) (k p : ℕ) (r : Reply) (next : Moment) → Lasts now → Unbrought why now c k p r next → Teaches now.core k (Mutator k (Try p)) (Refused (Marked (now.core.cell p))) next.core
 try_teaches why now c k p r next lasts h =
@@ -223,26 +223,33 @@ module _ (row : ℕ → ℕ) (now : Moment) (k : ℕ) (r : Reply) (next : Moment
 abbrev pub GivesNone : Outside → Type 0
 GivesNone Serves = Unit {0}
 GivesNone (Refuses why turns objects) = Unit {0}
+GivesNone (Lacks turns objects) = Unit {0}
 GivesNone (Gives row) = ⊥
+
+module _ (why : Refusal) (turns objects : ℕ) (now : Moment) (m : ℕ) (r : Reply) (next : Moment) (lasts : Lasts now) (within : m < now.core.mutators) where
+  stopped_taught : (c : Command) → WritesBytes c → Stopped why turns objects now c r next → Taught now.core m c r next.core
+  stopped_taught c small h = by_stop why turns objects now r next (λ d. WritesBytes d → Taught now.core m d r next.core)
+      (λ k p from new h _. at_speaker now.core k m (Mutator k (Write p from new)) r next.core (nat_eq k m) refl within (write_teaches why now k p from new r next lasts h))
+      (λ k p from len h _. at_speaker now.core k m (Mutator k (Read p from len)) r next.core (nat_eq k m) refl within (read_teaches why now k p from len r next lasts h))
+      (λ k p h _. at_speaker now.core k m (Mutator k (View p)) r next.core (nat_eq k m) refl within (view_teaches why now k p r next lasts h))
+      (λ count h _. served_taught now m (Evacuator (Evacuate objects)) (Evacuated h.progress) next lasts within tt h.left)
+      (λ policy most count h small.
+      let later = after_step now (Round policy most turns) (Ended (Limit Evacuating)) h.stood lasts h.turned in
+      let same = served_mutators now (Evacuator (Round policy most turns)) (Ended (Limit Evacuating)) h.stood lasts small h.turned in
+      served_taught h.stood m (Evacuator (Evacuate objects)) (Evacuated h.progress) next later (subst (λ n. m < n) (sym same) within) tt h.left
+      ∙ served_taught now m (Evacuator (Round policy most turns)) (Ended (Limit Evacuating)) h.stood lasts within small h.turned)
+      c h small
 
 taught_by : (o : Outside) → GivesNone o → (now : Moment) (m : ℕ) (c : Command) (r : Reply) (next : Moment) → Lasts now → m < now.core.mutators → WritesBytes c → CommandedBy o now c r next → Taught now.core m c r next.core
 taught_by Serves none now m c r next lasts within small h = served_taught now m c r next lasts within small h
-taught_by (Refuses why turns objects) none now m c r next lasts within small h = by_stop why turns objects now r next (λ d. WritesBytes d → Taught now.core m d r next.core)
-    (λ k p from new h _. at_speaker now.core k m (Mutator k (Write p from new)) r next.core (nat_eq k m) refl within (write_teaches why now k p from new r next lasts h))
-    (λ k p from len h _. at_speaker now.core k m (Mutator k (Read p from len)) r next.core (nat_eq k m) refl within (read_teaches why now k p from len r next lasts h))
-    (λ k p h _. at_speaker now.core k m (Mutator k (View p)) r next.core (nat_eq k m) refl within (view_teaches why now k p r next lasts h))
-    (λ count h _. served_taught now m (Evacuator (Evacuate objects)) (Evacuated h.progress) next lasts within tt h.left)
-    (λ policy most count h small.
-    let later = after_step now (Round policy most turns) (Ended (Limit Evacuating)) h.stood lasts h.turned in
-    let same = served_mutators now (Evacuator (Round policy most turns)) (Ended (Limit Evacuating)) h.stood lasts small h.turned in
-    served_taught h.stood m (Evacuator (Evacuate objects)) (Evacuated h.progress) next later (subst (λ n. m < n) (sym same) within) tt h.left
-    ∙ served_taught now m (Evacuator (Round policy most turns)) (Ended (Limit Evacuating)) h.stood lasts within small h.turned)
-    c h small
+taught_by (Refuses why turns objects) none now m c r next lasts within small h = stopped_taught why turns objects now m r next lasts within c small h
+taught_by (Lacks turns objects) none now m c r next lasts within small h = stopped_taught Memory turns objects now m r next lasts within c small h
 taught_by (Gives row) none now m c r next lasts within small h = absurd none
 
 each_learns : (now : Moment) (m : ℕ) (c : Command) (r : Reply) (next : Moment) → Lasts now → m < now.core.mutators → WritesBytes c → Commanded now c r next → Learns now.core m c r next.core
 each_learns now m c r next lasts within small (Serves, h) = known now.core m c r next.core (taught_by Serves tt now m c r next lasts within small h)
 each_learns now m c r next lasts within small (Refuses why turns objects, h) = known now.core m c r next.core (taught_by (Refuses why turns objects) tt now m c r next lasts within small h)
+each_learns now m c r next lasts within small (Lacks turns objects, h) = known now.core m c r next.core (taught_by (Lacks turns objects) tt now m c r next lasts within small h)
 each_learns now m c r next lasts within small (Gives row, h) =
     by_lie row now r next (λ d. WritesBytes d → Learns now.core m d r next.core) (λ k p d asks h small. given_learns row now m r next k p lasts within d asks small h) c h small
 
@@ -272,6 +279,7 @@ alone now _ _ _ m lasts within small h = absurd h
 none_given : (o : Outside) (os : List Outside) → lies (o ∷ os) ≤ 0 → GivesNone o × (lies os ≤ 0)
 none_given Serves os none = (tt, none)
 none_given (Refuses why turns objects) os none = (tt, none)
+none_given (Lacks turns objects) os none = (tt, none)
 none_given (Gives row) os none = absurd (omega (arith, none))
 
 pub alone_as_stored : (os : List Outside) (now : Moment) (cs : List Command) (rs : List Reply) (moments : List Moment) (m : ℕ) → lies os ≤ 0 → Lasts now → m < now.core.mutators → AllWriteBytes cs → AnsweredBy os now cs rs moments →

@@ -1,24 +1,27 @@
--- A text has one output; and what the outside makes of its commands decides their replies.
-use Rattle.std.proofs.Common.{◌≡◌, ℕ, Bool, true, false, sym, ◌∙◌, ap, refl, subst, Result, Ok, List, [], ◌∷◌, ◌++◌, Option}
+-- A text has one output in which no reply says that memory was refused; and what the outside makes of its commands decides their replies.
+use Rattle.std.proofs.Common.{◌≡◌, ℕ, Bool, true, false, sym, ◌∙◌, ap, refl, subst, Result, Ok, Err, List, map, [], ◌∷◌, ◌++◌, Option}
 use Rattle.std.specs.Bool.{MatchBool}
+use Rattle.std.proofs.lemmas.Bool.{false≢true}
 use Rattle.std.specs.List.{flat_map}
 use Rattle.far_word.specs.declared.refused.Refused.{Refused as Refusal}
-use Rattle.far_word.specs.declared.refused.Refused.TheVariants.{Shape}
+use Rattle.far_word.specs.declared.refused.Refused.TheVariants.{Memory, Shape}
 use Rattle.far_core.specs.state.Shape.{is_shape}
 use Rattle.far_evac.specs.declared.answers.Progress.{Progress}
 use Rattle.far_evac.specs.Choosing.{after_selecting}
 use Rattle.far_evac.specs.Moment.{Tally, plus, progress_of, tally_of}
 use Rattle.far_evac.specs.Turns.{turns_made}
 use Rattle.far_device.specs.declared.liar.Lie.{Lie}
-use Rattle.far_replay.specs.Answers.{AnsweredBy, FlawedAtMost, opened, flaws, is_true, lie_of, CommandedBy, Outside, Serves, Refuses, Gives, Served, Stopped, Unbrought, StopsLeaving, StopsRound, Misled, MisledBy, IsOutput, shape_of, first_moment}
+use Rattle.far_replay.specs.Answers.{AnsweredBy, FlawedAtMost, opened, flaws, is_true, lie_of, CommandedBy, Outside, Serves, Refuses, Gives, Lacks, Served, Stopped, Unbrought, StopsLeaving, StopsRound, Misled, MisledBy, shape_of, first_moment}
 use Rattle.far_replay.specs.Rounds.{chosen_by, rows_in}
 use Rattle.far_replay.proofs.AsIfStored.{stored_again}
 use Rattle.far_replay.proofs.Outcomes.{by_lie, by_stop}
-use Rattle.far_replay_laws.specs.Headline.{HasNoFlaw, OneOutput, OutsideDecides, OutsideDecidesOutput}
-use Rattle.far_text.specs.Command.{Command, Device, Trace, Heap, Mutator, Evacuator, Write, Read, View, Evacuate, Policy}
+use Rattle.far_replay_laws.specs.Headline.{HasNoFlaw, IsAmple, OneOutput, OutsideDecides, OutsideDecidesOutput}
+use Rattle.far_text.specs.Command.{Command, Device, Trace, Nothing, Heap, Mutator, Evacuator, Write, Read, View, Evacuate, Policy}
 use Rattle.far_text.specs.Grammar.{trace_of}
 use Rattle.far_replay.specs.Moment.{Moment, as_if_stored}
 use Rattle.far_reply.specs.Reply.{Reply, Evacuated, Halted, Refused, reply_text}
+use Rattle.far_replay_laws.specs.FromOutside.{NoneLacks}
+use Rattle.far_replay_laws.proofs.Failures.{says_so, stopped_says}
 use Rattle.far_replay_laws.proofs.Misleading.{asked_so}
 use Rattle.far_replay_laws.proofs.Stops.{same_progress}
 
@@ -50,15 +53,19 @@ given_once row s c p r q t u h k =
     let words : ℕ → ℕ = s.core.stored p in
     (one.0, stored_again t p row words (sym h.kept) ∙ ap (λ (x : Moment). as_if_stored x p words) one.1 ∙ sym (stored_again u p row words (sym k.kept)))
 
-one_outcome : (o : Outside) (s : Moment) (c : Command) (r q : Reply) (t u : Moment) → CommandedBy o s c r t → CommandedBy o s c q u → (r ≡ q) × (t ≡ u)
-one_outcome Serves s c r q t u h k = one_reply s c r q t u h k
-one_outcome (Refuses why turns objects) s c r q t u h k =
+stopped_once : (why : Refusal) (turns objects : ℕ) (s : Moment) (c : Command) (r q : Reply) (t u : Moment) → Stopped why turns objects s c r t → Stopped why turns objects s c q u → (r ≡ q) × (t ≡ u)
+stopped_once why turns objects s c r q t u h k =
     by_stop why turns objects s r t (λ d. Stopped why turns objects s d q u → (r ≡ q) × (t ≡ u))
     (λ m p from bytes h k. tried_once why s (Mutator m (Write p from bytes)) m p r q t u h k)
     (λ m p from len h k. tried_once why s (Mutator m (Read p from len)) m p r q t u h k)
     (λ m p h k. tried_once why s (Mutator m (View p)) m p r q t u h k)
     (λ count h k. left_once why objects s count r q t u h k)
     (λ policy most count h k. round_once why turns objects s policy most count r q t u h k) c h k
+
+one_outcome : (o : Outside) (s : Moment) (c : Command) (r q : Reply) (t u : Moment) → CommandedBy o s c r t → CommandedBy o s c q u → (r ≡ q) × (t ≡ u)
+one_outcome Serves s c r q t u h k = one_reply s c r q t u h k
+one_outcome (Refuses why turns objects) s c r q t u h k = stopped_once why turns objects s c r q t u h k
+one_outcome (Lacks turns objects) s c r q t u h k = stopped_once Memory turns objects s c r q t u h k
 one_outcome (Gives row) s c r q t u h k =
     by_lie row s r t (λ d. MisledBy row s d q u → (r ≡ q) × (t ≡ u)) (λ m p d asks h k. given_once row s d p r q t u h (asked_so row s q u m p d asks k)) c h k
 
@@ -75,35 +82,30 @@ answers_are_one (o ∷ os) s (c ∷ cs) (r ∷ rs) (q ∷ qs) (t ∷ ts) (u ∷ 
     (λ i. one.0 i ∷ rest.0 i, λ i. one.1 i ∷ rest.1 i)
 answers_are_one _ s _ _ qs _ us h k = absurd h
 
--- where no call of the device has a flaw, the outside made the same of as many commands
-served_same : (lie : Lie) (os ws : List Outside) (s : Moment) (cs : List Command) (rs qs : List Reply) (ts us : List Moment) → FlawedAtMost lie 0 os → FlawedAtMost lie 0 ws → AnsweredBy os s cs rs ts → AnsweredBy ws s cs qs us → ws ≡ os
-served_same lie [] [] s cs rs qs ts us a b h k = refl
-served_same lie [] (w ∷ ws) s [] rs qs ts us a b h k = absurd k
-served_same lie (o ∷ os) [] s (c ∷ cs) rs qs ts us a b h k = absurd k
-served_same lie (Refuses why turns objects ∷ os) (w ∷ ws) s cs rs qs ts us a b h k = absurd a
-served_same lie (Gives row ∷ os) (w ∷ ws) s cs rs qs ts us a b h k = absurd a
-served_same lie (Serves ∷ os) (Refuses why turns objects ∷ ws) s cs rs qs ts us a b h k = absurd b
-served_same lie (Serves ∷ os) (Gives row ∷ ws) s cs rs qs ts us a b h k = absurd b
-served_same lie (Serves ∷ os) (Serves ∷ ws) s (c ∷ cs) (r ∷ rs) [] ts us a b h k = absurd k
-served_same lie (Serves ∷ os) (Serves ∷ ws) s (c ∷ cs) (r ∷ rs) (q ∷ qs) (t ∷ ts) [] a b h k = absurd k
-served_same lie (Serves ∷ os) (Serves ∷ ws) s (c ∷ cs) (r ∷ rs) (q ∷ qs) (t ∷ ts) (u ∷ us) a b h k =
-    let one = one_reply s c r q t u h.0 k.0 in
-    ap (λ xs. Serves ∷ xs) (served_same lie os ws t cs rs qs ts us a b h.1 (subst (λ x. AnsweredBy ws x cs qs us) (sym one.1) k.1))
-served_same lie _ _ s _ _ _ _ us a b h k = absurd h
+-- where no call of the device has a flaw, and no reply says that memory was refused, each command was served
+all_served : (lie : Lie) (os : List Outside) (s : Moment) (cs : List Command) (rs : List Reply) (ts : List Moment) → FlawedAtMost lie 0 os → NoneLacks rs → AnsweredBy os s cs rs ts → os ≡ map (λ (c : Command). Serves) cs
+all_served lie [] s [] [] [] few none h = refl
+all_served lie (Serves ∷ os) s (c ∷ cs) (r ∷ rs) (t ∷ ts) few none h = ap (λ xs. Serves ∷ xs) (all_served lie os t cs rs ts few none.1 h.1)
+all_served lie (Lacks turns objects ∷ os) s (c ∷ cs) (r ∷ rs) (t ∷ ts) few none h = absurd (false≢true (sym none.0 ∙ says_so r (stopped_says Memory turns objects s c r t h.0)))
+all_served lie (Refuses why turns objects ∷ os) s cs rs ts few none h = absurd few
+all_served lie (Gives row ∷ os) s cs rs ts few none h = absurd few
+all_served lie _ s _ _ _ few none h = absurd h
 
 -- what is written for a shape, with a heap or refused
 heap_once : (s : Moment) (device : Option Device) (cs : List Command) (b : Bool) (x y : List ℕ) → flaws device ≡ 0 →
-    MatchBool b ((os : List Outside) × (rs : List Reply) × (ts : List Moment) × FlawedAtMost (lie_of device) (flaws device) os × AnsweredBy os s cs rs ts × (x ≡ flat_map reply_text (opened device ++ rs))) (x ≡ reply_text (Refused Shape)) →
-    MatchBool b ((os : List Outside) × (rs : List Reply) × (ts : List Moment) × FlawedAtMost (lie_of device) (flaws device) os × AnsweredBy os s cs rs ts × (y ≡ flat_map reply_text (opened device ++ rs))) (y ≡ reply_text (Refused Shape)) → x ≡ y
-heap_once s device cs true x y never (os, rs, ts, a, h, e) (ws, qs, us, b, k, f) =
-    let same : ws ≡ os = served_same (lie_of device) os ws s cs rs qs ts us (subst (λ n. FlawedAtMost (lie_of device) n os) never a) (subst (λ n. FlawedAtMost (lie_of device) n ws) never b) h k in
+    MatchBool b ((os : List Outside) × (rs : List Reply) × (ts : List Moment) × FlawedAtMost (lie_of device) (flaws device) os × AnsweredBy os s cs rs ts × (x ≡ flat_map reply_text (opened device ++ rs)) × NoneLacks rs) (x ≡ reply_text (Refused Shape)) →
+    MatchBool b ((os : List Outside) × (rs : List Reply) × (ts : List Moment) × FlawedAtMost (lie_of device) (flaws device) os × AnsweredBy os s cs rs ts × (y ≡ flat_map reply_text (opened device ++ rs)) × NoneLacks rs) (y ≡ reply_text (Refused Shape)) → x ≡ y
+heap_once s device cs true x y never (os, rs, ts, a, h, e, m) (ws, qs, us, b, k, f, n) =
+    let same : ws ≡ os =
+    all_served (lie_of device) ws s cs qs us (subst (λ n. FlawedAtMost (lie_of device) n ws) never b) n k ∙ sym (all_served (lie_of device) os s cs rs ts (subst (λ n. FlawedAtMost (lie_of device) n os) never a) m h) in
     e ∙ ap (λ l. flat_map reply_text (opened device ++ l)) (answers_are_one os s cs rs qs ts us h (subst (λ xs. AnsweredBy xs s cs qs us) same k)).0 ∙ sym f
 heap_once s device cs false x y never e f = e ∙ sym f
 
 -- what is written for what was read
-output_once : (read : Result Trace ℕ) (x y : List ℕ) → HasNoFlaw read → IsOutput read x → IsOutput read y → x ≡ y
+output_once : (read : Result Trace ℕ) (x y : List ℕ) → HasNoFlaw read → IsAmple read x → IsAmple read y → x ≡ y
 output_once (Ok (Heap logs mutators epoch device cs)) x y never h k = heap_once (first_moment logs mutators epoch (is_true device)) device cs (is_shape (shape_of logs mutators epoch)) x y never h k
-output_once _ x y never h k = h ∙ sym k
+output_once (Ok Nothing) x y never h k = h ∙ sym k
+output_once (Err line) x y never h k = h ∙ sym k
 
 -- two outputs of one text are equal
 pub answers_once : OneOutput

@@ -4,7 +4,7 @@ use Rattle.std.specs.Prelude.{◌⊎◌}
 use Rattle.std.specs.Bool.{MatchBool}
 use Rattle.std.specs.List.{flat_map}
 use Rattle.far_word.specs.declared.refused.Refused.{Refused as Refusal}
-use Rattle.far_word.specs.declared.refused.Refused.TheVariants.{Damaged, Device as Failed, Shape}
+use Rattle.far_word.specs.declared.refused.Refused.TheVariants.{Damaged, Device as Failed, Memory, Shape}
 use Rattle.far_core.specs.state.Shape.{is_shape}
 use Rattle.far_book.specs.declared.home.Home.{Home}
 use Rattle.far_word.specs.Pointer.{read_of}
@@ -13,19 +13,19 @@ use Rattle.far_device.specs.declared.liar.Lie.{Lie}
 use Rattle.far_device.specs.declared.liar.Lie.TheVariants.{Never, Short as Shortens, Flip as Inverts}
 use Rattle.far_evac.specs.declared.answers.Progress.{Progress}
 use Rattle.far_text.specs.Command.{Command, Device, Flawed, Fail, Short, Flip, Trace, New, Where, Logs, Mutator, Book, Evacuator, Select}
-use Rattle.far_replay.specs.Answers.{AnsweredBy, FlawedAtMost, IsOutput, Outside, Serves, Refuses, Gives, Served, Stopped, MisledBy, first_moment, flaws, is_true, lie_of, opened, shape_of}
+use Rattle.far_replay.specs.Answers.{AnsweredBy, FlawedAtMost, IsOutput, Outside, Serves, Refuses, Gives, Lacks, Served, Stopped, MisledBy, first_moment, flaws, is_true, lie_of, opened, shape_of}
 use Rattle.far_replay.specs.Commanded.{KeepsFar}
 use Rattle.far_replay.specs.Moment.{Moment, as_if_stored}
 use Rattle.far_replay.specs.Objects.{lowest_cell}
 use Rattle.far_reply.specs.Reply.{Reply, Refused, Halted, reply_text}
 use Rattle.far_replay.specs.Turn.{home_reply, pointer_reply, refusal, turn_reply, unless}
 use Rattle.far_replay.proofs.Outcomes.{by_lie, by_stop}
-use Rattle.far_replay_laws.specs.FromOutside.{FailsAsSaid, FlawsAreSaid, LiesAsSaid, damages, failures, lies, one_if, says_damaged, says_failed}
+use Rattle.far_replay_laws.specs.FromOutside.{FailsAsSaid, FlawsAreSaid, LiesAsSaid, damages, failures, lies, one_if, says_damaged, says_failed, says_lacking}
 use Rattle.far_replay_laws.proofs.FarRefusals.{served_never}
 
--- ---- a reply that says neither
-abbrev Silent : Reply → Type 0
-Silent r = (says_failed r ≡ false) × (says_damaged r ≡ false)
+-- ---- a reply that says none of it
+abbrev pub Silent : Reply → Type 0
+Silent r = (says_failed r ≡ false) × (says_damaged r ≡ false) × (says_lacking r ≡ false)
 
 -- ---- a command that is served
 pointer_unhalted : (o : Option ℕ) (why : Refusal) (progress : Progress) → pointer_reply o ≢ Halted why progress
@@ -50,26 +50,29 @@ unless_unhalted (Some cause) r why progress other e = cc
 refused_silent : (why : Refusal) → ¬ KeepsFar why → Silent (Refused why)
 refused_silent Failed other = absurd (other tt)
 refused_silent Damaged other = absurd (other tt)
-refused_silent why other = (refl, refl)
+refused_silent Memory other = absurd (other tt)
+refused_silent why other = (refl, refl, refl)
 
 silent_of : (r : Reply) → ((why : Refusal) → r ≡ Refused why → ¬ KeepsFar why) → ((why : Refusal) (progress : Progress) → r ≢ Halted why progress) → Silent r
 silent_of (Refused why) refused halted = refused_silent why (refused why refl)
 silent_of (Halted why progress) refused halted = absurd (halted why progress refl)
-silent_of _ refused halted = (refl, refl)
+silent_of _ refused halted = (refl, refl, refl)
 
-served_silent : (now : Moment) (c : Command) (r : Reply) (next : Moment) → Served now c r next → Silent r
-served_silent now c r next h = silent_of r (λ why e. served_never now c r next why h e)
-    (λ why progress e. unless_unhalted (refusal now c) (turn_reply now c) why progress (turn_unhalted now c why progress) (sym h.reply ∙ e))
+pub served_unhalted : (now : Moment) (c : Command) (r : Reply) (next : Moment) (why : Refusal) (progress : Progress) → Served now c r next → r ≢ Halted why progress
+served_unhalted now c r next why progress h e = unless_unhalted (refusal now c) (turn_reply now c) why progress (turn_unhalted now c why progress) (sym h.reply ∙ e)
+
+pub served_silent : (now : Moment) (c : Command) (r : Reply) (next : Moment) → Served now c r next → Silent r
+served_silent now c r next h = silent_of r (λ why e. served_never now c r next why h e) (λ why progress e. served_unhalted now c r next why progress h e)
 
 -- ---- one that is given other words
 given_silent : (row : ℕ → ℕ) (now : Moment) (c : Command) (r : Reply) (next : Moment) → MisledBy row now c r next → Silent r
 given_silent row now c r next h = by_lie row now r next (λ d. Silent r) (λ m p d asks k. served_silent (as_if_stored now p row) d r (as_if_stored next p row) k.served) c h
 
 -- ---- one that is refused in its midst
-abbrev Says : Refusal → Reply → Type 0
+abbrev pub Says : Refusal → Reply → Type 0
 Says why r = (r ≡ Refused why) ⊎ ((progress : Progress) × (r ≡ Halted why progress))
 
-stopped_says : (why : Refusal) (turns objects : ℕ) (now : Moment) (c : Command) (r : Reply) (next : Moment) → Stopped why turns objects now c r next → Says why r
+pub stopped_says : (why : Refusal) (turns objects : ℕ) (now : Moment) (c : Command) (r : Reply) (next : Moment) → Stopped why turns objects now c r next → Says why r
 stopped_says why turns objects now c r next h = by_stop why turns objects now r next (λ d. Says why r)
     (λ m p from bytes k. inl k.reply) (λ m p from len k. inl k.reply) (λ m p k. inl k.reply)
     (λ count k. inr (k.progress, k.reply)) (λ policy most count k. inr (_, k.reply)) c h
@@ -81,6 +84,14 @@ undamaged why r failed (inr (progress, e)) = ap says_damaged (e ∙ ap (λ w. Ha
 unfailed : (why : Refusal) (r : Reply) → why ≡ Damaged → Says why r → says_failed r ≡ false
 unfailed why r damaged (inl e) = ap says_failed (e ∙ ap Refused damaged)
 unfailed why r damaged (inr (progress, e)) = ap says_failed (e ∙ ap (λ w. Halted w progress) damaged)
+
+lacks_neither : (r : Reply) → Says Memory r → (says_failed r ≡ false) × (says_damaged r ≡ false)
+lacks_neither r (inl e) = (ap says_failed e, ap says_damaged e)
+lacks_neither r (inr (progress, e)) = (ap says_failed e, ap says_damaged e)
+
+pub says_so : (r : Reply) → Says Memory r → says_lacking r ≡ true
+says_so r (inl e) = ap says_lacking e
+says_so r (inr (progress, e)) = ap says_lacking e
 
 -- ---- commands one after the other
 one_less : (b : Bool) → one_if b ≤ 1
@@ -106,11 +117,14 @@ lies_of Inverts n = n
 abbrev AreFew : Lie → ℕ → List Reply → List Outside → Type 0
 AreFew lie n rs os = (failures rs ≤ fails_of lie n) × (damages rs ≤ damages_of lie n) × (lies os ≤ lies_of lie n)
 
-silent_more : (lie : Lie) (n : ℕ) (r : Reply) (rs : List Reply) (os : List Outside) → Silent r → AreFew lie n rs os → AreFew lie n (r ∷ rs) os
-silent_more lie n r rs os none rest =
-    let failed : one_if (says_failed r) ≡ 0 = ap one_if none.0 in
-    let damaged : one_if (says_damaged r) ≡ 0 = ap one_if none.1 in
+neither_more : (lie : Lie) (n : ℕ) (r : Reply) (rs : List Reply) (os : List Outside) → says_failed r ≡ false → says_damaged r ≡ false → AreFew lie n rs os → AreFew lie n (r ∷ rs) os
+neither_more lie n r rs os a b rest =
+    let failed : one_if (says_failed r) ≡ 0 = ap one_if a in
+    let damaged : one_if (says_damaged r) ≡ 0 = ap one_if b in
     (omega (arith, failed, rest.0), omega (arith, damaged, rest.1), rest.2)
+
+silent_more : (lie : Lie) (n : ℕ) (r : Reply) (rs : List Reply) (os : List Outside) → Silent r → AreFew lie n rs os → AreFew lie n (r ∷ rs) os
+silent_more lie n r rs os none rest = neither_more lie n r rs os none.0 none.1 rest
 
 none_few : (lie : Lie) (n : ℕ) → AreFew lie n [] []
 none_few lie n = (omega arith, omega arith, omega arith)
@@ -124,6 +138,10 @@ few lie n (o ∷ os) now [] rs ms a h = absurd h
 few lie n (o ∷ os) now (c ∷ cs) [] ms a h = absurd h
 few lie n (o ∷ os) now (c ∷ cs) (r ∷ rs) [] a h = absurd h
 few lie n (Serves ∷ os) now (c ∷ cs) (r ∷ rs) (m ∷ ms) a h = silent_more lie n r rs os (served_silent now c r m h.0) (few lie n os m cs rs ms a h.1)
+few lie n (Lacks turns objects ∷ os) now (c ∷ cs) (r ∷ rs) (m ∷ ms) a h =
+    let rest = few lie n os m cs rs ms a h.1 in
+    let none = lacks_neither r (stopped_says Memory turns objects now c r m h.0) in
+    neither_more lie n r rs os none.0 none.1 rest
 few lie zero (Refuses why turns objects ∷ os) now (c ∷ cs) (r ∷ rs) (m ∷ ms) a h = absurd a
 few lie zero (Gives row ∷ os) now (c ∷ cs) (r ∷ rs) (m ∷ ms) a h = absurd a
 few Never (suc n) (Refuses why turns objects ∷ os) now (c ∷ cs) (r ∷ rs) (m ∷ ms) a h =

@@ -11,7 +11,7 @@ use Rattle.far_core.proofs.Put.{put_other, put_same}
 use Rattle.far_text.specs.Command.{Command, Write, Read, View, Mutator}
 use Rattle.far_text.specs.Written.{AllWriteBytes, WritesBytes}
 use Rattle.far_replay.specs.Alone.{Knows, Own, bytes_in_world, own_of}
-use Rattle.far_replay.specs.Answers.{AnsweredBy, CommandedBy, IsMoment, Outside, Serves, Refuses, Gives}
+use Rattle.far_replay.specs.Answers.{AnsweredBy, CommandedBy, IsMoment, Outside, Serves, Refuses, Gives, Lacks}
 use Rattle.far_replay.specs.Commanded.{AsksFor, Misled}
 use Rattle.far_replay.specs.Moment.{Moment, as_if_stored}
 use Rattle.far_replay.specs.Objects.{named_len, uses, with_range}
@@ -163,6 +163,7 @@ lies_change row now c r next is bytes h =
 one_given : (o : Outside) (now : Moment) (c : Command) (r : Reply) (next : Moment) → IsMoment now → WritesBytes c → CommandedBy o now c r next → GivenBy o now c r next
 one_given Serves now c r next is bytes h = tt
 one_given (Refuses why turns objects) now c r next is bytes h = tt
+one_given (Lacks turns objects) now c r next is bytes h = tt
 one_given (Gives row) now c r next is bytes h = lies_change row now c r next is bytes h
 
 pub each_given : (os : List Outside) (now : Moment) (cs : List Command) (rs : List Reply) (moments : List Moment) → IsMoment now → AllWriteBytes cs → AnsweredBy os now cs rs moments → AllGiven os now cs rs moments

@@ -181,6 +181,7 @@ polling_put m q = polled_put m q (first_open m.core)
 keeps_turns : (m : Moment) (q : ℕ) → IsApart m.core m.collection q → KeepsTurns true (λ t tally. Stayed m.core m.collection q t.core t.collection)
 keeps_turns m q none = record {
   learns = tt;
+  beside = tt;
   marks = λ u n tally lawful is h. stayed_more m.core u.core (after_marking u n).core m.collection u.collection (after_marking u n).collection q h (marking_put u n q lawful.0 (still_apart m.core u.core m.collection u.collection q none h));
   looks = λ u k phase tally lawful is h. record { put_there = put_more m.core u.core (with_clear_below u.core k) q h.put_there (looked_put u q k); fewer = h.fewer };
   walks = λ u n tally law moment alone is h.

@@ -22,6 +22,7 @@ pub mod GivenFree
 pub mod HotViews
 pub mod InquiryLaws
 pub mod Kept
+pub mod Lacking
 pub mod LeavingMarks
 pub mod LeftBeside
 pub mod LeftBySteps

@@ -284,7 +284,7 @@ module _ (now : Moment) (law : Law now.core) (moment : MomentLaw now) (alone : n
       let start = begun now law moment alone policy most turns stood h in
       let led = turns_led now law moment alone policy most turns stood h in
       let after = left_led stood led.law led.moment (led.copying ∙ alone) objects progress next left in
-      let taken = (round_takes_some now next logs count (own_law now.core law)).1 _ (stopped_so now law moment alone policy most turns stood h count objects progress next few within left) in
+      let taken = (round_takes_some now next logs count (own_law now.core law) alone).1 _ (stopped_so now law moment alone policy most turns stood h count objects progress next few within left) in
       let free : GivenFree m.collection next.core next.collection = subst (λ (x : Moment). GivenFree m.collection x.core x.collection) (sym left.stands)
       (subst (λ (x : Moment). GivenFree m.collection (walked x objects).moment.core (walked x objects).moment.collection) (sym h.stands) (stop_free m start.law start.moment (start.copying ∙ alone) refl turns objects h.goes h.leaves)) in
       let held = begun_held logs (begins now [] h.may).0.idle in (

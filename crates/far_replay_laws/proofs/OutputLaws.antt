@@ -40,7 +40,9 @@ use Rattle.far_replay.specs.Answers.{Answered, AnsweredBy, Answers, Commanded, O
 use Rattle.far_replay.specs.Commanded.{KeepsFar}
 use Rattle.far_text.specs.Command.{Command, Trace, Nothing, Heap, New, Open, Write, Read, Close, Where, Drop, View, Try, Epoch, Logs, Mutator, Book, Evacuator, Step, Wait, Device as SaidDevice}
 use Rattle.far_text.specs.Grammar.{trace_of}
-use Rattle.far_replay_laws.specs.Headline.{HeapsBeginLawful, IsWhole, IsSaidBy, TellsAll, TellsLog}
+use Rattle.far_replay_laws.specs.Headline.{EachTextIsAnswered, HeapsBeginLawful, IsAmple, IsWhole, IsSaidBy, TellsAll, TellsLog}
+use Rattle.far_replay_laws.specs.FromOutside.{NoneLacks}
+use Rattle.far_replay_laws.proofs.Failures.{served_silent}
 use Rattle.far_text.specs.Written.{AllWriteBytes}
 use Rattle.far_replay.specs.EventRows.{after_events, AllSucceed}
 use Rattle.far_reply.specs.declared.reply.LogLine.{LogLine}
@@ -68,26 +70,29 @@ use Rattle.far_replay.proofs.Views.{view_is, view_law, slow_view}
 use Rattle.far_device.specs.declared.liar.Lie.{Lie}
 
 -- ---- each text has an output
--- one is that of a device of which no call has a flaw
-unspoiled : (lie : Lie) (n : ℕ) (now : Moment) (cs : List Command) → (os : List Outside) × (rs : List Reply) × (moments : List Moment) × FlawedAtMost lie n os × AnsweredBy os now cs rs moments
-unspoiled lie n now [] = ([], [], [], tt, tt)
+-- one is that of a device of which no call has a flaw, where memory is never refused
+unspoiled : (lie : Lie) (n : ℕ) (now : Moment) (cs : List Command) → (os : List Outside) × (rs : List Reply) × (moments : List Moment) × FlawedAtMost lie n os × AnsweredBy os now cs rs moments × NoneLacks rs
+unspoiled lie n now [] = ([], [], [], tt, tt, tt)
 unspoiled lie n now (c ∷ cs) =
     let rest = unspoiled lie n (effect now c) cs in
-    (Serves ∷ rest.0, reply_to now c ∷ rest.1, effect now c ∷ rest.2, rest.3, (record { reply = refl; moment = refl }, rest.4))
+    let served : Served now c (reply_to now c) (effect now c) = record { reply = refl; moment = refl } in
+    (Serves ∷ rest.0, reply_to now c ∷ rest.1, effect now c ∷ rest.2, rest.3, (served, rest.4), ((served_silent now c (reply_to now c) (effect now c) served).2, rest.5))
 
 heap_answered : (logs mutators epoch : ℕ) (device : Option SaidDevice) (cs : List Command) (b : Bool) →
     (output : List ℕ) × MatchBool b ((os : List Outside) × (rs : List Reply) × (moments : List Moment) × FlawedAtMost (lie_of device) (flaws device) os
     × AnsweredBy os (first_moment logs mutators epoch (is_true device)) cs rs moments × (output ≡ flat_map reply_text (opened device ++ rs))) (output ≡ reply_text (Refused Shape))
+    × MatchBool b ((os : List Outside) × (rs : List Reply) × (moments : List Moment) × FlawedAtMost (lie_of device) (flaws device) os
+    × AnsweredBy os (first_moment logs mutators epoch (is_true device)) cs rs moments × (output ≡ flat_map reply_text (opened device ++ rs)) × NoneLacks rs) (output ≡ reply_text (Refused Shape))
 heap_answered logs mutators epoch device cs true =
-    let x = unspoiled (lie_of device) (flaws device) (first_moment logs mutators epoch (is_true device)) cs in (flat_map reply_text (opened device ++ x.1), (x.0, x.1, x.2, x.3, x.4, refl))
-heap_answered logs mutators epoch device cs false = (reply_text (Refused Shape), refl)
+    let x = unspoiled (lie_of device) (flaws device) (first_moment logs mutators epoch (is_true device)) cs in (flat_map reply_text (opened device ++ x.1), (x.0, x.1, x.2, x.3, x.4, refl), (x.0, x.1, x.2, x.3, x.4, refl, x.5))
+heap_answered logs mutators epoch device cs false = (reply_text (Refused Shape), refl, refl)
 
-read_answered : (read : Result Trace ℕ) → (output : List ℕ) × IsOutput read output
-read_answered (Err line) = (reply_text (Refused (Syntax line)), refl)
-read_answered (Ok Nothing) = ([], refl)
+read_answered : (read : Result Trace ℕ) → (output : List ℕ) × IsOutput read output × IsAmple read output
+read_answered (Err line) = (reply_text (Refused (Syntax line)), refl, refl)
+read_answered (Ok Nothing) = ([], refl, refl)
 read_answered (Ok (Heap logs mutators epoch device cs)) = heap_answered logs mutators epoch device cs (is_shape (shape_of logs mutators epoch))
 
-pub each_answered : (text : List ℕ) → (output : List ℕ) × Answers text output
+pub each_answered : EachTextIsAnswered
 each_answered text = read_answered (trace_of text)
 
 -- ---- what a refused command leaves
@@ -121,13 +126,13 @@ same_refusal why cause r h e = refusals_alike cause why (sym h ∙ e) where
   refusals_alike a b e = cc
 
 write_marks : (why : Refusal) (m p from : ℕ) (bytes : List ℕ) → KeepsFar why → MayMark (Mutator m (Write p from bytes)) why p
-write_marks why m p from bytes h = of_far (λ x. MayMark (Mutator m (Write p from bytes)) x p) why h refl refl
+write_marks why m p from bytes h = of_far (λ x. MayMark (Mutator m (Write p from bytes)) x p) why h refl refl refl
 
 read_marks : (why : Refusal) (m p from len : ℕ) → KeepsFar why → MayMark (Mutator m (Read p from len)) why p
-read_marks why m p from len h = of_far (λ x. MayMark (Mutator m (Read p from len)) x p) why h refl refl
+read_marks why m p from len h = of_far (λ x. MayMark (Mutator m (Read p from len)) x p) why h refl refl refl
 
 view_marks : (why : Refusal) (m p : ℕ) → KeepsFar why → MayMark (Mutator m (View p)) why p
-view_marks why m p h = of_far (λ x. MayMark (Mutator m (View p)) x p) why h refl refl
+view_marks why m p h = of_far (λ x. MayMark (Mutator m (View p)) x p) why h refl refl refl
 
 pub refused_stays : (now : Moment) (c : Command) (r : Reply) (next : Moment) (why : Refusal) → ((p : ℕ) → ¬ MayMark c why p) → ¬ MaySee c why → Commanded now c r next → r ≡ Refused why → next ≡ now
 refused_stays now c r next why none blind h e = by_outcome now r next (λ d. ((p : ℕ) → ¬ MayMark d why p) → ¬ MaySee d why → next ≡ now)

@@ -87,8 +87,8 @@ turns_go_on m law moment alone runs = through_turns (λ n r. GoesOn r.moment r.t
     let t = turned r r.moment.phase in
     let leads = turn_leads r law moment alone r.moment.phase refl in
     let (within, on) = h.more goes in
-    let (tally, turn, sum) = turn_is_allowed r goes on in
-    subst (λ total. GoesOn t.moment total t.over) (sym sum) (turn_goes_on r.moment t.moment (own_law r.moment.core law) moment (own_law t.moment.core leads.law) leads.moment r.tally tally t.over within turn))
+    let (tally, turn, sum) = turn_is_allowed r alone goes on in
+    subst (λ total. GoesOn t.moment total t.over) (sym sum) (turn_goes_on r.moment t.moment (own_law r.moment.core law) moment (own_law t.moment.core leads.law) leads.moment alone r.tally tally t.over within turn))
 
 plain_end : (r : Turned) → IsBounded r.tally → IsEndToldInFull (round_end r)
 plain_end r few = cond_both r.over (ends.Done (progress_of r.tally true)) (ends.Limit r.moment.phase) IsEndToldInFull (λ _. (plain_tally r.tally true few, refl)) (λ _. tt)

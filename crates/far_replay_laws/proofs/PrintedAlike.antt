@@ -1,6 +1,6 @@
 -- Replies that their lines tell in full are equal where they are printed alike.
 use Rattle.std.specs.Prelude.{if◌then◌else◌}
-use Rattle.std.proofs.Common.{◌≡◌, ◌≢◌, ℕ, zero, suc, ◌/◌, ◌<◌, ◌≤◌, ◌^◌, ◌==◌, ◌||◌, Bool, true, false, List, [], ◌∷◌, ◌++◌, Result, Ok, Err, length, drop, get_or, codes, decimal, refl, sym, ap, subst, Option, Some, None, ◌∙◌, arith, append_assoc}
+use Rattle.std.proofs.Common.{◌≡◌, ◌≢◌, ◌⊎◌, inl, inr, ℕ, zero, suc, ◌/◌, ◌<◌, ◌≤◌, ◌^◌, ◌==◌, ◌||◌, Bool, true, false, List, [], ◌∷◌, ◌++◌, Result, Ok, Err, length, drop, get_or, codes, decimal, refl, sym, ap, subst, Option, Some, None, ◌∙◌, arith, append_assoc}
 use Rattle.std.specs.List.{flat_map}
 use Rattle.std.proofs.lemmas.List.{append_cancel_left, append_cancel_right}
 use Rattle.std.proofs.lemmas.Bool.{ne_eqb}
@@ -395,35 +395,50 @@ evacuated_alike p q a b e =
     (append_cancel_left (codes "evacuated") _ _ (sym (evacuated_right p) ∙ e ∙ evacuated_right q)) in
     same_progress p q counted (done_alike p.done q.done behind)
 
--- a step that was refused in its midst tells of the device alone, and of a round that isn't over
-near_is : (why : Refusal) → KeepsNear why → why ≡ Device
-near_is Device h = refl
-near_is why h = absurd h
+-- a step that was refused in its midst tells of memory or of the device, and of a round that isn't over
+cause_small : (why : Refusal) → KeepsNear why → refusal_number why < 2 ^ 64
+cause_small Memory h = omega arith
+cause_small Device h = omega arith
+cause_small why h = absurd h
+
+cause_alike : (a b : Refusal) → KeepsNear a → KeepsNear b → refusal_number a ≡ refusal_number b → a ≡ b
+cause_alike Memory Memory h k e = refl
+cause_alike Memory Device h k e = absurd (omega (arith, e))
+cause_alike Memory b h k e = absurd k
+cause_alike Device Memory h k e = absurd (omega (arith, e))
+cause_alike Device Device h k e = refl
+cause_alike Device b h k e = absurd k
+cause_alike a b h k e = absurd h
 
 halted_alike : (a b : Refusal) (p q : Progress) → IsToldInFull (Halted a p) → IsToldInFull (Halted b q) → halted_text a p ≡ halted_text b q → Halted a p ≡ Halted b q
 halted_alike a b p q x y e =
-    let one : a ≡ Device = near_is a x.0 in
-    let other : b ≡ Device = near_is b y.0 in
-    let texts : halted_text Device p ≡ halted_text Device q = sym (ap (λ w. halted_text w p) one) ∙ e ∙ ap (λ w. halted_text w q) other in
-    let (number, counts) = refusal_cut 10 10 (counted_text p) (counted_text q) (omega arith) (omega arith) (omega arith) (omega arith) texts in
+    let (number, counts) = refusal_cut (refusal_number a) (refusal_number b) (counted_text p) (counted_text q) (cause_small a x.0) (cause_small b y.0) (omega arith) (omega arith) e in
     let (alike, _) = counted_alike p q (codes "\n") (codes "\n") x.1 y.1 (omega arith) (omega arith) (ap (λ l. l ++ codes "\n") counts) in
     let same : p ≡ q = same_progress p q alike (x.2 ∙ sym y.2) in
-    ap (λ w. Halted w p) (one ∙ sym other) ∙ ap (Halted b) same
+    ap (λ w. Halted w p) (cause_alike a b x.0 y.0 number) ∙ ap (Halted b) same
 
--- a refusal of that number tells nothing more
-ten_alone : (why : Refusal) → refusal_number why ≡ 10 → detail why ≡ []
-ten_alone (Marked word) e = absurd (omega (arith, e))
-ten_alone (Syntax line) e = absurd (omega (arith, e))
-ten_alone (BadChoice log) e = absurd (omega (arith, e))
-ten_alone (StillOpen mutator epoch) e = absurd (omega (arith, e))
-ten_alone why e = refl
+-- a refusal of their numbers tells nothing more
+alone : (why : Refusal) → (refusal_number why ≡ 1) ⊎ (refusal_number why ≡ 10) → detail why ≡ []
+alone (Marked word) (inl e) = absurd (omega (arith, e))
+alone (Marked word) (inr e) = absurd (omega (arith, e))
+alone (Syntax line) (inl e) = absurd (omega (arith, e))
+alone (Syntax line) (inr e) = absurd (omega (arith, e))
+alone (BadChoice log) (inl e) = absurd (omega (arith, e))
+alone (BadChoice log) (inr e) = absurd (omega (arith, e))
+alone (StillOpen mutator epoch) (inl e) = absurd (omega (arith, e))
+alone (StillOpen mutator epoch) (inr e) = absurd (omega (arith, e))
+alone why either = refl
+
+cause_alone : (why b : Refusal) → KeepsNear b → refusal_number why ≡ refusal_number b → detail why ≡ []
+cause_alone why Memory h e = alone why (inl e)
+cause_alone why Device h e = alone why (inr e)
+cause_alone why b h e = absurd h
 
 not_halted : (a b : Refusal) (q : Progress) → IsRefusalToldInFull a → KeepsNear b → refusal_text a ≢ halted_text b q
 not_halted a b q p y e =
     let small = number_small a p in
-    let texts : refusal_text a ≡ halted_text Device q = e ∙ ap (λ w. halted_text w q) (near_is b y) in
-    let (number, behind) = refusal_cut (refusal_number a) 10 (detail a) (counted_text q) small.0 (omega arith) small.1 (omega arith) texts in
-    let odd : 0 ≡ 32 = ap head_of (sym (ten_alone a number) ∙ behind) in
+    let (number, behind) = refusal_cut (refusal_number a) (refusal_number b) (detail a) (counted_text q) small.0 (cause_small b y) small.1 (omega arith) e in
+    let odd : 0 ≡ 32 = ap head_of (sym (cause_alone a b y number) ∙ behind) in
     omega (arith, odd)
 
 -- the phase whose word begins so

@@ -4,7 +4,8 @@ use Rattle.far_word.specs.declared.refused.Refused.{Refused as Refusal}
 use Rattle.far_word.specs.declared.refused.Refused.TheVariants.{Phase as WrongPhase}
 use Rattle.far_core.specs.state.Law.{Law}
 use Rattle.far_book.proofs.region.Owns.{own_law}
-use Rattle.far_evac.specs.AnyHand.{KnowsMoment, StopsRound as StopsSo, TurnsMade, sum_of}
+use Rattle.far_evac.specs.AnyHand.{KnowsMoment}
+use Rattle.far_evac.specs.AnyTurns.{StopsRound as StopsSo, TurnsMade, sum_of}
 use Rattle.far_evac.specs.Choosing.{after_selecting}
 use Rattle.far_evac.specs.Leading.{Leads}
 use Rattle.far_evac.specs.Moment.{Tally, plus, progress_of, tally_of}
@@ -18,7 +19,9 @@ use Rattle.far_evac.specs.declared.phase.Phase.{Phase}
 use Rattle.far_evac.specs.declared.phase.Phase.TheVariants.{Evacuating, Idle}
 use Rattle.far_evac.proofs.Leading.{selecting}
 use Rattle.far_evac.proofs.LeadingTurns.{turns_lead}
+use Rattle.far_evac.proofs.BesideKept.{alone_so}
 use Rattle.far_evac.proofs.Rounds.{turns_are}
+use Rattle.far_evac.proofs.TurnSteps.{turns_alone}
 use Rattle.far_evac.proofs.Walks.{moment_same, walk_is}
 use Rattle.far_text.specs.Command.{Command, Evacuator, Evacuate, Policy, Round}
 use Rattle.far_replay.specs.Answers.{Served}
@@ -134,7 +137,8 @@ module _ (now : Moment) (law : Law now.core) (moment : MomentLaw now) (alone : n
         subst (λ (x : Moment). TurnsMade began made.tallies false x) (sym h.stands) (subst (λ b. TurnsMade began made.tallies b (turns_made began turns).moment) h.goes made.made),
         omega (arith, made.most, few),
         ap (λ (x : Moment). x.phase) h.stands ∙ h.leaves,
-        (walk.0, w, walk.1.walks, omega (arith, walk.1.most, within), left.goes, subst (KnowsMoment w.moment) (sym left.stands) (moment_same w.moment), refl),
+        alone_so (ap (λ (x : Moment). x.copying) h.stands ∙ turns_alone began alone made.tallies (turns_made began turns).over (turns_made began turns).moment made.made)
+            (walk.0, w, walk.1.walks, omega (arith, walk.1.most, within), left.goes, subst (KnowsMoment w.moment) (sym left.stands) (moment_same w.moment), refl),
         ap (λ (t : Tally). progress_of (plus t (tally_of progress)) false) (sym made.sum) ∙ ap (λ (p : Progress). progress_of (plus (sum_of made.tallies) (tally_of p)) false) left.told,
         (own_law stood.core lawful.law, lawful.moment),
       )

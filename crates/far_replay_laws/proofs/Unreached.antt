@@ -290,6 +290,7 @@ marking_fate m n q law = record {
 keeps_turns : (m : Moment) (q : ℕ) → KeepsTurns true (λ t tally. Fate StaysMarked m.core m.collection q t.core t.collection)
 keeps_turns m q = record {
   learns = tt;
+  beside = tt;
   marks = λ u n tally lawful is h. marked_fate m.core u.core (after_marking u n).core m.collection u.collection (after_marking u n).collection q h (marking_fate u n q lawful.0);
   looks = λ u k phase tally lawful is h. marked_fate m.core u.core (with_clear_below u.core k) m.collection u.collection u.collection q h
       (fate_marked u.core (with_clear_below u.core k) u.collection u.collection q (fate_stayed u.core (with_clear_below u.core k) u.collection u.collection q record { put_there = looked_put u q k; fewer = λ l c. c }));

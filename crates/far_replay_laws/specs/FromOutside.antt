@@ -1,13 +1,14 @@
--- What a refusal of the device is about: an object that is far, and stays so; and how often one comes, and how often other bytes are given.
+-- What a refusal of the device, or of memory, is about: an object that is far, and stays so, or objects that leave; and how often the device refuses, and how often it gives other bytes.
 use Rattle.std.specs.Prelude.{◌≡◌, ℕ, suc, ◌+◌, ◌≤◌, ◌==◌, Bool, true, false, Ok, Option, Some, List, [], ◌∷◌, ◌++◌}
 use Rattle.std.specs.List.{flat_map}
 use Rattle.far_word.specs.declared.refused.Refused.{Refused as Refusal}
-use Rattle.far_word.specs.declared.refused.Refused.TheVariants.{Damaged, Device as Failed}
+use Rattle.far_word.specs.declared.refused.Refused.TheVariants.{Damaged, Device as Failed, Memory}
 use Rattle.far_core.specs.state.Shape.{is_shape}
 use Rattle.far_core.specs.state.State.{State}
-use Rattle.far_text.specs.Command.{Command, Device, Flawed, Fail, Short, Flip, Heap, Write, Read, View, Mutator}
+use Rattle.far_evac.specs.declared.phase.Phase.TheVariants.{Idle, Evacuating}
+use Rattle.far_text.specs.Command.{Command, Device, Flawed, Fail, Short, Flip, Heap, Write, Read, View, Mutator, Evacuator, Evacuate, Round}
 use Rattle.far_text.specs.Grammar.{trace_of}
-use Rattle.far_replay.specs.Answers.{AnsweredBy, Answers, Commanded, IsMoment, Outside, Serves, Refuses, Gives, first_moment, is_true, opened, shape_of}
+use Rattle.far_replay.specs.Answers.{AnsweredBy, Answers, Commanded, IsMoment, Outside, Serves, Refuses, Gives, Lacks, first_moment, is_true, opened, shape_of}
 use Rattle.far_replay.specs.Commanded.{KeepsFar, LiesFar}
 use Rattle.far_replay.specs.Moment.{Moment}
 use Rattle.far_reply.specs.Reply.{Reply, Halted, Refused, reply_text}
@@ -19,9 +20,24 @@ IsFarFor s (Mutator m (Read p from len)) = LiesFar s p
 IsFarFor s (Mutator m (View p)) = LiesFar s p
 IsFarFor s c = ⊥
 
--- a command is refused as the device failed, or gave another number of bytes, only where its object is far before and after it
+-- a command is refused as memory was refused, the device failed, or gave another number of bytes, only where its object is far before and after it
 abbrev pub DeviceRefusesFar : Type 0
 DeviceRefusesFar = (now : Moment) (c : Command) (r : Reply) (after : Moment) (why : Refusal) → IsMoment now → Commanded now c r after → r ≡ Refused why → KeepsFar why → IsFarFor now.core c × IsFarFor after.core c
+
+-- a reply says that memory was refused only so: of a read, a write or a view, whose object is far before and after it; with counts, of an evacuation in its phase, in which it
+-- stays; and of a round that had chosen its logs, and after which objects leave
+abbrev pub HaltsThere : Moment → Command → Moment → Type 0
+HaltsThere now (Evacuator (Evacuate count)) after = (now.phase ≡ Evacuating) × (after.phase ≡ Evacuating)
+HaltsThere now (Evacuator (Round policy most turns)) after = (now.phase ≡ Idle) × (after.phase ≡ Evacuating)
+HaltsThere now c after = ⊥
+
+abbrev pub LacksThere : Moment → Command → Reply → Moment → Type 0
+LacksThere now c (Refused Memory) after = IsFarFor now.core c × IsFarFor after.core c
+LacksThere now c (Halted Memory progress) after = HaltsThere now c after
+LacksThere now c r after = Unit {0}
+
+abbrev pub MemoryIsRefusedThere : Type 0
+MemoryIsRefusedThere = (now : Moment) (c : Command) (r : Reply) (after : Moment) → IsMoment now → Commanded now c r after → LacksThere now c r after
 
 -- ---- how often it comes
 -- one call of a device is said to fail; or to give a byte too few; or to give others
@@ -49,6 +65,17 @@ says_damaged (Refused Damaged) = true
 says_damaged (Halted Damaged progress) = true
 says_damaged r = false
 
+-- and that memory was refused
+abbrev pub says_lacking : Reply → Bool
+says_lacking (Refused Memory) = true
+says_lacking (Halted Memory progress) = true
+says_lacking r = false
+
+-- none of them does
+abbrev pub NoneLacks : List Reply → Type 0
+NoneLacks [] = Unit {0}
+NoneLacks (r ∷ rs) = (says_lacking r ≡ false) × NoneLacks rs
+
 abbrev pub one_if : Bool → ℕ
 one_if true = 1
 one_if false = 0
@@ -67,6 +94,7 @@ lies [] = 0
 lies (Serves ∷ os) = lies os
 lies (Refuses why turns objects ∷ os) = lies os
 lies (Gives row ∷ os) = 1 + lies os
+lies (Lacks turns objects ∷ os) = lies os
 
 -- no more replies say that the device failed, or gave another number of bytes, than it is said to; each once at most
 pub record FailsAsSaid (device : Option Device) (replies : List Reply) : Type 0 where

@@ -1,5 +1,6 @@
 -- What a trace program's outputs say: the laws over whole texts and whole lists of commands.
 use Rattle.std.specs.Prelude.{◌≡◌, ◌≢◌, ◌↔◌, ℕ, ◌+◌, ◌*◌, ◌/◌, ◌^◌, ◌<◌, ◌≤◌, ◌||◌, ◌⊎◌, Bool, true, false, sum, codes, decimal, Option, Some, None, Ok, List, [], ◌∷◌, length, replicate, slice_index, map, All, Contains, ◌++◌, Result}
+use Rattle.std.specs.Bool.{MatchBool}
 use Rattle.std.specs.List.{flat_map, range_with_len}
 use Rattle.hex.specs.Hex.{IsBytes}
 use Rattle.far_word.specs.declared.mark.Mark.TheVariants.{Hot}
@@ -8,7 +9,7 @@ use Rattle.far_word.specs.declared.pointer.Place.{Place}
 use Rattle.far_word.specs.declared.pointer.PtrWord.{PtrWord}
 use Rattle.far_word.specs.declared.pointer.PtrWord.TheVariants as pointer
 use Rattle.far_word.specs.declared.refused.Refused.{Refused as Refusal}
-use Rattle.far_word.specs.declared.refused.Refused.TheVariants.{NoRoom, NoPointer, Length, Closed, AlreadyOpen, NotHeld, Range, Held, Device, Damaged, Marked as MarkFound, Syntax, BadChoice, StillOpen, Phase as WrongPhase, EpochsSpent}
+use Rattle.far_word.specs.declared.refused.Refused.TheVariants.{NoRoom, NoPointer, Length, Closed, AlreadyOpen, NotHeld, Range, Held, Device, Damaged, Memory, Marked as MarkFound, Shape, Syntax, BadChoice, StillOpen, Phase as WrongPhase, EpochsSpent}
 use Rattle.far_word.specs.declared.sizes.TheConstants.{CELLS, LOG_WORDS, LONGEST}
 use Rattle.far_word.specs.Pointer.{read_of, with_mark}
 use Rattle.far_word.specs.Sizes.{size_of}
@@ -29,14 +30,14 @@ use Rattle.far_evac.specs.declared.answers.Progress.{Progress}
 use Rattle.far_evac.specs.declared.answers.RoundEnd.{RoundEnd}
 use Rattle.far_evac.specs.declared.answers.RoundEnd.TheVariants as ends
 use Rattle.far_replay.specs.Alone.{Alone, KnowsBy, Learns, Own, nothing}
-use Rattle.far_replay.specs.Answers.{Answered, AnsweredBy, Answers, Commanded, IsMoment, Outside, Served, shape_of, first_moment, opened, flaws, is_true}
+use Rattle.far_replay.specs.Answers.{Answered, AnsweredBy, Answers, Commanded, IsMoment, IsOutput, Outside, Served, FlawedAtMost, shape_of, first_moment, opened, flaws, is_true, lie_of}
 use Rattle.far_text.specs.Command.{Command, Heap, CommandLine, New, Open, Write, Read, Close, Where, Drop, View, Try, Epoch, Logs as AsksLogs, Log, Audit, Mutator, Book, Evacuator, By, Script, Select, Mark, Wait, Evacuate, Abort, Round, Device as SaidDevice, Trace}
 use Rattle.far_text.specs.Grammar.{trace_of}
 use Rattle.far_replay.specs.Commanded.{AsksFor, KeepsNear, LiesFar}
 use Rattle.far_replay.specs.Moment.{Moment, as_if_stored}
 use Rattle.far_replay.specs.EventRows.{after_events, AllPass, AllSucceed, AllComeToPass, AtHand}
 use Rattle.far_replay.specs.Events.{events_for, IsNoStep}
-use Rattle.far_replay_laws.specs.FromOutside.{FailsAsSaid, LiesAsSaid, gives_stored}
+use Rattle.far_replay_laws.specs.FromOutside.{FailsAsSaid, LiesAsSaid, NoneLacks, gives_stored}
 use Rattle.far_replay_laws.specs.HowMany.{IsHowMany}
 use Rattle.far_replay_laws.specs.Left.{AllLeave}
 use Rattle.far_replay_laws.specs.Listed.{AllCounted}
@@ -62,14 +63,17 @@ IsAtHandFor now (Mutator m (View p)) = now.core.cell p ≢ 0 → AtHand now.core
 IsAtHandFor now (Mutator m (Try p)) = now.core.cell p ≢ 0 → AtHand now.core p
 IsAtHandFor now c = Unit {0}
 
--- the command whose events carry a command out, by its reply: where the device refuses to bring the object of a read, a write or a view, a try of it
+-- the command whose events carry a command out, by its reply: where the object of a read, a write or a view isn't brought, as memory is refused or by the device, a try of it
 abbrev pub carried_as : Command → Reply → Command
 carried_as (Mutator m (Write p from bytes)) (Refused Device) = Mutator m (Try p)
 carried_as (Mutator m (Write p from bytes)) (Refused Damaged) = Mutator m (Try p)
+carried_as (Mutator m (Write p from bytes)) (Refused Memory) = Mutator m (Try p)
 carried_as (Mutator m (Read p from len)) (Refused Device) = Mutator m (Try p)
 carried_as (Mutator m (Read p from len)) (Refused Damaged) = Mutator m (Try p)
+carried_as (Mutator m (Read p from len)) (Refused Memory) = Mutator m (Try p)
 carried_as (Mutator m (View p)) (Refused Device) = Mutator m (Try p)
 carried_as (Mutator m (View p)) (Refused Damaged) = Mutator m (Try p)
+carried_as (Mutator m (View p)) (Refused Memory) = Mutator m (Try p)
 carried_as c r = c
 
 -- these are a command's events; or, where the device may lie, those that it has in a moment in which other words, as many, are stored of the far object that it asks for
@@ -324,25 +328,35 @@ abbrev pub OutputsAreSound : Type 0
 OutputsAreSound = (text output : List ℕ) (logs mutators epoch : ℕ) (device : Option SaidDevice) (cs : List Command) → Answers text output → trace_of text ≡ Ok (Heap logs mutators epoch device cs) →
     is_shape (shape_of logs mutators epoch) ≡ true → IsSound logs mutators epoch device cs output
 
--- each text has an output
+-- an output of what a text is read as, in which no reply says that memory was refused
+abbrev pub IsAmple : Result Trace ℕ → List ℕ → Type 0
+IsAmple (Ok (Heap logs mutators epoch device cs)) output =
+    MatchBool (is_shape (shape_of logs mutators epoch))
+    ((outside : List Outside) × (replies : List Reply) × (moments : List Moment) × FlawedAtMost (lie_of device) (flaws device) outside
+    × AnsweredBy outside (first_moment logs mutators epoch (is_true device)) cs replies moments
+    × (output ≡ flat_map reply_text (opened device ++ replies)) × NoneLacks replies)
+    (output ≡ reply_text (Refused Shape))
+IsAmple read output = IsOutput read output
+
+-- each text has such an output
 abbrev pub EachTextIsAnswered : Type 0
-EachTextIsAnswered = (text : List ℕ) → (output : List ℕ) × Answers text output
+EachTextIsAnswered = (text : List ℕ) → (output : List ℕ) × Answers text output × IsAmple (trace_of text) output
 
 -- no device is said that is to fail or to lie
 abbrev pub HasNoFlaw : Result Trace ℕ → Type 0
 HasNoFlaw (Ok (Heap logs mutators epoch device cs)) = flaws device ≡ 0
 HasNoFlaw read = Unit {0}
 
--- two outputs of one text are equal, where no device is said that is to fail or to lie
-abbrev pub OneOutput : Type 0
-OneOutput = (text a b : List ℕ) → HasNoFlaw (trace_of text) → Answers text a → Answers text b → a ≡ b
-
 -- an output of commands of which the outside made this
 abbrev pub IsMadeBy : List Outside → ℕ → ℕ → ℕ → Option SaidDevice → List Command → List ℕ → Type 0
 IsMadeBy outside logs mutators epoch device cs output = (replies : List Reply) × (moments : List Moment) × AnsweredBy outside (first_moment logs mutators epoch (is_true device)) cs replies moments
     × (output ≡ flat_map reply_text (opened device ++ replies))
 
--- and where one is, each text has an output, made by an outside that refuses, or gives other bytes, no more than is said; by that they are equal
+-- two outputs of one text are equal in which no reply says that memory was refused, where no device is said that is to fail or to lie
+abbrev pub OneOutput : Type 0
+OneOutput = (text a b : List ℕ) → HasNoFlaw (trace_of text) → IsAmple (trace_of text) a → IsAmple (trace_of text) b → a ≡ b
+
+-- and whatever the outside refuses or gives, two are equal for which it made the same of each command
 abbrev pub OutsideDecidesOutput : Type 0
 OutsideDecidesOutput = (outside : List Outside) (logs mutators epoch : ℕ) (device : Option SaidDevice) (cs : List Command) (a b : List ℕ) →
     IsMadeBy outside logs mutators epoch device cs a → IsMadeBy outside logs mutators epoch device cs b → a ≡ b

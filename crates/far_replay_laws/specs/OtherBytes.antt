@@ -5,7 +5,7 @@ use Rattle.far_core.specs.world.WorldOf.{world_of}
 use Rattle.far_text.specs.Command.{Command, Write, Read, View, Mutator}
 use Rattle.far_text.specs.Written.{WritesBytes}
 use Rattle.far_replay.specs.Alone.{bytes_in_world}
-use Rattle.far_replay.specs.Answers.{CommandedBy, IsMoment, Outside, Serves, Refuses, Gives}
+use Rattle.far_replay.specs.Answers.{CommandedBy, IsMoment, Outside, Serves, Refuses, Gives, Lacks}
 use Rattle.far_replay.specs.Commanded.{AsksFor, LiesFar}
 use Rattle.far_replay.specs.Moment.{Moment}
 use Rattle.far_replay.specs.Objects.{with_range}
@@ -45,6 +45,7 @@ abbrev pub GivenBy : Outside → Moment → Command → Reply → Moment → Typ
 GivenBy Serves now c r after = Unit {0}
 GivenBy (Refuses why turns objects) now c r after = Unit {0}
 GivenBy (Gives row) now c r after = IsGiven row now c r after
+GivenBy (Lacks turns objects) now c r after = Unit {0}
 
 abbrev pub AllGiven : List Outside → Moment → List Command → List Reply → List Moment → Type 0
 AllGiven (o ∷ os) now (c ∷ cs) (r ∷ rs) (after ∷ moments) = GivenBy o now c r after × AllGiven os after cs rs moments

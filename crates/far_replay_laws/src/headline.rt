@@ -5,7 +5,7 @@ ghost use Rattle.far_replay_laws.specs.Ends.{EndsAreTold};
 ghost use Rattle.far_replay_laws.specs.Census.{AuditsByCensus};
 ghost use Rattle.far_replay_laws.specs.Chosen.{RoundsAreChosen};
 ghost use Rattle.far_replay_laws.specs.Epochs.{StepsSpendEpochs};
-ghost use Rattle.far_replay_laws.specs.FromOutside.{DeviceRefusesFar, FlawsAreSaid};
+ghost use Rattle.far_replay_laws.specs.FromOutside.{DeviceRefusesFar, FlawsAreSaid, MemoryIsRefusedThere};
 ghost use Rattle.far_replay_laws.specs.Listed.{AuditCountsList};
 ghost use Rattle.far_replay_laws.specs.Headline.{OutputsAreSound, OneOutput, OutsideDecides, OutsideDecidesOutput, EachTextIsAnswered, TextsWriteBytes, LinesAreNumbered, MomentsLast, EventsReach, ShapesAre, HeapsBeginLawful, ObjectsStayWhole, ViewedLogsStay, ViewsLast, RefusalsStay, RefusalsChangeNothing, TriesAreAnswered, UnknownMutatorsAreRefused, NearRefusals, MutatorsAreAlone, OwnLinesCount, MutatorsLearn, NewTakesTheLowest, NoneIsLeft, NewIsMade, NewMakesItsObject, CommandsTakeRoom, WritesChangeTheirRange, LogsAreTold, WhereTells, LogTellsItsLine, AuditCounts, DropEndsObject, EpochsAreTold, ScopesOpenAtEpochs, ClosesForget, PrintedAlike};
 ghost use Rattle.far_replay_laws.specs.Ages.{AgesStay};
@@ -25,7 +25,7 @@ pub fn outputs_are_sound()
     ensures each { TextsSayAll }
 {}
 
-/// Each text has an output, and one alone, unless it says a device that is to fail or to lie: then one by what the outside made of its commands. Whatever the outside makes of commands, which it may refuse in their midst or give other bytes, their replies follow from it. A text that ends as refused begins it with `refused`; one that ran has none, or begins with `ok`. Its commands that write, write bytes. Among lines that say commands, a
+/// Each text has an output in which no reply says `refused 1`, and one such alone, unless it says a device that is to fail or to lie. Whatever the outside makes of commands, which it may refuse in their midst, memory too, or give other bytes, their replies and the output follow from it. A text that ends as refused begins it with `refused`; one that ran has none, or begins with `ok`. Its commands that write, write bytes. Among lines that say commands, a
 /// mutator's are those that have its number after the name, but for `log`, after which a log's number stands, and for `mark` and
 /// `evacuate`, after which a number of objects stands.
 pub fn texts_are_answered()
@@ -65,12 +65,13 @@ pub fn views_last()
 {}
 
 /// A mutator's refused command leaves objects, bytes, places and all else as they were, but for HOT and MOVE in its object's cell,
-/// which it may add for want of room, by the device or where a try finds a mark. A `wait` that is refused 18 has seen clear the mutators before the
-/// one that it names, and no others. Any other refusal leaves the moment as it is. Not meant is an `evacuate` or a `round` that the device stops: it is refused 10 with
+/// which it may add for want of room or of memory, by the device or where a try finds a mark. A `wait` that is refused 18 has seen clear the mutators before the
+/// one that it names, and no others. Any other refusal leaves the moment as it is. Not meant is an `evacuate` or a `round` that is refused memory, or that the device stops: it is refused 1 or 10 with
 /// counts, and keeps what was done (`steps_are_told`, `steps_leave`). A line of a
 /// mutator that the heap hasn't is refused 8. Where the object that it reads, writes, views or tries is near and unmarked, no command after the
 /// heap is refused for want of memory, by a device or for a mark, but those two with counts; for want of a pointer or of room a new object alone is
-/// refused. As the device failed, or gave another number of bytes, a mutator's command is refused only where its object is far, which it stays. From a text on: no more
+/// refused. For want of memory, as the device failed, or as it gave another number of bytes, a mutator's command is refused only where its object is far, which it stays. With counts
+/// 1 is told of an `evacuate` in its phase alone, and of a `round` that had chosen its logs; after both, objects leave. No other command is refused 1. From a text on: no more
 /// replies, those with counts among them, say that the device failed, or that it gave another number of bytes, than its line says, one at most; and no more commands are given other bytes.
 pub fn refusals_leave_all()
     ensures stay { RefusalsStay }
@@ -78,6 +79,7 @@ pub fn refusals_leave_all()
     ensures unknown { UnknownMutatorsAreRefused }
     ensures near { NearRefusals }
     ensures far { DeviceRefusesFar }
+    ensures memory { MemoryIsRefusedThere }
     ensures few { FlawsAreSaid }
 {}
 
@@ -148,7 +150,7 @@ pub fn drops_end_objects()
 /// back, from the front on: the first that is still chosen has an object, and what left stood before all that lies there still. It is
 /// done where no log is chosen any more. `round` is a `select` and turns, each answered as `mark 16`, `wait` or `evacuate 16`
 /// would be, by the phase, and its counts are their sums, and where it is done of what has changed so from its first moment to
-/// its last. An `evacuate` or a `round` that the device stops is refused 10 with counts: of what has changed so before the object at which it stopped, which
+/// its last. An `evacuate` or a `round` that is refused memory, or that the device stops, is refused 1 or 10 with counts: of what has changed so before the object at which it stopped, which
 /// `steps_leave` says is as before. What was done stays, a log is still chosen, and objects go on leaving. The phase follows from commands and replies, and 12 is answered
 /// exactly out of phase. Through any command the sealed logs keep their order, but for those that were given back, and those sealed
 /// since come last; so of two that were sealed by different commands the first is the older. The heap's epoch is the one that a
@@ -169,7 +171,7 @@ pub fn rounds_stand()
 /// Through each step of the evacuator each object keeps its owner, data structure and bytes. Through `select`, `mark`, `wait` and
 /// `abort`, and through any step that is refused, it stays at its place too: marking adds EVAC, giving up takes it away, and
 /// but for that and the round nothing changes. Through `evacuate` and `round` each object stays that lies in none of the logs that were chosen, with
-/// its marks, as do those that are far; so they do where the device stops it. So does each that lies then in the log in which it lay, though a round may have given it EVAC; and what
+/// its marks, as do those that are far; so they do where it is refused in its midst. So does each that lies then in the log in which it lay, though a round may have given it EVAC; and what
 /// mutators use, view and remember stays, with their scopes.
 pub fn steps_leave()
     ensures leave { StepsLeave }

@@ -71,7 +71,7 @@ module _ {heap : HeapId} (m : Mine) (o : Own) (opened : o.opened ≡ true) (p : 
   unbrought_view =
       unbrought (View p)
       (λ had. (plainly m.honest m.number o (Mutator m.number (View p)) (Refused NoRoom) o (opened, unviewed, refl, (all, known)) (λ _. tt), had))
-      (λ had. (hindered m.honest m.number o (Mutator m.number (View p)) (Refused Memory) o (opened, unviewed, refl, (all, known)) (λ _. tt), had))
+      (λ had. (plainly m.honest m.number o (Mutator m.number (View p)) (Refused Memory) o (opened, unviewed, refl, (all, known)) (λ _. tt), had))
       (λ had. (plainly m.honest m.number o (Mutator m.number (View p)) (Refused Device) o (opened, unviewed, refl, (all, known)) (λ _. tt), had))
       (λ whole had. (plainly m.honest m.number o (Mutator m.number (View p)) (Refused Damaged) o (opened, unviewed, refl, (all, known)) whole, had))
 
@@ -80,7 +80,7 @@ module _ {heap : HeapId} (m : Mine) (o : Own) (opened : o.opened ≡ true) (p : 
     unbrought_read count some fits =
         unbrought (Read p from count)
         (λ had. (plainly m.honest m.number o (Mutator m.number (Read p from count)) (Refused NoRoom) o (opened, unviewed, refl, (all, known, (some, fits))) (λ _. tt), had))
-        (λ had. (hindered m.honest m.number o (Mutator m.number (Read p from count)) (Refused Memory) o (opened, unviewed, refl, (all, known, (some, fits))) (λ _. tt), had))
+        (λ had. (plainly m.honest m.number o (Mutator m.number (Read p from count)) (Refused Memory) o (opened, unviewed, refl, (all, known, (some, fits))) (λ _. tt), had))
         (λ had. (plainly m.honest m.number o (Mutator m.number (Read p from count)) (Refused Device) o (opened, unviewed, refl, (all, known, (some, fits))) (λ _. tt), had))
         (λ whole had. (plainly m.honest m.number o (Mutator m.number (Read p from count)) (Refused Damaged) o (opened, unviewed, refl, (all, known, (some, fits))) whole, had))
 
@@ -88,7 +88,7 @@ module _ {heap : HeapId} (m : Mine) (o : Own) (opened : o.opened ≡ true) (p : 
     unbrought_write new some fits =
         unbrought (Write p from new)
         (λ had. (plainly m.honest m.number o (Mutator m.number (Write p from new)) (Refused NoRoom) o (opened, unviewed, refl, (all, known, (some, fits))) (λ _. tt), had))
-        (λ had. (hindered m.honest m.number o (Mutator m.number (Write p from new)) (Refused Memory) o (opened, unviewed, refl, (all, known, (some, fits))) (λ _. tt), had))
+        (λ had. (plainly m.honest m.number o (Mutator m.number (Write p from new)) (Refused Memory) o (opened, unviewed, refl, (all, known, (some, fits))) (λ _. tt), had))
         (λ had. (plainly m.honest m.number o (Mutator m.number (Write p from new)) (Refused Device) o (opened, unviewed, refl, (all, known, (some, fits))) (λ _. tt), had))
         (λ whole had. (plainly m.honest m.number o (Mutator m.number (Write p from new)) (Refused Damaged) o (opened, unviewed, refl, (all, known, (some, fits))) whole, had))
 

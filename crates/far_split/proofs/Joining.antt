@@ -32,6 +32,7 @@ pub record IsBegun (heap : HeapId) (blank : BlankOf FarSide) : Type 0 where
   pub size : (heap.logs ≡ (shape_in (seat_view blank.book.near)).logs) × (heap.mutators ≡ (shape_in (seat_view blank.book.near)).mutators)
   pub unused : IsUnused (seat_view blank.book.near)
   pub order : blank.book.order ≡ []
+  pub alone : heap.copying ≡ false
 
 abbrev pub End : Type 0
 End = Result (List Reply) Stop
@@ -70,7 +71,7 @@ module _ (heap : HeapId) (lines : List (ℕ × Command)) (ends : List End) (are 
       → AllRan (shape_in (seat_view blank.book.near)) device lines parts book
   all_ran blank device begun flawed honest = record {
     heap = heap;
-    began = record { blank = blank; named = begun.named; shaped = refl; unused = begun.unused; order = begun.order; flawed = flawed };
+    began = record { blank = blank; named = begun.named; alone = begun.alone; shaped = refl; unused = begun.unused; order = begun.order; flawed = flawed };
     size = begun.size;
     honest = honest;
     many = count ∙ begun.size.1;

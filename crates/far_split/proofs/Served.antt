@@ -3,9 +3,9 @@ use Rattle.std.proofs.Common.{◌≡◌, inl, inr, ℕ, Bool, true, List, [], �
 use Rattle.std.specs.Prelude.{map}
 use Rattle.std.specs.Bool.{MatchBool}
 use Rattle.far_word.specs.declared.refused.Refused.{Refused as Refusal}
-use Rattle.far_word.specs.declared.refused.Refused.TheVariants.{Damaged, Memory, NoPointer, NoRoom}
+use Rattle.far_word.specs.declared.refused.Refused.TheVariants.{Damaged, NoPointer, NoRoom}
 use Rattle.far_word.specs.Refused.{refusal_number}
-use Rattle.far_text.specs.Command.{Command, Mutator, New, Read, View, Write}
+use Rattle.far_text.specs.Command.{Command, Mutator, New}
 use Rattle.far_replay.specs.Alone.{Alone, Knows, Own, is_by, speaker}
 use Rattle.far_reply.specs.Reply.{Reply, Refused}
 use Rattle.far_split.specs.Here.{IsUndamaged}
@@ -14,9 +14,6 @@ use Rattle.far_split.specs.Served.{AloneWith, HinderedIsRefused, IsRefusedWith, 
 pub hindered_refused : HinderedIsRefused
 hindered_refused o (Mutator m (New len ds)) (Refused NoPointer) q h = (inr (NoPointer, refl, refl), h.3)
 hindered_refused o (Mutator m (New len ds)) (Refused NoRoom) q h = (inl (NoRoom, refl, refl), h.3)
-hindered_refused o (Mutator m (Read p from len)) (Refused Memory) q h = ((Memory, refl, refl), h.2)
-hindered_refused o (Mutator m (Write p from new)) (Refused Memory) q h = ((Memory, refl, refl), h.2)
-hindered_refused o (Mutator m (View p)) (Refused Memory) q h = ((Memory, refl, refl), h.2)
 hindered_refused o c r q h = absurd h
 
 -- ---- damage

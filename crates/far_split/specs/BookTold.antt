@@ -31,7 +31,7 @@ use Rattle.far_split.specs.FarSides.{FarSide}
 -- at some moment, while the lock was held, this was so of the heap's book. It was lawful then
 pub record BookStood (heap : HeapId) (P : Moment → Type 0) : Type 0 where
   pub book : EvacOf (BookSeat FarSide) FarSide
-  pub named : heap_of book.book.near ≡ heap
+  pub named : heap_of book.copying book.book.near ≡ heap
   pub lawful : IsLawful (moment seat_view book)
   pub is : P (moment seat_view book)
 

@@ -1,5 +1,5 @@
 -- What a split text is answered: the replies of all threads, each mutator's by its own lines.
-use Rattle.std.specs.Prelude.{◌≡◌, ◌⊎◌, ℕ, ◌+◌, ◌<◌, true, ◌==◌, if◌then◌else◌, Option, Some, None, Result, Ok, Err, List, [], length, slice_index_or}
+use Rattle.std.specs.Prelude.{◌≡◌, ◌⊎◌, ℕ, ◌+◌, ◌<◌, false, true, ◌==◌, if◌then◌else◌, Option, Some, None, Result, Ok, Err, List, [], length, slice_index_or}
 use Rattle.std.specs.Bool.{MatchBool}
 use Rattle.std.specs.List.{AllByRecursion}
 use Rattle.far_word.specs.declared.refused.Refused.{Refused as Refusal}
@@ -47,10 +47,11 @@ AreShort (Ran mutators book) = AllByRecursion (AllByRecursion IsShort) mutators 
 abbrev pub commands_in : Thread → List (ℕ × Command) → List Command
 commands_in thread lines = commands_of (lines_in thread lines)
 
--- a heap was begun so: nobody had used its parts, whose shape was this, the first epoch too; and its device had the flaw that is said, in the call of which it is
+-- a heap was begun so: without copiers; nobody had used its parts, whose shape was this, the first epoch too; and its device had the flaw that is said, in the call of which it is
 pub record BeganSo (heap : HeapId) (shape : Size) (device : Option Device) : Type 0 where
   pub blank : BlankOf FarSide
   pub named : blank.heap ≡ heap
+  pub alone : heap.copying ≡ false
   pub shaped : shape_in (seat_view blank.book.near) ≡ shape
   pub unused : IsUnused (seat_view blank.book.near)
   pub order : blank.book.order ≡ []

@@ -11,12 +11,9 @@ use Rattle.far_split.specs.Here.{AloneHere, AreBy, Hindered, KnowsHere}
 abbrev pub IsRefusedWith : ℕ → Reply → Type 0
 IsRefusedWith number r = (why : Refusal) × (r ≡ Refused why) × (refusal_number why ≡ number)
 
--- the refusals that may hinder a line, whatever its mutator knows: of a new object 2 and 3, where an object is viewed 1
+-- the refusals that may hinder a line, whatever its mutator knows: of a new object 2 and 3
 abbrev pub MayBeHindered : Command → Reply → Type 0
 MayBeHindered (Mutator _ (New len ds)) r = IsRefusedWith 2 r ⊎ IsRefusedWith 3 r
-MayBeHindered (Mutator _ (Read p from len)) r = IsRefusedWith 1 r
-MayBeHindered (Mutator _ (Write p from new)) r = IsRefusedWith 1 r
-MayBeHindered (Mutator _ (View p)) r = IsRefusedWith 1 r
 MayBeHindered c r = ⊥
 
 -- what hinders a line is such a refusal, and never a value; and the mutator knows what it knew

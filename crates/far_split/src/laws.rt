@@ -3,8 +3,8 @@
 ghost use Rattle.far_split.specs.Here.{AloneIsAloneHere, AloneOnIsAloneHere, HonestIsAllowed, UnhinderedIsAlone};
 ghost use Rattle.far_split.specs.Served.{HinderedIsRefused, NeverDamaged, ReadsAreAsLong, RefusalsAreLawful, ServedIsAlone, UnrefusedIsAlone};
 
-/// The law of a mutator's replies beside others is that of the plain program, with three refusals more, and over an honest far side without damaged bytes: what the plain program's law
-/// allows of its own lines is allowed, also over a far side that may lie. What hinders a line is one of those refusals, 1 where an object is viewed, 2 and 3 of a new one, and its mutator
+/// The law of a mutator's replies beside others is that of the plain program, with two refusals more, and over an honest far side without damaged bytes: what the plain program's law
+/// allows of its own lines is allowed, also over a far side that may lie. What hinders a line is one of those refusals, 2 and 3 of a new object, and its mutator
 /// knows then what it knew; so over an honest far side the lines that are left, where such are left out, are allowed by the plain program's law, and all are where none is refused so; and
 /// none is refused 11. Over one that may lie all that is allowed over an honest one is allowed too; a refusal there is one of the plain program's law, or hinders, and a read gives as many bytes as it asks for. What is allowed on a heap, of which replies tell, is allowed by the first.
 pub fn mutators_are_alone()

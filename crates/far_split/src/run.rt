@@ -1,6 +1,6 @@
 //! A split text is run: each mutator's lines in a thread of its own, the book's in another.
 
-ghost use Rattle.std.specs.Prelude.{◌≡◌, ◌⊎◌, ◌<◌, ◌≤◌, ℕ, Option, [], length, map, None, Some, Ok, IfErr, IfOk, IsOk};
+ghost use Rattle.std.specs.Prelude.{◌≡◌, ◌⊎◌, ◌<◌, ◌≤◌, ℕ, Option, false, [], length, map, None, Some, Ok, IfErr, IfOk, IsOk};
 ghost use Rattle.far_text.specs.declared.text.TheConstants.{LONGEST_TEXT};
 ghost use Rattle.std.specs.Option.{option_map};
 ghost use Rattle.far_text.specs.Command.{as_device, Device as SaidDevice};
@@ -205,6 +205,7 @@ fn run_named<K: HeapName + Send + Sync, R: Threads + Wait + Sync, G: Gate>(
 ) -> Result<SplitOut, SplitFault>
     requires name { blank.heap ≡ K.heap }
     requires few { K.heap.mutators ≤ 8 }
+    requires alone { K.heap.copying ≡ false }
     requires size { (K.heap.logs ≡ (shape_in (seat_view blank.book.near)).logs) × (K.heap.mutators ≡ (shape_in (seat_view blank.book.near)).mutators) }
     requires unused { IsUnused (seat_view blank.book.near) }
     requires order { blank.book.order ≡ [] }

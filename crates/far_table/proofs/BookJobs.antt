@@ -1,12 +1,10 @@
 -- The book offers a job, reads a job's word, and empties one: each is its event of the core.
-use Rattle.std.proofs.Common.{◌≡◌, ◌≢◌, ◌<◌, ◌^◌, ℕ, Bool, true, false, cond, List, set, refl, sym, ap, ◌∙◌, subst, arith, Some}
+use Rattle.std.proofs.Common.{◌≡◌, ◌≢◌, ◌<◌, ◌^◌, ℕ, false, List, set, refl, sym, ap, ◌∙◌, subst, arith, Some}
 use Rattle.std.specs.Prelude.{slice_index, ◌==◌}
 use Rattle.std.proofs.Math.Logic.{∥∥₁_elim}
 use Rattle.std.proofs.Props.{props}
-use Rattle.std.proofs.lemmas.Bool.{eq-eqb, eqb-false, eqb-true, ne_eqb}
 use mathlib.Core.Option.{none}
 use prog.Atomic.{either}
-use lib.Seq.{set-get_or}
 use Rattle.atomic_table.specs.Table.{Me, step, Allows}
 use Rattle.far_word.specs.declared.job.Job.{Job}
 use Rattle.far_word.specs.declared.job.JobWord.TheVariants.{Offered}
@@ -17,7 +15,6 @@ use Rattle.far_word.specs.Header.{head_word}
 use Rattle.far_word.specs.Job.{IsJob, job_of, job_word}
 use Rattle.far_word.specs.Pointer.{read_of}
 use Rattle.far_word.proofs.JobLaws.{job_back}
-use Rattle.far_core.specs.declared.event.Event.{Event}
 use Rattle.far_core.specs.declared.event.Event.TheVariants.{Collect, Offer, SeeJob}
 use Rattle.far_core.specs.declared.event.Reply.TheVariants.{Done, Word}
 use Rattle.far_core.specs.events.Legal.{Legal}
@@ -46,6 +43,7 @@ use Rattle.far_table.specs.StateOf.{book_state, copying_of, head_at, head_or, kn
 use Rattle.far_table.proofs.BookFrames.{BookStep, cells_stay}
 use Rattle.far_table.proofs.BookKnown.{forgets, forgotten}
 use Rattle.far_table.proofs.BookLift.{book_makes, book_reads}
+use Rattle.far_table.proofs.Exchanges.{by_case, lost_says, won_says}
 use Rattle.far_table.proofs.Masks.{counts, epoch_is, finds, going, is_masked, rests, ties, words_are}
 use Rattle.far_table.proofs.NameRows.{begins_put}
 use Rattle.far_table.proofs.NameSteps.{header_is, known_heads, span_heads}
@@ -71,36 +69,33 @@ module _ (ws : List ℕ) (b : BookView) (os : OtherViews) (f : Facts ws b os) (p
     leaves = cells_stay refl refl refl (λ _ _. (refl, refl, refl));
   }
 
+  -- another word is left in it
+  job_left : (x : ℕ) {later : ℕ → ℕ} → later ≡ put (job_in ws) j x → AllFindJobs (put o.copying.word j x) later
+  job_left x is = subst (AllFindJobs (put o.copying.word j x)) (sym is) (jobs_set o.copying.word (job_in ws) j x (going ws b os f))
+
   -- ---- one is emptied
   module _ (old : ℕ) (h : Legal o (Collect j old)) where
     won_step : n ≡ old → BookStep ws b os (Collect j old) Done (set ws (job_at j) 0) (saw_job_view j 0 b)
-    won_step won =
-        let later : List ℕ = set ws (job_at j) 0 in
-        let b' : BookView = saw_job_view j 0 b in
-        let are = job_word_set ws f.wide j 0 h.0 in record {
-          legal = h;
-          says = sym (ap (λ t. cond t Done (Word n)) (eq-eqb n old won));
-          becomes = led_by (collect_empties s j old won) (state_is later b' os are refl refl refl);
-          book = λ law. ties later b' os law (counts b) (words_are ws b os f plain ∙ ap (λ v. masked_word v o.starts (counts b)) (sym are.word_is)) (subst (AllFind o.cell) (sym are.cell_is) (finds ws b os f))
-              (rests ws b os f) (are.epoch_is ∙ epoch_is ws b os f) (subst (AllFindJobs (put o.copying.word j 0)) (sym are.job_is) (jobs_set o.copying.word (job_in ws) j 0 (going ws b os f)));
-          leaves = cells_stay are.cell_is are.scope_is refl (λ _ _. (refl, refl, refl));
-        }
+    won_step won = let are = job_word_set ws f.wide j 0 h.0 in record {
+      legal = h;
+      says = won_says n old won;
+      becomes = led_by (collect_empties s j old won) (state_is (set ws (job_at j) 0) (saw_job_view j 0 b) os are refl refl refl);
+      book = λ law. ties (set ws (job_at j) 0) (saw_job_view j 0 b) os law (counts b) (words_are ws b os f plain ∙ ap (λ v. masked_word v o.starts (counts b)) (sym are.word_is))
+          (subst (AllFind o.cell) (sym are.cell_is) (finds ws b os f)) (rests ws b os f) (are.epoch_is ∙ epoch_is ws b os f) (job_left 0 are.job_is);
+      leaves = cells_stay are.cell_is are.scope_is refl (λ _ _. (refl, refl, refl));
+    }
 
     lost_step : n ≢ old → BookStep ws b os (Collect j old) (Word n) ws (saw_job_view j n b)
-    lost_step lost = let seen = see_job_step h.0 in record {
+    lost_step lost = record {
       legal = h;
-      says = sym (ap (λ t. cond t Done (Word n)) (ne_eqb n old lost));
+      says = lost_says n old lost;
       becomes = reads f (after s (Collect j old)) (saw_job_view j n b) os (collect_stays s j old lost);
-      book = seen.book;
+      book = (see_job_step h.0).book;
       leaves = cells_stay refl refl refl (λ _ _. (refl, refl, refl));
     }
 
-    by_test : (t : Bool) → (n == old) ≡ t → BookStep ws b os (Collect j old) (cond t Done (Word n)) (set ws (job_at j) (either t 0 n)) (saw_job_view j (cond t 0 n) b)
-    by_test true e = won_step (eqb-true n old e)
-    by_test false e = subst (λ l. BookStep ws b os (Collect j old) (Word n) l (saw_job_view j n b)) (sym (ap (set ws (job_at j)) (job_here ws j h.0) ∙ set-get_or ws (job_at j) 0)) (lost_step (eqb-false n old e))
-
     pub collect_step : BookStep ws b os (Collect j old) (exchange_reply old n) (set ws (job_at j) (either (n == old) 0 n)) (collected_view j old n b)
-    collect_step = by_test (n == old) refl
+    collect_step = by_case (λ r l w. BookStep ws b os (Collect j old) r l (saw_job_view j w b)) ws (job_at j) n old 0 0 n (job_here ws j h.0) won_step lost_step
 
   -- ---- one is offered
   module _ (job : Job) (h : Legal o (Offer j job.pointer job.to)) (lies : near_place (read_of (o.cell job.pointer)) ≡ Some job.from) where
@@ -143,7 +138,7 @@ module _ (ws : List ℕ) (b : BookView) (os : OtherViews) (f : Facts ws b os) (p
             (forgotten b' (word_in later) (λ a st. header_is (head_at b' a) (word_in later a) (unknown a)
             (λ x e. ap (λ g. g a) are.word_is ∙ span_heads b job.pointer s.word (known_heads ws b os f) len ds job.to head a x e) st))
             (subst (AllFind o.cell) (sym are.cell_is) (finds ws b os f)) (counts_none (book_state b') o.cell) (are.epoch_is ∙ epoch_is ws b os f)
-            (subst (AllFindJobs (put o.copying.word j (job_word (Offered job)))) (sym are.job_is) (jobs_set o.copying.word (job_in ws) j (job_word (Offered job)) (going ws b os f)));
+            (job_left _ are.job_is);
         leaves = cells_stay are.cell_is are.scope_is refl (λ _ _. (refl, refl, refl));
       }
 
@@ -214,14 +209,3 @@ module _ {S : Type 0} (slots id : ℕ) (me : Me S View) (is : me.0 ≡ Book (boo
       let long : h.3.0 ≡ len = cc in
       let structure : h.3.1 ≡ ds = cc in
       subst (λ (z : ℕ × ℕ × ℕ × Job). BookTells me.0 (Book (offered_view j h.3.0 h.3.1 job view)) (Offer z.0 z.3.pointer z.3.to) Done (offered_view z.0 z.1 z.2 z.3 view)) (λ i. (at i, long i, structure i, one i)) t)
-
--- ---- what an exchange of a job's word tells, once it is known whether it won
-module _ (v v' : View) (e : Event) (j old found : ℕ) (t : BookTells v v' e (exchange_reply old found) (collected_view j old found (book_of v))) where
-  at_test : (x : Bool) → (found == old) ≡ x → BookTells v v' e (cond x Done (Word found)) (saw_job_view j (cond x 0 found) (book_of v))
-  at_test x same = subst (λ y. BookTells v v' e (cond y Done (Word found)) (saw_job_view j (cond y 0 found) (book_of v))) same t
-
-  pub emptied_tells : found ≡ old → BookTells v v' e Done (saw_job_view j 0 (book_of v))
-  emptied_tells same = at_test true (eq-eqb found old same)
-
-  pub kept_tells : found ≢ old → BookTells v v' e (Word found) (saw_job_view j found (book_of v))
-  kept_tells ne = at_test false (ne_eqb found old ne)

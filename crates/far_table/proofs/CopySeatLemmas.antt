@@ -1,7 +1,6 @@
 -- What the struct of a copier's seat keeps over a step, for all kinds of step, and what is so of a job that it has.
-use Rattle.std.proofs.Common.{◌≡◌, ◌≢◌, ◌+◌, ◌*◌, ◌<◌, ◌≤◌, ℕ, Bool, true, false, cond, refl, sym, ap, ◌∙◌, subst, arith, Option, Some, None}
-use Rattle.std.specs.Prelude.{◌==◌, option_map}
-use Rattle.std.proofs.lemmas.Bool.{eq-eqb, ne_eqb}
+use Rattle.std.proofs.Common.{◌≡◌, ◌≢◌, ◌+◌, ◌*◌, ◌^◌, ◌<◌, ◌≤◌, ℕ, true, refl, sym, ap, ◌∙◌, subst, arith, Option, Some, None}
+use Rattle.std.specs.Prelude.{◌-◌, IsSome, option_map}
 use Rattle.std.proofs.Math.Logic.{∥∥₁_elim}
 use Rattle.std.proofs.Props.{props}
 use mathlib.Core.Logic.{dite}
@@ -11,25 +10,24 @@ use lib.ListN.{get_elem?}
 use Rattle.atomic_table.proofs.Lists.{set_here}
 use Rattle.atomic_table.specs.Seated.{TableId}
 use Rattle.far_word.specs.declared.job.Job.{Job as Places}
-use Rattle.far_word.specs.declared.job.JobWord.TheVariants.{Offered, Taken}
+use Rattle.far_word.specs.declared.job.JobWord.TheVariants.{Finished, Offered, Taken}
 use Rattle.far_word.specs.declared.sizes.TheConstants.{JOBS, LOG_WORDS, MOST_COPIERS, MOST_LOGS}
-use Rattle.far_word.specs.Job.{IsJob, job_of}
+use Rattle.far_word.specs.Job.{IsJob, job_in, job_of, job_sum, job_word}
 use Rattle.far_word.specs.Sizes.{words_for}
+use Rattle.far_word.proofs.JobLaws.{job_says, job_fits as word_fits}
 use Rattle.far_core.specs.declared.event.Event.{Event}
-use Rattle.far_core.specs.declared.event.Event.TheVariants.{Read, Write}
+use Rattle.far_core.specs.declared.event.Event.TheVariants.{PeekJob, Read, Write}
 use Rattle.far_core.specs.declared.event.Reply.{Reply}
 use Rattle.far_core.specs.declared.event.Reply.TheVariants.{Done, Word}
 use Rattle.far_core.specs.declared.event.Task.{Task}
-use Rattle.far_core.specs.events.Claim.{offered_in}
 use Rattle.far_core.specs.events.Step.{after}
 use Rattle.far_core.specs.state.State.{State, addr}
 use Rattle.far_core.proofs.JobPlaces.{task_lies}
 use Rattle.far_core.proofs.Put.{put_both, put_other, put_same}
-use Rattle.far_table.specs.declared.copy_seat.Job.{Job}
-use Rattle.far_table.specs.CopierViews.{claim_view, claimed_view, taken_view, word_read_view, word_written_view, words_read, words_written}
-use Rattle.far_table.specs.CopySeats.{CopiedNext, IsCopied, IsJobOf, IsTakenBy, Missed, OnlyWord, copied_on}
-use Rattle.far_table.specs.Layout.{TABLE_WORDS}
-use Rattle.far_table.specs.NameViews.{exchange_reply}
+use Rattle.far_table.specs.CopierViews.{word_read_view, word_written_view, words_read, words_written}
+use Rattle.far_table.specs.CopySeats.{CopiedNext, CopyJob, IsCopied, IsJobOf, IsKept, IsTakenBy, Missed, OnlyWord, copied_on, first_at, job_kept}
+use Rattle.far_table.specs.Layout.{TABLE_WORDS, data_at, job_at}
+use Rattle.far_table.specs.Seats.{CopierSeated}
 use Rattle.far_table.specs.StateOf.{state_of}
 use Rattle.far_table.specs.Tells.{CopierMade, CopierMayBe, CopierStands, CopierTells, copier_of}
 use Rattle.far_table.specs.View.{CopierView, OtherViews, View, Copier, with_copier}
@@ -38,8 +36,9 @@ use Rattle.far_table.proofs.CopySteps.{has, knows, task_fits}
 use Rattle.far_table.proofs.Places.{below}
 
 -- ---- the struct
-abbrev pub CopierOk : TableId → TableId → View → ℕ → Type 0
-CopierOk id here v number = (id ≡ here) × (id.words ≡ TABLE_WORDS) × (v ≡ Copier (copier_of v)) × ((copier_of v).number ≡ number) × (number < MOST_COPIERS) × CopierStands (copier_of v)
+abbrev pub CopierOk : TableId → TableId → View → ℕ → ℕ → Type 0
+CopierOk id here v taking finishing = (id ≡ here) × (id.words ≡ TABLE_WORDS) × (v ≡ Copier (copier_of v)) × (taking ≡ (copier_of v).number * 2 ^ 58 + 1 * 2 ^ 62)
+    × (finishing ≡ (copier_of v).number * 2 ^ 58 + 2 * 2 ^ 62) × ((copier_of v).number < MOST_COPIERS) × CopierStands (copier_of v)
 
 -- a call left a state beside the view
 copier_left : (e : Event) (v : CopierView) (r : Reply) (w : CopierView) → CopierMade e v r w → CopierStands w
@@ -49,31 +48,23 @@ copier_left e v r w made =
     let number : w.number ≡ v.number = made.keeps.copiers v.number w here in
     ∣ (state_of made.later made.book others, record { words = made.later; book = made.book; others = others; facts = made.keeps; stands = ap (get_elem? others.copiers) number ∙ here; is = refl }) ∣₁
 
-pub copier_stays : (id later here : TableId) (v v' : View) (number : ℕ) (e : Event) (r : Reply) (w : CopierView) → CopierOk id here v number → later ≡ id → CopierTells v v' e r w → CopierOk later here v' number
-copier_stays id later here v v' number e r w i same t =
-    let view : copier_of v' ≡ w = ap copier_of t.after_is in (
+pub copier_stays : (id later here : TableId) (v v' : View) (taking finishing : ℕ) (e : Event) (r : Reply) (w : CopierView) → CopierOk id here v taking finishing → later ≡ id →
+    CopierTells v v' e r w → CopierOk later here v' taking finishing
+copier_stays id later here v v' taking finishing e r w i same t =
+    let view : copier_of v' ≡ w = ap copier_of t.after_is in
+    let number : (copier_of v).number ≡ (copier_of v').number = sym (ap (λ (z : CopierView). z.number) view ∙ t.number) in (
       same ∙ i.0,
       ap (λ (z : TableId). z.words) same ∙ i.1,
       t.after_is ∙ ap (λ z. Copier (copier_of z)) (sym t.after_is),
-      ap (λ (z : CopierView). z.number) view ∙ (t.number ∙ i.3),
-      i.4,
+      i.3 ∙ ap (λ n. n * 2 ^ 58 + 1 * 2 ^ 62) number,
+      i.4 ∙ ap (λ n. n * 2 ^ 58 + 2 * 2 ^ 62) number,
+      subst (λ n. n < MOST_COPIERS) number i.5,
       subst CopierStands (sym view) (copier_left e (copier_of v) r w t.made),
     )
 
 -- the event that a step tells of, as a caller names it
 pub copier_made : (v v' : View) (old : CopierView) (e : CopierView → Event) (r : Reply) (w : CopierView) → copier_of v ≡ old → CopierTells v v' (e (copier_of v)) r w → CopierMade (e old) old r (copier_of v')
 copier_made v v' old e r w is t = subst (λ z. CopierMade (e z) z r (copier_of v')) is (subst (λ z. CopierMade (e (copier_of v)) (copier_of v) r z) (sym (ap copier_of t.after_is)) t.made)
-
--- ---- a claim, once it is known whether it won
-module _ (v v' : View) (e : Event) (j old found : ℕ) (job : Places) (offers : job_of old ≡ Some (Offered job)) (t : CopierTells v v' e (exchange_reply old found) (claim_view j old found (copier_of v))) where
-  at_test : (x : Bool) → (found == old) ≡ x → CopierTells v v' e (cond x Done (Word found)) (cond x (taken_view j (offered_in (job_of old)) (copier_of v)) (copier_of v))
-  at_test x is = subst (λ y. CopierTells v v' e (cond y Done (Word found)) (cond y (taken_view j (offered_in (job_of old)) (copier_of v)) (copier_of v))) is t
-
-  pub claim_won : found ≡ old → CopierTells v v' e Done (claimed_view j job (copier_of v))
-  claim_won is = subst (λ x. CopierTells v v' e Done (taken_view j (offered_in x) (copier_of v))) offers (at_test true (eq-eqb found old is))
-
-  pub claim_lost : found ≢ old → CopierTells v v' e (Word found) (copier_of v)
-  claim_lost ne = at_test false (ne_eqb found old ne)
 
 -- looks at one job more
 pub missed_more : (v w : CopierView) (n : ℕ) → w ≡ v → ((j : ℕ) → j < n → Missed v j) → Missed w n → (j : ℕ) → j < n + 1 → Missed v j
@@ -83,6 +74,62 @@ missed_more v w n same before here j lt = dite (ℕ_discrete j n)
 -- the view after, as a caller names the one before
 pub view_after : (v v' : View) (old : CopierView) (e : Event) (r : Reply) (w : CopierView → CopierView) → copier_of v ≡ old → CopierTells v v' e r (w (copier_of v)) → copier_of v' ≡ w old
 view_after v v' old e r w is t = ap copier_of t.after_is ∙ ap w is
+
+-- ---- the words of a job
+-- a copier adds its number and a stage or two to the word that offers it
+sum_on : (k : Places) (word c add stages : ℕ) → job_sum k 0 1 ≡ word → add ≡ c * 2 ^ 58 + stages * 2 ^ 62 → word + add ≡ job_sum k c (1 + stages)
+sum_on k word c add stages says is = omega (arith, says, is)
+
+module _ (word c add : ℕ) (offers : job_of word ≡ Some (Offered (job_in word))) where
+  said : IsJob (job_in word) × (job_sum (job_in word) 0 1 ≡ word)
+  said = job_says word (Offered (job_in word)) offers
+
+  pub taken_word : add ≡ c * 2 ^ 58 + 1 * 2 ^ 62 → word + add ≡ job_word (Taken (job_in word) c)
+  taken_word is = sum_on (job_in word) word c add 1 said.1 is
+
+  pub finished_word : add ≡ c * 2 ^ 58 + 2 * 2 ^ 62 → word + add ≡ job_word (Finished (job_in word) c)
+  finished_word is = sum_on (job_in word) word c add 2 said.1 is
+
+  pub taken_fits : c < MOST_COPIERS → add ≡ c * 2 ^ 58 + 1 * 2 ^ 62 → word + add < 2 ^ 64
+  taken_fits few is = subst (λ n. n < 2 ^ 64) (sym (taken_word is)) (word_fits (Taken (job_in word) c) (said.0, few))
+
+  pub finished_fits : c < MOST_COPIERS → add ≡ c * 2 ^ 58 + 2 * 2 ^ 62 → word + add < 2 ^ 64
+  finished_fits few is = subst (λ n. n < 2 ^ 64) (sym (finished_word is)) (word_fits (Finished (job_in word) c) (said.0, few))
+
+-- a word that was peeked reads
+pub peeked_reads : (j n : ℕ) (v w : CopierView) → CopierMade (PeekJob v.number j) v (Word n) w → IsSome (job_of n)
+peeked_reads j n v w made =
+    let x : State = state_of made.words made.book made.others in
+    let both : Word n ≡ Word (x.copying.word j) = made.says in
+    let is : n ≡ x.copying.word j = cc in
+    subst (λ k. IsSome (job_of k)) (sym is) (made.facts.law.copies.jobs.job_read j).1
+
+-- ---- what a job keeps
+module _ (at offered from to end : ℕ) (k : IsKept at offered from to end) where
+  abbrev kept : CopyJob
+  kept = job_kept at offered from end
+
+  -- where the next words of source and target stand
+  pub next_from : from ≡ data_at (addr kept.task.job.from + 1 + kept.copied)
+  next_from = omega (arith, k.begun)
+
+  pub next_to : to ≡ data_at (addr kept.task.job.to + 1 + kept.copied)
+  next_to = omega (arith, k.begun, k.along)
+
+  pub some_left : from ≢ end → kept.copied < kept.words
+  some_left ne = omega (arith, k.begun, k.some, ne)
+
+  -- and the job's word
+  pub word_stands : at ≡ job_at kept.task.number
+  word_stands = omega (arith, k.low)
+
+  -- a word more is copied
+  pub kept_on : job_kept at offered (from + 1) end ≡ copied_on kept
+  kept_on = let one : from + 1 - first_at (job_in offered).from ≡ from - first_at (job_in offered).from + 1 = omega (arith, k.begun) in λ i. record kept { copied = one i }
+
+-- the job of a call, as its seat has it
+pub own_here : {job job' : CopyJob} {z z' : CopierSeated} → job ≡ job' → z ≡ z' → IsJobOf job' z'.view → IsJobOf job z.view
+own_here e f own = subst (λ (x : CopyJob × CopierSeated). IsJobOf x.0 x.1.view) (λ i. (sym e i, sym f i)) own
 
 -- ---- where the words of its job stand
 pub task_within : (v : CopierView) (t : Task) → CopierStands v → v.task ≡ Some t → (t.number < JOBS) × IsJob t.job
@@ -96,7 +143,7 @@ length_of : (x : Option ℕ) (w : ℕ) → option_map words_for x ≡ Some w →
 length_of None w e = absurd cc
 length_of (Some n) w e = let is : words_for n ≡ w = cc in (n, refl, is)
 
-module _ (v : CopierView) (job : Job) (own : IsJobOf job v) where
+module _ (v : CopierView) (job : CopyJob) (own : IsJobOf job v) where
   pub len : (n : ℕ) × (v.length ≡ Some n) × (words_for n ≡ job.words)
   len = length_of v.length job.words own.long
 
@@ -138,7 +185,7 @@ only_word v t i w task got s may =
     (rw (k, r) record { here = put_same x.word (addr t.job.to + 1 + i) w _ refl; words = λ b ne. put_other x.word (addr t.job.to + 1 + i) w b ne; rest = (refl, refl, refl, refl) })
 
 -- ---- a word is copied: it was read, and then written
-module _ (v mid : View) (job : Job) (own : IsJobOf job (copier_of v)) (word : ℕ) (reads : CopierTells v mid (Read (copier_of v).number job.copied) (Word word) (word_read_view job.copied word (copier_of v))) where
+module _ (v mid : View) (job : CopyJob) (own : IsJobOf job (copier_of v)) (word : ℕ) (reads : CopierTells v mid (Read (copier_of v).number job.copied) (Word word) (word_read_view job.copied word (copier_of v))) where
   abbrev between : CopierView
   between = word_read_view job.copied word (copier_of v)
 

@@ -1,11 +1,10 @@
 -- Each kind of step of a copier's seat is its event of the core.
 use Rattle.std.proofs.Common.{◌≡◌, ◌≢◌, ◌+◌, ◌*◌, ◌/◌, ◌<◌, ◌≤◌, ℕ, Bool, true, false, cond, List, set, sym, refl, ap, ◌∙◌, subst, arith, Some, None}
 use Rattle.std.specs.Prelude.{slice_index, ◌==◌, ◌^◌}
-use Rattle.std.proofs.lemmas.Bool.{eq-eqb, eqb-false, eqb-true, ne_eqb}
+use Rattle.std.proofs.lemmas.Bool.{eq-eqb, ne_eqb}
 use mathlib.Core.Option.{some, none}
 use prog.Atomic.{either}
 use lib.ListN.{get_elem?}
-use lib.Seq.{set-get_or}
 use Rattle.atomic_table.specs.Table.{Me, step, Allows}
 use Rattle.far_word.specs.declared.job.Job.{Job}
 use Rattle.far_word.specs.declared.job.JobWord.TheVariants.{Finished, Offered, Taken}
@@ -17,21 +16,24 @@ use Rattle.far_core.specs.declared.event.Reply.TheVariants.{Done, Word}
 use Rattle.far_core.specs.declared.event.Task.{Task}
 use Rattle.far_core.specs.events.Claim.{after_claim, offered_in}
 use Rattle.far_core.specs.events.Legal.{Legal}
+use Rattle.far_core.specs.events.Step.{after}
+use Rattle.far_core.specs.events.Tasks.{AllWritten}
 use Rattle.far_core.specs.state.Jobs.{job_words}
 use Rattle.far_core.specs.state.Law.{head_len}
 use Rattle.far_core.specs.state.State.{State, addr, put}
 use Rattle.far_core.proofs.JobPlaces.{job_bounds, source_lies, task_lies}
 use Rattle.far_core.proofs.KeepJobs.{task_at}
-use Rattle.far_table.specs.View.{BookView, CopierView, OtherViews, View, Copier, with_copier}
+use Rattle.far_table.specs.View.{BookView, CopierView, OtherViews, View, Copier}
 use Rattle.far_table.specs.CopierPlays.{JobClaimed, JobFinished, JobPeeked, LengthRead, SourceRead, TargetWritten}
-use Rattle.far_table.specs.CopierViews.{claim_view, claimed_view, finished_view, measured_view, taken_view, word_read_view, word_written_view, words_read, words_written}
+use Rattle.far_table.specs.CopierViews.{claim_view, claimed_view, finished_view, measured_view, word_read_view, word_written_view, words_read, words_written}
 use Rattle.far_table.specs.Layout.{TABLE_WORDS, data_at, job_at, job_in, word_in}
 use Rattle.far_table.specs.NameViews.{exchange_reply}
 use Rattle.far_table.specs.Rule.{Facts, Running}
 use Rattle.far_table.specs.StateOf.{state_of}
 use Rattle.far_table.specs.Tells.{CopierTells, copier_of}
 use Rattle.far_table.proofs.CopyFrames.{CopyStep, copied_is, copier_is, copies_none, is_copier, known_same, known_set}
-use Rattle.far_table.proofs.OwnSteps.{Leads}
+use Rattle.far_table.proofs.Exchanges.{by_case, lost_says, won_says}
+use Rattle.far_table.proofs.OwnSteps.{led_by}
 use Rattle.far_table.proofs.Lift.{copier_makes, copier_reads}
 use Rattle.far_table.proofs.Words.{data_word_set, job_here, job_word_set, no_word}
 
@@ -43,13 +45,13 @@ module _ (ws : List ℕ) (b : BookView) (os : OtherViews) (f : Facts ws b os) (v
   c = v.number
 
   -- what the copier knows, as the state has it
-  task_is : s.copying.task c ≡ v.task
+  pub task_is : s.copying.task c ≡ v.task
   task_is = ap (λ (y : CopierView). y.task) (copier_is os.copiers c v v at)
 
-  read_is : s.copying.read c ≡ words_read v
+  pub read_is : s.copying.read c ≡ words_read v
   read_is = ap words_read (copier_is os.copiers c v v at)
 
-  written_is : s.copying.written c ≡ words_written v
+  pub written_is : s.copying.written c ≡ words_written v
   written_is = ap words_written (copier_is os.copiers c v v at)
 
   -- ---- looks
@@ -58,42 +60,30 @@ module _ (ws : List ℕ) (b : BookView) (os : OtherViews) (f : Facts ws b os) (v
 
   -- ---- claims
   module _ (j old : ℕ) (job : Job) (low : j < JOBS) (none : v.task ≡ None) (offers : job_of old ≡ Some (Offered job)) where
-    abbrev new : ℕ
-    new = job_word (Taken job c)
+    abbrev n : ℕ
+    n = job_in ws j
 
     claim_legal : Legal s (Claim c j old)
     claim_legal = (is_copier ws b os f v at, low, task_is ∙ none, (job, offers))
 
-    won_step : job_in ws j ≡ old → CopyStep ws b os v (Claim c j old) Done (set ws (job_at j) new) (taken_view j (offered_in (job_of old)) v)
-    won_step won =
-        let w : CopierView = claimed_view j job v in
-        let is : (job_in ws j == old) ≡ true = eq-eqb (job_in ws j) old won in
-        let view : taken_view j (offered_in (job_of old)) v ≡ w = ap (λ x. taken_view j (offered_in x) v) offers in
-        subst (λ z. CopyStep ws b os v (Claim c j old) Done (set ws (job_at j) new) z) (sym view) record {
-          legal = claim_legal;
-          says = sym (ap (λ t. cond t Done (Word (job_in ws j))) is);
-          becomes = subst (λ z. Leads z (set ws (job_at j) new) b (with_copier os c w)) (sym (ap (λ t. cond t (after_claim s c j (offered_in (job_of old))) s) is ∙ ap (λ x. after_claim s c j (offered_in x)) offers))
-              (copied_is ws (set ws (job_at j) new) b os c w (job_word_set ws f.wide j new low) (known_set os.copiers c v w at (λ (y : CopierView). y.task)) (known_set os.copiers c v w at (λ (y : CopierView). y.length))
-              (known_set os.copiers c v w at words_read) (known_set os.copiers c v w at words_written));
-          number = refl;
-        }
+    -- the state after, once it is known whether the exchange won
+    by_won : (t : Bool) → (n == old) ≡ t → after s (Claim c j old) ≡ cond t (after_claim s c j (Some job)) s
+    by_won t e = ap (λ t. cond t (after_claim s c j (offered_in (job_of old))) s) e ∙ ap (λ x. cond t (after_claim s c j (offered_in x)) s) offers
 
-    lost_step : job_in ws j ≢ old → CopyStep ws b os v (Claim c j old) (Word (job_in ws j)) ws v
-    lost_step lost =
-        let is : (job_in ws j == old) ≡ false = ne_eqb (job_in ws j) old lost in record {
-          legal = claim_legal;
-          says = sym (ap (λ t. cond t Done (Word (job_in ws j))) is);
-          becomes = subst (λ z. Leads z ws b (with_copier os c v)) (sym (ap (λ t. cond t (after_claim s c j (offered_in (job_of old))) s) is)) (copies_none f v at);
-          number = refl;
-        }
+    won_step : n ≡ old → CopyStep ws b os v (Claim c j old) Done (set ws (job_at j) (job_word (Taken job c))) (claimed_view j job v)
+    won_step won = let w : CopierView = claimed_view j job v in record {
+      legal = claim_legal;
+      says = won_says n old won;
+      becomes = led_by (by_won true (eq-eqb n old won)) (copied_is ws (set ws (job_at j) (job_word (Taken job c))) b os c w (job_word_set ws f.wide j (job_word (Taken job c)) low)
+          (known_set os.copiers c v w at (λ (y : CopierView). y.task)) (known_set os.copiers c v w at (λ (y : CopierView). y.length)) (known_set os.copiers c v w at words_read) (known_set os.copiers c v w at words_written));
+      number = refl;
+    }
 
-    by_test : (t : Bool) → (job_in ws j == old) ≡ t →
-        CopyStep ws b os v (Claim c j old) (cond t Done (Word (job_in ws j))) (set ws (job_at j) (cond t new (job_in ws j))) (cond t (taken_view j (offered_in (job_of old)) v) v)
-    by_test true e = won_step (eqb-true (job_in ws j) old e)
-    by_test false e = subst (λ l. CopyStep ws b os v (Claim c j old) (Word (job_in ws j)) l v) (sym (ap (set ws (job_at j)) (job_here ws j low) ∙ set-get_or ws (job_at j) 0)) (lost_step (eqb-false (job_in ws j) old e))
+    lost_step : n ≢ old → CopyStep ws b os v (Claim c j old) (Word n) ws v
+    lost_step lost = record { legal = claim_legal; says = lost_says n old lost; becomes = led_by (by_won false (ne_eqb n old lost)) (copies_none f v at); number = refl }
 
-    pub claim_step : CopyStep ws b os v (Claim c j old) (exchange_reply old (job_in ws j)) (set ws (job_at j) (cond (job_in ws j == old) new (job_in ws j))) (claim_view j old (job_in ws j) v)
-    claim_step = by_test (job_in ws j == old) refl
+    pub claim_step : CopyStep ws b os v (Claim c j old) (exchange_reply old n) (set ws (job_at j) (either (n == old) (job_word (Taken job c)) n)) (claim_view j job old n v)
+    claim_step = by_case (CopyStep ws b os v (Claim c j old)) ws (job_at j) n old (job_word (Taken job c)) (claimed_view j job v) v (job_here ws j low) won_step lost_step
 
   -- ---- of the job that it has
   module _ (t : Task) (task : v.task ≡ Some t) where
@@ -122,19 +112,18 @@ module _ (ws : List ℕ) (b : BookView) (os : OtherViews) (f : Facts ws b os) (v
       number = refl;
     }
 
-    -- the words of the source, once its length is known
-    module _ (n i : ℕ) (long : v.length ≡ Some n) (low : i < words_for n) where
-      inside : i < job_words s.word t.job
-      inside = subst (λ k. i < words_for k) (f.law.copies.taken.long c n t has (ap (λ (y : CopierView). y.length) (copier_is os.copiers c v v at) ∙ long)) low
+    -- as many words as the length says, once that is read
+    words_are : (n : ℕ) → v.length ≡ Some n → words_for n ≡ job_words s.word t.job
+    words_are n long = ap words_for (f.law.copies.taken.long c n t has (ap (λ (y : CopierView). y.length) (copier_is os.copiers c v v at) ∙ long))
 
-      pub read_step : CopyStep ws b os v (Read c i) (Word (word_in ws (addr t.job.from + 1 + i))) ws (word_read_view i (word_in ws (addr t.job.from + 1 + i)) v)
-      read_step = let w : CopierView = word_read_view i (word_in ws (addr t.job.from + 1 + i)) v in record {
-        legal = (t, has, inside);
-        says = rw has refl;
-        becomes = rw has (copied_is ws ws b os c w (no_word ws f.wide) (known_same os.copiers c v w at (λ (y : CopierView). y.task) refl) (known_same os.copiers c v w at (λ (y : CopierView). y.length) refl)
-            (known_set os.copiers c v w at words_read ∙ ap (λ f. put s.copying.read c (put f i (Some (word_in ws (addr t.job.from + 1 + i))))) (sym read_is)) (known_same os.copiers c v w at words_written refl));
-        number = refl;
-      }
+    pub read_step : (i : ℕ) → i < job_words s.word t.job → CopyStep ws b os v (Read c i) (Word (word_in ws (addr t.job.from + 1 + i))) ws (word_read_view i (word_in ws (addr t.job.from + 1 + i)) v)
+    read_step i inside = let w : CopierView = word_read_view i (word_in ws (addr t.job.from + 1 + i)) v in record {
+      legal = (t, has, inside);
+      says = rw has refl;
+      becomes = rw has (copied_is ws ws b os c w (no_word ws f.wide) (known_same os.copiers c v w at (λ (y : CopierView). y.task) refl) (known_same os.copiers c v w at (λ (y : CopierView). y.length) refl)
+          (known_set os.copiers c v w at words_read ∙ ap (λ f. put s.copying.read c (put f i (Some (word_in ws (addr t.job.from + 1 + i))))) (sym read_is)) (known_same os.copiers c v w at words_written refl));
+      number = refl;
+    }
 
     -- a word that was read
     module _ (i x : ℕ) (got : words_read v i ≡ Some x) where
@@ -156,18 +145,15 @@ module _ (ws : List ℕ) (b : BookView) (os : OtherViews) (f : Facts ws b os) (v
       }
 
     -- all words were written
-    module _ (n : ℕ) (long : v.length ≡ Some n) (all : (i : ℕ) → i < words_for n → words_written v i ≡ true) where
-      pub finish_step : CopyStep ws b os v (Finish c) Done (set ws (job_at t.number) (job_word (Finished t.job c))) (finished_view v)
-      finish_step =
-          let w : CopierView = finished_view v in
-          let length : n ≡ head_len (s.word (addr t.job.from)) = f.law.copies.taken.long c n t has (ap (λ (y : CopierView). y.length) (copier_is os.copiers c v v at) ∙ long) in record {
-            legal = (t, has, λ i lt. ap (λ f. f i) written_is ∙ all i (subst (λ k. i < words_for k) (sym length) lt));
-            says = refl;
-            becomes = rw has (copied_is ws (set ws (job_at t.number) (job_word (Finished t.job c))) b os c w (job_word_set ws f.wide t.number (job_word (Finished t.job c)) (task_lies s f.law c t has).0)
-                (known_set os.copiers c v w at (λ (y : CopierView). y.task)) (known_same os.copiers c v w at (λ (y : CopierView). y.length) refl) (known_same os.copiers c v w at words_read refl)
-                (known_same os.copiers c v w at words_written refl));
-            number = refl;
-          }
+    pub finish_step : AllWritten (words_written v) (job_words s.word t.job) → CopyStep ws b os v (Finish c) Done (set ws (job_at t.number) (job_word (Finished t.job c))) (finished_view v)
+    finish_step all = let w : CopierView = finished_view v in record {
+      legal = (t, has, λ i lt. ap (λ f. f i) written_is ∙ all i lt);
+      says = refl;
+      becomes = rw has (copied_is ws (set ws (job_at t.number) (job_word (Finished t.job c))) b os c w (job_word_set ws f.wide t.number (job_word (Finished t.job c)) (task_lies s f.law c t has).0)
+          (known_set os.copiers c v w at (λ (y : CopierView). y.task)) (known_same os.copiers c v w at (λ (y : CopierView). y.length) refl) (known_same os.copiers c v w at words_read refl)
+          (known_same os.copiers c v w at words_written refl));
+      number = refl;
+    }
 
 -- ---- what a step on the table asks
 module _ {S : Type 0} (slots id : ℕ) (me : Me S View) (is : me.0 ≡ Copier (copier_of me.0)) where
@@ -181,15 +167,13 @@ module _ {S : Type 0} (slots id : ℕ) (me : Me S View) (is : me.0 ≡ Copier (c
 
   pub claims : (j old x : ℕ) (job : Job) → j < JOBS → old < 2 ^ 64 → mine.task ≡ None → job_of old ≡ Some (Offered job) → x ≡ job_word (Taken job mine.number) →
       Allows Running slots id me (job_at j) (λ n. either (n == old) x n) (JobClaimed (step slots (job_at j) old x none) me)
-  claims j old x job low fits free offers word = copier_makes slots id (job_at j) me is (Claim mine.number j old) refl fits (exchange_reply old) (λ n. claim_view j old n mine)
+  claims j old x job low fits free offers word = copier_makes slots id (job_at j) me is (Claim mine.number j old) refl fits (exchange_reply old) (λ n. claim_view j job old n mine)
       (JobClaimed (step slots (job_at j) old x none) me) (λ n. either (n == old) x n)
-      (λ ws b os f at.
-      subst (λ z. CopyStep ws b os mine (Claim mine.number j old) (exchange_reply old (slice_index ws (job_at j))) (set ws (job_at j) (either (slice_index ws (job_at j) == old) z (slice_index ws (job_at j))))
-      (claim_view j old (slice_index ws (job_at j)) mine)) (sym word)
-      (subst (λ n. CopyStep ws b os mine (Claim mine.number j old) (exchange_reply old n) (set ws (job_at j) (cond (n == old) (job_word (Taken job mine.number)) n)) (claim_view j old n mine)) (job_here ws j low)
-      (claim_step ws b os f mine at j old job low free offers)))
-      (λ ws b os f at t q e. let n : ℕ = slice_index ws (job_at j) in let same : j ≡ q = omega arith in
-      subst (λ z. CopierTells me.0 (Copier (claim_view j old n mine)) (Claim mine.number z old) (exchange_reply old n) (claim_view z old n mine)) same t)
+      (λ ws b os f at. subst (λ (z : ℕ × ℕ). CopyStep ws b os mine (Claim mine.number j old) (exchange_reply old z.0) (set ws (job_at j) (either (z.0 == old) z.1 z.0)) (claim_view j job old z.0 mine))
+      (λ i. (job_here ws j low i, sym word i)) (claim_step ws b os f mine at j old job low free offers))
+      (λ ws b os f at t q other e its. let n : ℕ = slice_index ws (job_at j) in
+      let same : j ≡ q = omega arith in let both : Some (Offered job) ≡ Some (Offered other) = sym offers ∙ its in let one : job ≡ other = cc in
+      subst (λ (z : ℕ × Job). CopierTells me.0 (Copier (claim_view j job old n mine)) (Claim mine.number z.0 old) (exchange_reply old n) (claim_view z.0 z.1 old n mine)) (λ i. (same i, one i)) t)
 
   module _ (t : Task) (task : mine.task ≡ Some t) where
     -- a task is one
@@ -204,7 +188,7 @@ module _ {S : Type 0} (slots id : ℕ) (me : Me S View) (is : me.0 ≡ Copier (c
     pub reads_source : (n i a : ℕ) → mine.length ≡ Some n → i < words_for n → a ≡ data_at (addr t.job.from + 1 + i) → Allows Running slots id me a (λ n. n) (SourceRead (step slots a 0 0 none) me)
     reads_source n i a long low here = subst (λ z. Allows Running slots id me z (λ n. n) (SourceRead (step slots z 0 0 none) me)) (sym here) (copier_reads slots id (data_at (addr t.job.from + 1 + i)) me is (Read mine.number i) refl tt Word (λ x. word_read_view i x mine)
         (SourceRead (step slots (data_at (addr t.job.from + 1 + i)) 0 0 none) me)
-        (λ ws b os f at. read_step ws b os f mine at t task n i long low)
+        (λ ws b os f at. read_step ws b os f mine at t task i (subst (λ k. i < k) (words_are ws b os f mine at t task n long) low))
         (λ ws b os f at tells k u other e. let x : ℕ = slice_index ws (data_at (addr t.job.from + 1 + i)) in
         let from : addr t.job.from ≡ addr u.job.from = ap (λ (z : Task). addr z.job.from) (one_task u other) in let same : i ≡ k = omega (arith, e, from) in
         subst (λ z. CopierTells me.0 (Copier (word_read_view i x mine)) (Read mine.number z) (Word x) (word_read_view z x mine)) same tells))
@@ -217,8 +201,9 @@ module _ {S : Type 0} (slots id : ℕ) (me : Me S View) (is : me.0 ≡ Copier (c
         let to : addr t.job.to ≡ addr u.job.to = ap (λ (z : Task). addr z.job.to) (one_task u other) in let same : i ≡ k = omega (arith, e, to) in
         subst (λ z. CopierTells me.0 (Copier (word_written_view i mine)) (Write mine.number z) Done (word_written_view z mine)) same tells))
 
-    pub finishes : (n x : ℕ) → mine.length ≡ Some n → ((i : ℕ) → i < words_for n → words_written mine i ≡ true) → x ≡ job_word (Finished t.job mine.number) →
-        Allows Running slots id me (job_at t.number) (λ _. x) (λ _. JobFinished (step slots (job_at t.number) x 0 none) me x)
-    finishes n x long all word = copier_makes slots id (job_at t.number) me is (Finish mine.number) refl tt (λ _. Done) (λ _. finished_view mine) (λ _. JobFinished (step slots (job_at t.number) x 0 none) me x) (λ _. x)
-        (λ ws b os f at. subst (λ z. CopyStep ws b os mine (Finish mine.number) Done (set ws (job_at t.number) z) (finished_view mine)) (sym word) (finish_step ws b os f mine at t task n long all))
-        (λ ws b os f at tells. tells)
+    pub finishes : (n x a : ℕ) → mine.length ≡ Some n → ((i : ℕ) → i < words_for n → words_written mine i ≡ true) → x ≡ job_word (Finished t.job mine.number) → a ≡ job_at t.number →
+        Allows Running slots id me a (λ _. x) (λ _. JobFinished (step slots a x 0 none) me x)
+    finishes n x a long all word here = subst (λ z. Allows Running slots id me z (λ _. x) (λ _. JobFinished (step slots z x 0 none) me x)) (sym here)
+        (copier_makes slots id (job_at t.number) me is (Finish mine.number) refl tt (λ _. Done) (λ _. finished_view mine) (λ _. JobFinished (step slots (job_at t.number) x 0 none) me x) (λ _. x)
+        (λ ws b os f at. subst (λ z. CopyStep ws b os mine (Finish mine.number) Done (set ws (job_at t.number) z) (finished_view mine)) (sym word) (finish_step ws b os f mine at t task (λ i lt. all i (subst (λ k. i < k) (sym (words_are ws b os f mine at t task n long)) lt))))
+        (λ ws b os f at tells. tells))

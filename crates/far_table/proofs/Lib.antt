@@ -36,7 +36,9 @@ pub mod BookKnown
 pub mod BookRounds
 pub mod BookWords
 pub mod ViewedLogs
+pub mod Exchanges
 pub mod OwnersAct
+pub mod CopiersAct
 pub mod WholeLogs
 pub mod WholeWords
 pub mod RowEvents

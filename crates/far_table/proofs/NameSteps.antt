@@ -1,10 +1,9 @@
 -- The book exchanges a cell: it is its event of the core, won or lost.
-use Rattle.std.proofs.Common.{◌≡◌, ◌≢◌, ◌+◌, ◌<◌, ◌^◌, ℕ, Bool, true, false, cond, inl, inr, [], ◌∷◌, List, Option, Some, None, set, sym, refl, ap, ◌∙◌, subst, arith, eqb-true}
+use Rattle.std.proofs.Common.{◌≡◌, ◌≢◌, ◌+◌, ◌<◌, ◌^◌, ℕ, Bool, true, false, cond, inl, inr, [], ◌∷◌, List, Option, Some, None, set, sym, refl, ap, ◌∙◌, subst, arith}
 use Rattle.std.specs.Prelude.{is_some, IsSome, slice_index, ◌⊎◌, ◌==◌, ◌||◌}
-use Rattle.std.proofs.lemmas.Bool.{cond_both, eq-eqb, eqb-false, false≢true, ne_eqb}
+use Rattle.std.proofs.lemmas.Bool.{cond_both, eq-eqb, false≢true, ne_eqb}
 use mathlib.Core.Logic.{dite}
 use native.Mathlib.Decide.{ℕ_discrete}
-use lib.Seq.{set-get_or}
 use prog.Atomic.{either}
 use mathlib.Core.Option.{none}
 use Rattle.atomic_table.specs.Table.{Me, step, Allows}
@@ -15,7 +14,6 @@ use Rattle.far_word.specs.declared.sizes.TheConstants.{POINTERS}
 use Rattle.far_word.specs.Header.{head_word}
 use Rattle.far_word.specs.Pointer.{read_of}
 use Rattle.far_word.specs.Sizes.{words_for}
-use Rattle.far_core.specs.declared.event.Event.{Event}
 use Rattle.far_core.specs.declared.event.Event.TheVariants.{Name}
 use Rattle.far_core.specs.declared.event.Reply.TheVariants.{Done, Word}
 use Rattle.far_core.specs.declared.naming.Naming.{Naming}
@@ -51,6 +49,7 @@ use Rattle.far_table.proofs.BookFrames.{BookStep, cells_stay}
 use Rattle.far_table.proofs.BookKnown.{forgets, forgotten}
 use Rattle.far_table.proofs.BookLift.{book_makes}
 use Rattle.far_table.proofs.BookSees.{cell_after, cells_few, epoch_after, finds_after, found_at, see_step, going_after}
+use Rattle.far_table.proofs.Exchanges.{by_case, lost_says, won_says}
 use Rattle.far_table.proofs.Masks.{counts, finds, going, is_masked, ties}
 use Rattle.far_table.proofs.NameRows.{begins_put, stored_after}
 use Rattle.far_table.proofs.OwnSteps.{led_by, reads, state_is}
@@ -377,7 +376,7 @@ module _ (ws : List ℕ) (b : BookView) (os : OtherViews) (f : Facts ws b os) (p
   won_step : cell_in ws p ≡ old → BookStep ws b os (Name p old new) Done later b'
   won_step won = let sizes = form_sizes p form b in record {
     legal = legal;
-    says = sym (ap (λ t. cond t Done (Word (cell_in ws p))) (eq-eqb (cell_in ws p) old won));
+    says = won_says (cell_in ws p) old won;
     becomes = led_by (won_state s p old new form won by_view.1.1 ∙ row_becomes form (told form by_view.1.1 by_view.1.2) by_view.1.1) (state_is later b' os (cell_after ws b os f p new few) refl refl refl);
     book = λ law. ties later b' os law (λ _. false) words_named (finds_named_too form) (counts_none (book_state b') (book_state b').cell) (epoch_after ws b os f p new few ∙ sym sizes.3) (going_named form);
     leaves = record {
@@ -394,19 +393,15 @@ module _ (ws : List ℕ) (b : BookView) (os : OtherViews) (f : Facts ws b os) (p
   lost_step : cell_in ws p ≢ old → BookStep ws b os (Name p old new) (Word (cell_in ws p)) ws (saw_view p (cell_in ws p) b)
   lost_step ne = let seen = see_step ws b os f plain p h.0 in record {
     legal = legal;
-    says = sym (ap (λ t. cond t Done (Word (cell_in ws p))) (ne_eqb (cell_in ws p) old ne));
+    says = lost_says (cell_in ws p) old ne;
     becomes = reads f (after s (Name p old new)) (saw_view p (cell_in ws p) b) os (lost_state s p old new ne);
     book = seen.book;
     leaves = cells_stay refl refl refl (λ _ _. (refl, refl, refl));
   }
 
-  by_test : (t : Bool) → (cell_in ws p == old) ≡ t →
-      BookStep ws b os (Name p old new) (cond t Done (Word (cell_in ws p))) (set ws (cell_at p) (either t new (cell_in ws p))) (cond t (named_view p old new b) (saw_view p (cell_in ws p) b))
-  by_test true e = subst (λ z. BookStep ws b os (Name p old new) Done later z) (sym (ap (λ x. view_by p old new x b) (naming_only form (read_of old) (read_of new) by_view.1.1))) (won_step (eqb-true (cell_in ws p) old e))
-  by_test false e = subst (λ l. BookStep ws b os (Name p old new) (Word (cell_in ws p)) l (saw_view p (cell_in ws p) b)) (sym (ap (set ws (cell_at p)) (cell_here ws p few) ∙ set-get_or ws (cell_at p) 0)) (lost_step (eqb-false (cell_in ws p) old e))
-
   pub exchange_step : BookStep ws b os (Name p old new) (exchange_reply old (cell_in ws p)) (set ws (cell_at p) (either (cell_in ws p == old) new (cell_in ws p))) (exchanged_view p old new (cell_in ws p) b)
-  exchange_step = by_test (cell_in ws p == old) refl
+  exchange_step = by_case (BookStep ws b os (Name p old new)) ws (cell_at p) (cell_in ws p) old new (named_view p old new b) (saw_view p (cell_in ws p) b) (cell_here ws p few)
+      (λ won. subst (BookStep ws b os (Name p old new) Done later) (sym (ap (λ x. view_by p old new x b) (naming_only form (read_of old) (read_of new) by_view.1.1))) (won_step won)) lost_step
 
 module _ {S : Type 0} (slots id : ℕ) (me : Me S View) (is : me.0 ≡ Book (book_of me.0)) (plain : IsPlain (book_of me.0)) (p old new : ℕ) (old_fits : old < 2 ^ 64) (fits : new < 2 ^ 64) where
   abbrev mine : BookView
@@ -418,14 +413,3 @@ module _ {S : Type 0} (slots id : ℕ) (me : Me S View) (is : me.0 ≡ Book (boo
       (λ ws os f _. subst (λ n. BookStep ws mine os (Name p old new) (exchange_reply old n) (set ws (cell_at p) (either (n == old) new n)) (exchanged_view p old new n mine)) (cell_here ws p (cells_few ws mine os f p h.0)) (exchange_step ws mine os f plain p old new fits h known))
       (λ ws os f _ t q e. let n : ℕ = slice_index ws (cell_at p) in
       found_at slots id me is plain p ws os f h.0 q e (λ z. BookTells me.0 (Book (exchanged_view p old new n mine)) (Name z old new) (exchange_reply old n) (exchanged_view z old new n mine)) t)
-
--- ---- what the step tells, once it is known whether it won
-module _ (v v' : View) (e : Event) (p old new found : ℕ) (t : BookTells v v' e (exchange_reply old found) (exchanged_view p old new found (book_of v))) where
-  at_test : (x : Bool) → (found == old) ≡ x → BookTells v v' e (cond x Done (Word found)) (cond x (named_view p old new (book_of v)) (saw_view p found (book_of v)))
-  at_test x is = subst (λ y. BookTells v v' e (cond y Done (Word found)) (cond y (named_view p old new (book_of v)) (saw_view p found (book_of v)))) is t
-
-  pub won_tells : found ≡ old → BookTells v v' e Done (named_view p old new (book_of v))
-  won_tells is = at_test true (eq-eqb found old is)
-
-  pub lost_tells : found ≢ old → BookTells v v' e (Word found) (saw_view p found (book_of v))
-  lost_tells ne = at_test false (ne_eqb found old ne)

@@ -1,5 +1,5 @@
 -- What a contract sees of the book's seat.
-use Rattle.std.specs.Prelude.{◌≡◌, ◌+◌, ℕ, List, refl}
+use Rattle.std.specs.Prelude.{◌≡◌, ◌+◌, ℕ, Bool, true, false, List, refl}
 use Rattle.std.proofs.Common.{◌∙◌, ap, sym, subst}
 use Rattle.std.proofs.Math.Logic.{∥∥₁_map}
 use Rattle.atomic_table.specs.Seated.{TableId}
@@ -10,6 +10,7 @@ use Rattle.far_core.specs.declared.event.Reply.{Reply}
 use Rattle.far_core.specs.declared.event.Reply.TheVariants.{Refused}
 use Rattle.far_core.specs.state.Law.{Law}
 use Rattle.far_core.specs.state.State.{State}
+use Rattle.far_hand.specs.Makers.{Maker, ByBook, ByCopier, ByOwner, maker}
 use Rattle.far_hand.specs.MayBe.{Made, Shows, Tells}
 use Rattle.far_hand.proofs.Making.{spent_made}
 use Rattle.far_table.specs.declared.book.BookSeat.{BookSeat}
@@ -33,6 +34,15 @@ pub record MayBe (b : BookView) (x : State) : Type 0 where
   pub others : OtherViews
   pub facts : Facts words b others
   pub is : x ≡ state_of words b others
+
+-- the events of copiers
+abbrev pub is_copier : Maker → Bool
+is_copier ByBook = false
+is_copier (ByOwner m) = false
+is_copier (ByCopier c) = true
+
+abbrev pub is_copiers : Event → Bool
+is_copiers e = is_copier (maker e)
 
 -- ---- the seat as a hand
 abbrev pub seat_view : {D : Type 0} → BookSeat D → State

@@ -1,9 +1,7 @@
 -- What stands in a copier's view, and how its steps change it.
 use Rattle.std.specs.Prelude.{ℕ, ◌==◌, Bool, true, false, cond, Option, Some, None, List, [], ◌∷◌, slice_index_or}
 use Rattle.far_word.specs.declared.job.Job.{Job}
-use Rattle.far_word.specs.Job.{job_of}
 use Rattle.far_log.specs.Spans.{head_len}
-use Rattle.far_core.specs.events.Claim.{offered_in}
 use Rattle.far_table.specs.View.{CopierView, idle}
 use Rattle.far_table.specs.Rows.{over}
 
@@ -19,14 +17,9 @@ words_written v = over v.written (λ _. false)
 abbrev pub claimed_view : ℕ → Job → CopierView → CopierView
 claimed_view j job v = record v { task = Some record { number = j; job = job }; length = None; read = []; written = [] }
 
--- the same of the job that a word offers, if it does
-abbrev pub taken_view : ℕ → Option Job → CopierView → CopierView
-taken_view j None v = v
-taken_view j (Some job) v = claimed_view j job v
-
 -- the view after an exchange of job j's word, by the word found: it won, or nothing changed
-abbrev pub claim_view : ℕ → ℕ → ℕ → CopierView → CopierView
-claim_view j old found v = cond (found == old) (taken_view j (offered_in (job_of old)) v) v
+abbrev pub claim_view : ℕ → Job → ℕ → ℕ → CopierView → CopierView
+claim_view j job old found v = cond (found == old) (claimed_view j job v) v
 
 -- the source's header was read
 abbrev pub measured_view : ℕ → CopierView → CopierView

@@ -1,7 +1,8 @@
 -- What a contract sees of a copier's seat, and of a job that it has.
-use Rattle.std.specs.Prelude.{◌≡◌, ◌≢◌, ◌⊎◌, ◌+◌, ◌<◌, ◌≤◌, ℕ, true, Some, None, option_map}
+use Rattle.std.specs.Prelude.{◌≡◌, ◌≢◌, ◌⊎◌, ◌+◌, ◌-◌, ◌<◌, ◌≤◌, ℕ, true, Some, None, option_map}
 use Rattle.far_word.specs.declared.job.JobWord.TheVariants.{Offered, Taken}
-use Rattle.far_word.specs.Job.{job_of}
+use Rattle.far_word.specs.declared.pointer.Place.{Place}
+use Rattle.far_word.specs.Job.{job_in, job_of}
 use Rattle.far_word.specs.Sizes.{words_for}
 use Rattle.far_log.specs.Spans.{head_len}
 use Rattle.far_core.specs.declared.event.Event.TheVariants.{PeekJob, Claim, ReadLength, Read, Write}
@@ -11,24 +12,50 @@ use Rattle.far_core.specs.events.Claim.{offered_in}
 use Rattle.far_core.specs.events.Step.{after}
 use Rattle.far_core.specs.state.Jobs.{job_words}
 use Rattle.far_core.specs.state.State.{State, addr}
-use Rattle.far_table.specs.declared.copy_seat.Job.{Job}
 use Rattle.far_table.specs.CopierViews.{claimed_view, measured_view, word_read_view, word_written_view, words_written}
+use Rattle.far_table.specs.Layout.{JOBS_AT, data_at}
 use Rattle.far_table.specs.Tells.{CopierMade, CopierMayBe}
 use Rattle.far_table.specs.View.{CopierView}
 
+-- a job: which one it is, with its object's pointer and places; how many data words the object has, and how many of them are copied
+pub record CopyJob : Type 0 where
+  pub task : Task
+  pub words : ℕ
+  pub copied : ℕ
+
+-- ---- what a job keeps: where its word stands in the table, the word that offered it, and where the next word of its source stands, that of its target, and the source's end
+-- where the first data word of the object at a place stands
+abbrev pub first_at : Place → ℕ
+first_at place = data_at (addr place + 1)
+
+-- the job of this number, as its word says
+abbrev pub task_of : ℕ → ℕ → Task
+task_of number word = record { number = number; job = job_in word }
+
+abbrev pub job_kept : ℕ → ℕ → ℕ → ℕ → CopyJob
+job_kept at offered from end = record { task = task_of (at - JOBS_AT) offered; words = end - first_at (job_in offered).from; copied = from - first_at (job_in offered).from }
+
+pub record IsKept (at offered from to end : ℕ) : Type 0 where
+  pub low : JOBS_AT ≤ at
+  pub offers : job_of offered ≡ Some (Offered (job_in offered))
+  pub begun : first_at (job_in offered).from ≤ from
+  pub some : from ≤ end
+  pub along : to + first_at (job_in offered).from ≡ from + first_at (job_in offered).to
+
+-- ---- a job of a copier
 -- the job is the one that the copier has, of as many words as the length that it has read says; so many of them were written, from the first on
-pub record IsJobOf (job : Job) (v : CopierView) : Type 0 where
+pub record IsJobOf (job : CopyJob) (v : CopierView) : Type 0 where
   pub task : v.task ≡ Some job.task
   pub long : option_map words_for v.length ≡ Some job.words
   pub some : job.copied ≤ job.words
   pub written : (i : ℕ) → i < job.copied → words_written v i ≡ true
 
 -- no word is left
-abbrev pub IsCopied : Job → Type 0
+abbrev pub IsCopied : CopyJob → Type 0
 IsCopied job = job.copied ≡ job.words
 
 -- one word more is copied
-abbrev pub copied_on : Job → Job
+abbrev pub copied_on : CopyJob → CopyJob
 copied_on job = record job { copied = job.copied + 1 }
 
 -- ---- a claim
@@ -46,7 +73,7 @@ pub record Took (task : Task) (v v' : CopierView) : Type 0 where
   pub view : v' ≡ claimed_view task.number task.job v
 
 -- the header of its source was read: it has as many words as the header says, of which none is copied
-pub record Measured (job : Job) (v v' : CopierView) : Type 0 where
+pub record Measured (job : CopyJob) (v v' : CopierView) : Type 0 where
   pub head : ℕ
   pub reads : CopierMade (ReadLength v.number) v (Word head) v'
   pub view : v' ≡ measured_view head v
@@ -54,11 +81,11 @@ pub record Measured (job : Job) (v v' : CopierView) : Type 0 where
   pub copied : job.copied ≡ 0
 
 -- both, one after the other
-abbrev pub Claimed : Job → CopierView → CopierView → Type 0
+abbrev pub Claimed : CopyJob → CopierView → CopierView → Type 0
 Claimed job v v' = (taken : CopierView) × Took job.task v taken × Measured job taken v'
 
 -- the job's word says that this copier has taken it, and the copier has it; no other has it
-pub record IsTakenBy (c : ℕ) (job : Job) (s : State) : Type 0 where
+pub record IsTakenBy (c : ℕ) (job : CopyJob) (s : State) : Type 0 where
   pub says : job_of (s.copying.word job.task.number) ≡ Some (Taken job.task.job c)
   pub has : s.copying.task c ≡ Some job.task
   pub alone : (d : ℕ) (t : Task) → s.copying.task d ≡ Some t → t.number ≡ job.task.number → d ≡ c
@@ -73,7 +100,7 @@ pub record OnlyWord (a w : ℕ) (s t : State) : Type 0 where
 
 -- the next word of a job was copied: it was read of the source, and this word was written to the target. The write changes no other word, in
 -- whatever state it was made
-pub record CopiedNext (job : Job) (v v' : CopierView) : Type 0 where
+pub record CopiedNext (job : CopyJob) (v v' : CopierView) : Type 0 where
   pub word : ℕ
   pub reads : CopierMade (Read v.number job.copied) v (Word word) (word_read_view job.copied word v)
   pub writes : CopierMade (Write v.number job.copied) (word_read_view job.copied word v) Done v'

@@ -7,7 +7,7 @@ ghost use Rattle.far_hand.specs.Makers.{is_owners};
 ghost use Rattle.far_hand.proofs.Reading.{Gets};
 ghost use Rattle.std.specs.Prelude.{◌≡◌, true, false};
 ghost use Rattle.far_core.specs.state.State.{State};
-ghost use Rattle.far_table.specs.BookSeats.{seat_makes, seat_may_be, seat_view};
+ghost use Rattle.far_table.specs.BookSeats.{is_copiers, seat_makes, seat_may_be, seat_view};
 ghost use Rattle.far_table.specs.Viewed.{NoneIsGivenOut};
 ghost use Rattle.far_table.specs.Whole.{IsWhole};
 
@@ -160,6 +160,14 @@ impl<D: Device> BookSeat<D> {
     /// to another.
     pub fn owners_may_act(&self)
         ensures { (x : State) → seat_may_be self.now x → (e : any_event) → is_owners e ≡ true → Fits e → Legal x e → seat_may_be self.now (after x e) }
+    {
+        let _logs = self.logs;
+    }
+
+    /// Beside this seat copiers may do whatever the core allows: from any state that the words and all views may be in, a copier's event that is legal there leads
+    /// to another.
+    pub fn copiers_may_act(&self)
+        ensures { (x : State) → seat_may_be self.now x → (e : any_event) → is_copiers e ≡ true → Fits e → Legal x e → seat_may_be self.now (after x e) }
     {
         let _logs = self.logs;
     }

@@ -1,36 +1,50 @@
 // A copier's seat.
-ghost use Rattle.std.specs.Prelude.{◌≡◌, ◌+◌, ◌<◌, ℕ, true, false, Some, None, IfSome};
+ghost use Rattle.std.specs.Prelude.{◌≡◌, ◌+◌, ◌*◌, ◌^◌, ◌<◌, ℕ, true, false, Some, None, IfSome, IsSome};
 ghost use Rattle.std.specs.Arc.{arc_value};
+ghost use Rattle.far_word.specs.declared.job.JobWord.TheVariants.{Offered};
 ghost use Rattle.far_word.specs.declared.sizes.TheConstants.{JOBS, MOST_COPIERS};
+ghost use Rattle.far_word.specs.Job.{job_in, job_of};
 ghost use Rattle.far_core.specs.declared.event.Event.{Event as any_event};
 ghost use Rattle.far_core.specs.declared.event.Reply.{Reply as any_reply};
-ghost use Rattle.far_core.specs.declared.event.Task.{Task as any_task};
-ghost use Rattle.far_core.specs.state.State.{State, addr};
+ghost use Rattle.far_core.specs.state.State.{State};
 ghost use Rattle.far_table.specs.CopierViews.{finished_view};
-ghost use Rattle.far_table.specs.CopySeats.{Claimed, CopiedNext, IsCopied, IsJobOf, IsTakenBy, Measured, Missed, Took, copied_on};
+ghost use Rattle.far_table.specs.CopySeats.{Claimed, CopiedNext, IsCopied, IsJobOf, IsTakenBy, Measured, Missed, Took, copied_on, task_of};
 ghost use Rattle.far_table.specs.Layout.{TABLE_WORDS};
 ghost use Rattle.far_table.specs.Tells.{CopierMade, CopierMayBe, CopierStands, copier_of};
 ghost use Rattle.far_table.specs.View.{Copier, CopierView};
 
+use crate::job_word::{COPIER, FINISHES, TAKES, is_offered, source_of, target_of};
 use crate::layout::{JOBS_AT, LOGS};
 use crate::rule::{self, FarTable};
 use crate::view::View;
 use atomic_table::Seat;
-use far_core::{Event, Reply, Task};
+use far_core::{Event, Reply};
 use far_device::Device;
-use far_word::{HeadWord, JOBS, JobWord, LOG_WORDS, Place, words_for};
+use far_word::{HeadWord, JOBS, words_for};
 use std::alloc::Global;
 use std::marker::Model;
 use std::sync::Arc;
 
 /// A job that a copier has claimed: the copy of one object, word by word. [`CopySeat::claim`] alone makes one.
-#[derive(Debug, Drop)]
+#[derive(Drop)]
 pub struct Job {
-    // Which job it is, and the object's pointer and places.
-    task: Task,
-    // How many data words the object has, and how many of them are copied.
-    words: u16,
-    copied: u16,
+    // Where the job's word stands, and the word by which the job was offered.
+    at: usize,
+    offered: u64,
+    // Where the next word of the object's data stands, where its copy comes to stand, and where the object's data ends.
+    from: usize,
+    to: usize,
+    end: usize,
+}
+
+impl Model for Job {
+    ghost use Rattle.far_table.specs.CopySeats.{CopyJob, IsKept, job_kept};
+
+    ghost Value = { CopyJob };
+
+    ghost view = { λ j. job_kept j.at j.offered j.from j.end };
+
+    ghost invariant = { λ j. IsKept j.at j.offered j.from j.to j.end };
 }
 
 /// A copier's seat on the shared words. Each step of a call is one event of [`far_core`], one atomic step; no call takes memory, and
@@ -41,11 +55,13 @@ pub struct Job {
 pub struct CopySeat<D: Device> {
     table: Arc<FarTable<D>, Global>,
     seat: Seat<u64, View>,
-    number: u8,
+    // What it adds to the word that offers a job, when it takes the job and when it has finished it.
+    taking: u64,
+    finishing: u64,
 }
 
 impl<D: Device> Model for CopySeat<D> {
-    ghost use Rattle.std.specs.Prelude.{◌≡◌, ◌<◌};
+    ghost use Rattle.std.specs.Prelude.{◌≡◌, ◌+◌, ◌*◌, ◌^◌, ◌<◌};
     ghost use Rattle.std.specs.Arc.{arc_value};
     ghost use Rattle.far_word.specs.declared.sizes.TheConstants.{MOST_COPIERS};
     ghost use Rattle.far_table.specs.Layout.{TABLE_WORDS};
@@ -57,14 +73,7 @@ impl<D: Device> Model for CopySeat<D> {
 
     ghost view = { λ s. record { table = s.seat.table_id; view = copier_of s.seat.me.0 } };
 
-    ghost invariant = { λ s. (s.seat.table_id ≡ (arc_value s.table).shared.table_id) × (s.seat.table_id.words ≡ TABLE_WORDS) × (s.seat.me.0 ≡ Copier (copier_of s.seat.me.0)) × ((copier_of s.seat.me.0).number ≡ s.number) × (s.number < MOST_COPIERS) × CopierStands (copier_of s.seat.me.0) };
-}
-
-// Where the header at a place stands, counted from word 0 of log 0.
-fn head_at(place: Place) -> usize
-    ensures { result ≡ addr place }
-{
-    place.log as usize * LOG_WORDS as usize + place.at as usize
+    ghost invariant = { λ s. (s.seat.table_id ≡ (arc_value s.table).shared.table_id) × (s.seat.table_id.words ≡ TABLE_WORDS) × (s.seat.me.0 ≡ Copier (copier_of s.seat.me.0)) × (s.taking ≡ (copier_of s.seat.me.0).number * 2 ^ 58 + 1 * 2 ^ 62) × (s.finishing ≡ (copier_of s.seat.me.0).number * 2 ^ 58 + 2 * 2 ^ 62) × ((copier_of s.seat.me.0).number < MOST_COPIERS) × CopierStands (copier_of s.seat.me.0) };
 }
 
 impl<D: Device> CopySeat<D> {
@@ -80,10 +89,13 @@ impl<D: Device> CopySeat<D> {
         requires there { CopierStands (copier_of seat.me.0) }
         ensures { result ≡ record { table = seat.table_id; view = copier_of seat.me.0 } }
     {
+        let taking = ((number as u64) << COPIER) + TAKES;
+        let finishing = ((number as u64) << COPIER) + FINISHES;
         CopySeat {
             table,
             seat,
-            number,
+            taking,
+            finishing,
         }
     }
 
@@ -95,8 +107,8 @@ impl<D: Device> CopySeat<D> {
         ensures taken { (x : State) → CopierMayBe self.now.view x → IsTakenBy self.now.view.number job.now x }
         ensures there { CopierStands self.now.view }
     {
-        let _number = self.number;
-        let _words = job.words;
+        let _taking = self.taking;
+        let _end = job.end;
     }
 
     /// Takes a job that is offered: the first that is found so and won, of looks at each of the 16 jobs, in their order, and of one attempt to take it
@@ -110,68 +122,70 @@ impl<D: Device> CopySeat<D> {
         ensures none { result ≡ None → (self.new ≡ self.old) × ((j : ℕ) → j < JOBS → Missed self.old.view j) }
     {
         for number in 0..JOBS {
-            if let Some(task) = self.take(number) {
-                return Some(self.begin(task));
+            if let Some(offered) = self.take(number) {
+                return Some(self.begin(number, offered));
             }
         }
         None
     }
 
-    // One look at a job: where it is offered, one attempt to take it.
-    fn take(&mut self, number: u8) -> Option<Task>
+    // One look at a job: where it is offered, one attempt to take it. The word that offered it.
+    fn take(&mut self, number: u8) -> Option<u64>
         requires job { number < JOBS }
         requires free { self.old.view.task ≡ None }
         ensures table { self.new.table ≡ self.old.table }
-        ensures took { IfSome result (λ task. (task.number ≡ number) × Took task self.old.view self.new.view) }
+        ensures took { IfSome result (λ word. Took (task_of number word) self.old.view self.new.view) }
+        ensures offers { IfSome result (λ word. job_of word ≡ Some (Offered (job_in word))) }
         ensures missed { result ≡ None → (self.new ≡ self.old) × Missed self.old.view number }
     {
         let word = self.peek(number);
-        let Some(JobWord::Offered { job }) = JobWord::read(word) else {
+        if !is_offered(word) {
             return None;
-        };
-        let taken = JobWord::Taken {
-            job,
-            copier: self.number,
-        };
+        }
         let found = self.table.shared.compare_exchange::<rule::Claim>(
             &mut self.seat,
             number as usize + JOBS_AT,
             word,
-            taken.pack(),
+            word + self.taking,
         );
-        if found == word {
-            Some(Task { number, job })
-        } else {
-            None
+        if found != word {
+            return None;
         }
+        Some(word)
     }
 
     // The word of a job.
     fn peek(&mut self, number: u8) -> u64
         requires job { number < JOBS }
         ensures same { self.new ≡ self.old }
-        ensures event { CopierMade (Event.PeekJob self.old.view.number number) self.old.view (Reply.Word result) self.new.view }
+        ensures event { CopierMade (Event.PeekJob self.old.view.number number) self.old.view (Reply.Word result) self.old.view }
+        ensures reads { IsSome (job_of result) }
     {
         self.table
             .shared
             .load::<rule::PeekJob>(&mut self.seat, number as usize + JOBS_AT)
     }
 
-    // The length of a job's object, from the header of its source.
-    fn begin(&mut self, task: Task) -> Job
-        requires own { self.old.view.task ≡ Some task }
+    // The job that was taken, with the length of its object, from the header of its source.
+    fn begin(&mut self, number: u8, offered: u64) -> Job
+        requires own { self.old.view.task ≡ Some (task_of number offered) }
+        requires offers { job_of offered ≡ Some (Offered (job_in offered)) }
         ensures table { self.new.table ≡ self.old.table }
-        ensures task { result.task ≡ task }
+        ensures task { result.task ≡ task_of number offered }
         ensures measured { Measured result self.old.view self.new.view }
     {
+        let source = source_of(offered) + LOGS;
         let head = self
             .table
             .shared
-            .load::<rule::ReadLength>(&mut self.seat, head_at(task.job.from) + LOGS);
+            .load::<rule::ReadLength>(&mut self.seat, source);
+        let from = source + 1;
         Job {
-            task,
-            words: words_for(HeadWord::known(head).len),
-            copied: 0,
+            at: number as usize + JOBS_AT,
+            offered,
+            from,
+            to: target_of(offered) + LOGS + 1,
+            end: from + words_for(HeadWord::known(head).len) as usize,
         }
     }
 
@@ -183,17 +197,18 @@ impl<D: Device> CopySeat<D> {
         ensures copied { result ≡ true → (job.new ≡ copied_on job.old) × CopiedNext job.old self.old.view self.new.view }
         ensures ended { result ≡ false → IsCopied job.old × (job.new ≡ job.old) × (self.new ≡ self.old) }
     {
-        if job.copied == job.words {
+        if job.from == job.end {
             return false;
         }
-        let next = job.copied as usize + 1 + LOGS;
-        let from = head_at(job.task.job.from) + next;
-        let word = self.table.shared.load::<rule::Read>(&mut self.seat, from);
-        let to = head_at(job.task.job.to) + next;
+        let word = self
+            .table
+            .shared
+            .load::<rule::Read>(&mut self.seat, job.from);
         self.table
             .shared
-            .store::<rule::Write>(&mut self.seat, to, word);
-        job.copied += 1;
+            .store::<rule::Write>(&mut self.seat, job.to, word);
+        job.from += 1;
+        job.to += 1;
         true
     }
 
@@ -205,14 +220,8 @@ impl<D: Device> CopySeat<D> {
         ensures view { self.new.view ≡ finished_view self.old.view }
         ensures event { CopierMade (Event.Finish self.old.view.number) self.old.view Reply.Done self.new.view }
     {
-        let finished = JobWord::Finished {
-            job: job.task.job,
-            copier: self.number,
-        };
-        self.table.shared.store::<rule::Finish>(
-            &mut self.seat,
-            job.task.number as usize + JOBS_AT,
-            finished.pack(),
-        );
+        self.table
+            .shared
+            .store::<rule::Finish>(&mut self.seat, job.at, job.offered + self.finishing);
     }
 }

@@ -8,6 +8,7 @@
 mod book;
 mod book_hand;
 mod copy_seat;
+mod job_word;
 mod layout;
 mod rule;
 mod seat;

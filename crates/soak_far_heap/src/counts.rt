@@ -41,6 +41,9 @@ pub enum Count {
     RoundFar,
     RoundDropped,
     RoundFreed,
+    /// Copies that copiers made, and those in whose midst one stopped for a while.
+    Copies,
+    Stops,
     /// Audits, and those that were wrong.
     Audits,
     WrongAudits,
@@ -49,7 +52,7 @@ pub enum Count {
 }
 
 /// How many are counted.
-const ALL: usize = 28;
+const ALL: usize = 30;
 
 /// What each is called.
 const NAMES: [&str; ALL] = [
@@ -78,6 +81,8 @@ const NAMES: [&str; ALL] = [
     "round_far",
     "round_dropped",
     "round_freed",
+    "copies",
+    "stops",
     "audits",
     "wrong_audits",
     "faults",

@@ -6,11 +6,15 @@ use std::thread;
 /// How often a mutator without room looks whether a round has ended.
 const PATIENCE: u64 = 1_000;
 
-/// Whether all mutators have ended, and whether anything was found wrong: then all threads end.
+/// How often a copier that stops in the midst of a copy does so.
+const STOP: u64 = 200;
+
+/// Whether all mutators have ended, and whether anything was found wrong: then all threads end. Copiers end last.
 #[derive(Drop)]
 pub struct Gate {
     entered: AtomicU64,
     ended: AtomicU64,
+    closed: AtomicU64,
     wrong: AtomicU64,
     rounds: AtomicU64,
 }
@@ -21,12 +25,13 @@ impl Gate {
         Gate {
             entered: AtomicU64::new(0),
             ended: AtomicU64::new(0),
+            closed: AtomicU64::new(0),
             wrong: AtomicU64::new(0),
             rounds: AtomicU64::new(0),
         }
     }
 
-    /// A mutator begins: how many did before.
+    /// A mutator or a copier begins: how many did before.
     pub fn enter(&self) -> u64 {
         self.entered.fetch_add(1, Ordering::SeqCst)
     }
@@ -36,6 +41,16 @@ impl Gate {
         self.ended.store(1, Ordering::SeqCst);
     }
 
+    /// All objects were read again.
+    pub fn close(&self) {
+        self.closed.store(1, Ordering::SeqCst);
+    }
+
+    /// Whether copiers go on.
+    pub fn is_open(&self) -> bool {
+        self.closed.load(Ordering::SeqCst) == 0
+    }
+
     /// A round has ended.
     pub fn end_round(&self) {
         self.rounds.fetch_add(1, Ordering::SeqCst);
@@ -43,8 +58,17 @@ impl Gate {
 
     /// Lets other threads run until a round has ended, or for a while.
     pub fn wait_for_round(&self) {
+        self.wait(PATIENCE);
+    }
+
+    /// The same for a shorter while.
+    pub fn stop(&self) {
+        self.wait(STOP);
+    }
+
+    fn wait(&self, times: u64) {
         let before = self.rounds.load(Ordering::SeqCst);
-        for _ in 0..PATIENCE {
+        for _ in 0..times {
             if self.rounds.load(Ordering::SeqCst) != before {
                 return;
             }

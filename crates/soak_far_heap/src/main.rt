@@ -1,11 +1,13 @@
 //! A soak of the running heap: mutators, each in a thread of its own, make and drop objects, view them, write them and read them back at random, and
-//! compare each byte that they read with a record of their own, while one more thread makes whole rounds.
+//! compare each byte that they read with a record of their own, while one more thread makes whole rounds, and copiers, if there are any, copy objects.
 #![tactic(auto)]
 
 ghost use Rattle.std.specs.Prelude.{◌≡◌};
+ghost use Rattle.far_heap.specs.HeapId.{with_copiers};
 
 mod by_hand;
 mod census;
+mod copier;
 mod counts;
 mod desk;
 mod gate;
@@ -15,10 +17,11 @@ mod rounds;
 mod writer;
 
 use census::audits;
+use copier::copy;
 use counts::{Count, Counts};
 use far_core::Shape;
 use far_device::MemDevice;
-use far_heap::{Blank, Heap, HeapName, Mutator};
+use far_heap::{Blank, Copier, Heap, HeapName, Mutator};
 use gate::Gate;
 use rounds::make_rounds;
 use std::alloc::{AllocError, Global};
@@ -37,10 +40,12 @@ struct Asked {
     tells: bool,
     mutators: u64,
     logs: u64,
+    /// If that was said.
+    copiers: Option<u8>,
 }
 
 impl Asked {
-    // The seed of a mutator.
+    // The seed of a mutator or a copier.
     fn seed_of(self, number: u64) -> u64 {
         self.seed
             .wrapping_mul(64)
@@ -82,22 +87,21 @@ fn write_all<K: HeapName + Send + Sync, R: Threads + Wait + Sync>(
     )
 }
 
-// What all threads did with a heap.
+// What the mutators and the thread of rounds did with a heap.
 fn work_beside<K: HeapName + Send + Sync, R: Threads + Wait + Sync>(
     rt: &R,
     alloc: Global,
     heap: &Heap<K, MemDevice>,
     mutators: Vec<Mutator<K, MemDevice>>,
+    gate: &Gate,
     asked: Asked,
 ) -> Option<Counts> {
-    let gate = Gate::new();
-    let passed = &gate;
     let writers = || {
-        let written = write_all(rt, alloc, passed, mutators, asked);
-        passed.end();
+        let written = write_all(rt, alloc, gate, mutators, asked);
+        gate.end();
         written
     };
-    let rounds = || make_rounds(rt, heap, passed, asked.seed);
+    let rounds = || make_rounds(rt, heap, gate, asked.seed);
     let (written, mut counts) = thread::join(rt, writers, rounds);
     match written {
         Ok(writers) => {
@@ -108,7 +112,65 @@ fn work_beside<K: HeapName + Send + Sync, R: Threads + Wait + Sync>(
     }
 }
 
-// The same with a heap of these parts.
+// What all copiers did, each in a thread of its own.
+fn copy_all<K: HeapName + Send + Sync, R: Threads + Wait + Sync>(
+    rt: &R,
+    copiers: Vec<Copier<K, MemDevice>>,
+    gate: &Gate,
+    asked: Asked,
+) -> Result<Vec<Counts>, AllocError> {
+    thread::map_vec(rt, copiers, &|copier| copy(gate, asked, copier))
+}
+
+// The sum of what was counted.
+fn sum(mut all: Counts, more: &[Counts]) -> Counts {
+    for counts in more {
+        all.add_all(counts);
+    }
+    all
+}
+
+// What all threads did with a heap, the copiers' too.
+fn work_copied<K: HeapName + Send + Sync, R: Threads + Wait + Sync>(
+    rt: &R,
+    alloc: Global,
+    heap: &Heap<K, MemDevice>,
+    mutators: Vec<Mutator<K, MemDevice>>,
+    copiers: Vec<Copier<K, MemDevice>>,
+    asked: Asked,
+) -> Option<Counts> {
+    let gate = Gate::new();
+    let passed = &gate;
+    let copies = || copy_all(rt, copiers, passed, asked);
+    let others = || {
+        let counts = work_beside(rt, alloc, heap, mutators, passed, asked);
+        passed.close();
+        counts
+    };
+    let (copied, counts) = thread::join(rt, copies, others);
+    match (copied, counts) {
+        (Ok(copied), Some(counts)) => Some(sum(counts, copied.as_slice())),
+        _ => None,
+    }
+}
+
+// The same with a heap of these parts, with copiers.
+fn copied<K: HeapName + Send + Sync, R: Threads + Wait + Sync>(
+    rt: &R,
+    alloc: Global,
+    blank: Blank<MemDevice>,
+    copiers: u8,
+    asked: Asked,
+) -> Option<Counts>
+    requires { with_copiers blank.heap ≡ K.heap }
+{
+    match Heap::<K, MemDevice>::with_copiers(alloc, blank, copiers) {
+        Ok((heap, mutators, copiers)) => work_copied(rt, alloc, &heap, mutators, copiers, asked),
+        Err(_) => None,
+    }
+}
+
+// The same without.
 fn beside<K: HeapName + Send + Sync, R: Threads + Wait + Sync>(
     rt: &R,
     alloc: Global,
@@ -118,21 +180,41 @@ fn beside<K: HeapName + Send + Sync, R: Threads + Wait + Sync>(
     requires { blank.heap ≡ K.heap }
 {
     match Heap::<K, MemDevice>::new(alloc, blank) {
-        Ok((heap, mutators)) => work_beside(rt, alloc, &heap, mutators, asked),
+        Ok((heap, mutators)) => work_beside(rt, alloc, &heap, mutators, &Gate::new(), asked),
         Err(_) => None,
     }
 }
 
-fn soak<R: Threads + Wait + Sync>(rt: &R, alloc: Global, asked: Asked) -> Option<Counts> {
+// What all threads did with a new heap of so many copiers.
+fn soak<R: Threads + Wait + Sync>(
+    rt: &R,
+    alloc: Global,
+    copiers: u8,
+    asked: Asked,
+) -> Option<Counts> {
     let shape = Shape {
         logs: asked.logs,
         mutators: asked.mutators,
         epoch: 0,
     };
-    match Blank::new(alloc, shape, MemDevice::new(alloc)) {
-        Ok(blank) => beside::<Brand, _>(rt, alloc, blank, asked),
-        Err(_) => None,
+    let Ok(blank) = Blank::new(alloc, shape, MemDevice::new(alloc)) else {
+        return None;
+    };
+    if copiers > 0 {
+        copied::<Brand, _>(rt, alloc, blank, copiers, asked)
+    } else {
+        beside::<Brand, _>(rt, alloc, blank, asked)
     }
+}
+
+// The same of each heap that was asked for: of one without copiers and of one with two, unless their number was said.
+fn soak_each<R: Threads + Wait + Sync>(rt: &R, alloc: Global, asked: Asked) -> Option<Counts> {
+    if let Some(copiers) = asked.copiers {
+        return soak(rt, alloc, copiers, asked);
+    }
+    let mut all = soak(rt, alloc, 0, asked)?;
+    all.add_all(&soak(rt, alloc, 2, asked)?);
+    Some(all)
 }
 
 // A number among the words; 0 where the word is none.
@@ -143,6 +225,12 @@ fn number(words: &[String], at: usize, unsaid: u64) -> u64 {
     }
 }
 
+// How many copiers the words say, if they do; too many where the word is no such number.
+fn copiers(words: &[String]) -> Option<u8> {
+    let word = words.get(6)?;
+    Some(word.parse::<u8>().unwrap_or(u8::MAX))
+}
+
 // The turns of each mutator, the seed, whether all counts are to be told, and how large the heap is.
 fn asked_by(words: &[String]) -> Asked {
     Asked {
@@ -151,6 +239,7 @@ fn asked_by(words: &[String]) -> Asked {
         tells: number(words, 3, 1) == 0,
         mutators: number(words, 4, 4),
         logs: number(words, 5, 16),
+        copiers: copiers(words),
     }
 }
 
@@ -171,7 +260,7 @@ fn main(rt: HostRuntime) -> ExitCode {
     let Ok(asked) = arguments(&rt) else {
         return ExitCode::from(2);
     };
-    let Some(counts) = soak(&rt, rt.alloc(), asked) else {
+    let Some(counts) = soak_each(&rt, rt.alloc(), asked) else {
         return ExitCode::from(2);
     };
     if tell(&rt, &counts, asked.tells).is_err() || counts.wrong() != 0 {

@@ -1,6 +1,7 @@
 //! A mutator at work.
 
 use crate::Asked;
+use crate::by_hand::gives_up;
 use crate::counts::Count;
 use crate::desk::Desk;
 use crate::gate::Gate;
@@ -41,6 +42,12 @@ pub fn write<K: HeapName, R: Wait>(
     Writer { mutator, desk }
 }
 
+// Makes a round, which is given up where it doesn't end.
+fn make_room<K: HeapName, R: Wait>(rt: &R, heap: &Heap<K, MemDevice>, desk: &mut Desk) {
+    let _end = heap.run_round(rt, &mut Oldest, 4, 100_000);
+    gives_up(&mut *heap.book(rt), &mut desk.counts);
+}
+
 // Reads an object whole, with rounds before it if there is no room.
 fn read_again<K: HeapName, R: Wait>(
     rt: &R,
@@ -56,7 +63,7 @@ fn read_again<K: HeapName, R: Wait>(
         if seen {
             return mutator;
         }
-        let _end = heap.run_round(rt, &mut Oldest, 4, 100_000);
+        make_room(rt, heap, desk);
     }
     desk.counts.one(Count::WrongAnswers);
     mutator

@@ -3,8 +3,10 @@
 mod acts;
 mod books;
 mod calls;
+mod copies;
 mod devices;
 mod hands;
+mod jobs;
 mod leaving;
 mod moving;
 mod owners;

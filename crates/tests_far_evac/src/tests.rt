@@ -5,6 +5,7 @@ mod acts;
 mod asking;
 mod beside;
 mod choosing;
+mod copying;
 mod devices;
 mod making;
 mod readme;

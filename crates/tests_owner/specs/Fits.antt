@@ -1,6 +1,5 @@
 -- What an owner's calls ask of its seat's view.
 use Rattle.std.specs.Prelude.{◌≡◌, ◌/◌, ◌%◌, ◌<◌, ◌≤◌, ℕ, Bool, false, Option, Some, None, List, is_some, length, slice_index_or}
-use Rattle.std.specs.List.{range_with_len}
 use Rattle.atomic_table.specs.Seated.{TableId}
 use Rattle.far_word.specs.declared.sizes.TheConstants.{CELLS, MOST_MUTATORS}
 use Rattle.far_core.specs.declared.shape.Shape.{Shape}

@@ -2,7 +2,6 @@
 
 ghost use Rattle.std.specs.Prelude.{◌≡◌, None};
 ghost use Rattle.tests_owner.specs.Works.{IsIdle, IsMine};
-ghost use Rattle.far_table.specs.declared.copy_seat.Job.{Job as any_job};
 
 use far_device::Device;
 use far_table::{CopySeat, Job};

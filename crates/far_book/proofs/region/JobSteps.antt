@@ -115,7 +115,7 @@ module _ (s : State) (law : Law (own_part s)) where
           };
         }
 
-    law_found : Law (own_part (job_found s j w))
+    pub law_found : Law (own_part (job_found s j w))
     law_found = law_with_copying o (unread k) law copies_found
 
     live_found : (l : ℕ) → live_bytes (own_part (job_found s j w)) l ≡ live_bytes o l

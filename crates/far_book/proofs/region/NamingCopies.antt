@@ -150,7 +150,7 @@ module _ (s : State) (law : Law (own_part s)) (j : ℕ) (job : Job) (cell len ds
         (ap (after_naming u p new) (naming_only (Moves len ds job.from job.to) (read_of w) (read_of new) ((found.0, found.1, found.2, no_stay job.from job.to found.0 found.3), new_read)) ∙ ap (after_move u p new len job.to) only)
 
     -- the same as the state that is told of
-    told : named u p job.to ≡ with_named u p new j
+    pub told : named u p job.to ≡ with_named u p new j
     told = ap (named_of u p job.to) (ap read_of here ∙ found.1) ∙ ap (λ v. after u (events.Name p v new)) here ∙ named_is
 
   pub may_rename : MayRename s p new

@@ -11,9 +11,10 @@ use Rattle.far_word.specs.Job.{job_of}
 use Rattle.far_word.specs.Pointer.{read_of}
 use Rattle.far_core.specs.declared.event.Event.TheVariants.{Name}
 use Rattle.far_core.specs.events.Collect.{collected}
-use Rattle.far_core.specs.events.Naming.{is_dropped}
+use Rattle.far_core.specs.events.Naming.{is_dropped, no_marks}
 use Rattle.far_core.specs.events.Step.{after}
-use Rattle.far_core.specs.state.Jobs.{is_finished, job_at}
+use Rattle.far_core.specs.state.Jobs.{IsGood, is_finished, job_at, near_place}
+use Rattle.far_core.specs.state.Law.{Law}
 use Rattle.far_core.specs.state.Spans.{names_place}
 use Rattle.far_core.specs.state.State.{State}
 use Rattle.far_hand.specs.Finds.{Finds}
@@ -21,6 +22,7 @@ use Rattle.far_hand.specs.FindsJob.{FindsJob, job_found}
 use Rattle.far_hand.specs.Known.{Forgets}
 use Rattle.far_book.specs.book.Effects.{near_word}
 use Rattle.far_book.specs.book.Jobs.{is_good}
+use Rattle.far_book.specs.book.Own.{own_part}
 use Rattle.far_book.specs.book.Renaming.{seen}
 
 -- what may become of a job: it stays as it is, or is empty, or its pointer is named to its target and it is empty
@@ -150,6 +152,22 @@ NoneFinished = (s t : State) (count : ℕ) → Collects s JOBS t count → (j : 
 -- no job is known to be offered once all were taken back
 abbrev pub NoneOffered : Type 0
 NoneOffered = (s t : State) → TakesBack s JOBS t → (j : ℕ) (job : Job) → j < JOBS → job_of (t.copying.word j) ≢ Some (Offered job)
+
+-- a job that was named was found finished; the round of its offer stood, and its object lay at its source, and wasn't known to be dropped. Now the pointer
+-- names its target, without marks, and it is empty
+pub record IsCopyNamed (s t : State) (j : ℕ) (job : Job) : Type 0 where
+  pub word : ℕ
+  pub found : FindsJob (s.copying.word j) word
+  pub copier : ℕ
+  pub finished : job_of word ≡ Some (Finished job copier)
+  pub good : IsGood s.round_epoch s.round s.copying.since j job
+  pub lay : near_place (read_of (s.cell job.pointer)) ≡ Some job.from
+  pub alive : is_dropped (read_of (s.cell job.pointer)) ≡ false
+  pub lies : (len ds : ℕ) × (read_of (t.cell job.pointer) ≡ Some (Near len ds job.to no_marks))
+  pub empty : t.copying.word j ≡ 0
+
+abbrev pub NamedAreCopies : Type 0
+NamedAreCopies = (s t : State) (j : ℕ) (job : Job) → Law (own_part s) → job_at s.copying.word j ≡ Some job → GoesAsFound s t j job true → IsCopyNamed s t j job
 
 -- ---- what one try leaves
 -- from s to t a job's pointer was named to its target, by a word without DROP that was found in its cell; words may have been forgotten

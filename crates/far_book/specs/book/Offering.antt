@@ -1,21 +1,28 @@
 -- What offering the copy of an object to copiers asks, and what it leaves.
-use Rattle.std.specs.Prelude.{◌≡◌, ◌≢◌, ◌+◌, ◌*◌, ◌/◌, ◌<◌, ℕ, true, Option, Some, None}
+use Rattle.std.specs.Prelude.{◌≡◌, ◌≢◌, ◌+◌, ◌*◌, ◌/◌, ◌<◌, ℕ, false, true, Option, Some, None}
+use Rattle.far_word.specs.declared.job.JobWord.TheVariants.{Offered}
 use Rattle.far_word.specs.declared.mark.Marks.{Marks}
 use Rattle.far_word.specs.declared.pointer.Place.{Place}
 use Rattle.far_word.specs.declared.pointer.PtrWord.{PtrWord}
 use Rattle.far_word.specs.declared.pointer.PtrWord.TheVariants.{Free, Near, Far}
 use Rattle.far_word.specs.declared.sizes.TheConstants.{CELLS, JOBS}
 use Rattle.far_word.specs.Header.{IsHead, head_word}
+use Rattle.far_word.specs.Job.{job_of}
 use Rattle.far_word.specs.Pointer.{IsPtr, read_of}
 use Rattle.far_word.specs.Sizes.{words_for}
 use Rattle.far_core.specs.declared.event.Event.TheVariants.{Offer}
 use Rattle.far_core.specs.events.Legal.{IsNext}
 use Rattle.far_core.specs.events.Naming.{no_marks}
+use Rattle.far_core.specs.declared.event.Kind.TheVariants.{Open}
+use Rattle.far_core.specs.events.Quiet.{IsClearNear}
 use Rattle.far_core.specs.events.Step.{after}
+use Rattle.far_core.specs.state.Jobs.{near_place}
+use Rattle.far_core.specs.state.Law.{Law}
 use Rattle.far_core.specs.state.State.{State, put, addr}
 use Rattle.far_hand.specs.Finds.{Finds}
 use Rattle.far_hand.specs.Known.{Forgets}
 use Rattle.far_book.specs.book.Dealing.{goal}
+use Rattle.far_book.specs.book.Own.{own_part}
 use Rattle.far_book.specs.book.Renaming.{seen}
 
 -- every job waits or is finished
@@ -64,6 +71,20 @@ pub record IsLookedAt (s t : State) (p : ℕ) : Type 0 where
   pub word : ℕ
   pub found : Finds (s.cell p) word
   pub is : t ≡ seen s p word
+
+-- the job's word says that a copier may copy p's object, from where it lies to a place; it is of the round that lasts, and no other job is another. The log of the place
+-- is the open one
+pub record IsOffered (s t : State) (p j : ℕ) (to : Place) : Type 0 where
+  pub from : Place
+  pub lies : near_place (read_of (s.cell p)) ≡ Some from
+  pub says : job_of (t.copying.word j) ≡ Some (Offered record { pointer = p; from = from; to = to })
+  pub since : t.copying.since j ≡ s.epoch
+  pub unnamed : t.copying.named j ≡ false
+  pub others : (i : ℕ) → i ≢ j → (t.copying.word i ≡ s.copying.word i) × (t.copying.since i ≡ s.copying.since i) × (t.copying.named i ≡ s.copying.named i)
+  pub opened : t.kind to.log ≡ Open
+
+abbrev pub OffersAreJobs : Type 0
+OffersAreJobs = (s t : State) (p : ℕ) → Law (own_part s) → IsClearNear s p → (o : OffersCopy s t p) → IsOffered s t p o.job o.to
 
 -- an object may be offered by a job to be copied: it is near with EVAC, in a log of the round, and its owner was seen clear in it; the job is empty; and a
 -- span for the copy may stand at the place

@@ -45,6 +45,7 @@ impl<D: Device + Drop> Evac<Plain, D> {
             × RoundAsking D D.writes D.lets_go D.contents (moment_alone self.old) logs turns true end (moment_alone self.new) self.old.book.device self.new.book.device) }
         ensures follows { Follows D.contents D.honest D.faults D.fails_at_most no_key (fails result) self.old.book.device self.new.book.device }
     {
+        self.keeps_law();
         let logs = match self.select(policy, most) {
             Ok(logs) => logs,
             Err(why) => {

@@ -15,6 +15,7 @@ ghost use Rattle.far_book.specs.book.Effects.{evicted};
 ghost use Rattle.far_book.specs.book.Releasing.{order_without, released};
 ghost use Rattle.far_evac.specs.AnyHand.{Knows, KnowsMoment, KnowsWalked, StopsAt, Walks};
 ghost use Rattle.far_evac.specs.Asked.{AsksSo, IsRefusedWrite, WalksAsking, asked_by, first_live};
+ghost use Rattle.far_evac.specs.ByCopying.{AsksBy, EvacuatesBy, RefusesBy, StopsBy, asked_live};
 ghost use Rattle.far_evac.specs.Calls.{DealsWithObjects};
 ghost use Rattle.far_evac.specs.Cursor.{IsNextLeaving};
 ghost use Rattle.far_evac.specs.EvacOf.{SameRound, moment};
@@ -22,7 +23,7 @@ ghost use Rattle.far_evac.specs.Leaving.{AsksAs, GoesAway, LeavesAs, LeavesBy, c
 ghost use Rattle.far_evac.specs.Live.{is_empty, live_in};
 ghost use Rattle.far_evac.specs.Moment.{nothing, objects_in, progress_of, tally_of};
 ghost use Rattle.far_evac.specs.MomentLaw.{is_idle};
-ghost use Rattle.far_evac.specs.Turning.{IsBounded};
+ghost use Rattle.far_evac.specs.Turning.{IsBounded, IsBoundedBy};
 ghost use Rattle.far_evac.specs.Walk.{dealt_as, ended, is_done, left, settled, walked, way_of};
 ghost use Rattle.far_evac.specs.declared.evac.evacuating.Fate.TheVariants as fates;
 ghost use Rattle.far_evac.specs.declared.phase.Phase.TheVariants as phase;
@@ -37,7 +38,7 @@ use far_word::{Place, PtrWord, Refused, size_of};
 
 // What became of an object that was to leave its log.
 #[derive(Clone, Copy)]
-enum Fate {
+pub(super) enum Fate {
     Moved,
     Far,
     Dropped,
@@ -47,6 +48,10 @@ impl<N: Near + Drop, D: Device + Drop> Evac<N, D> {
     /// Deals with the first n live objects of the collection set, or with all, in order: one that its owner has
     /// dropped is retired; a hot one goes to another log, or far where no room is; any other goes far. A log in front without live
     /// objects is given back at once; after the last the round is over, and the answer says `done`.
+    ///
+    /// Where copies may be offered the jobs are collected first, and the objects that were copied are counted as moved. Then it deals with the first n
+    /// that have no job, or with all: the copy of a hot one is offered, where a job is empty and there is room, which counts nothing. Each log where nothing
+    /// lies then, and which no job reads or writes, is given back.
     ///
     /// Refused [`Refused::Phase`] exactly where objects don't leave now, and nothing has changed; or [`Refused::Memory`] or
     /// [`Refused::Device`] as the device is, at an object that is as before. What was done before it stays, and is counted in `so_far`.
@@ -70,7 +75,7 @@ impl<N: Near + Drop, D: Device + Drop> Evac<N, D> {
                 why: Refused::Phase,
             });
         }
-        match self.evacuate_up_to(n, &mut progress) {
+        match self.evacuate(n, &mut progress) {
             Ok(done) => {
                 progress.done = done;
                 Ok(progress)
@@ -82,12 +87,40 @@ impl<N: Near + Drop, D: Device + Drop> Evac<N, D> {
         }
     }
 
-    // Deals with n objects, or all, and counts them; whether the collection set is empty then.
+    // Deals with n objects, or all, and counts them, by whether copies may be offered; whether the collection set is empty then.
+    fn evacuate(&mut self, n: u64, progress: &mut Progress) -> Result<bool, Refused>
+        requires phase { self.old.phase ≡ phase.Evacuating }
+        requires begun { progress.old ≡ progress_of nothing false }
+        ensures came { Came N.makes self.old.book.near self.new.book.near }
+        ensures copying { self.new.copying ≡ self.old.copying }
+        ensures walks { IfOk result (λ done. EvacuatesBy (moment N.view self.old) n (moment N.view self.new) (tally_of progress.new) done) }
+        ensures exact { N.still → IfOk result (λ done. (moment N.view self.new ≡ ended (walked (moment N.view self.old) n)) × (tally_of progress.new ≡ (walked (moment N.view self.old) n).tally) × (done ≡ is_done (walked (moment N.view self.old) n))) }
+        ensures stops { IfErr result (λ _. StopsBy (moment N.view self.old) n (moment N.view self.new) (tally_of progress.new)) }
+        ensures stops_exact { N.still → IfErr result (λ _. (k : ℕ) × (k < n)
+            × (moment N.view self.new ≡ (walked (moment N.view self.old) k).moment) × (tally_of progress.new ≡ (walked (moment N.view self.old) k).tally)) }
+        ensures why { IfErr result (λ why. (why ≡ Memory) ⊎ (why ≡ Failed)) }
+        ensures done { progress.new.done ≡ false }
+        ensures goes_on { IfOk result (λ done. is_idle self.new.phase ≡ done) }
+        ensures stays { IfErr result (λ _. self.new.phase ≡ self.old.phase) }
+        ensures bounded { IsBoundedBy self.old.copying (tally_of progress.new) }
+        ensures asked { IfOk result (λ _. AsksBy D D.writes D.lets_go D.contents (moment N.view self.old) n (moment N.view self.new) (tally_of progress.new) self.old.book.device self.new.book.device) }
+        ensures refused { IfErr result (λ why. RefusesBy D D.writes D.lets_go D.contents (moment N.view self.old) n (moment N.view self.new) (tally_of progress.new) why self.old.book.device self.new.book.device) }
+        ensures follows { Follows D.contents D.honest D.faults D.fails_at_most (none_of (asked_live (moment N.view self.old) (asked_by (tally_of progress.new) result))) (is_failure result) self.old.book.device self.new.book.device }
+    {
+        self.keeps_law();
+        if self.copying {
+            return self.evacuate_beside(n, progress);
+        }
+        self.evacuate_up_to(n, progress)
+    }
+
+    // The same where no copy may be offered.
     fn evacuate_up_to(&mut self, n: u64, progress: &mut Progress) -> Result<bool, Refused>
         requires phase { self.old.phase ≡ phase.Evacuating }
         requires alone { self.old.copying ≡ false }
         requires begun { progress.old ≡ progress_of nothing false }
         ensures came { Came N.makes self.old.book.near self.new.book.near }
+        ensures copying { self.new.copying ≡ false }
         ensures walks { IfOk result (λ _. (k : ℕ) × Walks (moment N.view self.old) n k (standing N.view self.new progress.new)) }
         ensures exact { N.still → IfOk result (λ _. standing N.view self.new progress.new ≡ walked (moment N.view self.old) n) }
         ensures ends { IfOk result (λ done. (moment N.view self.new ≡ ended (standing N.view self.new progress.new)) × (done ≡ is_done (standing N.view self.new progress.new))) }
@@ -251,7 +284,7 @@ impl<N: Near + Drop, D: Device + Drop> Evac<N, D> {
 }
 
 // Counts an object.
-fn count(progress: &mut Progress, fate: Fate)
+pub(super) fn count(progress: &mut Progress, fate: Fate)
     requires room { objects_in (tally_of progress.old) + 1 < 2 ^ 64 }
     ensures { progress.new ≡ progress_of (counted_as (tally_of progress.old) fate) progress.old.done }
 {
@@ -264,7 +297,7 @@ fn count(progress: &mut Progress, fate: Fate)
 
 // An object leaves its log as its cell says: one that its owner has dropped is retired; a hot one goes to another log, or far where no room
 // is; any other goes far. At a refusal it lies as before.
-fn send_off<N: Near + Drop, D: Device + Drop>(
+pub(super) fn send_off<N: Near + Drop, D: Device + Drop>(
     book: &mut Book<N, D>,
     pointer: u16,
 ) -> Result<Fate, Refused>
@@ -306,7 +339,7 @@ fn near_fate(place: Option<Place>) -> Fate
 
 // An object that isn't known to be dropped goes far, unless it is found to be.
 #[inline(always)]
-fn send_far<N: Near + Drop, D: Device + Drop>(
+pub(super) fn send_far<N: Near + Drop, D: Device + Drop>(
     book: &mut Book<N, D>,
     pointer: u16,
 ) -> Result<Fate, Refused>

@@ -1,16 +1,17 @@
 //! How the objects of the chosen logs get EVAC, and lose it where a round is given up.
 
-ghost use Rattle.std.specs.Prelude.{◌≡◌, ◌+◌, ◌<◌, ◌≤◌, ℕ, true, not, fold, [], length, drop, IfSome, IfNone, IsSome};
-ghost use Rattle.far_word.specs.declared.sizes.TheConstants.{MOST_LOGS};
+ghost use Rattle.std.specs.Prelude.{◌≡◌, ◌+◌, ◌<◌, ◌≤◌, ℕ, true, false, not, fold, [], length, drop, IfSome, IfNone, IsSome};
+ghost use Rattle.far_word.specs.declared.sizes.TheConstants.{JOBS, MOST_LOGS};
 ghost use Rattle.far_word.specs.Pointer.{read_of};
 ghost use Rattle.far_core.specs.events.Advance.{is_among};
 ghost use Rattle.far_hand.specs.Came.{Came};
+ghost use Rattle.far_book.specs.book.Collecting.{TakesBack};
 ghost use Rattle.far_book.specs.book.Dealing.{has_evac};
 ghost use Rattle.far_book.specs.book.NextLive.{IsBoundary};
 ghost use Rattle.far_evac.specs.AnyHand.{Knows, KnowsMoment};
 ghost use Rattle.far_evac.specs.Calls.{GivesRoundUp, MarksObjects};
 ghost use Rattle.far_evac.specs.Cursor.{IsNextLacking, StandsAt, first_marked, standing_at};
-ghost use Rattle.far_evac.specs.EvacOf.{moment};
+ghost use Rattle.far_evac.specs.EvacOf.{SameRound, moment};
 ghost use Rattle.far_evac.specs.Live.{is_empty, lacking, live_among, live_in};
 ghost use Rattle.far_evac.specs.Marking.{marked_core, newly_marked};
 ghost use Rattle.far_evac.specs.RoundSteps.{advanced, among, unmarked};
@@ -136,7 +137,8 @@ impl<N: Near + Drop, D: Device + Drop> Evac<N, D> {
     }
 
     /// Gives the round up: the live objects of the collection set lose EVAC, no object has moved, and no round is running.
-    /// Those logs stand where they stood in the order of sealing.
+    /// Those logs stand where they stood in the order of sealing. A job that is found offered is taken back first; one that a copier has taken or
+    /// finished is void from then on.
     ///
     /// Refused [`Refused::Phase`] exactly where no round is running; nothing has changed then.
     pub fn abort(&mut self) -> Result<(), Refused>
@@ -145,6 +147,7 @@ impl<N: Near + Drop, D: Device + Drop> Evac<N, D> {
         if self.round.phase == Phase::Idle {
             return Err(Refused::Phase);
         }
+        self.recall();
         self.book.keeps_law();
         let first = first_of_collection(&self.round);
         unmark_logs(&mut self.book, &self.round.chosen, first);
@@ -156,6 +159,20 @@ impl<N: Near + Drop, D: Device + Drop> Evac<N, D> {
             seen: 0,
         };
         Ok(())
+    }
+
+    // Takes back the jobs that are found offered, where copies may be offered.
+    fn recall(&mut self)
+        ensures came { Came N.makes self.old.book.near self.new.book.near }
+        ensures alone { self.old.copying ≡ false → self.new ≡ self.old }
+        ensures beside { self.old.copying ≡ true → TakesBack (N.view self.old.book.near) JOBS (N.view self.new.book.near) }
+        ensures round { SameRound self.old self.new }
+        ensures order { self.new.book.order ≡ self.old.book.order }
+        ensures device { self.new.book.device ≡ self.old.book.device }
+    {
+        if self.copying {
+            self.book.take_back();
+        }
     }
 }
 

@@ -1,14 +1,15 @@
 //! Whole rounds, turn after turn.
 
-ghost use Rattle.std.specs.Prelude.{◌≡◌, ◌⊎◌, ◌+◌, ◌<◌, ℕ, List, Some, None, Ok, Err, false, IfOk, IfErr, map};
+ghost use Rattle.std.specs.Prelude.{◌≡◌, ◌⊎◌, ◌+◌, ◌<◌, ℕ, List, Some, None, Ok, Err, true, false, IfOk, IfErr, map};
 ghost use Rattle.far_book.specs.book.Rows.{row_of};
 ghost use Rattle.far_device.specs.Following.{Follows};
 ghost use Rattle.far_policy.specs.Choice.{IsBadChoice, IsChoice};
 ghost use Rattle.far_word.specs.declared.refused.Refused.{Refused as why_refused};
 ghost use Rattle.far_word.specs.declared.refused.Refused.TheVariants.{Device as Failed, Memory};
 ghost use Rattle.far_hand.specs.Came.{Came};
-ghost use Rattle.far_evac.specs.AnyHand.{TurnsTo, StopsAt};
-ghost use Rattle.far_evac.specs.Asked.{AsksInTurn, IsRefusedWrite, KeepsKeys, first_live};
+ghost use Rattle.far_evac.specs.AnyTurns.{AsksInTurn, TurnsTo};
+ghost use Rattle.far_evac.specs.Asked.{KeepsKeys, first_live};
+ghost use Rattle.far_evac.specs.ByCopying.{RefusesBy, StopsBy};
 ghost use Rattle.far_evac.specs.Calls.{MakesTurn};
 ghost use Rattle.far_evac.specs.Choosing.{after_selecting};
 ghost use Rattle.far_evac.specs.EvacOf.{moment};
@@ -17,7 +18,7 @@ ghost use Rattle.far_evac.specs.Moment.{Tally, nothing, objects_in, plus, progre
 ghost use Rattle.far_evac.specs.MomentLaw.{IsLawful, is_idle, is_waiting};
 ghost use Rattle.far_evac.specs.Refusals.{unselectable};
 ghost use Rattle.far_evac.specs.RoundAsked.{EndsAsking, RoundAsking, StopsAsking};
-ghost use Rattle.far_evac.specs.Turning.{GoesOn, IsBounded, IsWithin, turned_at};
+ghost use Rattle.far_evac.specs.Turning.{GoesOn, IsCountedIn, IsSmall, IsWithin, most_turns, turned_at};
 ghost use Rattle.far_evac.specs.Turns.{Halts, HaltsTurns, IsRound, round_end, turn_size, turned, turns_made};
 ghost use Rattle.far_evac.specs.declared.phase.Phase.TheVariants as phase;
 
@@ -64,6 +65,8 @@ impl<N: Near + Drop, D: Device + Drop> Evac<N, D> {
     /// [`RoundEnd::Nothing`] exactly where no log was chosen, [`RoundEnd::Done`] exactly where each was given back, and else
     /// [`RoundEnd::Limit`], with the phase in which the round stands. What the turns did is summed.
     ///
+    /// Where copies may be offered, it makes fewer than 2^48 turns.
+    ///
     /// Refused as `select` is, where nothing has changed but the policy, and as `turn` is, where the round stands where it is; `so_far` is
     /// then the sum of what was done.
     pub fn run_round<P: Policy>(
@@ -72,6 +75,7 @@ impl<N: Near + Drop, D: Device + Drop> Evac<N, D> {
         most: usize,
         turns: u64,
     ) -> Result<RoundEnd, EvacFault>
+        requires few { self.old.copying ≡ true → turns < most_turns }
         ensures came { Came N.makes self.old.book.near self.new.book.near }
         ensures runs { IfOk result (λ end. (logs : List ℕ) × P.gives policy.old (map (row_of (N.view self.old.book.near)) self.old.book.order) most (Ok logs) policy.new
             × IsChoice (map (row_of (N.view self.old.book.near)) self.old.book.order) most logs × (N.still → IsRound (moment N.view self.old) logs turns end (moment N.view self.new))
@@ -105,6 +109,7 @@ impl<N: Near + Drop, D: Device + Drop> Evac<N, D> {
     // last: no other would change anything.
     pub(super) fn make_turns(&mut self, turns: u64, alone: bool) -> Result<RoundEnd, EvacFault>
         requires running { is_idle self.old.phase ≡ false }
+        requires few { self.old.copying ≡ true → turns < most_turns }
         ensures came { Came N.makes self.old.book.near self.new.book.near }
         ensures exact { N.still → IfOk result (λ end. (end ≡ round_end (turns_made (moment N.view self.old) turns)) × (moment N.view self.new ≡ (turns_made (moment N.view self.old) turns).moment)) }
         ensures halts { N.still → IfErr result (λ fault. HaltsTurns (moment N.view self.old) turns fault.so_far (moment N.view self.new)) }
@@ -141,18 +146,22 @@ impl<N: Near + Drop, D: Device + Drop> Evac<N, D> {
     // Makes one turn of a running round, and adds what it did to what was done before.
     fn turn_more(&mut self, before: Progress) -> Result<Progress, EvacFault>
         requires running { is_idle self.old.phase ≡ false }
-        requires within { IsWithin (moment N.view self.old) (tally_of before) }
+        requires within { self.old.copying ≡ false → IsWithin (moment N.view self.old) (tally_of before) }
+        requires few { self.old.copying ≡ true → (turns : ℕ) × (turns < most_turns) × IsCountedIn turns (tally_of before) }
         ensures came { Came N.makes self.old.book.near self.new.book.near }
         ensures turns { IfOk result (λ total. (tally : Tally) × TurnsTo (moment N.view self.old) self.old.phase tally total.done (moment N.view self.new) × (tally_of total ≡ plus (tally_of before) tally)
-            × AsksInTurn D D.writes D.lets_go (moment N.view self.old) self.old.phase (moment N.view self.new) tally self.old.book.device self.new.book.device
-            × KeepsKeys (first_live (moment N.view self.old) (objects_in tally)) (D.contents self.old.book.device) (D.contents self.new.book.device)) }
+            × AsksInTurn D D.writes D.lets_go D.contents (moment N.view self.old) self.old.phase (moment N.view self.new) tally self.old.book.device self.new.book.device
+            × (self.old.copying ≡ false → KeepsKeys (first_live (moment N.view self.old) (objects_in tally)) (D.contents self.old.book.device) (D.contents self.new.book.device))) }
         ensures exact { N.still → IfOk result (λ total. turned (turned_at (moment N.view self.old) (tally_of before) false) self.old.phase ≡ turned_at (moment N.view self.new) (tally_of total) total.done) }
         ensures lawful { IsLawful (moment N.view self.old) }
-        ensures goes_on { IfOk result (λ total. GoesOn (moment N.view self.new) (tally_of total) total.done) }
+        ensures copying { self.new.copying ≡ self.old.copying }
+        ensures goes_on { self.old.copying ≡ false → IfOk result (λ total. GoesOn (moment N.view self.new) (tally_of total) total.done) }
+        ensures counted { self.old.copying ≡ true → (turns : ℕ) → IsCountedIn turns (tally_of before) → IfOk result (λ total. IsCountedIn (turns + 1) (tally_of total)) }
+        ensures over { IfOk result (λ total. is_idle self.new.phase ≡ total.done) }
         ensures leaving { IfErr result (λ _. self.old.phase ≡ phase.Evacuating) }
-        ensures stops { IfErr result (λ fault. (tally : Tally) × StopsAt (moment N.view self.old) turn_size (moment N.view self.new) tally × (fault.so_far ≡ progress_of (plus (tally_of before) tally) false)
-            × IsRefusedWrite D D.writes D.lets_go (moment N.view self.old) (moment N.view self.new) tally fault.why self.old.book.device self.new.book.device
-            × KeepsKeys (first_live (moment N.view self.old) (objects_in tally + 1)) (D.contents self.old.book.device) (D.contents self.new.book.device)) }
+        ensures stops { IfErr result (λ fault. (tally : Tally) × StopsBy (moment N.view self.old) turn_size (moment N.view self.new) tally × (fault.so_far ≡ progress_of (plus (tally_of before) tally) false)
+            × RefusesBy D D.writes D.lets_go D.contents (moment N.view self.old) turn_size (moment N.view self.new) tally fault.why self.old.book.device self.new.book.device
+            × (self.old.copying ≡ false → KeepsKeys (first_live (moment N.view self.old) (objects_in tally + 1)) (D.contents self.old.book.device) (D.contents self.new.book.device))) }
         ensures halts { N.still → IfErr result (λ fault. (tally : Tally) × Halts (moment N.view self.old) turn_size (moment N.view self.new) tally × (fault.so_far ≡ progress_of (plus (tally_of before) tally) false)) }
         ensures why { IfErr result (λ fault. (fault.why ≡ Memory) ⊎ (fault.why ≡ Failed)) }
         ensures follows { Follows D.contents D.honest D.faults D.fails_at_most no_key (fails result) self.old.book.device self.new.book.device }
@@ -194,7 +203,7 @@ pub(super) fn nothing_done() -> Progress
 
 // What was done in two parts.
 fn sum(a: Progress, b: Progress, done: bool) -> Progress
-    requires bounded { IsBounded (plus (tally_of a) (tally_of b)) }
+    requires small { IsSmall (plus (tally_of a) (tally_of b)) }
     ensures { result ≡ progress_of (plus (tally_of a) (tally_of b)) done }
 {
     Progress {

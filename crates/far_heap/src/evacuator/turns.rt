@@ -3,6 +3,8 @@
 //! [`Heap::run_round`]: crate::Heap::run_round
 
 ghost use Rattle.std.specs.Prelude.{◌≡◌, false, IfOk, IfErr};
+ghost use Rattle.std.specs.List.{list_all};
+ghost use Rattle.far_policy.specs.Logs.{is_among};
 ghost use Rattle.far_evac.specs.Moment.{nothing, progress_of, tally_of};
 ghost use Rattle.far_heap.specs.Rounds.{Chooses, ChoosesNone, StopsTurn, Turns, is_round_of};
 
@@ -26,13 +28,26 @@ pub(crate) fn nothing_done() -> Progress
     }
 }
 
+// Whether each of these logs was chosen.
+fn has_each(chosen: &Chosen, logs: &[u8]) -> bool
+    ensures { result ≡ list_all (is_among chosen.now) logs.now }
+{
+    logs.iter().all(|log| chosen.contains(*log))
+}
+
 impl<K: HeapName, D: Device + Drop> Evacuator<K, D> {
-    // Whether a round of these logs is running: its logs that aren't given back are the last of them.
+    // Whether a round of these logs is running: its logs that aren't given back are the last of them. Beside copiers they may be any of them.
     fn is_round_of(&self, chosen: &Chosen) -> bool
-        ensures { result ≡ is_round_of chosen.now self.now.collection }
+        ensures { result ≡ is_round_of self.now.copying chosen.now self.now.collection }
     {
         let left = self.evac.collection();
-        !left.is_empty() && chosen.as_slice().ends_with(left)
+        if left.is_empty() {
+            return false;
+        }
+        if self.evac.is_copying() {
+            return has_each(chosen, left);
+        }
+        chosen.as_slice().ends_with(left)
     }
 
     // Asks a policy for logs, as `select` does, and says which book it was that was asked of.

@@ -36,6 +36,18 @@ pub(super) enum Act {
     Begins(u64, Option<Result<u64, Refused>>),
     /// What an owner's scope says.
     Looks(u8, Option<ScopeWord>),
+    /// So many pointers from 0 on get EVAC, as `Marks` does.
+    MarksMany(u8),
+    /// A round of log 0 begins, each of whose objects has EVAC, and the one owner is seen clear in it; then the copies of these objects are offered, or
+    /// aren't.
+    Offers(&'static [(u16, bool)]),
+    /// So many jobs are named.
+    Collects(u32),
+    TakesBack,
+    /// Whether a job that isn't void copies a near object.
+    HasJob(u16, Option<bool>),
+    /// So many turns of others pass, while the book looks at the first owner's scope.
+    Waits(u8),
     /// The live spans of a log, one after the other.
     Live(u8, &'static [Span]),
     /// The first live span from that one on which has this number in the list of log 0.

@@ -1,4 +1,4 @@
-//! The calls of a hand, over a plain core and over one beside which owners are at work.
+//! The calls of a hand, over a plain core and over one beside which owners and copiers are at work.
 
 ghost use Rattle.std.specs.Prelude.{◌≡◌, ◌≢◌, ◌*◌, ◌<◌, ℕ, IfOk, true, false};
 ghost use Rattle.std.specs.Vec.{vec_len};
@@ -16,7 +16,7 @@ use crate::tests::acts::{ADOPT, CLOSE, DROP, HOT, MOVE, NEAR, OPEN, READ, SMALL,
 use crate::tests::owners::answers_all;
 use far_book::{Beset, Near, Plain};
 use far_core::{Core, Event, Kind, Reply};
-use far_word::{PtrWord, Refused};
+use far_word::{JobWord, Place, PtrWord, Refused};
 use std::alloc::Global;
 
 /// The header of pointer 0, an object of 8 bytes of data structure 1; and its cell at the start of log 0 with HOT and MOVE, and with DROP too.
@@ -52,6 +52,10 @@ enum Touch {
     Counts(bool, bool),
     /// An owner's event, with its answer.
     Owns(Event, Reply),
+    /// Job 0 has this word.
+    Job(u64),
+    /// Job 0 is emptied, or isn't, and this word is found; `None` if it was last found empty or taken.
+    Collects(Option<Result<(), u64>>),
 }
 
 /// Pointer 0 gets the first two words of log 0.
@@ -87,6 +91,15 @@ fn clear_first<N: Near>(near: &mut N) -> Option<u64>
     }
 }
 
+/// Job 0 is empty from then on, if it was last found offered or finished, and is so still.
+fn collect_first(hand: &mut Beset) -> Option<Result<(), u64>> {
+    let word = hand.jobs[0];
+    match JobWord::read(word) {
+        Some(JobWord::Offered { .. } | JobWord::Finished { .. }) => Some(hand.collect(0, word)),
+        _ => None,
+    }
+}
+
 /// A plain hand on a core at the start.
 fn plain_hand(alloc: Global) -> Result<Plain, Refused>
     ensures { IfOk result (λ hand. core_state hand.core ≡ opening SMALL true) }
@@ -106,7 +119,7 @@ fn beset_hand(alloc: Global, events: Vec<Event>) -> Result<Beset, Refused>
 // Whether a call of a hand comes out as it should.
 fn touches<N: Near>(hand: &mut N, touch: Touch) -> bool {
     let shape = hand.shape();
-    if shape != SMALL || shape.mutators == 0 || shape.logs == 0 {
+    if shape.logs != SMALL.logs || shape.mutators != SMALL.mutators {
         return false;
     }
     match touch {
@@ -114,6 +127,7 @@ fn touches<N: Near>(hand: &mut N, touch: Touch) -> bool {
         Touch::Gets(at, word) => at < 2 && hand.get(0, at, false) == word,
         Touch::Clears(word) => clear_first(hand) == word,
         Touch::Retires => retire_first(hand) == Some(Ok(())),
+        Touch::Job(word) => hand.see_job(0) == word,
         _ => false,
     }
 }
@@ -137,6 +151,7 @@ fn beset_touches(hand: &mut Beset, touch: Touch) -> bool {
                 && hand.counted.get(1).copied() == Some(second)
         }
         Touch::GivesBack(word) => gives_back(hand, word),
+        Touch::Collects(done) => collect_first(hand) == done,
         _ => touches(hand, touch),
     }
 }
@@ -393,4 +408,103 @@ const GIVES_BACK: &[Touch] = &[Touch::Retires, Touch::Cell(0), Touch::GivesBack(
 fn beset_log_is_given_back(rt: HostRuntime) {
     let events = [READ, OPEN, ADOPT_NEXT, PIN_NEXT];
     assert!(rt; plays_after(rt.alloc(), DROPS_FULL, &events, GIVES_BACK));
+}
+
+/// Job 0, the copy of pointer 0 to log 2: offered, taken by copier 0, and finished.
+const OFFERED: u64 = 0x4000_2000_0000_0000;
+
+const TAKEN: u64 = 0x8000_2000_0000_0000;
+
+const FINISHED: u64 = 0xc000_2000_0000_0000;
+
+// Pointer 0 lies in log 0, which another object seals. In a round of that log its owner is seen clear, and its copy is offered.
+const OFFERS_FIRST: &[(Event, Reply)] = &[
+    (
+        Event::Put {
+            log: 0,
+            at: 0,
+            word: HEADER,
+        },
+        Reply::Done,
+    ),
+    (
+        Event::Name {
+            pointer: 0,
+            old: 0,
+            new: NEAR,
+        },
+        Reply::Done,
+    ),
+    (
+        Event::Put {
+            log: 1,
+            at: 0,
+            word: 0xa100_0000_0101_03f8,
+        },
+        Reply::Done,
+    ),
+    (
+        Event::Name {
+            pointer: 1,
+            old: 0,
+            new: 0x8400_0004_0001_03f8,
+        },
+        Reply::Done,
+    ),
+    (MARK, Reply::Word(NEAR)),
+    (Event::Advance { logs: 1 }, Reply::Epoch(1)),
+    (Event::Look { owner: 0 }, Reply::Word(0)),
+    (
+        Event::Put {
+            log: 2,
+            at: 0,
+            word: HEADER,
+        },
+        Reply::Done,
+    ),
+    (
+        Event::Offer {
+            job: 0,
+            pointer: 0,
+            to: Place { log: 2, at: 0 },
+        },
+        Reply::Done,
+    ),
+];
+
+const COPIES: &[Event] = &[
+    Event::PeekJob { copier: 0, job: 0 },
+    Event::Claim {
+        copier: 0,
+        job: 0,
+        old: OFFERED,
+    },
+    Event::ReadLength { copier: 0 },
+    Event::Read {
+        copier: 0,
+        index: 0,
+    },
+    Event::Write {
+        copier: 0,
+        index: 0,
+    },
+    Event::Finish { copier: 0 },
+];
+
+// A copier takes the job before it is emptied, which it isn't then, and finishes it while the book looks elsewhere.
+const BESIDE_A_COPIER: &[Touch] = &[
+    Touch::Job(OFFERED),
+    Touch::Collects(Some(Err(TAKEN))),
+    Touch::Collects(None),
+    Touch::Gets(1, 0),
+    Touch::Job(TAKEN),
+    Touch::Gets(1, 0),
+    Touch::Job(FINISHED),
+    Touch::Collects(Some(Ok(()))),
+    Touch::Job(0),
+];
+
+#[test]
+fn a_copier_is_at_work(rt: HostRuntime) {
+    assert!(rt; plays_after(rt.alloc(), OFFERS_FIRST, COPIES, BESIDE_A_COPIER));
 }

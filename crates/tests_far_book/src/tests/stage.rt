@@ -8,6 +8,7 @@ use crate::tests::calls::{
     looks, marks, moves, place_next, places_many, releases, retires,
 };
 use crate::tests::devices::{Flaw, Flawed, Sight};
+use crate::tests::jobs::{has_job, marks_many, offers_in_round, takes_back, waits};
 use crate::tests::owning::{
     asks, begins, is_first, loads, makes_all, store_word, stores, words_of,
 };
@@ -18,6 +19,12 @@ use far_word::{Place, Refused};
 
 /// A row of a test beside owners: so many turns after they asked for pointer 0 to move they make these events, one a turn; and these acts are to come out.
 pub(super) type Beside = (u8, &'static [Event], &'static [Act]);
+
+/// So many turns in which others do nothing, and then these events, one a turn.
+pub(super) type Then = (u16, &'static [Event]);
+
+/// A row of a test beside others: what they do, and these acts, which are to come out.
+pub(super) type ByTurns = (&'static [Then], &'static [Act]);
 
 // A book over a device with this flaw. The core is told whether it is honest.
 #[tactic(auto, using(crate::proofs::Uses::at_start))]
@@ -84,6 +91,19 @@ fn round_does<N: Near + Drop, D: Device + Drop>(book: &mut Book<N, D>, act: Act)
         Act::Looks(owner, scope) => looks(book, owner) == scope,
         Act::Live(log, spans) => has_live(book, log, spans),
         Act::From(number, span) => finds_from(book, number, span),
+        _ => jobs_do(book, act),
+    }
+}
+
+// The same of a call on jobs.
+fn jobs_do<N: Near + Drop, D: Device + Drop>(book: &mut Book<N, D>, act: Act) -> bool {
+    match act {
+        Act::MarksMany(pointers) => marks_many(book, pointers),
+        Act::Offers(wanted) => offers_in_round(book, wanted),
+        Act::Collects(named) => book.collect() == named,
+        Act::TakesBack => takes_back(book),
+        Act::HasJob(pointer, has) => has_job(book, pointer) == has,
+        Act::Waits(turns) => waits(book, turns),
         _ => shows(book, act),
     }
 }
@@ -207,11 +227,11 @@ pub(super) fn plays(rt: &HostRuntime, parts: &[&[Act]]) -> bool {
 }
 
 // The same beside owners that make these events.
-fn plays_with(rt: &HostRuntime, events: Vec<Event>, parts: [&[Act]; 2]) -> bool {
+fn plays_with(rt: &HostRuntime, events: Vec<Event>, first: &[Act], acts: &[Act]) -> bool {
     let sight = Sight::new();
     match beset(rt, events, &sight) {
         Ok(mut book) => {
-            does_beside(&mut book, &sight, parts[0]) && does_beside(&mut book, &sight, parts[1])
+            does_beside(&mut book, &sight, first) && does_beside(&mut book, &sight, acts)
         }
         Err(_) => false,
     }
@@ -223,7 +243,7 @@ pub(super) fn plays_beside(rt: &HostRuntime, events: &[Event], acts: &[Act]) -> 
     if all.extend_from_slice(events).is_err() {
         return false;
     }
-    plays_with(rt, all, [acts, &[]])
+    plays_with(rt, all, acts, &[])
 }
 
 // The first owner opens its scope, takes pointer 0 over once it is placed, and asks for it to move; so many turns later it makes these events.
@@ -249,7 +269,7 @@ fn plays_row(rt: &HostRuntime, turns: u8, row: Beside) -> bool {
     if !fills(&mut all, turns.saturating_add(step), then) {
         return false;
     }
-    plays_with(rt, all, [MARKED_FIRST, acts])
+    plays_with(rt, all, MARKED_FIRST, acts)
 }
 
 /// Whether each row does, where so many turns pass before its first. Pointer 0 has been placed and marked, in 133 of them; the second object takes 129
@@ -257,6 +277,41 @@ fn plays_row(rt: &HostRuntime, turns: u8, row: Beside) -> bool {
 pub(super) fn plays_rows(rt: &HostRuntime, turns: u8, rows: &[Beside]) -> bool {
     for row in rows {
         if !plays_row(rt, turns, *row) {
+            return false;
+        }
+    }
+    true
+}
+
+// So many turns pass, and then others make these events; and so on, for each of the list.
+fn fills_by(events: &mut Vec<Event>, turns: &[Then]) -> bool {
+    for (count, then) in turns {
+        let all = events.len().saturating_add(*count as usize);
+        if events.resize(all, IDLE).is_err() || events.extend_from_slice(then).is_err() {
+            return false;
+        }
+    }
+    true
+}
+
+// Whether one row comes out, where so many turns pass before its first.
+fn plays_turns(rt: &HostRuntime, first: &[Act], turns: u16, row: ByTurns) -> bool {
+    let (then, acts) = row;
+    let mut all = Vec::new(rt.alloc());
+    fills_by(&mut all, &[(turns, &[])])
+        && fills_by(&mut all, then)
+        && plays_with(rt, all, first, acts)
+}
+
+/// Whether each row does, each on a book of its own, of which these acts come first, in so many turns.
+pub(super) fn plays_by_turns(
+    rt: &HostRuntime,
+    first: &[Act],
+    turns: u16,
+    rows: &[ByTurns],
+) -> bool {
+    for row in rows {
+        if !plays_turns(rt, first, turns, *row) {
             return false;
         }
     }

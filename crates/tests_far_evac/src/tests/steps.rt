@@ -100,6 +100,7 @@ fn runs<D: Device + Drop>(evac: &mut Evac<Plain, D>, act: Act) -> bool {
         Act::TurnsNone(why) => evac.turn() == Err(stop([0, 0, 0, 0], why)),
         Act::GivesUp(given) => evac.abort() == given,
         Act::Runs(mut choice, most, turns, end) => {
+            evac.keeps_law();
             comes_to(evac.run_round(&mut choice, most, turns), end)
         }
         Act::RunsAlone(most, turns, end) => {

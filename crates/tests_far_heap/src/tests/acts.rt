@@ -31,6 +31,18 @@ pub(super) enum End {
     Stopped([u64; 4], Refused),
 }
 
+/// What a copier has done.
+#[derive(Clone, Copy, PartialEq, Eq)]
+pub(super) enum Went {
+    /// It has no job, and found none that it could claim.
+    Nowhere,
+    Claimed,
+    Copied,
+    Finished,
+    /// It is no more there.
+    Lost,
+}
+
 /// An act. The mutator at hand, or its scope if that is open, makes and drops objects; its open scope views them. An object's bytes are its first eight.
 #[derive(Clone, Copy)]
 pub(super) enum Act {
@@ -56,6 +68,10 @@ pub(super) enum Act {
     /// What is told of a pointer: length and data structure.
     Tells(u16, Option<u16>, Option<u8>),
 
+    /// Each of so many objects, of the pointers from 0 on, is viewed in one step, and has its pointer in its bytes from now on.
+    Numbers(u16),
+    /// Each of so many has it, whatever a view takes.
+    HasNumbers(u16),
     /// An object is viewed in one step, and has these bytes.
     Reads(u16, [u8; 8]),
     /// An object is viewed, whatever that takes, and has these bytes.
@@ -91,6 +107,8 @@ pub(super) enum Act {
     Polls(Result<Polled, Refused>),
     /// At most so many objects are dealt with: the round is over, and did what a whole one does; or nothing was done, and why.
     Deals(u64, Result<[u64; 4], Refused>),
+    /// The same, and the round isn't over: so many objects moved, sent far and dropped, and logs given back.
+    DealsOn(u64, [u64; 4]),
     /// A turn is refused, and nothing was done.
     TurnsNone(Refused),
     GivesUp(Result<(), Refused>),
@@ -98,6 +116,15 @@ pub(super) enum Act {
     Runs(Choice, usize, u64, End),
     /// How often that round asked its policy.
     Asked(u64),
+
+    /// A copier, by its number, goes on by one call: it claims a job, if it has none; else it copies a word of that, or finishes the job once none is left.
+    Works(usize, Went),
+    /// So many copiers go on so, each by one call.
+    AllWork(usize, Went),
+    /// A copier finishes its job, whatever is left of it; or it has none.
+    Ends(usize, bool),
+    /// A copier is dropped, with the job that it has.
+    Loses(usize),
 
     /// The phase of the round, and the epoch.
     In(Phase),

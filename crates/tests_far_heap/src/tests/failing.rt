@@ -1,8 +1,11 @@
-//! Each call of a device fails in turn, where nobody copies outside the lock: whatever fails, all objects keep their bytes.
+//! Each call of a device fails in turn, without copiers and with one: whatever fails, all objects keep their bytes.
 
 use crate::tests::acts::Act::*;
 use crate::tests::acts::Choice::Eldest;
+use crate::tests::acts::Went::*;
 use crate::tests::acts::{Act, EIGHT, End, ZEROS};
+use crate::tests::copiers;
+use crate::tests::copying::{LEAVING, OFFERED, THREE};
 use crate::tests::looks::sized;
 use crate::tests::stage::plays_over;
 use far_device::{FailAt, MemDevice};
@@ -10,16 +13,6 @@ use far_evac::{Phase, Polled};
 use far_word::Refused;
 use std::alloc::Global;
 use std::sync::Wait;
-
-// Two objects lie in a log, of which the first is written, and another fills the next.
-const THREE: &[Act] = &[
-    Makes(8, Ok(0)),
-    Makes(8, Ok(1)),
-    Opens,
-    Writes(0, EIGHT),
-    Closes,
-    Makes(1016, Ok(2)),
-];
 
 // A round moves the first object, and sends the second far.
 const ROUND: &[Act] = &[Runs(Eldest, 1, 9, End::Done([1, 1, 0, 1])), In(Phase::Idle)];
@@ -117,4 +110,93 @@ fn fail_each_without_copiers(rt: HostRuntime) {
     assert!(rt; comes_out(&rt, rt.alloc(), 2, &hot));
     let hot = [HOT_THREE, HOT_ROUND, HOT_BYTES, ALL_HOT_THREE];
     assert!(rt; comes_out(&rt, rt.alloc(), 3, &hot));
+}
+
+// The same of a heap with a copier.
+fn comes_out_copied<R: Wait>(rt: &R, alloc: Global, k: u64, parts: &[&[Act]]) -> bool {
+    let device = FailAt::new(MemDevice::new(alloc), k);
+    copiers::plays_over(rt, alloc, (sized(4, 1), 1), device, parts)
+}
+
+// The second object was to go far, which is refused, once the copy of the first was offered.
+const STOPPED: &[Act] = &[Deals(16, Err(Refused::Device)), In(Phase::Evacuating)];
+
+// The round is given up, and nothing is offered any more.
+const GIVEN_UP: &[Act] = &[GivesUp(Ok(())), In(Phase::Idle), Works(0, Nowhere)];
+
+// The copier has claimed it before, and finishes it after.
+const CLAIMED: &[Act] = &[Works(0, Claimed)];
+
+const FINISHED: &[Act] = &[
+    GivesUp(Ok(())),
+    In(Phase::Idle),
+    Works(0, Copied),
+    Works(0, Finished),
+    Works(0, Nowhere),
+];
+
+// The round goes on where it stopped, and ends.
+const COPIED: &[Act] = &[
+    Works(0, Copied),
+    Works(0, Finished),
+    Deals(16, Ok([1, 0, 0, 1])),
+    In(Phase::Idle),
+];
+
+// A device's first call, or its second, fails where the copy of an object is offered and another one goes far; or none does.
+#[test]
+fn fail_each_on_heap(rt: HostRuntime) {
+    let parts = [THREE, LEAVING, STOPPED, GIVEN_UP, BYTES, ALL_THREE];
+    assert!(rt; comes_out_copied(&rt, rt.alloc(), 1, &parts));
+    let parts = [THREE, LEAVING, STOPPED, CLAIMED, FINISHED, BYTES, ALL_THREE];
+    assert!(rt; comes_out_copied(&rt, rt.alloc(), 1, &parts));
+    let parts = [
+        THREE, LEAVING, STOPPED, OFFERED, CLAIMED, COPIED, BYTES, ALL_THREE,
+    ];
+    assert!(rt; comes_out_copied(&rt, rt.alloc(), 1, &parts));
+    let parts = [
+        THREE,
+        LEAVING,
+        OFFERED,
+        CLAIMED,
+        COPIED,
+        LATER_BYTES,
+        ALL_THREE,
+    ];
+    assert!(rt; comes_out_copied(&rt, rt.alloc(), 2, &parts));
+    let parts = [THREE, LEAVING, OFFERED, CLAIMED, COPIED, BYTES, ALL_THREE];
+    assert!(rt; comes_out_copied(&rt, rt.alloc(), 3, &parts));
+}
+
+// No copy of a hot object can be offered, since there is no room.
+const NOTHING_OFFERED: &[Act] = &[Works(0, Nowhere)];
+
+// The same where a hot object goes far.
+#[test]
+fn fail_each_without_room(rt: HostRuntime) {
+    let parts = [
+        HOT_THREE,
+        NOTHING_OFFERED,
+        STOPPED_HOT_ROUND,
+        NOTHING_OFFERED,
+        HOT_BYTES,
+        ALL_HOT_THREE,
+    ];
+    assert!(rt; comes_out_copied(&rt, rt.alloc(), 1, &parts));
+    let parts = [
+        HOT_THREE,
+        HOT_ROUND,
+        NOTHING_OFFERED,
+        LATER_HOT_BYTES,
+        ALL_HOT_THREE,
+    ];
+    assert!(rt; comes_out_copied(&rt, rt.alloc(), 2, &parts));
+    let parts = [
+        HOT_THREE,
+        HOT_ROUND,
+        NOTHING_OFFERED,
+        HOT_BYTES,
+        ALL_HOT_THREE,
+    ];
+    assert!(rt; comes_out_copied(&rt, rt.alloc(), 3, &parts));
 }

@@ -2,6 +2,7 @@
 
 ghost use Rattle.std.specs.Prelude.{◌≡◌};
 
+use crate::tests::copiers;
 use crate::tests::looks::{blank, sized};
 use far_device::MemDevice;
 use far_heap::{Blank, Heap, HeapName};
@@ -31,4 +32,18 @@ fn ends_lawfully(rt: &HostRuntime) -> bool {
 #[test]
 fn a_heap_is_made_or_memory_is_refused(rt: HostRuntime) {
     assert!(rt; ends_lawfully(&rt));
+}
+
+// The same with copiers.
+fn ends_lawfully_with_copiers(rt: &HostRuntime) -> bool {
+    let begun = match blank(rt, sized(2, 2)) {
+        Ok(blank) => copiers::begins::<Brand>(rt.alloc(), blank, 8),
+        Err(why) => Err(why),
+    };
+    begun == Ok(true) || begun == Err(Refused::Memory)
+}
+
+#[test]
+fn a_heap_with_copiers_is_made_or_memory_is_refused(rt: HostRuntime) {
+    assert!(rt; ends_lawfully_with_copiers(&rt));
 }

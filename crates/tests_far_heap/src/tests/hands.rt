@@ -1,7 +1,7 @@
 //! A mutator or its scope, and the acts of each.
 
 use crate::tests::acts::Act;
-use crate::tests::scopes::{is_slow, reads, reads_slowly, viewed, writes};
+use crate::tests::scopes::{has_numbers, is_slow, numbers, reads, reads_slowly, viewed, writes};
 use far_device::Device;
 use far_heap::{HeapName, Mutator, Scope, Tried, View};
 use far_word::Refused;
@@ -138,6 +138,8 @@ fn does_in<K: HeapName, D: Device + Drop, R: Wait>(
     act: Act,
 ) -> Option<bool> {
     match act {
+        Act::Numbers(objects) => Some(numbers(scope, objects)),
+        Act::HasNumbers(objects) => Some(has_numbers(rt, scope, objects)),
         Act::Reads(pointer, bytes) => Some(reads(scope, pointer, bytes)),
         Act::Brings(pointer, bytes) => Some(reads_slowly(rt, scope, pointer, bytes)),
         Act::Writes(pointer, bytes) => Some(writes(scope, pointer, bytes)),

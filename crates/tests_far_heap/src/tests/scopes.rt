@@ -69,3 +69,30 @@ pub(super) fn writes<K: HeapName, D: Device + Drop>(
         None => false,
     }
 }
+
+/// Whether each of so many objects, of the pointers from 0 on, is viewed in one step, and has its pointer in its bytes from then on.
+pub(super) fn numbers<K: HeapName, D: Device + Drop>(
+    scope: &mut Scope<K, D>,
+    objects: u16,
+) -> bool {
+    for pointer in 0..objects {
+        if !writes(scope, pointer, (pointer as u64).to_le_bytes()) {
+            return false;
+        }
+    }
+    true
+}
+
+/// Whether each of so many is viewed, whatever that takes, and has its pointer in its bytes.
+pub(super) fn has_numbers<K: HeapName, D: Device + Drop, R: Wait>(
+    rt: &R,
+    scope: &mut Scope<K, D>,
+    objects: u16,
+) -> bool {
+    for pointer in 0..objects {
+        if !reads_slowly(rt, scope, pointer, (pointer as u64).to_le_bytes()) {
+            return false;
+        }
+    }
+    true
+}

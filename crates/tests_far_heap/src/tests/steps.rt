@@ -114,14 +114,15 @@ fn marks<K: HeapName, D: Device + Drop>(
     book.mark_some(n) == marked
 }
 
-// Whether the last objects are dealt with so; or none, for this reason.
+// Whether objects are dealt with so, the last ones perhaps; or none, for this reason.
 fn deals<K: HeapName, D: Device + Drop>(
     book: &mut Evacuator<K, D>,
     n: u64,
     dealt: Result<[u64; 4], Refused>,
+    done: bool,
 ) -> bool {
     let dealt = match dealt {
-        Ok(counts) => Ok(progress(counts, true)),
+        Ok(counts) => Ok(progress(counts, done)),
         Err(why) => Err(refusal(why)),
     };
     book.evacuate_some(n) == dealt
@@ -133,7 +134,8 @@ pub(super) fn steps<K: HeapName, D: Device + Drop>(book: &mut Evacuator<K, D>, a
         Act::Selects(choice, most, logs) => selects(book, choice, most, logs),
         Act::Marks(n, marked) => marks(book, n, marked),
         Act::Polls(polled) => book.poll_wait() == polled,
-        Act::Deals(n, dealt) => deals(book, n, dealt),
+        Act::Deals(n, dealt) => deals(book, n, dealt, true),
+        Act::DealsOn(n, dealt) => deals(book, n, Ok(dealt), false),
         Act::TurnsNone(why) => book.turn() == Err(refusal(why)),
         Act::GivesUp(given) => book.abort() == given,
         _ => shows(book, act),

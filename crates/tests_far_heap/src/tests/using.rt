@@ -1,18 +1,20 @@
 //! The examples of docs/USING.md, which has what stands here between `// page` and `// end`: scripts/using.py compares them.
 
 ghost use Rattle.std.specs.Prelude.{◌≡◌};
+ghost use Rattle.far_heap.specs.HeapId.{with_copiers};
 
 use crate::tests::looks::{new_blank, sized};
 use far_device::{FailAt, MemDevice};
 use far_evac::RoundEnd;
-use far_heap::{Blank, Heap, HeapName, Mutator, Scope};
+use far_heap::{Blank, Copier, Heap, HeapName, Mutator, Scope};
 use far_policy::{LeastLive, Oldest};
 use far_word::Refused;
 use std::alloc::{AllocError, Global};
 use std::marker::Brand;
 use std::sync::Wait;
+use std::sync::atomic::{AtomicU64, Ordering};
 use std::thread;
-use std::thread::Threads;
+use std::thread::{Threads, join};
 
 /// What the program keeps in an object of 16 bytes.
 #[derive(Clone, Copy, PartialEq)]
@@ -234,4 +236,68 @@ fn a_device_that_fails(rt: HostRuntime) {
         panic!(rt; "no heap is made");
     };
     assert!(rt; over_a_device::<Brand, _>(&rt, rt.alloc(), blank));
+}
+
+// page
+// Copies what rounds offer, until all is over.
+fn copies<K: HeapName, R: Wait>(rt: &R, mut copier: Copier<K, MemDevice>, over: &AtomicU64) {
+    for _ in rt.forever() {
+        match copier.claim() {
+            Ok(copying) => copier = copying.finish(),
+            Err(free) => {
+                copier = free;
+                if over.load(Ordering::SeqCst) > 0 {
+                    return;
+                }
+                thread::yield_now();
+            }
+        }
+    }
+}
+// end
+
+// Whether a round moves the account by a copier, which is told then that all is over.
+fn moves_beside<K: HeapName, R: Wait>(
+    rt: &R,
+    heap: &Heap<K, MemDevice>,
+    mutator: Mutator<K, MemDevice>,
+    over: &AtomicU64,
+) -> bool {
+    let (mut mutator, kept) = in_a_scope(rt, mutator);
+    let made = mutator.alloc(rt, 1016, 1);
+    let ended = heap.run_round(rt, &mut Oldest, 1, 1_000_000);
+    over.store(1, Ordering::SeqCst);
+    let mut scope = mutator.open();
+    let found = get(rt, &mut scope, 0);
+    scope.close();
+    let moved = matches!(ended, Ok(RoundEnd::Done(done)) if done.moved == 1);
+    moved && made == Ok(1) && kept == Ok(true) && found == Ok(ALICE)
+}
+
+fn with_a_copier<K: HeapName + Send + Sync, R: Threads + Wait + Sync>(
+    rt: &R,
+    alloc: Global,
+    blank: Blank<MemDevice>,
+) -> bool
+    requires { with_copiers blank.heap ≡ K.heap }
+{
+    let Ok((heap, mut mutators, mut copiers)) = Heap::<K, _>::with_copiers(alloc, blank, 1) else {
+        return false;
+    };
+    let (Some(mutator), Some(copier)) = (mutators.pop(), copiers.pop()) else {
+        return false;
+    };
+    let (over, heap) = (&AtomicU64::new(0), &heap);
+    let (_copied, came) = join(
+        rt,
+        move || copies(rt, copier, over),
+        move || moves_beside(rt, heap, mutator, over),
+    );
+    came
+}
+
+#[test]
+fn rounds_beside_a_copier(rt: HostRuntime) {
+    let blank = new_blank(&rt, rt.alloc(), sized(4, 1));
+    assert!(rt; with_a_copier::<Brand, _>(&rt, rt.alloc(), blank));
 }

@@ -1,30 +1,52 @@
-use Rattle.std.proofs.Common.{◌≢◌, ap, subst, sym}
-use Rattle.std.specs.Prelude.{IfErr}
-use Rattle.far_word.specs.declared.refused.Refused.TheVariants.{Memory}
-use Rattle.far_text.specs.Command.{Evacuator, Step, as_step}
-use Rattle.far_reply.specs.Reply.{Halted}
+use Rattle.std.proofs.Common.{ap, subst, sym}
+use Rattle.far_text.specs.Command.{Abort, Evacuator, Mark, Select, Step, Wait, as_choice, as_step}
+use Rattle.far_replay.specs.Outcome.{told_by}
 use Rattle.far_replay.specs.Spent.{Makes}
+use Rattle.far_replay.proofs.Made.{made_served}
 use Rattle.far_replay.proofs.Spending.{spent_same}
 use Rattle.far_replay.proofs.rounds.step_made.Goals as goal
 
-pub returns-in-Select-clause-spent : goal.returns-in-Select-clause-spent
-returns-in-Select-clause-spent c = spent_same c.args.evac.now c.select.new.evac c.select.ensures.device
+pub returns-in-Select : goal.returns-in-Select
+returns-in-Select c = record {
+  made =
+      let call = c.select.ensures in
+      subst (λ (step : Step). Makes c.args.evac.now (Evacuator step) (told_by c.select.new.scratch c.select.result) c.select.new.evac) (ap as_step (sym c.in-Select.is))
+      (made_served c.args.evac.now c.select.new.evac (Evacuator (Select (as_choice c.in-Select.choice) c.in-Select.most)) (told_by c.select.new.scratch c.select.result) call.moment call.reply
+      (spent_same c.args.evac.now c.select.new.evac call.device));
+}
 
-pub returns-in-Mark-clause-spent : goal.returns-in-Mark-clause-spent
-returns-in-Mark-clause-spent c = spent_same c.args.evac.now c.mark.new.evac c.mark.ensures.device
+pub returns-in-Mark : goal.returns-in-Mark
+returns-in-Mark c = record {
+  made =
+      let call = c.mark.ensures in
+      subst (λ (step : Step). Makes c.args.evac.now (Evacuator step) (told_by c.mark.new.scratch c.mark.result) c.mark.new.evac) (ap as_step (sym c.in-Mark.is))
+      (made_served c.args.evac.now c.mark.new.evac (Evacuator (Mark c.in-Mark.count)) (told_by c.mark.new.scratch c.mark.result) call.moment call.reply (spent_same c.args.evac.now c.mark.new.evac call.device));
+}
 
-pub returns-in-Wait-clause-spent : goal.returns-in-Wait-clause-spent
-returns-in-Wait-clause-spent c = spent_same c.args.evac.now c.wait.new.evac c.wait.ensures.device
+pub returns-in-Wait : goal.returns-in-Wait
+returns-in-Wait c = record {
+  made =
+      let call = c.wait.ensures in
+      subst (λ (step : Step). Makes c.args.evac.now (Evacuator step) (told_by c.args.scratch.now c.wait.result) c.wait.new.evac) (ap as_step (sym c.in-Wait.is))
+      (made_served c.args.evac.now c.wait.new.evac (Evacuator Wait) (told_by c.args.scratch.now c.wait.result) call.moment (call.reply c.args.scratch.now) (spent_same c.args.evac.now c.wait.new.evac call.device));
+}
 
-pub returns-in-Abort-clause-spent : goal.returns-in-Abort-clause-spent
-returns-in-Abort-clause-spent c = spent_same c.args.evac.now c.abort.new.evac c.abort.ensures.device
+pub returns-in-Abort : goal.returns-in-Abort
+returns-in-Abort c = record {
+  made =
+      let call = c.abort.ensures in
+      subst (λ (step : Step). Makes c.args.evac.now (Evacuator step) (told_by c.args.scratch.now c.abort.result) c.abort.new.evac) (ap as_step (sym c.in-Abort.is))
+      (made_served c.args.evac.now c.abort.new.evac (Evacuator Abort) (told_by c.args.scratch.now c.abort.result) call.moment (call.reply c.args.scratch.now) (spent_same c.args.evac.now c.abort.new.evac call.device));
+}
 
-pub returns-in-Evacuate-clause-stopped : goal.returns-in-Evacuate-clause-stopped
-returns-in-Evacuate-clause-stopped c =
-    subst (λ (step : Step). IfErr c.evacuate.result (λ why. why ≢ Memory → Makes c.args.evac.now (Evacuator step) (Halted why c.evacuate.new.scratch.progress) c.evacuate.new.evac))
-    (ap as_step (sym c.in-Evacuate.is)) c.evacuate.ensures.stopped
+pub returns-in-Evacuate : goal.returns-in-Evacuate
+returns-in-Evacuate c = record {
+  made =
+      subst (λ (step : Step). Makes c.args.evac.now (Evacuator step) (told_by c.evacuate.new.scratch c.evacuate.result) c.evacuate.new.evac) (ap as_step (sym c.in-Evacuate.is)) c.evacuate.ensures.made;
+}
 
-pub returns-in-Round-clause-stopped : goal.returns-in-Round-clause-stopped
-returns-in-Round-clause-stopped c =
-    subst (λ (step : Step). IfErr c.round.result (λ why. why ≢ Memory → Makes c.args.evac.now (Evacuator step) (Halted why c.round.new.scratch.progress) c.round.new.evac))
-    (ap as_step (sym c.in-Round.is)) c.round.ensures.stopped
+pub returns-in-Round : goal.returns-in-Round
+returns-in-Round c = record {
+  made =
+      subst (λ (step : Step). Makes c.args.evac.now (Evacuator step) (told_by c.round.new.scratch c.round.result) c.round.new.evac) (ap as_step (sym c.in-Round.is)) c.round.ensures.made;
+}

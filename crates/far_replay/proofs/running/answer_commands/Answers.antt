@@ -1,4 +1,4 @@
-use Rattle.std.proofs.Common.{◌≡◌, ◌+◌, List, [], ◌∷◌, ◌++◌, append-nil, drop, length-drop, sym, subst, arith}
+use Rattle.std.proofs.Common.{◌≡◌, ◌+◌, List, [], ◌∷◌, ◌++◌, append-nil, drop, sym, subst, arith}
 use Rattle.std.specs.List.{flat_map}
 use Rattle.std.specs.Option.{option_map}
 use Rattle.std.proofs.lemmas.List.{drop_all}
@@ -8,12 +8,12 @@ use Rattle.far_text.specs.Command.{Command, as_command, as_device}
 use Rattle.far_replay.specs.Outcome.{reply_by}
 use Rattle.far_reply.specs.Reply.{Reply, reply_text}
 use Rattle.far_reply.specs.Stream.{Holds}
-use Rattle.far_replay.proofs.Answering.{answers_all, led_part, answered_more, answered_all, printed_more, spoiled_more}
+use Rattle.far_replay.proofs.Answering.{answered_more, answered_all, printed_more, spoiled_more}
 use Rattle.far_replay.proofs.Lasting.{still_lasts}
 use Rattle.far_replay.proofs.running.answer_commands.Goals as goal
 
-pub turn-requires-clause-law : goal.turn-requires-clause-law
-turn-requires-clause-law g c = c.loop-at.evac.book.near.core.law
+pub turn-outcome-requires-clause-law : goal.turn-outcome-requires-clause-law
+turn-outcome-requires-clause-law g c = c.loop-at.evac.book.near.core.law
 
 pub loop-at-init : goal.loop-at-init
 loop-at-init g c =
@@ -43,13 +43,13 @@ loop-at-preserved g c =
     let end = g.W.Write.contents c.answer_one.new.writer in
     let device = option_map as_device c.args.device in
     let now : Moment = moment_in c.loop-at.evac in
-    let next : Moment = moment_in c.turn.new.evac in
+    let next : Moment = moment_in c.turn-outcome.new.evac in
     let command : Command = as_command c.at-command.result in
     let (outside, replies, moments, left, few, allowed, goes, holds) = c.loop-at.invariant.ran in
-    let r : Reply = reply_by c.turn.new.scratch c.in-Ok.outcome in
+    let r : Reply = reply_by c.turn-outcome.new.scratch c.turn-outcome.result in
     let here = c.at-command.ensures.value in
-    let (o, made, spent) = c.in-Ok.ensures.made in
-    let spared = spoiled_more (lie_of device) (flaws device) left outside o c.loop-at.evac c.turn.new.evac spent few allowed in
+    let (o, made, spent) = c.turn-outcome.ensures.made in
+    let spared = spoiled_more (lie_of device) (flaws device) left outside o c.loop-at.evac c.turn-outcome.new.evac spent few allowed in
     let held = c.answer_one.ensures start (flat_map reply_text (opened device ++ replies)) holds in
     let lasts = still_lasts now command r next (record { law = c.loop-at.evac.book.near.core.law; round = c.loop-at.invariant.round; alone = c.loop-at.invariant.alone; between = c.loop-at.invariant.between; strays = c.loop-at.invariant.strays })
     c.at-command.ensures.bytes (o, made) in
@@ -71,35 +71,6 @@ loop-at-preserved g c =
       );
     }
 
-pub returns-in_default : goal.returns-in_default
-returns-in_default g c =
-    let start = g.W.Write.contents c.args.writer.now in
-    let device = option_map as_device c.args.device in
-    let (outside, replies, moments, left, few, allowed, goes, holds) = c.loop-at.invariant.ran in
-    let rest = answers_all (moment_in c.loop-at.evac) (drop c.loop-at.at c.args.commands.now) in (
-      outside ++ rest.0,
-      replies ++ rest.1,
-      moments ++ rest.2,
-      allowed rest.0 (rest.3 (lie_of device) left),
-      goes rest.0 rest.1 rest.2 rest.4,
-      led_part start (g.W.Write.contents c.loop-at.writer) c.loop-at.replies.waiting c.loop-at.replies.written (opened device) replies (moment_in c.loop-at.evac) (drop c.loop-at.at c.args.commands.now) c.loop-at.evac.book.near.core.law
-          (omega (arith, c.loop-at-test.true, c.len-at-end.ensures, length-drop c.loop-at.at c.args.commands.now)) holds,
-    )
-
-pub returns-in-Ok-finish : goal.returns-in-Ok-finish
-returns-in-Ok-finish g c =
-    let start = g.W.Write.contents c.args.writer.now in
-    let device = option_map as_device c.args.device in
-    let (outside, replies, moments, left, few, allowed, goes, holds) = c.loop-at.invariant.ran in
-    let none : drop c.loop-at.at c.args.commands.now ≡ [] = drop_all c.loop-at.at c.args.commands.now (omega (arith, c.loop-at-test.false, c.len-at-end.ensures)) in (
-      outside,
-      replies,
-      moments,
-      subst (FlawedAtMost (lie_of device) (flaws device)) (append-nil outside) (allowed [] tt),
-      answered_all (moment_in c.args.evac) (moment_in c.loop-at.evac) c.args.commands.now outside replies moments (drop c.loop-at.at c.args.commands.now) none goes,
-      c.in-Ok-finish.ensures start (flat_map reply_text (opened device ++ replies)) holds,
-    )
-
 pub returns : goal.returns
 returns g c =
     let start = g.W.Write.contents c.args.writer.now in
@@ -111,5 +82,5 @@ returns g c =
       moments,
       subst (FlawedAtMost (lie_of device) (flaws device)) (append-nil outside) (allowed [] tt),
       answered_all (moment_in c.args.evac) (moment_in c.loop-at.evac) c.args.commands.now outside replies moments (drop c.loop-at.at c.args.commands.now) none goes,
-      c.in-Err.ensures start (flat_map reply_text (opened device ++ replies)) holds,
+      c.finish.ensures start (flat_map reply_text (opened device ++ replies)) holds,
     )

@@ -1,4 +1,4 @@
-use Rattle.std.proofs.Common.{ap, inl, inr, subst, sym}
+use Rattle.std.proofs.Common.{ap, inr, subst, sym}
 use Rattle.far_core.specs.state.Shape.{is_shape}
 use Rattle.far_evac.specs.MomentLaw.{MomentLaw}
 use Rattle.far_evac.specs.Strays.{NoneStrays}
@@ -14,7 +14,7 @@ use Rattle.far_replay.proofs.running.answer_heap.Goals as goal
 pub returns-in-Err-Memory-clause-fault : goal.returns-in-Err-Memory-clause-fault
 returns-in-Err-Memory-clause-fault g c =
     let shape = c.args.shape in
-    inr (in_range c.in-Err-Memory.field-0 (is_shape shape) c.in-Err-Memory.field-0-is c.in-Err-Memory.ensures.refused, inl (written_front _ _ c.refuse.result _ c.refuse.ensures))
+    inr (in_range c.in-Err-Memory.field-0 (is_shape shape) c.in-Err-Memory.field-0-is c.in-Err-Memory.ensures.refused, written_front _ _ c.refuse.result _ c.refuse.ensures)
 
 pub answer_commands-requires-clause-between : goal.answer_commands-requires-clause-between
 answer_commands-requires-clause-between g c =

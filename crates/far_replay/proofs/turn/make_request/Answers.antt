@@ -1,11 +1,10 @@
 use Rattle.std.proofs.Common.{ap, subst, sym, ◌∙◌}
-use Rattle.std.specs.Prelude.{IfOk}
-use Rattle.far_text.specs.Command.{Request, Mutator, New, Open, Close, Where, Drop, View, Try, Epoch, as_request}
+use Rattle.far_text.specs.Command.{Request, Mutator, New, Open, Close, Where, Drop, Try, Epoch, as_request}
 use Rattle.far_replay.specs.Moment.{moment_in}
 use Rattle.far_replay.specs.Outcome.{reply_by}
 use Rattle.far_replay.specs.Spent.{Makes}
 use Rattle.far_replay.proofs.Joining.{close_keeps, drop_keeps, epoch_keeps, open_keeps, where_keeps}
-use Rattle.far_replay.proofs.Made.{made_for, made_served, request_made}
+use Rattle.far_replay.proofs.Made.{made_served, request_made}
 use Rattle.far_replay.proofs.Spending.{spent_same}
 use Rattle.far_replay.proofs.turn.make_request.Goals as goal
 
@@ -54,5 +53,4 @@ returns-in-Try-clause-made c =
 
 pub returns-in-View-clause-made : goal.returns-in-View-clause-made
 returns-in-View-clause-made c =
-    subst (λ (r : Request). IfOk c.view_object.result (λ outcome. Makes c.args.evac.now (Mutator c.args.owner r) (reply_by c.args.scratch.now outcome) c.view_object.new.evac)) (ap as_request (sym c.in-View.is))
-    (made_for c.args.evac.now c.view_object.new.evac (Mutator c.args.owner (View c.in-View.pointer)) c.view_object.result c.args.scratch.now c.view_object.ensures.made)
+    subst (λ (r : Request). Makes c.args.evac.now (Mutator c.args.owner r) (reply_by c.args.scratch.now c.view_object.result) c.view_object.new.evac) (ap as_request (sym c.in-View.is)) (c.view_object.ensures.made c.args.scratch.now)

@@ -3,9 +3,8 @@ use Rattle.far_text.specs.Command.{Mutator, Read}
 use Rattle.far_replay.specs.Moment.{moment_in}
 use Rattle.far_replay.specs.Outcome.{reply_by}
 use Rattle.far_replay.proofs.Given.{range_viewed, read_makes}
-use Rattle.far_replay.proofs.Made.{made_for}
 use Rattle.far_replay.proofs.RangeTurns.{wants_room}
-use Rattle.far_replay.proofs.Unbrought.{IsVain, vain_outside, vain_within}
+use Rattle.far_replay.proofs.Unbrought.{IsVain, vain_made}
 use Rattle.far_replay.proofs.turn.read.Goals.{In-Err}
 use Rattle.far_replay.proofs.turn.read.Goals as goal
 
@@ -26,9 +25,4 @@ vain c =
     record { opened = is.opened; own = is.own; used = is.used; cause = wants_room (moment_in c.args.evac.now) c.args.access is; stops = λ h. h; leaves = refl; refuses = call.refused; far = call.far; shut = call.shut; round = c.dereference.ensures.round; spent = call.spent }
 
 pub returns-in-Err-clause-made : goal.returns-in-Err-clause-made
-returns-in-Err-clause-made c =
-    made_for c.args.evac.now c.dereference.new.evac (Mutator c.args.access.owner (Read c.args.access.pointer c.args.access.from c.args.access.count)) c.refused.result c.args.scratch.now
-    (vain_within (vain (goal.at.returns-in-Err-clause-made c).In-Err) c.refused.result c.refused.ensures.told)
-
-pub returns-in-Err-clause-stopped : goal.returns-in-Err-clause-stopped
-returns-in-Err-clause-stopped c = vain_outside (vain (goal.at.returns-in-Err-clause-stopped c).In-Err) c.refused.result c.refused.ensures.stops
+returns-in-Err-clause-made c = vain_made (vain (goal.at.returns-in-Err-clause-made c).In-Err)

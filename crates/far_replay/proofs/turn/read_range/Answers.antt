@@ -1,10 +1,7 @@
-use Rattle.std.proofs.Common.{◌≢◌, subst, sym, ap, ◌∙◌}
-use Rattle.std.specs.Prelude.{IfErr, IfOk}
-use Rattle.far_word.specs.declared.refused.Refused.TheVariants.{Memory}
+use Rattle.std.proofs.Common.{subst, sym, ap, ◌∙◌}
 use Rattle.far_text.specs.Command.{Command, Mutator, Read}
 use Rattle.far_replay.specs.Interpreter.{refused_in}
 use Rattle.far_replay.specs.Outcome.{reply_by}
-use Rattle.far_reply.specs.Reply.{Refused}
 use Rattle.far_replay.specs.Spent.{Makes}
 use Rattle.far_replay.proofs.Made.{read_barred}
 use Rattle.far_replay.proofs.turn.read_range.Goals as goal
@@ -12,12 +9,7 @@ use Rattle.far_replay.proofs.turn.read_range.Goals as goal
 pub returns-in-Ok-clause-made : goal.returns-in-Ok-clause-made
 returns-in-Ok-clause-made c =
     let is = c.in-Ok.ensures.access in
-    subst (λ (x : Command). IfOk c.read.result (λ outcome. Makes c.args.evac.now x (reply_by c.read.new.scratch outcome) c.read.new.evac)) (λ i. Mutator (is.owner i) (Read (is.pointed i) (is.starts i) (is.counts i))) c.read.ensures.made
-
-pub returns-in-Ok-clause-stopped : goal.returns-in-Ok-clause-stopped
-returns-in-Ok-clause-stopped c =
-    let is = c.in-Ok.ensures.access in
-    subst (λ (x : Command). IfErr c.read.result (λ why. why ≢ Memory → Makes c.args.evac.now x (Refused why) c.read.new.evac)) (λ i. Mutator (is.owner i) (Read (is.pointed i) (is.starts i) (is.counts i))) c.read.ensures.stopped
+    subst (λ (x : Command). Makes c.args.evac.now x (reply_by c.read.new.scratch c.read.result) c.read.new.evac) (λ i. Mutator (is.owner i) (Read (is.pointed i) (is.starts i) (is.counts i))) c.read.ensures.made
 
 pub returns-in-Err-clause-made : goal.returns-in-Err-clause-made
 returns-in-Err-clause-made c =

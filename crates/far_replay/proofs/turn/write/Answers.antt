@@ -2,9 +2,8 @@ use Rattle.std.proofs.Common.{refl}
 use Rattle.far_text.specs.Command.{Mutator, Write}
 use Rattle.far_replay.specs.Moment.{moment_in}
 use Rattle.far_replay.proofs.Given.{range_viewed, write_makes}
-use Rattle.far_replay.proofs.Made.{made_for}
 use Rattle.far_replay.proofs.RangeTurns.{writes_room}
-use Rattle.far_replay.proofs.Unbrought.{IsVain, vain_outside, vain_within}
+use Rattle.far_replay.proofs.Unbrought.{IsVain, vain_made}
 use Rattle.far_replay.proofs.turn.write.Goals.{In-Err}
 use Rattle.far_replay.proofs.turn.write.Goals as goal
 
@@ -26,9 +25,4 @@ vain c =
     record { opened = is.opened; own = is.own; used = is.used; cause = writes_room (moment_in c.args.evac.now) c.args.access is c.args.bytes.now c.requires.bytes; stops = λ h. h; leaves = refl; refuses = call.refused; far = call.far; shut = call.shut; round = c.dereference.ensures.round; spent = call.spent }
 
 pub returns-in-Err-clause-made : goal.returns-in-Err-clause-made
-returns-in-Err-clause-made c =
-    made_for c.args.evac.now c.dereference.new.evac (Mutator c.args.access.owner (Write c.args.access.pointer c.args.access.from c.args.bytes.now)) c.refused.result c.args.scratch.now
-    (vain_within (vain (goal.at.returns-in-Err-clause-made c).In-Err) c.refused.result c.refused.ensures.told)
-
-pub returns-in-Err-clause-stopped : goal.returns-in-Err-clause-stopped
-returns-in-Err-clause-stopped c = vain_outside (vain (goal.at.returns-in-Err-clause-stopped c).In-Err) c.refused.result c.refused.ensures.stops
+returns-in-Err-clause-made c = vain_made (vain (goal.at.returns-in-Err-clause-made c).In-Err)

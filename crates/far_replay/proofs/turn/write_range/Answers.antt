@@ -1,10 +1,7 @@
-use Rattle.std.proofs.Common.{◌≢◌, subst, sym, ap, ◌∙◌}
-use Rattle.std.specs.Prelude.{IfErr, IfOk}
-use Rattle.far_word.specs.declared.refused.Refused.TheVariants.{Memory}
+use Rattle.std.proofs.Common.{subst, sym, ap, ◌∙◌}
 use Rattle.far_text.specs.Command.{Command, Mutator, Write}
 use Rattle.far_replay.specs.Interpreter.{refused_in}
 use Rattle.far_replay.specs.Outcome.{reply_by}
-use Rattle.far_reply.specs.Reply.{Refused}
 use Rattle.far_replay.specs.Spent.{Makes}
 use Rattle.far_replay.proofs.Made.{write_barred}
 use Rattle.far_replay.proofs.turn.write_range.Goals as goal
@@ -12,12 +9,7 @@ use Rattle.far_replay.proofs.turn.write_range.Goals as goal
 pub returns-in-Ok-clause-made : goal.returns-in-Ok-clause-made
 returns-in-Ok-clause-made c =
     let is = c.in-Ok.ensures.access in
-    subst (λ (x : Command). IfOk c.write.result (λ outcome. Makes c.args.evac.now x (reply_by c.write.new.scratch outcome) c.write.new.evac)) (λ i. Mutator (is.owner i) (Write (is.pointed i) (is.starts i) c.args.bytes.now)) c.write.ensures.made
-
-pub returns-in-Ok-clause-stopped : goal.returns-in-Ok-clause-stopped
-returns-in-Ok-clause-stopped c =
-    let is = c.in-Ok.ensures.access in
-    subst (λ (x : Command). IfErr c.write.result (λ why. why ≢ Memory → Makes c.args.evac.now x (Refused why) c.write.new.evac)) (λ i. Mutator (is.owner i) (Write (is.pointed i) (is.starts i) c.args.bytes.now)) c.write.ensures.stopped
+    subst (λ (x : Command). Makes c.args.evac.now x (reply_by c.write.new.scratch c.write.result) c.write.new.evac) (λ i. Mutator (is.owner i) (Write (is.pointed i) (is.starts i) c.args.bytes.now)) c.write.ensures.made
 
 pub returns-in-Err-clause-made : goal.returns-in-Err-clause-made
 returns-in-Err-clause-made c =

@@ -1,19 +1,15 @@
-use Rattle.std.proofs.Common.{◌≡◌, ◌≢◌, ◌/◌, true, ap, refl, subst, sym, ◌∙◌}
-use Rattle.std.specs.Prelude.{IfErr, IfOk}
+use Rattle.std.proofs.Common.{◌≡◌, ◌/◌, true, ap, refl, subst, sym, ◌∙◌}
 use Rattle.far_word.specs.declared.sizes.TheConstants.{CELLS}
 use Rattle.far_core.specs.declared.machine.Core.{Core}
 use Rattle.far_core.specs.events.Step.{is_opened}
 use Rattle.far_core.specs.state.CoreState.{core_state}
 use Rattle.far_text.specs.Command.{Mutator, View}
-use Rattle.far_word.specs.declared.refused.Refused.TheVariants.{Memory}
 use Rattle.far_replay.specs.Moment.{moment_in, state_in}
-use Rattle.far_replay.specs.Outcome.{reply_by}
 use Rattle.far_reply.specs.Reply.{Done, Refused}
 use Rattle.far_replay.specs.Spent.{Makes}
 use Rattle.far_replay.proofs.Given.{view_makes}
 use Rattle.far_replay.proofs.RangeTurns.{view_cause}
-use Rattle.far_replay.specs.declared.outcome.Scratch.{Scratch}
-use Rattle.far_replay.proofs.Unbrought.{IsVain, vain_outside, vain_within}
+use Rattle.far_replay.proofs.Unbrought.{IsVain, vain_made}
 use Rattle.far_replay.proofs.viewing.view_object.Goals.{In-Err}
 use Rattle.far_replay.proofs.viewing.view_object.Goals as goal
 
@@ -38,11 +34,5 @@ vain c =
     record { opened = opened; own = mine; used = used; cause = cause; stops = λ h. h; leaves = refl; refuses = call.refused; far = call.far; shut = call.shut; round = c.dereference.ensures.round; spent = call.spent }
 
 pub returns-in-Err-clause-made : goal.returns-in-Err-clause-made
-returns-in-Err-clause-made c =
-    subst (λ q. IfOk c.refused.result (λ outcome. (scratch : Scratch) → Makes c.args.evac.now (Mutator c.args.owner (View q)) (reply_by scratch outcome) c.dereference.new.evac)) c.in-Some.ensures.own.0
-    (vain_within (vain (goal.at.returns-in-Err-clause-made c).In-Err) c.refused.result c.refused.ensures.told)
-
-pub returns-in-Err-clause-stopped : goal.returns-in-Err-clause-stopped
-returns-in-Err-clause-stopped c =
-    subst (λ q. IfErr c.refused.result (λ why. why ≢ Memory → Makes c.args.evac.now (Mutator c.args.owner (View q)) (Refused why) c.dereference.new.evac)) c.in-Some.ensures.own.0
-    (vain_outside (vain (goal.at.returns-in-Err-clause-stopped c).In-Err) c.refused.result c.refused.ensures.stops)
+returns-in-Err-clause-made c = λ scratch.
+    subst (λ q. Makes c.args.evac.now (Mutator c.args.owner (View q)) (Refused c.in-Err.why) c.dereference.new.evac) c.in-Some.ensures.own.0 (vain_made (vain (goal.at.returns-in-Err-clause-made c).In-Err))

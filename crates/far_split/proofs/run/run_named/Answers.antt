@@ -3,7 +3,7 @@ use Rattle.far_split.proofs.run.run_named.Goals as goal
 
 pub returns-clause-ran : goal.returns-clause-ran
 returns-clause-ran g c device flawed honest =
-    let begun : IsBegun g.K.HeapName.heap c.args.blank = record { named = c.requires.name; size = c.requires.size; unused = c.requires.unused; order = c.requires.order } in
+    let begun : IsBegun g.K.HeapName.heap c.args.blank = record { named = c.requires.name; size = c.requires.size; unused = c.requires.unused; order = c.requires.order; alone = c.requires.alone } in
     all_ran_so g.K.HeapName.heap c.args.blank device c.args.text.now c.in_ok-ends.ends.items c.join.result begun flawed honest c.in_ok-ends.ensures.ended c.join.ensures.joined
 
 pub returns-clause-short : goal.returns-clause-short

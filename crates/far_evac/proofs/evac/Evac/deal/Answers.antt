@@ -47,7 +47,6 @@ invariant_of-self g c =
           (jobs_on s t r c.self.invariant.round phase c.args.span next ready wanted.quiet law c.keeps_law-in-Ok.ensures.law wanted.evac
           c.self.inside.book.order c.send_off.new.book.order c.in-Ok.fate c.in-Ok.ensures.leaves) r.phase (collection_in r) c.self.invariant.jobs;
       exact = c.self.invariant.exact;
-      plain = c.self.invariant.plain;
     }
 
 pub invariant_of-self-in-Err : goal.invariant_of-self-in-Err

@@ -47,7 +47,7 @@ invariant_of-self-2 g c =
     let s = g.N.Near.view c.self.inside.book.near in
     let t = g.N.Near.view c.next_live.new.self.near in
     let moved = stands_first s c.self.inside.round c.self.invariant.round c.keeps_law.ensures.law phase c.args.log c.requires.front.0 held c.in-Some.span c.in-Some.ensures.first in
-    sound_found s t _ record { round = moved; jobs = c.self.invariant.jobs; exact = c.self.invariant.exact; plain = c.self.invariant.plain } (knows_cells s t c.next_live.ensures.found c.next_live.ensures.kept)
+    sound_found s t _ record { round = moved; jobs = c.self.invariant.jobs; exact = c.self.invariant.exact } (knows_cells s t c.next_live.ensures.found c.next_live.ensures.kept)
 
 pub returns : goal.returns
 returns g c =

@@ -55,7 +55,6 @@ invariant_of-self g c =
       round = ends s t r c.self.invariant.round c.keeps_law-2.ensures.law (walks g h) c.args.log c.requires.front.0 (held g h) knows;
       jobs = jobs_end s t r c.self.invariant.round c.keeps_law-2.ensures.law (walks g h) c.args.log c.requires.front.0 (held g h) knows all c.self.invariant.jobs;
       exact = c.self.invariant.exact;
-      plain = c.self.invariant.plain;
     }
 
 pub invariant_of-self-else-self-len : goal.invariant_of-self-else-self-len
@@ -71,7 +70,6 @@ invariant_of-self-else-self-len g c =
       round = goes_on s t r c.self.invariant.round c.keeps_law-2.ensures.law (walks g h) c.args.log c.requires.front.0 (held g h) knows (more_held r (walks g h) c.args.log c.requires.front.0 (held g h) some);
       jobs = jobs_on s t r c.self.invariant.round c.keeps_law-2.ensures.law (walks g h) c.args.log c.requires.front.0 (held g h) knows c.self.invariant.jobs;
       exact = c.self.invariant.exact;
-      plain = c.self.invariant.plain;
     }
 
 pub returns-then-self-len-clause-core : goal.returns-then-self-len-clause-core

@@ -2,7 +2,7 @@ use Rattle.far_hand.proofs.Closure.{no_call, then_came}
 use Rattle.far_evac.proofs.evac.Evac.make_turns.Given.{Over}
 use Rattle.far_evac.proofs.evac.Evac.make_turns.Goals.{In-Ok}
 use Rattle.far_evac.proofs.evac.Evac.make_turns.Goals as goal
-use Rattle.std.proofs.Common.{Bool, Err, refl, ◌≡◌, ◌∙◌, ◌+◌, true, false, ap, sym, subst, arith}
+use Rattle.std.proofs.Common.{Bool, Err, ℕ, refl, ◌≡◌, ◌<◌, ◌∙◌, ◌+◌, true, false, ap, sym, subst, arith}
 use Rattle.far_evac.specs.declared.answers.RoundEnd.{RoundEnd}
 use Rattle.far_evac.specs.declared.answers.RoundEnd.TheVariants.{Done}
 use Rattle.far_evac.specs.declared.phase.Phase.TheVariants.{Waiting}
@@ -14,7 +14,7 @@ use Rattle.far_evac.specs.declared.answers.Progress.{Progress}
 use Rattle.far_evac.proofs.Failures.{fails_alike}
 use Rattle.far_evac.specs.EvacOf.{moment}
 use Rattle.far_evac.specs.Moment.{nothing, progress_of, tally_of}
-use Rattle.far_evac.specs.Turning.{IsWithin, turned_at}
+use Rattle.far_evac.specs.Turning.{IsCountedIn, IsWithin, most_turns, turned_at}
 use Rattle.far_evac.specs.Turns.{Turned, round_end, turns_made}
 use Rattle.far_evac.proofs.Bounds.{starts_within}
 use Rattle.far_evac.proofs.TurnsOn.{Made, asked_done, asked_limit, asked_stop, made_more, none_made, turns_more, turns_over}
@@ -28,7 +28,9 @@ loop-init g c =
       made = subst (λ total. Made g.row.D.Denot g.D.Device.writes g.D.Device.lets_go g.D.Device.contents m m 0 total c.args.self.now.book.device c.args.self.now.book.device) (sym none)
           (none_made c.args.self.now.book.device);
       exact = λ _. ap (λ total. turned_at m total false) (sym none);
-      within = subst (IsWithin m) (sym none) (starts_within m c.keeps_law.ensures.law c.keeps_law.ensures.moment);
+      within = λ _. subst (IsWithin m) (sym none) (starts_within m c.keeps_law.ensures.law c.keeps_law.ensures.moment);
+      few = λ _. subst (IsCountedIn 0) (sym none) (record { objects = omega arith; logs = omega arith });
+      copying = refl;
       runs = c.requires.running;
       follows = follows_itself g.D.Device.contents g.D.Device.honest g.D.Device.faults g.D.Device.fails_at_most no_key c.args.self.now.book.device;
       came = no_call refl;
@@ -56,13 +58,15 @@ returns-then-total-clause-exact g c still =
 pub loop-preserved : goal.loop-preserved
 loop-preserved g c =
     let turn = c.in-Ok.ensures.turns in
-    let goes = c.in-Ok.ensures.goes_on.more c.if-total.false in
+    let goes : c.loop.self.copying ≡ false → IsWithin (moment g.N.Near.view c.turn_more.new.self) (tally_of c.in-Ok.sum) = λ alone. ((c.in-Ok.ensures.goes_on alone).more c.if-total.false).0 in
     record {
       made = made_more c.loop.invariant.made c.turn_more.ensures.lawful (moment g.N.Near.view c.turn_more.new.self) turn.0 (tally_of c.in-Ok.sum) c.turn_more.new.self.book.device turn.2 turn.3 turn.4
           c.in-Ok.sum.done c.if-total.false turn.1;
       exact = λ still. exactly g (goal.at.loop-preserved g c).In-Ok still false c.if-total.false;
-      within = goes.0;
-      runs = goes.1;
+      within = λ alone. goes (sym c.turn_more.ensures.copying ∙ alone);
+      few = λ copies. c.in-Ok.ensures.counted (sym c.turn_more.ensures.copying ∙ copies) c.loop.counter (c.loop.invariant.few (sym c.turn_more.ensures.copying ∙ copies));
+      copying = c.turn_more.ensures.copying ∙ c.loop.invariant.copying;
+      runs = c.in-Ok.ensures.over ∙ c.if-total.false;
       follows = follows_on g.D.Device.contents g.D.Device.honest g.D.Device.faults g.D.Device.fails_at_most no_key false c.args.self.now.book.device c.loop.self.book.device c.turn_more.new.self.book.device c.loop.invariant.follows c.in-Ok.ensures.follows;
       came = then_came c.loop.invariant.came c.turn_more.ensures.came;
     }
@@ -103,3 +107,12 @@ returns-in-Err-clause-came g c = then_came c.loop.invariant.came c.turn_more.ens
 
 pub returns-then-is_waiting-clause-came : goal.returns-then-is_waiting-clause-came
 returns-then-is_waiting-clause-came g c = then_came c.loop.invariant.came c.turn_more.ensures.came
+
+pub turn_more-requires : goal.turn_more-requires
+turn_more-requires g c = record {
+  running = c.loop.invariant.runs;
+  within = c.loop.invariant.within;
+  few = λ copies. (c.loop.counter, few_turns c.loop.counter c.args.turns (omega (arith, c.loop-test.true)) (c.requires.few (sym c.loop.invariant.copying ∙ copies)), c.loop.invariant.few copies);
+} where
+  few_turns : (counter turns : ℕ) → counter < turns → turns < most_turns → counter < most_turns
+  few_turns counter turns lt few = omega (arith, lt, few)

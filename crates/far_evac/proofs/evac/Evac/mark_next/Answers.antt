@@ -58,7 +58,6 @@ invariant_of-self-2 g c =
       round = goes_on h law then c.in-Some.span stands u c.mark.result m.found c.mark.type_inv m.kept c.size_of.result c.size_of.ensures;
       jobs = jobs_left s u c.self.inside.copying keeps c.self.inside.round.phase c.self.inside.round.phase (collection_in c.self.inside.round) _ (λ e. not_leaving (sym h.marks ∙ e)) c.self.invariant.jobs;
       exact = c.self.invariant.exact;
-      plain = c.self.invariant.plain;
     }
 
 pub returns : goal.returns

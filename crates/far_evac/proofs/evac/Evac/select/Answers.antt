@@ -26,5 +26,4 @@ invariant_of-self g c =
           c.args.most record { phase = Marking; chosen = c.choose.new.out; index = 0; at = 0; seen = 0 } c.choose.ensures.chosen refl refl refl (some_chosen c.choose.new.out (sym c.is_empty.ensures ∙ c.if-not-is_empty.true)) other;
       jobs = jobs_left s s c.self.inside.copying (keeps_same s) c.self.inside.round.phase Marking (collection_in c.self.inside.round) c.choose.new.out (λ e. search rules) c.self.invariant.jobs;
       exact = c.self.invariant.exact;
-      plain = c.self.invariant.plain;
     }

@@ -46,5 +46,4 @@ invariant_of-self g c =
       round = waits_so s r c.self.invariant.round marks c.set_of.result c.set_of.ensures t c.keeps_law-2.ensures.law c.in-Ok.ensures.kept;
       jobs = jobs_wait s r c.self.invariant.round marks c.set_of.result c.set_of.ensures t c.keeps_law-2.ensures.law c.in-Ok.ensures.kept c.keeps_law.ensures.law c.self.invariant.jobs;
       exact = c.self.invariant.exact;
-      plain = c.self.invariant.plain;
     }

@@ -1,4 +1,4 @@
-use Rattle.std.proofs.Common.{◌≡◌, ◌∙◌, Bool, sym, subst, ap}
+use Rattle.std.proofs.Common.{◌≡◌, ◌∙◌, Bool, false, sym, subst, ap}
 use Rattle.far_core.specs.state.CoreState.{core_state}
 use Rattle.far_core.specs.state.State.{State}
 use Rattle.far_table.specs.View.{BookView}
@@ -6,7 +6,9 @@ use Rattle.far_table.specs.BookSeats.{seat_view, table_of}
 use Rattle.far_hand.specs.ShapeOf.{shape_of}
 use Rattle.far_book.specs.book.Own.{HasNoJob}
 use Rattle.far_heap.specs.Blanks.{IsUnused, NewSeats}
+use Rattle.far_heap.specs.Copiers.{NewCopiers}
 use Rattle.far_heap.specs.HeapId.{heap_of}
+use Rattle.far_heap.proofs.NewCopiers.{none_at_work, shared_free, shared_many}
 use Rattle.far_heap.proofs.NewSeats.{jobs_start, new_seats, none_used, seat_start, shape_start}
 use Rattle.far_heap.proofs.blank.Blank.new.Goals as goal
 
@@ -16,9 +18,11 @@ invariant_of-result g c =
     let honest : Bool = g.D.Device.honest c.of.result.value in
     let shared = c.in-Ok-share in
     let seats = shared.seats.items in
-    subst (λ b. NewSeats (heap_of b) seats × HasNoJob (seat_view b)) (sym c.in-Ok-new.ensures.near) (
-      subst (λ (z : BookView). NewSeats (record { table = table_of shared.seat; logs = z.logs; mutators = z.mutators; honest = z.honest }) seats) (sym shared.ensures.book)
+    let none = none_at_work s c.args.shape c.in-Ok.ensures.opening in
+    subst (λ b. NewSeats (heap_of false b) seats × NewCopiers (heap_of false b) shared.copiers.items × HasNoJob (seat_view b)) (sym c.in-Ok-new.ensures.near) (
+      subst (λ (z : BookView). NewSeats (record { table = table_of shared.seat; logs = z.logs; mutators = z.mutators; honest = z.honest; copying = false }) seats) (sym shared.ensures.book)
           (new_seats (table_of shared.seat) s honest c.args.shape c.in-Ok.ensures.opening shared.ensures.starts.owners s.logs seats c.in-Ok.ensures.law.shape.few_mutators shared.ensures.owners),
+      record { many = shared_many (table_of shared.seat) s none shared.copiers.items shared.ensures.copiers; are = shared_free (table_of shared.seat) s none shared.copiers.items shared.ensures.copiers },
       jobs_start s _ c.args.shape honest c.in-Ok.ensures.opening shared.ensures.starts.book,
     )
 

@@ -14,8 +14,8 @@ fetch-requires-clause-far g c = is_far _ c.args.pointer (sym (c.is_far.ensures _
 
 pub invariant_of-self-2 : goal.invariant_of-self-2
 invariant_of-self-2 g c =
-    stays_named _ c.locate.new.self.book.near c.fetch.new.self.book.near c.fetch.ensures.fetched.came
-    (stays_named _ c.self.inside.evac.book.near c.locate.new.self.book.near c.locate.ensures.found.came c.self.invariant)
+    stays_named _ c.locate.new.self c.fetch.new.self c.fetch.ensures.fetched.came c.fetch.ensures.round.2
+    (stays_named _ c.self.inside.evac c.locate.new.self c.locate.ensures.found.came c.locate.ensures.round.2 c.self.invariant)
 
 pub returns-then-not-is_far-clause-fetched : goal.returns-then-not-is_far-clause-fetched
 returns-then-not-is_far-clause-fetched g c =
@@ -42,9 +42,9 @@ returns-clause-fetched g c =
 pub returns-clause-cause : goal.returns-clause-cause
 returns-clause-cause g c =
     let found = c.locate.new.self in
-    let named = stays_named g.K.HeapName.heap c.self.inside.evac.book.near found.book.near c.locate.ensures.found.came c.self.invariant in
+    let named = stays_named g.K.HeapName.heap c.self.inside.evac found c.locate.ensures.found.came c.locate.ensures.round.2 c.self.invariant in
     let honest = subst (λ (b : BookOf (BookSeat g.row.D.Denot) g.row.D.Denot). (seat_view b.near).honest ≡ true → g.D.Device.honest b.device ≡ true) c.book.ensures c.keeps_law.ensures.honest in
-    fetch_cause g.K.HeapName.heap found.book.near named c.args.pointer (g.D.Device.honest found.book.device) c.fetch.result
+    fetch_cause g.K.HeapName.heap found named c.args.pointer (g.D.Device.honest found.book.device) c.fetch.result
     (sym (c.is_far.ensures _ c.locate.ensures.found.home) ∙ c.if-not-is_far.false) honest c.fetch.ensures.fetched.refused
 
 pub returns-then-not-is_far-clause-round : goal.returns-then-not-is_far-clause-round

@@ -12,8 +12,8 @@ move_now-requires-clause-quiet g c = is_quiet_near _ c.args.asked.pointer (sym (
 
 pub invariant_of-self-2 : goal.invariant_of-self-2
 invariant_of-self-2 g c =
-    stays_named _ c.locate.new.self.book.near c.move_now.new.self.book.near c.move_now.ensures.moved.came
-    (stays_named _ c.self.inside.evac.book.near c.locate.new.self.book.near c.locate.ensures.found.came c.self.invariant)
+    stays_named _ c.locate.new.self c.move_now.new.self c.move_now.ensures.moved.came c.move_now.ensures.round.2
+    (stays_named _ c.self.inside.evac c.locate.new.self c.locate.ensures.found.came c.locate.ensures.round.2 c.self.invariant)
 
 pub returns-then-not-has_move-clause-moved : goal.returns-then-not-has_move-clause-moved
 returns-then-not-has_move-clause-moved g c =
@@ -40,8 +40,8 @@ returns-clause-moved g c =
 pub returns-clause-cause : goal.returns-clause-cause
 returns-clause-cause g c =
     let found = c.locate.new.self in
-    let named = stays_named g.K.HeapName.heap c.self.inside.evac.book.near found.book.near c.locate.ensures.found.came c.self.invariant in
-    move_cause g.K.HeapName.heap found.book.near named c.args.asked.pointer c.move_now.result
+    let named = stays_named g.K.HeapName.heap c.self.inside.evac found c.locate.ensures.found.came c.locate.ensures.round.2 c.self.invariant in
+    move_cause g.K.HeapName.heap found named c.args.asked.pointer c.move_now.result
     (sym (c.has_move.ensures _ c.locate.ensures.found.home) ∙ c.if-not-has_move.false) c.move_now.ensures.moved.refused c.move_now.ensures.moved.none
 
 pub returns-then-not-has_move-clause-round : goal.returns-then-not-has_move-clause-round

@@ -14,8 +14,8 @@ retire-requires-clause-dropped g c = sym (c.has_drop.ensures _ c.locate-found.en
 
 pub invariant_of-self : goal.invariant_of-self
 invariant_of-self g c =
-    stays_named _ c.locate-found.new.self.book.near c.retire.new.self.book.near c.retire.ensures.retired.came
-    (stays_named _ c.self.inside.evac.book.near c.locate-found.new.self.book.near c.locate-found.ensures.found.came c.self.invariant)
+    stays_named _ c.locate-found.new.self c.retire.new.self c.retire.ensures.retired.came c.retire.ensures.round.2
+    (stays_named _ c.self.inside.evac c.locate-found.new.self c.locate-found.ensures.found.came c.locate-found.ensures.round.2 c.self.invariant)
 
 pub returns-then-has_drop : goal.returns-then-has_drop
 returns-then-has_drop g c =
@@ -24,7 +24,7 @@ returns-then-has_drop g c =
     let r = c.retire.ensures in
     let found = c.locate-found.new.self in
     let dropped = sym (c.has_drop.ensures _ l.home) ∙ c.if-has_drop.true in
-    let named = stays_named g.K.HeapName.heap found.book.near c.retire.new.self.book.near r.retired.came (stays_named g.K.HeapName.heap c.self.inside.evac.book.near found.book.near l.came c.self.invariant) in record {
+    let named = stays_named g.K.HeapName.heap found c.retire.new.self r.retired.came r.round.2 (stays_named g.K.HeapName.heap c.self.inside.evac found l.came c.locate-found.ensures.round.2 c.self.invariant) in record {
       round = subst (λ (e : EvacOf (BookSeat g.row.D.Denot) g.row.D.Denot). SameRound e c.retire.new.self) c.self.view_is (r.round.0 ∙ c.locate-found.ensures.round.0, r.round.1 ∙ c.locate-found.ensures.round.1, r.round.2 ∙ c.locate-found.ensures.round.2);
       retired = (
         found,
@@ -33,7 +33,7 @@ returns-then-has_drop g c =
         λ _. record { retired = r.retired; round = r.round },
         λ h. absurd (false≢true (sym h ∙ dropped)),
       );
-      freed = freed g.K.HeapName.heap c.retire.new.self.book.near named p (retired_free (seat_view found.book.near) (seat_view c.retire.new.self.book.near) p dropped r.retired.kept);
+      freed = freed g.K.HeapName.heap c.retire.new.self named p (retired_free (seat_view found.book.near) (seat_view c.retire.new.self.book.near) p dropped r.retired.kept);
       again = tt;
     }
 
@@ -59,7 +59,7 @@ returns g c =
     let p : ℕ = c.args.asked.pointer in
     let l = c.locate-found.ensures.found in
     let found = c.locate-found.new.self in
-    let named = stays_named g.K.HeapName.heap c.self.inside.evac.book.near found.book.near l.came c.self.invariant in record {
+    let named = stays_named g.K.HeapName.heap c.self.inside.evac found l.came c.locate-found.ensures.round.2 c.self.invariant in record {
       round = subst (λ (e : EvacOf (BookSeat g.row.D.Denot) g.row.D.Denot). SameRound e found) c.self.view_is c.locate-found.ensures.round;
       retired = (
         found,
@@ -68,6 +68,6 @@ returns g c =
         λ h. absurd (false≢true (sym (sym (c.has_drop.ensures _ l.home) ∙ c.if-has_drop.false) ∙ h)),
         λ _. refl,
       );
-      freed = freed g.K.HeapName.heap found.book.near named p (l.gone.0 (none_there _ (sym c.is_some.ensures ∙ c.if-is_some.false)));
+      freed = freed g.K.HeapName.heap found named p (l.gone.0 (none_there _ (sym c.is_some.ensures ∙ c.if-is_some.false)));
       again = tt;
     }

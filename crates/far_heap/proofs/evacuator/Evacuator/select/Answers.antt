@@ -2,4 +2,4 @@ use Rattle.far_heap.proofs.Named.{stays_named}
 use Rattle.far_heap.proofs.evacuator.Evacuator.select.Goals as goal
 
 pub invariant_of-self : goal.invariant_of-self
-invariant_of-self g c = stays_named _ c.self.inside.evac.book.near c.select.new.self.book.near c.select.ensures.came c.self.invariant
+invariant_of-self g c = stays_named _ c.self.inside.evac c.select.new.self c.select.ensures.came c.select.ensures.copying c.self.invariant

@@ -2,4 +2,4 @@ use Rattle.far_heap.proofs.Named.{stays_named}
 use Rattle.far_heap.proofs.evacuator.Evacuator.turn.Goals as goal
 
 pub invariant_of-self : goal.invariant_of-self
-invariant_of-self g c = stays_named _ c.self.inside.evac.book.near c.turn.new.self.book.near c.turn.ensures.came c.self.invariant
+invariant_of-self g c = stays_named _ c.self.inside.evac c.turn.new.self c.turn.ensures.came c.turn.ensures.copying c.self.invariant

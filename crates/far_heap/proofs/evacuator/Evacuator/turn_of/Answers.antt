@@ -25,13 +25,13 @@ returns-in-Ok-clause-made g c =
     let now = c.args.self.now in
     let then = c.turn.new.self in
     let runs = sym c.is_round_of.ensures ∙ c.if-not-is_round_of.false in
-    let rest = rest_is c.args.chosen.now now.collection runs in record {
+    let rest = rest_is now.copying c.args.chosen.now now.collection runs in record {
       named = k.named;
       lawful = (k.law, k.moment);
       running = runs;
       came = t.came;
       turns = t.turns;
-      left = rest_turned c.args.chosen.now (moment seat_view now) (moment seat_view then) rest k.law k.moment (tally_of c.in-Ok.made) c.in-Ok.made.done t.turns;
+      left = rest_turned c.args.chosen.now (moment seat_view now) (moment seat_view then) k.law k.moment rest (tally_of c.in-Ok.made) c.in-Ok.made.done t.turns;
       none = c.keeps_law-in-Ok.ensures.moment.runs ∙ t.goes_on;
       stands = sym c.phase.ensures;
       ends = ap is_idle c.phase.ensures ∙ t.goes_on;
@@ -44,8 +44,8 @@ returns-in-Err-clause-refused g c =
     let now = c.args.self.now in
     let then = c.turn.new.self in
     let runs = sym c.is_round_of.ensures ∙ c.if-not-is_round_of.false in
-    let rest = rest_is c.args.chosen.now now.collection runs in
-    let busy = runs_on c.args.chosen.now (moment seat_view now) k.moment runs in
+    let rest = rest_is now.copying c.args.chosen.now now.collection runs in
+    let busy = runs_on now.copying c.args.chosen.now (moment seat_view now) k.moment runs in
     let stop = t.stops busy in record {
       named = k.named;
       lawful = (k.law, k.moment);
@@ -55,7 +55,7 @@ returns-in-Err-clause-refused g c =
         t.why busy,
         stop.0,
         t.stays ∙ stop.0,
-        rest_stopped c.args.chosen.now (moment seat_view now) (moment seat_view then) rest k.law k.moment _ (tally_of c.in-Err.fault.so_far) stop.0 stop.1,
+        rest_stopped c.args.chosen.now (moment seat_view now) (moment seat_view then) k.law k.moment rest _ (tally_of c.in-Err.fault.so_far) stop.0 stop.1,
         stop.1,
       );
     }

@@ -1,6 +1,6 @@
 -- So many turns were made, after which the round isn't over; what they counted is told.
 use Rattle.std.proofs.Common.{◌≡◌, false, List, length}
-use Rattle.far_evac.specs.AnyHand.{sum_of}
+use Rattle.far_evac.specs.AnyTurns.{sum_of}
 use Rattle.far_evac.specs.Moment.{Tally, progress_of}
 use Rattle.far_heap.specs.Rounds.{TurnsMade, told_of}
 use Rattle.far_heap.proofs.heap.Heap.make_turns.Given as goal

@@ -1,10 +1,12 @@
 use Rattle.std.proofs.Common.{◌∙◌, refl, sym, ap, arith}
 use Rattle.far_hand.proofs.Offering.{collect_empties}
+use Rattle.far_table.specs.BookViews.{saw_job_view}
 use Rattle.far_table.specs.Layout.{job_at}
 use Rattle.far_table.specs.Stands.{book_of}
 use Rattle.far_table.specs.StateOf.{book_state}
-use Rattle.far_table.proofs.BookJobs.{collects, emptied_tells, kept_tells}
+use Rattle.far_table.proofs.BookJobs.{collects}
 use Rattle.far_table.proofs.BookSeatLemmas.{book_stays, seat_made, shape_stays, stands_after, view_is}
+use Rattle.far_table.proofs.Exchanges.{book_lost, book_won}
 use Rattle.far_table.proofs.SeatLemmas.{inside}
 use Rattle.far_table.proofs.book_hand.BookSeatNear.collect.Goals as goal
 
@@ -26,15 +28,15 @@ invariant_of-self g c =
 
 pub returns-then-old-found-clause-done : goal.returns-then-old-found-clause-done
 returns-then-old-found-clause-done g c =
-    let t = emptied_tells _ _ _ c.args.job c.args.old c.compare_exchange-found.result (c.compare_exchange-found.ensures.2 c.args.job refl).1 (sym c.if-old-found.true) in
+    let t = book_won (λ w. saw_job_view c.args.job w (book_of c.args.self.now.seat.me.0)) 0 c.compare_exchange-found.result (c.compare_exchange-found.ensures.2 c.args.job refl).1 (sym c.if-old-found.true) in
     ap book_state (view_is _ _ _ _ _ t) ∙ sym (collect_empties (book_state (book_of c.args.self.now.seat.me.0)) c.args.job c.args.old (sym c.requires.seen))
 
 pub returns-then-old-found-clause-made : goal.returns-then-old-found-clause-made
 returns-then-old-found-clause-made g c = (
   c.compare_exchange-found.ensures.0,
-  seat_made _ _ _ _ _ (emptied_tells _ _ _ c.args.job c.args.old c.compare_exchange-found.result (c.compare_exchange-found.ensures.2 c.args.job refl).1 (sym c.if-old-found.true)),
+  seat_made _ _ _ _ _ (book_won (λ w. saw_job_view c.args.job w (book_of c.args.self.now.seat.me.0)) 0 c.compare_exchange-found.result (c.compare_exchange-found.ensures.2 c.args.job refl).1 (sym c.if-old-found.true)),
 )
 
 pub returns-else-old-found-clause-kept : goal.returns-else-old-found-clause-kept
 returns-else-old-found-clause-kept g c =
-    ap book_state (view_is _ _ _ _ _ (kept_tells _ _ _ c.args.job c.args.old c.compare_exchange-found.result (c.compare_exchange-found.ensures.2 c.args.job refl).1 (λ e. c.if-old-found.false (sym e))))
+    ap book_state (view_is _ _ _ _ _ (book_lost (λ w. saw_job_view c.args.job w (book_of c.args.self.now.seat.me.0)) 0 c.compare_exchange-found.result (c.compare_exchange-found.ensures.2 c.args.job refl).1 (λ e. c.if-old-found.false (sym e))))

@@ -6,8 +6,10 @@ use Rattle.far_hand.specs.Known.{Forgets}
 use Rattle.far_table.specs.Layout.{cell_at}
 use Rattle.far_table.specs.Stands.{book_of}
 use Rattle.far_table.specs.StateOf.{book_state}
+use Rattle.far_table.specs.View.{BookView}
 use Rattle.far_table.proofs.BookSeatLemmas.{book_stays, cell_inside, seat_made, shape_stays, stands_after, view_is}
-use Rattle.far_table.proofs.NameSteps.{exchanged_keeps, exchanges, lost_tells, named_done, named_forgets, won_tells}
+use Rattle.far_table.proofs.Exchanges.{book_lost, book_won}
+use Rattle.far_table.proofs.NameSteps.{exchanged_keeps, exchanges, named_done, named_forgets}
 use Rattle.far_table.proofs.SeatLemmas.{inside}
 use Rattle.far_table.proofs.book_hand.BookSeatNear.name.Goals as goal
 
@@ -30,22 +32,22 @@ invariant_of-self g c =
 pub returns-then-found-old-clause-made : goal.returns-then-found-old-clause-made
 returns-then-found-old-clause-made g c = (
   c.compare_exchange-found.ensures.0,
-  seat_made _ _ _ _ _ (won_tells _ _ _ c.args.pointer c.args.old c.args.new c.compare_exchange-found.result (c.compare_exchange-found.ensures.2 c.args.pointer refl).1 c.if-found-old.true),
+  seat_made _ _ _ _ _ (book_won (λ (z : BookView). z) _ _ (c.compare_exchange-found.ensures.2 c.args.pointer refl).1 c.if-found-old.true),
 )
 
 pub returns-then-found-old-clause-done : goal.returns-then-found-old-clause-done
 returns-then-found-old-clause-done g c =
     let b = book_of c.args.self.now.seat.me.0 in
-    let t = won_tells _ _ _ c.args.pointer c.args.old c.args.new c.compare_exchange-found.result (c.compare_exchange-found.ensures.2 c.args.pointer refl).1 c.if-found-old.true in
+    let t = book_won (λ (z : BookView). z) _ _ (c.compare_exchange-found.ensures.2 c.args.pointer refl).1 c.if-found-old.true in
     subst (λ (z : State). z ≡ record (after (book_state b) (Name c.args.pointer c.args.old c.args.new)) { word = z.word }) (sym (ap book_state (view_is _ _ _ _ _ t))) (named_done b c.args.pointer c.args.old c.args.new c.requires.legal c.requires.seen)
 
 pub returns-then-found-old-clause-forgot : goal.returns-then-found-old-clause-forgot
 returns-then-found-old-clause-forgot g c =
     let b = book_of c.args.self.now.seat.me.0 in
-    let t = won_tells _ _ _ c.args.pointer c.args.old c.args.new c.compare_exchange-found.result (c.compare_exchange-found.ensures.2 c.args.pointer refl).1 c.if-found-old.true in
+    let t = book_won (λ (z : BookView). z) _ _ (c.compare_exchange-found.ensures.2 c.args.pointer refl).1 c.if-found-old.true in
     subst (Forgets (book_state b)) (sym (ap book_state (view_is _ _ _ _ _ t))) (named_forgets b c.args.pointer c.args.old c.args.new c.requires.legal c.requires.seen)
 
 pub returns-else-found-old-clause-kept : goal.returns-else-found-old-clause-kept
 returns-else-found-old-clause-kept g c =
-    let t = lost_tells _ _ _ c.args.pointer c.args.old c.args.new c.compare_exchange-found.result (c.compare_exchange-found.ensures.2 c.args.pointer refl).1 c.if-found-old.false in
+    let t = book_lost (λ (z : BookView). z) _ _ (c.compare_exchange-found.ensures.2 c.args.pointer refl).1 c.if-found-old.false in
     ap book_state (view_is _ _ _ _ _ t)

@@ -18,13 +18,13 @@ pub returns-in-Some-clause-claimed : goal.returns-in-Some-clause-claimed
 returns-in-Some-clause-claimed g c = (
   c.take.new.self.view,
   subst (λ (z : CopierSeated). Took c.begin.result.task z.view c.take.new.self.view) c.loop-number.invariant.0
-      (subst (λ (t : Task). Took t c.loop-number.self.view c.take.new.self.view) (sym c.begin.ensures.task) c.in-Some.ensures.took.1),
+      (subst (λ (t : Task). Took t c.loop-number.self.view c.take.new.self.view) (sym c.begin.ensures.task) c.in-Some.ensures.took),
   c.begin.ensures.measured,
 )
 
 pub returns-in-Some-clause-before : goal.returns-in-Some-clause-before
 returns-in-Some-clause-before g c = λ j lt.
-    let number : c.begin.result.task.number ≡ c.loop-number.number = ap (λ (t : Task). t.number) c.begin.ensures.task ∙ c.in-Some.ensures.took.0 in
+    let number : c.begin.result.task.number ≡ c.loop-number.number = ap (λ (t : Task). t.number) c.begin.ensures.task in
     c.loop-number.invariant.1 j (omega (arith, lt, number))
 
 pub loop-number-preserved : goal.loop-number-preserved

@@ -1,10 +1,10 @@
-use Rattle.std.proofs.Common.{◌∙◌, refl, ap, arith}
+use Rattle.std.proofs.Common.{◌∙◌, refl, ap, subst, arith}
 use Rattle.far_core.specs.declared.event.Event.TheVariants.{PeekJob}
+use Rattle.far_core.specs.declared.event.Reply.TheVariants.{Word}
 use Rattle.far_table.specs.Layout.{job_at}
 use Rattle.far_table.specs.Seats.{CopierSeated}
-use Rattle.far_table.specs.Tells.{copier_of}
-use Rattle.far_table.specs.View.{CopierView}
-use Rattle.far_table.proofs.CopySeatLemmas.{copier_made, copier_stays}
+use Rattle.far_table.specs.Tells.{CopierMade, copier_of}
+use Rattle.far_table.proofs.CopySeatLemmas.{copier_stays, peeked_reads}
 use Rattle.far_table.proofs.CopySteps.{peeks}
 use Rattle.far_table.proofs.SeatLemmas.{inside}
 use Rattle.far_table.proofs.copy_seat.CopySeat.peek.Goals as goal
@@ -17,7 +17,7 @@ load-requires g c =
     (t.0, t.1, peeks _ _ _ i.2 c.args.number low)
 
 pub invariant_of-self : goal.invariant_of-self
-invariant_of-self g c = let h = c.load.ensures in copier_stays _ _ _ _ _ _ _ _ _ c.self.invariant h.0 (h.2 c.args.number refl)
+invariant_of-self g c = let h = c.load.ensures in copier_stays _ _ _ _ _ _ _ _ _ _ c.self.invariant h.0 (h.2 c.args.number refl)
 
 pub returns-clause-same : goal.returns-clause-same
 returns-clause-same g c =
@@ -26,5 +26,7 @@ returns-clause-same g c =
     (λ j. record { table = h.0 j; view = view j }) ∙ c.self.view_is
 
 pub returns-clause-event : goal.returns-clause-event
-returns-clause-event g c =
-    copier_made _ _ _ (λ (v : CopierView). PeekJob v.number c.args.number) _ _ (ap (λ (z : CopierSeated). z.view) c.self.view_is) (c.load.ensures.2 c.args.number refl)
+returns-clause-event g c = subst (λ (z : CopierSeated). CopierMade (PeekJob z.view.number c.args.number) z.view (Word c.load.result) z.view) c.self.view_is (c.load.ensures.2 c.args.number refl).made
+
+pub returns-clause-reads : goal.returns-clause-reads
+returns-clause-reads g c = peeked_reads c.args.number _ _ _ (c.load.ensures.2 c.args.number refl).made

@@ -8,4 +8,4 @@ pub returns-clause-taken : goal.returns-clause-taken
 returns-clause-taken g c = λ x may. taken_by c.args.self.now.view c.args.job.now c.requires.own x may
 
 pub returns-clause-there : goal.returns-clause-there
-returns-clause-there g c = subst (λ (z : CopierSeated). CopierStands z.view) c.self.view_is c.self.invariant.5
+returns-clause-there g c = subst (λ (z : CopierSeated). CopierStands z.view) c.self.view_is c.self.invariant.6

@@ -1,0 +1,2 @@
+pub mod JobCalls
+pub mod JobRows

@@ -1,0 +1,320 @@
+//! Copies made outside the lock, by worked answers, each copier's calls made by hand.
+
+use crate::tests::acts::Act::*;
+use crate::tests::acts::Choice::Eldest;
+use crate::tests::acts::Went::*;
+use crate::tests::acts::{Act, EIGHT, ZEROS};
+use crate::tests::copiers::plays;
+use crate::tests::looks::sized;
+use far_evac::{LogKind, Phase, Polled};
+
+/// Two objects lie in a log, of which the first is written, and another fills the next.
+pub(super) const THREE: &[Act] = &[
+    Makes(8, Ok(0)),
+    Makes(8, Ok(1)),
+    Opens,
+    Writes(0, EIGHT),
+    Closes,
+    Makes(1016, Ok(2)),
+];
+
+/// A round of that log comes to where its objects leave.
+pub(super) const LEAVING: &[Act] = &[
+    Selects(Eldest, 1, Ok(&[0])),
+    Marks(16, Ok((2, Some(1)))),
+    Polls(Ok(Polled::Clear)),
+    Works(0, Nowhere),
+];
+
+/// The copy of the first is offered, and the second goes far.
+pub(super) const OFFERED: &[Act] = &[DealsOn(16, [0, 1, 0, 0]), In(Phase::Evacuating)];
+
+const CLAIMED: &[Act] = &[Works(0, Claimed)];
+
+const COPIED: &[Act] = &[Works(0, Copied), Works(0, Finished), Works(0, Nowhere)];
+
+// The first is in another log, and its own is given back.
+const NAMED: &[Act] = &[
+    Deals(16, Ok([1, 0, 0, 1])),
+    In(Phase::Idle),
+    Near(0, (2, 0), false),
+    Far(1, false),
+    Free(0),
+    Log(1, LogKind::Sealed, [1024, 0, 0]),
+    Log(2, LogKind::Open, [16, 0, 1008]),
+    Counts(2, 1, 1040),
+];
+
+// Both have their bytes.
+const BOTH_READ: &[Act] = &[
+    Opens,
+    Brings(0, EIGHT),
+    Brings(1, ZEROS),
+    Brings(2, ZEROS),
+    Closes,
+    Works(0, Nowhere),
+    Has(3),
+];
+
+#[test]
+fn copier_by_hand(rt: HostRuntime) {
+    let parts = [THREE, LEAVING, OFFERED, CLAIMED, COPIED, NAMED, BOTH_READ];
+    assert!(rt; plays(&rt, rt.alloc(), sized(4, 1), 1, &parts));
+}
+
+// The copy isn't made yet, or only in part: nothing is left to be done meanwhile, and the round isn't over.
+const WAITS: &[Act] = &[DealsOn(16, [0, 0, 0, 0]), In(Phase::Evacuating)];
+
+const COPIES_A_WORD: &[Act] = &[Works(0, Copied)];
+
+// The copier finishes whatever is left.
+const ENDS: &[Act] = &[Ends(0, true), Ends(0, false), Works(0, Nowhere)];
+
+#[test]
+fn a_round_waits_for_its_copies(rt: HostRuntime) {
+    let slowly = [
+        THREE,
+        LEAVING,
+        OFFERED,
+        WAITS,
+        CLAIMED,
+        WAITS,
+        COPIES_A_WORD,
+        WAITS,
+        ENDS,
+        NAMED,
+        BOTH_READ,
+    ];
+    assert!(rt; plays(&rt, rt.alloc(), sized(4, 1), 1, &slowly));
+    let at_once = [THREE, LEAVING, OFFERED, CLAIMED, ENDS, NAMED, BOTH_READ];
+    assert!(rt; plays(&rt, rt.alloc(), sized(4, 1), 1, &at_once));
+}
+
+// The owner views the first object, which moves to the next place.
+const OWNER_VIEWS: &[Act] = &[
+    Opens,
+    IsSlow(0),
+    Brings(0, EIGHT),
+    Closes,
+    Near(0, (2, 2), true),
+];
+
+// Nobody is named to the copy, but the log is given back once the copier doesn't read it any more.
+const OVER: &[Act] = &[
+    Deals(16, Ok([0, 0, 0, 1])),
+    In(Phase::Idle),
+    Near(0, (2, 2), true),
+    Free(0),
+    Log(2, LogKind::Open, [16, 16, 992]),
+];
+
+#[test]
+fn owner_first(rt: HostRuntime) {
+    let parts = [
+        THREE,
+        LEAVING,
+        OFFERED,
+        CLAIMED,
+        OWNER_VIEWS,
+        WAITS,
+        COPIED,
+        OVER,
+        BOTH_READ,
+    ];
+    assert!(rt; plays(&rt, rt.alloc(), sized(4, 1), 1, &parts));
+}
+
+// The same if the copy was finished before, or nobody claimed the job: it is emptied.
+#[test]
+fn owner_later(rt: HostRuntime) {
+    let copied = [
+        THREE,
+        LEAVING,
+        OFFERED,
+        CLAIMED,
+        COPIED,
+        OWNER_VIEWS,
+        OVER,
+        BOTH_READ,
+    ];
+    assert!(rt; plays(&rt, rt.alloc(), sized(4, 1), 1, &copied));
+    let unclaimed = [THREE, LEAVING, OFFERED, OWNER_VIEWS, OVER, BOTH_READ];
+    assert!(rt; plays(&rt, rt.alloc(), sized(4, 1), 1, &unclaimed));
+}
+
+// The owner drops the first object while it is copied, and makes another at its pointer.
+const OWNER_DROPS: &[Act] = &[
+    Drops(0, Ok(())),
+    Gone(0),
+    Makes(8, Ok(0)),
+    Near(0, (2, 2), false),
+];
+
+// The new object isn't named to the copy of the old one.
+const OTHER_OBJECT: &[Act] = &[
+    Deals(16, Ok([0, 0, 0, 1])),
+    Free(0),
+    Near(0, (2, 2), false),
+    Log(2, LogKind::Open, [16, 16, 992]),
+    Opens,
+    Reads(0, ZEROS),
+    Closes,
+    Has(3),
+];
+
+#[test]
+fn a_copy_of_a_dropped_object_is_dead(rt: HostRuntime) {
+    let dropped = [
+        THREE,
+        LEAVING,
+        OFFERED,
+        CLAIMED,
+        OWNER_DROPS,
+        WAITS,
+        COPIED,
+        OTHER_OBJECT,
+    ];
+    assert!(rt; plays(&rt, rt.alloc(), sized(4, 1), 1, &dropped));
+    let copied = [
+        THREE,
+        LEAVING,
+        OFFERED,
+        CLAIMED,
+        COPIED,
+        OWNER_DROPS,
+        OTHER_OBJECT,
+    ];
+    assert!(rt; plays(&rt, rt.alloc(), sized(4, 1), 1, &copied));
+}
+
+// The round is given up; the first object stays, and nothing is offered any more.
+const GIVEN_UP: &[Act] = &[
+    GivesUp(Ok(())),
+    In(Phase::Idle),
+    Near(0, (0, 0), true),
+    Far(1, false),
+    Log(0, LogKind::Sealed, [16, 16, 992]),
+    Log(2, LogKind::Open, [0, 16, 1008]),
+];
+
+const NOTHING_OFFERED: &[Act] = &[Works(0, Nowhere)];
+
+// The next round of the log offers the copy anew, at the next place.
+const AGAIN: &[Act] = &[
+    Selects(Eldest, 1, Ok(&[0])),
+    Marks(16, Ok((1, Some(2)))),
+    Polls(Ok(Polled::Clear)),
+    DealsOn(16, [0, 0, 0, 0]),
+];
+
+const NAMED_AGAIN: &[Act] = &[
+    Deals(16, Ok([1, 0, 0, 1])),
+    Near(0, (2, 2), false),
+    Free(0),
+    Log(2, LogKind::Open, [16, 16, 992]),
+];
+
+// A job that nobody has claimed is taken back where the round is given up.
+#[test]
+fn an_offer_is_taken_back(rt: HostRuntime) {
+    let parts = [
+        THREE,
+        LEAVING,
+        OFFERED,
+        GIVEN_UP,
+        NOTHING_OFFERED,
+        AGAIN,
+        CLAIMED,
+        COPIED,
+        NAMED_AGAIN,
+        BOTH_READ,
+    ];
+    assert!(rt; plays(&rt, rt.alloc(), sized(4, 1), 1, &parts));
+}
+
+// A copy that was begun stays, and nobody is named to it, whether it is finished before the round is given up, or after that, or in the next round.
+#[test]
+fn a_copy_of_an_earlier_round_is_dead(rt: HostRuntime) {
+    let before = [
+        THREE,
+        LEAVING,
+        OFFERED,
+        CLAIMED,
+        COPIED,
+        GIVEN_UP,
+        AGAIN,
+        CLAIMED,
+        COPIED,
+        NAMED_AGAIN,
+        BOTH_READ,
+    ];
+    assert!(rt; plays(&rt, rt.alloc(), sized(4, 1), 1, &before));
+    let between = [
+        THREE,
+        LEAVING,
+        OFFERED,
+        CLAIMED,
+        GIVEN_UP,
+        COPIED,
+        AGAIN,
+        CLAIMED,
+        COPIED,
+        NAMED_AGAIN,
+        BOTH_READ,
+    ];
+    assert!(rt; plays(&rt, rt.alloc(), sized(4, 1), 1, &between));
+    let within = [
+        THREE,
+        LEAVING,
+        OFFERED,
+        CLAIMED,
+        GIVEN_UP,
+        AGAIN,
+        ENDS_EARLIER,
+        CLAIMED,
+        COPIED,
+        NAMED_AGAIN,
+        BOTH_READ,
+    ];
+    assert!(rt; plays(&rt, rt.alloc(), sized(4, 1), 1, &within));
+}
+
+// The job of the earlier round is finished where another is offered.
+const ENDS_EARLIER: &[Act] = &[Works(0, Copied), Works(0, Finished)];
+
+// Another copier copies the object, which is named to that copy; the log is given back once the first doesn't read it any more.
+const ANOTHER_COPIES: &[Act] = &[
+    Works(1, Claimed),
+    Works(1, Copied),
+    Works(1, Finished),
+    Works(1, Nowhere),
+    DealsOn(16, [1, 0, 0, 0]),
+    Near(0, (2, 2), false),
+    Log(0, LogKind::Chosen, [0, 32, 992]),
+    DealsOn(16, [0, 0, 0, 0]),
+];
+
+const LATE: &[Act] = &[
+    Works(0, Copied),
+    DealsOn(16, [0, 0, 0, 0]),
+    Works(0, Finished),
+    Deals(16, Ok([0, 0, 0, 1])),
+    Free(0),
+    Near(0, (2, 2), false),
+];
+
+#[test]
+fn a_log_stays_while_it_is_copied_from(rt: HostRuntime) {
+    let parts = [
+        THREE,
+        LEAVING,
+        OFFERED,
+        CLAIMED,
+        GIVEN_UP,
+        AGAIN,
+        ANOTHER_COPIES,
+        LATE,
+        BOTH_READ,
+    ];
+    assert!(rt; plays(&rt, rt.alloc(), sized(4, 1), 2, &parts));
+}
