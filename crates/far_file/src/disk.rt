@@ -1,0 +1,43 @@
+//! A file of the system as storage.
+
+ghost use Rattle.std.specs.Prelude.{◌≡◌, true, false, OnOk};
+
+use crate::fault::StorageFault;
+use crate::storage::Storage;
+use std::fs::File;
+use std::io::ErrorKind;
+use std::os::unix::fs::FileExt;
+
+/// No contract can say what a file gives back, so nothing is proved of its bytes: it isn't called honest. Each call is one of the system,
+/// unless that takes or gives a part of the bytes.
+impl Storage for File {
+    ghost seen = { λ _ _. 0 };
+
+    ghost honest = { λ _. false };
+
+    fn put(&mut self, at: u64, bytes: &[u8]) -> Result<(), StorageFault> {
+        match self.write_all_at(bytes, at) {
+            Ok(()) => Ok(()),
+            Err(why) => Err(told(why.kind())),
+        }
+    }
+
+    fn get(&self, at: u64, buffer: &mut [u8]) -> Result<(), StorageFault> {
+        match self.read_exact_at(buffer, at) {
+            Ok(()) => Ok(()),
+            Err(why) => Err(told(why.kind())),
+        }
+    }
+}
+
+// What an error of the system is to storage.
+fn told(kind: ErrorKind) -> StorageFault {
+    match kind {
+        ErrorKind::UnexpectedEof => StorageFault::Short,
+        ErrorKind::StorageFull
+        | ErrorKind::QuotaExceeded
+        | ErrorKind::FileTooLarge
+        | ErrorKind::WriteZero => StorageFault::Full,
+        _ => StorageFault::Failed,
+    }
+}

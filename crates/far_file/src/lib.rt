@@ -1,0 +1,22 @@
+//! A far side over positioned storage, a file for instance: each key has a slot of fixed size.
+//!
+//! [`Storage`] is what may be counted on of storage; [`MemStorage`] is one in memory, and std's `File` is one too, which [`NewFile`]
+//! makes. [`FileDevice`] is the device over any; [`SealedDevice`] keeps a [`Seal`] of each slot in memory besides, and never gives bytes
+//! that don't fit theirs.
+#![tactic(auto)]
+
+mod disk;
+mod fault;
+mod held;
+mod memory;
+mod new_file;
+mod seal;
+mod sealed;
+mod storage;
+
+pub use fault::{FileFault, StorageFault};
+pub use memory::MemStorage;
+pub use new_file::NewFile;
+pub use seal::{Digest, NoSeal, Seal, WholeCopy};
+pub use sealed::{FileDevice, SealedDevice};
+pub use storage::Storage;

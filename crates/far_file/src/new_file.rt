@@ -1,0 +1,53 @@
+//! How the file of a device is made.
+
+ghost use Rattle.std.specs.Prelude.{◌≡◌, true, false, not};
+ghost use Rattle.std.specs.Fs.{asks_read, asks_write, asks_append, asks_truncate, asks_create, asks_create_new};
+
+use std::fs::{Files, OpenOptions};
+use std::io;
+use std::path::AsPath;
+
+/// How the file of a device is made: an empty one, read and written.
+#[derive(Clone, Copy, Debug, PartialEq, Eq)]
+pub struct NewFile {
+    pub(crate) replaces: bool,
+}
+
+impl NewFile {
+    /// A file that isn't there yet. If one has the name, it stays as it is, and the call that opens is refused `AlreadyExists`.
+    pub fn new() -> NewFile
+        ensures { result.replaces ≡ false }
+    {
+        NewFile { replaces: false }
+    }
+
+    /// If a file has the name, it is emptied and used: what it had is lost.
+    pub fn replacing(self) -> NewFile
+        ensures { result.replaces ≡ true }
+    {
+        NewFile { replaces: true }
+    }
+
+    /// Makes the file and opens it. Nobody else may use it while the device does, and it isn't taken away afterwards.
+    pub fn open<R: Files, P: AsPath>(self, files: &R, path: P) -> io::Result<R::File> {
+        self.options().open(files, path)
+    }
+
+    // What the system is asked for.
+    fn options(self) -> OpenOptions
+        ensures read { asks_read result ≡ true }
+        ensures write { asks_write result ≡ true }
+        ensures append { asks_append result ≡ false }
+        ensures empty { asks_truncate result ≡ self.replaces }
+        ensures create { asks_create result ≡ self.replaces }
+        ensures create_new { asks_create_new result ≡ not self.replaces }
+    {
+        let mut options = OpenOptions::new();
+        options.read(true);
+        options.write(true);
+        options.truncate(self.replaces);
+        options.create(self.replaces);
+        options.create_new(!self.replaces);
+        options
+    }
+}

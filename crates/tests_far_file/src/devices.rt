@@ -1,0 +1,177 @@
+//! Devices over memory, over storage that fails, and over storage that lies.
+
+use super::any::{over_memory, over_storage, there_and_back, with_copies};
+use super::own::{Breaking, Crooked};
+use far_device::{Device, DeviceFault};
+use far_file::{
+    Digest, FileDevice, FileFault, MemStorage, Seal, SealedDevice, Storage, StorageFault, WholeCopy,
+};
+use std::alloc::Global;
+use std::test::*;
+
+const FIRST: &[u8] = &[1, 2, 3];
+
+const LONGEST: &[u8] = &[9; 1024];
+
+// Whether bytes come back under a key, by each of the two reads.
+fn gives<D: Device>(device: &mut D, alloc: Global, id: u32, wanted: &[u8]) -> bool {
+    let Ok(bytes) = device.read(id) else {
+        return false;
+    };
+    let mut buffer = Vec::new(alloc);
+    device.read_into(id, &mut buffer).is_ok() && bytes.as_slice() == wanted && buffer == bytes
+}
+
+// Whether the last call that failed did so for this.
+fn blames<F: Storage + Drop, L: Seal>(device: &SealedDevice<F, L>, why: FileFault) -> bool {
+    device.why() == Some(why)
+}
+
+// Whether three keys keep what they were given, in place of what was there, until they are let go of.
+pub(crate) fn keeps<F: Storage + Drop, L: Seal>(
+    device: &mut SealedDevice<F, L>,
+    alloc: Global,
+) -> Result<bool, DeviceFault> {
+    device.write(5, LONGEST)?;
+    device.write(6, LONGEST)?;
+    device.write(1023, &[])?;
+    device.write(5, FIRST)?;
+    let kept = gives(device, alloc, 5, FIRST) && gives(device, alloc, 6, LONGEST);
+    device.forget(6);
+    let empty = gives(device, alloc, 1023, &[]) && device.read(6).is_err();
+    Ok(kept && empty && blames(device, FileFault::Nothing) && device.faults() == 1)
+}
+
+#[test]
+fn readme(rt: HostRuntime) -> Result<(), Fail> {
+    let mut device = FileDevice::<MemStorage>::new(rt.alloc(), MemStorage::new(rt.alloc()));
+    device.write(5, &[1, 2, 3])?;
+    let bytes = device.read(5)?;
+    assert_eq!(rt; bytes.as_slice(), [1, 2, 3].as_slice());
+    assert_eq!(rt; device.read(6).err(), Some(DeviceFault::Device));
+    assert_eq!(rt; device.why(), Some(FileFault::Nothing));
+    Ok(())
+}
+
+#[test]
+fn over_storage_in_memory(rt: HostRuntime) -> Result<(), Fail> {
+    let alloc = rt.alloc();
+    let mut plain = FileDevice::<MemStorage>::new(alloc, MemStorage::new(alloc));
+    assert!(rt; keeps(&mut plain, alloc)?);
+    assert!(rt; over_memory(&mut plain, 7, FIRST)?.as_slice() == FIRST);
+    assert!(rt; over_storage(&mut plain, 8, FIRST)?.as_slice() == FIRST);
+    let mut sealed = SealedDevice::<MemStorage, Digest>::new(alloc, MemStorage::new(alloc));
+    assert!(rt; keeps(&mut sealed, alloc)?);
+    let mut copied = SealedDevice::<MemStorage, WholeCopy>::new(alloc, MemStorage::new(alloc));
+    assert!(rt; keeps(&mut copied, alloc)?);
+    Ok(())
+}
+
+#[test]
+fn slots_have_room_for_so_much(rt: HostRuntime) {
+    let mut device = FileDevice::<MemStorage>::new(rt.alloc(), MemStorage::new(rt.alloc()));
+    assert!(rt; device.write(1024, FIRST) == Err(DeviceFault::Device));
+    assert!(rt; blames(&device, FileFault::NoSlot));
+    assert!(rt; device.write(0, &[7; 1025]) == Err(DeviceFault::Device));
+    assert!(rt; device.faults() == 2);
+}
+
+// The k-th call of the storage fails for this: why the device says so after a write and after a read, and how many faults it counts.
+struct Fall {
+    k: u64,
+    why: StorageFault,
+    written: Option<FileFault>,
+    read: Option<FileFault>,
+    faults: u64,
+}
+
+// A write that failed leaves nothing to read. A read takes no memory, so storage that says so has failed.
+const FALLS: [Fall; 6] = [
+    Fall {
+        k: 1,
+        why: StorageFault::Full,
+        written: Some(FileFault::Storage(StorageFault::Full)),
+        read: Some(FileFault::Nothing),
+        faults: 2,
+    },
+    Fall {
+        k: 1,
+        why: StorageFault::Memory,
+        written: None,
+        read: Some(FileFault::Nothing),
+        faults: 1,
+    },
+    Fall {
+        k: 2,
+        why: StorageFault::Failed,
+        written: None,
+        read: Some(FileFault::Storage(StorageFault::Failed)),
+        faults: 1,
+    },
+    Fall {
+        k: 2,
+        why: StorageFault::Memory,
+        written: None,
+        read: Some(FileFault::Storage(StorageFault::Memory)),
+        faults: 1,
+    },
+    Fall {
+        k: 3,
+        why: StorageFault::Failed,
+        written: None,
+        read: None,
+        faults: 0,
+    },
+    Fall {
+        k: 0,
+        why: StorageFault::Failed,
+        written: None,
+        read: None,
+        faults: 0,
+    },
+];
+
+// Whether it is so, and the device works again from the fourth call on.
+fn falls(alloc: Global, of: &Fall) -> bool {
+    let storage = Breaking::new(MemStorage::new(alloc), of.k, of.why);
+    let mut device = FileDevice::<Breaking<MemStorage>>::new(alloc, storage);
+    let _ = device.write(3, LONGEST);
+    let written = device.why() == of.written;
+    let _ = device.read(3);
+    let read = device.why() == of.read && device.faults() == of.faults;
+    let _ = device.write(3, LONGEST);
+    written && read && there_and_back(&mut device, 3, FIRST).is_ok()
+}
+
+#[test]
+fn storage_fails_in_each_call(rt: HostRuntime) {
+    for of in &FALLS {
+        assert!(rt; falls(rt.alloc(), of));
+    }
+}
+
+// What a read answers over storage that lies, and why.
+fn of_crooked<L: Seal>(alloc: Global) -> (Option<u8>, Option<FileFault>) {
+    let storage = Crooked {
+        inner: MemStorage::new(alloc),
+    };
+    let mut device = SealedDevice::<Crooked<MemStorage>, L>::new(alloc, storage);
+    let first = match there_and_back(&mut device, 3, FIRST) {
+        Ok(bytes) => bytes.first().copied(),
+        Err(_) => None,
+    };
+    (first, device.why())
+}
+
+#[test]
+fn a_seal_tells_of_other_bytes(rt: HostRuntime) {
+    let alloc = rt.alloc();
+    assert!(rt; of_crooked::<far_file::NoSeal>(alloc) == (Some(254), None));
+    assert!(rt; of_crooked::<Digest>(alloc) == (None, Some(FileFault::Misfit)));
+    assert!(rt; of_crooked::<WholeCopy>(alloc) == (None, Some(FileFault::Misfit)));
+    let storage = Crooked {
+        inner: MemStorage::new(alloc),
+    };
+    let mut copied = SealedDevice::<Crooked<MemStorage>, WholeCopy>::new(alloc, storage);
+    assert!(rt; with_copies(&mut copied, 0, FIRST).is_err());
+}

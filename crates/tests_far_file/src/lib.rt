@@ -1,0 +1,11 @@
+//! The tests of far_file, by its public calls alone. They stand apart, so that it is proved once.
+#![tactic(auto)]
+
+#[cfg(test)]
+mod any;
+#[cfg(test)]
+mod devices;
+#[cfg(test)]
+mod files;
+#[cfg(test)]
+mod own;
