@@ -8,6 +8,7 @@ pub mod Listing
 pub mod Making
 pub mod Masking
 pub mod Naming
+pub mod NewSpans
 pub mod Offering
 pub mod OthersWork
 pub mod Quietness

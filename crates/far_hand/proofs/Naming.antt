@@ -10,7 +10,6 @@ use Rattle.far_word.specs.Header.{head_word}
 use Rattle.far_word.specs.Job.{job_of}
 use Rattle.far_word.specs.Pointer.{read_of}
 use Rattle.far_word.specs.Sizes.{words_for}
-use Rattle.far_word.proofs.HeaderLaws.{head_fits}
 use Rattle.far_word.proofs.PointerLaws.{read_says}
 use Rattle.far_core.specs.declared.event.Event.TheVariants.{Name}
 use Rattle.far_core.specs.declared.event.Reply.{Reply}
@@ -30,14 +29,13 @@ use Rattle.far_core.specs.state.Jobs.{is_finished, job_said}
 use Rattle.far_core.specs.state.Law.{Law}
 use Rattle.far_core.specs.state.State.{State, addr, put}
 use Rattle.far_core.proofs.Copied.{copied_fact, copied_test, none_copied_there}
-use Rattle.far_core.proofs.KeepPlace.{header}
 use Rattle.far_core.proofs.MadeNamings.{unbegun}
 use Rattle.far_core.proofs.Namings.{naming_only}
-use Rattle.far_core.proofs.Put.{put_both}
 use Rattle.far_hand.specs.Known.{IsKnown, Forgets, KnowsLeaving}
 use Rattle.far_hand.specs.Masked.{masked, AllFind, AllFindJobs}
 use Rattle.far_hand.proofs.Finding.{place_found}
 use Rattle.far_hand.proofs.Knowing.{alike_words, quiet_too, stored_too, stored_fits, few_bits}
+use Rattle.far_hand.proofs.NewSpans.{header_small, new_headers, word_is}
 use Rattle.far_hand.proofs.Reading.{known_word, header_known, forgets}
 
 -- ---- whether a naming won
@@ -99,17 +97,11 @@ module _ (s : State) (law : Law s) (found : ℕ → ℕ) (counted : ℕ → Bool
   abbrev o : State
   o = masked s found counted jobs
 
-  -- a word of the view that is a word, is the word itself
-  word_is : (a w : ℕ) → w < 2 ^ 64 → o.word a ≡ w → s.word a ≡ w
-  word_is a w lt e = sym (known_word (s.starts a || counted a) (s.word a) a (subst IsKnown (sym e) lt)) ∙ e
-
   head_small : (len ds : ℕ) (place : Place) → read_of new ≡ Some (Near len ds place no_marks) → head_word p len ds < 2 ^ 64
-  head_small len ds place e =
-      let says = read_says new (Near len ds place no_marks) fits e in
-      head_fits (header p len ds) (record { some = omega (arith, says.0); most = omega (arith, says.0); structure = omega (arith, says.0); cell = omega (arith, law.shape.few_mutators) })
+  head_small len ds place says = header_small s law new p len ds place no_marks small fits says
 
   new_span : (len ds : ℕ) (place : Place) → read_of new ≡ Some (Near len ds place no_marks) → IsNewSpan o p len ds place → IsNewSpan s p len ds place
-  new_span len ds place says h = record { next = h.next; head = word_is (addr place) (head_word p len ds) (head_small len ds place says) h.head }
+  new_span len ds place says h = record { next = h.next; head = word_is s found counted jobs (addr place) (head_word p len ds) (head_small len ds place says) h.head }
 
   some_bytes : (len ds : ℕ) (place : Place) → read_of new ≡ Some (Near len ds place no_marks) → 0 < len
   some_bytes len ds place says = let x = read_says new (Near len ds place no_marks) fits says in omega (arith, x.0)
@@ -119,7 +111,7 @@ module _ (s : State) (law : Law s) (found : ℕ → ℕ) (counted : ℕ → Bool
   padded len place some h =
       let low : 2 ^ (8 * (len - 8 * (words_for len - 1))) ≤ 2 ^ 64 = few_bits len some in
       let last : s.word (addr place + 1 + (words_for len - 1)) ≡ o.word (addr place + 1 + (words_for len - 1)) =
-      word_is (addr place + 1 + (words_for len - 1)) (o.word (addr place + 1 + (words_for len - 1))) (omega (arith, h, low)) refl in
+      word_is s found counted jobs (addr place + 1 + (words_for len - 1)) (o.word (addr place + 1 + (words_for len - 1))) (omega (arith, h, low)) refl in
       subst (λ w. w < 2 ^ (8 * (len - 8 * (words_for len - 1)))) (sym last) h
 
   may_move : (len ds : ℕ) (from to : Place) → read_of new ≡ Some (Near len ds to no_marks) → MayMove o p len ds from to → MayMove s p len ds from to
@@ -173,7 +165,7 @@ module _ (s : State) (law : Law s) (found : ℕ → ℕ) (counted : ℕ → Bool
   move_legal len ds from to says (inr has) = inr (copied_too from to has)
 
   row_legal : (form : Naming) → IsNaming form (read_of old) (read_of new) → (naming_row o p new form).Legal → (naming_row s p new form).Legal
-  row_legal (Places len ds place) n h = (new_span len ds place n.1 h.0, λ i lt. word_is (addr place + 1 + i) 0 (omega arith) (h.1 i lt))
+  row_legal (Places len ds place) n h = (new_span len ds place n.1 h.0, λ i lt. word_is s found counted jobs (addr place + 1 + i) 0 (omega arith) (h.1 i lt))
   row_legal Retires n h = tt
   row_legal (Evicts len place) n h = quiet_too s found counted jobs p (finds p) h
   row_legal Stays n h = tt
@@ -183,7 +175,7 @@ module _ (s : State) (law : Law s) (found : ℕ → ℕ) (counted : ℕ → Bool
     padded = padded len place (some_bytes len ds place n.1) h.padded;
     stored = λ honest.
         let all = stored_too (found p) (s.cell p) (finds p) (words_for len) (h.stored honest).all in
-        record { all = all; same = λ i lt. word_is (addr place + 1 + i) (s.stored p i) (stored_fits s law p (words_for len) all i lt) ((h.stored honest).same i lt) };
+        record { all = all; same = λ i lt. word_is s found counted jobs (addr place + 1 + i) (s.stored p i) (stored_fits s law p (words_for len) all i lt) ((h.stored honest).same i lt) };
   }
 
   -- what is legal by the view is legal
@@ -192,10 +184,7 @@ module _ (s : State) (law : Law s) (found : ℕ → ℕ) (counted : ℕ → Bool
 
   span_headers : (len ds : ℕ) (place : Place) → read_of new ≡ Some (Near len ds place no_marks) → o.word (addr place) ≡ head_word p len ds →
       (a : ℕ) → put s.starts (addr place) true a ≡ true → s.word a ≡ o.word a
-  span_headers len ds place says head a = put_both (λ b. b ≡ true → s.word a ≡ o.word a) s.starts (addr place) true a
-      (λ e _. let here : s.word (addr place) ≡ o.word (addr place) = word_is (addr place) (head_word p len ds) (head_small len ds place says) head ∙ sym head in
-      ap s.word e ∙ (here ∙ ap o.word (sym e)))
-      (λ _ st. sym (header_known s.word s.starts counted a st))
+  span_headers len ds place says head = new_headers s found counted jobs (addr place) (head_word p len ds) (head_small len ds place says) head
 
   move_headers : (len ds : ℕ) (from to : Place) → read_of new ≡ Some (Near len ds to no_marks) → MayMove o p len ds from to ⊎ WasCopied o p from to → (j : Option ℕ) → copied_job s p from to ≡ j →
       (a : ℕ) → (after_move s p new len to j).starts a ≡ true → s.word a ≡ o.word a

@@ -1,17 +1,16 @@
 -- What a beset hand knows after it has offered a job, or collected one, and why what is legal by its view is legal.
-use Rattle.std.proofs.Common.{◌≡◌, ◌≢◌, ℕ, ◌+◌, ◌-◌, ◌^◌, ◌<◌, Bool, true, false, cond, Some, refl, sym, ap, ◌∙◌, subst, arith}
-use Rattle.std.specs.Prelude.{◌==◌, ◌||◌}
+use Rattle.std.proofs.Common.{◌≡◌, ◌≢◌, ℕ, ◌+◌, ◌-◌, ◌*◌, ◌^◌, ◌<◌, Bool, true, false, cond, Some, refl, sym, ap, ◌∙◌, subst, arith}
+use Rattle.std.specs.Prelude.{◌==◌}
 use Rattle.std.proofs.lemmas.Bool.{cond_both, eqb-true, eqb-false, eq-eqb, ne_eqb}
 use Rattle.far_word.specs.declared.job.Job.{Job}
 use Rattle.far_word.specs.declared.job.JobWord.TheVariants.{Offered}
+use Rattle.far_word.specs.declared.mark.Marks.{Marks}
 use Rattle.far_word.specs.declared.pointer.Place.{Place}
-use Rattle.far_word.specs.declared.pointer.PtrWord.TheVariants.{Near}
+use Rattle.far_word.specs.declared.sizes.TheConstants.{CELLS, JOBS}
 use Rattle.far_word.specs.Header.{head_word}
 use Rattle.far_word.specs.Job.{IsJob, job_word}
-use Rattle.far_word.specs.Pointer.{IsPtr, read_of, word_of}
+use Rattle.far_word.specs.Pointer.{read_of}
 use Rattle.far_word.specs.Sizes.{words_for}
-use Rattle.far_word.proofs.HeaderLaws.{head_fits}
-use Rattle.far_word.proofs.PointerLaws.{read_says}
 use Rattle.far_core.specs.declared.event.Event.TheVariants.{Collect, Offer}
 use Rattle.far_core.specs.declared.event.Reply.{Reply}
 use Rattle.far_core.specs.declared.event.Reply.TheVariants.{Done, Word}
@@ -19,19 +18,29 @@ use Rattle.far_core.specs.events.Collect.{collected}
 use Rattle.far_core.specs.events.Legal.{Legal}
 use Rattle.far_core.specs.events.Offer.{MayOffer, after_offer, offered}
 use Rattle.far_core.specs.events.Step.{after, answer}
+use Rattle.far_core.specs.state.CoreState.{core_state}
 use Rattle.far_core.specs.state.Jobs.{near_place}
 use Rattle.far_core.specs.state.Law.{Law}
 use Rattle.far_core.specs.state.State.{State, addr, put}
-use Rattle.far_core.proofs.KeepPlace.{header}
-use Rattle.far_core.proofs.Put.{put_both}
 use Rattle.far_core.proofs.events.Offer.{offer_layout}
-use Rattle.far_hand.specs.Known.{IsKnown, Forgets}
-use Rattle.far_hand.specs.Masked.{masked, AllFind, AllFindJobs}
+use Rattle.far_hand.specs.declared.beset.Beset.{Beset}
+use Rattle.far_hand.specs.BesetView.{beset_view}
+use Rattle.far_hand.specs.Masked.{masked, masked_word, word_at, is_counted, AllFind, AllFindJobs}
 use Rattle.far_hand.proofs.Finding.{IsNearTo, near_found}
 use Rattle.far_hand.proofs.JobsFound.{empty_found}
-use Rattle.far_hand.proofs.Reading.{known_word, header_known, forgets}
+use Rattle.far_hand.proofs.Making.{ForgetsTo}
+use Rattle.far_hand.proofs.NewSpans.{header_small, new_headers, word_is}
+use Rattle.far_hand.proofs.Reading.{forgets}
 
 -- ---- a job is offered
+-- what an offer that is legal by the view o is in a core where these words were found
+pub record OfferTells (o s : State) (found jobs : ℕ → ℕ) (j : ℕ) (job : Job) : Type 0 where
+  pub own : Legal s (Offer j job.pointer job.to)
+  pub layout : IsJob job
+  pub len : ℕ
+  pub is : after s (Offer j job.pointer job.to) ≡ offered s j len job
+  pub view : ForgetsTo o (Offer j job.pointer job.to) (masked (offered s j len job) found (λ _. false) (put jobs j (job_word (Offered job))))
+
 module _ (s : State) (law : Law s) (found : ℕ → ℕ) (counted : ℕ → Bool) (jobs : ℕ → ℕ) (finds : AllFind found s.cell) (going : AllFindJobs jobs s.copying.word) (j p : ℕ) (from to : Place) where
   abbrev o : State
   o = masked s found counted jobs
@@ -39,80 +48,47 @@ module _ (s : State) (law : Law s) (found : ℕ → ℕ) (counted : ℕ → Bool
   abbrev pub job : Job
   job = record { pointer = p; from = from; to = to }
 
-  module _ (legal : Legal o (Offer j p to)) (lies : near_place (read_of (found p)) ≡ Some from) where
-    abbrev len : ℕ
-    len = legal.3.0
-
-    abbrev ds : ℕ
-    ds = legal.3.1
-
-    may : MayOffer o p len ds legal.3.2 to legal.3.3
-    may = legal.3.4
-
-    from_is : legal.3.2 ≡ from
-    from_is = let both : Some legal.3.2 ≡ Some from = sym (ap near_place may.near) ∙ lies in cc
-
+  module _ (len ds : ℕ) (m : Marks) (low : j < JOBS) (inside : p < CELLS * s.mutators) (empty : jobs j ≡ 0) (may : MayOffer o p len ds from to m) where
     -- the cell is found as it was known
-    abbrev cell : IsNearTo (read_of (s.cell p)) len ds legal.3.2 legal.3.3.evac
-    cell = near_found (found p) (s.cell p) (finds p) len ds legal.3.2 legal.3.3 may.near
+    cell : IsNearTo (read_of (s.cell p)) len ds from m.evac
+    cell = near_found (found p) (s.cell p) (finds p) len ds from m may.near
 
-    here : read_of (s.cell p) ≡ Some (Near len ds from cell.marks)
-    here = cell.near ∙ ap (λ (x : Place). Some (Near len ds x cell.marks)) from_is
+    small : head_word p len ds < 2 ^ 64
+    small = header_small s law (s.cell p) p len ds from cell.marks inside (law.cells.cell_read p).0 cell.near
 
-    says : (IsPtr (Near len ds from cell.marks)) × (word_of (Near len ds from cell.marks) ≡ s.cell p)
-    says = read_says (s.cell p) (Near len ds from cell.marks) (law.cells.cell_read p).0 here
+    copies : MayOffer s p len ds from to cell.marks
+    copies = search (cell.near, cell.same ∙ may.marked, may.chosen, may.seen, may.fits, may.span.next, word_is s found counted jobs (addr to) (head_word p len ds) small may.span.head, word_is s found counted jobs (addr to + 1 + (words_for len - 1)) 0 (omega arith) may.ends)
 
-    head_small : head_word p len ds < 2 ^ 64
-    head_small = head_fits (header p len ds) (record { some = omega (arith, says.0); most = omega (arith, says.0); structure = omega (arith, says.0); cell = omega (arith, legal.1, law.shape.few_mutators) })
+    own : Legal s (Offer j p to)
+    own = (low, inside, empty_found (jobs j) (s.copying.word j) (going j) empty, (len, ds, from, cell.marks, copies))
 
-    -- a word of the view that is a word, is the word itself
-    word_is : (a w : ℕ) → w < 2 ^ 64 → o.word a ≡ w → s.word a ≡ w
-    word_is a w lt e = sym (known_word (s.starts a || counted a) (s.word a) a (subst IsKnown (sym e) lt)) ∙ e
+    tells : OfferTells o s found jobs j job
+    tells = record {
+      own = own;
+      layout = offer_layout s law j p to own len ds from cell.marks cell.near;
+      len = len;
+      is = ap (after_offer s j p to) cell.near;
+      view = record { kept = ap (λ (u : State). record u { word = masked_word s.word (put s.starts (addr to) true) (λ _. false) }) (sym (ap (after_offer o j p to) may.near)); forgot = forgets o _ (put s.starts (addr to) true) refl s.word refl (new_headers s found counted jobs (addr to) (head_word p len ds) small may.span.head) };
+    }
 
-    -- what is legal by the view is legal
-    pub legal_offer : Legal s (Offer j p to)
-    legal_offer = (
-      legal.0,
-      legal.1,
-      empty_found (jobs j) (s.copying.word j) (going j) legal.2,
-      (
-        len,
-        ds,
-        from,
-        cell.marks,
-        record {
-          near = here;
-          marked = cell.same ∙ may.marked;
-          chosen = ap (λ (x : Place). s.round x.log) (sym from_is) ∙ may.chosen;
-          seen = may.seen;
-          fits = may.fits;
-          span = record { next = may.span.next; head = word_is (addr to) (head_word p len ds) head_small may.span.head };
-          ends = word_is (addr to + 1 + (words_for len - 1)) 0 (omega arith) may.ends;
-        },
-      ),
-    )
+  -- what is legal by the view is legal, and the job lies on the layout
+  pub offer_tells : Legal o (Offer j p to) → near_place (read_of (found p)) ≡ Some from → OfferTells o s found jobs j job
+  offer_tells (low, inside, empty, (len, ds, at, m, may)) lies =
+      let both : Some at ≡ Some from = sym (ap near_place may.near) ∙ lies in
+      let same : at ≡ from = cc in
+      tells len ds m low inside empty (subst (λ (x : Place). MayOffer o p len ds x to m) same may)
 
-    -- the job lies on the layout
-    pub is_job : IsJob job
-    is_job = offer_layout s law j p to legal_offer len ds from cell.marks here
+  pub legal_offer : Legal o (Offer j p to) → near_place (read_of (found p)) ≡ Some from → Legal s (Offer j p to)
+  legal_offer legal lies = (offer_tells legal lies).own
 
-    pub offered_is : after s (Offer j p to) ≡ offered s j len job
-    offered_is = ap (after_offer s j p to) here
+  pub is_job : Legal o (Offer j p to) → near_place (read_of (found p)) ≡ Some from → IsJob job
+  is_job legal lies = (offer_tells legal lies).layout
 
-    pub known_is : after o (Offer j p to) ≡ offered o j len job
-    known_is = ap (after_offer o j p to) may.near ∙ ap (λ (x : Place). offered o j len (record { pointer = p; from = x; to = to })) from_is
-
-    abbrev v : State
-    v = masked (offered s j len job) found (λ _. false) (put jobs j (job_word (Offered job)))
-
-    -- the view is the event's, but for the words that are forgotten
-    pub offer_kept : v ≡ record (after o (Offer j p to)) { word = v.word }
-    offer_kept = ap (λ (u : State). record u { word = v.word }) (sym known_is)
-
-    pub offer_forgot : Forgets o v
-    offer_forgot = forgets o v (put s.starts (addr to) true) refl s.word refl (λ a. put_both (λ b. b ≡ true → s.word a ≡ o.word a) s.starts (addr to) true a
-        (λ e _. ap s.word e ∙ (word_is (addr to) (head_word p len ds) head_small may.span.head ∙ sym may.span.head) ∙ ap o.word (sym e))
-        (λ _ begun. sym (header_known s.word s.starts counted a begun)))
+-- the same by the view before the turn
+pub hand_offers : (before hand : Beset) → beset_view hand ≡ beset_view before → (j p : ℕ) (from to : Place) → Legal (beset_view before) (Offer j p to) → near_place (read_of ((beset_view before).cell p)) ≡ Some from →
+    OfferTells (beset_view before) (core_state hand.core) (word_at hand.found.items) (word_at hand.jobs) j (record { pointer = p; from = from; to = to })
+hand_offers before hand view j p from to = subst (λ (o : State). Legal o (Offer j p to) → near_place (read_of (o.cell p)) ≡ Some from → OfferTells o (core_state hand.core) (word_at hand.found.items) (word_at hand.jobs) j (record { pointer = p; from = from; to = to })) view
+    (offer_tells (core_state hand.core) hand.core.law (word_at hand.found.items) (is_counted hand.counted.items) (word_at hand.jobs) hand.finds hand.finds_jobs j p from to)
 
 -- ---- a job is collected
 module _ (s : State) (j old : ℕ) where

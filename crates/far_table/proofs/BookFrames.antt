@@ -36,14 +36,14 @@ pub record LeavesOwners (ws : List ℕ) (b : BookView) (os : OtherViews) (e : Ev
   pub told : (p : ℕ) → (taken_at b' p ≡ taken_by e r p (taken_at b p)) × (retired_at b' p ≡ retired_by e r p (retired_at b p)) × (cooled_at b' p ≡ cooled_by e r p (cooled_at b p))
 
 -- what owners' ties read of the book's view, and who has no seat yet
-abbrev Counted : Type 0
+abbrev pub Counted : Type 0
 Counted = ℕ × Bool × List Role × List (ℕ × ℕ) × List (ℕ × ℕ) × List (ℕ × ℕ)
 
-abbrev counts_of : BookView → Counted
+abbrev pub counts_of : BookView → Counted
 counts_of b = (b.mutators, b.honest, b.rest, b.taken, b.retired, b.cooled)
 
 -- an event with this answer counts no mark
-abbrev CountsNone : Event → Reply → Type 0
+abbrev pub CountsNone : Event → Reply → Type 0
 CountsNone e r = (p n : ℕ) → (taken_by e r p n ≡ n) × (retired_by e r p n ≡ n) × (cooled_by e r p n ≡ n)
 
 -- a step that leaves MOVE, DROP and HOT of all cells, and all scope words

@@ -6,13 +6,15 @@ use Rattle.far_core.specs.declared.event.Event.{Event}
 use Rattle.far_core.specs.declared.event.Event.TheVariants.{Look}
 use Rattle.far_core.specs.declared.event.Reply.{Reply}
 use Rattle.far_core.specs.declared.event.Reply.TheVariants.{Word}
+use Rattle.far_core.specs.events.Step.{after}
 use Rattle.far_core.specs.state.State.{State}
+use Rattle.far_hand.specs.Known.{Forgets}
 use Rattle.far_table.specs.View.{BookView, View, Book}
 use Rattle.far_table.specs.Layout.{TABLE_WORDS, cell_at, data_at, scope_at, scope_in}
 use Rattle.far_table.specs.BookSeats.{MayBe}
 use Rattle.far_table.specs.BookTells.{BookMade, BookTells}
 use Rattle.far_table.specs.BookViews.{got_view}
-use Rattle.far_table.specs.StateOf.{state_of}
+use Rattle.far_table.specs.StateOf.{book_state, known_word, state_of}
 use Rattle.far_table.specs.Stands.{BookOk, IsPlain, Stands, book_of}
 
 -- what a view after a step shares with the one before, and that its epoch is the struct's
@@ -72,9 +74,21 @@ module _ (v v' : View) (e : Event) (r : Reply) (b' : BookView) (t : BookTells v 
     plain = subst IsPlain (sym view_is) k.plain;
   }
 
+  -- where the view is what the event makes of the view before, but for words, and where words are forgotten, so it is of the seat
+  pub seat_kept : book_state b' ≡ record (after (book_state (book_of v)) e) { word = known_word b' } → book_state (book_of v') ≡ record (after (book_state (book_of v)) e) { word = known_word (book_of v') }
+  seat_kept = subst (λ z. book_state z ≡ record (after (book_state (book_of v)) e) { word = known_word z }) (sym view_is)
+
+  pub seat_forgets : Forgets (book_state (book_of v)) (book_state b') → Forgets (book_state (book_of v)) (book_state (book_of v'))
+  seat_forgets = subst (λ z. Forgets (book_state (book_of v)) (book_state z)) (sym view_is)
+
   -- there are words with which the rule holds
   pub stands_after : ∥ Stands (book_of v') ∥₁
   stands_after = subst (λ (z : BookView). ∥ Stands z ∥₁) (sym view_is) ∣ record { words = t.made.later; others = t.made.others; facts = t.made.keeps } ∣₁
+
+  -- where nothing of its shape changes
+  pub seat_keeps : (id later here : TableId) (logs mutators epoch : ℕ) → BookOk id here v logs mutators epoch → later ≡ id → b'.logs ≡ (book_of v).logs → b'.mutators ≡ (book_of v).mutators →
+      b'.epoch ≡ (book_of v).epoch → b'.rest ≡ (book_of v).rest → IsPlain b' → BookOk later here v' logs mutators epoch × ∥ Stands (book_of v') ∥₁
+  seat_keeps id later here logs mutators epoch i same l m e r plain = (book_stays id later here logs mutators epoch epoch i same (shape_stays id here v logs mutators epoch b' i l m e r plain), stands_after)
 
   pub seat_made : BookMade e (book_of v) r (book_of v')
   seat_made = subst (λ z. BookMade e (book_of v) r z) (sym view_is) t.made

@@ -46,7 +46,7 @@ module _ (ws : List ℕ) (b : BookView) (os : OtherViews) (f : Facts ws b os) wh
     task x h = sym (task_is ws b os f v at) ∙ h
 
     claims : (j old : ℕ) → Fits (Claim v.number j old) → Legal s (Claim v.number j old) → MayBe b (after s (Claim v.number j old))
-    claims j old fits h = acts v at (Claim v.number j old) refl fits _ _ _ (claim_step ws b os f v at j old h.3.0 h.1 (task None h.2) h.3.1)
+    claims j old fits h = acts v at (Claim v.number j old) refl fits _ _ _ (claim_step ws b os f v at j h.1 old h.3.0 (task None h.2) h.3.1)
 
     measures : Legal s (ReadLength v.number) → MayBe b (after s (ReadLength v.number))
     measures h = acts v at (ReadLength v.number) refl tt _ _ _ (measure_step ws b os f v at h.0 (task (Some h.0) h.1))

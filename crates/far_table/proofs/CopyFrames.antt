@@ -37,7 +37,7 @@ module _ (cs : List CopierView) (c : ℕ) (v w : CopierView) (at : get_elem? cs 
   copier_is = get_is cs c v (idle 0) at
 
   module _ {X : Type 0} (g : CopierView → X) where
-    abbrev known : List CopierView → ℕ → X
+    abbrev pub known : List CopierView → ℕ → X
     known l d = g (copier_at l d)
 
     pub known_set : known (set cs c w) ≡ put (known cs) c (g w)

@@ -9,12 +9,11 @@ use native.Mathlib.Decide.{ℕ_discrete}
 use lib.ListN.{get_elem?}
 use Rattle.atomic_table.proofs.Lists.{set_here}
 use Rattle.atomic_table.specs.Seated.{TableId}
-use Rattle.far_word.specs.declared.job.Job.{Job as Places}
-use Rattle.far_word.specs.declared.job.JobWord.TheVariants.{Finished, Offered, Taken}
+use Rattle.far_word.specs.declared.job.JobWord.TheVariants.{Offered, Taken}
 use Rattle.far_word.specs.declared.sizes.TheConstants.{JOBS, LOG_WORDS, MOST_COPIERS, MOST_LOGS}
-use Rattle.far_word.specs.Job.{IsJob, job_in, job_of, job_sum, job_word}
+use Rattle.far_word.specs.Job.{IsJob, job_in, job_of, job_sum}
 use Rattle.far_word.specs.Sizes.{words_for}
-use Rattle.far_word.proofs.JobLaws.{job_says, job_fits as word_fits}
+use Rattle.far_word.proofs.JobLaws.{job_says}
 use Rattle.far_core.specs.declared.event.Event.{Event}
 use Rattle.far_core.specs.declared.event.Event.TheVariants.{PeekJob, Read, Write}
 use Rattle.far_core.specs.declared.event.Reply.{Reply}
@@ -66,6 +65,15 @@ copier_stays id later here v v' taking finishing e r w i same t =
 pub copier_made : (v v' : View) (old : CopierView) (e : CopierView → Event) (r : Reply) (w : CopierView) → copier_of v ≡ old → CopierTells v v' (e (copier_of v)) r w → CopierMade (e old) old r (copier_of v')
 copier_made v v' old e r w is t = subst (λ z. CopierMade (e z) z r (copier_of v')) is (subst (λ z. CopierMade (e (copier_of v)) (copier_of v) r z) (sym (ap copier_of t.after_is)) t.made)
 
+-- the seat as a caller sees it, which a step that leaves the view leaves, and that step's event
+abbrev pub seated : TableId → View → CopierSeated
+seated id v = record { table = id; view = copier_of v }
+
+pub seat_same : {v v' : View} {r : Reply} {id later : TableId} {z : CopierSeated} (e : CopierView → Event) → seated id v ≡ z → later ≡ id → CopierTells v v' (e (copier_of v)) r (copier_of v) →
+    (seated later v' ≡ z) × CopierMade (e z.view) z.view r z.view
+seat_same {v} {v'} {r} e is same t = let view : copier_of v' ≡ copier_of v = ap copier_of t.after_is in
+    ((λ i. record { table = same i; view = view i }) ∙ is, subst (λ (z : CopierSeated). CopierMade (e z.view) z.view r z.view) is t.made)
+
 -- looks at one job more
 pub missed_more : (v w : CopierView) (n : ℕ) → w ≡ v → ((j : ℕ) → j < n → Missed v j) → Missed w n → (j : ℕ) → j < n + 1 → Missed v j
 missed_more v w n same before here j lt = dite (ℕ_discrete j n)
@@ -77,24 +85,15 @@ view_after v v' old e r w is t = ap copier_of t.after_is ∙ ap w is
 
 -- ---- the words of a job
 -- a copier adds its number and a stage or two to the word that offers it
-sum_on : (k : Places) (word c add stages : ℕ) → job_sum k 0 1 ≡ word → add ≡ c * 2 ^ 58 + stages * 2 ^ 62 → word + add ≡ job_sum k c (1 + stages)
-sum_on k word c add stages says is = omega (arith, says, is)
-
-module _ (word c add : ℕ) (offers : job_of word ≡ Some (Offered (job_in word))) where
-  said : IsJob (job_in word) × (job_sum (job_in word) 0 1 ≡ word)
-  said = job_says word (Offered (job_in word)) offers
-
-  pub taken_word : add ≡ c * 2 ^ 58 + 1 * 2 ^ 62 → word + add ≡ job_word (Taken (job_in word) c)
-  taken_word is = sum_on (job_in word) word c add 1 said.1 is
-
-  pub finished_word : add ≡ c * 2 ^ 58 + 2 * 2 ^ 62 → word + add ≡ job_word (Finished (job_in word) c)
-  finished_word is = sum_on (job_in word) word c add 2 said.1 is
-
-  pub taken_fits : c < MOST_COPIERS → add ≡ c * 2 ^ 58 + 1 * 2 ^ 62 → word + add < 2 ^ 64
-  taken_fits few is = subst (λ n. n < 2 ^ 64) (sym (taken_word is)) (word_fits (Taken (job_in word) c) (said.0, few))
-
-  pub finished_fits : c < MOST_COPIERS → add ≡ c * 2 ^ 58 + 2 * 2 ^ 62 → word + add < 2 ^ 64
-  finished_fits few is = subst (λ n. n < 2 ^ 64) (sym (finished_word is)) (word_fits (Finished (job_in word) c) (said.0, few))
+pub staged_word : (word c add stages : ℕ) → job_of word ≡ Some (Offered (job_in word)) → c < MOST_COPIERS → stages ≤ 2 → add ≡ c * 2 ^ 58 + stages * 2 ^ 62 →
+    (word + add ≡ job_sum (job_in word) c (1 + stages)) × (word + add < 2 ^ 64)
+staged_word word c add stages offers few two is =
+    let said = job_says word (Offered (job_in word)) offers in
+    let sum = said.1 in
+    let cell = said.0.cell in
+    let from = said.0.from in
+    let to = said.0.to in
+    (omega (arith, sum, is), omega (arith, sum, is, cell, from, to))
 
 -- a word that was peeked reads
 pub peeked_reads : (j n : ℕ) (v w : CopierView) → CopierMade (PeekJob v.number j) v (Word n) w → IsSome (job_of n)

@@ -1,7 +1,6 @@
 -- Each kind of step of a copier's seat is its event of the core.
-use Rattle.std.proofs.Common.{◌≡◌, ◌≢◌, ◌+◌, ◌*◌, ◌/◌, ◌<◌, ◌≤◌, ℕ, Bool, true, false, cond, List, set, sym, refl, ap, ◌∙◌, subst, arith, Some, None}
+use Rattle.std.proofs.Common.{◌≡◌, ◌+◌, ◌*◌, ◌/◌, ◌<◌, ◌≤◌, ℕ, true, cond, List, set, sym, refl, ap, ◌∙◌, subst, arith, Some, None}
 use Rattle.std.specs.Prelude.{slice_index, ◌==◌, ◌^◌}
-use Rattle.std.proofs.lemmas.Bool.{eq-eqb, ne_eqb}
 use mathlib.Core.Option.{some, none}
 use prog.Atomic.{either}
 use lib.ListN.{get_elem?}
@@ -9,14 +8,13 @@ use Rattle.atomic_table.specs.Table.{Me, step, Allows}
 use Rattle.far_word.specs.declared.job.Job.{Job}
 use Rattle.far_word.specs.declared.job.JobWord.TheVariants.{Finished, Offered, Taken}
 use Rattle.far_word.specs.declared.sizes.TheConstants.{JOBS, LOG_WORDS, MOST_LOGS}
-use Rattle.far_word.specs.Job.{job_of, job_word}
+use Rattle.far_word.specs.Job.{job_in as job_said, job_of, job_word}
 use Rattle.far_word.specs.Sizes.{words_for}
 use Rattle.far_core.specs.declared.event.Event.TheVariants.{PeekJob, Claim, ReadLength, Read, Write, Finish}
 use Rattle.far_core.specs.declared.event.Reply.TheVariants.{Done, Word}
 use Rattle.far_core.specs.declared.event.Task.{Task}
 use Rattle.far_core.specs.events.Claim.{after_claim, offered_in}
 use Rattle.far_core.specs.events.Legal.{Legal}
-use Rattle.far_core.specs.events.Step.{after}
 use Rattle.far_core.specs.events.Tasks.{AllWritten}
 use Rattle.far_core.specs.state.Jobs.{job_words}
 use Rattle.far_core.specs.state.Law.{head_len}
@@ -25,14 +23,14 @@ use Rattle.far_core.proofs.JobPlaces.{job_bounds, source_lies, task_lies}
 use Rattle.far_core.proofs.KeepJobs.{task_at}
 use Rattle.far_table.specs.View.{BookView, CopierView, OtherViews, View, Copier}
 use Rattle.far_table.specs.CopierPlays.{JobClaimed, JobFinished, JobPeeked, LengthRead, SourceRead, TargetWritten}
-use Rattle.far_table.specs.CopierViews.{claim_view, claimed_view, finished_view, measured_view, word_read_view, word_written_view, words_read, words_written}
+use Rattle.far_table.specs.CopierViews.{claimed_view, finished_view, measured_view, word_read_view, word_written_view, words_read, words_written}
 use Rattle.far_table.specs.Layout.{TABLE_WORDS, data_at, job_at, job_in, word_in}
 use Rattle.far_table.specs.NameViews.{exchange_reply}
 use Rattle.far_table.specs.Rule.{Facts, Running}
 use Rattle.far_table.specs.StateOf.{state_of}
 use Rattle.far_table.specs.Tells.{CopierTells, copier_of}
-use Rattle.far_table.proofs.CopyFrames.{CopyStep, copied_is, copier_is, copies_none, is_copier, known_same, known_set}
-use Rattle.far_table.proofs.Exchanges.{by_case, lost_says, won_says}
+use Rattle.far_table.proofs.CopyFrames.{CopyStep, copied_is, copier_is, copies_none, is_copier, known, known_same, known_set}
+use Rattle.far_table.proofs.Exchanges.{by_case, if_lost, if_won, lost_says, won_says}
 use Rattle.far_table.proofs.OwnSteps.{led_by}
 use Rattle.far_table.proofs.Lift.{copier_makes, copier_reads}
 use Rattle.far_table.proofs.Words.{data_word_set, job_here, job_word_set, no_word}
@@ -54,36 +52,36 @@ module _ (ws : List ℕ) (b : BookView) (os : OtherViews) (f : Facts ws b os) (v
   pub written_is : s.copying.written c ≡ words_written v
   written_is = ap words_written (copier_is os.copiers c v v at)
 
-  -- ---- looks
-  pub peek_step : (j : ℕ) → j < JOBS → CopyStep ws b os v (PeekJob c j) (Word (job_in ws j)) ws v
-  peek_step j low = record { legal = (is_copier ws b os f v at, low); says = refl; becomes = copies_none f v at; number = refl }
+  -- what copiers know, once this one's view is w
+  sets : {X : Type 0} (w : CopierView) (g : CopierView → X) → known os.copiers c v w at g (set os.copiers c w) ≡ put (known os.copiers c v w at g os.copiers) c (g w)
+  sets w g = known_set os.copiers c v w at g
 
-  -- ---- claims
-  module _ (j old : ℕ) (job : Job) (low : j < JOBS) (none : v.task ≡ None) (offers : job_of old ≡ Some (Offered job)) where
+  stays : {X : Type 0} (w : CopierView) (g : CopierView → X) → g w ≡ g v → known os.copiers c v w at g (set os.copiers c w) ≡ known os.copiers c v w at g os.copiers
+  stays w g = known_same os.copiers c v w at g
+
+  module _ (j : ℕ) (low : j < JOBS) where
     abbrev n : ℕ
     n = job_in ws j
 
-    claim_legal : Legal s (Claim c j old)
-    claim_legal = (is_copier ws b os f v at, low, task_is ∙ none, (job, offers))
+    -- ---- looks
+    pub peek_step : CopyStep ws b os v (PeekJob c j) (Word n) ws v
+    peek_step = record { legal = (is_copier ws b os f v at, low); says = refl; becomes = copies_none f v at; number = refl }
 
-    -- the state after, once it is known whether the exchange won
-    by_won : (t : Bool) → (n == old) ≡ t → after s (Claim c j old) ≡ cond t (after_claim s c j (Some job)) s
-    by_won t e = ap (λ t. cond t (after_claim s c j (offered_in (job_of old))) s) e ∙ ap (λ x. cond t (after_claim s c j (offered_in x)) s) offers
-
-    won_step : n ≡ old → CopyStep ws b os v (Claim c j old) Done (set ws (job_at j) (job_word (Taken job c))) (claimed_view j job v)
-    won_step won = let w : CopierView = claimed_view j job v in record {
-      legal = claim_legal;
-      says = won_says n old won;
-      becomes = led_by (by_won true (eq-eqb n old won)) (copied_is ws (set ws (job_at j) (job_word (Taken job c))) b os c w (job_word_set ws f.wide j (job_word (Taken job c)) low)
-          (known_set os.copiers c v w at (λ (y : CopierView). y.task)) (known_set os.copiers c v w at (λ (y : CopierView). y.length)) (known_set os.copiers c v w at words_read) (known_set os.copiers c v w at words_written));
-      number = refl;
-    }
-
-    lost_step : n ≢ old → CopyStep ws b os v (Claim c j old) (Word n) ws v
-    lost_step lost = record { legal = claim_legal; says = lost_says n old lost; becomes = led_by (by_won false (ne_eqb n old lost)) (copies_none f v at); number = refl }
-
-    pub claim_step : CopyStep ws b os v (Claim c j old) (exchange_reply old n) (set ws (job_at j) (either (n == old) (job_word (Taken job c)) n)) (claim_view j job old n v)
-    claim_step = by_case (CopyStep ws b os v (Claim c j old)) ws (job_at j) n old (job_word (Taken job c)) (claimed_view j job v) v (job_here ws j low) won_step lost_step
+    -- ---- claims
+    module _ (old : ℕ) (job : Job) (idle : v.task ≡ None) (offers : job_of old ≡ Some (Offered job)) where
+      pub claim_step : CopyStep ws b os v (Claim c j old) (exchange_reply old n) (set ws (job_at j) (either (n == old) (job_word (Taken job c)) n)) (cond (n == old) (claimed_view j job v) v)
+      claim_step =
+          let w : CopierView = claimed_view j job v in
+          let legal : Legal s (Claim c j old) = (is_copier ws b os f v at, low, task_is ∙ idle, (job, offers)) in
+          by_case (CopyStep ws b os v (Claim c j old)) ws (job_at j) n old (job_word (Taken job c)) w v (job_here ws j low)
+          (λ won. record {
+            legal = legal;
+            says = won_says n old won;
+            becomes = led_by (if_won n old _ _ won ∙ ap (λ x. after_claim s c j (offered_in x)) offers)
+                (copied_is ws _ b os c w (job_word_set ws f.wide j (job_word (Taken job c)) low) (sets w (λ y. y.task)) (sets w (λ y. y.length)) (sets w words_read) (sets w words_written));
+            number = refl;
+          })
+          (λ lost. record { legal = legal; says = lost_says n old lost; becomes = led_by (if_lost n old _ _ lost) (copies_none f v at); number = refl })
 
   -- ---- of the job that it has
   module _ (t : Task) (task : v.task ≡ Some t) where
@@ -107,8 +105,8 @@ module _ (ws : List ℕ) (b : BookView) (os : OtherViews) (f : Facts ws b os) (v
     measure_step = let w : CopierView = measured_view (word_in ws (addr t.job.from)) v in record {
       legal = (t, has);
       says = rw has refl;
-      becomes = rw has (copied_is ws ws b os c w (no_word ws f.wide) (known_same os.copiers c v w at (λ (y : CopierView). y.task) refl) (known_set os.copiers c v w at (λ (y : CopierView). y.length))
-          (known_same os.copiers c v w at words_read refl) (known_same os.copiers c v w at words_written refl));
+      becomes = rw has (copied_is ws ws b os c w (no_word ws f.wide) (stays w (λ y. y.task) refl) (sets w (λ y. y.length))
+          (stays w words_read refl) (stays w words_written refl));
       number = refl;
     }
 
@@ -120,8 +118,8 @@ module _ (ws : List ℕ) (b : BookView) (os : OtherViews) (f : Facts ws b os) (v
     read_step i inside = let w : CopierView = word_read_view i (word_in ws (addr t.job.from + 1 + i)) v in record {
       legal = (t, has, inside);
       says = rw has refl;
-      becomes = rw has (copied_is ws ws b os c w (no_word ws f.wide) (known_same os.copiers c v w at (λ (y : CopierView). y.task) refl) (known_same os.copiers c v w at (λ (y : CopierView). y.length) refl)
-          (known_set os.copiers c v w at words_read ∙ ap (λ f. put s.copying.read c (put f i (Some (word_in ws (addr t.job.from + 1 + i))))) (sym read_is)) (known_same os.copiers c v w at words_written refl));
+      becomes = rw has (copied_is ws ws b os c w (no_word ws f.wide) (stays w (λ y. y.task) refl) (stays w (λ y. y.length) refl)
+          (sets w words_read ∙ ap (λ f. put s.copying.read c (put f i (Some (word_in ws (addr t.job.from + 1 + i))))) (sym read_is)) (stays w words_written refl));
       number = refl;
     }
 
@@ -139,8 +137,8 @@ module _ (ws : List ℕ) (b : BookView) (os : OtherViews) (f : Facts ws b os) (v
         legal = (t, x, has, knows);
         says = refl;
         becomes = rw (has, knows) (copied_is ws (set ws (data_at (addr t.job.to + 1 + i)) x) b os c w (data_word_set ws f.wide (addr t.job.to + 1 + i) x within)
-            (known_same os.copiers c v w at (λ (y : CopierView). y.task) refl) (known_same os.copiers c v w at (λ (y : CopierView). y.length) refl) (known_same os.copiers c v w at words_read refl)
-            (known_set os.copiers c v w at words_written ∙ ap (λ f. put s.copying.written c (put f i true)) (sym written_is)));
+            (stays w (λ y. y.task) refl) (stays w (λ y. y.length) refl) (stays w words_read refl)
+            (sets w words_written ∙ ap (λ f. put s.copying.written c (put f i true)) (sym written_is)));
         number = refl;
       }
 
@@ -150,8 +148,8 @@ module _ (ws : List ℕ) (b : BookView) (os : OtherViews) (f : Facts ws b os) (v
       legal = (t, has, λ i lt. ap (λ f. f i) written_is ∙ all i lt);
       says = refl;
       becomes = rw has (copied_is ws (set ws (job_at t.number) (job_word (Finished t.job c))) b os c w (job_word_set ws f.wide t.number (job_word (Finished t.job c)) (task_lies s f.law c t has).0)
-          (known_set os.copiers c v w at (λ (y : CopierView). y.task)) (known_same os.copiers c v w at (λ (y : CopierView). y.length) refl) (known_same os.copiers c v w at words_read refl)
-          (known_same os.copiers c v w at words_written refl));
+          (sets w (λ y. y.task)) (stays w (λ y. y.length) refl) (stays w words_read refl)
+          (stays w words_written refl));
       number = refl;
     }
 
@@ -165,15 +163,14 @@ module _ {S : Type 0} (slots id : ℕ) (me : Me S View) (is : me.0 ≡ Copier (c
       (λ ws b os f at. subst (λ n. CopyStep ws b os mine (PeekJob mine.number j) (Word n) ws mine) (job_here ws j low) (peek_step ws b os f mine at j low))
       (λ ws b os f at t q e. let same : j ≡ q = omega arith in subst (λ z. CopierTells me.0 (Copier mine) (PeekJob mine.number z) (Word (slice_index ws (job_at j))) mine) same t)
 
-  pub claims : (j old x : ℕ) (job : Job) → j < JOBS → old < 2 ^ 64 → mine.task ≡ None → job_of old ≡ Some (Offered job) → x ≡ job_word (Taken job mine.number) →
+  pub claims : (j old x : ℕ) → j < JOBS → old < 2 ^ 64 → mine.task ≡ None → job_of old ≡ Some (Offered (job_said old)) → x ≡ job_word (Taken (job_said old) mine.number) →
       Allows Running slots id me (job_at j) (λ n. either (n == old) x n) (JobClaimed (step slots (job_at j) old x none) me)
-  claims j old x job low fits free offers word = copier_makes slots id (job_at j) me is (Claim mine.number j old) refl fits (exchange_reply old) (λ n. claim_view j job old n mine)
-      (JobClaimed (step slots (job_at j) old x none) me) (λ n. either (n == old) x n)
-      (λ ws b os f at. subst (λ (z : ℕ × ℕ). CopyStep ws b os mine (Claim mine.number j old) (exchange_reply old z.0) (set ws (job_at j) (either (z.0 == old) z.1 z.0)) (claim_view j job old z.0 mine))
-      (λ i. (job_here ws j low i, sym word i)) (claim_step ws b os f mine at j old job low free offers))
-      (λ ws b os f at t q other e its. let n : ℕ = slice_index ws (job_at j) in
-      let same : j ≡ q = omega arith in let both : Some (Offered job) ≡ Some (Offered other) = sym offers ∙ its in let one : job ≡ other = cc in
-      subst (λ (z : ℕ × Job). CopierTells me.0 (Copier (claim_view j job old n mine)) (Claim mine.number z.0 old) (exchange_reply old n) (claim_view z.0 z.1 old n mine)) (λ i. (same i, one i)) t)
+  claims j old x low fits free offers word = let w : ℕ → CopierView = λ z. claimed_view z (job_said old) mine in
+      copier_makes slots id (job_at j) me is (Claim mine.number j old) refl fits (exchange_reply old) (λ n. cond (n == old) (w j) mine) (JobClaimed (step slots (job_at j) old x none) me) (λ n. either (n == old) x n)
+      (λ ws b os f at. subst (λ (z : ℕ × ℕ). CopyStep ws b os mine (Claim mine.number j old) (exchange_reply old z.0) (set ws (job_at j) (either (z.0 == old) z.1 z.0)) (cond (z.0 == old) (w j) mine))
+      (λ i. (job_here ws j low i, sym word i)) (claim_step ws b os f mine at j low old (job_said old) free offers))
+      (λ ws b os f at t q e. let n : ℕ = slice_index ws (job_at j) in let same : j ≡ q = omega arith in
+      subst (λ z. CopierTells me.0 (Copier (cond (n == old) (w j) mine)) (Claim mine.number z old) (exchange_reply old n) (cond (n == old) (w z) mine)) same t)
 
   module _ (t : Task) (task : mine.task ≡ Some t) where
     -- a task is one

@@ -12,13 +12,19 @@ use Rattle.far_table.specs.NameViews.{exchange_reply}
 use Rattle.far_table.specs.Tells.{CopierTells}
 use Rattle.far_table.specs.View.{BookView, CopierView, View}
 
--- what it answers
+-- what it comes to, and what it answers
 module _ (found old : ℕ) where
+  pub if_won : {X : Type 0} (won lost : X) → found ≡ old → cond (found == old) won lost ≡ won
+  if_won won lost is = ap (λ t. cond t won lost) (eq-eqb found old is)
+
+  pub if_lost : {X : Type 0} (won lost : X) → found ≢ old → cond (found == old) won lost ≡ lost
+  if_lost won lost ne = ap (λ t. cond t won lost) (ne_eqb found old ne)
+
   pub won_says : found ≡ old → Done ≡ exchange_reply old found
-  won_says won = sym (ap (λ t. cond t Done (Word found)) (eq-eqb found old won))
+  won_says won = sym (if_won Done (Word found) won)
 
   pub lost_says : found ≢ old → Word found ≡ exchange_reply old found
-  lost_says lost = sym (ap (λ t. cond t Done (Word found)) (ne_eqb found old lost))
+  lost_says lost = sym (if_lost Done (Word found) lost)
 
 -- what holds of the answer, the words and the view after, whether it wins or loses; word i of the table is the one found
 pub by_case : {X : Type 0} (holds : Reply → List ℕ → X → Type 0) (ws : List ℕ) (i found old new : ℕ) (won lost : X) → found ≡ slice_index ws i →

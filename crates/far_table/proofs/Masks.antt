@@ -3,6 +3,8 @@ use Rattle.std.proofs.Common.{◌≡◌, ◌<◌, ◌≤◌, ◌^◌, ℕ, Bool,
 use Rattle.std.specs.Prelude.{is_some, ◌||◌}
 use Rattle.std.proofs.lemmas.Bool.{false≢true, cond_both, ltb-true, ltb-false}
 use mathlib.Core.Path.{fun_ext}
+use Rattle.far_core.specs.declared.event.Event.{Event}
+use Rattle.far_core.specs.events.Legal.{Legal}
 use Rattle.far_core.specs.state.Law.{Law}
 use Rattle.far_core.specs.state.State.{State}
 use Rattle.far_hand.specs.Known.{IsKnown, unknown}
@@ -49,6 +51,10 @@ module _ (ws : List ℕ) (b : BookView) (os : OtherViews) (f : Facts ws b os) wh
 
   pub is_masked : IsPlain b → o ≡ masked s o.cell (counts b) o.copying.word
   is_masked plain = λ i. record o { epoch = sym epoch_is i; word = words_are plain i }
+
+  -- what is legal by the view is legal by that of a beset hand
+  pub by_view : IsPlain b → (e : Event) → Legal o e → Legal (masked s o.cell (counts b) o.copying.word) e
+  by_view plain e = subst (λ (z : State). Legal z e) (is_masked plain)
 
   pub rests : CountsOnRest s o.cell (counts b)
   rests a known plain = f.book.rests a (ltb-true (known_word b a) (2 ^ 64) known) plain

@@ -51,6 +51,7 @@ use Rattle.far_table.proofs.BookLift.{book_makes}
 use Rattle.far_table.proofs.BookSees.{cell_after, cells_few, epoch_after, finds_after, found_at, see_step, going_after}
 use Rattle.far_table.proofs.Exchanges.{by_case, lost_says, won_says}
 use Rattle.far_table.proofs.Masks.{counts, finds, going, is_masked, ties}
+use Rattle.far_table.proofs.Masks as masks
 use Rattle.far_table.proofs.NameRows.{begins_put, stored_after}
 use Rattle.far_table.proofs.OwnSteps.{led_by, reads, state_is}
 use Rattle.far_table.proofs.Words.{cell_here}
@@ -175,6 +176,17 @@ pub header_is : (h : Option ℕ) (w k : ℕ) → ((x : ℕ) → h ≡ Some x →
 header_is None w k same there = absurd (cc)
 header_is (Some x) w k same there = same x refl
 
+-- a view that knows headers alone, each of which stands there, and was known
+module _ (b : BookView) (word : ℕ → ℕ) (heads : (a x : ℕ) → head_at b a ≡ Some x → word a ≡ x) where
+  pub heads_words : (λ a. head_or (head_at b a) (unknown a)) ≡ masked_word word (λ a. is_some (head_at b a)) (λ _. false)
+  heads_words = forgotten b word (λ a st. header_is (head_at b a) (word a) (unknown a) (heads a) st)
+
+  pub heads_forget : (before : BookView) → known_word before ≡ word → (known_word b ≡ (λ a. head_or (head_at b a) (unknown a))) → Forgets (book_state before) (book_state b)
+  heads_forget before same gone = forgets before b gone (λ a st. sym (header_is (head_at b a) (word a) (unknown a) (heads a) st) ∙ ap (λ f. f a) (sym same))
+
+pub head_known : (b : BookView) (a x : ℕ) → head_at b a ≡ Some x → known_word b a ≡ x
+head_known b a x e = ap (λ z. head_or z (over b.known unknown a)) e
+
 -- the headers that the view knows are those that stand there
 pub known_heads : (ws : List ℕ) (b : BookView) (os : OtherViews) → Facts ws b os → (a x : ℕ) → head_at b a ≡ Some x → word_in ws a ≡ x
 known_heads ws b os f a x e = f.book.shown.headers a (ap is_some e) ∙ ap (λ z. head_or z (over b.known unknown a)) e
@@ -253,11 +265,11 @@ module _ (b : BookView) (p old new : ℕ) where
         (form_done h.1.0 ∙ ap (λ (u : State). record u { word = known_word (v h.1.0) }) (sym (won_state o p old new h.1.0 (sym seen) h.1.1)))
 
     head_same : (a x : ℕ) → head_at (v h.1.0) a ≡ Some x → known_word b a ≡ x
-    head_same = form_heads b p (known_word b) (λ a x e. ap (λ z. head_or z (over b.known unknown a)) e) new o refl h.1.0 (told_itself h.1.0) h.1.2
+    head_same = form_heads b p (known_word b) (head_known b) new o refl h.1.0 (told_itself h.1.0) h.1.2
 
     pub named_forgets : Forgets o (book_state (named_view p old new b))
     named_forgets = subst (λ z. Forgets o (book_state z)) (sym named_is)
-        (forgets b (v h.1.0) refl (λ a st. sym (header_is (head_at (v h.1.0) a) (known_word b a) (unknown a) (head_same a) st)))
+        (heads_forget (v h.1.0) (known_word b) head_same b refl refl)
 
 -- ---- the step
 module _ (ws : List ℕ) (b : BookView) (os : OtherViews) (f : Facts ws b os) (plain : IsPlain b) (p old new : ℕ) (fits : new < 2 ^ 64)
@@ -270,7 +282,7 @@ module _ (ws : List ℕ) (b : BookView) (os : OtherViews) (f : Facts ws b os) (p
 
   -- it is legal by the view of a beset hand
   by_view : Legal (masked s view.cell (counts b) view.copying.word) (Name p old new)
-  by_view = subst (λ (z : State). Legal z (Name p old new)) (is_masked ws b os f plain) h
+  by_view = masks.by_view ws b os f plain (Name p old new) h
 
   legal : Legal s (Name p old new)
   legal = legal_name s f.law view.cell (counts b) view.copying.word (finds ws b os f) (going ws b os f) p old new h.0 fits by_view
@@ -325,7 +337,7 @@ module _ (ws : List ℕ) (b : BookView) (os : OtherViews) (f : Facts ws b os) (p
   row_becomes (Fetches len ds place) t n = λ i. record (made (Fetches len ds place)) { starts = sym (begins_put (head_at b) (addr place) (head_word p len ds)) i }
 
   words_named : known_word b' ≡ masked_word (word_in later) (λ a. is_some (head_at b' a)) (λ _. false)
-  words_named = forgotten b' (word_in later) (λ a st. header_is (head_at b' a) (word_in later a) (unknown a) (λ x e. ap (λ g. g a) (cell_after ws b os f p new few).word_is ∙ form_heads b p s.word old_heads new s refl form (told form by_view.1.1 by_view.1.2) form_legal a x e) st)
+  words_named = heads_words b' (word_in later) (λ a x e. ap (λ g. g a) (cell_after ws b os f p new few).word_is ∙ form_heads b p s.word old_heads new s refl form (told form by_view.1.1 by_view.1.2) form_legal a x e)
 
   -- what was counted before, and once more where the old word has the mark, which the new one hasn't
   counted : (count before : ℕ → ℕ) → count new ≡ 0 → cell_in ws p ≡ old → (q : ℕ) → before q + count (cell_in ws q) ≡ put before p (before p + count old) q + count (cell_in later q)

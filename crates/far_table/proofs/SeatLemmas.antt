@@ -13,7 +13,7 @@ use Rattle.far_core.specs.declared.event.Reply.TheVariants.{Held, Word}
 use Rattle.far_core.specs.events.Pin.{place_to_view, pin_answer}
 use Rattle.far_core.proofs.Put.{put_both, put_other, put_same}
 use Rattle.atomic_table.specs.Seated.{TableId}
-use Rattle.far_word.specs.declared.sizes.TheConstants.{CELLS, EPOCH_END, LOG_WORDS, MOST_LOGS, MOST_MUTATORS}
+use Rattle.far_word.specs.declared.sizes.TheConstants.{CELLS, EPOCH_END, JOBS, LOG_WORDS, MOST_LOGS, MOST_MUTATORS}
 use Rattle.far_word.specs.Sizes.{words_for}
 use Rattle.far_core.specs.declared.event.Event.{Event}
 use Rattle.far_core.specs.declared.event.Reply.{Reply}
@@ -23,7 +23,7 @@ use Rattle.far_table.specs.Tells.{HasState, OwnerMade, OwnerRefused, Tells, owne
 use Rattle.far_table.specs.Views.{adopted_view, asked_view, fresh, held_at, held_view, len_of, noted_view, object_at, pinned_view, stored_view, warmed_view, with_place, with_word}
 use Rattle.far_core.specs.events.Ask.{is_request}
 use Rattle.far_core.specs.events.Open.{scope_word_of}
-use Rattle.far_table.specs.Layout.{TABLE_WORDS}
+use Rattle.far_table.specs.Layout.{TABLE_WORDS, job_at}
 use Rattle.far_table.specs.Plays.{AdoptTells, number_of}
 use Rattle.far_core.specs.declared.event.Event.TheVariants.{Adopt}
 use Rattle.far_table.specs.Seats.{HasPlace, HasPlaces, Remembers}
@@ -33,6 +33,10 @@ use Rattle.far_table.proofs.ViewedLogs.{left_there}
 -- a seat's table, as its `Arc` shows it, has this word
 pub inside : (id here there : TableId) (i : ℕ) → id ≡ here → there ≡ here → id.words ≡ TABLE_WORDS → i < TABLE_WORDS → (id ≡ there) × (i < there.words)
 inside id here there i a b wide small = let c = ap (λ (z : TableId). z.words) (a ∙ sym b) in (a ∙ sym b, omega arith)
+
+-- and the word of each job
+pub job_inside : (id here there : TableId) (j : ℕ) → id ≡ here → there ≡ here → id.words ≡ TABLE_WORDS → j < JOBS → (id ≡ there) × (job_at j < there.words)
+job_inside id here there j a b wide low = inside id here there (job_at j) a b wide (omega arith)
 
 -- the scope word at the epoch that a seat keeps
 pub remembered_word : (epoch : Option ℕ) (n : ℕ) → Remembers epoch n → IsSome epoch → (2 * n + 1 ≡ scope_word_of epoch) × (n < EPOCH_END)

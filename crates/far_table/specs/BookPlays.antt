@@ -4,15 +4,13 @@ use mathlib.Core.Option.{some}
 use Rattle.atomic_table.specs.Table.{Me, Step}
 use Rattle.far_word.specs.declared.job.Job.{Job}
 use Rattle.far_word.specs.declared.job.JobWord.TheVariants.{Offered}
-use Rattle.far_word.specs.declared.mark.Marks.{Marks}
-use Rattle.far_word.specs.declared.pointer.PtrWord.TheVariants.{Near}
-use Rattle.far_word.specs.Job.{IsJob, job_word}
+use Rattle.far_word.specs.Job.{job_of}
 use Rattle.far_word.specs.Mark.{position}
-use Rattle.far_word.specs.Pointer.{read_of}
 use Rattle.far_word.specs.declared.mark.Mark.TheVariants.{Evac}
 use Rattle.far_word.specs.declared.sizes.TheConstants.{LOG_WORDS}
 use Rattle.far_core.specs.declared.event.Event.TheVariants.{See, Mark, Clear, Get, Put, Name, Advance, Look, Offer, SeeJob, Collect}
 use Rattle.far_core.specs.declared.event.Reply.TheVariants.{Done, Epoch, Word}
+use Rattle.far_core.specs.events.Legal.{Legal}
 use Rattle.far_hand.specs.Finds.{Finds}
 use Rattle.far_hand.specs.FindsJob.{FindsJob}
 use Rattle.far_hand.specs.Rounds.{IsScopeAt}
@@ -24,6 +22,10 @@ use Rattle.far_table.specs.Layout.{cell_at, data_at, job_at, scope_at}
 use Rattle.far_table.specs.NameViews.{exchange_reply, exchanged_view, offered_view}
 use Rattle.far_table.specs.Stands.{IsPlain, book_of}
 use Rattle.far_table.specs.StateOf.{book_state, head_at}
+
+-- a job was offered, which was legal by the view
+abbrev pub JobTold : View → View → ℕ → Job → Type 0
+JobTold before now j job = (h : Legal (book_state (book_of before)) (Offer j job.pointer job.to)) × BookTells before now (Offer j job.pointer job.to) Done (offered_view j h.3.0 h.3.1 job (book_of before))
 
 module _ {S : Type 0} where
   abbrev pub Saw : Step S → Me S View → ℕ → Me S View → Type 0
@@ -73,10 +75,9 @@ module _ {S : Type 0} where
   JobCollected st me found me' = (j : ℕ) → st.word ≡ job_at j → FindsJob ((book_state (book_of me.0)).copying.word j) found
       × BookTells me.0 me'.0 (Collect j st.first) (exchange_reply st.first found) (collected_view j st.first found (book_of me.0))
 
-  -- the word offers this job, whose source is where the view's cell has the object
+  -- the word offers this job
   abbrev pub JobOffered : Step S → Me S View → ℕ → Me S View → Type 0
-  JobOffered st me word me' = (j len ds : ℕ) (job : Job) (m : Marks) → st.word ≡ job_at j → IsJob job → word ≡ job_word (Offered job) →
-      read_of ((book_state (book_of me.0)).cell job.pointer) ≡ Some (Near len ds job.from m) → BookTells me.0 me'.0 (Offer j job.pointer job.to) Done (offered_view j len ds job (book_of me.0))
+  JobOffered st me word me' = (j : ℕ) (job : Job) → st.word ≡ job_at j → job_of word ≡ Some (Offered job) → JobTold me.0 me'.0 j job
 
 -- the round is of the logs that were announced
 abbrev pub Advanced : Step ℕ → Me ℕ View → ℕ → Me ℕ View → Type 0

@@ -1,16 +1,14 @@
 -- What each kind of step of a copier's seat tells: of the step, the seat before, the word found (at a store, the word stored) and the seat after.
-use Rattle.std.specs.Prelude.{◌≡◌, ◌+◌, ℕ, Some, IsSome}
+use Rattle.std.specs.Prelude.{◌≡◌, ◌+◌, ◌==◌, ℕ, cond, Some, IsSome}
 use Rattle.atomic_table.specs.Table.{Me, Step}
-use Rattle.far_word.specs.declared.job.Job.{Job}
-use Rattle.far_word.specs.declared.job.JobWord.TheVariants.{Offered}
 use Rattle.far_word.specs.Header.{head_of}
-use Rattle.far_word.specs.Job.{job_of}
+use Rattle.far_word.specs.Job.{job_in}
 use Rattle.far_core.specs.declared.event.Event.TheVariants.{PeekJob, Claim, ReadLength, Read, Write, Finish}
 use Rattle.far_core.specs.declared.event.Reply.TheVariants.{Done, Word}
 use Rattle.far_core.specs.declared.event.Task.{Task}
 use Rattle.far_core.specs.state.State.{addr}
 use Rattle.far_table.specs.View.{View}
-use Rattle.far_table.specs.CopierViews.{claim_view, finished_view, measured_view, word_read_view, word_written_view}
+use Rattle.far_table.specs.CopierViews.{claimed_view, finished_view, measured_view, word_read_view, word_written_view}
 use Rattle.far_table.specs.Layout.{data_at, job_at}
 use Rattle.far_table.specs.NameViews.{exchange_reply}
 use Rattle.far_table.specs.Tells.{CopierTells, copier_of}
@@ -23,10 +21,9 @@ module _ {S : Type 0} where
   abbrev pub JobPeeked : Step S → Me S View → ℕ → Me S View → Type 0
   JobPeeked st me found me' = (j : ℕ) → st.word ≡ job_at j → CopierTells me.0 me'.0 (PeekJob (copier_number me.0) j) (Word found) (copier_of me.0)
 
-  -- the word awaited offers this job
+  -- the job is the one that the word awaited says; where another was found, nothing changed
   abbrev pub JobClaimed : Step S → Me S View → ℕ → Me S View → Type 0
-  JobClaimed st me found me' = (j : ℕ) (job : Job) → st.word ≡ job_at j → job_of st.first ≡ Some (Offered job) →
-      CopierTells me.0 me'.0 (Claim (copier_number me.0) j st.first) (exchange_reply st.first found) (claim_view j job st.first found (copier_of me.0))
+  JobClaimed st me found me' = (j : ℕ) → st.word ≡ job_at j → CopierTells me.0 me'.0 (Claim (copier_number me.0) j st.first) (exchange_reply st.first found) (cond (found == st.first) (claimed_view j (job_in st.first) (copier_of me.0)) (copier_of me.0))
 
   -- the word is a header
   abbrev pub LengthRead : Step S → Me S View → ℕ → Me S View → Type 0

@@ -1,5 +1,5 @@
 -- What stands in a copier's view, and how its steps change it.
-use Rattle.std.specs.Prelude.{ℕ, ◌==◌, Bool, true, false, cond, Option, Some, None, List, [], ◌∷◌, slice_index_or}
+use Rattle.std.specs.Prelude.{ℕ, Bool, true, false, Option, Some, None, List, [], ◌∷◌, slice_index_or}
 use Rattle.far_word.specs.declared.job.Job.{Job}
 use Rattle.far_log.specs.Spans.{head_len}
 use Rattle.far_table.specs.View.{CopierView, idle}
@@ -13,13 +13,10 @@ abbrev pub words_written : CopierView → ℕ → Bool
 words_written v = over v.written (λ _. false)
 
 -- ---- the view after a step
+
 -- the job is the copier's, which has read and written nothing of it
 abbrev pub claimed_view : ℕ → Job → CopierView → CopierView
 claimed_view j job v = record v { task = Some record { number = j; job = job }; length = None; read = []; written = [] }
-
--- the view after an exchange of job j's word, by the word found: it won, or nothing changed
-abbrev pub claim_view : ℕ → Job → ℕ → ℕ → CopierView → CopierView
-claim_view j job old found v = cond (found == old) (claimed_view j job v) v
 
 -- the source's header was read
 abbrev pub measured_view : ℕ → CopierView → CopierView

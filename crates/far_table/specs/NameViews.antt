@@ -84,8 +84,7 @@ exchanged_view p old new found b = cond (found == old) (named_view p old new b) 
 abbrev pub exchange_reply : ℕ → ℕ → Reply
 exchange_reply old found = cond (found == old) Done (Word found)
 
--- ---- a job is offered
--- the span at its target is taken, and no word is known any more but headers
+-- ---- a job is offered: the span at its target is taken, and no word is known any more but headers
 abbrev pub offered_view : ℕ → ℕ → ℕ → Job → BookView → BookView
 offered_view j len ds job b = record (span_view job.pointer len ds job.to b) {
   jobs = (j, job_word (Offered job)) ∷ b.jobs;

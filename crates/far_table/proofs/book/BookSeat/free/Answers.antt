@@ -5,7 +5,7 @@ use Rattle.far_table.specs.View.{BookView}
 use Rattle.far_table.specs.BookSeats.{book_in}
 use Rattle.far_table.specs.Layout.{data_at}
 use Rattle.far_table.specs.StateOf.{book_state}
-use Rattle.far_table.proofs.BookSeatLemmas.{book_stays, seat_made, shape_stays, stands_after, view_is, word_inside}
+use Rattle.far_table.proofs.BookSeatLemmas.{seat_keeps, seat_made, view_is, word_inside}
 use Rattle.far_table.proofs.BookWords.{frees_log}
 use Rattle.far_table.proofs.SeatLemmas.{inside}
 use Rattle.far_table.proofs.book.BookSeat.free.Goals as goal
@@ -21,10 +21,7 @@ pub invariant_of-self : goal.invariant_of-self
 invariant_of-self g c =
     let i = c.args.self.now.fits in
     let h = c.load.ensures in
-    let t = (h.2 c.args.log c.args.at c.requires.legal.1 refl).1 in record {
-      fits = book_stays _ _ _ _ _ t _ _ _ _ _ _ _ i h.0 (shape_stays _ _ _ _ _ _ _ i refl refl refl refl (λ a _. refl));
-      stands = stands_after _ _ _ _ _ t;
-    }
+    let k = seat_keeps _ _ _ _ _ (h.2 c.args.log c.args.at c.requires.legal.1 refl).1 _ _ _ _ _ _ i h.0 refl refl refl refl (λ a _. refl) in record { fits = k.0; stands = k.1 }
 
 pub returns-clause-gets : goal.returns-clause-gets
 returns-clause-gets g c =

@@ -1,14 +1,10 @@
-use Rattle.std.proofs.Common.{◌≡◌, ◌+◌, refl, sym, ap, subst, arith}
-use Rattle.far_core.specs.declared.event.Event.TheVariants.{Advance}
-use Rattle.far_core.specs.events.Step.{after}
-use Rattle.far_hand.specs.Known.{Forgets}
+use Rattle.std.proofs.Common.{◌+◌, refl, ap, arith}
 use Rattle.far_table.specs.View.{BookView}
 use Rattle.far_table.specs.BookSeats.{book_in}
 use Rattle.far_table.specs.BookViews.{raised_view}
 use Rattle.far_table.specs.Layout.{EPOCH_AT}
-use Rattle.far_table.specs.StateOf.{book_state, known_word}
 use Rattle.far_table.proofs.BookRounds.{advances, forgets_all}
-use Rattle.far_table.proofs.BookSeatLemmas.{book_stays, seat_made, stands_after, view_is}
+use Rattle.far_table.proofs.BookSeatLemmas.{book_stays, seat_forgets, seat_kept, seat_made, stands_after}
 use Rattle.far_table.proofs.SeatLemmas.{inside}
 use Rattle.far_table.proofs.book_hand.BookSeatNear.advance.Goals as goal
 
@@ -32,14 +28,12 @@ invariant_of-self g c =
     }
 
 pub returns-clause-kept : goal.returns-clause-kept
-returns-clause-kept g c =
-    let b : BookView = book_in c.args.self.now in
-    subst (λ (z : BookView). book_state z ≡ record (after (book_state b) (Advance c.args.logs)) { word = known_word z }) (sym (view_is _ _ _ _ _ (c.compare_exchange_with.ensures.2 c.args.logs refl))) refl
+returns-clause-kept g c = seat_kept _ _ _ _ _ (c.compare_exchange_with.ensures.2 c.args.logs refl) refl
 
 pub returns-clause-forgot : goal.returns-clause-forgot
 returns-clause-forgot g c =
     let b : BookView = book_in c.args.self.now in
-    subst (λ (z : BookView). Forgets (book_state b) (book_state z)) (sym (view_is _ _ _ _ _ (c.compare_exchange_with.ensures.2 c.args.logs refl))) (forgets_all b (raised_view c.args.logs b) refl refl)
+    seat_forgets _ _ _ _ _ (c.compare_exchange_with.ensures.2 c.args.logs refl) (forgets_all b (raised_view c.args.logs b) refl refl)
 
 pub returns-clause-made : goal.returns-clause-made
 returns-clause-made g c = (c.compare_exchange_with.ensures.0, seat_made _ _ _ _ _ (c.compare_exchange_with.ensures.2 c.args.logs refl))

@@ -1,13 +1,12 @@
 use Rattle.std.proofs.Common.{◌≡◌, ◌-◌, ◌^◌, refl, sym, ap, subst}
 use Rattle.far_hand.specs.Cleared.{cleared}
-use Rattle.far_hand.specs.Known.{Forgets}
 use Rattle.far_table.specs.View.{BookView}
 use Rattle.far_table.specs.BookSeats.{book_in}
 use Rattle.far_table.specs.BookViews.{cleared_view}
 use Rattle.far_table.specs.Layout.{cell_at}
 use Rattle.far_table.specs.StateOf.{book_state, known_word}
 use Rattle.far_table.proofs.BookRounds.{cleared_kept, clears, forgets_all}
-use Rattle.far_table.proofs.BookSeatLemmas.{book_stays, cell_inside, seat_made, shape_stays, stands_after, view_is}
+use Rattle.far_table.proofs.BookSeatLemmas.{cell_inside, seat_forgets, seat_keeps, seat_made, view_is}
 use Rattle.far_table.proofs.SeatLemmas.{inside}
 use Rattle.far_table.proofs.book_hand.BookSeatNear.clear.Goals as goal
 
@@ -21,10 +20,7 @@ pub invariant_of-self : goal.invariant_of-self
 invariant_of-self g c =
     let i = c.args.self.now.fits in
     let h = c.fetch_and.ensures in
-    let t = (h.2.1 c.args.pointer refl).1 in record {
-      fits = book_stays _ _ _ _ _ t _ _ _ _ _ _ _ i h.0 (shape_stays _ _ _ _ _ _ _ i refl refl refl refl (λ a _. refl));
-      stands = stands_after _ _ _ _ _ t;
-    }
+    let k = seat_keeps _ _ _ _ _ (h.2.1 c.args.pointer refl).1 _ _ _ _ _ _ i h.0 refl refl refl refl (λ a _. refl) in record { fits = k.0; stands = k.1 }
 
 pub returns-clause-found : goal.returns-clause-found
 returns-clause-found g c = (c.fetch_and.ensures.2.1 c.args.pointer refl).0
@@ -38,7 +34,7 @@ returns-clause-kept g c =
 pub returns-clause-forgot : goal.returns-clause-forgot
 returns-clause-forgot g c =
     let b : BookView = book_in c.args.self.now in
-    subst (λ (z : BookView). Forgets (book_state b) (book_state z)) (sym (view_is _ _ _ _ _ (c.fetch_and.ensures.2.1 c.args.pointer refl).1)) (forgets_all b (cleared_view c.args.pointer c.fetch_and.result b) refl refl)
+    seat_forgets _ _ _ _ _ (c.fetch_and.ensures.2.1 c.args.pointer refl).1 (forgets_all b (cleared_view c.args.pointer c.fetch_and.result b) refl refl)
 
 pub returns-clause-made : goal.returns-clause-made
 returns-clause-made g c = (c.fetch_and.ensures.0, seat_made _ _ _ _ _ (c.fetch_and.ensures.2.1 c.args.pointer refl).1)

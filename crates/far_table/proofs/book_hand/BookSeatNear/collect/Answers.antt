@@ -1,30 +1,25 @@
-use Rattle.std.proofs.Common.{◌∙◌, refl, sym, ap, arith}
+use Rattle.std.proofs.Common.{◌∙◌, refl, sym, ap}
 use Rattle.far_hand.proofs.Offering.{collect_empties}
 use Rattle.far_table.specs.BookViews.{saw_job_view}
-use Rattle.far_table.specs.Layout.{job_at}
 use Rattle.far_table.specs.Stands.{book_of}
 use Rattle.far_table.specs.StateOf.{book_state}
 use Rattle.far_table.proofs.BookJobs.{collects}
-use Rattle.far_table.proofs.BookSeatLemmas.{book_stays, seat_made, shape_stays, stands_after, view_is}
+use Rattle.far_table.proofs.BookSeatLemmas.{seat_keeps, seat_made, view_is}
 use Rattle.far_table.proofs.Exchanges.{book_lost, book_won}
-use Rattle.far_table.proofs.SeatLemmas.{inside}
+use Rattle.far_table.proofs.SeatLemmas.{job_inside}
 use Rattle.far_table.proofs.book_hand.BookSeatNear.collect.Goals as goal
 
 pub compare_exchange-found-requires : goal.compare_exchange-found-requires
 compare_exchange-found-requires g c =
     let i = c.args.self.now.fits in
-    let low = c.requires.legal.0 in
-    let t = inside _ _ _ (job_at c.args.job) i.same (ap (λ t. t.shared.table_id) c.deref.ensures) i.wide (omega arith) in
+    let t = job_inside _ _ _ c.args.job i.same (ap (λ t. t.shared.table_id) c.deref.ensures) i.wide c.requires.legal.0 in
     (t.0, t.1, collects _ _ _ i.is_book i.plain c.args.job c.args.old c.ranges.old.fits c.requires.legal)
 
 pub invariant_of-self : goal.invariant_of-self
 invariant_of-self g c =
     let i = c.args.self.now.fits in
     let h = c.compare_exchange-found.ensures in
-    let t = (h.2 c.args.job refl).1 in record {
-      fits = book_stays _ _ _ _ _ t _ _ _ _ _ _ _ i h.0 (shape_stays _ _ _ _ _ _ _ i refl refl refl refl i.plain);
-      stands = stands_after _ _ _ _ _ t;
-    }
+    let k = seat_keeps _ _ _ _ _ (h.2 c.args.job refl).1 _ _ _ _ _ _ i h.0 refl refl refl refl i.plain in record { fits = k.0; stands = k.1 }
 
 pub returns-then-old-found-clause-done : goal.returns-then-old-found-clause-done
 returns-then-old-found-clause-done g c =

@@ -2,7 +2,7 @@ use Rattle.std.proofs.Common.{refl, ap}
 use Rattle.far_table.specs.Layout.{scope_at}
 use Rattle.far_table.specs.StateOf.{book_state}
 use Rattle.far_table.proofs.BookRounds.{looks}
-use Rattle.far_table.proofs.BookSeatLemmas.{book_stays, scope_found, scope_inside, seat_made, shape_stays, stands_after, view_is}
+use Rattle.far_table.proofs.BookSeatLemmas.{scope_found, scope_inside, seat_keeps, seat_made, view_is}
 use Rattle.far_table.proofs.SeatLemmas.{inside}
 use Rattle.far_table.proofs.book_hand.BookSeatNear.look.Goals as goal
 
@@ -16,10 +16,7 @@ pub invariant_of-self : goal.invariant_of-self
 invariant_of-self g c =
     let i = c.args.self.now.fits in
     let h = c.load.ensures in
-    let t = (h.2 c.args.owner refl).1 in record {
-      fits = book_stays _ _ _ _ _ t _ _ _ _ _ _ _ i h.0 (shape_stays _ _ _ _ _ _ _ i refl refl refl refl i.plain);
-      stands = stands_after _ _ _ _ _ t;
-    }
+    let k = seat_keeps _ _ _ _ _ (h.2 c.args.owner refl).1 _ _ _ _ _ _ i h.0 refl refl refl refl i.plain in record { fits = k.0; stands = k.1 }
 
 pub returns-clause-scope : goal.returns-clause-scope
 returns-clause-scope g c = (c.load.ensures.2 c.args.owner refl).0

@@ -1,13 +1,9 @@
-use Rattle.std.proofs.Common.{◌≡◌, refl, sym, ap, subst}
-use Rattle.far_core.specs.events.Step.{after}
-use Rattle.far_core.specs.state.State.{State}
-use Rattle.far_core.specs.declared.event.Event.TheVariants.{Name}
-use Rattle.far_hand.specs.Known.{Forgets}
+use Rattle.std.proofs.Common.{refl, ap}
 use Rattle.far_table.specs.Layout.{cell_at}
 use Rattle.far_table.specs.Stands.{book_of}
 use Rattle.far_table.specs.StateOf.{book_state}
 use Rattle.far_table.specs.View.{BookView}
-use Rattle.far_table.proofs.BookSeatLemmas.{book_stays, cell_inside, seat_made, shape_stays, stands_after, view_is}
+use Rattle.far_table.proofs.BookSeatLemmas.{cell_inside, seat_forgets, seat_kept, seat_keeps, seat_made, view_is}
 use Rattle.far_table.proofs.Exchanges.{book_lost, book_won}
 use Rattle.far_table.proofs.NameSteps.{exchanged_keeps, exchanges, named_done, named_forgets}
 use Rattle.far_table.proofs.SeatLemmas.{inside}
@@ -22,12 +18,8 @@ compare_exchange-found-requires g c =
 pub invariant_of-self : goal.invariant_of-self
 invariant_of-self g c =
     let i = c.args.self.now.fits in
-    let h = c.compare_exchange-found.ensures in
-    let t = (h.2 c.args.pointer refl).1 in
-    let k = exchanged_keeps c.args.pointer c.args.old c.args.new c.compare_exchange-found.result (book_of c.args.self.now.seat.me.0) i.plain in record {
-      fits = book_stays _ _ _ _ _ t _ _ _ _ _ _ _ i h.0 (shape_stays _ _ _ _ _ _ _ i k.logs k.mutators k.epoch k.rest k.plain);
-      stands = stands_after _ _ _ _ _ t;
-    }
+    let k = exchanged_keeps c.args.pointer c.args.old c.args.new c.compare_exchange-found.result (book_of c.args.self.now.seat.me.0) i.plain in
+    let m = seat_keeps _ _ _ _ _ (c.compare_exchange-found.ensures.2 c.args.pointer refl).1 _ _ _ _ _ _ i c.compare_exchange-found.ensures.0 k.logs k.mutators k.epoch k.rest k.plain in record { fits = m.0; stands = m.1 }
 
 pub returns-then-found-old-clause-made : goal.returns-then-found-old-clause-made
 returns-then-found-old-clause-made g c = (
@@ -37,15 +29,13 @@ returns-then-found-old-clause-made g c = (
 
 pub returns-then-found-old-clause-done : goal.returns-then-found-old-clause-done
 returns-then-found-old-clause-done g c =
-    let b = book_of c.args.self.now.seat.me.0 in
     let t = book_won (λ (z : BookView). z) _ _ (c.compare_exchange-found.ensures.2 c.args.pointer refl).1 c.if-found-old.true in
-    subst (λ (z : State). z ≡ record (after (book_state b) (Name c.args.pointer c.args.old c.args.new)) { word = z.word }) (sym (ap book_state (view_is _ _ _ _ _ t))) (named_done b c.args.pointer c.args.old c.args.new c.requires.legal c.requires.seen)
+    seat_kept _ _ _ _ _ t (named_done (book_of c.args.self.now.seat.me.0) c.args.pointer c.args.old c.args.new c.requires.legal c.requires.seen)
 
 pub returns-then-found-old-clause-forgot : goal.returns-then-found-old-clause-forgot
 returns-then-found-old-clause-forgot g c =
-    let b = book_of c.args.self.now.seat.me.0 in
     let t = book_won (λ (z : BookView). z) _ _ (c.compare_exchange-found.ensures.2 c.args.pointer refl).1 c.if-found-old.true in
-    subst (Forgets (book_state b)) (sym (ap book_state (view_is _ _ _ _ _ t))) (named_forgets b c.args.pointer c.args.old c.args.new c.requires.legal c.requires.seen)
+    seat_forgets _ _ _ _ _ t (named_forgets (book_of c.args.self.now.seat.me.0) c.args.pointer c.args.old c.args.new c.requires.legal c.requires.seen)
 
 pub returns-else-found-old-clause-kept : goal.returns-else-found-old-clause-kept
 returns-else-found-old-clause-kept g c =

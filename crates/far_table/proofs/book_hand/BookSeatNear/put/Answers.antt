@@ -4,7 +4,7 @@ use Rattle.far_table.specs.BookSeats.{book_in}
 use Rattle.far_table.specs.Layout.{data_at}
 use Rattle.far_table.specs.StateOf.{book_state}
 use Rattle.far_table.proofs.BookKnown.{plain_more}
-use Rattle.far_table.proofs.BookSeatLemmas.{book_stays, seat_made, shape_stays, stands_after, view_is, word_inside}
+use Rattle.far_table.proofs.BookSeatLemmas.{seat_keeps, seat_made, view_is, word_inside}
 use Rattle.far_table.proofs.BookWords.{put_after, writes_word}
 use Rattle.far_table.proofs.SeatLemmas.{inside}
 use Rattle.far_table.proofs.book_hand.BookSeatNear.put.Goals as goal
@@ -20,10 +20,7 @@ pub invariant_of-self : goal.invariant_of-self
 invariant_of-self g c =
     let i = c.args.self.now.fits in
     let h = c.store.ensures in
-    let t = (h.2 c.args.log c.args.at c.requires.legal.3 refl).1 in record {
-      fits = book_stays _ _ _ _ _ t _ _ _ _ _ _ _ i h.0 (shape_stays _ _ _ _ _ _ _ i refl refl refl refl (plain_more (book_in c.args.self.now) (c.args.log * LOG_WORDS + c.args.at) c.args.word i.plain c.ranges.word.fits));
-      stands = stands_after _ _ _ _ _ t;
-    }
+    let k = seat_keeps _ _ _ _ _ (h.2 c.args.log c.args.at c.requires.legal.3 refl).1 _ _ _ _ _ _ i h.0 refl refl refl refl (plain_more (book_in c.args.self.now) (c.args.log * LOG_WORDS + c.args.at) c.args.word i.plain c.ranges.word.fits) in record { fits = k.0; stands = k.1 }
 
 pub returns-clause-set : goal.returns-clause-set
 returns-clause-set g c =

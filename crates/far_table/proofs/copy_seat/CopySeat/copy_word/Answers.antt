@@ -39,10 +39,7 @@ pub overflow_add-job-2 : goal.overflow_add-job-2
 overflow_add-job-2 g c =
     let job = job_kept c.job.inside.at c.job.inside.offered c.job.inside.from c.job.inside.end in
     let own = own_here c.job.view_is c.self.view_is c.requires.own in
-    let to = next_to _ _ _ _ _ c.job.invariant in
-    let fits = (job_fits _ job own c.self.invariant.6).1 in
-    let left = some_left _ _ _ _ _ c.job.invariant c.if-job.false in
-    omega (arith, to, fits, left)
+    omega (arith, next_to _ _ _ _ _ c.job.invariant, (job_fits _ job own c.self.invariant.6).1, some_left _ _ _ _ _ c.job.invariant c.if-job.false)
 
 pub invariant_of-self : goal.invariant_of-self
 invariant_of-self g c =
@@ -58,10 +55,9 @@ returns-clause-own g c =
     let k = c.job.invariant in
     let job = job_kept c.job.inside.at c.job.inside.offered c.job.inside.from c.job.inside.end in
     let own = own_here c.job.view_is c.self.view_is c.requires.own in
-    let left = some_left _ _ _ _ _ k c.if-job.false in
     let r = c.load-word.ensures.2 job.copied job.task own.task (next_from _ _ _ _ _ k) in
     subst (λ (z : CopyJob). IsJobOf z (copier_of c.store.new.seat.me.0)) (sym (kept_on _ _ _ _ _ k))
-    (own_on _ _ job own _ r _ (c.store.ensures.2 job.copied job.task (task_on _ _ job own _ r) (next_to _ _ _ _ _ k)) (omega (arith, left)))
+    (own_on _ _ job own _ r _ (c.store.ensures.2 job.copied job.task (task_on _ _ job own _ r) (next_to _ _ _ _ _ k)) (omega (arith, some_left _ _ _ _ _ k c.if-job.false)))
 
 pub returns-clause-copied : goal.returns-clause-copied
 returns-clause-copied g c = λ _.

@@ -1,56 +1,44 @@
 use Rattle.std.proofs.Common.{◌≡◌, ◌∙◌, None, inr, refl, sym, ap, subst, arith}
 use Rattle.far_word.specs.Job.{job_in}
 use Rattle.far_core.specs.declared.event.Event.TheVariants.{Claim}
-use Rattle.far_core.specs.declared.event.Reply.TheVariants.{Word}
 use Rattle.far_table.specs.CopierViews.{claimed_view}
-use Rattle.far_table.specs.Layout.{job_at}
 use Rattle.far_table.specs.Seats.{CopierSeated}
-use Rattle.far_table.specs.Tells.{CopierMade}
-use Rattle.far_table.specs.View.{CopierView}
-use Rattle.far_table.proofs.CopySeatLemmas.{copier_made, copier_stays, taken_fits, taken_word, view_after}
+use Rattle.far_table.proofs.CopySeatLemmas.{copier_made, copier_stays, seat_same, staged_word, view_after}
 use Rattle.far_table.proofs.CopySteps.{claims}
 use Rattle.far_table.proofs.Exchanges.{copier_lost, copier_won}
-use Rattle.far_table.proofs.SeatLemmas.{inside}
+use Rattle.far_table.proofs.SeatLemmas.{job_inside}
 use Rattle.far_table.proofs.copy_seat.CopySeat.take.Goals as goal
 
 pub overflow_add-word : goal.overflow_add-word
-overflow_add-word g c = let i = c.self.invariant in let fits = taken_fits c.peek-word.result _ _ (c.if-not-is_offered.ensures.offers refl) i.5 i.3 in omega (arith, fits)
+overflow_add-word g c = let i = c.self.invariant in let fits = (staged_word c.peek-word.result _ _ 1 (c.if-not-is_offered.ensures.offers refl) i.5 (omega arith) i.3).1 in omega (arith, fits)
 
 pub compare_exchange-found-requires : goal.compare_exchange-found-requires
 compare_exchange-found-requires g c =
     let i = c.self.invariant in
-    let low = c.requires.job in
     let offers = c.if-not-is_offered.ensures.offers refl in
     let free = subst (λ (z : CopierSeated). z.view.task ≡ None) (sym (c.self.view_is ∙ c.peek-word.ensures.same)) c.requires.free in
-    let t = inside _ _ _ (job_at c.args.number) i.0 (ap (λ t. t.shared.table_id) c.deref.ensures) i.1 (omega arith) in
-    (t.0, t.1, claims _ _ _ i.2 c.args.number c.peek-word.result _ (job_in c.peek-word.result) low c.peek-word.type_inv free offers (taken_word _ _ _ offers i.3))
+    let t = job_inside _ _ _ c.args.number i.0 (ap (λ t. t.shared.table_id) c.deref.ensures) i.1 c.requires.job in
+    (t.0, t.1, claims _ _ _ i.2 c.args.number c.peek-word.result _ c.requires.job c.peek-word.type_inv free offers (staged_word _ _ _ 1 offers i.5 (omega arith) i.3).0)
 
 pub invariant_of-self : goal.invariant_of-self
-invariant_of-self g c = let h = c.compare_exchange-found.ensures in copier_stays _ _ _ _ _ _ _ _ _ _ c.self.invariant h.0 (h.2 c.args.number _ refl (c.if-not-is_offered.ensures.offers refl))
+invariant_of-self g c = let h = c.compare_exchange-found.ensures in copier_stays _ _ _ _ _ _ _ _ _ _ c.self.invariant h.0 (h.2 c.args.number refl)
 
 pub invariant_of-self-2 : goal.invariant_of-self-2
-invariant_of-self-2 g c = let h = c.compare_exchange-found.ensures in copier_stays _ _ _ _ _ _ _ _ _ _ c.self.invariant h.0 (h.2 c.args.number _ refl (c.if-not-is_offered.ensures.offers refl))
+invariant_of-self-2 g c = let h = c.compare_exchange-found.ensures in copier_stays _ _ _ _ _ _ _ _ _ _ c.self.invariant h.0 (h.2 c.args.number refl)
 
 pub returns-clause-took : goal.returns-clause-took
 returns-clause-took g c =
-    let offers = c.if-not-is_offered.ensures.offers refl in
     let before = ap (λ (z : CopierSeated). z.view) (c.self.view_is ∙ c.peek-word.ensures.same) in
-    let t = copier_won _ _ (c.compare_exchange-found.ensures.2 c.args.number _ refl offers) c.if-found-word.false in record {
+    let t = copier_won _ _ (c.compare_exchange-found.ensures.2 c.args.number refl) c.if-found-word.false in record {
       found = c.peek-word.result;
-      offers = offers;
+      offers = c.if-not-is_offered.ensures.offers refl;
       peeks = c.peek-word.ensures.event;
-      claims = copier_made _ _ _ (λ (v : CopierView). Claim v.number c.args.number c.peek-word.result) _ _ before t;
+      claims = copier_made _ _ _ (λ v. Claim v.number c.args.number c.peek-word.result) _ _ before t;
       view = view_after _ _ _ _ _ (claimed_view c.args.number (job_in c.peek-word.result)) before t;
     }
 
 pub returns-then-found-word-clause-missed : goal.returns-then-found-word-clause-missed
 returns-then-found-word-clause-missed g c = λ _.
-    let before = c.self.view_is ∙ c.peek-word.ensures.same in
-    let lost = c.if-found-word.true in
-    let t = copier_lost _ _ (c.compare_exchange-found.ensures.2 c.args.number _ refl (c.if-not-is_offered.ensures.offers refl)) lost in
-    let view = view_after _ _ _ _ _ (λ (v : CopierView). v) (ap (λ (z : CopierSeated). z.view) before) t in
-    let table = c.compare_exchange-found.ensures.0 ∙ ap (λ (z : CopierSeated). z.table) before in
-    let made = copier_made _ _ _ (λ (v : CopierView). Claim v.number c.args.number c.peek-word.result) _ _ (ap (λ (z : CopierSeated). z.view) before) t in (
-      (λ j. record { table = table j; view = view j }),
-      (c.peek-word.result, c.peek-word.ensures.event, inr (c.compare_exchange-found.result, lost, subst (CopierMade (Claim c.args.self.now.view.number c.args.number c.peek-word.result) c.args.self.now.view (Word c.compare_exchange-found.result)) view made)),
-    )
+    let t = copier_lost _ _ (c.compare_exchange-found.ensures.2 c.args.number refl) c.if-found-word.true in
+    let k = seat_same (λ v. Claim v.number c.args.number c.peek-word.result) (c.self.view_is ∙ c.peek-word.ensures.same) c.compare_exchange-found.ensures.0 t in
+    (k.0, (c.peek-word.result, c.peek-word.ensures.event, inr (c.compare_exchange-found.result, c.if-found-word.true, k.1)))

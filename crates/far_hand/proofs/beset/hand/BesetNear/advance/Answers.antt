@@ -7,15 +7,13 @@ use Rattle.far_core.specs.state.CoreState.{core_state}
 use Rattle.far_core.specs.state.State.{State}
 use Rattle.far_hand.specs.BesetView.{beset_view}
 use Rattle.far_hand.specs.Known.{Forgets}
-use Rattle.far_hand.specs.Masked.{masked, word_at, is_counted, AllFind, AllFindJobs, CountsOnRest}
+use Rattle.far_hand.specs.Masked.{masked, word_at, is_counted, AllFind, AllFindJobs}
 use Rattle.far_hand.specs.Rounds.{MayChoose}
-use Rattle.far_hand.proofs.Counting.{counts_none}
 use Rattle.far_hand.proofs.Reading.{forgets, header_known}
 use Rattle.far_hand.proofs.RoundSteps.{may_advance}
 use Rattle.far_core.specs.declared.event.Reply.TheVariants.{Epoch, Refused}
-use Rattle.far_hand.proofs.Making.{spent_made}
 use Rattle.far_hand.specs.MayBe.{Made}
-use Rattle.far_hand.proofs.Making.{turn_may_be, turned_made}
+use Rattle.far_hand.proofs.Making.{none_rest, spent_made, turn_may_be, turn_then}
 use Rattle.far_hand.proofs.beset.hand.BesetNear.advance.Goals as goal
 
 pub advance-epoch-requires : goal.advance-epoch-requires
@@ -34,7 +32,7 @@ invariant_of-self c =
       counted_sized = c.forget.ensures.len ∙ (hand.counted_sized ∙ ap (λ (u : State). LOG_WORDS * u.logs) (sym c.advance-epoch.ensures.state));
       finds = subst (λ (u : State). AllFind found u.cell) (sym c.advance-epoch.ensures.state) hand.finds;
       finds_jobs = subst (λ (u : State). AllFindJobs (word_at hand.jobs) u.copying.word) (sym c.advance-epoch.ensures.state) hand.finds_jobs;
-      counts = subst (λ (k : ℕ → Bool). CountsOnRest t found k) (sym c.forget.ensures.none) (counts_none t found);
+      counts = none_rest t found (is_counted c.forget.new.counted.items) c.forget.ensures.none;
     }
 
 pub returns-then-not-may_rise : goal.returns-then-not-may_rise
@@ -80,11 +78,6 @@ returns c =
       refused = tt;
       unchanged = tt;
       set = λ x. absurd x;
-      made = record {
-        turn = turn_may_be c.args.self.now hand c.turn.ensures.view c.turn.ensures.made c.turn.ensures.change;
-        call = turned_made c.args.self.now hand (Advance logs) (Epoch c.advance-epoch.result) (core_state c.advance-epoch.new.self) c.turn.ensures.made own c.advance-epoch.ensures.state c.advance-epoch.ensures.epoch;
-        list = c.turn.ensures.events;
-        past = c.turn.ensures.next;
-      };
+      made = turn_then c.args.self.now hand (Advance logs) (Epoch c.advance-epoch.result) c.turn.ensures.view c.turn.ensures.made c.turn.ensures.change c.turn.ensures.events c.turn.ensures.next own c.advance-epoch.ensures.state c.advance-epoch.ensures.epoch refl refl;
       spent = tt;
     }

@@ -7,13 +7,13 @@ use Rattle.far_core.specs.state.CoreState.{core_state}
 use Rattle.far_core.specs.state.State.{State, put}
 use Rattle.far_hand.specs.BesetView.{beset_view}
 use Rattle.far_hand.specs.Known.{Forgets}
-use Rattle.far_hand.specs.Masked.{masked, word_at, is_counted, AllFind, AllFindJobs, CountsOnRest}
-use Rattle.far_hand.proofs.Counting.{counts_none, finds_named}
+use Rattle.far_hand.specs.Masked.{masked, word_at, is_counted, AllFind, AllFindJobs}
+use Rattle.far_hand.proofs.Counting.{finds_named}
 use Rattle.far_hand.proofs.Reading.{forgets, header_known}
 use Rattle.far_core.specs.declared.event.Reply.TheVariants.{Word}
 use Rattle.far_core.specs.events.Legal.{Legal}
 use Rattle.far_hand.proofs.Finding.{near_found}
-use Rattle.far_hand.proofs.Making.{turn_may_be, turned_made}
+use Rattle.far_hand.proofs.Making.{none_rest, turn_then}
 use Rattle.far_hand.proofs.beset.hand.BesetNear.clear.Goals as goal
 
 pub invariant_of-self : goal.invariant_of-self
@@ -32,7 +32,7 @@ invariant_of-self c =
       counted_sized = c.forget.ensures.len ∙ (hand.counted_sized ∙ ap (λ (u : State). LOG_WORDS * u.logs) (sym c.clear-cell.ensures.state));
       finds = subst (λ (u : State). AllFind (word_at c.find.new.found.items) u.cell) (sym c.clear-cell.ensures.state) finds;
       finds_jobs = subst (λ (u : State). AllFindJobs (word_at hand.jobs) u.copying.word) (sym c.clear-cell.ensures.state) hand.finds_jobs;
-      counts = subst (λ (k : ℕ → Bool). CountsOnRest t (word_at c.find.new.found.items) k) (sym c.forget.ensures.none) (counts_none t (word_at c.find.new.found.items));
+      counts = none_rest t (word_at c.find.new.found.items) (is_counted c.forget.new.counted.items) c.forget.ensures.none;
     }
 
 pub returns-clause-forgot : goal.returns-clause-forgot
@@ -57,9 +57,4 @@ returns-clause-made c =
     let near = legal.1 in
     let x = near_found (word_at hand.found.items p) (s.cell p) (hand.finds p) near.0 near.1 near.2 near.3 near.4 in
     let own : Legal s (Clear p) = (legal.0, (near.0, near.1, near.2, x.marks, x.near)) in
-    record {
-      turn = turn_may_be c.args.self.now hand c.turn.ensures.view c.turn.ensures.made c.turn.ensures.change;
-      call = turned_made c.args.self.now hand (Clear p) (Word c.clear-cell.result) (core_state c.clear-cell.new.self) c.turn.ensures.made own c.clear-cell.ensures.state c.clear-cell.ensures.word;
-      list = c.turn.ensures.events;
-      past = c.turn.ensures.next;
-    }
+    turn_then c.args.self.now hand (Clear p) (Word c.clear-cell.result) c.turn.ensures.view c.turn.ensures.made c.turn.ensures.change c.turn.ensures.events c.turn.ensures.next own c.clear-cell.ensures.state c.clear-cell.ensures.word refl refl

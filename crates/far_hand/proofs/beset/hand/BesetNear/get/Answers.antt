@@ -1,4 +1,4 @@
-use Rattle.std.proofs.Common.{sym, subst, ap, ◌∙◌, ◌≡◌, ◌*◌, ◌+◌, ℕ, Bool}
+use Rattle.std.proofs.Common.{refl, sym, subst, ap, ◌∙◌, ◌≡◌, ◌*◌, ◌+◌, ℕ, Bool}
 use Rattle.far_word.specs.declared.sizes.TheConstants.{CELLS, LOG_WORDS}
 use Rattle.far_core.specs.declared.event.Event.TheVariants.{Get}
 use Rattle.far_core.specs.events.Get.{after_get}
@@ -10,7 +10,7 @@ use Rattle.far_hand.specs.Masked.{masked, word_at, is_counted, recounted, AllFin
 use Rattle.far_hand.proofs.Counting.{counts_read}
 use Rattle.far_hand.proofs.Reading.{Gets, gets, may_free, stays_after}
 use Rattle.far_core.specs.declared.event.Reply.TheVariants.{Word}
-use Rattle.far_hand.proofs.Making.{turn_may_be, turned_made}
+use Rattle.far_hand.proofs.Making.{turn_then}
 use Rattle.far_hand.proofs.beset.hand.BesetNear.get.Goals as goal
 
 pub get-word-requires : goal.get-word-requires
@@ -69,10 +69,5 @@ returns c =
       rest = all.rest;
       exact = λ x. absurd x;
       set = λ x. absurd x;
-      made = record {
-        turn = turn_may_be c.args.self.now hand c.turn.ensures.view c.turn.ensures.made c.turn.ensures.change;
-        call = turned_made c.args.self.now hand (Get c.args.log c.args.at free) (Word c.get-word.result) (core_state c.get-word.new.self) c.turn.ensures.made own c.get-word.ensures.state c.get-word.ensures.word;
-        list = c.turn.ensures.events;
-        past = c.turn.ensures.next;
-      };
+      made = turn_then c.args.self.now hand (Get c.args.log c.args.at free) (Word c.get-word.result) c.turn.ensures.view c.turn.ensures.made c.turn.ensures.change c.turn.ensures.events c.turn.ensures.next own c.get-word.ensures.state c.get-word.ensures.word refl refl;
     }

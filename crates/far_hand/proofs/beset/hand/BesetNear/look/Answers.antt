@@ -1,4 +1,4 @@
-use Rattle.std.proofs.Common.{sym, subst, ap, ◌∙◌, ◌≡◌, ◌*◌}
+use Rattle.std.proofs.Common.{refl, sym, subst, ap, ◌∙◌, ◌≡◌, ◌*◌}
 use Rattle.far_word.specs.declared.sizes.TheConstants.{CELLS, LOG_WORDS}
 use Rattle.far_word.specs.Scope.{scope_of}
 use Rattle.far_core.specs.events.Look.{shows_clear}
@@ -12,7 +12,7 @@ use Rattle.far_core.specs.declared.event.Event.TheVariants.{Look}
 use Rattle.far_core.specs.declared.event.Reply.TheVariants.{Word}
 use Rattle.far_core.specs.events.Legal.{Legal}
 use Rattle.far_hand.specs.MayBe.{beside_itself}
-use Rattle.far_hand.proofs.Making.{turn_may_be, turned_made}
+use Rattle.far_hand.proofs.Making.{turn_then}
 use Rattle.far_hand.proofs.beset.hand.BesetNear.look.Goals as goal
 
 pub invariant_of-self : goal.invariant_of-self
@@ -46,11 +46,6 @@ returns c =
           ∙ ap (λ (u : State). looked_at u c.args.owner c.look.result) c.turn.ensures.view);
       exact = λ x. absurd x;
       set = λ x. absurd x;
-      made = record {
-        turn = turn_may_be c.args.self.now hand c.turn.ensures.view c.turn.ensures.made c.turn.ensures.change;
-        call = turned_made c.args.self.now hand (Look c.args.owner) (Word c.look.result) (core_state c.look.new.self) c.turn.ensures.made legal c.look.ensures.state c.look.ensures.word;
-        list = c.turn.ensures.events;
-        past = c.turn.ensures.next;
-      };
+      made = turn_then c.args.self.now hand (Look c.args.owner) (Word c.look.result) c.turn.ensures.view c.turn.ensures.made c.turn.ensures.change c.turn.ensures.events c.turn.ensures.next legal c.look.ensures.state c.look.ensures.word refl refl;
       saw = ∣ (core_state c.look.new.self, beside_itself (core_state c.look.new.self) found counted jobs c.look.new.self.law (subst (λ (u : State). AllFind found u.cell) (sym c.look.ensures.state) hand.finds) (subst (λ (u : State). AllFindJobs jobs u.copying.word) (sym c.look.ensures.state) hand.finds_jobs), ap (λ (u : State). u.scope c.args.owner) c.look.ensures.state ∙ is) ∣₁;
     }

@@ -1,4 +1,4 @@
-use Rattle.std.proofs.Common.{sym, subst, ap, ◌∙◌, ◌≡◌, ◌*◌, ℕ, bit_or}
+use Rattle.std.proofs.Common.{refl, sym, subst, ap, ◌∙◌, ◌≡◌, ◌*◌, ℕ, bit_or}
 use Rattle.far_word.specs.declared.sizes.TheConstants.{CELLS, LOG_WORDS}
 use Rattle.far_core.specs.declared.event.Event.TheVariants.{Mark}
 use Rattle.far_core.specs.events.Legal.{Legal}
@@ -9,7 +9,7 @@ use Rattle.far_hand.specs.Masked.{word_at, is_counted, AllFind, AllFindJobs, Cou
 use Rattle.far_hand.proofs.Counting.{finds_named}
 use Rattle.far_hand.proofs.EvacMarks.{with_evac, counts_marked, legal_mark}
 use Rattle.far_core.specs.declared.event.Reply.TheVariants.{Word}
-use Rattle.far_hand.proofs.Making.{turn_may_be, turned_made}
+use Rattle.far_hand.proofs.Making.{turn_then}
 use Rattle.far_hand.proofs.beset.hand.BesetNear.mark.Goals as goal
 
 pub invariant_of-self : goal.invariant_of-self
@@ -38,9 +38,4 @@ returns-clause-made c =
     let hand = c.turn.new.self in
     let legal : Legal (beset_view hand) (Mark c.args.pointer) = subst (λ (u : State). Legal u (Mark c.args.pointer)) (sym c.turn.ensures.view) c.requires.legal in
     let own = legal_mark (core_state hand.core) hand.core.law (word_at hand.found.items) (is_counted hand.counted.items) hand.finds c.args.pointer legal in
-    record {
-      turn = turn_may_be c.args.self.now hand c.turn.ensures.view c.turn.ensures.made c.turn.ensures.change;
-      call = turned_made c.args.self.now hand (Mark c.args.pointer) (Word c.mark-cell.result) (core_state c.mark-cell.new.self) c.turn.ensures.made own c.mark-cell.ensures.state c.mark-cell.ensures.word;
-      list = c.turn.ensures.events;
-      past = c.turn.ensures.next;
-    }
+    turn_then c.args.self.now hand (Mark c.args.pointer) (Word c.mark-cell.result) c.turn.ensures.view c.turn.ensures.made c.turn.ensures.change c.turn.ensures.events c.turn.ensures.next own c.mark-cell.ensures.state c.mark-cell.ensures.word refl refl

@@ -1,4 +1,4 @@
-use Rattle.std.proofs.Common.{sym, subst, ap, ◌∙◌, ◌≡◌, ◌*◌, ℕ, Bool, false}
+use Rattle.std.proofs.Common.{refl, sym, subst, ap, ◌∙◌, ◌≡◌, ◌*◌, ℕ, Bool, false}
 use Rattle.far_word.specs.declared.sizes.TheConstants.{CELLS, LOG_WORDS}
 use Rattle.far_core.specs.declared.event.Event.TheVariants.{Name}
 use Rattle.far_core.specs.events.Legal.{Legal}
@@ -9,11 +9,11 @@ use Rattle.far_hand.specs.BesetView.{beset_view}
 use Rattle.far_hand.specs.Finds.{Finds}
 use Rattle.far_hand.specs.Known.{KnowsLeaving}
 use Rattle.far_hand.specs.Masked.{masked, word_at, is_counted, AllFind, AllFindJobs, CountsOnRest}
-use Rattle.far_hand.proofs.Counting.{counts_found, counts_none, finds_named, finds_put}
+use Rattle.far_hand.proofs.Counting.{counts_found, finds_named, finds_put}
 use Rattle.far_hand.proofs.Finding.{finds_seen}
 use Rattle.far_hand.proofs.Naming.{Names, legal_name, names, cells_named, jobs_named, sizes_named, won, lost, lost_word, lost_state}
 use Rattle.far_core.specs.declared.event.Reply.TheVariants.{Done, Word}
-use Rattle.far_hand.proofs.Making.{turn_may_be, turned_made}
+use Rattle.far_hand.proofs.Making.{none_rest, turn_then}
 use Rattle.far_hand.proofs.beset.hand.BesetNear.name.Goals as goal
 
 pub name-requires : goal.name-requires
@@ -45,7 +45,7 @@ invariant_of-self c =
       counted_sized = c.forget.ensures.len ∙ (hand.counted_sized ∙ ap (λ n. LOG_WORDS * n) (sym sizes.1 ∙ ap (λ (u : State). u.logs) (sym c.name.ensures.state)));
       finds = subst (λ (f : ℕ → ℕ). AllFind (word_at c.find.new.found.items) f) (sym cells) named;
       finds_jobs = subst (AllFindJobs jobs) (sym (ap (λ (u : State). u.copying.word) c.name.ensures.state ∙ jobs_named s hand.core.law found counted jobs hand.finds hand.finds_jobs p old new legal.0 c.ranges.new.fits legal seen won_it)) hand.finds_jobs;
-      counts = subst (λ (k : ℕ → Bool). CountsOnRest t (word_at c.find.new.found.items) k) (sym c.forget.ensures.none) (counts_none t (word_at c.find.new.found.items));
+      counts = none_rest t (word_at c.find.new.found.items) (is_counted c.forget.new.counted.items) c.forget.ensures.none;
     }
 
 pub invariant_of-self-in-Err : goal.invariant_of-self-in-Err
@@ -132,12 +132,7 @@ returns-in-Ok-clause-made c =
     let p = c.args.pointer in
     let legal : Legal (beset_view hand) (Name p c.args.old c.args.new) = subst (λ (u : State). Legal u (Name p c.args.old c.args.new)) (sym c.turn.ensures.view) c.requires.legal in
     let own = legal_name s hand.core.law (word_at hand.found.items) (is_counted hand.counted.items) (word_at hand.jobs) hand.finds hand.finds_jobs p c.args.old c.args.new legal.0 c.ranges.new.fits legal in
-    record {
-      turn = turn_may_be c.args.self.now hand c.turn.ensures.view c.turn.ensures.made c.turn.ensures.change;
-      call = turned_made c.args.self.now hand (Name p c.args.old c.args.new) Done (core_state c.name.new.self) c.turn.ensures.made own c.name.ensures.state c.in-Ok.ensures.won;
-      list = c.turn.ensures.events;
-      past = c.turn.ensures.next;
-    }
+    turn_then c.args.self.now hand (Name p c.args.old c.args.new) Done c.turn.ensures.view c.turn.ensures.made c.turn.ensures.change c.turn.ensures.events c.turn.ensures.next own c.name.ensures.state c.in-Ok.ensures.won refl refl
 
 pub returns-in-Err-clause-lost : goal.returns-in-Err-clause-lost
 returns-in-Err-clause-lost c =
@@ -146,9 +141,4 @@ returns-in-Err-clause-lost c =
     let p = c.args.pointer in
     let legal : Legal (beset_view hand) (Name p c.args.old c.args.new) = subst (λ (u : State). Legal u (Name p c.args.old c.args.new)) (sym c.turn.ensures.view) c.requires.legal in
     let own = legal_name s hand.core.law (word_at hand.found.items) (is_counted hand.counted.items) (word_at hand.jobs) hand.finds hand.finds_jobs p c.args.old c.args.new legal.0 c.ranges.new.fits legal in
-    record {
-      turn = turn_may_be c.args.self.now hand c.turn.ensures.view c.turn.ensures.made c.turn.ensures.change;
-      call = turned_made c.args.self.now hand (Name p c.args.old c.args.new) (Word c.in-Err.found) (core_state c.name.new.self) c.turn.ensures.made own c.name.ensures.state c.in-Err.ensures.found;
-      list = c.turn.ensures.events;
-      past = c.turn.ensures.next;
-    }
+    turn_then c.args.self.now hand (Name p c.args.old c.args.new) (Word c.in-Err.found) c.turn.ensures.view c.turn.ensures.made c.turn.ensures.change c.turn.ensures.events c.turn.ensures.next own c.name.ensures.state c.in-Err.ensures.found refl refl

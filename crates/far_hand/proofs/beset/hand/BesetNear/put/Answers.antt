@@ -10,7 +10,7 @@ use Rattle.far_hand.specs.Masked.{masked, word_at, is_counted, AllFind, AllFindJ
 use Rattle.far_hand.proofs.Counting.{counts_past}
 use Rattle.far_hand.proofs.Reading.{put_view}
 use Rattle.far_core.specs.declared.event.Reply.TheVariants.{Done}
-use Rattle.far_hand.proofs.Making.{turn_may_be, turned_made}
+use Rattle.far_hand.proofs.Making.{turn_then}
 use Rattle.far_hand.proofs.beset.hand.BesetNear.put.Goals as goal
 
 pub invariant_of-self : goal.invariant_of-self
@@ -42,10 +42,5 @@ returns c =
           ∙ (ap (λ (k : ℕ → Bool). masked (record s { word = put s.word a c.args.word }) found k jobs) c.count.ensures.words
           ∙ (put_view s found (is_counted hand.counted.items) jobs a c.args.word
           ∙ ap (λ (u : State). after u (Put c.args.log c.args.at c.args.word)) c.turn.ensures.view));
-      made = record {
-        turn = turn_may_be c.args.self.now hand c.turn.ensures.view c.turn.ensures.made c.turn.ensures.change;
-        call = turned_made c.args.self.now hand (Put c.args.log c.args.at c.args.word) Done (core_state c.put.new.self) c.turn.ensures.made legal c.put.ensures.state refl;
-        list = c.turn.ensures.events;
-        past = c.turn.ensures.next;
-      };
+      made = turn_then c.args.self.now hand (Put c.args.log c.args.at c.args.word) Done c.turn.ensures.view c.turn.ensures.made c.turn.ensures.change c.turn.ensures.events c.turn.ensures.next legal c.put.ensures.state refl refl refl;
     }

@@ -8,7 +8,7 @@ use Rattle.far_core.specs.declared.event.Reply.TheVariants.{Word}
 use Rattle.far_core.specs.events.Legal.{Legal}
 use Rattle.far_core.specs.state.State.{State}
 use Rattle.far_hand.specs.BesetView.{beset_view}
-use Rattle.far_hand.proofs.Making.{turn_may_be, turned_made}
+use Rattle.far_hand.proofs.Making.{turn_then}
 use Rattle.far_hand.proofs.beset.hand.BesetNear.see.Goals as goal
 
 pub invariant_of-self : goal.invariant_of-self
@@ -32,9 +32,4 @@ returns-clause-made c =
     let hand = c.turn.new.self in
     let s = core_state hand.core in
     let legal : Legal (beset_view hand) (See c.args.pointer) = subst (λ (u : State). Legal u (See c.args.pointer)) (sym c.turn.ensures.view) c.requires.legal in
-    record {
-      turn = turn_may_be c.args.self.now hand c.turn.ensures.view c.turn.ensures.made c.turn.ensures.change;
-      call = turned_made c.args.self.now hand (See c.args.pointer) (Word c.see-cell.result) (s) c.turn.ensures.made legal refl c.see-cell.ensures.word;
-      list = c.turn.ensures.events;
-      past = c.turn.ensures.next;
-    }
+    turn_then c.args.self.now hand (See c.args.pointer) (Word c.see-cell.result) c.turn.ensures.view c.turn.ensures.made c.turn.ensures.change c.turn.ensures.events c.turn.ensures.next legal refl c.see-cell.ensures.word refl refl
