@@ -1,15 +1,24 @@
 -- The walk that goes by the words that are there, where copies may be offered, is one of those that are allowed.
-use Rattle.std.proofs.Common.{◌≡◌, ℕ, zero, suc, Bool, true, false, cond, List, [], ◌∷◌, ◌⊎◌, inl, refl}
+use Rattle.std.proofs.Common.{◌≡◌, ℕ, zero, suc, Bool, true, false, cond, List, [], ◌∷◌, ◌⊎◌, Option, Some, None, ap, inl, refl, subst, sym, ◌∙◌}
+use mathlib.Core.Path.{fun_ext}
+use Rattle.far_word.specs.declared.job.Job.{Job}
 use Rattle.far_word.specs.declared.refused.Refused.{Refused}
-use Rattle.far_core.specs.state.State.{State}
+use Rattle.far_word.specs.declared.sizes.TheConstants.{JOBS}
+use Rattle.far_core.specs.state.Jobs.{job_at}
+use Rattle.far_core.specs.state.State.{State, put}
+use Rattle.far_core.proofs.Put.{put_both}
+use Rattle.far_hand.specs.Known.{Forgets}
 use Rattle.far_hand.proofs.Finding.{finds_same}
+use Rattle.far_hand.proofs.JobsFound.{job_is}
+use Rattle.far_book.specs.book.Collecting.{BackKnown, Collects, CollectsKnown, TakesBack, all_back, all_collected, back_known, fate_in, found_so, goes, goes_known, made_of}
 use Rattle.far_book.specs.book.Jobs.{has_job}
 use Rattle.far_evac.specs.AnyHand.{KnowsWalked}
-use Rattle.far_evac.specs.Beside.{At, Before, Behind, Dealing, DealsBeside, End, OverLogs, OverObjects, by_end, freed_if, kept_if}
-use Rattle.far_evac.specs.Copied.{CopiedIsAllowed, OverAll, OverSome, dealt_beside, over_logs, over_objects, with_log}
+use Rattle.far_evac.specs.Beside.{At, Before, Behind, CollectsFirst, Dealing, DealsBeside, End, EvacuatesBeside, OverLogs, OverObjects, by_end, freed_if, kept_if}
+use Rattle.far_evac.specs.Copied.{CopiedIsAllowed, OverAll, OverSome, after_recalling, collected_first, dealt_beside, over_logs, over_objects, walked_from, with_log}
 use Rattle.far_evac.specs.Live.{live_in}
-use Rattle.far_evac.specs.Walk.{Walked}
-use Rattle.far_evac.proofs.Walks.{walked_same}
+use Rattle.far_evac.specs.Moment.{Moment}
+use Rattle.far_evac.specs.Walk.{Walked, begun, ended, is_done}
+use Rattle.far_evac.proofs.Walks.{moment_same, walked_same}
 
 -- nothing is said of a device
 abbrev Asks : State → ℕ → Dealing → Unit {0} → Unit {0} → Type 0
@@ -87,8 +96,8 @@ logs_end (l ∷ ls) n w p why =
     let x = over_objects (live_in w.moment.core l) n w in
     let then = over_logs ls x.more (freed_if x.at l) in log_end x.end x.at l ls then p why (objects_end (live_in w.moment.core l) n w p why) (logs_end ls x.more (freed_if x.at l) p why)
 
-pub copied_is_allowed : CopiedIsAllowed
-copied_is_allowed m n u collects =
+walk_is_allowed : (m : Moment) (n : ℕ) (u : Walked) → CollectsFirst (begun m) u → let w = walked_from m n u in EvacuatesBeside m n (ended w) w.tally (is_done w)
+walk_is_allowed m n u collects =
     let x = over_logs m.collection n u in
     record {
       stood = record x.at { moment = record x.at.moment { collection = x.kept } };
@@ -99,3 +108,47 @@ copied_is_allowed m n u collects =
       counts = refl;
       over = refl;
     }
+
+-- ---- the jobs, as their words and the cells of their objects say
+put_known : (f : ℕ → ℕ) (k : ℕ) → put f k (f k) ≡ f
+put_known f k = fun_ext (λ q. put_both (λ x. x ≡ f q) f k (f k) q (λ e. ap f (sym e)) (λ _. refl))
+
+found_known : (s : State) (j : ℕ) (job : Job) → found_so s j job (s.copying.word j) (s.cell job.pointer) ≡ s
+found_known s j job =
+    ap (λ (f : ℕ → ℕ). record s { cell = put s.cell job.pointer (s.cell job.pointer); copying = record s.copying { word = f } }) (put_known s.copying.word j)
+    ∙ ap (λ (f : ℕ → ℕ). record s { cell = f }) (put_known s.cell job.pointer)
+
+job_goes : (s : State) (j : ℕ) (o : Option Job) → CollectsKnown s (goes_known s j o).0 j o (goes_known s j o).1
+job_goes s j None = (refl, refl)
+job_goes s j (Some job) =
+    let fate = fate_in s j job (s.copying.word j) (s.cell job.pointer) in
+    let t = made_of s j job fate in
+    let same : made_of (found_so s j job (s.copying.word j) (s.cell job.pointer)) j job fate ≡ t = ap (λ (x : State). made_of x j job fate) (found_known s j job) in
+    record {
+      word = s.copying.word j;
+      finds = job_is (s.copying.word j) (s.copying.word j) refl;
+      cell = s.cell job.pointer;
+      sees = finds_same (s.cell job.pointer);
+      leads = sym (ap (λ (x : State). record x { word = t.word }) same);
+      forgot = subst (λ (x : State). Forgets x t) (sym same) (record { known = λ a _. refl; headers = λ a _. refl });
+      counted = refl;
+    }
+
+jobs_go : (s : State) (n : ℕ) → Collects s n (all_collected s n).0 (all_collected s n).1
+jobs_go s zero = (refl, refl)
+jobs_go s (suc n) = let x = all_collected s n in (x.0, x.1, (goes x.0 n).1, jobs_go s n, job_goes x.0 n (job_at x.0.copying.word n), refl)
+
+back_goes : (s : State) (j : ℕ) (o : Option Job) → BackKnown s (back_known s j o) j o
+back_goes s j None = refl
+back_goes s j (Some job) = record { word = s.copying.word j; finds = job_is (s.copying.word j) (s.copying.word j) refl; is = refl }
+
+all_go_back : (s : State) (n : ℕ) → TakesBack s n (all_back s n)
+all_go_back s zero = refl
+all_go_back s (suc n) = let u = all_back s n in (u, all_go_back s n, back_goes u n (job_at u.copying.word n))
+
+pub copied_is_allowed : CopiedIsAllowed
+copied_is_allowed m n = record {
+  walk = walk_is_allowed m n;
+  whole = walk_is_allowed m n (collected_first (begun m)) ((all_collected m.core JOBS).1, jobs_go m.core JOBS, refl);
+  gives_up = (all_back m.core JOBS, all_go_back m.core JOBS, moment_same (after_recalling m));
+}

@@ -1,16 +1,15 @@
 -- Which logs an evacuation gives back where copies may be offered, and how many it counts.
-use Rattle.std.proofs.Common.{◌≡◌, ◌+◌, ◌⊎◌, ℕ, suc, Bool, true, false, cond, List, [], ◌∷◌, length, inl, inr, ap, arith, sym, refl, ◌∙◌, subst}
+use Rattle.std.proofs.Common.{◌≡◌, ◌+◌, ℕ, suc, Bool, true, false, cond, List, [], ◌∷◌, length, inl, inr, ap, arith, sym, refl, ◌∙◌, subst}
 use Rattle.std.proofs.lemmas.Bool.{cond_both, false≢true}
 use Rattle.far_word.specs.declared.refused.Refused.{Refused}
 use Rattle.far_core.specs.state.State.{State}
 use Rattle.far_evac.specs.declared.phase.Phase.TheVariants.{Idle}
-use Rattle.far_evac.specs.AnyHand.{KnowsWalked}
-use Rattle.far_evac.specs.Beside.{At, Dealing, End, Leaves, Offers, OverLogs, WalksOver, dealt_by, freed_if, kept_if, may_free}
+use Rattle.far_evac.specs.Beside.{At, Dealing, End, Leaves, Offers, OverLogs, WalksOver, dealt_by, freed_if, may_free}
 use Rattle.far_evac.specs.CopiedBack.{AreSome, CopiedComesBack, CountsBack}
 use Rattle.far_evac.specs.Live.{live_in}
 use Rattle.far_evac.specs.Moment.{Moment, Tally}
 use Rattle.far_evac.specs.RoundSteps.{among}
-use Rattle.far_evac.specs.Walk.{Drops, Goes, Moves, Walked, begun, ended, freed, is_done}
+use Rattle.far_evac.specs.Walk.{Drops, Goes, Moves, Walked, ended, freed, is_done}
 use Rattle.far_evac.proofs.BesideKept.{by_ended, objects_kept}
 use Rattle.far_evac.proofs.BesideRounds.{logs_rest}
 

@@ -5,6 +5,7 @@ use Rattle.far_word.specs.Pointer.{read_of}
 use Rattle.far_book.specs.book.Collecting.{all_back, all_collected}
 use Rattle.far_book.specs.book.Jobs.{has_job}
 use Rattle.far_evac.specs.Beside.{At, Before, Behind, CollectsFirst, End, EvacuatesBeside, dealing_of, dealt_by, freed_if, kept_if}
+use Rattle.far_evac.specs.ByCopying.{GivesUpBeside}
 use Rattle.far_evac.specs.Choosing.{after_aborting}
 use Rattle.far_evac.specs.Live.{live_in}
 use Rattle.far_evac.specs.Moment.{Moment}
@@ -57,6 +58,11 @@ walked_beside m n = walked_from m n (collected_first (begun m))
 abbrev pub after_recalling : Moment → Moment
 after_recalling m = after_aborting (record m { core = all_back m.core JOBS })
 
--- whatever became of the jobs when they were collected, the walk goes on so
+-- whatever became of the jobs when they were collected, the walk goes on so; and so do the whole evacuation, and giving up
+pub record IsAllowed (m : Moment) (n : ℕ) : Type 0 where
+  pub walk : (u : Walked) → CollectsFirst (begun m) u → let w = walked_from m n u in EvacuatesBeside m n (ended w) w.tally (is_done w)
+  pub whole : let w = walked_beside m n in EvacuatesBeside m n (ended w) w.tally (is_done w)
+  pub gives_up : GivesUpBeside m (after_recalling m)
+
 abbrev pub CopiedIsAllowed : Type 0
-CopiedIsAllowed = (m : Moment) (n : ℕ) (u : Walked) → CollectsFirst (begun m) u → let w = walked_from m n u in EvacuatesBeside m n (ended w) w.tally (is_done w)
+CopiedIsAllowed = (m : Moment) (n : ℕ) → IsAllowed m n

@@ -247,7 +247,7 @@ pub fn rounds_are_so()
     ensures emptiest_is_first { EmptiestIsFirst }
 {}
 
-/// Where copies may be offered: however the jobs were collected, the walk that goes by the words that are there is one of those that are allowed.
+/// Where copies may be offered: an evacuation that goes by the words that are there is one of those that are allowed over any hand, and so is giving up.
 pub fn copied_is_allowed()
     ensures { CopiedIsAllowed }
 {}

@@ -26,6 +26,7 @@ impl<N: Near + Drop, D: Device + Drop> Book<N, D> {
     /// by EVAC, it goes to a place where room is, in the last free log too; else it stays where it lies.
     ///
     /// `None` where its owner has dropped it: it is retired then. A refusal is [`Refused::NoRoom`]: the object lies as before.
+    #[inline(always)]
     pub fn move_now(&mut self, pointer: u16) -> Result<Option<Place>, Refused>
         requires pointer { pointer < CELLS * (N.view self.old.near).mutators }
         requires quiet { IsQuietNear (N.view self.old.near) pointer }

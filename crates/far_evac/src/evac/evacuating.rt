@@ -50,8 +50,8 @@ impl<N: Near + Drop, D: Device + Drop> Evac<N, D> {
     /// objects is given back at once; after the last the round is over, and the answer says `done`.
     ///
     /// Where copies may be offered the jobs are collected first, and the objects that were copied are counted as moved. Then it deals with the first n
-    /// that have no job, or with all: the copy of a hot one is offered, where a job is empty and there is room, which counts nothing. Each log where nothing
-    /// lies then, and which no job reads or writes, is given back.
+    /// that have no job, or with all: the copy of a hot one is offered, where a job is empty and there is room, which counts nothing. At the end of each log
+    /// that it comes to, the log is given back if nothing lies in it then, and no job reads or writes it.
     ///
     /// Refused [`Refused::Phase`] exactly where objects don't leave now, and nothing has changed; or [`Refused::Memory`] or
     /// [`Refused::Device`] as the device is, at an object that is as before. What was done before it stays, and is counted in `so_far`.
@@ -59,6 +59,7 @@ impl<N: Near + Drop, D: Device + Drop> Evac<N, D> {
     /// [`Refused::Phase`]: far_word::Refused::Phase
     /// [`Refused::Memory`]: far_word::Refused::Memory
     /// [`Refused::Device`]: far_word::Refused::Device
+    #[inline(always)]
     pub fn evacuate_some(&mut self, n: u64) -> Result<Progress, EvacFault>
         ensures { DealsWithObjects N.still N.view N.makes D.contents D.honest D.faults D.fails_at_most D.writes D.lets_go self.old self.new n result }
     {
@@ -297,6 +298,7 @@ pub(super) fn count(progress: &mut Progress, fate: Fate)
 
 // An object leaves its log as its cell says: one that its owner has dropped is retired; a hot one goes to another log, or far where no room
 // is; any other goes far. At a refusal it lies as before.
+#[inline(always)]
 pub(super) fn send_off<N: Near + Drop, D: Device + Drop>(
     book: &mut Book<N, D>,
     pointer: u16,

@@ -34,6 +34,7 @@ use far_word::Refused;
 impl<N: Near + Drop, D: Device + Drop> Evac<N, D> {
     // Collects the jobs first, and counts those that are named as moved; then walks over all chosen logs that are left, from their
     // starts. Whether each was given back.
+    #[inline(never)]
     pub(super) fn evacuate_beside(
         &mut self,
         n: u64,

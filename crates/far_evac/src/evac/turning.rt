@@ -65,7 +65,7 @@ impl<N: Near + Drop, D: Device + Drop> Evac<N, D> {
     /// [`RoundEnd::Nothing`] exactly where no log was chosen, [`RoundEnd::Done`] exactly where each was given back, and else
     /// [`RoundEnd::Limit`], with the phase in which the round stands. What the turns did is summed.
     ///
-    /// Where copies may be offered, it makes fewer than 2^48 turns.
+    /// Where copies may be offered, `turns` is below 2^48.
     ///
     /// Refused as `select` is, where nothing has changed but the policy, and as `turn` is, where the round stands where it is; `so_far` is
     /// then the sum of what was done.
