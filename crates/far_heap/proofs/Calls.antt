@@ -1,27 +1,23 @@
 -- What a mutator's own calls say of its objects' bytes.
-use Rattle.std.proofs.Common.{◌≡◌, ◌≢◌, ◌⊎◌, ℕ, ◌+◌, ◌-◌, ◌/◌, ◌%◌, ◌<◌, ◌≤◌, Bool, true, false, Option, Some, None, List, [], ◌∷◌, ◌++◌, length, get_or, take, drop, refl, sym, ap, subst, ◌∙◌, inl, inr, arith, eqb}
-use Rattle.std.specs.Prelude.{if◌then◌else◌, option_map, replicate, slice_index, slice_set}
-use Rattle.std.proofs.lemmas.Bool.{cases_eq, eq-eqb, eqb-true, false≢true, ne_eqb}
-use Rattle.std.proofs.lemmas.Grind.{get_or-set_at}
-use Rattle.std.proofs.lemmas.List.{get_or-append_right, get_or-drop, get_or-replicate, get_or-take, get_or_append_left, get_or-set_other, length-append, length-drop, length-replicate, length-set, length-take-le}
+use Rattle.std.proofs.Common.{◌≡◌, ◌≢◌, ◌⊎◌, ℕ, ◌+◌, ◌-◌, ◌/◌, ◌%◌, ◌<◌, ◌≤◌, Bool, true, false, Option, Some, None, List, [], ◌∷◌, ◌++◌, length, refl, sym, ap, subst, ◌∙◌, inl, inr, arith}
+use Rattle.std.specs.Prelude.{option_map, replicate, slice_index, slice_set}
+use Rattle.std.proofs.lemmas.Bool.{cases_eq, eq-eqb, false≢true, ne_eqb}
+use Rattle.std.proofs.lemmas.List.{get_or-replicate, length-replicate, length-set}
 use Rattle.atomic_table.specs.Seated.{TableId}
 use Rattle.far_word.specs.declared.sizes.TheConstants.{CELLS}
 use Rattle.far_heap.specs.Calls.{Call, Called, Opens, Closes, Asks, Views, Makes, Drops, Writes, LeaveByte, LeavesByte, MayCall, ReadsGiveLastWrites, SaysByte, after_call}
 use Rattle.far_heap.specs.Mine.{Mine, Object, known_bytes, len_of, newcomer, object_of, owns, rewritten, with_range, zeros_known}
+use Rattle.far_heap.proofs.Known.{row_here, row_other}
 use Rattle.far_heap.proofs.OwnRows.{length-own_row, own_row-get}
+use Rattle.far_heap.proofs.Spliced.{length-with_range, with_range_after, with_range_before, with_range_inside}
 
 -- ---- one object of a mutator is another
-
 module _ (m : Mine) (many : length m.objects ≡ CELLS) (p : ℕ) (own : owns m p ≡ true) (x : Option Object) where
   pub there : object_of (record m { objects = slice_set m.objects (p % CELLS) x }) p ≡ x
-  there = rw own (get_or-set_at m.objects (p % CELLS) (p % CELLS) x None refl (omega (arith, many)))
+  there = row_here m.number m.objects many p own x None
 
   elsewhere : (q : ℕ) → q ≢ p → object_of (record m { objects = slice_set m.objects (p % CELLS) x }) q ≡ object_of m q
-  elsewhere q ne = elim (cases_eq (q / CELLS) m.number) [
-    | inl mine ↦ (let here = eqb-true (p / CELLS) m.number own in
-        ap (λ o. if eqb (q / CELLS) m.number then o else None) (get_or-set_other m.objects (p % CELLS) (q % CELLS) x None (λ e. ne (omega (arith, mine, here)))))
-    | inr other ↦ rw (ne_eqb (q / CELLS) m.number other) refl
-  ]
+  elsewhere q ne = row_other m.number m.objects many p own x None q ne
 
 -- ---- what is known of a mutator's objects, where the far side is honest: all their bytes
 abbrev IsWell : Option Object → Type 0
@@ -43,35 +39,13 @@ well_with m w p own x is = record {
   ];
 }
 
--- ---- bytes written over others
-module _ (xs ys : List ℕ) (from : ℕ) (fits : from + length ys ≤ length xs) where
-  front : length (take from xs) ≡ from
-  front = length-take-le from xs (omega arith)
-
-  parted : length (take from xs ++ ys) ≡ from + length ys
-  parted = omega (arith, length-append (take from xs) ys, front)
-
-  range_long : length (with_range xs from ys) ≡ length xs
-  range_long = length-append (take from xs ++ ys) (drop (from + length ys) xs) ∙ omega (arith, parted, length-drop (from + length ys) xs)
-
-  range_in : (k : ℕ) → from ≤ k → k < from + length ys → get_or (with_range xs from ys) k 0 ≡ get_or ys (k - from) 0
-  range_in k le lt = get_or_append_left (take from xs ++ ys) (drop (from + length ys) xs) 0 k (omega (arith, parted)) ∙ get_or-append_right (take from xs) ys from k 0 front le
-
-  range_before : (k : ℕ) → k < from → get_or (with_range xs from ys) k 0 ≡ get_or xs k 0
-  range_before k lt = get_or_append_left (take from xs ++ ys) (drop (from + length ys) xs) 0 k (omega (arith, parted)) ∙ get_or_append_left (take from xs) ys 0 k (omega (arith, front)) ∙ get_or-take from xs k 0 lt
-
-  range_behind : (k : ℕ) → from + length ys ≤ k → get_or (with_range xs from ys) k 0 ≡ get_or xs k 0
-  range_behind k le =
-      let at : from + length ys + (k - (from + length ys)) ≡ k = omega arith in
-      get_or-append_right (take from xs ++ ys) (drop (from + length ys) xs) (from + length ys) k 0 parted le ∙ get_or-drop (from + length ys) xs (k - (from + length ys)) 0 ∙ ap (λ q. get_or xs q 0) at
-
 zeros_well : (h : Bool) (len ds : ℕ) → h ≡ true → IsWell (Some record { len = len; ds = ds; bytes = zeros_known h len })
 zeros_well true len ds e = (replicate len 0, refl, length-replicate len 0)
 zeros_well false len ds e = absurd (false≢true e)
 
 rewritten_well : (x : Option Object) (from : ℕ) (bytes : List ℕ) → IsWell x → from + length bytes ≤ len_of x → IsWell (option_map (rewritten from bytes) x)
 rewritten_well None from bytes w fits = tt
-rewritten_well (Some x) from bytes w fits = (with_range w.0 from bytes, ap (option_map (λ b. with_range b from bytes)) w.1, range_long w.0 bytes from (omega (arith, w.2)) ∙ w.2)
+rewritten_well (Some x) from bytes w fits = (with_range w.0 from bytes, ap (option_map (λ b. with_range b from bytes)) w.1, length-with_range w.0 from bytes (omega (arith, w.2)) ∙ w.2)
 
 -- ---- a call keeps what is known
 stays_well : (c : Call) (m : Mine) → MayCall c m → Well m → Well (after_call c m)
@@ -97,7 +71,7 @@ rewritten_has : (x : Option Object) (from : ℕ) (bytes : List ℕ) (k b : ℕ) 
 rewritten_has None from bytes k b w fits le lt is = absurd (omega arith)
 rewritten_has (Some x) from bytes k b w fits le lt is =
     let inside : from + length bytes ≤ length w.0 = omega (arith, w.2) in
-    (with_range w.0 from bytes, ap (option_map (λ y. with_range y from bytes)) w.1, range_in w.0 bytes from inside k le lt ∙ is, omega (arith, range_long w.0 bytes from inside))
+    (with_range w.0 from bytes, ap (option_map (λ y. with_range y from bytes)) w.1, with_range_inside w.0 from bytes inside k le lt ∙ is, omega (arith, length-with_range w.0 from bytes inside))
 
 rewritten_leaves : (x : Option Object) (from : ℕ) (bytes : List ℕ) (k b : ℕ) → IsWell x → from + length bytes ≤ len_of x → (k < from) ⊎ (from + length bytes ≤ k) → HasIn x k b →
     HasIn (option_map (rewritten from bytes) x) k b
@@ -109,10 +83,10 @@ rewritten_leaves (Some x) from bytes k b w fits beside has =
       with_range has.0 from bytes,
       ap (option_map (λ y. with_range y from bytes)) has.1,
       elim beside [
-        | inl lt ↦ range_before has.0 bytes from inside k lt ∙ has.2
-        | inr le ↦ range_behind has.0 bytes from inside k le ∙ has.2
+        | inl lt ↦ with_range_before has.0 from bytes inside k lt ∙ has.2
+        | inr le ↦ with_range_after has.0 from bytes inside k le ∙ has.2
       ],
-      (let far = has.3 in omega (arith, range_long has.0 bytes from inside)),
+      (let far = has.3 in omega (arith, length-with_range has.0 from bytes inside)),
     )
 
 -- a call says it

@@ -23,3 +23,4 @@ pub mod Causes
 pub mod Bringing
 pub mod Resting
 pub mod Refusals
+pub mod Known

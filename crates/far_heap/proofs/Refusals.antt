@@ -7,7 +7,7 @@ use mathlib.Core.Logic.{dite}
 use native.Mathlib.Decide.{ℕ_discrete}
 use Rattle.far_word.specs.declared.refused.Refused.{Refused}
 use Rattle.far_word.specs.declared.refused.Refused.TheVariants.{Held, NotHeld, Range}
-use Rattle.far_heap.specs.Mine.{is_length, is_range, len_in, uses, views}
+use Rattle.far_heap.specs.Mine.{Mine, access_refusal, is_length, is_range, len_in, uses, views}
 use Rattle.far_heap.specs.Refusals.{RefusalsAreSo}
 
 -- ---- by two tests
@@ -99,3 +99,14 @@ length_within len h = (refusals_are_so.lengths len).0 h
 
 pub length_allowed : (len : ℕ) → 1 ≤ len → len ≤ 1016 → is_length len ≡ true
 length_allowed len some most = (refusals_are_so.lengths len).1 (some, most)
+
+-- bytes are read and written of what is viewed, at least one, and none past the object's end
+pub access_within : (m : Mine) (p from count : ℕ) → access_refusal m p from count ≡ None → (views m p ≡ true) × (1 ≤ count) × (from + count ≤ len_in m p)
+access_within m p from count h =
+    let both = (reaches (views m p) (is_range (len_in m p) from count)).0 h in
+    let range = fits (len_in m p) from count both.1 in
+    (both.0, range.0, range.1)
+
+pub access_allowed : (m : Mine) (p from count : ℕ) → views m p ≡ true → 1 ≤ count → from + count ≤ len_in m p → access_refusal m p from count ≡ None
+access_allowed m p from count viewed some inside =
+    (reaches (views m p) (is_range (len_in m p) from count)).1 (viewed, is_fit (len_in m p) from count some inside)

@@ -10,3 +10,4 @@ pub mod Helping
 pub mod BookHad
 pub mod LogsStay
 pub mod Refusals
+pub mod Values

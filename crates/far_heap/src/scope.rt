@@ -11,6 +11,7 @@ ghost use Rattle.far_word.specs.declared.refused.Refused.TheVariants.{Damaged, N
 ghost use Rattle.far_word.specs.declared.sizes.TheConstants.{LONGEST};
 
 use crate::heap::Lock;
+use crate::lending::Closing;
 use crate::mutator::Mutator;
 use crate::name::HeapName;
 use crate::own::Own;
@@ -180,5 +181,16 @@ impl<K: HeapName, D: Device + Drop> Scope<K, D> {
         let Scope { mut own, lock } = self;
         own.close();
         Mutator::of(own, lock)
+    }
+}
+
+impl<K: HeapName, D: Device + Drop> Closing for Scope<K, D> {
+    type Closed = Mutator<K, D>;
+
+    ghost closes = { λ scope mutator. mutator ≡ closing scope };
+
+    #[inline(always)]
+    fn end(self) -> Mutator<K, D> {
+        self.close()
     }
 }

@@ -31,4 +31,5 @@ mod steps;
 mod threads;
 mod told;
 mod using;
+mod values;
 mod writers;

@@ -3,9 +3,10 @@
 ghost use Rattle.std.specs.Prelude.{◌≡◌};
 
 use crate::tests::looks::{blank, sized};
+use byteorder::LittleEndian;
 use far_device::MemDevice;
 use far_evac::RoundEnd;
-use far_heap::{Blank, Heap, HeapName, Mutator, Scope};
+use far_heap::{Blank, Heap, HeapName, Mutator, Scope, lend};
 use far_policy::Oldest;
 use far_word::Refused;
 use std::alloc::{AllocError, Global};
@@ -15,27 +16,27 @@ use std::test::Fail;
 use std::thread;
 use std::thread::Threads;
 
-// Writes an object and reads it back. An early return leaves the scope to the caller, who closes it.
+// Writes an integer into an object and reads it back.
 fn once<K: HeapName, R: Wait>(
     rt: &R,
     scope: &mut Scope<K, MemDevice>,
     pointer: u16,
-    byte: u8,
+    number: u64,
 ) -> Result<bool, Refused> {
     let view = scope.view(rt, pointer)?;
-    scope.write(&view, 8, &[byte; 8])?;
-    let mut bytes = [0; 8];
-    scope.read(&view, 8, &mut bytes)?;
-    Ok(bytes == [byte; 8])
+    scope.write_u64::<LittleEndian>(&view, 8, number)?;
+    Ok(scope.read_u64::<LittleEndian>(&view, 8)? == number)
 }
 
 // A hundred times, in a scope of its own each time.
 fn work<K: HeapName, R: Wait>(rt: &R, mut mutator: Mutator<K, MemDevice>) -> Result<bool, Refused> {
     let pointer = mutator.alloc(rt, 64, 1)?;
     for turn in 0..100 {
-        let mut scope = mutator.open();
-        let done = once(rt, &mut scope, pointer, turn);
-        mutator = scope.close();
+        let (closed, done) = lend(
+            mutator.open(),
+            |scope: &mut Scope<K, MemDevice>| once(rt, scope, pointer, turn),
+        );
+        mutator = closed;
         if !done? {
             return Ok(false);
         }

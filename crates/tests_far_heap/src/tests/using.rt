@@ -4,9 +4,10 @@ ghost use Rattle.std.specs.Prelude.{◌≡◌};
 ghost use Rattle.far_heap.specs.HeapId.{with_copiers};
 
 use crate::tests::looks::{new_blank, sized};
+use byteorder::LittleEndian;
 use far_device::{FailAt, MemDevice};
 use far_evac::RoundEnd;
-use far_heap::{Blank, Copier, Heap, HeapName, Mutator, Scope};
+use far_heap::{Blank, Copier, Heap, HeapName, Mutator, Scope, lend};
 use far_policy::{LeastLive, Oldest};
 use far_word::Refused;
 use std::alloc::{AllocError, Global};
@@ -31,8 +32,8 @@ fn put<K: HeapName, R: Wait>(
     // page
     let pointer = scope.alloc(rt, 16, 1)?;
     let view = scope.view(rt, pointer)?;
-    scope.write(&view, 0, &account.number.to_le_bytes())?;
-    scope.write(&view, 8, &account.balance.to_le_bytes())?;
+    scope.write_u64::<LittleEndian>(&view, 0, account.number)?;
+    scope.write_u64::<LittleEndian>(&view, 8, account.balance)?;
     // end
     Ok(pointer)
 }
@@ -44,12 +45,9 @@ fn get<K: HeapName, R: Wait>(
 ) -> Result<Account, Refused> {
     // page
     let view = scope.view(rt, pointer)?;
-    let (mut number, mut balance) = ([0; 8], [0; 8]);
-    scope.read(&view, 0, &mut number)?;
-    scope.read(&view, 8, &mut balance)?;
     Ok(Account {
-        number: u64::from_le_bytes(number),
-        balance: u64::from_le_bytes(balance),
+        number: scope.read_u64::<LittleEndian>(&view, 0)?,
+        balance: scope.read_u64::<LittleEndian>(&view, 8)?,
     })
     // end
 }
@@ -73,9 +71,10 @@ fn in_a_scope<K: HeapName, R: Wait>(
     mutator: Mutator<K, MemDevice>,
 ) -> (Mutator<K, MemDevice>, Result<bool, Refused>) {
     // page
-    let mut scope = mutator.open();
-    let kept = keeps_one(rt, &mut scope); // may return early by `?`
-    let mutator = scope.close(); // always
+    let (mutator, kept) = lend(
+        mutator.open(),
+        |scope: &mut Scope<K, MemDevice>| keeps_one(rt, scope), // may return early by `?`
+    );
     // end
     (mutator, kept)
 }
