@@ -1,4 +1,5 @@
 pub mod Digests
+pub mod Faults
 pub mod Positions
 pub mod Row
 pub mod SealedCalls

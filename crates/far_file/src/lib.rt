@@ -2,12 +2,13 @@
 //!
 //! [`Storage`] is what may be counted on of storage; [`MemStorage`] is one in memory, and std's `File` is one too, which [`NewFile`]
 //! makes. [`FileDevice`] is the device over any; [`SealedDevice`] keeps a [`Seal`] of each slot in memory besides, and never gives bytes
-//! that don't fit theirs.
+//! that don't fit theirs. A [`LastFault`] tells why a device failed that another has, a heap for instance.
 #![tactic(auto)]
 
 mod disk;
 mod fault;
 mod held;
+mod last_fault;
 mod memory;
 mod new_file;
 mod seal;
@@ -15,6 +16,7 @@ mod sealed;
 mod storage;
 
 pub use fault::{FileFault, StorageFault};
+pub use last_fault::{KeyFault, LastFault, words_tell_one_fault};
 pub use memory::MemStorage;
 pub use new_file::NewFile;
 pub use seal::{Digest, NoSeal, Seal, WholeCopy};

@@ -1,20 +1,22 @@
 //! A device over positioned storage.
 
-ghost use Rattle.std.specs.Prelude.{ℕ, ◌≡◌, ◌+◌, ◌*◌, ◌%◌, ◌^◌, ◌<◌, ◌≤◌, ◌≢◌, ◌⊎◌, Err, true, IsTrue, IsSome, length, Some, None, IfOk, IfSome, IfNone, OnErr, OnOk};
+ghost use Rattle.std.specs.Prelude.{ℕ, ◌≡◌, ◌+◌, ◌*◌, ◌%◌, ◌^◌, ◌<◌, ◌≤◌, ◌≢◌, ◌⊎◌, Err, true, IsTrue, false, length, Some, None, IfOk, IfErr, IfSome, IfNone, IsSome, OnErr, OnOk};
 ghost use Rattle.std.specs.Vec.{vec_capacity, vec_len};
 ghost use Rattle.far_device.specs.Contents.{KeepsOthers};
 ghost use Rattle.far_device.specs.Faults.{is_fault};
 ghost use Rattle.far_device.specs.declared.fault.DeviceFault.TheVariants.{Memory, Device as Failed};
-ghost use Rattle.far_file.specs.declared.fault.FileFault.TheVariants.{Nothing};
+ghost use Rattle.far_file.specs.declared.fault.FileFault.TheVariants.{NoSlot, Nothing};
+ghost use Rattle.far_file.specs.Faults.{StoppedRead, StoppedWrite};
 ghost use Rattle.far_file.specs.Positions.{HoldsAt};
 ghost use Rattle.far_file.specs.Row.{bytes_in, Stands};
 
 use crate::fault::{FileFault, StorageFault};
 use crate::held::Held;
+use crate::last_fault::{KeyFault, LastFault};
 use crate::seal::{NoSeal, Seal};
 use crate::storage::Storage;
 use far_device::{Device, DeviceFault};
-use std::alloc::Global;
+use std::alloc::{AllocError, Global};
 use std::snapshot::Snapshot;
 
 /// Only keys below this one have a slot.
@@ -35,6 +37,8 @@ pub struct SealedDevice<F: Storage + Drop, L: Seal> {
     pub(crate) last: Vec<u8>,
     pub(crate) faults: u64,
     pub(crate) why: Option<FileFault>,
+    // Who asks for the last fault, if anyone does.
+    pub(crate) asked: Option<LastFault>,
     ghost stands: { F.Storage.honest storage ≡ true → Stands (F.Storage.seen storage) (bytes_in row.items) },
 }
 
@@ -58,6 +62,7 @@ impl<F: Storage + Drop, L: Seal> SealedDevice<F, L> {
             last: Vec::new(alloc),
             faults: 0,
             why: None,
+            asked: None,
         }
     }
 
@@ -68,8 +73,24 @@ impl<F: Storage + Drop, L: Seal> SealedDevice<F, L> {
         self.why
     }
 
-    // Counts a fault.
-    fn fail(&mut self, why: FileFault) -> DeviceFault
+    /// A handle that tells the last fault from its first call on, also once a heap has the device. It takes memory once; each later handle is on the same.
+    pub fn last_fault(&mut self) -> Result<LastFault, AllocError>
+        ensures contents { bytes_at self.new ≡ bytes_at self.old }
+        ensures storage { self.new.storage ≡ self.old.storage }
+        ensures faults { faults_of self.new ≡ faults_of self.old }
+        ensures why { self.new.why ≡ self.old.why }
+    {
+        if let Some(last) = &self.asked {
+            return last.try_clone();
+        }
+        let last = LastFault::new(self.alloc)?;
+        let handed = last.try_clone()?;
+        self.asked = Some(last);
+        Ok(handed)
+    }
+
+    // Counts a fault of a key's call, and tells it to who asks.
+    fn fail(&mut self, key: u32, why: FileFault) -> DeviceFault
         ensures fault { result ≡ Failed }
         ensures contents { bytes_at self.new ≡ bytes_at self.old }
         ensures others { (q : ℕ) → bytes_at self.new q ≡ bytes_at self.old q }
@@ -79,6 +100,9 @@ impl<F: Storage + Drop, L: Seal> SealedDevice<F, L> {
     {
         self.faults = self.faults.wrapping_add(1);
         self.why = Some(why);
+        if let Some(last) = &self.asked {
+            last.set(KeyFault { key, why });
+        }
         DeviceFault::Device
     }
 
@@ -105,6 +129,7 @@ impl<F: Storage + Drop, L: Seal> SealedDevice<F, L> {
         requires { IfSome (bytes_at self.now id) (λ stored. length stored ≡ vec_len buffer.old) }
         ensures by_storage { F.Storage.honest self.now.storage ≡ true → OnOk result (IfSome (bytes_at self.now id) (λ stored. buffer.new.items ≡ stored)) }
         ensures by_seal { L.Seal.exact ≡ true → OnOk result (IfSome (bytes_at self.now id) (λ stored. buffer.new.items ≡ stored)) }
+        ensures why { IfSome (bytes_at self.now id) (λ _. IfErr result (λ why. StoppedRead (F.Storage.honest self.now.storage) (Some why))) }
         ensures room { vec_capacity buffer.old ≤ vec_capacity buffer.new }
     {
         let Some(held) = self.held(id) else {
@@ -128,6 +153,7 @@ impl<F: Storage + Drop, L: Seal> SealedDevice<F, L> {
         ensures row { vec_len self.new.row ≡ vec_len self.old.row }
         ensures last { self.new.last ≡ self.old.last }
         ensures faults { faults_of self.new ≡ faults_of self.old }
+        ensures why { self.new.why ≡ self.old.why }
     {
         if let Some(slot) = self.row.get_mut(id as usize) {
             *slot = None;
@@ -144,6 +170,7 @@ impl<F: Storage + Drop, L: Seal> SealedDevice<F, L> {
         ensures row { vec_len self.new.row ≡ vec_len self.old.row }
         ensures last { self.new.last ≡ self.old.last }
         ensures faults { faults_of self.new ≡ faults_of self.old }
+        ensures why { self.new.why ≡ self.old.why }
     {
         self.storage.put(id as u64 * SLOT, bytes)
     }
@@ -159,6 +186,7 @@ impl<F: Storage + Drop, L: Seal> SealedDevice<F, L> {
         ensures others { KeepsOthers (bytes_at self.old) (bytes_at self.new) id }
         ensures storage { self.new.storage ≡ self.old.storage }
         ensures faults { faults_of self.new ≡ faults_of self.old }
+        ensures why { self.new.why ≡ self.old.why }
     {
         self.row[id as usize] = Some(Held {
             len,
@@ -175,6 +203,7 @@ impl<F: Storage + Drop, L: Seal> SealedDevice<F, L> {
         ensures last { self.new.last ≡ self.old.last }
         ensures storage { self.new.storage ≡ self.old.storage }
         ensures faults { faults_of self.new ≡ faults_of self.old }
+        ensures why { self.new.why ≡ self.old.why }
     {
         lengthen(&mut self.row, id as usize)
     }
@@ -185,6 +214,7 @@ impl<F: Storage + Drop, L: Seal> SealedDevice<F, L> {
         ensures same { self.new.row ≡ self.old.row }
         ensures storage { self.new.storage ≡ self.old.storage }
         ensures faults { self.new.faults ≡ self.old.faults }
+        ensures why { self.new.why ≡ self.old.why }
     {
         self.last.clear();
         self.last.extend_from_slice(bytes).is_ok()
@@ -231,10 +261,12 @@ impl<F: Storage + Drop, L: Seal> Device for SealedDevice<F, L> {
         ensures honest { F.Storage.honest self.new.storage ≡ F.Storage.honest self.old.storage }
         ensures as_honest { is_honest self.new ≡ is_honest self.old }
         ensures left { OnErr result ((bytes_at self.new id ≡ None) ⊎ (bytes_at self.new id ≡ bytes_at self.old id)) }
-        ensures why { is_fault result ≡ true → IsSome self.new.why }
+        ensures no_slot { (1024 ≤ id) ⊎ (1024 < length bytes.now) → (result ≡ Err Failed) × (self.new.why ≡ Some NoSlot) × (bytes_at self.new ≡ bytes_at self.old) }
+        ensures why { id < 1024 → length bytes.now ≤ 1024 → is_fault result ≡ true → StoppedWrite self.new.why }
+        ensures kept_why { is_fault result ≡ false → self.new.why ≡ self.old.why }
     {
         if id >= KEYS || bytes.len() as u64 > SLOT {
-            return Err(self.fail(FileFault::NoSlot));
+            return Err(self.fail(id, FileFault::NoSlot));
         }
         if !self.keep(bytes) || !self.reach(id) {
             return Err(DeviceFault::Memory);
@@ -249,14 +281,15 @@ impl<F: Storage + Drop, L: Seal> Device for SealedDevice<F, L> {
                 Ok(())
             }
             Err(StorageFault::Memory) => Err(DeviceFault::Memory),
-            Err(why) => Err(self.fail(FileFault::Storage(why))),
+            Err(why) => Err(self.fail(id, FileFault::Storage(why))),
         }
     }
 
     fn read(&mut self, id: u32) -> Result<Vec<u8>, DeviceFault>
         ensures given { is_honest self.old ≡ true → IfOk result (λ bytes. IfSome (bytes_at self.old id) (λ stored. bytes.items ≡ stored)) }
         ensures nothing { IfNone (bytes_at self.old id) ((result ≡ Err Failed) × (self.new.why ≡ Some Nothing)) }
-        ensures why { is_fault result ≡ true → IsSome self.new.why }
+        ensures why { IfSome (bytes_at self.old id) (λ _. is_fault result ≡ true → StoppedRead (F.Storage.honest self.old.storage) self.new.why) }
+        ensures kept_why { is_fault result ≡ false → self.new.why ≡ self.old.why }
         ensures kept { bytes_at self.new ≡ bytes_at self.old }
         ensures faults { faults_of self.new ≡ counted (is_fault result) (faults_of self.old) }
         ensures storage { self.new.storage ≡ self.old.storage }
@@ -273,7 +306,8 @@ impl<F: Storage + Drop, L: Seal> Device for SealedDevice<F, L> {
     fn read_into(&mut self, id: u32, buffer: &mut Vec<u8>) -> Result<(), DeviceFault>
         ensures given { is_honest self.old ≡ true → OnOk result (IfSome (bytes_at self.old id) (λ stored. buffer.new.items ≡ stored)) }
         ensures nothing { IfNone (bytes_at self.old id) ((result ≡ Err Failed) × (self.new.why ≡ Some Nothing)) }
-        ensures why { is_fault result ≡ true → IsSome self.new.why }
+        ensures why { IfSome (bytes_at self.old id) (λ _. is_fault result ≡ true → StoppedRead (F.Storage.honest self.old.storage) self.new.why) }
+        ensures kept_why { is_fault result ≡ false → self.new.why ≡ self.old.why }
         ensures kept { bytes_at self.new ≡ bytes_at self.old }
         ensures room { vec_capacity buffer.old ≤ vec_capacity buffer.new }
         ensures in_place { IfSome (bytes_at self.old id) (λ stored. length stored ≤ vec_capacity buffer.old → result ≢ Err Memory) }
@@ -281,14 +315,14 @@ impl<F: Storage + Drop, L: Seal> Device for SealedDevice<F, L> {
         ensures storage { self.new.storage ≡ self.old.storage }
     {
         let Some(len) = self.len_of(id) else {
-            return Err(self.fail(FileFault::Nothing));
+            return Err(self.fail(id, FileFault::Nothing));
         };
         if buffer.resize(len as usize, 0).is_err() {
             return Err(DeviceFault::Memory);
         }
         match self.fill(id, buffer) {
             Ok(()) => Ok(()),
-            Err(why) => Err(self.fail(why)),
+            Err(why) => Err(self.fail(id, why)),
         }
     }
 
@@ -297,6 +331,7 @@ impl<F: Storage + Drop, L: Seal> Device for SealedDevice<F, L> {
         ensures others { KeepsOthers (bytes_at self.old) (bytes_at self.new) id }
         ensures faults { faults_of self.new ≡ faults_of self.old }
         ensures storage { self.new.storage ≡ self.old.storage }
+        ensures why { self.new.why ≡ self.old.why }
     {
         self.empty(id);
     }

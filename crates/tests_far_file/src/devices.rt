@@ -39,7 +39,9 @@ pub(crate) fn keeps<F: Storage + Drop, L: Seal>(
     let kept = gives(device, alloc, 5, FIRST) && gives(device, alloc, 6, LONGEST);
     device.forget(6);
     let empty = gives(device, alloc, 1023, &[]) && device.read(6).is_err();
-    Ok(kept && empty && blames(device, FileFault::Nothing) && device.faults() == 1)
+    device.write(6, FIRST)?;
+    let anew = gives(device, alloc, 6, FIRST);
+    Ok(kept && empty && anew && blames(device, FileFault::Nothing) && device.faults() == 1)
 }
 
 #[test]

@@ -1,4 +1,4 @@
-//! The tests of far_file, by its public calls alone. They stand apart, so that it is proved once.
+//! The tests of far_file, by its public calls alone, and under a heap. They stand apart, so that it is proved once.
 #![tactic(auto)]
 
 #[cfg(test)]
@@ -7,5 +7,7 @@ mod any;
 mod devices;
 #[cfg(test)]
 mod files;
+#[cfg(test)]
+mod heaps;
 #[cfg(test)]
 mod own;

@@ -1,0 +1,136 @@
+//! Heaps over devices that fail: once a heap has the device, its handle tells why a call was refused `Device`.
+
+ghost use Rattle.std.specs.Prelude.{◌≡◌};
+
+use super::own::{Breaking, Crooked};
+use far_core::Shape;
+use far_device::Device;
+use far_file::{
+    Digest, FileDevice, FileFault, KeyFault, LastFault, MemStorage, NewFile, Seal, SealedDevice,
+    Storage, StorageFault,
+};
+use far_heap::{Blank, Heap, HeapName, Mutator};
+use far_policy::Oldest;
+use far_word::Refused;
+use std::alloc::Global;
+use std::fs::File;
+use std::marker::Brand;
+use std::sync::Wait;
+use std::test::*;
+
+const SHAPE: Shape = Shape {
+    logs: 4,
+    mutators: 1,
+    epoch: 0,
+};
+
+// Whether a call was refused `Device`, and what the handle told then: of a round that sends object 0 far, and of a view that brings it.
+type Told = (bool, Option<KeyFault>);
+
+// What a fault of object 0 is told as.
+fn refused(why: FileFault) -> Told {
+    (true, Some(KeyFault { key: 0, why }))
+}
+
+const NONE: Told = (false, None);
+
+// Three objects that fill a log each.
+fn makes_three<K: HeapName, D: Device + Drop, R: Wait>(
+    rt: &R,
+    mutator: &mut Mutator<K, D>,
+) -> Result<(), Refused> {
+    for _ in 0..3u8 {
+        mutator.alloc(rt, 1016, 1)?;
+    }
+    Ok(())
+}
+
+// What is told of a round, and of a view after it, before which a file is cut.
+fn told_of<K: HeapName, D: Device + Drop, R: Wait>(
+    rt: &R,
+    heap: &Heap<K, D>,
+    mutator: Mutator<K, D>,
+    last: &LastFault,
+    cut: Option<&File>,
+) -> (Told, Told) {
+    let round = heap.run_round(rt, &mut Oldest, 1, 9);
+    let round = matches!(round, Err(fault) if fault.why == Refused::Device);
+    let left = (round, last.get());
+    if let Some(file) = cut {
+        let _ = file.set_len(0);
+    }
+    let mut scope = mutator.open();
+    let view = matches!(scope.view(rt, 0), Err(Refused::Device));
+    let _ = scope.close();
+    (left, (view, last.get()))
+}
+
+// The same on a heap of this name.
+fn runs<K: HeapName, D: Device + Drop, R: Wait>(
+    rt: &R,
+    alloc: Global,
+    blank: Blank<D>,
+    last: &LastFault,
+    cut: Option<&File>,
+) -> Option<(Told, Told)>
+    requires { blank.heap ≡ K.heap }
+{
+    let (heap, mutators) = Heap::<K, D>::new(alloc, blank).ok()?;
+    let mut mutator = mutators.into_iter().next()?;
+    makes_three(rt, &mut mutator).ok()?;
+    Some(told_of(rt, &heap, mutator, last, cut))
+}
+
+// The same on a heap over a device.
+fn asked<F: Storage + Drop, L: Seal, R: Wait>(
+    rt: &R,
+    alloc: Global,
+    mut device: SealedDevice<F, L>,
+    cut: Option<&File>,
+) -> Option<(Told, Told)> {
+    let last = device.last_fault().ok()?;
+    let blank = Blank::new(alloc, SHAPE, device).ok()?;
+    runs::<Brand, _, R>(rt, alloc, blank, &last, cut)
+}
+
+#[test]
+fn a_full_disk_is_told(rt: HostRuntime) -> Result<(), Fail> {
+    let file = NewFile::new().replacing().open(&rt, "/dev/full")?;
+    let device = FileDevice::<File>::new(rt.alloc(), file);
+    let full = refused(FileFault::Storage(StorageFault::Full));
+    assert!(rt; asked(&rt, rt.alloc(), device, None) == Some((full, (false, full.1))));
+    Ok(())
+}
+
+#[test]
+fn a_file_that_is_cut_short_is_told(rt: HostRuntime) -> Result<(), Fail> {
+    let file = NewFile::new().replacing().open(&rt, "cut_under_a_heap")?;
+    let other = file.try_clone()?;
+    let device = FileDevice::<File>::new(rt.alloc(), file);
+    let short = refused(FileFault::Storage(StorageFault::Short));
+    assert!(rt; asked(&rt, rt.alloc(), device, Some(&other)) == Some((NONE, short)));
+    Ok(())
+}
+
+#[test]
+fn other_bytes_are_told(rt: HostRuntime) {
+    let storage = Crooked {
+        inner: MemStorage::new(rt.alloc()),
+    };
+    let device = SealedDevice::<Crooked<MemStorage>, Digest>::new(rt.alloc(), storage);
+    assert!(rt; asked(&rt, rt.alloc(), device, None) == Some((NONE, refused(FileFault::Misfit))));
+}
+
+#[test]
+fn storage_that_fails_is_told(rt: HostRuntime) {
+    let failed = refused(FileFault::Storage(StorageFault::Failed));
+    for (k, answer) in [
+        (1, (failed, (false, failed.1))),
+        (2, (NONE, failed)),
+        (3, (NONE, NONE)),
+    ] {
+        let storage = Breaking::new(MemStorage::new(rt.alloc()), k, StorageFault::Failed);
+        let device = FileDevice::<Breaking<MemStorage>>::new(rt.alloc(), storage);
+        assert!(rt; asked(&rt, rt.alloc(), device, None) == Some(answer));
+    }
+}
