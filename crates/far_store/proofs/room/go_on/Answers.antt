@@ -1,0 +1,15 @@
+use Rattle.far_store.specs.FreeLogs.{Turned}
+use Rattle.far_store.proofs.Steps.{all_one}
+use Rattle.far_store.proofs.room.go_on.Goals as goal
+
+pub returns-in-Ok-clause-turned : goal.returns-in-Ok-clause-turned
+returns-in-Ok-clause-turned g c =
+    let law = c.keeps_law.ensures in
+    all_one (Turned g.row.D.Denot g.K.HeapName.heap) c.in-Ok.turn
+    (c.args.book.now, (law.named, (law.law, law.moment)), c.requires, c.turn.new.self, c.turn.ensures.came, c.in-Ok.ensures.turns)
+
+pub returns-in-Err-clause-refused : goal.returns-in-Err-clause-refused
+returns-in-Err-clause-refused g c =
+    let law = c.keeps_law.ensures in
+    let (leaves, stops) = c.in-Err.ensures.stops c.requires in
+    (c.args.book.now, (law.named, (law.law, law.moment)), leaves, c.turn.new.self, c.turn.ensures.came, stops, c.in-Err.ensures.why c.requires)

@@ -1,0 +1,76 @@
+-- How many logs were free, and what was done about it, while a heap's lock was held.
+use Rattle.std.specs.Prelude.{◌≡◌, ◌≢◌, ◌⊎◌, ◌<◌, ◌≤◌, ℕ, zero, suc, ◌+◌, true, false, List, []}
+use Rattle.far_word.specs.declared.refused.Refused.{Refused}
+use Rattle.far_word.specs.declared.refused.Refused.TheVariants as refused
+use Rattle.far_table.specs.declared.book.BookSeat.{BookSeat}
+use Rattle.far_table.specs.BookSeats.{seat_makes, seat_view}
+use Rattle.far_hand.specs.Came.{Came}
+use Rattle.far_evac.specs.AnyTurns.{TurnsTo}
+use Rattle.far_evac.specs.ByCopying.{StopsBy}
+use Rattle.far_evac.specs.Census.{kind_in}
+use Rattle.far_evac.specs.Choosing.{after_selecting}
+use Rattle.far_evac.specs.EvacOf.{EvacOf, moment}
+use Rattle.far_evac.specs.Moment.{Moment, nothing, progress_of, tally_of}
+use Rattle.far_evac.specs.MomentLaw.{IsLawful}
+use Rattle.far_evac.specs.Turns.{turn_size}
+use Rattle.far_evac.specs.declared.answers.EvacFault.{EvacFault}
+use Rattle.far_evac.specs.declared.answers.Progress.{Progress}
+use Rattle.far_evac.specs.declared.census.LogKind.{LogKind}
+use Rattle.far_evac.specs.declared.census.LogKind.TheVariants.{Free, Open, Sealed, Chosen}
+use Rattle.far_evac.specs.declared.phase.Phase.TheVariants.{Evacuating, Idle}
+use Rattle.far_heap.specs.BookHad.{BookHad, LacksRoom, NoneFree}
+use Rattle.far_heap.specs.HeapId.{HeapId, heap_of}
+use Rattle.far_heap.specs.Mine.{Mine, is_length}
+
+abbrev pub one_if_free : LogKind → ℕ
+one_if_free Free = 1
+one_if_free Open = 0
+one_if_free Sealed = 0
+one_if_free Chosen = 0
+
+-- of the logs below a number, how many are free
+abbrev pub free_below : Moment → ℕ → ℕ
+free_below m zero = 0
+free_below m (suc n) = free_below m n + one_if_free (kind_in m n)
+
+abbrev pub free_in : {D : Type 0} → EvacOf (BookSeat D) D → ℕ
+free_in e = free_below (moment seat_view e) (seat_view e.book.near).logs
+
+-- it is a lawful book of this heap
+abbrev pub IsBookOf : {D : Type 0} → HeapId → EvacOf (BookSeat D) D → Type 0
+IsBookOf heap e = (heap_of e.copying e.book.near ≡ heap) × IsLawful (moment seat_view e)
+
+-- there was a book of this heap in no round, of whose logs so many were free, or more
+abbrev pub HadFree : (D : Type 0) → HeapId → ℕ → Type 0
+HadFree D heap free = (e : EvacOf (BookSeat D) D) × IsBookOf heap e × (e.phase ≡ Idle) × (free ≤ free_in e)
+
+-- or fewer
+abbrev pub LacksFree : (D : Type 0) → HeapId → ℕ → Type 0
+LacksFree D heap free = (e : EvacOf (BookSeat D) D) × IsBookOf heap e × (e.phase ≡ Idle) × (free_in e < free)
+
+-- or fewer, and a round of some of its logs was begun
+abbrev pub Begins : (D : Type 0) → HeapId → ℕ → Type 0
+Begins D heap free = (e : EvacOf (BookSeat D) D) × IsBookOf heap e × (e.phase ≡ Idle) × (free_in e < free)
+    × (f : EvacOf (BookSeat D) D) × Came seat_makes e.book.near f.book.near × (logs : List ℕ) × (logs ≢ []) × (moment seat_view f ≡ after_selecting (moment seat_view e) logs)
+
+-- there was a book of this heap in a round, and one turn of that, by the book's own calls alone, did this
+abbrev pub Turned : (D : Type 0) → HeapId → Progress → Type 0
+Turned D heap made = (e : EvacOf (BookSeat D) D) × IsBookOf heap e × (e.phase ≢ Idle)
+    × (f : EvacOf (BookSeat D) D) × Came seat_makes e.book.near f.book.near × TurnsTo (moment seat_view e) e.phase (tally_of made) made.done (moment seat_view f)
+
+-- or it stopped at an object that was to leave, for want of memory or by a failure of the device, after it had done this
+abbrev pub Stopped : (D : Type 0) → HeapId → EvacFault → Type 0
+Stopped D heap fault = (e : EvacOf (BookSeat D) D) × IsBookOf heap e × (e.phase ≡ Evacuating)
+    × (f : EvacOf (BookSeat D) D) × Came seat_makes e.book.near f.book.near × StopsBy (moment seat_view e) turn_size (moment seat_view f) (tally_of fault.so_far)
+    × ((fault.why ≡ refused.Memory) ⊎ (fault.why ≡ refused.Device))
+
+-- why a step wasn't made: no round stood, too few logs were free, and none was begun, since the epochs are spent or the policy's choice was none; or that
+abbrev pub IsUnmade : (D : Type 0) → HeapId → ℕ → EvacFault → Type 0
+IsUnmade D heap free fault = (LacksFree D heap free × (fault.so_far ≡ progress_of nothing false)) ⊎ Stopped D heap fault
+
+-- why no object was made: the length is out of range; or, as the lock was held, none of the mutator's cells was free; or there was no room, and nobody is to
+-- wait for it any longer
+abbrev pub IsGivenUp : (D : Type 0) → HeapId → Mine → ℕ → Type 0 → Refused → Type 0
+IsGivenUp D heap m len over why = ((why ≡ refused.Length) × (is_length len ≡ false))
+    ⊎ ((why ≡ refused.NoPointer) × (is_length len ≡ true) × BookHad D heap (NoneFree m.number))
+    ⊎ ((why ≡ refused.NoRoom) × (is_length len ≡ true) × BookHad D heap (LacksRoom m.number len) × over)

@@ -1,0 +1,19 @@
+-- What a store's threads kept of what they put, and what they found.
+use Rattle.std.specs.Prelude.{◌≡◌, ℕ, ◌<◌, List, slice_get, Result, IfOk}
+use Rattle.std.specs.List.{All}
+use Rattle.far_store.specs.Part.{number_at}
+use Rattle.far_store.specs.Records.{Records, held}
+use Rattle.far_store.specs.declared.desk.Told.{Told}
+use Rattle.far_store.specs.declared.shard.StoreFault.{StoreFault}
+
+-- each record of a shard has the bytes that stand in a list at its place
+abbrev pub AreKept : Records → List (List ℕ) → Type 0
+AreKept shard kept = (at : ℕ) → at < shard.part.count → held shard (number_at shard.part at) ≡ slice_get kept at
+
+-- nothing wrong was found, if all was done
+abbrev pub IsRight : {E : Type 0} → Result Told E → Type 0
+IsRight result = IfOk result (λ told. told.wrong ≡ 0)
+
+-- so it is of each shard
+abbrev pub AreRight : List (Result Told StoreFault) → Type 0
+AreRight shards = All IsRight shards

@@ -1,0 +1,5 @@
+pub mod Counting
+pub mod FreeLogs
+pub mod Kept
+pub mod Part
+pub mod Records

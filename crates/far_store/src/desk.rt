@@ -1,0 +1,198 @@
+//! A shard at work, beside a record of its own of all that was put.
+
+ghost use Rattle.std.specs.Prelude.{◌≡◌, ◌<◌, true, replicate, IfOk};
+ghost use Rattle.std.specs.Vec.{vec_len};
+ghost use Rattle.far_store.specs.Kept.{AreKept};
+
+use crate::counts::Counts;
+use crate::layout::{Part, RECORD};
+use crate::random::Random;
+use crate::shard::{Shard, StoreFault};
+use crate::signs::Signs;
+use far_device::Device;
+use far_heap::{HeapName, Mutator};
+use far_word::Refused;
+use std::alloc::Global;
+use std::sync::Wait;
+
+/// What is to be done with a shard.
+#[derive(Drop)]
+pub struct Job<K: HeapName, D: Device + Drop> {
+    pub mutator: Mutator<K, D>,
+    pub part: Part,
+    pub operations: u64,
+    pub seed: u64,
+}
+
+/// What came of it.
+#[derive(Clone, Copy, Debug)]
+pub struct Told {
+    /// How many records had other bytes than were put last, when they were read.
+    pub wrong: u64,
+    pub counts: Counts,
+}
+
+/// A shard, what was put into each of its records last, and how many records had other bytes.
+#[derive(Drop)]
+struct Desk<K: HeapName, D: Device + Drop> {
+    shard: Shard<K, D>,
+    kept: Vec<[u8; RECORD]>,
+    wrong: u64,
+    ghost many: { vec_len kept ≡ shard.part.count },
+    ghost right: { K.heap.honest ≡ true → AreKept shard kept.items × (wrong ≡ 0) },
+}
+
+impl<K: HeapName, D: Device + Drop> Desk<K, D> {
+    fn new<R: Wait>(
+        rt: &R,
+        alloc: Global,
+        mutator: Mutator<K, D>,
+        part: Part,
+        signs: &Signs,
+    ) -> Result<Desk<K, D>, StoreFault>
+        ensures { IfOk result (λ desk. desk.shard.part ≡ part) }
+    {
+        let Ok(kept) = zeros(alloc, part.count) else {
+            return Err(StoreFault::Heap(Refused::Memory));
+        };
+        match Shard::new(rt, alloc, mutator, part, || signs.has_no_rounds()) {
+            Ok(shard) => Ok(Desk {
+                shard,
+                kept,
+                wrong: 0,
+            }),
+            Err(why) => Err(why),
+        }
+    }
+
+    // Puts bytes into a record.
+    fn put<R: Wait>(
+        &mut self,
+        rt: &R,
+        signs: &Signs,
+        at: u32,
+        bytes: [u8; RECORD],
+    ) -> Result<(), StoreFault>
+        requires { at < self.old.shard.part.count }
+        ensures { self.new.shard.part ≡ self.old.shard.part }
+    {
+        let number = self.shard.part().number(at);
+        let done = self.shard.put(rt, number, &bytes, || signs.has_no_rounds());
+        if done.is_err() {
+            return done;
+        }
+        self.kept[at as usize] = bytes;
+        Ok(())
+    }
+
+    // Reads a record, and counts it if it is wrong.
+    fn check<R: Wait>(&mut self, rt: &R, signs: &Signs, at: u32) -> Result<(), StoreFault>
+        requires { at < self.old.shard.part.count }
+        ensures { self.new.shard.part ≡ self.old.shard.part }
+    {
+        let number = self.shard.part().number(at);
+        let found = match self.shard.get(rt, number, || signs.has_no_rounds()) {
+            Ok(found) => found,
+            Err(why) => return Err(why),
+        };
+        if found != self.kept[at as usize] {
+            self.wrong = self.wrong.saturating_add(1);
+        }
+        Ok(())
+    }
+
+    // Puts bytes at random into each record.
+    fn fill<R: Wait>(
+        &mut self,
+        rt: &R,
+        signs: &Signs,
+        random: &mut Random,
+    ) -> Result<(), StoreFault> {
+        let count = self.shard.part().count;
+        for at in 0..count {
+            if let Err(why) = self.put(rt, signs, at, random.bytes()) {
+                return Err(why);
+            }
+        }
+        Ok(())
+    }
+
+    // Reads or writes a record at random, so many times.
+    fn use_some<R: Wait>(
+        &mut self,
+        rt: &R,
+        signs: &Signs,
+        random: &mut Random,
+        operations: u64,
+    ) -> Result<(), StoreFault> {
+        let count = self.shard.part().count;
+        if count == 0 {
+            return Ok(());
+        }
+        for _ in 0..operations {
+            let at = random.below(count);
+            let done = if random.below(2) == 0 {
+                self.put(rt, signs, at, random.bytes())
+            } else {
+                self.check(rt, signs, at)
+            };
+            if let Err(why) = done {
+                return Err(why);
+            }
+        }
+        Ok(())
+    }
+
+    // Reads each record.
+    fn check_all<R: Wait>(&mut self, rt: &R, signs: &Signs) -> Result<(), StoreFault> {
+        let count = self.shard.part().count;
+        for at in 0..count {
+            if let Err(why) = self.check(rt, signs, at) {
+                return Err(why);
+            }
+        }
+        Ok(())
+    }
+}
+
+// So many records of zeros.
+fn zeros(alloc: Global, count: u32) -> Result<Vec<[u8; RECORD]>, Refused>
+    ensures { IfOk result (λ kept. kept.items ≡ replicate count (replicate RECORD 0)) }
+{
+    let Ok(mut kept) = Vec::with_capacity(alloc, count as usize) else {
+        return Err(Refused::Memory);
+    };
+    for _ in 0..count {
+        kept.push_reserved([0; RECORD]);
+    }
+    Ok(kept)
+}
+
+/// Fills a shard's records, reads and writes some at random, and reads each at the end.
+pub fn work<K: HeapName, D: Device + Drop, R: Wait>(
+    rt: &R,
+    alloc: Global,
+    signs: &Signs,
+    job: Job<K, D>,
+) -> Result<Told, StoreFault>
+    ensures { K.heap.honest ≡ true → IfOk result (λ told. told.wrong ≡ 0) }
+{
+    let mut random = Random::new(job.seed);
+    let mut desk = match Desk::new(rt, alloc, job.mutator, job.part, signs) {
+        Ok(desk) => desk,
+        Err(why) => return Err(why),
+    };
+    if let Err(why) = desk.fill(rt, signs, &mut random) {
+        return Err(why);
+    }
+    if let Err(why) = desk.use_some(rt, signs, &mut random, job.operations) {
+        return Err(why);
+    }
+    if let Err(why) = desk.check_all(rt, signs) {
+        return Err(why);
+    }
+    Ok(Told {
+        wrong: desk.wrong,
+        counts: desk.shard.counts(),
+    })
+}

@@ -1,0 +1,211 @@
+//! Room that another thread makes.
+
+ghost use Rattle.std.specs.Prelude.{◌≡◌, ◌≢◌, ◌++◌, [], List, Ok, true, false, IfOk, IfErr, OnErr};
+ghost use Rattle.std.specs.List.{All};
+ghost use Rattle.far_table.specs.BookSeats.{seat_view};
+ghost use Rattle.far_evac.specs.EvacOf.{moment};
+ghost use Rattle.far_evac.specs.Moment.{nothing, progress_of};
+ghost use Rattle.far_evac.specs.declared.answers.Progress.{Progress as progress};
+ghost use Rattle.far_evac.specs.declared.phase.Phase.TheVariants.{Idle};
+ghost use Rattle.far_heap.specs.BookHad.{BookHad, HasRoom};
+ghost use Rattle.far_heap.specs.Mine.{adopting, is_length, owns, uses};
+ghost use Rattle.far_store.specs.Counting.{counts_of, turns_of};
+ghost use Rattle.far_store.specs.FreeLogs.{Begins, HadFree, IsGivenUp, IsUnmade, LacksFree, Stopped, Turned, free_in};
+ghost use Rattle.far_store.specs.declared.room.Made.TheVariants as made;
+
+use crate::counts::Counts;
+use far_device::Device;
+use far_evac::{EvacFault, LogKind, Phase, Progress};
+use far_heap::{Evacuator, Heap, HeapName, Mutator};
+use far_policy::Policy;
+use far_word::Refused;
+use std::sync::Wait;
+use std::thread;
+
+/// As [`Mutator::alloc`], but while that is refused for want of room other threads run, with the scope closed, and it is tried again, unless `until`
+/// answers true. `waits` counts how often. If nobody makes rounds, or another scope stays open, and `until` never answers true, it never ends.
+pub fn alloc_waiting<K: HeapName, D: Device + Drop, R: Wait, U: Fn() -> bool>(
+    rt: &R,
+    mutator: &mut Mutator<K, D>,
+    len: u16,
+    ds: u8,
+    until: U,
+    waits: &mut u64,
+) -> Result<u16, Refused>
+    requires { U.IsAlwaysCallable until }
+    ensures made { IfOk result (λ p. (is_length len ≡ true) × (owns mutator.old p ≡ true) × (uses mutator.old p ≡ false) × (mutator.new ≡ adopting p len ds mutator.old)) }
+    ensures had { IfOk result (λ p. BookHad D K.heap (HasRoom mutator.old.number len p)) }
+    ensures refused { IfErr result (IsGivenUp D K.heap mutator.old len (U.post until true)) }
+    ensures unchanged { OnErr result (mutator.new ≡ mutator.old) }
+{
+    for _ in rt.forever() {
+        match mutator.alloc(rt, len, ds) {
+            Ok(pointer) => return Ok(pointer),
+            Err(Refused::NoRoom) => {
+                if until() {
+                    return Err(Refused::NoRoom);
+                }
+                *waits = waits.saturating_add(1);
+                thread::yield_now();
+            }
+            Err(why) => return Err(why),
+        }
+    }
+    unreachable!()
+}
+
+// How many logs are free.
+fn free_logs<K: HeapName, D: Device + Drop>(book: &Evacuator<K, D>) -> u64
+    ensures { result ≡ free_in book.now }
+{
+    let logs = book.shape().logs;
+    let mut free = 0u64;
+    for log in 0..logs as u8 {
+        if book.log(log).kind == LogKind::Free {
+            free = free.saturating_add(1);
+        }
+    }
+    free
+}
+
+/// What a step did.
+#[derive(Clone, Copy, Debug)]
+pub enum Made {
+    /// No round stands, and enough logs are free.
+    Enough,
+    /// No round stands, too few logs are free, and the policy chose none.
+    Unchosen,
+    /// No round stood, too few logs are free, and a round was begun.
+    Begun,
+    /// A round stood, and made this turn, after which it stands in this phase, or is over.
+    Turned(Progress, Phase),
+}
+
+fn nothing() -> Progress
+    ensures { result ≡ progress_of nothing false }
+{
+    Progress {
+        moved: 0,
+        far: 0,
+        dropped: 0,
+        freed: 0,
+        done: false,
+    }
+}
+
+// A round that stands goes on by a turn, whoever began it.
+fn go_on<K: HeapName, D: Device + Drop>(book: &mut Evacuator<K, D>) -> Result<Made, EvacFault>
+    requires { book.old.phase ≢ Idle }
+    ensures enough { result ≢ Ok made.Enough }
+    ensures few { result ≢ Ok made.Unchosen }
+    ensures begins { result ≢ Ok made.Begun }
+    ensures turned { IfOk result (λ made. All (Turned D K.heap) (turns_of made)) }
+    ensures refused { IfErr result (Stopped D K.heap) }
+{
+    book.keeps_law();
+    match book.turn() {
+        Ok(turn) => Ok(Made::Turned(turn, book.phase())),
+        Err(fault) => Err(fault),
+    }
+}
+
+// If none stands, one is begun where too few logs are free.
+fn begin<K: HeapName, D: Device + Drop, P: Policy>(
+    book: &mut Evacuator<K, D>,
+    policy: &mut P,
+    free: u64,
+    most: usize,
+) -> Result<Made, EvacFault>
+    requires { book.old.phase ≡ Idle }
+    ensures enough { result ≡ Ok made.Enough → HadFree D K.heap free }
+    ensures few { result ≡ Ok made.Unchosen → LacksFree D K.heap free }
+    ensures begins { result ≡ Ok made.Begun → Begins D K.heap free }
+    ensures other { IfOk result (λ made. turns_of made ≡ []) }
+    ensures refused { IfErr result (λ fault. LacksFree D K.heap free × (fault.so_far ≡ progress_of nothing false)) }
+{
+    book.keeps_law();
+    if free_logs(book) >= free {
+        return Ok(Made::Enough);
+    }
+    match book.select(policy, most) {
+        Ok(chosen) if chosen.is_empty() => Ok(Made::Unchosen),
+        Ok(_) => Ok(Made::Begun),
+        Err(why) => Err(EvacFault {
+            so_far: nothing(),
+            why,
+        }),
+    }
+}
+
+// One step under the lock.
+fn make_step<K: HeapName, D: Device + Drop, R: Wait, P: Policy>(
+    rt: &R,
+    heap: &Heap<K, D>,
+    policy: &mut P,
+    free: u64,
+    most: usize,
+) -> Result<Made, EvacFault>
+    ensures enough { result ≡ Ok made.Enough → HadFree D K.heap free }
+    ensures few { result ≡ Ok made.Unchosen → LacksFree D K.heap free }
+    ensures begins { result ≡ Ok made.Begun → Begins D K.heap free }
+    ensures turned { IfOk result (λ made. All (Turned D K.heap) (turns_of made)) }
+    ensures refused { IfErr result (IsUnmade D K.heap free) }
+{
+    let mut guard = heap.book(rt);
+    let book = &mut *guard;
+    if let Phase::Idle = book.phase() {
+        return begin(book, policy, free, most);
+    }
+    go_on(book)
+}
+
+// Counts what a step did.
+fn counted(counts: Counts, made: Made) -> Counts
+    ensures { (turns : List progress) → counts ≡ counts_of turns → result ≡ counts_of (turns ++ turns_of made) }
+{
+    match made {
+        Made::Turned(turn, _) => Counts {
+            fetches: 0,
+            evictions: counts.evictions.saturating_add(turn.far),
+            moves: counts.moves.saturating_add(turn.moved),
+            rounds: counts.rounds.saturating_add(turn.done as u64),
+            waits: 0,
+        },
+        _ => counts,
+    }
+}
+
+/// For a thread of its own, until `until` answers true: steps, each under the lock anew, between which other threads may run. A step goes on with a round
+/// that stands, by a turn, whoever began it. If none stands it begins one, of at most `most` logs that the policy chooses, where fewer than `free` logs are
+/// free, and else does nothing. So it takes a whole processor. What its turns did is told, but for one that was refused in its midst: that is in the fault.
+///
+/// `free` is 2 to the number of logs less 2, and `most` at least 1; with other numbers those who wait for room may wait for ever. Refused as
+/// [`Evacuator::select`] and [`Evacuator::turn`] are. The round that stands then goes on if the call is made again.
+pub fn keep_free<K: HeapName, D: Device + Drop, R: Wait, P: Policy, U: Fn() -> bool>(
+    rt: &R,
+    heap: &Heap<K, D>,
+    policy: &mut P,
+    free: u64,
+    most: usize,
+    until: U,
+) -> (Counts, Result<(), EvacFault>)
+    requires { U.IsAlwaysCallable until }
+    ensures told { IfOk result.1 (λ _. U.post until true) }
+    ensures counted { (turns : List progress) × All (Turned D K.heap) turns × (result.0 ≡ counts_of turns) }
+    ensures refused { IfErr result.1 (IsUnmade D K.heap free) }
+{
+    let mut counts = Counts::none();
+    for _ in rt.forever() {
+        if until() {
+            return (counts, Ok(()));
+        }
+        match make_step(rt, heap, policy, free, most) {
+            Ok(made) => {
+                counts = counted(counts, made);
+                thread::yield_now();
+            }
+            Err(fault) => return (counts, Err(fault)),
+        }
+    }
+    unreachable!()
+}
