@@ -1,5 +1,5 @@
 -- What a whole text says whose commands are split among threads, line by line; which line is the first that can't be; and that each command has one thread.
-use Rattle.std.specs.Prelude.{◌≡◌, ◌≢◌, ◌⊎◌, ◌↔◌, ℕ, ◌+◌, ◌<◌, ◌≤◌, true, Ok, Err, List, [], ◌∷◌, ◌++◌, Option, None, Some, length, map}
+use Rattle.std.specs.Prelude.{◌≡◌, ◌≢◌, ◌⊎◌, ◌↔◌, ℕ, ◌+◌, ◌<◌, ◌≤◌, true, Ok, Err, List, [], ◌∷◌, ◌++◌, Option, length, map}
 use Rattle.far_text.specs.Command.{Command, Device, HeapLine, CommandLine, Heap, Request, Where, Epoch, Inquiry, Policy, Mutator, Book, Evacuator, Round}
 use Rattle.far_text.specs.Grammar.{lines_of, trace_of}
 use Rattle.far_text.specs.Split.{SplitTrace, NothingSplit, SplitHeap, split_of}
