@@ -73,6 +73,12 @@ module _ (g : Over) (c : After-room g) (answer : Result (List ℕ) DeviceFault) 
       (follows_held g.D.Device.contents g.D.Device.honest g.D.Device.faults g.D.Device.fails_at_most (IsSome (g.D.Device.contents c.self.inside.device c.args.pointer)) (other_than c.args.pointer) (is_fault answer)
       c.self.inside.device d (is_held (told g c)) law)
 
+  -- where it holds what it held, the book's parts are in order with it
+  still_in_order : g.D.Device.contents d ≡ g.D.Device.contents c.self.inside.device → InOrder (g.N.Near.view c.self.inside.near) c.self.inside.ledger (g.D.Device.contents d) (g.D.Device.honest d)
+  still_in_order kept =
+      subst (λ e. InOrder (g.N.Near.view c.self.inside.near) c.self.inside.ledger (g.D.Device.contents d) e) (sym (g.met.D.Device.read_follows _ _ _ _ called).honest)
+      (subst (λ e. InOrder (g.N.Near.view c.self.inside.near) c.self.inside.ledger e (g.D.Device.honest c.self.inside.device)) (sym kept) c.self.invariant.0)
+
 pub room-requires-clause-size : goal.room-requires-clause-size
 room-requires-clause-size g c = omega (arith, c.size_of-size.ensures, (layout (found g (goal.at.room-requires-clause-size g c).In-Far)).1)
 
@@ -98,6 +104,24 @@ come_near-requires-clause-stored g c promised i lt =
 pub take-requires : goal.take-requires
 take-requires g c =
     subst (λ n. MayTake c.self.inside.ledger c.args.pointer n c.in-Some.place) (sym c.size_of-size.ensures) (may_take (has_room (told g (goal.at.take-requires g c).After-room) c.in-Some.place c.in-Some.is))
+
+pub invariant_of-self : goal.invariant_of-self
+invariant_of-self g c = (
+  still_in_order g (goal.at.invariant_of-self g c).After-room _ c.read_into.new.self c.read_into.ensures.called c.read_into.ensures.kept,
+  enough c.self.inside.buffer c.replace-bytes.result c.read_into.new.buffer c.replace-bytes.ensures.value c.self.invariant.1 c.read_into.ensures.room,
+)
+
+pub invariant_of-self-in-Err-Device : goal.invariant_of-self-in-Err-Device
+invariant_of-self-in-Err-Device g c = (
+  still_in_order g (goal.at.invariant_of-self-in-Err-Device g c).After-room _ c.read_into.new.self c.read_into.ensures.called c.read_into.ensures.kept,
+  enough c.self.inside.buffer c.replace-bytes.result c.read_into.new.buffer c.replace-bytes.ensures.value c.self.invariant.1 c.read_into.ensures.room,
+)
+
+pub invariant_of-self-then-len : goal.invariant_of-self-then-len
+invariant_of-self-then-len g c = (
+  still_in_order g (goal.at.invariant_of-self-then-len g c).After-room _ c.read_into.new.self c.read_into.ensures.called c.read_into.ensures.kept,
+  enough c.self.inside.buffer c.replace-bytes.result c.read_into.new.buffer c.replace-bytes.ensures.value c.self.invariant.1 c.read_into.ensures.room,
+)
 
 pub invariant_of-self-in_default-come_near : goal.invariant_of-self-in_default-come_near
 invariant_of-self-in_default-come_near g c =
