@@ -1,12 +1,16 @@
 use Rattle.far_book.proofs.book.Book.retire.Goals as goal
-use Rattle.std.proofs.Common.{◌≡◌, ◌∙◌, ◌<◌, ◌*◌, ap, sym, subst, true}
+use Rattle.std.proofs.Common.{◌≡◌, ◌∙◌, ◌<◌, ◌*◌, ap, rules, sym, subst, false, true}
 use Rattle.far_word.specs.declared.sizes.TheConstants.{CELLS}
 use Rattle.far_word.specs.Pointer.{read_of}
 use Rattle.far_core.specs.events.Naming.{is_dropped}
 use Rattle.far_core.specs.state.State.{State}
+use Rattle.far_device.specs.Following.{Follows, other_than}
+use Rattle.far_hand.specs.Known.{Forgets}
 use Rattle.far_book.specs.book.BookOf.{BookOf}
+use Rattle.far_book.specs.book.Effects.{retired}
 use Rattle.far_book.specs.book.Ledger.{Notes, MayRetire}
 use Rattle.far_book.specs.book.Own.{own_part}
+use Rattle.far_book.proofs.region.Handed.{since_book}
 use Rattle.far_book.proofs.region.InOrders.{retired_far, retired_honest}
 use Rattle.far_book.proofs.region.Owns.{own_retired}
 
@@ -30,3 +34,25 @@ invariant_of-self g c =
       },
       c.self.invariant.1,
     )
+
+pub returns : goal.returns
+returns g c =
+    let same = ap (λ (b : BookOf g.row.N.Denot g.row.D.Denot). g.N.Near.view b.near) c.self.view_is in
+    let device = ap (λ (b : BookOf g.row.N.Denot g.row.D.Denot). b.device) c.self.view_is in
+    let freed = g.N.Near.view c.free_cell-was.new.near in
+    record {
+      came = since_book c.self.view_is c.free_cell-was.ensures.came;
+      kept = c.free_cell-was.ensures.kept ∙ ap (λ (s : State). record (retired s c.args.pointer) { word = freed.word }) same;
+      forgot = subst (λ (s : State). Forgets s freed) same c.free_cell-was.ensures.forgot;
+      exact = λ still. c.free_cell-was.ensures.exact still ∙ ap (λ (s : State). retired s c.args.pointer) same;
+      order = search rules;
+      called = subst (λ (d : g.row.D.Denot). g.D.Device.lets_go d c.args.pointer c.forget.new.self) device c.forget.ensures.called;
+      gone = c.forget.ensures.gone;
+      follows = subst (λ (d : g.row.D.Denot). Follows g.D.Device.contents g.D.Device.honest g.D.Device.faults g.D.Device.fails_at_most (other_than c.args.pointer) false d c.forget.new.self) device
+          (g.met.D.Device.forget_follows _ _ _ c.forget.ensures.called);
+      ran = λ still. record {
+        pointer = c.requires.pointer;
+        dropped = c.requires.dropped;
+        after = c.free_cell-was.ensures.exact still ∙ ap (λ (s : State). retired s c.args.pointer) same;
+      };
+    }
