@@ -21,6 +21,7 @@ ghost use Rattle.far_evac.specs.MomentLaw.{MomentLaw};
 ghost use Rattle.far_evac.specs.declared.phase.Phase.TheVariants.{Idle};
 ghost use Rattle.far_heap.specs.HeapId.{heap_of};
 
+mod held;
 mod owners;
 mod rounds;
 mod turns;
@@ -101,8 +102,7 @@ impl<K: HeapName, D: Device + Drop> Evacuator<K, D> {
         ensures honest { (x : State) → seat_may_be self.now.book.near x → x.honest ≡ true → D.honest self.now.book.device ≡ true }
         ensures there { ∥ ((x : State) × seat_may_be self.now.book.near x) ∥₁ }
     {
-        self.evac.keeps_law();
-        self.evac.book().keeps_law();
+        held::keeps_law(&self.evac);
     }
 
     /// How large the heap is, and its epoch now.
@@ -110,7 +110,7 @@ impl<K: HeapName, D: Device + Drop> Evacuator<K, D> {
         ensures is { result ≡ shape_of (seat_view self.now.book.near) }
         ensures range { is_shape result ≡ true }
     {
-        self.evac.book().shape()
+        held::shape(&self.evac)
     }
 
     /// Where the round stands.

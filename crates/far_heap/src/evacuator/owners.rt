@@ -17,7 +17,7 @@ ghost use Rattle.far_heap.specs.Helping.{FetchesIt, Looks, MovesIt, PlacesNew, R
 ghost use Rattle.far_heap.specs.Mine.{IsUnbrought};
 ghost use Rattle.far_heap.specs.BookHad.{BookHad, IsFreed, LacksRoom, NoneFree, Unbrought};
 
-use crate::evacuator::Evacuator;
+use crate::evacuator::{Evacuator, held};
 use crate::name::HeapName;
 use crate::own::{DropAsked, MoveAsked};
 use far_book::Home;
@@ -71,14 +71,7 @@ impl<K: HeapName, D: Device + Drop> Evacuator<K, D> {
         ensures full { result ≡ Err NoRoom → LacksRoom owner len (seat_view self.old.book.near) }
         ensures unchanged { IfErr result (λ _. self.new ≡ self.old) }
     {
-        self.evac.keeps_law();
-        let Some(pointer) = self.evac.book().free_cell(owner) else {
-            return Err(Refused::NoPointer);
-        };
-        match self.evac.place(pointer, len, ds) {
-            Ok(_) => Ok(pointer),
-            Err(why) => Err(why),
-        }
+        held::place_new(&mut self.evac, owner, len, ds)
     }
 
     // Fetches a far object, by one look at its cell: what the fetch answers. `None` where it isn't far; nothing else is done then.
@@ -94,8 +87,7 @@ impl<K: HeapName, D: Device + Drop> Evacuator<K, D> {
         if !is_far(self.evac.locate(pointer)) {
             return None;
         }
-        self.evac.book().keeps_law();
-        Some(self.evac.fetch(pointer))
+        Some(held::fetch(&mut self.evac, pointer))
     }
 
     // Moves a near object that its owner has asked for, by one look at its cell, where the round wants its log; else it stays, without MOVE: what the move

@@ -8,7 +8,7 @@ ghost use Rattle.far_policy.specs.Logs.{is_among};
 ghost use Rattle.far_evac.specs.Moment.{nothing, progress_of, tally_of};
 ghost use Rattle.far_heap.specs.Rounds.{Chooses, ChoosesNone, StopsTurn, Turns, is_round_of};
 
-use crate::evacuator::Evacuator;
+use crate::evacuator::{Evacuator, held};
 use crate::name::HeapName;
 use far_device::Device;
 use far_evac::{EvacFault, Phase, Progress};
@@ -29,7 +29,7 @@ pub(crate) fn nothing_done() -> Progress
 }
 
 // Whether each of these logs was chosen.
-fn has_each(chosen: &Chosen, logs: &[u8]) -> bool
+pub(crate) fn has_each(chosen: &Chosen, logs: &[u8]) -> bool
     ensures { result ≡ list_all (is_among chosen.now) logs.now }
 {
     logs.iter().all(|log| chosen.contains(*log))
@@ -40,14 +40,7 @@ impl<K: HeapName, D: Device + Drop> Evacuator<K, D> {
     fn is_round_of(&self, chosen: &Chosen) -> bool
         ensures { result ≡ is_round_of self.now.copying chosen.now self.now.collection }
     {
-        let left = self.evac.collection();
-        if left.is_empty() {
-            return false;
-        }
-        if self.evac.is_copying() {
-            return has_each(chosen, left);
-        }
-        chosen.as_slice().ends_with(left)
+        held::is_round_of(&self.evac, chosen)
     }
 
     // Asks a policy for logs, as `select` does, and says which book it was that was asked of.

@@ -1,7 +1,5 @@
-use Rattle.std.proofs.Common.{◌≡◌, true, subst, sym, refl, ◌∙◌}
+use Rattle.std.proofs.Common.{subst, sym, refl, ◌∙◌}
 use Rattle.far_table.specs.declared.book.BookSeat.{BookSeat}
-use Rattle.far_table.specs.BookSeats.{seat_view}
-use Rattle.far_book.specs.book.BookOf.{BookOf}
 use Rattle.far_evac.specs.EvacOf.{EvacOf, SameRound}
 use Rattle.far_heap.specs.Helping.{Looks}
 use Rattle.far_heap.proofs.Causes.{fetch_cause}
@@ -14,7 +12,7 @@ fetch-requires-clause-far g c = is_far _ c.args.pointer (sym (c.is_far.ensures _
 
 pub invariant_of-self-2 : goal.invariant_of-self-2
 invariant_of-self-2 g c =
-    stays_named _ c.locate.new.self c.fetch.new.self c.fetch.ensures.fetched.came c.fetch.ensures.round.2
+    stays_named _ c.locate.new.self c.fetch.new.evac c.fetch.ensures.fetched.came c.fetch.ensures.round.2
     (stays_named _ c.self.inside.evac c.locate.new.self c.locate.ensures.found.came c.locate.ensures.round.2 c.self.invariant)
 
 pub returns-then-not-is_far-clause-fetched : goal.returns-then-not-is_far-clause-fetched
@@ -43,7 +41,7 @@ pub returns-clause-cause : goal.returns-clause-cause
 returns-clause-cause g c =
     let found = c.locate.new.self in
     let named = stays_named g.K.HeapName.heap c.self.inside.evac found c.locate.ensures.found.came c.locate.ensures.round.2 c.self.invariant in
-    let honest = subst (λ (b : BookOf (BookSeat g.row.D.Denot) g.row.D.Denot). (seat_view b.near).honest ≡ true → g.D.Device.honest b.device ≡ true) c.book.ensures c.keeps_law.ensures.honest in
+    let honest = c.fetch.ensures.honest in
     fetch_cause g.K.HeapName.heap found named c.args.pointer (g.D.Device.honest found.book.device) c.fetch.result
     (sym (c.is_far.ensures _ c.locate.ensures.found.home) ∙ c.if-not-is_far.false) honest c.fetch.ensures.fetched.refused
 
@@ -54,4 +52,4 @@ pub returns-clause-round : goal.returns-clause-round
 returns-clause-round g c =
     let l = c.locate.ensures.round in
     let f = c.fetch.ensures.round in
-    subst (λ (e : EvacOf (BookSeat g.row.D.Denot) g.row.D.Denot). SameRound e c.fetch.new.self) c.self.view_is (f.0 ∙ l.0, f.1 ∙ l.1, f.2 ∙ l.2)
+    subst (λ (e : EvacOf (BookSeat g.row.D.Denot) g.row.D.Denot). SameRound e c.fetch.new.evac) c.self.view_is (f.0 ∙ l.0, f.1 ∙ l.1, f.2 ∙ l.2)

@@ -1,4 +1,4 @@
-use Rattle.std.proofs.Common.{◌≡◌, true, ap, subst, ◌∙◌}
+use Rattle.std.proofs.Common.{◌≡◌, true, ap, subst}
 use Rattle.far_table.specs.declared.book.BookSeat.{BookSeat}
 use Rattle.far_table.specs.BookSeats.{seat_lawful, seat_shown, seat_there, seat_view}
 use Rattle.far_table.proofs.ViewedLogs.{none_is_given_out}
@@ -17,14 +17,14 @@ returns-clause-kept g c = λ x may. none_is_given_out x (seat_lawful c.args.self
 
 pub returns-clause-far : goal.returns-clause-far
 returns-clause-far g c =
-    let book = c.book.ensures ∙ ap (λ (e : EvacOf (BookSeat g.row.D.Denot) g.row.D.Denot). e.book) c.self.view_is in
-    let far = subst (λ (b : BookOf (BookSeat g.row.D.Denot) g.row.D.Denot). HoldsFar (seat_view b.near) (g.D.Device.contents b.device)) book c.keeps_law-2.ensures.far in
+    let book = ap (λ (e : EvacOf (BookSeat g.row.D.Denot) g.row.D.Denot). e.book) c.self.view_is in
+    let far = subst (λ (b : BookOf (BookSeat g.row.D.Denot) g.row.D.Denot). HoldsFar (seat_view b.near) (g.D.Device.contents b.device)) book c.keeps_law.ensures.far in
     λ x may. far_shown (seat_view c.args.self.now.book.near) x (g.D.Device.contents c.args.self.now.book.device) (seat_shown c.args.self.now.book.near x may) far
 
 pub returns-clause-honest : goal.returns-clause-honest
 returns-clause-honest g c =
-    let book = c.book.ensures ∙ ap (λ (e : EvacOf (BookSeat g.row.D.Denot) g.row.D.Denot). e.book) c.self.view_is in
-    let honest = subst (λ (b : BookOf (BookSeat g.row.D.Denot) g.row.D.Denot). (seat_view b.near).honest ≡ true → g.D.Device.honest b.device ≡ true) book c.keeps_law-2.ensures.honest in
+    let book = ap (λ (e : EvacOf (BookSeat g.row.D.Denot) g.row.D.Denot). e.book) c.self.view_is in
+    let honest = subst (λ (b : BookOf (BookSeat g.row.D.Denot) g.row.D.Denot). (seat_view b.near).honest ≡ true → g.D.Device.honest b.device ≡ true) book c.keeps_law.ensures.honest in
     λ x may h. honest (honest_shown (seat_view c.args.self.now.book.near) x (seat_shown c.args.self.now.book.near x may) h)
 
 pub returns-clause-there : goal.returns-clause-there
