@@ -239,32 +239,35 @@ fn bytes_are_handed_over(rt: HostRuntime) -> Result<(), Fail> {
     Ok(())
 }
 
+// Whether what is sent there and back is refused so, and so many faults are counted then.
+fn refuses<D: Device + Drop>(device: &mut D, why: DeviceFault, faults: u64) -> bool {
+    match there_and_back(device, 1, &[1]) {
+        Ok(_) => false,
+        Err(fault) => fault == why && device.faults() == faults,
+    }
+}
+
+// Whether a byte less comes back, and no fault is counted.
+fn comes_back_short(device: &mut Short<MemDevice>) -> bool {
+    let is_short = match there_and_back(device, 1, &[1, 2]) {
+        Ok(bytes) => bytes.as_slice() == [1].as_slice(),
+        Err(_) => false,
+    };
+    is_short && device.faults() == 0 && gives(&mut device.inner, 1, &[1, 2])
+}
+
 #[test]
-fn other_devices(rt: HostRuntime) -> Result<(), Fail> {
+fn other_devices(rt: HostRuntime) {
     let mut broken = Broken { faults: 0 };
     let mut starved = Starved {};
     let mut short = Short {
         inner: MemDevice::new(rt.alloc()),
     };
-    assert_eq!(rt;
-        there_and_back(&mut broken, 1, &[1]).err(),
-        Some(DeviceFault::Device)
-    );
-    assert_eq!(rt; broken.faults(), 1);
-    assert_eq!(rt;
-        there_and_back(&mut starved, 1, &[1]).err(),
-        Some(DeviceFault::Memory)
-    );
-    assert_eq!(rt; starved.faults(), 0);
-    assert_eq!(rt;
-        there_and_back(&mut short, 1, &[1, 2])?.as_slice(),
-        [1].as_slice()
-    );
-    assert_eq!(rt; short.faults(), 0);
-    assert_eq!(rt; short.inner.read(1)?.as_slice(), [1, 2].as_slice());
+    assert!(rt; refuses(&mut broken, DeviceFault::Device, 1));
+    assert!(rt; refuses(&mut starved, DeviceFault::Memory, 0));
+    assert!(rt; comes_back_short(&mut short));
     assert!(rt; !never_fails(&mut starved, 1, &[1]));
     assert!(rt; !never_fails(&mut short.inner, 1, &[1]));
-    Ok(())
 }
 
 #[test]
@@ -352,12 +355,8 @@ fn texts(rt: HostRuntime) -> Result<(), Fail> {
     let alloc = rt.alloc();
     assert!(rt; DeviceFault::Memory != DeviceFault::Device);
     assert_eq!(rt;
-        format!(in alloc; "{}", DeviceFault::Memory)?.as_str(),
-        "a growth was refused"
-    );
-    assert_eq!(rt;
-        format!(in alloc; "{}", DeviceFault::Device)?.as_str(),
-        "the device failed"
+        format!(in alloc; "{}, {}", DeviceFault::Memory, DeviceFault::Device)?.as_str(),
+        "a growth was refused, the device failed"
     );
     Ok(())
 }

@@ -377,7 +377,7 @@ fn names_all<N: Near + Drop>(book: &mut JobBook<N>) -> bool {
 }
 
 // What the book's thread does; and tells the copiers that all is over.
-fn copies_all(mut book: JobBook<BookSeat<MemDevice>>, over: &AtomicU64) -> bool {
+fn copies_all<N: Near + Drop>(mut book: JobBook<N>, over: &AtomicU64) -> bool {
     let done = offers_all(&mut book) && names_all(&mut book);
     over.store(1, Ordering::SeqCst);
     done
