@@ -11,6 +11,7 @@ import sys
 import time
 
 TICKS = os.sysconf("SC_CLK_TCK")
+ENDS = 60  # (looks in a row that find nothing of the gate)
 
 
 def text_of(path):
@@ -65,13 +66,14 @@ def table(works, spent, minutes):
 
 def main():
     root, out = os.path.realpath(sys.argv[1]), pathlib.Path(sys.argv[2])
-    works, spent, begun, looks = {}, {}, time.time(), 0
-    while look(root, works, spent) or not spent:
+    works, spent, begun, looks, idle = {}, {}, time.time(), 0, 0
+    while idle < ENDS or not spent:
+        idle = 0 if look(root, works, spent) else idle + 1
         looks += 1
         if looks % 20 == 0:
             out.write_text(table(works, spent, (time.time() - begun) / 60))
         time.sleep(1)
-    out.write_text(table(works, spent, (time.time() - begun) / 60))
+    out.write_text(table(works, spent, (time.time() - begun - idle) / 60))
 
 
 if __name__ == "__main__":
