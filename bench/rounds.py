@@ -6,7 +6,7 @@ usage: rounds.py PROGRAM TWIN     each a command, as 'twin --stage 10'
 First a text of just under 1 MiB: rounds over a thousand objects of which some are near, some hot and some far. Both programs run under callgrind,
 their outputs are compared, and the ratio of their instructions is printed. Then the instructions of one line `round oldest 1 1000`, a text with it
 less the same text without it, as one number of the heap grows: they are to be linear in the live objects of the chosen log, and nearly independent of
-all else. Ends with 1 where outputs differ or the ratio is above the bar. It needs valgrind.
+all else. Last the instructions of PROGRAM for a round that sends the objects of a log far again, as they came and written since. Ends with 1 where outputs differ or the ratio is above the bar. It needs valgrind.
 """
 import random
 import re
@@ -102,6 +102,28 @@ def grows(programs: list, name: str, key: str, numbers: tuple, rest: dict) -> bo
     return True
 
 
+def log_of(command: list, lines: list, pointer: int) -> str:
+    """The log in which an object lies after these lines."""
+    return output(command, "\n".join([*lines, f"where 0 {pointer}", ""])).split()[-3].decode()
+
+
+def emptied(log: str) -> list:
+    """A round of one log."""
+    return [f"select script 1 {log}", "mark 1000", "wait", "evacuate 1000"]
+
+
+def far_again(command: list, size: int, written: bool) -> int:
+    """What a round costs that sends objects of so many bytes, a log full of them, far again: as they came near, or written since."""
+    count = 1024 // (8 + 8 * -(-size // 8))
+    lines = ["heap 16 1", *(f"new 0 {size} 1" for _ in range(count)), "new 0 1016 1", *emptied("0")]
+    lines += ["open 0", *(f"read 0 {p} 0 1" for p in range(count)), *(f"write 0 {p} 0 ff" for p in range(count) if written), "close 0", "new 0 1016 1"]
+    lines += [*emptied(log_of(command, lines, 0)), "new 0 1016 1"]
+    last = emptied(log_of(command, lines, 0))
+    texts = ["\n".join([*text, ""]) for text in (lines, lines + last)]
+    assert f"far {count} " in output(command, texts[1]).split(b"\n")[-2].decode()
+    return instructions(command, texts[1]) - instructions(command, texts[0])
+
+
 def main() -> int:
     programs = [shlex.split(word) for word in sys.argv[1:3]]
     text = many_rounds()
@@ -114,6 +136,9 @@ def main() -> int:
           f"a line {counts[0] / lines:.1f} to {counts[1] / lines:.1f}; ratio {ratio:.2f}, the bar is {BAR}")
     alike = all(grows(programs, *series) for series in SERIES)
     print("outputs are equal" if alike else "OUTPUTS DIFFER")
+    for size in (8, 64, 1016):
+        clean, dirty = (far_again(programs[0], size, written) for written in (False, True))
+        print(f"a log of objects of {size} bytes sent far again: {clean:,} as they came, {dirty:,} written since, ratio {clean / dirty:.2f}")
     return 0 if alike and ratio <= BAR else 1
 
 

@@ -19,7 +19,7 @@ COMMANDS |= {b"device": "fn"}
 COMMANDS |= {b"select": "pm", b"mark": "n", b"wait": "", b"evacuate": "n", b"abort": "", b"round": "pmn"}
 LARGEST = {"n": LAST_NUMBER, "m": 64, "l": 255}
 POLICIES = {"p": (b"oldest", b"leastlive"), "s": (b"script",), "f": (b"fail", b"short", b"flip")}
-MARKS = {"h": 62, "e": 61, "m": 60}
+MARKS, DIRTY = {"h": 62, "e": 61, "m": 60}, 57  # (the bits of the marks that `where` prints, and of the one that it doesn't)
 
 
 def operand(kind: str, word: bytes):
@@ -77,10 +77,14 @@ def taken(length: int) -> int:
 
 
 class Thing:
-    """An object: its bytes, its data structure, the letters of its marks, its log and the word in it; far it has no log."""
+    """An object: its bytes, its data structure, the letters of its marks, its log and the word in it; far it has no log.
+
+    It is dirty from `new` or a write on, until it is far: the device holds other bytes than these, or none.
+    """
 
     def __init__(self, length: int, ds: int):
         self.bytes, self.ds, self.marks, self.log, self.word = bytearray(length), ds, set(), None, 0
+        self.is_dirty, self.stored = True, b""
 
     def lies(self, log, word: int = 0):
         """It lies there from now on, without marks."""
@@ -89,7 +93,7 @@ class Thing:
     def cell(self) -> int:
         """The word of its cell."""
         at = (self.word << 24 | self.log << 34 | 1 << 63) if self.log is not None else 0
-        return at | 1 << 58 | self.ds << 16 | len(self.bytes) | sum(1 << MARKS[mark] for mark in self.marks)
+        return at | 1 << 58 | self.is_dirty << DIRTY | self.ds << 16 | len(self.bytes) | sum(1 << MARKS[mark] for mark in self.marks)
 
 
 class Heap:
@@ -101,19 +105,19 @@ class Heap:
         self.objects, self.scopes, self.told = [{} for _ in range(mutators)], [None] * mutators, [None] * mutators
         self.views = [set() for _ in range(mutators)]
         self.phase, self.collection, self.clear = "idle", [], set()
-        self.flaw, self.left, self.failed, self.counts = "fail", 0, False, (0, 0, 0)
+        self.flaw, self.call, self.calls, self.spared, self.failed, self.counts = "fail", 0, 0, 0, False, (0, 0, 0)
 
     def device(self, flaw: str, call: int) -> str:
         """Of its writes and reads this one fails, counted from 1; or of its reads alone this one is a lie."""
-        self.flaw, self.left = flaw, call
+        self.flaw, self.call = flaw, call
         return "ok"
 
     def is_flawed(self, is_read: bool) -> bool:
         """Counts a read, or a write of a device that is to fail; whether it is the one."""
         if not is_read and self.flaw != "fail":
             return False
-        self.left, flawed = max(0, self.left - 1), self.left == 1
-        return flawed
+        self.calls += 1
+        return self.calls == self.call
 
     def has_room(self, found: Thing, kept: int) -> bool:
         """Whether it can be placed where more than so many logs are free."""
@@ -131,6 +135,28 @@ class Heap:
         found.lies(self.newest, self.placed[self.newest] // 8)
         self.placed[self.newest] += size
         return True
+
+    def send(self, found: Thing) -> bool:
+        """Sends it far: one that is dirty by a write of the device; answers whether that came off."""
+        if found.is_dirty:
+            if self.is_flawed(False):
+                return False
+            found.stored, found.is_dirty = bytes(found.bytes), False
+        else:
+            self.spared += 1
+        found.lies(None)
+        return True
+
+    def fetch(self, found: Thing) -> str:
+        """Reads its bytes from the device, which keeps them, and places it; or the refusal."""
+        if not self.has_room(found, 1):
+            return "refused 2"
+        flawed = self.is_flawed(True)
+        if flawed and self.flaw != "flip":
+            return "refused 10" if self.flaw == "fail" else "refused 11"
+        found.bytes = bytearray(255 - byte if flawed else byte for byte in found.stored)
+        self.place(found, 1)
+        return "ok"
 
     def new(self, m: int, length: int, ds: int) -> str:
         if m >= len(self.scopes) or ds > 255:
@@ -190,11 +216,10 @@ class Heap:
         found.marks.add("h")
         if "e" in found.marks:
             found.marks.add("m")
-        if found.log is None and self.has_room(found, 1) and self.is_flawed(True):
-            if self.flaw != "flip":
-                return "refused 10" if self.flaw == "fail" else "refused 11"
-            found.bytes = bytearray(255 - byte for byte in found.bytes)
-        if (found.log is None or "e" in found.marks) and not self.place(found, 1 if found.log is None else 0):
+        if found.log is None:
+            if (said := self.fetch(found)) != "ok":
+                return said
+        elif "e" in found.marks and not self.place(found, 0):
             return "refused 2"
         found.marks = {"h"}
         self.views[m].add(p)
@@ -211,7 +236,7 @@ class Heap:
             return said
         if isinstance(data, int):
             return "data " + found.bytes[start:end].hex()
-        found.bytes[start:end] = data
+        found.bytes[start:end], found.is_dirty = data, True
         return "ok"
 
     def where(self, m: int, p: int) -> str:
@@ -313,12 +338,11 @@ class Heap:
                     return moved, far, freed
                 if "h" in found.marks and self.place(found, 0):
                     moved += 1
-                elif self.is_flawed(False):
+                elif self.send(found):
+                    far += 1
+                else:
                     self.failed = True
                     return moved, far, freed
-                else:
-                    found.lies(None)
-                    far += 1
             self.placed[self.collection[0]] = None
             self.sealed.remove(self.collection.pop(0))
             freed += 1
@@ -397,26 +421,30 @@ class Writer:
         elif self.choice.random() < 0.05:
             self.shape = (self.choice.choice((0, 1, 2, 64, 65, LAST_NUMBER)), self.choice.choice((0, 1, 8, 9, 2**32 + 1)))
         self.largest, self.rounds = self.choice.choice((1, 9, 40, 300, MOST, MOST)), self.choice.choice((0, 4, 20, 20))
+        # How often an access is a write, how many objects of a mutator are in use, and how often all others are sent far.
+        self.writes, self.few, self.sweeps = self.choice.choice((0.5, 0.1)), self.choice.choice((3, CELLS, CELLS)), self.choice.choice((0, 0, 6))
+        self.is_unsettled = False
 
     def odd(self, good: int) -> int:
         """The number, or now and then one that is seldom good."""
         return good if self.choice.random() > 0.04 else self.choice.choice((0, 8, 255, 256, MOST, MOST + 1, 2**32, 2**63, LAST_NUMBER))
 
-    def pointer(self, m: int) -> int:
-        """A pointer of the mutator's, most often of an object."""
+    def pointer(self, m: int, most: int = CELLS) -> int:
+        """A pointer of the mutator's, most often of one of its first objects."""
         found = self.heap.objects[m]
-        asking = [cell for cell in found if "m" in found[cell].marks or found[cell].log is None]
-        return CELLS * m + self.choice.choice([*sorted(found), *asking * 4, min(len(found), CELLS - 1)])
+        used = sorted(found)[:most]
+        asking = [cell for cell in used if "m" in found[cell].marks or found[cell].log is None]
+        return CELLS * m + self.choice.choice([*used, *asking * 4, min(len(found), CELLS - 1)])
 
     def access(self, m: int) -> str:
-        pointer = self.pointer(m)
+        pointer = self.pointer(m, self.few)
         found = self.heap.objects[m].get(pointer % CELLS)
         length = 9 if found is None else len(found.bytes)
         start = self.choice.randint(0, length)
         rest = length - start
         size = self.choice.choice((0, 1, 8, rest, rest, rest, rest + 1, self.choice.randrange(20)))
         place = f"{self.odd(m)} {self.odd(pointer)} {self.odd(start)}"
-        if self.choice.random() < 0.5:
+        if self.choice.random() > self.writes:
             return f"read {place} {self.odd(size)}"
         return f"write {place} " + "".join(self.choice.choice("0123456789abcdefABCDEF") for _ in range(2 * max(size, 1)))
 
@@ -447,6 +475,17 @@ class Writer:
             return f"select {policy}" if kind == "select" else f"round {policy} {number}"
         return kind if kind in ("wait", "abort") else f"{kind} {number}"
 
+    def sweep(self, m: int) -> list:
+        """Lines that seal a log and, while no scope is open, send far all in sealed logs that wasn't in use since it was placed there.
+
+        Once a write was spared it may be settled before them that a call of the device which comes soon is the flawed one.
+        """
+        if self.is_unsettled and self.heap.spared and self.choice.random() < 0.5:
+            self.heap.call, self.is_unsettled = self.heap.calls + self.choice.choice((1, 1, 2, 3, 5)), False
+        scopes = [other for other, epoch in enumerate(self.heap.scopes) if epoch is not None]
+        lines = [f"close {other}" for other in scopes] + ["abort"] * (self.heap.phase != "idle")
+        return [*lines, f"new {m} {MOST} 0", f"round oldest 64 {LAST_NUMBER}", *(f"open {other}" for other in scopes)]
+
     def operands(self, kind: str, m: int) -> str:
         """A command with operands, by its name."""
         if kind == "access":
@@ -456,7 +495,7 @@ class Writer:
         if kind == "log":
             return f"log {self.odd(self.choice.randrange(self.shape[0] or 1))}"
         if kind in ("where", "drop", "view", "try"):
-            return f"{kind} {self.odd(m)} {self.odd(self.pointer(m))}"
+            return f"{kind} {self.odd(m)} {self.odd(self.pointer(m, self.few if kind in ('view', 'try') else CELLS))}"
         if kind == "new":
             length = self.choice.choice((self.largest, self.choice.randint(1, self.largest)))
             return f"new {self.odd(m)} {self.odd(length)} {self.odd(self.choice.randrange(256))}"
@@ -464,11 +503,11 @@ class Writer:
 
     def line(self) -> str:
         m = self.choice.randrange(len(self.heap.scopes))
-        kinds = ("new", "access", "open", "close", "where", "drop", "view", "try", "epoch", "log", "logs", "audit", "", "# words", "turn")
-        kind = self.choice.choices(kinds, (10, 30, 8, 2, 4, 4, 3, 3, 4, 2, 1, 1, 1, 1, self.rounds))[0]
+        kinds = ("new", "access", "open", "close", "where", "drop", "view", "try", "epoch", "log", "logs", "audit", "", "# words", "turn", "sweep")
+        kind = self.choice.choices(kinds, (10, 30, 8, 2, 4, 4, 3, 3, 4, 2, 1, 1, 1, 1, self.rounds, self.sweeps))[0]
         if kind in ("", "# words"):
             return kind
-        made = [kind if kind in ("logs", "audit") else self.operands(kind, m)]
+        made = self.sweep(m) if kind == "sweep" else [kind if kind in ("logs", "audit") else self.operands(kind, m)]
         if kind == "turn" and self.choice.random() < 0.3:
             made = [f"close {other}" for other, epoch in enumerate(self.heap.scopes) if epoch is not None] + made
         for line in made:
@@ -491,19 +530,24 @@ class Writer:
         lines[at] = self.choice.choice([b" " + line, byte + line, line[:-1], line.upper(), *signs, *ends, *others.split(b"|"), *long])
         return b"\n".join(lines)
 
-    def device(self) -> str:
-        """A device's line, most often of one whose flaw comes soon; rounds are to send it objects."""
+    def flaw(self):
+        """Gives the heap a device that is flawed, most often soon, or at a call that is settled later; rounds are to send it objects."""
+        self.rounds, self.few, self.sweeps = self.choice.choice(((20, CELLS, 0), (20, 3, 6), (0, 3, 12)))
+        self.largest, self.is_unsettled = self.choice.choice((40, 300, MOST)), self.sweeps > 0 and self.choice.random() < 0.7
         soon, late = self.choice.randint(1, 30), self.choice.randint(1, 300)
-        call = self.choice.choice((0, 1, 1, 2, 3, soon, soon, late, LAST_NUMBER))
-        flaw, self.rounds, self.largest = self.choice.choice(("fail", "short", "flip")), 20, self.choice.choice((300, MOST))
-        self.heap.device(flaw, call)
-        return f"device {flaw} {call}"
+        if self.is_unsettled:
+            self.writes, self.few = self.choice.choice((0.1, 0.1, 0.5)), 2
+        call = 0 if self.is_unsettled else self.choice.choice((0, 1, 1, 2, 3, soon, soon, late, LAST_NUMBER))
+        self.heap.device(self.choice.choice(("fail", "short", "flip")), call)
 
     def text(self) -> bytes:
         lines = [*self.choice.choice(([], [], ["# first", ""])), " ".join(["heap", *map(str, self.shape)])]
         if flawed := self.choice.random() < 0.4:
-            lines += self.choice.choice(([], [], ["# its device", ""])) + [self.device()]
-        lines += [self.line() for _ in range(self.choice.choice((4, 40, 200, 1_000)[flawed:]))]
+            self.flaw()
+        made = [self.line() for _ in range(self.choice.choice((4, 40, 200, 1_000)[flawed:]))]
+        if flawed:
+            lines += self.choice.choice(([], [], ["# its device", ""])) + [f"device {self.heap.flaw} {self.heap.call}"]
+        lines += made
         text = ("\n".join(lines) + self.choice.choice(("\n", "\n", "", "\n\n"))).encode()
         if self.choice.random() < 0.02:
             text += b"\n" * (TEXT_LIMIT - len(text) + self.choice.randrange(2))

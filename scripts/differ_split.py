@@ -4,16 +4,18 @@
 usage: differ_split.py PROGRAM SEED TRACES
 Each mutator's replies must follow from its own lines, whatever other threads do: only where there is no room for an object
 that it doesn't view, or `try` finds it far or marked, may a line be refused that else is served. Of a device that fails or
-gives too few bytes one line may be refused besides; of one that inverts bytes one object may have come back so. What the book
-is told must be true of some heap. Where one thread has all the lines, each reply is the plain program's.
+gives too few bytes one line may be refused besides; of one that inverts bytes one object may come back so, once; if it isn't
+written, it is as it was when it comes again. The word that `try` tells has DIRTY where the lines say so. What the book is told
+must be true of some heap. Where one thread has all the lines, each reply is the plain program's.
 Prints nothing and ends with 0 where that always holds; else prints the first reply that is wrong and ends with 1.
 """
 import re
 import subprocess
 import sys
+from typing import NamedTuple
 
 sys.dont_write_bytecode = True
-from differ import CELLS, LAST_EPOCH, LAST_NUMBER, LOG_BYTES, MARKS, MOST, Heap, Thing, Writer, command, is_shape, parse, taken  # noqa: E402
+from differ import CELLS, DIRTY, LAST_EPOCH, LAST_NUMBER, LOG_BYTES, MARKS, MOST, Heap, Thing, Writer, command, is_shape, parse, taken  # noqa: E402
 
 OWN = ("new", "open", "close", "read", "write", "drop", "view", "try")
 BOOK = ("round", "log", "logs", "audit")
@@ -34,7 +36,7 @@ def is_slow(word: int, found: Thing, logs: int) -> bool:
     """Whether a cell's word names this object, but no place that a scope may view at once."""
     marks = {mark for mark, bit in MARKS.items() if word >> bit & 1}
     at, log, is_near = word >> 24 & 0x3FF, word >> 34 & 0xFF, word >> 63
-    if word & 0xFFFF != len(found.bytes) or word >> 16 & 0xFF != found.ds or word >> 42 & 0x3FFFF != 1 << 16:
+    if word & 0xFFFF != len(found.bytes) or word >> 16 & 0xFF != found.ds or (word & ~(1 << DIRTY)) >> 42 & 0x3FFFF != 1 << 16:
         return False
     if is_near:
         return bool(marks & {"e", "m"}) and log < logs and 8 * at + taken(len(found.bytes)) <= LOG_BYTES
@@ -49,48 +51,93 @@ class Flaw:
         self.may_invert, self.inverted = flaw == "flip" and call > 0, None
 
 
+class State(NamedTuple):
+    """What an object may be: its bytes, those that it has once it comes back from far, whether it is near and dirty, and whether it came back inverted."""
+
+    bytes: bytes
+    back: bytes
+    is_near: bool = True
+    is_dirty: bool = True
+    was_inverted: bool = False
+
+
+def gone(states: set) -> set:
+    """Those states once the object went far."""
+    return {state._replace(bytes=state.back, is_near=False, is_dirty=False) for state in states}
+
+
 class Alone(Heap):
     """A mutator as its own lines tell it. Room is what others leave: a reply tells whether there was any, or enough memory, or whether the device failed or lied."""
 
     def __init__(self, logs: int, mutators: int, is_short: bool = False, flaw: Flaw = Flaw()):
         super().__init__(logs, mutators)
         self.logs, self.reply, self.may_lack, self.lacks = logs, "", ("refused 1",) * is_short, ()
-        self.flaw_of, self.others = flaw, {}  # (what each object would have, had it come back inverted at one of its views)
+        self.flaw_of, self.near = flaw, {}  # (the states of each object that was asked for, if it didn't go far since)
 
     def place(self, found: Thing, kept: int) -> bool:
         return self.reply not in self.lacks
 
+    def states(self, p: int, found: Thing) -> set:
+        """The states of an object, as far as the replies tell."""
+        zeros = bytes(len(found.bytes))
+        known = self.near.get(p, {State(zeros, zeros)})
+        return {state for state in known if not state.was_inverted or self.flaw_of.inverted in (None, p)}
+
+    def fetched(self, p: int, states: set) -> set:
+        """The states in which an object that is far in these comes back."""
+        back = {state._replace(bytes=state.back, is_near=True, is_dirty=False) for state in states}
+        if not self.flaw_of.may_invert or self.flaw_of.inverted not in (None, p):
+            return back
+        return back | {state._replace(bytes=bytes(255 - byte for byte in state.back), was_inverted=True) for state in back if not state.was_inverted}
+
+    def is_told(self, p: int, states: set) -> bool:
+        """Keeps the states that a reply leaves of an object; whether there are any."""
+        if states:
+            self.near[p] = states
+            if all(state.was_inverted for state in states):
+                self.flaw_of.inverted = p
+        return bool(states)
+
     def pin(self, m: int, p: int) -> str:
         if isinstance(found := self.find_open(m, p), str):
             return found
-        slow = re.fullmatch("refused 14 ([0-9a-f]{16})", self.reply)
-        if p not in self.views[m] and slow and is_slow(int(slow[1], 16), found, self.logs):
-            return self.reply
+        slow, near = re.fullmatch("refused 14 ([0-9a-f]{16})", self.reply), {state for state in self.states(p, found) if state.is_near}
+        if p not in self.views[m] and slow and is_slow(word := int(slow[1], 16), found, self.logs):
+            marks = bool(word >> 63), bool(word >> DIRTY & 1)
+            if self.is_told(p, {state for state in self.states(p, found) | gone(near) if (state.is_near, state.is_dirty) == marks}):
+                return self.reply
+        if p in self.views[m] or self.is_told(p, near):
+            self.views[m].add(p)
+            return "ok"
+        return "refused 14"
+
+    def reach(self, m: int, p: int, found: Thing) -> str:
+        if p in self.views[m]:
+            return "ok"
+        if not self.place(found, 0):
+            return "refused 2"
+        states = self.states(p, found)
+        near = {state for state in states if state.is_near}
+        self.is_told(p, near | self.fetched(p, states - near | gone(near)))
         self.views[m].add(p)
         return "ok"
 
-    def reach(self, m: int, p: int, found: Thing) -> str:
-        is_new = p not in self.views[m]
-        if (said := super().reach(m, p, found)) == "ok" and is_new and self.flaw_of.may_invert and self.flaw_of.inverted is None:
-            self.others.setdefault(p, []).append(bytearray(255 - byte for byte in found.bytes))
-        return said
-
     def access(self, m: int, p: int, start: int, data) -> str:
         said = super().access(m, p, start, data)
-        others = self.others.get(p, [])
-        if not isinstance(data, int):
-            for found in others if said == "ok" else []:
-                found[start : start + len(data)] = data
-        elif said.startswith("data "):
-            self.others[p] = others = [found for found in others if self.reply == "data " + found[start : start + data].hex()]
-            if said != self.reply and others and self.flaw_of.inverted in (None, p):
-                self.flaw_of.inverted, self.objects[m][p % CELLS].bytes = p, bytearray(others[0])
+        if said.startswith("data "):
+            states = self.states(p, self.objects[m][p % CELLS])
+            if self.is_told(p, {state for state in states if self.reply == "data " + state.bytes[start : start + data].hex()}):
                 return self.reply
+            return f"data {min(states).bytes[start : start + data].hex()}"
+        if said == "ok":
+            states = self.states(p, self.objects[m][p % CELLS])
+            written = {state._replace(bytes=state.bytes[:start] + data + state.bytes[start + len(data) :], is_dirty=True) for state in states}
+            self.near[p] = {state._replace(back=state.bytes) for state in written}
         return said
 
     def drop(self, m: int, p: int) -> str:
         if (said := super().drop(m, p)) == "ok":
-            self.others.pop(p, None)
+            self.near.pop(p, None)
         return said
 
     def expected(self, name: str, operands: list, reply: str) -> str:
@@ -201,18 +248,25 @@ class SplitWriter(Writer):
     def __init__(self, seed: str):
         super().__init__(seed)
         shape = self.choice.choice((2, 3, 4, 5, 9, 16, 64, 64)), self.choice.choice((1, 2, 3, 4, 8))
-        self.heap, self.largest = Alone(*shape), self.choice.choice((1, 9, 40, 100, 300, MOST))
+        weights, self.pause, self.largest = self.WEIGHTS, 0, self.choice.choice((1, 9, 40, 100, 300, MOST))
+        if self.choice.random() < 0.4:  # so that what is brought goes far again before it is in use again
+            shape = self.choice.choice((3, 4, 5, 9)), self.choice.choice((1, 1, 2, 3))
+            self.largest, self.few, self.pause = MOST, 3, self.choice.choice((2, 4, 8))
+            weights = weights | {"new": 15, "access": 15, "close": 10, "drop": 10, "try": 3, "round": 20}
+        self.heap = Alone(*shape)
         if self.choice.random() > 0.03:
             self.shape = (*shape, *self.shape[2:])
         asked = self.choice.choices(((), BOOK, ("round",), ("audit", "logs", "log"), ("all",)), (60, 15, 10, 10, 5))[0]
-        self.weights = {kind: weight for kind, weight in self.WEIGHTS.items() if kind not in asked}
+        self.weights = {kind: weight for kind, weight in weights.items() if kind not in asked}
         if asked == ("all",):
             self.weights = {kind: self.WEIGHTS[kind] for kind in BOOK}
 
     def round(self) -> str:
         policy = self.policy(self.choice.choice(("oldest", "leastlive")))
-        turns = self.choice.choice((0, 1, 2, 3, 4, 9, 100)) if self.choice.random() < 0.02 else 1_000  # (each lets other threads run)
-        return f"round {policy} {turns}"
+        turns = 20_000 if self.pause else 1_000  # (each lets other threads run)
+        if self.choice.random() < (0.002 if self.pause else 0.02):
+            turns = self.choice.choice((0, 1, 2, 3, 4, 9, 100))
+        return "\n".join([f"round {policy} {turns}", *["audit"] * self.pause])  # (they take the book's thread a while, in which the others go on)
 
     def line(self) -> str:
         m = self.choice.randrange(len(self.heap.scopes))

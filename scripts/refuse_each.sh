@@ -41,12 +41,14 @@ failing() { # a device that fails once, and much output before and after each co
     printf 'view 0 0\nview 0 0\n'
 }
 
-many() { # rounds that send many objects away, each after another one that may have been stopped, and views that bring some back
+many() { # rounds that send many objects away, each after another one that may have been stopped, and views that bring some back; one of these isn't written, and goes again
     printf 'heap 9 2\n'
     for ((i = 0; i < 60; i++)); do printf 'new %d 40 1\n' $((i % 2)); done
     printf 'new 0 1016 1\nround oldest 9 30\nevacuate 3\nevacuate 99\nopen 0\n'
     for ((i = 0; i < 9; i++)); do printf 'write 0 %d 0 %02x\n' "$i" "$i"; done
-    printf 'close 0\nnew 1 1016 1\nnew 0 1016 1\nround leastlive 9 30\nabort\nround oldest 9 30\nopen 0\nread 0 3 0 2\n'
+    printf 'close 0\nnew 1 1016 1\nnew 0 1016 1\nround leastlive 9 30\nabort\nround oldest 9 30\nopen 0\nread 0 3 0 2\nread 0 20 0 2\nclose 0\n'
+    for ((i = 0; i < 3; i++)); do printf 'new 1 1016 1\nround oldest 9 30\nround oldest 9 30\n'; done
+    printf 'where 0 20\nopen 0\nread 0 20 0 2\n'
 }
 
 run() { # the text, and the number of the growth that is refused
@@ -107,5 +109,5 @@ refuse "$work/stored" 0
 refuse "$work/plain" 2
 refuse "$work/hot" 1
 refuse "$work/failing" 2
-refuse "$work/many" 63
+refuse "$work/many" 65
 exit "$wrong"

@@ -2,7 +2,7 @@
 use Rattle.std.specs.Prelude.{◌≡◌, ◌/◌, ℕ, true, None, IsSome}
 use Rattle.far_word.specs.declared.sizes.TheConstants.{CELLS}
 use Rattle.far_table.specs.View.{OwnerView}
-use Rattle.far_table.specs.Views.{held_at, len_of, object_at, uses}
+use Rattle.far_table.specs.Views.{held_at, len_of, object_at, soiled_at, uses}
 
 -- it uses nothing at this pointer of its own, and is closed
 pub record IsFresh (v : OwnerView) (p : ℕ) : Type 0 where
@@ -31,3 +31,4 @@ pub record IsViewing (v : OwnerView) (p : ℕ) : Type 0 where
   pub object : HasObject v p
   pub opened : IsSome v.open_at
   pub held : IsSome (held_at v p)
+  pub soiled : soiled_at v p ≡ true

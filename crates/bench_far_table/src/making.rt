@@ -29,7 +29,7 @@ pub(crate) const EMPTY: u8 = 2;
 fn places(core: &mut Core, pointer: u16, log: u8) -> bool {
     let word = 0xa100_0000_0001_0040 | (pointer as u64) << 24;
     let put = Event::Put { log, at: 0, word };
-    let new = 0x8400_0000_0001_0040 | (log as u64) << 34;
+    let new = 0x8600_0000_0001_0040 | (log as u64) << 34;
     let name = Event::Name {
         pointer,
         old: 0,

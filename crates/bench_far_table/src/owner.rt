@@ -90,8 +90,9 @@ pub(crate) fn viewing<const CALL: u8>(mut owner: Owner) -> Option<Views<CALL>>
 {
     owner.seat.read_epoch();
     owner.seat.open();
-    if owner.seat.pin(owner.pointer).is_err() {
+    let Ok(_) = owner.seat.pin(owner.pointer) else {
         return None;
-    }
+    };
+    owner.seat.soil(owner.pointer);
     Some(Views { owner })
 }

@@ -49,6 +49,8 @@ impl Owns<BookSeat<MemDevice>> for Owner<MemDevice> {
             Event::ReadEpoch { .. } => self.read_epoch().is_some(),
             Event::Open { .. } => self.open(),
             Event::Close { .. } => self.close(),
+            // `store` soils before it.
+            Event::Soil { .. } => true,
             _ => false,
         };
         if done { Reply::Done } else { Reply::Refused }
@@ -143,6 +145,7 @@ pub fn write<N: Near + Drop, O: Owns<N>>(
     if !matches!(pin, Reply::Held(_) | Reply::Refused) {
         bring(evac, owner, pointer);
     }
+    owner.call(evac, Event::Soil { owner: 0, pointer });
     let store = Event::Store {
         owner: 0,
         pointer,

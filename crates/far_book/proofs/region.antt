@@ -8,11 +8,13 @@ pub mod Copying
 pub mod CopyingMore
 pub mod ActionRows
 pub mod Actions
+pub mod Dirt
 pub mod Dropping
 pub mod Effects
 pub mod Evicted
 pub mod EvictingLaw
 pub mod Evictions
+pub mod FarHeld
 pub mod FarSide
 pub mod Fetched
 pub mod Fetching
@@ -47,6 +49,7 @@ pub mod Readings
 pub mod Releasing
 pub mod ReleasingLaw
 pub mod Renamings
+pub mod RenamingsNear
 pub mod Retires
 pub mod Rounding
 pub mod SealedKept

@@ -242,7 +242,8 @@ impl<N: Near + Drop, D: Device + Drop> Book<N, D> {
     }
 
     /// What the book knows keeps its part of the law of the core, and its order names each sealed log, once. Its device holds
-    /// the bytes of each far object as they were stored, and is honest where the words say that the far side is.
+    /// bytes of its length of each far object, and of each near one without DIRTY: those that were stored where the words say that
+    /// the far side is honest; and it is honest there.
     pub fn keeps_law(&self)
         ensures law { Law (own_part (N.view self.now.near)) }
         ensures sealed { (l : ℕ) → (list_any (eqb l) self.now.order ≡ true) ↔ ((N.view self.now.near).kind l ≡ Sealed) }
@@ -280,7 +281,7 @@ fn name_blank<N: Near>(near: &mut N, pointer: u16, len: u16, ds: u8, place: Plac
     ensures came { Came N.makes near.old near.new }
 {
     put_blank(near, pointer, len, ds, place);
-    let word = near_word(len, ds, place);
+    let word = near_word(true, len, ds, place);
     // Nobody but the book changes a free cell.
     let Ok(()) = near.name(pointer, 0, word) else {
         unreachable!()
@@ -361,7 +362,7 @@ fn free_cell<N: Near>(near: &mut N, pointer: u16) -> PtrWord
             }
         }
     }
-    // Each try found HOT, MOVE or DROP added, and each of them can be added once.
+    // It has DROP; each try found HOT, MOVE or DIRTY added, and each of them can be added once.
     unreachable!()
 }
 

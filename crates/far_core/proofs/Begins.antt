@@ -77,6 +77,11 @@ begins shape honest fits = let range = in_range shape fits in record {
     far = λ len ds m e. let f : Some pointer.Free ≡ Some (Far len ds m) = sym unused ∙ e in absurd cc;
   };
   copies = no_copies (λ _. 0) (λ _. 0) (λ _. false) (λ _. false) shape.epoch (λ _. false);
+  soils = record { soiled_held = λ p h. absurd (false≢true h); soiled_dirty = λ p h. absurd (false≢true h) };
+  cleans = λ p. record {
+    back = λ len ds place m e. let f : Some pointer.Free ≡ Some (Near len ds place m) = sym unused ∙ e in absurd cc;
+    same = λ _ len ds place m e. let f : Some pointer.Free ≡ Some (Near len ds place m) = sym unused ∙ e in absurd cc;
+  };
 }
 
 same : (b : Bool) → cond b zero zero ≡ zero

@@ -17,6 +17,7 @@ use Rattle.far_core.specs.state.State.{State, addr}
 use Rattle.far_core.proofs.Cells.{held_near}
 use Rattle.far_core.proofs.Owing.{keeps, is_fact, is_test}
 use Rattle.far_core.proofs.Bounds.{in_memory}
+use Rattle.far_core.proofs.Marking.{in_use_nonzero}
 
 pub next_is_after : (s : State) (e : Event) → next_state s e ≡ after s e
 unfolding next_state
@@ -49,14 +50,22 @@ data_inside s law p place held =
     let says = read_says (s.cell p) (Near near.len near.ds place near.marks) (law.cells.cell_read p).0 near.near in
     omega (arith, word_inside s law p (words_for (data_len s p) - 1) place held (omega (arith, says.0, len)))
 
+-- what is soiled is held
+pub soiled_held : (s : State) → Law s → (p : ℕ) → s.soiled p ≡ true → IsSome (s.held p)
+soiled_held s law p h = law.soils.soiled_held p h
+
+-- what is held is one of the heap's pointers
+pub held_range : (s : State) → Law s → (p : ℕ) → IsSome (s.held p) → p < CELLS * s.mutators
+held_range s law p h = law.cells.cell_range p (in_use_nonzero (s.cell p) (law.views.used_cell p (law.views.held_used p h)))
+
 -- the guard of a store by what its caller knows
-pub store_legal : (s : State) (m p i w : ℕ) → Law s → p / CELLS ≡ m → IsSome (s.held p) → i < words_for (data_len s p) → w < 2 ^ (8 * (data_len s p - 8 * i)) → Legal s (Store m p i w)
-store_legal s m p i w law own held inside padding =
-    let some : is_some (s.held p) ≡ true = held in
+pub store_legal : (s : State) (m p i w : ℕ) → Law s → p / CELLS ≡ m → s.soiled p ≡ true → i < words_for (data_len s p) → w < 2 ^ (8 * (data_len s p - 8 * i)) → Legal s (Store m p i w)
+store_legal s m p i w law own soiled inside padding =
+    let some : is_some (s.held p) ≡ true = law.soils.soiled_held p soiled in
     let h : holds s m p ≡ true = grind (arith, nat_tests) in
     let legal : is_legal s (Store m p i w) ≡ true = grind (arith, nat_tests) in
     is_fact s (Store m p i w) law legal
 
-pub store_keeps_law : (s : State) (m p i w : ℕ) → Law s → p / CELLS ≡ m → IsSome (s.held p) → i < words_for (data_len s p) → w < 2 ^ (8 * (data_len s p - 8 * i)) → w < 2 ^ 64 → Law (next_state s (Store m p i w))
+pub store_keeps_law : (s : State) (m p i w : ℕ) → Law s → p / CELLS ≡ m → s.soiled p ≡ true → i < words_for (data_len s p) → w < 2 ^ (8 * (data_len s p - 8 * i)) → w < 2 ^ 64 → Law (next_state s (Store m p i w))
 unfolding next_state
-store_keeps_law s m p i w law own held inside padding fits = keeps s (Store m p i w) law fits (store_legal s m p i w law own held inside padding)
+store_keeps_law s m p i w law own soiled inside padding fits = keeps s (Store m p i w) law fits (store_legal s m p i w law own soiled inside padding)

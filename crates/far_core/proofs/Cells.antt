@@ -4,7 +4,7 @@ use Rattle.std.specs.Prelude.{IsSome, not, ◌||◌}
 use Rattle.std.proofs.lemmas.Bool.{false≢true}
 use Rattle.std.proofs.lemmas.Bool.Decides.{nat_tests}
 use Rattle.far_word.specs.declared.mark.Mark.{Mark}
-use Rattle.far_word.specs.declared.mark.Mark.TheVariants.{Hot, Evac, Moved, Dropped}
+use Rattle.far_word.specs.declared.mark.Mark.TheVariants.{Hot, Evac, Moved, Dropped, Dirty}
 use Rattle.far_word.specs.declared.mark.Marks.{Marks}
 use Rattle.far_word.specs.declared.pointer.Place.{Place}
 use Rattle.far_word.specs.declared.pointer.PtrWord.{PtrWord}
@@ -15,7 +15,7 @@ use Rattle.far_word.specs.Header.{head_word}
 use Rattle.far_word.specs.Mark.{position, marks_with}
 use Rattle.far_word.specs.Pointer.{read_of, takes_mark, with_mark}
 use Rattle.far_word.proofs.PointerLaws.{with_mark_read, with_mark_fits}
-use Rattle.far_core.specs.state.Law.{HasEvac, Heads, held_place, in_use}
+use Rattle.far_core.specs.state.Law.{HasEvac, Heads, held_place, in_use, is_dirty}
 use Rattle.far_core.specs.state.Spans.{names_place}
 use Rattle.far_core.specs.state.State.{addr}
 use Rattle.far_core.specs.events.Step.{place_to_view}
@@ -59,10 +59,11 @@ body (Some Free) = FreeBody
 body (Some (Near len ds place m)) = NearBody len ds place
 body (Some (Far len ds m)) = FarBody len ds
 
--- a cell with other marks: DROP may come, and doesn't go
+-- a cell with other marks: DROP and DIRTY may come, and don't go
 pub record Remarked (o n : Option PtrWord) : Type 0 where
   pub same : body n ≡ body o
   pub kept : is_dropped n ≡ false → is_dropped o ≡ false
+  pub clean : is_dirty n ≡ false → is_dirty o ≡ false
 
 pub near_of : (o : Option PtrWord) (len ds : ℕ) (place : Place) → body o ≡ NearBody len ds place → (m : Marks) × (o ≡ Some (Near len ds place m))
 near_of None len ds place e = absurd cc
@@ -94,19 +95,28 @@ with_kept Hot m e = e
 with_kept Evac m e = e
 with_kept Moved m e = e
 with_kept Dropped m e = absurd (false≢true (sym e))
+with_kept Dirty m e = e
+
+with_clean : (k : Mark) (m : Marks) → (marks_with k m).dirty ≡ false → m.dirty ≡ false
+with_clean Hot m e = e
+with_clean Evac m e = e
+with_clean Moved m e = e
+with_clean Dropped m e = e
+with_clean Dirty m e = absurd (false≢true (sym e))
 
 -- a mark more
 pub Remarked-map_mark : (k : Mark) (o : Option PtrWord) → Remarked o (map_mark k o)
-Remarked-map_mark k None = record { same = refl; kept = λ e. e }
-Remarked-map_mark k (Some Free) = record { same = refl; kept = λ e. e }
-Remarked-map_mark k (Some (Near len ds place m)) = record { same = refl; kept = with_kept k m }
-Remarked-map_mark k (Some (Far len ds m)) = record { same = refl; kept = with_kept k m }
+Remarked-map_mark k None = record { same = refl; kept = λ e. e; clean = λ e. e }
+Remarked-map_mark k (Some Free) = record { same = refl; kept = λ e. e; clean = λ e. e }
+Remarked-map_mark k (Some (Near len ds place m)) = record { same = refl; kept = with_kept k m; clean = with_clean k m }
+Remarked-map_mark k (Some (Far len ds m)) = record { same = refl; kept = with_kept k m; clean = λ e. e }
 
 evac_stays : (k : Mark) (m : Marks) → m.evac ≡ true → (marks_with k m).evac ≡ true
 evac_stays Hot m e = e
 evac_stays Evac m e = refl
 evac_stays Moved m e = e
 evac_stays Dropped m e = e
+evac_stays Dirty m e = e
 
 -- EVAC stays with a mark more
 pub HasEvac-mark : (k : Mark) (logs : ℕ → Bool) (o : Option PtrWord) → HasEvac logs o → HasEvac logs (map_mark k o)
@@ -125,12 +135,14 @@ same_dropped Hot m ne = refl
 same_dropped Evac m ne = refl
 same_dropped Moved m ne = refl
 same_dropped Dropped m ne = absurd (ne refl)
+same_dropped Dirty m ne = refl
 
 same_moved : (k : Mark) (m : Marks) → k ≢ Moved → (marks_with k m).moved ≡ m.moved
 same_moved Hot m ne = refl
 same_moved Evac m ne = refl
 same_moved Moved m ne = absurd (ne refl)
 same_moved Dropped m ne = refl
+same_moved Dirty m ne = refl
 
 pub held_place-mark : (k : Mark) (o : Option PtrWord) → k ≢ Moved → k ≢ Dropped → held_place (map_mark k o) ≡ held_place o
 held_place-mark k None a b = refl

@@ -12,9 +12,9 @@ use Rattle.far_word.specs.declared.pointer.PtrWord.TheVariants.{Free, Near, Far}
 use Rattle.far_word.specs.declared.sizes.TheConstants.{CELLS, JOBS, LOG_WORDS}
 use Rattle.far_word.specs.Job.{job_of}
 use Rattle.far_word.specs.Pointer.{read_of}
-use Rattle.far_word.specs.Rows.{no_marks}
 use Rattle.far_word.specs.Sizes.{words_for}
 use Rattle.far_core.specs.events.Copied.{WasCopied, IsCopied, copied_below, copied_job, says_copied, has_copied, is_place, with_named}
+use Rattle.far_core.specs.events.Naming.{unmarked}
 use Rattle.far_core.specs.events.namings.Moves.{MayMove}
 use Rattle.far_core.specs.events.Quiet.{IsQuiet}
 use Rattle.far_core.specs.state.Jobs.{is_finished, job_at, job_said, near_place}
@@ -31,6 +31,7 @@ use Rattle.far_core.specs.world.WorldOf.{is_group}
 use Rattle.far_core.proofs.KeepJobs.{unworded}
 use Rattle.far_core.proofs.KeepPlace.{law_with_named}
 use Rattle.far_core.proofs.Put.{put_both, put_cases, put_cases_of}
+use Rattle.far_core.proofs.TakingSpans.{clean_at}
 
 -- ---- the test
 place_is : (x y : Place) → is_place x y ≡ true → x ≡ y
@@ -168,7 +169,7 @@ module _ (s t : State) (p : ℕ) (from to : Place) (copying : t.copying ≡ s.co
 
 -- ---- the copy is named
 module _ (s : State) (law : Law s) (p new len ds : ℕ) (from to : Place) (m : Marks) (j c : ℕ) (h : IsCopied s p from to j c)
-    (near : read_of (s.cell p) ≡ Some (Near len ds from m)) (kept : m.dropped ≡ false) (says : read_of new ≡ Some (Near len ds to no_marks)) (fits : new < 2 ^ 64) (cell : p < CELLS * s.mutators) where
+    (near : read_of (s.cell p) ≡ Some (Near len ds from m)) (kept : m.dropped ≡ false) (says : read_of new ≡ Some (Near len ds to (unmarked m.dirty))) (fits : new < 2 ^ 64) (cell : p < CELLS * s.mutators) where
   abbrev job : Job
   job = record { pointer = p; from = from; to = to }
 
@@ -213,8 +214,10 @@ module _ (s : State) (law : Law s) (p new len ds : ℕ) (from to : Place) (m : M
   keeps_named =
       let k = s.copying in
       let copies = law.copies in
-      law_with_named s law p len ds to no_marks new says fits cell unheld (λ _. ap in_use says) heads (copies.good.outside j job here h.good)
+      law_with_named s law p len ds to (unmarked m.dirty) new says fits cell unheld (λ _. ap in_use says) heads (copies.good.outside j job here h.good)
       (λ honest unused i lt. same i lt ∙ (law.unadopted honest p unused).near len ds from m near kept i lt)
+      (clean_at s law p new len ds to m.dirty says (λ none. (law.cleans p).back len ds from m near none)
+      (λ honest none i lt. (law.cleans p).same honest len ds from m near none i lt ∙ sym (same i lt)))
       _ (record {
         jobs = record {
           job_read = copies.jobs.job_read;

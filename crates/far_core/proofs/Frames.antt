@@ -7,7 +7,7 @@ use Rattle.far_word.specs.declared.pointer.Place.{Place}
 use Rattle.far_word.specs.declared.pointer.PtrWord.TheVariants.{Near, Far}
 use Rattle.far_word.specs.declared.sizes.TheConstants.{CELLS}
 use Rattle.far_word.specs.Pointer.{read_of}
-use Rattle.far_core.specs.state.Law.{Law, ScopeLaw, ViewLaw, RoundLaw, ClearLaw, BlankLaw, HasEvac, NamesBack, StoresBack, IsBlank, held_place, in_use}
+use Rattle.far_core.specs.state.Law.{Law, ScopeLaw, ViewLaw, RoundLaw, ClearLaw, BlankLaw, SoilLaw, HasEvac, NamesBack, StoresBack, IsBlank, IsClean, held_place, in_use, is_dirty}
 use Rattle.far_core.specs.declared.event.Kind.{Kind}
 use Rattle.far_core.specs.state.State.{State, put}
 use Rattle.far_core.proofs.Cells.{Remarked, body, is_dropped, is_some-remarked, near_of, far_of}
@@ -15,17 +15,17 @@ use Rattle.far_core.proofs.KeepJobs.{copies_fewer, copies_remarked}
 use Rattle.far_core.proofs.Put.{put_both}
 
 -- scopes and owners' views
-pub law_with_owners : (s : State) (scope : ℕ → ℕ) (remembered : ℕ → Option ℕ) (used : ℕ → Bool) (held : ℕ → Option Place) → Law s →
+pub law_with_owners : (s : State) (scope : ℕ → ℕ) (remembered : ℕ → Option ℕ) (used : ℕ → Bool) (held : ℕ → Option Place) (soiled : ℕ → Bool) → Law s →
     ScopeLaw s.mutators s.epoch scope remembered → ViewLaw s.cell scope used held → ClearLaw scope held s.round s.round_epoch s.clear →
-    BlankLaw s.honest s.cell s.word s.stored used → Law record s { scope = scope; remembered = remembered; used = used; held = held }
-law_with_owners s scope remembered used held law scopes views clears blanks =
-    record { shape = law.shape; cells = law.cells; spans = law.spans; logs = law.logs; scopes = scopes; views = views; rounds = law.rounds; clears = clears; unadopted = blanks; copies = law.copies }
+    BlankLaw s.honest s.cell s.word s.stored used → SoilLaw s.cell held soiled → Law record s { scope = scope; remembered = remembered; used = used; held = held; soiled = soiled }
+law_with_owners s scope remembered used held soiled law scopes views clears blanks soils =
+    record { shape = law.shape; cells = law.cells; spans = law.spans; logs = law.logs; scopes = scopes; views = views; rounds = law.rounds; clears = clears; unadopted = blanks; copies = law.copies; soils = soils; cleans = law.cleans }
 
 -- what owners remember
 pub law_with_remembered : (s : State) (remembered : ℕ → Option ℕ) → Law s → ((m e : ℕ) → remembered m ≡ Some e → (e ≤ s.epoch) × (m < s.mutators)) → Law record s { remembered = remembered }
 law_with_remembered s remembered law bound =
     let c = law.scopes in
-    law_with_owners s s.scope remembered s.used s.held law
+    law_with_owners s s.scope remembered s.used s.held s.soiled law
     (record {
       scope_read = c.scope_read;
       scope_range = c.scope_range;
@@ -33,13 +33,14 @@ law_with_remembered s remembered law bound =
       open_bound = c.open_bound;
       remembered_bound = λ m e h. (bound m e h).0;
       remembered_range = λ m e h. (bound m e h).1;
-    }) law.views law.clears law.unadopted
+    }) law.views law.clears law.unadopted law.soils
 
--- what owners hold
-pub law_with_held : (s : State) (held : ℕ → Option Place) → Law s → ((p : ℕ) → IsSome (held p) → (s.scope (p / CELLS) ≢ 0) × (s.used p ≡ true)) →
+-- what owners hold: what was held, still is
+pub law_with_held : (s : State) (held : ℕ → Option Place) → Law s → ((p : ℕ) → IsSome (s.held p) → IsSome (held p)) → ((p : ℕ) → IsSome (held p) → (s.scope (p / CELLS) ≢ 0) × (s.used p ≡ true)) →
     ((p : ℕ) (place : Place) → held p ≡ Some place → held_place (read_of (s.cell p)) ≡ Some place) → ClearLaw s.scope held s.round s.round_epoch s.clear → Law record s { held = held }
-law_with_held s held law ready names clears = law_with_owners s s.scope s.remembered s.used held law law.scopes
+law_with_held s held law more ready names clears = law_with_owners s s.scope s.remembered s.used held s.soiled law law.scopes
     (record { held_open = λ p h. (ready p h).0; held_names = names; held_used = λ p h. (ready p h).1; used_cell = law.views.used_cell }) clears law.unadopted
+    (record { soiled_held = λ p h. more p (law.soils.soiled_held p h); soiled_dirty = law.soils.soiled_dirty })
 
 -- the logs of the round, where some left it
 module _ (s : State) (round : ℕ → Bool) (law : Law s) (out : (l : ℕ) → s.round l ≡ false → round l ≡ false) where
@@ -68,6 +69,8 @@ module _ (s : State) (round : ℕ → Bool) (law : Law s) (out : (l : ℕ) → s
     clears = fewer_clear;
     unadopted = law.unadopted;
     copies = copies_fewer s round s.clear law was_chosen (λ m h. h);
+    soils = law.soils;
+    cleans = law.cleans;
   }
 
 -- a cell with another word
@@ -103,6 +106,27 @@ module _ (s : State) (law : Law s) (p w : ℕ) (fits : w < 2 ^ 64) (r : Remarked
         (law.unadopted honest q free).far n d b.0 b.1 (sym (ap is_dropped b.1) ∙ ap (λ x. is_dropped (read_of (s.cell x))) e ∙ r.kept (ap is_dropped is ∙ whole));
   }
 
+  -- what was clean is, where it has no DIRTY yet
+  clean_still : (q : ℕ) → q ≡ p → IsClean s.honest s.word (s.stored q) (read_of w)
+  clean_still q e = record {
+    back = λ n d at k is none.
+        let b = near_before q e n d at k is in
+        (law.cleans q).back n d at b.0 b.1 (sym (ap is_dirty b.1) ∙ ap (λ x. is_dirty (read_of (s.cell x))) e ∙ r.clean (ap is_dirty is ∙ none));
+    same = λ honest n d at k is none.
+        let b = near_before q e n d at k is in
+        (law.cleans q).same honest n d at b.0 b.1 (sym (ap is_dirty b.1) ∙ ap (λ x. is_dirty (read_of (s.cell x))) e ∙ r.clean (ap is_dirty is ∙ none));
+  }
+
+  -- what has DIRTY keeps it
+  dirty_still : is_dirty (read_of (s.cell p)) ≡ true → is_dirty (read_of w) ≡ true
+  dirty_still h = true_from_ne_false _ (λ none. false≢true (sym (r.clean none) ∙ h))
+
+  soils_still : SoilLaw (put s.cell p w) s.held s.soiled
+  soils_still = record {
+    soiled_held = law.soils.soiled_held;
+    soiled_dirty = λ q h. put_both (λ x. is_dirty (read_of x) ≡ true) s.cell p w q (λ e. dirty_still (law.soils.soiled_dirty p (ap s.soiled (sym e) ∙ h))) (λ _. law.soils.soiled_dirty q h);
+  }
+
   -- the same where what owners use changes too
   pub law_with_cell : (used : ℕ → Bool) → ViewLaw (put s.cell p w) s.scope used s.held → BlankLaw s.honest (put s.cell p w) s.word s.stored used →
       Law record s { cell = put s.cell p w; used = used }
@@ -122,6 +146,8 @@ module _ (s : State) (law : Law s) (p w : ℕ) (fits : w < 2 ^ 64) (r : Remarked
     clears = law.clears;
     unadopted = blanks;
     copies = copies_remarked s p w law r;
+    soils = soils_still;
+    cleans = λ q. put_both (λ x. IsClean s.honest s.word (s.stored q) (read_of x)) s.cell p w q (clean_still q) (λ _. law.cleans q);
   }
 
 module _ (s : State) (law : Law s) (p w : ℕ) (fits : w < 2 ^ 64) (r : Remarked (read_of (s.cell p)) (read_of w)) (evac : HasEvac s.round (read_of w)) (nonzero : s.cell p ≢ 0)

@@ -235,6 +235,8 @@ law_with_copying s k law copies = record {
   clears = law.clears;
   unadopted = law.unadopted;
   copies = copies;
+  soils = law.soils;
+  cleans = law.cleans;
 }
 
 pub copying_stays : (s : State) (k : Copying) → world_of record s { copying = k } ≡ world_of s

@@ -1,6 +1,6 @@
 -- A new place is named, and the law stays.
 use Rattle.std.proofs.Common.{◌≡◌, ◌≢◌, ℕ, ◌+◌, ◌*◌, ◌/◌, ◌%◌, ◌<◌, ◌≤◌, ◌^◌, Bool, true, false, arith, sym, refl, ap, subst, ◌∙◌, Option, Some, None, inl, inr}
-use Rattle.std.specs.Prelude.{IsSome}
+use Rattle.std.specs.Prelude.{IsSome, is_some}
 use Rattle.std.proofs.lemmas.Bool.{cases_lt, cases_eq, false≢true, false_from_ne_true}
 use Rattle.far_word.specs.declared.header.HeadWord.{HeadWord}
 use Rattle.far_word.specs.declared.mark.Marks.{Marks}
@@ -12,7 +12,7 @@ use Rattle.far_word.specs.Header.{head_of, head_word}
 use Rattle.far_word.specs.Pointer.{read_of}
 use Rattle.far_word.specs.Sizes.{size_of}
 use Rattle.far_core.specs.declared.event.Kind.TheVariants.{Free, Open, Sealed}
-use Rattle.far_core.specs.state.Law.{Heads, Law, SpanAt, Padded, HasEvac, NamesBack, StoresBack, IsBlank, Blank, held_place, in_use, head_len}
+use Rattle.far_core.specs.state.Law.{Heads, Law, SpanAt, Padded, HasEvac, NamesBack, StoresBack, IsBlank, IsClean, Blank, held_place, in_use, head_len, is_dirty}
 use Rattle.far_core.specs.state.State.{Copying, State, put, addr}
 use Rattle.far_core.specs.events.NewSpans.{with_begun, with_span}
 use Rattle.far_core.specs.state.Jobs.{near_place, CopyLaw}
@@ -152,13 +152,15 @@ module _ (s : State) (law : Law s) (p len ds : ℕ) (place : Place) (cell : p < 
     clears = law.clears;
     unadopted = law.unadopted;
     copies = copies_with_begun s (put s.starts (addr place) true) law more;
+    soils = law.soils;
+    cleans = law.cleans;
   }
 
 -- ---- a span that is placed is named, outside the round
 module _ (s : State) (law : Law s) (p len ds : ℕ) (place : Place) (m : Marks) (new : ℕ)
     (says : read_of new ≡ Some (Near len ds place m)) (fits : new < 2 ^ 64) (cell : p < CELLS * s.mutators) (unheld : s.held p ≡ None) (live : s.used p ≡ true → in_use (read_of new) ≡ true)
     (heads : Heads s.word s.starts p len ds place) (out : s.round place.log ≡ false) (blank : s.honest ≡ true → s.used p ≡ false → Blank s.word len place)
-    (k : Copying) (copies : CopyLaw (put s.cell p new) s.word s.starts s.round s.round_epoch s.clear k) where
+    (clean : IsClean s.honest s.word (s.stored p) (read_of new)) (k : Copying) (copies : CopyLaw (put s.cell p new) s.word s.starts s.round s.round_epoch s.clear k) where
   pub law_with_named : Law record s { cell = put s.cell p new; copying = k }
   law_with_named = record {
     shape = law.shape;
@@ -200,6 +202,13 @@ module _ (s : State) (law : Law s) (p len ds : ℕ) (place : Place) (m : Marks) 
         })
         (λ _. law.unadopted honest q free);
     copies = copies;
+    soils = record {
+      soiled_held = law.soils.soiled_held;
+      soiled_dirty = λ q h. put_both (λ w. is_dirty (read_of w) ≡ true) s.cell p new q
+          (λ e. absurd (false≢true (sym (ap is_some (ap s.held e ∙ unheld)) ∙ law.soils.soiled_held q h))) (λ _. law.soils.soiled_dirty q h);
+    };
+    cleans = λ q. put_both (λ w. IsClean s.honest s.word (s.stored q) (read_of w)) s.cell p new q
+        (λ e. subst (λ x. IsClean s.honest s.word (s.stored x) (read_of new)) (sym e) clean) (λ _. law.cleans q);
   }
 
 -- ---- a new span is named
@@ -207,13 +216,13 @@ module _ (s : State) (law : Law s) (p len ds : ℕ) (place : Place) (m : Marks) 
     (says : read_of new ≡ Some (Near len ds place m)) (fits : new < 2 ^ 64) (cell : p < CELLS * s.mutators) (unheld : s.held p ≡ None) (live : s.used p ≡ true → in_use (read_of new) ≡ true)
     (some : 0 < len) (most : len ≤ LONGEST) (room : place.at + size_of len ≤ LOG_WORDS) (log : place.log < s.logs) (unsealed : s.kind place.log ≢ Sealed)
     (here : place.at ≡ s.tail place.log) (named : s.word (addr place) ≡ head_word p len ds) (head : head_of (s.word (addr place)) ≡ Some (header p len ds))
-    (pads : Padded s.word (addr place) len) (blank : s.honest ≡ true → s.used p ≡ false → Blank s.word len place) where
+    (pads : Padded s.word (addr place) len) (blank : s.honest ≡ true → s.used p ≡ false → Blank s.word len place) (clean : IsClean s.honest s.word (s.stored p) (read_of new)) where
   pub law_with_span : Law (with_span s p new len place)
   law_with_span =
       let begun = law_with_begun s law p len ds place cell some most room log unsealed here head pads in
       law_with_named (with_begun s len place) begun p len ds place m new says fits cell unheld live
       (record { placed = put_same s.starts (addr place) true (addr place) refl; head = named })
-      (out s law p len ds place cell some most room log unsealed here head pads) blank s.copying
+      (out s law p len ds place cell some most room log unsealed here head pads) blank clean s.copying
       (copies_with_span s p new (put s.starts (addr place) true) law (more s law p len ds place cell some most room log unsealed here head pads)
       (λ at is. let there : Some place ≡ Some at = sym (ap near_place says) ∙ is in let same : place ≡ at = cc in
       ap (λ (x : Place). s.starts (addr x)) (sym same) ∙ none_here s law p len ds place cell some most room log unsealed here head pads))

@@ -4,7 +4,7 @@ use Rattle.far_word.specs.declared.pointer.PtrWord.{PtrWord}
 use Rattle.far_word.specs.declared.sizes.TheConstants.{LOG_WORDS}
 use Rattle.far_word.specs.Header.{head_of}
 use Rattle.far_word.specs.Sizes.{words_for}
-use Rattle.far_core.specs.state.Law.{Law, SpanAt, Padded, NamesBack, BlankLaw, head_len}
+use Rattle.far_core.specs.state.Law.{Law, SpanAt, Padded, NamesBack, BlankLaw, CleanLaw, head_len}
 use Rattle.far_core.specs.state.Jobs.{SameAs}
 use Rattle.far_core.specs.state.State.{State, put}
 use Rattle.far_core.proofs.KeepJobs.{copies_with_words, keeps_same, task_unnamed}
@@ -20,7 +20,7 @@ module _ (s : State) (law : Law s) (new : ℕ → ℕ)
     (fits : (a : ℕ) → new a < 2 ^ 64)
     (heads : (a : ℕ) → s.starts a ≡ true → new a ≡ s.word a)
     (pads : (a : ℕ) → s.starts a ≡ true → Padded new a (head_len (s.word a)))
-    (blanks : BlankLaw s.honest s.cell new s.stored s.used)
+    (blanks : BlankLaw s.honest s.cell new s.stored s.used) (cleans : CleanLaw s.honest s.cell new s.stored)
     (same : SameAs s.round_epoch s.round new s.copying) where
   pub keeps_words : Law record s { word = new }
   keeps_words = record {
@@ -45,6 +45,8 @@ module _ (s : State) (law : Law s) (new : ℕ → ℕ)
     clears = law.clears;
     unadopted = blanks;
     copies = copies_with_words s new law heads same;
+    soils = law.soils;
+    cleans = cleans;
   }
 
 -- ---- a data word of a span
@@ -68,9 +70,9 @@ module _ (s : State) (law : Law s) (a : ℕ) (placed : s.starts a ≡ true) (i :
       let at : j ≡ i = omega arith in rw (same, at) pad)
       (λ _. law.spans.span_padding b h j lt)
 
-  pub keeps_store : BlankLaw s.honest s.cell replaced s.stored s.used → SameAs s.round_epoch s.round replaced s.copying → Law record s { word = replaced }
-  keeps_store blanks same = keeps_words s law replaced
-      (λ b. put_both (λ x. x < 2 ^ 64) s.word (a + 1 + i) w b (λ _. wide) (λ _. law.spans.word_fits b)) head_stays padded_at blanks same
+  pub keeps_store : BlankLaw s.honest s.cell replaced s.stored s.used → CleanLaw s.honest s.cell replaced s.stored → SameAs s.round_epoch s.round replaced s.copying → Law record s { word = replaced }
+  keeps_store blanks cleans same = keeps_words s law replaced
+      (λ b. put_both (λ x. x < 2 ^ 64) s.word (a + 1 + i) w b (λ _. wide) (λ _. law.spans.word_fits b)) head_stays padded_at blanks cleans same
 
 -- ---- a word past a tail
 module _ (s : State) (law : Law s) (l at w : ℕ) (past : s.tail l ≤ at) (inside : at < LOG_WORDS) (wide : w < 2 ^ 64) where

@@ -1,5 +1,5 @@
 -- What a legal naming of a cell makes of the state, by its new word.
-use Rattle.std.proofs.Common.{◌≡◌, ◌≢◌, ℕ, ◌+◌, ◌*◌, ◌/◌, ◌%◌, ◌<◌, ◌≤◌, ◌^◌, true, false, arith, sym, refl, ap, subst, ◌∙◌, Some, None, inl, inr}
+use Rattle.std.proofs.Common.{◌≡◌, ◌≢◌, ℕ, ◌+◌, ◌*◌, ◌/◌, ◌%◌, ◌<◌, ◌≤◌, ◌^◌, Bool, true, false, arith, sym, refl, ap, subst, ◌∙◌, Some, None, inl, inr}
 use Rattle.std.specs.Prelude.{◌⊎◌, is_some, Option}
 use Rattle.std.proofs.lemmas.Bool.{false≢true, false_from_ne_true}
 use Rattle.far_word.specs.declared.mark.Marks.{Marks}
@@ -15,7 +15,7 @@ use Rattle.far_core.specs.declared.naming.Naming.{Naming}
 use Rattle.far_core.specs.declared.naming.Naming.TheVariants.{Places, Retires, Evicts, Stays, Moves, Fetches}
 use Rattle.far_core.specs.events.Legal.{Legal}
 use Rattle.far_core.specs.events.Name.{after_naming}
-use Rattle.far_core.specs.events.Naming.{IsNaming, naming_of, naming_row, no_marks}
+use Rattle.far_core.specs.events.Naming.{IsNaming, naming_of, naming_row, no_marks, unmarked}
 use Rattle.far_core.specs.events.namings.Evicts.{evicts_row}
 use Rattle.far_core.specs.events.NewSpans.{IsNext, with_span}
 use Rattle.far_core.specs.events.Step.{is_legal}
@@ -63,7 +63,8 @@ pub record NamesCopied (s : State) (p new : ℕ) (place : Place) (t : State) : T
 pub record ComesNear (s : State) (p new : ℕ) (place : Place) (t : State) : Type 0 where
   pub len : ℕ
   pub ds : ℕ
-  pub near : read_of new ≡ Some (Near len ds place no_marks)
+  pub dirty : Bool
+  pub near : read_of new ≡ Some (Near len ds place (unmarked dirty))
   pub where_to : TakesNew s p new len place t ⊎ (StaysThere s p new len ds place t ⊎ NamesCopied s p new place t)
 
 -- it says no place: the cell is free, or the object goes far from where it lies
@@ -86,7 +87,7 @@ pub record IsNearWord (v : PtrWord) : Type 0 where
 module _ (s : State) (law : Law s) (p new : ℕ) (fits : new < 2 ^ 64) (place : Place) (t : State) (came : ComesNear s p new place t) where
   there : (place.log < s.logs) × (place.at + size_of came.len ≤ LOG_WORDS) × (0 < size_of came.len)
   there =
-      let x = read_says new (Near came.len came.ds place no_marks) fits came.near in
+      let x = read_says new (Near came.len came.ds place (unmarked came.dirty)) fits came.near in
       (elim came.where_to [ inl takes ↦ takes.log | inr (inl stays) ↦ (near_inside s law p came.len came.ds place stays.marks stays.near).0 | inr (inr copy) ↦ copy.log ], omega (arith, x.0), omega (arith, x.0))
 
   pub in_log : (place.log < s.logs) × (place.at + size_of came.len ≤ LOG_WORDS)
@@ -109,47 +110,47 @@ module _ (s : State) (law : Law s) (p new : ℕ) (fits : new < 2 ^ 64) (place : 
   ]
 
 module _ (s : State) (law : Law s) (p old new : ℕ) (fits : new < 2 ^ 64) (is : s.cell p ≡ old) where
-  takes_new : (len ds : ℕ) (at place : Place) → at ≡ place → read_of new ≡ Some (Near len ds at no_marks) → IsNext s at → ComesNear s p new place (with_span s p new len at)
-  takes_new len ds at place e near next =
-      let x = read_says new (Near len ds at no_marks) fits near in
+  takes_new : (len ds : ℕ) (at place : Place) (dirty : Bool) → at ≡ place → read_of new ≡ Some (Near len ds at (unmarked dirty)) → IsNext s at → ComesNear s p new place (with_span s p new len at)
+  takes_new len ds at place dirty e near next =
+      let x = read_says new (Near len ds at (unmarked dirty)) fits near in
       subst (λ y. ComesNear s p new y (with_span s p new len at)) e
-      (record { len = len; ds = ds; near = near; where_to = inl (record { log = next.0; begins = unbegun s law at next (omega (arith, x.0)); after = refl }) })
+      (record { len = len; ds = ds; dirty = dirty; near = near; where_to = inl (record { log = next.0; begins = unbegun s law at next (omega (arith, x.0)); after = refl }) })
 
   comes : (form : Naming) → IsNaming form (read_of old) (read_of new) → (naming_row s p new form).Legal → (place : Place) →
       ((v : PtrWord) → read_of new ≡ Some v → Some place ≡ view_place v) → ComesNear s p new place (naming_row s p new form).after
-  comes (Places len ds at) (free, near) legal place view = let there : Some place ≡ Some at = view (Near len ds at no_marks) near in takes_new len ds at place (cc) near legal.0.next
+  comes (Places len ds at) (free, near) legal place view = let there : Some place ≡ Some at = view (Near len ds at (unmarked true)) near in takes_new len ds at place true (cc) near legal.0.next
   comes Retires (dropped, free) legal place view = let odd : Some place ≡ None = view Free free in absurd cc
   comes (Evicts len at) (ds, m, near, kept, wanted, far) legal place view = let odd : Some place ≡ None = view (Far len ds no_marks) far in absurd cc
   comes Stays (len, ds, at, m, near, kept, moved, out, stays) legal place view =
-      let there : Some place ≡ Some at = view (Near len ds at no_marks) stays in
+      let there : Some place ≡ Some at = view (Near len ds at (unmarked m.dirty)) stays in
       let e : at ≡ place = cc in
       subst (λ y. ComesNear s p new y (record s { cell = put s.cell p new })) e
-      (record { len = len; ds = ds; near = stays; where_to = inr (inl (record { marks = m; near = ap read_of is ∙ near; after = refl })) })
+      (record { len = len; ds = ds; dirty = m.dirty; near = stays; where_to = inr (inl (record { marks = m; near = ap read_of is ∙ near; after = refl })) })
   comes (Moves len ds from at) (moves, near) legal place view = at_copy (copied_job s p from at) refl where
     there : at ≡ place
-    there = let e : Some place ≡ Some at = view (Near len ds at no_marks) near in cc
+    there = let e : Some place ≡ Some at = view (Near len ds at (unmarked moves.0.dirty)) near in cc
 
     at_copy : (o : Option ℕ) → copied_job s p from at ≡ o → ComesNear s p new place (after_move s p new len at o)
     at_copy None e = elim legal [
-      | inl moves ↦ takes_new len ds at place there near moves.span.next
+      | inl may ↦ takes_new len ds at place moves.0.dirty there near may.span.next
       | inr has ↦ absurd (false≢true (sym (ap is_some e) ∙ copied_test s p from at has))
     ]
     at_copy (Some j) e =
         let x = copied_fact s p from at j e in
         let stands = copied_stands s law p from at j x.0 x.1 in
         subst (λ (y : Place). ComesNear s p new y (with_named s p new j)) there
-        (record { len = len; ds = ds; near = near; where_to = inr (inr (record { log = stands.1; begun = stands.0; from = from; lies = x.1.lies; elsewhere = copied_elsewhere s law p from at j x.0 x.1; job = j; found = e; after = refl })) })
-  comes (Fetches len ds at) (far, near) legal place view = let there : Some place ≡ Some at = view (Near len ds at no_marks) near in takes_new len ds at place (cc) near legal.span.next
+        (record { len = len; ds = ds; dirty = moves.0.dirty; near = near; where_to = inr (inr (record { log = stands.1; begun = stands.0; from = from; lies = x.1.lies; elsewhere = copied_elsewhere s law p from at j x.0 x.1; job = j; found = e; after = refl })) })
+  comes (Fetches len ds at) (far, near) legal place view = let there : Some place ≡ Some at = view (Near len ds at no_marks) near in takes_new len ds at place false (cc) near legal.span.next
 
   leaves : (form : Naming) → IsNaming form (read_of old) (read_of new) → ((v : PtrWord) → read_of new ≡ Some v → view_place v ≡ None) →
       ((new ≡ 0) × ((naming_row s p new form).after ≡ record s { cell = put s.cell p new })) ⊎ GoesFar s p new (naming_row s p new form).after
-  leaves (Places len ds at) (free, near) view = let odd : Some at ≡ None = view (Near len ds at no_marks) near in absurd cc
+  leaves (Places len ds at) (free, near) view = let odd : Some at ≡ None = view (Near len ds at (unmarked true)) near in absurd cc
   leaves Retires (dropped, free) view = inl (sym (read_says new Free fits free).1, refl)
   leaves (Evicts len at) (ds, m, near, kept, wanted, far) view =
       let x = read_says new (Far len ds no_marks) fits far in
       inr (record { len = len; ds = ds; place = at; marks = m; near = ap read_of is ∙ near; far = λ z. omega (arith, x.1); after = refl })
-  leaves Stays (len, ds, at, m, near, kept, moved, out, stays) view = let odd : Some at ≡ None = view (Near len ds at no_marks) stays in absurd cc
-  leaves (Moves len ds from at) (moves, near) view = let odd : Some at ≡ None = view (Near len ds at no_marks) near in absurd cc
+  leaves Stays (len, ds, at, m, near, kept, moved, out, stays) view = let odd : Some at ≡ None = view (Near len ds at (unmarked m.dirty)) stays in absurd cc
+  leaves (Moves len ds from at) (moves, near) view = let odd : Some at ≡ None = view (Near len ds at (unmarked moves.0.dirty)) near in absurd cc
   leaves (Fetches len ds at) (far, near) view = let odd : Some at ≡ None = view (Near len ds at no_marks) near in absurd cc
 
   module _ (legal : is_legal s (Name p old new) ≡ true) where

@@ -4,7 +4,7 @@ use Rattle.std.specs.Prelude.{◌||◌, ◌&&◌, not, is_some}
 use Rattle.std.proofs.lemmas.Bool.{false≢true}
 use mathlib.Core.Path.{fun_ext}
 use Rattle.far_word.specs.declared.mark.Mark.{Mark}
-use Rattle.far_word.specs.declared.mark.Mark.TheVariants.{Hot, Evac, Moved, Dropped}
+use Rattle.far_word.specs.declared.mark.Mark.TheVariants.{Hot, Evac, Moved, Dropped, Dirty}
 use Rattle.far_word.specs.declared.pointer.PtrWord.{PtrWord}
 use Rattle.far_word.specs.declared.pointer.PtrWord.TheVariants.{Free, Near, Far}
 use Rattle.far_word.specs.Mark.{position}
@@ -25,6 +25,7 @@ is_owners Hot = true
 is_owners Evac = false
 is_owners Moved = true
 is_owners Dropped = true
+is_owners Dirty = false
 
 takes_owners : (k : Mark) (v : PtrWord) → is_owners k ≡ true → in_use (Some v) ≡ true → takes_mark k v ≡ true
 takes_owners k Free h u = absurd (false≢true u)
@@ -32,10 +33,12 @@ takes_owners Hot (Near len ds place m) h u = refl
 takes_owners Evac (Near len ds place m) h u = refl
 takes_owners Moved (Near len ds place m) h u = refl
 takes_owners Dropped (Near len ds place m) h u = refl
+takes_owners Dirty (Near len ds place m) h u = refl
 takes_owners Hot (Far len ds m) h u = refl
 takes_owners Evac (Far len ds m) h u = absurd (false≢true h)
 takes_owners Moved (Far len ds m) h u = refl
 takes_owners Dropped (Far len ds m) h u = refl
+takes_owners Dirty (Far len ds m) h u = absurd (false≢true h)
 
 at_mark : (k : Mark) (w : ℕ) (o : Option PtrWord) → is_owners k ≡ true → w < 2 ^ 64 → read_of w ≡ o → in_use o ≡ true →
     (read_of (bit_or w (2 ^ position k)) ≡ map_mark k o) × (bit_or w (2 ^ position k) < 2 ^ 64)

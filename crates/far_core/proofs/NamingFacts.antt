@@ -11,7 +11,7 @@ use Rattle.far_word.specs.Pointer.{read_of}
 use Rattle.far_word.proofs.PointerLaws.{far_fields, marks_small, near_fields, read_says}
 use Rattle.far_core.specs.declared.naming.Naming.{Naming}
 use Rattle.far_core.specs.declared.naming.Naming.TheVariants.{Places, Retires, Evicts, Stays, Moves, Fetches}
-use Rattle.far_core.specs.events.Naming.{IsNaming, is_dropped, no_marks}
+use Rattle.far_core.specs.events.Naming.{IsNaming, is_dropped, no_marks, unmarked}
 use Rattle.far_core.specs.laws.Namings.{IsPlain, NamingsArePlain}
 use Rattle.far_core.specs.state.Law.{in_use}
 
@@ -30,6 +30,7 @@ near_bits w len ds place m fits e =
     let b : bit_of m.moved < 2 = bit_small m.moved in
     let c : bit_of m.evac < 2 = bit_small m.evac in
     let d : bit_of m.hot < 2 = bit_small m.hot in
+    let g : bit_of m.dirty < 2 = bit_small m.dirty in
     (f.0, f.1, omega (arith, x.0, x.1), omega (arith, x.0, x.1))
 
 far_bits : (w len ds : ℕ) (m : Marks) → w < 2 ^ 64 → read_of w ≡ Some (Far len ds m) →
@@ -67,7 +68,7 @@ free_word w fits e = sym (read_says w Free fits e).1
 plain : (form : Naming) (old new : ℕ) → old < 2 ^ 64 → new < 2 ^ 64 → IsNaming form (read_of old) (read_of new) → IsPlain old new
 plain (Places len ds place) old new a b h =
     let none : old ≡ 0 = free_word old a h.0 in
-    inr (ap (λ w. field w 59 1) none, (near_bits new len ds place no_marks b h.1).2, inl none)
+    inr (ap (λ w. field w 59 1) none, (near_bits new len ds place (unmarked true) b h.1).2, inl none)
 plain Retires old new a b h = inl (free_word new b h.1, drop_bit old a (read_of old) refl h.0)
 plain (Evicts len place) old new a b (ds, m, was, alive, evac, is) =
     let x = near_bits old len ds place m a was in
@@ -75,11 +76,11 @@ plain (Evicts len place) old new a b (ds, m, was, alive, evac, is) =
     inr (x.3 ∙ ap bit_of alive, y.2, inr (y.0 ∙ sym x.0, y.1 ∙ sym x.1))
 plain Stays old new a b (len, ds, place, m, was, alive, moved, evac, is) =
     let x = near_bits old len ds place m a was in
-    let y = near_bits new len ds place no_marks b is in
+    let y = near_bits new len ds place (unmarked m.dirty) b is in
     inr (x.3 ∙ ap bit_of alive, y.2, inr (y.0 ∙ sym x.0, y.1 ∙ sym x.1))
 plain (Moves len ds from to) old new a b ((m, was, alive, other), is) =
     let x = near_bits old len ds from m a was in
-    let y = near_bits new len ds to no_marks b is in
+    let y = near_bits new len ds to (unmarked m.dirty) b is in
     inr (x.3 ∙ ap bit_of alive, y.2, inr (y.0 ∙ sym x.0, y.1 ∙ sym x.1))
 plain (Fetches len ds place) old new a b ((m, was, alive), is) =
     let x = far_bits old len ds m a was in

@@ -73,6 +73,7 @@ touch_span s p new len place = record {
   remembered = λ k a b. refl;
   used = λ q a. refl;
   held = λ q a b. refl;
+  soiled = λ q a b. refl;
   book = λ ne. absurd (ne refl);
   copiers = λ c ne. same_copier;
   rest = (refl, refl, refl);

@@ -1,7 +1,7 @@
 -- What every event owes, by its own file; and what follows of any event.
 use Rattle.std.proofs.Common.{◌≡◌, ◌≢◌, true}
 use Rattle.far_core.specs.declared.event.Event.{Event}
-use Rattle.far_core.specs.declared.event.Event.TheVariants.{ReadEpoch, Open, Pin, Load, Store, Close, Adopt, Put, Name, See, Mark, Ask, Get, Clear, Advance, Look, Offer, PeekJob, SeeJob, Claim, ReadLength, Read, Write, Finish, Collect}
+use Rattle.far_core.specs.declared.event.Event.TheVariants.{ReadEpoch, Open, Pin, Load, Store, Soil, Close, Adopt, Put, Name, See, Mark, Ask, Get, Clear, Advance, Look, Offer, PeekJob, SeeJob, Claim, ReadLength, Read, Write, Finish, Collect}
 use Rattle.far_core.specs.declared.event.Reply.TheVariants.{Refused}
 use Rattle.far_core.specs.world.Happens.{Happens}
 use Rattle.far_core.specs.state.Law.{Law}
@@ -15,6 +15,7 @@ use Rattle.far_core.proofs.events.ReadEpoch.{read_epoch_owed}
 use Rattle.far_core.proofs.events.Open.{open_owed}
 use Rattle.far_core.proofs.events.Pin.{pin_owed}
 use Rattle.far_core.proofs.events.Load.{load_owed}
+use Rattle.far_core.proofs.events.Soil.{soil_owed}
 use Rattle.far_core.proofs.events.Store.{store_owed}
 use Rattle.far_core.proofs.events.Close.{close_owed}
 use Rattle.far_core.proofs.events.Adopt.{adopt_owed}
@@ -43,6 +44,7 @@ owed (Open m) = open_owed m
 owed (Pin m p) = pin_owed m p
 owed (Load m p i) = load_owed m p i
 owed (Store m p i w) = store_owed m p i w
+owed (Soil m p) = soil_owed m p
 owed (Close m) = close_owed m
 owed (Adopt m p) = adopt_owed m p
 owed (Put l at w) = put_owed l at w

@@ -1,6 +1,6 @@
 -- Rows of stores and of puts: each is legal when it is made, the law stays, and together they write a row of words.
-use Rattle.std.proofs.Common.{◌≡◌, ℕ, zero, suc, List, refl, sym, ap, subst, ◌∙◌, arith, ◌+◌, ◌-◌, ◌*◌, ◌/◌, ◌^◌, ◌<◌, ◌≤◌, length, cond}
-use Rattle.std.specs.Prelude.{◌≢◌, IsSome, map, slice_index}
+use Rattle.std.proofs.Common.{true, ◌≡◌, ℕ, zero, suc, List, refl, sym, ap, subst, ◌∙◌, arith, ◌+◌, ◌-◌, ◌*◌, ◌/◌, ◌^◌, ◌<◌, ◌≤◌, length, cond}
+use Rattle.std.specs.Prelude.{◌≢◌, map, slice_index}
 use Rattle.std.specs.List.{range_with_len}
 use mathlib.Core.Path.{fun_ext}
 use Rattle.far_word.specs.Pointer.{read_of}
@@ -60,18 +60,18 @@ module _ (e : ℕ → Event) (d n : ℕ) (w : ℕ → ℕ) (Good : State → Typ
       (all.0, all.1, all.2 ∙ (λ i. record u { word = with_row u.word (at i) n (same i) }))
 
 -- ---- stores into an object that is held
-module _ (s : State) (law : Law s) (m p first : ℕ) (words : List ℕ) (own : p / CELLS ≡ m) (held : IsSome (s.held p))
+module _ (s : State) (law : Law s) (m p first : ℕ) (words : List ℕ) (own : p / CELLS ≡ m) (soiled : s.soiled p ≡ true)
     (inside : first + length words ≤ words_for (data_len s p))
     (pad : (k : ℕ) → k < length words → slice_index words k < 2 ^ (8 * (data_len s p - 8 * (first + k))))
     (wide : (k : ℕ) → slice_index words k < 2 ^ 64) where
-  -- the object is held where it was, and has the same length
+  -- the object is soiled as it was, and has the same length
   abbrev Stays : State → Type 0
-  Stays u = Law u × (u.cell p ≡ s.cell p) × (u.held p ≡ s.held p)
+  Stays u = Law u × (u.cell p ≡ s.cell p) × (u.soiled p ≡ s.soiled p)
 
   word_legal : (u : State) → Stays u → (k : ℕ) → k < length words → Legal u (Store m p (first + k) (slice_index words k))
   word_legal u good k lt =
       let long : data_len u p ≡ data_len s p = ap (λ c. near_len (read_of c)) good.1 in
-      store_legal u m p (first + k) (slice_index words k) good.0 own (subst IsSome (sym good.2) held)
+      store_legal u m p (first + k) (slice_index words k) good.0 own (good.2 ∙ soiled)
       (subst (λ n. first + k < words_for n) (sym long) (omega arith)) (subst (λ n. slice_index words k < 2 ^ (8 * (n - 8 * (first + k)))) (sym long) (pad k lt))
 
   word_made : (u : State) → Stays u → (k : ℕ) → k < length words →

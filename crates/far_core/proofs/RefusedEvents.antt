@@ -4,7 +4,7 @@ use Rattle.std.proofs.lemmas.Bool.{false_from_ne_true, false≢true, true≢fals
 use Rattle.std.proofs.Math.Nat.{div-eq_of_lt}
 use Rattle.std.specs.Prelude.{is_some}
 use lib.Pow.{pow_mono}
-use Rattle.far_word.specs.declared.mark.Mark.TheVariants.{Hot, Evac}
+use Rattle.far_word.specs.declared.mark.Mark.TheVariants.{Hot, Evac, Dirty}
 use Rattle.far_word.specs.declared.mark.Marks.{Marks}
 use Rattle.far_word.specs.declared.pointer.Place.{Place}
 use Rattle.far_word.specs.declared.pointer.PtrWord.TheVariants as pointer
@@ -27,6 +27,7 @@ use Rattle.far_core.proofs.Cells.{held_near, unused}
 use Rattle.far_core.proofs.NewSpans.{at_tail, unsealed}
 use Rattle.far_core.proofs.NamingFacts.{use_bit}
 use Rattle.far_core.proofs.Owing.{is_fact}
+use Rattle.far_core.proofs.Quieting.{quiet_unheld}
 
 -- an event that isn't legal is refused
 pub refused : (s : State) → Law s → (e : Event) → ¬ Legal s e → IsRefused s e
@@ -72,6 +73,7 @@ module _ (s : State) (law : Law s) where
     ask_held = λ m p k place is. refused s law (event.Ask m p k) (λ h. held_not p place is h.4);
     ask_hot = λ m p. refused s law (event.Ask m p Hot) (λ h. false≢true h.0);
     ask_evac = λ m p. refused s law (event.Ask m p Evac) (λ h. false≢true h.0);
+    ask_dirty = λ m p. refused s law (event.Ask m p Dirty) (λ h. false≢true h.0);
   }
 
   -- what is held is held under an open scope, and is near with its own length
@@ -90,6 +92,11 @@ module _ (s : State) (law : Law s) where
     store_closed = λ m p i w is. refused s law (event.Store m p i w) (λ h. not_closed m p i h.0 h.1 is);
     store_others = λ m p i w ne. refused s law (event.Store m p i w) (λ h. ne h.1.1.own);
     store_unheld = λ m p i w none. refused s law (event.Store m p i w) (λ h. held_not p h.1.0 h.1.1.rests none);
+    store_unsoiled = λ m p i w is. refused s law (event.Store m p i w) (λ h. false≢true (sym is ∙ h.3));
+    soil_closed = λ m p is. refused s law (event.Soil m p) (λ h. law.views.held_open p h.1 (ap s.scope h.0 ∙ is));
+    soil_others = λ m p ne. refused s law (event.Soil m p) (λ h. ne h.0);
+    soil_unheld = λ m p none. refused s law (event.Soil m p) (λ h. false≢true (sym (ap is_some none) ∙ h.1));
+    soil_quiet = λ m p quiet. refused s law (event.Soil m p) (λ h. false≢true (sym (ap is_some (quiet_unheld s law p quiet)) ∙ h.1));
     store_past = λ m p i w len ds place k is le. refused s law (event.Store m p i w) (λ h. let long : h.0 ≡ len = not_past m p i h.0 len ds place k is h.1 in omega (arith, h.1.2, long, le));
     store_over = λ m p i w n len ds place k is le ne. refused s law (event.Store m p i w)
         (λ h. let long : h.0 ≡ len = not_past m p i h.0 len ds place k is h.1 in over i w n h.0 (omega (arith, long, le)) ne h.2);

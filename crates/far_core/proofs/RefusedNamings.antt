@@ -1,5 +1,5 @@
 -- Why namings are refused: each cause speaks against what the form of a legal naming is.
-use Rattle.std.proofs.Common.{◌≡◌, ◌≢◌, ℕ, ◌+◌, ◌-◌, ◌*◌, ◌/◌, ◌%◌, ◌^◌, ◌<◌, ◌≤◌, ◌∙◌, true, false, arith, ap, refl, sym, subst, inl, inr, Option, Some, None}
+use Rattle.std.proofs.Common.{◌≡◌, ◌≢◌, ℕ, ◌+◌, ◌-◌, ◌*◌, ◌/◌, ◌%◌, ◌^◌, ◌<◌, ◌≤◌, ◌∙◌, Bool, true, false, arith, ap, refl, sym, subst, inl, inr, Option, Some, None}
 use Rattle.std.specs.Prelude.{◌⊎◌}
 use Rattle.std.proofs.lemmas.Bool.{false≢true, true≢false}
 use Rattle.std.proofs.lemmas.Nat.{pow_pos}
@@ -17,7 +17,7 @@ use Rattle.far_core.specs.declared.naming.Naming.{Naming}
 use Rattle.far_core.specs.declared.naming.Naming.TheVariants.{Places, Retires, Evicts, Stays, Moves, Fetches}
 use Rattle.far_core.specs.events.Copies.{Alike, data_at, EndsPadded}
 use Rattle.far_core.specs.events.Legal.{Legal, IsNewSpan, IsNext}
-use Rattle.far_core.specs.events.Naming.{IsNaming, is_dropped, naming_row, no_marks}
+use Rattle.far_core.specs.events.Naming.{IsNaming, is_dropped, naming_row, no_marks, unmarked}
 use Rattle.far_core.specs.events.Quiet.{has_move, IsQuiet}
 use Rattle.far_core.specs.laws.Namings.{IsPlain}
 use Rattle.far_core.specs.laws.RefusedNamings.{NewWordIsRefused, ReachedIsRefused, StayIsRefused, PlaceIsRefused, IsElsewhere, NamingsAreRefused}
@@ -41,11 +41,11 @@ old_reads (Moves len ds from to) a b ((m, was, alive, other), is) none = let odd
 old_reads (Fetches len ds place) a b ((m, was, alive), is) none = let odd : Some (Far len ds m) ≡ None = sym was ∙ none in cc
 
 new_reads : (form : Naming) (a b : Option PtrWord) → IsNaming form a b → b ≢ None
-new_reads (Places len ds place) a b h none = let odd : Some (Near len ds place no_marks) ≡ None = sym h.1 ∙ none in cc
+new_reads (Places len ds place) a b h none = let odd : Some (Near len ds place (unmarked true)) ≡ None = sym h.1 ∙ none in cc
 new_reads Retires a b h none = let odd : Some Free ≡ None = sym h.1 ∙ none in cc
 new_reads (Evicts len place) a b (ds, m, was, alive, wanted, is) none = let odd : Some (Far len ds no_marks) ≡ None = sym is ∙ none in cc
-new_reads Stays a b (len, ds, place, m, was, alive, moved, out, is) none = let odd : Some (Near len ds place no_marks) ≡ None = sym is ∙ none in cc
-new_reads (Moves len ds from to) a b (h, is) none = let odd : Some (Near len ds to no_marks) ≡ None = sym is ∙ none in cc
+new_reads Stays a b (len, ds, place, m, was, alive, moved, out, is) none = let odd : Some (Near len ds place (unmarked m.dirty)) ≡ None = sym is ∙ none in cc
+new_reads (Moves len ds from to) a b (h, is) none = let odd : Some (Near len ds to (unmarked h.0.dirty)) ≡ None = sym is ∙ none in cc
 new_reads (Fetches len ds place) a b (h, is) none = let odd : Some (Near len ds place no_marks) ≡ None = sym is ∙ none in cc
 
 -- what goes far was near, and the book wanted its log
@@ -53,21 +53,48 @@ abbrev WasNear : Option PtrWord → Type 0
 WasNear a = (len ds : ℕ) × (place : Place) × (m : Marks) × (a ≡ Some (Near len ds place m)) × (m.evac ≡ true)
 
 was_near : (form : Naming) (a b : Option PtrWord) (n d : ℕ) (k : Marks) → IsNaming form a b → b ≡ Some (Far n d k) → WasNear a
-was_near (Places len ds place) a b n d k h e = let odd : Some (Near len ds place no_marks) ≡ Some (Far n d k) = sym h.1 ∙ e in absurd cc
+was_near (Places len ds place) a b n d k h e = let odd : Some (Near len ds place (unmarked true)) ≡ Some (Far n d k) = sym h.1 ∙ e in absurd cc
 was_near Retires a b n d k h e = let odd : Some Free ≡ Some (Far n d k) = sym h.1 ∙ e in absurd cc
 was_near (Evicts len place) a b n d k (ds, m, was, alive, wanted, is) e = (len, ds, place, m, was, wanted)
-was_near Stays a b n d k (len, ds, place, m, was, alive, moved, out, is) e = let odd : Some (Near len ds place no_marks) ≡ Some (Far n d k) = sym is ∙ e in absurd cc
-was_near (Moves len ds from to) a b n d k (h, is) e = let odd : Some (Near len ds to no_marks) ≡ Some (Far n d k) = sym is ∙ e in absurd cc
+was_near Stays a b n d k (len, ds, place, m, was, alive, moved, out, is) e = let odd : Some (Near len ds place (unmarked m.dirty)) ≡ Some (Far n d k) = sym is ∙ e in absurd cc
+was_near (Moves len ds from to) a b n d k (h, is) e = let odd : Some (Near len ds to (unmarked h.0.dirty)) ≡ Some (Far n d k) = sym is ∙ e in absurd cc
 was_near (Fetches len ds place) a b n d k (h, is) e = let odd : Some (Near len ds place no_marks) ≡ Some (Far n d k) = sym is ∙ e in absurd cc
 
 -- what is free from then on was dropped
 was_dropped : (form : Naming) (a b : Option PtrWord) → IsNaming form a b → b ≡ Some Free → is_dropped a ≡ true
-was_dropped (Places len ds place) a b h e = let odd : Some (Near len ds place no_marks) ≡ Some Free = sym h.1 ∙ e in absurd cc
+was_dropped (Places len ds place) a b h e = let odd : Some (Near len ds place (unmarked true)) ≡ Some Free = sym h.1 ∙ e in absurd cc
 was_dropped Retires a b h e = h.0
 was_dropped (Evicts len place) a b (ds, m, was, alive, wanted, is) e = let odd : Some (Far len ds no_marks) ≡ Some Free = sym is ∙ e in absurd cc
-was_dropped Stays a b (len, ds, place, m, was, alive, moved, out, is) e = let odd : Some (Near len ds place no_marks) ≡ Some Free = sym is ∙ e in absurd cc
-was_dropped (Moves len ds from to) a b (h, is) e = let odd : Some (Near len ds to no_marks) ≡ Some Free = sym is ∙ e in absurd cc
+was_dropped Stays a b (len, ds, place, m, was, alive, moved, out, is) e = let odd : Some (Near len ds place (unmarked m.dirty)) ≡ Some Free = sym is ∙ e in absurd cc
+was_dropped (Moves len ds from to) a b (h, is) e = let odd : Some (Near len ds to (unmarked h.0.dirty)) ≡ Some Free = sym is ∙ e in absurd cc
 was_dropped (Fetches len ds place) a b (h, is) e = let odd : Some (Near len ds place no_marks) ≡ Some Free = sym is ∙ e in absurd cc
+
+-- DIRTY of a near word, by what was there before: a new object has it, one that was near as it had it, one that was far hasn't
+abbrev dirty_after : Option PtrWord → Bool
+dirty_after None = true
+dirty_after (Some Free) = true
+dirty_after (Some (Near len ds place m)) = m.dirty
+dirty_after (Some (Far len ds m)) = false
+
+near_dirty : (form : Naming) (a b : Option PtrWord) (n d : ℕ) (at : Place) (k : Marks) → IsNaming form a b → b ≡ Some (Near n d at k) → k.dirty ≡ dirty_after a
+near_dirty (Places len ds place) a b n d at k h e =
+    let same : Some (Near len ds place (unmarked true)) ≡ Some (Near n d at k) = sym h.1 ∙ e in
+    let marks : unmarked true ≡ k = cc in
+    sym (ap (λ (y : Marks). y.dirty) marks) ∙ sym (ap dirty_after h.0)
+near_dirty Retires a b n d at k h e = let odd : Some Free ≡ Some (Near n d at k) = sym h.1 ∙ e in absurd cc
+near_dirty (Evicts len place) a b n d at k (ds, m, was, alive, wanted, is) e = let odd : Some (Far len ds no_marks) ≡ Some (Near n d at k) = sym is ∙ e in absurd cc
+near_dirty Stays a b n d at k (len, ds, place, m, was, alive, moved, out, is) e =
+    let same : Some (Near len ds place (unmarked m.dirty)) ≡ Some (Near n d at k) = sym is ∙ e in
+    let marks : unmarked m.dirty ≡ k = cc in
+    sym (ap (λ (y : Marks). y.dirty) marks) ∙ sym (ap dirty_after was)
+near_dirty (Moves len ds from to) a b n d at k (h, is) e =
+    let same : Some (Near len ds to (unmarked h.0.dirty)) ≡ Some (Near n d at k) = sym is ∙ e in
+    let marks : unmarked h.0.dirty ≡ k = cc in
+    sym (ap (λ (y : Marks). y.dirty) marks) ∙ sym (ap dirty_after h.1)
+near_dirty (Fetches len ds place) a b n d at k (h, is) e =
+    let same : Some (Near len ds place no_marks) ≡ Some (Near n d at k) = sym is ∙ e in
+    let marks : no_marks ≡ k = cc in
+    sym (ap (λ (y : Marks). y.dirty) marks) ∙ sym (ap dirty_after h.1)
 
 module _ (s : State) (law : Law s) (p old new : ℕ) where
   by_plain : old < 2 ^ 64 → new < 2 ^ 64 → (IsPlain old new → ⊥) → ¬ Legal s (Name p old new)
@@ -75,6 +102,9 @@ module _ (s : State) (law : Law s) (p old new : ℕ) where
 
   went_far : (n d : ℕ) (k : Marks) → Legal s (Name p old new) → read_of new ≡ Some (Far n d k) → WasNear (read_of old)
   went_far n d k h e = was_near h.1.0 (read_of old) (read_of new) n d k h.1.1 e
+
+  named_dirty : (n d : ℕ) (at : Place) (k : Marks) → Legal s (Name p old new) → read_of new ≡ Some (Near n d at k) → k.dirty ≡ dirty_after (read_of old)
+  named_dirty n d at k h is = near_dirty h.1.0 (read_of old) (read_of new) n d at k h.1.1 is
 
   pub new_word_refused : old < 2 ^ 64 → new < 2 ^ 64 → NewWordIsRefused s p old new
   new_word_refused a b = record {
@@ -100,6 +130,9 @@ module _ (s : State) (law : Law s) (p old new : ℕ) where
         let same : Some (Near n d place m) ≡ Some (Near x.0 x.1 x.2 x.3) = sym was ∙ x.4 in
         let marks : m ≡ x.3 = cc in
         false≢true (sym out ∙ ap (λ (y : Marks). y.evac) marks ∙ x.5));
+    new_clean = λ n d at k none is clean. refused s law (Name p old new) (λ h. false≢true (sym clean ∙ named_dirty n d at k h is ∙ ap (λ w. dirty_after (read_of w)) none ∙ ap dirty_after unused));
+    fetched_dirty = λ len ds n d at m k was is dirty. refused s law (Name p old new) (λ h. false≢true (sym (named_dirty len ds at k h is ∙ ap dirty_after was) ∙ dirty));
+    other_dirty = λ len ds n d from to m k was is ne. refused s law (Name p old new) (λ h. ne (named_dirty len ds to k h is ∙ ap dirty_after was));
   }
 
 -- ---- by the object
@@ -163,7 +196,7 @@ same_spanned s p a n d len ds at to j k e h =
 
 pub spanned : (s : State) (p new : ℕ) (form : Naming) (a b : Option PtrWord) (len ds : ℕ) (to : Place) (k : Marks) → IsNaming form a b → (naming_row s p new form).Legal →
     b ≡ Some (Near len ds to k) → ((n d : ℕ) (m : Marks) → a ≢ Some (Near n d to m)) → ((from : Place) → ¬ WasCopied s p from to) → Spanned s p a len ds to
-spanned s p new (Places n d at) a b len ds to k h legal e elsewhere uncopied = same_spanned s p a n d len ds at to no_marks k (sym h.1 ∙ e) record {
+spanned s p new (Places n d at) a b len ds to k h legal e elsewhere uncopied = same_spanned s p a n d len ds at to (unmarked true) k (sym h.1 ∙ e) record {
   span = legal.0;
   blank = λ _. legal.1;
   copied = λ l t from m is. let odd : Some Free ≡ Some (Near l t from m) = sym h.0 ∙ is in absurd cc;
@@ -173,14 +206,14 @@ spanned s p new (Places n d at) a b len ds to k h legal e elsewhere uncopied = s
 spanned s p new Retires a b len ds to k h legal e elsewhere uncopied = let odd : Some Free ≡ Some (Near len ds to k) = sym h.1 ∙ e in absurd cc
 spanned s p new (Evicts n at) a b len ds to k (d, m, was, alive, wanted, is) legal e elsewhere uncopied = let odd : Some (Far n d no_marks) ≡ Some (Near len ds to k) = sym is ∙ e in absurd cc
 spanned s p new Stays a b len ds to k (n, d, at, m, was, alive, moved, out, is) legal e elsewhere uncopied =
-    let same : Some (Near n d at no_marks) ≡ Some (Near len ds to k) = sym is ∙ e in
+    let same : Some (Near n d at (unmarked m.dirty)) ≡ Some (Near len ds to k) = sym is ∙ e in
     let there : at ≡ to = cc in
     absurd (elsewhere n d m (was ∙ ap (λ x. Some (Near n d x m)) there))
 spanned s p new (Moves n d from at) a b len ds to k ((m, was, alive, other), is) (inr has) e elsewhere uncopied =
-    let same : Some (Near n d at no_marks) ≡ Some (Near len ds to k) = sym is ∙ e in
+    let same : Some (Near n d at (unmarked m.dirty)) ≡ Some (Near len ds to k) = sym is ∙ e in
     let there : at ≡ to = cc in
     absurd (uncopied from (subst (WasCopied s p from) there has))
-spanned s p new (Moves n d from at) a b len ds to k ((m, was, alive, other), is) (inl legal) e elsewhere uncopied = same_spanned s p a n d len ds at to no_marks k (sym is ∙ e) record {
+spanned s p new (Moves n d from at) a b len ds to k ((m, was, alive, other), is) (inl legal) e elsewhere uncopied = same_spanned s p a n d len ds at to (unmarked m.dirty) k (sym is ∙ e) record {
   span = legal.span;
   blank = λ free. let odd : Some Free ≡ Some (Near n d from m) = sym free ∙ was in absurd cc;
   copied = λ l t place j near.
@@ -229,11 +262,11 @@ stayed s p new Stays a b n d len ds place m k (l, t, at, j, old, alive, moved, o
     let marks : j ≡ m = cc in
     inl (ap (λ (x : Marks). x.moved) (sym marks) ∙ moved, ap (λ (x : Marks). x.evac) (sym marks) ∙ out)
 stayed s p new (Moves l t from to) a b n d len ds place m k (h, says) (inl legal) was is =
-    let same : Some (Near l t to no_marks) ≡ Some (Near len ds place k) = sym says ∙ is in
+    let same : Some (Near l t to (unmarked h.0.dirty)) ≡ Some (Near len ds place k) = sym says ∙ is in
     let there : to ≡ place = cc in
     inr (inl (subst (λ (x : Place). IsNext s x) there legal.span.next))
 stayed s p new (Moves l t from to) a b n d len ds place m k (h, says) (inr has) was is =
-    let same : Some (Near l t to no_marks) ≡ Some (Near len ds place k) = sym says ∙ is in
+    let same : Some (Near l t to (unmarked h.0.dirty)) ≡ Some (Near len ds place k) = sym says ∙ is in
     let there : to ≡ place = cc in
     let both : Some (Near l t from h.0) ≡ Some (Near n d place m) = sym h.1 ∙ was in
     let here : from ≡ place = cc in

@@ -4,7 +4,7 @@ use Rattle.std.specs.Prelude.{◌⊎◌, is_some}
 use Rattle.std.proofs.lemmas.Bool.{cases_eq, cond_both, eqb-true, eq-eqb, false≢true, true≢false}
 use Rattle.far_word.specs.declared.job.Job.{Job}
 use Rattle.far_word.specs.declared.mark.Mark.{Mark as MarkKind}
-use Rattle.far_word.specs.declared.mark.Mark.TheVariants.{Hot, Evac}
+use Rattle.far_word.specs.declared.mark.Mark.TheVariants.{Hot, Evac, Dirty}
 use Rattle.far_word.specs.declared.mark.Marks.{Marks}
 use Rattle.far_word.specs.declared.pointer.Place.{Place}
 use Rattle.far_word.specs.declared.pointer.PtrWord.{PtrWord}
@@ -14,7 +14,7 @@ use Rattle.far_word.specs.Job.{job_of}
 use Rattle.far_word.specs.Mark.{position}
 use Rattle.far_word.specs.Pointer.{read_of, with_mark, without_evac}
 use Rattle.far_core.specs.declared.event.Event.{Event}
-use Rattle.far_core.specs.declared.event.Event.TheVariants.{ReadEpoch, Open, Pin, Load, Store, Close, Adopt, Put, Name, See, Mark, Ask, Get, Clear, Advance, Look, Offer, PeekJob, SeeJob, Claim, ReadLength, Read, Write, Finish, Collect}
+use Rattle.far_core.specs.declared.event.Event.TheVariants.{ReadEpoch, Open, Pin, Load, Store, Soil, Close, Adopt, Put, Name, See, Mark, Ask, Get, Clear, Advance, Look, Offer, PeekJob, SeeJob, Claim, ReadLength, Read, Write, Finish, Collect}
 use Rattle.far_core.specs.declared.event.Reply.{Reply}
 use Rattle.far_core.specs.declared.event.Reply.TheVariants.{Refused}
 use Rattle.far_core.specs.declared.naming.Naming.{Naming}
@@ -258,6 +258,10 @@ lies_ask : (s : State) → Law s → (m p q : ℕ) (k : MarkKind) → Lies s (As
 lies_ask s law m p q k = at_cell s (Ask m q k) p q refl (λ h.
     same_near s law q ((after s (Ask m q k)).cell q) (with_mark k) (near_mark k) ((owed (Ask m q k)).reports s law (is_fact s (Ask m q k) law h)).1)
 
+lies_soil : (s : State) → Law s → (m p q : ℕ) → Lies s (Soil m q) p
+lies_soil s law m p q = at_cell s (Soil m q) p q refl (λ h.
+    same_near s law q ((after s (Soil m q)).cell q) (with_mark Dirty) (near_mark Dirty) ((owed (Soil m q)).reports s law (is_fact s (Soil m q) law h)).2)
+
 lies_clear : (s : State) → Law s → (p q : ℕ) → Lies s (Clear q) p
 lies_clear s law p q = at_cell s (Clear q) p q refl (λ h.
     same_near s law q ((after s (Clear q)).cell q) without_evac near_clear ((owed (Clear q)).reports s law (is_fact s (Clear q) law h)).1)
@@ -289,6 +293,7 @@ lies s law (Open m) p = elsewhere_touched s (Open m) p (λ x. cc)
 lies s law (Pin m q) p = lies_pin s law m p q
 lies s law (Load m q i) p = elsewhere_touched s (Load m q i) p (λ x. cc)
 lies s law (Store m q i w) p = elsewhere_touched s (Store m q i w) p (λ x. cc)
+lies s law (Soil m q) p = lies_soil s law m p q
 lies s law (Close m) p = elsewhere_touched s (Close m) p (λ x. cc)
 lies s law (Adopt m q) p = elsewhere_touched s (Adopt m q) p (λ x. cc)
 lies s law (Put l at w) p = elsewhere_touched s (Put l at w) p (λ x. cc)
@@ -397,6 +402,7 @@ notes s (Open m) j = unseen s (Open m) j (λ x. cc)
 notes s (Pin m p) j = unseen s (Pin m p) j (λ x. cc)
 notes s (Load m p i) j = unseen s (Load m p i) j (λ x. cc)
 notes s (Store m p i w) j = unseen s (Store m p i w) j (λ x. cc)
+notes s (Soil m p) j = unseen s (Soil m p) j (λ x. cc)
 notes s (Close m) j = unseen s (Close m) j (λ x. cc)
 notes s (Adopt m p) j = unseen s (Adopt m p) j (λ x. cc)
 notes s (Put l at w) j = unseen s (Put l at w) j (λ x. cc)

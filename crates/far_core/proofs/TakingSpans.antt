@@ -1,18 +1,20 @@
 -- A pointer is named to a new span: the law stays, and the world has its object there.
-use Rattle.std.proofs.Common.{◌≡◌, ℕ, ◌*◌, ◌<◌, ◌^◌, true, false, arith, refl, sym, ap, ◌∙◌, Some, None}
+use Rattle.std.proofs.Common.{◌≡◌, ℕ, ◌+◌, ◌*◌, ◌<◌, ◌^◌, Bool, true, false, arith, refl, sym, ap, subst, ◌∙◌, Some, None}
 use mathlib.Core.Path.{fun_ext}
+use Rattle.far_word.specs.declared.mark.Marks.{Marks}
 use Rattle.far_word.specs.declared.pointer.Place.{Place}
 use Rattle.far_word.specs.declared.pointer.PtrWord.TheVariants.{Near}
 use Rattle.far_word.specs.declared.sizes.TheConstants.{CELLS}
 use Rattle.far_word.specs.Header.{head_of}
 use Rattle.far_word.specs.Pointer.{read_of}
+use Rattle.far_word.specs.Sizes.{words_for}
 use Rattle.far_word.proofs.HeaderLaws.{head_back}
 use Rattle.far_word.proofs.PointerLaws.{read_says}
 use Rattle.far_core.specs.events.Copies.{EndsPadded}
 use Rattle.far_core.specs.events.Copied.{with_named}
-use Rattle.far_core.specs.events.Naming.{no_marks}
+use Rattle.far_core.specs.events.Naming.{unmarked}
 use Rattle.far_core.specs.events.NewSpans.{IsNewSpan, with_span}
-use Rattle.far_core.specs.state.Law.{Law, Blank, in_use}
+use Rattle.far_core.specs.state.Law.{Law, Blank, IsClean, IsStored, in_use}
 use Rattle.far_core.specs.state.State.{State, put, addr}
 use Rattle.far_core.specs.world.World.{Object}
 use Rattle.far_core.specs.world.WorldOf.{world_of, object_of, is_group, is_marked}
@@ -22,16 +24,33 @@ use Rattle.far_core.proofs.NewSpans.{at_tail, groups_then, unsealed}
 use Rattle.far_core.proofs.Put.{put_both, put_old, put_same, put_other}
 use Rattle.far_core.proofs.Worlds.{World-ext}
 
-module _ (s : State) (law : Law s) (p new len ds : ℕ) (place : Place) (says : read_of new ≡ Some (Near len ds place no_marks)) where
+module _ (s : State) (law : Law s) (p new len ds : ℕ) (place : Place) (dirty : Bool) (says : read_of new ≡ Some (Near len ds place (unmarked dirty))) where
+  -- the new word without DIRTY: the words that stand there are stored
+  pub clean_at : (dirty ≡ false → IsStored (s.stored p) len) → (s.honest ≡ true → dirty ≡ false → (i : ℕ) → i < words_for len → s.stored p i ≡ s.word (addr place + 1 + i)) →
+      IsClean s.honest s.word (s.stored p) (read_of new)
+  clean_at back same = record {
+    back = λ n d at k is none.
+        let is2 : Some (Near len ds place (unmarked dirty)) ≡ Some (Near n d at k) = sym says ∙ is in
+        let long : len ≡ n = cc in
+        let marks : unmarked dirty ≡ k = cc in
+        subst (IsStored (s.stored p)) long (back (ap (λ (x : Marks). x.dirty) marks ∙ none));
+    same = λ honest n d at k is none i lt.
+        let is2 : Some (Near len ds place (unmarked dirty)) ≡ Some (Near n d at k) = sym says ∙ is in
+        let long : len ≡ n = cc in
+        let there : place ≡ at = cc in
+        let marks : unmarked dirty ≡ k = cc in
+        same honest (ap (λ (x : Marks). x.dirty) marks ∙ none) i (omega arith) ∙ ap (λ x. s.word (addr x + 1 + i)) there;
+  }
+
   pub keeps_new_span : p < CELLS * s.mutators → new < 2 ^ 64 → IsNewSpan s p len ds place → EndsPadded s.word len place → s.held p ≡ None →
-      (s.honest ≡ true → s.used p ≡ false → Blank s.word len place) → Law (with_span s p new len place)
-  keeps_new_span cell fits span padded unheld blank =
-      let x = read_says new (Near len ds place no_marks) fits says in
+      (s.honest ≡ true → s.used p ≡ false → Blank s.word len place) → IsClean s.honest s.word (s.stored p) (read_of new) → Law (with_span s p new len place)
+  keeps_new_span cell fits span padded unheld blank clean =
+      let x = read_says new (Near len ds place (unmarked dirty)) fits says in
       let back : head_of (s.word (addr place)) ≡ Some (header p len ds) =
       ap head_of span.head ∙ head_back (header p len ds) (record { some = omega (arith, x.0); most = omega (arith, x.0); structure = omega (arith, x.0); cell = omega (arith, cell, law.shape.few_mutators) }) in
-      law_with_span s law p len ds place no_marks new says fits cell unheld (λ _. ap in_use says)
+      law_with_span s law p len ds place (unmarked dirty) new says fits cell unheld (λ _. ap in_use says)
       (omega (arith, x.0)) (omega (arith, x.0)) (omega (arith, x.0)) span.next.0 (unsealed s place span.next) (at_tail s law place span.next) span.head back
-      (padded_all s.word law.spans.word_fits len place (omega (arith, x.0)) padded) blank
+      (padded_all s.word law.spans.word_fits len place (omega (arith, x.0)) padded) blank clean
 
   -- what objects and marks are, where the cell names the place
   objects_then : (x : Object) → object_of s.word (s.stored p) p (read_of new) ≡ Some x →

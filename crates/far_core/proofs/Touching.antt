@@ -4,7 +4,7 @@ use Rattle.far_word.specs.declared.pointer.Place.{Place}
 use Rattle.far_word.specs.declared.sizes.TheConstants.{CELLS}
 use Rattle.far_core.specs.declared.event.Event.{Event}
 use Rattle.far_core.specs.state.State.{Copying, State, put}
-use Rattle.far_core.specs.events.Touch.{Spot, EpochAt, ScopeAt, CellAt, WordAt, JobAt, SameCopier, CopierAt, Remembers, Uses, Rests, LetsGo, Touch, Touches, shared_word, spot_word}
+use Rattle.far_core.specs.events.Touch.{Spot, EpochAt, ScopeAt, CellAt, WordAt, JobAt, SameCopier, CopierAt, Remembers, Uses, Rests, Soils, LetsGo, Touch, Touches, shared_word, spot_word}
 use Rattle.far_core.proofs.Put.{put_other}
 
 -- one word changes
@@ -48,7 +48,17 @@ module _ {s : State} {x : Touch} {scope cell word : ℕ → ℕ} {remembered : �
       → ((p : ℕ) → x.part ≢ Uses p → used p ≡ s.used p)
       → ((p : ℕ) → x.part ≢ Rests p → x.part ≢ LetsGo (p / CELLS) → held p ≡ s.held p)
       → Touches s x record s { scope = scope; cell = cell; word = word; remembered = remembered; used = used; held = held }
-  touched a b c d = record { words = a; remembered = b; used = c; held = d; book = λ ne. (refl, refl, refl, refl, refl, refl, refl, refl, refl, refl); copiers = λ c ne. same_copier; rest = (refl, refl, refl) }
+  touched a b c d = record { words = a; remembered = b; used = c; held = d; soiled = λ q a b. refl; book = λ ne. (refl, refl, refl, refl, refl, refl, refl, refl, refl, refl); copiers = λ c ne. same_copier; rest = (refl, refl, refl) }
+
+-- the same where what owners have soiled changes too
+module _ {s : State} {x : Touch} {scope cell word : ℕ → ℕ} {remembered : ℕ → Option ℕ} {used : ℕ → Bool} {held : ℕ → Option Place} {soiled : ℕ → Bool} where
+  pub touched_soiled : ((a : Spot) → x.word ≢ Some a → spot_word s.epoch scope cell word s.copying.word a ≡ spot_word s.epoch s.scope s.cell s.word s.copying.word a)
+      → ((m : ℕ) → x.part ≢ Remembers m → x.part ≢ LetsGo m → remembered m ≡ s.remembered m)
+      → ((p : ℕ) → x.part ≢ Uses p → used p ≡ s.used p)
+      → ((p : ℕ) → x.part ≢ Rests p → x.part ≢ LetsGo (p / CELLS) → held p ≡ s.held p)
+      → ((p : ℕ) → x.part ≢ Soils p → x.part ≢ LetsGo (p / CELLS) → soiled p ≡ s.soiled p)
+      → Touches s x record s { scope = scope; cell = cell; word = word; remembered = remembered; used = used; held = held; soiled = soiled }
+  touched_soiled a b c d f = record { words = a; remembered = b; used = c; held = d; soiled = f; book = λ ne. (refl, refl, refl, refl, refl, refl, refl, refl, refl, refl); copiers = λ c ne. same_copier; rest = (refl, refl, refl) }
 
 pub untouched : (s : State) (x : Touch) → Touches s x s
 untouched s x = touched (λ a ne. refl) (λ k a b. refl) (λ q a. refl) (λ q a b. refl)
@@ -66,6 +76,7 @@ module _ {s : State} {spot : Option Spot} {word : ℕ → ℕ} {k : Copying} (c 
     remembered = λ m a b. refl;
     used = λ p a. refl;
     held = λ p a b. refl;
+    soiled = λ p a b. refl;
     book = λ ne. (refl, refl, refl, refl, refl, refl, refl, refl, since, named);
     copiers = λ d ne. others d (λ e. ne (ap CopierAt (sym e)));
     rest = (refl, refl, refl);

@@ -21,6 +21,7 @@ pub mod ReadEpoch
 pub mod ReadLength
 pub mod See
 pub mod SeeJob
+pub mod Soil
 pub mod Store
 pub mod Write
 pub mod namings

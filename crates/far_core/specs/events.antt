@@ -34,6 +34,7 @@ pub mod Reports
 pub mod Rule
 pub mod See
 pub mod SeeJob
+pub mod Soil
 pub mod Step
 pub mod Store
 pub mod Tasks

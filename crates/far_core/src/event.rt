@@ -29,14 +29,21 @@ pub enum Event {
         pointer: u16,
         index: u16,
     },
-    /// Data word `index` of an object that the owner holds becomes `word`, which keeps the padding 0. Answers `Done`.
+    /// Data word `index` of an object that the owner holds and has soiled becomes `word`, which keeps the padding 0. Answers
+    /// `Done`.
     Store {
         owner: u8,
         pointer: u16,
         index: u16,
         word: u64,
     },
-    /// An open owner closes its scope; it holds nothing and remembers no epoch from then on. Answers `Done`.
+    /// An owner sets DIRTY on a pointer that it holds, and remembers until it closes that it has soiled it. Answers `Word` with
+    /// the old word.
+    Soil {
+        owner: u8,
+        pointer: u16,
+    },
+    /// An open owner closes its scope; it holds nothing, has soiled nothing and remembers no epoch from then on. Answers `Done`.
     Close {
         owner: u8,
     },

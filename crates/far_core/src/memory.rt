@@ -35,6 +35,7 @@ pub(crate) struct Memory {
     pub(crate) remembered: Vec<Option<u64>>,
     pub(crate) used: Vec<bool>,
     pub(crate) held: Vec<Option<Place>>,
+    pub(crate) soiled: Vec<bool>,
     // The book's view.
     pub(crate) kinds: Vec<Kind>,
     pub(crate) tails: Vec<u16>,
@@ -57,6 +58,7 @@ pub(crate) struct Memory {
     ghost starts_sized: { vec_len starts ≡ LOG_WORDS * vec_len tails },
     ghost used_sized: { vec_len used ≡ CELLS * vec_len scopes },
     ghost held_sized: { vec_len held ≡ CELLS * vec_len scopes },
+    ghost soiled_sized: { vec_len soiled ≡ CELLS * vec_len scopes },
     ghost round_sized: { vec_len round ≡ vec_len tails },
     ghost clear_sized: { vec_len clear ≡ vec_len scopes },
     ghost stored_sized: { vec_len stored.row_of ≡ CELLS * vec_len scopes },

@@ -10,7 +10,7 @@ use far_word::{Marks, Place, PtrWord};
 /// What a naming does with its pointer, by its old and its new word alone.
 #[derive(Clone, Copy, Debug, PartialEq, Eq)]
 pub enum Naming {
-    /// A free cell gets an object of `len` bytes of a data structure, near at a place, without marks.
+    /// A free cell gets an object of `len` bytes of a data structure, near at a place, with DIRTY alone.
     Places {
         len: u16,
         ds: u8,
@@ -23,9 +23,11 @@ pub enum Naming {
         len: u16,
         place: Place,
     },
-    /// A near object with MOVE and without EVAC, not dropped, stays where it lies and loses its marks.
+    /// A near object with MOVE and without EVAC, not dropped, stays where it lies and loses its marks but
+    /// DIRTY.
     Stays,
-    /// A near object that isn't dropped goes from one place to another, and has no marks there.
+    /// A near object that isn't dropped goes from one place to another, and has no marks there but DIRTY, if
+    /// it had that.
     Moves {
         len: u16,
         ds: u8,
@@ -95,7 +97,7 @@ fn to_near(old: PtrWord, len: u16, ds: u8, place: Place, marks: Marks) -> Option
 {
     match old {
         PtrWord::Free => {
-            if is_unmarked(marks) {
+            if is_unmarked(true, marks) {
                 Some(Naming::Places { len, ds, place })
             } else {
                 None
@@ -107,7 +109,7 @@ fn to_near(old: PtrWord, len: u16, ds: u8, place: Place, marks: Marks) -> Option
             place: from,
             marks: k,
         } => {
-            if is_kept(k, marks, n, len, d, ds) {
+            if is_kept(k.dirty, k, marks, n, len, d, ds) {
                 near_form(n, d, from, place, k)
             } else {
                 None
@@ -118,7 +120,7 @@ fn to_near(old: PtrWord, len: u16, ds: u8, place: Place, marks: Marks) -> Option
             ds: d,
             marks: k,
         } => {
-            if is_kept(k, marks, n, len, d, ds) {
+            if is_kept(false, k, marks, n, len, d, ds) {
                 Some(Naming::Fetches {
                     len: n,
                     ds: d,
@@ -143,7 +145,7 @@ fn to_far(old: PtrWord, len: u16, ds: u8, marks: Marks) -> Option<Naming>
             place,
             marks: k,
         } => {
-            if is_kept(k, marks, n, len, d, ds) && k.evac {
+            if is_kept(false, k, marks, n, len, d, ds) && k.evac {
                 Some(Naming::Evicts { len: n, place })
             } else {
                 None
@@ -167,11 +169,11 @@ fn near_form(len: u16, ds: u8, from: Place, to: Place, marks: Marks) -> Option<N
     }
 }
 
-/// Whether two words are of one object, that isn't dropped, and the new one has no marks.
-fn is_kept(old: Marks, new: Marks, len: u16, new_len: u16, ds: u8, new_ds: u8) -> bool
-    ensures { result ≡ is_kept old new len new_len ds new_ds }
+/// Whether two words are of one object, that isn't dropped, and the new one has no marks but DIRTY, and that as said.
+fn is_kept(dirty: bool, old: Marks, new: Marks, len: u16, new_len: u16, ds: u8, new_ds: u8) -> bool
+    ensures { result ≡ is_kept dirty old new len new_len ds new_ds }
 {
-    len == new_len && ds == new_ds && !old.dropped && is_unmarked(new)
+    len == new_len && ds == new_ds && !old.dropped && is_unmarked(dirty, new)
 }
 
 /// Whether an object may stay where it lies: its owner has asked for a move, and the book doesn't want its log.
@@ -181,9 +183,10 @@ fn is_stay(from: Place, to: Place, marks: Marks) -> bool
     from.log == to.log && from.at == to.at && marks.moved && !marks.evac
 }
 
-/// Whether none of the marks is set.
-fn is_unmarked(marks: Marks) -> bool
-    ensures { result ≡ is_unmarked marks }
+/// Whether none of the marks is set but DIRTY, and that as said.
+fn is_unmarked(dirty: bool, marks: Marks) -> bool
+    ensures { result ≡ is_unmarked dirty marks }
 {
     !(marks.hot || marks.evac || marks.moved || marks.dropped)
+        && if dirty { marks.dirty } else { !marks.dirty }
 }

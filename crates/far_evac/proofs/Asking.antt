@@ -1,5 +1,7 @@
 -- What a walk asks of the device, one object more; and which keys it leaves.
-use Rattle.std.proofs.Common.{◌≡◌, ◌≢◌, ◌∙◌, ℕ, Bool, ◌+◌, List, [], ◌∷◌, ◌++◌, Option, Some, None, ap, sym, refl, subst, inl, inr, take}
+use Rattle.far_core.specs.state.Law.{is_dirty}
+use Rattle.far_book.proofs.region.Dirt.{up_by}
+use Rattle.std.proofs.Common.{◌≡◌, ◌≢◌, ◌∙◌, ℕ, Bool, ◌+◌, List, [], ◌∷◌, ◌++◌, Option, Some, None, ap, sym, refl, subst, inl, inr, take, arith}
 use Rattle.std.specs.Prelude.{false, Result, Ok, Err, IfNone, IfSome}
 use Rattle.std.specs.List.{AllByRecursion}
 use Rattle.far_word.specs.declared.pointer.Place.{Place}
@@ -20,17 +22,19 @@ use Rattle.far_hand.proofs.Finding.{finds_more, near_known}
 use Rattle.far_book.proofs.region.Founds.{drop_found}
 use Rattle.far_evac.specs.declared.evac.evacuating.Fate.{Fate}
 use Rattle.far_evac.specs.AnyHand.{KnowsWalked, WalksTo}
-use Rattle.far_evac.specs.Asked.{AsksFirst, AsksSo, WalksAsking, first_live}
+use Rattle.far_evac.specs.Asked.{AsksAsKnown, AsksFirst, AsksSo, WalksAsking, first_live}
 use Rattle.far_evac.specs.Leaving.{AsksAs, fate_by, near_fate}
 use Rattle.far_evac.specs.Live.{live_among}
-use Rattle.far_evac.specs.Moment.{Moment}
+use Rattle.far_evac.specs.Moment.{Moment, Tally}
 use Rattle.far_evac.specs.Ready.{Ready}
-use Rattle.far_evac.specs.Walk.{Drops, Goes, Moves, Walked, Way, dealt_as, left, settled, way_of}
+use Rattle.far_evac.specs.Walk.{Drops, Goes, Moves, Walked, Way, dealt_as, dealt_first, dealt_so, left, settled, way_of}
 use Rattle.far_evac.proofs.Bools.{neither}
 use Rattle.far_evac.proofs.Evacuations.{deals_more}
 use Rattle.far_evac.proofs.SmallSteps.{drop_next, walks_left}
 use Rattle.far_evac.proofs.LiveOnce.{all_front, one_more}
-use Rattle.far_evac.proofs.Walks.{walks_more}
+
+one_is_more : (n : ℕ) → n + 1 ≡ n → ⊥
+one_is_more n e = omega arith
 
 -- ---- one object more
 -- the object that a walk deals with next is the one behind those that it has dealt with
@@ -58,15 +62,22 @@ follows_more contents is_honest faults few m k w p rest fault a b c ready walks 
     (follows_still contents is_honest faults few (other_than p) (none_of (first_live m (k + 1))) fault b c (λ q none. (alone q none).1) then)
 
 -- ---- calls of the device
+-- ways that count alike have one fate
+fate_counted : (w : Walked) (p : ℕ) (a b : Way) → (dealt_so w p a).tally ≡ (dealt_so w p b).tally → fate_by a ≡ fate_by b
+fate_counted w p Drops Drops e = refl
+fate_counted w p (Moves place) (Moves other) e = refl
+fate_counted w p Goes Goes e = refl
+fate_counted w p Drops (Moves other) e = absurd (one_is_more w.tally.dropped (ap (λ (t : Tally). t.dropped) e))
+fate_counted w p Drops Goes e = absurd (one_is_more w.tally.dropped (ap (λ (t : Tally). t.dropped) e))
+fate_counted w p (Moves place) Drops e = absurd (one_is_more w.tally.moved (ap (λ (t : Tally). t.moved) e))
+fate_counted w p (Moves place) Goes e = absurd (one_is_more w.tally.moved (ap (λ (t : Tally). t.moved) e))
+fate_counted w p Goes Drops e = absurd (one_is_more w.tally.far (ap (λ (t : Tally). t.far) e))
+fate_counted w p Goes (Moves other) e = absurd (one_is_more w.tally.far (ap (λ (t : Tally). t.far) e))
+
 module _ (D : Type 0) (writes : D → ℕ → List ℕ → Result (Unit {0}) DeviceFault → D → Type 0) (lets_go : D → ℕ → D → Type 0) where
   -- one object more
   asks_by : (w : Walked) (p : ℕ) (rest : List ℕ) (word : ℕ) (ps : List ℕ) (old new : D) → ps ≡ p ∷ rest → AsksSo D writes lets_go w.moment.core p (way_of w.moment.core (read_of word)) old new → AsksFirst D writes lets_go w word ps old new
   asks_by w p rest word ps old new e asks = subst (λ qs. AsksFirst D writes lets_go w word qs old new) (sym e) asks
-
-  pub asks_more : (m : Moment) (k : ℕ) (w v t : Walked) (p : ℕ) (rest : List ℕ) (word : ℕ) (a b c : D) → left w ≡ p ∷ rest → Finds (w.moment.core.cell p) word → KnowsWalked (dealt_as w p (read_of word)) v → KnowsWalked (settled v) t →
-      AsksSo D writes lets_go w.moment.core p (way_of w.moment.core (read_of word)) b c → WalksAsking D writes lets_go m k w a b → WalksAsking D writes lets_go m (k + 1) t a c
-  asks_more m k w v t p rest word a b c e finds dealt then asks walks =
-      walks_more (λ u word before after. AsksFirst D writes lets_go u word (left u) before after) m k w word t a b c walks (deals_more w v t p rest word e finds dealt then) (asks_by w p rest word (left w) b c e asks)
 
   -- two ways that are counted alike
   pub asks_alike : (s : State) (p : ℕ) (a b : Way) (old new : D) → fate_by a ≡ fate_by b → AsksSo D writes lets_go s p a old new → AsksSo D writes lets_go s p b old new
@@ -74,6 +85,29 @@ module _ (D : Type 0) (writes : D → ℕ → List ℕ → Result (Unit {0}) Dev
   asks_alike s p (Moves place) (Moves other) old new e asks = asks
   asks_alike s p Goes Goes old new e asks = asks
   asks_alike s p _ _ old new e asks = absurd cc
+
+  -- the same where no word changes but by it: two ways that are counted alike are one
+  asks_known : (w : Walked) (p : ℕ) (rest ps : List ℕ) (old new : D) → ps ≡ p ∷ rest → AsksSo D writes lets_go w.moment.core p (way_of w.moment.core (read_of (w.moment.core.cell p))) old new → AsksAsKnown D writes lets_go w ps old new
+  asks_known w p rest ps old new e asks = subst (λ qs. AsksAsKnown D writes lets_go w qs old new) (sym e) asks
+
+  pub asks_more : (still : Type 0) (m : Moment) (k : ℕ) (w v t : Walked) (p : ℕ) (rest : List ℕ) (word : ℕ) (a b c : D) → left w ≡ p ∷ rest → Finds (w.moment.core.cell p) word → KnowsWalked (dealt_as w p (read_of word)) v → KnowsWalked (settled v) t →
+      AsksSo D writes lets_go w.moment.core p (way_of w.moment.core (read_of word)) b c → (still → (v ≡ dealt_as w p (read_of (w.moment.core.cell p))) × (t ≡ settled v)) →
+      WalksAsking still D writes lets_go m k w a b → WalksAsking still D writes lets_go m (k + 1) t a c
+  asks_more still m k w v t p rest word a b c e finds dealt then asks exact walks = subst (λ n. WalksAsking still D writes lets_go m n t a c) (one_more k) (
+    w,
+    word,
+    b,
+    walks,
+    deals_more w v t p rest word e finds dealt then,
+    (
+      asks_by w p rest word (left w) b c e asks,
+      λ h. let same = exact h in (
+        same.1 ∙ ap settled same.0 ∙ sym (ap (dealt_first w) e),
+        asks_known w p rest (left w) b c e (asks_alike w.moment.core p (way_of w.moment.core (read_of word)) (way_of w.moment.core (read_of (w.moment.core.cell p))) b c
+            (fate_counted w p (way_of w.moment.core (read_of word)) (way_of w.moment.core (read_of (w.moment.core.cell p))) (sym dealt.tally ∙ ap (λ (x : Walked). x.tally) same.0)) asks),
+      ),
+    ),
+  )
 
   -- one that was to move
   pub asked_there : (s : State) (p : ℕ) (o : Option Place) (old new : D) → IfSome o (λ _. new ≡ old) → IfNone o (lets_go old p new) → AsksAs D writes lets_go s p (near_fate o) old new
@@ -113,11 +147,15 @@ module _ (D : Type 0) (writes : D → ℕ → List ℕ → Result (Unit {0}) Dev
   alive_before : is_dropped (read_of (u.cell p)) ≡ false → is_dropped (read_of (s.cell p)) ≡ false
   alive_before alive = neither (is_dropped (read_of (u.cell p))) (is_dropped (read_of (s.cell p))) (drop_found (s.cell p) (u.cell p) finds) alive
 
+  clean_before : is_dirty (read_of (u.cell p)) ≡ false → is_dirty (read_of (s.cell p)) ≡ false
+  clean_before clean = neither (is_dirty (read_of (u.cell p))) (is_dirty (read_of (s.cell p))) (up_by (read_of (s.cell p)) (read_of (u.cell p)) finds.body finds.dirty) clean
+
   asked_so : (way : Way) (new : D) → AsksSo D writes lets_go u p way between new → AsksSo D writes lets_go s p way old new
   asked_so Drops new (inl gone) = inl (subst (λ (d : D). lets_go d p new) is gone)
   asked_so Drops new (inr (after, wrote, gone, alive)) = inr (after, wrote_before (Ok tt) after wrote, gone, alive_before alive)
   asked_so (Moves place) new same = same ∙ is
-  asked_so Goes new wrote = wrote_before (Ok tt) new wrote
+  asked_so Goes new (inl wrote) = inl (wrote_before (Ok tt) new wrote)
+  asked_so Goes new (inr (same, clean)) = inr (same ∙ is, clean_before clean)
 
   pub asked_before : (fate : Fate) (new : D) → AsksAs D writes lets_go u p fate between new → AsksAs D writes lets_go s p fate old new
   asked_before fate new (way, counted, asks) = (way, counted, asked_so way new asks)

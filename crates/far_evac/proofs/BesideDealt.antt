@@ -1,4 +1,5 @@
 -- An object is dealt with where copies may be offered, as a word says that was found in its cell.
+use Rattle.far_book.specs.book.Effects.{moved}
 use Rattle.std.proofs.Common.{◌≡◌, ◌⊎◌, ◌<◌, ◌==◌, ◌/◌, ◌||◌, ℕ, Bool, true, false, cond, Option, Some, None, Result, Ok, Err, IfOk, IfErr, List, [], inl, inr, arith, ap, sym, refl, ◌∙◌, subst}
 use Rattle.std.proofs.lemmas.Bool.{eq-eqb, eqb-true, true≢false}
 use Rattle.far_word.specs.declared.mark.Marks.{Marks}
@@ -183,7 +184,7 @@ module _ (s : State) (p : ℕ) (q : IsQuietNear s p) (law : Law (own_part s)) (e
     before Drops e known = subst (λ x. Knows x t) (freed_seen s p w) known
     before (Moves to) e known =
         let why = moves_when g.marks.dropped g.marks.hot (room s (size_of q.len) false) to (sym (ap (way_of s) g.near) ∙ e) in
-        subst (λ x. Knows x t) (moved_there s p q law evac w finds (alive_here h.word h.found g why.0) to why.1) known
+        knows_more (moved s p to) (moved (seen s p w) p to) t (moved_there s p q law evac w finds (alive_here h.word h.found g why.0) to why.1) known
     before Goes e known =
         let alive = goes_when g.marks.dropped g.marks.hot (room s (size_of q.len) false) (sym (ap (way_of s) g.near) ∙ e) in
         subst (λ x. Knows x t) (evicted_there s p q law evac w finds (alive_here h.word h.found g alive)) known

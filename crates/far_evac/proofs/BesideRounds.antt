@@ -110,7 +110,7 @@ module _ (D : Type 0) (Asks : State → ℕ → Dealing → D → D → Type 0) 
 named_round : (s : State) (p : ℕ) (to : Place) (o : Option PtrWord) → (named_of s p to o).round ≡ s.round
 named_round s p to None = refl
 named_round s p to (Some Free) = refl
-named_round s p to (Some (Near len ds from m)) = ap (λ (t : State). t.round) (name_one s p (near_word len ds to) (s.cell p)).frame
+named_round s p to (Some (Near len ds from m)) = ap (λ (t : State). t.round) (name_one s p (near_word m.dirty len ds to) (s.cell p)).frame
 named_round s p to (Some (Far len ds m)) = refl
 
 made_round : (s : State) (j : ℕ) (job : Job) (fate : Fate) → (made_of s j job fate).round ≡ s.round

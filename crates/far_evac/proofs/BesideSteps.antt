@@ -171,7 +171,7 @@ module _ (s : State) (p : ℕ) (q : IsQuietNear s p) (law : Law (own_part s)) (e
     moved_spans alive k sealed =
         let uncopied = no_copy_in_room s law p (size_of q.len) q.place to false (omega arith) (omega (arith, layout.4)) there in
         let row = data_at s.word q.place in
-        let then = with_span (with_written_span s p q.len q.ds to row) p (near_word q.len q.ds to) q.len to in
+        let then = with_span (with_written_span s p q.len q.ds to row) p (near_word q.marks.dirty q.len q.ds to) q.len to in
         ap (λ (t : State). spans_of t k) (moved_is s p q.len q.ds q.place to q.marks q.near alive (wanted s p q law evac) to_layout uncopied)
         ∙ spans_kept s then k (λ i below. moved_word k sealed i below row) (tail_kept k sealed)
 
@@ -188,7 +188,7 @@ module _ (s : State) (p : ℕ) (q : IsQuietNear s p) (law : Law (own_part s)) (e
         moved_spans to why.1 (alive_before s p q law evac w finds why.0) k sealed
     way_spans Goes e k sealed =
         let alive = goes_when f.marks.dropped f.marks.hot (room s (size_of q.len) false) (sym (ap (way_of s) f.near) ∙ e) in
-        ap (λ (t : State). spans_of t k) (evicted_is s p q.len q.ds q.place (layout.0, layout.1, layout.2, refl) q.marks q.near (alive_before s p q law evac w finds alive) (wanted s p q law evac))
+        ap (λ (t : State). spans_of t k) (evicted_is s p q.len q.ds q.place (layout.0, layout.1, layout.2, refl, refl) q.marks q.near (alive_before s p q law evac w finds alive) (wanted s p q law evac))
 
     way_rest : (way : Way) → way_of s (read_of w) ≡ way → LeavesRest s (core_by s p way) p
     way_rest way e =

@@ -31,7 +31,7 @@ abbrev with_evac : ℕ → ℕ
 with_evac w = bit_or w (2 ^ position Evac)
 
 bare : Marks → Marks
-bare m = record { hot = m.hot; evac = false; moved = m.moved; dropped = m.dropped }
+bare m = record { hot = m.hot; evac = false; moved = m.moved; dropped = m.dropped; dirty = m.dirty }
 
 -- ---- one word: the same change in a known word and in a found one
 module _ (v w old new len ds : ℕ) (place : Place) (m n : Marks) (finds : Finds v w) (known : read_of v ≡ Some (Near len ds place m)) (found : read_of w ≡ Some (Near len ds place n)) where
@@ -44,13 +44,17 @@ module _ (v w old new len ds : ℕ) (place : Place) (m n : Marks) (finds : Finds
   dropped_up : m.dropped ≡ true → n.dropped ≡ true
   dropped_up h = sym (ap (λ o. (marks_in o).dropped) found) ∙ finds.dropped (ap (λ o. (marks_in o).dropped) known ∙ h)
 
-  finds_so : (b : Bool) → read_of old ≡ Some (Near len ds place record { hot = m.hot; evac = b; moved = m.moved; dropped = m.dropped }) →
-      read_of new ≡ Some (Near len ds place record { hot = n.hot; evac = b; moved = n.moved; dropped = n.dropped }) → Finds old new
+  dirty_up : m.dirty ≡ true → n.dirty ≡ true
+  dirty_up h = sym (ap (λ o. (marks_in o).dirty) found) ∙ finds.dirty (ap (λ o. (marks_in o).dirty) known ∙ h)
+
+  finds_so : (b : Bool) → read_of old ≡ Some (Near len ds place record { hot = m.hot; evac = b; moved = m.moved; dropped = m.dropped; dirty = m.dirty }) →
+      read_of new ≡ Some (Near len ds place record { hot = n.hot; evac = b; moved = n.moved; dropped = n.dropped; dirty = n.dirty }) → Finds old new
   finds_so b e f = record {
     body = ap body_of f ∙ sym (ap body_of e);
     hot = λ h. ap (λ o. (marks_in o).hot) f ∙ hot_up (sym (ap (λ o. (marks_in o).hot) e) ∙ h);
     moved = λ h. ap (λ o. (marks_in o).moved) f ∙ moved_up (sym (ap (λ o. (marks_in o).moved) e) ∙ h);
     dropped = λ h. ap (λ o. (marks_in o).dropped) f ∙ dropped_up (sym (ap (λ o. (marks_in o).dropped) e) ∙ h);
+    dirty = λ h. ap (λ o. (marks_in o).dirty) f ∙ dirty_up (sym (ap (λ o. (marks_in o).dirty) e) ∙ h);
   }
 
 finds_marked : (v w : ℕ) → Finds v w → IsNearWord v → w < 2 ^ 64 → Finds (with_evac v) (with_evac w)

@@ -13,7 +13,7 @@ use Rattle.far_word.specs.Job.{job_of}
 use Rattle.far_word.specs.Mark.{position}
 use Rattle.far_word.specs.Pointer.{read_of}
 use Rattle.far_core.specs.declared.event.Event.{Event}
-use Rattle.far_core.specs.declared.event.Event.TheVariants.{ReadEpoch, Open, Pin, Load, Store, Close, Adopt, Put, Name, See, Mark, Ask, Get, Clear, Advance, Look, Offer, PeekJob, SeeJob, Claim, ReadLength, Read, Write, Finish, Collect}
+use Rattle.far_core.specs.declared.event.Event.TheVariants.{ReadEpoch, Open, Pin, Load, Store, Close, Adopt, Put, Name, See, Mark, Ask, Get, Clear, Advance, Look, Offer, PeekJob, SeeJob, Claim, ReadLength, Read, Write, Finish, Collect, Soil}
 use Rattle.far_core.specs.declared.event.Reply.{Reply}
 use Rattle.far_core.specs.declared.event.Reply.TheVariants.{Refused}
 use Rattle.far_core.specs.declared.event.Task.{Task}
@@ -27,7 +27,7 @@ use Rattle.far_core.specs.events.Finish.{after_finish}
 use Rattle.far_core.specs.events.Offer.{after_offer}
 use Rattle.far_core.specs.events.Legal.{Legal}
 use Rattle.far_core.specs.events.Name.{after_naming}
-use Rattle.far_core.specs.events.Naming.{IsNaming, naming_of, naming_row, no_marks}
+use Rattle.far_core.specs.events.Naming.{IsNaming, naming_of, naming_row, no_marks, unmarked}
 use Rattle.far_core.specs.events.namings.Moves.{MayMove, after_move}
 use Rattle.far_core.specs.events.NewSpans.{IsNext, with_span}
 use Rattle.far_core.specs.events.Ranges.{after_events}
@@ -104,31 +104,31 @@ stays_there n d to m old len ds place marks e =
 
 module _ (s : State) (law : Law s) (p new : ℕ) where
   -- no span is taken in a log of the round
-  taken_none : (n d len : ℕ) (to : Place) → read_of new ≡ Some (pointer.Near n d to no_marks) → IsNext s to → NoneComes s (with_span s p new len to)
-  taken_none n d len to says next = one_cell s (with_span s p new len to) p new refl (λ l is. is)
+  taken_none : (n d len : ℕ) (to : Place) (m : Marks) → read_of new ≡ Some (pointer.Near n d to m) → IsNext s to → NoneComes s (with_span s p new len to)
+  taken_none n d len to m says next = one_cell s (with_span s p new len to) p new refl (λ l is. is)
       (λ k e place marks near is.
-      absurd (next_unsealed s to next (law.rounds.round_sealed to.log (ap (λ (x : Place). s.round x.log) (same_place n d to no_marks k e place marks (sym says ∙ near)) ∙ is))))
+      absurd (next_unsealed s to next (law.rounds.round_sealed to.log (ap (λ (x : Place). s.round x.log) (same_place n d to m k e place marks (sym says ∙ near)) ∙ is))))
 
   -- an object that moves takes such a span, or was copied to another log
-  move_none : (len ds : ℕ) (from to : Place) → read_of new ≡ Some (pointer.Near len ds to no_marks) → MayMove s p len ds from to ⊎ WasCopied s p from to → (o : Option ℕ) → copied_job s p from to ≡ o →
+  move_none : (len ds : ℕ) (from to : Place) {m : Marks} → read_of new ≡ Some (pointer.Near len ds to m) → MayMove s p len ds from to ⊎ WasCopied s p from to → (o : Option ℕ) → copied_job s p from to ≡ o →
       NoneComes s (after_move s p new len to o)
-  move_none len ds from to says (inl legal) None e = taken_none len ds len to says legal.span.next
+  move_none len ds from to says (inl legal) None e = taken_none len ds len to _ says legal.span.next
   move_none len ds from to says (inr has) None e = absurd (false≢true (sym (ap is_some e) ∙ copied_test s p from to has))
   move_none len ds from to says legal (Some j) e =
       let x = copied_fact s p from to j e in
       one_cell s (with_named s p new j) p new refl (λ l is. is)
       (λ n d place marks near is.
-      absurd (false≢true (sym (copied_outside s law p from to j x.0 x.1) ∙ ap (λ (y : Place). s.round y.log) (same_place len ds to no_marks n d place marks (sym says ∙ near)) ∙ is)))
+      absurd (false≢true (sym (copied_outside s law p from to j x.0 x.1) ∙ ap (λ (y : Place). s.round y.log) (same_place len ds to _ n d place marks (sym says ∙ near)) ∙ is)))
 
   form_none : (form : Naming) → IsNaming form (read_of (s.cell p)) (read_of new) → (naming_row s p new form).Legal → NoneComes s (naming_row s p new form).after
-  form_none (Places len ds place) says legal = taken_none len ds len place says.1 legal.0.next
+  form_none (Places len ds place) says legal = taken_none len ds len place _ says.1 legal.0.next
   form_none Retires says legal = one_cell s (record s { cell = put s.cell p new }) p new refl (λ l is. is) (λ len ds place marks near is. absurd (free_near len ds place marks (sym says.1 ∙ near)))
   form_none (Evicts n at) (d, m, was, alive, wanted, says) legal = one_cell s (naming_row s p new (Evicts n at)).after p new refl (λ l is. is)
       (λ len ds place marks near is. absurd (far_near n d no_marks len ds place marks (sym says ∙ near)))
   form_none Stays (n, d, at, m, was, alive, asked, unwanted, says) legal = one_cell s (record s { cell = put s.cell p new }) p new refl (λ l is. is)
-      (λ len ds place marks near is. (m, was ∙ stays_there n d at no_marks m len ds place marks (sym says ∙ near)))
+      (λ len ds place marks near is. (m, was ∙ stays_there n d at _ m len ds place marks (sym says ∙ near)))
   form_none (Moves len ds from to) says legal = move_none len ds from to says.1 legal (copied_job s p from to) refl
-  form_none (Fetches len ds place) says legal = taken_none len ds len place says.1 legal.span.next
+  form_none (Fetches len ds place) says legal = taken_none len ds len place _ says.1 legal.span.next
 
   name_none : (old : ℕ) → Legal s (Name p old new) → NoneComes s (after s (Name p old new))
   name_none old (range, (form, says, legal)) = cond_both (s.cell p == old) (after_naming s p new (naming_of (read_of old) (read_of new))) s (NoneComes s)
@@ -200,6 +200,7 @@ legal_brings s (Open m) law legal = owners_none s (after s (Open m)) refl (chang
 legal_brings s (Pin m p) law legal = owners_none s (after s (Pin m p)) refl (change s (Pin m p) law refl legal)
 legal_brings s (Load m p i) law legal = owners_none s (after s (Load m p i)) refl (change s (Load m p i) law refl legal)
 legal_brings s (Store m p i w) law legal = owners_none s (after s (Store m p i w)) refl (change s (Store m p i w) law refl legal)
+legal_brings s (Soil m p) law legal = owners_none s (after s (Soil m p)) refl (change s (Soil m p) law refl legal)
 legal_brings s (Close m) law legal = owners_none s (after s (Close m)) refl (change s (Close m) law refl legal)
 legal_brings s (Adopt m p) law legal = owners_none s (after s (Adopt m p)) refl (change s (Adopt m p) law refl legal)
 legal_brings s (Ask m p k) law legal = owners_none s (after s (Ask m p k)) refl (change s (Ask m p k) law refl legal)

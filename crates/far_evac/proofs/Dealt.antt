@@ -19,7 +19,7 @@ use Rattle.far_core.specs.events.Copies.{data_at}
 use Rattle.far_core.specs.declared.naming.Naming.TheVariants.{Moves}
 use Rattle.far_core.specs.events.Copied.{copied_job}
 use Rattle.far_core.specs.events.Name.{after_naming}
-use Rattle.far_core.specs.events.Naming.{no_marks}
+use Rattle.far_core.specs.events.Naming.{no_marks, unmarked}
 use Rattle.far_core.specs.events.namings.Moves.{after_move}
 use Rattle.far_core.specs.state.Room.{room, free_logs, is_free, lowest}
 use Rattle.far_core.specs.state.Spans.{spans_of, is_live, names_place}
@@ -40,12 +40,12 @@ use Rattle.far_evac.proofs.OfOneKind.{open_unsealed}
 
 -- ---- an object that moves takes a span, or is named to what a job has copied
 pub moved_as : (s : State) (p len ds : ℕ) (from to : Place) (m : Marks) → read_of (s.cell p) ≡ Some (Near len ds from m) → m.dropped ≡ false → m.evac ≡ true → IsPtr (Near len ds to no_marks) →
-    let written = with_written_span s p len ds to (data_at s.word from) in moved s p to ≡ after_move written p (near_word len ds to) len to (copied_job written p from to)
+    let written = with_written_span s p len ds to (data_at s.word from) in moved s p to ≡ after_move written p (near_word m.dirty len ds to) len to (copied_job written p from to)
 moved_as s p len ds from to m near alive wanted layout =
     let written = with_written_span s p len ds to (data_at s.word from) in
-    let new = near_word len ds to in
+    let new = near_word m.dirty len ds to in
     ap (moved_of s p to) near
-    ∙ rw (eq-eqb (s.cell p) (s.cell p) refl) (ap (after_naming written p new) (naming_only (Moves len ds from to) (read_of (s.cell p)) (read_of new) ((m, near, alive, no_stay from to m wanted), read_back (Near len ds to no_marks) layout)))
+    ∙ rw (eq-eqb (s.cell p) (s.cell p) refl) (ap (after_naming written p new) (naming_only (Moves len ds from to) (read_of (s.cell p)) (read_of new) ((m, near, alive, no_stay from to m wanted), read_back (Near len ds to (unmarked m.dirty)) layout)))
 
 -- ---- where a hot object goes: to no sealed log
 pub record NewPlace (s : State) (size : ℕ) (place : Place) : Type 0 where
@@ -155,7 +155,7 @@ module _ (s : State) (held : List ℕ) (ready : Ready s held) (p : ℕ) where
     layout = ready.layout p len ds from marks near
 
     far_layout : IsPtr (Far len ds no_marks)
-    far_layout = (layout.0, layout.1, layout.2, refl)
+    far_layout = (layout.0, layout.1, layout.2, refl, refl)
 
     far_gone : (l at : ℕ) → names_place (read_of (far_word len ds)) l at ≡ false
     far_gone l at = ap (λ o. names_place o l at) (far_says len ds far_layout)
@@ -214,21 +214,21 @@ module _ (s : State) (held : List ℕ) (ready : Ready s held) (p : ℕ) where
 
       -- a span is taken there; or what a job has copied there is named
       abbrev then : Option ℕ → State
-      then job = after_move written p (near_word len ds to) len to job
+      then job = after_move written p (near_word marks.dirty len ds to) len to job
 
       moved_then : moved s p to ≡ then (copied_job written p from to)
       moved_then = moved_as s p len ds from to marks near alive evac near_layout
 
-      cell_then : (job : Option ℕ) → (then job).cell ≡ put s.cell p (near_word len ds to)
+      cell_then : (job : Option ℕ) → (then job).cell ≡ put s.cell p (near_word marks.dirty len ds to)
       cell_then None = refl
       cell_then (Some j) = refl
 
-      near_says : read_of (near_word len ds to) ≡ Some (Near len ds to no_marks)
-      near_says = read_back (Near len ds to no_marks) near_layout
+      near_says : read_of (near_word marks.dirty len ds to) ≡ Some (Near len ds to (unmarked marks.dirty))
+      near_says = read_back (Near len ds to (unmarked marks.dirty)) near_layout
 
-      near_there : OnLayout (near_word len ds to)
+      near_there : OnLayout (near_word marks.dirty len ds to)
       near_there n d place k e =
-          let same : Some (Near len ds to no_marks) ≡ Some (Near n d place k) = sym near_says ∙ e in
+          let same : Some (Near len ds to (unmarked marks.dirty)) ≡ Some (Near n d place k) = sym near_says ∙ e in
           let lens : len ≡ n = cc in
           let structures : ds ≡ d = cc in
           let places : to ≡ place = cc in
@@ -245,13 +245,13 @@ module _ (s : State) (held : List ℕ) (ready : Ready s held) (p : ℕ) where
         round_still None = (put_other (put s.kind s.current kinds.Sealed) to.log kinds.Open l other ∙ put_other s.kind s.current kinds.Sealed l kept, refl)
         round_still (Some j) = (refl, refl)
 
-        elsewhere : (n d : ℕ) (place : Place) (k : Marks) → read_of (near_word len ds to) ≡ Some (Near n d place k) → place.log ≢ l
+        elsewhere : (n d : ℕ) (place : Place) (k : Marks) → read_of (near_word marks.dirty len ds to) ≡ Some (Near n d place k) → place.log ≢ l
         elsewhere n d place k e is =
-            let same : Some (Near len ds to no_marks) ≡ Some (Near n d place k) = sym near_says ∙ e in
+            let same : Some (Near len ds to (unmarked marks.dirty)) ≡ Some (Near n d place k) = sym near_says ∙ e in
             let places : to ≡ place = cc in
             other (sym is ∙ ap (λ (x : Place). x.log) (sym places))
 
-        gone : (at : ℕ) → names_place (read_of (near_word len ds to)) l at ≡ false
+        gone : (at : ℕ) → names_place (read_of (near_word marks.dirty len ds to)) l at ≡ false
         gone at = ap (λ o. names_place o l at) near_says ∙ ap (λ b. b && nat_eq to.at at) (ne_eqb to.log l (λ e. other (sym e)))
 
         word_still : (i : ℕ) → i < s.tail l → written.word (l * LOG_WORDS + i) ≡ s.word (l * LOG_WORDS + i)
@@ -273,15 +273,15 @@ module _ (s : State) (held : List ℕ) (ready : Ready s held) (p : ℕ) where
         unfolding live_in spans_of
         live_moved job =
             ap (λ cell. pointers_of (filter (is_live (record s { cell = cell }) l) (spans_of (then job) l))) (cell_then job)
-            ∙ ap (λ spans. pointers_of (filter (is_live (record s { cell = put s.cell p (near_word len ds to) }) l) spans)) (spans_still job)
-            ∙ live_left s p (near_word len ds to) l gone
+            ∙ ap (λ spans. pointers_of (filter (is_live (record s { cell = put s.cell p (near_word marks.dirty len ds to) }) l) spans)) (spans_still job)
+            ∙ live_left s p (near_word marks.dirty len ds to) l gone
 
       lists_moved : (job : Option ℕ) (ls : List ℕ) → AllByRecursion (IsOfRound s) ls → AllByRecursion (λ l. live_in (then job) l ≡ but p (live_in s l)) ls
       lists_moved job [] h = tt
       lists_moved job (l ∷ ls) h = (live_moved l h.0.0 job, lists_moved job ls h.1)
 
       logs_moved : (job : Option ℕ) (ls : List ℕ) → AllByRecursion (IsOfRound s) ls →
-          AllByRecursion (λ l. ((n d : ℕ) (place : Place) (k : Marks) → read_of (near_word len ds to) ≡ Some (Near n d place k) → place.log ≢ l) × ((then job).kind l ≡ s.kind l) × ((then job).round l ≡ s.round l)) ls
+          AllByRecursion (λ l. ((n d : ℕ) (place : Place) (k : Marks) → read_of (near_word marks.dirty len ds to) ≡ Some (Near n d place k) → place.log ≢ l) × ((then job).kind l ≡ s.kind l) × ((then job).round l ≡ s.round l)) ls
       logs_moved job [] h = tt
       logs_moved job (l ∷ ls) h = ((elsewhere l h.0.0, (round_still l h.0.0 job).0, (round_still l h.0.0 job).1), logs_moved job ls h.1)
 
@@ -289,24 +289,24 @@ module _ (s : State) (held : List ℕ) (ready : Ready s held) (p : ℕ) where
       leaves_then None = record {
         lists = lists_moved None held ready.logs;
         ready = record {
-          layout = layout_still s p (then None) (near_word len ds to) refl near_there ready.layout;
+          layout = layout_still s p (then None) (near_word marks.dirty len ds to) refl near_there ready.layout;
           short = λ l. put_both (λ tail. tail ≤ LOG_WORDS) s.tail to.log (to.at + size_of len) l (λ _. new.fits) (λ _. ready.short l);
           opens = put_both (λ kind. kind ≡ kinds.Open) (put s.kind s.current kinds.Sealed) to.log kinds.Open to.log (λ _. refl) (λ other. absurd (other refl));
           current = new.log;
           few = ready.few;
-          logs = held_still s p (then None) (near_word len ds to) refl held (logs_moved None held ready.logs) ready.logs;
+          logs = held_still s p (then None) (near_word marks.dirty len ds to) refl held (logs_moved None held ready.logs) ready.logs;
           once = ready.once;
         };
       }
       leaves_then (Some j) = record {
         lists = lists_moved (Some j) held ready.logs;
         ready = record {
-          layout = layout_still s p (then (Some j)) (near_word len ds to) refl near_there ready.layout;
+          layout = layout_still s p (then (Some j)) (near_word marks.dirty len ds to) refl near_there ready.layout;
           short = ready.short;
           opens = ready.opens;
           current = ready.current;
           few = ready.few;
-          logs = held_still s p (then (Some j)) (near_word len ds to) refl held (logs_moved (Some j) held ready.logs) ready.logs;
+          logs = held_still s p (then (Some j)) (near_word marks.dirty len ds to) refl held (logs_moved (Some j) held ready.logs) ready.logs;
           once = ready.once;
         };
       }
@@ -314,10 +314,10 @@ module _ (s : State) (held : List ℕ) (ready : Ready s held) (p : ℕ) where
       pub leaves_moved : Leaves s p (moved s p to) held
       leaves_moved = subst (λ t. Leaves s p t held) (sym moved_then) (leaves_then (copied_job written p from to))
 
-      pub says_moved : read_of ((moved s p to).cell p) ≡ Some (Near len ds to no_marks)
+      pub says_moved : read_of ((moved s p to).cell p) ≡ Some (Near len ds to (unmarked marks.dirty))
       says_moved =
           ap (λ (t : State). read_of (t.cell p)) moved_then ∙ ap (λ f. read_of (f p)) (cell_then (copied_job written p from to))
-          ∙ ap read_of (put_same s.cell p (near_word len ds to) p refl) ∙ near_says
+          ∙ ap read_of (put_same s.cell p (near_word marks.dirty len ds to) p refl) ∙ near_says
 
       off_moved : (ls : List ℕ) → AllByRecursion (IsOfRound s) ls → AllByRecursion (λ l. (at : ℕ) → names_place (read_of ((moved s p to).cell p)) l at ≡ false) ls
       off_moved [] h = tt

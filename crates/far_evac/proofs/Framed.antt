@@ -1,5 +1,5 @@
 -- What an object's way leaves of the core: the round, and all that owners do; and each cell but its own.
-use Rattle.std.proofs.Common.{◌≡◌, ◌≢◌, ℕ, ◌==◌, Option, Some, None, List, [], ◌∷◌, refl}
+use Rattle.std.proofs.Common.{◌≡◌, ◌≢◌, ℕ, ◌==◌, Option, Some, None, List, [], ◌∷◌, refl, false, true}
 use Rattle.std.proofs.lemmas.Bool.{cond_both}
 use Rattle.far_word.specs.declared.pointer.Place.{Place}
 use Rattle.far_word.specs.declared.pointer.PtrWord.{PtrWord}
@@ -61,11 +61,11 @@ module _ (s : State) (p : ℕ) where
 
   moved_one : (place : Place) (cell : Option PtrWord) → ChangesOne s p (moved_of s p place cell)
   moved_one place (Some (Near len ds from marks)) =
-      let h = name_one (with_written_span s p len ds place (data_at s.word from)) p (near_word len ds place) (s.cell p) in record { frame = h.frame; cells = h.cells }
+      let h = name_one (with_written_span s p len ds place (data_at s.word from)) p (near_word marks.dirty len ds place) (s.cell p) in record { frame = h.frame; cells = h.cells }
   moved_one place _ = same_one s p
 
   stayed_one : (cell : Option PtrWord) → ChangesOne s p (stayed_of s p cell)
-  stayed_one (Some (Near len ds place marks)) = name_one s p (near_word len ds place) (s.cell p)
+  stayed_one (Some (Near len ds place marks)) = name_one s p (near_word marks.dirty len ds place) (s.cell p)
   stayed_one _ = same_one s p
 
   pub moved_now_one : (place : Place) → ChangesOne s p (moved_now s p place)
@@ -73,14 +73,14 @@ module _ (s : State) (p : ℕ) where
 
   fetched_from : (place : Place) (row : ℕ → ℕ) (cell : Option PtrWord) → ChangesOne s p (fetched_of s p place row cell)
   fetched_from place row (Some (Far len ds marks)) =
-      let h = name_one (with_written_span s p len ds place row) p (near_word len ds place) (s.cell p) in record { frame = h.frame; cells = h.cells }
+      let h = name_one (with_written_span s p len ds place row) p (near_word false len ds place) (s.cell p) in record { frame = h.frame; cells = h.cells }
   fetched_from place row _ = same_one s p
 
   pub fetched_one : (place : Place) (row : ℕ → ℕ) → ChangesOne s p (fetched s p place row)
   fetched_one place row = fetched_from place row (read_of (s.cell p))
 
   pub placed_one : (len ds : ℕ) (place : Place) → ChangesOne s p (placed s p len ds place)
-  placed_one len ds place = let h = name_one (with_blank_span s p len ds place) p (near_word len ds place) 0 in record { frame = h.frame; cells = h.cells }
+  placed_one len ds place = let h = name_one (with_blank_span s p len ds place) p (near_word true len ds place) 0 in record { frame = h.frame; cells = h.cells }
 
   pub so_one : (way : Way) → ChangesOne s p (core_so s p way)
   so_one Drops = record { frame = refl; cells = put_other s.cell p 0 }

@@ -12,14 +12,18 @@ use Rattle.far_core.specs.state.Room.{room}
 use Rattle.far_core.specs.state.State.{State, put}
 use Rattle.far_hand.specs.Finds.{Finds}
 use Rattle.far_hand.specs.Known.{Forgets}
-use Rattle.far_book.specs.book.Dealing.{IsRetired, IsSeen, Leaves, goal, has_evac, moved_now}
+use Rattle.far_book.specs.book.Dealing.{IsRetired, IsSeen, MovedBy, goal, has_evac, moved_now}
 use Rattle.far_hand.specs.Quiet.{IsQuietNear}
 use Rattle.far_book.specs.book.Effects.{fetched, moved, placed, retired, stayed, with_free_cell}
 use Rattle.far_book.specs.book.Fetching.{IsFar, IsFetched, far_len, room_for}
 use Rattle.far_book.specs.book.Own.{own_part}
 use Rattle.far_book.specs.book.Renaming.{seen}
 use Rattle.far_book.specs.book.SealedLogs.{KeepsSealed}
+use Rattle.far_hand.proofs.RoundSteps.{quiet_seen}
+use Rattle.far_core.proofs.Put.{put_same}
+use Rattle.far_book.proofs.region.Founds.{law_found}
 use Rattle.far_book.proofs.region.Moved.{goal_there, has_moved}
+use Rattle.far_book.proofs.region.Settled.{goal_seen}
 use Rattle.far_book.proofs.region.Retires.{retired_is}
 use Rattle.far_book.proofs.region.SealedKept.{sealed_logs_kept}
 use Rattle.far_evac.specs.declared.round.Round.{Round}
@@ -37,6 +41,18 @@ none_then (Err why) view old new h = ap view h
 -- a word was found in a cell
 pub cell_found : {still : Type 0} (s t : State) {copying : Bool} (r : Round) → IsSound still s copying r → (p word : ℕ) → Finds (s.cell p) word → t ≡ record s { cell = put s.cell p word } → IsSound still t copying r
 cell_found s t r sound p word finds is = sound_found s t r sound (subst (Knows s) (sym is) (knows_seen s p word finds))
+
+-- a quiet near object moves, or stays
+module _ (s : State) (p : ℕ) (q : IsQuietNear s p) (old : Law (own_part s)) where
+  moves_to : (place : Place) → (wanted : Bool) → q.marks.evac ≡ wanted → q.marks.dropped ≡ false → goal s p ≡ Some place → KeepsSealed s (moved_now s p place)
+  moves_to place true evac alive found =
+      let is : moved_now s p place ≡ moved s p place = ap (λ b. cond b (moved s p place) (stayed s p)) (ap has_evac q.near ∙ evac) in
+      subst (KeepsSealed s) (sym is)
+      ((sealed_logs_kept s p q.len q.ds old).moves q.place place q.marks q.near evac alive (sym (goal_there s p q q.len q.ds q.place q.marks q.near evac) ∙ found))
+  moves_to place false evac alive found =
+      let is : moved_now s p place ≡ stayed s p = ap (λ b. cond b (moved s p place) (stayed s p)) (ap has_evac q.near ∙ evac) in
+      subst (KeepsSealed s) (sym is)
+      ((sealed_logs_kept s p q.len q.ds old).stays q.place q.marks q.near evac (has_moved s p q q.len q.ds q.place q.marks q.near evac) alive)
 
 module _ {steady : Type 0} (s t : State) {copying : Bool} (r : Round) (sound : IsSound steady s copying r) (law : Law (own_part t)) where
   -- words were read
@@ -68,26 +84,21 @@ module _ {steady : Type 0} (s t : State) {copying : Bool} (r : Round) (sound : I
       sound_called s t r sound (placed s p len ds place) old ((sealed_logs_kept s p len ds old).places place free pointer some most structure found) (placed_one s p len ds place).frame (knows_forgotten (placed s p len ds place) t kept forgot law)
   object_placed p len ds old pointer free some most structure (Err why) found kept forgot none = subst (λ (u : State). IsSound steady u copying r) (sym none) sound
 
-  -- a quiet near object has moved, or stayed; or it was retired; or nothing was done
-  module _ (p : ℕ) (q : IsQuietNear s p) (old : Law (own_part s)) where
-    moves_to : (place : Place) → (wanted : Bool) → q.marks.evac ≡ wanted → q.marks.dropped ≡ false → goal s p ≡ Some place → KeepsSealed s (moved_now s p place)
-    moves_to place true evac alive found =
-        let is : moved_now s p place ≡ moved s p place = ap (λ b. cond b (moved s p place) (stayed s p)) (ap has_evac q.near ∙ evac) in
-        subst (KeepsSealed s) (sym is)
-        ((sealed_logs_kept s p q.len q.ds old).moves q.place place q.marks q.near evac alive (sym (goal_there s p q q.len q.ds q.place q.marks q.near evac) ∙ found))
-    moves_to place false evac alive found =
-        let is : moved_now s p place ≡ stayed s p = ap (λ b. cond b (moved s p place) (stayed s p)) (ap has_evac q.near ∙ evac) in
-        subst (KeepsSealed s) (sym is)
-        ((sealed_logs_kept s p q.len q.ds old).stays q.place q.marks q.near evac (has_moved s p q q.len q.ds q.place q.marks q.near evac) alive)
-
-    pub object_moved : (still : Type 0) (result : Result (Option Place) Refused) → (is_dropped (read_of (s.cell p)) ≡ true → result ≡ Ok None) →
-        IfOk result (λ o. IfSome o (λ place. goal s p ≡ Some place)) → IfOk result (λ o. IfSome o (λ place. Leaves (moved_now s p place) t)) →
-        IfOk result (λ o. IfNone o (IsRetired still s t p)) → IfErr result (λ _. IsSeen s t p) → IsSound steady t copying r
-    object_moved still (Ok (Some place)) asked found leaves gone seen =
-        let alive : q.marks.dropped ≡ false = false_from_ne_true q.marks.dropped (λ dropped. let odd : Ok (Some place) ≡ Ok None = asked (ap is_dropped q.near ∙ dropped) in absurd cc) in
-        sound_called s t r sound (moved_now s p place) old (moves_to place q.marks.evac refl alive found) (moved_now_one s p place).frame (knows_left (moved_now s p place) t leaves law)
-    object_moved still (Ok None) asked found leaves gone seen = object_retired still p gone old
-    object_moved still (Err why) asked found leaves gone seen = cell_seen p seen
+  -- a quiet near object has moved, or stayed, by a word that was found; or it was retired; or nothing was done
+  pub object_moved : (p : ℕ) → IsQuietNear s p → Law (own_part s) → (still : Type 0) (result : Result (Option Place) Refused) →
+      IfOk result (λ o. IfSome o (λ place. goal s p ≡ Some place)) → IfOk result (λ o. IfSome o (λ place. MovedBy s t p place)) →
+      IfOk result (λ o. IfNone o (IsRetired still s t p)) → IfErr result (λ _. IsSeen s t p) → IsSound steady t copying r
+  object_moved p q old still (Ok (Some place)) found moved gone looked =
+      let w = moved.word in
+      let then = seen s p w in
+      let quiet = quiet_seen s p w moved.found q in
+      let law' = law_found s old p w moved.fits moved.found in
+      let sound' = sound_found s then r sound (knows_seen s p w moved.found) in
+      let alive : quiet.marks.dropped ≡ false = sym (ap is_dropped quiet.near) ∙ ap (λ v. is_dropped (read_of v)) (put_same s.cell p w p refl) ∙ moved.alive in
+      sound_called then t r sound' (moved_now then p place) law' (moves_to then p quiet law' place quiet.marks.evac refl alive (goal_seen s p w moved.found ∙ found))
+      (moved_now_one then p place).frame (knows_left (moved_now then p place) t moved.leaves law)
+  object_moved p q old still (Ok None) found moved gone looked = object_retired still p gone old
+  object_moved p q old still (Err why) found moved gone looked = cell_seen p looked
 
   -- a far object has come near; or it was retired; or nothing was done
   pub object_fetched : (p : ℕ) → (far : IsFar s p) → Law (own_part s) → (still : Type 0) (is_honest : Bool) (result : Result (Option Place) Refused) →

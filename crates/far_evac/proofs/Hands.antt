@@ -1,6 +1,7 @@
 -- What a call of the book leaves is known of the state that its effect says.
-use Rattle.std.proofs.Common.{◌≡◌, ℕ, ◌+◌, ◌<◌, true, false, cond, nat_lt, Some, inl, inr, arith, ap, sym, refl, ◌∙◌, subst}
-use Rattle.std.proofs.lemmas.Bool.{cases_eq}
+use Rattle.far_word.proofs.PointerLaws.{read_back}
+use Rattle.std.proofs.Common.{◌≡◌, ℕ, ◌+◌, ◌<◌, true, false, cond, nat_lt, Some, inl, inr, arith, ap, sym, refl, ◌∙◌, subst, Bool}
+use Rattle.std.proofs.lemmas.Bool.{cases_eq, false≢true}
 use Rattle.std.proofs.lemmas.Bool.Decides.{nat_tests}
 use Rattle.far_word.specs.declared.mark.Marks.{Marks}
 use Rattle.far_word.specs.declared.pointer.Place.{Place}
@@ -8,7 +9,7 @@ use Rattle.far_word.specs.declared.pointer.PtrWord.TheVariants.{Near, Far}
 use Rattle.far_word.specs.Pointer.{IsPtr, read_of}
 use Rattle.far_word.specs.Sizes.{words_for}
 use Rattle.far_core.specs.events.Copies.{data_at}
-use Rattle.far_core.specs.events.Naming.{is_dropped, no_marks}
+use Rattle.far_core.specs.events.Naming.{is_dropped, no_marks, unmarked}
 use Rattle.far_core.specs.events.NewSpans.{with_span}
 use Rattle.far_core.specs.state.Law.{Law}
 use Rattle.far_core.specs.state.Spans.{spans_of}
@@ -16,7 +17,7 @@ use Rattle.far_core.specs.state.State.{State, addr}
 use Rattle.far_core.specs.events.namings.Evicts.{with_kept}
 use Rattle.far_core.proofs.Copied.{NoCopy}
 use Rattle.far_core.proofs.Put.{put_both, put_other, put_same}
-use Rattle.far_hand.specs.Finds.{Finds, marks_in}
+use Rattle.far_hand.specs.Finds.{Finds, marks_in, body_of}
 use Rattle.far_hand.specs.Known.{Forgets, IsKnown}
 use Rattle.far_book.specs.book.Dealing.{Leaves, LeavesSpans}
 use Rattle.far_book.specs.book.Effects.{evicted, far_word, moved, near_word, with_free_cell, with_written_span}
@@ -87,6 +88,18 @@ knows_forgotten s t is forgot law = knows_words s t is (λ a begun. forgot.heade
 pub knows_spans : (s t : State) → LeavesSpans s t → Law (own_part t) → Knows s t
 knows_spans s t leaves law = knows_words s t leaves.is leaves.headers law
 
+-- a near word with DIRTY more is found
+near_finds : (d e : Bool) (len ds : ℕ) (to : Place) → IsPtr (Near len ds to no_marks) → (d ≡ true → e ≡ true) → Finds (near_word d len ds to) (near_word e len ds to)
+near_finds d e len ds to layout up =
+    let a = read_back (Near len ds to (unmarked d)) layout in
+    let b = read_back (Near len ds to (unmarked e)) layout in record {
+      body = ap body_of b ∙ sym (ap body_of a);
+      hot = λ h. absurd (false≢true (sym (ap (λ o. (marks_in o).hot) a) ∙ h));
+      moved = λ h. absurd (false≢true (sym (ap (λ o. (marks_in o).moved) a) ∙ h));
+      dropped = λ h. absurd (false≢true (sym (ap (λ o. (marks_in o).dropped) a) ∙ h));
+      dirty = λ h. ap (λ o. (marks_in o).dirty) b ∙ up (sym (ap (λ o. (marks_in o).dirty) a) ∙ h);
+    }
+
 -- ---- what an effect makes of a state doesn't hang on marks that were found before
 pub freed_seen : (s : State) (p word : ℕ) → with_free_cell (seen s p word) p ≡ with_free_cell s p
 freed_seen s p word = λ i. record s { cell = put_put s.cell p word 0 i }
@@ -103,11 +116,21 @@ module _ (s : State) (p word len ds : ℕ) (from : Place) (marks : Marks) (near 
       let x = near_found (s.cell p) word finds len ds from marks near in
       neither x.marks.dropped marks.dropped (λ h. sym (ap (λ o. (marks_in o).dropped) x.near) ∙ finds.dropped (ap (λ o. (marks_in o).dropped) near ∙ h)) (sym (ap is_dropped x.near) ∙ alive)
 
-  pub moved_seen : (to : Place) → IsPtr (Near len ds to no_marks) → NoCopy s.copying p from to → moved (seen s p word) p to ≡ moved s p to
-  moved_seen to layout uncopied =
+  -- DIRTY is there at least where it was known
+  up : marks.dirty ≡ true → found.0.dirty ≡ true
+  up h = sym (ap (λ o. (marks_in o).dirty) (sym (ap read_of (put_same s.cell p word p refl)) ∙ found.1)) ∙ finds.dirty (ap (λ o. (marks_in o).dirty) near ∙ h)
+
+  pub moved_more : (to : Place) → IsPtr (Near len ds to no_marks) → NoCopy s.copying p from to → Knows (moved s p to) (moved (seen s p word) p to)
+  moved_more to layout uncopied =
+      let old = near_word marks.dirty len ds to in
+      let new = near_word found.0.dirty len ds to in
+      let first = moved_is s p len ds from to marks near alive_before evac layout uncopied in
+      let is : moved (seen s p word) p to ≡ seen (moved s p to) p new =
       moved_is (seen s p word) p len ds from to found.0 found.1 found.2 found.3 layout uncopied
-      ∙ (λ i. record (with_span (with_written_span s p len ds to (data_at s.word from)) p (near_word len ds to) len to) { cell = put_put s.cell p word (near_word len ds to) i })
-      ∙ sym (moved_is s p len ds from to marks near alive_before evac layout uncopied)
+      ∙ (λ i. record (with_span (with_written_span s p len ds to (data_at s.word from)) p new len to) { cell = put_put s.cell p word new i })
+      ∙ sym (ap (λ (x : State). seen x p new) first ∙ (λ i. record (with_span (with_written_span s p len ds to (data_at s.word from)) p old len to) { cell = put_put s.cell p old new i })) in
+      let cell : (moved s p to).cell p ≡ old = ap (λ (x : State). x.cell p) first ∙ put_same s.cell p old p refl in
+      subst (Knows (moved s p to)) (sym is) (knows_seen (moved s p to) p new (subst (λ v. Finds v new) (sym cell) (near_finds marks.dirty found.0.dirty len ds to layout up)))
 
   pub evicted_seen : IsPtr (Far len ds no_marks) → evicted (seen s p word) p ≡ evicted s p
   evicted_seen layout =

@@ -10,8 +10,8 @@ use Rattle.far_word.specs.declared.sizes.TheConstants.{CELLS}
 use Rattle.far_word.specs.Pointer.{read_of}
 use Rattle.far_word.specs.Sizes.{size_of}
 use Rattle.far_word.proofs.PointerLaws.{read_says}
-use Rattle.far_core.specs.events.Naming.{is_dropped, no_marks}
-use Rattle.far_core.specs.state.Law.{Law}
+use Rattle.far_core.specs.events.Naming.{is_dropped, no_marks, unmarked}
+use Rattle.far_core.specs.state.Law.{Law, is_dirty}
 use Rattle.far_core.specs.state.Room.{room}
 use Rattle.far_core.specs.state.State.{State, put}
 use Rattle.far_core.specs.world.Steps.{with_home}
@@ -119,7 +119,7 @@ moved_objects s p len ds from to m law near quiet alive wanted found =
     let way = moving s p len ds from to m law near quiet alive wanted found in
     let t = moved s p to in
     let gone = way.2.moved in
-    object_elsewhere s t p way.3.cells (ap is_dropped way.3.cell) (not_zero (s.cell p) len ds from m near) (not_zero (t.cell p) len ds to no_marks way.3.cell) gone.0 (Group to.log) gone.2
+    object_elsewhere s t p way.3.cells (ap is_dropped way.3.cell) (not_zero (s.cell p) len ds from m near) (not_zero (t.cell p) len ds to (unmarked (is_dirty (read_of (s.cell p)))) way.3.cell) gone.0 (Group to.log) gone.2
     (ap (λ (w : World). w.object) gone.4) (so_one s p (Moves to)).frame
 
 far_not_zero : (w len ds : ℕ) (m : Marks) → read_of w ≡ Some (Far len ds m) → w ≢ 0

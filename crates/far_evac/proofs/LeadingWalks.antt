@@ -34,6 +34,7 @@ use Rattle.far_book.proofs.region.Retires.{retired_is}
 use Rattle.far_book.proofs.region.SealedKept.{sealed_logs_stay}
 use Rattle.far_evac.specs.declared.phase.Phase.{Phase}
 use Rattle.far_evac.specs.declared.phase.Phase.TheVariants.{Evacuating, Idle, Marking}
+use Rattle.far_evac.specs.Dealings.{BeginsLive}
 use Rattle.far_evac.specs.Leaving.{order_by}
 use Rattle.far_evac.specs.Leading.{Leads, WalkingLeads}
 use Rattle.far_evac.specs.Live.{is_empty, live_among, live_in}
@@ -42,7 +43,7 @@ use Rattle.far_evac.specs.MomentLaw.{MomentLaw, has_risen, is_idle}
 use Rattle.far_evac.specs.Owned.{KeepsObjects, WalkingKeepsObjects}
 use Rattle.far_evac.specs.Ready.{IsOfRound, Ready}
 use Rattle.far_evac.specs.RoundSteps.{among}
-use Rattle.far_evac.specs.Walk.{Drops, Goes, Moves, Walked, Way, begun, ended, freed, hot_way, is_done, walked, way_of}
+use Rattle.far_evac.specs.Walk.{Drops, Goes, Moves, Walked, Way, begun, ended, freed, hot_way, is_done, left, walked, way_of}
 use Rattle.far_evac.proofs.Framed.{so_one}
 use Rattle.far_evac.proofs.Fronts.{vacant_in}
 use Rattle.far_evac.proofs.HeldJobs.{none_copied, none_held}
@@ -52,7 +53,7 @@ use Rattle.far_evac.proofs.LiveOnce.{NearAt, first_named, member_each, near_at}
 use Rattle.far_evac.proofs.Marks.{all_filter}
 use Rattle.far_evac.proofs.Onward.{sealed_inside}
 use Rattle.far_evac.proofs.Readiness.{risen_is_ready}
-use Rattle.far_evac.proofs.SmallSteps.{GoesFirst, Keeps, Stands, first_way, gone_so, holding, lifted_walked, none_there}
+use Rattle.far_evac.proofs.SmallSteps.{GoesFirst, Keeps, Stands, first_way, gone_so, holding, lifted_walked, none_there, walked_front}
 use Rattle.far_evac.proofs.Tours.{core_so, goes_when, moves_when}
 use Rattle.far_evac.proofs.Bools.{or_right}
 
@@ -249,10 +250,60 @@ module _ (m : Moment) (P : Walked → Type 0) (keeps : KeepsLawfully P) where
       alone = moment.alone alone;
     }
 
-walks_on : (m : Moment) (n : ℕ) → Law m.core → MomentLaw m → m.copying ≡ false → m.phase ≡ Evacuating →
+pub walks_on : (m : Moment) (n : ℕ) → Law m.core → MomentLaw m → m.copying ≡ false → m.phase ≡ Evacuating →
     Ready (walked m n).moment.core (walked m n).moment.collection × GoesOf m (walked m n) × ((walked m n).moment.copying ≡ m.copying)
 walks_on m n law moment alone leaves =
     let h = (lifted_lawfully m (λ w. w.moment.copying ≡ m.copying) record { gives = λ w l ls h. h; deals = λ w l ls p way ready x h. h } law moment alone leaves refl n).2 in (h.ready, h.keeps.0, h.keeps.1)
+
+-- what the cell says of the object with which the walk deals next
+module _ (m : Moment) (s : State) (order : List ℕ) (phase : Phase) (l : ℕ) (ls : List ℕ) (ready : Ready s (l ∷ ls)) (h : GoesOn m s order phase (l ∷ ls)) (p : ℕ) (rest : List ℕ) (live : live_in s l ≡ p ∷ rest) where
+  lies_at : NearAt (read_of (s.cell p)) l (first_named s l p rest live).0
+  lies_at = near_at (read_of (s.cell p)) l (first_named s l p rest live).0 (first_named s l p rest live).1
+
+  has_mark : lies_at.marks.evac ≡ true
+  has_mark = ready.logs.0.1 p lies_at.len lies_at.ds lies_at.place lies_at.marks lies_at.near lies_at.log
+
+  chosen : s.round lies_at.place.log ≡ true
+  chosen = ap s.round lies_at.log ∙ ready.logs.0.2
+
+  is_pointer : p < CELLS * s.mutators
+  is_pointer = in_heap s h.law p lies_at.len lies_at.ds lies_at.place lies_at.marks lies_at.near
+
+  is_seen : s.clear (p / CELLS) ≡ true
+  is_seen = h.clear (p / CELLS) (omega (arith, is_pointer))
+
+  goes_next : GoesLawfully s l p (way_of s (read_of (s.cell p)))
+  goes_next = record {
+    law = h.law;
+    len = lies_at.len;
+    ds = lies_at.ds;
+    place = lies_at.place;
+    marks = lies_at.marks;
+    near = lies_at.near;
+    log = lies_at.log;
+    evac = has_mark;
+    pointer = is_pointer;
+    quiet = or_right lies_at.marks.moved (lies_at.marks.evac && s.round lies_at.place.log && s.clear (p / CELLS)) (rw (has_mark, chosen, is_seen) refl);
+    rest = rest;
+    live = live;
+    goes = refl;
+    is = sym (ap (way_of s) lies_at.near);
+  }
+
+first_lies : (m : Moment) (s : State) (order : List ℕ) (phase : Phase) (held : List ℕ) → Ready s held → GoesOn m s order phase held → BeginsLive s held → (p : ℕ) (ps : List ℕ) → live_among s held ≡ p ∷ ps → (l : ℕ) × GoesLawfully s l p (way_of s (read_of (s.cell p)))
+first_lies m s order phase [] ready h front p ps is = absurd cc
+first_lies m s order phase (l ∷ ls) ready h front p ps is = by (live_in s l) refl where
+  by : (live : List ℕ) → live_in s l ≡ live → (j : ℕ) × GoesLawfully s j p (way_of s (read_of (s.cell p)))
+  by [] e = absurd (false≢true (sym front ∙ ap is_empty e))
+  by (q ∷ qs) e =
+      let both : q ∷ (qs ++ live_among s ls) ≡ p ∷ ps = sym (ap (λ live. live ++ live_among s ls) e) ∙ is in
+      let same : q ≡ p = cc in (l, goes_next m s order phase l ls ready h p qs (e ∙ ap (λ x. x ∷ qs) same))
+
+pub first_goes : (m : Moment) (n : ℕ) → Law m.core → MomentLaw m → m.copying ≡ false → m.phase ≡ Evacuating → (p : ℕ) (ps : List ℕ) → left (walked m n) ≡ p ∷ ps →
+    (l : ℕ) × GoesLawfully (walked m n).moment.core l p (way_of (walked m n).moment.core (read_of ((walked m n).moment.core.cell p)))
+first_goes m n law moment alone leaves p ps is =
+    let (ready, h, same) = walks_on m n law moment alone leaves in
+    first_lies m (walked m n).moment.core (walked m n).moment.order (walked m n).moment.phase (walked m n).moment.collection ready h (walked_front m n) p ps is
 
 -- ---- what a call leaves
 module _ (m : Moment) (w : Walked) (ready : Ready w.moment.core w.moment.collection) (h : GoesOf m w) (same : w.moment.copying ≡ m.copying) where

@@ -126,7 +126,7 @@ clear_fits w v fits e =
 
 pub clear_sets : (w : ℕ) → IsNearWord w → Sets false w (evac_cleared w)
 clear_sets w (fits, (len, ds, place, marks, near)) =
-    let bare : Marks = record { hot = marks.hot; evac = false; moved = marks.moved; dropped = marks.dropped } in
+    let bare : Marks = record { hot = marks.hot; evac = false; moved = marks.moved; dropped = marks.dropped; dirty = marks.dirty } in
     let new : read_of (evac_cleared w) ≡ Some (Near len ds place bare) = without_evac_read w (Near len ds place marks) fits near in
     record {
       like = record {

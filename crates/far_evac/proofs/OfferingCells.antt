@@ -20,7 +20,7 @@ use Rattle.far_core.specs.declared.naming.Naming.TheVariants.{Places, Retires, E
 use Rattle.far_device.specs.Following.{none_of}
 use Rattle.far_core.specs.events.Copied.{copied_job}
 use Rattle.far_core.specs.events.Name.{after_naming}
-use Rattle.far_core.specs.events.Naming.{is_dropped, naming_of, naming_row, no_marks}
+use Rattle.far_core.specs.events.Naming.{is_dropped, naming_of, naming_row, no_marks, unmarked}
 use Rattle.far_core.specs.events.namings.Moves.{after_move}
 use Rattle.far_core.specs.events.Step.{after}
 use Rattle.far_core.specs.state.Jobs.{IsGood, job_at, job_said, near_place}
@@ -143,8 +143,8 @@ module _ (s : State) (law : Law (own_part s)) where
             let inside : addr job.to / LOG_WORDS < s.logs = log_inside o law (addr job.to / LOG_WORDS) (omega (arith, span.fits)) in
             (omega (arith, layout_from), omega (arith, layout_from), omega (arith, layout_from), omega (arith, inside, log, law.shape.few_logs), omega (arith, span.fits, sized, here, law.logs.tail_end (addr job.to / LOG_WORDS)))
 
-        left_new : (word : ℕ) → word ≡ near_word len ds job.to → StaysOrLeft job.pointer word
-        left_new word is = inr (job.to, ap (λ w. near_place (read_of w)) is ∙ ap near_place (read_back (Near len ds job.to no_marks) layout), outside)
+        left_new : (word : ℕ) (dirty : Bool) → word ≡ near_word dirty len ds job.to → StaysOrLeft job.pointer word
+        left_new word dirty is = inr (job.to, ap (λ w. near_place (read_of w)) is ∙ ap near_place (read_back (Near len ds job.to (unmarked dirty)) layout), outside)
 
   -- ---- one job is collected
   module _ (u : State) (k : ℕ) (h : Reaches k u) (job : Job) (here : job_at u.copying.word k ≡ Some job) where
@@ -187,7 +187,7 @@ module _ (s : State) (law : Law (own_part s)) where
             absurd (true≢false (sym good_start.1 ∙ ap (λ (at : Place). s.round at.log) (sym same) ∙ out))
 
         abbrev new : ℕ
-        new = near_word n.len n.ds job.to
+        new = near_word n.marks.dirty n.len n.ds job.to
 
         abbrev then : State
         then = after x (Name job.pointer (x.cell job.pointer) new)
@@ -199,7 +199,7 @@ module _ (s : State) (law : Law (own_part s)) where
         here_then = elim (name_named x job.pointer new (x.cell job.pointer)) [
           | inl now ↦
               let before = was (subst (StaysOrLeft job.pointer) found_here (found_cells job.pointer)) in
-              left_new k job at_start good_start job.pointer n.len n.ds before.0 before.1 (then.cell job.pointer) now
+              left_new k job at_start good_start job.pointer n.len n.ds before.0 before.1 (then.cell job.pointer) n.marks.dirty now
           | inr kept ↦ subst (StaysOrLeft job.pointer) (sym kept) (found_cells job.pointer)
         ]
 
@@ -219,7 +219,7 @@ module _ (s : State) (law : Law (own_part s)) where
 
       -- no other job's word changes
       named_jobs : (o : Option PtrWord) → (named_of x job.pointer job.to o).copying.word ≡ x.copying.word
-      named_jobs (Some (Near len ds from marks)) = ap (λ (t : State). t.copying.word) (name_one x job.pointer (near_word len ds job.to) (x.cell job.pointer)).frame
+      named_jobs (Some (Near len ds from marks)) = ap (λ (t : State). t.copying.word) (name_one x job.pointer (near_word marks.dirty len ds job.to) (x.cell job.pointer)).frame
       named_jobs _ = refl
 
       made_jobs : (fate : Fate) (i : ℕ) → i ≢ k → (made_of x k job fate).copying.word i ≡ u.copying.word i

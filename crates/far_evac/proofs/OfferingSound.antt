@@ -53,7 +53,7 @@ leaves_more s t u f g = record {
 
 leaves_named : (s : State) (p : ℕ) (to : Place) (cell : Option PtrWord) → LeavesRound s (named_of s p to cell)
 leaves_named s p to (Some (Near len ds from marks)) =
-    let h = (name_one s p (near_word len ds to) (s.cell p)).frame in record {
+    let h = (name_one s p (near_word marks.dirty len ds to) (s.cell p)).frame in record {
       round = ap (λ (u : State). u.round) h;
       clear = ap (λ (u : State). u.clear) h;
       mutators = ap (λ (u : State). u.mutators) h;

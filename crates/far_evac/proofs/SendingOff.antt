@@ -15,7 +15,7 @@ use Rattle.far_core.specs.state.State.{State}
 use Rattle.far_core.proofs.Copied.{NoCopy}
 use Rattle.far_core.proofs.Put.{put_same}
 use Rattle.far_hand.specs.Finds.{Finds, marks_in}
-use Rattle.far_book.specs.book.Dealing.{IsRetired, IsSeen, Leaves, goal, has_evac, moved_now, order_moved}
+use Rattle.far_book.specs.book.Dealing.{IsRetired, IsSeen, Leaves, goal, has_evac, moved_now, order_moved, MovedBy}
 use Rattle.far_hand.specs.Quiet.{IsQuietNear}
 use Rattle.far_book.specs.book.Effects.{evicted, moved, order_after, stayed, with_free_cell}
 use Rattle.far_book.specs.book.Evicting.{GoesFar}
@@ -40,7 +40,7 @@ use Rattle.far_evac.specs.RoundSteps.{among}
 use Rattle.far_evac.specs.Walk.{Way, Drops, Goes, Moves, hot_way, way_of}
 use Rattle.far_evac.proofs.Bools.{neither}
 use Rattle.far_evac.proofs.Dealt.{NewPlace, room_new}
-use Rattle.far_evac.proofs.Hands.{evicted_seen, freed_seen, knows_far, knows_left, knows_more, knows_seen, knows_spans, knows_words, moved_seen}
+use Rattle.far_evac.proofs.Hands.{evicted_seen, freed_seen, knows_far, knows_left, knows_more, knows_seen, knows_spans, knows_words, moved_more}
 use Rattle.far_evac.proofs.LiveOnce.{LivesIn, first_named, near_at}
 use Rattle.far_evac.proofs.Tours.{goes_when, moves_when}
 use Rattle.far_evac.proofs.Leading.{not_zero}
@@ -58,7 +58,7 @@ module _ (s : State) (p : ℕ) (q : IsQuietNear s p) (law : Law (own_part s)) (e
   layout = (read_says (s.cell p) (Near q.len q.ds q.place q.marks) (law.cells.cell_read p).0 q.near).0
 
   far_layout : IsPtr (Far q.len q.ds no_marks)
-  far_layout = (layout.0, layout.1, layout.2, refl)
+  far_layout = (layout.0, layout.1, layout.2, refl, refl)
 
   to_layout : (to : Place) → room s (size_of q.len) false ≡ Some to → IsPtr (Near q.len q.ds to no_marks)
   to_layout to is =
@@ -123,8 +123,8 @@ module _ (s : State) (p : ℕ) (q : IsQuietNear s p) (law : Law (own_part s)) (e
     pub evicted_there : is_dropped (read_of w) ≡ false → evicted (seen s p w) p ≡ evicted s p
     evicted_there alive = evicted_seen s p w q.len q.ds q.place q.marks q.near finds alive wanted far_layout
 
-    pub moved_there : is_dropped (read_of w) ≡ false → (place : Place) → room s (size_of q.len) false ≡ Some place → moved (seen s p w) p place ≡ moved s p place
-    moved_there alive place there = moved_seen s p w q.len q.ds q.place q.marks q.near finds alive wanted place (to_layout place there) (uncopied place there)
+    pub moved_there : is_dropped (read_of w) ≡ false → (place : Place) → room s (size_of q.len) false ≡ Some place → Knows (moved s p place) (moved (seen s p w) p place)
+    moved_there alive place there = moved_more s p w q.len q.ds q.place q.marks q.near finds alive wanted place (to_layout place there) (uncopied place there)
 
   -- a DROP was found later
   drop_leaves : (w : ℕ) → Finds (s.cell p) w → (t : State) (order after : List ℕ) (v : ℕ) → Finds ((seen s p w).cell p) v → is_dropped (read_of v) ≡ true → Knows (with_free_cell (seen s p w) p) t → after ≡ order →
@@ -176,24 +176,30 @@ module _ (s : State) (p : ℕ) (q : IsQuietNear s p) (law : Law (own_part s)) (e
     order_is : (place : Place) → order_moved u p order place ≡ order_after s order place
     order_is place = ap (λ b. cond b (order_after u order place) order) (evac_found w finds u is) ∙ ap (λ (x : State). order_after x order place) is
 
-    pub sent_near : goes_near (read_of w) ≡ true → (is_dropped (read_of (u.cell p)) ≡ true → ⊥) → (place : Place) → goal u p ≡ Some place → Law (own_part t) → Leaves (moved_now u p place) t →
+    pub sent_near : goes_near (read_of w) ≡ true → (is_dropped (read_of (u.cell p)) ≡ true → ⊥) → (place : Place) → goal u p ≡ Some place → Law (own_part t) → MovedBy u t p place →
         after ≡ order_moved u p order place → LeavesBy s order t after p fates.Moved
-    sent_near h undropped place to new leaves sealed =
+    sent_near h undropped place to new by sealed =
         let there : room s (size_of q.len) false ≡ Some place = sym goal_is ∙ to in
         let alive : is_dropped (read_of w) ≡ false = false_from_ne_true (is_dropped (read_of w)) (λ d. undropped (ap (λ (x : State). is_dropped (read_of (x.cell p))) is ∙ ap (λ x. is_dropped (read_of x)) (word_here w finds) ∙ d)) in
         let way : way_of s (read_of w) ≡ Moves place = hot w finds h alive ∙ ap hot_way there in
-        let made : moved_now u p place ≡ moved s p place = moved_is_moved place ∙ ap (λ (x : State). moved x p place) is ∙ moved_seen s p w q.len q.ds q.place q.marks q.near finds alive wanted place (to_layout place there) (uncopied place there) in
+        let v = by.word in
+        let later = later_found w finds v (subst (λ (x : State). Finds (x.cell p) v) is by.found) in
+        let at : moved_now (seen u p v) p place ≡ moved (seen s p v) p place =
+        ap (λ (x : State). moved_now (seen x p v) p place) is
+        ∙ (λ i. moved_now (record s { cell = put_put s.cell p w v i }) p place)
+        ∙ ap (λ b. cond b (moved (seen s p v) p place) (stayed (seen s p v) p)) (evac_seen v later) in
+        let moves = knows_more (moved s p place) (moved (seen s p v) p place) t (moved_there v later by.alive place there) (subst (λ x. Knows x t) at (knows_left (moved_now (seen u p v) p place) t by.leaves new)) in
         record {
           word = w;
           found = finds;
-          core = subst (λ x. Knows (core_by s p x) t) (sym way) (subst (λ x. Knows x t) made (knows_left (moved_now u p place) t leaves new));
+          core = subst (λ x. Knows (core_by s p x) t) (sym way) moves;
           sealed = sealed ∙ order_is place ∙ sym (ap (order_by s order) way);
           is = sym (ap fate_by way);
         }
 
     -- it lies elsewhere, or was found dropped
     pub sent_there : (still : Type 0) → goes_near (read_of w) ≡ true → (o : Option Place) (before : List ℕ) → before ≡ order → ((x y : Result (Option Place) Refused) → x ≡ Ok o → y ≡ Ok None → is_dropped (read_of (u.cell p)) ≡ true → x ≡ y) →
-        IfSome o (λ place. goal u p ≡ Some place) → Law (own_part t) → IfSome o (λ place. Leaves (moved_now u p place) t) → IfNone o (IsRetired still u t p) →
+        IfSome o (λ place. goal u p ≡ Some place) → Law (own_part t) → IfSome o (λ place. MovedBy u t p place) → IfNone o (IsRetired still u t p) →
         MatchOption o (after ≡ before) (λ place. after ≡ order_moved u p before place) → LeavesBy s order t after p (near_fate o)
     sent_there still h (Some place) before same asked to new leaves gone sealed =
         sent_near h (λ d. let odd : Ok (Some place) ≡ Ok None = asked (Ok (Some place)) (Ok None) refl refl d in absurd cc) place to new leaves (subst (λ order. after ≡ order_moved u p order place) same sealed)

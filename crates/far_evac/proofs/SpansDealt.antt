@@ -18,7 +18,7 @@ use Rattle.far_core.specs.declared.event.Kind.{Kind}
 use Rattle.far_core.specs.declared.event.Kind.TheVariants as kinds
 use Rattle.far_core.specs.events.Copied.{copied_job}
 use Rattle.far_core.specs.events.Copies.{data_at}
-use Rattle.far_core.specs.events.Naming.{no_marks}
+use Rattle.far_core.specs.events.Naming.{no_marks, unmarked}
 use Rattle.far_core.specs.events.namings.Moves.{after_move}
 use Rattle.far_core.specs.events.NewSpans.{with_span}
 use Rattle.far_core.specs.laws.Observed.{span_for}
@@ -76,7 +76,7 @@ module _ (s : State) (sound : Sound s) (below : LieBelow s) (held : List ℕ) (r
   module _ (evac : marks.evac ≡ true) (alive : marks.dropped ≡ false) where
     -- ---- it goes far
     far_layout : IsPtr (Far len ds no_marks)
-    far_layout = (layout.0, layout.1, layout.2, refl)
+    far_layout = (layout.0, layout.1, layout.2, refl, refl)
 
     far_place : (n d : ℕ) (place : Place) (k : Marks) → read_of (far_word len ds) ≡ Some (Near n d place k) → ⊥
     far_place n d place k e = let odd : Some (Far len ds no_marks) ≡ Some (Near n d place k) = sym (far_says len ds far_layout) ∙ e in absurd cc
@@ -104,7 +104,7 @@ module _ (s : State) (sound : Sound s) (below : LieBelow s) (held : List ℕ) (r
       written = with_written_span s p len ds to (data_at s.word from)
 
       abbrev then : State
-      then = with_span written p (near_word len ds to) len to
+      then = with_span written p (near_word marks.dirty len ds to) len to
 
       uncopied : copied_job written p from to ≡ None
       uncopied = copied_same s written p from to refl refl refl refl ∙ none_at_tail s below p from to at_end
@@ -166,10 +166,10 @@ module _ (s : State) (sound : Sound s) (below : LieBelow s) (held : List ℕ) (r
           ∙ ap (λ x. spans_of s to.log ++ x ∷ []) span_new
 
       moves_then : Dealt s then p
-      moves_then = comes s then sound p (near_word len ds to) len ds from to marks no_marks near (read_back (Near len ds to no_marks) near_layout) at_end new.fits new.log new.unsealed refl refl refl ready.opens refl spans_here spans_there
+      moves_then = comes s then sound p (near_word marks.dirty len ds to) len ds from to marks (unmarked marks.dirty) near (read_back (Near len ds to (unmarked marks.dirty)) near_layout) at_end new.fits new.log new.unsealed refl refl refl ready.opens refl spans_here spans_there
 
       pub moves : Dealt s (moved s p to) p
-      moves = subst (λ t. Dealt s t p) (sym (moved_as s p len ds from to marks near alive evac near_layout ∙ ap (after_move written p (near_word len ds to) len to) uncopied)) moves_then
+      moves = subst (λ t. Dealt s t p) (sym (moved_as s p len ds from to marks near alive evac near_layout ∙ ap (after_move written p (near_word marks.dirty len ds to) len to) uncopied)) moves_then
 
 -- ---- the first object, as a word says that was found in its cell
 module _ (s : State) (sound : Sound s) (below : LieBelow s) (l : ℕ) (ls : List ℕ) (p : ℕ) (ps : List ℕ) (ready : Ready s (l ∷ ls)) (first : live_in s l ≡ p ∷ ps) (word : ℕ) (finds : Finds (s.cell p) word) where

@@ -213,11 +213,11 @@ module _ (s : State) (law : Law s) (len ds : ℕ) (to : Place) (reserve : Bool) 
   layout = (some, most, structure, omega (arith, is_room.next.0, law.shape.few_logs), is_room.fits)
 
 module _ (s : State) (p len ds : ℕ) (to : Place) (reserve : Bool) (law : Law s) (free : s.cell p ≡ 0) (some : 0 < len) (most : len ≤ LONGEST) (structure : ds < 256) (found : room s (size_of len) reserve ≡ Some to) where
-  placed_taken : placed s p len ds to ≡ with_span (with_blank_span s p len ds to) p (near_word len ds to) len to
+  placed_taken : placed s p len ds to ≡ with_span (with_blank_span s p len ds to) p (near_word true len ds to) len to
   placed_taken = named_is (with_blank_span s p len ds to) p len ds to free (layout s law len ds to reserve some most structure found)
 
   placed_aside : StepsAside s (placed s p len ds to)
-  placed_aside = subst (StepsAside s) (sym placed_taken) (taken_aside s law _ p (near_word len ds to) len to (is_room s law len ds to reserve some most structure found).next)
+  placed_aside = subst (StepsAside s) (sym placed_taken) (taken_aside s law _ p (near_word true len ds to) len to (is_room s law len ds to reserve some most structure found).next)
 
 pub placing_aside : PlacingStepsAside
 placing_aside s p len ds place reserve law free some most structure found = placed_aside s p len ds place reserve law free some most structure found
@@ -236,15 +236,15 @@ module _ (s : State) (p : ℕ) (to : Place) (law : Law s) (q : IsQuietNear s p) 
     there : room s (size_of q.len) false ≡ Some to
     there = sym (goal_there s p q q.len q.ds q.place q.marks q.near evac) ∙ found
 
-    moved_taken : moved s p to ≡ with_span (with_written_span s p q.len q.ds to (data_at s.word q.place)) p (near_word q.len q.ds to) q.len to
+    moved_taken : moved s p to ≡ with_span (with_written_span s p q.len q.ds to (data_at s.word q.place)) p (near_word q.marks.dirty q.len q.ds to) q.len to
     moved_taken = moved_is s p q.len q.ds q.place to q.marks q.near undropped evac (layout s law q.len q.ds to false says.0 says.1 says.2 there)
         (no_copy_in_room s (own_law s law) p (size_of q.len) q.place to false (omega arith) (omega (arith, says.1)) there)
 
     moved_aside : StepsAside s (moved s p to)
-    moved_aside = subst (StepsAside s) (sym moved_taken) (taken_aside s law _ p (near_word q.len q.ds to) q.len to (is_room s law q.len q.ds to false says.0 says.1 says.2 there).next)
+    moved_aside = subst (StepsAside s) (sym moved_taken) (taken_aside s law _ p (near_word q.marks.dirty q.len q.ds to) q.len to (is_room s law q.len q.ds to false says.0 says.1 says.2 there).next)
 
   module _ (unwanted : has_evac (read_of (s.cell p)) ≡ false) where
-    stayed_cell : stayed s p ≡ record s { cell = put s.cell p (near_word q.len q.ds q.place) }
+    stayed_cell : stayed s p ≡ record s { cell = put s.cell p (near_word q.marks.dirty q.len q.ds q.place) }
     stayed_cell =
         let bare = evac_of (read_of (s.cell p)) false q.len q.ds q.place q.marks q.near unwanted in
         stayed_is s p q.len q.ds q.place q.marks q.near undropped (has_moved s p q q.len q.ds q.place q.marks q.near bare) bare (says.0, says.1, says.2, says.3, says.4)
@@ -262,11 +262,11 @@ module _ (s : State) (p : ℕ) (to : Place) (row : ℕ → ℕ) (law : Law s) (f
   near_room : room s (size_of far.len) true ≡ Some to
   near_room = sym (ap (λ o. room s (size_of (far_len o)) true) far.far) ∙ found
 
-  fetched_taken : fetched s p to row ≡ with_span (with_written_span s p far.len far.ds to row) p (near_word far.len far.ds to) far.len to
+  fetched_taken : fetched s p to row ≡ with_span (with_written_span s p far.len far.ds to row) p (near_word false far.len far.ds to) far.len to
   fetched_taken = fetched_come s s p far.len far.ds to row far.marks far.far (sym (ap is_dropped far.far) ∙ alive) (layout s law far.len far.ds to true far_says.0 far_says.1 far_says.2 near_room)
 
   fetched_aside : StepsAside s (fetched s p to row)
-  fetched_aside = subst (StepsAside s) (sym fetched_taken) (taken_aside s law _ p (near_word far.len far.ds to) far.len to (is_room s law far.len far.ds to true far_says.0 far_says.1 far_says.2 near_room).next)
+  fetched_aside = subst (StepsAside s) (sym fetched_taken) (taken_aside s law _ p (near_word false far.len far.ds to) far.len to (is_room s law far.len far.ds to true far_says.0 far_says.1 far_says.2 near_room).next)
 
 pub fetching_aside : FetchingStepsAside
 fetching_aside s p place row law far alive found = fetched_aside s p place row law far alive found

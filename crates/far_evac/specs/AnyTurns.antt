@@ -22,12 +22,12 @@ TurnsTo m Waiting tally done t = (tally ≡ nothing) × (done ≡ false) × ((an
 TurnsTo m Evacuating tally done t = EvacuatesBy m turn_size t tally done
 
 -- a turn asks for something only where objects leave
-module _ (D : Type 0) (writes : D → ℕ → List ℕ → Result (Unit {0}) DeviceFault → D → Type 0) (lets_go : D → ℕ → D → Type 0) (contents : D → ℕ → Option (List ℕ)) where
+module _ (still : Type 0) (D : Type 0) (writes : D → ℕ → List ℕ → Result (Unit {0}) DeviceFault → D → Type 0) (lets_go : D → ℕ → D → Type 0) (contents : D → ℕ → Option (List ℕ)) where
   abbrev pub AsksInTurn : Moment → Phase → Moment → Tally → D → D → Type 0
   AsksInTurn m Idle t tally old new = ⊥
   AsksInTurn m Marking t tally old new = new ≡ old
   AsksInTurn m Waiting t tally old new = new ≡ old
-  AsksInTurn m Evacuating t tally old new = AsksBy D writes lets_go contents m turn_size t tally old new
+  AsksInTurn m Evacuating t tally old new = AsksBy still D writes lets_go contents m turn_size t tally old new
 
 -- ---- turns and rounds
 -- turns one after the other, the last one first in the list, each from a moment that is lawful; and what each asked of a device

@@ -1,5 +1,5 @@
 -- What a walk asked of the device, object after object; and under which keys the device has what it had.
-use Rattle.std.specs.Prelude.{◌≡◌, ◌+◌, ℕ, Bool, true, false, List, [], ◌∷◌, take, Option, Result, Ok, Err}
+use Rattle.std.specs.Prelude.{◌≡◌, ◌+◌, ℕ, zero, suc, Bool, true, false, List, [], ◌∷◌, take, Option, Result, Ok, Err}
 use Rattle.far_word.specs.declared.refused.Refused.{Refused}
 use Rattle.far_word.specs.Pointer.{read_of}
 use Rattle.far_device.specs.declared.fault.DeviceFault.{DeviceFault}
@@ -8,10 +8,10 @@ use Rattle.far_core.specs.state.State.{State}
 use Rattle.far_book.specs.book.Asking.{AsksToEvict}
 use Rattle.far_evac.specs.declared.answers.EvacFault.{EvacFault}
 use Rattle.far_evac.specs.declared.answers.Progress.{Progress}
-use Rattle.far_evac.specs.AnyHand.{KnowsMoment, WalksBy}
+use Rattle.far_evac.specs.AnyHand.{DealsFirst, KnowsMoment, KnowsWalked}
 use Rattle.far_evac.specs.Live.{live_among}
 use Rattle.far_evac.specs.Moment.{Moment, Tally, objects_in, tally_of}
-use Rattle.far_evac.specs.Walk.{Drops, Goes, Moves, Walked, Way, ended, left, way_of}
+use Rattle.far_evac.specs.Walk.{Drops, Goes, Moves, Walked, Way, begun, dealt_first, ended, left, settled, way_of}
 
 -- the first live objects of the collection set, so many
 abbrev pub first_live : Moment → ℕ → List ℕ
@@ -32,7 +32,7 @@ abbrev pub KeepsKeys : List ℕ → (ℕ → Option (List ℕ)) → (ℕ → Opt
 KeepsKeys objects old new = (p : ℕ) → none_of objects p → new p ≡ old p
 
 module _ (D : Type 0) (writes : D → ℕ → List ℕ → Result (Unit {0}) DeviceFault → D → Type 0) (lets_go : D → ℕ → D → Type 0) where
-  -- an object left its log so: nothing was asked where it moved; it went far by one write of its bytes, which was done; where it was retired its key was let go of,
+  -- an object left its log so: nothing was asked where it moved; it went far by one write of its bytes, which was done, or without a call, if it had no DIRTY; where it was retired its key was let go of,
   -- after at most one such write
   abbrev pub AsksSo : State → ℕ → Way → D → D → Type 0
   AsksSo s p Drops old new = AsksToEvict D writes lets_go s p (Ok false) old new
@@ -44,9 +44,20 @@ module _ (D : Type 0) (writes : D → ℕ → List ℕ → Result (Unit {0}) Dev
   AsksFirst w word [] old new = ⊥
   AsksFirst w word (p ∷ ps) old new = AsksSo w.moment.core p (way_of w.moment.core (read_of word)) old new
 
+  -- the same, as its cell says
+  abbrev pub AsksAsKnown : Walked → List ℕ → D → D → Type 0
+  AsksAsKnown w [] old new = ⊥
+  AsksAsKnown w (p ∷ ps) old new = AsksSo w.moment.core p (way_of w.moment.core (read_of (w.moment.core.cell p))) old new
+
+-- where no word changes but by the walk, each object is dealt with as its cell says, and asks for that
+module _ (still : Type 0) (D : Type 0) (writes : D → ℕ → List ℕ → Result (Unit {0}) DeviceFault → D → Type 0) (lets_go : D → ℕ → D → Type 0) where
+  abbrev pub DealsAsking : Walked → ℕ → Walked → D → D → Type 0
+  DealsAsking u word t old new = AsksFirst D writes lets_go u word (left u) old new × (still → (t ≡ dealt_first u (left u)) × AsksAsKnown D writes lets_go u (left u) old new)
+
   -- so many objects are dealt with, each as a word says that was found in its cell, and this is asked on the way
   abbrev pub WalksAsking : Moment → ℕ → Walked → D → D → Type 0
-  WalksAsking m k t old new = WalksBy false D (λ u word before after. AsksFirst u word (left u) before after) m k t old new
+  WalksAsking m zero t old new = KnowsWalked (settled (begun m)) t × (new ≡ old) × (still → t ≡ settled (begun m))
+  WalksAsking m (suc k) t old new = (u : Walked) × (word : ℕ) × (between : D) × WalksAsking m k u old between × DealsFirst false u word t × DealsAsking u word t between new
 
   -- a walk dealt with as many objects as it has counted, each in the way in which it is counted, and ended at t
   abbrev pub AsksOnItsWay : Moment → Moment → Tally → D → D → Type 0
@@ -54,13 +65,14 @@ module _ (D : Type 0) (writes : D → ℕ → List ℕ → Result (Unit {0}) Dev
 
 -- a walk was refused: it had dealt with as many objects as it has counted, and asked for them; then it asked for one write of the bytes of the next one, which was
 -- refused so, and t is where it stopped
-pub record IsRefusedWrite (D : Type 0) (writes : D → ℕ → List ℕ → Result (Unit {0}) DeviceFault → D → Type 0) (lets_go : D → ℕ → D → Type 0) (m t : Moment) (tally : Tally) (why : Refused) (old new : D) : Type 0 where
+pub record IsRefusedWrite (still : Type 0) (D : Type 0) (writes : D → ℕ → List ℕ → Result (Unit {0}) DeviceFault → D → Type 0) (lets_go : D → ℕ → D → Type 0) (m t : Moment) (tally : Tally) (why : Refused) (old new : D) : Type 0 where
   pub stood : Walked
   pub between : D
-  pub walks : WalksAsking D writes lets_go m (objects_in tally) stood old between
+  pub walks : WalksAsking still D writes lets_go m (objects_in tally) stood old between
   pub counts : tally ≡ stood.tally
   pub next : ℕ
   pub rest : List ℕ
   pub is : left stood ≡ next ∷ rest
   pub write : AsksToEvict D writes lets_go stood.moment.core next (Err why) between new
   pub stops : KnowsMoment stood.moment t
+  pub exact : still → t ≡ stood.moment

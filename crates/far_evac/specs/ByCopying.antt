@@ -55,8 +55,9 @@ module _ (D : Type 0) (writes : D → ℕ → List ℕ → Result (Unit {0}) Dev
     pub stops : t ≡ stood.moment
     pub counts : tally ≡ stood.tally
 
+module _ (still : Type 0) (D : Type 0) (writes : D → ℕ → List ℕ → Result (Unit {0}) DeviceFault → D → Type 0) (lets_go : D → ℕ → D → Type 0) (contents : D → ℕ → Option (List ℕ)) where
   abbrev pub AsksBy : Moment → ℕ → Moment → Tally → D → D → Type 0
-  AsksBy m n t tally old new = ByCopying m.copying (AsksOnItsWay D writes lets_go m t tally old new) (EvacuatesAsking m n t tally old new)
+  AsksBy m n t tally old new = ByCopying m.copying (AsksOnItsWay still D writes lets_go m t tally old new) (EvacuatesAsking D writes lets_go contents m n t tally old new)
 
   abbrev pub RefusesBy : Moment → ℕ → Moment → Tally → Refused → D → D → Type 0
-  RefusesBy m n t tally why old new = ByCopying m.copying (IsRefusedWrite D writes lets_go m t tally why old new) (StopsRefused m n t tally why old new)
+  RefusesBy m n t tally why old new = ByCopying m.copying (IsRefusedWrite still D writes lets_go m t tally why old new) (StopsRefused D writes lets_go contents m n t tally why old new)

@@ -134,8 +134,8 @@ module _ {N D : Type 0} (still : Type 0) (view : N → State) (makes : N → Eve
           × (moment view new ≡ (walked (moment view old) k).moment) × (fault.so_far ≡ progress_of (walked (moment view old) k).tally false))
       pub why : old.phase ≡ Evacuating → IfErr result (λ fault. (fault.why ≡ refusals.Memory) ⊎ (fault.why ≡ refusals.Device))
       -- what the device was asked, and what that left of it
-      pub asked : IfOk result (λ progress. AsksBy D writes lets_go contents (moment view old) n (moment view new) (tally_of progress) old.book.device new.book.device)
-      pub refused : old.phase ≡ Evacuating → IfErr result (λ fault. RefusesBy D writes lets_go contents (moment view old) n (moment view new) (tally_of fault.so_far) fault.why old.book.device new.book.device)
+      pub asked : IfOk result (λ progress. AsksBy still D writes lets_go contents (moment view old) n (moment view new) (tally_of progress) old.book.device new.book.device)
+      pub refused : old.phase ≡ Evacuating → IfErr result (λ fault. RefusesBy still D writes lets_go contents (moment view old) n (moment view new) (tally_of fault.so_far) fault.why old.book.device new.book.device)
       pub follows : Follows contents is_honest faults fails_at_most (none_of (asked_live (moment view old) (asked_of result))) (fails result) old.book.device new.book.device
 
     -- one step of the round was made, by its phase
@@ -156,6 +156,6 @@ module _ {N D : Type 0} (still : Type 0) (view : N → State) (makes : N → Eve
       pub halts : still → old.phase ≢ Idle → IfErr result (λ fault. (tally : Tally) × Halts (moment view old) turn_size (moment view new) tally × (fault.so_far ≡ progress_of tally false))
       pub why : old.phase ≢ Idle → IfErr result (λ fault. (fault.why ≡ refusals.Memory) ⊎ (fault.why ≡ refusals.Device))
       -- what the device was asked, and what that left of it
-      pub asked : IfOk result (λ progress. AsksInTurn D writes lets_go contents (moment view old) old.phase (moment view new) (tally_of progress) old.book.device new.book.device)
-      pub refused : old.phase ≢ Idle → IfErr result (λ fault. RefusesBy D writes lets_go contents (moment view old) turn_size (moment view new) (tally_of fault.so_far) fault.why old.book.device new.book.device)
+      pub asked : IfOk result (λ progress. AsksInTurn still D writes lets_go contents (moment view old) old.phase (moment view new) (tally_of progress) old.book.device new.book.device)
+      pub refused : old.phase ≢ Idle → IfErr result (λ fault. RefusesBy still D writes lets_go contents (moment view old) turn_size (moment view new) (tally_of fault.so_far) fault.why old.book.device new.book.device)
       pub follows : Follows contents is_honest faults fails_at_most (none_of (asked_live (moment view old) (asked_of result))) (fails result) old.book.device new.book.device

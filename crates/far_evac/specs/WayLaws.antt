@@ -4,7 +4,7 @@ use Rattle.far_word.specs.declared.mark.Marks.{Marks}
 use Rattle.far_word.specs.declared.pointer.Place.{Place}
 use Rattle.far_word.specs.declared.pointer.PtrWord.TheVariants.{Near, Far}
 use Rattle.far_word.specs.Sizes.{size_of}
-use Rattle.far_core.specs.events.Naming.{no_marks}
+use Rattle.far_core.specs.events.Naming.{no_marks, unmarked}
 use Rattle.far_core.specs.state.Room.{room}
 use Rattle.far_core.specs.state.State.{State}
 use Rattle.far_evac.specs.Dealings.{says}
@@ -14,12 +14,12 @@ use Rattle.far_evac.specs.Ready.{Ready}
 use Rattle.far_evac.specs.Walk.{walked}
 
 -- s is the state before an object with these marks is dealt with, t the moment then. One that its owner dropped has no cell any more; a cold one is far; a
--- hot one lies where there was room for it, the last free log too, and is far where there was none. No mark is left
+-- hot one lies where there was room for it, the last free log too, and is far where there was none. No mark is left but DIRTY of what lies near, as it was
 pub record GoesItsWay (s : State) (t : Moment) (p len ds : ℕ) (marks : Marks) : Type 0 where
   pub dropped : marks.dropped ≡ true → t.core.cell p ≡ 0
   pub cold : marks.dropped ≡ false → marks.hot ≡ false → says t p ≡ Some (Far len ds no_marks)
   pub crowded : marks.dropped ≡ false → marks.hot ≡ true → room s (size_of len) false ≡ None → says t p ≡ Some (Far len ds no_marks)
-  pub hot : (to : Place) → marks.dropped ≡ false → marks.hot ≡ true → room s (size_of len) false ≡ Some to → says t p ≡ Some (Near len ds to no_marks)
+  pub hot : (to : Place) → marks.dropped ≡ false → marks.hot ≡ true → room s (size_of len) false ≡ Some to → says t p ≡ Some (Near len ds to (unmarked marks.dirty))
 
 -- the object that k live ones stand before, by what its cell said when the walk began
 abbrev pub ObjectsGoTheirWay : Type 0

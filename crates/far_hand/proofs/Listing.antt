@@ -4,7 +4,7 @@ use Rattle.std.specs.Prelude.{◌⊎◌, slice_get}
 use Rattle.std.proofs.Math.Seq.{drop-nil}
 use Rattle.std.proofs.lemmas.Bool.{false≢true}
 use Rattle.far_core.specs.declared.event.Event.{Event}
-use Rattle.far_core.specs.declared.event.Event.TheVariants.{ReadEpoch, Open, Pin, Load, Store, Close, Adopt, Put, Name, See, Mark, Ask, Get, Clear, Advance, Look, Offer, PeekJob, SeeJob, Claim, ReadLength, Read, Write, Finish, Collect}
+use Rattle.far_core.specs.declared.event.Event.TheVariants.{ReadEpoch, Open, Pin, Load, Store, Soil, Close, Adopt, Put, Name, See, Mark, Ask, Get, Clear, Advance, Look, Offer, PeekJob, SeeJob, Claim, ReadLength, Read, Write, Finish, Collect}
 use Rattle.far_core.specs.declared.event.Reply.{Reply}
 use Rattle.far_core.specs.events.Step.{after, is_legal}
 use Rattle.far_core.specs.state.CoreState.{core_state}
@@ -29,7 +29,8 @@ other_so e of = elim of [
   | inl (inr (inr (inr (inr (inl x))))) ↦ ap is_others x.3
   | inl (inr (inr (inr (inr (inr (inl x)))))) ↦ ap is_others x.4
   | inl (inr (inr (inr (inr (inr (inr (inl x))))))) ↦ ap is_others x.2
-  | inl (inr (inr (inr (inr (inr (inr (inr x))))))) ↦ ap is_others x.3
+  | inl (inr (inr (inr (inr (inr (inr (inr (inl x)))))))) ↦ ap is_others x.3
+  | inl (inr (inr (inr (inr (inr (inr (inr (inr x)))))))) ↦ ap is_others x.2
   | inr (inl x) ↦ ap is_others x.2
   | inr (inr (inl x)) ↦ ap is_others x.3
   | inr (inr (inr (inl x))) ↦ ap is_others x.1
@@ -46,7 +47,8 @@ so_other (Pin m p) h = inl (inr (inr (inr (inl (m, p, refl)))))
 so_other (Load m p i) h = inl (inr (inr (inr (inr (inl (m, p, i, refl))))))
 so_other (Store m p i w) h = inl (inr (inr (inr (inr (inr (inl (m, p, i, w, refl)))))))
 so_other (Adopt m p) h = inl (inr (inr (inr (inr (inr (inr (inl (m, p, refl))))))))
-so_other (Ask m p k) h = inl (inr (inr (inr (inr (inr (inr (inr (m, p, k, refl))))))))
+so_other (Ask m p k) h = inl (inr (inr (inr (inr (inr (inr (inr (inl (m, p, k, refl)))))))))
+so_other (Soil m p) h = inl (inr (inr (inr (inr (inr (inr (inr (inr (m, p, refl)))))))))
 so_other (PeekJob c j) h = inr (inl (c, j, refl))
 so_other (Claim c j old) h = inr (inr (inl (c, j, old, refl)))
 so_other (ReadLength c) h = inr (inr (inr (inl (c, refl))))

@@ -78,9 +78,9 @@ pub record ForgetsTo (o : State) (e : Event) (v : State) : Type 0 where
   pub forgot : Forgets o v
 
 -- by what the core and the rows are then
-pub rows_forget : (o : State) (e : Event) (found : ℕ → ℕ) (t t' : State) (counted counted' : ℕ → Bool) (jobs jobs' : ℕ → ℕ) → t ≡ t' → counted ≡ counted' → jobs ≡ jobs' →
-    ForgetsTo o e (masked t' found counted' jobs') → ForgetsTo o e (masked t found counted jobs)
-rows_forget o e found t t' counted counted' jobs jobs' is none set = subst (ForgetsTo o e) (sym (λ i. masked (is i) found (none i) (set i)))
+pub rows_forget : (o : State) (e : Event) (t t' : State) (found found' : ℕ → ℕ) (counted counted' : ℕ → Bool) (jobs jobs' : ℕ → ℕ) → t ≡ t' → found ≡ found' → counted ≡ counted' → jobs ≡ jobs' →
+    ForgetsTo o e (masked t' found' counted' jobs') → ForgetsTo o e (masked t found counted jobs)
+rows_forget o e t t' found found' counted counted' jobs jobs' is cells none set = subst (ForgetsTo o e) (sym (λ i. masked (is i) (cells i) (none i) (set i)))
 
 -- ---- the rows of a beset hand
 -- nothing is counted on any more

@@ -4,7 +4,7 @@ use Rattle.std.specs.Prelude.{◌==◌}
 use Rattle.std.proofs.lemmas.Bool.{false≢true, cond_both, eqb-true, false_from_ne_true}
 use Rattle.far_word.specs.declared.job.JobWord.TheVariants.{Offered, Taken, Finished}
 use Rattle.far_word.specs.declared.mark.Mark.{Mark as MarkKind}
-use Rattle.far_word.specs.declared.mark.Mark.TheVariants.{Hot, Evac, Moved, Dropped}
+use Rattle.far_word.specs.declared.mark.Mark.TheVariants.{Hot, Evac, Moved, Dropped, Dirty}
 use Rattle.far_word.specs.declared.mark.Marks.{Marks}
 use Rattle.far_word.specs.declared.pointer.Place.{Place}
 use Rattle.far_word.specs.declared.pointer.PtrWord.TheVariants.{Near}
@@ -13,7 +13,7 @@ use Rattle.far_word.specs.Mark.{position}
 use Rattle.far_word.specs.Pointer.{read_of}
 use Rattle.far_word.proofs.JobLaws.{job_back, job_says}
 use Rattle.far_core.specs.declared.event.Event.{Event}
-use Rattle.far_core.specs.declared.event.Event.TheVariants.{ReadEpoch, Open, Pin, Load, Store, Close, Adopt, Put, Name, See, Mark, Ask, Get, Clear, Advance, Look, Offer, PeekJob, SeeJob, Claim, ReadLength, Read, Write, Finish, Collect}
+use Rattle.far_core.specs.declared.event.Event.TheVariants.{ReadEpoch, Open, Pin, Load, Store, Soil, Close, Adopt, Put, Name, See, Mark, Ask, Get, Clear, Advance, Look, Offer, PeekJob, SeeJob, Claim, ReadLength, Read, Write, Finish, Collect}
 use Rattle.far_core.specs.declared.event.Reply.{Reply}
 use Rattle.far_core.specs.declared.event.Reply.TheVariants.{Refused}
 use Rattle.far_core.specs.declared.event.Task.{Task}
@@ -29,6 +29,7 @@ use Rattle.far_core.proofs.KeepJobs.{task_at}
 use Rattle.far_core.proofs.Marking as marking
 use Rattle.far_core.proofs.Marking.{read_mark}
 use Rattle.far_core.proofs.Owing.{is_fact}
+use Rattle.far_core.proofs.events.Soil.{reads, soiled_word}
 use Rattle.far_core.proofs.Put.{put_both, put_other}
 use Rattle.far_core.proofs.Quieting.{quiet_fact, quiet_unheld}
 use Rattle.far_core.specs.events.Quiet.{is_quiet_cell}
@@ -39,7 +40,7 @@ use Rattle.far_hand.specs.Makers.{is_others}
 use Rattle.far_hand.specs.MayBe.{job_itself}
 use Rattle.far_hand.specs.Others.{IsLoudAt, OthersChange}
 use Rattle.far_hand.specs.Quiet.{is_quiet}
-use Rattle.far_hand.proofs.Finding.{finds_is, finds_same, finds_mark}
+use Rattle.far_hand.proofs.Finding.{finds_is, finds_same, finds_mark, finds_dirty}
 use Rattle.far_hand.proofs.JobsFound.{finished_found, job_is, taken_found}
 
 -- nothing in cells, words and jobs changes
@@ -99,6 +100,17 @@ requests Hot h = absurd (false≢true h)
 requests Evac h = absurd (false≢true h)
 requests Moved h = refl
 requests Dropped h = refl
+requests Dirty h = absurd (false≢true h)
+
+-- the cell of an object that is held gets DIRTY
+soils : (s : State) → Law s → (m p : ℕ) → Legal s (Soil m p) → OthersChange s (after s (Soil m p))
+soils s law m p legal = record {
+  cells = λ q. put_both (λ w. Finds (s.cell q) w) s.cell p (soiled_word (s.cell p)) q
+      (λ e. subst (λ v. Finds v (soiled_word (s.cell p))) (ap s.cell (sym e)) (finds_dirty (s.cell p) (soiled_word (s.cell p)) (reads s law p legal.1).0)) (λ _. finds_same (s.cell q));
+  words = λ a _. refl;
+  jobs = λ j. job_itself (s.copying.word j);
+  rest = refl;
+}
 
 -- ---- copiers
 -- a job's word goes on, and what copiers have changes
@@ -151,6 +163,7 @@ change s (Open m) law own legal = stays s (after s (Open m)) refl refl refl refl
 change s (Pin m p) law own legal = marks s (after s (Pin m p)) law p Hot refl legal.2 refl refl refl refl
 change s (Load m p i) law own legal = stays s s refl refl refl refl
 change s (Store m p i w) law own legal = stores s law m p i w legal
+change s (Soil m p) law own legal = soils s law m p legal
 change s (Close m) law own legal = stays s (after s (Close m)) refl refl refl refl
 change s (Adopt m p) law own legal = stays s (after s (Adopt m p)) refl refl refl refl
 change s (Ask m p k) law own legal = marks s (after s (Ask m p k)) law p k (requests k legal.0) legal.3 refl refl refl refl

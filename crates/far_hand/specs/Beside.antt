@@ -6,9 +6,9 @@ use Rattle.far_core.specs.state.State.{Copying, State}
 abbrev pub with_copiers : Copying → Copying → Copying
 with_copiers k others = record k { task = others.task; length = others.length; read = others.read; written = others.written }
 
--- o, with what others alone have as s has it: the owners' scopes, and what they remember, use and hold; and what copiers have
+-- o, with what others alone have as s has it: the owners' scopes, and what they remember, use, hold and have soiled; and what copiers have
 abbrev pub with_others : State → State → State
-with_others o s = record o { scope = s.scope; remembered = s.remembered; used = s.used; held = s.held; copying = with_copiers o.copying s.copying }
+with_others o s = record o { scope = s.scope; remembered = s.remembered; used = s.used; held = s.held; soiled = s.soiled; copying = with_copiers o.copying s.copying }
 
 -- o, with what others change as s has it: that, the cells, the words of the logs, and the words of the jobs
 abbrev pub beside : State → State → State
@@ -25,4 +25,4 @@ uncopied k jobs = record k { word = jobs; task = λ _. None; length = λ _. None
 -- o, with these cells, words of the logs and words of the jobs, and of others as if they had done nothing
 abbrev pub hidden : State → (ℕ → ℕ) → (ℕ → ℕ) → (ℕ → ℕ) → State
 hidden o cell word jobs =
-    record o { cell = cell; word = word; scope = λ _. 0; remembered = λ _. None; used = λ _. false; held = λ _. None; copying = uncopied o.copying jobs }
+    record o { cell = cell; word = word; scope = λ _. 0; remembered = λ _. None; used = λ _. false; held = λ _. None; soiled = λ _. false; copying = uncopied o.copying jobs }

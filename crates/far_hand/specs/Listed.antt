@@ -2,7 +2,7 @@
 use Rattle.std.specs.Prelude.{◌≡◌, ◌⊎◌, ℕ, List, [], ◌∷◌, drop}
 use Rattle.far_word.specs.declared.mark.Mark.{Mark}
 use Rattle.far_core.specs.declared.event.Event.{Event}
-use Rattle.far_core.specs.declared.event.Event.TheVariants.{ReadEpoch, Open, Pin, Load, Store, Close, Adopt, Ask, PeekJob, Claim, ReadLength, Read, Write, Finish}
+use Rattle.far_core.specs.declared.event.Event.TheVariants.{ReadEpoch, Open, Pin, Load, Store, Soil, Close, Adopt, Ask, PeekJob, Claim, ReadLength, Read, Write, Finish}
 use Rattle.far_core.specs.declared.event.Reply.{Reply}
 use Rattle.far_core.specs.events.Legal.{Legal}
 use Rattle.far_core.specs.events.Step.{after}
@@ -10,10 +10,10 @@ use Rattle.far_core.specs.state.State.{State}
 use Rattle.far_hand.specs.declared.beset.Beset.{Beset}
 use Rattle.far_hand.specs.MayBe.{Made}
 
--- an owner reads the epoch, opens or closes its scope, pins, loads, stores, takes a new object over, or asks for something
+-- an owner reads the epoch, opens or closes its scope, pins, loads, stores, soils, takes a new object over, or asks for something
 abbrev pub IsOfOwner : Event → Type 0
 IsOfOwner e = ((m : ℕ) × (e ≡ ReadEpoch m)) ⊎ ((m : ℕ) × (e ≡ Open m)) ⊎ ((m : ℕ) × (e ≡ Close m)) ⊎ ((m p : ℕ) × (e ≡ Pin m p)) ⊎ ((m p i : ℕ) × (e ≡ Load m p i))
-    ⊎ ((m p i w : ℕ) × (e ≡ Store m p i w)) ⊎ ((m p : ℕ) × (e ≡ Adopt m p)) ⊎ ((m p : ℕ) × (k : Mark) × (e ≡ Ask m p k))
+    ⊎ ((m p i w : ℕ) × (e ≡ Store m p i w)) ⊎ ((m p : ℕ) × (e ≡ Adopt m p)) ⊎ ((m p : ℕ) × (k : Mark) × (e ≡ Ask m p k)) ⊎ ((m p : ℕ) × (e ≡ Soil m p))
 
 -- a copier looks at a job, takes one, reads the length or a word of what it copies, writes a word, or has finished
 abbrev pub IsOfCopier : Event → Type 0

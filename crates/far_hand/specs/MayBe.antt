@@ -72,7 +72,7 @@ masked_shows s found counted jobs finds going = record {
 }
 
 finds_itself : (w : ℕ) → Finds w w
-finds_itself w = record { body = refl; hot = λ h. h; moved = λ h. h; dropped = λ h. h }
+finds_itself w = record { body = refl; hot = λ h. h; moved = λ h. h; dropped = λ h. h; dirty = λ h. h }
 
 pub job_itself : (w : ℕ) → FindsJob w w
 job_itself w = record { body = refl; rises = le_refl (rank (job_of w)); taker = λ c h. h; ended = λ _. refl }

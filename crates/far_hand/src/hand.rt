@@ -17,7 +17,7 @@ ghost use Rattle.far_core.specs.state.State.{State, put};
 ghost use Rattle.far_hand.specs.Cleared.{cleared};
 ghost use Rattle.far_hand.specs.Finds.{Finds};
 ghost use Rattle.far_hand.specs.FindsJob.{FindsJob, job_found};
-ghost use Rattle.far_hand.specs.Known.{IsKnown, Forgets, IsPaddedAt, KnowsLeaving};
+ghost use Rattle.far_hand.specs.Known.{IsKnown, Forgets, IsPaddedAt, KnowsLeaving, StoresLeaving};
 ghost use Rattle.far_hand.specs.MayBe.{Shows, Tells};
 ghost use Rattle.far_hand.specs.Quiet.{IsQuietAt};
 ghost use Rattle.far_hand.specs.Rounds.{IsScopeAt, MayChoose, looked_at};
@@ -29,15 +29,15 @@ use far_word::{Place, Refused};
 /// The book's hand on the shared words. Each call is one event of [`far_core`] on at most one word, takes no memory and
 /// always answers.
 ///
-/// Between any two calls, and before each one, owners may add HOT, MOVE or DROP to a cell, change their scope words, and
-/// store into objects that aren't quiet; and copiers may take jobs that are offered, finish those that they took, and write
-/// to the targets of jobs that aren't finished.
+/// Between any two calls, and before each one, owners may add HOT, MOVE, DROP or DIRTY to a cell, change their scope words,
+/// and store into objects that aren't quiet; and copiers may take jobs that are offered, finish those that they took, and
+/// write to the targets of jobs that aren't finished.
 pub trait Near {
     /// What the book knows of the state. Kinds, tails, spans, the round and the epoch are its own, and exact; of a cell the
-    /// object, its place and EVAC are exact, and HOT, MOVE and DROP a floor: they are there at least where the view has
-    /// them. Of a job the pointer, the places, the epoch of its offer and whether it was named are exact, and so is that
+    /// object, its place and EVAC are exact, and HOT, MOVE, DROP and DIRTY a floor: they are there at least where the view
+    /// has them. Of a job the pointer, the places, the epoch of its offer and whether it was named are exact, and so is that
     /// there is none; how far it has come is a floor. A word of a log is the word itself or unknown. Nothing may be
-    /// concluded from the view's scopes, nor from what it says that owners use, hold or remember, or that copiers copy,
+    /// concluded from the view's scopes, nor from what it says that owners use, hold, have soiled or remember, or that copiers copy,
     /// have read or have written, but where the hand is still.
     ghost view: { Self → State };
 
@@ -107,13 +107,14 @@ pub trait Near {
         ensures made { makes self.old (Event.Put log at word) Reply.Done self.new };
 
     /// The cell of a pointer goes from `old`, the word last found there, to `new`, where it still is `old`; words may be
-    /// forgotten then. Else `Err` with the word that was found, and nothing has changed. Of an object that goes far all data
-    /// words are known before.
+    /// forgotten then. Else `Err` with the word that was found, and nothing has changed. Of an object with DIRTY that
+    /// goes far all data words are known before.
     fn name(&mut self, pointer: u16, old: u64, new: u64) -> Result<(), u64>
         requires seen { old ≡ (view self.old).cell pointer }
         requires legal { Legal (view self.old) (Event.Name pointer old new) }
         requires known { KnowsLeaving (view self.old) old new }
-        ensures done { IfOk result (λ _. view self.new ≡ record (after (view self.old) (Event.Name pointer old new)) { word = (view self.new).word }) }
+        ensures done { IfOk result (λ _. view self.new ≡ record (after (view self.old) (Event.Name pointer old new)) { word = (view self.new).word; stored = (view self.new).stored }) }
+        ensures stored { IfOk result (λ _. StoresLeaving (view self.old) (view self.new) pointer old new) }
         ensures forgot { IfOk result (λ _. Forgets (view self.old) (view self.new)) }
         ensures other { IfErr result (λ found. found ≢ old) }
         ensures found { IfErr result (λ found. Finds old found) }

@@ -15,6 +15,7 @@ pub fn is_owners(event: Event) -> bool
         | Event::Pin { .. }
         | Event::Load { .. }
         | Event::Store { .. }
+        | Event::Soil { .. }
         | Event::Close { .. }
         | Event::Adopt { .. }
         | Event::Ask { .. } => true,

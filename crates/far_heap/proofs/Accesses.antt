@@ -7,7 +7,7 @@ use Rattle.far_word.specs.Bytes.{byte_at, bytes_of}
 use Rattle.far_word.specs.declared.sizes.TheConstants.{CELLS}
 use Rattle.far_table.specs.View.{ObjectView, OwnerView}
 use Rattle.far_table.specs.Seats.{Seated}
-use Rattle.far_table.specs.Views.{ds_of as seat_ds, held_at, len_of as seat_len, object_at, uses as seat_uses, word_in_view, word_of}
+use Rattle.far_table.specs.Views.{ds_of as seat_ds, held_at, len_of as seat_len, object_at, soiled_at, uses as seat_uses, word_in_view, word_of}
 use Rattle.far_heap.specs.Mine.{Object, OwnOk, StructuresOk, mine_of, object_of, rewritten, seen, with_range, writing}
 use Rattle.far_table.specs.Ranges.{HasBytes, Wrote}
 use Rattle.far_heap.proofs.Mines.{object_own}
@@ -78,5 +78,6 @@ module _ (p from : ℕ) (bytes : List ℕ) (o o' : OwnerView) (w : Wrote p from 
     views_are = λ q own. held_kept q ∙ ok.views_are q own;
     held_used = λ q own held. used_kept q ∙ ok.held_used q own (sym (held_kept q) ∙ held);
     held_open = λ q own held. ap (λ (x : OwnerView). is_some x.open_at) w.rest ∙ ok.held_open q own (sym (held_kept q) ∙ held);
+    soils_are = λ q own e. ap (λ (x : OwnerView). soiled_at x q) w.rest ∙ ok.soils_are q own e;
     past = ok.past;
   }

@@ -104,6 +104,7 @@ module _ (s : Seated) (name : TableId) (number : ℕ) (lens stamps : List ℕ) (
       | inr ne ↦ ap is_some (put_other (object_at s.view) p (Some (fresh w)) q ne) ∙ ok.held_used q mine held
     ];
     held_open = ok.held_open;
+    soils_are = ok.soils_are;
     past = ok.past;
   }
 
@@ -142,6 +143,7 @@ module _ (s : Seated) (name : TableId) (number : ℕ) (lens stamps : List ℕ) (
       | inr ne ↦ ap is_some (put_other (object_at s.view) p None q ne) ∙ ok.held_used q mine held
     ];
     held_open = ok.held_open;
+    soils_are = ok.soils_are;
     past = ok.past;
   }
 

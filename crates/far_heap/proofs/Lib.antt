@@ -1,5 +1,6 @@
 pub mod OwnRows
 pub mod Mines
+pub mod Soils
 pub mod OwnSteps
 pub mod MineLaws
 pub mod Slow

@@ -11,7 +11,7 @@ use Rattle.far_word.specs.declared.refused.Refused.TheVariants.{Damaged, Device,
 use Rattle.far_word.specs.declared.sizes.TheConstants.{CELLS, LONGEST, MOST_MUTATORS}
 use Rattle.far_table.specs.View.{ObjectView, OwnerView}
 use Rattle.far_table.specs.Seats.{Seated}
-use Rattle.far_table.specs.Views.{asked_at, ds_of as seat_ds, held_at, len_of as seat_len, object_at, uses as seat_uses, word_of}
+use Rattle.far_table.specs.Views.{asked_at, ds_of as seat_ds, held_at, len_of as seat_len, object_at, soiled_at, uses as seat_uses, word_of}
 use Rattle.far_heap.specs.HeapId.{HeapId}
 use Rattle.far_heap.specs.declared.view.Brought.{Brought}
 use Rattle.far_heap.specs.declared.view.Brought.TheVariants as brought
@@ -211,19 +211,21 @@ newcomer table number honest = record {
   asked = own_row (λ _. 0) number;
 }
 
--- a mutator's own numbers fit its seat: the length of each object that it uses, 0 where it uses none; and what the open scope views, by its count of scopes
+-- a mutator's own numbers fit its seat: the length of each object that it uses, 0 where it uses none; and by its count of scopes what the open scope views, and, behind
+-- that, what it has soiled
 pub record OwnOk (s : Seated) (name : TableId) (number : ℕ) (lens stamps : List ℕ) (scope : ℕ) : Type 0 where
   pub table : s.table ≡ name
   pub number_is : s.view.number ≡ number
   pub few : number < MOST_MUTATORS
   pub many_lens : length lens ≡ CELLS
-  pub many_stamps : length stamps ≡ CELLS
+  pub many_stamps : length stamps ≡ 2 * CELLS
   pub lens_are : (p : ℕ) → p / CELLS ≡ number → slice_index_or lens (p % CELLS) 0 ≡ seat_len (object_at s.view p)
   pub used_are : (p : ℕ) → p / CELLS ≡ number → seat_uses s.view p ≡ nat_lt 0 (seat_len (object_at s.view p))
   pub short : (p : ℕ) → p / CELLS ≡ number → seat_len (object_at s.view p) ≤ LONGEST
   pub views_are : (p : ℕ) → p / CELLS ≡ number → is_some (held_at s.view p) ≡ (slice_index_or stamps (p % CELLS) 0 == scope)
   pub held_used : (p : ℕ) → p / CELLS ≡ number → is_some (held_at s.view p) ≡ true → seat_uses s.view p ≡ true
   pub held_open : (p : ℕ) → p / CELLS ≡ number → is_some (held_at s.view p) ≡ true → is_some s.view.open_at ≡ true
+  pub soils_are : (p : ℕ) → p / CELLS ≡ number → slice_index_or stamps (CELLS + p % CELLS) 0 ≡ scope → soiled_at s.view p ≡ true
   pub past : (k : ℕ) → slice_index_or stamps k 0 ≤ scope
 
 -- so does its row of data structures, where it uses an object

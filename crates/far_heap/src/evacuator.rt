@@ -11,7 +11,7 @@ ghost use Rattle.far_table.specs.BookSeats.{seat_makes, seat_may_be, seat_view};
 ghost use Rattle.far_table.specs.Viewed.{NoneIsGivenOut};
 ghost use Rattle.far_table.specs.Whole.{IsWhole};
 ghost use Rattle.far_book.specs.book.Calls.{FindsHome, ListsSpans};
-ghost use Rattle.far_book.specs.book.FarSide.{HoldsFar};
+ghost use Rattle.far_book.specs.book.FarSide.{HoldsFar, HoldsOwn};
 ghost use Rattle.far_book.specs.book.Own.{HasNoJob, own_part};
 ghost use Rattle.far_book.specs.book.Rows.{row_of};
 ghost use Rattle.far_evac.specs.Calls.{TakesCensus};
@@ -90,8 +90,8 @@ impl<K: HeapName, D: Device + Drop> Evacuator<K, D> {
     /// What holds whenever the lock is got, whatever any policy chose: the book is of the heap that the name names, with its size and its honesty, and offers copies exactly where that has copiers; what it knows keeps its part of
     /// the law of the core, and the round agrees with it. In every state that the words and all views may be in objects and logs are whole: each object in
     /// use has one place, its pointer and the header there name each other, and a log's live, dead and unused bytes make its size. No log is given out
-    /// in which an owner holds a place. The device holds the bytes of each far object as they were stored, and is honest where the owners are told so. And
-    /// there is such a state.
+    /// in which an owner holds a place. The device holds bytes of its length of each far object, and of each near one without DIRTY: if the far side is
+    /// honest, those that were stored, and of a near one its own; and it is honest where the owners are told so. And there is such a state.
     pub fn keeps_law(&self)
         ensures named { heap_of self.now.copying self.now.book.near ≡ K.heap }
         ensures law { Law (own_part (seat_view self.now.book.near)) }
@@ -99,6 +99,7 @@ impl<K: HeapName, D: Device + Drop> Evacuator<K, D> {
         ensures whole { (x : State) → seat_may_be self.now.book.near x → IsWhole x }
         ensures kept { (x : State) → seat_may_be self.now.book.near x → NoneIsGivenOut x }
         ensures far { (x : State) → seat_may_be self.now.book.near x → HoldsFar x (D.contents self.now.book.device) }
+        ensures own { (x : State) → seat_may_be self.now.book.near x → HoldsOwn x (D.contents self.now.book.device) }
         ensures honest { (x : State) → seat_may_be self.now.book.near x → x.honest ≡ true → D.honest self.now.book.device ≡ true }
         ensures there { ∥ ((x : State) × seat_may_be self.now.book.near x) ∥₁ }
     {

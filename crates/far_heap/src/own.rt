@@ -61,7 +61,7 @@ pub(crate) struct Own<K: HeapName, D: Device> {
     lens: Vec<u16>,
     // Of which data structure it is, of each pointer that is used.
     structures: Vec<u8>,
-    // The scope that viewed each pointer last, by its count.
+    // The scope that viewed each pointer last, by its count; and, behind these, the scope that soiled it last.
     stamps: Vec<u64>,
     // The count of the scope that is open, or of the next. It is above 0, and no stamp is above it.
     scope: u64,
@@ -126,7 +126,7 @@ impl<K: HeapName, D: Device> Own<K, D> {
     {
         let lens = vec![in alloc; 0; CELLS as usize]?;
         let structures = vec![in alloc; 0; CELLS as usize]?;
-        let stamps = vec![in alloc; 0; CELLS as usize]?;
+        let stamps = vec![in alloc; 0; 2 * CELLS as usize]?;
         Ok(Own {
             seat,
             number,
@@ -366,16 +366,23 @@ impl<K: HeapName, D: Device> Own<K, D> {
         Ok(())
     }
 
-    // Writes bytes over those of an object that the scope views.
+    // Writes bytes over those of an object that the scope views. DIRTY is set in the object's cell before the scope's first store.
     #[inline(always)]
     pub(crate) fn write(&mut self, view: View, from: u16, bytes: &[u8]) -> Result<(), Refused>
         ensures refused { IfErr result (λ why. (access_refusal self.old view.pointer from (length bytes.now) ≡ Some why) × (self.new ≡ self.old)) }
         ensures done { IfOk result (λ _. (access_refusal self.old view.pointer from (length bytes.now) ≡ None) × (self.new ≡ writing view.pointer from bytes.now self.old)) }
     {
-        match self.access(view, from, bytes.len()) {
-            Ok(len) => store_range(&mut self.seat, view.pointer, len, from, bytes),
+        let len = match self.access(view, from, bytes.len()) {
+            Ok(len) => len,
             Err(why) => return Err(why),
+        };
+        let p = view.pointer;
+        let stamp = CELLS as usize + (p % CELLS) as usize;
+        if self.stamps[stamp] != self.scope {
+            self.seat.soil(p);
+            self.stamps[stamp] = self.scope;
         }
+        store_range(&mut self.seat, p, len, from, bytes);
         Ok(())
     }
 }

@@ -1,6 +1,6 @@
 // Ranges of bytes of an object that an owner's seat holds: parts of a word by load and store, whole words by one call for all.
 ghost use Rattle.std.specs.Prelude.{◌≡◌, ◌+◌, ◌-◌, ◌*◌, ◌/◌, ◌%◌, ◌^◌, ◌<◌, ◌≤◌, ℕ, true, length, slice_index, IsSome};
-ghost use Rattle.far_table.specs.Views.{held_at, len_of, object_at, word_in_view};
+ghost use Rattle.far_table.specs.Views.{held_at, len_of, object_at, soiled_at, word_in_view};
 ghost use Rattle.far_word.specs.Bytes.{byte_at};
 ghost use Rattle.far_table.specs.Ranges.{HasBytes, Wrote};
 ghost use Rattle.far_word.specs.declared.sizes.TheConstants.{LONGEST};
@@ -93,6 +93,7 @@ fn spliced(word: u64, at: usize, bytes: &[u8], room: usize) -> u64
 // Stores bytes that lie in one word, whose others are loaded first. Those past the object's end stay 0.
 fn store_part<D: Device>(seat: &mut MutSeat<D>, p: u16, len: u16, from: u16, bytes: &[u8])
     requires held { IsSome (held_at seat.old.view p) }
+    requires soiled { soiled_at seat.old.view p ≡ true }
     requires len { len_of (object_at seat.old.view p) ≡ len }
     requires inside { from + length bytes.now ≤ len }
     requires one { from % 8 + length bytes.now ≤ 8 }
@@ -113,6 +114,7 @@ fn store_part<D: Device>(seat: &mut MutSeat<D>, p: u16, len: u16, from: u16, byt
 #[inline(never)]
 fn store_pieces<D: Device>(seat: &mut MutSeat<D>, p: u16, len: u16, from: u16, bytes: &[u8])
     requires held { IsSome (held_at seat.old.view p) }
+    requires soiled { soiled_at seat.old.view p ≡ true }
     requires len { len_of (object_at seat.old.view p) ≡ len }
     requires short { len ≤ LONGEST }
     requires inside { from + length bytes.now ≤ len }
@@ -140,6 +142,7 @@ pub(crate) fn store_range<D: Device>(
     bytes: &[u8],
 )
     requires held { IsSome (held_at seat.old.view p) }
+    requires soiled { soiled_at seat.old.view p ≡ true }
     requires len { len_of (object_at seat.old.view p) ≡ len }
     requires short { len ≤ LONGEST }
     requires inside { from + length bytes.now ≤ len }

@@ -11,13 +11,13 @@ use Rattle.far_word.specs.declared.pointer.PtrWord.{PtrWord}
 use Rattle.far_word.specs.declared.pointer.PtrWord.TheVariants.{Free, Near, Far}
 use Rattle.far_word.specs.declared.sizes.TheConstants.{CELLS}
 use Rattle.far_core.specs.declared.event.Event.{Event}
-use Rattle.far_core.specs.declared.event.Event.TheVariants.{ReadEpoch, Open, Pin, Load, Store, Close, Adopt, Put, Name, See, Mark, Ask, Get, Clear, Advance, Look, Offer, PeekJob, SeeJob, Claim, ReadLength, Read, Write, Finish, Collect}
+use Rattle.far_core.specs.declared.event.Event.TheVariants.{ReadEpoch, Open, Pin, Load, Store, Soil, Close, Adopt, Put, Name, See, Mark, Ask, Get, Clear, Advance, Look, Offer, PeekJob, SeeJob, Claim, ReadLength, Read, Write, Finish, Collect}
 use Rattle.far_core.specs.declared.event.Reply.{Reply as Answer}
 use Rattle.far_core.specs.declared.event.Reply.TheVariants.{Refused, Done, Epoch, Word, Held}
 use Rattle.far_core.specs.declared.naming.Naming.{Naming}
 use Rattle.far_core.specs.declared.naming.Naming.TheVariants.{Places, Retires, Evicts, Stays, Moves, Fetches}
 use Rattle.far_core.specs.events.Name.{change_by}
-use Rattle.far_core.specs.events.Naming.{is_dropped, naming_of, no_marks}
+use Rattle.far_core.specs.events.Naming.{is_dropped, naming_of, unmarked}
 use Rattle.far_core.specs.world.Changes.{StepOf}
 use Rattle.far_core.specs.world.Happens.{Happens}
 use Rattle.far_core.proofs.Namings.{naming_says}
@@ -34,7 +34,7 @@ use Rattle.far_core.proofs.Put.{put_same, put_other, put_old}
 use Rattle.far_core.proofs.Steps.{step_does}
 use Rattle.far_replay.specs.Alone.{Own, own_of, bytes_in_world}
 use Rattle.far_replay.specs.EventRows.{after_events, Succeeds, AllSucceed, ComesToPass}
-use Rattle.far_replay.specs.Events.{store_events, view_events}
+use Rattle.far_replay.specs.Events.{soil_events, store_events, view_events}
 use Rattle.far_text.proofs.Each.{Each}
 
 -- ---- what a mutator knows of a world
@@ -100,6 +100,7 @@ abbrev pub IsQuiet : Event → Type 0
 IsQuiet (ReadEpoch m) = Unit {0}
 IsQuiet (Pin m p) = Unit {0}
 IsQuiet (Load m p i) = Unit {0}
+IsQuiet (Soil m p) = Unit {0}
 IsQuiet (Adopt m p) = Unit {0}
 IsQuiet (Put l at w) = w < 2 ^ 64
 IsQuiet (See p) = Unit {0}
@@ -109,6 +110,7 @@ quiet_fits : (e : Event) → IsQuiet e → Fits e
 quiet_fits (ReadEpoch m) q = tt
 quiet_fits (Pin m p) q = tt
 quiet_fits (Load m p i) q = tt
+quiet_fits (Soil m p) q = tt
 quiet_fits (Adopt m p) q = tt
 quiet_fits (Put l at w) q = q
 quiet_fits (See p) q = tt
@@ -129,6 +131,9 @@ quiet_happens w v (Pin m p) r q h = absurd h
 quiet_happens w v (Load m p i) Refused q h = stays_same w v h
 quiet_happens w v (Load m p i) (Word x) q h = stays_same w v h.after
 quiet_happens w v (Load m p i) r q h = absurd h
+quiet_happens w v (Soil m p) Refused q h = stays_same w v h
+quiet_happens w v (Soil m p) (Word x) q h = stays_same w v h
+quiet_happens w v (Soil m p) r q h = absurd h
 quiet_happens w v (Adopt m p) Refused q h = stays_same w v h
 quiet_happens w v (Adopt m p) (Word x) q h = stays_same w v h
 quiet_happens w v (Adopt m p) r q h = absurd h
@@ -154,6 +159,10 @@ quiet_run s (e ∷ es) law q =
 -- a view is quiet
 pub quiet_view : (s : State) (k p : ℕ) → Quiet (view_events s k p)
 quiet_view s k p = cond_both (is_some (s.held p)) [] (Pin k p ∷ []) Quiet (λ _. tt) (λ _. (tt, tt))
+
+-- so is a soiling
+pub quiet_soil : (s : State) (k p : ℕ) → Quiet (soil_events s k p)
+quiet_soil s k p = cond_both (s.soiled p) [] (Soil k p ∷ []) Quiet (λ _. tt) (λ _. (tt, tt))
 
 -- ---- stores
 -- words from first on of some bytes in the place of those of others
@@ -237,7 +246,7 @@ makes_new w v p a b (Some (Moves len ds from to)) free e h =
 makes_new w v p a b (Some (Fetches len ds place)) free e h =
     let says = (naming_says a b (Fetches len ds place) e).0 in
     let odd : Some Free ≡ Some (Far len ds says.0) = sym free ∙ says.1 in absurd cc
-makes_new w v p a b (Some (Places len ds place)) free e h = (len, ds, place, no_marks, (naming_says a b (Places len ds place) e).1, h)
+makes_new w v p a b (Some (Places len ds place)) free e h = (len, ds, place, unmarked true, (naming_says a b (Places len ds place) e).1, h)
 
 names_place : (w v : World) (p old new : ℕ) (r : Answer) → Succeeds (Name p old new) r → ComesToPass (Name p old new) r → Happens w (Name p old new) r v → StepOf (change_by p (naming_of (read_of old) (read_of new))) w v
 names_place w v p old new Refused ok come h = absurd ok
@@ -267,6 +276,7 @@ was_legal s e law = cond_both (is_legal s e) (after s e, answer s e) (s, Refused
   no_refusal (Pin m p) h = h
   no_refusal (Load m p i) h = h
   no_refusal (Store m p i w) h = h
+  no_refusal (Soil m p) h = h
   no_refusal (Close m) h = h
   no_refusal (Adopt m p) h = h
   no_refusal (Put l at w) h = h

@@ -1,5 +1,5 @@
 -- One command more that was answered.
-use Rattle.std.proofs.Common.{◌≡◌, ℕ, zero, suc, List, [], ◌∷◌, ◌++◌, ap, sym, ◌∙◌, subst, append_assoc, append-nil}
+use Rattle.std.proofs.Common.{◌≡◌, ℕ, zero, suc, true, false, List, [], ◌∷◌, ◌++◌, ap, sym, ◌∙◌, subst, append_assoc, append-nil}
 use Rattle.std.specs.List.{flat_map}
 use Rattle.std.proofs.lemmas.Grind.{flat_map-append}
 use Rattle.far_replay.specs.Moment.{Moment}
@@ -7,8 +7,9 @@ use Rattle.far_hand.specs.declared.plain.Plain.{Plain}
 use Rattle.far_evac.specs.EvacOf.{EvacOf}
 use Rattle.far_replay.specs.Moment.{FarSide}
 use Rattle.far_device.specs.declared.liar.Lie.{Lie}
+use Rattle.far_replay.specs.Far.{FarBytes, HoldsBy, ToldBy}
 use Rattle.far_replay.specs.Spent.{SpentBy, may_spoil}
-use Rattle.far_replay.specs.Answers.{Answered, AnsweredBy, CommandedBy, FlawedAtMost, Outside, Serves, Refuses, Gives, Lacks}
+use Rattle.far_replay.specs.Answers.{Answered, AnsweredBy, CommandedBy, FarAlong, FlawedAtMost, Outside, Serves, Refuses, Gives, Lacks}
 use Rattle.far_text.specs.Command.{Command}
 use Rattle.far_reply.specs.Reply.{Reply, reply_text}
 
@@ -36,6 +37,19 @@ answered_all s t cs outside replies moments none e go =
     (subst (λ xs. AnsweredBy (outside ++ []) s cs xs moments) (append-nil replies)
     (subst (λ us. AnsweredBy (outside ++ []) s cs (replies ++ []) us) (append-nil moments) (go [] [] [] (subst (λ cs. AnsweredBy [] t cs [] []) (sym e) tt))))
 
+-- ---- what the device held along the run
+pub far_more : (first held later : FarBytes) (s t : Moment) (cs rest : List Command) (outside : List Outside) (moments : List Moment) (o : Outside) (c : Command) (u : Moment) →
+    ((os : List Outside) (more : List Moment) → FarAlong held t os (c ∷ rest) more → FarAlong first s (outside ++ os) cs (moments ++ more)) → HoldsBy c t.core u.core held later → ToldBy o t c held →
+    (os : List Outside) (more : List Moment) → FarAlong later u os rest more → FarAlong first s ((outside ++ o ∷ []) ++ os) cs ((moments ++ u ∷ []) ++ more)
+far_more first held later s t cs rest outside moments o c u go holds told os more h =
+    subst (λ xs. FarAlong first s xs cs ((moments ++ u ∷ []) ++ more)) (sym (append_assoc outside (o ∷ []) os))
+    (subst (FarAlong first s (outside ++ o ∷ os) cs) (sym (append_assoc moments (u ∷ []) more)) (go (o ∷ os) (u ∷ more) (later, holds, told, h)))
+
+pub far_all : (first held : FarBytes) (s t : Moment) (cs : List Command) (outside : List Outside) (moments : List Moment) (none : List Command) → none ≡ [] →
+    ((os : List Outside) (more : List Moment) → FarAlong held t os none more → FarAlong first s (outside ++ os) cs (moments ++ more)) → FarAlong first s outside cs moments
+far_all first held s t cs outside moments none e go =
+    subst (λ os. FarAlong first s os cs moments) (append-nil outside) (subst (FarAlong first s (outside ++ []) cs) (append-nil moments) (go [] [] (subst (λ xs. FarAlong held t [] xs []) (sym e) tt)))
+
 -- ---- how many commands the device's flaw spoils
 -- one command more, by what was spent of it
 pub spoiled_more : (lie : Lie) (n left : ℕ) (outside : List Outside) (o : Outside) (old new : EvacOf Plain FarSide) → SpentBy o old new → may_spoil lie old left →
@@ -48,10 +62,13 @@ spoiled_more lie n left outside (Lacks turns objects) old new spent few go =
 spoiled_more lie n (suc left) outside (Refuses why turns objects) old new spent few go =
     let was = spent lie (suc left) few in
     (left, was.1, λ os h. subst (FlawedAtMost lie n) (sym (append_assoc outside (Refuses why turns objects ∷ []) os)) (go (Refuses why turns objects ∷ os) (was.0, h)))
-spoiled_more lie n (suc left) outside (Gives row) old new spent few go =
+spoiled_more lie n left outside (Gives row false) old new spent few go =
+    (left, spent lie left few, λ os h. subst (FlawedAtMost lie n) (sym (append_assoc outside (Gives row false ∷ []) os)) (go (Gives row false ∷ os) h))
+spoiled_more lie n (suc left) outside (Gives row true) old new spent few go =
     let was = spent lie (suc left) few in
-    (left, was.1, λ os h. subst (FlawedAtMost lie n) (sym (append_assoc outside (Gives row ∷ []) os)) (go (Gives row ∷ os) (was.0, h)))
-spoiled_more lie n zero outside _ old new spent few go = absurd (spent lie 0 few)
+    (left, was.1, λ os h. subst (FlawedAtMost lie n) (sym (append_assoc outside (Gives row true ∷ []) os)) (go (Gives row true ∷ os) (was.0, h)))
+spoiled_more lie n zero outside (Refuses why turns objects) old new spent few go = absurd (spent lie 0 few)
+spoiled_more lie n zero outside (Gives row true) old new spent few go = absurd (spent lie 0 few)
 
 -- what is printed of one reply more
 pub printed_more : (front replies : List Reply) (r : Reply) → flat_map reply_text (front ++ (replies ++ r ∷ [])) ≡ flat_map reply_text (front ++ replies) ++ reply_text r

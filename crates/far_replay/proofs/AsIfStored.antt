@@ -1,5 +1,5 @@
 -- What stays so of a heap where other words are stored of an object.
-use Rattle.std.proofs.Common.{◌≡◌, ◌≢◌, ℕ, Bool, true, false, is_some, IsSome, Option, Some, None, refl, sym, ap, subst, ◌∙◌, if◌then◌else◌}
+use Rattle.std.proofs.Common.{◌≡◌, ◌≢◌, ℕ, Bool, true, false, cond, is_some, Option, Some, None, refl, sym, ap, subst, ◌∙◌, if◌then◌else◌}
 use Rattle.std.proofs.lemmas.Bool.{cond_both, true≢false}
 use mathlib.Core.Path.{fun_ext}
 use Rattle.far_word.specs.declared.mark.Marks.{Marks}
@@ -8,29 +8,49 @@ use Rattle.far_word.specs.declared.pointer.PtrWord.{PtrWord}
 use Rattle.far_word.specs.declared.pointer.PtrWord.TheVariants.{Free, Near, Far}
 use Rattle.far_word.specs.Pointer.{read_of}
 use Rattle.far_core.specs.events.Step.{after_pin}
-use Rattle.far_core.specs.state.Law.{IsStored, Law, StoresBack, held_place}
+use Rattle.far_core.specs.state.Law.{IsStored, Law, StoresBack}
 use Rattle.far_core.specs.state.State.{State, put}
 use Rattle.far_core.proofs.Cells.{unused}
 use Rattle.far_core.proofs.Put.{put_both, put_old}
-use Rattle.far_core.proofs.Bounds.{some_of}
+use Rattle.far_book.specs.book.FarSide.{kept_len}
 use Rattle.far_evac.specs.MomentLaw.{MomentLaw}
 use Rattle.far_replay.specs.Between.{Between}
 use Rattle.far_replay.specs.Commanded.{LiesFar, Misled}
-use Rattle.far_replay.specs.Dereference.{asked_for, sought_of}
+use Rattle.far_replay.specs.Dereference.{asked_for, says_near, sought_of}
 use Rattle.far_replay.specs.Effects.{with_view}
-use Rattle.far_replay.specs.Moment.{Moment, as_if_stored, with_stored}
+use Rattle.far_replay.specs.Objects.{named_len}
+use Rattle.far_replay.specs.Moment.{KeptBack, Moment, as_if_stored, with_stored}
 use Rattle.far_reply.specs.Reply.{Reply}
 use Rattle.far_text.specs.Command.{Command}
 
--- the law reads stored words of far objects, and of those that nobody uses
-pub law_as_if : (s : State) (p : ℕ) (row : ℕ → ℕ) → Law s → s.used p ≡ true → StoresBack row (read_of (s.cell p)) → Law (with_stored s p row)
-law_as_if s p row law used fits = record {
+abbrev pub no_len : Option ℕ
+no_len = None
+
+some_len : {m n : ℕ} → Some m ≡ Some n → m ≡ n
+some_len e = cc
+
+-- a far object has words that are stored of it, and a near one without DIRTY
+pub far_keeps : (row : ℕ → ℕ) (o : Option PtrWord) → says_near o ≡ false → StoresBack row o → KeptBack row o
+far_keeps row None far fits len e = let odd : no_len ≡ Some len = e in absurd cc
+far_keeps row (Some Free) far fits len e = let odd : no_len ≡ Some len = e in absurd cc
+far_keeps row (Some (Near n ds place m)) far fits len e = absurd (true≢false far)
+far_keeps row (Some (Far n ds m)) far fits len e = let same : n ≡ len = cc in subst (IsStored row) same (fits n ds m refl)
+
+pub keeps_far : (row : ℕ → ℕ) (o : Option PtrWord) → KeptBack row o → StoresBack row o
+keeps_far row o fits len ds m is = fits len (ap kept_len is)
+
+keeps_clean : (row : ℕ → ℕ) (o : Option PtrWord) → KeptBack row o → (len ds : ℕ) (place : Place) (m : Marks) → o ≡ Some (Near len ds place m) → m.dirty ≡ false → IsStored row len
+keeps_clean row o fits len ds place m is clean = fits len (ap kept_len is ∙ ap (λ b. cond b None (Some len)) clean)
+
+-- the law reads stored words of these, and of those that nobody uses
+pub law_as_if : (s : State) (p : ℕ) (row : ℕ → ℕ) → Law s → s.honest ≡ false → s.used p ≡ true → KeptBack row (read_of (s.cell p)) → Law (with_stored s p row)
+law_as_if s p row law lies used fits = record {
   shape = law.shape;
   cells = record {
     cell_read = law.cells.cell_read;
     cell_range = law.cells.cell_range;
     cell_near = law.cells.cell_near;
-    cell_far = λ q. put_both (λ (words : ℕ → ℕ). StoresBack words (read_of (s.cell q))) s.stored p row q (λ e. subst (λ k. StoresBack row (read_of (s.cell k))) (sym e) fits) (λ _. law.cells.cell_far q);
+    cell_far = λ q. put_both (λ (words : ℕ → ℕ). StoresBack words (read_of (s.cell q))) s.stored p row q (λ e. subst (λ k. StoresBack row (read_of (s.cell k))) (sym e) (keeps_far row (read_of (s.cell p)) fits)) (λ _. law.cells.cell_far q);
   };
   spans = law.spans;
   logs = law.logs;
@@ -38,11 +58,15 @@ law_as_if s p row law used fits = record {
   views = law.views;
   rounds = law.rounds;
   clears = law.clears;
-  unadopted = λ honest q unused. let blank = law.unadopted honest q unused in record {
-    near = blank.near;
-    far = λ len ds m is kept i lt. put_both (λ (words : ℕ → ℕ). words i ≡ 0) s.stored p row q (λ e. absurd (true≢false (sym used ∙ ap s.used (sym e) ∙ unused))) (λ _. blank.far len ds m is kept i lt);
-  };
+  unadopted = λ honest q unused. absurd (true≢false (sym honest ∙ lies));
   copies = law.copies;
+  soils = law.soils;
+  cleans = λ q. record {
+    back = put_both (λ (words : ℕ → ℕ). (len ds : ℕ) (place : Place) (m : Marks) → read_of (s.cell q) ≡ Some (Near len ds place m) → m.dirty ≡ false → IsStored words len) s.stored p row q
+        (λ e. subst (λ k. (len ds : ℕ) (place : Place) (m : Marks) → read_of (s.cell k) ≡ Some (Near len ds place m) → m.dirty ≡ false → IsStored row len) (sym e) (keeps_clean row (read_of (s.cell p)) fits))
+        (λ _. (law.cleans q).back);
+    same = λ honest. absurd (true≢false (sym honest ∙ lies));
+  };
 }
 
 pub round_as_if : (now : Moment) (p : ℕ) (row : ℕ → ℕ) → MomentLaw now → MomentLaw (as_if_stored now p row)
@@ -100,25 +124,16 @@ far_is_named s p (len, ds, marks, far) none = let odd : Some (Far len ds marks) 
 pub far_is_used : (s : State) (p : ℕ) → Between s → LiesFar s p → s.used p ≡ true
 far_is_used s p between far = between.named p (far_is_named s p far)
 
--- of a far object words that are as many as it has may be stored; of one that is viewed any
-named_stored : (row : ℕ → ℕ) (len ds : ℕ) (marks : Marks) → IsStored row len → StoresBack row (Some (Far len ds marks))
-named_stored row len ds marks fits n d m is = subst (IsStored row) (far_long is) fits where
-  length_of : Option PtrWord → ℕ
-  length_of None = 0
-  length_of (Some Free) = 0
-  length_of (Some (Near len ds place m)) = 0
-  length_of (Some (Far len ds m)) = len
+-- of a far object words that are as many as it has may be stored
+pub misled_fits : (row : ℕ → ℕ) (now : Moment) (c : Command) (p : ℕ) (r : Reply) (next : Moment) → Misled row now c p r next → KeptBack row (read_of (now.core.cell p))
+misled_fits row now c p r next h len e = subst (IsStored row) (some_len (sym (ap kept_len h.far.3) ∙ e)) h.fits
 
-  far_long : Some (Far len ds marks) ≡ Some (Far n d m) → len ≡ n
-  far_long e = ap length_of e
-
-pub misled_fits : (row : ℕ → ℕ) (now : Moment) (c : Command) (p : ℕ) (r : Reply) (next : Moment) → Misled row now c p r next → StoresBack row (read_of (now.core.cell p))
-misled_fits row now c p r next h = subst (StoresBack row) (sym h.far.3) (named_stored row h.far.0 h.far.1 h.far.2 h.fits)
-
-no_far : (o : Option PtrWord) (place : Place) → held_place o ≡ Some place → (len ds : ℕ) (m : Marks) → o ≡ Some (Far len ds m) → ⊥
-no_far o place held len ds m is = let odd : None ≡ Some place = ap held_place (sym is) ∙ held in absurd cc
-
-pub viewed_stores : (s : State) (p : ℕ) (row : ℕ → ℕ) → Law s → IsSome (s.held p) → StoresBack row (read_of (s.cell p))
-viewed_stores s p row law viewed =
-    let there = some_of (s.held p) viewed in
-    λ len ds m is. absurd (no_far (read_of (s.cell p)) there.0 (law.views.held_names p there.0 there.1) len ds m is)
+-- what is kept of an object is as long as it
+pub kept_long : (o : Option PtrWord) (len : ℕ) → kept_len o ≡ Some len → len ≡ named_len o
+kept_long None len e = let odd : no_len ≡ Some len = e in absurd cc
+kept_long (Some Free) len e = let odd : no_len ≡ Some len = e in absurd cc
+kept_long (Some (Near n ds place m)) len e = clean m.dirty e where
+  clean : (b : Bool) → cond b None (Some n) ≡ Some len → len ≡ n
+  clean true h = let odd : no_len ≡ Some len = h in absurd cc
+  clean false h = sym (some_len h)
+kept_long (Some (Far n ds m)) len e = sym (some_len e)

@@ -183,21 +183,21 @@ naming_keeps s p new (Some form) = form_keeps s p new form
 name_keeps : (s : State) (p old new : ℕ) → KeepsOwners p s (after s (Name p old new))
 name_keeps s p old new = cond_both (s.cell p == old) (after_naming s p new (naming_of (read_of old) (read_of new))) s (KeepsOwners p s) (λ _. naming_keeps s p new (naming_of (read_of old) (read_of new))) (λ _. kept p s)
 
-written_keeps : (s : State) (p len ds : ℕ) (place : Place) (row : ℕ → ℕ) → KeepsOwners p s (after (with_written_span s p len ds place row) (Name p (s.cell p) (near_word len ds place)))
-written_keeps s p len ds place row =
-    let k = name_keeps (with_written_span s p len ds place row) p (s.cell p) (near_word len ds place) in
+written_keeps : (s : State) (p : ℕ) (dirty : Bool) (len ds : ℕ) (place : Place) (row : ℕ → ℕ) → KeepsOwners p s (after (with_written_span s p len ds place row) (Name p (s.cell p) (near_word dirty len ds place)))
+written_keeps s p dirty len ds place row =
+    let k = name_keeps (with_written_span s p len ds place row) p (s.cell p) (near_word dirty len ds place) in
     record { scope = k.scope; used = k.used; mutators = k.mutators; held = k.held; cells = k.cells }
 
 pub moved_keeps : (s : State) (p : ℕ) (place : Place) (o : Option PtrWord) → KeepsOwners p s (moved_of s p place o)
-moved_keeps s p place (Some (Near len ds from marks)) = written_keeps s p len ds place (data_at s.word from)
+moved_keeps s p place (Some (Near len ds from marks)) = written_keeps s p marks.dirty len ds place (data_at s.word from)
 moved_keeps s p place _ = kept p s
 
 pub stayed_keeps : (s : State) (p : ℕ) (o : Option PtrWord) → KeepsOwners p s (stayed_of s p o)
-stayed_keeps s p (Some (Near len ds place marks)) = name_keeps s p (s.cell p) (near_word len ds place)
+stayed_keeps s p (Some (Near len ds place marks)) = name_keeps s p (s.cell p) (near_word marks.dirty len ds place)
 stayed_keeps s p _ = kept p s
 
 pub fetched_keeps : (s : State) (p : ℕ) (place : Place) (row : ℕ → ℕ) (o : Option PtrWord) → KeepsOwners p s (fetched_of s p place row o)
-fetched_keeps s p place row (Some (Far len ds marks)) = written_keeps s p len ds place row
+fetched_keeps s p place row (Some (Far len ds marks)) = written_keeps s p false len ds place row
 fetched_keeps s p place row _ = kept p s
 
 come_keeps_of : (s : State) (p : ℕ) (x : Option Place) (o : Option PtrWord) → KeepsOwners p s (come_of s p x o)

@@ -1,5 +1,5 @@
 -- An object that was asked for is brought to where a view may rest: by which events, and what that leaves.
-use Rattle.std.proofs.Common.{◌≡◌, ℕ, ◌+◌, ◌-◌, ◌*◌, ◌^◌, ◌<◌, ◌≤◌, Bool, true, false, cond, refl, sym, ap, subst, ◌∙◌, arith, Option, Some, None, List, ◌++◌, inl, inr, if◌then◌else◌}
+use Rattle.std.proofs.Common.{◌≡◌, ℕ, ◌+◌, ◌-◌, ◌*◌, ◌^◌, ◌<◌, ◌≤◌, Bool, true, false, cond, refl, sym, ap, subst, ◌∙◌, arith, Option, Some, None, List, ◌++◌, inl, inr, if◌then◌else◌, ◌||◌}
 use Rattle.std.specs.Bool.{MatchBool}
 use Rattle.std.proofs.lemmas.Bool.{cases_eq}
 use Rattle.far_word.specs.declared.mark.Marks.{Marks}
@@ -18,10 +18,10 @@ use Rattle.far_core.specs.declared.event.Event.TheVariants.{Name as Names}
 use Rattle.far_core.specs.declared.naming.Naming.TheVariants as naming
 use Rattle.far_core.specs.events.Copies.{data_at}
 use Rattle.far_core.specs.events.Legal.{Legal}
-use Rattle.far_core.specs.events.Naming.{is_dropped, no_marks}
+use Rattle.far_core.specs.events.Naming.{is_dropped, no_marks, unmarked}
 use Rattle.far_core.specs.events.Step.{after}
 use Rattle.far_core.specs.laws.Rooms.{IsRoom, RoomIs}
-use Rattle.far_core.specs.state.Law.{Law, head_len}
+use Rattle.far_core.specs.state.Law.{Law, head_len, is_dirty}
 use Rattle.far_core.specs.state.Room.{room}
 use Rattle.far_core.specs.state.Spans.{names_place}
 use Rattle.far_core.specs.state.State.{State, put, addr}
@@ -38,6 +38,7 @@ use Rattle.far_book.specs.book.Dealing.{goal_of, has_evac}
 use Rattle.far_book.specs.book.Fetching.{far_len}
 use Rattle.far_book.specs.book.Effects.{fetched, fetched_of, moved, moved_of, near_word, stayed, stayed_of, with_written_span}
 use Rattle.far_book.specs.book.Moving.{Copied, MayCopy}
+use Rattle.far_book.specs.book.Renaming.{stops}
 use Rattle.far_hand.proofs.Finding.{finds_same}
 use Rattle.far_book.proofs.region.Coming.{may_come, stands}
 use Rattle.far_book.proofs.region.Copying.{first, from_outside, head, layout_there, outside}
@@ -61,13 +62,15 @@ pub bytes_at : (w : World) (p : ℕ) (o x : Object) → w.object p ≡ Some o �
 bytes_at w p o x is same q = put_both (λ y. bytes_in_world y ≡ bytes_in_world (w.object q)) w.object p (Some x) q
     (λ e. ap Some same ∙ sym (ap bytes_in_world (ap w.object e ∙ is))) (λ _. refl)
 
--- an object is brought: near it lies, without marks, as long as it was; all bytes and scopes are the same, and so are the views
+-- an object is brought: near it lies, without marks but DIRTY, if it had that and was near, as long as it was; all bytes and scopes are the same, and so are the views
 pub record Brought (s : State) (p : ℕ) (es : List Event) (t : State) : Type 0 where
   pub leads : Leads s es t
   pub len : ℕ
   pub ds : ℕ
   pub place : Place
-  pub near : read_of (t.cell p) ≡ Some (Near len ds place no_marks)
+  pub dirty : Bool
+  pub still : dirty ≡ is_dirty (read_of (s.cell p))
+  pub near : read_of (t.cell p) ≡ Some (Near len ds place (unmarked dirty))
   pub long : object_len s p ≡ len
   pub bytes : SameBytes (world_of s) (world_of t)
   pub held : t.held ≡ s.held
@@ -120,19 +123,20 @@ module _ (s : State) (law : Law s) (p len ds : ℕ) (from to : Place) (m : Marks
     keeps = record { known = λ a k now. refl; headers = λ a start. refl };
   }
 
-  named_legal : Legal written (Names p (s.cell p) (near_word len ds to))
-  named_legal = subst (λ (t : State). Legal t (Names p (s.cell p) (near_word len ds to))) (λ i. record written { cell = put_old s.cell p (s.cell p) refl i })
-      (may_rename s written p len ds from to may copied (ap has_evac near ∙ wanted) (ap is_dropped near ∙ alive) (s.cell p) (law.cells.cell_read p).0 (finds_same (s.cell p)) (ap is_dropped near ∙ alive)).0
+  named_legal : Legal written (Names p (s.cell p) (near_word m.dirty len ds to))
+  named_legal = subst (λ b. Legal written (Names p (s.cell p) (near_word b len ds to))) (ap is_dirty near)
+      (subst (λ (t : State). Legal t (Names p (s.cell p) (near_word (is_dirty (read_of (s.cell p))) len ds to))) (λ i. record written { cell = put_old s.cell p (s.cell p) refl i })
+      (may_rename s written p len ds from to may copied (ap has_evac near ∙ wanted) (ap is_dropped near ∙ alive) (s.cell p) (law.cells.cell_read p).0 (finds_same (s.cell p)) (ap is_dropped near ∙ alive)).0)
 
-  moved_leads : Leads s (span_events p len ds to row ++ name_events s p len ds to) (moved s p to)
-  moved_leads = subst (Leads s (span_events p len ds to row ++ name_events s p len ds to)) (sym (ap (moved_of s p to) near))
-      (leads_append s written (after written (Names p (s.cell p) (near_word len ds to))) (span_events p len ds to row) (name_events s p len ds to) written_leads
-      (leads_one written (Names p (s.cell p) (near_word len ds to)) named_legal ((law.cells.cell_read p).0, word_fits (Near len ds to no_marks) (layout_there s p len ds from to may))))
+  moved_leads : Leads s (span_events p len ds to row ++ name_events s p m.dirty len ds to) (moved s p to)
+  moved_leads = subst (Leads s (span_events p len ds to row ++ name_events s p m.dirty len ds to)) (sym (ap (moved_of s p to) near))
+      (leads_append s written (after written (Names p (s.cell p) (near_word m.dirty len ds to))) (span_events p len ds to row) (name_events s p m.dirty len ds to) written_leads
+      (leads_one written (Names p (s.cell p) (near_word m.dirty len ds to)) named_legal ((law.cells.cell_read p).0, word_fits (Near len ds to (unmarked m.dirty)) (layout_there s p len ds from to may))))
 
   uncopied : NoCopy s.copying p from to
   uncopied = no_copy s may.law p from to is_room.next (omega (arith, is_room.fits))
 
-  pub moved_brought : Brought s p (span_events p len ds to row ++ name_events s p len ds to) (moved s p to)
+  pub moved_brought : Brought s p (span_events p len ds to row ++ name_events s p m.dirty len ds to) (moved s p to)
   moved_brought =
       let done = moving s p len ds from to m law near quiet alive wanted found in
       let (o, old, there, home, is) = done.2.moved in
@@ -141,6 +145,8 @@ module _ (s : State) (law : Law s) (p len ds : ℕ) (from to : Place) (m : Marks
         len = len;
         ds = ds;
         place = to;
+        dirty = is_dirty (read_of (s.cell p));
+        still = refl;
         near = done.3.cell;
         long = ap named_len near;
         bytes = ((λ q. ap (λ (w : World). bytes_in_world (w.object q)) is ∙ bytes_at (world_of s) p o _ there refl q), ap (λ (w : World). w.opened) is);
@@ -163,22 +169,24 @@ module _ (s : State) (law : Law s) (p len ds : ℕ) (place : Place) (m : Marks) 
   bare : IsPtr (Near len ds place no_marks)
   bare = (omega (arith, here.0), omega (arith, here.0), omega (arith, here.0), omega (arith, here.0), omega (arith, here.0))
 
-  unmark_legal : Legal s (Names p (s.cell p) (near_word len ds place))
+  unmark_legal : Legal s (Names p (s.cell p) (near_word m.dirty len ds place))
   unmark_legal = (
     law.cells.cell_range p (λ z. let none : 0 ≡ s.cell p = sym z in absurd (omega (arith, here.1))),
-    (naming.Stays, (len, ds, place, m, near, alive, asked, unwanted, read_back (Near len ds place no_marks) bare), tt),
+    (naming.Stays, (len, ds, place, m, near, alive, asked, unwanted, read_back (Near len ds place (unmarked m.dirty)) bare), tt),
   )
 
-  pub stayed_brought : Brought s p (name_events s p len ds place) (stayed s p)
+  pub stayed_brought : Brought s p (name_events s p m.dirty len ds place) (stayed s p)
   stayed_brought =
       let done = staying s p len ds place m law near asked alive unwanted in
       let is = done.2 in
       record {
-        leads = subst (Leads s (name_events s p len ds place)) (sym (ap (stayed_of s p) near))
-            (leads_one s (Names p (s.cell p) (near_word len ds place)) unmark_legal ((law.cells.cell_read p).0, word_fits (Near len ds place no_marks) bare));
+        leads = subst (Leads s (name_events s p m.dirty len ds place)) (sym (ap (stayed_of s p) near))
+            (leads_one s (Names p (s.cell p) (near_word m.dirty len ds place)) unmark_legal ((law.cells.cell_read p).0, word_fits (Near len ds place (unmarked m.dirty)) bare));
         len = len;
         ds = ds;
         place = place;
+        dirty = is_dirty (read_of (s.cell p));
+        still = refl;
         near = done.3.cell;
         long = ap named_len near;
         bytes = ((λ q. ap (λ (w : World). bytes_in_world (w.object q)) is), ap (λ (w : World). w.opened) is);
@@ -232,18 +240,18 @@ module _ (s : State) (law : Law s) (p len ds : ℕ) (m : Marks) (place : Place) 
   filled_leads : Leads s (span_events p len ds place (s.stored p)) filled
   filled_leads = span_leads s law p len ds place (s.stored p) fits_there.next fits_there.fits head_there (λ k lt. (law.cells.cell_far p len ds m far k lt).0)
 
-  fetch_legal : Legal filled (Names p (s.cell p) (near_word len ds place))
+  fetch_legal : Legal filled (Names p (s.cell p) (near_word false len ds place))
   fetch_legal =
       let last : words_for len - 1 < words_for len = omega (arith, lies) in
-      let may = may_come s p len ds place (s.stored p) inside (m, far, alive) lies.0 far_layout fits_there.next (law.cells.cell_far p len ds m far (words_for len - 1) last).1 (λ _ i lt. refl) (s.cell p) (law.cells.cell_read p).0 (finds_same (s.cell p)) (ap is_dropped far ∙ alive) in
-      subst (λ (cell : ℕ → ℕ). Legal (record filled { cell = cell }) (Names p (s.cell p) (near_word len ds place))) (put_old s.cell p (s.cell p) refl) may.0
+      let may = may_come s p len ds place (s.stored p) inside (m, far, alive) lies.0 far_layout fits_there.next (law.cells.cell_far p len ds m far (words_for len - 1) last).1 (λ _ i lt. refl) (s.cell p) (law.cells.cell_read p).0 (finds_same (s.cell p)) (ap (λ o. stops o o) far ∙ ap (λ b. b || false) alive) in
+      subst (λ (cell : ℕ → ℕ). Legal (record filled { cell = cell }) (Names p (s.cell p) (near_word false len ds place))) (put_old s.cell p (s.cell p) refl) may.0
 
-  fetched_leads : Leads s (span_events p len ds place (s.stored p) ++ name_events s p len ds place) (fetched s p place (s.stored p))
-  fetched_leads = subst (Leads s (span_events p len ds place (s.stored p) ++ name_events s p len ds place)) (sym (ap (fetched_of s p place (s.stored p)) far))
-      (leads_append s filled (after filled (Names p (s.cell p) (near_word len ds place))) (span_events p len ds place (s.stored p)) (name_events s p len ds place) filled_leads
-      (leads_one filled (Names p (s.cell p) (near_word len ds place)) fetch_legal ((law.cells.cell_read p).0, word_fits (Near len ds place no_marks) far_layout)))
+  fetched_leads : Leads s (span_events p len ds place (s.stored p) ++ name_events s p false len ds place) (fetched s p place (s.stored p))
+  fetched_leads = subst (Leads s (span_events p len ds place (s.stored p) ++ name_events s p false len ds place)) (sym (ap (fetched_of s p place (s.stored p)) far))
+      (leads_append s filled (after filled (Names p (s.cell p) (near_word false len ds place))) (span_events p len ds place (s.stored p)) (name_events s p false len ds place) filled_leads
+      (leads_one filled (Names p (s.cell p) (near_word false len ds place)) fetch_legal ((law.cells.cell_read p).0, word_fits (Near len ds place no_marks) far_layout)))
 
-  pub fetched_brought : Brought s p (span_events p len ds place (s.stored p) ++ name_events s p len ds place) (fetched s p place (s.stored p))
+  pub fetched_brought : Brought s p (span_events p len ds place (s.stored p) ++ name_events s p false len ds place) (fetched s p place (s.stored p))
   fetched_brought =
       let done = fetching s p len ds m place (s.stored p) law far alive found (law.cells.cell_far p len ds m far) (λ _ i lt. refl) in
       let (o, bytes, was, home, long, small, same, is) = done.2.come in
@@ -255,6 +263,8 @@ module _ (s : State) (law : Law s) (p len ds : ℕ) (m : Marks) (place : Place) 
         len = len;
         ds = ds;
         place = place;
+        dirty = false;
+        still = sym (ap is_dirty far);
         near = done.3.cell;
         long = ap named_len far;
         bytes = (bytes_but_one (world_of s) (world_of t) p _ (ap (λ (w : World). w.object) is) equal, ap (λ (w : World). w.opened) is);
@@ -277,11 +287,11 @@ MayBring _ = ⊥
 
 near_brought : (s : State) (law : Law s) (p len ds : ℕ) (from place : Place) (m : Marks) (b : Bool) → read_of (s.cell p) ≡ Some (Near len ds from m) → m.moved ≡ true → m.dropped ≡ false → m.evac ≡ b →
     cond b (room s (size_of len) false) (Some from) ≡ Some place →
-    Brought s p (if b then span_events p len ds place (data_at s.word from) ++ name_events s p len ds place else name_events s p len ds place) (cond b (moved s p place) (stayed s p))
+    Brought s p (if b then span_events p len ds place (data_at s.word from) ++ name_events s p m.dirty len ds place else name_events s p m.dirty len ds place) (cond b (moved s p place) (stayed s p))
 near_brought s law p len ds from place m true near asked alive evac found = moved_brought s law p len ds from place m near asked alive evac found
 near_brought s law p len ds from place m false near asked alive evac found =
     let same : from ≡ place = cc in
-    subst (λ at. Brought s p (name_events s p len ds at) (stayed s p)) same (stayed_brought s law p len ds from m near asked alive evac)
+    subst (λ at. Brought s p (name_events s p m.dirty len ds at) (stayed s p)) same (stayed_brought s law p len ds from m near asked alive evac)
 
 brought_of : (s : State) (law : Law s) (p : ℕ) (place : Place) (o : Option PtrWord) → read_of (s.cell p) ≡ o → MayBring o → comes_to_of s p o ≡ Some place →
     Brought s p (come_events_of s p (Some place) o) (come_of s p (Some place) o)

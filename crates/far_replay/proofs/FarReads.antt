@@ -1,13 +1,14 @@
 -- What one read of a heap's far side gave, and what its calls leave of the flaw that is to come.
-use Rattle.std.proofs.Common.{◌≡◌, ◌≢◌, ℕ, zero, suc, ◌-◌, ◌==◌, Bool, true, false, cond, arith, sym, refl, ap, subst, ◌∙◌, Some, None, List, Result, Ok, Err}
-use Rattle.std.proofs.lemmas.Bool.{eqb-true}
+use Rattle.std.proofs.Common.{◌≡◌, ◌≢◌, ℕ, zero, suc, ◌-◌, ◌==◌, ◌⊎◌, inl, inr, Bool, true, false, cond, arith, sym, refl, ap, subst, ◌∙◌, Option, Some, None, List, Result, Ok, Err}
+use Rattle.std.proofs.lemmas.Bool.{cases_eq, eqb-true}
 use Rattle.far_device.specs.FailAt.{Counts, IsFailed, IsPassedOn, MayFail}
 use Rattle.far_device.specs.Liar.{lied, told}
 use Rattle.far_device.specs.Mem.{bytes_at, MemLetsGo, MemReads, MemWrites}
 use Rattle.far_device.specs.declared.fault.DeviceFault.{DeviceFault}
-use Rattle.far_device.specs.declared.fault.DeviceFault.TheVariants.{Device}
+use Rattle.far_device.specs.declared.fault.DeviceFault.TheVariants.{Device, Memory}
 use Rattle.far_device.specs.declared.liar.Lie.{Lie}
 use Rattle.far_device.specs.declared.liar.Lie.TheVariants.{Never}
+use Rattle.far_device.specs.declared.mem.MemDevice.{MemDevice}
 use Rattle.far_replay.specs.Moment.{FarSide}
 use Rattle.far_replay.specs.Spent.{IsLeft}
 
@@ -137,6 +138,34 @@ read_gives d e id held bytes there (Ok raw, passed, is, lie, left) =
 
     ok_is : (x y : List ℕ) → read_bytes x ≡ read_bytes y → x ≡ y
     ok_is x y e = cc
+
+-- ---- a write that was done
+pub written_there : (d e : FarSide) (id : ℕ) (bytes : List ℕ) → FarWrites d id bytes (Ok tt) e → (bytes_at e.inner.inner id ≡ Some bytes) × ((q : ℕ) → q ≢ id → bytes_at e.inner.inner q ≡ bytes_at d.inner.inner q)
+written_there d e id bytes h = let on = passed_on d e write_done _ h.0 (λ odd. let no : write_done ≡ write_fault Device = odd in absurd cc) in (on.0.0, on.0.1)
+
+-- and one that was refused: under each key is what was there
+pub refused_there : (d e : FarSide) (id : ℕ) (bytes : List ℕ) (why : DeviceFault) → FarWrites d id bytes (Err why) e → (q : ℕ) → bytes_at e.inner.inner q ≡ bytes_at d.inner.inner q
+refused_there d e id bytes why h q = by (d.inner.left == 1) h.0 where
+  by : (b : Bool) → cond b (IsFailed d.inner.own d.inner.inner (write_fault why) e.inner.left e.inner.own e.inner.inner) (IsPassedOn d.inner.left d.inner.own e.inner.left e.inner.own (MemWrites d.inner.inner id bytes (Err why) e.inner.inner)) →
+      bytes_at e.inner.inner q ≡ bytes_at d.inner.inner q
+  by true failed = ap (λ m. bytes_at m q) failed.1
+  by false on = ap (λ (held : ℕ → Option (List ℕ)). held q) on.0.1
+
+-- a read leaves what is there under each key, whatever it gave
+mem_read_leaves : (d e : MemDevice) (id : ℕ) (raw : ReadAnswer) → MemReads d id raw e → bytes_at e ≡ bytes_at d
+mem_read_leaves d e id (Ok bytes) h = h.1
+mem_read_leaves d e id (Err Memory) h = h.1
+mem_read_leaves d e id (Err Device) h = h.1
+
+passed_read_leaves : (d e : FarSide) (id : ℕ) (raw : ReadAnswer) → Passed d raw e (MemReads d.inner.inner id raw e.inner.inner) → (q : ℕ) → bytes_at e.inner.inner q ≡ bytes_at d.inner.inner q
+passed_read_leaves d e id raw h q = by (d.inner.left == 1) h where
+  by : (b : Bool) → cond b (IsFailed d.inner.own d.inner.inner raw e.inner.left e.inner.own e.inner.inner) (IsPassedOn d.inner.left d.inner.own e.inner.left e.inner.own (MemReads d.inner.inner id raw e.inner.inner)) →
+      bytes_at e.inner.inner q ≡ bytes_at d.inner.inner q
+  by true failed = ap (λ m. bytes_at m q) failed.1
+  by false on = ap (λ (held : ℕ → Option (List ℕ)). held q) (mem_read_leaves d.inner.inner e.inner.inner id raw on.0)
+
+pub read_leaves : (d e : FarSide) (id : ℕ) (answer : Result (List ℕ) DeviceFault) → FarReads d id answer e → (q : ℕ) → bytes_at e.inner.inner q ≡ bytes_at d.inner.inner q
+read_leaves d e id answer (raw, passed, is, lie, left) q = passed_read_leaves d e id raw passed q
 
 -- a read of something fails only as the call that is to
 pub read_failed : (d e : FarSide) (id : ℕ) (held : List ℕ) → bytes_at d.inner.inner id ≡ Some held → FarReads d id (Err Device) e →

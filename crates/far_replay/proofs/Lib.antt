@@ -13,6 +13,8 @@ pub mod FarReads
 pub mod FarSides
 pub mod Fronts
 pub mod Given
+pub mod Holding
+pub mod HoldingRounds
 pub mod Giving
 pub mod Joining
 pub mod KeptCounts
@@ -32,12 +34,14 @@ pub mod RangeWrites
 pub mod RoundChoices
 pub mod RoundLeads
 pub mod Runs
+pub mod Soiling
 pub mod Spending
 pub mod Spliced
 pub mod Stopping
 pub mod StoreTurns
 pub mod Strays
 pub mod TakingView
+pub mod Told
 pub mod ToldRounds
 pub mod Turns
 pub mod Unbrought

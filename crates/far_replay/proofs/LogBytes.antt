@@ -5,6 +5,7 @@ use Rattle.std.proofs.lemmas.Bool.{cases_eq, cases_lt, eq-eqb, ne_eqb}
 use mathlib.Core.Path.{fun_ext}
 use Rattle.far_word.specs.declared.header.HeadWord.{HeadWord}
 use Rattle.far_word.specs.declared.mark.Mark.{Mark}
+use Rattle.far_word.specs.declared.mark.Marks.{Marks}
 use Rattle.far_word.specs.declared.pointer.Place.{Place}
 use Rattle.far_word.specs.declared.pointer.PtrWord.{PtrWord}
 use Rattle.far_word.specs.declared.pointer.PtrWord.TheVariants.{Free, Near}
@@ -17,7 +18,6 @@ use Rattle.far_word.proofs.PointerLaws.{read_says}
 use Rattle.far_log.specs.declared.span.Span.{Span}
 use Rattle.far_log.specs.Spans.{ds_in, head_len, len_in, pointer_in, span_at, spans_from, spans_in, taken_by}
 use Rattle.far_log.proofs.SpanLaws.{tile_bounds}
-use Rattle.far_core.specs.events.Naming.{no_marks}
 use Rattle.far_core.specs.laws.Observed.{live_bytes, span_for}
 use Rattle.far_core.specs.state.Law.{Law}
 use Rattle.far_core.specs.state.Spans.{is_live, names_place, spans_of, word_in}
@@ -101,17 +101,17 @@ pub names_bare : (s t : State) → ((q : ℕ) → but_evac (read_of (t.cell q)) 
 names_bare s t same q l at = names_but (read_of (t.cell q)) l at ∙ ap (λ o. names_place o l at) (same q) ∙ sym (names_but (read_of (s.cell q)) l at)
 
 -- ---- an object comes to the end of a log
-module _ (s t : State) (law : Law s) (kept : Law t) (p len ds : ℕ) (place : Place) (at_end : place.at ≡ s.tail place.log) (cell : read_of (t.cell p) ≡ Some (Near len ds place no_marks))
+module _ (s t : State) (law : Law s) (kept : Law t) (p len ds : ℕ) (place : Place) {k : Marks} (at_end : place.at ≡ s.tail place.log) (cell : read_of (t.cell p) ≡ Some (Near len ds place k))
     (cells : (q : ℕ) → q ≢ p → t.cell q ≡ s.cell q) (header : t.word (addr place) ≡ head_word p len ds) (words : (a : ℕ) → (a < addr place) ⊎ (addr place + size_of len ≤ a) → t.word a ≡ s.word a)
     (tail : t.tail place.log ≡ s.tail place.log + size_of len) (tails : (l : ℕ) → l ≢ place.log → t.tail l ≡ s.tail l) where
   sound : Sound s
   sound = sound_of s (own_law s law)
 
-  layout : IsPtr (Near len ds place no_marks)
-  layout = (read_says (t.cell p) (Near len ds place no_marks) (kept.cells.cell_read p).0 cell).0
+  layout : IsPtr (Near len ds place k)
+  layout = (read_says (t.cell p) (Near len ds place k) (kept.cells.cell_read p).0 cell).0
 
   inside : p < CELLS * t.mutators
-  inside = kept.cells.cell_range p (λ none. let odd : Some (Near len ds place no_marks) ≡ Some Free = sym cell ∙ ap read_of none ∙ unused in absurd cc)
+  inside = kept.cells.cell_range p (λ none. let odd : Some (Near len ds place k) ≡ Some Free = sym cell ∙ ap read_of none ∙ unused in absurd cc)
 
   abbrev head : HeadWord
   head = record { pointer = p; len = len; ds = ds }

@@ -17,7 +17,7 @@ use Rattle.far_core.specs.events.Legal.{IsNext}
 use Rattle.far_core.specs.state.Law.{Law, in_use}
 use Rattle.far_core.specs.declared.naming.Naming.TheVariants.{Places}
 use Rattle.far_core.specs.events.Name.{after_naming}
-use Rattle.far_core.specs.events.Naming.{naming_of, no_marks}
+use Rattle.far_core.specs.events.Naming.{naming_of, unmarked}
 use Rattle.far_core.proofs.Namings.{naming_only}
 use Rattle.far_core.specs.state.State.{State, put, addr}
 use Rattle.far_core.specs.events.Step.{step_of, is_legal, after, answer, with_span}
@@ -73,7 +73,7 @@ module _ (s : State) (law : Law s) (m p len ds new : ℕ) (place : Place)
     (mutator : m < s.mutators) (low : m * CELLS ≤ p) (high : p < m * CELLS + CELLS) (empty : s.cell p ≡ 0)
     (some : 0 < len) (most : len ≤ LONGEST) (structure : ds < 256)
     (next : IsNext s place) (fits : place.at + size_of len ≤ LOG_WORDS) (here : place.at ≡ s.tail place.log)
-    (says : read_of new ≡ Some (Near len ds place no_marks)) where
+    (says : read_of new ≡ Some (Near len ds place (unmarked true))) where
   -- the log isn't sealed
   not_sealed : s.kind place.log ≢ Sealed
   not_sealed e = shut next.1 where
@@ -158,7 +158,7 @@ module _ (s : State) (law : Law s) (m p len ds new : ℕ) (place : Place)
     name_done = ap (λ b. cond b Done (Word (s.cell p))) (eq-eqb (s.cell p) 0 empty)
 
     -- the cell says where the object lies
-    new_read : read_of (placed.cell p) ≡ Some (Near len ds place no_marks)
+    new_read : read_of (placed.cell p) ≡ Some (Near len ds place (unmarked true))
     new_read = ap read_of (put_same s.cell p new p refl) ∙ says
 
     -- the adoption is legal
@@ -227,11 +227,11 @@ module _ (s : State) (law : Law s) (m p len ds new : ℕ) (place : Place)
   blank_zeros i lt = sym (ap (λ (f : ℕ → ℕ). f (addr place + 1 + i)) puts_row) ∙ zeros_there i lt
 
   -- so does what a book and its owner make
-  pub object_is : new ≡ near_word len ds place → after (placed_by s p len ds place) (Adopt m p) ≡ record (with_span record s { word = blank_word } p new len place) { used = put s.used p true }
+  pub object_is : new ≡ near_word true len ds place → after (placed_by s p len ds place) (Adopt m p) ≡ record (with_span record s { word = blank_word } p new len place) { used = put s.used p true }
   object_is is = ap (λ w. after (after record s { word = blank_word } (Name p 0 w)) (Adopt m p)) (sym is) ∙ ap (λ t. after t (Adopt m p)) (named_so blank_word blank_head blank_zeros)
 
   -- and the book's placing with the owner's event
-  pub placed_end : new ≡ near_word len ds place → (step_of (placed_by s p len ds place) (Adopt m p)).0 ≡ record (with_span record s { word = blank_word } p new len place) { used = put s.used p true }
+  pub placed_end : new ≡ near_word true len ds place → (step_of (placed_by s p len ds place) (Adopt m p)).0 ≡ record (with_span record s { word = blank_word } p new len place) { used = put s.used p true }
   placed_end is =
       ap (λ w. (step_of (after record s { word = blank_word } (Name p 0 w)) (Adopt m p)).0) (sym is)
       ∙ ap (λ t. (step_of t (Adopt m p)).0) (named_so blank_word blank_head blank_zeros)

@@ -43,7 +43,7 @@ module _ (now : Moment) (r : Reply) (after : Moment) (P : Command → Type 0)
   by_outcome c (Serves, h) = served c h
   by_outcome c (Refuses why turns objects, h) = by_stop why turns objects now r after P (writes why) (reads why) (views why) (leaves why objects) (rounds why turns objects) c h
   by_outcome c (Lacks turns objects, h) = by_stop Memory turns objects now r after P (writes Memory) (reads Memory) (views Memory) (leaves Memory objects) (rounds Memory turns objects) c h
-  by_outcome c (Gives row, h) = by_lie row now r after P (misled row) c h
+  by_outcome c (Gives row inverts, h) = by_lie row now r after P (misled row) c h
 
 -- a command that asks the outside for nothing is served
 abbrev pub AsksNothing : Command → Type 0

@@ -9,7 +9,7 @@ use Rattle.far_word.specs.Sizes.{size_of}
 use Rattle.far_word.proofs.PointerLaws.{read_back}
 use Rattle.far_core.specs.declared.event.Event.TheVariants.{Adopt}
 use Rattle.far_core.specs.declared.event.Reply.{Reply}
-use Rattle.far_core.specs.events.Naming.{no_marks}
+use Rattle.far_core.specs.events.Naming.{unmarked}
 use Rattle.far_core.specs.events.Step.{step_of}
 use Rattle.far_core.specs.state.Law.{Law}
 use Rattle.far_core.specs.state.Room.{room}
@@ -38,8 +38,8 @@ pub object_made : (s t u : State) (r : Reply) (m p len ds : ℕ) (place : Place)
     u ≡ with_new s m len ds (Some p) (room s (size_of len) true)
 object_made s t u r m p len ds place law within lowest some most structure found is adopted =
     let there = room_next s (size_of len) place law (omega arith) found in
-    let reads = read_back (Near len ds place no_marks) (some, most, structure, omega (arith, there.next.0, law.shape.few_logs), there.fits) in
+    let reads = read_back (Near len ds place (unmarked true)) (some, most, structure, omega (arith, there.next.0, law.shape.few_logs), there.fits) in
     ap (λ (x : State × Reply). x.0) adopted ∙ ap (λ x. (step_of x (Adopt m p)).0) is
-    ∙ placed_end s law m p len ds (near_word len ds place) place within (omega (arith, lowest.0)) (omega (arith, lowest.0)) lowest.1 some most structure there.next there.fits there.here reads refl
-    ∙ sym (object_is s law m p len ds (near_word len ds place) place within (omega (arith, lowest.0)) (omega (arith, lowest.0)) lowest.1 some most structure there.next there.fits there.here reads refl)
+    ∙ placed_end s law m p len ds (near_word true len ds place) place within (omega (arith, lowest.0)) (omega (arith, lowest.0)) lowest.1 some most structure there.next there.fits there.here reads refl
+    ∙ sym (object_is s law m p len ds (near_word true len ds place) place within (omega (arith, lowest.0)) (omega (arith, lowest.0)) lowest.1 some most structure there.next there.fits there.here reads refl)
     ∙ sym (ap (with_new s m len ds (Some p)) found)

@@ -17,6 +17,7 @@ use Rattle.far_word.proofs.PointerLaws.{read_says}
 use Rattle.far_core.specs.declared.event.Event.{Event}
 use Rattle.far_core.specs.declared.event.Event.TheVariants.{Load as Loads, Store as Stores}
 use Rattle.far_core.specs.events.Ranges.{stores}
+use Rattle.far_core.specs.events.Soil.{after_soil}
 use Rattle.far_core.specs.events.Step.{data_len, is_opened, near_data}
 use Rattle.far_core.specs.state.Law.{Law}
 use Rattle.far_core.specs.state.State.{State}
@@ -34,6 +35,7 @@ use Rattle.far_replay.specs.declared.turn.Access.{Access}
 use Rattle.far_replay.proofs.AloneStates.{data_small}
 use Rattle.far_replay.proofs.Dereferences.{Derefs, derefs}
 use Rattle.far_replay.proofs.RangeWrites.{rows_same}
+use Rattle.far_replay.proofs.Soiling.{soil_bytes, soil_len}
 use Rattle.far_replay.proofs.Spliced.{AreBytes, length-with_range, packed_padded, with_range_bytes}
 use Rattle.far_replay.proofs.Turns.{stores_lead}
 use Rattle.far_replay.proofs.Turns.{Access as Reached}
@@ -93,6 +95,18 @@ module _ (s t : State) (a : Access) (law : Law s) (is : IsAccess s a.owner a.poi
     most = omega (arith, is.inside, is.most);
   }
 
+-- and still once it is soiled
+pub soiled_range : (s t : State) (a : Access) (law : Law s) (is : IsAccess s a.owner a.pointer a.from a.count a) (room : has_no_room s a.owner a.pointer ≡ false) → t ≡ dereferenced s a.owner a.pointer → IsViewed (after_soil t a.pointer) a
+soiled_range s t a law is room to =
+    let led = derefs s a.owner a.pointer law is.opened (uses_own s a.owner a.pointer is.own is.used) room in
+    subst (λ (u : State). IsViewed (after_soil u a.pointer) a) (sym to) record {
+      own = led.view.holds.own;
+      held = ap is_some led.view.holds.rests;
+      some = is.some;
+      inside = omega (arith, led.long, is.inside, soil_len (dereferenced s a.owner a.pointer) led.law a.owner a.pointer led.view.len led.view.place led.view.holds);
+      most = omega (arith, is.inside, is.most);
+    }
+
 -- ---- the stores of a write
 -- an object's bytes with others in place are padded words
 pub with_range_padded : (t : State) (p from : ℕ) (new : List ℕ) → AreBytes new → from + length new ≤ data_len t p → (i : ℕ) → i < words_for (data_len t p) →
@@ -138,12 +152,19 @@ module _ (s t u : State) (a : Access) (new : List ℕ) (law : Law s) (is : IsAcc
   here : Reached s a.owner a.pointer a.from (length new)
   here = record { opened = is.opened; ours = uses_own s a.owner a.pointer is.own is.used; some = omega (arith, long, is.some); within = omega (arith, long, is.inside); room = room }
 
-  pub write_stored : u ≡ after_events t (store_events a.owner a.pointer (first_word a.from) (words_touched a.from a.count) (with_range (data_of t a.pointer) a.from new)) →
+  -- they store its bytes with the new ones in place, whichever state they are read from
+  abbrev written : List ℕ → ℕ → List Event
+  written old n = store_events a.owner a.pointer (first_word a.from) (words_touched a.from n) (with_range old a.from new)
+
+  pub write_stored : u ≡ after_events (after_soil t a.pointer) (store_events a.owner a.pointer (first_word a.from) (words_touched a.from a.count) (with_range (data_of (after_soil t a.pointer) a.pointer) a.from new)) →
       u ≡ with_data (dereferenced s a.owner a.pointer) a.pointer a.from new
   write_stored stored =
+      let there : State = dereferenced s a.owner a.pointer in
+      let led = derefs s a.owner a.pointer law is.opened (uses_own s a.owner a.pointer is.own is.used) room in
       stored
-      ∙ ap (λ (v : State). after_events v (store_events a.owner a.pointer (first_word a.from) (words_touched a.from a.count) (with_range (data_of v a.pointer) a.from new))) to
-      ∙ ap (λ n. after_events (dereferenced s a.owner a.pointer) (store_events a.owner a.pointer (first_word a.from) (words_touched a.from n) (with_range (data_of (dereferenced s a.owner a.pointer) a.pointer) a.from new))) (sym long)
+      ∙ ap (λ (v : State). after_events (after_soil v a.pointer) (written (data_of (after_soil v a.pointer) a.pointer) a.count)) to
+      ∙ ap (λ bytes. after_events (after_soil there a.pointer) (written bytes a.count)) (soil_bytes there led.law a.owner a.pointer led.view.len led.view.place led.view.holds)
+      ∙ ap (λ n. after_events (after_soil there a.pointer) (written (data_of there a.pointer) n)) (sym long)
       ∙ (stores_lead s a.owner a.pointer a.from new law here small).ends
 
 module _ (now : Moment) (a : Access) (is : IsAccess now.core a.owner a.pointer a.from a.count a) (new : List ℕ) (long : length new ≡ a.count) where

@@ -240,7 +240,7 @@ reached_reaches s t law way =
 
 -- ---- what a refused step leaves
 gains_none : (a : Marks) → MayGain a a
-gains_none a = record { hot = λ h. h; moved = λ h. h; evac = refl; dropped = refl }
+gains_none a = record { hot = λ h. h; moved = λ h. h; evac = refl; dropped = refl; dirty = refl }
 
 -- who was seen clear, where nobody was looked at
 pub same_clear : (b : Bool) (Seen : Type 0) → ¬ Seen → (b ≡ true) ↔ ((b ≡ true) ⊎ Seen)

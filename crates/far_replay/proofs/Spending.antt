@@ -1,5 +1,5 @@
 -- What a command spends of the flaw of a heap's device, by what its device's calls leave.
-use Rattle.std.proofs.Common.{◌≡◌, ℕ, zero, suc, refl, sym, subst, ◌∙◌, Result, Err}
+use Rattle.std.proofs.Common.{◌≡◌, ℕ, zero, suc, true, false, refl, sym, subst, ◌∙◌, Result, Err}
 use Rattle.far_device.specs.FailAt.{MayFail}
 use Rattle.far_device.specs.declared.fault.DeviceFault.{DeviceFault}
 use Rattle.far_device.specs.declared.fault.DeviceFault.TheVariants as fault
@@ -18,6 +18,9 @@ use Rattle.far_replay.proofs.FarReads.{NoMore, Passed, failed_leaves, failed_spe
 pub spent_none : (old new : EvacOf Plain FarSide) → NoMore old.book.device new.book.device → SpentBy Serves old new
 spent_none old new x lie n few = (x.lie ∙ few.0, still_left old.book.device new.book.device lie n x few.1)
 
+pub spent_given : (row : ℕ → ℕ) (old new : EvacOf Plain FarSide) → NoMore old.book.device new.book.device → SpentBy (Gives row false) old new
+spent_given row old new x lie n few = (x.lie ∙ few.0, still_left old.book.device new.book.device lie n x few.1)
+
 pub spent_same : (old new : EvacOf Plain FarSide) → new.book.device ≡ old.book.device → SpentBy Serves old new
 spent_same old new same lie n few = subst (λ (d : FarSide). (d.lie ≡ lie) × IsLeft lie d n) (sym same) few
 
@@ -29,7 +32,8 @@ served_last : (lie : Lie) (o : Outside) (n : ℕ) (between new : EvacOf Plain Fa
 served_last lie Serves n between new b h = b lie n h
 served_last lie (Lacks turns objects) n between new b h = b lie n h
 served_last lie (Refuses why turns objects) (suc n) between new b h = (h.0, b lie n h.1)
-served_last lie (Gives row) (suc n) between new b h = (h.0, b lie n h.1)
+served_last lie (Gives row false) n between new b h = b lie n h
+served_last lie (Gives row true) (suc n) between new b h = (h.0, b lie n h.1)
 served_last lie _ zero between new b h = absurd h
 
 pub spent_last : (o : Outside) (old between new : EvacOf Plain FarSide) → SpentBy o old between → SpentBy Serves between new → SpentBy o old new
@@ -64,8 +68,8 @@ module _ (old new : EvacOf Plain FarSide) (x : NoMore old.book.device new.book.d
     by zero few = absurd (none_left old.book.device.left one few.1)
     by (suc n) few = (refl, (x.lie ∙ is, (x.fails 0 few.0, over n)))
 
-  pub spent_flip : (row : ℕ → ℕ) → old.book.device.lie ≡ Flip → SpentBy (Gives row) old new
-  spent_flip row is lie n few = subst (λ l. Spends l (Gives row) n new) (sym is ∙ few.0) (by n (subst (λ l. IsLeft l old.book.device n) (sym few.0 ∙ is) few.1)) where
-    by : (n : ℕ) → IsLeft Flip old.book.device n → Spends Flip (Gives row) n new
+  pub spent_flip : (row : ℕ → ℕ) → old.book.device.lie ≡ Flip → SpentBy (Gives row true) old new
+  spent_flip row is lie n few = subst (λ l. Spends l (Gives row true) n new) (sym is ∙ few.0) (by n (subst (λ l. IsLeft l old.book.device n) (sym few.0 ∙ is) few.1)) where
+    by : (n : ℕ) → IsLeft Flip old.book.device n → Spends Flip (Gives row true) n new
     by zero few = absurd (none_left old.book.device.left one few.1)
     by (suc n) few = (tt, (x.lie ∙ is, (x.fails 0 few.0, over n)))

@@ -23,17 +23,19 @@ use Rattle.far_core.specs.laws.Rooms.{IsRoom, RoomIs}
 use Rattle.far_core.specs.state.Law.{Law}
 use Rattle.far_core.specs.state.Room.{room}
 use Rattle.far_core.specs.state.State.{State, put, addr}
+use Rattle.far_core.specs.events.Naming.{unmarked}
+use Rattle.far_core.specs.events.Soil.{after_soil}
 use Rattle.far_core.specs.events.Step.{Fits, is_legal, is_opened, data_len, near_data, after_close, scope_word_of, with_span}
 use Rattle.far_core.proofs.Bounds.{some_of}
 use Rattle.far_core.proofs.KeepPlace.{header}
 use Rattle.far_core.proofs.Owing.{is_test}
 use Rattle.far_core.proofs.RoomLaws.{room_right}
-use Rattle.far_core.proofs.Put.{put_same, put_old}
+use Rattle.far_core.proofs.Put.{put_same, put_old, put_other}
 use Rattle.far_replay.specs.Moment.{Moment, moment_of}
 use Rattle.far_text.specs.Command.{Command, New, Open, Write, Read, Close, Where, Drop, View, Try, Epoch, Mutator, Book, Evacuator}
 use Rattle.far_replay.specs.EventRows.{after_events, AllSucceed}
 use Rattle.far_replay.specs.Between.{Between}
-use Rattle.far_replay.specs.Events.{new_events, zero_puts, open_events, view_events, sought_events, dereference_events, first_word, words_touched, load_events, starts_inside, ends_inside, part_events, store_events, drop_events, turn_events, refused_events, events_for, IsNoStep}
+use Rattle.far_replay.specs.Events.{new_events, zero_puts, open_events, view_events, sought_events, dereference_events, first_word, words_touched, load_events, starts_inside, ends_inside, part_events, soil_events, store_events, drop_events, turn_events, refused_events, events_for, IsNoStep}
 use Rattle.far_replay.specs.Objects.{uses, object_len, data_of, with_range, lowest_cell, is_range}
 use Rattle.far_replay.specs.Dereference.{comes_to, dereferenced, has_no_room, sought}
 use Rattle.far_replay.specs.Effects.{near_word}
@@ -48,11 +50,12 @@ use Rattle.far_replay.proofs.NewTurns.{new_succeeds, new_between, new_end, objec
 use Rattle.far_text.proofs.Each.{Each, Each-append, Each-row}
 use Rattle.far_replay.proofs.Spliced.{AreBytes, with_range_bytes, length-with_range, packed_padded, packed_wide}
 use Rattle.far_replay.proofs.StoreTurns.{stores_go, stores_end}
+use Rattle.far_replay.proofs.Soiling.{soil_data, soil_holds, soil_law, soil_leads, soil_len}
 use Rattle.far_replay.proofs.RangeWrites.{object_padded}
 use Rattle.far_replay.proofs.WriteEnds.{row_whole}
 use Rattle.far_replay.proofs.Dereferences.{Derefs, derefs, sought_between, sought_leads, view_leads}
 use Rattle.far_replay.proofs.Leading.{Leads, leads_append, leads_nowhere}
-use Rattle.far_replay.proofs.Views.{view_between}
+use Rattle.far_replay.proofs.Views.{Viewed, between_by, view_between}
 
 -- ---- what no refusal says
 -- four causes that aren't there
@@ -139,10 +142,10 @@ module _ (s : State) (m p from count : ℕ) (law : Law s) (access : Access s m p
   read_leads = leads_append s here here (dereference_events s m p) (load_events m p (first_word from) (words_touched from count)) led.leads loads_lead
 
   -- ---- writes
-  -- a load that is made or not
-  part_lead : (b : Bool) (i : ℕ) → (b ≡ true → i < words_for (data_len here p)) → Leads here (if b then Loads m p i ∷ [] else []) here
-  part_lead true i inside = record { succeed = first_succeeds here (Loads m p i) [] (load_legal here here m p led.view i (inside refl)) tt tt; fit = (tt, tt); ends = load_stays here m p i }
-  part_lead false i inside = leads_nowhere here
+  -- a load that is made or not, where the object is held
+  part_lead : (u : State) → Viewed here u m p → (b : Bool) (i : ℕ) → (b ≡ true → i < words_for (data_len here p)) → Leads u (if b then Loads m p i ∷ [] else []) u
+  part_lead u view true i inside = record { succeed = first_succeeds u (Loads m p i) [] (load_legal here u m p view i (inside refl)) tt tt; fit = (tt, tt); ends = load_stays u m p i }
+  part_lead u view false i inside = leads_nowhere u
 
   -- the first word that is changed in part is the object's
   first_part_inside : starts_inside from count ≡ true → from / 8 < words_for (data_len here p)
@@ -155,9 +158,9 @@ module _ (s : State) (m p from count : ℕ) (law : Law s) (access : Access s m p
       omega (arith, access.within, access.some, led.long)
 
   -- the loads of words that are changed in part leave the state
-  pub parts_lead : Leads here (part_events m p from count) here
-  parts_lead = leads_append here here here (if starts_inside from count then Loads m p (from / 8) ∷ [] else []) (if ends_inside from count then Loads m p ((from + count) / 8) ∷ [] else [])
-      (part_lead (starts_inside from count) (from / 8) first_part_inside) (part_lead (ends_inside from count) ((from + count) / 8) last_part_inside)
+  pub parts_lead : (u : State) → Viewed here u m p → Leads u (part_events m p from count) u
+  parts_lead u view = leads_append u u u (if starts_inside from count then Loads m p (from / 8) ∷ [] else []) (if ends_inside from count then Loads m p ((from + count) / 8) ∷ [] else [])
+      (part_lead u view (starts_inside from count) (from / 8) first_part_inside) (part_lead u view (ends_inside from count) ((from + count) / 8) last_part_inside)
 
 -- a write of bytes
 module _ (s : State) (m p from : ℕ) (bytes : List ℕ) (law : Law s) (access : Access s m p from (length bytes)) (small : (k : ℕ) → get_or bytes k 0 < 256) where
@@ -201,23 +204,53 @@ module _ (s : State) (m p from : ℕ) (bytes : List ℕ) (law : Law s) (access :
   store_inside : (i : ℕ) → i < words_touched from (length bytes) → first_word from + i < words_for led_there.view.len
   store_inside i lt = subst (λ n. first_word from + i < words_for n) led_there.view.long (touched_inside s m p from (length bytes) law access i lt)
 
+  -- the state once the object is soiled
+  abbrev ready : State
+  ready = after_soil there p
+
+  soiled_law : Law ready
+  soiled_law = soil_law there led_there.law m p led_there.view.len led_there.view.place led_there.view.holds
+
   -- the stores make its words those of the new bytes
-  pub stores_lead : Leads there stores (with_data there p from bytes)
+  pub stores_lead : Leads ready stores (with_data there p from bytes)
   stores_lead =
       let view = led_there.view in
       let padded : (i : ℕ) → i < words_for view.len → packed_word changed i < 2 ^ (8 * (view.len - 8 * i)) = (λ i lt. packed_padded changed view.len i changed_bytes changed_long lt) in
+      let holds = soil_holds there led_there.law m p view.len view.place view.holds in
+      let soiled : ready.soiled p ≡ true = put_same there.soiled p true p refl in
+      let first : ℕ = first_word from in
       record {
-        succeed = stores_go m p view.len view.place (packed_word changed) wide padded (words_touched from (length bytes)) (first_word from) there led_there.law view.holds store_inside;
+        succeed = stores_go m p view.len view.place (packed_word changed) wide padded (words_touched from (length bytes)) (first_word from) ready soiled_law holds soiled store_inside;
         fit = Each-row Fits (λ i. Stores m p i (packed_word changed i)) (first_word from) (words_touched from (length bytes)) (λ i _. wide (first_word from + i));
-        ends = stores_end m p view.len view.place (packed_word changed) wide padded (words_touched from (length bytes)) (first_word from) there led_there.law view.holds store_inside
-            ∙ ap (λ (f : ℕ → ℕ). record there { word = f })
+        ends = stores_end m p view.len view.place (packed_word changed) wide padded (words_touched from (length bytes)) (first_word from) ready soiled_law holds soiled store_inside
+            ∙ ap (λ d. record ready { word = with_row there.word (d + first) (words_touched from (length bytes)) (λ i. packed_word changed (first + i)) })
+            (soil_data there led_there.law m p view.len view.place view.holds)
+            ∙ ap (λ (f : ℕ → ℕ). record ready { word = f })
             (row_whole there.word (near_data (read_of (there.cell p))) (data_len there p) from bytes (omega (arith, access.within, led_there.long)) access.some led_there.law.spans.word_fits (object_padded there led_there.law p));
       }
 
+  -- the object is soiled
+  soiling_leads : Leads there (soil_events there m p) ready
+  soiling_leads = soil_leads there led_there.law m p led_there.view.len led_there.view.place led_there.view.holds
+
+  -- the loads of words that are changed in part leave that too
+  ready_parts : Leads ready (part_events m p from (length bytes)) ready
+  ready_parts = parts_lead s m p from (length bytes) law access ready record {
+    len = led_there.view.len;
+    place = led_there.view.place;
+    holds = soil_holds there led_there.law m p led_there.view.len led_there.view.place led_there.view.holds;
+    words = refl;
+    same_data = soil_data there led_there.law m p led_there.view.len led_there.view.place led_there.view.holds;
+    same_len = soil_len there led_there.law m p led_there.view.len led_there.view.place led_there.view.holds;
+    long = led_there.view.long;
+  }
+
   -- the events of a write
-  pub write_leads : Leads s (dereference_events s m p ++ part_events m p from (length bytes) ++ stores) (with_data there p from bytes)
-  write_leads = leads_append s there (with_data there p from bytes) (dereference_events s m p ++ part_events m p from (length bytes)) stores
-      (leads_append s there there (dereference_events s m p) (part_events m p from (length bytes)) led_there.leads (parts_lead s m p from (length bytes) law access)) stores_lead
+  pub write_leads : Leads s (dereference_events s m p ++ soil_events there m p ++ part_events m p from (length bytes) ++ stores) (with_data there p from bytes)
+  write_leads =
+      leads_append s ready (with_data there p from bytes) (dereference_events s m p ++ soil_events there m p ++ part_events m p from (length bytes)) stores
+      (leads_append s ready ready (dereference_events s m p ++ soil_events there m p) (part_events m p from (length bytes))
+      (leads_append s there ready (dereference_events s m p) (soil_events there m p) led_there.leads soiling_leads) ready_parts) stores_lead
 
 -- ---- a new object
 -- where a new span may stand
@@ -235,9 +268,9 @@ room_next s size place law short found =
       ends (inl here) = here.1
       ends (inr empty) = empty.1 ∙ sym (law.logs.free_tail place.log empty.0)
 
--- no marks
+-- no marks but DIRTY
 abbrev clean : Marks
-clean = record { hot = false; evac = false; moved = false; dropped = false }
+clean = unmarked true
 
 -- what the events of a command do: they succeed, keep the law and what holds between commands, and end in this state
 pub record Turned (s : State) (es : List Event) (t : State) : Type 0 where
@@ -292,10 +325,10 @@ new_parts s m len ds p place law e cell found =
 
 -- such an object, written out
 pub new_object_is : (s : State) (m len ds p : ℕ) (place : Place) → Law s → refusal (moment_of s) (Mutator m (New len ds)) ≡ None → lowest_cell s m ≡ Some p → room s (size_of len) true ≡ Some place →
-    with_object s m p len ds place ≡ record (with_span record s { word = with_row (put s.word (addr place) (head_word p len ds)) (addr place + 1) (words_for len) (λ _. 0) } p (near_word len ds place) len place) { used = put s.used p true }
+    with_object s m p len ds place ≡ record (with_span record s { word = with_row (put s.word (addr place) (head_word p len ds)) (addr place + 1) (words_for len) (λ _. 0) } p (near_word true len ds place) len place) { used = put s.used p true }
 new_object_is s m len ds p place law e cell found =
     let parts = new_parts s m len ds p place law e cell found in
-    object_is s law m p len ds (near_word len ds place) place parts.owner parts.low parts.high parts.free parts.some parts.most parts.structure parts.room.next parts.room.fits parts.room.here (read_back (Near len ds place clean) parts.lies) refl
+    object_is s law m p len ds (near_word true len ds place) place parts.owner parts.low parts.high parts.free parts.some parts.most parts.structure parts.room.next parts.room.fits parts.room.here (read_back (Near len ds place clean) parts.lies) refl
 
 -- its events
 new_turned : (s : State) (m len ds : ℕ) → Law s → Between s → refusal (moment_of s) (Mutator m (New len ds)) ≡ None →
@@ -306,7 +339,7 @@ new_turned s m len ds law between e =
     let found = some_of (room s (size_of len) true) tests.3 in
     let p : ℕ = cell.0 in
     let place : Place = found.0 in
-    let new : ℕ = near_word len ds place in
+    let new : ℕ = near_word true len ds place in
     let parts = new_parts s m len ds p place law e cell.1 found.1 in
     let reads : read_of new ≡ Some (Near len ds place clean) = read_back (Near len ds place clean) parts.lies in
     let puts : List Event = Puts place.log place.at (head_word p len ds) ∷ zero_puts place (words_for len) in
@@ -329,8 +362,8 @@ new_turned s m len ds law between e =
 
 -- ---- scopes
 -- other scopes and epochs leave what holds between commands
-between_scopes : (s : State) (scope : ℕ → ℕ) (remembered : ℕ → Option ℕ) (held : ℕ → Option Place) → Between s → Between record s { scope = scope; remembered = remembered; held = held }
-between_scopes s scope remembered held between = record { named = between.named }
+between_scopes : (s : State) (scope : ℕ → ℕ) (remembered : ℕ → Option ℕ) (held : ℕ → Option Place) (soiled : ℕ → Bool) → Between s → Between record s { scope = scope; remembered = remembered; held = held; soiled = soiled }
+between_scopes s scope remembered held soiled between = record { named = between.named }
 
 -- a scope that isn't open is closed
 pub scope_is_shut : (s : State) (m : ℕ) → nat_lt m s.mutators ≡ true → is_opened s m ≡ false → (m < s.mutators) × (s.scope m ≡ 0)
@@ -343,7 +376,7 @@ read_turned s m law between closed_now =
     let end : after_events s (ReadsEpoch m ∷ []) ≡ with_epoch s m = made_first s (ReadsEpoch m) [] legal in
     record {
       succeed = first_succeeds s (ReadsEpoch m) [] legal tt tt;
-      between = subst Between (sym end) (between_scopes s s.scope (put s.remembered m (Some s.epoch)) s.held between);
+      between = subst Between (sym end) (between_scopes s s.scope (put s.remembered m (Some s.epoch)) s.held s.soiled between);
       law = made_law s (ReadsEpoch m ∷ []) law (tt, tt);
       fit = (tt, tt);
       ends = end;
@@ -357,7 +390,7 @@ begin_turned s m e law between closed_now is =
     let end : after_events s (Opens m ∷ []) ≡ record s { scope = put s.scope m (scope_word_of (s.remembered m)) } = made_first s (Opens m) [] legal in
     record {
       succeed = first_succeeds s (Opens m) [] legal tt tt;
-      between = subst Between (sym end) (between_scopes s (put s.scope m (scope_word_of (s.remembered m))) s.remembered s.held between);
+      between = subst Between (sym end) (between_scopes s (put s.scope m (scope_word_of (s.remembered m))) s.remembered s.held s.soiled between);
       law = made_law s (Opens m ∷ []) law (tt, tt);
       fit = (tt, tt);
       ends = end ∙ ap (λ (o : Option ℕ). record s { scope = put s.scope m (scope_word_of o) }) is
@@ -375,7 +408,7 @@ begin_anew s m law between closed_now =
     let end : after_events s (ReadsEpoch m ∷ Opens m ∷ []) ≡ record read { scope = put s.scope m (scope_word_of (read.remembered m)) } = made_first s (ReadsEpoch m) (Opens m ∷ []) first_legal ∙ made_first read (Opens m) [] legal in
     record {
       succeed = first_succeeds s (ReadsEpoch m) (Opens m ∷ []) first_legal tt (first_succeeds read (Opens m) [] legal tt tt);
-      between = subst Between (sym end) (between_scopes s (put s.scope m (scope_word_of (read.remembered m))) (put s.remembered m (Some s.epoch)) s.held between);
+      between = subst Between (sym end) (between_scopes s (put s.scope m (scope_word_of (read.remembered m))) (put s.remembered m (Some s.epoch)) s.held s.soiled between);
       law = made_law s (ReadsEpoch m ∷ Opens m ∷ []) law (tt, (tt, tt));
       fit = (tt, (tt, tt));
       ends = end ∙ ap (λ (o : Option ℕ). record read { scope = put s.scope m (scope_word_of o) }) now;
@@ -395,10 +428,9 @@ close_turned : (s : State) (m : ℕ) → Law s → Between s → is_opened s m �
 close_turned s m law between opened =
     let legal : is_legal s (Closes m) ≡ true = opened in
     let end : after_events s (Closes m ∷ []) ≡ after_close s m = made_first s (Closes m) [] legal in
-    let held : ℕ → Option Place = λ p. cond (nat_eq (p / CELLS) m) None (s.held p) in
     record {
       succeed = first_succeeds s (Closes m) [] legal tt tt;
-      between = subst Between (sym end) (between_scopes s (put s.scope m 0) (put s.remembered m None) (λ p. cond (nat_eq (p / CELLS) m) None (s.held p)) between);
+      between = subst Between (sym end) (between_scopes s (put s.scope m 0) (put s.remembered m None) (λ p. cond (nat_eq (p / CELLS) m) None (s.held p)) (λ p. cond (nat_eq (p / CELLS) m) false (s.soiled p)) between);
       law = made_law s (Closes m ∷ []) law (tt, tt);
       fit = (tt, tt);
       ends = end;
@@ -442,8 +474,11 @@ command_turned now (Mutator m Epoch) told law between small e =
     read_turned now.core m law between (scope_is_shut now.core m h.0 h.1)
 command_turned now (Mutator m (Write p from bytes)) told law between small e =
     let access = access_fact now.core m p from (length bytes) e in
-    let after = (led now.core m p from (length bytes) law access).between between in
-    turned_by now.core (with_data (dereferenced now.core m p) p from bytes) (turn_events now (Mutator m (Write p from bytes))) law (write_leads now.core m p from bytes law access small) record { named = after.named }
+    let there : State = dereferenced now.core m p in
+    let view = led now.core m p from (length bytes) law access in
+    let used : there.used p ≡ true = view.law.views.held_used p (ap is_some view.view.holds.rests) in
+    turned_by now.core (with_data there p from bytes) (turn_events now (Mutator m (Write p from bytes))) law (write_leads now.core m p from bytes law access small)
+    (between_by there (with_data there p from bytes) p refl (λ q ne. put_other there.cell p _ q ne) used (view.between between))
 command_turned now (Mutator m (Read p from len)) told law between small e =
     let access = access_fact now.core m p from len e in
     turned_by now.core (dereferenced now.core m p) (turn_events now (Mutator m (Read p from len))) law (read_leads now.core m p from len law access) ((led now.core m p from len law access).between between)

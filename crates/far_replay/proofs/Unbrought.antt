@@ -15,7 +15,8 @@ use Rattle.far_core.proofs.Cells.{map_mark}
 use Rattle.far_hand.specs.declared.plain.Plain.{Plain}
 use Rattle.far_evac.specs.EvacOf.{EvacOf}
 use Rattle.far_text.specs.Command.{Command, Mutator, Try}
-use Rattle.far_replay.specs.Commanded.{CommandedBy, KeepsFar, Serves, Served, Stopped, Unbrought}
+use Rattle.far_replay.specs.Commanded.{AsksFor, CommandedBy, KeepsFar, Serves, Served, Stopped, Unbrought}
+use Rattle.far_replay.specs.Far.{FarBytes, HoldsSame, ToldBy, far_in}
 use Rattle.far_replay.specs.Dereference.{RefusesBringing, RefusesView, comes_to, has_no_room, says_near, sought, sought_of}
 use Rattle.far_replay.specs.Effects.{is_slow, with_view}
 use Rattle.far_replay.specs.Interpreter.{refuser}
@@ -26,6 +27,7 @@ use Rattle.far_replay.specs.Turn.{effect, first_cause, refusal, refused_effect, 
 use Rattle.far_replay.proofs.Bringing.{SaysFar, far_is}
 use Rattle.far_replay.proofs.RangeTurns.{opened_inside, uses_own}
 use Rattle.far_replay.proofs.Views.{pin_read, slow_view}
+use Rattle.far_replay.proofs.Told.{asks_hold, refused_told}
 use Rattle.far_replay.proofs.WithCore.{moment_joined, same_order}
 use Rattle.far_replay.proofs.Asides.{sought_current}
 
@@ -49,6 +51,10 @@ module _ (s : State) (m p : ℕ) (law : Law s) (opened : is_opened s m ≡ true)
   pub far_before : (t : State) → t ≡ with_view s p → says_near (read_of (t.cell p)) ≡ false → says_near (read_of (s.cell p)) ≡ false
   far_before t is far = sym (near_hot (read_of (s.cell p))) ∙ sym (ap says_near pinned) ∙ sym (ap (λ (u : State). says_near (read_of (u.cell p))) is) ∙ far
 
+  -- and so the other way round
+  pub far_after : says_near (read_of (s.cell p)) ≡ false → says_near (read_of ((with_view s p).cell p)) ≡ false
+  far_after far = ap says_near pinned ∙ near_hot (read_of (s.cell p)) ∙ far
+
   -- and isn't asked for
   far_sought : (o : SaysFar (read_of (s.cell p))) → sought s m p ≡ with_view s p
   far_sought o = ap (sought_of (with_view s p) m p) (pinned ∙ ap (map_mark Hot) o.is)
@@ -60,6 +66,13 @@ refuser_stops Device now c r next keeps h = h
 refuser_stops Damaged now c r next keeps h = h
 refuser_stops Memory now c r next keeps h = h
 refuser_stops why now c r next keeps h = absurd keeps
+
+-- and tells nothing then
+refuser_told : (why : Refusal) (now : Moment) (c : Command) (held : FarBytes) → KeepsFar why → ToldBy (refuser why) now c held
+refuser_told Device now c held keeps = tt
+refuser_told Damaged now c held keeps = tt
+refuser_told Memory now c held keeps = tt
+refuser_told why now c held keeps = absurd keeps
 
 -- there was room, and nothing has changed but by the pin and the asking
 kept_far : (s t : State) (p : ℕ) (why : Refusal) → KeepsFar why → RefusesBringing s p why t → IsSome (comes_to s p) × (t ≡ s)
@@ -126,6 +139,7 @@ room_or_far s t m p why h = absurd h.1
 
 -- a command sought its object in vain, and would have been refused for want of room alone
 pub record IsVain (old new : EvacOf Plain FarSide) (m p : ℕ) (c : Command) (why : Refusal) : Type 0 where
+  pub asks : AsksFor m p c
   pub opened : is_opened (state_in old) m ≡ true
   pub own : p / CELLS ≡ m
   pub used : (state_in old).used p ≡ true
@@ -137,13 +151,23 @@ pub record IsVain (old new : EvacOf Plain FarSide) (m p : ℕ) (c : Command) (wh
   pub shut : new.book.order ≡ old.book.order
   pub round : KeepsRound old new
   pub spent : SpentBy (refuser why) old new
+  pub same : HoldsSame old new
 
 module _ {old new : EvacOf Plain FarSide} {m p : ℕ} {c : Command} {why : Refusal} (x : IsVain old new m p c why) where
   within : why ≡ NoRoom → Makes old c (Refused why) new
   within room =
       let refuses = subst (λ w. RefusesView (state_in old) m p w (state_in new)) room x.refuses in
-      let served = unplaced (moment_in old) (moment_in new) m p c (x.cause true (lacks_room (state_in old) (state_in new) m p refuses)) x.leaves refuses x.shut x.round.0 x.round.1 x.round.2 in
-      subst (λ w. Makes old c (Refused w) new) (sym room) (Serves, served, subst (λ w. SpentBy (refuser w) old new) room x.spent)
+      let cause = x.cause true (lacks_room (state_in old) (state_in new) m p refuses) in
+      let served = unplaced (moment_in old) (moment_in new) m p c cause x.leaves refuses x.shut x.round.0 x.round.1 x.round.2 in
+      subst (λ w. Makes old c (Refused w) new) (sym room) (
+        Serves,
+        record {
+          commanded = served;
+          spent = subst (λ w. SpentBy (refuser w) old new) room x.spent;
+          holds = asks_hold m p c (state_in old) (state_in new) (far_in old) (far_in new) x.asks x.same;
+          told = refused_told (moment_in old) c (far_in old) NoRoom cause;
+        },
+      )
 
   outside : KeepsFar why → Makes old c (Refused why) new
   outside keeps =
@@ -151,8 +175,15 @@ module _ {old new : EvacOf Plain FarSide} {m p : ℕ} {c : Command} {why : Refus
       let next : Moment = moment_in new in
       let law = old.book.near.core.law in
       let room = has_room now next m p law x.opened x.own x.used why keeps x.refuses (x.far keeps) x.shut x.round.0 x.round.1 x.round.2 in
-      let stops = unbrought now next m p law x.opened x.own x.used why keeps x.refuses (x.far keeps) x.shut x.round.0 x.round.1 x.round.2 c (x.cause false room) in
-      (refuser why, refuser_stops why now c (Refused why) next keeps (x.stops stops), x.spent)
+      let stops = unbrought now next m p law x.opened x.own x.used why keeps x.refuses (x.far keeps) x.shut x.round.0 x.round.1 x.round.2 c (x.cause false room) in (
+        refuser why,
+        record {
+          commanded = refuser_stops why now c (Refused why) next keeps (x.stops stops);
+          spent = x.spent;
+          holds = asks_hold m p c (state_in old) (state_in new) (far_in old) (far_in new) x.asks x.same;
+          told = refuser_told why now c (far_in old) keeps;
+        },
+      )
 
   pub vain_made : Makes old c (Refused why) new
   vain_made = elim (room_or_far (state_in old) (state_in new) m p why x.refuses) [

@@ -23,7 +23,7 @@ use Rattle.far_core.proofs.Guards.{open_fact}
 use Rattle.far_core.proofs.Owing.{is_test, never_refused}
 use Rattle.far_core.proofs.Put.{put_same, put_other}
 use Rattle.far_replay.specs.Effects.{with_view, is_slow}
-use Rattle.far_replay.specs.Dereference.{come, comes_to, dereferenced, has_no_room, sought}
+use Rattle.far_replay.specs.Dereference.{come, comes_to, dereferenced, has_no_room, says_near, sought}
 use Rattle.far_replay.specs.EventRows.{after_events, AllSucceed, AtHand}
 use Rattle.far_replay.specs.Between.{Between}
 use Rattle.far_replay.specs.Events.{view_events}
@@ -168,6 +168,13 @@ seen_of s p None None e f fast = absurd cc
 
 pub fast_seen : (s : State) (p : ℕ) → is_slow s p ≡ false → Seen s p
 fast_seen s p fast = seen_of s p (s.held p) (place_to_view (read_of (s.cell p))) refl refl fast
+
+-- so the object lies near
+pub fast_near : (s : State) (p : ℕ) → Law s → is_slow s p ≡ false → says_near (read_of (s.cell p)) ≡ true
+fast_near s p law fast = by (fast_seen s p fast) where
+  by : Seen s p → says_near (read_of (s.cell p)) ≡ true
+  by (Already place e) = ap says_near (held_near (read_of (s.cell p)) place (law.views.held_names p place e)).near
+  by (Anew place e can_view) = ap says_near (view_near (read_of (s.cell p)) place can_view).near
 
 -- the state after the view
 pub already_is : (s : State) (p : ℕ) (place : Place) → s.held p ≡ Some place → with_view s p ≡ s

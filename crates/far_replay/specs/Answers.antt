@@ -1,12 +1,11 @@
 -- What is written for a text.
-use Rattle.std.specs.Prelude.{◌≡◌, ◌⊎◌, ℕ, zero, suc, Bool, true, Option, Some, None, List, [], ◌∷◌, ◌++◌, Result, Ok, Err, if◌then◌else◌}
+use Rattle.std.specs.Prelude.{◌≡◌, ◌⊎◌, ℕ, zero, suc, Bool, true, false, Option, Some, None, List, [], ◌∷◌, ◌++◌, Result, Ok, Err, if◌then◌else◌}
 use Rattle.std.specs.Bool.{MatchBool}
 use Rattle.std.specs.List.{flat_map}
 use Rattle.std.specs.Io.KnownBytes.{Appends, Keeps}
 use Rattle.far_word.specs.declared.refused.Refused.TheVariants.{Damaged, Device as Failed, Memory, Shape, Syntax}
 use Rattle.far_core.specs.declared.shape.Shape.{Shape as Size}
 use Rattle.far_core.specs.state.Opening.{opening}
-use Rattle.far_core.specs.state.Law.{StoresBack}
 use Rattle.far_core.specs.state.Shape.{is_shape}
 use Rattle.far_device.specs.Liar.{is_honest}
 use Rattle.far_device.specs.declared.liar.Lie.{Lie}
@@ -15,7 +14,8 @@ use Rattle.far_word.specs.Pointer.{read_of}
 use Rattle.far_text.specs.Command.{Command, Device, Flawed, Short, Flip, Trace, Nothing, Heap}
 use Rattle.far_text.specs.Grammar.{trace_of}
 pub use Rattle.far_replay.specs.Commanded.{Commanded, CommandedBy, Outside, Serves, Refuses, Gives, Lacks, Served, Stopped, Unbrought, StopsLeaving, StopsRound, Misled, MisledBy}
-use Rattle.far_replay.specs.Moment.{Moment, as_if_stored, moment_of}
+use Rattle.far_replay.specs.Far.{FarBytes, HoldsBy, ToldBy}
+use Rattle.far_replay.specs.Moment.{KeptBack, Moment, as_if_stored, moment_of}
 use Rattle.far_reply.specs.Reply.{Reply, Done, Refused, reply_text}
 use Rattle.far_replay.specs.declared.running.End.{End}
 use Rattle.far_replay.specs.declared.running.End.TheVariants.{Ran, Refused as Turned}
@@ -41,18 +41,36 @@ AnsweredBy _ now _ _ _ = ⊥
 abbrev pub IsFlaw : Lie → Outside → Type 0
 IsFlaw Never (Refuses why turns objects) = why ≡ Failed
 IsFlaw Shortens (Refuses why turns objects) = why ≡ Damaged
-IsFlaw Inverts (Gives row) = Unit {0}
+IsFlaw Inverts (Gives row inverts) = Unit {0}
 IsFlaw lie o = ⊥
 
--- no more than so many commands come to that; each other one is served, or refused memory
+-- no more than so many commands come to that; each other one is served, refused memory, or given what the device holds as it is
 abbrev pub FlawedAtMost : Lie → ℕ → List Outside → Type 0
 FlawedAtMost lie n [] = Unit {0}
 FlawedAtMost lie n (Serves ∷ os) = FlawedAtMost lie n os
 FlawedAtMost lie n (Lacks turns objects ∷ os) = FlawedAtMost lie n os
 FlawedAtMost lie zero (Refuses why turns objects ∷ os) = ⊥
-FlawedAtMost lie zero (Gives row ∷ os) = ⊥
 FlawedAtMost lie (suc n) (Refuses why turns objects ∷ os) = IsFlaw lie (Refuses why turns objects) × FlawedAtMost lie n os
-FlawedAtMost lie (suc n) (Gives row ∷ os) = IsFlaw lie (Gives row) × FlawedAtMost lie n os
+FlawedAtMost lie n (Gives row false ∷ os) = FlawedAtMost lie n os
+FlawedAtMost lie zero (Gives row true ∷ os) = ⊥
+FlawedAtMost lie (suc n) (Gives row true ∷ os) = IsFlaw lie (Gives row true) × FlawedAtMost lie n os
+
+-- from what a device held on: each command leaves there what it may, and is told of that
+abbrev pub FarAlong : FarBytes → Moment → List Outside → List Command → List Moment → Type 0
+FarAlong held now [] [] [] = Unit {0}
+FarAlong held now (o ∷ os) (c ∷ cs) (after ∷ moments) = (later : FarBytes) × HoldsBy c now.core after.core held later × ToldBy o now c held × FarAlong later after os cs moments
+FarAlong held now os cs moments = ⊥
+
+-- it gave words of an object
+abbrev pub gives_some : List Outside → Bool
+gives_some [] = false
+gives_some (Gives row inverts ∷ os) = true
+gives_some (o ∷ os) = gives_some os
+
+-- what a device made of commands: no more than so many of them come to its flaw. If it gave words, it told them of bytes that it held since some before the first command
+pub record ByDevice (lie : Lie) (n : ℕ) (outside : List Outside) (now : Moment) (cs : List Command) (moments : List Moment) : Type 0 where
+  pub few : FlawedAtMost lie n outside
+  pub along : gives_some outside ≡ true → (held : FarBytes) × FarAlong held now outside cs moments
 
 -- what a heap's device tells in one read, in place of the bytes
 abbrev pub lie_of : Option Device → Lie
@@ -83,21 +101,21 @@ shape_of logs mutators epoch = record { logs = logs; mutators = mutators; epoch 
 abbrev pub first_moment : ℕ → ℕ → ℕ → Bool → Moment
 first_moment logs mutators epoch honest = moment_of (opening (shape_of logs mutators epoch) honest)
 
--- a moment to which a heap in range comes by commands; and also one that has other words stored of an object in use, which are as many as it has where it is far: to whoever reads
--- what a lying device gives they are
+-- a moment to which a heap in range comes by commands; and also one whose device isn't honest, and which has other words stored of an object in use, as many as it has where the device is to
+-- hold bytes of it: to whoever reads what a lying device gives they are
 pub data IsMoment : Moment → Type 0 where
   Begins : {x : Moment} (logs mutators epoch : ℕ) (honest : Bool) → is_shape (shape_of logs mutators epoch) ≡ true → x ≡ first_moment logs mutators epoch honest → IsMoment x
   Comes : {x : Moment} (now : Moment) (c : Command) (r : Reply) → IsMoment now → WritesBytes c → Served now c r x → IsMoment x
-  Stores : {x : Moment} (now : Moment) (p : ℕ) (row : ℕ → ℕ) → IsMoment now → now.core.used p ≡ true → StoresBack row (read_of (now.core.cell p)) → x ≡ as_if_stored now p row → IsMoment x
+  Stores : {x : Moment} (now : Moment) (p : ℕ) (row : ℕ → ℕ) → IsMoment now → now.core.honest ≡ false → now.core.used p ≡ true → KeptBack row (read_of (now.core.cell p)) → x ≡ as_if_stored now p row → IsMoment x
 
 -- the output of what a text is read as: off the grammar that refusal alone; for nothing nothing; for a heap out of range its
--- refusal alone; else `ok`, another for its device if it is said, and the lines of the replies, from the heap's first moment on; one command at most comes to what the device's flaw makes of it, and any of them may be refused memory
+-- refusal alone; else `ok`, another for its device if it is said, and the lines of the replies, from the heap's first moment on; one command at most comes to what the device's flaw makes of it, any may be refused memory, and any may be given what the device holds
 abbrev pub IsOutput : Result Trace ℕ → List ℕ → Type 0
 IsOutput (Err line) output = output ≡ reply_text (Refused (Syntax line))
 IsOutput (Ok Nothing) output = output ≡ []
 IsOutput (Ok (Heap logs mutators epoch device commands)) output =
     MatchBool (is_shape (shape_of logs mutators epoch))
-    ((outside : List Outside) × (replies : List Reply) × (moments : List Moment) × FlawedAtMost (lie_of device) (flaws device) outside
+    ((outside : List Outside) × (replies : List Reply) × (moments : List Moment) × ByDevice (lie_of device) (flaws device) outside (first_moment logs mutators epoch (is_true device)) commands moments
     × AnsweredBy outside (first_moment logs mutators epoch (is_true device)) commands replies moments
     × (output ≡ flat_map reply_text (opened device ++ replies)))
     (output ≡ reply_text (Refused Shape))

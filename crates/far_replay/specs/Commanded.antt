@@ -1,5 +1,5 @@
 -- What one command comes to: it is served; or what is outside the heap, its device or the memory that there is, refuses it in its midst, or gives it other bytes than were stored; and the run goes on.
-use Rattle.std.specs.Prelude.{◌≡◌, ◌≢◌, ℕ, ◌<◌, false, Some, None, IsSome}
+use Rattle.std.specs.Prelude.{◌≡◌, ◌≢◌, ℕ, ◌<◌, Bool, false, Some, None, IsSome}
 use Rattle.far_word.specs.declared.mark.Marks.{Marks}
 use Rattle.far_word.specs.declared.pointer.PtrWord.TheVariants.{Far}
 use Rattle.far_word.specs.declared.refused.Refused.{Refused as Refusal}
@@ -26,11 +26,11 @@ pub record Served (now : Moment) (c : Command) (r : Reply) (after : Moment) : Ty
 
 -- ---- it is refused in its midst
 -- what the outside made of a command: all that was asked; or it refused something, for this reason, after so many turns of a round and after so many objects; or it gave
--- these words of a far object, whatever was stored; or it refused memory, after so many turns of a round and after so many objects
+-- these words of a far object, whatever was stored, and they are what the device holds, or that inverted; or it refused memory, after so many turns of a round and after so many objects
 pub data Outside : Type 0 where
   Serves : Outside
   Refuses : (why : Refusal) (turns objects : ℕ) → Outside
-  Gives : (row : ℕ → ℕ) → Outside
+  Gives : (row : ℕ → ℕ) (inverts : Bool) → Outside
   Lacks : (turns objects : ℕ) → Outside
 
 -- why an object isn't brought: memory was refused, the device failed, or gave another number of bytes. Why one doesn't leave: memory was refused, or the device failed
@@ -120,7 +120,7 @@ MisledBy row now c r after = ⊥
 abbrev pub CommandedBy : Outside → Moment → Command → Reply → Moment → Type 0
 CommandedBy Serves now c r after = Served now c r after
 CommandedBy (Refuses why turns objects) now c r after = Stopped why turns objects now c r after
-CommandedBy (Gives row) now c r after = MisledBy row now c r after
+CommandedBy (Gives row inverts) now c r after = MisledBy row now c r after
 CommandedBy (Lacks turns objects) now c r after = Stopped Memory turns objects now c r after
 
 -- one command, from a moment to the next, with its reply, whatever the outside made of it

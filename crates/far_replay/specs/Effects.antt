@@ -7,6 +7,7 @@ use Rattle.far_word.specs.Pointer.{read_of}
 use Rattle.far_word.specs.Sizes.{words_for}
 pub use Rattle.far_core.specs.events.Ranges.{with_row}
 use Rattle.far_core.specs.declared.event.Event.TheVariants.{Adopt, Ask}
+use Rattle.far_core.specs.events.Soil.{after_soil}
 use Rattle.far_core.specs.events.Step.{after, after_pin, scope_word_of, near_data, data_len, place_to_view}
 use Rattle.far_core.specs.state.State.{State, put}
 pub use Rattle.far_book.specs.book.Effects.{near_word}
@@ -39,9 +40,9 @@ with_view s p = if is_some (s.held p) then s else after_pin s p
 abbrev pub is_slow : State → ℕ → Bool
 is_slow s p = not (is_some (s.held p) || is_some (place_to_view (read_of (s.cell p))))
 
--- an object has other bytes in the place of those from here on
+-- an object has other bytes in the place of those from here on; its cell has DIRTY, and its owner has soiled it
 abbrev pub with_data : State → ℕ → ℕ → List ℕ → State
-with_data s p from bytes = record s {
+with_data s p from bytes = record (after_soil s p) {
   word = with_row s.word (near_data (read_of (s.cell p))) (words_for (data_len s p)) (packed_word (with_range (data_of s p) from bytes));
 }
 

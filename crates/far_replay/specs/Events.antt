@@ -1,5 +1,5 @@
 -- The events of a core by which a mutator's command is carried out: a list for each. An inquiry makes none. Those of a step of the evacuator aren't told one by one.
-use Rattle.std.specs.Prelude.{ℕ, ◌+◌, ◌-◌, ◌*◌, ◌/◌, ◌%◌, Bool, true, ◌==◌, ◌||◌, ◌&&◌, not, nat_lt, Option, Some, None, is_some, List, [], ◌∷◌, ◌++◌, length, map, if◌then◌else◌}
+use Rattle.std.specs.Prelude.{ℕ, ◌+◌, ◌-◌, ◌*◌, ◌/◌, ◌%◌, Bool, true, false, ◌==◌, ◌||◌, ◌&&◌, not, nat_lt, Option, Some, None, is_some, List, [], ◌∷◌, ◌++◌, length, map, if◌then◌else◌}
 use Rattle.std.specs.List.{range_with_len}
 use Rattle.far_word.specs.declared.mark.Mark.TheVariants.{Dropped, Moved}
 use Rattle.far_word.specs.declared.pointer.Place.{Place}
@@ -13,7 +13,7 @@ use Rattle.far_word.specs.Pointer.{read_of}
 use Rattle.far_word.specs.Sizes.{size_of, words_for}
 use Rattle.far_core.specs.events.Copies.{data_at}
 use Rattle.far_core.specs.declared.event.Event.{Event}
-use Rattle.far_core.specs.declared.event.Event.TheVariants.{ReadEpoch as ReadsEpoch, Open as Opens, Pin as Pins, Load as Loads, Store as Stores, Close as Closes, Adopt as Adopts, Put as Puts, Name as Names, Ask as Asks, See as Sees}
+use Rattle.far_core.specs.declared.event.Event.TheVariants.{ReadEpoch as ReadsEpoch, Open as Opens, Pin as Pins, Load as Loads, Store as Stores, Soil as Soils, Close as Closes, Adopt as Adopts, Put as Puts, Name as Names, Ask as Asks, See as Sees}
 use Rattle.far_core.specs.events.Step.{after}
 use Rattle.far_core.specs.state.Room.{room}
 use Rattle.far_core.specs.state.State.{State}
@@ -32,7 +32,7 @@ abbrev pub new_events : ℕ → ℕ → ℕ → Option ℕ → Option Place → 
 new_events m len ds None place = []
 new_events m len ds (Some p) None = []
 new_events m len ds (Some p) (Some place) =
-    (Puts place.log place.at (head_word p len ds) ∷ zero_puts place (words_for len)) ++ Names p 0 (near_word len ds place) ∷ Adopts m p ∷ []
+    (Puts place.log place.at (head_word p len ds) ∷ zero_puts place (words_for len)) ++ Names p 0 (near_word true len ds place) ∷ Adopts m p ∷ []
 
 -- the epoch is read for an opening, unless it was read already
 abbrev pub open_events : State → ℕ → List Event
@@ -63,9 +63,9 @@ row_puts place count row = map (λ i. Puts place.log (place.at + 1 + i) (row i))
 abbrev pub span_events : ℕ → ℕ → ℕ → Place → (ℕ → ℕ) → List Event
 span_events p len ds place row = Puts place.log place.at (head_word p len ds) ∷ row_puts place (words_for len) row
 
--- the book's naming of p's cell, near and without marks
-abbrev pub name_events : State → ℕ → ℕ → ℕ → Place → List Event
-name_events s p len ds place = Names p (s.cell p) (near_word len ds place) ∷ []
+-- the book's naming of p's cell, near and without marks but DIRTY, and that as said
+abbrev pub name_events : State → ℕ → Bool → ℕ → ℕ → Place → List Event
+name_events s p dirty len ds place = Names p (s.cell p) (near_word dirty len ds place) ∷ []
 
 -- an object is brought there: near, its words are written there and its cell is named, with EVAC; without, its cell alone; far, the words that were stored
 -- are written, and its cell is named. What the book looks at before, which changes nothing, isn't told
@@ -74,8 +74,8 @@ come_events_of s p None o = []
 come_events_of s p (Some place) None = []
 come_events_of s p (Some place) (Some Free) = []
 come_events_of s p (Some place) (Some (Near len ds from marks)) =
-    if marks.evac then span_events p len ds place (data_at s.word from) ++ name_events s p len ds place else name_events s p len ds place
-come_events_of s p (Some place) (Some (Far len ds marks)) = span_events p len ds place (s.stored p) ++ name_events s p len ds place
+    if marks.evac then span_events p len ds place (data_at s.word from) ++ name_events s p marks.dirty len ds place else name_events s p marks.dirty len ds place
+come_events_of s p (Some place) (Some (Far len ds marks)) = span_events p len ds place (s.stored p) ++ name_events s p false len ds place
 
 abbrev pub come_events : State → ℕ → List Event
 come_events s p = come_events_of s p (comes_to s p) (read_of (s.cell p))
@@ -111,6 +111,10 @@ last_loads m p from count = if ends_inside from count then Loads m p ((from + co
 abbrev pub part_events : ℕ → ℕ → ℕ → ℕ → List Event
 part_events m p from count = first_loads m p from count ++ last_loads m p from count
 
+-- its owner soils an object before it stores into it, unless it has soiled it since its scope was opened
+abbrev pub soil_events : State → ℕ → ℕ → List Event
+soil_events s m p = if s.soiled p then [] else Soils m p ∷ []
+
 abbrev pub store_events : ℕ → ℕ → ℕ → ℕ → List ℕ → List Event
 store_events m p first count after = map (λ i. Stores m p i (packed_word after i)) (range_with_len first count)
 
@@ -122,7 +126,7 @@ abbrev pub turn_events : Moment → Command → List Event
 turn_events now (Mutator m (New len ds)) = new_events m len ds (lowest_cell now.core m) (room now.core (size_of len) true)
 turn_events now (Mutator m Open) = open_events now.core m
 turn_events now (Mutator m (Write p from bytes)) =
-    dereference_events now.core m p ++ part_events m p from (length bytes)
+    dereference_events now.core m p ++ soil_events (dereferenced now.core m p) m p ++ part_events m p from (length bytes)
     ++ store_events m p (first_word from) (words_touched from (length bytes)) (with_range (data_of (dereferenced now.core m p) p) from bytes)
 turn_events now (Mutator m (Read p from len)) = dereference_events now.core m p ++ load_events m p (first_word from) (words_touched from len)
 turn_events now (Mutator m Close) = Closes m ∷ []

@@ -1,7 +1,9 @@
 -- The words that the interpreter's own contracts need.
-use Rattle.std.specs.Prelude.{◌≡◌, ℕ, ◌+◌, ◌/◌, ◌<◌, ◌≤◌, false, true, List, Option, Some, None, IsSome, Result, Ok, Err, IfOk, IfErr, if◌then◌else◌}
+use Rattle.std.specs.Prelude.{◌≡◌, ℕ, ◌+◌, ◌/◌, ◌<◌, ◌≤◌, Bool, false, true, List, Option, Some, None, IsSome, Result, Ok, Err, IfOk, IfErr, if◌then◌else◌}
 use Rattle.far_word.specs.declared.refused.Refused.{Refused as Refusal}
+use Rattle.far_word.specs.declared.mark.Marks.{Marks}
 use Rattle.far_word.specs.declared.sizes.TheConstants.{CELLS, LONGEST}
+use Rattle.far_word.specs.Bytes.{bytes_of}
 use Rattle.far_word.specs.declared.pointer.Place.{Place}
 use Rattle.far_word.specs.declared.pointer.PtrWord.{PtrWord}
 use Rattle.far_word.specs.declared.pointer.PtrWord.TheVariants.{Free, Near, Far}
@@ -23,6 +25,7 @@ use Rattle.far_replay.specs.Dereference.{RefusesBringing, asked_for, come, comes
 use Rattle.far_replay.specs.Effects.{is_slow, with_view}
 use Rattle.far_core.specs.state.Law.{StoresBack}
 use Rattle.far_replay.specs.Commanded.{Outside, Serves, Refuses, Gives, Lacks}
+use Rattle.far_replay.specs.Far.{FarBytes, HoldsSame, IsTold, far_in}
 use Rattle.far_replay.specs.Moment.{FarSide, KeepsRound, state_in, with_stored}
 use Rattle.far_replay.specs.Spent.{SpentBy}
 use Rattle.far_replay.specs.Objects.{object_len}
@@ -76,15 +79,20 @@ order_dereferenced s order m p = if is_slow s p then order_come (sought s m p) o
 abbrev pub words_by : Outside → State → ℕ → ℕ → ℕ
 words_by Serves s p = s.stored p
 words_by (Refuses why turns objects) s p = s.stored p
-words_by (Gives row) s p = row
+words_by (Gives row inverts) s p = row
 words_by (Lacks turns objects) s p = s.stored p
 
--- others only of a far object, as many as it has, where the far side isn't honest
-abbrev pub MayGive : Outside → State → ℕ → Type 0
-MayGive Serves s p = Unit {0}
-MayGive (Refuses why turns objects) s p = ⊥
-MayGive (Lacks turns objects) s p = ⊥
-MayGive (Gives row) s p = (s.honest ≡ false) × (says_near (read_of (s.cell p)) ≡ false) × StoresBack row (read_of (s.cell p))
+-- so a device told of a far object, by what it holds under its key
+abbrev pub TellsOf : Bool → (ℕ → ℕ) → State → FarBytes → ℕ → Type 0
+TellsOf inverts row s held p = (len ds : ℕ) (marks : Marks) → read_of (s.cell p) ≡ Some (Far len ds marks) → IsTold inverts (held p) (bytes_of row len)
+
+-- of an object that isn't near those that were stored only where the far side is honest; others only of a far object, as many as it has, where the far side isn't honest, and they are what the
+-- device told of what it holds
+abbrev pub MayGive : Outside → State → FarBytes → ℕ → Type 0
+MayGive Serves s held p = says_near (read_of (s.cell p)) ≡ false → s.honest ≡ true
+MayGive (Refuses why turns objects) s held p = ⊥
+MayGive (Lacks turns objects) s held p = ⊥
+MayGive (Gives row inverts) s held p = (s.honest ≡ false) × (says_near (read_of (s.cell p)) ≡ false) × StoresBack row (read_of (s.cell p)) × TellsOf inverts row s held p
 
 -- the state as if those were stored
 abbrev pub as_given : Outside → State → ℕ → State → State
@@ -92,7 +100,7 @@ as_given o s p t = with_stored t p (words_by o s p)
 
 -- an object that its owner asks for has come to where a view may rest, with the words that were given; what is stored has stayed
 pub record Comes (old new : EvacOf Plain FarSide) (m p : ℕ) (o : Outside) : Type 0 where
-  pub given : MayGive o (state_in old) p
+  pub given : MayGive o (state_in old) (far_in old) p
   pub state : as_given o (state_in old) p (state_in new) ≡ come (asked_for (as_given o (state_in old) p (state_in old)) m p) p
   pub room : IsSome (comes_to (asked_for (as_given o (state_in old) p (state_in old)) m p) p)
   pub order : new.book.order ≡ order_come (asked_for (as_given o (state_in old) p (state_in old)) m p) old.book.order p
@@ -113,10 +121,11 @@ pub record Brings (old new : EvacOf Plain FarSide) (m p : ℕ) (result : Result 
   pub shut : IfErr result (λ _. new.book.order ≡ old.book.order)
   pub round : KeepsRound old new
   pub spent : IfErr result (λ why. SpentBy (refuser why) old new)
+  pub same : HoldsSame old new
 
 -- it is dereferenced so, with the words that were given
 pub record Dereferences (old new : EvacOf Plain FarSide) (m p : ℕ) (o : Outside) : Type 0 where
-  pub given : MayGive o (state_in old) p
+  pub given : MayGive o (state_in old) (far_in old) p
   pub state : as_given o (state_in old) p (state_in new) ≡ dereferenced (as_given o (state_in old) p (state_in old)) m p
   pub room : has_no_room (as_given o (state_in old) p (state_in old)) m p ≡ false
   pub order : new.book.order ≡ order_dereferenced (as_given o (state_in old) p (state_in old)) old.book.order m p
@@ -125,7 +134,7 @@ pub record Dereferences (old new : EvacOf Plain FarSide) (m p : ℕ) (o : Outsid
 
 -- from a pin on that gave no view
 pub record Views (old new : EvacOf Plain FarSide) (m p : ℕ) (o : Outside) : Type 0 where
-  pub given : MayGive o (state_in old) p
+  pub given : MayGive o (state_in old) (far_in old) p
   pub state : as_given o (state_in old) p (state_in new) ≡ with_view (come (asked_for (as_given o (state_in old) p (state_in old)) m p) p) p
   pub room : IsSome (comes_to (asked_for (as_given o (state_in old) p (state_in old)) m p) p)
   pub order : new.book.order ≡ order_come (asked_for (as_given o (state_in old) p (state_in old)) m p) old.book.order p

@@ -8,6 +8,7 @@ pub mod Dereference
 pub mod Effects
 pub mod EventRows
 pub mod Events
+pub mod Far
 pub mod Interpreter
 pub mod Lawful
 pub mod Moment

@@ -10,12 +10,13 @@ use Rattle.far_core.specs.world.WorldOf.{world_of}
 use Rattle.far_text.specs.Command.{Command, Write, Read, View, Try, Wait, Mutator, Evacuator}
 use Rattle.far_replay.specs.Moment.{Moment}
 
--- HOT and MOVE may have been added; EVAC and DROP are as they were
+-- HOT and MOVE may have been added; EVAC, DROP and DIRTY are as they were
 pub record MayGain (a b : Marks) : Type 0 where
   pub hot : a.hot ≡ true → b.hot ≡ true
   pub moved : a.moved ≡ true → b.moved ≡ true
   pub evac : b.evac ≡ a.evac
   pub dropped : b.dropped ≡ a.dropped
+  pub dirty : b.dirty ≡ a.dirty
 
 -- so it is with the marks of a cell, which names the same object at the same place
 abbrev pub CellStays : Option PtrWord → Option PtrWord → Type 0

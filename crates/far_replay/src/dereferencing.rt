@@ -9,6 +9,7 @@ ghost use Rattle.far_replay.specs.Dereference.{RefusesBringing, RefusesView, ask
 ghost use Rattle.far_replay.specs.Effects.{is_slow, with_view};
 ghost use Rattle.far_replay.specs.EventRows.{after_events};
 ghost use Rattle.far_replay.specs.Events.{open_events};
+ghost use Rattle.far_replay.specs.Far.{HoldsSame};
 ghost use Rattle.far_replay.specs.Interpreter.{Brings, Dereferences, Views, refuser};
 ghost use Rattle.far_replay.specs.Moment.{KeepsRound, state_in};
 ghost use Rattle.far_replay.specs.Spent.{SpentBy};
@@ -70,6 +71,7 @@ pub fn dereference(evac: &mut Evac<Plain, FarSide>, owner: u8, pointer: u16) -> 
     ensures shut { IfErr result (λ _. evac.new.book.order ≡ evac.old.book.order) }
     ensures round { KeepsRound evac.old evac.new }
     ensures spent { IfErr result (λ why. SpentBy (refuser why) evac.old evac.new) }
+    ensures same { HoldsSame evac.old evac.new }
     ensures far { IfErr result (λ why. KeepsFar why → says_near (read_of ((state_in evac.old).cell pointer)) ≡ false) }
 {
     let Err(_) = try_view(evac, owner, pointer) else {
@@ -90,6 +92,7 @@ fn bring_and_view(evac: &mut Evac<Plain, FarSide>, owner: u8, pointer: u16) -> R
     ensures shut { IfErr result (λ _. evac.new.book.order ≡ evac.old.book.order) }
     ensures round { KeepsRound evac.old evac.new }
     ensures spent { IfErr result (λ why. SpentBy (refuser why) evac.old evac.new) }
+    ensures same { HoldsSame evac.old evac.new }
     ensures far { IfErr result (λ why. KeepsFar why → says_near (read_of ((state_in evac.old).cell pointer)) ≡ false) }
 {
     match bring(evac, owner, pointer) {

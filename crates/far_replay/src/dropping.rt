@@ -1,10 +1,13 @@
 //! Objects are dropped.
 
-ghost use Rattle.std.specs.Prelude.{◌≡◌, ◌<◌, false};
+ghost use Rattle.std.specs.Prelude.{◌≡◌, ◌<◌, ℕ, false, Some};
+ghost use Rattle.far_book.specs.book.FarSide.{kept_len};
 ghost use Rattle.far_core.specs.state.Law.{Law};
+ghost use Rattle.far_word.specs.Pointer.{read_of};
 ghost use Rattle.far_text.specs.Command.{Mutator, Drop};
 ghost use Rattle.far_replay.specs.Events.{events_for};
 ghost use Rattle.far_replay.specs.EventRows.{after_events};
+ghost use Rattle.far_replay.specs.Far.{far_in};
 ghost use Rattle.far_replay.specs.Interpreter.{StandsFor};
 ghost use Rattle.far_replay.specs.Moment.{KeepsRound, moment_in, state_in};
 ghost use Rattle.far_replay.specs.Commanded.{Serves};
@@ -29,6 +32,7 @@ pub fn drop_object(evac: &mut Evac<Plain, FarSide>, owner: u8, pointer: u64) -> 
     ensures order { evac.new.book.order ≡ evac.old.book.order }
     ensures round { KeepsRound evac.old evac.new }
     ensures spent { SpentBy Serves evac.old evac.new }
+    ensures holds { (q len : ℕ) → kept_len (read_of ((state_in evac.new).cell q)) ≡ Some len → far_in evac.new q ≡ far_in evac.old q }
 {
     let Some(pointer) = own_pointer(evac, owner, pointer) else {
         return Outcome::Refused(Refused::NotHeld);

@@ -8,7 +8,8 @@ ghost use Rattle.far_replay.specs.Commanded.{StopsSo};
 ghost use Rattle.far_evac.specs.Choosing.{after_selecting};
 ghost use Rattle.far_text.specs.Command.{Abort, Evacuate, Evacuator, Mark, Round, Select, Wait, as_choice, as_policy, as_step};
 ghost use Rattle.far_text.specs.Written.{WritesBytes};
-ghost use Rattle.far_replay.specs.Moment.{moment_in};
+ghost use Rattle.far_replay.specs.Far.{HoldsBy, far_in};
+ghost use Rattle.far_replay.specs.Moment.{moment_in, state_in};
 ghost use Rattle.far_replay.specs.declared.outcome.Scratch.{Scratch};
 ghost use Rattle.far_replay.specs.Outcome.{IsOutside, told_by};
 ghost use Rattle.far_replay.specs.Rounds.{given_by, logs_given, rows_in, step_effect, step_reply};
@@ -157,6 +158,7 @@ fn run_by(
     ensures unchanged { IfErr result (λ fault. ¬ IsOutside fault.why → moment_in evac.new ≡ moment_in evac.old) }
     ensures stopped { IfErr result (λ fault. IsOutside fault.why → StopsSo fault.why (moment_in evac.old) (Evacuator (Round (as_policy policy) most turns)) (Halted fault.why fault.so_far) (moment_in evac.new)) }
     ensures spent { SpentBy (stopper result) evac.old evac.new }
+    ensures holds { HoldsBy (Evacuator (Round (as_policy policy) most turns)) (state_in evac.old) (state_in evac.new) (far_in evac.old) (far_in evac.new) }
 {
     evac.keeps_law();
     let most = usize::from(most);

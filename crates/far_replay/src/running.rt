@@ -11,7 +11,7 @@ ghost use Rattle.far_replay.specs.Moment.{Moment, moment_in, moment_of, state_in
 ghost use Rattle.std.specs.Option.{option_map};
 ghost use Rattle.far_text.specs.Command.{as_device};
 ghost use Rattle.far_replay.specs.Spent.{IsLeft, may_spoil};
-ghost use Rattle.far_replay.specs.Answers.{AnsweredBy, FlawedAtMost, opened, flaws, is_true, lie_of, Outside, MayMakeHeap, WritesOutput, WritesAnswer, LeavesBehind, Leaves, end_of};
+ghost use Rattle.far_replay.specs.Answers.{AnsweredBy, ByDevice, opened, flaws, is_true, lie_of, Outside, MayMakeHeap, WritesOutput, WritesAnswer, LeavesBehind, Leaves, end_of};
 ghost use Rattle.far_text.specs.declared.text.TheConstants.{LONGEST_TEXT};
 ghost use Rattle.far_text.specs.Grammar.{trace_of};
 ghost use Rattle.far_text.specs.Command.{Heap};
@@ -155,7 +155,7 @@ fn answer_commands<W: Write>(
     requires alone { evac.copying ≡ false }
     requires strays { NoneStrays (moment_in evac) }
     requires few { may_spoil (lie_of (option_map as_device device)) evac (flaws (option_map as_device device)) }
-    ensures { (outside : List Outside) × (replies : List Answer) × (moments : List Moment) × FlawedAtMost (lie_of (option_map as_device device)) (flaws (option_map as_device device)) outside × AnsweredBy outside (moment_in evac) commands.now replies moments
+    ensures { (outside : List Outside) × (replies : List Answer) × (moments : List Moment) × ByDevice (lie_of (option_map as_device device)) (flaws (option_map as_device device)) outside (moment_in evac) commands.now moments × AnsweredBy outside (moment_in evac) commands.now replies moments
         × Writes (W.contents writer.old) (W.contents writer.new) result (flat_map reply_text (opened (option_map as_device device) ++ replies)) }
 {
     let mut evac = evac;

@@ -7,6 +7,7 @@ ghost use Rattle.far_word.specs.Pointer.{read_of};
 ghost use Rattle.far_core.specs.state.Law.{Law};
 ghost use Rattle.far_core.specs.state.Room.{room};
 ghost use Rattle.far_core.specs.events.Ranges.{stores};
+ghost use Rattle.far_core.specs.events.Soil.{after_soil};
 ghost use Rattle.far_core.specs.events.Step.{data_len, data_word};
 ghost use Rattle.far_core.specs.declared.event.Event.{Event};
 ghost use Rattle.far_book.specs.book.Fetching.{order_fetched};
@@ -228,9 +229,23 @@ fn splice(evac: &Evac<Plain, FarSide>, scratch: &mut Scratch, access: Access, by
     pack_front(&scratch.bytes, touched, &mut scratch.words);
 }
 
+// Soils an object that is viewed, unless its owner has soiled it since its scope was opened.
+fn soil(evac: &mut Evac<Plain, FarSide>, access: Access)
+    requires viewed { IsViewed (state_in evac.old) access }
+    ensures state { state_in evac.new ≡ after_soil (state_in evac.old) access.pointer }
+    ensures order { evac.new.book.order ≡ evac.old.book.order }
+    ensures round { KeepsRound evac.old evac.new }
+    ensures device { evac.new.book.device ≡ evac.old.book.device }
+{
+    if !core_of(evac).is_soiled(access.pointer) {
+        evac.soil(access.owner, access.pointer);
+    }
+}
+
 // Stores the words in front over those that a range touches.
 fn store_front(evac: &mut Evac<Plain, FarSide>, access: Access, words: &[u64])
     requires viewed { IsViewed (state_in evac.old) access }
+    requires soiled { (state_in evac.old).soiled access.pointer ≡ true }
     requires room { length words.now ≡ LOG_WORDS }
     requires padding { (k : ℕ) → k < words_touched access.from access.count → slice_index words.now k < 2 ^ (8 * (data_len (state_in evac.old) access.pointer - 8 * (first_word access.from + k))) }
     ensures state { state_in evac.new ≡ after_events (state_in evac.old) (stores access.owner access.pointer (first_word access.from) (take (words_touched access.from access.count) words.now)) }
@@ -247,7 +262,7 @@ fn store_front(evac: &mut Evac<Plain, FarSide>, access: Access, words: &[u64])
     );
 }
 
-// Writes bytes over a range of an object that is viewed.
+// Writes bytes over a range of an object that is viewed, and soiled.
 fn write_viewed(
     evac: &mut Evac<Plain, FarSide>,
     scratch: &mut Scratch,
@@ -255,6 +270,7 @@ fn write_viewed(
     bytes: &[u8],
 )
     requires viewed { IsViewed (state_in evac.old) access }
+    requires soiled { (state_in evac.old).soiled access.pointer ≡ true }
     requires law { Law (state_in evac.old) }
     requires bytes { length bytes.now ≡ access.count }
     requires small { IsBytes bytes.now }
@@ -282,6 +298,7 @@ fn write(
 {
     match dereference(evac, access.owner, access.pointer) {
         Ok(()) => {
+            soil(evac, access);
             write_viewed(evac, scratch, access, bytes);
             Outcome::Done
         }

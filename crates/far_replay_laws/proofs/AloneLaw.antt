@@ -27,7 +27,7 @@ use Rattle.far_replay.specs.EventRows.{after_events, AllSucceed}
 use Rattle.far_reply.specs.Reply.{Reply, Ended, Evacuated, Refused}
 use Rattle.far_replay.specs.Events.{events_for, IsNoStep}
 use Rattle.far_replay.specs.Turn.{effect, refusal, reply_to, unless}
-use Rattle.far_replay.proofs.Lasting.{Lasts, IsCarriedOut, after_step, command_carried, moment_lasts, still_lasts, misled_before, misled_lasts}
+use Rattle.far_replay.proofs.Lasting.{Lasts, IsCarriedOut, after_step, command_carried, moment_lasts, served_honest, still_lasts, misled_before, misled_lasts}
 use Rattle.far_replay_laws.proofs.AloneNew.{turns_new}
 use Rattle.far_replay.proofs.RoundLeads.{owned_same, step_keeps}
 use Rattle.far_replay_laws.proofs.AloneTurns.{Teaches, Turns, turns_open, turns_epoch, turns_close, turns_read, turns_write, turns_where, turns_drop, turns_try, turns_view}
@@ -61,7 +61,7 @@ none_made : (s : State) (o : Option Refusal) → after_events s (unless o (λ _.
 none_made s None = refl
 none_made s (Some why) = refl
 
-abbrev Taught : State → ℕ → Command → Reply → State → Type 0
+abbrev pub Taught : State → ℕ → Command → Reply → State → Type 0
 Taught s m c r t = MatchBool (is_by m (speaker c)) (Knows m (own_of (world_of s) m) c r (own_of (world_of t) m)) (own_of (world_of t) m ≡ own_of (world_of s) m)
 
 taught : (now : Moment) (m : ℕ) (c : Command) (r : Reply) (t : State) → IsNoStep c → Law now.core → Between now.core → m < now.core.mutators → WritesBytes c → IsCarriedOut now c r t → Taught now.core m c r t
@@ -98,20 +98,8 @@ served_mutators now (Book inquiry) r next lasts small h =
     ap (λ (t : State). t.mutators) (command_carried now (Book inquiry) r next tt lasts small h).state ∙ made_mutators now.core (events_for now (Book inquiry))
 served_mutators now (Evacuator step) r next lasts small h = ap (λ (m : Moment). m.core.mutators) h.moment ∙ (step_keeps now step lasts.law lasts.round lasts.alone).mutators
 
--- and the device lies no more and no less
-made_honest : (s : State) (es : List Event) → (after_events s es).honest ≡ s.honest
-made_honest s [] = refl
-made_honest s (e ∷ es) = made_honest (step_of s e).0 es ∙ (events_leave s e).within.rest.2
-
-served_honest : (now : Moment) (c : Command) (r : Reply) (next : Moment) → Lasts now → WritesBytes c → Served now c r next → next.core.honest ≡ now.core.honest
-served_honest now (Mutator k request) r next lasts small h =
-    ap (λ (t : State). t.honest) (command_carried now (Mutator k request) r next tt lasts small h).state ∙ made_honest now.core (events_for now (Mutator k request))
-served_honest now (Book inquiry) r next lasts small h =
-    ap (λ (t : State). t.honest) (command_carried now (Book inquiry) r next tt lasts small h).state ∙ made_honest now.core (events_for now (Book inquiry))
-served_honest now (Evacuator step) r next lasts small h = ap (λ (m : Moment). m.core.honest) h.moment ∙ (step_keeps now step lasts.law lasts.round lasts.alone).honest
-
 -- each command tells a mutator what its reply says, or nothing
-served_taught : (now : Moment) (m : ℕ) (c : Command) (r : Reply) (next : Moment) → Lasts now → m < now.core.mutators → WritesBytes c → Served now c r next → Taught now.core m c r next.core
+pub served_taught : (now : Moment) (m : ℕ) (c : Command) (r : Reply) (next : Moment) → Lasts now → m < now.core.mutators → WritesBytes c → Served now c r next → Taught now.core m c r next.core
 served_taught now m (Mutator k request) r next lasts within small h =
     taught now m (Mutator k request) r next.core tt lasts.law lasts.between within small (command_carried now (Mutator k request) r next tt lasts small h)
 served_taught now m (Book inquiry) r next lasts within small h =
@@ -176,7 +164,7 @@ view_teaches why now k p r next lasts h =
       x.1,
     )
 
-next_mutators : (now : Moment) (c : Command) (r : Reply) (next : Moment) → Lasts now → WritesBytes c → Commanded now c r next → next.core.mutators ≡ now.core.mutators
+pub next_mutators : (now : Moment) (c : Command) (r : Reply) (next : Moment) → Lasts now → WritesBytes c → Commanded now c r next → next.core.mutators ≡ now.core.mutators
 next_mutators now c r next lasts small h = by_outcome now r next (λ d. WritesBytes d → next.core.mutators ≡ now.core.mutators)
     (λ d h small. served_mutators now d r next lasts small h)
     (λ why m p from new h _. served_mutators now (Mutator m (Try p)) (Refused (Marked (now.core.cell p))) next lasts tt h.tried)
@@ -189,7 +177,7 @@ next_mutators now c r next lasts small h = by_outcome now r next (λ d. WritesBy
     (λ row m p d asks h small. served_mutators (as_if_stored now p row) d r (as_if_stored next p row) (misled_before row now d p r next lasts h) small h.served)
     c h small
 
-next_honest : (now : Moment) (c : Command) (r : Reply) (next : Moment) → Lasts now → WritesBytes c → Commanded now c r next → next.core.honest ≡ now.core.honest
+pub next_honest : (now : Moment) (c : Command) (r : Reply) (next : Moment) → Lasts now → WritesBytes c → Commanded now c r next → next.core.honest ≡ now.core.honest
 next_honest now c r next lasts small h = by_outcome now r next (λ d. WritesBytes d → next.core.honest ≡ now.core.honest)
     (λ d h small. served_honest now d r next lasts small h)
     (λ why m p from new h _. served_honest now (Mutator m (Try p)) (Refused (Marked (now.core.cell p))) next lasts tt h.tried)
@@ -211,7 +199,7 @@ module _ (row : ℕ → ℕ) (now : Moment) (k : ℕ) (r : Reply) (next : Moment
       MatchBool (nat_eq m k) (Knows k (own_of (world_of (as_if_stored now p row).core) k) c r (own_of (world_of (as_if_stored next p row).core) k)) (own_of (world_of (as_if_stored next p row).core) k ≡ own_of (world_of (as_if_stored now p row).core) k) →
       MatchBool (nat_eq m k) (KnowsBy now.core.honest k (own_of (world_of now.core) k) c r (own_of (world_of next.core) k)) (own_of (world_of next.core) k ≡ own_of (world_of now.core) k)
   given_tells c asks small h =
-      misled_tells row now c m p r next lasts.law (misled_lasts row now c p r next lasts small h).law asks (misled_uses row now m p c asks (misled_allowed row now c p r next h)).1 h k
+      misled_tells row now c m p r next lasts.law (misled_lasts row now c m p r next lasts small asks h).law asks (misled_uses row now m p c asks (misled_allowed row now c p r next h)).1 h k
 
   given_learns : (c : Command) → AsksFor m p c → WritesBytes c → Misled row now c p r next → Learns now.core k c r next.core
   given_learns = by_asked m p (λ d. WritesBytes d → Misled row now d p r next → Learns now.core k d r next.core)
@@ -224,7 +212,7 @@ abbrev pub GivesNone : Outside → Type 0
 GivesNone Serves = Unit {0}
 GivesNone (Refuses why turns objects) = Unit {0}
 GivesNone (Lacks turns objects) = Unit {0}
-GivesNone (Gives row) = ⊥
+GivesNone (Gives row inverts) = ⊥
 
 module _ (why : Refusal) (turns objects : ℕ) (now : Moment) (m : ℕ) (r : Reply) (next : Moment) (lasts : Lasts now) (within : m < now.core.mutators) where
   stopped_taught : (c : Command) → WritesBytes c → Stopped why turns objects now c r next → Taught now.core m c r next.core
@@ -240,17 +228,17 @@ module _ (why : Refusal) (turns objects : ℕ) (now : Moment) (m : ℕ) (r : Rep
       ∙ served_taught now m (Evacuator (Round policy most turns)) (Ended (Limit Evacuating)) h.stood lasts within small h.turned)
       c h small
 
-taught_by : (o : Outside) → GivesNone o → (now : Moment) (m : ℕ) (c : Command) (r : Reply) (next : Moment) → Lasts now → m < now.core.mutators → WritesBytes c → CommandedBy o now c r next → Taught now.core m c r next.core
+pub taught_by : (o : Outside) → GivesNone o → (now : Moment) (m : ℕ) (c : Command) (r : Reply) (next : Moment) → Lasts now → m < now.core.mutators → WritesBytes c → CommandedBy o now c r next → Taught now.core m c r next.core
 taught_by Serves none now m c r next lasts within small h = served_taught now m c r next lasts within small h
 taught_by (Refuses why turns objects) none now m c r next lasts within small h = stopped_taught why turns objects now m r next lasts within c small h
 taught_by (Lacks turns objects) none now m c r next lasts within small h = stopped_taught Memory turns objects now m r next lasts within c small h
-taught_by (Gives row) none now m c r next lasts within small h = absurd none
+taught_by (Gives row inverts) none now m c r next lasts within small h = absurd none
 
 each_learns : (now : Moment) (m : ℕ) (c : Command) (r : Reply) (next : Moment) → Lasts now → m < now.core.mutators → WritesBytes c → Commanded now c r next → Learns now.core m c r next.core
 each_learns now m c r next lasts within small (Serves, h) = known now.core m c r next.core (taught_by Serves tt now m c r next lasts within small h)
 each_learns now m c r next lasts within small (Refuses why turns objects, h) = known now.core m c r next.core (taught_by (Refuses why turns objects) tt now m c r next lasts within small h)
 each_learns now m c r next lasts within small (Lacks turns objects, h) = known now.core m c r next.core (taught_by (Lacks turns objects) tt now m c r next lasts within small h)
-each_learns now m c r next lasts within small (Gives row, h) =
+each_learns now m c r next lasts within small (Gives row inverts, h) =
     by_lie row now r next (λ d. WritesBytes d → Learns now.core m d r next.core) (λ k p d asks h small. given_learns row now m r next k p lasts within d asks small h) c h small
 
 pub mutators_learn : (now : Moment) (c : Command) (r : Reply) (next : Moment) (m : ℕ) → IsMoment now → WritesBytes c → m < now.core.mutators → Commanded now c r next → Learns now.core m c r next.core
@@ -259,7 +247,7 @@ mutators_learn now c r next m is bytes within h =
 
 -- ---- all commands
 -- one line before others
-one_more : (honest : Bool) (m : ℕ) (o q : Own) (c : Command) (r : Reply) (cs : List Command) (rs : List Reply) (b : Bool) → MatchBool b (KnowsBy honest m o c r q) (q ≡ o) → Alone honest m q cs rs →
+pub one_more : (honest : Bool) (m : ℕ) (o q : Own) (c : Command) (r : Reply) (cs : List Command) (rs : List Reply) (b : Bool) → MatchBool b (KnowsBy honest m o c r q) (q ≡ o) → Alone honest m q cs rs →
     MatchBool b ((x : Own) × KnowsBy honest m o c r x × Alone honest m x cs rs) (Alone honest m o cs rs)
 one_more honest m o q c r cs rs true h rest = (q, h, rest)
 one_more honest m o q c r cs rs false h rest = subst (λ x. Alone honest m x cs rs) h rest
@@ -274,20 +262,3 @@ alone now (c ∷ cs) (r ∷ rs) (next ∷ xs) m lasts within small h =
     (subst (λ honest. Alone honest m (own_of (world_of next.core) m) cs rs) (next_honest now c r next lasts small.0 h.0)
     (alone next cs rs xs m (still_lasts now c r next lasts small.0 h.0) (subst (λ n. m < n) (sym same) within) small.1 h.1))
 alone now _ _ _ m lasts within small h = absurd h
-
--- and where none was given other words they say so whatever the device is said to be
-none_given : (o : Outside) (os : List Outside) → lies (o ∷ os) ≤ 0 → GivesNone o × (lies os ≤ 0)
-none_given Serves os none = (tt, none)
-none_given (Refuses why turns objects) os none = (tt, none)
-none_given (Lacks turns objects) os none = (tt, none)
-none_given (Gives row) os none = absurd (omega (arith, none))
-
-pub alone_as_stored : (os : List Outside) (now : Moment) (cs : List Command) (rs : List Reply) (moments : List Moment) (m : ℕ) → lies os ≤ 0 → Lasts now → m < now.core.mutators → AllWriteBytes cs → AnsweredBy os now cs rs moments →
-    Alone true m (own_of (world_of now.core) m) cs rs
-alone_as_stored [] now [] [] [] m none lasts within small h = tt
-alone_as_stored (o ∷ os) now (c ∷ cs) (r ∷ rs) (next ∷ xs) m none lasts within small h =
-    let so = none_given o os none in
-    let same : next.core.mutators ≡ now.core.mutators = next_mutators now c r next lasts small.0 (o, h.0) in
-    one_more true m (own_of (world_of now.core) m) (own_of (world_of next.core) m) c r cs rs (is_by m (speaker c)) (taught_by o so.0 now m c r next lasts within small.0 h.0)
-    (alone_as_stored os next cs rs xs m so.1 (still_lasts now c r next lasts small.0 (o, h.0)) (subst (λ n. m < n) (sym same) within) small.1 h.1)
-alone_as_stored _ now _ _ _ m none lasts within small h = absurd h

@@ -47,7 +47,7 @@ use Rattle.far_replay_laws.proofs.AloneTurns.{Teaches, Turns, four_causes}
 head_fits : (p len ds : ℕ) → p < POINTERS → len ≤ LONGEST → ds < 256 → head_word p len ds < 2 ^ 64
 head_fits p len ds a b c = omega arith
 
-new_fits : (len ds : ℕ) (place : Place) → place.log < 64 → place.at < LOG_WORDS → len ≤ LONGEST → ds < 256 → near_word len ds place < 2 ^ 64
+new_fits : (len ds : ℕ) (place : Place) → place.log < 64 → place.at < LOG_WORDS → len ≤ LONGEST → ds < 256 → near_word true len ds place < 2 ^ 64
 new_fits len ds place a b c d = omega arith
 
 -- two words of near pointers are of one length
@@ -78,13 +78,13 @@ module _ (s : State) (k len ds p : ℕ) (place : Place) (law : Law s) (within : 
   puts = Puts place.log place.at (head_word p len ds) ∷ zero_puts place (words_for len)
 
   abbrev names : List Event
-  names = Names p 0 (near_word len ds place) ∷ Adopts k p ∷ []
+  names = Names p 0 (near_word true len ds place) ∷ Adopts k p ∷ []
 
   abbrev u : State
   u = after_events s puts
 
   abbrev v : State
-  v = (step_of u (Names p 0 (near_word len ds place))).0
+  v = (step_of u (Names p 0 (near_word true len ds place))).0
 
   wide : head_word p len ds < 2 ^ 64
   wide = head_fits p len ds (omega (arith, law.shape.few_mutators)) most structure
@@ -104,16 +104,16 @@ module _ (s : State) (k len ds p : ℕ) (place : Place) (law : Law s) (within : 
       let comes = AllComeToPass-parts s puts names (new_comes s k len ds (Some p) (Some place) (λ q e. let same : p ≡ q = cc in subst (λ x. s.cell x ≡ 0) same free)) in
       let legal = was_legal s (Puts place.log place.at (head_word p len ds)) law parts.0.0 in
       let first = put_run in
-      let word : near_word len ds place < 2 ^ 64 = new_fits len ds place (omega (arith, legal.0, law.shape.few_logs)) legal.3 most structure in
-      let named = name_step u p 0 (near_word len ds place) first.2 unused (omega arith) word parts.1.0 comes.1.0 in
-      let says = read_says (near_word len ds place) (Near named.0 named.1 named.2 named.3) word named.4 in
-      let long : named.0 ≡ len = one_length named.0 len named.1 ds named.2 place named.3 (record { hot = false; evac = false; moved = false; dropped = false }) (omega (arith, says.0)) (omega arith) says.1 in
-      let law_v : Law v = step_keeps u (Names p 0 (near_word len ds place)) first.2 (omega arith, word) in
+      let word : near_word true len ds place < 2 ^ 64 = new_fits len ds place (omega (arith, legal.0, law.shape.few_logs)) legal.3 most structure in
+      let named = name_step u p 0 (near_word true len ds place) first.2 unused (omega arith) word parts.1.0 comes.1.0 in
+      let says = read_says (near_word true len ds place) (Near named.0 named.1 named.2 named.3) word named.4 in
+      let long : named.0 ≡ len = one_length named.0 len named.1 ds named.2 place named.3 (record { hot = false; evac = false; moved = false; dropped = false; dirty = true }) (omega (arith, says.0)) (omega arith) says.1 in
+      let law_v : Law v = step_keeps u (Names p 0 (near_word true len ds place)) first.2 (omega arith, word) in
       let last = quiet_run v (Adopts k p ∷ []) law_v (tt, tt) in
       let joined : world_of (after_events s (puts ++ names)) ≡ world_of (after_events v (Adopts k p ∷ [])) = ap world_of (made-append s puts names) in
       let between = made_between (world_of s) (world_of u) (world_of v) (world_of (after_events v (Adopts k p ∷ []))) (world_of (after_events s (puts ++ names))) p named.0 named.1 named.2.log (first.0, first.1) named.5 last.0 joined in
-      let kind : named.1 ≡ ds = one_structure named.0 len named.1 ds named.2 place named.3 (record { hot = false; evac = false; moved = false; dropped = false }) (omega (arith, says.0)) (omega arith) (omega (arith, says.0)) structure says.1 in
-      let group : named.2.log ≡ place.log = one_log named.0 len named.1 ds named.2 place named.3 (record { hot = false; evac = false; moved = false; dropped = false }) (omega (arith, says.0)) (omega arith) (omega (arith, says.0)) structure
+      let kind : named.1 ≡ ds = one_structure named.0 len named.1 ds named.2 place named.3 (record { hot = false; evac = false; moved = false; dropped = false; dirty = true }) (omega (arith, says.0)) (omega arith) (omega (arith, says.0)) structure says.1 in
+      let group : named.2.log ≡ place.log = one_log named.0 len named.1 ds named.2 place named.3 (record { hot = false; evac = false; moved = false; dropped = false; dirty = true }) (omega (arith, says.0)) (omega arith) (omega (arith, says.0)) structure
       (omega (arith, says.0)) (omega (arith, legal.3)) (omega (arith, says.0)) (omega (arith, legal.0, law.shape.few_logs)) says.1 in
       let whole : new_object p named.0 named.1 named.2.log ≡ new_object p len ds place.log = λ i. new_object p (long i) (kind i) (group i) in
       (new_object p named.0 named.1 named.2.log, between.0, between.1, between.2, ap (λ n. replicate n 0) long, whole)

@@ -14,6 +14,8 @@ use Rattle.far_core.specs.declared.event.Event.{Event}
 use Rattle.far_core.specs.declared.event.Event.TheVariants.{ReadEpoch as ReadsEpoch, Open as Opens, Close as Closes}
 use Rattle.far_core.specs.state.Law.{Law, held_place, in_use}
 use Rattle.far_core.specs.state.State.{State, put}
+use Rattle.far_core.proofs.events.Soil.{soil_stays}
+use Rattle.far_core.specs.events.Soil.{after_soil}
 use Rattle.far_core.specs.events.Step.{is_opened, step_of}
 use Rattle.far_core.specs.world.World.{World, Object}
 use Rattle.far_core.specs.world.WorldOf.{world_of}
@@ -38,6 +40,7 @@ use Rattle.far_replay.proofs.Dereferences.{Derefs, derefs, sought_bytes, sought_
 use Rattle.far_replay.proofs.Leading.{Leads}
 use Rattle.far_replay.proofs.Turns.{Access, led, read_leads, stores_lead, write_leads}
 use Rattle.far_replay.proofs.Views.{fast_seen, slow_parts, slow_view, view_is}
+use Rattle.far_replay.proofs.Soiling.{soil_law}
 use Rattle.far_replay.proofs.Spliced.{AreBytes, packed_wide, with_range_bytes}
 use Rattle.far_replay.proofs.AloneRuns.{views_of, SameBytes, bytes_same, Scoped, own_same, own_other, own_here, own_scope, own_scope_other, quiet_run, over_all, stores_run, open_step, close_step}
 use Rattle.far_replay.proofs.AloneStates.{not_outside, open_world, shut_world, range_in, range_out, object_viewed, own_used, own_unused, length-data, data_small}
@@ -319,7 +322,17 @@ module _ (s : State) (k p from : ℕ) (bytes : List ℕ) (law : Law s) (small : 
   abbrev then : State
   then = with_data here p from bytes
 
-  stored : Leads here stores then
+  abbrev ready : State
+  ready = after_soil here p
+
+  -- the object is soiled, which the world doesn't tell
+  same_there : world_of ready ≡ world_of here
+  same_there = soil_stays here led_there.law p (ap is_some led_there.view.holds.rests)
+
+  ready_law : Law ready
+  ready_law = soil_law here led_there.law k p led_there.view.len led_there.view.place led_there.view.holds
+
+  stored : Leads ready stores then
   stored = stores_lead s k p from bytes law access small
 
   fits : from + length bytes ≤ length (data_of here p)
@@ -329,12 +342,13 @@ module _ (s : State) (k p from : ℕ) (bytes : List ℕ) (law : Law s) (small : 
   write_run : (o : Object) × ((world_of then).object ≡ put (world_of here).object p (Some o)) × ((world_of then).opened ≡ (world_of here).opened) × (o.bytes ≡ new)
   write_run =
       let x = object_there s k p access.ours led_there in
-      let run = stores_run here k p (first_word from) (words_touched from (length bytes)) new x.0 led_there.law (packed_wide new (with_range_bytes (data_of here p) from bytes fits (data_small here p) small)) x.1 stored.succeed in
+      let at : (world_of ready).object p ≡ Some x.0 = ap (λ (w : World). w.object p) same_there ∙ x.1 in
+      let run = stores_run ready k p (first_word from) (words_touched from (length bytes)) new x.0 ready_law (packed_wide new (with_range_bytes (data_of here p) from bytes fits (data_small here p) small)) at stored.succeed in
       let over : List ℕ = over_all x.0.bytes (first_word from) (words_touched from (length bytes)) new in
-      let ends : world_of then ≡ world_of (after_events here stores) = ap world_of (sym stored.ends) in (
+      let ends : world_of then ≡ world_of (after_events ready stores) = ap world_of (sym stored.ends) in (
         with_bytes x.0 over,
-        ap (λ (w : World). w.object) ends ∙ run.0,
-        ap (λ (w : World). w.opened) ends ∙ run.1,
+        ap (λ (w : World). w.object) ends ∙ run.0 ∙ ap (λ (w : World). put w.object p (Some (with_bytes x.0 over))) same_there,
+        ap (λ (w : World). w.opened) ends ∙ run.1 ∙ ap (λ (w : World). w.opened) same_there,
         ap (λ b. over_all b (first_word from) (words_touched from (length bytes)) new) x.2 ∙ over_with_range (data_of here p) from bytes fits (data_small here p) small access.some,
       )
 

@@ -10,7 +10,7 @@ use Rattle.far_word.specs.Header.{head_word}
 use Rattle.far_word.specs.Pointer.{read_of}
 use Rattle.far_word.specs.Sizes.{size_of, words_for}
 use Rattle.far_core.specs.declared.event.Event.{Event}
-use Rattle.far_core.specs.declared.event.Event.TheVariants.{ReadEpoch as ReadsEpoch, Open as Opens, Pin as Pins, Load as Loads, Store as Stores, Adopt as Adopts, Put as Puts, Name as Names}
+use Rattle.far_core.specs.declared.event.Event.TheVariants.{ReadEpoch as ReadsEpoch, Open as Opens, Pin as Pins, Load as Loads, Store as Stores, Soil as Soils, Adopt as Adopts, Put as Puts, Name as Names}
 use Rattle.far_core.specs.declared.event.Reply.{Reply as Answer}
 use Rattle.far_core.specs.declared.event.Reply.TheVariants.{Refused as Failed, Done as Wins, Word}
 use Rattle.far_core.specs.state.Law.{Law}
@@ -22,7 +22,7 @@ use Rattle.far_text.specs.Command.{Command, New, Open, Write, Read, Close, Where
 use Rattle.far_replay.specs.Dereference.{come, dereferenced, has_no_room, sought}
 use Rattle.far_replay.specs.Effects.{near_word, is_slow}
 use Rattle.far_replay.specs.EventRows.{after_events, ComesToPass, AllComeToPass, AtHand}
-use Rattle.far_replay.specs.Events.{IsNoStep, turn_events, refused_events, zero_puts, new_events, view_events, sought_events, come_events, dereference_events, load_events, store_events, first_loads, last_loads, part_events, first_word, words_touched, starts_inside, ends_inside}
+use Rattle.far_replay.specs.Events.{IsNoStep, turn_events, refused_events, zero_puts, new_events, view_events, sought_events, come_events, dereference_events, load_events, soil_events, store_events, first_loads, last_loads, part_events, first_word, words_touched, starts_inside, ends_inside}
 use Rattle.far_replay_laws.specs.Headline.{IsAtHandFor}
 use Rattle.far_replay.specs.Moment.{Moment}
 use Rattle.far_replay.specs.Objects.{uses, object_len, data_of, with_range, lowest_cell, is_range}
@@ -50,6 +50,9 @@ parts m p from count =
     Each-append IsSure (first_loads m p from count) (last_loads m p from count)
     (cond_both (starts_inside from count) (Loads m p (from / 8) ∷ []) [] (Each IsSure) (λ _. ((λ r. tt), tt)) (λ _. tt))
     (cond_both (ends_inside from count) (Loads m p ((from + count) / 8) ∷ []) [] (Each IsSure) (λ _. ((λ r. tt), tt)) (λ _. tt))
+
+soils : (s : State) (m p : ℕ) → Each IsSure (soil_events s m p)
+soils s m p = cond_both (s.soiled p) [] (Soils m p ∷ []) (Each IsSure) (λ _. tt) (λ _. ((λ r. tt), tt))
 
 stores : (m p first count : ℕ) (bytes : List ℕ) → Each IsSure (store_events m p first count bytes)
 stores m p first count bytes = Each-row IsSure (λ i. Stores m p i (packed_word bytes i)) first count (λ i _ r. tt)
@@ -90,7 +93,7 @@ new_comes s m len ds (Some p) (Some place) free =
     let kept : Each LeavesCells puts =
     (put_leaves place.log place.at (head_word p len ds), Each-row LeavesCells (λ i. Puts place.log (place.at + 1 + i) 0) 0 (words_for len) (λ i _. put_leaves place.log (place.at + 1 + (0 + i)) 0)) in
     let still : (after_events s puts).cell p ≡ 0 = ap (λ (f : ℕ → ℕ). f p) (cells_stay s puts kept) ∙ free p refl in
-    AllComeToPass-append s puts (Names p 0 (near_word len ds place) ∷ Adopts m p ∷ []) (all_sure s puts sure) (naming_wins (after_events s puts) p (near_word len ds place) still, (tt, tt))
+    AllComeToPass-append s puts (Names p 0 (near_word true len ds place) ∷ Adopts m p ∷ []) (all_sure s puts sure) (naming_wins (after_events s puts) p (near_word true len ds place) still, (tt, tt))
 new_comes s m len ds _ _ free = tt
 
 -- ---- each command
@@ -129,9 +132,12 @@ all_come now (Mutator m (Write p from bytes)) None told e law hand =
     let first : ℕ = first_word from in
     let touched : ℕ = words_touched from (length bytes) in
     let new : List ℕ = with_range (data_of (dereferenced now.core m p) p) from bytes in
-    AllComeToPass-append now.core (view ++ part) (store_events m p first touched new)
-    (AllComeToPass-append now.core view part (deref_comes now.core m p (hand (is_named now.core m p law h.ours))) (all_sure (after_events now.core view) part (parts m p from (length bytes))))
-    (all_sure (after_events now.core (view ++ part)) (store_events m p first touched new) (stores m p first touched new))
+    let soil : List Event = soil_events (dereferenced now.core m p) m p in
+    AllComeToPass-append now.core (view ++ soil ++ part) (store_events m p first touched new)
+    (AllComeToPass-append now.core (view ++ soil) part
+    (AllComeToPass-append now.core view soil (deref_comes now.core m p (hand (is_named now.core m p law h.ours))) (all_sure (after_events now.core view) soil (soils (dereferenced now.core m p) m p)))
+    (all_sure (after_events now.core (view ++ soil)) part (parts m p from (length bytes))))
+    (all_sure (after_events now.core (view ++ soil ++ part)) (store_events m p first touched new) (stores m p first touched new))
 all_come now (Mutator m (Read p from len)) None told e law hand =
     let h = access_fact now.core m p from len e in
     let view : List Event = dereference_events now.core m p in

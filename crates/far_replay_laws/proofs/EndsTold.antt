@@ -7,7 +7,7 @@ use Rattle.far_word.specs.declared.refused.Refused.TheVariants.{Shape}
 use Rattle.far_core.specs.state.Shape.{is_shape}
 use Rattle.far_text.specs.Command.{Command, Device, Trace, Nothing, Heap}
 use Rattle.far_text.specs.Grammar.{trace_of}
-use Rattle.far_replay.specs.Answers.{AnsweredBy, FlawedAtMost, opened, flaws, is_true, lie_of, Outside, IsOutput, end_of, first_moment, shape_of}
+use Rattle.far_replay.specs.Answers.{AnsweredBy, ByDevice, opened, flaws, is_true, lie_of, Outside, IsOutput, end_of, first_moment, shape_of}
 use Rattle.far_replay.specs.Moment.{Moment}
 use Rattle.far_reply.specs.Reply.{Reply, Done, Refused, reply_text}
 use Rattle.far_replay.specs.declared.running.End.{End}
@@ -22,7 +22,7 @@ abbrev Told : End → List ℕ → Type 0
 Told end output = (end ≡ Turned → BeginsWith (codes "refused ") output) × (end ≡ Ran → (output ≡ []) ⊎ BeginsWith (codes "ok\n") output)
 
 heap_told : (logs mutators epoch : ℕ) (device : Option Device) (cs : List Command) (output : List ℕ) (b : Bool) →
-    MatchBool b ((os : List Outside) × (rs : List Reply) × (moments : List Moment) × FlawedAtMost (lie_of device) (flaws device) os × AnsweredBy os (first_moment logs mutators epoch (is_true device)) cs rs moments × (output ≡ flat_map reply_text (opened device ++ rs))) (output ≡ reply_text (Refused Shape)) →
+    MatchBool b ((os : List Outside) × (rs : List Reply) × (moments : List Moment) × ByDevice (lie_of device) (flaws device) os (first_moment logs mutators epoch (is_true device)) cs moments × AnsweredBy os (first_moment logs mutators epoch (is_true device)) cs rs moments × (output ≡ flat_map reply_text (opened device ++ rs))) (output ≡ reply_text (Refused Shape)) →
     Told (if b then Ran else Turned) output
 heap_told logs mutators epoch None cs output true h = (λ e. absurd (subst IsRan e tt), λ _. inr (flat_map reply_text h.1, h.5))
 heap_told logs mutators epoch (Some device) cs output true h = (λ e. absurd (subst IsRan e tt), λ _. inr (flat_map reply_text (Done ∷ h.1), h.5))

@@ -30,7 +30,7 @@ record Shows (p : ℕ) (c : Command) (r : Reply) (o q : Own) (all : List ℕ) : 
   pub told : TellsBytes c r all
   pub others : (x : ℕ) → x ≢ p → q.object x ≡ o.object x
 
-same_bytes : (a b : List ℕ) → Some a ≡ Some b → a ≡ b
+pub same_bytes : (a b : List ℕ) → Some a ≡ Some b → a ≡ b
 same_bytes a b e = cc
 
 shows_write : (m p from : ℕ) (new all : List ℕ) (o q : Own) → Knows m o (Mutator m (Write p from new)) Done q → o.object p ≡ Some all → Shows p (Mutator m (Write p from new)) Done o q all
@@ -59,7 +59,7 @@ shows_view m p all o q (opened, then, has) had = record {
 }
 
 -- ---- what it knows is so
-own_object : (w : World) (q : ℕ) → (own_of w (q / CELLS)).object q ≡ bytes_in_world (w.object q)
+pub own_object : (w : World) (q : ℕ) → (own_of w (q / CELLS)).object q ≡ bytes_in_world (w.object q)
 own_object w q = ap (λ b. cond b (bytes_in_world (w.object q)) None) (eq-eqb (q / CELLS) (q / CELLS) refl)
 
 held_viewed : (s : State) (p : ℕ) → IsSome (s.held p) → (world_of s).viewed p ≡ true
@@ -92,7 +92,7 @@ module _ (row : ℕ → ℕ) (now : Moment) (m p : ℕ) (r : Reply) (next : Mome
     before_is = own_as_if now.core p row m h.far lasts.law used own
 
     after_is : (k : ℕ) → own_of (world_of after.core) k ≡ own_of (world_of next.core) k
-    after_is k = own_viewed next.core p row k (misled_lasts row now c p r next lasts small h).law h.viewed
+    after_is k = own_viewed next.core p row k (misled_lasts row now c m p r next lasts small asks h).law h.viewed
 
     has_given : (own_of (world_of other.core) m).object p ≡ Some given
     has_given = ap (λ (x : Own). x.object p) before_is ∙ put_same (own_of (world_of now.core) m).object p (Some given) p refl
@@ -156,7 +156,7 @@ module _ (row : ℕ → ℕ) (now : Moment) (m p : ℕ) (r : Reply) (next : Mome
       (λ small h. by_reply (Mutator m (View p)) (refl, refl) small h Done (misled_reply row now (Mutator m (View p)) p r next h) (λ all knows had. shows_view m p all _ _ knows had))
 
 pub lies_change : LiesChangeOneObject
-lies_change row now c r next is bytes h =
+lies_change row inverts now c r next is bytes h =
     by_lie row now r next (λ d. WritesBytes d → IsGiven row now d r next) (λ m p d asks k small. (m, p, object_changes row now m p r next (moment_lasts now is) d asks small k)) c h bytes
 
 -- ---- and each of a list
@@ -164,7 +164,7 @@ one_given : (o : Outside) (now : Moment) (c : Command) (r : Reply) (next : Momen
 one_given Serves now c r next is bytes h = tt
 one_given (Refuses why turns objects) now c r next is bytes h = tt
 one_given (Lacks turns objects) now c r next is bytes h = tt
-one_given (Gives row) now c r next is bytes h = lies_change row now c r next is bytes h
+one_given (Gives row inverts) now c r next is bytes h = lies_change row inverts now c r next is bytes h
 
 pub each_given : (os : List Outside) (now : Moment) (cs : List Command) (rs : List Reply) (moments : List Moment) → IsMoment now → AllWriteBytes cs → AnsweredBy os now cs rs moments → AllGiven os now cs rs moments
 each_given [] now cs rs moments is bytes h = tt

@@ -2,7 +2,7 @@
 use Rattle.std.proofs.Common.{◌≡◌, ◌≢◌, ℕ, ◌/◌, ◌^◌, ◌==◌, Bool, true, false, cond, refl, sym, ap, subst, ◌∙◌, is_some, Option, Some, None, List, [], ◌∷◌, inl, inr, bit_or, if◌then◌else◌}
 use Rattle.std.proofs.lemmas.Bool.{cases_eq, cond_both, eqb-true, false≢true}
 use Rattle.far_word.specs.declared.job.Job.{Job}
-use Rattle.far_word.specs.declared.mark.Mark.TheVariants.{Hot, Evac}
+use Rattle.far_word.specs.declared.mark.Mark.TheVariants.{Hot, Evac, Dirty}
 use Rattle.far_word.specs.declared.mark.Marks.{Marks}
 use Rattle.far_word.specs.declared.pointer.Place.{Place}
 use Rattle.far_word.specs.declared.pointer.PtrWord.{PtrWord}
@@ -14,7 +14,7 @@ use Rattle.far_word.specs.Pointer.{read_of, with_mark, without_evac}
 use Rattle.far_core.specs.events.Copied.{copied_job}
 use Rattle.far_core.specs.events.namings.Moves.{after_move}
 use Rattle.far_core.specs.declared.event.Event.{Event}
-use Rattle.far_core.specs.declared.event.Event.TheVariants.{Pin, Close, Name, Mark, Ask, Get, Clear, Offer, Claim, Finish, Collect}
+use Rattle.far_core.specs.declared.event.Event.TheVariants.{Pin, Soil, Close, Name, Mark, Ask, Get, Clear, Offer, Claim, Finish, Collect}
 use Rattle.far_core.specs.declared.event.Reply.{Reply as Answer}
 use Rattle.far_core.specs.declared.event.Task.{Task}
 use Rattle.far_core.specs.declared.naming.Naming.{Naming}
@@ -28,6 +28,7 @@ use Rattle.far_core.specs.events.Name.{after_naming}
 use Rattle.far_core.specs.events.Naming.{IsNaming, is_dropped, naming_of, naming_row}
 use Rattle.far_core.specs.events.Offer.{after_offer}
 use Rattle.far_core.specs.events.Quiet.{has_move}
+use Rattle.far_core.specs.events.Soil.{after_soil}
 use Rattle.far_core.specs.events.Step.{after, place_to_view, step_of, with_hold}
 use Rattle.far_core.specs.state.Law.{Law, held_place}
 use Rattle.far_core.specs.state.State.{State, put}
@@ -36,6 +37,7 @@ use Rattle.far_core.proofs.Bounds.{some_of}
 use Rattle.far_core.proofs.Cells.{held_near, map_mark, read_hot}
 use Rattle.far_core.proofs.Owing.{is_fact, replies_report}
 use Rattle.far_core.proofs.Put.{put_both, put_other, put_same}
+use Rattle.far_core.proofs.events.Soil.{reads}
 use Rattle.far_core.proofs.Quieting.{quiet_unheld}
 use Rattle.far_text.specs.Command.{Command}
 use Rattle.far_text.specs.Written.{WritesBytes}
@@ -65,6 +67,10 @@ marked_hot _ n h r = absurd (false≢true h)
 cleared_hot : (o n : Option PtrWord) → is_hot o ≡ true → ((v : PtrWord) → o ≡ Some v → n ≡ Some (without_evac v)) → is_hot n ≡ true
 cleared_hot (Some (Near len ds place m)) n h r = ap is_hot (r (Near len ds place m) refl) ∙ h
 cleared_hot _ n h r = absurd (false≢true h)
+
+dirty_hot : (o : Option PtrWord) → is_hot (map_mark Dirty o) ≡ is_hot o
+dirty_hot (Some Free) = refl
+dirty_hot _ = refl
 
 -- ---- one cell is another word
 cell_hot : (s : State) (p new : ℕ) → AllHot s → (is_some (s.held p) ≡ true → is_hot (read_of new) ≡ true) → (q : ℕ) → is_some (s.held q) ≡ true → is_hot (read_of (put s.cell p new q)) ≡ true
@@ -138,6 +144,9 @@ module _ (s : State) (law : Law s) (hot : AllHot s) where
     by_cell true e = named_hot s p new (naming_of (read_of old) (read_of new)) hot (λ held. no_form s law p old new (eqb-true (s.cell p) old e) held legal.1.0 legal.1.1 legal.1.2)
     by_cell false e = hot
 
+  soil_hot : (p : ℕ) → is_some (s.held p) ≡ true → AllHot (after_soil s p)
+  soil_hot p held = cell_hot s p (bit_or (s.cell p) (2 ^ position Dirty)) hot (λ h. ap is_hot (reads s law p held).0 ∙ dirty_hot (read_of (s.cell p)) ∙ hot p h)
+
   mark_hot : (p : ℕ) → Legal s (Mark p) → AllHot (after s (Mark p))
   mark_hot p legal =
       let new : ℕ = bit_or (s.cell p) (2 ^ position Evac) in
@@ -164,6 +173,7 @@ module _ (s : State) (law : Law s) (hot : AllHot s) where
 
   after_hot : (e : Event) → Legal s e → Law (after s e) → AllHot (after s e)
   after_hot (Pin m p) legal next = pin_hot m p legal next
+  after_hot (Soil m p) legal next = soil_hot p legal.1
   after_hot (Close m) legal next = λ p h. hot p (held_yet (p / CELLS == m) (s.held p) h)
   after_hot (Name p old new) legal next = name_hot p old new legal
   after_hot (Mark p) legal next = mark_hot p legal
@@ -192,7 +202,7 @@ still_hot now c r next is bytes h hot =
 pub moment_hot : (now : Moment) → IsMoment now → AllHot now.core
 moment_hot now (Begins logs mutators epoch honest fits is) = subst (λ (m : Moment). AllHot m.core) (sym is) (λ p h. absurd (false≢true h))
 moment_hot now (Comes before c r was bytes h) = still_hot before c r now was bytes h (moment_hot before was)
-moment_hot now (Stores before p row was used fits is) = subst (λ (m : Moment). AllHot m.core) (sym is) (moment_hot before was)
+moment_hot now (Stores before p row was lies used fits is) = subst (λ (m : Moment). AllHot m.core) (sym is) (moment_hot before was)
 
 pub views_are_hot : (now : Moment) → IsMoment now → ViewedAreHot now.core
 views_are_hot now is p h = moment_hot now is p (viewed_is now.core p true h)

@@ -2,17 +2,17 @@
 use Rattle.std.proofs.Common.{◌≡◌, ◌≢◌, ℕ, ◌/◌, ◌^◌, Bool, true, false, not, nat_lt, nat_eq, refl, sym, ap, subst, ◌∙◌, is_some, Option, Some, None, [], ◌∷◌, ◌++◌, length, bit_or, if◌then◌else◌}
 use Rattle.std.specs.Prelude.{◌&&◌, ◌||◌}
 use Rattle.std.proofs.lemmas.Bool.{and_parts, cond_both, false≢true, not-false, not-true}
-use Rattle.far_word.specs.declared.mark.Mark.TheVariants.{Hot}
+use Rattle.far_word.specs.declared.mark.Mark.TheVariants.{Hot, Dirty}
 use Rattle.far_word.specs.declared.pointer.Place.{Place}
 use Rattle.far_word.specs.declared.pointer.PtrWord.{PtrWord}
-use Rattle.far_word.specs.declared.pointer.PtrWord.TheVariants.{Near, Far}
+use Rattle.far_word.specs.declared.pointer.PtrWord.TheVariants.{Free, Near, Far}
 use Rattle.far_word.specs.declared.refused.Refused.{Refused as Refusal}
 use Rattle.far_word.specs.declared.refused.Refused.TheVariants.{NoRoom, Closed, NotHeld, Range, Marked as MarkFound}
 use Rattle.far_word.specs.declared.sizes.TheConstants.{CELLS}
 use Rattle.far_word.specs.Mark.{position}
 use Rattle.far_word.specs.Pointer.{read_of}
 use Rattle.far_core.specs.events.Step.{after_pin, is_opened, place_to_view}
-use Rattle.far_core.specs.state.Law.{Law, in_use}
+use Rattle.far_core.specs.state.Law.{Law, in_use, is_dirty, held_place}
 use Rattle.far_core.specs.state.State.{State}
 use Rattle.far_core.proofs.Cells.{map_mark, read_hot}
 use Rattle.far_core.proofs.Put.{put_other, put_same}
@@ -25,19 +25,20 @@ use Rattle.far_replay.specs.Dereference.{come, comes_to, dereferenced, has_no_ro
 use Rattle.far_replay.specs.Effects.{is_slow, with_data, with_view}
 use Rattle.far_replay.specs.Events.{come_events}
 use Rattle.far_replay.specs.Taking.{LacksRoom}
-use Rattle.far_replay_laws.specs.LeftMarks.{GainsForRoom, GainsHot, IsHotAlone, LeavesHot, LeavesMarks, OthersStay, RefusedLeaves, TryLeaves, is_hot}
+use Rattle.far_replay_laws.specs.LeftMarks.{GainsDirty, GainsForRoom, GainsHot, IsHotAlone, LeavesHot, LeavesMarks, LeavesWritten, OthersStay, RefusedLeaves, TryLeaves, is_hot}
 use Rattle.far_replay.specs.Moment.{Moment, as_if_stored, with_stored}
 use Rattle.far_replay.specs.Objects.{uses}
 use Rattle.far_reply.specs.Reply.{Reply, Refused}
 use Rattle.far_replay.specs.Turn.{access_causes, causes, first_cause, refusal, unless, turn_effect, refused_effect, turn_reply, reply_to}
 use Rattle.far_replay.proofs.Bringing.{asked_keeps, brought_keeps, slow_unheld}
 use Rattle.far_replay.proofs.Brought.{brought}
-use Rattle.far_replay.proofs.Dereferences.{sought_lacks, sought_law, sought_may, sought_word}
+use Rattle.far_replay.proofs.Dereferences.{derefs, sought_lacks, sought_law, sought_may, sought_word}
 use Rattle.far_replay.proofs.Drops.{unheld_is, viewed_is}
 use Rattle.far_replay_laws.proofs.HotViews.{moment_hot}
 use Rattle.far_replay.proofs.Lasting.{moment_lasts, misled_from}
 use Rattle.far_replay.proofs.Leading.{leads_law}
 use Rattle.far_replay_laws.proofs.Refusals.{among, of_far}
+use Rattle.far_replay.proofs.Soiling.{soiled_reads}
 use Rattle.far_replay.proofs.TakingView.{asked_word}
 use Rattle.far_replay.proofs.Turns.{access_fact, tried}
 use Rattle.far_replay.proofs.Views.{anew_is, fast_dereference, fast_seen, Already, Anew, Seen, pin_read, slow_parts}
@@ -50,8 +51,13 @@ hot_gained (Some (Near len ds place m)) n used e = e
 hot_gained (Some (Far len ds m)) n used e = e
 hot_gained _ n used e = absurd (false≢true used)
 
+-- DIRTY is as it was
+asked_dirt : (o : Option PtrWord) → is_dirty (asked_word o) ≡ is_dirty o
+asked_dirt (Some Free) = refl
+asked_dirt _ = refl
+
 wanted : (s : State) (o n : Option PtrWord) → LacksRoom s o → n ≡ asked_word o → GainsForRoom o n
-wanted s (Some (Near len ds place m)) n h e = (h.0, e ∙ ap (λ b. Some (Near len ds place record { hot = true; evac = b; moved = true; dropped = m.dropped })) h.0)
+wanted s (Some (Near len ds place m)) n h e = (h.0, e ∙ ap (λ b. Some (Near len ds place record { hot = true; evac = b; moved = true; dropped = m.dropped; dirty = m.dirty })) h.0)
 wanted s (Some (Far len ds m)) n h e = e
 wanted s _ n h e = absurd h
 
@@ -60,15 +66,15 @@ bare : (a b c : Bool) (at place : Place) → (if a || b || c then None else Some
 bare false false false at place e = (refl, refl, refl)
 bare _ _ _ at place e = absurd cc
 
-pinned_alone : (o : Option PtrWord) (place : Place) → place_to_view o ≡ Some place → IsHotAlone (map_mark Hot o)
+pinned_alone : (o : Option PtrWord) (place : Place) → place_to_view o ≡ Some place → IsHotAlone (is_dirty o) (map_mark Hot o)
 pinned_alone (Some (Near len ds at m)) place e =
     let none = bare m.evac m.moved m.dropped at place e in (
       len,
       ds,
       at,
-      ap (λ b. Some (Near len ds at record { hot = true; evac = b; moved = m.moved; dropped = m.dropped })) none.0
-          ∙ ap (λ b. Some (Near len ds at record { hot = true; evac = false; moved = b; dropped = m.dropped })) none.1
-          ∙ ap (λ b. Some (Near len ds at record { hot = true; evac = false; moved = false; dropped = b })) none.2,
+      ap (λ b. Some (Near len ds at record { hot = true; evac = b; moved = m.moved; dropped = m.dropped; dirty = m.dirty })) none.0
+          ∙ ap (λ b. Some (Near len ds at record { hot = true; evac = false; moved = b; dropped = m.dropped; dirty = m.dirty })) none.1
+          ∙ ap (λ b. Some (Near len ds at record { hot = true; evac = false; moved = false; dropped = b; dirty = m.dirty })) none.2,
     )
 pinned_alone _ place e = absurd cc
 
@@ -78,7 +84,7 @@ view_cells s p q ne = cond_both (is_some (s.held p)) s (after_pin s p) (λ (t : 
 
 record Left (s : State) (p : ℕ) (cell : ℕ → ℕ) : Type 0 where
   again : is_some (s.held p) ≡ true → cell p ≡ s.cell p
-  anew : is_some (s.held p) ≡ false → IsHotAlone (read_of (cell p))
+  anew : is_some (s.held p) ≡ false → IsHotAlone (is_dirty (read_of (s.cell p))) (read_of (cell p))
   others : (q : ℕ) → q ≢ p → cell q ≡ s.cell q
 
 leaves_hot : (s t : State) (p : ℕ) → Left s p t.cell → (is_some (s.held p) ≡ true → is_hot (read_of (s.cell p)) ≡ true) → LeavesHot s t p
@@ -92,6 +98,29 @@ leaves_hot s t p left hot = record {
   by_view true e = ap (λ w. is_hot (read_of w)) (left.again e) ∙ hot e
   by_view false e = ap is_hot (left.anew e).3
 
+-- ---- and after a write
+dirtied : (o : Option PtrWord) (place : Place) → held_place o ≡ Some place → GainsDirty o (map_mark Dirty o)
+dirtied (Some (Near len ds at m)) place e = refl
+dirtied _ place e = absurd cc
+
+dirty_hot : (o : Option PtrWord) → is_hot (map_mark Dirty o) ≡ is_hot o
+dirty_hot (Some Free) = refl
+dirty_hot _ = refl
+
+leaves_written : (s t u : State) (p : ℕ) → Law s → Left s p t.cell → (is_some (s.held p) ≡ true → is_hot (read_of (s.cell p)) ≡ true) → read_of (u.cell p) ≡ map_mark Dirty (read_of (t.cell p)) →
+    ((q : ℕ) → q ≢ p → u.cell q ≡ t.cell q) → LeavesWritten s u p
+leaves_written s t u p law left hot says same =
+    let x = leaves_hot s t p left hot in
+    record {
+      hot = ap is_hot says ∙ dirty_hot (read_of (t.cell p)) ∙ x.hot;
+      again = λ viewed.
+          let held = viewed_is s p true viewed in
+          let there = some_of (s.held p) held in
+          subst (GainsDirty (read_of (s.cell p))) (sym (says ∙ ap (λ w. map_mark Dirty (read_of w)) (left.again held))) (dirtied (read_of (s.cell p)) there.0 (law.views.held_names p there.0 there.1));
+      anew = λ free. let alone = left.anew (viewed_is s p false free) in (alone.0, alone.1, alone.2, says ∙ ap (map_mark Dirty) alone.3);
+      others = λ q ne. same q ne ∙ left.others q ne;
+    }
+
 module _ (s : State) (m p : ℕ) (law : Law s) (opened : is_opened s m ≡ true) (ours : uses s m p ≡ true) where
   used : s.used p ≡ true
   used = (and_parts (nat_eq (p / CELLS) m) (s.used p) ours).1
@@ -103,10 +132,10 @@ module _ (s : State) (m p : ℕ) (law : Law s) (opened : is_opened s m ≡ true)
   fast_left : is_slow s p ≡ false → Left s p (with_view s p).cell
   fast_left fast = record {
     again = λ e. ap (λ b. (if b then s else after_pin s p).cell p) e;
-    anew = λ free. subst IsHotAlone (sym (pin_says free)) (by_seen free (fast_seen s p fast));
+    anew = λ free. subst (IsHotAlone (is_dirty (read_of (s.cell p)))) (sym (pin_says free)) (by_seen free (fast_seen s p fast));
     others = view_cells s p;
   } where
-    by_seen : is_some (s.held p) ≡ false → Seen s p → IsHotAlone (map_mark Hot (read_of (s.cell p)))
+    by_seen : is_some (s.held p) ≡ false → Seen s p → IsHotAlone (is_dirty (read_of (s.cell p))) (map_mark Hot (read_of (s.cell p)))
     by_seen free (Already place e) = absurd (false≢true (sym free ∙ ap is_some e))
     by_seen free (Anew place e can_view) = pinned_alone (read_of (s.cell p)) place can_view
 
@@ -139,7 +168,9 @@ module _ (s : State) (m p : ℕ) (law : Law s) (opened : is_opened s m ≡ true)
       ap read_of (put_same there.cell p (bit_or (there.cell p) (2 ^ position Hot)) p refl) ∙ (read_hot (there.cell p) (there_law.cells.cell_read p).0 (ap in_use comes.near)).0 in
       record {
         again = λ e. absurd (false≢true (sym (slow_parts s p slow).0 ∙ e));
-        anew = λ free. (comes.len, comes.ds, comes.place, ap (λ (f : ℕ → ℕ). read_of (f p)) ends ∙ says ∙ ap (map_mark Hot) comes.near);
+        anew = λ free.
+            let dirty : comes.dirty ≡ is_dirty (read_of (s.cell p)) = comes.still ∙ ap is_dirty (sought_word s m p law opened ours slow) ∙ asked_dirt (read_of (s.cell p)) in
+            subst (λ b. IsHotAlone b (read_of ((dereferenced s m p).cell p))) dirty (comes.len, comes.ds, comes.place, ap (λ (f : ℕ → ℕ). read_of (f p)) ends ∙ says ∙ ap (map_mark Hot) comes.near);
         others = λ q ne. ap (λ (f : ℕ → ℕ). f q) ends ∙ put_other there.cell p (bit_or (there.cell p) (2 ^ position Hot)) q ne ∙ owners.cells q ne ∙ view_cells s p q ne;
       }
 
@@ -200,7 +231,11 @@ leaves : (now : Moment) (c : Command) (o : Option Refusal) → IsMoment now → 
     LeavesMarks now.core c (unless o Refused (turn_reply now c)) (unless o (refused_effect now c) (turn_effect now c)).core
 leaves now (Mutator m (Write p from bytes)) None is e =
     let access = access_fact now.core m p from (length bytes) e in
-    leaves_hot now.core (with_data (dereferenced now.core m p) p from bytes) p (left now.core m p (moment_lasts now is).law access.opened access.ours access.room) (moment_hot now is p)
+    let law = (moment_lasts now is).law in
+    let t : State = dereferenced now.core m p in
+    let led = derefs now.core m p law access.opened access.ours access.room in
+    leaves_written now.core t (with_data t p from bytes) p law (left now.core m p law access.opened access.ours access.room) (moment_hot now is p)
+    (soiled_reads t led.law m p led.view.len led.view.place led.view.holds) (λ q ne. put_other t.cell p (bit_or (t.cell p) (2 ^ position Dirty)) q ne)
 leaves now (Mutator m (Write p from bytes)) (Some why) is e =
     access_refused now m p from (length bytes) why (refused_effect now (Mutator m (Write p from bytes))) (moment_lasts now is).law refl refl refl refl e
 leaves now (Mutator m (Read p from len)) None is e =
@@ -237,6 +272,10 @@ hot_as_if : (s t : State) (p : ℕ) (row : ℕ → ℕ) → LeavesHot (with_stor
 unfolding world_of
 hot_as_if s t p row x = record { hot = x.hot; again = x.again; anew = x.anew; others = x.others }
 
+written_as_if : (s t : State) (p : ℕ) (row : ℕ → ℕ) → LeavesWritten (with_stored s p row) (with_stored t p row) p → LeavesWritten s t p
+unfolding world_of
+written_as_if s t p row x = record { hot = x.hot; again = x.again; anew = x.anew; others = x.others }
+
 pub commands_leave : (now : Moment) (c : Command) (r : Reply) (next : Moment) → IsMoment now → Commanded now c r next → LeavesMarks now.core c r next.core
 commands_leave now c r next is h = by_outcome now r next (λ d. LeavesMarks now.core d r next.core)
     (λ d h. served_leaves now d r next is h)
@@ -245,6 +284,6 @@ commands_leave now c r next is h = by_outcome now r next (λ d. LeavesMarks now.
     (λ why m p h. subst (λ x. LeavesMarks now.core (Mutator m (View p)) x next.core) (sym h.reply) (tried_leaves now (Mutator m (View p)) why m p r next is h))
     (λ why objects count h. tt)
     (λ why turns objects policy most count h. tt)
-    (λ row m p d asks h. as_misled row now r next m p (λ now c r next. LeavesMarks now.core c r next.core) (λ from bytes. hot_as_if now.core next.core p row) (λ from len bytes. hot_as_if now.core next.core p row) (hot_as_if now.core next.core p row)
+    (λ row m p d asks h. as_misled row now r next m p (λ now c r next. LeavesMarks now.core c r next.core) (λ from bytes. written_as_if now.core next.core p row) (λ from len bytes. hot_as_if now.core next.core p row) (hot_as_if now.core next.core p row)
     d asks h (served_leaves (as_if_stored now p row) d r (as_if_stored next p row) (misled_from row now d p r next is h) h.served))
     c h

@@ -2,7 +2,7 @@
 use Rattle.std.proofs.Common.{◌≡◌, ℕ, ◌/◌, ◌^◌, true, false, not, refl, sym, ap, subst, ◌∙◌, is_some, Option, Some, None, List, length, ◌==◌, ◌++◌, bit_or, [], ◌∷◌}
 use Rattle.std.proofs.lemmas.Bool.{cond-false, cond_both, ne_eqb}
 use Rattle.far_word.specs.declared.mark.Mark.{Mark}
-use Rattle.far_word.specs.declared.mark.Mark.TheVariants.{Hot, Moved, Dropped}
+use Rattle.far_word.specs.declared.mark.Mark.TheVariants.{Hot, Moved, Dropped, Dirty}
 use Rattle.far_word.specs.declared.pointer.Place.{Place}
 use Rattle.far_word.specs.declared.pointer.PtrWord.{PtrWord}
 use Rattle.far_word.specs.declared.pointer.PtrWord.TheVariants.{Near, Far}
@@ -20,7 +20,7 @@ use Rattle.far_core.specs.declared.naming.Naming.{Naming}
 use Rattle.far_core.specs.declared.naming.Naming.TheVariants.{Places, Moves}
 use Rattle.far_core.specs.events.Copies.{data_at}
 use Rattle.far_core.specs.events.Name.{after_naming}
-use Rattle.far_core.specs.events.Naming.{naming_of, naming_row, no_marks}
+use Rattle.far_core.specs.events.Naming.{naming_of, naming_row, no_marks, unmarked}
 use Rattle.far_core.specs.events.Step.{after, after_close, after_pin, place_to_view}
 use Rattle.far_core.specs.state.Law.{Law}
 use Rattle.far_core.specs.state.Room.{room}
@@ -87,15 +87,15 @@ written s p old len ds place row new = let k = named (with_written_span s p len 
     record { cells = k.cells; used = k.used; views = k.views; scopes = k.scopes; remembered = k.remembered }
 
 moved_beside : (s : State) (p : ℕ) (place : Place) (o : Option PtrWord) → AllButObject s (moved_of s p place o) p
-moved_beside s p place (Some (Near len ds from marks)) = written s p (s.cell p) len ds place (data_at s.word from) (near_word len ds place)
+moved_beside s p place (Some (Near len ds from marks)) = written s p (s.cell p) len ds place (data_at s.word from) (near_word marks.dirty len ds place)
 moved_beside s p place _ = same s p
 
 stayed_beside : (s : State) (p : ℕ) (o : Option PtrWord) → AllButObject s (stayed_of s p o) p
-stayed_beside s p (Some (Near len ds place marks)) = named s p (s.cell p) (near_word len ds place)
+stayed_beside s p (Some (Near len ds place marks)) = named s p (s.cell p) (near_word marks.dirty len ds place)
 stayed_beside s p _ = same s p
 
 fetched_beside : (s : State) (p : ℕ) (place : Place) (row : ℕ → ℕ) (o : Option PtrWord) → AllButObject s (fetched_of s p place row o) p
-fetched_beside s p place row (Some (Far len ds marks)) = written s p (s.cell p) len ds place row (near_word len ds place)
+fetched_beside s p place row (Some (Far len ds marks)) = written s p (s.cell p) len ds place row (near_word false len ds place)
 fetched_beside s p place row _ = same s p
 
 come_beside : (s : State) (p : ℕ) (x : Option Place) (o : Option PtrWord) → AllButObject s (come_of s p x o) p
@@ -139,14 +139,14 @@ dereferenced_beside : (s : State) (m p : ℕ) → AllButObject s (dereferenced s
 dereferenced_beside s m p = cond_both (is_slow s p) (with_view (come (sought s m p) p) p) (with_view s p) (λ (t : State). AllButObject s t p) (λ _. brought_beside s m p) (λ _. view_beside s p)
 
 data_beside : (s t : State) (p from : ℕ) (bytes : List ℕ) → AllButObject s t p → AllButObject s (with_data t p from bytes) p
-data_beside s t p from bytes k = record { cells = k.cells; used = k.used; views = k.views; scopes = k.scopes; remembered = k.remembered }
+data_beside s t p from bytes k = record { cells = λ q ne. put_other t.cell p (bit_or (t.cell p) (2 ^ position Dirty)) q ne ∙ k.cells q ne; used = k.used; views = k.views; scopes = k.scopes; remembered = k.remembered }
 
 without_beside : (s : State) (m p : ℕ) → AllButObject s (without_object s m p) p
 without_beside s m p = let t : State = after s (Ask m p Dropped) in both s t (retired t p) p (asked_mark s m p Dropped) (named t p (t.cell p) 0)
 
 new_beside : (s : State) (m p len ds : ℕ) (place : Place) → AllButObject s (with_object s m p len ds place) p
 new_beside s m p len ds place =
-    let k = written s p 0 len ds place (λ _. 0) (near_word len ds place) in
+    let k = written s p 0 len ds place (λ _. 0) (near_word true len ds place) in
     record { cells = k.cells; used = λ q ne. put_other (placed s p len ds place).used p true q ne ∙ k.used q ne; views = k.views; scopes = k.scopes; remembered = k.remembered }
 
 -- ---- one scope
@@ -175,9 +175,9 @@ close_beside s m = record {
 }
 
 -- ---- a new object's cell
-new_named : (s : State) (m p len ds : ℕ) (place : Place) → s.cell p ≡ 0 → IsPtr (Near len ds place no_marks) → read_of ((with_object s m p len ds place).cell p) ≡ Some (Near len ds place no_marks)
+new_named : (s : State) (m p len ds : ℕ) (place : Place) → s.cell p ≡ 0 → IsPtr (Near len ds place no_marks) → read_of ((with_object s m p len ds place).cell p) ≡ Some (Near len ds place (unmarked true))
 new_named s m p len ds place free lies = ap (λ (t : State). read_of (t.cell p)) (named_is (with_blank_span s p len ds place) p len ds place free lies)
-    ∙ ap read_of (put_same s.cell p (near_word len ds place) p refl) ∙ read_back (Near len ds place no_marks) lies
+    ∙ ap read_of (put_same s.cell p (near_word true len ds place) p refl) ∙ read_back (Near len ds place (unmarked true)) lies
 
 new_leaves : (now : Moment) (m len ds : ℕ) → Law now.core → refusal now (Mutator m (New len ds)) ≡ None →
     NewLeaves now len ds (turn_reply now (Mutator m (New len ds))) (turn_effect now (Mutator m (New len ds)))

@@ -272,9 +272,9 @@ left_so now c r next lasts h = by_outcome now r next (λ d. Leaves now d r next)
     (λ why objects count h. stop_left now why objects count r next lasts h)
     (λ why turns objects policy most count h. round_left now why turns objects policy most count r next lasts h (after_step now (Round policy most turns) (Ended (Limit Evacuating)) h.stood lasts h.turned))
     (λ row m p d asks h. by_asked m p (λ x. Misled row now x p r next → Leaves now x r next)
-    (λ from bytes k. stands now (Mutator m (Write p from bytes)) r next lasts (Gives row, k))
-    (λ from len k. stands now (Mutator m (Read p from len)) r next lasts (Gives row, k))
-    (λ k. stands now (Mutator m (View p)) r next lasts (Gives row, k)) d asks h)
+    (λ from bytes k. stands now (Mutator m (Write p from bytes)) r next lasts (Gives row false, k))
+    (λ from len k. stands now (Mutator m (Read p from len)) r next lasts (Gives row false, k))
+    (λ k. stands now (Mutator m (View p)) r next lasts (Gives row false, k)) d asks h)
     c h
 
 pub steps_left : (now : Moment) (step : Step) (r : Reply) (next : Moment) → IsMoment now → Commanded now (Evacuator step) r next → StepLeaves now step r next

@@ -5,6 +5,7 @@ pub mod AloneFirst
 pub mod AloneLaw
 pub mod AloneLies
 pub mod AloneNew
+pub mod AloneOwn
 pub mod AloneTurns
 pub mod AloneViews
 pub mod Along
@@ -19,6 +20,8 @@ pub mod Failures
 pub mod FarRefusals
 pub mod GivenBytes
 pub mod GivenFree
+pub mod HeldBeside
+pub mod HeldBySteps
 pub mod HotViews
 pub mod InquiryLaws
 pub mod Kept
@@ -29,6 +32,7 @@ pub mod LeftBySteps
 pub mod LeftByWalks
 pub mod Listed
 pub mod Misleading
+pub mod LyingOnce
 pub mod MovesTaken
 pub mod OutputLaws
 pub mod PlainReplies

@@ -3,7 +3,7 @@ use Rattle.std.proofs.Common.{◌≡◌, ◌≢◌, ℕ, nat_eq, ◌+◌, ◌-�
 use Rattle.std.specs.Prelude.{map, replicate, nat_le, ◌/◌, ◌^◌, ◌⊎◌, ◌↔◌, bit_or, All, Contains}
 use Rattle.std.specs.Bool.{MatchBool}
 use Rattle.std.specs.List.{flat_map, range_with_len}
-use Rattle.std.proofs.lemmas.Bool.{lt-leb, eqb-true, eqb-false}
+use Rattle.std.proofs.lemmas.Bool.{lt-leb, eqb-true, eqb-false, false≢true}
 use Rattle.std.proofs.lemmas.Bool.Decides.{nat_tests}
 use Rattle.far_word.specs.declared.refused.Refused.{Refused as Refusal}
 use Rattle.far_word.specs.declared.refused.Refused.TheVariants.{Range, Length, NoPointer, NoRoom, Marked, Shape, StillOpen, Syntax}
@@ -36,7 +36,7 @@ use Rattle.far_replay.specs.Effects.{is_slow, with_view}
 use Rattle.far_replay.proofs.AloneRuns.{quiet_run, quiet_view}
 use Rattle.far_replay.specs.Moment.{Moment, with_core, as_if_stored}
 use Rattle.far_replay.specs.Alone.{Alone, KnowsBy, Own}
-use Rattle.far_replay.specs.Answers.{Answered, AnsweredBy, Answers, Commanded, Outside, Serves, Served, IsMoment, IsOutput, shape_of, first_moment, flaws, is_true, lie_of, FlawedAtMost, opened}
+use Rattle.far_replay.specs.Answers.{Answered, AnsweredBy, Commanded, Outside, Serves, Served, IsMoment, IsOutput, shape_of, first_moment, flaws, gives_some, is_true, lie_of, ByDevice, FlawedAtMost, opened}
 use Rattle.far_replay.specs.Commanded.{KeepsFar}
 use Rattle.far_text.specs.Command.{Command, Trace, Nothing, Heap, New, Open, Write, Read, Close, Where, Drop, View, Try, Epoch, Logs, Mutator, Book, Evacuator, Step, Wait, Device as SaidDevice}
 use Rattle.far_text.specs.Grammar.{trace_of}
@@ -71,20 +71,24 @@ use Rattle.far_device.specs.declared.liar.Lie.{Lie}
 
 -- ---- each text has an output
 -- one is that of a device of which no call has a flaw, where memory is never refused
-unspoiled : (lie : Lie) (n : ℕ) (now : Moment) (cs : List Command) → (os : List Outside) × (rs : List Reply) × (moments : List Moment) × FlawedAtMost lie n os × AnsweredBy os now cs rs moments × NoneLacks rs
-unspoiled lie n now [] = ([], [], [], tt, tt, tt)
+unspoiled : (lie : Lie) (n : ℕ) (now : Moment) (cs : List Command) →
+    (os : List Outside) × (rs : List Reply) × (moments : List Moment) × (FlawedAtMost lie n os × (gives_some os ≡ false)) × AnsweredBy os now cs rs moments × NoneLacks rs
+unspoiled lie n now [] = ([], [], [], (tt, refl), tt, tt)
 unspoiled lie n now (c ∷ cs) =
     let rest = unspoiled lie n (effect now c) cs in
     let served : Served now c (reply_to now c) (effect now c) = record { reply = refl; moment = refl } in
     (Serves ∷ rest.0, reply_to now c ∷ rest.1, effect now c ∷ rest.2, rest.3, (served, rest.4), ((served_silent now c (reply_to now c) (effect now c) served).2, rest.5))
 
 heap_answered : (logs mutators epoch : ℕ) (device : Option SaidDevice) (cs : List Command) (b : Bool) →
-    (output : List ℕ) × MatchBool b ((os : List Outside) × (rs : List Reply) × (moments : List Moment) × FlawedAtMost (lie_of device) (flaws device) os
+    (output : List ℕ) × MatchBool b ((os : List Outside) × (rs : List Reply) × (moments : List Moment) × ByDevice (lie_of device) (flaws device) os (first_moment logs mutators epoch (is_true device)) cs moments
     × AnsweredBy os (first_moment logs mutators epoch (is_true device)) cs rs moments × (output ≡ flat_map reply_text (opened device ++ rs))) (output ≡ reply_text (Refused Shape))
-    × MatchBool b ((os : List Outside) × (rs : List Reply) × (moments : List Moment) × FlawedAtMost (lie_of device) (flaws device) os
+    × MatchBool b ((os : List Outside) × (rs : List Reply) × (moments : List Moment) × ByDevice (lie_of device) (flaws device) os (first_moment logs mutators epoch (is_true device)) cs moments
     × AnsweredBy os (first_moment logs mutators epoch (is_true device)) cs rs moments × (output ≡ flat_map reply_text (opened device ++ rs)) × NoneLacks rs) (output ≡ reply_text (Refused Shape))
 heap_answered logs mutators epoch device cs true =
-    let x = unspoiled (lie_of device) (flaws device) (first_moment logs mutators epoch (is_true device)) cs in (flat_map reply_text (opened device ++ x.1), (x.0, x.1, x.2, x.3, x.4, refl), (x.0, x.1, x.2, x.3, x.4, refl, x.5))
+    let now = first_moment logs mutators epoch (is_true device) in
+    let x = unspoiled (lie_of device) (flaws device) now cs in
+    let by : ByDevice (lie_of device) (flaws device) x.0 now cs x.2 = record { few = x.3.0; along = λ some. absurd (false≢true (sym x.3.1 ∙ some)) } in
+    (flat_map reply_text (opened device ++ x.1), (x.0, x.1, x.2, by, x.4, refl), (x.0, x.1, x.2, by, x.4, refl, x.5))
 heap_answered logs mutators epoch device cs false = (reply_text (Refused Shape), refl, refl)
 
 read_answered : (read : Result Trace ℕ) → (output : List ℕ) × IsOutput read output × IsAmple read output
@@ -167,7 +171,7 @@ stays_with c why now t blind h =
 
 -- a cell that gets HOT
 gains_hot : (a : Marks) → MayGain a (marks_with Hot a)
-gains_hot a = record { hot = λ _. refl; moved = λ h. h; evac = refl; dropped = refl }
+gains_hot a = record { hot = λ _. refl; moved = λ h. h; evac = refl; dropped = refl; dirty = refl }
 
 cell_hot : (o : Option PtrWord) → CellStays o (map_mark Hot o)
 cell_hot (Some (Near len ds place marks)) = (refl, refl, refl, gains_hot marks)
@@ -203,7 +207,7 @@ marked_stays c why s p new may apart stays object = record {
 }
 
 gains_both : (a : Marks) → MayGain a (marks_with Moved (marks_with Hot a))
-gains_both a = record { hot = λ _. refl; moved = λ _. refl; evac = refl; dropped = refl }
+gains_both a = record { hot = λ _. refl; moved = λ _. refl; evac = refl; dropped = refl; dirty = refl }
 
 cell_asked : (o : Option PtrWord) → CellStays o (map_mark Moved (map_mark Hot o))
 cell_asked (Some (Near len ds place marks)) = (refl, refl, refl, gains_both marks)

@@ -20,7 +20,7 @@ use Rattle.far_evac.specs.declared.census.LogKind.TheVariants as kinds
 use Rattle.far_evac.specs.declared.phase.Phase.{Phase as RoundPhase}
 use Rattle.far_evac.specs.declared.phase.Phase.TheVariants as phases
 use Rattle.far_book.specs.declared.home.Home.TheVariants.{Near, Far}
-use Rattle.far_replay_laws.specs.Headline.{IsToldInFull, IsHomeToldInFull, AreCountsToldInFull, IsLineToldInFull, AreToldInFull, IsRefusalToldInFull, IsWaitToldInFull, AreToldAsNumbers, IsProgressToldInFull, IsEndToldInFull}
+use Rattle.far_replay_laws.specs.Headline.{but_dirty, IsToldInFull, IsHomeToldInFull, AreCountsToldInFull, IsLineToldInFull, AreToldInFull, IsRefusalToldInFull, IsWaitToldInFull, AreToldAsNumbers, IsProgressToldInFull, IsEndToldInFull}
 use Rattle.far_replay.specs.Commanded.{KeepsNear}
 use Rattle.far_reply.specs.declared.reply.Counts.{Counts}
 use Rattle.far_reply.specs.declared.reply.LogLine.{LogLine}
@@ -228,49 +228,53 @@ refused_alike a b p q e =
     sym (told_back a p) ∙ ap (λ n. refusal_from n (detail a)) number ∙ ap (refusal_from (refusal_number b)) details ∙ told_back b q
 
 -- ---- where an object is
+-- marks but for DIRTY, which has no letter
+abbrev lettered : Marks → Marks
+lettered m = record m { dirty = false }
+
 -- the marks whose letters these are
 abbrev has_letter : ℕ → List ℕ → Bool
 has_letter b [] = false
 has_letter b (x ∷ xs) = (x == b) || has_letter b xs
 
 abbrev marks_of : List ℕ → Marks
-marks_of word = record { hot = has_letter 104 word; evac = has_letter 101 word; moved = has_letter 109 word; dropped = has_letter 100 word }
+marks_of word = record { hot = has_letter 104 word; evac = has_letter 101 word; moved = has_letter 109 word; dropped = has_letter 100 word; dirty = false }
 
-letters_back : (h e m d : Bool) → marks_of (letters_of record { hot = h; evac = e; moved = m; dropped = d }) ≡ record { hot = h; evac = e; moved = m; dropped = d }
-letters_back false false false false = refl
-letters_back false false false true = refl
-letters_back false false true false = refl
-letters_back false false true true = refl
-letters_back false true false false = refl
-letters_back false true false true = refl
-letters_back false true true false = refl
-letters_back false true true true = refl
-letters_back true false false false = refl
-letters_back true false false true = refl
-letters_back true false true false = refl
-letters_back true false true true = refl
-letters_back true true false false = refl
-letters_back true true false true = refl
-letters_back true true true false = refl
-letters_back true true true true = refl
+letters_back : (h e m d b : Bool) → marks_of (letters_of record { hot = h; evac = e; moved = m; dropped = d; dirty = b }) ≡ record { hot = h; evac = e; moved = m; dropped = d; dirty = false }
+letters_back false false false false b = refl
+letters_back false false false true b = refl
+letters_back false false true false b = refl
+letters_back false false true true b = refl
+letters_back false true false false b = refl
+letters_back false true false true b = refl
+letters_back false true true false b = refl
+letters_back false true true true b = refl
+letters_back true false false false b = refl
+letters_back true false false true b = refl
+letters_back true false true false b = refl
+letters_back true false true true b = refl
+letters_back true true false false b = refl
+letters_back true true false true b = refl
+letters_back true true true false b = refl
+letters_back true true true true b = refl
 
-marks_alike : (m n : Marks) → letters_of m ≡ letters_of n → m ≡ n
-marks_alike m n e = sym (letters_back m.hot m.evac m.moved m.dropped) ∙ ap marks_of e ∙ letters_back n.hot n.evac n.moved n.dropped
+marks_alike : (m n : Marks) → letters_of m ≡ letters_of n → lettered m ≡ lettered n
+marks_alike m n e = sym (letters_back m.hot m.evac m.moved m.dropped m.dirty) ∙ ap marks_of e ∙ letters_back n.hot n.evac n.moved n.dropped n.dirty
 
 near_right : (place : Place) (m : Marks) → home_printed (Near place m) ≡ codes "near " ++ (decimal place.log ++ (32 ∷ (decimal place.at ++ (32 ∷ (letters_of m ++ codes "\n")))))
 near_right place m = chained (codes "near ") (decimal place.log ∷ codes " " ∷ decimal place.at ∷ codes " " ∷ letters_of m ∷ []) (codes "\n")
 
-near_alike : (place at : Place) (m n : Marks) → IsHomeToldInFull (Near place m) → IsHomeToldInFull (Near at n) → reply_text (Lies (Near place m)) ≡ reply_text (Lies (Near at n)) → Lies (Near place m) ≡ Lies (Near at n)
+near_alike : (place at : Place) (m n : Marks) → IsHomeToldInFull (Near place m) → IsHomeToldInFull (Near at n) → reply_text (Lies (Near place m)) ≡ reply_text (Lies (Near at n)) → Lies (Near place (lettered m)) ≡ Lies (Near at (lettered n))
 near_alike place at m n p q e =
     let (log, a) = cut 32 (decimal place.log) (decimal at.log) _ _ (decimal_free 32 place.log (omega arith) p.0) (decimal_free 32 at.log (omega arith) q.0)
     (append_cancel_left (codes "near ") _ _ (sym (near_right place m) ∙ e ∙ near_right at n)) in
     let (word, b) = cut 32 (decimal place.at) (decimal at.at) _ _ (decimal_free 32 place.at (omega arith) p.1) (decimal_free 32 at.at (omega arith) q.1) a in
-    let marks : m ≡ n = marks_alike m n (append_cancel_right _ _ (codes "\n") b) in
+    let marks : lettered m ≡ lettered n = marks_alike m n (append_cancel_right _ _ (codes "\n") b) in
     let log_same : place.log ≡ at.log = decimal_injective place.log at.log p.0 q.0 log in
     let word_same : place.at ≡ at.at = decimal_injective place.at at.at p.1 q.1 word in
     (λ i. Lies (Near record { log = log_same i; at = word_same i } (marks i)))
 
-far_alike : (m n : Marks) → reply_text (Lies (Far m)) ≡ reply_text (Lies (Far n)) → Lies (Far m) ≡ Lies (Far n)
+far_alike : (m n : Marks) → reply_text (Lies (Far m)) ≡ reply_text (Lies (Far n)) → Lies (Far (lettered m)) ≡ Lies (Far (lettered n))
 far_alike m n e = ap (λ (x : Marks). Lies (Far x)) (marks_alike m n (append_cancel_left (codes "far ") _ _ (append_cancel_right _ _ (codes "\n") e)))
 
 -- ---- what an audit counts
@@ -580,7 +584,7 @@ form_back OfRefusal (Midway why progress) = refl
 form_back _ x = refl
 
 -- those of one form
-same_form : (f : Form) (x y : Payload f) → IsToldInFull (packed f x) → IsToldInFull (packed f y) → reply_text (packed f x) ≡ reply_text (packed f y) → packed f x ≡ packed f y
+same_form : (f : Form) (x y : Payload f) → IsToldInFull (packed f x) → IsToldInFull (packed f y) → reply_text (packed f x) ≡ reply_text (packed f y) → but_dirty (packed f x) ≡ but_dirty (packed f y)
 same_form OfPointer x y a b e = ap Pointer (pointers_alike x y a b e)
 same_form OfData x y a b e = ap Data (bytes_alike x y a b e)
 same_form OfLogs x y a b e = ap Logs (lines_alike x y a b e)
@@ -589,20 +593,20 @@ same_form OfFar x y a b e = far_alike x y e
 same_form OfCounts x y a b e = ap Audited (counts_alike x y a b e)
 same_form OfEpoch x y a b e = ap EpochRead (epochs_alike x y a b e)
 same_form OfChosen x y a b e = ap Selected (chosen_alike x y a b (append_cancel_left (codes "selected") _ _ (append_cancel_right _ _ (codes "\n") e)))
-same_form OfMarked x y a b e = marked_alike x.0 y.0 x.1 y.1 a b e
+same_form OfMarked x y a b e = ap but_dirty (marked_alike x.0 y.0 x.1 y.1 a b e)
 same_form OfEvacuated x y a b e = ap Evacuated (evacuated_alike x y a b e)
 same_form OfEnd x y a b e = ap Ended (ends_alike x y a b (append_cancel_left (codes "round ") _ _ (append_cancel_right _ _ (codes "\n") e)))
-same_form OfRefusal x y a b e = turned_alike x y a b e
+same_form OfRefusal x y a b e = ap but_dirty (turned_alike x y a b e)
 same_form _ x y a b e = refl
 
 -- what is printed alike is of one form
-all_forms : (f g : Form) → f ≡ g → (x : Payload f) (y : Payload g) → IsToldInFull (packed f x) → IsToldInFull (packed g y) → reply_text (packed f x) ≡ reply_text (packed g y) → packed f x ≡ packed g y
-all_forms f g e x = subst (λ (h : Form). (y : Payload h) → IsToldInFull (packed f x) → IsToldInFull (packed h y) → reply_text (packed f x) ≡ reply_text (packed h y) → packed f x ≡ packed h y) e (same_form f x)
+all_forms : (f g : Form) → f ≡ g → (x : Payload f) (y : Payload g) → IsToldInFull (packed f x) → IsToldInFull (packed g y) → reply_text (packed f x) ≡ reply_text (packed g y) → but_dirty (packed f x) ≡ but_dirty (packed g y)
+all_forms f g e x = subst (λ (h : Form). (y : Payload h) → IsToldInFull (packed f x) → IsToldInFull (packed h y) → reply_text (packed f x) ≡ reply_text (packed h y) → but_dirty (packed f x) ≡ but_dirty (packed h y)) e (same_form f x)
 
-pub printed_alike : (r q : Reply) → IsToldInFull r → IsToldInFull q → reply_text r ≡ reply_text q → r ≡ q
+pub printed_alike : (r q : Reply) → IsToldInFull r → IsToldInFull q → reply_text r ≡ reply_text q → but_dirty r ≡ but_dirty q
 printed_alike r q a b e =
     let one = unpacked r in
     let other = unpacked q in
     let same : reply_text (packed one.0 one.1) ≡ reply_text (packed other.0 other.1) = ap reply_text (sym one.2) ∙ e ∙ ap reply_text other.2 in
     let form : one.0 ≡ other.0 = sym (form_back one.0 one.1) ∙ ap form_from same ∙ form_back other.0 other.1 in
-    one.2 ∙ all_forms one.0 other.0 form one.1 other.1 (subst IsToldInFull one.2 a) (subst IsToldInFull other.2 b) same ∙ sym other.2
+    ap but_dirty one.2 ∙ all_forms one.0 other.0 form one.1 other.1 (subst IsToldInFull one.2 a) (subst IsToldInFull other.2 b) same ∙ sym (ap but_dirty other.2)

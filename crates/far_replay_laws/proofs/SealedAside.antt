@@ -4,7 +4,7 @@ use Rattle.std.proofs.lemmas.Bool.{and_parts, cond_both, false≢true, not-false
 use Rattle.far_core.proofs.Bounds.{some_of}
 use Rattle.std.proofs.lemmas.Bool.Decides.{nat_tests}
 use Rattle.far_word.specs.declared.mark.Mark.{Mark}
-use Rattle.far_word.specs.declared.mark.Mark.TheVariants.{Hot, Evac, Moved}
+use Rattle.far_word.specs.declared.mark.Mark.TheVariants.{Hot, Evac, Moved, Dirty}
 use Rattle.far_word.specs.declared.mark.Marks.{Marks}
 use Rattle.far_word.specs.declared.pointer.Place.{Place}
 use Rattle.far_word.specs.declared.pointer.PtrWord.{PtrWord}
@@ -22,6 +22,7 @@ use Rattle.far_core.specs.state.Room.{room}
 use Rattle.far_core.specs.state.State.{State, put}
 use Rattle.far_core.proofs.Cells.{map_mark}
 use Rattle.far_core.proofs.Marking.{is_owners, read_mark}
+use Rattle.far_core.proofs.events.Soil.{reads}
 use Rattle.far_book.specs.book.Dealing.{goal_of, has_evac}
 use Rattle.far_book.specs.book.Effects.{moved, placed, stayed, with_free_cell}
 use Rattle.far_book.specs.book.SealedLogs.{KeepsSealed}
@@ -36,7 +37,7 @@ use Rattle.far_replay.specs.Moment.{Moment}
 use Rattle.far_replay.specs.Objects.{is_range, lowest_cell, object_len, uses}
 use Rattle.far_replay.specs.Turn.{effect, refusal, refused_effect, turn_effect, unless, with_new}
 use Rattle.far_replay.proofs.Brought.{MayBring, brought}
-use Rattle.far_replay.proofs.Dereferences.{sought_law, sought_may, view_leads}
+use Rattle.far_replay.proofs.Dereferences.{derefs, sought_law, sought_may, view_leads}
 use Rattle.far_replay.proofs.Drops.{drop_is, unheld_is}
 use Rattle.far_replay.proofs.Leading.{leads_law}
 use Rattle.far_replay.proofs.Lowest.{lowest_cell_is}
@@ -91,6 +92,20 @@ near_marked k h _ len ds place marks e = absurd cc
 marked_on : (k : Mark) → is_owners k ≡ true → (s : State) (p : ℕ) → Law s → in_use (read_of (s.cell p)) ≡ true → KeepsSealed s (record s { cell = put s.cell p (bit_or (s.cell p) (2 ^ position k)); stored = s.stored })
 marked_on k h s p law live = one_cell s p (bit_or (s.cell p) (2 ^ position k)) s.stored
     (λ len ds place marks near shut. near_marked k h (read_of (s.cell p)) len ds place marks (sym (read_mark k (s.cell p) h (law.cells.cell_read p).0 live).0 ∙ near))
+
+-- or DIRTY
+near_dirty : (o : Option PtrWord) (len ds : ℕ) (place : Place) (marks : Marks) → map_mark Dirty o ≡ Some (Near len ds place marks) → (old : Marks) × (o ≡ Some (Near len ds place old)) × (marks.evac ≡ old.evac)
+near_dirty (Some (Near n d at a)) len ds place marks e =
+    let long : n ≡ len = cc in
+    let structure : d ≡ ds = cc in
+    let there : at ≡ place = cc in
+    let more : marks_with Dirty a ≡ marks = cc in
+    (a, (λ i. Some (Near (long i) (structure i) (there i) a)), ap (λ (m : Marks). m.evac) (sym more))
+near_dirty _ len ds place marks e = absurd cc
+
+dirty_on : (s : State) (p : ℕ) → Law s → is_some (s.held p) ≡ true → KeepsSealed s (record s { cell = put s.cell p (bit_or (s.cell p) (2 ^ position Dirty)); stored = s.stored })
+dirty_on s p law held = one_cell s p (bit_or (s.cell p) (2 ^ position Dirty)) s.stored
+    (λ len ds place marks near shut. near_dirty (read_of (s.cell p)) len ds place marks (sym (reads s law p held).0 ∙ near))
 
 -- views and askings
 view_sealed : (s : State) (p : ℕ) → Law s → in_use (read_of (s.cell p)) ≡ true → KeepsSealed s (with_view s p)
@@ -160,7 +175,10 @@ module _ (s : State) (m p : ℕ) (law : Law s) (opened : is_opened s m ≡ true)
   pub writes_sealed : (from : ℕ) (bytes : List ℕ) → has_no_room s m p ≡ false → KeepsSealed s (with_data (dereferenced s m p) p from bytes)
   writes_sealed from bytes found =
       let t : State = dereferenced s m p in
-      sealed_more s t (with_data t p from bytes) (derefs_sealed found) (sealed_same t (with_data t p from bytes) refl refl refl refl refl refl refl refl)
+      let led = derefs s m p law opened ours found in
+      let dirty : State = record t { cell = put t.cell p (bit_or (t.cell p) (2 ^ position Dirty)); stored = t.stored } in
+      sealed_more s t (with_data t p from bytes) (derefs_sealed found)
+      (sealed_more t dirty (with_data t p from bytes) (dirty_on t p led.law (ap is_some led.view.holds.rests)) (sealed_same dirty (with_data t p from bytes) refl refl refl refl refl refl refl refl))
 
 -- ---- a new object, and one that is dropped
 new_sealed : (s : State) (m len ds p : ℕ) (place : Place) → Law s → m < s.mutators → ds < 256 → 0 < len → len ≤ LONGEST → lowest_cell s m ≡ Some p → room s (size_of len) true ≡ Some place →

@@ -12,7 +12,7 @@ use Rattle.far_word.specs.Bytes.{packed_word}
 use Rattle.far_word.specs.Pointer.{read_of}
 use Rattle.far_word.specs.Sizes.{words_for}
 use Rattle.far_core.specs.declared.event.Event.{Event}
-use Rattle.far_core.specs.declared.event.Event.TheVariants.{Pin as Pins, Load as Loads, Store as Stores, Put as Puts, Name as Names}
+use Rattle.far_core.specs.declared.event.Event.TheVariants.{Pin as Pins, Load as Loads, Store as Stores, Soil as Soils, Put as Puts, Name as Names}
 use Rattle.far_core.specs.declared.event.Reply.{Reply as Answer}
 use Rattle.far_core.specs.declared.event.Reply.TheVariants.{Refused as Failed}
 use Rattle.far_core.specs.declared.naming.Naming.{Naming}
@@ -36,7 +36,7 @@ use Rattle.far_replay.specs.Commanded.{AsksFor, LiesFar}
 use Rattle.far_replay.specs.Dereference.{come, comes_to, dereferenced, sought, sought_of}
 use Rattle.far_replay.specs.Effects.{is_slow, near_word, with_view}
 use Rattle.far_replay.specs.EventRows.{AllSucceed, Succeeds, after_events}
-use Rattle.far_replay.specs.Events.{asked_events, asked_events_of, come_events, come_events_of, dereference_events, ends_inside, events_for, first_loads, first_word, last_loads, load_events, name_events, part_events, refused_events, sought_events, span_events, starts_inside, store_events, turn_events, view_events, words_touched}
+use Rattle.far_replay.specs.Events.{asked_events, asked_events_of, come_events, come_events_of, dereference_events, ends_inside, events_for, first_loads, first_word, last_loads, load_events, name_events, part_events, refused_events, soil_events, sought_events, span_events, starts_inside, store_events, turn_events, view_events, words_touched}
 use Rattle.far_replay.specs.Moment.{Moment, with_stored}
 use Rattle.far_replay.specs.Objects.{data_of, uses, with_range}
 use Rattle.far_replay.specs.Turn.{refusal, unless}
@@ -53,6 +53,7 @@ abbrev pub StoresNone : Event → Type 0
 StoresNone (Pins m p) = Unit {0}
 StoresNone (Loads m p i) = Unit {0}
 StoresNone (Stores m p i w) = Unit {0}
+StoresNone (Soils m p) = Unit {0}
 StoresNone (Puts l at w) = Unit {0}
 StoresNone (Names p old new) = SendsNone (naming_of (read_of old) (read_of new))
 StoresNone e = ⊥
@@ -104,6 +105,7 @@ module _ (s : State) (p : ℕ) (row : ℕ → ℕ) (lies : s.honest ≡ false) w
   same_legal (Pins m q) none = refl
   same_legal (Loads m q i) none = refl
   same_legal (Stores m q i w) none = refl
+  same_legal (Soils m q) none = refl
   same_legal (Puts l at w) none = refl
   same_legal (Names q old new) none = ap (λ b. nat_lt q (CELLS * s.mutators) && b) (naming_may q new (naming_of (read_of old) (read_of new)))
   same_legal e none = absurd none
@@ -112,6 +114,7 @@ module _ (s : State) (p : ℕ) (row : ℕ → ℕ) (lies : s.honest ≡ false) w
   same_after (Pins m q) none = refl
   same_after (Loads m q i) none = refl
   same_after (Stores m q i w) none = refl
+  same_after (Soils m q) none = refl
   same_after (Puts l at w) none = refl
   same_after (Names q old new) none =
       let form : Option Naming = naming_of (read_of old) (read_of new) in
@@ -123,6 +126,7 @@ module _ (s : State) (p : ℕ) (row : ℕ → ℕ) (lies : s.honest ≡ false) w
   same_answer (Pins m q) none = refl
   same_answer (Loads m q i) none = refl
   same_answer (Stores m q i w) none = refl
+  same_answer (Soils m q) none = refl
   same_answer (Puts l at w) none = refl
   same_answer (Names q old new) none = refl
   same_answer e none = absurd none
@@ -161,7 +165,7 @@ unless_kept b x none = cond_both b x None SendsNone (λ _. none) (λ _ len place
 far_stays : (len ds : ℕ) (m : Marks) (o : Option PtrWord) → SendsNone (naming_of (Some (Far len ds m)) o)
 far_stays len ds m None = λ n place e. absurd cc
 far_stays len ds m (Some Free) = unless_kept m.dropped (Some Retires) (λ n place e. absurd cc)
-far_stays len ds m (Some (Near n d at k)) = unless_kept (is_kept m k len n ds d) (Some (Fetches len ds at)) (λ n place e. absurd cc)
+far_stays len ds m (Some (Near n d at k)) = unless_kept (is_kept false m k len n ds d) (Some (Fetches len ds at)) (λ n place e. absurd cc)
 far_stays len ds m (Some (Far n d k)) = λ n place e. absurd cc
 
 view_none : (s : State) (m p : ℕ) → Each StoresNone (view_events s m p)
@@ -169,9 +173,9 @@ view_none s m p = cond_both (is_some (s.held p)) [] (Pins m p ∷ []) (Each Stor
 
 come_none_of : (t : State) (p : ℕ) (x : Option Place) (len ds : ℕ) (marks : Marks) → read_of (t.cell p) ≡ Some (Far len ds marks) → Each StoresNone (come_events_of t p x (Some (Far len ds marks)))
 come_none_of t p None len ds marks far = tt
-come_none_of t p (Some place) len ds marks far = Each-append StoresNone (span_events p len ds place (t.stored p)) (name_events t p len ds place)
+come_none_of t p (Some place) len ds marks far = Each-append StoresNone (span_events p len ds place (t.stored p)) (name_events t p false len ds place)
     (tt, Each-row StoresNone (λ i. Puts place.log (place.at + 1 + i) (t.stored p i)) 0 (words_for len) (λ i _. tt))
-    (subst (λ o. SendsNone (naming_of o (read_of (near_word len ds place)))) (sym far) (far_stays len ds marks (read_of (near_word len ds place))), tt)
+    (subst (λ o. SendsNone (naming_of o (read_of (near_word false len ds place)))) (sym far) (far_stays len ds marks (read_of (near_word false len ds place))), tt)
 
 module _ (s : State) (m p : ℕ) (law : Law s) (opened : is_opened s m ≡ true) (ours : uses s m p ≡ true) (far : LiesFar s p) where
   module _ (slow : is_slow s p ≡ true) where
@@ -209,6 +213,9 @@ parts_none m p from count =
     (cond_both (starts_inside from count) (Loads m p (from / 8) ∷ []) [] (Each StoresNone) (λ _. (tt, tt)) (λ _. tt))
     (cond_both (ends_inside from count) (Loads m p ((from + count) / 8) ∷ []) [] (Each StoresNone) (λ _. (tt, tt)) (λ _. tt))
 
+soils_none : (s : State) (m p : ℕ) → Each StoresNone (soil_events s m p)
+soils_none s m p = cond_both (s.soiled p) [] (Soils m p ∷ []) (Each StoresNone) (λ _. tt) (λ _. (tt, tt))
+
 stores_none : (m p first count : ℕ) (bytes : List ℕ) → Each StoresNone (store_events m p first count bytes)
 stores_none m p first count bytes = Each-row StoresNone (λ i. Stores m p i (packed_word bytes i)) first count (λ i _. tt)
 
@@ -218,8 +225,9 @@ turn_none now m p c asks law opened ours far = by_asked m p (λ d. Each StoresNo
     let new : List ℕ = with_range (data_of (dereferenced now.core m p) p) from bytes in
     let part : List Event = part_events m p from (length bytes) in
     let stored : List Event = store_events m p (first_word from) (words_touched from (length bytes)) new in
-    Each-append StoresNone (dereference_events now.core m p ++ part) stored
-    (Each-append StoresNone (dereference_events now.core m p) part (deref_none now.core m p law opened ours far) (parts_none m p from (length bytes))) (stores_none m p (first_word from) (words_touched from (length bytes)) new))
+    let soil : List Event = soil_events (dereferenced now.core m p) m p in
+    Each-append StoresNone (dereference_events now.core m p ++ soil ++ part) stored
+    (Each-append StoresNone (dereference_events now.core m p ++ soil) part (Each-append StoresNone (dereference_events now.core m p) soil (deref_none now.core m p law opened ours far) (soils_none (dereferenced now.core m p) m p)) (parts_none m p from (length bytes))) (stores_none m p (first_word from) (words_touched from (length bytes)) new))
     (λ from len. Each-append StoresNone (dereference_events now.core m p) (load_events m p (first_word from) (words_touched from len)) (deref_none now.core m p law opened ours far) (loads_none m p (first_word from) (words_touched from len)))
     (deref_none now.core m p law opened ours far) c asks
 

@@ -3,6 +3,7 @@ use Rattle.std.proofs.Common.{List, ◌≡◌, ◌≤◌, ◌<◌, ◌^◌, ℕ,
 use Rattle.std.specs.Prelude.{◌↔◌}
 use Rattle.std.proofs.lemmas.Bool.{and_parts, false≢true, ltb-true, true≢false}
 use Rattle.std.proofs.lemmas.Bool.Decides.{nat_tests}
+use Rattle.far_word.specs.declared.mark.Mark.TheVariants.{Dirty}
 use Rattle.far_word.specs.declared.pointer.Place.{Place}
 use Rattle.far_word.specs.declared.pointer.PtrWord.{PtrWord}
 use Rattle.far_word.specs.declared.pointer.PtrWord.TheVariants.{Free, Near, Far}
@@ -16,6 +17,7 @@ use Rattle.far_core.specs.state.Shape.{is_shape}
 use Rattle.far_core.specs.state.Law.{Law, head_len}
 use Rattle.far_core.specs.state.State.{State, addr, put}
 use Rattle.far_core.specs.events.Ranges.{with_row}
+use Rattle.far_core.specs.events.Soil.{after_soil}
 use Rattle.far_core.specs.events.Step.{after_close, data_len, is_opened, near_data, near_len}
 use Rattle.far_core.specs.state.Spans.{names_place, spans_of}
 use Rattle.far_core.proofs.Bounds.{span_len}
@@ -43,8 +45,9 @@ use Rattle.far_replay.specs.Turn.{refusal, unless, turn_effect, refused_effect, 
 use Rattle.far_replay.proofs.Drops.{drop_is, unheld_is}
 use Rattle.far_replay.proofs.Dereferences.{derefs, sought_lacks}
 use Rattle.far_replay.proofs.Lasting.{moment_lasts, misled_from}
-use Rattle.far_replay.proofs.LogBytes.{bytes_move, celled_takes, headed_takes, move_then, names_one, none_taken, worded_takes}
+use Rattle.far_replay.proofs.LogBytes.{bytes_move, celled_takes, headed_takes, move_then, names_at, names_one, none_taken, worded_takes}
 use Rattle.far_replay_laws.proofs.MovesTaken.{step_takes, stop_takes}
+use Rattle.far_replay.proofs.Soiling.{soiled_reads}
 use Rattle.far_replay.proofs.TakingView.{deref_more, view_takes}
 use Rattle.far_replay.proofs.Turns.{access_fact, led, marked_last, new_object_is, new_parts, new_tests, room_lacks, room_last, three, tried}
 use Rattle.far_replay.proofs.Views.{Viewed}
@@ -80,7 +83,7 @@ new_taken s m len ds p place law none cell found =
           (bytes_move s there law done.1 p len ds place (at_tail s law place parts.room.next) done.3.cell done.3.cells done.3.header done.3.words done.3.tail done.3.tails None (Some Free) (ap read_of parts.free ∙ unused) (λ k. refl) l),
     )
 
--- a write: it changes no header
+-- a write: it changes no header, and of its object's cell DIRTY alone
 module _ (s : State) (m p : ℕ) (law : Law s) (view : Viewed s s m p) (row : ℕ → ℕ) where
   inside : (a : ℕ) → s.starts a ≡ true → near_data (read_of (s.cell p)) ≤ a → a < near_data (read_of (s.cell p)) + words_for (data_len s p) → ⊥
   inside a begun low high =
@@ -93,9 +96,13 @@ module _ (s : State) (m p : ℕ) (law : Law s) (view : Viewed s s m p) (row : �
       let at : addr view.place + (a - addr view.place) ≡ a = omega (arith, low, first) in
       false≢true (sym (span.alone (a - addr view.place) (omega (arith, low, first)) (omega (arith, low, high, first, count, long))) ∙ ap s.starts at ∙ begun)
 
-  write_takes : TakesNone s (record s { word = with_row s.word (near_data (read_of (s.cell p))) (words_for (data_len s p)) row })
-  write_takes = headed_takes s (record s { word = with_row s.word (near_data (read_of (s.cell p))) (words_for (data_len s p)) row }) law
-      (λ a begun. row_other s.word (near_data (read_of (s.cell p))) (words_for (data_len s p)) row a (inside a begun)) refl refl (λ q l at. refl)
+  abbrev written : State
+  written = record (after_soil s p) { word = with_row s.word (near_data (read_of (s.cell p))) (words_for (data_len s p)) row }
+
+  write_takes : TakesNone s written
+  write_takes = headed_takes s written law
+      (λ a begun. row_other s.word (near_data (read_of (s.cell p))) (words_for (data_len s p)) row a (inside a begun)) refl refl
+      (names_at s written p Dirty (λ q ne. put_other s.cell p _ q ne) (soiled_reads s law m p view.len view.place view.holds))
 
 -- a drop: of a near object no span is taken; of any other nothing
 drop_takes : (s : State) (m p : ℕ) → Law s → m < s.mutators → uses s m p ≡ true → s.held p ≡ None → (o : Option PtrWord) → read_of (s.cell p) ≡ o → DropTakes s o (without_object s m p)

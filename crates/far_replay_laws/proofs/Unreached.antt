@@ -10,9 +10,9 @@ use Rattle.far_word.specs.Pointer.{read_of}
 use Rattle.far_word.specs.Sizes.{size_of}
 use Rattle.far_word.proofs.PointerLaws.{read_says}
 use Rattle.far_log.proofs.Members.{here, there}
-use Rattle.far_core.specs.events.Naming.{no_marks}
+use Rattle.far_core.specs.events.Naming.{no_marks, unmarked}
 use Rattle.far_core.specs.laws.Rooms.{IsRoom, RoomIs}
-use Rattle.far_core.specs.state.Law.{Law}
+use Rattle.far_core.specs.state.Law.{Law, is_dirty}
 use Rattle.far_core.specs.state.Room.{room}
 use Rattle.far_core.specs.state.State.{State}
 use Rattle.far_core.specs.world.WorldOf.{object_of, world_of}
@@ -53,7 +53,7 @@ abbrev pub EvacIs : Bool → Marks → Marks → Type 0
 EvacIs evac a b = (b ≡ a) ⊎ (b ≡ record a { evac = evac })
 
 with_evac : (a b : Marks) (evac : Bool) → b.evac ≡ evac → record b { evac = false } ≡ record a { evac = false } → b ≡ record a { evac = evac }
-with_evac a b evac has same = λ i. record { hot = (same i).hot; evac = has i; moved = (same i).moved; dropped = (same i).dropped }
+with_evac a b evac has same = λ i. record { hot = (same i).hot; evac = has i; moved = (same i).moved; dropped = (same i).dropped; dirty = (same i).dirty }
 
 pub evac_alone : (evac : Bool) (o n : Option PtrWord) → has_evac n ≡ evac → but_evac n ≡ but_evac o → CellBy (EvacIs evac) o n
 evac_alone evac None None has same = tt
@@ -211,7 +211,7 @@ module _ (s : State) (l : ℕ) (ls : List ℕ) (p : ℕ) (ready : Ready s (l ∷
       let why = moves_when x.marks.dropped x.marks.hot (room s (size_of x.len) false) to x.is in
       let way = moving s p x.len x.ds x.place to x.marks x.law x.near x.quiet why.0 x.evac why.1 in
       let says = (read_says (s.cell p) (Near x.len x.ds x.place x.marks) (x.law.cells.cell_read p).0 x.near).0 in
-      let same : Some (Near x.len x.ds to no_marks) ≡ Some (Near len ds place marks) = sym way.3.cell ∙ lies in
+      let same : Some (Near x.len x.ds to (unmarked (is_dirty (read_of (s.cell p))))) ≡ Some (Near len ds place marks) = sym way.3.cell ∙ lies in
       let places : to ≡ place = cc in
       let right : IsRoom s (size_of x.len) false to = subst (RoomIs s (size_of x.len) false) why.1 (room_right s x.law (size_of x.len) false (omega (arith, says))) in
       let mine : to.log ≡ k = ap (λ (x : Place). x.log) places ∙ log in

@@ -1,5 +1,5 @@
 -- What commands do to views: a read or a write views its object, a close ends its mutator's views, all else leaves them; and the logs of views stay.
-use Rattle.std.proofs.Common.{◌≢◌, ◌≡◌, ℕ, ◌+◌, ◌/◌, Bool, true, not, nat_lt, cond, is_some, refl, sym, ap, subst, ◌∙◌, Option, Some, None, List, [], ◌∷◌, ◌++◌, length, inl, inr}
+use Rattle.std.proofs.Common.{◌≢◌, ◌≡◌, ℕ, ◌+◌, ◌/◌, Bool, true, false, not, nat_lt, cond, is_some, refl, sym, ap, subst, ◌∙◌, Option, Some, None, List, [], ◌∷◌, ◌++◌, length, inl, inr}
 use Rattle.std.proofs.lemmas.Bool.{and_parts, cond_both, eq-eqb, ne_eqb}
 use Rattle.far_word.specs.declared.pointer.Place.{Place}
 use Rattle.far_word.specs.declared.refused.Refused.{Refused as Refusal}
@@ -13,7 +13,7 @@ use Rattle.far_word.specs.Header.{head_word}
 use Rattle.far_word.specs.Pointer.{read_of}
 use Rattle.far_word.specs.Sizes.{size_of, words_for}
 use Rattle.far_core.specs.declared.event.Event.{Event}
-use Rattle.far_core.specs.declared.event.Event.TheVariants.{ReadEpoch as ReadsEpoch, Open as Opens, Pin as Pins, Load as Loads, Store as Stores, Close as Closes, Adopt as Adopts, Put as Puts, Name as Names}
+use Rattle.far_core.specs.declared.event.Event.TheVariants.{ReadEpoch as ReadsEpoch, Open as Opens, Pin as Pins, Load as Loads, Store as Stores, Soil as Soils, Close as Closes, Adopt as Adopts, Put as Puts, Name as Names}
 use Rattle.far_core.specs.declared.event.Reply.{Reply as Answer}
 use Rattle.far_core.specs.declared.event.Reply.TheVariants.{Refused as Failed}
 use Rattle.far_core.specs.state.Law.{Law}
@@ -35,7 +35,7 @@ use Rattle.far_replay.specs.Changes.{ViewsObject}
 use Rattle.far_replay_laws.specs.Headline.{IsAtHandFor, LogsStay, Reaches, ViewsNothing, ViewsAfter, carried_as, TellsEvents}
 use Rattle.far_replay.specs.EventRows.{after_events, AllSucceed, AtHand, Succeeds}
 use Rattle.far_reply.specs.Reply.{Reply, Ended, Evacuated, Refused}
-use Rattle.far_replay.specs.Events.{events_for, IsNoStep, turn_events, refused_events, zero_puts, new_events, open_events, view_events, asked_events, asked_events_of, sought_events, span_events, name_events, come_events, come_events_of, dereference_events, load_events, store_events, first_loads, last_loads, part_events, drop_events, first_word, words_touched, starts_inside, ends_inside}
+use Rattle.far_replay.specs.Events.{events_for, IsNoStep, turn_events, refused_events, zero_puts, new_events, open_events, view_events, asked_events, asked_events_of, sought_events, span_events, name_events, come_events, come_events_of, dereference_events, load_events, soil_events, store_events, first_loads, last_loads, part_events, drop_events, first_word, words_touched, starts_inside, ends_inside}
 use Rattle.far_replay.specs.Objects.{lowest_cell, with_range, data_of, is_range, object_len, uses}
 use Rattle.far_replay.specs.Dereference.{come, comes_to, dereferenced, has_no_room, sought}
 use Rattle.far_replay.specs.Effects.{near_word, is_slow, with_view}
@@ -76,6 +76,9 @@ parts m p from count =
     (cond_both (starts_inside from count) (Loads m p (from / 8) ∷ []) [] (Each LeavesViews) (λ _. (load m p (from / 8), tt)) (λ _. tt))
     (cond_both (ends_inside from count) (Loads m p ((from + count) / 8) ∷ []) [] (Each LeavesViews) (λ _. (load m p ((from + count) / 8), tt)) (λ _. tt))
 
+soils : (s : State) (m p : ℕ) → Each LeavesViews (soil_events s m p)
+soils s m p = cond_both (s.soiled p) [] (Soils m p ∷ []) (Each LeavesViews) (λ _. tt) (λ _. (((λ _ _ e. absurd cc), (λ _ e. absurd cc)), tt))
+
 stores : (m p first count : ℕ) (bytes : List ℕ) → Each LeavesViews (store_events m p first count bytes)
 stores m p first count bytes = Each-row LeavesViews (λ i. Stores m p i (packed_word bytes i)) first count (λ i _. ((λ _ _ e. absurd cc), (λ _ e. absurd cc)))
 
@@ -88,7 +91,7 @@ reads m = (((λ _ _ e. absurd cc), (λ _ e. absurd cc)), tt)
 
 pub news : (m len ds : ℕ) (x : Option ℕ) (y : Option Place) → Each LeavesViews (new_events m len ds x y)
 news m len ds (Some p) (Some place) =
-    Each-append LeavesViews (Puts place.log place.at (head_word p len ds) ∷ zero_puts place (words_for len)) (Names p 0 (near_word len ds place) ∷ Adopts m p ∷ [])
+    Each-append LeavesViews (Puts place.log place.at (head_word p len ds) ∷ zero_puts place (words_for len)) (Names p 0 (near_word true len ds place) ∷ Adopts m p ∷ [])
     (((λ _ _ e. absurd cc), (λ _ e. absurd cc)), Each-row LeavesViews (λ i. Puts place.log (place.at + 1 + i) 0) 0 (words_for len) (λ i _. ((λ _ _ e. absurd cc), (λ _ e. absurd cc))))
     (((λ _ _ e. absurd cc), (λ _ e. absurd cc)), (((λ _ _ e. absurd cc), (λ _ e. absurd cc)), tt))
 news m len ds _ _ = tt
@@ -213,15 +216,15 @@ asked_no_close m p _ = tt
 sought_no_close : (s : State) (m p : ℕ) → Each NoClose (sought_events s m p)
 sought_no_close s m p = Each-append NoClose (view_events s m p) (asked_events (with_view s p) m p) (view_no_close s m p) (asked_no_close m p (read_of ((with_view s p).cell p)))
 
-span_no_close : (s : State) (p len ds : ℕ) (place : Place) (row : ℕ → ℕ) → Each NoClose (span_events p len ds place row ++ name_events s p len ds place)
-span_no_close s p len ds place row = Each-append NoClose (span_events p len ds place row) (name_events s p len ds place)
+span_no_close : (s : State) (p : ℕ) (dirty : Bool) (len ds : ℕ) (place : Place) (row : ℕ → ℕ) → Each NoClose (span_events p len ds place row ++ name_events s p dirty len ds place)
+span_no_close s p dirty len ds place row = Each-append NoClose (span_events p len ds place row) (name_events s p dirty len ds place)
     ((λ _ e. absurd cc), Each-row NoClose (λ i. Puts place.log (place.at + 1 + i) (row i)) 0 (words_for len) (λ i _ _ e. absurd cc)) ((λ _ e. absurd cc), tt)
 
 come_no_close : (s : State) (p : ℕ) (x : Option Place) (o : Option PtrWord) → Each NoClose (come_events_of s p x o)
 come_no_close s p (Some place) (Some (Near len ds from marks)) =
-    cond_both marks.evac (span_events p len ds place (data_at s.word from) ++ name_events s p len ds place) (name_events s p len ds place) (Each NoClose)
-    (λ _. span_no_close s p len ds place (data_at s.word from)) (λ _. ((λ _ e. absurd cc), tt))
-come_no_close s p (Some place) (Some (Far len ds marks)) = span_no_close s p len ds place (s.stored p)
+    cond_both marks.evac (span_events p len ds place (data_at s.word from) ++ name_events s p marks.dirty len ds place) (name_events s p marks.dirty len ds place) (Each NoClose)
+    (λ _. span_no_close s p marks.dirty len ds place (data_at s.word from)) (λ _. ((λ _ e. absurd cc), tt))
+come_no_close s p (Some place) (Some (Far len ds marks)) = span_no_close s p false len ds place (s.stored p)
 come_no_close s p _ _ = tt
 
 deref_no_close : (s : State) (m p : ℕ) → Each NoClose (dereference_events s m p)
@@ -240,8 +243,10 @@ closes_last now (Mutator m (Write p from bytes)) =
     let new : List ℕ = with_range (data_of (dereferenced now.core m p) p) from bytes in
     let part : List Event = part_events m p from (length bytes) in
     let stored : List Event = store_events m p (first_word from) (words_touched from (length bytes)) new in
-    none_closes (dereference_events now.core m p ++ part ++ stored) (Each-append NoClose (dereference_events now.core m p ++ part) stored
-    (Each-append NoClose (dereference_events now.core m p) part (deref_no_close now.core m p) (no_close part (parts m p from (length bytes)))) (no_close stored (stores m p (first_word from) (words_touched from (length bytes)) new)))
+    let soil : List Event = soil_events (dereferenced now.core m p) m p in
+    none_closes (dereference_events now.core m p ++ soil ++ part ++ stored) (Each-append NoClose (dereference_events now.core m p ++ soil ++ part) stored
+    (Each-append NoClose (dereference_events now.core m p ++ soil) part
+    (Each-append NoClose (dereference_events now.core m p) soil (deref_no_close now.core m p) (no_close soil (soils (dereferenced now.core m p) m p))) (no_close part (parts m p from (length bytes)))) (no_close stored (stores m p (first_word from) (words_touched from (length bytes)) new)))
 closes_last now (Mutator m (Read p from len)) =
     let loaded : List Event = load_events m p (first_word from) (words_touched from len) in
     none_closes (dereference_events now.core m p ++ loaded) (Each-append NoClose (dereference_events now.core m p) loaded (deref_no_close now.core m p) (no_close loaded (loads m p (first_word from) (words_touched from len))))

@@ -1,17 +1,18 @@
 -- What a refusal of the device, or of memory, is about: an object that is far, and stays so, or objects that leave; and how often the device refuses, and how often it gives other bytes.
-use Rattle.std.specs.Prelude.{◌≡◌, ℕ, suc, ◌+◌, ◌≤◌, ◌==◌, Bool, true, false, Ok, Option, Some, List, [], ◌∷◌, ◌++◌}
+use Rattle.std.specs.Prelude.{◌≡◌, ℕ, suc, ◌+◌, ◌≤◌, ◌==◌, Bool, true, false, Ok, Option, Some, None, List, [], ◌∷◌, ◌++◌}
 use Rattle.std.specs.List.{flat_map}
 use Rattle.far_word.specs.declared.refused.Refused.{Refused as Refusal}
 use Rattle.far_word.specs.declared.refused.Refused.TheVariants.{Damaged, Device as Failed, Memory}
 use Rattle.far_core.specs.state.Shape.{is_shape}
 use Rattle.far_core.specs.state.State.{State}
 use Rattle.far_evac.specs.declared.phase.Phase.TheVariants.{Idle, Evacuating}
-use Rattle.far_text.specs.Command.{Command, Device, Flawed, Fail, Short, Flip, Heap, Write, Read, View, Mutator, Evacuator, Evacuate, Round}
+use Rattle.far_text.specs.Command.{Command, Device, Flawed, Fail, Flip, Short, Heap, Write, Read, View, Mutator, Evacuator, Evacuate, Round}
 use Rattle.far_text.specs.Grammar.{trace_of}
 use Rattle.far_replay.specs.Answers.{AnsweredBy, Answers, Commanded, IsMoment, Outside, Serves, Refuses, Gives, Lacks, first_moment, is_true, opened, shape_of}
 use Rattle.far_replay.specs.Commanded.{KeepsFar, LiesFar}
 use Rattle.far_replay.specs.Moment.{Moment}
 use Rattle.far_reply.specs.Reply.{Reply, Halted, Refused, reply_text}
+use Rattle.far_replay_laws.specs.Lying.{LiesOnce}
 
 -- the object that a command is to reach is far
 abbrev pub IsFarFor : State → Command → Type 0
@@ -40,7 +41,7 @@ abbrev pub MemoryIsRefusedThere : Type 0
 MemoryIsRefusedThere = (now : Moment) (c : Command) (r : Reply) (after : Moment) → IsMoment now → Commanded now c r after → LacksThere now c r after
 
 -- ---- how often it comes
--- one call of a device is said to fail; or to give a byte too few; or to give others
+-- one call of a device is said to fail; or to give a byte too few
 abbrev pub to_fail : Option Device → ℕ
 to_fail (Some (Flawed Fail (suc call))) = 1
 to_fail device = 0
@@ -49,6 +50,7 @@ abbrev pub to_damage : Option Device → ℕ
 to_damage (Some (Flawed Short (suc call))) = 1
 to_damage device = 0
 
+-- and one read to give each byte inverted
 abbrev pub to_lie : Option Device → ℕ
 to_lie (Some (Flawed Flip (suc call))) = 1
 to_lie device = 0
@@ -93,7 +95,7 @@ abbrev pub lies : List Outside → ℕ
 lies [] = 0
 lies (Serves ∷ os) = lies os
 lies (Refuses why turns objects ∷ os) = lies os
-lies (Gives row ∷ os) = 1 + lies os
+lies (Gives row inverts ∷ os) = 1 + lies os
 lies (Lacks turns objects ∷ os) = lies os
 
 -- no more replies say that the device failed, or gave another number of bytes, than it is said to; each once at most
@@ -102,17 +104,19 @@ pub record FailsAsSaid (device : Option Device) (replies : List Reply) : Type 0 
   pub damaged : damages replies ≤ to_damage device
   pub once : to_fail device + to_damage device ≤ 1
 
--- no more commands are given other bytes than it is said to give, one at most
-pub record LiesAsSaid (device : Option Device) (outside : List Outside) : Type 0 where
-  pub lied : lies outside ≤ to_lie device
-  pub once : to_lie device ≤ 1
-
 -- what is read of a device is what was stored: it isn't said to give other bytes
 abbrev pub gives_stored : Option Device → Bool
 gives_stored device = to_lie device == 0
+
+-- where what is read of a device is always what was written, no command is given other bytes. From its first moment on no more commands are given inverted ones than it is said to invert, and
+-- then at most one what the device owes it; all others are given their objects' own
+pub record LiesAsSaid (device : Option Device) (outside : List Outside) (now : Moment) (cs : List Command) (moments : List Moment) : Type 0 where
+  pub lied : is_true device ≡ true → lies outside ≡ 0
+  pub once : LiesOnce (to_lie device) None now outside cs moments
+  pub few : to_lie device ≤ 1
 
 -- the output of a text that is read as a heap in range and commands is lines of replies, which say so
 abbrev pub FlawsAreSaid : Type 0
 FlawsAreSaid = (text output : List ℕ) (logs mutators epoch : ℕ) (device : Option Device) (cs : List Command) → Answers text output → trace_of text ≡ Ok (Heap logs mutators epoch device cs) →
     is_shape (shape_of logs mutators epoch) ≡ true → (outside : List Outside) × (replies : List Reply) × (moments : List Moment) × AnsweredBy outside (first_moment logs mutators epoch (is_true device)) cs replies moments
-    × (output ≡ flat_map reply_text (opened device ++ replies)) × FailsAsSaid device replies × LiesAsSaid device outside
+    × (output ≡ flat_map reply_text (opened device ++ replies)) × FailsAsSaid device replies × LiesAsSaid device outside (first_moment logs mutators epoch (is_true device)) cs moments

@@ -30,7 +30,7 @@ use Rattle.far_evac.specs.declared.answers.Progress.{Progress}
 use Rattle.far_evac.specs.declared.answers.RoundEnd.{RoundEnd}
 use Rattle.far_evac.specs.declared.answers.RoundEnd.TheVariants as ends
 use Rattle.far_replay.specs.Alone.{Alone, KnowsBy, Learns, Own, nothing}
-use Rattle.far_replay.specs.Answers.{Answered, AnsweredBy, Answers, Commanded, IsMoment, IsOutput, Outside, Served, FlawedAtMost, shape_of, first_moment, opened, flaws, is_true, lie_of}
+use Rattle.far_replay.specs.Answers.{Answered, AnsweredBy, Answers, Commanded, IsMoment, IsOutput, Outside, Served, ByDevice, shape_of, first_moment, opened, flaws, is_true, lie_of}
 use Rattle.far_text.specs.Command.{Command, Heap, CommandLine, New, Open, Write, Read, Close, Where, Drop, View, Try, Epoch, Logs as AsksLogs, Log, Audit, Mutator, Book, Evacuator, By, Script, Select, Mark, Wait, Evacuate, Abort, Round, Device as SaidDevice, Trace}
 use Rattle.far_text.specs.Grammar.{trace_of}
 use Rattle.far_replay.specs.Commanded.{AsksFor, KeepsNear, LiesFar}
@@ -284,9 +284,15 @@ IsToldInFull (Refused why) = IsRefusalToldInFull why
 IsToldInFull (Halted why progress) = KeepsNear why × IsProgressToldInFull progress × (progress.done ≡ false)
 
 -- ---- the laws
--- replies that their lines tell in full are equal where they are printed alike
+-- a reply but for DIRTY, which no line tells
+abbrev pub but_dirty : Reply → Reply
+but_dirty (Lies (Near place marks)) = Lies (Near place record marks { dirty = false })
+but_dirty (Lies (Far marks)) = Lies (Far record marks { dirty = false })
+but_dirty r = r
+
+-- replies that their lines tell in full are equal, but for DIRTY, where they are printed alike
 abbrev pub PrintedAlike : Type 0
-PrintedAlike = (r q : Reply) → IsToldInFull r → IsToldInFull q → reply_text r ≡ reply_text q → r ≡ q
+PrintedAlike = (r q : Reply) → IsToldInFull r → IsToldInFull q → reply_text r ≡ reply_text q → but_dirty r ≡ but_dirty q
 
 -- a name after which the number of a log, or of objects, stands
 abbrev pub CountsOthers : List ℕ → Type 0
@@ -321,7 +327,7 @@ pub record IsSound (logs mutators epoch : ℕ) (device : Option SaidDevice) (cs 
   pub left : AllLeave (first_moment logs mutators epoch (is_true device)) cs replies moments
   pub counted : AllCounted (first_moment logs mutators epoch (is_true device)) cs replies moments
   pub fails : FailsAsSaid device replies
-  pub lies : LiesAsSaid device outside
+  pub lies : LiesAsSaid device outside (first_moment logs mutators epoch (is_true device)) cs moments
   pub given : AllGiven outside (first_moment logs mutators epoch (is_true device)) cs replies moments
 
 abbrev pub OutputsAreSound : Type 0
@@ -332,7 +338,7 @@ OutputsAreSound = (text output : List ℕ) (logs mutators epoch : ℕ) (device :
 abbrev pub IsAmple : Result Trace ℕ → List ℕ → Type 0
 IsAmple (Ok (Heap logs mutators epoch device cs)) output =
     MatchBool (is_shape (shape_of logs mutators epoch))
-    ((outside : List Outside) × (replies : List Reply) × (moments : List Moment) × FlawedAtMost (lie_of device) (flaws device) outside
+    ((outside : List Outside) × (replies : List Reply) × (moments : List Moment) × ByDevice (lie_of device) (flaws device) outside (first_moment logs mutators epoch (is_true device)) cs moments
     × AnsweredBy outside (first_moment logs mutators epoch (is_true device)) cs replies moments
     × (output ≡ flat_map reply_text (opened device ++ replies)) × NoneLacks replies)
     (output ≡ reply_text (Refused Shape))

@@ -1,11 +1,11 @@
 -- What a command that is no step of the evacuator leaves beside its own object or scope: every other cell, with its marks, what owners use and view, their scopes, and the epochs that
 -- they remember.
-use Rattle.std.specs.Prelude.{◌≡◌, ◌≢◌, ℕ, ◌/◌, Some}
+use Rattle.std.specs.Prelude.{◌≡◌, ◌≢◌, ℕ, ◌/◌, true, Some}
 use Rattle.far_word.specs.declared.pointer.Place.{Place}
 use Rattle.far_word.specs.declared.pointer.PtrWord.TheVariants.{Near}
 use Rattle.far_word.specs.declared.sizes.TheConstants.{CELLS}
 use Rattle.far_word.specs.Pointer.{read_of}
-use Rattle.far_core.specs.events.Naming.{no_marks}
+use Rattle.far_core.specs.events.Naming.{unmarked}
 use Rattle.far_core.specs.state.State.{State}
 use Rattle.far_text.specs.Command.{Command, New, Open, Write, Read, Close, Where, Drop, View, Try, Epoch, Mutator, Book, Evacuator}
 use Rattle.far_replay.specs.Answers.{Commanded, IsMoment}
@@ -28,9 +28,9 @@ pub record AllButScope (s t : State) (m : ℕ) : Type 0 where
   pub scopes : (k : ℕ) → k ≢ m → t.scope k ≡ s.scope k
   pub remembered : (k : ℕ) → k ≢ m → t.remembered k ≡ s.remembered k
 
--- a new object is one pointer's, and its cell has no mark; a line that was refused changes nothing
+-- a new object is one pointer's, and its cell has no mark but DIRTY; a line that was refused changes nothing
 abbrev pub NewLeaves : Moment → ℕ → ℕ → Reply → Moment → Type 0
-NewLeaves now len ds (Pointer p) after = AllButObject now.core after.core p × ((place : Place) × (read_of (after.core.cell p) ≡ Some (Near len ds place no_marks)))
+NewLeaves now len ds (Pointer p) after = AllButObject now.core after.core p × ((place : Place) × (read_of (after.core.cell p) ≡ Some (Near len ds place (unmarked true))))
 NewLeaves now len ds (Refused why) after = after ≡ now
 NewLeaves now len ds r after = ⊥
 

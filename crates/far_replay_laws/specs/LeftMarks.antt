@@ -6,6 +6,7 @@ use Rattle.far_word.specs.declared.pointer.PtrWord.TheVariants.{Free, Near, Far}
 use Rattle.far_word.specs.declared.refused.Refused.{Refused as Refusal}
 use Rattle.far_word.specs.declared.refused.Refused.TheVariants.{NoRoom, Closed, NotHeld, Range, Device, Damaged, Memory, Marked as MarkFound}
 use Rattle.far_word.specs.Pointer.{read_of}
+use Rattle.far_core.specs.state.Law.{is_dirty}
 use Rattle.far_core.specs.state.Shape.{is_shape}
 use Rattle.far_core.specs.state.State.{State}
 use Rattle.far_core.specs.world.WorldOf.{world_of}
@@ -22,15 +23,15 @@ use Rattle.far_replay_laws.specs.Headline.{IsSound}
 abbrev pub GainsHot : Option PtrWord → Option PtrWord → Type 0
 GainsHot None now = ⊥
 GainsHot (Some Free) now = ⊥
-GainsHot (Some (Near len ds place m)) now = now ≡ Some (Near len ds place record { hot = true; evac = m.evac; moved = m.moved; dropped = m.dropped })
-GainsHot (Some (Far len ds m)) now = now ≡ Some (Far len ds record { hot = true; evac = m.evac; moved = m.moved; dropped = m.dropped })
+GainsHot (Some (Near len ds place m)) now = now ≡ Some (Near len ds place record { hot = true; evac = m.evac; moved = m.moved; dropped = m.dropped; dirty = m.dirty })
+GainsHot (Some (Far len ds m)) now = now ≡ Some (Far len ds record { hot = true; evac = m.evac; moved = m.moved; dropped = m.dropped; dirty = m.dirty })
 
 -- HOT came; and MOVE too to a near object, which has EVAC
 abbrev pub GainsForRoom : Option PtrWord → Option PtrWord → Type 0
 GainsForRoom None now = ⊥
 GainsForRoom (Some Free) now = ⊥
-GainsForRoom (Some (Near len ds place m)) now = (m.evac ≡ true) × (now ≡ Some (Near len ds place record { hot = true; evac = true; moved = true; dropped = m.dropped }))
-GainsForRoom (Some (Far len ds m)) now = now ≡ Some (Far len ds record { hot = true; evac = m.evac; moved = m.moved; dropped = m.dropped })
+GainsForRoom (Some (Near len ds place m)) now = (m.evac ≡ true) × (now ≡ Some (Near len ds place record { hot = true; evac = true; moved = true; dropped = m.dropped; dirty = m.dirty }))
+GainsForRoom (Some (Far len ds m)) now = now ≡ Some (Far len ds record { hot = true; evac = m.evac; moved = m.moved; dropped = m.dropped; dirty = m.dirty })
 
 -- it is near, and has HOT
 abbrev pub is_hot : Option PtrWord → Bool
@@ -39,19 +40,33 @@ is_hot (Some Free) = false
 is_hot (Some (Near len ds place m)) = m.hot
 is_hot (Some (Far len ds m)) = false
 
--- it is near, with HOT and no other mark
-abbrev pub IsHotAlone : Option PtrWord → Type 0
-IsHotAlone now = (len ds : ℕ) × (place : Place) × (now ≡ Some (Near len ds place record { hot = true; evac = false; moved = false; dropped = false }))
+-- it is near, with HOT and no other mark but DIRTY, and that as said
+abbrev pub IsHotAlone : Bool → Option PtrWord → Type 0
+IsHotAlone dirty now = (len ds : ℕ) × (place : Place) × (now ≡ Some (Near len ds place record { hot = true; evac = false; moved = false; dropped = false; dirty = dirty }))
+
+-- DIRTY came to a near object, unless it was there: what is named, its place and all other marks are as before
+abbrev pub GainsDirty : Option PtrWord → Option PtrWord → Type 0
+GainsDirty None now = ⊥
+GainsDirty (Some Free) now = ⊥
+GainsDirty (Some (Near len ds place m)) now = now ≡ Some (Near len ds place record { hot = m.hot; evac = m.evac; moved = m.moved; dropped = m.dropped; dirty = true })
+GainsDirty (Some (Far len ds m)) now = ⊥
 
 -- ---- what a command leaves
 abbrev pub OthersStay : State → State → ℕ → Type 0
 OthersStay s t p = (q : ℕ) → q ≢ p → t.cell q ≡ s.cell q
 
--- an object is viewed: its cell has HOT. Where it was viewed before, the cell stays as it was; else it has no other mark
+-- an object is viewed: its cell has HOT. Where it was viewed before, the cell stays as it was; else it has no other mark but DIRTY, if it had that and was near
 pub record LeavesHot (s t : State) (p : ℕ) : Type 0 where
   pub hot : is_hot (read_of (t.cell p)) ≡ true
   pub again : (world_of s).viewed p ≡ true → t.cell p ≡ s.cell p
-  pub anew : (world_of s).viewed p ≡ false → IsHotAlone (read_of (t.cell p))
+  pub anew : (world_of s).viewed p ≡ false → IsHotAlone (is_dirty (read_of (s.cell p))) (read_of (t.cell p))
+  pub others : OthersStay s t p
+
+-- it is viewed and written: its cell has HOT and DIRTY. Where it was viewed before, all other marks are as before; else it has no other
+pub record LeavesWritten (s t : State) (p : ℕ) : Type 0 where
+  pub hot : is_hot (read_of (t.cell p)) ≡ true
+  pub again : (world_of s).viewed p ≡ true → GainsDirty (read_of (s.cell p)) (read_of (t.cell p))
+  pub anew : (world_of s).viewed p ≡ false → IsHotAlone true (read_of (t.cell p))
   pub others : OthersStay s t p
 
 -- a dereference is refused. Before the pin, for an unknown mutator or a range past the object's end, a closed scope, or a pointer that its mutator doesn't use, no cell
@@ -79,7 +94,7 @@ abbrev pub LeavesMarks : State → Command → Reply → State → Type 0
 LeavesMarks s (Mutator m (Read p from len)) (Data bytes) t = LeavesHot s t p
 LeavesMarks s (Mutator m (Read p from len)) (Refused why) t = RefusedLeaves s p why t
 LeavesMarks s (Mutator m (Read p from len)) r t = ⊥
-LeavesMarks s (Mutator m (Write p from bytes)) Done t = LeavesHot s t p
+LeavesMarks s (Mutator m (Write p from bytes)) Done t = LeavesWritten s t p
 LeavesMarks s (Mutator m (Write p from bytes)) (Refused why) t = RefusedLeaves s p why t
 LeavesMarks s (Mutator m (Write p from bytes)) r t = ⊥
 LeavesMarks s (Mutator m (View p)) Done t = LeavesHot s t p

@@ -11,6 +11,7 @@ pub mod Left
 pub mod LeftBeside
 pub mod LeftMarks
 pub mod Listed
+pub mod Lying
 pub mod MovesTake
 pub mod OtherBytes
 pub mod Said

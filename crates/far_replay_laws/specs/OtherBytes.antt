@@ -1,5 +1,5 @@
 -- A command that is given other bytes of its object than were stored, since the device lies: its object has these bytes then, and all others keep theirs.
-use Rattle.std.specs.Prelude.{◌≡◌, ◌≢◌, ℕ, ◌+◌, true, false, Some, List, ◌∷◌, length, slice_range}
+use Rattle.std.specs.Prelude.{◌≡◌, ◌≢◌, ℕ, ◌+◌, Bool, true, false, Some, List, ◌∷◌, length, slice_range}
 use Rattle.far_word.specs.Bytes.{bytes_of}
 use Rattle.far_core.specs.world.WorldOf.{world_of}
 use Rattle.far_text.specs.Command.{Command, Write, Read, View, Mutator}
@@ -44,7 +44,7 @@ IsGiven row now c r after = (m p : ℕ) × ChangesObject row m p now c r after
 abbrev pub GivenBy : Outside → Moment → Command → Reply → Moment → Type 0
 GivenBy Serves now c r after = Unit {0}
 GivenBy (Refuses why turns objects) now c r after = Unit {0}
-GivenBy (Gives row) now c r after = IsGiven row now c r after
+GivenBy (Gives row inverts) now c r after = IsGiven row now c r after
 GivenBy (Lacks turns objects) now c r after = Unit {0}
 
 abbrev pub AllGiven : List Outside → Moment → List Command → List Reply → List Moment → Type 0
@@ -53,4 +53,4 @@ AllGiven os now cs rs moments = Unit {0}
 
 -- ---- the law
 abbrev pub LiesChangeOneObject : Type 0
-LiesChangeOneObject = (row : ℕ → ℕ) (now : Moment) (c : Command) (r : Reply) (after : Moment) → IsMoment now → WritesBytes c → CommandedBy (Gives row) now c r after → IsGiven row now c r after
+LiesChangeOneObject = (row : ℕ → ℕ) (inverts : Bool) (now : Moment) (c : Command) (r : Reply) (after : Moment) → IsMoment now → WritesBytes c → CommandedBy (Gives row inverts) now c r after → IsGiven row now c r after

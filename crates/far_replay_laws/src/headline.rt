@@ -17,7 +17,8 @@ ghost use Rattle.far_replay_laws.specs.Steps.{StepsAreTold};
 /// and a moment for each command. Each moment has the law, and in it objects are whole; through them the logs in which
 /// views rest stay; each mutator's replies are what its own lines alone say; each step of the evacuator tells what has happened,
 /// and leaves objects as `steps_leave` says; and any other command leaves the round, as `rounds_stand` says.
-/// The device fails, gives a byte too few, or gives other bytes no more often than it is said to, and where it gave other bytes of an object, the object has these, as
+/// The device fails, gives a byte too few, or inverts bytes no more often than it is said to. An object whose bytes came inverted may go far unwritten: then at most one later command is given the true
+/// ones again. Any other command is given its object's own. Where other bytes of an object were given, the object has these, as
 /// `lies_change_one_object` says. Of the same replies and moments all is so that the laws below say of one command: what it is
 /// answered, which views there are then, and which marks, what it leaves beside, what it takes of the logs, what a refusal leaves; and in each moment what is viewed has HOT.
 pub fn outputs_are_sound()
@@ -72,7 +73,7 @@ pub fn views_last()
 /// heap is refused for want of memory, by a device or for a mark, but those two with counts; for want of a pointer or of room a new object alone is
 /// refused. For want of memory, as the device failed, or as it gave another number of bytes, a mutator's command is refused only where its object is far, which it stays. With counts
 /// 1 is told of an `evacuate` in its phase alone, and of a `round` that had chosen its logs; after both, objects leave. No other command is refused 1. From a text on: no more
-/// replies, those with counts among them, say that the device failed, or that it gave another number of bytes, than its line says, one at most; and no more commands are given other bytes.
+/// replies, those with counts among them, say that the device failed, or that it gave another number of bytes, than its line says, one at most; and no more commands are given inverted bytes, after which at most one is given the true ones again.
 pub fn refusals_leave_all()
     ensures stay { RefusalsStay }
     ensures nothing { RefusalsChangeNothing }
@@ -115,7 +116,7 @@ pub fn writes_change_their_range()
     ensures { WritesChangeTheirRange }
 {}
 
-/// Replies that their lines tell in full (numbers of 64 bits, bytes) are equal where they are printed alike.
+/// Replies that their lines tell in full (numbers of 64 bits, bytes) are equal, but for DIRTY, where they are printed alike.
 pub fn lines_tell_replies()
     ensures { PrintedAlike }
 {}

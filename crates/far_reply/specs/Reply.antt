@@ -1,5 +1,5 @@
 -- Replies, and the lines that they are printed as.
-use Rattle.std.specs.Prelude.{ℕ, ◌<◌, ◌≤◌, Bool, Option, Some, None, List, [], ◌∷◌, ◌++◌, length, codes, decimal, if◌then◌else◌}
+use Rattle.std.specs.Prelude.{ℕ, ◌<◌, ◌≤◌, Bool, not, ◌||◌, Option, Some, None, List, [], ◌∷◌, ◌++◌, length, codes, decimal, if◌then◌else◌}
 use Rattle.std.specs.Int.{to_be_bytes, w64}
 use Rattle.std.specs.List.{flat_map}
 use Rattle.hex.specs.Hex.{encode_lower}
@@ -15,7 +15,6 @@ use Rattle.far_evac.specs.declared.phase.Phase.{Phase}
 use Rattle.far_evac.specs.declared.phase.Phase.TheVariants.{Idle, Marking, Waiting, Evacuating}
 use Rattle.far_evac.specs.declared.census.LogKind.{LogKind}
 use Rattle.far_evac.specs.declared.census.LogKind.TheVariants.{Free, Open, Sealed, Chosen}
-use Rattle.far_core.specs.events.Naming.{is_unmarked}
 use Rattle.far_book.specs.declared.home.Home.{Home}
 use Rattle.far_book.specs.declared.home.Home.TheVariants.{Near, Far}
 pub use Rattle.far_reply.specs.declared.reply.Counts.{Counts}
@@ -55,10 +54,10 @@ log_text line =
 abbrev pub mark_letter : Bool → List ℕ → List ℕ
 mark_letter is_set letter = if is_set then letter else []
 
--- the letters of the marks that are set: HOT, EVAC, MOVE, DROP, in this order; a dash where none is
+-- the letters of the marks that are set: HOT, EVAC, MOVE, DROP, in this order; a dash where none is. DIRTY has none
 abbrev pub letters_of : Marks → List ℕ
 letters_of m =
-    if is_unmarked m then codes "-"
+    if not (m.hot || m.evac || m.moved || m.dropped) then codes "-"
     else mark_letter m.hot (codes "h") ++ mark_letter m.evac (codes "e") ++ mark_letter m.moved (codes "m") ++ mark_letter m.dropped (codes "d")
 
 -- where an object is: near, with its log and the word in it, or far; and its marks

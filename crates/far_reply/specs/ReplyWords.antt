@@ -35,16 +35,18 @@ near_with marks = Lies (Near record { log = 3; at = 45 } marks)
 abbrev pub far_with : Marks → Reply
 far_with marks = Lies (Far marks)
 
--- each mark by itself, then none and all; a far one has no EVAC
+-- each mark by itself, then none and all; a far one has no EVAC. DIRTY has no letter
 abbrev pub HomesRead : Type 0
-HomesRead = Reads (near_with record { hot = true; evac = false; moved = false; dropped = false }) (codes "near 3 45 h\n")
-    × Reads (near_with record { hot = false; evac = true; moved = false; dropped = false }) (codes "near 3 45 e\n")
-    × Reads (near_with record { hot = false; evac = false; moved = true; dropped = false }) (codes "near 3 45 m\n")
-    × Reads (near_with record { hot = false; evac = false; moved = false; dropped = true }) (codes "near 3 45 d\n")
-    × Reads (near_with record { hot = false; evac = false; moved = false; dropped = false }) (codes "near 3 45 -\n")
-    × Reads (near_with record { hot = true; evac = true; moved = true; dropped = true }) (codes "near 3 45 hemd\n")
-    × Reads (far_with record { hot = false; evac = false; moved = false; dropped = false }) (codes "far -\n")
-    × Reads (far_with record { hot = true; evac = false; moved = true; dropped = true }) (codes "far hmd\n")
+HomesRead = Reads (near_with record { hot = true; evac = false; moved = false; dropped = false; dirty = false }) (codes "near 3 45 h\n")
+    × Reads (near_with record { hot = false; evac = true; moved = false; dropped = false; dirty = false }) (codes "near 3 45 e\n")
+    × Reads (near_with record { hot = false; evac = false; moved = true; dropped = false; dirty = false }) (codes "near 3 45 m\n")
+    × Reads (near_with record { hot = false; evac = false; moved = false; dropped = true; dirty = false }) (codes "near 3 45 d\n")
+    × Reads (near_with record { hot = false; evac = false; moved = false; dropped = false; dirty = false }) (codes "near 3 45 -\n")
+    × Reads (near_with record { hot = false; evac = false; moved = false; dropped = false; dirty = true }) (codes "near 3 45 -\n")
+    × Reads (near_with record { hot = true; evac = true; moved = true; dropped = true; dirty = false }) (codes "near 3 45 hemd\n")
+    × Reads (near_with record { hot = true; evac = true; moved = true; dropped = true; dirty = true }) (codes "near 3 45 hemd\n")
+    × Reads (far_with record { hot = false; evac = false; moved = false; dropped = false; dirty = false }) (codes "far -\n")
+    × Reads (far_with record { hot = true; evac = false; moved = true; dropped = true; dirty = false }) (codes "far hmd\n")
 
 -- ---- replies to inquiries
 abbrev pub line_of : ℕ → LogKind → ℕ → ℕ → ℕ → LogLine

@@ -157,3 +157,9 @@ module _ (heap : HeapId) (part : Part) (objects : List ℕ) (old : Option Mine) 
 -- what holds after `Ok`, and after `Err`
 pub of_ok : {X E : Type 0} (P : Type 0) (result : Result X E) (x : X) → result ≡ Ok x → OnOk result P → P
 of_ok {X} {E} P result x is h = subst (λ (r : Result X E). OnOk r P) is h
+
+pub of_err : {X E : Type 0} (P : Type 0) (result : Result X E) (why : E) → result ≡ Err why → OnErr result P → P
+of_err {X} {E} P result why is h = subst (λ (r : Result X E). OnErr r P) is h
+
+pub err_by : {X E : Type 0} (P : Type 0) {result other : Result X E} → other ≡ result → OnErr other P → OnErr result P
+err_by {X} {E} P is h = subst (λ (r : Result X E). OnErr r P) is h

@@ -1,14 +1,16 @@
 -- What a mutator's calls leave of its objects.
-use Rattle.std.proofs.Common.{◌≡◌, ◌≢◌, ℕ, ◌/◌, ◌%◌, Bool, true, Option, Some, None, is_some, List, length, refl, sym, ap, subst, ◌∙◌, inl, inr, arith, eqb}
-use Rattle.std.specs.Prelude.{Err, Ok, OnErr, Result, if◌then◌else◌, option_map, slice_index_or, slice_set}
+use Rattle.std.proofs.Common.{◌≡◌, ◌≢◌, ℕ, ◌/◌, ◌%◌, ◌+◌, ◌≤◌, Bool, true, false, Option, Some, None, is_some, List, length, refl, sym, ap, subst, ◌∙◌, inl, inr, arith, eqb}
+use Rattle.std.specs.Prelude.{Err, IfErr, Ok, OnErr, Result, if◌then◌else◌, option_map, slice_index_or, slice_set}
 use Rattle.std.proofs.lemmas.Bool.{cases_eq, eqb-true, ne_eqb}
 use Rattle.std.proofs.lemmas.Grind.{get_or-set_at}
 use Rattle.std.proofs.lemmas.List.{get_or-set_other}
 use Rattle.far_word.specs.declared.refused.Refused.{Refused}
+use Rattle.far_word.specs.declared.refused.Refused.TheVariants.{Damaged, NoRoom}
 use Rattle.far_word.specs.declared.sizes.TheConstants.{CELLS}
-use Rattle.far_heap.specs.Mine.{Mine, Object, adopting, bytes_in, closing, known_bytes, len_in, len_of, object_of, opening, owns, rewritten, uses, with_range, zeros_known}
+use Rattle.far_heap.specs.Mine.{IsUnbrought, Mine, Object, adopting, bytes_in, closing, known_bytes, len_in, len_of, object_of, opening, owns, rewritten, uses, with_range, zeros_known}
 use Rattle.far_store.specs.declared.access.Place.{Place}
-use Rattle.far_store.specs.Records.{Reads, Rewrites, SameObjects, Writes}
+use Rattle.far_store.specs.declared.layout.TheConstants.{RECORD}
+use Rattle.far_store.specs.Records.{IsOutOfReach, IsPlace, Reads, Rewrites, SameObjects, Writes}
 
 -- ---- a row of what stands at a mutator's pointers, and one that is another at one pointer
 abbrev at_own : {X : Type 0} → ℕ → List X → ℕ → X → X
@@ -35,6 +37,10 @@ module _ (m n : Mine) (same : SameObjects m n) (p : ℕ) where
 
   pub bytes_same : bytes_in n p ≡ bytes_in m p
   bytes_same = ap known_bytes (same p)
+
+module _ (m n : Mine) (same : SameObjects m n) (place : Place) where
+  pub place_same : IsPlace m place → IsPlace n place
+  place_same is = (uses_same m n same place.pointer ∙ is.0, omega (arith, len_same m n same place.pointer, is.1))
 
 -- ---- a scope was opened, lent, and closed
 module _ (m after n : Mine) (closed : n ≡ closing after) where
@@ -73,6 +79,28 @@ module _ (m after n : Mine) (closed : n ≡ closing after) where
 -- ---- calls one after the other, and one that was refused
 pub same_same : (m k n : Mine) → SameObjects m k → SameObjects k n → SameObjects m n
 same_same m k n first second q = second q ∙ first q
+
+pub same_rewrites : (m k n : Mine) (p from : ℕ) (new : List ℕ) → SameObjects m k → Rewrites p from new k n → Rewrites p from new m n
+same_rewrites m k n p from new same wrote = record {
+  here = wrote.here ∙ ap (option_map (rewritten from new)) (same p);
+  others = λ q ne. wrote.others q ne ∙ same q;
+}
+
+-- ---- a record was refused
+module _ (honest : Bool) (over : Type 0) (m : Mine) (place : Place) (why : Refused) where
+  pub read_in_vain : (n : Mine) (result : Result (List ℕ × Bool) Refused) → Reads honest place m n result → IsPlace m place → result ≡ Err why → (why ≡ NoRoom → over) → IsOutOfReach honest over why
+  read_in_vain n result reads is e room = record {
+    unbrought = subst (λ (r : Result (List ℕ × Bool) Refused). IfErr r IsUnbrought) e (reads.refused is);
+    room = room;
+    damaged = subst (λ (r : Result (List ℕ × Bool) Refused). IfErr r (λ x. x ≡ Damaged → honest ≡ false)) e reads.damaged;
+  }
+
+  pub written_in_vain : (n : Mine) (new : List ℕ) (result : Result Bool Refused) → Writes honest place new m n result → IsPlace m place → length new ≡ RECORD → result ≡ Err why → (why ≡ NoRoom → over) → IsOutOfReach honest over why
+  written_in_vain n new result writes is whole e room = record {
+    unbrought = subst (λ (r : Result Bool Refused). IfErr r IsUnbrought) e (writes.refused is whole);
+    room = room;
+    damaged = subst (λ (r : Result Bool Refused). IfErr r (λ x. x ≡ Damaged → honest ≡ false)) e writes.damaged;
+  }
 
 pub unwritten : (honest : Bool) (place : Place) (new : List ℕ) (m n : Mine) (result : Result Bool Refused) (why : Refused) → Writes honest place new m n result → result ≡ Err why → SameObjects m n
 unwritten honest place new m n result why writes is = subst (λ (r : Result Bool Refused). OnErr r (SameObjects m n)) is writes.same

@@ -33,7 +33,7 @@ use Rattle.far_table.specs.Plays.{Adopted, AdoptTells}
 use Rattle.far_table.specs.Rule.{Facts, Has, Running}
 use Rattle.far_table.specs.StateOf.{state_of}
 use Rattle.far_table.specs.Tells.{owner_of}
-use Rattle.far_table.specs.Views.{adopted_view, fresh, held_at, noted_view, object_at, said_ds, said_len, uses}
+use Rattle.far_table.specs.Views.{adopted_view, fresh, held_at, noted_view, object_at, said_ds, said_len, uses, soiled_at}
 use Rattle.far_table.proofs.Lift.{owner_allows}
 use Rattle.far_table.proofs.Noting.{noted_facts}
 use Rattle.far_table.proofs.Owners.{known_by, pointers_put, pointers_same, remembered_same}
@@ -120,7 +120,7 @@ module _ (ws : List ℕ) (b : BookView) (os : OtherViews) (f : Facts ws b os) (o
         becomes = state_is ws b (with_owner os m w) (no_word ws f.wide) (remembered_same os.owners m o w at refl)
             (pointers_put os.owners m o w at uses p true own (fun_ext (λ q. put_both (λ (x : Option ObjectView). is_some x ≡ put (uses o) p true q) (object_at o) p (Some (fresh c)) q
             (λ e. sym (put_same (uses o) p true q e)) (λ ne. sym (put_other (uses o) p true q ne)))))
-            (pointers_same os.owners m o w at held_at refl);
+            (pointers_same os.owners m o w at held_at refl) (pointers_same os.owners m o w at soiled_at refl);
         mine = record {
           number = ties.number;
           honest = ties.honest;

@@ -9,7 +9,7 @@ use native.Mathlib.Decide.{ℕ_discrete}
 use lib.ListN.{get_elem?}
 use Rattle.atomic_table.specs.Table.{Me, step, Allows}
 use Rattle.far_word.specs.declared.mark.Mark.{Mark}
-use Rattle.far_word.specs.declared.mark.Mark.TheVariants.{Hot, Evac, Moved, Dropped}
+use Rattle.far_word.specs.declared.mark.Mark.TheVariants.{Hot, Evac, Moved, Dropped, Dirty}
 use Rattle.far_word.specs.declared.pointer.PtrWord.{PtrWord}
 use Rattle.far_word.specs.declared.pointer.PtrWord.TheVariants.{Free, Near, Far}
 use Rattle.far_word.specs.declared.sizes.TheConstants.{CELLS, POINTERS}
@@ -36,7 +36,7 @@ use Rattle.far_table.specs.Plays.{Asked}
 use Rattle.far_table.specs.Rule.{Facts, Running}
 use Rattle.far_table.specs.StateOf.{cooled_at, retired_at, state_of, taken_at}
 use Rattle.far_table.specs.Tells.{Tells, owner_of}
-use Rattle.far_table.specs.Views.{asked_at, asked_view, dropped_at, drops, has_hot, held_at, hots, moves, object_at, uses}
+use Rattle.far_table.specs.Views.{asked_at, asked_view, dropped_at, drops, has_hot, held_at, hots, moves, object_at, uses, soiled_at}
 use Rattle.far_table.proofs.Lift.{owner_makes}
 use Rattle.far_table.proofs.Owners.{known_by, pointers_put, pointers_same, remembered_same}
 use Rattle.far_table.proofs.OwnSteps.{OwnStep, has_on, is_mutator, state_is}
@@ -136,7 +136,7 @@ module _ (ws : List ℕ) (b : BookView) (os : OtherViews) (f : Facts ws b os) (o
         legal = legal Moved refl;
         says = refl;
         becomes = state_is (set ws (cell_at p) new) b (with_owner os m w) (cell_word_set ws f.wide p new small) (remembered_same os.owners m o w at refl)
-            (pointers_same os.owners m o w at uses refl) (pointers_same os.owners m o w at held_at refl);
+            (pointers_same os.owners m o w at uses refl) (pointers_same os.owners m o w at held_at refl) (pointers_same os.owners m o w at soiled_at refl);
         mine = record {
           number = ties.number;
           honest = ties.honest;
@@ -167,7 +167,7 @@ module _ (ws : List ℕ) (b : BookView) (os : OtherViews) (f : Facts ws b os) (o
         becomes = state_is (set ws (cell_at p) new) b (with_owner os m w) (cell_word_set ws f.wide p new small) (remembered_same os.owners m o w at refl)
             (pointers_put os.owners m o w at uses p false own (fun_ext (λ q. put_both (λ (x : Option ObjectView). is_some x ≡ put (uses o) p false q) (object_at o) p None q
             (λ e. sym (put_same (uses o) p false q e)) (λ ne. sym (put_other (uses o) p false q ne)))))
-            (pointers_same os.owners m o w at held_at refl);
+            (pointers_same os.owners m o w at held_at refl) (pointers_same os.owners m o w at soiled_at refl);
         mine = record {
           number = ties.number;
           honest = ties.honest;
@@ -193,6 +193,7 @@ module _ (ws : List ℕ) (b : BookView) (os : OtherViews) (f : Facts ws b os) (o
   pub ask_step : (k : Mark) → is_request k ≡ true → OwnStep ws b os o (Ask m p k) (Word c) (set ws (cell_at p) (bit_or c (2 ^ position k))) (asked_view p k c o)
   ask_step Hot asks = absurd (false≢true asks)
   ask_step Evac asks = absurd (false≢true asks)
+  ask_step Dirty asks = absurd (false≢true asks)
   ask_step Moved asks = move_step
   ask_step Dropped asks = drop_step
 
@@ -212,8 +213,11 @@ module _ {S : Type 0} (slots id : ℕ) (me : Me S View) (is : me.0 ≡ Owner (ow
   one_mark Dropped Moved a b e = absurd (omega arith)
   one_mark Hot k a b e = absurd (false≢true a)
   one_mark Evac k a b e = absurd (false≢true a)
+  one_mark Dirty k a b e = absurd (false≢true a)
   one_mark Moved Hot a b e = absurd (false≢true b)
   one_mark Moved Evac a b e = absurd (false≢true b)
+  one_mark Moved Dirty a b e = absurd (false≢true b)
+  one_mark Dropped Dirty a b e = absurd (false≢true b)
   one_mark Dropped Hot a b e = absurd (false≢true b)
   one_mark Dropped Evac a b e = absurd (false≢true b)
 

@@ -13,7 +13,7 @@ use Rattle.far_word.specs.Pointer.{read_of}
 use Rattle.far_core.specs.declared.event.Kind.TheVariants as kinds
 use Rattle.far_core.specs.events.Advance.{is_among}
 use Rattle.far_core.specs.laws.Ends.{HasNothingPast}
-use Rattle.far_core.specs.state.Law.{BlankLaw, Law}
+use Rattle.far_core.specs.state.Law.{BlankLaw, CleanLaw, Law}
 use Rattle.far_core.specs.state.State.{State}
 use Rattle.far_core.proofs.Cells.{unused}
 use Rattle.far_core.proofs.Steps.{agrees}
@@ -28,11 +28,11 @@ use Rattle.far_table.specs.First.{IsTableOf, first_book, first_copier, first_oth
 use Rattle.far_table.specs.Layout.{cell_at, cell_in, data_at, job_at, job_in, scope_at, scope_in, word_in}
 use Rattle.far_table.specs.Rows.{over}
 use Rattle.far_table.specs.Rule.{BookTies, Facts, OwnerTies, Running}
-use Rattle.far_table.specs.StateOf.{book_state, head_at, held_by, known_word, remembered_by, state_of, stored_word, used_by}
+use Rattle.far_table.specs.StateOf.{book_state, head_at, held_by, known_word, remembered_by, soiled_by, state_of, stored_word, used_by}
 use Rattle.far_table.specs.CopierViews.{words_read, words_written}
 use Rattle.far_table.specs.Stands.{SaysCopier}
-use Rattle.far_table.specs.Views.{held_at, uses}
-use Rattle.far_table.proofs.FirstViews.{copier_stands, copiers_first, eight_copiers, first_asked, first_dropped, first_has, first_heated, first_held, first_scope, first_uses, many_owners, over_all, over_beside, over_within, owner_here, owner_past, owner_stands, pointers_first}
+use Rattle.far_table.specs.Views.{held_at, soiled_at, uses}
+use Rattle.far_table.proofs.FirstViews.{copier_stands, copiers_first, eight_copiers, first_asked, first_dropped, first_has, first_heated, first_held, first_scope, first_soiled, first_uses, many_owners, over_all, over_beside, over_within, owner_here, owner_past, owner_stands, pointers_first}
 
 -- a part of the words makes a function, if past its end that is 0
 part_is : (n : ℕ) (f g : ℕ → ℕ) → ((q : ℕ) → q < n → f q ≡ g q) → ((q : ℕ) → n ≤ q → g q ≡ 0) → (λ q. cond (nat_lt q n) (f q) 0) ≡ g
@@ -91,6 +91,9 @@ module _ (s : State) (honest : Bool) (law : Law s) (past : HasNothingPast s) whe
 
   held_first : held_by os.owners ≡ s.held
   held_first = pointers_first s honest held_at s.held (first_held s honest) past.holds
+
+  soiled_first : soiled_by os.owners ≡ s.soiled
+  soiled_first = pointers_first s honest soiled_at s.soiled (first_soiled s honest) past.soils
 
   kinds_first : over b.kinds (λ _. kinds.Free) ≡ s.kind
   kinds_first = over_all s.kind (λ _. kinds.Free) MOST_LOGS (λ l le. past.kinds l (omega (arith, law.shape.few_logs)))
@@ -189,6 +192,7 @@ module _ (s : State) (honest : Bool) (law : Law s) (past : HasNothingPast s) whe
       remembered = remembered_first i;
       used = used_first i;
       held = held_first i;
+      soiled = soiled_first i;
       kind = kinds_first i;
       tail = tails_first i;
       starts = starts_first i;
@@ -217,6 +221,12 @@ module _ (s : State) (honest : Bool) (law : Law s) (past : HasNothingPast s) whe
         })
         (λ ne. law.unadopted (sym (same p ne) ∙ is) p free)
 
+    first_clean : CleanLaw honest s.cell s.word s.stored
+    first_clean p = record {
+      back = (law.cleans p).back;
+      same = λ is len ds place m near. (law.cleans p).same (sym (same p (λ e. let odd : Some Free ≡ Some (Near len ds place m) = sym (ap read_of e ∙ unused) ∙ near in absurd (cc))) ∙ is) len ds place m near;
+    }
+
     pub first_law : Law s'
     first_law = record {
       shape = law.shape;
@@ -229,6 +239,8 @@ module _ (s : State) (honest : Bool) (law : Law s) (past : HasNothingPast s) whe
       clears = law.clears;
       unadopted = first_blank;
       copies = law.copies;
+      soils = law.soils;
+      cleans = first_clean;
     }
 
     -- no word is known but headers

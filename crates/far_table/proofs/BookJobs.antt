@@ -102,7 +102,7 @@ module _ (ws : List ℕ) (b : BookView) (os : OtherViews) (f : Facts ws b os) (p
   job_set e b' x counted low legal says is words rest cells jobs epoch marks left = let later : List ℕ = set ws (job_at j) x in let are = job_word_set ws f.wide j x low in record {
     legal = legal;
     says = says;
-    becomes = led_by is (state_is later b' os are refl refl refl);
+    becomes = led_by is (state_is later b' os are refl refl refl refl);
     book = λ law. ties later b' os law counted (words ∙ ap (λ v. masked_word v (λ a. is_some (head_at b' a)) counted) (sym are.word_is))
         (subst (λ (z : (ℕ → ℕ) × (ℕ → ℕ)). AllFind z.0 z.1) (λ i. (sym cells i, sym are.cell_is i)) (finds ws b os f)) rest (are.epoch_is ∙ epoch_is ws b os f ∙ sym epoch)
         (subst (λ (z : (ℕ → ℕ) × (ℕ → ℕ)). AllFindJobs z.0 z.1) (λ i. (sym jobs i, sym are.job_is i)) (jobs_set o.copying.word (job_in ws) j x (going ws b os f)));

@@ -5,7 +5,7 @@ use Rattle.std.proofs.lemmas.Bool.{false≢true, cond_both}
 use Rattle.far_word.specs.Bytes.{packed_word}
 use Rattle.far_word.specs.Pointer.{read_of}
 use Rattle.far_core.specs.declared.event.Event.{Event}
-use Rattle.far_core.specs.declared.event.Event.TheVariants.{ReadEpoch, Open, Pin, Load, Store, Close, Adopt, Put, Name, See, Mark, Ask, Get, Clear, Advance, Look, Offer, PeekJob, SeeJob, Claim, ReadLength, Read, Write, Finish, Collect}
+use Rattle.far_core.specs.declared.event.Event.TheVariants.{ReadEpoch, Open, Pin, Load, Store, Soil, Close, Adopt, Put, Name, See, Mark, Ask, Get, Clear, Advance, Look, Offer, PeekJob, SeeJob, Claim, ReadLength, Read, Write, Finish, Collect}
 use Rattle.far_core.specs.declared.event.Reply.{Reply}
 use Rattle.far_core.specs.declared.event.Reply.TheVariants.{Done, Word}
 use Rattle.far_core.specs.declared.naming.Naming.{Naming}
@@ -114,6 +114,7 @@ books_change s (Load m p i) by legal = absurd (owners_not by)
 books_change s (Store m p i w) by legal = absurd (owners_not by)
 books_change s (Close m) by legal = absurd (owners_not by)
 books_change s (Adopt m p) by legal = absurd (owners_not by)
+books_change s (Soil m p) by legal = absurd (owners_not by)
 books_change s (Ask m p k) by legal = absurd (owners_not by)
 books_change s (Put l at w) by legal = (change.Stays, refl, refl)
 books_change s (Name p old new) by legal = cond_both (s.cell p == old) Done (Word (s.cell p)) (λ r. Changes (Name p old new) r)

@@ -115,7 +115,7 @@ module _ (ws : List ℕ) (b : BookView) (os : OtherViews) (f : Facts ws b os) wh
         let later : List ℕ = set ws (cell_at p) w in record {
           legal = clear_legal;
           says = refl;
-          becomes = led_by (λ i. record (after s (Clear p)) { round = sym (round_rows b.round (is_among b.chosen) (read_of n)) i }) (state_is later b' os (cell_after ws b os f p w few) refl refl refl);
+          becomes = led_by (λ i. record (after s (Clear p)) { round = sym (round_rows b.round (is_among b.chosen) (read_of n)) i }) (state_is later b' os (cell_after ws b os f p w few) refl refl refl refl);
           book = λ law. ties later b' os law (λ _. false) (heads_left (word_in later) (cell_after ws b os f p w few).word_is) (finds_after ws b os f p w few)
               (counts_none (book_state b') (book_state b').cell) (epoch_after ws b os f p w few) (going_after ws b os f p w few);
           leaves = marks_stay (marks_as ws b os f p w few same_marks) (cell_after ws b os f p w few).scope_is refl (λ _ _. (refl, refl, refl));
@@ -133,7 +133,7 @@ module _ (ws : List ℕ) (b : BookView) (os : OtherViews) (f : Facts ws b os) wh
         let up : epoch_in ws + 1 ≡ b.epoch + 1 = ap (λ e. e + 1) (epoch_is ws b os f) in record {
           legal = advance_legal;
           says = ap Epoch (sym up);
-          becomes = led_by (λ i. record (after s (Advance logs)) { epoch = up i; round_epoch = up i }) (state_is later b' os are refl refl refl);
+          becomes = led_by (λ i. record (after s (Advance logs)) { epoch = up i; round_epoch = up i }) (state_is later b' os are refl refl refl refl);
           book = λ law. ties later b' os law (λ _. false) (heads_left (word_in later) are.word_is) (subst (AllFind o.cell) (sym are.cell_is) (finds ws b os f))
               (counts_none (book_state b') o.cell) are.epoch_is (subst (AllFindJobs o.copying.word) (sym are.job_is) (going ws b os f));
           leaves = cells_stay are.cell_is are.scope_is refl (λ _ _. (refl, refl, refl));

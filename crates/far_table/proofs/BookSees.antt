@@ -112,7 +112,7 @@ module _ (ws : List ℕ) (b : BookView) (os : OtherViews) (f : Facts ws b os) (p
     mark_step = record {
       legal = legal;
       says = refl;
-      becomes = state_is (set ws (cell_at p) w) (marked_view p n b) os (cell_after ws b os f p w few) refl refl refl;
+      becomes = state_is (set ws (cell_at p) w) (marked_view p n b) os (cell_after ws b os f p w few) refl refl refl refl;
       book = λ law. ties (set ws (cell_at p) w) (marked_view p n b) os law (counts b) (words_after ws b os f p w few plain) (finds_after ws b os f p w few)
           (counts_marked s f.law o.cell (counts b) (finds ws b os f) p h (rests ws b os f)) (epoch_after ws b os f p w few) (going_after ws b os f p w few);
       leaves = marks_stay (marks_as ws b os f p w few same_marks) (cell_after ws b os f p w few).scope_is refl (λ _ _. (refl, refl, refl));

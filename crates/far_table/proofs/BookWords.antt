@@ -186,7 +186,7 @@ module _ (ws : List ℕ) (b : BookView) (os : OtherViews) (f : Facts ws b os) (p
         let are = data_word_set ws f.wide a w (omega arith) in record {
           legal = h;
           says = refl;
-          becomes = state_is later (put_view a w b) os are refl refl refl;
+          becomes = state_is later (put_view a w b) os are refl refl refl refl;
           book = λ law. ties later (put_view a w b) os law (put (counts b) a true)
               (put_known b a w no_start ∙ (ap (λ v. put v a w) (words_are ws b os f plain)
               ∙ (sym (count_word s.word s.starts (counts b) a w) ∙ ap (λ v. masked_word v o.starts (put (counts b) a true)) (sym are.word_is))))

@@ -35,7 +35,7 @@ use Rattle.far_table.specs.Rows.{over}
 use Rattle.far_table.specs.Rule.{Has}
 use Rattle.far_table.specs.Seats.{HasPlaces, Remembers}
 use Rattle.far_table.specs.CopierViews.{copier_at}
-use Rattle.far_table.specs.Views.{asked_at, dropped_at, drops, heated_at, held_at, hots, len_of, moves, nobody, object_at, owner_at, uses}
+use Rattle.far_table.specs.Views.{asked_at, dropped_at, drops, heated_at, held_at, hots, len_of, moves, nobody, object_at, owner_at, soiled_at, uses}
 use Rattle.far_table.proofs.Places.{below, get_is}
 
 -- ---- rows for so many numbers from one on
@@ -121,6 +121,9 @@ module _ (s : State) (honest : Bool) (m : ℕ) where
   module _ (p : ℕ) (own : p / CELLS ≡ m) where
     pub first_held : held_at o p ≡ s.held p
     first_held = over_within s.held (λ _. None) CELLS (CELLS * m) p (omega arith) (omega arith)
+
+    pub first_soiled : soiled_at o p ≡ s.soiled p
+    first_soiled = over_within s.soiled (λ _. false) CELLS (CELLS * m) p (omega arith) (omega arith)
 
     pub first_asked : asked_at o p ≡ moves (s.cell p)
     first_asked = over_within (λ q. moves (s.cell q)) (λ _. 0) CELLS (CELLS * m) p (omega arith) (omega arith)

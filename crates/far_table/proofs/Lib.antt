@@ -17,6 +17,7 @@ pub mod Noting
 pub mod AdoptSteps
 pub mod AskSteps
 pub mod StoreSteps
+pub mod SoilSteps
 pub mod SeatLemmas
 pub mod FirstViews
 pub mod Begins

@@ -11,7 +11,7 @@ use Rattle.far_table.specs.View.{BookView}
 use Rattle.far_table.specs.First.{rows_from}
 use Rattle.far_table.specs.NameViews.{stored_rows}
 use Rattle.far_table.specs.Rows.{over}
-use Rattle.far_table.specs.StateOf.{known_word, stored_word}
+use Rattle.far_table.specs.StateOf.{stored_word}
 use Rattle.far_table.proofs.FirstViews.{over_beside, over_within}
 
 -- rows before others
@@ -39,12 +39,12 @@ stored_put b p rows = fun_ext (λ q. both (q == p) (over b.stored (λ _. []) q))
   both true x = refl
   both false x = refl
 
--- what is stored is what stands there, where the view knows it
-pub stored_after : (b : BookView) (p len : ℕ) (place : Place) (word : ℕ → ℕ) → ((i : ℕ) → i < words_for len → word (addr place + 1 + i) ≡ known_word b (addr place + 1 + i)) →
-    put (stored_word b) p (with_kept word (stored_word b) p (addr place + 1) (words_for len)) ≡ (λ q. over (put (over b.stored (λ _. [])) p (stored_rows p len place b) q) (λ _. 0))
-stored_after b p len place word known =
-    ap (put (stored_word b) p) (fun_ext (λ i. same (nat_lt i (words_for len)) i refl) ∙ sym (kept_rows (words_for len) (λ i. known_word b (addr place + 1 + i)) (over b.stored (λ _. []) p) (λ _. 0)))
-    ∙ sym (stored_put b p (stored_rows p len place b)) where
-      same : (t : Bool) (i : ℕ) → nat_lt i (words_for len) ≡ t → cond t (word (addr place + 1 + i)) (stored_word b p i) ≡ cond t (known_word b (addr place + 1 + i)) (stored_word b p i)
+-- what is stored is what stands there, or a word that is the same
+pub stored_after : (b : BookView) (p len : ℕ) (place : Place) (word row : ℕ → ℕ) → ((i : ℕ) → i < words_for len → word (addr place + 1 + i) ≡ row (addr place + 1 + i)) →
+    put (stored_word b) p (with_kept word (stored_word b) p (addr place + 1) (words_for len)) ≡ (λ q. over (put (over b.stored (λ _. [])) p (stored_rows row p len place b) q) (λ _. 0))
+stored_after b p len place word row known =
+    ap (put (stored_word b) p) (fun_ext (λ i. same (nat_lt i (words_for len)) i refl) ∙ sym (kept_rows (words_for len) (λ i. row (addr place + 1 + i)) (over b.stored (λ _. []) p) (λ _. 0)))
+    ∙ sym (stored_put b p (stored_rows row p len place b)) where
+      same : (t : Bool) (i : ℕ) → nat_lt i (words_for len) ≡ t → cond t (word (addr place + 1 + i)) (stored_word b p i) ≡ cond t (row (addr place + 1 + i)) (stored_word b p i)
       same true i e = known i (ltb-true i (words_for len) e)
       same false i e = refl

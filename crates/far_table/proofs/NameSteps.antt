@@ -24,16 +24,16 @@ use Rattle.far_core.specs.events.Naming.{IsNaming, is_dropped, naming_of, naming
 use Rattle.far_core.specs.events.namings.Moves.{MayMove, after_move}
 use Rattle.far_core.specs.events.Quiet.{has_move}
 use Rattle.far_core.specs.events.Step.{after}
-use Rattle.far_core.specs.state.Law.{Law, held_place}
+use Rattle.far_core.specs.state.Law.{IsStored, Law, held_place, is_dirty}
 use Rattle.far_core.specs.state.State.{State, addr, put}
 use Rattle.far_core.proofs.Copied.{copied_test, moves_quiet}
 use Rattle.far_core.proofs.Namings.{naming_only}
 use Rattle.far_core.proofs.Put.{put_both, put_other, put_same}
 use Rattle.far_core.proofs.Quieting.{quiet_unheld}
-use Rattle.far_hand.specs.Known.{Forgets, KnowsLeaving, unknown}
+use Rattle.far_hand.specs.Known.{Forgets, KnowsLeaving, StoresLeaving, unknown}
 use Rattle.far_hand.specs.Masked.{AllFind, AllFindJobs, masked, masked_word}
 use Rattle.far_hand.proofs.Counting.{counts_none}
-use Rattle.far_hand.proofs.Naming.{job_too, legal_name, lost_state, won_state}
+use Rattle.far_hand.proofs.Naming.{job_too, left_words, legal_name, lost_state, stores_leaving, won_state}
 use Rattle.far_table.specs.View.{BookView, View, Book, OtherViews}
 use Rattle.far_table.specs.BookPlays.{Named}
 use Rattle.far_table.specs.BookTells.{BookTells, cooled_by, retired_by, taken_by}
@@ -43,11 +43,11 @@ use Rattle.far_table.specs.NameViews.{exchange_reply, exchanged_view, form_view,
 use Rattle.far_table.specs.Rows.{over}
 use Rattle.far_table.specs.Rule.{Facts, Running}
 use Rattle.far_table.specs.Stands.{IsPlain, book_of}
-use Rattle.far_table.specs.StateOf.{book_state, cooled_at, head_at, head_or, held_by, known_word, retired_at, state_of, taken_at}
+use Rattle.far_table.specs.StateOf.{book_state, cooled_at, head_at, head_or, held_by, known_word, retired_at, state_of, stored_word, taken_at}
 use Rattle.far_table.specs.Views.{drops, has_hot, hots, moves}
-use Rattle.far_table.proofs.BookFrames.{BookStep, cells_stay}
+use Rattle.far_table.proofs.BookFrames.{BookStep, book_facts, book_made, cells_stay}
 use Rattle.far_table.proofs.BookKnown.{forgets, forgotten}
-use Rattle.far_table.proofs.BookLift.{book_makes}
+use Rattle.far_table.proofs.BookLift.{book_allows}
 use Rattle.far_table.proofs.BookSees.{cell_after, cells_few, epoch_after, finds_after, found_at, see_step, going_after}
 use Rattle.far_table.proofs.Exchanges.{by_case, lost_says, won_says}
 use Rattle.far_table.proofs.Masks.{counts, finds, going, is_masked, ties}
@@ -71,29 +71,29 @@ move_jobs : (p len ds : ℕ) (to : Place) (j : Option ℕ) (b : BookView) → ov
 move_jobs p len ds to None b = refl
 move_jobs p len ds to (Some j) b = refl
 
-form_sizes : (p : ℕ) (form : Naming) (b : BookView) → ((form_view p form b).mutators ≡ b.mutators) × ((form_view p form b).honest ≡ b.honest) × ((form_view p form b).rest ≡ b.rest) × ((form_view p form b).epoch ≡ b.epoch)
-form_sizes p (Places len ds place) b = (refl, refl, refl, refl)
-form_sizes p Retires b = (refl, refl, refl, refl)
-form_sizes p (Evicts len place) b = (refl, refl, refl, refl)
-form_sizes p Stays b = (refl, refl, refl, refl)
-form_sizes p (Moves len ds from to) b = move_sizes p len ds to (copied_job (book_state b) p from to) b
-form_sizes p (Fetches len ds place) b = (refl, refl, refl, refl)
+form_sizes : (word : ℕ → ℕ) (p : ℕ) (form : Naming) (b : BookView) → ((form_view word p form b).mutators ≡ b.mutators) × ((form_view word p form b).honest ≡ b.honest) × ((form_view word p form b).rest ≡ b.rest) × ((form_view word p form b).epoch ≡ b.epoch)
+form_sizes word p (Places len ds place) b = (refl, refl, refl, refl)
+form_sizes word p Retires b = (refl, refl, refl, refl)
+form_sizes word p (Evicts len place) b = (refl, refl, refl, refl)
+form_sizes word p Stays b = (refl, refl, refl, refl)
+form_sizes word p (Moves len ds from to) b = move_sizes p len ds to (copied_job (book_state b) p from to) b
+form_sizes word p (Fetches len ds place) b = (refl, refl, refl, refl)
 
-form_logs : (p : ℕ) (form : Naming) (b : BookView) → (form_view p form b).logs ≡ b.logs
-form_logs p (Places len ds place) b = refl
-form_logs p Retires b = refl
-form_logs p (Evicts len place) b = refl
-form_logs p Stays b = refl
-form_logs p (Moves len ds from to) b = move_logs p len ds to (copied_job (book_state b) p from to) b
-form_logs p (Fetches len ds place) b = refl
+form_logs : (word : ℕ → ℕ) (p : ℕ) (form : Naming) (b : BookView) → (form_view word p form b).logs ≡ b.logs
+form_logs word p (Places len ds place) b = refl
+form_logs word p Retires b = refl
+form_logs word p (Evicts len place) b = refl
+form_logs word p Stays b = refl
+form_logs word p (Moves len ds from to) b = move_logs p len ds to (copied_job (book_state b) p from to) b
+form_logs word p (Fetches len ds place) b = refl
 
-form_jobs : (p : ℕ) (form : Naming) (b : BookView) → over (form_view p form b).jobs (λ _. 0) ≡ over b.jobs (λ _. 0)
-form_jobs p (Places len ds place) b = refl
-form_jobs p Retires b = refl
-form_jobs p (Evicts len place) b = refl
-form_jobs p Stays b = refl
-form_jobs p (Moves len ds from to) b = move_jobs p len ds to (copied_job (book_state b) p from to) b
-form_jobs p (Fetches len ds place) b = refl
+form_jobs : (word : ℕ → ℕ) (p : ℕ) (form : Naming) (b : BookView) → over (form_view word p form b).jobs (λ _. 0) ≡ over b.jobs (λ _. 0)
+form_jobs word p (Places len ds place) b = refl
+form_jobs word p Retires b = refl
+form_jobs word p (Evicts len place) b = refl
+form_jobs word p Stays b = refl
+form_jobs word p (Moves len ds from to) b = move_jobs p len ds to (copied_job (book_state b) p from to) b
+form_jobs word p (Fetches len ds place) b = refl
 
 -- what an exchange leaves as the seat's struct has it
 pub record KeepsShape (b b' : BookView) : Type 0 where
@@ -103,13 +103,13 @@ pub record KeepsShape (b b' : BookView) : Type 0 where
   pub rest : b'.rest ≡ b.rest
   pub plain : IsPlain b'
 
-by_form_keeps : (p old new : ℕ) (x : Option Naming) (b : BookView) → IsPlain b → KeepsShape b (view_by p old new x b)
-by_form_keeps p old new None b plain = record { logs = refl; mutators = refl; epoch = refl; rest = refl; plain = plain }
-by_form_keeps p old new (Some form) b plain = let z = form_sizes p form b in record { logs = form_logs p form b; mutators = z.0; epoch = z.3; rest = z.2; plain = λ a _. refl }
+by_form_keeps : (word : ℕ → ℕ) (p old new : ℕ) (x : Option Naming) (b : BookView) → IsPlain b → KeepsShape b (view_by word p old new x b)
+by_form_keeps word p old new None b plain = record { logs = refl; mutators = refl; epoch = refl; rest = refl; plain = plain }
+by_form_keeps word p old new (Some form) b plain = let z = form_sizes word p form b in record { logs = form_logs word p form b; mutators = z.0; epoch = z.3; rest = z.2; plain = λ a _. refl }
 
-pub exchanged_keeps : (p old new found : ℕ) (b : BookView) → IsPlain b → KeepsShape b (exchanged_view p old new found b)
-exchanged_keeps p old new found b plain = cond_both (found == old) (named_view p old new b) (saw_view p found b) (KeepsShape b)
-    (λ _. by_form_keeps p old new (naming_of (read_of old) (read_of new)) b plain) (λ _. record { logs = refl; mutators = refl; epoch = refl; rest = refl; plain = plain })
+pub exchanged_keeps : (word : ℕ → ℕ) (p old new found : ℕ) (b : BookView) → IsPlain b → KeepsShape b (exchanged_view word p old new found b)
+exchanged_keeps word p old new found b plain = cond_both (found == old) (named_view word p old new b) (saw_view p found b) (KeepsShape b)
+    (λ _. by_form_keeps word p old new (naming_of (read_of old) (read_of new)) b plain) (λ _. record { logs = refl; mutators = refl; epoch = refl; rest = refl; plain = plain })
 
 -- the new word hasn't MOVE
 new_moves : (form : Naming) (old new : ℕ) → IsNaming form (read_of old) (read_of new) → moves new ≡ 0
@@ -203,14 +203,14 @@ module _ (b : BookView) (p : ℕ) (word : ℕ → ℕ) (old_heads : (a x : ℕ) 
       (λ at e. let is : head_word p len ds ≡ x = cc in ap word at ∙ (head ∙ is)) (λ _ e. old_heads a x e)
 
   -- in a state in which the job that has copied the object is the one that has by the view
-  module _ (new : ℕ) (s : State) (same : s.word ≡ word) where
+  module _ (row : ℕ → ℕ) (new : ℕ) (s : State) (same : s.word ≡ word) where
     move_heads : (len ds : ℕ) (from to : Place) → MayMove s p len ds from to ⊎ WasCopied s p from to → (j : Option ℕ) → copied_job s p from to ≡ j →
         (a x : ℕ) → head_at (move_view p len ds to j b) a ≡ Some x → word a ≡ x
     move_heads len ds from to legal (Some j) e = old_heads
     move_heads len ds from to (inl legal) None e = span_heads len ds to (ap (λ f. f (addr to)) (sym same) ∙ legal.span.head)
     move_heads len ds from to (inr has) None e = absurd (false≢true (sym (ap is_some e) ∙ copied_test s p from to has))
 
-    pub form_heads : (form : Naming) → IsJobTold b p s form → (naming_row s p new form).Legal → (a x : ℕ) → head_at (form_view p form b) a ≡ Some x → word a ≡ x
+    pub form_heads : (form : Naming) → IsJobTold b p s form → (naming_row s p new form).Legal → (a x : ℕ) → head_at (form_view row p form b) a ≡ Some x → word a ≡ x
     form_heads (Places len ds place) told legal = span_heads len ds place (ap (λ f. f (addr place)) (sym same) ∙ legal.0.head)
     form_heads Retires told legal = old_heads
     form_heads (Evicts len place) told legal = old_heads
@@ -218,12 +218,8 @@ module _ (b : BookView) (p : ℕ) (word : ℕ → ℕ) (old_heads : (a x : ℕ) 
     form_heads (Moves len ds from to) told legal = move_heads len ds from to legal (copied_job (book_state b) p from to) told
     form_heads (Fetches len ds place) told legal = span_heads len ds place (ap (λ f. f (addr place)) (sym same) ∙ legal.span.head)
 
--- ---- the view after a naming is what the core's event makes of the view, but for words
+-- ---- a move by the job that has copied the object, if one has
 module _ (b : BookView) (p old new : ℕ) where
-  abbrev v : Naming → BookView
-  v form = formed_view p old new form b
-
-  -- by the job that has copied the object, if one has
   abbrev moved_by : ℕ → ℕ → Place → Option ℕ → BookView
   moved_by len ds to j = record (move_view p len ds to j b) {
     cells = (p, new) ∷ b.cells;
@@ -233,16 +229,25 @@ module _ (b : BookView) (p old new : ℕ) where
     known = [];
   }
 
-  move_done : (len ds : ℕ) (to : Place) (j : Option ℕ) → book_state (moved_by len ds to j) ≡ record (after_move (book_state b) p new len to j) { word = known_word (moved_by len ds to j) }
+  move_done : (len ds : ℕ) (to : Place) (j : Option ℕ) → book_state (moved_by len ds to j) ≡ record (after_move (book_state b) p new len to j) { word = known_word (moved_by len ds to j); stored = stored_word (moved_by len ds to j) }
   move_done len ds to None = λ i. record (book_state (moved_by len ds to None)) { starts = begins_put (head_at b) (addr to) (head_word p len ds) i }
   move_done len ds to (Some j) = refl
 
-  form_done : (form : Naming) → book_state (v form) ≡ record (naming_row (book_state b) p new form).after { word = known_word (v form) }
+  move_stored : (len ds : ℕ) (to : Place) (j : Option ℕ) → stored_word (moved_by len ds to j) ≡ (after_move (book_state b) p new len to j).stored
+  move_stored len ds to None = refl
+  move_stored len ds to (Some j) = refl
+
+-- ---- the view after a naming is what the core's event makes of the view, but for words
+module _ (row : ℕ → ℕ) (b : BookView) (p old new : ℕ) where
+  abbrev v : Naming → BookView
+  v form = formed_view row p old new form b
+
+  form_done : (form : Naming) → book_state (v form) ≡ record (naming_row (book_state b) p new form).after { word = known_word (v form); stored = stored_word (v form) }
   form_done (Places len ds place) = λ i. record (book_state (v (Places len ds place))) { starts = begins_put (head_at b) (addr place) (head_word p len ds) i }
   form_done Retires = refl
-  form_done (Evicts len place) = λ i. record (book_state (v (Evicts len place))) { stored = sym (stored_after b p len place (known_word b) (λ _ _. refl)) i }
+  form_done (Evicts len place) = refl
   form_done Stays = refl
-  form_done (Moves len ds from to) = move_done len ds to (copied_job (book_state b) p from to)
+  form_done (Moves len ds from to) = move_done b p old new len ds to (copied_job (book_state b) p from to)
   form_done (Fetches len ds place) = λ i. record (book_state (v (Fetches len ds place))) { starts = begins_put (head_at b) (addr place) (head_word p len ds) i }
 
   module _ (h : Legal (book_state b) (Name p old new)) (seen : old ≡ (book_state b).cell p) where
@@ -257,17 +262,17 @@ module _ (b : BookView) (p old new : ℕ) where
     told_itself (Moves len ds from to) = refl
     told_itself (Fetches len ds place) = tt
 
-    named_is : named_view p old new b ≡ v h.1.0
-    named_is = ap (λ x. view_by p old new x b) (naming_only h.1.0 (read_of old) (read_of new) h.1.1)
+    named_is : named_view row p old new b ≡ v h.1.0
+    named_is = ap (λ x. view_by row p old new x b) (naming_only h.1.0 (read_of old) (read_of new) h.1.1)
 
-    pub named_done : book_state (named_view p old new b) ≡ record (after o (Name p old new)) { word = known_word (named_view p old new b) }
-    named_done = subst (λ z. book_state z ≡ record (after o (Name p old new)) { word = known_word z }) (sym named_is)
-        (form_done h.1.0 ∙ ap (λ (u : State). record u { word = known_word (v h.1.0) }) (sym (won_state o p old new h.1.0 (sym seen) h.1.1)))
+    pub named_done : book_state (named_view row p old new b) ≡ record (after o (Name p old new)) { word = known_word (named_view row p old new b); stored = stored_word (named_view row p old new b) }
+    named_done = subst (λ z. book_state z ≡ record (after o (Name p old new)) { word = known_word z; stored = stored_word z }) (sym named_is)
+        (form_done h.1.0 ∙ ap (λ (u : State). record u { word = known_word (v h.1.0); stored = stored_word (v h.1.0) }) (sym (won_state o p old new h.1.0 (sym seen) h.1.1)))
 
     head_same : (a x : ℕ) → head_at (v h.1.0) a ≡ Some x → known_word b a ≡ x
-    head_same = form_heads b p (known_word b) (head_known b) new o refl h.1.0 (told_itself h.1.0) h.1.2
+    head_same = form_heads b p (known_word b) (head_known b) row new o refl h.1.0 (told_itself h.1.0) h.1.2
 
-    pub named_forgets : Forgets o (book_state (named_view p old new b))
+    pub named_forgets : Forgets o (book_state (named_view row p old new b))
     named_forgets = subst (λ z. Forgets o (book_state z)) (sym named_is)
         (heads_forget (v h.1.0) (known_word b) head_same b refl refl)
 
@@ -303,16 +308,16 @@ module _ (ws : List ℕ) (b : BookView) (os : OtherViews) (f : Facts ws b os) (p
   later = set ws (cell_at p) new
 
   abbrev b' : BookView
-  b' = formed_view p old new form b
+  b' = formed_view s.word p old new form b
 
   old_heads : (a x : ℕ) → head_at b a ≡ Some x → s.word a ≡ x
   old_heads = known_heads ws b os f
 
-  leaving : (len : ℕ) (place : Place) → IsNaming (Evicts len place) (read_of old) (read_of new) → (i : ℕ) → i < words_for len → s.word (addr place + 1 + i) ≡ known_word b (addr place + 1 + i)
-  leaving len place n i lt = f.book.shown.words (addr place + 1 + i) (known len place n i lt)
+  leaving : (len : ℕ) (place : Place) → IsNaming (Evicts len place) (read_of old) (read_of new) → is_dirty (read_of old) ≡ true → (i : ℕ) → i < words_for len → known_word b (addr place + 1 + i) ≡ s.word (addr place + 1 + i)
+  leaving len place n dirty i lt = sym (f.book.shown.words (addr place + 1 + i) (known len place n dirty i lt))
 
   abbrev made : Naming → State
-  made x = record (state_of ws (formed_view p old new x b) os) { cell = put (cell_in ws) p new }
+  made x = record (state_of ws (formed_view s.word p old new x b) os) { cell = put (cell_in ws) p new }
 
   -- what the view says was copied, was copied
   told : (x : Naming) → IsNaming x (read_of old) (read_of new) → (naming_row (masked s view.cell (counts b) view.copying.word) p new x).Legal → IsJobTold b p s x
@@ -331,13 +336,13 @@ module _ (ws : List ℕ) (b : BookView) (os : OtherViews) (f : Facts ws b os) (p
   row_becomes : (x : Naming) → IsJobTold b p s x → IsNaming x (read_of old) (read_of new) → (naming_row s p new x).after ≡ made x
   row_becomes (Places len ds place) t n = λ i. record (made (Places len ds place)) { starts = sym (begins_put (head_at b) (addr place) (head_word p len ds)) i }
   row_becomes Retires t n = refl
-  row_becomes (Evicts len place) t n = λ i. record (made (Evicts len place)) { stored = stored_after b p len place s.word (leaving len place n) i }
+  row_becomes (Evicts len place) t n = λ i. record (made (Evicts len place)) { stored = stored_after b p len place s.word s.word (λ _ _. refl) i }
   row_becomes Stays t n = refl
   row_becomes (Moves len ds from to) t n = ap (after_move s p new len to) t ∙ move_becomes len ds to (copied_job view p from to)
   row_becomes (Fetches len ds place) t n = λ i. record (made (Fetches len ds place)) { starts = sym (begins_put (head_at b) (addr place) (head_word p len ds)) i }
 
   words_named : known_word b' ≡ masked_word (word_in later) (λ a. is_some (head_at b' a)) (λ _. false)
-  words_named = heads_words b' (word_in later) (λ a x e. ap (λ g. g a) (cell_after ws b os f p new few).word_is ∙ form_heads b p s.word old_heads new s refl form (told form by_view.1.1 by_view.1.2) form_legal a x e)
+  words_named = heads_words b' (word_in later) (λ a x e. ap (λ g. g a) (cell_after ws b os f p new few).word_is ∙ form_heads b p s.word old_heads s.word new s refl form (told form by_view.1.1 by_view.1.2) form_legal a x e)
 
   -- what was counted before, and once more where the old word has the mark, which the new one hasn't
   counted : (count before : ℕ → ℕ) → count new ≡ 0 → cell_in ws p ≡ old → (q : ℕ) → before q + count (cell_in ws q) ≡ put before p (before p + count old) q + count (cell_in later q)
@@ -379,17 +384,17 @@ module _ (ws : List ℕ) (b : BookView) (os : OtherViews) (f : Facts ws b os) (p
         (λ ne. put_other before p (before p + count old) q ne ∙ sym (ap (λ t. cond t (before q + count old) (before q)) (ne_eqb p q (λ e. ne (sym e)))))
 
   -- no naming changes a job's word
-  going_named : (x : Naming) → AllFindJobs (over (formed_view p old new x b).jobs (λ _. 0)) (job_in later)
-  going_named x = subst (λ (z : ℕ → ℕ). AllFindJobs z (job_in later)) (sym (form_jobs p x b)) (going_after ws b os f p new few)
+  going_named : (x : Naming) → AllFindJobs (over (formed_view s.word p old new x b).jobs (λ _. 0)) (job_in later)
+  going_named x = subst (λ (z : ℕ → ℕ). AllFindJobs z (job_in later)) (sym (form_jobs s.word p x b)) (going_after ws b os f p new few)
 
-  finds_named_too : (x : Naming) → AllFind (over (formed_view p old new x b).cells (λ _. 0)) (cell_in later)
+  finds_named_too : (x : Naming) → AllFind (over (formed_view s.word p old new x b).cells (λ _. 0)) (cell_in later)
   finds_named_too x = finds_after ws b os f p new few
 
   won_step : cell_in ws p ≡ old → BookStep ws b os (Name p old new) Done later b'
-  won_step won = let sizes = form_sizes p form b in record {
+  won_step won = let sizes = form_sizes s.word p form b in record {
     legal = legal;
     says = won_says (cell_in ws p) old won;
-    becomes = led_by (won_state s p old new form won by_view.1.1 ∙ row_becomes form (told form by_view.1.1 by_view.1.2) by_view.1.1) (state_is later b' os (cell_after ws b os f p new few) refl refl refl);
+    becomes = led_by (won_state s p old new form won by_view.1.1 ∙ row_becomes form (told form by_view.1.1 by_view.1.2) by_view.1.1) (state_is later b' os (cell_after ws b os f p new few) refl refl refl refl);
     book = λ law. ties later b' os law (λ _. false) words_named (finds_named_too form) (counts_none (book_state b') (book_state b').cell) (epoch_after ws b os f p new few ∙ sym sizes.3) (going_named form);
     leaves = record {
       mutators = sizes.0;
@@ -411,17 +416,51 @@ module _ (ws : List ℕ) (b : BookView) (os : OtherViews) (f : Facts ws b os) (p
     leaves = cells_stay refl refl refl (λ _ _. (refl, refl, refl));
   }
 
-  pub exchange_step : BookStep ws b os (Name p old new) (exchange_reply old (cell_in ws p)) (set ws (cell_at p) (either (cell_in ws p == old) new (cell_in ws p))) (exchanged_view p old new (cell_in ws p) b)
-  exchange_step = by_case (BookStep ws b os (Name p old new)) ws (cell_at p) (cell_in ws p) old new (named_view p old new b) (saw_view p (cell_in ws p) b) (cell_here ws p few)
-      (λ won. subst (BookStep ws b os (Name p old new) Done later) (sym (ap (λ x. view_by p old new x b) (naming_only form (read_of old) (read_of new) by_view.1.1))) (won_step won)) lost_step
+  pub exchange_step : BookStep ws b os (Name p old new) (exchange_reply old (cell_in ws p)) (set ws (cell_at p) (either (cell_in ws p == old) new (cell_in ws p))) (exchanged_view s.word p old new (cell_in ws p) b)
+  exchange_step = by_case (BookStep ws b os (Name p old new)) ws (cell_at p) (cell_in ws p) old new (named_view s.word p old new b) (saw_view p (cell_in ws p) b) (cell_here ws p few)
+      (λ won. subst (BookStep ws b os (Name p old new) Done later) (sym (ap (λ x. view_by s.word p old new x b) (naming_only form (read_of old) (read_of new) by_view.1.1))) (won_step won)) lost_step
+
+  -- what is stored, where it won
+  row_stored : (x : Naming) → IsNaming x (read_of old) (read_of new) →
+      ((len : ℕ) (place : Place) → IsNaming (Evicts len place) (read_of old) (read_of new) → is_dirty (read_of old) ≡ true) → stored_word (formed_view s.word p old new x b) ≡ (naming_row view p new x).after.stored
+  row_stored (Places len ds place) n dirty = refl
+  row_stored Retires n dirty = refl
+  row_stored (Evicts len place) n dirty = sym (stored_after b p len place (known_word b) s.word (leaving len place n (dirty len place n)))
+  row_stored Stays n dirty = refl
+  row_stored (Moves len ds from to) n dirty = move_stored b p old new len ds to (copied_job view p from to)
+  row_stored (Fetches len ds place) n dirty = refl
+
+  pub stores : old ≡ view.cell p → cell_in ws p ≡ old → StoresLeaving view (book_state (named_view s.word p old new b)) p old new
+  stores seen won =
+      let real = stores_leaving s f.law p old new legal won in
+      let kept : stored_word b' ≡ (after s (Name p old new)).stored = ap (λ (u : State). u.stored) (sym (won_state s p old new form won by_view.1.1 ∙ row_becomes form (told form by_view.1.1 by_view.1.2) by_view.1.1)) in
+      let named : named_view s.word p old new b ≡ b' = ap (λ x. view_by s.word p old new x b) (naming_only form (read_of old) (read_of new) by_view.1.1) in
+      subst (λ z. StoresLeaving view (book_state z) p old new) (sym named) (record {
+        kept = λ dirty. row_stored form by_view.1.1 dirty ∙ sym (ap (λ (u : State). u.stored) (won_state view p old new form (sym seen) by_view.1.1));
+        others = λ q ne. ap (λ g. g q) kept ∙ real.others q ne;
+        fits = λ len place n. subst (λ (g : ℕ → ℕ → ℕ). IsStored (g p) len) (sym kept) (real.fits len place n);
+        own = λ len place n i lt is. ap (λ (g : ℕ → ℕ → ℕ). g p i) kept ∙ left_words s f.law p old new won len place n i lt ∙ f.book.shown.words (addr place + 1 + i) is;
+        same = λ honest len place n none i lt. ap (λ (g : ℕ → ℕ → ℕ). g p i) kept ∙ real.same honest len place n none i lt;
+      })
 
 module _ {S : Type 0} (slots id : ℕ) (me : Me S View) (is : me.0 ≡ Book (book_of me.0)) (plain : IsPlain (book_of me.0)) (p old new : ℕ) (old_fits : old < 2 ^ 64) (fits : new < 2 ^ 64) where
   abbrev mine : BookView
   mine = book_of me.0
 
-  pub exchanges : Legal (book_state mine) (Name p old new) → KnowsLeaving (book_state mine) old new →
+  pub exchanges : Legal (book_state mine) (Name p old new) → old ≡ (book_state mine).cell p → KnowsLeaving (book_state mine) old new →
       Allows Running slots id me (cell_at p) (λ n. either (n == old) new n) (Named (step slots (cell_at p) old new none) me)
-  exchanges h known = book_makes slots id (cell_at p) me is (Name p old new) refl (exchange_reply old) (λ n. exchanged_view p old new n mine) (Named (step slots (cell_at p) old new none) me) (λ n. either (n == old) new n) (old_fits, fits)
-      (λ ws os f _. subst (λ n. BookStep ws mine os (Name p old new) (exchange_reply old n) (set ws (cell_at p) (either (n == old) new n)) (exchanged_view p old new n mine)) (cell_here ws p (cells_few ws mine os f p h.0)) (exchange_step ws mine os f plain p old new fits h known))
-      (λ ws os f _ t q e. let n : ℕ = slice_index ws (cell_at p) in
-      found_at slots id me is plain p ws os f h.0 q e (λ z. BookTells me.0 (Book (exchanged_view p old new n mine)) (Name z old new) (exchange_reply old n) (exchanged_view z old new n mine)) t)
+  exchanges h seen known = book_allows slots id (cell_at p) me mine (λ n. either (n == old) new n) (Named (step slots (cell_at p) old new none) me) is (λ ws os f small.
+      let n : ℕ = slice_index ws (cell_at p) in
+      let word : ℕ → ℕ = word_in ws in
+      let here : cell_in ws p ≡ n = cell_here ws p (cells_few ws mine os f p h.0) in
+      let k = subst (λ n. BookStep ws mine os (Name p old new) (exchange_reply old n) (set ws (cell_at p) (either (n == old) new n)) (exchanged_view word p old new n mine)) here (exchange_step ws mine os f plain p old new fits h known) in
+      let t : BookTells me.0 (Book (exchanged_view word p old new n mine)) (Name p old new) (exchange_reply old n) (exchanged_view word p old new n mine) =
+      record { after_is = refl; made = book_made ws mine os f (Name p old new) refl (old_fits, fits) (exchange_reply old n) (set ws (cell_at p) (either (n == old) new n)) (exchanged_view word p old new n mine) k } in (
+        exchanged_view word p old new n mine,
+        k.leaves.rest,
+        book_facts ws mine os f (Name p old new) refl (old_fits, fits) (exchange_reply old n) (set ws (cell_at p) (either (n == old) new n)) (exchanged_view word p old new n mine) k,
+        λ q e.
+            let x = found_at slots id me is plain p ws os f h.0 q e (λ z. (n ≡ old → StoresLeaving (book_state mine) (book_state (named_view word z old new mine)) z old new) × BookTells me.0 (Book (exchanged_view word p old new n mine)) (Name z old new) (exchange_reply old n) (exchanged_view word z old new n mine))
+            (λ is_old. stores ws mine os f plain p old new fits h known seen (here ∙ is_old), t) in
+            (x.0, word, x.1.0, x.1.1),
+      ))

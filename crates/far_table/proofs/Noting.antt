@@ -11,7 +11,7 @@ use Rattle.far_table.specs.View.{BookView, OtherViews, OwnerView, with_owner}
 use Rattle.far_table.specs.Rule.{BookTies, Facts, OwnerTies}
 use Rattle.far_table.specs.StateOf.{state_of}
 use Rattle.far_table.specs.Tells.{HasState, OwnerMayBe}
-use Rattle.far_table.specs.Views.{held_at, noted_view, uses}
+use Rattle.far_table.specs.Views.{held_at, noted_view, uses, soiled_at}
 use Rattle.far_table.proofs.Owners.{pointers_same, remembered_same}
 use Rattle.far_table.proofs.OwnSteps.{state_is}
 use Rattle.far_table.proofs.Places.{below}
@@ -22,7 +22,7 @@ module _ (ws : List ℕ) (b : BookView) (os : OtherViews) (f : Facts ws b os) (o
   w = noted_view p n o
 
   same : state_of ws b os ≡ state_of ws b (with_owner os o.number w)
-  same = (state_is ws b (with_owner os o.number w) (no_word ws f.wide) (remembered_same os.owners o.number o w at refl) (pointers_same os.owners o.number o w at uses refl) (pointers_same os.owners o.number o w at held_at refl)).is
+  same = (state_is ws b (with_owner os o.number w) (no_word ws f.wide) (remembered_same os.owners o.number o w at refl) (pointers_same os.owners o.number o w at uses refl) (pointers_same os.owners o.number o w at held_at refl) (pointers_same os.owners o.number o w at soiled_at refl)).is
 
   mine : OwnerTies b (state_of ws b os) o.number w
   mine = let ties = f.owners o.number o at in record {

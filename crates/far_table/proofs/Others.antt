@@ -2,11 +2,11 @@
 use Rattle.std.proofs.Common.{◌≡◌, ◌≢◌, ◌/◌, ℕ, Bool, true, false, cond, Option, Some, None, refl, sym, ap, ◌∙◌}
 use Rattle.std.specs.Prelude.{◌==◌}
 use Rattle.std.proofs.lemmas.Bool.{false≢true}
-use Rattle.far_word.specs.declared.mark.Mark.TheVariants.{Hot, Evac, Moved, Dropped}
+use Rattle.far_word.specs.declared.mark.Mark.TheVariants.{Hot, Evac, Moved, Dropped, Dirty}
 use Rattle.far_word.specs.declared.pointer.Place.{Place}
 use Rattle.far_word.specs.declared.sizes.TheConstants.{CELLS}
 use Rattle.far_core.specs.declared.event.Event.{Event}
-use Rattle.far_core.specs.declared.event.Event.TheVariants.{ReadEpoch, Open, Pin, Load, Store, Close, Adopt, Ask, PeekJob, Claim, ReadLength, Read, Write, Finish}
+use Rattle.far_core.specs.declared.event.Event.TheVariants.{ReadEpoch, Open, Pin, Load, Store, Soil, Close, Adopt, Ask, PeekJob, Claim, ReadLength, Read, Write, Finish}
 use Rattle.far_core.specs.declared.event.Reply.TheVariants.{Done, Word}
 use Rattle.far_core.specs.declared.event.Task.{Task}
 use Rattle.far_core.specs.events.Finish.{job_spot}
@@ -93,6 +93,12 @@ keeps_others s (Store m p i w) law fits legal = λ j ne. record {
       ap (λ (z : World). z.object q) changed.3 ∙ put_other (world_of s).object p _ q (other p q m j legal.1.1.own ne its);
   honest = refl;
 }
+keeps_others s (Soil m p) law fits legal = λ j ne. record {
+  scope = refl;
+  cell = λ q its. put_other s.cell p _ q (other p q m j legal.0 ne its);
+  object = λ q _. ap (λ (z : World). z.object q) (does s (Soil m p) law fits legal);
+  honest = refl;
+}
 keeps_others s (Close m) law fits legal = λ j ne. record {
   scope = put_other s.scope m _ j ne;
   cell = λ _ _. refl;
@@ -107,6 +113,7 @@ keeps_others s (Adopt m p) law fits legal = λ j ne. record {
 }
 keeps_others s (Ask m p Hot) law fits legal = absurd (false≢true legal.0)
 keeps_others s (Ask m p Evac) law fits legal = absurd (false≢true legal.0)
+keeps_others s (Ask m p Dirty) law fits legal = absurd (false≢true legal.0)
 keeps_others s (Ask m p Moved) law fits legal = λ j ne. record {
   scope = refl;
   cell = λ q its. put_other s.cell p _ q (other p q m j legal.2 ne its);

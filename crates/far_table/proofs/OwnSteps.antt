@@ -6,12 +6,13 @@ use lib.ListN.{get_elem?, length-set}
 use Rattle.atomic_table.proofs.Lists.{at_set}
 use Rattle.far_word.specs.declared.pointer.Place.{Place}
 use Rattle.far_word.specs.declared.sizes.TheConstants.{CELLS}
+use Rattle.far_word.specs.Pointer.{read_of}
 use Rattle.far_core.specs.declared.event.Event.{Event}
 use Rattle.far_core.specs.declared.event.Reply.{Reply}
 use Rattle.far_core.specs.events.Legal.{Legal}
 use Rattle.far_core.specs.events.Open.{scope_word_of}
 use Rattle.far_core.specs.events.Step.{Fits, after, answer}
-use Rattle.far_core.specs.state.Law.{Law}
+use Rattle.far_core.specs.state.Law.{Law, is_dirty}
 use Rattle.far_core.specs.state.State.{State}
 use Rattle.far_core.specs.world.WorldOf.{world_of}
 use Rattle.far_core.proofs.Owing.{keeps}
@@ -21,10 +22,11 @@ use Rattle.far_hand.proofs.OthersWork.{change}
 use Rattle.far_table.specs.View.{BookView, ObjectView, OtherViews, OwnerView, with_owner}
 use Rattle.far_table.specs.Layout.{TABLE_WORDS}
 use Rattle.far_table.specs.Rule.{BookTies, Facts, Has, OwnerTies}
-use Rattle.far_table.specs.StateOf.{cooled_at, copying_of, held_by, remembered_by, retired_at, state_of, taken_at, used_by}
+use Rattle.far_table.specs.StateOf.{cooled_at, copying_of, held_by, remembered_by, retired_at, soiled_by, state_of, taken_at, used_by}
 use Rattle.far_table.specs.Tells.{OwnerMade, OwnerMayBe}
-use Rattle.far_table.specs.Views.{asked_at, dropped_at, drops, heated_at, held_at, hots, moves, object_at, pinned_at}
+use Rattle.far_table.specs.Views.{asked_at, dropped_at, drops, heated_at, held_at, hots, moves, object_at, pinned_at, soiled_at}
 use Rattle.far_table.proofs.BookKept.{book_on}
+use Rattle.far_table.proofs.Owners.{known_by}
 use Rattle.far_table.proofs.Others.{KeepsBy, KeepsOwner, keeps_others}
 use Rattle.far_table.proofs.Places.{below}
 use Rattle.far_table.proofs.Words.{WordsAre}
@@ -35,10 +37,10 @@ pub record Leads (s : State) (ws : List ℕ) (b : BookView) (os : OtherViews) : 
   pub is : s ≡ state_of ws b os
   pub wide : length ws ≡ TABLE_WORDS
 
-pub state_is : (ws : List ℕ) (b : BookView) (os : OtherViews) {epoch : ℕ} {scope cell word job : ℕ → ℕ} {remembered : ℕ → Option ℕ} {used : ℕ → Bool} {held : ℕ → Option Place} →
-    WordsAre ws epoch scope cell word job → remembered_by os.owners ≡ remembered → used_by os.owners ≡ used → held_by os.owners ≡ held →
-    Leads (record (state_of ws b os) { epoch = epoch; scope = scope; cell = cell; word = word; remembered = remembered; used = used; held = held; copying = record (copying_of ws b os.copiers) { word = job } }) ws b os
-state_is ws b os words r u h = record {
+pub state_is : (ws : List ℕ) (b : BookView) (os : OtherViews) {epoch : ℕ} {scope cell word job : ℕ → ℕ} {remembered : ℕ → Option ℕ} {used : ℕ → Bool} {held : ℕ → Option Place} {soiled : ℕ → Bool} →
+    WordsAre ws epoch scope cell word job → remembered_by os.owners ≡ remembered → used_by os.owners ≡ used → held_by os.owners ≡ held → soiled_by os.owners ≡ soiled →
+    Leads (record (state_of ws b os) { epoch = epoch; scope = scope; cell = cell; word = word; remembered = remembered; used = used; held = held; soiled = soiled; copying = record (copying_of ws b os.copiers) { word = job } }) ws b os
+state_is ws b os words r u h d = record {
   is = λ i. record (state_of ws b os) {
     epoch = sym words.epoch_is i;
     scope = sym words.scope_is i;
@@ -47,6 +49,7 @@ state_is ws b os words r u h = record {
     remembered = sym r i;
     used = sym u i;
     held = sym h i;
+    soiled = sym d i;
     copying = record (copying_of ws b os.copiers) { word = sym words.job_is i };
   };
   wide = words.wide;
@@ -95,6 +98,11 @@ mine_on b s t m o w ties number honest same scope objects asked dropped world ma
 -- what is held by a pin has HOT, in each state beside the view
 pub pinned_hot : (o : OwnerView) (x : State) (p : ℕ) → OwnerMayBe o x → p / CELLS ≡ o.number → pinned_at o p ≡ true → hots (x.cell p) ≡ 1
 pinned_hot o x p may own pinned = ap (λ (s : State). hots (s.cell p)) may.is ∙ ((may.facts.owners o.number o may.stands).warm p own pinned).1
+
+-- what is soiled has DIRTY there
+pub soiled_dirty : (o : OwnerView) (x : State) (p : ℕ) → OwnerMayBe o x → p / CELLS ≡ o.number → soiled_at o p ≡ true → is_dirty (read_of (x.cell p)) ≡ true
+soiled_dirty o x p may own soiled = ap (λ (s : State). is_dirty (read_of (s.cell p))) may.is
+    ∙ may.facts.law.soils.soiled_dirty p (known_by may.others.owners o.number o o may.stands soiled_at p own ∙ soiled)
 
 module _ (ws : List ℕ) (b : BookView) (os : OtherViews) (f : Facts ws b os) where
   pub is_mutator : (m : ℕ) (o : OwnerView) → get_elem? os.owners m ≡ some o → m < b.mutators

@@ -11,7 +11,7 @@ use Rattle.far_word.specs.declared.pointer.PtrWord.TheVariants.{Near}
 use Rattle.far_word.specs.declared.sizes.TheConstants.{CELLS, POINTERS}
 use Rattle.far_word.specs.Sizes.{words_for}
 use Rattle.far_core.specs.declared.event.Event.{Event}
-use Rattle.far_core.specs.declared.event.Event.TheVariants.{ReadEpoch, Open, Pin, Load, Store, Close, Adopt, Ask}
+use Rattle.far_core.specs.declared.event.Event.TheVariants.{ReadEpoch, Open, Pin, Load, Store, Soil, Close, Adopt, Ask}
 use Rattle.far_core.specs.declared.event.Reply.{Reply}
 use Rattle.far_core.specs.events.Legal.{Legal}
 use Rattle.far_core.specs.events.Open.{scope_word_of}
@@ -23,14 +23,15 @@ use Rattle.far_table.specs.BookSeats.{MayBe}
 use Rattle.far_table.specs.Rule.{Facts}
 use Rattle.far_table.specs.StateOf.{state_of}
 use Rattle.far_table.specs.View.{BookView, ObjectView, OwnerView, OtherViews, with_owner}
-use Rattle.far_table.specs.Views.{held_at, len_of, nobody, object_at, owner_at, uses}
+use Rattle.far_table.specs.Views.{held_at, len_of, nobody, object_at, owner_at, soiled_at, uses}
 use Rattle.far_table.proofs.AdoptSteps.{adopt_step}
 use Rattle.far_table.proofs.AskSteps.{ask_step}
-use Rattle.far_table.proofs.HeldFacts.{held_facts, held_so}
+use Rattle.far_table.proofs.HeldFacts.{held_facts, held_so, some_there}
 use Rattle.far_table.proofs.Owners.{known_by, own_is}
 use Rattle.far_table.proofs.OwnSteps.{OwnStep, own_facts}
 use Rattle.far_table.proofs.PinSteps.{pin_step}
 use Rattle.far_table.proofs.Places.{one_there}
+use Rattle.far_table.proofs.SoilSteps.{soil_step}
 use Rattle.far_table.proofs.Steps.{close_step, few, open_step, read_epoch_step}
 use Rattle.far_table.proofs.StoreSteps.{store_step}
 
@@ -102,7 +103,7 @@ module _ (ws : List ℕ) (b : BookView) (os : OtherViews) (f : Facts ws b os) wh
         (ask_step ws b os f o at p (small p h.2) h.2 (used p true h.2 h.3) (held p None h.2 h.4) k h.0)
 
     stores : (p i v : ℕ) → v < 2 ^ 64 → Legal s (Store o.number p i v) → MayBe b (after s (Store o.number p i v))
-    stores p i v word (len, (place, holds, inside), padded) =
+    stores p i v word (len, (place, holds, inside), padded, soiled) =
         let at_place : held_at o p ≡ Some place = held p (Some place) holds.own holds.rests in
         let x = held_facts ws b os f o at p place holds.own at_place in
         let near = holds.near in
@@ -110,7 +111,10 @@ module _ (ws : List ℕ) (b : BookView) (os : OtherViews) (f : Facts ws b os) wh
         let lens : x.len ≡ len = cc in
         let long : len ≡ len_of (object_at o p) = sym (ap len_of x.used ∙ (x.long ∙ lens)) in
         acts o at (Store o.number p i v) refl word _ _ _
-        (store_step ws b os f o at p i v place holds.own at_place (subst (λ n. i < words_for n) long inside) word (subst (λ n. v < 2 ^ (8 * (n - 8 * i))) long padded))
+        (store_step ws b os f o at p i v place holds.own at_place (subst (λ n. i < words_for n) long inside) (sym (known_by os.owners o.number o o at soiled_at p holds.own) ∙ soiled) word (subst (λ n. v < 2 ^ (8 * (n - 8 * i))) long padded))
+
+    soils : (p : ℕ) → Legal s (Soil o.number p) → MayBe b (after s (Soil o.number p))
+    soils p h = acts o at (Soil o.number p) refl tt _ _ _ (soil_step ws b os f o at p (small p h.0) h.0 (subst IsSome (held_so ws b os f o at p h.0) h.1))
 
   -- who holds a place is one of the owners
   holder : (p m : ℕ) (place : Place) → p / CELLS ≡ m → s.held p ≡ Some place → m < b.mutators
@@ -127,6 +131,7 @@ module _ (ws : List ℕ) (b : BookView) (os : OtherViews) (f : Facts ws b os) wh
   may_act (Pin m p) own fits h = by_owner (λ k. Pin k p) (λ o at. pins o at p) m h.0.0 h
   may_act (Load m p i) own fits h = record { words = ws; others = os; facts = f; is = refl }
   may_act (Store m p i v) own fits h = by_owner (λ k. Store k p i v) (λ o at. stores o at p i v fits) m (holder p m h.1.0 h.1.1.own h.1.1.rests) h
+  may_act (Soil m p) own fits h = let there = some_there (s.held p) h.1 in by_owner (λ k. Soil k p) (λ o at. soils o at p) m (holder p m there.0 h.0 there.1) h
   may_act (Adopt m p) own fits h = by_owner (λ k. Adopt k p) (λ o at. adopts o at p) m h.0 h
   may_act (Ask m p k) own fits h = by_owner (λ j. Ask j p k) (λ o at. asks o at p k) m h.1 h
   may_act e own fits h = absurd (false≢true own)

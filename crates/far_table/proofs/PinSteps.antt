@@ -34,7 +34,7 @@ use Rattle.far_table.specs.Plays.{Pinned, Lies}
 use Rattle.far_table.specs.Rule.{Facts, Running}
 use Rattle.far_table.specs.StateOf.{cooled_at, held_by, state_of}
 use Rattle.far_table.specs.Tells.{Tells, owner_of}
-use Rattle.far_table.specs.Views.{asked_at, dropped_at, drops, has_hot, heated_at, held_at, held_view, hots, len_of, moves, object_at, pinned_at, pinned_view, uses, warmed_view, with_place}
+use Rattle.far_table.specs.Views.{asked_at, dropped_at, drops, has_hot, heated_at, held_at, held_view, hots, len_of, moves, object_at, pinned_at, pinned_view, soiled_at, uses, warmed_view, with_place}
 use Rattle.far_table.proofs.HeldFacts.{may_hold, near_facts}
 use Rattle.far_table.proofs.Lift.{owner_makes}
 use Rattle.far_table.proofs.Others.{pin_objects}
@@ -154,7 +154,7 @@ module _ (ws : List ℕ) (b : BookView) (os : OtherViews) (f : Facts ws b os) (o
         says = refl;
         becomes = state_is (set ws (cell_at p) hot) b (with_owner os m w) (cell_word_set ws f.wide p hot small)
             (remembered_same os.owners m o w at (placed_same (λ y. y.epoch) p warm (λ _. refl) x))
-            (pointers_same os.owners m o w at uses (placed_same uses p warm (λ _. refl) x)) (held_after x);
+            (pointers_same os.owners m o w at uses (placed_same uses p warm (λ _. refl) x)) (held_after x) (pointers_same os.owners m o w at soiled_at (placed_same soiled_at p warm (λ _. refl) x));
         mine = mine_on b s (after s (Pin m p)) m o w (f.owners m o at) (placed_same (λ y. y.number) p warm (λ _. refl) x) (placed_same (λ y. y.honest) p warm (λ _. refl) x) refl
             ((f.owners m o at).scope ∙ ap scope_word_of (sym opens)) (placed_same object_at p warm (λ _. refl) x) (placed_same asked_at p warm (λ _. refl) x) (placed_same dropped_at p warm (λ _. refl) x)
             (pin_objects c x m p _ _ (does s (Pin m p) f.law tt legal)) marks_after (λ q mine. ap (λ g. g q) (placed_same heated_at p warm (λ _. refl) x) ∙ heats_after q mine)

@@ -5,7 +5,7 @@ use Rattle.std.proofs.lemmas.Bool.{false≢true}
 use mathlib.Core.Logic.{dite}
 use native.Mathlib.Decide.{ℕ_discrete}
 use Rattle.far_word.specs.declared.mark.Mark.{Mark}
-use Rattle.far_word.specs.declared.mark.Mark.TheVariants.{Hot, Evac, Moved, Dropped}
+use Rattle.far_word.specs.declared.mark.Mark.TheVariants.{Hot, Evac, Moved, Dropped, Dirty}
 use Rattle.far_word.specs.declared.pointer.Place.{Place}
 use Rattle.far_word.specs.declared.pointer.PtrWord.{PtrWord}
 use Rattle.far_word.specs.Pointer.{read_of, view_place}
@@ -111,6 +111,7 @@ places_put o places p place has long own fits q other h = dite (ℕ_discrete q p
 pub asked_epoch : (p : ℕ) (k : Mark) (n : ℕ) (o : OwnerView) → (asked_view p k n o).epoch ≡ o.epoch
 asked_epoch p Hot n o = refl
 asked_epoch p Evac n o = refl
+asked_epoch p Dirty n o = refl
 asked_epoch p Moved n o = refl
 asked_epoch p Dropped n o = refl
 
@@ -118,12 +119,14 @@ asked_epoch p Dropped n o = refl
 pub asked_found : (p : ℕ) (k : Mark) (n : ℕ) (o : OwnerView) → is_request k ≡ true → (asked_view p k n o).found ≡ (p, n) ∷ o.found
 asked_found p Hot n o asks = absurd (false≢true asks)
 asked_found p Evac n o asks = absurd (false≢true asks)
+asked_found p Dirty n o asks = absurd (false≢true asks)
 asked_found p Moved n o asks = refl
 asked_found p Dropped n o asks = refl
 
 pub places_asked : (p : ℕ) (k : Mark) (n : ℕ) (o : OwnerView) (places : List ℕ) → held_at o p ≡ None → HasPlaces o places → HasPlaces (asked_view p k n o) places
 places_asked p Hot n o places free has = has
 places_asked p Evac n o places free has = has
+places_asked p Dirty n o places free has = has
 places_asked p Moved n o places free has = places_same o (asked_view p Moved n o) places refl refl refl has
 places_asked p Dropped n o places free has = λ q place h.
     let x = has q place h in

@@ -18,7 +18,7 @@ use Rattle.far_table.specs.Seats.{HasPlaces, Remembers, data_begin}
 use Rattle.far_table.specs.Stands.{BookOk, IsPlain, SaysOwner, Stands, Starts, book_of}
 use Rattle.far_table.specs.StateOf.{state_of}
 use Rattle.far_table.specs.Tells.{CopierStands, HasState, owner_of}
-use Rattle.far_table.proofs.FirstViews.{copier_stands, eight_copiers, first_fits, first_has, first_held, first_held_none, first_object_none, first_places, first_remembers, first_scope, first_uses, many_owners, owner_stands}
+use Rattle.far_table.proofs.FirstViews.{copier_stands, eight_copiers, first_fits, first_has, first_held, first_held_none, first_object_none, first_places, first_remembers, first_scope, first_soiled, first_uses, many_owners, owner_stands}
 use Rattle.far_table.proofs.Begins.{copier_says, first_book_state, first_facts, first_state, other_rest}
 use Rattle.far_table.proofs.Places.{one_there}
 use Rattle.far_table.proofs.SeatLemmas.{SeatOk}
@@ -86,6 +86,7 @@ owner_says s law honest m = record {
   scope = first_scope s honest m law;
   used = λ p own. first_uses s honest m p own law;
   held = λ p own. first_held s honest m p own;
+  soiled = λ p own. first_soiled s honest m p own;
   objects = λ p x own h. first_has s honest m p own x h;
   others = λ p other. (first_object_none s honest m p other, first_held_none s honest m p other);
 }

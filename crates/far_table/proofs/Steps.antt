@@ -1,5 +1,5 @@
 -- Each kind of step of an owner's seat is its event of the core.
-use Rattle.std.proofs.Common.{◌≡◌, ◌≢◌, ℕ, ◌/◌, ◌<◌, cond, List, set, sym, refl, ap, ◌∙◌, subst, arith, Option, Some, None}
+use Rattle.std.proofs.Common.{◌≡◌, ◌≢◌, ℕ, ◌/◌, ◌<◌, false, cond, List, set, sym, refl, ap, ◌∙◌, subst, arith, Option, Some, None}
 use Rattle.std.specs.Prelude.{IsSome, ◌==◌}
 use Rattle.std.proofs.lemmas.Bool.{eq-eqb, false≢true, ne_eqb}
 use mathlib.Core.Option.{some, none}
@@ -19,9 +19,9 @@ use Rattle.far_table.specs.View.{BookView, OwnerView, View, Owner, OtherViews, w
 use Rattle.far_table.specs.Layout.{EPOCH_AT, scope_at, epoch_in, scope_in, cell_in, job_in, word_in}
 use Rattle.far_table.specs.Plays.{EpochRead, Opened, Closed}
 use Rattle.far_table.specs.Rule.{Facts, Running}
-use Rattle.far_table.specs.StateOf.{held_by, remembered_by, state_of}
+use Rattle.far_table.specs.StateOf.{held_by, remembered_by, soiled_by, state_of}
 use Rattle.far_table.specs.Tells.{owner_of}
-use Rattle.far_table.specs.Views.{closed_view, held_at, opened_view, read_view, uses}
+use Rattle.far_table.specs.Views.{closed_view, held_at, opened_view, read_view, soiled_at, uses}
 use Rattle.far_table.proofs.Lift.{owner_makes, owner_reads}
 use Rattle.far_table.proofs.Owners.{own_is, pointers_same, pointers_set, remembered_same, remembered_set}
 use Rattle.far_table.proofs.OwnSteps.{OwnStep, is_mutator, mine_on, state_is}
@@ -48,7 +48,7 @@ module _ (ws : List ℕ) (b : BookView) (os : OtherViews) (f : Facts ws b os) (o
   read_epoch_step shut = let w : OwnerView = read_view (epoch_in ws) o in let legal = closed_so shut in record {
     legal = legal;
     says = refl;
-    becomes = state_is ws b (with_owner os m w) (no_word ws f.wide) (remembered_set os.owners m o w at) (pointers_same os.owners m o w at uses refl) (pointers_same os.owners m o w at held_at refl);
+    becomes = state_is ws b (with_owner os m w) (no_word ws f.wide) (remembered_set os.owners m o w at) (pointers_same os.owners m o w at uses refl) (pointers_same os.owners m o w at held_at refl) (pointers_same os.owners m o w at soiled_at refl);
     mine = mine_on b (state_of ws b os) (after (state_of ws b os) (ReadEpoch m)) m o w (f.owners m o at) refl refl refl (f.owners m o at).scope refl refl refl
         (ap (λ (z : World). z.object) (does (state_of ws b os) (ReadEpoch m) f.law tt legal)) (λ _. (refl, refl)) (f.owners m o at).hots (f.owners m o at).warm;
   }
@@ -62,7 +62,7 @@ module _ (ws : List ℕ) (b : BookView) (os : OtherViews) (f : Facts ws b os) (o
         legal = legal;
         says = refl;
         becomes = state_is (set ws (scope_at m) x) b (with_owner os m w) (subst (λ v. WordsAre (set ws (scope_at m) x) (epoch_in ws) (put (scope_in ws) m v) (cell_in ws) (word_in ws) (job_in ws)) word (scope_word_set ws f.wide m x few))
-            (remembered_same os.owners m o w at refl) (pointers_same os.owners m o w at uses refl) (pointers_same os.owners m o w at held_at refl);
+            (remembered_same os.owners m o w at refl) (pointers_same os.owners m o w at uses refl) (pointers_same os.owners m o w at held_at refl) (pointers_same os.owners m o w at soiled_at refl);
         mine = mine_on b (state_of ws b os) (after (state_of ws b os) (Open m)) m o w (f.owners m o at) refl refl refl
             (put_same (scope_in ws) m (scope_word_of (remembered_by os.owners m)) m refl ∙ ap scope_word_of known) refl refl refl
             (ap (λ (z : World). z.object) (does (state_of ws b os) (Open m) f.law tt legal).after) (λ _. (refl, refl)) (f.owners m o at).hots (f.owners m o at).warm;
@@ -74,7 +74,9 @@ module _ (ws : List ℕ) (b : BookView) (os : OtherViews) (f : Facts ws b os) (o
     says = refl;
     becomes = state_is (set ws (scope_at m) 0) b (with_owner os m w) (scope_word_set ws f.wide m 0 few) (remembered_set os.owners m o w at) (pointers_same os.owners m o w at uses refl)
         (pointers_set os.owners m o w at held_at (λ p. cond (p / CELLS == m) None (held_by os.owners p))
-        (λ p e. sym (ap (λ t. cond t None (held_by os.owners p)) (eq-eqb (p / CELLS) m e))) (λ p ne. sym (ap (λ t. cond t None (held_by os.owners p)) (ne_eqb (p / CELLS) m ne))));
+        (λ p e. sym (ap (λ t. cond t None (held_by os.owners p)) (eq-eqb (p / CELLS) m e))) (λ p ne. sym (ap (λ t. cond t None (held_by os.owners p)) (ne_eqb (p / CELLS) m ne))))
+        (pointers_set os.owners m o w at soiled_at (λ p. cond (p / CELLS == m) false (soiled_by os.owners p))
+        (λ p e. sym (ap (λ t. cond t false (soiled_by os.owners p)) (eq-eqb (p / CELLS) m e))) (λ p ne. sym (ap (λ t. cond t false (soiled_by os.owners p)) (ne_eqb (p / CELLS) m ne))));
     mine = mine_on b (state_of ws b os) (after (state_of ws b os) (Close m)) m o w (f.owners m o at) refl refl refl (put_same (scope_in ws) m 0 m refl) refl refl refl
         (ap (λ (z : World). z.object) (does (state_of ws b os) (Close m) f.law tt legal).after) (λ _. (refl, refl)) (f.owners m o at).hots
         (λ p own pinned. absurd (false≢true pinned));

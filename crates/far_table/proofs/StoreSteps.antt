@@ -30,10 +30,10 @@ use Rattle.far_table.specs.Rule.{Facts, Has, Running}
 use Rattle.far_table.specs.Seats.{HasPlaces}
 use Rattle.far_table.specs.StateOf.{state_of}
 use Rattle.far_table.specs.Tells.{Tells, owner_of}
-use Rattle.far_table.specs.Views.{held_at, len_of, object_at, stored_view, uses, with_word, word_of}
+use Rattle.far_table.specs.Views.{held_at, len_of, object_at, stored_view, uses, with_word, word_of, soiled_at}
 use Rattle.far_table.proofs.HeldFacts.{HeldFacts, held_facts, held_so, one_word, some_there}
 use Rattle.far_table.proofs.Lift.{owner_makes}
-use Rattle.far_table.proofs.Owners.{pointers_same, remembered_same}
+use Rattle.far_table.proofs.Owners.{known_by, pointers_same, remembered_same}
 use Rattle.far_table.proofs.OwnSteps.{OwnStep, has_on, state_is}
 use Rattle.far_table.proofs.Words.{WordsAre, data_word_set}
 
@@ -42,7 +42,7 @@ with_word_used i v None = refl
 with_word_used i v (Some x) = refl
 
 module _ (ws : List ℕ) (b : BookView) (os : OtherViews) (f : Facts ws b os) (o : OwnerView) (at : get_elem? os.owners o.number ≡ some o)
-    (p i v : ℕ) (place : Place) (own : p / CELLS ≡ o.number) (held : held_at o p ≡ Some place) (inside : i < words_for (len_of (object_at o p)))
+    (p i v : ℕ) (place : Place) (own : p / CELLS ≡ o.number) (held : held_at o p ≡ Some place) (inside : i < words_for (len_of (object_at o p))) (soiled : soiled_at o p ≡ true)
     (word : v < 2 ^ 64) (padded : v < 2 ^ (8 * (len_of (object_at o p) - 8 * i))) where
   abbrev s : State
   s = state_of ws b os
@@ -64,7 +64,7 @@ module _ (ws : List ℕ) (b : BookView) (os : OtherViews) (f : Facts ws b os) (o
 
   legal : Legal s (Store m p i v)
   legal = let here : HoldsWord s m p i x.len = (place, record { own = own; rests = rests; near = (x.ds, x.marks, x.near) }, subst (λ n. i < words_for n) long inside) in
-      (x.len, here, subst (λ n. v < 2 ^ (8 * (n - 8 * i))) long padded)
+      (x.len, here, subst (λ n. v < 2 ^ (8 * (n - 8 * i))) long padded, known_by os.owners o.number o o at soiled_at p own ∙ soiled)
 
   behind : data_word s p i ≡ a
   behind = word_behind s f.law p i place rests
@@ -121,7 +121,7 @@ module _ (ws : List ℕ) (b : BookView) (os : OtherViews) (f : Facts ws b os) (o
             (remembered_same os.owners m o w at refl)
             (pointers_same os.owners m o w at uses (fun_ext (λ q. put_both (λ (y : Option ObjectView). is_some y ≡ uses o q) (object_at o) p (with_word i v (object_at o p)) q
             (λ e. with_word_used i v (object_at o p) ∙ ap (uses o) (sym e)) (λ _. refl))))
-            (pointers_same os.owners m o w at held_at refl);
+            (pointers_same os.owners m o w at held_at refl) (pointers_same os.owners m o w at soiled_at refl);
         mine = record {
           number = ties.number;
           honest = ties.honest;
@@ -142,19 +142,19 @@ module _ {S : Type 0} (slots id : ℕ) (me : Me S View) (is : me.0 ≡ Owner (ow
   abbrev view : OwnerView
   view = owner_of me.0
 
-  stores : (p i v : ℕ) (place : Place) → p / CELLS ≡ view.number → held_at view p ≡ Some place → i < words_for (len_of (object_at view p)) → v < 2 ^ 64 →
+  stores : (p i v : ℕ) (place : Place) → p / CELLS ≡ view.number → held_at view p ≡ Some place → i < words_for (len_of (object_at view p)) → soiled_at view p ≡ true → v < 2 ^ 64 →
       v < 2 ^ (8 * (len_of (object_at view p) - 8 * i)) →
       Allows Running slots id me (data_at (addr place + 1 + i)) (λ _. v) (λ _. Stored (step slots (data_at (addr place + 1 + i)) v 0 none) me v)
-  stores p i v place own held inside word padded = owner_makes slots id (data_at (addr place + 1 + i)) me is (Store view.number p i v) refl word (λ _. Done) (λ _. stored_view p i v view)
+  stores p i v place own held inside soiled word padded = owner_makes slots id (data_at (addr place + 1 + i)) me is (Store view.number p i v) refl word (λ _. Done) (λ _. stored_view p i v view)
       (λ _. Stored (step slots (data_at (addr place + 1 + i)) v 0 none) me v) (λ _. v)
-      (λ ws b os f at. store_step ws b os f view at p i v place own held inside word padded)
+      (λ ws b os f at. store_step ws b os f view at p i v place own held inside soiled word padded)
       (λ ws b os f at t q j other own' held' inside' e.
       let same : addr place + 1 + i ≡ addr other + 1 + j = omega arith in
       let one = one_word ws b os f view at p i place q j other (held_facts ws b os f view at p place own held) (held_facts ws b os f view at q other own' held') inside inside' same in
       subst (λ (z : ℕ × ℕ). Tells me.0 (Owner (stored_view p i v view)) (Store view.number z.0 z.1 v) Done (stored_view z.0 z.1 v view)) (λ k. (one.0 k, one.1 k)) t)
 
   -- the word that an address leads to which the one in a seat's list makes
-  module _ (places : List ℕ) (has : HasPlaces view places) (p i v : ℕ) (held : IsSome (held_at view p)) (inside : i < words_for (len_of (object_at view p)))
+  module _ (places : List ℕ) (has : HasPlaces view places) (p i v : ℕ) (held : IsSome (held_at view p)) (inside : i < words_for (len_of (object_at view p))) (soiled : soiled_at view p ≡ true)
       (word : v < 2 ^ 64) (padded : v < 2 ^ (8 * (len_of (object_at view p) - 8 * i))) (a : ℕ) (read : a ≡ slice_index places (p % CELLS) + i) where
     abbrev there : (place : Place) × (held_at view p ≡ Some place)
     there = some_there (held_at view p) held
@@ -165,7 +165,7 @@ module _ {S : Type 0} (slots id : ℕ) (me : Me S View) (is : me.0 ≡ Owner (ow
     pub stores_at : (a + LOGS_AT < TABLE_WORDS) × Allows Running slots id me (a + LOGS_AT) (λ _. v) (λ _. Stored (step slots (a + LOGS_AT) v 0 none) me v)
     stores_at = let fits = (has p there.0 there.1).fits in let at = led in (
       omega arith,
-      subst (λ z. Allows Running slots id me z (λ _. v) (λ _. Stored (step slots z v 0 none) me v)) led (stores p i v there.0 (has p there.0 there.1).own there.1 inside word padded),
+      subst (λ z. Allows Running slots id me z (λ _. v) (λ _. Stored (step slots z v 0 none) me v)) led (stores p i v there.0 (has p there.0 there.1).own there.1 inside soiled word padded),
     )
 
     pub store_told : (me' : Me S View) → Stored (step slots (a + LOGS_AT) v 0 none) me v me' → Tells me.0 me'.0 (Store view.number p i v) Done (stored_view p i v view)

@@ -13,13 +13,14 @@ use Rattle.far_core.specs.declared.event.Reply.TheVariants.{Done, Epoch, Word}
 use Rattle.far_core.specs.events.Legal.{Legal}
 use Rattle.far_hand.specs.Finds.{Finds}
 use Rattle.far_hand.specs.FindsJob.{FindsJob}
+use Rattle.far_hand.specs.Known.{StoresLeaving}
 use Rattle.far_hand.specs.Rounds.{IsScopeAt}
 use Rattle.far_hand.proofs.Reading.{Gets}
 use Rattle.far_table.specs.View.{View}
 use Rattle.far_table.specs.BookTells.{BookTells}
 use Rattle.far_table.specs.BookViews.{cleared_view, collected_view, freed_view, got_view, is_quiet_at, looked_view, marked_view, put_view, raised_view, saw_job_view, saw_view}
 use Rattle.far_table.specs.Layout.{cell_at, data_at, job_at, scope_at}
-use Rattle.far_table.specs.NameViews.{exchange_reply, exchanged_view, offered_view}
+use Rattle.far_table.specs.NameViews.{exchange_reply, exchanged_view, named_view, offered_view}
 use Rattle.far_table.specs.Stands.{IsPlain, book_of}
 use Rattle.far_table.specs.StateOf.{book_state, head_at}
 
@@ -60,8 +61,11 @@ module _ {S : Type 0} where
       × BookTells me.0 me'.0 (Put l at word) Done (put_view (l * LOG_WORDS + at) word (book_of me.0))
 
   abbrev pub Named : Step S → Me S View → ℕ → Me S View → Type 0
+  -- of an object that goes far words are stored that stood somewhere; those that the view knew are among them, and where it was clean and the far side is honest, they
+  -- are what was stored of it before
   Named st me found me' = (p : ℕ) → st.word ≡ cell_at p → Finds ((book_state (book_of me.0)).cell p) found
-      × BookTells me.0 me'.0 (Name p st.first st.second) (exchange_reply st.first found) (exchanged_view p st.first st.second found (book_of me.0))
+      × (word : ℕ → ℕ) × (found ≡ st.first → StoresLeaving (book_state (book_of me.0)) (book_state (named_view word p st.first st.second (book_of me.0))) p st.first st.second)
+      × BookTells me.0 me'.0 (Name p st.first st.second) (exchange_reply st.first found) (exchanged_view word p st.first st.second found (book_of me.0))
 
   abbrev pub Looked : Step S → Me S View → ℕ → Me S View → Type 0
   Looked st me found me' = (m : ℕ) → st.word ≡ scope_at m → IsScopeAt (book_of me.0).epoch found

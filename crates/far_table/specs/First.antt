@@ -59,6 +59,7 @@ first_owner s honest m = record {
   dropped = rows_from (CELLS * m) CELLS (λ p. drops (s.cell p));
   heated = rows_from (CELLS * m) CELLS (λ p. hots (s.cell p));
   pinned = [];
+  soiled = rows_from (CELLS * m) CELLS s.soiled;
   found = [];
 }
 

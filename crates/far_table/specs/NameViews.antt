@@ -19,7 +19,7 @@ use Rattle.far_table.specs.View.{BookView}
 use Rattle.far_table.specs.BookViews.{saw_view}
 use Rattle.far_table.specs.First.{rows_from}
 use Rattle.far_table.specs.Rows.{over}
-use Rattle.far_table.specs.StateOf.{book_state, cooled_at, known_word, retired_at, taken_at}
+use Rattle.far_table.specs.StateOf.{book_state, cooled_at, retired_at, taken_at}
 use Rattle.far_table.specs.Views.{hots, moves}
 
 -- the next span of a log is taken, for p: the log ends behind it and is the open one
@@ -31,9 +31,9 @@ span_view p len ds place b = record b {
   heads = (addr place, Some (head_word p len ds)) ∷ b.heads;
 }
 
--- the words of an object that goes far: those that the view knows at its place
-abbrev pub stored_rows : ℕ → ℕ → Place → BookView → List (ℕ × ℕ)
-stored_rows p len place b = rows_from 0 (words_for len) (λ i. known_word b (addr place + 1 + i)) ++ over b.stored (λ _. []) p
+-- the words of an object that goes far: those that stand at its place, whether the view knows them or not
+abbrev pub stored_rows : (ℕ → ℕ) → ℕ → ℕ → Place → BookView → List (ℕ × ℕ)
+stored_rows word p len place b = rows_from 0 (words_for len) (λ i. word (addr place + 1 + i)) ++ over b.stored (λ _. []) p
 
 -- an object that moves takes a span; or it is named where a job has copied it
 abbrev pub move_view : ℕ → ℕ → ℕ → Place → Option ℕ → BookView → BookView
@@ -41,13 +41,13 @@ move_view p len ds to None b = span_view p len ds to b
 move_view p len ds to (Some j) b = record b { named = (j, true) ∷ b.named }
 
 -- what a form changes beside the cell
-abbrev pub form_view : ℕ → Naming → BookView → BookView
-form_view p (Places len ds place) b = span_view p len ds place b
-form_view p Retires b = b
-form_view p (Evicts len place) b = record b { stored = (p, stored_rows p len place b) ∷ b.stored }
-form_view p Stays b = b
-form_view p (Moves len ds from to) b = move_view p len ds to (copied_job (book_state b) p from to) b
-form_view p (Fetches len ds place) b = span_view p len ds place b
+abbrev pub form_view : (ℕ → ℕ) → ℕ → Naming → BookView → BookView
+form_view word p (Places len ds place) b = span_view p len ds place b
+form_view word p Retires b = b
+form_view word p (Evicts len place) b = record b { stored = (p, stored_rows word p len place b) ∷ b.stored }
+form_view word p Stays b = b
+form_view word p (Moves len ds from to) b = move_view p len ds to (copied_job (book_state b) p from to) b
+form_view word p (Fetches len ds place) b = span_view p len ds place b
 
 -- how many objects a form retires
 abbrev pub retires : Naming → ℕ
@@ -59,8 +59,8 @@ retires (Moves len ds from to) = 0
 retires (Fetches len ds place) = 0
 
 -- the cell is the new word, MOVE and HOT are counted where they were taken away, and what is retired, and no word is known any more but headers
-abbrev pub formed_view : ℕ → ℕ → ℕ → Naming → BookView → BookView
-formed_view p old new form b = record (form_view p form b) {
+abbrev pub formed_view : (ℕ → ℕ) → ℕ → ℕ → ℕ → Naming → BookView → BookView
+formed_view word p old new form b = record (form_view word p form b) {
   cells = (p, new) ∷ b.cells;
   taken = (p, taken_at b p + moves old) ∷ b.taken;
   retired = (p, retired_at b p + retires form) ∷ b.retired;
@@ -68,17 +68,17 @@ formed_view p old new form b = record (form_view p form b) {
   known = [];
 }
 
-abbrev pub view_by : ℕ → ℕ → ℕ → Option Naming → BookView → BookView
-view_by p old new None b = b
-view_by p old new (Some form) b = formed_view p old new form b
+abbrev pub view_by : (ℕ → ℕ) → ℕ → ℕ → ℕ → Option Naming → BookView → BookView
+view_by word p old new None b = b
+view_by word p old new (Some form) b = formed_view word p old new form b
 
 -- the view after an exchange that won
-abbrev pub named_view : ℕ → ℕ → ℕ → BookView → BookView
-named_view p old new b = view_by p old new (naming_of (read_of old) (read_of new)) b
+abbrev pub named_view : (ℕ → ℕ) → ℕ → ℕ → ℕ → BookView → BookView
+named_view word p old new b = view_by word p old new (naming_of (read_of old) (read_of new)) b
 
 -- the view after an exchange, by the word found: it won, or the word is what is seen now
-abbrev pub exchanged_view : ℕ → ℕ → ℕ → ℕ → BookView → BookView
-exchanged_view p old new found b = cond (found == old) (named_view p old new b) (saw_view p found b)
+abbrev pub exchanged_view : (ℕ → ℕ) → ℕ → ℕ → ℕ → ℕ → BookView → BookView
+exchanged_view word p old new found b = cond (found == old) (named_view word p old new b) (saw_view p found b)
 
 -- what it answers
 abbrev pub exchange_reply : ℕ → ℕ → Reply

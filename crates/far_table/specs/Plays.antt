@@ -3,7 +3,7 @@ use Rattle.std.specs.Prelude.{◌≡◌, ◌<◌, ◌≤◌, ◌+◌, ◌*◌, �
 use Rattle.atomic_table.specs.Table.{Me, Step}
 use Rattle.far_word.specs.declared.sizes.TheConstants.{CELLS, EPOCH_END, LOG_WORDS, MOST_LOGS}
 use Rattle.far_word.specs.declared.mark.Mark.{Mark}
-use Rattle.far_word.specs.declared.mark.Mark.TheVariants.{Hot}
+use Rattle.far_word.specs.declared.mark.Mark.TheVariants.{Dirty, Hot}
 use Rattle.far_word.specs.declared.pointer.Place.{Place}
 use Rattle.far_word.specs.Mark.{position}
 use Rattle.far_core.specs.events.Ask.{is_request}
@@ -14,10 +14,10 @@ use Rattle.far_core.specs.state.Law.{in_use}
 use Rattle.far_core.specs.state.State.{addr}
 use Rattle.far_table.specs.View.{OwnerView, View, Owner}
 use Rattle.far_table.specs.Layout.{cell_at, data_at}
-use Rattle.far_core.specs.declared.event.Event.TheVariants.{ReadEpoch, Open, Pin, Load, Store, Close, Adopt, Ask}
+use Rattle.far_core.specs.declared.event.Event.TheVariants.{ReadEpoch, Open, Pin, Load, Store, Soil, Close, Adopt, Ask}
 use Rattle.far_core.specs.declared.event.Reply.TheVariants.{Done, Epoch, Word}
 use Rattle.far_table.specs.Tells.{OwnerRefused, Tells, owner_of}
-use Rattle.far_table.specs.Views.{adopted_view, asked_view, closed_view, held_at, len_of, noted_view, object_at, opened_view, pinned_view, read_view, stored_view, word_in_view}
+use Rattle.far_table.specs.Views.{adopted_view, asked_view, closed_view, held_at, len_of, noted_view, object_at, opened_view, pinned_view, read_view, soiled_view, stored_view, word_in_view}
 
 -- the word found reads; and the object of p, where a view of it may rest by that word, lies within the logs
 abbrev pub Lies : OwnerView → ℕ → ℕ → Type 0
@@ -52,6 +52,10 @@ module _ {S : Type 0} where
   abbrev pub Asked : Step S → Me S View → ℕ → Me S View → Type 0
   Asked st me found me' = (p : ℕ) (k : Mark) → is_request k ≡ true → st.word ≡ cell_at p → st.first ≡ 2 ^ position k →
       Tells me.0 me'.0 (Ask (number_of me.0) p k) (Word found) (asked_view p k found (owner_of me.0))
+
+  -- DIRTY is set, and nothing else
+  abbrev pub Soiled : Step S → Me S View → ℕ → Me S View → Type 0
+  Soiled st me found me' = (st.first ≡ 2 ^ position Dirty) × ((p : ℕ) → st.word ≡ cell_at p → Tells me.0 me'.0 (Soil (number_of me.0) p) (Word found) (soiled_view p found (owner_of me.0)))
 
   -- the same word, stored over
   abbrev pub Stored : Step S → Me S View → ℕ → Me S View → Type 0

@@ -16,7 +16,7 @@ use Rattle.far_table.specs.Rows.{over}
 use Rattle.far_table.specs.Rule.{Facts, Has}
 use Rattle.far_table.specs.Seats.{CopierSeated, Seated}
 use Rattle.far_table.specs.StateOf.{book_state, state_of}
-use Rattle.far_table.specs.Views.{held_at, nobody, object_at, uses}
+use Rattle.far_table.specs.Views.{held_at, nobody, object_at, soiled_at, uses}
 
 -- a view that knows nothing
 abbrev pub no_book : BookView
@@ -107,7 +107,7 @@ right_of (Book b) = first_rest b.rest
 right_of (Owner o) = Owner o
 right_of (Copier c) = Copier c
 
--- an owner's view is what a state says of that owner: its epoch and scope, what it uses and holds, and of each object that it uses the bytes
+-- an owner's view is what a state says of that owner: its epoch and scope, what it uses, holds and has soiled, and of each object that it uses the bytes
 pub record SaysOwner (s : State) (honest : Bool) (m : ℕ) (o : OwnerView) : Type 0 where
   pub number : o.number ≡ m
   pub honesty : o.honest ≡ honest
@@ -115,6 +115,7 @@ pub record SaysOwner (s : State) (honest : Bool) (m : ℕ) (o : OwnerView) : Typ
   pub scope : scope_word_of o.open_at ≡ s.scope m
   pub used : (p : ℕ) → p / CELLS ≡ m → uses o p ≡ s.used p
   pub held : (p : ℕ) → p / CELLS ≡ m → held_at o p ≡ s.held p
+  pub soiled : (p : ℕ) → p / CELLS ≡ m → soiled_at o p ≡ s.soiled p
   pub objects : (p : ℕ) (x : ObjectView) → p / CELLS ≡ m → object_at o p ≡ Some x → Has (record s { honest = honest }) p x
   pub others : (p : ℕ) → p / CELLS ≢ m → (object_at o p ≡ None) × (held_at o p ≡ None)
 

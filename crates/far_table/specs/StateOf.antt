@@ -10,7 +10,7 @@ use Rattle.far_table.specs.View.{BookView, CopierView, OtherViews, OwnerView}
 use Rattle.far_table.specs.Layout.{epoch_in, scope_in, cell_in, job_in, word_in}
 use Rattle.far_table.specs.Rows.{over}
 use Rattle.far_table.specs.CopierViews.{copier_at, words_read, words_written}
-use Rattle.far_table.specs.Views.{held_at, owner_at, uses}
+use Rattle.far_table.specs.Views.{held_at, owner_at, soiled_at, uses}
 
 -- ---- what owners know
 abbrev pub remembered_by : List OwnerView → ℕ → Option ℕ
@@ -21,6 +21,9 @@ used_by os p = uses (owner_at os (p / CELLS)) p
 
 abbrev pub held_by : List OwnerView → ℕ → Option Place
 held_by os p = held_at (owner_at os (p / CELLS)) p
+
+abbrev pub soiled_by : List OwnerView → ℕ → Bool
+soiled_by os p = soiled_at (owner_at os (p / CELLS)) p
 
 -- ---- what the book knows
 abbrev pub head_at : BookView → ℕ → Option ℕ
@@ -86,6 +89,7 @@ book_state b = record {
   remembered = λ _. None;
   used = λ _. false;
   held = λ _. None;
+  soiled = λ _. false;
   kind = over b.kinds (λ _. Free);
   tail = over b.tails (λ _. 0);
   current = b.current;
@@ -107,5 +111,6 @@ state_of ws b os = record (book_state b) {
   remembered = remembered_by os.owners;
   used = used_by os.owners;
   held = held_by os.owners;
+  soiled = soiled_by os.owners;
   copying = copying_of ws b os.copiers;
 }

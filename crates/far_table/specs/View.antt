@@ -30,7 +30,9 @@ pub record OwnerView : Type 0 where
   pub heated : List (ℕ × ℕ)
   -- the pointers whose places it holds by a pin, since its scope was opened
   pub pinned : List (ℕ × Bool)
-  -- the words that its pins, adoptions and requests found, by pointers. No tie is of them: what a call answers is the word as it stood
+  -- the pointers whose objects it has soiled, since its scope was opened
+  pub soiled : List (ℕ × Bool)
+  -- the words that its pins, soilings, adoptions and requests found, by pointers. No tie is of them: what a call answers is the word as it stood
   pub found : List (ℕ × ℕ)
 
 -- what a copier's seat knows

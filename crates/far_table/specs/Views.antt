@@ -1,7 +1,7 @@
 -- What stands in an owner's view, and how its steps change it.
 use Rattle.std.specs.Prelude.{ℕ, ◌+◌, Bool, true, false, cond, Option, Some, None, List, [], ◌∷◌, is_some, slice_index_or}
 use Rattle.far_word.specs.declared.mark.Mark.{Mark}
-use Rattle.far_word.specs.declared.mark.Mark.TheVariants.{Hot, Evac, Moved, Dropped}
+use Rattle.far_word.specs.declared.mark.Mark.TheVariants.{Hot, Evac, Moved, Dropped, Dirty}
 use Rattle.far_word.specs.declared.pointer.Place.{Place}
 use Rattle.far_word.specs.declared.pointer.PtrWord.{PtrWord}
 use Rattle.far_word.specs.declared.pointer.PtrWord.TheVariants.{Free, Near, Far}
@@ -43,6 +43,10 @@ heated_at o = over o.heated (λ _. 0)
 abbrev pub pinned_at : OwnerView → ℕ → Bool
 pinned_at o = over o.pinned (λ _. false)
 
+-- whether its object is soiled
+abbrev pub soiled_at : OwnerView → ℕ → Bool
+soiled_at o = over o.soiled (λ _. false)
+
 -- the length of an object, its data structure, and one of its words, where the owner uses it
 abbrev pub len_of : Option ObjectView → ℕ
 len_of None = 0
@@ -63,9 +67,9 @@ read_view e o = record o { epoch = Some e }
 abbrev pub opened_view : OwnerView → OwnerView
 opened_view o = record o { open_at = o.epoch }
 
--- it holds nothing, and remembers no epoch
+-- it holds nothing, has soiled nothing, and remembers no epoch
 abbrev pub closed_view : OwnerView → OwnerView
-closed_view o = record o { epoch = None; open_at = None; held = []; pinned = [] }
+closed_view o = record o { epoch = None; open_at = None; held = []; pinned = []; soiled = [] }
 
 -- a pin holds a place
 abbrev pub held_view : ℕ → Place → OwnerView → OwnerView
@@ -94,6 +98,10 @@ warmed_view p found o = record o { heated = (p, heated_at o p + cond (has_hot (r
 -- it is, whether or not the pin holds the place
 abbrev pub pinned_view : ℕ → ℕ → OwnerView → OwnerView
 pinned_view p found o = with_place p (place_to_view (read_of found)) (warmed_view p found o)
+
+-- an object is soiled
+abbrev pub soiled_view : ℕ → ℕ → OwnerView → OwnerView
+soiled_view p found o = record o { soiled = (p, true) ∷ o.soiled; found = (p, found) ∷ o.found }
 
 -- the object with another word
 abbrev pub with_word : ℕ → ℕ → Option ObjectView → Option ObjectView
@@ -137,13 +145,14 @@ hots w = cond (has_hot (read_of w)) 1 0
 abbrev pub asked_view : ℕ → Mark → ℕ → OwnerView → OwnerView
 asked_view p Hot found o = o
 asked_view p Evac found o = o
+asked_view p Dirty found o = o
 asked_view p Moved found o = record o { asked = (p, asked_at o p + cond (has_move (read_of found)) 0 1) ∷ o.asked; found = (p, found) ∷ o.found }
 asked_view p Dropped found o = record o { objects = (p, None) ∷ o.objects; dropped = (p, dropped_at o p + 1) ∷ o.dropped; found = (p, found) ∷ o.found }
 
 -- ---- many owners
 -- one who knows nothing
 abbrev pub nobody : OwnerView
-nobody = record { number = 0; honest = false; epoch = None; open_at = None; objects = []; held = []; asked = []; dropped = []; heated = []; pinned = []; found = [] }
+nobody = record { number = 0; honest = false; epoch = None; open_at = None; objects = []; held = []; asked = []; dropped = []; heated = []; pinned = []; soiled = []; found = [] }
 
 abbrev pub owner_at : List OwnerView → ℕ → OwnerView
 owner_at os m = slice_index_or os m nobody

@@ -83,6 +83,14 @@ impl Play<u64, View> for Ask {
     ghost then = { Asked };
 }
 
+pub(crate) struct Soil;
+
+impl Play<u64, View> for Soil {
+    ghost use Rattle.far_table.specs.Plays.{Soiled};
+
+    ghost then = { Soiled };
+}
+
 pub(crate) struct Store;
 
 impl Play<u64, View> for Store {

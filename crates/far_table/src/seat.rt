@@ -15,12 +15,12 @@ ghost use Rattle.far_table.specs.First.{first_owner};
 ghost use Rattle.far_table.specs.Layout.{TABLE_WORDS};
 ghost use Rattle.far_word.specs.Pointer.{read_of};
 ghost use Rattle.far_core.specs.events.Ask.{is_request};
-ghost use Rattle.far_core.specs.state.Law.{in_use};
+ghost use Rattle.far_core.specs.state.Law.{in_use, is_dirty};
 ghost use Rattle.far_core.specs.events.Pin.{pin_answer, place_to_view};
 ghost use Rattle.far_table.specs.Ranges.{HasBytes, Wrote};
 ghost use Rattle.far_table.specs.RowTells.{LoadedEach, StoredEach};
 ghost use Rattle.far_table.specs.Seats.{HasPlaces, data_begin, pin_reply};
-ghost use Rattle.far_table.specs.Views.{adopted_view, asked_view, closed_view, held_at, held_view, hots, len_of, noted_view, object_at, opened_view, pinned_at, read_view, stored_view, uses, warmed_view, word_in_view};
+ghost use Rattle.far_table.specs.Views.{adopted_view, asked_view, closed_view, held_at, held_view, hots, len_of, noted_view, object_at, opened_view, pinned_at, read_view, soiled_at, soiled_view, stored_view, uses, warmed_view, word_in_view};
 ghost use Rattle.far_word.specs.Bytes.{packed_word};
 ghost use Rattle.far_word.specs.Sizes.{words_for};
 
@@ -253,6 +253,7 @@ fn store_some<D: Device>(
     requires places { HasPlaces (owner_of seat.old.me.0) places.now.items }
     requires start { start ≡ slice_index places.now.items (p % CELLS) + first }
     requires held { IsSome (held_at (owner_of seat.old.me.0) p) }
+    requires soiled { soiled_at (owner_of seat.old.me.0) p ≡ true }
     requires short { len_of (object_at (owner_of seat.old.me.0) p) ≤ LONGEST }
     requires inside { 8 * first + length bytes.now ≤ len_of (object_at (owner_of seat.old.me.0) p) }
     requires count { length bytes.now ≡ 8 * count }
@@ -286,6 +287,7 @@ fn store_long<D: Device>(
     requires places { HasPlaces (owner_of seat.old.me.0) places.now.items }
     requires begin { begin ≡ slice_index places.now.items (p % CELLS) }
     requires held { IsSome (held_at (owner_of seat.old.me.0) p) }
+    requires soiled { soiled_at (owner_of seat.old.me.0) p ≡ true }
     requires short { len_of (object_at (owner_of seat.old.me.0) p) ≤ LONGEST }
     requires inside { 8 * first + length bytes.now ≤ len_of (object_at (owner_of seat.old.me.0) p) }
     requires whole { length bytes.now % 8 ≡ 0 }
@@ -328,6 +330,7 @@ fn store_all<D: Device>(
     requires owner { seat.old.me.0 ≡ Owner (owner_of seat.old.me.0) }
     requires places { (length places.now.items ≡ CELLS) × HasPlaces (owner_of seat.old.me.0) places.now.items }
     requires held { IsSome (held_at (owner_of seat.old.me.0) p) }
+    requires soiled { soiled_at (owner_of seat.old.me.0) p ≡ true }
     requires short { len_of (object_at (owner_of seat.old.me.0) p) ≤ LONGEST }
     requires inside { 8 * first + length bytes.now ≤ len_of (object_at (owner_of seat.old.me.0) p) }
     requires whole { length bytes.now % 8 ≡ 0 }
@@ -389,6 +392,13 @@ impl<D: Device> MutSeat<D> {
         let _number = self.number;
     }
 
+    /// What this seat has soiled has DIRTY in its cell, whatever state the words and all views are in beside its view. The call does nothing.
+    pub fn what_it_soiled_is_dirty(&self)
+        ensures { (x : State) → OwnerMayBe self.now.view x → (p : ℕ) → p / CELLS ≡ self.now.view.number → soiled_at self.now.view p ≡ true → is_dirty (read_of (x.cell p)) ≡ true }
+    {
+        let _number = self.number;
+    }
+
     /// The epoch, which the owner remembers for its next scope.
     pub fn read_epoch(&mut self) -> u64
         requires closed { self.old.view.open_at ≡ None }
@@ -419,7 +429,7 @@ impl<D: Device> MutSeat<D> {
             .store::<rule::Open>(&mut self.seat, scope, word);
     }
 
-    /// Closes the owner's scope. It holds nothing from then on, and remembers no epoch.
+    /// Closes the owner's scope. It holds nothing from then on, has soiled nothing, and remembers no epoch.
     pub fn close(&mut self)
         requires opened { IsSome self.old.view.open_at }
         ensures table { self.new.table ≡ self.old.table }
@@ -470,9 +480,26 @@ impl<D: Device> MutSeat<D> {
         self.table.shared.load::<rule::Load>(&mut self.seat, word)
     }
 
-    /// Word `i` of an object that is held is this word from then on. It leaves the bytes after the object's end 0.
+    /// Sets DIRTY in the cell of an object that is held: the word found. The object is soiled from then on, until the scope is closed.
+    pub fn soil(&mut self, p: u16) -> u64
+        requires held { IsSome (held_at self.old.view p) }
+        ensures table { self.new.table ≡ self.old.table }
+        ensures view { self.new.view ≡ soiled_view p result self.old.view }
+        ensures soiled { soiled_at self.new.view p ≡ true }
+        ensures found { Found p result self.old.view self.new.view }
+        ensures event { OwnerMade (Event.Soil self.old.view.number p) self.old.view (Reply.Word result) self.new.view }
+    {
+        self.table.shared.fetch_or::<rule::Soil>(
+            &mut self.seat,
+            p as usize + layout::CELLS,
+            Mark::Dirty.mask(),
+        )
+    }
+
+    /// Word `i` of an object that is held and soiled is this word from then on. It leaves the bytes after the object's end 0.
     pub fn store(&mut self, p: u16, i: u16, word: u64)
         requires held { IsSome (held_at self.old.view p) }
+        requires soiled { soiled_at self.old.view p ≡ true }
         requires inside { i < words_for (len_of (object_at self.old.view p)) }
         requires padding { word < 2 ^ (8 * (len_of (object_at self.old.view p) - 8 * i)) }
         ensures table { self.new.table ≡ self.old.table }
@@ -505,10 +532,11 @@ impl<D: Device> MutSeat<D> {
         );
     }
 
-    /// Words of an object that is held, from word `first` on, are these bytes from then on, the low byte of each first. Each word is a
+    /// Words of an object that is held and soiled, from word `first` on, are these bytes from then on, the low byte of each first. Each word is a
     /// store of its own.
     pub fn store_words(&mut self, p: u16, first: u16, bytes: &[u8])
         requires held { IsSome (held_at self.old.view p) }
+        requires soiled { soiled_at self.old.view p ≡ true }
         requires short { len_of (object_at self.old.view p) ≤ LONGEST }
         requires inside { 8 * first + length bytes.now ≤ len_of (object_at self.old.view p) }
         requires whole { length bytes.now % 8 ≡ 0 }

@@ -16,10 +16,10 @@ dropped_bit true = refl
 dropped_bit false = refl
 
 near_low : (w len ds : ℕ) (place : Place) (m : Marks) → IsPtr (Near len ds place m) → word_of (Near len ds place m) ≡ w → field w 58 2 ≡ 1 + 2 * bit_of m.dropped
-near_low w len ds place m ok e = omega (arith, marks_small m, bit_small m.dropped, bit_small m.moved, bit_small m.evac, bit_small m.hot)
+near_low w len ds place m ok e = omega (arith, marks_small m, bit_small m.dirty, bit_small m.dropped, bit_small m.moved, bit_small m.evac, bit_small m.hot)
 
 far_low : (w len ds : ℕ) (m : Marks) → IsPtr (Far len ds m) → word_of (Far len ds m) ≡ w → field w 58 2 ≡ 1 + 2 * bit_of m.dropped
-far_low w len ds m ok e = omega (arith, marks_small m, bit_small m.dropped, bit_small m.moved, bit_small m.evac, bit_small m.hot)
+far_low w len ds m ok e = omega (arith, marks_small m, bit_small m.dirty, bit_small m.dropped, bit_small m.moved, bit_small m.evac, bit_small m.hot)
 
 kept_said : (w : ℕ) (v : PtrWord) → IsPtr v → word_of v ≡ w → bool_byte (nat_eq (field w 58 2) 1) ≡ bit_of (names_kept v)
 kept_said w Free ok e = rw (sym e) refl
@@ -28,7 +28,7 @@ kept_said w (Far len ds m) ok e = rw (far_low w len ds m ok e) (dropped_bit m.dr
 
 near_said : (w : ℕ) (v : PtrWord) → IsPtr v → word_of v ≡ w → bit_of (names_kept v) * (w / 2 ^ 63) ≡ bit_of (names_near v)
 near_said w Free ok e = rw (sym e) refl
-near_said w (Near len ds place m) ok e = let top : w / 2 ^ 63 ≡ 1 = omega (arith, marks_small m) in rw top (omega arith)
+near_said w (Near len ds place m) ok e = let top : w / 2 ^ 63 ≡ 1 = omega (arith, marks_small m, bit_small m.dirty) in rw top (omega arith)
 near_said w (Far len ds m) ok e = let top : w / 2 ^ 63 ≡ 0 = omega (arith, marks_small m) in rw top (omega arith)
 
 pub kept_read : (w : ℕ) (v : PtrWord) → w < 2 ^ 64 → read_of w ≡ Some v → bool_byte (nat_eq (field w 58 2) 1) ≡ bit_of (names_kept v)

@@ -7,7 +7,7 @@ use Rattle.far_word.specs.Mark.{bit_of, marks_number}
 use Rattle.far_word.specs.Laws.{ViewsRest}
 use Rattle.far_word.specs.Pointer.{IsPtr, word_of, view_place, with_mark, without_owner_marks}
 use Rattle.far_word.specs.declared.mark.Mark.{Mark}
-use Rattle.far_word.specs.declared.mark.Mark.TheVariants.{Hot, Evac, Moved, Dropped}
+use Rattle.far_word.specs.declared.mark.Mark.TheVariants.{Hot, Evac, Moved, Dropped, Dirty}
 use Rattle.far_word.specs.declared.mark.Marks.{Marks}
 use Rattle.far_word.specs.declared.pointer.Place.{Place}
 use Rattle.far_word.specs.declared.pointer.PtrWord.{PtrWord}
@@ -29,7 +29,8 @@ rest_bits p m small = omega (arith, and_block 4 p 1 m 7 small (omega arith), and
 near_rest : (len ds : ℕ) (pl : Place) (m : Marks) → IsPtr (Near len ds pl m) →
     bit_and (word_of (Near len ds pl m)) 0xb800_0000_0000_0000 ≡ (16 + (bit_of m.dropped + bit_of m.moved * 2 + bit_of m.evac * 4)) * 2 ^ 59
 near_rest len ds pl m ok =
-    let low : ℕ = len + ds * 2 ^ 16 + pl.at * 2 ^ 24 + pl.log * 2 ^ 34 + 2 ^ 58 in
+    let low : ℕ = len + ds * 2 ^ 16 + pl.at * 2 ^ 24 + pl.log * 2 ^ 34 + bit_of m.dirty * 2 ^ 57 + 2 ^ 58 in
+    let y : bit_of m.dirty < 2 = bit_small m.dirty in
     let below : low < 2 ^ 59 = omega arith in
     let small : marks_number m < 16 = marks_small m in
     let split : word_of (Near len ds pl m) ≡ (1 * 2 ^ 4 + marks_number m) * 2 ^ 59 + low = omega arith in
@@ -40,6 +41,7 @@ near_rest len ds pl m ok =
 far_rest : (len ds : ℕ) (m : Marks) → IsPtr (Far len ds m) → bit_and (word_of (Far len ds m)) 0xb800_0000_0000_0000 ≡ (marks_number m % 8) * 2 ^ 59
 far_rest len ds m ok =
     let low : ℕ = len + ds * 2 ^ 16 + 2 ^ 58 in
+    let y : bit_of m.dirty < 2 = bit_small m.dirty in
     let below : low < 2 ^ 59 = omega arith in
     let small : marks_number m < 16 = marks_small m in
     let split : word_of (Far len ds m) ≡ (0 * 2 ^ 4 + marks_number m) * 2 ^ 59 + low = omega arith in
@@ -89,13 +91,15 @@ without_owner_marks_and w fits = omega (arith, and-not 64 0x5800_0000_0000_0000 
 pub without_owner_marks_word : (v : PtrWord) → IsPtr v → bit_and (word_of v) 0xa7ff_ffff_ffff_ffff ≡ word_of (without_owner_marks v)
 without_owner_marks_word Free ok = refl
 without_owner_marks_word (Near len ds pl m) ok =
-    let low : ℕ = len + ds * 2 ^ 16 + pl.at * 2 ^ 24 + pl.log * 2 ^ 34 + 2 ^ 58 in
+    let low : ℕ = len + ds * 2 ^ 16 + pl.at * 2 ^ 24 + pl.log * 2 ^ 34 + bit_of m.dirty * 2 ^ 57 + 2 ^ 58 in
+    let y : bit_of m.dirty < 2 = bit_small m.dirty in
     let below : low < 2 ^ 59 = omega arith in
     let split : word_of (Near len ds pl m) ≡ (1 * 16 + marks_number m) * 2 ^ 59 + low = omega arith in
     let taken = ap (λ w. bit_and w 0x5800_0000_0000_0000) split ∙ owner_and 1 m low below in
     omega (arith, without_owner_marks_and (word_of (Near len ds pl m)) (word_fits (Near len ds pl m) ok), taken)
 without_owner_marks_word (Far len ds m) ok =
     let low : ℕ = len + ds * 2 ^ 16 + 2 ^ 58 in
+    let y : bit_of m.dirty < 2 = bit_small m.dirty in
     let below : low < 2 ^ 59 = omega arith in
     let split : word_of (Far len ds m) ≡ (0 * 16 + marks_number m) * 2 ^ 59 + low = omega arith in
     let taken = ap (λ w. bit_and w 0x5800_0000_0000_0000) split ∙ owner_and 0 m low below in
@@ -120,13 +124,14 @@ dropped_test true v pl = refl
 dropped_test false true pl = refl
 dropped_test false false pl = refl
 
-view_place-with_mark : (k : Mark) (v : PtrWord) → k ≢ Hot → view_place (with_mark k v) ≡ None
-view_place-with_mark k Free ne = refl
-view_place-with_mark k (Far len ds m) ne = refl
-view_place-with_mark Hot (Near len ds pl m) ne = absurd (ne refl)
-view_place-with_mark Evac (Near len ds pl m) ne = refl
-view_place-with_mark Moved (Near len ds pl m) ne = moved_test m.evac m.dropped pl
-view_place-with_mark Dropped (Near len ds pl m) ne = dropped_test m.evac m.moved pl
+view_place-with_mark : (k : Mark) (v : PtrWord) → k ≢ Hot → k ≢ Dirty → view_place (with_mark k v) ≡ None
+view_place-with_mark k Free ne nd = refl
+view_place-with_mark k (Far len ds m) ne nd = refl
+view_place-with_mark Hot (Near len ds pl m) ne nd = absurd (ne refl)
+view_place-with_mark Dirty (Near len ds pl m) ne nd = absurd (nd refl)
+view_place-with_mark Evac (Near len ds pl m) ne nd = refl
+view_place-with_mark Moved (Near len ds pl m) ne nd = moved_test m.evac m.dropped pl
+view_place-with_mark Dropped (Near len ds pl m) ne nd = dropped_test m.evac m.moved pl
 
 pub views_rest : ViewsRest
-views_rest = record { near = λ len ds pl hot. refl; marked = view_place-with_mark; far = λ len ds m. refl; free = refl }
+views_rest = record { near = λ len ds pl hot dirty. refl; marked = view_place-with_mark; far = λ len ds m. refl; free = refl }

@@ -5,6 +5,7 @@ use Rattle.std.proofs.lemmas.Bool.Decides.{nat_tests}
 use Rattle.std.proofs.lemmas.Nat.Bits.{and_pow}
 use Rattle.std.specs.Int.{bit_at}
 use native.Mathlib.Nat.{add_comm}
+use mir.Val.{bool_byte}
 use lib.Bits.{or_add_and, or_shifted_r}
 use Rattle.far_word.specs.Mark.{field, is_set, bit_of}
 
@@ -23,6 +24,10 @@ split_at w low bits = sym (shr_split (w / 2 ^ low) bits) ∙ add_comm _ _ ∙ ap
 pub bit_small : (b : Bool) → bit_of b < 2
 bit_small true = omega arith
 bit_small false = omega arith
+
+pub byte_bit : (b : Bool) → bool_byte b ≡ bit_of b
+byte_bit true = refl
+byte_bit false = refl
 
 pub bit_set : (w k : ℕ) → bit_of (is_set w k) ≡ field w k 1
 bit_set w k = grind (arith, nat_tests)

@@ -12,7 +12,7 @@ use Rattle.far_word.specs.Sizes.{size_of, words_for, bytes_taken}
 use Rattle.far_word.specs.declared.header.HeadWord.{HeadWord}
 use Rattle.far_word.specs.declared.job.JobWord.{JobWord}
 use Rattle.far_word.specs.declared.mark.Mark.{Mark}
-use Rattle.far_word.specs.declared.mark.Mark.TheVariants.{Hot}
+use Rattle.far_word.specs.declared.mark.Mark.TheVariants.{Hot, Dirty}
 use Rattle.far_word.specs.declared.pointer.Place.{Place}
 use Rattle.far_word.specs.declared.mark.Marks.{Marks}
 use Rattle.far_word.specs.declared.pointer.PtrWord.{PtrWord}
@@ -53,8 +53,8 @@ OwnerMarksAreCleared = (v : PtrWord) → IsPtr v →
 
 -- a new view may rest on a near object, hot or not, that has no other mark; nowhere else
 pub record ViewsRest : Type 0 where
-  pub near : (len ds : ℕ) (place : Place) (hot : Bool) → view_place (Near len ds place record { hot = hot; evac = false; moved = false; dropped = false }) ≡ Some place
-  pub marked : (k : Mark) (v : PtrWord) → k ≢ Hot → view_place (with_mark k v) ≡ None
+  pub near : (len ds : ℕ) (place : Place) (hot dirty : Bool) → view_place (Near len ds place record { hot = hot; evac = false; moved = false; dropped = false; dirty = dirty }) ≡ Some place
+  pub marked : (k : Mark) (v : PtrWord) → k ≢ Hot → k ≢ Dirty → view_place (with_mark k v) ≡ None
   pub far : (len ds : ℕ) (marks : Marks) → view_place (Far len ds marks) ≡ None
   pub free : view_place Free ≡ None
 

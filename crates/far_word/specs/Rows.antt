@@ -10,7 +10,7 @@ use Rattle.far_word.specs.declared.header.HeadWord.{HeadWord}
 use Rattle.far_word.specs.declared.job.Job.{Job}
 use Rattle.far_word.specs.declared.job.JobWord.{JobWord}
 use Rattle.far_word.specs.declared.job.JobWord.TheVariants.{Empty, Offered, Taken, Finished}
-use Rattle.far_word.specs.declared.mark.Mark.TheVariants.{Hot, Evac, Moved, Dropped}
+use Rattle.far_word.specs.declared.mark.Mark.TheVariants.{Hot, Evac, Moved, Dropped, Dirty}
 use Rattle.far_word.specs.declared.mark.Marks.{Marks}
 use Rattle.far_word.specs.declared.pointer.PtrWord.{PtrWord}
 use Rattle.far_word.specs.declared.pointer.PtrWord.TheVariants.{Free, Near, Far}
@@ -29,7 +29,7 @@ IsScopeWord w s = (scope_word s ≡ w) × (scope_of w ≡ Some s)
 
 -- ---- pointer words
 abbrev pub no_marks : Marks
-no_marks = record { hot = false; evac = false; moved = false; dropped = false }
+no_marks = record { hot = false; evac = false; moved = false; dropped = false; dirty = false }
 
 -- a near object of 8 bytes and data structure 1, at word `at` of a log
 abbrev pub near_eight : ℕ → ℕ → Marks → PtrWord
@@ -46,15 +46,16 @@ NearRowsHold = IsPointerWord 0x8400_0000_0001_0008 (near_eight 0 0 no_marks)
     × IsPointerWord 0x8400_0000_00ff_03f8 (Near 1016 255 record { log = 0; at = 0 } no_marks)
 
 abbrev pub MarkedRowsHold : Type 0
-MarkedRowsHold = IsPointerWord 0xc400_0000_0001_0008 (near_eight 0 0 record { hot = true; evac = false; moved = false; dropped = false })
-    × IsPointerWord 0xa400_0000_0001_0008 (near_eight 0 0 record { hot = false; evac = true; moved = false; dropped = false })
-    × IsPointerWord 0x9400_0000_0001_0008 (near_eight 0 0 record { hot = false; evac = false; moved = true; dropped = false })
-    × IsPointerWord 0x8c00_0000_0001_0008 (near_eight 0 0 record { hot = false; evac = false; moved = false; dropped = true })
-    × IsPointerWord 0xe400_0000_0001_0008 (near_eight 0 0 record { hot = true; evac = true; moved = false; dropped = false })
+MarkedRowsHold = IsPointerWord 0xc400_0000_0001_0008 (near_eight 0 0 record { hot = true; evac = false; moved = false; dropped = false; dirty = false })
+    × IsPointerWord 0xa400_0000_0001_0008 (near_eight 0 0 record { hot = false; evac = true; moved = false; dropped = false; dirty = false })
+    × IsPointerWord 0x9400_0000_0001_0008 (near_eight 0 0 record { hot = false; evac = false; moved = true; dropped = false; dirty = false })
+    × IsPointerWord 0x8c00_0000_0001_0008 (near_eight 0 0 record { hot = false; evac = false; moved = false; dropped = true; dirty = false })
+    × IsPointerWord 0x8600_0000_0001_0008 (near_eight 0 0 record { hot = false; evac = false; moved = false; dropped = false; dirty = true })
+    × IsPointerWord 0xe400_0000_0001_0008 (near_eight 0 0 record { hot = true; evac = true; moved = false; dropped = false; dirty = false })
 
 abbrev pub FarRowsHold : Type 0
 FarRowsHold = IsPointerWord 0x0400_0000_0001_0008 (Far 8 1 no_marks)
-    × IsPointerWord 0x5c00_0000_00ff_03f8 (Far 1016 255 record { hot = true; evac = false; moved = true; dropped = true })
+    × IsPointerWord 0x5c00_0000_00ff_03f8 (Far 1016 255 record { hot = true; evac = false; moved = true; dropped = true; dirty = false })
 
 abbrev pub FreeRowHolds : Type 0
 FreeRowHolds = IsPointerWord 0 Free
@@ -70,13 +71,15 @@ PointersAreRefused = (read_of 0x0000_0000_0001_0008 ≡ None)
     × (read_of 0x2400_0000_0001_0008 ≡ None)
     × (read_of 0x8400_0100_0001_0008 ≡ None)
     × (read_of 0x8400_0400_0001_0008 ≡ None)
-    × (read_of 0x8600_0000_0001_0008 ≡ None)
+    × (read_of 0x0600_0000_0001_0008 ≡ None)
+    × (read_of 0x8500_0000_0001_0008 ≡ None)
 
 abbrev pub MarkBitsStand : Type 0
 MarkBitsStand = (2 ^ position Hot ≡ 0x4000_0000_0000_0000)
     × (2 ^ position Evac ≡ 0x2000_0000_0000_0000)
     × (2 ^ position Moved ≡ 0x1000_0000_0000_0000)
     × (2 ^ position Dropped ≡ 0x0800_0000_0000_0000)
+    × (2 ^ position Dirty ≡ 0x0200_0000_0000_0000)
 
 -- ---- header words
 abbrev pub HeaderRowsHold : Type 0

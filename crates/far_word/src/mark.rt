@@ -5,6 +5,8 @@ ghost use Rattle.far_word.specs.Mark.{position, marks_of, marks_number};
 
 use crate::field::is_set;
 
+pub(crate) const DIRTY: u32 = 57;
+
 const DROP: u32 = 59;
 
 const MOVE: u32 = 60;
@@ -24,6 +26,8 @@ pub enum Mark {
     Moved,
     /// DROP: the owner dropped the object.
     Dropped,
+    /// DIRTY: the owner may have written since the device was given its bytes.
+    Dirty,
 }
 
 impl Mark {
@@ -36,6 +40,7 @@ impl Mark {
             Mark::Evac => 1 << EVAC,
             Mark::Moved => 1 << MOVE,
             Mark::Dropped => 1 << DROP,
+            Mark::Dirty => 1 << DIRTY,
         }
     }
 }
@@ -51,6 +56,8 @@ pub struct Marks {
     pub moved: bool,
     /// Whether it has [`Mark::Dropped`].
     pub dropped: bool,
+    /// Whether it has [`Mark::Dirty`].
+    pub dirty: bool,
 }
 
 impl Marks {
@@ -63,10 +70,11 @@ impl Marks {
             evac: is_set(word, EVAC),
             moved: is_set(word, MOVE),
             dropped: is_set(word, DROP),
+            dirty: is_set(word, DIRTY),
         }
     }
 
-    /// The marks where they stand in a word, all other bits zero.
+    /// The marks but DIRTY where they stand in a word, all other bits zero.
     pub(crate) fn pack(self) -> u64
         ensures { result ≡ marks_number self * 2 ^ 59 }
     {

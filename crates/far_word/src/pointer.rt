@@ -7,7 +7,7 @@ ghost use Rattle.far_word.specs.Counts.{names_kept, names_near};
 ghost use Rattle.far_word.specs.Pointer.{IsPtr, word_of, read_of, pointer_len, view_place, without_owner_marks};
 
 use crate::field::{field, is_set};
-use crate::mark::Marks;
+use crate::mark::{DIRTY, Marks};
 use crate::sizes::{LOG_WORDS, LONGEST, MOST_LOGS, size_of};
 
 const DS: u32 = 16;
@@ -75,7 +75,8 @@ impl PtrWord {
             } => {
                 let low = len as u64 | (ds as u64) << DS;
                 let placed = low | (place.at as u64) << AT | (place.log as u64) << LOG;
-                placed | 1 << USED | marks.pack() | 1 << PRESENT
+                let soiled = placed | (marks.dirty as u64) << DIRTY;
+                soiled | 1 << USED | marks.pack() | 1 << PRESENT
             }
             PtrWord::Far { len, ds, marks } => {
                 len as u64 | (ds as u64) << DS | 1 << USED | marks.pack()
@@ -99,7 +100,7 @@ impl PtrWord {
         if word == 0 {
             return Some(PtrWord::Free);
         }
-        if !is_set(word, USED) || field(word, GAP, 16) != 0 {
+        if !is_set(word, USED) || field(word, GAP, 15) != 0 {
             return None;
         }
         let len = field(word, 0, 16) as u16;
@@ -120,7 +121,7 @@ impl PtrWord {
                     marks,
                 });
             }
-        } else if log == 0 && at == 0 && !marks.evac {
+        } else if log == 0 && at == 0 && !marks.evac && !marks.dirty {
             return Some(PtrWord::Far { len, ds, marks });
         }
         None

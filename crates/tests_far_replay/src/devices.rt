@@ -268,7 +268,99 @@ read 0 0 0 8
   data 01ffffffffffffff
 ";
 
-const TALKS: [&str; 9] = [
+/// What wasn't written since it came near goes far without a call: the third one is the next read.
+const UNWRITTEN: &str = "\
+heap 5 1
+  ok
+device fail 3
+  ok
+new 0 8 1
+  pointer 0
+new 0 1016 1
+  pointer 1
+round oldest 1 9
+  round done moved 0 far 1 dropped 0 freed 1
+open 0
+  ok
+read 0 0 0 1
+  data 00
+close 0
+  ok
+new 0 1016 1
+  pointer 2
+select script 1 0
+  selected 0
+mark 9
+  marked 1 waiting 2
+wait
+  clear
+evacuate 9
+  evacuated moved 1 far 0 dropped 0 freed 1 done
+new 0 1016 1
+  pointer 3
+select script 1 3
+  selected 3
+mark 9
+  marked 1 waiting 3
+wait
+  clear
+evacuate 9
+  evacuated moved 0 far 1 dropped 0 freed 1 done
+open 0
+  ok
+read 0 0 0 1
+  refused 10
+read 0 0 0 1
+  data 00
+";
+
+/// So inverted bytes that weren't written are gone once their object went far: the next read gives those that the device holds.
+const FLIP_UNWRITTEN: &str = "\
+heap 5 1
+  ok
+device flip 1
+  ok
+new 0 8 1
+  pointer 0
+new 0 1016 1
+  pointer 1
+round oldest 1 9
+  round done moved 0 far 1 dropped 0 freed 1
+open 0
+  ok
+read 0 0 0 1
+  data ff
+close 0
+  ok
+new 0 1016 1
+  pointer 2
+select script 1 0
+  selected 0
+mark 9
+  marked 1 waiting 2
+wait
+  clear
+evacuate 9
+  evacuated moved 1 far 0 dropped 0 freed 1 done
+new 0 1016 1
+  pointer 3
+select script 1 3
+  selected 3
+mark 9
+  marked 1 waiting 3
+wait
+  clear
+evacuate 9
+  evacuated moved 0 far 1 dropped 0 freed 1 done
+open 0
+  ok
+read 0 0 0 1
+  data 00
+read 0 0 0 1
+  data 00
+";
+
+const TALKS: [&str; 11] = [
     DEVICE_FAILS,
     ROUND_GOES_ON,
     READ_FAILS,
@@ -278,6 +370,8 @@ const TALKS: [&str; 9] = [
     FLIP,
     SHORT_LATER,
     FLIP_STAYS,
+    UNWRITTEN,
+    FLIP_UNWRITTEN,
 ];
 
 #[test]

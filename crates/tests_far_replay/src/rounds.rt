@@ -113,7 +113,7 @@ wait
 open 0
   ok
 try 0 0
-  refused 14 e400000000010008
+  refused 14 e600000000010008
 read 0 0 0 1
   data aa
 evacuate 9
@@ -377,13 +377,13 @@ view 0 0
 where 0 0
   near 0 0 hem
 try 0 0
-  refused 14 f4000000000103f8
+  refused 14 f6000000000103f8
 abort
   ok
 where 0 0
   near 0 0 hm
 try 0 0
-  refused 14 d4000000000103f8
+  refused 14 d6000000000103f8
 select oldest 1
   selected 0
 read 0 0 1015 1

@@ -15,7 +15,7 @@ use Rattle.far_core.proofs.ObjectFacts.{object_agrees}
 use Rattle.far_table.specs.First.{first_owner, seen_object}
 use Rattle.far_table.specs.Seats.{Seated}
 use Rattle.far_table.specs.Views.{len_of, said_len}
-use Rattle.far_table.proofs.FirstViews.{first_held, first_object, first_uses}
+use Rattle.far_table.proofs.FirstViews.{first_held, first_object, first_soiled, first_uses}
 use Rattle.tests_far_table.specs.declared.known.Known.{Known}
 use Rattle.tests_far_table.specs.Fits.{Fits, Ready, known_of}
 
@@ -42,6 +42,7 @@ begins s honest law m = let own : CELLS * m / CELLS ≡ m = omega arith in recor
   read = refl;
   used = first_uses s honest m (CELLS * m) own law;
   held = ap is_some (first_held s honest m (CELLS * m) own);
+  soiled = first_soiled s honest m (CELLS * m) own;
   len = ap len_of (first_object s honest m (CELLS * m) own) ∙ long_as_said s law (CELLS * m) (s.used (CELLS * m)) refl;
 }
 

@@ -11,7 +11,7 @@ use Rattle.far_table.specs.View.{OwnerView}
 use Rattle.far_table.specs.First.{first_owner, open_epoch}
 use Rattle.far_table.specs.Seats.{Seated}
 use Rattle.far_table.specs.Stands.{Seats}
-use Rattle.far_table.specs.Views.{held_at, len_of, object_at, said_len, uses}
+use Rattle.far_table.specs.Views.{held_at, len_of, object_at, said_len, soiled_at, uses}
 use Rattle.tests_far_table.specs.declared.known.Known.{Known}
 
 -- what is known is what the view says
@@ -21,6 +21,7 @@ pub record Fits (v : OwnerView) (p : ℕ) (k : Known) : Type 0 where
   pub read : is_some v.epoch ≡ k.read
   pub used : uses v p ≡ k.used
   pub held : is_some (held_at v p) ≡ k.held
+  pub soiled : soiled_at v p ≡ k.soiled
   pub len : len_of (object_at v p) ≡ k.len
 
 -- the length of the object of a pointer that is used
@@ -34,6 +35,7 @@ known_of s m = record {
   read = is_some (s.remembered m);
   used = s.used (CELLS * m);
   held = is_some (s.held (CELLS * m));
+  soiled = s.soiled (CELLS * m);
   len = used_len s (CELLS * m);
 }
 

@@ -11,6 +11,8 @@ pub struct Known {
     pub used: bool,
     /// Whether it holds the object's place.
     pub held: bool,
+    /// Whether it has soiled the object.
+    pub soiled: bool,
     /// How many bytes the object has; 0 where it isn't used.
     pub len: u16,
 }

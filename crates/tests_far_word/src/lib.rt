@@ -21,6 +21,7 @@ const NO_MARKS: Marks = Marks {
     evac: false,
     moved: false,
     dropped: false,
+    dirty: false,
 };
 
 #[cfg(test)]
@@ -29,6 +30,16 @@ const HOT: Marks = Marks {
     evac: false,
     moved: false,
     dropped: false,
+    dirty: false,
+};
+
+#[cfg(test)]
+const DIRTY: Marks = Marks {
+    hot: false,
+    evac: false,
+    moved: false,
+    dropped: false,
+    dirty: true,
 };
 
 #[cfg(test)]
@@ -37,6 +48,7 @@ const HOT_EVAC: Marks = Marks {
     evac: true,
     moved: false,
     dropped: false,
+    dirty: false,
 };
 
 #[test]

@@ -31,7 +31,7 @@ fn all_differ<T: PartialEq>(values: &[T]) -> bool {
 
 const PLACE: Place = Place { log: 3, at: 5 };
 
-const MARKS: [Marks; 5] = [
+const MARKS: [Marks; 6] = [
     NO_MARKS,
     Marks {
         hot: true,
@@ -49,6 +49,10 @@ const MARKS: [Marks; 5] = [
         dropped: true,
         ..NO_MARKS
     },
+    Marks {
+        dirty: true,
+        ..NO_MARKS
+    },
 ];
 
 #[test]
@@ -59,7 +63,15 @@ fn places(rt: HostRuntime) {
 #[test]
 fn marks(rt: HostRuntime) {
     assert!(rt; all_differ(&MARKS));
-    assert!(rt; all_differ(&[Mark::Hot, Mark::Evac, Mark::Moved, Mark::Dropped]));
+    assert!(rt;
+        all_differ(&[
+            Mark::Hot,
+            Mark::Evac,
+            Mark::Moved,
+            Mark::Dropped,
+            Mark::Dirty
+        ])
+    );
 }
 
 fn near(len: u16, ds: u8, place: Place, marks: Marks) -> PtrWord {

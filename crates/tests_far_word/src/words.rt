@@ -1,6 +1,6 @@
 //! Worked words: each is read as what it says, packed from it, or refused. They come from the layout's own table.
 
-use super::{HOT, HOT_EVAC, NO_MARKS};
+use super::{DIRTY, HOT, HOT_EVAC, NO_MARKS};
 use far_word::{
     HeadWord, Mark, Marks, Place, PtrWord, Refused, ScopeWord, object_counts, pack_bytes,
     pointer_len, resting_place, rests_view, size_of, unpack_bytes, without_owner_marks,
@@ -37,6 +37,7 @@ fn pointer_words(rt: HostRuntime) {
     assert!(rt; is_pointer(0x8400_0004_0001_0008, near(1, 0, NO_MARKS)));
     assert!(rt; is_pointer(0xc400_0000_0001_0008, near(0, 0, HOT)));
     assert!(rt; is_pointer(0xe400_0000_0001_0008, near(0, 0, HOT_EVAC)));
+    assert!(rt; is_pointer(0x8600_0000_0001_0008, near(0, 0, DIRTY)));
     assert!(rt; is_pointer(0x0400_0000_0001_0008, far));
 }
 
@@ -105,7 +106,8 @@ fn words_off_the_layout(rt: HostRuntime) {
             0x2400_0000_0001_0008,
             0x8400_0100_0001_0008,
             0x8400_0400_0001_0008,
-            0x8600_0000_0001_0008,
+            0x0600_0000_0001_0008,
+            0x8500_0000_0001_0008,
         ])
     );
     assert!(rt;

@@ -146,7 +146,7 @@ impl<D: Device> Owner<D> {
         Some(self.seat.load(p, i))
     }
 
-    /// Word `i` of an object that is held becomes this word; whether it did: not where it has a byte past the object's end.
+    /// Word `i` of an object that is held becomes this word, once it is soiled; whether it did: not where it has a byte past the object's end.
     pub fn store(&mut self, p: u16, i: u16, word: u64) -> bool {
         let Some(len) = self.used(p) else {
             return false;
@@ -154,6 +154,7 @@ impl<D: Device> Owner<D> {
         if !self.holds(p) || i >= words_for(len) || !keeps_padding(len, i, word) {
             return false;
         }
+        self.seat.soil(p);
         self.seat.store(p, i, word);
         true
     }
@@ -175,7 +176,7 @@ impl<D: Device> Owner<D> {
             return None;
         }
         match mark {
-            Mark::Hot | Mark::Evac => None,
+            Mark::Hot | Mark::Evac | Mark::Dirty => None,
             Mark::Moved => Some(self.seat.ask(p, Mark::Moved)),
             Mark::Dropped => {
                 let word = self.seat.ask(p, Mark::Dropped);

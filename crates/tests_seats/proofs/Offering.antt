@@ -19,7 +19,7 @@ use Rattle.far_core.specs.declared.naming.Naming.TheVariants.{Moves}
 use Rattle.far_core.specs.events.Copied.{IsCopied, WasCopied, copied_job, with_named}
 use Rattle.far_core.specs.events.Copies.{data_at}
 use Rattle.far_core.specs.events.Legal.{IsNext, Legal}
-use Rattle.far_core.specs.events.Naming.{IsNaming, is_stay, no_marks}
+use Rattle.far_core.specs.events.Naming.{IsNaming, is_stay}
 use Rattle.far_core.specs.events.NewSpans.{with_begun}
 use Rattle.far_core.specs.events.Offer.{after_offer, offered}
 use Rattle.far_core.specs.events.Quiet.{IsQuiet, is_quiet}
@@ -166,10 +166,10 @@ module _ (u : State) (next : Option Place) (spare : Option ℕ) (offered n word 
   named_is = let x = some_move (copied_job u job.pointer job.from job.to) (copied_test u job.pointer job.from job.to copied) in
       (x.0, won_state u job.pointer old new (Moves moved.len moved.ds job.from job.to) at (is_move job old new moved) ∙ x.1)
 
-  pub named_then : (r : Result (Unit {0}) ℕ) (t : State) → IfOk r (λ _. t ≡ record (after u (Name job.pointer old new)) { word = t.word }) → IfErr r (λ found. t ≡ record u { cell = put u.cell job.pointer found }) →
+  pub named_then : (r : Result (Unit {0}) ℕ) (t : State) → IfOk r (λ _. t ≡ record (after u (Name job.pointer old new)) { word = t.word; stored = t.stored }) → IfErr r (λ found. t ≡ record u { cell = put u.cell job.pointer found }) →
       HasRound t × KnowsRoom t next spare × KnowsJobs t offered n word
   named_then (Ok x) t won lost =
-      let is : t ≡ record (with_named u job.pointer new named_is.0) { word = t.word } = won ∙ ap (λ (z : State). record z { word = t.word }) named_is.1 in
+      let is : t ≡ record (with_named u job.pointer new named_is.0) { word = t.word; stored = t.stored } = won ∙ ap (λ (z : State). record z { word = t.word; stored = t.stored }) named_is.1 in
       subst (λ (z : State). HasRound z × KnowsRoom z next spare × KnowsJobs z offered n word) (sym is) (round, room, jobs)
   named_then (Err found) t won lost = subst (λ (z : State). HasRound z × KnowsRoom z next spare × KnowsJobs z offered n word) (sym lost) (round, room, jobs)
 
@@ -240,11 +240,11 @@ module _ (v : State) (offered n word p ds old new : ℕ) (from to : Place) (roun
   stays None = (round, jobs)
   stays (Some j) = (round, jobs)
 
-  pub moved_then : (r : Result (Unit {0}) ℕ) (t : State) → IfOk r (λ _. t ≡ record (after v (Name p old new)) { word = t.word }) → IfErr r (λ found. t ≡ record v { cell = put v.cell p found }) →
+  pub moved_then : (r : Result (Unit {0}) ℕ) (t : State) → IfOk r (λ _. t ≡ record (after v (Name p old new)) { word = t.word; stored = t.stored }) → IfErr r (λ found. t ≡ record v { cell = put v.cell p found }) →
       HasRound t × KnowsJobs t offered n word
   moved_then (Ok x) t won lost =
       let next = after_move v p new moved.len to (copied_job v p from to) in
       let is : after v (Name p old new) ≡ next = won_state v p old new (Moves moved.len moved.ds from to) (sym at) (is_move (record { pointer = p; from = from; to = to }) old new moved) in
-      let all : t ≡ record next { word = t.word } = won ∙ ap (λ (z : State). record z { word = t.word }) is in
+      let all : t ≡ record next { word = t.word; stored = t.stored } = won ∙ ap (λ (z : State). record z { word = t.word; stored = t.stored }) is in
       subst (λ (z : State). HasRound z × KnowsJobs z offered n word) (sym all) (stays (copied_job v p from to))
   moved_then (Err found) t won lost = subst (λ (z : State). HasRound z × KnowsJobs z offered n word) (sym lost) (round, jobs)

@@ -8,7 +8,7 @@ use Rattle.far_word.specs.declared.sizes.TheConstants.{JOBS, LOG_WORDS}
 use Rattle.far_word.specs.Pointer.{IsPtr, read_of}
 use Rattle.far_core.specs.declared.event.Kind.{Kind}
 use Rattle.far_core.specs.declared.event.Kind.TheVariants.{Free, Open}
-use Rattle.far_core.specs.events.Naming.{no_marks}
+use Rattle.far_core.specs.events.Naming.{unmarked}
 use Rattle.far_core.specs.state.State.{State}
 
 -- there is an owner; the first two logs are in the round, and the first owner was seen clear in it
@@ -72,7 +72,7 @@ IsRoom next spare size to = ((to ≡ next) ⊎ ((spare ≡ Some to.log) × (to.a
 abbrev pub IsLeft : Place → Option ℕ → Place → Option ℕ → Type 0
 IsLeft next spare to spare' = (l : ℕ) → spare' ≡ Some l → (spare ≡ Some l) × (to.log ≡ next.log)
 
--- a cell names the source of a job, with EVAC and without DROP; and another word names its target
+-- a cell names the source of a job, with EVAC and without DROP; and another word names its target, with DIRTY where the cell has it
 pub record IsMoved (job : Job) (cell new : ℕ) : Type 0 where
   pub len : ℕ
   pub ds : ℕ
@@ -80,4 +80,4 @@ pub record IsMoved (job : Job) (cell new : ℕ) : Type 0 where
   pub was : read_of cell ≡ Some (Near len ds job.from marks)
   pub kept : marks.dropped ≡ false
   pub marked : marks.evac ≡ true
-  pub is : read_of new ≡ Some (Near len ds job.to no_marks)
+  pub is : read_of new ≡ Some (Near len ds job.to (unmarked marks.dirty))

@@ -12,7 +12,7 @@ use Rattle.far_word.specs.Pointer.{read_of}
 use Rattle.far_word.specs.Sizes.{size_of, words_for}
 use Rattle.far_word.proofs.ByteLaws.{bytes_of-zeros, length-bytes_of, length-with_word, packs_back, read_other, read_written}
 use Rattle.far_core.specs.declared.event.Event.{Event}
-use Rattle.far_core.specs.declared.event.Event.TheVariants.{ReadEpoch, Open, Pin, Load, Store, Close, Adopt, Ask, Get, Clear, Advance, Look}
+use Rattle.far_core.specs.declared.event.Event.TheVariants.{ReadEpoch, Open, Pin, Load, Store, Soil, Close, Adopt, Ask, Get, Clear, Advance, Look}
 use Rattle.far_core.specs.declared.event.Event.TheVariants as events
 use Rattle.far_core.specs.declared.event.Reply.{Reply}
 use Rattle.far_core.specs.declared.event.Reply.TheVariants.{Refused, Word}
@@ -196,6 +196,7 @@ module _ (s t : State) (f : ℕ → ℕ → ℕ) (h : Holds s f) where
   own_event (Pin m p) r own x = other_event (Pin m p) r tt (replies (λ y. IsOtherOf (change_of (Pin m p) y)) tt tt (λ n. tt) (λ n. tt) (λ place. tt) r) x
   own_event (Load m p i) r own x = other_event (Load m p i) r tt (replies (λ y. IsOtherOf (change_of (Load m p i) y)) tt tt (λ n. tt) (λ n. tt) (λ place. tt) r) x
   own_event (Store m p i w) r own x = store_event m p i w r x
+  own_event (Soil m p) r own x = other_event (Soil m p) r tt (replies (λ y. IsOtherOf (change_of (Soil m p) y)) tt tt (λ n. tt) (λ n. tt) (λ place. tt) r) x
   own_event (Close m) r own x = other_event (Close m) r tt (replies (λ y. IsOtherOf (change_of (Close m) y)) tt tt (λ n. tt) (λ n. tt) (λ place. tt) r) x
   own_event (Adopt m p) r own x = other_event (Adopt m p) r tt (replies (λ y. IsOtherOf (change_of (Adopt m p) y)) tt tt (λ n. tt) (λ n. tt) (λ place. tt) r) x
   own_event (Ask m p k) r own x = other_event (Ask m p k) r tt (asked k) x where

@@ -17,7 +17,7 @@ use Rattle.far_log.specs.declared.row.LogRow.{LogRow}
 use Rattle.far_core.specs.declared.event.Event.TheVariants as events
 use Rattle.far_core.specs.declared.naming.Naming.TheVariants as naming
 use Rattle.far_core.specs.events.Legal.{Legal, IsNext}
-use Rattle.far_core.specs.events.Naming.{is_dropped, no_marks}
+use Rattle.far_core.specs.events.Naming.{is_dropped, no_marks, unmarked}
 use Rattle.far_core.specs.events.Ranges.{with_row}
 use Rattle.far_core.specs.events.Step.{after}
 use Rattle.far_core.specs.laws.Rooms.{IsRoom, RoomIs}
@@ -101,8 +101,8 @@ module _ {s : State} {ledger : Ledger} {p len ds : ℕ} {place : Place} (x : Has
   order_taken new takes = takes.order ∙ ap (λ c. order_after (record s { current = c }) ledger.order.items place) x.notes.current
 
 -- where a header and zeros are written at the end of a log, the span there may be named
-pub may_name : (s : State) (p len ds : ℕ) (place : Place) → p < CELLS * s.mutators → IsPtr (Near len ds place no_marks) → IsNext s place → Legal (with_blank_span s p len ds place) (events.Name p 0 (near_word len ds place))
-may_name s p len ds place pointer layout next = (pointer, (naming.Places len ds place, (unused, read_back (Near len ds place no_marks) layout), (record { next = next; head = header }, blank))) where
+pub may_name : (s : State) (p len ds : ℕ) (place : Place) → p < CELLS * s.mutators → IsPtr (Near len ds place no_marks) → IsNext s place → Legal (with_blank_span s p len ds place) (events.Name p 0 (near_word true len ds place))
+may_name s p len ds place pointer layout next = (pointer, (naming.Places len ds place, (unused, read_back (Near len ds place (unmarked true)) layout), (record { next = next; head = header }, blank))) where
   header : with_row (put s.word (addr place) (head_word p len ds)) (addr place + 1) (words_for len) (λ _. 0) (addr place) ≡ head_word p len ds
   header = row_out (put s.word (addr place) (head_word p len ds)) (addr place + 1) (words_for len) (λ _. 0) (addr place) (inl (omega arith)) ∙ put_same s.word (addr place) (head_word p len ds) (addr place) refl
 
@@ -132,7 +132,14 @@ bit b = cond b 1 0
 
 -- how many marks an owner has added
 abbrev pub count : Option PtrWord → ℕ
-count o = bit (marks_in o).hot + bit (marks_in o).moved + bit (marks_in o).dropped
+count o = bit (marks_in o).hot + bit (marks_in o).moved + bit (marks_in o).dropped + bit (marks_in o).dirty
+
+-- a dropped object has one
+pub dropped_counts : (o : Option PtrWord) → is_dropped o ≡ true → 1 ≤ count o
+dropped_counts None h = absurd (false≢true h)
+dropped_counts (Some Free) h = absurd (false≢true h)
+dropped_counts (Some (Near len ds place m)) h = let e : bit m.dropped ≡ 1 = ap bit h in omega (arith, e)
+dropped_counts (Some (Far len ds m)) h = let e : bit m.dropped ≡ 1 = ap bit h in omega (arith, e)
 
 bit_grows : (a b : Bool) → (a ≡ true → b ≡ true) → bit a ≤ bit b
 bit_grows true b h = let e : bit b ≡ 1 = ap bit (h refl) in omega arith
@@ -143,23 +150,23 @@ bit_same true b h le = h refl
 bit_same false true h le = absurd (omega arith)
 bit_same false false h le = refl
 
-same_by : (o n : Option PtrWord) → body_of n ≡ body_of o → (marks_in n).hot ≡ (marks_in o).hot → (marks_in n).moved ≡ (marks_in o).moved → (marks_in n).dropped ≡ (marks_in o).dropped → IsSome o → n ≡ o
-same_by None n body hot moved dropped some = absurd (false≢true some)
-same_by (Some Free) (Some Free) body hot moved dropped some = refl
-same_by (Some (Near n d at k)) (Some (Near len ds place m)) body hot moved dropped some =
+same_by : (o n : Option PtrWord) → body_of n ≡ body_of o → (marks_in n).hot ≡ (marks_in o).hot → (marks_in n).moved ≡ (marks_in o).moved → (marks_in n).dropped ≡ (marks_in o).dropped → (marks_in n).dirty ≡ (marks_in o).dirty → IsSome o → n ≡ o
+same_by None n body hot moved dropped dirty some = absurd (false≢true some)
+same_by (Some Free) (Some Free) body hot moved dropped dirty some = refl
+same_by (Some (Near n d at k)) (Some (Near len ds place m)) body hot moved dropped dirty some =
     let lens : len ≡ n = cc in
     let dss : ds ≡ d = cc in
     let places : place ≡ at = cc in
-    let bare : record { hot = false; evac = m.evac; moved = false; dropped = false } ≡ record { hot = false; evac = k.evac; moved = false; dropped = false } = cc in
+    let bare : record { hot = false; evac = m.evac; moved = false; dropped = false; dirty = false } ≡ record { hot = false; evac = k.evac; moved = false; dropped = false; dirty = false } = cc in
     let evac : m.evac ≡ k.evac = ap (λ (x : Marks). x.evac) bare in
-    λ i. Some (Near (lens i) (dss i) (places i) record { hot = hot i; evac = evac i; moved = moved i; dropped = dropped i })
-same_by (Some (Far n d k)) (Some (Far len ds m)) body hot moved dropped some =
+    λ i. Some (Near (lens i) (dss i) (places i) record { hot = hot i; evac = evac i; moved = moved i; dropped = dropped i; dirty = dirty i })
+same_by (Some (Far n d k)) (Some (Far len ds m)) body hot moved dropped dirty some =
     let lens : len ≡ n = cc in
     let dss : ds ≡ d = cc in
-    let bare : record { hot = false; evac = m.evac; moved = false; dropped = false } ≡ record { hot = false; evac = k.evac; moved = false; dropped = false } = cc in
+    let bare : record { hot = false; evac = m.evac; moved = false; dropped = false; dirty = false } ≡ record { hot = false; evac = k.evac; moved = false; dropped = false; dirty = false } = cc in
     let evac : m.evac ≡ k.evac = ap (λ (x : Marks). x.evac) bare in
-    λ i. Some (Far (lens i) (dss i) record { hot = hot i; evac = evac i; moved = moved i; dropped = dropped i })
-same_by o n body hot moved dropped some = absurd cc
+    λ i. Some (Far (lens i) (dss i) record { hot = hot i; evac = evac i; moved = moved i; dropped = dropped i; dirty = dirty i })
+same_by o n body hot moved dropped dirty some = absurd cc
 
 pub some_dropped : (o : Option PtrWord) → is_dropped o ≡ true → IsSome o
 some_dropped None h = absurd (false≢true h)
@@ -176,9 +183,11 @@ count_more v w fv fw some f other = elim (cases_lt (count (read_of v)) (count (r
       let h = bit_grows (marks_in (read_of v)).hot (marks_in (read_of w)).hot f.hot in
       let m = bit_grows (marks_in (read_of v)).moved (marks_in (read_of w)).moved f.moved in
       let d = bit_grows (marks_in (read_of v)).dropped (marks_in (read_of w)).dropped f.dropped in
+      let e = bit_grows (marks_in (read_of v)).dirty (marks_in (read_of w)).dirty f.dirty in
       absurd (other (same_word v w (read_of v) fv fw refl (same_by (read_of v) (read_of w) f.body
       (bit_same (marks_in (read_of v)).hot (marks_in (read_of w)).hot f.hot (omega arith))
       (bit_same (marks_in (read_of v)).moved (marks_in (read_of w)).moved f.moved (omega arith))
       (bit_same (marks_in (read_of v)).dropped (marks_in (read_of w)).dropped f.dropped (omega arith))
+      (bit_same (marks_in (read_of v)).dirty (marks_in (read_of w)).dirty f.dirty (omega arith))
       some) some)))
 ]

@@ -1,10 +1,10 @@
 -- A book stays in order where an object moves to another log, or stays where it lies.
-use Rattle.std.proofs.Common.{◌≡◌, ℕ, ◌*◌, ◌^◌, ◌<◌, Bool, true, false, arith, sym, refl, ap, subst, ◌∙◌, Option, Some, List}
+use Rattle.std.proofs.Common.{◌≡◌, ℕ, ◌*◌, ◌^◌, ◌<◌, Bool, true, false, cond, arith, sym, refl, ap, subst, ◌∙◌, Option, Some, List}
 use Rattle.std.specs.Prelude.{bit_or}
 use Rattle.far_word.specs.declared.mark.Mark.TheVariants.{Dropped}
 use Rattle.far_word.specs.declared.mark.Marks.{Marks}
 use Rattle.far_word.specs.declared.pointer.Place.{Place}
-use Rattle.far_word.specs.declared.pointer.PtrWord.TheVariants.{Near, Far}
+use Rattle.far_word.specs.declared.pointer.PtrWord.TheVariants.{Near}
 use Rattle.far_word.specs.declared.sizes.TheConstants.{CELLS}
 use Rattle.far_word.specs.Mark.{marks_with, position}
 use Rattle.far_word.specs.Pointer.{IsPtr, read_of}
@@ -14,7 +14,7 @@ use Rattle.far_core.specs.declared.event.Event.TheVariants as events
 use Rattle.far_core.specs.declared.naming.Naming.TheVariants.{Stays}
 use Rattle.far_core.specs.events.Copies.{data_at}
 use Rattle.far_core.specs.events.Legal.{Legal}
-use Rattle.far_core.specs.events.Naming.{is_dropped, no_marks}
+use Rattle.far_core.specs.events.Naming.{is_dropped, no_marks, unmarked}
 use Rattle.far_core.specs.events.NewSpans.{with_span}
 use Rattle.far_core.specs.laws.Rooms.{IsRoom, RoomIs}
 use Rattle.far_core.specs.state.Law.{Law}
@@ -25,22 +25,22 @@ use Rattle.far_core.proofs.Owing.{keeps}
 use Rattle.far_core.proofs.Put.{put_same}
 use Rattle.far_core.proofs.RoomLaws.{room_right}
 use Rattle.far_book.specs.declared.ledger.Ledger.{Ledger}
-use Rattle.far_hand.specs.Finds.{Finds, body_of}
+use Rattle.far_hand.specs.Finds.{Finds, body_of, marks_in}
 use Rattle.far_hand.specs.Quiet.{is_quiet}
-use Rattle.far_book.specs.book.Dealing.{FindsDrop, Leaves}
+use Rattle.far_book.specs.book.Dealing.{FindsDrop, Leaves, MovedBy, has_evac}
 use Rattle.far_book.specs.book.Effects.{moved, near_word, stayed, with_free_cell, with_written_span}
-use Rattle.far_book.specs.book.FarSide.{HoldsFar, InOrder}
+use Rattle.far_book.specs.book.FarSide.{InOrder, kept_len}
 use Rattle.far_book.specs.book.Ledger.{Notes, MayRetire, Takes}
 use Rattle.far_book.specs.book.Moving.{MayCopy, MayStay}
 use Rattle.far_book.specs.book.Own.{own_part}
 use Rattle.far_book.specs.book.Placeable.{Placeable, with_object}
 use Rattle.far_book.specs.book.Renaming.{seen}
-use Rattle.far_hand.proofs.Finding.{finds_mark}
+use Rattle.far_hand.proofs.Finding.{IsNearTo, finds_mark, near_found}
 use Rattle.far_book.proofs.region.Calls.{HasRoom, free_unplaced, placeable, put_put}
-use Rattle.far_book.proofs.region.FarSide.{far_without}
+use Rattle.far_book.proofs.region.FarHeld.{still_named}
 use Rattle.far_book.proofs.region.Founds.{near_used, notes_found, notes_seen}
 use Rattle.far_book.proofs.region.InOrders.{found_keeps, headers_keep}
-use Rattle.far_book.proofs.region.Moved.{is_stayed, layout_here, moved_is, named_stays, no_copy}
+use Rattle.far_book.proofs.region.Moved.{drop_of, evac_of, is_stayed, layout_here, moved_is, named_stays, no_copy}
 use Rattle.far_book.proofs.region.NotesKept.{notes_placed}
 use Rattle.far_book.proofs.region.Owns.{own_headers, own_written}
 use Rattle.far_book.proofs.region.Places.{law_then}
@@ -115,27 +115,30 @@ module _ {s : State} {ledger : Ledger} {held : ℕ → Option (List ℕ)} {is_ho
       able : Placeable (own_part freed) p len ds to
       able = placeable there
 
-      same_cells : put s.cell p (near_word len ds to) ≡ put freed.cell p (near_word len ds to)
-      same_cells = sym (ap (λ f. put f p (near_word len ds to)) (put_put s.cell p marked 0) ∙ put_put s.cell p 0 (near_word len ds to))
+      abbrev new : ℕ
+      new = near_word m.dirty len ds to
+
+      same_cells : put s.cell p new ≡ put freed.cell p new
+      same_cells = sym (ap (λ f. put f p new) (put_put s.cell p marked 0) ∙ put_put s.cell p 0 new)
 
       module _ (u : State) (alive : m.dropped ≡ false) (wanted : m.evac ≡ true) (leaves : Leaves (moved s p to) u) where
-        now : moved s p to ≡ with_span (with_written_span s p len ds to (data_at s.word from)) p (near_word len ds to) len to
+        now : moved s p to ≡ with_span (with_written_span s p len ds to (data_at s.word from)) p new len to
         now = moved_is s p len ds from to m x.near alive wanted able.layout (no_copy s x.order.notes.law p from to is_room.next (omega (arith, is_room.fits)))
 
-        own_moved : own_part u ≡ with_object (own_part freed) p len ds to
+        own_moved : own_part u ≡ with_object (own_part freed) m.dirty p len ds to
         own_moved = own_headers (moved s p to) u leaves.0 (λ a begun. leaves.1.headers a (ap (λ (v : State). v.starts a) leaves.0 ∙ begun))
-            ∙ ap own_part now ∙ (λ i. record (own_part (with_span (with_written_span s p len ds to (data_at s.word from)) p (near_word len ds to) len to)) { cell = same_cells i })
-            ∙ own_written freed notes.law p len ds to able (data_at s.word from)
+            ∙ ap own_part now ∙ (λ i. record (own_part (with_span (with_written_span s p len ds to (data_at s.word from)) p new len to)) { cell = same_cells i })
+            ∙ own_written freed notes.law p len ds to able m.dirty (data_at s.word from)
 
-        leads : u ≡ record (with_span (with_written_span s p len ds to (data_at s.word from)) p (near_word len ds to) len to) { word = u.word }
+        leads : u ≡ record (with_span (with_written_span s p len ds to (data_at s.word from)) p new len to) { word = u.word }
         leads = leaves.0 ∙ ap (λ (v : State). record v { word = u.word }) now
 
-        pub carried : (new : Ledger) → Takes left new p (size_of len) to → InOrder u new held is_honest
-        carried new takes = record {
-          notes = subst (λ (v : State). Notes v new) (sym own_moved) (notes_placed (own_part freed) left new notes p len ds to able
-              (law_then (own_part freed) notes.law p len ds to able (put_same (put s.cell p marked) p 0 p refl)) takes);
-          far = subst (λ (v : State). HoldsFar v held) (sym leads) (far_without s held x.order.far p (near_word len ds to) held
-              (λ n d k e. let both : Some (Far n d k) ≡ Some (Near len ds to no_marks) = sym e ∙ read_back (Near len ds to no_marks) able.layout in absurd cc) (λ q ne. refl));
+        pub carried : (after : Ledger) → Takes left after p (size_of len) to → InOrder u after held is_honest
+        carried after takes = record {
+          notes = subst (λ (v : State). Notes v after) (sym own_moved) (notes_placed (own_part freed) left after notes p len ds to able m.dirty
+              (law_then (own_part freed) notes.law p len ds to able refl refl m.dirty ((x.order.notes.law.cleans p).back len ds from m x.near)) takes);
+          far = still_named s u held held x.order.far p new (ap (λ (v : State). v.honest) leads) (ap (λ (v : State). v.cell) leads) (λ q _. ap (λ (v : State). v.stored q) leads) (λ q _. refl)
+              (ap kept_len (read_back (Near len ds to (unmarked m.dirty)) able.layout) ∙ sym (ap kept_len x.near)) refl (ap (λ (v : State). v.stored p) leads);
           honest = λ e. x.order.honest (ap (λ (v : State). v.honest) (sym leads) ∙ e);
         }
 
@@ -145,10 +148,10 @@ module _ {s : State} {ledger : Ledger} {held : ℕ → Option (List ℕ)} {is_ho
     bare_layout = layout_here s p len ds from may fits alive
 
     abbrev bare : ℕ
-    bare = near_word len ds from
+    bare = near_word may.marks.dirty len ds from
 
-    bare_read : read_of bare ≡ Some (Near len ds from no_marks)
-    bare_read = read_back (Near len ds from no_marks) bare_layout
+    bare_read : read_of bare ≡ Some (Near len ds from (unmarked may.marks.dirty))
+    bare_read = read_back (Near len ds from (unmarked may.marks.dirty)) bare_layout
 
     is_bare : stayed s p ≡ seen s p bare
     is_bare = is_stayed s p len ds from may fits alive
@@ -158,7 +161,7 @@ module _ {s : State} {ledger : Ledger} {held : ℕ → Option (List ℕ)} {is_ho
 
     law_bare : Law (own_part (seen s p bare))
     law_bare = subst Law (named_stays (own_part s) p (s.cell p) len ds from may.marks refl may.near (sym (ap is_dropped may.near) ∙ alive) bare_layout may.moved may.unwanted)
-        (keeps (own_part s) (events.Name p (s.cell p) bare) x.order.notes.law (fits, word_fits (Near len ds from no_marks) bare_layout) legal)
+        (keeps (own_part s) (events.Name p (s.cell p) bare) x.order.notes.law (fits, word_fits (Near len ds from (unmarked may.marks.dirty)) bare_layout) legal)
 
     leads_bare : u ≡ record (seen s p bare) { word = u.word }
     leads_bare = leaves.0 ∙ ap (λ (v : State). record v { word = u.word }) is_bare
@@ -169,8 +172,49 @@ module _ {s : State} {ledger : Ledger} {held : ℕ → Option (List ℕ)} {is_ho
     pub kept : InOrder u ledger held is_honest
     kept = record {
       notes = subst (λ (v : State). Notes v ledger) (sym own_stayed)
-          (notes_seen s p bare (λ l at. rw (bare_read, x.near) refl) (near_used bare len ds from no_marks bare_read ∙ sym (near_used (s.cell p) len ds from m x.near)) ledger law_bare x.order.notes);
-      far = subst (λ (v : State). HoldsFar v held) (sym leads_bare) (far_without s held x.order.far p bare held
-          (λ n d k e. let both : Some (Far n d k) ≡ Some (Near len ds from no_marks) = sym e ∙ bare_read in absurd cc) (λ q ne. refl));
+          (notes_seen s p bare (λ l at. rw (bare_read, x.near) refl) (near_used bare len ds from (unmarked may.marks.dirty) bare_read ∙ sym (near_used (s.cell p) len ds from m x.near)) ledger law_bare x.order.notes);
+      far = still_named s u held held x.order.far p bare (ap (λ (v : State). v.honest) leads_bare) (ap (λ (v : State). v.cell) leads_bare) (λ q _. ap (λ (v : State). v.stored q) leads_bare) (λ q _. refl)
+          (ap kept_len bare_read ∙ sym (ap kept_len may.near)) refl (ap (λ (v : State). v.stored p) leads_bare);
       honest = λ e. x.order.honest (ap (λ (v : State). v.honest) (sym leads_bare) ∙ e);
     }
+
+-- ---- by a word that was found meanwhile
+module _ {s : State} {ledger : Ledger} {held : ℕ → Option (List ℕ)} {is_honest : Bool} {p len ds : ℕ} {from : Place} {m : Marks} (x : LiesIn s ledger held is_honest p len ds from m) (u : State) (to : Place) (by : MovedBy s u p to) where
+  abbrev then : State
+  then = seen s p by.word
+
+  abbrev y : IsNearTo (read_of by.word) len ds from m.evac
+  y = near_found (s.cell p) by.word by.found len ds from m x.near
+
+  says : read_of (then.cell p) ≡ Some (Near len ds from y.marks)
+  says = ap read_of (put_same s.cell p by.word p refl) ∙ y.near
+
+  abbrev lies : LiesIn then ledger held is_honest p len ds from y.marks
+  lies = record { order = found_keeps s ledger held is_honest x.order p by.word by.fits by.found; pointer = x.pointer; near = says }
+
+  alive : y.marks.dropped ≡ false
+  alive = drop_of (read_of by.word) len ds from y.marks y.near by.alive
+
+  leaves_as : (b : Bool) → m.evac ≡ b → Leaves (cond b (moved then p to) (stayed then p)) u
+  leaves_as b is = subst (λ (v : State). Leaves v u) (ap (λ c. cond c (moved then p to) (stayed then p)) (ap has_evac says ∙ y.same ∙ is)) by.leaves
+
+  -- what is left of the old span is the same
+  same_freed : (freed x).cell ≡ (freed lies).cell
+  same_freed = put_put s.cell p (marked x) 0 ∙ sym (ap (λ f. put f p 0) (put_put s.cell p by.word (marked lies)) ∙ put_put s.cell p (marked lies) 0)
+
+  pub carried_by : room s (size_of len) false ≡ Some to → (left : Ledger) → Notes (own_part (freed x)) left → m.evac ≡ true → (after : Ledger) → Takes left after p (size_of len) to → InOrder u after held is_honest
+  carried_by found left notes wanted after takes =
+      carried lies to found left (subst (λ (f : ℕ → ℕ). Notes (own_part (record s { cell = f })) left) same_freed notes) u alive (y.same ∙ wanted) (leaves_as true wanted) after takes
+
+  pub kept_by : MayStay s p len ds from → InOrder u ledger held is_honest
+  kept_by may =
+      let unwanted : m.evac ≡ false = evac_of (read_of (s.cell p)) false len ds from m x.near (ap has_evac may.near ∙ may.unwanted) in
+      kept lies u (ap is_dropped (put_same_read) ∙ by.alive) (record {
+        pointer = x.pointer;
+        marks = y.marks;
+        near = says;
+        moved = sym (ap (λ o. (marks_in o).moved) y.near) ∙ by.found.moved (ap (λ o. (marks_in o).moved) may.near ∙ may.moved);
+        unwanted = y.same ∙ unwanted;
+      }) (leaves_as false unwanted) where
+        put_same_read : read_of (then.cell p) ≡ read_of by.word
+        put_same_read = ap read_of (put_same s.cell p by.word p refl)

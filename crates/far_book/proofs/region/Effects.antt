@@ -5,7 +5,7 @@ use Rattle.far_word.specs.declared.pointer.PtrWord.TheVariants.{Near}
 use Rattle.far_word.specs.Pointer.{IsPtr, read_of}
 use Rattle.far_word.specs.Sizes.{size_of}
 use Rattle.far_word.proofs.PointerLaws.{read_back}
-use Rattle.far_core.specs.events.Naming.{is_dropped, no_marks}
+use Rattle.far_core.specs.events.Naming.{is_dropped, no_marks, unmarked}
 use Rattle.far_core.specs.state.Law.{Law}
 use Rattle.far_core.specs.state.State.{State}
 use Rattle.far_core.proofs.NewSpans.{takes_span}
@@ -17,10 +17,10 @@ use Rattle.far_book.proofs.region.Places.{named_is}
 use Rattle.far_book.proofs.region.Retires.{retired_is}
 
 pub is_placed : (s : State) (p len ds : ℕ) (place : Place) → Law s → s.cell p ≡ 0 → IsPtr (Near len ds place no_marks) → place.at ≡ s.tail place.log → IsPlaced s (placed s p len ds place) p len ds place
-is_placed s p len ds place law free layout end = let span = takes_span s law p (near_word len ds place) len place in
+is_placed s p len ds place law free layout end = let span = takes_span s law p (near_word true len ds place) len place in
     subst (λ (t : State). IsPlaced s t p len ds place) (sym (named_is (with_blank_span s p len ds place) p len ds place free layout)) record {
-      cell = ap read_of (put_same s.cell p (near_word len ds place) p refl) ∙ read_back (Near len ds place no_marks) layout;
-      cells = λ q ne. put_other s.cell p (near_word len ds place) q ne;
+      cell = ap read_of (put_same s.cell p (near_word true len ds place) p refl) ∙ read_back (Near len ds place (unmarked true)) layout;
+      cells = λ q ne. put_other s.cell p (near_word true len ds place) q ne;
       header = header s p len ds place (λ _. 0);
       zeros = stands s p len ds place (λ _. 0);
       words = written_outside s p len ds place (λ _. 0);

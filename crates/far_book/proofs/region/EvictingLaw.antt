@@ -35,7 +35,7 @@ pub evicting : EvictingIsLegal
 evicting s p len ds place m law pointer near quiet evac alive =
     let h : IsQuietIn s p len ds place = record { marks = m; near = near; quiet = quiet } in
     let says = (read_says (s.cell p) (Near len ds place m) (law.cells.cell_read p).0 near).0 in
-    let layout : IsPtr (Far len ds no_marks) = (says.0, says.1, says.2, refl) in
+    let layout : IsPtr (Far len ds no_marks) = (says.0, says.1, says.2, refl, refl) in
     let legal = may_name_far s p len ds place h evac layout (ap is_dropped near ∙ alive) pointer in
     let fits : (s.cell p < 2 ^ 64) × (far_word len ds < 2 ^ 64) = ((law.cells.cell_read p).0, word_fits (Far len ds no_marks) layout) in
     let form : naming_of (read_of (s.cell p)) (read_of (far_word len ds)) ≡ Some (naming.Evicts len place) = rw (near, far_says len ds layout) (evicts_form len ds place m alive evac) in

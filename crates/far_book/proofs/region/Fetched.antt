@@ -25,21 +25,23 @@ use Rattle.far_core.specs.state.Spans.{names_place}
 use Rattle.far_core.specs.state.State.{State, put, addr}
 use Rattle.far_core.proofs.Owing.{keeps}
 use Rattle.far_core.proofs.Put.{put_same}
-use Rattle.far_device.specs.Contents.{KeepsOthers}
 use Rattle.far_book.specs.declared.ledger.Ledger.{Ledger}
 use Rattle.far_hand.specs.Finds.{Finds, body_of, marks_in}
 use Rattle.far_hand.specs.Known.{Forgets}
 use Rattle.far_book.specs.book.Effects.{fetched, near_word, with_written_span}
-use Rattle.far_book.specs.book.FarSide.{InOrder}
+use Rattle.far_book.specs.book.FarSide.{InOrder, kept_len}
 use Rattle.far_book.specs.book.Fetching.{IsFetched, far_len, room_for}
 use Rattle.far_book.specs.book.Ledger.{Notes, Takes}
 use Rattle.far_book.specs.book.Own.{own_part}
 use Rattle.far_book.specs.book.Placeable.{Placeable, with_object}
 use Rattle.far_book.specs.book.Renaming.{Renamed, seen}
 use Rattle.far_book.proofs.region.Calls.{put_put}
+use Rattle.far_book.proofs.region.Dirt.{not_dropped}
+use Rattle.far_book.proofs.region.FarHeld.{still_named}
+use Rattle.far_book.proofs.region.Moved.{near_leads}
 use Rattle.far_book.proofs.region.Coming.{far_found, fetched_is, written_outside}
 use Rattle.far_book.proofs.region.Founds.{drop_found}
-use Rattle.far_book.proofs.region.InOrders.{found_keeps, headers_keep, placed_far}
+use Rattle.far_book.proofs.region.InOrders.{found_keeps, headers_keep}
 use Rattle.far_book.proofs.region.Leaving.{far_cell}
 use Rattle.far_book.proofs.region.NotesKept.{notes_placed}
 use Rattle.far_book.proofs.region.Owns.{own_forgets, own_written}
@@ -47,7 +49,7 @@ use Rattle.far_book.proofs.region.Places.{at_end, blank_behind, law_headed, none
 
 -- a far cell is named: the span is taken
 pub named_far : (s : State) (p w len ds : ℕ) (place : Place) (m : Marks) → s.cell p ≡ w → read_of w ≡ Some (Far len ds m) → m.dropped ≡ false → IsPtr (Near len ds place no_marks) →
-    after s (events.Name p w (near_word len ds place)) ≡ with_span s p (near_word len ds place) len place
+    after s (events.Name p w (near_word false len ds place)) ≡ with_span s p (near_word false len ds place) len place
 named_far s p w len ds place m is far alive layout = rw (eq-eqb (s.cell p) w is, far, read_back (Near len ds place no_marks) layout, eq-eqb len len refl, eq-eqb ds ds refl, alive) refl
 
 -- a far cell names no place
@@ -76,9 +78,6 @@ module _ (stored : ℕ → ℕ) (len : ℕ) (is : IsStored stored len) (held : O
   pub given_is : bytes ≡ bytes_of stored len
   given_is = subst (λ o. IfSome o (λ h. bytes ≡ h)) far given
 
-  pub given_long : length bytes ≡ len
-  given_long = ap length given_is ∙ length-bytes_of stored len
-
   pub given_word : (i : ℕ) → i < words_for len → packed_word bytes i ≡ stored i
   given_word i lt = ap (λ b. packed_word b i) given_is ∙ packs_back stored len i (is i lt).0 (is i lt).1
 
@@ -88,12 +87,12 @@ module _ (s : State) (law : Law s) (p len ds : ℕ) (place : Place) (h : Placeab
   headed = record s { word = put s.word (addr place) (head_word p len ds) }
 
   -- where nothing is promised of the far side
-  pub law_come : s.honest ≡ false → Law (with_object s p len ds place)
+  pub law_come : s.honest ≡ false → Law (with_object s false p len ds place)
   law_come unpromised =
       let last : words_for len - 1 < words_for len = omega (arith, h.layout) in
       let some : 0 < 2 ^ (8 * (len - 8 * (words_for len - 1))) = pow_pos (8 * (len - 8 * (words_for len - 1))) in
       subst Law (named_far headed p (s.cell p) len ds place m refl far alive h.layout)
-      (keeps headed (events.Name p (s.cell p) (near_word len ds place)) (law_headed s law p len ds place h) ((law.cells.cell_read p).0, word_fits (Near len ds place no_marks) h.layout) (
+      (keeps headed (events.Name p (s.cell p) (near_word false len ds place)) (law_headed s law p len ds place h) ((law.cells.cell_read p).0, word_fits (Near len ds place no_marks) h.layout) (
         h.pointer,
         (
           naming.Fetches len ds place,
@@ -109,20 +108,20 @@ module _ (s : State) (law : Law s) (p len ds : ℕ) (place : Place) (h : Placeab
 -- ---- the cell is named by the word found last
 module _ (s t : State) (p len ds : ℕ) (place : Place) (row : ℕ → ℕ) (k : Marks) (far : read_of (s.cell p) ≡ Some (Far len ds k)) (alive : k.dropped ≡ false) (layout : IsPtr (Near len ds place no_marks)) where
   abbrev come : State
-  come = with_span (with_written_span s p len ds place row) p (near_word len ds place) len place
+  come = with_span (with_written_span s p len ds place row) p (near_word false len ds place) len place
 
   pub fetched_come : fetched s p place row ≡ come
   fetched_come = fetched_is s p len ds place row k far ∙ named_far (with_written_span s p len ds place row) p (s.cell p) len ds place k refl far alive layout
 
-  module _ (named : Renamed (with_written_span s p len ds place row) t p (near_word len ds place)) where
+  module _ (named : Renamed (with_written_span s p len ds place row) t p (near_word false len ds place)) where
     leads : t ≡ record come { word = t.word }
     leads =
         let word = named.word in
         let now = far_found (s.cell p) word len ds k named.found far in
         let here : (seen (with_written_span s p len ds place row) p word).cell p ≡ word = put_same s.cell p word p refl in
-        let still : now.0.dropped ≡ false = sym (ap is_dropped now.1) ∙ named.alive in
+        let still : now.0.dropped ≡ false = sym (ap is_dropped now.1) ∙ not_dropped (s.cell p) word named.alive in
         let is = named_far (seen (with_written_span s p len ds place row) p word) p word len ds place now.0 here now.1 still layout in
-        named.leads ∙ (λ i. record (is i) { word = t.word }) ∙ (λ i. record come { cell = put_put s.cell p word (near_word len ds place) i; word = t.word })
+        near_leads (with_written_span s p len ds place row) t p false len ds place layout named ∙ (λ i. record (is i) { word = t.word }) ∙ (λ i. record come { cell = put_put s.cell p word (near_word false len ds place) i; word = t.word })
 
     forgot : Forgets come t
     forgot = record { known = named.forgot.known; headers = named.forgot.headers }
@@ -134,15 +133,16 @@ module _ (s t : State) (p len ds : ℕ) (place : Place) (row : ℕ → ℕ) (k :
     come_forgot = subst (λ (u : State). Forgets u t) (sym fetched_come) forgot
 
     module _ (ledger new : Ledger) (held now : ℕ → Option (List ℕ)) (is_honest : Bool) (h : InOrder s ledger held is_honest) (able : Placeable (own_part s) p len ds place)
-        (takes : Takes ledger new p (size_of len) place) (others : KeepsOthers held now p) where
-      own : own_part t ≡ with_object (own_part s) p len ds place
-      own = own_forgets come t leads forgot ∙ own_written s h.notes.law p len ds place able row
+        (takes : Takes ledger new p (size_of len) place) (keys : (q : ℕ) → now q ≡ held q) where
+      own : own_part t ≡ with_object (own_part s) false p len ds place
+      own = own_forgets come t leads forgot ∙ own_written s h.notes.law p len ds place able false row
 
       pub come_in_order : InOrder t new now is_honest
       come_in_order = record {
         notes = subst (λ (u : State). Notes u new) (sym own)
-            (notes_placed (own_part s) ledger new h.notes p len ds place able (law_come (own_part s) h.notes.law p len ds place able k far alive refl) takes);
-        far = placed_far s t p held now len ds place able own h.far others;
+            (notes_placed (own_part s) ledger new h.notes p len ds place able false (law_come (own_part s) h.notes.law p len ds place able k far alive refl) takes);
+        far = still_named s t held now h.far p (near_word false len ds place) (ap (λ (u : State). u.honest) leads) (ap (λ (u : State). u.cell) leads) (λ q _. ap (λ (u : State). u.stored q) leads) (λ q _. keys q)
+            (ap kept_len (read_back (Near len ds place no_marks) layout) ∙ sym (ap kept_len far)) (keys p) (ap (λ (u : State). u.stored p) leads);
         honest = λ e. h.honest (sym (ap (λ (u : State). u.honest) leads) ∙ e);
       }
 
@@ -192,4 +192,4 @@ pub fetched_seen : (s : State) (p w len ds : ℕ) (place : Place) (row : ℕ →
     IsPtr (Near len ds place no_marks) → fetched (seen s p w) p place row ≡ fetched s p place row
 fetched_seen s p w len ds place row m k now alive before was layout =
     fetched_come (seen s p w) s p len ds place row m (ap read_of (put_same s.cell p w p refl) ∙ now) alive layout
-    ∙ (λ i. record (come s s p len ds place row k before was layout) { cell = put_put s.cell p w (near_word len ds place) i }) ∙ sym (fetched_come s s p len ds place row k before was layout)
+    ∙ (λ i. record (come s s p len ds place row k before was layout) { cell = put_put s.cell p w (near_word false len ds place) i }) ∙ sym (fetched_come s s p len ds place row k before was layout)

@@ -23,14 +23,14 @@ use Rattle.far_hand.specs.Known.{Forgets}
 use Rattle.far_book.specs.book.Asking.{HasGiven}
 use Rattle.far_book.specs.book.Dealing.{IsSeen, LeavesSpans}
 use Rattle.far_book.specs.book.Effects.{fetched, near_word, with_written_span}
-use Rattle.far_book.specs.book.FarSide.{InOrder}
+use Rattle.far_book.specs.book.FarSide.{InOrder, kept_len}
 use Rattle.far_book.specs.book.Fetching.{IsFetched, far_len, room_for}
 use Rattle.far_book.specs.book.Own.{own_part}
 use Rattle.far_book.specs.book.Placeable.{Placeable}
 use Rattle.far_book.specs.book.Renaming.{Renamed, seen}
 use Rattle.far_hand.proofs.Finding.{finds_is, finds_more}
 use Rattle.far_book.proofs.region.Calls.{HasRoom, placeable, put_put}
-use Rattle.far_book.proofs.region.Fetched.{come_forgot, come_kept, far_unplaced, fetched_by, fetched_seen, given_long, given_word, known, known_alive, not_asked, room_is, written_below, written_header, written_in_order}
+use Rattle.far_book.proofs.region.Fetched.{come_forgot, come_kept, far_unplaced, fetched_by, fetched_seen, given_word, known, known_alive, not_asked, room_is, written_below, written_header, written_in_order}
 
 -- s0 is the state at the call; in s a word was found in p's cell, which says that p's object is far
 pub record FarFound (s0 s : State) (p word len ds : ℕ) (m : Marks) : Type 0 where
@@ -114,26 +114,27 @@ module _ {s0 s : State} {p word len ds : ℕ} {m : Marks} {ledger : Ledger} {con
   stored : IsStored (s.stored p) len
   stored = h.order.notes.law.cells.cell_far p len ds m (now h.found)
 
-  held : contents p ≡ Some (bytes_of (s.stored p) len)
-  held = h.order.far p len ds m (now h.found)
+  -- bytes of its length are held; where the far side is honest, those that are stored
+  has : (bytes : List ℕ) × (contents p ≡ Some bytes) × (length bytes ≡ len)
+  has = h.order.far.long p len (ap kept_len (now h.found))
+
+  held : s.honest ≡ true → contents p ≡ Some (bytes_of (s.stored p) len)
+  held promised = h.order.far.same promised p len (ap kept_len (now h.found))
 
   -- what the device gave
   module _ (bytes : List ℕ) (given : IfSome (contents p) (λ stored. bytes ≡ stored)) where
     pub as_long : length bytes ≡ len
-    as_long = given_long (s.stored p) len stored (contents p) held bytes given
+    as_long = ap length (subst (λ (o : Option (List ℕ)). IfSome o (λ b. bytes ≡ b)) has.1 given) ∙ has.2
 
-    pub as_stored : (i : ℕ) → i < words_for len → packed_word bytes i ≡ s.stored p i
-    as_stored = given_word (s.stored p) len stored (contents p) held bytes given
+    pub as_stored : s.honest ≡ true → (i : ℕ) → i < words_for len → packed_word bytes i ≡ s.stored p i
+    as_stored promised = given_word (s.stored p) len stored (contents p) (held promised) bytes given
 
   -- whoever has room for the longest object has room for what is held
   pub holds_all : (P : Type 0) (space : ℕ) → LONGEST ≤ space → IfSome (contents p) (λ stored. length stored ≤ space → P) → P
-  holds_all P space most may =
-      let bytes = bytes_of (s.stored p) len in
-      let long : length bytes ≡ len = as_long bytes (subst (λ (o : Option (List ℕ)). IfSome o (λ stored. bytes ≡ stored)) (sym held) refl) in
-      subst (λ (o : Option (List ℕ)). IfSome o (λ stored. length stored ≤ space → P)) held may (omega (arith, long, (layout h.found).1, most))
+  holds_all P space most may = subst (λ (o : Option (List ℕ)). IfSome o (λ stored. length stored ≤ space → P)) has.1 may (omega (arith, has.2, (layout h.found).1, most))
 
   pub is_held : IsSome (contents p)
-  is_held = ap is_some held
+  is_held = ap is_some has.1
 
   module _ (place : Place) (is : o ≡ Some place) where
     pub some_room : IsSome (room_for s0 p)
@@ -178,7 +179,7 @@ module _ {s0 s : State} {p word len ds : ℕ} {m : Marks} {ledger : Ledger} {con
       unread_written t forgot a lt k = subst (λ n. n < 2 ^ 64) (forgot.known a k ∙ same_below a lt) k
 
     -- the cell was named then
-    module _ (bytes : List ℕ) (alive : m.dropped ≡ false) (t : State) (done : Renamed (with_written_span s p len ds place (packed_word bytes)) t p (near_word len ds place)) where
+    module _ (bytes : List ℕ) (alive : m.dropped ≡ false) (t : State) (done : Renamed (with_written_span s p len ds place (packed_word bytes)) t p (near_word false len ds place)) where
       as_seen : fetched s p place (packed_word bytes) ≡ fetched s0 p place (packed_word bytes)
       as_seen =
           let x = h.found in

@@ -19,6 +19,8 @@ use Rattle.far_core.proofs.Cells as cells
 use Rattle.far_core.proofs.Frames.{law_with_cell_marks}
 use Rattle.far_core.proofs.Put.{put_both, put_old}
 use Rattle.far_book.specs.declared.ledger.Ledger.{Ledger}
+use Rattle.far_core.specs.state.Law.{is_dirty}
+use Rattle.far_book.proofs.region.Dirt.{up_by}
 use Rattle.far_hand.specs.Finds.{Finds, body_of, marks_in}
 use Rattle.far_book.specs.book.Ledger.{Notes}
 use Rattle.far_book.specs.book.Home.{home_of}
@@ -116,13 +118,14 @@ module _ (s : State) (law : Law (own_part s)) (p w : ℕ) (fits : w < 2 ^ 64) (f
   remarked = record {
     same = sym (same_body (read_of w)) ∙ ap cells.body f.body ∙ same_body (read_of (s.cell p));
     kept = λ alive. false_from_ne_true (cells.is_dropped (read_of (s.cell p))) (λ h. true≢false (sym (drop_found (s.cell p) w f h) ∙ alive));
+    clean = λ none. false_from_ne_true (is_dirty (read_of (s.cell p))) (λ h. true≢false (sym (up_by (read_of (s.cell p)) (read_of w) f.body f.dirty h) ∙ none));
   }
 
   -- EVAC is the book's, so it is found as it was known
   evac : HasEvac s.round (read_of w)
   evac len ds place m e inside = let x = near_known (s.cell p) w f len ds place m e in sym x.same ∙ law.rounds.round_evac p len ds place x.marks x.near inside
 
-  law_found : Law (own_part record s { cell = put s.cell p w })
+  pub law_found : Law (own_part record s { cell = put s.cell p w })
   law_found = elim (cases_eq (s.cell p) 0) [
     | inl e ↦ subst (λ (cell : ℕ → ℕ). Law record (own_part s) { cell = cell }) (sym (put_old s.cell p w (e ∙ sym (free_found (s.cell p) w f e)))) law
     | inr ne ↦ law_with_cell_marks (own_part s) law p w fits remarked evac ne (λ place h. absurd cc) (λ h. absurd (false≢true h))

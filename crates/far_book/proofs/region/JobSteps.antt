@@ -187,7 +187,7 @@ module _ (s : State) (law : Law (own_part s)) where
 -- ---- so the book stays in order
 module _ (s : State) (ledger : Ledger) (held : ℕ → Option (List ℕ)) (is_honest : Bool) (h : InOrder s ledger held is_honest) (j : ℕ) (low : j < JOBS) where
   pub job_keeps : (w : ℕ) → w < 2 ^ 64 → FindsJob (s.copying.word j) w → InOrder (job_found s j w) ledger held is_honest
-  job_keeps w fits finds = record { notes = notes_found_job s h.notes.law j w low fits finds ledger h.notes; far = h.far; honest = h.honest }
+  job_keeps w fits finds = record { notes = notes_found_job s h.notes.law j w low fits finds ledger h.notes; far = record { long = h.far.long; same = h.far.same }; honest = h.honest }
 
   pub emptied_keeps : (jobs : Jobs) → is_loose (job_of (s.copying.word j)) ≡ true → WritesJob ledger.jobs jobs j None → InOrder (collected s j) (record ledger { jobs = jobs }) held is_honest
-  emptied_keeps jobs loose writes = record { notes = notes_emptied s h.notes.law j low loose ledger jobs writes h.notes; far = h.far; honest = h.honest }
+  emptied_keeps jobs loose writes = record { notes = notes_emptied s h.notes.law j low loose ledger jobs writes h.notes; far = record { long = h.far.long; same = h.far.same }; honest = h.honest }

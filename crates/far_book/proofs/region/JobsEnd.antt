@@ -14,14 +14,14 @@ use Rattle.far_word.specs.Job.{IsJob, job_of, job_word}
 use Rattle.far_word.specs.Pointer.{IsPtr, read_of}
 use Rattle.far_word.specs.Sizes.{size_of}
 use Rattle.far_word.proofs.JobLaws.{job_back, job_fits, job_says}
-use Rattle.far_word.proofs.PointerLaws.{read_says}
+use Rattle.far_word.proofs.PointerLaws.{read_back, read_says}
 use Rattle.far_core.specs.declared.event.Kind.TheVariants.{Open}
 use Rattle.far_core.specs.declared.naming.Naming.{Naming}
 use Rattle.far_core.specs.declared.naming.Naming.TheVariants.{Places, Retires, Evicts, Stays, Moves, Fetches}
 use Rattle.far_core.specs.events.Collect.{collected}
 use Rattle.far_core.specs.events.Copied.{copied_job, with_named}
 use Rattle.far_core.specs.events.Name.{after_naming}
-use Rattle.far_core.specs.events.Naming.{is_dropped, naming_of}
+use Rattle.far_core.specs.events.Naming.{is_dropped, naming_of, unmarked}
 use Rattle.far_core.specs.events.namings.Moves.{after_move}
 use Rattle.far_core.specs.events.Offer as core
 use Rattle.far_core.specs.events.Offer.{after_offer}
@@ -50,7 +50,7 @@ use Rattle.far_book.specs.book.Renaming.{seen}
 use Rattle.far_book.proofs.region.Founds.{drop_found, names_found}
 use Rattle.far_book.proofs.region.HavingJobs.{place_is}
 use Rattle.far_book.proofs.region.JobSteps.{law_found}
-use Rattle.far_book.proofs.region.NamingCopies.{new_read, told}
+use Rattle.far_book.proofs.region.NamingCopies.{found, layout, told}
 use Rattle.far_book.proofs.region.Offers.{goal_is}
 use Rattle.far_book.proofs.region.Untaken.{same_jobs}
 
@@ -71,7 +71,7 @@ by_form s p new (Some (Fetches len ds place)) = refl
 by_cell : (s : State) (p : ℕ) (to : Place) (o : Option PtrWord) → (named_of s p to o).copying.word ≡ s.copying.word
 by_cell s p to None = refl
 by_cell s p to (Some Free) = refl
-by_cell s p to (Some (Near len ds from m)) = rw (eq-eqb (s.cell p) (s.cell p) refl) (by_form s p (near_word len ds to) (naming_of (read_of (s.cell p)) (read_of (near_word len ds to))))
+by_cell s p to (Some (Near len ds from m)) = rw (eq-eqb (s.cell p) (s.cell p) refl) (by_form s p (near_word m.dirty len ds to) (naming_of (read_of (s.cell p)) (read_of (near_word m.dirty len ds to))))
 by_cell s p to (Some (Far len ds m)) = refl
 
 -- ---- collecting one job
@@ -218,13 +218,16 @@ module _ (s t : State) (j : ℕ) (job : Job) (law : Law (own_part s)) (at : job_
   may : MayBeNamed u j job (s.cell job.pointer)
   may = record { number = low; copier = way.1; finished = ap job_of (put_same s.copying.word j h.word j refl) ∙ says; good = stood.0; found = refl; lies = lay; alive = alive }
 
-  named_now : named (seen u job.pointer h.cell) job.pointer job.to ≡ with_named (seen u job.pointer h.cell) job.pointer (near_word near.0 near.1 job.to) j
+  abbrev dirty : Bool
+  dirty = (found u law_u j job (s.cell job.pointer) near.0 near.1 job.from near.2 may near.3 h.cell h.sees way.4).0.dirty
+
+  named_now : named (seen u job.pointer h.cell) job.pointer job.to ≡ with_named (seen u job.pointer h.cell) job.pointer (near_word dirty near.0 near.1 job.to) j
   named_now = told u law_u j job (s.cell job.pointer) near.0 near.1 job.from near.2 may near.3 h.cell h.sees way.4
 
   is_names : fate_in s j job h.word h.cell ≡ fate.Names
   is_names = ap (λ o. fate_of o (is_void s j job (read_of h.cell)) (is_dropped (read_of h.cell))) says ∙ ap (λ b. cond (b || is_dropped (read_of h.cell)) fate.Empties fate.Names) way.3 ∙ ap (λ b. cond b fate.Empties fate.Names) way.4
 
-  leads : t ≡ record (collected (with_named (seen u job.pointer h.cell) job.pointer (near_word near.0 near.1 job.to) j) j) { word = t.word }
+  leads : t ≡ record (collected (with_named (seen u job.pointer h.cell) job.pointer (near_word dirty near.0 near.1 job.to) j) j) { word = t.word }
   leads = h.leads ∙ ap (λ f. record (made_of (found_so s j job h.word h.cell) j job f) { word = t.word }) is_names ∙ ap (λ (x : State). record (collected x j) { word = t.word }) named_now
 
   pub copy_named : IsCopyNamed s t j job
@@ -239,8 +242,9 @@ module _ (s t : State) (j : ℕ) (job : Job) (law : Law (own_part s)) (at : job_
     lies = (
       near.0,
       near.1,
-      ap (λ (x : State). read_of (x.cell job.pointer)) leads ∙ ap read_of (put_same (seen u job.pointer h.cell).cell job.pointer (near_word near.0 near.1 job.to) job.pointer refl)
-          ∙ new_read u law_u j job (s.cell job.pointer) near.0 near.1 job.from near.2 may near.3,
+      dirty,
+      ap (λ (x : State). read_of (x.cell job.pointer)) leads ∙ ap read_of (put_same (seen u job.pointer h.cell).cell job.pointer (near_word dirty near.0 near.1 job.to) job.pointer refl)
+          ∙ read_back (Near near.0 near.1 job.to (unmarked dirty)) (layout u law_u j job (s.cell job.pointer) near.0 near.1 job.from near.2 may near.3),
     );
     empty = ap (λ (x : State). x.copying.word j) leads ∙ put_same u.copying.word j 0 j refl;
   }
@@ -262,20 +266,20 @@ module _ (s t : State) (p : ℕ) (law : Law (own_part s)) (clear : IsClearNear s
   leads_to : t ≡ record (core.offered (with_ends (seen s p o.word) p clear.0 clear.1 o.to) o.job clear.0 job) { word = t.word }
   leads_to = o.leads ∙ ap (λ (x : State). record x { word = t.word }) made
 
-  layout : IsPtr (Near clear.0 clear.1 clear.2 clear.3)
-  layout = (read_says (s.cell p) (Near clear.0 clear.1 clear.2 clear.3) (law.cells.cell_read p).0 clear.4).0
+  here_layout : IsPtr (Near clear.0 clear.1 clear.2 clear.3)
+  here_layout = (read_says (s.cell p) (Near clear.0 clear.1 clear.2 clear.3) (law.cells.cell_read p).0 clear.4).0
 
-  found : room s (size_of clear.0) false ≡ Some o.to
-  found = sym (goal_is s p clear (s.cell p) clear.0 clear.1 clear.2 clear.3 (finds_same (s.cell p)) clear.4) ∙ o.place
+  here_room : room s (size_of clear.0) false ≡ Some o.to
+  here_room = sym (goal_is s p clear (s.cell p) clear.0 clear.1 clear.2 clear.3 (finds_same (s.cell p)) clear.4) ∙ o.place
 
   is_room : IsRoom (own_part s) (size_of clear.0) false o.to
-  is_room = subst (RoomIs (own_part s) (size_of clear.0) false) found (room_right (own_part s) law (size_of clear.0) false (omega (arith, layout)))
+  is_room = subst (RoomIs (own_part s) (size_of clear.0) false) here_room (room_right (own_part s) law (size_of clear.0) false (omega (arith, here_layout)))
 
   pointer : p < CELLS * s.mutators
   pointer = law.cells.cell_range p (λ z. let odd = sym clear.4 ∙ ap read_of z ∙ unused in absurd cc)
 
   on_layout : IsJob job
-  on_layout = record { cell = omega (arith, pointer, law.shape.few_mutators); from = (omega (arith, layout), omega (arith, layout)); to = (omega (arith, is_room.next.0, law.shape.few_logs), omega (arith, is_room.fits, layout)) }
+  on_layout = record { cell = omega (arith, pointer, law.shape.few_mutators); from = (omega (arith, here_layout), omega (arith, here_layout)); to = (omega (arith, is_room.next.0, law.shape.few_logs), omega (arith, is_room.fits, here_layout)) }
 
   pub is_offered : IsOffered s t p o.job o.to
   is_offered = record {

@@ -13,11 +13,11 @@ use Rattle.far_core.proofs.Owing.{keeps}
 use Rattle.far_core.proofs.Put.{put_same}
 use Rattle.far_book.specs.declared.ledger.Ledger.{Ledger}
 use Rattle.far_hand.specs.Finds.{Finds}
-use Rattle.far_book.specs.book.FarSide.{InOrder}
+use Rattle.far_book.specs.book.FarSide.{InOrder, kept_len}
 use Rattle.far_book.specs.book.Own.{own_part}
 use Rattle.far_hand.proofs.EvacMarks.{with_evac}
 use Rattle.far_book.proofs.region.Calls.{put_put}
-use Rattle.far_book.proofs.region.FarSide.{far_without}
+use Rattle.far_book.proofs.region.FarHeld.{still_named}
 use Rattle.far_hand.proofs.Finding.{near_found}
 use Rattle.far_book.proofs.region.Founds.{near_used, notes_seen}
 use Rattle.far_book.proofs.region.InOrders.{found_keeps}
@@ -34,7 +34,7 @@ module _ (s : State) (ledger : Ledger) (held : ℕ → Option (List ℕ)) (is_ho
     notes = notes_seen s p (with_evac (s.cell p)) same_names
         (near_used (with_evac (s.cell p)) legal.1.0 legal.1.1 legal.1.2 (marks_with Evac legal.1.3) near ∙ sym (near_used (s.cell p) legal.1.0 legal.1.1 legal.1.2 legal.1.3 legal.1.4))
         ledger (keeps (own_part s) (Mark p) h.notes.law tt legal) h.notes;
-    far = far_without s held h.far p (with_evac (s.cell p)) held (λ n d m e. let both : Some (Far n d m) ≡ Some (Near legal.1.0 legal.1.1 legal.1.2 (marks_with Evac legal.1.3)) = sym e ∙ near in absurd cc) (λ q ne. refl);
+    far = still_named s (record s { cell = put s.cell p (with_evac (s.cell p)) }) held held h.far p (with_evac (s.cell p)) refl refl (λ q _. refl) (λ q _. refl) (ap kept_len near ∙ sym (ap kept_len legal.1.4)) refl refl;
     honest = h.honest;
   }
 

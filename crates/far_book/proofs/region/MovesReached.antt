@@ -12,9 +12,9 @@ use Rattle.far_core.specs.declared.event.Event.TheVariants as events
 use Rattle.far_core.specs.declared.naming.Naming.TheVariants as naming
 use Rattle.far_core.specs.events.Copies.{data_at}
 use Rattle.far_core.specs.events.Legal.{Legal}
-use Rattle.far_core.specs.events.Naming.{is_dropped, naming_of, no_marks}
+use Rattle.far_core.specs.events.Naming.{is_dropped, naming_of, no_marks, unmarked}
 use Rattle.far_core.specs.laws.Rooms.{IsRoom, RoomIs}
-use Rattle.far_core.specs.state.Law.{Law, head_len}
+use Rattle.far_core.specs.state.Law.{Law, head_len, is_dirty}
 use Rattle.far_core.specs.state.Room.{room}
 use Rattle.far_core.specs.state.State.{State, addr}
 use Rattle.far_core.specs.world.Changes.{Step, Moves, Unmarks}
@@ -89,19 +89,19 @@ module _ (s : State) (law : Law s) (p len ds : ℕ) (from to : Place) (m : Marks
   }
 
   abbrev new : ℕ
-  new = near_word len ds to
+  new = near_word m.dirty len ds to
 
   abbrev name : Event
   name = events.Name p (s.cell p) new
 
   legal : Legal written name
-  legal = subst (λ (t : State). Legal t name) (λ i. record written { cell = put_old s.cell p (s.cell p) refl i })
-      (may_rename s written p len ds from to may copied (ap has_evac near ∙ wanted) (ap is_dropped near ∙ alive) (s.cell p) (law.cells.cell_read p).0 (finds_same (s.cell p)) (ap is_dropped near ∙ alive)).0
+  legal = subst (λ b. Legal written (events.Name p (s.cell p) (near_word b len ds to))) (ap is_dirty near) (subst (λ (t : State). Legal t (events.Name p (s.cell p) (near_word (is_dirty (read_of (s.cell p))) len ds to))) (λ i. record written { cell = put_old s.cell p (s.cell p) refl i })
+      (may_rename s written p len ds from to may copied (ap has_evac near ∙ wanted) (ap is_dropped near ∙ alive) (s.cell p) (law.cells.cell_read p).0 (finds_same (s.cell p)) (ap is_dropped near ∙ alive)).0)
 
   is_moved : IsMoved s (moved s p to) p len ds from to
   is_moved = let span = takes_span s law p new len to in
       subst (λ (t : State). IsMoved s t p len ds from to) (sym (moved_is s p len ds from to m near alive wanted layout uncopied)) record {
-        cell = ap read_of (put_same s.cell p new p refl) ∙ read_back (Near len ds to no_marks) layout;
+        cell = ap read_of (put_same s.cell p new p refl) ∙ read_back (Near len ds to (unmarked m.dirty)) layout ∙ ap (λ b. Some (Near len ds to (unmarked b))) (sym (ap is_dirty near));
         cells = λ q ne. put_other s.cell p new q ne;
         header = first s p len ds from to may;
         copy = word_there;
@@ -119,8 +119,8 @@ module _ (s : State) (law : Law s) (p len ds : ℕ) (from to : Place) (m : Marks
   pub moving_all : Reached s (moved s p to) × Law (moved s p to) × Step (Moves p to.log) (world_of s) (world_of (moved s p to)) × IsMoved s (moved s p to) p len ds from to
   moving_all =
       let form : naming_of (read_of (s.cell p)) (read_of new) ≡ Some (naming.Moves len ds from to) =
-      naming_only (naming.Moves len ds from to) (read_of (s.cell p)) (read_of new) ((m, near, alive, no_stay from to m wanted), read_back (Near len ds to no_marks) layout) in
-      let fits : (s.cell p < 2 ^ 64) × (new < 2 ^ 64) = ((law.cells.cell_read p).0, word_fits (Near len ds to no_marks) layout) in
+      naming_only (naming.Moves len ds from to) (read_of (s.cell p)) (read_of new) ((m, near, alive, no_stay from to m wanted), read_back (Near len ds to (unmarked m.dirty)) layout) in
+      let fits : (s.cell p < 2 ^ 64) × (new < 2 ^ 64) = ((law.cells.cell_read p).0, word_fits (Near len ds to (unmarked m.dirty)) layout) in
       let all = written_named s law p len ds to row (head s p len ds from to may) is_room.next is_room.fits (λ k lt. law.spans.word_fits (addr from + 1 + k)) (s.cell p) new (naming.Moves len ds from to) refl form fits legal in
       let is = sym (ap (moved_of s p to) near) in
       (subst (Reached s) is all.0, subst Law is all.1, subst (λ (t : State). Step (Moves p to.log) (world_of s) (world_of t)) is all.2, is_moved)
@@ -140,28 +140,28 @@ module _ (s : State) (law : Law s) (p len ds : ℕ) (place : Place) (m : Marks) 
   bare_layout = (omega (arith, says_here.0), omega (arith, says_here.0), omega (arith, says_here.0), omega (arith, says_here.0), omega (arith, says_here.0))
 
   abbrev bare : ℕ
-  bare = near_word len ds place
+  bare = near_word m.dirty len ds place
 
   abbrev unmark : Event
   unmark = events.Name p (s.cell p) bare
 
   unmark_fits : (s.cell p < 2 ^ 64) × (bare < 2 ^ 64)
-  unmark_fits = ((law.cells.cell_read p).0, word_fits (Near len ds place no_marks) bare_layout)
+  unmark_fits = ((law.cells.cell_read p).0, word_fits (Near len ds place (unmarked m.dirty)) bare_layout)
 
   unmark_legal : Legal s unmark
-  unmark_legal = (pointer_here, (naming.Stays, (len, ds, place, m, near, alive, asked, unwanted, read_back (Near len ds place no_marks) bare_layout), tt))
+  unmark_legal = (pointer_here, (naming.Stays, (len, ds, place, m, near, alive, asked, unwanted, read_back (Near len ds place (unmarked m.dirty)) bare_layout), tt))
 
   staying_all : Reached s (stayed s p) × Law (stayed s p) × Step (Unmarks p) (world_of s) (world_of (stayed s p)) × IsUnmarked s (stayed s p) p len ds place
   staying_all =
       let form : naming_of (read_of (s.cell p)) (read_of bare) ≡ Some naming.Stays =
-      naming_only naming.Stays (read_of (s.cell p)) (read_of bare) (len, ds, place, m, near, alive, asked, unwanted, read_back (Near len ds place no_marks) bare_layout) in
+      naming_only naming.Stays (read_of (s.cell p)) (read_of bare) (len, ds, place, m, near, alive, asked, unwanted, read_back (Near len ds place (unmarked m.dirty)) bare_layout) in
       let all = named s law p (s.cell p) bare naming.Stays refl form unmark_fits unmark_legal in
       let is = sym (ap (stayed_of s p) near) in (
         subst (Reached s) is all.0,
         subst Law is all.1,
         subst (λ (t : State). Step (Unmarks p) (world_of s) (world_of t)) is all.2,
         subst (λ (t : State). IsUnmarked s t p len ds place) (sym (stayed_is s p len ds place m near alive asked unwanted bare_layout)) record {
-          cell = ap read_of (put_same s.cell p bare p refl) ∙ read_back (Near len ds place no_marks) bare_layout;
+          cell = ap read_of (put_same s.cell p bare p refl) ∙ read_back (Near len ds place (unmarked m.dirty)) bare_layout ∙ ap (λ b. Some (Near len ds place (unmarked b))) (sym (ap is_dirty near));
           cells = λ q ne. put_other s.cell p bare q ne;
           words = λ a. refl;
           tails = λ l. refl;

@@ -9,7 +9,7 @@ use Rattle.far_word.specs.declared.job.JobWord.TheVariants.{Finished}
 use Rattle.far_word.specs.declared.mark.Marks.{Marks}
 use Rattle.far_word.specs.declared.pointer.Place.{Place}
 use Rattle.far_word.specs.declared.pointer.PtrWord.{PtrWord}
-use Rattle.far_word.specs.declared.pointer.PtrWord.TheVariants.{Near, Far}
+use Rattle.far_word.specs.declared.pointer.PtrWord.TheVariants.{Near}
 use Rattle.far_word.specs.declared.sizes.TheConstants.{CELLS, LOG_WORDS}
 use Rattle.far_word.specs.Job.{job_of}
 use Rattle.far_word.specs.Pointer.{IsPtr, read_of}
@@ -19,12 +19,12 @@ use Rattle.far_core.specs.declared.event.Event.TheVariants as events
 use Rattle.far_core.specs.declared.naming.Naming.TheVariants.{Moves}
 use Rattle.far_core.specs.events.Copied.{IsCopied, copied_job, with_named}
 use Rattle.far_core.specs.events.Name.{after_naming}
-use Rattle.far_core.specs.events.Naming.{is_dropped, no_marks}
+use Rattle.far_core.specs.events.Naming.{is_dropped, no_marks, unmarked}
 use Rattle.far_core.specs.events.namings.Moves.{after_move}
 use Rattle.far_core.specs.events.Step.{after}
 use Rattle.far_core.specs.laws.Observed.{live_bytes}
 use Rattle.far_core.specs.state.Jobs.{job_at, job_said, near_place}
-use Rattle.far_core.specs.state.Law.{Law, head_len}
+use Rattle.far_core.specs.state.Law.{Law, head_len, is_dirty}
 use Rattle.far_core.specs.state.Spans.{names_place, spans_of}
 use Rattle.far_core.specs.state.State.{State, addr}
 use Rattle.far_core.proofs.Bounds.{span_len}
@@ -35,23 +35,25 @@ use Rattle.far_core.proofs.Namings.{naming_only}
 use Rattle.far_core.proofs.Put.{put_both, put_same}
 use Rattle.far_hand.specs.Finds.{Finds}
 use Rattle.far_hand.specs.Known.{Forgets}
-use Rattle.far_hand.proofs.Finding.{near_found}
+use Rattle.far_hand.proofs.Finding.{IsNearTo, finds_more, near_found}
 use Rattle.far_book.specs.declared.ledger.Filled.{Filled}
 use Rattle.far_book.specs.declared.ledger.Ledger.{Ledger}
 use Rattle.far_book.specs.book.Collecting.{IsNamed, MayBeNamed, named, named_of}
 use Rattle.far_book.specs.book.Effects.{near_word, with_free_cell}
-use Rattle.far_book.specs.book.FarSide.{HoldsFar, InOrder}
+use Rattle.far_book.specs.book.FarSide.{HoldsFar, InOrder, kept_len}
 use Rattle.far_book.specs.book.Jobs.{NotesJobs}
 use Rattle.far_book.specs.book.Ledger.{Notes, Passes, filled_of, is_noted_free}
 use Rattle.far_book.specs.book.NumberSet.{has}
 use Rattle.far_book.specs.book.Own.{own_part}
-use Rattle.far_book.specs.book.Renaming.{MayRename, Renamed, seen}
+use Rattle.far_book.specs.book.Renaming.{MayRenameNear, Renamed, RenamedNear, seen}
 use Rattle.far_book.proofs.region.Calls.{put_put}
-use Rattle.far_book.proofs.region.FarSide.{far_without}
+use Rattle.far_book.proofs.region.Dirt.{not_dropped, same_dirt}
+use Rattle.far_book.proofs.region.FarHeld.{still_named}
 use Rattle.far_book.proofs.region.Founds.{near_used}
 use Rattle.far_book.proofs.region.HavingJobs.{place_is}
+use Rattle.far_book.proofs.region.InOrders.{found_keeps}
 use Rattle.far_book.proofs.region.JobNotes.{job_pointer}
-use Rattle.far_book.proofs.region.Moved.{drop_of, no_stay, not_to_near}
+use Rattle.far_book.proofs.region.Moved.{drop_of, near_leads, no_stay, not_to_near}
 use Rattle.far_book.proofs.region.Notings.{live_small}
 use Rattle.far_book.proofs.region.Owns.{own_forgets}
 use Rattle.far_book.proofs.region.Retires as retires
@@ -71,7 +73,7 @@ module _ (s : State) (law : Law (own_part s)) (j : ℕ) (job : Job) (cell len ds
   p = job.pointer
 
   abbrev new : ℕ
-  new = near_word len ds job.to
+  new = near_word m.dirty len ds job.to
 
   near : read_of (s.cell p) ≡ Some (Near len ds job.from m)
   near = ap read_of (sym may.found) ∙ at_place len ds place job.from m (read_of cell) says may.lies
@@ -118,8 +120,8 @@ module _ (s : State) (law : Law (own_part s)) (j : ℕ) (job : Job) (cell len ds
       let here : addr job.to % LOG_WORDS ≡ job.to.at = omega (arith, bounds) in
       (omega (arith, layout_from), omega (arith, layout_from), omega (arith, layout_from), omega (arith, stands, law.shape.few_logs), omega (arith, span.fits, sized, here, law.logs.tail_end (addr job.to / LOG_WORDS)))
 
-  pub new_read : read_of new ≡ Some (Near len ds job.to no_marks)
-  new_read = read_back (Near len ds job.to no_marks) layout
+  pub new_read : read_of new ≡ Some (Near len ds job.to (unmarked m.dirty))
+  new_read = read_back (Near len ds job.to (unmarked m.dirty)) layout
 
   -- ---- by a word that is found
   module _ (w : ℕ) (f : Finds (s.cell p) w) (kept : is_dropped (read_of w) ≡ false) where
@@ -129,7 +131,7 @@ module _ (s : State) (law : Law (own_part s)) (j : ℕ) (job : Job) (cell len ds
     here : u.cell p ≡ w
     here = put_same s.cell p w p refl
 
-    found : (k : Marks) × (read_of w ≡ Some (Near len ds job.from k)) × (k.dropped ≡ false) × (k.evac ≡ true)
+    pub found : (k : Marks) × (read_of w ≡ Some (Near len ds job.from k)) × (k.dropped ≡ false) × (k.evac ≡ true)
     found = let x = near_found (s.cell p) w f len ds job.from m near in (x.marks, x.near, drop_of (read_of w) len ds job.from x.marks x.near kept, x.same ∙ wanted)
 
     copied_here : IsCopied u p job.from job.to j may.copier
@@ -145,33 +147,47 @@ module _ (s : State) (law : Law (own_part s)) (j : ℕ) (job : Job) (cell len ds
           let other : job_at o.copying.word i ≡ Some job = ap job_said (ap job_of (finished_kept (s.copying.word i) job x.0 x.1.finished) ∙ x.1.finished) in
           ap (λ n. Some n) (law.copies.jobs.targets_differ i j job job other (ap job_said says_own) refl)
 
-    named_is : after u (events.Name p w new) ≡ with_named u p new j
+    -- with DIRTY as it was found
+    abbrev pub fresh : ℕ
+    fresh = near_word found.0.dirty len ds job.to
+
+    named_is : after u (events.Name p w fresh) ≡ with_named u p fresh j
     named_is = rw (eq-eqb (u.cell p) w here)
-        (ap (after_naming u p new) (naming_only (Moves len ds job.from job.to) (read_of w) (read_of new) ((found.0, found.1, found.2, no_stay job.from job.to found.0 found.3), new_read)) ∙ ap (after_move u p new len job.to) only)
+        (ap (after_naming u p fresh) (naming_only (Moves len ds job.from job.to) (read_of w) (read_of fresh) ((found.0, found.1, found.2, no_stay job.from job.to found.0 found.3), read_back (Near len ds job.to (unmarked found.0.dirty)) layout)) ∙ ap (after_move u p fresh len job.to) only)
 
     -- the same as the state that is told of
-    pub told : named u p job.to ≡ with_named u p new j
-    told = ap (named_of u p job.to) (ap read_of here ∙ found.1) ∙ ap (λ v. after u (events.Name p v new)) here ∙ named_is
+    pub told : named u p job.to ≡ with_named u p fresh j
+    told = ap (named_of u p job.to) (ap read_of here ∙ found.1) ∙ ap (λ v. after u (events.Name p v fresh)) here ∙ named_is
 
-  pub may_rename : MayRename s p new
+  pub may_rename : MayRenameNear s p len ds job.to
   may_rename w fits f kept =
-      let x = found w f kept in (
-        (pointer, (Moves len ds job.from job.to, ((x.0, x.1, x.2, no_stay job.from job.to x.0 x.3), new_read), inr (j, may.copier, copied_here w f kept))),
-        λ n at y i lt. absurd (not_to_near w len ds n job.to at layout y),
+      let x = found w f kept in
+      let says_new = read_back (Near len ds job.to (unmarked (is_dirty (read_of w)))) layout ∙ ap (λ b. Some (Near len ds job.to (unmarked b))) (ap is_dirty x.1) in (
+        (pointer, (Moves len ds job.from job.to, ((x.0, x.1, x.2, no_stay job.from job.to x.0 x.3), says_new), inr (j, may.copier, copied_here w f kept))),
+        λ n at y none i lt. absurd (not_to_near (is_dirty (read_of w)) w len ds n job.to at layout y),
       )
 
   -- ---- once it is named
   module _ (t : State) (r : Renamed s t p new) where
+    kept : is_dropped (read_of r.word) ≡ false
+    kept = not_dropped (s.cell p) r.word r.alive
+
+    same_word : new ≡ fresh r.word r.found kept
+    same_word = ap (λ b. near_word b len ds job.to) (sym (ap is_dirty near) ∙ sym (same_dirt (s.cell p) r.word r.found r.alive) ∙ ap is_dirty (found r.word r.found kept).1)
+
     leads : t ≡ record (with_named (seen s p r.word) p new j) { word = t.word }
-    leads = r.leads ∙ ap (λ (x : State). record x { word = t.word }) (named_is r.word r.found r.alive)
+    leads = near_leads s t p m.dirty len ds job.to layout r
+        ∙ ap (λ v. record (after (seen s p r.word) (events.Name p r.word v)) { word = t.word }) same_word
+        ∙ ap (λ (x : State). record x { word = t.word }) (named_is r.word r.found kept)
+        ∙ ap (λ v. record (with_named (seen s p r.word) p v j) { word = t.word }) (sym same_word)
 
     pub is_named : IsNamed s t job
     is_named =
-        let is = sym (told r.word r.found r.alive) in
+        let is = ap (λ v. with_named (seen s p r.word) p v j) same_word ∙ sym (told r.word r.found kept) in
         record {
           cell = r.word;
           sees = r.found;
-          alive = r.alive;
+          alive = kept;
           leads = leads ∙ ap (λ (x : State). record x { word = t.word }) is;
           forgot = subst (λ (x : State). Forgets x t) is (record { known = r.forgot.known; headers = r.forgot.headers });
         }
@@ -187,7 +203,7 @@ module _ (s : State) (law : Law (own_part s)) (j : ℕ) (job : Job) (cell len ds
     own_now = own_forgets (with_named (seen s p r.word) p new j) t leads (record { known = r.forgot.known; headers = r.forgot.headers }) ∙ (λ i. record now { cell = put_put s.cell p r.word new i })
 
     law_now : Law now
-    law_now = keeps_named o law p new len ds job.from job.to m j may.copier copied near alive new_read (word_fits (Near len ds job.to no_marks) layout) pointer
+    law_now = keeps_named o law p new len ds job.from job.to m j may.copier copied near alive new_read (word_fits (Near len ds job.to (unmarked m.dirty)) layout) pointer
 
     freed_same : (l : ℕ) → live_bytes (with_free_cell now p) l ≡ live_bytes (with_free_cell o p) l
     unfolding spans_of
@@ -202,18 +218,18 @@ module _ (s : State) (law : Law (own_part s)) (j : ℕ) (job : Job) (cell len ds
         | inl same ↦ (let mine : (filled_of ledger job.from.log).live ≡ live_bytes o job.from.log = notes.lives job.from.log in_from in
             let old = retires.live_here o law p len ds job.from m near in
             let other = freed_same job.from.log in
-            let there = retires.live_there now law_now p len ds job.to no_marks (ap read_of (put_same s.cell p new p refl) ∙ new_read) job.from.log apart in
+            let there = retires.live_there now law_now p len ds job.to (unmarked m.dirty) (ap read_of (put_same s.cell p new p refl) ∙ new_read) job.from.log apart in
             let here : (filled_of after job.from.log).live ≡ live_bytes now job.from.log = omega (arith, passes.less, mine, old, other, there) in
             subst (λ k. (filled_of after k).live ≡ live_bytes now k) (sym same) here)
         | inr ne ↦ elim (cases_eq l job.to.log) [
           | inl same ↦ (let mine : (filled_of ledger job.to.log).live ≡ live_bytes o job.to.log = notes.lives job.to.log stands.1 in
               let old = retires.live_there o law p len ds job.from m near job.to.log (λ e. apart (sym e)) in
               let other = freed_same job.to.log in
-              let more = retires.live_here now law_now p len ds job.to no_marks (ap read_of (put_same s.cell p new p refl) ∙ new_read) in
+              let more = retires.live_here now law_now p len ds job.to (unmarked m.dirty) (ap read_of (put_same s.cell p new p refl) ∙ new_read) in
               let here : (filled_of after job.to.log).live ≡ live_bytes now job.to.log = omega (arith, passes.more, mine, old, other, more) in
               subst (λ k. (filled_of after k).live ≡ live_bytes now k) (sym same) here)
           | inr other ↦ ap (λ (f : Filled). f.live) (passes.there l ne other) ∙ notes.lives l lt ∙ sym (retires.live_there o law p len ds job.from m near l ne)
-              ∙ sym (freed_same l) ∙ retires.live_there now law_now p len ds job.to no_marks (ap read_of (put_same s.cell p new p refl) ∙ new_read) l other
+              ∙ sym (freed_same l) ∙ retires.live_there now law_now p len ds job.to (unmarked m.dirty) (ap read_of (put_same s.cell p new p refl) ∙ new_read) l other
         ]
       ]
 
@@ -230,15 +246,15 @@ module _ (s : State) (law : Law (own_part s)) (j : ℕ) (job : Job) (cell len ds
         room = subst (λ (n : Ledger). s.logs ≤ vec_capacity n.order) (sym passes.rest) notes.room;
         cells = ap (λ (n : Ledger). vec_len n.free_cells) passes.rest ∙ notes.cells;
         cell = λ q lt. ap (λ (n : Ledger). is_noted_free n q) passes.rest ∙ notes.cell q lt ∙ put_both (λ c. (s.cell q == 0) ≡ (c == 0)) s.cell p new q
-            (λ e. ap (λ k. s.cell k == 0) e ∙ near_used (s.cell p) len ds job.from m near ∙ sym (near_used new len ds job.to no_marks new_read)) (λ _. refl);
+            (λ e. ap (λ k. s.cell k == 0) e ∙ near_used (s.cell p) len ds job.from m near ∙ sym (near_used new len ds job.to (unmarked m.dirty) new_read)) (λ _. refl);
         jobs = subst (λ (n : Ledger). NotesJobs s.round_epoch s.round now.copying n.jobs) (sym passes.rest) (record { sized = notes.jobs.sized; noted = notes.jobs.noted; waiting = notes.jobs.waiting });
       }
 
       pub named_keeps : (held : ℕ → Option (List ℕ)) (is_honest : Bool) → HoldsFar s held → (s.honest ≡ true → is_honest ≡ true) → InOrder t after held is_honest
       named_keeps held is_honest far honest = record {
         notes = subst (λ (x : State). Notes x after) (sym own_now) notes_now;
-        far = subst (λ (x : State). HoldsFar x held) (sym leads) (subst (λ (c : ℕ → ℕ). HoldsFar (record s { cell = c }) held) (sym (put_put s.cell p r.word new))
-            (far_without s held far p new held (λ n d k e. let both : Some (Far n d k) ≡ Some (Near len ds job.to no_marks) = sym e ∙ new_read in absurd cc) (λ q ne. refl)));
+        far = still_named s t held held far p new (ap (λ (x : State). x.honest) leads) (ap (λ (x : State). x.cell) leads ∙ put_put s.cell p r.word new) (λ q _. ap (λ (x : State). x.stored q) leads) (λ q _. refl)
+            (ap kept_len new_read ∙ sym (ap kept_len near)) refl (ap (λ (x : State). x.stored p) leads);
         honest = λ e. honest (ap (λ (x : State). x.honest) (sym leads) ∙ e);
       }
 
@@ -259,3 +275,50 @@ module _ (s : State) (law : Law (own_part s)) (j : ℕ) (job : Job) (cell len ds
 
     pub passes_room : (filled_of ledger job.to.log).live ≤ 8 * LOG_WORDS
     passes_room = omega (arith, live_small o ledger job.to.log (notes, stands.1), notes.tails job.to.log stands.1, law.logs.tail_end job.to.log)
+
+-- ---- by the word that the naming was told of
+-- what is named once a word was found is named
+named_before : (s t : State) (job : Job) (w : ℕ) → Finds (s.cell job.pointer) w → IsNamed (seen s job.pointer w) t job → IsNamed s t job
+named_before s t job w f x =
+    let same : seen (seen s job.pointer w) job.pointer x.cell ≡ seen s job.pointer x.cell = (λ i. record s { cell = put_put s.cell job.pointer w x.cell i }) in
+    record {
+      cell = x.cell;
+      sees = finds_more (s.cell job.pointer) w x.cell f (subst (λ v. Finds v x.cell) (put_same s.cell job.pointer w job.pointer refl) x.sees);
+      alive = x.alive;
+      leads = x.leads ∙ ap (λ (u : State). record (named u job.pointer job.to) { word = t.word }) same;
+      forgot = subst (λ (u : State). Forgets (named u job.pointer job.to) t) same x.forgot;
+    }
+
+module _ (s : State) (ledger : Ledger) (held : ℕ → Option (List ℕ)) (is_honest : Bool) (h : InOrder s ledger held is_honest) (j : ℕ) (job : Job) (cell len ds : ℕ) (place : Place) (m : Marks)
+    (may : MayBeNamed s j job cell) (says : read_of cell ≡ Some (Near len ds place m)) (t : State) (r : RenamedNear s t job.pointer len ds job.to) where
+  abbrev then : State
+  then = seen s job.pointer r.from
+
+  order : InOrder then ledger held is_honest
+  order = found_keeps s ledger held is_honest h job.pointer r.from r.fits r.finds
+
+  first : IsNearTo (read_of r.from) len ds job.from m.evac
+  first = near_found (s.cell job.pointer) r.from r.finds len ds job.from m (near s h.notes.law j job cell len ds place m may says)
+
+  may_then : MayBeNamed then j job r.from
+  may_then = record {
+    number = may.number;
+    copier = may.copier;
+    finished = may.finished;
+    good = may.good;
+    found = sym (put_same s.cell job.pointer r.from job.pointer refl);
+    lies = rw (first.near, eq-eqb job.from.log job.from.log refl, eq-eqb job.from.at job.from.at refl) refl;
+    alive = r.alive;
+  }
+
+  renamed : Renamed then t job.pointer (near_word first.marks.dirty len ds job.to)
+  renamed = subst (λ b. Renamed then t job.pointer (near_word b len ds job.to)) (ap is_dirty first.near) r.named
+
+  pub is_named_by : IsNamed s t job
+  is_named_by = named_before s t job r.from r.finds (is_named then order.notes.law j job r.from len ds job.from first.marks may_then first.near t renamed)
+
+  pub jobs_stay_by : t.copying.word ≡ s.copying.word
+  jobs_stay_by = jobs_stay then order.notes.law j job r.from len ds job.from first.marks may_then first.near t renamed
+
+  pub named_keeps_by : (after : Ledger) → Passes ledger after job.from.log job.to.log (size_of len) → InOrder t after held is_honest
+  named_keeps_by after passes = named_keeps then order.notes.law j job r.from len ds job.from first.marks may_then first.near t renamed ledger order.notes after passes held is_honest order.far order.honest

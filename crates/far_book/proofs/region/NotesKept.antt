@@ -128,23 +128,23 @@ module _ (s : State) (ledger : Ledger) (notes : Notes s ledger) (place : Place) 
       (λ ne. ap (λ (f : Filled). f.tail) (there l ne) ∙ notes.tails l lt)
 
 -- ---- a span is taken
-module _ (s : State) (ledger new : Ledger) (notes : Notes s ledger) (p len ds : ℕ) (place : Place) (h : Placeable s p len ds place) (kept : Law (with_object s p len ds place)) (takes : Takes ledger new p (size_of len) place) where
+module _ (s : State) (ledger new : Ledger) (notes : Notes s ledger) (p len ds : ℕ) (place : Place) (h : Placeable s p len ds place) (dirty : Bool) (kept : Law (with_object s dirty p len ds place)) (takes : Takes ledger new p (size_of len) place) where
   abbrev then : State
-  then = with_object s p len ds place
+  then = with_object s dirty p len ds place
 
   live_then : (l : ℕ) → l < s.logs → (filled_of new l).live ≡ live_bytes then l
   live_then l lt = elim (cases_eq l place.log) [
     | inl e ↦ ap (λ k. (filled_of new k).live) e ∙ ap (λ (f : Filled). f.live) takes.here ∙ ap (λ n. n + 8 * size_of len) (notes.lives place.log h.next.0)
-        ∙ sym (places.live_here s notes.law p len ds place h kept) ∙ sym (ap (live_bytes then) e)
-    | inr ne ↦ ap (λ (f : Filled). f.live) (takes.there l ne) ∙ notes.lives l lt ∙ sym (places.live_there s notes.law p len ds place h kept l ne)
+        ∙ sym (places.live_here s notes.law p len ds place h dirty kept) ∙ sym (ap (live_bytes then) e)
+    | inr ne ↦ ap (λ (f : Filled). f.live) (takes.there l ne) ∙ notes.lives l lt ∙ sym (places.live_there s notes.law p len ds place h dirty kept l ne)
   ]
 
-  named : near_word len ds place ≢ 0
+  named : near_word dirty len ds place ≢ 0
   named e = omega arith
 
   cell_then : (q : ℕ) → q < CELLS * s.mutators → is_noted_free new q ≡ (then.cell q == 0)
-  cell_then q lt = takes.cell q ∙ put_both (λ c. (not (q == p) && is_noted_free ledger q) ≡ (c == 0)) s.cell p (near_word len ds place) q
-      (λ e. rw (eq-eqb q p e) (sym (ne_eqb (near_word len ds place) 0 named)))
+  cell_then q lt = takes.cell q ∙ put_both (λ c. (not (q == p) && is_noted_free ledger q) ≡ (c == 0)) s.cell p (near_word dirty len ds place) q
+      (λ e. rw (eq-eqb q p e) (sym (ne_eqb (near_word dirty len ds place) 0 named)))
       (λ ne. rw (ne_eqb q p ne) (notes.cell q lt))
 
   pub notes_placed : Notes then new

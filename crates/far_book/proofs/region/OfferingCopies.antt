@@ -18,7 +18,7 @@ use Rattle.far_word.proofs.PointerLaws.{read_back}
 use Rattle.far_core.specs.declared.event.Event.TheVariants as events
 use Rattle.far_core.specs.events.Copies.{data_at}
 use Rattle.far_core.specs.events.Legal.{Legal}
-use Rattle.far_core.specs.events.Naming.{no_marks}
+use Rattle.far_core.specs.events.Naming.{no_marks, unmarked}
 use Rattle.far_core.specs.events.Offer as core
 use Rattle.far_core.specs.events.Offer.{MayOffer, after_offer, with_job}
 use Rattle.far_core.specs.events.Step.{after}
@@ -203,13 +203,13 @@ module _ (s : State) (ledger : Ledger) (held : ℕ → Option (List ℕ)) (is_ho
   }
 
   abbrev placed : State
-  placed = with_object bare p len ds to
+  placed = with_object bare true p len ds to
 
   law_placed : Law placed
-  law_placed = law_then bare law_bare p len ds to able (put_same (dropped lies).cell p 0 p refl)
+  law_placed = law_then bare law_bare p len ds to able refl refl true (λ odd. absurd (false≢true (sym odd)))
 
-  says_placed : read_of (placed.cell p) ≡ Some (Near len ds to no_marks)
-  says_placed = ap read_of (put_same bare.cell p (near_word len ds to) p refl) ∙ read_back (Near len ds to no_marks) h.layout
+  says_placed : read_of (placed.cell p) ≡ Some (Near len ds to (unmarked true))
+  says_placed = ap read_of (put_same bare.cell p (near_word true len ds to) p refl) ∙ read_back (Near len ds to (unmarked true)) h.layout
 
   bare_same : (l : ℕ) → live_bytes bare l ≡ live_bytes (with_free_cell o p) l
   unfolding spans_of
@@ -217,16 +217,16 @@ module _ (s : State) (ledger : Ledger) (held : ℕ → Option (List ℕ)) (is_ho
 
   freed_same : (l : ℕ) → live_bytes (with_free_cell placed p) l ≡ live_bytes (with_free_cell now p) l
   unfolding spans_of
-  freed_same l = ap (λ (c : ℕ → ℕ). live_bytes (record now { cell = c }) l) (put_put bare.cell p (near_word len ds to) 0 ∙ put_put (dropped lies).cell p 0 0 ∙ put_put s.cell p _ 0)
+  freed_same l = ap (λ (c : ℕ → ℕ). live_bytes (record now { cell = c }) l) (put_put bare.cell p (near_word true len ds to) 0 ∙ put_put (dropped lies).cell p 0 0 ∙ put_put s.cell p _ 0)
 
   -- without p's object both have the same
   without : (l : ℕ) → live_bytes (with_free_cell now p) l ≡ live_bytes (with_free_cell o p) l
   without l = sym (freed_same l) ∙ elim (cases_eq l to.log) [
-    | inl same ↦ (let a = places.live_here bare law_bare p len ds to able law_placed in
-        let b = retires.live_here placed law_placed p len ds to no_marks says_placed in
+    | inl same ↦ (let a = places.live_here bare law_bare p len ds to able true law_placed in
+        let b = retires.live_here placed law_placed p len ds to (unmarked true) says_placed in
         let here : live_bytes (with_free_cell placed p) to.log ≡ live_bytes bare to.log = omega (arith, a, b) in
         subst (λ k. live_bytes (with_free_cell placed p) k ≡ live_bytes bare k) (sym same) here)
-    | inr ne ↦ retires.live_there placed law_placed p len ds to no_marks says_placed l ne ∙ places.live_there bare law_bare p len ds to able law_placed l ne
+    | inr ne ↦ retires.live_there placed law_placed p len ds to (unmarked true) says_placed l ne ∙ places.live_there bare law_bare p len ds to able true law_placed l ne
   ] ∙ bare_same l
 
   live_now : (l : ℕ) → live_bytes now l ≡ live_bytes o l
@@ -289,6 +289,6 @@ module _ (s : State) (ledger : Ledger) (held : ℕ → Option (List ℕ)) (is_ho
         InOrder t (record begun { jobs = jobs }) held is_honest
     offered_keeps t leads forgot = record {
       notes = subst (λ (x : State). Notes x (record begun { jobs = jobs })) (sym (own_now t leads forgot)) notes_now;
-      far = subst (λ (x : State). HoldsFar x held) (sym (leads_made t leads forgot)) order.far;
+      far = subst (λ (x : State). HoldsFar x held) (sym (leads_made t leads forgot)) record { long = order.far.long; same = order.far.same };
       honest = λ e. order.honest (ap (λ (x : State). x.honest) (sym (leads_made t leads forgot)) ∙ e);
     }

@@ -1,5 +1,5 @@
 -- The book's own part of a state: it keeps the law, has the same spans, and changes by the book's calls alone.
-use Rattle.std.proofs.Common.{◌≡◌, ℕ, ◌+◌, ◌-◌, ◌*◌, ◌^◌, ◌<◌, ◌≤◌, true, false, cond, zero, suc, arith, sym, refl, ap, subst, ◌∙◌, Some, List, [], ◌∷◌, inl, inr, nat_lt}
+use Rattle.std.proofs.Common.{◌≡◌, ℕ, ◌+◌, ◌-◌, ◌*◌, ◌^◌, ◌<◌, ◌≤◌, Bool, true, false, cond, zero, suc, arith, sym, refl, ap, subst, ◌∙◌, Some, List, [], ◌∷◌, inl, inr, nat_lt}
 use Rattle.std.specs.Prelude.{Contains, not}
 use Rattle.std.proofs.lemmas.Bool.{cond_both, cases_eq, false≢true, ltb-true, ltb-false}
 use Rattle.std.proofs.lemmas.Nat.{pow_pos}
@@ -113,6 +113,8 @@ own_law s law = record {
   clears = record { clear_unviewed = λ p place h. absurd cc; late_unviewed = λ p e place h. absurd cc };
   unadopted = λ h. absurd (false≢true h);
   copies = own_copies s law;
+  soils = record { soiled_held = λ p h. absurd (false≢true h); soiled_dirty = λ p h. absurd (false≢true h) };
+  cleans = λ p. record { back = (law.cleans p).back; same = λ e. absurd (false≢true e) };
 }
 
 -- ---- the spans
@@ -173,8 +175,8 @@ module _ (s : State) (law : Law (own_part s)) (p len ds : ℕ) (place : Place) (
         false≢true (sym (none_past (own_part s) law p len ds place h (b - addr place) (omega (arith, h.layout))) ∙ ap s.starts at ∙ begun)
 
   -- whatever data words are written, its header alone is the book's
-  pub own_written : (row : ℕ → ℕ) → own_part (with_span (with_written_span s p len ds place row) p (near_word len ds place) len place) ≡ with_object (own_part s) p len ds place
-  own_written row = λ i. record (with_object (own_part s) p len ds place) { word = fun_ext (own_word row) i }
+  pub own_written : (dirty : Bool) (row : ℕ → ℕ) → own_part (with_span (with_written_span s p len ds place row) p (near_word dirty len ds place) len place) ≡ with_object (own_part s) dirty p len ds place
+  own_written dirty row = λ i. record (with_object (own_part s) dirty p len ds place) { word = fun_ext (own_word row) i }
 
 -- a retired object
 pub own_retired : (s t : State) (p : ℕ) → is_dropped (read_of (s.cell p)) ≡ true → t ≡ record (retired s p) { word = t.word } → Forgets s t → own_part t ≡ with_free_cell (own_part s) p
@@ -184,6 +186,6 @@ own_retired s t p dropped is h =
 
 -- a new one, over a hand that may have forgotten words
 module _ (s t : State) (law : Law (own_part s)) (p len ds : ℕ) (place : Place) (h : Placeable (own_part s) p len ds place) where
-  pub own_named : s.cell p ≡ 0 → t ≡ record (placed s p len ds place) { word = t.word } → Forgets (placed s p len ds place) t → own_part t ≡ with_object (own_part s) p len ds place
+  pub own_named : s.cell p ≡ 0 → t ≡ record (placed s p len ds place) { word = t.word } → Forgets (placed s p len ds place) t → own_part t ≡ with_object (own_part s) true p len ds place
   own_named free is forgot = own_forgets (placed s p len ds place) t is forgot ∙ ap own_part (named_is (with_blank_span s p len ds place) p len ds place free h.layout)
-      ∙ own_written s law p len ds place h (λ _. 0)
+      ∙ own_written s law p len ds place h true (λ _. 0)

@@ -1,7 +1,7 @@
 -- An object gets a place: the law stays where it is new, and its log has one live span more.
-use Rattle.std.proofs.Common.{◌≡◌, ◌≢◌, ℕ, ◌+◌, ◌-◌, ◌*◌, ◌/◌, ◌%◌, ◌^◌, ◌<◌, ◌≤◌, true, false, cond, arith, sym, refl, ap, subst, ◌∙◌, Some, [], ◌∷◌, ◌++◌, inl, inr}
+use Rattle.std.proofs.Common.{◌≡◌, ◌≢◌, ℕ, ◌+◌, ◌-◌, ◌*◌, ◌/◌, ◌%◌, ◌^◌, ◌<◌, ◌≤◌, Bool, true, false, cond, arith, sym, refl, ap, subst, ◌∙◌, Some, None, [], ◌∷◌, ◌++◌, inl, inr}
 use Rattle.std.specs.Prelude.{Contains}
-use Rattle.std.proofs.lemmas.Bool.{eq-eqb, ne_eqb, cases_eq, false_from_ne_true}
+use Rattle.std.proofs.lemmas.Bool.{eq-eqb, ne_eqb, cases_eq, false_from_ne_true, false≢true}
 use Rattle.std.proofs.lemmas.Nat.{pow_pos}
 use Rattle.far_word.specs.declared.header.HeadWord.{HeadWord}
 use Rattle.far_word.specs.declared.pointer.Place.{Place}
@@ -21,11 +21,11 @@ use Rattle.far_core.specs.declared.event.Event.TheVariants as events
 use Rattle.far_core.specs.declared.event.Kind.TheVariants as kinds
 use Rattle.far_core.specs.declared.naming.Naming.TheVariants.{Places}
 use Rattle.far_core.specs.events.Legal.{Legal, IsNext}
-use Rattle.far_core.specs.events.Naming.{no_marks}
-use Rattle.far_core.specs.events.NewSpans.{with_span}
+use Rattle.far_core.specs.events.Naming.{no_marks, unmarked}
+use Rattle.far_core.specs.events.NewSpans.{IsNewSpan, with_span}
 use Rattle.far_core.specs.events.Step.{after}
 use Rattle.far_core.specs.laws.Observed.{live_bytes, span_for}
-use Rattle.far_core.specs.state.Law.{Law, head_len}
+use Rattle.far_core.specs.state.Law.{IsStored, Law, head_len}
 use Rattle.far_core.specs.state.Spans.{spans_of, word_in, is_live, names_place}
 use Rattle.far_core.specs.state.State.{State, put, addr}
 use Rattle.far_core.proofs.Cells.{unused}
@@ -33,13 +33,14 @@ use Rattle.far_core.proofs.NewSpans.{at_tail}
 use Rattle.far_core.proofs.Observations.{walks}
 use Rattle.far_core.proofs.Owing.{keeps}
 use Rattle.far_core.proofs.Put.{put_both, put_same, put_other}
+use Rattle.far_core.proofs.TakingSpans.{clean_at, keeps_new_span}
 use Rattle.far_book.specs.book.Effects.{near_word}
 use Rattle.far_book.specs.book.Placeable.{Placeable, with_object}
 use Rattle.far_book.proofs.region.SpanLists.{taken_same, taken_more}
 
 -- a free cell is named: the span is taken
-pub named_is : (s : State) (p len ds : ℕ) (place : Place) → s.cell p ≡ 0 → IsPtr (Near len ds place no_marks) → after s (events.Name p 0 (near_word len ds place)) ≡ with_span s p (near_word len ds place) len place
-named_is s p len ds place free layout = rw (eq-eqb (s.cell p) 0 free, unused, read_back (Near len ds place no_marks) layout) refl
+pub named_is : (s : State) (p len ds : ℕ) (place : Place) → s.cell p ≡ 0 → IsPtr (Near len ds place no_marks) → after s (events.Name p 0 (near_word true len ds place)) ≡ with_span s p (near_word true len ds place) len place
+named_is s p len ds place free layout = rw (eq-eqb (s.cell p) 0 free, unused, read_back (Near len ds place (unmarked true)) layout) refl
 
 -- where the next span may stand the log isn't sealed
 pub next_unsealed : (s : State) (place : Place) → IsNext s place → s.kind place.log ≢ kinds.Sealed
@@ -78,17 +79,26 @@ module _ (s : State) (law : Law s) (p len ds : ℕ) (place : Place) (h : Placeab
       let here : addr place + (1 + i) ≡ addr place + 1 + i = omega arith in
       put_other s.word (addr place) (head_word p len ds) (addr place + 1 + i) far ∙ h.bare (addr place + 1 + i) (sym (ap s.starts here) ∙ none_past (1 + i) (omega (arith, h.layout)))
 
-  pub legal_name : Legal headed (events.Name p 0 (near_word len ds place))
-  legal_name = (h.pointer, (Places len ds place, (unused, read_back (Near len ds place no_marks) h.layout), (record { next = h.next; head = put_same s.word (addr place) (head_word p len ds) (addr place) refl }, blank_behind)))
+  span : IsNewSpan headed p len ds place
+  span = record { next = h.next; head = put_same s.word (addr place) (head_word p len ds) (addr place) refl }
 
-  abbrev then : State
-  then = with_object s p len ds place
+  pub legal_name : Legal headed (events.Name p 0 (near_word true len ds place))
+  legal_name = (h.pointer, (Places len ds place, (unused, read_back (Near len ds place (unmarked true)) h.layout), (span, blank_behind)))
 
-  pub law_then : s.cell p ≡ 0 → Law then
-  law_then free = subst Law (named_is headed p len ds place free h.layout)
-      (keeps headed (events.Name p 0 (near_word len ds place)) law_headed (omega arith, word_fits (Near len ds place no_marks) h.layout) legal_name)
+  -- where nobody holds a view and nothing is promised of the far side, it may be named with DIRTY, and without where words of its length are stored
+  pub law_then : s.held p ≡ None → s.honest ≡ false → (dirty : Bool) → (dirty ≡ false → IsStored (s.stored p) len) → Law (with_object s dirty p len ds place)
+  law_then unheld unpromised dirty back =
+      let says : read_of (near_word dirty len ds place) ≡ Some (Near len ds place (unmarked dirty)) = read_back (Near len ds place (unmarked dirty)) h.layout in
+      let last : words_for len - 1 < words_for len = omega (arith, h.layout) in
+      let some : 0 < 2 ^ (8 * (len - 8 * (words_for len - 1))) = pow_pos (8 * (len - 8 * (words_for len - 1))) in
+      keeps_new_span headed law_headed p (near_word dirty len ds place) len ds place dirty says h.pointer (word_fits (Near len ds place (unmarked dirty)) h.layout) span
+      (omega (arith, blank_behind (words_for len - 1) last)) unheld (λ _ _. blank_behind)
+      (clean_at headed law_headed p (near_word dirty len ds place) len ds place dirty says back (λ honest. absurd (false≢true (sym unpromised ∙ honest))))
 
-  module _ (kept : Law then) where
+  module _ (dirty : Bool) (kept : Law (with_object s dirty p len ds place)) where
+    abbrev then : State
+    then = with_object s dirty p len ds place
+
     -- ---- the lists of spans
     tail_here : then.tail place.log ≡ s.tail place.log + size_of len
     tail_here = put_same s.tail place.log (place.at + size_of len) place.log refl ∙ ap (λ k. k + size_of len) at_end
@@ -131,7 +141,7 @@ module _ (s : State) (law : Law s) (p len ds : ℕ) (place : Place) (h : Placeab
 
     -- ---- the live bytes
     -- no span that was there is live by the new name
-    names_none : (l : ℕ) (x : Span) → Contains (spans_of s l) x → names_place (Some (Near len ds place no_marks)) l x.at ≡ false
+    names_none : (l : ℕ) (x : Span) → Contains (spans_of s l) x → names_place (Some (Near len ds place (unmarked dirty))) l x.at ≡ false
     names_none l x member = elim (cases_eq place.log l) [
       | inl e ↦ (let below = (tile_bounds (spans_of s l) 0 (s.tail l) x (walks s law l).tile member).1 in
           let tails : s.tail place.log ≡ s.tail l = ap s.tail e in
@@ -140,12 +150,12 @@ module _ (s : State) (law : Law s) (p len ds : ℕ) (place : Place) (h : Placeab
     ]
 
     as_live : (l : ℕ) (x : Span) → Contains (spans_of s l) x → is_live then l x ≡ is_live s l x
-    as_live l x member = put_both (λ c. names_place (read_of c) l x.at ≡ names_place (read_of (s.cell x.p)) l x.at) s.cell p (near_word len ds place) x.p
-        (λ e. rw (read_back (Near len ds place no_marks) h.layout) (names_none l x member ∙ sym (ap (λ q. names_place (read_of (s.cell q)) l x.at) e ∙ h.unplaced l x.at)))
+    as_live l x member = put_both (λ c. names_place (read_of c) l x.at ≡ names_place (read_of (s.cell x.p)) l x.at) s.cell p (near_word dirty len ds place) x.p
+        (λ e. rw (read_back (Near len ds place (unmarked dirty)) h.layout) (names_none l x member ∙ sym (ap (λ q. names_place (read_of (s.cell q)) l x.at) e ∙ h.unplaced l x.at)))
         (λ _. refl)
 
     new_live : is_live then place.log (span_for p len ds place.at) ≡ true
-    new_live = rw (put_same s.cell p (near_word len ds place) p refl, read_back (Near len ds place no_marks) h.layout, eq-eqb place.log place.log refl, eq-eqb place.at place.at refl) refl
+    new_live = rw (put_same s.cell p (near_word dirty len ds place) p refl, read_back (Near len ds place (unmarked dirty)) h.layout, eq-eqb place.log place.log refl, eq-eqb place.at place.at refl) refl
 
     pub live_here : live_bytes then place.log ≡ live_bytes s place.log + bytes_taken len
     live_here =

@@ -22,7 +22,7 @@ use Rattle.far_core.specs.declared.naming.Naming.{Naming}
 use Rattle.far_core.specs.declared.naming.Naming.TheVariants as naming
 use Rattle.far_core.specs.events.Legal.{IsNext, Legal}
 use Rattle.far_core.specs.events.Name.{change_by}
-use Rattle.far_core.specs.events.Naming.{no_marks, naming_of}
+use Rattle.far_core.specs.events.Naming.{no_marks, naming_of, unmarked}
 use Rattle.far_core.specs.events.Ranges.{AllLegal, after_events, with_row}
 use Rattle.far_core.specs.events.Step.{Fits, after, answer, step_of}
 use Rattle.far_core.specs.laws.Rooms.{IsRoom, RoomIs}
@@ -191,8 +191,8 @@ placing_legal s p len ds place law pointer free some most structure found =
     let is_room : IsRoom s (size_of len) true place = subst (RoomIs s (size_of len) true) found (room_right s law (size_of len) true short) in
     let head : IsHead record { pointer = p; len = len; ds = ds } = record { some = some; most = most; structure = structure; cell = omega (arith, law.shape.few_mutators) } in
     let layout : IsPtr (Near len ds place no_marks) = (some, most, structure, omega (arith, is_room.next.0, law.shape.few_logs), is_room.fits) in
-    let form : naming_of (read_of 0) (read_of (near_word len ds place)) ≡ Some (naming.Places len ds place) = rw (unused, read_back (Near len ds place no_marks) layout) refl in
-    let fits : (0 < 2 ^ 64) × (near_word len ds place < 2 ^ 64) = (omega arith, word_fits (Near len ds place no_marks) layout) in
+    let form : naming_of (read_of 0) (read_of (near_word true len ds place)) ≡ Some (naming.Places len ds place) = rw (unused, read_back (Near len ds place (unmarked true)) layout) refl in
+    let fits : (0 < 2 ^ 64) × (near_word true len ds place < 2 ^ 64) = (omega arith, word_fits (Near len ds place (unmarked true)) layout) in
     let legal = may_name s p len ds place pointer layout is_room.next in
-    let all = written_named s law p len ds place (λ _. 0) head is_room.next is_room.fits (λ k lt. omega arith) 0 (near_word len ds place) (naming.Places len ds place) free form fits legal in
+    let all = written_named s law p len ds place (λ _. 0) head is_room.next is_room.fits (λ k lt. omega arith) 0 (near_word true len ds place) (naming.Places len ds place) free form fits legal in
     (all.0, all.1, all.2, is_placed s p len ds place law free layout (at_tail s law place is_room.next))

@@ -15,6 +15,8 @@ use Rattle.far_core.specs.declared.naming.Naming.TheVariants as naming
 use Rattle.far_core.specs.events.Copies.{Alike}
 use Rattle.far_core.specs.events.Legal.{Legal}
 use Rattle.far_core.specs.events.Naming.{is_dropped, no_marks, naming_of}
+use Rattle.far_book.specs.book.Renaming.{stops}
+use Rattle.std.specs.Prelude.{◌||◌}
 use Rattle.far_core.specs.laws.Rooms.{IsRoom, RoomIs}
 use Rattle.far_core.specs.state.Law.{Law, IsStored}
 use Rattle.far_core.specs.state.Room.{room}
@@ -54,19 +56,19 @@ module _ (s : State) (law : Law s) (p len ds : ℕ) (m : Marks) (place : Place) 
   written = with_written_span s p len ds place row
 
   abbrev name : Event
-  name = events.Name p (s.cell p) (near_word len ds place)
+  name = events.Name p (s.cell p) (near_word false len ds place)
 
   legal : Legal written name
   legal =
       let last : words_for len - 1 < words_for len = omega (arith, far_layout) in
-      let may = may_come s p len ds place row pointer (m, far, alive) far_layout.0 layout is_room.next (stored (words_for len - 1) last).1 same (s.cell p) (law.cells.cell_read p).0 (finds_same (s.cell p)) (ap is_dropped far ∙ alive) in
+      let may = may_come s p len ds place row pointer (m, far, alive) far_layout.0 layout is_room.next (stored (words_for len - 1) last).1 same (s.cell p) (law.cells.cell_read p).0 (finds_same (s.cell p)) (ap (λ o. stops o o) far ∙ ap (λ b. b || false) alive) in
       subst (λ (cell : ℕ → ℕ). Legal (record written { cell = cell }) name) (put_old s.cell p (s.cell p) refl) may.0
 
   is_come : IsCome s (fetched s p place row) p len ds place row
-  is_come = let span = takes_span s law p (near_word len ds place) len place in
+  is_come = let span = takes_span s law p (near_word false len ds place) len place in
       subst (λ (t : State). IsCome s t p len ds place row) (sym (fetched_come s s p len ds place row m far alive layout)) record {
-        cell = ap read_of (put_same s.cell p (near_word len ds place) p refl) ∙ read_back (Near len ds place no_marks) layout;
-        cells = λ q ne. put_other s.cell p (near_word len ds place) q ne;
+        cell = ap read_of (put_same s.cell p (near_word false len ds place) p refl) ∙ read_back (Near len ds place no_marks) layout;
+        cells = λ q ne. put_other s.cell p (near_word false len ds place) q ne;
         header = header s p len ds place row;
         bytes = stands s p len ds place row;
         words = written_outside s p len ds place row;
@@ -79,9 +81,9 @@ module _ (s : State) (law : Law s) (p len ds : ℕ) (m : Marks) (place : Place) 
 
   pub fetching_all : Reached s (fetched s p place row) × Law (fetched s p place row) × Step (ComesNear p place.log) (world_of s) (world_of (fetched s p place row)) × IsCome s (fetched s p place row) p len ds place row
   fetching_all =
-      let form : naming_of (read_of (s.cell p)) (read_of (near_word len ds place)) ≡ Some (naming.Fetches len ds place) = rw (far, read_back (Near len ds place no_marks) layout, eq-eqb len len refl, eq-eqb ds ds refl, alive) refl in
-      let fits : (s.cell p < 2 ^ 64) × (near_word len ds place < 2 ^ 64) = ((law.cells.cell_read p).0, word_fits (Near len ds place no_marks) layout) in
-      let all = written_named s law p len ds place row head is_room.next is_room.fits (λ k lt. (stored k lt).0) (s.cell p) (near_word len ds place) (naming.Fetches len ds place) refl form fits legal in
+      let form : naming_of (read_of (s.cell p)) (read_of (near_word false len ds place)) ≡ Some (naming.Fetches len ds place) = rw (far, read_back (Near len ds place no_marks) layout, eq-eqb len len refl, eq-eqb ds ds refl, alive) refl in
+      let fits : (s.cell p < 2 ^ 64) × (near_word false len ds place < 2 ^ 64) = ((law.cells.cell_read p).0, word_fits (Near len ds place no_marks) layout) in
+      let all = written_named s law p len ds place row head is_room.next is_room.fits (λ k lt. (stored k lt).0) (s.cell p) (near_word false len ds place) (naming.Fetches len ds place) refl form fits legal in
       let is = sym (fetched_is s p len ds place row m far) in
       (subst (Reached s) is all.0, subst Law is all.1, subst (λ (t : State). Step (ComesNear p place.log) (world_of s) (world_of t)) is all.2, is_come)
 

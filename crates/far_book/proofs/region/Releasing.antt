@@ -138,5 +138,5 @@ module _ (s : State) (law : Law (own_part s)) (l : ℕ) (shut : s.kind l ≡ Sea
 
   pub released_keeps : (t : State) (old new : Ledger) (held : ℕ → Option (List ℕ)) (is_honest : Bool) → InOrder s old held is_honest → GivesBack old new l →
       t ≡ record (released s l) { word = t.word } → Forgets s t → InOrder t new held is_honest
-  released_keeps t old new held is_honest h b is forgot = headers_keep then new held is_honest (record { notes = notes_released old new h.notes b; far = h.far; honest = h.honest }) t is
+  released_keeps t old new held is_honest h b is forgot = headers_keep then new held is_honest (record { notes = notes_released old new h.notes b; far = record { long = h.far.long; same = h.far.same }; honest = h.honest }) t is
       (λ a start. forgot.headers a (ap (λ (u : State). u.starts a) is ∙ start))

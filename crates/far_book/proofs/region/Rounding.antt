@@ -25,13 +25,13 @@ use Rattle.far_hand.specs.Finds.{Finds}
 use Rattle.far_hand.specs.Known.{Forgets}
 use Rattle.far_hand.specs.Rounds.{MayChoose, looked_at}
 use Rattle.far_book.specs.declared.jobs.Jobs.{Jobs}
-use Rattle.far_book.specs.book.FarSide.{InOrder}
+use Rattle.far_book.specs.book.FarSide.{InOrder, kept_len}
 use Rattle.far_book.specs.book.Jobs.{EndsJobs, NotesJobs, lies_in}
 use Rattle.far_book.specs.book.Ledger.{Notes}
 use Rattle.far_book.specs.book.Own.{own_part, unread}
 use Rattle.far_hand.proofs.Finding.{near_found}
 use Rattle.far_book.proofs.region.Calls.{put_put}
-use Rattle.far_book.proofs.region.FarSide.{far_without}
+use Rattle.far_book.proofs.region.FarHeld.{still_named}
 use Rattle.far_book.proofs.region.Founds.{near_used, notes_seen}
 use Rattle.far_book.proofs.region.InOrders.{found_keeps, headers_keep}
 use Rattle.far_book.proofs.region.JobNotes.{good_late, good_left, notes_ended}
@@ -83,12 +83,14 @@ module _ (s : State) (ledger : Ledger) (held : ℕ → Option (List ℕ)) (is_ho
     clears = record { clear_unviewed = λ p place v. absurd cc; late_unviewed = λ p e place v. absurd cc };
     unadopted = law.unadopted;
     copies = copies_fewer (own_part s) s.round clear law (λ l h. h) still;
+    soils = law.soils;
+    cleans = law.cleans;
   }
 
   pub looked_keeps : (m w : ℕ) → InOrder (looked_at s m w) ledger held is_honest
   looked_keeps m w = record {
     notes = notes_in_round s ledger h.notes s.epoch s.round s.round_epoch (looked_at s m w).clear ledger.jobs (law_looked (looked_at s m w).clear (looked_still s m w)) h.notes.jobs;
-    far = h.far;
+    far = record { long = h.far.long; same = h.far.same };
     honest = h.honest;
   }
 
@@ -99,7 +101,7 @@ module _ (s : State) (ledger : Ledger) (held : ℕ → Option (List ℕ)) (is_ho
         (keeps (own_part s) (Advance logs) h.notes.law tt (record { below = below; shut = chosen.shut; marked = chosen.marked }))
         (notes_ended s.round_epoch s.round (unread s.copying) ledger.jobs h.notes.jobs (s.epoch + 1) (advanced s logs).round jobs (λ _. true) ends
         (λ j job e. good_late s.round_epoch (s.epoch + 1) s.round (advanced s logs).round s.copying.since j job (h.notes.law.copies.good.begun j) (omega (arith, h.notes.law.rounds.own_epoch))));
-    far = h.far;
+    far = record { long = h.far.long; same = h.far.same };
     honest = h.honest;
   }
 
@@ -127,7 +129,7 @@ module _ (s : State) (ledger : Ledger) (held : ℕ → Option (List ℕ)) (is_ho
         (notes_in_round s ledger h.notes s.epoch left s.round_epoch s.clear jobs (law_with_fewer_chosen (own_part s) left h.notes.law (out_still s.round (read_of (s.cell p))))
         (notes_ended s.round_epoch s.round (unread s.copying) ledger.jobs h.notes.jobs s.round_epoch left jobs (lies_in (read_of (s.cell p))) ends
         (λ j job e. good_left s.round s.round_epoch s.copying.since (read_of (s.cell p)) j job)));
-    far = far_without s held h.far p (evac_cleared (s.cell p)) held (λ n d m e. let both : Some (Far n d m) ≡ Some (without_evac (Near legal.1.0 legal.1.1 legal.1.2 legal.1.3)) = sym e ∙ near in absurd cc) (λ q ne. refl);
+    far = still_named s (record s { cell = put s.cell p (evac_cleared (s.cell p)); round = left }) held held h.far p (evac_cleared (s.cell p)) refl refl (λ q _. refl) (λ q _. refl) (ap kept_len near ∙ sym (ap kept_len legal.1.4)) refl refl;
     honest = h.honest;
   }
 

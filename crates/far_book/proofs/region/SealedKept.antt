@@ -9,7 +9,7 @@ use Rattle.far_word.specs.Sizes.{size_of}
 use Rattle.far_word.proofs.PointerLaws.{read_back, read_says}
 use Rattle.far_core.specs.declared.event.Kind.{Kind}
 use Rattle.far_core.specs.declared.event.Kind.TheVariants as kinds
-use Rattle.far_core.specs.events.Naming.{no_marks}
+use Rattle.far_core.specs.events.Naming.{no_marks, unmarked}
 use Rattle.far_core.specs.events.NewSpans.{IsNext, with_span}
 use Rattle.far_core.specs.state.Law.{Law}
 use Rattle.far_core.specs.state.Room.{room}
@@ -63,23 +63,23 @@ module _ (s : State) (p : ℕ) where
   ended = one_cell 0 s.stored (nowhere 0 free_place)
 
   -- ---- a span is taken that isn't in a sealed log
-  module _ (len ds : ℕ) (to : Place) (law : Law (own_part s)) (layout : IsPtr (Near len ds to no_marks)) (next : IsNext s to) (fits : to.at < LOG_WORDS) where
-    near_says : read_of (near_word len ds to) ≡ Some (Near len ds to no_marks)
-    near_says = read_back (Near len ds to no_marks) layout
+  module _ (dirty : Bool) (len ds : ℕ) (to : Place) (law : Law (own_part s)) (layout : IsPtr (Near len ds to no_marks)) (next : IsNext s to) (fits : to.at < LOG_WORDS) where
+    near_says : read_of (near_word dirty len ds to) ≡ Some (Near len ds to (unmarked dirty))
+    near_says = read_back (Near len ds to (unmarked dirty)) layout
 
     unsealed : s.kind to.log ≢ kinds.Sealed
     unsealed = next_unsealed s to next
 
-    elsewhere : Elsewhere (near_word len ds to)
+    elsewhere : Elsewhere (near_word dirty len ds to)
     elsewhere n d place marks near is_sealed =
-        let same : Some (Near len ds to no_marks) ≡ Some (Near n d place marks) = sym near_says ∙ near in
+        let same : Some (Near len ds to (unmarked dirty)) ≡ Some (Near n d place marks) = sym near_says ∙ near in
         let places : to ≡ place = cc in
         absurd (unsealed (ap (λ (x : Place). s.kind x.log) places ∙ is_sealed))
 
     open_unsealed : (kind : Kind) → kind ≡ kinds.Open → kind ≢ kinds.Sealed
     open_unsealed kind is_open is_sealed = absurd cc
 
-    pub taken_kept : (word : ℕ → ℕ) → KeepsSealed s (with_span (record s { word = word }) p (near_word len ds to) len to)
+    pub taken_kept : (word : ℕ → ℕ) → KeepsSealed s (with_span (record s { word = word }) p (near_word dirty len ds to) len to)
     taken_kept word = record {
       kind = λ l is_sealed.
           put_other (put s.kind s.current kinds.Sealed) to.log kinds.Open l (λ e. unsealed (ap s.kind (sym e) ∙ is_sealed))
@@ -87,7 +87,7 @@ module _ (s : State) (p : ℕ) where
       tail = λ l is_sealed. put_other s.tail to.log (to.at + size_of len) l (λ e. unsealed (ap s.kind (sym e) ∙ is_sealed));
       starts = λ l at is_sealed lt. put_other s.starts (addr to) true (l * LOG_WORDS + at)
           (λ e. let short = law.logs.tail_end l in let same : l ≡ to.log = omega (arith, e, lt, short, fits) in unsealed (ap s.kind (sym same) ∙ is_sealed));
-      near = near_kept (near_word len ds to) elsewhere;
+      near = near_kept (near_word dirty len ds to) elsewhere;
       round = refl;
       clear = refl;
       epoch = refl;
@@ -105,37 +105,37 @@ module _ (s : State) (p len ds : ℕ) (law : Law (own_part s)) where
     uncopied : (from : Place) → NoCopy s.copying p from place
     uncopied from = no_copy s law p from place is_room.next (omega (arith, is_room.fits))
 
-    taken : (word : ℕ → ℕ) → KeepsSealed s (with_span (record s { word = word }) p (near_word len ds place) len place)
-    taken word = taken_kept s p len ds place law layout_there is_room.next (omega (arith, is_room.fits)) word
+    taken : (dirty : Bool) (word : ℕ → ℕ) → KeepsSealed s (with_span (record s { word = word }) p (near_word dirty len ds place) len place)
+    taken dirty word = taken_kept s p dirty len ds place law layout_there is_room.next (omega (arith, is_room.fits)) word
 
   pub sealed_logs_stay : SealedLogsStay s p len ds
   sealed_logs_stay = record {
     places = λ place free range some most structure found.
-        subst (KeepsSealed s) (sym (named_is (with_blank_span s p len ds place) p len ds place free (layout_there true place some most structure found))) (taken true place some most structure found _);
+        subst (KeepsSealed s) (sym (named_is (with_blank_span s p len ds place) p len ds place free (layout_there true place some most structure found))) (taken true place some most structure found true _);
     moves = λ from to marks near evac alive found.
         let layout = (read_says (s.cell p) (Near len ds from marks) (law.cells.cell_read p).0 near).0 in
-        subst (KeepsSealed s) (sym (moved_is s p len ds from to marks near alive evac (layout_there false to layout.0 layout.1 layout.2 found) (uncopied false to layout.0 layout.1 layout.2 found from))) (taken false to layout.0 layout.1 layout.2 found _);
+        subst (KeepsSealed s) (sym (moved_is s p len ds from to marks near alive evac (layout_there false to layout.0 layout.1 layout.2 found) (uncopied false to layout.0 layout.1 layout.2 found from))) (taken false to layout.0 layout.1 layout.2 found marks.dirty _);
     stays = λ place marks near unwanted asked alive.
         let layout = (read_says (s.cell p) (Near len ds place marks) (law.cells.cell_read p).0 near).0 in
         let bare : IsPtr (Near len ds place no_marks) = (layout.0, layout.1, layout.2, layout.3, layout.4) in
-        let says = read_back (Near len ds place no_marks) bare in
+        let says = read_back (Near len ds place (unmarked marks.dirty)) bare in
         subst (KeepsSealed s) (sym (stayed_is s p len ds place marks near alive asked unwanted bare))
-        (one_cell s p (near_word len ds place) s.stored (λ n d at k e is_sealed.
-        let same : Some (Near len ds place no_marks) ≡ Some (Near n d at k) = sym says ∙ e in
+        (one_cell s p (near_word marks.dirty len ds place) s.stored (λ n d at k e is_sealed.
+        let same : Some (Near len ds place (unmarked marks.dirty)) ≡ Some (Near n d at k) = sym says ∙ e in
         let lens : len ≡ n = cc in
         let structures : ds ≡ d = cc in
         let places : place ≡ at = cc in
-        let evacs : k ≡ no_marks = cc in
+        let evacs : k ≡ unmarked marks.dirty = cc in
         (marks, near ∙ (λ i. Some (Near (lens i) (structures i) (places i) marks)), ap (λ (x : Marks). x.evac) evacs ∙ sym unwanted)));
     goes = λ from marks near evac alive.
         let layout = (read_says (s.cell p) (Near len ds from marks) (law.cells.cell_read p).0 near).0 in
-        let away : IsPtr (Far len ds no_marks) = (layout.0, layout.1, layout.2, refl) in
+        let away : IsPtr (Far len ds no_marks) = (layout.0, layout.1, layout.2, refl, refl) in
         subst (KeepsSealed s) (sym (evicted_is s p len ds from away marks near alive evac))
         (one_cell s p (far_word len ds) _ (nowhere s p (far_word len ds) (λ n d place k e.
         let odd : Some (Far len ds no_marks) ≡ Some (Near n d place k) = sym (far_says len ds away) ∙ e in absurd cc)));
     comes = λ place marks row far alive found.
         let layout = (read_says (s.cell p) (Far len ds marks) (law.cells.cell_read p).0 far).0 in
-        subst (KeepsSealed s) (sym (fetched_come s s p len ds place row marks far alive (layout_there true place layout.0 layout.1 layout.2 found))) (taken true place layout.0 layout.1 layout.2 found _);
+        subst (KeepsSealed s) (sym (fetched_come s s p len ds place row marks far alive (layout_there true place layout.0 layout.1 layout.2 found))) (taken true place layout.0 layout.1 layout.2 found false _);
     ends = ended s p;
   }
 

@@ -6,7 +6,7 @@ use Rattle.far_word.specs.declared.sizes.TheConstants.{CELLS, LONGEST}
 use Rattle.far_word.specs.Pointer.{read_of}
 use Rattle.far_word.specs.Sizes.{size_of, words_for}
 use Rattle.far_core.specs.declared.event.Event.{Event}
-use Rattle.far_core.specs.declared.event.Event.TheVariants.{ReadEpoch, Open, Pin, Load, Store, Close, Adopt, Ask, Put, Name, See, Mark, Get, Clear, Advance, Look, Offer, PeekJob, SeeJob, Claim, ReadLength, Read, Write, Finish, Collect}
+use Rattle.far_core.specs.declared.event.Event.TheVariants.{ReadEpoch, Open, Pin, Load, Store, Soil, Close, Adopt, Ask, Put, Name, See, Mark, Get, Clear, Advance, Look, Offer, PeekJob, SeeJob, Claim, ReadLength, Read, Write, Finish, Collect}
 use Rattle.far_core.specs.declared.event.Reply.{Reply}
 use Rattle.far_core.specs.declared.event.Reply.TheVariants.{Done, Word}
 use Rattle.far_core.specs.events.Copies.{Alike}
@@ -90,6 +90,7 @@ is_rounds (Open m) = false
 is_rounds (Pin m p) = false
 is_rounds (Load m p i) = false
 is_rounds (Store m p i w) = false
+is_rounds (Soil m p) = false
 is_rounds (Close m) = false
 is_rounds (Adopt m p) = false
 is_rounds (Ask m p k) = false

@@ -10,7 +10,7 @@ use Rattle.far_word.specs.Bytes.{bytes_of, packed_word}
 use Rattle.far_word.specs.Pointer.{read_of}
 use Rattle.far_word.specs.Sizes.{words_for}
 use Rattle.far_core.specs.events.Naming.{is_dropped}
-use Rattle.far_core.specs.state.Law.{IsStored}
+use Rattle.far_core.specs.state.Law.{IsStored, is_dirty}
 use Rattle.far_core.specs.state.State.{State, addr}
 use Rattle.far_device.specs.declared.fault.DeviceFault.{DeviceFault}
 use Rattle.far_device.specs.declared.fault.DeviceFault.TheVariants as fault
@@ -50,9 +50,9 @@ module _ (D : Type 0) (writes : D → ℕ → List ℕ → Result (Unit {0}) Dev
   abbrev pub WritesInVain : D → D → Type 0
   WritesInVain old new = (between : D) × WritesIt old (Ok tt) between × lets_go between p new × (is_dropped (read_of (s.cell p)) ≡ false)
 
-  -- where it went far, one write that was done; where it was retired, no read, and at most one write; a refusal is that of one write
+  -- where it went far, one write that was done, or nothing, if it had no DIRTY; where it was retired, no read, and at most one write; a refusal is that of one write
   abbrev pub AsksToEvict : Result Bool Refused → D → D → Type 0
-  AsksToEvict (Ok true) old new = WritesIt old (Ok tt) new
+  AsksToEvict (Ok true) old new = WritesIt old (Ok tt) new ⊎ ((new ≡ old) × (is_dirty (read_of (s.cell p)) ≡ false))
   AsksToEvict (Ok false) old new = lets_go old p new ⊎ WritesInVain old new
   AsksToEvict (Err why) old new = WritesIt old (Err (fault_of why)) new
 
@@ -65,11 +65,11 @@ pub record HasGiven (still : Type 0) (s t : State) (p : ℕ) (place : Place) (by
   pub exact : still → t ≡ fetched s p place (packed_word bytes)
 
 module _ (D : Type 0) (reads : D → ℕ → Result (List ℕ) DeviceFault → D → Type 0) (lets_go : D → ℕ → D → Type 0) (still : Type 0) (s t : State) (p : ℕ) where
-  -- one read, and then its key let go of: it came near with the bytes that were given, whatever they are
+  -- one read: it came near with the bytes that were given, whatever they are
   abbrev pub ComesAsGiven : Place → D → D → Type 0
-  ComesAsGiven place old new = (bytes : List ℕ) × (between : D) × reads old p (Ok bytes) between × lets_go between p new × HasGiven still s t p place bytes
+  ComesAsGiven place old new = (bytes : List ℕ) × reads old p (Ok bytes) new × HasGiven still s t p place bytes
 
-  -- the same, since its owner was found to have dropped it meanwhile
+  -- one read, and then its key let go of, since its owner was found to have dropped it meanwhile
   abbrev pub ReadsInVain : D → D → Type 0
   ReadsInVain old new = (bytes : List ℕ) × (between : D) × reads old p (Ok bytes) between × lets_go between p new × (is_dropped (read_of (s.cell p)) ≡ false)
 

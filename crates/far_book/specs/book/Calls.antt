@@ -24,7 +24,7 @@ use Rattle.far_hand.specs.Known.{Forgets}
 use Rattle.far_book.specs.book.Actions.{Does, Fetches, Moves, Places, Retires}
 use Rattle.far_book.specs.book.Asking.{AsksToFetch}
 use Rattle.far_book.specs.book.BookOf.{BookOf}
-use Rattle.far_book.specs.book.Dealing.{IsRetired, IsSeen, LearnsNone, Leaves, goal, is_failure, moved_now, order_moved}
+use Rattle.far_book.specs.book.Dealing.{IsRetired, IsSeen, LearnsNone, MovedBy, goal, is_failure, moved_now, order_moved}
 use Rattle.far_book.specs.book.Effects.{order_after, placed, retired}
 use Rattle.far_book.specs.book.Fetching.{IsFetched, RefusesFetch, order_fetched, room_for}
 use Rattle.far_book.specs.book.Home.{home_of}
@@ -109,7 +109,7 @@ module _ {N D : Type 0} (still : Type 0) (view : N → State) (makes : N → Eve
       pub came : Came makes old.near new.near
       -- where it was to go, as far as the words are known it lies there now; over a hand that is still that is all
       pub place : IfOk result (λ o. IfSome o (λ place. goal (view old.near) p ≡ Some place))
-      pub moved : IfOk result (λ o. IfSome o (λ place. Leaves (moved_now (view old.near) p place) (view new.near)))
+      pub moved : IfOk result (λ o. IfSome o (λ place. MovedBy (view old.near) (view new.near) p place))
       pub exact : still → IfOk result (λ o. IfSome o (λ place. view new.near ≡ moved_now (view old.near) p place))
       -- the log that was open is sealed, if it went to another
       pub order : IfOk result (λ o. MatchOption o (new.order ≡ old.order) (λ place. new.order ≡ order_moved (view old.near) p old.order place))
@@ -136,7 +136,7 @@ module _ {N D : Type 0} (still : Type 0) (view : N → State) (makes : N → Eve
       pub came : Came makes old.near new.near
       -- where room is, with one free log left, it lies now
       pub place : IfOk result (λ found. IfSome found (λ place. room_for (view old.near) p ≡ Some place))
-      pub near : IfOk result (λ found. IfSome found (λ place. IsFetched still (is_honest old.device) (view old.near) (view new.near) p place))
+      pub near : IfOk result (λ found. IfSome found (λ place. IsFetched still (view old.near).honest (view old.near) (view new.near) p place))
       -- it is retired, and no word of a span was learned
       pub gone : IfOk result (λ found. IfNone found (IsRetired still (view old.near) (view new.near) p))
       pub unread : IfOk result (λ found. IfNone found (LearnsNone (view old.near) (view new.near)))
@@ -144,9 +144,10 @@ module _ {N D : Type 0} (still : Type 0) (view : N → State) (makes : N → Eve
       pub asked : is_dropped (read_of ((view old.near).cell p)) ≡ true → result ≡ Ok None
       -- the log that was open is sealed, if it came to another
       pub order : IfOk result (λ found. new.order ≡ order_fetched (view old.near) old.order found)
-      -- what the device was asked; it forgets the bytes unless the call is refused
+      -- what the device was asked; it forgets the bytes of what is retired alone
       pub called : AsksToFetch D reads lets_go still (view old.near) (view new.near) p result old.device new.device
-      pub forgot : forgets → IfOk result (λ _. contents new.device p ≡ None)
+      pub forgot : forgets → IfOk result (λ found. IfNone found (contents new.device p ≡ None))
+      pub still_held : IfOk result (λ found. IfSome found (λ _. contents new.device ≡ contents old.device))
       pub follows : Follows contents is_honest faults fails_at_most (other_than p) (is_failure result) old.device new.device
       -- why it is refused: a device that reads in place wants no memory, and without room none is asked
       pub refused : IfErr result (λ why. RefusesFetch why (room_for (view old.near) p) (is_honest old.device))

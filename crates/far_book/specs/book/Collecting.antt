@@ -11,7 +11,7 @@ use Rattle.far_word.specs.Job.{job_of}
 use Rattle.far_word.specs.Pointer.{read_of}
 use Rattle.far_core.specs.declared.event.Event.TheVariants.{Name}
 use Rattle.far_core.specs.events.Collect.{collected}
-use Rattle.far_core.specs.events.Naming.{is_dropped, no_marks}
+use Rattle.far_core.specs.events.Naming.{is_dropped, unmarked}
 use Rattle.far_core.specs.events.Step.{after}
 use Rattle.far_core.specs.state.Jobs.{IsGood, is_finished, job_at, near_place}
 use Rattle.far_core.specs.state.Law.{Law}
@@ -52,11 +52,11 @@ fate_of (Some (Finished job c)) void dropped = cond (void || dropped) Empties Na
 abbrev pub fate_in : State → ℕ → Job → ℕ → ℕ → Fate
 fate_in s j job word cell = fate_of (job_of word) (is_void s j job (read_of cell)) (is_dropped (read_of cell))
 
--- p's near object is named to a place, to which it was copied: its cell says near there, without marks, and its old span is dead
+-- p's near object is named to a place, to which it was copied: its cell says near there, without marks but DIRTY, as it was, and its old span is dead
 abbrev pub named_of : State → ℕ → Place → Option PtrWord → State
 named_of s p to None = s
 named_of s p to (Some Free) = s
-named_of s p to (Some (Near len ds from marks)) = after s (Name p (s.cell p) (near_word len ds to))
+named_of s p to (Some (Near len ds from marks)) = after s (Name p (s.cell p) (near_word marks.dirty len ds to))
 named_of s p to (Some (Far len ds marks)) = s
 
 abbrev pub named : State → ℕ → Place → State
@@ -154,7 +154,7 @@ abbrev pub NoneOffered : Type 0
 NoneOffered = (s t : State) → TakesBack s JOBS t → (j : ℕ) (job : Job) → j < JOBS → job_of (t.copying.word j) ≢ Some (Offered job)
 
 -- a job that was named was found finished; the round of its offer stood, and its object lay at its source, and wasn't known to be dropped. Now the pointer
--- names its target, without marks, and it is empty
+-- names its target, without marks but DIRTY, and it is empty
 pub record IsCopyNamed (s t : State) (j : ℕ) (job : Job) : Type 0 where
   pub word : ℕ
   pub found : FindsJob (s.copying.word j) word
@@ -163,7 +163,7 @@ pub record IsCopyNamed (s t : State) (j : ℕ) (job : Job) : Type 0 where
   pub good : IsGood s.round_epoch s.round s.copying.since j job
   pub lay : near_place (read_of (s.cell job.pointer)) ≡ Some job.from
   pub alive : is_dropped (read_of (s.cell job.pointer)) ≡ false
-  pub lies : (len ds : ℕ) × (read_of (t.cell job.pointer) ≡ Some (Near len ds job.to no_marks))
+  pub lies : (len ds : ℕ) × (dirty : Bool) × (read_of (t.cell job.pointer) ≡ Some (Near len ds job.to (unmarked dirty)))
   pub empty : t.copying.word j ≡ 0
 
 abbrev pub NamedAreCopies : Type 0

@@ -54,6 +54,14 @@ pub record LeavesSpans (s t : State) : Type 0 where
 abbrev pub LearnsNone : State → State → Type 0
 LearnsNone s t = (a : ℕ) → a % LOG_WORDS < s.tail (a / LOG_WORDS) → IsKnown (t.word a) → IsKnown (s.word a)
 
+-- from s to t p's object has moved there, or stayed, by a word without DROP that was found in its cell
+pub record MovedBy (s t : State) (p : ℕ) (place : Place) : Type 0 where
+  pub word : ℕ
+  pub fits : word < 2 ^ 64
+  pub found : Finds (s.cell p) word
+  pub alive : is_dropped (read_of word) ≡ false
+  pub leaves : Leaves (moved_now (seen s p word) p place) t
+
 -- from s to t a word was found in p's cell that has DROP
 pub record FindsDrop (s t : State) (p : ℕ) : Type 0 where
   pub fits : t.cell p < 2 ^ 64

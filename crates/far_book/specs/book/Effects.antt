@@ -1,5 +1,5 @@
 -- What a call of the book makes of a state.
-use Rattle.std.specs.Prelude.{ℕ, ◌+◌, ◌==◌, if◌then◌else◌, Option, Some, None, List, [], ◌∷◌, ◌++◌}
+use Rattle.std.specs.Prelude.{ℕ, Bool, true, false, ◌+◌, ◌==◌, if◌then◌else◌, Option, Some, None, List, [], ◌∷◌, ◌++◌}
 use Rattle.far_word.specs.declared.pointer.Place.{Place}
 use Rattle.far_word.specs.declared.pointer.PtrWord.{PtrWord}
 use Rattle.far_word.specs.declared.pointer.PtrWord.TheVariants.{Free, Near, Far}
@@ -8,14 +8,14 @@ use Rattle.far_word.specs.Pointer.{read_of, word_of}
 use Rattle.far_word.specs.Sizes.{words_for}
 use Rattle.far_core.specs.declared.event.Event.TheVariants.{Name, Mark}
 use Rattle.far_core.specs.events.Copies.{data_at}
-use Rattle.far_core.specs.events.Naming.{no_marks}
+use Rattle.far_core.specs.events.Naming.{no_marks, unmarked}
 use Rattle.far_core.specs.events.Ranges.{with_row}
 use Rattle.far_core.specs.events.Step.{after}
 use Rattle.far_core.specs.state.State.{State, put, addr}
 
--- the cell of an object that lies near, without marks
-abbrev pub near_word : ℕ → ℕ → Place → ℕ
-near_word len ds place = word_of (Near len ds place no_marks)
+-- the cell of an object that lies near, without marks but DIRTY, and that as said
+abbrev pub near_word : Bool → ℕ → ℕ → Place → ℕ
+near_word dirty len ds place = word_of (Near len ds place (unmarked dirty))
 
 -- the cell of an object that is far, without marks
 abbrev pub far_word : ℕ → ℕ → ℕ
@@ -31,7 +31,7 @@ with_blank_span s p len ds place = with_written_span s p len ds place (λ _. 0)
 
 -- a new object of zeros is placed: its span is written, and p's cell, which was free, names it
 abbrev pub placed : State → ℕ → ℕ → ℕ → Place → State
-placed s p len ds place = after (with_blank_span s p len ds place) (Name p 0 (near_word len ds place))
+placed s p len ds place = after (with_blank_span s p len ds place) (Name p 0 (near_word true len ds place))
 
 -- a cell is free
 abbrev pub with_free_cell : State → ℕ → State
@@ -45,21 +45,21 @@ retired s p = after s (Name p (s.cell p) 0)
 abbrev pub marked : State → ℕ → State
 marked s p = after s (Mark p)
 
--- a near object is copied to a place, and its cell names that, without marks; the span at its old place is dead. Nothing else is moved
+-- a near object is copied to a place, and its cell names that, without marks but DIRTY, as it was; the span at its old place is dead. Nothing else is moved
 abbrev pub moved_of : State → ℕ → Place → Option PtrWord → State
 moved_of s p place None = s
 moved_of s p place (Some Free) = s
-moved_of s p place (Some (Near len ds from marks)) = after (with_written_span s p len ds place (data_at s.word from)) (Name p (s.cell p) (near_word len ds place))
+moved_of s p place (Some (Near len ds from marks)) = after (with_written_span s p len ds place (data_at s.word from)) (Name p (s.cell p) (near_word marks.dirty len ds place))
 moved_of s p place (Some (Far len ds marks)) = s
 
 abbrev pub moved : State → ℕ → Place → State
 moved s p place = moved_of s p place (read_of (s.cell p))
 
--- a near object stays where it lies, without marks
+-- a near object stays where it lies, without marks but DIRTY, as it was
 abbrev pub stayed_of : State → ℕ → Option PtrWord → State
 stayed_of s p None = s
 stayed_of s p (Some Free) = s
-stayed_of s p (Some (Near len ds place marks)) = after s (Name p (s.cell p) (near_word len ds place))
+stayed_of s p (Some (Near len ds place marks)) = after s (Name p (s.cell p) (near_word marks.dirty len ds place))
 stayed_of s p (Some (Far len ds marks)) = s
 
 abbrev pub stayed : State → ℕ → State
@@ -80,7 +80,7 @@ abbrev pub fetched_of : State → ℕ → Place → (ℕ → ℕ) → Option Ptr
 fetched_of s p place row None = s
 fetched_of s p place row (Some Free) = s
 fetched_of s p place row (Some (Near len ds from marks)) = s
-fetched_of s p place row (Some (Far len ds marks)) = after (with_written_span s p len ds place row) (Name p (s.cell p) (near_word len ds place))
+fetched_of s p place row (Some (Far len ds marks)) = after (with_written_span s p len ds place row) (Name p (s.cell p) (near_word false len ds place))
 
 abbrev pub fetched : State → ℕ → Place → (ℕ → ℕ) → State
 fetched s p place row = fetched_of s p place row (read_of (s.cell p))

@@ -33,7 +33,7 @@ far_len (Some (Far len ds marks)) = len
 abbrev pub room_for : State → ℕ → Option Place
 room_for s p = room s (size_of (far_len (read_of (s.cell p)))) true
 
--- it has come near to a place, with as many bytes as it has: of an honest device those that were stored. Words may have been forgotten
+-- it has come near to a place, with as many bytes as it has: where the far side is honest, those that were stored. Words may have been forgotten
 pub record IsFetched (still : Type 0) (is_honest : Bool) (s t : State) (p : ℕ) (place : Place) : Type 0 where
   pub row : ℕ → ℕ
   pub kept : t ≡ record (fetched s p place row) { word = t.word }

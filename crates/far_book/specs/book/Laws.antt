@@ -11,9 +11,9 @@ use Rattle.far_word.specs.Sizes.{size_of, words_for}
 use Rattle.far_core.specs.declared.event.Kind.TheVariants.{Free, Open, Sealed}
 use Rattle.far_core.specs.events.Copies.{Alike, data_at}
 use Rattle.far_core.specs.events.Get.{IsUncopied, IsVacant}
-use Rattle.far_core.specs.events.Naming.{is_dropped, no_marks}
+use Rattle.far_core.specs.events.Naming.{is_dropped, no_marks, unmarked}
 use Rattle.far_core.specs.events.Quiet.{is_quiet}
-use Rattle.far_core.specs.state.Law.{Law, Blank, IsStored}
+use Rattle.far_core.specs.state.Law.{Law, Blank, IsStored, is_dirty}
 use Rattle.far_core.specs.state.Room.{room}
 use Rattle.far_core.specs.state.Spans.{spans_of}
 use Rattle.far_core.specs.state.State.{State, addr}
@@ -23,11 +23,11 @@ use Rattle.far_book.specs.book.Effects.{evicted, placed, retired, fetched, moved
 use Rattle.far_book.specs.book.Reached.{Reached}
 use Rattle.far_book.specs.book.Releasing.{released}
 
--- from s to t p has got an object: its cell says near, at the place, with the length and the data structure and without marks; its
+-- from s to t p has got an object: its cell says near, at the place, with the length and the data structure and without marks but DIRTY; its
 -- header stands there, and zeros behind it; its log is the open one, and ends later by the object's size. All other cells, words
 -- and tails stay, and no log but the one that was open changes its kind: that is sealed
 pub record IsPlaced (s t : State) (p len ds : ℕ) (place : Place) : Type 0 where
-  pub cell : read_of (t.cell p) ≡ Some (Near len ds place no_marks)
+  pub cell : read_of (t.cell p) ≡ Some (Near len ds place (unmarked true))
   pub cells : (q : ℕ) → q ≢ p → t.cell q ≡ s.cell q
   pub header : t.word (addr place) ≡ head_word p len ds
   pub zeros : Blank t.word len place
@@ -46,11 +46,11 @@ pub record IsFreed (s t : State) (p : ℕ) : Type 0 where
   pub tails : (l : ℕ) → t.tail l ≡ s.tail l
   pub kinds : (l : ℕ) → t.kind l ≡ s.kind l
 
--- from s to t p's object has gone to a place: its cell says near there, without marks; a header stands there, and its data words as they stood at
+-- from s to t p's object has gone to a place: its cell says near there, without marks but DIRTY, as it was; a header stands there, and its data words as they stood at
 -- the old place; the log is the open one, and ends later by the object's size. All other cells, words and tails stay, the words at the old place too,
 -- and no log but the one that was open changes its kind: that is sealed
 pub record IsMoved (s t : State) (p len ds : ℕ) (from to : Place) : Type 0 where
-  pub cell : read_of (t.cell p) ≡ Some (Near len ds to no_marks)
+  pub cell : read_of (t.cell p) ≡ Some (Near len ds to (unmarked (is_dirty (read_of (s.cell p)))))
   pub cells : (q : ℕ) → q ≢ p → t.cell q ≡ s.cell q
   pub header : t.word (addr to) ≡ head_word p len ds
   pub copy : Alike (data_at t.word to) (data_at s.word from) (words_for len)
@@ -61,9 +61,9 @@ pub record IsMoved (s t : State) (p len ds : ℕ) (from to : Place) : Type 0 whe
   pub seals : (l : ℕ) → l ≢ to.log → s.kind l ≡ Open → t.kind l ≡ Sealed
   pub kinds : (l : ℕ) → l ≢ to.log → s.kind l ≢ Open → t.kind l ≡ s.kind l
 
--- from s to t p's cell has lost its marks; all other cells, all words, and the tail and the kind of each log stay
+-- from s to t p's cell has lost its marks but DIRTY; all other cells, all words, and the tail and the kind of each log stay
 pub record IsUnmarked (s t : State) (p len ds : ℕ) (place : Place) : Type 0 where
-  pub cell : read_of (t.cell p) ≡ Some (Near len ds place no_marks)
+  pub cell : read_of (t.cell p) ≡ Some (Near len ds place (unmarked (is_dirty (read_of (s.cell p)))))
   pub cells : (q : ℕ) → q ≢ p → t.cell q ≡ s.cell q
   pub words : (a : ℕ) → t.word a ≡ s.word a
   pub tails : (l : ℕ) → t.tail l ≡ s.tail l

@@ -28,7 +28,7 @@ abbrev pub HasNoJob : State → Type 0
 HasNoJob s = (j : ℕ) → s.copying.word j ≡ 0
 
 -- all is left out that owners may change at any moment, or that the book can't know of them: of the words of the logs the
--- headers of spans alone are left, and of the owners their scopes, and what they remember, use and hold, are those of
+-- headers of spans alone are left, and of the owners their scopes, and what they remember, use, hold and have soiled, are those of
 -- owners that have done nothing. What an owner was promised of a far side isn't the book's either, nor what copiers have
 abbrev pub own_part : State → State
 own_part s = record (hidden s s.cell (λ a. cond (s.starts a) (s.word a) 0) (λ j. untaken (s.copying.word j))) { honest = false }

@@ -1,5 +1,5 @@
 -- When an object that has no place may get one in the book's own part of a state: a new one, or one that was far.
-use Rattle.std.specs.Prelude.{◌≡◌, ℕ, ◌*◌, ◌<◌, false, Option, Some}
+use Rattle.std.specs.Prelude.{◌≡◌, ℕ, ◌*◌, ◌<◌, Bool, false, Option, Some}
 use Rattle.far_word.specs.declared.mark.Marks.{Marks}
 use Rattle.far_word.specs.declared.pointer.Place.{Place}
 use Rattle.far_word.specs.declared.pointer.PtrWord.{PtrWord}
@@ -23,9 +23,9 @@ pub record Placeable (s : State) (p len ds : ℕ) (place : Place) : Type 0 where
   pub next : IsNext s place
   pub bare : (a : ℕ) → s.starts a ≡ false → s.word a ≡ 0
 
--- the state with the object's header written and its span taken
-abbrev pub with_object : State → ℕ → ℕ → ℕ → Place → State
-with_object s p len ds place = with_span (record s { word = put s.word (addr place) (head_word p len ds) }) p (near_word len ds place) len place
+-- the state with the object's header written and its span taken, its cell without marks but DIRTY, and that as said
+abbrev pub with_object : State → Bool → ℕ → ℕ → ℕ → Place → State
+with_object s dirty p len ds place = with_span (record s { word = put s.word (addr place) (head_word p len ds) }) p (near_word dirty len ds place) len place
 
 -- a cell says that its object is far, with this length and data structure, and it isn't dropped
 abbrev pub IsAbsent : Option PtrWord → ℕ → ℕ → Type 0

@@ -1,7 +1,7 @@
 -- Which states the legal events of the core lead to.
 use Rattle.std.specs.Prelude.{◌≡◌, List, All}
 use Rattle.far_core.specs.declared.event.Event.{Event}
-use Rattle.far_core.specs.declared.event.Event.TheVariants.{Adopt, Ask, Claim, Close, Finish, Load, Open, PeekJob, Pin, Read, ReadEpoch, ReadLength, Store, Write}
+use Rattle.far_core.specs.declared.event.Event.TheVariants.{Adopt, Ask, Claim, Close, Finish, Load, Open, PeekJob, Pin, Read, ReadEpoch, ReadLength, Soil, Store, Write}
 use Rattle.far_core.specs.events.Ranges.{AllLegal, after_events}
 use Rattle.far_core.specs.events.Step.{Fits}
 use Rattle.far_core.specs.state.State.{State}
@@ -13,6 +13,7 @@ IsOfBook (Open m) = ⊥
 IsOfBook (Pin m p) = ⊥
 IsOfBook (Load m p i) = ⊥
 IsOfBook (Store m p i w) = ⊥
+IsOfBook (Soil m p) = ⊥
 IsOfBook (Close m) = ⊥
 IsOfBook (Adopt m p) = ⊥
 IsOfBook (Ask m p mark) = ⊥

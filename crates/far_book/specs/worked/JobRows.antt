@@ -32,38 +32,38 @@ copies = claims ∷ Step (ReadLength 0) ∷ Step (Read 0 0) ∷ Step (Write 0 0)
 abbrev pub CopyIsOffered : Type 0
 CopyIsOffered =
     answers start (first ++ (Job 0 ∷ Job 1 ∷ Cell 0 ∷ Log 0 ∷ Log 2 ∷ []))
-    ≡ At (place 0 0) ∷ At (place 1 0) ∷ Replies (Word 0x8400000000010008) ∷ Replies (Epoch 1) ∷ Replies (Word 0) ∷ At (place 2 0)
-    ∷ Holds 0x4000200000000000 ∷ Holds 0 ∷ Holds 0xa400000000010008 ∷ log_has 0 16 0 1008 ∷ log_has 2 0 16 1008 ∷ []
+    ≡ At (place 0 0) ∷ At (place 1 0) ∷ Replies (Word 0x8600000000010008) ∷ Replies (Epoch 1) ∷ Replies (Word 0) ∷ At (place 2 0)
+    ∷ Holds 0x4000200000000000 ∷ Holds 0 ∷ Holds 0xa600000000010008 ∷ log_has 0 16 0 1008 ∷ log_has 2 0 16 1008 ∷ []
 
 -- it stays offered until a copier takes it; one that has finished is named, and the job is empty
 abbrev pub FinishedIsNamed : Type 0
 FinishedIsNamed =
     after_first (Collects ∷ Job 0 ∷ (copies ++ (Job 0 ∷ Collects ∷ Cell 0 ∷ Job 0 ∷ Log 0 ∷ Log 2 ∷ Collects ∷ [])))
     ≡ Named 0 ∷ Holds 0x4000200000000000 ∷ Replies Done ∷ Replies (Word 0xa100000000010008) ∷ Replies (Word 0) ∷ Replies Done ∷ Replies Done
-    ∷ Holds 0xc000200000000000 ∷ Named 1 ∷ Holds 0x8400000800010008 ∷ Holds 0 ∷ log_has 0 0 16 1008 ∷ log_has 2 16 0 1008 ∷ Named 0 ∷ []
+    ∷ Holds 0xc000200000000000 ∷ Named 1 ∷ Holds 0x8600000800010008 ∷ Holds 0 ∷ log_has 0 0 16 1008 ∷ log_has 2 16 0 1008 ∷ Named 0 ∷ []
 
 -- its owner has had the object moved behind the copy: the job is empty, and the object lies there still
 abbrev pub MovedIsntNamed : Type 0
 MovedIsntNamed =
     answers (led_by start (first ++ copies)) (Step (Adopt 0 0) ∷ Step (Ask 0 0 Moved) ∷ MovesNow 0 ∷ Collects ∷ Cell 0 ∷ Job 0 ∷ Log 2 ∷ [])
-    ≡ Replies (Word 0xa400000000010008) ∷ Replies (Word 0xa400000000010008) ∷ At (place 2 2) ∷ Named 0 ∷ Holds 0x8400000802010008 ∷ Holds 0 ∷ log_has 2 16 16 992 ∷ []
+    ≡ Replies (Word 0xa600000000010008) ∷ Replies (Word 0xa600000000010008) ∷ At (place 2 2) ∷ Named 0 ∷ Holds 0x8600000802010008 ∷ Holds 0 ∷ log_has 2 16 16 992 ∷ []
 
 -- its owner has dropped the object: the job is empty, and the cell is as it was
 abbrev pub DroppedIsntNamed : Type 0
 DroppedIsntNamed =
     answers (led_by start (first ++ copies)) (Step (Adopt 0 0) ∷ Step (Ask 0 0 Dropped) ∷ Collects ∷ Cell 0 ∷ Job 0 ∷ Log 0 ∷ [])
-    ≡ Replies (Word 0xa400000000010008) ∷ Replies (Word 0xa400000000010008) ∷ Named 0 ∷ Holds 0xac00000000010008 ∷ Holds 0 ∷ log_has 0 16 0 1008 ∷ []
+    ≡ Replies (Word 0xa600000000010008) ∷ Replies (Word 0xa600000000010008) ∷ Named 0 ∷ Holds 0xae00000000010008 ∷ Holds 0 ∷ log_has 0 16 0 1008 ∷ []
 
 -- the round of the offer is over, or the log has left it: neither is named, and the job is empty
 abbrev pub OldIsntNamed : Type 0
 OldIsntNamed =
     answers (led_by start (first ++ copies)) (Step (Advance 0) ∷ Collects ∷ Cell 0 ∷ Job 0 ∷ [])
-    ≡ Replies (Epoch 2) ∷ Named 0 ∷ Holds 0xa400000000010008 ∷ Holds 0 ∷ []
+    ≡ Replies (Epoch 2) ∷ Named 0 ∷ Holds 0xa600000000010008 ∷ Holds 0 ∷ []
 
 abbrev pub LeftIsntNamed : Type 0
 LeftIsntNamed =
     answers (led_by start (first ++ copies)) (Step (Clear 0) ∷ Collects ∷ Cell 0 ∷ Job 0 ∷ [])
-    ≡ Replies (Word 0xa400000000010008) ∷ Named 0 ∷ Holds 0x8400000000010008 ∷ Holds 0 ∷ []
+    ≡ Replies (Word 0xa600000000010008) ∷ Named 0 ∷ Holds 0x8600000000010008 ∷ Holds 0 ∷ []
 
 -- a void job is empty if it is still offered, and stays while a copier has it
 abbrev pub VoidIsEmpty : Type 0
@@ -76,7 +76,7 @@ TakenStays =
 
 -- offered jobs are taken back, and others aren't
 abbrev pub OfferedIsTakenBack : Type 0
-OfferedIsTakenBack = after_first (TakesBack ∷ Job 0 ∷ Cell 0 ∷ []) ≡ Made ∷ Holds 0 ∷ Holds 0xa400000000010008 ∷ []
+OfferedIsTakenBack = after_first (TakesBack ∷ Job 0 ∷ Cell 0 ∷ []) ≡ Made ∷ Holds 0 ∷ Holds 0xa600000000010008 ∷ []
 
 abbrev pub FinishedStays : Type 0
 FinishedStays =

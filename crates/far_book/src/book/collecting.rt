@@ -17,8 +17,7 @@ ghost use Rattle.far_book.specs.book.Jobs.{is_good};
 
 use crate::book::Book;
 use crate::book::next::names_place;
-use crate::book::renaming::{is_dropped, rename};
-use crate::book::words::near_word;
+use crate::book::renaming::{is_dropped, rename_near};
 use crate::jobs::Noted;
 use far_device::Device;
 use far_hand::Near;
@@ -152,8 +151,7 @@ impl<N: Near + Drop, D: Device + Drop> Book<N, D> {
         let PtrWord::Near { len, ds, .. } = PtrWord::known(cell) else {
             unreachable!()
         };
-        let new = near_word(len, ds, what.to);
-        let Ok(()) = rename(&mut self.near, what.pointer, cell, new) else {
+        let Ok(()) = rename_near(&mut self.near, what.pointer, cell, len, ds, what.to) else {
             return false;
         };
         self.ledger.pass(what.from.log, what.to.log, size_of(len));

@@ -1,6 +1,6 @@
 //! How a far object comes near.
 
-ghost use Rattle.std.specs.Prelude.{◌≡◌, ◌+◌, ◌*◌, ◌^◌, ◌<◌, ◌≤◌, ℕ, true, None, Some, length, Ok, Err, IfOk, IfErr};
+ghost use Rattle.std.specs.Prelude.{false, ◌≡◌, ◌+◌, ◌*◌, ◌^◌, ◌<◌, ◌≤◌, ℕ, true, None, Some, length, Ok, Err, IfOk, IfErr};
 ghost use Rattle.far_word.specs.declared.pointer.PtrWord.TheVariants.{Near as near_at};
 ghost use Rattle.far_word.specs.declared.refused.Refused.TheVariants as refused;
 ghost use Rattle.far_word.specs.declared.sizes.TheConstants.{CELLS};
@@ -30,8 +30,8 @@ use far_word::{HeadWord, LOG_WORDS, Place, PtrWord, Refused, pack_bytes, size_of
 use std::mem;
 
 impl<N: Near + Drop, D: Device + Drop> Book<N, D> {
-    /// Brings a far object near, and answers where it lies; the device forgets its bytes then. Where its owner has dropped
-    /// it, it is retired instead, and the answer is `None`.
+    /// Brings a far object near, and answers where it lies; the device keeps its bytes, which are its own until it is written.
+    /// Where its owner has dropped it, it is retired instead, and the answer is `None`.
     ///
     /// Refused, in this order, [`Refused::NoRoom`]; [`Refused::Memory`] or [`Refused::Device`], which are the device's; and
     /// [`Refused::Damaged`], where what it gave isn't as long as the object. Nothing has changed then but that the view has
@@ -84,7 +84,6 @@ impl<N: Near + Drop, D: Device + Drop> Book<N, D> {
         };
         self.buffer = bytes;
         self.ledger.take(pointer, size, place);
-        self.device.forget(pointer as u32);
         Ok(Some(place))
     }
 }
@@ -110,7 +109,7 @@ fn come_near<N: Near>(
     requires long { length bytes.now ≡ len }
     requires stored { (N.view near.old).honest ≡ true → (i : ℕ) → i < words_for len → packed_word bytes.now i ≡ (N.view near.old).stored pointer i }
     ensures padded { IsStored (packed_word bytes.now) len }
-    ensures done { IfOk result (λ _. Renamed (with_written_span (N.view near.old) pointer len ds place (packed_word bytes.now)) (N.view near.new) pointer (near_word len ds place)) }
+    ensures done { IfOk result (λ _. Renamed (with_written_span (N.view near.old) pointer len ds place (packed_word bytes.now)) (N.view near.new) pointer (near_word false len ds place)) }
     ensures set { N.still → IfOk result (λ _. N.view near.new ≡ fetched (N.view near.old) pointer place (packed_word bytes.now)) }
     ensures won { N.still → IfErr result (λ _. ⊥) }
     ensures fits { IfErr result (λ word. word < 2 ^ 64) }
@@ -120,7 +119,7 @@ fn come_near<N: Near>(
     ensures came { Came N.makes near.old near.new }
 {
     put_object(near, pointer, len, ds, place, bytes);
-    rename(near, pointer, found, near_word(len, ds, place))
+    rename(near, pointer, found, near_word(false, len, ds, place))
 }
 
 // Writes a header, and an object's bytes behind it.

@@ -1,6 +1,6 @@
 //! How an object goes far: the device holds its bytes before its cell says so.
 
-ghost use Rattle.std.specs.Prelude.{◌≡◌, ◌⊎◌, ◌+◌, ◌*◌, ◌<◌, ◌≤◌, ◌++◌, true, false, not, take, length, Some, None, IfOk, IfErr};
+ghost use Rattle.std.specs.Prelude.{◌≡◌, ◌⊎◌, ◌+◌, ◌*◌, ◌<◌, ◌≤◌, ◌++◌, true, false, not, take, length, Some, None, IfOk, IfErr, IfSome};
 ghost use Rattle.far_word.specs.declared.refused.Refused.TheVariants.{Memory, Device as Failed};
 ghost use Rattle.far_word.specs.declared.sizes.TheConstants.{CELLS, LOG_WORDS, LONGEST};
 ghost use Rattle.far_word.specs.Bytes.{bytes_of};
@@ -8,7 +8,7 @@ ghost use Rattle.far_word.specs.Pointer.{read_of};
 ghost use Rattle.far_word.specs.Sizes.{words_for};
 ghost use Rattle.far_core.specs.events.Copies.{data_at};
 ghost use Rattle.far_core.specs.events.Naming.{is_dropped};
-ghost use Rattle.far_core.specs.state.Law.{IsStored};
+ghost use Rattle.far_core.specs.state.Law.{IsStored, is_dirty};
 ghost use Rattle.far_device.specs.Following.{Follows, other_than};
 ghost use Rattle.far_hand.specs.Finds.{Finds};
 ghost use Rattle.far_hand.specs.Came.{Came, only};
@@ -20,11 +20,11 @@ ghost use Rattle.far_book.specs.book.Actions.{Does, Evicts};
 ghost use Rattle.far_book.specs.book.Effects.{evicted, far_word};
 ghost use Rattle.far_book.specs.book.Evicting.{GoesFar, IsQuietData, IsQuietIn, Learns, ReadsOn};
 ghost use Rattle.far_book.specs.book.Only.{Names, Reads};
-ghost use Rattle.far_book.specs.book.Renaming.{seen};
+ghost use Rattle.far_book.specs.book.Renaming.{Renamed, seen, stops};
 ghost use Rattle.far_book.specs.book.Sending.{Sends};
 
 use crate::book::Book;
-use crate::book::renaming::rename;
+use crate::book::renaming::{is_dirty, is_dropped, rename};
 use crate::book::words::far_word;
 use far_device::{Device, DeviceFault};
 use far_hand::Near;
@@ -35,7 +35,8 @@ const SHORT: u16 = 64;
 
 impl<N: Near + Drop, D: Device + Drop> Book<N, D> {
     /// Sends a quiet near object with EVAC far: the device holds its bytes, its cell says far, without marks, and its span is
-    /// dead. `false` where its owner was found to have dropped it: it is retired then, and the device forgets its bytes.
+    /// dead. Of one without DIRTY the device has held the bytes since: no word is read and it isn't asked, unless DIRTY is found at the
+    /// naming. `false` where its owner was found to have dropped it: it is retired then, and the device forgets its bytes.
     /// Refused [`Refused::Memory`] or [`Refused::Device`] where the device is, and the object is as it was.
     #[inline(always)]
     pub fn evict(&mut self, pointer: u16) -> Result<bool, Refused>
@@ -53,6 +54,7 @@ impl<N: Near + Drop, D: Device + Drop> Book<N, D> {
         ensures came { Came N.makes self.old.near self.new.near }
         ensures refused { IfErr result (λ why. (why ≡ Memory) ⊎ (why ≡ Failed)) }
         ensures called { AsksToEvict D D.writes D.lets_go (N.view self.old.near) pointer result self.old.device self.new.device }
+        ensures unasked { N.still → result ≡ Ok true → is_dirty (read_of ((N.view self.old.near).cell pointer)) ≡ false → self.new.device ≡ self.old.device }
         ensures order { self.new.order ≡ self.old.order }
         ensures forgotten { D.forgets → result ≡ Ok false → D.contents self.new.device pointer ≡ None }
         ensures follows { Follows D.contents D.honest D.faults D.fails_at_most (other_than pointer) (is_failure result) self.old.device self.new.device }
@@ -72,10 +74,17 @@ impl<N: Near + Drop, D: Device + Drop> Book<N, D> {
             self.retire(pointer);
             return Ok(false);
         }
+        let Some(word) = self.leave_clean(pointer, found, len, ds, place) else {
+            return Ok(true);
+        };
+        if is_dropped(word) {
+            self.retire(pointer);
+            return Ok(false);
+        }
         if let Err(why) = self.send(pointer, len, ds, place) {
             return Err(why);
         }
-        match self.name_far(pointer, found, len, ds, place) {
+        match self.name_far(pointer, word, len, ds, place) {
             Ok(()) => Ok(true),
             Err(_) => {
                 self.retire(pointer);
@@ -84,11 +93,48 @@ impl<N: Near + Drop, D: Device + Drop> Book<N, D> {
         }
     }
 
+    // Names an object far that has no DIRTY: the device holds its bytes. Else the word by which it is to be named: as it was, if it
+    // has DIRTY, or as it was found instead, with DROP or DIRTY.
+    #[inline(always)]
+    fn leave_clean(
+        &mut self,
+        pointer: u16,
+        found: u64,
+        len: u16,
+        ds: u8,
+        place: Place,
+    ) -> Option<u64>
+        requires pointer { pointer < CELLS * (N.view self.old.near).mutators }
+        requires found { found ≡ (N.view self.old.near).cell pointer }
+        requires near { IsQuietIn (N.view self.old.near) pointer len ds place }
+        requires evac { has_evac (read_of found) ≡ true }
+        requires alive { is_dropped (read_of found) ≡ false }
+        ensures left { result ≡ None → N.view self.new.near ≡ record (evicted (N.view self.old.near) pointer) { word = (N.view self.new.near).word; stored = (N.view self.new.near).stored } }
+        ensures far { result ≡ None → (is_dirty (read_of found) ≡ false) × Renamed (N.view self.old.near) (N.view self.new.near) pointer (far_word len ds) }
+        ensures away { N.still → result ≡ None → N.view self.new.near ≡ evicted (N.view self.old.near) pointer }
+        ensures found { IfSome result (λ word. Finds found word) }
+        ensures kept { IfSome result (λ word. N.view self.new.near ≡ seen (N.view self.old.near) pointer word) }
+        ensures marked { IfSome result (λ word. (is_dropped (read_of word) ≡ true) ⊎ (is_dirty (read_of word) ≡ true)) }
+        ensures won { N.still → IfSome result (λ word. word ≡ found) }
+        ensures names { Came (only (Names pointer (far_word len ds)) N.makes) self.old.near self.new.near }
+        ensures order { self.new.order ≡ self.old.order }
+        ensures device { self.new.device ≡ self.old.device }
+    {
+        if is_dirty(found) {
+            return Some(found);
+        }
+        match self.name_far(pointer, found, len, ds, place) {
+            Ok(()) => None,
+            Err(word) => Some(word),
+        }
+    }
+
     // Reads the words of a quiet object, and has the device hold its bytes: by way of a short row where they fit into one.
     #[inline(always)]
     fn send(&mut self, pointer: u16, len: u16, ds: u8, place: Place) -> Result<(), Refused>
         requires pointer { pointer < CELLS * (N.view self.old.near).mutators }
         requires near { IsQuietIn (N.view self.old.near) pointer len ds place }
+        requires dirty { is_dirty (read_of ((N.view self.old.near).cell pointer)) ≡ true }
         ensures { Sends N.still N.view N.makes D.writes D.contents D.honest D.faults D.fails_at_most self.old self.new pointer len place result }
     {
         if len <= SHORT {
@@ -104,6 +150,7 @@ impl<N: Near + Drop, D: Device + Drop> Book<N, D> {
     fn send_long(&mut self, pointer: u16, len: u16, ds: u8, place: Place) -> Result<(), Refused>
         requires pointer { pointer < CELLS * (N.view self.old.near).mutators }
         requires near { IsQuietIn (N.view self.old.near) pointer len ds place }
+        requires dirty { is_dirty (read_of ((N.view self.old.near).cell pointer)) ≡ true }
         ensures { Sends N.still N.view N.makes D.writes D.contents D.honest D.faults D.fails_at_most self.old self.new pointer len place result }
     {
         self.keeps_law();
@@ -123,6 +170,7 @@ impl<N: Near + Drop, D: Device + Drop> Book<N, D> {
     ) -> Result<(), Refused>
         requires pointer { pointer < CELLS * (N.view self.old.near).mutators }
         requires near { IsQuietIn (N.view self.old.near) pointer len ds place }
+        requires dirty { is_dirty (read_of ((N.view self.old.near).cell pointer)) ≡ true }
         requires room { 8 * words_for len ≤ length row.old }
         ensures { Sends N.still N.view N.makes D.writes D.contents D.honest D.faults D.fails_at_most self.old self.new pointer len place result }
     {
@@ -150,14 +198,15 @@ impl<N: Near + Drop, D: Device + Drop> Book<N, D> {
         requires near { IsQuietIn (N.view self.old.near) pointer len ds place }
         requires evac { has_evac (read_of found) ≡ true }
         requires alive { is_dropped (read_of found) ≡ false }
-        requires words { IsStored (data_at (N.view self.old.near).word place) len }
-        requires held { D.contents self.old.device pointer ≡ Some (bytes_of (data_at (N.view self.old.near).word place) len) }
-        ensures far { IfOk result (λ _. N.view self.new.near ≡ record (evicted (N.view self.old.near) pointer) { word = (N.view self.new.near).word }) }
+        requires words { is_dirty (read_of found) ≡ true → IsStored (data_at (N.view self.old.near).word place) len }
+        requires held { is_dirty (read_of found) ≡ true → D.contents self.old.device pointer ≡ Some (bytes_of (data_at (N.view self.old.near).word place) len) }
+        ensures far { IfOk result (λ _. N.view self.new.near ≡ record (evicted (N.view self.old.near) pointer) { word = (N.view self.new.near).word; stored = (N.view self.new.near).stored }) }
+        ensures renamed { IfOk result (λ _. Renamed (N.view self.old.near) (N.view self.new.near) pointer (far_word len ds)) }
         ensures forgot { IfOk result (λ _. Forgets (N.view self.old.near) (N.view self.new.near)) }
         ensures set { N.still → IfOk result (λ _. N.view self.new.near ≡ evicted (N.view self.old.near) pointer) }
         ensures won { N.still → IfErr result (λ _. ⊥) }
         ensures found { IfErr result (λ word. Finds found word) }
-        ensures dropped { IfErr result (λ word. is_dropped (read_of word) ≡ true) }
+        ensures stopped { IfErr result (λ word. stops (read_of found) (read_of word) ≡ true) }
         ensures kept { IfErr result (λ word. N.view self.new.near ≡ seen (N.view self.old.near) pointer word) }
         ensures names { Came (only (Names pointer (far_word len ds)) N.makes) self.old.near self.new.near }
         ensures order { self.new.order ≡ self.old.order }

@@ -6,17 +6,16 @@ ghost use Rattle.far_word.specs.declared.sizes.TheConstants.{CELLS};
 ghost use Rattle.far_word.specs.Pointer.{read_of};
 ghost use Rattle.far_core.specs.events.Copies.{data_at};
 ghost use Rattle.far_core.specs.events.Naming.{is_dropped};
-ghost use Rattle.far_book.specs.book.Dealing.{FindsDrop, IsSeen, goal, has_evac, Leaves, moved_now, order_moved};
+ghost use Rattle.far_book.specs.book.Dealing.{FindsDrop, IsSeen, MovedBy, goal, has_evac, moved_now, order_moved};
 ghost use Rattle.far_hand.specs.Quiet.{IsQuietNear};
 ghost use Rattle.far_hand.specs.Came.{Came, only};
 ghost use Rattle.far_book.specs.book.Calls.{MovesObject};
-ghost use Rattle.far_book.specs.book.Effects.{moved, near_word, order_after, stayed, with_written_span};
+ghost use Rattle.far_book.specs.book.Effects.{moved, order_after, stayed, with_written_span};
 ghost use Rattle.far_book.specs.book.Moving.{Copied, CopiedOnly, CopiesMore, HasCopied, MayCopy, MayStay};
-ghost use Rattle.far_book.specs.book.Only.{Names};
+ghost use Rattle.far_book.specs.book.Only.{NamesNear};
 
 use crate::book::Book;
-use crate::book::renaming::{is_dropped, rename};
-use crate::book::words::near_word;
+use crate::book::renaming::{is_dropped, rename_near};
 use far_device::Device;
 use far_hand::Near;
 use far_word::{HeadWord, LOG_WORDS, Place, PtrWord, Refused, size_of, words_for};
@@ -47,7 +46,7 @@ impl<N: Near + Drop, D: Device + Drop> Book<N, D> {
         requires pointer { pointer < CELLS * (N.view self.old.near).mutators }
         requires quiet { IsQuietNear (N.view self.old.near) pointer }
         ensures place { IfOk result (λ o. IfSome o (λ place. goal (N.view self.old.near) pointer ≡ Some place)) }
-        ensures moved { IfOk result (λ o. IfSome o (λ place. Leaves (moved_now (N.view self.old.near) pointer place) (N.view self.new.near))) }
+        ensures moved { IfOk result (λ o. IfSome o (λ place. MovedBy (N.view self.old.near) (N.view self.new.near) pointer place)) }
         ensures order { IfOk result (λ o. MatchOption o (self.new.order ≡ self.old.order) (λ place. self.new.order ≡ order_moved (N.view self.old.near) pointer self.old.order place)) }
         ensures device { self.new.device ≡ self.old.device }
         ensures asked { is_dropped (read_of ((N.view self.old.near).cell pointer)) ≡ true → result ≡ Ok None }
@@ -82,7 +81,7 @@ impl<N: Near + Drop, D: Device + Drop> Book<N, D> {
         requires wanted { has_evac (read_of found) ≡ true }
         requires alive { is_dropped (read_of found) ≡ false }
         ensures place { IfOk result (λ o. IfSome o (λ place. goal (N.view self.old.near) pointer ≡ Some place)) }
-        ensures moved { IfOk result (λ o. IfSome o (λ place. Leaves (moved (N.view self.old.near) pointer place) (N.view self.new.near))) }
+        ensures moved { IfOk result (λ o. IfSome o (λ place. MovedBy (N.view self.old.near) (N.view self.new.near) pointer place)) }
         ensures order { IfOk result (λ o. MatchOption o (self.new.order ≡ self.old.order) (λ place. self.new.order ≡ order_after (N.view self.old.near) self.old.order place)) }
         ensures dropped { IfOk result (λ o. IfNone o (FindsDrop (N.view self.old.near) (N.view self.new.near) pointer)) }
         ensures exact { N.still → IfOk result (λ o. MatchOption o ⊥ (λ place. N.view self.new.near ≡ moved (N.view self.old.near) pointer place)) }
@@ -118,7 +117,7 @@ impl<N: Near + Drop, D: Device + Drop> Book<N, D> {
         requires unwanted { has_evac (read_of found) ≡ false }
         requires alive { is_dropped (read_of found) ≡ false }
         ensures place { IfSome result (λ place. goal (N.view self.old.near) pointer ≡ Some place) }
-        ensures stayed { IfSome result (λ _. Leaves (stayed (N.view self.old.near) pointer) (N.view self.new.near)) }
+        ensures stayed { IfSome result (λ place. MovedBy (N.view self.old.near) (N.view self.new.near) pointer place) }
         ensures dropped { IfNone result (FindsDrop (N.view self.old.near) (N.view self.new.near) pointer) }
         ensures exact { N.still → MatchOption result ⊥ (λ _. N.view self.new.near ≡ stayed (N.view self.old.near) pointer) }
         ensures came { Came N.makes self.old.near self.new.near }
@@ -211,14 +210,14 @@ fn move_object<N: Near>(
     requires found { found ≡ (N.view near.old).cell pointer }
     requires wanted { has_evac (read_of found) ≡ true }
     requires alive { is_dropped (read_of found) ≡ false }
-    ensures moved { result ≡ true → Leaves (moved (N.view near.old) pointer to) (N.view near.new) }
+    ensures moved { result ≡ true → MovedBy (N.view near.old) (N.view near.new) pointer to }
     ensures dropped { result ≡ false → FindsDrop (N.view near.old) (N.view near.new) pointer }
     ensures won { N.still → result ≡ true }
     ensures exact { N.still → N.view near.new ≡ moved (N.view near.old) pointer to }
     ensures came { Came N.makes near.old near.new }
 {
     copy_object(near, pointer, len, ds, from, to);
-    match rename(near, pointer, found, near_word(len, ds, to)) {
+    match rename_near(near, pointer, found, len, ds, to) {
         Ok(()) => true,
         Err(_) => false,
     }
@@ -237,13 +236,13 @@ fn unmark_object<N: Near>(
     requires may { MayStay (N.view near.old) pointer len ds place }
     requires found { found ≡ (N.view near.old).cell pointer }
     requires alive { is_dropped (read_of found) ≡ false }
-    ensures stayed { result ≡ true → Leaves (stayed (N.view near.old) pointer) (N.view near.new) }
+    ensures stayed { result ≡ true → MovedBy (N.view near.old) (N.view near.new) pointer place }
     ensures dropped { result ≡ false → FindsDrop (N.view near.old) (N.view near.new) pointer }
     ensures won { N.still → result ≡ true }
     ensures exact { N.still → N.view near.new ≡ stayed (N.view near.old) pointer }
-    ensures names { Came (only (Names pointer (near_word len ds place)) N.makes) near.old near.new }
+    ensures names { Came (only (NamesNear pointer len ds place) N.makes) near.old near.new }
 {
-    match rename(near, pointer, found, near_word(len, ds, place)) {
+    match rename_near(near, pointer, found, len, ds, place) {
         Ok(()) => true,
         Err(_) => false,
     }

@@ -81,12 +81,25 @@ impl<D: Device + Drop> Book<Plain, D> {
         self.near.core.load_all(owner, pointer, first, words);
     }
 
-    /// Data words of an object that its owner holds, from its word `first` on, become `words`, whose bytes past the object's
-    /// end are 0: a store each.
+    /// An owner sets DIRTY on a pointer that it holds, and has soiled it until it closes: the word before.
+    #[inline]
+    pub fn soil(&mut self, owner: u8, pointer: u16) -> u64
+        requires legal { Legal (core_state self.old.near.core) (Event.Soil owner pointer) }
+        ensures state { core_state self.new.near.core ≡ after (core_state self.old.near.core) (Event.Soil owner pointer) }
+        ensures changes { OthersChange (core_state self.old.near.core) (core_state self.new.near.core) }
+        ensures word { answer (core_state self.old.near.core) (Event.Soil owner pointer) ≡ Reply.Word result }
+        ensures order { self.new.order ≡ self.old.order }
+        ensures device { self.new.device ≡ self.old.device }
+    {
+        self.near.core.soil(owner, pointer)
+    }
+
+    /// Data words of an object that its owner holds and has soiled, from its word `first` on, become `words`, whose bytes past
+    /// the object's end are 0: a store each.
     #[inline]
     pub fn store_all(&mut self, owner: u8, pointer: u16, first: u16, words: &[u64])
         requires own { pointer / CELLS ≡ owner }
-        requires held { IsSome ((core_state self.old.near.core).held pointer) }
+        requires soiled { (core_state self.old.near.core).soiled pointer ≡ true }
         requires inside { first + length words.now ≤ words_for (data_len (core_state self.old.near.core) pointer) }
         requires padding { (k : ℕ) → k < length words.now → slice_index words.now k < 2 ^ (8 * (data_len (core_state self.old.near.core) pointer - 8 * (first + k))) }
         ensures state { core_state self.new.near.core ≡ after_events (core_state self.old.near.core) (stores owner pointer first words.now) }

@@ -4,13 +4,18 @@ ghost use Rattle.std.specs.Prelude.{◌≡◌, ◌*◌, ◌^◌, ◌<◌, false,
 ghost use Rattle.far_word.specs.declared.sizes.TheConstants.{CELLS};
 ghost use Rattle.far_word.specs.Pointer.{read_of};
 ghost use Rattle.far_core.specs.events.Naming.{is_dropped};
-ghost use Rattle.far_book.specs.book.Renaming.{MayRename, Renames};
+ghost use Rattle.far_core.specs.state.Law.{is_dirty};
+ghost use Rattle.far_word.specs.declared.pointer.PtrWord.TheVariants.{Near as near_at};
+ghost use Rattle.far_word.specs.Pointer.{IsPtr};
+ghost use Rattle.far_core.specs.events.Naming.{no_marks};
+ghost use Rattle.far_book.specs.book.Renaming.{MayRename, MayRenameNear, Renames, RenamesNear, stops};
 
+use crate::book::words::near_word;
 use far_hand::Near;
-use far_word::PtrWord;
+use far_word::{Place, PtrWord};
 
-/// Gives a cell a new word, by the word that was last found there. `Err` with the word that was found, where its owner has
-/// dropped the object meanwhile.
+/// Gives a cell a new word, by the word that was last found there. `Err` with the word that was found, where it has DROP, or
+/// DIRTY where the last one had none.
 #[inline(always)]
 pub(crate) fn rename<N: Near>(near: &mut N, pointer: u16, found: u64, new: u64) -> Result<(), u64>
     requires pointer { pointer < CELLS * (N.view near.old).mutators }
@@ -23,12 +28,43 @@ pub(crate) fn rename<N: Near>(near: &mut N, pointer: u16, found: u64, new: u64) 
     match near.name(pointer, found, new) {
         Ok(()) => Ok(()),
         Err(other) => {
-            if is_dropped(other) {
+            if stops(found, other) {
                 return Err(other);
             }
             rename_marked(near, pointer, other, new)
         }
     }
+}
+
+/// Gives the cell of an object that stays near a word without marks but DIRTY, which stays as it is: by the word that was last
+/// found there, or one that is found with DIRTY more. `Err` with the word that was found, where its owner has dropped the
+/// object meanwhile.
+#[inline(always)]
+pub(crate) fn rename_near<N: Near>(
+    near: &mut N,
+    pointer: u16,
+    found: u64,
+    len: u16,
+    ds: u8,
+    place: Place,
+) -> Result<(), u64>
+    requires pointer { pointer < CELLS * (N.view near.old).mutators }
+    requires found { found ≡ (N.view near.old).cell pointer }
+    requires readable { IsSome (read_of found) }
+    requires alive { is_dropped (read_of found) ≡ false }
+    requires layout { IsPtr (near_at len ds place no_marks) }
+    requires may { MayRenameNear (N.view near.old) pointer len ds place }
+    ensures { RenamesNear N.still N.view N.makes near.old near.new pointer found len ds place result }
+{
+    let new = near_word(is_dirty(found), len, ds, place);
+    let Err(word) = rename(near, pointer, found, new) else {
+        return Ok(());
+    };
+    if is_dropped(word) {
+        return Err(word);
+    }
+    // It was written before its owner was seen clear, and now it is known to be.
+    rename(near, pointer, word, near_word(true, len, ds, place))
 }
 
 // The same, where marks were just found added: as often as more of them are found.
@@ -46,15 +82,36 @@ fn rename_marked<N: Near>(near: &mut N, pointer: u16, found: u64, new: u64) -> R
         match near.name(pointer, word, new) {
             Ok(()) => return Ok(()),
             Err(more) => {
-                if is_dropped(more) {
+                if stops(word, more) {
                     return Err(more);
                 }
                 word = more;
             }
         }
     }
-    // Each try found HOT or MOVE added, and each of them can be added once.
+    // Each try found HOT or MOVE added, and each of them can be added once; DIRTY is as it was.
     unreachable!()
+}
+
+/// Whether a naming by a word ends where another is found: that has DROP, or DIRTY that the first hadn't.
+pub(crate) fn stops(known: u64, found: u64) -> bool
+    requires known { IsSome (read_of known) }
+    requires found { IsSome (read_of found) }
+    ensures value { result ≡ stops (read_of known) (read_of found) }
+    ensures fits { found < 2 ^ 64 }
+{
+    is_dropped(found) || (is_dirty(found) && !is_dirty(known))
+}
+
+/// Whether a near word has DIRTY.
+pub(crate) fn is_dirty(word: u64) -> bool
+    requires { IsSome (read_of word) }
+    ensures { result ≡ is_dirty (read_of word) }
+{
+    match PtrWord::known(word) {
+        PtrWord::Near { marks, .. } => marks.dirty,
+        PtrWord::Free | PtrWord::Far { .. } => false,
+    }
 }
 
 /// Whether a word says that its object was dropped.

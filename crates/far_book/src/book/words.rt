@@ -13,18 +13,19 @@ const NO_MARKS: Marks = Marks {
     evac: false,
     moved: false,
     dropped: false,
+    dirty: false,
 };
 
-/// The cell of an object that lies near, without marks.
-pub(crate) fn near_word(len: u16, ds: u8, place: Place) -> u64
+/// The cell of an object that lies near, without marks but DIRTY, and that as said.
+pub(crate) fn near_word(dirty: bool, len: u16, ds: u8, place: Place) -> u64
     requires { IsPtr (near_at len ds place no_marks) }
-    ensures { result ≡ near_word len ds place }
+    ensures { result ≡ near_word dirty len ds place }
 {
     let word = PtrWord::Near {
         len,
         ds,
         place,
-        marks: NO_MARKS,
+        marks: Marks { dirty, ..NO_MARKS },
     };
     word.pack()
 }

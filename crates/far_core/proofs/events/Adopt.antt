@@ -16,7 +16,7 @@ use Rattle.far_core.specs.declared.event.Event.TheVariants.{Adopt}
 use Rattle.far_word.specs.Pointer.{read_of}
 
 pub keeps_adopt : (s : State) (p : ℕ) → Law s → in_use (read_of (s.cell p)) ≡ true → Law record s { used = put s.used p true }
-keeps_adopt s p law live = law_with_owners s s.scope s.remembered (put s.used p true) s.held law
+keeps_adopt s p law live = law_with_owners s s.scope s.remembered (put s.used p true) s.held s.soiled law
     (law.scopes)
     (record {
       held_open = law.views.held_open;
@@ -26,6 +26,7 @@ keeps_adopt s p law live = law_with_owners s s.scope s.remembered (put s.used p 
     })
     law.clears
     (λ honest q. put_both (λ b. b ≡ false → IsBlank s.word (s.stored q) (read_of (s.cell q))) s.used p true q (λ _ h. absurd (true≢false h)) (λ _. law.unadopted honest q))
+    law.soils
 
 pub adopt_stays : (s : State) (p : ℕ) → world_of record s { used = put s.used p true } ≡ world_of s
 unfolding world_of

@@ -173,6 +173,8 @@ module _ (logs : ℕ) where
         finished = λ j c job e good. absurd (past s law j good.0);
       };
     };
+    soils = law.soils;
+    cleans = law.cleans;
   }
 
   one_epoch : (e f : ℕ) (scope cell word job : ℕ → ℕ) (a : Spot) → Some EpochAt ≢ Some a → spot_word e scope cell word job a ≡ spot_word f scope cell word job a
@@ -200,6 +202,7 @@ module _ (logs : ℕ) where
       remembered = λ k a b. refl;
       used = λ q a. refl;
       held = λ q a b. refl;
+      soiled = λ q a b. refl;
       book = λ ne. absurd (ne refl);
       copiers = λ c ne. same_copier;
       rest = (refl, refl, refl);

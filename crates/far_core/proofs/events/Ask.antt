@@ -5,7 +5,7 @@ use Rattle.std.proofs.lemmas.Bool.{false≢true, eq-eqb}
 use Rattle.std.proofs.lemmas.Bool.Decides.{nat_tests}
 use mathlib.Core.Path.{fun_ext}
 use Rattle.far_word.specs.declared.mark.Mark.{Mark}
-use Rattle.far_word.specs.declared.mark.Mark.TheVariants.{Hot, Evac, Moved, Dropped}
+use Rattle.far_word.specs.declared.mark.Mark.TheVariants.{Hot, Evac, Moved, Dropped, Dirty}
 use Rattle.far_word.specs.declared.pointer.PtrWord.{PtrWord}
 use Rattle.far_word.specs.declared.pointer.PtrWord.TheVariants.{Free, Near, Far}
 use Rattle.far_word.specs.declared.sizes.TheConstants.{CELLS}
@@ -38,6 +38,7 @@ requests Hot h = absurd (false≢true h)
 requests Evac h = absurd (false≢true h)
 requests Moved h = refl
 requests Dropped h = refl
+requests Dirty h = absurd (false≢true h)
 
 -- ---- what is used after it
 used_other : (used : ℕ → Bool) (p : ℕ) (k : Mark) (q : ℕ) → q ≢ p → used_after used p k q ≡ used q
@@ -45,18 +46,21 @@ used_other used p Hot q ne = refl
 used_other used p Evac q ne = refl
 used_other used p Moved q ne = refl
 used_other used p Dropped q ne = put_other used p false q ne
+used_other used p Dirty q ne = refl
 
 used_dropped : (used : ℕ → Bool) (p : ℕ) (k : Mark) → k ≡ Dropped → used_after used p k p ≡ false
 used_dropped used p Hot e = absurd cc
 used_dropped used p Evac e = absurd cc
 used_dropped used p Moved e = absurd cc
 used_dropped used p Dropped e = put_same used p false p refl
+used_dropped used p Dirty e = absurd cc
 
 used_moved : (used : ℕ → Bool) (p : ℕ) (k : Mark) → used p ≡ true → k ≡ Moved → used_after used p k p ≡ true
 used_moved used p Hot u e = u
 used_moved used p Evac u e = u
 used_moved used p Moved u e = u
 used_moved used p Dropped u e = absurd cc
+used_moved used p Dirty u e = u
 
 dropped_is : (o : Option PtrWord) → in_use o ≡ true → is_dropped (map_mark Dropped o) ≡ true
 dropped_is None u = absurd (false≢true u)
@@ -140,12 +144,14 @@ module _ (m p : ℕ) where
   keeps_ask Evac s law h = absurd (false≢true h.0)
   keeps_ask Moved s law h = keeps_move s law p h.3 h.4
   keeps_ask Dropped s law h = keeps_drop s law p h.3 h.4
+  keeps_ask Dirty s law h = absurd (false≢true h.0)
 
   does_ask : (k : Mark) (s : State) → Law s → Legal s (Ask m p k) → Happens (world_of s) (Ask m p k) (Word (s.cell p)) (world_of (after s (Ask m p k)))
   does_ask Hot s law h = absurd (false≢true h.0)
   does_ask Evac s law h = absurd (false≢true h.0)
   does_ask Moved s law h = move_marks s law p h.3 h.4
   does_ask Dropped s law h = drop_drops s law p h.3 h.4 m h.2
+  does_ask Dirty s law h = absurd (false≢true h.0)
 
   -- no other reply comes
   ask_causes : (k : Mark) (r : Reply) → Caused (Ask m p k) (change_of (Ask m p k) r)
@@ -153,6 +159,7 @@ module _ (m p : ℕ) where
   ask_causes Evac = replies (λ r. Caused (Ask m p Evac) (change_of (Ask m p Evac) r)) tt tt (λ n. tt) (λ x. tt) (λ place. tt)
   ask_causes Moved = replies (λ r. Caused (Ask m p Moved) (change_of (Ask m p Moved) r)) tt tt (λ n. tt) (λ x. inr (m, refl)) (λ place. tt)
   ask_causes Dropped = replies (λ r. Caused (Ask m p Dropped) (change_of (Ask m p Dropped) r)) tt tt (λ n. tt) (λ x. refl) (λ place. tt)
+  ask_causes Dirty = replies (λ r. Caused (Ask m p Dirty) (change_of (Ask m p Dirty) r)) tt tt (λ n. tt) (λ x. tt) (λ place. tt)
 
 -- what the event owes
 module _ (m p : ℕ) (k : Mark) where

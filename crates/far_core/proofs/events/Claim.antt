@@ -81,6 +81,8 @@ module _ (s : State) (law : Law s) (c j : ℕ) (job : Job) (few : c < MOST_COPIE
         rounds = law.rounds;
         clears = law.clears;
         unadopted = law.unadopted;
+        soils = law.soils;
+        cleans = law.cleans;
         copies = record {
           jobs = reworded_jobs k.word j w same s.word s.starts k.named copies.jobs (job_fits (Taken job c) (bounds, few)) (rw reads refl) low
               (λ other e undone. copies.jobs.unfinished_unnamed j other e (rw offered refl));

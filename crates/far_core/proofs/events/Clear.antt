@@ -46,10 +46,10 @@ read_clear w None fits e h = absurd (false≢true h)
 read_clear w (Some v) fits e h = (without_evac_read w v fits e, (let low : evac_cleared w ≤ w = and_le_l w (2 ^ 64 - 1 - 2 ^ 61) in omega arith))
 
 remarked : (o : Option PtrWord) → Remarked o (map_clear o)
-remarked None = record { same = refl; kept = λ e. e }
-remarked (Some Free) = record { same = refl; kept = λ e. e }
-remarked (Some (Near len ds place m)) = record { same = refl; kept = λ e. e }
-remarked (Some (Far len ds m)) = record { same = refl; kept = λ e. e }
+remarked None = record { same = refl; kept = λ e. e; clean = λ e. e }
+remarked (Some Free) = record { same = refl; kept = λ e. e; clean = λ e. e }
+remarked (Some (Near len ds place m)) = record { same = refl; kept = λ e. e; clean = λ e. e }
+remarked (Some (Far len ds m)) = record { same = refl; kept = λ e. e; clean = λ e. e }
 
 held_place-clear : (o : Option PtrWord) → held_place (map_clear o) ≡ held_place o
 held_place-clear None = refl
@@ -152,12 +152,13 @@ module _ (p : ℕ) where
       remembered = λ k a b. refl;
       used = λ q a. refl;
       held = λ q a b. refl;
+      soiled = λ q a b. refl;
       book = λ ne. absurd (ne refl);
       copiers = λ c ne. same_copier;
       rest = (refl, refl, refl);
     };
     part = λ s h. inr (inr (inl (p, refl)));
-    word = λ s h. inr (inr (inr (inr refl)));
+    word = λ s h. inr (inr (inr (inr (inl refl))));
     reports = λ s law h. (
       refl,
       λ v e. ap read_of (put_same s.cell p (evac_cleared (s.cell p)) p refl) ∙ (read_clear (s.cell p) _ (law.cells.cell_read p).0 refl (near_test s p h.1)).0 ∙ ap map_clear e,

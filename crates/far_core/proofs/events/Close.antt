@@ -1,11 +1,11 @@
 -- What the event Close owes.
-use Rattle.std.proofs.Common.{inr, None, Option, Some, ap, cond, false, nat_eq, refl, sym, true, ℕ, ◌/◌, ◌<◌, ◌∙◌, ◌≡◌, ◌≢◌, ◌≤◌}
+use Rattle.std.proofs.Common.{inr, Bool, None, Option, Some, ap, cond, false, nat_eq, refl, subst, sym, true, ℕ, ◌/◌, ◌<◌, ◌∙◌, ◌≡◌, ◌≢◌, ◌≤◌}
 use Rattle.std.proofs.lemmas.Bool.{cond_both, eq-eqb, eqb-false, eqb-true, false≢true}
 use Rattle.std.specs.Prelude.{IsSome, is_some, not}
 use Rattle.far_core.proofs.Frames.{law_with_owners}
 use Rattle.far_core.proofs.Guards.{open_fact, open_test}
 use Rattle.far_core.proofs.KeepOwner.{closed_word}
-use Rattle.far_core.proofs.Touching.{touched, one_scope}
+use Rattle.far_core.proofs.Touching.{touched_soiled, one_scope}
 use Rattle.far_core.specs.events.Touch.{LetsGo}
 use Rattle.far_core.proofs.Owed.{Owed, replies}
 use Rattle.far_core.specs.laws.Worlds.{Caused}
@@ -29,8 +29,13 @@ use Rattle.far_word.specs.declared.scope.ScopeWord.TheVariants as scoped
 left_over : (s : State) (m p : ℕ) (P : Option Place → Type 0) → ((o : Option Place) → o ≡ None → P o) → (nat_eq (p / CELLS) m ≡ false → P (s.held p)) → P (cond (nat_eq (p / CELLS) m) None (s.held p))
 left_over s m p P none other = cond_both (nat_eq (p / CELLS) m) None (s.held p) P (λ _. none None refl) other
 
+-- the same of what it goes on having soiled
+still_soiled : (b x : Bool) → cond b false x ≡ true → (b ≡ false) × (x ≡ true)
+still_soiled true x h = absurd (false≢true h)
+still_soiled false x h = (refl, h)
+
 pub keeps_close : (s : State) (m : ℕ) → Law s → Law (after_close s m)
-keeps_close s m law = law_with_owners s (put s.scope m 0) (put s.remembered m None) s.used (after_close s m).held law
+keeps_close s m law = law_with_owners s (put s.scope m 0) (put s.remembered m None) s.used (after_close s m).held (after_close s m).soiled law
     (record {
       scope_read = λ k. put_both (λ w. IsSome (scope_of w)) s.scope m 0 k (λ _. rw closed_word refl) (λ _. law.scopes.scope_read k);
       scope_range = λ k. put_both (λ w. w ≢ 0 → k < s.mutators) s.scope m 0 k (λ _ ne. absurd (ne refl)) (λ _. law.scopes.scope_range k);
@@ -55,6 +60,10 @@ keeps_close s m law = law_with_owners s (put s.scope m 0) (put s.remembered m No
           (λ other h is. law.clears.late_unviewed p e place h (sym (ap scope_of (put_other s.scope m 0 (p / CELLS) (eqb-false (p / CELLS) m other))) ∙ is));
     })
     law.unadopted
+    (record {
+      soiled_held = λ p h. let x = still_soiled _ _ h in subst (λ b. IsSome (cond b None (s.held p))) (sym x.0) (law.soils.soiled_held p x.1);
+      soiled_dirty = λ p h. law.soils.soiled_dirty p (still_soiled _ _ h).1;
+    })
 
 pub close_closes : (s : State) (m : ℕ) → s.scope m ≢ 0 → Closes (world_of s) m (world_of (after_close s m))
 unfolding world_of
@@ -76,11 +85,12 @@ module _ (m : ℕ) where
     test = λ s h. open_test s m h;
     keeps = λ s law fits h. keeps_close s m law;
     does = λ s law fits h. close_closes s m h.1;
-    within = λ s. touched (one_scope s.epoch s.scope s.cell s.word s.copying.word m 0) (λ k a b. put_other s.remembered m None k (λ e. b (ap LetsGo (sym e)))) (λ q a. refl)
-        (λ q a b. cond_both (nat_eq (q / CELLS) m) None (s.held q) (λ x. x ≡ s.held q) (λ e. absurd (b (ap LetsGo (sym (eqb-true (q / CELLS) m e))))) (λ _. refl));
+    within = λ s. touched_soiled (one_scope s.epoch s.scope s.cell s.word s.copying.word m 0) (λ k a b. put_other s.remembered m None k (λ e. b (ap LetsGo (sym e)))) (λ q a. refl)
+        (λ q a b. cond_both (nat_eq (q / CELLS) m) None (s.held q) (λ x. x ≡ s.held q) (λ e. absurd (b (ap LetsGo (sym (eqb-true (q / CELLS) m e))))) (λ _. refl))
+        (λ q a b. cond_both (nat_eq (q / CELLS) m) false (s.soiled q) (λ x. x ≡ s.soiled q) (λ e. absurd (b (ap LetsGo (sym (eqb-true (q / CELLS) m e))))) (λ _. refl));
     part = λ s h. refl;
     word = λ s h. inr refl;
-    reports = λ s law h. (put_same s.scope m 0 m refl, put_same s.remembered m None m refl, λ q own. ap (λ b. cond b None (s.held q)) (eq-eqb (q / CELLS) m own));
+    reports = λ s law h. (put_same s.scope m 0 m refl, put_same s.remembered m None m refl, λ q own. (ap (λ b. cond b None (s.held q)) (eq-eqb (q / CELLS) m own), ap (λ b. cond b false (s.soiled q)) (eq-eqb (q / CELLS) m own)));
     silent = λ s t h. h;
     answers = λ s x. cc;
     causes = replies (λ r. Caused (Close m) (change_of (Close m) r)) tt refl (λ n. tt) (λ x. tt) (λ place. tt);

@@ -87,6 +87,7 @@ module _ (j old : ℕ) where
     remembered = λ m a b. refl;
     used = λ p a. refl;
     held = λ p a b. refl;
+    soiled = λ p a b. refl;
     book = λ ne. (refl, refl, refl, refl, refl, refl, refl, refl, refl, refl);
     copiers = λ d ne. record { task = refl; length = refl; read = refl; written = refl };
     rest = (refl, refl, refl);

@@ -220,6 +220,8 @@ module _ (s : State) (law : Law s) (l : ℕ) (shut : s.kind l ≡ Sealed) (vacan
     copies =
         let fewer = copies_fewer s (put s.round l false) s.clear law (λ k. put_both (λ b. b ≡ true → s.round k ≡ true) s.round l false k (λ _ h. absurd (false≢true h)) (λ _ h. h)) (λ m h. h) in
         record { jobs = keeps_jobs s.word s.starts s.word starts s.copying law.copies.jobs job_stands; taken = fewer.taken; aims = fewer.aims; good = fewer.good; same = fewer.same };
+    soils = law.soils;
+    cleans = law.cleans;
   }
 
   no_object : (p : ℕ) (c : Option PtrWord) → read_of (s.cell p) ≡ c → (o : Object) → object_of s.word (s.stored p) p c ≡ Some o → o.home ≢ Group l
@@ -266,7 +268,7 @@ module _ (l at : ℕ) where
 
   touch_get : (free : Bool) (s : State) → Touches s (touches s (Get l at free)) (after s (Get l at free))
   touch_get false s = untouched s _
-  touch_get true s = record { words = λ a ne. refl; remembered = λ k a b. refl; used = λ q a. refl; held = λ q a b. refl; book = λ ne. absurd (ne refl); copiers = λ c ne. same_copier; rest = (refl, refl, refl) }
+  touch_get true s = record { words = λ a ne. refl; remembered = λ k a b. refl; used = λ q a. refl; held = λ q a b. refl; soiled = λ q a b. refl; book = λ ne. absurd (ne refl); copiers = λ c ne. same_copier; rest = (refl, refl, refl) }
 
   part_get : (free : Bool) → PartBy (Get l at free) (part_of free)
   part_get false = tt

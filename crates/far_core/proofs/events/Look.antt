@@ -69,6 +69,8 @@ module _ (m : ℕ) where
     };
     unadopted = law.unadopted;
     copies = copies_fewer s s.round (looked s m).clear law (λ l h. h) (λ k h. put_both (λ b. b ≡ true) s.clear m _ k (λ e. or_left (s.clear m) _ (ap s.clear (sym e) ∙ h)) (λ _. h));
+    soils = law.soils;
+    cleans = law.cleans;
   }
 
   looks : (s : State) → Looks s m (looked s m)
@@ -97,6 +99,7 @@ module _ (m : ℕ) where
       remembered = λ k a b. refl;
       used = λ q a. refl;
       held = λ q a b. refl;
+      soiled = λ q a b. refl;
       book = λ ne. absurd (ne refl);
       copiers = λ c ne. same_copier;
       rest = (refl, refl, refl);

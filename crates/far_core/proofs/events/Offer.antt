@@ -273,6 +273,7 @@ module _ (s : State) (j p : ℕ) (to : Place) where
     remembered = λ k a b. refl;
     used = λ q a. refl;
     held = λ q a b. refl;
+    soiled = λ q a b. refl;
     book = λ ne. absurd (ne refl);
     copiers = λ c ne. record { task = refl; length = refl; read = refl; written = refl };
     rest = (refl, refl, refl);

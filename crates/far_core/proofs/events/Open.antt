@@ -38,7 +38,7 @@ pub keeps_open : (s : State) (m e : ℕ) → Law s → m < s.mutators → s.scop
 keeps_open s m e law within shut read =
     let low : e ≤ s.epoch = law.scopes.remembered_bound m e read in
     let word : scope_of (2 * e + 1) ≡ Some (scoped.Open e) = open_word e (omega (arith, law.scopes.epoch_below)) in
-    law_with_owners s (put s.scope m (2 * e + 1)) s.remembered s.used s.held law
+    law_with_owners s (put s.scope m (2 * e + 1)) s.remembered s.used s.held s.soiled law
     (record {
       scope_read = λ k. put_both (λ w. IsSome (scope_of w)) s.scope m (2 * e + 1) k (λ _. rw word refl) (λ _. law.scopes.scope_read k);
       scope_range = λ k. put_both (λ w. w ≢ 0 → k < s.mutators) s.scope m (2 * e + 1) k (λ same _. omega arith) (λ _. law.scopes.scope_range k);
@@ -59,7 +59,7 @@ keeps_open s m e law within shut read =
       late_unviewed = λ p f at h. put_both (λ w. scope_of w ≡ Some (scoped.Open f) → s.round_epoch ≤ f → s.round at.log ≡ false) s.scope m (2 * e + 1) (p / CELLS)
           (λ own _ _. absurd (law.views.held_open p (rw h refl) (ap s.scope own ∙ shut))) (λ _. law.clears.late_unviewed p f at h);
     })
-    law.unadopted
+    law.unadopted law.soils
 
 at_remembered : (s : State) (m : ℕ) (o : Option ℕ) → Law s → m < s.mutators → s.scope m ≡ 0 → s.remembered m ≡ o → IsSome o → Law record s { scope = put s.scope m (scope_word_of o) }
 at_remembered s m None law within shut e h = absurd (false≢true h)

@@ -37,6 +37,7 @@ use mathlib.Core.Path.{fun_ext}
 pub keeps_hold : (s : State) → Law s → (p : ℕ) (place : Place) → held_place (read_of (s.cell p)) ≡ Some place → s.used p ≡ true → s.scope (p / CELLS) ≢ 0 → s.round place.log ≡ false →
     Law record s { held = put s.held p (Some place) }
 keeps_hold s law p place ok used opened out = law_with_held s (put s.held p (Some place)) law
+    (λ q h. put_both IsSome s.held p (Some place) q (λ _. refl) (λ _. h))
     (λ q. put_both (λ (o : Option Place). IsSome o → (s.scope (q / CELLS) ≢ 0) × (s.used q ≡ true)) s.held p (Some place) q (λ e _. (rw e opened, rw e used)) (λ _ h. (law.views.held_open q h, law.views.held_used q h)))
     (λ q at. put_both (λ (o : Option Place). o ≡ Some at → held_place (read_of (s.cell q)) ≡ Some at) s.held p (Some place) q (λ e h. rw e (ok ∙ h)) (λ _. law.views.held_names q at))
     (record {

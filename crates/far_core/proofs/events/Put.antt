@@ -1,5 +1,5 @@
 -- What the event Put owes.
-use Rattle.std.proofs.Common.{◌≢◌, inl, inr, arith, nat_lt, refl, true, ℕ, ◌*◌, ◌+◌, ◌<◌, ◌^◌, ◌∙◌, ◌≡◌, ◌≤◌}
+use Rattle.std.proofs.Common.{◌≢◌, inl, inr, arith, nat_lt, refl, sym, true, ℕ, ◌*◌, ◌+◌, ◌<◌, ◌^◌, ◌∙◌, ◌≡◌, ◌≤◌}
 use Rattle.std.proofs.lemmas.Bool.{false≢true}
 use Rattle.std.proofs.lemmas.Bool.Decides.{nat_tests}
 use Rattle.far_core.proofs.Bounds.{span_len}
@@ -42,6 +42,13 @@ keeps_put s law l at w past inside wide = keeps_words s law (put s.word (l * LOG
           let there = law.cells.cell_near q n d place k e in
           let size : head_len (s.word (addr place)) ≡ n = rw (span_len s law q n d place k e) refl in
           data_kept s law l at w past inside wide (addr place) j there.placed (omega (arith, size)) ∙ (law.unadopted honest q free).near n d place k e kept j lt;
+    })
+    (λ q. record {
+      back = (law.cleans q).back;
+      same = λ honest n d place k e none j lt.
+          let there = law.cells.cell_near q n d place k e in
+          let size : head_len (s.word (addr place)) ≡ n = rw (span_len s law q n d place k e) refl in
+          (law.cleans q).same honest n d place k e none j lt ∙ sym (data_kept s law l at w past inside wide (addr place) j there.placed (omega (arith, size)));
     })
     (same_kept s law l at w past inside wide)
 

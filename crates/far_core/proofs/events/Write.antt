@@ -128,6 +128,10 @@ module _ (s : State) (law : Law s) (c i w : ℕ) (t : Task) (has : HasTask s c t
         far = (law.unadopted honest q free).far;
         near = λ n d at k e kept j lt. object_stays q n d at k e j lt ∙ (law.unadopted honest q free).near n d at k e kept j lt;
       })
+      (λ q. record {
+        back = (law.cleans q).back;
+        same = λ honest n d at k e none j lt. (law.cleans q).same honest n d at k e none j lt ∙ sym (object_stays q n d at k e j lt);
+      })
       same_then
 
   pub keeps_write : Law (after_write s c i (addr t.job.to + 1 + i) w)

@@ -1,7 +1,7 @@
 -- An owner asks for a pointer of its own to be moved, or drops it: MOVE or DROP is set.
 use Rattle.std.specs.Prelude.{◌≡◌, ◌/◌, ◌^◌, ◌==◌, ◌&&◌, ◌<◌, nat_lt, ℕ, Bool, true, false, not, Option, Some, None, bit_or, is_some}
 use Rattle.far_word.specs.declared.mark.Mark.{Mark}
-use Rattle.far_word.specs.declared.mark.Mark.TheVariants.{Hot, Evac, Moved, Dropped}
+use Rattle.far_word.specs.declared.mark.Mark.TheVariants.{Hot, Evac, Moved, Dropped, Dirty}
 use Rattle.far_word.specs.declared.pointer.PtrWord.{PtrWord}
 use Rattle.far_word.specs.declared.sizes.TheConstants.{CELLS}
 use Rattle.far_word.specs.Mark.{position}
@@ -20,6 +20,7 @@ is_request Hot = false
 is_request Evac = false
 is_request Moved = true
 is_request Dropped = true
+is_request Dirty = false
 
 -- what an owner uses, once it has asked: what it drops, no longer
 abbrev pub used_after : (ℕ → Bool) → ℕ → Mark → ℕ → Bool
@@ -27,6 +28,7 @@ used_after used p Hot = used
 used_after used p Evac = used
 used_after used p Moved = used
 used_after used p Dropped = put used p false
+used_after used p Dirty = used
 
 abbrev pub AskReports : State → ℕ → Mark → Reply → State → Type 0
 AskReports s p k (Word w) t = (w ≡ s.cell p) × ((v : PtrWord) → read_of w ≡ Some v → read_of (t.cell p) ≡ Some (with_mark k v))

@@ -1,5 +1,5 @@
 -- An open owner closes its scope.
-use Rattle.std.specs.Prelude.{◌≡◌, ◌/◌, ◌==◌, ℕ, cond, None, Some, Option}
+use Rattle.std.specs.Prelude.{◌≡◌, ◌/◌, ◌==◌, ℕ, cond, false, None, Some, Option}
 use Rattle.far_word.specs.declared.sizes.TheConstants.{CELLS}
 use Rattle.far_core.specs.declared.event.Reply.{Reply}
 use Rattle.far_core.specs.declared.event.Reply.TheVariants.{Done}
@@ -17,10 +17,11 @@ after_close s m = record s {
   scope = put s.scope m (scope_word scoped.Closed);
   remembered = put s.remembered m None;
   held = λ p. cond (p / CELLS == m) None (s.held p);
+  soiled = λ p. cond (p / CELLS == m) false (s.soiled p);
 }
 
 abbrev pub CloseReports : State → ℕ → Reply → State → Type 0
-CloseReports s m Done t = (t.scope m ≡ 0) × (t.remembered m ≡ None) × ((p : ℕ) → p / CELLS ≡ m → t.held p ≡ None)
+CloseReports s m Done t = (t.scope m ≡ 0) × (t.remembered m ≡ None) × ((p : ℕ) → p / CELLS ≡ m → (t.held p ≡ None) × (t.soiled p ≡ false))
 CloseReports s m r t = ⊥
 
 abbrev pub close_rule : State → ℕ → Rule

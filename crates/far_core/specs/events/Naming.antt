@@ -18,8 +18,12 @@ use Rattle.far_core.specs.events.namings.Places.{places_row, places_change}
 use Rattle.far_core.specs.events.namings.Retires.{retires_row, retires_change}
 use Rattle.far_core.specs.events.namings.Stays.{stays_row, stays_change}
 
-abbrev pub is_unmarked : Marks → Bool
-is_unmarked m = not (m.hot || m.evac || m.moved || m.dropped)
+-- none of the marks but DIRTY, and that as said
+abbrev pub unmarked : Bool → Marks
+unmarked dirty = record { hot = false; evac = false; moved = false; dropped = false; dirty = dirty }
+
+abbrev pub is_unmarked : Bool → Marks → Bool
+is_unmarked dirty m = not (m.hot || m.evac || m.moved || m.dropped) && cond dirty m.dirty (not m.dirty)
 
 -- a cell whose object its owner dropped
 abbrev pub is_dropped : Option PtrWord → Bool
@@ -29,8 +33,9 @@ is_dropped (Some (Near len ds place m)) = m.dropped
 is_dropped (Some (Far len ds m)) = m.dropped
 
 -- two words of one object, that isn't dropped: the same length and data structure, and the new word has no marks
-abbrev pub is_kept : Marks → Marks → ℕ → ℕ → ℕ → ℕ → Bool
-is_kept m k len n ds d = (len == n) && (ds == d) && not m.dropped && is_unmarked k
+-- but DIRTY, and that as said
+abbrev pub is_kept : Bool → Marks → Marks → ℕ → ℕ → ℕ → ℕ → Bool
+is_kept dirty m k len n ds d = (len == n) && (ds == d) && not m.dropped && is_unmarked dirty k
 
 -- the object may stay where it lies: its owner has asked for it, and the book doesn't want its log
 abbrev pub is_stay : Place → Place → Marks → Bool
@@ -40,23 +45,23 @@ is_stay from to m = (from.log == to.log) && (from.at == to.at) && m.moved && not
 abbrev pub near_form : ℕ → ℕ → Place → Place → Marks → Option Naming
 near_form len ds from to m = cond (is_stay from to m) (Some Stays) (Some (Moves len ds from to))
 
--- the form of an old and a new word
+-- the form of an old and a new word. A new object has DIRTY, one that stays or moves has it as it had, one that goes far or comes has none
 abbrev pub naming_of : Option PtrWord → Option PtrWord → Option Naming
-naming_of (Some Free) (Some (Near len ds place m)) = cond (is_unmarked m) (Some (Places len ds place)) None
-naming_of (Some (Near len ds place m)) (Some (Near n d at k)) = cond (is_kept m k len n ds d) (near_form len ds place at m) None
-naming_of (Some (Far len ds m)) (Some (Near n d at k)) = cond (is_kept m k len n ds d) (Some (Fetches len ds at)) None
+naming_of (Some Free) (Some (Near len ds place m)) = cond (is_unmarked true m) (Some (Places len ds place)) None
+naming_of (Some (Near len ds place m)) (Some (Near n d at k)) = cond (is_kept m.dirty m k len n ds d) (near_form len ds place at m) None
+naming_of (Some (Far len ds m)) (Some (Near n d at k)) = cond (is_kept false m k len n ds d) (Some (Fetches len ds at)) None
 naming_of (Some (Near len ds place m)) (Some Free) = cond m.dropped (Some Retires) None
 naming_of (Some (Far len ds m)) (Some Free) = cond m.dropped (Some Retires) None
-naming_of (Some (Near len ds place m)) (Some (Far n d k)) = cond (is_kept m k len n ds d && m.evac) (Some (Evicts len place)) None
+naming_of (Some (Near len ds place m)) (Some (Far n d k)) = cond (is_kept false m k len n ds d && m.evac) (Some (Evicts len place)) None
 naming_of a b = None
 
 -- the same, said of each form: what the old and the new word say
 abbrev pub IsNaming : Naming → Option PtrWord → Option PtrWord → Type 0
-IsNaming (Places len ds place) a b = (a ≡ Some Free) × (b ≡ Some (Near len ds place no_marks))
+IsNaming (Places len ds place) a b = (a ≡ Some Free) × (b ≡ Some (Near len ds place (unmarked true)))
 IsNaming Retires a b = (is_dropped a ≡ true) × (b ≡ Some Free)
 IsNaming (Evicts len place) a b = (ds : ℕ) × (m : Marks) × (a ≡ Some (Near len ds place m)) × (m.dropped ≡ false) × (m.evac ≡ true) × (b ≡ Some (Far len ds no_marks))
-IsNaming Stays a b = (len ds : ℕ) × (place : Place) × (m : Marks) × (a ≡ Some (Near len ds place m)) × (m.dropped ≡ false) × (m.moved ≡ true) × (m.evac ≡ false) × (b ≡ Some (Near len ds place no_marks))
-IsNaming (Moves len ds from to) a b = ((m : Marks) × (a ≡ Some (Near len ds from m)) × (m.dropped ≡ false) × (is_stay from to m ≡ false)) × (b ≡ Some (Near len ds to no_marks))
+IsNaming Stays a b = (len ds : ℕ) × (place : Place) × (m : Marks) × (a ≡ Some (Near len ds place m)) × (m.dropped ≡ false) × (m.moved ≡ true) × (m.evac ≡ false) × (b ≡ Some (Near len ds place (unmarked m.dirty)))
+IsNaming (Moves len ds from to) a b = (x : (m : Marks) × (a ≡ Some (Near len ds from m)) × (m.dropped ≡ false) × (is_stay from to m ≡ false)) × (b ≡ Some (Near len ds to (unmarked x.0.dirty)))
 IsNaming (Fetches len ds place) a b = ((m : Marks) × (a ≡ Some (Far len ds m)) × (m.dropped ≡ false)) × (b ≡ Some (Near len ds place no_marks))
 
 -- what a form takes from a word on the layout

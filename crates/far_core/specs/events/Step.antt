@@ -1,7 +1,7 @@
 -- What each event does: its rule; the step that it makes. Each event stands in its own file.
 use Rattle.std.specs.Prelude.{Option, Some, Bool, if◌then◌else◌}
 use Rattle.far_core.specs.declared.event.Event.{Event}
-use Rattle.far_core.specs.declared.event.Event.TheVariants.{ReadEpoch, Open, Pin, Load, Store, Close, Adopt, Put, Name, See, Mark, Ask, Get, Clear, Advance, Look, Offer, PeekJob, SeeJob, Claim, ReadLength, Read, Write, Finish, Collect}
+use Rattle.far_core.specs.declared.event.Event.TheVariants.{ReadEpoch, Open, Pin, Load, Store, Soil, Close, Adopt, Put, Name, See, Mark, Ask, Get, Clear, Advance, Look, Offer, PeekJob, SeeJob, Claim, ReadLength, Read, Write, Finish, Collect}
 use Rattle.far_core.specs.declared.event.Reply.{Reply}
 use Rattle.far_core.specs.declared.event.Reply.TheVariants.{Refused}
 use Rattle.far_core.specs.state.State.{State}
@@ -14,6 +14,7 @@ use Rattle.far_core.specs.events.Pin.{pin_rule, pin_form}
 use Rattle.far_core.specs.events.Load.{load_rule, load_form}
 use Rattle.far_core.specs.events.Store.{store_rule, store_form}
 use Rattle.far_core.specs.events.Close.{close_rule, close_form}
+use Rattle.far_core.specs.events.Soil.{soil_rule, soil_form}
 use Rattle.far_core.specs.events.Adopt.{adopt_rule, adopt_form}
 use Rattle.far_core.specs.events.Put.{put_rule, put_form}
 use Rattle.far_core.specs.events.Name.{name_rule, name_form}
@@ -46,6 +47,7 @@ rule s (Open m) = open_rule s m
 rule s (Pin m p) = pin_rule s m p
 rule s (Load m p i) = load_rule s m p i
 rule s (Store m p i w) = store_rule s m p i w
+rule s (Soil m p) = soil_rule s m p
 rule s (Close m) = close_rule s m
 rule s (Adopt m p) = adopt_rule s m p
 rule s (Put l at w) = put_rule s l at w
@@ -89,6 +91,7 @@ form (Open m) = open_form m
 form (Pin m p) = pin_form m p
 form (Load m p i) = load_form m p i
 form (Store m p i w) = store_form m p i w
+form (Soil m p) = soil_form
 form (Close m) = close_form m
 form (Adopt m p) = adopt_form m p
 form (Put l at w) = put_form l at w

@@ -1,5 +1,5 @@
--- An owner writes a word of an object that it holds.
-use Rattle.std.specs.Prelude.{◌≡◌, ◌+◌, ◌-◌, ◌*◌, ◌^◌, ◌<◌, ◌&&◌, ℕ, nat_lt, Some, Option, None}
+-- An owner writes a word of an object that it holds, and has soiled.
+use Rattle.std.specs.Prelude.{◌≡◌, ◌+◌, ◌-◌, ◌*◌, ◌^◌, ◌<◌, ◌&&◌, ℕ, true, nat_lt, Some, Option, None}
 use Rattle.far_word.specs.declared.pointer.Place.{Place}
 use Rattle.far_word.specs.Sizes.{words_for}
 use Rattle.far_core.specs.declared.event.Reply.TheVariants.{Done}
@@ -18,10 +18,10 @@ StoreReports s m p i w r t = ⊥
 
 abbrev pub store_rule : State → ℕ → ℕ → ℕ → ℕ → Rule
 store_rule s m p i w = record {
-  test = holds s m p && nat_lt i (words_for (data_len s p)) && keeps_padding (data_len s p) i w;
+  test = holds s m p && nat_lt i (words_for (data_len s p)) && keeps_padding (data_len s p) i w && s.soiled p;
   after = record s { word = put s.word (data_word s p i) w };
   answer = Done;
-  Legal = (len : ℕ) × HoldsWord s m p i len × (w < 2 ^ (8 * (len - 8 * i)));
+  Legal = (len : ℕ) × HoldsWord s m p i len × (w < 2 ^ (8 * (len - 8 * i))) × (s.soiled p ≡ true);
   Reports = StoreReports s m p i w;
   touches = record { word = Some (WordAt (data_word s p i)); part = NoPart };
 }

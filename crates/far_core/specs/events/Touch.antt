@@ -11,13 +11,14 @@ pub data Spot : Type 0 where
   WordAt : ℕ → Spot
   JobAt : ℕ → Spot
 
--- a part of a view: what an owner remembers; a cell that it uses; a place that it holds; what it remembers and all that it
--- holds; the book's view; and a copier's view
+-- a part of a view: what an owner remembers; a cell that it uses; a place that it holds; an object that it soils; what it
+-- remembers and all that it holds and has soiled; the book's view; and a copier's view
 pub data Part : Type 0 where
   NoPart : Part
   Remembers : ℕ → Part
   Uses : ℕ → Part
   Rests : ℕ → Part
+  Soils : ℕ → Part
   LetsGo : ℕ → Part
   BookView : Part
   CopierAt : ℕ → Part
@@ -50,6 +51,7 @@ pub record Touches (s : State) (x : Touch) (t : State) : Type 0 where
   pub remembered : (m : ℕ) → x.part ≢ Remembers m → x.part ≢ LetsGo m → t.remembered m ≡ s.remembered m
   pub used : (p : ℕ) → x.part ≢ Uses p → t.used p ≡ s.used p
   pub held : (p : ℕ) → x.part ≢ Rests p → x.part ≢ LetsGo (p / CELLS) → t.held p ≡ s.held p
+  pub soiled : (p : ℕ) → x.part ≢ Soils p → x.part ≢ LetsGo (p / CELLS) → t.soiled p ≡ s.soiled p
   pub book : x.part ≢ BookView → (t.kind ≡ s.kind) × (t.tail ≡ s.tail) × (t.current ≡ s.current) × (t.starts ≡ s.starts) × (t.round ≡ s.round) × (t.round_epoch ≡ s.round_epoch) × (t.clear ≡ s.clear) × (t.stored ≡ s.stored)
       × (t.copying.since ≡ s.copying.since) × (t.copying.named ≡ s.copying.named)
   pub copiers : (c : ℕ) → x.part ≢ CopierAt c → SameCopier c s.copying t.copying

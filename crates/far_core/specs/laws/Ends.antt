@@ -5,7 +5,7 @@ use Rattle.far_core.specs.declared.event.Kind.TheVariants.{Free}
 use Rattle.far_core.specs.state.State.{State}
 
 -- past the last log no word is other than 0, no span begins, and each log is free, with tail 0, outside the round; past the last owner each
--- scope is closed, no epoch is remembered, and nobody was seen clear; past the last pointer each cell is 0, unused and not held, and its
+-- scope is closed, no epoch is remembered, and nobody was seen clear; past the last pointer each cell is 0, unused, not held and not soiled, and its
 -- stored words are 0, as all are past the length of a log; past the last job there is none, and past the last copier none has a job, has read
 -- a length, or has read or written a word, nor has any past the length of a log
 pub record HasNothingPast (s : State) : Type 0 where
@@ -20,6 +20,7 @@ pub record HasNothingPast (s : State) : Type 0 where
   pub cells : (p : ℕ) → CELLS * s.mutators ≤ p → s.cell p ≡ 0
   pub uses : (p : ℕ) → CELLS * s.mutators ≤ p → s.used p ≡ false
   pub holds : (p : ℕ) → CELLS * s.mutators ≤ p → s.held p ≡ None
+  pub soils : (p : ℕ) → CELLS * s.mutators ≤ p → s.soiled p ≡ false
   pub stores : (p i : ℕ) → CELLS * s.mutators ≤ p → s.stored p i ≡ 0
   pub rows : (p i : ℕ) → LOG_WORDS ≤ i → s.stored p i ≡ 0
   pub jobs : (j : ℕ) → JOBS ≤ j → (s.copying.word j ≡ 0) × (s.copying.since j ≡ 0) × (s.copying.named j ≡ false)
@@ -45,6 +46,7 @@ pub record IsSameWithin (s t : State) : Type 0 where
   pub cells : (p : ℕ) → p < CELLS * s.mutators → s.cell p ≡ t.cell p
   pub uses : (p : ℕ) → p < CELLS * s.mutators → s.used p ≡ t.used p
   pub holds : (p : ℕ) → p < CELLS * s.mutators → s.held p ≡ t.held p
+  pub soils : (p : ℕ) → p < CELLS * s.mutators → s.soiled p ≡ t.soiled p
   pub stores : (p i : ℕ) → p < CELLS * s.mutators → i < LOG_WORDS → s.stored p i ≡ t.stored p i
   pub copying : s.copying ≡ t.copying
 

@@ -6,7 +6,7 @@ use Rattle.far_core.specs.events.Legal.{Legal}
 use Rattle.far_core.specs.state.State.{State}
 
 -- DROP is bit 59, the four marks are the bits from 59 on; the length is the lowest 16 bits, the data structure the 8 behind them. The new word is
--- 0 where the old one has DROP. Else it has no mark, not HOT either, and the old word was 0, or both have one length and one data structure
+-- 0 where the old one has DROP. Else it has none of these marks, not HOT either, and the old word was 0, or both have one length and one data structure
 abbrev pub IsPlain : ℕ → ℕ → Type 0
 IsPlain old new = ((new ≡ 0) × (field old 59 1 ≡ 1))
     ⊎ ((field old 59 1 ≡ 0) × (field new 59 4 ≡ 0) × ((old ≡ 0) ⊎ ((field new 0 16 ≡ field old 0 16) × (field new 16 8 ≡ field old 16 8))))

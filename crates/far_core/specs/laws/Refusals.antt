@@ -1,7 +1,7 @@
 -- Causes for which an event is refused, a row each, said of what is so in the state and not by the event's guard.
 use Rattle.std.specs.Prelude.{◌≡◌, ◌≢◌, ◌⊎◌, ℕ, ◌+◌, ◌*◌, ◌/◌, ◌%◌, ◌^◌, ◌<◌, ◌-◌, ◌≤◌, Bool, true, false, Some, None}
 use Rattle.far_word.specs.declared.job.Job.{Job}
-use Rattle.far_word.specs.declared.mark.Mark.TheVariants.{Hot, Evac}
+use Rattle.far_word.specs.declared.mark.Mark.TheVariants.{Hot, Evac, Dirty}
 use Rattle.far_word.specs.declared.mark.Mark.{Mark}
 use Rattle.far_word.specs.declared.mark.Marks.{Marks}
 use Rattle.far_word.specs.declared.pointer.Place.{Place}
@@ -17,6 +17,7 @@ use Rattle.far_core.specs.declared.event.Event.TheVariants as event
 use Rattle.far_core.specs.declared.event.Kind.TheVariants.{Free, Open, Sealed}
 use Rattle.far_core.specs.declared.event.Reply.TheVariants.{Refused}
 use Rattle.far_core.specs.declared.event.Task.{Task}
+use Rattle.far_core.specs.events.Quiet.{IsQuiet}
 use Rattle.far_core.specs.events.Step.{step_of}
 use Rattle.far_core.specs.state.Jobs.{job_at}
 use Rattle.far_core.specs.state.State.{State, addr}
@@ -53,9 +54,10 @@ pub record PointersAreRefused (s : State) : Type 0 where
   pub ask_held : (m p : ℕ) (k : Mark) (place : Place) → s.held p ≡ Some place → IsRefused s (event.Ask m p k)
   pub ask_hot : (m p : ℕ) → IsRefused s (event.Ask m p Hot)
   pub ask_evac : (m p : ℕ) → IsRefused s (event.Ask m p Evac)
+  pub ask_dirty : (m p : ℕ) → IsRefused s (event.Ask m p Dirty)
 
--- and about an object's words: under a closed scope; another owner's; one that isn't held; a word that begins at the object's end or past it; a
--- word in which byte k or a later one isn't 0, where byte k is past that end
+-- and about an object's words: under a closed scope; another owner's; one that isn't held, or to store into, soiled; to soil, one that is quiet; a word that
+-- begins at the object's end or past it; a word in which byte k or a later one isn't 0, where byte k is past that end
 pub record WordsAreRefused (s : State) : Type 0 where
   pub load_closed : (m p i : ℕ) → s.scope m ≡ 0 → IsRefused s (event.Load m p i)
   pub load_others : (m p i : ℕ) → p / CELLS ≢ m → IsRefused s (event.Load m p i)
@@ -64,6 +66,11 @@ pub record WordsAreRefused (s : State) : Type 0 where
   pub store_closed : (m p i w : ℕ) → s.scope m ≡ 0 → IsRefused s (event.Store m p i w)
   pub store_others : (m p i w : ℕ) → p / CELLS ≢ m → IsRefused s (event.Store m p i w)
   pub store_unheld : (m p i w : ℕ) → s.held p ≡ None → IsRefused s (event.Store m p i w)
+  pub store_unsoiled : (m p i w : ℕ) → s.soiled p ≡ false → IsRefused s (event.Store m p i w)
+  pub soil_closed : (m p : ℕ) → s.scope m ≡ 0 → IsRefused s (event.Soil m p)
+  pub soil_others : (m p : ℕ) → p / CELLS ≢ m → IsRefused s (event.Soil m p)
+  pub soil_unheld : (m p : ℕ) → s.held p ≡ None → IsRefused s (event.Soil m p)
+  pub soil_quiet : (m p : ℕ) → IsQuiet s p → IsRefused s (event.Soil m p)
   pub store_past : (m p i w len ds : ℕ) (place : Place) (k : Marks) → read_of (s.cell p) ≡ Some (Near len ds place k) → len ≤ 8 * i → IsRefused s (event.Store m p i w)
   pub store_over : (m p i w n len ds : ℕ) (place : Place) (k : Marks) → read_of (s.cell p) ≡ Some (Near len ds place k) → len ≤ 8 * i + n → w / 2 ^ (8 * n) ≢ 0 →
       IsRefused s (event.Store m p i w)

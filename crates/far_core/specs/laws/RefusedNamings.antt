@@ -13,8 +13,9 @@ use Rattle.far_core.specs.events.Copied.{WasCopied}
 use Rattle.far_core.specs.laws.Refusals.{IsRefused}
 use Rattle.far_core.specs.state.State.{State, addr}
 
--- by its two words: past the last pointer; a word off the layout; a new word with a mark, with another length or data structure; 0 for what has no
--- DROP (bit 59), and any other word for what has it; far where nothing is, where it is far already, or without EVAC
+-- by its two words: past the last pointer; a word off the layout; a new word with a mark but DIRTY, with another length or data structure; 0 for what
+-- has no DROP (bit 59), and any other word for what has it; far where nothing is, where it is far already, or without EVAC; near without DIRTY where
+-- nothing is, with DIRTY where it was far, and where it was near with another DIRTY than it had
 pub record NewWordIsRefused (s : State) (p old new : ℕ) : Type 0 where
   pub past : CELLS * s.mutators ≤ p → IsRefused s (Name p old new)
   pub old_off_layout : read_of old ≡ None → IsRefused s (Name p old new)
@@ -27,6 +28,11 @@ pub record NewWordIsRefused (s : State) (p old new : ℕ) : Type 0 where
   pub far_from_nothing : (len ds : ℕ) (k : Marks) → old ≡ 0 → read_of new ≡ Some (Far len ds k) → IsRefused s (Name p old new)
   pub far_twice : (len ds n d : ℕ) (m k : Marks) → read_of old ≡ Some (Far n d m) → read_of new ≡ Some (Far len ds k) → IsRefused s (Name p old new)
   pub far_unwanted : (len ds n d : ℕ) (place : Place) (m k : Marks) → read_of old ≡ Some (Near n d place m) → m.evac ≡ false → read_of new ≡ Some (Far len ds k) →
+      IsRefused s (Name p old new)
+  pub new_clean : (len ds : ℕ) (place : Place) (k : Marks) → old ≡ 0 → read_of new ≡ Some (Near len ds place k) → k.dirty ≡ false → IsRefused s (Name p old new)
+  pub fetched_dirty : (len ds n d : ℕ) (place : Place) (m k : Marks) → read_of old ≡ Some (Far n d m) → read_of new ≡ Some (Near len ds place k) → k.dirty ≡ true →
+      IsRefused s (Name p old new)
+  pub other_dirty : (len ds n d : ℕ) (from to : Place) (m k : Marks) → read_of old ≡ Some (Near n d from m) → read_of new ≡ Some (Near len ds to k) → k.dirty ≢ m.dirty →
       IsRefused s (Name p old new)
 
 -- where the cell is the old word, without DROP: its owner views the object; or it hasn't asked for it to be moved, and may come to view it, since

@@ -70,6 +70,18 @@ pub record IsBlank (word stored : ℕ → ℕ) (cell : Option PtrWord) : Type 0 
   pub near : (len ds : ℕ) (place : Place) (m : Marks) → cell ≡ Some (Near len ds place m) → m.dropped ≡ false → Blank word len place
   pub far : (len ds : ℕ) (m : Marks) → cell ≡ Some (Far len ds m) → m.dropped ≡ false → (i : ℕ) → i < words_for len → stored i ≡ 0
 
+-- a near cell with DIRTY
+abbrev pub is_dirty : Option PtrWord → Bool
+is_dirty None = false
+is_dirty (Some pointer.Free) = false
+is_dirty (Some (Near len ds place m)) = m.dirty
+is_dirty (Some (Far len ds m)) = false
+
+-- of a near object without DIRTY words of its length are stored; where the far side is honest, they are its own
+pub record IsClean (honest : Bool) (word stored : ℕ → ℕ) (cell : Option PtrWord) : Type 0 where
+  pub back : (len ds : ℕ) (place : Place) (m : Marks) → cell ≡ Some (Near len ds place m) → m.dirty ≡ false → IsStored stored len
+  pub same : honest ≡ true → (len ds : ℕ) (place : Place) (m : Marks) → cell ≡ Some (Near len ds place m) → m.dirty ≡ false → (i : ℕ) → i < words_for len → stored i ≡ word (addr place + 1 + i)
+
 -- Each part of the law speaks of the functions that it reads, and of no others.
 
 -- 2 to 64 logs, 1 to 8 mutators
@@ -120,6 +132,15 @@ pub record ViewLaw (cell scope : ℕ → ℕ) (used : ℕ → Bool) (held : ℕ 
   pub held_used : (p : ℕ) → IsSome (held p) → used p ≡ true
   pub used_cell : (p : ℕ) → used p ≡ true → in_use (read_of (cell p)) ≡ true
 
+-- what an owner has soiled it holds, and its cell has DIRTY
+pub record SoilLaw (cell : ℕ → ℕ) (held : ℕ → Option Place) (soiled : ℕ → Bool) : Type 0 where
+  pub soiled_held : (p : ℕ) → soiled p ≡ true → IsSome (held p)
+  pub soiled_dirty : (p : ℕ) → soiled p ≡ true → is_dirty (read_of (cell p)) ≡ true
+
+-- each near object without DIRTY is stored
+abbrev pub CleanLaw : Bool → (ℕ → ℕ) → (ℕ → ℕ) → (ℕ → ℕ → ℕ) → Type 0
+CleanLaw honest cell word stored = (p : ℕ) → IsClean honest word (stored p) (read_of (cell p))
+
 -- where the far side is honest, an object that its owner doesn't use yet holds zeros
 abbrev pub BlankLaw : Bool → (ℕ → ℕ) → (ℕ → ℕ) → (ℕ → ℕ → ℕ) → (ℕ → Bool) → Type 0
 BlankLaw honest cell word stored used = honest ≡ true → (p : ℕ) → used p ≡ false → IsBlank word (stored p) (read_of (cell p))
@@ -152,3 +173,5 @@ pub record Law (s : State) : Type 0 where
   pub clears : ClearLaw s.scope s.held s.round s.round_epoch s.clear
   pub unadopted : BlankLaw s.honest s.cell s.word s.stored s.used
   pub copies : CopyLaw s.cell s.word s.starts s.round s.round_epoch s.clear s.copying
+  pub soils : SoilLaw s.cell s.held s.soiled
+  pub cleans : CleanLaw s.honest s.cell s.word s.stored

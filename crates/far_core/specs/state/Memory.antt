@@ -32,6 +32,7 @@ state_of c = record {
   remembered = λ m. slice_index_or c.remembered.items m None;
   used = λ p. slice_index_or c.used.items p false;
   held = λ p. slice_index_or c.held.items p None;
+  soiled = λ p. slice_index_or c.soiled.items p false;
   kind = λ l. slice_index_or c.kinds.items l Free;
   tail = λ l. slice_index c.tails.items l;
   current = c.current;

@@ -8,7 +8,7 @@ use Rattle.far_core.specs.state.State.{Copying, State, put}
 abbrev pub no_copying : Copying
 no_copying = record { word = λ _. 0; since = λ _. 0; named = λ _. false; task = λ _. None; length = λ _. None; read = λ _ _. None; written = λ _ _. false }
 
--- all words but the epoch are 0; all logs are free; nothing is used, held or remembered; the round is empty, with the
+-- all words but the epoch are 0; all logs are free; nothing is used, held, soiled or remembered; the round is empty, with the
 -- first epoch as its own
 abbrev pub unopened : Shape → Bool → State
 unopened shape honest = record {
@@ -22,6 +22,7 @@ unopened shape honest = record {
   remembered = λ _. None;
   used = λ _. false;
   held = λ _. None;
+  soiled = λ _. false;
   kind = λ _. Free;
   tail = λ _. 0;
   current = 0;

@@ -30,10 +30,12 @@ pub record State : Type 0 where
   pub scope : ℕ → ℕ
   pub cell : ℕ → ℕ
   pub word : ℕ → ℕ
-  -- an owner's view: the epoch that it has read, the cells that it uses, the places that it holds
+  -- an owner's view: the epoch that it has read, the cells that it uses, the places that it holds, what it has soiled of
+  -- these since it opened
   pub remembered : ℕ → Option ℕ
   pub used : ℕ → Bool
   pub held : ℕ → Option Place
+  pub soiled : ℕ → Bool
   -- the book's view: the kind and the tail of each log, the open log, where a span's header stands
   pub kind : ℕ → Kind
   pub tail : ℕ → ℕ

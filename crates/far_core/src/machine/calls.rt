@@ -1,6 +1,6 @@
 //! Events made: one by one, each by a call of its own or as data, and lists of them.
 
-ghost use Rattle.std.specs.Prelude.{◌≡◌, ◌↔◌, ◌-◌, ◌*◌, ◌/◌, ◌^◌, ◌<◌, false, List, map, IsTrue, IsSome, IfOk, IfErr, IfSome, IfNone};
+ghost use Rattle.std.specs.Prelude.{◌≡◌, ◌↔◌, ◌-◌, ◌*◌, ◌/◌, ◌^◌, ◌<◌, false, true, List, map, IsTrue, IsSome, IfOk, IfErr, IfSome, IfNone};
 ghost use Rattle.far_word.specs.declared.sizes.TheConstants.{CELLS};
 ghost use Rattle.far_word.specs.Sizes.{words_for};
 ghost use Rattle.far_core.specs.events.Legal.{Legal};
@@ -68,13 +68,13 @@ impl Core {
         self.memory.load(pointer, index)
     }
 
-    /// Data word `index` of an object that its owner holds becomes `word`, whose bytes past the object's end are 0.
+    /// Data word `index` of an object that its owner has soiled becomes `word`, whose bytes past the object's end are 0.
     #[inline]
-    #[tactic(auto, using(crate::proofs::Calls::next_is_after, crate::proofs::Calls::store_keeps_law))]
+    #[tactic(auto, using(crate::proofs::Calls::next_is_after, crate::proofs::Calls::store_keeps_law, crate::proofs::Calls::soiled_held))]
     pub fn store(&mut self, owner: u8, pointer: u16, index: u16, word: u64)
         // the guard, in what its owner knows
         requires own { pointer / CELLS ≡ owner }
-        requires held { IsSome ((core_state self.old).held pointer) }
+        requires soiled { (core_state self.old).soiled pointer ≡ true }
         requires inside { index < words_for (data_len (core_state self.old) pointer) }
         requires padding { word < 2 ^ (8 * (data_len (core_state self.old) pointer - 8 * index)) }
         ensures state { core_state self.new ≡ after (core_state self.old) (Event.Store owner pointer index word) }
@@ -82,8 +82,19 @@ impl Core {
         self.memory.store(owner, pointer, index, word);
     }
 
-    /// An open owner closes its scope, and holds and remembers nothing from then on. This writes the places of its 128
-    /// cells, whatever it holds.
+    /// An owner sets DIRTY on a pointer that it holds, and remembers until it closes that it has soiled it: the pointer's word
+    /// before.
+    #[inline]
+    pub fn soil(&mut self, owner: u8, pointer: u16) -> u64
+        requires legal { Legal (core_state self.old) (Event.Soil owner pointer) }
+        ensures state { core_state self.new ≡ after (core_state self.old) (Event.Soil owner pointer) }
+        ensures word { answer (core_state self.old) (Event.Soil owner pointer) ≡ Reply.Word result }
+    {
+        self.memory.soil(owner, pointer)
+    }
+
+    /// An open owner closes its scope, and holds, has soiled and remembers nothing from then on. This writes the places and
+    /// marks of its 128 cells, whatever it holds.
     #[inline]
     pub fn close(&mut self, owner: u8)
         requires legal { Legal (core_state self.old) (Event.Close owner) }
@@ -350,6 +361,7 @@ impl Memory {
                 Reply::Word(self.load(pointer, index)),
             Event::Store { owner, pointer, index, word } if self.may_store(owner, pointer, index, word) =>
                 { self.store(owner, pointer, index, word); Reply::Done }
+            Event::Soil { owner, pointer } if self.holds(owner, pointer) => Reply::Word(self.soil(owner, pointer)),
             Event::Close { owner } if self.is_opened(owner) => { self.close(owner); Reply::Done }
             Event::Adopt { owner, pointer } if self.may_adopt(owner, pointer) =>
                 Reply::Word(self.adopt(owner, pointer)),

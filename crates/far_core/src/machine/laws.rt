@@ -119,7 +119,7 @@ impl Core {
 
     /// Past the ends of a core there is nothing. Past the last log all words are 0, no span begins, and each log is free, with tail 0, outside the
     /// round; past the last owner each scope is closed, nothing is remembered, and nobody was seen clear; past the last pointer each cell is
-    /// 0, not used and not held, with zeros stored; past the last job and the last copier there is none. So a core's state is what it says of its
+    /// 0, not used, not held and not soiled, with zeros stored; past the last job and the last copier there is none. So a core's state is what it says of its
     /// own owners, pointers, logs and words, and of what is copied: no other with nothing past its ends says the same of them.
     pub fn nothing_is_past(&self)
         ensures past { HasNothingPast (core_state self.now) }
@@ -191,7 +191,7 @@ pub fn scopes_show()
     ensures { ScopesShow }
 {}
 
-/// A naming's new word is 0 where the old one has DROP. Else it has no mark, not HOT either, and the length and the data structure of the old
+/// A naming's new word is 0 where the old one has DROP. Else it has no mark but DIRTY, not HOT either, and the length and the data structure of the old
 /// one, if that wasn't 0.
 pub fn namings_are_plain()
     ensures { NamingsArePlain }

@@ -140,6 +140,13 @@ impl Core {
         self.memory.held(pointer)
     }
 
+    /// Whether its owner has soiled a pointer's object since it opened; false for a number that is no pointer's.
+    pub fn is_soiled(&self, pointer: u16) -> bool
+        ensures { result ≡ (core_state self.now).soiled pointer }
+    {
+        self.memory.is_soiled(pointer)
+    }
+
     /// Whether its owner holds a pointer's object; false for a number that is no pointer's.
     pub fn is_held(&self, pointer: u16) -> bool
         ensures { result ≡ is_some ((core_state self.now).held pointer) }

@@ -56,6 +56,7 @@ impl Memory {
             remembered: vec![in alloc; None; mutators]?,
             used: vec![in alloc; false; cells]?,
             held: vec![in alloc; None; cells]?,
+            soiled: vec![in alloc; false; cells]?,
             kinds: vec![in alloc; Kind::Free; logs]?,
             tails: vec![in alloc; 0; logs]?,
             current: 0,

@@ -1,6 +1,6 @@
 //! Several events of one kind made at once, as one after the other.
 
-ghost use Rattle.std.specs.Prelude.{◌≡◌, ◌≢◌, ◌+◌, ◌-◌, ◌*◌, ◌/◌, ◌^◌, ◌<◌, ◌≤◌, ℕ, length, slice_index, IsSome};
+ghost use Rattle.std.specs.Prelude.{◌≡◌, ◌≢◌, ◌+◌, ◌-◌, ◌*◌, ◌/◌, ◌^◌, ◌<◌, ◌≤◌, ℕ, true, length, slice_index, IsSome};
 ghost use Rattle.far_word.specs.declared.sizes.TheConstants.{CELLS, LOG_WORDS};
 ghost use Rattle.far_word.specs.Sizes.{words_for};
 ghost use Rattle.far_core.specs.events.Ranges.{AllLegal, after_events, stores, zero_puts};
@@ -31,13 +31,14 @@ impl Core {
         self.memory.load_all(pointer, first, words);
     }
 
-    /// Data words of an object that its owner holds, from its word `first` on, become `words`, whose bytes past the object's
+    /// Data words of an object that its owner has soiled, from its word `first` on, become `words`, whose bytes past the object's
     /// end are 0: a store each.
     #[inline]
+    #[tactic(auto, using(crate::proofs::Calls::soiled_held))]
     pub fn store_all(&mut self, owner: u8, pointer: u16, first: u16, words: &[u64])
         // the guards, in what its owner knows
         requires own { pointer / CELLS ≡ owner }
-        requires held { IsSome ((core_state self.old).held pointer) }
+        requires soiled { (core_state self.old).soiled pointer ≡ true }
         requires inside { first + length words.now ≤ words_for (data_len (core_state self.old) pointer) }
         requires padding { (k : ℕ) → k < length words.now → slice_index words.now k < 2 ^ (8 * (data_len (core_state self.old) pointer - 8 * (first + k))) }
         ensures state { core_state self.new ≡ after_events (core_state self.old) (stores owner pointer first words.now) }

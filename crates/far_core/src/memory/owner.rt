@@ -96,7 +96,20 @@ impl Memory {
             return false;
         }
         let len = near_len(self.cell(pointer));
-        index < words_for(len) && keeps_padding(len, index, word)
+        index < words_for(len) && keeps_padding(len, index, word) && self.is_soiled(pointer)
+    }
+
+    #[tactic(auto, unfolding(crate::specs::events::Next::next_state), using(crate::proofs::Calls::held_range))]
+    pub(crate) fn soil(&mut self, owner: u8, pointer: u16) -> u64
+        requires law { Law (state_of self.old) }
+        requires held { IsSome ((state_of self.old).held pointer) }
+        ensures state { state_of self.new ≡ next_state (state_of self.old) (Event.Soil owner pointer) }
+        ensures word { answer (state_of self.old) (Event.Soil owner pointer) ≡ Reply.Word result }
+    {
+        let old = self.cell_at(pointer);
+        self.set_cell(pointer, old | Mark::Dirty.mask());
+        self.soil_cell(pointer);
+        old
     }
 
     pub(crate) fn store(&mut self, owner: u8, pointer: u16, index: u16, word: u64)
@@ -126,6 +139,7 @@ impl Memory {
         self.set_scope(owner, ScopeWord::Closed.pack());
         self.remember(owner, None);
         self.let_go(owner);
+        self.forget_soiled(owner);
     }
 
     pub(crate) fn may_ask(&self, owner: u8, pointer: u16, mark: Mark) -> bool

@@ -134,6 +134,13 @@ impl Memory {
     }
 
     #[tactic(auto, unfolding(crate::specs::state::Memory::state_of))]
+    pub(crate) fn is_soiled(&self, pointer: u16) -> bool
+        ensures { result ≡ (state_of self.now).soiled pointer }
+    {
+        self.soiled.get(pointer as usize).copied().unwrap_or(false)
+    }
+
+    #[tactic(auto, unfolding(crate::specs::state::Memory::state_of))]
     pub(crate) fn held_place(&self, pointer: u16) -> Place
         requires { IsSome ((state_of self.now).held pointer) }
         ensures { (state_of self.now).held pointer ≡ Some result }

@@ -59,6 +59,14 @@ impl Memory {
     }
 
     #[tactic(auto, unfolding(crate::specs::state::Memory::state_of))]
+    pub(crate) fn soil_cell(&mut self, pointer: u16)
+        requires { pointer < CELLS * (state_of self.old).mutators }
+        ensures { state_of self.new ≡ record (state_of self.old) { soiled = put (state_of self.old).soiled pointer true } }
+    {
+        self.soiled[pointer as usize] = true;
+    }
+
+    #[tactic(auto, unfolding(crate::specs::state::Memory::state_of))]
     pub(crate) fn set_word(&mut self, at: usize, word: u64)
         requires { at < LOG_WORDS * (state_of self.old).logs }
         ensures { state_of self.new ≡ record (state_of self.old) { word = put (state_of self.old).word at word } }
@@ -169,5 +177,15 @@ impl Memory {
     {
         let from = owner as usize * CELLS as usize;
         self.held[from..from + CELLS as usize].fill(None);
+    }
+
+    /// The owner has soiled nothing from now on.
+    #[tactic(auto, unfolding(crate::specs::state::Memory::state_of))]
+    pub(crate) fn forget_soiled(&mut self, owner: u8)
+        requires { owner < (state_of self.old).mutators }
+        ensures { state_of self.new ≡ record (state_of self.old) { soiled = λ p. cond (p / CELLS == owner) false ((state_of self.old).soiled p) } }
+    {
+        let from = owner as usize * CELLS as usize;
+        self.soiled[from..from + CELLS as usize].fill(false);
     }
 }

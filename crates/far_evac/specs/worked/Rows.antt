@@ -4,7 +4,7 @@ use Rattle.far_word.specs.declared.mark.Mark.TheVariants.{Moved, Dropped}
 use Rattle.far_word.specs.declared.mark.Marks.{Marks}
 use Rattle.far_word.specs.declared.pointer.Place.{Place}
 use Rattle.far_word.specs.declared.refused.Refused.TheVariants.{NoRoom, Phase as WrongPhase, EpochsSpent}
-use Rattle.far_core.specs.declared.event.Event.TheVariants.{ReadEpoch, Open as Opens, Pin, Load, Store, Close, Ask}
+use Rattle.far_core.specs.declared.event.Event.TheVariants.{ReadEpoch, Open as Opens, Pin, Load, Store, Close, Ask, Soil}
 use Rattle.far_core.specs.declared.event.Reply.TheVariants.{Done as did, Epoch, Word, Held}
 use Rattle.far_book.specs.declared.home.Home.{Home}
 use Rattle.far_book.specs.declared.home.Home.TheVariants.{Near, Far}
@@ -30,15 +30,22 @@ so_far moved far dropped freed = record { moved = moved; far = far; dropped = dr
 abbrev pub log_is : ℕ → LogKind → ℕ → ℕ → ℕ → LogState
 log_is l kind live dead unused = record { kind = kind; row = record { log = l; live = live; dead = dead; unused = unused } }
 
--- no marks; HOT alone
+-- no marks, as an object lies that was fetched and not written since; HOT alone
 abbrev pub bare : Marks
-bare = record { hot = false; evac = false; moved = false; dropped = false }
+bare = record { hot = false; evac = false; moved = false; dropped = false; dirty = false }
 
 abbrev pub hot : Marks
 hot = record bare { hot = true }
 
+-- DIRTY alone, as a new object lies, or one that was written since it was fetched; with HOT; and as a round wants it
+abbrev pub dirty : Marks
+dirty = record bare { dirty = true }
+
+abbrev pub dirty_hot : Marks
+dirty_hot = record dirty { hot = true }
+
 abbrev pub wanted : Marks
-wanted = record bare { evac = true }
+wanted = record dirty { evac = true }
 
 abbrev pub near : ℕ → ℕ → Marks → Home
 near log at marks = Near (place log at) marks
@@ -50,13 +57,13 @@ housed p home = record { pointer = p; home = home }
 abbrev pub ReserveIsKept : Type 0
 ReserveIsKept =
     answers (start 3 1 0) (News 0 0 1016 ∷ News 0 1 1016 ∷ News 0 2 8 ∷ Own (Ask 0 0 Dropped) ∷ Retires 0 ∷ Rounds 1 9 ∷ News 0 0 8 ∷ Log 0 ∷ [])
-    ≡ At (place 0 0) ∷ At (place 1 0) ∷ Refused NoRoom ∷ Replies (Word 9511602413006554104) ∷ Made ∷ Ends (Done (did_so 0 0 0 1)) ∷ At (place 0 0) ∷ LogIs (log_is 0 Open 16 0 1008) ∷ []
+    ≡ At (place 0 0) ∷ At (place 1 0) ∷ Refused NoRoom ∷ Replies (Word 0x86000000000103f8) ∷ Made ∷ Ends (Done (did_so 0 0 0 1)) ∷ At (place 0 0) ∷ LogIs (log_is 0 Open 16 0 1008) ∷ []
 
 -- a hot object is moved and a cold one goes far; both are read afterwards
 abbrev pub PlainRound : Type 0
 PlainRound =
-    answers (start 4 1 0) (News 0 0 8 ∷ News 0 1 8 ∷ Own (ReadEpoch 0) ∷ Own (Opens 0) ∷ Own (Pin 0 0) ∷ Own (Store 0 0 0 0x0807060504030201) ∷ Own (Close 0) ∷ News 0 2 1016 ∷ Rounds 1 9 ∷ Locates 0 ∷ Locates 1 ∷ Log 0 ∷ Log 1 ∷ Log 2 ∷ Audits ∷ Own (ReadEpoch 0) ∷ Own (Opens 0) ∷ Own (Pin 0 0) ∷ Own (Load 0 0 0) ∷ Own (Pin 0 1) ∷ Fetches 1 ∷ Own (Pin 0 1) ∷ Own (Load 0 1 0) ∷ Locates 1 ∷ [])
-    ≡ At (place 0 0) ∷ At (place 0 2) ∷ Replies (Epoch 0) ∷ Replies did ∷ Replies (Held (place 0 0)) ∷ Replies did ∷ Replies did ∷ At (place 1 0) ∷ Ends (Done (did_so 1 1 0 1)) ∷ Lies (Some (near 2 0 bare)) ∷ Lies (Some (Far bare)) ∷ LogIs (log_is 0 Free 0 0 1024) ∷ LogIs (log_is 1 Sealed 1024 0 0) ∷ LogIs (log_is 2 Open 16 0 1008) ∷ Homes (housed 0 (near 2 0 bare) ∷ housed 1 (Far bare) ∷ housed 2 (near 1 0 bare) ∷ []) ∷ Replies (Epoch 1) ∷ Replies did ∷ Replies (Held (place 2 0)) ∷ Replies (Word 0x0807060504030201) ∷ Replies (Word 0x0400000000010008) ∷ At (place 2 2) ∷ Replies (Held (place 2 2)) ∷ Replies (Word 0) ∷ Lies (Some (near 2 2 hot)) ∷ []
+    answers (start 4 1 0) (News 0 0 8 ∷ News 0 1 8 ∷ Own (ReadEpoch 0) ∷ Own (Opens 0) ∷ Own (Pin 0 0) ∷ Own (Soil 0 0) ∷ Own (Store 0 0 0 0x0807060504030201) ∷ Own (Close 0) ∷ News 0 2 1016 ∷ Rounds 1 9 ∷ Locates 0 ∷ Locates 1 ∷ Log 0 ∷ Log 1 ∷ Log 2 ∷ Audits ∷ Own (ReadEpoch 0) ∷ Own (Opens 0) ∷ Own (Pin 0 0) ∷ Own (Load 0 0 0) ∷ Own (Pin 0 1) ∷ Fetches 1 ∷ Own (Pin 0 1) ∷ Own (Load 0 1 0) ∷ Locates 1 ∷ [])
+    ≡ At (place 0 0) ∷ At (place 0 2) ∷ Replies (Epoch 0) ∷ Replies did ∷ Replies (Held (place 0 0)) ∷ Replies (Word 0xc600000000010008) ∷ Replies did ∷ Replies did ∷ At (place 1 0) ∷ Ends (Done (did_so 1 1 0 1)) ∷ Lies (Some (near 2 0 dirty)) ∷ Lies (Some (Far bare)) ∷ LogIs (log_is 0 Free 0 0 1024) ∷ LogIs (log_is 1 Sealed 1024 0 0) ∷ LogIs (log_is 2 Open 16 0 1008) ∷ Homes (housed 0 (near 2 0 dirty) ∷ housed 1 (Far bare) ∷ housed 2 (near 1 0 dirty) ∷ []) ∷ Replies (Epoch 1) ∷ Replies did ∷ Replies (Held (place 2 0)) ∷ Replies (Word 0x0807060504030201) ∷ Replies (Word 0x0400000000010008) ∷ At (place 2 2) ∷ Replies (Held (place 2 2)) ∷ Replies (Word 0) ∷ Lies (Some (near 2 2 hot)) ∷ []
 
 -- a scope that was open when the epoch rose is waited for
 abbrev pub OpenScopeIsWaitedFor : Type 0
@@ -67,26 +74,26 @@ OpenScopeIsWaitedFor =
 -- a scope that opens at an old epoch views no marked object: its owner has it moved
 abbrev pub OldEpoch : Type 0
 OldEpoch =
-    answers (start 4 1 0) (News 0 0 8 ∷ Own (ReadEpoch 0) ∷ Own (Opens 0) ∷ Own (Pin 0 0) ∷ Own (Store 0 0 0 0xaa) ∷ Own (Close 0) ∷ News 0 1 1016 ∷ Own (ReadEpoch 0) ∷ Selects 1 ∷ Mark 9 ∷ Waits ∷ Own (Opens 0) ∷ Own (Pin 0 0) ∷ Own (Ask 0 0 Moved) ∷ MovesNow 0 ∷ Own (Pin 0 0) ∷ Own (Load 0 0 0) ∷ Evacuates 9 ∷ [])
-    ≡ At (place 0 0) ∷ Replies (Epoch 0) ∷ Replies did ∷ Replies (Held (place 0 0)) ∷ Replies did ∷ Replies did ∷ At (place 1 0) ∷ Replies (Epoch 0) ∷ Selected (0 ∷ []) ∷ Marked 1 (Some 1) ∷ Polls Clear ∷ Replies did ∷ Replies (Word 0xe400000000010008) ∷ Replies (Word 0xe400000000010008) ∷ At (place 2 0) ∷ Replies (Held (place 2 0)) ∷ Replies (Word 0xaa) ∷ Evacuated (did_so 0 0 0 1) ∷ []
+    answers (start 4 1 0) (News 0 0 8 ∷ Own (ReadEpoch 0) ∷ Own (Opens 0) ∷ Own (Pin 0 0) ∷ Own (Soil 0 0) ∷ Own (Store 0 0 0 0xaa) ∷ Own (Close 0) ∷ News 0 1 1016 ∷ Own (ReadEpoch 0) ∷ Selects 1 ∷ Mark 9 ∷ Waits ∷ Own (Opens 0) ∷ Own (Pin 0 0) ∷ Own (Ask 0 0 Moved) ∷ MovesNow 0 ∷ Own (Pin 0 0) ∷ Own (Load 0 0 0) ∷ Evacuates 9 ∷ [])
+    ≡ At (place 0 0) ∷ Replies (Epoch 0) ∷ Replies did ∷ Replies (Held (place 0 0)) ∷ Replies (Word 0xc600000000010008) ∷ Replies did ∷ Replies did ∷ At (place 1 0) ∷ Replies (Epoch 0) ∷ Selected (0 ∷ []) ∷ Marked 1 (Some 1) ∷ Polls Clear ∷ Replies did ∷ Replies (Word 0xe600000000010008) ∷ Replies (Word 0xe600000000010008) ∷ At (place 2 0) ∷ Replies (Held (place 2 0)) ∷ Replies (Word 0xaa) ∷ Evacuated (did_so 0 0 0 1) ∷ []
 
 -- what an open scope views already stays in its hands while its object is marked
 abbrev pub OldView : Type 0
 OldView =
-    answers (start 4 1 0) (News 0 0 8 ∷ News 0 1 1016 ∷ Own (ReadEpoch 0) ∷ Own (Opens 0) ∷ Own (Pin 0 0) ∷ Selects 1 ∷ Mark 9 ∷ Own (Store 0 0 0 0xbb) ∷ Waits ∷ Own (Close 0) ∷ Waits ∷ Evacuates 9 ∷ Own (ReadEpoch 0) ∷ Own (Opens 0) ∷ Own (Pin 0 0) ∷ Own (Load 0 0 0) ∷ [])
-    ≡ At (place 0 0) ∷ At (place 1 0) ∷ Replies (Epoch 0) ∷ Replies did ∷ Replies (Held (place 0 0)) ∷ Selected (0 ∷ []) ∷ Marked 1 (Some 1) ∷ Replies did ∷ Polls (StillOpen 0 0) ∷ Replies did ∷ Polls Clear ∷ Evacuated (did_so 1 0 0 1) ∷ Replies (Epoch 1) ∷ Replies did ∷ Replies (Held (place 2 0)) ∷ Replies (Word 0xbb) ∷ []
+    answers (start 4 1 0) (News 0 0 8 ∷ News 0 1 1016 ∷ Own (ReadEpoch 0) ∷ Own (Opens 0) ∷ Own (Pin 0 0) ∷ Selects 1 ∷ Mark 9 ∷ Own (Soil 0 0) ∷ Own (Store 0 0 0 0xbb) ∷ Waits ∷ Own (Close 0) ∷ Waits ∷ Evacuates 9 ∷ Own (ReadEpoch 0) ∷ Own (Opens 0) ∷ Own (Pin 0 0) ∷ Own (Load 0 0 0) ∷ [])
+    ≡ At (place 0 0) ∷ At (place 1 0) ∷ Replies (Epoch 0) ∷ Replies did ∷ Replies (Held (place 0 0)) ∷ Selected (0 ∷ []) ∷ Marked 1 (Some 1) ∷ Replies (Word 0xe600000000010008) ∷ Replies did ∷ Polls (StillOpen 0 0) ∷ Replies did ∷ Polls Clear ∷ Evacuated (did_so 1 0 0 1) ∷ Replies (Epoch 1) ∷ Replies did ∷ Replies (Held (place 2 0)) ∷ Replies (Word 0xbb) ∷ []
 
 -- an owner moves its objects before the walk comes to them
 abbrev pub OwnerIsFirst : Type 0
 OwnerIsFirst =
     answers (start 4 1 0) (News 0 0 8 ∷ News 0 1 8 ∷ News 0 2 1016 ∷ Selects 1 ∷ Mark 9 ∷ Waits ∷ Own (ReadEpoch 0) ∷ Own (Opens 0) ∷ Own (Pin 0 0) ∷ Own (Ask 0 0 Moved) ∷ MovesNow 0 ∷ Own (Pin 0 0) ∷ Own (Pin 0 1) ∷ Own (Ask 0 1 Moved) ∷ MovesNow 1 ∷ Own (Pin 0 1) ∷ Evacuates 9 ∷ [])
-    ≡ At (place 0 0) ∷ At (place 0 2) ∷ At (place 1 0) ∷ Selected (0 ∷ []) ∷ Marked 2 (Some 1) ∷ Polls Clear ∷ Replies (Epoch 1) ∷ Replies did ∷ Replies (Word 0xa400000000010008) ∷ Replies (Word 0xe400000000010008) ∷ At (place 2 0) ∷ Replies (Held (place 2 0)) ∷ Replies (Word 0xa400000002010008) ∷ Replies (Word 0xe400000002010008) ∷ At (place 2 2) ∷ Replies (Held (place 2 2)) ∷ Evacuated (did_so 0 0 0 1) ∷ []
+    ≡ At (place 0 0) ∷ At (place 0 2) ∷ At (place 1 0) ∷ Selected (0 ∷ []) ∷ Marked 2 (Some 1) ∷ Polls Clear ∷ Replies (Epoch 1) ∷ Replies did ∷ Replies (Word 0xa600000000010008) ∷ Replies (Word 0xe600000000010008) ∷ At (place 2 0) ∷ Replies (Held (place 2 0)) ∷ Replies (Word 0xa600000002010008) ∷ Replies (Word 0xe600000002010008) ∷ At (place 2 2) ∷ Replies (Held (place 2 2)) ∷ Evacuated (did_so 0 0 0 1) ∷ []
 
 -- a hot object goes far where no log is free
 abbrev pub HotWithoutRoom : Type 0
 HotWithoutRoom =
     answers (start 4 1 0) (News 0 0 1016 ∷ News 0 1 1016 ∷ News 0 2 1016 ∷ Own (ReadEpoch 0) ∷ Own (Opens 0) ∷ Own (Pin 0 0) ∷ Own (Close 0) ∷ Selects 2 ∷ Mark 9 ∷ Waits ∷ Own (ReadEpoch 0) ∷ Own (Opens 0) ∷ Own (Pin 0 1) ∷ Own (Ask 0 1 Moved) ∷ MovesNow 1 ∷ Own (Pin 0 1) ∷ Evacuates 9 ∷ Locates 0 ∷ [])
-    ≡ At (place 0 0) ∷ At (place 1 0) ∷ At (place 2 0) ∷ Replies (Epoch 0) ∷ Replies did ∷ Replies (Held (place 0 0)) ∷ Replies did ∷ Selected (0 ∷ 1 ∷ []) ∷ Marked 2 (Some 1) ∷ Polls Clear ∷ Replies (Epoch 1) ∷ Replies did ∷ Replies (Word 0xa4000004000103f8) ∷ Replies (Word 0xe4000004000103f8) ∷ At (place 3 0) ∷ Replies (Held (place 3 0)) ∷ Evacuated (did_so 0 1 0 2) ∷ Lies (Some (Far bare)) ∷ []
+    ≡ At (place 0 0) ∷ At (place 1 0) ∷ At (place 2 0) ∷ Replies (Epoch 0) ∷ Replies did ∷ Replies (Held (place 0 0)) ∷ Replies did ∷ Selected (0 ∷ 1 ∷ []) ∷ Marked 2 (Some 1) ∷ Polls Clear ∷ Replies (Epoch 1) ∷ Replies did ∷ Replies (Word 0xa6000004000103f8) ∷ Replies (Word 0xe6000004000103f8) ∷ At (place 3 0) ∷ Replies (Held (place 3 0)) ∷ Evacuated (did_so 0 1 0 2) ∷ Lies (Some (Far bare)) ∷ []
 
 -- marking, waiting, evacuating and giving up belong to a round
 abbrev pub PhasesAreKept : Type 0
@@ -104,7 +111,7 @@ LastEpoch =
 abbrev pub OpenedAnew : Type 0
 OpenedAnew =
     answers (start 4 1 0) (News 0 0 1016 ∷ News 0 1 1016 ∷ News 0 2 1016 ∷ Own (ReadEpoch 0) ∷ Own (Opens 0) ∷ Own (Pin 0 1) ∷ Own (Close 0) ∷ Rounds 2 9 ∷ Locates 1 ∷ Log 0 ∷ [])
-    ≡ At (place 0 0) ∷ At (place 1 0) ∷ At (place 2 0) ∷ Replies (Epoch 0) ∷ Replies did ∷ Replies (Held (place 1 0)) ∷ Replies did ∷ Ends (Done (did_so 1 1 0 2)) ∷ Lies (Some (near 0 0 bare)) ∷ LogIs (log_is 0 Open 1024 0 0) ∷ []
+    ≡ At (place 0 0) ∷ At (place 1 0) ∷ At (place 2 0) ∷ Replies (Epoch 0) ∷ Replies did ∷ Replies (Held (place 1 0)) ∷ Replies did ∷ Ends (Done (did_so 1 1 0 2)) ∷ Lies (Some (near 0 0 dirty)) ∷ LogIs (log_is 0 Open 1024 0 0) ∷ []
 
 -- a round stands where its turns ran out
 abbrev pub TurnsRunOut : Type 0
@@ -122,13 +129,13 @@ NothingToChoose =
 abbrev pub StepByStep : Type 0
 StepByStep =
     answers (start 5 1 0) (News 0 0 8 ∷ News 0 1 8 ∷ News 0 2 1016 ∷ News 0 3 1016 ∷ Own (Ask 0 2 Dropped) ∷ Retires 2 ∷ Selects 2 ∷ Mark 0 ∷ Mark 1 ∷ Mark 1 ∷ Waits ∷ Evacuates 0 ∷ Log 0 ∷ Evacuates 1 ∷ Log 0 ∷ Log 1 ∷ Evacuates 1 ∷ [])
-    ≡ At (place 0 0) ∷ At (place 0 2) ∷ At (place 1 0) ∷ At (place 2 0) ∷ Replies (Word 0x84000004000103f8) ∷ Made ∷ Selected (0 ∷ 1 ∷ []) ∷ Marked 0 None ∷ Marked 1 None ∷ Marked 1 (Some 1) ∷ Polls Clear ∷ Evacuated (so_far 0 0 0 0) ∷ LogIs (log_is 0 Chosen 32 0 992) ∷ Evacuated (so_far 0 1 0 0) ∷ LogIs (log_is 0 Chosen 16 16 992) ∷ LogIs (log_is 1 Chosen 0 1024 0) ∷ Evacuated (did_so 0 1 0 2) ∷ []
+    ≡ At (place 0 0) ∷ At (place 0 2) ∷ At (place 1 0) ∷ At (place 2 0) ∷ Replies (Word 0x86000004000103f8) ∷ Made ∷ Selected (0 ∷ 1 ∷ []) ∷ Marked 0 None ∷ Marked 1 None ∷ Marked 1 (Some 1) ∷ Polls Clear ∷ Evacuated (so_far 0 0 0 0) ∷ LogIs (log_is 0 Chosen 32 0 992) ∷ Evacuated (so_far 0 1 0 0) ∷ LogIs (log_is 0 Chosen 16 16 992) ∷ LogIs (log_is 1 Chosen 0 1024 0) ∷ Evacuated (did_so 0 1 0 2) ∷ []
 
 -- what an aborted round has marked is unmarked, and the next round deals with it as with any other
 abbrev pub GivenUp : Type 0
 GivenUp =
     answers (start 4 1 0) (News 0 0 8 ∷ News 0 1 1016 ∷ Selects 1 ∷ Mark 1 ∷ Locates 0 ∷ Aborts ∷ Locates 0 ∷ Log 0 ∷ Own (Ask 0 0 Dropped) ∷ Selects 1 ∷ Mark 9 ∷ Waits ∷ Evacuates 9 ∷ Locates 0 ∷ Log 0 ∷ [])
-    ≡ At (place 0 0) ∷ At (place 1 0) ∷ Selected (0 ∷ []) ∷ Marked 1 (Some 1) ∷ Lies (Some (near 0 0 wanted)) ∷ Made ∷ Lies (Some (near 0 0 bare)) ∷ LogIs (log_is 0 Sealed 16 0 1008) ∷ Replies (Word 0x8400000000010008) ∷ Selected (0 ∷ []) ∷ Marked 1 (Some 2) ∷ Polls Clear ∷ Evacuated (did_so 0 0 1 1) ∷ Lies None ∷ LogIs (log_is 0 Free 0 0 1024) ∷ []
+    ≡ At (place 0 0) ∷ At (place 1 0) ∷ Selected (0 ∷ []) ∷ Marked 1 (Some 1) ∷ Lies (Some (near 0 0 wanted)) ∷ Made ∷ Lies (Some (near 0 0 dirty)) ∷ LogIs (log_is 0 Sealed 16 0 1008) ∷ Replies (Word 0x8600000000010008) ∷ Selected (0 ∷ []) ∷ Marked 1 (Some 2) ∷ Polls Clear ∷ Evacuated (did_so 0 0 1 1) ∷ Lies None ∷ LogIs (log_is 0 Free 0 0 1024) ∷ []
 
 -- one log is emptied object by object: the one that lies first leaves first
 abbrev pub FirstLiesFirst : Type 0
@@ -152,4 +159,4 @@ EpochsAreNamed =
 abbrev pub EmptiestIsFirst : Type 0
 EmptiestIsFirst =
     answers (start 5 1 0) (News 0 0 1016 ∷ News 0 1 8 ∷ News 0 2 1016 ∷ SelectsEmptiest 1 ∷ Aborts ∷ Selects 1 ∷ Aborts ∷ SelectsEmptiest 9 ∷ Mark 1 ∷ Locates 0 ∷ Locates 1 ∷ [])
-    ≡ At (place 0 0) ∷ At (place 1 0) ∷ At (place 2 0) ∷ Selected (1 ∷ []) ∷ Made ∷ Selected (0 ∷ []) ∷ Made ∷ Selected (1 ∷ 0 ∷ []) ∷ Marked 1 None ∷ Lies (Some (near 0 0 bare)) ∷ Lies (Some (near 1 0 wanted)) ∷ []
+    ≡ At (place 0 0) ∷ At (place 1 0) ∷ At (place 2 0) ∷ Selected (1 ∷ []) ∷ Made ∷ Selected (0 ∷ []) ∷ Made ∷ Selected (1 ∷ 0 ∷ []) ∷ Marked 1 None ∷ Lies (Some (near 0 0 dirty)) ∷ Lies (Some (near 1 0 wanted)) ∷ []

@@ -40,9 +40,9 @@ impl<D: Device + Drop> Evac<Plain, D> {
             × IsBadChoice fault.why × P.gives policy.old (map (row_of (core_state self.old.book.near.core)) self.old.book.order) most (Err fault.why) policy.new)
             ⊎ ((logs : List ℕ) × P.gives policy.old (map (row_of (core_state self.old.book.near.core)) self.old.book.order) most (Ok logs) policy.new
             × ((fault.why ≡ Memory) ⊎ (fault.why ≡ Failed)) × HaltsTurns (after_selecting (moment_alone self.old) logs) turns fault.so_far (moment_alone self.new)
-            × StopsAsking D D.writes D.lets_go D.contents (after_selecting (moment_alone self.old) logs) turns fault.so_far fault.why (moment_alone self.new) self.old.book.device self.new.book.device)) }
+            × StopsAsking (Unit {0}) D D.writes D.lets_go D.contents (after_selecting (moment_alone self.old) logs) turns fault.so_far fault.why (moment_alone self.new) self.old.book.device self.new.book.device)) }
         ensures asked { IfOk result (λ end. (logs : List ℕ) × P.gives policy.old (map (row_of (core_state self.old.book.near.core)) self.old.book.order) most (Ok logs) policy.new × IsRound (moment_alone self.old) logs turns end (moment_alone self.new)
-            × RoundAsking D D.writes D.lets_go D.contents (moment_alone self.old) logs turns true end (moment_alone self.new) self.old.book.device self.new.book.device) }
+            × RoundAsking (Unit {0}) D D.writes D.lets_go D.contents (moment_alone self.old) logs turns true end (moment_alone self.new) self.old.book.device self.new.book.device) }
         ensures follows { Follows D.contents D.honest D.faults D.fails_at_most no_key (fails result) self.old.book.device self.new.book.device }
     {
         self.keeps_law();

@@ -104,8 +104,8 @@ impl<N: Near + Drop, D: Device + Drop> Evac<N, D> {
         ensures goes_on { IfOk result (λ done. is_idle self.new.phase ≡ done) }
         ensures stays { IfErr result (λ _. self.new.phase ≡ self.old.phase) }
         ensures bounded { IsBoundedBy self.old.copying (tally_of progress.new) }
-        ensures asked { IfOk result (λ _. AsksBy D D.writes D.lets_go D.contents (moment N.view self.old) n (moment N.view self.new) (tally_of progress.new) self.old.book.device self.new.book.device) }
-        ensures refused { IfErr result (λ why. RefusesBy D D.writes D.lets_go D.contents (moment N.view self.old) n (moment N.view self.new) (tally_of progress.new) why self.old.book.device self.new.book.device) }
+        ensures asked { IfOk result (λ _. AsksBy N.still D D.writes D.lets_go D.contents (moment N.view self.old) n (moment N.view self.new) (tally_of progress.new) self.old.book.device self.new.book.device) }
+        ensures refused { IfErr result (λ why. RefusesBy N.still D D.writes D.lets_go D.contents (moment N.view self.old) n (moment N.view self.new) (tally_of progress.new) why self.old.book.device self.new.book.device) }
         ensures follows { Follows D.contents D.honest D.faults D.fails_at_most (none_of (asked_live (moment N.view self.old) (asked_by (tally_of progress.new) result))) (is_failure result) self.old.book.device self.new.book.device }
     {
         self.keeps_law();
@@ -133,8 +133,8 @@ impl<N: Near + Drop, D: Device + Drop> Evac<N, D> {
         ensures goes_on { IfOk result (λ done. is_idle self.new.phase ≡ done) }
         ensures stays { IfErr result (λ _. self.new.phase ≡ self.old.phase) }
         ensures bounded { IsBounded (tally_of progress.new) }
-        ensures asked { IfOk result (λ _. WalksAsking D D.writes D.lets_go (moment N.view self.old) (objects_in (tally_of progress.new)) (standing N.view self.new progress.new) self.old.book.device self.new.book.device) }
-        ensures refused { IfErr result (λ why. IsRefusedWrite D D.writes D.lets_go (moment N.view self.old) (moment N.view self.new) (tally_of progress.new) why self.old.book.device self.new.book.device) }
+        ensures asked { IfOk result (λ _. WalksAsking N.still D D.writes D.lets_go (moment N.view self.old) (objects_in (tally_of progress.new)) (standing N.view self.new progress.new) self.old.book.device self.new.book.device) }
+        ensures refused { IfErr result (λ why. IsRefusedWrite N.still D D.writes D.lets_go (moment N.view self.old) (moment N.view self.new) (tally_of progress.new) why self.old.book.device self.new.book.device) }
         ensures follows { Follows D.contents D.honest D.faults D.fails_at_most (none_of (first_live (moment N.view self.old) (asked_by (tally_of progress.new) result))) (is_failure result) self.old.book.device self.new.book.device }
     {
         self.keeps_law();

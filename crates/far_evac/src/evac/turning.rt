@@ -79,7 +79,7 @@ impl<N: Near + Drop, D: Device + Drop> Evac<N, D> {
         ensures came { Came N.makes self.old.book.near self.new.book.near }
         ensures runs { IfOk result (λ end. (logs : List ℕ) × P.gives policy.old (map (row_of (N.view self.old.book.near)) self.old.book.order) most (Ok logs) policy.new
             × IsChoice (map (row_of (N.view self.old.book.near)) self.old.book.order) most logs × (N.still → IsRound (moment N.view self.old) logs turns end (moment N.view self.new))
-            × RoundAsking D D.writes D.lets_go D.contents (moment N.view self.old) logs turns false end (moment N.view self.new) self.old.book.device self.new.book.device) }
+            × RoundAsking N.still D D.writes D.lets_go D.contents (moment N.view self.old) logs turns false end (moment N.view self.new) self.old.book.device self.new.book.device) }
         ensures barred { (why : why_refused) → unselectable (moment N.view self.old) ≡ Some why →
             (result ≡ Err record { so_far = progress_of nothing false; why = why }) × (self.new ≡ self.old) × (policy.new ≡ policy.old) }
         ensures refused { unselectable (moment N.view self.old) ≡ None → IfErr result (λ fault.
@@ -87,7 +87,7 @@ impl<N: Near + Drop, D: Device + Drop> Evac<N, D> {
             × IsBadChoice fault.why × P.gives policy.old (map (row_of (N.view self.old.book.near)) self.old.book.order) most (Err fault.why) policy.new)
             ⊎ ((logs : List ℕ) × P.gives policy.old (map (row_of (N.view self.old.book.near)) self.old.book.order) most (Ok logs) policy.new
             × ((fault.why ≡ Memory) ⊎ (fault.why ≡ Failed)) × (N.still → HaltsTurns (after_selecting (moment N.view self.old) logs) turns fault.so_far (moment N.view self.new))
-            × StopsAsking D D.writes D.lets_go D.contents (after_selecting (moment N.view self.old) logs) turns fault.so_far fault.why (moment N.view self.new) self.old.book.device self.new.book.device)) }
+            × StopsAsking N.still D D.writes D.lets_go D.contents (after_selecting (moment N.view self.old) logs) turns fault.so_far fault.why (moment N.view self.new) self.old.book.device self.new.book.device)) }
         ensures follows { Follows D.contents D.honest D.faults D.fails_at_most no_key (fails result) self.old.book.device self.new.book.device }
     {
         let logs = match self.select(policy, most) {
@@ -114,8 +114,8 @@ impl<N: Near + Drop, D: Device + Drop> Evac<N, D> {
         ensures exact { N.still → IfOk result (λ end. (end ≡ round_end (turns_made (moment N.view self.old) turns)) × (moment N.view self.new ≡ (turns_made (moment N.view self.old) turns).moment)) }
         ensures halts { N.still → IfErr result (λ fault. HaltsTurns (moment N.view self.old) turns fault.so_far (moment N.view self.new)) }
         ensures why { IfErr result (λ fault. (fault.why ≡ Memory) ⊎ (fault.why ≡ Failed)) }
-        ensures asked { IfOk result (λ end. EndsAsking D D.writes D.lets_go D.contents (moment N.view self.old) turns alone end (moment N.view self.new) self.old.book.device self.new.book.device) }
-        ensures refused { IfErr result (λ fault. StopsAsking D D.writes D.lets_go D.contents (moment N.view self.old) turns fault.so_far fault.why (moment N.view self.new) self.old.book.device self.new.book.device) }
+        ensures asked { IfOk result (λ end. EndsAsking N.still D D.writes D.lets_go D.contents (moment N.view self.old) turns alone end (moment N.view self.new) self.old.book.device self.new.book.device) }
+        ensures refused { IfErr result (λ fault. StopsAsking N.still D D.writes D.lets_go D.contents (moment N.view self.old) turns fault.so_far fault.why (moment N.view self.new) self.old.book.device self.new.book.device) }
         ensures follows { Follows D.contents D.honest D.faults D.fails_at_most no_key (fails result) self.old.book.device self.new.book.device }
     {
         self.keeps_law();
@@ -150,7 +150,7 @@ impl<N: Near + Drop, D: Device + Drop> Evac<N, D> {
         requires few { self.old.copying ≡ true → (turns : ℕ) × (turns < most_turns) × IsCountedIn turns (tally_of before) }
         ensures came { Came N.makes self.old.book.near self.new.book.near }
         ensures turns { IfOk result (λ total. (tally : Tally) × TurnsTo (moment N.view self.old) self.old.phase tally total.done (moment N.view self.new) × (tally_of total ≡ plus (tally_of before) tally)
-            × AsksInTurn D D.writes D.lets_go D.contents (moment N.view self.old) self.old.phase (moment N.view self.new) tally self.old.book.device self.new.book.device
+            × AsksInTurn N.still D D.writes D.lets_go D.contents (moment N.view self.old) self.old.phase (moment N.view self.new) tally self.old.book.device self.new.book.device
             × (self.old.copying ≡ false → KeepsKeys (first_live (moment N.view self.old) (objects_in tally)) (D.contents self.old.book.device) (D.contents self.new.book.device))) }
         ensures exact { N.still → IfOk result (λ total. turned (turned_at (moment N.view self.old) (tally_of before) false) self.old.phase ≡ turned_at (moment N.view self.new) (tally_of total) total.done) }
         ensures lawful { IsLawful (moment N.view self.old) }
@@ -160,7 +160,7 @@ impl<N: Near + Drop, D: Device + Drop> Evac<N, D> {
         ensures over { IfOk result (λ total. is_idle self.new.phase ≡ total.done) }
         ensures leaving { IfErr result (λ _. self.old.phase ≡ phase.Evacuating) }
         ensures stops { IfErr result (λ fault. (tally : Tally) × StopsBy (moment N.view self.old) turn_size (moment N.view self.new) tally × (fault.so_far ≡ progress_of (plus (tally_of before) tally) false)
-            × RefusesBy D D.writes D.lets_go D.contents (moment N.view self.old) turn_size (moment N.view self.new) tally fault.why self.old.book.device self.new.book.device
+            × RefusesBy N.still D D.writes D.lets_go D.contents (moment N.view self.old) turn_size (moment N.view self.new) tally fault.why self.old.book.device self.new.book.device
             × (self.old.copying ≡ false → KeepsKeys (first_live (moment N.view self.old) (objects_in tally + 1)) (D.contents self.old.book.device) (D.contents self.new.book.device))) }
         ensures halts { N.still → IfErr result (λ fault. (tally : Tally) × Halts (moment N.view self.old) turn_size (moment N.view self.new) tally × (fault.so_far ≡ progress_of (plus (tally_of before) tally) false)) }
         ensures why { IfErr result (λ fault. (fault.why ≡ Memory) ⊎ (fault.why ≡ Failed)) }

@@ -48,6 +48,7 @@ fn is_others(event: Event) -> bool
         | Event::Pin { .. }
         | Event::Load { .. }
         | Event::Store { .. }
+        | Event::Soil { .. }
         | Event::Close { .. }
         | Event::Adopt { .. }
         | Event::Ask { .. }

@@ -28,8 +28,8 @@ use far_evac::Evac;
 use far_policy::Chosen;
 use far_word::{Place, Refused};
 
-// What its book knows keeps its part of the law of the core, and the round agrees with it. The device holds the bytes of each far object, and is honest where
-// the words say that the far side is.
+// What its book knows keeps its part of the law of the core, and the round agrees with it. The device holds bytes of each far object, and of each near one
+// without DIRTY, and is honest where the words say that the far side is.
 pub(crate) fn keeps_law<N: Near + Drop, D: Device + Drop>(evac: &Evac<N, D>)
     ensures law { Law (own_part (N.view evac.now.book.near)) }
     ensures moment { MomentLaw (moment N.view evac.now) }

@@ -53,8 +53,9 @@ pub(super) enum Act {
     /// The first live span from that one on which has this number in the list of log 0.
     From(usize, Option<Option<Span>>),
 
-    /// An object lies at a place with these marks, or is far with these; a pointer's cell is free.
+    /// An object lies at a place with DIRTY and these marks, or with these alone, or is far with these; a pointer's cell is free.
     Near(u16, (u8, u16), Marks),
+    Clean(u16, (u8, u16), Marks),
     Far(u16, Marks),
     Gone(u16),
     /// What a log is, and its bytes.
@@ -78,7 +79,7 @@ pub(super) enum Act {
     Loads(u16, u16),
     /// Pointer 0 is an object of so many counted bytes in log 0, which is sealed, and has HOT, EVAC and MOVE; none was far before.
     Leaves(u16),
-    /// A word is stored into pointer 0, if it is held and has two words; or both words of it.
+    /// A word is stored into pointer 0, if it is soiled and has two words; or both words of it, if it is held.
     StoresOne(u16, u64, bool),
     Words(Option<[u64; 2]>),
 
@@ -101,6 +102,7 @@ pub(super) const NO_MARKS: Marks = Marks {
     evac: false,
     moved: false,
     dropped: false,
+    dirty: false,
 };
 
 pub(super) const IS_HOT: Marks = Marks {
@@ -154,6 +156,12 @@ pub(super) const DROP: Event = Event::Ask {
     mark: Mark::Dropped,
 };
 
+/// It says that it is written.
+pub(super) const SOIL: Event = Event::Soil {
+    owner: 0,
+    pointer: 0,
+};
+
 /// Its first word becomes 0xaa, or is loaded.
 pub(super) const STORE: Event = Event::Store {
     owner: 0,
@@ -172,11 +180,11 @@ pub(super) const LOAD: Event = Event::Load {
 pub(super) const IDLE: Event = Event::Close { owner: 9 };
 
 /// The cell of pointer 0, an object of 8 bytes of data structure 1 at the start of log 0: as it is named, with HOT, and with HOT and EVAC.
-pub(super) const NEAR: u64 = 0x8400_0000_0001_0008;
+pub(super) const NEAR: u64 = 0x8600_0000_0001_0008;
 
-pub(super) const WAS_HOT: u64 = 0xc400_0000_0001_0008;
+pub(super) const WAS_HOT: u64 = 0xc600_0000_0001_0008;
 
-pub(super) const MARKED: u64 = 0xe400_0000_0001_0008;
+pub(super) const MARKED: u64 = 0xe600_0000_0001_0008;
 
 /// What an eviction answers of an object that goes far.
 pub(super) const WENT: Option<Result<bool, Refused>> = Some(Ok(true));

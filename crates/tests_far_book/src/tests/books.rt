@@ -2,7 +2,7 @@
 
 use crate::tests::acts::Act::*;
 use crate::tests::acts::{
-    ADOPT, Act, CLOSE, DROP, HAS_EVAC, HOT, IDLE, IS_HOT, NO_MARKS, OPEN, READ, SMALL,
+    ADOPT, Act, CLOSE, DROP, HAS_EVAC, HOT, IDLE, IS_HOT, NO_MARKS, OPEN, READ, SMALL, SOIL,
 };
 use crate::tests::devices::Flaw;
 use crate::tests::stage::{plays, plays_beside, plays_over};
@@ -54,10 +54,11 @@ const SEE: Event = Event::See { pointer: 0 };
 const TAKES_WHOLE_WORDS: &[Act] = &[
     Makes(9, 0, (0, 0)),
     Log(0, Kind::Open, [24, 0, 1000]),
-    Owns(ADOPT, Reply::Word(0x8400_0000_0001_0009)),
+    Owns(ADOPT, Reply::Word(0x8600_0000_0001_0009)),
     Owns(READ, Reply::Epoch(0)),
     Owns(OPEN, Reply::Done),
     Owns(HOT, Reply::Held(Place { log: 0, at: 0 })),
+    Owns(SOIL, Reply::Word(0xc600_0000_0001_0009)),
     Owns(STORE_SECOND, Reply::Done),
     Owns(LOAD_SECOND, Reply::Word(0xff)),
     Owns(SEE, Reply::Refused),
@@ -71,7 +72,7 @@ fn an_odd_length_takes_whole_words(rt: HostRuntime) {
 // The words of an object that is held are stored and loaded, and aren't reached any more after a close.
 const STORES_AND_LOADS: &[Act] = &[
     Makes(16, 0, (0, 0)),
-    Does(&[ADOPT, READ, OPEN, HOT]),
+    Does(&[ADOPT, READ, OPEN, HOT, SOIL]),
     Words(Some([0, 0])),
     StoresOne(1, 7, true),
     StoresOne(0, u64::MAX, true),
@@ -171,8 +172,8 @@ const MARKS_WHEN_SEALED: &[Act] = &[
     Makes(8, 0, (0, 0)),
     Marks(0, None),
     Makes(1016, 1, (1, 0)),
-    Marks(0, Some(0x8400_0000_0001_0008)),
-    Marks(0, Some(0xa400_0000_0001_0008)),
+    Marks(0, Some(0x8600_0000_0001_0008)),
+    Marks(0, Some(0xa600_0000_0001_0008)),
     Marks(1, None),
     Marks(2, None),
     Near(0, (0, 0), HAS_EVAC),

@@ -88,7 +88,7 @@ const SEALS_THE_TARGET: &[Act] = &[
     Makes(1016, 1, (1, 0)),
     MarksMany(1),
     Offers(&[(0, true)]),
-    Marks(1, Some(0x8400_0004_0001_03f8)),
+    Marks(1, Some(0x8600_0004_0001_03f8)),
     Asks(1, Mark::Moved),
     Moves(1, Some(Ok(Some(Place { log: 3, at: 0 })))),
     Log(2, Kind::Sealed, [0, 16, 1008]),
@@ -97,7 +97,7 @@ const SEALS_THE_TARGET: &[Act] = &[
 // Its log isn't given back before the job is taken back, though the job is void.
 const GIVES_THE_TARGET_BACK: &[Act] = &[
     Releases(2, Some(false)),
-    Clears(0, Some(0xa400_0000_0001_0008)),
+    Clears(0, Some(0xa600_0000_0001_0008)),
     HasJob(0, Some(false)),
     Releases(2, Some(false)),
     Releases(1, Some(true)),

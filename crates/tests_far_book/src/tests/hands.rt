@@ -12,7 +12,7 @@ ghost use Rattle.far_core.specs.state.Opening.{opening};
 ghost use Rattle.far_hand.specs.BesetView.{beset_view};
 ghost use Rattle.far_hand.specs.Masked.{masked, word_at};
 
-use crate::tests::acts::{ADOPT, CLOSE, DROP, HOT, MOVE, NEAR, OPEN, READ, SMALL, WAS_HOT};
+use crate::tests::acts::{ADOPT, CLOSE, DROP, HOT, MOVE, NEAR, OPEN, READ, SMALL, SOIL, WAS_HOT};
 use crate::tests::owners::answers_all;
 use far_book::{Beset, Near, Plain};
 use far_core::{Core, Event, Kind, Reply};
@@ -22,14 +22,14 @@ use std::alloc::Global;
 /// The header of pointer 0, an object of 8 bytes of data structure 1; and its cell at the start of log 0 with HOT and MOVE, and with DROP too.
 const HEADER: u64 = 0xa100_0000_0001_0008;
 
-const MOVED: u64 = 0xd400_0000_0001_0008;
+const MOVED: u64 = 0xd600_0000_0001_0008;
 
-const DROPPED: u64 = 0xdc00_0000_0001_0008;
+const DROPPED: u64 = 0xde00_0000_0001_0008;
 
 /// The header of pointer 0 where its object fills log 0, and its cell there with DROP.
 const FILLING: u64 = 0xa100_0000_0001_03f8;
 
-const GONE: u64 = 0x8c00_0000_0001_03f8;
+const GONE: u64 = 0x8e00_0000_0001_03f8;
 
 /// What is done by a hand on the shared words of [`SMALL`], or looked at, each with what is to come of it.
 #[derive(Clone, Copy)]
@@ -297,7 +297,7 @@ const STORE_8: Event = Event::Store {
 
 // The third event isn't legal, since the cell is free; the book's is passed over.
 const AT_WORK: &[Event] = &[
-    READ, OPEN, ADOPT, ADOPT, HOT, STORE_7, STORE_8, SEE, CLOSE, MOVE, DROP,
+    READ, OPEN, ADOPT, ADOPT, HOT, SOIL, STORE_7, STORE_8, SEE, CLOSE, MOVE, DROP,
 ];
 
 // Pointer 0's owner stores into the object, so that what is read isn't counted on. Its second word is once it has MOVE, and then it is quiet, until it is
@@ -305,6 +305,7 @@ const AT_WORK: &[Event] = &[
 const BESIDE_THEM: &[Touch] = &[
     Touch::Counts(false, false),
     Touch::Sees(NEAR),
+    Touch::Sees(WAS_HOT),
     Touch::Sees(WAS_HOT),
     Touch::Gets(1, 7),
     Touch::Gets(1, 8),
@@ -334,7 +335,7 @@ const PUT_FULL: Event = Event::Put {
 const NAME_FULL: Event = Event::Name {
     pointer: 0,
     old: 0,
-    new: 0x8400_0000_0001_03f8,
+    new: 0x8600_0000_0001_03f8,
 };
 
 const PUT_NEXT: Event = Event::Put {
@@ -346,7 +347,7 @@ const PUT_NEXT: Event = Event::Put {
 const NAME_NEXT: Event = Event::Name {
     pointer: 1,
     old: 0,
-    new: 0x8400_0004_0001_0008,
+    new: 0x8600_0004_0001_0008,
 };
 
 const MARK: Event = Event::Mark { pointer: 0 };
@@ -357,8 +358,8 @@ const DROPS_FULL: &[(Event, Reply)] = &[
     (NAME_FULL, Reply::Done),
     (PUT_NEXT, Reply::Done),
     (NAME_NEXT, Reply::Done),
-    (ADOPT, Reply::Word(0x8400_0000_0001_03f8)),
-    (DROP, Reply::Word(0x8400_0000_0001_03f8)),
+    (ADOPT, Reply::Word(0x8600_0000_0001_03f8)),
+    (DROP, Reply::Word(0x8600_0000_0001_03f8)),
 ];
 
 const MARKS_FULL: &[(Event, Reply)] = &[
@@ -366,14 +367,14 @@ const MARKS_FULL: &[(Event, Reply)] = &[
     (NAME_FULL, Reply::Done),
     (PUT_NEXT, Reply::Done),
     (NAME_NEXT, Reply::Done),
-    (ADOPT, Reply::Word(0x8400_0000_0001_03f8)),
-    (DROP, Reply::Word(0x8400_0000_0001_03f8)),
+    (ADOPT, Reply::Word(0x8600_0000_0001_03f8)),
+    (DROP, Reply::Word(0x8600_0000_0001_03f8)),
     (MARK, Reply::Word(GONE)),
 ];
 
 // EVAC is taken from pointer 0, and the hand has found its cell so.
 const TAKES_EVAC_BACK: &[Touch] = &[
-    Touch::Clears(Some(0xac00_0000_0001_03f8)),
+    Touch::Clears(Some(0xae00_0000_0001_03f8)),
     Touch::Cell(GONE),
     Touch::Found(GONE),
 ];
@@ -447,7 +448,7 @@ const OFFERS_FIRST: &[(Event, Reply)] = &[
         Event::Name {
             pointer: 1,
             old: 0,
-            new: 0x8400_0004_0001_03f8,
+            new: 0x8600_0004_0001_03f8,
         },
         Reply::Done,
     ),

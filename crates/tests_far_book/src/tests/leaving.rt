@@ -9,7 +9,7 @@ use far_word::{Place, Refused};
 
 /// The cell of pointer 0, an object of 8 bytes of data structure 1 at the start of log 0, with HOT, EVAC and MOVE; and the cell of one of no bytes
 /// that is far.
-const LEAVING: u64 = 0xf400_0000_0001_0008;
+const LEAVING: u64 = 0xf600_0000_0001_0008;
 
 const FAR: u64 = 0x0400_0000_0001_0000;
 

@@ -58,9 +58,9 @@ pub(super) const ASKS_TWO: &[Act] = &[
     Makes(1016, 1, (1, 0)),
     Makes(1016, 2, (2, 0)),
     Stores(1, 1016),
-    Marks(0, Some(0x8400_0000_0001_0008)),
+    Marks(0, Some(0x8600_0000_0001_0008)),
     Asks(0, Mark::Moved),
-    Marks(1, Some(0xc400_0004_0001_03f8)),
+    Marks(1, Some(0xc600_0004_0001_03f8)),
     Asks(1, Mark::Moved),
 ];
 

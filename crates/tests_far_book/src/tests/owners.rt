@@ -2,8 +2,8 @@
 
 use crate::tests::acts::Act::*;
 use crate::tests::acts::{
-    ADOPT, Act, CLOSE, DROP, HOT, LOAD, MARKED, MOVE, NEAR, NO_MARKS, OPEN, READ, SMALL, STORE,
-    WAS_HOT,
+    ADOPT, Act, CLOSE, DROP, HOT, LOAD, MARKED, MOVE, NEAR, NO_MARKS, OPEN, READ, SMALL, SOIL,
+    STORE, WAS_HOT,
 };
 use crate::tests::stage::plays;
 use far_core::{Core, Event, Kind, Reply};
@@ -69,7 +69,7 @@ const PUT_FULL: Event = Event::Put {
 const NAME_FULL: Event = Event::Name {
     pointer: 1,
     old: 0,
-    new: 0x8400_0004_0001_03f8,
+    new: 0x8600_0004_0001_03f8,
 };
 
 const MARK: Event = Event::Mark { pointer: 0 };
@@ -93,7 +93,7 @@ const VIEWS_NOTHING: &[(Event, Reply)] = &[
     (OPEN, Reply::Done),
     (HOT, Reply::Word(MARKED)),
     (MOVE, Reply::Word(MARKED)),
-    (SEE, Reply::Word(0xf400_0000_0001_0008)),
+    (SEE, Reply::Word(0xf600_0000_0001_0008)),
 ];
 
 #[test]
@@ -107,6 +107,7 @@ fn a_marked_object_is_not_viewed(rt: HostRuntime) {
 // An owner stores a word into what it views and closes; another object seals its log then. The owner isn't given the object once it is marked, and asks for it
 // to move.
 const ASKS_FOR_A_MOVE: &[Act] = &[
+    Owns(SOIL, Reply::Word(WAS_HOT)),
     Owns(STORE, Reply::Done),
     Owns(CLOSE, Reply::Done),
     Makes(1016, 1, (1, 0)),

@@ -42,6 +42,7 @@ fn views<D: Device + Drop>(book: &mut Book<Plain, D>, pointer: u16) {
 pub(super) fn stores<D: Device + Drop>(book: &mut Book<Plain, D>, pointer: u16, len: u16) -> bool {
     let owner = 0;
     views(book, pointer);
+    book.owner(Event::Soil { owner, pointer });
     for index in 0..words_for(len) {
         let word = counted_word(len, index);
         let store = Event::Store {
@@ -74,7 +75,7 @@ pub(super) fn loads<D: Device + Drop>(book: &mut Book<Plain, D>, pointer: u16, l
     book.owner(Event::Close { owner }) == Reply::Done
 }
 
-/// Stores a word into an object of two words, if the first owner holds it, and says whether it did.
+/// Stores a word into an object of two words, if the first owner has soiled it, and says whether it did.
 pub(super) fn store_word<D: Device + Drop>(
     book: &mut Book<Plain, D>,
     pointer: u16,
@@ -82,7 +83,7 @@ pub(super) fn store_word<D: Device + Drop>(
     word: u64,
 ) -> bool {
     let core = book.core();
-    if pointer >= CELLS || index >= 2 || !core.is_held(pointer) {
+    if pointer >= CELLS || index >= 2 || !core.is_soiled(pointer) {
         return false;
     }
     let Some(PtrWord::Near { len: 16, .. }) = PtrWord::read(core.cell(pointer)) else {

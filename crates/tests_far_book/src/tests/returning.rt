@@ -3,7 +3,7 @@
 use crate::tests::acts::Act::*;
 use crate::tests::acts::{
     ADOPT, Act, CLOSE, DROP, HOT, IS_DROPPED, IS_HOT, LOAD, MARKED, MOVE, NO_MARKS, OPEN, Placed,
-    READ, SMALL, STORE, WAS_HOT, WENT,
+    READ, SMALL, SOIL, STORE, WAS_HOT, WENT,
 };
 use crate::tests::devices::Flaw;
 use crate::tests::stage::{Beside, plays, plays_over, plays_rows};
@@ -19,7 +19,7 @@ const NOWHERE: Placed = Some(Ok(None));
 // An object of 8 bytes that is stored into goes far and comes back, by words of its cell.
 const GOES_AND_COMES: &[Act] = &[
     Makes(8, 0, (0, 0)),
-    Does(&[ADOPT, READ, OPEN, HOT]),
+    Does(&[ADOPT, READ, OPEN, HOT, SOIL]),
     Owns(STORE, Reply::Done),
     Owns(CLOSE, Reply::Done),
     Makes(1016, 1, (1, 0)),
@@ -39,7 +39,7 @@ fn away_and_back(rt: HostRuntime) {
     assert!(rt; plays(&rt, &[GOES_AND_COMES]));
 }
 
-// Whether an object of so many bytes goes far, and comes back with them in a span of so many bytes; the device has no bytes of it then.
+// Whether an object of so many bytes goes far, and comes back with them in a span of so many bytes; the device has its bytes then.
 fn comes_back(rt: &HostRuntime, len: u16, size: u16) -> bool {
     let unused = 1024u16.saturating_sub(size);
     let comes = [
@@ -48,7 +48,7 @@ fn comes_back(rt: &HostRuntime, len: u16, size: u16) -> bool {
         Fetches(0, COMES),
         Log(2, Kind::Open, [size, 0, unused]),
         Loads(0, len),
-        Holds(false),
+        Holds(true),
     ];
     plays(rt, &[&comes])
 }
@@ -113,10 +113,10 @@ const CROWDS: &[Act] = &[
     Makes(1016, 2, (1, 0)),
     Makes(1016, 3, (2, 0)),
     Owns(MOVE, Reply::Word(WAS_HOT)),
-    Marks(0, Some(0xd400_0000_0001_0008)),
+    Marks(0, Some(0xd600_0000_0001_0008)),
     Evicts(0, WENT),
     Asks(1, Mark::Moved),
-    Marks(1, Some(0x9400_0000_0201_0008)),
+    Marks(1, Some(0x9600_0000_0201_0008)),
 ];
 
 const IS_CROWDED: &[Act] = &[
@@ -137,7 +137,7 @@ const COMES_AFTER_A_MOVE: &[Act] = &[
     Fetches(0, Some(Ok(Some(Place { log: 3, at: 2 })))),
     Loads(0, 8),
     Log(3, Kind::Open, [32, 0, 992]),
-    Holds(false),
+    Holds(true),
 ];
 
 // Alone against a fetch that takes the last free log, asks the device before there is room, or forgets the key where there is none.
@@ -190,29 +190,29 @@ fn a_dropped_far_object_is_retired(rt: HostRuntime) {
     );
 }
 
-// An object of one word goes far and comes back, with these marks, and the device has no bytes of it then.
+// An object of one word goes far and comes back, with these marks, and the device has its bytes then.
 const CAME: &[Act] = &[
     Evicts(0, WENT),
     Fetches(0, COMES),
-    Near(0, (2, 0), NO_MARKS),
+    Clean(0, (2, 0), NO_MARKS),
     Log(2, Kind::Open, [16, 0, 1008]),
-    Holds(false),
+    Holds(true),
 ];
 
 const CAME_HOT: &[Act] = &[
     Evicts(0, WENT),
     Fetches(0, COMES),
-    Near(0, (2, 0), IS_HOT),
+    Clean(0, (2, 0), IS_HOT),
     Log(2, Kind::Open, [16, 0, 1008]),
-    Holds(false),
+    Holds(true),
 ];
 
 const CAME_DROPPED: &[Act] = &[
     Evicts(0, WENT),
     Fetches(0, COMES),
-    Near(0, (2, 0), IS_DROPPED),
+    Clean(0, (2, 0), IS_DROPPED),
     Log(2, Kind::Open, [16, 0, 1008]),
-    Holds(false),
+    Holds(true),
 ];
 
 // It is found dropped.

@@ -13,7 +13,7 @@ use far_log::{LogRow, Span};
 use far_word::{Mark, Place, Refused, ScopeWord};
 
 /// The cell of pointer 0, an object of 8 bytes of data structure 1 at the start of log 0, with EVAC.
-const WANTED: u64 = 0xa400_0000_0001_0008;
+const WANTED: u64 = 0xa600_0000_0001_0008;
 
 /// The last epoch.
 const LAST: u64 = (1 << 62) - 1;

@@ -15,7 +15,7 @@ use crate::tests::owning::{
 use far_book::{Beset, Book, Home, Near, Plain};
 use far_core::{Core, Event, Shape};
 use far_device::{Device, MemDevice};
-use far_word::{Place, Refused};
+use far_word::{Marks, Place, Refused};
 
 /// A row of a test beside owners: so many turns after they asked for pointer 0 to move they make these events, one a turn; and these acts are to come out.
 pub(super) type Beside = (u8, &'static [Event], &'static [Act]);
@@ -112,6 +112,14 @@ fn jobs_do<N: Near + Drop, D: Device + Drop>(book: &mut Book<N, D>, act: Act) ->
 fn shows<N: Near + Drop, D: Device + Drop>(book: &mut Book<N, D>, act: Act) -> bool {
     match act {
         Act::Near(pointer, (log, at), marks) => {
+            let place = Place { log, at };
+            let marks = Marks {
+                dirty: true,
+                ..marks
+            };
+            home(book, pointer) == Some(Home::Near { place, marks })
+        }
+        Act::Clean(pointer, (log, at), marks) => {
             let place = Place { log, at };
             home(book, pointer) == Some(Home::Near { place, marks })
         }
@@ -259,7 +267,7 @@ fn fills(events: &mut Vec<Event>, turns: u8, then: &[Event]) -> bool {
 const MARKED_FIRST: &[Act] = &[
     Act::Makes(8, 0, (0, 0)),
     Act::Makes(1016, 1, (1, 0)),
-    Act::Marks(0, Some(0x9400_0000_0001_0008)),
+    Act::Marks(0, Some(0x9600_0000_0001_0008)),
 ];
 
 // Whether one row comes out, where so many turns pass before its first.

@@ -12,23 +12,23 @@ use far_word::Place;
 /// The header of object 0, whose words are 7 and 9, and its cell as it is placed.
 const HEADER: u64 = 0xa100_0000_0001_0009;
 
-const PLACED: u64 = 0x8400_0000_0001_0009;
+const PLACED: u64 = 0x8600_0000_0001_0009;
 
 /// It is hot in log 0; with EVAC there; with MOVE too, with DROP too; and where a job copies it.
-const HOT: u64 = 0xc400_0000_0001_0009;
+const HOT: u64 = 0xc600_0000_0001_0009;
 
-const MARKED: u64 = 0xe400_0000_0001_0009;
+const MARKED: u64 = 0xe600_0000_0001_0009;
 
-const ASKED: u64 = 0xf400_0000_0001_0009;
+const ASKED: u64 = 0xf600_0000_0001_0009;
 
-const DROPPED: u64 = 0xec00_0000_0001_0009;
+const DROPPED: u64 = 0xee00_0000_0001_0009;
 
-const COPY: u64 = 0x8400_0004_0201_0009;
+const COPY: u64 = 0x8600_0004_0201_0009;
 
 /// The cell of object 1, and that of object 0 where its owner's move brings it.
-const OTHER: u64 = 0x8400_0004_0001_0008;
+const OTHER: u64 = 0x8600_0004_0001_0008;
 
-const ELSEWHERE: u64 = 0x8400_0004_0501_0009;
+const ELSEWHERE: u64 = 0x8600_0004_0501_0009;
 
 /// The word of job 3, of copier 2.
 const OFFERED: u64 = 0x4000_1008_0000_0000;
@@ -45,6 +45,7 @@ const MADE: &[Act] = &[
     Does(ReadEpoch { owner: 0 }, Epoch(0)),
     Does(Open { owner: 0 }, Done),
     Does(Pin { owner: 0, pointer: 0 }, Held(Place { log: 0, at: 0 })),
+    Does(Soil { owner: 0, pointer: 0 }, Word(PLACED | 1 << 62)),
     Does(Store { owner: 0, pointer: 0, index: 0, word: 7 }, Done),
     Does(Store { owner: 0, pointer: 0, index: 1, word: 9 }, Done),
     Does(Close { owner: 0 }, Done),

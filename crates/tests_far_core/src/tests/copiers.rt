@@ -15,25 +15,25 @@ const LONG_HEADER: u64 = 0xa100_0000_0001_0009;
 const SHORT_HEADER: u64 = 0xa100_0000_0101_0008;
 
 /// Their cells: hot, and with EVAC too.
-const LONG_HOT: u64 = 0xc400_0000_0001_0009;
+const LONG_HOT: u64 = 0xc600_0000_0001_0009;
 
-const SHORT_HOT: u64 = 0xc400_0000_0301_0008;
+const SHORT_HOT: u64 = 0xc600_0000_0301_0008;
 
-const LONG: u64 = 0xe400_0000_0001_0009;
+const LONG: u64 = 0xe600_0000_0001_0009;
 
-const SHORT: u64 = 0xe400_0000_0301_0008;
+const SHORT: u64 = 0xe600_0000_0301_0008;
 
 /// The long one's with MOVE too, and with DROP too.
-const LONG_ASKED: u64 = 0xf400_0000_0001_0009;
+const LONG_ASKED: u64 = 0xf600_0000_0001_0009;
 
-const LONG_DROPPED: u64 = 0xec00_0000_0001_0009;
+const LONG_DROPPED: u64 = 0xee00_0000_0001_0009;
 
 /// Where they are copied, at words 2 and 5 of log 1, and the place behind, where the long one may go else.
-const LONG_COPY: u64 = 0x8400_0004_0201_0009;
+const LONG_COPY: u64 = 0x8600_0004_0201_0009;
 
-const SHORT_COPY: u64 = 0x8400_0004_0501_0008;
+const SHORT_COPY: u64 = 0x8600_0004_0501_0008;
 
-const ELSEWHERE: u64 = 0x8400_0004_0701_0009;
+const ELSEWHERE: u64 = 0x8600_0004_0701_0009;
 
 const BEHIND: Place = Place { log: 1, at: 7 };
 
@@ -55,15 +55,17 @@ const SHORT_FINISHED: u64 = 0xd400_1014_0003_0001;
 #[rattlefmt::skip]
 const MADE: &[Act] = &[
     Does(Put { log: 0, at: 0, word: LONG_HEADER }, Done),
-    Does(Name { pointer: 0, old: 0, new: 0x8400_0000_0001_0009 }, Done),
+    Does(Name { pointer: 0, old: 0, new: 0x8600_0000_0001_0009 }, Done),
     Does(Put { log: 0, at: 3, word: SHORT_HEADER }, Done),
-    Does(Name { pointer: 1, old: 0, new: 0x8400_0000_0301_0008 }, Done),
-    Does(Adopt { owner: 0, pointer: 0 }, Word(0x8400_0000_0001_0009)),
-    Does(Adopt { owner: 0, pointer: 1 }, Word(0x8400_0000_0301_0008)),
+    Does(Name { pointer: 1, old: 0, new: 0x8600_0000_0301_0008 }, Done),
+    Does(Adopt { owner: 0, pointer: 0 }, Word(0x8600_0000_0001_0009)),
+    Does(Adopt { owner: 0, pointer: 1 }, Word(0x8600_0000_0301_0008)),
     Does(ReadEpoch { owner: 0 }, Epoch(0)),
     Does(Open { owner: 0 }, Done),
     Does(Pin { owner: 0, pointer: 0 }, Held(Place { log: 0, at: 0 })),
     Does(Pin { owner: 0, pointer: 1 }, Held(Place { log: 0, at: 3 })),
+    Does(Soil { owner: 0, pointer: 0 }, Word(0xc600_0000_0001_0009)),
+    Does(Soil { owner: 0, pointer: 1 }, Word(0xc600_0000_0301_0008)),
     Does(Store { owner: 0, pointer: 0, index: 0, word: 7 }, Done),
     Does(Store { owner: 0, pointer: 0, index: 1, word: 9 }, Done),
     Does(Store { owner: 0, pointer: 1, index: 0, word: 5 }, Done),
@@ -74,7 +76,7 @@ const MADE: &[Act] = &[
 #[rattlefmt::skip]
 const IN_ROUND: &[Act] = &[
     Does(Put { log: 1, at: 0, word: 0xa100_0000_0201_0008 }, Done),
-    Does(Name { pointer: 2, old: 0, new: 0x8400_0004_0001_0008 }, Done),
+    Does(Name { pointer: 2, old: 0, new: 0x8600_0004_0001_0008 }, Done),
     Does(Mark { pointer: 0 }, Word(LONG_HOT)),
     Does(Mark { pointer: 1 }, Word(SHORT_HOT)),
     Does(Advance { logs: 1 }, Epoch(1)),
@@ -277,6 +279,7 @@ const CLEARED: &[Act] = &[
     Does(ReadEpoch { owner: 0 }, Epoch(1)),
     Does(Open { owner: 0 }, Done),
     Does(Pin { owner: 0, pointer: 0 }, Held(Place { log: 0, at: 0 })),
+    Does(Soil { owner: 0, pointer: 0 }, Word(0xc600_0000_0001_0009)),
     Does(Store { owner: 0, pointer: 0, index: 0, word: 8 }, Done),
 ];
 
@@ -342,11 +345,11 @@ const COPIED_ANEW: &[Act] = &[
 #[rattlefmt::skip]
 const TARGET_SEALED: &[Act] = &[
     Does(Put { log: 2, at: 0, word: 0xa100_0000_0301_0008 }, Done),
-    Does(Name { pointer: 3, old: 0, new: 0x8400_0008_0001_0008 }, Done),
+    Does(Name { pointer: 3, old: 0, new: 0x8600_0008_0001_0008 }, Done),
     Log(1, Kind::Sealed, 7),
-    Does(Adopt { owner: 0, pointer: 2 }, Word(0x8400_0004_0001_0008)),
-    Does(Ask { owner: 0, pointer: 2, mark: Dropped }, Word(0x8400_0004_0001_0008)),
-    Does(Name { pointer: 2, old: 0x8c00_0004_0001_0008, new: 0 }, Done),
+    Does(Adopt { owner: 0, pointer: 2 }, Word(0x8600_0004_0001_0008)),
+    Does(Ask { owner: 0, pointer: 2, mark: Dropped }, Word(0x8600_0004_0001_0008)),
+    Does(Name { pointer: 2, old: 0x8e00_0004_0001_0008, new: 0 }, Done),
     Refuses(&[Get { log: 1, at: 0, free: true }]),
     Does(Collect { job: 1, old: SHORT_OFFERED }, Done),
 ];

@@ -8,11 +8,11 @@ use far_core::Event::*;
 use far_core::Reply::*;
 use far_word::Mark::{Dropped, Evac, Hot, Moved};
 
-const PLACED: u64 = 0x8400_0000_0701_0008;
+const PLACED: u64 = 0x8600_0000_0701_0008;
 
-const MOVING: u64 = 0x9400_0000_0701_0008;
+const MOVING: u64 = 0x9600_0000_0701_0008;
 
-const DROPPED: u64 = 0x9c00_0000_0701_0008;
+const DROPPED: u64 = 0x9e00_0000_0701_0008;
 
 #[rattlefmt::skip]
 const NOT_ASKED: &[Act] = &[
@@ -33,7 +33,7 @@ const RETIRED: &[Act] = &[
     Does(Ask { owner: 0, pointer: 2, mark: Dropped }, Word(MOVING)),
     Does(Ask { owner: 0, pointer: 2, mark: Dropped }, Refused),
     Does(See { pointer: 2 }, Word(DROPPED)),
-    Does(Name { pointer: 2, old: 0x8c00_0000_0701_0008, new: 0 }, Word(DROPPED)),
+    Does(Name { pointer: 2, old: 0x8e00_0000_0701_0008, new: 0 }, Word(DROPPED)),
     Does(Name { pointer: 2, old: DROPPED, new: 0 }, Done),
     Does(See { pointer: 2 }, Word(0)),
     Used(2, false),

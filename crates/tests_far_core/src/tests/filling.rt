@@ -12,15 +12,15 @@ use far_core::{Core, Event, Kind};
 const LONGEST_FILLS: &[Act] = &[
     Does(Put { log: 0, at: 0, word: 0xa100_0000_0001_03f8 }, Done),
     Does(Put { log: 0, at: 127, word: 0 }, Done),
-    Does(Name { pointer: 0, old: 0, new: 0x8400_0000_0001_03f8 }, Done),
+    Does(Name { pointer: 0, old: 0, new: 0x8600_0000_0001_03f8 }, Done),
     Log(0, Kind::Open, 128),
     Does(Put { log: 1, at: 0, word: 0xa100_0000_0101_0001 }, Done),
-    Does(Name { pointer: 1, old: 0, new: 0x8400_0004_0001_0001 }, Done),
+    Does(Name { pointer: 1, old: 0, new: 0x8600_0004_0001_0001 }, Done),
     Log(0, Kind::Sealed, 128),
     Log(1, Kind::Open, 2),
     OpenLog(1),
-    Cell(0, 0x8400_0000_0001_03f8),
-    Cell(1, 0x8400_0004_0001_0001),
+    Cell(0, 0x8600_0000_0001_03f8),
+    Cell(1, 0x8600_0004_0001_0001),
 ];
 
 // Whether a pointer's object of 1 byte takes the next two words of log 0.
@@ -28,7 +28,7 @@ fn places_shortest(core: &mut Core, number: u8) -> bool {
     let pointer = number as u16;
     let at = 2 * pointer;
     let word = 0xa100_0000_0001_0001 | (pointer as u64) << 24;
-    let new = 0x8400_0000_0001_0001 | (at as u64) << 24;
+    let new = 0x8600_0000_0001_0001 | (at as u64) << 24;
     let put = Event::Put { log: 0, at, word };
     let name = Event::Name {
         pointer,
@@ -57,7 +57,7 @@ fn places_all(core: &mut Core) -> bool {
 const FULL: &[Act] = &[
     Does(Put { log: 0, at: 127, word: 0 }, Refused),
     Does(Put { log: 3, at: 0, word: 0xa100_0000_4001_0008 }, Done),
-    Does(Name { pointer: 64, old: 0, new: 0x8400_000c_0001_0008 }, Done),
+    Does(Name { pointer: 64, old: 0, new: 0x8600_000c_0001_0008 }, Done),
     Log(0, Kind::Sealed, 128),
     Log(3, Kind::Open, 2),
     OpenLog(3),
@@ -75,8 +75,8 @@ fn shortest_objects_fill_a_log(rt: HostRuntime) {
 const NAMED_LATE: &[Act] = &[
     Does(Put { log: 0, at: 9, word: 0xa100_0000_0101_0008 }, Done),
     Does(Put { log: 2, at: 0, word: 0xa100_0000_0101_0008 }, Done),
-    Leaves(Name { pointer: 1, old: 0, new: 0x8400_0000_0901_0008 }, Word(0x8400_0000_0301_0008)),
-    Leaves(Name { pointer: 1, old: 0, new: 0x8400_0008_0001_0008 }, Word(0x8400_0000_0301_0008)),
+    Leaves(Name { pointer: 1, old: 0, new: 0x8600_0000_0901_0008 }, Word(0x8600_0000_0301_0008)),
+    Leaves(Name { pointer: 1, old: 0, new: 0x8600_0008_0001_0008 }, Word(0x8600_0000_0301_0008)),
 ];
 
 #[rattlefmt::skip]

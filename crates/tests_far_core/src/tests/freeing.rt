@@ -11,9 +11,9 @@ use far_word::Mark::Dropped;
 /// The header and the cell of pointer 0, an object of 1,016 bytes that fills log 0.
 const WHOLE_HEADER: u64 = 0xa100_0000_0001_03f8;
 
-const WHOLE: u64 = 0x8400_0000_0001_03f8;
+const WHOLE: u64 = 0x8600_0000_0001_03f8;
 
-const DROPPED: u64 = 0x8c00_0000_0001_03f8;
+const DROPPED: u64 = 0x8e00_0000_0001_03f8;
 
 /// Log 0 is sealed and full of pointer 0's object, and log 1 is open.
 #[rattlefmt::skip]
@@ -21,7 +21,7 @@ const SEALED: &[Act] = &[
     Does(Put { log: 0, at: 0, word: WHOLE_HEADER }, Done),
     Does(Name { pointer: 0, old: 0, new: WHOLE }, Done),
     Does(Put { log: 1, at: 0, word: 0xa100_0000_0101_0008 }, Done),
-    Does(Name { pointer: 1, old: 0, new: 0x8400_0004_0001_0008 }, Done),
+    Does(Name { pointer: 1, old: 0, new: 0x8600_0004_0001_0008 }, Done),
     Does(Adopt { owner: 0, pointer: 0 }, Word(WHOLE)),
 ];
 

@@ -9,7 +9,7 @@ use far_core::Kind;
 use far_core::Reply::*;
 use far_word::Place;
 
-const MARKED: u64 = 0xa400_0000_0001_0008;
+const MARKED: u64 = 0xa600_0000_0001_0008;
 
 /// Where a copy may stand: behind the open log's tail.
 const AT_TAIL: Place = Place { log: 1, at: 2 };
@@ -61,7 +61,7 @@ const OFFER_MADE: &[Act] = &[
 const SOURCE_MOVED: &[Act] = &[
     Does(Put { log: 1, at: 4, word: HEADER }, Done),
     Does(Put { log: 1, at: 5, word: 0 }, Done),
-    Does(Name { pointer: 0, old: MARKED, new: 0x8400_0004_0401_0008 }, Done),
+    Does(Name { pointer: 0, old: MARKED, new: 0x8600_0004_0401_0008 }, Done),
     Refuses(&[
         Get { log: 0, at: 0, free: true },
         Offer { job: 4, pointer: 0, to: Place { log: 1, at: 6 } },

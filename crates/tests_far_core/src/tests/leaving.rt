@@ -8,11 +8,11 @@ use far_core::Event::*;
 use far_core::Reply::*;
 use far_word::Mark::Moved;
 
-const WITH_EVAC: u64 = 0xa400_0000_0001_0008;
+const WITH_EVAC: u64 = 0xa600_0000_0001_0008;
 
-const WITH_MOVE: u64 = 0x9400_0000_0001_0008;
+const WITH_MOVE: u64 = 0x9600_0000_0001_0008;
 
-const WITH_BOTH: u64 = 0xb400_0000_0001_0008;
+const WITH_BOTH: u64 = 0xb600_0000_0001_0008;
 
 const FAR: u64 = 0x0400_0000_0001_0008;
 

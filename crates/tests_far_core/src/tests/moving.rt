@@ -10,20 +10,22 @@ use far_word::Mark::Moved;
 use far_word::Place;
 
 /// The cell of pointer 1, an object of 9 bytes at word 3 of log 0: as it was placed, viewed before, and asked to be moved then.
-const PLACED: u64 = 0x8400_0000_0301_0009;
+const PLACED: u64 = 0x8600_0000_0301_0009;
 
-const VIEWED: u64 = 0xc400_0000_0301_0009;
+const VIEWED: u64 = 0xc600_0000_0301_0009;
 
-const MOVING: u64 = 0xd400_0000_0301_0009;
+const MOVING: u64 = 0xd600_0000_0301_0009;
 
 /// The same object at the open log's tail, at the start of log 1, and far.
-const AT_TAIL: u64 = 0x8400_0000_0601_0009;
+const AT_TAIL: u64 = 0x8600_0000_0601_0009;
 
-const AT_START: u64 = 0x8400_0004_0001_0009;
+const AT_START: u64 = 0x8600_0004_0001_0009;
 
 const FAR: u64 = 0x0400_0000_0001_0009;
 
-/// And at the tail of log 2.
+/// As it would come near at that tail, and as it comes at the tail of log 2: without DIRTY.
+const FETCHED: u64 = 0x8400_0000_0601_0009;
+
 const BACK: u64 = 0x8400_0008_0201_0009;
 
 const HEADER: u64 = 0xa100_0000_0101_0009;
@@ -39,10 +41,10 @@ const OPENED: &[Act] = &[
 #[rattlefmt::skip]
 const MADE: &[Act] = &[
     Does(Put { log: 0, at: 0, word: 0xa100_0000_0001_0009 }, Done),
-    Does(Name { pointer: 0, old: 0, new: 0x8400_0000_0001_0009 }, Done),
+    Does(Name { pointer: 0, old: 0, new: 0x8600_0000_0001_0009 }, Done),
     Does(Put { log: 0, at: 3, word: HEADER }, Done),
     Does(Name { pointer: 1, old: 0, new: PLACED }, Done),
-    Does(Adopt { owner: 0, pointer: 0 }, Word(0x8400_0000_0001_0009)),
+    Does(Adopt { owner: 0, pointer: 0 }, Word(0x8600_0000_0001_0009)),
     Does(Adopt { owner: 0, pointer: 1 }, Word(PLACED)),
 ];
 
@@ -51,6 +53,7 @@ const MADE: &[Act] = &[
 #[rattlefmt::skip]
 const WRITTEN: &[Act] = &[
     Does(Pin { owner: 0, pointer: 1 }, Held(Place { log: 0, at: 3 })),
+    Does(Soil { owner: 0, pointer: 1 }, Word(VIEWED)),
     Does(Store { owner: 0, pointer: 1, index: 0, word: FIRST }, Done),
     Does(Store { owner: 0, pointer: 1, index: 1, word: 9 }, Done),
     Does(Close { owner: 0 }, Done),
@@ -114,28 +117,29 @@ const STAYS_HELD: &[Act] = &[
 #[rattlefmt::skip]
 const ONLY_MARKED: &[Act] = &[
     Does(Put { log: 2, at: 0, word: 0xa100_0000_0201_0008 }, Done),
-    Does(Name { pointer: 2, old: 0, new: 0x8400_0008_0001_0008 }, Done),
+    Does(Name { pointer: 2, old: 0, new: 0x8600_0008_0001_0008 }, Done),
     Does(Mark { pointer: 1 }, Word(VIEWED)),
-    Does(See { pointer: 1 }, Word(0xe400_0000_0301_0009)),
-    Refuses(&[Name { pointer: 1, old: 0xe400_0000_0301_0009, new: AT_START }]),
+    Does(See { pointer: 1 }, Word(0xe600_0000_0301_0009)),
+    Refuses(&[Name { pointer: 1, old: 0xe600_0000_0301_0009, new: AT_START }]),
 ];
 
 #[rattlefmt::skip]
 const MOVES_NOTHING: &[Act] = &[
     Does(Ask { owner: 0, pointer: 1, mark: Moved }, Word(VIEWED)),
     Refuses(&[
-        // Marks on the new word; another length; another data structure.
+        // Marks on the new word; DIRTY lost; another length; another data structure.
         Name { pointer: 1, old: MOVING, new: AT_TAIL | 1 << 62 },
         Name { pointer: 1, old: MOVING, new: AT_TAIL | 1 << 60 },
-        Name { pointer: 1, old: MOVING, new: 0x8400_0000_0601_0008 },
-        Name { pointer: 1, old: MOVING, new: 0x8400_0000_0602_0009 },
+        Name { pointer: 1, old: MOVING, new: FETCHED },
+        Name { pointer: 1, old: MOVING, new: 0x8600_0000_0601_0008 },
+        Name { pointer: 1, old: MOVING, new: 0x8600_0000_0602_0009 },
         // A dropped word; a place in log 5; another pointer; no new span.
-        Name { pointer: 1, old: 0xdc00_0000_0301_0009, new: AT_TAIL },
-        Name { pointer: 1, old: 0xd400_0014_0301_0009, new: AT_TAIL },
-        Name { pointer: 0, old: 0x8400_0000_0001_0009, new: AT_TAIL },
-        Name { pointer: 1, old: MOVING, new: 0x8400_0000_0701_0009 },
-        Name { pointer: 1, old: MOVING, new: 0x8400_0004_0101_0009 },
-        Name { pointer: 1, old: MOVING, new: 0x8400_0008_0001_0009 },
+        Name { pointer: 1, old: 0xde00_0000_0301_0009, new: AT_TAIL },
+        Name { pointer: 1, old: 0xd600_0014_0301_0009, new: AT_TAIL },
+        Name { pointer: 0, old: 0x8600_0000_0001_0009, new: AT_TAIL },
+        Name { pointer: 1, old: MOVING, new: 0x8600_0000_0701_0009 },
+        Name { pointer: 1, old: MOVING, new: 0x8600_0004_0101_0009 },
+        Name { pointer: 1, old: MOVING, new: 0x8600_0008_0001_0009 },
     ]),
 ];
 
@@ -157,29 +161,29 @@ const HALF_COPIED: &[Act] = &[
 #[rattlefmt::skip]
 const NOT_FETCHED: &[Act] = &[
     Refuses(&[
-        Name { pointer: 1, old: FAR, new: AT_TAIL },
-        Name { pointer: 3, old: FAR, new: AT_TAIL },
-        Name { pointer: 1, old: FAR | 1 << 59, new: AT_TAIL },
+        Name { pointer: 1, old: FAR, new: FETCHED },
+        Name { pointer: 3, old: FAR, new: FETCHED },
+        Name { pointer: 1, old: FAR | 1 << 59, new: FETCHED },
     ]),
 ];
 
 #[rattlefmt::skip]
 const FETCHED_LATE: &[Act] = &[
-    Does(Name { pointer: 1, old: FAR, new: AT_TAIL }, Word(VIEWED)),
-    Does(Name { pointer: 1, old: FAR | 1 << 59, new: AT_TAIL }, Refused),
+    Does(Name { pointer: 1, old: FAR, new: FETCHED }, Word(VIEWED)),
+    Does(Name { pointer: 1, old: FAR | 1 << 59, new: FETCHED }, Refused),
     Does(Name { pointer: 1, old: FAR, new: 0x8400_0000_0601_0008 }, Refused),
     Does(Put { log: 0, at: 8, word: 0x100 }, Done),
-    Does(Name { pointer: 1, old: FAR, new: AT_TAIL }, Refused),
+    Does(Name { pointer: 1, old: FAR, new: FETCHED }, Refused),
 ];
 
 /// Log 2 is open, its tail 2, and pointer 1's object far.
 #[rattlefmt::skip]
 const AWAY: &[Act] = &[
     Does(Put { log: 2, at: 0, word: 0xa100_0000_0201_0008 }, Done),
-    Does(Name { pointer: 2, old: 0, new: 0x8400_0008_0001_0008 }, Done),
+    Does(Name { pointer: 2, old: 0, new: 0x8600_0008_0001_0008 }, Done),
     Does(Mark { pointer: 1 }, Word(VIEWED)),
-    Does(Ask { owner: 0, pointer: 1, mark: Moved }, Word(0xe400_0000_0301_0009)),
-    Does(Name { pointer: 1, old: 0xf400_0000_0301_0009, new: FAR }, Done),
+    Does(Ask { owner: 0, pointer: 1, mark: Moved }, Word(0xe600_0000_0301_0009)),
+    Does(Name { pointer: 1, old: 0xf600_0000_0301_0009, new: FAR }, Done),
     Does(See { pointer: 1 }, Word(FAR)),
 ];
 
@@ -188,6 +192,7 @@ const COME_BACK: &[Act] = &[
     Does(Put { log: 2, at: 2, word: HEADER }, Done),
     Does(Put { log: 2, at: 3, word: FIRST }, Done),
     Does(Put { log: 2, at: 4, word: 9 }, Done),
+    Does(Name { pointer: 1, old: FAR, new: BACK | 1 << 57 }, Refused),
     Does(Name { pointer: 1, old: FAR, new: BACK }, Done),
     Does(Name { pointer: 1, old: FAR, new: BACK }, Refused),
     Log(2, Kind::Open, 5),

@@ -149,8 +149,15 @@ fn load(core: &Core, pointer: u16) -> Reply {
     Reply::Refused
 }
 
-fn store(core: &mut Core, pointer: u16, word: u64) -> Reply {
+fn soil(core: &mut Core, pointer: u16) -> Reply {
     if pointer < CELLS && core.is_held(pointer) {
+        return Reply::Word(core.soil(0, pointer));
+    }
+    Reply::Refused
+}
+
+fn store(core: &mut Core, pointer: u16, word: u64) -> Reply {
+    if pointer < CELLS && core.is_soiled(pointer) {
         if let Some(PtrWord::Near { len: 8, .. }) = PtrWord::read(core.cell(pointer)) {
             core.store(0, pointer, 0, word);
             return Reply::Done;
@@ -184,6 +191,7 @@ fn called_by_owner(core: &mut Core, event: Event) -> Reply {
         Event::Pin { pointer, .. } => pin(core, pointer),
         Event::Load { pointer, .. } => load(core, pointer),
         Event::Store { pointer, word, .. } => store(core, pointer, word),
+        Event::Soil { pointer, .. } => soil(core, pointer),
         Event::Adopt { pointer, .. } => adopt(core, pointer),
         Event::Ask {
             pointer,

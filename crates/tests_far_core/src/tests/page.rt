@@ -10,7 +10,9 @@ const OWNER: u8 = 0;
 
 const POINTER: u16 = 0;
 
-const NEAR: u64 = 0x8400_0000_0001_0008;
+const NEAR: u64 = 0x8600_0000_0001_0008;
+
+const VIEWED: u64 = 0xc600_0000_0001_0008;
 
 // The book writes a header and a zero at the tail of log 0, and names them by pointer 0.
 fn placed(alloc: Global, core: &mut Core) -> Result<Vec<Reply>, Refused> {
@@ -64,6 +66,7 @@ fn writes_and_reads(rt: &impl Abort, core: &mut Core) {
         pointer,
         index,
     };
+    assert!(rt; core.step(Event::Soil { owner, pointer }) == Reply::Word(VIEWED));
     assert!(rt; core.step(store) == Reply::Done);
     assert!(rt; core.step(load) == Reply::Word(7));
     assert!(rt; core.step(Event::Close { owner }) == Reply::Done);

@@ -10,7 +10,7 @@ use far_word::{CELLS, LOG_WORDS, Place, PtrWord};
 
 /// Whether owner 0 stores a word at an index of a pointer's object, of two words.
 pub(super) fn stores_at(core: &mut Core, pointer: u16, index: u16, word: u64) -> bool {
-    if pointer < CELLS && core.is_held(pointer) && index < 2 {
+    if pointer < CELLS && core.is_soiled(pointer) && index < 2 {
         if let Some(PtrWord::Near { len: 16, .. }) = PtrWord::read(core.cell(pointer)) {
             core.store_all(0, pointer, index, &[word]);
             return true;
@@ -44,7 +44,7 @@ pub(super) fn puts_zeros(core: &mut Core, place: Place, count: u16) -> bool {
     true
 }
 
-const PAIR: u64 = 0x8400_0000_0001_0010;
+const PAIR: u64 = 0x8600_0000_0001_0010;
 
 /// Owner 0 holds an object of two words.
 #[rattlefmt::skip]
@@ -55,6 +55,7 @@ const HOLDING_PAIR: &[Act] = &[
     Does(ReadEpoch { owner: 0 }, Epoch(5)),
     Does(Open { owner: 0 }, Done),
     Does(Pin { owner: 0, pointer: 0 }, Held(Place { log: 0, at: 0 })),
+    Does(Soil { owner: 0, pointer: 0 }, Word(PAIR | 1 << 62)),
 ];
 
 #[rattlefmt::skip]

@@ -44,7 +44,7 @@ const READ_SO: [Reply; 8] = [
     Word(0),
 ];
 
-const READ: &[Act] = &[Cell(0, 0xc400_0000_0001_0008), Log(0, Kind::Open, 2)];
+const READ: &[Act] = &[Cell(0, 0xc600_0000_0001_0008), Log(0, Kind::Open, 2)];
 
 #[test]
 fn first_object_is_read(rt: HostRuntime) {
@@ -58,12 +58,12 @@ fn first_object_is_read(rt: HostRuntime) {
 /// The cells that the people have, and no other that is used at the ends of their rows.
 const LISTED: &[Act] = &[
     Cells(256),
-    Listed(0, 0xc400_0000_0001_0009),
-    Listed(1, 0x8400_0000_0301_0008),
-    Listed(2, 0x8400_0000_0701_0008),
+    Listed(0, 0xc600_0000_0001_0009),
+    Listed(1, 0x8600_0000_0301_0008),
+    Listed(2, 0x8600_0000_0701_0008),
     Listed(3, 0),
     Listed(127, 0),
-    Listed(128, 0x8400_0000_0501_0008),
+    Listed(128, 0x8600_0000_0501_0008),
     Listed(129, 0),
     Listed(255, 0),
 ];
@@ -123,8 +123,8 @@ const CLOSED: &[Act] = &[
     Does(Close { owner: 0 }, Done),
     Does(ReadEpoch { owner: 0 }, Epoch(5)),
     Does(Open { owner: 0 }, Done),
-    Pointer(0, 0xc400_0000_0001_0009, true, false),
-    Pointer(2, 0xc400_0000_0701_0008, true, false),
+    Pointer(0, 0xc600_0000_0001_0009, true, false),
+    Pointer(2, 0xc600_0000_0701_0008, true, false),
     Does(Load { owner: 0, pointer: 0, index: 0 }, Refused),
     Does(Pin { owner: 0, pointer: 0 }, Held(Place { log: 0, at: 0 })),
     Does(Load { owner: 0, pointer: 0, index: 0 }, Word(0x0807_0605_0403_0201)),
@@ -134,6 +134,7 @@ const CLOSED: &[Act] = &[
 const PADDED: &[Act] = &[
     Does(Load { owner: 0, pointer: 0, index: 0 }, Word(0x0807_0605_0403_0201)),
     Does(Load { owner: 0, pointer: 0, index: 1 }, Word(9)),
+    Does(Soil { owner: 0, pointer: 0 }, Word(0xc600_0000_0001_0009)),
     Does(Store { owner: 0, pointer: 0, index: 0, word: u64::MAX }, Done),
     Does(Store { owner: 0, pointer: 0, index: 1, word: 0x100 }, Refused),
     Does(Load { owner: 0, pointer: 0, index: 1 }, Word(9)),

@@ -10,15 +10,15 @@ use far_core::Shape;
 use far_word::Mark::Dropped;
 use far_word::Place;
 
-const WITH_EVAC: u64 = 0xa400_0000_0001_0008;
+const WITH_EVAC: u64 = 0xa600_0000_0001_0008;
 
-const WITH_HOT: u64 = 0xc400_0000_0001_0008;
+const WITH_HOT: u64 = 0xc600_0000_0001_0008;
 
-const WITH_HOT_AND_EVAC: u64 = 0xe400_0000_0001_0008;
+const WITH_HOT_AND_EVAC: u64 = 0xe600_0000_0001_0008;
 
 const FAR: u64 = 0x0400_0000_0001_0008;
 
-const MOVED: u64 = 0x8400_0004_0201_0008;
+const MOVED: u64 = 0x8600_0004_0201_0008;
 
 #[rattlefmt::skip]
 const BEGINS: &[Act] = &[
@@ -94,6 +94,8 @@ const STALE: &[Act] = &[
     Does(ReadEpoch { owner: 0 }, Epoch(0)),
     Does(Open { owner: 0 }, Done),
     Does(Pin { owner: 0, pointer: 0 }, Held(Place { log: 0, at: 0 })),
+    Does(Store { owner: 0, pointer: 0, index: 0, word: 0xaa }, Refused),
+    Does(Soil { owner: 0, pointer: 0 }, Word(0xc600_0000_0001_0008)),
     Does(Store { owner: 0, pointer: 0, index: 0, word: 0xaa }, Done),
     Does(Close { owner: 0 }, Done),
     Does(ReadEpoch { owner: 0 }, Epoch(0)),

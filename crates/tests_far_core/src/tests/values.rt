@@ -42,6 +42,7 @@ const EVENTS: &[Event] = &[
     Store { owner: 0, pointer: 0, index: 0, word: 0 }, Store { owner: 1, pointer: 0, index: 0, word: 0 },
     Store { owner: 0, pointer: 1, index: 0, word: 0 }, Store { owner: 0, pointer: 0, index: 1, word: 0 },
     Store { owner: 0, pointer: 0, index: 0, word: 1 },
+    Soil { owner: 0, pointer: 0 }, Soil { owner: 1, pointer: 0 }, Soil { owner: 0, pointer: 1 },
     Close { owner: 0 }, Close { owner: 1 },
     Adopt { owner: 0, pointer: 0 }, Adopt { owner: 1, pointer: 0 }, Adopt { owner: 0, pointer: 1 },
     Put { log: 0, at: 0, word: 0 }, Put { log: 1, at: 0, word: 0 },

@@ -94,9 +94,11 @@ pub(super) enum Act {
 
     In(Phase),
     Epoch(u64),
-    /// An object lies at a place, with no marks but HOT perhaps.
+    /// An object lies at a place with DIRTY, and no other mark but HOT perhaps.
     Near(u16, Place, bool),
-    /// An object lies at a place, with EVAC alone.
+    /// An object lies where it was fetched to, unwritten since, and with no mark but HOT perhaps.
+    Clean(u16, Place, bool),
+    /// An object lies at a place with EVAC and DIRTY alone.
     Leaving(u16, Place),
     /// An object is far, with no marks.
     Far(u16),
@@ -104,7 +106,7 @@ pub(super) enum Act {
     Log(u8, LogKind, [u16; 3]),
     /// So many objects are near and so many far, and so many bytes are live.
     Counts(u64, u64, u64),
-    /// An audit lists this object alone, which lies at a place and asks for a move.
+    /// An audit lists this object alone, which lies at a place with MOVE and DIRTY.
     ListsAsked(u16, Place),
     /// These logs are sealed, in this order.
     Sealed(&'static [u8]),

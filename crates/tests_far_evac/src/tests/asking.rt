@@ -34,9 +34,9 @@ const FETCHED_MEANWHILE: &[Act] = &[
     Polls(Ok(Polled::Clear)),
     In(Phase::Evacuating),
     Fetches(0),
-    Near(0, Place { log: 2, at: 0 }, false),
+    Clean(0, Place { log: 2, at: 0 }, false),
     Deals(2, [0, 1, 0, 1], true),
-    Near(0, Place { log: 2, at: 0 }, false),
+    Clean(0, Place { log: 2, at: 0 }, false),
     Log(1, LogKind::Free, [0, 0, 1024]),
 ];
 

@@ -44,6 +44,7 @@ fn event_of(state: u64) -> Event {
             mark,
         },
         4 | 5 => Event::Pin { owner, pointer },
+        6 => Event::Soil { owner, pointer },
         _ => Event::Store {
             owner,
             pointer,

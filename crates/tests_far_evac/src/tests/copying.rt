@@ -3,7 +3,7 @@
 ghost use Rattle.std.specs.Prelude.{◌≡◌};
 
 use crate::tests::acts::Choice;
-use crate::tests::steps::{NO_MARKS, home, progress, selects};
+use crate::tests::steps::{WRITTEN, home, progress, selects};
 use far_book::{Beset, Book, Home};
 use far_core::{Core, Event, Shape};
 use far_device::MemDevice;
@@ -117,7 +117,7 @@ fn stays(evac: &mut Evac<Beset, MemDevice>) -> bool {
     let place = Place { log: 0, at: 0 };
     let marks = Marks {
         hot: true,
-        ..NO_MARKS
+        ..WRITTEN
     };
     home(evac, 0) == Some(Home::Near { place, marks })
 }

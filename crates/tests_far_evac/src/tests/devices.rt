@@ -8,7 +8,7 @@ ghost use Rattle.far_device.specs.Mem.{bytes_at, faults_of};
 ghost use Rattle.far_device.specs.Wrapping.{wrapped_below};
 
 use crate::tests::acts::Act::*;
-use crate::tests::acts::Choice::Eldest;
+use crate::tests::acts::Choice::{Eldest, Named};
 use crate::tests::acts::{Act, End};
 use crate::tests::making::{SMALL, evacuator_over};
 use crate::tests::stage::plays_on;
@@ -154,6 +154,32 @@ const GIVEN_UP: &[Act] = &[
     Reads(2, 0),
 ];
 
+// Object 0 goes far by the one write that the device makes, comes near again to log 0, and object 2 fills log 2.
+const CAME_BACK: &[Act] = &[
+    MakesMany(1, 8),
+    MakesMany(1, 1016),
+    Runs(Eldest, 1, 9, End::Done([0, 1, 0, 1])),
+    Fetches(0),
+    Clean(0, Place { log: 0, at: 0 }, false),
+    MakesMany(1, 1016),
+    Sealed(&[1, 0]),
+];
+
+// The object leaves without a write, and comes back as it was.
+const LEAVES_CLEAN: &[Act] = &[
+    Runs(Named(&[0]), 1, 9, End::Done([0, 1, 0, 1])),
+    Far(0),
+    Reads(0, 0),
+];
+
+// Once it is written it has its mark again, and keeps it as it moves.
+const LEAVES_WRITTEN: &[Act] = &[
+    Writes(0, 7),
+    Runs(Named(&[0]), 1, 9, End::Done([1, 0, 0, 1])),
+    Near(0, Place { log: 3, at: 0 }, false),
+    Counts(3, 0, 2064),
+];
+
 /// A test: its name, after how many writes the device fails, how, and its parts.
 #[derive(Clone, Copy)]
 struct Stumble {
@@ -171,6 +197,10 @@ const STUMBLES: &[Stumble] = &[
     Stumble { name: "a_failure_stops_a_round", writes: 1, fault: DeviceFault::Device, parts: &[FOUR, STOPPED_ROUND] },
     // The device has no memory for an object; the round is given up, and the object is there.
     Stumble { name: "a_refused_object_stays", writes: 0, fault: DeviceFault::Memory, parts: &[FOUR, GIVEN_UP] },
+    // What was fetched and isn't written since is on the device still.
+    Stumble { name: "a_clean_object_leaves_without_a_write", writes: 1, fault: DeviceFault::Device, parts: &[CAME_BACK, LEAVES_CLEAN] },
+    // What was fetched and is written since is marked, and moves with its mark.
+    Stumble { name: "a_written_object_keeps_its_mark", writes: 1, fault: DeviceFault::Device, parts: &[CAME_BACK, LEAVES_WRITTEN] },
 ];
 
 fn comes_out(alloc: Global, test: &Stumble) -> bool {

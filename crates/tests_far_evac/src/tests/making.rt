@@ -152,9 +152,10 @@ fn views<D: Device + Drop>(evac: &mut Evac<Plain, D>, pointer: u16) -> bool {
     matches!(pin(evac, pointer), Reply::Held(_))
 }
 
-// Whether a viewed object has this word from now on; or has it.
+// Whether a viewed object, which is soiled before, has this word from now on; or has it.
 fn stores<D: Device + Drop>(evac: &mut Evac<Plain, D>, pointer: u16, word: u64) -> bool {
     let (owner, index) = (0, 0);
+    evac.owner(Event::Soil { owner, pointer });
     let store = Event::Store {
         owner,
         pointer,

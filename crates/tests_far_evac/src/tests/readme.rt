@@ -40,6 +40,7 @@ fn writes(evac: &mut Evac<Plain, MemDevice>) {
     evac.owner(Event::ReadEpoch { owner });
     evac.owner(Event::Open { owner });
     evac.owner(Event::Pin { owner, pointer });
+    evac.owner(Event::Soil { owner, pointer });
     evac.owner(Event::Store {
         owner,
         pointer,

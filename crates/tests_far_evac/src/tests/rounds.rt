@@ -51,7 +51,7 @@ const PARTED: &[Act] = &[
     Counts(2, 1, 1040),
     Reads(0, COUNTED),
     Reads(1, 0),
-    Near(1, Place { log: 2, at: 2 }, true),
+    Clean(1, Place { log: 2, at: 2 }, true),
 ];
 
 const OPENED_ANEW: &[Act] = &[

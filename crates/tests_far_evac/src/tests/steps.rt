@@ -13,6 +13,12 @@ pub(super) const NO_MARKS: Marks = Marks {
     evac: false,
     moved: false,
     dropped: false,
+    dirty: false,
+};
+
+pub(super) const WRITTEN: Marks = Marks {
+    dirty: true,
+    ..NO_MARKS
 };
 
 impl Policy for Choice {
@@ -116,13 +122,17 @@ fn shows<N: Near + Drop, D: Device + Drop>(evac: &mut Evac<N, D>, act: Act) -> b
         Act::In(phase) => evac.phase() == phase,
         Act::Epoch(epoch) => evac.book().shape().epoch == epoch,
         Act::Near(pointer, place, hot) => {
+            let marks = Marks { hot, ..WRITTEN };
+            home(evac, pointer) == Some(Home::Near { place, marks })
+        }
+        Act::Clean(pointer, place, hot) => {
             let marks = Marks { hot, ..NO_MARKS };
             home(evac, pointer) == Some(Home::Near { place, marks })
         }
         Act::Leaving(pointer, place) => {
             let marks = Marks {
                 evac: true,
-                ..NO_MARKS
+                ..WRITTEN
             };
             home(evac, pointer) == Some(Home::Near { place, marks })
         }
@@ -176,7 +186,7 @@ fn is_log<N: Near + Drop, D: Device + Drop>(
     shown(evac, log) == Some(LogState { kind, row })
 }
 
-// Whether an audit lists this object alone, at a place and with MOVE.
+// Whether an audit lists this object alone, at a place and with MOVE and DIRTY.
 fn lists_asked<N: Near + Drop, D: Device + Drop>(
     evac: &mut Evac<N, D>,
     pointer: u16,
@@ -191,7 +201,7 @@ fn lists_asked<N: Near + Drop, D: Device + Drop>(
 fn is_asked(census: &Census, pointer: u16, place: Place) -> bool {
     let marks = Marks {
         moved: true,
-        ..NO_MARKS
+        ..WRITTEN
     };
     let [housed] = census.homes.as_slice() else {
         return false;

@@ -8,10 +8,10 @@ use crate::tests::stage::play;
 use far_evac::{LogKind, Phase, Polled};
 use far_word::Place;
 
-/// The cell of pointer 0, an object of 8 bytes of data structure 1 at the start of log 0, with HOT and EVAC; and with EVAC alone.
-const HOT_AND_LEAVING: u64 = 0xe400_0000_0001_0008;
+/// The cell of pointer 0, an object of 8 bytes of data structure 1 at the start of log 0, with HOT, EVAC and DIRTY; and without HOT.
+const HOT_AND_LEAVING: u64 = 0xe600_0000_0001_0008;
 
-const LEAVING: u64 = 0xa400_0000_0001_0008;
+const LEAVING: u64 = 0xa600_0000_0001_0008;
 
 // Its owner views pointer 0, whose log is sealed.
 const VIEWED: &[Act] = &[MakesMany(1, 8), MakesMany(1, 1016), Opens, Views(0)];

@@ -129,8 +129,10 @@ pub(super) enum Act {
     /// The phase of the round, and the epoch.
     In(Phase),
     Epoch(u64),
-    /// An object lies at a word of a log, with no marks but HOT perhaps.
+    /// An object lies at a word of a log with DIRTY, and no other mark but HOT perhaps.
     Near(u16, (u8, u16), bool),
+    /// An object lies at a word of a log, unwritten since it was fetched, and with no mark but HOT perhaps.
+    Clean(u16, (u8, u16), bool),
     /// An object is far, with no marks but HOT perhaps.
     Far(u16, bool),
     /// A pointer's cell is free.

@@ -231,3 +231,60 @@ fn a_refused_round_may_go_on(rt: HostRuntime) {
     assert!(rt; round_comes_out(&rt, rt.alloc(), lacks, GOES_ON));
     assert!(rt; round_comes_out(&rt, rt.alloc(), lacks, IS_GIVEN_UP));
 }
+
+// The object comes near by the device's second call, and moves as a viewed one, to a log that is sealed then.
+const BACK_AGAIN: &[Act] = &[
+    Opens,
+    Brings(0, EIGHT),
+    Clean(0, (2, 0), true),
+    Closes,
+    Makes(1016, Ok(3)),
+    Runs(Named(&[2]), 1, 9, End::Done([1, 0, 0, 1])),
+    Clean(0, (4, 0), false),
+    Makes(1016, Ok(4)),
+];
+
+// It goes far without a call, so that the third call reads it.
+const UNWRITTEN: &[Act] = &[
+    Runs(Named(&[4]), 1, 9, End::Done([0, 1, 0, 1])),
+    Far(0, false),
+    Opens,
+    IsSlow(0),
+    ViewsNone(0, Refused::Device),
+    Brings(0, EIGHT),
+];
+
+// The same, but it is written in the scope for which it comes near: the third call is its write, which is refused once.
+const WRITTEN_AGAIN: &[Act] = &[
+    Opens,
+    Brings(0, EIGHT),
+    Writes(0, NINES),
+    Near(0, (2, 0), true),
+    Closes,
+    Makes(1016, Ok(3)),
+    Runs(Named(&[2]), 1, 9, End::Done([1, 0, 0, 1])),
+    Near(0, (4, 0), false),
+    Makes(1016, Ok(4)),
+    Runs(Named(&[4]), 1, 9, End::Refused(Refused::Device)),
+    Deals(9, Ok([0, 1, 0, 1])),
+    Opens,
+    Brings(0, NINES),
+];
+
+const NINES: [u8; 8] = [9; 8];
+
+#[test]
+fn what_was_not_written_since_leaves_without_a_write(rt: HostRuntime) {
+    let fails = Fault::Fails(DeviceFault::Device);
+    let device = faulty_device(rt.alloc(), 2, fails);
+    let parts = [IN_LOG_TWO, SENT_FAR, BACK_AGAIN, UNWRITTEN];
+    assert!(rt; plays_over(&rt, rt.alloc(), sized(6, 1), device, &parts));
+}
+
+#[test]
+fn what_was_written_since_is_written_back(rt: HostRuntime) {
+    let fails = Fault::Fails(DeviceFault::Device);
+    let device = faulty_device(rt.alloc(), 2, fails);
+    let parts = [IN_LOG_TWO, SENT_FAR, WRITTEN_AGAIN];
+    assert!(rt; plays_over(&rt, rt.alloc(), sized(6, 1), device, &parts));
+}

@@ -24,7 +24,7 @@ const FLIPPED: &[Act] = &[
     ReadsAt(0, &[0xff]),
     Closes,
     Has(2),
-    Near(0, (0, 0), true),
+    Clean(0, (0, 0), true),
     Log(0, LogKind::Open, [16, 0, 1008]),
 ];
 

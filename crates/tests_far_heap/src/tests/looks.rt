@@ -16,6 +16,12 @@ pub(super) const NO_MARKS: Marks = Marks {
     evac: false,
     moved: false,
     dropped: false,
+    dirty: false,
+};
+
+const WRITTEN: Marks = Marks {
+    dirty: true,
+    ..NO_MARKS
 };
 
 /// So many logs and mutators, from the first epoch on.
@@ -49,16 +55,15 @@ fn home<K: HeapName, D: Device + Drop>(book: &mut Evacuator<K, D>, pointer: u16)
     }
 }
 
-// Whether an object lies at a word of a log, with no marks but HOT perhaps.
+// Whether an object lies at a word of a log, with these marks.
 fn is_near<K: HeapName, D: Device + Drop>(
     book: &mut Evacuator<K, D>,
     pointer: u16,
     place: (u8, u16),
-    hot: bool,
+    marks: Marks,
 ) -> bool {
     let (log, at) = place;
     let place = Place { log, at };
-    let marks = Marks { hot, ..NO_MARKS };
     home(book, pointer) == Some(Home::Near { place, marks })
 }
 
@@ -213,7 +218,8 @@ pub(super) fn shows<K: HeapName, D: Device + Drop>(book: &mut Evacuator<K, D>, a
     match act {
         Act::In(phase) => book.phase() == phase,
         Act::Epoch(epoch) => book.shape().epoch == epoch,
-        Act::Near(pointer, place, hot) => is_near(book, pointer, place, hot),
+        Act::Near(pointer, place, hot) => is_near(book, pointer, place, Marks { hot, ..WRITTEN }),
+        Act::Clean(pointer, place, hot) => is_near(book, pointer, place, Marks { hot, ..NO_MARKS }),
         Act::Far(pointer, hot) => is_far(book, pointer, hot),
         Act::Gone(pointer) => home(book, pointer).is_none(),
         Act::Log(log, kind, bytes) => is_log(book, log, kind, bytes),

@@ -47,7 +47,7 @@ const BROUGHT_BACK: &[Act] = &[
     IsSlow(1),
     Brings(1, ZEROS),
     Drops(1, Err(Refused::Held)),
-    Near(1, (2, 2), true),
+    Clean(1, (2, 2), true),
     Closes,
     Drops(1, Ok(())),
     Makes(1016, Ok(1)),
@@ -115,7 +115,7 @@ const MARKED_OBJECT: &[Act] = &[
     Marks(9, Ok((1, Some(1)))),
     Polls(Ok(Polled::Clear)),
     Opens,
-    Finds(0, 0xe400_0000_0001_0008),
+    Finds(0, 0xe600_0000_0001_0008),
     Brings(0, EIGHT),
     Deals(9, Ok([0, 0, 0, 1])),
 ];

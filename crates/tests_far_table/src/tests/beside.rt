@@ -14,7 +14,7 @@ use std::thread::{Threads, join};
 fn places_first(core: &mut Core, owner: u8) -> bool {
     let (pointer, at) = (CELLS * owner as u16, 2 * owner as u16);
     let word = 0xa100_0000_0001_0008 | (pointer as u64) << 24;
-    let new = 0x8400_0000_0001_0008 | (at as u64) << 24;
+    let new = 0x8600_0000_0001_0008 | (at as u64) << 24;
     let put = Event::Put { log: 0, at, word };
     let name = Event::Name {
         pointer,
@@ -41,10 +41,11 @@ fn views(owner: &mut Owner) -> bool {
         && matches!(owner.act(Act::Pin), Reply::Held(_))
 }
 
-// Whether an owner opens its scope, writes a word, reads it and closes its scope.
+// Whether an owner opens its scope, soils its object, writes a word, reads it and closes its scope.
 fn takes_a_turn(owner: &mut Owner, before: u64, word: u64) -> bool {
     views(owner)
         && owner.act(Act::Load(0)) == Reply::Word(before)
+        && matches!(owner.act(Act::Soil), Reply::Word(_))
         && owner.act(Act::Store(0, word)) == Reply::Done
         && owner.act(Act::Load(0)) == Reply::Word(word)
         && owner.act(Act::Close) == Reply::Done

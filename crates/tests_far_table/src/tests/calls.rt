@@ -17,16 +17,18 @@ const ONE: Shape = Shape {
 #[rattlefmt::skip]
 const PLACED: &[(Event, Reply)] = &[
     (Event::Put { log: 0, at: 0, word: 0xa100_0000_0001_0009 }, Reply::Done),
-    (Event::Name { pointer: 0, old: 0, new: 0x8400_0000_0001_0009 }, Reply::Done),
+    (Event::Name { pointer: 0, old: 0, new: 0x8600_0000_0001_0009 }, Reply::Done),
 ];
 
 const VIEWED: &[(Act, Reply)] = &[
-    (Adopt, Reply::Word(0x8400_0000_0001_0009)),
+    (Adopt, Reply::Word(0x8600_0000_0001_0009)),
     (ReadEpoch, Reply::Epoch(5)),
     (Open, Reply::Done),
     (Pin, Reply::Held(Place { log: 0, at: 0 })),
     (Load(0), Reply::Word(0)),
     (Load(1), Reply::Word(0)),
+    (Store(0, 1), Reply::Refused),
+    (Soil, Reply::Word(0xc600_0000_0001_0009)),
     (Store(0, 0x0807_0605_0403_0201), Reply::Done),
     (Store(1, 9), Reply::Done),
     (Load(0), Reply::Word(0x0807_0605_0403_0201)),
@@ -46,14 +48,14 @@ fn an_object_is_viewed(rt: HostRuntime) {
 }
 
 const ASKED_FOR: &[(Act, Reply)] = &[
-    (Adopt, Reply::Word(0x8400_0000_0001_0009)),
-    (Ask(Moved), Reply::Word(0x8400_0000_0001_0009)),
-    (Ask(Moved), Reply::Word(0x9400_0000_0001_0009)),
+    (Adopt, Reply::Word(0x8600_0000_0001_0009)),
+    (Ask(Moved), Reply::Word(0x8600_0000_0001_0009)),
+    (Ask(Moved), Reply::Word(0x9600_0000_0001_0009)),
     (ReadEpoch, Reply::Epoch(5)),
     (Open, Reply::Done),
-    (Pin, Reply::Word(0x9400_0000_0001_0009)),
-    (Pin, Reply::Word(0xd400_0000_0001_0009)),
-    (Ask(Dropped), Reply::Word(0xd400_0000_0001_0009)),
+    (Pin, Reply::Word(0x9600_0000_0001_0009)),
+    (Pin, Reply::Word(0xd600_0000_0001_0009)),
+    (Ask(Dropped), Reply::Word(0xd600_0000_0001_0009)),
     (Adopt, Reply::Refused),
     (Close, Reply::Done),
     (Adopt, Reply::Refused),

@@ -22,6 +22,7 @@ pub(super) enum Act {
     Close,
     Pin,
     Load(u16),
+    Soil,
     Store(u16, u64),
     Adopt,
     Ask(Mark),
@@ -40,6 +41,7 @@ impl Act {
                 pointer,
                 index,
             },
+            Act::Soil => Event::Soil { owner, pointer },
             Act::Store(index, word) => Event::Store {
                 owner,
                 pointer,
@@ -71,6 +73,7 @@ pub(super) fn known_of(core: &Core, number: u8) -> Known
         read: core.has_epoch(number),
         used: core.is_used(pointer),
         held: core.is_held(pointer),
+        soiled: core.is_soiled(pointer),
         len: used_len(core, pointer),
     }
 }
@@ -134,6 +137,7 @@ impl Owner {
         self.known.opened = false;
         self.known.read = false;
         self.known.held = false;
+        self.known.soiled = false;
         Reply::Done
     }
 
@@ -157,8 +161,17 @@ impl Owner {
         Reply::Word(self.seat.load(self.pointer, index))
     }
 
+    fn soil(&mut self) -> Reply {
+        if !self.known.held {
+            return Reply::Refused;
+        }
+        let word = self.seat.soil(self.pointer);
+        self.known.soiled = true;
+        Reply::Word(word)
+    }
+
     fn store(&mut self, index: u16, word: u64) -> Reply {
-        if !self.known.held || index >= words_for(self.known.len) {
+        if !self.known.held || !self.known.soiled || index >= words_for(self.known.len) {
             return Reply::Refused;
         }
         if !keeps_padding(self.known.len, index, word) {
@@ -183,7 +196,12 @@ impl Owner {
     }
 
     fn ask(&mut self, mark: Mark) -> Reply {
-        if !self.known.used || self.known.held || mark == Mark::Hot || mark == Mark::Evac {
+        if !self.known.used
+            || self.known.held
+            || mark == Mark::Hot
+            || mark == Mark::Evac
+            || mark == Mark::Dirty
+        {
             return Reply::Refused;
         }
         let word = self.seat.ask(self.pointer, mark);
@@ -202,6 +220,7 @@ impl Owner {
             Act::Close => self.close(),
             Act::Pin => self.pin(),
             Act::Load(index) => self.load(index),
+            Act::Soil => self.soil(),
             Act::Store(index, word) => self.store(index, word),
             Act::Adopt => self.adopt(),
             Act::Ask(mark) => self.ask(mark),

@@ -18,41 +18,43 @@ const FIVE: Shape = Shape {
 #[rattlefmt::skip]
 const IN_A_ROUND: &[(Event, Reply)] = &[
     (Event::Put { log: 0, at: 0, word: 0xa100_0000_0001_0008 }, Reply::Done),
-    (Event::Name { pointer: 0, old: 0, new: 0x8400_0000_0001_0008 }, Reply::Done),
+    (Event::Name { pointer: 0, old: 0, new: 0x8600_0000_0001_0008 }, Reply::Done),
     (Event::Put { log: 0, at: 2, word: 0xa100_0000_8001_0008 }, Reply::Done),
-    (Event::Name { pointer: 128, old: 0, new: 0x8400_0000_0201_0008 }, Reply::Done),
+    (Event::Name { pointer: 128, old: 0, new: 0x8600_0000_0201_0008 }, Reply::Done),
     (Event::Put { log: 0, at: 4, word: 0xa100_0001_0001_0008 }, Reply::Done),
-    (Event::Name { pointer: 256, old: 0, new: 0x8400_0000_0401_0008 }, Reply::Done),
+    (Event::Name { pointer: 256, old: 0, new: 0x8600_0000_0401_0008 }, Reply::Done),
     (Event::Put { log: 0, at: 6, word: 0xa100_0001_8001_0008 }, Reply::Done),
-    (Event::Name { pointer: 384, old: 0, new: 0x8400_0000_0601_0008 }, Reply::Done),
+    (Event::Name { pointer: 384, old: 0, new: 0x8600_0000_0601_0008 }, Reply::Done),
     (Event::Put { log: 0, at: 8, word: 0xa100_0002_0001_0008 }, Reply::Done),
-    (Event::Name { pointer: 512, old: 0, new: 0x8400_0000_0801_0008 }, Reply::Done),
+    (Event::Name { pointer: 512, old: 0, new: 0x8600_0000_0801_0008 }, Reply::Done),
     (Event::Put { log: 1, at: 0, word: 0xa100_0000_0101_0008 }, Reply::Done),
-    (Event::Name { pointer: 1, old: 0, new: 0x8400_0004_0001_0008 }, Reply::Done),
-    (Event::Adopt { owner: 0, pointer: 0 }, Reply::Word(0x8400_0000_0001_0008)),
-    (Event::Adopt { owner: 1, pointer: 128 }, Reply::Word(0x8400_0000_0201_0008)),
-    (Event::Adopt { owner: 2, pointer: 256 }, Reply::Word(0x8400_0000_0401_0008)),
-    (Event::Adopt { owner: 3, pointer: 384 }, Reply::Word(0x8400_0000_0601_0008)),
+    (Event::Name { pointer: 1, old: 0, new: 0x8600_0004_0001_0008 }, Reply::Done),
+    (Event::Adopt { owner: 0, pointer: 0 }, Reply::Word(0x8600_0000_0001_0008)),
+    (Event::Adopt { owner: 1, pointer: 128 }, Reply::Word(0x8600_0000_0201_0008)),
+    (Event::Adopt { owner: 2, pointer: 256 }, Reply::Word(0x8600_0000_0401_0008)),
+    (Event::Adopt { owner: 3, pointer: 384 }, Reply::Word(0x8600_0000_0601_0008)),
 
     (Event::ReadEpoch { owner: 0 }, Reply::Epoch(5)),
     (Event::Open { owner: 0 }, Reply::Done),
     (Event::Pin { owner: 0, pointer: 0 }, Reply::Held(Place { log: 0, at: 0 })),
+    (Event::Soil { owner: 0, pointer: 0 }, Reply::Word(0xc600_0000_0001_0008)),
     (Event::Store { owner: 0, pointer: 0, index: 0, word: 0xaa }, Reply::Done),
     (Event::ReadEpoch { owner: 1 }, Reply::Epoch(5)),
     (Event::Open { owner: 1 }, Reply::Done),
     (Event::Pin { owner: 1, pointer: 128 }, Reply::Held(Place { log: 0, at: 2 })),
+    (Event::Soil { owner: 1, pointer: 128 }, Reply::Word(0xc600_0000_0201_0008)),
     (Event::Store { owner: 1, pointer: 128, index: 0, word: 0xbb }, Reply::Done),
     (Event::Close { owner: 1 }, Reply::Done),
-    (Event::Ask { owner: 2, pointer: 256, mark: Dropped }, Reply::Word(0x8400_0000_0401_0008)),
+    (Event::Ask { owner: 2, pointer: 256, mark: Dropped }, Reply::Word(0x8600_0000_0401_0008)),
 
-    (Event::Mark { pointer: 0 }, Reply::Word(0xc400_0000_0001_0008)),
-    (Event::Mark { pointer: 128 }, Reply::Word(0xc400_0000_0201_0008)),
-    (Event::Mark { pointer: 256 }, Reply::Word(0x8c00_0000_0401_0008)),
-    (Event::Mark { pointer: 384 }, Reply::Word(0x8400_0000_0601_0008)),
-    (Event::Mark { pointer: 512 }, Reply::Word(0x8400_0000_0801_0008)),
+    (Event::Mark { pointer: 0 }, Reply::Word(0xc600_0000_0001_0008)),
+    (Event::Mark { pointer: 128 }, Reply::Word(0xc600_0000_0201_0008)),
+    (Event::Mark { pointer: 256 }, Reply::Word(0x8e00_0000_0401_0008)),
+    (Event::Mark { pointer: 384 }, Reply::Word(0x8600_0000_0601_0008)),
+    (Event::Mark { pointer: 512 }, Reply::Word(0x8600_0000_0801_0008)),
     (Event::Advance { logs: 1 }, Reply::Epoch(6)),
     (Event::Look { owner: 1 }, Reply::Word(0)),
-    (Event::Name { pointer: 128, old: 0xe400_0000_0201_0008, new: 0x0400_0000_0001_0008 }, Reply::Done),
+    (Event::Name { pointer: 128, old: 0xe600_0000_0201_0008, new: 0x0400_0000_0001_0008 }, Reply::Done),
 ];
 
 const HELD_ON: &[(Act, Reply)] = &[
@@ -62,9 +64,9 @@ const HELD_ON: &[(Act, Reply)] = &[
     (Close, Reply::Done),
     (ReadEpoch, Reply::Epoch(6)),
     (Open, Reply::Done),
-    (Pin, Reply::Word(0xe400_0000_0001_0008)),
-    (Ask(Moved), Reply::Word(0xe400_0000_0001_0008)),
-    (Pin, Reply::Word(0xf400_0000_0001_0008)),
+    (Pin, Reply::Word(0xe600_0000_0001_0008)),
+    (Ask(Moved), Reply::Word(0xe600_0000_0001_0008)),
+    (Pin, Reply::Word(0xf600_0000_0001_0008)),
     (Close, Reply::Done),
 ];
 
@@ -106,9 +108,9 @@ fn a_dropped_object_is_not_adopted(rt: HostRuntime) {
 const MARKED: &[(Act, Reply)] = &[
     (ReadEpoch, Reply::Epoch(6)),
     (Open, Reply::Done),
-    (Pin, Reply::Word(0xa400_0000_0601_0008)),
-    (Pin, Reply::Word(0xe400_0000_0601_0008)),
-    (Ask(Dropped), Reply::Word(0xe400_0000_0601_0008)),
+    (Pin, Reply::Word(0xa600_0000_0601_0008)),
+    (Pin, Reply::Word(0xe600_0000_0601_0008)),
+    (Ask(Dropped), Reply::Word(0xe600_0000_0601_0008)),
     (Adopt, Reply::Refused),
     (Close, Reply::Done),
 ];
@@ -119,10 +121,10 @@ fn a_marked_object_is_not_held(rt: HostRuntime) {
 }
 
 const ADOPTED: &[(Act, Reply)] = &[
-    (Adopt, Reply::Word(0xa400_0000_0801_0008)),
+    (Adopt, Reply::Word(0xa600_0000_0801_0008)),
     (ReadEpoch, Reply::Epoch(6)),
     (Open, Reply::Done),
-    (Pin, Reply::Word(0xa400_0000_0801_0008)),
+    (Pin, Reply::Word(0xa600_0000_0801_0008)),
     (Close, Reply::Done),
 ];
 

@@ -39,8 +39,10 @@ pub(super) enum Act {
     Leaves([u64; 4]),
     /// The same of a round of the oldest log, with nine turns at most.
     Runs([u64; 4]),
-    /// An object lies at a place, with no marks but HOT perhaps.
+    /// An object lies at a place with DIRTY, and no other mark but HOT perhaps.
     Near(u16, Place, bool),
+    /// An object lies where it was fetched to, unwritten since, and with no mark but HOT perhaps.
+    Clean(u16, Place, bool),
     /// An object is far, with no marks.
     Far(u16),
     /// A log is so, and has so many live, dead and unused bytes.

@@ -53,7 +53,7 @@ const BEGINS: &[Event] = &[
     Event::Name {
         pointer: 7,
         old: 0,
-        new: 0x8400_0008_0001_0008,
+        new: 0x8600_0008_0001_0008,
     },
     Event::Close { owner: 0 },
     Event::Mark { pointer: 0 },
@@ -90,7 +90,7 @@ fn word_of(len: u16, index: u16) -> u64 {
 fn places(core: &mut Core, pointer: u16, len: u16, place: Place) -> bool {
     let Place { log, at } = place;
     let word = 0xa100_0000_0001_0000 | len as u64 | (pointer as u64) << 24;
-    let new = 0x8400_0000_0001_0000 | len as u64 | (at as u64) << 24 | (log as u64) << 34;
+    let new = 0x8600_0000_0001_0000 | len as u64 | (at as u64) << 24 | (log as u64) << 34;
     let put = Event::Put { log, at, word };
     let name = Event::Name {
         pointer,
@@ -104,6 +104,7 @@ fn places(core: &mut Core, pointer: u16, len: u16, place: Place) -> bool {
 
 // Whether the owner stores its words into an object.
 fn fills(core: &mut Core, pointer: u16, len: u16) -> bool {
+    core.step(Event::Soil { owner: 0, pointer });
     for index in 0..words_for(len) {
         let store = Event::Store {
             owner: 0,
@@ -295,7 +296,7 @@ fn a_job_is_taken_back(rt: HostRuntime) {
 }
 
 /// The cell of pointer 2 before it was moved.
-const MARKED: u64 = 0xe400_0000_0401_0008;
+const MARKED: u64 = 0xe600_0000_0401_0008;
 
 // The owner has an object moved before a copier claims its job, or before the book empties it: the job is emptied, and no pointer is named to the copy.
 const OWNER_FIRST: &[Act] = &[

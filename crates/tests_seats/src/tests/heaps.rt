@@ -2,7 +2,7 @@
 
 use crate::tests::acts::Act;
 use crate::tests::owners::owner_does;
-use crate::tests::pairs::{NO_MARKS, Pair, pair_of};
+use crate::tests::pairs::{NO_MARKS, Pair, WRITTEN, pair_of};
 use far_book::{Home, Near};
 use far_core::{Reply, Shape};
 use far_device::{Device, MemDevice};
@@ -200,6 +200,10 @@ fn evac_does<N: Near + Drop, D: Device + Drop>(evac: &mut Evac<N, D>, act: Act) 
 fn evac_shows<N: Near + Drop, D: Device + Drop>(evac: &mut Evac<N, D>, act: Act) -> bool {
     match act {
         Act::Near(pointer, place, hot) => {
+            let marks = Marks { hot, ..WRITTEN };
+            home(evac, pointer) == Some(Home::Near { place, marks })
+        }
+        Act::Clean(pointer, place, hot) => {
             let marks = Marks { hot, ..NO_MARKS };
             home(evac, pointer) == Some(Home::Near { place, marks })
         }

@@ -15,7 +15,8 @@ ghost use Rattle.tests_seats.specs.Offers.{HasRoom, HasRound, IsLeft, IsMarked, 
 use crate::tests::pairs::NO_MARKS;
 use far_hand::Near;
 use far_word::{
-    CELLS, HeadWord, JOBS, Job, JobWord, LOG_WORDS, MOST_LOGS, Place, PtrWord, size_of, words_for,
+    CELLS, HeadWord, JOBS, Job, JobWord, LOG_WORDS, MOST_LOGS, Marks, Place, PtrWord, size_of,
+    words_for,
 };
 
 /// How many logs are in the round: the first ones.
@@ -128,7 +129,7 @@ fn copy_one<N: Near>(near: &mut N, head: HeadWord, from: Place, to: Place)
     near.put(to.log, to.at + 1, word);
 }
 
-/// The word of a cell once its object, which has EVAC and isn't dropped, lies where a job copied it; `None` where it doesn't lie where the job
+/// The word of a cell once its object, which has EVAC and isn't dropped, lies where a job copied it, with DIRTY if it had that; `None` where it doesn't lie where the job
 /// copied it from.
 fn moved(cell: u64, job: Job) -> Option<u64>
     requires { IsJob job }
@@ -152,7 +153,10 @@ fn moved(cell: u64, job: Job) -> Option<u64>
         len,
         ds,
         place: job.to,
-        marks: NO_MARKS,
+        marks: Marks {
+            dirty: marks.dirty,
+            ..NO_MARKS
+        },
     };
     Some(copy.pack())
 }

@@ -26,6 +26,12 @@ pub(super) const NO_MARKS: Marks = Marks {
     evac: false,
     moved: false,
     dropped: false,
+    dirty: false,
+};
+
+pub(super) const WRITTEN: Marks = Marks {
+    dirty: true,
+    ..NO_MARKS
 };
 
 /// A book over some hand, and the one owner beside it.

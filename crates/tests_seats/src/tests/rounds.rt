@@ -54,7 +54,7 @@ const PARTED: &[Act] = &[
     Loads(0, COUNTED),
     Views(1),
     Loads(1, 0),
-    Near(1, Place { log: 2, at: 2 }, true),
+    Clean(1, Place { log: 2, at: 2 }, true),
 ];
 
 #[test]
@@ -97,7 +97,7 @@ const EPOCH_READ: &[Act] = &[
 // The owner, whose scope opens at that epoch, finds the marks, has the object moved and reads it.
 const OPENED_LATE: &[Act] = &[
     Opens,
-    Finds(0, 0xe400_0000_0001_0008),
+    Finds(0, 0xe600_0000_0001_0008),
     Views(0),
     Loads(0, 0xaa),
     Leaves([0, 0, 0, 1]),

@@ -3,9 +3,11 @@ use Rattle.std.proofs.Common.{◌∙◌, ◌*◌, ◌<◌, ◌^◌, ap, sym, sub
 use Rattle.far_word.specs.declared.sizes.TheConstants.{CELLS}
 use Rattle.far_word.specs.Pointer.{read_of}
 use Rattle.far_word.proofs.PointerLaws.{word_fits}
+use Rattle.far_core.specs.declared.event.Event.TheVariants.{Name}
+use Rattle.far_core.specs.events.Step.{after}
 use Rattle.far_core.specs.state.State.{State, put}
 use Rattle.far_hand.proofs.Finding.{finds_more}
-use Rattle.far_book.proofs.region.Calls.{after_is, still_dropped, put_put, count_more, some_dropped}
+use Rattle.far_book.proofs.region.Calls.{after_is, dropped_counts, still_dropped, put_put, count_more, some_dropped}
 use Rattle.far_book.proofs.region.Founds.{drop_found}
 use Rattle.far_book.proofs.region.Retires.{may_retire}
 use Rattle.far_hand.proofs.Knowing.{not_to_free}
@@ -22,7 +24,11 @@ pub returns-in-Ok-clause-kept : goal.returns-in-Ok-clause-kept
 returns-in-Ok-clause-kept g c =
     let h = c.loop.invariant in
     let now = after_is (g.N.Near.view c.args.near.now) (g.N.Near.view c.loop.near) c.args.pointer c.loop.word h.kept c.requires.dropped h.found in
-    c.in-Ok.ensures.done ∙ (λ i. record (now i) { word = (g.N.Near.view c.name.new.self).word })
+    let t = g.N.Near.view c.name.new.self in
+    let stored = c.in-Ok.ensures.stored.kept (λ len place n. absurd (not_to_free _ len place n)) in
+    c.in-Ok.ensures.done
+    ∙ (λ i. record (after (g.N.Near.view c.loop.near) (Name c.args.pointer c.loop.word 0)) { word = t.word; stored = stored i })
+    ∙ (λ i. record (now i) { word = t.word })
 
 pub returns-in-Ok-clause-exact : goal.returns-in-Ok-clause-exact
 returns-in-Ok-clause-exact g c still =
@@ -63,7 +69,7 @@ loop-init g c = record {
   is = search rules;
   layout = search rules;
   word = search rules;
-  tries = search rules;
+  tries = dropped_counts (read_of c.see-word.result) (drop_found _ c.see-word.result c.see-word.ensures.found c.requires.dropped);
 }
 
 pub returns-in-Ok-clause-came : goal.returns-in-Ok-clause-came

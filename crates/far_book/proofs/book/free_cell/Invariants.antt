@@ -1,4 +1,4 @@
-use Rattle.std.proofs.Common.{◌≡◌, ◌≤◌, Some}
+use Rattle.std.proofs.Common.{◌≡◌, ◌+◌, ◌≤◌, Some}
 use Rattle.far_word.specs.Pointer.{IsPtr, read_of, word_of}
 use Rattle.far_core.specs.state.State.{put}
 use Rattle.far_hand.specs.Came.{Came}
@@ -14,5 +14,5 @@ invariant-loop g l = record {
   is : read_of l.word ≡ Some l.was;
   layout : IsPtr l.was;
   word : word_of l.was ≡ l.word;
-  tries : l.counter ≤ count (read_of l.word);
+  tries : l.counter + 1 ≤ count (read_of l.word);
 }

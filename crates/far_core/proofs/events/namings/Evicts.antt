@@ -1,7 +1,7 @@
 -- What the form of naming Evicts owes.
 use Rattle.std.proofs.Common.{◌≡◌, ◌≢◌, ℕ, ◌+◌, ◌*◌, ◌/◌, ◌<◌, ◌^◌, ◌-◌, true, false, cond, refl, sym, ap, arith, ◌∙◌, Some, None}
 use Rattle.std.specs.Prelude.{IsSome, is_some}
-use Rattle.std.proofs.lemmas.Bool.{lt-ltb}
+use Rattle.std.proofs.lemmas.Bool.{lt-ltb, false≢true}
 use mathlib.Core.Path.{fun_ext}
 use Rattle.far_word.specs.declared.mark.Marks.{Marks}
 use Rattle.far_word.specs.declared.pointer.Place.{Place}
@@ -15,7 +15,7 @@ use Rattle.far_core.specs.declared.naming.Naming.TheVariants.{Evicts}
 use Rattle.far_core.specs.events.Naming.{no_marks}
 use Rattle.far_core.specs.events.namings.Evicts.{with_kept, evicts_row}
 use Rattle.far_core.specs.events.Touch.{CellAt, BookView, Touches}
-use Rattle.far_core.specs.state.Law.{Law, NamesBack, StoresBack, IsBlank, held_place, in_use, head_len}
+use Rattle.far_core.specs.state.Law.{Law, NamesBack, StoresBack, IsBlank, IsClean, held_place, in_use, head_len, is_dirty}
 use Rattle.far_core.specs.state.State.{State, put, addr}
 use Rattle.far_core.specs.world.Steps.{GoesFar}
 use Rattle.far_core.specs.world.World.{Object, Group, FarSide}
@@ -90,6 +90,17 @@ module _ (s : State) (law : Law s) (p new len ds : ℕ) (place : Place) (m : Mar
     unadopted = λ honest q free. put_two (λ w (r : ℕ → ℕ). IsBlank s.word r (read_of w)) s.cell s.stored p new away q
         (λ e. no_zeros honest (ap s.used (sym e) ∙ free)) (λ _. law.unadopted honest q free);
     copies = copies_with_cell s p new law (λ place is. let odd : None ≡ Some place = sym (ap near_place says) ∙ is in absurd cc);
+    soils = record {
+      soiled_held = law.soils.soiled_held;
+      soiled_dirty = λ q h. put_both (λ w. is_dirty (read_of w) ≡ true) s.cell p new q
+          (λ e. absurd (false≢true (sym (ap is_some (ap s.held e ∙ unheld)) ∙ law.soils.soiled_held q h))) (λ _. law.soils.soiled_dirty q h);
+    };
+    cleans = λ q. put_two (λ w (r : ℕ → ℕ). IsClean s.honest s.word r (read_of w)) s.cell s.stored p new away q
+        (λ _. record {
+          back = λ n d at k is. let odd : Some (Far len ds no_marks) ≡ Some (Near n d at k) = sym says ∙ is in absurd cc;
+          same = λ _ n d at k is. let odd : Some (Far len ds no_marks) ≡ Some (Near n d at k) = sym says ∙ is in absurd cc;
+        })
+        (λ _. law.cleans q);
   }
 
   -- ---- the world
@@ -135,6 +146,7 @@ module _ (p new len : ℕ) (place : Place) where
     remembered = λ k a b. refl;
     used = λ q a. refl;
     held = λ q a b. refl;
+    soiled = λ q a b. refl;
     book = λ ne. absurd (ne refl);
     copiers = λ c ne. same_copier;
     rest = (refl, refl, refl);

@@ -24,7 +24,7 @@ use Rattle.far_core.proofs.Copies.{alike_fact, alike_test}
 use Rattle.far_core.proofs.NamingOwed.{IsMade, NamingOwed}
 use Rattle.far_core.proofs.NewSpans.{new_span_fact, new_span_test, takes_span, touch_span}
 use Rattle.far_core.proofs.Put.{put_same}
-use Rattle.far_core.proofs.TakingSpans.{keeps_new_span, span_world}
+use Rattle.far_core.proofs.TakingSpans.{clean_at, keeps_new_span, span_world}
 
 -- what is far is held by nobody
 far_unheld : (s : State) → Law s → (p len ds : ℕ) (m : Marks) → read_of (s.cell p) ≡ Some (Far len ds m) → (o : Option Place) → s.held p ≡ o → o ≡ None
@@ -66,8 +66,9 @@ module _ (p new len ds : ℕ) (place : Place) where
 
     -- what nobody has used yet was stored as zeros
     keeps_fetch : Law (with_span s p new len place)
-    keeps_fetch = keeps_new_span s made.law p new len ds place made.naming.1 made.cell made.fits made.legal.span made.legal.padded unheld
+    keeps_fetch = keeps_new_span s made.law p new len ds place false made.naming.1 made.cell made.fits made.legal.span made.legal.padded unheld
         (λ honest unused i lt. (made.legal.stored honest).same i lt ∙ (made.law.unadopted honest p unused).far len ds marks far made.naming.0.2 i lt)
+        (clean_at s made.law p new len ds place false made.naming.1 (λ _. made.law.cells.cell_far p len ds marks far) (λ honest _ i lt. sym ((made.legal.stored honest).same i lt)))
 
     abbrev object : Object
     object = record { owner = p / CELLS; ds = ds; bytes = bytes_of (s.stored p) len; home = FarSide }
@@ -90,7 +91,7 @@ module _ (p new len ds : ℕ) (place : Place) where
         length-bytes_of (data_at s.word place) len ∙ sym (length-bytes_of (s.stored p) len),
         bytes_of-small (data_at s.word place) len,
         λ honest. bytes_of-same (data_at s.word place) (s.stored p) len (made.legal.stored honest).same,
-        span_world s made.law p new len ds place made.naming.1 _ (ap (object_of s.word (s.stored p) p) made.naming.1),
+        span_world s made.law p new len ds place false made.naming.1 _ (ap (object_of s.word (s.stored p) p) made.naming.1),
       );
     }
 

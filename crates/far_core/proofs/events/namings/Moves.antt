@@ -32,7 +32,7 @@ use Rattle.far_core.proofs.NamingOwed.{IsMade, NamingOwed}
 use Rattle.far_core.proofs.NewSpans.{new_span_fact, new_span_test, takes_span, touch_span}
 use Rattle.far_core.proofs.Put.{put_other, put_same}
 use Rattle.far_core.proofs.Quieting.{quiet_fact, quiet_test, quiet_unheld}
-use Rattle.far_core.proofs.TakingSpans.{named_world, keeps_new_span, span_world}
+use Rattle.far_core.proofs.TakingSpans.{clean_at, named_world, keeps_new_span, span_world}
 
 module _ (p new len ds : ℕ) (from to : Place) where
   move_fact : (s : State) → (is_new_span s p len ds to ≡ true) → ends_padded s.word len to ≡ true → is_quiet_cell s p (read_of (s.cell p)) ≡ true → nat_lt from.log s.logs ≡ true →
@@ -89,14 +89,16 @@ module _ (p new len ds : ℕ) (from to : Place) where
 
       -- what nobody has used yet holds zeros at both places
       keeps_move : Law (with_span s p new len to)
-      keeps_move = keeps_new_span s made.law p new len ds to made.naming.1 made.cell made.fits legal.span legal.padded unheld
+      keeps_move = keeps_new_span s made.law p new len ds to marks.dirty made.naming.1 made.cell made.fits legal.span legal.padded unheld
           (λ honest unused i lt. legal.same i lt ∙ (made.law.unadopted honest p unused).near len ds from marks near made.naming.0.2 i lt)
+          (clean_at s made.law p new len ds to marks.dirty made.naming.1 (λ none. (made.law.cleans p).back len ds from marks near none)
+          (λ honest none i lt. (made.law.cleans p).same honest len ds from marks near none i lt ∙ sym (legal.same i lt)))
 
       do_move : world.Moves (world_of s) p to.log (world_of (with_span s p new len to))
       unfolding world_of
       do_move = record {
         unviewed = ap is_some unheld;
-        moved = (object, from.log, before, refl, span_world s made.law p new len ds to made.naming.1 _ (after legal.same));
+        moved = (object, from.log, before, refl, span_world s made.law p new len ds to marks.dirty made.naming.1 _ (after legal.same));
       }
 
     -- ---- to a copy
@@ -113,7 +115,7 @@ module _ (p new len ds : ℕ) (from to : Place) where
           from.log,
           before,
           refl,
-          named_world s made.law p new len ds to made.naming.1 j _
+          named_world s made.law p new len ds to marks.dirty made.naming.1 j _
               (after (copied.same s made.law p new len ds from to marks j c copy near made.naming.0.2 made.naming.1 made.fits made.cell)) (copied.copied_group s made.law p from to j c copy),
         );
       }
@@ -140,6 +142,7 @@ module _ (p new len ds : ℕ) (from to : Place) where
     remembered = λ k a b. refl;
     used = λ q a. refl;
     held = λ q a b. refl;
+    soiled = λ q a b. refl;
     book = λ ne. absurd (ne refl);
     copiers = λ c ne. record { task = refl; length = refl; read = refl; written = refl };
     rest = (refl, refl, refl);

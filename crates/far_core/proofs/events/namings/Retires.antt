@@ -9,7 +9,7 @@ use Rattle.far_word.specs.declared.sizes.TheConstants.{CELLS}
 use Rattle.far_word.specs.Pointer.{read_of}
 use Rattle.far_core.specs.declared.naming.Naming.TheVariants.{Retires}
 use Rattle.far_core.specs.events.Naming.{is_dropped}
-use Rattle.far_core.specs.state.Law.{Law, NamesBack, StoresBack, IsBlank, held_place, in_use}
+use Rattle.far_core.specs.state.Law.{Law, NamesBack, StoresBack, IsBlank, IsClean, held_place, in_use, is_dirty}
 use Rattle.far_core.specs.state.State.{State, put}
 use Rattle.far_core.specs.world.WorldOf.{world_of, object_of, is_marked}
 use Rattle.far_core.proofs.Frames.{rounds_with_cell}
@@ -74,6 +74,16 @@ module _ (s : State) (law : Law s) (p new : ℕ) (fits : new < 2 ^ 64) (cell : p
         })
         (λ _. law.unadopted honest q unadopted);
     copies = copies_with_cell s p new law (λ place is. let odd : None ≡ Some place = sym (ap near_place free) ∙ is in absurd cc);
+    soils = record {
+      soiled_held = law.soils.soiled_held;
+      soiled_dirty = λ q h. put_both (λ w. is_dirty (read_of w) ≡ true) s.cell p new q (λ e. absurd (unused q e (law.views.held_used q (law.soils.soiled_held q h)))) (λ _. law.soils.soiled_dirty q h);
+    };
+    cleans = λ q. put_both (λ w. IsClean s.honest s.word (s.stored q) (read_of w)) s.cell p new q
+        (λ _. record {
+          back = λ n d at k is. let odd : Some Free ≡ Some (Near n d at k) = sym free ∙ is in absurd cc;
+          same = λ _ n d at k is. let odd : Some Free ≡ Some (Near n d at k) = sym free ∙ is in absurd cc;
+        })
+        (λ _. law.cleans q);
   }
 
   pub retire_stays : world_of record s { cell = put s.cell p new } ≡ world_of s

@@ -6,7 +6,7 @@ use Rattle.far_word.specs.declared.pointer.Place.{Place}
 use Rattle.far_word.specs.declared.pointer.PtrWord.TheVariants.{Free, Near}
 use Rattle.far_word.specs.Pointer.{read_of}
 use Rattle.far_core.specs.declared.naming.Naming.TheVariants.{Stays}
-use Rattle.far_core.specs.events.Naming.{no_marks}
+use Rattle.far_core.specs.events.Naming.{unmarked}
 use Rattle.far_core.specs.state.Law.{Law, HasEvac, in_use}
 use Rattle.far_core.specs.state.State.{State, put}
 use Rattle.far_core.specs.world.Steps as world
@@ -21,9 +21,9 @@ use Rattle.far_core.specs.events.Quiet.{has_move}
 use Rattle.far_core.proofs.Touching.{one_cell, touched}
 
 module _ (s : State) (p new len ds : ℕ) (place : Place) (m : Marks) (made : IsMade s p new Stays)
-    (near : read_of (s.cell p) ≡ Some (Near len ds place m)) (kept : m.dropped ≡ false) (moved : m.moved ≡ true) (unmarked : m.evac ≡ false) (says : read_of new ≡ Some (Near len ds place no_marks)) where
+    (near : read_of (s.cell p) ≡ Some (Near len ds place m)) (kept : m.dropped ≡ false) (moved : m.moved ≡ true) (unwanted : m.evac ≡ false) (says : read_of new ≡ Some (Near len ds place (unmarked m.dirty))) where
   remarked : Remarked (read_of (s.cell p)) (read_of new)
-  remarked = rw (near, says) (record { same = refl; kept = λ _. kept })
+  remarked = rw (near, says) (record { same = refl; kept = λ _. kept; clean = λ e. e })
 
   used : s.cell p ≢ 0
   used z = (let odd : Some Free ≡ Some (Near len ds place m) = sym unused ∙ ap read_of (sym z) ∙ near in cc)
@@ -34,9 +34,9 @@ module _ (s : State) (p new len ds : ℕ) (place : Place) (m : Marks) (made : Is
   -- it had no EVAC, so its log isn't in the round
   out : HasEvac s.round (read_of new)
   out n d at k is inside =
-      let both : Some (Near len ds place no_marks) ≡ Some (Near n d at k) = sym says ∙ is in
+      let both : Some (Near len ds place (unmarked m.dirty)) ≡ Some (Near n d at k) = sym says ∙ is in
       let there : place ≡ at = cc in
-      absurd (false≢true (sym unmarked ∙ made.law.rounds.round_evac p len ds place m near (ap (λ (x : Place). s.round x.log) there ∙ inside)))
+      absurd (false≢true (sym unwanted ∙ made.law.rounds.round_evac p len ds place m near (ap (λ (x : Place). s.round x.log) there ∙ inside)))
 
   pub keeps_stay : Law record s { cell = put s.cell p new }
   keeps_stay = law_with_cell_marks s made.law p new made.fits remarked out used

@@ -7,7 +7,7 @@ use Rattle.far_book.specs.book.BookOf.{BookOf}
 use Rattle.far_book.specs.book.FarSide.{HoldsFar}
 use Rattle.far_replay.specs.Moment.{FarSide, state_in}
 use Rattle.far_replay.proofs.Bringing.{far_inside, far_refused, is_far}
-use Rattle.far_replay.proofs.Giving.{fetch_brings, refused_spends}
+use Rattle.far_replay.proofs.Giving.{fetch_brings, fetch_leaves, refused_leaves, refused_spends}
 use Rattle.far_replay.proofs.dereferencing.fetch_far.Goals as goal
 
 pub fetch-requires-clause-pointer : goal.fetch-requires-clause-pointer
@@ -26,6 +26,9 @@ returns-in-Ok-Some-clause-brought c = record {
   shut = tt;
   round = search rules;
   spent = tt;
+  same = fetch_leaves c.args.evac.now c.fetch.new.self c.args.owner c.args.pointer c.args.evac.now.book.near.core.law c.requires.used c.requires.far
+      (subst (λ (b : BookOf Plain FarSide). HoldsFar (core_state b.near.core) (λ q. bytes_at b.device.inner.inner q)) c.book.ensures c.keeps_law.ensures.far)
+      c.in-Ok-Some.field-0 c.in-Ok-Some.field-0-0 c.in-Ok-Some.field-0-is c.in-Ok-Some.ensures.fetched.called;
 }
 
 pub returns-in-Err-clause-brought : goal.returns-in-Err-clause-brought
@@ -36,5 +39,7 @@ returns-in-Err-clause-brought c = record {
   shut = search rules;
   round = search rules;
   spent = refused_spends c.args.evac.now c.fetch.new.self c.args.owner c.args.pointer c.args.evac.now.book.near.core.law c.requires.used c.requires.far
+      (subst (λ (b : BookOf Plain FarSide). HoldsFar (core_state b.near.core) (λ (q : ℕ). bytes_at b.device.inner.inner q)) c.book.ensures c.keeps_law.ensures.far) c.in-Err.why c.in-Err.ensures.fetched.called;
+  same = refused_leaves c.args.evac.now c.fetch.new.self c.args.owner c.args.pointer c.args.evac.now.book.near.core.law c.requires.used c.requires.far
       (subst (λ (b : BookOf Plain FarSide). HoldsFar (core_state b.near.core) (λ (q : ℕ). bytes_at b.device.inner.inner q)) c.book.ensures c.keeps_law.ensures.far) c.in-Err.why c.in-Err.ensures.fetched.called;
 }

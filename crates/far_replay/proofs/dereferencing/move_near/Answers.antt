@@ -1,4 +1,5 @@
 use Rattle.std.proofs.Common.{◌≡◌, ap, refl, rules, subst, sym, ◌∙◌}
+use Rattle.std.proofs.lemmas.Bool.{true≢false}
 use Rattle.std.specs.Prelude.{IfSome}
 use Rattle.far_core.specs.state.State.{State}
 use Rattle.far_hand.specs.Quiet.{IsQuietNear}
@@ -11,6 +12,7 @@ use Rattle.far_replay.proofs.Bringing.{asked_quiet, may_ask, near_done, near_ord
 use Rattle.far_replay.proofs.Dereferences.{comes_stores}
 use Rattle.far_replay.proofs.Giving.{comes_itself}
 use Rattle.far_replay.proofs.Spending.{spent_same}
+use Rattle.far_replay.proofs.Told.{same_holds}
 use Rattle.far_replay.proofs.dereferencing.move_near.Goals as goal
 
 pub move_now-requires-clause-quiet : goal.move_now-requires-clause-quiet
@@ -41,12 +43,14 @@ returns-in-Ok-Some-clause-brought c =
         Serves,
         comes_itself c.args.evac.now c.move_now.new.self m p c.in-Ok-Some.field-0-0 done room order
             (ap (λ (t : State). t.stored) done ∙ comes_stores s m p law c.requires.opened c.requires.own c.requires.used c.requires.unheld c.in-Ok-Some.field-0-0 room)
-            (spent_same c.args.evac.now c.move_now.new.self (device ∙ c.owner.ensures.device)),
+            (spent_same c.args.evac.now c.move_now.new.self (device ∙ c.owner.ensures.device))
+            (λ far. absurd (true≢false (sym c.requires.near ∙ far))),
       );
       refused = tt;
       shut = tt;
       round = search rules;
       spent = tt;
+      same = same_holds c.args.evac.now c.move_now.new.self (device ∙ c.owner.ensures.device);
     }
 
 pub returns-in-Err-clause-brought : goal.returns-in-Err-clause-brought
@@ -62,6 +66,7 @@ returns-in-Err-clause-brought c =
       round = search rules;
       spent = subst (λ w. SpentBy (refuser w) c.args.evac.now c.move_now.new.self) (sym c.in-Err.ensures.moved.refused)
           (spent_same c.args.evac.now c.move_now.new.self (ap (λ b. b.device) c.in-Err.ensures.moved.kept ∙ c.owner.ensures.device));
+      same = same_holds c.args.evac.now c.move_now.new.self (ap (λ b. b.device) c.in-Err.ensures.moved.kept ∙ c.owner.ensures.device);
     }
 
 pub returns-in-Err-clause-far : goal.returns-in-Err-clause-far

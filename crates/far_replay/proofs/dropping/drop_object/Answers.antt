@@ -1,4 +1,4 @@
-use Rattle.std.proofs.Common.{◌≡◌, ℕ, true, None, is_some, refl, sym, ap, ◌∙◌}
+use Rattle.std.proofs.Common.{◌≡◌, ℕ, inl, inr, true, Some, None, is_some, refl, sym, ap, ◌∙◌}
 use Rattle.far_word.specs.Pointer.{read_of}
 use Rattle.far_core.specs.declared.machine.Core.{Core}
 use Rattle.far_core.specs.events.Naming.{is_dropped}
@@ -8,10 +8,17 @@ use Rattle.far_book.specs.book.Effects.{retired}
 use Rattle.far_text.specs.Command.{Mutator, Drop}
 use Rattle.far_replay.specs.EventRows.{after_events}
 use Rattle.far_replay.specs.Events.{events_for}
-use Rattle.far_replay.specs.Moment.{moment_in, state_in}
+use Rattle.far_replay.specs.Moment.{FarSide, moment_in, state_in}
 use Rattle.far_replay.specs.Objects.{uses}
 use Rattle.far_replay.proofs.Drops.{ask_fact, asked_is_dropped, dropped_by_events, unheld_is}
 use Rattle.far_replay.specs.Commanded.{Serves}
+use Rattle.std.proofs.lemmas.Bool.{cases_eq}
+use Rattle.far_book.specs.book.Effects.{with_free_cell}
+use Rattle.far_book.specs.book.FarSide.{kept_len}
+use Rattle.far_book.proofs.region.Retires.{retired_is}
+use Rattle.far_core.proofs.Cells.{unused}
+use Rattle.far_core.proofs.Put.{put_same}
+use Rattle.far_replay.specs.Far.{far_of}
 use Rattle.far_replay.proofs.FarReads.{go_no_more}
 use Rattle.far_replay.proofs.RangeTurns.{uses_own}
 use Rattle.far_replay.proofs.Spending.{spent_first, spent_none, spent_same}
@@ -42,3 +49,14 @@ pub returns-clause-spent : goal.returns-clause-spent
 returns-clause-spent c =
     spent_first Serves c.args.evac.now c.owner.new.self c.retire.new.self (spent_same c.args.evac.now c.owner.new.self c.owner.ensures.device)
     (spent_none c.owner.new.self c.retire.new.self (go_no_more c.owner.new.self.book.device c.retire.new.self.book.device c.in-Some.pointer c.retire.ensures.retired.called))
+
+pub returns-clause-holds : goal.returns-clause-holds
+returns-clause-holds c q len kept =
+    let t : State = state_in c.owner.new.self in
+    let p : ℕ = c.in-Some.pointer in
+    let free : state_in c.retire.new.self ≡ with_free_cell t p = c.retire.ensures.retired.exact tt ∙ retired_is t p (retire-requires-clause-dropped c.before) in
+    elim (cases_eq q p) [
+      | inl at ↦ (let none : kept_len (read_of ((state_in c.retire.new.self).cell q)) ≡ None = ap (λ (s : State). kept_len (read_of (s.cell q))) free ∙ ap (λ w. kept_len (read_of w)) (put_same t.cell p 0 q at) ∙ ap kept_len unused in
+          let odd : None ≡ Some len = sym none ∙ kept in absurd cc)
+      | inr away ↦ c.retire.ensures.retired.called.0.0.1 q away ∙ ap (λ (d : FarSide). far_of d q) c.owner.ensures.device
+    ]

@@ -5,6 +5,7 @@ use Rattle.far_evac.proofs.TurnSteps.{turns_alone}
 use Rattle.far_text.specs.Command.{as_policy}
 use Rattle.far_replay.specs.Moment.{moment_in}
 use Rattle.far_replay.proofs.Choices.{least_chosen, least_ends, least_leads, oldest_chosen, oldest_ends}
+use Rattle.far_replay.proofs.HoldingRounds.{round_keeps}
 use Rattle.far_replay.proofs.Stopping.{never_first, round_breaks}
 use Rattle.far_replay.proofs.Walking.{begun_alone, round_spends}
 use Rattle.far_replay.proofs.rounds.run_by.Goals as goal
@@ -48,3 +49,13 @@ pub returns-in-LeastLive-clause-spent : goal.returns-in-LeastLive-clause-spent
 returns-in-LeastLive-clause-spent c =
     let ran = c.run_round_alone-in-LeastLive in
     round_spends c.args.evac.now ran.new.self (moment_in c.args.evac.now) (c.keeps_law.ensures.exact tt) (moment_in ran.new.self) c.args.turns _ _ _ _ _ _ _ ran.result ran.ensures.asked ran.ensures.barred ran.ensures.refused
+
+pub returns-in-Oldest-clause-holds : goal.returns-in-Oldest-clause-holds
+returns-in-Oldest-clause-holds c =
+    let ran = c.run_round_alone in
+    round_keeps c.args.evac.now ran.new.self c.args.evac.now.book.near.core.law (c.keeps_law.ensures.exact tt) c.args.turns _ _ _ _ _ _ _ ran.result ran.ensures.asked ran.ensures.barred ran.ensures.refused
+
+pub returns-in-LeastLive-clause-holds : goal.returns-in-LeastLive-clause-holds
+returns-in-LeastLive-clause-holds c =
+    let ran = c.run_round_alone-in-LeastLive in
+    round_keeps c.args.evac.now ran.new.self c.args.evac.now.book.near.core.law (c.keeps_law.ensures.exact tt) c.args.turns _ _ _ _ _ _ _ ran.result ran.ensures.asked ran.ensures.barred ran.ensures.refused

@@ -1,9 +1,10 @@
 use Rattle.std.proofs.Common.{ap, subst, sym}
 use Rattle.far_text.specs.Command.{Abort, Evacuator, Mark, Select, Step, Wait, as_choice, as_step}
+use Rattle.far_replay.specs.Far.{far_of}
+use Rattle.far_replay.specs.Moment.{FarSide}
 use Rattle.far_replay.specs.Outcome.{told_by}
 use Rattle.far_replay.specs.Spent.{Makes}
-use Rattle.far_replay.proofs.Made.{made_served}
-use Rattle.far_replay.proofs.Spending.{spent_same}
+use Rattle.far_replay.proofs.Made.{aside_made}
 use Rattle.far_replay.proofs.rounds.step_made.Goals as goal
 
 pub returns-in-Select : goal.returns-in-Select
@@ -11,8 +12,7 @@ returns-in-Select c = record {
   made =
       let call = c.select.ensures in
       subst (λ (step : Step). Makes c.args.evac.now (Evacuator step) (told_by c.select.new.scratch c.select.result) c.select.new.evac) (ap as_step (sym c.in-Select.is))
-      (made_served c.args.evac.now c.select.new.evac (Evacuator (Select (as_choice c.in-Select.choice) c.in-Select.most)) (told_by c.select.new.scratch c.select.result) call.moment call.reply
-      (spent_same c.args.evac.now c.select.new.evac call.device));
+      (aside_made c.args.evac.now c.select.new.evac (Select (as_choice c.in-Select.choice) c.in-Select.most) (λ q. ap (λ (f : FarSide). far_of f q) call.device) (told_by c.select.new.scratch c.select.result) call.moment call.reply call.device);
 }
 
 pub returns-in-Mark : goal.returns-in-Mark
@@ -20,7 +20,7 @@ returns-in-Mark c = record {
   made =
       let call = c.mark.ensures in
       subst (λ (step : Step). Makes c.args.evac.now (Evacuator step) (told_by c.mark.new.scratch c.mark.result) c.mark.new.evac) (ap as_step (sym c.in-Mark.is))
-      (made_served c.args.evac.now c.mark.new.evac (Evacuator (Mark c.in-Mark.count)) (told_by c.mark.new.scratch c.mark.result) call.moment call.reply (spent_same c.args.evac.now c.mark.new.evac call.device));
+      (aside_made c.args.evac.now c.mark.new.evac (Mark c.in-Mark.count) (λ q. ap (λ (f : FarSide). far_of f q) call.device) (told_by c.mark.new.scratch c.mark.result) call.moment call.reply call.device);
 }
 
 pub returns-in-Wait : goal.returns-in-Wait
@@ -28,7 +28,7 @@ returns-in-Wait c = record {
   made =
       let call = c.wait.ensures in
       subst (λ (step : Step). Makes c.args.evac.now (Evacuator step) (told_by c.args.scratch.now c.wait.result) c.wait.new.evac) (ap as_step (sym c.in-Wait.is))
-      (made_served c.args.evac.now c.wait.new.evac (Evacuator Wait) (told_by c.args.scratch.now c.wait.result) call.moment (call.reply c.args.scratch.now) (spent_same c.args.evac.now c.wait.new.evac call.device));
+      (aside_made c.args.evac.now c.wait.new.evac Wait (λ q. ap (λ (f : FarSide). far_of f q) call.device) (told_by c.args.scratch.now c.wait.result) call.moment (call.reply c.args.scratch.now) call.device);
 }
 
 pub returns-in-Abort : goal.returns-in-Abort
@@ -36,7 +36,7 @@ returns-in-Abort c = record {
   made =
       let call = c.abort.ensures in
       subst (λ (step : Step). Makes c.args.evac.now (Evacuator step) (told_by c.args.scratch.now c.abort.result) c.abort.new.evac) (ap as_step (sym c.in-Abort.is))
-      (made_served c.args.evac.now c.abort.new.evac (Evacuator Abort) (told_by c.args.scratch.now c.abort.result) call.moment (call.reply c.args.scratch.now) (spent_same c.args.evac.now c.abort.new.evac call.device));
+      (aside_made c.args.evac.now c.abort.new.evac Abort (λ q. ap (λ (f : FarSide). far_of f q) call.device) (told_by c.args.scratch.now c.abort.result) call.moment (call.reply c.args.scratch.now) call.device);
 }
 
 pub returns-in-Evacuate : goal.returns-in-Evacuate

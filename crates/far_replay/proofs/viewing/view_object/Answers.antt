@@ -21,7 +21,7 @@ returns-in-Ok-clause-made c = λ scratch.
     let used : (state_in c.args.evac.now).used c.in-Some.pointer ≡ true = ap (state_in c.args.evac.now).used own.0 ∙ own.2 in
     let (o, x) = c.in-Ok.ensures.done in
     subst (λ q. Makes c.args.evac.now (Mutator c.args.owner (View q)) Done c.dereference.new.evac) own.0
-    (view_makes c.args.evac.now c.dereference.new.evac c.args.owner c.in-Some.pointer o c.args.evac.now.book.near.core.law opened mine used x c.dereference.ensures.round)
+    (view_makes c.args.evac.now c.dereference.new.evac c.args.owner c.in-Some.pointer o c.args.evac.now.book.near.core.law opened mine used x c.dereference.ensures.round c.dereference.ensures.same)
 
 vain : (c : In-Err) → IsVain c.args.evac.now c.dereference.new.evac c.args.owner c.in-Some.pointer (Mutator c.args.owner (View c.in-Some.pointer)) c.in-Err.why
 vain c =
@@ -31,7 +31,7 @@ vain c =
     let used : (state_in c.args.evac.now).used c.in-Some.pointer ≡ true = ap (state_in c.args.evac.now).used own.0 ∙ own.2 in
     let cause = view_cause (moment_in c.args.evac.now) (moment_in c.dereference.new.evac) c.args.owner c.in-Some.pointer opened mine used in
     let call = c.in-Err.ensures in
-    record { opened = opened; own = mine; used = used; cause = cause; stops = λ h. h; leaves = refl; refuses = call.refused; far = call.far; shut = call.shut; round = c.dereference.ensures.round; spent = call.spent }
+    record { asks = (refl, refl); opened = opened; own = mine; used = used; cause = cause; stops = λ h. h; leaves = refl; refuses = call.refused; far = call.far; shut = call.shut; round = c.dereference.ensures.round; spent = call.spent; same = c.dereference.ensures.same }
 
 pub returns-in-Err-clause-made : goal.returns-in-Err-clause-made
 returns-in-Err-clause-made c = λ scratch.

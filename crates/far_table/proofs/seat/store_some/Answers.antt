@@ -9,7 +9,7 @@ use Rattle.far_core.specs.declared.event.Reply.TheVariants.{Done}
 use Rattle.far_table.specs.View.{OwnerView, View, Owner}
 use Rattle.far_table.specs.Ranges.{Wrote}
 use Rattle.far_table.specs.Tells.{OwnerMade, owner_of}
-use Rattle.far_table.specs.Views.{held_at, len_of, object_at}
+use Rattle.far_table.specs.Views.{held_at, len_of, object_at, soiled_at}
 use Rattle.far_table.proofs.RowEvents.{read_packed, stored_more}
 use Rattle.far_table.proofs.StoreSteps.{store_told, stores_at}
 use Rattle.far_table.proofs.WholeWords.{places_wrote, whole_padding, whole_wrote}
@@ -25,11 +25,12 @@ store-requires g c =
     let count = c.requires.count in
     let fits = c.requires.inside in
     let held = subst (λ (x : Option Place). IsSome x) (sym (ap (λ (z : OwnerView). held_at z c.args.p) wrote.rest)) c.requires.held in
+    let soiled = ap (λ (z : OwnerView). soiled_at z c.args.p) wrote.rest ∙ c.requires.soiled in
     let has = places_wrote c.args.p _ _ c.args.places.now.items o u wrote c.requires.places in
     let word : c.args.first + c.loop-i.i < words_for (len_of (object_at (owner_of c.loop-i.seat.me.0) c.args.p)) = omega (arith, len) in
     let padded = whole_padding c.read_u64-word.result (len_of (object_at (owner_of c.loop-i.seat.me.0) c.args.p)) (c.args.first + c.loop-i.i) c.read_u64-word.type_inv (omega (arith, len)) in
     let w = stores_at {S = ℕ} c.args.shared.now.table_id.slots c.loop-i.seat.id c.loop-i.seat.me c.loop-i.invariant.owner c.args.places.now.items has c.args.p (c.args.first + c.loop-i.i) c.read_u64-word.result
-    held word c.read_u64-word.type_inv padded (c.args.start + c.loop-i.i) (omega (arith, c.requires.start)) in
+    held word soiled c.read_u64-word.type_inv padded (c.args.start + c.loop-i.i) (omega (arith, c.requires.start)) in
     let words = ap (λ (z : TableId). z.words) (sym c.requires.table.0) ∙ c.requires.table.1 in
     (c.loop-i.invariant.table ∙ c.requires.table.0, omega (arith, w.0, words), w.1)
 
@@ -42,11 +43,12 @@ loop-i-preserved g c =
     let count = c.requires.count in
     let fits = c.requires.inside in
     let held = subst (λ (x : Option Place). IsSome x) (sym (ap (λ (z : OwnerView). held_at z c.args.p) wrote.rest)) c.requires.held in
+    let soiled = ap (λ (z : OwnerView). soiled_at z c.args.p) wrote.rest ∙ c.requires.soiled in
     let has = places_wrote c.args.p _ _ c.args.places.now.items o u wrote c.requires.places in
     let word : c.args.first + c.loop-i.i < words_for (len_of (object_at (owner_of c.loop-i.seat.me.0) c.args.p)) = omega (arith, len) in
     let padded = whole_padding c.read_u64-word.result (len_of (object_at (owner_of c.loop-i.seat.me.0) c.args.p)) (c.args.first + c.loop-i.i) c.read_u64-word.type_inv (omega (arith, len)) in
     let t = store_told {S = ℕ} c.args.shared.now.table_id.slots c.loop-i.seat.id c.loop-i.seat.me c.loop-i.invariant.owner c.args.places.now.items has c.args.p (c.args.first + c.loop-i.i) c.read_u64-word.result
-    held word c.read_u64-word.type_inv padded (c.args.start + c.loop-i.i) (omega (arith, c.requires.start)) c.store.new.seat.me c.store.ensures.2 in
+    held word soiled c.read_u64-word.type_inv padded (c.args.start + c.loop-i.i) (omega (arith, c.requires.start)) c.store.new.seat.me c.store.ensures.2 in
     record {
       table = c.store.ensures.0 ∙ c.loop-i.invariant.table;
       owner = t.after_is ∙ ap (λ (z : View). Owner (owner_of z)) (sym t.after_is);

@@ -16,8 +16,8 @@ use Rattle.far_book.specs.book.Effects.{order_after}
 use Rattle.far_book.specs.book.Ledger.{MayTake, Notes, Takes}
 use Rattle.far_book.specs.book.Own.{own_part}
 use Rattle.far_book.proofs.region.Calls.{may_take, order_taken}
-use Rattle.far_book.proofs.region.Carrying.{LiesIn, carried, drop_keeps, dropped, freed, may_copy, may_leave, notes_dropped, there}
-use Rattle.far_book.proofs.region.Moved.{drop_of, evac_of, goal_there, quiet_here}
+use Rattle.far_book.proofs.region.Carrying.{LiesIn, carried_by, drop_keeps, dropped, freed, may_copy, may_leave, notes_dropped, there}
+use Rattle.far_book.proofs.region.Moved.{evac_of, goal_there, quiet_here}
 
 -- ---- once the book was opened
 module _ (g : Over) (c : After-room g) where
@@ -86,11 +86,9 @@ take-requires g c =
 
 pub invariant_of-self-2 : goal.invariant_of-self-2
 invariant_of-self-2 g c =
-    let h = (goal.at.invariant_of-self-2 g c).After-room in
-    let n = c.in-Near in
-    let alive = drop_of (read_of c.args.found) n.len n.ds n.place n.marks (says g h) c.requires.alive in (
-      carried (lies g h) c.in-Some.to (told g h ∙ c.in-Some.is) c.retire.new.self (noted g (goal.at.invariant_of-self-2 g c).After-retire) (g.N.Near.view c.move_object.new.near) alive (wanted g h)
-          (c.move_object.ensures.moved c.if-not-move_object.false) c.take.new.self (subst (λ n. Takes c.retire.new.self c.take.new.self c.args.pointer n c.in-Some.to) c.size_of-size.ensures c.take.ensures),
+    let h = (goal.at.invariant_of-self-2 g c).After-room in (
+      carried_by (lies g h) (g.N.Near.view c.move_object.new.near) c.in-Some.to (c.move_object.ensures.moved c.if-not-move_object.false) (told g h ∙ c.in-Some.is) c.retire.new.self (noted g (goal.at.invariant_of-self-2 g c).After-retire) (wanted g h)
+          c.take.new.self (subst (λ n. Takes c.retire.new.self c.take.new.self c.args.pointer n c.in-Some.to) c.size_of-size.ensures c.take.ensures),
       c.self.invariant.1,
     )
 

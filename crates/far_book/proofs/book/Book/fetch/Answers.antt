@@ -11,7 +11,6 @@ use Rattle.far_word.specs.Bytes.{packed_word}
 use Rattle.far_word.specs.Pointer.{read_of}
 use Rattle.far_core.specs.events.Naming.{is_dropped}
 use Rattle.far_core.specs.state.State.{State}
-use Rattle.far_device.specs.Contents.{KeepsOthers}
 use Rattle.far_device.specs.declared.fault.DeviceFault.{DeviceFault}
 use Rattle.far_device.specs.declared.fault.DeviceFault.TheVariants.{Memory, Device}
 use Rattle.far_device.specs.Faults.{is_fault}
@@ -99,7 +98,7 @@ come_near-requires-clause-tail g c = ends (has_room (told g (goal.at.come_near-r
 
 pub come_near-requires-clause-stored : goal.come_near-requires-clause-stored
 come_near-requires-clause-stored g c promised i lt =
-    ap (λ b. packed_word b i) c.as_slice.ensures.value ∙ as_stored (told g (goal.at.come_near-requires-clause-stored g c).After-room) c.read_into.new.buffer.items (c.in-Ok.ensures.given (c.self.invariant.0.honest promised)) i lt
+    ap (λ b. packed_word b i) c.as_slice.ensures.value ∙ as_stored (told g (goal.at.come_near-requires-clause-stored g c).After-room) c.read_into.new.buffer.items (c.in-Ok.ensures.given (c.self.invariant.0.honest promised)) promised i lt
 
 pub take-requires : goal.take-requires
 take-requires g c =
@@ -137,12 +136,10 @@ invariant_of-self-in_default-come_near g c =
 pub invariant_of-self-2 : goal.invariant_of-self-2
 invariant_of-self-2 g c =
     let h = told g (goal.at.invariant_of-self-2 g c).After-room in
-    let able = placeable (has_room h c.in-Some.place c.in-Some.is) in
-    let law = g.met.D.Device.forget_follows _ _ _ c.forget.ensures.called in
-    let others : KeepsOthers (g.D.Device.contents c.self.inside.device) (g.D.Device.contents c.forget.new.self) c.args.pointer = (λ q ne. law.others q ne ∙ ap (λ (h : ℕ → Option (List ℕ)). h q) c.read_into.ensures.kept) in (
-      subst (λ e. InOrder (g.N.Near.view c.come_near.new.near) c.take.new.self (g.D.Device.contents c.forget.new.self) e) (sym (law.honest ∙ (g.met.D.Device.read_follows _ _ _ _ c.read_into.ensures.called).honest))
+    let able = placeable (has_room h c.in-Some.place c.in-Some.is) in (
+      subst (λ e. InOrder (g.N.Near.view c.come_near.new.near) c.take.new.self (g.D.Device.contents c.read_into.new.self) e) (sym (g.met.D.Device.read_follows _ _ _ _ c.read_into.ensures.called).honest)
           (come_in_order (g.N.Near.view c.self.inside.near) (g.N.Near.view c.come_near.new.near) c.args.pointer c.in-Far.len c.in-Far.ds c.in-Some.place (packed_word c.as_slice.result.now) c.in-Far.marks (now h.found) c.if-marks.false able.layout c.in-Ok-come_near.ensures.done
-          c.self.inside.ledger c.take.new.self _ _ _ c.self.invariant.0 able (subst (λ n. Takes c.self.inside.ledger c.take.new.self c.args.pointer n c.in-Some.place) c.size_of-size.ensures c.take.ensures) others),
+          c.self.inside.ledger c.take.new.self _ _ _ c.self.invariant.0 able (subst (λ n. Takes c.self.inside.ledger c.take.new.self c.args.pointer n c.in-Some.place) c.size_of-size.ensures c.take.ensures) (λ q. ap (λ (h : ℕ → Option (List ℕ)). h q) c.read_into.ensures.kept)),
       enough c.self.inside.buffer c.replace-bytes.result c.read_into.new.buffer c.replace-bytes.ensures.value c.self.invariant.1 c.read_into.ensures.room,
     )
 
@@ -169,6 +166,7 @@ returns-then-marks g c = record {
   order = search rules;
   called = inl (subst (λ (d : g.row.D.Denot). g.D.Device.lets_go d c.args.pointer c.retire.new.self.device) c.see-word.ensures.device c.retire.ensures.called);
   forgot = search rules;
+  still_held = tt;
   follows = search rules;
   refused = tt;
   in_place = search rules;
@@ -197,6 +195,7 @@ returns-in_default-room g c = record {
   order = tt;
   called = search rules;
   forgot = λ _. tt;
+  still_held = tt;
   follows = search rules;
   refused = room_was (told g (goal.at.returns-in_default-room g c).After-room) ∙ c.in_default-room.is;
   in_place = search rules;
@@ -221,6 +220,7 @@ returns-in-Err-Memory g c = record {
   called = read g (goal.at.returns-in-Err-Memory g c).After-room (Err Memory) c.read_into.new.self
       (subst (λ (w : DeviceFault). g.D.Device.reads c.self.inside.device c.args.pointer (Err w) c.read_into.new.self) c.in-Err-Memory.field-0-is c.in-Err-Memory.ensures.called);
   forgot = λ _. tt;
+  still_held = tt;
   follows = follows g (goal.at.returns-in-Err-Memory g c).After-room (Err Memory) c.read_into.new.self
       (subst (λ (w : DeviceFault). g.D.Device.reads c.self.inside.device c.args.pointer (Err w) c.read_into.new.self) c.in-Err-Memory.field-0-is c.in-Err-Memory.ensures.called);
   refused = some_room (told g (goal.at.returns-in-Err-Memory g c).After-room) c.in-Some.place c.in-Some.is;
@@ -247,6 +247,7 @@ returns-in-Err-Device g c = record {
   called = read g (goal.at.returns-in-Err-Device g c).After-room (Err Device) c.read_into.new.self
       (subst (λ (w : DeviceFault). g.D.Device.reads c.self.inside.device c.args.pointer (Err w) c.read_into.new.self) c.in-Err-Device.field-0-is c.in-Err-Device.ensures.called);
   forgot = λ _. tt;
+  still_held = tt;
   follows = follows g (goal.at.returns-in-Err-Device g c).After-room (Err Device) c.read_into.new.self
       (subst (λ (w : DeviceFault). g.D.Device.reads c.self.inside.device c.args.pointer (Err w) c.read_into.new.self) c.in-Err-Device.field-0-is c.in-Err-Device.ensures.called);
   refused = some_room (told g (goal.at.returns-in-Err-Device g c).After-room) c.in-Some.place c.in-Some.is;
@@ -274,6 +275,7 @@ returns-then-len g c = record {
       let long : length c.read_into.new.buffer.items ≡ c.in-Far.len = e ∙ old in absurd (omega arith) in
       (c.read_into.new.buffer.items, read g (goal.at.returns-then-len g c).After-room (Ok c.read_into.new.buffer.items) c.read_into.new.self c.in-Ok.ensures.called, short);
   forgot = λ _. tt;
+  still_held = tt;
   follows = follows g (goal.at.returns-then-len g c).After-room (Ok c.read_into.new.buffer.items) c.read_into.new.self c.in-Ok.ensures.called;
   refused = let h = told g (goal.at.returns-then-len g c).After-room in
       let honest = ap g.D.Device.honest (device g (goal.at.returns-then-len g c).After-room) in
@@ -312,6 +314,7 @@ returns-in_default-come_near g c = record {
       let asked = read g k (Ok c.read_into.new.buffer.items) c.read_into.new.self c.in-Ok.ensures.called in
       inr (c.read_into.new.buffer.items, c.read_into.new.self, asked, c.retire-in_default-come_near.ensures.called, was_alive (told g k).found c.if-marks.false);
   forgot = search rules;
+  still_held = tt;
   follows = follows_on g.D.Device.contents g.D.Device.honest g.D.Device.faults g.D.Device.fails_at_most (other_than c.args.pointer) false _ _ _
       (follows g (goal.at.returns-in_default-come_near g c).After-room (Ok c.read_into.new.buffer.items) c.read_into.new.self c.in-Ok.ensures.called) c.retire-in_default-come_near.ensures.follows;
   refused = tt;
@@ -330,8 +333,9 @@ returns g c =
     let k = (goal.at.returns g c).After-room in
     let here = room_was (told g k) ∙ c.in-Some.is in
     let near =
-    is_fetched (told g k).found (g.D.Device.honest c.args.self.now.device) (given g (goal.at.returns g c).In-Ok-come_near) c.come_near.ensures.padded
-    (λ e i lt. ap (λ b. packed_word b i) c.as_slice.ensures.value ∙ as_stored (told g k) c.read_into.new.buffer.items (c.in-Ok.ensures.given (ap g.D.Device.honest (device g k) ∙ e)) i lt) in
+    is_fetched (told g k).found (g.N.Near.view c.args.self.now.near).honest (given g (goal.at.returns g c).In-Ok-come_near) c.come_near.ensures.padded
+    (λ e i lt. let promised = ap (λ (u : State). u.honest) (told g k).found.same ∙ e in
+    ap (λ b. packed_word b i) c.as_slice.ensures.value ∙ as_stored (told g k) c.read_into.new.buffer.items (c.in-Ok.ensures.given (c.self.invariant.0.honest promised)) promised i lt) in
     record {
       came = then_came c.see-word.ensures.came (since_book c.self.view_is c.come_near.ensures.came);
       place = here;
@@ -342,10 +346,10 @@ returns g c =
       order = search rules;
       called = let read = read g k (Ok c.read_into.new.buffer.items) c.read_into.new.self c.in-Ok.ensures.called in
           let given = subst (HasGiven g.N.Near.still _ _ c.args.pointer c.in-Some.place) c.as_slice.ensures.value (given g (goal.at.returns g c).In-Ok-come_near) in
-          (c.read_into.new.buffer.items, c.read_into.new.self, read, c.forget.ensures.called, given);
-      forgot = search rules;
-      follows = follows_on g.D.Device.contents g.D.Device.honest g.D.Device.faults g.D.Device.fails_at_most (other_than c.args.pointer) false _ _ _
-          (follows g k (Ok c.read_into.new.buffer.items) c.read_into.new.self c.in-Ok.ensures.called) (g.met.D.Device.forget_follows _ _ _ c.forget.ensures.called);
+          (c.read_into.new.buffer.items, read, given);
+      forgot = λ _. tt;
+      still_held = c.read_into.ensures.kept ∙ ap g.D.Device.contents (device g k);
+      follows = follows g k (Ok c.read_into.new.buffer.items) c.read_into.new.self c.in-Ok.ensures.called;
       refused = tt;
       in_place = search rules;
       untouched = tt;
@@ -360,7 +364,7 @@ returns g c =
         found = here;
         row = near.row;
         padded = near.padded;
-        stored = λ e. near.stored (sym (ap g.D.Device.honest (device g k)) ∙ c.self.invariant.0.honest (ap (λ (u : State). u.honest) (told g k).found.same ∙ e));
+        stored = near.stored;
         after = near.exact still;
       };
     }

@@ -9,12 +9,11 @@ use Rattle.far_book.specs.book.BookOf.{BookOf}
 use Rattle.far_book.specs.book.Collecting.{IsNamed, MayBeNamed}
 use Rattle.far_book.specs.book.FarSide.{InOrder}
 use Rattle.far_book.specs.book.Ledger.{Passes}
-use Rattle.far_book.specs.book.Renaming.{MayRename, Renamed}
 use Rattle.far_hand.specs.Finds.{Finds}
 use Rattle.far_hand.proofs.Closure.{came_only}
 use Rattle.far_book.proofs.region.Handed.{since_book}
 use Rattle.far_book.proofs.region.InOrders.{found_keeps}
-use Rattle.far_book.proofs.region.NamingCopies.{is_named, jobs_stay, layout, layout_from, may_rename, named_keeps, passes_live, passes_room, passes_to, pointer}
+use Rattle.far_book.proofs.region.NamingCopies.{is_named_by, jobs_stay_by, layout, layout_from, may_rename, named_keeps_by, passes_live, passes_room, passes_to, pointer}
 
 -- ---- the object's length and data structure are known
 module _ (g : Over) (c : In-Near g) where
@@ -27,38 +26,38 @@ module _ (g : Over) (c : In-Near g) where
   says : read_of c.args.cell ≡ Some (Near c.in-Near.len c.in-Near.ds c.in-Near.place c.in-Near.marks)
   says = c.known.ensures ∙ ap (λ v. Some v) c.in-Near.is
 
-pub near_word-new-requires : goal.near_word-new-requires
-near_word-new-requires g c =
-    let h = (goal.at.near_word-new-requires g c).In-Near in
+pub rename_near-requires-clause-layout : goal.rename_near-requires-clause-layout
+rename_near-requires-clause-layout g c =
+    let h = (goal.at.rename_near-requires-clause-layout g c).In-Near in
     let n = c.in-Near in
     layout (g.N.Near.view c.self.inside.near) c.self.invariant.0.notes.law c.args.job c.args.what c.args.cell n.len n.ds n.place n.marks (may g h) (says g h)
 
-pub rename-requires-clause-pointer : goal.rename-requires-clause-pointer
-rename-requires-clause-pointer g c =
-    let h = (goal.at.rename-requires-clause-pointer g c).In-Near in
+pub rename_near-requires-clause-pointer : goal.rename_near-requires-clause-pointer
+rename_near-requires-clause-pointer g c =
+    let h = (goal.at.rename_near-requires-clause-pointer g c).In-Near in
     let n = c.in-Near in
     pointer (g.N.Near.view c.self.inside.near) c.self.invariant.0.notes.law c.args.job c.args.what c.args.cell n.len n.ds n.place n.marks (may g h) (says g h)
 
-pub rename-requires-clause-may : goal.rename-requires-clause-may
-rename-requires-clause-may g c =
-    let h = (goal.at.rename-requires-clause-may g c).In-Near in
+pub rename_near-requires-clause-may : goal.rename_near-requires-clause-may
+rename_near-requires-clause-may g c =
+    let h = (goal.at.rename_near-requires-clause-may g c).In-Near in
     let s = g.N.Near.view c.self.inside.near in
     let n = c.in-Near in
-    subst (MayRename s c.args.what.pointer) (sym c.near_word-new.ensures) (may_rename s c.self.invariant.0.notes.law c.args.job c.args.what c.args.cell n.len n.ds n.place n.marks (may g h) (says g h))
+    may_rename s c.self.invariant.0.notes.law c.args.job c.args.what c.args.cell n.len n.ds n.place n.marks (may g h) (says g h)
 
 pub invariant_of-self : goal.invariant_of-self
 invariant_of-self g c =
     let h = (goal.at.invariant_of-self g c).In-Near in
     let s = g.N.Near.view c.self.inside.near in
-    let e = c.in_default-rename in
+    let e = c.in_default-rename_near in
     let found = subst (λ v. Finds v e.field-0) (may g h).found e.ensures.found in (
       subst (λ (u : State). InOrder u c.self.inside.ledger (g.D.Device.contents c.self.inside.device) (g.D.Device.honest c.self.inside.device)) (sym e.ensures.kept)
           (found_keeps s c.self.inside.ledger (g.D.Device.contents c.self.inside.device) (g.D.Device.honest c.self.inside.device) c.self.invariant.0 c.args.what.pointer e.field-0 e.ensures.fits found),
       c.self.invariant.1,
     )
 
-pub returns-in_default-rename-clause-came : goal.returns-in_default-rename-clause-came
-returns-in_default-rename-clause-came g c = since_book c.self.view_is (came_only _ c.in_default-rename.ensures.names)
+pub returns-in_default-rename_near-clause-came : goal.returns-in_default-rename_near-clause-came
+returns-in_default-rename_near-clause-came g c = since_book c.self.view_is (came_only _ c.in_default-rename_near.ensures.names)
 
 pub pass-requires-clause-to : goal.pass-requires-clause-to
 pass-requires-clause-to g c =
@@ -92,10 +91,9 @@ invariant_of-self-2 g c =
     let h = (goal.at.invariant_of-self-2 g c).In-Near in
     let s = g.N.Near.view c.self.inside.near in
     let n = c.in-Near in
-    let r = subst (Renamed s (g.N.Near.view c.rename.new.near) c.args.what.pointer) c.near_word-new.ensures c.in-Ok.ensures.done in
     let passes = subst (Passes c.self.inside.ledger c.pass.new.self c.args.what.from.log c.args.what.to.log) c.size_of.ensures c.pass.ensures in (
-      named_keeps s c.self.invariant.0.notes.law c.args.job c.args.what c.args.cell n.len n.ds n.place n.marks (may g h) (says g h) (g.N.Near.view c.rename.new.near) r c.self.inside.ledger c.self.invariant.0.notes
-          c.pass.new.self passes (g.D.Device.contents c.self.inside.device) (g.D.Device.honest c.self.inside.device) c.self.invariant.0.far c.self.invariant.0.honest,
+      named_keeps_by s c.self.inside.ledger (g.D.Device.contents c.self.inside.device) (g.D.Device.honest c.self.inside.device) c.self.invariant.0 c.args.job c.args.what c.args.cell n.len n.ds n.place n.marks (may g h) (says g h)
+          (g.N.Near.view c.rename_near.new.near) c.in-Ok.ensures.done c.pass.new.self passes,
       c.self.invariant.1,
     )
 
@@ -104,17 +102,17 @@ returns-clause-named g c _ =
     let h = (goal.at.returns-clause-named g c).In-Near in
     let s = g.N.Near.view c.self.inside.near in
     let n = c.in-Near in
-    let r = subst (Renamed s (g.N.Near.view c.rename.new.near) c.args.what.pointer) c.near_word-new.ensures c.in-Ok.ensures.done in
-    subst (λ (x : State). IsNamed x (g.N.Near.view c.rename.new.near) c.args.what) (same g h)
-    (is_named s c.self.invariant.0.notes.law c.args.job c.args.what c.args.cell n.len n.ds n.place n.marks (may g h) (says g h) (g.N.Near.view c.rename.new.near) r)
+    subst (λ (x : State). IsNamed x (g.N.Near.view c.rename_near.new.near) c.args.what) (same g h)
+    (is_named_by s c.self.inside.ledger (g.D.Device.contents c.self.inside.device) (g.D.Device.honest c.self.inside.device) c.self.invariant.0 c.args.job c.args.what c.args.cell n.len n.ds n.place n.marks (may g h) (says g h)
+    (g.N.Near.view c.rename_near.new.near) c.in-Ok.ensures.done)
 
 pub returns-clause-jobs : goal.returns-clause-jobs
 returns-clause-jobs g c =
     let h = (goal.at.returns-clause-jobs g c).In-Near in
     let s = g.N.Near.view c.self.inside.near in
     let n = c.in-Near in
-    let r = subst (Renamed s (g.N.Near.view c.rename.new.near) c.args.what.pointer) c.near_word-new.ensures c.in-Ok.ensures.done in
-    jobs_stay s c.self.invariant.0.notes.law c.args.job c.args.what c.args.cell n.len n.ds n.place n.marks (may g h) (says g h) (g.N.Near.view c.rename.new.near) r ∙ ap (λ (x : State). x.copying.word) (same g h)
+    jobs_stay_by s c.self.inside.ledger (g.D.Device.contents c.self.inside.device) (g.D.Device.honest c.self.inside.device) c.self.invariant.0 c.args.job c.args.what c.args.cell n.len n.ds n.place n.marks (may g h) (says g h)
+    (g.N.Near.view c.rename_near.new.near) c.in-Ok.ensures.done ∙ ap (λ (x : State). x.copying.word) (same g h)
 
 pub returns-clause-came : goal.returns-clause-came
-returns-clause-came g c = since_book c.self.view_is (came_only _ c.rename.ensures.names)
+returns-clause-came g c = since_book c.self.view_is (came_only _ c.rename_near.ensures.names)

@@ -1,11 +1,12 @@
 use Rattle.far_book.proofs.book.Book.name_far.Given.{Over}
 use Rattle.far_book.proofs.book.Book.name_far.Goals.{After-self, In_default}
 use Rattle.far_book.proofs.book.Book.name_far.Goals as goal
-use Rattle.std.proofs.Common.{◌≡◌, ◌∙◌, ◌<◌, ◌≤◌, ◌*◌, ap, sym, subst, Some}
+use Rattle.std.proofs.Common.{◌≡◌, ◌∙◌, ◌<◌, ◌≤◌, ◌*◌, ap, sym, subst, Some, true}
 use Rattle.far_word.specs.declared.sizes.TheConstants.{CELLS, LOG_WORDS}
 use Rattle.far_word.specs.Bytes.{bytes_of}
 use Rattle.far_core.specs.events.Copies.{data_at}
-use Rattle.far_core.specs.state.Law.{IsStored}
+use Rattle.far_word.specs.Pointer.{read_of}
+use Rattle.far_core.specs.state.Law.{IsStored, is_dirty}
 use Rattle.far_core.specs.state.State.{State}
 use Rattle.far_hand.specs.Finds.{Finds}
 use Rattle.far_book.specs.book.BookOf.{BookOf}
@@ -25,6 +26,9 @@ module _ (g : Over) (c : After-self g) where
   found : c.args.found ≡ (g.N.Near.view c.self.inside.near).cell c.args.pointer
   found = c.requires.found ∙ sym (ap (λ (t : State). t.cell c.args.pointer) same)
 
+  dirty_here : (near : IsQuietIn (g.N.Near.view c.self.inside.near) c.args.pointer c.args.len c.args.ds c.args.place) → near.marks.dirty ≡ true → is_dirty (read_of c.args.found) ≡ true
+  dirty_here near dirty = ap (λ w. is_dirty (read_of w)) found ∙ ap is_dirty near.near ∙ dirty
+
   leaves : MayLeave (g.N.Near.view c.self.inside.near) c.args.pointer c.args.len c.args.ds c.args.place
   leaves =
       let near = subst (λ (t : State). IsQuietIn t c.args.pointer c.args.len c.args.ds c.args.place) (sym same) c.requires.near in
@@ -34,7 +38,7 @@ module _ (g : Over) (c : After-self g) where
         evac = evac_here _ c.args.pointer c.args.len c.args.ds c.args.place near c.args.found found c.requires.evac;
         alive = alive_here _ c.args.pointer c.args.len c.args.ds c.args.place near c.args.found found c.requires.alive;
         pointer = subst (λ (t : State). c.args.pointer < CELLS * t.mutators) (sym same) c.requires.pointer;
-        words = subst (λ (t : State). IsStored (data_at t.word c.args.place) c.args.len) (sym same) c.requires.words;
+        words = λ dirty. subst (λ (t : State). IsStored (data_at t.word c.args.place) c.args.len) (sym same) (c.requires.words (dirty_here near dirty));
       }
 
 -- the cell has the new word
@@ -71,9 +75,10 @@ lose-requires-clause-size g c = subst (λ n. n ≤ LOG_WORDS) (sym c.size_of.ens
 
 pub invariant_of-self-2 : goal.invariant_of-self-2
 invariant_of-self-2 g c =
-    let here = subst (λ (b : BookOf g.row.N.Denot g.row.D.Denot). g.D.Device.contents b.device c.args.pointer ≡ Some (bytes_of (data_at (g.N.Near.view b.near).word c.args.place) c.args.len)) (sym c.self.view_is) c.requires.held in (
-      far_order (leaves g (goal.at.invariant_of-self-2 g c).After-self) (g.N.Near.view c.rename.new.near) c.self.inside.ledger c.lose.new.self (g.D.Device.contents c.self.inside.device) (g.D.Device.honest c.self.inside.device)
-          c.self.invariant.0 here (renamed g (goal.at.invariant_of-self-2 g c).In_default) (subst (Loses c.self.inside.ledger c.lose.new.self c.args.place.log) c.size_of.ensures c.lose.ensures),
+    let k = (goal.at.invariant_of-self-2 g c).After-self in
+    let here : (leaves g k).quiet.marks.dirty ≡ true → g.D.Device.contents c.self.inside.device c.args.pointer ≡ Some (bytes_of (data_at (g.N.Near.view c.self.inside.near).word c.args.place) c.args.len) = λ dirty. subst (λ (b : BookOf g.row.N.Denot g.row.D.Denot). g.D.Device.contents b.device c.args.pointer ≡ Some (bytes_of (data_at (g.N.Near.view b.near).word c.args.place) c.args.len)) (sym c.self.view_is) (c.requires.held (dirty_here g k (leaves g k).quiet dirty)) in (
+      far_order (leaves g k) (g.N.Near.view c.rename.new.near) (renamed g (goal.at.invariant_of-self-2 g c).In_default) c.self.inside.ledger c.lose.new.self (g.D.Device.contents c.self.inside.device) (g.D.Device.honest c.self.inside.device)
+          c.self.invariant.0 here (subst (Loses c.self.inside.ledger c.lose.new.self c.args.place.log) c.size_of.ensures c.lose.ensures),
       c.self.invariant.1,
     )
 
@@ -81,4 +86,4 @@ pub returns-clause-far : goal.returns-clause-far
 returns-clause-far g c =
     let h = (goal.at.returns-clause-far g c).After-self in
     let t = g.N.Near.view c.rename.new.near in
-    subst (λ (u : State). t ≡ record (evicted u c.args.pointer) { word = t.word }) (same g h) (evicted_by (leaves g h) t (renamed g (goal.at.returns-clause-far g c).In_default))
+    subst (λ (u : State). t ≡ record (evicted u c.args.pointer) { word = t.word; stored = t.stored }) (same g h) (evicted_by (leaves g h) t (renamed g (goal.at.returns-clause-far g c).In_default))

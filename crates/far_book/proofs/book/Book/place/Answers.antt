@@ -2,7 +2,8 @@ use Rattle.far_book.proofs.book.Book.place.Given.{Over}
 use Rattle.far_book.proofs.book.Book.place.Goals.{After-room, In-Some}
 use Rattle.far_book.proofs.book.Book.place.Goals as goal
 use Rattle.std.proofs.Common.{◌≡◌, ◌∙◌, ◌*◌, ◌<◌, ap, refl, rules, sym, subst}
-use Rattle.std.specs.Prelude.{Some, true}
+use Rattle.std.specs.Prelude.{Some, true, false}
+use Rattle.std.proofs.lemmas.Bool.{false≢true}
 use Rattle.far_word.specs.declared.sizes.TheConstants.{CELLS}
 use Rattle.far_word.specs.Sizes.{size_of}
 use Rattle.far_core.specs.state.Room.{room}
@@ -63,9 +64,10 @@ invariant_of-self g c =
     let takes : Takes c.self.inside.ledger c.take.new.self c.args.pointer (size_of c.args.len) c.in-Some.place = subst (λ n. Takes c.self.inside.ledger c.take.new.self c.args.pointer n c.in-Some.place) c.size_of-size.ensures c.take.ensures in
     let own = own_named s t c.self.invariant.0.notes.law c.args.pointer c.args.len c.args.ds c.in-Some.place able free c.name_blank.ensures.kept c.name_blank.ensures.forgot in (
       record {
-        notes = subst (λ (u : State). Notes u c.take.new.self) (sym own) (notes_placed (own_part s) c.self.inside.ledger c.take.new.self c.self.invariant.0.notes c.args.pointer c.args.len c.args.ds c.in-Some.place able
-            (law_then (own_part s) c.self.invariant.0.notes.law c.args.pointer c.args.len c.args.ds c.in-Some.place able free) takes);
-        far = placed_far s t c.args.pointer held held c.args.len c.args.ds c.in-Some.place able own c.self.invariant.0.far (λ q ne. refl);
+        notes = subst (λ (u : State). Notes u c.take.new.self) (sym own) (notes_placed (own_part s) c.self.inside.ledger c.take.new.self c.self.invariant.0.notes c.args.pointer c.args.len c.args.ds c.in-Some.place able true
+            (law_then (own_part s) c.self.invariant.0.notes.law c.args.pointer c.args.len c.args.ds c.in-Some.place able refl refl true (λ odd. absurd (false≢true (sym odd)))) takes);
+        far = placed_far s t c.args.pointer held held c.args.len c.args.ds c.in-Some.place able own
+            (placed_honest s t c.args.pointer held held c.args.len c.args.ds c.in-Some.place able free c.name_blank.ensures.kept) c.self.invariant.0.far (λ q ne. refl);
         honest = λ h. c.self.invariant.0.honest (sym (placed_honest s t c.args.pointer held held c.args.len c.args.ds c.in-Some.place able free c.name_blank.ensures.kept) ∙ h);
       },
       c.self.invariant.1,

@@ -28,7 +28,8 @@ invariant_of-self g c =
       record {
         notes = subst (λ (s : State). Notes s c.retire.new.self) (sym own) (c.retire.ensures.notes (own_part (g.N.Near.view c.self.inside.near)) c.self.invariant.0.notes may);
         far = retired_far (g.N.Near.view c.self.inside.near) (g.N.Near.view c.free_cell-was.new.near) c.args.pointer (g.D.Device.contents c.self.inside.device) (g.D.Device.contents c.forget.new.self)
-            own c.self.invariant.0.far law.others;
+            own (retired_honest (g.N.Near.view c.self.inside.near) (g.N.Near.view c.free_cell-was.new.near) c.args.pointer (g.D.Device.contents c.self.inside.device) (g.D.Device.contents c.forget.new.self)
+            dropped c.free_cell-was.ensures.kept) c.self.invariant.0.far law.others;
         honest = λ h. law.honest ∙ c.self.invariant.0.honest (sym (retired_honest (g.N.Near.view c.self.inside.near) (g.N.Near.view c.free_cell-was.new.near) c.args.pointer (g.D.Device.contents c.self.inside.device) (g.D.Device.contents c.forget.new.self)
             dropped c.free_cell-was.ensures.kept) ∙ h);
       },

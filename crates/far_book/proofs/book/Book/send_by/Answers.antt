@@ -1,9 +1,11 @@
 use Rattle.far_book.proofs.book.Book.send_by.Goals as goal
-use Rattle.std.proofs.Common.{◌<◌, ◌*◌, Bool, ap, rules, sym, subst}
+use Rattle.std.proofs.Common.{◌∙◌, ◌<◌, ◌*◌, Bool, ap, rules, sym, subst}
 use Rattle.far_word.specs.declared.sizes.TheConstants.{CELLS}
 use Rattle.far_word.specs.Bytes.{bytes_of}
 use Rattle.far_word.specs.Sizes.{words_for}
 use Rattle.far_core.specs.events.Copies.{data_at}
+use Rattle.far_word.specs.Pointer.{read_of}
+use Rattle.far_core.specs.state.Law.{is_dirty}
 use Rattle.far_core.specs.state.State.{State}
 use Rattle.far_device.specs.Following.{Follows, other_than}
 use Rattle.far_book.specs.book.Asking.{answer_of}
@@ -32,7 +34,7 @@ invariant_of-self g c =
     let leaves = learned_leaves s t c.args.place (words_for c.args.len) c.read_object.ensures.kept object.bare c.read_object.ensures.learned in
     let law = g.met.D.Device.write_follows _ _ _ _ _ c.write.ensures.called in (
       sent_order s t c.self.inside.ledger (g.D.Device.contents c.self.inside.device) (g.D.Device.contents c.write.new.self) (g.D.Device.honest c.self.inside.device) (g.D.Device.honest c.write.new.self)
-          c.self.invariant.0 leaves c.args.pointer c.args.len c.args.ds c.args.place near law.others law.honest,
+          c.self.invariant.0 leaves c.args.pointer c.args.len c.args.ds c.args.place near (sym (ap is_dirty near.near) ∙ ap (λ (t : State). is_dirty (read_of (t.cell c.args.pointer))) same ∙ c.requires.dirty) law.others law.honest,
       c.self.invariant.1,
     )
 

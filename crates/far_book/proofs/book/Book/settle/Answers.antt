@@ -3,11 +3,10 @@ use Rattle.std.proofs.Common.{◌≡◌, ◌∙◌, ap, sym, subst, Some, None}
 use Rattle.std.specs.Prelude.{IfErr}
 use Rattle.far_core.specs.state.State.{State}
 use Rattle.far_book.specs.book.Dealing as dealing
-use Rattle.far_book.specs.book.Dealing.{FindsDrop, Leaves}
-use Rattle.far_book.specs.book.Effects.{moved, stayed}
+use Rattle.far_book.specs.book.Dealing.{FindsDrop, MovedBy}
 use Rattle.far_hand.specs.Quiet.{IsQuietNear}
 use Rattle.far_hand.proofs.RoundSteps.{quiet_seen}
-use Rattle.far_book.proofs.region.Settled.{both_of, drop_by, goal_seen, leaves_by, moved_seen, none_of, some_of, stayed_seen}
+use Rattle.far_book.proofs.region.Settled.{both_of, drop_by, goal_seen, moved_by_found, none_of, some_of}
 use Rattle.far_hand.proofs.Closure.{then_came}
 
 pub carry-requires-clause-quiet : goal.carry-requires-clause-quiet
@@ -25,12 +24,8 @@ pub returns-then-has_evac-clause-moved : goal.returns-then-has_evac-clause-moved
 returns-then-has_evac-clause-moved g c =
     let s = g.N.Near.view c.args.self.now.near in
     let t = g.N.Near.view c.see-found.new.self.near in
-    both_of c.carry.result (λ place. dealing.goal t c.args.pointer ≡ Some place) (λ place. Leaves (moved t c.args.pointer place) _) _
-    (λ place a b. leaves_by _ _ _
-    (ap (λ (x : State). moved x c.args.pointer place) c.see-found.ensures.kept
-    ∙ moved_seen s c.args.pointer c.see-found.result c.see-found.ensures.found c.keeps_law.ensures.law c.requires.quiet (sym c.is_dropped.ensures.value ∙ c.if-is_dropped.false)
-    (sym c.has_evac.ensures ∙ c.if-has_evac.true) place (ap (λ (x : State). dealing.goal x c.args.pointer) (sym c.see-found.ensures.kept) ∙ a)) b)
-    c.carry.ensures.place c.carry.ensures.moved
+    both_of c.carry.result (λ place. MovedBy t (g.N.Near.view c.carry.new.self.near) c.args.pointer place) (λ place. MovedBy t (g.N.Near.view c.carry.new.self.near) c.args.pointer place) _
+    (λ place a b. moved_by_found s c.args.pointer c.see-found.result c.see-found.ensures.found t (g.N.Near.view c.carry.new.self.near) place c.see-found.ensures.kept b) c.carry.ensures.moved c.carry.ensures.moved
 
 pub returns-then-has_evac-clause-found : goal.returns-then-has_evac-clause-found
 returns-then-has_evac-clause-found g c =
@@ -47,11 +42,9 @@ returns-then-has_evac-clause-none g c =
 pub returns-clause-moved : goal.returns-clause-moved
 returns-clause-moved g c =
     let s = g.N.Near.view c.args.self.now.near in
-    some_of c.stay.result (λ _. Leaves (stayed (g.N.Near.view c.see-found.new.self.near) c.args.pointer) (g.N.Near.view c.stay.new.self.near)) _
-    (λ place x. leaves_by _ _ _
-    (ap (λ (y : State). stayed y c.args.pointer) c.see-found.ensures.kept
-    ∙ stayed_seen s c.args.pointer c.see-found.result c.see-found.ensures.found c.keeps_law.ensures.law c.requires.quiet (sym c.is_dropped.ensures.value ∙ c.if-is_dropped.false)
-    (sym c.has_evac.ensures ∙ c.if-has_evac.false) place) x) c.stay.ensures.stayed
+    let t = g.N.Near.view c.see-found.new.self.near in
+    some_of c.stay.result (λ place. MovedBy t (g.N.Near.view c.stay.new.self.near) c.args.pointer place) _
+    (λ place x. moved_by_found s c.args.pointer c.see-found.result c.see-found.ensures.found t (g.N.Near.view c.stay.new.self.near) place c.see-found.ensures.kept x) c.stay.ensures.stayed
 
 pub returns-then-has_evac-clause-came : goal.returns-then-has_evac-clause-came
 returns-then-has_evac-clause-came g c = then_came c.see-found.ensures.came c.carry.ensures.came

@@ -4,11 +4,10 @@ use Rattle.std.proofs.Common.{◌≡◌, ◌∙◌, ◌*◌, ◌<◌, ap, sym, s
 use Rattle.far_word.specs.declared.pointer.PtrWord.TheVariants.{Near}
 use Rattle.far_word.specs.declared.sizes.TheConstants.{CELLS}
 use Rattle.far_word.specs.Pointer.{read_of}
-use Rattle.far_core.specs.events.Naming.{is_dropped}
 use Rattle.far_core.specs.state.State.{State}
 use Rattle.far_book.specs.book.BookOf.{BookOf}
 use Rattle.far_hand.specs.Quiet.{IsQuietNear}
-use Rattle.far_book.proofs.region.Carrying.{LiesIn, drop_keeps, kept}
+use Rattle.far_book.proofs.region.Carrying.{LiesIn, drop_keeps, kept_by}
 use Rattle.far_book.proofs.region.Moved.{evac_of, may_stay}
 use Rattle.far_hand.proofs.Closure.{came_only}
 use Rattle.far_book.proofs.region.Handed.{since_book}
@@ -26,11 +25,10 @@ invariant_of-self g c =
     let pointer : c.args.pointer < CELLS * s.mutators = subst (λ (x : State). c.args.pointer < CELLS * x.mutators) (sym same) c.requires.pointer in
     let lies : LiesIn s c.self.inside.ledger held is_honest c.args.pointer c.in-Near.len c.in-Near.ds c.in-Near.place c.in-Near.marks = record { order = c.self.invariant.0; pointer = pointer; near = near } in
     let quiet : IsQuietNear s c.args.pointer = subst (λ (x : State). IsQuietNear x c.args.pointer) (sym same) c.requires.quiet in
-    let alive : is_dropped (read_of (s.cell c.args.pointer)) ≡ false = ap (λ w. is_dropped (read_of w)) (sym word) ∙ c.requires.alive in
     let unwanted = evac_of (read_of c.args.found) false c.in-Near.len c.in-Near.ds c.in-Near.place c.in-Near.marks says c.requires.unwanted in (
       elim c.if-unmark_object.branch [
-        | then-unmark_object w ↦ kept lies u alive
-            (may_stay s c.args.pointer quiet c.in-Near.len c.in-Near.ds c.in-Near.place c.in-Near.marks near pointer unwanted) (c.unmark_object.ensures.stayed w.if-unmark_object.true)
+        | then-unmark_object w ↦ kept_by lies u c.in-Near.place (c.unmark_object.ensures.stayed w.if-unmark_object.true)
+            (may_stay s c.args.pointer quiet c.in-Near.len c.in-Near.ds c.in-Near.place c.in-Near.marks near pointer unwanted)
         | else-unmark_object w ↦ drop_keeps s u c.self.inside.ledger held is_honest c.self.invariant.0 c.args.pointer (c.unmark_object.ensures.dropped w.if-unmark_object.false)
       ],
       c.self.invariant.1,

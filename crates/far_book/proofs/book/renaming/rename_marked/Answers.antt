@@ -1,11 +1,13 @@
-use Rattle.std.proofs.Common.{◌∙◌, ℕ, ap, arith, refl, rules}
+use Rattle.std.proofs.Common.{◌∙◌, sym, ℕ, ap, arith, refl, rules}
 use Rattle.far_core.specs.declared.event.Event.TheVariants.{Name}
 use Rattle.far_core.specs.events.Step.{after}
 use Rattle.far_core.specs.state.State.{State, put}
 use Rattle.far_hand.proofs.Finding.{finds_more, some_found}
 use Rattle.far_book.specs.book.Renaming.{seen}
 use Rattle.far_book.proofs.region.Calls.{put_put, count_more}
-use Rattle.far_book.proofs.region.Renamings.{same_seen}
+use Rattle.far_word.specs.Pointer.{read_of}
+use Rattle.far_book.proofs.region.Renamings.{chain, same_seen, stops_too}
+use Rattle.far_book.proofs.region.Dirt.{up_by}
 use Rattle.far_book.proofs.book.renaming.rename_marked.Goals as goal
 use Rattle.far_hand.proofs.Closure.{then_call}
 
@@ -14,15 +16,16 @@ loop-preserved g c =
     let h = c.loop.invariant in
     let s = g.N.Near.view c.args.near.now in
     record {
-      fits = c.is_dropped.ensures.fits;
+      fits = c.stops.ensures.fits;
       found = finds_more (s.cell c.args.pointer) c.loop.word c.in-Err.more h.found c.in-Err.ensures.found;
       kept = c.in-Err.ensures.kept ∙ ap (λ (u : State). record u { cell = put u.cell c.args.pointer c.in-Err.more }) h.kept
           ∙ (λ i. record s { cell = put_put s.cell c.args.pointer c.loop.word c.in-Err.more i });
       names = then_call _ _ h.names ((c.loop.word, refl), c.in-Err.ensures.lost);
       readable = some_found c.loop.word c.in-Err.more c.in-Err.ensures.found h.readable;
-      alive = cc;
+      alive = chain (read_of c.args.found) (read_of c.loop.word) (read_of c.in-Err.more) h.alive (sym c.stops.ensures.value ∙ c.if-stops.false);
+      dirty = λ h2. up_by (read_of c.loop.word) (read_of c.in-Err.more) c.in-Err.ensures.found.body c.in-Err.ensures.found.dirty (h.dirty h2);
       same = λ still. absurd (c.in-Err.ensures.won still);
-      tries = omega (arith, h.tries, count_more c.loop.word c.in-Err.more h.fits c.is_dropped.ensures.fits h.readable c.in-Err.ensures.found c.in-Err.ensures.other);
+      tries = omega (arith, h.tries, count_more c.loop.word c.in-Err.more h.fits c.stops.ensures.fits h.readable c.in-Err.ensures.found c.in-Err.ensures.other);
     }
 
 pub returns-in-Ok : goal.returns-in-Ok
@@ -38,19 +41,19 @@ returns-in-Ok g c =
       won = λ still. tt;
       fits = tt;
       found = tt;
-      dropped = tt;
+      stopped = tt;
       kept = tt;
       names = then_call _ _ h.names ((c.loop.word, refl), c.in-Ok.ensures.made);
     }
 
-pub returns-then-is_dropped : goal.returns-then-is_dropped
-returns-then-is_dropped g c = record {
+pub returns-then-stops : goal.returns-then-stops
+returns-then-stops g c = record {
   done = tt;
   set = λ still. tt;
   won = c.in-Err.ensures.won;
-  fits = c.is_dropped.ensures.fits;
+  fits = c.stops.ensures.fits;
   found = search rules;
-  dropped = search rules;
+  stopped = stops_too (read_of c.args.found) (read_of c.loop.word) (read_of c.in-Err.more) c.loop.invariant.dirty (sym c.stops.ensures.value ∙ c.if-stops.true);
   kept = search rules;
   names = then_call _ _ c.loop.invariant.names ((c.loop.word, refl), c.in-Err.ensures.lost);
 }

@@ -1,10 +1,10 @@
-use Rattle.std.proofs.Common.{◌≡◌, ◌≤◌, ◌<◌, ◌^◌, false, IsSome}
+use Rattle.std.proofs.Common.{◌≡◌, ◌≤◌, ◌<◌, ◌^◌, true, false, IsSome}
 use Rattle.far_word.specs.Pointer.{read_of}
-use Rattle.far_core.specs.events.Naming.{is_dropped}
+use Rattle.far_core.specs.state.Law.{is_dirty}
 use Rattle.far_hand.specs.Came.{Came, only}
 use Rattle.far_hand.specs.Finds.{Finds}
 use Rattle.far_book.specs.book.Only.{Names}
-use Rattle.far_book.specs.book.Renaming.{seen}
+use Rattle.far_book.specs.book.Renaming.{seen, stops}
 use Rattle.far_book.proofs.region.Calls.{count}
 use Rattle.far_book.proofs.book.renaming.rename_marked.Given as goal
 
@@ -15,7 +15,8 @@ invariant-loop g l = record {
   kept : g.N.Near.view l.near ≡ seen (g.N.Near.view l.fn.near) l.fn.pointer l.word;
   names : Came (only (Names l.fn.pointer l.fn.new) g.N.Near.makes) l.fn.near l.near;
   readable : IsSome (read_of l.word);
-  alive : is_dropped (read_of l.word) ≡ false;
+  alive : stops (read_of l.fn.found) (read_of l.word) ≡ false;
+  dirty : is_dirty (read_of l.fn.found) ≡ true → is_dirty (read_of l.word) ≡ true;
   same : g.N.Near.still → l.word ≡ l.fn.found;
   tries : l.counter ≤ count (read_of l.word);
 }

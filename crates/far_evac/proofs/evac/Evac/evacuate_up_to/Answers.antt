@@ -39,10 +39,10 @@ module _ (g : Over) (c : After-keeps_law g) (k : ℕ) (e : EvacOf g.row.N.Denot 
   bounded = walk_counts m c.keeps_law.ensures.law c.keeps_law.ensures.moment c.requires.phase k (standing g.N.Near.view e q) walks
 
   module _ {between : g.row.D.Denot} (same : e.book.device ≡ between) {n : ℕ} (is : n ≡ k) where
-    asked : WalksAsking g.row.D.Denot g.D.Device.writes g.D.Device.lets_go m k (standing g.N.Near.view e q) c.args.self.now.book.device between →
-        WalksAsking g.row.D.Denot g.D.Device.writes g.D.Device.lets_go m n (standing g.N.Near.view e q) c.args.self.now.book.device e.book.device
-    asked h = subst (λ j. WalksAsking g.row.D.Denot g.D.Device.writes g.D.Device.lets_go m j (standing g.N.Near.view e q) c.args.self.now.book.device e.book.device) (sym is)
-        (subst (λ (d : g.row.D.Denot). WalksAsking g.row.D.Denot g.D.Device.writes g.D.Device.lets_go m k (standing g.N.Near.view e q) c.args.self.now.book.device d) (sym same) h)
+    asked : WalksAsking g.N.Near.still g.row.D.Denot g.D.Device.writes g.D.Device.lets_go m k (standing g.N.Near.view e q) c.args.self.now.book.device between →
+        WalksAsking g.N.Near.still g.row.D.Denot g.D.Device.writes g.D.Device.lets_go m n (standing g.N.Near.view e q) c.args.self.now.book.device e.book.device
+    asked h = subst (λ j. WalksAsking g.N.Near.still g.row.D.Denot g.D.Device.writes g.D.Device.lets_go m j (standing g.N.Near.view e q) c.args.self.now.book.device e.book.device) (sym is)
+        (subst (λ (d : g.row.D.Denot). WalksAsking g.N.Near.still g.row.D.Denot g.D.Device.writes g.D.Device.lets_go m k (standing g.N.Near.view e q) c.args.self.now.book.device d) (sym same) h)
 
     follows : Follows g.D.Device.contents g.D.Device.honest g.D.Device.faults g.D.Device.fails_at_most (none_of (first_live m k)) false c.args.self.now.book.device between →
         Follows g.D.Device.contents g.D.Device.honest g.D.Device.faults g.D.Device.fails_at_most (none_of (first_live m n)) false c.args.self.now.book.device e.book.device
@@ -80,9 +80,9 @@ loop-preserved g c =
       exact = λ still. one_exact m c.loop.counter w v (settled v) c.in-Some.span.p some.0 some.1 (did.exact still) refl (c.settle.ensures.exact still ∙ before.exact still);
       freed = omega (arith, c.settle.ensures.freed, did.rest.0, long, before.freed);
       done = did.rest.1 ∙ c.settle.ensures.done ∙ before.done;
-      asked = λ (t : Walked) known.
-          asks_more g.row.D.Denot g.D.Device.writes g.D.Device.lets_go m c.loop.counter w v t c.in-Some.span.p some.0 did.dealt.0 old now c.deal.new.self.book.device some.1 did.dealt.1 did.dealt.2 known did.dealt.3
-          (asked g h c.loop.counter c.settle.new.self c.settle.new.progress walks c.settle.ensures.device refl (before.asked w c.settle.ensures.known));
+      asked = λ (t : Walked) known same.
+          asks_more g.row.D.Denot g.D.Device.writes g.D.Device.lets_go g.N.Near.still m c.loop.counter w v t c.in-Some.span.p some.0 did.dealt.0 old now c.deal.new.self.book.device some.1 did.dealt.1 did.dealt.2 known did.dealt.3 (λ still. (did.exact still, same still))
+          (asked g h c.loop.counter c.settle.new.self c.settle.new.progress walks c.settle.ensures.device refl (before.asked w c.settle.ensures.known c.settle.ensures.exact));
       follows = follows_more g.D.Device.contents g.D.Device.honest g.D.Device.faults g.D.Device.fails_at_most m c.loop.counter w c.in-Some.span.p some.0 false old now c.deal.new.self.book.device ready walks some.1
           (follows g h c.loop.counter c.settle.new.self c.settle.new.progress walks c.settle.ensures.device refl before.follows) did.follows;
       came = then_came (then_came before.came c.settle.ensures.came) did.came;
@@ -105,7 +105,7 @@ pub returns-in_default-clause-asked : goal.returns-in_default-clause-asked
 returns-in_default-clause-asked g c =
     let h = (goal.at.returns-in_default-clause-asked g c).After-keeps_law in
     let walks = c.loop.invariant.walks _ c.settle.ensures.known in
-    asked g h c.loop.counter c.settle.new.self c.settle.new.progress walks c.settle.ensures.device (counts g h c.loop.counter c.settle.new.self c.settle.new.progress walks) (c.loop.invariant.asked _ c.settle.ensures.known)
+    asked g h c.loop.counter c.settle.new.self c.settle.new.progress walks c.settle.ensures.device (counts g h c.loop.counter c.settle.new.self c.settle.new.progress walks) (c.loop.invariant.asked _ c.settle.ensures.known c.settle.ensures.exact)
 
 pub returns-in_default-clause-follows : goal.returns-in_default-clause-follows
 returns-in_default-clause-follows g c =
@@ -125,7 +125,7 @@ pub returns-clause-asked : goal.returns-clause-asked
 returns-clause-asked g c =
     let h = (goal.at.returns-clause-asked g c).After-keeps_law in
     let walks = c.loop.invariant.walks _ c.settle-2.ensures.known in
-    asked g h c.loop.counter c.settle-2.new.self c.settle-2.new.progress walks c.settle-2.ensures.device (counts g h c.loop.counter c.settle-2.new.self c.settle-2.new.progress walks) (c.loop.invariant.asked _ c.settle-2.ensures.known)
+    asked g h c.loop.counter c.settle-2.new.self c.settle-2.new.progress walks c.settle-2.ensures.device (counts g h c.loop.counter c.settle-2.new.self c.settle-2.new.progress walks) (c.loop.invariant.asked _ c.settle-2.ensures.known c.settle-2.ensures.exact)
 
 pub returns-clause-follows : goal.returns-clause-follows
 returns-clause-follows g c =
@@ -164,13 +164,14 @@ returns-in-Err-clause-refused g c =
     record {
       stood = w;
       between = c.settle.new.self.book.device;
-      walks = asked g h c.loop.counter c.settle.new.self c.settle.new.progress walks c.settle.ensures.device count (c.loop.invariant.asked w c.settle.ensures.known);
+      walks = asked g h c.loop.counter c.settle.new.self c.settle.new.progress walks c.settle.ensures.device count (c.loop.invariant.asked w c.settle.ensures.known c.settle.ensures.exact);
       counts = ap tally_of c.in-Err.ensures.uncounted;
       next = c.in-Some.span.p;
       rest = some.0;
       is = some.1;
       write = c.in-Err.ensures.refused;
       stops = subst (λ (now : Phase). KnowsMoment (record (moment view c.settle.new.self) { phase = now }) (moment view c.deal.new.self)) leaving c.in-Err.ensures.kept;
+      exact = λ still. c.in-Err.ensures.same still ∙ ap (λ (now : Phase). record (moment view c.settle.new.self) { phase = now }) leaving;
     }
 
 pub returns-in-Err-clause-follows : goal.returns-in-Err-clause-follows

@@ -18,8 +18,8 @@ invariant-loop g l = record {
   exact : g.N.Near.still → settled (standing g.N.Near.view l.self l.progress) ≡ walked (moment g.N.Near.view l.fn.self) l.counter;
   freed : l.progress.freed + length l.self.collection ≡ length l.fn.self.collection;
   done : l.progress.done ≡ false;
-  asked : (t : Walked) → KnowsWalked (settled (standing g.N.Near.view l.self l.progress)) t →
-      WalksAsking g.row.D.Denot g.D.Device.writes g.D.Device.lets_go (moment g.N.Near.view l.fn.self) l.counter t l.fn.self.book.device l.self.book.device;
+  asked : (t : Walked) → KnowsWalked (settled (standing g.N.Near.view l.self l.progress)) t → (g.N.Near.still → t ≡ settled (standing g.N.Near.view l.self l.progress)) →
+      WalksAsking g.N.Near.still g.row.D.Denot g.D.Device.writes g.D.Device.lets_go (moment g.N.Near.view l.fn.self) l.counter t l.fn.self.book.device l.self.book.device;
   follows : Follows g.D.Device.contents g.D.Device.honest g.D.Device.faults g.D.Device.fails_at_most (none_of (first_live (moment g.N.Near.view l.fn.self) l.counter)) false l.fn.self.book.device l.self.book.device;
   came : Came g.N.Near.makes l.fn.self.book.near l.self.book.near;
 }

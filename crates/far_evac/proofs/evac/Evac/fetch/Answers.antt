@@ -9,4 +9,4 @@ invariant_of-self g c =
     let far = subst (λ (e : EvacOf g.row.N.Denot g.row.D.Denot). IsFar (g.N.Near.view e.book.near) c.args.pointer) (sym c.self.view_is) c.requires.far in
     let done = c.fetch-answer.ensures in
     object_fetched (g.N.Near.view c.self.inside.book.near) (g.N.Near.view c.fetch-answer.new.self.near) c.self.inside.round c.self.invariant c.keeps_law-2.ensures.law c.args.pointer far c.keeps_law.ensures.law g.N.Near.still
-    (g.D.Device.honest c.self.inside.book.device) c.fetch-answer.result done.asked done.place done.near done.gone done.seen
+    (g.N.Near.view c.self.inside.book.near).honest c.fetch-answer.result done.asked done.place done.near done.gone done.seen

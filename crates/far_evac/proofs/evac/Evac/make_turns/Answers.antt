@@ -17,7 +17,7 @@ use Rattle.far_evac.specs.Moment.{nothing, progress_of, tally_of}
 use Rattle.far_evac.specs.Turning.{IsCountedIn, IsWithin, most_turns, turned_at}
 use Rattle.far_evac.specs.Turns.{Turned, round_end, turns_made}
 use Rattle.far_evac.proofs.Bounds.{starts_within}
-use Rattle.far_evac.proofs.TurnsOn.{Made, asked_done, asked_limit, asked_stop, made_more, none_made, turns_more, turns_over}
+use Rattle.far_evac.proofs.TurnsOn.{Made, asked_done, asked_limit, asked_stop, leads_exactly, made_more, none_made, turns_more, turns_over}
 use Rattle.far_evac.proofs.Waits.{turns_wait, waiting_of}
 
 pub loop-init : goal.loop-init
@@ -25,7 +25,7 @@ loop-init g c =
     let m = moment g.N.Near.view c.args.self.now in
     let none : tally_of c.nothing_done-total.result ≡ nothing = ap tally_of c.nothing_done-total.ensures in
     record {
-      made = subst (λ total. Made g.row.D.Denot g.D.Device.writes g.D.Device.lets_go g.D.Device.contents m m 0 total c.args.self.now.book.device c.args.self.now.book.device) (sym none)
+      made = subst (λ total. Made g.N.Near.still g.row.D.Denot g.D.Device.writes g.D.Device.lets_go g.D.Device.contents m m 0 total c.args.self.now.book.device c.args.self.now.book.device) (sym none)
           (none_made c.args.self.now.book.device);
       exact = λ _. ap (λ total. turned_at m total false) (sym none);
       within = λ _. subst (IsWithin m) (sym none) (starts_within m c.keeps_law.ensures.law c.keeps_law.ensures.moment);
@@ -46,7 +46,7 @@ exactly g c still over is =
 pub returns-then-total-clause-asked : goal.returns-then-total-clause-asked
 returns-then-total-clause-asked g c =
     let turn = c.in-Ok.ensures.turns in
-    asked_done c.loop.invariant.made c.turn_more.ensures.lawful (moment g.N.Near.view c.turn_more.new.self) turn.0 (tally_of c.in-Ok.sum) c.turn_more.new.self.book.device turn.2 turn.3 turn.4
+    asked_done c.loop.invariant.made c.turn_more.ensures.lawful (moment g.N.Near.view c.turn_more.new.self) turn.0 (tally_of c.in-Ok.sum) c.turn_more.new.self.book.device turn.2 turn.3 turn.4 (λ still. leads_exactly (moment g.N.Near.view c.loop.self) (moment g.N.Near.view c.turn_more.new.self) (tally_of c.loop.total) (tally_of c.in-Ok.sum) c.in-Ok.sum.done (c.in-Ok.ensures.exact still))
     c.args.turns c.args.alone c.in-Ok.sum.done c.if-total.true (omega (arith, c.loop-test.true)) turn.1
 
 pub returns-then-total-clause-exact : goal.returns-then-total-clause-exact
@@ -60,7 +60,7 @@ loop-preserved g c =
     let turn = c.in-Ok.ensures.turns in
     let goes : c.loop.self.copying ≡ false → IsWithin (moment g.N.Near.view c.turn_more.new.self) (tally_of c.in-Ok.sum) = λ alone. ((c.in-Ok.ensures.goes_on alone).more c.if-total.false).0 in
     record {
-      made = made_more c.loop.invariant.made c.turn_more.ensures.lawful (moment g.N.Near.view c.turn_more.new.self) turn.0 (tally_of c.in-Ok.sum) c.turn_more.new.self.book.device turn.2 turn.3 turn.4
+      made = made_more c.loop.invariant.made c.turn_more.ensures.lawful (moment g.N.Near.view c.turn_more.new.self) turn.0 (tally_of c.in-Ok.sum) c.turn_more.new.self.book.device turn.2 turn.3 turn.4 (λ still. leads_exactly (moment g.N.Near.view c.loop.self) (moment g.N.Near.view c.turn_more.new.self) (tally_of c.loop.total) (tally_of c.in-Ok.sum) c.in-Ok.sum.done (c.in-Ok.ensures.exact still))
           c.in-Ok.sum.done c.if-total.false turn.1;
       exact = λ still. exactly g (goal.at.loop-preserved g c).In-Ok still false c.if-total.false;
       within = λ alone. goes (sym c.turn_more.ensures.copying ∙ alone);
@@ -86,7 +86,7 @@ pub returns-then-is_waiting-clause-asked : goal.returns-then-is_waiting-clause-a
 returns-then-is_waiting-clause-asked g c =
     let t = moment g.N.Near.view c.turn_more.new.self in
     let turn = c.in-Ok.ensures.turns in
-    let made = made_more c.loop.invariant.made c.turn_more.ensures.lawful t turn.0 (tally_of c.in-Ok.sum) c.turn_more.new.self.book.device turn.2 turn.3 turn.4 c.in-Ok.sum.done c.if-total.false turn.1 in
+    let made = made_more c.loop.invariant.made c.turn_more.ensures.lawful t turn.0 (tally_of c.in-Ok.sum) c.turn_more.new.self.book.device turn.2 turn.3 turn.4 (λ still. leads_exactly (moment g.N.Near.view c.loop.self) (moment g.N.Near.view c.turn_more.new.self) (tally_of c.loop.total) (tally_of c.in-Ok.sum) c.in-Ok.sum.done (c.in-Ok.ensures.exact still)) c.in-Ok.sum.done c.if-total.false turn.1 in
     asked_limit made c.args.turns c.args.alone Waiting (omega (arith, c.loop-test.true)) (λ e. absurd (true≢false (sym c.if-alone.true ∙ e))) (sym (waiting_of t.phase (sym c.is_waiting.ensures ∙ c.if-is_waiting.true)))
 
 pub returns-clause-asked : goal.returns-clause-asked

@@ -12,7 +12,7 @@ use Rattle.far_evac.proofs.evac.Evac.make_turns.Given as goal
 
 abbrev pub invariant-loop : goal.invariant-loop
 invariant-loop g l = record {
-  made : Made g.row.D.Denot g.D.Device.writes g.D.Device.lets_go g.D.Device.contents (moment g.N.Near.view l.fn.self) (moment g.N.Near.view l.self) l.counter (tally_of l.total) l.fn.self.book.device l.self.book.device;
+  made : Made g.N.Near.still g.row.D.Denot g.D.Device.writes g.D.Device.lets_go g.D.Device.contents (moment g.N.Near.view l.fn.self) (moment g.N.Near.view l.self) l.counter (tally_of l.total) l.fn.self.book.device l.self.book.device;
   exact : g.N.Near.still → turns_made (moment g.N.Near.view l.fn.self) l.counter ≡ turned_at (moment g.N.Near.view l.self) (tally_of l.total) false;
   within : l.self.copying ≡ false → IsWithin (moment g.N.Near.view l.self) (tally_of l.total);
   few : l.self.copying ≡ true → IsCountedIn l.counter (tally_of l.total);

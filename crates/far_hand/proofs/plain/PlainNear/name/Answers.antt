@@ -2,8 +2,8 @@ use Rattle.std.proofs.Common.{subst, sym}
 use Rattle.std.proofs.lemmas.Result.{IfOk-weaker, IfErr-weaker}
 use Rattle.far_core.specs.state.CoreState.{core_state}
 use Rattle.far_core.specs.state.State.{State}
-use Rattle.far_hand.specs.Known.{Forgets}
-use Rattle.far_hand.proofs.Naming.{name_forgets}
+use Rattle.far_hand.specs.Known.{Forgets, StoresLeaving}
+use Rattle.far_hand.proofs.Naming.{name_forgets, stores_leaving, won}
 use Rattle.far_core.specs.declared.event.Event.TheVariants.{Name}
 use Rattle.far_core.specs.declared.event.Reply.TheVariants.{Done, Word}
 use Rattle.far_hand.proofs.Making.{legal_made}
@@ -14,6 +14,14 @@ returns-clause-forgot c =
     let s = core_state c.args.self.now.core in
     let forgets = subst (λ (t : State). Forgets s t) (sym c.name.ensures.state) (name_forgets s c.args.pointer c.args.old c.args.new) in
     IfOk-weaker c.name.result _ _ (λ x h. forgets) c.name.ensures.won
+
+pub returns-clause-stored : goal.returns-clause-stored
+returns-clause-stored c =
+    let s = core_state c.args.self.now.core in
+    let p = c.args.pointer in
+    let old = c.args.old in
+    let new = c.args.new in
+    IfOk-weaker c.name.result _ _ (λ _ told. subst (λ (t : State). StoresLeaving s t p old new) (sym c.name.ensures.state) (stores_leaving s c.args.self.now.core.law p old new c.requires.legal (won s p old new told))) c.name.ensures.won
 
 pub returns-clause-made : goal.returns-clause-made
 returns-clause-made c =

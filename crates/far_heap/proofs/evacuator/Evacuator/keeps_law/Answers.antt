@@ -6,7 +6,8 @@ use Rattle.far_table.proofs.WholeLogs.{is_whole}
 use Rattle.far_book.specs.book.BookOf.{BookOf}
 use Rattle.far_book.specs.book.FarSide.{HoldsFar}
 use Rattle.far_evac.specs.EvacOf.{EvacOf}
-use Rattle.far_heap.proofs.FarSides.{far_shown, honest_shown}
+use Rattle.far_book.proofs.region.FarHeld.{holds_own, shown_holds}
+use Rattle.far_heap.proofs.FarSides.{honest_shown}
 use Rattle.far_heap.proofs.evacuator.Evacuator.keeps_law.Goals as goal
 
 pub returns-clause-whole : goal.returns-clause-whole
@@ -19,7 +20,10 @@ pub returns-clause-far : goal.returns-clause-far
 returns-clause-far g c =
     let book = ap (λ (e : EvacOf (BookSeat g.row.D.Denot) g.row.D.Denot). e.book) c.self.view_is in
     let far = subst (λ (b : BookOf (BookSeat g.row.D.Denot) g.row.D.Denot). HoldsFar (seat_view b.near) (g.D.Device.contents b.device)) book c.keeps_law.ensures.far in
-    λ x may. far_shown (seat_view c.args.self.now.book.near) x (g.D.Device.contents c.args.self.now.book.device) (seat_shown c.args.self.now.book.near x may) far
+    λ x may. shown_holds (seat_view c.args.self.now.book.near) x (g.D.Device.contents c.args.self.now.book.device) (seat_shown c.args.self.now.book.near x may) far
+
+pub returns-clause-own : goal.returns-clause-own
+returns-clause-own g c = λ x may. holds_own x (g.D.Device.contents c.args.self.now.book.device) (seat_lawful c.args.self.now.book.near x may) (returns-clause-far g c x may)
 
 pub returns-clause-honest : goal.returns-clause-honest
 returns-clause-honest g c =

@@ -1,9 +1,9 @@
 use Rattle.std.proofs.Common.{◌≡◌, Some, ap, subst, sym, ◌∙◌}
 use Rattle.std.specs.Prelude.{OnOk, Result, slice_index}
 use Rattle.far_store.specs.Part.{object_for}
-use Rattle.far_store.specs.Records.{Records, Rewrites, held, held_in}
+use Rattle.far_store.specs.Records.{Records, Rewrites, SameObjects, held, held_in}
 use Rattle.far_store.specs.declared.shard.StoreFault.{StoreFault}
-use Rattle.far_store.proofs.Held.{of_ok, put_held, put_kept, put_others}
+use Rattle.far_store.proofs.Held.{err_by, of_err, of_ok, put_held, put_kept, put_others, shard_same}
 use Rattle.far_store.proofs.shard.Shard.put.Goals as goal
 use Rattle.far_store.proofs.shard.Shard.put.Goals.{in-Ok, in-Err}
 
@@ -37,4 +37,17 @@ returns-clause-put g c = λ honest.
           c.in-Some.ensures.has c.if-bytes-ne-RECORD.false place stands c.in-Some.ensures.from
           (of_ok (Rewrites place.pointer place.from c.args.bytes.now m n) c.write_waiting-mutator.result.2 tt w.in-Ok.is c.write_waiting-mutator.ensures.written) (c.keeps_law.ensures.of.2 ∙ honest))
       | in-Err w ↦ subst (λ (r : Result (Unit {0}) StoreFault). OnOk r (held_in part objects n c.args.number ≡ Some c.args.bytes.now)) (sym w.result-is) tt
+    ]
+
+pub returns-clause-same : goal.returns-clause-same
+returns-clause-same g c =
+    let objects = c.self.inside.objects.items in
+    let m = c.in-Some-take.mutator in
+    let n = c.write_waiting-mutator.result.0 in
+    elim c.match-wrote.branch [
+      | in-Ok w ↦ err_by _ (sym w.result-is) tt
+      | in-Err w ↦ err_by _ (sym w.result-is)
+          (shard_same g.K.HeapName.heap c.self.inside.part objects c.self.inside.mutator c.self.invariant m (sym c.take.ensures.value ∙ c.in-Some-take.is) n
+          (of_err (SameObjects m n) c.write_waiting-mutator.result.2 w.in-Err.why w.in-Err.is c.write_waiting-mutator.ensures.same) c.args.number
+          ∙ ap (λ (s : Records). held s c.args.number) c.self.view_is)
     ]

@@ -3,7 +3,7 @@ use Rattle.far_word.specs.declared.pointer.Place.{Place}
 use Rattle.far_word.specs.declared.pointer.PtrWord.TheVariants.{Near}
 use Rattle.far_word.specs.Pointer.{IsPtr, read_of}
 use Rattle.far_word.proofs.PointerLaws.{read_back}
-use Rattle.far_core.specs.events.Naming.{no_marks}
+use Rattle.far_core.specs.events.Naming.{unmarked}
 use Rattle.tests_seats.proofs.Offering.{not_false, same_place}
 use Rattle.tests_seats.proofs.tests.jobs.moved.Goals as goal
 
@@ -18,5 +18,5 @@ returns c =
       was = sym c.read.ensures.exact ∙ (x.is ∙ (ap Some x.field-0-is ∙ ap (λ (at : Place). Some (Near x.len x.ds at x.marks)) here));
       kept = c.if-marks.false;
       marked = not_false x.marks.evac c.if-not-marks.false;
-      is = ap read_of c.pack.ensures ∙ read_back (Near x.len x.ds c.args.job.to no_marks) (fits.0, fits.1, fits.2, omega (arith, c.requires.to), omega (arith, c.size_of.ensures));
+      is = ap read_of c.pack.ensures ∙ read_back (Near x.len x.ds c.args.job.to (unmarked x.marks.dirty)) (fits.0, fits.1, fits.2, omega (arith, c.requires.to), omega (arith, c.size_of.ensures));
     }

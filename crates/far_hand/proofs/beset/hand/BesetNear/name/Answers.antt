@@ -1,4 +1,4 @@
-use Rattle.std.proofs.Common.{refl, sym, subst, ap, ◌∙◌, ◌≡◌, ◌*◌, ℕ, Bool, false}
+use Rattle.std.proofs.Common.{refl, sym, subst, ap, ◌∙◌, ◌≡◌, ◌*◌, ℕ, false}
 use Rattle.far_word.specs.declared.sizes.TheConstants.{CELLS, LOG_WORDS}
 use Rattle.far_core.specs.declared.event.Event.TheVariants.{Name}
 use Rattle.far_core.specs.events.Legal.{Legal}
@@ -11,7 +11,7 @@ use Rattle.far_hand.specs.Known.{KnowsLeaving}
 use Rattle.far_hand.specs.Masked.{masked, word_at, is_counted, AllFind, AllFindJobs, CountsOnRest}
 use Rattle.far_hand.proofs.Counting.{counts_found, finds_named, finds_put}
 use Rattle.far_hand.proofs.Finding.{finds_seen}
-use Rattle.far_hand.proofs.Naming.{Names, legal_name, names, cells_named, jobs_named, sizes_named, won, lost, lost_word, lost_state}
+use Rattle.far_hand.proofs.Naming.{Names, legal_name, names, rows_name, cells_named, jobs_named, sizes_named, won, lost, lost_word, lost_state}
 use Rattle.far_core.specs.declared.event.Reply.TheVariants.{Done, Word}
 use Rattle.far_hand.proofs.Making.{none_rest, turn_then}
 use Rattle.far_hand.proofs.beset.hand.BesetNear.name.Goals as goal
@@ -86,13 +86,8 @@ returns-in-Ok-clause-done c =
     let seen : old ≡ found p = c.requires.seen ∙ ap (λ (u : State). u.cell p) (sym c.turn.ensures.view) in
     let known : KnowsLeaving (beset_view hand) old new = subst (λ (u : State). KnowsLeaving u old new) (sym c.turn.ensures.view) c.requires.known in
     let tells = names s hand.core.law found counted jobs hand.finds hand.finds_jobs p old new legal.0 c.ranges.new.fits legal seen (won s p old new c.in-Ok.ensures.won) known in
-    let view : masked (core_state c.name.new.self) (word_at c.find.new.found.items) (is_counted c.forget.new.counted.items) jobs ≡ masked (after s (Name p old new)) (put found p new) (λ _. false) jobs =
-    ap (λ (u : State). masked u (word_at c.find.new.found.items) (is_counted c.forget.new.counted.items) jobs) c.name.ensures.state
-    ∙ (ap (λ (f : ℕ → ℕ). masked (after s (Name p old new)) f (is_counted c.forget.new.counted.items) jobs) c.find.ensures.words
-    ∙ ap (λ (k : ℕ → Bool). masked (after s (Name p old new)) (put found p new) k jobs) c.forget.ensures.none) in
     let from_old = subst (λ (o : State). Names o (masked (after s (Name p old new)) (put found p new) (λ _. false) jobs) p old new) c.turn.ensures.view tells in
-    let both = subst (λ (v : State). Names (beset_view c.args.self.now) v p old new) (sym view) from_old in
-    both.done
+    (rows_name _ _ _ _ _ _ _ _ _ _ _ _ c.name.ensures.state c.find.ensures.words c.forget.ensures.none refl from_old).done
 
 pub returns-in-Ok-clause-forgot : goal.returns-in-Ok-clause-forgot
 returns-in-Ok-clause-forgot c =
@@ -108,13 +103,25 @@ returns-in-Ok-clause-forgot c =
     let seen : old ≡ found p = c.requires.seen ∙ ap (λ (u : State). u.cell p) (sym c.turn.ensures.view) in
     let known : KnowsLeaving (beset_view hand) old new = subst (λ (u : State). KnowsLeaving u old new) (sym c.turn.ensures.view) c.requires.known in
     let tells = names s hand.core.law found counted jobs hand.finds hand.finds_jobs p old new legal.0 c.ranges.new.fits legal seen (won s p old new c.in-Ok.ensures.won) known in
-    let view : masked (core_state c.name.new.self) (word_at c.find.new.found.items) (is_counted c.forget.new.counted.items) jobs ≡ masked (after s (Name p old new)) (put found p new) (λ _. false) jobs =
-    ap (λ (u : State). masked u (word_at c.find.new.found.items) (is_counted c.forget.new.counted.items) jobs) c.name.ensures.state
-    ∙ (ap (λ (f : ℕ → ℕ). masked (after s (Name p old new)) f (is_counted c.forget.new.counted.items) jobs) c.find.ensures.words
-    ∙ ap (λ (k : ℕ → Bool). masked (after s (Name p old new)) (put found p new) k jobs) c.forget.ensures.none) in
     let from_old = subst (λ (o : State). Names o (masked (after s (Name p old new)) (put found p new) (λ _. false) jobs) p old new) c.turn.ensures.view tells in
-    let both = subst (λ (v : State). Names (beset_view c.args.self.now) v p old new) (sym view) from_old in
-    both.forgot
+    (rows_name _ _ _ _ _ _ _ _ _ _ _ _ c.name.ensures.state c.find.ensures.words c.forget.ensures.none refl from_old).forgot
+
+pub returns-in-Ok-clause-stored : goal.returns-in-Ok-clause-stored
+returns-in-Ok-clause-stored c =
+    let hand = c.turn.new.self in
+    let s = core_state hand.core in
+    let found = word_at hand.found.items in
+    let counted = is_counted hand.counted.items in
+    let jobs = word_at hand.jobs in
+    let p = c.args.pointer in
+    let old = c.args.old in
+    let new = c.args.new in
+    let legal : Legal (beset_view hand) (Name p old new) = subst (λ (u : State). Legal u (Name p old new)) (sym c.turn.ensures.view) c.requires.legal in
+    let seen : old ≡ found p = c.requires.seen ∙ ap (λ (u : State). u.cell p) (sym c.turn.ensures.view) in
+    let known : KnowsLeaving (beset_view hand) old new = subst (λ (u : State). KnowsLeaving u old new) (sym c.turn.ensures.view) c.requires.known in
+    let tells = names s hand.core.law found counted jobs hand.finds hand.finds_jobs p old new legal.0 c.ranges.new.fits legal seen (won s p old new c.in-Ok.ensures.won) known in
+    let from_old = subst (λ (o : State). Names o (masked (after s (Name p old new)) (put found p new) (λ _. false) jobs) p old new) c.turn.ensures.view tells in
+    (rows_name _ _ _ _ _ _ _ _ _ _ _ _ c.name.ensures.state c.find.ensures.words c.forget.ensures.none refl from_old).stored
 
 pub returns-in-Err-clause-found : goal.returns-in-Err-clause-found
 returns-in-Err-clause-found c =

@@ -22,7 +22,7 @@ returns c =
     let hand = c.turn.new.self in
     let turn = c.turn.ensures in
     let told = hand_offers c.args.self.now hand turn.view c.args.job c.args.pointer c.args.from c.args.to c.requires.legal c.requires.lies in
-    let left = rows_forget _ _ _ _ _ _ _ _ _ (c.offer.ensures.state ∙ told.is) c.forget.ensures.none (c.find_job.ensures ∙ ap (put _ c.args.job) c.offered.ensures) told.view in
+    let left = rows_forget _ _ _ _ _ _ _ _ _ _ (c.offer.ensures.state ∙ told.is) refl c.forget.ensures.none (c.find_job.ensures ∙ ap (put _ c.args.job) c.offered.ensures) told.view in
     record {
       kept = left.kept;
       forgot = left.forgot;

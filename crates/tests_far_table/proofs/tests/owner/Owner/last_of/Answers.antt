@@ -9,7 +9,7 @@ bounds-all-number c = let one = c.in_ok-seat.ensures.len in below_all _ _ c.requ
 pub invariant_of-result : goal.invariant_of-result
 invariant_of-result c =
     let one = c.in_ok-seat.ensures.len in
-    let unknown : Known = record { opened = false; read = false; used = false; held = false; len = 0 } in
+    let unknown : Known = record { opened = false; read = false; used = false; held = false; soiled = false; len = 0 } in
     let last = sym c.in_ok-seat.was ∙ c.pop.ensures.value c.in_ok-seat.seat (omega arith) in
     record { fits = fits_last _ _ c.requires (vec_len c.args.seats.now - 1) (omega arith) c.len-number.result (omega arith) c.in_ok-seat.seat c.in_ok-seat.seat unknown last }
 

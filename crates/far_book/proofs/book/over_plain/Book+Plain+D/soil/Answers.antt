@@ -1,0 +1,31 @@
+use Rattle.far_book.proofs.book.over_plain.Book+Plain+D.soil.Goals as goal
+use Rattle.std.proofs.Common.{refl, subst, sym}
+use Rattle.far_core.specs.declared.event.Event.TheVariants.{Soil}
+use Rattle.far_core.specs.events.Legal.{Legal}
+use Rattle.far_core.specs.state.CoreState.{core_state}
+use Rattle.far_core.specs.state.State.{State}
+use Rattle.far_hand.specs.Others.{OthersChange}
+use Rattle.far_book.specs.book.BookOf.{BookOf}
+use Rattle.far_hand.specs.declared.plain.Plain.{Plain}
+use Rattle.far_hand.proofs.OthersWork.{change}
+use Rattle.far_book.proofs.region.Owned.{owned}
+
+pub invariant_of-self : goal.invariant_of-self
+invariant_of-self g c =
+    let core = c.self.inside.near.core in
+    let device = c.self.inside.device in
+    let legal : Legal (core_state core) (Soil c.args.owner c.args.pointer) =
+    subst (λ (b : BookOf Plain g.row.D.Denot). Legal (core_state b.near.core) (Soil c.args.owner c.args.pointer)) (sym c.self.view_is) c.requires.legal in (
+      owned (core_state core) (core_state c.soil.new.self) core.law c.soil.new.self.law
+          (subst (λ (t : State). OthersChange (core_state core) t) (sym c.soil.ensures.state) (change (core_state core) (Soil c.args.owner c.args.pointer) core.law refl legal))
+          c.self.inside.ledger (g.D.Device.contents device) (g.D.Device.honest device) c.self.invariant.0,
+      c.self.invariant.1,
+    )
+
+pub returns-clause-changes : goal.returns-clause-changes
+returns-clause-changes g c =
+    let core = c.self.inside.near.core in
+    let legal : Legal (core_state core) (Soil c.args.owner c.args.pointer) =
+    subst (λ (b : BookOf Plain g.row.D.Denot). Legal (core_state b.near.core) (Soil c.args.owner c.args.pointer)) (sym c.self.view_is) c.requires.legal in
+    subst (λ (b : BookOf Plain g.row.D.Denot). OthersChange (core_state b.near.core) (core_state c.soil.new.self)) c.self.view_is
+    (subst (λ (t : State). OthersChange (core_state core) t) (sym c.soil.ensures.state) (change (core_state core) (Soil c.args.owner c.args.pointer) core.law refl legal))
