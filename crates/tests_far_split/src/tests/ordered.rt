@@ -234,7 +234,7 @@ ok
 pointer 3
 ok
 data 0000000000000000
-refused 14 a400000004010008
+refused 14 a600000004010008
 data 0102030405060708
 book
 refused 10 moved 1 far 1 dropped 0 freed 0
