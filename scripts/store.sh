@@ -1,6 +1,6 @@
 #!/usr/bin/env bash
-# Runs the built far_store over memory and over a file: few and many logs, one shard, two and eight; then with arguments that it must refuse. Prints only
-# what is wrong. usage: store.sh [PROGRAM]
+# Runs the built far_store over memory and over a file: few and many logs, one shard, two and eight; then with arguments that it must refuse, and where nothing
+# can be printed. What was put is worked out here once more. Prints only what is wrong. usage: store.sh [PROGRAM]
 set -euo pipefail
 here="$(cd "$(dirname "${BASH_SOURCE[0]}")" && pwd)"
 program="$(realpath "${1:-$here/../crates/far_store/out/far_store}")"
@@ -19,6 +19,40 @@ expect() { # what, the status, standard output and standard error that are wante
     fi
 }
 
+digest() { # of all that is put last, for these mutators, records, operations and seed
+    python3 - "$@" <<'END'
+import sys
+
+mutators, records, operations, seed = map(int, sys.argv[1:])
+WORD = 2**64
+total = 0
+for shard in range(mutators):
+    state = (2 * (8 * seed + shard) + 1) * 0x9E3779B97F4A7C15 % WORD
+
+    def number():
+        global state
+        state ^= state << 13 & WORD - 1
+        state ^= state >> 7
+        state ^= state << 17 & WORD - 1
+        return state
+
+    count = len(range(shard, records, mutators))
+    kept = [[number() // 256 % 256 for _ in range(64)] for _ in range(count)]
+    sharers = min(mutators, records) - shard
+    made = operations // sharers if sharers > 0 else 0
+    operations -= made
+    for _ in range(made):
+        at = (number() >> 11) % count
+        if (number() >> 11) % 2 == 0:
+            kept[at] = [number() // 256 % 256 for _ in range(64)]
+    digest = 0
+    for byte in sum(kept, []):
+        digest = (31 * digest + byte) % WORD
+    total = (total + digest) % WORD
+print(total)
+END
+}
+
 for side in memory far.bin; do
     for logs in 8 64; do
         for mutators in 1 2 8; do
@@ -28,11 +62,13 @@ for side in memory far.bin; do
     expect "$side, all records" 0 'records 4096 operations 0 wrong 0' '' "$side" 64 8 4096 0 7
     expect "$side, fewer records than shards" 0 'records 3 operations 90 wrong 0' '' "$side" 8 8 3 90 7
     # what outgrows the logs comes back from the far side
-    "$program" "$side" 8 2 500 2000 7 tell >out
-    if ! grep -qE '^fetches [1-9][0-9]* evictions [1-9][0-9]* moves [0-9]+ rounds [1-9][0-9]* waits [0-9]+$' out; then
-        echo "store: $side: $(cat out)" >&2
-        wrong=1
-    fi
+    for asked in '2 500 2001 7' '3 500 2000 8'; do
+        "$program" "$side" 8 $asked tell >out
+        if ! grep -qE '^fetches [1-9][0-9]* evictions [1-9][0-9]* moves [0-9]+ rounds [1-9][0-9]* waits [0-9]+$' out || ! grep -qx "digest $(digest $asked)" out; then
+            echo "store: $side $asked: $(cat out)" >&2
+            wrong=1
+        fi
+    done
 done
 
 usage='usage: far_store memory|FILE LOGS MUTATORS RECORDS OPERATIONS SEED [tell]'
@@ -40,6 +76,12 @@ for words in '' memory 'memory 8 2 500 2000' 'memory 7 2 500 2000 7' 'memory 65 
     'memory 8 2 0 2000 7' 'memory 8 2 1025 2000 7' 'memory 8 2 500 x 7' 'memory 8 2 500 2000 -7' 'memory 8 2 500 2000 7 told' 'memory 8 2 500 2000 7 tell 1'; do
     expect "'$words'" 2 '' "$usage" $words
 done
+got=0
+"$program" memory 8 2 500 2000 7 >/dev/full 2>err || got=$?
+if [[ "$got" != 1 || -s err ]]; then
+    echo "store: nothing can be printed: status $got, stderr '$(cat err)'" >&2
+    wrong=1
+fi
 echo kept >there
 expect 'a file that is there' 3 '' 'far_store: there: File exists (os error 17)' there 8 2 500 2000 7
 expect 'no such folder' 3 '' 'far_store: no/such: No such file or directory (os error 2)' no/such 8 2 500 2000 7

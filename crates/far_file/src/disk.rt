@@ -1,6 +1,7 @@
 //! A file of the system as storage.
 
 ghost use Rattle.std.specs.Prelude.{◌≡◌, true, false, OnOk};
+ghost use Rattle.far_file.specs.Faults.{IsTold};
 
 use crate::fault::StorageFault;
 use crate::storage::Storage;
@@ -31,7 +32,9 @@ impl Storage for File {
 }
 
 // What an error of the system is to storage.
-fn told(kind: ErrorKind) -> StorageFault {
+fn told(kind: ErrorKind) -> StorageFault
+    ensures { IsTold kind result }
+{
     match kind {
         ErrorKind::UnexpectedEof => StorageFault::Short,
         ErrorKind::StorageFull

@@ -64,7 +64,8 @@ pub struct Digest {
 impl Digest {
     ghost use Rattle.far_file.specs.Digests.{digest_of};
 
-    fn of(bytes: &[u8]) -> Digest
+    /// That of these bytes.
+    pub fn of(bytes: &[u8]) -> Digest
         ensures { result.digest ≡ digest_of bytes.now }
     {
         let mut hasher = DefaultHasher::new();
@@ -72,6 +73,13 @@ impl Digest {
         Digest {
             digest: hasher.finish(),
         }
+    }
+
+    /// As a number.
+    pub fn number(self) -> u64
+        ensures { result ≡ self.digest }
+    {
+        self.digest
     }
 }
 

@@ -1,12 +1,12 @@
 //! A device over positioned storage.
 
-ghost use Rattle.std.specs.Prelude.{ℕ, ◌≡◌, ◌+◌, ◌*◌, ◌%◌, ◌^◌, ◌<◌, ◌≤◌, ◌≢◌, ◌⊎◌, Err, true, IsTrue, false, length, Some, None, IfOk, IfErr, IfSome, IfNone, IsSome, OnErr, OnOk};
+ghost use Rattle.std.specs.Prelude.{ℕ, ◌≡◌, ◌+◌, ◌*◌, ◌%◌, ◌^◌, ◌<◌, ◌≤◌, ◌≢◌, ◌⊎◌, Err, true, IsTrue, false, length, Some, None, IfOk, IfErr, IfSome, IfNone, IsSome, OnErr, OnOk, option_map};
 ghost use Rattle.std.specs.Vec.{vec_capacity, vec_len};
 ghost use Rattle.far_device.specs.Contents.{KeepsOthers};
 ghost use Rattle.far_device.specs.Faults.{is_fault};
 ghost use Rattle.far_device.specs.declared.fault.DeviceFault.TheVariants.{Memory, Device as Failed};
 ghost use Rattle.far_file.specs.declared.fault.FileFault.TheVariants.{NoSlot, Nothing};
-ghost use Rattle.far_file.specs.Faults.{StoppedRead, StoppedWrite};
+ghost use Rattle.far_file.specs.Faults.{CanStopRead, StoppedRead, StoppedWrite};
 ghost use Rattle.far_file.specs.Positions.{HoldsAt};
 ghost use Rattle.far_file.specs.Row.{bytes_in, Stands};
 
@@ -36,7 +36,8 @@ pub struct SealedDevice<F: Storage + Drop, L: Seal> {
     // The bytes that are written, for clauses to speak of.
     pub(crate) last: Vec<u8>,
     pub(crate) faults: u64,
-    pub(crate) why: Option<FileFault>,
+    // The last fault.
+    pub(crate) told: Option<KeyFault>,
     // Who asks for the last fault, if anyone does.
     pub(crate) asked: Option<LastFault>,
     ghost stands: { F.Storage.honest storage ≡ true → Stands (F.Storage.seen storage) (bytes_in row.items) },
@@ -53,7 +54,7 @@ impl<F: Storage + Drop, L: Seal> SealedDevice<F, L> {
         ensures contents { bytes_at result ≡ (λ _. None) }
         ensures faults { faults_of result ≡ 0 }
         ensures storage { result.storage ≡ storage }
-        ensures why { result.why ≡ None }
+        ensures told { result.told ≡ None }
     {
         SealedDevice {
             alloc,
@@ -61,16 +62,19 @@ impl<F: Storage + Drop, L: Seal> SealedDevice<F, L> {
             row: Vec::new(alloc),
             last: Vec::new(alloc),
             faults: 0,
-            why: None,
+            told: None,
             asked: None,
         }
     }
 
     /// Why the last call failed that answered [`DeviceFault::Device`]; `None` if none did.
     pub fn why(&self) -> Option<FileFault>
-        ensures { result ≡ self.now.why }
+        ensures { result ≡ option_map (λ told. told.why) self.now.told }
     {
-        self.why
+        match self.told {
+            Some(told) => Some(told.why),
+            None => None,
+        }
     }
 
     /// A handle that tells the last fault from its first call on, also once a heap has the device. It takes memory once; each later handle is on the same.
@@ -78,7 +82,7 @@ impl<F: Storage + Drop, L: Seal> SealedDevice<F, L> {
         ensures contents { bytes_at self.new ≡ bytes_at self.old }
         ensures storage { self.new.storage ≡ self.old.storage }
         ensures faults { faults_of self.new ≡ faults_of self.old }
-        ensures why { self.new.why ≡ self.old.why }
+        ensures told { self.new.told ≡ self.old.told }
     {
         if let Some(last) = &self.asked {
             return last.try_clone();
@@ -96,12 +100,13 @@ impl<F: Storage + Drop, L: Seal> SealedDevice<F, L> {
         ensures others { (q : ℕ) → bytes_at self.new q ≡ bytes_at self.old q }
         ensures storage { self.new.storage ≡ self.old.storage }
         ensures counted { faults_of self.new ≡ (faults_of self.old + 1) % 2 ^ 64 }
-        ensures why { self.new.why ≡ Some why }
+        ensures told { self.new.told ≡ Some record { key = key; why = why } }
     {
         self.faults = self.faults.wrapping_add(1);
-        self.why = Some(why);
+        let told = KeyFault { key, why };
+        self.told = Some(told);
         if let Some(last) = &self.asked {
-            last.set(KeyFault { key, why });
+            last.set(told);
         }
         DeviceFault::Device
     }
@@ -129,7 +134,7 @@ impl<F: Storage + Drop, L: Seal> SealedDevice<F, L> {
         requires { IfSome (bytes_at self.now id) (λ stored. length stored ≡ vec_len buffer.old) }
         ensures by_storage { F.Storage.honest self.now.storage ≡ true → OnOk result (IfSome (bytes_at self.now id) (λ stored. buffer.new.items ≡ stored)) }
         ensures by_seal { L.Seal.exact ≡ true → OnOk result (IfSome (bytes_at self.now id) (λ stored. buffer.new.items ≡ stored)) }
-        ensures why { IfSome (bytes_at self.now id) (λ _. IfErr result (λ why. StoppedRead (F.Storage.honest self.now.storage) (Some why))) }
+        ensures why { IfSome (bytes_at self.now id) (λ _. IfErr result (CanStopRead (F.Storage.honest self.now.storage))) }
         ensures room { vec_capacity buffer.old ≤ vec_capacity buffer.new }
     {
         let Some(held) = self.held(id) else {
@@ -153,7 +158,7 @@ impl<F: Storage + Drop, L: Seal> SealedDevice<F, L> {
         ensures row { vec_len self.new.row ≡ vec_len self.old.row }
         ensures last { self.new.last ≡ self.old.last }
         ensures faults { faults_of self.new ≡ faults_of self.old }
-        ensures why { self.new.why ≡ self.old.why }
+        ensures told { self.new.told ≡ self.old.told }
     {
         if let Some(slot) = self.row.get_mut(id as usize) {
             *slot = None;
@@ -170,7 +175,7 @@ impl<F: Storage + Drop, L: Seal> SealedDevice<F, L> {
         ensures row { vec_len self.new.row ≡ vec_len self.old.row }
         ensures last { self.new.last ≡ self.old.last }
         ensures faults { faults_of self.new ≡ faults_of self.old }
-        ensures why { self.new.why ≡ self.old.why }
+        ensures told { self.new.told ≡ self.old.told }
     {
         self.storage.put(id as u64 * SLOT, bytes)
     }
@@ -186,7 +191,7 @@ impl<F: Storage + Drop, L: Seal> SealedDevice<F, L> {
         ensures others { KeepsOthers (bytes_at self.old) (bytes_at self.new) id }
         ensures storage { self.new.storage ≡ self.old.storage }
         ensures faults { faults_of self.new ≡ faults_of self.old }
-        ensures why { self.new.why ≡ self.old.why }
+        ensures told { self.new.told ≡ self.old.told }
     {
         self.row[id as usize] = Some(Held {
             len,
@@ -203,7 +208,7 @@ impl<F: Storage + Drop, L: Seal> SealedDevice<F, L> {
         ensures last { self.new.last ≡ self.old.last }
         ensures storage { self.new.storage ≡ self.old.storage }
         ensures faults { faults_of self.new ≡ faults_of self.old }
-        ensures why { self.new.why ≡ self.old.why }
+        ensures told { self.new.told ≡ self.old.told }
     {
         lengthen(&mut self.row, id as usize)
     }
@@ -214,7 +219,7 @@ impl<F: Storage + Drop, L: Seal> SealedDevice<F, L> {
         ensures same { self.new.row ≡ self.old.row }
         ensures storage { self.new.storage ≡ self.old.storage }
         ensures faults { self.new.faults ≡ self.old.faults }
-        ensures why { self.new.why ≡ self.old.why }
+        ensures told { self.new.told ≡ self.old.told }
     {
         self.last.clear();
         self.last.extend_from_slice(bytes).is_ok()
@@ -253,7 +258,7 @@ impl<F: Storage + Drop, L: Seal> Device for SealedDevice<F, L> {
 
     ghost forget_follows = { forget_leaves };
 
-    /// After a fault nothing is under the key, unless the storage was not called: then all is as it was.
+    /// Refused memory, or a key or bytes without a slot, all is as it was; after any other fault nothing is under the key.
     fn write(&mut self, id: u32, bytes: &[u8]) -> Result<(), DeviceFault>
         ensures set { OnOk result (bytes_at self.new id ≡ Some bytes.now) }
         ensures others { KeepsOthers (bytes_at self.old) (bytes_at self.new) id }
@@ -261,9 +266,10 @@ impl<F: Storage + Drop, L: Seal> Device for SealedDevice<F, L> {
         ensures honest { F.Storage.honest self.new.storage ≡ F.Storage.honest self.old.storage }
         ensures as_honest { is_honest self.new ≡ is_honest self.old }
         ensures left { OnErr result ((bytes_at self.new id ≡ None) ⊎ (bytes_at self.new id ≡ bytes_at self.old id)) }
-        ensures no_slot { (1024 ≤ id) ⊎ (1024 < length bytes.now) → (result ≡ Err Failed) × (self.new.why ≡ Some NoSlot) × (bytes_at self.new ≡ bytes_at self.old) }
-        ensures why { id < 1024 → length bytes.now ≤ 1024 → is_fault result ≡ true → StoppedWrite self.new.why }
-        ensures kept_why { is_fault result ≡ false → self.new.why ≡ self.old.why }
+        ensures no_slot { (1024 ≤ id) ⊎ (1024 < length bytes.now) → (result ≡ Err Failed) × (self.new.told ≡ Some record { key = id; why = NoSlot }) × (bytes_at self.new ≡ bytes_at self.old) }
+        ensures memory { result ≡ Err Memory → (q : ℕ) → bytes_at self.new q ≡ bytes_at self.old q }
+        ensures told { id < 1024 → length bytes.now ≤ 1024 → is_fault result ≡ true → StoppedWrite id self.new.told }
+        ensures kept_told { is_fault result ≡ false → self.new.told ≡ self.old.told }
     {
         if id >= KEYS || bytes.len() as u64 > SLOT {
             return Err(self.fail(id, FileFault::NoSlot));
@@ -280,16 +286,15 @@ impl<F: Storage + Drop, L: Seal> Device for SealedDevice<F, L> {
                 self.note(id, bytes.len() as u16, seal);
                 Ok(())
             }
-            Err(StorageFault::Memory) => Err(DeviceFault::Memory),
             Err(why) => Err(self.fail(id, FileFault::Storage(why))),
         }
     }
 
     fn read(&mut self, id: u32) -> Result<Vec<u8>, DeviceFault>
         ensures given { is_honest self.old ≡ true → IfOk result (λ bytes. IfSome (bytes_at self.old id) (λ stored. bytes.items ≡ stored)) }
-        ensures nothing { IfNone (bytes_at self.old id) ((result ≡ Err Failed) × (self.new.why ≡ Some Nothing)) }
-        ensures why { IfSome (bytes_at self.old id) (λ _. is_fault result ≡ true → StoppedRead (F.Storage.honest self.old.storage) self.new.why) }
-        ensures kept_why { is_fault result ≡ false → self.new.why ≡ self.old.why }
+        ensures nothing { IfNone (bytes_at self.old id) ((result ≡ Err Failed) × (self.new.told ≡ Some record { key = id; why = Nothing })) }
+        ensures told { IfSome (bytes_at self.old id) (λ _. is_fault result ≡ true → StoppedRead (F.Storage.honest self.old.storage) id self.new.told) }
+        ensures kept_told { is_fault result ≡ false → self.new.told ≡ self.old.told }
         ensures kept { bytes_at self.new ≡ bytes_at self.old }
         ensures faults { faults_of self.new ≡ counted (is_fault result) (faults_of self.old) }
         ensures storage { self.new.storage ≡ self.old.storage }
@@ -305,9 +310,9 @@ impl<F: Storage + Drop, L: Seal> Device for SealedDevice<F, L> {
     #[tactic(auto, using(crate::proofs::Rows::either))]
     fn read_into(&mut self, id: u32, buffer: &mut Vec<u8>) -> Result<(), DeviceFault>
         ensures given { is_honest self.old ≡ true → OnOk result (IfSome (bytes_at self.old id) (λ stored. buffer.new.items ≡ stored)) }
-        ensures nothing { IfNone (bytes_at self.old id) ((result ≡ Err Failed) × (self.new.why ≡ Some Nothing)) }
-        ensures why { IfSome (bytes_at self.old id) (λ _. is_fault result ≡ true → StoppedRead (F.Storage.honest self.old.storage) self.new.why) }
-        ensures kept_why { is_fault result ≡ false → self.new.why ≡ self.old.why }
+        ensures nothing { IfNone (bytes_at self.old id) ((result ≡ Err Failed) × (self.new.told ≡ Some record { key = id; why = Nothing })) }
+        ensures told { IfSome (bytes_at self.old id) (λ _. is_fault result ≡ true → StoppedRead (F.Storage.honest self.old.storage) id self.new.told) }
+        ensures kept_told { is_fault result ≡ false → self.new.told ≡ self.old.told }
         ensures kept { bytes_at self.new ≡ bytes_at self.old }
         ensures room { vec_capacity buffer.old ≤ vec_capacity buffer.new }
         ensures in_place { IfSome (bytes_at self.old id) (λ stored. length stored ≤ vec_capacity buffer.old → result ≢ Err Memory) }
@@ -331,7 +336,7 @@ impl<F: Storage + Drop, L: Seal> Device for SealedDevice<F, L> {
         ensures others { KeepsOthers (bytes_at self.old) (bytes_at self.new) id }
         ensures faults { faults_of self.new ≡ faults_of self.old }
         ensures storage { self.new.storage ≡ self.old.storage }
-        ensures why { self.new.why ≡ self.old.why }
+        ensures told { self.new.told ≡ self.old.told }
     {
         self.empty(id);
     }

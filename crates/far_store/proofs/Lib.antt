@@ -1,7 +1,9 @@
 pub mod Held
 pub mod Keeping
+pub mod Newcomers
 pub mod Objects
 pub mod Parts
+pub mod Shares
 pub mod Slices
 pub mod Steps
 pub mod Zeros

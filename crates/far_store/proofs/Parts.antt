@@ -1,10 +1,14 @@
 -- Which records a shard has, and where they stand.
-use Rattle.std.proofs.Common.{◌≡◌, ◌≢◌, ◌⊎◌, ℕ, ◌+◌, ◌*◌, ◌/◌, ◌%◌, ◌<◌, ◌≤◌, true, nat_lt, eqb, sym, ap, subst, ◌∙◌, inl, inr, arith}
+use Rattle.std.proofs.Common.{◌≡◌, ◌≢◌, ◌⊎◌, ℕ, ◌+◌, ◌-◌, ◌*◌, ◌/◌, ◌%◌, ◌<◌, ◌≤◌, true, nat_lt, eqb, sym, ap, subst, ◌∙◌, inl, inr, arith}
 use Rattle.std.proofs.lemmas.Bool.{and_from, and_parts, cases_lt, eq-eqb, eqb-true, lt-ltb, ltb-true}
-use Rattle.std.proofs.lemmas.Nat.{div-add-mod', div-mul-add, mod-mul-add}
+use Rattle.std.proofs.lemmas.Nat.{div-add-mod', div-mul-add, le-div, mod-mul-add}
 use Rattle.far_store.specs.Part.{has, number_at, object_for}
 use Rattle.far_store.specs.declared.layout.Part.{Part}
 use Rattle.far_store.specs.declared.layout.TheConstants.{PER_OBJECT, RECORD}
+
+-- a shard whose number is below that of all records has some
+pub some_of : (records shard shards : ℕ) → shard < shards → shard < records → 1 ≤ (records + (shards - 1 - shard)) / shards
+some_of records shard shards one some = le-div 1 (records + (shards - 1 - shard)) shards (omega arith) (omega arith)
 
 module _ (part : Part) (number : ℕ) where
   pub has_parts : has part number ≡ true → (number % part.shards ≡ part.shard) × (number / part.shards < part.count)

@@ -1,15 +1,8 @@
 -- A step of the thread that keeps logs free.
-use Rattle.std.proofs.Common.{ℕ, suc, zero, [], ◌∷◌, inr, arith}
-use Rattle.std.specs.Prelude.{Err, IfErr, Ok, Result}
-use Rattle.std.specs.List.{All}
-use Rattle.far_evac.specs.declared.answers.EvacFault.{EvacFault}
-use Rattle.far_heap.specs.HeapId.{HeapId}
-use Rattle.far_store.specs.FreeLogs.{IsUnmade, Stopped}
+use Rattle.std.proofs.Common.{◌≡◌, ℕ, true, List, [], ◌∷◌, length, nat_eq, refl, arith, eqb}
+use Rattle.std.proofs.lemmas.Bool.{eqb-true}
 
-pub all_one : {X : Type 0} (P : X → Type 0) (x : X) → P x → All P (x ∷ [])
-all_one P x is zero d lt = is
-all_one P x is (suc k) d lt = absurd (omega arith)
-
-pub stopped_unmade : {X : Type 0} (D : Type 0) (heap : HeapId) (free : ℕ) (result : Result X EvacFault) → IfErr result (Stopped D heap) → IfErr result (IsUnmade D heap free)
-stopped_unmade D heap free (Ok x) stopped = stopped
-stopped_unmade D heap free (Err fault) stopped = inr stopped
+-- no logs were chosen
+pub none_of : (logs : List ℕ) → nat_eq (length logs) 0 ≡ true → logs ≡ []
+none_of [] none = refl
+none_of (l ∷ ls) none = absurd (omega (arith, eqb-true (length (l ∷ ls)) 0 none))

@@ -3,9 +3,13 @@ use Rattle.std.proofs.Common.{◌≡◌, ◌≢◌, ◌⊎◌, ℕ, ◌-◌, ◌
 use Rattle.std.specs.Prelude.{replicate}
 use Rattle.std.proofs.lemmas.Bool.{cases_lt, false≢true}
 use Rattle.std.proofs.lemmas.List.{get_or_append_left, get_or-append_right}
+use Rattle.far_word.specs.declared.refused.Refused.{Refused}
+use Rattle.far_heap.specs.BookHad.{BookHad, LacksRoom, NoneFree}
+use Rattle.far_heap.specs.HeapId.{HeapId}
 use Rattle.far_heap.specs.Mine.{Mine, Object, adopting, known_bytes, len_of, object_of, owns, uses, zeros_known}
 use Rattle.far_heap.specs.MineLaw.{MineLaw}
-use Rattle.far_store.specs.Records.{AreZeros}
+use Rattle.far_store.specs.FreeLogs.{IsGivenUp}
+use Rattle.far_store.specs.Records.{AreZeros, IsNoShard}
 use Rattle.far_store.specs.declared.layout.TheConstants.{OBJECT}
 use Rattle.far_store.proofs.Objects.{adopted, adopted_other}
 
@@ -57,3 +61,9 @@ module _ (m : Mine) (law : MineLaw m) (objects : List ℕ) (zeros : AreZeros m o
 
   pub zeros_more : (k : Mine) (made : List ℕ) → k ≡ adopting p OBJECT ds m → made ≡ objects ++ p ∷ [] → AreZeros k made
   zeros_more k made is rows = subst (λ (o : Mine). AreZeros o made) (sym is) (subst (AreZeros n) (sym rows) more)
+
+-- ---- none was made
+pub no_shard : (D : Type 0) (heap : HeapId) (m : Mine) (number : ℕ) (over end : Type 0) (why : Refused) → m.number ≡ number → (over → end) → IsGivenUp D heap m OBJECT over why → IsNoShard D heap number end why
+no_shard D heap m number over end why same ends (inl long) = absurd (false≢true (sym long.1))
+no_shard D heap m number over end why same ends (inr (inl none)) = inr (inl (none.0, subst (λ (n : ℕ). BookHad D heap (NoneFree n)) same none.2))
+no_shard D heap m number over end why same ends (inr (inr full)) = inr (inr (full.0, subst (λ (n : ℕ). BookHad D heap (LacksRoom n OBJECT)) same full.2, ends full.3))

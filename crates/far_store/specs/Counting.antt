@@ -1,5 +1,5 @@
 -- Counts of what was done.
-use Rattle.std.specs.Prelude.{ℕ, ◌+◌, ◌-◌, ◌^◌, min, List, [], ◌∷◌}
+use Rattle.std.specs.Prelude.{ℕ, ◌+◌, ◌-◌, ◌^◌, min, List, [], ◌∷◌, ◌++◌}
 use Rattle.std.specs.List.{count_by, sum_by}
 use Rattle.far_evac.specs.declared.answers.Progress.{Progress}
 use Rattle.far_store.specs.declared.counts.Counts.{Counts}
@@ -34,4 +34,9 @@ abbrev pub turns_of : Made → List Progress
 turns_of Enough = []
 turns_of Unchosen = []
 turns_of Begun = []
-turns_of (Turned turn stands) = turn ∷ []
+turns_of (Turned turn) = turn ∷ []
+
+-- the turns of steps, of which the last stands first
+abbrev pub turns_in : List Made → List Progress
+turns_in [] = []
+turns_in (made ∷ steps) = turns_in steps ++ turns_of made

@@ -1,5 +1,6 @@
 -- How many logs were free, and what was done about it, while a heap's lock was held.
-use Rattle.std.specs.Prelude.{◌≡◌, ◌≢◌, ◌⊎◌, ◌<◌, ◌≤◌, ℕ, zero, suc, ◌+◌, true, false, List, []}
+use Rattle.std.specs.Prelude.{◌≡◌, ◌≢◌, ◌⊎◌, ◌<◌, ◌≤◌, ℕ, zero, suc, ◌+◌, true, false, List, [], ◌∷◌, Result, Ok, Err}
+use Rattle.far_log.specs.declared.row.LogRow.{LogRow}
 use Rattle.far_word.specs.declared.refused.Refused.{Refused}
 use Rattle.far_word.specs.declared.refused.Refused.TheVariants as refused
 use Rattle.far_table.specs.declared.book.BookSeat.{BookSeat}
@@ -8,7 +9,6 @@ use Rattle.far_hand.specs.Came.{Came}
 use Rattle.far_evac.specs.AnyTurns.{TurnsTo}
 use Rattle.far_evac.specs.ByCopying.{StopsBy}
 use Rattle.far_evac.specs.Census.{kind_in}
-use Rattle.far_evac.specs.Choosing.{after_selecting}
 use Rattle.far_evac.specs.EvacOf.{EvacOf, moment}
 use Rattle.far_evac.specs.Moment.{Moment, nothing, progress_of, tally_of}
 use Rattle.far_evac.specs.MomentLaw.{IsLawful}
@@ -21,6 +21,9 @@ use Rattle.far_evac.specs.declared.phase.Phase.TheVariants.{Evacuating, Idle}
 use Rattle.far_heap.specs.BookHad.{BookHad, LacksRoom, NoneFree}
 use Rattle.far_heap.specs.HeapId.{HeapId, heap_of}
 use Rattle.far_heap.specs.Mine.{Mine, is_length}
+use Rattle.far_heap.specs.Rounds.{Chooses, ChoosesNone}
+use Rattle.far_store.specs.declared.room.Made.{Made}
+use Rattle.far_store.specs.declared.room.Made.TheVariants as step
 
 abbrev pub one_if_free : LogKind → ℕ
 one_if_free Free = 1
@@ -44,15 +47,6 @@ IsBookOf heap e = (heap_of e.copying e.book.near ≡ heap) × IsLawful (moment s
 abbrev pub HadFree : (D : Type 0) → HeapId → ℕ → Type 0
 HadFree D heap free = (e : EvacOf (BookSeat D) D) × IsBookOf heap e × (e.phase ≡ Idle) × (free ≤ free_in e)
 
--- or fewer
-abbrev pub LacksFree : (D : Type 0) → HeapId → ℕ → Type 0
-LacksFree D heap free = (e : EvacOf (BookSeat D) D) × IsBookOf heap e × (e.phase ≡ Idle) × (free_in e < free)
-
--- or fewer, and a round of some of its logs was begun
-abbrev pub Begins : (D : Type 0) → HeapId → ℕ → Type 0
-Begins D heap free = (e : EvacOf (BookSeat D) D) × IsBookOf heap e × (e.phase ≡ Idle) × (free_in e < free)
-    × (f : EvacOf (BookSeat D) D) × Came seat_makes e.book.near f.book.near × (logs : List ℕ) × (logs ≢ []) × (moment seat_view f ≡ after_selecting (moment seat_view e) logs)
-
 -- there was a book of this heap in a round, and one turn of that, by the book's own calls alone, did this
 abbrev pub Turned : (D : Type 0) → HeapId → Progress → Type 0
 Turned D heap made = (e : EvacOf (BookSeat D) D) × IsBookOf heap e × (e.phase ≢ Idle)
@@ -64,9 +58,35 @@ Stopped D heap fault = (e : EvacOf (BookSeat D) D) × IsBookOf heap e × (e.phas
     × (f : EvacOf (BookSeat D) D) × Came seat_makes e.book.near f.book.near × StopsBy (moment seat_view e) turn_size (moment seat_view f) (tally_of fault.so_far)
     × ((fault.why ≡ refused.Memory) ⊎ (fault.why ≡ refused.Device))
 
--- why a step wasn't made: no round stood, too few logs were free, and none was begun, since the epochs are spent or the policy's choice was none; or that
-abbrev pub IsUnmade : (D : Type 0) → HeapId → ℕ → EvacFault → Type 0
-IsUnmade D heap free fault = (LacksFree D heap free × (fault.so_far ≡ progress_of nothing false)) ⊎ Stopped D heap fault
+-- ---- steps of who keeps logs free, and what became of the policy that chooses, at most so many logs
+module _ {P : Type 0} (gives : P → List LogRow → ℕ → Result (List ℕ) Refused → P → Type 0) (D : Type 0) (heap : HeapId) (free most : ℕ) where
+  -- no round stood, and fewer logs were free. The policy was asked, and chose these: their round was begun, if they are any
+  abbrev pub LackedAndChose : P → List ℕ → P → Type 0
+  LackedAndChose before logs after = (e : EvacOf (BookSeat D) D) × (f : EvacOf (BookSeat D) D) × (e.phase ≡ Idle) × (free_in e < free) × Chooses gives heap before most after logs e f
+
+  -- or none was begun, since the epochs are spent, or by the policy's refusal
+  abbrev pub LackedInVain : P → Refused → P → Type 0
+  LackedInVain before why after = (e : EvacOf (BookSeat D) D) × (e.phase ≡ Idle) × (free_in e < free) × ChoosesNone gives heap before most after why e e
+
+  abbrev pub IsStep : P → Made → P → Type 0
+  IsStep before step.Enough after = HadFree D heap free × (after ≡ before)
+  IsStep before step.Unchosen after = LackedAndChose before [] after
+  IsStep before step.Begun after = (logs : List ℕ) × (logs ≢ []) × LackedAndChose before logs after
+  IsStep before (step.Turned turn) after = Turned D heap turn × (after ≡ before)
+
+  -- why a step wasn't made
+  abbrev pub IsUnmade : P → EvacFault → P → Type 0
+  IsUnmade before fault after = ((fault.so_far ≡ progress_of nothing false) × LackedInVain before fault.why after) ⊎ (Stopped D heap fault × (after ≡ before))
+
+  -- steps one after the other, of which the last stands first. Others may have had the lock between any two
+  abbrev pub AreSteps : P → List Made → P → Type 0
+  AreSteps before [] after = after ≡ before
+  AreSteps before (made ∷ steps) after = (between : P) × AreSteps before steps between × IsStep between made after
+
+  -- no other was made, or one wasn't, for this reason
+  abbrev pub EndsSteps : P → Result (Unit {0}) EvacFault → P → Type 0
+  EndsSteps before (Ok x) after = after ≡ before
+  EndsSteps before (Err fault) after = IsUnmade before fault after
 
 -- why no object was made: the length is out of range; or, as the lock was held, none of the mutator's cells was free; or there was no room, and nobody is to
 -- wait for it any longer

@@ -2,6 +2,7 @@
 use Rattle.std.specs.Prelude.{◌≡◌, ◌≢◌, ◌⊎◌, ℕ, ◌+◌, ◌*◌, ◌<◌, ◌≤◌, Bool, true, false, Option, Some, None, option_map, List, length, replicate, slice_index, slice_range, if◌then◌else◌, Result, IfOk, IfErr, IfSome, OnErr, OnOk}
 use Rattle.far_word.specs.declared.refused.Refused.{Refused}
 use Rattle.far_word.specs.declared.refused.Refused.TheVariants.{Damaged, Memory, NoPointer, NoRoom}
+use Rattle.far_heap.specs.BookHad.{BookHad, LacksRoom, NoneFree}
 use Rattle.far_heap.specs.HeapId.{HeapId}
 use Rattle.far_heap.specs.Mine.{IsOf, IsUnbrought, Mine, bytes_in, len_in, object_of, rewritten, uses}
 use Rattle.far_store.specs.Part.{from_for, has, object_for}
@@ -84,9 +85,10 @@ pub record AreZeros (m : Mine) (objects : List ℕ) : Type 0 where
   pub apart : (i j : ℕ) → i < length objects → j < length objects → slice_index objects i ≡ slice_index objects j → i ≡ j
   pub zeros : m.honest ≡ true → (i : ℕ) → i < length objects → bytes_in m (slice_index objects i) ≡ Some (replicate OBJECT 0)
 
--- why no shard was made: memory was refused; the mutator had no pointer left; or there was no room, and nobody is to wait for it any longer
-abbrev pub IsNoShard : Type 0 → Refused → Type 0
-IsNoShard over why = (why ≡ Memory) ⊎ (why ≡ NoPointer) ⊎ ((why ≡ NoRoom) × over)
+-- why no shard was made of the mutator of this number: memory was refused; or, as the lock was held, none of its cells was free; or there was no room, and
+-- nobody is to wait for it any longer
+abbrev pub IsNoShard : (D : Type 0) → HeapId → ℕ → Type 0 → Refused → Type 0
+IsNoShard D heap number over why = (why ≡ Memory) ⊎ ((why ≡ NoPointer) × BookHad D heap (NoneFree number)) ⊎ ((why ≡ NoRoom) × BookHad D heap (LacksRoom number OBJECT) × over)
 
 abbrev pub IsShard : HeapId → Part → List ℕ → Option Mine → Type 0
 IsShard heap part objects mutator = (m : Mine) × (mutator ≡ Some m) × IsOf heap m × IsWhole part objects m

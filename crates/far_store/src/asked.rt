@@ -18,6 +18,9 @@ pub struct Asked {
     /// All shards' gets and puts together.
     pub operations: u64,
     pub seed: u64,
+    ghost logs_some: { 8 ≤ logs },
+    ghost logs_few: { logs ≤ 64 },
+    ghost records_some: { 0 < records },
     ghost some: { 0 < mutators },
     ghost few: { mutators ≤ MOST_MUTATORS },
 }

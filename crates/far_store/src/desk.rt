@@ -1,7 +1,8 @@
 //! A shard at work, beside a record of its own of all that was put.
 
-ghost use Rattle.std.specs.Prelude.{◌≡◌, ◌<◌, true, replicate, IfOk};
+ghost use Rattle.std.specs.Prelude.{◌≡◌, ◌+◌, ◌<◌, true, replicate, IfOk, OnOk};
 ghost use Rattle.std.specs.Vec.{vec_len};
+ghost use Rattle.far_store.specs.Counting.{told};
 ghost use Rattle.far_store.specs.Kept.{AreKept};
 
 use crate::counts::Counts;
@@ -22,22 +23,43 @@ pub struct Job<K: HeapName, D: Device + Drop> {
     pub part: Part,
     pub operations: u64,
     pub seed: u64,
+    ghost some: { 0 < operations → 0 < part.count },
+}
+
+impl<K: HeapName, D: Device + Drop> Job<K, D> {
+    /// Only a shard that has records gets operations.
+    pub fn new(mutator: Mutator<K, D>, part: Part, operations: u64, seed: u64) -> Job<K, D>
+        requires { 0 < operations → 0 < part.count }
+        ensures { result.operations ≡ operations }
+    {
+        Job {
+            mutator,
+            part,
+            operations,
+            seed,
+        }
+    }
 }
 
 /// What came of it.
 #[derive(Clone, Copy, Debug)]
 pub struct Told {
+    /// How many records were read or written at random.
+    pub operations: u64,
     /// How many records had other bytes than were put last, when they were read.
     pub wrong: u64,
+    /// A digest of all that was put last.
+    pub digest: u64,
     pub counts: Counts,
 }
 
-/// A shard, what was put into each of its records last, and how many records had other bytes.
+/// A shard, what was put into each of its records last, how many records had other bytes, and how often one was read or written.
 #[derive(Drop)]
 struct Desk<K: HeapName, D: Device + Drop> {
     shard: Shard<K, D>,
     kept: Vec<[u8; RECORD]>,
     wrong: u64,
+    made: u64,
     ghost many: { vec_len kept ≡ shard.part.count },
     ghost right: { K.heap.honest ≡ true → AreKept shard kept.items × (wrong ≡ 0) },
 }
@@ -60,12 +82,13 @@ impl<K: HeapName, D: Device + Drop> Desk<K, D> {
                 shard,
                 kept,
                 wrong: 0,
+                made: 0,
             }),
             Err(why) => Err(why),
         }
     }
 
-    // Puts bytes into a record.
+    // Puts bytes into a record, and counts that.
     fn put<R: Wait>(
         &mut self,
         rt: &R,
@@ -74,7 +97,8 @@ impl<K: HeapName, D: Device + Drop> Desk<K, D> {
         bytes: [u8; RECORD],
     ) -> Result<(), StoreFault>
         requires { at < self.old.shard.part.count }
-        ensures { self.new.shard.part ≡ self.old.shard.part }
+        ensures part { self.new.shard.part ≡ self.old.shard.part }
+        ensures made { OnOk result (self.new.made ≡ told (self.old.made + 1)) }
     {
         let number = self.shard.part().number(at);
         let done = self.shard.put(rt, number, &bytes, || signs.has_no_rounds());
@@ -82,19 +106,22 @@ impl<K: HeapName, D: Device + Drop> Desk<K, D> {
             return done;
         }
         self.kept[at as usize] = bytes;
+        self.made = self.made.saturating_add(1);
         Ok(())
     }
 
-    // Reads a record, and counts it if it is wrong.
+    // Reads a record, counts that, and also if it is wrong.
     fn check<R: Wait>(&mut self, rt: &R, signs: &Signs, at: u32) -> Result<(), StoreFault>
         requires { at < self.old.shard.part.count }
-        ensures { self.new.shard.part ≡ self.old.shard.part }
+        ensures part { self.new.shard.part ≡ self.old.shard.part }
+        ensures made { OnOk result (self.new.made ≡ told (self.old.made + 1)) }
     {
         let number = self.shard.part().number(at);
         let found = match self.shard.get(rt, number, || signs.has_no_rounds()) {
             Ok(found) => found,
             Err(why) => return Err(why),
         };
+        self.made = self.made.saturating_add(1);
         if found != self.kept[at as usize] {
             self.wrong = self.wrong.saturating_add(1);
         }
@@ -107,7 +134,9 @@ impl<K: HeapName, D: Device + Drop> Desk<K, D> {
         rt: &R,
         signs: &Signs,
         random: &mut Random,
-    ) -> Result<(), StoreFault> {
+    ) -> Result<(), StoreFault>
+        ensures { self.new.shard.part ≡ self.old.shard.part }
+    {
         let count = self.shard.part().count;
         for at in 0..count {
             if let Err(why) = self.put(rt, signs, at, random.bytes()) {
@@ -117,30 +146,43 @@ impl<K: HeapName, D: Device + Drop> Desk<K, D> {
         Ok(())
     }
 
-    // Reads or writes a record at random, so many times.
+    // Reads or writes a record at random.
+    fn use_one<R: Wait>(
+        &mut self,
+        rt: &R,
+        signs: &Signs,
+        random: &mut Random,
+    ) -> Result<(), StoreFault>
+        requires { 0 < self.old.shard.part.count }
+        ensures part { self.new.shard.part ≡ self.old.shard.part }
+        ensures made { OnOk result (self.new.made ≡ told (self.old.made + 1)) }
+    {
+        let at = random.below(self.shard.part().count);
+        if random.below(2) == 0 {
+            return self.put(rt, signs, at, random.bytes());
+        }
+        self.check(rt, signs, at)
+    }
+
+    // The same so many times: how often it was done.
     fn use_some<R: Wait>(
         &mut self,
         rt: &R,
         signs: &Signs,
         random: &mut Random,
         operations: u64,
-    ) -> Result<(), StoreFault> {
-        let count = self.shard.part().count;
-        if count == 0 {
-            return Ok(());
-        }
+    ) -> Result<u64, StoreFault>
+        requires { 0 < operations → 0 < self.old.shard.part.count }
+        ensures { IfOk result (λ made. made ≡ operations) }
+    {
+        self.made = 0;
         for _ in 0..operations {
-            let at = random.below(count);
-            let done = if random.below(2) == 0 {
-                self.put(rt, signs, at, random.bytes())
-            } else {
-                self.check(rt, signs, at)
-            };
-            if let Err(why) = done {
-                return Err(why);
+            match self.use_one(rt, signs, random) {
+                Ok(()) => {}
+                Err(why) => return Err(why),
             }
         }
-        Ok(())
+        Ok(self.made)
     }
 
     // Reads each record.
@@ -153,6 +195,23 @@ impl<K: HeapName, D: Device + Drop> Desk<K, D> {
         }
         Ok(())
     }
+
+    // A digest of all that was put last.
+    fn digest(&self) -> u64 {
+        let mut digest = 0u64;
+        for record in &self.kept {
+            digest = digested(digest, record);
+        }
+        digest
+    }
+}
+
+// A digest of bytes behind those that have this one.
+fn digested(mut digest: u64, bytes: &[u8]) -> u64 {
+    for byte in bytes {
+        digest = digest.wrapping_mul(31).wrapping_add(*byte as u64);
+    }
+    digest
 }
 
 // So many records of zeros.
@@ -175,7 +234,8 @@ pub fn work<K: HeapName, D: Device + Drop, R: Wait>(
     signs: &Signs,
     job: Job<K, D>,
 ) -> Result<Told, StoreFault>
-    ensures { K.heap.honest ≡ true → IfOk result (λ told. told.wrong ≡ 0) }
+    ensures right { K.heap.honest ≡ true → IfOk result (λ told. told.wrong ≡ 0) }
+    ensures made { IfOk result (λ told. told.operations ≡ job.operations) }
 {
     let mut random = Random::new(job.seed);
     let mut desk = match Desk::new(rt, alloc, job.mutator, job.part, signs) {
@@ -185,14 +245,17 @@ pub fn work<K: HeapName, D: Device + Drop, R: Wait>(
     if let Err(why) = desk.fill(rt, signs, &mut random) {
         return Err(why);
     }
-    if let Err(why) = desk.use_some(rt, signs, &mut random, job.operations) {
-        return Err(why);
-    }
+    let operations = match desk.use_some(rt, signs, &mut random, job.operations) {
+        Ok(made) => made,
+        Err(why) => return Err(why),
+    };
     if let Err(why) = desk.check_all(rt, signs) {
         return Err(why);
     }
     Ok(Told {
+        operations,
         wrong: desk.wrong,
+        digest: desk.digest(),
         counts: desk.shard.counts(),
     })
 }

@@ -37,12 +37,14 @@ impl Part {
     ghost use Rattle.far_store.specs.Part.{has, number_at};
 
     /// The part of one of so many shards, where all have `records` together, the numbers below that. It has at most 512.
+    #[tactic(auto, using(crate::proofs::Parts::some_of))]
     pub fn new(shard: u32, shards: u32, records: u32) -> Part
         requires one { shard < shards }
         requires few { shards ≤ MOST_MUTATORS }
         ensures shard { result.shard ≡ shard }
         ensures shards { result.shards ≡ shards }
         ensures count { result.count ≡ min ((records + (shards - 1 - shard)) / shards) MOST_RECORDS }
+        ensures some { shard < records → 0 < result.count }
     {
         let count = (records as u64 + (shards - 1 - shard) as u64) / shards as u64;
         Part {

@@ -29,13 +29,12 @@ fn words(rt: &HostRuntime) -> io::Result<Vec<String>> {
 
 // What came of it, and with `tells` what it took: whether all values were right.
 fn tell(rt: &impl Print, asked: Asked, told: &Told, tells: bool) -> io::Result<bool> {
-    let (records, operations) = (asked.records, asked.operations);
     println!(rt;
-        "records {records} operations {operations} wrong {}",
-        told.wrong
+        "records {} operations {} wrong {}",
+        asked.records, told.operations, told.wrong
     )?;
     if tells {
-        println!(rt; "{}", told.counts)?;
+        println!(rt; "{}\ndigest {}", told.counts, told.digest)?;
     }
     Ok(told.wrong == 0)
 }
@@ -59,7 +58,7 @@ fn status(
     }
 }
 
-// Over a file of a name that no file has yet, which is taken away afterwards.
+// Over a file of a name that no file has yet, nor has it once the file is open.
 fn over_file<R: Files<File = File> + AllocGlobal + Print + Eprint + Threads + Wait + Sync>(
     rt: &R,
     name: &str,
@@ -73,8 +72,8 @@ fn over_file<R: Files<File = File> + AllocGlobal + Print + Eprint + Threads + Wa
             return ExitCode::from(3);
         }
     };
-    let ended = over_storage(rt, rt.alloc(), file, asked);
     let _ = fs::remove_file(rt, name);
+    let ended = over_storage(rt, rt.alloc(), file, asked);
     status(rt, asked, ended, tells)
 }
 

@@ -1,7 +1,6 @@
 //! Room that another thread makes.
 
-ghost use Rattle.std.specs.Prelude.{◌≡◌, ◌≢◌, ◌++◌, [], List, Ok, true, false, IfOk, IfErr, OnErr};
-ghost use Rattle.std.specs.List.{All};
+ghost use Rattle.std.specs.Prelude.{◌≡◌, ◌≢◌, ◌++◌, List, true, false, IfOk, IfErr, OnErr};
 ghost use Rattle.far_table.specs.BookSeats.{seat_view};
 ghost use Rattle.far_evac.specs.EvacOf.{moment};
 ghost use Rattle.far_evac.specs.Moment.{nothing, progress_of};
@@ -9,9 +8,9 @@ ghost use Rattle.far_evac.specs.declared.answers.Progress.{Progress as progress}
 ghost use Rattle.far_evac.specs.declared.phase.Phase.TheVariants.{Idle};
 ghost use Rattle.far_heap.specs.BookHad.{BookHad, HasRoom};
 ghost use Rattle.far_heap.specs.Mine.{adopting, is_length, owns, uses};
-ghost use Rattle.far_store.specs.Counting.{counts_of, turns_of};
-ghost use Rattle.far_store.specs.FreeLogs.{Begins, HadFree, IsGivenUp, IsUnmade, LacksFree, Stopped, Turned, free_in};
-ghost use Rattle.far_store.specs.declared.room.Made.TheVariants as made;
+ghost use Rattle.far_store.specs.Counting.{counts_of, turns_in, turns_of};
+ghost use Rattle.far_store.specs.FreeLogs.{AreSteps, EndsSteps, IsGivenUp, IsStep, IsUnmade, Stopped, Turned, free_in};
+ghost use Rattle.far_store.specs.declared.room.Made.{Made as made};
 
 use crate::counts::Counts;
 use far_device::Device;
@@ -77,8 +76,8 @@ pub enum Made {
     Unchosen,
     /// No round stood, too few logs are free, and a round was begun.
     Begun,
-    /// A round stood, and made this turn, after which it stands in this phase, or is over.
-    Turned(Progress, Phase),
+    /// A round stood, and made this turn.
+    Turned(Progress),
 }
 
 fn nothing() -> Progress
@@ -94,17 +93,14 @@ fn nothing() -> Progress
 }
 
 // A round that stands goes on by a turn, whoever began it.
-fn go_on<K: HeapName, D: Device + Drop>(book: &mut Evacuator<K, D>) -> Result<Made, EvacFault>
+fn go_on<K: HeapName, D: Device + Drop>(book: &mut Evacuator<K, D>) -> Result<Progress, EvacFault>
     requires { book.old.phase ≢ Idle }
-    ensures enough { result ≢ Ok made.Enough }
-    ensures few { result ≢ Ok made.Unchosen }
-    ensures begins { result ≢ Ok made.Begun }
-    ensures turned { IfOk result (λ made. All (Turned D K.heap) (turns_of made)) }
+    ensures turned { IfOk result (Turned D K.heap) }
     ensures refused { IfErr result (Stopped D K.heap) }
 {
     book.keeps_law();
     match book.turn() {
-        Ok(turn) => Ok(Made::Turned(turn, book.phase())),
+        Ok(turn) => Ok(turn),
         Err(fault) => Err(fault),
     }
 }
@@ -117,11 +113,8 @@ fn begin<K: HeapName, D: Device + Drop, P: Policy>(
     most: usize,
 ) -> Result<Made, EvacFault>
     requires { book.old.phase ≡ Idle }
-    ensures enough { result ≡ Ok made.Enough → HadFree D K.heap free }
-    ensures few { result ≡ Ok made.Unchosen → LacksFree D K.heap free }
-    ensures begins { result ≡ Ok made.Begun → Begins D K.heap free }
-    ensures other { IfOk result (λ made. turns_of made ≡ []) }
-    ensures refused { IfErr result (λ fault. LacksFree D K.heap free × (fault.so_far ≡ progress_of nothing false)) }
+    ensures made { IfOk result (λ made. IsStep P.gives D K.heap free most policy.old made policy.new) }
+    ensures refused { IfErr result (λ fault. IsUnmade P.gives D K.heap free most policy.old fault policy.new) }
 {
     book.keeps_law();
     if free_logs(book) >= free {
@@ -145,18 +138,18 @@ fn make_step<K: HeapName, D: Device + Drop, R: Wait, P: Policy>(
     free: u64,
     most: usize,
 ) -> Result<Made, EvacFault>
-    ensures enough { result ≡ Ok made.Enough → HadFree D K.heap free }
-    ensures few { result ≡ Ok made.Unchosen → LacksFree D K.heap free }
-    ensures begins { result ≡ Ok made.Begun → Begins D K.heap free }
-    ensures turned { IfOk result (λ made. All (Turned D K.heap) (turns_of made)) }
-    ensures refused { IfErr result (IsUnmade D K.heap free) }
+    ensures made { IfOk result (λ made. IsStep P.gives D K.heap free most policy.old made policy.new) }
+    ensures refused { IfErr result (λ fault. IsUnmade P.gives D K.heap free most policy.old fault policy.new) }
 {
     let mut guard = heap.book(rt);
     let book = &mut *guard;
     if let Phase::Idle = book.phase() {
         return begin(book, policy, free, most);
     }
-    go_on(book)
+    match go_on(book) {
+        Ok(turn) => Ok(Made::Turned(turn)),
+        Err(fault) => Err(fault),
+    }
 }
 
 // Counts what a step did.
@@ -164,7 +157,7 @@ fn counted(counts: Counts, made: Made) -> Counts
     ensures { (turns : List progress) → counts ≡ counts_of turns → result ≡ counts_of (turns ++ turns_of made) }
 {
     match made {
-        Made::Turned(turn, _) => Counts {
+        Made::Turned(turn) => Counts {
             fetches: 0,
             evictions: counts.evictions.saturating_add(turn.far),
             moves: counts.moves.saturating_add(turn.moved),
@@ -191,8 +184,7 @@ pub fn keep_free<K: HeapName, D: Device + Drop, R: Wait, P: Policy, U: Fn() -> b
 ) -> (Counts, Result<(), EvacFault>)
     requires { U.IsAlwaysCallable until }
     ensures told { IfOk result.1 (λ _. U.post until true) }
-    ensures counted { (turns : List progress) × All (Turned D K.heap) turns × (result.0 ≡ counts_of turns) }
-    ensures refused { IfErr result.1 (IsUnmade D K.heap free) }
+    ensures steps { (steps : List made) × (last : P) × AreSteps P.gives D K.heap free most policy.old steps last × EndsSteps P.gives D K.heap free most last result.1 policy.new × (result.0 ≡ counts_of (turns_in steps)) }
 {
     let mut counts = Counts::none();
     for _ in rt.forever() {

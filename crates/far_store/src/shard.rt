@@ -66,7 +66,7 @@ fn make_objects<K: HeapName, D: Device + Drop, R: Wait, U: Fn() -> bool>(
     requires { U.IsAlwaysCallable until }
     ensures many { IfOk result (λ objects. length objects.items ≡ many) }
     ensures zeros { IfOk result (λ objects. AreZeros mutator.new objects.items) }
-    ensures refused { IfErr result (IsNoShard (U.post until true)) }
+    ensures refused { IfErr result (IsNoShard D K.heap mutator.old.number (U.post until true)) }
 {
     let Ok(mut objects) = Vec::with_capacity(alloc, many as usize) else {
         return Err(Refused::Memory);
@@ -111,7 +111,7 @@ fn counted(counts: Counts, took: Took) -> Counts {
 
 impl<K: HeapName, D: Device + Drop> Shard<K, D> {
     /// Makes the objects of a part's records, which are zeros first. While there is no room for one, other threads run, unless `until` answers true.
-    /// Refused `Heap` alone, with [`Refused::Memory`], with [`Refused::NoPointer`] if the mutator has other objects, or as that. The mutator is
+    /// Refused `Heap` alone, with [`Refused::Memory`], with [`Refused::NoPointer`] only where none of the mutator's cells was free, or as that. The mutator is
     /// dropped then.
     pub fn new<R: Wait, U: Fn() -> bool>(
         rt: &R,
@@ -123,7 +123,7 @@ impl<K: HeapName, D: Device + Drop> Shard<K, D> {
         requires { U.IsAlwaysCallable until }
         ensures part { IfOk result (λ shard. shard.part ≡ part) }
         ensures zeros { K.heap.honest ≡ true → IfOk result (λ shard. (number : ℕ) → has part number ≡ true → held shard number ≡ Some (replicate RECORD 0)) }
-        ensures refused { IfErr result (λ told. (why : refusal) × (told ≡ fault.Heap why) × IsNoShard (U.post until true) why) }
+        ensures refused { IfErr result (λ told. (why : refusal) × (told ≡ fault.Heap why) × IsNoShard D K.heap mutator.number (U.post until true) why) }
     {
         let many = part.count.div_ceil(PER_OBJECT);
         let mut counts = Counts::none();

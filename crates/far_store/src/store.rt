@@ -1,8 +1,10 @@
 //! A store: shards in threads, and a thread that keeps logs free for them.
 
-ghost use Rattle.std.specs.Prelude.{◌≡◌, ◌≤◌, ◌<◌, true, IfOk, OnOk};
+ghost use Rattle.std.specs.Prelude.{◌≡◌, ◌≤◌, ◌<◌, ◌+◌, min, true, IfOk, OnOk};
 ghost use Rattle.std.specs.List.{All};
-ghost use Rattle.far_store.specs.Kept.{AreRight, IsRight};
+ghost use Rattle.std.specs.Vec.{vec_len};
+ghost use Rattle.far_store.specs.Counting.{told};
+ghost use Rattle.far_store.specs.Kept.{AreRight, IsRight, made_in, sum_over};
 
 use crate::asked::Asked;
 use crate::counts::Counts;
@@ -40,6 +42,9 @@ pub enum RunFault {
     /// One of those was refused by the device, for this reason.
     #[error("{0}")]
     Far(FileFault),
+    /// The one that makes rounds has none: nobody would make room.
+    #[error("no thread could be made")]
+    Thread,
 }
 
 impl RunFault {
@@ -58,48 +63,82 @@ const MOST_LOGS: usize = 4;
 
 // How many logs are kept free: as long as one alone is, no object comes near.
 fn kept_free(logs: u64) -> u64
-    ensures { 2 ≤ result }
+    requires { 8 ≤ logs }
+    ensures least { 2 ≤ result }
+    ensures most { result + 2 ≤ logs }
 {
     logs / 16 + 2
 }
 
-// What is to be done by each shard.
+// How many of the operations that are left a shard makes: those from it on that have records share them out.
+#[tactic(auto, using(crate::proofs::Shares::share_most, crate::proofs::Shares::share_all))]
+fn share(asked: Asked, shard: u32, left: u64) -> u64
+    requires { shard < asked.mutators }
+    ensures most { result ≤ left }
+    ensures some { 0 < result → shard < asked.records }
+    ensures all { shard + 1 ≡ min asked.mutators asked.records → result ≡ left }
+{
+    let sharers = asked.mutators.min(asked.records);
+    if shard >= sharers {
+        return 0;
+    }
+    left / (sharers - shard) as u64
+}
+
+// What is to be done by a shard, if so many operations are left.
+fn job_of<K: HeapName, D: Device + Drop>(
+    mutator: Mutator<K, D>,
+    asked: Asked,
+    shard: u32,
+    left: u64,
+) -> Job<K, D>
+    requires { shard < asked.mutators }
+    ensures most { result.operations ≤ left }
+    ensures all { shard + 1 ≡ min asked.mutators asked.records → result.operations ≡ left }
+{
+    let part = Part::new(shard, asked.mutators, asked.records);
+    let operations = share(asked, shard, left);
+    let seed = asked.seed.wrapping_mul(8).wrapping_add(shard as u64);
+    Job::new(mutator, part, operations, seed)
+}
+
+// What is to be done by each shard: together what is asked for.
 fn jobs_of<K: HeapName, D: Device + Drop>(
     alloc: Global,
-    mutators: Vec<Mutator<K, D>>,
+    mut mutators: Vec<Mutator<K, D>>,
     asked: Asked,
-) -> Result<Vec<Job<K, D>>, AllocError> {
-    let mut jobs = Vec::new(alloc);
-    let mut shard = 0u32;
-    for mutator in mutators {
-        if shard >= asked.mutators {
-            break;
-        }
-        let part = Part::new(shard, asked.mutators, asked.records);
-        jobs.push(Job {
-            mutator,
-            part,
-            operations: asked.operations / asked.mutators as u64,
-            seed: asked.seed.wrapping_mul(8).wrapping_add(shard as u64),
-        })?;
-        shard += 1;
+) -> Result<Vec<Job<K, D>>, AllocError>
+    requires { vec_len mutators ≡ asked.mutators }
+    ensures { IfOk result (λ jobs. sum_over jobs.items (λ job. job.operations) ≡ asked.operations) }
+{
+    let mut jobs = Vec::with_capacity(alloc, asked.mutators as usize)?;
+    let mut left = asked.operations;
+    for shard in 0..asked.mutators {
+        let job = job_of(mutators.remove(0), asked, shard, left);
+        left -= job.operations;
+        jobs.push_reserved(job);
     }
     Ok(jobs)
 }
 
 // What all shards were told, if none was refused anything.
 fn sum_of(shards: &[Result<Told, StoreFault>]) -> Result<Told, StoreFault>
-    ensures { AreRight shards.now → IsRight result }
+    ensures right { AreRight shards.now → IsRight result }
+    ensures made { IfOk result (λ all. all.operations ≡ told (made_in shards.now)) }
 {
     let mut all = Told {
+        operations: 0,
         wrong: 0,
+        digest: 0,
         counts: Counts::none(),
     };
     for shard in shards {
         match shard {
             Ok(told) => {
                 all = Told {
+                    operations: all.operations.saturating_add(told.operations),
                     wrong: all.wrong.saturating_add(told.wrong),
+                    digest: all.digest.wrapping_add(told.digest),
                     counts: all.counts.with(told.counts),
                 };
             }
@@ -115,7 +154,8 @@ fn ended(
     counts: Counts,
     kept: Result<(), EvacFault>,
 ) -> Result<Told, RunFault>
-    ensures { IfOk worked (λ shards. AreRight shards.items) → IsRight result }
+    ensures right { IfOk worked (λ shards. AreRight shards.items) → IsRight result }
+    ensures made { IfOk worked (λ shards. IfOk result (λ all. all.operations ≡ told (made_in shards.items))) }
 {
     if let Err(fault) = kept {
         return Err(RunFault::Round(fault));
@@ -125,14 +165,14 @@ fn ended(
     };
     match sum_of(&shards) {
         Ok(told) => Ok(Told {
-            wrong: told.wrong,
             counts: told.counts.with(counts),
+            ..told
         }),
         Err(why) => Err(RunFault::Shard(why)),
     }
 }
 
-// All shards' work, each in a thread of its own.
+// All shards' work, each in a thread of its own; where none can be made one after the other, since none waits for another.
 fn work_all<K: HeapName + Send + Sync, D: Device + Drop + Send, R: Threads + Wait + Sync>(
     rt: &R,
     alloc: Global,
@@ -147,7 +187,7 @@ fn work_all<K: HeapName + Send + Sync, D: Device + Drop + Send, R: Threads + Wai
     thread::map_vec(rt, jobs, &each)
 }
 
-// All threads' work over a heap: each shard has one, and one keeps logs free.
+// All threads' work over a heap: each shard has one, and one keeps logs free. Without that nothing is begun.
 fn beside<K: HeapName + Send + Sync, D: Device + Drop + Send, R: Threads + Wait + Sync>(
     rt: &R,
     alloc: Global,
@@ -159,21 +199,27 @@ fn beside<K: HeapName + Send + Sync, D: Device + Drop + Send, R: Threads + Wait 
 {
     let signs = Signs::new();
     let passed = &signs;
-    let workers = || -> Result<Vec<Result<Told, StoreFault>>, AllocError>
-        ensures { K.heap.honest ≡ true → IfOk result (λ shards. AreRight shards.items) }
-    {
-        let worked = work_all(rt, alloc, passed, jobs);
-        passed.end_work();
-        worked
-    };
-    let keeper = || {
-        let free = kept_free(asked.logs);
-        let kept = keep_free(rt, heap, &mut Oldest, free, MOST_LOGS, || passed.is_done());
-        passed.end_rounds();
-        kept
-    };
-    let (worked, (counts, kept)) = thread::join(rt, workers, keeper);
-    ended(worked, counts, kept)
+    let free = kept_free(asked.logs);
+    thread::scope(
+        thread::scope_env(),
+        rt,
+        |scope| -> Result<Told, RunFault>
+            ensures { K.heap.honest ≡ true → IsRight result }
+        {
+            let keeper = move || {
+                let kept = keep_free(rt, heap, &mut Oldest, free, MOST_LOGS, || passed.is_done());
+                passed.end_rounds();
+                kept
+            };
+            let Ok(keeper) = scope.spawn(keeper) else {
+                return Err(RunFault::Thread);
+            };
+            let worked = work_all(rt, alloc, passed, jobs);
+            passed.end_work();
+            let (counts, kept) = keeper.join(rt);
+            ended(worked, counts, kept)
+        },
+    )
 }
 
 fn begun<K: HeapName + Send + Sync, D: Device + Drop + Send, R: Threads + Wait + Sync>(
@@ -182,7 +228,8 @@ fn begun<K: HeapName + Send + Sync, D: Device + Drop + Send, R: Threads + Wait +
     blank: Blank<D>,
     asked: Asked,
 ) -> Result<Told, RunFault>
-    requires { blank.heap ≡ K.heap }
+    requires name { blank.heap ≡ K.heap }
+    requires many { blank.heap.mutators ≡ asked.mutators }
     ensures { K.heap.honest ≡ true → IsRight result }
 {
     let (heap, mutators) = match Heap::<K, D>::new(alloc, blank) {

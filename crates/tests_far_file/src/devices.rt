@@ -87,7 +87,7 @@ struct Fall {
     faults: u64,
 }
 
-// A write that failed leaves nothing to read. A read takes no memory, so storage that says so has failed.
+// A write that failed leaves nothing to read. Memory that the storage wants is a fault of the storage.
 const FALLS: [Fall; 6] = [
     Fall {
         k: 1,
@@ -99,9 +99,9 @@ const FALLS: [Fall; 6] = [
     Fall {
         k: 1,
         why: StorageFault::Memory,
-        written: None,
+        written: Some(FileFault::Storage(StorageFault::Memory)),
         read: Some(FileFault::Nothing),
-        faults: 1,
+        faults: 2,
     },
     Fall {
         k: 2,
@@ -152,13 +152,14 @@ fn storage_fails_in_each_call(rt: HostRuntime) {
     }
 }
 
-// What a read answers over storage that lies, and why.
-fn of_crooked<L: Seal>(alloc: Global) -> (Option<u8>, Option<FileFault>) {
+// The first byte that a read of these answers over storage that inverts one, and why it answers none.
+fn of_crooked<L: Seal>(alloc: Global, bytes: &[u8], at: usize) -> (Option<u8>, Option<FileFault>) {
     let storage = Crooked {
         inner: MemStorage::new(alloc),
+        at,
     };
     let mut device = SealedDevice::<Crooked<MemStorage>, L>::new(alloc, storage);
-    let first = match there_and_back(&mut device, 3, FIRST) {
+    let first = match there_and_back(&mut device, 3, bytes) {
         Ok(bytes) => bytes.first().copied(),
         Err(_) => None,
     };
@@ -168,12 +169,42 @@ fn of_crooked<L: Seal>(alloc: Global) -> (Option<u8>, Option<FileFault>) {
 #[test]
 fn a_seal_tells_of_other_bytes(rt: HostRuntime) {
     let alloc = rt.alloc();
-    assert!(rt; of_crooked::<far_file::NoSeal>(alloc) == (Some(254), None));
-    assert!(rt; of_crooked::<Digest>(alloc) == (None, Some(FileFault::Misfit)));
-    assert!(rt; of_crooked::<WholeCopy>(alloc) == (None, Some(FileFault::Misfit)));
+    assert!(rt; of_crooked::<far_file::NoSeal>(alloc, FIRST, 0) == (Some(254), None));
+    assert!(rt; of_crooked::<Digest>(alloc, FIRST, 0) == (None, Some(FileFault::Misfit)));
+    assert!(rt; of_crooked::<WholeCopy>(alloc, FIRST, 0) == (None, Some(FileFault::Misfit)));
     let storage = Crooked {
         inner: MemStorage::new(alloc),
+        at: 0,
     };
     let mut copied = SealedDevice::<Crooked<MemStorage>, WholeCopy>::new(alloc, storage);
     assert!(rt; with_copies(&mut copied, 0, FIRST).is_err());
+}
+
+// Whether a digest tells of each byte that another came back.
+fn tells_of_each(alloc: Global, bytes: &[u8]) -> bool {
+    for at in 0..bytes.len() {
+        if of_crooked::<Digest>(alloc, bytes, at) != (None, Some(FileFault::Misfit)) {
+            return false;
+        }
+    }
+    true
+}
+
+const ZEROS: &[u8] = &[0; 1016];
+
+#[test]
+fn a_digest_tells_of_each_byte(rt: HostRuntime) {
+    assert!(rt; tells_of_each(rt.alloc(), ZEROS));
+}
+
+fn number_of(bytes: &[u8]) -> u64 {
+    Digest::of(bytes).number()
+}
+
+// What Rust's `DefaultHasher` answers, as rustc 1.95 compiles it, which was given these bytes by one `write`.
+#[test]
+fn digests_are_those_of_rust(rt: HostRuntime) {
+    assert!(rt; number_of(&[]) == 15_130_871_412_783_076_140);
+    assert!(rt; number_of(FIRST) == 6_984_003_033_159_075_747);
+    assert!(rt; number_of(ZEROS) == 6_170_154_366_017_713_102);
 }

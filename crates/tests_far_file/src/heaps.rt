@@ -24,7 +24,7 @@ const SHAPE: Shape = Shape {
     epoch: 0,
 };
 
-// Whether a call was refused `Device`, and what the handle told then: of a round that sends object 0 far, and of a view that brings it.
+// Whether a call was refused `Device`, and what the handle told then: of a round that sends object 0 far, and perhaps 1, and of a view that brings 0.
 type Told = (bool, Option<KeyFault>);
 
 // What a fault of object 0 is told as.
@@ -45,15 +45,16 @@ fn makes_three<K: HeapName, D: Device + Drop, R: Wait>(
     Ok(())
 }
 
-// What is told of a round, and of a view after it, before which a file is cut.
+// What is told of a round of so many logs, and of a view after it, before which a file is cut.
 fn told_of<K: HeapName, D: Device + Drop, R: Wait>(
     rt: &R,
     heap: &Heap<K, D>,
     mutator: Mutator<K, D>,
     last: &LastFault,
+    most: usize,
     cut: Option<&File>,
 ) -> (Told, Told) {
-    let round = heap.run_round(rt, &mut Oldest, 1, 9);
+    let round = heap.run_round(rt, &mut Oldest, most, 9);
     let round = matches!(round, Err(fault) if fault.why == Refused::Device);
     let left = (round, last.get());
     if let Some(file) = cut {
@@ -71,6 +72,7 @@ fn runs<K: HeapName, D: Device + Drop, R: Wait>(
     alloc: Global,
     blank: Blank<D>,
     last: &LastFault,
+    most: usize,
     cut: Option<&File>,
 ) -> Option<(Told, Told)>
     requires { blank.heap ≡ K.heap }
@@ -78,7 +80,7 @@ fn runs<K: HeapName, D: Device + Drop, R: Wait>(
     let (heap, mutators) = Heap::<K, D>::new(alloc, blank).ok()?;
     let mut mutator = mutators.into_iter().next()?;
     makes_three(rt, &mut mutator).ok()?;
-    Some(told_of(rt, &heap, mutator, last, cut))
+    Some(told_of(rt, &heap, mutator, last, most, cut))
 }
 
 // The same on a heap over a device.
@@ -86,11 +88,12 @@ fn asked<F: Storage + Drop, L: Seal, R: Wait>(
     rt: &R,
     alloc: Global,
     mut device: SealedDevice<F, L>,
+    most: usize,
     cut: Option<&File>,
 ) -> Option<(Told, Told)> {
     let last = device.last_fault().ok()?;
     let blank = Blank::new(alloc, SHAPE, device).ok()?;
-    runs::<Brand, _, R>(rt, alloc, blank, &last, cut)
+    runs::<Brand, _, R>(rt, alloc, blank, &last, most, cut)
 }
 
 #[test]
@@ -98,7 +101,7 @@ fn a_full_disk_is_told(rt: HostRuntime) -> Result<(), Fail> {
     let file = NewFile::new().replacing().open(&rt, "/dev/full")?;
     let device = FileDevice::<File>::new(rt.alloc(), file);
     let full = refused(FileFault::Storage(StorageFault::Full));
-    assert!(rt; asked(&rt, rt.alloc(), device, None) == Some((full, (false, full.1))));
+    assert!(rt; asked(&rt, rt.alloc(), device, 1, None) == Some((full, (false, full.1))));
     Ok(())
 }
 
@@ -108,7 +111,7 @@ fn a_file_that_is_cut_short_is_told(rt: HostRuntime) -> Result<(), Fail> {
     let other = file.try_clone()?;
     let device = FileDevice::<File>::new(rt.alloc(), file);
     let short = refused(FileFault::Storage(StorageFault::Short));
-    assert!(rt; asked(&rt, rt.alloc(), device, Some(&other)) == Some((NONE, short)));
+    assert!(rt; asked(&rt, rt.alloc(), device, 1, Some(&other)) == Some((NONE, short)));
     Ok(())
 }
 
@@ -116,9 +119,12 @@ fn a_file_that_is_cut_short_is_told(rt: HostRuntime) -> Result<(), Fail> {
 fn other_bytes_are_told(rt: HostRuntime) {
     let storage = Crooked {
         inner: MemStorage::new(rt.alloc()),
+        at: 0,
     };
     let device = SealedDevice::<Crooked<MemStorage>, Digest>::new(rt.alloc(), storage);
-    assert!(rt; asked(&rt, rt.alloc(), device, None) == Some((NONE, refused(FileFault::Misfit))));
+    assert!(rt;
+        asked(&rt, rt.alloc(), device, 1, None) == Some((NONE, refused(FileFault::Misfit)))
+    );
 }
 
 #[test]
@@ -131,6 +137,16 @@ fn storage_that_fails_is_told(rt: HostRuntime) {
     ] {
         let storage = Breaking::new(MemStorage::new(rt.alloc()), k, StorageFault::Failed);
         let device = FileDevice::<Breaking<MemStorage>>::new(rt.alloc(), storage);
-        assert!(rt; asked(&rt, rt.alloc(), device, None) == Some(answer));
+        assert!(rt; asked(&rt, rt.alloc(), device, 1, None) == Some(answer));
     }
+}
+
+#[test]
+fn the_key_that_failed_is_told(rt: HostRuntime) {
+    let why = FileFault::Storage(StorageFault::Failed);
+    let second = Some(KeyFault { key: 1, why });
+    let storage = Breaking::new(MemStorage::new(rt.alloc()), 2, StorageFault::Failed);
+    let device = FileDevice::<Breaking<MemStorage>>::new(rt.alloc(), storage);
+    let told = asked(&rt, rt.alloc(), device, 2, None);
+    assert!(rt; told == Some(((true, second), (false, second))));
 }

@@ -49,10 +49,11 @@ impl<F: Storage + Drop> Storage for Breaking<F> {
     }
 }
 
-/// Storage that inverts the first byte of each read.
+/// Storage that inverts a byte of each read, counted from 0.
 #[derive(Drop)]
 pub(crate) struct Crooked<F: Storage + Drop> {
     pub(crate) inner: F,
+    pub(crate) at: usize,
 }
 
 impl<F: Storage + Drop> Storage for Crooked<F> {
@@ -66,7 +67,7 @@ impl<F: Storage + Drop> Storage for Crooked<F> {
 
     fn get(&self, at: u64, buffer: &mut [u8]) -> Result<(), StorageFault> {
         let answer = self.inner.get(at, buffer);
-        if let Some(byte) = buffer.first_mut() {
+        if let Some(byte) = buffer.get_mut(self.at) {
             *byte = !*byte;
         }
         answer

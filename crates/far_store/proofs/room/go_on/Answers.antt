@@ -1,11 +1,7 @@
-use Rattle.far_store.specs.FreeLogs.{Turned}
-use Rattle.far_store.proofs.Steps.{all_one}
 use Rattle.far_store.proofs.room.go_on.Goals as goal
 
 pub returns-in-Ok-clause-turned : goal.returns-in-Ok-clause-turned
-returns-in-Ok-clause-turned g c =
-    let law = c.keeps_law.ensures in
-    all_one (Turned g.row.D.Denot g.K.HeapName.heap) c.in-Ok.turn
+returns-in-Ok-clause-turned g c = let law = c.keeps_law.ensures in
     (c.args.book.now, (law.named, (law.law, law.moment)), c.requires, c.turn.new.self, c.turn.ensures.came, c.in-Ok.ensures.turns)
 
 pub returns-in-Err-clause-refused : goal.returns-in-Err-clause-refused

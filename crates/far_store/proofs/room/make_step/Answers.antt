@@ -1,11 +1,5 @@
-use Rattle.far_store.proofs.Steps.{stopped_unmade}
+use Rattle.std.proofs.Common.{refl}
 use Rattle.far_store.proofs.room.make_step.Goals as goal
 
-pub returns : goal.returns
-returns g c = record {
-  enough = λ is. absurd (c.go_on.ensures.enough is);
-  few = λ is. absurd (c.go_on.ensures.few is);
-  begins = λ is. absurd (c.go_on.ensures.begins is);
-  turned = c.go_on.ensures.turned;
-  refused = stopped_unmade g.row.D.Denot g.K.HeapName.heap c.args.free c.go_on.result c.go_on.ensures.refused;
-}
+pub returns-in-Ok-clause-made : goal.returns-in-Ok-clause-made
+returns-in-Ok-clause-made g c = (c.in-Ok.ensures.turned, refl)

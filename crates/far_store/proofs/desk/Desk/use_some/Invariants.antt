@@ -2,4 +2,7 @@ use Rattle.std.proofs.Common.{◌≡◌}
 use Rattle.far_store.proofs.desk.Desk.use_some.Given as goal
 
 abbrev pub invariant-loop : goal.invariant-loop
-invariant-loop g l = l.self.shard.part.count ≡ l.count
+invariant-loop g l = record {
+  part : l.self.shard.part ≡ l.fn.self.shard.part;
+  made : l.self.made ≡ l.counter;
+}

@@ -1,0 +1,13 @@
+use Rattle.std.proofs.Common.{◌≡◌, ◌+◌, ◌≤◌, min, vec_capacity}
+use Rattle.std.specs.Vec.{vec_len}
+use Rattle.far_store.specs.Kept.{sum_over}
+use Rattle.far_store.proofs.store.jobs_of.Given as goal
+
+abbrev pub invariant-loop-shard : goal.invariant-loop-shard
+invariant-loop-shard g l = record {
+  many : vec_len l.mutators + l.shard ≡ l.asked.mutators;
+  sum : sum_over l.jobs.items (λ job. job.operations) + l.left ≡ l.asked.operations;
+  all : min l.asked.mutators l.asked.records ≤ l.shard → l.left ≡ 0;
+  made : vec_len l.jobs ≡ l.shard;
+  room : l.asked.mutators ≤ vec_capacity l.jobs;
+}
