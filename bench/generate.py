@@ -9,7 +9,7 @@ import random
 import sys
 from pathlib import Path
 
-LIMIT = 1_048_576
+LIMIT, CELLS = 1_048_576, 256
 OBJECTS = 56  # for each mutator
 
 
@@ -23,7 +23,7 @@ def access(limit: int) -> str:
     size = sum(len(line) + 1 for line in lines)
     while True:
         mutator = choice.randrange(8)
-        pointer = 128 * mutator + choice.randrange(OBJECTS)
+        pointer = CELLS * mutator + choice.randrange(OBJECTS)
         start = 8 * choice.randrange(8)
         pair = [
             f"write {mutator} {pointer} {start} {choice.getrandbits(64):016x}",
@@ -42,7 +42,7 @@ def churn(limit: int) -> str:
     size = len(lines[0]) + 1
     for turn in range(limit):
         mutator = turn % 8
-        pair = [f"new {mutator} 8 1", f"drop {mutator} {128 * mutator}"]
+        pair = [f"new {mutator} 8 1", f"drop {mutator} {CELLS * mutator}"]
         more = sum(len(line) + 1 for line in pair)
         if size + more > limit:
             break

@@ -14,14 +14,15 @@ import shlex
 import subprocess
 import sys
 
-LIMIT, BAR, ROUND = 1_048_576, 1.6, "round oldest 1 1000\n"
+LIMIT, LOG_BYTES, CELLS, MOST = 1_048_576, 4_096, 256, 4_088
+BAR, ROUND = 1.6, "round oldest 1 1000\n"
 SERIES = [
     ("live objects of the chosen log, sent far", "chosen", (0, 16, 32, 48, 64), {}),
     ("live objects of the chosen log, moved", "chosen", (0, 16, 32, 48, 64), {"hot": True}),
     ("other sealed logs", "logs", (1, 4, 16, 48), {}),
     ("live objects of 12 other logs", "others", (0, 192, 384, 768), {"logs": 12}),
     ("objects that are far", "far", (0, 64, 256, 512), {}),
-    ("mutators, of 128 cells each", "mutators", (1, 2, 4, 8), {}),
+    (f"mutators, of {CELLS} cells each", "mutators", (1, 2, 4, 8), {}),
 ]
 
 
@@ -39,14 +40,14 @@ def instructions(command: list, text: str) -> int:
 def many_rounds() -> str:
     """A thousand objects of eight mutators; again and again some are reached, and logs are emptied, by one command or by many."""
     choice = random.Random(3)
-    objects = [(m, 128 * m + k, choice.randint(1, 32)) for k in range(125) for m in range(8)]
+    objects = [(m, CELLS * m + k, choice.randint(1, 200)) for k in range(125) for m in range(8)]
     lines = ["heap 64 8", *(f"new {m} {length} {m}" for m, _, length in objects)]
     size, turn = sum(len(line) + 1 for line in lines), 0
     while True:
         turn += 1
         more = [f"open {m}" for m in range(8)]
         for m, p, length in choice.sample(objects, 40):
-            more.append(choice.choice((f"view {m} {p}", f"read {m} {p} 0 {length}", f"write {m} {p} 0 {choice.randrange(256):02x}")))
+            more.append(choice.choice((f"view {m} {p}", f"read {m} {p} 0 {min(length, 32)}", f"write {m} {p} 0 {choice.randrange(256):02x}")))
         more += [f"close {m}" for m in range(8)]
         if turn % 4:
             more.append(f"round {choice.choice(('oldest', 'leastlive'))} {choice.choice((4, 8, 16))} 1000")
@@ -59,29 +60,29 @@ def many_rounds() -> str:
 
 
 def heap(chosen: int = 32, hot: bool = False, logs: int = 4, others: int = 0, far: int = 0, mutators: int = 8) -> str:
-    """A heap whose oldest sealed log has so many live objects; so many sealed logs with so many live objects come after it. All objects have 8 bytes."""
-    lines, free = [f"heap 64 {mutators}"], list(range(128 * mutators))
+    """A heap whose oldest sealed log has so many live objects; so many sealed logs with so many live objects come after it. All objects have 56 bytes."""
+    lines, free = [f"heap 64 {mutators}"], list(range(CELLS * mutators))
 
     def log(live: int) -> list:
         """Fills a log with 64 objects, of which so many live on."""
         made = [free.pop(0) for _ in range(64)]
-        lines.extend(f"new {p // 128} 8 1" for p in made)
-        lines.extend(f"drop {p // 128} {p}" for p in made[live:])
+        lines.extend(f"new {p // CELLS} 56 1" for p in made)
+        lines.extend(f"drop {p // CELLS} {p}" for p in made[live:])
         free[:] = sorted(free + made[live:])
         return made[:live]
 
     for _ in range(far // 64):
         log(64)
     last = free[0]
-    lines += [f"new {last // 128} 1016 1", "round oldest 64 1000", f"drop {last // 128} {last}"]
+    lines += [f"new {last // CELLS} {MOST} 1", "round oldest 64 1000", f"drop {last // CELLS} {last}"]
     oldest = log(chosen)
     lines.append("round oldest 1 1000")
     for _ in range(logs):
         log(others // logs)
-    lines.append(f"new {free[0] // 128} 8 1")
+    lines.append(f"new {free[0] // CELLS} 56 1")
     if hot:
-        for m in sorted({p // 128 for p in oldest}):
-            lines += [f"open {m}", *(f"view {m} {p}" for p in oldest if p // 128 == m), f"close {m}"]
+        for m in sorted({p // CELLS for p in oldest}):
+            lines += [f"open {m}", *(f"view {m} {p}" for p in oldest if p // CELLS == m), f"close {m}"]
     return "\n".join(lines) + "\n"
 
 
@@ -114,10 +115,11 @@ def emptied(log: str) -> list:
 
 def far_again(command: list, size: int, written: bool) -> int:
     """What a round costs that sends objects of so many bytes, a log full of them, far again: as they came near, or written since."""
-    count = 1024 // (8 + 8 * -(-size // 8))
-    lines = ["heap 16 1", *(f"new 0 {size} 1" for _ in range(count)), "new 0 1016 1", *emptied("0")]
-    lines += ["open 0", *(f"read 0 {p} 0 1" for p in range(count)), *(f"write 0 {p} 0 ff" for p in range(count) if written), "close 0", "new 0 1016 1"]
-    lines += [*emptied(log_of(command, lines, 0)), "new 0 1016 1"]
+    count = LOG_BYTES // (8 + 8 * -(-size // 8))
+    filler = f"new 1 {MOST} 1"
+    lines = ["heap 16 2", *(f"new 0 {size} 1" for _ in range(count)), filler, *emptied("0")]
+    lines += ["open 0", *(f"read 0 {p} 0 1" for p in range(count)), *(f"write 0 {p} 0 ff" for p in range(count) if written), "close 0", filler]
+    lines += [*emptied(log_of(command, lines, 0)), filler]
     last = emptied(log_of(command, lines, 0))
     texts = ["\n".join([*text, ""]) for text in (lines, lines + last)]
     assert f"far {count} " in output(command, texts[1]).split(b"\n")[-2].decode()
@@ -136,7 +138,7 @@ def main() -> int:
           f"a line {counts[0] / lines:.1f} to {counts[1] / lines:.1f}; ratio {ratio:.2f}, the bar is {BAR}")
     alike = all(grows(programs, *series) for series in SERIES)
     print("outputs are equal" if alike else "OUTPUTS DIFFER")
-    for size in (8, 64, 1016):
+    for size in (8, 64, MOST):
         clean, dirty = (far_again(programs[0], size, written) for written in (False, True))
         print(f"a log of objects of {size} bytes sent far again: {clean:,} as they came, {dirty:,} written since, ratio {clean / dirty:.2f}")
     return 0 if alike and ratio <= BAR else 1

@@ -1,6 +1,7 @@
 #!/usr/bin/env python3
-"""Times far_store's gets and puts over memory and over a file: 64 logs, 1,000 records, 2 shards. The time of a run that makes none is taken away, which
-fills the records and reads them at the end. Prints operations a second of both, and the part of memory's that a file's are; status 1 below a half.
+"""Times far_store's gets and puts over memory and over a file: 14 logs, 1,000 records, of which some 700 have room in them, 2 shards. The time of a run
+that makes none is taken away, which fills the records and reads them at the end. Prints operations a second of both, and the part of memory's that a file's
+are; status 1 below a half.
 usage: store.py [PROGRAM [RUNS]]; the runs of both take turns, and the medians are told."""
 import os
 import statistics
@@ -15,7 +16,7 @@ OPERATIONS = 40_000
 
 def took(program, side, operations):
     begun = time.monotonic()
-    words = [program, side, "64", "2", "1000", str(operations), "1"]
+    words = [program, side, "14", "2", "1000", str(operations), "1"]
     told = subprocess.run(words, check=True, capture_output=True, text=True).stdout
     assert told == f"records 1000 operations {operations} wrong 0\n", told
     return time.monotonic() - begun

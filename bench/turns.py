@@ -3,7 +3,7 @@
 
     bench/turns.py [PROGRAM]     PROGRAM: crates/bench_far_heap/out/bench_far_heap, which `rt run` builds
 
-Sixteen objects of 1,016 bytes, all viewed, leave a log each. `turns COPIERS STEPS` makes the first so many of three steps, in one thread: a turn; all copies that
+Sixteen objects of 4,088 bytes, all viewed, leave a log each. `turns COPIERS STEPS` makes the first so many of three steps, in one thread: a turn; all copies that
 it offered; and the turn after that, which takes the copies over and gives the logs back. Without copiers the first turn does all. A step costs what a run with it
 has more than the run before. All is counted twice, and must come to the same.
 

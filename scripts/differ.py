@@ -9,7 +9,7 @@ import re
 import subprocess
 import sys
 
-TEXT_LIMIT, LINE_LIMIT, LOG_BYTES, CELLS, MOST = 1_048_576, 4_096, 1_024, 128, 1_016
+TEXT_LIMIT, LINE_LIMIT, LOG_BYTES, CELLS, MOST = 1_048_576, 16_384, 4_096, 256, 4_088
 LAST_EPOCH, LAST_NUMBER = 2**62 - 1, 2**64 - 1
 NUMBER = re.compile(rb"0|[1-9][0-9]{0,19}")
 HEX = re.compile(rb"([0-9a-fA-F]{2})+")
@@ -420,10 +420,10 @@ class Writer:
             self.shape = (*self.shape[:2], self.choice.choice((LAST_EPOCH + 1, LAST_NUMBER)))
         elif self.choice.random() < 0.05:
             self.shape = (self.choice.choice((0, 1, 2, 64, 65, LAST_NUMBER)), self.choice.choice((0, 1, 8, 9, 2**32 + 1)))
-        self.largest, self.rounds = self.choice.choice((1, 9, 40, 300, MOST, MOST)), self.choice.choice((0, 4, 20, 20))
+        self.largest, self.rounds = self.choice.choice((1, 9, 160, 1_200, MOST, MOST)), self.choice.choice((0, 4, 20, 20))
         # How often an access is a write, how many objects of a mutator are in use, and how often all others are sent far.
         self.writes, self.few, self.sweeps = self.choice.choice((0.5, 0.1)), self.choice.choice((3, CELLS, CELLS)), self.choice.choice((0, 0, 6))
-        self.is_unsettled = False
+        self.is_unsettled, self.news = False, self.choice.choice((10, 10, 40))
 
     def odd(self, good: int) -> int:
         """The number, or now and then one that is seldom good."""
@@ -504,7 +504,7 @@ class Writer:
     def line(self) -> str:
         m = self.choice.randrange(len(self.heap.scopes))
         kinds = ("new", "access", "open", "close", "where", "drop", "view", "try", "epoch", "log", "logs", "audit", "", "# words", "turn", "sweep")
-        kind = self.choice.choices(kinds, (10, 30, 8, 2, 4, 4, 3, 3, 4, 2, 1, 1, 1, 1, self.rounds, self.sweeps))[0]
+        kind = self.choice.choices(kinds, (self.news, 30, 8, 2, 4, 4, 3, 3, 4, 2, 1, 1, 1, 1, self.rounds, self.sweeps))[0]
         if kind in ("", "# words"):
             return kind
         made = self.sweep(m) if kind == "sweep" else [kind if kind in ("logs", "audit") else self.operands(kind, m)]
@@ -533,7 +533,7 @@ class Writer:
     def flaw(self):
         """Gives the heap a device that is flawed, most often soon, or at a call that is settled later; rounds are to send it objects."""
         self.rounds, self.few, self.sweeps = self.choice.choice(((20, CELLS, 0), (20, 3, 6), (0, 3, 12)))
-        self.largest, self.is_unsettled = self.choice.choice((40, 300, MOST)), self.sweeps > 0 and self.choice.random() < 0.7
+        self.largest, self.is_unsettled = self.choice.choice((160, 1_200, MOST)), self.sweeps > 0 and self.choice.random() < 0.7
         soon, late = self.choice.randint(1, 30), self.choice.randint(1, 300)
         if self.is_unsettled:
             self.writes, self.few = self.choice.choice((0.1, 0.1, 0.5)), 2

@@ -248,7 +248,7 @@ class SplitWriter(Writer):
     def __init__(self, seed: str):
         super().__init__(seed)
         shape = self.choice.choice((2, 3, 4, 5, 9, 16, 64, 64)), self.choice.choice((1, 2, 3, 4, 8))
-        weights, self.pause, self.largest = self.WEIGHTS, 0, self.choice.choice((1, 9, 40, 100, 300, MOST))
+        weights, self.pause, self.largest = self.WEIGHTS, 0, self.choice.choice((1, 9, 160, 400, 1_200, MOST))
         if self.choice.random() < 0.4:  # so that what is brought goes far again before it is in use again
             shape = self.choice.choice((3, 4, 5, 9)), self.choice.choice((1, 1, 2, 3))
             self.largest, self.few, self.pause = MOST, 3, self.choice.choice((2, 4, 8))

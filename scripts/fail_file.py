@@ -17,8 +17,8 @@ import sys
 import tempfile
 
 HERE = os.path.dirname(os.path.abspath(__file__))
-# A slot has 1,024 bytes, and two mutators have 256 of them: none has room, or some have, in part or whole, or all.
-LIMITS = (0, 1, 100, 1_024, 1_100, 4_096, 50_100, 140_000, 200_123, 262_144, 1 << 20)
+# A slot has 4,096 bytes, and two mutators have 512 of them: none has room, or some have, in part or whole, or all.
+LIMITS = (0, 1, 100, 4_096, 4_200, 16_384, 200_400, 1_120_000, 1_300_123, 2_097_152, 1 << 23)
 # Of the first calls each, and then some.
 CALLS = (*range(1, 33), *range(33, 1_000, 149), 1 << 40)
 ASKED = ("8", "2", "1000", "400", "1")

@@ -16,12 +16,12 @@ echo 'refused 1' >"$work/refused"
 wrong=0
 
 plain() { # a round that moves one object and sends one far, which is read
-    printf 'heap 4 1\nnew 0 8 1\nnew 0 8 1\nopen 0\nwrite 0 0 0 0102030405060708\nclose 0\nnew 0 1016 1\nround oldest 1 9\n'
+    printf 'heap 4 1\nnew 0 8 1\nnew 0 8 1\nopen 0\nwrite 0 0 0 0102030405060708\nclose 0\nnew 0 4088 1\nround oldest 1 9\n'
     printf 'where 0 0\nwhere 0 1\nround oldest 1 9\nopen 0\nread 0 0 0 8\nread 0 1 0 8\nwhere 0 1\n'
 }
 
 hot() { # a hot object goes far, since its owner took the last log
-    printf 'heap 4 1\nnew 0 1016 1\nnew 0 1016 1\nnew 0 1016 1\nopen 0\nview 0 0\nclose 0\nselect oldest 2\nmark 9\nwait\nopen 0\n'
+    printf 'heap 4 1\nnew 0 4088 1\nnew 0 4088 1\nnew 0 4088 1\nopen 0\nview 0 0\nclose 0\nselect oldest 2\nmark 9\nwait\nopen 0\n'
     printf 'view 0 1\nevacuate 9\nwhere 0 0\nevacuate 9\nwhere 0 0\n'
 }
 
@@ -30,7 +30,7 @@ much() { # more output than waits before it is written
 }
 
 failing() { # a device that fails once, and much output before and after each command that takes memory
-    printf 'heap 64 1\ndevice fail 3\nnew 0 8 1\nnew 0 1016 1\nnew 0 1016 1\n'
+    printf 'heap 64 1\ndevice fail 3\nnew 0 8 1\nnew 0 4088 1\nnew 0 4088 1\n'
     much
     printf 'select oldest 1\nmark 9\nwait\n'
     much
@@ -43,11 +43,11 @@ failing() { # a device that fails once, and much output before and after each co
 
 many() { # rounds that send many objects away, each after another one that may have been stopped, and views that bring some back; one of these isn't written, and goes again
     printf 'heap 9 2\n'
-    for ((i = 0; i < 60; i++)); do printf 'new %d 40 1\n' $((i % 2)); done
-    printf 'new 0 1016 1\nround oldest 9 30\nevacuate 3\nevacuate 99\nopen 0\n'
+    for ((i = 0; i < 60; i++)); do printf 'new %d 184 1\n' $((i % 2)); done
+    printf 'new 0 4088 1\nround oldest 9 30\nevacuate 3\nevacuate 99\nopen 0\n'
     for ((i = 0; i < 9; i++)); do printf 'write 0 %d 0 %02x\n' "$i" "$i"; done
-    printf 'close 0\nnew 1 1016 1\nnew 0 1016 1\nround leastlive 9 30\nabort\nround oldest 9 30\nopen 0\nread 0 3 0 2\nread 0 20 0 2\nclose 0\n'
-    for ((i = 0; i < 3; i++)); do printf 'new 1 1016 1\nround oldest 9 30\nround oldest 9 30\n'; done
+    printf 'close 0\nnew 1 4088 1\nnew 0 4088 1\nround leastlive 9 30\nabort\nround oldest 9 30\nopen 0\nread 0 3 0 2\nread 0 20 0 2\nclose 0\n'
+    for ((i = 0; i < 3; i++)); do printf 'new 1 4088 1\nround oldest 9 30\nround oldest 9 30\n'; done
     printf 'where 0 20\nopen 0\nread 0 20 0 2\n'
 }
 

@@ -22,7 +22,7 @@ declare -A words_of=([alone]=4 [copier]='4 1' [few_logs]=1 [no_copiers]='4 0') #
 shape='logs, mutators or first epoch out of range'
 
 row() { # the calls as a trace
-    printf 'heap 4 1\nnew 0 8 1\nnew 0 8 1\nopen 0\nwrite 0 0 0 0102030405060708\nclose 0\nnew 0 1016 1\nround oldest 1 9\n'
+    printf 'heap 4 1\nnew 0 8 1\nnew 0 8 1\nopen 0\nwrite 0 0 0 0102030405060708\nclose 0\nnew 0 4088 1\nround oldest 1 9\n'
     printf 'where 0 0\nwhere 0 1\nlog 0\nlog 1\nlog 2\naudit\nopen 0\nread 0 0 0 8\nread 0 1 0 8\nwhere 0 1\nclose 0\nevacuate 16\nlogs\naudit\naudit\n'
 }
 

@@ -21,9 +21,9 @@ HERE = os.path.dirname(os.path.abspath(__file__))
 ROUNDS = (b"log 0\n" * 60 + b"round oldest 1 1000\n") * 12
 TEXT = b"""heap 6 2
 new 0 8 1
-new 0 1016 1
+new 0 4088 1
 new 1 16 2
-new 1 1016 2
+new 1 4088 2
 audit
 %sopen 0
 write 0 0 0 0102030405060708
@@ -31,8 +31,8 @@ read 0 0 0 8
 view 0 1
 close 0
 open 1
-read 1 128 0 16
-try 1 129
+read 1 256 0 16
+try 1 257
 close 1
 logs
 round leastlive 2 1000

@@ -46,15 +46,15 @@ given 'heap 1 1\nx'
 expect 'a line before a shape' 2 'refused 16 2' ''
 given 'heap 4 1\nselect script 1\n'
 expect 'a script without logs' 2 'refused 16 2' ''
-given 'heap 4 1\nnew 0 8 1\nnew 0 1016 1\nopen 0\nround oldest 1 18446744073709551615\nwait\nabort\nabort\n'
+given 'heap 4 1\nnew 0 8 1\nnew 0 4088 1\nopen 0\nround oldest 1 18446744073709551615\nwait\nabort\nabort\n'
 expect 'commands of rounds, refused and not' 0 "$(printf 'ok\npointer 0\npointer 1\nok\nround limit waiting\nrefused 18 0 0\nok\nrefused 12')" ''
 
 given '' split
 expect 'empty input, split' 0 'book' ''
 given '# a comment alone\n' split
 expect 'a comment alone, split' 0 'book' ''
-given 'heap 4 2\nnew 0 8 1\nnew 1 8 1\nopen 0\nwrite 0 0 0 0a\nread 0 0 0 1\nopen 1\nread 1 128 0 1\n' split
-expect 'two mutators, split' 0 "$(printf 'mutator 0\npointer 0\nok\nok\ndata 0a\nmutator 1\npointer 128\nok\ndata 00\nbook')" ''
+given 'heap 4 2\nnew 0 8 1\nnew 1 8 1\nopen 0\nwrite 0 0 0 0a\nread 0 0 0 1\nopen 1\nread 1 256 0 1\n' split
+expect 'two mutators, split' 0 "$(printf 'mutator 0\npointer 0\nok\nok\ndata 0a\nmutator 1\npointer 256\nok\ndata 00\nbook')" ''
 given 'heap 4 1\nclose 0\nlog 4\nround oldest 1 9' split
 expect 'refused lines, split' 0 "$(printf 'mutator 0\nrefused 5\nbook\nrefused 8\nround none')" ''
 given 'heap 4 1\nnew 0 8 1\nround oldest 1 9\nepoch 0\n' split

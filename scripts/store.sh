@@ -56,13 +56,13 @@ END
 for side in memory far.bin; do
     for logs in 8 64; do
         for mutators in 1 2 8; do
-            expect "$side $logs $mutators" 0 'records 500 operations 2000 wrong 0' '' "$side" "$logs" "$mutators" 500 2000 7
+            expect "$side $logs $mutators" 0 'records 1000 operations 2000 wrong 0' '' "$side" "$logs" "$mutators" 1000 2000 7
         done
     done
-    expect "$side, all records" 0 'records 4096 operations 0 wrong 0' '' "$side" 64 8 4096 0 7
+    expect "$side, all records" 0 'records 8192 operations 0 wrong 0' '' "$side" 64 8 8192 0 7
     expect "$side, fewer records than shards" 0 'records 3 operations 90 wrong 0' '' "$side" 8 8 3 90 7
     # what outgrows the logs comes back from the far side
-    for asked in '2 500 2001 7' '3 500 2000 8'; do
+    for asked in '2 1000 2001 7' '3 1000 2000 8'; do
         "$program" "$side" 8 $asked tell >out
         if ! grep -qE '^fetches [1-9][0-9]* evictions [1-9][0-9]* moves [0-9]+ rounds [1-9][0-9]* waits [0-9]+$' out || ! grep -qx "digest $(digest $asked)" out; then
             echo "store: $side $asked: $(cat out)" >&2
@@ -73,7 +73,7 @@ done
 
 usage='usage: far_store memory|FILE LOGS MUTATORS RECORDS OPERATIONS SEED [tell]'
 for words in '' memory 'memory 8 2 500 2000' 'memory 7 2 500 2000 7' 'memory 65 2 500 2000 7' 'memory 8 0 500 2000 7' 'memory 8 9 500 2000 7' \
-    'memory 8 2 0 2000 7' 'memory 8 2 1025 2000 7' 'memory 8 2 500 x 7' 'memory 8 2 500 2000 -7' 'memory 8 2 500 2000 7 told' 'memory 8 2 500 2000 7 tell 1'; do
+    'memory 8 2 0 2000 7' 'memory 8 2 2049 2000 7' 'memory 8 2 500 x 7' 'memory 8 2 500 2000 -7' 'memory 8 2 500 2000 7 told' 'memory 8 2 500 2000 7 tell 1'; do
     expect "'$words'" 2 '' "$usage" $words
 done
 got=0

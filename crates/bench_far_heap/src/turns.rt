@@ -44,8 +44,8 @@ fn turn<K: HeapName, R: Wait>(rt: &R, heap: &Heap<K, MemDevice>) -> Result<u64, 
     }
 }
 
-/// So many of these steps, three at most: a turn in which sixteen objects of 1,016 bytes, all viewed, leave as many logs; all copies that were offered then; and a
-/// turn after that.
+/// So many of these steps, three at most: a turn in which sixteen of the longest objects, all viewed, leave as many logs; all copies that were offered then; and
+/// a turn after that.
 pub(crate) fn steps<K: HeapName, R: Wait>(
     rt: &R,
     heap: &Heap<K, MemDevice>,

@@ -1,13 +1,22 @@
-// A table as long as that of a heap, and 128 words more, under a rule that says nothing, shared as those of owners in threads are; and what is counted on it.
-ghost use Rattle.std.specs.Prelude.{◌≡◌, ◌<◌, length};
+// A table as long as that of the largest heap, and a log's words more, under a rule that says nothing, shared as those of owners in threads are; and what is counted on it.
+ghost use Rattle.std.specs.Prelude.{◌≡◌, ◌+◌, ◌<◌, length};
 ghost use Rattle.std.specs.Arc.{arc_value};
+ghost use Rattle.far_table.specs.Layout.{TABLE_WORDS};
+ghost use Rattle.far_word.specs.declared.sizes.TheConstants.{LOG_WORDS};
 
 use crate::turn::Turn;
 use atomic_table::{Play, Seat, Table, TableRule};
+use far_word::{JOBS, LOG_WORDS, MOST_LOGS, MOST_MUTATORS, POINTERS};
 use std::alloc::{AllocError, Global};
 use std::sync::Arc;
 
-pub(crate) const WORDS: usize = 9520;
+// Where the words of jobs stand, behind the split's, the epoch's, the scopes' and the cells.
+pub(crate) const JOBS_AT: usize = 16 * (2 + MOST_MUTATORS as usize) + POINTERS as usize;
+
+// Where those of the logs stand.
+pub(crate) const LOGS: usize = JOBS_AT + JOBS as usize;
+
+pub(crate) const WORDS: usize = LOGS + (MOST_LOGS as usize + 1) * LOG_WORDS as usize;
 
 pub(crate) struct Anything;
 
@@ -28,7 +37,7 @@ impl Play<u64, u64> for Nothing {
 pub(crate) struct Bare {
     table: Arc<Table<u64, u64, u64, Anything, Global>, Global>,
     seat: Seat<u64, u64>,
-    ghost fits: { (seat.table_id ≡ (arc_value table).shared.table_id) × ((arc_value table).shared.table_id.words ≡ 9520) },
+    ghost fits: { (seat.table_id ≡ (arc_value table).shared.table_id) × ((arc_value table).shared.table_id.words ≡ TABLE_WORDS + LOG_WORDS) },
 }
 
 impl Bare {
@@ -39,7 +48,7 @@ impl Bare {
 
     /// Of these words.
     pub(crate) fn of(alloc: Global, words: &[u64]) -> Result<Bare, AllocError>
-        requires { length words.now ≡ 9520 }
+        requires { length words.now ≡ TABLE_WORDS + LOG_WORDS }
     {
         let (table, seat) = Table::of_words(alloc, words, &0)?;
         let table = Arc::new(alloc, table)?;
@@ -47,14 +56,14 @@ impl Bare {
     }
 
     pub(crate) fn load(&mut self, word: usize) -> u64
-        requires { word < 9520 }
+        requires { word < TABLE_WORDS + LOG_WORDS }
     {
         let Bare { table, seat } = self;
         table.shared.load::<Nothing>(seat, word)
     }
 
     pub(crate) fn store(&mut self, word: usize, new: u64) -> u64
-        requires { word < 9520 }
+        requires { word < TABLE_WORDS + LOG_WORDS }
     {
         let Bare { table, seat } = self;
         table.shared.store::<Nothing>(seat, word, new);
@@ -62,21 +71,21 @@ impl Bare {
     }
 
     fn fetch_or(&mut self, word: usize) -> u64
-        requires { word < 9520 }
+        requires { word < TABLE_WORDS + LOG_WORDS }
     {
         let Bare { table, seat } = self;
         table.shared.fetch_or::<Nothing>(seat, word, 1 << 62)
     }
 
     fn fetch_and(&mut self, word: usize) -> u64
-        requires { word < 9520 }
+        requires { word < TABLE_WORDS + LOG_WORDS }
     {
         let Bare { table, seat } = self;
         table.shared.fetch_and::<Nothing>(seat, word, !(1 << 61))
     }
 
     pub(crate) fn compare_exchange(&mut self, word: usize, old: u64, new: u64) -> u64
-        requires { word < 9520 }
+        requires { word < TABLE_WORDS + LOG_WORDS }
     {
         let Bare { table, seat } = self;
         table

@@ -1,17 +1,14 @@
 // A copier on a bare table, written by hand for speed: the same work as that of a copier's seat, with the same answers. It proves nothing of a job but that its
 // words lie within the table.
 ghost use Rattle.std.specs.Prelude.{◌+◌, ◌<◌, ◌≤◌};
+ghost use Rattle.far_table.specs.Layout.{LOGS_AT, TABLE_WORDS};
+ghost use Rattle.far_word.specs.declared.sizes.TheConstants.{JOBS, LOG_WORDS, POINTERS};
 
-use crate::bare::{Bare, WORDS};
+use crate::bare::{Bare, JOBS_AT, LOGS, WORDS};
 use crate::turn::Turn;
-use far_word::{JOBS, Job, JobWord, Place};
+use far_word::{JOBS, Job, JobWord, LOG_BYTES, LOG_WORDS, MOST_LOGS, Place};
 use std::alloc::{AllocError, Global};
 use std::mem;
-
-// Where the words of jobs stand, and those of the logs.
-const JOBS_AT: usize = 1184;
-
-const LOGS: usize = 1200;
 
 /// A job that was claimed: where its word stands, the word that offered it, and where the next word of the source stands, that of the target, and the source's end.
 #[derive(Drop)]
@@ -21,7 +18,7 @@ pub(crate) struct HandJob {
     from: usize,
     to: usize,
     end: usize,
-    ghost inside: { (at < 1200) × (from ≤ end) × (end ≤ 9520) × (to + end ≤ 9520 + from) },
+    ghost inside: { (at < LOGS_AT) × (from ≤ end) × (end ≤ TABLE_WORDS + LOG_WORDS) × (to + end ≤ TABLE_WORDS + LOG_WORDS + from) },
 }
 
 /// A copier, with what it adds to the word that offers a job, when it takes the job and when it has finished it.
@@ -34,16 +31,18 @@ pub(crate) struct HandCopier {
 
 // Where the header at a place stands, by the bits of a job's word from that place on.
 fn head_at(bits: u64) -> usize
-    ensures { result < 9392 }
+    ensures { result < TABLE_WORDS }
 {
-    (((bits >> 10) & 63) * 128 + (bits & 127)) as usize + LOGS
+    let log = (bits >> 10) % MOST_LOGS as u64;
+    let at = bits % LOG_WORDS as u64;
+    (log * LOG_WORDS as u64 + at) as usize + LOGS
 }
 
 impl HandCopier {
     /// Copier 7 on a bare table in which this job is offered: the copy of an object of 64 bytes from the start of log 0 to that of log 2.
     pub(crate) fn new(alloc: Global, pointer: u16, job: usize) -> Result<HandCopier, AllocError>
-        requires pointer { pointer < 1024 }
-        requires job { job < 16 }
+        requires pointer { pointer < POINTERS }
+        requires job { job < JOBS }
     {
         let (from, to) = (Place { log: 0, at: 0 }, Place { log: 2, at: 0 });
         let offered = JobWord::Offered {
@@ -51,7 +50,7 @@ impl HandCopier {
         };
         let mut words = vec![in alloc; 0; WORDS]?;
         words[JOBS_AT + job] = offered.pack();
-        words[LOGS] = 0xa100_0000_0001_0040 | (pointer as u64) << 24;
+        words[LOGS] = 0xa200_0000_0100_0040 | (pointer as u64) << 32;
         Ok(HandCopier {
             bare: Bare::of(alloc, words.as_slice())?,
             taking: (7 << 58) + (1 << 62),
@@ -70,7 +69,7 @@ impl HandCopier {
     }
 
     fn take(&mut self, at: usize) -> Option<u64>
-        requires { at < 1200 }
+        requires { at < LOGS_AT }
     {
         let word = self.bare.load(at);
         if word >> 62 != 1 {
@@ -82,12 +81,12 @@ impl HandCopier {
     }
 
     fn begin(&mut self, at: usize, offered: u64) -> HandJob
-        requires { at < 1200 }
+        requires { at < LOGS_AT }
     {
         let source = head_at(offered >> 16);
         let head = self.bare.load(source);
         let from = source + 1;
-        let words = ((head & 1023) + 7) / 8;
+        let words = (head % LOG_BYTES as u64 + 7) / 8;
         HandJob {
             at,
             offered,

@@ -27,7 +27,7 @@ pub(crate) const EMPTY: u8 = 2;
 
 // Places an object of 64 bytes at the start of a log, if the pointer and the log are free.
 fn places(core: &mut Core, pointer: u16, log: u8) -> bool {
-    let word = 0xa100_0000_0001_0040 | (pointer as u64) << 24;
+    let word = 0xa200_0000_0100_0040 | (pointer as u64) << 32;
     let put = Event::Put { log, at: 0, word };
     let new = 0x8600_0000_0001_0040 | (log as u64) << 34;
     let name = Event::Name {

@@ -40,7 +40,7 @@ fn begins(core: &mut Core, pointer: u16) -> bool {
 // Offers the copy of that object to the start of the empty log, if it has 64 bytes.
 fn offers(core: &mut Core, pointer: u16, job: u8) -> bool {
     let log = EMPTY;
-    let word = 0xa100_0000_0001_0040 | (pointer as u64) << 24;
+    let word = 0xa200_0000_0100_0040 | (pointer as u64) << 32;
     let to = Place { log, at: 0 };
     let head = Event::Put { log, at: 0, word };
     let last = Event::Put {

@@ -4,7 +4,7 @@ ghost use Rattle.far_word.specs.declared.sizes.TheConstants.{JOBS};
 ghost use Rattle.far_table.specs.BookSeats.{seat_view};
 ghost use Rattle.bench_far_table.specs.Offers.{Copyable, InRound};
 
-use crate::bare::Bare;
+use crate::bare::{Bare, JOBS_AT};
 use crate::hand::BookHand;
 use crate::turn::Turn;
 use far_device::MemDevice;
@@ -112,7 +112,7 @@ impl Turn for HandOffers {
             let from = (self.from.log as u64) << 26 | (self.from.at as u64) << 16;
             let to = (self.to.log as u64) << 44 | (self.to.at as u64) << 34;
             let word = self.pointer as u64 | from | to | 1 << 62;
-            self.bare.store(self.job as usize + 1184, word);
+            self.bare.store(self.job as usize + JOBS_AT, word);
             self.done = true;
         }
         0

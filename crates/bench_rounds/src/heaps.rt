@@ -5,7 +5,7 @@ use far_core::{Core, Event, Reply, Shape};
 use far_device::MemDevice;
 use far_evac::Evac;
 use far_table::BookSeat;
-use far_word::{Mark, Refused};
+use far_word::{CELLS, Mark, Refused};
 use std::alloc::Global;
 use tests_owner::Owner;
 
@@ -90,7 +90,7 @@ fn place<N: Near + Drop>(evac: &mut Evac<N, MemDevice>) -> Option<u16> {
 // Brings a far object near: whether it was far and came.
 #[tactic(auto, using(crate::proofs::Begins::far_home))]
 fn fetches<N: Near + Drop>(evac: &mut Evac<N, MemDevice>, pointer: u16) -> bool {
-    if pointer as u64 >= 128 * evac.book().shape().mutators {
+    if pointer as u64 >= CELLS as u64 * evac.book().shape().mutators {
         return false;
     }
     let Some(Home::Far { .. }) = evac.locate(pointer) else {
@@ -102,7 +102,7 @@ fn fetches<N: Near + Drop>(evac: &mut Evac<N, MemDevice>, pointer: u16) -> bool 
 // Moves a near object that was asked for.
 #[tactic(auto, using(crate::proofs::Begins::quiet_home))]
 fn moves<N: Near + Drop>(evac: &mut Evac<N, MemDevice>, pointer: u16) -> bool {
-    if pointer as u64 >= 128 * evac.book().shape().mutators {
+    if pointer as u64 >= CELLS as u64 * evac.book().shape().mutators {
         return false;
     }
     let Some(Home::Near { marks, .. }) = evac.locate(pointer) else {

@@ -1,14 +1,14 @@
 //! What the effects of the book's calls are made of, as contracts of functions that do nothing.
 
 ghost use Rattle.std.specs.Prelude.{◌≡◌, ◌*◌, ◌<◌, ◌≤◌, ℕ, true};
-ghost use Rattle.far_book.specs.book.Ages.{FetchingSealsBehind, MovingSealsBehind, PlacingSealsBehind, WithoutKeepsAges};
+ghost use Rattle.far_book.specs.book.Ages.{FetchingSealsBehind, MovingSealsBehind, OfferingSealsBehind, PlacingSealsBehind, WithoutKeepsAges};
 ghost use Rattle.far_book.specs.book.Actions.{EventsAreActions, LoadsGiveStored};
-ghost use Rattle.far_book.specs.book.Collecting.{NamedAreCopies, NoneFinished, NoneOffered};
+ghost use Rattle.far_book.specs.book.Collecting.{EmptiedAreVoid, NamedAreCopies, NoneFinished, NoneOffered};
 ghost use Rattle.far_book.specs.book.Laws.{EvictingIsLegal, PlacingIsLegal, RetiringIsLegal, FetchingIsLegal, MovingIsLegal, ReleasingIsLegal, StayingIsLegal};
 ghost use Rattle.far_book.specs.book.Offering.{OffersAreJobs};
 ghost use Rattle.far_book.specs.book.SealedLogs.{SealedLogsKept};
 ghost use Rattle.far_book.specs.book.NextLive.{LivesFromStart, LivesBehind, SpansAreBounded};
-ghost use Rattle.far_book.specs.worked.JobRows.{CopyIsOffered, DroppedIsntNamed, FinishedIsNamed, FinishedStays, LeftIsntNamed, LowestIsNext, MovedIsntNamed, NowhereToCopy, OfferedIsTakenBack, OldIsntNamed, TakenStays, VoidIsEmpty};
+ghost use Rattle.far_book.specs.worked.JobRows.{AskedIsNamed, CopyIsOffered, DroppedIsntNamed, DroppedStaysOffered, FinishedIsNamed, FinishedStays, LastLogIsOffered, LeftIsntNamed, LowestIsNext, MovedIsntNamed, NowhereToCopy, OfferedIsTakenBack, OldIsntNamed, SealedTargetIsNamed, TakenStays, VoidIsEmpty};
 
 /// Placing a new object where room is leads from a state to the next by legal events of the core: its header and zeros are
 /// put, and its cell is named. So the law of the core is kept, and the world makes one step: the object. Its cell says near at
@@ -64,21 +64,23 @@ pub fn sealed_logs_stay()
     ensures { SealedLogsKept }
 {}
 
-/// The sealed logs stand by their age: what placing, fetching and moving seal comes behind those that were sealed before, and nothing else does; a log that is
-/// given back leaves the others in their order.
+/// The sealed logs stand by their age: what placing, fetching, moving and offering seal comes behind those that were sealed before, and nothing else does; a log
+/// that is given back leaves the others in their order.
 pub fn order_is_by_age()
     ensures placed { PlacingSealsBehind }
     ensures fetched { FetchingSealsBehind }
     ensures moved { MovingSealsBehind }
+    ensures offered { OfferingSealsBehind }
     ensures released { WithoutKeepsAges }
 {}
 
 /// A job that is offered says whose object a copier may copy, from where to where. Once jobs were collected none is known to be
-/// finished; one that was named was found finished and stood, and its pointer names its target from then on. Once jobs were taken
-/// back none is known to be offered.
+/// finished; one that was named was found finished and stood, and its pointer names its target from then on. One that was emptied and not
+/// named is void, or was found finished, and its object dropped. Once jobs were taken back none is known to be offered.
 pub fn jobs_come_and_go()
     ensures offered { OffersAreJobs }
     ensures named { NamedAreCopies }
+    ensures emptied { EmptiedAreVoid }
     ensures collected { NoneFinished }
     ensures taken_back { NoneOffered }
 {}
@@ -88,7 +90,10 @@ pub fn jobs_are_so()
     ensures copy_is_offered { CopyIsOffered }
     ensures finished_is_named { FinishedIsNamed }
     ensures moved_isnt_named { MovedIsntNamed }
+    ensures asked_is_named { AskedIsNamed }
+    ensures sealed_target_is_named { SealedTargetIsNamed }
     ensures dropped_isnt_named { DroppedIsntNamed }
+    ensures dropped_stays_offered { DroppedStaysOffered }
     ensures old_isnt_named { OldIsntNamed }
     ensures left_isnt_named { LeftIsntNamed }
     ensures void_is_empty { VoidIsEmpty }
@@ -97,6 +102,7 @@ pub fn jobs_are_so()
     ensures finished_stays { FinishedStays }
     ensures lowest_is_next { LowestIsNext }
     ensures nowhere_to_copy { NowhereToCopy }
+    ensures last_log_is_offered { LastLogIsOffered }
 {}
 
 /// From the start on, whatever owners and the book do, in whatever order, a load of a word gives the word that was last

@@ -3,6 +3,7 @@ use Rattle.std.proofs.Common.{◌≡◌, ◌∙◌, ℕ, ◌+◌, ◌-◌, ◌*�
 use Rattle.std.proofs.lemmas.Bool.Decides.{nat_tests}
 use Rattle.std.specs.Prelude.{is_some, IsSome, IsTrue, ◌==◌, ◌↔◌}
 use Rattle.far_word.specs.declared.sizes.TheConstants.{CELLS, LOG_WORDS}
+use Rattle.far_word.specs.Pointer.{read_of}
 use Rattle.far_word.specs.Sizes.{words_for}
 use Rattle.far_word.proofs.PointerLaws.{read_says}
 use Rattle.far_word.specs.declared.pointer.Place.{Place}
@@ -34,6 +35,9 @@ test_is_guard s e b law is = (λ h. is_fact s e law (sym is ∙ h), λ h. is ∙
 -- a data word of an object that is held stands behind its place's header, and is a word of the heap
 pub word_behind : (s : State) → Law s → (p i : ℕ) (place : Place) → s.held p ≡ Some place → data_word s p i ≡ addr place + 1 + i
 word_behind s law p i place held = ap (λ o. near_data o + i) (held_near _ place (law.views.held_names p place held)).near
+
+pub behind_header : (s : State) → Law s → (p : ℕ) (place : Place) → s.held p ≡ Some place → near_data (read_of (s.cell p)) ≡ addr place + 1
+behind_header s law p place held = ap near_data (held_near _ place (law.views.held_names p place held)).near
 
 pub word_inside : (s : State) → Law s → (p i : ℕ) (place : Place) → s.held p ≡ Some place → i < words_for (data_len s p) → addr place + 1 + i < LOG_WORDS * s.logs
 word_inside s law p i place held inside =

@@ -154,6 +154,7 @@ module _ (s : State) (law : Law s) (l : ℕ) where
   walks = record {
     tile = tile_from (s.tail l) 0 first_edge (omega arith) (omega arith);
     stand = All-from (Stands word) (spans_of s l) stands;
+    inside = law.logs.tail_end l;
   }
 
   pub of_heap : All (IsOfHeap s) (spans_of s l)

@@ -425,6 +425,75 @@ notes s (Write c i) j = unseen s (Write c i) j (λ x. cc)
 notes s (Finish c) j = unseen s (Finish c) j (λ x. cc)
 notes s (Collect i old) j = unseen s (Collect i old) j (λ x. cc)
 
+-- ---- of which round a job is: that stays, or another job is offered there
+abbrev Dates : State → Event → ℕ → Type 0
+Dates s e j = ((step_of s e).0.copying.since j ≡ s.copying.since j) ⊎ ((p : ℕ) × (to : Place) × (e ≡ Offer j p to))
+
+undated : (s : State) (e : Event) (j : ℕ) → (after s e).copying.since j ≡ s.copying.since j → Dates s e j
+undated s e j h = inl (cond_both (is_legal s e) (after s e, answer s e) (s, Refused) (λ (x : State × Reply). x.0.copying.since j ≡ s.copying.since j) (λ _. h) (λ _. refl))
+
+-- what leaves the book's view leaves this too
+unseen_date : (s : State) (e : Event) (j : ℕ) → (touches s e).part ≢ BookView → Dates s e j
+unseen_date s e j ne = undated s e j (ap (λ (f : ℕ → ℕ). f j) (((owed e).within s).book ne).8)
+
+move_date : (s : State) (p new len : ℕ) (to : Place) (o : Option ℕ) → (after_move s p new len to o).copying.since ≡ s.copying.since
+move_date s p new len to None = refl
+move_date s p new len to (Some i) = refl
+
+naming_date : (s : State) (p new : ℕ) (o : Option Naming) → (after_naming s p new o).copying.since ≡ s.copying.since
+naming_date s p new None = refl
+naming_date s p new (Some (Places len ds place)) = refl
+naming_date s p new (Some Retires) = refl
+naming_date s p new (Some (Evicts len place)) = refl
+naming_date s p new (Some Stays) = refl
+naming_date s p new (Some (Moves len ds from to)) = move_date s p new len to (copied_job s p from to)
+naming_date s p new (Some (Fetches len ds place)) = refl
+
+dates_name : (s : State) (p old new j : ℕ) → Dates s (Name p old new) j
+dates_name s p old new j = undated s (Name p old new) j (cond_both (nat_eq (s.cell p) old) (after_naming s p new (naming_of (read_of old) (read_of new))) s (λ (x : State). x.copying.since j ≡ s.copying.since j)
+    (λ _. ap (λ (f : ℕ → ℕ). f j) (naming_date s p new (naming_of (read_of old) (read_of new)))) (λ _. refl))
+
+offer_date : (s : State) (i p : ℕ) (to : Place) (j : ℕ) → j ≢ i → (o : Option PtrWord) → (after_offer s i p to o).copying.since j ≡ s.copying.since j
+offer_date s i p to j ne None = refl
+offer_date s i p to j ne (Some pointer.Free) = refl
+offer_date s i p to j ne (Some (Near len ds from m)) = put_other s.copying.since i s.round_epoch j ne
+offer_date s i p to j ne (Some (Far len ds m)) = refl
+
+dates_offer : (s : State) (i p : ℕ) (to : Place) (j : ℕ) → Dates s (Offer i p to) j
+dates_offer s i p to j = elim (cases_eq j i) [
+  | inl at ↦ inr (p, to, ap (λ n. Offer n p to) (sym at))
+  | inr ne ↦ undated s (Offer i p to) j (offer_date s i p to j ne (read_of (s.cell p)))
+]
+
+dates : (s : State) (e : Event) (j : ℕ) → Dates s e j
+dates s (ReadEpoch m) j = unseen_date s (ReadEpoch m) j (λ x. cc)
+dates s (Open m) j = unseen_date s (Open m) j (λ x. cc)
+dates s (Pin m p) j = unseen_date s (Pin m p) j (λ x. cc)
+dates s (Load m p i) j = unseen_date s (Load m p i) j (λ x. cc)
+dates s (Store m p i w) j = unseen_date s (Store m p i w) j (λ x. cc)
+dates s (Soil m p) j = unseen_date s (Soil m p) j (λ x. cc)
+dates s (Close m) j = unseen_date s (Close m) j (λ x. cc)
+dates s (Adopt m p) j = unseen_date s (Adopt m p) j (λ x. cc)
+dates s (Put l at w) j = unseen_date s (Put l at w) j (λ x. cc)
+dates s (Name p old new) j = dates_name s p old new j
+dates s (See p) j = unseen_date s (See p) j (λ x. cc)
+dates s (Mark p) j = unseen_date s (Mark p) j (λ x. cc)
+dates s (Ask m p k) j = unseen_date s (Ask m p k) j (λ x. cc)
+dates s (Get l at false) j = undated s (Get l at false) j refl
+dates s (Get l at true) j = undated s (Get l at true) j refl
+dates s (Clear p) j = undated s (Clear p) j refl
+dates s (Advance logs) j = undated s (Advance logs) j refl
+dates s (Look m) j = undated s (Look m) j refl
+dates s (Offer i p to) j = dates_offer s i p to j
+dates s (PeekJob c i) j = unseen_date s (PeekJob c i) j (λ x. cc)
+dates s (SeeJob i) j = unseen_date s (SeeJob i) j (λ x. cc)
+dates s (Claim c i old) j = unseen_date s (Claim c i old) j (λ x. cc)
+dates s (ReadLength c) j = unseen_date s (ReadLength c) j (λ x. cc)
+dates s (Read c i) j = unseen_date s (Read c i) j (λ x. cc)
+dates s (Write c i) j = unseen_date s (Write c i) j (λ x. cc)
+dates s (Finish c) j = unseen_date s (Finish c) j (λ x. cc)
+dates s (Collect i old) j = unseen_date s (Collect i old) j (λ x. cc)
+
 pub copies_taken : (s : State) → Law s → CopiesAreTaken s
 copies_taken s law = record {
   comes = comes s law;
@@ -438,4 +507,5 @@ copies_taken s law = record {
     | inr (inl (p, old, new, is, finds)) ↦ absurd (true≢false (sym (takes_copy s law p old new j finds).after.1 ∙ sym (ap (λ x. (step_of s x).0.copying.named j) is) ∙ after))
     | inr (inr offers) ↦ (offers.pointer, offers.to, offers.is)
   ];
+  dated = λ e j other. elim (dates s e j) [ inl same ↦ absurd (other same) | inr offered ↦ offered ];
 }

@@ -4,8 +4,8 @@ use far_word::{Job, Mark, Place};
 
 /// One atomic step, which changes one shared word at most. An event whose guard is false is refused and changes nothing.
 ///
-/// Owners are numbered below the shape's mutators, pointers below 128 times that (pointer `p` belongs to owner
-/// `p / 128`), logs below the shape's logs, the words of a log below 128. Any other number is out of range, and the
+/// Owners are numbered below the shape's mutators, pointers below 256 times that (pointer `p` belongs to owner
+/// `p / 256`), logs below the shape's logs, the words of a log below 512. Any other number is out of range, and the
 /// event is refused.
 #[derive(Clone, Copy, Debug, PartialEq, Eq)]
 pub enum Event {

@@ -15,8 +15,8 @@ mod shape;
 pub use event::{Event, Kind, Reply, Task};
 pub use machine::Core;
 pub use machine::laws::{
-    copies_are_taken, events_leave_others, namings_are_plain, opening_is_start, refusals_are_said,
-    scopes_show, sets_of_logs, steps_keep_views,
+    copies_are_taken, events_leave_others, jobs_stand_by_law, namings_are_plain, opening_is_start,
+    refusals_are_said, scopes_show, sets_of_logs, steps_keep_views,
 };
 pub use naming::Naming;
 pub use shape::Shape;

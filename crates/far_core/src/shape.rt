@@ -5,7 +5,7 @@ ghost use Rattle.far_core.specs.state.Shape.{is_shape};
 
 use far_word::{EPOCH_END, LEAST_LOGS, LEAST_MUTATORS, MOST_LOGS, MOST_MUTATORS};
 
-/// How large a heap is: 2 to 64 logs of 1,024 bytes, 1 to 8 mutators of 128 pointer cells each, and the first epoch,
+/// How large a heap is: 2 to 64 logs of 4,096 bytes, 1 to 8 mutators of 256 pointer cells each, and the first epoch,
 /// below 2^62. A shape out of these ranges may be written, and is refused where a heap is made of it.
 #[derive(Clone, Copy, Debug, PartialEq, Eq)]
 pub struct Shape {

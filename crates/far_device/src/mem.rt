@@ -15,7 +15,7 @@ use std::collections::HashMap;
 use std::collections::hash_map::Entry;
 
 /// Keys below this one, as the numbers of a heap's pointers are, stand in a row, where each is found by its number.
-pub(crate) const ROW: u32 = 1024;
+pub(crate) const ROW: u32 = 2048;
 
 /// A device in memory. It is honest, and its one fault is a read of a key under which nothing is.
 #[derive(Debug, Drop)]

@@ -37,6 +37,7 @@ use Rattle.far_evac.specs.declared.evac.evacuating.Fate.TheVariants as fates
 use Rattle.far_evac.specs.Leaving.{AsksAs, GoesAway, LeavesBy, core_by, counted_as, fate_by, goes_near}
 use Rattle.far_evac.specs.Moment.{Moment, Tally}
 use Rattle.far_evac.specs.Walk.{Walked, Way, Drops, Goes, Moves, hot_way, way_of}
+use Rattle.far_evac.specs.WayLaws.{ObjectsGoBesideCopiers}
 use Rattle.far_evac.proofs.Asking.{asks_alike}
 use Rattle.far_evac.proofs.Bools.{neither}
 use Rattle.far_evac.proofs.Hands.{freed_seen, knows_forgotten, knows_more}
@@ -62,6 +63,34 @@ none_lowest s none = by_case (lowest_empty s) refl where
   by_case : (o : Option ℕ) → lowest_empty s ≡ o → o ≡ None
   by_case None e = refl
   by_case (Some k) e = let x = found_in (λ i. s.copying.word i == 0) k 0 JOBS e in absurd (none k (omega (arith, x.1)) (eqb-true (s.copying.word k) 0 x.0))
+
+-- ---- an object goes by its marks
+no_room : (e : Option ℕ) → hot_dealing e None ≡ Leaves Goes
+no_room None = refl
+no_room (Some j) = refl
+
+module _ (s : State) (len ds : ℕ) (from : Place) (marks : Marks) where
+  by_drop : marks.dropped ≡ true → dealing_of s (Some (Near len ds from marks)) ≡ Leaves Drops
+  by_drop e = ap (λ b. cond b (Leaves Drops) (cond marks.hot (hot_dealing (lowest_empty s) (room s (size_of len) false)) (Leaves Goes))) e
+
+  by_hot : (hot : Bool) → marks.dropped ≡ false → marks.hot ≡ hot → dealing_of s (Some (Near len ds from marks)) ≡ cond hot (hot_dealing (lowest_empty s) (room s (size_of len) false)) (Leaves Goes)
+  by_hot hot alive e =
+      ap (λ b. cond b (Leaves Drops) (cond marks.hot (hot_dealing (lowest_empty s) (room s (size_of len) false)) (Leaves Goes))) alive
+      ∙ ap (λ b. cond b (hot_dealing (lowest_empty s) (room s (size_of len) false)) (Leaves Goes)) e
+
+  by_room : (r : Option Place) → marks.dropped ≡ false → marks.hot ≡ true → room s (size_of len) false ≡ r → dealing_of s (Some (Near len ds from marks)) ≡ hot_dealing (lowest_empty s) r
+  by_room r alive hot e = by_hot true alive hot ∙ ap (hot_dealing (lowest_empty s)) e
+
+pub objects_go_beside_copiers : ObjectsGoBesideCopiers
+objects_go_beside_copiers w t p len ds from marks h near = record {
+  dropped = λ e. goes (Leaves Drops) (by_drop w.moment.core len ds from marks e);
+  cold = λ alive cold. goes (Leaves Goes) (by_hot w.moment.core len ds from marks false alive cold);
+  crowded = λ alive hot none. goes (Leaves Goes) (by_room w.moment.core len ds from marks None alive hot none ∙ no_room (lowest_empty w.moment.core));
+  offers = λ j to alive hot there lowest. goes (Offers j to) (by_room w.moment.core len ds from marks (Some to) alive hot there ∙ ap (λ e. hot_dealing e (Some to)) (lowest_is w.moment.core j lowest));
+  moves = λ to alive hot there none. goes (Leaves (Moves to)) (by_room w.moment.core len ds from marks (Some to) alive hot there ∙ ap (λ e. hot_dealing e (Some to)) (none_lowest w.moment.core none));
+} where
+  goes : (d : Dealing) → dealing_of w.moment.core (Some (Near len ds from marks)) ≡ d → KnowsWalked (dealt_by w p d) t
+  goes d is = subst (λ x. KnowsWalked (dealt_by w p x) t) (ap (dealing_of w.moment.core) near ∙ is) h.known
 
 -- ---- what leaves its log is dealt with so, unless its copy could be offered
 leaves_by : (dropped hot : Bool) (e : Option ℕ) (r : Option Place) → ((to : Place) → cond dropped Drops (cond hot (hot_way r) Goes) ≡ Moves to → e ≡ None) →

@@ -18,6 +18,7 @@ use Rattle.far_evac.specs.Copied.{CopiedIsAllowed, OverAll, OverSome, after_reca
 use Rattle.far_evac.specs.Live.{live_in}
 use Rattle.far_evac.specs.Moment.{Moment}
 use Rattle.far_evac.specs.Walk.{Walked, begun, ended, is_done}
+use Rattle.far_evac.specs.WayLaws.{JobsArePassedOver}
 use Rattle.far_evac.proofs.Walks.{moment_same, walked_same}
 
 -- nothing is said of a device
@@ -73,6 +74,16 @@ logs_go [] n w = (walked_same w, refl, refl, refl)
 logs_go (l ∷ ls) n w =
     let x = over_objects (live_in w.moment.core l) n w in
     (w, x.at, x.more, x.end, tt, walked_same w, objects_go (live_in w.moment.core l) n w, log_goes x.end x.at l ls x.more (over_logs ls x.more (freed_if x.at l)) (logs_go ls x.more (freed_if x.at l)))
+
+-- ---- an object that has a job is passed over
+passes : (b : Bool) (A B : Type 0) → b ≡ true → cond b A B → A
+passes b A B e h = subst (λ x. cond x A B) e h
+
+pub jobs_are_passed_over : JobsArePassedOver
+jobs_are_passed_over w t p ps zero more end has h =
+    passes (has_job w.moment.core p) (Objects ps zero w (record { at = t; more = more; end = end })) (KnowsWalked w t × (more ≡ 0) × (end ≡ Before) × (tt {0} ≡ tt {0})) has h
+jobs_are_passed_over w t p ps (suc n) more end has h =
+    passes (has_job w.moment.core p) (Objects ps (suc n) w (record { at = t; more = more; end = end })) (Deals p ps n w (record { at = t; more = more; end = end })) has h
 
 -- ---- no object is refused
 either_end : (b : Bool) (x y : OverSome) (p : ℕ) (why : Refused) → (x.end ≡ At p why → ⊥) → (y.end ≡ At p why → ⊥) → (cond b x y).end ≡ At p why → ⊥

@@ -12,10 +12,10 @@ ghost use Rattle.far_evac.specs.LiveLaws.{LiveIsInOrder};
 ghost use Rattle.far_evac.specs.Turns.{turn_size};
 ghost use Rattle.far_evac.specs.Strays.{AbortingStraysNone, CallersStrayNone, CallsStrayNone, ComersJoin, EventsBringNone, FoundStrayNone, MarkingStraysNone, NoRoundStraysNone, OwnersBringNone, PollingStraysNone, RisenStraysNone, RoundStraysNone, RoundsStrayNone, RowsStrayNone, SelectingStraysNone, TurnsStrayNone, WalkingStraysNone};
 ghost use Rattle.far_evac.specs.TakesRoom.{CallTakesRoom, RoundTakesRoom, RoundTakesSome, TurnsTakeRoom, TurnsTakeSome, WalkTakesRoom};
-ghost use Rattle.far_evac.specs.WayLaws.{ObjectsGoTheirWay};
+ghost use Rattle.far_evac.specs.WayLaws.{JobsArePassedOver, ObjectsGoBesideCopiers, ObjectsGoTheirWay};
 ghost use Rattle.far_evac.specs.Laws.{CensusIsExact, ClearIsShown, ClearMeansUnviewed, ClearViewsNothing, DealingIsInOrder, ExactIsAllowed, GivingUpIsRight, LooksSeeClear, MarkingIsCounted, MarkingIsRight, PollIsAllowed, PollIsOnce, RisenIsReady, RoundIsAllowed, RoundIsEvent, TurnIsAllowed, WaitIsNamed, WaitingStays, WalkIsTour, WalksJoin};
 ghost use Rattle.far_evac.specs.worked.AsCalled.{AsCalled};
-ghost use Rattle.far_evac.specs.worked.Copied.{CopierByHand, DroppedIsRetired, DroppedMeanwhile, NoJobIsEmpty, NoRoomForCopies, OffersAreTakenBack, OneAtATime, OtherLogsGoOn, OwnerFirst};
+ghost use Rattle.far_evac.specs.worked.Copied.{CleanIsOffered, CopierByHand, DroppedIsPassedOver, DroppedIsRetired, DroppedMeanwhile, NoJobIsEmpty, NoRoomForCopies, OffersAreTakenBack, OneAtATime, OtherLogsGoOn, OwnerFirst, PassesOnAtNone};
 ghost use Rattle.far_evac.specs.worked.Rows.{EmptiestIsFirst, EpochsAreNamed, FirstLiesFirst, GivenUp, HotWithoutRoom, LastEpoch, NothingToChoose, OldEpoch, OldView, OldestIsFirst, OpenScopeIsWaitedFor, OpenedAnew, OwnerIsFirst, PhasesAreKept, PlainRound, ReserveIsKept, StepByStep, TurnsRunOut};
 
 /// The exact evacuation, over words that nobody else changes, is one of those that are allowed over any hand.
@@ -65,6 +65,14 @@ pub fn dealing_is_in_order()
 /// retired, a cold one goes far, and a hot one to where there is room then, or far where there is none. It has no marks after.
 pub fn objects_go_their_way()
     ensures { ObjectsGoTheirWay }
+{}
+
+/// Where copies may be offered, over any hand: an object is dealt with by the marks that its cell was found to have, DROP and HOT, and by nothing else that it says but the
+/// length. A dropped one is retired, a cold one goes far, and so does a hot one where there is no room. Else the copy of a hot one is offered by the lowest empty job to
+/// where the room is; where no job is empty it moves there. An object that has a job that isn't void is passed over, dropped or not, and however many may be dealt with yet.
+pub fn objects_go_beside_copiers()
+    ensures ways { ObjectsGoBesideCopiers }
+    ensures passed_over { JobsArePassedOver }
 {}
 
 /// Over any hand: the room that dealing with objects takes is that of those that moved. In a log outside the collection set dead bytes stay, live ones rise by the objects
@@ -265,7 +273,10 @@ pub fn copies_are_so()
     ensures one_at_a_time { OneAtATime }
     ensures no_room { NoRoomForCopies }
     ensures others_go_on { OtherLogsGoOn }
+    ensures clean { CleanIsOffered }
+    ensures passes_on { PassesOnAtNone }
     ensures dropped { DroppedIsRetired }
+    ensures passed_over { DroppedIsPassedOver }
     ensures dropped_meanwhile { DroppedMeanwhile }
     ensures taken_back { OffersAreTakenBack }
     ensures no_job { NoJobIsEmpty }

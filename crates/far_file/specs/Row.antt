@@ -4,6 +4,7 @@ use Rattle.std.specs.List.{slice_get}
 use Rattle.std.specs.Option.{option_and_then, option_map}
 use Rattle.far_file.specs.Positions.{HoldsAt}
 use Rattle.far_file.specs.declared.held.Held.{Held}
+use Rattle.far_file.specs.declared.sealed.TheConstants.{SLOT}
 use Rattle.far_file.specs.declared.seal.Seal.{Ghosts}
 
 module _ {L : Type 0} {l : Ghosts L} where
@@ -17,4 +18,4 @@ module _ {L : Type 0} {l : Ghosts L} where
 
 -- what each key was given stands in its slot, and reaches into no other
 abbrev pub Stands : (ℕ → ℕ) → (ℕ → Option (List ℕ)) → Type 0
-Stands seen held = (id : ℕ) (bytes : List ℕ) → held id ≡ Some bytes → HoldsAt seen (1024 * id) bytes × (length bytes ≤ 1024)
+Stands seen held = (id : ℕ) (bytes : List ℕ) → held id ≡ Some bytes → HoldsAt seen (SLOT * id) bytes × (length bytes ≤ SLOT)

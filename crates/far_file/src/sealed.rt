@@ -6,6 +6,7 @@ ghost use Rattle.far_device.specs.Contents.{KeepsOthers};
 ghost use Rattle.far_device.specs.Faults.{is_fault};
 ghost use Rattle.far_device.specs.declared.fault.DeviceFault.TheVariants.{Memory, Device as Failed};
 ghost use Rattle.far_file.specs.declared.fault.FileFault.TheVariants.{NoSlot, Nothing};
+ghost use Rattle.far_file.specs.declared.sealed.TheConstants.{KEYS, SLOT};
 ghost use Rattle.far_file.specs.Faults.{CanStopRead, StoppedRead, StoppedWrite};
 ghost use Rattle.far_file.specs.Positions.{HoldsAt};
 ghost use Rattle.far_file.specs.Row.{bytes_in, Stands};
@@ -20,12 +21,12 @@ use std::alloc::{AllocError, Global};
 use std::snapshot::Snapshot;
 
 /// Only keys below this one have a slot.
-const KEYS: u32 = 1024;
+pub(crate) const KEYS: u32 = 2048;
 
 /// How many bytes a slot has room for.
-const SLOT: u64 = 1024;
+pub(crate) const SLOT: u64 = 4096;
 
-/// A device over storage, in which each key below 1,024 has a slot of 1,024 bytes, and a seal in memory: bytes that come back and
+/// A device over storage, in which each key below 2,048 has a slot of 4,096 bytes, and a seal in memory: bytes that come back and
 /// don't fit theirs are a fault, and aren't given. It is honest if the storage is honest or the seals are exact.
 #[derive(Drop)]
 pub struct SealedDevice<F: Storage + Drop, L: Seal> {
@@ -168,8 +169,8 @@ impl<F: Storage + Drop, L: Seal> SealedDevice<F, L> {
     // Puts bytes into the slot of a key under which nothing is.
     fn put(&mut self, id: u32, bytes: &[u8]) -> Result<(), StorageFault>
         requires free { bytes_at self.old id ≡ None }
-        requires few { length bytes.now ≤ 1024 }
-        ensures put { F.Storage.honest self.old.storage ≡ true → OnOk result (HoldsAt (F.Storage.seen self.new.storage) (1024 * id) bytes.now) }
+        requires few { length bytes.now ≤ SLOT }
+        ensures put { F.Storage.honest self.old.storage ≡ true → OnOk result (HoldsAt (F.Storage.seen self.new.storage) (SLOT * id) bytes.now) }
         ensures honest { F.Storage.honest self.new.storage ≡ F.Storage.honest self.old.storage }
         ensures same { (q : ℕ) → bytes_at self.new q ≡ bytes_at self.old q }
         ensures row { vec_len self.new.row ≡ vec_len self.old.row }
@@ -184,9 +185,9 @@ impl<F: Storage + Drop, L: Seal> SealedDevice<F, L> {
     fn note(&mut self, id: u32, len: u16, seal: L)
         requires row { id < vec_len self.old.row }
         requires len { length self.old.last.items ≡ len }
-        requires few { len ≤ 1024 }
+        requires few { len ≤ SLOT }
         requires sealed { L.Seal.kept seal ≡ L.Seal.digest self.old.last.items }
-        requires there { F.Storage.honest self.old.storage ≡ true → HoldsAt (F.Storage.seen self.old.storage) (1024 * id) self.old.last.items }
+        requires there { F.Storage.honest self.old.storage ≡ true → HoldsAt (F.Storage.seen self.old.storage) (SLOT * id) self.old.last.items }
         ensures set { bytes_at self.new id ≡ Some self.old.last.items }
         ensures others { KeepsOthers (bytes_at self.old) (bytes_at self.new) id }
         ensures storage { self.new.storage ≡ self.old.storage }
@@ -202,7 +203,7 @@ impl<F: Storage + Drop, L: Seal> SealedDevice<F, L> {
 
     // Makes the row long enough for a key.
     fn reach(&mut self, id: u32) -> bool
-        requires { id < 1024 }
+        requires { id < KEYS }
         ensures long { IsTrue result → id < vec_len self.new.row }
         ensures same { (k : ℕ) → bytes_at self.new k ≡ bytes_at self.old k }
         ensures last { self.new.last ≡ self.old.last }
@@ -266,9 +267,9 @@ impl<F: Storage + Drop, L: Seal> Device for SealedDevice<F, L> {
         ensures honest { F.Storage.honest self.new.storage ≡ F.Storage.honest self.old.storage }
         ensures as_honest { is_honest self.new ≡ is_honest self.old }
         ensures left { OnErr result ((bytes_at self.new id ≡ None) ⊎ (bytes_at self.new id ≡ bytes_at self.old id)) }
-        ensures no_slot { (1024 ≤ id) ⊎ (1024 < length bytes.now) → (result ≡ Err Failed) × (self.new.told ≡ Some record { key = id; why = NoSlot }) × (bytes_at self.new ≡ bytes_at self.old) }
+        ensures no_slot { (KEYS ≤ id) ⊎ (SLOT < length bytes.now) → (result ≡ Err Failed) × (self.new.told ≡ Some record { key = id; why = NoSlot }) × (bytes_at self.new ≡ bytes_at self.old) }
         ensures memory { result ≡ Err Memory → (q : ℕ) → bytes_at self.new q ≡ bytes_at self.old q }
-        ensures told { id < 1024 → length bytes.now ≤ 1024 → is_fault result ≡ true → StoppedWrite id self.new.told }
+        ensures told { id < KEYS → length bytes.now ≤ SLOT → is_fault result ≡ true → StoppedWrite id self.new.told }
         ensures kept_told { is_fault result ≡ false → self.new.told ≡ self.old.told }
     {
         if id >= KEYS || bytes.len() as u64 > SLOT {
@@ -350,7 +351,7 @@ impl<F: Storage + Drop, L: Seal> Device for SealedDevice<F, L> {
 #[inline(never)]
 #[tactic(auto, using(crate::proofs::Rows::longer))]
 fn lengthen<L: Seal>(row: &mut Vec<Option<Held<L>>>, id: usize) -> bool
-    requires { id < 1024 }
+    requires { id < KEYS }
     ensures long { IsTrue result → id < vec_len row.new }
     ensures same { (k : ℕ) → bytes_in row.new.items k ≡ bytes_in row.old.items k }
 {

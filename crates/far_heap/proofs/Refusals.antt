@@ -93,11 +93,11 @@ refusals_are_so = record {
   viewed = λ m p. viewed_by (uses m p) (views m p);
 }
 
--- an object has 1 to 1,016 bytes
-pub length_within : (len : ℕ) → is_length len ≡ true → (1 ≤ len) × (len ≤ 1016)
+-- an object has 1 to 4,088 bytes
+pub length_within : (len : ℕ) → is_length len ≡ true → (1 ≤ len) × (len ≤ 4088)
 length_within len h = (refusals_are_so.lengths len).0 h
 
-pub length_allowed : (len : ℕ) → 1 ≤ len → len ≤ 1016 → is_length len ≡ true
+pub length_allowed : (len : ℕ) → 1 ≤ len → len ≤ 4088 → is_length len ≡ true
 length_allowed len some most = (refusals_are_so.lengths len).1 (some, most)
 
 -- bytes are read and written of what is viewed, at least one, and none past the object's end

@@ -44,7 +44,7 @@ pub record HasRoom (number len p : ℕ) (s : State) : Type 0 where
   pub free : IsLowestFree s number (Some p)
   pub room : IsSome (room s (size_of len) true)
 
--- none of a mutator's 128 cells is free
+-- none of a mutator's 256 cells is free
 abbrev pub NoneFree : ℕ → State → Type 0
 NoneFree number s = IsLowestFree s number None
 

@@ -8,13 +8,13 @@ abbrev pub KnowsBytes : Mine → ℕ → Type 0
 KnowsBytes m p = (bytes : List ℕ) × (bytes_in m p ≡ Some bytes) × (length bytes ≡ len_in m p) × ((k : ℕ) → slice_index bytes k < 256)
 
 pub record MineLaw (m : Mine) : Type 0 where
-  -- it is one of eight, with 128 pointers
+  -- it is one of eight, with 256 pointers
   pub few : m.number < MOST_MUTATORS
   pub many : (length m.objects ≡ CELLS) × (length m.viewed ≡ CELLS) × (length m.asked ≡ CELLS)
   -- what is viewed is used, and nothing is viewed while the scope is closed
   pub used : (p : ℕ) → views m p ≡ true → uses m p ≡ true
   pub closed : m.opened ≡ false → (p : ℕ) → views m p ≡ false
-  -- an object has 1 to 1,016 bytes
+  -- an object has 1 to 4,088 bytes
   pub some : (p : ℕ) → uses m p ≡ true → 0 < len_in m p
   pub most : (p : ℕ) → uses m p ≡ true → len_in m p ≤ LONGEST
   -- they are known where the far side is honest, and nowhere else

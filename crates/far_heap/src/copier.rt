@@ -67,8 +67,8 @@ impl<K: HeapName, D: Device + Drop> Copier<K, D> {
         let _of = self.of;
     }
 
-    /// Takes a job that is offered: the first that is found so and won, of one look at each of the 16 jobs, in their order, and of one attempt to take it
-    /// at each. Where no look gets one the copier is as before.
+    /// Takes a job that is offered: it looks at each of the 16 jobs, in their order, and tries once to take one that it finds offered, until it has one. Where
+    /// no look gets one the copier is as before. The contract says what a look could find of each job before, not that there was a look, nor in which order.
     pub fn claim(self) -> Result<Copying<K, D>, Copier<K, D>>
         ensures table { IfOk result (λ copying. copying.seat.table ≡ self.table) }
         ensures claimed { IfOk result (λ copying. Claimed copying.job self.view copying.seat.view) }

@@ -147,7 +147,7 @@ impl<K: HeapName, D: Device + Drop> Evacuator<K, D> {
         self.evac.spans(log)
     }
 
-    /// Where a pointer's object is, of a number below 128 for each mutator of [`Evacuator::shape`], with the marks that its cell was found with;
+    /// Where a pointer's object is, of a number below 256 for each mutator of [`Evacuator::shape`], with the marks that its cell was found with;
     /// `None` exactly where the cell is free. Its owner may add marks at any moment.
     pub fn locate(&mut self, pointer: u16) -> Option<Home>
         requires pointer { pointer < CELLS * (seat_view self.old.book.near).mutators }

@@ -9,7 +9,7 @@ pub fn reads_give_last_writes()
     ensures { ReadsGiveLastWrites }
 {}
 
-/// What refuses a call by its own numbers: the number of copiers, 1 to 8; the length of a new object, 1 to 1,016 bytes; the range of an access, which wants a byte at least and none
+/// What refuses a call by its own numbers: the number of copiers, 1 to 8; the length of a new object, 1 to 4,088 bytes; the range of an access, which wants a byte at least and none
 /// past the end of an object that is viewed; a drop, of what is used and isn't viewed.
 pub fn refusals_are_so()
     ensures { RefusalsAreSo }

@@ -64,7 +64,7 @@ impl<K: HeapName, D: Device + Drop> Mutator<K, D> {
         Mutator { own, lock }
     }
 
-    /// What holds of a mutator between any two calls: each object that it uses has 1 to 1,016 bytes, which it knows where the far side is honest; its
+    /// What holds of a mutator between any two calls: each object that it uses has 1 to 4,088 bytes, which it knows where the far side is honest; its
     /// scope is closed, and it views nothing. The call does nothing.
     pub fn keeps_law(&self)
         ensures law { MineLaw self.now }
@@ -74,10 +74,10 @@ impl<K: HeapName, D: Device + Drop> Mutator<K, D> {
         self.own.keeps_law();
     }
 
-    /// Makes a new object of `len` zeros, 1 to 1,016, of data structure `ds`: its pointer, which the mutator didn't use. It takes the lock.
+    /// Makes a new object of `len` zeros, 1 to 4,088, of data structure `ds`: its pointer, which the mutator didn't use. It takes the lock.
     ///
     /// Refused, in this order: [`Refused::Length`] exactly where the length is out of range; [`Refused::NoPointer`] only where, as the lock was held, none
-    /// of the mutator's 128 cells was free; [`Refused::NoRoom`] only where one was, but there was no room in the open log, and at most one log was free.
+    /// of the mutator's 256 cells was free; [`Refused::NoRoom`] only where one was, but there was no room in the open log, and at most one log was free.
     /// Nothing has changed then.
     #[inline(always)]
     pub fn alloc<R: Wait>(&mut self, rt: &R, len: u16, ds: u8) -> Result<u16, Refused>

@@ -51,7 +51,7 @@ impl<K: HeapName, D: Device + Drop> Scope<K, D> {
         Scope { own, lock }
     }
 
-    /// What holds of an open scope between any two calls: what it views its mutator uses, and each object that this uses has 1 to 1,016 bytes, which it
+    /// What holds of an open scope between any two calls: what it views its mutator uses, and each object that this uses has 1 to 4,088 bytes, which it
     /// knows where the far side is honest. The call does nothing.
     pub fn keeps_law(&self)
         ensures law { MineLaw self.now }
@@ -76,7 +76,7 @@ impl<K: HeapName, D: Device + Drop> Scope<K, D> {
         under_lock::alloc(rt, &self.lock, &mut self.own, len, ds)
     }
 
-    /// How many bytes the object of a pointer has, 1 to 1,016; `None` exactly where this mutator doesn't use the pointer. No step, and no lock: the mutator
+    /// How many bytes the object of a pointer has, 1 to 4,088; `None` exactly where this mutator doesn't use the pointer. No step, and no lock: the mutator
     /// knows it.
     #[inline(always)]
     pub fn len_of(&self, p: u16) -> Option<u16>

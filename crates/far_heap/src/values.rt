@@ -10,7 +10,7 @@ use byteorder::ByteOrder;
 use far_device::Device;
 use far_word::Refused;
 
-/// A value that is kept in an object as `N` bytes, at most 1,016, and comes back from them.
+/// A value that is kept in an object as `N` bytes, at most 4,088, and comes back from them.
 pub trait FixedRecord<const N: usize> {
     /// The bytes that a value is kept as.
     ghost bytes_of: { Self → List ℕ };

@@ -1,4 +1,5 @@
 pub mod BadLaws
+pub mod ConvertLaws
 pub mod Members
 pub mod Padding
 pub mod SpanLaws

@@ -5,23 +5,25 @@ use Rattle.std.specs.List.{filter, sum_by}
 use Rattle.std.proofs.lemmas.Bool.{cond_both, cases_lt, ltb-true, ltb-false}
 use Rattle.std.proofs.lemmas.List.Elements.{All-head, All-tail}
 use Rattle.std.proofs.lemmas.List.Sums.{sum_by-cons}
-use Rattle.far_word.specs.Header.{head_of}
+use Rattle.far_word.specs.Header.{header_in}
+use Rattle.far_word.specs.declared.version.Version.{Version}
 use Rattle.far_word.specs.Sizes.{size_of, bytes_taken}
-use Rattle.far_word.proofs.HeaderLaws.{head_only}
+use Rattle.far_word.proofs.HeaderLaws.{header_only}
 use Rattle.far_log.specs.declared.span.Span.{Span}
-use Rattle.far_log.specs.Spans.{HasHeader, Stands, Tile, IsWordOf, HasOneSpan, HasNoSpan, header_of, head_len, span_at, spans_from, taken_by}
+use Rattle.far_log.specs.Spans.{HasHeader, StandsBy, Tile, IsWordOf, HasOneSpan, HasNoSpan, header_of, len_in, span_by, spans_by, taken_by}
 use Rattle.far_log.proofs.Members.{here, there, split, none_in}
 
--- ---- a header says its span
-pub reads_as : (word : ℕ → ℕ) (span : Span) → HasHeader word span → head_of (word span.at) ≡ Some (header_of span)
-reads_as word span has = head_only (word span.at) (header_of span) has.layout (sym has.header)
+module _ {v : Version} where
+  -- ---- a header says its span
+  pub reads_as : (word : ℕ → ℕ) (span : Span) → HasHeader v word span → header_in v (word span.at) ≡ Some (header_of span)
+  reads_as word span has = header_only v (word span.at) (header_of span) has.layout (sym has.header)
 
-pub spells : (word : ℕ → ℕ) (span : Span) → HasHeader word span → span_at word span.at ≡ span
-spells word span has = rw (reads_as word span has) refl
+  pub spells : (word : ℕ → ℕ) (span : Span) → HasHeader v word span → span_by v word span.at ≡ span
+  spells word span has = rw (reads_as word span has) refl
 
--- two spans whose header is one word are one
-pub same_span : (word : ℕ → ℕ) (x y : Span) → x.at ≡ y.at → HasHeader word x → HasHeader word y → x ≡ y
-same_span word x y e has other = sym (spells word x has) ∙ ap (span_at word) e ∙ spells word y other
+  -- two spans whose header is one word are one
+  pub same_span : (word : ℕ → ℕ) (x y : Span) → x.at ≡ y.at → HasHeader v word x → HasHeader v word y → x ≡ y
+  same_span word x y e has other = sym (spells word x has) ∙ ap (span_by v word) e ∙ spells word y other
 
 -- ---- spans that follow each other
 pub tile_low : (spans : List Span) (at tail : ℕ) → Tile at spans tail → at ≤ tail
@@ -72,41 +74,42 @@ has_one_span spans tail i tile lt =
 pub has_no_span : (spans : List Span) (tail i : ℕ) → Tile 0 spans tail → tail ≤ i → HasNoSpan spans i
 has_no_span spans tail i tile past x h w = omega (arith, (tile_bounds spans 0 tail x tile h).1)
 
--- ---- one list
--- two lists of spans that stand, from one place on: where the first ends below the second's tail, a span stands there
-pub next_span : (word : ℕ → ℕ) (spans others : List Span) (at from tail : ℕ) → Tile at spans from → Tile at others tail → All (Stands word) spans → All (Stands word) others → from < tail →
-    (y : Span) × (y.at ≡ from) × (from + size_of y.len ≤ tail) × Stands word y
-next_span word [] [] at from tail tile other stand stands lt = absurd (omega arith)
-next_span word [] (y ∷ others) at from tail tile other stand stands lt =
-    (y, other.0 ∙ tile, omega (arith, tile_low others (at + size_of y.len) tail other.1), All-head (Stands word) y others stands)
-next_span word (x ∷ spans) [] at from tail tile other stand stands lt = absurd (omega (arith, tile_low spans (at + size_of x.len) from tile.1))
-next_span word (x ∷ spans) (y ∷ others) at from tail tile other stand stands lt =
-    let same : x ≡ y = same_span word x y (tile.0 ∙ sym other.0) (All-head (Stands word) x spans stand).header (All-head (Stands word) y others stands).header in
-    let next : Tile (at + size_of x.len) others tail = subst (λ (z : Span). Tile (at + size_of z.len) others tail) (sym same) other.1 in
-    next_span word spans others (at + size_of x.len) from tail tile.1 next (All-tail (Stands word) x spans stand) (All-tail (Stands word) y others stands) lt
+module _ {v : Version} where
+  -- ---- one list
+  -- two lists of spans that stand, from one place on: where the first ends below the second's tail, a span stands there
+  pub next_span : (word : ℕ → ℕ) (spans others : List Span) (at from tail : ℕ) → Tile at spans from → Tile at others tail → All (StandsBy v word) spans → All (StandsBy v word) others → from < tail →
+      (y : Span) × (y.at ≡ from) × (from + size_of y.len ≤ tail) × StandsBy v word y
+  next_span word [] [] at from tail tile other stand stands lt = absurd (omega arith)
+  next_span word [] (y ∷ others) at from tail tile other stand stands lt =
+      (y, other.0 ∙ tile, omega (arith, tile_low others (at + size_of y.len) tail other.1), All-head (StandsBy v word) y others stands)
+  next_span word (x ∷ spans) [] at from tail tile other stand stands lt = absurd (omega (arith, tile_low spans (at + size_of x.len) from tile.1))
+  next_span word (x ∷ spans) (y ∷ others) at from tail tile other stand stands lt =
+      let same : x ≡ y = same_span word x y (tile.0 ∙ sym other.0) (All-head (StandsBy v word) x spans stand).header (All-head (StandsBy v word) y others stands).header in
+      let next : Tile (at + size_of x.len) others tail = subst (λ (z : Span). Tile (at + size_of z.len) others tail) (sym same) other.1 in
+      next_span word spans others (at + size_of x.len) from tail tile.1 next (All-tail (StandsBy v word) x spans stand) (All-tail (StandsBy v word) y others stands) lt
 
-pub one_list : (word : ℕ → ℕ) (spans others : List Span) (at tail : ℕ) → Tile at spans tail → Tile at others tail → All (Stands word) spans → All (Stands word) others → spans ≡ others
-one_list word [] [] at tail tile other stand stands = refl
-one_list word [] (y ∷ others) at tail tile other stand stands = absurd (omega (arith, tile_low others (at + size_of y.len) tail other.1))
-one_list word (x ∷ spans) [] at tail tile other stand stands = absurd (omega (arith, tile_low spans (at + size_of x.len) tail tile.1))
-one_list word (x ∷ spans) (y ∷ others) at tail tile other stand stands =
-    let same : x ≡ y = same_span word x y (tile.0 ∙ sym other.0) (All-head (Stands word) x spans stand).header (All-head (Stands word) y others stands).header in
-    let next : Tile (at + size_of x.len) others tail = subst (λ (z : Span). Tile (at + size_of z.len) others tail) (sym same) other.1 in
-    let rest : spans ≡ others = one_list word spans others (at + size_of x.len) tail tile.1 next (All-tail (Stands word) x spans stand) (All-tail (Stands word) y others stands) in
-    λ i. same i ∷ rest i
+  pub one_list : (word : ℕ → ℕ) (spans others : List Span) (at tail : ℕ) → Tile at spans tail → Tile at others tail → All (StandsBy v word) spans → All (StandsBy v word) others → spans ≡ others
+  one_list word [] [] at tail tile other stand stands = refl
+  one_list word [] (y ∷ others) at tail tile other stand stands = absurd (omega (arith, tile_low others (at + size_of y.len) tail other.1))
+  one_list word (x ∷ spans) [] at tail tile other stand stands = absurd (omega (arith, tile_low spans (at + size_of x.len) tail tile.1))
+  one_list word (x ∷ spans) (y ∷ others) at tail tile other stand stands =
+      let same : x ≡ y = same_span word x y (tile.0 ∙ sym other.0) (All-head (StandsBy v word) x spans stand).header (All-head (StandsBy v word) y others stands).header in
+      let next : Tile (at + size_of x.len) others tail = subst (λ (z : Span). Tile (at + size_of z.len) others tail) (sym same) other.1 in
+      let rest : spans ≡ others = one_list word spans others (at + size_of x.len) tail tile.1 next (All-tail (StandsBy v word) x spans stand) (All-tail (StandsBy v word) y others stands) in
+      λ i. same i ∷ rest i
 
--- the headers spell the list
-pub listed_from : (word : ℕ → ℕ) (spans : List Span) (fuel at tail : ℕ) → Tile at spans tail → All (Stands word) spans → tail ≤ at + fuel → spans_from word tail at fuel ≡ spans
-listed_from word [] zero at tail tile stand enough = refl
-listed_from word [] (suc fuel) at tail tile stand enough = cond_both (nat_lt at tail) _ _ (λ (xs : List Span). xs ≡ []) (λ t. absurd (omega (arith, ltb-true at tail t))) (λ _. refl)
-listed_from word (x ∷ spans) zero at tail tile stand enough = absurd (omega (arith, tile_low spans (at + size_of x.len) tail tile.1))
-listed_from word (x ∷ spans) (suc fuel) at tail tile stand enough = cond_both (nat_lt at tail) _ _ (λ (xs : List Span). xs ≡ x ∷ spans)
-    (λ _. let first : span_at word at ≡ x = ap (span_at word) (sym tile.0) ∙ spells word x (All-head (Stands word) x spans stand).header in
-    let size : at + size_of (head_len (word at)) ≡ at + size_of x.len = ap (λ (z : Span). at + size_of z.len) first in
-    let rest : spans_from word tail (at + size_of (head_len (word at))) fuel ≡ spans = ap (λ k. spans_from word tail k fuel) size
-    ∙ listed_from word spans fuel (at + size_of x.len) tail tile.1 (All-tail (Stands word) x spans stand) (omega arith) in
-    λ i. first i ∷ rest i)
-    (λ f. absurd (omega (arith, ltb-false at tail f, tile_low spans (at + size_of x.len) tail tile.1)))
+  -- the headers spell the list
+  pub listed_from : (word : ℕ → ℕ) (spans : List Span) (fuel at tail : ℕ) → Tile at spans tail → All (StandsBy v word) spans → tail ≤ at + fuel → spans_by v word tail at fuel ≡ spans
+  listed_from word [] zero at tail tile stand enough = refl
+  listed_from word [] (suc fuel) at tail tile stand enough = cond_both (nat_lt at tail) _ _ (λ (xs : List Span). xs ≡ []) (λ t. absurd (omega (arith, ltb-true at tail t))) (λ _. refl)
+  listed_from word (x ∷ spans) zero at tail tile stand enough = absurd (omega (arith, tile_low spans (at + size_of x.len) tail tile.1))
+  listed_from word (x ∷ spans) (suc fuel) at tail tile stand enough = cond_both (nat_lt at tail) _ _ (λ (xs : List Span). xs ≡ x ∷ spans)
+      (λ _. let first : span_by v word at ≡ x = ap (span_by v word) (sym tile.0) ∙ spells word x (All-head (StandsBy v word) x spans stand).header in
+      let size : at + size_of (len_in (header_in v (word at))) ≡ at + size_of x.len = ap (λ (z : Span). at + size_of z.len) first in
+      let rest : spans_by v word tail (at + size_of (len_in (header_in v (word at)))) fuel ≡ spans = ap (λ k. spans_by v word tail k fuel) size
+      ∙ listed_from word spans fuel (at + size_of x.len) tail tile.1 (All-tail (StandsBy v word) x spans stand) (omega arith) in
+      λ i. first i ∷ rest i)
+      (λ f. absurd (omega (arith, ltb-false at tail f, tile_low spans (at + size_of x.len) tail tile.1)))
 
 -- ---- what spans take
 take_all : (test : Span → Bool) (spans : List Span) (at tail : ℕ) → Tile at spans tail → taken_by test spans + taken_by (λ x. not (test x)) spans + 8 * at ≡ 8 * tail

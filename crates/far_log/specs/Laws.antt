@@ -1,25 +1,28 @@
 -- What holds of the words of any log: one list of spans or a first bad word, each word in one span, bytes that add up.
-use Rattle.std.specs.Prelude.{◌≡◌, ℕ, ◌+◌, ◌-◌, ◌*◌, ◌/◌, ◌%◌, ◌^◌, ◌<◌, ◌≤◌, ◌↔◌, ◌⊎◌, Bool, not, Some, None, List}
+use Rattle.std.specs.Prelude.{◌≡◌, ℕ, ◌+◌, ◌-◌, ◌*◌, ◌/◌, ◌%◌, ◌^◌, ◌<◌, ◌≤◌, ◌↔◌, ◌⊎◌, Bool, not, Option, Some, None, List, map}
 use Rattle.std.specs.List.{filter, sum_by}
 use Rattle.far_word.specs.declared.header.HeadWord.{HeadWord}
-use Rattle.far_word.specs.Header.{head_of}
+use Rattle.far_word.specs.declared.version.Version.{Version}
+use Rattle.far_word.specs.declared.version.Version.TheVariants.{First, Second}
+use Rattle.far_word.specs.Header.{header_in, version_of}
 use Rattle.far_word.specs.Sizes.{bytes_taken}
 use Rattle.far_log.specs.declared.span.Span.{Span}
-use Rattle.far_log.specs.Spans.{Stands, HasOneSpan, HasNoSpan, HoldsBytes, spans_in, taken_by}
-use Rattle.far_log.specs.Walk.{IsWalk, FirstBad}
+use Rattle.far_log.specs.Convert.{IsConverted, renewed, renumbered}
+use Rattle.far_log.specs.Spans.{StandsBy, HasOneSpan, HasNoSpan, HoldsBytes, taken_by}
+use Rattle.far_log.specs.Walk.{IsImage, IsWalkBy, FirstBad, end_for, image_spans}
 
 -- the words below a tail have at most one list of spans
 abbrev pub WalksAreOne : Type 0
-WalksAreOne = (word : ℕ → ℕ) (tail : ℕ) (spans others : List Span) → IsWalk word tail spans → IsWalk word tail others → spans ≡ others
+WalksAreOne = (word : ℕ → ℕ) (tail : ℕ) (spans others : List Span) → IsImage word tail spans → IsImage word tail others → spans ≡ others
 
 -- words of 64 bits have a list of spans or a first bad word
 abbrev pub WalksOrBad : Type 0
 WalksOrBad = (word : ℕ → ℕ) (tail : ℕ) → ((i : ℕ) → word i < 2 ^ 64) →
-    ((spans : List Span) × IsWalk word tail spans) ⊎ ((at w : ℕ) × FirstBad word tail at w)
+    ((spans : List Span) × IsImage word tail spans) ⊎ ((at w : ℕ) × FirstBad word tail at w)
 
 -- and never both
 abbrev pub NeverBoth : Type 0
-NeverBoth = (word : ℕ → ℕ) (tail at w : ℕ) (spans : List Span) → IsWalk word tail spans → ¬ FirstBad word tail at w
+NeverBoth = (word : ℕ → ℕ) (tail at w : ℕ) (spans : List Span) → IsImage word tail spans → ¬ FirstBad word tail at w
 
 -- the first bad word is one, and stands below the tail
 abbrev pub FirstBadIsOne : Type 0
@@ -28,11 +31,16 @@ FirstBadIsOne = (word : ℕ → ℕ) (tail at w : ℕ) → FirstBad word tail at
 
 -- the list of spans is the one that the headers spell
 abbrev pub SpansAreListed : Type 0
-SpansAreListed = (word : ℕ → ℕ) (tail : ℕ) (spans : List Span) → IsWalk word tail spans → spans_in word tail ≡ spans
+SpansAreListed = (word : ℕ → ℕ) (tail : ℕ) (spans : List Span) → IsImage word tail spans → image_spans word tail ≡ spans
+
+-- a list of spans in either version is one of the version that the first word says
+abbrev pub SpansSayVersion : Type 0
+SpansSayVersion = (v : Version) (word : ℕ → ℕ) (tail : ℕ) (spans : List Span) → IsWalkBy v word tail spans →
+    IsImage word tail spans × (0 < tail → version_of (word 0) ≡ v)
 
 -- words past the tail change no list of spans
 abbrev pub TailEndsWalk : Type 0
-TailEndsWalk = (word other : ℕ → ℕ) (tail : ℕ) (spans : List Span) → ((i : ℕ) → i < tail → other i ≡ word i) → IsWalk word tail spans → IsWalk other tail spans
+TailEndsWalk = (word other : ℕ → ℕ) (tail : ℕ) (spans : List Span) → ((i : ℕ) → i < tail → other i ≡ word i) → IsImage word tail spans → IsImage other tail spans
 
 -- words behind the first bad one don't mend it
 abbrev pub BadEndsWalk : Type 0
@@ -49,47 +57,71 @@ pub record CanBegin (word : ℕ → ℕ) (tail i : ℕ) : Type 0 where
   pub through : i < end
   pub inside : end ≤ tail
   pub spans : List Span
-  pub walk : IsWalk other end spans
+  pub walk : IsImage other end spans
 
 -- a word is the first bad one exactly where nothing behind it could mend it, while any earlier word could still be a log's
 abbrev pub BadIsFirst : Type 0
 BadIsFirst = (word : ℕ → ℕ) (tail at w : ℕ) → ((i : ℕ) → word i < 2 ^ 64) →
     FirstBad word tail at w ↔ ((at < tail) × (w ≡ word at) × (¬ CanBegin word tail at) × ((i : ℕ) → i < at → CanBegin word tail i))
 
+-- what a word says as a header of the image's version
+abbrev pub said_at : (ℕ → ℕ) → ℕ → Option HeadWord
+said_at word at = header_in (version_of (word 0)) (word at)
+
+-- where the image's spans end, at the latest
+abbrev pub end_of : (ℕ → ℕ) → ℕ → ℕ
+end_of word tail = end_for (version_of (word 0)) tail
+
 -- no header is read where a span would begin: that word is bad
 abbrev pub ReadsNone : (ℕ → ℕ) → ℕ → ℕ → Type 0
-ReadsNone word begin at = (at ≡ begin) × (head_of (word at) ≡ None)
+ReadsNone word begin at = (at ≡ begin) × (said_at word at ≡ None)
 
--- a header is read there, of more bytes than the words behind it hold up to the tail: the header is bad
+-- a header is read there, of more bytes than the words behind it hold up to the end: the header is bad
 abbrev pub ReadsTooLong : (ℕ → ℕ) → ℕ → ℕ → ℕ → Type 0
-ReadsTooLong word tail begin at = (at ≡ begin) × ((h : HeadWord) × (head_of (word at) ≡ Some h) × (8 * (tail - 1 - at) < h.len))
+ReadsTooLong word tail begin at = (at ≡ begin) × ((h : HeadWord) × (said_at word at ≡ Some h) × (8 * (end_of word tail - 1 - at) < h.len))
 
--- a header is read there whose bytes lie below the tail, and the word with the last of them says something behind it: that word is bad
+-- a header is read there whose bytes lie below the end, and the word with the last of them says something behind it: that word is bad
 abbrev pub ReadsMore : (ℕ → ℕ) → ℕ → ℕ → ℕ → Type 0
-ReadsMore word tail begin at = (h : HeadWord) × (head_of (word begin) ≡ Some h) × (at ≡ begin + 1 + (h.len - 1) / 8) × (at < tail)
+ReadsMore word tail begin at = (h : HeadWord) × (said_at word begin ≡ Some h) × (at ≡ begin + 1 + (h.len - 1) / 8) × (at < end_of word tail)
     × (2 ^ (8 * ((h.len - 1) % 8 + 1)) ≤ word at)
 
 -- the first bad word by what is read: the headers spell spans that end where another would begin, and one of three things is so there
 abbrev pub BadIsRead : Type 0
 BadIsRead = (word : ℕ → ℕ) (tail at w : ℕ) → ((i : ℕ) → word i < 2 ^ 64) →
-    FirstBad word tail at w ↔ ((w ≡ word at) × ((begin : ℕ) × (begin < tail) × IsWalk word begin (spans_in word begin)
+    FirstBad word tail at w ↔ ((w ≡ word at) × ((begin : ℕ) × (begin < tail) × IsImage word begin (image_spans word begin)
     × (ReadsNone word begin at ⊎ (ReadsTooLong word tail begin at ⊎ ReadsMore word tail begin at))))
 
+-- ---- converting
+-- what is converted has the same spans, with their pointers renumbered
+abbrev pub ConvertedWalks : Type 0
+ConvertedWalks = (word new : ℕ → ℕ) (tail : ℕ) (spans : List Span) → IsConverted word new tail → IsImage word tail spans →
+    IsImage new tail (map (renewed (version_of (word 0))) spans)
+
+-- and below the tail no two different images are that
+abbrev pub ConvertedIsOne : Type 0
+ConvertedIsOne = (word new other : ℕ → ℕ) (tail : ℕ) → IsConverted word new tail → IsConverted word other tail → (i : ℕ) → i < tail → new i ≡ other i
+
+-- version 1 has 128 cells a mutator, this heap 256
+pub record PointersAreRenumbered : Type 0 where
+  pub first : (m k : ℕ) → k < 128 → renumbered First (128 * m + k) ≡ 256 * m + k
+  pub second : (p : ℕ) → renumbered Second p ≡ p
+
+-- ---- words and bytes
 -- a word below the tail is header or data of exactly one span
 abbrev pub WordsHaveOneSpan : Type 0
-WordsHaveOneSpan = (word : ℕ → ℕ) (tail : ℕ) (spans : List Span) → IsWalk word tail spans → (i : ℕ) → i < tail → HasOneSpan spans i
+WordsHaveOneSpan = (word : ℕ → ℕ) (tail : ℕ) (spans : List Span) → IsImage word tail spans → (i : ℕ) → i < tail → HasOneSpan spans i
 
 -- a word at or past the tail is a word of none
 abbrev pub WordsPastHaveNone : Type 0
-WordsPastHaveNone = (word : ℕ → ℕ) (tail : ℕ) (spans : List Span) → IsWalk word tail spans → (i : ℕ) → tail ≤ i → HasNoSpan spans i
+WordsPastHaveNone = (word : ℕ → ℕ) (tail : ℕ) (spans : List Span) → IsImage word tail spans → (i : ℕ) → tail ≤ i → HasNoSpan spans i
 
 -- a span stands exactly where its header and its bytes are read so
 abbrev pub SpansHoldBytes : Type 0
-SpansHoldBytes = (word : ℕ → ℕ) (span : Span) → ((i : ℕ) → word i < 2 ^ 64) → Stands word span ↔ HoldsBytes word span
+SpansHoldBytes = (v : Version) (word : ℕ → ℕ) (span : Span) → ((i : ℕ) → word i < 2 ^ 64) → StandsBy v word span ↔ HoldsBytes v word span
 
 -- the spans that pass a test and those that don't take all bytes below the tail
 abbrev pub SpansTakeAll : Type 0
-SpansTakeAll = (word : ℕ → ℕ) (tail : ℕ) (spans : List Span) → IsWalk word tail spans → (test : Span → Bool) →
+SpansTakeAll = (word : ℕ → ℕ) (tail : ℕ) (spans : List Span) → IsImage word tail spans → (test : Span → Bool) →
     taken_by test spans + taken_by (λ span. not (test span)) spans ≡ 8 * tail
 
 -- what the spans that pass a test take is a sum over them

@@ -1,3 +1,4 @@
+pub mod Convert
 pub mod Laws
 pub mod Spans
 pub mod Walk

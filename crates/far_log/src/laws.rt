@@ -1,15 +1,16 @@
 //! What holds of the words of any log, as contracts of functions that do nothing.
 
-ghost use Rattle.far_log.specs.Laws.{WalksAreOne, WalksOrBad, NeverBoth, FirstBadIsOne, SpansAreListed, TailEndsWalk, BadEndsWalk, BadIsFirst, BadIsRead, WordsHaveOneSpan, WordsPastHaveNone, SpansHoldBytes, SpansTakeAll, TakenIsSum};
+ghost use Rattle.far_log.specs.Laws.{WalksAreOne, WalksOrBad, NeverBoth, FirstBadIsOne, SpansAreListed, SpansSayVersion, ConvertedIsOne, ConvertedWalks, PointersAreRenumbered, TailEndsWalk, BadEndsWalk, BadIsFirst, BadIsRead, WordsHaveOneSpan, WordsPastHaveNone, SpansHoldBytes, SpansTakeAll, TakenIsSum};
 
 /// The words below a tail have one list of spans, or a first bad word, never both and never two; and the list is the one
-/// that the headers spell.
+/// that the headers spell. It is the same list in whatever version it is one: the first header says that version.
 pub fn walks_are_one()
     ensures one { WalksAreOne }
     ensures either { WalksOrBad }
     ensures never { NeverBoth }
     ensures first { FirstBadIsOne }
     ensures listed { SpansAreListed }
+    ensures version { SpansSayVersion }
 {}
 
 /// What lies past the tail changes no list of spans, and what lies behind the first bad word mends none.
@@ -23,6 +24,14 @@ pub fn later_words_say_nothing()
 pub fn bad_words_are_first()
     ensures first { BadIsFirst }
     ensures read { BadIsRead }
+{}
+
+/// What is converted has the spans of the image that it is made of, with their pointers renumbered, and no two different images
+/// are that. Pointer 128m + k of version 1 is pointer 256m + k here.
+pub fn images_are_converted()
+    ensures walks { ConvertedWalks }
+    ensures one { ConvertedIsOne }
+    ensures pointers { PointersAreRenumbered }
 {}
 
 /// Each word below the tail is header or data of exactly one span, and a word at or past it of none.

@@ -1,6 +1,6 @@
 //! What a log has.
 
-/// What a log has, in bytes: the three numbers make its 1,024.
+/// What a log has, in bytes: the three numbers make its 4,096.
 #[derive(Clone, Copy, Debug, PartialEq, Eq)]
 pub struct LogRow {
     /// The log's number, below [`far_word::MOST_LOGS`].

@@ -3,11 +3,12 @@
 ghost use Rattle.std.specs.Prelude.{◌≡◌, ◌+◌, ◌<◌, ◌≤◌, ◌↔◌, length, slice_index, IfOk, IfErr, IsTrue};
 ghost use Rattle.far_word.specs.declared.sizes.TheConstants.{LOG_WORDS};
 ghost use Rattle.far_word.specs.Sizes.{size_of};
-ghost use Rattle.far_log.specs.Spans.{Stands};
-ghost use Rattle.far_log.specs.Walk.{IsWalk, IsFault, IsBadSpan, last_limit};
+ghost use Rattle.far_word.specs.Header.{version_of};
+ghost use Rattle.far_log.specs.Spans.{StandsBy};
+ghost use Rattle.far_log.specs.Walk.{IsImage, IsFault, IsBadSpan, end_for, last_limit};
 
 use crate::span::{Span, size_of};
-use far_word::HeadWord;
+use far_word::Version;
 use std::alloc::Global;
 use thiserror::Error;
 
@@ -42,15 +43,16 @@ impl From<BadWord> for WalkFault {
 }
 
 /// The spans of a log from its word 0 to its tail, in order: `words` are those of the log, as many as are at hand, and
-/// `tail` says how many of them spans take.
+/// `tail` says how many of them spans take. The first word says the version of the image ([`Version::of`]), and each header
+/// is of that version.
 ///
 /// Where the words have no such list the fault names the first that is bad: a word at a header's place that is off the
-/// layout, or whose span passes the tail, or the last data word of a span that hasn't zeros behind its last byte. All
-/// memory is taken at once, first: half as many spans as the tail has words.
+/// layout of the version, or whose span passes the tail or the end of the version's log, or the last data word of a span
+/// that hasn't zeros behind its last byte. All memory is taken at once, first: half as many spans as the tail has words.
 pub fn walk(alloc: Global, words: &[u64], tail: usize) -> Result<Vec<Span>, WalkFault>
     requires within { tail ≤ length words.now }
     requires log { length words.now ≤ LOG_WORDS }
-    ensures spans { IfOk result (λ spans. IsWalk (λ i. slice_index words.now i) tail spans.items) }
+    ensures spans { IfOk result (λ spans. IsImage (λ i. slice_index words.now i) tail spans.items) }
     ensures fault { IfErr result (λ fault. IsFault (λ i. slice_index words.now i) tail fault) }
 {
     let Ok(mut spans) = Vec::with_capacity(alloc, tail / 2) else {
@@ -66,20 +68,21 @@ pub fn walk(alloc: Global, words: &[u64], tail: usize) -> Result<Vec<Span>, Walk
 }
 
 // The span whose header stands at a place below the tail, or the word that keeps a span from standing there.
-fn span_from(words: &[u64], tail: usize, from: usize) -> Result<Span, BadWord>
+pub(crate) fn span_from(words: &[u64], tail: usize, from: usize) -> Result<Span, BadWord>
     requires below { from < tail }
     requires within { tail ≤ length words.now }
     requires log { length words.now ≤ LOG_WORDS }
-    ensures span { IfOk result (λ span. (span.at ≡ from) × (from + size_of span.len ≤ tail) × Stands (λ i. slice_index words.now i) span) }
-    ensures bad { IfErr result (λ bad. (bad.word ≡ slice_index words.now bad.at) × IsBadSpan (λ i. slice_index words.now i) tail from bad.at) }
+    ensures span { IfOk result (λ span. (span.at ≡ from) × (from + size_of span.len ≤ end_for (version_of (slice_index words.now 0)) tail) × StandsBy (version_of (slice_index words.now 0)) (λ i. slice_index words.now i) span) }
+    ensures bad { IfErr result (λ bad. (bad.word ≡ slice_index words.now bad.at) × IsBadSpan (version_of (slice_index words.now 0)) (λ i. slice_index words.now i) (end_for (version_of (slice_index words.now 0)) tail) from bad.at) }
 {
+    let version = Version::of(words[0]);
     let word = words[from];
     let at = from as u16;
-    let Some(head) = HeadWord::read(word) else {
+    let Some(head) = version.header(word) else {
         return Err(BadWord { at, word });
     };
     let next = from + size_of(head.len);
-    if next > tail {
+    if next > end_for(version, tail) {
         return Err(BadWord { at, word });
     }
     let last = words[next - 1];
@@ -95,6 +98,13 @@ fn span_from(words: &[u64], tail: usize, from: usize) -> Result<Span, BadWord>
         len: head.len,
         ds: head.ds,
     })
+}
+
+// Where the spans of an image end at the latest: none passes the tail, and none the end of a log of its version.
+fn end_for(version: Version, tail: usize) -> usize
+    ensures { result ≡ end_for version tail }
+{
+    tail.min(version.log_words() as usize)
 }
 
 // Whether the last data word of an object of `len` bytes has zeros behind the last byte.

@@ -12,11 +12,11 @@ row_with log live unused = record { log = log; live = live; dead = 0; unused = u
 
 -- four sealed logs, oldest first: two have as many live bytes
 abbrev pub four : List LogRow
-four = row_with 5 1024 0 ∷ row_with 2 16 1008 ∷ row_with 9 0 1024 ∷ row_with 0 16 1008 ∷ []
+four = row_with 5 4096 0 ∷ row_with 2 16 4080 ∷ row_with 9 0 4096 ∷ row_with 0 16 4080 ∷ []
 
 -- one sealed log
 abbrev pub one : List LogRow
-one = row_with 0 16 1008 ∷ []
+one = row_with 0 16 4080 ∷ []
 
 abbrev pub OldestRowsHold : Type 0
 OldestRowsHold = (take 2 (logs_of four) ≡ 5 ∷ 2 ∷ []) × (take 9 (logs_of four) ≡ 5 ∷ 2 ∷ 9 ∷ 0 ∷ []) × (take 0 (logs_of four) ≡ [])

@@ -74,7 +74,7 @@ module _ (s : State) (law : Law s) (p len ds : ℕ) (place : Place) (row : ℕ �
   header_legal = (next.0, unsealed, omega (arith, at_end), omega (arith, fits))
 
   header_wide : head_word p len ds < 2 ^ 64
-  header_wide = head_fits _ head
+  header_wide = head_fits (record { pointer = p; len = len; ds = ds }) head
 
   law_headed : Law headed
   law_headed = keeps s put_header law header_wide header_legal

@@ -1,4 +1,4 @@
--- Each text has an output; refused commands change nothing; unknown mutators are refused; what logs tell makes 1,024.
+-- Each text has an output; refused commands change nothing; unknown mutators are refused; what logs tell makes 4,096.
 use Rattle.std.proofs.Common.{◌≡◌, ◌≢◌, ℕ, nat_eq, ◌+◌, ◌-◌, ◌*◌, ◌<◌, ◌≤◌, Bool, true, false, cond, not, ◌&&◌, nat_lt, length, get_or, is_some, sym, ap, refl, subst, ◌∙◌, arith, suc, Option, Some, None, Result, Ok, Err, List, [], ◌∷◌, inl, inr, ◌++◌}
 use Rattle.std.specs.Prelude.{map, replicate, nat_le, ◌/◌, ◌^◌, ◌⊎◌, ◌↔◌, bit_or, All, Contains}
 use Rattle.std.specs.Bool.{MatchBool}

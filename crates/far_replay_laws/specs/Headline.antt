@@ -100,7 +100,7 @@ LogsStay now [] rs moments = LogStays now.core now.core
 LogsStay now (c ∷ cs) (r ∷ rs) (after ∷ moments) = Reaches now c r after × LogsStay after cs rs moments
 LogsStay now (c ∷ cs) rs moments = ⊥
 
--- each object that is in use has one place, each log's bytes are 1,024, and no two cells name one place
+-- each object that is in use has one place, each log's bytes are 4,096, and no two cells name one place
 abbrev pub IsWhole : State → Type 0
 IsWhole t = ((p : ℕ) → HasOnePlace t p) × ((l : ℕ) → live_bytes t l + dead_bytes t l + unused_bytes t l ≡ 8 * LOG_WORDS) × NamesOnce t
 
@@ -146,7 +146,7 @@ MayRefuse (Evacuator (Round policy most turns)) WrongPhase = Unit {0}
 MayRefuse (Evacuator (Round policy most turns)) EpochsSpent = Unit {0}
 MayRefuse c why = ⊥
 
--- a line tells a log's kind and its live, dead and unused bytes, which make 1,024
+-- a line tells a log's kind and its live, dead and unused bytes, which make 4,096
 pub record TellsLog (now : Moment) (line : LogLine) : Type 0 where
   pub kind : line.kind ≡ kind_in now line.log
   pub live : line.live ≡ live_bytes now.core line.log

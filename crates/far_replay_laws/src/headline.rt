@@ -41,7 +41,7 @@ pub fn texts_are_answered()
 
 /// A heap line may say 2 to 64 logs, 1 to 8 mutators and a first epoch below 2^62. The heap begins with them, over a device that may lie or may not, with the law and with nothing in it.
 /// After commands each moment has the law, what it names is used, and its objects are whole: each in use has exactly one
-/// place, each log's bytes are 1,024 in all, and no two pointers name one place. Each command is carried out by its events,
+/// place, each log's bytes are 4,096 in all, and no two pointers name one place. Each command is carried out by its events,
 /// those of a dereference among them, whatever marks its object has and wherever it is: they are legal, none is refused,
 /// they keep the law and what views rest on, and end in the moment after it. Where the device gave other bytes they are those that the command has where these are stored. Where its object is at hand, a pin among them
 /// gives a view, and a naming wins. While a round waits, and while objects leave, the logs of the core's round are the chosen ones; else
@@ -86,7 +86,7 @@ pub fn refusals_leave_all()
 
 /// The replies to one mutator's lines are what its own lines alone say: its own, and no others, say what it knows. What
 /// it knows then, its scope, its objects' bytes and which of them it views, is so in the heap after each command. So `new` in
-/// range is refused 3 exactly where all its 128 objects exist. Where the device tells what was written, so a read gives what was written last. Where it may lie, an object that its mutator
+/// range is refused 3 exactly where all its 256 objects exist. Where the device tells what was written, so a read gives what was written last. Where it may lie, an object that its mutator
 /// doesn't view may have other bytes, as many, when it is read, written or viewed; all else is as before. From a text on (`outputs_are_sound`) that is so under a line `flip` alone.
 pub fn mutators_are_alone()
     ensures alone { MutatorsAreAlone }
@@ -121,7 +121,7 @@ pub fn lines_tell_replies()
     ensures { PrintedAlike }
 {}
 
-/// `logs` reports each log once, by number: its kind and its bytes, which make 1,024.
+/// `logs` reports each log once, by number: its kind and its bytes, which make 4,096.
 pub fn logs_are_told()
     ensures { LogsAreTold }
 {}

@@ -20,7 +20,7 @@ DonesRead = Reads Done (codes "ok\n")
 
 abbrev pub PointersRead : Type 0
 PointersRead = Reads (Pointer 0) (codes "pointer 0\n")
-    × Reads (Pointer 1023) (codes "pointer 1023\n")
+    × Reads (Pointer 2047) (codes "pointer 2047\n")
 
 abbrev pub DataRead : Type 0
 DataRead = Reads (Data (10 ∷ 255 ∷ 0 ∷ 192 ∷ [])) (codes "data 0aff00c0\n")
@@ -54,8 +54,8 @@ line_of log kind live dead unused = record { log = log; kind = kind; live = live
 
 -- a log of each kind, a line for each
 abbrev pub LogsRead : Type 0
-LogsRead = Reads (Logs (line_of 0 kinds.Sealed 16 1000 8 ∷ line_of 1 kinds.Open 40 32 952 ∷ line_of 2 kinds.Chosen 72 928 24 ∷ line_of 63 kinds.Free 0 0 1024 ∷ []))
-    (codes "log 0 sealed live 16 dead 1000 unused 8\nlog 1 open live 40 dead 32 unused 952\nlog 2 chosen live 72 dead 928 unused 24\nlog 63 free live 0 dead 0 unused 1024\n")
+LogsRead = Reads (Logs (line_of 0 kinds.Sealed 16 4072 8 ∷ line_of 1 kinds.Open 40 32 4024 ∷ line_of 2 kinds.Chosen 72 4000 24 ∷ line_of 63 kinds.Free 0 0 4096 ∷ []))
+    (codes "log 0 sealed live 16 dead 4072 unused 8\nlog 1 open live 40 dead 32 unused 4024\nlog 2 chosen live 72 dead 4000 unused 24\nlog 63 free live 0 dead 0 unused 4096\n")
 
 abbrev pub AuditsRead : Type 0
 AuditsRead = Reads (Audited record { near = 12; far = 3; live = 456 }) (codes "audit near 12 far 3 live 456\n")
@@ -107,7 +107,7 @@ RefusalsRead = Reads (Refused Memory) (codes "refused 1\n")
 -- and those that tell more: a word, a line, a log, a mutator and an epoch
 abbrev pub ReasonsRead : Type 0
 ReasonsRead = Reads (Refused (MarkFound 0x0400_0000_0001_0008)) (codes "refused 14 0400000000010008\n")
-    × Reads (Refused (MarkFound 0xe400_0004_0201_03f8)) (codes "refused 14 e4000004020103f8\n")
+    × Reads (Refused (MarkFound 0xe400_0004_0201_0ff8)) (codes "refused 14 e400000402010ff8\n")
     × Reads (Refused (Syntax 204)) (codes "refused 16 204\n")
     × Reads (Refused (BadChoice 40)) (codes "refused 17 40\n")
     × Reads (Refused (StillOpen 2 35)) (codes "refused 18 2 35\n")

@@ -41,7 +41,7 @@ pub enum Reply<'a> {
     Done,
     /// The number of a new object's pointer.
     Pointer(u16),
-    /// Bytes of an object, 1,016 at most where it is printed.
+    /// Bytes of an object, 4,088 at most where it is printed.
     Data(&'a [u8]),
     /// Logs of a heap, 64 at most where they are printed.
     Logs(&'a [LogLine]),

@@ -32,8 +32,8 @@ fn words_of<K: HeapName>(book: &Evacuator<K, FarSide>, log: u8) -> LogWords
     let LogState { kind, row } = book.log(log);
     LogWords {
         kind,
-        live: (row.live / 8) as u8,
-        dead: (row.dead / 8) as u8,
+        live: row.live / 8,
+        dead: row.dead / 8,
     }
 }
 

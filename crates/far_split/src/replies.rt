@@ -1,4 +1,4 @@
-//! The replies to a thread's lines, one each, in order. What is long in them stands in lists of its own, so that a reply takes 24 bytes, a log's line three more, and
+//! The replies to a thread's lines, one each, in order. What is long in them stands in lists of its own, so that a reply takes 24 bytes, a log's line six more, and
 //! a read as many more as it tells.
 
 ghost use Rattle.std.specs.Prelude.{◌≡◌, ◌+◌, ◌<◌, ◌≤◌, length, slice_index_or, slice_range};

@@ -13,8 +13,8 @@ use std::marker::Model;
 #[derive(Clone, Copy)]
 pub(crate) struct LogWords {
     pub(crate) kind: LogKind,
-    pub(crate) live: u8,
-    pub(crate) dead: u8,
+    pub(crate) live: u16,
+    pub(crate) dead: u16,
 }
 
 impl LogWords {

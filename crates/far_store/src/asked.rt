@@ -13,7 +13,7 @@ pub struct Asked {
     pub logs: u64,
     /// 1 to 8.
     pub mutators: u32,
-    /// 1 to 512 for each mutator.
+    /// 1 to [`MOST_RECORDS`] for each mutator.
     pub records: u32,
     /// All shards' gets and puts together.
     pub operations: u64,

@@ -15,12 +15,10 @@ pub const PER_OBJECT: u32 = 4;
 /// How many bytes an object has.
 pub const OBJECT: u16 = 256;
 
-/// How many records a shard has at most: its mutator has 128 objects.
-pub const MOST_RECORDS: u32 = 512;
+/// How many records a shard has at most: as many as all objects of its mutator have.
+pub const MOST_RECORDS: u32 = PER_OBJECT * CELLS as u32;
 
 const _: () = prove!(OBJECT as u32 == PER_OBJECT * RECORD as u32);
-
-const _: () = prove!(MOST_RECORDS == PER_OBJECT * CELLS as u32);
 
 /// Which of a store's records a shard has: those whose number leaves `shard` when it is divided by `shards`, the first `count` of them.
 #[derive(Clone, Copy, Debug)]
@@ -36,7 +34,7 @@ pub struct Part {
 impl Part {
     ghost use Rattle.far_store.specs.Part.{has, number_at};
 
-    /// The part of one of so many shards, where all have `records` together, the numbers below that. It has at most 512.
+    /// The part of one of so many shards, where all have `records` together, the numbers below that. It has at most [`MOST_RECORDS`].
     #[tactic(auto, using(crate::proofs::Parts::some_of))]
     pub fn new(shard: u32, shards: u32, records: u32) -> Part
         requires one { shard < shards }

@@ -23,7 +23,7 @@ pub record IsTableOf (ws : List ℕ) (s : State) : Type 0 where
   pub words : (a : ℕ) → a < MOST_LOGS * LOG_WORDS → slice_index ws (data_at a) ≡ s.word a
   pub jobs : (j : ℕ) → j < JOBS → slice_index ws (job_at j) ≡ s.copying.word j
 
--- rows for so many numbers from one on. No proof writes them out, since there are 8192 of headers: FirstViews says what they make
+-- rows for so many numbers from one on. No proof writes them out, since there is one of headers for each word of the logs: FirstViews says what they make
 unfoldable pub rows_from : {X : Type 0} → ℕ → ℕ → (ℕ → X) → List (ℕ × X)
 rows_from low n f = map (λ k. (k, f k)) (range_with_len low n)
 

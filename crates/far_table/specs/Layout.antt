@@ -43,9 +43,9 @@ pub record LayoutIs : Type 0 where
   pub epoch : EPOCH_AT ≡ 16
   pub scopes : (SCOPES_AT ≡ 32) × (LINE ≡ 16)
   pub cells : CELLS_AT ≡ 160
-  pub jobs : JOBS_AT ≡ 1184
-  pub logs : LOGS_AT ≡ 1200
-  pub words : TABLE_WORDS ≡ 9392
+  pub jobs : JOBS_AT ≡ 2208
+  pub logs : LOGS_AT ≡ 2224
+  pub words : TABLE_WORDS ≡ 34992
 
 abbrev pub epoch_in : List ℕ → ℕ
 epoch_in ws = slice_index ws EPOCH_AT

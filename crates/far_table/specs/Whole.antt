@@ -6,10 +6,10 @@ use Rattle.far_core.specs.laws.Observed.{HasOnePlace, NamesOnce, NearHasOneLive,
 use Rattle.far_core.specs.state.State.{State}
 
 -- each object in use has one place, near or far; a near cell has exactly one live span, and no two cells name one place; a span is live exactly where the pointer
--- in its header names its place; and each log's live, dead and unused bytes make 1,024
+-- in its header names its place; and each log's live, dead and unused bytes make 4,096
 pub record IsWhole (s : State) : Type 0 where
   pub one : (p : ℕ) → HasOnePlace s p
   pub near : (p : ℕ) → NearHasOneLive s p
   pub once : NamesOnce s
   pub live : (l : ℕ) (span : Span) → LiveIs s l span
-  pub bytes : (l : ℕ) → live_bytes s l + dead_bytes s l + unused_bytes s l ≡ 1024
+  pub bytes : (l : ℕ) → live_bytes s l + dead_bytes s l + unused_bytes s l ≡ 4096

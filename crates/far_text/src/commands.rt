@@ -1,8 +1,7 @@
 //! The commands of a text until they are made, each in little memory.
 
-ghost use Rattle.std.specs.Prelude.{◌≡◌, ◌≢◌, ◌≤◌, ◌<◌, ◌+◌, ◌*◌, ◌^◌, ◌++◌, ◌∷◌, ℕ, List, [], length, take, drop, cond, true, Ok, Some, None, IfOk, IfErr, IfSome};
+ghost use Rattle.std.specs.Prelude.{◌≡◌, ◌≢◌, ◌++◌, ◌∷◌, ℕ, List, [], length, take, drop, cond, true, Ok, Some, None, IfOk, IfErr, IfSome};
 ghost use Rattle.std.specs.Option.{option_map};
-ghost use Rattle.far_text.specs.declared.hex_word.TheConstants.{LONGEST_BYTES};
 ghost use Rattle.far_text.specs.Command.{Mutator, Book, Evacuator, Write, as_command, as_inquiry};
 ghost use Rattle.far_text.specs.Grammar.{bytes_in};
 ghost use Rattle.far_text.specs.Spelled.{command_spelled, request_spelled, step_spelled};
@@ -44,11 +43,9 @@ fn write_record(
     from: u64,
     word: &[u8],
 ) -> Result<Option<Record>, AllocError>
-    requires few { length bytes.old + LONGEST_BYTES < 2 ^ 32 }
     ensures value { IfOk result (λ found. option_map (command_in bytes.new) found ≡ option_map (λ read. Mutator mutator (Write pointer from read)) (bytes_in word.now)) }
     ensures within { IfOk result (λ found. IfSome found (IsWithin (length bytes.new))) }
     ensures kept { take (length bytes.old) bytes.new ≡ bytes.old }
-    ensures short { length bytes.new ≤ length bytes.old + LONGEST_BYTES }
     ensures none { result ≡ Ok None → bytes.new ≡ bytes.old }
     ensures fault { IfErr result (λ _. bytes.new ≡ bytes.old) }
 {
@@ -73,11 +70,9 @@ fn request_record(
     mutator: u64,
     request: Request,
 ) -> Result<Option<Record>, AllocError>
-    requires few { length bytes.old + LONGEST_BYTES < 2 ^ 32 }
     ensures value { IfOk result (λ found. option_map (command_in bytes.new) found ≡ option_map (Mutator mutator) (request_spelled request.entry)) }
     ensures within { IfOk result (λ found. IfSome found (IsWithin (length bytes.new))) }
     ensures kept { take (length bytes.old) bytes.new ≡ bytes.old }
-    ensures short { length bytes.new ≤ length bytes.old + LONGEST_BYTES }
     ensures none { result ≡ Ok None → bytes.new ≡ bytes.old }
     ensures fault { IfErr result (λ _. bytes.new ≡ bytes.old) }
 {
@@ -120,11 +115,9 @@ fn inquiry_record(inquiry: Inquiry) -> Record
 // The record of a step, unless it chooses more logs than may be chosen, or what is no log. The logs of a script are added to
 // the bytes before.
 fn evacuator_record(bytes: &mut HexBytes, step: Step) -> Result<Option<Record>, AllocError>
-    requires few { length bytes.old + LONGEST_BYTES < 2 ^ 32 }
     ensures value { IfOk result (λ found. option_map (command_in bytes.new) found ≡ option_map Evacuator (step_spelled step.entry)) }
     ensures within { IfOk result (λ found. IfSome found (IsWithin (length bytes.new))) }
     ensures kept { take (length bytes.old) bytes.new ≡ bytes.old }
-    ensures short { length bytes.new ≤ length bytes.old + LONGEST_BYTES }
     ensures none { result ≡ Ok None → bytes.new ≡ bytes.old }
     ensures fault { IfErr result (λ _. bytes.new ≡ bytes.old) }
 {
@@ -138,11 +131,9 @@ fn evacuator_record(bytes: &mut HexBytes, step: Step) -> Result<Option<Record>, 
 // of a write or a script are added to those before.
 #[inline(always)]
 fn record_of(bytes: &mut HexBytes, command: Command) -> Result<Option<Record>, AllocError>
-    requires few { length bytes.old + LONGEST_BYTES < 2 ^ 32 }
     ensures value { IfOk result (λ found. option_map (command_in bytes.new) found ≡ command_spelled command.entry) }
     ensures within { IfOk result (λ found. IfSome found (IsWithin (length bytes.new))) }
     ensures kept { take (length bytes.old) bytes.new ≡ bytes.old }
-    ensures short { length bytes.new ≤ length bytes.old + LONGEST_BYTES }
     ensures none { result ≡ Ok None → bytes.new ≡ bytes.old }
     ensures fault { IfErr result (λ _. bytes.new ≡ bytes.old) }
 {
@@ -222,17 +213,16 @@ pub struct Commands {
 }
 
 impl Model for Commands {
-    ghost use Rattle.std.specs.Prelude.{◌≤◌, ◌*◌, List, length, map};
+    ghost use Rattle.std.specs.Prelude.{List, length, map};
     ghost use Rattle.far_text.specs.Command.{Command};
 
     ghost Value = { List Command };
 
-    ghost use Rattle.far_text.specs.declared.hex_word.TheConstants.{LONGEST_BYTES};
     ghost use Rattle.far_text.specs.Records.{command_in, AreWithin};
 
     ghost view = { λ c. map (command_in c.bytes) c.records.items };
 
-    ghost invariant = { λ c. AreWithin (length c.bytes) c.records.items × (length c.bytes ≤ LONGEST_BYTES * length c.records.items) };
+    ghost invariant = { λ c. AreWithin (length c.bytes) c.records.items };
 }
 
 impl Commands {
@@ -288,7 +278,7 @@ impl Commands {
     }
 
     /// Adds a command that was read, unless it writes what is no word in hex, or chooses what can't be chosen. Whether it did;
-    /// if not, nothing has changed.
+    /// if not, nothing has changed. `Err` where there is no memory, or the bytes of all writes and scripts would be 2^32.
     #[inline(always)]
     pub fn push(&mut self, command: Command<'_>) -> Result<bool, AllocError>
         requires { length self.old ≤ LONGEST_TEXT }

@@ -1,6 +1,6 @@
 //! Words in hex, and the bytes that they spell.
 
-ghost use Rattle.std.specs.Prelude.{◌≡◌, ◌≤◌, ◌<◌, ◌+◌, ◌*◌, ◌%◌, ◌==◌, ◌&&◌, nat_lt, nat_le, length, take, cond, Some, None, IfOk};
+ghost use Rattle.std.specs.Prelude.{◌≡◌, ◌≤◌, ◌<◌, ◌+◌, ◌*◌, ◌%◌, ◌^◌, ◌==◌, ◌&&◌, nat_lt, nat_le, length, take, cond, Some, None, IfOk, IfErr};
 ghost use Rattle.far_text.specs.Grammar.{bytes_in};
 ghost use Rattle.far_text.specs.declared.hex_word.TheConstants.{LONGEST_LINE, LONGEST_BYTES};
 
@@ -8,7 +8,7 @@ use std::alloc::{AllocError, Global};
 use std::marker::Model;
 
 /// The most bytes that a line has, its newline not counted.
-pub const LONGEST_LINE: usize = 4096;
+pub const LONGEST_LINE: usize = 16_384;
 
 /// The most bytes that a word in hex spells.
 pub const LONGEST_BYTES: usize = LONGEST_LINE / 2;
@@ -18,6 +18,9 @@ const CAPACITY: usize = 524_288;
 
 // How much more than a word needs is filled with it.
 const STEP: usize = 1_536;
+
+// The buffer stays shorter, so that 32 bits say where the bytes of a word begin. No text spells as many.
+const END: usize = 4_294_967_296;
 
 fn is_hex_len(len: usize) -> bool
     ensures { result ≡ (nat_lt 0 len && nat_le len LONGEST_LINE && (len % 2 == 0)) }
@@ -44,17 +47,25 @@ fn fill(buffer: &mut Vec<u8>, to: usize) -> Result<(), AllocError>
     requires more { length buffer.old.items < to }
     requires near { to ≤ length buffer.old.items + LONGEST_BYTES }
     ensures enough { IfOk result (λ _. to ≤ length buffer.new.items) }
+    ensures few { IfOk result (λ _. length buffer.new.items < 2 ^ 32) }
     ensures kept { take (length buffer.old.items) buffer.new.items ≡ buffer.old.items }
+    ensures fault { IfErr result (λ _. buffer.new.items ≡ buffer.old.items) }
 {
+    if to + STEP >= END {
+        return Err(AllocError);
+    }
     buffer.reserve(CAPACITY.saturating_sub(buffer.len()))?;
     buffer.resize(to + STEP, 0)
 }
 
 // Makes room for the bytes of one word more.
 fn make_room(buffer: &mut Vec<u8>, to: usize) -> Result<(), AllocError>
-    requires { to ≤ length buffer.old.items + LONGEST_BYTES }
+    requires near { to ≤ length buffer.old.items + LONGEST_BYTES }
+    requires few { length buffer.old.items < 2 ^ 32 }
     ensures enough { IfOk result (λ _. to ≤ length buffer.new.items) }
+    ensures few { IfOk result (λ _. length buffer.new.items < 2 ^ 32) }
     ensures kept { take (length buffer.old.items) buffer.new.items ≡ buffer.old.items }
+    ensures fault { IfErr result (λ _. buffer.new.items ≡ buffer.old.items) }
 {
     if to > buffer.len() {
         fill(buffer, to)?;
@@ -70,21 +81,20 @@ pub struct HexBytes {
 }
 
 impl Model for HexBytes {
-    ghost use Rattle.std.specs.Prelude.{ℕ, ◌≤◌, List, length, take};
+    ghost use Rattle.std.specs.Prelude.{ℕ, ◌≤◌, ◌<◌, ◌^◌, List, length, take};
     ghost use Rattle.hex.specs.Hex.{IsBytes};
 
     ghost Value = { List ℕ };
 
     ghost view = { λ b. take b.len b.buffer.items };
 
-    ghost invariant = { λ b. (b.len ≤ length b.buffer.items) × IsBytes (take b.len b.buffer.items) };
+    ghost invariant = { λ b. (b.len ≤ length b.buffer.items) × IsBytes (take b.len b.buffer.items) × (length b.buffer.items < 2 ^ 32) };
 }
 
 impl HexBytes {
-    ghost use Rattle.std.specs.Prelude.{◌≡◌, ◌≢◌, ◌≤◌, ◌+◌, ◌++◌, ◌∷◌, [], length, take, drop, true, cond, Ok, Some, None, IfOk, IfErr};
+    ghost use Rattle.std.specs.Prelude.{◌≡◌, ◌≢◌, ◌≤◌, ◌<◌, ◌^◌, ◌++◌, ◌∷◌, [], length, take, drop, true, cond, Ok, Some, None, IfOk, IfErr};
     ghost use Rattle.hex.specs.Hex.{IsBytes};
     ghost use Rattle.far_text.specs.Grammar.{bytes_in};
-    ghost use Rattle.far_text.specs.declared.hex_word.TheConstants.{LONGEST_BYTES};
 
     /// No bytes yet.
     pub fn new(alloc: Global) -> HexBytes
@@ -98,7 +108,8 @@ impl HexBytes {
 
     /// How many they are.
     pub fn len(&self) -> usize
-        ensures { result ≡ length self.now }
+        ensures value { result ≡ length self.now }
+        ensures few { result < 2 ^ 32 }
     {
         self.len
     }
@@ -137,7 +148,6 @@ impl HexBytes {
         ensures value { IfOk result (λ known. bytes_in word.now ≡ cond known (Some (drop (length self.old) self.new)) None) }
         ensures kept { take (length self.old) self.new ≡ self.old }
         ensures same { result ≢ Ok true → self.new ≡ self.old }
-        ensures short { length self.new ≤ length self.old + LONGEST_BYTES }
     {
         if !is_hex_len(word.len()) {
             return Ok(false);

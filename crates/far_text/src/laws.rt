@@ -21,12 +21,12 @@ pub fn grammar_is_said()
     ensures cuts { CutsJoin }
 {}
 
-/// A text has at most 1,048,576 bytes, a line 4,096, its newline not counted, and what a word in hex spells 2,048. A step
+/// A text has at most 1,048,576 bytes, a line 16,384, its newline not counted, and what a word in hex spells 8,192. A step
 /// chooses at most 64 logs, and those of a script are below 256.
 pub fn limits_are()
     ensures text { LONGEST_TEXT ≡ 1048576 }
-    ensures line { LONGEST_LINE ≡ 4096 }
-    ensures bytes { LONGEST_BYTES ≡ 2048 }
+    ensures line { LONGEST_LINE ≡ 16384 }
+    ensures bytes { LONGEST_BYTES ≡ 8192 }
     ensures chosen { MOST_CHOSEN ≡ 64 }
     ensures logs { LOG_NAMES ≡ 256 }
 {}

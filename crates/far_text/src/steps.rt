@@ -1,9 +1,8 @@
 //! Steps of the evacuator until they are made, and the logs of scripts among the bytes of writes.
 
-ghost use Rattle.std.specs.Prelude.{◌≡◌, ◌≢◌, ◌≤◌, ◌<◌, ◌+◌, ◌^◌, nat_le, length, take, drop, cond, true, Ok, Some, None, IfOk, IfErr, IfSome};
+ghost use Rattle.std.specs.Prelude.{◌≡◌, ◌≢◌, ◌≤◌, nat_le, length, take, drop, cond, true, Ok, Some, None, IfOk, IfErr, IfSome};
 ghost use Rattle.std.specs.Option.{option_map};
 ghost use Rattle.far_text.specs.declared.command.TheConstants.{MOST_CHOSEN};
-ghost use Rattle.far_text.specs.declared.hex_word.TheConstants.{LONGEST_BYTES};
 ghost use Rattle.far_text.specs.Command.{Script, Select};
 ghost use Rattle.far_text.specs.Cursor.{words_in};
 ghost use Rattle.far_text.specs.Grammar.{logs_of, limited};
@@ -37,11 +36,9 @@ fn may_choose(most: u8) -> bool
 
 // Adds the logs that words print, one behind the other, until one is no log, or there are too many. Whether all are added.
 fn add_each_log(bytes: &mut HexBytes, words: &[u8]) -> Result<bool, AllocError>
-    requires few { length bytes.old + LONGEST_BYTES < 2 ^ 32 }
     ensures value { IfOk result (λ known. logs_of (words_in words.now) ≡ cond known (Some (drop (length bytes.old) bytes.new)) None) }
     ensures kept { take (length bytes.old) bytes.new ≡ bytes.old }
     ensures more { length bytes.old ≤ length bytes.new }
-    ensures short { length bytes.new ≤ length bytes.old + LONGEST_BYTES }
 {
     let most = bytes.len() + LONGEST_BYTES;
     let mut rest = Rest::Words(words);
@@ -60,11 +57,9 @@ fn add_each_log(bytes: &mut HexBytes, words: &[u8]) -> Result<bool, AllocError>
 
 // Adds the logs that words print, if they are logs. Whether they are; if not, nothing has changed.
 fn add_logs(bytes: &mut HexBytes, words: &[u8]) -> Result<bool, AllocError>
-    requires few { length bytes.old + LONGEST_BYTES < 2 ^ 32 }
     ensures value { IfOk result (λ known. logs_of (words_in words.now) ≡ cond known (Some (drop (length bytes.old) bytes.new)) None) }
     ensures kept { take (length bytes.old) bytes.new ≡ bytes.old }
     ensures same { result ≢ Ok true → bytes.new ≡ bytes.old }
-    ensures short { length bytes.new ≤ length bytes.old + LONGEST_BYTES }
 {
     let before = bytes.len();
     match add_each_log(bytes, words) {
@@ -82,12 +77,10 @@ fn script_record(
     words: &[u8],
     most: u8,
 ) -> Result<Option<StepRecord>, AllocError>
-    requires few { length bytes.old + LONGEST_BYTES < 2 ^ 32 }
     requires chosen { most ≤ MOST_CHOSEN }
     ensures value { IfOk result (λ found. option_map (step_in bytes.new) found ≡ option_map (λ logs. Select (Script logs) most) (logs_of (words_in words.now))) }
     ensures within { IfOk result (λ found. IfSome found (IsStepWithin (length bytes.new))) }
     ensures kept { take (length bytes.old) bytes.new ≡ bytes.old }
-    ensures short { length bytes.new ≤ length bytes.old + LONGEST_BYTES }
     ensures none { result ≡ Ok None → bytes.new ≡ bytes.old }
     ensures fault { IfErr result (λ _. bytes.new ≡ bytes.old) }
 {
@@ -105,11 +98,9 @@ fn select_record(
     choice: Choice,
     most: u8,
 ) -> Result<Option<StepRecord>, AllocError>
-    requires few { length bytes.old + LONGEST_BYTES < 2 ^ 32 }
     ensures value { IfOk result (λ found. option_map (step_in bytes.new) found ≡ limited most (option_map (λ choice. Select choice most) (choice_spelled choice.entry))) }
     ensures within { IfOk result (λ found. IfSome found (IsStepWithin (length bytes.new))) }
     ensures kept { take (length bytes.old) bytes.new ≡ bytes.old }
-    ensures short { length bytes.new ≤ length bytes.old + LONGEST_BYTES }
     ensures none { result ≡ Ok None → bytes.new ≡ bytes.old }
     ensures fault { IfErr result (λ _. bytes.new ≡ bytes.old) }
 {
@@ -125,11 +116,9 @@ fn select_record(
 /// The record of a step, unless it chooses more logs than may be chosen, or what is no log. The logs of a script are added to
 /// the bytes before.
 pub fn step_record(bytes: &mut HexBytes, step: Step) -> Result<Option<StepRecord>, AllocError>
-    requires few { length bytes.old + LONGEST_BYTES < 2 ^ 32 }
     ensures value { IfOk result (λ found. option_map (step_in bytes.new) found ≡ step_spelled step.entry) }
     ensures within { IfOk result (λ found. IfSome found (IsStepWithin (length bytes.new))) }
     ensures kept { take (length bytes.old) bytes.new ≡ bytes.old }
-    ensures short { length bytes.new ≤ length bytes.old + LONGEST_BYTES }
     ensures none { result ≡ Ok None → bytes.new ≡ bytes.old }
     ensures fault { IfErr result (λ _. bytes.new ≡ bytes.old) }
 {

@@ -2,7 +2,7 @@
 use Rattle.std.specs.Prelude.{◌≡◌, ◌≢◌, ℕ, ◌+◌, ◌-◌, ◌*◌, ◌^◌, ◌<◌, ◌≤◌, Bool, true, false, Some, None, IfSome, bit_or, bit_and, List, [], ◌∷◌, map, length, slice_index}
 use Rattle.std.specs.List.{range_with_len}
 use Rattle.far_word.specs.Bytes.{bytes_of, words_of, packed_word, with_word}
-use Rattle.far_word.specs.Header.{IsHead, head_word, head_of}
+use Rattle.far_word.specs.Header.{IsHead, IsHeadOf, header_in, head_word, head_of, version_of, word_by}
 use Rattle.far_word.specs.Job.{IsJobWord, job_of, job_word}
 use Rattle.far_word.specs.Mark.{position}
 use Rattle.far_word.specs.Pointer.{IsPtr, word_of, read_of, takes_mark, with_mark, without_evac, without_owner_marks, view_place}
@@ -20,6 +20,7 @@ use Rattle.far_word.specs.declared.pointer.PtrWord.TheVariants.{Free, Near, Far}
 use Rattle.far_word.specs.declared.refused.Refused.TheVariants.{Memory, NoRoom, NoPointer, Length, Closed, AlreadyOpen, NotHeld, Range, Held, Device, Damaged, Phase, EpochsSpent, Marked, Shape, Syntax, BadChoice, StillOpen}
 use Rattle.far_word.specs.declared.scope.ScopeWord.{ScopeWord}
 use Rattle.far_word.specs.declared.sizes.TheConstants.{LONGEST, LOG_WORDS}
+use Rattle.far_word.specs.declared.version.Version.{Version}
 
 -- ---- pointer words: a pointer's word is read as that pointer, and what is read of a word has that word
 abbrev pub PointersReadBack : Type 0
@@ -64,6 +65,14 @@ HeadersReadBack = (h : HeadWord) → IsHead h → (head_of (head_word h.pointer 
 
 abbrev pub HeadersPackBack : Type 0
 HeadersPackBack = (w : ℕ) → w < 2 ^ 64 → IfSome (head_of w) (λ h. IsHead h × (head_word h.pointer h.len h.ds ≡ w))
+
+-- the same of each version, whose word says it
+abbrev pub VersionsReadBack : Type 0
+VersionsReadBack = (v : Version) (h : HeadWord) → IsHeadOf v h.pointer h.len h.ds →
+    (header_in v (word_by v h.pointer h.len h.ds) ≡ Some h) × (word_by v h.pointer h.len h.ds < 2 ^ 64) × (version_of (word_by v h.pointer h.len h.ds) ≡ v)
+
+abbrev pub VersionsPackBack : Type 0
+VersionsPackBack = (v : Version) (w : ℕ) → w < 2 ^ 64 → IfSome (header_in v w) (λ h. IsHeadOf v h.pointer h.len h.ds × (word_by v h.pointer h.len h.ds ≡ w))
 
 -- ---- scope words
 abbrev pub ScopesReadBack : Type 0

@@ -1,12 +1,13 @@
 -- Worked words of each layout, in hexadecimal: what each says, and which are refused.
 use Rattle.std.specs.Prelude.{◌≡◌, ℕ, ◌-◌, ◌^◌, true, false, Some, None, List, [], ◌∷◌, slice_index}
 use Rattle.far_word.specs.Bytes.{bytes_of, words_of}
-use Rattle.far_word.specs.Header.{head_word, head_of}
+use Rattle.far_word.specs.Header.{head_word, head_of, head_of_v1, version_of, word_by}
 use Rattle.far_word.specs.Job.{job_of, job_word}
 use Rattle.far_word.specs.Mark.{position}
 use Rattle.far_word.specs.Pointer.{word_of, read_of}
 use Rattle.far_word.specs.Scope.{scope_word, scope_of}
 use Rattle.far_word.specs.declared.header.HeadWord.{HeadWord}
+use Rattle.far_word.specs.declared.header.HeadWordV1.{HeadWordV1}
 use Rattle.far_word.specs.declared.job.Job.{Job}
 use Rattle.far_word.specs.declared.job.JobWord.{JobWord}
 use Rattle.far_word.specs.declared.job.JobWord.TheVariants.{Empty, Offered, Taken, Finished}
@@ -16,6 +17,7 @@ use Rattle.far_word.specs.declared.pointer.PtrWord.{PtrWord}
 use Rattle.far_word.specs.declared.pointer.PtrWord.TheVariants.{Free, Near, Far}
 use Rattle.far_word.specs.declared.scope.ScopeWord.{ScopeWord}
 use Rattle.far_word.specs.declared.scope.ScopeWord.TheVariants.{Closed, Open}
+use Rattle.far_word.specs.declared.version.Version.TheVariants.{First, Second}
 
 -- a word is packed from what it says, and is read as that
 abbrev pub IsPointerWord : ℕ → PtrWord → Type 0
@@ -23,6 +25,9 @@ IsPointerWord w v = (word_of v ≡ w) × (read_of w ≡ Some v)
 
 abbrev pub IsHeaderWord : ℕ → HeadWord → Type 0
 IsHeaderWord w h = (head_word h.pointer h.len h.ds ≡ w) × (head_of w ≡ Some h)
+
+abbrev pub IsHeaderWordV1 : ℕ → HeadWordV1 → Type 0
+IsHeaderWordV1 w h = (word_by First h.pointer h.len h.ds ≡ w) × (head_of_v1 w ≡ Some h)
 
 abbrev pub IsScopeWord : ℕ → ScopeWord → Type 0
 IsScopeWord w s = (scope_word s ≡ w) × (scope_of w ≡ Some s)
@@ -39,11 +44,13 @@ near_eight log at marks = Near 8 1 record { log = log; at = at } marks
 abbrev pub NearRowsHold : Type 0
 NearRowsHold = IsPointerWord 0x8400_0000_0001_0008 (near_eight 0 0 no_marks)
     × IsPointerWord 0x8400_0000_0201_0008 (near_eight 0 2 no_marks)
-    × IsPointerWord 0x8400_0000_7e01_0008 (near_eight 0 126 no_marks)
+    × IsPointerWord 0x8400_0000_7f01_0008 (near_eight 0 127 no_marks)
+    × IsPointerWord 0x8400_0001_fe01_0008 (near_eight 0 510 no_marks)
     × IsPointerWord 0x8400_0004_0001_0008 (near_eight 1 0 no_marks)
     × IsPointerWord 0x8400_00fc_0001_0008 (near_eight 63 0 no_marks)
     × IsPointerWord 0x8400_0000_0000_0001 (Near 1 0 record { log = 0; at = 0 } no_marks)
-    × IsPointerWord 0x8400_0000_00ff_03f8 (Near 1016 255 record { log = 0; at = 0 } no_marks)
+    × IsPointerWord 0x8400_0000_0001_03f9 (Near 1017 1 record { log = 0; at = 0 } no_marks)
+    × IsPointerWord 0x8400_0000_00ff_0ff8 (Near 4088 255 record { log = 0; at = 0 } no_marks)
 
 abbrev pub MarkedRowsHold : Type 0
 MarkedRowsHold = IsPointerWord 0xc400_0000_0001_0008 (near_eight 0 0 record { hot = true; evac = false; moved = false; dropped = false; dirty = false })
@@ -55,17 +62,17 @@ MarkedRowsHold = IsPointerWord 0xc400_0000_0001_0008 (near_eight 0 0 record { ho
 
 abbrev pub FarRowsHold : Type 0
 FarRowsHold = IsPointerWord 0x0400_0000_0001_0008 (Far 8 1 no_marks)
-    × IsPointerWord 0x5c00_0000_00ff_03f8 (Far 1016 255 record { hot = true; evac = false; moved = true; dropped = true; dirty = false })
+    × IsPointerWord 0x5c00_0000_00ff_0ff8 (Far 4088 255 record { hot = true; evac = false; moved = true; dropped = true; dirty = false })
 
 abbrev pub FreeRowHolds : Type 0
 FreeRowHolds = IsPointerWord 0 Free
 
--- no USED; lengths 0 and 1,017; a span past the log's end; far at an offset, in a log, with EVAC; log 64; the lowest and the highest of the bits that are zero
+-- no USED; lengths 0 and 4,089; a span past the log's end; far at an offset, in a log, with EVAC; log 64; the lowest and the highest of the bits that are zero
 abbrev pub PointersAreRefused : Type 0
 PointersAreRefused = (read_of 0x0000_0000_0001_0008 ≡ None)
     × (read_of 0x8400_0000_0001_0000 ≡ None)
-    × (read_of 0x8400_0000_0001_03f9 ≡ None)
-    × (read_of 0x8400_0000_7f01_0008 ≡ None)
+    × (read_of 0x8400_0000_0001_0ff9 ≡ None)
+    × (read_of 0x8400_0001_ff01_0008 ≡ None)
     × (read_of 0x0400_0000_0101_0008 ≡ None)
     × (read_of 0x0400_0004_0001_0008 ≡ None)
     × (read_of 0x2400_0000_0001_0008 ≡ None)
@@ -83,18 +90,43 @@ MarkBitsStand = (2 ^ position Hot ≡ 0x4000_0000_0000_0000)
 
 -- ---- header words
 abbrev pub HeaderRowsHold : Type 0
-HeaderRowsHold = IsHeaderWord 0xa100_0000_0001_0008 record { pointer = 0; len = 8; ds = 1 }
-    × IsHeaderWord 0xa100_0000_0101_0008 record { pointer = 1; len = 8; ds = 1 }
-    × IsHeaderWord 0xa100_0003_ffff_03f8 record { pointer = 1023; len = 1016; ds = 255 }
+HeaderRowsHold = IsHeaderWord 0xa200_0000_0100_0008 record { pointer = 0; len = 8; ds = 1 }
+    × IsHeaderWord 0xa200_0001_0100_0008 record { pointer = 1; len = 8; ds = 1 }
+    × IsHeaderWord 0xa200_0100_0100_0008 record { pointer = 256; len = 8; ds = 1 }
+    × IsHeaderWord 0xa200_07ff_ff00_0ff8 record { pointer = 2047; len = 4088; ds = 255 }
 
--- a pointer's word; other top bytes; lengths 0 and 1,017; pointer 1,024
+-- a pointer's word; other top bytes; lengths 0 and 4,089, and one past 16 bits; pointer 2,048
 abbrev pub HeadersAreRefused : Type 0
 HeadersAreRefused = (head_of 0x8400_0000_0001_0008 ≡ None)
-    × (head_of 0xa000_0000_0001_0008 ≡ None)
-    × (head_of 0xa200_0000_0001_0008 ≡ None)
-    × (head_of 0xa100_0000_0001_0000 ≡ None)
-    × (head_of 0xa100_0000_0001_03f9 ≡ None)
-    × (head_of 0xa100_0004_0001_0008 ≡ None)
+    × (head_of 0xa100_0000_0001_0008 ≡ None)
+    × (head_of 0xa300_0000_0100_0008 ≡ None)
+    × (head_of 0xa200_0000_0100_0000 ≡ None)
+    × (head_of 0xa200_0000_0100_0ff9 ≡ None)
+    × (head_of 0xa200_0000_0101_0008 ≡ None)
+    × (head_of 0xa200_0800_0100_0008 ≡ None)
+
+-- those of version 1
+abbrev pub HeaderRowsHoldV1 : Type 0
+HeaderRowsHoldV1 = IsHeaderWordV1 0xa100_0000_0001_0008 record { pointer = 0; len = 8; ds = 1 }
+    × IsHeaderWordV1 0xa100_0000_0101_0008 record { pointer = 1; len = 8; ds = 1 }
+    × IsHeaderWordV1 0xa100_0000_8001_0008 record { pointer = 128; len = 8; ds = 1 }
+    × IsHeaderWordV1 0xa100_0003_ffff_03f8 record { pointer = 1023; len = 1016; ds = 255 }
+
+-- a pointer's word; other top bytes; lengths 0 and 1,017; pointer 1,024
+abbrev pub HeadersAreRefusedV1 : Type 0
+HeadersAreRefusedV1 = (head_of_v1 0x8400_0000_0001_0008 ≡ None)
+    × (head_of_v1 0xa000_0000_0001_0008 ≡ None)
+    × (head_of_v1 0xa200_0000_0100_0008 ≡ None)
+    × (head_of_v1 0xa100_0000_0001_0000 ≡ None)
+    × (head_of_v1 0xa100_0000_0001_03f9 ≡ None)
+    × (head_of_v1 0xa100_0004_0001_0008 ≡ None)
+
+-- the version by a first word: a header of each, and words that are none
+abbrev pub VersionRowsHold : Type 0
+VersionRowsHold = (version_of 0xa100_0000_0001_0008 ≡ First)
+    × (version_of 0xa200_0000_0100_0008 ≡ Second)
+    × (version_of 0xa100_0000_0000_0000 ≡ First)
+    × (version_of 0 ≡ Second)
 
 -- ---- scope words
 abbrev pub ScopeRowsHold : Type 0
@@ -114,23 +146,23 @@ abbrev pub to_log_2 : Job
 to_log_2 = record { pointer = 0; from = record { log = 0; at = 0 }; to = record { log = 2; at = 0 } }
 
 abbrev pub largest_job : Job
-largest_job = record { pointer = 1023; from = record { log = 63; at = 126 }; to = record { log = 63; at = 126 } }
+largest_job = record { pointer = 2047; from = record { log = 63; at = 510 }; to = record { log = 63; at = 510 } }
 
 abbrev pub JobRowsHold : Type 0
 JobRowsHold = IsJobOf 0 Empty
     × IsJobOf 0x4000_2000_0000_0000 (Offered to_log_2)
     × IsJobOf 0x8c00_2000_0000_0000 (Taken to_log_2 3)
     × IsJobOf 0xcc00_2000_0000_0000 (Finished to_log_2 3)
-    × IsJobOf 0xdc03_f1f8_fc7e_03ff (Finished largest_job 7)
+    × IsJobOf 0xdc03_f7f8_fdfe_07ff (Finished largest_job 7)
 
--- no stage; a copier while offered; copier 8; pointer 1,024; offsets 127; log 64; the lowest and the highest of the bits that are zero
+-- no stage; a copier while offered; copier 8; pointer 2,048; offsets 511; log 64; the lowest and the highest of the bits that are zero
 abbrev pub JobsAreRefused : Type 0
 JobsAreRefused = (job_of 0x0000_2000_0000_0000 ≡ None)
     × (job_of 0x4c00_2000_0000_0000 ≡ None)
     × (job_of 0xa000_2000_0000_0000 ≡ None)
-    × (job_of 0x4000_2000_0000_0400 ≡ None)
-    × (job_of 0x4000_2000_007f_0000 ≡ None)
-    × (job_of 0x4000_21fc_0000_0000 ≡ None)
+    × (job_of 0x4000_2000_0000_0800 ≡ None)
+    × (job_of 0x4000_2000_01ff_0000 ≡ None)
+    × (job_of 0x4000_27fc_0000_0000 ≡ None)
     × (job_of 0x4004_0000_0000_0000 ≡ None)
     × (job_of 0x4010_2000_0000_0000 ≡ None)
     × (job_of 0x4200_2000_0000_0000 ≡ None)

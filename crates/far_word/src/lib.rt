@@ -13,9 +13,10 @@ mod pointer;
 mod refused;
 mod scope;
 mod sizes;
+mod version;
 
 pub use bytes::{pack_bytes, unpack_bytes};
-pub use header::HeadWord;
+pub use header::{HeadWord, HeadWordV1};
 pub use job::{Job, JobWord};
 pub use laws::{
     header_is, header_words, job_words, packed_bytes, pointer_marks, pointer_words,
@@ -31,3 +32,4 @@ pub use sizes::{
     CELLS, EPOCH_END, JOBS, LAST_AT, LEAST_LOGS, LEAST_MUTATORS, LOG_BYTES, LOG_WORDS, LONGEST,
     MOST_COPIERS, MOST_LOGS, MOST_MUTATORS, POINTERS, size_of, words_for,
 };
+pub use version::Version;

@@ -14,7 +14,7 @@ pub enum Refused {
     NoRoom,
     #[error("all pointer cells of the mutator are used")]
     NoPointer,
-    #[error("an object's length is 1 to 1016 bytes")]
+    #[error("an object's length is 1 to 4088 bytes")]
     Length,
     #[error("the scope is closed")]
     Closed,

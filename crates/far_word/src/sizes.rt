@@ -4,7 +4,7 @@ ghost use Rattle.std.specs.Prelude.{◌≡◌};
 ghost use Rattle.far_word.specs.Sizes.{size_of, words_for};
 
 /// The words of a log, eight bytes each.
-pub const LOG_WORDS: u16 = 128;
+pub const LOG_WORDS: u16 = 512;
 
 /// The bytes of a log.
 pub const LOG_BYTES: u16 = LOG_WORDS * 8;
@@ -13,7 +13,7 @@ pub const LOG_BYTES: u16 = LOG_WORDS * 8;
 pub const LAST_AT: u16 = LOG_WORDS - 2;
 
 /// The most data bytes of an object.
-pub const LONGEST: u16 = 1016;
+pub const LONGEST: u16 = 4088;
 
 /// The fewest logs of a heap.
 pub const LEAST_LOGS: u8 = 2;
@@ -28,10 +28,10 @@ pub const LEAST_MUTATORS: u8 = 1;
 pub const MOST_MUTATORS: u8 = 8;
 
 /// The pointer cells of each mutator.
-pub const CELLS: u16 = 128;
+pub const CELLS: u16 = 256;
 
 /// The pointer cells of the largest heap.
-pub const POINTERS: u16 = 1024;
+pub const POINTERS: u16 = 2048;
 
 /// The job words of a heap, each for the copy of one object.
 pub const JOBS: u8 = 16;

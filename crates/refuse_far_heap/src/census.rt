@@ -3,10 +3,10 @@
 use far_book::Home;
 use far_evac::{Census, Housed, LogState};
 use far_reply::Counts;
-use far_word::{LOG_BYTES, size_of};
+use far_word::{LOG_BYTES, LONGEST, size_of};
 
 /// The lengths of the objects, by pointer.
-pub(crate) const LENGTHS: [u16; 3] = [8, 8, 1016];
+pub(crate) const LENGTHS: [u16; 3] = [8, 8, LONGEST];
 
 // The bytes of an object with its header; 0 if there is no such object.
 fn bytes_of(pointer: u16) -> u64 {

@@ -12,7 +12,7 @@ use std::sync::Wait;
 /// How many objects a mutator has at most, and how long they are.
 const MOST_OBJECTS: usize = 40;
 
-const MOST_BYTES: u64 = 200;
+const MOST_BYTES: u64 = 800;
 
 /// What a mutator keeps beside its mutator.
 #[derive(Drop)]

@@ -3,7 +3,7 @@
 use far_heap::View;
 
 /// The room for an object's bytes.
-pub const ROOM: usize = 256;
+pub const ROOM: usize = 1024;
 
 /// An object, as its mutator wrote it, with the last view of it and the count of the scope that made that.
 #[derive(Drop)]

@@ -8,6 +8,7 @@ mod choosing;
 mod copying;
 mod devices;
 mod making;
+mod passing;
 mod readme;
 mod refusals;
 mod rounds;

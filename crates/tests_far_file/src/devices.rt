@@ -11,7 +11,7 @@ use std::test::*;
 
 const FIRST: &[u8] = &[1, 2, 3];
 
-const LONGEST: &[u8] = &[9; 1024];
+const LONGEST: &[u8] = &[9; 4096];
 
 // Whether bytes come back under a key, by each of the two reads.
 fn gives<D: Device>(device: &mut D, alloc: Global, id: u32, wanted: &[u8]) -> bool {
@@ -34,11 +34,11 @@ pub(crate) fn keeps<F: Storage + Drop, L: Seal>(
 ) -> Result<bool, DeviceFault> {
     device.write(5, LONGEST)?;
     device.write(6, LONGEST)?;
-    device.write(1023, &[])?;
+    device.write(2047, &[])?;
     device.write(5, FIRST)?;
     let kept = gives(device, alloc, 5, FIRST) && gives(device, alloc, 6, LONGEST);
     device.forget(6);
-    let empty = gives(device, alloc, 1023, &[]) && device.read(6).is_err();
+    let empty = gives(device, alloc, 2047, &[]) && device.read(6).is_err();
     device.write(6, FIRST)?;
     let anew = gives(device, alloc, 6, FIRST);
     Ok(kept && empty && anew && blames(device, FileFault::Nothing) && device.faults() == 1)
@@ -72,9 +72,9 @@ fn over_storage_in_memory(rt: HostRuntime) -> Result<(), Fail> {
 #[test]
 fn slots_have_room_for_so_much(rt: HostRuntime) {
     let mut device = FileDevice::<MemStorage>::new(rt.alloc(), MemStorage::new(rt.alloc()));
-    assert!(rt; device.write(1024, FIRST) == Err(DeviceFault::Device));
+    assert!(rt; device.write(2048, FIRST) == Err(DeviceFault::Device));
     assert!(rt; blames(&device, FileFault::NoSlot));
-    assert!(rt; device.write(0, &[7; 1025]) == Err(DeviceFault::Device));
+    assert!(rt; device.write(0, &[7; 4097]) == Err(DeviceFault::Device));
     assert!(rt; device.faults() == 2);
 }
 

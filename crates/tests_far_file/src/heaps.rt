@@ -40,7 +40,7 @@ fn makes_three<K: HeapName, D: Device + Drop, R: Wait>(
     mutator: &mut Mutator<K, D>,
 ) -> Result<(), Refused> {
     for _ in 0..3u8 {
-        mutator.alloc(rt, 1016, 1)?;
+        mutator.alloc(rt, 4088, 1)?;
     }
     Ok(())
 }

@@ -1,8 +1,9 @@
 //! Whether the clauses say what was meant, by worked images of logs: each header is written out by its layout.
 
 use far_log::{
-    BadWord, LogRow, Span, WalkFault, bad_words_are_first, later_words_say_nothing, size_of,
-    spans_hold_bytes, spans_take_all, walk, walks_are_one, words_have_one_span,
+    BadWord, LogRow, Span, WalkFault, bad_words_are_first, convert, images_are_converted,
+    later_words_say_nothing, size_of, spans_hold_bytes, spans_take_all, walk, walks_are_one,
+    words_have_one_span,
 };
 use far_word::HeadWord;
 use std::alloc::Global;
@@ -19,11 +20,21 @@ const ROW: LogRow = LogRow {
     log: 1,
     live: 16,
     dead: 24,
-    unused: 984,
+    unused: 4056,
 };
 
 // A span of 9 bytes and one of 8, and behind them a word that is no header.
 const TWO: [u64; 6] = [
+    0xa200_0005_0200_0009,
+    u64::MAX,
+    0xff,
+    0xa200_0000_0100_0008,
+    u64::MAX,
+    1,
+];
+
+// The same in version 1.
+const TWO_V1: [u64; 6] = [
     0xa100_0000_0502_0009,
     u64::MAX,
     0xff,
@@ -34,7 +45,7 @@ const TWO: [u64; 6] = [
 
 // Whether a walk through the first `tail` of these words finds no bad one, and the spans that are wanted.
 fn walks_to(alloc: Global, words: &[u64], tail: usize, wanted: &[Span]) -> bool {
-    if tail > words.len() || words.len() > 128 {
+    if tail > words.len() || words.len() > 512 {
         return false;
     }
     match walk(alloc, words, tail) {
@@ -45,7 +56,7 @@ fn walks_to(alloc: Global, words: &[u64], tail: usize, wanted: &[Span]) -> bool 
 
 // Whether a walk through the first `tail` of these words finds this one bad.
 fn is_bad(alloc: Global, words: &[u64], tail: usize, at: u16) -> bool {
-    if tail > words.len() || words.len() > 128 || at as usize >= words.len() {
+    if tail > words.len() || words.len() > 512 || at as usize >= words.len() {
         return false;
     }
     let word = words[at as usize];
@@ -62,7 +73,7 @@ fn takes(len: u16, words: usize) -> bool {
 #[test]
 fn sizes(rt: HostRuntime) {
     assert!(rt; takes(0, 1) && takes(1, 2) && takes(8, 2) && takes(9, 3));
-    assert!(rt; takes(1016, 128) && takes(1017, 129) && takes(u16::MAX, 8193));
+    assert!(rt; takes(4088, 512) && takes(4089, 513) && takes(u16::MAX, 8193));
 }
 
 #[test]
@@ -99,13 +110,29 @@ fn spans(rt: HostRuntime) {
     assert!(rt; walks_to(alloc, &[0xa100_0000_0001_0008, 0], 2, &[FIRST]));
     assert!(rt; walks_to(alloc, &[0xa100_0000_0001_0008, 0], 0, &[]));
     assert!(rt; walks_to(alloc, &[], 0, &[]));
+    assert!(rt; walks_to(alloc, &[0xa200_0000_0100_0008, 0], 2, &[FIRST]));
     assert!(rt; walks_to(alloc, &TWO, 5, &[nine, second]));
     assert!(rt; walks_to(alloc, &TWO, 3, &[nine]));
+    assert!(rt; walks_to(alloc, &TWO_V1, 5, &[nine, second]));
 }
 
 #[test]
 fn longest_span(rt: HostRuntime) {
-    let mut words = [u64::MAX; 128];
+    let mut words = [u64::MAX; 512];
+    words[0] = 0xa200_07ff_ff00_0ff8;
+    let span = Span {
+        at: 0,
+        p: 2047,
+        len: 4088,
+        ds: 255,
+    };
+    assert!(rt; walks_to(rt.alloc(), &words, 512, &[span]));
+    assert!(rt; is_bad(rt.alloc(), &words, 511, 0));
+}
+
+#[test]
+fn longest_span_of_version_1(rt: HostRuntime) {
+    let mut words = [u64::MAX; 512];
     words[0] = 0xa100_0003_ffff_03f8;
     let span = Span {
         at: 0,
@@ -115,13 +142,28 @@ fn longest_span(rt: HostRuntime) {
     };
     assert!(rt; walks_to(rt.alloc(), &words, 128, &[span]));
     assert!(rt; is_bad(rt.alloc(), &words, 127, 0));
+    assert!(rt; is_bad(rt.alloc(), &words, 129, 128));
+}
+
+// A version 1 span ends by word 128, and none begins there.
+#[test]
+fn logs_of_version_1_end(rt: HostRuntime) {
+    let mut words = [0; 512];
+    words[0] = 0xa100_0000_0001_03e8;
+    words[126] = 0xa100_0000_0001_0008;
+    words[128] = 0xa100_0000_0001_0008;
+    let (long, last) = (Span { len: 1000, ..FIRST }, Span { at: 126, ..FIRST });
+    assert!(rt; walks_to(rt.alloc(), &words, 128, &[long, last]));
+    assert!(rt; is_bad(rt.alloc(), &words, 130, 128));
+    words[126] = 0xa100_0000_0001_0009;
+    assert!(rt; is_bad(rt.alloc(), &words, 130, 126));
 }
 
 // Whether these are the spans of so many objects of one byte.
 fn are_shortest(spans: &[Span], count: usize) -> bool {
     for (i, span) in spans.iter().enumerate() {
         let wanted = Span {
-            at: 2 * (i % 64) as u16,
+            at: 2 * (i % 256) as u16,
             p: 0,
             len: 1,
             ds: 1,
@@ -133,18 +175,18 @@ fn are_shortest(spans: &[Span], count: usize) -> bool {
     spans.len() == count
 }
 
-fn walks_to_shortest(alloc: Global, words: &[u64; 128]) -> bool {
-    match walk(alloc, words, 128) {
-        Ok(spans) => are_shortest(&spans, 64),
+fn walks_to_shortest(alloc: Global, words: &[u64; 512]) -> bool {
+    match walk(alloc, words, 512) {
+        Ok(spans) => are_shortest(&spans, 256),
         Err(_) => false,
     }
 }
 
 #[test]
 fn shortest_spans(rt: HostRuntime) {
-    let mut words = [0xff; 128];
-    for i in 0..64 {
-        words[2 * i] = 0xa100_0000_0001_0001;
+    let mut words = [0xff; 512];
+    for i in 0..256 {
+        words[2 * i] = 0xa200_0000_0100_0001;
     }
     assert!(rt; walks_to_shortest(rt.alloc(), &words));
 }
@@ -160,9 +202,62 @@ fn bad_words(rt: HostRuntime) {
     assert!(rt; is_bad(alloc, &[0xa000_0000_0001_0008, 0], 2, 0));
     assert!(rt; is_bad(alloc, &[0xa100_0000_0001_03f9, 0], 2, 0));
     assert!(rt; is_bad(alloc, &[0xa100_0004_0001_0008, 0], 2, 0));
+    assert!(rt; is_bad(alloc, &[0xa200_0000_0100_0ff9, 0], 2, 0));
+    assert!(rt; is_bad(alloc, &[0xa200_0800_0100_0008, 0], 2, 0));
     assert!(rt; is_bad(alloc, &TWO, 6, 5));
     assert!(rt; is_bad(alloc, &TWO, 4, 3));
     assert!(rt; is_bad(alloc, &[TWO[0], 0, 0x100, 0, 0], 5, 2));
+}
+
+// A header of the other version is bad, whichever comes first.
+#[test]
+fn versions_are_not_mixed(rt: HostRuntime) {
+    let alloc = rt.alloc();
+    let (first, second) = (0xa100_0000_0001_0008, 0xa200_0000_0100_0008);
+    assert!(rt; is_bad(alloc, &[first, 0, second, 0], 4, 2));
+    assert!(rt; is_bad(alloc, &[second, 0, first, 0], 4, 2));
+}
+
+// Whether the first `tail` of these words become these, and the words behind them stay as they were.
+fn converts_to(words: &[u64], tail: usize, wanted: &[u64; 6]) -> bool {
+    if tail > words.len() || words.len() > 512 || tail > 6 {
+        return false;
+    }
+    let mut out = [7; 6];
+    match convert(words, tail, &mut out) {
+        Ok(end) => end == tail && out == *wanted,
+        Err(_) => false,
+    }
+}
+
+// Whether this word is bad, and nothing is written.
+fn refuses(words: &[u64], tail: usize, at: u16) -> bool {
+    if tail > words.len() || words.len() > 512 || tail > 6 || at as usize >= words.len() {
+        return false;
+    }
+    let word = words[at as usize];
+    let mut out = [7; 6];
+    match convert(words, tail, &mut out) {
+        Ok(_) => false,
+        Err(bad) => bad == BadWord { at, word } && out == [7; 6],
+    }
+}
+
+#[test]
+fn converted(rt: HostRuntime) {
+    let (first, second) = (0xa100_0000_0001_0008, 0xa200_0000_0100_0008);
+    assert!(rt; converts_to(&[first, 0], 2, &[second, 0, 7, 7, 7, 7]));
+    assert!(rt; converts_to(&[second, 0], 2, &[second, 0, 7, 7, 7, 7]));
+    assert!(rt; converts_to(&[first, 0], 0, &[7; 6]));
+    assert!(rt; converts_to(&[], 0, &[7; 6]));
+    let high = [0xa100_0000_8001_0008, 9, 0xa100_0003_ff01_0001, 1];
+    let there = [0xa200_0100_0100_0008, 9, 0xa200_077f_0100_0001, 1, 7, 7];
+    assert!(rt; converts_to(&high, 4, &there));
+    assert!(rt; converts_to(&TWO_V1, 5, &[TWO[0], TWO[1], TWO[2], TWO[3], TWO[4], 7]));
+    assert!(rt; converts_to(&TWO, 5, &[TWO[0], TWO[1], TWO[2], TWO[3], TWO[4], 7]));
+    assert!(rt; refuses(&[0xa100_0000_0001_0001, 0x100], 2, 1));
+    assert!(rt; refuses(&[first, 0, second, 0], 4, 2));
+    assert!(rt; refuses(&[first, 0], 1, 0));
 }
 
 // Whether none of some values is this one.
@@ -237,6 +332,7 @@ fn laws(_rt: HostRuntime) {
     walks_are_one();
     later_words_say_nothing();
     bad_words_are_first();
+    images_are_converted();
     words_have_one_span();
     spans_hold_bytes();
     spans_take_all();

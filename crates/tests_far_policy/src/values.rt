@@ -23,7 +23,7 @@ const fn row(log: u8, live: u16) -> LogRow {
 const FOUR: [LogRow; 4] = [
     LogRow {
         log: 5,
-        live: 1024,
+        live: 4096,
         dead: 0,
         unused: 0,
     },
@@ -31,19 +31,19 @@ const FOUR: [LogRow; 4] = [
         log: 2,
         live: 16,
         dead: 8,
-        unused: 1000,
+        unused: 4072,
     },
     LogRow {
         log: 9,
         live: 0,
-        dead: 1024,
+        dead: 4096,
         unused: 0,
     },
     LogRow {
         log: 0,
         live: 16,
         dead: 0,
-        unused: 1008,
+        unused: 4080,
     },
 ];
 
@@ -86,12 +86,12 @@ fn readme(rt: HostRuntime) -> Result<(), Fail> {
             log: 3,
             live: 40,
             dead: 0,
-            unused: 984,
+            unused: 4056,
         },
         LogRow {
             log: 1,
             live: 16,
-            dead: 1000,
+            dead: 4072,
             unused: 8,
         },
     ];

@@ -23,11 +23,11 @@ write 0 1 0 bb
   ok
 close 0
   ok
-new 0 1016 1
+new 0 4088 1
   pointer 2
 round oldest 1 9
   round done moved 2 far 0 dropped 0 freed 1
-new 0 1016 1
+new 0 4088 1
   pointer 3
 select script 1 2
   selected 2
@@ -67,14 +67,14 @@ write 0 0 0 0102030405060708
   ok
 close 0
   ok
-new 0 1016 1
+new 0 4088 1
   pointer 2
 round oldest 1 9
   refused 10 moved 1 far 0 dropped 0 freed 0
 evacuate 9
   evacuated moved 0 far 1 dropped 0 freed 1 done
 audit
-  audit near 2 far 1 live 1040
+  audit near 2 far 1 live 4112
 ";
 
 /// A far object isn't brought where the device fails, and is at the next call.
@@ -87,7 +87,7 @@ device fail 2
   ok
 new 0 8 1
   pointer 0
-new 0 1016 1
+new 0 4088 1
   pointer 1
 round oldest 1 9
   round done moved 0 far 1 dropped 0 freed 1
@@ -100,10 +100,10 @@ read 0 0 0 8
 where 0 0
   far h
 logs
-  log 0 free live 0 dead 0 unused 1024
-  log 1 open live 1024 dead 0 unused 0
-  log 2 free live 0 dead 0 unused 1024
-  log 3 free live 0 dead 0 unused 1024
+  log 0 free live 0 dead 0 unused 4096
+  log 1 open live 4096 dead 0 unused 0
+  log 2 free live 0 dead 0 unused 4096
+  log 3 free live 0 dead 0 unused 4096
 write 0 0 7 ff
   ok
 read 0 0 0 8
@@ -118,7 +118,7 @@ device fail 2
   ok
 new 0 8 1
   pointer 0
-new 0 1016 1
+new 0 4088 1
   pointer 1
 round oldest 1 9
   round done moved 0 far 1 dropped 0 freed 1
@@ -144,7 +144,7 @@ device fail 0
   ok
 new 0 8 1
   pointer 0
-new 0 1016 1
+new 0 4088 1
   pointer 1
 round oldest 1 9
   round done moved 0 far 1 dropped 0 freed 1
@@ -162,7 +162,7 @@ device short 1
   ok
 new 0 8 1
   pointer 0
-new 0 1016 1
+new 0 4088 1
   pointer 1
 round oldest 1 9
   round done moved 0 far 1 dropped 0 freed 1
@@ -184,7 +184,7 @@ device flip 1
   ok
 new 0 1 1
   pointer 0
-new 0 1016 1
+new 0 4088 1
   pointer 1
 round oldest 1 9
   round done moved 0 far 1 dropped 0 freed 1
@@ -193,7 +193,7 @@ open 0
 read 0 0 0 1
   data ff
 log 0
-  log 0 open live 16 dead 0 unused 1008
+  log 0 open live 16 dead 0 unused 4080
 ";
 
 /// The second read is short, after two writes, which aren't counted: of one byte it leaves none, and what was to be written isn't.
@@ -214,11 +214,11 @@ write 0 1 0 bb
   ok
 close 0
   ok
-new 0 1016 1
+new 0 4088 1
   pointer 2
 round oldest 1 9
   round done moved 2 far 0 dropped 0 freed 1
-new 0 1016 1
+new 0 4088 1
   pointer 3
 round leastlive 1 9
   round done moved 0 far 2 dropped 0 freed 1
@@ -242,7 +242,7 @@ device flip 1
   ok
 new 0 8 1
   pointer 0
-new 0 1016 1
+new 0 4088 1
   pointer 1
 round oldest 1 9
   round done moved 0 far 1 dropped 0 freed 1
@@ -252,11 +252,11 @@ write 0 0 0 01
   ok
 close 0
   ok
-new 0 1016 1
+new 0 4088 1
   pointer 2
 round leastlive 1 9
   round done moved 1 far 0 dropped 0 freed 1
-new 0 1016 1
+new 0 4088 1
   pointer 3
 round leastlive 1 9
   round done moved 0 far 1 dropped 0 freed 1
@@ -276,7 +276,7 @@ device fail 3
   ok
 new 0 8 1
   pointer 0
-new 0 1016 1
+new 0 4088 1
   pointer 1
 round oldest 1 9
   round done moved 0 far 1 dropped 0 freed 1
@@ -286,7 +286,7 @@ read 0 0 0 1
   data 00
 close 0
   ok
-new 0 1016 1
+new 0 4088 1
   pointer 2
 select script 1 0
   selected 0
@@ -296,7 +296,7 @@ wait
   clear
 evacuate 9
   evacuated moved 1 far 0 dropped 0 freed 1 done
-new 0 1016 1
+new 0 4088 1
   pointer 3
 select script 1 3
   selected 3
@@ -322,7 +322,7 @@ device flip 1
   ok
 new 0 8 1
   pointer 0
-new 0 1016 1
+new 0 4088 1
   pointer 1
 round oldest 1 9
   round done moved 0 far 1 dropped 0 freed 1
@@ -332,7 +332,7 @@ read 0 0 0 1
   data ff
 close 0
   ok
-new 0 1016 1
+new 0 4088 1
   pointer 2
 select script 1 0
   selected 0
@@ -342,7 +342,7 @@ wait
   clear
 evacuate 9
   evacuated moved 1 far 0 dropped 0 freed 1 done
-new 0 1016 1
+new 0 4088 1
   pointer 3
 select script 1 3
   selected 3
@@ -555,7 +555,7 @@ new 0 8 1
 open 0
 write 0 0 0 0102030405060708
 close 0
-new 0 1016 1
+new 0 4088 1
 round oldest 1 9
 where 0 0
 where 0 1
@@ -576,9 +576,9 @@ where 0 1
 /// A hot object goes far, since there is no room.
 const HOT_ROW: Row = Row {
     commands: "\
-new 0 1016 1
-new 0 1016 1
-new 0 1016 1
+new 0 4088 1
+new 0 4088 1
+new 0 4088 1
 open 0
 view 0 0
 close 0

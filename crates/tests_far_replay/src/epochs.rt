@@ -25,8 +25,8 @@ close 0
 open 1
   ok
 new 1 8 1
-  pointer 128
-read 1 128 0 8
+  pointer 256
+read 1 256 0 8
   data 0000000000000000
 epoch 1
   refused 6

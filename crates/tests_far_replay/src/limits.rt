@@ -26,15 +26,15 @@ const ROWS: &[Row] = &[
     Row { parts: &[(COMMENT, 16_383), (LAST, 1), ("0\nbad\n", 1)], answer: "refused 16 0\n", end: End::Refused },
     Row { parts: &[(COMMENT, 16_383), (LAST, 1), ("0\nbad\n", 1), (COMMENT, 1)], answer: "refused 16 0\n", end: End::Refused },
 
-    // The longest line has 4,096 bytes, with a newline after it or none.
-    Row { parts: &[("heap 4 1\n#", 1), ("0", 4095)], answer: "ok\n", end: End::Ran },
-    Row { parts: &[("heap 4 1\n#", 1), ("0", 4095), ("\n", 1)], answer: "ok\n", end: End::Ran },
-    Row { parts: &[("heap 4 1\n#", 1), ("0", 4096)], answer: "refused 16 2\n", end: End::Refused },
-    Row { parts: &[("heap 4 1\n#", 1), ("0", 4096), ("\n", 1)], answer: "refused 16 2\n", end: End::Refused },
-    Row { parts: &[("heap 4 1\nwrite 1 1 1 ", 1), ("0", 4084)], answer: "ok\nrefused 8\n", end: End::Ran },
-    Row { parts: &[("heap 4 1\nwrite 1 1 1 ", 1), ("0", 4084), ("\n", 1)], answer: "ok\nrefused 8\n", end: End::Ran },
-    Row { parts: &[("heap 4 1\nwrite 1 1 11 ", 1), ("0", 4084)], answer: "refused 16 2\n", end: End::Refused },
-    Row { parts: &[("heap 4 1\nwrite 1 1 11 ", 1), ("0", 4084), ("\n", 1)], answer: "refused 16 2\n", end: End::Refused },
+    // The longest line has 16,384 bytes, with a newline after it or none.
+    Row { parts: &[("heap 4 1\n#", 1), ("0", 16_383)], answer: "ok\n", end: End::Ran },
+    Row { parts: &[("heap 4 1\n#", 1), ("0", 16_383), ("\n", 1)], answer: "ok\n", end: End::Ran },
+    Row { parts: &[("heap 4 1\n#", 1), ("0", 16_384)], answer: "refused 16 2\n", end: End::Refused },
+    Row { parts: &[("heap 4 1\n#", 1), ("0", 16_384), ("\n", 1)], answer: "refused 16 2\n", end: End::Refused },
+    Row { parts: &[("heap 4 1\nwrite 1 1 1 ", 1), ("0", 16_372)], answer: "ok\nrefused 8\n", end: End::Ran },
+    Row { parts: &[("heap 4 1\nwrite 1 1 1 ", 1), ("0", 16_372), ("\n", 1)], answer: "ok\nrefused 8\n", end: End::Ran },
+    Row { parts: &[("heap 4 1\nwrite 1 1 11 ", 1), ("0", 16_372)], answer: "refused 16 2\n", end: End::Refused },
+    Row { parts: &[("heap 4 1\nwrite 1 1 11 ", 1), ("0", 16_372), ("\n", 1)], answer: "refused 16 2\n", end: End::Refused },
 ];
 
 // Whether a row's text is answered so.
@@ -52,9 +52,9 @@ fn the_longest_texts_and_lines(rt: HostRuntime) {
 
 // Adds the answer to `logs`, of logs from one on that are free.
 fn push_logs(talk: &mut String, alloc: Global, logs: u64) -> Result<(), AllocError> {
-    talk.push_str("logs\n  log 0 open live 0 dead 0 unused 1024\n")?;
+    talk.push_str("logs\n  log 0 open live 0 dead 0 unused 4096\n")?;
     for log in 1..logs {
-        let line = format!(in alloc; "  log {log} free live 0 dead 0 unused 1024\n")?;
+        let line = format!(in alloc; "  log {log} free live 0 dead 0 unused 4096\n")?;
         talk.push_str(&line)?;
     }
     Ok(())
@@ -82,14 +82,23 @@ fn smallest_and_largest_heaps(rt: HostRuntime) {
     assert!(rt; is_size(rt.alloc(), 64, 1) && is_size(rt.alloc(), 64, 8));
 }
 
-// Adds 128 objects of a byte, whose pointers are numbered from this one on, and one more that gets no pointer.
+// Adds 256 objects of a byte, whose pointers are numbered from this one on, and one more that gets no pointer.
 fn push_all_pointers(talk: &mut String, alloc: Global, mutator: u64) -> Result<(), AllocError> {
-    for i in 0u64..128 {
-        let pointer = (mutator % 8) * 128 + i;
+    for i in 0u64..256 {
+        let pointer = (mutator % 8) * 256 + i;
         let line = format!(in alloc; "new {mutator} 1 1\n  pointer {pointer}\n")?;
         talk.push_str(&line)?;
     }
     talk.push_str(&format!(in alloc; "new {mutator} 1 1\n  refused 3\n")?)
+}
+
+// A talk in which one mutator uses up its pointers, and a log: 256 spans of 16 bytes.
+fn all_cells_talk(alloc: Global) -> Result<String, AllocError> {
+    let mut talk = String::new(alloc);
+    talk.push_str("heap 4 1\n  ok\n")?;
+    push_all_pointers(&mut talk, alloc, 0)?;
+    talk.push_str("log 0\n  log 0 open live 4096 dead 0 unused 0\n")?;
+    Ok(talk)
 }
 
 // A talk in which each mutator uses up its pointers.
@@ -99,23 +108,25 @@ fn all_pointers_talk(alloc: Global) -> Result<String, AllocError> {
     for mutator in [7, 0, 3, 1, 6, 2, 5, 4] {
         push_all_pointers(&mut talk, alloc, mutator)?;
     }
-    talk.push_str("new 8 1 1\n  refused 8\nopen 7\n  ok\nread 7 1023 0 1\n  data 00\n")?;
+    talk.push_str("new 8 1 1\n  refused 8\nopen 7\n  ok\nread 7 2047 0 1\n  data 00\n")?;
     Ok(talk)
 }
 
-// With both logs full and all pointers used up, 3 comes before 2.
+// Another mutator fills the second log. With both logs full and all pointers used up, 3 comes before 2.
 const USED_UP: &str = "\
-new 0 1016 255
+new 1 4088 1
+  pointer 256
+new 0 4088 255
   refused 3
 new 0 0 1
   refused 4
-new 0 1017 1
+new 0 4089 1
   refused 4
 new 0 0 256
   refused 8
 new 1 1 1
   refused 2
-new 1 1016 255
+new 1 4088 255
   refused 2
 new 1 0 1
   refused 4
@@ -124,9 +135,9 @@ new 1 1 256
 new 2 1 1
   refused 8
 logs
-  log 0 sealed live 1024 dead 0 unused 0
-  log 1 open live 1024 dead 0 unused 0
-  log 2 free live 0 dead 0 unused 1024
+  log 0 sealed live 4096 dead 0 unused 0
+  log 1 open live 4096 dead 0 unused 0
+  log 2 free live 0 dead 0 unused 4096
 ";
 
 // A talk in which one mutator uses up its pointers, and two the room.
@@ -141,14 +152,14 @@ fn used_up_talk(alloc: Global) -> Result<String, AllocError> {
 // After 63 of the longest objects there is no room, and the last is written and read.
 const FULL: &[(&str, u64)] = &[
     (
-        "new 0 1016 1\n  refused 2\nnew 0 1 1\n  refused 2\nwrite 0 62 0 ",
+        "new 0 4088 1\n  refused 2\nnew 0 1 1\n  refused 2\nwrite 0 62 0 ",
         1,
     ),
-    ("5a", 1016),
-    ("\n  ok\nread 0 62 0 1016\n  data ", 1),
-    ("5a", 1016),
+    ("5a", 4088),
+    ("\n  ok\nread 0 62 0 4088\n  data ", 1),
+    ("5a", 4088),
     (
-        "\nread 0 61 1015 1\n  data 00\nread 0 62 1015 1\n  data 5a\n",
+        "\nread 0 61 4087 1\n  data 00\nread 0 62 4087 1\n  data 5a\n",
         1,
     ),
 ];
@@ -158,7 +169,7 @@ fn longest_objects_talk(alloc: Global) -> Result<String, AllocError> {
     let mut talk = String::new(alloc);
     talk.push_str("heap 64 1\n  ok\nopen 0\n  ok\n")?;
     for pointer in 0u64..63 {
-        let line = format!(in alloc; "new 0 1016 1\n  pointer {pointer}\n")?;
+        let line = format!(in alloc; "new 0 4088 1\n  pointer {pointer}\n")?;
         talk.push_str(&line)?;
     }
     talk.push_str(&built(alloc, FULL)?)?;
@@ -168,6 +179,7 @@ fn longest_objects_talk(alloc: Global) -> Result<String, AllocError> {
 #[test]
 fn pointers_and_room_are_used_up(rt: HostRuntime) {
     let alloc = rt.alloc();
+    assert!(rt; is_made_and_answered(alloc, all_cells_talk(alloc)));
     assert!(rt; is_made_and_answered(alloc, all_pointers_talk(alloc)));
     assert!(rt; is_made_and_answered(alloc, used_up_talk(alloc)));
     assert!(rt; is_made_and_answered(alloc, longest_objects_talk(alloc)));

@@ -13,7 +13,7 @@ new 0 9 1
 new 0 8 255
   pointer 1
 new 1 8 0
-  pointer 128
+  pointer 256
 open 0
   ok
 open 1
@@ -22,7 +22,7 @@ write 0 0 0 010203040506070809
   ok
 write 0 1 0 1112131415161718
   ok
-write 1 128 0 2122232425262728
+write 1 256 0 2122232425262728
   ok
 close 1
   ok
@@ -31,10 +31,10 @@ close 1
 // What shows the logs, the scopes and the data of the open mutator.
 const SHOWN: &str = "\
 logs
-  log 0 open live 56 dead 0 unused 968
-  log 1 free live 0 dead 0 unused 1024
-  log 2 free live 0 dead 0 unused 1024
-  log 3 free live 0 dead 0 unused 1024
+  log 0 open live 56 dead 0 unused 4040
+  log 1 free live 0 dead 0 unused 4096
+  log 2 free live 0 dead 0 unused 4096
+  log 3 free live 0 dead 0 unused 4096
 read 0 0 0 9
   data 010203040506070809
 read 0 1 0 8
@@ -49,15 +49,15 @@ close 1
 const REST: &str = "\
 open 1
   ok
-read 1 128 0 8
+read 1 256 0 8
   data 2122232425262728
 new 0 1 1
   pointer 2
 new 1 1 1
-  pointer 129
+  pointer 257
 read 0 2 0 1
   data 00
-read 1 129 0 1
+read 1 257 0 1
   data 00
 ";
 
@@ -96,66 +96,66 @@ const REFUSED: &str = "\
 8 new 0 8 18446744073709551615
 4 new 0 0 1
 4 new 1 0 255
-4 new 0 1017 1
-4 new 1 1024 0
+4 new 0 4089 1
+4 new 1 4096 0
 4 new 0 65536 1
 4 new 0 65537 1
 4 new 0 18446744073709551615 1
 8 new 2 0 1
-8 new 2 1017 1
+8 new 2 4089 1
 8 new 2 0 256
 8 new 0 0 256
-8 new 0 1017 256
+8 new 0 4089 256
 8 new 0 18446744073709551615 256
 8 new 18446744073709551615 18446744073709551615 18446744073709551615
 8 read 2 0 0 8
-8 read 2 256 0 8
+8 read 2 512 0 8
 8 read 3 0 9 0
 8 read 256 0 0 8
-8 read 257 128 0 8
+8 read 257 256 0 8
 8 read 18446744073709551615 0 0 8
 8 read 18446744073709551615 18446744073709551615 18446744073709551615 18446744073709551615
 8 write 2 0 0 ff
-8 write 2 256 99 ff
+8 write 2 512 99 ff
 8 write 256 0 0 ff
-8 write 257 128 0 ff
+8 write 257 256 0 ff
 8 write 18446744073709551615 0 0 ff
 8 write 18446744073709551615 18446744073709551615 18446744073709551615 ff
-5 read 1 128 0 8
-5 read 1 128 0 9
-5 read 1 128 0 0
+5 read 1 256 0 8
+5 read 1 256 0 9
+5 read 1 256 0 0
 5 read 1 0 0 8
-5 read 1 129 0 8
+5 read 1 257 0 8
 5 read 1 999 99 0
 5 read 1 18446744073709551615 18446744073709551615 18446744073709551615
-5 write 1 128 0 ff
-5 write 1 128 8 ff
+5 write 1 256 0 ff
+5 write 1 256 8 ff
 5 write 1 0 0 ff
-5 write 1 129 0 ff
+5 write 1 257 0 ff
 5 write 1 18446744073709551615 18446744073709551615 ff
 7 read 0 2 0 8
-7 read 0 127 0 8
-7 read 0 128 0 8
-7 read 0 129 0 8
+7 read 0 255 0 8
 7 read 0 256 0 8
-7 read 0 1023 0 8
-7 read 0 1024 0 8
+7 read 0 257 0 8
+7 read 0 512 0 8
+7 read 0 2047 0 8
+7 read 0 2048 0 8
 7 read 0 65536 0 8
 7 read 0 65537 0 8
 7 read 0 18446744073709486080 0 8
 7 read 0 18446744073709551615 0 8
 7 read 0 2 0 0
-7 read 0 128 8 1
+7 read 0 256 8 1
 7 read 0 18446744073709551615 18446744073709551615 18446744073709551615
 7 write 0 2 0 ff
-7 write 0 127 0 ff
-7 write 0 128 0 ff
-7 write 0 1024 0 ff
+7 write 0 255 0 ff
+7 write 0 256 0 ff
+7 write 0 2048 0 ff
 7 write 0 65536 0 ff
 7 write 0 18446744073709486080 0 ff
 7 write 0 18446744073709551615 0 ff
 7 write 0 18446744073709551615 18446744073709551615 ff
-7 write 0 128 8 ff
+7 write 0 256 8 ff
 8 read 0 0 0 0
 8 read 0 0 8 0
 8 read 0 0 9 0
@@ -167,7 +167,7 @@ const REFUSED: &str = "\
 8 read 0 0 0 16
 8 read 0 1 0 9
 8 read 0 1 8 1
-8 read 0 0 0 1016
+8 read 0 0 0 4088
 8 read 0 0 0 65537
 8 read 0 0 65536 1
 8 read 0 0 0 18446744073709551615
@@ -194,10 +194,10 @@ const REFUSED: &str = "\
 8 where 256 0
 8 where 18446744073709551615 18446744073709551615
 7 where 0 2
-7 where 0 128
+7 where 0 256
 7 where 1 0
-7 where 1 129
-7 where 0 1024
+7 where 1 257
+7 where 0 2048
 7 where 0 65536
 7 where 0 18446744073709551615
 8 drop 2 0
@@ -205,23 +205,23 @@ const REFUSED: &str = "\
 8 drop 18446744073709551615 18446744073709551615
 8 view 2 0
 8 view 18446744073709551615 18446744073709551615
-5 view 1 128
+5 view 1 256
 5 view 1 999
 7 view 0 2
-7 view 0 128
+7 view 0 256
 7 view 0 18446744073709551615
 8 try 2 0
 8 try 18446744073709551615 18446744073709551615
-5 try 1 128
+5 try 1 256
 5 try 1 999
 7 try 0 2
-7 try 0 128
+7 try 0 256
 7 try 0 18446744073709551615
 7 drop 0 2
-7 drop 0 128
+7 drop 0 256
 7 drop 1 0
-7 drop 1 129
-7 drop 0 1024
+7 drop 1 257
+7 drop 0 2048
 7 drop 0 65536
 7 drop 0 18446744073709551615
 12 mark 0
@@ -257,7 +257,7 @@ fn refused_talk(alloc: Global) -> Result<String, AllocError> {
     for row in REFUSED.lines() {
         push_refused(&mut talk, row)?;
     }
-    for bytes in [1016u64, 1017, 1024, 2041, 2042] {
+    for bytes in [4088u64, 4089, 4096, 8185, 8186] {
         talk.push_str("write 0 0 0 ")?;
         push_times(&mut talk, "ff", bytes)?;
         talk.push_str("\n  refused 8\n")?;
@@ -272,7 +272,7 @@ fn refused_commands_change_nothing(rt: HostRuntime) {
     assert!(rt; is_made_and_answered(rt.alloc(), refused_talk(rt.alloc())));
 }
 
-const TOO_LONG: &[(&str, u64)] = &[("heap 4 1\nwrite 0 0 0 ", 1), ("ff", 2043)];
+const TOO_LONG: &[(&str, u64)] = &[("heap 4 1\nwrite 0 0 0 ", 1), ("ff", 8187)];
 
 #[test]
 fn a_write_that_is_too_long_for_a_line(rt: HostRuntime) {

@@ -16,7 +16,7 @@ write 0 0 0 0102030405060708
   ok
 close 0
   ok
-new 0 1016 1
+new 0 4088 1
   pointer 2
 round oldest 1 9
   round done moved 1 far 1 dropped 0 freed 1
@@ -25,13 +25,13 @@ where 0 0
 where 0 1
   far -
 log 0
-  log 0 free live 0 dead 0 unused 1024
+  log 0 free live 0 dead 0 unused 4096
 log 1
-  log 1 sealed live 1024 dead 0 unused 0
+  log 1 sealed live 4096 dead 0 unused 0
 log 2
-  log 2 open live 16 dead 0 unused 1008
+  log 2 open live 16 dead 0 unused 4080
 audit
-  audit near 2 far 1 live 1040
+  audit near 2 far 1 live 4112
 open 0
   ok
 read 0 0 0 8
@@ -46,9 +46,9 @@ where 0 1
 const RESERVE: &str = "\
 heap 3 1
   ok
-new 0 1016 1
+new 0 4088 1
   pointer 0
-new 0 1016 1
+new 0 4088 1
   pointer 1
 new 0 8 1
   refused 2
@@ -59,7 +59,7 @@ round oldest 1 9
 new 0 8 1
   pointer 0
 log 0
-  log 0 open live 16 dead 0 unused 1008
+  log 0 open live 16 dead 0 unused 4080
 ";
 
 /// A scope from before the round's epoch is waited for.
@@ -68,7 +68,7 @@ heap 4 1
   ok
 new 0 8 1
   pointer 0
-new 0 1016 1
+new 0 4088 1
   pointer 1
 open 0
   ok
@@ -100,7 +100,7 @@ write 0 0 0 aa
   ok
 close 0
   ok
-new 0 1016 1
+new 0 4088 1
   pointer 1
 epoch 0
   epoch 0
@@ -126,7 +126,7 @@ heap 4 1
   ok
 new 0 8 1
   pointer 0
-new 0 1016 1
+new 0 4088 1
   pointer 1
 open 0
   ok
@@ -160,7 +160,7 @@ new 0 8 1
   pointer 0
 new 0 8 1
   pointer 1
-new 0 1016 1
+new 0 4088 1
   pointer 2
 select oldest 1
   selected 0
@@ -182,11 +182,11 @@ evacuate 9
 const HOT_WITHOUT_ROOM: &str = "\
 heap 4 1
   ok
-new 0 1016 1
+new 0 4088 1
   pointer 0
-new 0 1016 1
+new 0 4088 1
   pointer 1
-new 0 1016 1
+new 0 4088 1
   pointer 2
 open 0
   ok
@@ -216,7 +216,7 @@ heap 4 1
   ok
 new 0 8 1
   pointer 0
-new 0 1016 1
+new 0 4088 1
   pointer 1
 select script 1 1
   refused 17 1
@@ -232,7 +232,7 @@ heap 4 1 4611686018427387903
   ok
 new 0 8 1
   pointer 0
-new 0 1016 1
+new 0 4088 1
   pointer 1
 select oldest 1
   refused 13
@@ -244,7 +244,7 @@ heap 4 1 4611686018427387902
   ok
 new 0 8 1
   pointer 0
-new 0 1016 1
+new 0 4088 1
   pointer 1
 round oldest 1 9
   round done moved 0 far 1 dropped 0 freed 1
@@ -258,11 +258,11 @@ epoch 0
 const OPENED_ANEW: &str = "\
 heap 4 1
   ok
-new 0 1016 1
+new 0 4088 1
   pointer 0
-new 0 1016 1
+new 0 4088 1
   pointer 1
-new 0 1016 1
+new 0 4088 1
   pointer 2
 open 0
   ok
@@ -275,7 +275,7 @@ round oldest 2 9
 where 0 1
   near 0 0 -
 log 0
-  log 0 open live 1024 dead 0 unused 0
+  log 0 open live 4096 dead 0 unused 0
 ";
 
 /// A round that ends at its limit stands where it is.
@@ -284,7 +284,7 @@ heap 4 1
   ok
 new 0 8 1
   pointer 0
-new 0 1016 1
+new 0 4088 1
   pointer 1
 round oldest 1 0
   round limit marking
@@ -306,7 +306,7 @@ evacuate 9
 const NOTHING_SEALED: &str = "\
 heap 2 1
   ok
-new 0 1016 1
+new 0 4088 1
   pointer 0
 new 0 8 1
   refused 2
@@ -320,7 +320,7 @@ heap 4 1
   ok
 new 0 8 1
   pointer 0
-new 0 1016 1
+new 0 4088 1
   pointer 1
 open 0
   ok
@@ -352,11 +352,11 @@ audit
 const ASKED_TO_MOVE: &str = "\
 heap 4 1
   ok
-new 0 1016 1
+new 0 4088 1
   pointer 0
-new 0 1016 1
+new 0 4088 1
   pointer 1
-new 0 1016 1
+new 0 4088 1
   pointer 2
 select oldest 2
   selected 0 1
@@ -377,16 +377,16 @@ view 0 0
 where 0 0
   near 0 0 hem
 try 0 0
-  refused 14 f6000000000103f8
+  refused 14 f600000000010ff8
 abort
   ok
 where 0 0
   near 0 0 hm
 try 0 0
-  refused 14 d6000000000103f8
+  refused 14 d600000000010ff8
 select oldest 1
   selected 0
-read 0 0 1015 1
+read 0 0 4087 1
   data 00
 where 0 0
   near 0 0 h
@@ -399,16 +399,16 @@ drop 0 0
 abort
   ok
 log 0
-  log 0 sealed live 1024 dead 0 unused 0
+  log 0 sealed live 4096 dead 0 unused 0
 log 1
-  log 1 sealed live 0 dead 1024 unused 0
+  log 1 sealed live 0 dead 4096 unused 0
 ";
 
 /// What is far is fetched where room is; the last free log is kept in reserve.
 const FAR_AND_NEAR: &str = "\
 heap 3 1
   ok
-new 0 1016 7
+new 0 4088 7
   pointer 0
 new 0 9 1
   pointer 1
@@ -422,18 +422,18 @@ round oldest 1 9
   round done moved 1 far 0 dropped 0 freed 1
 round oldest 1 9
   round done moved 0 far 1 dropped 0 freed 1
-new 0 1016 1
+new 0 4088 1
   pointer 2
 round oldest 1 9
   round done moved 0 far 1 dropped 0 freed 1
 audit
-  audit near 1 far 2 live 1024
+  audit near 1 far 2 live 4096
 where 0 0
   far -
 open 0
   ok
 try 0 0
-  refused 14 04000000000703f8
+  refused 14 0400000000070ff8
 where 0 0
   far h
 read 0 0 0 4
@@ -463,7 +463,7 @@ read 0 1 0 9
 where 0 1
   near 0 0 h
 audit
-  audit near 2 far 0 live 1048
+  audit near 2 far 0 live 4120
 ";
 
 /// A far object is dropped, and its pointer given to a new one, of zeros.
@@ -478,24 +478,24 @@ write 0 0 0 ffffffffffffffff
   ok
 close 0
   ok
-new 0 1016 1
+new 0 4088 1
   pointer 1
 round oldest 1 9
   round done moved 1 far 0 dropped 0 freed 1
-new 0 1016 1
+new 0 4088 1
   pointer 2
 round leastlive 1 9
   round done moved 0 far 1 dropped 0 freed 1
 where 0 0
   far -
 audit
-  audit near 2 far 1 live 2048
+  audit near 2 far 1 live 8192
 drop 0 0
   ok
 drop 0 0
   refused 7
 audit
-  audit near 2 far 0 live 2048
+  audit near 2 far 0 live 8192
 new 0 8 1
   pointer 0
 open 0
@@ -508,13 +508,13 @@ read 0 0 0 8
 const CHOSEN_ORDER: &str = "\
 heap 5 1
   ok
-new 0 1016 1
+new 0 4088 1
   pointer 0
-new 0 500 1
+new 0 2036 1
   pointer 1
-new 0 500 1
+new 0 2036 1
   pointer 2
-new 0 1016 1
+new 0 4088 1
   pointer 3
 new 0 8 1
   pointer 4
@@ -533,11 +533,11 @@ where 0 3
 where 0 0
   near 0 0 -
 logs
-  log 0 chosen live 1024 dead 0 unused 0
-  log 1 sealed live 512 dead 512 unused 0
-  log 2 chosen live 1024 dead 0 unused 0
-  log 3 open live 16 dead 0 unused 1008
-  log 4 free live 0 dead 0 unused 1024
+  log 0 chosen live 4096 dead 0 unused 0
+  log 1 sealed live 2048 dead 2048 unused 0
+  log 2 chosen live 4096 dead 0 unused 0
+  log 3 open live 16 dead 0 unused 4080
+  log 4 free live 0 dead 0 unused 4096
 mark 1
   marked 1 waiting 1
 wait
@@ -545,11 +545,11 @@ wait
 evacuate 1
   evacuated moved 0 far 1 dropped 0 freed 1
 logs
-  log 0 chosen live 1024 dead 0 unused 0
-  log 1 sealed live 512 dead 512 unused 0
-  log 2 free live 0 dead 0 unused 1024
-  log 3 open live 16 dead 0 unused 1008
-  log 4 free live 0 dead 0 unused 1024
+  log 0 chosen live 4096 dead 0 unused 0
+  log 1 sealed live 2048 dead 2048 unused 0
+  log 2 free live 0 dead 0 unused 4096
+  log 3 open live 16 dead 0 unused 4080
+  log 4 free live 0 dead 0 unused 4096
 abort
   ok
 select oldest 64
@@ -564,17 +564,17 @@ abort
 const DROPPED_LOGS: &str = "\
 heap 5 2
   ok
-new 0 1016 1
+new 0 4088 1
   pointer 0
-new 0 1016 1
+new 0 4088 1
   pointer 1
-new 1 1016 1
-  pointer 128
+new 1 4088 1
+  pointer 256
 new 1 8 1
-  pointer 129
+  pointer 257
 drop 0 0
   ok
-drop 1 128
+drop 1 256
   ok
 select oldest 3
   selected 0 1 2
@@ -608,7 +608,7 @@ heap 4 3 5
   ok
 new 0 8 1
   pointer 0
-new 0 1016 1
+new 0 4088 1
   pointer 1
 epoch 0
   epoch 5
@@ -634,7 +634,7 @@ wait
   clear
 evacuate 9
   evacuated moved 0 far 1 dropped 0 freed 1 done
-new 0 1016 1
+new 0 4088 1
   pointer 2
 close 0
   ok
@@ -666,7 +666,7 @@ heap 4 1
   ok
 new 0 8 1
   pointer 0
-new 0 1016 1
+new 0 4088 1
   pointer 1
 wait
   refused 12

@@ -65,7 +65,7 @@ new 0 8 1
 open 0
 write 0 0 0 0102030405060708
 close 0
-new 0 1016 1
+new 0 4088 1
 round oldest 1 9
 where 0 0
 where 0 1
@@ -89,10 +89,10 @@ pointer 2
 round done moved 1 far 1 dropped 0 freed 1
 near 2 0 -
 far -
-log 0 free live 0 dead 0 unused 1024
-log 1 sealed live 1024 dead 0 unused 0
-log 2 open live 16 dead 0 unused 1008
-audit near 2 far 1 live 1040
+log 0 free live 0 dead 0 unused 4096
+log 1 sealed live 4096 dead 0 unused 0
+log 2 open live 16 dead 0 unused 4080
+audit near 2 far 1 live 4112
 ok
 data 0102030405060708
 data 0000000000000000

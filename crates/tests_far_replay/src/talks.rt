@@ -13,10 +13,10 @@ open 0
 read 0 0 0 8
   data 0000000000000000
 logs
-  log 0 open live 16 dead 0 unused 1008
-  log 1 free live 0 dead 0 unused 1024
-  log 2 free live 0 dead 0 unused 1024
-  log 3 free live 0 dead 0 unused 1024
+  log 0 open live 16 dead 0 unused 4080
+  log 1 free live 0 dead 0 unused 4096
+  log 2 free live 0 dead 0 unused 4096
+  log 3 free live 0 dead 0 unused 4096
 ";
 
 /// Nine bytes, which another mutator doesn't reach.
@@ -69,57 +69,59 @@ heap 4 1
   ok
 new 0 0 1
   refused 4
-new 0 1017 1
+new 0 4089 1
   refused 4
 logs
-  log 0 open live 0 dead 0 unused 1024
-  log 1 free live 0 dead 0 unused 1024
-  log 2 free live 0 dead 0 unused 1024
-  log 3 free live 0 dead 0 unused 1024
+  log 0 open live 0 dead 0 unused 4096
+  log 1 free live 0 dead 0 unused 4096
+  log 2 free live 0 dead 0 unused 4096
+  log 3 free live 0 dead 0 unused 4096
 log 0
-  log 0 open live 0 dead 0 unused 1024
+  log 0 open live 0 dead 0 unused 4096
 ";
 
 /// The last free log is kept in reserve.
 const RESERVE: &str = "\
 heap 3 1
   ok
-new 0 1000 1
+new 0 4072 1
   pointer 0
-new 0 1000 1
+new 0 4072 1
   pointer 1
 logs
-  log 0 sealed live 1008 dead 0 unused 16
-  log 1 open live 1008 dead 0 unused 16
-  log 2 free live 0 dead 0 unused 1024
-new 0 1000 1
+  log 0 sealed live 4080 dead 0 unused 16
+  log 1 open live 4080 dead 0 unused 16
+  log 2 free live 0 dead 0 unused 4096
+new 0 4072 1
   refused 2
 logs
-  log 0 sealed live 1008 dead 0 unused 16
-  log 1 open live 1008 dead 0 unused 16
-  log 2 free live 0 dead 0 unused 1024
+  log 0 sealed live 4080 dead 0 unused 16
+  log 1 open live 4080 dead 0 unused 16
+  log 2 free live 0 dead 0 unused 4096
 new 0 9 1
   refused 2
 logs
-  log 0 sealed live 1008 dead 0 unused 16
-  log 1 open live 1008 dead 0 unused 16
-  log 2 free live 0 dead 0 unused 1024
+  log 0 sealed live 4080 dead 0 unused 16
+  log 1 open live 4080 dead 0 unused 16
+  log 2 free live 0 dead 0 unused 4096
 new 0 8 1
   pointer 2
 logs
-  log 0 sealed live 1008 dead 0 unused 16
-  log 1 open live 1024 dead 0 unused 0
-  log 2 free live 0 dead 0 unused 1024
+  log 0 sealed live 4080 dead 0 unused 16
+  log 1 open live 4096 dead 0 unused 0
+  log 2 free live 0 dead 0 unused 4096
 new 0 1 1
   refused 2
 logs
-  log 0 sealed live 1008 dead 0 unused 16
-  log 1 open live 1024 dead 0 unused 0
-  log 2 free live 0 dead 0 unused 1024
+  log 0 sealed live 4080 dead 0 unused 16
+  log 1 open live 4096 dead 0 unused 0
+  log 2 free live 0 dead 0 unused 4096
 open 0
   ok
 read 0 2 0 8
   data 0000000000000000
+where 0 2
+  near 1 510 h
 read 0 3 0 1
   refused 7
 ";
@@ -128,26 +130,26 @@ read 0 3 0 1
 const REFUSED_OBJECT: &str = "\
 heap 2 1
   ok
-new 0 496 1
+new 0 2032 1
   pointer 0
 logs
-  log 0 open live 504 dead 0 unused 520
-  log 1 free live 0 dead 0 unused 1024
-new 0 513 1
+  log 0 open live 2040 dead 0 unused 2056
+  log 1 free live 0 dead 0 unused 4096
+new 0 2049 1
   refused 2
 logs
-  log 0 open live 504 dead 0 unused 520
-  log 1 free live 0 dead 0 unused 1024
-new 0 1016 1
+  log 0 open live 2040 dead 0 unused 2056
+  log 1 free live 0 dead 0 unused 4096
+new 0 4088 1
   refused 2
 logs
-  log 0 open live 504 dead 0 unused 520
-  log 1 free live 0 dead 0 unused 1024
-new 0 512 1
+  log 0 open live 2040 dead 0 unused 2056
+  log 1 free live 0 dead 0 unused 4096
+new 0 2048 1
   pointer 1
 logs
-  log 0 open live 1024 dead 0 unused 0
-  log 1 free live 0 dead 0 unused 1024
+  log 0 open live 4096 dead 0 unused 0
+  log 1 free live 0 dead 0 unused 4096
 new 0 1 1
   refused 2
 ";
@@ -156,34 +158,34 @@ new 0 1 1
 const PASSED_OVER: &str = "\
 heap 4 2
   ok
-new 0 600 1
+new 0 3672 1
   pointer 0
 logs
-  log 0 open live 608 dead 0 unused 416
-  log 1 free live 0 dead 0 unused 1024
-  log 2 free live 0 dead 0 unused 1024
-  log 3 free live 0 dead 0 unused 1024
+  log 0 open live 3680 dead 0 unused 416
+  log 1 free live 0 dead 0 unused 4096
+  log 2 free live 0 dead 0 unused 4096
+  log 3 free live 0 dead 0 unused 4096
 new 1 409 1
-  pointer 128
+  pointer 256
 logs
-  log 0 sealed live 608 dead 0 unused 416
-  log 1 open live 424 dead 0 unused 600
-  log 2 free live 0 dead 0 unused 1024
-  log 3 free live 0 dead 0 unused 1024
-new 0 592 1
+  log 0 sealed live 3680 dead 0 unused 416
+  log 1 open live 424 dead 0 unused 3672
+  log 2 free live 0 dead 0 unused 4096
+  log 3 free live 0 dead 0 unused 4096
+new 0 3664 1
   pointer 1
 logs
-  log 0 sealed live 608 dead 0 unused 416
-  log 1 open live 1024 dead 0 unused 0
-  log 2 free live 0 dead 0 unused 1024
-  log 3 free live 0 dead 0 unused 1024
+  log 0 sealed live 3680 dead 0 unused 416
+  log 1 open live 4096 dead 0 unused 0
+  log 2 free live 0 dead 0 unused 4096
+  log 3 free live 0 dead 0 unused 4096
 new 1 1 1
-  pointer 129
+  pointer 257
 logs
-  log 0 sealed live 608 dead 0 unused 416
-  log 1 sealed live 1024 dead 0 unused 0
-  log 2 open live 16 dead 0 unused 1008
-  log 3 free live 0 dead 0 unused 1024
+  log 0 sealed live 3680 dead 0 unused 416
+  log 1 sealed live 4096 dead 0 unused 0
+  log 2 open live 16 dead 0 unused 4080
+  log 3 free live 0 dead 0 unused 4096
 ";
 
 /// An object may end with its log.
@@ -192,33 +194,33 @@ heap 3 1
   ok
 new 0 1 1
   pointer 0
-new 0 1000 1
+new 0 4072 1
   pointer 1
 logs
-  log 0 open live 1024 dead 0 unused 0
-  log 1 free live 0 dead 0 unused 1024
-  log 2 free live 0 dead 0 unused 1024
-new 0 1016 1
+  log 0 open live 4096 dead 0 unused 0
+  log 1 free live 0 dead 0 unused 4096
+  log 2 free live 0 dead 0 unused 4096
+new 0 4088 1
   pointer 2
 logs
-  log 0 sealed live 1024 dead 0 unused 0
-  log 1 open live 1024 dead 0 unused 0
-  log 2 free live 0 dead 0 unused 1024
-new 0 1016 1
+  log 0 sealed live 4096 dead 0 unused 0
+  log 1 open live 4096 dead 0 unused 0
+  log 2 free live 0 dead 0 unused 4096
+new 0 4088 1
   refused 2
 new 0 1 1
   refused 2
 open 0
   ok
-write 0 1 999 77
+write 0 1 4071 77
   ok
-write 0 2 1015 78
+write 0 2 4087 78
   ok
 read 0 0 0 1
   data 00
-read 0 1 998 2
+read 0 1 4070 2
   data 0077
-read 0 2 1014 2
+read 0 2 4086 2
   data 0078
 read 0 2 0 1
   data 00
@@ -230,12 +232,12 @@ heap 3 1
   ok
 new 0 1 1
   pointer 0
-new 0 1001 1
+new 0 4073 1
   pointer 1
 logs
-  log 0 sealed live 16 dead 0 unused 1008
-  log 1 open live 1016 dead 0 unused 8
-  log 2 free live 0 dead 0 unused 1024
+  log 0 sealed live 16 dead 0 unused 4080
+  log 1 open live 4088 dead 0 unused 8
+  log 2 free live 0 dead 0 unused 4096
 new 0 1 1
   refused 2
 ";
@@ -265,7 +267,7 @@ read 0 0 6 3
 read 0 0 8 1
   data a1
 log 0
-  log 0 open live 24 dead 0 unused 1000
+  log 0 open live 24 dead 0 unused 4072
 ";
 
 /// Bytes over two words, and neighbours that stay as they are.
@@ -303,10 +305,10 @@ read 0 0 0 8
 read 0 2 0 8
   data e0e1e2e3e4e5e6e7
 logs
-  log 0 open live 64 dead 0 unused 960
-  log 1 free live 0 dead 0 unused 1024
-  log 2 free live 0 dead 0 unused 1024
-  log 3 free live 0 dead 0 unused 1024
+  log 0 open live 64 dead 0 unused 4032
+  log 1 free live 0 dead 0 unused 4096
+  log 2 free live 0 dead 0 unused 4096
+  log 3 free live 0 dead 0 unused 4096
 ";
 
 /// Digits in either case are answered in small ones.
@@ -328,34 +330,34 @@ const LAST_IN_RANGE: &str = "\
 heap 4 8
   ok
 new 7 1 255
-  pointer 896
-new 7 1016 0
-  pointer 897
+  pointer 1792
+new 7 4088 0
+  pointer 1793
 new 6 9 0
-  pointer 768
+  pointer 1536
 open 7
   ok
 open 6
   ok
-read 7 896 0 1
+read 7 1792 0 1
   data 00
-write 7 896 0 ab
+write 7 1792 0 ab
   ok
-read 7 896 0 1
+read 7 1792 0 1
   data ab
-write 7 897 1015 cd
+write 7 1793 4087 cd
   ok
-read 7 897 1015 1
+read 7 1793 4087 1
   data cd
-read 7 897 1015 2
+read 7 1793 4087 2
   refused 8
-read 7 897 1016 1
+read 7 1793 4088 1
   refused 8
-write 6 768 8 ef
+write 6 1536 8 ef
   ok
-read 6 768 0 9
+read 6 1536 0 9
   data 0000000000000000ef
-read 6 768 8 1
+read 6 1536 8 1
   data ef
 close 7
   ok
@@ -363,7 +365,7 @@ close 7
   refused 5
 close 8
   refused 8
-read 6 768 8 1
+read 6 1536 8 1
   data ef
 ";
 
@@ -398,7 +400,7 @@ const BY_TURNS: &str = "\
 heap 4 3
   ok
 new 1 8 1
-  pointer 128
+  pointer 256
 open 2
   ok
 new 0 8 1
@@ -406,20 +408,20 @@ new 0 8 1
 open 0
   ok
 new 2 8 1
-  pointer 256
+  pointer 512
 open 1
   ok
 new 1 8 1
-  pointer 129
+  pointer 257
 new 0 8 1
   pointer 1
-write 1 128 0 a1a1a1a1a1a1a1a1
+write 1 256 0 a1a1a1a1a1a1a1a1
   ok
 write 0 1 0 0101010101010101
   ok
-write 2 256 0 c0c0c0c0c0c0c0c0
+write 2 512 0 c0c0c0c0c0c0c0c0
   ok
-write 1 129 0 b1b1b1b1b1b1b1b1
+write 1 257 0 b1b1b1b1b1b1b1b1
   ok
 read 0 0 0 8
   data 0000000000000000
@@ -427,17 +429,17 @@ close 2
   ok
 read 0 1 0 8
   data 0101010101010101
-read 1 128 0 8
-  data a1a1a1a1a1a1a1a1
-read 1 129 0 8
-  data b1b1b1b1b1b1b1b1
-read 2 256 0 8
-  refused 5
 read 1 256 0 8
+  data a1a1a1a1a1a1a1a1
+read 1 257 0 8
+  data b1b1b1b1b1b1b1b1
+read 2 512 0 8
+  refused 5
+read 1 512 0 8
   refused 7
 open 2
   ok
-read 2 256 0 8
+read 2 512 0 8
   data c0c0c0c0c0c0c0c0
 ";
 
@@ -473,16 +475,16 @@ read 0 3 0 3
 const FILLED_LOG: &str = "\
 heap 4 1
   ok
-new 0 1016 1
+new 0 4088 1
   pointer 0
 log 0
-  log 0 open live 1024 dead 0 unused 0
+  log 0 open live 4096 dead 0 unused 0
 new 0 1 1
   pointer 1
 log 0
-  log 0 sealed live 1024 dead 0 unused 0
+  log 0 sealed live 4096 dead 0 unused 0
 log 1
-  log 1 open live 16 dead 0 unused 1008
+  log 1 open live 16 dead 0 unused 4080
 ";
 
 /// Where objects are, and which of them were read.
@@ -491,13 +493,13 @@ heap 4 2
   ok
 new 0 8 1
   pointer 0
-new 1 1000 2
-  pointer 128
+new 1 4072 2
+  pointer 256
 new 0 9 3
   pointer 1
 where 0 0
   near 0 0 -
-where 1 128
+where 1 256
   near 0 2 -
 where 0 1
   near 1 0 -
@@ -515,7 +517,7 @@ where 0 0
   near 0 0 -
 where 0 2
   refused 7
-where 0 128
+where 0 256
   refused 7
 where 1 0
   refused 7
@@ -531,18 +533,18 @@ audit
   audit near 0 far 0 live 0
 new 0 8 1
   pointer 0
-new 1 1000 2
-  pointer 128
+new 1 4072 2
+  pointer 256
 new 0 9 3
   pointer 1
 audit
-  audit near 3 far 0 live 1048
+  audit near 3 far 0 live 4120
 log 0
-  log 0 sealed live 1024 dead 0 unused 0
+  log 0 sealed live 4096 dead 0 unused 0
 log 1
-  log 1 open live 24 dead 0 unused 1000
+  log 1 open live 24 dead 0 unused 4072
 log 2
-  log 2 free live 0 dead 0 unused 1024
+  log 2 free live 0 dead 0 unused 4096
 log 3
   refused 8
 ";
@@ -564,7 +566,7 @@ close 0
 drop 0 0
   ok
 log 0
-  log 0 open live 0 dead 16 unused 1008
+  log 0 open live 0 dead 16 unused 4080
 drop 0 0
   refused 7
 audit
@@ -588,7 +590,7 @@ close 0
 drop 0 0
   ok
 log 0
-  log 0 open live 0 dead 16 unused 1008
+  log 0 open live 0 dead 16 unused 4080
 drop 0 0
   refused 7
 ";
@@ -636,7 +638,7 @@ new 0 9 2
 new 0 1 1
   pointer 2
 new 1 8 1
-  pointer 128
+  pointer 256
 open 0
   ok
 write 0 1 0 ff
@@ -647,7 +649,7 @@ drop 0 1
   refused 9
 drop 1 1
   refused 7
-drop 0 128
+drop 0 256
   refused 7
 drop 2 1
   refused 8
@@ -656,7 +658,7 @@ close 0
 drop 0 1
   ok
 log 0
-  log 0 open live 32 dead 40 unused 952
+  log 0 open live 32 dead 40 unused 4024
 open 0
   ok
 read 0 1 0 1
@@ -678,7 +680,7 @@ read 0 2 0 1
 where 0 2
   near 0 5 h
 log 0
-  log 0 open live 64 dead 40 unused 920
+  log 0 open live 64 dead 40 unused 3992
 audit
   audit near 4 far 0 live 64
 new 0 8 1
@@ -689,16 +691,16 @@ new 0 8 1
 const DEAD_LOGS: &str = "\
 heap 2 1
   ok
-new 0 1016 1
+new 0 4088 1
   pointer 0
 drop 0 0
   ok
 log 0
-  log 0 open live 0 dead 1024 unused 0
+  log 0 open live 0 dead 4096 unused 0
 new 0 1 1
   refused 2
 log 1
-  log 1 free live 0 dead 0 unused 1024
+  log 1 free live 0 dead 0 unused 4096
 ";
 
 /// The smallest heap: another mutator than its own, a data structure too high, and a pointer that was never made.

@@ -96,7 +96,7 @@ fn has_known_at(alloc: Global, text: &[u8], thread: Thread, at: usize) -> bool {
 #[test]
 fn each_mutator_has_its_own_lines(rt: HostRuntime) -> Result<(), Fail> {
     let text =
-        b"heap 4 2\nnew 0 8 1\nnew 1 8 1\nopen 0\nwrite 0 0 0 0a\nread 0 0 0 1\nopen 1\nread 1 128 0 1";
+        b"heap 4 2\nnew 0 8 1\nnew 1 8 1\nopen 0\nwrite 0 0 0 0a\nread 0 0 0 1\nopen 1\nread 1 256 0 1";
     assert!(rt; runs_lines(rt.alloc(), text, Thread::Mutator(0), &[2, 4, 5, 6]));
     assert!(rt; has_known_at(rt.alloc(), text, Thread::Mutator(0), 2));
     assert!(rt; runs_lines(rt.alloc(), text, Thread::Mutator(1), &[3, 7, 8]));

@@ -23,7 +23,7 @@ fn an_object_in_words(rt: HostRuntime) -> Result<(), Fail> {
         ds: 2,
     };
     assert_eq!(rt; size_of(header.len), 3);
-    assert_eq!(rt; header.pack(), 0xa100_0000_0502_0009);
+    assert_eq!(rt; header.pack(), 0xa200_0005_0200_0009);
     let mut words = [0; 2];
     pack_bytes(b"far away!", &mut words);
     assert_eq!(rt; words, [0x7961_7761_2072_6166, 0x21]);

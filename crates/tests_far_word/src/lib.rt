@@ -11,8 +11,8 @@ mod words;
 
 #[cfg(test)]
 use far_word::{
-    Marks, header_words, packed_bytes, pointer_marks, pointer_words, refusal_numbers, scope_words,
-    sizes_are, words_are,
+    Marks, header_is, header_words, job_words, packed_bytes, pointer_marks, pointer_words,
+    refusal_numbers, scope_words, sizes_are, words_are,
 };
 
 #[cfg(test)]
@@ -56,7 +56,9 @@ fn laws() {
     pointer_words();
     pointer_marks();
     header_words();
+    header_is();
     scope_words();
+    job_words();
     packed_bytes();
     sizes_are();
     words_are();

@@ -1,7 +1,7 @@
 //! Values of each public type that differ in one field compare as different, and each is equal to itself.
 
 use super::NO_MARKS;
-use far_word::{HeadWord, Mark, Marks, Place, PtrWord, Refused, ScopeWord};
+use far_word::{HeadWord, HeadWordV1, Mark, Marks, Place, PtrWord, Refused, ScopeWord, Version};
 use std::test::*;
 
 // Whether two values are different both ways, by each of the two comparisons.
@@ -128,6 +128,23 @@ fn headers(rt: HostRuntime) {
             HeadWord { ds: 2, ..head },
         ])
     );
+    let older = HeadWordV1 {
+        pointer: 5,
+        len: 8,
+        ds: 1,
+    };
+    assert!(rt;
+        all_differ(&[
+            older,
+            HeadWordV1 {
+                pointer: 6,
+                ..older
+            },
+            HeadWordV1 { len: 9, ..older },
+            HeadWordV1 { ds: 2, ..older },
+        ])
+    );
+    assert!(rt; all_differ(&[Version::First, Version::Second]));
 }
 
 #[test]

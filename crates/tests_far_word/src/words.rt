@@ -2,8 +2,9 @@
 
 use super::{DIRTY, HOT, HOT_EVAC, NO_MARKS};
 use far_word::{
-    HeadWord, Mark, Marks, Place, PtrWord, Refused, ScopeWord, object_counts, pack_bytes,
-    pointer_len, resting_place, rests_view, size_of, unpack_bytes, without_owner_marks,
+    HeadWord, HeadWordV1, Job, JobWord, Mark, Marks, Place, PtrWord, Refused, ScopeWord, Version,
+    object_counts, pack_bytes, pointer_len, resting_place, rests_view, size_of, unpack_bytes,
+    without_owner_marks,
 };
 use std::test::*;
 
@@ -34,6 +35,8 @@ fn pointer_words(rt: HostRuntime) {
     assert!(rt; is_pointer(0, PtrWord::Free));
     assert!(rt; is_pointer(0x8400_0000_0001_0008, near(0, 0, NO_MARKS)));
     assert!(rt; is_pointer(0x8400_0000_0201_0008, near(0, 2, NO_MARKS)));
+    assert!(rt; is_pointer(0x8400_0000_7f01_0008, near(0, 127, NO_MARKS)));
+    assert!(rt; is_pointer(0x8400_0001_fe01_0008, near(0, 510, NO_MARKS)));
     assert!(rt; is_pointer(0x8400_0004_0001_0008, near(1, 0, NO_MARKS)));
     assert!(rt; is_pointer(0xc400_0000_0001_0008, near(0, 0, HOT)));
     assert!(rt; is_pointer(0xe400_0000_0001_0008, near(0, 0, HOT_EVAC)));
@@ -54,10 +57,70 @@ fn is_header(word: u64, pointer: u16) -> bool {
     }
 }
 
+// The same of a version 1 header.
+fn is_header_v1(word: u64, pointer: u16) -> bool {
+    let head = HeadWordV1 {
+        pointer,
+        len: 8,
+        ds: 1,
+    };
+    match HeadWordV1::read(word) {
+        Some(read) => read == head && read.pack() == word,
+        None => false,
+    }
+}
+
 #[test]
 fn header_words(rt: HostRuntime) {
-    assert!(rt; is_header(0xa100_0000_0001_0008, 0));
-    assert!(rt; is_header(0xa100_0000_0101_0008, 1));
+    assert!(rt; is_header(0xa200_0000_0100_0008, 0));
+    assert!(rt; is_header(0xa200_0001_0100_0008, 1));
+    assert!(rt; is_header(0xa200_07ff_0100_0008, 2047));
+    assert!(rt; is_header_v1(0xa100_0000_0001_0008, 0));
+    assert!(rt; is_header_v1(0xa100_0000_0101_0008, 1));
+    assert!(rt; is_header_v1(0xa100_0003_ff01_0008, 1023));
+}
+
+// Whether a word says this version, and is a header of pointer 1 in this version alone.
+fn is_of(word: u64, version: Version, other: Version) -> bool {
+    let head = HeadWord {
+        pointer: 1,
+        len: 8,
+        ds: 1,
+    };
+    Version::of(word) == version
+        && version.header(word) == Some(head)
+        && other.header(word).is_none()
+}
+
+#[test]
+fn versions(rt: HostRuntime) {
+    assert!(rt; is_of(0xa100_0000_0101_0008, Version::First, Version::Second));
+    assert!(rt; is_of(0xa200_0001_0100_0008, Version::Second, Version::First));
+    assert!(rt; Version::of(0xa1ff_ffff_ffff_ffff) == Version::First);
+    assert!(rt; Version::of(0) == Version::Second);
+    assert!(rt; Version::of(0xa300_0000_0000_0000) == Version::Second);
+    assert!(rt; Version::First.log_words() == 128 && Version::Second.log_words() == 512);
+}
+
+// Whether a word is read as this job of pointer 2,047, offered from one last place to another, and packed again.
+fn is_offered(word: u64, last: Place) -> bool {
+    let job = Job {
+        pointer: 2047,
+        from: last,
+        to: last,
+    };
+    match JobWord::read(word) {
+        Some(read) => read == JobWord::Offered { job } && read.pack() == word,
+        None => false,
+    }
+}
+
+#[test]
+fn job_words(rt: HostRuntime) {
+    assert!(rt; is_offered(0x4003_f7f8_fdfe_07ff, Place { log: 63, at: 510 }));
+    assert!(rt; JobWord::read(0x4000_2000_0000_0800).is_none());
+    assert!(rt; JobWord::read(0x4000_2000_01ff_0000).is_none());
+    assert!(rt; JobWord::read(0x4000_27fc_0000_0000).is_none());
 }
 
 // Whether a word is read as this scope's, and packed again.
@@ -94,14 +157,23 @@ fn none_is_header(words: &[u64]) -> bool {
     true
 }
 
+fn none_is_header_v1(words: &[u64]) -> bool {
+    for word in words {
+        if HeadWordV1::read(*word).is_some() {
+            return false;
+        }
+    }
+    true
+}
+
 #[test]
 fn words_off_the_layout(rt: HostRuntime) {
     assert!(rt;
         none_is_pointer(&[
             0x0000_0000_0001_0008,
             0x8400_0000_0001_0000,
-            0x8400_0000_0001_03f9,
-            0x8400_0000_7f01_0008,
+            0x8400_0000_0001_0ff9,
+            0x8400_0001_ff01_0008,
             0x0400_0000_0101_0008,
             0x2400_0000_0001_0008,
             0x8400_0100_0001_0008,
@@ -114,7 +186,20 @@ fn words_off_the_layout(rt: HostRuntime) {
         none_is_header(&[
             0,
             0x8400_0000_0001_0008,
+            0xa100_0000_0001_0008,
+            0xa300_0000_0100_0008,
+            0xa200_0000_0100_0000,
+            0xa200_0000_0100_0ff9,
+            0xa200_0000_0101_0008,
+            0xa200_0800_0100_0008,
+        ])
+    );
+    assert!(rt;
+        none_is_header_v1(&[
+            0,
+            0x8400_0000_0001_0008,
             0xa000_0000_0001_0008,
+            0xa200_0000_0100_0008,
             0xa100_0000_0001_0000,
             0xa100_0000_0001_03f9,
             0xa100_0004_0001_0008,
@@ -185,7 +270,7 @@ fn marks_and_masks(rt: HostRuntime) {
     assert!(rt; without_owner_marks(0xfc00_0000_0001_0008) == 0xa400_0000_0001_0008);
     assert!(rt; near(3, 5, HOT).view_place() == Some(Place { log: 3, at: 5 }));
     assert!(rt; near(3, 5, HOT_EVAC).view_place().is_none());
-    assert!(rt; takes(1, 2) && takes(8, 2) && takes(9, 3) && takes(1016, 128));
+    assert!(rt; takes(1, 2) && takes(8, 2) && takes(9, 3) && takes(1016, 128) && takes(4088, 512));
 }
 
 // Whether these are the length and the resting place that are read from a word alone.
@@ -198,7 +283,7 @@ fn fields_alone(rt: HostRuntime) {
     let place = Some(Place { log: 3, at: 5 });
     assert!(rt; has_fields(0, 0, None));
     assert!(rt; has_fields(0x8400_000c_0501_0008, 8, place));
-    assert!(rt; has_fields(0xc400_000c_05ff_03f8, 1016, place));
+    assert!(rt; has_fields(0xc400_000c_05ff_0ff8, 4088, place));
     assert!(rt; has_fields(0xe400_000c_0501_0008, 8, None));
     assert!(rt; has_fields(0x9400_000c_0501_0001, 1, None));
     assert!(rt; has_fields(0x0400_0000_0001_0009, 9, None));
@@ -223,7 +308,7 @@ const REFUSALS: &str = "\
 1 out of memory
 2 no log has room
 3 all pointer cells of the mutator are used
-4 an object's length is 1 to 1016 bytes
+4 an object's length is 1 to 4088 bytes
 5 the scope is closed
 6 the scope is open
 7 the pointer is not held

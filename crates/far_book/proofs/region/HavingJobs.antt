@@ -25,7 +25,7 @@ place_is x y h =
     let e = parts (x.log == y.log) (x.at == y.at) h in
     let a = eqb-true x.log y.log e.0 in let b = eqb-true x.at y.at e.1 in λ i. record { log = a i; at = b i }
 
-place_test : (x y : Place) → x ≡ y → is_place x y ≡ true
+pub place_test : (x y : Place) → x ≡ y → is_place x y ≡ true
 place_test x y e = rw e (rw (eq-eqb y.log y.log refl, eq-eqb y.at y.at refl) refl)
 
 module _ (s : State) (p : ℕ) (at : Place) (lies : near_place (read_of (s.cell p)) ≡ Some at) where

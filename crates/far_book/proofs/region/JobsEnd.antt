@@ -1,6 +1,6 @@
 -- What jobs are offered, and how they end.
 use Rattle.std.proofs.Common.{◌≡◌, ◌≢◌, ◌∙◌, ℕ, suc, zero, ◌*◌, ◌<◌, ◌^◌, Bool, true, false, cond, arith, ap, inl, inr, refl, sym, subst, Option, Some, None}
-use Rattle.std.specs.Prelude.{◌==◌, ◌||◌, not}
+use Rattle.std.specs.Prelude.{◌⊎◌, ◌==◌, ◌&&◌, ◌||◌, not}
 use Rattle.std.proofs.lemmas.Bool.{cases_eq, eq-eqb, eqb-true, false≢true, true≢false, false_from_ne_true}
 use Rattle.far_word.specs.declared.job.Job.{Job}
 use Rattle.far_word.specs.declared.job.JobWord.{JobWord}
@@ -27,6 +27,7 @@ use Rattle.far_core.specs.events.Offer as core
 use Rattle.far_core.specs.events.Offer.{after_offer}
 use Rattle.far_core.specs.events.Quiet.{IsClearNear}
 use Rattle.far_core.specs.laws.Rooms.{IsRoom, RoomIs}
+use Rattle.far_core.specs.laws.Taking.{IsVoid}
 use Rattle.far_core.specs.state.Jobs.{is_finished, job_at, job_said, near_place}
 use Rattle.far_core.specs.state.Law.{Law}
 use Rattle.far_core.specs.state.Room.{room}
@@ -41,14 +42,14 @@ use Rattle.far_hand.specs.FindsJob.{job_found}
 use Rattle.far_hand.proofs.Finding.{finds_same, near_found}
 use Rattle.far_hand.proofs.JobsFound.{same_job}
 use Rattle.far_book.specs.book.Collecting as fate
-use Rattle.far_book.specs.book.Collecting.{BackKnown, CollectsJob, CollectsKnown, Collects, Fate, GoesAsFound, GoesBack, IsCopyNamed, MayBeNamed, NamedAreCopies, NoneFinished, NoneOffered, TakesBack, fate_in, fate_of, found_so, is_named, is_void, made_of, named, named_of, taken_back}
+use Rattle.far_book.specs.book.Collecting.{BackKnown, CollectsJob, CollectsKnown, Collects, EmptiedAreVoid, Fate, GoesAsFound, GoesBack, IsCopyNamed, MayBeNamed, NamedAreCopies, NoneFinished, NoneOffered, TakesBack, fate_in, fate_of, found_so, is_named, is_void, made_of, named, named_of, taken_back}
 use Rattle.far_book.specs.book.Effects.{near_word}
 use Rattle.far_book.specs.book.Jobs.{is_good}
 use Rattle.far_book.specs.book.Offering.{IsOffered, OffersAreJobs, OffersCopy, offered, offered_of, with_ends}
 use Rattle.far_book.specs.book.Own.{own_part, unread}
 use Rattle.far_book.specs.book.Renaming.{seen}
 use Rattle.far_book.proofs.region.Founds.{drop_found, names_found}
-use Rattle.far_book.proofs.region.HavingJobs.{place_is}
+use Rattle.far_book.proofs.region.HavingJobs.{place_is, place_test}
 use Rattle.far_book.proofs.region.JobSteps.{law_found}
 use Rattle.far_book.proofs.region.NamingCopies.{found, layout, told}
 use Rattle.far_book.proofs.region.Offers.{goal_is}
@@ -218,8 +219,11 @@ module _ (s t : State) (j : ℕ) (job : Job) (law : Law (own_part s)) (at : job_
   may : MayBeNamed u j job (s.cell job.pointer)
   may = record { number = low; copier = way.1; finished = ap job_of (put_same s.copying.word j h.word j refl) ∙ says; good = stood.0; found = refl; lies = lay; alive = alive }
 
+  abbrev as_found : (k : Marks) × (read_of h.cell ≡ Some (Near near.0 near.1 job.from k)) × (k.dropped ≡ false) × (k.evac ≡ true)
+  as_found = found u law_u j job (s.cell job.pointer) near.0 near.1 job.from near.2 may near.3 h.cell h.sees way.4
+
   abbrev dirty : Bool
-  dirty = (found u law_u j job (s.cell job.pointer) near.0 near.1 job.from near.2 may near.3 h.cell h.sees way.4).0.dirty
+  dirty = as_found.0.dirty
 
   named_now : named (seen u job.pointer h.cell) job.pointer job.to ≡ with_named (seen u job.pointer h.cell) job.pointer (near_word dirty near.0 near.1 job.to) j
   named_now = told u law_u j job (s.cell job.pointer) near.0 near.1 job.from near.2 may near.3 h.cell h.sees way.4
@@ -239,10 +243,13 @@ module _ (s t : State) (j : ℕ) (job : Job) (law : Law (own_part s)) (at : job_
     good = let x = parts (s.copying.since j == s.round_epoch) (s.round job.from.log) stood.0 in (eqb-true (s.copying.since j) s.round_epoch x.0, x.1);
     lay = ap near_place near.3;
     alive = alive;
+    cell = h.cell;
+    sees = h.sees;
     lies = (
       near.0,
       near.1,
-      dirty,
+      as_found.0,
+      as_found.1,
       ap (λ (x : State). read_of (x.cell job.pointer)) leads ∙ ap read_of (put_same (seen u job.pointer h.cell).cell job.pointer (near_word dirty near.0 near.1 job.to) job.pointer refl)
           ∙ read_back (Near near.0 near.1 job.to (unmarked dirty)) (layout u law_u j job (s.cell job.pointer) near.0 near.1 job.from near.2 may near.3),
     );
@@ -251,6 +258,61 @@ module _ (s t : State) (j : ℕ) (job : Job) (law : Law (own_part s)) (at : job_
 
 pub named_are_copies : NamedAreCopies
 named_are_copies s t j job law at h = copy_named s t j job law at h
+
+-- ---- a job that was emptied, and not named
+empties_by : (o : Option JobWord) (void dropped : Bool) → fate_of o void dropped ≡ fate.Empties → (void ≡ true) ⊎ ((is_finished o ≡ true) × (dropped ≡ true))
+empties_by None void dropped e = absurd cc
+empties_by (Some Empty) void dropped e = absurd cc
+empties_by (Some (Offered x)) true dropped e = inl refl
+empties_by (Some (Offered x)) false dropped e = absurd cc
+empties_by (Some (Taken x c)) void dropped e = absurd cc
+empties_by (Some (Finished x c)) true dropped e = inl refl
+empties_by (Some (Finished x c)) false true e = inr (refl, refl)
+empties_by (Some (Finished x c)) false false e = absurd cc
+
+one_false : (a b : Bool) → (not a || not b) ≡ true → (a ≡ false) ⊎ (b ≡ false)
+one_false true true e = absurd (false≢true e)
+one_false true false e = inr refl
+one_false false b e = inl refl
+
+not_both : (a b : Bool) → (a && b) ≡ false → (a ≡ false) ⊎ (b ≡ false)
+not_both true b e = inr e
+not_both false b e = inl refl
+
+names_near : (o : Option PtrWord) (from : Place) → near_place o ≡ Some from → names_place o from.log from.at ≡ true
+names_near None from e = absurd cc
+names_near (Some Free) from e = absurd cc
+names_near (Some (Near len ds at m)) from e = place_test at from (let same : at ≡ from = cc in same)
+names_near (Some (Far len ds m)) from e = absurd cc
+
+module _ (s t : State) (j : ℕ) (job : Job) (law : Law (own_part s)) (at : job_at s.copying.word j ≡ Some job) (h : GoesAsFound s t j job false) (gone : t.copying.word j ≡ 0) where
+  -- one that stayed wouldn't be empty, and one that was named would be counted
+  by_fate : (f : Fate) → fate_in s j job h.word h.cell ≡ f → fate_in s j job h.word h.cell ≡ fate.Empties
+  by_fate fate.Stays e =
+      let kept : t.copying.word j ≡ h.word = ap (λ (x : State). x.copying.word j) h.leads ∙ ap (λ f. (made_of (found_so s j job h.word h.cell) j job f).copying.word j) e ∙ put_same s.copying.word j h.word j refl in
+      let none : job_said (job_of h.word) ≡ None = ap (λ w. job_said (job_of w)) (sym kept ∙ gone) ∙ ap job_said unworded in
+      let odd : None ≡ Some job = sym none ∙ same_job (s.copying.word j) h.word h.finds ∙ at in
+      absurd cc
+  by_fate fate.Empties e = e
+  by_fate fate.Names e = absurd (false≢true (h.counted ∙ ap is_named e))
+
+  by_void : is_void s j job (read_of h.cell) ≡ true → IsVoid s j job
+  by_void e = elim (one_false (is_good s.round_epoch s.round s.copying.since j job) (names_place (read_of h.cell) job.from.log job.from.at) e) [
+    | inl bad ↦ elim (not_both (s.copying.since j == s.round_epoch) (s.round job.from.log) bad) [
+      | inl late ↦ inl (λ same. true≢false (sym (eq-eqb (s.copying.since j) s.round_epoch (same ∙ sym law.rounds.own_epoch)) ∙ late))
+      | inr out ↦ inr (inl out)
+    ]
+    | inr left ↦ inr (inr (λ there. true≢false (sym (names_near (read_of (s.cell job.pointer)) job.from there) ∙ sym (names_found (s.cell job.pointer) h.cell h.sees job.from.log job.from.at) ∙ left)))
+  ]
+
+  pub emptied_void : IsVoid s j job ⊎ ((is_finished (job_of h.word) ≡ true) × (is_dropped (read_of h.cell) ≡ true))
+  emptied_void = elim (empties_by (job_of h.word) (is_void s j job (read_of h.cell)) (is_dropped (read_of h.cell)) (by_fate (fate_in s j job h.word h.cell) refl)) [
+    | inl void ↦ inl (by_void void)
+    | inr dropped ↦ inr dropped
+  ]
+
+pub emptied_are_void : EmptiedAreVoid
+emptied_are_void s t j job law at h gone = emptied_void s t j job law at h gone
 
 -- ---- a job that was offered
 module _ (s t : State) (p : ℕ) (law : Law (own_part s)) (clear : IsClearNear s p) (o : OffersCopy s t p) where

@@ -130,7 +130,8 @@ module _ (s : State) (law : Law s) (p len ds : ℕ) (place : Place) (h : Placeab
     pub spans_here : spans_of then place.log ≡ spans_of s place.log ++ span_for p len ds place.at ∷ []
     spans_here =
         let now = walks then kept place.log in
-        let more = walk_more (word_in then place.log) (s.tail place.log) (spans_of s place.log) (span_for p len ds place.at) (old_walk place.log) at_end new_stands in
+        let inside : s.tail place.log + size_of len ≤ LOG_WORDS = omega (arith, at_end, h.layout) in
+        let more = walk_more (word_in then place.log) (s.tail place.log) (spans_of s place.log) (span_for p len ds place.at) (old_walk place.log) at_end new_stands inside in
         one_list (word_in then place.log) _ _ 0 (then.tail place.log) now.tile (subst (Tile 0 (spans_of s place.log ++ span_for p len ds place.at ∷ [])) (sym tail_here) more.tile) now.stand more.stand
 
     pub spans_there : (l : ℕ) → l ≢ place.log → spans_of then l ≡ spans_of s l

@@ -7,10 +7,9 @@ use Rattle.far_word.specs.declared.sizes.TheConstants.{LOG_WORDS}
 use Rattle.far_word.specs.Sizes.{words_for}
 use Rattle.far_log.specs.declared.span.Span.{Span}
 use Rattle.far_log.specs.Spans.{Stands, head_len}
-use Rattle.far_log.specs.Walk.{IsWalk, FirstBad}
+use Rattle.far_log.specs.Walk.{IsWalk}
 use Rattle.far_log.proofs.Members.{All-from}
-use Rattle.far_log.proofs.SpanLaws.{one_list, tile_bounds}
-use Rattle.far_log.proofs.WalkLaws.{never_both}
+use Rattle.far_log.proofs.SpanLaws.{tile_bounds}
 use Rattle.far_core.specs.state.Law.{Law}
 use Rattle.far_core.specs.state.Spans.{spans_of, word_in}
 use Rattle.far_core.specs.state.State.{State}
@@ -57,14 +56,8 @@ module _ (s : State) (law : Law (own_part s)) (l : ℕ) (row : ℕ → ℕ) (rea
   row_walks = subst (IsWalk row (s.tail l)) (sym (own_spans s law l)) record {
     tile = (walks (own_part s) law l).tile;
     stand = All-from (Stands row) (spans_of (own_part s) l) stands;
+    inside = (walks (own_part s) law l).inside;
   }
-
--- words that walk to a list walk to no other, and have no bad word
-pub one_walk : (row : ℕ → ℕ) (tail : ℕ) (xs ys : List Span) → IsWalk row tail xs → IsWalk row tail ys → xs ≡ ys
-one_walk row tail xs ys a b = one_list row xs ys 0 tail a.tile b.tile a.stand b.stand
-
-pub none_bad : (row : ℕ → ℕ) (tail at w : ℕ) (spans : List Span) → IsWalk row tail spans → FirstBad row tail at w → ⊥
-none_bad row tail at w spans walk bad = never_both row tail at w spans walk bad
 
 -- one word more is read
 pub read_more : (s : State) (l i w : ℕ) (words : List ℕ) → i < length words → ((k : ℕ) → k < i → IsReadAt s (l * LOG_WORDS + k) (slice_index words k)) → IsReadAt s (l * LOG_WORDS + i) w →

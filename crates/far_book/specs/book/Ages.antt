@@ -14,6 +14,7 @@ use Rattle.far_core.specs.state.Law.{Law, IsStored}
 use Rattle.far_core.specs.state.Room.{room}
 use Rattle.far_core.specs.state.State.{State}
 use Rattle.far_book.specs.book.Effects.{fetched, moved, order_after, placed}
+use Rattle.far_book.specs.book.Offering.{offered}
 use Rattle.far_book.specs.book.Releasing.{order_without}
 
 -- from s to t a list of logs stays in front as it was, and behind it stand those that were sealed meanwhile, and no other
@@ -33,6 +34,10 @@ FetchingSealsBehind = (s : State) (p len ds : ℕ) (marks : Marks) (place : Plac
 abbrev pub MovingSealsBehind : Type 0
 MovingSealsBehind = (s : State) (p len ds : ℕ) (from to : Place) (marks : Marks) (order : List ℕ) → Law s → read_of (s.cell p) ≡ Some (Near len ds from marks) → is_quiet s.round s.clear p from marks ≡ true →
     marks.dropped ≡ false → marks.evac ≡ true → room s (size_of len) false ≡ Some to → SealsBehind s (moved s p to) order (order_after s order to)
+
+abbrev pub OfferingSealsBehind : Type 0
+OfferingSealsBehind = (s : State) (j p len ds : ℕ) (from to : Place) (marks : Marks) (order : List ℕ) → Law s → read_of (s.cell p) ≡ Some (Near len ds from marks) →
+    SealsBehind s (offered s j p to) order (order_after s order to)
 
 -- without a log, the older and the younger ones stand as they stood
 abbrev pub WithoutKeepsAges : Type 0

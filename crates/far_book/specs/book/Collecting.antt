@@ -1,8 +1,9 @@
 -- What becomes of the jobs of copiers when they are collected, or taken back.
-use Rattle.std.specs.Prelude.{◌≡◌, ◌≢◌, ◌+◌, ◌<◌, ◌||◌, ℕ, zero, suc, Bool, true, false, not, cond, Option, Some, None}
+use Rattle.std.specs.Prelude.{◌≡◌, ◌≢◌, ◌⊎◌, ◌+◌, ◌<◌, ◌||◌, ℕ, zero, suc, Bool, true, false, not, cond, Option, Some, None}
 use Rattle.far_word.specs.declared.job.Job.{Job}
 use Rattle.far_word.specs.declared.job.JobWord.{JobWord}
 use Rattle.far_word.specs.declared.job.JobWord.TheVariants.{Empty, Offered, Taken, Finished}
+use Rattle.far_word.specs.declared.mark.Marks.{Marks}
 use Rattle.far_word.specs.declared.pointer.Place.{Place}
 use Rattle.far_word.specs.declared.pointer.PtrWord.{PtrWord}
 use Rattle.far_word.specs.declared.pointer.PtrWord.TheVariants.{Free, Near, Far}
@@ -13,6 +14,7 @@ use Rattle.far_core.specs.declared.event.Event.TheVariants.{Name}
 use Rattle.far_core.specs.events.Collect.{collected}
 use Rattle.far_core.specs.events.Naming.{is_dropped, unmarked}
 use Rattle.far_core.specs.events.Step.{after}
+use Rattle.far_core.specs.laws.Taking.{IsVoid}
 use Rattle.far_core.specs.state.Jobs.{IsGood, is_finished, job_at, near_place}
 use Rattle.far_core.specs.state.Law.{Law}
 use Rattle.far_core.specs.state.Spans.{names_place}
@@ -154,7 +156,7 @@ abbrev pub NoneOffered : Type 0
 NoneOffered = (s t : State) → TakesBack s JOBS t → (j : ℕ) (job : Job) → j < JOBS → job_of (t.copying.word j) ≢ Some (Offered job)
 
 -- a job that was named was found finished; the round of its offer stood, and its object lay at its source, and wasn't known to be dropped. Now the pointer
--- names its target, without marks but DIRTY, and it is empty
+-- names its target, as long and of the same data structure as it was found, without marks but DIRTY, as found too; and the job is empty
 pub record IsCopyNamed (s t : State) (j : ℕ) (job : Job) : Type 0 where
   pub word : ℕ
   pub found : FindsJob (s.copying.word j) word
@@ -163,11 +165,18 @@ pub record IsCopyNamed (s t : State) (j : ℕ) (job : Job) : Type 0 where
   pub good : IsGood s.round_epoch s.round s.copying.since j job
   pub lay : near_place (read_of (s.cell job.pointer)) ≡ Some job.from
   pub alive : is_dropped (read_of (s.cell job.pointer)) ≡ false
-  pub lies : (len ds : ℕ) × (dirty : Bool) × (read_of (t.cell job.pointer) ≡ Some (Near len ds job.to (unmarked dirty)))
+  pub cell : ℕ
+  pub sees : Finds (s.cell job.pointer) cell
+  pub lies : (len ds : ℕ) × (marks : Marks) × (read_of cell ≡ Some (Near len ds job.from marks)) × (read_of (t.cell job.pointer) ≡ Some (Near len ds job.to (unmarked marks.dirty)))
   pub empty : t.copying.word j ≡ 0
 
 abbrev pub NamedAreCopies : Type 0
 NamedAreCopies = (s t : State) (j : ℕ) (job : Job) → Law (own_part s) → job_at s.copying.word j ≡ Some job → GoesAsFound s t j job true → IsCopyNamed s t j job
+
+-- a job that is empty and wasn't named is void; or it was found finished, and its object dropped. So an offered one that isn't void stays, whatever its owner asks
+abbrev pub EmptiedAreVoid : Type 0
+EmptiedAreVoid = (s t : State) (j : ℕ) (job : Job) → Law (own_part s) → job_at s.copying.word j ≡ Some job → (h : GoesAsFound s t j job false) → t.copying.word j ≡ 0 →
+    IsVoid s j job ⊎ ((is_finished (job_of h.word) ≡ true) × (is_dropped (read_of h.cell) ≡ true))
 
 -- ---- what one try leaves
 -- from s to t a job's pointer was named to its target, by a word without DROP that was found in its cell; words may have been forgotten

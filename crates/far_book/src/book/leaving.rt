@@ -22,6 +22,7 @@ ghost use Rattle.far_book.specs.book.Evicting.{GoesFar, IsQuietData, IsQuietIn, 
 ghost use Rattle.far_book.specs.book.Only.{Names, Reads};
 ghost use Rattle.far_book.specs.book.Renaming.{Renamed, seen, stops};
 ghost use Rattle.far_book.specs.book.Sending.{Sends};
+ghost use Rattle.far_book.specs.declared.book.leaving.TheConstants.{LARGE, MIDDLE};
 
 use crate::book::Book;
 use crate::book::renaming::{is_dirty, is_dropped, rename};
@@ -30,8 +31,12 @@ use far_device::{Device, DeviceFault};
 use far_hand::Near;
 use far_word::{LOG_WORDS, LONGEST, Place, PtrWord, Refused, size_of, unpack_bytes, words_for};
 
-// The bytes of an object that are read into a short row.
+// The most bytes of an object that are read into a short row, into a middle one, and into a large one.
 const SHORT: u16 = 64;
+
+const MIDDLE: u16 = 256;
+
+const LARGE: u16 = 1024;
 
 impl<N: Near + Drop, D: Device + Drop> Book<N, D> {
     /// Sends a quiet near object with EVAC far: the device holds its bytes, its cell says far, without marks, and its span is
@@ -129,7 +134,7 @@ impl<N: Near + Drop, D: Device + Drop> Book<N, D> {
         }
     }
 
-    // Reads the words of a quiet object, and has the device hold its bytes: by way of a short row where they fit into one.
+    // Reads the words of a quiet object, and has the device hold its bytes: by way of the smallest row that has room for them.
     #[inline(always)]
     fn send(&mut self, pointer: u16, len: u16, ds: u8, place: Place) -> Result<(), Refused>
         requires pointer { pointer < CELLS * (N.view self.old.near).mutators }
@@ -140,9 +145,39 @@ impl<N: Near + Drop, D: Device + Drop> Book<N, D> {
         if len <= SHORT {
             let mut row = [0; SHORT as usize];
             self.send_by(pointer, len, ds, place, &mut row)
+        } else if len <= MIDDLE {
+            self.send_middle(pointer, len, ds, place)
+        } else if len <= LARGE {
+            self.send_large(pointer, len, ds, place)
         } else {
             self.send_long(pointer, len, ds, place)
         }
+    }
+
+    // The same, by way of a middle row.
+    #[inline(never)]
+    fn send_middle(&mut self, pointer: u16, len: u16, ds: u8, place: Place) -> Result<(), Refused>
+        requires pointer { pointer < CELLS * (N.view self.old.near).mutators }
+        requires near { IsQuietIn (N.view self.old.near) pointer len ds place }
+        requires dirty { is_dirty (read_of ((N.view self.old.near).cell pointer)) ≡ true }
+        requires most { len ≤ MIDDLE }
+        ensures { Sends N.still N.view N.makes D.writes D.contents D.honest D.faults D.fails_at_most self.old self.new pointer len place result }
+    {
+        let mut row = [0; MIDDLE as usize];
+        self.send_by(pointer, len, ds, place, &mut row)
+    }
+
+    // The same, by way of a large row.
+    #[inline(never)]
+    fn send_large(&mut self, pointer: u16, len: u16, ds: u8, place: Place) -> Result<(), Refused>
+        requires pointer { pointer < CELLS * (N.view self.old.near).mutators }
+        requires near { IsQuietIn (N.view self.old.near) pointer len ds place }
+        requires dirty { is_dirty (read_of ((N.view self.old.near).cell pointer)) ≡ true }
+        requires most { len ≤ LARGE }
+        ensures { Sends N.still N.view N.makes D.writes D.contents D.honest D.faults D.fails_at_most self.old self.new pointer len place result }
+    {
+        let mut row = [0; LARGE as usize];
+        self.send_by(pointer, len, ds, place, &mut row)
     }
 
     // The same, by way of a row for any object.

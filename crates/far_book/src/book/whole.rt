@@ -15,7 +15,7 @@ use far_device::Device;
 use far_hand::Near;
 
 impl<N: Near + Drop, D: Device + Drop> Book<N, D> {
-    /// What the book's part of the law means, over any hand. Live, dead and unused bytes of each log make its 1,024: live are
+    /// What the book's part of the law means, over any hand. Live, dead and unused bytes of each log make its 4,096: live are
     /// those that its live spans take, dead those that its others do. A used cell without DROP has exactly one live span, of its
     /// length and data structure, whose header names it, or, far, stored words of its length and no live span; a near cell
     /// with DROP has its one live span too, and two cells never name one place.

@@ -8,6 +8,7 @@ use Rattle.far_word.specs.declared.pointer.Place.{Place}
 use Rattle.far_word.specs.declared.pointer.PtrWord.TheVariants.{Near, Far}
 use Rattle.far_word.specs.declared.sizes.TheConstants.{CELLS, JOBS, LOG_WORDS, MOST_COPIERS}
 use Rattle.far_word.specs.Header.{head_word}
+use Rattle.far_word.specs.Job.{job_of}
 use Rattle.far_word.specs.Mark.{field}
 use Rattle.far_word.specs.Pointer.{read_of}
 use Rattle.far_word.specs.Sizes.{size_of}
@@ -111,12 +112,14 @@ pub record RoundsAreRefused (s : State) : Type 0 where
       IsRefused s (event.Advance logs)
 
 -- about copying: past the last copier or job; to take a job beside another, or one that isn't offered (whose stage isn't 1); without a job; to read a word that begins at the
--- object's end or past it, to write one that wasn't read, to finish before each is written; to empty a job that is empty or taken (stages 0 and 2)
+-- object's end or past it, to write one that wasn't read, to finish before each is written; to empty a job that is empty or taken (stages 0 and 2); to take or empty one by a
+-- word that is off the layout
 pub record CopyingIsRefused (s : State) : Type 0 where
   pub claim_past : (c j old : ℕ) → JOBS ≤ j → IsRefused s (event.Claim c j old)
   pub claim_none : (c j old : ℕ) → MOST_COPIERS ≤ c → IsRefused s (event.Claim c j old)
   pub claim_again : (c j old : ℕ) (t : Task) → s.copying.task c ≡ Some t → IsRefused s (event.Claim c j old)
   pub claim_unoffered : (c j old : ℕ) → old / 2 ^ 62 ≢ 1 → IsRefused s (event.Claim c j old)
+  pub claim_off_layout : (c j old : ℕ) → job_of old ≡ None → IsRefused s (event.Claim c j old)
   pub length_idle : (c : ℕ) → s.copying.task c ≡ None → IsRefused s (event.ReadLength c)
   pub read_idle : (c i : ℕ) → s.copying.task c ≡ None → IsRefused s (event.Read c i)
   pub read_over : (c i : ℕ) (t : Task) → s.copying.task c ≡ Some t → head_len (s.word (addr t.job.from)) ≤ 8 * i → IsRefused s (event.Read c i)
@@ -127,6 +130,7 @@ pub record CopyingIsRefused (s : State) : Type 0 where
   pub collect_past : (j old : ℕ) → JOBS ≤ j → IsRefused s (event.Collect j old)
   pub collect_empty : (j old : ℕ) → old / 2 ^ 62 ≡ 0 → IsRefused s (event.Collect j old)
   pub collect_taken : (j old : ℕ) → old / 2 ^ 62 ≡ 2 → IsRefused s (event.Collect j old)
+  pub collect_off_layout : (j old : ℕ) → job_of old ≡ None → IsRefused s (event.Collect j old)
 
 -- about offers: past the last job or pointer; a job that isn't empty; what isn't near; without EVAC, outside the round, or of an owner that
 -- wasn't seen clear

@@ -36,13 +36,15 @@ pub record TakesCopy (s : State) (p old new j : ℕ) (job : Job) : Type 0 where
   pub after : ((step_of s (Name p old new)).0.cell p ≡ new) × ((step_of s (Name p old new)).0.copying.named j ≡ true)
 
 -- a pointer comes to a job's target by the naming alone that takes the copy that this job has made, whatever the event. By such a naming alone the
--- book comes to note of a job that its pointer was named to the target, and it does until another job is offered there
+-- book comes to note of a job that its pointer was named to the target, and it does until another job is offered there. The round of which a job is changes by another offer
+-- alone: so one that isn't void stays so until another round begins, its source's log leaves the round, or its pointer lies elsewhere
 pub record CopiesAreTaken (s : State) : Type 0 where
   pub comes : (e : Event) (p j : ℕ) (job : Job) → job_at s.copying.word j ≡ Some job → near_place (read_of (s.cell p)) ≢ Some job.to →
       near_place (read_of ((step_of s e).0.cell p)) ≡ Some job.to → (old new : ℕ) × (e ≡ Name p old new) × TakesCopy s p old new j job
   pub noted : (e : Event) (j : ℕ) → s.copying.named j ≡ false → (step_of s e).0.copying.named j ≡ true →
       (old new : ℕ) × (job : Job) × (e ≡ Name job.pointer old new) × TakesCopy s job.pointer old new j job
   pub until : (e : Event) (j : ℕ) → s.copying.named j ≡ true → (step_of s e).0.copying.named j ≡ false → (p : ℕ) × (to : Place) × (e ≡ Offer j p to)
+  pub dated : (e : Event) (j : ℕ) → (step_of s e).0.copying.since j ≢ s.copying.since j → (p : ℕ) × (to : Place) × (e ≡ Offer j p to)
 
 -- to give back a log that a job reads or writes; to name a pointer to a job's target, which it isn't named to, where the job isn't finished, is
 -- void, is another pointer's, or has had its pointer named so before

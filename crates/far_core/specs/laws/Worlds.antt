@@ -18,7 +18,7 @@ use Rattle.far_core.specs.events.Step.{change_of}
 use Rattle.far_core.specs.world.Happens.{Happens}
 use Rattle.far_core.specs.world.World.{World, Object, Group}
 
--- an object has a number of the largest heap's, that number's owner and 1 to 1,016 bytes; if it is near, its group is held
+-- an object has a number of the largest heap's, that number's owner and 1 to 4,088 bytes; if it is near, its group is held
 pub record ObjectStands (w : World) (p : ℕ) (o : Object) : Type 0 where
   pub number : p < POINTERS
   pub owner : o.owner ≡ p / CELLS

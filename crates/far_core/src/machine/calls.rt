@@ -94,7 +94,7 @@ impl Core {
     }
 
     /// An open owner closes its scope, and holds, has soiled and remembers nothing from then on. This writes the places and
-    /// marks of its 128 cells, whatever it holds.
+    /// marks of its 256 cells, whatever it holds.
     #[inline]
     pub fn close(&mut self, owner: u8)
         requires legal { Legal (core_state self.old) (Event.Close owner) }
@@ -154,7 +154,7 @@ impl Core {
     }
 
     /// Word `at` of a log. With `free` the log, which is sealed and has no live span, and which no job reads or writes, is given
-    /// back too: its spans, at most 128, are forgotten.
+    /// back too: its spans, at most 256, are forgotten.
     #[inline]
     pub fn get(&mut self, log: u8, at: u16, free: bool) -> u64
         requires legal { Legal (core_state self.old) (Event.Get log at free) }
@@ -316,7 +316,7 @@ impl Core {
     }
 
     /// Whether word `at` of a log may be read, and with `free` the log given back. With `free` this looks at the log's
-    /// 128 words.
+    /// 512 words.
     #[inline]
     pub fn may_get(&self, log: u8, at: u16, free: bool) -> bool
         ensures { IsTrue result ↔ Legal (core_state self.now) (Event.Get log at free) }

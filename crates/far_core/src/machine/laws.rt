@@ -63,7 +63,7 @@ impl Core {
         let _memory = &self.memory;
     }
 
-    /// Live, dead and unused bytes of each log make its 1,024. A span is live exactly where the cell of the pointer that its
+    /// Live, dead and unused bytes of each log make its 4,096. A span is live exactly where the cell of the pointer that its
     /// header names says near, at its place; live bytes are what the live spans take, and dead bytes what all others take.
     pub fn bytes_make_log(&self)
         ensures sum { (l : ℕ) → live_bytes (core_state self.now) l + dead_bytes (core_state self.now) l + unused_bytes (core_state self.now) l ≡ 8 * LOG_WORDS }
@@ -75,7 +75,7 @@ impl Core {
 
     /// Each used cell without DROP has one place: exactly one live span, of its length and data structure, or, far,
     /// stored words of its length and no live span. A near cell with DROP has its one live span too, and two cells never
-    /// name one place. Each object of the world has a number below 1,024, that number's owner and 1 to 1,016 bytes, and a
+    /// name one place. Each object of the world has a number below 2,048, that number's owner and 1 to 4,088 bytes, and a
     /// near one lies in a held group. A view is of a near object in a held group, under an open scope; an object is marked
     /// exactly where its word has EVAC or MOVE, and nothing else is marked. The objects of the world are those of used cells without
     /// DROP, with the bytes of their words.
@@ -109,7 +109,7 @@ impl Core {
         let _memory = &self.memory;
     }
 
-    /// Room for a span of at most 128 words is the end of the open log where the span fits there, else the start of the
+    /// Room for a span of at most 512 words is the end of the open log where the span fits there, else the start of the
     /// lowest free log, but not of the only one where the reserve is kept; none only where neither may be had.
     pub fn room_is_right(&self)
         ensures { RoomIsRight (core_state self.now) }
@@ -199,9 +199,14 @@ pub fn namings_are_plain()
 
 /// A pointer comes to a job's target by a naming alone that takes the copy: its object lies at the source still, the job is finished and not
 /// void, and the words at both places are the same. By such a naming alone the book comes to note of a job that its pointer was named to the
-/// target, and it does until another job is offered there.
+/// target, and it does until another job is offered there. Of which round a job is changes by another offer alone.
 pub fn copies_are_taken()
     ensures { (s : State) → Law s → CopiesAreTaken s }
+{}
+
+/// What stands of jobs in a core stands in each state that keeps the law, as in those in which a step on shared words may be made.
+pub fn jobs_stand_by_law()
+    ensures { (s : State) → Law s → JobsStand s }
 {}
 
 /// Causes for which an event is refused and changes nothing, a row each: of scopes, pointers, an object's words, logs, cells and

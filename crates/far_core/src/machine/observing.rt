@@ -63,7 +63,7 @@ impl Core {
         self.memory.kind(log)
     }
 
-    /// Where the spans of a log end, in words, 0 to 128.
+    /// Where the spans of a log end, in words, 0 to 512.
     pub fn tail(&self, log: u8) -> u16
         requires { log < (core_state self.now).logs }
         ensures { result ≡ (core_state self.now).tail log }
@@ -79,7 +79,7 @@ impl Core {
         self.memory.current()
     }
 
-    /// The word `at` of a log, 0 to 127.
+    /// The word `at` of a log, 0 to 511.
     pub fn word(&self, log: u8, at: u16) -> u64
         requires log { log < (core_state self.now).logs }
         requires at { at < LOG_WORDS }
@@ -88,7 +88,7 @@ impl Core {
         self.memory.word(first_word(Place { log, at }))
     }
 
-    /// Whether a span begins at the word `at` of a log, 0 to 127: a header stands there.
+    /// Whether a span begins at the word `at` of a log, 0 to 511: a header stands there.
     pub fn starts(&self, log: u8, at: u16) -> bool
         requires log { log < (core_state self.now).logs }
         requires at { at < LOG_WORDS }

@@ -1,13 +1,17 @@
 //! The stored words of far objects.
 
-ghost use Rattle.std.specs.Prelude.{◌≡◌, ◌*◌, ◌≤◌, is_some};
+ghost use Rattle.std.specs.Prelude.{◌≡◌, ◌+◌, ◌*◌, ◌≤◌, ℕ, is_some, slice_index};
 ghost use Rattle.std.specs.List.{count_by};
 ghost use Rattle.std.specs.Vec.{vec_capacity, vec_len};
 ghost use Rattle.far_word.specs.declared.sizes.TheConstants.{LOG_WORDS, POINTERS};
+ghost use Rattle.far_core.specs.declared.memory.stored_rows.TheConstants.{PART};
 ghost use Rattle.far_core.specs.state.Rows.{RowsAreApart, RowsFit};
 
 use far_word::LOG_WORDS;
 use std::alloc::{AllocError, Global};
+
+// How many words are filled at once.
+pub(crate) const PART: u16 = 128;
 
 /// A row of words for each pointer that ever went far, in the order in which they first did. The room for a row of each
 /// pointer is taken when this is made, and a row is written to only once its pointer goes far.
@@ -24,7 +28,7 @@ pub(crate) struct StoredRows {
 }
 
 impl StoredRows {
-    ghost use Rattle.std.specs.Prelude.{◌<◌, ◌+◌, ℕ, IfOk, Some, None, length, slice_index, slice_index_or};
+    ghost use Rattle.std.specs.Prelude.{◌<◌, IfOk, Some, None, length, slice_index_or};
     ghost use Rattle.far_core.specs.state.Rows.{with_first};
     ghost use Rattle.far_core.specs.state.State.{put};
     ghost use Rattle.far_core.specs.state.StoredRows.{stored_in};
@@ -93,7 +97,7 @@ impl StoredRows {
     {
         let end = self.words.len();
         let row = (end / LOG_WORDS as usize) as u16;
-        self.words.resize(end + LOG_WORDS as usize, 0).unwrap();
+        add_row(&mut self.words);
         self.row_of[pointer as usize] = Some(row);
         row
     }
@@ -115,4 +119,27 @@ fn row_start(row: u16) -> usize
     ensures { result ≡ row * LOG_WORDS }
 {
     row as usize * LOG_WORDS as usize
+}
+
+/// A row of zeros follows. It is filled a part at a time: where little is filled no instruction is repeated for each byte.
+fn add_row(words: &mut Vec<u64>)
+    requires { vec_len words.old + LOG_WORDS ≤ vec_capacity words.old }
+    ensures len { vec_len words.new ≡ vec_len words.old + LOG_WORDS }
+    ensures room { vec_capacity words.old ≤ vec_capacity words.new }
+    ensures same { (k : ℕ) → slice_index words.new.items k ≡ slice_index words.old.items k }
+{
+    for _ in 0..LOG_WORDS / PART {
+        add_part(words);
+    }
+}
+
+/// A part of a row follows, of zeros.
+fn add_part(words: &mut Vec<u64>)
+    requires { vec_len words.old + PART ≤ vec_capacity words.old }
+    ensures len { vec_len words.new ≡ vec_len words.old + PART }
+    ensures room { vec_capacity words.old ≤ vec_capacity words.new }
+    ensures same { (k : ℕ) → slice_index words.new.items k ≡ slice_index words.old.items k }
+{
+    let end = words.len();
+    words.resize(end + PART as usize, 0).unwrap();
 }

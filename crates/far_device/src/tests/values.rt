@@ -65,7 +65,7 @@ fn readme(rt: HostRuntime) -> Result<(), Fail> {
 #[test]
 fn keys_are_apart(rt: HostRuntime) {
     let mut device = MemDevice::new(rt.alloc());
-    let rows: [(u32, &[u8]); 4] = [(0, &[7; 1016]), (u32::MAX, &[255]), (1, &[]), (0, &[8, 9])];
+    let rows: [(u32, &[u8]); 4] = [(0, &[7; 4088]), (u32::MAX, &[255]), (1, &[]), (0, &[8, 9])];
     for (id, bytes) in rows {
         assert!(rt; has_nothing(&mut device, 2) && keeps(&mut device, id, bytes));
     }
@@ -75,9 +75,9 @@ fn keys_are_apart(rt: HostRuntime) {
     assert!(rt; gives(&mut device, u32::MAX, &[255]));
 }
 
-// Whether each of 1,024 keys is written, with its number as bytes.
+// Whether each of 2,048 keys is written, with its number as bytes.
 fn writes_all(device: &mut MemDevice) -> bool {
-    for id in 0..1024u32 {
+    for id in 0..2048u32 {
         if device.write(id, &id.to_le_bytes()).is_err() {
             return false;
         }
@@ -87,7 +87,7 @@ fn writes_all(device: &mut MemDevice) -> bool {
 
 // Whether nothing is under each even key, once it was forgotten.
 fn forgets_even(device: &mut MemDevice) -> bool {
-    for id in 0..512u32 {
+    for id in 0..1024u32 {
         device.forget(2 * id);
         if !has_nothing(device, 2 * id) {
             return false;
@@ -98,7 +98,7 @@ fn forgets_even(device: &mut MemDevice) -> bool {
 
 // Whether each odd key has its number still.
 fn gives_odd(device: &mut MemDevice) -> bool {
-    for id in 0..512u32 {
+    for id in 0..1024u32 {
         let odd = 2 * id + 1;
         if !gives(device, odd, &odd.to_le_bytes()) {
             return false;
@@ -114,19 +114,19 @@ fn many_keys(rt: HostRuntime) {
 }
 
 #[test]
-fn the_row_ends_at_1024(rt: HostRuntime) {
+fn the_row_ends_at_2048(rt: HostRuntime) {
     let mut device = MemDevice::new(rt.alloc());
-    let rows: [(u32, &[u8]); 4] = [(1024, &[4; 100]), (1023, &[3]), (1024, &[4]), (1023, &[])];
+    let rows: [(u32, &[u8]); 4] = [(2048, &[4; 100]), (2047, &[3]), (2048, &[4]), (2047, &[])];
     for (id, bytes) in rows {
         assert!(rt; keeps(&mut device, id, bytes));
     }
-    assert!(rt; device.row.len() == 1024);
-    assert!(rt; has_nothing(&mut device, 0) && has_nothing(&mut device, 1025));
-    device.forget(1024);
-    assert!(rt; has_nothing(&mut device, 1024) && gives(&mut device, 1023, &[]));
-    assert!(rt; device.write(1024, &[5; 8]).is_ok());
-    device.forget(1023);
-    assert!(rt; has_nothing(&mut device, 1023) && gives(&mut device, 1024, &[5; 8]));
+    assert!(rt; device.row.len() == 2048);
+    assert!(rt; has_nothing(&mut device, 0) && has_nothing(&mut device, 2049));
+    device.forget(2048);
+    assert!(rt; has_nothing(&mut device, 2048) && gives(&mut device, 2047, &[]));
+    assert!(rt; device.write(2048, &[5; 8]).is_ok());
+    device.forget(2047);
+    assert!(rt; has_nothing(&mut device, 2047) && gives(&mut device, 2048, &[5; 8]));
 }
 
 // Whether the buffer of a key of the row has room for so many bytes, and no more.
@@ -179,11 +179,11 @@ fn fails_into<D: Device + Drop>(device: &mut D, id: u32, buffer: &mut Vec<u8>) -
     device.read_into(id, buffer) == Err(DeviceFault::Device)
 }
 
-// Whether bytes of each length from 0 to 1,016 are read into a buffer, whose room stays.
+// Whether bytes of each length from 0 to 4,088 are read into a buffer, whose room stays.
 fn reads_each_length(device: &mut MemDevice, buffer: &mut Vec<u8>) -> bool {
     let room = buffer.capacity();
-    for len in 0..1017usize {
-        let row = [(len % 256) as u8; 1016];
+    for len in 0..4089usize {
+        let row = [(len % 256) as u8; 4088];
         let is_read = device.write(1, &row[..len]).is_ok()
             && reads_into(device, buffer, &row[..len]);
         if !is_read || buffer.capacity() != room {
@@ -195,13 +195,13 @@ fn reads_each_length(device: &mut MemDevice, buffer: &mut Vec<u8>) -> bool {
 
 #[test]
 fn a_buffer_is_read_into(rt: HostRuntime) -> Result<(), Fail> {
-    let mut buffer = Vec::with_capacity(rt.alloc(), 1016)?;
+    let mut buffer = Vec::with_capacity(rt.alloc(), 4088)?;
     let room = buffer.capacity();
     let mut device = MemDevice::new(rt.alloc());
     assert!(rt; reads_each_length(&mut device, &mut buffer));
     assert!(rt; fails_into(&mut device, 2, &mut buffer) && device.faults() == 1);
     assert!(rt; buffer.capacity() == room);
-    assert!(rt; reads_into(&mut device, &mut Vec::new(rt.alloc()), &[248; 1016]));
+    assert!(rt; reads_into(&mut device, &mut Vec::new(rt.alloc()), &[248; 4088]));
     Ok(())
 }
 

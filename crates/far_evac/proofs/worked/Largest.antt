@@ -16,7 +16,7 @@ after_calls m [] = m
 after_calls m (c ∷ cs) = after_calls (turn_of m c).0 cs
 
 -- each of 63 logs is filled by one object, and the last one is the reserve: 62 are sealed, and all of them are given back in nine turns
-largest : (turn_of (after_calls (start 64 1 0) (map (λ p. News 0 p 1016) (range_with_len 0 63))) (Rounds 64 9)).1
+largest : (turn_of (after_calls (start 64 1 0) (map (λ p. News 0 p 4088) (range_with_len 0 63))) (Rounds 64 9)).1
     ≡ Ends (Done record { moved = 0; far = 62; dropped = 0; freed = 62; done = true })
 unfolding read_of head_of spans_in spans_of live_in turn_size
 largest = refl

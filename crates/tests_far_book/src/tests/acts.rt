@@ -14,7 +14,7 @@ pub(super) enum Act {
     /// A new object of this length, of data structure 1, gets this pointer, and this place.
     Makes(u16, u16, (u8, u16)),
     /// So many new objects of this length and data structure are made.
-    MakesMany(u8, u16, u8),
+    MakesMany(u16, u16, u8),
     /// One of 8 bytes isn't, for this reason.
     MakesNone(Refused),
     /// Whether an object is retired: one that is near and whose cell shows DROP.

@@ -12,20 +12,20 @@ use far_word::{Mark, Place, Refused};
 
 const FULL: LogRow = LogRow {
     log: 0,
-    live: 1024,
+    live: 4096,
     dead: 0,
     unused: 0,
 };
 
 const FILLS_A_LOG: &[Act] = &[
-    Log(0, Kind::Open, [0, 0, 1024]),
-    Makes(1016, 0, (0, 0)),
-    Log(0, Kind::Open, [1024, 0, 0]),
+    Log(0, Kind::Open, [0, 0, 4096]),
+    Makes(4088, 0, (0, 0)),
+    Log(0, Kind::Open, [4096, 0, 0]),
     Makes(1, 1, (1, 0)),
-    Log(0, Kind::Sealed, [1024, 0, 0]),
-    Log(1, Kind::Open, [16, 0, 1008]),
-    Log(2, Kind::Free, [0, 0, 1024]),
-    Log(3, Kind::Free, [0, 0, 1024]),
+    Log(0, Kind::Sealed, [4096, 0, 0]),
+    Log(1, Kind::Open, [16, 0, 4080]),
+    Log(2, Kind::Free, [0, 0, 4096]),
+    Log(3, Kind::Free, [0, 0, 4096]),
     Is(SMALL),
     Rows(&[FULL]),
 ];
@@ -53,7 +53,7 @@ const SEE: Event = Event::See { pointer: 0 };
 // An object of 9 bytes is made and viewed, and takes a word for the last of them.
 const TAKES_WHOLE_WORDS: &[Act] = &[
     Makes(9, 0, (0, 0)),
-    Log(0, Kind::Open, [24, 0, 1000]),
+    Log(0, Kind::Open, [24, 0, 4072]),
     Owns(ADOPT, Reply::Word(0x8600_0000_0001_0009)),
     Owns(READ, Reply::Epoch(0)),
     Owns(OPEN, Reply::Done),
@@ -78,7 +78,7 @@ const STORES_AND_LOADS: &[Act] = &[
     StoresOne(0, u64::MAX, true),
     Words(Some([u64::MAX, 7])),
     Owns(LOAD_SECOND, Reply::Word(7)),
-    FirstLog(Kind::Open, [24, 0, 1000]),
+    FirstLog(Kind::Open, [24, 0, 4072]),
     Owns(CLOSE, Reply::Done),
     Owns(LOAD_SECOND, Reply::Refused),
     StoresOne(1, 8, false),
@@ -92,11 +92,11 @@ fn words_are_stored_and_loaded(rt: HostRuntime) {
 
 // One of three logs stays free where both others are full.
 const KEEPS_THE_LAST: &[Act] = &[
-    Makes(1016, 0, (0, 0)),
-    Makes(1016, 1, (1, 0)),
+    Makes(4088, 0, (0, 0)),
+    Makes(4088, 1, (1, 0)),
     MakesNone(Refused::NoRoom),
-    Log(1, Kind::Open, [1024, 0, 0]),
-    Log(2, Kind::Free, [0, 0, 1024]),
+    Log(1, Kind::Open, [4096, 0, 0]),
+    Log(2, Kind::Free, [0, 0, 4096]),
 ];
 
 #[test]
@@ -108,38 +108,38 @@ fn the_last_free_log_is_kept(rt: HostRuntime) {
 const FIRST: Span = Span {
     at: 0,
     p: 0,
-    len: 328,
+    len: 1352,
     ds: 7,
 };
 
 const SECOND: Span = Span {
-    at: 42,
+    at: 170,
     p: 1,
     ..FIRST
 };
 
 const THIRD: Span = Span {
-    at: 84,
+    at: 340,
     p: 2,
     ..FIRST
 };
 
 const FOURTH: Span = Span {
-    at: 126,
+    at: 510,
     p: 3,
     len: 8,
     ds: 1,
 };
 
-// Of three objects of 328 bytes and one that fill log 0 the second is dropped and retired, and its span stays.
+// Of three objects of 1,352 bytes and one that fill log 0 the second is dropped and retired, and its span stays.
 const MAKES_DEAD: &[Act] = &[
-    MakesMany(3, 328, 7),
+    MakesMany(3, 1352, 7),
     MakesMany(1, 8, 1),
     Retires(1, false),
     Asks(1, Mark::Dropped),
-    Log(0, Kind::Open, [1024, 0, 0]),
+    Log(0, Kind::Open, [4096, 0, 0]),
     Retires(1, true),
-    Log(0, Kind::Open, [688, 336, 0]),
+    Log(0, Kind::Open, [2736, 1360, 0]),
     Cell(1, 0),
     Spans(&[FIRST, SECOND, THIRD, FOURTH]),
 ];
@@ -149,17 +149,17 @@ fn a_dropped_object_is_dead(rt: HostRuntime) {
     assert!(rt; plays(&rt, &[MAKES_DEAD]));
 }
 
-// Of 128 objects of 16 bytes with their headers two are dropped, and new ones get their cells, the lowest first.
+// Of 256 objects of 16 bytes with their headers two are dropped, and new ones get their cells, the lowest first.
 const TAKES_THE_LOWEST: &[Act] = &[
-    MakesMany(128, 1, 1),
+    MakesMany(256, 1, 1),
     MakesNone(Refused::NoPointer),
-    Asks(100, Mark::Dropped),
-    Retires(100, true),
+    Asks(200, Mark::Dropped),
+    Retires(200, true),
     Asks(64, Mark::Dropped),
     Retires(64, true),
-    Makes(1, 64, (2, 0)),
-    Makes(1, 100, (2, 2)),
-    Log(1, Kind::Sealed, [992, 32, 0]),
+    Makes(1, 64, (1, 0)),
+    Makes(1, 200, (1, 2)),
+    Log(0, Kind::Sealed, [4064, 32, 0]),
 ];
 
 #[test]
@@ -171,13 +171,13 @@ fn the_lowest_free_cell_is_taken(rt: HostRuntime) {
 const MARKS_WHEN_SEALED: &[Act] = &[
     Makes(8, 0, (0, 0)),
     Marks(0, None),
-    Makes(1016, 1, (1, 0)),
+    Makes(4088, 1, (1, 0)),
     Marks(0, Some(0x8600_0000_0001_0008)),
     Marks(0, Some(0xa600_0000_0001_0008)),
     Marks(1, None),
     Marks(2, None),
     Near(0, (0, 0), HAS_EVAC),
-    Log(0, Kind::Sealed, [16, 0, 1008]),
+    Log(0, Kind::Sealed, [16, 0, 4080]),
 ];
 
 #[test]
@@ -193,7 +193,7 @@ const FINDS_MARKS: &[Act] = &[
     Retires(0, false),
     Retires(0, true),
     Gone(0),
-    Log(0, Kind::Open, [0, 16, 1008]),
+    Log(0, Kind::Open, [0, 16, 4080]),
 ];
 
 // The first three events are made as the object is placed.

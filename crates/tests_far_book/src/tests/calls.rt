@@ -5,7 +5,7 @@ use far_book::{Book, Home, Near, live_spans_follow};
 use far_core::Kind;
 use far_device::Device;
 use far_log::{LogRow, Span};
-use far_word::{LONGEST, Place, PtrWord, Refused, ScopeWord, size_of};
+use far_word::{CELLS, LONGEST, Place, PtrWord, Refused, ScopeWord, size_of};
 
 /// A new object of the first mutator, in its lowest free cell.
 pub(super) fn place_next<N: Near + Drop, D: Device + Drop>(
@@ -27,7 +27,7 @@ pub(super) fn place_next<N: Near + Drop, D: Device + Drop>(
 /// Whether so many are made.
 pub(super) fn places_many<N: Near + Drop, D: Device + Drop>(
     book: &mut Book<N, D>,
-    objects: u8,
+    objects: u16,
     len: u16,
     ds: u8,
 ) -> bool {
@@ -44,7 +44,7 @@ pub(super) fn home<N: Near + Drop, D: Device + Drop>(
     book: &mut Book<N, D>,
     pointer: u16,
 ) -> Option<Home> {
-    if (pointer as u64) < 128 * book.shape().mutators {
+    if (pointer as u64) < CELLS as u64 * book.shape().mutators {
         book.locate(pointer)
     } else {
         None
@@ -57,7 +57,7 @@ pub(super) fn retires<N: Near + Drop, D: Device + Drop>(
     book: &mut Book<N, D>,
     pointer: u16,
 ) -> bool {
-    if pointer as u64 >= 128 * book.shape().mutators {
+    if pointer as u64 >= CELLS as u64 * book.shape().mutators {
         return false;
     }
     let Some(Home::Near { marks, .. }) = book.locate(pointer) else {
@@ -76,7 +76,7 @@ pub(super) fn moves<N: Near + Drop, D: Device + Drop>(
     book: &mut Book<N, D>,
     pointer: u16,
 ) -> Placed {
-    if pointer as u64 >= 128 * book.shape().mutators {
+    if pointer as u64 >= CELLS as u64 * book.shape().mutators {
         return None;
     }
     let Some(Home::Near { marks, .. }) = book.locate(pointer) else {
@@ -94,7 +94,7 @@ pub(super) fn evicts<N: Near + Drop, D: Device + Drop>(
     book: &mut Book<N, D>,
     pointer: u16,
 ) -> Option<Result<bool, Refused>> {
-    if pointer as u64 >= 128 * book.shape().mutators {
+    if pointer as u64 >= CELLS as u64 * book.shape().mutators {
         return None;
     }
     let Some(Home::Near { marks, .. }) = book.locate(pointer) else {
@@ -112,7 +112,7 @@ pub(super) fn fetches<N: Near + Drop, D: Device + Drop>(
     book: &mut Book<N, D>,
     pointer: u16,
 ) -> Placed {
-    if pointer as u64 >= 128 * book.shape().mutators {
+    if pointer as u64 >= CELLS as u64 * book.shape().mutators {
         return None;
     }
     let Some(Home::Far { .. }) = book.locate(pointer) else {
@@ -126,7 +126,7 @@ pub(super) fn marks<N: Near + Drop, D: Device + Drop>(
     book: &mut Book<N, D>,
     pointer: u16,
 ) -> Option<u64> {
-    if pointer as u64 >= 128 * book.shape().mutators {
+    if pointer as u64 >= CELLS as u64 * book.shape().mutators {
         return None;
     }
     let cell = book.see(pointer);
@@ -144,7 +144,7 @@ pub(super) fn clears<N: Near + Drop, D: Device + Drop>(
     book: &mut Book<N, D>,
     pointer: u16,
 ) -> Option<u64> {
-    if pointer as u64 >= 128 * book.shape().mutators {
+    if pointer as u64 >= CELLS as u64 * book.shape().mutators {
         return None;
     }
     let Some(PtrWord::Near { .. }) = PtrWord::read(book.see(pointer)) else {

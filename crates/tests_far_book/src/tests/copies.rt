@@ -7,7 +7,7 @@ use far_core::{Event, Kind};
 use far_word::{Mark, Marks, Place};
 
 // Seventeen objects of 8 bytes lie in log 0, which another one seals, and have EVAC.
-const MARKS_SEVENTEEN: &[Act] = &[MakesMany(17, 8, 1), Makes(1016, 17, (1, 0)), MarksMany(17)];
+const MARKS_SEVENTEEN: &[Act] = &[MakesMany(17, 8, 1), Makes(4088, 17, (1, 0)), MarksMany(17)];
 
 // There are sixteen jobs; each takes two words of log 2.
 const OFFERS_SIXTEEN: &[Act] = &[
@@ -34,8 +34,8 @@ const OFFERS_SIXTEEN: &[Act] = &[
     HasJob(15, Some(true)),
     HasJob(16, Some(false)),
     Near(0, (0, 0), HAS_EVAC),
-    Log(0, Kind::Sealed, [272, 0, 752]),
-    Log(2, Kind::Open, [0, 256, 768]),
+    Log(0, Kind::Sealed, [272, 0, 3824]),
+    Log(2, Kind::Open, [0, 256, 3840]),
 ];
 
 // No copier has come: they stay offered when they are collected, until another round begins. Then they are empty.
@@ -47,7 +47,7 @@ const EMPTIES_THEM: &[Act] = &[
     Collects(0),
     Offers(&[(16, true)]),
     HasJob(16, Some(true)),
-    Log(2, Kind::Open, [0, 272, 752]),
+    Log(2, Kind::Open, [0, 272, 3824]),
 ];
 
 #[test]
@@ -58,8 +58,8 @@ fn sixteen_copies_are_offered(rt: HostRuntime) {
 // No log is free: objects fill three, and one of them has moved to the last.
 const FILLS_FOUR: &[Act] = &[
     Makes(8, 0, (0, 0)),
-    Makes(1016, 1, (1, 0)),
-    Makes(1016, 2, (2, 0)),
+    Makes(4088, 1, (1, 0)),
+    Makes(4088, 2, (2, 0)),
     MarksMany(2),
     Asks(1, Mark::Moved),
     Moves(1, Some(Ok(Some(Place { log: 3, at: 0 })))),
@@ -69,12 +69,12 @@ const FILLS_FOUR: &[Act] = &[
 const OFFERS_WHERE_ROOM_IS: &[Act] = &[
     Offers(&[(0, false)]),
     HasJob(0, Some(false)),
-    Log(3, Kind::Open, [1024, 0, 0]),
+    Log(3, Kind::Open, [4096, 0, 0]),
     Releases(1, Some(true)),
     Offers(&[(0, true)]),
     HasJob(0, Some(true)),
-    Log(3, Kind::Sealed, [1024, 0, 0]),
-    Log(1, Kind::Open, [0, 16, 1008]),
+    Log(3, Kind::Sealed, [4096, 0, 0]),
+    Log(1, Kind::Open, [0, 16, 4080]),
 ];
 
 #[test]
@@ -85,13 +85,13 @@ fn a_copy_is_offered_where_room_is(rt: HostRuntime) {
 // The copy of pointer 0 to log 2 is offered, and a move to log 3 seals that.
 const SEALS_THE_TARGET: &[Act] = &[
     Makes(8, 0, (0, 0)),
-    Makes(1016, 1, (1, 0)),
+    Makes(4088, 1, (1, 0)),
     MarksMany(1),
     Offers(&[(0, true)]),
-    Marks(1, Some(0x8600_0004_0001_03f8)),
+    Marks(1, Some(0x8600_0004_0001_0ff8)),
     Asks(1, Mark::Moved),
     Moves(1, Some(Ok(Some(Place { log: 3, at: 0 })))),
-    Log(2, Kind::Sealed, [0, 16, 1008]),
+    Log(2, Kind::Sealed, [0, 16, 4080]),
 ];
 
 // Its log isn't given back before the job is taken back, though the job is void.
@@ -114,15 +114,15 @@ fn a_target_isnt_given_back(rt: HostRuntime) {
 // Pointer 0 is an object of log 0, which another one seals; job 0 is its copy to log 2.
 const OFFERS_ONE: &[Act] = &[
     Makes(8, 0, (0, 0)),
-    Makes(1016, 1, (1, 0)),
+    Makes(4088, 1, (1, 0)),
     MarksMany(1),
     Offers(&[(0, true)]),
     HasJob(0, Some(true)),
-    Log(2, Kind::Open, [0, 16, 1008]),
+    Log(2, Kind::Open, [0, 16, 4080]),
 ];
 
-// The objects take 3 and 129 turns, their marking 2, the round 130, the offer 5, and the last look 1.
-const TURNS_OF_ONE: u16 = 270;
+// The objects take 3 and 513 turns, their marking 2, the round 258, the offer 5, and the last look 1.
+const TURNS_OF_ONE: u16 = 782;
 
 const CLAIM: Event = Event::Claim {
     copier: 0,
@@ -162,8 +162,8 @@ const IS_NAMED: &[Act] = &[
     Collects(1),
     Near(0, (2, 0), NO_MARKS),
     HasJob(0, Some(false)),
-    Log(2, Kind::Open, [16, 0, 1008]),
-    Log(0, Kind::Sealed, [0, 16, 1008]),
+    Log(2, Kind::Open, [16, 0, 4080]),
+    Log(0, Kind::Sealed, [0, 16, 4080]),
     Collects(0),
     Releases(0, Some(true)),
 ];
@@ -177,7 +177,28 @@ const HAS_MOVED: &[Act] = &[
     Releases(0, Some(false)),
     Collects(0),
     Near(0, (2, 2), NO_MARKS),
-    Log(2, Kind::Open, [16, 16, 992]),
+    Log(2, Kind::Open, [16, 16, 4064]),
+    Releases(0, Some(true)),
+];
+
+// Its owner had asked for a move, which wasn't made: the copy is named.
+const IS_NAMED_THOUGH_ASKED: &[Act] = &[
+    Waits(7),
+    Collects(1),
+    Near(0, (2, 0), NO_MARKS),
+    Log(2, Kind::Open, [16, 0, 4080]),
+    Releases(0, Some(true)),
+];
+
+// Its owner dropped the object, and no copier has come: the job stays offered until the object is retired.
+const STAYS_OFFERED: &[Act] = &[
+    Waits(2),
+    Collects(0),
+    HasJob(0, Some(true)),
+    Near(0, (0, 0), EVAC_AND_DROP),
+    Retires(0, true),
+    Releases(0, Some(false)),
+    Collects(0),
     Releases(0, Some(true)),
 ];
 
@@ -186,7 +207,7 @@ const DROPS_FIRST: &[Act] = &[
     Waits(7),
     Collects(0),
     Near(0, (0, 0), EVAC_AND_DROP),
-    Log(2, Kind::Open, [0, 16, 1008]),
+    Log(2, Kind::Open, [0, 16, 4080]),
     Retires(0, true),
     Releases(0, Some(true)),
 ];
@@ -196,7 +217,7 @@ const IS_DROPPED_MEANWHILE: &[Act] = &[
     Waits(6),
     Collects(0),
     Near(0, (0, 0), EVAC_AND_DROP),
-    Log(2, Kind::Open, [0, 16, 1008]),
+    Log(2, Kind::Open, [0, 16, 4080]),
     Retires(0, true),
     Releases(0, Some(true)),
 ];
@@ -205,7 +226,7 @@ const IS_NAMED_AFTER_ALL: &[Act] = &[
     Waits(6),
     Collects(1),
     Near(0, (2, 0), NO_MARKS),
-    Log(2, Kind::Open, [16, 0, 1008]),
+    Log(2, Kind::Open, [16, 0, 4080]),
     Releases(0, Some(true)),
 ];
 
@@ -234,12 +255,14 @@ const IS_OF_AN_OLD_ROUND: &[Act] = &[
     BeginsNone(Ok(2)),
     Collects(0),
     Near(0, (0, 0), HAS_EVAC),
-    Log(2, Kind::Open, [0, 16, 1008]),
+    Log(2, Kind::Open, [0, 16, 4080]),
 ];
 
 const BESIDE_A_COPIER: &[ByTurns] = &[
     (&[(0, COPIES)], IS_NAMED),
     (&[(0, &[ADOPT, MOVE]), (20, COPIES)], HAS_MOVED),
+    (&[(0, &[ADOPT, MOVE]), (0, COPIES)], IS_NAMED_THOUGH_ASKED),
+    (&[(0, &[ADOPT, DROP])], STAYS_OFFERED),
     (&[(0, &[ADOPT, DROP]), (0, COPIES)], DROPS_FIRST),
     (
         &[(0, &[ADOPT]), (0, COPIES), (2, &[DROP])],
@@ -269,12 +292,12 @@ fn a_copy_is_collected(rt: HostRuntime) {
 const OFFERS_TWO: &[Act] = &[
     Makes(8, 0, (0, 0)),
     Makes(8, 1, (0, 2)),
-    Makes(1016, 2, (1, 0)),
+    Makes(4088, 2, (1, 0)),
     MarksMany(2),
     Offers(&[(0, true), (1, true)]),
 ];
 
-const TURNS_OF_TWO: u16 = 279;
+const TURNS_OF_TWO: u16 = 791;
 
 // Of the two jobs the one that a copier has taken or finished stays when they are taken back.
 const FIRST_STAYS: &[Act] = &[
@@ -302,7 +325,7 @@ const OFFERS_THE_LOWEST: &[Act] = &[
     Waits(5),
     Collects(1),
     Near(1, (2, 4), NO_MARKS),
-    Log(2, Kind::Open, [32, 16, 976]),
+    Log(2, Kind::Open, [32, 16, 4048]),
     Releases(0, Some(true)),
 ];
 
@@ -317,7 +340,7 @@ const TWO_BESIDE_A_COPIER: &[ByTurns] = &[
     (&[(1, &[CLAIM])], FIRST_STAYS),
     (&[(0, COPIES)], FINISHED_STAYS),
     (
-        &[(0, COPIES), (142, &[CLAIM_ANEW]), (0, GOES_ON)],
+        &[(0, COPIES), (270, &[CLAIM_ANEW]), (0, GOES_ON)],
         OFFERS_THE_LOWEST,
     ),
 ];

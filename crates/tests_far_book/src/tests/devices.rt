@@ -50,7 +50,7 @@ pub(super) struct Flawed<'s> {
     pub(super) sight: &'s Sight,
 }
 
-/// Word i of an object of so many counted bytes: bytes 1 to 8, the first of them i more.
+/// Word i of an object of so many counted bytes: bytes 1 to 8, as a number i more.
 pub(super) fn counted_word(len: u16, i: u16) -> u64 {
     let word = 0x0807_0605_0403_0201 + i as u64;
     let left = len.saturating_sub(i.saturating_mul(8));

@@ -20,16 +20,16 @@ use far_word::{JobWord, Place, PtrWord, Refused};
 use std::alloc::Global;
 
 /// The header of pointer 0, an object of 8 bytes of data structure 1; and its cell at the start of log 0 with HOT and MOVE, and with DROP too.
-const HEADER: u64 = 0xa100_0000_0001_0008;
+const HEADER: u64 = 0xa200_0000_0100_0008;
 
 const MOVED: u64 = 0xd600_0000_0001_0008;
 
 const DROPPED: u64 = 0xde00_0000_0001_0008;
 
 /// The header of pointer 0 where its object fills log 0, and its cell there with DROP.
-const FILLING: u64 = 0xa100_0000_0001_03f8;
+const FILLING: u64 = 0xa200_0000_0100_0ff8;
 
-const GONE: u64 = 0x8e00_0000_0001_03f8;
+const GONE: u64 = 0x8e00_0000_0001_0ff8;
 
 /// What is done by a hand on the shared words of [`SMALL`], or looked at, each with what is to come of it.
 #[derive(Clone, Copy)]
@@ -335,13 +335,13 @@ const PUT_FULL: Event = Event::Put {
 const NAME_FULL: Event = Event::Name {
     pointer: 0,
     old: 0,
-    new: 0x8600_0000_0001_03f8,
+    new: 0x8600_0000_0001_0ff8,
 };
 
 const PUT_NEXT: Event = Event::Put {
     log: 1,
     at: 0,
-    word: 0xa100_0000_0101_0008,
+    word: 0xa200_0001_0100_0008,
 };
 
 const NAME_NEXT: Event = Event::Name {
@@ -358,8 +358,8 @@ const DROPS_FULL: &[(Event, Reply)] = &[
     (NAME_FULL, Reply::Done),
     (PUT_NEXT, Reply::Done),
     (NAME_NEXT, Reply::Done),
-    (ADOPT, Reply::Word(0x8600_0000_0001_03f8)),
-    (DROP, Reply::Word(0x8600_0000_0001_03f8)),
+    (ADOPT, Reply::Word(0x8600_0000_0001_0ff8)),
+    (DROP, Reply::Word(0x8600_0000_0001_0ff8)),
 ];
 
 const MARKS_FULL: &[(Event, Reply)] = &[
@@ -367,14 +367,14 @@ const MARKS_FULL: &[(Event, Reply)] = &[
     (NAME_FULL, Reply::Done),
     (PUT_NEXT, Reply::Done),
     (NAME_NEXT, Reply::Done),
-    (ADOPT, Reply::Word(0x8600_0000_0001_03f8)),
-    (DROP, Reply::Word(0x8600_0000_0001_03f8)),
+    (ADOPT, Reply::Word(0x8600_0000_0001_0ff8)),
+    (DROP, Reply::Word(0x8600_0000_0001_0ff8)),
     (MARK, Reply::Word(GONE)),
 ];
 
 // EVAC is taken from pointer 0, and the hand has found its cell so.
 const TAKES_EVAC_BACK: &[Touch] = &[
-    Touch::Clears(Some(0xae00_0000_0001_03f8)),
+    Touch::Clears(Some(0xae00_0000_0001_0ff8)),
     Touch::Cell(GONE),
     Touch::Found(GONE),
 ];
@@ -440,7 +440,7 @@ const OFFERS_FIRST: &[(Event, Reply)] = &[
         Event::Put {
             log: 1,
             at: 0,
-            word: 0xa100_0000_0101_03f8,
+            word: 0xa200_0001_0100_0ff8,
         },
         Reply::Done,
     ),
@@ -448,7 +448,7 @@ const OFFERS_FIRST: &[(Event, Reply)] = &[
         Event::Name {
             pointer: 1,
             old: 0,
-            new: 0x8600_0004_0001_03f8,
+            new: 0x8600_0004_0001_0ff8,
         },
         Reply::Done,
     ),

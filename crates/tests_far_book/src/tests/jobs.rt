@@ -137,7 +137,7 @@ pub(super) fn has_job<N: Near + Drop, D: Device + Drop>(
     book: &mut Book<N, D>,
     pointer: u16,
 ) -> Option<bool> {
-    if pointer as u64 >= 128 * book.shape().mutators {
+    if pointer as u64 >= CELLS as u64 * book.shape().mutators {
         return None;
     }
     let Some(Home::Near { place, .. }) = book.locate(pointer) else {

@@ -5,7 +5,7 @@ use crate::tests::acts::{Act, DROP, HOT, IS_DROPPED, IS_HOT, NO_MARKS, SMALL, WE
 use crate::tests::devices::Flaw;
 use crate::tests::stage::{Beside, plays, plays_over, plays_rows};
 use far_core::{Kind, Reply};
-use far_word::{Place, Refused};
+use far_word::{LOG_BYTES, Place, Refused};
 
 /// The cell of pointer 0, an object of 8 bytes of data structure 1 at the start of log 0, with HOT, EVAC and MOVE; and the cell of one of no bytes
 /// that is far.
@@ -16,7 +16,7 @@ const FAR: u64 = 0x0400_0000_0001_0000;
 // Whether an object of so many bytes goes far, over a device that takes these bytes alone, and its log has its span of so many bytes, live before and dead
 // after.
 fn gives_its_bytes(rt: &HostRuntime, len: u16, size: u16) -> bool {
-    let rest = 1024u16.saturating_sub(size);
+    let rest = LOG_BYTES.saturating_sub(size);
     let goes_far = [
         Leaves(len),
         Log(0, Kind::Sealed, [size, 0, rest]),
@@ -28,14 +28,27 @@ fn gives_its_bytes(rt: &HostRuntime, len: u16, size: u16) -> bool {
     plays_over(rt, SMALL, Flaw::Picky(len), &[&goes_far])
 }
 
+// The shortest and the longest that are read by way of each row, among others.
+const SIZES: &[(u16, u16)] = &[
+    (1, 16),
+    (7, 16),
+    (8, 16),
+    (9, 24),
+    (16, 24),
+    (64, 72),
+    (65, 80),
+    (256, 264),
+    (257, 272),
+    (1024, 1032),
+    (1025, 1040),
+    (4088, 4096),
+];
+
 #[test]
 fn the_device_is_given_the_bytes(rt: HostRuntime) {
-    assert!(rt; gives_its_bytes(&rt, 1, 16));
-    assert!(rt; gives_its_bytes(&rt, 7, 16));
-    assert!(rt; gives_its_bytes(&rt, 8, 16));
-    assert!(rt; gives_its_bytes(&rt, 9, 24));
-    assert!(rt; gives_its_bytes(&rt, 16, 24));
-    assert!(rt; gives_its_bytes(&rt, 1016, 1024));
+    for (len, size) in SIZES {
+        assert!(rt; gives_its_bytes(&rt, *len, *size), "{len} bytes");
+    }
 }
 
 const REFUSED_MEMORY: &[Act] = &[Leaves(8), Evicts(0, Some(Err(Refused::Memory)))];
@@ -43,7 +56,7 @@ const REFUSED_MEMORY: &[Act] = &[Leaves(8), Evicts(0, Some(Err(Refused::Memory))
 const REFUSED_DEVICE: &[Act] = &[Leaves(8), Evicts(0, Some(Err(Refused::Device)))];
 
 // The object and its log are as they were.
-const IS_LEFT: &[Act] = &[Log(0, Kind::Sealed, [16, 0, 1008]), Cell(0, LEAVING)];
+const IS_LEFT: &[Act] = &[Log(0, Kind::Sealed, [16, 0, 4080]), Cell(0, LEAVING)];
 
 // It moves, and has its bytes.
 const MOVES: &[Act] = &[
@@ -70,21 +83,21 @@ fn a_refused_eviction_leaves_the_object(rt: HostRuntime) {
 const LEFT: &[Act] = &[
     Evicts(0, WENT),
     Far(0, NO_MARKS),
-    Log(0, Kind::Sealed, [0, 16, 1008]),
+    Log(0, Kind::Sealed, [0, 16, 4080]),
     Holds(true),
 ];
 
 const LEFT_HOT: &[Act] = &[
     Evicts(0, WENT),
     Far(0, IS_HOT),
-    Log(0, Kind::Sealed, [0, 16, 1008]),
+    Log(0, Kind::Sealed, [0, 16, 4080]),
     Holds(true),
 ];
 
 const LEFT_DROPPED: &[Act] = &[
     Evicts(0, WENT),
     Far(0, IS_DROPPED),
-    Log(0, Kind::Sealed, [0, 16, 1008]),
+    Log(0, Kind::Sealed, [0, 16, 4080]),
     Holds(true),
 ];
 
@@ -92,7 +105,7 @@ const LEFT_DROPPED: &[Act] = &[
 const RETIRED: &[Act] = &[
     Evicts(0, Some(Ok(false))),
     Gone(0),
-    Log(0, Kind::Sealed, [0, 16, 1008]),
+    Log(0, Kind::Sealed, [0, 16, 4080]),
     Holds(false),
 ];
 
@@ -109,7 +122,7 @@ const HOT_AT_A_STEP: &[Beside] = &[
 // Alone against an eviction that tries its naming once. The cell is looked at once before the eviction.
 #[test]
 fn an_eviction_finds_hot_at_any_step(rt: HostRuntime) {
-    assert!(rt; plays_rows(&rt, 130, HOT_AT_A_STEP));
+    assert!(rt; plays_rows(&rt, 514, HOT_AT_A_STEP));
 }
 
 // At the second step the device holds the bytes, and forgets them as the naming finds the DROP; where HOT is found before, the third try is the retiring's.
@@ -124,7 +137,7 @@ const DROP_AT_A_STEP: &[Beside] = &[
 // Alone against an eviction that sends a dropped object far, retires nothing where it finds the DROP late, or leaves its bytes.
 #[test]
 fn an_eviction_finds_a_drop_at_any_step(rt: HostRuntime) {
-    assert!(rt; plays_rows(&rt, 130, DROP_AT_A_STEP));
+    assert!(rt; plays_rows(&rt, 514, DROP_AT_A_STEP));
 }
 
 // An object that is dropped before it leaves is retired instead.
@@ -133,7 +146,7 @@ const LEAVES_DROPPED: &[Act] = &[
     Owns(DROP, Reply::Word(LEAVING)),
     Evicts(0, Some(Ok(false))),
     Cell(0, 0),
-    Log(0, Kind::Sealed, [0, 16, 1008]),
+    Log(0, Kind::Sealed, [0, 16, 4080]),
 ];
 
 #[test]

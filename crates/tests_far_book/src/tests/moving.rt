@@ -4,7 +4,7 @@ use crate::tests::acts::Act::*;
 use crate::tests::acts::{Act, DROP, HOT, IS_ASKED, NO_MARKS, Placed};
 use crate::tests::stage::{Beside, plays, plays_rows};
 use far_core::Kind;
-use far_word::{Mark, Place, Refused};
+use far_word::{LOG_BYTES, Mark, Place, Refused};
 
 /// A move takes the object to the start of log 2, or finds it dropped.
 const TO_LOG_2: Placed = Some(Ok(Some(Place { log: 2, at: 0 })));
@@ -19,7 +19,7 @@ const STAYS: &[Act] = &[
     Asks(0, Mark::Moved),
     Moves(0, Some(Ok(Some(Place { log: 0, at: 0 })))),
     Near(0, (0, 0), NO_MARKS),
-    Log(0, Kind::Open, [24, 0, 1000]),
+    Log(0, Kind::Open, [24, 0, 4072]),
     Loads(0, 9),
 ];
 
@@ -30,7 +30,7 @@ fn an_object_stays_where_it_lies(rt: HostRuntime) {
 
 // Whether an object of so many bytes moves to log 2 with them, and takes so many bytes there.
 fn moves_whole(rt: &HostRuntime, len: u16, size: u16) -> bool {
-    let rest = 1024u16.saturating_sub(size);
+    let rest = LOG_BYTES.saturating_sub(size);
     let moves = [
         Leaves(len),
         Moves(0, TO_LOG_2),
@@ -48,19 +48,19 @@ fn an_object_moves_to_another_log(rt: HostRuntime) {
     assert!(rt; moves_whole(&rt, 7, 16));
     assert!(rt; moves_whole(&rt, 8, 16));
     assert!(rt; moves_whole(&rt, 9, 24));
-    assert!(rt; moves_whole(&rt, 1016, 1024));
+    assert!(rt; moves_whole(&rt, 4088, 4096));
 }
 
 /// Pointers 0 and 1 are objects of sealed logs with EVAC and MOVE, the second with counted bytes; of four logs only the last is free, and the one
 /// before it is full.
 pub(super) const ASKS_TWO: &[Act] = &[
     Makes(8, 0, (0, 0)),
-    Makes(1016, 1, (1, 0)),
-    Makes(1016, 2, (2, 0)),
-    Stores(1, 1016),
+    Makes(4088, 1, (1, 0)),
+    Makes(4088, 2, (2, 0)),
+    Stores(1, 4088),
     Marks(0, Some(0x8600_0000_0001_0008)),
     Asks(0, Mark::Moved),
-    Marks(1, Some(0xc600_0004_0001_03f8)),
+    Marks(1, Some(0xc600_0004_0001_0ff8)),
     Asks(1, Mark::Moved),
 ];
 
@@ -71,8 +71,8 @@ const TAKES_THE_LAST: &[Act] = &[
     Near(0, (3, 0), NO_MARKS),
     Moves(1, Some(Err(Refused::NoRoom))),
     Near(1, (1, 0), IS_ASKED),
-    Log(1, Kind::Sealed, [1024, 0, 0]),
-    Log(3, Kind::Open, [16, 0, 1008]),
+    Log(1, Kind::Sealed, [4096, 0, 0]),
+    Log(3, Kind::Open, [16, 0, 4080]),
 ];
 
 #[test]
@@ -87,7 +87,7 @@ const MOVES_NOWHERE: &[Act] = &[
     Asks(0, Mark::Dropped),
     Moves(0, NOWHERE),
     Gone(0),
-    Log(0, Kind::Open, [0, 16, 1008]),
+    Log(0, Kind::Open, [0, 16, 4080]),
 ];
 
 #[test]
@@ -98,14 +98,14 @@ fn a_dropped_object_moves_nowhere(rt: HostRuntime) {
 // An object of one word with EVAC and MOVE comes to log 2, or is found dropped.
 const MOVED: &[Act] = &[
     Moves(0, TO_LOG_2),
-    Log(0, Kind::Sealed, [0, 16, 1008]),
-    Log(2, Kind::Open, [16, 0, 1008]),
+    Log(0, Kind::Sealed, [0, 16, 4080]),
+    Log(2, Kind::Open, [16, 0, 4080]),
 ];
 
 const RETIRED: &[Act] = &[
     Moves(0, NOWHERE),
-    Log(0, Kind::Sealed, [0, 16, 1008]),
-    Log(2, Kind::Free, [0, 0, 1024]),
+    Log(0, Kind::Sealed, [0, 16, 4080]),
+    Log(2, Kind::Free, [0, 0, 4096]),
 ];
 
 // A move of one word has five steps: a look at the cell, the header, a word that is read and written, the naming. At the fifth a second try begins.
@@ -121,7 +121,7 @@ const HOT_AT_A_STEP: &[Beside] = &[
 // Alone against a move that tries its naming once. The cell is looked at once before the move.
 #[test]
 fn a_move_finds_hot_at_any_step(rt: HostRuntime) {
-    assert!(rt; plays_rows(&rt, 130, HOT_AT_A_STEP));
+    assert!(rt; plays_rows(&rt, 514, HOT_AT_A_STEP));
 }
 
 // Where HOT is found before the DROP, the third try is that of the retiring. The last came too late.
@@ -138,5 +138,5 @@ const DROP_AT_A_STEP: &[Beside] = &[
 // Alone against a move that finds a DROP at the naming, and says where the object lies.
 #[test]
 fn a_move_finds_a_drop_at_any_step(rt: HostRuntime) {
-    assert!(rt; plays_rows(&rt, 130, DROP_AT_A_STEP));
+    assert!(rt; plays_rows(&rt, 514, DROP_AT_A_STEP));
 }

@@ -28,7 +28,7 @@ const DROPS_AFTER_A_CLOSE: &[Act] = &[
     Owns(CLOSE, Reply::Done),
     Owns(DROP, Reply::Word(WAS_HOT)),
     Retires(0, true),
-    Log(0, Kind::Open, [0, 16, 1008]),
+    Log(0, Kind::Open, [0, 16, 4080]),
     Owns(DROP, Reply::Refused),
 ];
 
@@ -51,7 +51,7 @@ pub(super) fn answers_all(core: &mut Core, events: &[(Event, Reply)]) -> bool {
 const PUT_FIRST: Event = Event::Put {
     log: 0,
     at: 0,
-    word: 0xa100_0000_0001_0008,
+    word: 0xa200_0000_0100_0008,
 };
 
 const NAME_FIRST: Event = Event::Name {
@@ -63,13 +63,13 @@ const NAME_FIRST: Event = Event::Name {
 const PUT_FULL: Event = Event::Put {
     log: 1,
     at: 0,
-    word: 0xa100_0000_0101_03f8,
+    word: 0xa200_0001_0100_0ff8,
 };
 
 const NAME_FULL: Event = Event::Name {
     pointer: 1,
     old: 0,
-    new: 0x8600_0004_0001_03f8,
+    new: 0x8600_0004_0001_0ff8,
 };
 
 const MARK: Event = Event::Mark { pointer: 0 };
@@ -110,7 +110,7 @@ const ASKS_FOR_A_MOVE: &[Act] = &[
     Owns(SOIL, Reply::Word(WAS_HOT)),
     Owns(STORE, Reply::Done),
     Owns(CLOSE, Reply::Done),
-    Makes(1016, 1, (1, 0)),
+    Makes(4088, 1, (1, 0)),
     Owns(READ, Reply::Epoch(0)),
     Marks(0, Some(WAS_HOT)),
     Owns(OPEN, Reply::Done),

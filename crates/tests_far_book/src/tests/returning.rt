@@ -9,7 +9,7 @@ use crate::tests::devices::Flaw;
 use crate::tests::stage::{Beside, plays, plays_over, plays_rows};
 use far_core::{Kind, Reply};
 use far_device::DeviceFault;
-use far_word::{Mark, Place, Refused};
+use far_word::{LOG_BYTES, Mark, Place, Refused};
 
 /// Where an object comes that is fetched while log 1 is open and full; or it is found dropped.
 const COMES: Placed = Some(Ok(Some(Place { log: 2, at: 0 })));
@@ -22,7 +22,7 @@ const GOES_AND_COMES: &[Act] = &[
     Does(&[ADOPT, READ, OPEN, HOT, SOIL]),
     Owns(STORE, Reply::Done),
     Owns(CLOSE, Reply::Done),
-    Makes(1016, 1, (1, 0)),
+    Makes(4088, 1, (1, 0)),
     Marks(0, Some(WAS_HOT)),
     Owns(MOVE, Reply::Word(MARKED)),
     Evicts(0, WENT),
@@ -41,7 +41,7 @@ fn away_and_back(rt: HostRuntime) {
 
 // Whether an object of so many bytes goes far, and comes back with them in a span of so many bytes; the device has its bytes then.
 fn comes_back(rt: &HostRuntime, len: u16, size: u16) -> bool {
-    let unused = 1024u16.saturating_sub(size);
+    let unused = LOG_BYTES.saturating_sub(size);
     let comes = [
         Leaves(len),
         Evicts(0, WENT),
@@ -60,7 +60,7 @@ fn an_object_comes_back_with_its_bytes(rt: HostRuntime) {
     assert!(rt; comes_back(&rt, 7, 16));
     assert!(rt; comes_back(&rt, 8, 16));
     assert!(rt; comes_back(&rt, 9, 24));
-    assert!(rt; comes_back(&rt, 1016, 1024));
+    assert!(rt; comes_back(&rt, 4088, 4096));
 }
 
 const GOES: &[Act] = &[Leaves(9), Evicts(0, WENT)];
@@ -68,14 +68,14 @@ const GOES: &[Act] = &[Leaves(9), Evicts(0, WENT)];
 // It is far, and the logs are as it left them.
 const IS_AWAY: &[Act] = &[
     Cell(0, 0x0400_0000_0001_0009),
-    Log(0, Kind::Sealed, [0, 24, 1000]),
-    Log(1, Kind::Open, [1024, 0, 0]),
-    Log(2, Kind::Free, [0, 0, 1024]),
-    Log(3, Kind::Free, [0, 0, 1024]),
+    Log(0, Kind::Sealed, [0, 24, 4072]),
+    Log(1, Kind::Open, [4096, 0, 0]),
+    Log(2, Kind::Free, [0, 0, 4096]),
+    Log(3, Kind::Free, [0, 0, 4096]),
 ];
 
 // Each read was lent room for the longest object.
-const COMES_AFTER_ALL: &[Act] = &[Fetches(0, COMES), Loads(0, 9), Lent(1016)];
+const COMES_AFTER_ALL: &[Act] = &[Fetches(0, COMES), Loads(0, 9), Lent(4088)];
 
 // Whether an object of 9 bytes goes far, its first fetch is refused so and changes nothing, and the second brings it near with its bytes.
 fn is_refused(rt: &HostRuntime, flaw: Flaw, why: Refused) -> bool {
@@ -110,8 +110,8 @@ const CROWDS: &[Act] = &[
     Makes(8, 0, (0, 0)),
     Stores(0, 8),
     Makes(8, 1, (0, 2)),
-    Makes(1016, 2, (1, 0)),
-    Makes(1016, 3, (2, 0)),
+    Makes(4088, 2, (1, 0)),
+    Makes(4088, 3, (2, 0)),
     Owns(MOVE, Reply::Word(WAS_HOT)),
     Marks(0, Some(0xd600_0000_0001_0008)),
     Evicts(0, WENT),
@@ -120,10 +120,10 @@ const CROWDS: &[Act] = &[
 ];
 
 const IS_CROWDED: &[Act] = &[
-    Log(0, Kind::Sealed, [16, 16, 992]),
-    Log(1, Kind::Sealed, [1024, 0, 0]),
-    Log(2, Kind::Open, [1024, 0, 0]),
-    Log(3, Kind::Free, [0, 0, 1024]),
+    Log(0, Kind::Sealed, [16, 16, 4064]),
+    Log(1, Kind::Sealed, [4096, 0, 0]),
+    Log(2, Kind::Open, [4096, 0, 0]),
+    Log(3, Kind::Free, [0, 0, 4096]),
 ];
 
 // A fetch leaves the last free log, and the device has the bytes until it comes.
@@ -136,7 +136,7 @@ const COMES_AFTER_A_MOVE: &[Act] = &[
     Fetches(0, Some(Err(Refused::Device))),
     Fetches(0, Some(Ok(Some(Place { log: 3, at: 2 })))),
     Loads(0, 8),
-    Log(3, Kind::Open, [32, 0, 992]),
+    Log(3, Kind::Open, [32, 0, 4064]),
     Holds(true),
 ];
 
@@ -168,10 +168,10 @@ const DROPS_FAR: &[Act] = &[
 
 // One object has left log 0, and another is in log 1.
 const HAS_LEFT: &[Act] = &[
-    Log(0, Kind::Sealed, [0, 16, 1008]),
-    Log(1, Kind::Open, [1024, 0, 0]),
-    Log(2, Kind::Free, [0, 0, 1024]),
-    Log(3, Kind::Free, [0, 0, 1024]),
+    Log(0, Kind::Sealed, [0, 16, 4080]),
+    Log(1, Kind::Open, [4096, 0, 0]),
+    Log(2, Kind::Free, [0, 0, 4096]),
+    Log(3, Kind::Free, [0, 0, 4096]),
 ];
 
 // A fetch finds an object that went far dropped: its cell is taken by the next object, and the device has no bytes of it.
@@ -195,7 +195,7 @@ const CAME: &[Act] = &[
     Evicts(0, WENT),
     Fetches(0, COMES),
     Clean(0, (2, 0), NO_MARKS),
-    Log(2, Kind::Open, [16, 0, 1008]),
+    Log(2, Kind::Open, [16, 0, 4080]),
     Holds(true),
 ];
 
@@ -203,7 +203,7 @@ const CAME_HOT: &[Act] = &[
     Evicts(0, WENT),
     Fetches(0, COMES),
     Clean(0, (2, 0), IS_HOT),
-    Log(2, Kind::Open, [16, 0, 1008]),
+    Log(2, Kind::Open, [16, 0, 4080]),
     Holds(true),
 ];
 
@@ -211,7 +211,7 @@ const CAME_DROPPED: &[Act] = &[
     Evicts(0, WENT),
     Fetches(0, COMES),
     Clean(0, (2, 0), IS_DROPPED),
-    Log(2, Kind::Open, [16, 0, 1008]),
+    Log(2, Kind::Open, [16, 0, 4080]),
     Holds(true),
 ];
 
@@ -220,7 +220,7 @@ const RETIRED: &[Act] = &[
     Evicts(0, WENT),
     Fetches(0, NOWHERE),
     Gone(0),
-    Log(2, Kind::Free, [0, 0, 1024]),
+    Log(2, Kind::Free, [0, 0, 4096]),
     Holds(false),
 ];
 
@@ -238,7 +238,7 @@ const HOT_AT_A_STEP: &[Beside] = &[
 // Alone against a fetch that takes HOT for DROP. The eviction takes four steps, and the cell is looked at once before the fetch.
 #[test]
 fn a_fetch_finds_hot_at_any_step(rt: HostRuntime) {
-    assert!(rt; plays_rows(&rt, 134, HOT_AT_A_STEP));
+    assert!(rt; plays_rows(&rt, 518, HOT_AT_A_STEP));
 }
 
 // The last two come to a third try.
@@ -254,7 +254,7 @@ const MOVE_AT_A_STEP: &[Beside] = &[
 // Alone against a fetch that takes MOVE for DROP.
 #[test]
 fn a_fetch_finds_move_at_any_step(rt: HostRuntime) {
-    assert!(rt; plays_rows(&rt, 134, MOVE_AT_A_STEP));
+    assert!(rt; plays_rows(&rt, 518, MOVE_AT_A_STEP));
 }
 
 // Where HOT and MOVE are found before the DROP, the fourth try is the retiring's. The last came too late.
@@ -271,5 +271,5 @@ const DROP_AT_A_STEP: &[Beside] = &[
 // Alone against a fetch that finds a DROP at the naming, says so, and retires nothing.
 #[test]
 fn a_fetch_finds_a_drop_at_any_step(rt: HostRuntime) {
-    assert!(rt; plays_rows(&rt, 134, DROP_AT_A_STEP));
+    assert!(rt; plays_rows(&rt, 518, DROP_AT_A_STEP));
 }

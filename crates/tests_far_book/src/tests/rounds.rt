@@ -28,19 +28,19 @@ const HAS_NO_ROOM: &[Act] = &[
     Releases(2, Some(false)),
     Moves(1, Some(Err(Refused::NoRoom))),
     Retires(2, true),
-    Log(2, Kind::Sealed, [0, 1024, 0]),
+    Log(2, Kind::Sealed, [0, 4096, 0]),
     Releases(3, None),
 ];
 
 // It is made once that log is given back.
 const HAS_ROOM: &[Act] = &[
     Releases(2, Some(true)),
-    Log(2, Kind::Free, [0, 0, 1024]),
+    Log(2, Kind::Free, [0, 0, 4096]),
     Releases(2, None),
     Moves(1, Some(Ok(Some(Place { log: 2, at: 0 })))),
     Near(1, (2, 0), NO_MARKS),
-    Loads(1, 1016),
-    Log(2, Kind::Open, [1024, 0, 0]),
+    Loads(1, 4088),
+    Log(2, Kind::Open, [4096, 0, 0]),
 ];
 
 #[test]
@@ -52,14 +52,14 @@ fn a_refused_move_is_made_once_there_is_room(rt: HostRuntime) {
 const FILLS_THREE: &[Act] = &[
     Makes(8, 0, (0, 0)),
     Makes(9, 1, (0, 2)),
-    Makes(1016, 2, (1, 0)),
-    Makes(1016, 3, (2, 0)),
+    Makes(4088, 2, (1, 0)),
+    Makes(4088, 3, (2, 0)),
 ];
 
 const DEAD: LogRow = LogRow {
     log: 1,
     live: 0,
-    dead: 1024,
+    dead: 4096,
     unused: 0,
 };
 
@@ -70,21 +70,21 @@ const GIVES_THE_FIRST_BACK: &[Act] = &[
     Asks(2, Mark::Dropped),
     Retires(2, true),
     Releases(0, Some(false)),
-    Log(0, Kind::Sealed, [24, 16, 984]),
+    Log(0, Kind::Sealed, [24, 16, 4056]),
     Asks(1, Mark::Dropped),
     Retires(1, true),
     Releases(0, Some(true)),
-    Log(0, Kind::Free, [0, 0, 1024]),
+    Log(0, Kind::Free, [0, 0, 4096]),
     Rows(&[DEAD]),
     Releases(1, Some(true)),
-    Log(1, Kind::Free, [0, 0, 1024]),
+    Log(1, Kind::Free, [0, 0, 4096]),
 ];
 
 // It opens anew for an object that fills it, and log 1 is free.
 const OPENS_ANEW: &[Act] = &[
-    Makes(1016, 0, (0, 0)),
-    Log(0, Kind::Open, [1024, 0, 0]),
-    Log(1, Kind::Free, [0, 0, 1024]),
+    Makes(4088, 0, (0, 0)),
+    Log(0, Kind::Open, [4096, 0, 0]),
+    Log(1, Kind::Free, [0, 0, 4096]),
 ];
 
 #[test]
@@ -95,7 +95,7 @@ fn a_log_given_back_opens_anew(rt: HostRuntime) {
 // An object lies in log 0, which the next one seals; no round begins before it is marked.
 const SEALS_THE_FIRST: &[Act] = &[
     Makes(8, 0, (0, 0)),
-    Makes(1016, 1, (1, 0)),
+    Makes(4088, 1, (1, 0)),
     Begins(1, None),
     Marks(0, Some(NEAR)),
 ];
@@ -131,7 +131,7 @@ const GOES_ON_TO_THE_END: &[Act] = &[
     InRound(0, true),
     IsClear(0, true),
     Cell(0, WANTED),
-    Log(0, Kind::Sealed, [16, 0, 1008]),
+    Log(0, Kind::Sealed, [16, 0, 4080]),
 ];
 
 #[test]
@@ -255,14 +255,14 @@ const FINDS_FROM_EACH: &[Act] = &[
     From(4, None),
 ];
 
-const FULL: Span = Span { len: 1016, ..FIRST };
+const FULL: Span = Span { len: 4088, ..FIRST };
 
 // They are found so in a log that is full, and none in one that is free.
 const FINDS_IN_OTHERS: &[Act] = &[
-    Makes(1016, 0, (1, 0)),
+    Makes(4088, 0, (1, 0)),
     Live(1, &[FULL]),
     Live(3, &[]),
-    Log(0, Kind::Sealed, [24, 56, 944]),
+    Log(0, Kind::Sealed, [24, 56, 4016]),
 ];
 
 #[test]

@@ -18,7 +18,7 @@ use far_device::{Device, MemDevice};
 use far_word::{Marks, Place, Refused};
 
 /// A row of a test beside owners: so many turns after they asked for pointer 0 to move they make these events, one a turn; and these acts are to come out.
-pub(super) type Beside = (u8, &'static [Event], &'static [Act]);
+pub(super) type Beside = (u16, &'static [Event], &'static [Act]);
 
 /// So many turns in which others do nothing, and then these events, one a turn.
 pub(super) type Then = (u16, &'static [Event]);
@@ -164,7 +164,7 @@ fn core_shows<D: Device + Drop>(book: &mut Book<Plain, D>, act: Act) -> bool {
 fn leaves<D: Device + Drop>(book: &mut Book<Plain, D>, len: u16) -> bool {
     place_next(book, len, 1).is_ok()
         && stores(book, 0, len)
-        && place_next(book, 1016, 1).is_ok()
+        && place_next(book, 4088, 1).is_ok()
         && marks(book, 0).is_some()
         && makes_all(book, &[MOVE])
 }
@@ -255,7 +255,7 @@ pub(super) fn plays_beside(rt: &HostRuntime, events: &[Event], acts: &[Act]) -> 
 }
 
 // The first owner opens its scope, takes pointer 0 over once it is placed, and asks for it to move; so many turns later it makes these events.
-fn fills(events: &mut Vec<Event>, turns: u8, then: &[Event]) -> bool {
+fn fills(events: &mut Vec<Event>, turns: u16, then: &[Event]) -> bool {
     events
         .extend_from_slice(&[READ, OPEN, IDLE, ADOPT, MOVE])
         .is_ok()
@@ -266,12 +266,12 @@ fn fills(events: &mut Vec<Event>, turns: u8, then: &[Event]) -> bool {
 // Pointer 0 is an object of 8 bytes in log 0, which another one seals, and is marked, with MOVE.
 const MARKED_FIRST: &[Act] = &[
     Act::Makes(8, 0, (0, 0)),
-    Act::Makes(1016, 1, (1, 0)),
+    Act::Makes(4088, 1, (1, 0)),
     Act::Marks(0, Some(0x9600_0000_0001_0008)),
 ];
 
 // Whether one row comes out, where so many turns pass before its first.
-fn plays_row(rt: &HostRuntime, turns: u8, row: Beside) -> bool {
+fn plays_row(rt: &HostRuntime, turns: u16, row: Beside) -> bool {
     let (step, then, acts) = row;
     let mut all = Vec::new(rt.alloc());
     if !fills(&mut all, turns.saturating_add(step), then) {
@@ -280,9 +280,9 @@ fn plays_row(rt: &HostRuntime, turns: u8, row: Beside) -> bool {
     plays_with(rt, all, MARKED_FIRST, acts)
 }
 
-/// Whether each row does, where so many turns pass before its first. Pointer 0 has been placed and marked, in 133 of them; the second object takes 129
+/// Whether each row does, where so many turns pass before its first. Pointer 0 has been placed and marked, in 517 of them; the second object takes 513
 /// steps, the marking two.
-pub(super) fn plays_rows(rt: &HostRuntime, turns: u8, rows: &[Beside]) -> bool {
+pub(super) fn plays_rows(rt: &HostRuntime, turns: u16, rows: &[Beside]) -> bool {
     for row in rows {
         if !plays_row(rt, turns, *row) {
             return false;

@@ -12,10 +12,10 @@ use far_word::Place;
 
 const FIRST: Place = Place { log: 0, at: 0 };
 
-/// The header and the cell of an object of 1,016 bytes there.
-const WHOLE_HEADER: u64 = 0xa100_0000_0001_03f8;
+/// The header and the cell of an object of 4,088 bytes there.
+const WHOLE_HEADER: u64 = 0xa200_0000_0100_0ff8;
 
-const WHOLE: u64 = 0x8600_0000_0001_03f8;
+const WHOLE: u64 = 0x8600_0000_0001_0ff8;
 
 /// Pointer 0's object is made and taken over.
 #[rattlefmt::skip]
@@ -52,7 +52,7 @@ const FIRST_VIEWED: &[Act] = &[
 
 #[rattlefmt::skip]
 const MARKED: &[Act] = &[
-    Does(Put { log: 1, at: 0, word: 0xa100_0000_0301_0008 }, Done),
+    Does(Put { log: 1, at: 0, word: 0xa200_0003_0100_0008 }, Done),
     Does(Name { pointer: 3, old: 0, new: 0x8600_0004_0001_0008 }, Done),
     Calls(Mark { pointer: 2 }, Word(0x8600_0000_0701_0008)),
     Calls(See { pointer: 2 }, Word(0xa600_0000_0701_0008)),
@@ -62,8 +62,8 @@ const MARKED: &[Act] = &[
 
 #[rattlefmt::skip]
 const CELL_FOUND: &[Act] = &[
-    Calls(Put { log: 0, at: 9, word: 0xa100_0000_0101_0008 }, Done),
-    WordAt(Place { log: 0, at: 9 }, 0xa100_0000_0101_0008),
+    Calls(Put { log: 0, at: 9, word: 0xa200_0001_0100_0008 }, Done),
+    WordAt(Place { log: 0, at: 9 }, 0xa200_0001_0100_0008),
     Calls(Name { pointer: 1, old: 0, new: 0x8600_0000_0901_0008 }, Word(0x8600_0000_0301_0008)),
     Starts(Place { log: 0, at: 9 }, false),
 ];
@@ -74,8 +74,8 @@ const FIRST_FILLED: &[Act] = &[
     Calls(Put { log: 0, at: 0, word: WHOLE_HEADER }, Done),
     WordAt(FIRST, WHOLE_HEADER),
     Calls(Name { pointer: 0, old: 0, new: WHOLE }, Done),
-    Calls(Put { log: 1, at: 0, word: 0xa100_0000_0101_0008 }, Done),
-    WordAt(Place { log: 1, at: 0 }, 0xa100_0000_0101_0008),
+    Calls(Put { log: 1, at: 0, word: 0xa200_0001_0100_0008 }, Done),
+    WordAt(Place { log: 1, at: 0 }, 0xa200_0001_0100_0008),
     Calls(Name { pointer: 1, old: 0, new: 0x8600_0004_0001_0008 }, Done),
     Calls(Adopt { owner: 0, pointer: 0 }, Word(WHOLE)),
 ];
@@ -86,8 +86,8 @@ const GIVEN_BACK: &[Act] = &[
     Used(0, false),
     May(Get { log: 0, at: 0, free: true }, false),
     May(Name { pointer: 0, old: WHOLE, new: 0 }, false),
-    May(Name { pointer: 0, old: 0x8e00_0000_0001_03f8, new: 0 }, true),
-    Calls(Name { pointer: 0, old: 0x8e00_0000_0001_03f8, new: 0 }, Done),
+    May(Name { pointer: 0, old: 0x8e00_0000_0001_0ff8, new: 0 }, true),
+    Calls(Name { pointer: 0, old: 0x8e00_0000_0001_0ff8, new: 0 }, Done),
     May(Get { log: 0, at: 0, free: true }, true),
     Calls(Get { log: 0, at: 0, free: true }, Word(WHOLE_HEADER)),
     Log(0, Kind::Free, 0),

@@ -10,7 +10,7 @@ use far_word::Mark::{Dropped, Moved};
 use far_word::Place;
 
 /// The header of object 0, whose words are 7 and 9, and its cell as it is placed.
-const HEADER: u64 = 0xa100_0000_0001_0009;
+const HEADER: u64 = 0xa200_0000_0100_0009;
 
 const PLACED: u64 = 0x8600_0000_0001_0009;
 
@@ -54,7 +54,7 @@ const MADE: &[Act] = &[
 /// The round is of log 0, where object 0 lies; job 3 is offered, which copies it behind object 1.
 #[rattlefmt::skip]
 const OFFER_MADE: &[Act] = &[
-    Does(Put { log: 1, at: 0, word: 0xa100_0000_0101_0008 }, Done),
+    Does(Put { log: 1, at: 0, word: 0xa200_0001_0100_0008 }, Done),
     Does(Name { pointer: 1, old: 0, new: OTHER }, Done),
     Does(Mark { pointer: 0 }, Word(HOT)),
     Does(Advance { logs: 1 }, Epoch(1)),

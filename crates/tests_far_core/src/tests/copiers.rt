@@ -10,9 +10,9 @@ use far_word::Mark::{Dropped, Moved};
 use far_word::Place;
 
 /// The headers of a long and a short object, pointer 0's of 9 bytes and pointer 1's of 8, which lie in log 0.
-const LONG_HEADER: u64 = 0xa100_0000_0001_0009;
+const LONG_HEADER: u64 = 0xa200_0000_0100_0009;
 
-const SHORT_HEADER: u64 = 0xa100_0000_0101_0008;
+const SHORT_HEADER: u64 = 0xa200_0001_0100_0008;
 
 /// Their cells: hot, and with EVAC too.
 const LONG_HOT: u64 = 0xc600_0000_0001_0009;
@@ -75,7 +75,7 @@ const MADE: &[Act] = &[
 /// The round is of log 0, and the owner was seen clear in it. Log 1 is open, with pointer 2's object.
 #[rattlefmt::skip]
 const IN_ROUND: &[Act] = &[
-    Does(Put { log: 1, at: 0, word: 0xa100_0000_0201_0008 }, Done),
+    Does(Put { log: 1, at: 0, word: 0xa200_0002_0100_0008 }, Done),
     Does(Name { pointer: 2, old: 0, new: 0x8600_0004_0001_0008 }, Done),
     Does(Mark { pointer: 0 }, Word(LONG_HOT)),
     Does(Mark { pointer: 1 }, Word(SHORT_HOT)),
@@ -344,7 +344,7 @@ const COPIED_ANEW: &[Act] = &[
 /// Log 1 is sealed, and no object lies in it.
 #[rattlefmt::skip]
 const TARGET_SEALED: &[Act] = &[
-    Does(Put { log: 2, at: 0, word: 0xa100_0000_0301_0008 }, Done),
+    Does(Put { log: 2, at: 0, word: 0xa200_0003_0100_0008 }, Done),
     Does(Name { pointer: 3, old: 0, new: 0x8600_0008_0001_0008 }, Done),
     Log(1, Kind::Sealed, 7),
     Does(Adopt { owner: 0, pointer: 2 }, Word(0x8600_0004_0001_0008)),
@@ -364,7 +364,7 @@ const TARGET_KEPT: &[Act] = &[Refuses(&[Get {
 #[rattlefmt::skip]
 const TARGET_GIVEN_BACK: &[Act] = &[
     Does(Collect { job: 0, old: LONG_FINISHED }, Done),
-    Does(Get { log: 1, at: 0, free: true }, Word(0xa100_0000_0201_0008)),
+    Does(Get { log: 1, at: 0, free: true }, Word(0xa200_0002_0100_0008)),
     Log(1, Kind::Free, 0),
     Refuses(&[Name { pointer: 0, old: LONG, new: LONG_COPY }]),
     Cell(0, LONG),

@@ -22,7 +22,7 @@ const NOT_ASKED: &[Act] = &[
         Ask { owner: 0, pointer: 2, mark: Hot },
         Ask { owner: 0, pointer: 2, mark: Evac },
         Ask { owner: 1, pointer: 2, mark: Dropped },
-        Ask { owner: 2, pointer: 256, mark: Dropped },
+        Ask { owner: 2, pointer: 512, mark: Dropped },
         Name { pointer: 2, old: PLACED, new: 0 },
     ]),
 ];

@@ -10,16 +10,16 @@ use far_core::{Core, Event, Kind};
 
 #[rattlefmt::skip]
 const LONGEST_FILLS: &[Act] = &[
-    Does(Put { log: 0, at: 0, word: 0xa100_0000_0001_03f8 }, Done),
-    Does(Put { log: 0, at: 127, word: 0 }, Done),
-    Does(Name { pointer: 0, old: 0, new: 0x8600_0000_0001_03f8 }, Done),
-    Log(0, Kind::Open, 128),
-    Does(Put { log: 1, at: 0, word: 0xa100_0000_0101_0001 }, Done),
+    Does(Put { log: 0, at: 0, word: 0xa200_0000_0100_0ff8 }, Done),
+    Does(Put { log: 0, at: 511, word: 0 }, Done),
+    Does(Name { pointer: 0, old: 0, new: 0x8600_0000_0001_0ff8 }, Done),
+    Log(0, Kind::Open, 512),
+    Does(Put { log: 1, at: 0, word: 0xa200_0001_0100_0001 }, Done),
     Does(Name { pointer: 1, old: 0, new: 0x8600_0004_0001_0001 }, Done),
-    Log(0, Kind::Sealed, 128),
+    Log(0, Kind::Sealed, 512),
     Log(1, Kind::Open, 2),
     OpenLog(1),
-    Cell(0, 0x8600_0000_0001_03f8),
+    Cell(0, 0x8600_0000_0001_0ff8),
     Cell(1, 0x8600_0004_0001_0001),
 ];
 
@@ -27,7 +27,7 @@ const LONGEST_FILLS: &[Act] = &[
 fn places_shortest(core: &mut Core, number: u8) -> bool {
     let pointer = number as u16;
     let at = 2 * pointer;
-    let word = 0xa100_0000_0001_0001 | (pointer as u64) << 24;
+    let word = 0xa200_0000_0100_0001 | (pointer as u64) << 32;
     let new = 0x8600_0000_0001_0001 | (at as u64) << 24;
     let put = Event::Put { log: 0, at, word };
     let name = Event::Name {
@@ -43,10 +43,10 @@ fn places_shortest(core: &mut Core, number: u8) -> bool {
     does_all(core, &row)
 }
 
-// Whether 64 such objects fill the log.
+// Whether 256 such objects fill the log.
 fn places_all(core: &mut Core) -> bool {
-    for number in 0u8..64 {
-        if !places_shortest(core, number) {
+    for number in 0..256u16 {
+        if !places_shortest(core, number as u8) {
             return false;
         }
     }
@@ -55,17 +55,17 @@ fn places_all(core: &mut Core) -> bool {
 
 #[rattlefmt::skip]
 const FULL: &[Act] = &[
-    Does(Put { log: 0, at: 127, word: 0 }, Refused),
-    Does(Put { log: 3, at: 0, word: 0xa100_0000_4001_0008 }, Done),
-    Does(Name { pointer: 64, old: 0, new: 0x8600_000c_0001_0008 }, Done),
-    Log(0, Kind::Sealed, 128),
+    Does(Put { log: 0, at: 511, word: 0 }, Refused),
+    Does(Put { log: 3, at: 0, word: 0xa200_0100_0100_0008 }, Done),
+    Does(Name { pointer: 256, old: 0, new: 0x8600_000c_0001_0008 }, Done),
+    Log(0, Kind::Sealed, 512),
     Log(3, Kind::Open, 2),
     OpenLog(3),
 ];
 
 #[test]
 fn shortest_objects_fill_a_log(rt: HostRuntime) {
-    let Ok(mut core) = Core::new(rt.alloc(), SMALL, true) else {
+    let Ok(mut core) = Core::new(rt.alloc(), TWO_OWNERS, true) else {
         panic!(rt; "no core is made");
     };
     assert!(rt; places_all(&mut core) && does_all(&mut core, FULL));
@@ -73,8 +73,8 @@ fn shortest_objects_fill_a_log(rt: HostRuntime) {
 
 #[rattlefmt::skip]
 const NAMED_LATE: &[Act] = &[
-    Does(Put { log: 0, at: 9, word: 0xa100_0000_0101_0008 }, Done),
-    Does(Put { log: 2, at: 0, word: 0xa100_0000_0101_0008 }, Done),
+    Does(Put { log: 0, at: 9, word: 0xa200_0001_0100_0008 }, Done),
+    Does(Put { log: 2, at: 0, word: 0xa200_0001_0100_0008 }, Done),
     Leaves(Name { pointer: 1, old: 0, new: 0x8600_0000_0901_0008 }, Word(0x8600_0000_0301_0008)),
     Leaves(Name { pointer: 1, old: 0, new: 0x8600_0008_0001_0008 }, Word(0x8600_0000_0301_0008)),
 ];

@@ -23,7 +23,7 @@ const TWO_LOGS: &[Act] = &[
     Does(Put { log: 0, at: 0, word: HEADER }, Done),
     Does(Put { log: 0, at: 1, word: 0 }, Done),
     Does(Name { pointer: 0, old: 0, new: NEAR }, Done),
-    Does(Put { log: 1, at: 0, word: 0xa100_0000_0101_0008 }, Done),
+    Does(Put { log: 1, at: 0, word: 0xa200_0001_0100_0008 }, Done),
     Does(Put { log: 1, at: 1, word: 0 }, Done),
     Does(Name { pointer: 1, old: 0, new: NEXT }, Done),
     Does(Mark { pointer: 0 }, Word(NEAR)),
@@ -92,12 +92,12 @@ const NO_PLACE: &[Act] = &[
     Refuses(&[
         Offer { job: 0, pointer: 0, to: BEHIND },
         Offer { job: 16, pointer: 0, to: BEHIND },
-        Offer { job: 1, pointer: 128, to: BEHIND },
+        Offer { job: 1, pointer: 256, to: BEHIND },
         Offer { job: 1, pointer: 1, to: BEHIND },
         Offer { job: 1, pointer: 2, to: BEHIND },
         Offer { job: 1, pointer: 0, to: AT_TAIL },
         Offer { job: 1, pointer: 0, to: Place { log: 1, at: 6 } },
-        Offer { job: 1, pointer: 0, to: Place { log: 1, at: 127 } },
+        Offer { job: 1, pointer: 0, to: Place { log: 1, at: 511 } },
         Offer { job: 1, pointer: 0, to: Place { log: 0, at: 2 } },
         Offer { job: 1, pointer: 0, to: Place { log: 2, at: 0 } },
         Offer { job: 1, pointer: 0, to: Place { log: 3, at: 0 } },
@@ -127,6 +127,13 @@ const TAKEN: u64 = 0x8c00_1000_0002_0000;
 
 const FINISHED: u64 = 0xcc00_1000_0002_0000;
 
+/// Words off the layout: offered, and by copier 3; of pointer 2,048; finished by copier 8.
+const OFFERED_BY: u64 = 0x4c00_1000_0002_0000;
+
+const OF_NO_POINTER: u64 = 0x4000_1000_0002_0800;
+
+const BY_NO_COPIER: u64 = 0xe000_1000_0002_0000;
+
 #[rattlefmt::skip]
 const LOST: &[Act] = &[
     Leaves(Claim { copier: 7, job: 15, old: OFFERED }, Word(0)),
@@ -142,6 +149,8 @@ const NOTHING_TO_TAKE: &[Act] = &[
         Claim { copier: 0, job: 0, old: 0 },
         Claim { copier: 3, job: 0, old: TAKEN },
         Claim { copier: 3, job: 0, old: FINISHED },
+        Claim { copier: 3, job: 0, old: OFFERED_BY },
+        Claim { copier: 3, job: 0, old: OF_NO_POINTER },
     ]),
 ];
 
@@ -152,6 +161,9 @@ const NOTHING_TO_EMPTY: &[Act] = &[
         Collect { job: 0, old: TAKEN },
         Collect { job: 0, old: 0 },
         Collect { job: 0, old: 1 },
+        Collect { job: 0, old: OFFERED_BY },
+        Collect { job: 0, old: OF_NO_POINTER },
+        Collect { job: 0, old: BY_NO_COPIER },
     ]),
 ];
 

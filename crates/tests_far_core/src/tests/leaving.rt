@@ -66,7 +66,7 @@ const CLEARED: &[Act] = &[
     Does(Clear { pointer: 0 }, Word(WITH_BOTH)),
     Does(Clear { pointer: 0 }, Word(WITH_MOVE)),
     Does(Clear { pointer: 1 }, Word(NEXT)),
-    Refuses(&[Clear { pointer: 2 }, Clear { pointer: 128 }]),
+    Refuses(&[Clear { pointer: 2 }, Clear { pointer: 256 }]),
     Calls(Clear { pointer: 0 }, Word(WITH_MOVE)),
 ];
 

@@ -57,7 +57,7 @@ pub(super) fn all_shown(core: &mut Core) -> Shown {
             pointer_shown(core, 1),
             pointer_shown(core, 2),
             pointer_shown(core, 3),
-            pointer_shown(core, 128),
+            pointer_shown(core, 256),
         ],
         words: [
             word_shown(core, 0, 0),

@@ -28,7 +28,7 @@ const FETCHED: u64 = 0x8400_0000_0601_0009;
 
 const BACK: u64 = 0x8400_0008_0201_0009;
 
-const HEADER: u64 = 0xa100_0000_0101_0009;
+const HEADER: u64 = 0xa200_0001_0100_0009;
 
 const FIRST: u64 = 0x0807_0605_0403_0201;
 
@@ -40,7 +40,7 @@ const OPENED: &[Act] = &[
 /// Pointer 0's object lies below pointer 1's, at word 3 of log 0, and owner 0 uses both.
 #[rattlefmt::skip]
 const MADE: &[Act] = &[
-    Does(Put { log: 0, at: 0, word: 0xa100_0000_0001_0009 }, Done),
+    Does(Put { log: 0, at: 0, word: 0xa200_0000_0100_0009 }, Done),
     Does(Name { pointer: 0, old: 0, new: 0x8600_0000_0001_0009 }, Done),
     Does(Put { log: 0, at: 3, word: HEADER }, Done),
     Does(Name { pointer: 1, old: 0, new: PLACED }, Done),
@@ -116,7 +116,7 @@ const STAYS_HELD: &[Act] = &[
 
 #[rattlefmt::skip]
 const ONLY_MARKED: &[Act] = &[
-    Does(Put { log: 2, at: 0, word: 0xa100_0000_0201_0008 }, Done),
+    Does(Put { log: 2, at: 0, word: 0xa200_0002_0100_0008 }, Done),
     Does(Name { pointer: 2, old: 0, new: 0x8600_0008_0001_0008 }, Done),
     Does(Mark { pointer: 1 }, Word(VIEWED)),
     Does(See { pointer: 1 }, Word(0xe600_0000_0301_0009)),
@@ -152,7 +152,7 @@ const HALF_COPIED: &[Act] = &[
     Does(Put { log: 0, at: 7, word: 0 }, Done),
     Does(Name { pointer: 1, old: MOVING, new: AT_TAIL }, Refused),
     Does(Put { log: 0, at: 7, word: FIRST }, Done),
-    Does(Put { log: 0, at: 6, word: 0xa100_0000_0001_0009 }, Done),
+    Does(Put { log: 0, at: 6, word: 0xa200_0000_0100_0009 }, Done),
     Does(Name { pointer: 1, old: MOVING, new: AT_TAIL }, Refused),
     Does(Put { log: 0, at: 6, word: HEADER }, Done),
     Does(Name { pointer: 1, old: MOVING, new: AT_TAIL }, Done),
@@ -179,7 +179,7 @@ const FETCHED_LATE: &[Act] = &[
 /// Log 2 is open, its tail 2, and pointer 1's object far.
 #[rattlefmt::skip]
 const AWAY: &[Act] = &[
-    Does(Put { log: 2, at: 0, word: 0xa100_0000_0201_0008 }, Done),
+    Does(Put { log: 2, at: 0, word: 0xa200_0002_0100_0008 }, Done),
     Does(Name { pointer: 2, old: 0, new: 0x8600_0008_0001_0008 }, Done),
     Does(Mark { pointer: 1 }, Word(VIEWED)),
     Does(Ask { owner: 0, pointer: 1, mark: Moved }, Word(0xe600_0000_0301_0009)),

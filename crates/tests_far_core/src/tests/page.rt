@@ -20,7 +20,7 @@ fn placed(alloc: Global, core: &mut Core) -> Result<Vec<Reply>, Refused> {
     let header = Event::Put {
         log: 0,
         at: 0,
-        word: 0xa100_0000_0001_0008,
+        word: 0xa200_0000_0100_0008,
     };
     let zero = Event::Put {
         log: 0,

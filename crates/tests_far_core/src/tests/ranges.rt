@@ -49,7 +49,7 @@ const PAIR: u64 = 0x8600_0000_0001_0010;
 /// Owner 0 holds an object of two words.
 #[rattlefmt::skip]
 const HOLDING_PAIR: &[Act] = &[
-    Does(Put { log: 0, at: 0, word: 0xa100_0000_0001_0010 }, Done),
+    Does(Put { log: 0, at: 0, word: 0xa200_0000_0100_0010 }, Done),
     Does(Name { pointer: 0, old: 0, new: PAIR }, Done),
     Does(Adopt { owner: 0, pointer: 0 }, Word(PAIR)),
     Does(ReadEpoch { owner: 0 }, Epoch(5)),

@@ -7,8 +7,8 @@ use crate::tests::stage::{does_all, play};
 use far_core::Event::*;
 use far_core::Reply::*;
 use far_core::{
-    Core, Event, Kind, Reply, Shape, copies_are_taken, events_leave_others, opening_is_start,
-    steps_keep_views,
+    Core, Event, Kind, Reply, Shape, copies_are_taken, events_leave_others, jobs_stand_by_law,
+    opening_is_start, steps_keep_views,
 };
 use far_word::Place;
 use std::alloc::Global;
@@ -57,15 +57,15 @@ fn first_object_is_read(rt: HostRuntime) {
 
 /// The cells that the people have, and no other that is used at the ends of their rows.
 const LISTED: &[Act] = &[
-    Cells(256),
+    Cells(512),
     Listed(0, 0xc600_0000_0001_0009),
     Listed(1, 0x8600_0000_0301_0008),
     Listed(2, 0x8600_0000_0701_0008),
     Listed(3, 0),
-    Listed(127, 0),
-    Listed(128, 0x8600_0000_0501_0008),
-    Listed(129, 0),
     Listed(255, 0),
+    Listed(256, 0x8600_0000_0501_0008),
+    Listed(257, 0),
+    Listed(511, 0),
 ];
 
 #[rattlefmt::skip]
@@ -83,7 +83,7 @@ const NOTHING: &[Act] = &[
     Pointer(1, 0, false, false),
     Pointer(2, 0, false, false),
     Pointer(3, 0, false, false),
-    Pointer(128, 0, false, false),
+    Pointer(256, 0, false, false),
     Refuses(&[
         Load { owner: 0, pointer: 0, index: 0 },
         Load { owner: 0, pointer: 0, index: 1 },
@@ -217,6 +217,7 @@ fn laws_can_be_called(rt: HostRuntime) {
     steps_keep_views();
     events_leave_others();
     copies_are_taken();
+    jobs_stand_by_law();
 }
 
 #[rattlefmt::skip]

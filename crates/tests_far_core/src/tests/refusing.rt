@@ -27,18 +27,18 @@ const VIEWS: &[Act] = &[
         Pin { owner: 0, pointer: 0 },
         Pin { owner: 0, pointer: 1 },
         Pin { owner: 0, pointer: 3 },
-        Pin { owner: 0, pointer: 128 },
-        Pin { owner: 1, pointer: 128 },
+        Pin { owner: 0, pointer: 256 },
+        Pin { owner: 1, pointer: 256 },
         Pin { owner: 1, pointer: 2 },
-        Pin { owner: 2, pointer: 256 },
+        Pin { owner: 2, pointer: 512 },
         Pin { owner: 0, pointer: u16::MAX },
         Load { owner: 0, pointer: 0, index: 2 },
         Load { owner: 0, pointer: 0, index: u16::MAX },
         Load { owner: 0, pointer: 1, index: 0 },
         Load { owner: 0, pointer: 2, index: 0 },
         Load { owner: 1, pointer: 0, index: 0 },
-        Load { owner: 1, pointer: 128, index: 0 },
-        Load { owner: 2, pointer: 256, index: 0 },
+        Load { owner: 1, pointer: 256, index: 0 },
+        Load { owner: 2, pointer: 512, index: 0 },
         Load { owner: 255, pointer: u16::MAX, index: 0 },
     ]),
 ];
@@ -53,13 +53,13 @@ const STORES: &[Act] = &[
         Store { owner: 0, pointer: 0, index: u16::MAX, word: 1 },
         Store { owner: 0, pointer: 2, index: 0, word: 1 },
         Store { owner: 1, pointer: 0, index: 0, word: 1 },
-        Store { owner: 1, pointer: 128, index: 0, word: 1 },
-        Store { owner: 2, pointer: 256, index: 0, word: 1 },
+        Store { owner: 1, pointer: 256, index: 0, word: 1 },
+        Store { owner: 2, pointer: 512, index: 0, word: 1 },
         Store { owner: 255, pointer: u16::MAX, index: 0, word: 1 },
         Soil { owner: 0, pointer: 2 },
         Soil { owner: 1, pointer: 0 },
-        Soil { owner: 1, pointer: 128 },
-        Soil { owner: 2, pointer: 256 },
+        Soil { owner: 1, pointer: 256 },
+        Soil { owner: 2, pointer: 512 },
         Soil { owner: 255, pointer: u16::MAX },
     ]),
 ];
@@ -71,7 +71,7 @@ const ADOPTIONS: &[Act] = &[
         Adopt { owner: 0, pointer: 3 },
         Adopt { owner: 1, pointer: 1 },
         Adopt { owner: 2, pointer: 1 },
-        Adopt { owner: 2, pointer: 256 },
+        Adopt { owner: 2, pointer: 512 },
         Adopt { owner: 255, pointer: u16::MAX },
     ]),
 ];
@@ -82,24 +82,24 @@ const PUTS: &[Act] = &[
         Put { log: 0, at: 0, word: 0 },
         Put { log: 0, at: 1, word: 0 },
         Put { log: 0, at: 8, word: 1 },
-        Put { log: 0, at: 128, word: 0 },
+        Put { log: 0, at: 512, word: 0 },
         Put { log: 3, at: u16::MAX, word: 0 },
         Put { log: 4, at: 0, word: 0 },
-        Put { log: 255, at: 127, word: 0 },
+        Put { log: 255, at: 511, word: 0 },
     ]),
 ];
 
 #[rattlefmt::skip]
 const NAMES_NOTHING: &[Act] = &[
-    Does(Put { log: 0, at: 9, word: 0xa100_0000_0301_0008 }, Done),
+    Does(Put { log: 0, at: 9, word: 0xa200_0003_0100_0008 }, Done),
     Refuses(&[
         Name { pointer: 3, old: 1, new: 0x8600_0000_0901_0008 },
         Name { pointer: 3, old: 0x8600_0000_0901_0008, new: 0x8600_0000_0901_0008 },
         Name { pointer: 3, old: 0, new: 0 },
         Name { pointer: 3, old: 0, new: 0x0000_0000_0001_0008 },
         Name { pointer: 3, old: 0, new: 0x8600_0000_0001_0000 },
-        Name { pointer: 3, old: 0, new: 0x8600_0000_0001_03f9 },
-        Name { pointer: 3, old: 0, new: 0x8600_0000_7f01_0008 },
+        Name { pointer: 3, old: 0, new: 0x8600_0000_0001_0ff9 },
+        Name { pointer: 3, old: 0, new: 0x8600_0001_ff01_0008 },
         Name { pointer: 3, old: 0, new: 0x0400_0000_0001_0008 },
         Name { pointer: 3, old: 0, new: 0x0400_0000_0101_0008 },
         Name { pointer: 3, old: 0, new: 0x2400_0000_0001_0008 },
@@ -119,15 +119,15 @@ const NAMES_NOTHING: &[Act] = &[
 
 #[rattlefmt::skip]
 const NOT_NEXT: &[Act] = &[
-    Does(Put { log: 0, at: 11, word: 0xa100_0000_0301_0008 }, Done),
-    Does(Put { log: 1, at: 1, word: 0xa100_0000_0301_0008 }, Done),
-    Does(Put { log: 0, at: 9, word: 0xa100_0001_0001_0008 }, Done),
+    Does(Put { log: 0, at: 11, word: 0xa200_0003_0100_0008 }, Done),
+    Does(Put { log: 1, at: 1, word: 0xa200_0003_0100_0008 }, Done),
+    Does(Put { log: 0, at: 9, word: 0xa200_0200_0100_0008 }, Done),
     Refuses(&[
         Name { pointer: 3, old: 0, new: 0x8600_0000_0b01_0008 },
         Name { pointer: 3, old: 0, new: 0x8600_0004_0101_0008 },
         Name { pointer: 3, old: 0, new: 0x8600_0004_0001_0008 },
         Name { pointer: 3, old: 0, new: 0x8600_0010_0001_0008 },
-        Name { pointer: 256, old: 0, new: 0x8600_0000_0901_0008 },
+        Name { pointer: 512, old: 0, new: 0x8600_0000_0901_0008 },
         Name { pointer: 2, old: 0, new: 0x8600_0000_0701_0008 },
         Name { pointer: 1, old: 0, new: 0x8600_0000_0301_0008 },
     ]),
@@ -135,7 +135,7 @@ const NOT_NEXT: &[Act] = &[
 
 #[rattlefmt::skip]
 const NOT_ZERO: &[Act] = &[
-    Does(Put { log: 0, at: 9, word: 0xa100_0000_0301_0009 }, Done),
+    Does(Put { log: 0, at: 9, word: 0xa200_0003_0100_0009 }, Done),
     Does(Put { log: 0, at: 10, word: 1 }, Done),
     Refuses(&[Name { pointer: 3, old: 0, new: 0x8600_0000_0901_0009 }]),
     Does(Put { log: 0, at: 10, word: 0 }, Done),
@@ -149,15 +149,15 @@ const NOT_ZERO: &[Act] = &[
 
 #[rattlefmt::skip]
 const SEALED: &[Act] = &[
-    Does(Put { log: 0, at: 9, word: 0xa100_0000_0401_0008 }, Done),
-    Does(Put { log: 2, at: 0, word: 0xa100_0000_0301_0008 }, Done),
+    Does(Put { log: 0, at: 9, word: 0xa200_0004_0100_0008 }, Done),
+    Does(Put { log: 2, at: 0, word: 0xa200_0003_0100_0008 }, Done),
     Does(Name { pointer: 3, old: 0, new: 0x8600_0008_0001_0008 }, Done),
     Log(0, Kind::Sealed, 9),
     OpenLog(2),
     Refuses(&[
         Name { pointer: 4, old: 0, new: 0x8600_0000_0901_0008 },
         Put { log: 0, at: 9, word: 0 },
-        Put { log: 0, at: 127, word: 0 },
+        Put { log: 0, at: 511, word: 0 },
     ]),
 ];
 

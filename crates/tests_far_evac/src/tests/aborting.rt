@@ -16,7 +16,7 @@ const FIVE: Shape = Shape {
 };
 
 // A round of the first two of three full logs begins, the second first.
-const BEGUN_TURNED: &[Act] = &[MakesMany(3, 1016), Selects(Named(&[1, 0]), 2, Ok(&[1, 0]))];
+const BEGUN_TURNED: &[Act] = &[MakesMany(3, 4088), Selects(Named(&[1, 0]), 2, Ok(&[1, 0]))];
 
 // The object of log 1 is marked first, and alone; that of log 0 is marked next, and then the epoch rises.
 const BOTH_MARKED: &[Act] = &[
@@ -34,7 +34,7 @@ const BOTH_MARKED: &[Act] = &[
 ];
 
 const NO_MARK: &[Act] = &[
-    MakesMany(3, 1016),
+    MakesMany(3, 4088),
     Drops(0),
     Selects(Eldest, 1, Ok(&[0])),
     Marks(0, Ok((0, Some(1)))),
@@ -42,8 +42,8 @@ const NO_MARK: &[Act] = &[
 
 // Logs 0 and 1 are sealed in this order, and have what they had.
 const AS_BEFORE: &[Act] = &[
-    Log(0, LogKind::Sealed, [1024, 0, 0]),
-    Log(1, LogKind::Sealed, [1024, 0, 0]),
+    Log(0, LogKind::Sealed, [4096, 0, 0]),
+    Log(1, LogKind::Sealed, [4096, 0, 0]),
     Near(0, Place { log: 0, at: 0 }, false),
     Near(1, Place { log: 1, at: 0 }, false),
     In(Phase::Idle),
@@ -60,26 +60,26 @@ const GIVEN_UP_WAITING: &[Act] = &[
 
 // A round of the first two of three full logs is given up once the first is empty: its first object is far, and its second still there.
 const GIVEN_UP_MIDWAY: &[Act] = &[
-    MakesMany(3, 1016),
+    MakesMany(3, 4088),
     Runs(Eldest, 2, 2, End::Limit(Phase::Evacuating)),
     Deals(1, [0, 1, 0, 1], false),
     GivesUp(Ok(())),
     Far(0),
     Near(1, Place { log: 1, at: 0 }, false),
-    Log(0, LogKind::Free, [0, 0, 1024]),
-    Log(1, LogKind::Sealed, [1024, 0, 0]),
+    Log(0, LogKind::Free, [0, 0, 4096]),
+    Log(1, LogKind::Sealed, [4096, 0, 0]),
     Selects(Eldest, 2, Ok(&[1])),
 ];
 
 // The first of two small objects in log 0 is dealt with, and the log is sealed as it was once the round is given up.
 const HALF_EMPTY: &[Act] = &[
     MakesMany(2, 8),
-    MakesMany(3, 1016),
+    MakesMany(3, 4088),
     Runs(Eldest, 1, 2, End::Limit(Phase::Evacuating)),
     Deals(1, [0, 1, 0, 0], false),
-    Log(0, LogKind::Chosen, [16, 16, 992]),
+    Log(0, LogKind::Chosen, [16, 16, 4064]),
     GivesUp(Ok(())),
-    Log(0, LogKind::Sealed, [16, 16, 992]),
+    Log(0, LogKind::Sealed, [16, 16, 4064]),
     Near(1, Place { log: 0, at: 2 }, false),
 ];
 

@@ -11,7 +11,7 @@ use far_word::{Mark, Place, Refused};
 
 const ASKED_FOR: &[Act] = &[
     MakesMany(1, 8),
-    MakesMany(1, 1016),
+    MakesMany(1, 4088),
     Asks(0, Mark::Moved),
     Runs(Eldest, 1, 9, End::Done([0, 1, 0, 1])),
     Far(0),
@@ -26,9 +26,9 @@ const ASKED_ALONE: &[Act] = &[
 // Object 0 is far, and a second round deals with its objects. The far object comes near meanwhile, to a log that isn't the round's.
 const FETCHED_MEANWHILE: &[Act] = &[
     MakesMany(1, 8),
-    MakesMany(1, 1016),
+    MakesMany(1, 4088),
     Runs(Eldest, 1, 9, End::Done([0, 1, 0, 1])),
-    MakesMany(1, 1016),
+    MakesMany(1, 4088),
     Selects(Eldest, 1, Ok(&[1])),
     Marks(2, Ok((1, Some(2)))),
     Polls(Ok(Polled::Clear)),
@@ -37,7 +37,7 @@ const FETCHED_MEANWHILE: &[Act] = &[
     Clean(0, Place { log: 2, at: 0 }, false),
     Deals(2, [0, 1, 0, 1], true),
     Clean(0, Place { log: 2, at: 0 }, false),
-    Log(1, LogKind::Free, [0, 0, 1024]),
+    Log(1, LogKind::Free, [0, 0, 4096]),
 ];
 
 const FIVE: Shape = Shape {
@@ -48,7 +48,7 @@ const FIVE: Shape = Shape {
 
 // Of three sealed logs the middle one is given back: the others stand in their order.
 const MIDDLE_FREED: &[Act] = &[
-    MakesMany(4, 1016),
+    MakesMany(4, 4088),
     Drops(1),
     Runs(Named(&[1]), 1, 9, End::Done([0, 0, 0, 1])),
     Sealed(&[0, 2]),
@@ -57,7 +57,7 @@ const MIDDLE_FREED: &[Act] = &[
 // Logs 0 and 1 are to be emptied, and what lay in log 0 fills the last free log. An object that its owner has dropped is retired where it asked
 // for a move, room or no room.
 const RETIRED_WITHOUT_ROOM: &[Act] = &[
-    MakesMany(3, 1016),
+    MakesMany(3, 4088),
     Selects(Eldest, 2, Ok(&[0, 1])),
     Marks(3, Ok((2, Some(1)))),
     Asks(0, Mark::Moved),
@@ -66,7 +66,7 @@ const RETIRED_WITHOUT_ROOM: &[Act] = &[
     Moves(1, Moved::Refused(Refused::NoRoom)),
     Asks(1, Mark::Dropped),
     Moves(1, Moved::Retired),
-    Log(1, LogKind::Chosen, [0, 1024, 0]),
+    Log(1, LogKind::Chosen, [0, 4096, 0]),
 ];
 
 #[rattlefmt::skip]

@@ -9,7 +9,7 @@ use far_device::MemDevice;
 use far_evac::{Census, Evac, LogState, Progress, RoundEnd};
 use far_log::{LogRow, Span};
 use far_policy::Oldest;
-use far_word::{LONGEST, Mark, Place, Refused, size_of};
+use far_word::{CELLS, LOG_BYTES, LONGEST, Mark, Place, Refused, size_of};
 
 const SHAPE: Shape = Shape {
     logs: 6,
@@ -28,7 +28,7 @@ fn next(state: u64) -> u64 {
 // An event of one of two owners at one of its first six pointers.
 fn event_of(state: u64) -> Event {
     let owner = (state >> 62) as u8 % 2;
-    let pointer = owner as u16 * 128 + (state >> 50) as u16 % 6;
+    let pointer = owner as u16 * CELLS + (state >> 50) as u16 % 6;
     let mark = match (state >> 40) % 16 {
         0 => Mark::Dropped,
         _ => Mark::Moved,
@@ -58,7 +58,7 @@ fn event_of(state: u64) -> Event {
 fn adopts_all(events: &mut Vec<Event>) -> bool {
     for pointer in 0..4u16 {
         let first = Event::Adopt { owner: 0, pointer };
-        let pointer = 128 + pointer;
+        let pointer = CELLS + pointer;
         let second = Event::Adopt { owner: 1, pointer };
         if events.push(first).is_err() || events.push(second).is_err() {
             return false;
@@ -79,10 +79,13 @@ fn does_anything(events: &mut Vec<Event>, seed: u64) -> bool {
     true
 }
 
-// Owners' events: they take their objects over once these are placed, do this and that, and close their scopes at last.
+// Owners' events: they take their objects over once these are placed, wait while most words of the two that fill logs are written, do this and that, and
+// close their scopes at last.
 fn fills(events: &mut Vec<Event>, seed: u64) -> bool {
-    events.resize(24, Event::Close { owner: 9 }).is_ok()
+    let nothing = Event::Close { owner: 9 };
+    events.resize(24, nothing).is_ok()
         && adopts_all(events)
+        && events.resize(800, nothing).is_ok()
         && does_anything(events, seed)
         && events.push(Event::Close { owner: 0 }).is_ok()
         && events.push(Event::Close { owner: 1 }).is_ok()
@@ -120,7 +123,7 @@ fn places_ten(evac: &mut Evac<Beset, MemDevice>) -> bool {
             return false;
         }
     }
-    places_two(evac, 1016)
+    places_two(evac, LONGEST)
 }
 
 // What a round of logs 0 and 1 has done, if it ended and gave both back.
@@ -154,7 +157,7 @@ fn weighed(evac: &mut Evac<Beset, MemDevice>, log: u8, spans: &[Span]) -> (u16, 
     (live, dead)
 }
 
-// Whether a log has as many live and dead bytes as its spans have, and 1,024 in all.
+// Whether a log has as many live and dead bytes as its spans have, and 4,096 in all.
 fn adds_up(evac: &mut Evac<Beset, MemDevice>, row: LogRow) -> bool {
     if row.log as u64 >= evac.book().shape().logs {
         return false;
@@ -164,7 +167,7 @@ fn adds_up(evac: &mut Evac<Beset, MemDevice>, row: LogRow) -> bool {
     };
     let (live, dead) = weighed(evac, row.log, &spans);
     let placed = live.saturating_add(dead);
-    row.live == live && row.dead == dead && row.unused == 1024u16.saturating_sub(placed)
+    row.live == live && row.dead == dead && row.unused == LOG_BYTES.saturating_sub(placed)
 }
 
 fn has_drop(home: Home) -> bool {
@@ -176,7 +179,7 @@ fn has_drop(home: Home) -> bool {
 // How many objects aren't dropped.
 fn objects(evac: &mut Evac<Beset, MemDevice>) -> usize {
     let mut objects = 0usize;
-    for pointer in 0..256u16 {
+    for pointer in 0..2 * CELLS {
         if let Some(home) = home(evac, pointer) {
             if !has_drop(home) {
                 objects = objects.saturating_add(1);

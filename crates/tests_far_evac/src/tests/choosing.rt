@@ -19,11 +19,11 @@ use far_word::Refused;
 // The first log is sealed. Scripts of a log that isn't, or of a log that is named twice, are refused for that log.
 const BAD_SCRIPTS: &[Act] = &[
     MakesMany(1, 8),
-    MakesMany(1, 1016),
+    MakesMany(1, 4088),
     Selects(Named(&[1]), 1, Err(Refused::BadChoice(1))),
     Selects(Named(&[0, 0]), 2, Err(Refused::BadChoice(0))),
     Marks(1, Err(Refused::Phase)),
-    Log(0, LogKind::Sealed, [16, 0, 1008]),
+    Log(0, LogKind::Sealed, [16, 0, 4080]),
 ];
 
 // A heap at the last epoch, and one that has one epoch left.
@@ -41,7 +41,7 @@ const BEFORE_IT: Shape = Shape {
 
 const NO_EPOCH_LEFT: &[Act] = &[
     MakesMany(1, 8),
-    MakesMany(1, 1016),
+    MakesMany(1, 4088),
     Selects(Eldest, 1, Err(Refused::EpochsSpent)),
     Selects(Named(&[9]), 1, Err(Refused::EpochsSpent)),
     In(Phase::Idle),
@@ -50,7 +50,7 @@ const NO_EPOCH_LEFT: &[Act] = &[
 // A round reaches the last epoch, and another is refused for the phase until then. It ends, and another is refused for the epoch.
 const TO_THE_LAST: &[Act] = &[
     MakesMany(1, 8),
-    MakesMany(1, 1016),
+    MakesMany(1, 4088),
     Selects(Eldest, 1, Ok(&[0])),
     Selects(Eldest, 1, Err(Refused::Phase)),
     Marks(1, Ok((1, Some((1 << 62) - 1)))),
@@ -97,7 +97,7 @@ fn unasked() -> Asked {
 // Whether a policy is asked with a row of each log but the open one and the one that is kept free, of a heap of 64.
 fn has_62_rows(evac: &mut Evac<Plain, MemDevice>) -> bool {
     let mut asked = unasked();
-    does_all(evac, &[MakesMany(63, 1016)])
+    does_all(evac, &[MakesMany(63, 4088)])
         && selects(evac, &mut asked, 64, Ok(&[]))
         && (asked.times, asked.rows) == (1, 62)
         && does_all(evac, &[Selects(Eldest, 3, Ok(&[0, 1, 2]))])
@@ -119,17 +119,17 @@ const SIX: Shape = Shape {
 
 // Logs 2, 0 and 1 are sealed in this order.
 const OUT_OF_ORDER: &[Act] = &[
-    MakesMany(3, 1016),
+    MakesMany(3, 4088),
     Drops(0),
     Drops(1),
     Runs(Eldest, 2, 9, End::Done([0, 0, 0, 2])),
     MakesMany(1, 8),
-    MakesMany(2, 1016),
+    MakesMany(2, 4088),
 ];
 
 // Whether it was asked once, with three rows, of which the first was that of log 2.
 fn was_asked_once(asked: &Asked) -> bool {
-    let (log, live, dead, unused) = (2, 1024, 0, 0);
+    let (log, live, dead, unused) = (2, 4096, 0, 0);
     let first = LogRow {
         log,
         live,
@@ -166,9 +166,9 @@ const BY_EACH: &[Act] = &[
     Selects(Emptiest, 2, Ok(&[0, 1])),
     GivesUp(Ok(())),
     Selects(Named(&[1, 2]), 3, Ok(&[1, 2])),
-    Log(0, LogKind::Sealed, [16, 0, 1008]),
-    Log(1, LogKind::Chosen, [1024, 0, 0]),
-    Log(2, LogKind::Chosen, [1024, 0, 0]),
+    Log(0, LogKind::Sealed, [16, 0, 4080]),
+    Log(1, LogKind::Chosen, [4096, 0, 0]),
+    Log(2, LogKind::Chosen, [4096, 0, 0]),
     GivesUp(Ok(())),
     Runs(Named(&[1, 2]), 3, 9, End::Done([0, 2, 0, 2])),
 ];
@@ -179,8 +179,8 @@ const TURNED: &[Act] = &[
     Marks(9, Ok((2, Some(2)))),
     Polls(Ok(Polled::Clear)),
     Deals(1, [0, 1, 0, 1], false),
-    Log(1, LogKind::Free, [0, 0, 1024]),
-    Log(0, LogKind::Chosen, [16, 0, 1008]),
+    Log(1, LogKind::Free, [0, 0, 4096]),
+    Log(0, LogKind::Chosen, [16, 0, 4080]),
     Deals(1, [0, 1, 0, 1], true),
 ];
 

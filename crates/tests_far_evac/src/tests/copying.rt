@@ -8,7 +8,7 @@ use far_book::{Beset, Book, Home};
 use far_core::{Core, Event, Shape};
 use far_device::MemDevice;
 use far_evac::{Evac, Marked, Polled};
-use far_word::{Mark, Marks, Place, Refused};
+use far_word::{LONGEST, Mark, Marks, Place, Refused};
 
 const SHAPE: Shape = Shape {
     logs: 4,
@@ -16,8 +16,8 @@ const SHAPE: Shape = Shape {
     epoch: 0,
 };
 
-// The owner takes the first object over once it is placed, views it, and closes its scope.
-const VIEWS: [Event; 5] = [
+/// The owner takes the first object over once it is placed, views it, and closes its scope.
+pub(super) const VIEWS: [Event; 5] = [
     Event::Adopt {
         owner: 0,
         pointer: 0,
@@ -31,29 +31,29 @@ const VIEWS: [Event; 5] = [
     Event::Close { owner: 0 },
 ];
 
-// A copier takes the copy of the first object from log 0 to log 2, if that is offered as job 0.
-const CLAIMS: Event = Event::Claim {
+/// A copier takes the copy of the first object from log 0 to log 2, if that is offered as job 0.
+pub(super) const CLAIMS: Event = Event::Claim {
     copier: 0,
     job: 0,
     old: 0x4000_2000_0000_0000,
 };
 
-// The owner drops the object.
-const DROPS: Event = Event::Ask {
+/// The owner drops the object.
+pub(super) const DROPS: Event = Event::Ask {
     owner: 0,
     pointer: 0,
     mark: Mark::Dropped,
 };
 
-// Nobody does anything.
-const NOTHING: Event = Event::Close { owner: 9 };
+/// Nobody does anything.
+pub(super) const NOTHING: Event = Event::Close { owner: 9 };
 
 /// How many calls of the hand come after the object was viewed, at most, before it is dropped.
 const CALLS: usize = 100;
 
 // The owner's events, with the copier's before a call: whether there is memory for them.
 fn fills(events: &mut Vec<Event>, call: usize) -> bool {
-    for _ in 0..35u8 {
+    for _ in 0..112u8 {
         if events.extend_from_slice(&VIEWS).is_err() {
             return false;
         }
@@ -65,18 +65,21 @@ fn fills(events: &mut Vec<Event>, call: usize) -> bool {
         && events.push(DROPS).is_ok()
 }
 
-// An evacuator that offers copies, beside whose hand these events are made.
+/// An evacuator that offers copies, beside whose hand these events are made.
 #[tactic(auto, using(crate::proofs::Uses::beset_start, crate::proofs::Uses::beset_alone))]
-fn beset(rt: &HostRuntime, events: Vec<Event>) -> Result<Evac<Beset, MemDevice>, Refused> {
+pub(super) fn beset(
+    rt: &HostRuntime,
+    events: Vec<Event>,
+) -> Result<Evac<Beset, MemDevice>, Refused> {
     let core = Core::new(rt.alloc(), SHAPE, true)?;
     let hand = Beset::new(rt.alloc(), core, events)?;
     let book = Book::new(rt.alloc(), hand, MemDevice::new(rt.alloc()))?;
     Ok(Evac::copying(book))
 }
 
-// Whether a new object gets the owner's lowest free cell.
-fn places(evac: &mut Evac<Beset, MemDevice>, len: u16) -> bool {
-    if evac.book().shape().mutators == 0 || len == 0 || len > 1016 {
+/// Whether a new object gets the owner's lowest free cell.
+pub(super) fn places(evac: &mut Evac<Beset, MemDevice>, len: u16) -> bool {
+    if evac.book().shape().mutators == 0 || len == 0 || len > LONGEST {
         return false;
     }
     evac.keeps_law();
@@ -86,8 +89,8 @@ fn places(evac: &mut Evac<Beset, MemDevice>, len: u16) -> bool {
     }
 }
 
-// Looks at the first object so often, by a call of the hand each time; whether it is there.
-fn looks(evac: &mut Evac<Beset, MemDevice>, times: usize) -> bool {
+/// Looks at the first object so often, by a call of the hand each time; whether it is there.
+pub(super) fn looks(evac: &mut Evac<Beset, MemDevice>, times: usize) -> bool {
     for _ in 0..times {
         if home(evac, 0).is_none() {
             return false;
@@ -98,7 +101,7 @@ fn looks(evac: &mut Evac<Beset, MemDevice>, times: usize) -> bool {
 
 // Whether the objects are placed, the second by a call for each of its words, and the owner has viewed the first.
 fn begins(evac: &mut Evac<Beset, MemDevice>) -> bool {
-    places(evac, 8) && places(evac, 1016) && looks(evac, 50)
+    places(evac, 8) && places(evac, LONGEST) && looks(evac, 50)
 }
 
 // Whether a round of the first object's log comes to where that leaves.

@@ -115,7 +115,7 @@ fn over_stumbling(
 }
 
 // Pointers 0 to 2 lie in log 0, of which the first is hot; the next fills log 1.
-const FOUR: &[Act] = &[MakesMany(3, 8), Writes(0, 7), MakesMany(1, 1016)];
+const FOUR: &[Act] = &[MakesMany(3, 8), Writes(0, 7), MakesMany(1, 4088)];
 
 // A round that comes to where objects leave is refused at the second: the first object has moved, and the others wait. Then the round ends, and
 // both are far.
@@ -126,11 +126,11 @@ const STOPPED: &[Act] = &[
     Near(0, Place { log: 2, at: 0 }, false),
     Leaving(1, Place { log: 0, at: 2 }),
     Leaving(2, Place { log: 0, at: 4 }),
-    Log(0, LogKind::Chosen, [32, 16, 976]),
+    Log(0, LogKind::Chosen, [32, 16, 4048]),
     Deals(9, [0, 2, 0, 1], true),
     Far(1),
     Far(2),
-    Counts(2, 2, 1040),
+    Counts(2, 2, 4112),
     Reads(0, 7),
     Reads(1, 0),
 ];
@@ -140,7 +140,7 @@ const STOPPED_ROUND: &[Act] = &[
     Far(1),
     Leaving(2, Place { log: 0, at: 4 }),
     Deals(9, [0, 1, 0, 1], true),
-    Counts(2, 2, 1040),
+    Counts(2, 2, 4112),
 ];
 
 // The round is given up, and the object that was refused is there.
@@ -149,7 +149,7 @@ const GIVEN_UP: &[Act] = &[
     DealsUntil(2, [1, 0, 0, 0], Refused::Memory),
     GivesUp(Ok(())),
     Near(1, Place { log: 0, at: 2 }, false),
-    Log(0, LogKind::Sealed, [32, 16, 976]),
+    Log(0, LogKind::Sealed, [32, 16, 4048]),
     Reads(0, 7),
     Reads(2, 0),
 ];
@@ -157,11 +157,11 @@ const GIVEN_UP: &[Act] = &[
 // Object 0 goes far by the one write that the device makes, comes near again to log 0, and object 2 fills log 2.
 const CAME_BACK: &[Act] = &[
     MakesMany(1, 8),
-    MakesMany(1, 1016),
+    MakesMany(1, 4088),
     Runs(Eldest, 1, 9, End::Done([0, 1, 0, 1])),
     Fetches(0),
     Clean(0, Place { log: 0, at: 0 }, false),
-    MakesMany(1, 1016),
+    MakesMany(1, 4088),
     Sealed(&[1, 0]),
 ];
 
@@ -177,7 +177,7 @@ const LEAVES_WRITTEN: &[Act] = &[
     Writes(0, 7),
     Runs(Named(&[0]), 1, 9, End::Done([1, 0, 0, 1])),
     Near(0, Place { log: 3, at: 0 }, false),
-    Counts(3, 0, 2064),
+    Counts(3, 0, 8208),
 ];
 
 /// A test: its name, after how many writes the device fails, how, and its parts.

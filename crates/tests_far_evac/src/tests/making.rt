@@ -7,7 +7,7 @@ use far_book::{Book, Home, Near, Plain};
 use far_core::{Core, Event, Reply, Shape};
 use far_device::{Device, MemDevice};
 use far_evac::Evac;
-use far_word::{LONGEST, Mark, Refused};
+use far_word::{CELLS, LONGEST, Mark, Refused};
 use std::alloc::Global;
 
 pub(super) const SMALL: Shape = Shape {
@@ -67,10 +67,13 @@ fn makes_many<D: Device + Drop>(evac: &mut Evac<Plain, D>, objects: u8, len: u16
     true
 }
 
-// Brings a far object near; false where it isn't far, or doesn't come.
+/// Brings a far object near; false where it isn't far, or doesn't come.
 #[tactic(auto, using(crate::proofs::Uses::far_home))]
-fn fetches<N: Near + Drop, D: Device + Drop>(evac: &mut Evac<N, D>, pointer: u16) -> bool {
-    if pointer as u64 >= 128 * evac.book().shape().mutators {
+pub(super) fn fetches<N: Near + Drop, D: Device + Drop>(
+    evac: &mut Evac<N, D>,
+    pointer: u16,
+) -> bool {
+    if pointer as u64 >= CELLS as u64 * evac.book().shape().mutators {
         return false;
     }
     let Some(Home::Far { .. }) = evac.locate(pointer) else {
@@ -82,7 +85,7 @@ fn fetches<N: Near + Drop, D: Device + Drop>(evac: &mut Evac<N, D>, pointer: u16
 // What a move answers that an owner has asked for.
 #[tactic(auto, using(crate::proofs::Uses::quiet_home))]
 fn moved<N: Near + Drop, D: Device + Drop>(evac: &mut Evac<N, D>, pointer: u16) -> Moved {
-    if pointer as u64 >= 128 * evac.book().shape().mutators {
+    if pointer as u64 >= CELLS as u64 * evac.book().shape().mutators {
         return Moved::NotAsked;
     }
     let Some(Home::Near { marks, .. }) = evac.locate(pointer) else {
@@ -98,9 +101,13 @@ fn moved<N: Near + Drop, D: Device + Drop>(evac: &mut Evac<N, D>, pointer: u16) 
     }
 }
 
+/// Retires a near object that is dropped; false where it is none.
 #[tactic(auto, using(crate::proofs::Uses::dropped_home))]
-fn retires<N: Near + Drop, D: Device + Drop>(evac: &mut Evac<N, D>, pointer: u16) -> bool {
-    if pointer as u64 >= 128 * evac.book().shape().mutators {
+pub(super) fn retires<N: Near + Drop, D: Device + Drop>(
+    evac: &mut Evac<N, D>,
+    pointer: u16,
+) -> bool {
+    if pointer as u64 >= CELLS as u64 * evac.book().shape().mutators {
         return false;
     }
     let Some(Home::Near { marks, .. }) = evac.locate(pointer) else {

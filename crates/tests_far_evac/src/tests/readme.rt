@@ -23,7 +23,7 @@ fn made(alloc: Global) -> Result<Evac<Plain, MemDevice>, Refused> {
 
 // The second object fills log 1, so that log 0 is sealed.
 fn places(evac: &mut Evac<Plain, MemDevice>) -> Result<(), Refused> {
-    for len in [8, 1016] {
+    for len in [8, 4088] {
         evac.keeps_law();
         let Some(pointer) = evac.book().free_cell(0) else {
             return Err(Refused::NoPointer);

@@ -10,7 +10,7 @@ use far_word::Refused;
 use std::test::Fail;
 
 const WITHOUT_A_ROUND: &[Act] = &[
-    MakesMany(3, 1016),
+    MakesMany(3, 4088),
     Notes,
     Marks(0, Err(Refused::Phase)),
     Marks(9, Err(Refused::Phase)),
@@ -23,7 +23,7 @@ const WITHOUT_A_ROUND: &[Act] = &[
 ];
 
 // A round of the first two of three full logs begins.
-const BEGUN: &[Act] = &[MakesMany(3, 1016), Selects(Eldest, 2, Ok(&[0, 1]))];
+const BEGUN: &[Act] = &[MakesMany(3, 4088), Selects(Eldest, 2, Ok(&[0, 1]))];
 
 const MARKING: &[Act] = &[
     Marks(1, Ok((1, None))),
@@ -51,7 +51,7 @@ const WAITING: &[Act] = &[
 ];
 
 const LEAVING: &[Act] = &[
-    MakesMany(3, 1016),
+    MakesMany(3, 4088),
     Runs(Eldest, 2, 2, End::Limit(Phase::Evacuating)),
     Notes,
     Selects(Eldest, 1, Err(Refused::Phase)),

@@ -25,19 +25,19 @@ const LARGEST: Shape = Shape {
 const COUNTED: u64 = 0x0807_0605_0403_0201;
 
 const ROOM_MADE: &[Act] = &[
-    MakesMany(2, 1016),
+    MakesMany(2, 4088),
     MakesNone(8),
     Drops(0),
     Runs(Eldest, 1, 9, End::Done([0, 0, 0, 1])),
     Makes(8, 0),
-    Log(0, LogKind::Open, [16, 0, 1008]),
+    Log(0, LogKind::Open, [16, 0, 4080]),
 ];
 
 // Of two objects in log 0 the one that was written moves, and the other goes far.
 const TWO_PART: &[Act] = &[
     MakesMany(2, 8),
     Writes(0, COUNTED),
-    MakesMany(1, 1016),
+    MakesMany(1, 4088),
     Runs(Eldest, 1, 9, End::Done([1, 1, 0, 1])),
     Near(0, Place { log: 2, at: 0 }, false),
     Far(1),
@@ -45,29 +45,29 @@ const TWO_PART: &[Act] = &[
 
 // Log 0 is free then, and log 2 has the object that moved. Both are read, and the far one is near again.
 const PARTED: &[Act] = &[
-    Log(0, LogKind::Free, [0, 0, 1024]),
-    Log(1, LogKind::Sealed, [1024, 0, 0]),
-    Log(2, LogKind::Open, [16, 0, 1008]),
-    Counts(2, 1, 1040),
+    Log(0, LogKind::Free, [0, 0, 4096]),
+    Log(1, LogKind::Sealed, [4096, 0, 0]),
+    Log(2, LogKind::Open, [16, 0, 4080]),
+    Counts(2, 1, 4112),
     Reads(0, COUNTED),
     Reads(1, 0),
     Clean(1, Place { log: 2, at: 2 }, true),
 ];
 
 const OPENED_ANEW: &[Act] = &[
-    MakesMany(3, 1016),
+    MakesMany(3, 4088),
     Opens,
     Views(1),
     Closes,
     Runs(Eldest, 2, 9, End::Done([1, 1, 0, 2])),
     Near(1, Place { log: 0, at: 0 }, false),
-    Log(0, LogKind::Open, [1024, 0, 0]),
+    Log(0, LogKind::Open, [4096, 0, 0]),
 ];
 
 // A round with no turn stands before its marking, and no other begins meanwhile; one more turn brings it to the next phase each time.
 const TURN_BY_TURN: &[Act] = &[
     MakesMany(1, 8),
-    MakesMany(1, 1016),
+    MakesMany(1, 4088),
     Runs(Eldest, 1, 0, End::Limit(Phase::Marking)),
     Runs(Eldest, 1, 9, End::Stopped([0, 0, 0, 0], Refused::Phase)),
     GivesUp(Ok(())),
@@ -80,7 +80,7 @@ const TURN_BY_TURN: &[Act] = &[
 const IN_TIME: &[Act] = &[
     Runs(Eldest, 1, 9, End::Nothing),
     MakesMany(1, 8),
-    MakesMany(1, 1016),
+    MakesMany(1, 4088),
     Runs(Eldest, 0, 9, End::Nothing),
     Runs(Eldest, 1, 3, End::Done([0, 1, 0, 1])),
     In(Phase::Idle),
@@ -88,7 +88,7 @@ const IN_TIME: &[Act] = &[
 
 const SIXTEEN: &[Act] = &[
     MakesMany(16, 48),
-    MakesMany(1, 1016),
+    MakesMany(1, 4088),
     Runs(Eldest, 1, 1, End::Limit(Phase::Waiting)),
     GivesUp(Ok(())),
     Runs(Eldest, 1, 3, End::Done([0, 16, 0, 1])),
@@ -96,7 +96,7 @@ const SIXTEEN: &[Act] = &[
 
 const SEVENTEEN: &[Act] = &[
     MakesMany(17, 48),
-    MakesMany(1, 1016),
+    MakesMany(1, 4088),
     Runs(Eldest, 1, 1, End::Limit(Phase::Marking)),
     GivesUp(Ok(())),
     Runs(Eldest, 1, 4, End::Limit(Phase::Evacuating)),
@@ -105,32 +105,32 @@ const SEVENTEEN: &[Act] = &[
 
 // The log of a dropped object waits in a round. It is given back where nothing is dealt with, and the log of a live one isn't.
 const DEAD_LOG: &[Act] = &[
-    MakesMany(3, 1016),
+    MakesMany(3, 4088),
     Drops(0),
     Runs(Eldest, 2, 2, End::Limit(Phase::Evacuating)),
-    Log(0, LogKind::Chosen, [0, 1024, 0]),
+    Log(0, LogKind::Chosen, [0, 4096, 0]),
     Deals(0, [0, 0, 0, 1], false),
-    Log(0, LogKind::Free, [0, 0, 1024]),
-    Log(1, LogKind::Chosen, [1024, 0, 0]),
+    Log(0, LogKind::Free, [0, 0, 4096]),
+    Log(1, LogKind::Chosen, [4096, 0, 0]),
     Deals(0, [0, 0, 0, 0], false),
     Deals(1, [0, 1, 0, 1], true),
-    Log(1, LogKind::Free, [0, 0, 1024]),
+    Log(1, LogKind::Free, [0, 0, 4096]),
 ];
 
 const ONE_RETIRED: &[Act] = &[
     MakesMany(2, 8),
-    MakesMany(1, 1016),
+    MakesMany(1, 4088),
     Runs(Eldest, 1, 2, End::Limit(Phase::Evacuating)),
     Asks(1, Mark::Dropped),
     Deals(1, [0, 1, 0, 0], false),
     Deals(1, [0, 0, 1, 1], true),
-    Counts(1, 1, 1024),
+    Counts(1, 1, 4096),
 ];
 
 // Objects 0 to 2 lie in log 0 and are hot, and 3 fills log 1.
 const THREE_HOT: &[Act] = &[
     MakesMany(3, 8),
-    MakesMany(1, 1016),
+    MakesMany(1, 4088),
     Writes(0, 1),
     Writes(1, 2),
     Writes(2, COUNTED),
@@ -140,9 +140,9 @@ const THREE_HOT: &[Act] = &[
 const THREE_ROUNDS: &[Act] = &[
     Runs(Eldest, 1, 9, End::Done([3, 0, 0, 1])),
     Runs(Eldest, 1, 9, End::Done([0, 1, 0, 1])),
-    MakesMany(1, 1016),
+    MakesMany(1, 4088),
     Runs(Eldest, 1, 9, End::Done([0, 3, 0, 1])),
-    Counts(1, 4, 1024),
+    Counts(1, 4, 4096),
 ];
 
 // All four come back with what was written.
@@ -151,14 +151,14 @@ const FOUR_READ: &[Act] = &[
     Reads(1, 2),
     Reads(2, COUNTED),
     Reads(3, 0),
-    Counts(5, 0, 2096),
+    Counts(5, 0, 8240),
 ];
 
 const ALL_LOGS: &[Act] = &[
-    MakesMany(63, 1016),
-    MakesNone(1016),
+    MakesMany(63, 4088),
+    MakesNone(4088),
     Runs(Eldest, 64, 9, End::Done([0, 62, 0, 62])),
-    Counts(1, 62, 1024),
+    Counts(1, 62, 4096),
 ];
 
 #[rattlefmt::skip]

@@ -6,7 +6,7 @@ use far_device::Device;
 use far_evac::{Census, Evac, EvacFault, LogKind, LogState, Marked, Progress, RoundEnd};
 use far_log::LogRow;
 use far_policy::{Chosen, LeastLive, Oldest, Policy, Scripted};
-use far_word::{Marks, Place, Refused};
+use far_word::{CELLS, Marks, Place, Refused};
 
 pub(super) const NO_MARKS: Marks = Marks {
     hot: false,
@@ -150,7 +150,7 @@ pub(super) fn home<N: Near + Drop, D: Device + Drop>(
     evac: &mut Evac<N, D>,
     pointer: u16,
 ) -> Option<Home> {
-    if (pointer as u64) < 128 * evac.book().shape().mutators {
+    if (pointer as u64) < CELLS as u64 * evac.book().shape().mutators {
         evac.locate(pointer)
     } else {
         None

@@ -14,7 +14,7 @@ const HOT_AND_LEAVING: u64 = 0xe600_0000_0001_0008;
 const LEAVING: u64 = 0xa600_0000_0001_0008;
 
 // Its owner views pointer 0, whose log is sealed.
-const VIEWED: &[Act] = &[MakesMany(1, 8), MakesMany(1, 1016), Opens, Views(0)];
+const VIEWED: &[Act] = &[MakesMany(1, 8), MakesMany(1, 4088), Opens, Views(0)];
 
 // A round of log 0 marks one object, and the epoch rises.
 const ONE_MARKED: &[Act] = &[Selects(Eldest, 1, Ok(&[0])), Marks(9, Ok((1, Some(1))))];
@@ -42,7 +42,7 @@ const ALONE: &[Act] = &[
 const EPOCH_READ: &[Act] = &[
     MakesMany(1, 8),
     Writes(0, 0xaa),
-    MakesMany(1, 1016),
+    MakesMany(1, 4088),
     ReadsEpoch(0),
 ];
 
@@ -63,7 +63,7 @@ const READ_LATE: &[Act] = &[Reads(0, 0xbb)];
 
 const MOVES_ITS_OWN: &[Act] = &[
     MakesMany(2, 8),
-    MakesMany(1, 1016),
+    MakesMany(1, 4088),
     Selects(Eldest, 1, Ok(&[0])),
     Marks(9, Ok((2, Some(1)))),
     Polls(Ok(Polled::Clear)),
@@ -75,7 +75,7 @@ const MOVES_ITS_OWN: &[Act] = &[
 
 // The first of two objects that are to leave is hot, and none is viewed.
 const HOT_LEAVES: &[Act] = &[
-    MakesMany(3, 1016),
+    MakesMany(3, 4088),
     Opens,
     Views(0),
     Closes,
@@ -88,12 +88,12 @@ const HOT_LEAVES: &[Act] = &[
 const NO_ROOM_FOR_IT: &[Act] = &[
     Opens,
     Views(1),
-    Log(3, LogKind::Open, [1024, 0, 0]),
+    Log(3, LogKind::Open, [4096, 0, 0]),
     Deals(9, [0, 1, 0, 2], true),
     Far(0),
 ];
 
-const SEALED: &[Act] = &[MakesMany(1, 8), MakesMany(1, 1016)];
+const SEALED: &[Act] = &[MakesMany(1, 8), MakesMany(1, 4088)];
 
 // The object was hot before it left, so it moves.
 const CLEAR_THOUGH_OPEN: &[Act] = &[

@@ -16,7 +16,7 @@ use std::marker::Brand;
 use std::sync::Wait;
 use std::thread::{Threads, join};
 
-/// How many objects there are, each of which takes 16 bytes.
+/// How many objects there are, each of which takes 64 bytes.
 const OBJECTS: u16 = 96;
 
 /// How many rounds are made at most, until one was seen between its turns.
@@ -141,10 +141,10 @@ fn look<K: HeapName>(book: &mut Evacuator<K, MemDevice>, told: &Told) {
 // Two rounds: the first moves what was viewed, the next sends it far. Before each a new object of a whole log is made and dropped, so that the log
 // before it is sealed.
 const SENT_FAR: &[Act] = &[
-    Makes(1016, Ok(OBJECTS)),
+    Makes(4088, Ok(OBJECTS)),
     Drops(OBJECTS, Ok(())),
     Runs(Eldest, 64, TURNS, End::Over),
-    Makes(1016, Ok(OBJECTS)),
+    Makes(4088, Ok(OBJECTS)),
     Drops(OBJECTS, Ok(())),
     Runs(Eldest, 64, TURNS, End::Over),
     Opens,
@@ -275,7 +275,7 @@ fn play<K: HeapName + Send + Sync, R: Threads + Wait + Sync>(
         Ok((heap, mut mutators)) => {
             let (signals, told) = (Signals::new(), Told::new());
             let mut stage = Stage::new(&heap, &signals, &mut mutators);
-            stage.does(rt, Fills(OBJECTS, 8)) && both(rt, &heap, &mut stage, &told, made)
+            stage.does(rt, Fills(OBJECTS, 56)) && both(rt, &heap, &mut stage, &told, made)
         }
         Err(_) => false,
     }

@@ -10,18 +10,18 @@ use far_word::Refused;
 
 // Three logs have an object each, and all are sealed.
 const THREE_LOGS: &[Act] = &[
-    Makes(1016, Ok(0)),
-    Makes(1016, Ok(1)),
-    Makes(1016, Ok(2)),
+    Makes(4088, Ok(0)),
+    Makes(4088, Ok(1)),
+    Makes(4088, Ok(2)),
     Makes(8, Ok(3)),
 ];
 
 // The round of the second log, which isn't the oldest, stands, and none of it was given back; the others are sealed and full. Then it is given up.
 const STANDS: &[Act] = &[
     Asked(1),
-    Log(1, LogKind::Chosen, [1024, 0, 0]),
-    Log(0, LogKind::Sealed, [1024, 0, 0]),
-    Log(2, LogKind::Sealed, [1024, 0, 0]),
+    Log(1, LogKind::Chosen, [4096, 0, 0]),
+    Log(0, LogKind::Sealed, [4096, 0, 0]),
+    Log(2, LogKind::Sealed, [4096, 0, 0]),
     GivesUp(Ok(())),
 ];
 
@@ -55,8 +55,8 @@ const CHOSEN_ALONE: &[Act] = &[
     Asked(1),
     In(Phase::Idle),
     Free(1),
-    Log(0, LogKind::Sealed, [1024, 0, 0]),
-    Log(2, LogKind::Sealed, [1024, 0, 0]),
+    Log(0, LogKind::Sealed, [4096, 0, 0]),
+    Log(2, LogKind::Sealed, [4096, 0, 0]),
     Near(0, (0, 0), false),
     Far(1, false),
     Near(2, (2, 0), false),

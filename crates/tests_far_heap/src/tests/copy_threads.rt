@@ -123,7 +123,7 @@ const COPIED: &[Act] = &[
     Near(0, (2, 0), false),
     Far(1, false),
     Free(0),
-    Counts(2, 1, 1040),
+    Counts(2, 1, 4112),
     Opens,
     Brings(0, EIGHT),
     Brings(1, ZEROS),
@@ -153,7 +153,7 @@ const GIVEN_UP: &[Act] = &[
 
 const TWO: &[Act] = &[
     Makes(8, Ok(0)),
-    Makes(1016, Ok(1)),
+    Makes(4088, Ok(1)),
     Opens,
     Writes(0, EIGHT),
     Closes,
@@ -163,7 +163,7 @@ const TWO: &[Act] = &[
 const DONE: &[Act] = &[
     Runs(Eldest, 1, 1_000_000, End::Done([1, 0, 0, 1])),
     Free(0),
-    Counts(2, 0, 1040),
+    Counts(2, 0, 4112),
     Opens,
     Brings(0, EIGHT),
     Brings(1, ZEROS),
@@ -183,7 +183,7 @@ fn an_exchange_may_be_lost(rt: HostRuntime) {
 }
 
 // So many objects fill six logs and a part of the next, and all are written.
-const NINETY_SIX: &[Act] = &[Fills(96, 64), Opens, Numbers(96), Closes];
+const NINETY_SIX: &[Act] = &[Fills(96, 280), Opens, Numbers(96), Closes];
 
 // A round of all sealed logs moves what lies there, since all of it was viewed; and all is viewed again.
 const ALL_MOVED: &[Act] = &[

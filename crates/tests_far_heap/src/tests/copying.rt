@@ -15,7 +15,7 @@ pub(super) const THREE: &[Act] = &[
     Opens,
     Writes(0, EIGHT),
     Closes,
-    Makes(1016, Ok(2)),
+    Makes(4088, Ok(2)),
 ];
 
 /// A round of that log comes to where its objects leave.
@@ -40,9 +40,9 @@ const NAMED: &[Act] = &[
     Near(0, (2, 0), false),
     Far(1, false),
     Free(0),
-    Log(1, LogKind::Sealed, [1024, 0, 0]),
-    Log(2, LogKind::Open, [16, 0, 1008]),
-    Counts(2, 1, 1040),
+    Log(1, LogKind::Sealed, [4096, 0, 0]),
+    Log(2, LogKind::Open, [16, 0, 4080]),
+    Counts(2, 1, 4112),
 ];
 
 // Both have their bytes.
@@ -105,7 +105,7 @@ const OVER: &[Act] = &[
     In(Phase::Idle),
     Near(0, (2, 2), true),
     Free(0),
-    Log(2, LogKind::Open, [16, 16, 992]),
+    Log(2, LogKind::Open, [16, 16, 4064]),
 ];
 
 #[test]
@@ -155,7 +155,7 @@ const OTHER_OBJECT: &[Act] = &[
     Deals(16, Ok([0, 0, 0, 1])),
     Free(0),
     Near(0, (2, 2), false),
-    Log(2, LogKind::Open, [16, 16, 992]),
+    Log(2, LogKind::Open, [16, 16, 4064]),
     Opens,
     Reads(0, ZEROS),
     Closes,
@@ -193,8 +193,8 @@ const GIVEN_UP: &[Act] = &[
     In(Phase::Idle),
     Near(0, (0, 0), true),
     Far(1, false),
-    Log(0, LogKind::Sealed, [16, 16, 992]),
-    Log(2, LogKind::Open, [0, 16, 1008]),
+    Log(0, LogKind::Sealed, [16, 16, 4064]),
+    Log(2, LogKind::Open, [0, 16, 4080]),
 ];
 
 const NOTHING_OFFERED: &[Act] = &[Works(0, Nowhere)];
@@ -211,7 +211,7 @@ const NAMED_AGAIN: &[Act] = &[
     Deals(16, Ok([1, 0, 0, 1])),
     Near(0, (2, 2), false),
     Free(0),
-    Log(2, LogKind::Open, [16, 16, 992]),
+    Log(2, LogKind::Open, [16, 16, 4064]),
 ];
 
 // A job that nobody has claimed is taken back where the round is given up.
@@ -290,7 +290,7 @@ const ANOTHER_COPIES: &[Act] = &[
     Works(1, Nowhere),
     DealsOn(16, [1, 0, 0, 0]),
     Near(0, (2, 2), false),
-    Log(0, LogKind::Chosen, [0, 32, 992]),
+    Log(0, LogKind::Chosen, [0, 32, 4064]),
     DealsOn(16, [0, 0, 0, 0]),
 ];
 

@@ -155,12 +155,12 @@ fn faulty_device(alloc: Global, before: u64, fault: Fault) -> Faulty {
 // The first object is written, and a round has moved it to log 2, which is sealed then.
 pub(super) const IN_LOG_TWO: &[Act] = &[
     Makes(8, Ok(0)),
-    Makes(1016, Ok(1)),
+    Makes(4088, Ok(1)),
     Opens,
     Writes(0, EIGHT),
     Closes,
     Runs(Eldest, 1, 9, End::Done([1, 0, 0, 1])),
-    Makes(1016, Ok(2)),
+    Makes(4088, Ok(2)),
 ];
 
 // A round of log 2 sends its object far.
@@ -200,7 +200,7 @@ const GOES_ON: &[Act] = &[
 const IS_GIVEN_UP: &[Act] = &[
     GivesUp(Ok(())),
     Near(0, (2, 0), false),
-    Log(2, LogKind::Sealed, [16, 0, 1008]),
+    Log(2, LogKind::Sealed, [16, 0, 4080]),
     Opens,
     Brings(0, EIGHT),
 ];
@@ -217,7 +217,7 @@ fn round_comes_out<R: Wait>(
     let stands = [
         Runs(Named(&[2]), 9, 9, End::Refused(why)),
         In(Phase::Evacuating),
-        Log(2, LogKind::Chosen, [16, 0, 1008]),
+        Log(2, LogKind::Chosen, [16, 0, 4080]),
     ];
     plays_over(rt, alloc, sized(4, 1), device, &[IN_LOG_TWO, &stands, end])
 }
@@ -238,10 +238,10 @@ const BACK_AGAIN: &[Act] = &[
     Brings(0, EIGHT),
     Clean(0, (2, 0), true),
     Closes,
-    Makes(1016, Ok(3)),
+    Makes(4088, Ok(3)),
     Runs(Named(&[2]), 1, 9, End::Done([1, 0, 0, 1])),
     Clean(0, (4, 0), false),
-    Makes(1016, Ok(4)),
+    Makes(4088, Ok(4)),
 ];
 
 // It goes far without a call, so that the third call reads it.
@@ -261,10 +261,10 @@ const WRITTEN_AGAIN: &[Act] = &[
     Writes(0, NINES),
     Near(0, (2, 0), true),
     Closes,
-    Makes(1016, Ok(3)),
+    Makes(4088, Ok(3)),
     Runs(Named(&[2]), 1, 9, End::Done([1, 0, 0, 1])),
     Near(0, (4, 0), false),
-    Makes(1016, Ok(4)),
+    Makes(4088, Ok(4)),
     Runs(Named(&[4]), 1, 9, End::Refused(Refused::Device)),
     Deals(9, Ok([0, 1, 0, 1])),
     Opens,

@@ -10,7 +10,7 @@ use far_evac::{Phase, Polled};
 // Six objects lie in the first log, and one fills the next; a round of the first has marked one object.
 const MARKING: &[Act] = &[
     Fills(6, 8),
-    Makes(1016, Ok(6)),
+    Makes(4088, Ok(6)),
     Selects(Eldest, 1, Ok(&[0])),
     Marks(1, Ok((1, None))),
 ];

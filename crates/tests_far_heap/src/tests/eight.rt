@@ -91,7 +91,7 @@ fn does_each<K: HeapName, R: Wait>(
     work: Work,
 ) -> bool {
     for cell in 0..objects {
-        let pointer = number.saturating_mul(128).saturating_add(cell);
+        let pointer = number.saturating_mul(256).saturating_add(cell);
         if !does_one(rt, hand, pointer, work) {
             return false;
         }
@@ -178,11 +178,11 @@ fn comes_out<R: Threads + Wait + Sync>(rt: &R, alloc: Global, plan: &Plan) -> bo
 const TWO_LOGS: Plan = Plan {
     logs: 2,
     objects: 1,
-    len: 120,
+    len: 504,
     book: &[
-        Log(0, LogKind::Open, [1024, 0, 0]),
-        Log(1, LogKind::Free, [0, 0, 1024]),
-        Counts(8, 0, 1024),
+        Log(0, LogKind::Open, [4096, 0, 0]),
+        Log(1, LogKind::Free, [0, 0, 4096]),
+        Counts(8, 0, 4096),
         Runs(Eldest, 2, 9, End::Nothing),
     ],
     why: Refused::NoRoom,
@@ -193,17 +193,17 @@ fn eight_mutators_in_two_logs(rt: HostRuntime) {
     assert!(rt; comes_out(&rt, rt.alloc(), &TWO_LOGS));
 }
 
-// All pointers are used; a round of all sealed logs moves or sends far all but the sixteen objects of the open log; the next sends objects far,
+// All pointers are used; a round of all sealed logs moves or sends far all but the 32 objects of the open log; the next sends objects far,
 // since nobody has viewed them meanwhile, and all are there; each mutator has its objects brought back.
 const MOST_LOGS: Plan = Plan {
     logs: 64,
-    objects: 128,
-    len: 48,
+    objects: 256,
+    len: 104,
     book: &[
-        Counts(1024, 0, 57_344),
-        Runs(Eldest, 64, 1000, End::Emptied(1008, 56)),
-        Runs(Eldest, 64, 1000, End::FarAbove(900)),
-        Has(1024),
+        Counts(2048, 0, 229_376),
+        Runs(Eldest, 64, 1000, End::Emptied(2016, 56)),
+        Runs(Eldest, 64, 1000, End::FarAbove(1800)),
+        Has(2048),
     ],
     why: Refused::NoPointer,
 };

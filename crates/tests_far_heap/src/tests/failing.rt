@@ -45,9 +45,9 @@ const ALL_THREE: &[Act] = &[
 
 // Three objects fill a log each, the first is viewed, and its owner's move of the second takes the last free log in a round of both.
 const HOT_THREE: &[Act] = &[
-    Makes(1016, Ok(0)),
-    Makes(1016, Ok(1)),
-    Makes(1016, Ok(2)),
+    Makes(4088, Ok(0)),
+    Makes(4088, Ok(1)),
+    Makes(4088, Ok(2)),
     Opens,
     Reads(0, ZEROS),
     Closes,

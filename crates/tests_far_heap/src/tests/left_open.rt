@@ -14,10 +14,10 @@ const LEFT_OPEN: &[Act] = &[
     Writes(0, EIGHT),
     LeavesOpen,
     Turns,
-    Makes(8, Ok(128)),
-    Makes(1016, Ok(129)),
+    Makes(8, Ok(256)),
+    Makes(4088, Ok(257)),
     Opens,
-    Writes(128, EIGHT),
+    Writes(256, EIGHT),
     Closes,
 ];
 
@@ -28,11 +28,11 @@ const FIRST_ROUND: &[Act] = &[
     Polls(Ok(Polled::StillOpen(0, 0))),
     Epoch(1),
     Opens,
-    IsSlow(128),
-    Brings(128, EIGHT),
+    IsSlow(256),
+    Brings(256, EIGHT),
     Closes,
-    Makes(8, Ok(130)),
-    Drops(129, Ok(())),
+    Makes(8, Ok(258)),
+    Drops(257, Ok(())),
 ];
 
 // The next round waits too.
@@ -44,7 +44,7 @@ const NEXT_ROUND: &[Act] = &[
     Epoch(2),
     GivesUp(Ok(())),
     Opens,
-    Reads(128, EIGHT),
+    Reads(256, EIGHT),
 ];
 
 #[test]

@@ -14,7 +14,7 @@ use far_word::Refused;
 const FLIPPED: &[Act] = &[
     Makes(1, Ok(0)),
     Has(1),
-    Makes(1016, Ok(1)),
+    Makes(4088, Ok(1)),
     Has(2),
     Runs(Eldest, 1, 9, End::Done([0, 1, 0, 1])),
     Has(2),
@@ -25,7 +25,7 @@ const FLIPPED: &[Act] = &[
     Closes,
     Has(2),
     Clean(0, (0, 0), true),
-    Log(0, LogKind::Open, [16, 0, 1008]),
+    Log(0, LogKind::Open, [16, 0, 4080]),
 ];
 
 // A view is refused once, and the object stays far.

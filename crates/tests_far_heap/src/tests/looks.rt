@@ -7,7 +7,7 @@ use far_device::{Device, MemDevice};
 use far_evac::{Census, LogKind, LogState};
 use far_heap::{Blank, Evacuator, HeapName};
 use far_log::LogRow;
-use far_word::{Marks, Place, Refused};
+use far_word::{CELLS, Marks, Place, Refused};
 use std::alloc::Global;
 use std::process::Abort;
 
@@ -48,7 +48,7 @@ pub(super) fn new_blank(rt: &impl Abort, alloc: Global, shape: Shape) -> Blank<M
 
 // Where a pointer's object is; `None` for a number that is no pointer's.
 fn home<K: HeapName, D: Device + Drop>(book: &mut Evacuator<K, D>, pointer: u16) -> Option<Home> {
-    if (pointer as u64) < 128 * book.shape().mutators {
+    if (pointer as u64) < CELLS as u64 * book.shape().mutators {
         book.locate(pointer)
     } else {
         None
@@ -160,7 +160,7 @@ fn bytes(census: &Census) -> (u64, bool) {
         let row = state.row;
         let placed = row.live.saturating_add(row.dead);
         live = live.saturating_add(row.live as u64);
-        whole = whole && placed.saturating_add(row.unused) == 1024;
+        whole = whole && placed.saturating_add(row.unused) == 4096;
     }
     (live, whole)
 }
@@ -223,7 +223,7 @@ pub(super) fn shows<K: HeapName, D: Device + Drop>(book: &mut Evacuator<K, D>, a
         Act::Far(pointer, hot) => is_far(book, pointer, hot),
         Act::Gone(pointer) => home(book, pointer).is_none(),
         Act::Log(log, kind, bytes) => is_log(book, log, kind, bytes),
-        Act::Free(log) => is_log(book, log, LogKind::Free, [0, 0, 1024]),
+        Act::Free(log) => is_log(book, log, LogKind::Free, [0, 0, 4096]),
         Act::Counts(near, far, live) => counts(book, near, far, live),
         Act::Has(objects) => has_objects(book, objects),
         _ => false,

@@ -16,7 +16,7 @@ const EIGHTEEN: &[Act] = &[
     Opens,
     Numbers(18),
     Closes,
-    Makes(1016, Ok(18)),
+    Makes(4088, Ok(18)),
 ];
 
 // There are sixteen jobs: the last two objects are moved at once.
@@ -39,7 +39,7 @@ const EIGHT_COPIED: &[Act] = &[
     DealsOn(99, [7, 0, 0, 0]),
     Near(0, (2, 0), false),
     Near(6, (2, 12), false),
-    Log(0, LogKind::Chosen, [144, 144, 736]),
+    Log(0, LogKind::Chosen, [144, 144, 3808]),
 ];
 
 // Each copies another one.
@@ -57,7 +57,7 @@ const ALL_COPIED: &[Act] = &[
     Deals(99, Ok([1, 0, 0, 1])),
     Free(0),
     Near(15, (2, 30), false),
-    Log(2, LogKind::Open, [288, 0, 736]),
+    Log(2, LogKind::Open, [288, 0, 3808]),
 ];
 
 const ALL_READ: &[Act] = &[Opens, HasNumbers(18), Closes, Has(19)];
@@ -111,9 +111,9 @@ fn a_few_are_offered_at_a_time(rt: HostRuntime) {
 
 // Three objects have a log each. The first is viewed, and its copy is offered; the round isn't done.
 const ONE_TAKEN: &[Act] = &[
-    Makes(1016, Ok(0)),
-    Makes(1016, Ok(1)),
-    Makes(1016, Ok(2)),
+    Makes(4088, Ok(0)),
+    Makes(4088, Ok(1)),
+    Makes(4088, Ok(2)),
     Opens,
     Writes(0, [7; 8]),
     Closes,
@@ -129,19 +129,19 @@ const LOST: &[Act] = &[
     Runs(Eldest, 9, 9, End::Refused(Refused::Phase)),
     GivesUp(Ok(())),
     Makes(8, Ok(3)),
-    Log(3, LogKind::Sealed, [0, 1024, 0]),
+    Log(3, LogKind::Sealed, [0, 4096, 0]),
     Runs(Eldest, 9, 9, End::Limit(Phase::Evacuating)),
     Free(1),
     Free(2),
-    Log(0, LogKind::Chosen, [1024, 0, 0]),
-    Log(3, LogKind::Chosen, [0, 1024, 0]),
+    Log(0, LogKind::Chosen, [4096, 0, 0]),
+    Log(3, LogKind::Chosen, [0, 4096, 0]),
     Works(1, Claimed),
     Ends(1, true),
     DealsOn(9, [1, 0, 0, 0]),
-    Log(0, LogKind::Chosen, [0, 1024, 0]),
-    Log(3, LogKind::Chosen, [0, 1024, 0]),
+    Log(0, LogKind::Chosen, [0, 4096, 0]),
+    Log(3, LogKind::Chosen, [0, 4096, 0]),
     GivesUp(Ok(())),
-    Counts(2, 2, 1040),
+    Counts(2, 2, 4112),
     Opens,
     Brings(0, [7; 8]),
 ];

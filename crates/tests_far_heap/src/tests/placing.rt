@@ -37,23 +37,23 @@ const MARKING: &[Act] = &[
 
 const LEAVING: &[Act] = &[Polls(Ok(Polled::Clear)), In(Phase::Evacuating)];
 
-// Three logs have no room for 33 objects of 56 bytes each in two; all others of the first log are marked then.
+// Three logs have no room for 33 objects of 248 bytes each in two; all others of the first log are marked then.
 const NO_ROOM_LEFT: &[Act] = &[
-    Fills(32, 56),
-    Makes(56, Err(Refused::NoRoom)),
+    Fills(32, 248),
+    Makes(248, Err(Refused::NoRoom)),
     In(Phase::Idle),
 ];
 
 const ROOMLESS_WAITING: &[Act] = &[Marks(64, Ok((15, Some(1)))), In(Phase::Waiting)];
 
-// Two logs hold 128 objects of a byte, and there is no pointer more.
+// Two logs hold 256 objects of 24 bytes, and there is no pointer more.
 const NO_POINTER_LEFT: &[Act] = &[
-    Fills(128, 1),
-    Makes(1, Err(Refused::NoPointer)),
+    Fills(256, 24),
+    Makes(24, Err(Refused::NoPointer)),
     In(Phase::Idle),
 ];
 
-const POINTERLESS_WAITING: &[Act] = &[Marks(64, Ok((63, Some(1)))), In(Phase::Waiting)];
+const POINTERLESS_WAITING: &[Act] = &[Marks(128, Ok((127, Some(1)))), In(Phase::Waiting)];
 
 // In each phase of a round.
 #[test]
@@ -95,7 +95,7 @@ const PLACED_IDLE: &[Act] = &[
     Makes(9, Ok(1)),
     Closes,
     OneMore(24),
-    Makes(1016, Ok(2)),
+    Makes(4088, Ok(2)),
 ];
 
 // The same while a round marks.

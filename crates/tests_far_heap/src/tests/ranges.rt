@@ -35,6 +35,25 @@ fn ranges_end_with_the_object(rt: HostRuntime) {
     assert!(rt; plays(&rt, rt.alloc(), sized(4, 1), &[TWELVE, PAST_TWELVE]));
 }
 
+// The last bytes of the longest object are read and written as the first ones are.
+const LAST_BYTES: &[Act] = &[
+    Makes(4088, Ok(0)),
+    Opens,
+    Keeps(0),
+    Kept(0, 4088),
+    WritesAt(4080, &EIGHT),
+    WritesAt(4087, &[9]),
+    ReadsAt(4075, &[0, 0, 0, 0, 0, 1, 2, 3, 4, 5, 6, 7, 9]),
+    Reads(0, ZEROS),
+    Bars(4080, 9, Refused::Range),
+    Bars(4088, 1, Refused::Range),
+];
+
+#[test]
+fn the_longest_object_is_read_to_its_end(rt: HostRuntime) {
+    assert!(rt; plays(&rt, rt.alloc(), sized(4, 1), &[LAST_BYTES]));
+}
+
 // A view of a scope that is closed then.
 const EARLIER_VIEW: &[Act] = &[Makes(8, Ok(0)), Opens, Keeps(0), Closes];
 

@@ -37,17 +37,17 @@ fn a_shape_is_in_range(rt: HostRuntime) {
     assert!(rt; has_heap(&rt, 2, 1, 0) && has_heap(&rt, 64, 8, (1 << 62) - 1));
 }
 
-// Two logs are full of one mutator's objects of a byte, which take two words each, and all its pointers are used.
+// Two logs are full of one mutator's objects of 24 bytes, which take four words each, and all its pointers are used.
 const TWO_FULL_LOGS: &[Act] = &[
-    Fills(128, 1),
-    Log(0, LogKind::Sealed, [1024, 0, 0]),
-    Log(1, LogKind::Open, [1024, 0, 0]),
+    Fills(256, 24),
+    Log(0, LogKind::Sealed, [4096, 0, 0]),
+    Log(1, LogKind::Open, [4096, 0, 0]),
 ];
 
 // Lengths out of range are refused, whatever else is wanting.
 const BAD_LENGTHS: &[Act] = &[
     Makes(0, Err(Refused::Length)),
-    Makes(1017, Err(Refused::Length)),
+    Makes(4089, Err(Refused::Length)),
     Makes(u16::MAX, Err(Refused::Length)),
 ];
 
@@ -62,7 +62,7 @@ const NO_ROOM: &[Act] = &[
     Turns,
     Opens,
     Makes(0, Err(Refused::Length)),
-    Makes(1017, Err(Refused::Length)),
+    Makes(4089, Err(Refused::Length)),
     Makes(1, Err(Refused::NoRoom)),
 ];
 
@@ -76,10 +76,10 @@ fn a_new_object_is_refused_in_order(rt: HostRuntime) {
 const ONE_FOR_EACH: &[Act] = &[
     Makes(8, Ok(0)),
     Turns,
-    Makes(8, Ok(128)),
+    Makes(8, Ok(256)),
     Turns,
     Drops(1, Err(Refused::NotHeld)),
-    Drops(128, Err(Refused::NotHeld)),
+    Drops(256, Err(Refused::NotHeld)),
     Drops(u16::MAX, Err(Refused::NotHeld)),
 ];
 
@@ -91,13 +91,13 @@ const DROPPED_OBJECTS: &[Act] = &[
     Drops(0, Err(Refused::Held)),
     Reads(0, ZEROS),
     Drops(2, Err(Refused::NotHeld)),
-    Drops(128, Err(Refused::NotHeld)),
+    Drops(256, Err(Refused::NotHeld)),
     Drops(1, Ok(())),
     Drops(1, Err(Refused::NotHeld)),
     Closes,
     Drops(0, Ok(())),
     Drops(0, Err(Refused::NotHeld)),
-    Log(0, LogKind::Open, [16, 32, 976]),
+    Log(0, LogKind::Open, [16, 32, 4048]),
 ];
 
 #[test]
@@ -116,8 +116,8 @@ fn a_drop_is_refused_in_order(rt: HostRuntime) {
 const UNHELD_OBJECTS: &[Act] = &[
     Opens,
     Lacks(1),
-    Lacks(128),
-    Lacks(1024),
+    Lacks(256),
+    Lacks(2048),
     Lacks(u16::MAX),
     Tells(0, Some(8), Some(1)),
     Drops(0, Ok(())),
@@ -139,10 +139,10 @@ fn an_unheld_pointer_has_no_view(rt: HostRuntime) {
 // An object is far, and all room but the log that is kept back is taken.
 const FILLED_UP: &[Act] = &[
     Makes(8, Ok(0)),
-    Makes(1016, Ok(1)),
+    Makes(4088, Ok(1)),
     Runs(Eldest, 1, 9, End::Done([0, 1, 0, 1])),
-    Makes(1016, Ok(2)),
-    Makes(1016, Ok(3)),
+    Makes(4088, Ok(2)),
+    Makes(4088, Ok(3)),
     Makes(8, Err(Refused::NoRoom)),
 ];
 

@@ -10,7 +10,7 @@ use far_evac::{LogKind, Phase, Polled};
 use far_word::Refused;
 
 // A small object in the first log, and one that fills the next.
-const FIRST_SEALED: &[Act] = &[Makes(8, Ok(0)), Makes(1016, Ok(1))];
+const FIRST_SEALED: &[Act] = &[Makes(8, Ok(0)), Makes(4088, Ok(1))];
 
 // Nothing can be done but to select logs.
 const IDLE: &[Act] = &[
@@ -88,7 +88,7 @@ const BAD_CHOICES: &[Act] = &[
     Runs(Named(&[0, 64]), 9, 9, End::Refused(Refused::BadChoice(64))),
 ];
 
-const STILL_SEALED: &[Act] = &[Log(0, LogKind::Sealed, [16, 0, 1008])];
+const STILL_SEALED: &[Act] = &[Log(0, LogKind::Sealed, [16, 0, 4080])];
 
 #[test]
 fn a_bad_script_begins_no_round(rt: HostRuntime) {

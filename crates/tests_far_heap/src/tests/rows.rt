@@ -13,7 +13,7 @@ const NEW_OBJECT: &[Act] = &[
     Makes(8, Ok(0)),
     Opens,
     Reads(0, ZEROS),
-    Log(0, LogKind::Open, [16, 0, 1008]),
+    Log(0, LogKind::Open, [16, 0, 4080]),
     Free(1),
     Free(2),
     Free(3),
@@ -26,7 +26,7 @@ const PLAIN_ROUND: &[Act] = &[
     Opens,
     Writes(0, EIGHT),
     Closes,
-    Makes(1016, Ok(2)),
+    Makes(4088, Ok(2)),
     Runs(Eldest, 1, 9, End::Done([1, 1, 0, 1])),
 ];
 
@@ -35,9 +35,9 @@ const AFTER_ROUND: &[Act] = &[
     Near(0, (2, 0), false),
     Far(1, false),
     Free(0),
-    Log(1, LogKind::Sealed, [1024, 0, 0]),
-    Log(2, LogKind::Open, [16, 0, 1008]),
-    Counts(2, 1, 1040),
+    Log(1, LogKind::Sealed, [4096, 0, 0]),
+    Log(2, LogKind::Open, [16, 0, 4080]),
+    Counts(2, 1, 4112),
 ];
 
 // Both can be read again, the far one slowly, and this is near then; once it is dropped, its cell is used again.
@@ -50,13 +50,13 @@ const BROUGHT_BACK: &[Act] = &[
     Clean(1, (2, 2), true),
     Closes,
     Drops(1, Ok(())),
-    Makes(1016, Ok(1)),
+    Makes(4088, Ok(1)),
 ];
 
 // A round waits for a scope that was open before it, and moves the object that was viewed.
 const WAITING_ROUND: &[Act] = &[
     Makes(8, Ok(0)),
-    Makes(1016, Ok(1)),
+    Makes(4088, Ok(1)),
     Opens,
     Reads(0, ZEROS),
     Selects(Eldest, 1, Ok(&[0])),
@@ -83,9 +83,9 @@ fn heap_rows(rt: HostRuntime) {
 
 // The owner's own move takes the last free log, so that a round of the first two logs has no room for a viewed object, which goes far.
 const HOT_ROUND: &[Act] = &[
-    Makes(1016, Ok(0)),
-    Makes(1016, Ok(1)),
-    Makes(1016, Ok(2)),
+    Makes(4088, Ok(0)),
+    Makes(4088, Ok(1)),
+    Makes(4088, Ok(2)),
     Opens,
     Reads(0, ZEROS),
     Closes,
@@ -107,7 +107,7 @@ fn a_viewed_object_without_room_goes_far(rt: HostRuntime) {
 // One step finds the word of a marked object, and a view has the object moved; the round has nothing to do then but to give the log back.
 const MARKED_OBJECT: &[Act] = &[
     Makes(8, Ok(0)),
-    Makes(1016, Ok(1)),
+    Makes(4088, Ok(1)),
     Opens,
     Writes(0, EIGHT),
     Closes,

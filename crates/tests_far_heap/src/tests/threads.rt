@@ -172,7 +172,7 @@ fn read_under_held_book(rt: HostRuntime) {
 
 // A round may retire an object between its owner's mark and the lock; another is made at its pointer then.
 const DROPPED_BESIDE: Duet = Duet {
-    before: &[Makes(8, Ok(0)), Makes(1016, Ok(1))],
+    before: &[Makes(8, Ok(0)), Makes(4088, Ok(1))],
     beside: Beside::HoldsTillDropped(&[
         Selects(Eldest, 1, Ok(&[0])),
         Marks(9, Ok((1, Some(1)))),
@@ -190,7 +190,7 @@ fn a_round_may_retire_what_is_dropped(rt: HostRuntime) {
 
 // A round that waits for a scope, which stays open, is refused once another thread has ended it.
 const ENDED_ROUND: Duet = Duet {
-    before: &[Makes(8, Ok(0)), Makes(1016, Ok(1)), Opens],
+    before: &[Makes(8, Ok(0)), Makes(4088, Ok(1)), Opens],
     beside: Beside::GivesUpWaiting,
     acts: &[Runs(Eldest, 1, 1_000_000_000, End::Refused(Refused::Phase))],
     after: &[Reads(0, ZEROS)],

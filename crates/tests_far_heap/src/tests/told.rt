@@ -8,11 +8,11 @@ use crate::tests::stage::plays;
 // Two new objects of different lengths and data structures are told as they were made.
 const TOLD_OBJECTS: &[Act] = &[
     MakesOf(24, 255, 0),
-    MakesOf(1016, 0, 1),
+    MakesOf(4088, 0, 1),
     Tells(0, Some(24), Some(255)),
-    Tells(1, Some(1016), Some(0)),
+    Tells(1, Some(4088), Some(0)),
     Tells(2, None, None),
-    Tells(128, None, None),
+    Tells(256, None, None),
     Tells(u16::MAX, None, None),
 ];
 
@@ -20,8 +20,8 @@ const TOLD_OBJECTS: &[Act] = &[
 const TOLD_IN_SCOPE: &[Act] = &[
     Opens,
     Tells(0, Some(24), Some(255)),
-    Tells(1, Some(1016), Some(0)),
-    Tells(128, None, None),
+    Tells(1, Some(4088), Some(0)),
+    Tells(256, None, None),
     Drops(0, Ok(())),
     Tells(0, None, None),
     MakesOf(8, 7, 0),

@@ -120,7 +120,7 @@ fn outgrows<K: HeapName, R: Wait>(
 ) -> bool {
     let (mut mutator, kept) = in_a_scope(rt, mutator);
     for _ in 0..6u8 {
-        if alloc_with_rounds(rt, heap, &mut mutator, 1016).is_err() {
+        if alloc_with_rounds(rt, heap, &mut mutator, 4088).is_err() {
             return false;
         }
     }
@@ -224,7 +224,7 @@ fn over_a_device<K: HeapName, R: Wait>(
     let Some(mut mutator) = mutators.pop() else {
         return false;
     };
-    let made = mutator.alloc(rt, 8, 1).is_ok() && mutator.alloc(rt, 1016, 1).is_ok();
+    let made = mutator.alloc(rt, 8, 1).is_ok() && mutator.alloc(rt, 4088, 1).is_ok();
     made && round_past_failures(rt, &heap).is_ok()
 }
 
@@ -263,7 +263,7 @@ fn moves_beside<K: HeapName, R: Wait>(
     over: &AtomicU64,
 ) -> bool {
     let (mut mutator, kept) = in_a_scope(rt, mutator);
-    let made = mutator.alloc(rt, 1016, 1);
+    let made = mutator.alloc(rt, 4088, 1);
     let ended = heap.run_round(rt, &mut Oldest, 1, 1_000_000);
     over.store(1, Ordering::SeqCst);
     let mut scope = mutator.open();

@@ -162,11 +162,11 @@ fn closed_by_lend<K: HeapName, R: Wait>(
         mutator.open(),
         |scope: &mut Scope<K, MemDevice>| -> Result<u16, Refused> {
             let seen = scope.view(rt, view.pointer())?;
-            let other = scope.view(rt, 127)?;
+            let other = scope.view(rt, 255)?;
             scope.read_u16::<BigEndian>(&seen, other.len())
         },
     );
-    let filler = mutator.alloc(rt, 1016, 1).is_ok();
+    let filler = mutator.alloc(rt, 4088, 1).is_ok();
     let round = heap.run_round(rt, &mut Oldest, 1, 1000);
     let ended = matches!(round, Ok(RoundEnd::Done(done)) if done.moved == 1);
     refused == Err(Refused::NotHeld)

@@ -14,7 +14,7 @@ const TRIES: u16 = 1000;
 /// How many objects a writer has, and how long they are.
 const OBJECTS: usize = 16;
 
-const BYTES: u16 = 64;
+const BYTES: u16 = 280;
 
 /// An object, and the byte that it was filled with last.
 #[derive(Clone, Copy)]

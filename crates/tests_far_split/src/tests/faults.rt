@@ -20,7 +20,7 @@ write 0 0 0 0a
 read 0 0 0 1
 audit
 open 1
-read 1 128 0 1
+read 1 256 0 1
 round oldest 1 9
 log 9
 ";

@@ -10,7 +10,7 @@ const B: u8 = THE_BOOK;
 const LEFT_OPEN: &str = "\
 heap 4 2
 new 0 8 1
-new 1 1016 1
+new 1 4088 1
 open 0
 view 0 0
 round oldest 1 100000
@@ -23,7 +23,7 @@ pointer 0
 ok
 ok
 mutator 1
-pointer 128
+pointer 256
 book
 round limit waiting
 refused 12
@@ -39,9 +39,9 @@ fn a_scope_left_open_stays_open(rt: HostRuntime) {
 // Three logs are sealed, with an object each. A round is of one of them, and the next of the two that are left.
 const ROUNDS: &str = "\
 heap 6 1
-new 0 1016 1
-new 0 1016 1
-new 0 1016 1
+new 0 4088 1
+new 0 4088 1
+new 0 4088 1
 new 0 8 1
 round oldest 1 9
 audit
@@ -60,9 +60,9 @@ pointer 2
 pointer 3
 book
 round done moved 0 far 1 dropped 0 freed 1
-audit near 3 far 1 live 2064
-log 0 free live 0 dead 0 unused 1024
-log 1 sealed live 1024 dead 0 unused 0
+audit near 3 far 1 live 8208
+log 0 free live 0 dead 0 unused 4096
+log 1 sealed live 4096 dead 0 unused 0
 round done moved 0 far 2 dropped 0 freed 2
 audit near 1 far 3 live 16
 round none

@@ -31,7 +31,7 @@ new 0 8 1
 open 0
 write 0 0 0 0102030405060708
 close 0
-new 0 1016 1
+new 0 4088 1
 round oldest 1 9
 log 0
 log 1
@@ -61,14 +61,14 @@ data 0000000000000000
 ok
 book
 round done moved 1 far 1 dropped 0 freed 1
-log 0 free live 0 dead 0 unused 1024
-log 1 sealed live 1024 dead 0 unused 0
-log 2 open live 16 dead 0 unused 1008
-audit near 2 far 1 live 1040
-log 0 free live 0 dead 0 unused 1024
-log 1 sealed live 1024 dead 0 unused 0
-log 2 open live 32 dead 0 unused 992
-log 3 free live 0 dead 0 unused 1024
+log 0 free live 0 dead 0 unused 4096
+log 1 sealed live 4096 dead 0 unused 0
+log 2 open live 16 dead 0 unused 4080
+audit near 2 far 1 live 4112
+log 0 free live 0 dead 0 unused 4096
+log 1 sealed live 4096 dead 0 unused 0
+log 2 open live 32 dead 0 unused 4064
+log 3 free live 0 dead 0 unused 4096
 round none
 ",
 };
@@ -78,9 +78,9 @@ const NO_ROOM: Row = Row {
     text: "\
 heap 3 1
 new 0 8 1
-new 0 1016 1
+new 0 4088 1
 round oldest 1 9
-new 0 1016 1
+new 0 4088 1
 open 0
 read 0 0 0 9
 read 0 0 0 8
@@ -105,7 +105,7 @@ refused 14 4400000000010008
 refused 2
 book
 round done moved 0 far 1 dropped 0 freed 1
-audit near 2 far 1 live 2048
+audit near 2 far 1 live 8192
 ",
 };
 
@@ -114,7 +114,7 @@ const WAITING: Row = Row {
     text: "\
 heap 4 2
 new 0 8 1
-new 1 1016 1
+new 1 4088 1
 open 0
 view 0 0
 round oldest 1 9
@@ -134,11 +134,11 @@ ok
 ok
 ok
 mutator 1
-pointer 128
+pointer 256
 book
 round limit waiting
 refused 12
-log 0 chosen live 16 dead 0 unused 1008
+log 0 chosen live 16 dead 0 unused 4080
 refused 8
 refused 8
 ",
@@ -149,7 +149,7 @@ const LAST_EPOCH: Row = Row {
     text: "\
 heap 4 1 4611686018427387903
 new 0 8 1
-new 0 1016 1
+new 0 4088 1
 round oldest 1 9
 ",
     order: &[0, 0, B],
@@ -172,7 +172,7 @@ new 0 8 1
 open 0
 write 0 0 0 0102030405060708
 close 0
-new 0 1016 1
+new 0 4088 1
 round oldest 1 9
 log 0
 audit
@@ -195,8 +195,8 @@ data 0102030405060708
 data 0000000000000000
 book
 refused 10 moved 1 far 0 dropped 0 freed 0
-log 0 chosen live 16 dead 16 unused 992
-audit near 3 far 0 live 1056
+log 0 chosen live 16 dead 16 unused 4064
+audit near 3 far 0 live 4128
 refused 12
 ",
 };
@@ -212,7 +212,7 @@ new 0 8 1
 open 0
 write 0 0 0 0102030405060708
 close 0
-new 0 1016 1
+new 0 4088 1
 round oldest 1 9
 log 0
 audit
@@ -238,12 +238,12 @@ refused 14 a600000004010008
 data 0102030405060708
 book
 refused 10 moved 1 far 1 dropped 0 freed 0
-log 0 chosen live 16 dead 32 unused 976
-audit near 3 far 1 live 1056
-log 0 chosen live 16 dead 32 unused 976
-log 1 sealed live 1024 dead 0 unused 0
-log 2 open live 32 dead 0 unused 992
-log 3 free live 0 dead 0 unused 1024
+log 0 chosen live 16 dead 32 unused 4048
+audit near 3 far 1 live 4128
+log 0 chosen live 16 dead 32 unused 4048
+log 1 sealed live 4096 dead 0 unused 0
+log 2 open live 32 dead 0 unused 4064
+log 3 free live 0 dead 0 unused 4096
 ",
 };
 
@@ -253,7 +253,7 @@ const FAILS_TO_FETCH: Row = Row {
 heap 4 1
 device fail 2
 new 0 8 1
-new 0 1016 1
+new 0 4088 1
 round oldest 1 9
 open 0
 read 0 0 0 8
@@ -270,7 +270,7 @@ refused 10
 data 0000000000000000
 book
 round done moved 0 far 1 dropped 0 freed 1
-audit near 2 far 0 live 1040
+audit near 2 far 0 live 4112
 ",
 };
 
@@ -280,7 +280,7 @@ const READS_SHORT: Row = Row {
 heap 4 1
 device short 1
 new 0 8 1
-new 0 1016 1
+new 0 4088 1
 round oldest 1 9
 open 0
 read 0 0 0 8
@@ -297,7 +297,7 @@ refused 11
 data 0000000000000000
 book
 round done moved 0 far 1 dropped 0 freed 1
-audit near 2 far 0 live 1040
+audit near 2 far 0 live 4112
 ",
 };
 
@@ -312,20 +312,20 @@ open 0
 write 0 0 0 0102030405060708
 close 0
 open 1
-write 1 128 0 a1a2a3a4a5a6a7a8a9
+write 1 256 0 a1a2a3a4a5a6a7a8a9
 close 1
-new 0 1016 1
+new 0 4088 1
 round oldest 1 9
-new 1 1016 1
+new 1 4088 1
 round oldest 2 9
 round oldest 2 9
 open 0
 open 1
 read 0 0 0 8
-view 1 128
-try 1 128
-write 1 128 8 ff
-read 1 128 0 9
+view 1 256
+try 1 256
+write 1 256 8 ff
+read 1 256 0 9
 read 0 0 0 8
 ",
     order: &[
@@ -342,11 +342,11 @@ ok
 data 0102030405060708
 data 0102030405060708
 mutator 1
-pointer 128
+pointer 256
 ok
 ok
 ok
-pointer 129
+pointer 257
 ok
 refused 11
 refused 14 4400000000010009
@@ -369,7 +369,7 @@ new 0 8 1
 open 0
 write 0 0 0 0102030405060708
 close 0
-new 0 1016 1
+new 0 4088 1
 round oldest 1 9
 open 0
 read 0 1 0 8
@@ -408,7 +408,7 @@ const NEVER_LIES: Row = Row {
 heap 4 1
 device flip 0
 new 0 8 1
-new 0 1016 1
+new 0 4088 1
 round oldest 1 9
 open 0
 read 0 0 0 8

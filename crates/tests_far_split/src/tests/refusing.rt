@@ -57,17 +57,17 @@ new 0 0 256
   refused 8
 new 0 8 256
   refused 8
-new 0 1017 18446744073709551615
+new 0 4089 18446744073709551615
   refused 8
 new 0 0 255
   refused 4
-new 0 1017 0
+new 0 4089 0
   refused 4
 new 0 18446744073709551615 1
   refused 4
 new 0 65537 1
   refused 4
-new 0 1016 1
+new 0 4088 1
   pointer 0
 new 0 0 256
   refused 8
@@ -75,7 +75,7 @@ new 0 0 1
   refused 4
 new 0 8 1
   refused 2
-new 0 1016 1
+new 0 4088 1
   refused 2
 drop 0 0
   ok
@@ -83,17 +83,17 @@ new 0 8 1
   refused 2
 ";
 
-// A text that makes 128 objects, and more after some are dropped, and what is printed.
+// A text that makes 256 objects, and more after some are dropped, and what is printed.
 fn many_pointers(alloc: Global) -> Result<(String, String), AllocError> {
     let mut text = String::new(alloc);
     let mut wanted = String::new(alloc);
-    text.push_str("heap 3 1\n")?;
+    text.push_str("heap 2 1\n")?;
     wanted.push_str("mutator 0\n")?;
-    for pointer in 0..128u64 {
+    for pointer in 0..256u64 {
         text.push_str("new 0 1 1\n")?;
         wanted.push_str(&format!(in alloc; "pointer {pointer}\n")?)?;
     }
-    text.push_str("new 0 1 1\nnew 0 0 1\ndrop 0 9\nnew 0 1017 1\nnew 0 1 1\nnew 0 1 1\n")?;
+    text.push_str("new 0 1 1\nnew 0 0 1\ndrop 0 9\nnew 0 4089 1\nnew 0 1 1\nnew 0 1 1\n")?;
     wanted.push_str("refused 3\nrefused 4\nok\nrefused 4\nrefused 2\nrefused 2\nbook\n")?;
     Ok((text, wanted))
 }
@@ -106,7 +106,7 @@ fn a_mutator_has_so_many_pointers(rt: HostRuntime) {
     assert!(rt; prints(&rt, rt.alloc(), &text, &NoGate, &wanted));
 }
 
-// Another mutator has pointer 128.
+// Another mutator has pointer 256.
 const SCOPES: &str = "\
 new 1 8 1
 new 0 8 1
@@ -147,7 +147,7 @@ open 0
   ok
 read 0 1 0 1
   refused 7
-read 0 128 9 0
+read 0 256 9 0
   refused 7
 read 0 18446744073709551615 0 1
   refused 7
@@ -155,13 +155,13 @@ write 0 65536 9 ff
   refused 7
 view 0 1
   refused 7
-view 0 128
+view 0 256
   refused 7
-try 0 127
+try 0 255
   refused 7
-try 0 1024
+try 0 2048
   refused 7
-drop 0 128
+drop 0 256
   refused 7
 drop 0 1
   refused 7
@@ -191,7 +191,7 @@ const VIEWS: &str = "\
 new 1 8 1
 new 0 9 1
   pointer 0
-new 0 1016 255
+new 0 4088 255
   pointer 1
 open 0
   ok
@@ -231,9 +231,9 @@ read 0 0 0 8
 const TALKS: [(&str, &str, &str); 4] = [
     // There are two logs: the second is kept free for rounds.
     ("heap 2 1\n", NEW, "book\n"),
-    ("heap 8 2\n", SCOPES, "mutator 1\npointer 128\nbook\n"),
-    ("heap 8 2\n", POINTERS, "mutator 1\npointer 128\nbook\n"),
-    ("heap 8 2\n", VIEWS, "mutator 1\npointer 128\nbook\n"),
+    ("heap 8 2\n", SCOPES, "mutator 1\npointer 256\nbook\n"),
+    ("heap 8 2\n", POINTERS, "mutator 1\npointer 256\nbook\n"),
+    ("heap 8 2\n", VIEWS, "mutator 1\npointer 256\nbook\n"),
 ];
 
 #[test]

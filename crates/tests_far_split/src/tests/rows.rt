@@ -18,7 +18,7 @@ open 0
 write 0 0 0 0a
 read 0 0 0 1
 open 1
-read 1 128 0 1
+read 1 256 0 1
 ";
 
 /// What a run of them prints.
@@ -29,7 +29,7 @@ ok
 ok
 data 0a
 mutator 1
-pointer 128
+pointer 256
 ok
 data 00
 book
@@ -82,7 +82,7 @@ fn is_first(told: &Replies) -> bool {
 
 fn is_second(told: &Replies) -> bool {
     told.len() == 3
-        && is_pointer(&told.at(0), 128)
+        && is_pointer(&told.at(0), 256)
         && is_done(&told.at(1))
         && is_byte(&told.at(2), 0)
 }
@@ -105,7 +105,7 @@ fn replies_have_types(rt: HostRuntime) {
 
 // Whether a log of an empty heap is told: it has nothing.
 fn is_unused(line: LogLine, log: u8) -> bool {
-    line.log == log && line.live == 0 && line.dead == 0 && line.unused == 1024
+    line.log == log && line.live == 0 && line.dead == 0 && line.unused == 4096
 }
 
 fn are_unused(told: &Told<'_>, first: u8, count: usize) -> bool {
@@ -152,7 +152,7 @@ fn the_books_replies_have_types(rt: HostRuntime) {
 // What each of eight mutators asks, and the book beside it: M is its number, P that of its first pointer.
 const LINES: &str = "\
 new M 8 1
-new M 1016 2
+new M 4088 2
 open M
 write M P 0 0102030405060M
 close M
@@ -180,13 +180,13 @@ ok
 // The number of each mutator, and those of its two pointers.
 const EIGHT: [(&str, &str, &str); 8] = [
     ("0", "0", "1"),
-    ("1", "128", "129"),
-    ("2", "256", "257"),
-    ("3", "384", "385"),
-    ("4", "512", "513"),
-    ("5", "640", "641"),
-    ("6", "768", "769"),
-    ("7", "896", "897"),
+    ("1", "256", "257"),
+    ("2", "512", "513"),
+    ("3", "768", "769"),
+    ("4", "1024", "1025"),
+    ("5", "1280", "1281"),
+    ("6", "1536", "1537"),
+    ("7", "1792", "1793"),
 ];
 
 // Adds a form for a mutator.

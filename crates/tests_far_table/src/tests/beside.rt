@@ -13,7 +13,7 @@ use std::thread::{Threads, join};
 // Places an object of 8 bytes for an owner's first pointer in log 0, after those of the owners before it.
 fn places_first(core: &mut Core, owner: u8) -> bool {
     let (pointer, at) = (CELLS * owner as u16, 2 * owner as u16);
-    let word = 0xa100_0000_0001_0008 | (pointer as u64) << 24;
+    let word = 0xa200_0000_0100_0008 | (pointer as u64) << 32;
     let new = 0x8600_0000_0001_0008 | (at as u64) << 24;
     let put = Event::Put { log: 0, at, word };
     let name = Event::Name {

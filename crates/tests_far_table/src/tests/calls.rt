@@ -16,7 +16,7 @@ const ONE: Shape = Shape {
 /// An object of 9 bytes of pointer 0, which its owner doesn't use.
 #[rattlefmt::skip]
 const PLACED: &[(Event, Reply)] = &[
-    (Event::Put { log: 0, at: 0, word: 0xa100_0000_0001_0009 }, Reply::Done),
+    (Event::Put { log: 0, at: 0, word: 0xa200_0000_0100_0009 }, Reply::Done),
     (Event::Name { pointer: 0, old: 0, new: 0x8600_0000_0001_0009 }, Reply::Done),
 ];
 

@@ -48,7 +48,7 @@ const BEGINS: &[Event] = &[
     Event::Put {
         log: 2,
         at: 0,
-        word: 0xa100_0000_0701_0008,
+        word: 0xa200_0007_0100_0008,
     },
     Event::Name {
         pointer: 7,
@@ -89,7 +89,7 @@ fn word_of(len: u16, index: u16) -> u64 {
 // Whether the owner takes over a new object at a place, and views it.
 fn places(core: &mut Core, pointer: u16, len: u16, place: Place) -> bool {
     let Place { log, at } = place;
-    let word = 0xa100_0000_0001_0000 | len as u64 | (pointer as u64) << 24;
+    let word = 0xa200_0000_0100_0000 | len as u64 | (pointer as u64) << 32;
     let new = 0x8600_0000_0001_0000 | len as u64 | (at as u64) << 24 | (log as u64) << 34;
     let put = Event::Put { log, at, word };
     let name = Event::Name {

@@ -10,7 +10,7 @@ use far_evac::{Census, Evac, LogKind, LogState, Marked, Polled, Progress, RoundE
 use far_log::LogRow;
 use far_policy::Oldest;
 use far_table::BookSeat;
-use far_word::{LONGEST, Mark, Marks, Refused};
+use far_word::{CELLS, LONGEST, Mark, Marks, Refused};
 use tests_owner::Owner;
 
 /// An evacuator over some hand, and the one owner beside it.
@@ -45,7 +45,7 @@ fn place_next<N: Near + Drop, D: Device + Drop>(
 
 // Whether a pointer is one of the heap's; then where its object is, `None` if the cell is free.
 fn home<N: Near + Drop, D: Device + Drop>(evac: &mut Evac<N, D>, pointer: u16) -> Option<Home> {
-    if (pointer as u64) < 128 * evac.book().shape().mutators {
+    if (pointer as u64) < CELLS as u64 * evac.book().shape().mutators {
         evac.locate(pointer)
     } else {
         None
@@ -54,7 +54,7 @@ fn home<N: Near + Drop, D: Device + Drop>(evac: &mut Evac<N, D>, pointer: u16) -
 
 #[tactic(auto, using(crate::proofs::Uses::far_home))]
 fn fetches<N: Near + Drop, D: Device + Drop>(evac: &mut Evac<N, D>, pointer: u16) -> bool {
-    if pointer as u64 >= 128 * evac.book().shape().mutators {
+    if pointer as u64 >= CELLS as u64 * evac.book().shape().mutators {
         return false;
     }
     let Some(Home::Far { .. }) = evac.locate(pointer) else {
@@ -65,7 +65,7 @@ fn fetches<N: Near + Drop, D: Device + Drop>(evac: &mut Evac<N, D>, pointer: u16
 
 #[tactic(auto, using(crate::proofs::Uses::quiet_home))]
 fn moves<N: Near + Drop, D: Device + Drop>(evac: &mut Evac<N, D>, pointer: u16) -> bool {
-    if pointer as u64 >= 128 * evac.book().shape().mutators {
+    if pointer as u64 >= CELLS as u64 * evac.book().shape().mutators {
         return false;
     }
     let Some(Home::Near { marks, .. }) = evac.locate(pointer) else {
@@ -79,7 +79,7 @@ fn moves<N: Near + Drop, D: Device + Drop>(evac: &mut Evac<N, D>, pointer: u16) 
 
 #[tactic(auto, using(crate::proofs::Uses::dropped_home))]
 fn retires<N: Near + Drop, D: Device + Drop>(evac: &mut Evac<N, D>, pointer: u16) -> bool {
-    if pointer as u64 >= 128 * evac.book().shape().mutators {
+    if pointer as u64 >= CELLS as u64 * evac.book().shape().mutators {
         return false;
     }
     let Some(Home::Near { marks, .. }) = evac.locate(pointer) else {

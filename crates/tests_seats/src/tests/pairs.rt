@@ -12,7 +12,7 @@ use far_book::{Book, Home, Near};
 use far_core::{Kind, Shape, sets_of_logs};
 use far_device::{Device, MemDevice};
 use far_table::BookSeat;
-use far_word::{LONGEST, Marks, PtrWord, Refused};
+use far_word::{CELLS, LONGEST, Marks, PtrWord, Refused};
 use tests_owner::{Owner, shared};
 
 pub(super) const SMALL: Shape = Shape {
@@ -73,7 +73,7 @@ fn marks_sealed<N: Near + Drop, D: Device + Drop>(
     book: &mut Book<N, D>,
     pointer: u16,
 ) -> Option<u64> {
-    if pointer as u64 >= 128 * book.shape().mutators {
+    if pointer as u64 >= CELLS as u64 * book.shape().mutators {
         return None;
     }
     let cell = book.see(pointer);
@@ -103,7 +103,7 @@ fn are_marked<N: Near + Drop, D: Device + Drop>(book: &mut Book<N, D>) -> bool
     ensures marked { result ≡ true → (p : ℕ) → evac_in (read_of ((N.view book.new.near).cell p)) ≡ true }
 {
     book.keeps_law();
-    let pointers = 128 * book.shape().mutators as u16;
+    let pointers = CELLS * book.shape().mutators as u16;
     for pointer in 0..pointers {
         if !is_marked(book.see(pointer)) {
             return false;
@@ -135,7 +135,7 @@ fn look_at<N: Near + Drop, D: Device + Drop>(book: &mut Book<N, D>, owner: u8) -
 // Whether an object that its owner asks for is moved.
 #[tactic(auto, using(crate::proofs::Uses::quiet_home))]
 fn moves<N: Near + Drop, D: Device + Drop>(book: &mut Book<N, D>, pointer: u16) -> bool {
-    if pointer as u64 >= 128 * book.shape().mutators {
+    if pointer as u64 >= CELLS as u64 * book.shape().mutators {
         return false;
     }
     let Some(Home::Near { marks, .. }) = book.locate(pointer) else {
@@ -150,7 +150,7 @@ fn moves<N: Near + Drop, D: Device + Drop>(book: &mut Book<N, D>, pointer: u16) 
 // Whether an object that is seen to have EVAC and MOVE goes far.
 #[tactic(auto, using(crate::proofs::Uses::quiet_home, crate::proofs::Uses::evac_home))]
 fn evicts<N: Near + Drop, D: Device + Drop>(book: &mut Book<N, D>, pointer: u16) -> bool {
-    if pointer as u64 >= 128 * book.shape().mutators {
+    if pointer as u64 >= CELLS as u64 * book.shape().mutators {
         return false;
     }
     let Some(Home::Near { marks, .. }) = book.locate(pointer) else {
@@ -165,7 +165,7 @@ fn evicts<N: Near + Drop, D: Device + Drop>(book: &mut Book<N, D>, pointer: u16)
 // Whether a far object comes near.
 #[tactic(auto, using(crate::proofs::Uses::far_home))]
 fn fetches<N: Near + Drop, D: Device + Drop>(book: &mut Book<N, D>, pointer: u16) -> bool {
-    if pointer as u64 >= 128 * book.shape().mutators {
+    if pointer as u64 >= CELLS as u64 * book.shape().mutators {
         return false;
     }
     let Some(Home::Far { .. }) = book.locate(pointer) else {
@@ -176,7 +176,7 @@ fn fetches<N: Near + Drop, D: Device + Drop>(book: &mut Book<N, D>, pointer: u16
 
 // Whether a cell is this.
 fn sees<N: Near + Drop, D: Device + Drop>(book: &mut Book<N, D>, pointer: u16, cell: u64) -> bool {
-    (pointer as u64) < 128 * book.shape().mutators && book.see(pointer) == cell
+    (pointer as u64) < CELLS as u64 * book.shape().mutators && book.see(pointer) == cell
 }
 
 // Whether an act of a book comes out as it should.

@@ -47,7 +47,7 @@ const PARTED: &[Act] = &[
     Log(0, LogKind::Free, [0, 0, LOG_BYTES]),
     Log(1, LogKind::Sealed, [LOG_BYTES, 0, 0]),
     Log(2, LogKind::Open, [16, 0, LOG_BYTES - 16]),
-    Counts(2, 1, 1040),
+    Counts(2, 1, 4112),
     ReadsEpoch(1),
     Opens,
     Views(0),

@@ -2,7 +2,7 @@ use Rattle.far_book.proofs.book.listed.Goals as goal
 use Rattle.std.proofs.Common.{subst}
 use Rattle.std.specs.Prelude.{slice_index}
 use Rattle.far_log.specs.Walk.{IsFault}
-use Rattle.far_book.proofs.region.Readings.{one_walk, none_bad}
+use Rattle.far_log.proofs.WalkLaws.{image_has, none_bad}
 
 pub unreachable-requires : goal.unreachable-requires
 unreachable-requires c =
@@ -10,4 +10,4 @@ unreachable-requires c =
     (subst (IsFault (λ i. slice_index c.args.words.now i) c.args.tail) c.in-Err-Bad.field-0-is c.in-Err-Bad.ensures.fault)
 
 pub returns-in-Ok-clause-spans : goal.returns-in-Ok-clause-spans
-returns-in-Ok-clause-spans c spans walk = one_walk (λ i. slice_index c.args.words.now i) c.args.tail c.in-Ok.spans.items spans c.in-Ok.ensures.spans walk
+returns-in-Ok-clause-spans c spans walk = image_has (λ i. slice_index c.args.words.now i) c.args.tail spans c.in-Ok.spans.items walk c.in-Ok.ensures.spans

@@ -15,7 +15,10 @@ returns c = record {
   copy_is_offered = refl;
   finished_is_named = refl;
   moved_isnt_named = refl;
+  asked_is_named = refl;
+  sealed_target_is_named = refl;
   dropped_isnt_named = refl;
+  dropped_stays_offered = refl;
   old_isnt_named = refl;
   left_isnt_named = refl;
   void_is_empty = refl;
@@ -27,4 +30,5 @@ returns c = record {
     (omega arith, refl, λ i lt e. (let none : 0x4000200000000000 ≡ 0 = sym (put_same no_copying.word 0 0x4000200000000000 i (omega (arith, lt))) ∙ e in absurd (omega (arith, none)))),
   );
   nowhere_to_copy = refl;
+  last_log_is_offered = refl;
 }

@@ -5,7 +5,7 @@ use Rattle.far_policy.specs.Logs.{AreRows}
 use Rattle.tests_far_policy.proofs.values.readme.Goals as goal
 
 -- the rows of the test
-two_rows : AreRows (record { log = 3; live = 40; dead = 0; unused = 984 } ∷ record { log = 1; live = 16; dead = 1000; unused = 8 } ∷ [])
+two_rows : AreRows (record { log = 3; live = 40; dead = 0; unused = 4056 } ∷ record { log = 1; live = 16; dead = 4072; unused = 8 } ∷ [])
 unfolding IsDistinct
 two_rows = record { once = ((refl, tt), (tt, tt)); range = λ l h. grind (arith, nat_tests) }
 

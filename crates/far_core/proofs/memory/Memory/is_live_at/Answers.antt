@@ -2,6 +2,7 @@ use Rattle.std.proofs.Common.{◌≡◌, ◌<◌, ℕ, arith, refl, subst, sym, 
 use Rattle.std.specs.Prelude.{IsSome}
 use Rattle.far_word.specs.declared.header.HeadWord.{HeadWord}
 use Rattle.far_word.specs.Header.{head_of}
+use Rattle.far_word.specs.Pointer.{read_of}
 use Rattle.far_core.specs.state.Law.{Law, len_in}
 use Rattle.far_core.specs.state.Memory.{state_of}
 use Rattle.far_core.specs.state.State.{State}
@@ -19,3 +20,6 @@ pub pointer_in-requires : goal.pointer_in-requires
 pointer_in-requires c =
     let s = state_of c.args.self.now in
     subst (λ w. IsSome (head_of w)) (sym c.word.ensures) (begun s c.requires.law c.first_word-header.result (sym c.starts.ensures ∙ c.if-starts.true))
+
+pub names_place-requires : goal.names_place-requires
+names_place-requires c = subst (λ w. IsSome (read_of w)) (sym c.cell.ensures) (c.requires.law.cells.cell_read c.pointer_in.result).1

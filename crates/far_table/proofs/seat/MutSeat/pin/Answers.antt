@@ -61,6 +61,13 @@ returns-in_default-clause-event g c =
     let t = pin_kept _ _ _ c.args.p c.fetch_or-found.result none l.1 in
     seat_made _ _ _ (λ (o : OwnerView). Pin o.number c.args.p) _ _ (ap (λ (z : Seated). z.view) c.self.view_is) t
 
+pub overflow_mul-place : goal.overflow_mul-place
+overflow_mul-place g c =
+    let l = c.fetch_or-found.ensures.2.1 c.args.p refl in
+    let r = rests c.fetch_or-found.result (read_of c.fetch_or-found.result) c.resting_place.result refl l.0.0 c.resting_place.ensures in
+    let fits = l.0.1 c.in-Some.place (sym r ∙ c.in-Some.is) in
+    omega arith
+
 pub overflow_add-place : goal.overflow_add-place
 overflow_add-place g c =
     let l = c.fetch_or-found.ensures.2.1 c.args.p refl in

@@ -11,7 +11,7 @@ pub command-requires : goal.command-requires
 command-requires c =
     let records = c.self.inside.records.items in
     let inside : c.args.at < length records = omega (arith, ap length c.self.view_is, length-map records (command_in c.self.inside.bytes)) in
-    rw c.as_slice.ensures.value (within_at (length c.self.inside.bytes) records c.args.at c.index-record.result.now c.self.invariant.0 inside c.index-record.ensures)
+    rw c.as_slice.ensures.value (within_at (length c.self.inside.bytes) records c.args.at c.index-record.result.now c.self.invariant inside c.index-record.ensures)
 
 pub returns-clause-value : goal.returns-clause-value
 returns-clause-value c =
@@ -31,7 +31,7 @@ returns-clause-bytes c =
     let bytes = c.self.inside.bytes in
     let r = c.index-record.result.now in
     let inside : c.args.at < length records = omega (arith, ap length c.self.view_is, length-map records (command_in bytes)) in
-    let within = within_at (length bytes) records c.args.at r c.self.invariant.0 inside c.index-record.ensures in
+    let within = within_at (length bytes) records c.args.at r c.self.invariant inside c.index-record.ensures in
     let small = rw c.as_slice.ensures.value at c.as_slice.ensures.bytes in
     let same : command_in bytes r ≡ as_command c.command.result = sym (c.command.ensures ∙ ap (λ b. command_in b r) c.as_slice.ensures.value) in
     subst WritesBytes same (record_writes_bytes bytes small r within)

@@ -1,4 +1,4 @@
-use Rattle.std.proofs.Common.{◌++◌, ◌∷◌, [], length, length-append, map, Some, sym, ap, ◌∙◌, arith}
+use Rattle.std.proofs.Common.{◌++◌, ◌∷◌, [], length, map, Some, sym, ap, ◌∙◌}
 use Rattle.std.specs.Option.{option_map}
 use Rattle.far_text.specs.Records.{command_in}
 use Rattle.far_text.specs.Spelled.{command_spelled}
@@ -12,10 +12,7 @@ invariant_of-self-2 c =
     let records = c.self.inside.records.items in
     let within = rw c.in-Some.is at c.in_ok-record.ensures.within in
     let items = c.push_reserved.ensures.items ∙ ap (λ all. all ++ c.in-Some.record ∷ []) c.in_ok-reserve.ensures.items in
-    rw items (
-      one_within_more (length old) (length new) (longer old new c.in_ok-record.ensures.kept) records c.in-Some.record c.self.invariant.0 within,
-      omega (arith, c.self.invariant.1, c.in_ok-record.ensures.short, length-append records (c.in-Some.record ∷ [])),
-    )
+    rw items (one_within_more (length old) (length new) (longer old new c.in_ok-record.ensures.kept) records c.in-Some.record c.self.invariant within)
 
 pub returns-clause-value : goal.returns-clause-value
 returns-clause-value c =
@@ -24,5 +21,5 @@ returns-clause-value c =
     let records = c.self.inside.records.items in
     let value = rw c.in-Some.is at c.in_ok-record.ensures.value in
     ap (λ now. option_map (λ x. now ++ x ∷ []) (command_spelled c.args.command)) (sym c.self.view_is)
-    ∙ one_command_more old new c.in_ok-record.ensures.kept records c.in-Some.record (command_spelled c.args.command) c.self.invariant.0 value
+    ∙ one_command_more old new c.in_ok-record.ensures.kept records c.in-Some.record (command_spelled c.args.command) c.self.invariant value
     ∙ ap (λ all. Some (map (command_in new) all)) (sym (c.push_reserved.ensures.items ∙ ap (λ all. all ++ c.in-Some.record ∷ []) c.in_ok-reserve.ensures.items))

@@ -27,9 +27,9 @@ near_first = refl
 
 -- header and zero are written
 abbrev written : State → State
-written s = record s { word = put (put s.word 0 0xa100_0000_0001_0008) 1 0 }
+written s = record s { word = put (put s.word 0 0xa200_0000_0100_0008) 1 0 }
 
-both_put : (s u v : State) → u ≡ after s (Put 0 0 0xa100_0000_0001_0008) → v ≡ after u (Put 0 1 0) → v ≡ written s
+both_put : (s u v : State) → u ≡ after s (Put 0 0 0xa200_0000_0100_0008) → v ≡ after u (Put 0 1 0) → v ≡ written s
 both_put s u v header zero = zero ∙ ap (λ (x : State). after x (Put 0 1 0)) header
 
 -- once they are, pointer 0 may be named
@@ -39,7 +39,7 @@ first_legal s opened tail logs small = (
   (
     Places 8 1 first,
     (unused, near_first),
-    (record { next = (logs, inl (opened, sym tail)); head = refl }, λ i lt. put_same (put s.word 0 0xa100_0000_0001_0008) 1 0 (1 + i) (omega arith)),
+    (record { next = (logs, inl (opened, sym tail)); head = refl }, λ i lt. put_same (put s.word 0 0xa200_0000_0100_0008) 1 0 (1 + i) (omega arith)),
   ),
 )
 
