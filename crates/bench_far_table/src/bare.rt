@@ -1,8 +1,8 @@
 // A table as long as that of the largest heap, and a log's words more, under a rule that says nothing, shared as those of owners in threads are; and what is counted on it.
 ghost use Rattle.std.specs.Prelude.{◌≡◌, ◌+◌, ◌<◌, length};
 ghost use Rattle.std.specs.Arc.{arc_value};
-ghost use Rattle.far_table.specs.Layout.{TABLE_WORDS};
-ghost use Rattle.far_word.specs.declared.sizes.TheConstants.{LOG_WORDS};
+ghost use Rattle.far_table.specs.Layout.{table_words};
+ghost use Rattle.far_word.specs.declared.sizes.TheConstants.{MOST_LOGS};
 
 use crate::turn::Turn;
 use atomic_table::{Play, Seat, Table, TableRule};
@@ -37,7 +37,7 @@ impl Play<u64, u64> for Nothing {
 pub(crate) struct Bare {
     table: Arc<Table<u64, u64, u64, Anything, Global>, Global>,
     seat: Seat<u64, u64>,
-    ghost fits: { (seat.table_id ≡ (arc_value table).shared.table_id) × ((arc_value table).shared.table_id.words ≡ TABLE_WORDS + LOG_WORDS) },
+    ghost fits: { (seat.table_id ≡ (arc_value table).shared.table_id) × ((arc_value table).shared.table_id.words ≡ table_words (MOST_LOGS + 1)) },
 }
 
 impl Bare {
@@ -48,7 +48,7 @@ impl Bare {
 
     /// Of these words.
     pub(crate) fn of(alloc: Global, words: &[u64]) -> Result<Bare, AllocError>
-        requires { length words.now ≡ TABLE_WORDS + LOG_WORDS }
+        requires { length words.now ≡ table_words (MOST_LOGS + 1) }
     {
         let (table, seat) = Table::of_words(alloc, words, &0)?;
         let table = Arc::new(alloc, table)?;
@@ -56,14 +56,14 @@ impl Bare {
     }
 
     pub(crate) fn load(&mut self, word: usize) -> u64
-        requires { word < TABLE_WORDS + LOG_WORDS }
+        requires { word < table_words (MOST_LOGS + 1) }
     {
         let Bare { table, seat } = self;
         table.shared.load::<Nothing>(seat, word)
     }
 
     pub(crate) fn store(&mut self, word: usize, new: u64) -> u64
-        requires { word < TABLE_WORDS + LOG_WORDS }
+        requires { word < table_words (MOST_LOGS + 1) }
     {
         let Bare { table, seat } = self;
         table.shared.store::<Nothing>(seat, word, new);
@@ -71,21 +71,21 @@ impl Bare {
     }
 
     fn fetch_or(&mut self, word: usize) -> u64
-        requires { word < TABLE_WORDS + LOG_WORDS }
+        requires { word < table_words (MOST_LOGS + 1) }
     {
         let Bare { table, seat } = self;
         table.shared.fetch_or::<Nothing>(seat, word, 1 << 62)
     }
 
     fn fetch_and(&mut self, word: usize) -> u64
-        requires { word < TABLE_WORDS + LOG_WORDS }
+        requires { word < table_words (MOST_LOGS + 1) }
     {
         let Bare { table, seat } = self;
         table.shared.fetch_and::<Nothing>(seat, word, !(1 << 61))
     }
 
     pub(crate) fn compare_exchange(&mut self, word: usize, old: u64, new: u64) -> u64
-        requires { word < TABLE_WORDS + LOG_WORDS }
+        requires { word < table_words (MOST_LOGS + 1) }
     {
         let Bare { table, seat } = self;
         table

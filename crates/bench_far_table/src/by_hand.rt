@@ -1,8 +1,8 @@
 // A copier on a bare table, written by hand for speed: the same work as that of a copier's seat, with the same answers. It proves nothing of a job but that its
 // words lie within the table.
 ghost use Rattle.std.specs.Prelude.{◌+◌, ◌<◌, ◌≤◌};
-ghost use Rattle.far_table.specs.Layout.{LOGS_AT, TABLE_WORDS};
-ghost use Rattle.far_word.specs.declared.sizes.TheConstants.{JOBS, LOG_WORDS, POINTERS};
+ghost use Rattle.far_table.specs.Layout.{LOGS_AT, table_words};
+ghost use Rattle.far_word.specs.declared.sizes.TheConstants.{JOBS, MOST_LOGS, POINTERS};
 
 use crate::bare::{Bare, JOBS_AT, LOGS, WORDS};
 use crate::turn::Turn;
@@ -18,7 +18,7 @@ pub(crate) struct HandJob {
     from: usize,
     to: usize,
     end: usize,
-    ghost inside: { (at < LOGS_AT) × (from ≤ end) × (end ≤ TABLE_WORDS + LOG_WORDS) × (to + end ≤ TABLE_WORDS + LOG_WORDS + from) },
+    ghost inside: { (at < LOGS_AT) × (from ≤ end) × (end ≤ table_words (MOST_LOGS + 1)) × (to + end ≤ table_words (MOST_LOGS + 1) + from) },
 }
 
 /// A copier, with what it adds to the word that offers a job, when it takes the job and when it has finished it.
@@ -31,7 +31,7 @@ pub(crate) struct HandCopier {
 
 // Where the header at a place stands, by the bits of a job's word from that place on.
 fn head_at(bits: u64) -> usize
-    ensures { result < TABLE_WORDS }
+    ensures { result < table_words MOST_LOGS }
 {
     let log = (bits >> 10) % MOST_LOGS as u64;
     let at = bits % LOG_WORDS as u64;

@@ -117,13 +117,14 @@ module _ (ws : List ℕ) (b : BookView) (os : OtherViews) (f : Facts ws b os) (o
       let legal : Legal s (Adopt m p) = (is_mutator ws b os f m o at, own, unused_so, used) in record {
         legal = legal;
         says = refl;
-        becomes = state_is ws b (with_owner os m w) (no_word ws f.wide) (remembered_same os.owners m o w at refl)
+        becomes = state_is ws b (with_owner os m w) (no_word b.logs ws f.wide) (remembered_same os.owners m o w at refl)
             (pointers_put os.owners m o w at uses p true own (fun_ext (λ q. put_both (λ (x : Option ObjectView). is_some x ≡ put (uses o) p true q) (object_at o) p (Some (fresh c)) q
             (λ e. sym (put_same (uses o) p true q e)) (λ ne. sym (put_other (uses o) p true q ne)))))
             (pointers_same os.owners m o w at held_at refl) (pointers_same os.owners m o w at soiled_at refl);
         mine = record {
           number = ties.number;
           honest = ties.honest;
+          logs = ties.logs;
           scope = ties.scope;
           objects = λ q x mine h. dite (ℕ_discrete q p)
               (λ e. let same : Some (fresh c) ≡ Some x = sym (put_same (object_at o) p (Some (fresh c)) q e) ∙ h in let one : fresh c ≡ x = cc in

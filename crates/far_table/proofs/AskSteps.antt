@@ -135,11 +135,12 @@ module _ (ws : List ℕ) (b : BookView) (os : OtherViews) (f : Facts ws b os) (o
       let n : ℕ = asked_at o p + cond (has_move (read_of c)) 0 1 in record {
         legal = legal Moved refl;
         says = refl;
-        becomes = state_is (set ws (cell_at p) new) b (with_owner os m w) (cell_word_set ws f.wide p new small) (remembered_same os.owners m o w at refl)
+        becomes = state_is (set ws (cell_at p) new) b (with_owner os m w) (cell_word_set b.logs ws f.wide p new small) (remembered_same os.owners m o w at refl)
             (pointers_same os.owners m o w at uses refl) (pointers_same os.owners m o w at held_at refl) (pointers_same os.owners m o w at soiled_at refl);
         mine = record {
           number = ties.number;
           honest = ties.honest;
+          logs = ties.logs;
           scope = ties.scope;
           objects = λ q x mine h. has_on s (after s (Ask m p Moved)) q x (ap (λ (z : World). z.object q) (does s (Ask m p Moved) f.law tt (legal Moved refl))) refl (ties.objects q x mine h);
           asks = λ q mine. dite (ℕ_discrete q p)
@@ -164,13 +165,14 @@ module _ (ws : List ℕ) (b : BookView) (os : OtherViews) (f : Facts ws b os) (o
       let gone = does s (Ask m p Dropped) f.law tt (legal Dropped refl) in record {
         legal = legal Dropped refl;
         says = refl;
-        becomes = state_is (set ws (cell_at p) new) b (with_owner os m w) (cell_word_set ws f.wide p new small) (remembered_same os.owners m o w at refl)
+        becomes = state_is (set ws (cell_at p) new) b (with_owner os m w) (cell_word_set b.logs ws f.wide p new small) (remembered_same os.owners m o w at refl)
             (pointers_put os.owners m o w at uses p false own (fun_ext (λ q. put_both (λ (x : Option ObjectView). is_some x ≡ put (uses o) p false q) (object_at o) p None q
             (λ e. sym (put_same (uses o) p false q e)) (λ ne. sym (put_other (uses o) p false q ne)))))
             (pointers_same os.owners m o w at held_at refl) (pointers_same os.owners m o w at soiled_at refl);
         mine = record {
           number = ties.number;
           honest = ties.honest;
+          logs = ties.logs;
           scope = ties.scope;
           objects = λ q x mine h. dite (ℕ_discrete q p)
               (λ e. let odd : None ≡ Some x = sym (put_same (object_at o) p None q e) ∙ h in cc)

@@ -61,8 +61,9 @@ other_rest ws b os rest f = record {
   law = f.law;
   agrees = f.agrees;
   book = record { shown = f.book.shown; rests = f.book.rests };
-  owners = λ m o at. let ties = f.owners m o at in record { number = ties.number; honest = ties.honest; scope = ties.scope; objects = ties.objects; asks = ties.asks; drops = ties.drops; hots = ties.hots; warm = ties.warm };
+  owners = λ m o at. let ties = f.owners m o at in record { number = ties.number; honest = ties.honest; logs = ties.logs; scope = ties.scope; objects = ties.objects; asks = ties.asks; drops = ties.drops; hots = ties.hots; warm = ties.warm };
   copiers = f.copiers;
+  copier_logs = f.copier_logs;
   many = f.many;
   eight = f.eight;
   wide = f.wide;
@@ -175,9 +176,9 @@ module _ (s : State) (honest : Bool) (law : Law s) (past : HasNothingPast s) whe
     cell_first = part_is POINTERS (λ p. slice_index ws (cell_at p)) s.cell table.cells (λ p le. past.cells p (omega (arith, law.shape.few_mutators)))
 
     word_first : word_in ws ≡ s.word
-    word_first = fun_ext (λ a. elim (cases_lt a (MOST_LOGS * LOG_WORDS)) [
+    word_first = fun_ext (λ a. elim (cases_lt a (s.logs * LOG_WORDS)) [
       | inl lt ↦ table.words a lt
-      | inr le ↦ get_or_past ws (data_at a) 0 (omega (arith, table.wide)) ∙ sym (past.words a (omega (arith, law.shape.few_logs)))
+      | inr le ↦ get_or_past ws (data_at a) 0 (omega (arith, table.wide)) ∙ sym (past.words a (omega arith))
     ])
 
     job_first : job_in ws ≡ s.copying.word
@@ -255,6 +256,7 @@ module _ (s : State) (honest : Bool) (law : Law s) (past : HasNothingPast s) whe
     first_owner_ties m = record {
       number = refl;
       honest = refl;
+      logs = refl;
       scope = sym (first_scope s honest m law);
       objects = λ p x own e. first_has s honest m p own x e;
       asks = λ p own. first_asked s honest m p own ∙ omega arith;
@@ -272,6 +274,7 @@ module _ (s : State) (honest : Bool) (law : Law s) (past : HasNothingPast s) whe
           book = subst (BookTies b) is first_book_ties;
           owners = λ m o at. let t = owner_stands s honest m o at in subst (λ (z : State). OwnerTies b z m o) is (subst (OwnerTies b s' m) t.1 (first_owner_ties m));
           copiers = λ c v at. ap (λ (z : CopierView). z.number) (sym (copier_stands s c v at).1);
+          copier_logs = λ c v at. ap (λ (z : CopierView). z.logs) (sym (copier_stands s c v at).1);
           many = many_owners s honest;
           eight = eight_copiers s;
           wide = table.wide;

@@ -27,6 +27,7 @@ use Rattle.far_table.proofs.OwnSteps.{Leads}
 -- what a step leaves of the owners' ties: their scope words stay, MOVE, DROP and HOT are counted, and HOT stays where a place is held
 pub record LeavesOwners (ws : List ℕ) (b : BookView) (os : OtherViews) (e : Event) (r : Reply) (later : List ℕ) (b' : BookView) : Type 0 where
   pub mutators : b'.mutators ≡ b.mutators
+  pub logs : b'.logs ≡ b.logs
   pub honest : b'.honest ≡ b.honest
   pub rest : b'.rest ≡ b.rest
   pub scopes : scope_in later ≡ scope_in ws
@@ -37,10 +38,10 @@ pub record LeavesOwners (ws : List ℕ) (b : BookView) (os : OtherViews) (e : Ev
 
 -- what owners' ties read of the book's view, and who has no seat yet
 abbrev pub Counted : Type 0
-Counted = ℕ × Bool × List Role × List (ℕ × ℕ) × List (ℕ × ℕ) × List (ℕ × ℕ)
+Counted = ℕ × Bool × List Role × List (ℕ × ℕ) × List (ℕ × ℕ) × List (ℕ × ℕ) × ℕ
 
 abbrev pub counts_of : BookView → Counted
-counts_of b = (b.mutators, b.honest, b.rest, b.taken, b.retired, b.cooled)
+counts_of b = (b.mutators, b.honest, b.rest, b.taken, b.retired, b.cooled, b.logs)
 
 -- an event with this answer counts no mark
 abbrev pub CountsNone : Event → Reply → Type 0
@@ -55,6 +56,7 @@ marks_stay {ws} {later} {b} {b'} marks scopes same none =
     let retired : retired_at b' ≡ retired_at b = ap (λ (z : Counted). over z.4 (λ _. 0)) same in
     let cooled : cooled_at b' ≡ cooled_at b = ap (λ (z : Counted). over z.5 (λ _. 0)) same in record {
       mutators = ap (λ (z : Counted). z.0) same;
+      logs = ap (λ (z : Counted). z.6) same;
       honest = ap (λ (z : Counted). z.1) same;
       rest = ap (λ (z : Counted). z.2) same;
       scopes = scopes;
@@ -99,6 +101,7 @@ module _ (ws : List ℕ) (b : BookView) (os : OtherViews) (f : Facts ws b os) (e
   owner m o at ties = record {
     number = ties.number;
     honest = ties.honest ∙ sym k.leaves.honest;
+    logs = ties.logs ∙ sym k.leaves.logs;
     scope = ap (λ f. f m) k.leaves.scopes ∙ ties.scope;
     objects = λ p x mine h. has_after s e by f.law fits k.legal t k.becomes.is k.leaves.honest p x (ties.objects p x mine h);
     asks = λ p mine. ties.asks p mine ∙ (k.leaves.counts p).0;
@@ -114,6 +117,7 @@ module _ (ws : List ℕ) (b : BookView) (os : OtherViews) (f : Facts ws b os) (e
     book = k.book law;
     owners = λ m o at. owner m o at (f.owners m o at);
     copiers = f.copiers;
+    copier_logs = λ c v at. f.copier_logs c v at ∙ sym k.leaves.logs;
     many = f.many ∙ sym k.leaves.mutators;
     eight = f.eight;
     wide = k.becomes.wide;

@@ -33,20 +33,20 @@ use Rattle.far_table.specs.View.{BookView, OtherViews, View, Book}
 use Rattle.far_table.specs.BookPlays.{JobCollected, JobOffered, JobSeen, JobTold}
 use Rattle.far_table.specs.BookTells.{BookTells}
 use Rattle.far_table.specs.BookViews.{collected_view, saw_job_view}
-use Rattle.far_table.specs.Layout.{job_at, job_in}
+use Rattle.far_table.specs.Layout.{cell_in, epoch_in, job_at, job_in, scope_in, word_in}
 use Rattle.far_table.specs.NameViews.{exchange_reply, offered_view}
 use Rattle.far_table.specs.Rows.{over}
 use Rattle.far_table.specs.Rule.{Facts, Running}
 use Rattle.far_table.specs.Stands.{IsPlain, Stands, book_of}
 use Rattle.far_table.specs.StateOf.{book_state, copying_of, head_at, known_word, state_of}
-use Rattle.far_table.proofs.BookFrames.{BookStep, CountsNone, cells_stay, counts_of}
+use Rattle.far_table.proofs.BookFrames.{BookStep, Counted, CountsNone, cells_stay, counts_of}
 use Rattle.far_table.proofs.BookLift.{book_makes, book_reads}
 use Rattle.far_table.proofs.Exchanges.{by_case, lost_says, won_says}
 use Rattle.far_table.proofs.Masks.{by_view, counts, epoch_is, finds, going, rests, ties, words_are}
 use Rattle.far_table.proofs.NameRows.{begins_put}
 use Rattle.far_table.proofs.NameSteps.{head_known, heads_forget, heads_words, known_heads, span_heads}
 use Rattle.far_table.proofs.OwnSteps.{led_by, reads, state_is}
-use Rattle.far_table.proofs.Words.{job_here, job_word_set}
+use Rattle.far_table.proofs.Words.{WordsAre, job_here, job_word_set}
 
 -- ---- what is offered by the view
 module _ (b : BookView) (j : ℕ) (job : Job) (h : Legal (book_state b) (Offer j job.pointer job.to)) (lies : near_place (read_of ((book_state b).cell job.pointer)) ≡ Some job.from) where
@@ -89,7 +89,7 @@ module _ (ws : List ℕ) (b : BookView) (os : OtherViews) (f : Facts ws b os) (p
   see_job_step low = record {
     legal = low;
     says = refl;
-    becomes = reads f s (saw_job_view j n b) os refl;
+    becomes = reads f s (saw_job_view j n b) os refl refl;
     book = λ law. ties ws (saw_job_view j n b) os law (counts b) (words_are ws b os f plain) (finds ws b os f) (rests ws b os f) (epoch_is ws b os f) (jobs_put o.copying.word (job_in ws) j n (going ws b os f) refl);
     leaves = cells_stay refl refl refl (λ _ _. (refl, refl, refl));
   }
@@ -99,15 +99,16 @@ module _ (ws : List ℕ) (b : BookView) (os : OtherViews) (f : Facts ws b os) (p
       after s e ≡ record (state_of ws b' os) { copying = record (copying_of ws b' os.copiers) { word = put (job_in ws) j x } } → known_word b' ≡ masked_word s.word (λ a. is_some (head_at b' a)) counted →
       CountsOnRest (book_state b') (over b'.cells (λ _. 0)) counted → over b'.cells (λ _. 0) ≡ o.cell → over b'.jobs (λ _. 0) ≡ put o.copying.word j x → b'.epoch ≡ b.epoch → counts_of b' ≡ counts_of b → CountsNone e Done →
       BookStep ws b os e Done (set ws (job_at j) x) b'
-  job_set e b' x counted low legal says is words rest cells jobs epoch marks left = let later : List ℕ = set ws (job_at j) x in let are = job_word_set ws f.wide j x low in record {
-    legal = legal;
-    says = says;
-    becomes = led_by is (state_is later b' os are refl refl refl refl);
-    book = λ law. ties later b' os law counted (words ∙ ap (λ v. masked_word v (λ a. is_some (head_at b' a)) counted) (sym are.word_is))
-        (subst (λ (z : (ℕ → ℕ) × (ℕ → ℕ)). AllFind z.0 z.1) (λ i. (sym cells i, sym are.cell_is i)) (finds ws b os f)) rest (are.epoch_is ∙ epoch_is ws b os f ∙ sym epoch)
-        (subst (λ (z : (ℕ → ℕ) × (ℕ → ℕ)). AllFindJobs z.0 z.1) (λ i. (sym jobs i, sym are.job_is i)) (jobs_set o.copying.word (job_in ws) j x (going ws b os f)));
-    leaves = cells_stay are.cell_is are.scope_is marks left;
-  }
+  job_set e b' x counted low legal says is words rest cells jobs epoch marks left = let later : List ℕ = set ws (job_at j) x in let are = job_word_set b.logs ws f.wide j x low in
+      let sized = subst (λ n. WordsAre n later (epoch_in ws) (scope_in ws) (cell_in ws) (word_in ws) (put (job_in ws) j x)) (sym (ap (λ (z : Counted). z.6) marks)) are in record {
+        legal = legal;
+        says = says;
+        becomes = led_by is (state_is later b' os sized refl refl refl refl);
+        book = λ law. ties later b' os law counted (words ∙ ap (λ v. masked_word v (λ a. is_some (head_at b' a)) counted) (sym are.word_is))
+            (subst (λ (z : (ℕ → ℕ) × (ℕ → ℕ)). AllFind z.0 z.1) (λ i. (sym cells i, sym are.cell_is i)) (finds ws b os f)) rest (are.epoch_is ∙ epoch_is ws b os f ∙ sym epoch)
+            (subst (λ (z : (ℕ → ℕ) × (ℕ → ℕ)). AllFindJobs z.0 z.1) (λ i. (sym jobs i, sym are.job_is i)) (jobs_set o.copying.word (job_in ws) j x (going ws b os f)));
+        leaves = cells_stay are.cell_is are.scope_is marks left;
+      }
 
   -- ---- one is emptied
   module _ (old : ℕ) (h : Legal o (Collect j old)) where
@@ -118,7 +119,7 @@ module _ (ws : List ℕ) (b : BookView) (os : OtherViews) (f : Facts ws b os) (p
     lost_step lost = record {
       legal = h;
       says = lost_says n old lost;
-      becomes = reads f (after s (Collect j old)) (saw_job_view j n b) os (collect_stays s j old lost);
+      becomes = reads f (after s (Collect j old)) (saw_job_view j n b) os (collect_stays s j old lost) refl;
       book = (see_job_step h.0).book;
       leaves = cells_stay refl refl refl (λ _ _. (refl, refl, refl));
     }

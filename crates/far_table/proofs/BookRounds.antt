@@ -78,7 +78,7 @@ module _ (ws : List ℕ) (b : BookView) (os : OtherViews) (f : Facts ws b os) wh
   look_step plain m low = record {
     legal = low;
     says = refl;
-    becomes = reads f (after s (Look m)) (looked_view m (scope_in ws m) b) os refl;
+    becomes = reads f (after s (Look m)) (looked_view m (scope_in ws m) b) os refl refl;
     book = λ law. ties ws (looked_view m (scope_in ws m) b) os law (counts b) (words_are ws b os f plain) (finds ws b os f)
         (counts_looked s o.cell (counts b) m (shows_clear b.epoch (scope_of (scope_in ws m))) (rests ws b os f)) (epoch_is ws b os f) (going ws b os f);
     leaves = cells_stay refl refl refl (λ _ _. (refl, refl, refl));
@@ -129,7 +129,7 @@ module _ (ws : List ℕ) (b : BookView) (os : OtherViews) (f : Facts ws b os) wh
     advance_step =
         let b' : BookView = raised_view logs b in
         let later : List ℕ = set ws EPOCH_AT (b.epoch + 1) in
-        let are = epoch_word_set ws f.wide (b.epoch + 1) in
+        let are = epoch_word_set b.logs ws f.wide (b.epoch + 1) in
         let up : epoch_in ws + 1 ≡ b.epoch + 1 = ap (λ e. e + 1) (epoch_is ws b os f) in record {
           legal = advance_legal;
           says = ap Epoch (sym up);

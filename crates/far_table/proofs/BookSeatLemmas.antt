@@ -10,7 +10,7 @@ use Rattle.far_core.specs.events.Step.{after}
 use Rattle.far_core.specs.state.State.{State}
 use Rattle.far_hand.specs.Known.{Forgets}
 use Rattle.far_table.specs.View.{BookView, View, Book}
-use Rattle.far_table.specs.Layout.{TABLE_WORDS, cell_at, data_at, scope_at, scope_in}
+use Rattle.far_table.specs.Layout.{table_words, cell_at, data_at, scope_at, scope_in}
 use Rattle.far_table.specs.BookSeats.{MayBe}
 use Rattle.far_table.specs.BookTells.{BookMade, BookTells}
 use Rattle.far_table.specs.BookViews.{got_view}
@@ -32,14 +32,14 @@ pub shape_stays : (id here : TableId) (v : View) (logs mutators epoch : ℕ) (b'
 shape_stays id here v logs mutators epoch b' i l m e r plain = record { logs = l; mutators = m; epoch_is = e ∙ i.epoch_is; below = i.epoch_below; rest = r; plain = plain }
 
 -- a cell's word is one of the table's
-pub cell_inside : (id here : TableId) (v : View) (logs mutators epoch p : ℕ) → BookOk id here v logs mutators epoch → p < CELLS * (book_of v).mutators → cell_at p < TABLE_WORDS
+pub cell_inside : (id here : TableId) (v : View) (logs mutators epoch p : ℕ) → BookOk id here v logs mutators epoch → p < CELLS * (book_of v).mutators → cell_at p < table_words logs
 cell_inside id here v logs mutators epoch p i low = let a = i.mutators_are in let few = i.few_mutators in omega arith
 
-pub scope_inside : (id here : TableId) (v : View) (logs mutators epoch m : ℕ) → BookOk id here v logs mutators epoch → m < (book_of v).mutators → scope_at m < TABLE_WORDS
+pub scope_inside : (id here : TableId) (v : View) (logs mutators epoch m : ℕ) → BookOk id here v logs mutators epoch → m < (book_of v).mutators → scope_at m < table_words logs
 scope_inside id here v logs mutators epoch m i low = let a = i.mutators_are in let few = i.few_mutators in omega arith
 
-pub word_inside : (id here : TableId) (v : View) (logs mutators epoch l at : ℕ) → BookOk id here v logs mutators epoch → l < (book_of v).logs → at < LOG_WORDS → data_at (l * LOG_WORDS + at) < TABLE_WORDS
-word_inside id here v logs mutators epoch l at i low within = let a = i.logs_are in let few = i.few_logs in omega arith
+pub word_inside : (id here : TableId) (v : View) (logs mutators epoch l at : ℕ) → BookOk id here v logs mutators epoch → l < (book_of v).logs → at < LOG_WORDS → data_at (l * LOG_WORDS + at) < table_words logs
+word_inside id here v logs mutators epoch l at i low within = let a = i.logs_are in omega arith
 
 -- a word that is learned changes no shape
 pub got_shape : (id here : TableId) (v : View) (logs mutators epoch : ℕ) (q : Bool) (a n : ℕ) → BookOk id here v logs mutators epoch → IsPlain (got_view q a n (book_of v)) → SameShape (book_of v) (got_view q a n (book_of v)) epoch

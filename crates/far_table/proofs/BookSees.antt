@@ -40,8 +40,8 @@ module _ (ws : List ℕ) (b : BookView) (os : OtherViews) (f : Facts ws b os) (p
   abbrev later : List ℕ
   later = set ws (cell_at p) w
 
-  pub cell_after : WordsAre later (epoch_in ws) (scope_in ws) (put (cell_in ws) p w) (word_in ws) (job_in ws)
-  cell_after = cell_word_set ws f.wide p w small
+  pub cell_after : WordsAre b.logs later (epoch_in ws) (scope_in ws) (put (cell_in ws) p w) (word_in ws) (job_in ws)
+  cell_after = cell_word_set b.logs ws f.wide p w small
 
   pub epoch_after : epoch_in later ≡ b.epoch
   epoch_after = cell_after.epoch_is ∙ epoch_is ws b os f
@@ -83,7 +83,7 @@ module _ (ws : List ℕ) (b : BookView) (os : OtherViews) (f : Facts ws b os) (p
   see_step low = record {
     legal = low;
     says = refl;
-    becomes = reads f (after s (See p)) (saw_view p n b) os refl;
+    becomes = reads f (after s (See p)) (saw_view p n b) os refl refl;
     book = λ law. ties ws (saw_view p n b) os law (counts b) (words_are ws b os f plain) (finds_put o.cell s.cell p n (finds ws b os f) refl)
         (counts_found s o.cell (counts b) p n (rests ws b os f) (finds ws b os f p)) (epoch_is ws b os f) (going ws b os f);
     leaves = cells_stay refl refl refl (λ _ _. (refl, refl, refl));

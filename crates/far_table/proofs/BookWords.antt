@@ -122,7 +122,7 @@ module _ (ws : List ℕ) (b : BookView) (os : OtherViews) (f : Facts ws b os) (p
   get_step low true quiet = record {
     legal = (low, inside, tt);
     says = refl;
-    becomes = reads f s (put_view a n b) os refl;
+    becomes = reads f s (put_view a n b) os refl refl;
     book = λ law. ties ws (put_view a n b) os law (put (counts b) a true) (got_words (quiet_so quiet)) seen
         (counts_read s o.cell (counts b) l a false true (λ _. quiet_so quiet) (rests ws b os f)) epoch (going ws b os f);
     leaves = cells_stay refl refl refl (λ _ _. (refl, refl, refl));
@@ -130,7 +130,7 @@ module _ (ws : List ℕ) (b : BookView) (os : OtherViews) (f : Facts ws b os) (p
   get_step low false quiet = record {
     legal = (low, inside, tt);
     says = refl;
-    becomes = reads f s b os refl;
+    becomes = reads f s b os refl refl;
     book = λ _. f.book;
     leaves = cells_stay refl refl refl (λ _ _. (refl, refl, refl));
   }
@@ -163,7 +163,7 @@ module _ (ws : List ℕ) (b : BookView) (os : OtherViews) (f : Facts ws b os) (p
   free_step h = record {
     legal = (h.0, h.1, may_free s o.cell (counts b) o.copying.word l true seen (going ws b os f) h.2);
     says = refl;
-    becomes = reads f (with_free_log s l) left os free_becomes;
+    becomes = reads f (with_free_log s l) left os free_becomes refl;
     book = λ law. ties ws left os law (λ _. false) free_words seen (counts_none (book_state left) o.cell) epoch (going ws b os f);
     leaves = cells_stay refl refl refl (λ _ _. (refl, refl, refl));
   }
@@ -183,7 +183,7 @@ module _ (ws : List ℕ) (b : BookView) (os : OtherViews) (f : Facts ws b os) (p
         let later : List ℕ = set ws (data_at a) w in
         let low = h.0 in
         let most = f.law.shape.few_logs in
-        let are = data_word_set ws f.wide a w (omega arith) in record {
+        let are = data_word_set b.logs ws f.wide a w (omega arith) in record {
           legal = h;
           says = refl;
           becomes = state_is later (put_view a w b) os are refl refl refl refl;

@@ -52,7 +52,7 @@ module _ (cs : List CopierView) (c : ℕ) (v w : CopierView) (at : get_elem? cs 
 
 -- the state that words and views are then, by its parts
 pub copied_is : (ws later : List ℕ) (b : BookView) (os : OtherViews) (c : ℕ) (w : CopierView) {word job : ℕ → ℕ} {task : ℕ → Option Task} {long : ℕ → Option ℕ} {read : ℕ → ℕ → Option ℕ} {written : ℕ → ℕ → Bool} →
-    WordsAre later (epoch_in ws) (scope_in ws) (cell_in ws) word job → (λ d. (copier_at (set os.copiers c w) d).task) ≡ task → (λ d. (copier_at (set os.copiers c w) d).length) ≡ long →
+    WordsAre b.logs later (epoch_in ws) (scope_in ws) (cell_in ws) word job → (λ d. (copier_at (set os.copiers c w) d).task) ≡ task → (λ d. (copier_at (set os.copiers c w) d).length) ≡ long →
     (λ d. words_read (copier_at (set os.copiers c w) d)) ≡ read → (λ d. words_written (copier_at (set os.copiers c w) d)) ≡ written →
     Leads (record (state_of ws b os) { word = word; copying = record (copying_of ws b os.copiers) { word = job; task = task; length = long; read = read; written = written } }) later b (with_copier os c w)
 copied_is ws later b os c w words t l r x = record {
@@ -71,12 +71,13 @@ pub copies_none : {ws : List ℕ} {b : BookView} {os : OtherViews} → Facts ws 
 copies_none {ws} {b} {os} f v at = record { is = ap (λ (l : List CopierView). state_of ws b (record os { copiers = l })) (sym (set_again os.copiers v.number v at)); wide = f.wide }
 
 -- ---- a step
--- what a kind of step owes: its event is legal, with this answer; the words and views after are the core's state; and the copier's number
+-- what a kind of step owes: its event is legal, with this answer; the words and views after are the core's state; and what the copier's view says of itself
 pub record CopyStep (ws : List ℕ) (b : BookView) (os : OtherViews) (v : CopierView) (e : Event) (r : Reply) (later : List ℕ) (w : CopierView) : Type 0 where
   pub legal : Legal (state_of ws b os) e
   pub says : r ≡ answer (state_of ws b os) e
   pub becomes : Leads (after (state_of ws b os) e) later b (with_copier os v.number w)
   pub number : w.number ≡ v.number
+  pub logs : w.logs ≡ v.logs
 
 module _ (ws : List ℕ) (b : BookView) (os : OtherViews) (f : Facts ws b os) (v : CopierView) (at : get_elem? os.copiers v.number ≡ some v) where
   pub is_copier : v.number < MOST_COPIERS
@@ -98,6 +99,12 @@ module _ (ws : List ℕ) (b : BookView) (os : OtherViews) (f : Facts ws b os) (v
         (λ (x : (c ≢ v.number) × (get_elem? os.copiers c ≡ some y)). f.copiers c y x.1)
         (at_set os.copiers v.number c w y h)
 
+    sizes : (c : ℕ) (y : CopierView) → get_elem? (set os.copiers v.number w) c ≡ some y → y.logs ≡ b.logs
+    sizes c y h = ⊎_elim
+        (λ (x : (c ≡ v.number) × (w ≡ y)). ap (λ (z : CopierView). z.logs) (sym x.1) ∙ (k.logs ∙ f.copier_logs v.number v at))
+        (λ (x : (c ≢ v.number) × (get_elem? os.copiers c ≡ some y)). f.copier_logs c y x.1)
+        (at_set os.copiers v.number c w y h)
+
     law : Law (state_of later b (with_copier os v.number w))
     law = subst Law k.becomes.is (keeps s e f.law fits k.legal)
 
@@ -108,6 +115,7 @@ module _ (ws : List ℕ) (b : BookView) (os : OtherViews) (f : Facts ws b os) (v
       book = subst (BookTies b) k.becomes.is (book_on b s t f.law f.book (change s e f.law (ap is_other by) k.legal));
       owners = λ j (y : OwnerView) h. subst (λ (z : State). OwnerTies b z j y) k.becomes.is (owner_on b s t j y (others j) (f.owners j y h));
       copiers = numbers;
+      copier_logs = sizes;
       many = f.many;
       eight = length-set os.copiers v.number w ∙ f.eight;
       wide = k.becomes.wide;

@@ -11,7 +11,7 @@ use Rattle.atomic_table.proofs.Lists.{set_here}
 use Rattle.atomic_table.specs.Seated.{TableId}
 use Rattle.far_word.specs.declared.job.JobWord.TheVariants.{Offered, Taken}
 use Rattle.far_word.specs.declared.sizes.TheConstants.{JOBS, LOG_WORDS, MOST_COPIERS, MOST_LOGS}
-use Rattle.far_word.specs.Job.{IsJob, job_in, job_of, job_sum}
+use Rattle.far_word.specs.Job.{job_in, job_of, job_sum}
 use Rattle.far_word.specs.Sizes.{words_for}
 use Rattle.far_word.proofs.JobLaws.{job_says}
 use Rattle.far_core.specs.declared.event.Event.{Event}
@@ -21,11 +21,11 @@ use Rattle.far_core.specs.declared.event.Reply.TheVariants.{Done, Word}
 use Rattle.far_core.specs.declared.event.Task.{Task}
 use Rattle.far_core.specs.events.Step.{after}
 use Rattle.far_core.specs.state.State.{State, addr}
-use Rattle.far_core.proofs.JobPlaces.{task_lies}
+use Rattle.far_core.proofs.JobPlaces.{source_lies, task_lies}
 use Rattle.far_core.proofs.Put.{put_both, put_other, put_same}
 use Rattle.far_table.specs.CopierViews.{word_read_view, word_written_view, words_read, words_written}
 use Rattle.far_table.specs.CopySeats.{CopiedNext, CopyJob, IsCopied, IsJobOf, IsKept, IsTakenBy, Missed, OnlyWord, copied_on, first_at, job_kept}
-use Rattle.far_table.specs.Layout.{TABLE_WORDS, data_at, job_at}
+use Rattle.far_table.specs.Layout.{table_words, data_at, job_at}
 use Rattle.far_table.specs.Seats.{CopierSeated}
 use Rattle.far_table.specs.StateOf.{state_of}
 use Rattle.far_table.specs.Tells.{CopierMade, CopierMayBe, CopierStands, CopierTells, copier_of}
@@ -36,7 +36,7 @@ use Rattle.far_table.proofs.Places.{below}
 
 -- ---- the struct
 abbrev pub CopierOk : TableId → TableId → View → ℕ → ℕ → Type 0
-CopierOk id here v taking finishing = (id ≡ here) × (id.words ≡ TABLE_WORDS) × (v ≡ Copier (copier_of v)) × (taking ≡ (copier_of v).number * 2 ^ 58 + 1 * 2 ^ 62)
+CopierOk id here v taking finishing = (id ≡ here) × (id.words ≡ table_words (copier_of v).logs) × (v ≡ Copier (copier_of v)) × (taking ≡ (copier_of v).number * 2 ^ 58 + 1 * 2 ^ 62)
     × (finishing ≡ (copier_of v).number * 2 ^ 58 + 2 * 2 ^ 62) × ((copier_of v).number < MOST_COPIERS) × CopierStands (copier_of v)
 
 -- a call left a state beside the view
@@ -47,13 +47,18 @@ copier_left e v r w made =
     let number : w.number ≡ v.number = made.keeps.copiers v.number w here in
     ∣ (state_of made.later made.book others, record { words = made.later; book = made.book; others = others; facts = made.keeps; stands = ap (get_elem? others.copiers) number ∙ here; is = refl }) ∣₁
 
+-- and as many logs
+logs_kept : (e : Event) (v : CopierView) (r : Reply) (w : CopierView) → CopierMade e v r w → v.logs ≡ w.logs
+logs_kept e v r w made = made.facts.copier_logs v.number v made.stands
+    ∙ sym (made.keeps.copier_logs v.number w (set_here made.others.copiers v.number w (below made.others.copiers v.number v made.stands)))
+
 pub copier_stays : (id later here : TableId) (v v' : View) (taking finishing : ℕ) (e : Event) (r : Reply) (w : CopierView) → CopierOk id here v taking finishing → later ≡ id →
     CopierTells v v' e r w → CopierOk later here v' taking finishing
 copier_stays id later here v v' taking finishing e r w i same t =
     let view : copier_of v' ≡ w = ap copier_of t.after_is in
     let number : (copier_of v).number ≡ (copier_of v').number = sym (ap (λ (z : CopierView). z.number) view ∙ t.number) in (
       same ∙ i.0,
-      ap (λ (z : TableId). z.words) same ∙ i.1,
+      ap (λ (z : TableId). z.words) same ∙ (i.1 ∙ ap (λ n. table_words n) (logs_kept e (copier_of v) r w t.made ∙ ap (λ (z : CopierView). z.logs) (sym view))),
       t.after_is ∙ ap (λ z. Copier (copier_of z)) (sym t.after_is),
       i.3 ∙ ap (λ n. n * 2 ^ 58 + 1 * 2 ^ 62) number,
       i.4 ∙ ap (λ n. n * 2 ^ 58 + 2 * 2 ^ 62) number,
@@ -131,11 +136,14 @@ pub own_here : {job job' : CopyJob} {z z' : CopierSeated} → job ≡ job' → z
 own_here e f own = subst (λ (x : CopyJob × CopierSeated). IsJobOf x.0 x.1.view) (λ i. (sym e i, sym f i)) own
 
 -- ---- where the words of its job stand
-pub task_within : (v : CopierView) (t : Task) → CopierStands v → v.task ≡ Some t → (t.number < JOBS) × IsJob t.job
+pub task_within : (v : CopierView) (t : Task) → CopierStands v → v.task ≡ Some t → (t.number < JOBS) × (addr t.job.from < v.logs * LOG_WORDS)
 task_within v t there task = ∥∥₁_elim there (hlevel props) (λ (x : (s : State) × CopierMayBe v s).
     let may = x.1 in
-    let lies = task_lies (state_of may.words may.book may.others) may.facts.law v.number t (has may.words may.book may.others may.facts v may.stands t task) in
-    (lies.0, lies.1.0))
+    let s : State = state_of may.words may.book may.others in
+    let k = has may.words may.book may.others may.facts v may.stands t task in
+    let source = (source_lies s may.facts.law v.number t k).0 in
+    let many = may.facts.copier_logs v.number v may.stands in
+    ((task_lies s may.facts.law v.number t k).0, omega (arith, source, many)))
 
 -- the length of which the words are
 length_of : (x : Option ℕ) (w : ℕ) → option_map words_for x ≡ Some w → (n : ℕ) × (x ≡ Some n) × (words_for n ≡ w)
@@ -147,13 +155,15 @@ module _ (v : CopierView) (job : CopyJob) (own : IsJobOf job v) where
   len = length_of v.length job.words own.long
 
   pub job_fits : CopierStands v → (addr job.task.job.from + 1 + job.words ≤ MOST_LOGS * LOG_WORDS) × (addr job.task.job.to + 1 + job.words ≤ MOST_LOGS * LOG_WORDS)
+      × (addr job.task.job.from + 1 + job.words ≤ v.logs * LOG_WORDS) × (addr job.task.job.to + 1 + job.words ≤ v.logs * LOG_WORDS)
   job_fits there = ∥∥₁_elim there (hlevel props) (λ (x : (s : State) × CopierMayBe v s).
       let may = x.1 in
       let k = has may.words may.book may.others may.facts v may.stands job.task own.task in
       let long = may.facts.law.copies.taken.long v.number len.0 job.task k (ap (λ (y : CopierView). y.length) (copier_is may.others.copiers v.number v v may.stands) ∙ len.1) in
       let words = sym len.2 ∙ ap words_for long in
       let fits = task_fits may.words may.book may.others may.facts v may.stands job.task own.task in
-      (omega (arith, fits.0, words), omega (arith, fits.1, words)))
+      let many = may.facts.copier_logs v.number v may.stands in
+      (omega (arith, fits.0, words), omega (arith, fits.1, words), omega (arith, fits.2, words, many), omega (arith, fits.3, words, many)))
 
   pub all_written : IsCopied job → (i : ℕ) → i < words_for len.0 → words_written v i ≡ true
   all_written whole i low = own.written i (let words = len.2 in omega (arith, whole, words, low))

@@ -19,12 +19,13 @@ use Rattle.far_core.specs.events.Tasks.{AllWritten}
 use Rattle.far_core.specs.state.Jobs.{job_words}
 use Rattle.far_core.specs.state.Law.{head_len}
 use Rattle.far_core.specs.state.State.{State, addr, put}
+use Rattle.far_core.proofs.Bounds.{log_inside}
 use Rattle.far_core.proofs.JobPlaces.{job_bounds, source_lies, task_lies}
 use Rattle.far_core.proofs.KeepJobs.{task_at}
 use Rattle.far_table.specs.View.{BookView, CopierView, OtherViews, View, Copier}
 use Rattle.far_table.specs.CopierPlays.{JobClaimed, JobFinished, JobPeeked, LengthRead, SourceRead, TargetWritten}
 use Rattle.far_table.specs.CopierViews.{claimed_view, finished_view, measured_view, word_read_view, word_written_view, words_read, words_written}
-use Rattle.far_table.specs.Layout.{TABLE_WORDS, data_at, job_at, job_in, word_in}
+use Rattle.far_table.specs.Layout.{table_words, data_at, job_at, job_in, word_in}
 use Rattle.far_table.specs.NameViews.{exchange_reply}
 use Rattle.far_table.specs.Rule.{Facts, Running}
 use Rattle.far_table.specs.StateOf.{state_of}
@@ -65,7 +66,7 @@ module _ (ws : List ℕ) (b : BookView) (os : OtherViews) (f : Facts ws b os) (v
 
     -- ---- looks
     pub peek_step : CopyStep ws b os v (PeekJob c j) (Word n) ws v
-    peek_step = record { legal = (is_copier ws b os f v at, low); says = refl; becomes = copies_none f v at; number = refl }
+    peek_step = record { legal = (is_copier ws b os f v at, low); says = refl; becomes = copies_none f v at; number = refl; logs = refl }
 
     -- ---- claims
     module _ (old : ℕ) (job : Job) (idle : v.task ≡ None) (offers : job_of old ≡ Some (Offered job)) where
@@ -78,18 +79,20 @@ module _ (ws : List ℕ) (b : BookView) (os : OtherViews) (f : Facts ws b os) (v
             legal = legal;
             says = won_says n old won;
             becomes = led_by (if_won n old _ _ won ∙ ap (λ x. after_claim s c j (offered_in x)) offers)
-                (copied_is ws _ b os c w (job_word_set ws f.wide j (job_word (Taken job c)) low) (sets w (λ y. y.task)) (sets w (λ y. y.length)) (sets w words_read) (sets w words_written));
+                (copied_is ws _ b os c w (job_word_set b.logs ws f.wide j (job_word (Taken job c)) low) (sets w (λ y. y.task)) (sets w (λ y. y.length)) (sets w words_read) (sets w words_written));
             number = refl;
+            logs = refl;
           })
-          (λ lost. record { legal = legal; says = lost_says n old lost; becomes = led_by (if_lost n old _ _ lost) (copies_none f v at); number = refl })
+          (λ lost. record { legal = legal; says = lost_says n old lost; becomes = led_by (if_lost n old _ _ lost) (copies_none f v at); number = refl; logs = refl })
 
   -- ---- of the job that it has
   module _ (t : Task) (task : v.task ≡ Some t) where
     pub has : s.copying.task c ≡ Some t
     has = task_is ∙ task
 
-    -- both places of the job lie within the logs
+    -- both places of the job lie within the logs, and within those of the heap
     pub task_fits : (addr t.job.from + 1 + job_words s.word t.job ≤ MOST_LOGS * LOG_WORDS) × (addr t.job.to + 1 + job_words s.word t.job ≤ MOST_LOGS * LOG_WORDS)
+        × (addr t.job.from + 1 + job_words s.word t.job ≤ s.logs * LOG_WORDS) × (addr t.job.to + 1 + job_words s.word t.job ≤ s.logs * LOG_WORDS)
     task_fits =
         let job = task_at s.word s.copying f.law.copies.taken c t has in
         let spans = f.law.copies.jobs.job_spans t.number t.job job in
@@ -99,15 +102,22 @@ module _ (ws : List ℕ) (b : BookView) (os : OtherViews) (f : Facts ws b os) (v
         let long : words_for (head_len (s.word (addr t.job.to))) ≡ job_words s.word t.job = ap (λ y. words_for (head_len y)) spans.alike in
         let end = f.law.logs.tail_end (addr t.job.from / LOG_WORDS) in
         let last = f.law.logs.tail_end (addr t.job.to / LOG_WORDS) in
-        (omega (arith, from, bounds.from.0, bounds.from.1, end), omega (arith, to, long, bounds.to.0, bounds.to.1, last))
+        let source = log_inside s f.law (addr t.job.from / LOG_WORDS) (omega (arith, from)) in
+        let target = log_inside s f.law (addr t.job.to / LOG_WORDS) (omega (arith, to)) in (
+          omega (arith, from, bounds.from.0, bounds.from.1, end),
+          omega (arith, to, long, bounds.to.0, bounds.to.1, last),
+          omega (arith, from, end, source),
+          omega (arith, to, long, last, target),
+        )
 
     pub measure_step : CopyStep ws b os v (ReadLength c) (Word (word_in ws (addr t.job.from))) ws (measured_view (word_in ws (addr t.job.from)) v)
     measure_step = let w : CopierView = measured_view (word_in ws (addr t.job.from)) v in record {
       legal = (t, has);
       says = rw has refl;
-      becomes = rw has (copied_is ws ws b os c w (no_word ws f.wide) (stays w (λ y. y.task) refl) (sets w (λ y. y.length))
+      becomes = rw has (copied_is ws ws b os c w (no_word b.logs ws f.wide) (stays w (λ y. y.task) refl) (sets w (λ y. y.length))
           (stays w words_read refl) (stays w words_written refl));
       number = refl;
+      logs = refl;
     }
 
     -- as many words as the length says, once that is read
@@ -118,9 +128,10 @@ module _ (ws : List ℕ) (b : BookView) (os : OtherViews) (f : Facts ws b os) (v
     read_step i inside = let w : CopierView = word_read_view i (word_in ws (addr t.job.from + 1 + i)) v in record {
       legal = (t, has, inside);
       says = rw has refl;
-      becomes = rw has (copied_is ws ws b os c w (no_word ws f.wide) (stays w (λ y. y.task) refl) (stays w (λ y. y.length) refl)
+      becomes = rw has (copied_is ws ws b os c w (no_word b.logs ws f.wide) (stays w (λ y. y.task) refl) (stays w (λ y. y.length) refl)
           (sets w words_read ∙ ap (λ f. put s.copying.read c (put f i (Some (word_in ws (addr t.job.from + 1 + i))))) (sym read_is)) (stays w words_written refl));
       number = refl;
+      logs = refl;
     }
 
     -- a word that was read
@@ -129,17 +140,18 @@ module _ (ws : List ℕ) (b : BookView) (os : OtherViews) (f : Facts ws b os) (v
       knows = ap (λ f. f i) read_is ∙ got
 
       -- the target lies within the table
-      within : data_at (addr t.job.to + 1 + i) < TABLE_WORDS
-      within = let low = (f.law.copies.taken.fits c i x t has knows).0 in let end = task_fits.1 in omega arith
+      within : data_at (addr t.job.to + 1 + i) < table_words b.logs
+      within = let low = (f.law.copies.taken.fits c i x t has knows).0 in let end = task_fits.3 in omega arith
 
       pub write_step : CopyStep ws b os v (Write c i) Done (set ws (data_at (addr t.job.to + 1 + i)) x) (word_written_view i v)
       write_step = let w : CopierView = word_written_view i v in record {
         legal = (t, x, has, knows);
         says = refl;
-        becomes = rw (has, knows) (copied_is ws (set ws (data_at (addr t.job.to + 1 + i)) x) b os c w (data_word_set ws f.wide (addr t.job.to + 1 + i) x within)
+        becomes = rw (has, knows) (copied_is ws (set ws (data_at (addr t.job.to + 1 + i)) x) b os c w (data_word_set b.logs ws f.wide (addr t.job.to + 1 + i) x within)
             (stays w (λ y. y.task) refl) (stays w (λ y. y.length) refl) (stays w words_read refl)
             (sets w words_written ∙ ap (λ f. put s.copying.written c (put f i true)) (sym written_is)));
         number = refl;
+        logs = refl;
       }
 
     -- all words were written
@@ -147,10 +159,11 @@ module _ (ws : List ℕ) (b : BookView) (os : OtherViews) (f : Facts ws b os) (v
     finish_step all = let w : CopierView = finished_view v in record {
       legal = (t, has, λ i lt. ap (λ f. f i) written_is ∙ all i lt);
       says = refl;
-      becomes = rw has (copied_is ws (set ws (job_at t.number) (job_word (Finished t.job c))) b os c w (job_word_set ws f.wide t.number (job_word (Finished t.job c)) (task_lies s f.law c t has).0)
+      becomes = rw has (copied_is ws (set ws (job_at t.number) (job_word (Finished t.job c))) b os c w (job_word_set b.logs ws f.wide t.number (job_word (Finished t.job c)) (task_lies s f.law c t has).0)
           (sets w (λ y. y.task)) (stays w (λ y. y.length) refl) (stays w words_read refl)
           (stays w words_written refl));
       number = refl;
+      logs = refl;
     }
 
 -- ---- what a step on the table asks

@@ -26,6 +26,7 @@ use Rattle.far_core.specs.state.Law.{Law, in_use}
 use Rattle.far_core.specs.state.State.{State, addr}
 use Rattle.far_core.specs.world.World.{FarSide, Group, Object}
 use Rattle.far_core.specs.world.WorldOf.{object_of, world_of}
+use Rattle.far_core.proofs.Bounds.{near_inside}
 use Rattle.far_core.proofs.Cells.{held_near}
 use Rattle.far_core.proofs.ObjectFacts.{object_agrees}
 use Rattle.far_core.proofs.Put.{put_both}
@@ -152,9 +153,9 @@ module _ (s : State) (honest : Bool) (m : ℕ) where
     pub first_object_none : object_at o p ≡ None
     first_object_none = over_beside (λ q. cond (s.used q) (seen_object ((world_of s).object q)) None) (λ _. None) CELLS (CELLS * m) p (λ a b. other (omega arith))
 
-  -- what it holds is its own, and lies within the logs
+  -- what it holds is its own, and lies within the logs, and within those of the heap
   pub first_fits : Law s → (p : ℕ) (place : Place) → p / CELLS ≡ m → s.held p ≡ Some place →
-      addr place + 1 + words_for (len_of (object_at o p)) ≤ MOST_LOGS * LOG_WORDS
+      (addr place + 1 + words_for (len_of (object_at o p)) ≤ MOST_LOGS * LOG_WORDS) × (addr place + 1 + words_for (len_of (object_at o p)) ≤ s.logs * LOG_WORDS)
   first_fits law p place own held =
       let x = held_near (read_of (s.cell p)) place (law.views.held_names p place held) in
       let a = (object_agrees s p).near x.len x.ds place x.marks x.near x.kept in
@@ -162,7 +163,8 @@ module _ (s : State) (honest : Bool) (m : ℕ) where
       let long : len_of (object_at o p) ≡ x.len = ap len_of (first_object p own)
       ∙ (ap (λ t. len_of (cond t (seen_object ((world_of s).object p)) None)) used ∙ (ap (λ z. len_of (seen_object z)) a.1 ∙ a.4)) in
       let says = read_says (s.cell p) (Near x.len x.ds place x.marks) (law.cells.cell_read p).0 x.near in
-      omega (arith, says.0)
+      let inside = (near_inside s law p x.len x.ds place x.marks x.near).1 in
+      (omega (arith, says.0), omega (arith, inside))
 
   pub first_own : (p : ℕ) (place : Place) → held_at o p ≡ Some place → p / CELLS ≡ m
   first_own p place held = dite (ℕ_discrete (p / CELLS) m) (λ e. e) (λ ne. let odd : None ≡ Some place = sym (first_held_none p ne) ∙ held in absurd (cc))
@@ -173,7 +175,8 @@ module _ (s : State) (honest : Bool) (m : ℕ) where
   first_places law places has p place held =
       let own : p / CELLS ≡ m = first_own p place held in
       let rests : s.held p ≡ Some place = sym (first_held p own) ∙ held in
-      record { own = own; here = has p place own rests; fits = first_fits law p place own rests }
+      let fits = first_fits law p place own rests in
+      record { own = own; here = has p place own rests; fits = fits.0; inside = fits.1 }
 
 -- ---- all owners
 module _ (s : State) (honest : Bool) where

@@ -16,6 +16,7 @@ use Rattle.far_core.specs.events.Pin.{place_to_view}
 use Rattle.far_core.specs.state.Law.{held_place}
 use Rattle.far_core.specs.state.State.{State, addr}
 use Rattle.far_core.specs.world.World.{Object}
+use Rattle.far_core.proofs.Bounds.{near_inside}
 use Rattle.far_core.proofs.Cells.{held_near}
 use Rattle.far_core.proofs.ObjectFacts.{object_agrees}
 use Rattle.far_hand.proofs.Masking.{lies, one_owner}
@@ -40,7 +41,7 @@ pub some_there : {X : Type 0} (x : Option X) → is_some x ≡ true → (y : X) 
 some_there None h = absurd (false≢true h)
 some_there (Some y) h = (y, refl)
 
--- its cell, its length, and that it lies within the logs
+-- its cell, its length, and that it lies within the logs, and within those of the heap
 pub record HeldFacts (s : State) (o : OwnerView) (p : ℕ) (place : Place) : Type 0 where
   pub len : ℕ
   pub ds : ℕ
@@ -53,6 +54,7 @@ pub record HeldFacts (s : State) (o : OwnerView) (p : ℕ) (place : Place) : Typ
   pub long : view.len ≡ len
   pub kind : view.ds ≡ ds
   pub fits : addr place + 1 + words_for len ≤ MOST_LOGS * LOG_WORDS
+  pub within : addr place + 1 + words_for len ≤ s.logs * LOG_WORDS
 
 module _ (ws : List ℕ) (b : BookView) (os : OtherViews) (f : Facts ws b os) (o : OwnerView) (at : get_elem? os.owners o.number ≡ some o) where
   abbrev s : State
@@ -66,7 +68,8 @@ module _ (ws : List ℕ) (b : BookView) (os : OtherViews) (f : Facts ws b os) (o
       let a = (object_agrees s p).near x.len x.ds place x.marks x.near x.kept in
       let same : Some has.object ≡ Some a.0 = sym has.there ∙ a.1 in
       let one : has.object ≡ a.0 = cc in
-      let says = read_says (s.cell p) (Near x.len x.ds place x.marks) (f.law.cells.cell_read p).0 x.near in record {
+      let says = read_says (s.cell p) (Near x.len x.ds place x.marks) (f.law.cells.cell_read p).0 x.near in
+      let inside = (near_inside s f.law p x.len x.ds place x.marks x.near).1 in record {
         len = x.len;
         ds = x.ds;
         marks = x.marks;
@@ -78,6 +81,7 @@ module _ (ws : List ℕ) (b : BookView) (os : OtherViews) (f : Facts ws b os) (o
         long = sym has.len ∙ (ap (λ (z : Object). length z.bytes) one ∙ a.4);
         kind = sym has.ds ∙ (ap (λ (z : Object). z.ds) one ∙ a.3);
         fits = omega (arith, says.0);
+        within = omega (arith, inside);
       }
 
   pub held_so : (p : ℕ) → p / CELLS ≡ o.number → s.held p ≡ held_at o p

@@ -18,7 +18,7 @@ use Rattle.far_core.specs.world.World.{Object}
 use Rattle.far_core.proofs.Calls.{word_behind}
 use Rattle.far_core.proofs.Owing.{does}
 use Rattle.far_table.specs.View.{BookView, OwnerView, View, Owner, OtherViews, with_owner}
-use Rattle.far_table.specs.Layout.{LOGS_AT, TABLE_WORDS, data_at, word_in}
+use Rattle.far_table.specs.Layout.{LOGS_AT, table_words, data_at, word_in}
 use Rattle.far_table.specs.Plays.{Loaded}
 use Rattle.far_table.specs.Rule.{Facts, Running}
 use Rattle.far_table.specs.Seats.{HasPlaces}
@@ -55,7 +55,7 @@ module _ (ws : List ℕ) (b : BookView) (os : OtherViews) (f : Facts ws b os) (o
   load_step = record {
     legal = legal;
     says = ap (λ a. Word (word_in ws a)) (sym behind);
-    becomes = reads f s b (with_owner os o.number o) (ap (λ (l : List OwnerView). state_of ws b (record os { owners = l })) (sym (set_again os.owners o.number o at)));
+    becomes = reads f s b (with_owner os o.number o) (ap (λ (l : List OwnerView). state_of ws b (record os { owners = l })) (sym (set_again os.owners o.number o at))) refl;
     mine = f.owners o.number o at;
   }
 
@@ -92,8 +92,8 @@ module _ {S : Type 0} (slots id : ℕ) (me : Me S View) (is : me.0 ≡ Owner (ow
     led : data_at (addr there.0 + 1 + i) ≡ a + LOGS_AT
     led = let here = (has p there.0 there.1).here in omega (arith, read)
 
-    pub loads_at : (a + LOGS_AT < TABLE_WORDS) × Allows Running slots id me (a + LOGS_AT) (λ n. n) (Loaded (step slots (a + LOGS_AT) 0 0 none) me)
-    loads_at = let fits = (has p there.0 there.1).fits in let word = led in (
+    pub loads_at : (a + LOGS_AT < table_words view.logs) × Allows Running slots id me (a + LOGS_AT) (λ n. n) (Loaded (step slots (a + LOGS_AT) 0 0 none) me)
+    loads_at = let fits = (has p there.0 there.1).inside in let word = led in (
       omega arith,
       subst (λ z. Allows Running slots id me z (λ n. n) (Loaded (step slots z 0 0 none) me)) led (loads p i there.0 (has p there.0 there.1).own there.1 inside),
     )

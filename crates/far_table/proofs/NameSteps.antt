@@ -38,7 +38,7 @@ use Rattle.far_table.specs.View.{BookView, View, Book, OtherViews}
 use Rattle.far_table.specs.BookPlays.{Named}
 use Rattle.far_table.specs.BookTells.{BookTells, cooled_by, retired_by, taken_by}
 use Rattle.far_table.specs.BookViews.{saw_view}
-use Rattle.far_table.specs.Layout.{cell_at, cell_in, job_in, word_in}
+use Rattle.far_table.specs.Layout.{cell_at, cell_in, epoch_in, job_in, scope_in, word_in}
 use Rattle.far_table.specs.NameViews.{exchange_reply, exchanged_view, form_view, formed_view, move_view, named_view, retires, span_view, view_by}
 use Rattle.far_table.specs.Rows.{over}
 use Rattle.far_table.specs.Rule.{Facts, Running}
@@ -54,7 +54,7 @@ use Rattle.far_table.proofs.Masks.{counts, finds, going, is_masked, ties}
 use Rattle.far_table.proofs.Masks as masks
 use Rattle.far_table.proofs.NameRows.{begins_put, stored_after}
 use Rattle.far_table.proofs.OwnSteps.{led_by, reads, state_is}
-use Rattle.far_table.proofs.Words.{cell_here}
+use Rattle.far_table.proofs.Words.{WordsAre, cell_here}
 
 -- ---- what a form leaves of the view
 -- a move takes a span, or names what was copied
@@ -391,27 +391,30 @@ module _ (ws : List ℕ) (b : BookView) (os : OtherViews) (f : Facts ws b os) (p
   finds_named_too x = finds_after ws b os f p new few
 
   won_step : cell_in ws p ≡ old → BookStep ws b os (Name p old new) Done later b'
-  won_step won = let sizes = form_sizes s.word p form b in record {
-    legal = legal;
-    says = won_says (cell_in ws p) old won;
-    becomes = led_by (won_state s p old new form won by_view.1.1 ∙ row_becomes form (told form by_view.1.1 by_view.1.2) by_view.1.1) (state_is later b' os (cell_after ws b os f p new few) refl refl refl refl);
-    book = λ law. ties later b' os law (λ _. false) words_named (finds_named_too form) (counts_none (book_state b') (book_state b').cell) (epoch_after ws b os f p new few ∙ sym sizes.3) (going_named form);
-    leaves = record {
-      mutators = sizes.0;
-      honest = sizes.1;
-      rest = sizes.2;
-      scopes = (cell_after ws b os f p new few).scope_is;
-      counts = counts_named won;
-      warm = warm_named won;
-      told = told_named;
-    };
-  }
+  won_step won = let sizes = form_sizes s.word p form b in
+      let many = form_logs s.word p form b in
+      let sized = subst (λ n. WordsAre n later (epoch_in ws) (scope_in ws) (put (cell_in ws) p new) (word_in ws) (job_in ws)) (sym many) (cell_after ws b os f p new few) in record {
+        legal = legal;
+        says = won_says (cell_in ws p) old won;
+        becomes = led_by (won_state s p old new form won by_view.1.1 ∙ row_becomes form (told form by_view.1.1 by_view.1.2) by_view.1.1) (state_is later b' os sized refl refl refl refl);
+        book = λ law. ties later b' os law (λ _. false) words_named (finds_named_too form) (counts_none (book_state b') (book_state b').cell) (epoch_after ws b os f p new few ∙ sym sizes.3) (going_named form);
+        leaves = record {
+          mutators = sizes.0;
+          logs = many;
+          honest = sizes.1;
+          rest = sizes.2;
+          scopes = (cell_after ws b os f p new few).scope_is;
+          counts = counts_named won;
+          warm = warm_named won;
+          told = told_named;
+        };
+      }
 
   lost_step : cell_in ws p ≢ old → BookStep ws b os (Name p old new) (Word (cell_in ws p)) ws (saw_view p (cell_in ws p) b)
   lost_step ne = let seen = see_step ws b os f plain p h.0 in record {
     legal = legal;
     says = lost_says (cell_in ws p) old ne;
-    becomes = reads f (after s (Name p old new)) (saw_view p (cell_in ws p) b) os (lost_state s p old new ne);
+    becomes = reads f (after s (Name p old new)) (saw_view p (cell_in ws p) b) os (lost_state s p old new ne) refl;
     book = seen.book;
     leaves = cells_stay refl refl refl (λ _ _. (refl, refl, refl));
   }

@@ -22,12 +22,13 @@ module _ (ws : List ℕ) (b : BookView) (os : OtherViews) (f : Facts ws b os) (o
   w = noted_view p n o
 
   same : state_of ws b os ≡ state_of ws b (with_owner os o.number w)
-  same = (state_is ws b (with_owner os o.number w) (no_word ws f.wide) (remembered_same os.owners o.number o w at refl) (pointers_same os.owners o.number o w at uses refl) (pointers_same os.owners o.number o w at held_at refl) (pointers_same os.owners o.number o w at soiled_at refl)).is
+  same = (state_is ws b (with_owner os o.number w) (no_word b.logs ws f.wide) (remembered_same os.owners o.number o w at refl) (pointers_same os.owners o.number o w at uses refl) (pointers_same os.owners o.number o w at held_at refl) (pointers_same os.owners o.number o w at soiled_at refl)).is
 
   mine : OwnerTies b (state_of ws b os) o.number w
   mine = let ties = f.owners o.number o at in record {
     number = ties.number;
     honest = ties.honest;
+    logs = ties.logs;
     scope = ties.scope;
     objects = ties.objects;
     asks = ties.asks;
@@ -49,6 +50,7 @@ module _ (ws : List ℕ) (b : BookView) (os : OtherViews) (f : Facts ws b os) (o
     book = subst (BookTies b) same f.book;
     owners = λ j y h. subst (λ (z : State). OwnerTies b z j y) same (each j y h);
     copiers = f.copiers;
+    copier_logs = f.copier_logs;
     many = length-set os.owners o.number w ∙ f.many;
     eight = f.eight;
     wide = f.wide;

@@ -20,7 +20,7 @@ use Rattle.far_core.proofs.Steps.{agrees}
 use Rattle.far_hand.specs.Makers.{ByOwner, is_other, maker}
 use Rattle.far_hand.proofs.OthersWork.{change}
 use Rattle.far_table.specs.View.{BookView, ObjectView, OtherViews, OwnerView, with_owner}
-use Rattle.far_table.specs.Layout.{TABLE_WORDS}
+use Rattle.far_table.specs.Layout.{table_words}
 use Rattle.far_table.specs.Rule.{BookTies, Facts, Has, OwnerTies}
 use Rattle.far_table.specs.StateOf.{cooled_at, copying_of, held_by, remembered_by, retired_at, soiled_by, state_of, taken_at, used_by}
 use Rattle.far_table.specs.Tells.{OwnerMade, OwnerMayBe}
@@ -35,10 +35,10 @@ use Rattle.far_table.proofs.Words.{WordsAre}
 -- words and views are this state
 pub record Leads (s : State) (ws : List ℕ) (b : BookView) (os : OtherViews) : Type 0 where
   pub is : s ≡ state_of ws b os
-  pub wide : length ws ≡ TABLE_WORDS
+  pub wide : length ws ≡ table_words b.logs
 
 pub state_is : (ws : List ℕ) (b : BookView) (os : OtherViews) {epoch : ℕ} {scope cell word job : ℕ → ℕ} {remembered : ℕ → Option ℕ} {used : ℕ → Bool} {held : ℕ → Option Place} {soiled : ℕ → Bool} →
-    WordsAre ws epoch scope cell word job → remembered_by os.owners ≡ remembered → used_by os.owners ≡ used → held_by os.owners ≡ held → soiled_by os.owners ≡ soiled →
+    WordsAre b.logs ws epoch scope cell word job → remembered_by os.owners ≡ remembered → used_by os.owners ≡ used → held_by os.owners ≡ held → soiled_by os.owners ≡ soiled →
     Leads (record (state_of ws b os) { epoch = epoch; scope = scope; cell = cell; word = word; remembered = remembered; used = used; held = held; soiled = soiled; copying = record (copying_of ws b os.copiers) { word = job } }) ws b os
 state_is ws b os words r u h d = record {
   is = λ i. record (state_of ws b os) {
@@ -60,8 +60,8 @@ pub led_by : {s t : State} {ws : List ℕ} {b : BookView} {os : OtherViews} → 
 led_by same leads = record { is = same ∙ leads.is; wide = leads.wide }
 
 -- no word changes
-pub reads : {ws : List ℕ} {b : BookView} {os : OtherViews} → Facts ws b os → (s : State) (b' : BookView) (later : OtherViews) → s ≡ state_of ws b' later → Leads s ws b' later
-reads f s b' later is = record { is = is; wide = f.wide }
+pub reads : {ws : List ℕ} {b : BookView} {os : OtherViews} → Facts ws b os → (s : State) (b' : BookView) (later : OtherViews) → s ≡ state_of ws b' later → b'.logs ≡ b.logs → Leads s ws b' later
+reads f s b' later is same = record { is = is; wide = f.wide ∙ ap (λ n. table_words n) (sym same) }
 
 -- ---- ties of an owner that go on
 pub has_on : (s t : State) (p : ℕ) (x : ObjectView) → (world_of t).object p ≡ (world_of s).object p → t.honest ≡ s.honest → Has s p x → Has t p x
@@ -71,6 +71,7 @@ pub owner_on : (b : BookView) (s t : State) (j : ℕ) (y : OwnerView) → KeepsO
 owner_on b s t j y keep ties = record {
   number = ties.number;
   honest = ties.honest ∙ sym keep.honest;
+  logs = ties.logs;
   scope = keep.scope ∙ ties.scope;
   objects = λ p x own h. has_on s t p x (keep.object p own) keep.honest (ties.objects p x own h);
   asks = λ p own. ties.asks p own ∙ ap (λ w. taken_at b p + moves w) (sym (keep.cell p own));
@@ -80,13 +81,14 @@ owner_on b s t j y keep ties = record {
 }
 
 -- the ties of the owner itself, where no object of it changes, and no count but of HOT
-pub mine_on : (b : BookView) (s t : State) (m : ℕ) (o w : OwnerView) → OwnerTies b s m o → w.number ≡ o.number → w.honest ≡ o.honest → t.honest ≡ s.honest →
+pub mine_on : (b : BookView) (s t : State) (m : ℕ) (o w : OwnerView) → OwnerTies b s m o → w.number ≡ o.number → w.honest ≡ o.honest → w.logs ≡ o.logs → t.honest ≡ s.honest →
     t.scope m ≡ scope_word_of w.open_at → object_at w ≡ object_at o → asked_at w ≡ asked_at o → dropped_at w ≡ dropped_at o → (world_of t).object ≡ (world_of s).object →
     ((p : ℕ) → (moves (t.cell p) ≡ moves (s.cell p)) × (drops (t.cell p) ≡ drops (s.cell p))) → ((p : ℕ) → p / CELLS ≡ m → heated_at w p ≡ cooled_at b p + hots (t.cell p)) →
     ((p : ℕ) → p / CELLS ≡ m → pinned_at w p ≡ true → IsSome (held_at w p) × (hots (t.cell p) ≡ 1)) → OwnerTies b t m w
-mine_on b s t m o w ties number honest same scope objects asked dropped world marks heats warm = record {
+mine_on b s t m o w ties number honest logs same scope objects asked dropped world marks heats warm = record {
   number = number ∙ ties.number;
   honest = honest ∙ (ties.honest ∙ sym same);
+  logs = logs ∙ ties.logs;
   scope = scope;
   objects = λ p x own h. has_on s t p x (ap (λ f. f p) world) same (ties.objects p x own (sym (ap (λ f. f p) objects) ∙ h));
   asks = λ p own. ap (λ f. f p) asked ∙ (ties.asks p own ∙ ap (λ n. taken_at b p + n) (sym (marks p).0));
@@ -142,6 +144,7 @@ module _ (ws : List ℕ) (b : BookView) (os : OtherViews) (f : Facts ws b os) (o
     book = subst (BookTies b) k.becomes.is (book_on b s t f.law f.book (change s e f.law (ap is_other by) k.legal));
     owners = λ j y h. subst (λ (z : State). OwnerTies b z j y) k.becomes.is (each j y h);
     copiers = f.copiers;
+    copier_logs = f.copier_logs;
     many = length-set os.owners o.number w ∙ f.many;
     eight = f.eight;
     wide = k.becomes.wide;

@@ -152,10 +152,10 @@ module _ (ws : List ℕ) (b : BookView) (os : OtherViews) (f : Facts ws b os) (o
       let opens : w.open_at ≡ o.open_at = placed_same (λ y. y.open_at) p warm (λ _. refl) x in record {
         legal = legal;
         says = refl;
-        becomes = state_is (set ws (cell_at p) hot) b (with_owner os m w) (cell_word_set ws f.wide p hot small)
+        becomes = state_is (set ws (cell_at p) hot) b (with_owner os m w) (cell_word_set b.logs ws f.wide p hot small)
             (remembered_same os.owners m o w at (placed_same (λ y. y.epoch) p warm (λ _. refl) x))
             (pointers_same os.owners m o w at uses (placed_same uses p warm (λ _. refl) x)) (held_after x) (pointers_same os.owners m o w at soiled_at (placed_same soiled_at p warm (λ _. refl) x));
-        mine = mine_on b s (after s (Pin m p)) m o w (f.owners m o at) (placed_same (λ y. y.number) p warm (λ _. refl) x) (placed_same (λ y. y.honest) p warm (λ _. refl) x) refl
+        mine = mine_on b s (after s (Pin m p)) m o w (f.owners m o at) (placed_same (λ y. y.number) p warm (λ _. refl) x) (placed_same (λ y. y.honest) p warm (λ _. refl) x) (placed_same (λ y. y.logs) p warm (λ _. refl) x) refl
             ((f.owners m o at).scope ∙ ap scope_word_of (sym opens)) (placed_same object_at p warm (λ _. refl) x) (placed_same asked_at p warm (λ _. refl) x) (placed_same dropped_at p warm (λ _. refl) x)
             (pin_objects c x m p _ _ (does s (Pin m p) f.law tt legal)) marks_after (λ q mine. ap (λ g. g q) (placed_same heated_at p warm (λ _. refl) x) ∙ heats_after q mine)
             (warm_after x);
@@ -171,7 +171,7 @@ module _ (ws : List ℕ) (b : BookView) (os : OtherViews) (f : Facts ws b os) (o
     (f.law.cells.cell_read p).1,
     λ place e. let x = near_facts ws b os f o at p place own used (may_hold (read_of c) place e) in
         let long : words_for (len_of (object_at o p)) ≡ words_for x.len = ap (λ z. words_for (len_of z)) x.used ∙ ap words_for x.long in
-        let fits = x.fits in omega arith,
+        let fits = x.fits in let within = x.within in let many = (f.owners m o at).logs in (omega arith, omega arith),
   )
 
 module _ {S : Type 0} (slots id : ℕ) (me : Me S View) (is : me.0 ≡ Owner (owner_of me.0)) where

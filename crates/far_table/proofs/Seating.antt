@@ -12,7 +12,7 @@ use Rattle.far_core.specs.state.State.{State, addr}
 use Rattle.far_table.specs.View.{BookView, OwnerView, View, Book, Owner}
 use Rattle.far_core.specs.laws.Ends.{HasNothingPast}
 use Rattle.far_table.specs.First.{first_book, first_copier, first_copiers, first_others, first_owner, first_owners, waiting}
-use Rattle.far_table.specs.Layout.{TABLE_WORDS}
+use Rattle.far_table.specs.Layout.{table_words}
 use Rattle.far_table.specs.Rule.{Facts}
 use Rattle.far_table.specs.Seats.{HasPlaces, Remembers, data_begin}
 use Rattle.far_table.specs.Stands.{BookOk, IsPlain, SaysOwner, Stands, Starts, book_of}
@@ -32,7 +32,7 @@ module _ (s : State) (law : Law s) where
   -- a held object lies within the logs
   pub held_fits : (p : ℕ) (x : Option Place) → x ≡ s.held p → IfSome x (λ place. addr place + 1 ≤ MOST_LOGS * LOG_WORDS)
   held_fits p None e = tt
-  held_fits p (Some place) e = let f = first_fits s s.honest (p / CELLS) law p place refl (sym e) in omega arith
+  held_fits p (Some place) e = let f = (first_fits s s.honest (p / CELLS) law p place refl (sym e)).0 in omega arith
 
   module _ (honest : Bool) (m : ℕ) (small : m < s.mutators) where
     places_here : (places : List ℕ) → places ≡ map (places_at s m) (range_with_len 0 CELLS) → (p : ℕ) (place : Place) → p / CELLS ≡ m → s.held p ≡ Some place →
@@ -42,13 +42,13 @@ module _ (s : State) (law : Law s) where
         ap (λ l. slice_index l (p % CELLS)) is ∙ (get_or-map-range_with_len (places_at s m) 0 CELLS (p % CELLS) (p % CELLS) 0 (omega arith) (omega arith) ∙ (ap (λ q. data_begin (s.held q)) here ∙ ap data_begin held))
 
     -- the invariant of an owner's seat
-    pub owner_starts : (id here : TableId) (v : View) (epoch : ℕ) (places : List ℕ) → id ≡ here → id.words ≡ TABLE_WORDS → v ≡ Owner (first_owner s honest m) →
+    pub owner_starts : (id here : TableId) (v : View) (epoch : ℕ) (places : List ℕ) → id ≡ here → id.words ≡ table_words s.logs → v ≡ Owner (first_owner s honest m) →
         ((e : ℕ) → s.remembered m ≡ Some e → e ≡ epoch) → places ≡ map (places_at s m) (range_with_len 0 CELLS) → HasState (owner_of v) → SeatOk id here v m epoch places
     owner_starts id here v epoch places same wide is read places_are there =
         let few = law.shape.few_mutators in
         let view : owner_of v ≡ first_owner s honest m = ap owner_of is in (
           same,
-          wide,
+          wide ∙ ap (λ (o : OwnerView). table_words o.logs) (sym view),
           is ∙ ap Owner (sym view),
           ap (λ (o : OwnerView). o.number) view,
           omega arith,
@@ -59,7 +59,7 @@ module _ (s : State) (law : Law s) where
         )
 
 -- what the struct of the book's seat keeps
-pub book_starts : (s : State) → Law s → (honest : Bool) (id here : TableId) (v : View) → id ≡ here → id.words ≡ TABLE_WORDS → v ≡ Book (book_of v) → book_of v ≡ waiting s honest s.mutators 0 →
+pub book_starts : (s : State) → Law s → (honest : Bool) (id here : TableId) (v : View) → id ≡ here → id.words ≡ table_words s.logs → v ≡ Book (book_of v) → book_of v ≡ waiting s honest s.mutators 0 →
     BookOk id here v s.logs s.mutators s.epoch
 book_starts s law honest id here v same wide is view = record {
   same = same;

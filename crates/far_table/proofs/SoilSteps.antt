@@ -95,9 +95,9 @@ module _ (ws : List ℕ) (b : BookView) (os : OtherViews) (f : Facts ws b os) (o
       let ties = f.owners m o at in record {
         legal = legal;
         says = refl;
-        becomes = state_is (set ws (cell_at p) new) b (with_owner os m w) (cell_word_set ws f.wide p new small) (remembered_same os.owners m o w at refl)
+        becomes = state_is (set ws (cell_at p) new) b (with_owner os m w) (cell_word_set b.logs ws f.wide p new small) (remembered_same os.owners m o w at refl)
             (pointers_same os.owners m o w at uses refl) (pointers_same os.owners m o w at held_at refl) (pointers_put os.owners m o w at soiled_at p true own refl);
-        mine = mine_on b s (after s (Soil m p)) m o w ties refl refl refl ties.scope refl refl refl (ap (λ (z : World). z.object) (does s (Soil m p) f.law tt legal)) marks_after
+        mine = mine_on b s (after s (Soil m p)) m o w ties refl refl refl refl ties.scope refl refl refl (ap (λ (z : World). z.object) (does s (Soil m p) f.law tt legal)) marks_after
             (λ q mine. ties.hots q mine ∙ ap (λ v. cooled_at b q + v) (sym (hots_after q)))
             (λ q mine pinned. let x = ties.warm q mine pinned in (x.0, hots_after q ∙ x.1));
       }

@@ -48,8 +48,8 @@ module _ (ws : List ℕ) (b : BookView) (os : OtherViews) (f : Facts ws b os) (o
   read_epoch_step shut = let w : OwnerView = read_view (epoch_in ws) o in let legal = closed_so shut in record {
     legal = legal;
     says = refl;
-    becomes = state_is ws b (with_owner os m w) (no_word ws f.wide) (remembered_set os.owners m o w at) (pointers_same os.owners m o w at uses refl) (pointers_same os.owners m o w at held_at refl) (pointers_same os.owners m o w at soiled_at refl);
-    mine = mine_on b (state_of ws b os) (after (state_of ws b os) (ReadEpoch m)) m o w (f.owners m o at) refl refl refl (f.owners m o at).scope refl refl refl
+    becomes = state_is ws b (with_owner os m w) (no_word b.logs ws f.wide) (remembered_set os.owners m o w at) (pointers_same os.owners m o w at uses refl) (pointers_same os.owners m o w at held_at refl) (pointers_same os.owners m o w at soiled_at refl);
+    mine = mine_on b (state_of ws b os) (after (state_of ws b os) (ReadEpoch m)) m o w (f.owners m o at) refl refl refl refl (f.owners m o at).scope refl refl refl
         (ap (λ (z : World). z.object) (does (state_of ws b os) (ReadEpoch m) f.law tt legal)) (λ _. (refl, refl)) (f.owners m o at).hots (f.owners m o at).warm;
   }
 
@@ -61,9 +61,9 @@ module _ (ws : List ℕ) (b : BookView) (os : OtherViews) (f : Facts ws b os) (o
       let legal : Legal (state_of ws b os) (Open m) = (closed_so shut, subst IsSome (sym known) read) in record {
         legal = legal;
         says = refl;
-        becomes = state_is (set ws (scope_at m) x) b (with_owner os m w) (subst (λ v. WordsAre (set ws (scope_at m) x) (epoch_in ws) (put (scope_in ws) m v) (cell_in ws) (word_in ws) (job_in ws)) word (scope_word_set ws f.wide m x few))
+        becomes = state_is (set ws (scope_at m) x) b (with_owner os m w) (subst (λ v. WordsAre b.logs (set ws (scope_at m) x) (epoch_in ws) (put (scope_in ws) m v) (cell_in ws) (word_in ws) (job_in ws)) word (scope_word_set b.logs ws f.wide m x few))
             (remembered_same os.owners m o w at refl) (pointers_same os.owners m o w at uses refl) (pointers_same os.owners m o w at held_at refl) (pointers_same os.owners m o w at soiled_at refl);
-        mine = mine_on b (state_of ws b os) (after (state_of ws b os) (Open m)) m o w (f.owners m o at) refl refl refl
+        mine = mine_on b (state_of ws b os) (after (state_of ws b os) (Open m)) m o w (f.owners m o at) refl refl refl refl
             (put_same (scope_in ws) m (scope_word_of (remembered_by os.owners m)) m refl ∙ ap scope_word_of known) refl refl refl
             (ap (λ (z : World). z.object) (does (state_of ws b os) (Open m) f.law tt legal).after) (λ _. (refl, refl)) (f.owners m o at).hots (f.owners m o at).warm;
       }
@@ -72,12 +72,12 @@ module _ (ws : List ℕ) (b : BookView) (os : OtherViews) (f : Facts ws b os) (o
   close_step opened = let w : OwnerView = closed_view o in let legal = open_so opened in record {
     legal = legal;
     says = refl;
-    becomes = state_is (set ws (scope_at m) 0) b (with_owner os m w) (scope_word_set ws f.wide m 0 few) (remembered_set os.owners m o w at) (pointers_same os.owners m o w at uses refl)
+    becomes = state_is (set ws (scope_at m) 0) b (with_owner os m w) (scope_word_set b.logs ws f.wide m 0 few) (remembered_set os.owners m o w at) (pointers_same os.owners m o w at uses refl)
         (pointers_set os.owners m o w at held_at (λ p. cond (p / CELLS == m) None (held_by os.owners p))
         (λ p e. sym (ap (λ t. cond t None (held_by os.owners p)) (eq-eqb (p / CELLS) m e))) (λ p ne. sym (ap (λ t. cond t None (held_by os.owners p)) (ne_eqb (p / CELLS) m ne))))
         (pointers_set os.owners m o w at soiled_at (λ p. cond (p / CELLS == m) false (soiled_by os.owners p))
         (λ p e. sym (ap (λ t. cond t false (soiled_by os.owners p)) (eq-eqb (p / CELLS) m e))) (λ p ne. sym (ap (λ t. cond t false (soiled_by os.owners p)) (ne_eqb (p / CELLS) m ne))));
-    mine = mine_on b (state_of ws b os) (after (state_of ws b os) (Close m)) m o w (f.owners m o at) refl refl refl (put_same (scope_in ws) m 0 m refl) refl refl refl
+    mine = mine_on b (state_of ws b os) (after (state_of ws b os) (Close m)) m o w (f.owners m o at) refl refl refl refl (put_same (scope_in ws) m 0 m refl) refl refl refl
         (ap (λ (z : World). z.object) (does (state_of ws b os) (Close m) f.law tt legal).after) (λ _. (refl, refl)) (f.owners m o at).hots
         (λ p own pinned. absurd (false≢true pinned));
   }

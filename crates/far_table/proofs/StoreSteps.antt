@@ -24,7 +24,7 @@ use Rattle.far_core.proofs.ObjectFacts.{object_agrees}
 use Rattle.far_core.proofs.Owing.{does, keeps}
 use Rattle.far_core.proofs.Put.{put_both, put_other, put_same}
 use Rattle.far_table.specs.View.{BookView, ObjectView, OwnerView, View, Owner, OtherViews, with_owner}
-use Rattle.far_table.specs.Layout.{LOGS_AT, TABLE_WORDS, data_at, epoch_in, scope_in, cell_in, job_in, word_in}
+use Rattle.far_table.specs.Layout.{LOGS_AT, table_words, data_at, epoch_in, scope_in, cell_in, job_in, word_in}
 use Rattle.far_table.specs.Plays.{Stored}
 use Rattle.far_table.specs.Rule.{Facts, Has, Running}
 use Rattle.far_table.specs.Seats.{HasPlaces}
@@ -112,12 +112,12 @@ module _ (ws : List ℕ) (b : BookView) (os : OtherViews) (f : Facts ws b os) (o
   pub store_step : OwnStep ws b os o (Store m p i v) Done (set ws (data_at a) v) w
   store_step =
       let ties = f.owners m o at in
-      let fits = x.fits in
+      let fits = x.within in
       let low : i < words_for x.len = subst (λ n. i < words_for n) long inside in
-      let words = data_word_set ws f.wide a v (omega arith) in record {
+      let words = data_word_set b.logs ws f.wide a v (omega arith) in record {
         legal = legal;
         says = refl;
-        becomes = state_is (set ws (data_at a) v) b (with_owner os m w) (subst (λ k. WordsAre (set ws (data_at a) v) (epoch_in ws) (scope_in ws) (cell_in ws) (put (word_in ws) k v) (job_in ws)) (sym behind) words)
+        becomes = state_is (set ws (data_at a) v) b (with_owner os m w) (subst (λ k. WordsAre b.logs (set ws (data_at a) v) (epoch_in ws) (scope_in ws) (cell_in ws) (put (word_in ws) k v) (job_in ws)) (sym behind) words)
             (remembered_same os.owners m o w at refl)
             (pointers_same os.owners m o w at uses (fun_ext (λ q. put_both (λ (y : Option ObjectView). is_some y ≡ uses o q) (object_at o) p (with_word i v (object_at o p)) q
             (λ e. with_word_used i v (object_at o p) ∙ ap (uses o) (sym e)) (λ _. refl))))
@@ -125,6 +125,7 @@ module _ (ws : List ℕ) (b : BookView) (os : OtherViews) (f : Facts ws b os) (o
         mine = record {
           number = ties.number;
           honest = ties.honest;
+          logs = ties.logs;
           scope = ties.scope;
           objects = λ q y mine h. dite (ℕ_discrete q p)
               (λ e. let same : Some new ≡ Some y = sym new_is ∙ (sym (put_same (object_at o) p (with_word i v (object_at o p)) q e) ∙ h) in let one : new ≡ y = cc in
@@ -162,8 +163,8 @@ module _ {S : Type 0} (slots id : ℕ) (me : Me S View) (is : me.0 ≡ Owner (ow
     led : data_at (addr there.0 + 1 + i) ≡ a + LOGS_AT
     led = let here = (has p there.0 there.1).here in omega (arith, read)
 
-    pub stores_at : (a + LOGS_AT < TABLE_WORDS) × Allows Running slots id me (a + LOGS_AT) (λ _. v) (λ _. Stored (step slots (a + LOGS_AT) v 0 none) me v)
-    stores_at = let fits = (has p there.0 there.1).fits in let at = led in (
+    pub stores_at : (a + LOGS_AT < table_words view.logs) × Allows Running slots id me (a + LOGS_AT) (λ _. v) (λ _. Stored (step slots (a + LOGS_AT) v 0 none) me v)
+    stores_at = let fits = (has p there.0 there.1).inside in let at = led in (
       omega arith,
       subst (λ z. Allows Running slots id me z (λ _. v) (λ _. Stored (step slots z v 0 none) me v)) led (stores p i v there.0 (has p there.0 there.1).own there.1 inside soiled word padded),
     )

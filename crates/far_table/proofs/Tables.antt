@@ -6,7 +6,7 @@ use Rattle.std.proofs.lemmas.Bool.{eq-eqb, le-ltb, lt-ltb}
 use Rattle.std.proofs.lemmas.List.FromFn.{get_or-map-range_with_len, length-map-range_with_len, map-range_with_len_more}
 use Rattle.far_core.specs.state.State.{State}
 use Rattle.far_table.specs.First.{IsTableOf}
-use Rattle.far_table.specs.Layout.{EPOCH_AT, LINE, TABLE_WORDS, cell_at, data_at, job_at, scope_at}
+use Rattle.far_table.specs.Layout.{EPOCH_AT, LINE, table_words, cell_at, data_at, job_at, scope_at}
 use Rattle.far_table.specs.Tabled.{line_word, table_word}
 
 -- a list that is filled from its first member on, with one member more
@@ -22,10 +22,10 @@ past i n a b most = ap (λ t. cond t a b) (le-ltb i n most)
 
 module _ (s : State) where
   abbrev pub table : List ℕ
-  table = map (table_word s) (range_with_len 0 TABLE_WORDS)
+  table = map (table_word s) (range_with_len 0 (table_words s.logs))
 
-  word_here : (i : ℕ) → i < TABLE_WORDS → slice_index table i ≡ table_word s i
-  word_here i small = get_or-map-range_with_len (table_word s) 0 TABLE_WORDS i i 0 small (omega arith)
+  word_here : (i : ℕ) → i < table_words s.logs → slice_index table i ≡ table_word s i
+  word_here i small = get_or-map-range_with_len (table_word s) 0 (table_words s.logs) i i 0 small (omega arith)
 
   -- past the words of the split and the epoch
   from_scopes : (i : ℕ) → scope_at 0 ≤ i → table_word s i ≡ cond (nat_lt i (cell_at 0)) (line_word s.scope (i - scope_at 0)) (cond (nat_lt i (job_at 0)) (s.cell (i - cell_at 0)) (cond (nat_lt i (data_at 0)) (s.copying.word (i - job_at 0)) (s.word (i - data_at 0))))
@@ -43,7 +43,7 @@ module _ (s : State) where
 
   pub is_table : IsTableOf table s
   is_table = record {
-    wide = length-map-range_with_len (table_word s) 0 TABLE_WORDS;
+    wide = length-map-range_with_len (table_word s) 0 (table_words s.logs);
     epoch = word_here EPOCH_AT (omega arith);
     scopes = λ m small. word_here (scope_at m) (omega arith) ∙ (from_scopes (scope_at m) (omega arith) ∙ (below (scope_at m) (cell_at 0) _ _ (omega arith) ∙ scope_here m));
     cells = λ p small. word_here (cell_at p) (omega arith) ∙ (from_cells (cell_at p) (omega arith) ∙ (below (cell_at p) (job_at 0) _ _ (omega arith) ∙ ap s.cell (omega arith)));

@@ -56,6 +56,11 @@ left_there e o r w made =
     let number : w.number ≡ o.number = (made.keeps.owners o.number w here).number in
     ∣ (state_of made.later made.book others, record { words = made.later; book = made.book; others = others; facts = made.keeps; stands = ap (get_elem? others.owners) number ∙ here; is = refl }) ∣₁
 
+-- and as many logs
+pub logs_kept : (e : Event) (o : OwnerView) (r : Reply) (w : OwnerView) → OwnerMade e o r w → o.logs ≡ w.logs
+logs_kept e o r w made = (made.facts.owners o.number o made.stands).logs
+    ∙ sym (made.keeps.owners o.number w (set_here made.others.owners o.number w (below made.others.owners o.number o made.stands))).logs
+
 -- and so did a call that stored a row
 pub row_there : (p first : ℕ) (row : ℕ → ℕ) (n : ℕ) (o w : OwnerView) → StoredEach p first row n o w → HasState o → HasState w
 row_there p first row zero o w stored there = subst HasState (sym stored.last) there

@@ -21,6 +21,7 @@ use Rattle.atomic_table.specs.Seated.{TableId}
 use Rattle.far_table.specs.View.{ObjectView, OwnerView, View, Owner}
 use Rattle.far_table.specs.Ranges.{HasBytes, Wrote}
 use Rattle.far_table.specs.RowTells.{StoredEach}
+use Rattle.far_table.specs.Layout.{table_words}
 use Rattle.far_table.specs.Seats.{HasPlaces, Remembers}
 use Rattle.far_table.specs.Tells.{owner_of}
 use Rattle.far_table.proofs.SeatLemmas.{SeatOk}
@@ -229,6 +230,7 @@ places_wrote p from bytes places o o' w has q place h =
       own = x.own ∙ sym (ap (λ (z : OwnerView). z.number) w.rest);
       here = x.here;
       fits = subst (λ n. addr place + 1 + words_for n ≤ MOST_LOGS * LOG_WORDS) (sym same) x.fits;
+      inside = subst (λ (z : ℕ × ℕ). addr place + 1 + words_for z.0 ≤ z.1 * LOG_WORDS) (λ i. (sym same i, sym (ap (λ (z : OwnerView). z.logs) w.rest) i)) x.inside;
     }
 
 -- the invariant of a seat holds once it has stored a row
@@ -236,7 +238,7 @@ pub row_stays : (id later here : TableId) (v v' : View) (number epoch : ℕ) (pl
     later ≡ id → v' ≡ Owner (owner_of v') → Wrote p from bytes (owner_of v) (owner_of v') → StoredEach p first row n (owner_of v) (owner_of v') → SeatOk later here v' number epoch places
 row_stays id later here v v' number epoch places p from first n row bytes i same owner w stored = (
   same ∙ i.0,
-  ap (λ (z : TableId). z.words) same ∙ i.1,
+  ap (λ (z : TableId). z.words) same ∙ (i.1 ∙ ap (λ (z : OwnerView). table_words z.logs) (sym w.rest)),
   owner,
   ap (λ (z : OwnerView). z.number) w.rest ∙ i.3,
   i.4,

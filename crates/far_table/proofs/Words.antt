@@ -7,7 +7,7 @@ use lib.ListN.{length-set}
 use Rattle.far_word.specs.declared.sizes.TheConstants.{JOBS, MOST_MUTATORS, POINTERS}
 use Rattle.far_core.specs.state.State.{put}
 use Rattle.far_core.proofs.Put.{put_both}
-use Rattle.far_table.specs.Layout.{EPOCH_AT, LayoutIs, TABLE_WORDS, scope_at, cell_at, data_at, job_at, epoch_in, scope_in, cell_in, job_in, word_in}
+use Rattle.far_table.specs.Layout.{EPOCH_AT, LayoutIs, table_words, scope_at, cell_at, data_at, job_at, epoch_in, scope_in, cell_in, job_in, word_in}
 
 where_so : (t : Bool) (a b d : ℕ) → (t ≡ true → a ≡ b) → cond t a d ≡ cond t b d
 where_so true a b d h = h refl
@@ -42,7 +42,7 @@ jobs_apart q k e = omega arith
 -- ---- where a word stands
 -- in numbers, so that a change of a size doesn't go unseen
 pub layout_is : LayoutIs
-layout_is = record { epoch = refl; scopes = (refl, refl); cells = refl; jobs = refl; logs = refl; words = refl }
+layout_is = record { epoch = refl; scopes = (refl, refl); cells = refl; jobs = refl; logs = refl; words = λ _. refl }
 
 pub scope_here : (ws : List ℕ) (m : ℕ) → m < MOST_MUTATORS → scope_in ws m ≡ slice_index ws (scope_at m)
 scope_here = part_here scope_at MOST_MUTATORS scopes_apart
@@ -53,23 +53,23 @@ cell_here = part_here cell_at POINTERS cells_apart
 pub job_here : (ws : List ℕ) (j : ℕ) → j < JOBS → job_in ws j ≡ slice_index ws (job_at j)
 job_here = part_here job_at JOBS jobs_apart
 
--- the words of the table after a step: those of the heap, those of the jobs, and as many as there were
-pub record WordsAre (ws : List ℕ) (epoch : ℕ) (scope cell word job : ℕ → ℕ) : Type 0 where
+-- the words of the table of so many logs after a step: those of the heap, those of the jobs, and as many as there were
+pub record WordsAre (logs : ℕ) (ws : List ℕ) (epoch : ℕ) (scope cell word job : ℕ → ℕ) : Type 0 where
   pub epoch_is : epoch_in ws ≡ epoch
   pub scope_is : scope_in ws ≡ scope
   pub cell_is : cell_in ws ≡ cell
   pub word_is : word_in ws ≡ word
   pub job_is : job_in ws ≡ job
-  pub wide : length ws ≡ TABLE_WORDS
+  pub wide : length ws ≡ table_words logs
 
-module _ (ws : List ℕ) (wide : length ws ≡ TABLE_WORDS) where
-  same_length : (i x : ℕ) → length (set ws i x) ≡ TABLE_WORDS
+module _ (logs : ℕ) (ws : List ℕ) (wide : length ws ≡ table_words logs) where
+  same_length : (i x : ℕ) → length (set ws i x) ≡ table_words logs
   same_length i x = length-set ws i x ∙ wide
 
-  pub no_word : WordsAre ws (epoch_in ws) (scope_in ws) (cell_in ws) (word_in ws) (job_in ws)
+  pub no_word : WordsAre logs ws (epoch_in ws) (scope_in ws) (cell_in ws) (word_in ws) (job_in ws)
   no_word = record { epoch_is = refl; scope_is = refl; cell_is = refl; word_is = refl; job_is = refl; wide = wide }
 
-  pub epoch_word_set : (x : ℕ) → WordsAre (set ws EPOCH_AT x) x (scope_in ws) (cell_in ws) (word_in ws) (job_in ws)
+  pub epoch_word_set : (x : ℕ) → WordsAre logs (set ws EPOCH_AT x) x (scope_in ws) (cell_in ws) (word_in ws) (job_in ws)
   epoch_word_set x = record {
     epoch_is = get_or-set_same ws EPOCH_AT x 0 (omega arith);
     scope_is = part_other scope_at MOST_MUTATORS scopes_apart ws EPOCH_AT x (λ q l e. omega arith);
@@ -79,7 +79,7 @@ module _ (ws : List ℕ) (wide : length ws ≡ TABLE_WORDS) where
     wide = same_length EPOCH_AT x;
   }
 
-  pub scope_word_set : (m x : ℕ) → m < MOST_MUTATORS → WordsAre (set ws (scope_at m) x) (epoch_in ws) (put (scope_in ws) m x) (cell_in ws) (word_in ws) (job_in ws)
+  pub scope_word_set : (m x : ℕ) → m < MOST_MUTATORS → WordsAre logs (set ws (scope_at m) x) (epoch_in ws) (put (scope_in ws) m x) (cell_in ws) (word_in ws) (job_in ws)
   scope_word_set m x small = record {
     epoch_is = get_or-set_other ws (scope_at m) EPOCH_AT x 0 (λ e. omega arith);
     scope_is = part_set scope_at MOST_MUTATORS scopes_apart ws m x small (omega arith);
@@ -89,7 +89,7 @@ module _ (ws : List ℕ) (wide : length ws ≡ TABLE_WORDS) where
     wide = same_length (scope_at m) x;
   }
 
-  pub cell_word_set : (p x : ℕ) → p < POINTERS → WordsAre (set ws (cell_at p) x) (epoch_in ws) (scope_in ws) (put (cell_in ws) p x) (word_in ws) (job_in ws)
+  pub cell_word_set : (p x : ℕ) → p < POINTERS → WordsAre logs (set ws (cell_at p) x) (epoch_in ws) (scope_in ws) (put (cell_in ws) p x) (word_in ws) (job_in ws)
   cell_word_set p x small = record {
     epoch_is = get_or-set_other ws (cell_at p) EPOCH_AT x 0 (λ e. omega arith);
     scope_is = part_other scope_at MOST_MUTATORS scopes_apart ws (cell_at p) x (λ q l e. omega arith);
@@ -99,7 +99,7 @@ module _ (ws : List ℕ) (wide : length ws ≡ TABLE_WORDS) where
     wide = same_length (cell_at p) x;
   }
 
-  pub job_word_set : (j x : ℕ) → j < JOBS → WordsAre (set ws (job_at j) x) (epoch_in ws) (scope_in ws) (cell_in ws) (word_in ws) (put (job_in ws) j x)
+  pub job_word_set : (j x : ℕ) → j < JOBS → WordsAre logs (set ws (job_at j) x) (epoch_in ws) (scope_in ws) (cell_in ws) (word_in ws) (put (job_in ws) j x)
   job_word_set j x small = record {
     epoch_is = get_or-set_other ws (job_at j) EPOCH_AT x 0 (λ e. omega arith);
     scope_is = part_other scope_at MOST_MUTATORS scopes_apart ws (job_at j) x (λ q l e. omega arith);
@@ -109,7 +109,7 @@ module _ (ws : List ℕ) (wide : length ws ≡ TABLE_WORDS) where
     wide = same_length (job_at j) x;
   }
 
-  pub data_word_set : (a x : ℕ) → data_at a < TABLE_WORDS → WordsAre (set ws (data_at a) x) (epoch_in ws) (scope_in ws) (cell_in ws) (put (word_in ws) a x) (job_in ws)
+  pub data_word_set : (a x : ℕ) → data_at a < table_words logs → WordsAre logs (set ws (data_at a) x) (epoch_in ws) (scope_in ws) (cell_in ws) (put (word_in ws) a x) (job_in ws)
   data_word_set a x small = record {
     epoch_is = get_or-set_other ws (data_at a) EPOCH_AT x 0 (λ e. omega arith);
     scope_is = part_other scope_at MOST_MUTATORS scopes_apart ws (data_at a) x (λ q l e. omega arith);

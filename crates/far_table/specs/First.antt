@@ -11,16 +11,16 @@ use Rattle.far_core.specs.state.State.{State}
 use Rattle.far_core.specs.world.World.{Object}
 use Rattle.far_core.specs.world.WorldOf.{world_of}
 use Rattle.far_table.specs.View.{BookView, CopierView, ObjectView, OtherViews, OwnerView, AsCopier, AsOwner, roles}
-use Rattle.far_table.specs.Layout.{TABLE_WORDS, cell_at, data_at, epoch_in, job_at, scope_at}
+use Rattle.far_table.specs.Layout.{table_words, cell_at, data_at, epoch_in, job_at, scope_at}
 use Rattle.far_table.specs.Views.{drops, hots, moves}
 
 -- the words are those of the state, each at its place. A word of nobody may be any
 pub record IsTableOf (ws : List ℕ) (s : State) : Type 0 where
-  pub wide : length ws ≡ TABLE_WORDS
+  pub wide : length ws ≡ table_words s.logs
   pub epoch : epoch_in ws ≡ s.epoch
   pub scopes : (m : ℕ) → m < MOST_MUTATORS → slice_index ws (scope_at m) ≡ s.scope m
   pub cells : (p : ℕ) → p < POINTERS → slice_index ws (cell_at p) ≡ s.cell p
-  pub words : (a : ℕ) → a < MOST_LOGS * LOG_WORDS → slice_index ws (data_at a) ≡ s.word a
+  pub words : (a : ℕ) → a < s.logs * LOG_WORDS → slice_index ws (data_at a) ≡ s.word a
   pub jobs : (j : ℕ) → j < JOBS → slice_index ws (job_at j) ≡ s.copying.word j
 
 -- rows for so many numbers from one on. No proof writes them out, since there is one of headers for each word of the logs: FirstViews says what they make
@@ -51,6 +51,7 @@ abbrev pub first_owner : State → Bool → ℕ → OwnerView
 first_owner s honest m = record {
   number = m;
   honest = honest;
+  logs = s.logs;
   epoch = s.remembered m;
   open_at = open_epoch (scope_of (s.scope m));
   objects = rows_from (CELLS * m) CELLS (λ p. cond (s.used p) (seen_object ((world_of s).object p)) None);
@@ -70,6 +71,7 @@ first_owners s honest = map (first_owner s honest) (range_with_len 0 s.mutators)
 abbrev pub first_copier : State → ℕ → CopierView
 first_copier s c = record {
   number = c;
+  logs = s.logs;
   task = s.copying.task c;
   length = s.copying.length c;
   read = rows_from 0 LOG_WORDS (s.copying.read c);

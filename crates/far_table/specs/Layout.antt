@@ -1,7 +1,7 @@
--- Where each shared word stands. The layout is that of the largest heap; the words of the logs are last. The epoch and each scope word have a line of cache: what is
--- between them is nobody's.
+-- Where each shared word stands. The cells are those of the largest heap; the words of the logs are last, as many as the heap has. The epoch and each scope word have a
+-- line of cache: what is between them is nobody's.
 use Rattle.std.specs.Prelude.{◌≡◌, ℕ, ◌+◌, ◌*◌, cond, nat_lt, List, slice_index}
-use Rattle.far_word.specs.declared.sizes.TheConstants.{JOBS, LOG_WORDS, MOST_LOGS, MOST_MUTATORS, POINTERS}
+use Rattle.far_word.specs.declared.sizes.TheConstants.{JOBS, LOG_WORDS, MOST_MUTATORS, POINTERS}
 
 -- the words of a line of cache, of 128 bytes
 abbrev pub LINE : ℕ
@@ -23,8 +23,9 @@ JOBS_AT = CELLS_AT + POINTERS
 abbrev pub LOGS_AT : ℕ
 LOGS_AT = JOBS_AT + JOBS
 
-abbrev pub TABLE_WORDS : ℕ
-TABLE_WORDS = LOGS_AT + MOST_LOGS * LOG_WORDS
+-- how many words the table of so many logs has
+abbrev pub table_words : ℕ → ℕ
+table_words logs = LOGS_AT + logs * LOG_WORDS
 
 abbrev pub scope_at : ℕ → ℕ
 scope_at m = m * LINE + SCOPES_AT
@@ -45,7 +46,7 @@ pub record LayoutIs : Type 0 where
   pub cells : CELLS_AT ≡ 160
   pub jobs : JOBS_AT ≡ 2208
   pub logs : LOGS_AT ≡ 2224
-  pub words : TABLE_WORDS ≡ 34992
+  pub words : (logs : ℕ) → table_words logs ≡ 2224 + logs * 512
 
 abbrev pub epoch_in : List ℕ → ℕ
 epoch_in ws = slice_index ws EPOCH_AT

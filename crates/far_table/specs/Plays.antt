@@ -19,9 +19,10 @@ use Rattle.far_core.specs.declared.event.Reply.TheVariants.{Done, Epoch, Word}
 use Rattle.far_table.specs.Tells.{OwnerRefused, Tells, owner_of}
 use Rattle.far_table.specs.Views.{adopted_view, asked_view, closed_view, held_at, len_of, noted_view, object_at, opened_view, pinned_view, read_view, soiled_view, stored_view, word_in_view}
 
--- the word found reads; and the object of p, where a view of it may rest by that word, lies within the logs
+-- the word found reads; and the object of p, where a view of it may rest by that word, lies within the logs, and within those of the heap
 abbrev pub Lies : OwnerView → ℕ → ℕ → Type 0
-Lies o p found = IsSome (read_of found) × ((place : Place) → place_to_view (read_of found) ≡ Some place → addr place + 1 + words_for (len_of (object_at o p)) ≤ MOST_LOGS * LOG_WORDS)
+Lies o p found = IsSome (read_of found) × ((place : Place) → place_to_view (read_of found) ≡ Some place →
+    (addr place + 1 + words_for (len_of (object_at o p)) ≤ MOST_LOGS * LOG_WORDS) × (addr place + 1 + words_for (len_of (object_at o p)) ≤ o.logs * LOG_WORDS))
 
 abbrev pub number_of : View → ℕ
 number_of v = (owner_of v).number

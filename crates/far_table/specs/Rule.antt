@@ -16,7 +16,7 @@ use Rattle.far_hand.specs.Known.{IsKnown}
 use Rattle.far_hand.specs.MayBe.{Shows}
 use Rattle.far_hand.specs.Quiet.{RestsAt}
 use Rattle.far_table.specs.View.{BookView, CopierView, ObjectView, OtherViews, OwnerView, Role, View, Book, roles, seat_of}
-use Rattle.far_table.specs.Layout.{TABLE_WORDS}
+use Rattle.far_table.specs.Layout.{table_words}
 use Rattle.far_table.specs.StateOf.{book_state, cooled_at, retired_at, state_of, taken_at}
 use Rattle.far_table.specs.Views.{object_at, asked_at, dropped_at, drops, heated_at, held_at, hots, moves, pinned_at, word_of}
 
@@ -35,12 +35,13 @@ pub record Has (s : State) (p : ℕ) (x : ObjectView) : Type 0 where
   pub ds : object.ds ≡ x.ds
   pub words : s.honest ≡ true → (i : ℕ) → i < words_for x.len → packed_word object.bytes i ≡ word_of x i
 
--- what an owner's view says is so: its scope word, and the objects that it uses; and of each of its cells how often MOVE was set anew is how
+-- what an owner's view says is so: how many logs there are, its scope word, and the objects that it uses; and of each of its cells how often MOVE was set anew is how
 -- often it was taken away, and once more where it stands, how often DROP was set how often an object was retired, and once more where it stands,
 -- and how often HOT was set anew how often it was taken away, and once more where it stands. HOT stands in each cell whose place it holds by a pin
 pub record OwnerTies (b : BookView) (s : State) (m : ℕ) (o : OwnerView) : Type 0 where
   pub number : o.number ≡ m
   pub honest : o.honest ≡ s.honest
+  pub logs : o.logs ≡ b.logs
   pub scope : s.scope m ≡ scope_word_of o.open_at
   pub objects : (p : ℕ) (x : ObjectView) → p / CELLS ≡ m → object_at o p ≡ Some x → Has s p x
   pub asks : (p : ℕ) → p / CELLS ≡ m → asked_at o p ≡ taken_at b p + moves (s.cell p)
@@ -48,16 +49,17 @@ pub record OwnerTies (b : BookView) (s : State) (m : ℕ) (o : OwnerView) : Type
   pub warm : (p : ℕ) → p / CELLS ≡ m → pinned_at o p ≡ true → IsSome (held_at o p) × (hots (s.cell p) ≡ 1)
   pub hots : (p : ℕ) → p / CELLS ≡ m → heated_at o p ≡ cooled_at b p + hots (s.cell p)
 
--- what holds of the words and all views between any two steps. Of a copier nothing but its number: all else that is so of its view, the law has
+-- what holds of the words and all views between any two steps. Of a copier nothing but its number and how many logs there are: all else that is so of its view, the law has
 pub record Facts (ws : List ℕ) (b : BookView) (os : OtherViews) : Type 0 where
   pub law : Law (state_of ws b os)
   pub agrees : Agrees (state_of ws b os)
   pub book : BookTies b (state_of ws b os)
   pub owners : (m : ℕ) (o : OwnerView) → get_elem? os.owners m ≡ some o → OwnerTies b (state_of ws b os) m o
   pub copiers : (c : ℕ) (v : CopierView) → get_elem? os.copiers c ≡ some v → v.number ≡ c
+  pub copier_logs : (c : ℕ) (v : CopierView) → get_elem? os.copiers c ≡ some v → v.logs ≡ b.logs
   pub many : length os.owners ≡ b.mutators
   pub eight : length os.copiers ≡ MOST_COPIERS
-  pub wide : length ws ≡ TABLE_WORDS
+  pub wide : length ws ≡ table_words b.logs
 
 -- the rule: seat 0 is the book's, those after it are of the others that have one; the rest of them wait in the book's view
 pub record Running {S : Type 0} (s : Table S View) : Type 0 where

@@ -24,11 +24,12 @@ pub record CopierSeated : Type 0 where
 abbrev pub Remembers : Option ℕ → ℕ → Type 0
 Remembers epoch n = (e : ℕ) → epoch ≡ Some e → (e ≡ n) × (n < EPOCH_END)
 
--- of each object that is held: it is the owner's, the address of its first data word stands in the owner's list, and its words lie within the logs
+-- of each object that is held: it is the owner's, the address of its first data word stands in the owner's list, and its words lie within the logs, and within those of the heap
 pub record HasPlace (o : OwnerView) (places : List ℕ) (p : ℕ) (place : Place) : Type 0 where
   pub own : p / CELLS ≡ o.number
   pub here : slice_index places (p % CELLS) ≡ addr place + 1
   pub fits : addr place + 1 + words_for (len_of (object_at o p)) ≤ MOST_LOGS * LOG_WORDS
+  pub inside : addr place + 1 + words_for (len_of (object_at o p)) ≤ o.logs * LOG_WORDS
 
 abbrev pub HasPlaces : OwnerView → List ℕ → Type 0
 HasPlaces o places = (p : ℕ) (place : Place) → held_at o p ≡ Some place → HasPlace o places p place

@@ -11,7 +11,7 @@ use Rattle.far_hand.specs.Known.{unknown}
 use Rattle.far_hand.specs.Masked.{masked}
 use Rattle.far_table.specs.CopierViews.{words_read, words_written}
 use Rattle.far_table.specs.First.{first_copier, first_others, first_owner}
-use Rattle.far_table.specs.Layout.{TABLE_WORDS}
+use Rattle.far_table.specs.Layout.{table_words}
 use Rattle.far_table.specs.Rows.{over}
 use Rattle.far_table.specs.Rule.{Facts, Has}
 use Rattle.far_table.specs.Seats.{CopierSeated, Seated}
@@ -56,7 +56,7 @@ IsPlain b = (a : ℕ) → 2 ^ 64 ≤ over b.known unknown a → over b.known unk
 -- the seat is of its table, and its view is the book's, of which the struct keeps the shape and the epoch as numbers; all others have their seats
 pub record BookOk (id here : TableId) (v : View) (logs mutators epoch : ℕ) : Type 0 where
   pub same : id ≡ here
-  pub wide : id.words ≡ TABLE_WORDS
+  pub wide : id.words ≡ table_words logs
   pub is_book : v ≡ Book (book_of v)
   pub logs_are : (book_of v).logs ≡ logs
   pub mutators_are : (book_of v).mutators ≡ mutators
@@ -76,9 +76,9 @@ pub record Stands (b : BookView) : Type 0 where
   pub facts : Facts words b others
 
 -- ---- seats at the start
--- the book's seat of a table, while it gives seats to others
-abbrev pub IsDealer : {S : Type 0} → Seat S View → TableId → Type 0
-IsDealer seat id = (seat.table_id ≡ id) × (id.words ≡ TABLE_WORDS) × (seat.me.0 ≡ Book (book_of seat.me.0))
+-- the book's seat of a table of so many logs, while it gives seats to others
+abbrev pub IsDealer : {S : Type 0} → Seat S View → TableId → ℕ → Type 0
+IsDealer seat id logs = (seat.table_id ≡ id) × (id.words ≡ table_words logs) × (seat.me.0 ≡ Book (book_of seat.me.0))
 
 -- the seats of so many owners, by number, all of one table
 abbrev pub Seats : TableId → (ℕ → OwnerView) → ℕ → List Seated

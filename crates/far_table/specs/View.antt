@@ -15,6 +15,8 @@ pub record OwnerView : Type 0 where
   pub number : ℕ
   -- whether the far side gives back what it was given
   pub honest : Bool
+  -- how many logs the heap has
+  pub logs : ℕ
   -- the epoch that was read for the next scope, or for the open one
   pub epoch : Option ℕ
   -- the epoch at which the scope is open
@@ -38,6 +40,8 @@ pub record OwnerView : Type 0 where
 -- what a copier's seat knows
 pub record CopierView : Type 0 where
   pub number : ℕ
+  -- how many logs the heap has
+  pub logs : ℕ
   -- the job that it has
   pub task : Option Task
   -- the length that it has read in the header of the job's source
@@ -94,7 +98,7 @@ pub data View : Type 0 where
 
 -- a copier that has no job
 abbrev pub idle : ℕ → CopierView
-idle c = record { number = c; task = None; length = None; read = []; written = [] }
+idle c = record { number = c; logs = 0; task = None; length = None; read = []; written = [] }
 
 -- what stands where nobody knows anything
 abbrev pub no_view : View

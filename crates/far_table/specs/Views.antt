@@ -152,7 +152,7 @@ asked_view p Dropped found o = record o { objects = (p, None) ∷ o.objects; dro
 -- ---- many owners
 -- one who knows nothing
 abbrev pub nobody : OwnerView
-nobody = record { number = 0; honest = false; epoch = None; open_at = None; objects = []; held = []; asked = []; dropped = []; heated = []; pinned = []; soiled = []; found = [] }
+nobody = record { number = 0; honest = false; logs = 0; epoch = None; open_at = None; objects = []; held = []; asked = []; dropped = []; heated = []; pinned = []; soiled = []; found = [] }
 
 abbrev pub owner_at : List OwnerView → ℕ → OwnerView
 owner_at os m = slice_index_or os m nobody

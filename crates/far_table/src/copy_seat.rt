@@ -9,7 +9,7 @@ ghost use Rattle.far_core.specs.declared.event.Reply.{Reply as any_reply};
 ghost use Rattle.far_core.specs.state.State.{State};
 ghost use Rattle.far_table.specs.CopierViews.{finished_view};
 ghost use Rattle.far_table.specs.CopySeats.{Claimed, CopiedNext, IsCopied, IsJobOf, IsTakenBy, Measured, Missed, Took, copied_on, task_of};
-ghost use Rattle.far_table.specs.Layout.{TABLE_WORDS};
+ghost use Rattle.far_table.specs.Layout.{table_words};
 ghost use Rattle.far_table.specs.Tells.{CopierMade, CopierMayBe, CopierStands, copier_of};
 ghost use Rattle.far_table.specs.View.{Copier, CopierView};
 
@@ -64,7 +64,7 @@ impl<D: Device> Model for CopySeat<D> {
     ghost use Rattle.std.specs.Prelude.{◌≡◌, ◌+◌, ◌*◌, ◌^◌, ◌<◌};
     ghost use Rattle.std.specs.Arc.{arc_value};
     ghost use Rattle.far_word.specs.declared.sizes.TheConstants.{MOST_COPIERS};
-    ghost use Rattle.far_table.specs.Layout.{TABLE_WORDS};
+    ghost use Rattle.far_table.specs.Layout.{table_words};
     ghost use Rattle.far_table.specs.Seats.{CopierSeated};
     ghost use Rattle.far_table.specs.Tells.{CopierStands, copier_of};
     ghost use Rattle.far_table.specs.View.{Copier};
@@ -73,7 +73,7 @@ impl<D: Device> Model for CopySeat<D> {
 
     ghost view = { λ s. record { table = s.seat.table_id; view = copier_of s.seat.me.0 } };
 
-    ghost invariant = { λ s. (s.seat.table_id ≡ (arc_value s.table).shared.table_id) × (s.seat.table_id.words ≡ TABLE_WORDS) × (s.seat.me.0 ≡ Copier (copier_of s.seat.me.0)) × (s.taking ≡ (copier_of s.seat.me.0).number * 2 ^ 58 + 1 * 2 ^ 62) × (s.finishing ≡ (copier_of s.seat.me.0).number * 2 ^ 58 + 2 * 2 ^ 62) × ((copier_of s.seat.me.0).number < MOST_COPIERS) × CopierStands (copier_of s.seat.me.0) };
+    ghost invariant = { λ s. (s.seat.table_id ≡ (arc_value s.table).shared.table_id) × (s.seat.table_id.words ≡ table_words (copier_of s.seat.me.0).logs) × (s.seat.me.0 ≡ Copier (copier_of s.seat.me.0)) × (s.taking ≡ (copier_of s.seat.me.0).number * 2 ^ 58 + 1 * 2 ^ 62) × (s.finishing ≡ (copier_of s.seat.me.0).number * 2 ^ 58 + 2 * 2 ^ 62) × ((copier_of s.seat.me.0).number < MOST_COPIERS) × CopierStands (copier_of s.seat.me.0) };
 }
 
 impl<D: Device> CopySeat<D> {
@@ -83,7 +83,7 @@ impl<D: Device> CopySeat<D> {
         seat: Seat<u64, View>,
         number: u8,
     ) -> CopySeat<D>
-        requires table { (seat.table_id ≡ (arc_value table).shared.table_id) × (seat.table_id.words ≡ TABLE_WORDS) }
+        requires table { (seat.table_id ≡ (arc_value table).shared.table_id) × (seat.table_id.words ≡ table_words (copier_of seat.me.0).logs) }
         requires copier { seat.me.0 ≡ Copier (copier_of seat.me.0) }
         requires number { ((copier_of seat.me.0).number ≡ number) × (number < MOST_COPIERS) }
         requires there { CopierStands (copier_of seat.me.0) }

@@ -1,4 +1,4 @@
-// Where each shared word stands: one layout, for the largest heap. Word 0 is for the split of seats, and no word of the heap; the words of
+// Where each shared word stands: the cells are those of the largest heap, the logs as many as the heap has. Word 0 is for the split of seats, and no word of the heap; the words of
 // the copiers' jobs stand between the cells and the logs. The epoch and each scope word have a line of cache, in which no other word is written.
 ghost use Rattle.far_table.specs.Layout.{LayoutIs};
 
@@ -7,7 +7,7 @@ use far_word::{JOBS, LOG_WORDS, MOST_LOGS, MOST_MUTATORS, POINTERS};
 /// How many words a line of cache has, of 128 bytes.
 pub(crate) const LINE: usize = 16;
 
-/// How many words are of logs.
+/// How many words are of logs in the largest heap.
 pub(crate) const WORDS_OF_LOGS: usize = MOST_LOGS as usize * LOG_WORDS as usize;
 
 /// The epoch.
@@ -22,11 +22,8 @@ pub(crate) const CELLS: usize = SCOPES + MOST_MUTATORS as usize * LINE;
 /// The word of job 0.
 pub(crate) const JOBS_AT: usize = CELLS + POINTERS as usize;
 
-/// Word 0 of log 0.
+/// Word 0 of log 0. The words of the logs are last.
 pub(crate) const LOGS: usize = JOBS_AT + JOBS as usize;
-
-/// How many words there are.
-pub(crate) const TABLE_WORDS: usize = LOGS + WORDS_OF_LOGS;
 
 /// Where each word stands, and how many there are, in numerals.
 #[tactic(auto, using(crate::proofs::Words::layout_is))]

@@ -12,7 +12,7 @@ ghost use Rattle.far_core.specs.state.State.{State, addr};
 ghost use Rattle.far_word.specs.declared.pointer.Place.{Place as any_place};
 ghost use Rattle.far_table.specs.View.{Owner, OwnerView};
 ghost use Rattle.far_table.specs.First.{first_owner};
-ghost use Rattle.far_table.specs.Layout.{TABLE_WORDS};
+ghost use Rattle.far_table.specs.Layout.{table_words};
 ghost use Rattle.far_word.specs.Pointer.{read_of};
 ghost use Rattle.far_core.specs.events.Ask.{is_request};
 ghost use Rattle.far_core.specs.state.Law.{in_use, is_dirty};
@@ -55,7 +55,7 @@ impl<D: Device> Model for MutSeat<D> {
     ghost use Rattle.std.specs.Arc.{arc_value};
     ghost use Rattle.far_word.specs.declared.sizes.TheConstants.{CELLS, MOST_MUTATORS};
     ghost use Rattle.far_table.specs.View.{Owner};
-    ghost use Rattle.far_table.specs.Layout.{TABLE_WORDS};
+    ghost use Rattle.far_table.specs.Layout.{table_words};
     ghost use Rattle.far_table.specs.Seats.{Seated, Remembers, HasPlaces};
     ghost use Rattle.far_table.specs.Tells.{HasState, owner_of};
 
@@ -63,7 +63,7 @@ impl<D: Device> Model for MutSeat<D> {
 
     ghost view = { λ s. record { table = s.seat.table_id; view = owner_of s.seat.me.0 } };
 
-    ghost invariant = { λ s. (s.seat.table_id ≡ (arc_value s.table).shared.table_id) × (s.seat.table_id.words ≡ TABLE_WORDS) × (s.seat.me.0 ≡ Owner (owner_of s.seat.me.0)) × ((owner_of s.seat.me.0).number ≡ s.number) × (s.number < MOST_MUTATORS) × Remembers (owner_of s.seat.me.0).epoch s.epoch × (length s.places.items ≡ CELLS) × HasPlaces (owner_of s.seat.me.0) s.places.items × HasState (owner_of s.seat.me.0) };
+    ghost invariant = { λ s. (s.seat.table_id ≡ (arc_value s.table).shared.table_id) × (s.seat.table_id.words ≡ table_words (owner_of s.seat.me.0).logs) × (s.seat.me.0 ≡ Owner (owner_of s.seat.me.0)) × ((owner_of s.seat.me.0).number ≡ s.number) × (s.number < MOST_MUTATORS) × Remembers (owner_of s.seat.me.0).epoch s.epoch × (length s.places.items ≡ CELLS) × HasPlaces (owner_of s.seat.me.0) s.places.items × HasState (owner_of s.seat.me.0) };
 }
 
 // Where the data words of an object begin whose place is held, counted from word 0 of log 0; 0 where none is.
@@ -102,7 +102,7 @@ fn load_some<D: Device>(
     count: usize,
     out: &mut [u8],
 )
-    requires table { (seat.old.table_id ≡ shared.now.table_id) × (seat.old.table_id.words ≡ TABLE_WORDS) }
+    requires table { (seat.old.table_id ≡ shared.now.table_id) × (seat.old.table_id.words ≡ table_words (owner_of seat.old.me.0).logs) }
     requires owner { seat.old.me.0 ≡ Owner (owner_of seat.old.me.0) }
     requires places { HasPlaces (owner_of seat.old.me.0) places.now.items }
     requires start { start ≡ slice_index places.now.items (p % CELLS) + first }
@@ -134,7 +134,7 @@ fn load_rest<D: Device>(
     first: usize,
     out: &mut [u8],
 )
-    requires table { (seat.old.table_id ≡ shared.now.table_id) × (seat.old.table_id.words ≡ TABLE_WORDS) }
+    requires table { (seat.old.table_id ≡ shared.now.table_id) × (seat.old.table_id.words ≡ table_words (owner_of seat.old.me.0).logs) }
     requires owner { seat.old.me.0 ≡ Owner (owner_of seat.old.me.0) }
     requires places { HasPlaces (owner_of seat.old.me.0) places.now.items }
     requires start { start ≡ slice_index places.now.items (p % CELLS) + first }
@@ -180,7 +180,7 @@ fn load_long<D: Device>(
     first: usize,
     out: &mut [u8],
 )
-    requires table { (seat.old.table_id ≡ shared.now.table_id) × (seat.old.table_id.words ≡ TABLE_WORDS) }
+    requires table { (seat.old.table_id ≡ shared.now.table_id) × (seat.old.table_id.words ≡ table_words (owner_of seat.old.me.0).logs) }
     requires owner { seat.old.me.0 ≡ Owner (owner_of seat.old.me.0) }
     requires places { HasPlaces (owner_of seat.old.me.0) places.now.items }
     requires begin { begin ≡ slice_index places.now.items (p % CELLS) }
@@ -214,7 +214,7 @@ fn load_all<D: Device>(
     first: u16,
     out: &mut [u8],
 )
-    requires table { (seat.old.table_id ≡ shared.now.table_id) × (seat.old.table_id.words ≡ TABLE_WORDS) }
+    requires table { (seat.old.table_id ≡ shared.now.table_id) × (seat.old.table_id.words ≡ table_words (owner_of seat.old.me.0).logs) }
     requires owner { seat.old.me.0 ≡ Owner (owner_of seat.old.me.0) }
     requires places { (length places.now.items ≡ CELLS) × HasPlaces (owner_of seat.old.me.0) places.now.items }
     requires held { IsSome (held_at (owner_of seat.old.me.0) p) }
@@ -248,7 +248,7 @@ fn store_some<D: Device>(
     count: usize,
     bytes: &[u8],
 )
-    requires table { (seat.old.table_id ≡ shared.now.table_id) × (seat.old.table_id.words ≡ TABLE_WORDS) }
+    requires table { (seat.old.table_id ≡ shared.now.table_id) × (seat.old.table_id.words ≡ table_words (owner_of seat.old.me.0).logs) }
     requires owner { seat.old.me.0 ≡ Owner (owner_of seat.old.me.0) }
     requires places { HasPlaces (owner_of seat.old.me.0) places.now.items }
     requires start { start ≡ slice_index places.now.items (p % CELLS) + first }
@@ -282,7 +282,7 @@ fn store_long<D: Device>(
     first: usize,
     bytes: &[u8],
 )
-    requires table { (seat.old.table_id ≡ shared.now.table_id) × (seat.old.table_id.words ≡ TABLE_WORDS) }
+    requires table { (seat.old.table_id ≡ shared.now.table_id) × (seat.old.table_id.words ≡ table_words (owner_of seat.old.me.0).logs) }
     requires owner { seat.old.me.0 ≡ Owner (owner_of seat.old.me.0) }
     requires places { HasPlaces (owner_of seat.old.me.0) places.now.items }
     requires begin { begin ≡ slice_index places.now.items (p % CELLS) }
@@ -326,7 +326,7 @@ fn store_all<D: Device>(
     first: u16,
     bytes: &[u8],
 )
-    requires table { (seat.old.table_id ≡ shared.now.table_id) × (seat.old.table_id.words ≡ TABLE_WORDS) }
+    requires table { (seat.old.table_id ≡ shared.now.table_id) × (seat.old.table_id.words ≡ table_words (owner_of seat.old.me.0).logs) }
     requires owner { seat.old.me.0 ≡ Owner (owner_of seat.old.me.0) }
     requires places { (length places.now.items ≡ CELLS) × HasPlaces (owner_of seat.old.me.0) places.now.items }
     requires held { IsSome (held_at (owner_of seat.old.me.0) p) }
@@ -358,7 +358,7 @@ impl<D: Device> MutSeat<D> {
         core: &Core,
         number: u8,
     ) -> Result<MutSeat<D>, AllocError>
-        requires table { (seat.table_id ≡ (arc_value table).shared.table_id) × (seat.table_id.words ≡ TABLE_WORDS) }
+        requires table { (seat.table_id ≡ (arc_value table).shared.table_id) × (seat.table_id.words ≡ table_words (core_state core.now).logs) }
         requires owner { seat.me.0 ≡ Owner (first_owner (core_state core.now) (owner_of seat.me.0).honest number) }
         requires some { number < (core_state core.now).mutators }
         requires there { HasState (owner_of seat.me.0) }

@@ -6,7 +6,7 @@ ghost use Rattle.far_core.specs.state.CoreState.{core_state};
 ghost use Rattle.far_core.specs.state.State.{State};
 ghost use Rattle.far_table.specs.BookSeats.{table_of, book_in};
 ghost use Rattle.far_table.specs.First.{first_copier, first_owner, unseated, waiting};
-ghost use Rattle.far_table.specs.Layout.{TABLE_WORDS};
+ghost use Rattle.far_table.specs.Layout.{table_words};
 ghost use Rattle.far_table.specs.Stands.{CopierSeats, IsDealer, Seats, Stands, Starts, book_of};
 ghost use Rattle.far_table.specs.Tells.{CopierStands, HasState};
 ghost use Rattle.far_table.specs.Tabled.{table_word};
@@ -16,7 +16,7 @@ ghost use Rattle.far_word.specs.declared.sizes.TheConstants.{LOG_WORDS, MOST_COP
 
 use crate::book::BookSeat;
 use crate::copy_seat::CopySeat;
-use crate::layout::{CELLS, EPOCH, JOBS_AT, LINE, LOGS, SCOPES, TABLE_WORDS};
+use crate::layout::{CELLS, EPOCH, JOBS_AT, LINE, LOGS, SCOPES};
 use crate::rule::{Deal, FarTable, Plan};
 use crate::seat::MutSeat;
 use crate::view::View;
@@ -44,7 +44,7 @@ fn log_word(core: &Core, a: usize) -> u64
 
 // Word `i` of a core's table.
 fn word_of(core: &Core, i: usize) -> u64
-    requires { i < TABLE_WORDS }
+    requires { i < table_words MOST_LOGS }
     ensures { result ≡ table_word (core_state core.now) i }
 {
     if i < SCOPES {
@@ -67,10 +67,13 @@ fn word_of(core: &Core, i: usize) -> u64
 
 // The words of a core's table.
 fn words_of(alloc: Global, core: &Core) -> Result<Vec<u64>, AllocError>
-    ensures { IfOk result (λ words. words.items ≡ map (table_word (core_state core.now)) (range_with_len 0 TABLE_WORDS)) }
+    ensures { IfOk result (λ words. words.items ≡ map (table_word (core_state core.now)) (range_with_len 0 (table_words (core_state core.now).logs))) }
 {
-    let mut words = Vec::with_capacity(alloc, TABLE_WORDS)?;
-    for i in 0..TABLE_WORDS {
+    core.keeps_law();
+    let logs = core.logs();
+    let count = LOGS + logs as usize * LOG_WORDS as usize;
+    let mut words = Vec::with_capacity(alloc, count)?;
+    for i in 0..count {
         words.push_reserved(word_of(core, i));
     }
     Ok(words)
@@ -84,11 +87,11 @@ fn deal_one<D: Device>(
     plan: &Plan<D>,
     number: u8,
 ) -> Result<MutSeat<D>, AllocError>
-    requires dealer { IsDealer seat.old (arc_value table.now).shared.table_id }
+    requires dealer { IsDealer seat.old (arc_value table.now).shared.table_id (core_state plan.now.core).logs }
     requires next { seat.old.me.0 ≡ Book (waiting (core_state plan.now.core) (D.honest plan.now.device.value) number ((core_state plan.now.core).mutators - number)) }
     requires some { number < (core_state plan.now.core).mutators }
     requires there { HasState (first_owner (core_state plan.now.core) (D.honest plan.now.device.value) number) }
-    ensures dealer { OnOk result (IsDealer seat.new (arc_value table.now).shared.table_id) }
+    ensures dealer { OnOk result (IsDealer seat.new (arc_value table.now).shared.table_id (core_state plan.now.core).logs) }
     ensures left { OnOk result (seat.new.me.0 ≡ Book (waiting (core_state plan.now.core) (D.honest plan.now.device.value) (number + 1) ((core_state plan.now.core).mutators - (number + 1)))) }
     ensures dealt { IfOk result (λ s. s ≡ record { table = (arc_value table.now).shared.table_id; view = first_owner (core_state plan.now.core) (D.honest plan.now.device.value) number }) }
 {
@@ -104,10 +107,10 @@ fn deal_all<D: Device>(
     seat: &mut Seat<u64, View>,
     plan: &Plan<D>,
 ) -> Result<Vec<MutSeat<D>>, AllocError>
-    requires dealer { IsDealer seat.old (arc_value table.now).shared.table_id }
+    requires dealer { IsDealer seat.old (arc_value table.now).shared.table_id (core_state plan.now.core).logs }
     requires first { seat.old.me.0 ≡ Book (waiting (core_state plan.now.core) (D.honest plan.now.device.value) 0 (core_state plan.now.core).mutators) }
     requires there { (m : ℕ) → m < (core_state plan.now.core).mutators → HasState (first_owner (core_state plan.now.core) (D.honest plan.now.device.value) m) }
-    ensures dealer { OnOk result (IsDealer seat.new (arc_value table.now).shared.table_id) }
+    ensures dealer { OnOk result (IsDealer seat.new (arc_value table.now).shared.table_id (core_state plan.now.core).logs) }
     ensures left { OnOk result (seat.new.me.0 ≡ Book (waiting (core_state plan.now.core) (D.honest plan.now.device.value) (core_state plan.now.core).mutators 0)) }
     ensures dealt { IfOk result (λ v. v.items ≡ Seats (arc_value table.now).shared.table_id (first_owner (core_state plan.now.core) (D.honest plan.now.device.value)) (core_state plan.now.core).mutators) }
 {
@@ -127,11 +130,11 @@ fn deal_copier<D: Device>(
     plan: &Plan<D>,
     number: u8,
 ) -> Result<CopySeat<D>, AllocError>
-    requires dealer { IsDealer seat.old (arc_value table.now).shared.table_id }
+    requires dealer { IsDealer seat.old (arc_value table.now).shared.table_id (core_state plan.now.core).logs }
     requires next { seat.old.me.0 ≡ Book (unseated (core_state plan.now.core) (D.honest plan.now.device.value) number (MOST_COPIERS - number)) }
     requires some { number < MOST_COPIERS }
     requires there { CopierStands (first_copier (core_state plan.now.core) number) }
-    ensures dealer { OnOk result (IsDealer seat.new (arc_value table.now).shared.table_id) }
+    ensures dealer { OnOk result (IsDealer seat.new (arc_value table.now).shared.table_id (core_state plan.now.core).logs) }
     ensures left { OnOk result (seat.new.me.0 ≡ Book (unseated (core_state plan.now.core) (D.honest plan.now.device.value) (number + 1) (MOST_COPIERS - (number + 1)))) }
     ensures dealt { IfOk result (λ s. s ≡ record { table = (arc_value table.now).shared.table_id; view = first_copier (core_state plan.now.core) number }) }
 {
@@ -148,10 +151,10 @@ fn deal_copiers<D: Device>(
     seat: &mut Seat<u64, View>,
     plan: &Plan<D>,
 ) -> Result<Vec<CopySeat<D>>, AllocError>
-    requires dealer { IsDealer seat.old (arc_value table.now).shared.table_id }
+    requires dealer { IsDealer seat.old (arc_value table.now).shared.table_id (core_state plan.now.core).logs }
     requires first { seat.old.me.0 ≡ Book (unseated (core_state plan.now.core) (D.honest plan.now.device.value) 0 MOST_COPIERS) }
     requires there { (c : ℕ) → c < MOST_COPIERS → CopierStands (first_copier (core_state plan.now.core) c) }
-    ensures dealer { OnOk result (IsDealer seat.new (arc_value table.now).shared.table_id) }
+    ensures dealer { OnOk result (IsDealer seat.new (arc_value table.now).shared.table_id (core_state plan.now.core).logs) }
     ensures left { OnOk result (seat.new.me.0 ≡ Book (unseated (core_state plan.now.core) (D.honest plan.now.device.value) MOST_COPIERS 0)) }
     ensures dealt { IfOk result (λ v. v.items ≡ CopierSeats (arc_value table.now).shared.table_id (first_copier (core_state plan.now.core)) MOST_COPIERS) }
 {
@@ -166,7 +169,7 @@ fn deal_copiers<D: Device>(
 impl<D: Device> BookSeat<D> {
     // The book's seat, once all others have theirs.
     fn new(table: Arc<FarTable<D>, Global>, seat: Seat<u64, View>, core: &Core) -> BookSeat<D>
-        requires dealer { IsDealer seat (arc_value table).shared.table_id }
+        requires dealer { IsDealer seat (arc_value table).shared.table_id (core_state core.now).logs }
         requires view { (honest : Bool) × (book_of seat.me.0 ≡ waiting (core_state core.now) honest (core_state core.now).mutators 0) }
         requires stands { ∥ Stands (book_of seat.me.0) ∥₁ }
         ensures table { table_of result ≡ seat.table_id }
@@ -209,7 +212,7 @@ fn seats_of<D: Device>(
 
 /// Makes the shared table of a core's words, with the core's views as the seats': scopes that are open, places that are held,
 /// objects that are used, near or far, the round under way, jobs and what copiers have of them. The book's seat, the owners' by
-/// number, and the eight copiers' by number. All room that a seat ever needs is taken here. The rule is honest where the device
+/// number, and the eight copiers' by number. The table is as large as the core's logs ask. All room that a seat ever needs is taken here. The rule is honest where the device
 /// is; where some cell is in use that has to be the core's own honesty.
 ///
 /// Refused [`Refused::Memory`] alone; then nothing was made, and the core is dropped.

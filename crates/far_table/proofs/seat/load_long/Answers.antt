@@ -1,6 +1,8 @@
-use Rattle.std.proofs.Common.{◌≡◌, ◌+◌, ◌-◌, ◌*◌, ◌/◌, ◌≤◌, ℕ, true, length, take, drop, refl, sym, ◌∙◌, subst, arith}
+use Rattle.std.proofs.Common.{◌≡◌, ◌+◌, ◌-◌, ◌*◌, ◌/◌, ◌≤◌, ℕ, true, length, take, drop, refl, sym, ap, ◌∙◌, subst, arith}
 use Rattle.std.proofs.lemmas.List.{length-take-le, length-drop}
+use Rattle.atomic_table.specs.Seated.{TableId}
 use Rattle.far_word.specs.Bytes.{packed_word}
+use Rattle.far_table.specs.Layout.{table_words}
 use Rattle.far_table.specs.View.{View}
 use Rattle.far_table.specs.Ranges.{HasBytes}
 use Rattle.far_table.specs.RowTells.{LoadedEach}
@@ -13,6 +15,16 @@ use Rattle.far_table.proofs.seat.load_long.Goals as goal
 
 pub load_some-requires-clause-places : goal.load_some-requires-clause-places
 load_some-requires-clause-places g c = subst (λ (v : View). HasPlaces (owner_of v) c.args.places.now.items) (sym c.loop-block.invariant.view) c.requires.places
+
+pub load_some-requires-clause-table : goal.load_some-requires-clause-table
+load_some-requires-clause-table g c =
+    let i = c.loop-block.invariant in
+    (i.table ∙ c.requires.table.0, ap (λ (z : TableId). z.words) i.table ∙ (c.requires.table.1 ∙ ap (λ (v : View). table_words (owner_of v).logs) (sym i.view)))
+
+pub load_rest-requires-clause-table : goal.load_rest-requires-clause-table
+load_rest-requires-clause-table g c =
+    let i = c.loop-block.invariant in
+    (i.table ∙ c.requires.table.0, ap (λ (z : TableId). z.words) i.table ∙ (c.requires.table.1 ∙ ap (λ (v : View). table_words (owner_of v).logs) (sym i.view)))
 
 pub loop-block-preserved : goal.loop-block-preserved
 loop-block-preserved g c =

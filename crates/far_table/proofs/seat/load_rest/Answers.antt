@@ -1,7 +1,9 @@
-use Rattle.std.proofs.Common.{◌≡◌, ◌∙◌, ◌+◌, ◌-◌, ◌*◌, ◌/◌, ◌<◌, ℕ, true, length, drop, get_or, refl, sym, subst, arith, List}
+use Rattle.std.proofs.Common.{◌≡◌, ◌∙◌, ◌+◌, ◌-◌, ◌*◌, ◌/◌, ◌<◌, ℕ, true, length, drop, get_or, refl, sym, ap, subst, arith, List}
 use Rattle.std.proofs.lemmas.List.{length-take-le, length-drop}
 use borrow.Rule.Slice.PartMut.{put_mid}
+use Rattle.atomic_table.specs.Seated.{TableId}
 use Rattle.far_word.specs.Bytes.{byte_at, packed_word}
+use Rattle.far_table.specs.Layout.{table_words}
 use Rattle.far_table.specs.Ranges.{HasBytes}
 use Rattle.far_table.specs.RowTells.{LoadedEach}
 use Rattle.far_table.specs.Seats.{HasPlaces}
@@ -14,6 +16,10 @@ use Rattle.far_table.proofs.seat.load_rest.Goals as goal
 
 pub load_some-requires-3-clause-places : goal.load_some-requires-3-clause-places
 load_some-requires-3-clause-places g c = subst (λ (v : View). HasPlaces (owner_of v) c.args.places.now.items) (sym c.load_some-2.ensures.view) c.requires.places
+
+pub load_some-requires-3-clause-table : goal.load_some-requires-3-clause-table
+load_some-requires-3-clause-table g c = let e = c.load_some-2.ensures in
+    (e.table ∙ c.requires.table.0, ap (λ (z : TableId). z.words) e.table ∙ (c.requires.table.1 ∙ ap (λ (v : View). table_words (owner_of v).logs) (sym e.view)))
 
 pub returns-clause-bytes : goal.returns-clause-bytes
 returns-clause-bytes g c h k lt =

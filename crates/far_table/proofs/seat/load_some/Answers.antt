@@ -22,7 +22,8 @@ load-word-requires g c =
     (sym c.loop-i.invariant.view) (c.requires.owner, c.requires.places, c.requires.held, word) in
     let w = loads_at {S = ℕ} c.args.shared.now.table_id.slots c.loop-i.seat.id c.loop-i.seat.me q.0 c.args.places.now.items q.1 c.args.p (c.args.first + c.loop-i.i) q.2 q.3 (c.args.start + c.loop-i.i) (omega (arith, c.requires.start)) in
     let words = ap (λ (z : TableId). z.words) (sym c.requires.table.0) ∙ c.requires.table.1 in
-    (c.loop-i.invariant.table ∙ c.requires.table.0, omega (arith, w.0, words), w.1)
+    let many = ap (λ (v : View). (owner_of v).logs) c.loop-i.invariant.view in
+    (c.loop-i.invariant.table ∙ c.requires.table.0, omega (arith, w.0, words, many), w.1)
 
 pub loop-i-preserved : goal.loop-i-preserved
 loop-i-preserved g c =

@@ -1,6 +1,9 @@
-use Rattle.std.proofs.Common.{◌≡◌, ◌+◌, ◌-◌, ◌*◌, ◌/◌, ◌≤◌, ℕ, length, take, refl, ◌∙◌, subst, arith}
+use Rattle.std.proofs.Common.{◌≡◌, ◌+◌, ◌-◌, ◌*◌, ◌/◌, ◌≤◌, ℕ, length, take, refl, sym, ap, ◌∙◌, subst, arith}
 use Rattle.std.proofs.lemmas.List.{get_or-take, length-take-le}
+use Rattle.atomic_table.specs.Seated.{TableId}
 use Rattle.far_word.specs.Bytes.{packed_word}
+use Rattle.far_table.specs.Layout.{table_words}
+use Rattle.far_table.specs.View.{OwnerView}
 use Rattle.far_table.specs.Ranges.{Wrote}
 use Rattle.far_table.specs.RowTells.{StoredEach}
 use Rattle.far_table.specs.Tells.{owner_of}
@@ -11,6 +14,16 @@ use Rattle.far_table.proofs.seat.store_long.Goals as goal
 pub store_some-requires-clause-places : goal.store_some-requires-clause-places
 store_some-requires-clause-places g c =
     places_wrote c.args.p _ _ c.args.places.now.items (owner_of c.args.seat.now.me.0) (owner_of c.loop-block.seat.me.0) c.loop-block.invariant.wrote c.requires.places
+
+pub store_some-requires-clause-table : goal.store_some-requires-clause-table
+store_some-requires-clause-table g c =
+    let i = c.loop-block.invariant in
+    (i.table ∙ c.requires.table.0, ap (λ (z : TableId). z.words) i.table ∙ (c.requires.table.1 ∙ ap (λ (z : OwnerView). table_words z.logs) (sym i.wrote.rest)))
+
+pub store_some-requires-2-clause-table : goal.store_some-requires-2-clause-table
+store_some-requires-2-clause-table g c =
+    let i = c.loop-block.invariant in
+    (i.table ∙ c.requires.table.0, ap (λ (z : TableId). z.words) i.table ∙ (c.requires.table.1 ∙ ap (λ (z : OwnerView). table_words z.logs) (sym i.wrote.rest)))
 
 pub loop-block-preserved : goal.loop-block-preserved
 loop-block-preserved g c =

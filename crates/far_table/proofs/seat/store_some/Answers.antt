@@ -32,7 +32,8 @@ store-requires g c =
     let w = stores_at {S = ℕ} c.args.shared.now.table_id.slots c.loop-i.seat.id c.loop-i.seat.me c.loop-i.invariant.owner c.args.places.now.items has c.args.p (c.args.first + c.loop-i.i) c.read_u64-word.result
     held word soiled c.read_u64-word.type_inv padded (c.args.start + c.loop-i.i) (omega (arith, c.requires.start)) in
     let words = ap (λ (z : TableId). z.words) (sym c.requires.table.0) ∙ c.requires.table.1 in
-    (c.loop-i.invariant.table ∙ c.requires.table.0, omega (arith, w.0, words), w.1)
+    let many = ap (λ (z : OwnerView). z.logs) wrote.rest in
+    (c.loop-i.invariant.table ∙ c.requires.table.0, omega (arith, w.0, words, many), w.1)
 
 pub loop-i-preserved : goal.loop-i-preserved
 loop-i-preserved g c =

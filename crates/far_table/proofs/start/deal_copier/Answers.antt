@@ -1,5 +1,7 @@
 use Rattle.std.proofs.Common.{◌∙◌, sym, ap, subst, arith}
+use Rattle.atomic_table.specs.Seated.{TableId}
 use Rattle.far_core.specs.state.CoreState.{core_state}
+use Rattle.far_table.specs.Layout.{table_words}
 use Rattle.far_table.specs.Stands.{left_of, right_of}
 use Rattle.far_table.specs.Tells.{CopierStands, copier_of}
 use Rattle.far_table.specs.View.{Copier, View}
@@ -13,6 +15,13 @@ split_seat-copier-requires g c =
     let wide = ap (λ t. t.words) h in
     let words = d.1 in
     (d.0 ∙ sym h, omega arith, deals _ _ _ _ _ c.requires.next (next_unseated (core_state c.args.plan.now.core) (g.D.Device.honest c.args.plan.now.device.value) c.args.number _ c.requires.some))
+
+pub new-requires-clause-table : goal.new-requires-clause-table
+new-requires-clause-table g c =
+    let d = c.requires.dealer in
+    let id = c.split_seat-copier.ensures.3 ∙ d.0 in
+    let is = ap (λ z. z.0) c.split_seat-copier.ensures.4 ∙ (ap right_of c.requires.next ∙ right_unseated (core_state c.args.plan.now.core) (g.D.Device.honest c.args.plan.now.device.value) c.args.number _ c.requires.some) in
+    (id ∙ sym (ap (λ t. t.shared.table_id) c.in_ok-table.ensures), ap (λ (z : TableId). z.words) id ∙ (d.1 ∙ ap (λ (z : View). table_words (copier_of z).logs) (sym is)))
 
 pub new-requires-clause-copier : goal.new-requires-clause-copier
 new-requires-clause-copier g c = let is = ap (λ z. z.0) c.split_seat-copier.ensures.4 ∙ (ap right_of c.requires.next ∙ right_unseated (core_state c.args.plan.now.core) (g.D.Device.honest c.args.plan.now.device.value) c.args.number _ c.requires.some) in

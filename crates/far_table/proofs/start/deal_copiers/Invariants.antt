@@ -9,7 +9,7 @@ use Rattle.far_table.proofs.start.deal_copiers.Given as goal
 
 abbrev pub invariant-loop-number : goal.invariant-loop-number
 invariant-loop-number g l =
-    IsDealer l.seat (arc_value l.table).shared.table_id
+    IsDealer l.seat (arc_value l.table).shared.table_id (core_state l.fn.plan.core).logs
     × (l.seat.me.0 ≡ Book (unseated (core_state l.fn.plan.core) (g.D.Device.honest l.fn.plan.device.value) l.number (MOST_COPIERS - l.number)))
     × (l.copiers.items ≡ CopierSeats (arc_value l.table).shared.table_id (first_copier (core_state l.fn.plan.core)) l.number)
     × (vec_len l.copiers ≡ l.number) × (MOST_COPIERS ≤ vec_capacity l.copiers)

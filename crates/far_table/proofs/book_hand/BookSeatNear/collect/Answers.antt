@@ -1,4 +1,4 @@
-use Rattle.std.proofs.Common.{◌∙◌, refl, sym, ap}
+use Rattle.std.proofs.Common.{◌∙◌, refl, sym, ap, arith}
 use Rattle.far_hand.proofs.Offering.{collect_empties}
 use Rattle.far_table.specs.BookViews.{saw_job_view}
 use Rattle.far_table.specs.Stands.{book_of}
@@ -12,7 +12,7 @@ use Rattle.far_table.proofs.book_hand.BookSeatNear.collect.Goals as goal
 pub compare_exchange-found-requires : goal.compare_exchange-found-requires
 compare_exchange-found-requires g c =
     let i = c.args.self.now.fits in
-    let t = job_inside _ _ _ c.args.job i.same (ap (λ t. t.shared.table_id) c.deref.ensures) i.wide c.requires.legal.0 in
+    let t = job_inside _ _ _ c.args.job i.same (ap (λ t. t.shared.table_id) c.deref.ensures) i.wide c.requires.legal.0 (omega arith) in
     (t.0, t.1, collects _ _ _ i.is_book i.plain c.args.job c.args.old c.ranges.old.fits c.requires.legal)
 
 pub invariant_of-self : goal.invariant_of-self

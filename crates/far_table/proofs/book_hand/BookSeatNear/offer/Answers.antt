@@ -1,4 +1,4 @@
-use Rattle.std.proofs.Common.{refl, ap}
+use Rattle.std.proofs.Common.{refl, ap, arith}
 use Rattle.far_table.specs.BookPlays.{JobTold}
 use Rattle.far_table.specs.BookSeats.{book_in}
 use Rattle.far_table.proofs.BookJobs.{offered_done, offered_forgets, offered_lies, offered_says, offers}
@@ -14,7 +14,7 @@ pack-requires g c = offered_lies _ c.args.job _ c.requires.legal c.requires.lies
 pub store-requires : goal.store-requires
 store-requires g c =
     let i = c.args.self.now.fits in
-    let t = job_inside _ _ _ c.args.job i.same (ap (λ t. t.shared.table_id) c.deref.ensures) i.wide c.requires.legal.0 in
+    let t = job_inside _ _ _ c.args.job i.same (ap (λ t. t.shared.table_id) c.deref.ensures) i.wide c.requires.legal.0 (omega arith) in
     (t.0, t.1, offers _ _ _ i.is_book i.plain c.args.job _ _ c.requires.legal c.requires.lies (offered_says _ c.args.job _ c.requires.legal c.requires.lies i.plain c.args.self.now.stands _ c.pack.ensures))
 
 -- what the step told

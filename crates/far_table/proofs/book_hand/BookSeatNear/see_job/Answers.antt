@@ -1,4 +1,4 @@
-use Rattle.std.proofs.Common.{refl, ap}
+use Rattle.std.proofs.Common.{refl, ap, arith}
 use Rattle.far_table.specs.StateOf.{book_state}
 use Rattle.far_table.proofs.BookJobs.{sees_job}
 use Rattle.far_table.proofs.BookSeatLemmas.{seat_keeps, seat_made, view_is}
@@ -8,7 +8,7 @@ use Rattle.far_table.proofs.book_hand.BookSeatNear.see_job.Goals as goal
 pub load-requires : goal.load-requires
 load-requires g c =
     let i = c.args.self.now.fits in
-    let t = job_inside _ _ _ c.args.job i.same (ap (λ t. t.shared.table_id) c.deref.ensures) i.wide c.requires.legal in
+    let t = job_inside _ _ _ c.args.job i.same (ap (λ t. t.shared.table_id) c.deref.ensures) i.wide c.requires.legal (omega arith) in
     (t.0, t.1, sees_job _ _ _ i.is_book i.plain c.args.job c.requires.legal)
 
 pub invariant_of-self : goal.invariant_of-self

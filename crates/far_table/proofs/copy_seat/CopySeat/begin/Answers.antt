@@ -13,9 +13,9 @@ load-head-requires g c =
     let i = c.self.invariant in
     let task = task_of c.args.number c.args.offered in
     let own = subst (λ (z : CopierSeated). z.view.task ≡ Some task) (sym c.self.view_is) c.requires.own in
-    let from = (task_within _ task i.6 own).1.from in
+    let from = (task_within _ task i.6 own).1 in
     let here : c.source_of-source.result + LOGS_AT ≡ data_at (addr task.job.from) = ap (λ n. n + LOGS_AT) c.source_of-source.ensures in
-    let t = inside _ _ _ (c.source_of-source.result + LOGS_AT) i.0 (ap (λ t. t.shared.table_id) c.deref.ensures) i.1 (omega (arith, from.0, from.1, here)) in
+    let t = inside _ _ _ (c.source_of-source.result + LOGS_AT) i.0 (ap (λ t. t.shared.table_id) c.deref.ensures) i.1 (omega (arith, from, here)) in
     (t.0, t.1, measures _ _ _ i.2 task own _ here)
 
 pub invariant_of-self : goal.invariant_of-self

@@ -2,6 +2,7 @@ use Rattle.std.proofs.Common.{◌∙◌, sym, ap, subst, arith}
 use Rattle.far_table.specs.CopySeats.{CopiedNext, CopyJob, IsJobOf, copied_on, job_kept}
 use Rattle.far_table.specs.Seats.{CopierSeated}
 use Rattle.far_table.specs.Tells.{copier_of}
+use Rattle.far_table.specs.View.{View}
 use Rattle.far_table.proofs.CopySeatLemmas.{copied_next, copier_stays, got_on, job_fits, kept_on, len, next_from, next_to, own_here, own_on, some_left, task_on}
 use Rattle.far_table.proofs.CopySteps.{reads_source, writes_target}
 use Rattle.far_table.proofs.SeatLemmas.{inside}
@@ -14,7 +15,7 @@ load-word-requires g c =
     let job = job_kept c.job.inside.at c.job.inside.offered c.job.inside.from c.job.inside.end in
     let own = own_here c.job.view_is c.self.view_is c.requires.own in
     let from = next_from _ _ _ _ _ k in
-    let fits = (job_fits _ job own i.6).0 in
+    let fits = (job_fits _ job own i.6).2 in
     let left = some_left _ _ _ _ _ k c.if-job.false in
     let long = len _ job own in let words = long.2 in
     let t = inside _ _ _ c.job.inside.from i.0 (ap (λ t. t.shared.table_id) c.deref.ensures) i.1 (omega (arith, from, fits, left)) in
@@ -27,12 +28,13 @@ store-requires g c =
     let job = job_kept c.job.inside.at c.job.inside.offered c.job.inside.from c.job.inside.end in
     let own = own_here c.job.view_is c.self.view_is c.requires.own in
     let to = next_to _ _ _ _ _ k in
-    let fits = (job_fits _ job own i.6).1 in
+    let fits = (job_fits _ job own i.6).3 in
     let left = some_left _ _ _ _ _ k c.if-job.false in
     let h = c.load-word.ensures in
     let r = h.2 job.copied job.task own.task (next_from _ _ _ _ _ k) in
     let s = copier_stays _ _ _ _ _ _ _ _ _ _ i h.0 r in
-    let t = inside _ _ _ c.job.inside.to s.0 (ap (λ t. t.shared.table_id) c.deref-2.ensures) s.1 (omega (arith, to, fits, left)) in
+    let many = ap (λ (z : View). (copier_of z).logs) r.after_is in
+    let t = inside _ _ _ c.job.inside.to s.0 (ap (λ t. t.shared.table_id) c.deref-2.ensures) s.1 (omega (arith, to, fits, left, many)) in
     (t.0, t.1, writes_target _ _ _ s.2 job.task (task_on _ _ job own _ r) job.copied _ _ (got_on _ _ job own _ r) to)
 
 pub overflow_add-job-2 : goal.overflow_add-job-2

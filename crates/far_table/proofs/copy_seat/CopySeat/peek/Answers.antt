@@ -1,4 +1,4 @@
-use Rattle.std.proofs.Common.{refl, ap}
+use Rattle.std.proofs.Common.{refl, ap, arith}
 use Rattle.far_core.specs.declared.event.Event.TheVariants.{PeekJob}
 use Rattle.far_table.proofs.CopySeatLemmas.{copier_stays, peeked_reads, seat_same}
 use Rattle.far_table.proofs.CopySteps.{peeks}
@@ -8,7 +8,7 @@ use Rattle.far_table.proofs.copy_seat.CopySeat.peek.Goals as goal
 pub load-requires : goal.load-requires
 load-requires g c =
     let i = c.self.invariant in
-    let t = job_inside _ _ _ c.args.number i.0 (ap (λ t. t.shared.table_id) c.deref.ensures) i.1 c.requires.job in
+    let t = job_inside _ _ _ c.args.number i.0 (ap (λ t. t.shared.table_id) c.deref.ensures) i.1 c.requires.job (omega arith) in
     (t.0, t.1, peeks _ _ _ i.2 c.args.number c.requires.job)
 
 pub invariant_of-self : goal.invariant_of-self

@@ -17,7 +17,7 @@ compare_exchange-found-requires g c =
     let i = c.self.invariant in
     let offers = c.if-not-is_offered.ensures.offers refl in
     let free = subst (λ (z : CopierSeated). z.view.task ≡ None) (sym (c.self.view_is ∙ c.peek-word.ensures.same)) c.requires.free in
-    let t = job_inside _ _ _ c.args.number i.0 (ap (λ t. t.shared.table_id) c.deref.ensures) i.1 c.requires.job in
+    let t = job_inside _ _ _ c.args.number i.0 (ap (λ t. t.shared.table_id) c.deref.ensures) i.1 c.requires.job (omega arith) in
     (t.0, t.1, claims _ _ _ i.2 c.args.number c.peek-word.result _ c.requires.job c.peek-word.type_inv free offers (staged_word _ _ _ 1 offers i.5 (omega arith) i.3).0)
 
 pub invariant_of-self : goal.invariant_of-self

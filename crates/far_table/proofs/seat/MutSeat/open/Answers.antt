@@ -19,4 +19,4 @@ store-requires g c =
 
 pub invariant_of-self : goal.invariant_of-self
 invariant_of-self g c = let i = c.self.invariant in let h = c.store.ensures in
-    seat_stays _ _ _ _ _ _ _ _ _ _ _ _ _ i h.0 h.2 i.5 i.6 (places_same _ _ _ refl refl refl i.7)
+    seat_stays _ _ _ _ _ _ _ _ _ _ _ _ _ i h.0 h.2 i.5 i.6 (places_same _ _ _ refl refl refl refl i.7)

@@ -65,21 +65,21 @@ pub overflow_mul-place : goal.overflow_mul-place
 overflow_mul-place g c =
     let l = c.fetch_or-found.ensures.2.1 c.args.p refl in
     let r = rests c.fetch_or-found.result (read_of c.fetch_or-found.result) c.resting_place.result refl l.0.0 c.resting_place.ensures in
-    let fits = l.0.1 c.in-Some.place (sym r ∙ c.in-Some.is) in
+    let fits = (l.0.1 c.in-Some.place (sym r ∙ c.in-Some.is)).0 in
     omega arith
 
 pub overflow_add-place : goal.overflow_add-place
 overflow_add-place g c =
     let l = c.fetch_or-found.ensures.2.1 c.args.p refl in
     let r = rests c.fetch_or-found.result (read_of c.fetch_or-found.result) c.resting_place.result refl l.0.0 c.resting_place.ensures in
-    let fits = l.0.1 c.in-Some.place (sym r ∙ c.in-Some.is) in
+    let fits = (l.0.1 c.in-Some.place (sym r ∙ c.in-Some.is)).0 in
     omega arith
 
 pub overflow_add-place-2 : goal.overflow_add-place-2
 overflow_add-place-2 g c =
     let l = c.fetch_or-found.ensures.2.1 c.args.p refl in
     let r = rests c.fetch_or-found.result (read_of c.fetch_or-found.result) c.resting_place.result refl l.0.0 c.resting_place.ensures in
-    let fits = l.0.1 c.in-Some.place (sym r ∙ c.in-Some.is) in
+    let fits = (l.0.1 c.in-Some.place (sym r ∙ c.in-Some.is)).0 in
     omega arith
 
 pub invariant_of-self-2 : goal.invariant_of-self-2
@@ -90,8 +90,9 @@ invariant_of-self-2 g c =
     let r = rests c.fetch_or-found.result (read_of c.fetch_or-found.result) c.resting_place.result refl l.0.0 c.resting_place.ensures in
     let some = sym r ∙ c.in-Some.is in
     let own = c.requires.own ∙ ap (λ (z : Seated). z.view.number) (sym c.self.view_is) in
+    let fits = l.0.1 c.in-Some.place some in
     seat_stays _ _ _ _ _ _ _ _ _ _ _ _ _ i h.0 (pin_held _ _ _ c.args.p c.fetch_or-found.result c.in-Some.place some l.1) i.5 (length-set _ _ _ ∙ i.6)
-    (places_put _ _ c.args.p c.in-Some.place (places_warmed c.args.p c.fetch_or-found.result _ _ i.7) i.6 own (l.0.1 c.in-Some.place some))
+    (places_put _ _ c.args.p c.in-Some.place (places_warmed c.args.p c.fetch_or-found.result _ _ i.7) i.6 own fits.0 fits.1)
 
 pub returns-clause-held : goal.returns-clause-held
 returns-clause-held g c =

@@ -15,4 +15,4 @@ load-found-requires g c =
 
 pub invariant_of-self : goal.invariant_of-self
 invariant_of-self g c = let i = c.self.invariant in let h = c.load-found.ensures in
-    seat_stays _ _ _ _ _ _ _ _ _ _ _ _ _ i h.0 h.2.1 (λ e is. let same : c.load-found.result ≡ e = cc in (sym same, h.2.0)) i.6 (places_same _ _ _ refl refl refl i.7)
+    seat_stays _ _ _ _ _ _ _ _ _ _ _ _ _ i h.0 h.2.1 (λ e is. let same : c.load-found.result ≡ e = cc in (sym same, h.2.0)) i.6 (places_same _ _ _ refl refl refl refl i.7)

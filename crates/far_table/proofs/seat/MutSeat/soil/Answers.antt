@@ -29,7 +29,7 @@ invariant_of-self g c =
     let i = c.self.invariant in
     let h = c.fetch_or.ensures in
     let o : OwnerView = owner_of c.self.inside.seat.me.0 in
-    seat_stays _ _ _ _ _ _ _ _ _ _ _ _ _ i h.0 (h.2.1 c.args.p refl) i.5 i.6 (places_same o (soiled_view c.args.p c.fetch_or.result o) _ refl refl refl i.7)
+    seat_stays _ _ _ _ _ _ _ _ _ _ _ _ _ i h.0 (h.2.1 c.args.p refl) i.5 i.6 (places_same o (soiled_view c.args.p c.fetch_or.result o) _ refl refl refl refl i.7)
 
 pub returns-clause-view : goal.returns-clause-view
 returns-clause-view g c = ap owner_of (c.fetch_or.ensures.2.1 c.args.p refl).after_is ∙ ap (λ (z : Seated). soiled_view c.args.p c.fetch_or.result z.view) c.self.view_is
