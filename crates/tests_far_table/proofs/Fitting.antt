@@ -4,6 +4,7 @@ use Rattle.std.specs.Prelude.{is_some, not, map, slice_index_or}
 use Rattle.std.specs.List.{range_with_len}
 use Rattle.std.proofs.lemmas.Bool.{false≢true}
 use Rattle.std.proofs.lemmas.List.FromFn.{get_or-map-range_with_len, length-map-range_with_len, map-range_with_len_more, take-map-range_with_len}
+use Rattle.atomic_table.specs.Seated.{TableId}
 use Rattle.far_word.specs.declared.pointer.PtrWord.{PtrWord}
 use Rattle.far_word.specs.declared.pointer.PtrWord.TheVariants.{Free, Near, Far}
 use Rattle.far_word.specs.declared.sizes.TheConstants.{CELLS}
@@ -14,6 +15,7 @@ use Rattle.far_core.specs.world.WorldOf.{world_of}
 use Rattle.far_core.proofs.ObjectFacts.{object_agrees}
 use Rattle.far_table.specs.First.{first_owner, seen_object}
 use Rattle.far_table.specs.Seats.{Seated}
+use Rattle.far_table.specs.Stands.{Seats}
 use Rattle.far_table.specs.Views.{len_of, said_len}
 use Rattle.far_table.proofs.FirstViews.{first_held, first_object, first_soiled, first_uses}
 use Rattle.tests_far_table.specs.declared.known.Known.{Known}
@@ -50,6 +52,19 @@ begins s honest law m = let own : CELLS * m / CELLS ≡ m = omega arith in recor
 pub known_more : (s : State) (i : ℕ) (xs : List Known) (x : Known) → xs ≡ map (known_of s) (range_with_len 0 i) → x ≡ known_of s i → xs ++ x ∷ [] ≡ map (known_of s) (range_with_len 0 (i + 1))
 known_more s i xs x e is = ap (λ (l : List Known). l ++ x ∷ []) e
     ∙ (ap (λ (z : Known). map (known_of s) (range_with_len 0 i) ++ z ∷ []) is ∙ sym (map-range_with_len_more (known_of s) 0 i i (omega arith)))
+
+-- ---- the seats of a core as it was shared
+pub are_ready : (core : State) (honest : Bool) (table : TableId) (seats : List Seated) (all : List Known) → Law core →
+    seats ≡ Seats table (first_owner core honest) core.mutators → all ≡ map (known_of core) (range_with_len 0 core.mutators) → Ready seats all
+are_ready core honest table seats all law seated known = let long : length seats ≡ core.mutators = ap length seated ∙ length-map-range_with_len _ 0 core.mutators in record {
+  core = core;
+  honest = honest;
+  table = table;
+  law = law;
+  few = omega arith;
+  seats_are = seated ∙ ap (Seats table (first_owner core honest)) (sym long);
+  all_are = known;
+}
 
 -- ---- the last of the seats that are left
 module _ (xs : List Seated) (all : List Known) (r : Ready xs all) (k : ℕ) (one : k + 1 ≡ length xs) where
