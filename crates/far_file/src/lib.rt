@@ -20,5 +20,5 @@ pub use last_fault::{KeyFault, LastFault, words_tell_one_fault};
 pub use memory::MemStorage;
 pub use new_file::NewFile;
 pub use seal::{Digest, NoSeal, Seal, WholeCopy};
-pub use sealed::{FileDevice, SealedDevice};
+pub use sealed::{FileDevice, SealedDevice, slots_are};
 pub use storage::Storage;

@@ -26,6 +26,12 @@ pub(crate) const KEYS: u32 = 2048;
 /// How many bytes a slot has room for.
 pub(crate) const SLOT: u64 = 4096;
 
+/// The keys that have a slot are as many as the pointers of the largest heap, and a slot has room for a log's words, so for any object.
+pub fn slots_are()
+    ensures keys { KEYS ≡ 2048 }
+    ensures slot { SLOT ≡ 4096 }
+{}
+
 /// A device over storage, in which each key below 2,048 has a slot of 4,096 bytes, and a seal in memory: bytes that come back and
 /// don't fit theirs are a fault, and aren't given. It is honest if the storage is honest or the seals are exact.
 #[derive(Drop)]

@@ -1,11 +1,12 @@
 -- Converting an image: the next span of one of version 1, its header written anew, and what stands in the end.
-use Rattle.std.proofs.Common.{◌≡◌, ℕ, ◌+◌, ◌-◌, ◌*◌, ◌<◌, ◌≤◌, ◌^◌, arith, sym, refl, ap, subst, ◌∙◌, Option, Some, IfSome, List, [], ◌∷◌, ◌++◌, map, length, get_or, slice_set, inl, inr}
+use Rattle.std.proofs.Common.{◌≡◌, ◌==◌, if◌then◌else◌, ℕ, ◌+◌, ◌-◌, ◌*◌, ◌<◌, ◌≤◌, ◌^◌, arith, sym, refl, ap, subst, ◌∙◌, Option, Some, IfSome, List, [], ◌∷◌, ◌++◌, map, length, get_or, slice_set, inl, inr}
 use Rattle.std.specs.Prelude.{◌≢◌, All, Contains, IsSome}
 use Rattle.std.proofs.lemmas.Bool.{cases_lt}
 use Rattle.std.proofs.lemmas.Grind.{get_or-set_at}
 use Rattle.std.proofs.lemmas.List.{get_or-set_other}
 use Rattle.std.proofs.lemmas.List.Elements.{All-contains, All-head, All-map, All-push, All-tail}
-use Rattle.far_word.specs.Header.{IsHeadOf, head_of_v1, head_word, log_words, version_of}
+use Rattle.far_word.specs.Header.{IsHeadOf, head_of_v1, head_word, log_words, version_of, word_by}
+use Rattle.far_word.specs.Mark.{field}
 use Rattle.far_word.specs.Sizes.{size_of, words_for}
 use Rattle.far_word.specs.declared.header.HeadWordV1.{HeadWordV1}
 use Rattle.far_word.specs.declared.sizes.TheConstants.{POINTERS}
@@ -13,6 +14,7 @@ use Rattle.far_word.specs.declared.version.Version.{Version}
 use Rattle.far_word.specs.declared.version.Version.TheVariants.{First, Second}
 use Rattle.far_word.proofs.HeaderLaws.{SaysHeadV1, head_found_v1, head_only_v1}
 use Rattle.far_log.specs.declared.span.Span.{Span}
+use Rattle.far_log.specs.Laws.{ConvertedSays}
 use Rattle.far_log.specs.Convert.{IsConverted, IsRenewed, SameData, renewed, renumbered}
 use Rattle.far_log.specs.Spans.{HasHeader, StandsBy, Tile}
 use Rattle.far_log.specs.Walk.{IsImage, IsWalk, IsWalkBy}
@@ -172,3 +174,37 @@ converted_is_one word new other tail made also i lt =
           subst (λ k. new k ≡ other k) e
           (All-contains (SameData word new) made.spans x.0 made.same_data x.1 (i - x.0.at - 1) inside ∙ sym (All-contains (SameData word other) also.spans x.0 also.same_data there (i - x.0.at - 1) inside)))
     ]
+
+-- the version by the top byte
+abbrev says : ℕ → Version
+says k = if k == 0xa1 then First else Second
+
+pub says_first : (w : ℕ) → field w 56 8 ≡ 0xa1 → version_of w ≡ First
+says_first w e = subst (λ k. says k ≡ First) (sym e) refl
+
+says_second : (w : ℕ) → field w 56 8 ≡ 0xa2 → version_of w ≡ Second
+says_second w e = subst (λ k. says k ≡ Second) (sym e) refl
+
+-- the words of what is converted
+pub converted_is_said : (word new : ℕ → ℕ) (tail : ℕ) (spans : List Span) → IsConverted word new tail → IsImage word tail spans → ConvertedSays word new tail spans
+converted_is_said word new tail spans made walk =
+    let v = version_of (word 0) in
+    let same : spans ≡ made.spans = one_list word spans made.spans 0 tail walk.tile made.old.tile walk.stand made.old.stand in
+    let there : (x : Span) → Contains spans x → Contains made.spans x = (λ x h. subst (λ (xs : List Span). Contains xs x) same h) in
+    record {
+      headers = λ first x h.
+          let stands : StandsBy Second new (renewed v x) = map_stands v new made.spans made.new_spans.stand x (there x h) in
+          subst (λ (u : Version). new x.at ≡ head_word (renumbered u x.p) x.len x.ds) (says_first (word 0) first) stands.header.header;
+      behind = λ x h i after inside.
+          let e : x.at + 1 + (i - x.at - 1) ≡ i = omega arith in
+          let few : i - x.at - 1 < words_for x.len = omega arith in
+          subst (λ k. new k ≡ word k) e (All-contains (SameData word new) made.spans x made.same_data (there x h) (i - x.at - 1) few);
+      copied = λ second. made.copied (says_second (word 0) second);
+    }
+
+-- where an image ends at the latest
+pub image_short : (word : ℕ → ℕ) (tail : ℕ) (spans : List Span) → IsImage word tail spans → (tail ≤ 512) × (field (word 0) 56 8 ≡ 0xa1 → tail ≤ 128)
+image_short word tail spans walk =
+    let v = version_of (word 0) in
+    let most : log_words v ≤ 512 = room v in
+    (omega (arith, walk.inside, most), λ first. subst (λ (u : Version). tail ≤ log_words u) (says_first (word 0) first) walk.inside)

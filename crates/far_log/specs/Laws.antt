@@ -1,11 +1,12 @@
 -- What holds of the words of any log: one list of spans or a first bad word, each word in one span, bytes that add up.
-use Rattle.std.specs.Prelude.{◌≡◌, ℕ, ◌+◌, ◌-◌, ◌*◌, ◌/◌, ◌%◌, ◌^◌, ◌<◌, ◌≤◌, ◌↔◌, ◌⊎◌, Bool, not, Option, Some, None, List, map}
+use Rattle.std.specs.Prelude.{◌≡◌, ℕ, ◌+◌, ◌-◌, ◌*◌, ◌/◌, ◌%◌, ◌^◌, ◌<◌, ◌≤◌, ◌↔◌, ◌⊎◌, Bool, not, Option, Some, None, List, Contains, map}
 use Rattle.std.specs.List.{filter, sum_by}
 use Rattle.far_word.specs.declared.header.HeadWord.{HeadWord}
 use Rattle.far_word.specs.declared.version.Version.{Version}
 use Rattle.far_word.specs.declared.version.Version.TheVariants.{First, Second}
 use Rattle.far_word.specs.Header.{header_in, version_of}
-use Rattle.far_word.specs.Sizes.{bytes_taken}
+use Rattle.far_word.specs.Mark.{field}
+use Rattle.far_word.specs.Sizes.{bytes_taken, size_of}
 use Rattle.far_log.specs.declared.span.Span.{Span}
 use Rattle.far_log.specs.Convert.{IsConverted, renewed, renumbered}
 use Rattle.far_log.specs.Spans.{StandsBy, HasOneSpan, HasNoSpan, HoldsBytes, taken_by}
@@ -37,6 +38,10 @@ SpansAreListed = (word : ℕ → ℕ) (tail : ℕ) (spans : List Span) → IsIma
 abbrev pub SpansSayVersion : Type 0
 SpansSayVersion = (v : Version) (word : ℕ → ℕ) (tail : ℕ) (spans : List Span) → IsWalkBy v word tail spans →
     IsImage word tail spans × (0 < tail → version_of (word 0) ≡ v)
+
+-- a log has 512 words, and 128 where its first header has the top byte a1: no span goes past its end
+abbrev pub ImagesAreShort : Type 0
+ImagesAreShort = (word : ℕ → ℕ) (tail : ℕ) (spans : List Span) → IsImage word tail spans → (tail ≤ 512) × (field (word 0) 56 8 ≡ 0xa1 → tail ≤ 128)
 
 -- words past the tail change no list of spans
 abbrev pub TailEndsWalk : Type 0
@@ -100,6 +105,16 @@ ConvertedWalks = (word new : ℕ → ℕ) (tail : ℕ) (spans : List Span) → I
 -- and below the tail no two different images are that
 abbrev pub ConvertedIsOne : Type 0
 ConvertedIsOne = (word new other : ℕ → ℕ) (tail : ℕ) → IsConverted word new tail → IsConverted word other tail → (i : ℕ) → i < tail → new i ≡ other i
+
+-- a header of version 1 becomes the word of one that says the same, but for the pointer's number; each word behind a header stays, and so does all of an image of version 2
+pub record ConvertedSays (word new : ℕ → ℕ) (tail : ℕ) (spans : List Span) : Type 0 where
+  pub headers : field (word 0) 56 8 ≡ 0xa1 → (span : Span) → Contains spans span →
+      new span.at ≡ span.len + span.ds * 2 ^ 24 + (span.p / 128 * 256 + span.p % 128) * 2 ^ 32 + 0xa2 * 2 ^ 56
+  pub behind : (span : Span) → Contains spans span → (i : ℕ) → span.at < i → i < span.at + size_of span.len → new i ≡ word i
+  pub copied : field (word 0) 56 8 ≡ 0xa2 → (i : ℕ) → i < tail → new i ≡ word i
+
+abbrev pub ConvertedIsSaid : Type 0
+ConvertedIsSaid = (word new : ℕ → ℕ) (tail : ℕ) (spans : List Span) → IsConverted word new tail → IsImage word tail spans → ConvertedSays word new tail spans
 
 -- version 1 has 128 cells a mutator, this heap 256
 pub record PointersAreRenumbered : Type 0 where

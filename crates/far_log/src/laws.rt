@@ -1,9 +1,10 @@
 //! What holds of the words of any log, as contracts of functions that do nothing.
 
-ghost use Rattle.far_log.specs.Laws.{WalksAreOne, WalksOrBad, NeverBoth, FirstBadIsOne, SpansAreListed, SpansSayVersion, ConvertedIsOne, ConvertedWalks, PointersAreRenumbered, TailEndsWalk, BadEndsWalk, BadIsFirst, BadIsRead, WordsHaveOneSpan, WordsPastHaveNone, SpansHoldBytes, SpansTakeAll, TakenIsSum};
+ghost use Rattle.far_log.specs.Laws.{WalksAreOne, WalksOrBad, NeverBoth, FirstBadIsOne, SpansAreListed, SpansSayVersion, ImagesAreShort, ConvertedIsOne, ConvertedIsSaid, ConvertedWalks, PointersAreRenumbered, TailEndsWalk, BadEndsWalk, BadIsFirst, BadIsRead, WordsHaveOneSpan, WordsPastHaveNone, SpansHoldBytes, SpansTakeAll, TakenIsSum};
 
 /// The words below a tail have one list of spans, or a first bad word, never both and never two; and the list is the one
-/// that the headers spell. It is the same list in whatever version it is one: the first header says that version.
+/// that the headers spell. It is the same list in whatever version it is one: the first header says that version, and where
+/// the log ends, by which all spans end.
 pub fn walks_are_one()
     ensures one { WalksAreOne }
     ensures either { WalksOrBad }
@@ -11,6 +12,7 @@ pub fn walks_are_one()
     ensures first { FirstBadIsOne }
     ensures listed { SpansAreListed }
     ensures version { SpansSayVersion }
+    ensures short { ImagesAreShort }
 {}
 
 /// What lies past the tail changes no list of spans, and what lies behind the first bad word mends none.
@@ -27,10 +29,12 @@ pub fn bad_words_are_first()
 {}
 
 /// What is converted has the spans of the image that it is made of, with their pointers renumbered, and no two different images
-/// are that. Pointer 128m + k of version 1 is pointer 256m + k here.
+/// are that. Pointer 128m + k of version 1 is pointer 256m + k here. Its words in numerals: headers are written anew, each with
+/// the top byte a2, and the words behind them stay; one of version 2 stays whole.
 pub fn images_are_converted()
     ensures walks { ConvertedWalks }
     ensures one { ConvertedIsOne }
+    ensures said { ConvertedIsSaid }
     ensures pointers { PointersAreRenumbered }
 {}
 

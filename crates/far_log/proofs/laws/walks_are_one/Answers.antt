@@ -1,5 +1,6 @@
 use Rattle.std.proofs.Common.{arith}
 use Rattle.far_log.proofs.SpanLaws.{one_list, listed_from}
+use Rattle.far_log.proofs.ConvertLaws.{image_short}
 use Rattle.far_log.proofs.WalkLaws.{never_both, first_is_one, bad_below, end_low, is_image, walk_version, walks_or_bad}
 use Rattle.far_word.specs.Header.{version_of}
 use Rattle.far_log.specs.Walk.{end_for}
@@ -22,3 +23,6 @@ returns-clause-listed c word tail spans walk = listed_from word spans tail 0 tai
 
 pub returns-clause-version : goal.returns-clause-version
 returns-clause-version c v word tail spans walk = (is_image word tail spans walk, walk_version word tail spans walk)
+
+pub returns-clause-short : goal.returns-clause-short
+returns-clause-short c = image_short
