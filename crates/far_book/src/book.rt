@@ -69,7 +69,7 @@ pub struct Book<N: Near + Drop, D: Device + Drop> {
     device: D,
     alloc: Global,
     ledger: Ledger,
-    // Where the bytes of far objects are read to; it has room for the longest.
+    // By way of it the bytes of objects go far and come back; it has room for the longest.
     buffer: Vec<u8>,
 }
 

@@ -100,6 +100,32 @@ module _ {Z : Type 0} (v : Vec ℕ Z) (xs ys : List ℕ) (a k : ℕ) (same : xs 
       row_written (replicate n 0) (is ∙ ap (λ m. replicate m 0) part) (size ∙ sym long) (omega (arith, long))
       ∙ (λ i. with_row (λ q. get_or v.items q 0) a (long i) (λ q. row_of (replicate n 0) n 0 refl q i))
 
+-- a part of a `Vec` filled with x
+module _ {X Z : Type 0} (v : Vec X Z) (xs ys : List X) (a k : ℕ) (same : xs ≡ v.items) (x d : X) (is : ys ≡ replicate (length (mid_of a k xs)) x) (fits : a + k ≤ length v.items) where
+  abbrev pub filled : List X
+  filled = (with_items v (put_mid a k xs ys)).items
+
+  as_written : filled ≡ put_mid a k v.items (replicate k x)
+  as_written =
+      let behind : length (drop a xs) ≡ length v.items - a = length-drop a xs ∙ ap (λ l. length l - a) same in
+      let part : length (mid_of a k xs) ≡ k = length-take-le k (drop a xs) (omega (arith, behind)) in
+      let long : length (put_mid a k v.items (replicate k x)) ≡ v.len = written_len a k v.items (replicate k x) (omega arith) (length-replicate k x) ∙ sym v.ok.0 in
+      (λ i. (with_items v (put_mid a k (same i) ((is ∙ ap (λ l. replicate l x) part) i))).items) ∙ with_items_is v (put_mid a k v.items (replicate k x)) long
+
+  pub filled_in : (q : ℕ) → a ≤ q → q < a + k → get_or filled q d ≡ x
+  filled_in q low high =
+      let long : length (replicate k x) ≡ k = length-replicate k x in
+      ap (λ l. get_or l q d) as_written ∙ written_in v.items (replicate k x) d a k q (sym long) (omega arith) low (omega (arith, long)) ∙ get_or-replicate k (q - a) x d (omega arith)
+
+  pub filled_out : (q : ℕ) → (q < a) ⊎ (a + k ≤ q) → get_or filled q d ≡ get_or v.items q d
+  filled_out q out = ap (λ l. get_or l q d) as_written ∙ written_out v.items (replicate k x) d a k q (sym long) (omega arith) (outside out) where
+    long : length (replicate k x) ≡ k
+    long = length-replicate k x
+
+    outside : (q < a) ⊎ (a + k ≤ q) → (q < a) ⊎ (a + length (replicate k x) ≤ q)
+    outside (inl low) = inl low
+    outside (inr past) = inr (omega (arith, long, past))
+
 -- a row whose part m, of the parts of n, is x
 abbrev with_part : {X : Type 0} → ℕ → (ℕ → X) → X → ℕ → ℕ → X
 with_part n f x m q = cond (q / n == m) x (f q)

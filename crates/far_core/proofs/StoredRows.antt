@@ -1,27 +1,23 @@
 -- Stored words: a row for each pointer that has one.
-use Rattle.std.proofs.Common.{◌≡◌, ℕ, ◌+◌, ◌-◌, ◌*◌, ◌<◌, ◌≤◌, ◌≢◌, ◌∙◌, cond, nat_lt, arith, ap, refl, sym, inl, inr, List, ◌++◌, length, take, drop, get_or, Option, Some, None}
-use Rattle.std.specs.Prelude.{◌⊎◌, is_some, replicate, slice_range}
-use Rattle.std.specs.List.{count_by}
+use Rattle.std.proofs.Common.{◌≡◌, ℕ, suc, ◌+◌, ◌-◌, ◌*◌, ◌<◌, ◌≤◌, ◌≢◌, ◌∙◌, cond, nat_lt, arith, ap, sym, subst, inl, inr, List, [], ◌∷◌, length, drop, get_or}
+use Rattle.std.specs.Prelude.{◌⊎◌, slice_range}
+use Rattle.std.specs.List.{sum_by}
 use Rattle.std.specs.Vec.{vec_capacity, vec_len}
 use Rattle.std.proofs.lemmas.Bool.{cases_eq, cases_lt, lt-ltb, le-ltb}
-use Rattle.std.proofs.lemmas.List.{get_or-append_right, get_or_append_left, get_or-take, get_or-drop, get_or_past, get_or-set_same, get_or-set_other, length-drop, length-take, length-take-le, length-set}
-use Rattle.std.proofs.lemmas.List.Sums.{count_by-le-length, sum_by-set}
+use Rattle.std.proofs.lemmas.List.{get_or-take, get_or-drop, get_or_past, get_or-set_same, get_or-set_other, length-drop, length-take-le, length-set}
+use Rattle.std.proofs.lemmas.List.Sums.{sum_by-cons, sum_by-set}
 use Rattle.std.proofs.Math.ListN.{set}
 use mathlib.Core.Path.{fun_ext}
 use Rattle.far_word.specs.declared.sizes.TheConstants.{LOG_WORDS}
+use Rattle.far_core.specs.declared.memory.stored_rows.Row.{Row}
 use Rattle.far_core.specs.declared.memory.stored_rows.StoredRows.{StoredRows}
 use Rattle.far_core.specs.events.Ranges.{with_row}
 use Rattle.far_core.specs.events.namings.Evicts.{with_kept}
-use Rattle.far_core.specs.state.Rows.{RowsAreApart, RowsFit, row_word, with_first}
+use Rattle.far_core.specs.state.Rows.{AreApart, HalfOrAll, RowsAreApart, RowsFit, RowsSized, no_row, room_in, row_at, row_word, with_first}
 use Rattle.far_core.specs.state.State.{put}
 use Rattle.far_core.specs.state.StoredRows.{stored_in}
-use Rattle.far_core.proofs.Begins.{masked, row_of}
 use Rattle.far_core.proofs.Put.{put_both}
 use Rattle.far_core.proofs.Rows.{row_in, row_out}
-
--- the number of a pointer's row
-abbrev row_at : List (Option ℕ) → ℕ → Option ℕ
-row_at row_of p = get_or row_of p None
 
 within : (b : ℕ) (x y j : ℕ) → j < b → cond (nat_lt j b) x y ≡ x
 within b x y j lt = ap (λ t. cond t x y) (lt-ltb j b lt)
@@ -29,137 +25,172 @@ within b x y j lt = ap (λ t. cond t x y) (lt-ltb j b lt)
 beyond : (b : ℕ) (x y j : ℕ) → b ≤ j → cond (nat_lt j b) x y ≡ y
 beyond b x y j le = ap (λ t. cond t x y) (le-ltb j b le)
 
--- a word of a row
-pub word_in : (words : List ℕ) (o : Option ℕ) (r i : ℕ) → o ≡ Some r → i < LOG_WORDS → row_word words o i ≡ get_or words (r * LOG_WORDS + i) 0
-word_in words o r i e lt = ap (λ x. row_word words x i) e ∙ within LOG_WORDS (get_or words (r * LOG_WORDS + i) 0) 0 i lt
+-- a word of a row, and past its end
+pub word_in : (words : List ℕ) (row : Row) (i : ℕ) → i < row.room → row_word words row i ≡ get_or words (row.start + i) 0
+word_in words row i lt = within row.room (get_or words (row.start + i) 0) 0 i lt
+
+pub word_past : (words : List ℕ) (row : Row) (i : ℕ) → row.room ≤ i → row_word words row i ≡ 0
+word_past words row i le = beyond row.room (get_or words (row.start + i) 0) 0 i le
+
+at_most : (room : ℕ) → HalfOrAll room → room ≤ LOG_WORDS
+at_most room sized = elim (cases_lt LOG_WORDS (2 * room)) [
+  | inl more ↦ omega (arith, sized more)
+  | inr half ↦ omega (arith, half)
+]
 
 -- ---- what no row has
-row_past : (words : List ℕ) (o : Option ℕ) (i : ℕ) → LOG_WORDS ≤ i → row_word words o i ≡ 0
-row_past words None i le = refl
-row_past words (Some r) i le = beyond LOG_WORDS (get_or words (r * LOG_WORDS + i) 0) 0 i le
-
 pub stored_past : (rows : StoredRows) (p i : ℕ) → length rows.row_of.items ≤ p → stored_in rows p i ≡ 0
 unfolding stored_in
-stored_past rows p i le = ap (λ o. row_word rows.words.items o i) (get_or_past rows.row_of.items p None le)
+stored_past rows p i le = ap (λ row. row_word rows.words.items row i) (get_or_past rows.row_of.items p no_row le) ∙ word_past rows.words.items no_row i (omega arith)
 
 pub stored_behind : (rows : StoredRows) (p i : ℕ) → LOG_WORDS ≤ i → stored_in rows p i ≡ 0
 unfolding stored_in
-stored_behind rows p i le = row_past rows.words.items (row_at rows.row_of.items p) i le
+stored_behind rows p i le = word_past rows.words.items (row_at rows.row_of.items p) i (omega (arith, at_most _ (rows.sized p), le))
 
--- words that look the same have the same rows
-row_same : (xs ys : List ℕ) → ((k : ℕ) → get_or ys k 0 ≡ get_or xs k 0) → (o : Option ℕ) (i : ℕ) → row_word ys o i ≡ row_word xs o i
-row_same xs ys same None i = refl
-row_same xs ys same (Some r) i = ap (λ x. cond (nat_lt i LOG_WORDS) x 0) (same (r * LOG_WORDS + i))
+-- where no pointer has a row nothing is stored
+module _ (row_of : List Row) (none : (p : ℕ) → row_at row_of p ≡ no_row) where
+  pub none_sized : RowsSized row_of
+  none_sized p more = omega (arith, ap room_in (none p), more)
 
--- ---- one row more
-abbrev counted : Option ℕ → ℕ
-counted o = cond (is_some o) 1 0
+  pub none_fit : (end : ℕ) → RowsFit end row_of
+  none_fit end p = subst (λ (row : Row). row.start + row.room ≤ end) (sym (none p)) (omega arith)
 
-module _ (numbers : List (Option ℕ)) (p r : ℕ) (inside : p < length numbers) (none : row_at numbers p ≡ None) where
-  abbrev pub more : List (Option ℕ)
-  more = set numbers p (Some r)
+  pub none_apart : RowsAreApart row_of
+  none_apart p q ne before = omega (arith, ap room_in (none p), ap (λ (row : Row). row.start) (none p), before)
 
-  here : (q : ℕ) → q ≡ p → row_at more q ≡ Some r
-  here q e = ap (row_at more) e ∙ get_or-set_same numbers p (Some r) None inside
+  pub none_stored : (words : List ℕ) (p i : ℕ) → row_word words (row_at row_of p) i ≡ 0
+  none_stored words p i = word_past words (row_at row_of p) i (omega (arith, ap room_in (none p)))
 
-  there : (q : ℕ) → q ≢ p → row_at more q ≡ row_at numbers q
-  there q ne = get_or-set_other numbers p q (Some r) None ne
+-- ---- all rows together
+sum_few : (row_of : List Row) → RowsSized row_of → sum_by room_in row_of ≤ length row_of * LOG_WORDS
+sum_few [] sized = omega arith
+sum_few (x ∷ row_of) sized =
+    let one = at_most x.room (sized 0) in
+    let others = sum_few row_of (λ p. sized (suc p)) in
+    subst (λ n. n ≤ suc (length row_of) * LOG_WORDS) (sym (sum_by-cons room_in x row_of)) (omega arith)
 
-  pub one_more : count_by is_some (set numbers p (Some r)) ≡ count_by is_some numbers + 1
-  one_more = omega (arith, ap counted none, sum_by-set counted numbers p (Some r) None inside)
+pub few_words : (rows : StoredRows) → vec_len rows.words ≤ 2 * LOG_WORDS * vec_len rows.row_of
+few_words rows = omega (arith, rows.used, sum_few rows.row_of.items rows.sized, rows.row_of.ok.0)
 
-  fewer : count_by is_some numbers < length numbers
-  fewer = omega (arith, one_more, count_by-le-length is_some more, length-set numbers p (Some r))
+-- ---- a pointer gets another row
+module _ (row_of : List Row) (p : ℕ) (row : Row) (inside : p < length row_of) where
+  abbrev pub more : List Row
+  more = set row_of p row
 
-  the_same : (s : ℕ) → Some r ≡ Some s → r ≡ s
-  the_same s e = cc
+  here : (q : ℕ) → q ≡ p → row_at more q ≡ row
+  here q e = ap (row_at more) e ∙ get_or-set_same row_of p row no_row inside
 
-  pub more_fit : (old new : ℕ) → RowsFit old numbers → old ≤ new → r * LOG_WORDS + LOG_WORDS ≤ new → RowsFit new more
-  more_fit old new fit up own q s e = elim (cases_eq q p) [
-    | inl at ↦ (let same : r ≡ s = the_same s (sym (here q at) ∙ e) in omega (arith, same, own))
-    | inr ne ↦ omega (arith, up, fit q s (sym (there q ne) ∙ e))
+  there : (q : ℕ) → q ≢ p → row_at more q ≡ row_at row_of q
+  there q ne = get_or-set_other row_of p q row no_row ne
+
+  pub more_sized : RowsSized row_of → HalfOrAll row.room → RowsSized more
+  more_sized sized own q = elim (cases_eq q p) [
+    | inl e ↦ subst (λ (x : Row). HalfOrAll x.room) (sym (here q e)) own
+    | inr ne ↦ subst (λ (x : Row). HalfOrAll x.room) (sym (there q ne)) (sized q)
   ]
 
-  pub more_apart : (end : ℕ) → RowsFit end numbers → end ≤ r * LOG_WORDS → RowsAreApart numbers → RowsAreApart more
-  more_apart end fit last apart a b s x y = elim (cases_eq a p) [
+  pub more_fit : (old new : ℕ) → RowsFit old row_of → old ≤ new → row.start + row.room ≤ new → RowsFit new more
+  more_fit old new fit up own q = elim (cases_eq q p) [
+    | inl e ↦ subst (λ (x : Row). x.start + x.room ≤ new) (sym (here q e)) own
+    | inr ne ↦ subst (λ (x : Row). x.start + x.room ≤ new) (sym (there q ne)) (omega (arith, fit q, up))
+  ]
+
+  of_both : (a b : ℕ) (x y : Row) → row_at more a ≡ x → row_at more b ≡ y → AreApart x y → AreApart (row_at more a) (row_at more b)
+  of_both a b x y e f apart = subst (λ (z : Row). AreApart z (row_at more b)) (sym e) (subst (AreApart x) (sym f) apart)
+
+  pub more_apart : (end : ℕ) → RowsFit end row_of → end ≤ row.start → RowsAreApart row_of → RowsAreApart more
+  more_apart end fit last apart a b ne = elim (cases_eq a p) [
     | inl e ↦ elim (cases_eq b p) [
-      | inl f ↦ e ∙ sym f
-      | inr ne ↦ (let same : r ≡ s = the_same s (sym (here a e) ∙ x) in absurd (omega (arith, same, last, fit b s (sym (there b ne) ∙ y))))
+      | inl f ↦ absurd (ne (e ∙ sym f))
+      | inr other ↦ of_both a b row (row_at row_of b) (here a e) (there b other) (λ _. omega (arith, fit b, last))
     ]
     | inr other ↦ elim (cases_eq b p) [
-      | inl f ↦ (let same : r ≡ s = the_same s (sym (here b f) ∙ y) in absurd (omega (arith, same, last, fit a s (sym (there a other) ∙ x))))
-      | inr ne ↦ apart a b s (sym (there a other) ∙ x) (sym (there b ne) ∙ y)
+      | inl f ↦ of_both a b (row_at row_of a) row (there a other) (here b f) (λ before. omega (arith, fit a, last, before))
+      | inr third ↦ of_both a b (row_at row_of a) (row_at row_of b) (there a other) (there b third) (apart a b ne)
     ]
   ]
 
-  -- a row of zeros behind all words shows nothing
-  pub shows_nothing : (xs ys : List ℕ) → ((k : ℕ) → get_or ys k 0 ≡ get_or xs k 0) → length xs ≤ r * LOG_WORDS → ◌≡◌ {A = ℕ → ℕ → ℕ} (λ q. row_word ys (row_at more q)) (λ q. row_word xs (row_at numbers q))
-  shows_nothing xs ys same last = fun_ext (λ q. fun_ext (λ i. row_same xs ys same (row_at more q) i ∙ elim (cases_eq q p) [
-    | inl e ↦ ap (λ o. row_word xs o i) (here q e)
-        ∙ masked i LOG_WORDS (get_or xs (r * LOG_WORDS + i) 0) (get_or_past xs (r * LOG_WORDS + i) 0 (omega (arith, last)))
-        ∙ sym (ap (λ o. row_word xs o i) (ap (row_at numbers) e ∙ none))
-    | inr ne ↦ ap (λ o. row_word xs o i) (there q ne)
-  ]))
+  -- one of at least twice the room pays for what is left
+  pub more_used : (len : ℕ) → len ≤ 2 * sum_by room_in row_of → 2 * (row_at row_of p).room ≤ row.room → len + row.room ≤ 2 * sum_by room_in more
+  more_used len used twice = omega (arith, used, twice, sum_by-set room_in row_of p row no_row inside)
 
--- while a pointer has no row there is room for one
-pub has_room : (rows : StoredRows) (p : ℕ) → p < vec_len rows.row_of → row_at rows.row_of.items p ≡ None → vec_len rows.words + LOG_WORDS ≤ vec_capacity rows.words
-has_room rows p inside none = omega (arith, rows.row_of.ok.0, rows.room, rows.filled, fewer rows.row_of.items p 0 (omega (arith, inside, rows.row_of.ok.0)) none)
-
--- zeros behind a list show nothing
-pub zeros_behind : (xs ys : List ℕ) (m n : ℕ) → m ≡ length xs → m ≤ n → ys ≡ take n xs ++ replicate (n - m) 0 → (k : ℕ) → get_or ys k 0 ≡ get_or xs k 0
-zeros_behind xs ys m n same fits is k =
-    let long : length (take n xs) ≡ length xs = length-take n xs ∙ omega arith in
-    ap (λ zs. get_or zs k 0) is ∙ elim (cases_lt k (length xs)) [
-      | inl lt ↦ get_or_append_left (take n xs) (replicate (n - m) 0) 0 k (omega (arith, long)) ∙ get_or-take n xs k 0 (omega arith)
-      | inr le ↦ get_or-append_right (take n xs) (replicate (n - m) 0) (length xs) k 0 long le
-          ∙ row_of (replicate (n - m) 0) (n - m) 0 refl (k - length xs) ∙ sym (get_or_past xs k 0 le)
+  -- behind all words it shows what it begins with
+  module _ (xs ys zs : List ℕ) (fit : RowsFit (length xs) row_of) (longer : (row_at row_of p).room ≤ length zs) (long : length zs ≤ row.room)
+      (before : (k : ℕ) → k < length xs → get_or ys k 0 ≡ get_or xs k 0) (own : (i : ℕ) → i < length zs → get_or ys (row.start + i) 0 ≡ get_or zs i 0)
+      (zeros : (k : ℕ) → row.start + length zs ≤ k → get_or ys k 0 ≡ 0) where
+    zero_there : (j : ℕ) → length zs ≤ j → row_word ys row j ≡ 0
+    zero_there j le = elim (cases_lt j row.room) [
+      | inl lt ↦ word_in ys row j lt ∙ zeros (row.start + j) (omega (arith, le))
+      | inr past ↦ word_past ys row j past
     ]
 
--- ---- a row written
--- word j of row r, of words one behind the other
-abbrev in_rows : (ℕ → ℕ) → ℕ → ℕ → ℕ
-in_rows f r j = cond (nat_lt j LOG_WORDS) (f (r * LOG_WORDS + j)) 0
-
-module _ (f : ℕ → ℕ) (r n : ℕ) (row : ℕ → ℕ) (short : n ≤ LOG_WORDS) where
-  own : (j : ℕ) → in_rows (with_row f (r * LOG_WORDS) n row) r j ≡ cond (nat_lt j n) (row j) (in_rows f r j)
-  own j = elim (cases_lt j LOG_WORDS) [
-    | inl lt ↦ within LOG_WORDS _ 0 j lt ∙ elim (cases_lt j n) [
-      | inl low ↦ (let at : r * LOG_WORDS + j - r * LOG_WORDS ≡ j = omega arith in
-          row_in f (r * LOG_WORDS) n row (r * LOG_WORDS + j) (omega arith) (omega arith) ∙ ap row at ∙ sym (within n (row j) (in_rows f r j) j low))
-      | inr high ↦ row_out f (r * LOG_WORDS) n row (r * LOG_WORDS + j) (inr (omega arith))
-          ∙ sym (within LOG_WORDS (f (r * LOG_WORDS + j)) 0 j lt) ∙ sym (beyond n (row j) (in_rows f r j) j high)
+    its_new : (j : ℕ) → row_word ys row j ≡ with_first (length zs) (λ i. get_or zs i 0) (row_word xs (row_at row_of p)) j
+    its_new j = elim (cases_lt j (length zs)) [
+      | inl lt ↦ word_in ys row j (omega (arith, lt, long)) ∙ own j lt ∙ sym (within (length zs) (get_or zs j 0) (row_word xs (row_at row_of p) j) j lt)
+      | inr le ↦ zero_there j le ∙ sym (beyond (length zs) (get_or zs j 0) (row_word xs (row_at row_of p) j) j le ∙ word_past xs (row_at row_of p) j (omega (arith, le, longer)))
     ]
-    | inr le ↦ beyond LOG_WORDS _ 0 j le ∙ sym (beyond LOG_WORDS (f (r * LOG_WORDS + j)) 0 j le) ∙ sym (beyond n (row j) (in_rows f r j) j (omega arith))
+
+    others : (q j : ℕ) → row_word ys (row_at row_of q) j ≡ row_word xs (row_at row_of q) j
+    others q j = elim (cases_lt j (row_at row_of q).room) [
+      | inl lt ↦ word_in ys (row_at row_of q) j lt ∙ before ((row_at row_of q).start + j) (omega (arith, fit q, lt)) ∙ sym (word_in xs (row_at row_of q) j lt)
+      | inr past ↦ word_past ys (row_at row_of q) j past ∙ sym (word_past xs (row_at row_of q) j past)
+    ]
+
+    pub row_added : (λ (q : ℕ). row_word ys (row_at more q)) ≡ put (λ q. row_word xs (row_at row_of q)) p (with_first (length zs) (λ i. get_or zs i 0) (row_word xs (row_at row_of p)))
+    row_added = fun_ext (λ q. put_both (λ (x : ℕ → ℕ). row_word ys (row_at more q) ≡ x) (λ q. row_word xs (row_at row_of q)) p (with_first (length zs) (λ i. get_or zs i 0) (row_word xs (row_at row_of p))) q
+        (λ e. fun_ext (λ j. ap (λ x. row_word ys x j) (here q e) ∙ its_new j)) (λ ne. fun_ext (λ j. ap (λ x. row_word ys x j) (there q ne) ∙ others q j)))
+
+-- there is room for it
+pub has_room : (rows : StoredRows) (p : ℕ) (row : Row) → p < vec_len rows.row_of → HalfOrAll row.room → 2 * (row_at rows.row_of.items p).room ≤ row.room → vec_len rows.words + row.room ≤ vec_capacity rows.words
+has_room rows p row inside own twice =
+    let lt : p < length rows.row_of.items = omega (arith, inside, rows.row_of.ok.0) in
+    omega (
+      arith,
+      rows.row_of.ok.0,
+      rows.room,
+      more_used rows.row_of.items p row lt (vec_len rows.words) rows.used twice,
+      sum_few (more rows.row_of.items p row lt) (more_sized rows.row_of.items p row lt rows.sized own),
+      length-set rows.row_of.items p row,
+    )
+
+-- ---- words written at the beginning of p's row are the first that are stored of it
+module _ (row_of : List Row) (apart : RowsAreApart row_of) (p : ℕ) (xs ys zs : List ℕ) (short : length zs ≤ (row_at row_of p).room)
+    (is : (λ (q : ℕ). get_or ys q 0) ≡ with_row (λ q. get_or xs q 0) (row_at row_of p).start (length zs) (λ i. get_or zs i 0)) where
+  abbrev its : Row
+  its = row_at row_of p
+
+  at : (k : ℕ) → get_or ys k 0 ≡ with_row (λ q. get_or xs q 0) its.start (length zs) (λ i. get_or zs i 0) k
+  at k = ap (λ (f : ℕ → ℕ). f k) is
+
+  its_row : (j : ℕ) → row_word ys its j ≡ with_first (length zs) (λ i. get_or zs i 0) (row_word xs its) j
+  its_row j = elim (cases_lt j its.room) [
+    | inl lt ↦ word_in ys its j lt ∙ at (its.start + j) ∙ elim (cases_lt j (length zs)) [
+      | inl low ↦ (let same : its.start + j - its.start ≡ j = omega arith in
+          row_in (λ q. get_or xs q 0) its.start (length zs) (λ i. get_or zs i 0) (its.start + j) (omega arith) (omega (arith, low)) ∙ ap (λ i. get_or zs i 0) same
+          ∙ sym (within (length zs) (get_or zs j 0) (row_word xs its j) j low))
+      | inr high ↦ row_out (λ q. get_or xs q 0) its.start (length zs) (λ i. get_or zs i 0) (its.start + j) (inr (omega (arith, high)))
+          ∙ sym (beyond (length zs) (get_or zs j 0) (row_word xs its j) j high ∙ word_in xs its j lt)
+    ]
+    | inr past ↦ word_past ys its j past ∙ sym (beyond (length zs) (get_or zs j 0) (row_word xs its j) j (omega (arith, past, short)) ∙ word_past xs its j past)
   ]
 
-  other : (s : ℕ) → s ≢ r → (j : ℕ) → in_rows (with_row f (r * LOG_WORDS) n row) s j ≡ in_rows f s j
-  other s ne j = elim (cases_lt j LOG_WORDS) [
-    | inl lt ↦ ap (λ x. cond (nat_lt j LOG_WORDS) x 0) (row_out f (r * LOG_WORDS) n row (s * LOG_WORDS + j) (outside lt))
-    | inr le ↦ beyond LOG_WORDS _ 0 j le ∙ sym (beyond LOG_WORDS (f (s * LOG_WORDS + j)) 0 j le)
-  ] where
-    outside : j < LOG_WORDS → (s * LOG_WORDS + j < r * LOG_WORDS) ⊎ (r * LOG_WORDS + n ≤ s * LOG_WORDS + j)
-    outside lt = elim (cases_lt s r) [
-      | inl low ↦ inl (omega arith)
-      | inr high ↦ inr (omega arith)
-    ]
+  outside : (x : Row) (j : ℕ) → j < x.room → AreApart x its → (x.start + j < its.start) ⊎ (its.start + length zs ≤ x.start + j)
+  outside x j lt apart_from = elim (cases_lt its.start (x.start + x.room)) [
+    | inl before ↦ inr (omega (arith, apart_from before, short))
+    | inr past ↦ inl (omega (arith, past, lt))
+  ]
 
--- words written at the beginning of p's row are the first that are stored of it
-module _ (numbers : List (Option ℕ)) (apart : RowsAreApart numbers) (p r : ℕ) (has : row_at numbers p ≡ Some r) (xs ys zs : List ℕ)
-    (short : length zs ≤ LOG_WORDS) (is : (λ (q : ℕ). get_or ys q 0) ≡ with_row (λ q. get_or xs q 0) (r * LOG_WORDS) (length zs) (λ i. get_or zs i 0)) where
-  abbrev pub before : ℕ → ℕ → ℕ
-  before q = row_word xs (row_at numbers q)
+  other_row : (q : ℕ) → q ≢ p → (j : ℕ) → row_word ys (row_at row_of q) j ≡ row_word xs (row_at row_of q) j
+  other_row q ne j = elim (cases_lt j (row_at row_of q).room) [
+    | inl lt ↦ word_in ys (row_at row_of q) j lt ∙ at ((row_at row_of q).start + j)
+        ∙ row_out (λ q. get_or xs q 0) its.start (length zs) (λ i. get_or zs i 0) ((row_at row_of q).start + j) (outside (row_at row_of q) j lt (apart q p ne))
+        ∙ sym (word_in xs (row_at row_of q) j lt)
+    | inr past ↦ word_past ys (row_at row_of q) j past ∙ sym (word_past xs (row_at row_of q) j past)
+  ]
 
-  its_row : (q : ℕ) → q ≡ p → (j : ℕ) → row_word ys (row_at numbers q) j ≡ with_first (length zs) (λ i. get_or zs i 0) (before p) j
-  its_row q e j = ap (λ o. row_word ys o j) (ap (row_at numbers) e ∙ has) ∙ ap (λ f. in_rows f r j) is ∙ own (λ q. get_or xs q 0) r (length zs) (λ i. get_or zs i 0) short j
-      ∙ ap (λ o. cond (nat_lt j (length zs)) (get_or zs j 0) (row_word xs o j)) (sym has)
-
-  other_row : (q : ℕ) → q ≢ p → (o : Option ℕ) → row_at numbers q ≡ o → (j : ℕ) → row_word ys o j ≡ row_word xs o j
-  other_row q ne None e j = refl
-  other_row q ne (Some s) e j = ap (λ f. in_rows f s j) is ∙ other (λ q. get_or xs q 0) r (length zs) (λ i. get_or zs i 0) short s (λ same. ne (apart q p r (e ∙ ap Some same) has)) j
-
-  pub row_kept : (λ (q : ℕ). row_word ys (row_at numbers q)) ≡ put before p (with_first (length zs) (λ i. get_or zs i 0) (before p))
-  row_kept = fun_ext (λ q. put_both (λ (x : ℕ → ℕ). row_word ys (row_at numbers q) ≡ x) before p (with_first (length zs) (λ i. get_or zs i 0) (before p)) q
-      (λ e. fun_ext (its_row q e)) (λ ne. fun_ext (other_row q ne (row_at numbers q) refl)))
+  pub row_kept : (λ (q : ℕ). row_word ys (row_at row_of q)) ≡ put (λ q. row_word xs (row_at row_of q)) p (with_first (length zs) (λ i. get_or zs i 0) (row_word xs its))
+  row_kept = fun_ext (λ q. put_both (λ (x : ℕ → ℕ). row_word ys (row_at row_of q) ≡ x) (λ q. row_word xs (row_at row_of q)) p (with_first (length zs) (λ i. get_or zs i 0) (row_word xs its)) q
+      (λ e. fun_ext (λ j. ap (λ (r : ℕ). row_word ys (row_at row_of r) j) e ∙ its_row j)) (λ ne. fun_ext (λ j. other_row q ne j)))
 
 -- ---- words that are a part of others
 -- a part of a list has as many words as are taken

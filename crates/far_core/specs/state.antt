@@ -1,4 +1,5 @@
 pub mod Agrees
+pub mod CopierRows
 pub mod CoreState
 pub mod Jobs
 pub mod Law

@@ -64,6 +64,7 @@ impl MemDevice {
         ensures set { OnOk result (bytes_at self.new id ≡ Some bytes.now) }
         ensures others { KeepsOthers (bytes_at self.old) (bytes_at self.new) id }
         ensures refused { IfErr result (λ why. why ≡ Memory) }
+        ensures in_place { IfSome (bytes_at self.old id) (λ stored. length bytes.now ≤ length stored → IfErr result (λ _. ⊥)) }
         ensures unchanged { OnErr result (bytes_at self.new ≡ bytes_at self.old) }
         ensures faults { faults_of self.new ≡ faults_of self.old }
     {
@@ -147,12 +148,14 @@ impl Device for MemDevice {
 
     ghost forget_follows = { Prim.search rules };
 
-    /// Refused [`DeviceFault::Memory`] alone, and then nothing has changed.
+    /// Refused [`DeviceFault::Memory`] alone, and then nothing has changed. Under a key below 2,048 no more bytes than are there
+    /// take no memory.
     #[inline(always)]
     fn write(&mut self, id: u32, bytes: &[u8]) -> Result<(), DeviceFault>
         ensures set { OnOk result (bytes_at self.new id ≡ Some bytes.now) }
         ensures others { KeepsOthers (bytes_at self.old) (bytes_at self.new) id }
         ensures refused { IfErr result (λ why. why ≡ Memory) }
+        ensures in_place { id < ROW → IfSome (bytes_at self.old id) (λ stored. length bytes.now ≤ length stored → IfErr result (λ _. ⊥)) }
         ensures unchanged { OnErr result (bytes_at self.new ≡ bytes_at self.old) }
         ensures faults { faults_of self.new ≡ faults_of self.old }
     {

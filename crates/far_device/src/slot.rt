@@ -1,7 +1,7 @@
 //! What stands under a key of the row.
 
-ghost use Rattle.std.specs.Prelude.{◌≡◌, ◌≤◌, length, cond, Some, None, IfSome, IfNone, IsTrue};
-ghost use Rattle.far_device.specs.Row.{bytes_of};
+ghost use Rattle.std.specs.Prelude.{◌≡◌, ◌<◌, ◌≤◌, length, cond, false, Some, None, IfSome, IfNone, IsTrue};
+ghost use Rattle.far_device.specs.declared.slot.TheConstants.{LONG};
 ghost use Rattle.std.specs.Vec.{vec_capacity};
 
 use std::alloc::Global;
@@ -9,14 +9,17 @@ use std::alloc::Global;
 /// How long a buffer is at least that isn't kept once nothing is under its key.
 const LONG: usize = 128;
 
-/// Bytes, or nothing, and then a buffer into which bytes may be put.
+/// Bytes, or nothing, and then a buffer, no long one, into which bytes may be put.
 #[derive(Debug, Drop)]
 pub(crate) struct Slot {
     pub(crate) held: bool,
     pub(crate) buffer: Vec<u8>,
+    ghost short: { held ≡ false → vec_capacity buffer < LONG },
 }
 
 impl Slot {
+    ghost use Rattle.far_device.specs.Row.{bytes_of};
+
     /// Nothing, and no buffer. Takes no memory.
     pub(crate) fn new(alloc: Global) -> Slot
         ensures { bytes_of result ≡ None }
@@ -41,10 +44,11 @@ impl Slot {
     }
 
     /// Holds these bytes in place of what is held, in the same buffer where it has room for them. After `false`, where memory was
-    /// refused, what was held is held.
+    /// refused, what was held is held. What is no longer than that takes none.
     #[inline(always)]
     pub(crate) fn put(&mut self, alloc: Global, bytes: &[u8]) -> bool
-        ensures { bytes_of self.new ≡ cond result (Some bytes.now) (bytes_of self.old) }
+        ensures held { bytes_of self.new ≡ cond result (Some bytes.now) (bytes_of self.old) }
+        ensures in_place { IfSome (bytes_of self.old) (λ stored. length bytes.now ≤ length stored → IsTrue result) }
     {
         if bytes.len() > self.buffer.capacity() {
             return self.put_in_new(alloc, bytes);
@@ -71,15 +75,15 @@ impl Slot {
     pub(crate) fn empty(&mut self, alloc: Global)
         ensures { bytes_of self.new ≡ None }
     {
-        self.held = false;
         if self.buffer.capacity() >= LONG {
             self.drop_buffer(alloc);
         }
+        self.held = false;
     }
 
     #[inline(never)]
     fn drop_buffer(&mut self, alloc: Global)
-        ensures { self.new.held ≡ self.old.held }
+        ensures { vec_capacity self.new.buffer < LONG }
     {
         self.buffer = Vec::new(alloc);
     }

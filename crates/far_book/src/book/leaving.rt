@@ -1,6 +1,7 @@
 //! How an object goes far: the device holds its bytes before its cell says so.
 
 ghost use Rattle.std.specs.Prelude.{◌≡◌, ◌⊎◌, ◌+◌, ◌*◌, ◌<◌, ◌≤◌, ◌++◌, true, false, not, take, length, Some, None, IfOk, IfErr, IfSome};
+ghost use Rattle.std.specs.Vec.{vec_capacity, vec_len};
 ghost use Rattle.far_word.specs.declared.refused.Refused.TheVariants.{Memory, Device as Failed};
 ghost use Rattle.far_word.specs.declared.sizes.TheConstants.{CELLS, LOG_WORDS, LONGEST};
 ghost use Rattle.far_word.specs.Bytes.{bytes_of};
@@ -22,21 +23,14 @@ ghost use Rattle.far_book.specs.book.Evicting.{GoesFar, IsQuietData, IsQuietIn, 
 ghost use Rattle.far_book.specs.book.Only.{Names, Reads};
 ghost use Rattle.far_book.specs.book.Renaming.{Renamed, seen, stops};
 ghost use Rattle.far_book.specs.book.Sending.{Sends};
-ghost use Rattle.far_book.specs.declared.book.leaving.TheConstants.{LARGE, MIDDLE};
 
 use crate::book::Book;
 use crate::book::renaming::{is_dirty, is_dropped, rename};
 use crate::book::words::far_word;
 use far_device::{Device, DeviceFault};
 use far_hand::Near;
-use far_word::{LOG_WORDS, LONGEST, Place, PtrWord, Refused, size_of, unpack_bytes, words_for};
-
-// The most bytes of an object that are read into a short row, into a middle one, and into a large one.
-const SHORT: u16 = 64;
-
-const MIDDLE: u16 = 256;
-
-const LARGE: u16 = 1024;
+use far_word::{LOG_WORDS, Place, PtrWord, Refused, size_of, unpack_bytes, words_for};
+use std::mem;
 
 impl<N: Near + Drop, D: Device + Drop> Book<N, D> {
     /// Sends a quiet near object with EVAC far: the device holds its bytes, its cell says far, without marks, and its span is
@@ -134,7 +128,7 @@ impl<N: Near + Drop, D: Device + Drop> Book<N, D> {
         }
     }
 
-    // Reads the words of a quiet object, and has the device hold its bytes: by way of the smallest row that has room for them.
+    // Reads the words of a quiet object into the book's buffer, and has the device hold its bytes.
     #[inline(always)]
     fn send(&mut self, pointer: u16, len: u16, ds: u8, place: Place) -> Result<(), Refused>
         requires pointer { pointer < CELLS * (N.view self.old.near).mutators }
@@ -142,75 +136,13 @@ impl<N: Near + Drop, D: Device + Drop> Book<N, D> {
         requires dirty { is_dirty (read_of ((N.view self.old.near).cell pointer)) ≡ true }
         ensures { Sends N.still N.view N.makes D.writes D.contents D.honest D.faults D.fails_at_most self.old self.new pointer len place result }
     {
-        if len <= SHORT {
-            let mut row = [0; SHORT as usize];
-            self.send_by(pointer, len, ds, place, &mut row)
-        } else if len <= MIDDLE {
-            self.send_middle(pointer, len, ds, place)
-        } else if len <= LARGE {
-            self.send_large(pointer, len, ds, place)
-        } else {
-            self.send_long(pointer, len, ds, place)
-        }
-    }
-
-    // The same, by way of a middle row.
-    #[inline(never)]
-    fn send_middle(&mut self, pointer: u16, len: u16, ds: u8, place: Place) -> Result<(), Refused>
-        requires pointer { pointer < CELLS * (N.view self.old.near).mutators }
-        requires near { IsQuietIn (N.view self.old.near) pointer len ds place }
-        requires dirty { is_dirty (read_of ((N.view self.old.near).cell pointer)) ≡ true }
-        requires most { len ≤ MIDDLE }
-        ensures { Sends N.still N.view N.makes D.writes D.contents D.honest D.faults D.fails_at_most self.old self.new pointer len place result }
-    {
-        let mut row = [0; MIDDLE as usize];
-        self.send_by(pointer, len, ds, place, &mut row)
-    }
-
-    // The same, by way of a large row.
-    #[inline(never)]
-    fn send_large(&mut self, pointer: u16, len: u16, ds: u8, place: Place) -> Result<(), Refused>
-        requires pointer { pointer < CELLS * (N.view self.old.near).mutators }
-        requires near { IsQuietIn (N.view self.old.near) pointer len ds place }
-        requires dirty { is_dirty (read_of ((N.view self.old.near).cell pointer)) ≡ true }
-        requires most { len ≤ LARGE }
-        ensures { Sends N.still N.view N.makes D.writes D.contents D.honest D.faults D.fails_at_most self.old self.new pointer len place result }
-    {
-        let mut row = [0; LARGE as usize];
-        self.send_by(pointer, len, ds, place, &mut row)
-    }
-
-    // The same, by way of a row for any object.
-    #[inline(never)]
-    fn send_long(&mut self, pointer: u16, len: u16, ds: u8, place: Place) -> Result<(), Refused>
-        requires pointer { pointer < CELLS * (N.view self.old.near).mutators }
-        requires near { IsQuietIn (N.view self.old.near) pointer len ds place }
-        requires dirty { is_dirty (read_of ((N.view self.old.near).cell pointer)) ≡ true }
-        ensures { Sends N.still N.view N.makes D.writes D.contents D.honest D.faults D.fails_at_most self.old self.new pointer len place result }
-    {
-        self.keeps_law();
-        let mut row = [0; LONGEST as usize];
-        self.send_by(pointer, len, ds, place, &mut row)
-    }
-
-    // The same, by way of a row of bytes that has room for the object's words.
-    #[inline(always)]
-    fn send_by(
-        &mut self,
-        pointer: u16,
-        len: u16,
-        ds: u8,
-        place: Place,
-        row: &mut [u8],
-    ) -> Result<(), Refused>
-        requires pointer { pointer < CELLS * (N.view self.old.near).mutators }
-        requires near { IsQuietIn (N.view self.old.near) pointer len ds place }
-        requires dirty { is_dirty (read_of ((N.view self.old.near).cell pointer)) ≡ true }
-        requires room { 8 * words_for len ≤ length row.old }
-        ensures { Sends N.still N.view N.makes D.writes D.contents D.honest D.faults D.fails_at_most self.old self.new pointer len place result }
-    {
-        read_object(&mut self.near, len, place, row);
-        match self.device.write(pointer as u32, &row[..len as usize]) {
+        let mut row = mem::replace(&mut self.buffer, Vec::new(self.alloc));
+        reach(&mut row, len);
+        let bytes = row.as_mut_slice();
+        read_object(&mut self.near, len, place, bytes);
+        let written = self.device.write(pointer as u32, &bytes[..len as usize]);
+        self.buffer = row;
+        match written {
             Ok(()) => Ok(()),
             Err(DeviceFault::Memory) => Err(Refused::Memory),
             Err(DeviceFault::Device) => Err(Refused::Device),
@@ -252,6 +184,20 @@ impl<N: Near + Drop, D: Device + Drop> Book<N, D> {
         }
         self.ledger.lose(place.log, size_of(len));
         Ok(())
+    }
+}
+
+// Makes a row that has room for the longest object as long as the words of one; what it has beyond them stays.
+#[inline(always)]
+fn reach(row: &mut Vec<u8>, len: u16)
+    requires most { len ≤ LONGEST }
+    requires room { LONGEST ≤ vec_capacity row.old }
+    ensures long { 8 * words_for len ≤ vec_len row.new }
+    ensures room { LONGEST ≤ vec_capacity row.new }
+{
+    let long = 8 * words_for(len) as usize;
+    if row.len() < long {
+        row.resize(long, 0).unwrap();
     }
 }
 

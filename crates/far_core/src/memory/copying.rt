@@ -281,8 +281,7 @@ impl Memory {
         self.jobs.set_task(copier, Some(task));
         self.jobs.set_length(copier, None);
         self.jobs.reach(copier);
-        self.jobs.forget_read(copier);
-        self.jobs.forget_written(copier);
+        self.jobs.forget_words(copier);
     }
 }
 

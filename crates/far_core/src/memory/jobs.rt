@@ -1,8 +1,9 @@
 //! The jobs and the copiers, as rows.
 
-ghost use Rattle.std.specs.Prelude.{◌≡◌, ◌≤◌, ◌*◌, length};
+ghost use Rattle.std.specs.Prelude.{◌≡◌, ◌≤◌, ◌*◌, ℕ, false, None, length, slice_index};
 ghost use Rattle.std.specs.Vec.{vec_capacity, vec_len};
 ghost use Rattle.far_word.specs.declared.sizes.TheConstants.{JOBS, LOG_WORDS, MOST_COPIERS};
+ghost use Rattle.far_core.specs.state.CopierRows.{EmptyBehind};
 
 mod rows;
 
@@ -26,6 +27,8 @@ pub(crate) struct Jobs {
     // rows is taken, and nothing is written to it.
     pub(crate) read: Vec<Option<u64>>,
     pub(crate) written: Vec<bool>,
+    // How many words of each copier's rows, the first, may have something: so many are emptied for its next job.
+    pub(crate) touched: [u16; MOST_COPIERS as usize],
     ghost words_sized: { length words ≡ JOBS },
     ghost since_sized: { length since ≡ JOBS },
     ghost named_sized: { length named ≡ JOBS },
@@ -35,4 +38,8 @@ pub(crate) struct Jobs {
     ghost read_room: { LOG_WORDS * MOST_COPIERS ≤ vec_capacity read },
     ghost written_within: { vec_len written ≤ LOG_WORDS * MOST_COPIERS },
     ghost written_room: { LOG_WORDS * MOST_COPIERS ≤ vec_capacity written },
+    ghost touched_sized: { length touched ≡ MOST_COPIERS },
+    ghost touched_within: { (k : ℕ) → slice_index touched k ≤ LOG_WORDS },
+    ghost read_behind: { EmptyBehind None touched read.items },
+    ghost written_behind: { EmptyBehind false touched written.items },
 }

@@ -1,35 +1,40 @@
 //! The stored words of far objects.
 
-ghost use Rattle.std.specs.Prelude.{◌≡◌, ◌+◌, ◌*◌, ◌≤◌, ℕ, is_some, slice_index};
-ghost use Rattle.std.specs.List.{count_by};
+ghost use Rattle.std.specs.Prelude.{◌≡◌, ◌+◌, ◌*◌, ◌<◌, ◌≤◌, ℕ, length, slice_index};
+ghost use Rattle.std.specs.List.{sum_by};
 ghost use Rattle.std.specs.Vec.{vec_capacity, vec_len};
 ghost use Rattle.far_word.specs.declared.sizes.TheConstants.{LOG_WORDS, POINTERS};
-ghost use Rattle.far_core.specs.declared.memory.stored_rows.TheConstants.{PART};
-ghost use Rattle.far_core.specs.state.Rows.{RowsAreApart, RowsFit};
+ghost use Rattle.far_core.specs.state.Rows.{HalfOrAll, RowsAreApart, RowsFit, RowsSized, room_in};
 
 use far_word::LOG_WORDS;
 use std::alloc::{AllocError, Global};
 
-// How many words are filled at once.
-pub(crate) const PART: u16 = 128;
+/// The words of one pointer: the first of them, and for how many there is room.
+#[derive(Clone, Copy, Debug)]
+pub(crate) struct Row {
+    pub(crate) start: u32,
+    pub(crate) room: u16,
+}
 
-/// A row of words for each pointer that ever went far, in the order in which they first did. The room for a row of each
-/// pointer is taken when this is made, and a row is written to only once its pointer goes far.
+/// A row of words for each pointer that ever went far, as long as its object was, or longer. One that has no room for an object
+/// is left for another of at least twice its room, so all rows of a pointer have at most two logs' words. The room for that is
+/// taken when this is made, and nothing is written to it.
 #[derive(Debug, Drop)]
 pub(crate) struct StoredRows {
-    // The number of each pointer's row.
-    pub(crate) row_of: Vec<Option<u16>>,
+    // Each pointer's row.
+    pub(crate) row_of: Vec<Row>,
     pub(crate) words: Vec<u64>,
     ghost few: { vec_len row_of ≤ POINTERS },
-    ghost room: { LOG_WORDS * vec_len row_of ≤ vec_capacity words },
-    ghost filled: { vec_len words ≡ LOG_WORDS * count_by is_some row_of.items },
+    ghost room: { 2 * LOG_WORDS * vec_len row_of ≤ vec_capacity words },
+    ghost used: { vec_len words ≤ 2 * sum_by room_in row_of.items },
+    ghost sized: { RowsSized row_of.items },
     ghost fit: { RowsFit (vec_len words) row_of.items },
     ghost apart: { RowsAreApart row_of.items },
 }
 
 impl StoredRows {
-    ghost use Rattle.std.specs.Prelude.{◌<◌, IfOk, Some, None, length, slice_index_or};
-    ghost use Rattle.far_core.specs.state.Rows.{with_first};
+    ghost use Rattle.std.specs.Prelude.{IfOk};
+    ghost use Rattle.far_core.specs.state.Rows.{row_at, with_first};
     ghost use Rattle.far_core.specs.state.State.{put};
     ghost use Rattle.far_core.specs.state.StoredRows.{stored_in};
 
@@ -39,21 +44,23 @@ impl StoredRows {
         ensures sized { IfOk result (λ rows. vec_len rows.row_of ≡ pointers) }
         ensures blank { IfOk result (λ rows. (p i : ℕ) → stored_in rows p i ≡ 0) }
     {
+        let mut row_of = Vec::new(alloc);
+        row_of.resize(pointers, Row { start: 0, room: 0 })?;
         Ok(StoredRows {
-            row_of: vec![in alloc; None; pointers]?,
-            words: Vec::with_capacity(alloc, LOG_WORDS as usize * pointers)?,
+            row_of,
+            words: Vec::with_capacity(alloc, 2 * LOG_WORDS as usize * pointers)?,
         })
     }
 
     /// Word `index` of those that are stored of a pointer; 0 if no word was stored there.
     pub(crate) fn word(&self, pointer: u16, index: u16) -> u64
-        requires { index < LOG_WORDS }
         ensures { result ≡ stored_in self.now pointer index }
     {
-        match self.row(pointer) {
-            Some(row) => self.words[row_start(row) + index as usize],
-            None => 0,
+        let row = self.row(pointer);
+        if index >= row.room {
+            return 0;
         }
+        self.words[row.start as usize + index as usize]
     }
 
     /// The words become the first that are stored of a pointer; its other stored words stay.
@@ -63,83 +70,78 @@ impl StoredRows {
         ensures sized { vec_len self.new.row_of ≡ vec_len self.old.row_of }
         ensures stored { stored_in self.new ≡ put (stored_in self.old) pointer (with_first (length words.now) (λ i. slice_index words.now i) (stored_in self.old pointer)) }
     {
-        let row = self.reach(pointer);
-        self.write_row(pointer, row, words);
-    }
-
-    /// The number of a pointer's row.
-    fn row(&self, pointer: u16) -> Option<u16>
-        ensures { result ≡ slice_index_or self.now.row_of.items pointer None }
-    {
-        self.row_of.get(pointer as usize).copied().flatten()
-    }
-
-    /// The number of a pointer's row, where one that has none gets the next.
-    fn reach(&mut self, pointer: u16) -> u16
-        requires { pointer < vec_len self.old.row_of }
-        ensures sized { vec_len self.new.row_of ≡ vec_len self.old.row_of }
-        ensures stored { stored_in self.new ≡ stored_in self.old }
-        ensures row { slice_index_or self.new.row_of.items pointer None ≡ Some result }
-    {
-        match self.row(pointer) {
-            Some(row) => row,
-            None => self.append_row(pointer),
+        if words.len() <= self.row(pointer).room as usize {
+            self.write_row(pointer, words);
+        } else {
+            self.append_row(pointer, words);
         }
     }
 
-    /// A pointer that has no row gets the next, of zeros.
-    fn append_row(&mut self, pointer: u16) -> u16
-        requires pointer { pointer < vec_len self.old.row_of }
-        requires none { slice_index_or self.old.row_of.items pointer None ≡ None }
-        ensures sized { vec_len self.new.row_of ≡ vec_len self.old.row_of }
-        ensures stored { stored_in self.new ≡ stored_in self.old }
-        ensures row { slice_index_or self.new.row_of.items pointer None ≡ Some result }
+    /// A pointer's row; one of no words, where it never went far.
+    fn row(&self, pointer: u16) -> Row
+        ensures { result ≡ row_at self.now.row_of.items pointer }
     {
-        let end = self.words.len();
-        let row = (end / LOG_WORDS as usize) as u16;
-        add_row(&mut self.words);
-        self.row_of[pointer as usize] = Some(row);
-        row
+        self.row_of
+            .get(pointer as usize)
+            .copied()
+            .unwrap_or(Row { start: 0, room: 0 })
     }
 
-    /// The words become the first of a pointer's row.
-    fn write_row(&mut self, pointer: u16, row: u16, words: &[u64])
-        requires row { slice_index_or self.old.row_of.items pointer None ≡ Some row }
+    /// A pointer whose row has no room for these words gets the next row, which begins with them.
+    fn append_row(&mut self, pointer: u16, words: &[u64])
+        requires pointer { pointer < vec_len self.old.row_of }
+        requires longer { room_in (row_at self.old.row_of.items pointer) < length words.now }
         requires short { length words.now ≤ LOG_WORDS }
         ensures sized { vec_len self.new.row_of ≡ vec_len self.old.row_of }
         ensures stored { stored_in self.new ≡ put (stored_in self.old) pointer (with_first (length words.now) (λ i. slice_index words.now i) (stored_in self.old pointer)) }
     {
-        let start = row_start(row);
+        let start = self.words.len() as u32;
+        let room = next_room(words.len() as u16, self.row(pointer).room);
+        add_row(&mut self.words, words, room);
+        self.row_of[pointer as usize] = Row { start, room };
+    }
+
+    /// The words become the first of a pointer's row.
+    fn write_row(&mut self, pointer: u16, words: &[u64])
+        requires pointer { pointer < vec_len self.old.row_of }
+        requires short { length words.now ≤ room_in (row_at self.old.row_of.items pointer) }
+        ensures sized { vec_len self.new.row_of ≡ vec_len self.old.row_of }
+        ensures stored { stored_in self.new ≡ put (stored_in self.old) pointer (with_first (length words.now) (λ i. slice_index words.now i) (stored_in self.old pointer)) }
+    {
+        let start = self.row(pointer).start as usize;
         self.words[start..start + words.len()].copy_from_slice(words);
     }
 }
 
-/// The word where a row begins.
-fn row_start(row: u16) -> usize
-    ensures { result ≡ row * LOG_WORDS }
+/// For how many words a row has room that takes so many, after one that had room for fewer: twice those at least, and a whole
+/// log's if half wouldn't do.
+fn next_room(count: u16, had: u16) -> u16
+    requires fewer { had < count }
+    requires short { count ≤ LOG_WORDS }
+    requires sized { HalfOrAll had }
+    ensures long { count ≤ result }
+    ensures twice { 2 * had ≤ result }
+    ensures sized { HalfOrAll result }
 {
-    row as usize * LOG_WORDS as usize
-}
-
-/// A row of zeros follows. It is filled a part at a time: where little is filled no instruction is repeated for each byte.
-fn add_row(words: &mut Vec<u64>)
-    requires { vec_len words.old + LOG_WORDS ≤ vec_capacity words.old }
-    ensures len { vec_len words.new ≡ vec_len words.old + LOG_WORDS }
-    ensures room { vec_capacity words.old ≤ vec_capacity words.new }
-    ensures same { (k : ℕ) → slice_index words.new.items k ≡ slice_index words.old.items k }
-{
-    for _ in 0..LOG_WORDS / PART {
-        add_part(words);
+    let wanted = count.max(2 * had);
+    if wanted > LOG_WORDS / 2 {
+        LOG_WORDS
+    } else {
+        wanted
     }
 }
 
-/// A part of a row follows, of zeros.
-fn add_part(words: &mut Vec<u64>)
-    requires { vec_len words.old + PART ≤ vec_capacity words.old }
-    ensures len { vec_len words.new ≡ vec_len words.old + PART }
+/// A row of so many words follows, which begins with these; the others are zeros.
+fn add_row(words: &mut Vec<u64>, row: &[u64], room: u16)
+    requires long { length row.now ≤ room }
+    requires room { vec_len words.old + room ≤ vec_capacity words.old }
+    ensures len { vec_len words.new ≡ vec_len words.old + room }
     ensures room { vec_capacity words.old ≤ vec_capacity words.new }
-    ensures same { (k : ℕ) → slice_index words.new.items k ≡ slice_index words.old.items k }
+    ensures before { (k : ℕ) → k < vec_len words.old → slice_index words.new.items k ≡ slice_index words.old.items k }
+    ensures row { (i : ℕ) → i < length row.now → slice_index words.new.items (vec_len words.old + i) ≡ slice_index row.now i }
+    ensures zeros { (k : ℕ) → vec_len words.old + length row.now ≤ k → slice_index words.new.items k ≡ 0 }
 {
-    let end = words.len();
-    words.resize(end + PART as usize, 0).unwrap();
+    let end = words.len() + room as usize;
+    words.extend_from_slice(row).unwrap();
+    words.resize(end, 0).unwrap();
 }

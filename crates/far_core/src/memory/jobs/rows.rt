@@ -1,6 +1,6 @@
 //! One place of the jobs' rows read or written.
 
-ghost use Rattle.std.specs.Prelude.{◌≡◌, ◌+◌, ◌*◌, ◌<◌, ◌≤◌, true, false, Some, None, IfOk, is_some};
+ghost use Rattle.std.specs.Prelude.{◌≡◌, ◌+◌, ◌*◌, ◌<◌, ◌≤◌, true, false, Some, None, IfOk, is_some, slice_index};
 ghost use Rattle.std.specs.Vec.{vec_len};
 ghost use Rattle.far_core.specs.state.Memory.{copying_of};
 ghost use Rattle.far_core.specs.state.Opening.{no_copying};
@@ -26,6 +26,7 @@ impl Jobs {
             lengths: [None; MOST_COPIERS as usize],
             read: Vec::with_capacity(alloc, COPIED)?,
             written: Vec::with_capacity(alloc, COPIED)?,
+            touched: [0; MOST_COPIERS as usize],
         })
     }
 
@@ -134,19 +135,45 @@ impl Jobs {
         }
     }
 
+    /// How many words of a copier's rows, the first, may have something.
+    fn touched_by(&self, copier: u8) -> u16
+        requires { copier < MOST_COPIERS }
+        ensures { result ≡ slice_index self.now.touched copier }
+    {
+        self.touched[copier as usize]
+    }
+
+    /// A copier's rows may have something up to a word.
+    fn touch(&mut self, copier: u8, index: u16)
+        requires copier { copier < MOST_COPIERS }
+        requires index { index < LOG_WORDS }
+        ensures state { copying_of self.new ≡ copying_of self.old }
+        ensures touched { index < slice_index self.new.touched copier }
+        ensures read { vec_len self.new.read ≡ vec_len self.old.read }
+        ensures written { vec_len self.new.written ≡ vec_len self.old.written }
+    {
+        if self.touched_by(copier) <= index {
+            self.touched[copier as usize] = index + 1;
+        }
+    }
+
     pub(crate) fn set_read(&mut self, copier: u8, index: u16, word: Option<u64>)
+        requires copier { copier < MOST_COPIERS }
         requires reached { copier * LOG_WORDS + LOG_WORDS ≤ vec_len self.old.read }
         requires index { index < LOG_WORDS }
         ensures { copying_of self.new ≡ record (copying_of self.old) { read = put (copying_of self.old).read copier (put ((copying_of self.old).read copier) index word) } }
     {
+        self.touch(copier, index);
         self.read[copier as usize * LOG_WORDS as usize + index as usize] = word;
     }
 
     pub(crate) fn set_written(&mut self, copier: u8, index: u16)
+        requires copier { copier < MOST_COPIERS }
         requires reached { copier * LOG_WORDS + LOG_WORDS ≤ vec_len self.old.written }
         requires index { index < LOG_WORDS }
         ensures { copying_of self.new ≡ record (copying_of self.old) { written = put (copying_of self.old).written copier (put ((copying_of self.old).written copier) index true) } }
     {
+        self.touch(copier, index);
         self.written[copier as usize * LOG_WORDS as usize + index as usize] = true;
     }
 
@@ -164,21 +191,17 @@ impl Jobs {
         self.lengths[copier as usize] = length;
     }
 
-    pub(crate) fn forget_read(&mut self, copier: u8)
-        requires { copier * LOG_WORDS + LOG_WORDS ≤ vec_len self.old.read }
-        ensures length { vec_len self.new.written ≡ vec_len self.old.written }
-        ensures state { copying_of self.new ≡ record (copying_of self.old) { read = put (copying_of self.old).read copier (λ _. None) } }
+    /// A copier has read and written nothing.
+    pub(crate) fn forget_words(&mut self, copier: u8)
+        requires copier { copier < MOST_COPIERS }
+        requires read { copier * LOG_WORDS + LOG_WORDS ≤ vec_len self.old.read }
+        requires written { copier * LOG_WORDS + LOG_WORDS ≤ vec_len self.old.written }
+        ensures { copying_of self.new ≡ record (copying_of self.old) { read = put (copying_of self.old).read copier (λ _. None); written = put (copying_of self.old).written copier (λ _. false) } }
     {
         let from = copier as usize * LOG_WORDS as usize;
-        self.read[from..from + LOG_WORDS as usize].fill(None);
-    }
-
-    pub(crate) fn forget_written(&mut self, copier: u8)
-        requires { copier * LOG_WORDS + LOG_WORDS ≤ vec_len self.old.written }
-        ensures length { vec_len self.new.read ≡ vec_len self.old.read }
-        ensures state { copying_of self.new ≡ record (copying_of self.old) { written = put (copying_of self.old).written copier (λ _. false) } }
-    {
-        let from = copier as usize * LOG_WORDS as usize;
-        self.written[from..from + LOG_WORDS as usize].fill(false);
+        let end = from + self.touched_by(copier) as usize;
+        self.read[from..end].fill(None);
+        self.written[from..end].fill(false);
+        self.touched[copier as usize] = 0;
     }
 }

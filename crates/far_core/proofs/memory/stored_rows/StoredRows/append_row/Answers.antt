@@ -1,36 +1,27 @@
-use Rattle.std.proofs.Common.{◌/◌, ◌<◌, arith}
+use Rattle.std.proofs.Common.{◌+◌, ◌<◌, ◌∙◌, ℕ, ap, arith, get_or}
 use Rattle.std.specs.Prelude.{length}
-use Rattle.far_word.specs.declared.sizes.TheConstants.{LOG_WORDS}
+use Rattle.far_core.specs.declared.memory.stored_rows.Row.{Row}
+use Rattle.far_core.specs.state.Rows.{room_in}
 use Rattle.far_core.specs.state.StoredRows.{stored_in}
-use Rattle.far_core.proofs.StoredRows.{has_room, more_apart, more_fit, one_more, shows_nothing}
+use Rattle.far_core.proofs.StoredRows.{few_words, has_room, row_added}
 use Rattle.far_core.proofs.memory.stored_rows.StoredRows.append_row.Goals as goal
 
-pub add_row-requires : goal.add_row-requires
-add_row-requires c = has_room c.args.self.now c.args.pointer c.requires.pointer c.requires.none
+pub overflow_cast-start : goal.overflow_cast-start
+overflow_cast-start c = omega (arith, few_words c.args.self.now, c.args.self.now.few, c.len-start.ensures)
 
-pub invariant_of-self-clause-filled : goal.invariant_of-self-clause-filled
-invariant_of-self-clause-filled c =
-    let rows = c.args.self.now in
-    let inside : c.args.pointer < length rows.row_of.items = omega (arith, c.requires.pointer, rows.row_of.ok.0) in
-    omega (arith, c.add_row.ensures.len, rows.filled, one_more rows.row_of.items c.args.pointer (c.len-end.result / LOG_WORDS) inside c.requires.none)
-
-pub invariant_of-self-clause-fit : goal.invariant_of-self-clause-fit
-invariant_of-self-clause-fit c =
-    let rows = c.args.self.now in
-    let inside : c.args.pointer < length rows.row_of.items = omega (arith, c.requires.pointer, rows.row_of.ok.0) in
-    more_fit rows.row_of.items c.args.pointer (c.len-end.result / LOG_WORDS) inside c.requires.none _ _ rows.fit
-    (omega (arith, c.add_row.ensures.len)) (omega (arith, c.add_row.ensures.len, c.len-end.ensures))
-
-pub invariant_of-self-clause-apart : goal.invariant_of-self-clause-apart
-invariant_of-self-clause-apart c =
-    let rows = c.args.self.now in
-    let inside : c.args.pointer < length rows.row_of.items = omega (arith, c.requires.pointer, rows.row_of.ok.0) in
-    more_apart rows.row_of.items c.args.pointer (c.len-end.result / LOG_WORDS) inside c.requires.none _ rows.fit (omega (arith, rows.filled, c.len-end.ensures)) rows.apart
+pub add_row-requires-clause-room : goal.add_row-requires-clause-room
+add_row-requires-clause-room c =
+    let row : Row = record { start = c.len-start.result; room = c.next_room-room.result } in
+    has_room c.args.self.now c.args.pointer row c.requires.pointer c.next_room-room.ensures.sized (omega (arith, c.next_room-room.ensures.twice, ap room_in c.row.ensures))
 
 pub returns-clause-stored : goal.returns-clause-stored
 unfolding stored_in
 returns-clause-stored c =
     let rows = c.args.self.now in
+    let row : Row = record { start = c.len-start.result; room = c.next_room-room.result } in
     let inside : c.args.pointer < length rows.row_of.items = omega (arith, c.requires.pointer, rows.row_of.ok.0) in
-    shows_nothing rows.row_of.items c.args.pointer (c.len-end.result / LOG_WORDS) inside c.requires.none rows.words.items c.add_row.new.words.items c.add_row.ensures.same
-    (omega (arith, rows.filled, c.len-end.ensures, rows.words.ok.0))
+    row_added rows.row_of.items c.args.pointer row inside rows.words.items c.add_row.new.words.items c.args.words.now
+    (λ q. omega (arith, rows.fit q, rows.words.ok.0)) (omega (arith, c.requires.longer)) (omega (arith, c.next_room-room.ensures.long))
+    (λ k lt. c.add_row.ensures.before k (omega (arith, lt, rows.words.ok.0)))
+    (λ i lt. ap (λ (n : ℕ). get_or c.add_row.new.words.items (n + i) 0) c.len-start.ensures ∙ c.add_row.ensures.row i lt)
+    (λ k le. c.add_row.ensures.zeros k (omega (arith, le, c.len-start.ensures)))

@@ -1,5 +1,7 @@
-use Rattle.far_book.proofs.book.Book.send_by.Goals as goal
-use Rattle.std.proofs.Common.{◌∙◌, ◌<◌, ◌*◌, Bool, ap, rules, sym, subst}
+use Rattle.far_book.proofs.book.Book.send.Goals as goal
+use Rattle.std.proofs.Common.{◌∙◌, ◌<◌, ◌*◌, ℕ, Bool, ap, arith, rules, sym, subst}
+use Rattle.std.specs.Global.{Vec}
+use Rattle.std.specs.Vec.{vec_capacity}
 use Rattle.far_word.specs.declared.sizes.TheConstants.{CELLS}
 use Rattle.far_word.specs.Bytes.{bytes_of}
 use Rattle.far_word.specs.Sizes.{words_for}
@@ -12,8 +14,18 @@ use Rattle.far_book.specs.book.Asking.{answer_of}
 use Rattle.far_book.specs.book.BookOf.{BookOf}
 use Rattle.far_book.specs.book.Dealing.{Leaves}
 use Rattle.far_book.specs.book.Evicting.{IsQuietIn}
-use Rattle.far_book.proofs.region.Evictions.{fault_told, learned_stored, quiet_object, sent_order}
+use Rattle.far_book.proofs.region.Evictions.{fault_told, layout, learned_stored, quiet_object, sent_order}
 use Rattle.far_book.proofs.region.Learning.{learned_leaves}
+
+pub reach-requires-clause-most : goal.reach-requires-clause-most
+reach-requires-clause-most g c =
+    let s = g.N.Near.view c.self.inside.near in
+    let same = ap (λ (b : BookOf g.row.N.Denot g.row.D.Denot). g.N.Near.view b.near) c.self.view_is in
+    let near : IsQuietIn s c.args.pointer c.args.len c.args.ds c.args.place = subst (λ (t : State). IsQuietIn t c.args.pointer c.args.len c.args.ds c.args.place) (sym same) c.requires.near in
+    omega (arith, layout s c.self.invariant.0.notes.law c.args.pointer c.args.len c.args.ds c.args.place near)
+
+pub reach-requires-clause-room : goal.reach-requires-clause-room
+reach-requires-clause-room g c = omega (arith, c.self.invariant.1, ap (λ (b : Vec ℕ). vec_capacity b) c.replace-row.ensures.value)
 
 pub read_object-requires-clause-object : goal.read_object-requires-clause-object
 read_object-requires-clause-object g c =
@@ -32,10 +44,10 @@ invariant_of-self g c =
     let near : IsQuietIn s c.args.pointer c.args.len c.args.ds c.args.place = subst (λ (t : State). IsQuietIn t c.args.pointer c.args.len c.args.ds c.args.place) (sym same) c.requires.near in
     let object = quiet_object s c.self.invariant.0.notes.law c.args.pointer c.args.len c.args.ds c.args.place near pointer in
     let leaves = learned_leaves s t c.args.place (words_for c.args.len) c.read_object.ensures.kept object.bare c.read_object.ensures.learned in
-    let law = g.met.D.Device.write_follows _ _ _ _ _ c.write.ensures.called in (
-      sent_order s t c.self.inside.ledger (g.D.Device.contents c.self.inside.device) (g.D.Device.contents c.write.new.self) (g.D.Device.honest c.self.inside.device) (g.D.Device.honest c.write.new.self)
+    let law = g.met.D.Device.write_follows _ _ _ _ _ c.write-written.ensures.called in (
+      sent_order s t c.self.inside.ledger (g.D.Device.contents c.self.inside.device) (g.D.Device.contents c.write-written.new.self) (g.D.Device.honest c.self.inside.device) (g.D.Device.honest c.write-written.new.self)
           c.self.invariant.0 leaves c.args.pointer c.args.len c.args.ds c.args.place near (sym (ap is_dirty near.near) ∙ ap (λ (t : State). is_dirty (read_of (t.cell c.args.pointer))) same ∙ c.requires.dirty) law.others law.honest,
-      c.self.invariant.1,
+      c.reach.ensures.room,
     )
 
 pub returns : goal.returns
@@ -46,7 +58,7 @@ returns g c =
     let pointer : c.args.pointer < CELLS * s.mutators = subst (λ (t : State). c.args.pointer < CELLS * t.mutators) (sym same) c.requires.pointer in
     let near : IsQuietIn s c.args.pointer c.args.len c.args.ds c.args.place = subst (λ (t : State). IsQuietIn t c.args.pointer c.args.len c.args.ds c.args.place) (sym same) c.requires.near in
     let object = quiet_object s c.self.invariant.0.notes.law c.args.pointer c.args.len c.args.ds c.args.place near pointer in
-    let called : g.D.Device.writes c.args.self.now.device c.args.pointer (bytes_of (data_at t.word c.args.place) c.args.len) (answer_of c.match-write.result) c.write.new.self = search rules in
+    let called : g.D.Device.writes c.args.self.now.device c.args.pointer (bytes_of (data_at t.word c.args.place) c.args.len) (answer_of c.match-written.result) c.write-written.new.self = search rules in
     record {
       kept = subst (λ (u : State). Leaves u t) same (learned_leaves s t c.args.place (words_for c.args.len) c.read_object.ensures.kept object.bare c.read_object.ensures.learned);
       exact = search rules;
@@ -56,6 +68,6 @@ returns g c =
       refused = search rules;
       called = called;
       order = search rules;
-      follows = subst (λ (fails : Bool). Follows g.D.Device.contents g.D.Device.honest g.D.Device.faults g.D.Device.fails_at_most (other_than c.args.pointer) fails c.args.self.now.device c.write.new.self)
-          (fault_told c.match-write.result) (g.met.D.Device.write_follows _ _ _ _ _ called);
+      follows = subst (λ (fails : Bool). Follows g.D.Device.contents g.D.Device.honest g.D.Device.faults g.D.Device.fails_at_most (other_than c.args.pointer) fails c.args.self.now.device c.write-written.new.self)
+          (fault_told c.match-written.result) (g.met.D.Device.write_follows _ _ _ _ _ called);
     }
