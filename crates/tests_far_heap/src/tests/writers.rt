@@ -11,10 +11,8 @@ use std::thread;
 /// How often a call is tried for which there is no room.
 const TRIES: u16 = 1000;
 
-/// How many objects a writer has, and how long they are.
+/// How many objects a writer has.
 const OBJECTS: usize = 16;
-
-const BYTES: u16 = 280;
 
 /// An object, and the byte that it was filled with last.
 #[derive(Clone, Copy)]
@@ -40,13 +38,17 @@ fn viewed<K: HeapName, R: Wait>(
 }
 
 // Whether each byte of an object is this.
-fn is_filled<K: HeapName>(scope: &mut Scope<K, MemDevice>, view: &View, byte: u8) -> bool {
-    let mut found = [0; BYTES as usize];
-    scope.read(view, 0, &mut found).is_ok() && found == [byte; BYTES as usize]
+fn is_filled<K: HeapName, const N: usize>(
+    scope: &mut Scope<K, MemDevice>,
+    view: &View,
+    byte: u8,
+) -> bool {
+    let mut found = [0; N];
+    scope.read(view, 0, &mut found).is_ok() && found == [byte; N]
 }
 
 // Whether an object has what it was filled with last, and, if there is another byte, is filled with that, and has that.
-fn fills<K: HeapName, R: Wait>(
+fn fills<K: HeapName, R: Wait, const N: usize>(
     rt: &R,
     scope: &mut Scope<K, MemDevice>,
     object: Filled,
@@ -55,28 +57,28 @@ fn fills<K: HeapName, R: Wait>(
     let Some(view) = viewed(rt, scope, object.pointer) else {
         return false;
     };
-    let had = is_filled(scope, &view, object.byte);
+    let had = is_filled::<K, N>(scope, &view, object.byte);
     match byte {
         Some(byte) => {
-            had && scope.write(&view, 0, &[byte; BYTES as usize]).is_ok()
-                && is_filled(scope, &view, byte)
+            had && scope.write(&view, 0, &[byte; N]).is_ok()
+                && is_filled::<K, N>(scope, &view, byte)
         }
         None => had,
     }
 }
 
-/// A mutator with objects of its own.
+/// A mutator with objects of its own, of N bytes.
 #[derive(Drop)]
-pub(super) struct Writer<K: HeapName> {
+pub(super) struct Writer<K: HeapName, const N: usize> {
     hand: Hand<K, MemDevice>,
     objects: [Filled; OBJECTS],
     // How many scopes it has opened.
     scopes: u64,
 }
 
-impl<K: HeapName> Writer<K> {
+impl<K: HeapName, const N: usize> Writer<K, N> {
     /// One that has no object yet.
-    pub(super) fn new(mutator: Mutator<K, MemDevice>) -> Writer<K> {
+    pub(super) fn new(mutator: Mutator<K, MemDevice>) -> Writer<K, N> {
         let none = Filled {
             pointer: 0,
             byte: 0,
@@ -91,7 +93,7 @@ impl<K: HeapName> Writer<K> {
     // A new object, as soon as there is room.
     fn made<R: Wait>(&mut self, rt: &R) -> Option<u16> {
         for _ in 0..TRIES {
-            match self.hand.makes(rt, BYTES, 1) {
+            match self.hand.makes(rt, N as u16, 1) {
                 Ok(pointer) => return Some(pointer),
                 Err(Refused::NoRoom) => thread::yield_now(),
                 Err(_) => return None,
@@ -114,7 +116,7 @@ impl<K: HeapName> Writer<K> {
     // Whether an object has what it was filled with last, and is filled with another byte, if there is one.
     fn fills<R: Wait>(&mut self, rt: &R, object: Filled, byte: Option<u8>) -> bool {
         match &mut self.hand {
-            Hand::Open(scope) => fills(rt, scope, object, byte),
+            Hand::Open(scope) => fills::<K, R, N>(rt, scope, object, byte),
             _ => false,
         }
     }
