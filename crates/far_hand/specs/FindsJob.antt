@@ -1,5 +1,5 @@
 -- What may be found in a job's word, where one word of it is known: copiers may have gone on with the job meanwhile, and nothing else.
-use Rattle.std.specs.Prelude.{◌≡◌, ◌≤◌, ℕ, true, Option, Some, None, option_map}
+use Rattle.std.specs.Prelude.{◌≡◌, ◌⊎◌, ◌≤◌, ℕ, true, Option, Some, None, option_map}
 use Rattle.far_word.specs.declared.job.Job.{Job}
 use Rattle.far_word.specs.declared.job.JobWord.{JobWord}
 use Rattle.far_word.specs.declared.job.JobWord.TheVariants.{Empty, Offered, Taken, Finished}
@@ -40,6 +40,15 @@ pub record FindsJob (known found : ℕ) : Type 0 where
   pub rises : rank (job_of known) ≤ rank (job_of found)
   pub taker : (c : ℕ) → copier_in (job_of known) ≡ Some c → copier_in (job_of found) ≡ Some c
   pub ended : is_finished (job_of known) ≡ true → found ≡ known
+
+-- what copiers may have made of a job whose word said so: no job, and a word that says nothing, stay. One that is offered may be so still, or a copier has taken it, or has finished
+-- it too; one that a copier has taken is taken by that one, or finished by it; a finished one stays
+abbrev pub GoesOn : Option JobWord → Option JobWord → Type 0
+GoesOn None found = found ≡ None
+GoesOn (Some Empty) found = found ≡ Some Empty
+GoesOn (Some (Offered job)) found = (found ≡ Some (Offered job)) ⊎ ((c : ℕ) × ((found ≡ Some (Taken job c)) ⊎ (found ≡ Some (Finished job c))))
+GoesOn (Some (Taken job c)) found = (found ≡ Some (Taken job c)) ⊎ (found ≡ Some (Finished job c))
+GoesOn (Some (Finished job c)) found = found ≡ Some (Finished job c)
 
 -- what is known once a word was found of a job
 abbrev pub job_found : State → ℕ → ℕ → State

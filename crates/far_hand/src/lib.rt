@@ -6,10 +6,12 @@
 
 mod beset;
 mod hand;
+mod laws;
 mod owners;
 mod plain;
 
 pub use beset::Beset;
 pub use hand::Near;
+pub use laws::jobs_go_on;
 pub use owners::is_owners;
 pub use plain::Plain;
