@@ -49,9 +49,9 @@ struct Gate {
 }
 
 // Writes as long as the writer is told to; `false` where something was wrong.
-fn keeps_writing<K: HeapName, R: Wait, const N: usize>(
+fn keeps_writing<K: HeapName, R: Wait>(
     rt: &R,
-    writer: &mut Writer<K, N>,
+    writer: &mut Writer<K>,
     gate: &Gate,
     work: Work,
 ) -> bool {
@@ -67,13 +67,13 @@ fn keeps_writing<K: HeapName, R: Wait, const N: usize>(
 }
 
 // What a mutator does in a thread of its own: it makes objects, writes, and ends; `None` where something was wrong.
-fn writes<K: HeapName, R: Wait, const N: usize>(
+fn writes<K: HeapName, R: Wait>(
     rt: &R,
     mutator: Mutator<K, MemDevice>,
     gate: &Gate,
     work: Work,
-) -> Option<Writer<K, N>> {
-    let mut writer = Writer::<K, N>::new(mutator);
+) -> Option<Writer<K>> {
+    let mut writer = Writer::new(mutator);
     let made = writer.makes_objects(rt);
     gate.begun.raise();
     let written = keeps_writing(rt, &mut writer, gate, work);
@@ -119,25 +119,17 @@ fn rounds<K: HeapName, R: Wait>(
 }
 
 // Each mutator writes in a thread of its own; `None` where memory was refused.
-fn all_write<K: HeapName + Send + Sync, R: Threads + Wait + Sync, const N: usize>(
+fn all_write<K: HeapName + Send + Sync, R: Threads + Wait + Sync>(
     rt: &R,
     mutators: Vec<Mutator<K, MemDevice>>,
     gate: &Gate,
     work: Work,
-) -> Option<Vec<Option<Writer<K, N>>>> {
-    thread::map_vec(
-        rt,
-        mutators,
-        &|mutator| { writes::<K, R, N>(rt, mutator, gate, work) },
-    )
-    .ok()
+) -> Option<Vec<Option<Writer<K>>>> {
+    thread::map_vec(rt, mutators, &|mutator| writes(rt, mutator, gate, work)).ok()
 }
 
 // Whether nothing was wrong, and each object has what it was filled with last.
-fn are_right<K: HeapName, R: Wait, const N: usize>(
-    rt: &R,
-    written: Vec<Option<Writer<K, N>>>,
-) -> bool {
+fn are_right<K: HeapName, R: Wait>(rt: &R, written: Vec<Option<Writer<K>>>) -> bool {
     for one in written {
         match one {
             Some(mut writer) => {
@@ -158,7 +150,7 @@ fn stands<K: HeapName, R: Wait>(rt: &R, stage: &mut Stage<'_, K, MemDevice>) -> 
 }
 
 // How many rounds were done while all wrote; `None` where something was wrong.
-fn works_beside<K: HeapName + Send + Sync, R: Threads + Wait + Sync, const N: usize>(
+fn works_beside<K: HeapName + Send + Sync, R: Threads + Wait + Sync>(
     rt: &R,
     stage: &mut Stage<'_, K, MemDevice>,
     mutators: Vec<Mutator<K, MemDevice>>,
@@ -172,7 +164,7 @@ fn works_beside<K: HeapName + Send + Sync, R: Threads + Wait + Sync, const N: us
     let (beside, at_rounds) = (&gate, &mut *stage);
     let (written, came) = join(
         rt,
-        move || all_write::<K, R, N>(rt, mutators, beside, plan.work),
+        move || all_write(rt, mutators, beside, plan.work),
         move || rounds(rt, at_rounds, beside, plan),
     );
     let stood = stands(rt, stage);
@@ -183,7 +175,7 @@ fn works_beside<K: HeapName + Send + Sync, R: Threads + Wait + Sync, const N: us
     (came && stood && right).then_some(gate.rounds.count())
 }
 
-fn made_beside<K: HeapName + Send + Sync, R: Threads + Wait + Sync, const N: usize>(
+fn made_beside<K: HeapName + Send + Sync, R: Threads + Wait + Sync>(
     rt: &R,
     alloc: Global,
     blank: Blank<MemDevice>,
@@ -195,7 +187,7 @@ fn made_beside<K: HeapName + Send + Sync, R: Threads + Wait + Sync, const N: usi
         Ok((heap, mutators)) => {
             let (signals, mut none) = (Signals::new(), Vec::new(alloc));
             let mut stage = Stage::new(&heap, &signals, &mut none);
-            works_beside::<K, R, N>(rt, &mut stage, mutators, plan)
+            works_beside(rt, &mut stage, mutators, plan)
         }
         Err(_) => None,
     }
@@ -214,11 +206,11 @@ fn rounds_beside_writers(rt: HostRuntime) {
         stops: false,
     };
     let blank = new_blank(&rt, rt.alloc(), sized(16, WRITERS));
-    let made = made_beside::<Brand, _, 64>(&rt, rt.alloc(), blank, plan);
+    let made = made_beside::<Brand, _>(&rt, rt.alloc(), blank, plan);
     assert!(rt; made.is_some());
 }
 
-// The writers go on until enough rounds were done, however fast the machine is. Their objects fill five logs, so that most rounds have something to do.
+// The writers go on until enough rounds were done, however fast the machine is.
 #[test]
 fn rounds_while_writing(rt: HostRuntime) {
     let plan = Plan {
@@ -232,6 +224,6 @@ fn rounds_while_writing(rt: HostRuntime) {
         stops: true,
     };
     let blank = new_blank(&rt, rt.alloc(), sized(16, WRITERS));
-    let made = made_beside::<Brand, _, 280>(&rt, rt.alloc(), blank, plan);
+    let made = made_beside::<Brand, _>(&rt, rt.alloc(), blank, plan);
     assert!(rt; matches!(made, Some(rounds) if rounds >= 20), "{made:?}");
 }

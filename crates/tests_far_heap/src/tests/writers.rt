@@ -11,8 +11,10 @@ use std::thread;
 /// How often a call is tried for which there is no room.
 const TRIES: u16 = 1000;
 
-/// How many objects a writer has.
+/// How many objects a writer has, and how long they are.
 const OBJECTS: usize = 16;
+
+const BYTES: u16 = 64;
 
 /// An object, and the byte that it was filled with last.
 #[derive(Clone, Copy)]
@@ -38,17 +40,13 @@ fn viewed<K: HeapName, R: Wait>(
 }
 
 // Whether each byte of an object is this.
-fn is_filled<K: HeapName, const N: usize>(
-    scope: &mut Scope<K, MemDevice>,
-    view: &View,
-    byte: u8,
-) -> bool {
-    let mut found = [0; N];
-    scope.read(view, 0, &mut found).is_ok() && found == [byte; N]
+fn is_filled<K: HeapName>(scope: &mut Scope<K, MemDevice>, view: &View, byte: u8) -> bool {
+    let mut found = [0; BYTES as usize];
+    scope.read(view, 0, &mut found).is_ok() && found == [byte; BYTES as usize]
 }
 
 // Whether an object has what it was filled with last, and, if there is another byte, is filled with that, and has that.
-fn fills<K: HeapName, R: Wait, const N: usize>(
+fn fills<K: HeapName, R: Wait>(
     rt: &R,
     scope: &mut Scope<K, MemDevice>,
     object: Filled,
@@ -57,28 +55,28 @@ fn fills<K: HeapName, R: Wait, const N: usize>(
     let Some(view) = viewed(rt, scope, object.pointer) else {
         return false;
     };
-    let had = is_filled::<K, N>(scope, &view, object.byte);
+    let had = is_filled(scope, &view, object.byte);
     match byte {
         Some(byte) => {
-            had && scope.write(&view, 0, &[byte; N]).is_ok()
-                && is_filled::<K, N>(scope, &view, byte)
+            had && scope.write(&view, 0, &[byte; BYTES as usize]).is_ok()
+                && is_filled(scope, &view, byte)
         }
         None => had,
     }
 }
 
-/// A mutator with objects of its own, of N bytes.
+/// A mutator with objects of its own.
 #[derive(Drop)]
-pub(super) struct Writer<K: HeapName, const N: usize> {
+pub(super) struct Writer<K: HeapName> {
     hand: Hand<K, MemDevice>,
     objects: [Filled; OBJECTS],
     // How many scopes it has opened.
     scopes: u64,
 }
 
-impl<K: HeapName, const N: usize> Writer<K, N> {
+impl<K: HeapName> Writer<K> {
     /// One that has no object yet.
-    pub(super) fn new(mutator: Mutator<K, MemDevice>) -> Writer<K, N> {
+    pub(super) fn new(mutator: Mutator<K, MemDevice>) -> Writer<K> {
         let none = Filled {
             pointer: 0,
             byte: 0,
@@ -93,7 +91,7 @@ impl<K: HeapName, const N: usize> Writer<K, N> {
     // A new object, as soon as there is room.
     fn made<R: Wait>(&mut self, rt: &R) -> Option<u16> {
         for _ in 0..TRIES {
-            match self.hand.makes(rt, N as u16, 1) {
+            match self.hand.makes(rt, BYTES, 1) {
                 Ok(pointer) => return Some(pointer),
                 Err(Refused::NoRoom) => thread::yield_now(),
                 Err(_) => return None,
@@ -116,7 +114,7 @@ impl<K: HeapName, const N: usize> Writer<K, N> {
     // Whether an object has what it was filled with last, and is filled with another byte, if there is one.
     fn fills<R: Wait>(&mut self, rt: &R, object: Filled, byte: Option<u8>) -> bool {
         match &mut self.hand {
-            Hand::Open(scope) => fills::<K, R, N>(rt, scope, object, byte),
+            Hand::Open(scope) => fills(rt, scope, object, byte),
             _ => false,
         }
     }
