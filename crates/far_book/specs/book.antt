@@ -1,6 +1,5 @@
 pub mod Ages
 pub mod Asking
-pub mod Blanks
 pub mod BookOf
 pub mod Calls
 pub mod Collecting

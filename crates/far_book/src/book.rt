@@ -21,7 +21,6 @@ ghost use Rattle.far_core.specs.state.Shape.{is_shape};
 ghost use Rattle.far_hand.specs.Finds.{body_of};
 ghost use Rattle.far_hand.specs.Came.{Came, only};
 ghost use Rattle.far_hand.specs.Known.{Forgets};
-ghost use Rattle.far_book.specs.book.Blanks.{IsPast, with_zeros};
 ghost use Rattle.far_book.specs.book.Calls.{FindsHome, ListsSpans, PlacesObject, RetiresObject};
 ghost use Rattle.far_book.specs.book.Effects.{with_blank_span, placed, retired};
 ghost use Rattle.far_book.specs.book.FarSide.{HoldsFar};
@@ -299,46 +298,7 @@ fn put_blank<N: Near>(near: &mut N, pointer: u16, len: u16, ds: u8, place: Place
 {
     let header = HeadWord { pointer, len, ds };
     near.put(place.log, place.at, header.pack());
-    put_zeros(near, place.log, place.at + 1, words_for(len));
-}
-
-// Writes zeros to so many words of a log from one on.
-fn put_zeros<N: Near>(near: &mut N, log: u8, at: u16, count: u16)
-    requires past { IsPast (N.view near.old) log at count }
-    ensures set { N.view near.new ≡ with_zeros (N.view near.old) log at count }
-    ensures puts { Came (only (Writes log) N.makes) near.old near.new }
-{
-    let fours = count / 4;
-    put_fours(near, log, at, fours);
-    for i in 4 * fours..count {
-        near.put(log, at + i, 0);
-    }
-}
-
-// The same, four words at a time.
-fn put_fours<N: Near>(near: &mut N, log: u8, at: u16, fours: u16)
-    requires past { IsPast (N.view near.old) log at (4 * fours) }
-    ensures set { N.view near.new ≡ with_zeros (N.view near.old) log at (4 * fours) }
-    ensures puts { Came (only (Writes log) N.makes) near.old near.new }
-{
-    for i in 0..fours {
-        put_four(near, log, at + 4 * i);
-    }
-}
-
-// Writes zeros to four words.
-#[inline(always)]
-fn put_four<N: Near>(near: &mut N, log: u8, at: u16)
-    requires past { IsPast (N.view near.old) log at 4 }
-    ensures set { N.view near.new ≡ with_zeros (N.view near.old) log at 4 }
-    ensures puts { Came (only (Writes log) N.makes) near.old near.new }
-{
-    // So LLVM knows that the sums stay in range, and finds all four words from one address.
-    let at = at % LOG_WORDS;
-    near.put(log, at, 0);
-    near.put(log, at + 1, 0);
-    near.put(log, at + 2, 0);
-    near.put(log, at + 3, 0);
+    near.put_zeros(place.log, place.at + 1, words_for(len));
 }
 
 // Frees the cell of a dropped object, by the word that was last found there, and answers what that word said.

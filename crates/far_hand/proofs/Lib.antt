@@ -1,3 +1,4 @@
+pub mod ByteRows
 pub mod Closure
 pub mod Counting
 pub mod EvacMarks
@@ -12,6 +13,7 @@ pub mod NewSpans
 pub mod Offering
 pub mod OthersWork
 pub mod Quietness
+pub mod Ranges
 pub mod Reading
 pub mod RoundSteps
 pub mod Sight

@@ -16,6 +16,7 @@ use Rattle.far_hand.specs.Beside.{uncopied}
 use Rattle.far_hand.specs.Known.{unknown, IsKnown, IsPaddedAt, Forgets}
 use Rattle.far_hand.specs.Masked.{masked, masked_word, AllFind, AllFindJobs, recounted}
 use Rattle.far_hand.specs.Quiet.{IsQuietAt}
+use Rattle.far_hand.specs.Ranges.{Gets}
 use Rattle.far_hand.proofs.Finding.{near_known}
 use Rattle.far_hand.proofs.JobsFound.{uncopied_found}
 
@@ -82,17 +83,6 @@ forgets o v starts es word ew same = record {
     elim_known false w a h e = absurd (omega arith)
 
 -- ---- what a read tells
-pub record Gets (o v : State) (l at : ℕ) (free : Bool) (w : ℕ) : Type 0 where
-  pub known : IsKnown (o.word (l * LOG_WORDS + at)) → w ≡ o.word (l * LOG_WORDS + at)
-  pub padding : IsPaddedAt o (l * LOG_WORDS + at) w
-  pub read : free ≡ false → IsQuietAt o (l * LOG_WORDS + at) → v ≡ record o { word = put o.word (l * LOG_WORDS + at) w }
-  pub kept : free ≡ false → IsKnown (o.word (l * LOG_WORDS + at)) → v ≡ o
-  pub unread : free ≡ false → ¬ IsQuietAt o (l * LOG_WORDS + at) → v ≡ o
-  pub here : free ≡ false → IsKnown (v.word (l * LOG_WORDS + at)) → v.word (l * LOG_WORDS + at) ≡ w
-  pub others : free ≡ false → (a : ℕ) → a ≢ l * LOG_WORDS + at → v.word a ≡ o.word a
-  pub forgot : free ≡ true → Forgets o v
-  pub rest : v ≡ record (after o (Get l at free)) { word = v.word }
-
 module _ (s : State) (law : Law s) (found : ℕ → ℕ) (counted : ℕ → Bool) (jobs : ℕ → ℕ) (l at : ℕ) where
   abbrev a : ℕ
   a = l * LOG_WORDS + at

@@ -11,5 +11,6 @@ pub mod Masked
 pub mod MayBe
 pub mod Others
 pub mod Quiet
+pub mod Ranges
 pub mod Rounds
 pub mod ShapeOf

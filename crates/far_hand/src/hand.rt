@@ -1,9 +1,10 @@
 //! The book's hand on the shared words.
 
-ghost use Rattle.std.specs.Prelude.{◌≡◌, ◌≢◌, ◌+◌, ◌*◌, ◌^◌, ◌<◌, ℕ, true, false, bit_or, Some, IfOk, IfErr};
+ghost use Rattle.std.specs.Prelude.{◌≡◌, ◌≢◌, ◌+◌, ◌*◌, ◌^◌, ◌<◌, ◌≤◌, ℕ, true, false, length, bit_or, Some, IfOk, IfErr};
 ghost use Rattle.far_word.specs.declared.mark.Mark.TheVariants.{Evac};
 ghost use Rattle.far_word.specs.declared.refused.Refused.TheVariants.{EpochsSpent};
 ghost use Rattle.far_word.specs.declared.sizes.TheConstants.{EPOCH_END, LOG_WORDS};
+ghost use Rattle.far_word.specs.Bytes.{packed_word};
 ghost use Rattle.far_word.specs.Mark.{position};
 ghost use Rattle.far_word.specs.Pointer.{read_of};
 ghost use Rattle.far_core.specs.declared.event.Event.{Event as any_event};
@@ -20,16 +21,18 @@ ghost use Rattle.far_hand.specs.FindsJob.{FindsJob, job_found};
 ghost use Rattle.far_hand.specs.Known.{IsKnown, Forgets, IsPaddedAt, KnowsLeaving, StoresLeaving};
 ghost use Rattle.far_hand.specs.MayBe.{Shows, Tells};
 ghost use Rattle.far_hand.specs.Quiet.{IsQuietAt};
+ghost use Rattle.far_hand.specs.Ranges.{CopiesRow, HasRead, IsPast, IsWithin, WritesRow};
 ghost use Rattle.far_hand.specs.Rounds.{IsScopeAt, MayChoose, looked_at};
 ghost use Rattle.far_hand.specs.ShapeOf.{shape_of};
 
+use crate::words::{packed_whole, unpack_word};
 use far_core::{Event, Reply, Shape};
 use far_word::{Place, Refused};
 
-/// The book's hand on the shared words. Each call is one event of [`far_core`] on at most one word, takes no memory and
-/// always answers.
+/// The book's hand on the shared words. Each call is one event of [`far_core`] on at most one word, or a row of such events, takes
+/// no memory and always answers.
 ///
-/// Between any two calls, and before each one, owners may add HOT, MOVE, DROP or DIRTY to a cell, change their scope words,
+/// Between any two events, and before each one, owners may add HOT, MOVE, DROP or DIRTY to a cell, change their scope words,
 /// and store into objects that aren't quiet; and copiers may take jobs that are offered, finish those that they took, and
 /// write to the targets of jobs that aren't finished.
 pub trait Near {
@@ -105,6 +108,55 @@ pub trait Near {
         requires legal { Legal (view self.old) (Event.Put log at word) }
         ensures set { view self.new ≡ after (view self.old) (Event.Put log at word) }
         ensures made { makes self.old (Event.Put log at word) Reply.Done self.new };
+
+    /// The first `count` data words behind one place become those behind another, one after the other: each is read, and then
+    /// written, as [`Near::get`] and [`Near::put`] do.
+    fn copy_words(&mut self, from: Place, to: Place, count: u16)
+        requires from { IsWithin (view self.old) from.log (from.at + 1) count }
+        requires to { IsPast (view self.old) to.log (to.at + 1) count }
+        ensures { CopiesRow still view makes from to 0 count self.old self.new }
+    {
+        for i in 0..count {
+            let word = self.get(from.log, from.at + 1 + i, false);
+            self.put(to.log, to.at + 1 + i, word);
+        }
+    }
+
+    /// So many words of a log, from word `at` on, are read one after the other as [`Near::get`] does, to the front of a row of
+    /// bytes, the low byte of each first.
+    fn get_words(&mut self, log: u8, at: u16, count: u16, row: &mut [u8])
+        requires within { IsWithin (view self.old) log at count }
+        requires room { 8 * count ≤ length row.old }
+        ensures words { HasRead still view makes log at self.old self.new count row.new }
+        ensures length { length row.new ≡ length row.old }
+    {
+        for i in 0..count {
+            let word = self.get(log, at + i, false);
+            unpack_word(row, i as usize, word);
+        }
+    }
+
+    /// So many words of a log, from word `at` on, are written one after the other as [`Near::put`] does: those of the first bytes
+    /// of a row, the low byte of each first.
+    fn put_words(&mut self, log: u8, at: u16, bytes: &[u8], count: u16)
+        requires past { IsPast (view self.old) log at count }
+        requires bytes { 8 * count ≤ length bytes.now }
+        ensures { WritesRow still view makes log at (packed_word bytes.now) 0 count self.old self.new }
+    {
+        for i in 0..count {
+            self.put(log, at + i, packed_whole(bytes, i as usize));
+        }
+    }
+
+    /// So many words of a log, from word `at` on, become 0, one after the other as [`Near::put`] does.
+    fn put_zeros(&mut self, log: u8, at: u16, count: u16)
+        requires past { IsPast (view self.old) log at count }
+        ensures { WritesRow still view makes log at (λ _. 0) 0 count self.old self.new }
+    {
+        for i in 0..count {
+            self.put(log, at + i, 0);
+        }
+    }
 
     /// The cell of a pointer goes from `old`, the word last found there, to `new`, where it still is `old`; words may be
     /// forgotten then. Else `Err` with the word that was found, and nothing has changed. Of an object with DIRTY that

@@ -9,9 +9,11 @@ mod hand;
 mod laws;
 mod owners;
 mod plain;
+mod words;
 
 pub use beset::Beset;
 pub use hand::Near;
 pub use laws::jobs_go_on;
 pub use owners::is_owners;
 pub use plain::Plain;
+pub use words::{packed_whole, unpack_word};

@@ -23,7 +23,8 @@ use Rattle.far_hand.proofs.Counting.{counts_none, counts_past, counts_read}
 use Rattle.far_hand.proofs.Finding.{near_found}
 use Rattle.far_hand.proofs.Masking.{lies, no_header}
 use Rattle.far_hand.proofs.Quietness.{quiet_fact, quiet_test}
-use Rattle.far_hand.proofs.Reading.{Gets, count_read, count_word, gets, may_free}
+use Rattle.far_hand.specs.Ranges.{Gets}
+use Rattle.far_hand.proofs.Reading.{count_read, count_word, gets, may_free}
 use Rattle.far_table.specs.View.{BookView, View, Book, OtherViews}
 use Rattle.far_table.specs.BookPlays.{Freed, Got, Putted}
 use Rattle.far_table.specs.BookTells.{BookTells}

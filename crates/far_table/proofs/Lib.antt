@@ -35,6 +35,7 @@ pub mod NameSteps
 pub mod BookJobs
 pub mod BookKnown
 pub mod BookRounds
+pub mod BookRows
 pub mod BookWords
 pub mod ViewedLogs
 pub mod Exchanges

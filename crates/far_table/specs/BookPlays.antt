@@ -15,7 +15,7 @@ use Rattle.far_hand.specs.Finds.{Finds}
 use Rattle.far_hand.specs.FindsJob.{FindsJob}
 use Rattle.far_hand.specs.Known.{StoresLeaving}
 use Rattle.far_hand.specs.Rounds.{IsScopeAt}
-use Rattle.far_hand.proofs.Reading.{Gets}
+use Rattle.far_hand.specs.Ranges.{Gets}
 use Rattle.far_table.specs.View.{View}
 use Rattle.far_table.specs.BookTells.{BookTells}
 use Rattle.far_table.specs.BookViews.{cleared_view, collected_view, freed_view, got_view, is_quiet_at, looked_view, marked_view, put_view, raised_view, saw_job_view, saw_view}

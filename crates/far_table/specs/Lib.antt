@@ -14,6 +14,7 @@ pub mod BookViews
 pub mod BookTells
 pub mod BookPlays
 pub mod Tabled
+pub mod BookRows
 pub mod BookSeats
 pub mod CopierPlays
 pub mod CopySeats

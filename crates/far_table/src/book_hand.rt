@@ -4,7 +4,7 @@ ghost use Rattle.far_core.specs.declared.event.Reply.{Reply as any_reply};
 ghost use Rattle.far_core.specs.events.Legal.{Legal};
 ghost use Rattle.far_core.specs.events.Step.{Fits, after};
 ghost use Rattle.far_hand.specs.Makers.{is_owners};
-ghost use Rattle.far_hand.proofs.Reading.{Gets};
+ghost use Rattle.far_hand.specs.Ranges.{Gets};
 ghost use Rattle.std.specs.Prelude.{◌≡◌, true, false};
 ghost use Rattle.far_core.specs.state.State.{State};
 ghost use Rattle.far_table.specs.BookSeats.{is_copiers, seat_makes, seat_may_be, seat_view};
@@ -12,6 +12,7 @@ ghost use Rattle.far_table.specs.Viewed.{NoneIsGivenOut};
 ghost use Rattle.far_table.specs.Whole.{IsWhole};
 
 use crate::book::BookSeat;
+use crate::book_rows::{copy_all, get_all, put_all, zero_all};
 use crate::layout::{CELLS, EPOCH, JOBS_AT, LINE, LOGS, SCOPES};
 use crate::rule;
 use far_core::{Event, Reply, Shape};
@@ -76,6 +77,34 @@ impl<D: Device> Near for BookSeat<D> {
             log as usize * LOG_WORDS as usize + at as usize + LOGS,
             word,
         );
+    }
+
+    fn copy_words(&mut self, from: Place, to: Place, count: u16) {
+        if count == 0 {
+            return;
+        }
+        copy_all::<D>(&self.table.shared, &mut self.seat, from, to, count);
+    }
+
+    fn get_words(&mut self, log: u8, at: u16, count: u16, row: &mut [u8]) {
+        if count == 0 {
+            return;
+        }
+        get_all::<D>(&self.table.shared, &mut self.seat, log, at, count, row);
+    }
+
+    fn put_words(&mut self, log: u8, at: u16, bytes: &[u8], count: u16) {
+        if count == 0 {
+            return;
+        }
+        put_all::<D>(&self.table.shared, &mut self.seat, log, at, bytes, count);
+    }
+
+    fn put_zeros(&mut self, log: u8, at: u16, count: u16) {
+        if count == 0 {
+            return;
+        }
+        zero_all::<D>(&self.table.shared, &mut self.seat, log, at, count);
     }
 
     fn name(&mut self, pointer: u16, old: u64, new: u64) -> Result<(), u64> {

@@ -7,6 +7,7 @@
 
 mod book;
 mod book_hand;
+mod book_rows;
 mod copy_seat;
 mod job_word;
 mod layout;

@@ -1,29 +1,25 @@
 -- Words behind words are one row of them.
-use Rattle.std.proofs.Common.{◌≡◌, ℕ, ◌+◌, ◌-◌, ◌*◌, ◌≤◌, ◌<◌, ◌∙◌, ap, arith, refl, inl, inr}
-use Rattle.std.specs.Prelude.{◌⊎◌}
-use Rattle.std.proofs.lemmas.Bool.{cases_lt}
+use Rattle.std.proofs.Common.{◌≡◌, ℕ, ◌+◌, ◌*◌, ◌<◌, ◌∙◌, ap, arith, refl}
+use Rattle.far_word.specs.declared.pointer.Place.{Place}
 use Rattle.far_word.specs.declared.sizes.TheConstants.{LOG_WORDS}
+use Rattle.far_word.specs.Header.{head_word}
+use Rattle.far_word.specs.Sizes.{words_for}
+use Rattle.far_core.specs.declared.event.Event.{Event}
+use Rattle.far_core.specs.declared.event.Reply.{Reply}
 use Rattle.far_core.specs.events.Ranges.{with_row}
-use Rattle.far_core.specs.state.State.{State, put}
-use Rattle.far_core.proofs.Rows.{row_in, row_none, row_out, row_is}
-use Rattle.far_book.specs.book.Blanks.{with_words, with_zeros}
+use Rattle.far_core.specs.state.State.{State, addr, put}
+use Rattle.far_core.proofs.Rows.{row_none}
+use Rattle.far_hand.specs.Came.{Came, only}
+use Rattle.far_hand.specs.Ranges.{WritesRow, WritesWord}
+use Rattle.far_hand.proofs.Closure.{first_call}
+use Rattle.far_hand.proofs.Ranges.{turns_came, turns_lead}
+use Rattle.far_book.specs.book.Effects.{with_written_span}
+use Rattle.far_book.specs.book.Only.{Writes}
 use Rattle.far_book.proofs.region.Copying.{row_last}
 
--- a second row goes on where the first ends
-rows_joined : (word row next : ℕ → ℕ) (a b n k m : ℕ) → b ≡ a + n → m ≡ n + k → ((j : ℕ) → j < k → next j ≡ row (n + j)) → with_row (with_row word a n row) b k next ≡ with_row word a m row
-rows_joined word row next a b n k m e sum goes = row_is word (with_row (with_row word a n row) b k next) a m row
-    (λ j low high. elim (cases_lt j b) [
-      | inl lt ↦ row_out (with_row word a n row) b k next j (inl lt) ∙ row_in word a n row j low (omega arith)
-      | inr le ↦ (let at : n + (j - b) ≡ j - a = omega arith in row_in (with_row word a n row) b k next j le (omega arith) ∙ (goes (j - b) (omega arith) ∙ ap row at))
-    ])
-    (λ j out. row_out (with_row word a n row) b k next j (outer j out) ∙ row_out word a n row j (inner j out)) where
-      outer : (j : ℕ) → (j < a) ⊎ (a + m ≤ j) → (j < b) ⊎ (b + k ≤ j)
-      outer j (inl low) = inl (omega arith)
-      outer j (inr high) = inr (omega arith)
-
-      inner : (j : ℕ) → (j < a) ⊎ (a + m ≤ j) → (j < a) ⊎ (a + n ≤ j)
-      inner j (inl low) = inl low
-      inner j (inr high) = inr (omega arith)
+-- these words are those of a row
+abbrev pub with_words : State → ℕ → ℕ → ℕ → (ℕ → ℕ) → State
+with_words s l at count row = record s { word = with_row s.word (l * LOG_WORDS + at) count row }
 
 -- a word goes on where they end
 pub word_then : (s t u : State) (l at n a w : ℕ) (row : ℕ → ℕ) → t ≡ with_words s l at n row → a ≡ l * LOG_WORDS + at + n → w ≡ row n → u ≡ record t { word = put t.word a w } → u ≡ with_words s l at (n + 1) row
@@ -35,11 +31,23 @@ word_then s t u l at n a w row first here is then =
 pub words_none : (s : State) (l at : ℕ) (row : ℕ → ℕ) → s ≡ with_words s l at 0 row
 words_none s l at row = ap (λ (f : ℕ → ℕ). record s { word = f }) (row_none s.word (l * LOG_WORDS + at) row)
 
--- words behind words
-pub words_joined : (s t u : State) (l at b n k m : ℕ) (row next : ℕ → ℕ) → t ≡ with_words s l at n row → b ≡ at + n → m ≡ n + k → ((j : ℕ) → j < k → next j ≡ row (n + j)) →
-    u ≡ with_words t l b k next → u ≡ with_words s l at m row
-words_joined s t u l at b n k m row next first e sum goes then = then ∙ ap (λ (x : State). with_words x l b k next) first
-    ∙ ap (λ (f : ℕ → ℕ). record s { word = f }) (rows_joined s.word row next (l * LOG_WORDS + at) (l * LOG_WORDS + b) n k m (omega arith) sum goes)
+-- a row of words that are written one after the other
+module _ {S : Type 0} (still : Type 0) (view : S → State) (makes : S → Event → Reply → S → Type 0) (l at : ℕ) (row : ℕ → ℕ) (n : ℕ) (s t : S) (h : WritesRow still view makes l at row 0 n s t) where
+  abbrev step : ℕ → S → S → Type 0
+  step i = WritesWord still view makes l (at + i) (row i)
 
-pub zeros_joined : (s t u : State) (l at b n k m : ℕ) → t ≡ with_zeros s l at n → b ≡ at + n → m ≡ n + k → u ≡ with_zeros t l b k → u ≡ with_zeros s l at m
-zeros_joined s t u l at b n k m first e sum then = words_joined s t u l at b n k m (λ _. 0) (λ _. 0) first e sum (λ j lt. refl) then
+  pub row_set : view t ≡ with_words (view s) l at n row
+  row_set = turns_lead step (λ k x. view x ≡ with_words (view s) l at k row) 0 n
+      (λ k u v lt w before. let e : 0 + k ≡ k = omega arith in
+      word_then (view s) (view u) (view v) l at k (l * LOG_WORDS + (at + (0 + k))) (row (0 + k)) row before (omega arith) (ap row e) w.set)
+      s t h (words_none (view s) l at row)
+
+  pub row_puts : Came (only (Writes l) makes) s t
+  row_puts = turns_came step {makes = only (Writes l) makes} (λ i u v w. first_call _ _ ((_, _, refl), w.made)) 0 n s t h
+
+-- a header, and a row behind it
+pub span_set : (s t u : State) (p len ds w n : ℕ) (place : Place) (row : ℕ → ℕ) → t ≡ record s { word = put s.word (addr place) w } → w ≡ head_word p len ds → n ≡ words_for len →
+    u ≡ with_words t place.log (place.at + 1) n row → u ≡ with_written_span s p len ds place row
+span_set s t u p len ds w n place row first head all then =
+    let e : place.log * LOG_WORDS + (place.at + 1) ≡ addr place + 1 = omega arith in
+    then ∙ ap (λ (x : State). with_words x place.log (place.at + 1) n row) first ∙ (λ i. record s { word = with_row (put s.word (addr place) (head i)) (e i) (all i) row })

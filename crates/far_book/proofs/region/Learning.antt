@@ -18,39 +18,6 @@ use Rattle.far_hand.specs.Quiet.{IsQuietAt}
 use Rattle.far_book.specs.book.Evicting.{IsQuietData, Learns}
 
 -- ---- bytes
-pub bytes_none : (f : ℕ → ℕ) → [] ≡ bytes_of f 0
-unfolding bytes_of
-bytes_none f = refl
-
--- the eight bytes of one word, written over a part
-pub word_unpacked : (xs ys : List ℕ) (i k n word : ℕ) → ys ≡ bytes_of (λ j. get_or (word ∷ []) j 0) n → n ≡ 8 → 8 * i ≤ length xs →
-    take (8 * i + 8) (put_mid (8 * i) k xs ys) ≡ take (8 * i) xs ++ bytes_of (λ _. word) 8
-word_unpacked xs ys i k n word is eight fits =
-    let eights : ys ≡ bytes_of (λ _. word) 8 = is ∙ ap (bytes_of (λ j. get_or (word ∷ []) j 0)) eight
-    ∙ bytes_of-same (λ j. get_or (word ∷ []) j 0) (λ _. word) 8 (λ j lt. let first : j ≡ 0 = omega arith in ap (λ q. get_or (word ∷ []) q 0) first) in
-    let long : length ys ≡ 8 = ap length eights ∙ length-bytes_of (λ _. word) 8 in
-    take-put_mid (8 * i) k xs ys (8 * i + 8) (omega arith) fits ∙ ap (λ zs. take (8 * i) xs ++ zs) eights
-
--- one word more
-pub bytes_more : (f g : ℕ → ℕ) (i word : ℕ) → ((j : ℕ) → j < i → g j ≡ f j) → g i ≡ word → bytes_of f (8 * i) ++ bytes_of (λ _. word) 8 ≡ bytes_of g (8 * i + 8)
-bytes_more f g i word old new = ext_get_or 0 _ _ long at where
-  front : length (bytes_of f (8 * i)) ≡ 8 * i
-  front = length-bytes_of f (8 * i)
-
-  long : length (bytes_of f (8 * i) ++ bytes_of (λ _. word) 8) ≡ length (bytes_of g (8 * i + 8))
-  long = length-append (bytes_of f (8 * i)) (bytes_of (λ _. word) 8) ∙ omega (arith, front, length-bytes_of (λ _. word) 8, length-bytes_of g (8 * i + 8))
-
-  at : (k : ℕ) → k < length (bytes_of f (8 * i) ++ bytes_of (λ _. word) 8) → get_or (bytes_of f (8 * i) ++ bytes_of (λ _. word) 8) k 0 ≡ get_or (bytes_of g (8 * i + 8)) k 0
-  at k lt = let small : k < 8 * i + 8 = omega (arith, long, length-bytes_of g (8 * i + 8)) in
-      elim (cases_lt k (8 * i)) [
-        | inl low ↦ get_or_append_left (bytes_of f (8 * i)) (bytes_of (λ _. word) 8) 0 k (omega (arith, front)) ∙ bytes_of-get f (8 * i) k low
-            ∙ ap (λ w. w / 2 ^ (8 * (k % 8)) % 256) (sym (old (k / 8) (omega arith))) ∙ sym (bytes_of-get g (8 * i + 8) k small)
-        | inr high ↦ (let rest : (k - 8 * i) % 8 ≡ k % 8 = omega arith in
-            let here : k / 8 ≡ i = omega arith in
-            get_or-append_right (bytes_of f (8 * i)) (bytes_of (λ _. word) 8) (8 * i) k 0 front high ∙ bytes_of-get (λ _. word) 8 (k - 8 * i) (omega arith)
-            ∙ ap (λ r. word / 2 ^ (8 * r) % 256) rest ∙ ap (λ w. w / 2 ^ (8 * (k % 8)) % 256) (sym (ap g here ∙ new)) ∙ sym (bytes_of-get g (8 * i + 8) k small))
-      ]
-
 -- the first of the bytes of whole words
 pub bytes_front : (f : ℕ → ℕ) (xs : List ℕ) (n len : ℕ) → len ≤ 8 * n → 8 * n ≤ length xs → take (8 * n) xs ≡ bytes_of f (8 * n) → take len xs ≡ bytes_of f len
 bytes_front f xs n len few fits front =
@@ -132,13 +99,3 @@ module _ (s t u : State) (len : ℕ) (place : Place) (i a w : ℕ) (object : IsQ
         subst (λ (f : ℕ → ℕ). Learns s f place (i + 1)) (sym word_is)
         (learns_more s t.word place i (object.bare i lt) before h w fits (subst (λ b. IsKnown (t.word b) → w ≡ t.word b) here same)
         (padded_same s t.word place i (object.bare i lt) before h (addr place + 1 + i) w t is (subst (λ b. IsPaddedAt t b w) here padded)))
-
-    pub bytes_then : (old new : List ℕ) → take (8 * i) old ≡ bytes_of (data_at t.word place) (8 * i) → take (8 * i + 8) new ≡ take (8 * i) old ++ bytes_of (λ _. w) 8 →
-        take (8 * (i + 1)) new ≡ bytes_of (data_at u.word place) (8 * (i + 1))
-    bytes_then old new front more =
-        let end : 8 * i + 8 ≡ 8 * (i + 1) = omega arith in
-        let there : (j : ℕ) → j < i → u.word (addr place + 1 + j) ≡ t.word (addr place + 1 + j) = (λ j below. ap (λ (f : ℕ → ℕ). f (addr place + 1 + j)) word_is
-        ∙ put_other t.word (addr place + 1 + i) w (addr place + 1 + j) (λ e. omega arith)) in
-        let last : u.word (addr place + 1 + i) ≡ w = ap (λ (f : ℕ → ℕ). f (addr place + 1 + i)) word_is ∙ put_same t.word (addr place + 1 + i) w (addr place + 1 + i) refl in
-        subst (λ n. take n new ≡ bytes_of (data_at u.word place) n) end
-        (more ∙ ap (λ xs. xs ++ bytes_of (λ _. w) 8) front ∙ bytes_more (data_at t.word place) (data_at u.word place) i w there last)

@@ -1,34 +1,62 @@
--- An object is read on: what is read after what was read.
-use Rattle.std.proofs.Common.{◌≡◌, ℕ, ◌+◌, arith, sym, refl, subst, List}
+-- An object is read word by word: what is known of its words then.
+use Rattle.std.proofs.Common.{◌≡◌, ℕ, ◌+◌, ◌*◌, ◌<◌, ◌≤◌, ◌∙◌, ap, arith, refl, sym, List, take, inl, inr}
+use Rattle.std.proofs.lemmas.Bool.{cases_eq}
 use Rattle.far_word.specs.declared.pointer.Place.{Place}
+use Rattle.far_word.specs.declared.sizes.TheConstants.{LOG_WORDS}
+use Rattle.far_word.specs.Bytes.{bytes_of}
+use Rattle.far_word.specs.Sizes.{words_for}
+use Rattle.far_word.proofs.ByteLaws.{bytes_of-same}
+use Rattle.far_core.specs.declared.event.Event.{Event}
+use Rattle.far_core.specs.declared.event.Reply.{Reply}
 use Rattle.far_core.specs.events.Copies.{data_at}
-use Rattle.far_core.specs.state.State.{State}
-use Rattle.far_book.specs.book.Evicting.{HasRead, ReadsOn}
-use Rattle.far_book.proofs.region.Learning.{bytes_none, learns_none}
+use Rattle.far_core.specs.state.State.{State, addr, put}
+use Rattle.far_core.proofs.Put.{put_other, put_same}
+use Rattle.far_hand.specs.Came.{Came, only}
+use Rattle.far_hand.specs.Ranges.{ReadsRow, ReadsWord}
+use Rattle.far_hand.proofs.Closure.{first_call}
+use Rattle.far_hand.proofs.Ranges.{turns_came, turns_keep, turns_lead}
+use Rattle.far_book.specs.book.Evicting.{IsQuietData, Learns}
+use Rattle.far_book.specs.book.Only.{Reads}
+use Rattle.far_book.proofs.region.Learning.{learned_more, learns_none, quiet_now}
 
-pub read_none : (s : State) (place : Place) (row : List ℕ) → HasRead s s place 0 row
-read_none s place row = record { kept = refl; learned = learns_none s place; bytes = bytes_none (data_at s.word place) }
+-- from s to t the first k words behind a place were read alone: they are known, and those of a row
+pub record Known (s t : State) (place : Place) (row : ℕ → ℕ) (k : ℕ) : Type 0 where
+  pub kept : t ≡ record s { word = t.word }
+  pub learned : Learns s t.word place k
+  pub words : (j : ℕ) → j < k → t.word (addr place + 1 + j) ≡ row j
 
-pub on_none : (t : State) (place : Place) (row : List ℕ) → ReadsOn t t place 0 0 row row
-on_none t place row s len object few h = h
+module _ {S : Type 0} (still : Type 0) (view : S → State) (makes : S → Event → Reply → S → Type 0) (place : Place) (row : ℕ → ℕ) where
+  abbrev step : ℕ → S → S → Type 0
+  step i = ReadsWord still view makes place.log (place.at + 1 + i) (row i)
 
--- some, and more behind them
-pub on_both : (t u v : State) (place : Place) (i n at k m : ℕ) (xs ys zs : List ℕ) → at ≡ i + n → m ≡ n + k → ReadsOn t u place i n xs ys → ReadsOn u v place at k ys zs → ReadsOn t v place i m xs zs
-on_both t u v place i n at k m xs ys zs here sum first then s len object few h =
-    let middle : i + n ≡ at = sym here in
-    let end : at + k ≡ i + m = omega arith in
-    let one : HasRead s u place (i + n) ys = first s len object (omega (arith, few)) h in
-    let two : HasRead s v place (at + k) zs = then s len object (omega (arith, few)) (subst (λ q. HasRead s u place q ys) middle one) in
-    subst (λ q. HasRead s v place q zs) end two
+  known_none : (s : State) → Known s s place row 0
+  known_none s = record { kept = refl; learned = learns_none s place; words = λ j lt. absurd (omega arith) }
 
--- from the first word on
-pub on_then : (t u v : State) (place : Place) (n k m : ℕ) (xs ys zs : List ℕ) → m ≡ n + k → ReadsOn t u place 0 n xs ys → ReadsOn u v place n k ys zs → ReadsOn t v place 0 m xs zs
-on_then t u v place n k m xs ys zs sum first then = on_both t u v place 0 n n k m xs ys zs (omega arith) sum first then
+  known_more : (s : State) (len k i : ℕ) (u v : S) → IsQuietData s len place → k < words_for len → i ≡ k → step i u v → Known s (view u) place row k → Known s (view v) place row (k + 1)
+  known_more s len k i u v object lt same h b =
+      let a : ℕ = place.log * LOG_WORDS + (place.at + 1 + i) in
+      let here : a ≡ addr place + 1 + k = omega (arith, same) in
+      let read = h.gets.read refl (quiet_now s (view u) (view v) len place k a (row i) object b.kept b.learned lt here) in
+      let word_is : (view v).word ≡ put (view u).word a (row i) = ap (λ (x : State). x.word) read in record {
+        kept = h.gets.rest ∙ ap (λ (x : State). record x { word = (view v).word }) b.kept;
+        learned = learned_more s (view u) (view v) len place k a (row i) object b.kept b.learned lt here read h.fits h.gets.known h.gets.padding;
+        words = λ j low. elim (cases_eq j k) [
+          | inl e ↦ (let last : i ≡ j = omega (arith, same, e) in
+              ap (λ f. f (addr place + 1 + j)) word_is ∙ put_same (view u).word a (row i) (addr place + 1 + j) (omega (arith, here, e)) ∙ ap row last)
+          | inr ne ↦ ap (λ f. f (addr place + 1 + j)) word_is ∙ put_other (view u).word a (row i) (addr place + 1 + j) (λ e. ne (omega (arith, here, e))) ∙ b.words j (omega (arith, low, ne))
+        ];
+      }
 
-pub on_four : (t u v w x : State) (place : Place) (i : ℕ) (vs ws xs ys zs : List ℕ) → ReadsOn t u place (i + 0) 1 vs ws → ReadsOn u v place (i + 1) 1 ws xs → ReadsOn v w place (i + 2) 1 xs ys →
-    ReadsOn w x place (i + 3) 1 ys zs → ReadsOn t x place i 4 vs zs
-on_four t u v w x place i vs ws xs ys zs first second third fourth =
-    let same : i + 0 ≡ i = omega arith in
-    on_both t w x place i 3 (i + 3) 1 4 vs ys zs refl refl
-    (on_both t v w place i 2 (i + 2) 1 3 vs xs ys refl refl
-    (on_both t u v place i 1 (i + 1) 1 2 vs ws xs refl refl (subst (λ q. ReadsOn t u place q 1 vs ws) same first) second) third) fourth
+  module _ (n : ℕ) (s t : S) (h : ReadsRow still view makes place.log (place.at + 1) row 0 n s t) where
+    pub row_known : (len : ℕ) → IsQuietData (view s) len place → n ≤ words_for len → Known (view s) (view t) place row n
+    row_known len object few = turns_lead step (λ k x. Known (view s) (view x) place row k) 0 n (λ k u v lt w before. known_more (view s) len k (0 + k) u v object (omega (arith, lt, few)) (omega arith) w before) s t h (known_none (view s))
+
+    pub row_same : still → view t ≡ view s
+    row_same on = turns_keep step (λ x. view x ≡ view s) (λ i u v w e. w.same on ∙ e) 0 n s t h refl
+
+    pub row_reads : Came (only (Reads place.log) makes) s t
+    row_reads = turns_came step {makes = only (Reads place.log) makes} (λ i u v w. first_call _ _ ((_, refl), w.made)) 0 n s t h
+
+-- so are the bytes in front of a row
+pub bytes_known : (s t : State) (place : Place) (row : ℕ → ℕ) (n : ℕ) (xs : List ℕ) → Known s t place row n → take (8 * n) xs ≡ bytes_of row (8 * n) → take (8 * n) xs ≡ bytes_of (data_at t.word place) (8 * n)
+bytes_known s t place row n xs h front = front ∙ bytes_of-same row (data_at t.word place) (8 * n) (λ j lt. sym (h.words j (omega (arith, lt))))

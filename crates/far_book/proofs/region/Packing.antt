@@ -6,13 +6,7 @@ use Rattle.std.proofs.lemmas.List.{get_or-take, get_or-drop, get_or_past, length
 use lib.Pow.{pow_mono}
 use Rattle.far_word.specs.Bytes.{packed_word, word_at}
 use Rattle.far_word.specs.Sizes.{words_for}
-
--- the word of some bytes that are those from 8i on
-packs_part : (bs xs : List ℕ) (i : ℕ) → ((k : ℕ) → k < 8 → get_or xs k 0 ≡ get_or bs (8 * i + k) 0) → packed_word xs 0 ≡ packed_word bs i
-packs_part bs xs i h =
-    let same : 8 * i + 0 ≡ 8 * i = omega arith in
-    let first : get_or xs 0 0 ≡ get_or bs (8 * i) 0 = h 0 (omega arith) ∙ ap (λ q. get_or bs q 0) same in
-    omega (arith, first, h 1 (omega arith), h 2 (omega arith), h 3 (omega arith), h 4 (omega arith), h 5 (omega arith), h 6 (omega arith), h 7 (omega arith))
+use Rattle.far_hand.proofs.ByteRows.{packs_part}
 
 -- the same, as code slices them
 module _ (bs : List ℕ) (i m : ℕ) (inside : 8 * i < length bs) where
@@ -30,14 +24,6 @@ module _ (bs : List ℕ) (i m : ℕ) (inside : 8 * i < length bs) where
     | inl below ↦ get_or-take m behind k 0 below ∙ get_or-take (length bs - 8 * i) (drop (8 * i) bs) k 0 (omega (arith, least, rest_length)) ∙ get_or-drop (8 * i) bs k 0
     | inr past ↦ get_or_past (take m behind) k 0 (omega (arith, part_length least)) ∙ sym (get_or_past bs (8 * i + k) 0 (omega (arith, least, rest_length)))
   ])
-
--- the same of eight bytes that are there
-module _ (bs : List ℕ) (i m : ℕ) (eight : m ≡ 8) (inside : 8 * i + 8 ≤ length bs) where
-  pub whole_length : length (take m (drop (8 * i) bs)) ≡ 8
-  whole_length = length-take-le m (drop (8 * i) bs) (omega (arith, eight, length-drop (8 * i) bs)) ∙ eight
-
-  pub packs_whole : packed_word (take m (drop (8 * i) bs)) 0 ≡ packed_word bs i
-  packs_whole = packs_part bs (take m (drop (8 * i) bs)) i (λ k lt. get_or-take m (drop (8 * i) bs) k 0 (omega (arith, eight)) ∙ get_or-drop (8 * i) bs k 0)
 
 -- a word of eight bytes is 64 bits wide
 word_wide : (byte : ℕ → ℕ) (i : ℕ) → ((k : ℕ) → byte k < 256) → word_at byte i < 2 ^ 64

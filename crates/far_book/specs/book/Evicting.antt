@@ -1,13 +1,11 @@
 -- What an eviction asks and learns, and what it leaves.
-use Rattle.std.specs.Prelude.{◌≡◌, ◌≢◌, ℕ, ◌+◌, ◌*◌, ◌<◌, ◌≤◌, true, false, Some, List, take}
+use Rattle.std.specs.Prelude.{◌≡◌, ◌≢◌, ℕ, ◌+◌, ◌*◌, ◌<◌, ◌≤◌, true, false, Some}
 use Rattle.far_word.specs.declared.mark.Marks.{Marks}
 use Rattle.far_word.specs.declared.pointer.Place.{Place}
 use Rattle.far_word.specs.declared.pointer.PtrWord.TheVariants.{Near, Far}
 use Rattle.far_word.specs.declared.sizes.TheConstants.{LOG_WORDS, LONGEST}
-use Rattle.far_word.specs.Bytes.{bytes_of}
 use Rattle.far_word.specs.Pointer.{read_of}
 use Rattle.far_word.specs.Sizes.{words_for}
-use Rattle.far_core.specs.events.Copies.{data_at}
 use Rattle.far_core.specs.events.Naming.{is_dropped, no_marks}
 use Rattle.far_core.specs.state.State.{State, addr}
 use Rattle.far_hand.specs.Known.{IsKnown, IsPaddedAt, KeepsKnown}
@@ -34,16 +32,6 @@ pub record Learns (s : State) (word : ℕ → ℕ) (place : Place) (n : ℕ) : T
   pub same : (i : ℕ) → i < n → IsKnown (s.word (addr place + 1 + i)) → word (addr place + 1 + i) ≡ s.word (addr place + 1 + i)
   pub padded : (i : ℕ) → i < n → IsPaddedAt s (addr place + 1 + i) (word (addr place + 1 + i))
   pub others : (a : ℕ) → ((i : ℕ) → i < n → a ≢ addr place + 1 + i) → word a ≡ s.word a
-
--- from s to t the first n words behind a place were read alone, and their bytes stand in front of a row
-pub record HasRead (s t : State) (place : Place) (n : ℕ) (row : List ℕ) : Type 0 where
-  pub kept : t ≡ record s { word = t.word }
-  pub learned : Learns s t.word place n
-  pub bytes : take (8 * n) row ≡ bytes_of (data_at t.word place) (8 * n)
-
--- where the first i words behind a place are read, a way from t to u reads k more, whatever quiet object lies there
-abbrev pub ReadsOn : State → State → Place → ℕ → ℕ → List ℕ → List ℕ → Type 0
-ReadsOn t u place i k old new = (s : State) (len : ℕ) → IsQuietData s len place → i + k ≤ words_for len → HasRead s t place i old → HasRead s u place (i + k) new
 
 -- from s to t p's object has gone far, in a state as far as it is known: what is stored are words that it had;
 -- its owner hadn't asked for it to be dropped, and its cell says far, without marks

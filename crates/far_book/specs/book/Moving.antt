@@ -47,18 +47,6 @@ pub record Copying (s t : State) (p len ds : ℕ) (from to : Place) (n : ℕ) : 
 abbrev pub with_copied : State → ℕ → ℕ → ℕ → Place → Place → ℕ → State
 with_copied s p len ds from to n = record s { word = with_row (put s.word (addr to) (head_word p len ds)) (addr to + 1) n (data_at s.word from) }
 
--- of some object n words are copied, and k words more are its words too
-abbrev pub CopiesMore : State → Place → Place → ℕ → ℕ → Type 0
-CopiesMore t from to n k = (s : State) × (p : ℕ) × (len : ℕ) × (ds : ℕ) × MayCopy s p len ds from to × Copying s t p len ds from to n × (n + k ≤ words_for len)
-
--- of each object of which n words were copied k words more are copied
-abbrev pub HasCopied : State → State → Place → Place → ℕ → ℕ → Type 0
-HasCopied t u from to n k = (s : State) (p len ds : ℕ) → MayCopy s p len ds from to → n + k ≤ words_for len → Copying s t p len ds from to n → Copying s u p len ds from to (n + k)
-
--- the same exactly
-abbrev pub CopiedOnly : State → State → Place → Place → ℕ → ℕ → Type 0
-CopiedOnly t u from to n k = (s : State) (p len ds : ℕ) → MayCopy s p len ds from to → n + k ≤ words_for len → t ≡ with_copied s p len ds from to n → u ≡ with_copied s p len ds from to (n + k)
-
 -- from s to t a header and the object's data words were written at the place; nothing else but words that were learned is another
 pub record Copied (s t : State) (p len ds : ℕ) (from to : Place) : Type 0 where
   pub is : t ≡ record s { word = t.word }

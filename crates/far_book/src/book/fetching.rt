@@ -13,7 +13,6 @@ ghost use Rattle.far_core.specs.events.Naming.{is_dropped, no_marks};
 ghost use Rattle.far_core.specs.state.Law.{IsStored};
 ghost use Rattle.far_hand.specs.Finds.{Finds};
 ghost use Rattle.far_hand.specs.Came.{Came, only};
-ghost use Rattle.far_book.specs.book.Blanks.{IsPast, with_words};
 ghost use Rattle.far_book.specs.book.Calls.{FetchesObject};
 ghost use Rattle.far_book.specs.book.Effects.{fetched, near_word, with_written_span};
 ghost use Rattle.far_book.specs.book.Fetching.{IsFar};
@@ -26,7 +25,7 @@ use crate::book::renaming::rename;
 use crate::book::words::near_word;
 use far_device::{Device, DeviceFault};
 use far_hand::Near;
-use far_word::{HeadWord, LOG_WORDS, Place, PtrWord, Refused, pack_bytes, size_of, words_for};
+use far_word::{HeadWord, Place, PtrWord, Refused, pack_bytes, size_of, words_for};
 use std::mem;
 
 impl<N: Near + Drop, D: Device + Drop> Book<N, D> {
@@ -135,7 +134,7 @@ fn put_object<N: Near>(near: &mut N, pointer: u16, len: u16, ds: u8, place: Plac
     let header = HeadWord { pointer, len, ds };
     near.put(place.log, place.at, header.pack());
     let whole = len / 8;
-    put_words(near, place.log, place.at + 1, bytes, whole);
+    near.put_words(place.log, place.at + 1, bytes, whole);
     if whole < words_for(len) {
         near.put(
             place.log,
@@ -143,60 +142,6 @@ fn put_object<N: Near>(near: &mut N, pointer: u16, len: u16, ds: u8, place: Plac
             packed(bytes, whole as usize),
         );
     }
-}
-
-// Writes the first so many words of a row of bytes to words of a log, from one on.
-fn put_words<N: Near>(near: &mut N, log: u8, at: u16, bytes: &[u8], count: u16)
-    requires past { IsPast (N.view near.old) log at count }
-    requires bytes { 8 * count ≤ length bytes.now }
-    ensures set { N.view near.new ≡ with_words (N.view near.old) log at count (packed_word bytes.now) }
-    ensures puts { Came (only (Writes log) N.makes) near.old near.new }
-{
-    let fours = count / 4;
-    put_by_fours(near, log, at, bytes, fours);
-    for i in 4 * fours..count {
-        near.put(log, at + i, packed_whole(bytes, i as usize));
-    }
-}
-
-// The same, four words at a time.
-fn put_by_fours<N: Near>(near: &mut N, log: u8, at: u16, bytes: &[u8], fours: u16)
-    requires past { IsPast (N.view near.old) log at (4 * fours) }
-    requires bytes { 32 * fours ≤ length bytes.now }
-    ensures set { N.view near.new ≡ with_words (N.view near.old) log at (4 * fours) (packed_word bytes.now) }
-    ensures puts { Came (only (Writes log) N.makes) near.old near.new }
-{
-    for i in 0..fours {
-        put_four_words(near, log, at, bytes, 4 * i);
-    }
-}
-
-// Writes four words of a row of bytes, those from `i` on, to words of a log.
-#[inline(always)]
-fn put_four_words<N: Near>(near: &mut N, log: u8, at: u16, bytes: &[u8], i: u16)
-    requires past { IsPast (N.view near.old) log (at + i) 4 }
-    requires bytes { 8 * i + 32 ≤ length bytes.now }
-    ensures set { N.view near.new ≡ with_words (N.view near.old) log (at + i) 4 (λ j. packed_word bytes.now (i + j)) }
-    ensures puts { Came (only (Writes log) N.makes) near.old near.new }
-{
-    // So LLVM knows that the sums stay in range, and finds all four words from one address.
-    let first = (at + i) % LOG_WORDS;
-    let i = i as usize;
-    near.put(log, first, packed_whole(bytes, i));
-    near.put(log, first + 1, packed_whole(bytes, i + 1));
-    near.put(log, first + 2, packed_whole(bytes, i + 2));
-    near.put(log, first + 3, packed_whole(bytes, i + 3));
-}
-
-// The word of the eight bytes from 8i on.
-#[inline(always)]
-fn packed_whole(bytes: &[u8], i: usize) -> u64
-    requires { 8 * i + 8 ≤ length bytes.now }
-    ensures { result ≡ packed_word bytes.now i }
-{
-    let mut word = [0];
-    pack_bytes(&bytes[8 * i..8 * i + 8], &mut word);
-    word[0]
 }
 
 // The word of the eight bytes from 8i on, or of those that are left.

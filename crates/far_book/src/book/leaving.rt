@@ -1,9 +1,9 @@
 //! How an object goes far: the device holds its bytes before its cell says so.
 
-ghost use Rattle.std.specs.Prelude.{◌≡◌, ◌⊎◌, ◌+◌, ◌*◌, ◌<◌, ◌≤◌, ◌++◌, true, false, not, take, length, Some, None, IfOk, IfErr, IfSome};
+ghost use Rattle.std.specs.Prelude.{◌≡◌, ◌⊎◌, ◌+◌, ◌*◌, ◌<◌, ◌≤◌, true, false, not, take, length, Some, None, IfOk, IfErr, IfSome};
 ghost use Rattle.std.specs.Vec.{vec_capacity, vec_len};
 ghost use Rattle.far_word.specs.declared.refused.Refused.TheVariants.{Memory, Device as Failed};
-ghost use Rattle.far_word.specs.declared.sizes.TheConstants.{CELLS, LOG_WORDS, LONGEST};
+ghost use Rattle.far_word.specs.declared.sizes.TheConstants.{CELLS, LONGEST};
 ghost use Rattle.far_word.specs.Bytes.{bytes_of};
 ghost use Rattle.far_word.specs.Pointer.{read_of};
 ghost use Rattle.far_word.specs.Sizes.{words_for};
@@ -19,7 +19,7 @@ ghost use Rattle.far_book.specs.book.Dealing.{IsRetired, IsSeen, has_evac, is_fa
 ghost use Rattle.far_hand.specs.Quiet.{IsQuietNear};
 ghost use Rattle.far_book.specs.book.Actions.{Does, Evicts};
 ghost use Rattle.far_book.specs.book.Effects.{evicted, far_word};
-ghost use Rattle.far_book.specs.book.Evicting.{GoesFar, IsQuietData, IsQuietIn, Learns, ReadsOn};
+ghost use Rattle.far_book.specs.book.Evicting.{GoesFar, IsQuietData, IsQuietIn, Learns};
 ghost use Rattle.far_book.specs.book.Only.{Names, Reads};
 ghost use Rattle.far_book.specs.book.Renaming.{Renamed, seen, stops};
 ghost use Rattle.far_book.specs.book.Sending.{Sends};
@@ -29,7 +29,7 @@ use crate::book::renaming::{is_dirty, is_dropped, rename};
 use crate::book::words::far_word;
 use far_device::{Device, DeviceFault};
 use far_hand::Near;
-use far_word::{LOG_WORDS, Place, PtrWord, Refused, size_of, unpack_bytes, words_for};
+use far_word::{Place, PtrWord, Refused, size_of, words_for};
 use std::mem;
 
 impl<N: Near + Drop, D: Device + Drop> Book<N, D> {
@@ -213,69 +213,5 @@ fn read_object<N: Near>(near: &mut N, len: u16, place: Place, row: &mut [u8])
     ensures bytes { take len row.new ≡ bytes_of (data_at (N.view near.new).word place) len }
     ensures length { length row.new ≡ length row.old }
 {
-    let words = words_for(len);
-    let fours = words / 4;
-    read_fours(near, place, fours, row);
-    for i in 4 * fours..words {
-        read_word(near, place, i, 0, row);
-    }
-}
-
-// Reads the first data words of an object, four at a time.
-fn read_fours<N: Near>(near: &mut N, place: Place, fours: u16, row: &mut [u8])
-    requires log { place.log < (N.view near.old).logs }
-    requires inside { place.at + 4 * fours < LOG_WORDS }
-    requires room { 32 * fours ≤ length row.old }
-    ensures on { ReadsOn (N.view near.old) (N.view near.new) place 0 (4 * fours) row.old row.new }
-    ensures exact { N.still → N.view near.new ≡ N.view near.old }
-    ensures reads { Came (only (Reads place.log) N.makes) near.old near.new }
-    ensures length { length row.new ≡ length row.old }
-{
-    for i in 0..fours {
-        read_four(near, place, 4 * i, row);
-    }
-}
-
-// Reads four data words of an object, those from `i` on.
-#[inline(always)]
-fn read_four<N: Near>(near: &mut N, place: Place, i: u16, row: &mut [u8])
-    requires log { place.log < (N.view near.old).logs }
-    requires inside { place.at + i + 4 < LOG_WORDS }
-    requires room { 8 * i + 32 ≤ length row.old }
-    ensures on { ReadsOn (N.view near.old) (N.view near.new) place i 4 row.old row.new }
-    ensures logs { (N.view near.new).logs ≡ (N.view near.old).logs }
-    ensures exact { N.still → N.view near.new ≡ N.view near.old }
-    ensures reads { Came (only (Reads place.log) N.makes) near.old near.new }
-    ensures length { length row.new ≡ length row.old }
-{
-    read_word(near, place, i, 0, row);
-    read_word(near, place, i, 1, row);
-    read_word(near, place, i, 2, row);
-    read_word(near, place, i, 3, row);
-}
-
-// Reads data word `i + j` of an object.
-#[inline(always)]
-fn read_word<N: Near>(near: &mut N, place: Place, i: u16, j: u16, row: &mut [u8])
-    requires log { place.log < (N.view near.old).logs }
-    requires inside { place.at + (i + j) + 1 < LOG_WORDS }
-    requires room { 8 * (i + j) + 8 ≤ length row.old }
-    ensures on { ReadsOn (N.view near.old) (N.view near.new) place (i + j) 1 row.old row.new }
-    ensures logs { (N.view near.new).logs ≡ (N.view near.old).logs }
-    ensures exact { N.still → N.view near.new ≡ N.view near.old }
-    ensures reads { Came (only (Reads place.log) N.makes) near.old near.new }
-    ensures length { length row.new ≡ length row.old }
-{
-    // So LLVM knows that the sums stay in range, and finds words in a row from one address.
-    let first = (place.at + 1 + i) % LOG_WORDS;
-    let word = near.get(place.log, first + j, false);
-    unpack_word(row, i as usize + j as usize, word);
-}
-
-// Writes the bytes of a word over the eight from 8i on.
-fn unpack_word(bytes: &mut [u8], i: usize, word: u64)
-    requires { 8 * i + 8 ≤ length bytes.old }
-    ensures { take (8 * i + 8) bytes.new ≡ take (8 * i) bytes.old ++ bytes_of (λ _. word) 8 }
-{
-    unpack_bytes(&[word], &mut bytes[8 * i..8 * i + 8]);
+    near.get_words(place.log, place.at + 1, words_for(len), row);
 }

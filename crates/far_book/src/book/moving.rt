@@ -11,14 +11,14 @@ ghost use Rattle.far_hand.specs.Quiet.{IsQuietNear};
 ghost use Rattle.far_hand.specs.Came.{Came, only};
 ghost use Rattle.far_book.specs.book.Calls.{MovesObject};
 ghost use Rattle.far_book.specs.book.Effects.{moved, order_after, stayed, with_written_span};
-ghost use Rattle.far_book.specs.book.Moving.{Copied, CopiedOnly, CopiesMore, HasCopied, MayCopy, MayStay};
+ghost use Rattle.far_book.specs.book.Moving.{Copied, MayCopy, MayStay};
 ghost use Rattle.far_book.specs.book.Only.{NamesNear};
 
 use crate::book::Book;
 use crate::book::renaming::{is_dropped, rename_near};
 use far_device::Device;
 use far_hand::Near;
-use far_word::{HeadWord, LOG_WORDS, Place, PtrWord, Refused, size_of, words_for};
+use far_word::{HeadWord, Place, PtrWord, Refused, size_of, words_for};
 
 impl<N: Near + Drop, D: Device + Drop> Book<N, D> {
     /// Moves a near object that nobody stores into, and answers where it lies then, without marks. Where the book wants its log,
@@ -145,53 +145,7 @@ fn copy_object<N: Near>(near: &mut N, pointer: u16, len: u16, ds: u8, from: Plac
 {
     let header = HeadWord { pointer, len, ds };
     near.put(to.log, to.at, header.pack());
-    let words = words_for(len);
-    let fours = words / 4;
-    copy_fours(near, from, to, fours);
-    for i in 4 * fours..words {
-        copy_word(near, from, to, i, 0);
-    }
-}
-
-// Copies the first data words of an object whose header stands, four at a time.
-fn copy_fours<N: Near>(near: &mut N, from: Place, to: Place, fours: u16)
-    requires { CopiesMore (N.view near.old) from to 0 (4 * fours) }
-    ensures copied { HasCopied (N.view near.old) (N.view near.new) from to 0 (4 * fours) }
-    ensures exact { N.still → CopiedOnly (N.view near.old) (N.view near.new) from to 0 (4 * fours) }
-    ensures came { Came N.makes near.old near.new }
-{
-    for i in 0..fours {
-        copy_four(near, from, to, 4 * i);
-    }
-}
-
-// Copies four data words of an object, those from `i` on.
-#[inline(always)]
-fn copy_four<N: Near>(near: &mut N, from: Place, to: Place, i: u16)
-    requires { CopiesMore (N.view near.old) from to i 4 }
-    ensures copied { HasCopied (N.view near.old) (N.view near.new) from to i 4 }
-    ensures exact { N.still → CopiedOnly (N.view near.old) (N.view near.new) from to i 4 }
-    ensures came { Came N.makes near.old near.new }
-{
-    copy_word(near, from, to, i, 0);
-    copy_word(near, from, to, i, 1);
-    copy_word(near, from, to, i, 2);
-    copy_word(near, from, to, i, 3);
-}
-
-// Copies data word `i + j` of an object.
-#[inline(always)]
-fn copy_word<N: Near>(near: &mut N, from: Place, to: Place, i: u16, j: u16)
-    requires { CopiesMore (N.view near.old) from to (i + j) 1 }
-    ensures copied { HasCopied (N.view near.old) (N.view near.new) from to (i + j) 1 }
-    ensures exact { N.still → CopiedOnly (N.view near.old) (N.view near.new) from to (i + j) 1 }
-    ensures came { Came N.makes near.old near.new }
-{
-    // So LLVM knows that the sums stay in range, and finds words in a row from one address.
-    let first = (from.at + 1 + i) % LOG_WORDS;
-    let next = (to.at + 1 + i) % LOG_WORDS;
-    let word = near.get(from.log, first + j, false);
-    near.put(to.log, next + j, word);
+    near.copy_words(from, to, words_for(len));
 }
 
 // Copies an object to a place, which its cell names from then on. `false` where its owner has dropped it meanwhile, as its

@@ -8,7 +8,8 @@ use Rattle.far_core.specs.state.State.{State}
 use Rattle.far_hand.specs.BesetView.{beset_view}
 use Rattle.far_hand.specs.Masked.{masked, word_at, is_counted, recounted, AllFind, AllFindJobs, CountsOnRest}
 use Rattle.far_hand.proofs.Counting.{counts_read}
-use Rattle.far_hand.proofs.Reading.{Gets, gets, may_free, stays_after}
+use Rattle.far_hand.specs.Ranges.{Gets}
+use Rattle.far_hand.proofs.Reading.{gets, may_free, stays_after}
 use Rattle.far_core.specs.declared.event.Reply.TheVariants.{Word}
 use Rattle.far_hand.proofs.Making.{turn_then}
 use Rattle.far_hand.proofs.beset.hand.BesetNear.get.Goals as goal

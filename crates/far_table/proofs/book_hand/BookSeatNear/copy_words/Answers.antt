@@ -1,0 +1,32 @@
+use Rattle.std.proofs.Common.{◌≡◌, refl, sym, ap, subst}
+use Rattle.std.specs.Arc.{arc_value}
+use Rattle.atomic_table.specs.Seated.{TableId}
+use Rattle.far_hand.specs.Ranges.{CopiesRow}
+use Rattle.far_table.specs.BookRows.{PartOk, part_makes, part_view}
+use Rattle.far_table.specs.BookSeats.{seat_makes, seat_view}
+use Rattle.far_table.proofs.BookRows.{copies_lift, copies_ok, own_part}
+use Rattle.far_table.proofs.book_hand.BookSeatNear.copy_words.Goals as goal
+
+pub copy_all-requires : goal.copy_all-requires
+copy_all-requires g c =
+    let s = c.args.self.now in
+    record { part = (s.logs, s.mutators, s.epoch, own_part s _ (ap (λ t. t.shared.table_id) c.deref.ensures)); from = c.requires.from; to = c.requires.to }
+
+pub invariant_of-self : goal.invariant_of-self
+invariant_of-self g c =
+    let s = c.args.self.now in
+    let same : c.deref.result.shared.table_id ≡ (arc_value s.table).shared.table_id = ap (λ t. t.shared.table_id) c.deref.ensures in
+    let part = own_part s _ same in
+    let row = c.copy_all.ensures s.logs s.mutators s.epoch part in
+    let ok = subst (λ (h : TableId). PartOk h s.logs s.mutators s.epoch c.copy_all.new.seat) same (copies_ok _ s.logs s.mutators s.epoch c.args.from c.args.to 0 c.args.count s.seat c.copy_all.new.seat row part) in
+    record { fits = ok.fits; stands = ok.stands }
+
+pub returns-then-count-eq0 : goal.returns-then-count-eq0
+returns-then-count-eq0 g c = let s = c.args.self.now in subst (λ n. CopiesRow ⊥ seat_view seat_makes c.args.from c.args.to 0 n s s) (sym c.if-count-eq0.true) refl
+
+pub returns : goal.returns
+returns g c =
+    let s = c.args.self.now in
+    let same : c.deref.result.shared.table_id ≡ (arc_value s.table).shared.table_id = ap (λ t. t.shared.table_id) c.deref.ensures in
+    let row = c.copy_all.ensures s.logs s.mutators s.epoch (own_part s _ same) in
+    copies_lift s _ c.args.count c.if-count-eq0.false c.args.from c.args.to (subst (λ (h : TableId). CopiesRow ⊥ part_view (part_makes h s.logs s.mutators s.epoch) c.args.from c.args.to 0 c.args.count s.seat c.copy_all.new.seat) same row)
