@@ -20,6 +20,7 @@ pub mod Fetched
 pub mod Fetching
 pub mod Founds
 pub mod Going
+pub mod Gone
 pub mod Handed
 pub mod HavingJobs
 pub mod InOrders

@@ -19,6 +19,7 @@ pub mod Moving
 pub mod NextLive
 pub mod NumberSet
 pub mod Only
+pub mod Order
 pub mod Offering
 pub mod Own
 pub mod Placeable

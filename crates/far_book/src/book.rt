@@ -1,6 +1,6 @@
 //! The book: where each object lies, and what each log has.
 
-ghost use Rattle.std.specs.Prelude.{◌≡◌, ◌+◌, ◌*◌, ◌<◌, ◌≤◌, ◌↔◌, ℕ, true, false, eqb, List, [], map, length, slice_index, Some, None, IsSome, IfOk, IfErr};
+ghost use Rattle.std.specs.Prelude.{◌≡◌, ◌+◌, ◌*◌, ◌<◌, ◌≤◌, ◌↔◌, ℕ, true, false, eqb, List, [], map, length, slice_index, Some, None, IsSome, IfOk, IfErr, IfSome};
 ghost use Rattle.std.specs.List.{IsDistinct, list_any};
 ghost use Rattle.std.specs.Vec.{vec_capacity};
 ghost use Rattle.far_word.specs.declared.pointer.PtrWord.TheVariants.{Near as near_at};
@@ -18,7 +18,7 @@ ghost use Rattle.far_core.specs.events.Naming.{no_marks, is_dropped};
 ghost use Rattle.far_core.specs.state.Law.{Law};
 ghost use Rattle.far_core.specs.state.Room.{room};
 ghost use Rattle.far_core.specs.state.Shape.{is_shape};
-ghost use Rattle.far_hand.specs.Finds.{body_of};
+ghost use Rattle.far_hand.specs.Finds.{Finds, body_of};
 ghost use Rattle.far_hand.specs.Came.{Came, only};
 ghost use Rattle.far_hand.specs.Known.{Forgets};
 ghost use Rattle.far_book.specs.book.Calls.{FindsHome, ListsSpans, PlacesObject, RetiresObject};
@@ -31,6 +31,7 @@ ghost use Rattle.far_book.specs.book.Only.{Reads, Writes};
 ghost use Rattle.far_book.specs.book.Own.{own_part, IsAtStart};
 ghost use Rattle.far_hand.specs.ShapeOf.{shape_of};
 ghost use Rattle.far_book.specs.book.Reading.{HeadersKnown, IsReadAt};
+ghost use Rattle.far_book.specs.book.Renaming.{seen};
 ghost use Rattle.far_book.specs.book.Rows.{row_of};
 
 mod collecting;
@@ -81,7 +82,7 @@ impl<N: Near + Drop, D: Device + Drop> Model for Book<N, D> {
 
     ghost Value = { BookOf N D };
 
-    ghost view = { λ b. record { near = b.near; device = b.device; order = b.ledger.order.items } };
+    ghost view = { λ b. record { near = b.near; device = b.device; order = b.ledger.order } };
 
     ghost invariant = { λ b. InOrder (N.view b.near) b.ledger (D.contents b.device) (D.honest b.device) × (LONGEST ≤ vec_capacity b.buffer) };
 }
@@ -180,6 +181,26 @@ impl<N: Near + Drop, D: Device + Drop> Book<N, D> {
         self.near.see(pointer)
     }
 
+    /// The cell of a pointer: as it is known, if its word is given, or else as it is found.
+    #[inline(always)]
+    pub fn cell_of(&mut self, pointer: u16, known: Option<u64>) -> u64
+        requires pointer { pointer < CELLS * (N.view self.old.near).mutators }
+        requires known { IfSome known (λ word. word ≡ (N.view self.old.near).cell pointer) }
+        ensures found { Finds ((N.view self.old.near).cell pointer) result }
+        ensures now { result ≡ (N.view self.new.near).cell pointer }
+        ensures kept { N.view self.new.near ≡ seen (N.view self.old.near) pointer result }
+        ensures exact { N.still → result ≡ (N.view self.old.near).cell pointer }
+        ensures set { N.still → N.view self.new.near ≡ N.view self.old.near }
+        ensures came { Came N.makes self.old.near self.new.near }
+        ensures order { self.new.order ≡ self.old.order }
+        ensures device { self.new.device ≡ self.old.device }
+    {
+        match known {
+            Some(word) => word,
+            None => self.see(pointer),
+        }
+    }
+
     /// Sets EVAC on a near pointer whose place lies in a sealed log, and answers its word before, as it was found.
     pub fn mark(&mut self, pointer: u16) -> u64
         requires legal { Legal (N.view self.old.near) (Event.Mark pointer) }
@@ -210,7 +231,11 @@ impl<N: Near + Drop, D: Device + Drop> Book<N, D> {
         ensures { result ≡ map (row_of (N.view self.now.near)) self.now.order }
     {
         let mut rows = LogRows::new();
-        for log in &self.ledger.order {
+        let (listed, gone) = self.ledger.order.parts();
+        for log in listed {
+            if gone.holds(*log) {
+                continue;
+            }
             rows.push(self.ledger.row(*log));
         }
         rows
@@ -221,10 +246,14 @@ impl<N: Near + Drop, D: Device + Drop> Book<N, D> {
         ensures rows { IfOk result (λ rows. rows.items ≡ map (row_of (N.view self.now.near)) self.now.order) }
         ensures refused { IfErr result (λ why. why ≡ Memory) }
     {
-        let Ok(mut rows) = Vec::with_capacity(self.alloc, self.ledger.order.len()) else {
+        let (listed, gone) = self.ledger.order.parts();
+        let Ok(mut rows) = Vec::with_capacity(self.alloc, listed.len()) else {
             return Err(Refused::Memory);
         };
-        for log in &self.ledger.order {
+        for log in listed {
+            if gone.holds(*log) {
+                continue;
+            }
             rows.push_reserved(self.ledger.row(*log));
         }
         Ok(rows)

@@ -1,22 +1,23 @@
 //! What the book has written down of logs, cells and jobs, so that none of its calls searches.
 
-ghost use Rattle.std.specs.Prelude.{◌≡◌, ◌≢◌, ℕ, ◌+◌, ◌-◌, ◌*◌, ◌/◌, ◌<◌, ◌≤◌, ◌==◌, true, false, Some, None, List, [], IfOk, MatchOption};
-ghost use Rattle.std.specs.Vec.{vec_len, vec_capacity};
-ghost use Rattle.far_word.specs.declared.sizes.TheConstants.{CELLS, LOG_WORDS};
+ghost use Rattle.std.specs.Prelude.{◌≡◌, ◌≢◌, ℕ, ◌+◌, ◌-◌, ◌*◌, ◌/◌, ◌<◌, ◌≤◌, ◌==◌, true, false, length, Some, None, List, [], IfOk, MatchOption};
+ghost use Rattle.std.specs.Vec.{vec_len};
+ghost use Rattle.far_word.specs.declared.sizes.TheConstants.{CELLS, LOG_WORDS, MOST_LOGS};
 ghost use Rattle.far_core.specs.laws.Observed.{live_bytes};
 ghost use Rattle.far_core.specs.state.Opening.{opening};
 ghost use Rattle.far_core.specs.state.Room.{room};
 ghost use Rattle.far_core.specs.state.Shape.{is_shape};
 ghost use Rattle.far_core.specs.state.State.{State};
 ghost use Rattle.far_book.specs.book.Effects.{with_free_cell};
-ghost use Rattle.far_book.specs.book.Ledger.{Notes, KnowsLog, filled_of, is_noted_free, MayBegin, MayTake, MayRetire, Begins, Opens, Passes, Takes, Loses, Frees, IsLowestFree};
+ghost use Rattle.far_book.specs.book.Ledger.{Notes, KnowsLog, filled_of, is_noted_free, MayBegin, MayFill, MayTake, MayRetire, Begins, Fills, Opens, Passes, Takes, Loses, Frees, IsLowestFree};
 ghost use Rattle.far_book.specs.book.NumberSet.{HasNoneLeft, IsLowestLeft};
 ghost use Rattle.far_book.specs.book.Own.{own_part};
-ghost use Rattle.far_book.specs.book.Releasing.{GivesBack, order_without};
+ghost use Rattle.far_book.specs.book.Releasing.{GivesBack};
 ghost use Rattle.far_book.specs.book.Rows.{row_of};
 
 use crate::jobs::Jobs;
 use crate::number_set::NumberSet;
+use crate::order::Order;
 use far_core::{Kind, Shape};
 use far_log::LogRow;
 use far_word::{CELLS, LOG_WORDS, Place, PtrWord, size_of};
@@ -43,7 +44,7 @@ pub(crate) struct Ledger {
     /// What each log has.
     pub(crate) filled: Vec<Filled>,
     /// The sealed logs, oldest first.
-    pub(crate) order: Vec<u8>,
+    pub(crate) order: Order,
     /// The free cells, [`SETS`] sets a mutator.
     pub(crate) free_cells: Vec<NumberSet>,
     /// The jobs that are offered to copiers.
@@ -55,7 +56,7 @@ impl Ledger {
     pub(crate) fn new(alloc: Global, shape: Shape) -> Result<Ledger, AllocError>
         requires { is_shape shape ≡ true }
         ensures notes { IfOk result (λ ledger. Notes (own_part (opening shape false)) ledger) }
-        ensures order { IfOk result (λ ledger. ledger.order.items ≡ []) }
+        ensures order { IfOk result (λ ledger. ledger.order ≡ []) }
     {
         let logs = shape.logs as usize;
         let sets = SETS * shape.mutators as usize;
@@ -65,7 +66,7 @@ impl Ledger {
             current: 0,
             free_logs,
             filled: vec![in alloc; Filled { tail: 0, live: 0 }; logs]?,
-            order: Vec::with_capacity(alloc, logs)?,
+            order: Order::new(alloc)?,
             free_cells: vec![in alloc; NumberSet::below(64); sets]?,
             jobs: Jobs::new(),
         })
@@ -173,9 +174,18 @@ impl Ledger {
         requires { MayTake self.old pointer size place }
         ensures { Takes self.old self.new pointer size place }
     {
+        self.take_again(size, place);
+        self.free_cells[pointer as usize / 64].remove((pointer % 64) as u8);
+    }
+
+    /// The same for a pointer whose cell isn't free.
+    #[inline]
+    pub(crate) fn take_again(&mut self, size: u16, place: Place)
+        requires { MayFill self.old size place }
+        ensures { Fills self.old self.new size place }
+    {
         self.open(place.log);
         self.fill(place.log, size);
-        self.free_cells[pointer as usize / 64].remove((pointer % 64) as u8);
     }
 
     /// A dead span of so many words is taken at a place.
@@ -191,11 +201,11 @@ impl Ledger {
     #[inline]
     fn open(&mut self, log: u8)
         requires few { log < 64 }
-        requires order { log ≢ self.old.current → vec_len self.old.order < vec_capacity self.old.order }
+        requires order { log ≢ self.old.current → length self.old.order < MOST_LOGS }
         ensures { Opens self.old self.new log }
     {
         if log != self.current {
-            self.order.push_reserved(self.current);
+            self.order.push(self.current);
             self.current = log;
         }
         self.free_logs.remove(log);
@@ -262,7 +272,7 @@ impl Ledger {
     {
         self.free_logs.insert(log);
         self.empty(log);
-        self.unlist(log);
+        self.order.leave(log);
     }
 
     // A log has no span.
@@ -274,15 +284,6 @@ impl Ledger {
         ensures rest { self.new ≡ record self.old { filled = self.new.filled } }
     {
         self.filled[log as usize] = Filled { tail: 0, live: 0 };
-    }
-
-    // A log is none of the sealed ones.
-    fn unlist(&mut self, log: u8)
-        ensures order { self.new.order.items ≡ order_without log self.old.order.items }
-        ensures room { vec_capacity self.new.order ≡ vec_capacity self.old.order }
-        ensures rest { self.new ≡ record self.old { order = self.new.order } }
-    {
-        self.order.retain(|sealed| *sealed != log);
     }
 
     // A cell is free.

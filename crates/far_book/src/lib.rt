@@ -8,8 +8,10 @@ mod home;
 mod jobs;
 mod laws;
 mod ledger;
+mod live_span;
 mod log_rows;
 mod number_set;
+mod order;
 
 pub use book::Book;
 pub use far_hand::{Beset, Near, Plain};
@@ -19,4 +21,5 @@ pub use laws::{
     loads_give_stored, moving_is_legal, order_is_by_age, placing_is_legal, releasing_is_legal,
     retiring_is_legal, sealed_logs_stay, staying_is_legal,
 };
+pub use live_span::LiveSpan;
 pub use log_rows::LogRows;

@@ -19,6 +19,13 @@ impl NumberSet {
         NumberSet { word }
     }
 
+    /// No number.
+    pub(crate) fn none() -> NumberSet
+        ensures { (k : ℕ) → has result k ≡ false }
+    {
+        NumberSet { word: 0 }
+    }
+
     /// Whether a number is in the set.
     pub(crate) fn has(self, k: u8) -> bool
         requires { k < 64 }
@@ -27,9 +34,16 @@ impl NumberSet {
         self.word >> k & 1 == 1
     }
 
+    /// The same of any number.
+    pub(crate) fn holds(self, k: u8) -> bool
+        ensures { result ≡ has self k }
+    {
+        k < 64 && self.has(k)
+    }
+
     /// Whether no number is in the set.
     pub(crate) fn is_empty(self) -> bool
-        ensures { result ≡ true → (k : ℕ) → k < 64 → has self k ≡ false }
+        ensures { result ≡ true → (k : ℕ) → has self k ≡ false }
     {
         self.word == 0
     }

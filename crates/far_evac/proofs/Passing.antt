@@ -1,13 +1,13 @@
 -- What is passed over where the live objects of a log are looked at one after the other, from a word on.
 use Rattle.std.proofs.Common.{◌≡◌, ℕ, ◌+◌, ◌*◌, ◌<◌, ◌≤◌, Bool, true, false, ◌&&◌, nat_le, Some, [], ◌∷◌, filter, inl, inr, arith, ap, sym, refl, ◌∙◌, subst}
-use Rattle.std.specs.Prelude.{◌⊎◌, Contains}
+use Rattle.std.specs.Prelude.{◌⊎◌, Contains, IsSome, is_some}
 use Rattle.std.proofs.lemmas.Bool.{cases_lt, and_parts, and_from}
 use Rattle.std.proofs.lemmas.Bool.Decides.{nat_tests}
 use mathlib.Core.Path.{fun_ext}
 use Rattle.far_word.specs.declared.mark.Marks.{Marks}
 use Rattle.far_word.specs.declared.pointer.Place.{Place}
 use Rattle.far_word.specs.declared.pointer.PtrWord.TheVariants.{Near}
-use Rattle.far_word.specs.declared.sizes.TheConstants.{CELLS, LOG_WORDS}
+use Rattle.far_word.specs.declared.sizes.TheConstants.{LOG_WORDS}
 use Rattle.far_word.specs.Pointer.{read_of}
 use Rattle.far_word.specs.Sizes.{size_of}
 use Rattle.far_log.specs.declared.span.Span.{Span}
@@ -15,13 +15,12 @@ use Rattle.far_log.proofs.Members.{here, split, none_in}
 use Rattle.far_core.specs.laws.Observed.{span_for}
 use Rattle.far_core.specs.state.Law.{Law}
 use Rattle.far_core.specs.state.Spans.{spans_of, is_live}
-use Rattle.far_core.specs.state.State.{State, put}
+use Rattle.far_core.specs.state.State.{State}
 use Rattle.far_core.proofs.Observations as observations
 use Rattle.far_hand.specs.Finds.{Finds}
 use Rattle.far_book.specs.book.Dealing.{has_evac}
 use Rattle.far_book.specs.book.Own.{own_part}
-use Rattle.far_core.proofs.Put.{put_same}
-use Rattle.far_hand.proofs.Finding.{near_found, near_known}
+use Rattle.far_hand.proofs.Finding.{near_known}
 use Rattle.far_book.proofs.region.Owns.{own_spans}
 use Rattle.far_evac.specs.AnyHand.{Knows}
 use Rattle.far_book.specs.book.NextLive.{IsBoundary, IsHomeOf, live_from}
@@ -29,7 +28,6 @@ use Rattle.far_evac.specs.Cursor.{IsNextLacking}
 use Rattle.far_evac.specs.Ready.{AllMarked}
 use Rattle.far_evac.specs.Standing.{MarkedBefore}
 use Rattle.far_evac.proofs.Fronts.{kept_in, knows_cells, was_kept}
-use Rattle.far_evac.proofs.Hands.{knows_more, knows_seen}
 use Rattle.far_evac.proofs.LiveLists.{finds_place}
 
 -- ---- the objects of a log from a word on
@@ -126,67 +124,52 @@ pub before_known : (s t : State) → Knows s t → (l at : ℕ) → MarkedBefore
 before_known s t known l at before p len ds place marks near log lt =
     let x = near_known (s.cell p) (t.cell p) (known.found p) len ds place marks near in sym x.same ∙ before p len ds place x.marks x.near log lt
 
-pub lies_known : (s t : State) → Knows s t → (l : ℕ) (span : Span) → IsHomeOf s l span → IsHomeOf t l span
-lies_known s t known l span lies =
-    let x = near_found (s.cell span.p) (t.cell span.p) (known.found span.p) span.len span.ds (record { log = l; at = span.at }) lies.marks lies.near in record {
-      pointer = subst (λ (u : State). span.p < CELLS * u.mutators) (sym known.rest) lies.pointer;
-      marks = x.marks;
-      near = x.near;
-    }
-
-pub knows_put : (s t : State) (p word : ℕ) → Finds (s.cell p) word → t ≡ record s { cell = put s.cell p word } → Knows s t
-knows_put s t p word finds is = subst (Knows s) (sym is) (knows_seen s p word finds)
-
--- ---- one step: from s to t a span was found, and in u its cell was seen
-pub record IsStep (s t u : State) (l at word : ℕ) (span : Span) : Type 0 where
+-- ---- one step: from s to t a span was found, with the word of its cell
+pub record IsStep (s t : State) (l at word : ℕ) (span : Span) : Type 0 where
   pub cells : (p : ℕ) → Finds (s.cell p) (t.cell p)
   pub kept : t ≡ record s { cell = t.cell }
   pub lies : IsHomeOf t l span
-  pub finds : Finds (t.cell span.p) word
-  pub seen : u ≡ record t { cell = put t.cell span.p word }
-  pub law : Law (own_part u)
+  pub is : word ≡ t.cell span.p
+  pub law : Law (own_part t)
   pub first : live_from s l at ≡ span ∷ live_from s l (span.at + size_of span.len)
   pub next : IsBoundary s l (span.at + size_of span.len)
 
-module _ {s t u : State} {l at word : ℕ} {span : Span} (x : IsStep s t u l at word span) where
+module _ {s t : State} {l at word : ℕ} {span : Span} (x : IsStep s t l at word span) where
   abbrev past : ℕ
   past = span.at + size_of span.len
 
-  pub step_known : Knows s u
-  step_known = knows_more s t u (knows_cells s t x.cells x.kept) (knows_put t u span.p word x.finds x.seen)
+  pub step_known : Knows s t
+  step_known = knows_cells s t x.cells x.kept
 
-  step_lies : IsHomeOf u l span
-  step_lies = lies_known t u (knows_put t u span.p word x.finds x.seen) l span x.lies
+  pub reads_there : IsSome (read_of word)
+  reads_there = ap (λ w. is_some (read_of w)) x.is ∙ ap is_some x.lies.near
 
-  step_word : u.cell span.p ≡ word
-  step_word = ap (λ (v : State). v.cell span.p) x.seen ∙ put_same t.cell span.p word span.p refl
+  step_first : live_from t l at ≡ span ∷ live_from t l past
+  step_first = from_known s t step_known l at ∙ x.first ∙ ap (λ spans. span ∷ spans) (sym (from_known s t step_known l past))
 
-  step_first : live_from u l at ≡ span ∷ live_from u l past
-  step_first = from_known s u step_known l at ∙ x.first ∙ ap (λ spans. span ∷ spans) (sym (from_known s u step_known l past))
-
-  pub step_lacks : MarkedBefore s l at → has_evac (read_of word) ≡ false → IsNextLacking u l span
+  pub step_lacks : MarkedBefore s l at → has_evac (read_of word) ≡ false → IsNextLacking t l span
   step_lacks before bare = record {
-    lies = step_lies;
-    bare = ap (λ w. has_evac (read_of w)) step_word ∙ bare;
-    here = begins_there u x.law span.p span.len span.ds (record { log = l; at = span.at }) step_lies.marks step_lies.near;
-    before = marked_to u x.law l at span step_first (before_known s u step_known l at before);
-    behind = boundary_known s u step_known l past x.next;
+    lies = x.lies;
+    bare = sym (ap (λ w. has_evac (read_of w)) x.is) ∙ bare;
+    here = begins_there t x.law span.p span.len span.ds (record { log = l; at = span.at }) x.lies.marks x.lies.near;
+    before = marked_to t x.law l at span step_first (before_known s t step_known l at before);
+    behind = boundary_known s t step_known l past x.next;
     alone = λ p len ds place marks near log from to.
-        let le = not_before u x.law l at span step_first in
-        elim (one_or_behind u x.law l at span step_first p len ds place marks near log (omega (arith, le, from))) [
+        let le = not_before t x.law l at span step_first in
+        elim (one_or_behind t x.law l at span step_first p len ds place marks near log (omega (arith, le, from))) [
           | inl e ↦ sym (ap (λ (x : Span). x.p) e)
           | inr more ↦ absurd (omega (arith, more, to))
         ];
   }
 
-  pub step_passes : MarkedBefore s l at → has_evac (read_of word) ≡ true → MarkedBefore u l past
-  step_passes before has = marked_past u x.law l at span step_first (before_known s u step_known l at before) (ap (λ w. has_evac (read_of w)) step_word ∙ has)
+  pub step_passes : MarkedBefore s l at → has_evac (read_of word) ≡ true → MarkedBefore t l past
+  step_passes before has = marked_past t x.law l at span step_first (before_known s t step_known l at before) (sym (ap (λ w. has_evac (read_of w)) x.is) ∙ has)
 
-  pub step_next : IsBoundary u l past
-  step_next = boundary_known s u step_known l past x.next
+  pub step_next : IsBoundary t l past
+  step_next = boundary_known s t step_known l past x.next
 
   pub step_on : (at < past) × (past ≤ LOG_WORDS)
   step_on =
-      let from = not_before u x.law l at span step_first in
+      let from = not_before t x.law l at span step_first in
       let some = size_some span.len in
-      (omega (arith, from, some), ends_within u x.law span.p span.len span.ds (record { log = l; at = span.at }) step_lies.marks step_lies.near)
+      (omega (arith, from, some), ends_within t x.law span.p span.len span.ds (record { log = l; at = span.at }) x.lies.marks x.lies.near)

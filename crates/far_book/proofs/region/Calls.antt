@@ -1,7 +1,6 @@
 -- What the book's calls are allowed, and what they leave, by a ledger that is right.
-use Rattle.std.proofs.Common.{◌≡◌, ◌≢◌, ℕ, ◌+◌, ◌*◌, ◌<◌, ◌≤◌, ◌^◌, Bool, true, false, cond, arith, sym, refl, ap, subst, ◌∙◌, Option, Some, None, List, [], ◌∷◌, ◌++◌, map, take, length, inl, inr}
-use Rattle.std.specs.Prelude.{IsSome, slice_index_or}
-use Rattle.std.proofs.lemmas.List.{take_more, map_push}
+use Rattle.std.proofs.Common.{◌≡◌, ◌≢◌, ℕ, ◌+◌, ◌*◌, ◌<◌, ◌≤◌, ◌^◌, Bool, true, false, cond, arith, sym, refl, ap, subst, ◌∙◌, Option, Some, None, inl, inr}
+use Rattle.std.specs.Prelude.{IsSome}
 use Rattle.std.proofs.lemmas.Bool.{cases_lt, false≢true}
 use mathlib.Core.Path.{fun_ext}
 use Rattle.far_word.specs.declared.mark.Marks.{Marks}
@@ -13,7 +12,6 @@ use Rattle.far_word.specs.Header.{head_word}
 use Rattle.far_word.specs.Pointer.{IsPtr, read_of}
 use Rattle.far_word.specs.Sizes.{size_of, words_for}
 use Rattle.far_word.proofs.PointerLaws.{read_says, read_back}
-use Rattle.far_log.specs.declared.row.LogRow.{LogRow}
 use Rattle.far_core.specs.declared.event.Event.TheVariants as events
 use Rattle.far_core.specs.declared.naming.Naming.TheVariants as naming
 use Rattle.far_core.specs.events.Legal.{Legal, IsNext}
@@ -50,10 +48,6 @@ lowest_own s m (Some p) h = h
 
 pub row_own : (s : State) → Law (own_part s) → (l : ℕ) → row_of (own_part s) l ≡ row_of s l
 row_own s law l = let live = own_live s law l in let dead = own_dead s law l in λ i. record (row_of s l) { live = sym live i; dead = sym dead i }
-
--- one row more
-pub rows_more : (s : State) (xs : List ℕ) (i : ℕ) (row : LogRow) → i < length xs → row ≡ row_of s (slice_index_or xs i 0) → map (row_of s) (take i xs) ++ row ∷ [] ≡ map (row_of s) (take (i + 1) xs)
-rows_more s xs i row lt e = ap (λ r. map (row_of s) (take i xs) ++ r ∷ []) e ∙ sym (ap (map (row_of s)) (take_more xs i 0 lt) ∙ map_push (row_of s) (take i xs) (slice_index_or xs i 0))
 
 -- ---- placing
 -- a free cell names no place
@@ -97,8 +91,8 @@ module _ {s : State} {ledger : Ledger} {p len ds : ℕ} {place : Place} (x : Has
     cell = omega (arith, x.notes.cells, x.pointer);
   }
 
-  pub order_taken : (new : Ledger) → Takes ledger new p (size_of len) place → new.order.items ≡ order_after s ledger.order.items place
-  order_taken new takes = takes.order ∙ ap (λ c. order_after (record s { current = c }) ledger.order.items place) x.notes.current
+  pub order_taken : (new : Ledger) → Takes ledger new p (size_of len) place → new.order ≡ order_after s ledger.order place
+  order_taken new takes = takes.order ∙ ap (λ c. order_after (record s { current = c }) ledger.order place) x.notes.current
 
 -- where a header and zeros are written at the end of a log, the span there may be named
 pub may_name : (s : State) (p len ds : ℕ) (place : Place) → p < CELLS * s.mutators → IsPtr (Near len ds place no_marks) → IsNext s place → Legal (with_blank_span s p len ds place) (events.Name p 0 (near_word true len ds place))

@@ -2,7 +2,7 @@
 use Rattle.std.proofs.Common.{◌≡◌, ◌≢◌, ℕ, ◌+◌, ◌-◌, ◌*◌, ◌/◌, ◌^◌, ◌<◌, ◌≤◌, Bool, true, false, cond, arith, sym, refl, ap, subst, ◌∙◌, Option, Some, None, List, Result, Ok, Err, inl, inr}
 use Rattle.std.specs.Prelude.{◌==◌, ◌||◌, ◌&&◌, ◌⊎◌, eqb, not}
 use Rattle.std.specs.List.{IsDistinct, list_any}
-use Rattle.std.specs.Vec.{vec_len, vec_capacity}
+use Rattle.std.specs.Vec.{vec_len}
 use Rattle.std.proofs.lemmas.Bool.{cases_eq, eq-eqb, ne_eqb, false≢true, lt-ltb}
 use Rattle.far_word.specs.declared.mark.Marks.{Marks}
 use Rattle.far_word.specs.declared.pointer.Place.{Place}
@@ -320,9 +320,8 @@ module _ {s : State} {p len ds : ℕ} {place : Place} (x : MayLeave s p len ds p
             subst (λ k. (filled_of new k).live ≡ live_bytes (own_part (gone rows)) k) (sym same) less)
         | inr ne ↦ ap (λ (f : Filled). f.live) (loses.there l ne) ∙ notes.lives l lt ∙ sym (live_there rows l ne)
       ];
-      sealed = λ l. ap (λ (n : Ledger). list_any (eqb l) n.order.items) loses.rest ∙ notes.sealed l;
-      once = subst (λ (n : Ledger). IsDistinct eqb n.order.items) (sym loses.rest) notes.once;
-      room = subst (λ (n : Ledger). s.logs ≤ vec_capacity n.order) (sym loses.rest) notes.room;
+      sealed = λ l. ap (λ (n : Ledger). list_any (eqb l) n.order) loses.rest ∙ notes.sealed l;
+      once = subst (λ (n : Ledger). IsDistinct eqb n.order) (sym loses.rest) notes.once;
       cells = ap (λ (n : Ledger). vec_len n.free_cells) loses.rest ∙ notes.cells;
       jobs = subst (λ (n : Ledger). NotesJobs s.round_epoch s.round (own_part s).copying n.jobs) (sym loses.rest) notes.jobs;
       cell = λ q lt. ap (λ (n : Ledger). is_noted_free n q) loses.rest ∙ notes.cell q lt ∙ put_both (λ c. (s.cell q == 0) ≡ (c == 0)) s.cell p (far_word len ds) q

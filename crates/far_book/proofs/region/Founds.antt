@@ -106,7 +106,6 @@ module _ (s : State) (p w : ℕ) (names : (l at : ℕ) → names_place (read_of 
     lives = λ l lt. notes.lives l lt ∙ sym (live_same l);
     sealed = notes.sealed;
     once = notes.once;
-    room = notes.room;
     cells = notes.cells;
     jobs = notes.jobs;
     cell = λ q lt. notes.cell q lt ∙ put_both (λ c. (s.cell q == 0) ≡ (c == 0)) s.cell p w q (λ e. ap (λ x. s.cell x == 0) e ∙ sym free) (λ _. refl);

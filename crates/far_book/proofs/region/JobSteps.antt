@@ -135,7 +135,6 @@ module _ (s : State) (law : Law (own_part s)) where
       lives = λ l lt. notes.lives l lt ∙ sym (live_found l);
       sealed = notes.sealed;
       once = notes.once;
-      room = notes.room;
       cells = notes.cells;
       cell = notes.cell;
       jobs = notes_same s.round_epoch s.round o.copying ledger.jobs notes.jobs (unread k).word jobs_found;
@@ -175,7 +174,6 @@ module _ (s : State) (law : Law (own_part s)) where
       lives = λ l lt. notes.lives l lt ∙ sym (live_emptied l);
       sealed = notes.sealed;
       once = notes.once;
-      room = notes.room;
       cells = notes.cells;
       cell = notes.cell;
       jobs = notes_wrote s.round_epoch s.round o.copying ledger.jobs notes.jobs (unread kept) jobs j None writes

@@ -2,7 +2,7 @@
 use Rattle.std.proofs.Common.{◌≡◌, ◌≢◌, ◌∙◌, ℕ, ◌*◌, ◌/◌, ◌%◌, ◌<◌, ◌≤◌, Bool, true, false, arith, ap, inl, inr, refl, sym, subst, Option, Some, None, List}
 use Rattle.std.specs.Prelude.{◌==◌, eqb, is_some}
 use Rattle.std.specs.List.{IsDistinct, list_any}
-use Rattle.std.specs.Vec.{vec_len, vec_capacity}
+use Rattle.std.specs.Vec.{vec_len}
 use Rattle.std.proofs.lemmas.Bool.{cases_eq, eq-eqb, eqb-true, false≢true, true≢false}
 use Rattle.far_word.specs.declared.job.Job.{Job}
 use Rattle.far_word.specs.declared.job.JobWord.TheVariants.{Finished}
@@ -241,9 +241,8 @@ module _ (s : State) (law : Law (own_part s)) (j : ℕ) (job : Job) (cell len ds
         logs = passes.logs ∙ notes.logs;
         tails = λ l lt. passes.tails l ∙ notes.tails l lt;
         lives = live_now;
-        sealed = λ l. ap (λ (n : Ledger). list_any (eqb l) n.order.items) passes.rest ∙ notes.sealed l;
-        once = subst (λ (n : Ledger). IsDistinct eqb n.order.items) (sym passes.rest) notes.once;
-        room = subst (λ (n : Ledger). s.logs ≤ vec_capacity n.order) (sym passes.rest) notes.room;
+        sealed = λ l. ap (λ (n : Ledger). list_any (eqb l) n.order) passes.rest ∙ notes.sealed l;
+        once = subst (λ (n : Ledger). IsDistinct eqb n.order) (sym passes.rest) notes.once;
         cells = ap (λ (n : Ledger). vec_len n.free_cells) passes.rest ∙ notes.cells;
         cell = λ q lt. ap (λ (n : Ledger). is_noted_free n q) passes.rest ∙ notes.cell q lt ∙ put_both (λ c. (s.cell q == 0) ≡ (c == 0)) s.cell p new q
             (λ e. ap (λ k. s.cell k == 0) e ∙ near_used (s.cell p) len ds job.from m near ∙ sym (near_used new len ds job.to (unmarked m.dirty) new_read)) (λ _. refl);

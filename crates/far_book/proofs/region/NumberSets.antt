@@ -1,10 +1,10 @@
 -- What bits say of a set of numbers.
-use Rattle.std.proofs.Common.{◌≡◌, ℕ, ◌-◌, ◌*◌, ◌/◌, ◌^◌, ◌%◌, ◌<◌, true, false, arith, sym, ap, ◌∙◌, nat_lt, nat_eq, inl, inr, w64}
+use Rattle.std.proofs.Common.{◌≡◌, ℕ, ◌-◌, ◌*◌, ◌/◌, ◌^◌, ◌%◌, ◌<◌, ◌≤◌, true, false, arith, sym, ap, ◌∙◌, nat_lt, nat_eq, inl, inr, w64}
 use Rattle.std.specs.Prelude.{◌==◌, ◌||◌, ◌&&◌, not, bit_and, bit_or}
 use Rattle.std.specs.Int.{bit_at, trailing_zeros}
 use Rattle.std.proofs.lemmas.Bool.{cases_lt, cases_eq, eq-eqb, ne_eqb, lt-ltb, le-ltb}
 use Rattle.std.proofs.lemmas.Nat.{one_shl}
-use Rattle.std.proofs.lemmas.Nat.Bits.{shr_and_one, bit_at_ones, bit_at_ones_above, bit_at_set_same, bit_at_set_other, bit_at_clear_same, bit_at_clear_other, bit_at-trailing_zeros, bit_at-zero}
+use Rattle.std.proofs.lemmas.Nat.Bits.{shr_and_one, bit_at_ones, bit_at_above, bit_at_ones_above, bit_at_set_same, bit_at_set_other, bit_at_clear_same, bit_at_clear_other, bit_at-trailing_zeros, bit_at-zero}
 use Rattle.far_book.specs.book.NumberSet.{has, IsLowest}
 
 -- a bit is set or not
@@ -45,6 +45,10 @@ has_less w k i lt within = elim (cases_eq i k) [
 pub has_none : (k : ℕ) → has record { word = 0 } k ≡ false
 unfolding has
 has_none k = bit_is_not _ (bit_at-zero k)
+
+pub has_beyond : (w k : ℕ) → w < 2 ^ 64 → 64 ≤ k → has record { word = w } k ≡ false
+unfolding has
+has_beyond w k fits over = bit_is_not _ (bit_at_above w 64 k fits over)
 
 pub has_lowest : (w : ℕ) → 0 < w → w < 2 ^ 64 → IsLowest record { word = w } (trailing_zeros w64 w)
 unfolding has

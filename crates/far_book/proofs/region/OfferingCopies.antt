@@ -277,9 +277,8 @@ module _ (s : State) (ledger : Ledger) (held : ℕ → Option (List ℕ)) (is_ho
       logs = b.logs ∙ order.notes.logs;
       tails = tail_then o ledger order.notes to h.next begun (size_of len) at (ap (λ (f : Filled). f.tail) b.here) b.there;
       lives = live_then;
-      sealed = sealed_then o ledger order.notes to h.next begun.order.items b.opens.order;
-      once = once_then o ledger order.notes to h.next begun.order.items b.opens.order;
-      room = omega (arith, b.opens.room, order.notes.room);
+      sealed = sealed_then o ledger order.notes to h.next begun.order b.opens.order;
+      once = once_then o ledger order.notes to h.next begun.order b.opens.order;
       cells = ap (λ (n : Ledger). vec_len n.free_cells) b.opens.rest ∙ order.notes.cells;
       cell = λ q lt. ap (λ (n : Ledger). is_noted_free n q) b.opens.rest ∙ order.notes.cell q lt;
       jobs = jobs_now;

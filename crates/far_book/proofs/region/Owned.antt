@@ -80,7 +80,6 @@ module _ (s t : State) (law : Law s) (next : Law t) (change : OthersChange s t) 
     lives = λ l lt. notes.lives l lt ∙ sym (same_live l);
     sealed = notes.sealed;
     once = notes.once;
-    room = notes.room;
     cells = notes.cells;
     cell = λ p lt. notes.cell p lt ∙ sym (same_free p);
     jobs = notes_same s.round_epoch s.round (own_part s).copying ledger.jobs notes.jobs (λ j. untaken (t.copying.word j)) jobs_same;

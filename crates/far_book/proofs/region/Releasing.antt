@@ -126,11 +126,10 @@ module _ (s : State) (law : Law (own_part s)) (l : ℕ) (shut : s.kind l ≡ Sea
         | inr ne ↦ ap (λ (f : Filled). f.live) (b.there k ne) ∙ notes.lives k lt ∙ sym (live_other k ne)
       ];
       sealed = λ k. ap (list_any (eqb k)) b.order ∙ elim (cases_eq k l) [
-        | inl e ↦ any-filter_same (eqb k) (λ j. not (j == l)) false (λ j h. ap not (eq-eqb j l (sym (eqb-true k j h) ∙ e))) old.order.items ∙ ap is_sealed (sym (put_same s.kind l Free k e))
-        | inr ne ↦ any-filter_same (eqb k) (λ j. not (j == l)) true (λ j h. ap not (ne_eqb j l (λ is. ne (eqb-true k j h ∙ is)))) old.order.items ∙ notes.sealed k ∙ ap is_sealed (sym (put_other s.kind l Free k ne))
+        | inl e ↦ any-filter_same (eqb k) (λ j. not (j == l)) false (λ j h. ap not (eq-eqb j l (sym (eqb-true k j h) ∙ e))) old.order ∙ ap is_sealed (sym (put_same s.kind l Free k e))
+        | inr ne ↦ any-filter_same (eqb k) (λ j. not (j == l)) true (λ j h. ap not (ne_eqb j l (λ is. ne (eqb-true k j h ∙ is)))) old.order ∙ notes.sealed k ∙ ap is_sealed (sym (put_other s.kind l Free k ne))
       ];
-      once = subst (IsDistinct eqb) (sym b.order) (distinct_still (λ j. not (j == l)) old.order.items notes.once);
-      room = subst (λ n. s.logs ≤ n) (sym b.room) notes.room;
+      once = subst (IsDistinct eqb) (sym b.order) (distinct_still (λ j. not (j == l)) old.order notes.once);
       cells = ap (λ (n : Ledger). vec_len n.free_cells) b.rest ∙ notes.cells;
       cell = λ p lt. ap (λ (n : Ledger). is_noted_free n p) b.rest ∙ notes.cell p lt;
       jobs = subst (λ (n : Ledger). NotesJobs s.round_epoch then.round (unread s.copying) n.jobs) (sym b.rest) (jobs.notes_released s.round_epoch s.round (unread s.copying) old.jobs notes.jobs l (uncopied_own s.copying l uncopied));

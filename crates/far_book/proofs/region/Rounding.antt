@@ -55,7 +55,6 @@ module _ (s : State) (ledger : Ledger) (notes : Notes (own_part s) ledger) (epoc
     lives = λ l lt. notes.lives l lt ∙ sym (live_same l);
     sealed = notes.sealed;
     once = notes.once;
-    room = notes.room;
     cells = notes.cells;
     cell = notes.cell;
     jobs = good;

@@ -2,7 +2,7 @@
 use Rattle.std.proofs.Common.{inl, inr, ◌≡◌, ℕ, ◌*◌, ◌/◌, ◌%◌, ◌<◌, ◌≤◌, Bool, true, false, arith, sym, refl, ap, subst, ◌∙◌, [], nat_lt, None}
 use Rattle.std.specs.Prelude.{◌&&◌, ◌==◌, not, replicate, slice_index_or, eqb, length}
 use Rattle.std.specs.List.{list_any, IsDistinct}
-use Rattle.std.specs.Vec.{vec_len, vec_capacity}
+use Rattle.std.specs.Vec.{vec_len}
 use Rattle.std.proofs.lemmas.Bool.{cases_eq, eq-eqb, ne_eqb}
 use Rattle.std.proofs.lemmas.List.{get_or-replicate}
 use Rattle.far_word.specs.declared.sizes.TheConstants.{JOBS}
@@ -34,8 +34,7 @@ pub record Made (shape : Shape) (ledger : Ledger) : Type 0 where
   pub free : (l : ℕ) → l < 64 → has ledger.free_logs l ≡ (not (l == 0) && nat_lt l shape.logs)
   pub filled : ledger.filled.items ≡ replicate shape.logs record { tail = 0; live = 0 }
   pub logs : vec_len ledger.filled ≡ shape.logs
-  pub order : ledger.order.items ≡ []
-  pub room : shape.logs ≤ vec_capacity ledger.order
+  pub order : ledger.order ≡ []
   pub all : NumberSet
   pub every : (k : ℕ) → k < 64 → has all k ≡ true
   pub sets : ledger.free_cells.items ≡ replicate (SETS * shape.mutators) all
@@ -81,7 +80,6 @@ module _ (shape : Shape) (fits : is_shape shape ≡ true) (ledger : Ledger) (mad
     sealed = λ l. ap (list_any (eqb l)) made.order ∙ sealed_at l;
     once = subst (IsDistinct eqb) (sym made.order) none_distinct;
     jobs = no_jobs shape.epoch (λ _. false) ledger.jobs made.jobs_sized made.jobs_noted made.jobs_waiting;
-    room = made.room;
     cells = made.cells;
     cell = λ p lt. ap (λ (set : NumberSet). has set (p % 64))
         (ap (λ sets. slice_index_or sets (p / 64) record { word = 0 }) made.sets ∙ get_or-replicate (SETS * shape.mutators) (p / 64) made.all record { word = 0 } (omega arith)) ∙ made.every (p % 64) (omega arith);

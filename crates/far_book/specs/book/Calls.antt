@@ -1,10 +1,10 @@
 -- What calls of the book promise that others hand on, each in one record: the crates above cite the record for the book that they have. A record speaks of the book before and after
 -- the call, of the call's arguments and of its answer, over the relations of any hand and of any device.
 use Rattle.std.specs.Global.{Vec}
-use Rattle.std.specs.Prelude.{◌≡◌, ◌≢◌, ◌↔◌, ℕ, Bool, true, false, Option, Some, None, List, Result, Ok, Err, IfOk, IfErr, IfSome, IfNone, MatchOption}
+use Rattle.std.specs.Prelude.{◌≡◌, ◌≢◌, ◌⊎◌, ◌↔◌, ℕ, Bool, true, false, not, Option, Some, None, List, Result, Ok, Err, IfOk, IfErr, IfSome, IfNone, MatchOption}
 use Rattle.far_word.specs.declared.pointer.Place.{Place}
 use Rattle.far_word.specs.declared.refused.Refused.{Refused}
-use Rattle.far_word.specs.declared.refused.Refused.TheVariants.{Memory, NoRoom}
+use Rattle.far_word.specs.declared.refused.Refused.TheVariants.{Device, Memory, NoRoom}
 use Rattle.far_word.specs.Pointer.{read_of}
 use Rattle.far_word.specs.Sizes.{size_of}
 use Rattle.far_log.specs.declared.span.Span.{Span}
@@ -13,6 +13,7 @@ use Rattle.far_core.specs.declared.event.Event.TheVariants.{See}
 use Rattle.far_core.specs.declared.event.Reply.{Reply}
 use Rattle.far_core.specs.declared.event.Reply.TheVariants.{Word}
 use Rattle.far_core.specs.events.Naming.{is_dropped}
+use Rattle.far_core.specs.state.Law.{is_dirty}
 use Rattle.far_core.specs.state.Room as rooms
 use Rattle.far_core.specs.state.Spans.{spans_of}
 use Rattle.far_core.specs.state.State.{State, put}
@@ -20,12 +21,13 @@ use Rattle.far_device.specs.declared.fault.DeviceFault.{DeviceFault}
 use Rattle.far_device.specs.Following.{Follows, other_than}
 use Rattle.far_hand.specs.Came.{Came, only}
 use Rattle.far_hand.specs.Finds.{Finds}
-use Rattle.far_hand.specs.Known.{Forgets}
-use Rattle.far_book.specs.book.Actions.{Does, Fetches, Moves, Places, Retires}
-use Rattle.far_book.specs.book.Asking.{AsksToFetch}
+use Rattle.far_hand.specs.Known.{Forgets, KeepsKnown}
+use Rattle.far_book.specs.book.Actions.{Does, Evicts, Fetches, Moves, Places, Retires}
+use Rattle.far_book.specs.book.Asking.{AsksToEvict, AsksToFetch}
 use Rattle.far_book.specs.book.BookOf.{BookOf}
 use Rattle.far_book.specs.book.Dealing.{IsRetired, IsSeen, LearnsNone, MovedBy, goal, is_failure, moved_now, order_moved}
-use Rattle.far_book.specs.book.Effects.{order_after, placed, retired}
+use Rattle.far_book.specs.book.Effects.{evicted, order_after, placed, retired}
+use Rattle.far_book.specs.book.Evicting.{GoesFar}
 use Rattle.far_book.specs.book.Fetching.{IsFetched, RefusesFetch, order_fetched, room_for}
 use Rattle.far_book.specs.book.Home.{home_of}
 use Rattle.far_book.specs.book.Only.{Reads}
@@ -130,6 +132,31 @@ module _ {N D : Type 0} (still : Type 0) (view : N → State) (makes : N → Eve
       pub unchanged : still → IfErr result (λ _. view new.near ≡ view old.near)
       -- the action that this is
       pub ran : still → Does (view old.near) (Moves p result) (view new.near)
+
+    -- p's quiet near object with EVAC goes far; or is retired, where its owner has dropped it, and the answer is false; or that is refused
+    pub record EvictsObject (writes : D → ℕ → List ℕ → Result (Unit {0}) DeviceFault → D → Type 0) (old new : BookOf N D) (p : ℕ) (result : Result Bool Refused) : Type 0 where
+      pub came : Came makes old.near new.near
+      -- it has gone far; over a hand that is still that is all
+      pub far : result ≡ Ok true → GoesFar (view old.near) (view new.near) p
+      pub away : still → result ≡ Ok true → view new.near ≡ evicted (view old.near) p
+      -- it is retired, and no word is learned
+      pub gone : result ≡ Ok false → IsRetired still (view old.near) (view new.near) p
+      pub freed : result ≡ Ok false → KeepsKnown (view old.near) (view new.near)
+      -- a drop that was known before is found
+      pub asked : is_dropped (read_of ((view old.near).cell p)) ≡ true → result ≡ Ok false
+      pub alive : still → IfOk result (λ far. far ≡ not (is_dropped (read_of ((view old.near).cell p))))
+      -- a refusal is the device's: the object lies as before, and words may have been read
+      pub refused : IfErr result (λ why. (why ≡ Memory) ⊎ (why ≡ Device))
+      pub kept : IfErr result (λ _. IsSeen (view old.near) (view new.near) p)
+      pub same : still → IfErr result (λ _. view new.near ≡ view old.near)
+      -- what the device was asked; it forgets the bytes of what is retired
+      pub called : AsksToEvict D writes lets_go (view old.near) p result old.device new.device
+      pub unasked : still → result ≡ Ok true → is_dirty (read_of ((view old.near).cell p)) ≡ false → new.device ≡ old.device
+      pub forgotten : forgets → result ≡ Ok false → contents new.device p ≡ None
+      pub follows : Follows contents is_honest faults fails_at_most (other_than p) (is_failure result) old.device new.device
+      pub order : new.order ≡ old.order
+      -- the action that this is
+      pub ran : still → Does (view old.near) (Evicts p result) (view new.near)
 
     -- p's far object comes near; or is retired, where its owner has dropped it, and the answer is none; or that is refused
     pub record FetchesObject (reads : D → ℕ → Result (List ℕ) DeviceFault → D → Type 0) (reads_in_place : Type 0) (old new : BookOf N D) (p : ℕ) (result : Result (Option Place) Refused) : Type 0 where

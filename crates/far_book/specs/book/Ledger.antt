@@ -1,10 +1,10 @@
 -- What the book has written down of a state, and how that changes.
-use Rattle.std.specs.Prelude.{◌≡◌, ◌≢◌, ℕ, ◌+◌, ◌*◌, ◌/◌, ◌%◌, ◌<◌, ◌≤◌, ◌==◌, ◌&&◌, ◌||◌, Bool, true, not, eqb, nat_lt, Option, Some, None, [], ◌∷◌, ◌++◌, slice_index_or, if◌then◌else◌}
+use Rattle.std.specs.Prelude.{◌≡◌, ◌≢◌, ℕ, ◌+◌, ◌*◌, ◌/◌, ◌%◌, ◌<◌, ◌≤◌, ◌==◌, ◌&&◌, ◌||◌, Bool, true, not, eqb, nat_lt, Option, Some, None, [], ◌∷◌, ◌++◌, length, slice_index_or, if◌then◌else◌}
 use Rattle.std.specs.List.{IsDistinct, list_any}
-use Rattle.std.specs.Vec.{vec_len, vec_capacity}
+use Rattle.std.specs.Vec.{vec_len}
 use Rattle.far_word.specs.declared.pointer.Place.{Place}
 use Rattle.far_word.specs.declared.pointer.PtrWord.{PtrWord}
-use Rattle.far_word.specs.declared.sizes.TheConstants.{CELLS, LOG_WORDS}
+use Rattle.far_word.specs.declared.sizes.TheConstants.{CELLS, LOG_WORDS, MOST_LOGS}
 use Rattle.far_word.specs.Pointer.{read_of}
 use Rattle.far_core.specs.events.Naming.{is_dropped}
 use Rattle.far_core.specs.events.Mark.{is_sealed}
@@ -37,10 +37,9 @@ pub record Notes (s : State) (ledger : Ledger) : Type 0 where
   pub logs : vec_len ledger.filled ≡ s.logs
   pub tails : (l : ℕ) → l < s.logs → (filled_of ledger l).tail ≡ s.tail l
   pub lives : (l : ℕ) → l < s.logs → (filled_of ledger l).live ≡ live_bytes s l
-  -- the sealed logs, each once, and room for all
-  pub sealed : (l : ℕ) → list_any (eqb l) ledger.order.items ≡ is_sealed (s.kind l)
-  pub once : IsDistinct eqb ledger.order.items
-  pub room : s.logs ≤ vec_capacity ledger.order
+  -- the sealed logs, each once
+  pub sealed : (l : ℕ) → list_any (eqb l) ledger.order ≡ is_sealed (s.kind l)
+  pub once : IsDistinct eqb ledger.order
   -- which cells are free
   pub cells : vec_len ledger.free_cells ≡ SETS * s.mutators
   pub cell : (p : ℕ) → p < CELLS * s.mutators → is_noted_free ledger p ≡ (s.cell p == 0)
@@ -63,7 +62,7 @@ pub record MayTake (ledger : Ledger) (p size : ℕ) (place : Place) : Type 0 whe
   pub log : place.log < vec_len ledger.filled
   pub tail : (filled_of ledger place.log).tail + size ≤ LOG_WORDS
   pub live : (filled_of ledger place.log).live ≤ 8 * (filled_of ledger place.log).tail
-  pub order : place.log ≢ ledger.current → vec_len ledger.order < vec_capacity ledger.order
+  pub order : place.log ≢ ledger.current → length ledger.order < MOST_LOGS
   pub cell : p / 64 < vec_len ledger.free_cells
 
 -- an object may be retired: its cell has DROP, and says this of it but for its owner's marks
@@ -76,8 +75,7 @@ pub record MayRetire (s : State) (p : ℕ) (was : PtrWord) : Type 0 where
 pub record Opens (old new : Ledger) (log : ℕ) : Type 0 where
   pub current : new.current ≡ log
   pub free : (l : ℕ) → l < 64 → has new.free_logs l ≡ (not (l == log) && has old.free_logs l)
-  pub order : new.order.items ≡ (if log == old.current then old.order.items else old.order.items ++ old.current ∷ [])
-  pub room : vec_capacity new.order ≡ vec_capacity old.order
+  pub order : new.order ≡ (if log == old.current then old.order else old.order ++ old.current ∷ [])
   pub rest : new ≡ record old { current = new.current; free_logs = new.free_logs; order = new.order }
 
 -- a span is taken: its log is the open one, ends later and has more live bytes; a log that was open is sealed, the youngest;
@@ -85,8 +83,7 @@ pub record Opens (old new : Ledger) (log : ℕ) : Type 0 where
 pub record Takes (old new : Ledger) (p size : ℕ) (place : Place) : Type 0 where
   pub current : new.current ≡ place.log
   pub free : (l : ℕ) → l < 64 → has new.free_logs l ≡ (not (l == place.log) && has old.free_logs l)
-  pub order : new.order.items ≡ (if place.log == old.current then old.order.items else old.order.items ++ old.current ∷ [])
-  pub room : vec_capacity new.order ≡ vec_capacity old.order
+  pub order : new.order ≡ (if place.log == old.current then old.order else old.order ++ old.current ∷ [])
   pub logs : vec_len new.filled ≡ vec_len old.filled
   pub here : filled_of new place.log ≡ record { tail = (filled_of old place.log).tail + size; live = (filled_of old place.log).live + 8 * size }
   pub there : (l : ℕ) → l ≢ place.log → filled_of new l ≡ filled_of old l
@@ -94,12 +91,30 @@ pub record Takes (old new : Ledger) (p size : ℕ) (place : Place) : Type 0 wher
   pub cell : (q : ℕ) → is_noted_free new q ≡ (not (q == p) && is_noted_free old q)
   pub jobs : new.jobs ≡ old.jobs
 
+-- a live span may be written down as taken, for a pointer that has one
+pub record MayFill (ledger : Ledger) (size : ℕ) (place : Place) : Type 0 where
+  pub few : place.log < 64
+  pub log : place.log < vec_len ledger.filled
+  pub tail : (filled_of ledger place.log).tail + size ≤ LOG_WORDS
+  pub live : (filled_of ledger place.log).live ≤ 8 * (filled_of ledger place.log).tail
+  pub order : place.log ≢ ledger.current → length ledger.order < MOST_LOGS
+
+-- a live span is taken: its log is the open one, ends later and has more live bytes; a log that was open is sealed, the youngest
+pub record Fills (old new : Ledger) (size : ℕ) (place : Place) : Type 0 where
+  pub current : new.current ≡ place.log
+  pub free : (l : ℕ) → l < 64 → has new.free_logs l ≡ (not (l == place.log) && has old.free_logs l)
+  pub order : new.order ≡ (if place.log == old.current then old.order else old.order ++ old.current ∷ [])
+  pub logs : vec_len new.filled ≡ vec_len old.filled
+  pub here : filled_of new place.log ≡ record { tail = (filled_of old place.log).tail + size; live = (filled_of old place.log).live + 8 * size }
+  pub there : (l : ℕ) → l ≢ place.log → filled_of new l ≡ filled_of old l
+  pub rest : new ≡ record old { current = new.current; free_logs = new.free_logs; order = new.order; filled = new.filled }
+
 -- a dead span may be written down as taken
 pub record MayBegin (ledger : Ledger) (size : ℕ) (place : Place) : Type 0 where
   pub few : place.log < 64
   pub log : place.log < vec_len ledger.filled
   pub tail : (filled_of ledger place.log).tail + size ≤ LOG_WORDS
-  pub order : place.log ≢ ledger.current → vec_len ledger.order < vec_capacity ledger.order
+  pub order : place.log ≢ ledger.current → length ledger.order < MOST_LOGS
 
 -- a dead span is taken: its log is the open one, and ends later; a log that was open is sealed, the youngest
 pub record Begins (old new : Ledger) (size : ℕ) (place : Place) : Type 0 where

@@ -11,6 +11,7 @@ use Rattle.far_log.specs.Spans.{Tile}
 use Rattle.far_core.specs.state.Law.{Law}
 use Rattle.far_core.specs.state.Spans.{spans_of, is_live}
 use Rattle.far_core.specs.state.State.{State}
+use Rattle.far_book.specs.declared.live_span.LiveSpan.{LiveSpan}
 use Rattle.far_book.specs.book.Own.{own_part}
 
 -- a span of the log begins at this word, or the log's spans end there
@@ -20,6 +21,11 @@ IsBoundary s l at = (at ≡ s.tail l) ⊎ ((at < s.tail l) × (s.starts (l * LOG
 -- the spans of a log that begin at a word or behind it and in which an object lives, dropped or not
 abbrev pub live_from : State → ℕ → ℕ → List Span
 live_from s l at = filter (λ span. is_live s l span && nat_le at span.at) (spans_of s l)
+
+-- the span that was found
+abbrev pub span_in : Option LiveSpan → Option Span
+span_in None = None
+span_in (Some found) = Some found.span
 
 -- where a search for a live span ended: behind the span that was found, or else where the log's spans end
 abbrev pub searched_to : State → ℕ → Option Span → ℕ

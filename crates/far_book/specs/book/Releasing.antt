@@ -1,7 +1,7 @@
 -- What giving a log back leaves.
 use Rattle.std.specs.Prelude.{◌≡◌, ◌≢◌, ℕ, ◌==◌, ◌||◌, not, true, List}
 use Rattle.std.specs.List.{filter}
-use Rattle.std.specs.Vec.{vec_len, vec_capacity}
+use Rattle.std.specs.Vec.{vec_len}
 use Rattle.far_core.specs.declared.event.Event.TheVariants.{Get}
 use Rattle.far_core.specs.events.Step.{after}
 use Rattle.far_core.specs.state.State.{State}
@@ -23,6 +23,5 @@ pub record GivesBack (old new : Ledger) (l : ℕ) : Type 0 where
   pub here : filled_of new l ≡ record { tail = 0; live = 0 }
   pub there : (k : ℕ) → k ≢ l → filled_of new k ≡ filled_of old k
   pub logs : vec_len new.filled ≡ vec_len old.filled
-  pub order : new.order.items ≡ order_without l old.order.items
-  pub room : vec_capacity new.order ≡ vec_capacity old.order
+  pub order : new.order ≡ order_without l old.order
   pub rest : new ≡ record old { free_logs = new.free_logs; filled = new.filled; order = new.order }

@@ -15,6 +15,7 @@ ghost use Rattle.far_hand.specs.Finds.{Finds};
 ghost use Rattle.far_hand.specs.Came.{Came, only};
 ghost use Rattle.far_hand.specs.Known.{Forgets, KeepsKnown};
 ghost use Rattle.far_book.specs.book.Asking.{AsksToEvict};
+ghost use Rattle.far_book.specs.book.Calls.{EvictsObject};
 ghost use Rattle.far_book.specs.book.Dealing.{IsRetired, IsSeen, has_evac, is_failure};
 ghost use Rattle.far_hand.specs.Quiet.{IsQuietNear};
 ghost use Rattle.far_book.specs.book.Actions.{Does, Evicts};
@@ -42,6 +43,18 @@ impl<N: Near + Drop, D: Device + Drop> Book<N, D> {
         requires pointer { pointer < CELLS * (N.view self.old.near).mutators }
         requires quiet { IsQuietNear (N.view self.old.near) pointer }
         requires evac { has_evac (read_of ((N.view self.old.near).cell pointer)) ≡ true }
+        ensures { EvictsObject N.still N.view N.makes D.contents D.honest D.faults D.fails_at_most D.lets_go D.forgets D.writes self.old self.new pointer result }
+    {
+        self.evict_by(pointer, None)
+    }
+
+    /// The same by the word that its cell is known to have, if one is given, or else by the one that is found there.
+    #[inline(always)]
+    pub fn evict_by(&mut self, pointer: u16, known: Option<u64>) -> Result<bool, Refused>
+        requires pointer { pointer < CELLS * (N.view self.old.near).mutators }
+        requires quiet { IsQuietNear (N.view self.old.near) pointer }
+        requires evac { has_evac (read_of ((N.view self.old.near).cell pointer)) ≡ true }
+        requires known { IfSome known (λ word. word ≡ (N.view self.old.near).cell pointer) }
         ensures far { result ≡ Ok true → GoesFar (N.view self.old.near) (N.view self.new.near) pointer }
         ensures away { N.still → result ≡ Ok true → N.view self.new.near ≡ evicted (N.view self.old.near) pointer }
         ensures gone { result ≡ Ok false → IsRetired N.still (N.view self.old.near) (N.view self.new.near) pointer }
@@ -59,7 +72,7 @@ impl<N: Near + Drop, D: Device + Drop> Book<N, D> {
         ensures follows { Follows D.contents D.honest D.faults D.fails_at_most (other_than pointer) (is_failure result) self.old.device self.new.device }
         ensures ran { N.still → Does (N.view self.old.near) (Evicts pointer result) (N.view self.new.near) }
     {
-        let found = self.see(pointer);
+        let found = self.cell_of(pointer, known);
         let PtrWord::Near {
             len,
             ds,

@@ -31,7 +31,18 @@ impl<N: Near + Drop, D: Device + Drop> Book<N, D> {
         requires quiet { IsQuietNear (N.view self.old.near) pointer }
         ensures { MovesObject N.still N.view N.makes D.contents D.honest D.faults D.fails_at_most D.lets_go D.forgets self.old self.new pointer result }
     {
-        match self.settle(pointer) {
+        self.move_by(pointer, None)
+    }
+
+    /// The same by the word that its cell is known to have, if one is given, or else by the one that is found there.
+    #[inline(always)]
+    pub fn move_by(&mut self, pointer: u16, known: Option<u64>) -> Result<Option<Place>, Refused>
+        requires pointer { pointer < CELLS * (N.view self.old.near).mutators }
+        requires quiet { IsQuietNear (N.view self.old.near) pointer }
+        requires known { IfSome known (λ word. word ≡ (N.view self.old.near).cell pointer) }
+        ensures { MovesObject N.still N.view N.makes D.contents D.honest D.faults D.fails_at_most D.lets_go D.forgets self.old self.new pointer result }
+    {
+        match self.settle(pointer, known) {
             Ok(Some(place)) => Ok(Some(place)),
             Ok(None) => {
                 self.retire(pointer);
@@ -42,9 +53,10 @@ impl<N: Near + Drop, D: Device + Drop> Book<N, D> {
     }
 
     // The same, but that an object that its owner has dropped isn't retired yet.
-    fn settle(&mut self, pointer: u16) -> Result<Option<Place>, Refused>
+    fn settle(&mut self, pointer: u16, known: Option<u64>) -> Result<Option<Place>, Refused>
         requires pointer { pointer < CELLS * (N.view self.old.near).mutators }
         requires quiet { IsQuietNear (N.view self.old.near) pointer }
+        requires known { IfSome known (λ word. word ≡ (N.view self.old.near).cell pointer) }
         ensures place { IfOk result (λ o. IfSome o (λ place. goal (N.view self.old.near) pointer ≡ Some place)) }
         ensures moved { IfOk result (λ o. IfSome o (λ place. MovedBy (N.view self.old.near) (N.view self.new.near) pointer place)) }
         ensures order { IfOk result (λ o. MatchOption o (self.new.order ≡ self.old.order) (λ place. self.new.order ≡ order_moved (N.view self.old.near) pointer self.old.order place)) }
@@ -62,7 +74,7 @@ impl<N: Near + Drop, D: Device + Drop> Book<N, D> {
         ensures came { Came N.makes self.old.near self.new.near }
     {
         self.keeps_law();
-        let found = self.see(pointer);
+        let found = self.cell_of(pointer, known);
         if is_dropped(found) {
             return Ok(None);
         }
@@ -91,8 +103,7 @@ impl<N: Near + Drop, D: Device + Drop> Book<N, D> {
         ensures none { IfErr result (λ _. goal (N.view self.old.near) pointer ≡ None) }
         ensures unchanged { IfErr result (λ _. self.new ≡ self.old) }
     {
-        let was = PtrWord::known(found);
-        let PtrWord::Near { len, ds, place, .. } = was else {
+        let PtrWord::Near { len, ds, place, .. } = PtrWord::known(found) else {
             unreachable!()
         };
         let size = size_of(len);
@@ -102,9 +113,8 @@ impl<N: Near + Drop, D: Device + Drop> Book<N, D> {
         if !move_object(&mut self.near, pointer, found, len, ds, place, to) {
             return Ok(None);
         }
-        // The old span dies as that of an object that is retired, and the new one is taken as that of a new object.
-        self.ledger.retire(pointer, was);
-        self.ledger.take(pointer, size, to);
+        self.ledger.lose(place.log, size);
+        self.ledger.take_again(size, to);
         Ok(Some(to))
     }
 

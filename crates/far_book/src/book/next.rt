@@ -8,10 +8,11 @@ ghost use Rattle.far_log.specs.Spans.{span_at};
 ghost use Rattle.far_core.specs.state.Spans.{names_place, word_in};
 ghost use Rattle.far_hand.specs.Finds.{Finds};
 ghost use Rattle.far_hand.specs.Came.{Came, only};
-ghost use Rattle.far_book.specs.book.NextLive.{IsBoundary, IsHomeOf, IsNamedBetween, live_from, searched_to};
+ghost use Rattle.far_book.specs.book.NextLive.{IsBoundary, IsHomeOf, IsNamedBetween, live_from, searched_to, span_in};
 ghost use Rattle.far_book.specs.book.Only.{Reads};
 
 use crate::book::Book;
+use crate::live_span::LiveSpan;
 use far_device::Device;
 use far_hand::Near;
 use far_log::Span;
@@ -40,6 +41,30 @@ impl<N: Near + Drop, D: Device + Drop> Book<N, D> {
         ensures order { self.new.order ≡ self.old.order }
         ensures device { self.new.device ≡ self.old.device }
     {
+        match self.next_found(log, at) {
+            Some(found) => Some(found.span),
+            None => None,
+        }
+    }
+
+    /// The same with the object's cell, as it was found.
+    pub fn next_found(&mut self, log: u8, at: u16) -> Option<LiveSpan>
+        requires log { log < (N.view self.old.near).logs }
+        requires begins { IsBoundary (N.view self.old.near) log at }
+        ensures first { IfSome result (λ found. live_from (N.view self.old.near) log at ≡ found.span ∷ live_from (N.view self.old.near) log (found.span.at + size_of found.span.len)) }
+        ensures none { IfNone result (live_from (N.view self.old.near) log at ≡ []) }
+        ensures next { IfSome result (λ found. IsBoundary (N.view self.old.near) log (found.span.at + size_of found.span.len)) }
+        ensures inside { IfSome result (λ found. found.span.at + size_of found.span.len ≤ LOG_WORDS) }
+        ensures lies { IfSome result (λ found. IsHomeOf (N.view self.new.near) log found.span) }
+        ensures cell { IfSome result (λ found. found.cell ≡ (N.view self.new.near).cell found.span.p) }
+        ensures found { (p : ℕ) → Finds ((N.view self.old.near).cell p) ((N.view self.new.near).cell p) }
+        ensures others { (p : ℕ) → IsNamedBetween (N.view self.old.near) log at (searched_to (N.view self.old.near) log (span_in result)) p ⊎ ((N.view self.new.near).cell p ≡ (N.view self.old.near).cell p) }
+        ensures kept { N.view self.new.near ≡ record (N.view self.old.near) { cell = (N.view self.new.near).cell } }
+        ensures exact { N.still → N.view self.new.near ≡ N.view self.old.near }
+        ensures came { Came N.makes self.old.near self.new.near }
+        ensures order { self.new.order ≡ self.old.order }
+        ensures device { self.new.device ≡ self.old.device }
+    {
         self.keeps_law();
         if self.none_lives(log) {
             return None;
@@ -48,8 +73,9 @@ impl<N: Near + Drop, D: Device + Drop> Book<N, D> {
         let mut at = at;
         while at < tail {
             let span = self.span_at(log, at);
-            if names_place(self.see(span.p), log, at) {
-                return Some(span);
+            let cell = self.see(span.p);
+            if names_place(cell, log, at) {
+                return Some(LiveSpan { span, cell });
             }
             at += size_of(span.len);
         }

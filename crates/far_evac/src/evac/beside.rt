@@ -1,6 +1,6 @@
 //! How objects leave where copies may be offered: hot ones wait for copiers.
 
-ghost use Rattle.std.specs.Prelude.{◌≡◌, ◌⊎◌, ◌+◌, ◌*◌, ◌^◌, ◌<◌, ◌≤◌, ℕ, List, Err, IfOk, IfErr, IsSome};
+ghost use Rattle.std.specs.Prelude.{◌≡◌, ◌⊎◌, ◌+◌, ◌*◌, ◌^◌, ◌<◌, ◌≤◌, ℕ, List, Err, IfOk, IfErr, IfSome, IsSome};
 ghost use Rattle.far_device.specs.Following.{Follows, none_of, other_than};
 ghost use Rattle.far_word.specs.declared.refused.Refused.TheVariants.{Device as Failed, Memory};
 ghost use Rattle.far_word.specs.declared.sizes.TheConstants.{CELLS, LOG_WORDS};
@@ -62,13 +62,14 @@ pub(super) fn walk_log<N: Near + Drop, D: Device + Drop>(
     book.keeps_law();
     let mut left = n;
     let mut at = 0;
-    while let Some(span) = book.next_live(log, at) {
+    while let Some(found) = book.next_found(log, at) {
+        let span = found.span;
         book.keeps_law();
         if !book.has_job(span.p, Place { log, at: span.at }) {
             if left == 0 {
                 return (0, Passage::Stops);
             }
-            if let Err(why) = deal_beside(book, span.p, progress) {
+            if let Err(why) = deal_beside(book, span.p, Some(found.cell), progress) {
                 return (left, Passage::Fails(span.p, why));
             }
             left -= 1;
@@ -79,13 +80,15 @@ pub(super) fn walk_log<N: Near + Drop, D: Device + Drop>(
     (left, Passage::On)
 }
 
-// Deals with an object, and counts it, unless its copy is offered. At a refusal it lies as before.
+// Deals with an object, whose cell may be known, and counts it, unless its copy is offered. At a refusal it lies as before.
 fn deal_beside<N: Near + Drop, D: Device + Drop>(
     book: &mut Book<N, D>,
     pointer: u16,
+    cell: Option<u64>,
     progress: &mut Progress,
 ) -> Result<(), Refused>
     requires pointer { pointer < CELLS * (N.view book.old.near).mutators }
+    requires cell { IfSome cell (λ word. word ≡ (N.view book.old.near).cell pointer) }
     requires clear { IsClearNear (N.view book.old.near) pointer }
     requires room { objects_in (tally_of progress.old) + 1 < 2 ^ 64 }
     ensures came { Came N.makes book.old.near book.new.near }
@@ -99,7 +102,7 @@ fn deal_beside<N: Near + Drop, D: Device + Drop>(
     ensures follows { Follows D.contents D.honest D.faults D.fails_at_most (other_than pointer) (is_failure result) book.old.device book.new.device }
     ensures why { IfErr result (λ why. (why ≡ Memory) ⊎ (why ≡ Failed)) }
 {
-    match offer_or_leave(book, pointer) {
+    match offer_or_leave(book, pointer, cell) {
         Ok(Some(fate)) => {
             count(progress, fate);
             Ok(())
@@ -113,8 +116,10 @@ fn deal_beside<N: Near + Drop, D: Device + Drop>(
 fn offer_or_leave<N: Near + Drop, D: Device + Drop>(
     book: &mut Book<N, D>,
     pointer: u16,
+    cell: Option<u64>,
 ) -> Result<Option<Fate>, Refused>
     requires pointer { pointer < CELLS * (N.view book.old.near).mutators }
+    requires cell { IfSome cell (λ word. word ≡ (N.view book.old.near).cell pointer) }
     requires clear { IsClearNear (N.view book.old.near) pointer }
     ensures came { Came N.makes book.old.near book.new.near }
     ensures dealt { IfOk result (λ fate. GoesBeside D D.writes D.lets_go (N.view book.old.near) book.old.order (N.view book.new.near) book.new.order pointer fate book.old.device book.new.device) }
@@ -125,14 +130,15 @@ fn offer_or_leave<N: Near + Drop, D: Device + Drop>(
     ensures why { IfErr result (λ why. (why ≡ Memory) ⊎ (why ≡ Failed)) }
 {
     book.keeps_law();
-    match warmth_in(book.see(pointer)) {
+    let found = book.cell_of(pointer, cell);
+    match warmth_in(found) {
         Warmth::Cold => {
             book.keeps_law();
-            known(send_far(book, pointer))
+            known(send_far(book, pointer, Some(found)))
         }
         Warmth::Dropped => {
             book.keeps_law();
-            known(send_off(book, pointer))
+            known(send_off(book, pointer, Some(found)))
         }
         Warmth::Hot => {
             book.keeps_law();
@@ -141,7 +147,7 @@ fn offer_or_leave<N: Near + Drop, D: Device + Drop>(
                 return Ok(None);
             }
             book.keeps_law();
-            known(send_off(book, pointer))
+            known(send_off(book, pointer, None))
         }
     }
 }

@@ -31,7 +31,7 @@ ghost use Rattle.far_evac.specs.declared.phase.Phase.TheVariants as phase;
 use crate::answers::{EvacFault, Progress};
 use crate::evac::Evac;
 use crate::phase::Phase;
-use far_book::{Book, Near};
+use far_book::{Book, LiveSpan, Near};
 use far_device::Device;
 use far_log::Span;
 use far_word::{Place, PtrWord, Refused, size_of};
@@ -140,10 +140,10 @@ impl<N: Near + Drop, D: Device + Drop> Evac<N, D> {
         self.keeps_law();
         let _collection = self.collection().len();
         for _ in 0..n {
-            let Some(span) = self.settle(progress) else {
+            let Some(first) = self.settle(progress) else {
                 return Ok(true);
             };
-            if let Err(why) = self.deal(span, progress) {
+            if let Err(why) = self.deal(first.span, first.cell, progress) {
                 return Err(why);
             }
         }
@@ -153,7 +153,7 @@ impl<N: Near + Drop, D: Device + Drop> Evac<N, D> {
     // Gives back the logs in front without live objects, and counts them; the span of the first live object that is left, or none, and
     // then the round is over.
     #[inline(always)]
-    fn settle(&mut self, progress: &mut Progress) -> Option<Span>
+    fn settle(&mut self, progress: &mut Progress) -> Option<LiveSpan>
         requires phase { self.old.phase ≡ phase.Evacuating }
         requires alone { self.old.copying ≡ false }
         requires room { progress.old.freed + length self.old.collection < 2 ^ 64 }
@@ -161,8 +161,9 @@ impl<N: Near + Drop, D: Device + Drop> Evac<N, D> {
         ensures known { KnowsWalked (settled (standing N.view self.old progress.old)) (standing N.view self.new progress.new) }
         ensures exact { N.still → standing N.view self.new progress.new ≡ settled (standing N.view self.old progress.old) }
         ensures ends { self.new.phase ≡ cond (is_empty self.new.collection) phase.Idle phase.Evacuating }
-        ensures first { IfSome result (λ span. (rest : List ℕ) × (left (standing N.view self.new progress.new) ≡ span.p ∷ rest)) }
-        ensures next { IfSome result (λ span. IsNextLeaving (N.view self.new.book.near) self.new.collection span) }
+        ensures first { IfSome result (λ first. (rest : List ℕ) × (left (standing N.view self.new progress.new) ≡ first.span.p ∷ rest)) }
+        ensures next { IfSome result (λ first. IsNextLeaving (N.view self.new.book.near) self.new.collection first.span) }
+        ensures cell { IfSome result (λ first. first.cell ≡ (N.view self.new.book.near).cell first.span.p) }
         ensures none { IfNone result (self.new.collection ≡ []) }
         ensures copying { self.new.copying ≡ self.old.copying }
         ensures freed { progress.new.freed + length self.new.collection ≡ progress.old.freed + length self.old.collection }
@@ -171,8 +172,8 @@ impl<N: Near + Drop, D: Device + Drop> Evac<N, D> {
     {
         self.keeps_law();
         while let Some(log) = self.front() {
-            if let Some(span) = self.first_in(log) {
-                return Some(span);
+            if let Some(first) = self.first_in(log) {
+                return Some(first);
             }
             self.give_back(log);
             progress.freed += 1;
@@ -206,23 +207,24 @@ impl<N: Near + Drop, D: Device + Drop> Evac<N, D> {
     }
 
     // The span of the first live object of the log in front, where the evacuation stands then; none, where no object lives there.
-    fn first_in(&mut self, log: u8) -> Option<Span>
+    fn first_in(&mut self, log: u8) -> Option<LiveSpan>
         requires phase { self.old.phase ≡ phase.Evacuating }
         requires front { (logs : List ℕ) × (self.old.collection ≡ log ∷ logs) }
         ensures came { Came N.makes self.old.book.near self.new.book.near }
         ensures known { KnowsMoment (moment N.view self.old) (moment N.view self.new) }
         ensures exact { N.still → moment N.view self.new ≡ moment N.view self.old }
-        ensures first { IfSome result (λ span. (rest : List ℕ) × (live_in (N.view self.old.book.near) log ≡ span.p ∷ rest)) }
-        ensures next { IfSome result (λ span. IsNextLeaving (N.view self.new.book.near) self.new.collection span) }
+        ensures first { IfSome result (λ first. (rest : List ℕ) × (live_in (N.view self.old.book.near) log ≡ first.span.p ∷ rest)) }
+        ensures next { IfSome result (λ first. IsNextLeaving (N.view self.new.book.near) self.new.collection first.span) }
+        ensures cell { IfSome result (λ first. first.cell ≡ (N.view self.new.book.near).cell first.span.p) }
         ensures none { IfNone result (live_in (N.view self.old.book.near) log ≡ []) }
         ensures device { self.new.book.device ≡ self.old.book.device }
     {
         self.book.keeps_law();
-        let Some(span) = self.book.next_live(log, self.round.at) else {
+        let Some(first) = self.book.next_found(log, self.round.at) else {
             return None;
         };
-        self.round.at = span.at;
-        Some(span)
+        self.round.at = first.span.at;
+        Some(first)
     }
 
     // Gives the log in front back, where no object lives; after the last the round is over.
@@ -251,10 +253,11 @@ impl<N: Near + Drop, D: Device + Drop> Evac<N, D> {
     }
 
     // Deals with the first live object that is left, and counts it: the evacuation stands behind its span then. At a refusal it lies as before.
-    fn deal(&mut self, span: Span, progress: &mut Progress) -> Result<(), Refused>
+    fn deal(&mut self, span: Span, cell: u64, progress: &mut Progress) -> Result<(), Refused>
         requires phase { self.old.phase ≡ phase.Evacuating }
         requires first { (rest : List ℕ) × (left (standing N.view self.old progress.old) ≡ span.p ∷ rest) }
         requires next { IsNextLeaving (N.view self.old.book.near) self.old.collection span }
+        requires cell { cell ≡ (N.view self.old.book.near).cell span.p }
         requires room { objects_in (tally_of progress.old) + 1 < 2 ^ 64 }
         ensures came { Came N.makes self.old.book.near self.new.book.near }
         ensures dealt { IfOk result (λ _. (word : ℕ) × Finds ((N.view self.old.book.near).cell span.p) word
@@ -272,7 +275,7 @@ impl<N: Near + Drop, D: Device + Drop> Evac<N, D> {
         ensures why { IfErr result (λ why. (why ≡ Memory) ⊎ (why ≡ Failed)) }
     {
         self.keeps_law();
-        match send_off(&mut self.book, span.p) {
+        match send_off(&mut self.book, span.p, Some(cell)) {
             Ok(fate) => {
                 self.book.keeps_law();
                 self.round.at = span.at + size_of(span.len);
@@ -297,13 +300,15 @@ pub(super) fn count(progress: &mut Progress, fate: Fate)
 }
 
 // An object leaves its log as its cell says: one that its owner has dropped is retired; a hot one goes to another log, or far where no room
-// is; any other goes far. At a refusal it lies as before.
+// is; any other goes far. At a refusal it lies as before. Its cell may be known.
 #[inline(always)]
 pub(super) fn send_off<N: Near + Drop, D: Device + Drop>(
     book: &mut Book<N, D>,
     pointer: u16,
+    cell: Option<u64>,
 ) -> Result<Fate, Refused>
     requires pointer { pointer < CELLS * (N.view book.old.near).mutators }
+    requires cell { IfSome cell (λ word. word ≡ (N.view book.old.near).cell pointer) }
     requires quiet { IsQuietNear (N.view book.old.near) pointer }
     requires evac { has_evac (read_of ((N.view book.old.near).cell pointer)) ≡ true }
     ensures came { Came N.makes book.old.near book.new.near }
@@ -318,14 +323,15 @@ pub(super) fn send_off<N: Near + Drop, D: Device + Drop>(
     ensures why { IfErr result (λ why. (why ≡ Memory) ⊎ (why ≡ Failed)) }
 {
     book.keeps_law();
-    if !goes_near(book.see(pointer)) {
-        return send_far(book, pointer);
+    let found = book.cell_of(pointer, cell);
+    if !goes_near(found) {
+        return send_far(book, pointer, Some(found));
     }
-    let answer = book.move_now(pointer);
+    let answer = book.move_by(pointer, Some(found));
     book.keeps_law();
     match answer {
         Ok(place) => Ok(near_fate(place)),
-        Err(_) => send_far(book, pointer),
+        Err(_) => send_far(book, pointer, None),
     }
 }
 
@@ -339,13 +345,15 @@ fn near_fate(place: Option<Place>) -> Fate
     }
 }
 
-// An object that isn't known to be dropped goes far, unless it is found to be.
+// An object that isn't known to be dropped goes far, unless it is found to be. Its cell may be known.
 #[inline(always)]
 pub(super) fn send_far<N: Near + Drop, D: Device + Drop>(
     book: &mut Book<N, D>,
     pointer: u16,
+    cell: Option<u64>,
 ) -> Result<Fate, Refused>
     requires pointer { pointer < CELLS * (N.view book.old.near).mutators }
+    requires cell { IfSome cell (λ word. word ≡ (N.view book.old.near).cell pointer) }
     requires quiet { IsQuietNear (N.view book.old.near) pointer }
     requires evac { has_evac (read_of ((N.view book.old.near).cell pointer)) ≡ true }
     requires alive { is_dropped (read_of ((N.view book.old.near).cell pointer)) ≡ false }
@@ -361,7 +369,7 @@ pub(super) fn send_far<N: Near + Drop, D: Device + Drop>(
     ensures why { IfErr result (λ why. (why ≡ Memory) ⊎ (why ≡ Failed)) }
 {
     book.keeps_law();
-    let answer = book.evict(pointer);
+    let answer = book.evict_by(pointer, cell);
     book.keeps_law();
     match answer {
         Ok(true) => Ok(Fate::Far),

@@ -227,13 +227,12 @@ fn next_unmarked<N: Near + Drop, D: Device + Drop>(
     ensures device { book.new.device ≡ book.old.device }
 {
     let mut from = at;
-    while let Some(span) = book.next_live(log, from) {
-        let cell = book.see(span.p);
+    while let Some(found) = book.next_found(log, from) {
         book.keeps_law();
-        if !has_evac(cell) {
-            return Some(span);
+        if !has_evac(found.cell) {
+            return Some(found.span);
         }
-        from = span.at + size_of(span.len);
+        from = found.span.at + size_of(found.span.len);
     }
     book.keeps_law();
     None

@@ -1,7 +1,7 @@
 use Rattle.far_book.proofs.book.Book.carry.Given.{Over}
-use Rattle.far_book.proofs.book.Book.carry.Goals.{After-retire, After-room}
+use Rattle.far_book.proofs.book.Book.carry.Goals.{After-lose, After-room}
 use Rattle.far_book.proofs.book.Book.carry.Goals as goal
-use Rattle.std.proofs.Common.{◌≡◌, ◌∙◌, ◌*◌, ◌<◌, ap, arith, sym, subst, Some, true, false}
+use Rattle.std.proofs.Common.{◌≡◌, ◌∙◌, ◌*◌, ◌<◌, ◌≤◌, ap, arith, sym, subst, Some, true, false}
 use Rattle.far_word.specs.declared.pointer.PtrWord.TheVariants.{Near}
 use Rattle.far_word.specs.declared.sizes.TheConstants.{CELLS}
 use Rattle.far_word.specs.Pointer.{read_of}
@@ -13,10 +13,9 @@ use Rattle.far_book.specs.book.BookOf.{BookOf}
 use Rattle.far_hand.specs.Quiet.{IsQuietNear}
 use Rattle.far_book.specs.book.Dealing as dealing
 use Rattle.far_book.specs.book.Effects.{order_after}
-use Rattle.far_book.specs.book.Ledger.{MayTake, Notes, Takes}
+use Rattle.far_book.specs.book.Ledger.{Fills, Loses, MayFill, filled_of}
 use Rattle.far_book.specs.book.Own.{own_part}
-use Rattle.far_book.proofs.region.Calls.{may_take, order_taken}
-use Rattle.far_book.proofs.region.Carrying.{LiesIn, carried_by, drop_keeps, dropped, freed, may_copy, may_leave, notes_dropped, there}
+use Rattle.far_book.proofs.region.Carrying.{LiesIn, carried_by, drop_keeps, may_copy, may_fill, may_lose, order_carried}
 use Rattle.far_book.proofs.region.Moved.{evac_of, goal_there, quiet_here}
 
 -- ---- once the book was opened
@@ -49,10 +48,6 @@ module _ (g : Over) (c : After-room g) where
   goes = ap (λ (x : State). dealing.goal x c.args.pointer) (sym same)
       ∙ goal_there (g.N.Near.view c.self.inside.near) c.args.pointer quiet c.in-Near.len c.in-Near.ds c.in-Near.place c.in-Near.marks lies.near wanted ∙ told
 
--- the old span is dead
-noted : (g : Over) (c : After-retire g) → Notes (own_part (freed (lies g (goal.at.After-retire g c).After-room))) c.retire.new.self
-noted g c = let x = lies g (goal.at.After-retire g c).After-room in c.retire.ensures.notes (own_part (dropped x)) (notes_dropped x) (may_leave x)
-
 pub room-requires-clause-size : goal.room-requires-clause-size
 room-requires-clause-size g c =
     let n = c.in-Near in
@@ -75,20 +70,25 @@ invariant_of-self g c = (
   c.self.invariant.1,
 )
 
-pub retire-requires : goal.retire-requires
-retire-requires g c = let x = lies g (goal.at.retire-requires g c).After-room in record { known = (own_part (dropped x), notes_dropped x, may_leave x) }
+-- the old span is dead, and a new one is taken
+lost : (g : Over) (c : After-lose g) → Loses c.self.inside.ledger c.lose.new.self c.in-Near.place.log (size_of c.in-Near.len)
+lost g c = subst (Loses c.self.inside.ledger c.lose.new.self c.in-Near.place.log) c.size_of-size.ensures c.lose.ensures
 
-pub take-requires : goal.take-requires
-take-requires g c =
-    let h = (goal.at.take-requires g c).After-room in
-    let there = there (lies g h) c.in-Some.to (told g h ∙ c.in-Some.is) c.retire.new.self (noted g (goal.at.take-requires g c).After-retire) in
-    subst (λ n. MayTake c.retire.new.self c.args.pointer n c.in-Some.to) (sym c.size_of-size.ensures) (may_take there)
+pub lose-requires : goal.lose-requires
+lose-requires g c =
+    let may = may_lose (lies g (goal.at.lose-requires g c).After-room) in
+    record { log = may.0; live = subst (λ n. 8 * n ≤ (filled_of c.self.inside.ledger c.in-Near.place.log).live) (sym c.size_of-size.ensures) may.1; size = omega (arith, c.size_of-size.ensures, may.2) }
+
+pub take_again-requires : goal.take_again-requires
+take_again-requires g c =
+    let h = goal.at.take_again-requires g c in
+    subst (λ n. MayFill c.lose.new.self n c.in-Some.to) (sym c.size_of-size.ensures) (may_fill (lies g h.After-room) c.in-Some.to (told g h.After-room ∙ c.in-Some.is) c.lose.new.self (lost g h.After-lose))
 
 pub invariant_of-self-2 : goal.invariant_of-self-2
 invariant_of-self-2 g c =
-    let h = (goal.at.invariant_of-self-2 g c).After-room in (
-      carried_by (lies g h) (g.N.Near.view c.move_object.new.near) c.in-Some.to (c.move_object.ensures.moved c.if-not-move_object.false) (told g h ∙ c.in-Some.is) c.retire.new.self (noted g (goal.at.invariant_of-self-2 g c).After-retire) (wanted g h)
-          c.take.new.self (subst (λ n. Takes c.retire.new.self c.take.new.self c.args.pointer n c.in-Some.to) c.size_of-size.ensures c.take.ensures),
+    let h = goal.at.invariant_of-self-2 g c in (
+      carried_by (lies g h.After-room) (g.N.Near.view c.move_object.new.near) c.in-Some.to (c.move_object.ensures.moved c.if-not-move_object.false) (told g h.After-room ∙ c.in-Some.is) (wanted g h.After-room)
+          c.lose.new.self (lost g h.After-lose) c.take_again.new.self (subst (λ n. Fills c.lose.new.self c.take_again.new.self n c.in-Some.to) c.size_of-size.ensures c.take_again.ensures),
       c.self.invariant.1,
     )
 
@@ -97,8 +97,7 @@ returns-clause-place g c = goes g (goal.at.returns-clause-place g c).After-room 
 
 pub returns-clause-order : goal.returns-clause-order
 returns-clause-order g c =
-    let h = (goal.at.returns-clause-order g c).After-room in
-    let there = there (lies g h) c.in-Some.to (told g h ∙ c.in-Some.is) c.retire.new.self (noted g (goal.at.returns-clause-order g c).After-retire) in
-    order_taken there c.take.new.self (subst (λ n. Takes c.retire.new.self c.take.new.self c.args.pointer n c.in-Some.to) c.size_of-size.ensures c.take.ensures)
-    ∙ ap (λ o. order_after (g.N.Near.view c.self.inside.near) o.items c.in-Some.to) c.retire.ensures.order
+    let h = goal.at.returns-clause-order g c in
+    order_carried (lies g h.After-room) c.in-Some.to (told g h.After-room ∙ c.in-Some.is) c.lose.new.self (lost g h.After-lose) c.take_again.new.self
+    (subst (λ n. Fills c.lose.new.self c.take_again.new.self n c.in-Some.to) c.size_of-size.ensures c.take_again.ensures)
     ∙ ap (λ (b : BookOf g.row.N.Denot g.row.D.Denot). order_after (g.N.Near.view b.near) b.order c.in-Some.to) c.self.view_is

@@ -148,7 +148,7 @@ returns g c =
       exact = λ still _. offers_only s (g.N.Near.view c.self-2.inside.near) (g.N.Near.view c.offer_copy.new.near) c.args.pointer c.see-found.result at c.see-found.ensures.found c.in-Some.job n.len n.ds n.from c.in-Some-room.to n.marks says low place
           (c.see-found.ensures.exact still) (c.offer_copy.ensures.exact still);
       order = λ _. c.begin.ensures.opens.order
-          ∙ ap (λ k. order_after (record (g.N.Near.view c.self-2.inside.near) { current = k }) c.self-2.inside.ledger.order.items c.in-Some-room.to) c.self-2.invariant.0.notes.current
+          ∙ ap (λ k. order_after (record (g.N.Near.view c.self-2.inside.near) { current = k }) c.self-2.inside.ledger.order c.in-Some-room.to) c.self-2.invariant.0.notes.current
           ∙ ap (λ (b : BookOf g.row.N.Denot g.row.D.Denot). order_after (g.N.Near.view b.near) b.order c.in-Some-room.to) c.self-2.view_is
           ∙ ap (λ (x : State). order_after x c.see-found.new.self.order c.in-Some-room.to) c.see-found.ensures.kept ∙ ap (λ o. order_after s o c.in-Some-room.to) c.see-found.ensures.order
           ∙ sym (ap (order_fetched s c.args.self.now.order) place);

@@ -1,37 +1,38 @@
 use Rattle.far_book.proofs.book.Book.rows.Goals as goal
-use Rattle.std.proofs.Common.{◌≡◌, ◌<◌, ap, sym, subst, ◌∙◌, arith, length, ℕ, List, ◌++◌, ◌∷◌, []}
+use Rattle.std.proofs.Common.{◌∙◌, ap, sym, arith, length, ◌++◌, ◌∷◌, []}
 use Rattle.std.specs.Prelude.{slice_index_or}
 use Rattle.far_book.specs.book.Own.{own_part}
 use Rattle.far_book.specs.book.Rows.{row_of}
-use Rattle.far_book.proofs.region.Calls.{row_own, rows_more}
-use Rattle.far_book.proofs.region.NotesKept.{order_inside}
+use Rattle.far_book.proofs.region.Calls.{row_own}
+use Rattle.far_book.proofs.region.Gone.{rows_few, rows_gone, rows_kept}
+use Rattle.far_book.proofs.region.NotesKept.{listed_inside}
 
 pub row-requires : goal.row-requires
 row-requires g c =
-    let same : c.deref-log-items.result.now ≡ c.self.inside.ledger.order.items = c.deref-log-items.ensures.value in
-    let inside : c.loop-log.log-index < length c.self.inside.ledger.order.items = subst (λ (xs : List ℕ). c.loop-log.log-index < length xs) same c.loop-log-test.true in
+    let s = g.N.Near.view c.self.inside.near in
+    let notes = c.self.invariant.0.notes in
+    let stays = sym c.holds.ensures ∙ c.if-holds.false in
+    record { known = (own_part s, (notes, listed_inside (own_part s) c.self.inside.ledger notes c.parts.result.1 c.parts.result.0.now c.parts.ensures.sealed c.loop-log.log-index c.loop-log-test.true stays)) }
+
+pub loop-log-preserved-then-holds : goal.loop-log-preserved-then-holds
+loop-log-preserved-then-holds g c =
+    let away = sym c.holds.ensures ∙ c.if-holds.true in
     record {
-      known = (
-        own_part (g.N.Near.view c.self.inside.near),
-        (
-          c.self.invariant.0.notes,
-          subst (λ (xs : List ℕ). slice_index_or xs c.loop-log.log-index 0 < (g.N.Near.view c.self.inside.near).logs) (sym same) (order_inside (own_part (g.N.Near.view c.self.inside.near)) c.self.inside.ledger c.self.invariant.0.notes c.loop-log.log-index inside),
-        ),
-      );
+      rows = c.loop-log.invariant.rows ∙ rows_gone (g.N.Near.view c.self.inside.near) c.parts.result.1 c.parts.result.0.now c.loop-log.log-index c.loop-log-test.true away;
+      count = omega (arith, c.loop-log.invariant.count);
+      room = c.loop-log.invariant.room;
     }
 
 pub loop-log-preserved : goal.loop-log-preserved
 loop-log-preserved g c =
     let s = g.N.Near.view c.self.inside.near in
-    let same : c.deref-log-items.result.now ≡ c.self.inside.ledger.order.items = c.deref-log-items.ensures.value in
-    let inside : c.loop-log.log-index < length c.self.inside.ledger.order.items = subst (λ (xs : List ℕ). c.loop-log.log-index < length xs) same c.loop-log-test.true in
-    let within : slice_index_or c.deref-log-items.result.now c.loop-log.log-index 0 < s.logs =
-    subst (λ (xs : List ℕ). slice_index_or xs c.loop-log.log-index 0 < s.logs) (sym same) (order_inside (own_part s) c.self.inside.ledger c.self.invariant.0.notes c.loop-log.log-index inside) in
-    let row : c.row.result ≡ row_of s (slice_index_or c.self.inside.ledger.order.items c.loop-log.log-index 0) =
-    c.row.ensures (own_part s) (c.self.invariant.0.notes, within) ∙ row_own s c.self.invariant.0.notes.law (slice_index_or c.deref-log-items.result.now c.loop-log.log-index 0)
-    ∙ ap (λ (xs : List ℕ). row_of s (slice_index_or xs c.loop-log.log-index 0)) same in
+    let notes = c.self.invariant.0.notes in
+    let i = c.loop-log.log-index in
+    let stays = sym c.holds.ensures ∙ c.if-holds.false in
+    let inside = listed_inside (own_part s) c.self.inside.ledger notes c.parts.result.1 c.parts.result.0.now c.parts.ensures.sealed i c.loop-log-test.true stays in
+    let row = c.row.ensures (own_part s) (notes, inside) ∙ row_own s notes.law (slice_index_or c.parts.result.0.now i 0) in
     record {
-      rows = c.push_reserved.ensures.items ∙ ap (λ xs. xs ++ c.row.result ∷ []) c.loop-log.invariant.rows ∙ rows_more s c.self.inside.ledger.order.items c.loop-log.log-index c.row.result inside row;
+      rows = c.push_reserved.ensures.items ∙ ap (λ xs. xs ++ c.row.result ∷ []) c.loop-log.invariant.rows ∙ rows_kept s c.parts.result.1 c.parts.result.0.now i c.loop-log-test.true stays c.row.result row;
       count = omega (arith, c.push_reserved.ensures.len, c.loop-log.invariant.count);
-      room = c.push_reserved.ensures.capacity ∙ c.loop-log.invariant.room;
+      room = omega (arith, c.push_reserved.ensures.capacity, c.loop-log.invariant.room);
     }

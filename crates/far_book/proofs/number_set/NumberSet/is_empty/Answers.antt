@@ -5,4 +5,4 @@ use Rattle.far_book.specs.book.NumberSet.{has}
 use Rattle.far_book.proofs.region.NumberSets.{has_none}
 
 pub returns : goal.returns
-returns c e k lt = ap (λ w. has record { word = w } k) (eqb-true c.args.self.word 0 e) ∙ has_none k
+returns c e k = ap (λ w. has record { word = w } k) (eqb-true c.args.self.word 0 e) ∙ has_none k

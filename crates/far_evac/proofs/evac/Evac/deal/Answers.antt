@@ -25,7 +25,12 @@ pub send_off-requires : goal.send_off-requires
 send_off-requires g c =
     let here = first_wanted (moment g.N.Near.view c.args.self.now) c.keeps_law.ensures.law c.keeps_law.ensures.moment c.requires.phase c.args.span.p c.requires.first.0 c.requires.first.1 in
     let wanted = subst (λ (e : EvacOf g.row.N.Denot g.row.D.Denot). Wanted (g.N.Near.view e.book.near) c.args.span.p) (sym c.self.view_is) here in
-    record { pointer = wanted.pointer; quiet = wanted.quiet; evac = wanted.evac }
+    record {
+      pointer = wanted.pointer;
+      quiet = wanted.quiet;
+      evac = wanted.evac;
+      cell = c.requires.cell ∙ sym (ap (λ (e : EvacOf g.row.N.Denot g.row.D.Denot). (g.N.Near.view e.book.near).cell c.args.span.p) c.self.view_is);
+    }
 
 pub invariant_of-self : goal.invariant_of-self
 invariant_of-self g c =

@@ -1,6 +1,6 @@
 use Rattle.std.proofs.Common.{◌≡◌, ◌+◌, ◌<◌, ◌∙◌, ◌∷◌, [], ℕ, List, cond, IfSome, IfNone, length, arith, ap, sym, refl, subst}
 use Rattle.std.specs.Prelude.{Bool, Err, false}
-use Rattle.far_log.specs.declared.span.Span.{Span}
+use Rattle.far_book.specs.declared.live_span.LiveSpan.{LiveSpan}
 use Rattle.far_device.specs.Following.{Follows, none_of}
 use Rattle.far_hand.proofs.Closure.{then_came}
 use Rattle.far_book.specs.book.Dealing.{is_failure}
@@ -65,8 +65,8 @@ loop-preserved g c =
     let v = standing view c.deal.new.self c.deal.new.progress in
     let before = c.loop.invariant in
     let walks = before.walks w c.settle.ensures.known in
-    let some = subst (λ o. IfSome o (λ (span : Span). (rest : List ℕ) × (left w ≡ span.p ∷ rest))) c.in-Some.is c.settle.ensures.first in
-    let next = subst (λ o. IfSome o (λ (span : Span). IsNextLeaving (view c.settle.new.self.book.near) c.settle.new.self.collection span)) c.in-Some.is c.settle.ensures.next in
+    let some = subst (λ o. IfSome o (λ (x : LiveSpan). (rest : List ℕ) × (left w ≡ x.span.p ∷ rest))) c.in-Some.is c.settle.ensures.first in
+    let next = subst (λ o. IfSome o (λ (x : LiveSpan). IsNextLeaving (view c.settle.new.self.book.near) c.settle.new.self.collection x.span)) c.in-Some.is c.settle.ensures.next in
     let leaving = c.settle.ensures.ends ∙ ap (λ (held : List ℕ). cond (is_empty held) phase.Idle phase.Evacuating) next.front in
     let did = c.in_default-deal.ensures in
     let long = ap length did.round.1 in
@@ -76,14 +76,14 @@ loop-preserved g c =
     record {
       phase = did.round.0 ∙ leaving;
       alone = did.round.2 ∙ c.settle.ensures.copying ∙ before.alone;
-      walks = λ (t : Walked) known. one_more m c.loop.counter w v t c.in-Some.span.p some.0 did.dealt.0 some.1 did.dealt.1 did.dealt.2 known walks;
-      exact = λ still. one_exact m c.loop.counter w v (settled v) c.in-Some.span.p some.0 some.1 (did.exact still) refl (c.settle.ensures.exact still ∙ before.exact still);
+      walks = λ (t : Walked) known. one_more m c.loop.counter w v t c.in-Some.first.span.p some.0 did.dealt.0 some.1 did.dealt.1 did.dealt.2 known walks;
+      exact = λ still. one_exact m c.loop.counter w v (settled v) c.in-Some.first.span.p some.0 some.1 (did.exact still) refl (c.settle.ensures.exact still ∙ before.exact still);
       freed = omega (arith, c.settle.ensures.freed, did.rest.0, long, before.freed);
       done = did.rest.1 ∙ c.settle.ensures.done ∙ before.done;
       asked = λ (t : Walked) known same.
-          asks_more g.row.D.Denot g.D.Device.writes g.D.Device.lets_go g.N.Near.still m c.loop.counter w v t c.in-Some.span.p some.0 did.dealt.0 old now c.deal.new.self.book.device some.1 did.dealt.1 did.dealt.2 known did.dealt.3 (λ still. (did.exact still, same still))
+          asks_more g.row.D.Denot g.D.Device.writes g.D.Device.lets_go g.N.Near.still m c.loop.counter w v t c.in-Some.first.span.p some.0 did.dealt.0 old now c.deal.new.self.book.device some.1 did.dealt.1 did.dealt.2 known did.dealt.3 (λ still. (did.exact still, same still))
           (asked g h c.loop.counter c.settle.new.self c.settle.new.progress walks c.settle.ensures.device refl (before.asked w c.settle.ensures.known c.settle.ensures.exact));
-      follows = follows_more g.D.Device.contents g.D.Device.honest g.D.Device.faults g.D.Device.fails_at_most m c.loop.counter w c.in-Some.span.p some.0 false old now c.deal.new.self.book.device ready walks some.1
+      follows = follows_more g.D.Device.contents g.D.Device.honest g.D.Device.faults g.D.Device.fails_at_most m c.loop.counter w c.in-Some.first.span.p some.0 false old now c.deal.new.self.book.device ready walks some.1
           (follows g h c.loop.counter c.settle.new.self c.settle.new.progress walks c.settle.ensures.device refl before.follows) did.follows;
       came = then_came (then_came before.came c.settle.ensures.came) did.came;
     }
@@ -146,7 +146,7 @@ pub returns-in-Err-clause-stops : goal.returns-in-Err-clause-stops
 returns-in-Err-clause-stops g c =
     let view = g.N.Near.view in
     let w = standing view c.settle.new.self c.settle.new.progress in
-    let next = subst (λ o. IfSome o (λ (span : Span). IsNextLeaving (view c.settle.new.self.book.near) c.settle.new.self.collection span)) c.in-Some.is c.settle.ensures.next in
+    let next = subst (λ o. IfSome o (λ (x : LiveSpan). IsNextLeaving (view c.settle.new.self.book.near) c.settle.new.self.collection x.span)) c.in-Some.is c.settle.ensures.next in
     let leaving = c.settle.ensures.ends ∙ ap (λ (held : List ℕ). cond (is_empty held) phase.Idle phase.Evacuating) next.front in
     let stops = subst (λ (now : Phase). KnowsMoment (record (moment view c.settle.new.self) { phase = now }) (moment view c.deal.new.self)) leaving c.in-Err.ensures.kept in
     (c.loop.counter, w, c.loop.invariant.walks w c.settle.ensures.known, c.loop-test.true, ap is_empty next.front, stops, ap tally_of c.in-Err.ensures.uncounted)
@@ -157,8 +157,8 @@ returns-in-Err-clause-refused g c =
     let view = g.N.Near.view in
     let w = standing view c.settle.new.self c.settle.new.progress in
     let walks = c.loop.invariant.walks w c.settle.ensures.known in
-    let some = subst (λ o. IfSome o (λ (span : Span). (rest : List ℕ) × (left w ≡ span.p ∷ rest))) c.in-Some.is c.settle.ensures.first in
-    let next = subst (λ o. IfSome o (λ (span : Span). IsNextLeaving (view c.settle.new.self.book.near) c.settle.new.self.collection span)) c.in-Some.is c.settle.ensures.next in
+    let some = subst (λ o. IfSome o (λ (x : LiveSpan). (rest : List ℕ) × (left w ≡ x.span.p ∷ rest))) c.in-Some.is c.settle.ensures.first in
+    let next = subst (λ o. IfSome o (λ (x : LiveSpan). IsNextLeaving (view c.settle.new.self.book.near) c.settle.new.self.collection x.span)) c.in-Some.is c.settle.ensures.next in
     let leaving = c.settle.ensures.ends ∙ ap (λ (held : List ℕ). cond (is_empty held) phase.Idle phase.Evacuating) next.front in
     let count = ap (λ (q : Progress). objects_in (tally_of q)) c.in-Err.ensures.uncounted ∙ counts g h c.loop.counter c.settle.new.self c.settle.new.progress walks in
     record {
@@ -166,7 +166,7 @@ returns-in-Err-clause-refused g c =
       between = c.settle.new.self.book.device;
       walks = asked g h c.loop.counter c.settle.new.self c.settle.new.progress walks c.settle.ensures.device count (c.loop.invariant.asked w c.settle.ensures.known c.settle.ensures.exact);
       counts = ap tally_of c.in-Err.ensures.uncounted;
-      next = c.in-Some.span.p;
+      next = c.in-Some.first.span.p;
       rest = some.0;
       is = some.1;
       write = c.in-Err.ensures.refused;
@@ -180,12 +180,12 @@ returns-in-Err-clause-follows g c =
     let view = g.N.Near.view in
     let m = moment view c.args.self.now in
     let w = standing view c.settle.new.self c.settle.new.progress in
-    let some = subst (λ o. IfSome o (λ (span : Span). (rest : List ℕ) × (left w ≡ span.p ∷ rest))) c.in-Some.is c.settle.ensures.first in
+    let some = subst (λ o. IfSome o (λ (x : LiveSpan). (rest : List ℕ) × (left w ≡ x.span.p ∷ rest))) c.in-Some.is c.settle.ensures.first in
     let walks = c.loop.invariant.walks w c.settle.ensures.known in
     let count = ap (λ (q : Progress). objects_in (tally_of q)) c.in-Err.ensures.uncounted ∙ counts g h c.loop.counter c.settle.new.self c.settle.new.progress walks in
     let ready = risen_is_ready m c.keeps_law.ensures.law c.keeps_law.ensures.moment (ap has_risen c.requires.phase) in
     let fault = failure_alike (Unit {0}) Bool c.in-Err.why c.in-Err.ensures.why in
     subst (λ n. Follows g.D.Device.contents g.D.Device.honest g.D.Device.faults g.D.Device.fails_at_most (none_of (first_live m (n + 1))) (is_failure {A = Bool} (Err c.in-Err.why)) c.args.self.now.book.device c.deal.new.self.book.device) (sym count)
     (subst (λ b. Follows g.D.Device.contents g.D.Device.honest g.D.Device.faults g.D.Device.fails_at_most (none_of (first_live m (c.loop.counter + 1))) b c.args.self.now.book.device c.deal.new.self.book.device) fault
-    (follows_more g.D.Device.contents g.D.Device.honest g.D.Device.faults g.D.Device.fails_at_most m c.loop.counter w c.in-Some.span.p some.0 (is_failure {A = Unit {0}} (Err c.in-Err.why)) c.args.self.now.book.device c.settle.new.self.book.device c.deal.new.self.book.device ready walks some.1
+    (follows_more g.D.Device.contents g.D.Device.honest g.D.Device.faults g.D.Device.fails_at_most m c.loop.counter w c.in-Some.first.span.p some.0 (is_failure {A = Unit {0}} (Err c.in-Err.why)) c.args.self.now.book.device c.settle.new.self.book.device c.deal.new.self.book.device ready walks some.1
     (follows g h c.loop.counter c.settle.new.self c.settle.new.progress walks c.settle.ensures.device refl c.loop.invariant.follows) c.in-Err.ensures.follows))

@@ -8,8 +8,8 @@ use Rattle.far_evac.proofs.Walking.{found_moment, front_begins, front_lies, fron
 use Rattle.far_evac.proofs.WalkingOn.{next_leaving}
 use Rattle.far_evac.proofs.evac.Evac.first_in.Goals as goal
 
-pub next_live-requires : goal.next_live-requires
-next_live-requires g c =
+pub next_found-requires : goal.next_found-requires
+next_found-requires g c =
     let phase = ap (λ (e : EvacOf g.row.N.Denot g.row.D.Denot). e.phase) c.self.view_is ∙ c.requires.phase in
     let held = ap (λ (e : EvacOf g.row.N.Denot g.row.D.Denot). e.collection) c.self.view_is ∙ c.requires.front.1 in
     let s = g.N.Near.view c.self.inside.book.near in
@@ -21,14 +21,14 @@ next_live-requires g c =
 pub invariant_of-self : goal.invariant_of-self
 invariant_of-self g c =
     let s = g.N.Near.view c.self.inside.book.near in
-    let t = g.N.Near.view c.next_live.new.self.near in
-    sound_found s t c.self.inside.round c.self.invariant (knows_cells s t c.next_live.ensures.found c.next_live.ensures.kept)
+    let t = g.N.Near.view c.next_found.new.self.near in
+    sound_found s t c.self.inside.round c.self.invariant (knows_cells s t c.next_found.ensures.found c.next_found.ensures.kept)
 
 pub returns-in_default-clause-known : goal.returns-in_default-clause-known
 returns-in_default-clause-known g c =
     let s = g.N.Near.view c.self.inside.book.near in
-    let t = g.N.Near.view c.next_live.new.self.near in
-    found_moment (moment g.N.Near.view c.args.self.now) _ t c.next_live.new.self.order (ap (moment g.N.Near.view) c.self.view_is) (knows_cells s t c.next_live.ensures.found c.next_live.ensures.kept) c.next_live.ensures.order
+    let t = g.N.Near.view c.next_found.new.self.near in
+    found_moment (moment g.N.Near.view c.args.self.now) _ t c.next_found.new.self.order (ap (moment g.N.Near.view) c.self.view_is) (knows_cells s t c.next_found.ensures.found c.next_found.ensures.kept) c.next_found.ensures.order
 
 pub returns-in_default-clause-none : goal.returns-in_default-clause-none
 returns-in_default-clause-none g c =
@@ -45,27 +45,28 @@ invariant_of-self-2 g c =
     let phase = ap (λ (e : EvacOf g.row.N.Denot g.row.D.Denot). e.phase) c.self.view_is ∙ c.requires.phase in
     let held = ap (λ (e : EvacOf g.row.N.Denot g.row.D.Denot). e.collection) c.self.view_is ∙ c.requires.front.1 in
     let s = g.N.Near.view c.self.inside.book.near in
-    let t = g.N.Near.view c.next_live.new.self.near in
-    let moved = stands_first s c.self.inside.round c.self.invariant.round c.keeps_law.ensures.law phase c.args.log c.requires.front.0 held c.in-Some.span c.in-Some.ensures.first in
-    sound_found s t _ record { round = moved; jobs = c.self.invariant.jobs; exact = c.self.invariant.exact } (knows_cells s t c.next_live.ensures.found c.next_live.ensures.kept)
+    let t = g.N.Near.view c.next_found.new.self.near in
+    let moved = stands_first s c.self.inside.round c.self.invariant.round c.keeps_law.ensures.law phase c.args.log c.requires.front.0 held c.in-Some.first.span c.in-Some.ensures.first in
+    sound_found s t _ record { round = moved; jobs = c.self.invariant.jobs; exact = c.self.invariant.exact } (knows_cells s t c.next_found.ensures.found c.next_found.ensures.kept)
 
 pub returns : goal.returns
 returns g c =
     let phase = ap (λ (e : EvacOf g.row.N.Denot g.row.D.Denot). e.phase) c.self.view_is ∙ c.requires.phase in
     let held = ap (λ (e : EvacOf g.row.N.Denot g.row.D.Denot). e.collection) c.self.view_is ∙ c.requires.front.1 in
     let s = g.N.Near.view c.self.inside.book.near in
-    let t = g.N.Near.view c.next_live.new.self.near in
+    let t = g.N.Near.view c.next_found.new.self.near in
     let law = c.keeps_law.ensures.law in
-    let known = knows_cells s t c.next_live.ensures.found c.next_live.ensures.kept in
+    let known = knows_cells s t c.next_found.ensures.found c.next_found.ensures.kept in
     let lies = front_lies s c.self.inside.round c.self.invariant.round law phase c.args.log c.requires.front.0 held in
     let first = c.in-Some.ensures.first in
-    let lives = first_lives s law c.args.log c.self.inside.round.at lies c.in-Some.span first in
+    let lives = first_lives s law c.args.log c.self.inside.round.at lies c.in-Some.first.span first in
     record {
-      came = since_evac c.self.view_is c.next_live.ensures.came;
-      known = found_moment (moment g.N.Near.view c.args.self.now) _ t c.next_live.new.self.order (ap (moment g.N.Near.view) c.self.view_is) known c.next_live.ensures.order;
+      came = since_evac c.self.view_is c.next_found.ensures.came;
+      known = found_moment (moment g.N.Near.view c.args.self.now) _ t c.next_found.new.self.order (ap (moment g.N.Near.view) c.self.view_is) known c.next_found.ensures.order;
       exact = search rules;
-      first = (lives.0, subst (λ (e : EvacOf g.row.N.Denot g.row.D.Denot). live_in (g.N.Near.view e.book.near) c.args.log ≡ c.in-Some.span.p ∷ lives.0) c.self.view_is lives.1);
-      next = next_leaving s t law known c.args.log c.self.inside.round.at lies c.in-Some.span first _ c.requires.front.0 held c.in-Some.ensures.next c.in-Some.ensures.inside;
+      first = (lives.0, subst (λ (e : EvacOf g.row.N.Denot g.row.D.Denot). live_in (g.N.Near.view e.book.near) c.args.log ≡ c.in-Some.first.span.p ∷ lives.0) c.self.view_is lives.1);
+      next = next_leaving s t law known c.args.log c.self.inside.round.at lies c.in-Some.first.span first _ c.requires.front.0 held c.in-Some.ensures.next c.in-Some.ensures.inside;
+      cell = c.in-Some.ensures.cell;
       none = tt;
-      device = c.next_live.ensures.device ∙ ap (λ (e : EvacOf g.row.N.Denot g.row.D.Denot). e.book.device) c.self.view_is;
+      device = c.next_found.ensures.device ∙ ap (λ (e : EvacOf g.row.N.Denot g.row.D.Denot). e.book.device) c.self.view_is;
     }

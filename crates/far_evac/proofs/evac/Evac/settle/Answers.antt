@@ -29,7 +29,7 @@ returns-in-Some-first_in-clause-first g c =
     let known = c.first_in.ensures.known in
     let front = ap (λ (m : Moment). m.collection) known.rest ∙ c.in-Some.ensures.some.1 in
     let first = c.in-Some-first_in.ensures.first in
-    front_left (standing g.N.Near.view c.first_in.new.self c.loop-log.progress) c.in-Some.log c.in-Some.ensures.some.0 front c.in-Some-first_in.span.p first.0
+    front_left (standing g.N.Near.view c.first_in.new.self c.loop-log.progress) c.in-Some.log c.in-Some.ensures.some.0 front c.in-Some-first_in.first.span.p first.0
     (knows_live (g.N.Near.view c.loop-log.self.book.near) (g.N.Near.view c.first_in.new.self.book.near) known.core c.in-Some.log ∙ first.1)
 
 pub give_back-requires-clause-none : goal.give_back-requires-clause-none
@@ -72,7 +72,7 @@ returns-in-Some-first_in-clause-known g c =
     let first = c.in-Some-first_in.ensures.first in
     let some = c.in-Some.ensures.some in
     walked_known_more (settled (standing view c.args.self.now c.args.progress.now)) (settled w) t c.loop-log.invariant.known
-    (subst (λ (x : Walked). KnowsWalked x t) (sym (front_stays w c.in-Some.log some.0 some.1 c.in-Some-first_in.span.p first.0 first.1))
+    (subst (λ (x : Walked). KnowsWalked x t) (sym (front_stays w c.in-Some.log some.0 some.1 c.in-Some-first_in.first.span.p first.0 first.1))
     (standing_known view c.loop-log.self c.first_in.new.self c.loop-log.progress c.first_in.ensures.known))
 
 pub returns-in-Some-first_in-clause-came : goal.returns-in-Some-first_in-clause-came

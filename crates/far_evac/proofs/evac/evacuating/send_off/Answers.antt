@@ -10,104 +10,104 @@ use Rattle.far_evac.proofs.evac.evacuating.send_off.Goals as goal
 
 pub send_far-requires-clause-quiet : goal.send_far-requires-clause-quiet
 send_far-requires-clause-quiet g c =
-    quiet_here (g.N.Near.view c.args.book.now.near) c.args.pointer c.requires.quiet c.keeps_law.ensures.law c.requires.evac c.see.result c.see.ensures.found (g.N.Near.view c.see.new.self.near) c.see.ensures.kept
+    quiet_here (g.N.Near.view c.args.book.now.near) c.args.pointer c.requires.quiet c.keeps_law.ensures.law c.requires.evac c.cell_of-found.result c.cell_of-found.ensures.found (g.N.Near.view c.cell_of-found.new.self.near) c.cell_of-found.ensures.kept
 
-pub move_now-answer-requires-clause-quiet : goal.move_now-answer-requires-clause-quiet
-move_now-answer-requires-clause-quiet g c =
-    quiet_here (g.N.Near.view c.args.book.now.near) c.args.pointer c.requires.quiet c.keeps_law.ensures.law c.requires.evac c.see.result c.see.ensures.found (g.N.Near.view c.see.new.self.near) c.see.ensures.kept
+pub move_by-answer-requires-clause-quiet : goal.move_by-answer-requires-clause-quiet
+move_by-answer-requires-clause-quiet g c =
+    quiet_here (g.N.Near.view c.args.book.now.near) c.args.pointer c.requires.quiet c.keeps_law.ensures.law c.requires.evac c.cell_of-found.result c.cell_of-found.ensures.found (g.N.Near.view c.cell_of-found.new.self.near) c.cell_of-found.ensures.kept
 
 pub send_far-requires-in-Err-clause-quiet : goal.send_far-requires-in-Err-clause-quiet
 send_far-requires-in-Err-clause-quiet g c =
-    quiet_still (g.N.Near.view c.see.new.self.near) (g.N.Near.view c.move_now-answer.new.self.near) c.args.pointer c.in-Err.ensures.seen
-    (quiet_here (g.N.Near.view c.args.book.now.near) c.args.pointer c.requires.quiet c.keeps_law.ensures.law c.requires.evac c.see.result c.see.ensures.found (g.N.Near.view c.see.new.self.near) c.see.ensures.kept)
+    quiet_still (g.N.Near.view c.cell_of-found.new.self.near) (g.N.Near.view c.move_by-answer.new.self.near) c.args.pointer c.in-Err.ensures.seen
+    (quiet_here (g.N.Near.view c.args.book.now.near) c.args.pointer c.requires.quiet c.keeps_law.ensures.law c.requires.evac c.cell_of-found.result c.cell_of-found.ensures.found (g.N.Near.view c.cell_of-found.new.self.near) c.cell_of-found.ensures.kept)
 
 pub returns-then-not-goes_near-clause-leaves : goal.returns-then-not-goes_near-clause-leaves
 returns-then-not-goes_near-clause-leaves g c =
     let cold = sym c.goes_near.ensures ∙ c.if-not-goes_near.true in
-    ok_map c.send_far.result (λ fate goes. sent_cold (g.N.Near.view c.args.book.now.near) c.args.pointer c.requires.quiet c.keeps_law.ensures.law c.requires.evac c.see.result c.see.ensures.found
-    (g.N.Near.view c.see.new.self.near) c.see.ensures.kept (g.N.Near.view c.send_far.new.book.near) c.args.book.now.order c.send_far.new.book.order cold (c.send_far.ensures.order ∙ c.see.ensures.order) fate goes) c.send_far.ensures.goes
+    ok_map c.send_far.result (λ fate goes. sent_cold (g.N.Near.view c.args.book.now.near) c.args.pointer c.requires.quiet c.keeps_law.ensures.law c.requires.evac c.cell_of-found.result c.cell_of-found.ensures.found
+    (g.N.Near.view c.cell_of-found.new.self.near) c.cell_of-found.ensures.kept (g.N.Near.view c.send_far.new.book.near) c.args.book.now.order c.send_far.new.book.order cold (c.send_far.ensures.order ∙ c.cell_of-found.ensures.order) fate goes) c.send_far.ensures.goes
 
 pub returns-then-not-goes_near-clause-kept : goal.returns-then-not-goes_near-clause-kept
 returns-then-not-goes_near-clause-kept g c =
     let s = g.N.Near.view c.args.book.now.near in
-    let u = g.N.Near.view c.see.new.self.near in
-    err_map c.send_far.result (λ _ kept. knows_more s u (g.N.Near.view c.send_far.new.book.near) (found_here s u c.args.pointer c.see.result c.see.ensures.found c.see.ensures.kept) kept) c.send_far.ensures.kept
+    let u = g.N.Near.view c.cell_of-found.new.self.near in
+    err_map c.send_far.result (λ _ kept. knows_more s u (g.N.Near.view c.send_far.new.book.near) (found_here s u c.args.pointer c.cell_of-found.result c.cell_of-found.ensures.found c.cell_of-found.ensures.kept) kept) c.send_far.ensures.kept
 
 pub returns-in-Ok-clause-leaves : goal.returns-in-Ok-clause-leaves
 returns-in-Ok-clause-leaves g c =
     let near = sym c.goes_near.ensures ∙ c.if-not-goes_near.false in
-    let done = c.move_now-answer.ensures in
-    subst (λ fate. LeavesBy (g.N.Near.view c.args.book.now.near) c.args.book.now.order (g.N.Near.view c.move_now-answer.new.self.near) c.move_now-answer.new.self.order c.args.pointer fate) (sym c.near_fate.ensures)
-    (sent_there (g.N.Near.view c.args.book.now.near) c.args.pointer c.requires.quiet c.keeps_law.ensures.law c.requires.evac c.see.result c.see.ensures.found (g.N.Near.view c.see.new.self.near) c.see.ensures.kept
-    (g.N.Near.view c.move_now-answer.new.self.near) c.args.book.now.order c.move_now-answer.new.self.order g.N.Near.still near c.in-Ok.place c.see.new.self.order c.see.ensures.order
+    let done = c.move_by-answer.ensures in
+    subst (λ fate. LeavesBy (g.N.Near.view c.args.book.now.near) c.args.book.now.order (g.N.Near.view c.move_by-answer.new.self.near) c.move_by-answer.new.self.order c.args.pointer fate) (sym c.near_fate.ensures)
+    (sent_there (g.N.Near.view c.args.book.now.near) c.args.pointer c.requires.quiet c.keeps_law.ensures.law c.requires.evac c.cell_of-found.result c.cell_of-found.ensures.found (g.N.Near.view c.cell_of-found.new.self.near) c.cell_of-found.ensures.kept
+    (g.N.Near.view c.move_by-answer.new.self.near) c.args.book.now.order c.move_by-answer.new.self.order g.N.Near.still near c.in-Ok.place c.cell_of-found.new.self.order c.cell_of-found.ensures.order
     (λ x y first then dropped. first ∙ sym c.in-Ok.is ∙ done.asked dropped ∙ sym then) c.in-Ok.ensures.place c.keeps_law-2.ensures.law c.in-Ok.ensures.moved c.in-Ok.ensures.gone c.in-Ok.ensures.order)
 
 pub returns-in-Err-clause-leaves : goal.returns-in-Err-clause-leaves
 returns-in-Err-clause-leaves g c =
     let near = sym c.goes_near.ensures ∙ c.if-not-goes_near.false in
-    let done = c.move_now-answer.ensures in
+    let done = c.move_by-answer.ensures in
     let missed = c.in-Err.ensures in
-    ok_map c.send_far-in-Err.result (λ fate goes. sent_away (g.N.Near.view c.args.book.now.near) c.args.pointer c.requires.quiet c.keeps_law.ensures.law c.requires.evac c.see.result c.see.ensures.found (g.N.Near.view c.see.new.self.near) c.see.ensures.kept
-    (g.N.Near.view c.send_far-in-Err.new.book.near) c.args.book.now.order c.send_far-in-Err.new.book.order near (no_answer c.move_now-answer.result c.in-Err.field-0 None c.in-Err.is done.asked) missed.none
-    (g.N.Near.view c.move_now-answer.new.self.near) missed.seen missed.words
-    (c.send_far-in-Err.ensures.order ∙ ap (λ (b : BookOf g.row.N.Denot g.row.D.Denot). b.order) missed.kept ∙ c.see.ensures.order) fate goes) c.send_far-in-Err.ensures.goes
+    ok_map c.send_far-in-Err.result (λ fate goes. sent_away (g.N.Near.view c.args.book.now.near) c.args.pointer c.requires.quiet c.keeps_law.ensures.law c.requires.evac c.cell_of-found.result c.cell_of-found.ensures.found (g.N.Near.view c.cell_of-found.new.self.near) c.cell_of-found.ensures.kept
+    (g.N.Near.view c.send_far-in-Err.new.book.near) c.args.book.now.order c.send_far-in-Err.new.book.order near (no_answer c.move_by-answer.result c.in-Err.field-0 None c.in-Err.is done.asked) missed.none
+    (g.N.Near.view c.move_by-answer.new.self.near) missed.seen missed.words
+    (c.send_far-in-Err.ensures.order ∙ ap (λ (b : BookOf g.row.N.Denot g.row.D.Denot). b.order) missed.kept ∙ c.cell_of-found.ensures.order) fate goes) c.send_far-in-Err.ensures.goes
 
 pub returns-in-Err-clause-kept : goal.returns-in-Err-clause-kept
 returns-in-Err-clause-kept g c =
     let s = g.N.Near.view c.args.book.now.near in
-    let u = g.N.Near.view c.see.new.self.near in
-    let v = g.N.Near.view c.move_now-answer.new.self.near in
+    let u = g.N.Near.view c.cell_of-found.new.self.near in
+    let v = g.N.Near.view c.move_by-answer.new.self.near in
     let t = g.N.Near.view c.send_far-in-Err.new.book.near in
-    let first = knows_more s u v (found_here s u c.args.pointer c.see.result c.see.ensures.found c.see.ensures.kept) (seen_known u v c.args.pointer c.in-Err.ensures.seen c.keeps_law-2.ensures.law) in
+    let first = knows_more s u v (found_here s u c.args.pointer c.cell_of-found.result c.cell_of-found.ensures.found c.cell_of-found.ensures.kept) (seen_known u v c.args.pointer c.in-Err.ensures.seen c.keeps_law-2.ensures.law) in
     err_map c.send_far-in-Err.result (λ _ kept. knows_more s v t first kept) c.send_far-in-Err.ensures.kept
 
 pub returns-then-not-goes_near-clause-asked : goal.returns-then-not-goes_near-clause-asked
 returns-then-not-goes_near-clause-asked g c =
     let s = g.N.Near.view c.args.book.now.near in
-    let u = g.N.Near.view c.see.new.self.near in
-    ok_map c.send_far.result (λ fate asks. asked_before g.row.D.Denot g.D.Device.writes g.D.Device.lets_go s u c.args.pointer (finds_seen s u c.args.pointer c.see.result c.see.ensures.found c.see.ensures.kept)
-    (ap (λ (x : State). x.word) c.see.ensures.kept) c.args.book.now.device c.see.new.self.device c.see.ensures.device fate c.send_far.new.book.device asks) c.send_far.ensures.asked
+    let u = g.N.Near.view c.cell_of-found.new.self.near in
+    ok_map c.send_far.result (λ fate asks. asked_before g.row.D.Denot g.D.Device.writes g.D.Device.lets_go s u c.args.pointer (finds_seen s u c.args.pointer c.cell_of-found.result c.cell_of-found.ensures.found c.cell_of-found.ensures.kept)
+    (ap (λ (x : State). x.word) c.cell_of-found.ensures.kept) c.args.book.now.device c.cell_of-found.new.self.device c.cell_of-found.ensures.device fate c.send_far.new.book.device asks) c.send_far.ensures.asked
 
 pub returns-then-not-goes_near-clause-refused : goal.returns-then-not-goes_near-clause-refused
 returns-then-not-goes_near-clause-refused g c =
     let s = g.N.Near.view c.args.book.now.near in
-    let u = g.N.Near.view c.see.new.self.near in
-    err_map c.send_far.result (λ why asks. refused_before g.row.D.Denot g.D.Device.writes g.D.Device.lets_go s u c.args.pointer (finds_seen s u c.args.pointer c.see.result c.see.ensures.found c.see.ensures.kept)
-    (ap (λ (x : State). x.word) c.see.ensures.kept) c.args.book.now.device c.see.new.self.device c.see.ensures.device why c.send_far.new.book.device asks) c.send_far.ensures.refused
+    let u = g.N.Near.view c.cell_of-found.new.self.near in
+    err_map c.send_far.result (λ why asks. refused_before g.row.D.Denot g.D.Device.writes g.D.Device.lets_go s u c.args.pointer (finds_seen s u c.args.pointer c.cell_of-found.result c.cell_of-found.ensures.found c.cell_of-found.ensures.kept)
+    (ap (λ (x : State). x.word) c.cell_of-found.ensures.kept) c.args.book.now.device c.cell_of-found.new.self.device c.cell_of-found.ensures.device why c.send_far.new.book.device asks) c.send_far.ensures.refused
 
 pub returns-in-Ok-clause-asked : goal.returns-in-Ok-clause-asked
 returns-in-Ok-clause-asked g c =
     let s = g.N.Near.view c.args.book.now.near in
     let done = c.in-Ok.ensures in
-    subst (λ fate. AsksAs g.row.D.Denot g.D.Device.writes g.D.Device.lets_go s c.args.pointer fate c.args.book.now.device c.move_now-answer.new.self.device) (sym c.near_fate.ensures)
-    (subst (λ (d : g.row.D.Denot). AsksAs g.row.D.Denot g.D.Device.writes g.D.Device.lets_go s c.args.pointer (near_fate c.in-Ok.place) d c.move_now-answer.new.self.device) c.see.ensures.device
-    (asked_there g.row.D.Denot g.D.Device.writes g.D.Device.lets_go s c.args.pointer c.in-Ok.place c.see.new.self.device c.move_now-answer.new.self.device done.device done.called))
+    subst (λ fate. AsksAs g.row.D.Denot g.D.Device.writes g.D.Device.lets_go s c.args.pointer fate c.args.book.now.device c.move_by-answer.new.self.device) (sym c.near_fate.ensures)
+    (subst (λ (d : g.row.D.Denot). AsksAs g.row.D.Denot g.D.Device.writes g.D.Device.lets_go s c.args.pointer (near_fate c.in-Ok.place) d c.move_by-answer.new.self.device) c.cell_of-found.ensures.device
+    (asked_there g.row.D.Denot g.D.Device.writes g.D.Device.lets_go s c.args.pointer c.in-Ok.place c.cell_of-found.new.self.device c.move_by-answer.new.self.device done.device done.called))
 
 pub returns-in-Err-clause-asked : goal.returns-in-Err-clause-asked
 returns-in-Err-clause-asked g c =
     let s = g.N.Near.view c.args.book.now.near in
-    let u = g.N.Near.view c.see.new.self.near in
-    let v = g.N.Near.view c.move_now-answer.new.self.near in
+    let u = g.N.Near.view c.cell_of-found.new.self.near in
+    let v = g.N.Near.view c.move_by-answer.new.self.near in
     let missed = c.in-Err.ensures in
-    let same = ap (λ (b : BookOf g.row.N.Denot g.row.D.Denot). b.device) missed.kept ∙ c.see.ensures.device in
-    ok_map c.send_far-in-Err.result (λ fate asks. asked_before g.row.D.Denot g.D.Device.writes g.D.Device.lets_go s v c.args.pointer (finds_then s u v c.args.pointer c.see.result c.see.ensures.found c.see.ensures.kept missed.seen)
-    (missed.words ∙ ap (λ (x : State). x.word) c.see.ensures.kept) c.args.book.now.device c.move_now-answer.new.self.device same fate c.send_far-in-Err.new.book.device asks) c.send_far-in-Err.ensures.asked
+    let same = ap (λ (b : BookOf g.row.N.Denot g.row.D.Denot). b.device) missed.kept ∙ c.cell_of-found.ensures.device in
+    ok_map c.send_far-in-Err.result (λ fate asks. asked_before g.row.D.Denot g.D.Device.writes g.D.Device.lets_go s v c.args.pointer (finds_then s u v c.args.pointer c.cell_of-found.result c.cell_of-found.ensures.found c.cell_of-found.ensures.kept missed.seen)
+    (missed.words ∙ ap (λ (x : State). x.word) c.cell_of-found.ensures.kept) c.args.book.now.device c.move_by-answer.new.self.device same fate c.send_far-in-Err.new.book.device asks) c.send_far-in-Err.ensures.asked
 
 pub returns-in-Err-clause-refused : goal.returns-in-Err-clause-refused
 returns-in-Err-clause-refused g c =
     let s = g.N.Near.view c.args.book.now.near in
-    let u = g.N.Near.view c.see.new.self.near in
-    let v = g.N.Near.view c.move_now-answer.new.self.near in
+    let u = g.N.Near.view c.cell_of-found.new.self.near in
+    let v = g.N.Near.view c.move_by-answer.new.self.near in
     let missed = c.in-Err.ensures in
-    let same = ap (λ (b : BookOf g.row.N.Denot g.row.D.Denot). b.device) missed.kept ∙ c.see.ensures.device in
-    err_map c.send_far-in-Err.result (λ why asks. refused_before g.row.D.Denot g.D.Device.writes g.D.Device.lets_go s v c.args.pointer (finds_then s u v c.args.pointer c.see.result c.see.ensures.found c.see.ensures.kept missed.seen)
-    (missed.words ∙ ap (λ (x : State). x.word) c.see.ensures.kept) c.args.book.now.device c.move_now-answer.new.self.device same why c.send_far-in-Err.new.book.device asks) c.send_far-in-Err.ensures.refused
+    let same = ap (λ (b : BookOf g.row.N.Denot g.row.D.Denot). b.device) missed.kept ∙ c.cell_of-found.ensures.device in
+    err_map c.send_far-in-Err.result (λ why asks. refused_before g.row.D.Denot g.D.Device.writes g.D.Device.lets_go s v c.args.pointer (finds_then s u v c.args.pointer c.cell_of-found.result c.cell_of-found.ensures.found c.cell_of-found.ensures.kept missed.seen)
+    (missed.words ∙ ap (λ (x : State). x.word) c.cell_of-found.ensures.kept) c.args.book.now.device c.move_by-answer.new.self.device same why c.send_far-in-Err.new.book.device asks) c.send_far-in-Err.ensures.refused
 
 pub returns-then-not-goes_near-clause-came : goal.returns-then-not-goes_near-clause-came
-returns-then-not-goes_near-clause-came g c = then_came c.see.ensures.came c.send_far.ensures.came
+returns-then-not-goes_near-clause-came g c = then_came c.cell_of-found.ensures.came c.send_far.ensures.came
 
 pub returns-in-Ok-clause-came : goal.returns-in-Ok-clause-came
-returns-in-Ok-clause-came g c = then_came c.see.ensures.came c.move_now-answer.ensures.came
+returns-in-Ok-clause-came g c = then_came c.cell_of-found.ensures.came c.move_by-answer.ensures.came
 
 pub returns-in-Err-clause-came : goal.returns-in-Err-clause-came
-returns-in-Err-clause-came g c = then_came (then_came c.see.ensures.came c.move_now-answer.ensures.came) c.send_far-in-Err.ensures.came
+returns-in-Err-clause-came g c = then_came (then_came c.cell_of-found.ensures.came c.move_by-answer.ensures.came) c.send_far-in-Err.ensures.came

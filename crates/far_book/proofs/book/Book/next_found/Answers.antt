@@ -1,16 +1,18 @@
-use Rattle.far_book.proofs.book.Book.next_live.Given.{Over}
-use Rattle.far_book.proofs.book.Book.next_live.Goals.{After-see}
-use Rattle.far_book.proofs.book.Book.next_live.Goals as goal
-use Rattle.std.proofs.Common.{◌≡◌, ◌+◌, ◌∙◌, arith, ap, sym, subst}
+use Rattle.far_book.proofs.book.Book.next_found.Given.{Over}
+use Rattle.far_book.proofs.book.Book.next_found.Goals.{After-see-cell}
+use Rattle.far_book.proofs.book.Book.next_found.Goals as goal
+use Rattle.std.proofs.Common.{◌≡◌, ◌+◌, ◌∙◌, arith, ap, refl, sym, subst}
 use Rattle.std.specs.Prelude.{◌⊎◌}
 use Rattle.far_word.specs.Sizes.{size_of}
 use Rattle.far_log.specs.declared.span.Span.{Span}
+use Rattle.far_core.specs.state.State.{State}
+use Rattle.far_core.proofs.Put.{put_same}
 use Rattle.far_book.specs.book.NextLive.{IsBoundary, IsNamedBetween, live_from}
 use Rattle.far_book.proofs.region.NextLives.{Step, begun, below_tail, ended, found_more, here_dead, here_lies, here_live, here_next, here_reads, kept_more, none_more, others_more}
 use Rattle.far_hand.proofs.Closure.{then_came, came_only}
 
 -- the span at hand is read, and its cell seen
-step : (g : Over) (c : After-see g) → Step (g.N.Near.view c.args.self.now.near) (g.N.Near.view c.loop-at.self.near) (g.N.Near.view c.span_at-span.new.self.near) (g.N.Near.view c.see.new.self.near) c.args.log c.loop-at.at c.span_at-span.result c.see.result
+step : (g : Over) (c : After-see-cell g) → Step (g.N.Near.view c.args.self.now.near) (g.N.Near.view c.loop-at.self.near) (g.N.Near.view c.span_at-span.new.self.near) (g.N.Near.view c.see-cell.new.self.near) c.args.log c.loop-at.at c.span_at-span.result c.see-cell.result
 step g c =
     let s = g.N.Near.view c.args.self.now.near in
     let h = c.loop-at.invariant in
@@ -23,41 +25,45 @@ step g c =
       found = h.found;
       same = c.span_at-span.ensures.same;
       is = c.span_at-span.ensures.is;
-      seen = c.see.ensures.found;
-      noted = c.see.ensures.kept;
+      seen = c.see-cell.ensures.found;
+      noted = c.see-cell.ensures.kept;
     }
 
 pub names_place-requires : goal.names_place-requires
-names_place-requires g c = here_reads (step g (goal.at.names_place-requires g c).After-see)
+names_place-requires g c = here_reads (step g (goal.at.names_place-requires g c).After-see-cell)
 
 pub returns-then-names_place-clause-first : goal.returns-then-names_place-clause-first
 returns-then-names_place-clause-first g c =
-    c.loop-at.invariant.rest ∙ here_live (step g (goal.at.returns-then-names_place-clause-first g c).After-see) (sym c.names_place.ensures ∙ c.if-names_place.true)
+    c.loop-at.invariant.rest ∙ here_live (step g (goal.at.returns-then-names_place-clause-first g c).After-see-cell) (sym c.names_place.ensures ∙ c.if-names_place.true)
 
 pub returns-then-names_place-clause-next : goal.returns-then-names_place-clause-next
 returns-then-names_place-clause-next g c =
     subst (λ n. IsBoundary (g.N.Near.view c.args.self.now.near) c.args.log (n + size_of c.span_at-span.result.len)) (sym (ap (λ (y : Span). y.at) c.span_at-span.ensures.is))
-    (here_next (step g (goal.at.returns-then-names_place-clause-next g c).After-see))
+    (here_next (step g (goal.at.returns-then-names_place-clause-next g c).After-see-cell))
 
 pub returns-then-names_place-clause-lies : goal.returns-then-names_place-clause-lies
-returns-then-names_place-clause-lies g c = here_lies (step g (goal.at.returns-then-names_place-clause-lies g c).After-see) (sym c.names_place.ensures ∙ c.if-names_place.true)
+returns-then-names_place-clause-lies g c = here_lies (step g (goal.at.returns-then-names_place-clause-lies g c).After-see-cell) (sym c.names_place.ensures ∙ c.if-names_place.true)
+
+pub returns-then-names_place-clause-cell : goal.returns-then-names_place-clause-cell
+returns-then-names_place-clause-cell g c = let h = c.see-cell.ensures in
+    sym (ap (λ (x : State). x.cell c.span_at-span.result.p) h.kept ∙ put_same (g.N.Near.view c.span_at-span.new.self.near).cell c.span_at-span.result.p c.see-cell.result c.span_at-span.result.p refl)
 
 pub returns-then-names_place-clause-found : goal.returns-then-names_place-clause-found
-returns-then-names_place-clause-found g c = found_more (step g (goal.at.returns-then-names_place-clause-found g c).After-see)
+returns-then-names_place-clause-found g c = found_more (step g (goal.at.returns-then-names_place-clause-found g c).After-see-cell)
 
 pub returns-then-names_place-clause-others : goal.returns-then-names_place-clause-others
 returns-then-names_place-clause-others g c p =
     let h = c.loop-at.invariant in
-    subst (λ n. IsNamedBetween (g.N.Near.view c.args.self.now.near) c.args.log c.args.at (n + size_of c.span_at-span.result.len) p ⊎ ((g.N.Near.view c.see.new.self.near).cell p ≡ (g.N.Near.view c.args.self.now.near).cell p))
-    (sym (ap (λ (y : Span). y.at) c.span_at-span.ensures.is)) (others_more (step g (goal.at.returns-then-names_place-clause-others g c).After-see) c.args.at h.low p (h.others p))
+    subst (λ n. IsNamedBetween (g.N.Near.view c.args.self.now.near) c.args.log c.args.at (n + size_of c.span_at-span.result.len) p ⊎ ((g.N.Near.view c.see-cell.new.self.near).cell p ≡ (g.N.Near.view c.args.self.now.near).cell p))
+    (sym (ap (λ (y : Span). y.at) c.span_at-span.ensures.is)) (others_more (step g (goal.at.returns-then-names_place-clause-others g c).After-see-cell) c.args.at h.low p (h.others p))
 
 pub returns-then-names_place-clause-exact : goal.returns-then-names_place-clause-exact
-returns-then-names_place-clause-exact g c still = c.see.ensures.set still ∙ c.span_at-span.ensures.same ∙ c.loop-at.invariant.exact still
+returns-then-names_place-clause-exact g c still = c.see-cell.ensures.set still ∙ c.span_at-span.ensures.same ∙ c.loop-at.invariant.exact still
 
 pub loop-at-preserved : goal.loop-at-preserved
 loop-at-preserved g c =
     let s = g.N.Near.view c.args.self.now.near in
-    let step = step g (goal.at.loop-at-preserved g c).After-see in
+    let step = step g (goal.at.loop-at-preserved g c).After-see-cell in
     let h = c.loop-at.invariant in
     let size = sym c.size_of-at.ensures in
     record {
@@ -66,11 +72,11 @@ loop-at-preserved g c =
       rest = subst (λ n. live_from s c.args.log c.args.at ≡ live_from s c.args.log (c.loop-at.at + n)) size (h.rest ∙ here_dead step (sym c.names_place.ensures ∙ c.if-names_place.false));
       found = found_more step;
       kept = kept_more step;
-      others = λ p. subst (λ n. IsNamedBetween s c.args.log c.args.at (c.loop-at.at + n) p ⊎ ((g.N.Near.view c.see.new.self.near).cell p ≡ s.cell p)) size (others_more step c.args.at h.low p (h.others p));
-      came = then_came (then_came h.came (came_only _ c.span_at-span.ensures.reads)) c.see.ensures.came;
-      exact = λ still. c.see.ensures.set still ∙ c.span_at-span.ensures.same ∙ h.exact still;
-      order = c.see.ensures.order ∙ c.span_at-span.ensures.order ∙ h.order;
-      device = c.see.ensures.device ∙ c.span_at-span.ensures.device ∙ h.device;
+      others = λ p. subst (λ n. IsNamedBetween s c.args.log c.args.at (c.loop-at.at + n) p ⊎ ((g.N.Near.view c.see-cell.new.self.near).cell p ≡ s.cell p)) size (others_more step c.args.at h.low p (h.others p));
+      came = then_came (then_came h.came (came_only _ c.span_at-span.ensures.reads)) c.see-cell.ensures.came;
+      exact = λ still. c.see-cell.ensures.set still ∙ c.span_at-span.ensures.same ∙ h.exact still;
+      order = c.see-cell.ensures.order ∙ c.span_at-span.ensures.order ∙ h.order;
+      device = c.see-cell.ensures.device ∙ c.span_at-span.ensures.device ∙ h.device;
     }
 
 pub returns-clause-others : goal.returns-clause-others
@@ -85,4 +91,4 @@ returns-clause-none g c =
     h.rest ∙ ended s c.keeps_law.ensures.law c.args.log c.loop-at.at c.tail-tail.result h.edge c.tail-tail.ensures.is (omega (arith, c.loop-at-test.false))
 
 pub returns-then-names_place-clause-came : goal.returns-then-names_place-clause-came
-returns-then-names_place-clause-came g c = then_came (then_came c.loop-at.invariant.came (came_only _ c.span_at-span.ensures.reads)) c.see.ensures.came
+returns-then-names_place-clause-came g c = then_came (then_came c.loop-at.invariant.came (came_only _ c.span_at-span.ensures.reads)) c.see-cell.ensures.came

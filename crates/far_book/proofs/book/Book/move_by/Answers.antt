@@ -1,4 +1,4 @@
-use Rattle.far_book.proofs.book.Book.move_now.Goals as goal
+use Rattle.far_book.proofs.book.Book.move_by.Goals as goal
 use Rattle.std.proofs.Common.{◌≡◌, ◌∙◌, true, ap, rules, subst}
 use Rattle.std.specs.Prelude.{IfNone, MatchOption}
 use Rattle.far_word.specs.Pointer.{read_of}

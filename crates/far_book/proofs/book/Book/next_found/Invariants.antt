@@ -3,7 +3,7 @@ use Rattle.std.specs.Prelude.{◌⊎◌}
 use Rattle.far_hand.specs.Came.{Came}
 use Rattle.far_hand.specs.Finds.{Finds}
 use Rattle.far_book.specs.book.NextLive.{IsBoundary, IsNamedBetween, live_from}
-use Rattle.far_book.proofs.book.Book.next_live.Given as goal
+use Rattle.far_book.proofs.book.Book.next_found.Given as goal
 
 abbrev pub invariant-loop-at : goal.invariant-loop-at
 invariant-loop-at g l = record {

@@ -1,0 +1,29 @@
+use Rattle.far_book.proofs.book.Book.cell_of.Given.{Over}
+use Rattle.far_book.proofs.book.Book.cell_of.Goals.{In-Some}
+use Rattle.far_book.proofs.book.Book.cell_of.Goals as goal
+use Rattle.std.proofs.Common.{◌≡◌, ◌∙◌, ℕ, ap, refl, sym, subst}
+use Rattle.std.specs.Prelude.{IfSome}
+use Rattle.far_core.specs.state.State.{State}
+use Rattle.far_core.proofs.Put.{put_same}
+use Rattle.far_hand.proofs.Finding.{finds_is}
+use Rattle.far_book.proofs.region.Renamings.{same_seen}
+
+-- the word that is given is the cell's
+given : (g : Over) (c : In-Some g) → c.in-Some.word ≡ (g.N.Near.view c.args.self.now.near).cell c.args.pointer
+given g c = subst (λ o. IfSome o (λ (w : ℕ). w ≡ (g.N.Near.view c.args.self.now.near).cell c.args.pointer)) c.in-Some.is c.requires.known
+
+pub returns-in-Some-clause-found : goal.returns-in-Some-clause-found
+returns-in-Some-clause-found g c = finds_is ((g.N.Near.view c.args.self.now.near).cell c.args.pointer) c.in-Some.word (given g (goal.at.returns-in-Some-clause-found g c).In-Some)
+
+pub returns-in-Some-clause-now : goal.returns-in-Some-clause-now
+returns-in-Some-clause-now g c = given g (goal.at.returns-in-Some-clause-now g c).In-Some
+
+pub returns-in-Some-clause-kept : goal.returns-in-Some-clause-kept
+returns-in-Some-clause-kept g c = sym (same_seen (g.N.Near.view c.args.self.now.near) c.args.pointer c.in-Some.word 0 (given g (goal.at.returns-in-Some-clause-kept g c).In-Some))
+
+pub returns-in-Some-clause-exact : goal.returns-in-Some-clause-exact
+returns-in-Some-clause-exact g c still = given g (goal.at.returns-in-Some-clause-exact g c).In-Some
+
+pub returns-in-None-clause-now : goal.returns-in-None-clause-now
+returns-in-None-clause-now g c =
+    sym (ap (λ (x : State). x.cell c.args.pointer) c.see.ensures.kept ∙ put_same (g.N.Near.view c.args.self.now.near).cell c.args.pointer c.see.result c.args.pointer refl)

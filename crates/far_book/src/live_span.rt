@@ -1,0 +1,10 @@
+//! Spans in which objects live.
+
+use far_log::Span;
+
+/// A span in which an object lives, and the object's cell as it was found.
+#[derive(Clone, Copy, Debug, PartialEq, Eq)]
+pub struct LiveSpan {
+    pub span: Span,
+    pub cell: u64,
+}
