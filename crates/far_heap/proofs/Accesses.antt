@@ -8,6 +8,7 @@ use Rattle.far_word.specs.declared.sizes.TheConstants.{CELLS}
 use Rattle.far_table.specs.View.{ObjectView, OwnerView}
 use Rattle.far_table.specs.Seats.{Seated}
 use Rattle.far_table.specs.Views.{ds_of as seat_ds, held_at, len_of as seat_len, object_at, soiled_at, uses as seat_uses, word_in_view, word_of}
+use Rattle.far_heap.specs.declared.rows.Rows.{Rows}
 use Rattle.far_heap.specs.Mine.{Object, OwnOk, StructuresOk, mine_of, object_of, rewritten, seen, with_range, writing}
 use Rattle.far_table.specs.Ranges.{HasBytes, Wrote}
 use Rattle.far_heap.proofs.Mines.{object_own}
@@ -39,7 +40,7 @@ wrote_mine s t p from bytes own fits same w =
     ap mine_of (seated_is t s.table (record s.view { objects = t.view.objects }) same w.rest)
     ∙ ap (λ (rows : List (Option Object)). record (mine_of s) { objects = rows }) (own_row-one f g s.view.number p v own (λ q ne. ap (seen s.view.honest) (w.others q ne)) here)
 
--- its tables stay as they are
+-- its rows stay as they are
 module _ (p from : ℕ) (bytes : List ℕ) (o o' : OwnerView) (w : Wrote p from bytes o o') where
   used_kept : (q : ℕ) → seat_uses o' q ≡ seat_uses o q
   used_kept q = elim (cases_eq q p) [
@@ -62,16 +63,15 @@ module _ (p from : ℕ) (bytes : List ℕ) (o o' : OwnerView) (w : Wrote p from 
   held_kept : (q : ℕ) → is_some (held_at o' q) ≡ is_some (held_at o q)
   held_kept q = ap (λ (x : OwnerView). is_some (held_at x q)) w.rest
 
-  pub wrote_structures : (number : ℕ) (structures : List ℕ) → StructuresOk o number structures → StructuresOk o' number structures
-  wrote_structures number structures ok = structures_kept number structures o o' ok (λ q used. (sym (used_kept q) ∙ used, ds_kept q))
+  pub wrote_structures : (number : ℕ) (rows : Rows) → StructuresOk o number rows → StructuresOk o' number rows
+  wrote_structures number rows ok = structures_kept number rows rows o o' ok (λ q. refl) (λ q used. (sym (used_kept q) ∙ used, ds_kept q))
 
-  pub wrote_ok : (t t' : TableId) (name : TableId) (number : ℕ) (lens stamps : List ℕ) (scope : ℕ) → t' ≡ t → OwnOk (record { table = t; view = o }) name number lens stamps scope → OwnOk (record { table = t'; view = o' }) name number lens stamps scope
-  wrote_ok t t' name number lens stamps scope same ok = record {
+  pub wrote_ok : (t t' : TableId) (name : TableId) (number : ℕ) (rows : Rows) → t' ≡ t → OwnOk (record { table = t; view = o }) name number rows → OwnOk (record { table = t'; view = o' }) name number rows
+  wrote_ok t t' name number rows same ok = record {
     table = same ∙ ok.table;
     number_is = ap (λ (x : OwnerView). x.number) w.rest ∙ ok.number_is;
     few = ok.few;
-    many_lens = ok.many_lens;
-    many_stamps = ok.many_stamps;
+    rows_ok = ok.rows_ok;
     lens_are = λ q own. ok.lens_are q own ∙ sym (len_kept q);
     used_are = λ q own. used_kept q ∙ ok.used_are q own ∙ sym (ap (λ n. nat_lt 0 n) (len_kept q));
     short = λ q own. omega (arith, len_kept q, ok.short q own);
@@ -79,5 +79,6 @@ module _ (p from : ℕ) (bytes : List ℕ) (o o' : OwnerView) (w : Wrote p from 
     held_used = λ q own held. used_kept q ∙ ok.held_used q own (sym (held_kept q) ∙ held);
     held_open = λ q own held. ap (λ (x : OwnerView). is_some x.open_at) w.rest ∙ ok.held_open q own (sym (held_kept q) ∙ held);
     soils_are = λ q own e. ap (λ (x : OwnerView). soiled_at x q) w.rest ∙ ok.soils_are q own e;
-    past = ok.past;
+    other_lens = ok.other_lens;
+    other_views = ok.other_views;
   }

@@ -1,9 +1,7 @@
--- A mutator's tables after it uses one object more, or one less.
+-- What a mutator knows by itself after it uses one object more, or one less.
 use Rattle.std.proofs.Common.{◌≡◌, ℕ, ◌/◌, ◌%◌, ◌^◌, ◌<◌, ◌≤◌, Bool, true, false, nat_lt, Option, Some, None, is_some, List, refl, sym, ap, subst, ◌∙◌, inl, inr, arith}
-use Rattle.std.specs.Prelude.{replicate, slice_set}
+use Rattle.std.specs.Prelude.{replicate}
 use Rattle.std.proofs.lemmas.Bool.{cases_eq, lt-ltb, le-ltb, false≢true}
-use Rattle.std.proofs.lemmas.Grind.{get_or-set_at}
-use Rattle.std.proofs.lemmas.List.{get_or-set_other, length-set}
 use Rattle.atomic_table.specs.Seated.{TableId}
 use Rattle.far_word.specs.declared.mark.Mark.TheVariants.{Dropped}
 use Rattle.far_word.specs.declared.pointer.PtrWord.{PtrWord}
@@ -22,8 +20,12 @@ use Rattle.far_table.specs.Seats.{Seated}
 use Rattle.far_table.specs.StateOf.{state_of}
 use Rattle.far_table.specs.Tells.{OwnerMade}
 use Rattle.far_table.specs.Views.{adopted_view, asked_view, ds_of as seat_ds, fresh, held_at, len_of as seat_len, object_at, said_ds, said_len}
+use Rattle.far_heap.specs.declared.rows.Row.{Row}
+use Rattle.far_heap.specs.declared.rows.Rows.{Rows}
+use Rattle.far_heap.specs.Rows.{HasRow, row_of}
 use Rattle.far_heap.specs.Mine.{Object, OwnOk, StructuresOk, adopting, dropping, mine_of, seen, zeros_known}
 use Rattle.far_heap.proofs.OwnRows.{own_row-one}
+use Rattle.far_heap.proofs.OwnSteps.{row_is, row_kept, row_ok, scope_kept, soils_kept, views_kept}
 
 -- ---- the word of an object that was adopted
 word_found : (w x : ℕ) → Word w ≡ Word x → w ≡ x
@@ -54,41 +56,38 @@ fresh_seen : (h : Bool) (w n t : ℕ) → n ≡ said_len (read_of w) → t ≡ s
 fresh_seen true w n t e d = λ i. Some record { len = sym e i; ds = sym d i; bytes = Some ((bytes_of-zeros (λ _. 0) (said_len (read_of w)) (λ k lt. refl) ∙ ap (λ m. replicate m 0) (sym e)) i) }
 fresh_seen false w n t e d = λ i. Some record { len = sym e i; ds = sym d i; bytes = None }
 
--- ---- the row of data structures
-module _ (o : OwnerView) (number : ℕ) (structures : List ℕ) (ok : StructuresOk o number structures) (p : ℕ) where
-  pub adopted_structures : (w t : ℕ) → p / CELLS ≡ number → t ≡ said_ds (read_of w) → StructuresOk (adopted_view p w o) number (slice_set structures (p % CELLS) t)
-  adopted_structures w t own kind = record {
-    many = length-set structures (p % CELLS) t ∙ ok.many;
+-- ---- data structures
+module _ (o : OwnerView) (number : ℕ) (rows rows' : Rows) (ok : StructuresOk o number rows) (p : ℕ) where
+  pub adopted_structures : (w n t : ℕ) → t ≡ said_ds (read_of w) → HasRow rows rows' p (record (row_of rows p) { len = n; structure = t }) → StructuresOk (adopted_view p w o) number rows'
+  adopted_structures w n t kind h = record {
     are = λ q mine used. elim (cases_eq q p) [
-      | inl e ↦ (let at : q % CELLS ≡ p % CELLS = omega arith in get_or-set_at structures (p % CELLS) (q % CELLS) t 0 at (omega (arith, ok.many))
-          ∙ kind ∙ sym (ap seat_ds (put_same (object_at o) p (Some (fresh w)) q e)))
-      | inr ne ↦ get_or-set_other structures (p % CELLS) (q % CELLS) t 0 (λ e. ne (omega arith))
+      | inl e ↦ row_is rows rows' p (record (row_of rows p) { len = n; structure = t }) h (λ x. x.structure) q e ∙ kind ∙ sym (ap seat_ds (put_same (object_at o) p (Some (fresh w)) q e))
+      | inr ne ↦ ap (λ (x : Row). x.structure) (h.there q ne)
           ∙ ok.are q mine (sym (ap is_some (put_other (object_at o) p (Some (fresh w)) q ne)) ∙ used) ∙ sym (ap seat_ds (put_other (object_at o) p (Some (fresh w)) q ne))
     ];
   }
 
-  pub dropped_structures : (found : ℕ) → StructuresOk (asked_view p Dropped found o) number structures
-  dropped_structures found = record {
-    many = ok.many;
+  pub dropped_structures : (found : ℕ) → HasRow rows rows' p (record (row_of rows p) { len = 0 }) → StructuresOk (asked_view p Dropped found o) number rows'
+  dropped_structures found h = record {
     are = λ q mine used. elim (cases_eq q p) [
       | inl e ↦ absurd (false≢true (sym (ap is_some (put_same (object_at o) p None q e)) ∙ used))
-      | inr ne ↦ ok.are q mine (sym (ap is_some (put_other (object_at o) p None q ne)) ∙ used) ∙ sym (ap seat_ds (put_other (object_at o) p None q ne))
+      | inr ne ↦ ap (λ (x : Row). x.structure) (h.there q ne)
+          ∙ ok.are q mine (sym (ap is_some (put_other (object_at o) p None q ne)) ∙ used) ∙ sym (ap seat_ds (put_other (object_at o) p None q ne))
     ];
   }
 
-module _ (s : Seated) (name : TableId) (number : ℕ) (lens stamps : List ℕ) (scope : ℕ) (ok : OwnOk s name number lens stamps scope) (p : ℕ) (own : p / CELLS ≡ number) where
+module _ (s : Seated) (name : TableId) (number : ℕ) (rows : Rows) (ok : OwnOk s name number rows) (p : ℕ) (own : p / CELLS ≡ number) where
   -- ---- one object more
-  pub adopted_ok : (w n : ℕ) → (n ≡ said_len (read_of w)) × (0 < n) × (n ≤ LONGEST) → OwnOk (record { table = s.table; view = adopted_view p w s.view }) name number (slice_set lens (p % CELLS) n) stamps scope
-  adopted_ok w n is = let long = is.0 in let some = is.1 in let most = is.2 in record {
+  pub adopted_ok : (w n t : ℕ) (rows' : Rows) → (n ≡ said_len (read_of w)) × (0 < n) × (n ≤ LONGEST) → HasRow rows rows' p (record (row_of rows p) { len = n; structure = t }) →
+      OwnOk (record { table = s.table; view = adopted_view p w s.view }) name number rows'
+  adopted_ok w n t rows' is h = let long = is.0 in let some = is.1 in let most = is.2 in let r : Row = record (row_of rows p) { len = n; structure = t } in record {
     table = ok.table;
     number_is = ok.number_is;
     few = ok.few;
-    many_lens = length-set lens (p % CELLS) n ∙ ok.many_lens;
-    many_stamps = ok.many_stamps;
+    rows_ok = row_ok rows rows' p r h ok.rows_ok (ok.rows_ok.viewed p);
     lens_are = λ q mine. elim (cases_eq q p) [
-      | inl e ↦ (let at : q % CELLS ≡ p % CELLS = omega arith in get_or-set_at lens (p % CELLS) (q % CELLS) n 0 at (omega (arith, ok.many_lens))
-          ∙ long ∙ sym (ap seat_len (put_same (object_at s.view) p (Some (fresh w)) q e)))
-      | inr ne ↦ get_or-set_other lens (p % CELLS) (q % CELLS) n 0 (λ e. ne (omega arith)) ∙ ok.lens_are q mine ∙ sym (ap seat_len (put_other (object_at s.view) p (Some (fresh w)) q ne))
+      | inl e ↦ row_is rows rows' p r h (λ x. x.len) q e ∙ long ∙ sym (ap seat_len (put_same (object_at s.view) p (Some (fresh w)) q e))
+      | inr ne ↦ ap (λ (x : Row). x.len) (h.there q ne) ∙ ok.lens_are q mine ∙ sym (ap seat_len (put_other (object_at s.view) p (Some (fresh w)) q ne))
     ];
     used_are = λ q mine. elim (cases_eq q p) [
       | inl e ↦ ap is_some (put_same (object_at s.view) p (Some (fresh w)) q e) ∙ sym (ap (λ x. nat_lt 0 (seat_len x)) (put_same (object_at s.view) p (Some (fresh w)) q e) ∙ lt-ltb 0 (said_len (read_of w)) (omega arith))
@@ -98,14 +97,15 @@ module _ (s : Seated) (name : TableId) (number : ℕ) (lens stamps : List ℕ) (
       | inl e ↦ omega (arith, ap seat_len (put_same (object_at s.view) p (Some (fresh w)) q e))
       | inr ne ↦ omega (arith, ap seat_len (put_other (object_at s.view) p (Some (fresh w)) q ne), ok.short q mine)
     ];
-    views_are = ok.views_are;
+    views_are = λ q mine. ok.views_are q mine ∙ views_kept rows rows' p r h refl q;
     held_used = λ q mine held. elim (cases_eq q p) [
       | inl e ↦ ap is_some (put_same (object_at s.view) p (Some (fresh w)) q e)
       | inr ne ↦ ap is_some (put_other (object_at s.view) p (Some (fresh w)) q ne) ∙ ok.held_used q mine held
     ];
     held_open = ok.held_open;
-    soils_are = ok.soils_are;
-    past = ok.past;
+    soils_are = λ q mine e. ok.soils_are q mine (sym (soils_kept rows rows' p r h q) ∙ e ∙ scope_kept rows rows' p r h);
+    other_lens = λ q ne. ap (λ (x : Row). x.len) (h.there q (λ e. ne (ap (λ z. z / CELLS) e ∙ own))) ∙ ok.other_lens q ne;
+    other_views = λ q ne. row_kept rows rows' p r h (λ x. x.viewed) refl q ∙ ok.other_views q ne;
   }
 
   pub adopted_mine : (w n t : ℕ) → n ≡ said_len (read_of w) → t ≡ said_ds (read_of w) → mine_of record { table = s.table; view = adopted_view p w s.view } ≡ adopting p n t (mine_of s)
@@ -117,17 +117,16 @@ module _ (s : Seated) (name : TableId) (number : ℕ) (lens stamps : List ℕ) (
       (ap (seen s.view.honest) (put_same (object_at s.view) p (Some (fresh w)) p refl) ∙ fresh_seen s.view.honest w n t long kind))
 
   -- ---- one object less
-  pub dropped_ok : (found : ℕ) → is_some (held_at s.view p) ≡ false → OwnOk (record { table = s.table; view = asked_view p Dropped found s.view }) name number (slice_set lens (p % CELLS) 0) stamps scope
-  dropped_ok found free = record {
+  pub dropped_ok : (found : ℕ) (rows' : Rows) → is_some (held_at s.view p) ≡ false → HasRow rows rows' p (record (row_of rows p) { len = 0 }) →
+      OwnOk (record { table = s.table; view = asked_view p Dropped found s.view }) name number rows'
+  dropped_ok found rows' free h = let r : Row = record (row_of rows p) { len = 0 } in record {
     table = ok.table;
     number_is = ok.number_is;
     few = ok.few;
-    many_lens = length-set lens (p % CELLS) 0 ∙ ok.many_lens;
-    many_stamps = ok.many_stamps;
+    rows_ok = row_ok rows rows' p r h ok.rows_ok (ok.rows_ok.viewed p);
     lens_are = λ q mine. elim (cases_eq q p) [
-      | inl e ↦ (let at : q % CELLS ≡ p % CELLS = omega arith in get_or-set_at lens (p % CELLS) (q % CELLS) 0 0 at (omega (arith, ok.many_lens))
-          ∙ sym (ap seat_len (put_same (object_at s.view) p None q e)))
-      | inr ne ↦ get_or-set_other lens (p % CELLS) (q % CELLS) 0 0 (λ e. ne (omega arith)) ∙ ok.lens_are q mine ∙ sym (ap seat_len (put_other (object_at s.view) p None q ne))
+      | inl e ↦ row_is rows rows' p r h (λ x. x.len) q e ∙ sym (ap seat_len (put_same (object_at s.view) p None q e))
+      | inr ne ↦ ap (λ (x : Row). x.len) (h.there q ne) ∙ ok.lens_are q mine ∙ sym (ap seat_len (put_other (object_at s.view) p None q ne))
     ];
     used_are = λ q mine. elim (cases_eq q p) [
       | inl e ↦ ap is_some (put_same (object_at s.view) p None q e) ∙ sym (ap (λ x. nat_lt 0 (seat_len x)) (put_same (object_at s.view) p None q e) ∙ le-ltb 0 0 (omega arith))
@@ -137,14 +136,15 @@ module _ (s : Seated) (name : TableId) (number : ℕ) (lens stamps : List ℕ) (
       | inl e ↦ omega (arith, ap seat_len (put_same (object_at s.view) p None q e))
       | inr ne ↦ omega (arith, ap seat_len (put_other (object_at s.view) p None q ne), ok.short q mine)
     ];
-    views_are = ok.views_are;
+    views_are = λ q mine. ok.views_are q mine ∙ views_kept rows rows' p r h refl q;
     held_used = λ q mine held. elim (cases_eq q p) [
       | inl e ↦ absurd (false≢true (sym (ap (λ z. is_some (held_at s.view z)) e ∙ free) ∙ held))
       | inr ne ↦ ap is_some (put_other (object_at s.view) p None q ne) ∙ ok.held_used q mine held
     ];
     held_open = ok.held_open;
-    soils_are = ok.soils_are;
-    past = ok.past;
+    soils_are = λ q mine e. ok.soils_are q mine (sym (soils_kept rows rows' p r h q) ∙ e ∙ scope_kept rows rows' p r h);
+    other_lens = λ q ne. ap (λ (x : Row). x.len) (h.there q (λ e. ne (ap (λ z. z / CELLS) e ∙ own))) ∙ ok.other_lens q ne;
+    other_views = λ q ne. row_kept rows rows' p r h (λ x. x.viewed) refl q ∙ ok.other_views q ne;
   }
 
   pub dropped_mine : (found : ℕ) → mine_of record { table = s.table; view = asked_view p Dropped found s.view } ≡ dropping p (mine_of s)

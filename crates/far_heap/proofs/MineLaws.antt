@@ -12,6 +12,7 @@ use Rattle.far_table.specs.View.{ObjectView}
 use Rattle.far_table.specs.Seats.{Seated}
 use Rattle.far_table.specs.Views.{asked_at, held_at, len_of as seat_len, object_at, word_of}
 use Rattle.far_heap.specs.Mine.{Mine, Object, OwnOk, bytes_in, drop_refusal, known_bytes, len_in, len_of, mine_of, seen, uses, views}
+use Rattle.far_heap.specs.declared.rows.Rows.{Rows}
 use Rattle.far_heap.specs.MineLaw.{MineLaw}
 use Rattle.far_heap.proofs.Mines.{bytes_own, len_own, object_own, uses_so, views_so}
 use Rattle.far_heap.proofs.OwnRows.{length-own_row}
@@ -31,7 +32,7 @@ seen_unknown h None honest = refl
 seen_unknown true (Some x) honest = absurd (false≢true (sym honest))
 seen_unknown false (Some x) honest = refl
 
-module _ (s : Seated) (name : TableId) (number : ℕ) (lens stamps : List ℕ) (scope : ℕ) (ok : OwnOk s name number lens stamps scope) where
+module _ (s : Seated) (name : TableId) (number : ℕ) (rows : Rows) (ok : OwnOk s name number rows) where
   len_some : (p : ℕ) → uses (mine_of s) p ≡ true → 0 < len_in (mine_of s) p
   len_some p h =
       let so = uses_so s p h in
@@ -60,7 +61,7 @@ module _ (s : Seated) (name : TableId) (number : ℕ) (lens stamps : List ℕ) (
   mine_law = record {
     few = omega (arith, ok.number_is, ok.few);
     many = (length-own_row (λ p. seen s.view.honest (object_at s.view p)) s.view.number, length-own_row (λ p. is_some (held_at s.view p)) s.view.number, length-own_row (λ p. asked_at s.view p) s.view.number);
-    used = viewed_used s name number lens stamps scope ok;
+    used = viewed_used s name number rows ok;
     closed = none_viewed;
     some = len_some;
     most = len_most;

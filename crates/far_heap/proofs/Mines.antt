@@ -72,10 +72,10 @@ module _ (s : Seated) (p : ℕ) where
         let here = own_row-get (λ q. is_some (held_at s.view q)) s.view.number p false own ∙ held in
         ap (λ (r : List Bool). record (mine_of s) { viewed = r }) (sym (set-get_or row (p % CELLS) false) ∙ ap (λ b. slice_set row (p % CELLS) b) here)
 
-  other_views : p / CELLS ≢ s.view.number → views (mine_of s) p ≡ false
+  pub other_views : p / CELLS ≢ s.view.number → views (mine_of s) p ≡ false
   other_views ne = rw (ne_eqb (p / CELLS) s.view.number ne) refl
 
-  other_uses : p / CELLS ≢ s.view.number → uses (mine_of s) p ≡ false
+  pub other_uses : p / CELLS ≢ s.view.number → uses (mine_of s) p ≡ false
   other_uses ne = rw (ne_eqb (p / CELLS) s.view.number ne) refl
 
   pub views_so : views (mine_of s) p ≡ true → (p / CELLS ≡ s.view.number) × (is_some (held_at s.view p) ≡ true)

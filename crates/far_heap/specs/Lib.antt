@@ -1,5 +1,6 @@
 pub mod HeapId
 pub mod Copiers
+pub mod Rows
 pub mod Mine
 pub mod MineLaw
 pub mod Made

@@ -1,5 +1,5 @@
 -- A mutator in a heap's own words.
-use Rattle.std.specs.Prelude.{◌≡◌, ◌⊎◌, ℕ, ◌+◌, ◌*◌, ◌/◌, ◌%◌, ◌<◌, ◌≤◌, ◌==◌, Bool, true, false, ◌&&◌, ◌||◌, nat_lt, nat_le, Option, Some, None, is_some, List, ◌++◌, length, map, take, drop, slice_set, slice_index_or, option_map, replicate, if◌then◌else◌}
+use Rattle.std.specs.Prelude.{◌≡◌, ◌≢◌, ◌⊎◌, ℕ, ◌+◌, ◌*◌, ◌/◌, ◌%◌, ◌<◌, ◌≤◌, ◌==◌, Bool, true, false, ◌&&◌, ◌||◌, nat_lt, nat_le, Option, Some, None, is_some, List, ◌++◌, length, map, take, drop, slice_set, slice_index_or, option_map, replicate, if◌then◌else◌}
 use Rattle.std.specs.List.{range_with_len}
 use Rattle.atomic_table.specs.Seated.{TableId}
 use Rattle.far_word.specs.Bytes.{bytes_of}
@@ -13,6 +13,8 @@ use Rattle.far_table.specs.View.{ObjectView, OwnerView}
 use Rattle.far_table.specs.Seats.{Seated}
 use Rattle.far_table.specs.Views.{asked_at, ds_of as seat_ds, held_at, len_of as seat_len, object_at, soiled_at, uses as seat_uses, word_of}
 use Rattle.far_heap.specs.HeapId.{HeapId}
+use Rattle.far_heap.specs.Rows.{RowsOk, row_of, soiled_of}
+use Rattle.far_heap.specs.declared.rows.Rows.{Rows}
 use Rattle.far_heap.specs.declared.view.Brought.{Brought}
 use Rattle.far_heap.specs.declared.view.Brought.TheVariants as brought
 use Rattle.far_heap.specs.declared.view.Tried.{Tried}
@@ -211,27 +213,26 @@ newcomer table number honest = record {
   asked = own_row (λ _. 0) number;
 }
 
--- a mutator's own numbers fit its seat: the length of each object that it uses, 0 where it uses none; and by its count of scopes what the open scope views, and, behind
--- that, what it has soiled
-pub record OwnOk (s : Seated) (name : TableId) (number : ℕ) (lens stamps : List ℕ) (scope : ℕ) : Type 0 where
+-- what a mutator knows by itself fits its seat: the length of each object that it uses, 0 where it uses none; and by its count of scopes what the open scope views, and
+-- what it has soiled. Of pointers of others it knows nothing
+pub record OwnOk (s : Seated) (name : TableId) (number : ℕ) (rows : Rows) : Type 0 where
   pub table : s.table ≡ name
   pub number_is : s.view.number ≡ number
   pub few : number < MOST_MUTATORS
-  pub many_lens : length lens ≡ CELLS
-  pub many_stamps : length stamps ≡ 2 * CELLS
-  pub lens_are : (p : ℕ) → p / CELLS ≡ number → slice_index_or lens (p % CELLS) 0 ≡ seat_len (object_at s.view p)
+  pub rows_ok : RowsOk rows
+  pub lens_are : (p : ℕ) → p / CELLS ≡ number → (row_of rows p).len ≡ seat_len (object_at s.view p)
   pub used_are : (p : ℕ) → p / CELLS ≡ number → seat_uses s.view p ≡ nat_lt 0 (seat_len (object_at s.view p))
   pub short : (p : ℕ) → p / CELLS ≡ number → seat_len (object_at s.view p) ≤ LONGEST
-  pub views_are : (p : ℕ) → p / CELLS ≡ number → is_some (held_at s.view p) ≡ (slice_index_or stamps (p % CELLS) 0 == scope)
+  pub views_are : (p : ℕ) → p / CELLS ≡ number → is_some (held_at s.view p) ≡ ((row_of rows p).viewed == rows.scope)
   pub held_used : (p : ℕ) → p / CELLS ≡ number → is_some (held_at s.view p) ≡ true → seat_uses s.view p ≡ true
   pub held_open : (p : ℕ) → p / CELLS ≡ number → is_some (held_at s.view p) ≡ true → is_some s.view.open_at ≡ true
-  pub soils_are : (p : ℕ) → p / CELLS ≡ number → slice_index_or stamps (CELLS + p % CELLS) 0 ≡ scope → soiled_at s.view p ≡ true
-  pub past : (k : ℕ) → slice_index_or stamps k 0 ≤ scope
+  pub soils_are : (p : ℕ) → p / CELLS ≡ number → soiled_of rows p ≡ rows.scope → soiled_at s.view p ≡ true
+  pub other_lens : (p : ℕ) → p / CELLS ≢ number → (row_of rows p).len ≡ 0
+  pub other_views : (p : ℕ) → p / CELLS ≢ number → (row_of rows p).viewed ≡ 0
 
--- so does its row of data structures, where it uses an object
-pub record StructuresOk (o : OwnerView) (number : ℕ) (structures : List ℕ) : Type 0 where
-  pub many : length structures ≡ CELLS
-  pub are : (p : ℕ) → p / CELLS ≡ number → seat_uses o p ≡ true → slice_index_or structures (p % CELLS) 0 ≡ seat_ds (object_at o p)
+-- so does each data structure, where it uses an object
+pub record StructuresOk (o : OwnerView) (number : ℕ) (rows : Rows) : Type 0 where
+  pub are : (p : ℕ) → p / CELLS ≡ number → seat_uses o p ≡ true → (row_of rows p).structure ≡ seat_ds (object_at o p)
 
 -- the seat of a mutator of a new heap: it uses nothing, views nothing, has asked for nothing, and its scope is closed
 pub record IsNew (number : ℕ) (o : OwnerView) : Type 0 where

@@ -15,6 +15,7 @@ mod mutator;
 mod name;
 mod own;
 mod ranges;
+mod rows;
 mod scope;
 mod under_lock;
 mod values;

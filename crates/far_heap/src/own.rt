@@ -1,5 +1,5 @@
 // What a mutator has, whether its scope is open or closed.
-ghost use Rattle.std.specs.Prelude.{◌≡◌, ◌+◌, ◌*◌, ◌/◌, ◌%◌, ◌<◌, ◌≤◌, ℕ, true, false, length, map, slice_range, slice_index, cond, None, Some, IfOk, IfErr, IfSome, IsSome};
+ghost use Rattle.std.specs.Prelude.{◌≡◌, ◌+◌, ◌<◌, ◌≤◌, ℕ, true, false, length, slice_range, cond, None, Some, IfOk, IfErr, IfSome, IsSome};
 ghost use Rattle.far_table.specs.Views.{said_ds, said_len};
 ghost use Rattle.far_word.specs.Pointer.{read_of};
 ghost use Rattle.far_core.specs.events.Quiet.{has_move};
@@ -9,14 +9,15 @@ ghost use Rattle.far_heap.specs.LogsStay.{LogsStay};
 ghost use Rattle.far_heap.specs.declared.view.Tried.{Tried as any_tried};
 ghost use Rattle.far_heap.specs.Mine.{IsNew, TriedSo, access_refusal, adopting, asking, bytes_in, closing, dropping, ds_in, len_in, newcomer, opening, owns, uses, view_of, views, viewing, writing};
 ghost use Rattle.far_word.specs.declared.refused.Refused.{Refused as any_refusal};
-ghost use Rattle.far_word.specs.declared.sizes.TheConstants.{CELLS, LONGEST, MOST_MUTATORS};
+ghost use Rattle.far_word.specs.declared.sizes.TheConstants.{LONGEST, MOST_MUTATORS};
 
 use crate::name::HeapName;
 use crate::ranges::{load_range, store_range};
+use crate::rows::Rows;
 use crate::view::{Tried, View};
 use far_device::Device;
 use far_table::MutSeat;
-use far_word::{CELLS, Mark, PtrWord, Refused};
+use far_word::{Mark, PtrWord, Refused};
 use std::alloc::{AllocError, Global};
 use std::marker::{Model, PhantomData};
 
@@ -52,19 +53,12 @@ impl DropAsked {
     }
 }
 
-// A mutator's seat and its own tables.
+// A mutator's seat, and what it knows by itself.
 #[derive(Drop)]
 pub(crate) struct Own<K: HeapName, D: Device> {
     seat: MutSeat<D>,
     number: u8,
-    // The length of the object of each of its pointers, 0 where it isn't used.
-    lens: Vec<u16>,
-    // Of which data structure it is, of each pointer that is used.
-    structures: Vec<u8>,
-    // The scope that viewed each pointer last, by its count; and, behind these, the scope that soiled it last.
-    stamps: Vec<u64>,
-    // The count of the scope that is open, or of the next. It is above 0, and no stamp is above it.
-    scope: u64,
+    rows: Rows,
     of: PhantomData<K>,
 }
 
@@ -75,7 +69,7 @@ impl<K: HeapName, D: Device> Model for Own<K, D> {
 
     ghost view = { λ o. mine_of o.seat };
 
-    ghost invariant = { λ o. OwnOk o.seat K.heap.table o.number o.lens.items o.stamps.items o.scope × StructuresOk o.seat.view o.number o.structures.items };
+    ghost invariant = { λ o. OwnOk o.seat K.heap.table o.number o.rows × StructuresOk o.seat.view o.number o.rows };
 }
 
 // The length and the data structure of the object that a word names, 0 where it names none.
@@ -90,50 +84,19 @@ fn said(word: u64) -> (u16, u8)
     }
 }
 
-// Sets all stamps back.
-#[cold]
-#[inline(never)]
-fn clear(stamps: &mut Vec<u64>)
-    ensures many { length stamps.new.items ≡ length stamps.old.items }
-    ensures zeros { (k : ℕ) → slice_index stamps.new.items k ≡ 0 }
-{
-    for i in 0..stamps.len() {
-        stamps[i] = 0;
-    }
-}
-
-// The count of the next scope, above each stamp. Where no number is left the stamps are set back.
-#[inline(always)]
-fn next_scope(stamps: &mut Vec<u64>, scope: u64) -> u64
-    requires { (k : ℕ) → slice_index stamps.old.items k ≤ scope }
-    ensures many { length stamps.new.items ≡ length stamps.old.items }
-    ensures above { (k : ℕ) → slice_index stamps.new.items k < result }
-{
-    if scope < u64::MAX {
-        return scope + 1;
-    }
-    clear(stamps);
-    1
-}
-
 impl<K: HeapName, D: Device> Own<K, D> {
-    // A mutator of a seat of a new heap, whose tables are made here.
+    // A mutator of a seat of a new heap, whose rows are made here.
     pub(crate) fn new(alloc: Global, seat: MutSeat<D>, number: u8) -> Result<Own<K, D>, AllocError>
         requires table { seat.table ≡ K.heap.table }
         requires new { IsNew number seat.view }
         requires few { number < MOST_MUTATORS }
         ensures { IfOk result (λ own. own ≡ newcomer K.heap.table number seat.view.honest) }
     {
-        let lens = vec![in alloc; 0; CELLS as usize]?;
-        let structures = vec![in alloc; 0; CELLS as usize]?;
-        let stamps = vec![in alloc; 0; 2 * CELLS as usize]?;
+        let rows = Rows::new(alloc)?;
         Ok(Own {
             seat,
             number,
-            lens,
-            structures,
-            stamps,
-            scope: 1,
+            rows,
             of: PhantomData,
         })
     }
@@ -169,7 +132,7 @@ impl<K: HeapName, D: Device> Own<K, D> {
         ensures { self.new ≡ closing self.old }
     {
         self.seat.close();
-        self.scope = next_scope(&mut self.stamps, self.scope);
+        self.rows.end_scope();
     }
 
     // The length of the object of a pointer that the mutator uses.
@@ -178,11 +141,7 @@ impl<K: HeapName, D: Device> Own<K, D> {
         ensures used { IfSome result (λ len. (uses self.now p ≡ true) × (len ≡ len_in self.now p)) }
         ensures unused { result ≡ None → uses self.now p ≡ false }
     {
-        if p / CELLS != self.number as u16 {
-            return None;
-        }
-        let len = self.lens[(p % CELLS) as usize];
-        if len == 0 { None } else { Some(len) }
+        self.rows.used_len(p)
     }
 
     // The data structure of the object of a pointer that the mutator uses.
@@ -192,7 +151,7 @@ impl<K: HeapName, D: Device> Own<K, D> {
         ensures unused { result ≡ None → uses self.now p ≡ false }
     {
         if self.has(p) {
-            Some(self.structures[(p % CELLS) as usize])
+            Some(self.rows.structure_at(p))
         } else {
             None
         }
@@ -204,14 +163,7 @@ impl<K: HeapName, D: Device> Own<K, D> {
         ensures viewed { IfSome result (λ len. (views self.now p ≡ true) × (len ≡ len_in self.now p) × (len ≤ LONGEST)) }
         ensures other { result ≡ None → views self.now p ≡ false }
     {
-        if p / CELLS != self.number as u16 {
-            return None;
-        }
-        let cell = (p % CELLS) as usize;
-        if self.stamps[cell] != self.scope {
-            return None;
-        }
-        Some(self.lens[cell])
+        self.rows.viewed_len(p)
     }
 
     // Its number.
@@ -243,7 +195,7 @@ impl<K: HeapName, D: Device> Own<K, D> {
     {
         View {
             pointer: p,
-            len: self.lens[(p % CELLS) as usize],
+            len: self.rows.len_at(p),
         }
     }
 
@@ -264,7 +216,7 @@ impl<K: HeapName, D: Device> Own<K, D> {
         };
         match self.seat.pin(p) {
             Ok(_) => {
-                self.stamps[(p % CELLS) as usize] = self.scope;
+                self.rows.note_viewed(p);
                 Ok(Tried::View(View { pointer: p, len }))
             }
             Err(word) => Ok(Tried::Slow(word)),
@@ -283,9 +235,7 @@ impl<K: HeapName, D: Device> Own<K, D> {
             return None;
         };
         let (len, ds) = said(word);
-        let cell = (p % CELLS) as usize;
-        self.lens[cell] = len;
-        self.structures[cell] = ds;
+        self.rows.note_used(p, len, ds);
         Some((len, ds))
     }
 
@@ -332,7 +282,7 @@ impl<K: HeapName, D: Device> Own<K, D> {
         ensures dropped { self.new ≡ dropping p self.old }
     {
         let found = self.seat.ask(p, Mark::Dropped);
-        self.lens[(p % CELLS) as usize] = 0;
+        self.rows.note_unused(p);
         DropAsked { pointer: p, found }
     }
 
@@ -377,10 +327,9 @@ impl<K: HeapName, D: Device> Own<K, D> {
             Err(why) => return Err(why),
         };
         let p = view.pointer;
-        let stamp = CELLS as usize + (p % CELLS) as usize;
-        if self.stamps[stamp] != self.scope {
+        if !self.rows.has_soiled(p) {
             self.seat.soil(p);
-            self.stamps[stamp] = self.scope;
+            self.rows.note_soiled(p);
         }
         store_range(&mut self.seat, p, len, from, bytes);
         Ok(())

@@ -113,6 +113,10 @@ stored_part p first next a n all row more o u v there sum same before after =
       last = after.last ∙ on n (omega arith) ∙ (let e : a + n ≡ all = omega arith in ap (λ z. row_view p first row z o) e);
     }
 
+-- none yet
+pub stored_none : (p first : ℕ) (row : ℕ → ℕ) (o : OwnerView) → StoredEach p first row 0 o o
+stored_none p first row o = record { each = λ i none. absurd (omega arith); last = refl }
+
 -- one word more
 stored_one : (p at w : ℕ) (u v : OwnerView) → OwnerMade (Store u.number p at w) u Done v → v ≡ stored_view p at w u → StoredEach p at (λ _. w) 1 u v
 stored_one p at w u v made view =

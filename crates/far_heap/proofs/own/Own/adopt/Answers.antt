@@ -1,5 +1,4 @@
-use Rattle.std.proofs.Common.{◌≡◌, ℕ, ◌/◌, ◌%◌, true, false, refl, ap, subst, sym, ◌∙◌}
-use Rattle.std.specs.Prelude.{slice_set}
+use Rattle.std.proofs.Common.{◌≡◌, ℕ, ◌/◌, true, false, refl, ap, subst, sym, ◌∙◌, arith}
 use Rattle.far_word.specs.declared.sizes.TheConstants.{CELLS}
 use Rattle.far_table.specs.Seats.{Seated}
 use Rattle.std.proofs.lemmas.Bool.{eqb-true}
@@ -8,7 +7,7 @@ use Rattle.far_table.specs.View.{OwnerView}
 use Rattle.far_heap.specs.Mine.{Mine, OwnOk, StructuresOk, adopting, mine_of, owns, uses}
 use Rattle.far_heap.proofs.Adopting.{adopted_fits, adopted_len, adopted_mine, adopted_ok, adopted_structures, adopted_used}
 use Rattle.far_heap.proofs.Mines.{none_there, uses_own}
-use Rattle.far_heap.proofs.OwnSteps.{noted_ok, seated_is, structures_stay}
+use Rattle.far_heap.proofs.OwnSteps.{noted_ok, own_below, seated_is, structures_stay}
 use Rattle.far_heap.proofs.own.Own.adopt.Goals as goal
 
 pub adopt-requires-clause-unused : goal.adopt-requires-clause-unused
@@ -18,13 +17,19 @@ adopt-requires-clause-unused g c =
     let own = eqb-true (p / CELLS) s.seat.view.number (subst (λ (m : Mine). owns m p ≡ true) (sym c.self.view_is) c.requires.own) in
     none_there (object_at s.seat.view p) (sym (uses_own s.seat p own) ∙ subst (λ (m : Mine). uses m p ≡ false) (sym c.self.view_is) c.requires.unused)
 
+pub note_used-requires : goal.note_used-requires
+note_used-requires g c =
+    let s = c.self.inside in
+    let own = eqb-true (c.args.p / CELLS) s.seat.view.number (subst (λ (m : Mine). owns m c.args.p ≡ true) (sym c.self.view_is) c.requires.own) in
+    omega (arith, own_below c.args.p s.number (own ∙ c.self.invariant.0.number_is) c.self.invariant.0.few, c.self.invariant.0.rows_ok.many)
+
 pub invariant_of-self : goal.invariant_of-self
 invariant_of-self g c =
     let s = c.self.inside in
     let refused = c.in_default.ensures.refused refl in (
-      subst (λ (t : Seated). OwnOk t _ s.number s.lens.items s.stamps.items s.scope) (sym (seated_is c.adopt.new.self s.seat.table _ c.adopt.ensures.table refused.1))
-          (noted_ok s.seat _ s.number s.lens.items s.stamps.items s.scope c.self.invariant.0 c.args.p refused.0),
-      structures_stay s.number s.structures.items s.seat.view c.adopt.new.self.view _ c.self.invariant.1 refused.1 (λ q. refl),
+      subst (λ (t : Seated). OwnOk t _ s.number s.rows) (sym (seated_is c.adopt.new.self s.seat.table _ c.adopt.ensures.table refused.1))
+          (noted_ok s.seat _ s.number s.rows c.self.invariant.0 c.args.p refused.0),
+      structures_stay s.number s.rows s.seat.view c.adopt.new.self.view _ c.self.invariant.1 refused.1 (λ q. refl),
     )
 
 pub invariant_of-self-2 : goal.invariant_of-self-2
@@ -35,10 +40,10 @@ invariant_of-self-2 g c =
     let own = eqb-true (p / CELLS) s.seat.view.number (subst (λ (m : Mine). owns m p ≡ true) (sym c.self.view_is) c.requires.own) in
     let made = c.in-Some.ensures.adopted in
     let is = adopted_len c.in-Some.word n (adopted_fits _ _ p c.in-Some.word made.1) (adopted_used _ _ p c.in-Some.word made.1) c.said-len.ensures.len in (
-      subst (λ (t : Seated). OwnOk t _ s.number (slice_set s.lens.items (p % CELLS) n) s.stamps.items s.scope) (sym (seated_is c.adopt.new.self s.seat.table _ c.adopt.ensures.table made.0))
-          (adopted_ok s.seat _ s.number s.lens.items s.stamps.items s.scope c.self.invariant.0 p (own ∙ c.self.invariant.0.number_is) c.in-Some.word n is),
-      subst (λ (o : OwnerView). StructuresOk o s.number (slice_set s.structures.items (p % CELLS) c.said-len.result.1)) (sym made.0)
-          (adopted_structures s.seat.view s.number s.structures.items c.self.invariant.1 p c.in-Some.word c.said-len.result.1 (own ∙ c.self.invariant.0.number_is) c.said-len.ensures.ds),
+      subst (λ (t : Seated). OwnOk t _ s.number c.note_used.new.self) (sym (seated_is c.adopt.new.self s.seat.table _ c.adopt.ensures.table made.0))
+          (adopted_ok s.seat _ s.number s.rows c.self.invariant.0 p (own ∙ c.self.invariant.0.number_is) c.in-Some.word n c.said-len.result.1 c.note_used.new.self is c.note_used.ensures),
+      subst (λ (o : OwnerView). StructuresOk o s.number c.note_used.new.self) (sym made.0)
+          (adopted_structures s.seat.view s.number s.rows c.note_used.new.self c.self.invariant.1 p c.in-Some.word n c.said-len.result.1 c.said-len.ensures.ds c.note_used.ensures),
     )
 
 pub returns-clause-adopted : goal.returns-clause-adopted
@@ -52,7 +57,7 @@ returns-clause-adopted g c =
       is.1,
       is.2,
       ap mine_of (seated_is c.adopt.new.self s.seat.table _ c.adopt.ensures.table made.0)
-          ∙ adopted_mine s.seat _ s.number s.lens.items s.stamps.items s.scope c.self.invariant.0 p (own ∙ c.self.invariant.0.number_is) c.in-Some.word n c.said-len.result.1 is.0 c.said-len.ensures.ds ∙ ap (adopting p n c.said-len.result.1) c.self.view_is,
+          ∙ adopted_mine s.seat _ s.number s.rows c.self.invariant.0 p (own ∙ c.self.invariant.0.number_is) c.in-Some.word n c.said-len.result.1 is.0 c.said-len.ensures.ds ∙ ap (adopting p n c.said-len.result.1) c.self.view_is,
     )
 
 pub returns-in_default-clause-kept : goal.returns-in_default-clause-kept

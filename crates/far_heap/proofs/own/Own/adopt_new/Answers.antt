@@ -17,7 +17,7 @@ pub ask_drop-requires-clause-free : goal.ask_drop-requires-clause-free
 ask_drop-requires-clause-free g c =
     let s = c.self.inside in
     let unused = sym c.has.ensures ∙ c.if-has.false in
-    let quiet = unviewed (views (mine_of s.seat) c.args.p) (uses (mine_of s.seat) c.args.p) (viewed_used s.seat _ s.number s.lens.items s.stamps.items s.scope c.self.invariant.0 c.args.p) (ap (λ (m : Mine). uses m c.args.p) c.self.view_is ∙ unused) in
+    let quiet = unviewed (views (mine_of s.seat) c.args.p) (uses (mine_of s.seat) c.args.p) (viewed_used s.seat _ s.number s.rows c.self.invariant.0 c.args.p) (ap (λ (m : Mine). uses m c.args.p) c.self.view_is ∙ unused) in
     ap (λ (m : Mine). views m c.args.p) c.in-Some.ensures.adopted.2 ∙ (ap (λ (m : Mine). views m c.args.p) (sym c.self.view_is) ∙ quiet)
 
 pub returns-else-found-len-clause-kept : goal.returns-else-found-len-clause-kept

@@ -1,8 +1,6 @@
-use Rattle.std.proofs.Common.{◌≡◌, ℕ, ◌%◌, true, false, Result, refl, ap, subst, sym, ◌∙◌}
-use Rattle.std.specs.Prelude.{slice_set}
+use Rattle.std.proofs.Common.{◌≡◌, ℕ, true, false, Result, refl, ap, subst, sym, ◌∙◌, arith}
 use Rattle.std.proofs.lemmas.Bool.{false≢true}
 use Rattle.far_word.specs.declared.pointer.Place.{Place}
-use Rattle.far_word.specs.declared.sizes.TheConstants.{CELLS}
 use Rattle.far_word.specs.Pointer.{read_of}
 use Rattle.far_core.specs.declared.event.Event.TheVariants.{Pin}
 use Rattle.far_table.specs.Seats.{Seated, pin_reply}
@@ -11,7 +9,7 @@ use Rattle.far_table.specs.Views.{held_at}
 use Rattle.far_heap.specs.declared.view.View.{View}
 use Rattle.far_heap.specs.Mine.{IsSlow, Mine, OwnOk, ds_in, len_in, mine_of, uses, viewing, views}
 use Rattle.far_heap.proofs.Mines.{again_mine, ds_own, len_own, none_there, pinned_mine, uses_so, views_own, views_so}
-use Rattle.far_heap.proofs.OwnSteps.{pinned_ok, seated_is, structures_stay, viewed_used, warmed_ok}
+use Rattle.far_heap.proofs.OwnSteps.{pinned_ok, pinned_structures, seated_is, structures_stay, used_below, viewed_used, warmed_ok}
 use Rattle.far_heap.proofs.Slow.{slow_found}
 use Rattle.far_heap.proofs.own.Own.try_view.Goals as goal
 
@@ -32,26 +30,33 @@ returns-in-Some-clause-tried g c =
     let viewed = c.in-Some.ensures.viewed in
     let here = subst (λ (m : Mine). views m p ≡ true) (sym c.self.view_is) viewed.0 in
     let so = views_so s.seat p here in
-    let used = viewed_used s.seat _ s.number s.lens.items s.stamps.items s.scope c.self.invariant.0 p here in
+    let used = viewed_used s.seat _ s.number s.rows c.self.invariant.0 p here in
     let of : ℕ → View = λ n. record { pointer = p; len = n } in
     (subst (λ (m : Mine). uses m p ≡ true) c.self.view_is used, (ap of viewed.1, subst (λ (m : Mine). m ≡ viewing p m) c.self.view_is (again_mine s.seat p so.0 so.1)))
+
+pub note_viewed-requires : goal.note_viewed-requires
+note_viewed-requires g c =
+    let s = c.self.inside in
+    let used = subst (λ (m : Mine). uses m c.args.p ≡ true) (sym c.self.view_is) c.in-Some-used_len.ensures.used.0 in
+    omega (arith, used_below s.seat _ s.number s.rows c.self.invariant.0 c.args.p used, c.self.invariant.0.rows_ok.many)
 
 pub invariant_of-self : goal.invariant_of-self
 invariant_of-self g c =
     let s = c.self.inside in
     let p : ℕ = c.args.p in
     let so = uses_so s.seat p (subst (λ (m : Mine). uses m p ≡ true) (sym c.self.view_is) c.in-Some-used_len.ensures.used.0) in (
-      subst (λ (t : Seated). OwnOk t _ s.number s.lens.items (slice_set s.stamps.items (p % CELLS) s.scope) s.scope) (sym (seated_is c.pin.new.self s.seat.table _ c.pin.ensures.table c.in-Ok.ensures.held.2))
-          (pinned_ok s.seat _ s.number s.lens.items s.stamps.items s.scope c.self.invariant.0 p c.in-Ok.ensures.held.0 c.in-Ok.field-0 (so.0 ∙ c.self.invariant.0.number_is) so.1 (ap (λ (m : Mine). m.opened) c.self.view_is ∙ c.requires)),
-      structures_stay s.number s.structures.items s.seat.view c.pin.new.self.view _ c.self.invariant.1 c.in-Ok.ensures.held.2 (λ q. refl),
+      subst (λ (t : Seated). OwnOk t _ s.number c.note_viewed.new.self) (sym (seated_is c.pin.new.self s.seat.table _ c.pin.ensures.table c.in-Ok.ensures.held.2))
+          (pinned_ok s.seat _ s.number s.rows c.self.invariant.0 p c.in-Ok.ensures.held.0 c.in-Ok.field-0 c.note_viewed.new.self (so.0 ∙ c.self.invariant.0.number_is) so.1
+          (ap (λ (m : Mine). m.opened) c.self.view_is ∙ c.requires) c.note_viewed.ensures),
+      pinned_structures s.seat _ s.number s.rows c.self.invariant.0 p c.in-Ok.ensures.held.0 c.in-Ok.field-0 c.note_viewed.new.self c.pin.new.self.view c.self.invariant.1 c.note_viewed.ensures c.in-Ok.ensures.held.2,
     )
 
 pub invariant_of-self-in-Err : goal.invariant_of-self-in-Err
 invariant_of-self-in-Err g c =
     let s = c.self.inside in (
-      subst (λ (t : Seated). OwnOk t _ s.number s.lens.items s.stamps.items s.scope) (sym (seated_is c.pin.new.self s.seat.table _ c.pin.ensures.table c.in-Err.ensures.kept.0))
-          (warmed_ok s.seat _ s.number s.lens.items s.stamps.items s.scope c.self.invariant.0 c.args.p c.in-Err.word),
-      structures_stay s.number s.structures.items s.seat.view c.pin.new.self.view _ c.self.invariant.1 c.in-Err.ensures.kept.0 (λ q. refl),
+      subst (λ (t : Seated). OwnOk t _ s.number s.rows) (sym (seated_is c.pin.new.self s.seat.table _ c.pin.ensures.table c.in-Err.ensures.kept.0))
+          (warmed_ok s.seat _ s.number s.rows c.self.invariant.0 c.args.p c.in-Err.word),
+      structures_stay s.number s.rows s.seat.view c.pin.new.self.view _ c.self.invariant.1 c.in-Err.ensures.kept.0 (λ q. refl),
     )
 
 pub returns-in-Ok-clause-tried : goal.returns-in-Ok-clause-tried

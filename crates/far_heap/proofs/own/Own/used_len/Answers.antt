@@ -1,12 +1,16 @@
-use Rattle.std.proofs.Common.{◌≡◌, subst, true, false, arith}
+use Rattle.std.proofs.Common.{◌≡◌, ℕ, subst, true, false}
+use Rattle.std.specs.Prelude.{IfSome}
 use Rattle.far_heap.specs.Mine.{Mine, len_in, uses}
-use Rattle.far_heap.proofs.OwnSteps.{len_unused, len_used}
+use Rattle.far_heap.proofs.OwnSteps.{if_used, len_unused}
 use Rattle.far_heap.proofs.own.Own.used_len.Goals as goal
 
-pub returns-then-len-eq0-clause-unused : goal.returns-then-len-eq0-clause-unused
-returns-then-len-eq0-clause-unused g c = λ _. subst (λ (m : Mine). uses m c.args.p ≡ false) c.self.view_is
-    (len_unused _ _ _ _ _ _ c.self.invariant.0 c.args.p c.index-len.result.now c.if-p-self.false c.index-len.ensures c.if-len-eq0.true)
+pub returns-clause-used : goal.returns-clause-used
+returns-clause-used g c =
+    let s = c.self.inside in
+    subst (λ (m : Mine). IfSome c.used_len.result (λ len. (uses m c.args.p ≡ true) × (len ≡ len_in m c.args.p))) c.self.view_is
+    (if_used s.seat _ s.number s.rows c.self.invariant.0 c.args.p c.used_len.result c.used_len.ensures.used)
 
-pub returns-else-len-eq0-clause-used : goal.returns-else-len-eq0-clause-used
-returns-else-len-eq0-clause-used g c = subst (λ (m : Mine). (uses m c.args.p ≡ true) × (c.index-len.result.now ≡ len_in m c.args.p)) c.self.view_is
-    (len_used _ _ _ _ _ _ c.self.invariant.0 c.args.p c.index-len.result.now c.if-p-self.false c.index-len.ensures (omega (arith, c.if-len-eq0.false)))
+pub returns-clause-unused : goal.returns-clause-unused
+returns-clause-unused g c = λ none.
+    let s = c.self.inside in
+    subst (λ (m : Mine). uses m c.args.p ≡ false) c.self.view_is (len_unused s.seat _ s.number s.rows c.self.invariant.0 c.args.p (c.used_len.ensures.unused none))

@@ -1,42 +1,59 @@
-use Rattle.std.proofs.Common.{◌≡◌, ℕ, true, is_some, refl, ap, sym, subst, ◌∙◌, arith}
+use Rattle.std.proofs.Common.{◌≡◌, ◌<◌, ℕ, true, length, is_some, refl, ap, sym, subst, ◌∙◌, arith}
+use Rattle.atomic_table.specs.Seated.{TableId}
+use Rattle.far_table.specs.Seats.{Seated}
+use Rattle.far_heap.specs.declared.rows.Rows.{Rows}
 use Rattle.far_table.specs.View.{OwnerView}
 use Rattle.far_table.specs.Views.{held_at, len_of, object_at}
-use Rattle.far_heap.specs.Mine.{Mine, StructuresOk, len_in, views, writing}
+use Rattle.far_heap.specs.Mine.{Mine, OwnOk, StructuresOk, len_in, mine_of, views, writing}
 use Rattle.far_heap.proofs.Accesses.{wrote_mine, wrote_ok, wrote_structures}
 use Rattle.far_heap.proofs.Mines.{len_own, views_so}
-use Rattle.far_heap.proofs.OwnSteps.{HasSoiled, first_soiled, soiled_before, soiled_mine, structures_stay}
+use Rattle.far_heap.proofs.OwnSteps.{HasSoiled, first_soiled, soiled_before, soiled_mine, structures_move, used_below, viewed_used}
 use Rattle.far_heap.proofs.own.Own.write.Goals as goal
 use Rattle.far_heap.proofs.own.Own.write.Given.{Over}
-use Rattle.far_heap.proofs.own.Own.write.Goals.{then-index-self, else-index-self}
+use Rattle.far_heap.proofs.own.Own.write.Goals.{then-not-has_soiled, else-not-has_soiled}
 
 -- once the scope has soiled the object, before the store and after it
-soiled : (g : Over) (c : goal.After-store_range-arg-1 g) → let t = c.if-index-self.self-inside in
-    HasSoiled c.self.inside.seat t.seat c.args.view.pointer g.K.HeapName.heap.table t.number t.lens.items t.stamps.items t.scope × (t.number ≡ c.self.inside.number) × (t.structures.items ≡ c.self.inside.structures.items)
+soiled : (g : Over) (c : goal.After-store_range-arg-1 g) → let t = c.if-not-has_soiled.self-inside in
+    HasSoiled c.self.inside.seat t.seat c.args.view.pointer g.K.HeapName.heap.table t.number c.self.inside.rows t.rows × (t.number ≡ c.self.inside.number)
 soiled g c =
     let s = c.self.inside in
     let p : ℕ = c.args.view.pointer in
     let ok = c.self.invariant.0 in
     let own = (views_so s.seat p (subst (λ (m : Mine). views m p ≡ true) (sym c.self.view_is) c.in-Ok.ensures.done.1)).0 ∙ ok.number_is in
-    elim c.if-index-self.branch [
-      | then-index-self w ↦ subst (λ t. HasSoiled s.seat t.seat p g.K.HeapName.heap.table t.number t.lens.items t.stamps.items t.scope × (t.number ≡ s.number) × (t.structures.items ≡ s.structures.items)) (sym w.self-inside-is)
-          (first_soiled s.seat g.K.HeapName.heap.table s.number s.lens.items s.stamps.items s.scope ok p w.soil.result w.soil.new.self w.soil.ensures.table w.soil.ensures.view own, refl, refl)
-      | else-index-self w ↦ subst (λ t. HasSoiled s.seat t.seat p g.K.HeapName.heap.table t.number t.lens.items t.stamps.items t.scope × (t.number ≡ s.number) × (t.structures.items ≡ s.structures.items)) (sym w.self-inside-is)
-          (soiled_before s.seat g.K.HeapName.heap.table s.number s.lens.items s.stamps.items s.scope ok p c.index.result.now own c.index.ensures w.if-index-self.false, refl, refl)
+    elim c.if-not-has_soiled.branch [
+      | then-not-has_soiled w ↦ subst (λ t. HasSoiled s.seat t.seat p g.K.HeapName.heap.table t.number s.rows t.rows × (t.number ≡ s.number)) (sym w.self-inside-is)
+          (first_soiled s.seat g.K.HeapName.heap.table s.number s.rows ok p w.soil.result w.soil.new.self w.note_soiled.new.self w.soil.ensures.table w.soil.ensures.view own w.note_soiled.ensures, refl)
+      | else-not-has_soiled w ↦ subst (λ t. HasSoiled s.seat t.seat p g.K.HeapName.heap.table t.number s.rows t.rows × (t.number ≡ s.number)) (sym w.self-inside-is)
+          (soiled_before s.seat g.K.HeapName.heap.table s.number s.rows ok p own (sym c.has_soiled.ensures ∙ w.if-not-has_soiled.false), refl)
     ]
 
-soiled_then : (g : Over) (c : goal.After-store_range g) → let t = c.if-index-self.self-inside in
-    HasSoiled c.self.inside.seat t.seat c.args.view.pointer g.K.HeapName.heap.table t.number t.lens.items t.stamps.items t.scope × (t.number ≡ c.self.inside.number) × (t.structures.items ≡ c.self.inside.structures.items)
+soiled_then : (g : Over) (c : goal.After-store_range g) → let t = c.if-not-has_soiled.self-inside in
+    HasSoiled c.self.inside.seat t.seat c.args.view.pointer g.K.HeapName.heap.table t.number c.self.inside.rows t.rows × (t.number ≡ c.self.inside.number)
 soiled_then g c =
     let s = c.self.inside in
     let p : ℕ = c.args.view.pointer in
     let ok = c.self.invariant.0 in
     let own = (views_so s.seat p (subst (λ (m : Mine). views m p ≡ true) (sym c.self.view_is) c.in-Ok.ensures.done.1)).0 ∙ ok.number_is in
-    elim c.if-index-self.branch [
-      | then-index-self w ↦ subst (λ t. HasSoiled s.seat t.seat p g.K.HeapName.heap.table t.number t.lens.items t.stamps.items t.scope × (t.number ≡ s.number) × (t.structures.items ≡ s.structures.items)) (sym w.self-inside-is)
-          (first_soiled s.seat g.K.HeapName.heap.table s.number s.lens.items s.stamps.items s.scope ok p w.soil.result w.soil.new.self w.soil.ensures.table w.soil.ensures.view own, refl, refl)
-      | else-index-self w ↦ subst (λ t. HasSoiled s.seat t.seat p g.K.HeapName.heap.table t.number t.lens.items t.stamps.items t.scope × (t.number ≡ s.number) × (t.structures.items ≡ s.structures.items)) (sym w.self-inside-is)
-          (soiled_before s.seat g.K.HeapName.heap.table s.number s.lens.items s.stamps.items s.scope ok p c.index.result.now own c.index.ensures w.if-index-self.false, refl, refl)
+    elim c.if-not-has_soiled.branch [
+      | then-not-has_soiled w ↦ subst (λ t. HasSoiled s.seat t.seat p g.K.HeapName.heap.table t.number s.rows t.rows × (t.number ≡ s.number)) (sym w.self-inside-is)
+          (first_soiled s.seat g.K.HeapName.heap.table s.number s.rows ok p w.soil.result w.soil.new.self w.note_soiled.new.self w.soil.ensures.table w.soil.ensures.view own w.note_soiled.ensures, refl)
+      | else-not-has_soiled w ↦ subst (λ t. HasSoiled s.seat t.seat p g.K.HeapName.heap.table t.number s.rows t.rows × (t.number ≡ s.number)) (sym w.self-inside-is)
+          (soiled_before s.seat g.K.HeapName.heap.table s.number s.rows ok p own (sym c.has_soiled.ensures ∙ w.if-not-has_soiled.false), refl)
     ]
+
+-- its row is there
+below : (s : Seated) (name : TableId) (number : ℕ) (rows : Rows) → OwnOk s name number rows → (p : ℕ) → views (mine_of s) p ≡ true → p < length rows.soiled.items
+below s name number rows ok p viewed = omega (arith, used_below s name number rows ok p (viewed_used s name number rows ok p viewed), ok.rows_ok.many_soiled)
+
+pub has_soiled-requires : goal.has_soiled-requires
+has_soiled-requires g c =
+    let s = c.self.inside in
+    below s.seat _ s.number s.rows c.self.invariant.0 c.args.view.pointer (subst (λ (m : Mine). views m c.args.view.pointer ≡ true) (sym c.self.view_is) c.in-Ok.ensures.done.1)
+
+pub note_soiled-requires : goal.note_soiled-requires
+note_soiled-requires g c =
+    let s = c.self.inside in
+    below s.seat _ s.number s.rows c.self.invariant.0 c.args.view.pointer (subst (λ (m : Mine). views m c.args.view.pointer ≡ true) (sym c.self.view_is) c.in-Ok.ensures.done.1)
 
 pub soil-requires : goal.soil-requires
 soil-requires g c =
@@ -59,21 +76,21 @@ store_range-requires-clause-len g c =
 
 pub invariant_of-self : goal.invariant_of-self
 invariant_of-self g c =
-    let t = c.if-index-self.self-inside in
+    let t = c.if-not-has_soiled.self-inside in
     let p : ℕ = c.args.view.pointer in
     let so = soiled_then g c in
-    let wrote = c.store_range.ensures.wrote in (
-      wrote_ok p c.args.from c.args.bytes.now t.seat.view c.store_range.new.seat.view wrote t.seat.table c.store_range.new.seat.table _ t.number t.lens.items t.stamps.items t.scope c.store_range.ensures.table so.0.ok,
-      wrote_structures p c.args.from c.args.bytes.now t.seat.view c.store_range.new.seat.view wrote t.number t.structures.items
-          (subst (λ n. StructuresOk t.seat.view n t.structures.items) (sym so.1) (subst (StructuresOk t.seat.view c.self.inside.number) (sym so.2)
-          (structures_stay c.self.inside.number c.self.inside.structures.items c.self.inside.seat.view t.seat.view _ c.self.invariant.1 so.0.soils.rest (λ q. refl)))),
+    let wrote = c.store_range.ensures.wrote in
+    let s = c.self.inside in (
+      wrote_ok p c.args.from c.args.bytes.now t.seat.view c.store_range.new.seat.view wrote t.seat.table c.store_range.new.seat.table _ t.number t.rows c.store_range.ensures.table so.0.ok,
+      wrote_structures p c.args.from c.args.bytes.now t.seat.view c.store_range.new.seat.view wrote t.number t.rows
+          (subst (λ n. StructuresOk t.seat.view n t.rows) (sym so.1) (structures_move s.number s.rows t.rows s.seat.view t.seat.view _ c.self.invariant.1 so.0.soils.rest (λ q. refl) so.0.kept)),
     )
 
 pub returns-clause-done : goal.returns-clause-done
 returns-clause-done g c =
     let p : ℕ = c.args.view.pointer in
     let s = c.self.inside.seat in
-    let t = c.if-index-self.self-inside.seat in
+    let t = c.if-not-has_soiled.self-inside.seat in
     let done = c.in-Ok.ensures.done in
     let so = (soiled_then g c).0 in
     let own = (views_so s p (subst (λ (m : Mine). views m p ≡ true) (sym c.self.view_is) done.1)).0 in
