@@ -1,5 +1,5 @@
 // What a mutator knows by itself of pointers, and its count of scopes.
-ghost use Rattle.std.specs.Prelude.{◌≡◌, ◌<◌, ◌≤◌, ◌==◌, ℕ, length, slice_index, None, IfOk, IfSome};
+ghost use Rattle.std.specs.Prelude.{◌≡◌, ◌<◌, ◌==◌, ℕ, false, length, slice_index, None, IfOk, IfSome};
 ghost use Rattle.far_word.specs.declared.sizes.TheConstants.{POINTERS};
 ghost use Rattle.far_heap.specs.Rows.{EndsScope, HasRow, HasSoil, IsBlank, RowsOk, row_in, row_of, soiled_of};
 
