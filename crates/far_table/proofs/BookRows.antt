@@ -105,7 +105,7 @@ module _ {D : Type 0} (s : BookSeat D) where
   own_part there same = record { fits = subst (λ h. BookOk s.seat.table_id h s.seat.me.0 s.logs s.mutators s.epoch) (sym same) s.fits; stands = s.stands }
 
   -- the struct with another part
-  seated : (u : Seat ℕ View) → PartOk table s.logs s.mutators s.epoch u → BookSeat D
+  abbrev seated : (u : Seat ℕ View) → PartOk table s.logs s.mutators s.epoch u → BookSeat D
   seated u ok = record s { seat = u; fits = ok.fits; stands = ok.stands }
 
   module _ (other : ℕ → Seat ℕ View → Seat ℕ View → Type 0) (call : ℕ → BookSeat D → BookSeat D → Type 0) (ok : (i : ℕ) (u v : Seat ℕ View) → other i u v → PartOk table s.logs s.mutators s.epoch v)

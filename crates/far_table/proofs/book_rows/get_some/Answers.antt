@@ -1,4 +1,4 @@
-use Rattle.std.proofs.Common.{◌+◌, ◌*◌, ◌≡◌, ◌∙◌, arith, refl, subst, sym}
+use Rattle.std.proofs.Common.{◌+◌, ◌≡◌, ◌∙◌, arith, refl, subst}
 use Rattle.far_hand.specs.Ranges.{HasRead}
 use Rattle.far_hand.proofs.Ranges.{has_more}
 use Rattle.far_table.specs.BookRows.{part_makes, part_view}

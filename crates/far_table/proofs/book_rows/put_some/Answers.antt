@@ -1,4 +1,4 @@
-use Rattle.std.proofs.Common.{◌+◌, ◌*◌, ◌≡◌, arith, refl, subst}
+use Rattle.std.proofs.Common.{◌+◌, ◌≡◌, arith, refl, subst}
 use Rattle.far_word.specs.Bytes.{packed_word}
 use Rattle.far_hand.specs.Ranges.{WritesRow}
 use Rattle.far_hand.proofs.Ranges.{writes_more}

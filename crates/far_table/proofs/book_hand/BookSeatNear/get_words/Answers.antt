@@ -16,7 +16,7 @@ get_all-requires g c =
 pub invariant_of-self : goal.invariant_of-self
 invariant_of-self g c =
     let s = c.args.self.now in
-    let same : c.deref.result.shared.table_id ≡ (arc_value s.table).shared.table_id = ap (λ t. t.shared.table_id) c.deref.ensures in
+    let same : c.deref.result.now.shared.table_id ≡ (arc_value s.table).shared.table_id = ap (λ t. t.shared.table_id) c.deref.ensures in
     let part = own_part s _ same in
     let h = c.get_all.ensures.words s.logs s.mutators s.epoch part in
     let ok = subst (λ (h : TableId). PartOk h s.logs s.mutators s.epoch c.get_all.new.seat) same (reads_ok _ s.logs s.mutators s.epoch c.args.log c.args.at h.0 0 c.args.count s.seat c.get_all.new.seat h.1 part) in
@@ -30,7 +30,7 @@ returns-then-count-eq0-clause-words g c =
 pub returns-clause-words : goal.returns-clause-words
 returns-clause-words g c =
     let s = c.args.self.now in
-    let same : c.deref.result.shared.table_id ≡ (arc_value s.table).shared.table_id = ap (λ t. t.shared.table_id) c.deref.ensures in
+    let same : c.deref.result.now.shared.table_id ≡ (arc_value s.table).shared.table_id = ap (λ t. t.shared.table_id) c.deref.ensures in
     let h = c.get_all.ensures.words s.logs s.mutators s.epoch (own_part s _ same) in
     reads_lift s _ c.args.count c.if-count-eq0.false c.args.log c.args.at c.get_all.new.row
     (subst (λ (h : TableId). HasRead ⊥ part_view (part_makes h s.logs s.mutators s.epoch) c.args.log c.args.at s.seat c.get_all.new.seat c.args.count c.get_all.new.row) same h)

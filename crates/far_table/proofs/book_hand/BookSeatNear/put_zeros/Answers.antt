@@ -15,7 +15,7 @@ zero_all-requires g c =
 pub invariant_of-self : goal.invariant_of-self
 invariant_of-self g c =
     let s = c.args.self.now in
-    let same : c.deref.result.shared.table_id ≡ (arc_value s.table).shared.table_id = ap (λ t. t.shared.table_id) c.deref.ensures in
+    let same : c.deref.result.now.shared.table_id ≡ (arc_value s.table).shared.table_id = ap (λ t. t.shared.table_id) c.deref.ensures in
     let part = own_part s _ same in
     let row = c.zero_all.ensures s.logs s.mutators s.epoch part in
     let ok = subst (λ (h : TableId). PartOk h s.logs s.mutators s.epoch c.zero_all.new.seat) same (writes_ok _ s.logs s.mutators s.epoch c.args.log c.args.at (λ _. 0) 0 c.args.count s.seat c.zero_all.new.seat row part) in
@@ -27,6 +27,6 @@ returns-then-count-eq0 g c = let s = c.args.self.now in subst (λ n. WritesRow �
 pub returns : goal.returns
 returns g c =
     let s = c.args.self.now in
-    let same : c.deref.result.shared.table_id ≡ (arc_value s.table).shared.table_id = ap (λ t. t.shared.table_id) c.deref.ensures in
+    let same : c.deref.result.now.shared.table_id ≡ (arc_value s.table).shared.table_id = ap (λ t. t.shared.table_id) c.deref.ensures in
     let row = c.zero_all.ensures s.logs s.mutators s.epoch (own_part s _ same) in
     writes_lift s _ c.args.count c.if-count-eq0.false c.args.log c.args.at (λ _. 0) (subst (λ (h : TableId). WritesRow ⊥ part_view (part_makes h s.logs s.mutators s.epoch) c.args.log c.args.at (λ _. 0) 0 c.args.count s.seat c.zero_all.new.seat) same row)
