@@ -33,7 +33,7 @@ use Rattle.far_core.proofs.Copied.{copied_fact, copied_test, none_copied_there}
 use Rattle.far_core.proofs.MadeNamings.{unbegun}
 use Rattle.far_core.proofs.Namings.{naming_only}
 use Rattle.far_core.proofs.Bounds.{span_len}
-use Rattle.far_core.proofs.Put.{put_both, put_other, put_same}
+use Rattle.far_core.proofs.Put.{put_other, put_same}
 use Rattle.far_hand.specs.Known.{IsKnown, Forgets, KnowsLeaving, StoresLeaving}
 use Rattle.far_hand.specs.Masked.{masked, AllFind, AllFindJobs}
 use Rattle.far_hand.proofs.Finding.{place_found}

@@ -1,5 +1,5 @@
 -- Words in a row: what each step keeps, they all keep; and what is asked of each.
-use Rattle.std.proofs.Common.{◌≡◌, ◌≢◌, ℕ, zero, suc, ◌+◌, ◌*◌, ◌<◌, ◌≤◌, arith, refl, sym, ap, ◌∙◌, subst, false, List, ◌++◌, take}
+use Rattle.std.proofs.Common.{◌≡◌, ℕ, zero, suc, ◌+◌, ◌*◌, ◌<◌, arith, refl, sym, ap, ◌∙◌, subst, false, List, ◌++◌, take}
 use Rattle.far_word.specs.declared.pointer.Place.{Place}
 use Rattle.far_word.specs.declared.sizes.TheConstants.{LOG_WORDS}
 use Rattle.far_word.specs.Bytes.{bytes_of}
@@ -59,15 +59,21 @@ module _ (s t : State) (is : t ≡ record s { word = t.word }) where
       let tails : t.tail l ≡ s.tail l = ap (λ (x : State). x.tail l) is in
       (subst (λ (x : State). l < x.logs) (sym is) past.0, λ e. past.1 (ap (λ (x : State). x.kind l) (sym is) ∙ e), omega (arith, past.2, tails), omega (arith, past.3, lt))
 
+-- words alone have changed, and change again
+pub words_again : (s t u : State) → t ≡ record s { word = t.word } → u ≡ record t { word = u.word } → u ≡ record s { word = u.word }
+words_again s t u is more = more ∙ ap (λ (x : State). record x { word = u.word }) is
+
+-- as where one is written
+pub word_rest : (s t : State) (a w : ℕ) → t ≡ record s { word = put s.word a w } → t ≡ record s { word = t.word }
+word_rest s t a w is = let word : t.word ≡ put s.word a w = ap (λ (x : State). x.word) is in is ∙ (λ i. record s { word = sym word i })
+
 -- ---- over any hand
 module _ {S : Type 0} (still : Type 0) (view : S → State) (makes : S → Event → Reply → S → Type 0) where
   read_rest : (l at w : ℕ) (s : State) (u v : S) → ReadsWord still view makes l at w u v → view u ≡ record s { word = (view u).word } → view v ≡ record s { word = (view v).word }
-  read_rest l at w s u v h is = h.gets.rest ∙ ap (λ (x : State). record x { word = (view v).word }) is
+  read_rest l at w s u v h is = words_again s (view u) (view v) is h.gets.rest
 
   write_rest : (l at w : ℕ) (s : State) (u v : S) → WritesWord still view makes l at w u v → view u ≡ record s { word = (view u).word } → view v ≡ record s { word = (view v).word }
-  write_rest l at w s u v h is =
-      let word_is : (view v).word ≡ put (view u).word (l * LOG_WORDS + at) w = ap (λ (x : State). x.word) h.set in
-      h.set ∙ ap (λ (x : State). record x { word = put (view u).word (l * LOG_WORDS + at) w }) is ∙ (λ i. record s { word = sym word_is i })
+  write_rest l at w s u v h is = words_again s (view u) (view v) is (word_rest (view u) (view v) (l * LOG_WORDS + at) w h.set)
 
   -- words alone change
   pub rows_rest : (step : ℕ → S → S → Type 0) → ((i : ℕ) (s : State) (u v : S) → step i u v → view u ≡ record s { word = (view u).word } → view v ≡ record s { word = (view v).word }) →

@@ -1,14 +1,12 @@
 -- What a beset hand knows after it has read a word or written one.
-use Rattle.std.proofs.Common.{◌≡◌, ◌≢◌, ℕ, ◌+◌, ◌-◌, ◌*◌, ◌/◌, ◌^◌, ◌<◌, Bool, true, false, cond, nat_eq, refl, sym, ap, ◌∙◌, subst, arith}
+use Rattle.std.proofs.Common.{◌≡◌, ℕ, ◌+◌, ◌-◌, ◌*◌, ◌/◌, ◌^◌, ◌<◌, Bool, true, false, cond, nat_eq, refl, sym, ap, ◌∙◌, subst, arith}
 use Rattle.std.specs.Prelude.{◌||◌}
 use Rattle.std.proofs.lemmas.Bool.{false≢true, true≢false, cond_both}
 use mathlib.Core.Path.{fun_ext}
 use Rattle.far_word.specs.declared.sizes.TheConstants.{LOG_WORDS}
 use Rattle.far_word.specs.Sizes.{words_for}
 use Rattle.far_log.specs.Spans.{head_len}
-use Rattle.far_core.specs.declared.event.Event.TheVariants.{Get}
 use Rattle.far_core.specs.events.Get.{after_get, with_free_log, IsVacant, MayFree}
-use Rattle.far_core.specs.events.Step.{after}
 use Rattle.far_core.specs.state.Law.{Law}
 use Rattle.far_core.specs.state.State.{State, put}
 use Rattle.far_core.proofs.Put.{put_both, put_same, put_other, put_old}

@@ -1,17 +1,14 @@
 -- An object is read word by word: its bytes, and what is known of its words then.
-use Rattle.std.proofs.Common.{◌≡◌, ◌≢◌, ℕ, ◌+◌, ◌-◌, ◌*◌, ◌/◌, ◌%◌, ◌^◌, ◌<◌, ◌≤◌, true, false, arith, sym, refl, ap, subst, ◌∙◌, List, [], ◌∷◌, ◌++◌, length, take, get_or, inl, inr, length-take-le}
+use Rattle.std.proofs.Common.{◌≡◌, ◌≢◌, ℕ, ◌+◌, ◌-◌, ◌*◌, ◌^◌, ◌<◌, ◌≤◌, true, false, arith, sym, refl, ap, subst, ◌∙◌, List, length, take, get_or, inl, inr, length-take-le}
 use Rattle.std.proofs.lemmas.Bool.{cases_eq, cases_lt, false≢true}
-use Rattle.std.proofs.lemmas.List.{ext_get_or, get_or-take, length-append, get_or_append_left, get_or-append_right}
-use Rattle.std.proofs.lemmas.Slice.{take-put_mid}
-use borrow.Rule.Slice.PartMut.{put_mid}
+use Rattle.std.proofs.lemmas.List.{ext_get_or, get_or-take}
 use Rattle.far_word.specs.declared.pointer.Place.{Place}
 use Rattle.far_word.specs.Bytes.{bytes_of}
 use Rattle.far_word.specs.Sizes.{words_for}
-use Rattle.far_word.proofs.ByteLaws.{bytes_of-same, bytes_of-get, length-bytes_of}
+use Rattle.far_word.proofs.ByteLaws.{bytes_of-get, length-bytes_of}
 use Rattle.far_log.specs.Spans.{head_len}
-use Rattle.far_core.specs.events.Copies.{data_at}
 use Rattle.far_core.specs.state.State.{State, put, addr}
-use Rattle.far_core.proofs.Put.{put_both, put_same, put_other}
+use Rattle.far_core.proofs.Put.{put_both, put_other}
 use Rattle.far_hand.specs.Known.{IsKnown, IsPaddedAt}
 use Rattle.far_book.specs.book.Dealing.{Leaves}
 use Rattle.far_hand.specs.Quiet.{IsQuietAt}

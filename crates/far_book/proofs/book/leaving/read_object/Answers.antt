@@ -1,7 +1,7 @@
 use Rattle.far_book.proofs.book.leaving.read_object.Given.{Over}
 use Rattle.far_book.proofs.book.leaving.read_object.Goals.{After-get_words}
 use Rattle.far_book.proofs.book.leaving.read_object.Goals as goal
-use Rattle.std.proofs.Common.{◌*◌, ◌+◌, ◌≡◌, arith, subst}
+use Rattle.std.proofs.Common.{◌≡◌, arith, subst}
 use Rattle.far_word.specs.Sizes.{words_for}
 use Rattle.far_core.specs.events.Copies.{data_at}
 use Rattle.far_book.specs.book.Evicting.{Learns}

@@ -1,7 +1,7 @@
 use Rattle.far_book.proofs.book.moving.copy_object.Given.{Over}
 use Rattle.far_book.proofs.book.moving.copy_object.Goals.{After-copy_words}
 use Rattle.far_book.proofs.book.moving.copy_object.Goals as goal
-use Rattle.std.proofs.Common.{◌≡◌, ◌∙◌, ◌+◌, ◌*◌, ◌≤◌, subst, sym, ap, arith, refl, ℕ}
+use Rattle.std.proofs.Common.{◌≡◌, ◌∙◌, ◌+◌, subst, sym, ap, arith, refl, ℕ}
 use Rattle.far_word.specs.Sizes.{words_for}
 use Rattle.far_word.specs.Header.{head_word}
 use Rattle.far_core.specs.state.State.{State, addr, put}
@@ -9,13 +9,11 @@ use Rattle.far_hand.specs.Ranges.{CopiesRow, IsPast, IsWithin}
 use Rattle.far_book.proofs.region.Copying.{copied, head, put_legal}
 use Rattle.far_book.proofs.region.CopyingMore.{may_read, may_write, row_came, row_copied, row_only}
 use Rattle.far_hand.proofs.Closure.{first_call, then_came}
+use Rattle.far_hand.proofs.Ranges.{word_rest}
 
 -- the header stands
 headed : (s t : State) (at w v : ℕ) → t ≡ record s { word = put s.word at w } → w ≡ v → t ≡ record s { word = put s.word at v }
 headed s t at w v is same = is ∙ ap (λ x. record s { word = put s.word at x }) same
-
-on_words : (s t : State) (at w : ℕ) → t ≡ record s { word = put s.word at w } → t ≡ record s { word = t.word }
-on_words s t at w is = let word : t.word ≡ put s.word at w = ap (λ (x : State). x.word) is in is ∙ (λ i. record s { word = sym word i })
 
 -- all words are copied
 row : (g : Over) (c : After-copy_words g) → CopiesRow g.N.Near.still g.N.Near.view g.N.Near.makes c.args.from c.args.to 0 (words_for c.args.len) c.put.new.self c.copy_words.new.self
@@ -34,7 +32,7 @@ pub copy_words-requires : goal.copy_words-requires
 copy_words-requires g c =
     let s = g.N.Near.view c.args.near.now in
     let t = g.N.Near.view c.put.new.self in
-    let is = on_words s t (addr c.args.to) c.pack.result c.put.ensures.set in
+    let is = word_rest s t (addr c.args.to) c.pack.result c.put.ensures.set in
     let all : words_for c.args.len ≡ c.words_for.result = sym c.words_for.ensures in
     record {
       from = subst (IsWithin t c.args.from.log (c.args.from.at + 1)) all (may_read g.N.Near.still g.N.Near.view g.N.Near.makes c.args.from c.args.to s c.args.pointer c.args.len c.args.ds c.requires t is);

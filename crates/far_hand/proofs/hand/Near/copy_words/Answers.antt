@@ -1,7 +1,6 @@
-use Rattle.std.proofs.Common.{◌≡◌, ◌+◌, arith, refl, ◌∙◌, ap, subst}
-use Rattle.far_core.specs.state.State.{State}
+use Rattle.std.proofs.Common.{◌≡◌, ◌+◌, arith, refl, subst}
 use Rattle.far_hand.specs.Ranges.{CopiesRow}
-use Rattle.far_hand.proofs.Ranges.{copies_more, copies_rest, may_get, may_put}
+use Rattle.far_hand.proofs.Ranges.{copies_more, copies_rest, may_get, may_put, words_again}
 use Rattle.far_hand.proofs.hand.Near.copy_words.Goals as goal
 
 pub loop-i-init : goal.loop-i-init
@@ -20,7 +19,7 @@ put-requires g c =
     let t = g.Self.Near.view c.loop-i.self in
     let u = g.Self.Near.view c.get-word.new.self in
     let is = copies_rest g.Self.Near.still g.Self.Near.view g.Self.Near.makes c.args.from c.args.to 0 c.loop-i.i c.args.self.now c.loop-i.self c.loop-i.invariant in
-    let now = c.get-word.ensures.rest ∙ ap (λ (x : State). record x { word = u.word }) is in
+    let now = words_again s t u is c.get-word.ensures.rest in
     record { legal = may_put s u now c.args.to.log (c.args.to.at + 1) c.args.count c.loop-i.i c.get-word.result c.requires.to c.loop-i-test.true }
 
 pub loop-i-preserved : goal.loop-i-preserved

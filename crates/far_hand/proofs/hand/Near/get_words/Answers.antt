@@ -1,4 +1,4 @@
-use Rattle.std.proofs.Common.{◌≡◌, ◌+◌, ◌*◌, ◌∙◌, arith, refl, subst}
+use Rattle.std.proofs.Common.{◌≡◌, ◌∙◌, arith, refl, subst}
 use Rattle.far_hand.specs.Ranges.{HasRead}
 use Rattle.far_hand.proofs.Ranges.{has_more, has_none, may_get, reads_rest}
 use Rattle.far_hand.proofs.hand.Near.get_words.Goals as goal
