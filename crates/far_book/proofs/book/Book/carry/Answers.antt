@@ -24,7 +24,7 @@ module _ (g : Over) (c : After-room g) where
   same = ap (λ (b : BookOf g.row.N.Denot g.row.D.Denot). g.N.Near.view b.near) c.self.view_is
 
   says : read_of c.args.found ≡ Some (Near c.in-Near.len c.in-Near.ds c.in-Near.place c.in-Near.marks)
-  says = c.known-was.ensures ∙ ap (λ v. Some v) c.in-Near.is
+  says = c.known.ensures ∙ ap (λ v. Some v) c.in-Near.is
 
   -- the object lies there
   lies : LiesIn (g.N.Near.view c.self.inside.near) c.self.inside.ledger (g.D.Device.contents c.self.inside.device) (g.D.Device.honest c.self.inside.device) c.args.pointer c.in-Near.len c.in-Near.ds c.in-Near.place c.in-Near.marks
@@ -51,7 +51,7 @@ module _ (g : Over) (c : After-room g) where
 pub room-requires-clause-size : goal.room-requires-clause-size
 room-requires-clause-size g c =
     let n = c.in-Near in
-    let layout = (read_says c.args.found (Near n.len n.ds n.place n.marks) (omega arith) (c.known-was.ensures ∙ ap (λ v. Some v) n.is)).0 in
+    let layout = (read_says c.args.found (Near n.len n.ds n.place n.marks) (omega arith) (c.known.ensures ∙ ap (λ v. Some v) n.is)).0 in
     omega (arith, c.size_of-size.ensures, layout.1)
 
 pub returns-in_default-room-clause-none : goal.returns-in_default-room-clause-none

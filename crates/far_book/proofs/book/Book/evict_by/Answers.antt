@@ -184,3 +184,23 @@ returns-in-Err-name_far-clause-gone g c _ =
     is_gone (g.N.Near.view c.args.self.now.near) (g.N.Near.view c.leave_clean.new.self.near) (g.N.Near.view c.send.new.self.near) c.args.pointer c.in-Some.word (seen_is g some) c.send.ensures.kept
     _ _ x.field-0 (finds g some) x.ensures.found (stopped_by c.in-Some.word x.field-0 dirty x.ensures.stopped) x.ensures.kept z.ensures.kept z.ensures.forgot
     g.N.Near.still (λ still. absurd (x.ensures.won still)) (λ still. absurd (x.ensures.won still))
+
+pub returns-in-Err-name_far-clause-called : goal.returns-in-Err-name_far-clause-called
+returns-in-Err-name_far-clause-called g c =
+    let h = goal.at.returns-in-Err-name_far-clause-called g c in
+    let s = g.N.Near.view c.args.self.now.near in
+    let u = g.N.Near.view c.send.new.self.near in
+    let x = c.in-Near in
+    let z = c.retire-in-Err-name_far in
+    let n = now g h.In-Some in
+    let bytes = bytes_of (data_at u.word x.place) x.len in
+    let alive : is_dropped (read_of c.in-Some.word) ≡ false = search rules in
+    let asked : g.D.Device.writes c.leave_clean.new.self.device c.args.pointer bytes (Ok tt) c.send.new.self.device = search rules in
+    let written : g.D.Device.writes c.args.self.now.device c.args.pointer bytes (Ok tt) c.send.new.self.device =
+    subst (λ (d : g.row.D.Denot). g.D.Device.writes d c.args.pointer bytes (Ok tt) c.send.new.self.device) (c.leave_clean.ensures.device ∙ c.cell_of-found.ensures.device) asked in
+    inr (
+      c.send.new.self.device,
+      (bytes, own g h.After-send, written),
+      subst (λ (d : g.row.D.Denot). g.D.Device.lets_go d c.args.pointer z.new.self.device) c.name_far.ensures.device z.ensures.called,
+      was_alive s (g.N.Near.view c.leave_clean.new.self.near) u c.args.pointer c.in-Some.word (seen_is g h.In-Some) c.send.ensures.kept x.len x.ds x.place n.marks (finds g h.In-Some) n.near (sym (ap is_dropped n.near) ∙ alive),
+    )

@@ -13,4 +13,4 @@ invariant_of-self c = (
 )
 
 pub returns : goal.returns
-returns c = all_still c.none.result c.none.ensures c.push_reserved.new.self.items ∙ c.push_reserved.ensures.items ∙ ap (λ xs. xs ++ c.args.log ∷ []) (c.take_out.ensures.list ∙ c.self.view_is)
+returns c = all_still c.none-self-inside.result c.none-self-inside.ensures c.push_reserved.new.self.items ∙ c.push_reserved.ensures.items ∙ ap (λ xs. xs ++ c.args.log ∷ []) (c.take_out.ensures.list ∙ c.self.view_is)

@@ -21,8 +21,8 @@ use Rattle.far_evac.proofs.Walks.{knows_same}
 use Rattle.far_evac.proofs.evac.beside.walk_log.Goals.{then-not-has_job+else-left-eq0+in_default-deal_beside, else-not-has_job}
 use Rattle.far_evac.proofs.evac.beside.walk_log.Goals as goal
 
-pub loop-span-init : goal.loop-span-init
-loop-span-init g c =
+pub loop-found-init : goal.loop-found-init
+loop-found-init g c =
     let s = g.N.Near.view c.args.book.now.near in
     let law = c.keeps_law.ensures.law in record {
       done = [];
@@ -40,62 +40,62 @@ loop-span-init g c =
 
 pub next_found-requires-clause-log : goal.next_found-requires-clause-log
 next_found-requires-clause-log g c =
-    let h = c.loop-span.invariant in
-    chosen_log (g.N.Near.view c.loop-span.book.near) h.law c.args.log (h.keeps.chosen c.args.log c.requires.chosen)
+    let h = c.loop-found.invariant in
+    chosen_log (g.N.Near.view c.loop-found.book.near) h.law c.args.log (h.keeps.chosen c.args.log c.requires.chosen)
 
 -- ---- as many as were asked for were dealt with
 pub returns-then-left-eq0-clause-came : goal.returns-then-left-eq0-clause-came
-returns-then-left-eq0-clause-came g c = then_came c.loop-span.invariant.came c.next_found.ensures.came
+returns-then-left-eq0-clause-came g c = then_came c.loop-found.invariant.came c.next_found.ensures.came
 
 pub returns-then-left-eq0-clause-over : goal.returns-then-left-eq0-clause-over
 returns-then-left-eq0-clause-over g c held =
     let view = g.N.Near.view in
-    let s = view c.loop-span.book.near in
+    let s = view c.loop-found.book.near in
     let t = view c.next_found.new.self.near in
-    let h = c.loop-span.invariant in
+    let h = c.loop-found.invariant in
     let e = c.in-Some.ensures in
     let past = c.in-Some.found.span.at + size_of c.in-Some.found.span.len in
     let asks = AsksOnly g.row.D.Denot g.D.Device.writes g.D.Device.lets_go g.D.Device.contents in
     let fails = RefusedOnly g.row.D.Denot g.D.Device.writes g.D.Device.lets_go g.D.Device.contents in
     let rest = pointers_of (live_from s c.args.log past) in
     ends_walk view g.N.Near.makes g.D.Device.contents g.D.Device.honest g.D.Device.faults g.D.Device.fails_at_most asks fails
-    (λ (x : Walked). live_in x.moment.core c.args.log) h.done (c.in-Some.found.span.p ∷ rest) c.args.n c.loop-span.left 0
-    (stands view c.args.book.now c.args.progress.now held) (stands view c.loop-span.book c.loop-span.progress held) (stands view c.next_found.new.self c.loop-span.progress held) Before
-    c.args.book.now.device c.loop-span.book.device c.next_found.new.self.device
-    (first_part (live_in (view c.args.book.now.near) c.args.log) h.done (live_from s c.args.log c.loop-span.at) c.in-Some.found.span (live_from s c.args.log past) h.parts e.first) (h.over held)
-    (ends_before view g.N.Near.makes g.D.Device.contents g.D.Device.honest g.D.Device.faults g.D.Device.fails_at_most asks fails c.loop-span.book c.next_found.new.self (knows_cells s t e.found e.kept) e.order e.device e.came c.loop-span.progress
-    c.in-Some.found.span.p (sym c.has_job.ensures.is ∙ c.if-not-has_job.true) rest c.loop-span.left held c.if-left-eq0.true)
+    (λ (x : Walked). live_in x.moment.core c.args.log) h.done (c.in-Some.found.span.p ∷ rest) c.args.n c.loop-found.left 0
+    (stands view c.args.book.now c.args.progress.now held) (stands view c.loop-found.book c.loop-found.progress held) (stands view c.next_found.new.self c.loop-found.progress held) Before
+    c.args.book.now.device c.loop-found.book.device c.next_found.new.self.device
+    (first_part (live_in (view c.args.book.now.near) c.args.log) h.done (live_from s c.args.log c.loop-found.at) c.in-Some.found.span (live_from s c.args.log past) h.parts e.first) (h.over held)
+    (ends_before view g.N.Near.makes g.D.Device.contents g.D.Device.honest g.D.Device.faults g.D.Device.fails_at_most asks fails c.loop-found.book c.next_found.new.self (knows_cells s t e.found e.kept) e.order e.device e.came c.loop-found.progress
+    c.in-Some.found.span.p (sym c.has_job.ensures.is ∙ c.if-not-has_job.true) rest c.loop-found.left held c.if-left-eq0.true)
 
 pub returns-then-left-eq0-clause-keeps : goal.returns-then-left-eq0-clause-keeps
 returns-then-left-eq0-clause-keeps g c =
-    let s = g.N.Near.view c.loop-span.book.near in
+    let s = g.N.Near.view c.loop-found.book.near in
     let t = g.N.Near.view c.next_found.new.self.near in
-    keeps_then (g.N.Near.view c.args.book.now.near) s t c.args.log c.loop-span.invariant.keeps (keeps_found s t c.args.log (knows_cells s t c.in-Some.ensures.found c.in-Some.ensures.kept))
+    keeps_then (g.N.Near.view c.args.book.now.near) s t c.args.log c.loop-found.invariant.keeps (keeps_found s t c.args.log (knows_cells s t c.in-Some.ensures.found c.in-Some.ensures.kept))
 
 -- ---- it is dealt with
 pub deal_beside-requires-clause-clear : goal.deal_beside-requires-clause-clear
 deal_beside-requires-clause-clear g c =
-    let s = g.N.Near.view c.loop-span.book.near in
+    let s = g.N.Near.view c.loop-found.book.near in
     let t = g.N.Near.view c.next_found.new.self.near in
     clear_there t c.args.log c.in-Some.found.span c.in-Some.ensures.lies
-    ((keeps_found s t c.args.log (knows_cells s t c.in-Some.ensures.found c.in-Some.ensures.kept)).chosen c.args.log (c.loop-span.invariant.keeps.chosen c.args.log c.requires.chosen))
+    ((keeps_found s t c.args.log (knows_cells s t c.in-Some.ensures.found c.in-Some.ensures.kept)).chosen c.args.log (c.loop-found.invariant.keeps.chosen c.args.log c.requires.chosen))
 
 pub deal_beside-requires-clause-room : goal.deal_beside-requires-clause-room
 deal_beside-requires-clause-room g c =
-    let past = goes_past (g.N.Near.view c.loop-span.book.near) c.loop-span.invariant.law c.args.log c.loop-span.at c.in-Some.found.span c.in-Some.ensures.first in
+    let past = goes_past (g.N.Near.view c.loop-found.book.near) c.loop-found.invariant.law c.args.log c.loop-found.at c.in-Some.found.span c.in-Some.ensures.first in
     let inside = c.in-Some.ensures.inside in
-    let counted = c.loop-span.invariant.counted in
+    let counted = c.loop-found.invariant.counted in
     omega (arith, past, inside, counted, c.requires.room)
 
 pub returns-in-Err-clause-came : goal.returns-in-Err-clause-came
-returns-in-Err-clause-came g c = then_came (then_came c.loop-span.invariant.came c.next_found.ensures.came) c.deal_beside.ensures.came
+returns-in-Err-clause-came g c = then_came (then_came c.loop-found.invariant.came c.next_found.ensures.came) c.deal_beside.ensures.came
 
 pub returns-in-Err-clause-over : goal.returns-in-Err-clause-over
 returns-in-Err-clause-over g c held =
     let view = g.N.Near.view in
-    let s = view c.loop-span.book.near in
+    let s = view c.loop-found.book.near in
     let t = view c.next_found.new.self.near in
-    let h = c.loop-span.invariant in
+    let h = c.loop-found.invariant in
     let e = c.in-Some.ensures in
     let past = c.in-Some.found.span.at + size_of c.in-Some.found.span.len in
     let asks = AsksOnly g.row.D.Denot g.D.Device.writes g.D.Device.lets_go g.D.Device.contents in
@@ -103,49 +103,49 @@ returns-in-Err-clause-over g c held =
     let rest = pointers_of (live_from s c.args.log past) in
     let err = c.in-Err.ensures in
     ends_walk view g.N.Near.makes g.D.Device.contents g.D.Device.honest g.D.Device.faults g.D.Device.fails_at_most asks fails
-    (λ (x : Walked). live_in x.moment.core c.args.log) h.done (c.in-Some.found.span.p ∷ rest) c.args.n c.loop-span.left c.loop-span.left
-    (stands view c.args.book.now c.args.progress.now held) (stands view c.loop-span.book c.loop-span.progress held) (stands view c.deal_beside.new.book c.deal_beside.new.progress held) (At c.in-Some.found.span.p c.in-Err.why)
-    c.args.book.now.device c.loop-span.book.device c.deal_beside.new.book.device
-    (first_part (live_in (view c.args.book.now.near) c.args.log) h.done (live_from s c.args.log c.loop-span.at) c.in-Some.found.span (live_from s c.args.log past) h.parts e.first) (h.over held)
-    (ends_refused view g.N.Near.makes g.D.Device.contents g.D.Device.honest g.D.Device.faults g.D.Device.fails_at_most asks fails c.loop-span.book c.next_found.new.self (knows_cells s t e.found e.kept) e.order e.device e.came c.loop-span.progress
-    c.in-Some.found.span.p (sym c.has_job.ensures.is ∙ c.if-not-has_job.true) rest c.loop-span.left held c.deal_beside.new.book c.deal_beside.new.progress c.in-Err.why c.if-left-eq0.false err.kept err.uncounted.1 err.uncounted.0 (err.refused, err.follows.others))
+    (λ (x : Walked). live_in x.moment.core c.args.log) h.done (c.in-Some.found.span.p ∷ rest) c.args.n c.loop-found.left c.loop-found.left
+    (stands view c.args.book.now c.args.progress.now held) (stands view c.loop-found.book c.loop-found.progress held) (stands view c.deal_beside.new.book c.deal_beside.new.progress held) (At c.in-Some.found.span.p c.in-Err.why)
+    c.args.book.now.device c.loop-found.book.device c.deal_beside.new.book.device
+    (first_part (live_in (view c.args.book.now.near) c.args.log) h.done (live_from s c.args.log c.loop-found.at) c.in-Some.found.span (live_from s c.args.log past) h.parts e.first) (h.over held)
+    (ends_refused view g.N.Near.makes g.D.Device.contents g.D.Device.honest g.D.Device.faults g.D.Device.fails_at_most asks fails c.loop-found.book c.next_found.new.self (knows_cells s t e.found e.kept) e.order e.device e.came c.loop-found.progress
+    c.in-Some.found.span.p (sym c.has_job.ensures.is ∙ c.if-not-has_job.true) rest c.loop-found.left held c.deal_beside.new.book c.deal_beside.new.progress c.in-Err.why c.if-left-eq0.false err.kept err.uncounted.1 err.uncounted.0 (err.refused, err.follows.others))
 
 pub returns-in-Err-clause-keeps : goal.returns-in-Err-clause-keeps
 returns-in-Err-clause-keeps g c =
-    let s = g.N.Near.view c.loop-span.book.near in
+    let s = g.N.Near.view c.loop-found.book.near in
     let t = g.N.Near.view c.next_found.new.self.near in
     let u = g.N.Near.view c.deal_beside.new.book.near in
-    keeps_then (g.N.Near.view c.args.book.now.near) s u c.args.log c.loop-span.invariant.keeps
+    keeps_then (g.N.Near.view c.args.book.now.near) s u c.args.log c.loop-found.invariant.keeps
     (keeps_found s u c.args.log (knows_more s t u (knows_cells s t c.in-Some.ensures.found c.in-Some.ensures.kept) c.in-Err.ensures.kept))
 
 pub returns-in-Err-clause-follows : goal.returns-in-Err-clause-follows
 returns-in-Err-clause-follows g c =
-    let s = g.N.Near.view c.loop-span.book.near in
+    let s = g.N.Near.view c.loop-found.book.near in
     let past = c.in-Some.found.span.at + size_of c.in-Some.found.span.len in
     let all = live_in (g.N.Near.view c.args.book.now.near) c.args.log in
-    let h = c.loop-span.invariant in
+    let h = c.loop-found.invariant in
     follows_one g.D.Device.contents g.D.Device.honest g.D.Device.faults g.D.Device.fails_at_most all h.done c.in-Some.found.span.p (pointers_of (live_from s c.args.log past)) (is_failure {A = Unit {0}} (Err c.in-Err.why))
-    c.args.book.now.device c.loop-span.book.device c.next_found.new.self.device c.deal_beside.new.book.device
-    (first_part all h.done (live_from s c.args.log c.loop-span.at) c.in-Some.found.span (live_from s c.args.log past) h.parts c.in-Some.ensures.first) c.in-Some.ensures.device h.follows c.in-Err.ensures.follows
+    c.args.book.now.device c.loop-found.book.device c.next_found.new.self.device c.deal_beside.new.book.device
+    (first_part all h.done (live_from s c.args.log c.loop-found.at) c.in-Some.found.span (live_from s c.args.log past) h.parts c.in-Some.ensures.first) c.in-Some.ensures.device h.follows c.in-Err.ensures.follows
 
 -- ---- the next one
-pub loop-span-smaller : goal.loop-span-smaller
-loop-span-smaller g c =
-    let past = goes_past (g.N.Near.view c.loop-span.book.near) c.loop-span.invariant.law c.args.log c.loop-span.at c.in-Some.found.span c.in-Some.ensures.first in
+pub loop-found-smaller : goal.loop-found-smaller
+loop-found-smaller g c =
+    let past = goes_past (g.N.Near.view c.loop-found.book.near) c.loop-found.invariant.law c.args.log c.loop-found.at c.in-Some.found.span c.in-Some.ensures.first in
     let inside = c.in-Some.ensures.inside in
     omega (arith, past, c.size_of.ensures, inside)
 
-pub loop-span-preserved : goal.loop-span-preserved
-loop-span-preserved g c =
+pub loop-found-preserved : goal.loop-found-preserved
+loop-found-preserved g c =
     let view = g.N.Near.view in
     let start = view c.args.book.now.near in
-    let s = view c.loop-span.book.near in
+    let s = view c.loop-found.book.near in
     let t = view c.next_found.new.self.near in
     let u = view c.if-not-has_job.book.near in
     let l = c.args.log in
     let span = c.in-Some.found.span in
     let past = span.at + size_of span.len in
-    let h = c.loop-span.invariant in
+    let h = c.loop-found.invariant in
     let e = c.in-Some.ensures in
     let known = knows_cells s t e.found e.kept in
     let all = live_in start l in
@@ -153,61 +153,61 @@ loop-span-preserved g c =
     let honest = g.D.Device.honest in
     let faults = g.D.Device.faults in
     let few = g.D.Device.fails_at_most in
-    let first = first_part all h.done (live_from s l c.loop-span.at) span (live_from s l past) h.parts e.first in
+    let first = first_part all h.done (live_from s l c.loop-found.at) span (live_from s l past) h.parts e.first in
     let asks = AsksOnly g.row.D.Denot g.D.Device.writes g.D.Device.lets_go g.D.Device.contents in
     let fails = RefusedOnly g.row.D.Denot g.D.Device.writes g.D.Device.lets_go g.D.Device.contents in
     let chosen = (keeps_found s t l known).chosen l (h.keeps.chosen l c.requires.chosen) in
-    let meets = Meets view g.N.Near.makes g.D.Device.contents g.D.Device.honest g.D.Device.faults g.D.Device.fails_at_most asks fails all l past span.p c.loop-span.book c.loop-span.progress c.loop-span.left in
+    let meets = Meets view g.N.Near.makes g.D.Device.contents g.D.Device.honest g.D.Device.faults g.D.Device.fails_at_most asks fails all l past span.p c.loop-found.book c.loop-found.progress c.loop-found.left in
     let m : meets c.if-not-has_job.book c.if-not-has_job.progress c.if-not-has_job.left = elim c.if-not-has_job.branch [
       | then-not-has_job+else-left-eq0+in_default-deal_beside w ↦
           let did = w.in_default-deal_beside.ensures in
-          let one : c.loop-span.left ≡ suc (c.loop-span.left - 1) = omega (arith, w.if-left-eq0.false) in
+          let one : c.loop-found.left ≡ suc (c.loop-found.left - 1) = omega (arith, w.if-left-eq0.false) in
           let follows = follows_still contents honest faults few (other_than span.p) (none_of all) false c.next_found.new.self.device w.deal_beside.new.book.device (alone_in all h.done span.p (pointers_of (live_from s l past)) first) did.follows in
           subst (λ b. meets b c.if-not-has_job.progress c.if-not-has_job.left) (sym w.book-is) (subst (λ q. meets w.deal_beside.new.book q c.if-not-has_job.left) (sym w.progress-is) (subst (λ n. meets w.deal_beside.new.book w.deal_beside.new.progress n) (sym w.left-is)
-          (meets_dealt view g.N.Near.makes contents honest faults few asks fails c.loop-span.book c.next_found.new.self known e.order e.device e.came c.loop-span.progress l span e.lies c.keeps_law-in-Some.ensures.law chosen
-          (sym c.has_job.ensures.is ∙ w.if-not-has_job.true) w.deal_beside.new.book w.deal_beside.new.progress did.dealt all c.loop-span.left (c.loop-span.left - 1) one e.next did.counted did.rest follows w.deal_beside.ensures.came)))
+          (meets_dealt view g.N.Near.makes contents honest faults few asks fails c.loop-found.book c.next_found.new.self known e.order e.device e.came c.loop-found.progress l span e.lies c.keeps_law-in-Some.ensures.law chosen
+          (sym c.has_job.ensures.is ∙ w.if-not-has_job.true) w.deal_beside.new.book w.deal_beside.new.progress did.dealt all c.loop-found.left (c.loop-found.left - 1) one e.next did.counted did.rest follows w.deal_beside.ensures.came)))
       | else-not-has_job w ↦
-          subst (λ b. meets b c.if-not-has_job.progress c.if-not-has_job.left) (sym w.book-is) (subst (λ q. meets c.next_found.new.self q c.if-not-has_job.left) (sym w.progress-is) (subst (λ n. meets c.next_found.new.self c.loop-span.progress n) (sym w.left-is)
-          (meets_job view g.N.Near.makes contents honest faults few asks fails c.loop-span.book c.next_found.new.self known e.order e.device e.came c.loop-span.progress all l past span.p c.loop-span.left (sym c.has_job.ensures.is ∙ w.if-not-has_job.false) e.next)))
+          subst (λ b. meets b c.if-not-has_job.progress c.if-not-has_job.left) (sym w.book-is) (subst (λ q. meets c.next_found.new.self q c.if-not-has_job.left) (sym w.progress-is) (subst (λ n. meets c.next_found.new.self c.loop-found.progress n) (sym w.left-is)
+          (meets_job view g.N.Near.makes contents honest faults few asks fails c.loop-found.book c.next_found.new.self known e.order e.device e.came c.loop-found.progress all l past span.p c.loop-found.left (sym c.has_job.ensures.is ∙ w.if-not-has_job.false) e.next)))
     ] in
-    let going = goes_past s h.law l c.loop-span.at span e.first in record {
+    let going = goes_past s h.law l c.loop-found.at span e.first in record {
       done = h.done ++ span.p ∷ [];
-      parts = next_parts all h.done (live_from s l c.loop-span.at) span (live_from s l past) (live_from u l (span.at + c.size_of.result)) h.parts e.first
+      parts = next_parts all h.done (live_from s l c.loop-found.at) span (live_from s l past) (live_from u l (span.at + c.size_of.result)) h.parts e.first
           (subst (λ size. live_from u l (span.at + size) ≡ live_from s l past) (sym c.size_of.ensures) m.left);
-      over = λ held. over_then g.row.D.Denot asks fails h.done (span.p ∷ []) c.args.n (stands view c.args.book.now c.args.progress.now held) (stands view c.loop-span.book c.loop-span.progress held)
-          (stands view c.if-not-has_job.book c.if-not-has_job.progress held) c.loop-span.left c.if-not-has_job.left Behind c.args.book.now.device c.loop-span.book.device c.if-not-has_job.book.device (h.over held) (m.over held);
+      over = λ held. over_then g.row.D.Denot asks fails h.done (span.p ∷ []) c.args.n (stands view c.args.book.now c.args.progress.now held) (stands view c.loop-found.book c.loop-found.progress held)
+          (stands view c.if-not-has_job.book c.if-not-has_job.progress held) c.loop-found.left c.if-not-has_job.left Behind c.args.book.now.device c.loop-found.book.device c.if-not-has_job.book.device (h.over held) (m.over held);
       keeps = keeps_then start s u l h.keeps m.keeps;
       begins = subst (λ size. IsBoundary u l (span.at + size)) (sym c.size_of.ensures) m.begins;
       within = omega (arith, c.size_of.ensures, e.inside);
       law = c.keeps_law-in-Some-2.ensures.law;
       counted = omega (arith, m.counted, h.counted, going, c.size_of.ensures);
       rest = (m.rest.0 ∙ h.rest.0, m.rest.1 ∙ h.rest.1);
-      follows = follows_on g.D.Device.contents g.D.Device.honest g.D.Device.faults g.D.Device.fails_at_most (none_of all) false c.args.book.now.device c.loop-span.book.device c.if-not-has_job.book.device h.follows m.follows;
+      follows = follows_on g.D.Device.contents g.D.Device.honest g.D.Device.faults g.D.Device.fails_at_most (none_of all) false c.args.book.now.device c.loop-found.book.device c.if-not-has_job.book.device h.follows m.follows;
       came = then_came h.came m.came;
     }
 
 -- ---- all were met
 pub returns-clause-came : goal.returns-clause-came
-returns-clause-came g c = then_came c.loop-span.invariant.came c.next_found.ensures.came
+returns-clause-came g c = then_came c.loop-found.invariant.came c.next_found.ensures.came
 
 pub returns-clause-over : goal.returns-clause-over
 returns-clause-over g c held =
     let view = g.N.Near.view in
-    let s = view c.loop-span.book.near in
+    let s = view c.loop-found.book.near in
     let t = view c.next_found.new.self.near in
-    let h = c.loop-span.invariant in
+    let h = c.loop-found.invariant in
     let e = c.in_default.ensures in
     let asks = AsksOnly g.row.D.Denot g.D.Device.writes g.D.Device.lets_go g.D.Device.contents in
     let fails = RefusedOnly g.row.D.Denot g.D.Device.writes g.D.Device.lets_go g.D.Device.contents in
     ends_walk view g.N.Near.makes g.D.Device.contents g.D.Device.honest g.D.Device.faults g.D.Device.fails_at_most asks fails
-    (λ (x : Walked). live_in x.moment.core c.args.log) h.done [] c.args.n c.loop-span.left c.loop-span.left
-    (stands view c.args.book.now c.args.progress.now held) (stands view c.loop-span.book c.loop-span.progress held) (stands view c.next_found.new.self c.loop-span.progress held) Behind
-    c.args.book.now.device c.loop-span.book.device c.next_found.new.self.device
-    (none_left (live_in (view c.args.book.now.near) c.args.log) h.done (live_from s c.args.log c.loop-span.at) h.parts e.none) (h.over held)
-    (stands_known view c.loop-span.book c.next_found.new.self c.loop-span.progress c.loop-span.progress held (knows_cells s t e.found e.kept) e.order refl, refl, refl, e.device)
+    (λ (x : Walked). live_in x.moment.core c.args.log) h.done [] c.args.n c.loop-found.left c.loop-found.left
+    (stands view c.args.book.now c.args.progress.now held) (stands view c.loop-found.book c.loop-found.progress held) (stands view c.next_found.new.self c.loop-found.progress held) Behind
+    c.args.book.now.device c.loop-found.book.device c.next_found.new.self.device
+    (none_left (live_in (view c.args.book.now.near) c.args.log) h.done (live_from s c.args.log c.loop-found.at) h.parts e.none) (h.over held)
+    (stands_known view c.loop-found.book c.next_found.new.self c.loop-found.progress c.loop-found.progress held (knows_cells s t e.found e.kept) e.order refl, refl, refl, e.device)
 
 pub returns-clause-keeps : goal.returns-clause-keeps
 returns-clause-keeps g c =
-    let s = g.N.Near.view c.loop-span.book.near in
+    let s = g.N.Near.view c.loop-found.book.near in
     let t = g.N.Near.view c.next_found.new.self.near in
-    keeps_then (g.N.Near.view c.args.book.now.near) s t c.args.log c.loop-span.invariant.keeps (keeps_found s t c.args.log (knows_cells s t c.in_default.ensures.found c.in_default.ensures.kept))
+    keeps_then (g.N.Near.view c.args.book.now.near) s t c.args.log c.loop-found.invariant.keeps (keeps_found s t c.args.log (knows_cells s t c.in_default.ensures.found c.in_default.ensures.kept))

@@ -12,8 +12,8 @@ use Rattle.far_evac.specs.Moment.{objects_in, tally_of}
 use Rattle.far_evac.proofs.evac.beside.walk_log.Given as goal
 
 -- the objects in front were met, and those from here on lie as at the start
-abbrev pub invariant-loop-span : goal.invariant-loop-span
-invariant-loop-span g l = record {
+abbrev pub invariant-loop-found : goal.invariant-loop-found
+invariant-loop-found g l = record {
   done : List ℕ;
   parts : live_in (g.N.Near.view l.fn.book.near) l.log ≡ done ++ pointers_of (live_from (g.N.Near.view l.book.near) l.log l.at);
   over : (held : List ℕ) →
@@ -28,5 +28,5 @@ invariant-loop-span g l = record {
   came : Came g.N.Near.makes l.fn.book.near l.book.near;
 }
 
-abbrev pub decreases-loop-span : goal.decreases-loop-span
-decreases-loop-span g l = LOG_WORDS - l.at
+abbrev pub decreases-loop-found : goal.decreases-loop-found
+decreases-loop-found g l = LOG_WORDS - l.at

@@ -6,8 +6,8 @@ use Rattle.far_book.specs.book.NextLive.{IsBoundary}
 use Rattle.far_evac.specs.Standing.{MarkedBefore}
 use Rattle.far_evac.proofs.evac.marking.next_unmarked.Given as goal
 
-abbrev pub invariant-loop-span : goal.invariant-loop-span
-invariant-loop-span g l = record {
+abbrev pub invariant-loop-found : goal.invariant-loop-found
+invariant-loop-found g l = record {
   known : Knows (g.N.Near.view l.fn.book.near) (g.N.Near.view l.book.near);
   exact : g.N.Near.still → g.N.Near.view l.book.near ≡ g.N.Near.view l.fn.book.near;
   begins : IsBoundary (g.N.Near.view l.book.near) l.log l.from;
@@ -17,5 +17,5 @@ invariant-loop-span g l = record {
   came : Came g.N.Near.makes l.fn.book.near l.book.near;
 }
 
-abbrev pub decreases-loop-span : goal.decreases-loop-span
-decreases-loop-span g l = LOG_WORDS - l.from
+abbrev pub decreases-loop-found : goal.decreases-loop-found
+decreases-loop-found g l = LOG_WORDS - l.from
