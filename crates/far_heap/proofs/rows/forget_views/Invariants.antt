@@ -1,6 +1,5 @@
 -- There are as many rows. Those below the index were viewed by no scope, and are else as they were; the others are as they were.
 use Rattle.std.proofs.Common.{◌≡◌, ℕ, ◌<◌, ◌≤◌, length}
-use Rattle.far_heap.specs.declared.rows.Row.{Row}
 use Rattle.far_heap.specs.Rows.{row_in}
 use Rattle.far_heap.proofs.rows.forget_views.Given as goal
 

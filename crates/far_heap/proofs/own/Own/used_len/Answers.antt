@@ -1,4 +1,4 @@
-use Rattle.std.proofs.Common.{◌≡◌, ℕ, subst, true, false}
+use Rattle.std.proofs.Common.{◌≡◌, subst, true, false}
 use Rattle.std.specs.Prelude.{IfSome}
 use Rattle.far_heap.specs.Mine.{Mine, len_in, uses}
 use Rattle.far_heap.proofs.OwnSteps.{if_used, len_unused}

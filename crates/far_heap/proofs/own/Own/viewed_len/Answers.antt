@@ -1,4 +1,4 @@
-use Rattle.std.proofs.Common.{◌≡◌, ◌≤◌, ℕ, subst, true, false}
+use Rattle.std.proofs.Common.{◌≡◌, ◌≤◌, subst, true, false}
 use Rattle.std.specs.Prelude.{IfSome}
 use Rattle.far_word.specs.declared.sizes.TheConstants.{LONGEST}
 use Rattle.far_heap.specs.Mine.{Mine, len_in, views}
