@@ -17,7 +17,7 @@ pub(crate) struct Row {
     pub(crate) structure: u8,
 }
 
-// Eight bytes of each pointer of the largest heap: so whose a pointer is needs no test of its own, since those of others stay blank.
+// Twelve bytes of each pointer of the largest heap: so whose a pointer is needs no test of its own, since those of others stay blank.
 #[derive(Drop)]
 pub(crate) struct Rows {
     pub(crate) each: Vec<Row>,
@@ -28,9 +28,11 @@ pub(crate) struct Rows {
 }
 
 // No object has been viewed.
-fn forget_views(each: &mut Vec<Row>)
-    ensures many { length each.new.items ≡ length each.old.items }
-    ensures rows { (k : ℕ) → row_in each.new.items k ≡ record (row_in each.old.items k) { viewed = 0 } }
+#[cold]
+#[inline(never)]
+fn forget_views(each: &mut [Row])
+    ensures many { length each.new ≡ length each.old }
+    ensures rows { (k : ℕ) → row_in each.new k ≡ record (row_in each.old k) { viewed = 0 } }
 {
     for i in 0..each.len() {
         each[i].viewed = 0;
@@ -38,9 +40,11 @@ fn forget_views(each: &mut Vec<Row>)
 }
 
 // None has been soiled.
-fn forget_soils(soiled: &mut Vec<u32>)
-    ensures many { length soiled.new.items ≡ length soiled.old.items }
-    ensures zeros { (k : ℕ) → slice_index soiled.new.items k ≡ 0 }
+#[cold]
+#[inline(never)]
+fn forget_soils(soiled: &mut [u32])
+    ensures many { length soiled.new ≡ length soiled.old }
+    ensures zeros { (k : ℕ) → slice_index soiled.new k ≡ 0 }
 {
     for i in 0..soiled.len() {
         soiled[i] = 0;
@@ -177,15 +181,14 @@ impl Rows {
         self.forget_scopes();
     }
 
-    // The counts begin anew.
-    #[cold]
-    #[inline(never)]
+    // The counts begin anew. What is called has the rows alone, not where they stand: so a mutator that is closed needn't lie in memory.
+    #[inline(always)]
     fn forget_scopes(&mut self)
         requires { RowsOk self.old }
         ensures { EndsScope self.old self.new }
     {
-        forget_views(&mut self.each);
-        forget_soils(&mut self.soiled);
+        forget_views(self.each.as_mut_slice());
+        forget_soils(self.soiled.as_mut_slice());
         self.scope = 1;
     }
 }

@@ -5,7 +5,7 @@ use Rattle.far_heap.proofs.rows.forget_views.Given as goal
 
 abbrev pub invariant-loop-i : goal.invariant-loop-i
 invariant-loop-i l = record {
-  many : length l.each.items ≡ length l.fn.each.items;
-  below : (k : ℕ) → k < l.i → row_in l.each.items k ≡ record (row_in l.fn.each.items k) { viewed = 0 };
-  rest : (k : ℕ) → l.i ≤ k → row_in l.each.items k ≡ row_in l.fn.each.items k;
+  many : length l.each ≡ length l.fn.each;
+  below : (k : ℕ) → k < l.i → row_in l.each k ≡ record (row_in l.fn.each k) { viewed = 0 };
+  rest : (k : ℕ) → l.i ≤ k → row_in l.each k ≡ row_in l.fn.each k;
 }
