@@ -1,5 +1,5 @@
 //! How long calls on a heap take beside rounds, and how long a turn of a round holds the lock: for each kind how often it was timed, the median, and what
-//! 99 and 99.9 of a hundred aren't above. A checksum over what was read comes first; it is the same in each run of one mutator, and alone under `quiet`.
+//! 99 and 99.9 of a hundred aren't above. A checksum over what was read comes first: the same in each run that found room for all; under `quiet` it stands alone.
 #![tactic(auto)]
 
 ghost use Rattle.std.specs.Prelude.{◌≡◌};
@@ -30,7 +30,7 @@ struct Asked {
     mutators: u64,
     /// How many bytes an object has.
     len: u16,
-    /// How many objects each mutator takes in turn.
+    /// How many objects each mutator takes in turn, to ten.
     count: u64,
     /// Whether no times are printed.
     quiet: bool,

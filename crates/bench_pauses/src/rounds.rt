@@ -17,14 +17,16 @@ const LOGS: usize = 4;
 
 const TURNS: u64 = 100_000;
 
-// What a turn in a phase did, by what it did most.
+// What a turn in a phase did, by what it did most: one that retired objects or gave logs back alone did neither.
 fn kind(phase: Phase, made: Progress) -> Kind {
     match phase {
         Phase::Idle => Kind::Select,
         Phase::Marking => Kind::Mark,
         Phase::Waiting => Kind::Wait,
         Phase::Evacuating => {
-            if made.moved > made.far {
+            if made.moved == 0 && made.far == 0 {
+                Kind::Rest
+            } else if made.moved > made.far {
                 Kind::Move
             } else {
                 Kind::Send
@@ -33,7 +35,7 @@ fn kind(phase: Phase, made: Progress) -> Kind {
     }
 }
 
-// One turn, under the lock: whether the round goes on.
+// One turn, under the lock, which is let go before the time is counted: whether the round goes on.
 fn turn<K: HeapName, R: Wait + Clock>(
     rt: &R,
     heap: &Heap<K, MemDevice>,
@@ -44,6 +46,7 @@ fn turn<K: HeapName, R: Wait + Clock>(
     let begun = now(rt);
     let made = book.turn();
     let ended = now(rt);
+    drop(book);
     match made {
         Ok(made) => {
             times.add(kind(phase, made), begun, ended);
@@ -53,7 +56,7 @@ fn turn<K: HeapName, R: Wait + Clock>(
     }
 }
 
-// A choice of logs, under the lock: whether there are any.
+// A choice of logs, likewise: whether there are any.
 fn select<K: HeapName, R: Wait + Clock>(
     rt: &R,
     heap: &Heap<K, MemDevice>,
@@ -63,6 +66,7 @@ fn select<K: HeapName, R: Wait + Clock>(
     let begun = now(rt);
     let chosen = book.select(&mut Oldest, LOGS);
     let ended = now(rt);
+    drop(book);
     match chosen {
         Ok(chosen) => {
             times.add(Kind::Select, begun, ended);

@@ -20,10 +20,11 @@ pub(crate) enum Kind {
     Wait,
     Move,
     Send,
+    Rest,
 }
 
 /// The kinds as they are printed, in the order of [`Kind`].
-const NAMES: [&str; 12] = [
+const NAMES: [&str; 13] = [
     "the clock alone",
     "try_view",
     "read",
@@ -36,6 +37,7 @@ const NAMES: [&str; 12] = [
     "lock: looks at scopes",
     "lock: mostly moves",
     "lock: mostly sent far",
+    "lock: neither",
 ];
 
 /// Buckets for each doubling of a time, and how many of one kind.
@@ -82,7 +84,7 @@ fn many(row: &[u64]) -> u64 {
     many
 }
 
-// A time that so many of a row's aren't above, to a sixteenth.
+// A time that so many of a row's aren't above: the longest of a bucket, so a sixteenth too long at most. 0 for none.
 fn reached_by(row: &[u64], many: u64) -> u64 {
     let mut passed: u64 = 0;
     let mut bucket: u32 = 0;
@@ -93,15 +95,15 @@ fn reached_by(row: &[u64], many: u64) -> u64 {
         }
         bucket = bucket.wrapping_add(1);
     }
-    shortest(bucket)
+    shortest(bucket.wrapping_add(1)).wrapping_sub(1)
 }
 
 // Prints the line of a kind: how many times there are, the median, and what 99 and 99.9 of a hundred aren't above.
 fn print_row<R: Print>(rt: &R, name: &str, row: &[u64]) -> io::Result<()> {
     let many = many(row);
-    let half = reached_by(row, many / 2);
-    let most = reached_by(row, many.wrapping_mul(990) / 1000);
-    let nearly_all = reached_by(row, many.wrapping_mul(999) / 1000);
+    let half = reached_by(row, many.wrapping_add(1) / 2);
+    let most = reached_by(row, many.wrapping_mul(990).wrapping_add(999) / 1000);
+    let nearly_all = reached_by(row, many.wrapping_mul(999).wrapping_add(999) / 1000);
     println!(rt; "{name:<22}{many:>12}{half:>10}{most:>10}{nearly_all:>10}")
 }
 

@@ -2,7 +2,7 @@
 
 ghost use Rattle.std.specs.Prelude.{◌≡◌, ◌+◌, ◌*◌, ◌<◌, ◌≤◌, ◌↔◌, ℕ, true, false, eqb, List, [], map, length, slice_index, Some, None, IsSome, IfOk, IfErr, IfSome};
 ghost use Rattle.std.specs.List.{IsDistinct, list_any};
-ghost use Rattle.std.specs.Vec.{vec_capacity};
+ghost use Rattle.std.specs.Vec.{vec_capacity, vec_len};
 ghost use Rattle.far_word.specs.declared.pointer.PtrWord.TheVariants.{Near as near_at};
 ghost use Rattle.far_word.specs.declared.refused.Refused.TheVariants.{Memory, NoRoom};
 ghost use Rattle.far_word.specs.declared.sizes.TheConstants.{CELLS, LONGEST, LOG_WORDS};
@@ -181,11 +181,12 @@ impl<N: Near + Drop, D: Device + Drop> Book<N, D> {
         self.near.see(pointer)
     }
 
-    /// The cell of a pointer: as it is known, if its word is given, or else as it is found.
+    /// The cell of a pointer: as it is known, if its word is given, without a look; or else as it is found.
     #[inline(always)]
     pub fn cell_of(&mut self, pointer: u16, known: Option<u64>) -> u64
         requires pointer { pointer < CELLS * (N.view self.old.near).mutators }
         requires known { IfSome known (λ word. word ≡ (N.view self.old.near).cell pointer) }
+        ensures unseen { IfSome known (λ word. (result ≡ word) × (self.new ≡ self.old)) }
         ensures found { Finds ((N.view self.old.near).cell pointer) result }
         ensures now { result ≡ (N.view self.new.near).cell pointer }
         ensures kept { N.view self.new.near ≡ seen (N.view self.old.near) pointer result }
@@ -233,7 +234,7 @@ impl<N: Near + Drop, D: Device + Drop> Book<N, D> {
         let mut rows = LogRows::new();
         let (listed, gone) = self.ledger.order.parts();
         for log in listed {
-            if gone.holds(*log) {
+            if gone.has(*log) {
                 continue;
             }
             rows.push(self.ledger.row(*log));
@@ -241,22 +242,21 @@ impl<N: Near + Drop, D: Device + Drop> Book<N, D> {
         rows
     }
 
-    /// The same as a list. Refused [`Refused::Memory`] alone.
+    /// The same as a list, with room for these rows alone. Refused [`Refused::Memory`] alone.
     pub fn rows(&self) -> Result<Vec<LogRow>, Refused>
         ensures rows { IfOk result (λ rows. rows.items ≡ map (row_of (N.view self.now.near)) self.now.order) }
+        ensures room { IfOk result (λ rows. vec_capacity rows ≡ vec_len rows) }
         ensures refused { IfErr result (λ why. why ≡ Memory) }
     {
-        let (listed, gone) = self.ledger.order.parts();
-        let Ok(mut rows) = Vec::with_capacity(self.alloc, listed.len()) else {
+        let rows = self.log_rows();
+        let found = rows.as_slice();
+        let Ok(mut all) = Vec::with_capacity(self.alloc, found.len()) else {
             return Err(Refused::Memory);
         };
-        for log in listed {
-            if gone.holds(*log) {
-                continue;
-            }
-            rows.push_reserved(self.ledger.row(*log));
+        for row in found {
+            all.push_reserved(*row);
         }
-        Ok(rows)
+        Ok(all)
     }
 
     /// The spans of a log, dead ones too, in their order. Refused [`Refused::Memory`] alone.

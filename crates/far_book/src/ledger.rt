@@ -1,4 +1,4 @@
-//! What the book has written down of logs, cells and jobs, so that none of its calls searches.
+//! What the book has written down of logs, cells and jobs, so that none of its calls searches, but one over the sealed logs when a log is sealed.
 
 ghost use Rattle.std.specs.Prelude.{◌≡◌, ◌≢◌, ℕ, ◌+◌, ◌-◌, ◌*◌, ◌/◌, ◌<◌, ◌≤◌, ◌==◌, true, false, length, Some, None, List, [], IfOk, MatchOption};
 ghost use Rattle.std.specs.Vec.{vec_len};
@@ -9,7 +9,7 @@ ghost use Rattle.far_core.specs.state.Room.{room};
 ghost use Rattle.far_core.specs.state.Shape.{is_shape};
 ghost use Rattle.far_core.specs.state.State.{State};
 ghost use Rattle.far_book.specs.book.Effects.{with_free_cell};
-ghost use Rattle.far_book.specs.book.Ledger.{Notes, KnowsLog, filled_of, is_noted_free, MayBegin, MayFill, MayTake, MayRetire, Begins, Fills, Opens, Passes, Takes, Loses, Frees, IsLowestFree};
+ghost use Rattle.far_book.specs.book.Ledger.{Notes, KnowsLog, filled_of, is_noted_free, MayBegin, MayTakeAgain, MayTake, MayRetire, Begins, TakesAgain, Opens, Passes, Takes, Loses, Frees, IsLowestFree};
 ghost use Rattle.far_book.specs.book.NumberSet.{HasNoneLeft, IsLowestLeft};
 ghost use Rattle.far_book.specs.book.Own.{own_part};
 ghost use Rattle.far_book.specs.book.Releasing.{GivesBack};
@@ -178,11 +178,11 @@ impl Ledger {
         self.free_cells[pointer as usize / 64].remove((pointer % 64) as u8);
     }
 
-    /// The same for a pointer whose cell isn't free.
+    /// As [`Ledger::take`], for a pointer whose cell isn't free.
     #[inline]
     pub(crate) fn take_again(&mut self, size: u16, place: Place)
-        requires { MayFill self.old size place }
-        ensures { Fills self.old self.new size place }
+        requires { MayTakeAgain self.old size place }
+        ensures { TakesAgain self.old self.new size place }
     {
         self.open(place.log);
         self.fill(place.log, size);

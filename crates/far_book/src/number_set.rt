@@ -26,24 +26,17 @@ impl NumberSet {
         NumberSet { word: 0 }
     }
 
-    /// Whether a number is in the set.
+    /// Whether a number is in the set; none from 64 on is.
     pub(crate) fn has(self, k: u8) -> bool
-        requires { k < 64 }
         ensures { result ≡ has self k }
     {
-        self.word >> k & 1 == 1
-    }
-
-    /// The same of any number.
-    pub(crate) fn holds(self, k: u8) -> bool
-        ensures { result ≡ has self k }
-    {
-        k < 64 && self.has(k)
+        k < 64 && self.word >> k & 1 == 1
     }
 
     /// Whether no number is in the set.
     pub(crate) fn is_empty(self) -> bool
-        ensures { result ≡ true → (k : ℕ) → has self k ≡ false }
+        ensures empty { result ≡ true → (k : ℕ) → has self k ≡ false }
+        ensures none { ((k : ℕ) → has self k ≡ false) → result ≡ true }
     {
         self.word == 0
     }

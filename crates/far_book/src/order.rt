@@ -80,5 +80,5 @@ fn take_out(listed: &mut Vec<u8>, gone: NumberSet)
     if gone.is_empty() {
         return;
     }
-    listed.retain(|log| !gone.holds(*log));
+    listed.retain(|log| !gone.has(*log));
 }

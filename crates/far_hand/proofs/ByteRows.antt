@@ -1,8 +1,8 @@
 -- Bytes of which eight are a word: one word that is read of them, and one that is written over them.
-use Rattle.std.proofs.Common.{◌≡◌, ℕ, ◌+◌, ◌-◌, ◌*◌, ◌/◌, ◌%◌, ◌^◌, ◌<◌, ◌≤◌, arith, sym, refl, ap, subst, ◌∙◌, List, [], ◌∷◌, ◌++◌, length, take, drop, get_or, inl, inr, length-take-le}
+use Rattle.std.proofs.Common.{◌≡◌, ℕ, ◌+◌, ◌-◌, ◌*◌, ◌/◌, ◌%◌, ◌^◌, ◌<◌, ◌≤◌, arith, sym, refl, ap, subst, ◌∙◌, List, [], ◌∷◌, ◌++◌, length, take, drop, get_or, inl, inr, length-take-le, drop-drop}
 use Rattle.std.proofs.lemmas.Bool.{cases_lt}
 use Rattle.std.proofs.lemmas.List.{ext_get_or, get_or-take, get_or-drop, length-append, get_or_append_left, get_or-append_right, length-drop}
-use Rattle.std.proofs.lemmas.Slice.{take-put_mid}
+use Rattle.std.proofs.lemmas.Slice.{drop-put_mid, take-put_mid}
 use borrow.Rule.Slice.PartMut.{put_mid}
 use Rattle.far_word.specs.Bytes.{bytes_of, packed_word}
 use Rattle.far_word.proofs.ByteLaws.{bytes_of-same, bytes_of-get, length-bytes_of}
@@ -38,6 +38,26 @@ word_unpacked xs ys i k n word is eight fits =
     ∙ bytes_of-same (λ j. get_or (word ∷ []) j 0) (λ _. word) 8 (λ j lt. let first : j ≡ 0 = omega arith in ap (λ q. get_or (word ∷ []) q 0) first) in
     let long : length ys ≡ 8 = ap length eights ∙ length-bytes_of (λ _. word) 8 in
     take-put_mid (8 * i) k xs ys (8 * i + 8) (omega arith) fits ∙ ap (λ zs. take (8 * i) xs ++ zs) eights
+
+-- what stands behind them stays
+pub behind_unpacked : (xs ys : List ℕ) (i k n word : ℕ) → ys ≡ bytes_of (λ j. get_or (word ∷ []) j 0) n → n ≡ 8 → k ≡ 8 → 8 * i ≤ length xs →
+    drop (8 * i + 8) (put_mid (8 * i) k xs ys) ≡ drop (8 * i + 8) xs
+behind_unpacked xs ys i k n word is eight part fits =
+    let long : length ys ≡ k = ap length is ∙ length-bytes_of (λ j. get_or (word ∷ []) j 0) n ∙ eight ∙ sym part in
+    drop-put_mid (8 * i) k xs ys (8 * i + 8) (omega (arith, part)) fits long
+
+-- what is as it was from one place on, is so from a later one on
+pub drop_further : (m n : ℕ) (xs ys : List ℕ) → m ≤ n → drop m xs ≡ drop m ys → drop n xs ≡ drop n ys
+drop_further m n xs ys le same =
+    let end : m + (n - m) ≡ n = omega (arith, le) in
+    ap (λ k. drop k xs) (sym end) ∙ sym (drop-drop (n - m) m xs) ∙ ap (drop (n - m)) same ∙ drop-drop (n - m) m ys ∙ ap (λ k. drop k ys) end
+
+-- and so behind one word more
+pub behind_more : (i : ℕ) (was old new : List ℕ) → drop (8 * i) old ≡ drop (8 * i) was → drop (8 * i + 8) new ≡ drop (8 * i + 8) old → drop (8 * (i + 1)) new ≡ drop (8 * (i + 1)) was
+behind_more i was old new before more =
+    let end : 8 * i + 8 ≡ 8 * (i + 1) = omega arith in
+    let later : 8 * i ≤ 8 * i + 8 = omega arith in
+    subst (λ n. drop n new ≡ drop n was) end (more ∙ drop_further (8 * i) (8 * i + 8) old was later before)
 
 -- one word more
 pub bytes_more : (f g : ℕ → ℕ) (i word : ℕ) → ((j : ℕ) → j < i → g j ≡ f j) → g i ≡ word → bytes_of f (8 * i) ++ bytes_of (λ _. word) 8 ≡ bytes_of g (8 * i + 8)

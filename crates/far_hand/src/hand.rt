@@ -1,6 +1,6 @@
 //! The book's hand on the shared words.
 
-ghost use Rattle.std.specs.Prelude.{◌≡◌, ◌≢◌, ◌+◌, ◌*◌, ◌^◌, ◌<◌, ◌≤◌, ℕ, true, false, length, bit_or, Some, IfOk, IfErr};
+ghost use Rattle.std.specs.Prelude.{◌≡◌, ◌≢◌, ◌+◌, ◌*◌, ◌^◌, ◌<◌, ◌≤◌, ℕ, true, false, length, drop, bit_or, Some, IfOk, IfErr};
 ghost use Rattle.far_word.specs.declared.mark.Mark.TheVariants.{Evac};
 ghost use Rattle.far_word.specs.declared.refused.Refused.TheVariants.{EpochsSpent};
 ghost use Rattle.far_word.specs.declared.sizes.TheConstants.{EPOCH_END, LOG_WORDS};
@@ -29,7 +29,7 @@ use crate::words::{packed_whole, unpack_word};
 use far_core::{Event, Reply, Shape};
 use far_word::{Place, Refused};
 
-/// The book's hand on the shared words. Each call is one event of [`far_core`] on at most one word, or a row of such events, takes
+/// The book's hand on the shared words. Each call but `shape` is one event of [`far_core`] on at most one word, or a row of such events, takes
 /// no memory and always answers.
 ///
 /// Between any two events, and before each one, owners may add HOT, MOVE, DROP or DIRTY to a cell, change their scope words,
@@ -110,7 +110,7 @@ pub trait Near {
         ensures made { makes self.old (Event.Put log at word) Reply.Done self.new };
 
     /// The first `count` data words behind one place become those behind another, one after the other: each is read, and then
-    /// written, as [`Near::get`] and [`Near::put`] do.
+    /// written, as [`Near::get`] and [`Near::put`] do. If they overlap, what was written is read.
     fn copy_words(&mut self, from: Place, to: Place, count: u16)
         requires from { IsWithin (view self.old) from.log (from.at + 1) count }
         requires to { IsPast (view self.old) to.log (to.at + 1) count }
@@ -123,11 +123,12 @@ pub trait Near {
     }
 
     /// So many words of a log, from word `at` on, are read one after the other as [`Near::get`] does, to the front of a row of
-    /// bytes, the low byte of each first.
+    /// bytes, the low byte of each first. The rest of the row stays.
     fn get_words(&mut self, log: u8, at: u16, count: u16, row: &mut [u8])
         requires within { IsWithin (view self.old) log at count }
         requires room { 8 * count ≤ length row.old }
         ensures words { HasRead still view makes log at self.old self.new count row.new }
+        ensures behind { drop (8 * count) row.new ≡ drop (8 * count) row.old }
         ensures length { length row.new ≡ length row.old }
     {
         for i in 0..count {

@@ -1,6 +1,6 @@
 //! Words as bytes.
 
-ghost use Rattle.std.specs.Prelude.{◌≡◌, ◌+◌, ◌*◌, ◌≤◌, ◌++◌, length, take};
+ghost use Rattle.std.specs.Prelude.{◌≡◌, ◌+◌, ◌*◌, ◌≤◌, ◌++◌, length, take, drop};
 ghost use Rattle.far_word.specs.Bytes.{bytes_of, packed_word};
 
 use far_word::{pack_bytes, unpack_bytes};
@@ -16,11 +16,12 @@ pub fn packed_whole(bytes: &[u8], i: usize) -> u64
     word[0]
 }
 
-/// Writes the bytes of a word over the eight from 8i on.
+/// Writes the bytes of a word over the eight from 8i on; the others stay.
 #[inline(always)]
 pub fn unpack_word(bytes: &mut [u8], i: usize, word: u64)
     requires { 8 * i + 8 ≤ length bytes.old }
     ensures front { take (8 * i + 8) bytes.new ≡ take (8 * i) bytes.old ++ bytes_of (λ _. word) 8 }
+    ensures behind { drop (8 * i + 8) bytes.new ≡ drop (8 * i + 8) bytes.old }
     ensures length { length bytes.new ≡ length bytes.old }
 {
     unpack_bytes(&[word], &mut bytes[8 * i..8 * i + 8]);

@@ -1,9 +1,9 @@
 //! Copiers: they copy objects while the lock is free.
 
-ghost use Rattle.std.specs.Prelude.{◌≡◌, ◌<◌, ℕ, true, false, None, IfOk, IfErr};
+ghost use Rattle.std.specs.Prelude.{◌≡◌, true, false, None, IfOk, IfErr};
 ghost use Rattle.far_word.specs.declared.sizes.TheConstants.{JOBS};
 ghost use Rattle.far_core.specs.state.State.{State};
-ghost use Rattle.far_table.specs.CopySeats.{Claimed, CopiedNext, IsCopied, IsTakenBy, Missed, copied_on};
+ghost use Rattle.far_table.specs.CopySeats.{Claimed, CopiedNext, IsCopied, IsTakenBy, MissedFirst, OnlyLooked, copied_on};
 ghost use Rattle.far_table.specs.Tells.{CopierMayBe, CopierStands};
 ghost use Rattle.far_heap.specs.Copiers.{Finishes, IsAtWork, IsFree};
 
@@ -68,12 +68,12 @@ impl<K: HeapName, D: Device + Drop> Copier<K, D> {
     }
 
     /// Takes a job that is offered: it looks at each of the 16 jobs, in their order, and tries once to take one that it finds offered, until it has one. Where
-    /// no look gets one the copier is as before. The contract says what a look could find of each job before, not that there was a look, nor in which order.
+    /// no look gets one the copier is as before, but for what it notes of these looks.
     pub fn claim(self) -> Result<Copying<K, D>, Copier<K, D>>
         ensures table { IfOk result (λ copying. copying.seat.table ≡ self.table) }
         ensures claimed { IfOk result (λ copying. Claimed copying.job self.view copying.seat.view) }
-        ensures before { IfOk result (λ copying. (j : ℕ) → j < copying.job.task.number → Missed self.view j) }
-        ensures none { IfErr result (λ copier. (copier ≡ self) × ((j : ℕ) → j < JOBS → Missed self.view j)) }
+        ensures none { IfErr result (λ copier. MissedFirst JOBS self.view copier.view) }
+        ensures left { IfErr result (λ copier. (copier.table ≡ self.table) × OnlyLooked self.view copier.view) }
     {
         let Copier { mut seat, of } = self;
         match seat.claim() {

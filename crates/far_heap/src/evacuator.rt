@@ -3,6 +3,7 @@
 ghost use Rattle.std.specs.Prelude.{◌≡◌, ◌*◌, ◌<◌, [], false, true, IfOk, IfErr, map};
 ghost use Rattle.far_word.specs.declared.refused.Refused.TheVariants.{Memory};
 ghost use Rattle.far_word.specs.declared.sizes.TheConstants.{CELLS};
+ghost use Rattle.far_core.specs.laws.Jobs.{JobsStand};
 ghost use Rattle.far_core.specs.state.Law.{Law};
 ghost use Rattle.far_core.specs.state.Shape.{is_shape};
 ghost use Rattle.far_core.specs.state.State.{State};
@@ -90,7 +91,7 @@ impl<K: HeapName, D: Device + Drop> Evacuator<K, D> {
     /// What holds whenever the lock is got, whatever any policy chose: the book is of the heap that the name names, with its size and its honesty, and offers copies exactly where that has copiers; what it knows keeps its part of
     /// the law of the core, and the round agrees with it. In every state that the words and all views may be in objects and logs are whole: each object in
     /// use has one place, its pointer and the header there name each other, and a log's live, dead and unused bytes make its size. No log is given out
-    /// in which an owner holds a place. The device holds bytes of its length of each far object, and of each near one without DIRTY: if the far side is
+    /// in which an owner holds a place, and none is free that a job reads or writes; a finished copy, if it isn't void, has its source's words. The device holds bytes of its length of each far object, and of each near one without DIRTY: if the far side is
     /// honest, those that were stored, and of a near one its own; and it is honest where the owners are told so. And there is such a state.
     pub fn keeps_law(&self)
         ensures named { heap_of self.now.copying self.now.book.near ≡ K.heap }
@@ -98,6 +99,7 @@ impl<K: HeapName, D: Device + Drop> Evacuator<K, D> {
         ensures moment { MomentLaw (moment seat_view self.now) }
         ensures whole { (x : State) → seat_may_be self.now.book.near x → IsWhole x }
         ensures kept { (x : State) → seat_may_be self.now.book.near x → NoneIsGivenOut x }
+        ensures jobs { (x : State) → seat_may_be self.now.book.near x → JobsStand x }
         ensures far { (x : State) → seat_may_be self.now.book.near x → HoldsFar x (D.contents self.now.book.device) }
         ensures own { (x : State) → seat_may_be self.now.book.near x → HoldsOwn x (D.contents self.now.book.device) }
         ensures honest { (x : State) → seat_may_be self.now.book.near x → x.honest ≡ true → D.honest self.now.book.device ≡ true }

@@ -1,5 +1,5 @@
 // What a mutator knows by itself of pointers, and its count of scopes.
-ghost use Rattle.std.specs.Prelude.{◌≡◌, ◌<◌, ◌==◌, ℕ, false, length, slice_index, None, IfOk, IfSome};
+ghost use Rattle.std.specs.Prelude.{◌≡◌, ◌+◌, ◌^◌, ◌<◌, ◌==◌, ℕ, false, length, slice_index, None, IfOk, IfSome};
 ghost use Rattle.far_word.specs.declared.sizes.TheConstants.{POINTERS};
 ghost use Rattle.far_heap.specs.Rows.{EndsScope, HasRow, HasSoil, IsBlank, RowsOk, row_in, row_of, soiled_of};
 
@@ -168,11 +168,12 @@ impl Rows {
         self.soiled[p as usize] = self.scope;
     }
 
-    // The scope is closed: no row has the count of the next. Where no number is left the counts begin anew.
+    // The scope is closed: no row has the count of the next. Where no number is left, and nowhere else, the counts begin anew.
     #[inline(always)]
     pub(crate) fn end_scope(&mut self)
         requires { RowsOk self.old }
-        ensures { EndsScope self.old self.new }
+        ensures ends { EndsScope self.old self.new }
+        ensures next { self.old.scope + 1 < 2 ^ 32 → self.new ≡ record self.old { scope = self.old.scope + 1 } }
     {
         if self.scope < u32::MAX {
             self.scope += 1;

@@ -5,7 +5,7 @@ use mathlib.Core.Option.{some}
 use mathlib.Core.Path.{fun_ext}
 use native.Mathlib.Decide.{ℕ_discrete}
 use lib.ListN.{get_elem?, length-set}
-use Rattle.atomic_table.proofs.Lists.{at_set, set_again}
+use Rattle.atomic_table.proofs.Lists.{at_set}
 use Rattle.far_word.specs.declared.sizes.TheConstants.{MOST_COPIERS}
 use Rattle.far_core.specs.declared.event.Event.{Event}
 use Rattle.far_core.specs.declared.event.Reply.{Reply}
@@ -65,10 +65,6 @@ copied_is ws later b os c w words t l r x = record {
   };
   wide = words.wide;
 }
-
--- nothing changes
-pub copies_none : {ws : List ℕ} {b : BookView} {os : OtherViews} → Facts ws b os → (v : CopierView) → get_elem? os.copiers v.number ≡ some v → Leads (state_of ws b os) ws b (with_copier os v.number v)
-copies_none {ws} {b} {os} f v at = record { is = ap (λ (l : List CopierView). state_of ws b (record os { copiers = l })) (sym (set_again os.copiers v.number v at)); wide = f.wide }
 
 -- ---- a step
 -- what a kind of step owes: its event is legal, with this answer; the words and views after are the core's state; and what the copier's view says of itself

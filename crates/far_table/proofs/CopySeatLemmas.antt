@@ -1,11 +1,9 @@
 -- What the struct of a copier's seat keeps over a step, for all kinds of step, and what is so of a job that it has.
-use Rattle.std.proofs.Common.{◌≡◌, ◌≢◌, ◌+◌, ◌*◌, ◌^◌, ◌<◌, ◌≤◌, ℕ, true, refl, sym, ap, ◌∙◌, subst, arith, Option, Some, None}
+use Rattle.std.proofs.Common.{◌≡◌, ◌≢◌, ◌+◌, ◌*◌, ◌^◌, ◌<◌, ◌≤◌, ℕ, zero, suc, List, true, refl, sym, ap, ◌∙◌, subst, arith, inl, inr, Option, Some, None}
 use Rattle.std.specs.Prelude.{◌-◌, IsSome, option_map}
 use Rattle.std.proofs.Math.Logic.{∥∥₁_elim}
 use Rattle.std.proofs.Props.{props}
-use mathlib.Core.Logic.{dite}
 use mathlib.Core.Option.{some}
-use native.Mathlib.Decide.{ℕ_discrete}
 use lib.ListN.{get_elem?}
 use Rattle.atomic_table.proofs.Lists.{set_here}
 use Rattle.atomic_table.specs.Seated.{TableId}
@@ -20,11 +18,13 @@ use Rattle.far_core.specs.declared.event.Reply.{Reply}
 use Rattle.far_core.specs.declared.event.Reply.TheVariants.{Done, Word}
 use Rattle.far_core.specs.declared.event.Task.{Task}
 use Rattle.far_core.specs.events.Step.{after}
+use Rattle.far_core.specs.state.Jobs.{is_finished, job_said}
 use Rattle.far_core.specs.state.State.{State, addr}
+use Rattle.far_core.proofs.JobLaws.{jobs_stand}
 use Rattle.far_core.proofs.JobPlaces.{source_lies, task_lies}
 use Rattle.far_core.proofs.Put.{put_both, put_other, put_same}
 use Rattle.far_table.specs.CopierViews.{word_read_view, word_written_view, words_read, words_written}
-use Rattle.far_table.specs.CopySeats.{CopiedNext, CopyJob, IsCopied, IsJobOf, IsKept, IsTakenBy, Missed, OnlyWord, copied_on, first_at, job_kept}
+use Rattle.far_table.specs.CopySeats.{CopiedNext, CopyJob, IsCopied, IsJobOf, IsKept, IsTakenBy, Missed, MissedFirst, OnlyLooked, OnlyWord, copied_on, first_at, job_kept}
 use Rattle.far_table.specs.Layout.{table_words, data_at, job_at}
 use Rattle.far_table.specs.Seats.{CopierSeated}
 use Rattle.far_table.specs.StateOf.{state_of}
@@ -70,19 +70,35 @@ copier_stays id later here v v' taking finishing e r w i same t =
 pub copier_made : (v v' : View) (old : CopierView) (e : CopierView → Event) (r : Reply) (w : CopierView) → copier_of v ≡ old → CopierTells v v' (e (copier_of v)) r w → CopierMade (e old) old r (copier_of v')
 copier_made v v' old e r w is t = subst (λ z. CopierMade (e z) z r (copier_of v')) is (subst (λ z. CopierMade (e (copier_of v)) (copier_of v) r z) (sym (ap copier_of t.after_is)) t.made)
 
--- the seat as a caller sees it, which a step that leaves the view leaves, and that step's event
+-- the seat as a caller sees it
 abbrev pub seated : TableId → View → CopierSeated
 seated id v = record { table = id; view = copier_of v }
 
-pub seat_same : {v v' : View} {r : Reply} {id later : TableId} {z : CopierSeated} (e : CopierView → Event) → seated id v ≡ z → later ≡ id → CopierTells v v' (e (copier_of v)) r (copier_of v) →
-    (seated later v' ≡ z) × CopierMade (e z.view) z.view r z.view
-seat_same {v} {v'} {r} e is same t = let view : copier_of v' ≡ copier_of v = ap copier_of t.after_is in
-    ((λ i. record { table = same i; view = view i }) ∙ is, subst (λ (z : CopierSeated). CopierMade (e z.view) z.view r z.view) is t.made)
+-- ---- looks
+-- what looks have found is all that changes
+looked_on : (v u w : CopierView) (rows : List (ℕ × ℕ)) → OnlyLooked v u → w ≡ record u { seen = rows } → OnlyLooked v w
+looked_on v u w rows only is = is ∙ ap (λ (z : CopierView). record z { seen = rows }) only ∙ ap (λ r. record v { seen = r }) (sym (ap (λ (z : CopierView). z.seen) is))
 
--- looks at one job more
-pub missed_more : (v w : CopierView) (n : ℕ) → w ≡ v → ((j : ℕ) → j < n → Missed v j) → Missed w n → (j : ℕ) → j < n + 1 → Missed v j
-missed_more v w n same before here j lt = dite (ℕ_discrete j n)
-    (λ e. subst (λ (z : CopierView × ℕ). Missed z.0 z.1) (λ i. (same i, sym e i)) here) (λ ne. before j (omega (arith, lt, ne)))
+missed_on : (j : ℕ) (v u w : CopierView) → OnlyLooked v u → Missed j u w → OnlyLooked v w
+missed_on j v u w only m = elim m.2 [
+  | inl none ↦ looked_on v u w _ only none.1
+  | inr lost ↦ looked_on v u w _ only lost.3
+]
+
+pub missed_only : (n : ℕ) (v w : CopierView) → MissedFirst n v w → OnlyLooked v w
+missed_only zero v w same = same ∙ ap (λ r. record v { seen = r }) (sym (ap (λ (z : CopierView). z.seen) same))
+missed_only (suc n) v w h = missed_on n v h.0 w (missed_only n v h.0 h.1) h.2
+
+pub still_free : (n : ℕ) (v w : CopierView) → MissedFirst n v w → v.task ≡ None → w.task ≡ None
+still_free n v w h free = ap (λ (z : CopierView). z.task) (missed_only n v w h) ∙ free
+
+-- as many jobs, by another number
+pub missed_as : (n m : ℕ) (v w : CopierView) → n ≡ m → MissedFirst n v w → MissedFirst m v w
+missed_as n m v w same h = subst (λ k. MissedFirst k v w) same h
+
+-- one job more
+pub missed_more : (n : ℕ) (v u w : CopierView) → MissedFirst n v u → Missed n u w → MissedFirst (n + 1) v w
+missed_more n v u w first m = let one : suc n ≡ n + 1 = omega arith in subst (λ k. MissedFirst k v w) one (u, first, m)
 
 -- the view after, as a caller names the one before
 pub view_after : (v v' : View) (old : CopierView) (e : Event) (r : Reply) (w : CopierView → CopierView) → copier_of v ≡ old → CopierTells v v' e r (w (copier_of v)) → copier_of v' ≡ w old
@@ -176,12 +192,20 @@ module _ (v : CopierView) (job : CopyJob) (own : IsJobOf job v) where
       let taken = may.facts.law.copies.taken in
       let says = taken.takes v.number job.task k in
       let long = taken.long v.number len.0 job.task k (ap (λ (y : CopierView). y.length) (copier_is may.others.copiers v.number v v may.stands) ∙ len.1) in
+      let at : job_said (job_of (x.copying.word job.task.number)) ≡ Some job.task.job = ap job_said says in
+      let stands = jobs_stand x may.facts.law in
       subst (IsTakenBy v.number job) (sym may.is) record {
         says = says;
         has = k;
         alone = λ d t other same.
             let both : Some (Taken t.job d) ≡ Some (Taken job.task.job v.number) = sym (taken.takes d t other) ∙ ap (λ j. job_of (x.copying.word j)) same ∙ says in cc;
         words = sym len.2 ∙ ap words_for long;
+        logs = stands.logs job.task.number job.task.job at;
+        stay = λ l word which legal. let none = legal.2.2 job.task.number job.task.job at in elim which [
+          | inl e ↦ none.0 (sym e)
+          | inr e ↦ none.1 (sym e)
+        ];
+        nobodys = stands.dead job.task.number job.task.job at (may.facts.law.copies.jobs.unfinished_unnamed job.task.number job.task.job at (ap is_finished says));
       }
 
 -- a write changes the next word of the target alone

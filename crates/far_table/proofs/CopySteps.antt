@@ -22,17 +22,17 @@ use Rattle.far_core.specs.state.State.{State, addr, put}
 use Rattle.far_core.proofs.Bounds.{log_inside}
 use Rattle.far_core.proofs.JobPlaces.{job_bounds, source_lies, task_lies}
 use Rattle.far_core.proofs.KeepJobs.{task_at}
-use Rattle.far_table.specs.View.{BookView, CopierView, OtherViews, View, Copier}
+use Rattle.far_table.specs.View.{BookView, CopierView, OtherViews, View, Copier, with_copier}
 use Rattle.far_table.specs.CopierPlays.{JobClaimed, JobFinished, JobPeeked, LengthRead, SourceRead, TargetWritten}
-use Rattle.far_table.specs.CopierViews.{claimed_view, finished_view, measured_view, word_read_view, word_written_view, words_read, words_written}
+use Rattle.far_table.specs.CopierViews.{claimed_view, finished_view, measured_view, peeked_view, word_read_view, word_written_view, words_read, words_written}
 use Rattle.far_table.specs.Layout.{table_words, data_at, job_at, job_in, word_in}
 use Rattle.far_table.specs.NameViews.{exchange_reply}
 use Rattle.far_table.specs.Rule.{Facts, Running}
 use Rattle.far_table.specs.StateOf.{state_of}
 use Rattle.far_table.specs.Tells.{CopierTells, copier_of}
-use Rattle.far_table.proofs.CopyFrames.{CopyStep, copied_is, copier_is, copies_none, is_copier, known, known_same, known_set}
+use Rattle.far_table.proofs.CopyFrames.{CopyStep, copied_is, copier_is, is_copier, known, known_same, known_set}
 use Rattle.far_table.proofs.Exchanges.{by_case, if_lost, if_won, lost_says, won_says}
-use Rattle.far_table.proofs.OwnSteps.{led_by}
+use Rattle.far_table.proofs.OwnSteps.{Leads, led_by}
 use Rattle.far_table.proofs.Lift.{copier_makes, copier_reads}
 use Rattle.far_table.proofs.Words.{data_word_set, job_here, job_word_set, no_word}
 
@@ -65,16 +65,21 @@ module _ (ws : List ℕ) (b : BookView) (os : OtherViews) (f : Facts ws b os) (v
     n = job_in ws j
 
     -- ---- looks
-    pub peek_step : CopyStep ws b os v (PeekJob c j) (Word n) ws v
-    peek_step = record { legal = (is_copier ws b os f v at, low); says = refl; becomes = copies_none f v at; number = refl; logs = refl }
+    -- what it notes changes nothing else
+    notes : Leads s ws b (with_copier os c (peeked_view j n v))
+    notes = let w : CopierView = peeked_view j n v in
+        copied_is ws ws b os c w (no_word b.logs ws f.wide) (stays w (λ y. y.task) refl) (stays w (λ y. y.length) refl) (stays w words_read refl) (stays w words_written refl)
+
+    pub peek_step : CopyStep ws b os v (PeekJob c j) (Word n) ws (peeked_view j n v)
+    peek_step = record { legal = (is_copier ws b os f v at, low); says = refl; becomes = notes; number = refl; logs = refl }
 
     -- ---- claims
     module _ (old : ℕ) (job : Job) (idle : v.task ≡ None) (offers : job_of old ≡ Some (Offered job)) where
-      pub claim_step : CopyStep ws b os v (Claim c j old) (exchange_reply old n) (set ws (job_at j) (either (n == old) (job_word (Taken job c)) n)) (cond (n == old) (claimed_view j job v) v)
+      pub claim_step : CopyStep ws b os v (Claim c j old) (exchange_reply old n) (set ws (job_at j) (either (n == old) (job_word (Taken job c)) n)) (cond (n == old) (claimed_view j job v) (peeked_view j n v))
       claim_step =
           let w : CopierView = claimed_view j job v in
           let legal : Legal s (Claim c j old) = (is_copier ws b os f v at, low, task_is ∙ idle, (job, offers)) in
-          by_case (CopyStep ws b os v (Claim c j old)) ws (job_at j) n old (job_word (Taken job c)) w v (job_here ws j low)
+          by_case (CopyStep ws b os v (Claim c j old)) ws (job_at j) n old (job_word (Taken job c)) w (peeked_view j n v) (job_here ws j low)
           (λ won. record {
             legal = legal;
             says = won_says n old won;
@@ -83,7 +88,7 @@ module _ (ws : List ℕ) (b : BookView) (os : OtherViews) (f : Facts ws b os) (v
             number = refl;
             logs = refl;
           })
-          (λ lost. record { legal = legal; says = lost_says n old lost; becomes = led_by (if_lost n old _ _ lost) (copies_none f v at); number = refl; logs = refl })
+          (λ lost. record { legal = legal; says = lost_says n old lost; becomes = led_by (if_lost n old _ _ lost) notes; number = refl; logs = refl })
 
   -- ---- of the job that it has
   module _ (t : Task) (task : v.task ≡ Some t) where
@@ -172,18 +177,19 @@ module _ {S : Type 0} (slots id : ℕ) (me : Me S View) (is : me.0 ≡ Copier (c
   mine = copier_of me.0
 
   pub peeks : (j : ℕ) → j < JOBS → Allows Running slots id me (job_at j) (λ n. n) (JobPeeked (step slots (job_at j) 0 0 none) me)
-  peeks j low = copier_reads slots id (job_at j) me is (PeekJob mine.number j) refl tt Word (λ _. mine) (JobPeeked (step slots (job_at j) 0 0 none) me)
-      (λ ws b os f at. subst (λ n. CopyStep ws b os mine (PeekJob mine.number j) (Word n) ws mine) (job_here ws j low) (peek_step ws b os f mine at j low))
-      (λ ws b os f at t q e. let same : j ≡ q = omega arith in subst (λ z. CopierTells me.0 (Copier mine) (PeekJob mine.number z) (Word (slice_index ws (job_at j))) mine) same t)
+  peeks j low = copier_reads slots id (job_at j) me is (PeekJob mine.number j) refl tt Word (λ n. peeked_view j n mine) (JobPeeked (step slots (job_at j) 0 0 none) me)
+      (λ ws b os f at. subst (λ n. CopyStep ws b os mine (PeekJob mine.number j) (Word n) ws (peeked_view j n mine)) (job_here ws j low) (peek_step ws b os f mine at j low))
+      (λ ws b os f at t q e. let same : j ≡ q = omega arith in let n : ℕ = slice_index ws (job_at j) in
+      subst (λ z. CopierTells me.0 (Copier (peeked_view j n mine)) (PeekJob mine.number z) (Word n) (peeked_view z n mine)) same t)
 
   pub claims : (j old x : ℕ) → j < JOBS → old < 2 ^ 64 → mine.task ≡ None → job_of old ≡ Some (Offered (job_said old)) → x ≡ job_word (Taken (job_said old) mine.number) →
       Allows Running slots id me (job_at j) (λ n. either (n == old) x n) (JobClaimed (step slots (job_at j) old x none) me)
   claims j old x low fits free offers word = let w : ℕ → CopierView = λ z. claimed_view z (job_said old) mine in
-      copier_makes slots id (job_at j) me is (Claim mine.number j old) refl fits (exchange_reply old) (λ n. cond (n == old) (w j) mine) (JobClaimed (step slots (job_at j) old x none) me) (λ n. either (n == old) x n)
-      (λ ws b os f at. subst (λ (z : ℕ × ℕ). CopyStep ws b os mine (Claim mine.number j old) (exchange_reply old z.0) (set ws (job_at j) (either (z.0 == old) z.1 z.0)) (cond (z.0 == old) (w j) mine))
+      copier_makes slots id (job_at j) me is (Claim mine.number j old) refl fits (exchange_reply old) (λ n. cond (n == old) (w j) (peeked_view j n mine)) (JobClaimed (step slots (job_at j) old x none) me) (λ n. either (n == old) x n)
+      (λ ws b os f at. subst (λ (z : ℕ × ℕ). CopyStep ws b os mine (Claim mine.number j old) (exchange_reply old z.0) (set ws (job_at j) (either (z.0 == old) z.1 z.0)) (cond (z.0 == old) (w j) (peeked_view j z.0 mine)))
       (λ i. (job_here ws j low i, sym word i)) (claim_step ws b os f mine at j low old (job_said old) free offers))
       (λ ws b os f at t q e. let n : ℕ = slice_index ws (job_at j) in let same : j ≡ q = omega arith in
-      subst (λ z. CopierTells me.0 (Copier (cond (n == old) (w j) mine)) (Claim mine.number z old) (exchange_reply old n) (cond (n == old) (w z) mine)) same t)
+      subst (λ z. CopierTells me.0 (Copier (cond (n == old) (w j) (peeked_view j n mine))) (Claim mine.number z old) (exchange_reply old n) (cond (n == old) (w z) (peeked_view z n mine))) same t)
 
   module _ (t : Task) (task : mine.task ≡ Some t) where
     -- a task is one

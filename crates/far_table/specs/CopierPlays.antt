@@ -8,7 +8,7 @@ use Rattle.far_core.specs.declared.event.Reply.TheVariants.{Done, Word}
 use Rattle.far_core.specs.declared.event.Task.{Task}
 use Rattle.far_core.specs.state.State.{addr}
 use Rattle.far_table.specs.View.{View}
-use Rattle.far_table.specs.CopierViews.{claimed_view, finished_view, measured_view, word_read_view, word_written_view}
+use Rattle.far_table.specs.CopierViews.{claimed_view, finished_view, measured_view, peeked_view, word_read_view, word_written_view}
 use Rattle.far_table.specs.Layout.{data_at, job_at}
 use Rattle.far_table.specs.NameViews.{exchange_reply}
 use Rattle.far_table.specs.Tells.{CopierTells, copier_of}
@@ -19,11 +19,11 @@ copier_number v = (copier_of v).number
 
 module _ {S : Type 0} where
   abbrev pub JobPeeked : Step S → Me S View → ℕ → Me S View → Type 0
-  JobPeeked st me found me' = (j : ℕ) → st.word ≡ job_at j → CopierTells me.0 me'.0 (PeekJob (copier_number me.0) j) (Word found) (copier_of me.0)
+  JobPeeked st me found me' = (j : ℕ) → st.word ≡ job_at j → CopierTells me.0 me'.0 (PeekJob (copier_number me.0) j) (Word found) (peeked_view j found (copier_of me.0))
 
-  -- the job is the one that the word awaited says; where another was found, nothing changed
+  -- the job is the one that the word awaited says; where another was found, that is noted and nothing changed
   abbrev pub JobClaimed : Step S → Me S View → ℕ → Me S View → Type 0
-  JobClaimed st me found me' = (j : ℕ) → st.word ≡ job_at j → CopierTells me.0 me'.0 (Claim (copier_number me.0) j st.first) (exchange_reply st.first found) (cond (found == st.first) (claimed_view j (job_in st.first) (copier_of me.0)) (copier_of me.0))
+  JobClaimed st me found me' = (j : ℕ) → st.word ≡ job_at j → CopierTells me.0 me'.0 (Claim (copier_number me.0) j st.first) (exchange_reply st.first found) (cond (found == st.first) (claimed_view j (job_in st.first) (copier_of me.0)) (peeked_view j found (copier_of me.0)))
 
   -- the word is a header
   abbrev pub LengthRead : Step S → Me S View → ℕ → Me S View → Type 0

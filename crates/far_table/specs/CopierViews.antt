@@ -13,6 +13,9 @@ abbrev pub words_written : CopierView → ℕ → Bool
 words_written v = over v.written (λ _. false)
 
 -- ---- the view after a step
+-- a look at job j found a word, or an exchange did that was lost
+abbrev pub peeked_view : ℕ → ℕ → CopierView → CopierView
+peeked_view j found v = record v { seen = (j, found) ∷ v.seen }
 
 -- the job is the copier's, which has read and written nothing of it
 abbrev pub claimed_view : ℕ → Job → CopierView → CopierView

@@ -1,18 +1,21 @@
 -- What a contract sees of a copier's seat, and of a job that it has.
-use Rattle.std.specs.Prelude.{◌≡◌, ◌≢◌, ◌⊎◌, ◌+◌, ◌-◌, ◌<◌, ◌≤◌, ℕ, true, Some, None, option_map}
+use Rattle.std.specs.Prelude.{◌≡◌, ◌≢◌, ◌⊎◌, ◌+◌, ◌-◌, ◌<◌, ◌≤◌, ℕ, zero, suc, true, Some, None, option_map}
 use Rattle.far_word.specs.declared.job.JobWord.TheVariants.{Offered, Taken}
 use Rattle.far_word.specs.declared.pointer.Place.{Place}
 use Rattle.far_word.specs.Job.{job_in, job_of}
+use Rattle.far_word.specs.Pointer.{read_of}
 use Rattle.far_word.specs.Sizes.{words_for}
 use Rattle.far_log.specs.Spans.{head_len}
-use Rattle.far_core.specs.declared.event.Event.TheVariants.{PeekJob, Claim, ReadLength, Read, Write}
+use Rattle.far_core.specs.declared.event.Event.TheVariants.{Claim, Get, PeekJob, Read, ReadLength, Write}
+use Rattle.far_core.specs.declared.event.Kind.TheVariants.{Free}
 use Rattle.far_core.specs.declared.event.Reply.TheVariants.{Done, Word}
 use Rattle.far_core.specs.declared.event.Task.{Task}
 use Rattle.far_core.specs.events.Claim.{offered_in}
+use Rattle.far_core.specs.events.Legal.{Legal}
 use Rattle.far_core.specs.events.Step.{after}
-use Rattle.far_core.specs.state.Jobs.{job_words}
+use Rattle.far_core.specs.state.Jobs.{job_words, near_place}
 use Rattle.far_core.specs.state.State.{State, addr}
-use Rattle.far_table.specs.CopierViews.{claimed_view, measured_view, word_read_view, word_written_view, words_written}
+use Rattle.far_table.specs.CopierViews.{claimed_view, measured_view, peeked_view, word_read_view, word_written_view, words_written}
 use Rattle.far_table.specs.Layout.{JOBS_AT, data_at}
 use Rattle.far_table.specs.Tells.{CopierMade, CopierMayBe}
 use Rattle.far_table.specs.View.{CopierView}
@@ -59,18 +62,28 @@ abbrev pub copied_on : CopyJob → CopyJob
 copied_on job = record job { copied = job.copied + 1 }
 
 -- ---- a claim
--- a look at job j that didn't get it: its word offers none; or it did, and another had changed it before the exchange
-abbrev pub Missed : CopierView → ℕ → Type 0
-Missed v j = (found : ℕ) × CopierMade (PeekJob v.number j) v (Word found) v
-    × ((offered_in (job_of found) ≡ None) ⊎ ((later : ℕ) × (later ≢ found) × CopierMade (Claim v.number j found) v (Word later) v))
+-- a look at job j that didn't get it: its word offers none; or it did, and another had changed it before the exchange. The view notes what was found, so there was this look
+abbrev pub Missed : ℕ → CopierView → CopierView → Type 0
+Missed j v v' = (found : ℕ) × CopierMade (PeekJob v.number j) v (Word found) (peeked_view j found v)
+    × (((offered_in (job_of found) ≡ None) × (v' ≡ peeked_view j found v))
+    ⊎ ((later : ℕ) × (later ≢ found) × CopierMade (Claim v.number j found) (peeked_view j found v) (Word later) v' × (v' ≡ peeked_view j later (peeked_view j found v))))
+
+-- the first n jobs were looked at, one after the other, and none was got
+abbrev pub MissedFirst : ℕ → CopierView → CopierView → Type 0
+MissedFirst zero v v' = v' ≡ v
+MissedFirst (suc n) v v' = (u : CopierView) × MissedFirst n v u × Missed n u v'
+
+-- nothing changed but what looks have found
+abbrev pub OnlyLooked : CopierView → CopierView → Type 0
+OnlyLooked v v' = v' ≡ record v { seen = v'.seen }
 
 -- a job was taken: its word offered it, and the exchange won
 pub record Took (task : Task) (v v' : CopierView) : Type 0 where
   pub found : ℕ
   pub offers : job_of found ≡ Some (Offered task.job)
-  pub peeks : CopierMade (PeekJob v.number task.number) v (Word found) v
-  pub claims : CopierMade (Claim v.number task.number found) v Done v'
-  pub view : v' ≡ claimed_view task.number task.job v
+  pub peeks : CopierMade (PeekJob v.number task.number) v (Word found) (peeked_view task.number found v)
+  pub claims : CopierMade (Claim v.number task.number found) (peeked_view task.number found v) Done v'
+  pub view : v' ≡ claimed_view task.number task.job (peeked_view task.number found v)
 
 -- the header of its source was read: it has as many words as the header says, of which none is copied
 pub record Measured (job : CopyJob) (v v' : CopierView) : Type 0 where
@@ -80,16 +93,20 @@ pub record Measured (job : CopyJob) (v v' : CopierView) : Type 0 where
   pub words : job.words ≡ words_for (head_len head)
   pub copied : job.copied ≡ 0
 
--- both, one after the other
+-- the jobs below were looked at and not got; then both, one after the other
 abbrev pub Claimed : CopyJob → CopierView → CopierView → Type 0
-Claimed job v v' = (taken : CopierView) × Took job.task v taken × Measured job taken v'
+Claimed job v v' = (looked taken : CopierView) × MissedFirst job.task.number v looked × Took job.task looked taken × Measured job taken v'
 
--- the job's word says that this copier has taken it, and the copier has it; no other has it
+-- the job's word says that this copier has taken it, and the copier has it; no other has it. Neither its source's log nor its target's is free, and to give one of them
+-- back isn't legal; and no pointer is named to its target
 pub record IsTakenBy (c : ℕ) (job : CopyJob) (s : State) : Type 0 where
   pub says : job_of (s.copying.word job.task.number) ≡ Some (Taken job.task.job c)
   pub has : s.copying.task c ≡ Some job.task
   pub alone : (d : ℕ) (t : Task) → s.copying.task d ≡ Some t → t.number ≡ job.task.number → d ≡ c
   pub words : job.words ≡ job_words s.word job.task.job
+  pub logs : (s.kind job.task.job.from.log ≢ Free) × (s.kind job.task.job.to.log ≢ Free)
+  pub stay : (l at : ℕ) → (l ≡ job.task.job.from.log) ⊎ (l ≡ job.task.job.to.log) → ¬ Legal s (Get l at true)
+  pub nobodys : (p : ℕ) → near_place (read_of (s.cell p)) ≢ Some job.task.job.to
 
 -- ---- a word
 -- of the shared words one alone changes, word a of the logs, and is w then

@@ -76,6 +76,7 @@ first_copier s c = record {
   length = s.copying.length c;
   read = rows_from 0 LOG_WORDS (s.copying.read c);
   written = rows_from 0 LOG_WORDS (s.copying.written c);
+  seen = [];
 }
 
 abbrev pub first_copiers : State → List CopierView

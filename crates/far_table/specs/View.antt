@@ -49,6 +49,8 @@ pub record CopierView : Type 0 where
   -- the words that it has read of the source, and those that it has written to the target, by their numbers
   pub read : List (ℕ × Option ℕ)
   pub written : List (ℕ × Bool)
+  -- the words that its looks at jobs found, and the exchanges that it lost there, by the jobs' numbers. No tie is of them
+  pub seen : List (ℕ × ℕ)
 
 -- what the seat of another than the book knows
 pub data Role : Type 0 where
@@ -98,7 +100,7 @@ pub data View : Type 0 where
 
 -- a copier that has no job
 abbrev pub idle : ℕ → CopierView
-idle c = record { number = c; logs = 0; task = None; length = None; read = []; written = [] }
+idle c = record { number = c; logs = 0; task = None; length = None; read = []; written = []; seen = [] }
 
 -- what stands where nobody knows anything
 abbrev pub no_view : View

@@ -1,8 +1,9 @@
-// The book's seat as a hand: each call but `shape` is one step on one word.
+// The book's seat as a hand: each call but `shape` is one step on one word, or such a row. A row of none is no step: the seat is as it was then.
 ghost use Rattle.far_core.specs.declared.event.Event.{Event as any_event};
 ghost use Rattle.far_core.specs.declared.event.Reply.{Reply as any_reply};
 ghost use Rattle.far_core.specs.events.Legal.{Legal};
 ghost use Rattle.far_core.specs.events.Step.{Fits, after};
+ghost use Rattle.far_core.specs.laws.Jobs.{JobsStand};
 ghost use Rattle.far_hand.specs.Makers.{is_owners};
 ghost use Rattle.far_hand.specs.Ranges.{Gets};
 ghost use Rattle.std.specs.Prelude.{◌≡◌, true, false};
@@ -181,6 +182,15 @@ impl<D: Device> BookSeat<D> {
     /// book's, it isn't free either.
     pub fn no_log_is_given_out_under_a_view(&self)
         ensures { (x : State) → seat_may_be self.now x → NoneIsGivenOut x }
+    {
+        let _logs = self.logs;
+    }
+
+    /// What holds of jobs. In every state that the words and all views may be in: no log that a job reads or writes is free, and no pointer is named to a job's
+    /// target before the book has written so down; until then both places of a finished job have the same words, as long as the round of its offer lasts
+    /// and the source's log is in it. A job that is taken is of one copier, which has no other.
+    pub fn jobs_stand(&self)
+        ensures { (x : State) → seat_may_be self.now x → JobsStand x }
     {
         let _logs = self.logs;
     }

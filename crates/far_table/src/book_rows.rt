@@ -1,5 +1,5 @@
 // Rows of words that the book's seat reads, writes or copies, where the table is looked up once.
-ghost use Rattle.std.specs.Prelude.{◌≡◌, ◌+◌, ◌*◌, ◌≤◌, ℕ, length};
+ghost use Rattle.std.specs.Prelude.{◌≡◌, ◌+◌, ◌*◌, ◌≤◌, ℕ, length, drop};
 ghost use Rattle.atomic_table.specs.declared.shared.Seat.{Seat as any_seat};
 ghost use Rattle.far_word.specs.declared.sizes.TheConstants.{LOG_WORDS};
 ghost use Rattle.far_word.specs.Bytes.{packed_word};
@@ -15,7 +15,7 @@ use far_device::Device;
 use far_hand::{packed_whole, unpack_word};
 use far_word::{LOG_WORDS, Place};
 
-// Reads a word of a log, which stands at this address.
+// Reads a word of a log, which stands at this address: the contract alone names log and place.
 #[inline(always)]
 fn get_at<D: Device>(
     shared: &Shared<u64, View, Plan<D>, FarRule>,
@@ -33,7 +33,7 @@ fn get_at<D: Device>(
     shared.load::<rule::Get>(seat, address + layout::LOGS)
 }
 
-// Writes a word of a log, which stands at this address.
+// Writes a word of a log, which stands at this address, likewise.
 #[inline(always)]
 fn put_at<D: Device>(
     shared: &Shared<u64, View, Plan<D>, FarRule>,
@@ -145,6 +145,7 @@ fn get_some<D: Device>(
     requires room { 8 * (first + count) ≤ length row.old }
     ensures words { InPart shared.now.table_id seat.old (λ makes. (s : any_seat ℕ any_view) → HasRead ⊥ part_view makes log at s seat.old first row.old → HasRead ⊥ part_view makes log at s seat.new (first + count) row.new) }
     ensures leads { Leads shared.now.table_id seat.old seat.new }
+    ensures behind { drop (8 * (first + count)) row.new ≡ drop (8 * (first + count)) row.old }
     ensures length { length row.new ≡ length row.old }
 {
     for i in 0..count {
@@ -166,6 +167,7 @@ pub(crate) fn get_all<D: Device>(
     requires within { IsWithin (part_view seat.old) log at count }
     requires room { 8 * count ≤ length row.old }
     ensures words { InPart shared.now.table_id seat.old (λ makes. HasRead ⊥ part_view makes log at seat.old seat.new count row.new) }
+    ensures behind { drop (8 * count) row.new ≡ drop (8 * count) row.old }
     ensures length { length row.new ≡ length row.old }
 {
     let start = log as usize * LOG_WORDS as usize + at as usize;

@@ -7,8 +7,8 @@ ghost use Rattle.far_word.specs.Job.{job_in, job_of};
 ghost use Rattle.far_core.specs.declared.event.Event.{Event as any_event};
 ghost use Rattle.far_core.specs.declared.event.Reply.{Reply as any_reply};
 ghost use Rattle.far_core.specs.state.State.{State};
-ghost use Rattle.far_table.specs.CopierViews.{finished_view};
-ghost use Rattle.far_table.specs.CopySeats.{Claimed, CopiedNext, IsCopied, IsJobOf, IsTakenBy, Measured, Missed, Took, copied_on, task_of};
+ghost use Rattle.far_table.specs.CopierViews.{finished_view, peeked_view};
+ghost use Rattle.far_table.specs.CopySeats.{Claimed, CopiedNext, IsCopied, IsJobOf, IsTakenBy, Measured, Missed, MissedFirst, OnlyLooked, Took, copied_on, task_of};
 ghost use Rattle.far_table.specs.Layout.{table_words};
 ghost use Rattle.far_table.specs.Tells.{CopierMade, CopierMayBe, CopierStands, copier_of};
 ghost use Rattle.far_table.specs.View.{Copier, CopierView};
@@ -112,14 +112,15 @@ impl<D: Device> CopySeat<D> {
     }
 
     /// Takes a job that is offered: the first that is found so and won, of looks at each of the 16 jobs, in their order, and of one attempt to take it
-    /// at each. `None` where no look got one; then nothing changes. The copier has no job.
+    /// at each. `None` where no look got one; then nothing changes, and the view notes what they found. The copier has no job.
     pub fn claim(&mut self) -> Option<Job>
         requires free { self.old.view.task ≡ None }
         ensures table { self.new.table ≡ self.old.table }
         ensures claimed { IfSome result (λ job. Claimed job self.old.view self.new.view) }
         ensures own { IfSome result (λ job. IsJobOf job self.new.view) }
-        ensures before { IfSome result (λ job. (j : ℕ) → j < job.task.number → Missed self.old.view j) }
-        ensures none { result ≡ None → (self.new ≡ self.old) × ((j : ℕ) → j < JOBS → Missed self.old.view j) }
+        ensures none { result ≡ None → MissedFirst JOBS self.old.view self.new.view }
+        ensures left { result ≡ None → OnlyLooked self.old.view self.new.view }
+        ensures free { result ≡ None → self.new.view.task ≡ None }
     {
         for number in 0..JOBS {
             if let Some(offered) = self.take(number) {
@@ -136,7 +137,7 @@ impl<D: Device> CopySeat<D> {
         ensures table { self.new.table ≡ self.old.table }
         ensures took { IfSome result (λ word. Took (task_of number word) self.old.view self.new.view) }
         ensures offers { IfSome result (λ word. job_of word ≡ Some (Offered (job_in word))) }
-        ensures missed { result ≡ None → (self.new ≡ self.old) × Missed self.old.view number }
+        ensures missed { result ≡ None → Missed number self.old.view self.new.view }
     {
         let word = self.peek(number);
         if !is_offered(word) {
@@ -157,8 +158,9 @@ impl<D: Device> CopySeat<D> {
     // The word of a job.
     fn peek(&mut self, number: u8) -> u64
         requires job { number < JOBS }
-        ensures same { self.new ≡ self.old }
-        ensures event { CopierMade (Event.PeekJob self.old.view.number number) self.old.view (Reply.Word result) self.old.view }
+        ensures table { self.new.table ≡ self.old.table }
+        ensures seen { self.new.view ≡ peeked_view number result self.old.view }
+        ensures event { CopierMade (Event.PeekJob self.old.view.number number) self.old.view (Reply.Word result) (peeked_view number result self.old.view) }
         ensures reads { IsSome (job_of result) }
     {
         self.table

@@ -33,7 +33,7 @@ use Rattle.far_hand.specs.Quiet.{is_quiet}
 use Rattle.far_book.specs.book.Dealing.{FindsDrop, Leaves, MovedBy, has_evac}
 use Rattle.far_book.specs.book.Effects.{moved, near_word, order_after, stayed, with_free_cell, with_written_span}
 use Rattle.far_book.specs.book.FarSide.{InOrder, kept_len}
-use Rattle.far_book.specs.book.Ledger.{Notes, MayFill, MayRetire, Fills, Loses, filled_of}
+use Rattle.far_book.specs.book.Ledger.{Notes, MayTakeAgain, MayRetire, TakesAgain, Loses, filled_of}
 use Rattle.far_book.specs.book.Moving.{MayCopy, MayStay}
 use Rattle.far_book.specs.book.Own.{own_part}
 use Rattle.far_book.specs.book.Placeable.{Placeable, with_object}
@@ -135,8 +135,8 @@ module _ {s : State} {ledger : Ledger} {held : ℕ → Option (List ℕ)} {is_ho
         | inr ne ↦ (let same = loses.there l ne in (ap (λ (f : Filled). f.tail) same, omega (arith, ap (λ (f : Filled). f.live) same)))
       ]
 
-      pub may_fill : MayFill mid (size_of len) to
-      may_fill =
+      pub may_take_again : MayTakeAgain mid (size_of len) to
+      may_take_again =
           let here = less to.log in
           record {
             few = omega (arith, is_room.next.0, x.order.notes.law.shape.few_logs);
@@ -146,7 +146,7 @@ module _ {s : State} {ledger : Ledger} {held : ℕ → Option (List ℕ)} {is_ho
             order = λ _. subst (λ (n : Ledger). length n.order < MOST_LOGS) (sym loses.rest) (order_short (own_part s) ledger x.order.notes);
           }
 
-      module _ (after : Ledger) (fills : Fills mid after (size_of len) to) where
+      module _ (after : Ledger) (fills : TakesAgain mid after (size_of len) to) where
         pub order_carried : after.order ≡ order_after s ledger.order to
         order_carried = fills.order ∙ ap (λ (n : Ledger). cond (to.log == n.current) n.order (n.order ++ n.current ∷ [])) loses.rest
             ∙ ap (λ k. order_after (record s { current = k }) ledger.order to) x.order.notes.current
@@ -234,7 +234,7 @@ module _ {s : State} {ledger : Ledger} {held : ℕ → Option (List ℕ)} {is_ho
   leaves_as : (b : Bool) → m.evac ≡ b → Leaves (cond b (moved then p to) (stayed then p)) u
   leaves_as b is = subst (λ (v : State). Leaves v u) (ap (λ c. cond c (moved then p to) (stayed then p)) (ap has_evac says ∙ y.same ∙ is)) by.leaves
 
-  pub carried_by : (found : room s (size_of len) false ≡ Some to) → m.evac ≡ true → (mid : Ledger) → Loses ledger mid from.log (size_of len) → (after : Ledger) → Fills mid after (size_of len) to → InOrder u after held is_honest
+  pub carried_by : (found : room s (size_of len) false ≡ Some to) → m.evac ≡ true → (mid : Ledger) → Loses ledger mid from.log (size_of len) → (after : Ledger) → TakesAgain mid after (size_of len) to → InOrder u after held is_honest
   carried_by found wanted mid loses after fills = carried lies to found mid loses after fills u alive (y.same ∙ wanted) (leaves_as true wanted)
 
   pub kept_by : MayStay s p len ds from → InOrder u ledger held is_honest

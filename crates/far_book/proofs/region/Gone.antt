@@ -33,6 +33,10 @@ gone_more gone more log adds (x ∷ xs) = ap (λ b. cond (not b) (x ∷ still_in
 pub still_few : (gone : NumberSet) (xs : List ℕ) → length (still_in gone xs) ≤ length xs
 still_few gone xs = omega (arith, length-filter_both (λ l. not (has gone l)) (λ l. not (not (has gone l))) (λ _. refl) xs)
 
+-- one element more of a list was put behind those before it
+pub taken_more : {X : Type 0} (xs : List X) (i : ℕ) (d : X) (old new : List X) → i < length xs → old ≡ take i xs → new ≡ old ++ slice_index_or xs i d ∷ [] → new ≡ take (i + 1) xs
+taken_more xs i d old new lt is more = more ∙ ap (λ ys. ys ++ slice_index_or xs i d ∷ []) is ∙ sym (take_more xs i d lt)
+
 -- ---- a row for each that is left
 module _ (s : State) (gone : NumberSet) (xs : List ℕ) (i : ℕ) (lt : i < length xs) where
   abbrev x : ℕ

@@ -30,7 +30,7 @@ use Rattle.far_book.specs.declared.ledger.Filled.{Filled}
 use Rattle.far_book.specs.declared.ledger.Ledger.{Ledger}
 use Rattle.far_book.specs.declared.number_set.NumberSet.{NumberSet}
 use Rattle.far_book.specs.book.Effects.{near_word, with_free_cell}
-use Rattle.far_book.specs.book.Ledger.{Notes, filled_of, is_noted_free, Takes, Fills, Loses, Frees}
+use Rattle.far_book.specs.book.Ledger.{Notes, filled_of, is_noted_free, Takes, TakesAgain, Loses, Frees}
 use Rattle.far_book.specs.book.Jobs.{NotesJobs}
 use Rattle.far_book.specs.book.NumberSet.{has}
 use Rattle.far_book.specs.book.Order.{still_in}
@@ -226,7 +226,7 @@ module _ (s : State) (ledger new : Ledger) (notes : Notes s ledger) (p : ℕ) (i
 
 -- ---- an object's span is dead, and another one is taken for it
 module _ (s : State) (ledger mid new : Ledger) (notes : Notes s ledger) (p len ds : ℕ) (from : Place) (m : Marks) (near : read_of (s.cell p) ≡ Some (Near len ds from m)) (freed : Law (with_free_cell s p)) (place : Place)
-    (h : Placeable (with_free_cell s p) p len ds place) (dirty : Bool) (kept : Law (with_object (with_free_cell s p) dirty p len ds place)) (loses : Loses ledger mid from.log (size_of len)) (fills : Fills mid new (size_of len) place) where
+    (h : Placeable (with_free_cell s p) p len ds place) (dirty : Bool) (kept : Law (with_object (with_free_cell s p) dirty p len ds place)) (loses : Loses ledger mid from.log (size_of len)) (fills : TakesAgain mid new (size_of len) place) where
   abbrev bare : State
   bare = with_free_cell s p
 

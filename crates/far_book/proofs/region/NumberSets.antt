@@ -2,7 +2,7 @@
 use Rattle.std.proofs.Common.{◌≡◌, ℕ, ◌-◌, ◌*◌, ◌/◌, ◌^◌, ◌%◌, ◌<◌, ◌≤◌, true, false, arith, sym, ap, ◌∙◌, nat_lt, nat_eq, inl, inr, w64}
 use Rattle.std.specs.Prelude.{◌==◌, ◌||◌, ◌&&◌, not, bit_and, bit_or}
 use Rattle.std.specs.Int.{bit_at, trailing_zeros}
-use Rattle.std.proofs.lemmas.Bool.{cases_lt, cases_eq, eq-eqb, ne_eqb, lt-ltb, le-ltb}
+use Rattle.std.proofs.lemmas.Bool.{cases_lt, cases_eq, eq-eqb, ne_eqb, lt-ltb, le-ltb, false≢true}
 use Rattle.std.proofs.lemmas.Nat.{one_shl}
 use Rattle.std.proofs.lemmas.Nat.Bits.{shr_and_one, bit_at_ones, bit_at_above, bit_at_ones_above, bit_at_set_same, bit_at_set_other, bit_at_clear_same, bit_at_clear_other, bit_at-trailing_zeros, bit_at-zero}
 use Rattle.far_book.specs.book.NumberSet.{has, IsLowest}
@@ -53,3 +53,10 @@ has_beyond w k fits over = bit_is_not _ (bit_at_above w 64 k fits over)
 pub has_lowest : (w : ℕ) → 0 < w → w < 2 ^ 64 → IsLowest record { word = w } (trailing_zeros w64 w)
 unfolding has
 has_lowest w some fits = let t = bit_at-trailing_zeros w64 w some fits in (t.0, bit_is _ t.1, λ i lt. bit_is_not _ (t.2 i lt))
+
+-- a word that has no number is 0
+pub none_word : (w : ℕ) → w < 2 ^ 64 → ((k : ℕ) → has record { word = w } k ≡ false) → w ≡ 0
+none_word w fits none = elim (cases_lt 0 w) [
+  | inl some ↦ absurd (false≢true (sym (none (trailing_zeros w64 w)) ∙ (has_lowest w some fits).1))
+  | inr le ↦ omega (arith, le)
+]

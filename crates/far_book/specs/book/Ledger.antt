@@ -92,7 +92,7 @@ pub record Takes (old new : Ledger) (p size : ℕ) (place : Place) : Type 0 wher
   pub jobs : new.jobs ≡ old.jobs
 
 -- a live span may be written down as taken, for a pointer that has one
-pub record MayFill (ledger : Ledger) (size : ℕ) (place : Place) : Type 0 where
+pub record MayTakeAgain (ledger : Ledger) (size : ℕ) (place : Place) : Type 0 where
   pub few : place.log < 64
   pub log : place.log < vec_len ledger.filled
   pub tail : (filled_of ledger place.log).tail + size ≤ LOG_WORDS
@@ -100,7 +100,7 @@ pub record MayFill (ledger : Ledger) (size : ℕ) (place : Place) : Type 0 where
   pub order : place.log ≢ ledger.current → length ledger.order < MOST_LOGS
 
 -- a live span is taken: its log is the open one, ends later and has more live bytes; a log that was open is sealed, the youngest
-pub record Fills (old new : Ledger) (size : ℕ) (place : Place) : Type 0 where
+pub record TakesAgain (old new : Ledger) (size : ℕ) (place : Place) : Type 0 where
   pub current : new.current ≡ place.log
   pub free : (l : ℕ) → l < 64 → has new.free_logs l ≡ (not (l == place.log) && has old.free_logs l)
   pub order : new.order ≡ (if place.log == old.current then old.order else old.order ++ old.current ∷ [])

@@ -1,8 +1,7 @@
 //! How an object goes far: the device holds its bytes before its cell says so.
 
-ghost use Rattle.std.specs.Prelude.{◌≡◌, ◌⊎◌, ◌+◌, ◌*◌, ◌<◌, ◌≤◌, true, false, not, take, length, Some, None, IfOk, IfErr, IfSome};
+ghost use Rattle.std.specs.Prelude.{◌≡◌, ◌⊎◌, ◌+◌, ◌*◌, ◌<◌, ◌≤◌, true, false, take, length, Some, None, IfOk, IfErr, IfSome};
 ghost use Rattle.std.specs.Vec.{vec_capacity, vec_len};
-ghost use Rattle.far_word.specs.declared.refused.Refused.TheVariants.{Memory, Device as Failed};
 ghost use Rattle.far_word.specs.declared.sizes.TheConstants.{CELLS, LONGEST};
 ghost use Rattle.far_word.specs.Bytes.{bytes_of};
 ghost use Rattle.far_word.specs.Pointer.{read_of};
@@ -10,17 +9,14 @@ ghost use Rattle.far_word.specs.Sizes.{words_for};
 ghost use Rattle.far_core.specs.events.Copies.{data_at};
 ghost use Rattle.far_core.specs.events.Naming.{is_dropped};
 ghost use Rattle.far_core.specs.state.Law.{IsStored, is_dirty};
-ghost use Rattle.far_device.specs.Following.{Follows, other_than};
 ghost use Rattle.far_hand.specs.Finds.{Finds};
 ghost use Rattle.far_hand.specs.Came.{Came, only};
-ghost use Rattle.far_hand.specs.Known.{Forgets, KeepsKnown};
-ghost use Rattle.far_book.specs.book.Asking.{AsksToEvict};
+ghost use Rattle.far_hand.specs.Known.{Forgets};
 ghost use Rattle.far_book.specs.book.Calls.{EvictsObject};
-ghost use Rattle.far_book.specs.book.Dealing.{IsRetired, IsSeen, has_evac, is_failure};
+ghost use Rattle.far_book.specs.book.Dealing.{has_evac};
 ghost use Rattle.far_hand.specs.Quiet.{IsQuietNear};
-ghost use Rattle.far_book.specs.book.Actions.{Does, Evicts};
 ghost use Rattle.far_book.specs.book.Effects.{evicted, far_word};
-ghost use Rattle.far_book.specs.book.Evicting.{GoesFar, IsQuietData, IsQuietIn, Learns};
+ghost use Rattle.far_book.specs.book.Evicting.{IsQuietData, IsQuietIn, Learns};
 ghost use Rattle.far_book.specs.book.Only.{Names, Reads};
 ghost use Rattle.far_book.specs.book.Renaming.{Renamed, seen, stops};
 ghost use Rattle.far_book.specs.book.Sending.{Sends};
@@ -48,29 +44,14 @@ impl<N: Near + Drop, D: Device + Drop> Book<N, D> {
         self.evict_by(pointer, None)
     }
 
-    /// The same by the word that its cell is known to have, if one is given, or else by the one that is found there.
+    /// As [`Book::evict`], by the word that its cell is known to have, if one is given, or else by the one that is found there.
     #[inline(always)]
     pub fn evict_by(&mut self, pointer: u16, known: Option<u64>) -> Result<bool, Refused>
         requires pointer { pointer < CELLS * (N.view self.old.near).mutators }
         requires quiet { IsQuietNear (N.view self.old.near) pointer }
         requires evac { has_evac (read_of ((N.view self.old.near).cell pointer)) ≡ true }
         requires known { IfSome known (λ word. word ≡ (N.view self.old.near).cell pointer) }
-        ensures far { result ≡ Ok true → GoesFar (N.view self.old.near) (N.view self.new.near) pointer }
-        ensures away { N.still → result ≡ Ok true → N.view self.new.near ≡ evicted (N.view self.old.near) pointer }
-        ensures gone { result ≡ Ok false → IsRetired N.still (N.view self.old.near) (N.view self.new.near) pointer }
-        ensures freed { result ≡ Ok false → KeepsKnown (N.view self.old.near) (N.view self.new.near) }
-        ensures asked { is_dropped (read_of ((N.view self.old.near).cell pointer)) ≡ true → result ≡ Ok false }
-        ensures alive { N.still → IfOk result (λ far. far ≡ not (is_dropped (read_of ((N.view self.old.near).cell pointer)))) }
-        ensures kept { IfErr result (λ _. IsSeen (N.view self.old.near) (N.view self.new.near) pointer) }
-        ensures same { N.still → IfErr result (λ _. N.view self.new.near ≡ N.view self.old.near) }
-        ensures came { Came N.makes self.old.near self.new.near }
-        ensures refused { IfErr result (λ why. (why ≡ Memory) ⊎ (why ≡ Failed)) }
-        ensures called { AsksToEvict D D.writes D.lets_go (N.view self.old.near) pointer result self.old.device self.new.device }
-        ensures unasked { N.still → result ≡ Ok true → is_dirty (read_of ((N.view self.old.near).cell pointer)) ≡ false → self.new.device ≡ self.old.device }
-        ensures order { self.new.order ≡ self.old.order }
-        ensures forgotten { D.forgets → result ≡ Ok false → D.contents self.new.device pointer ≡ None }
-        ensures follows { Follows D.contents D.honest D.faults D.fails_at_most (other_than pointer) (is_failure result) self.old.device self.new.device }
-        ensures ran { N.still → Does (N.view self.old.near) (Evicts pointer result) (N.view self.new.near) }
+        ensures { EvictsObject N.still N.view N.makes D.contents D.honest D.faults D.fails_at_most D.lets_go D.forgets D.writes self.old self.new pointer result }
     {
         let found = self.cell_of(pointer, known);
         let PtrWord::Near {

@@ -34,7 +34,7 @@ impl<N: Near + Drop, D: Device + Drop> Book<N, D> {
         self.move_by(pointer, None)
     }
 
-    /// The same by the word that its cell is known to have, if one is given, or else by the one that is found there.
+    /// As [`Book::move_now`], by the word that its cell is known to have, if one is given, or else by the one that is found there.
     #[inline(always)]
     pub fn move_by(&mut self, pointer: u16, known: Option<u64>) -> Result<Option<Place>, Refused>
         requires pointer { pointer < CELLS * (N.view self.old.near).mutators }
@@ -52,7 +52,7 @@ impl<N: Near + Drop, D: Device + Drop> Book<N, D> {
         }
     }
 
-    // The same, but that an object that its owner has dropped isn't retired yet.
+    // As `move_by`, but that an object that its owner has dropped isn't retired yet.
     fn settle(&mut self, pointer: u16, known: Option<u64>) -> Result<Option<Place>, Refused>
         requires pointer { pointer < CELLS * (N.view self.old.near).mutators }
         requires quiet { IsQuietNear (N.view self.old.near) pointer }

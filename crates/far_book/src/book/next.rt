@@ -47,7 +47,7 @@ impl<N: Near + Drop, D: Device + Drop> Book<N, D> {
         }
     }
 
-    /// The same with the object's cell, as it was found.
+    /// As [`Book::next_live`], with the object's cell, as it was found.
     pub fn next_found(&mut self, log: u8, at: u16) -> Option<LiveSpan>
         requires log { log < (N.view self.old.near).logs }
         requires begins { IsBoundary (N.view self.old.near) log at }

@@ -1,6 +1,6 @@
 //! How objects leave where copies may be offered: hot ones wait for copiers.
 
-ghost use Rattle.std.specs.Prelude.{◌≡◌, ◌⊎◌, ◌+◌, ◌*◌, ◌^◌, ◌<◌, ◌≤◌, ℕ, List, Err, IfOk, IfErr, IfSome, IsSome};
+ghost use Rattle.std.specs.Prelude.{◌≡◌, ◌⊎◌, ◌+◌, ◌*◌, ◌^◌, ◌<◌, ◌≤◌, ℕ, List, Err, IfOk, IfErr, IsSome};
 ghost use Rattle.far_device.specs.Following.{Follows, none_of, other_than};
 ghost use Rattle.far_word.specs.declared.refused.Refused.TheVariants.{Device as Failed, Memory};
 ghost use Rattle.far_word.specs.declared.sizes.TheConstants.{CELLS, LOG_WORDS};
@@ -69,7 +69,7 @@ pub(super) fn walk_log<N: Near + Drop, D: Device + Drop>(
             if left == 0 {
                 return (0, Passage::Stops);
             }
-            if let Err(why) = deal_beside(book, span.p, Some(found.cell), progress) {
+            if let Err(why) = deal_beside(book, span.p, found.cell, progress) {
                 return (left, Passage::Fails(span.p, why));
             }
             left -= 1;
@@ -80,15 +80,15 @@ pub(super) fn walk_log<N: Near + Drop, D: Device + Drop>(
     (left, Passage::On)
 }
 
-// Deals with an object, whose cell may be known, and counts it, unless its copy is offered. At a refusal it lies as before.
+// Deals with an object by its cell, and counts it, unless its copy is offered. At a refusal it lies as before.
 fn deal_beside<N: Near + Drop, D: Device + Drop>(
     book: &mut Book<N, D>,
     pointer: u16,
-    cell: Option<u64>,
+    cell: u64,
     progress: &mut Progress,
 ) -> Result<(), Refused>
     requires pointer { pointer < CELLS * (N.view book.old.near).mutators }
-    requires cell { IfSome cell (λ word. word ≡ (N.view book.old.near).cell pointer) }
+    requires cell { cell ≡ (N.view book.old.near).cell pointer }
     requires clear { IsClearNear (N.view book.old.near) pointer }
     requires room { objects_in (tally_of progress.old) + 1 < 2 ^ 64 }
     ensures came { Came N.makes book.old.near book.new.near }
@@ -112,14 +112,15 @@ fn deal_beside<N: Near + Drop, D: Device + Drop>(
     }
 }
 
-// The copy of a hot object is offered, if a job is empty and there is room: `None`. Any other leaves its log, as its cell says. At a refusal it lies as before.
+// The copy of an object that its cell says is hot is offered, if a job is empty and there is room: `None`. Any other leaves its log, as its cell says. At a refusal
+// it lies as before.
 fn offer_or_leave<N: Near + Drop, D: Device + Drop>(
     book: &mut Book<N, D>,
     pointer: u16,
-    cell: Option<u64>,
+    cell: u64,
 ) -> Result<Option<Fate>, Refused>
     requires pointer { pointer < CELLS * (N.view book.old.near).mutators }
-    requires cell { IfSome cell (λ word. word ≡ (N.view book.old.near).cell pointer) }
+    requires cell { cell ≡ (N.view book.old.near).cell pointer }
     requires clear { IsClearNear (N.view book.old.near) pointer }
     ensures came { Came N.makes book.old.near book.new.near }
     ensures dealt { IfOk result (λ fate. GoesBeside D D.writes D.lets_go (N.view book.old.near) book.old.order (N.view book.new.near) book.new.order pointer fate book.old.device book.new.device) }
@@ -130,18 +131,10 @@ fn offer_or_leave<N: Near + Drop, D: Device + Drop>(
     ensures why { IfErr result (λ why. (why ≡ Memory) ⊎ (why ≡ Failed)) }
 {
     book.keeps_law();
-    let found = book.cell_of(pointer, cell);
-    match warmth_in(found) {
-        Warmth::Cold => {
-            book.keeps_law();
-            known(send_far(book, pointer, Some(found)))
-        }
-        Warmth::Dropped => {
-            book.keeps_law();
-            known(send_off(book, pointer, Some(found)))
-        }
+    match warmth_in(cell) {
+        Warmth::Cold => known(send_far(book, pointer, Some(cell))),
+        Warmth::Dropped => known(send_off(book, pointer, Some(cell))),
         Warmth::Hot => {
-            book.keeps_law();
             if book.offer(pointer) {
                 book.keeps_law();
                 return Ok(None);

@@ -1,5 +1,6 @@
-use Rattle.std.proofs.Common.{◌+◌, ◌-◌, ◌*◌, ◌/◌, ◌≡◌, ◌∙◌, ℕ, arith, refl, subst}
+use Rattle.std.proofs.Common.{◌+◌, ◌-◌, ◌*◌, ◌/◌, ◌≡◌, ◌≤◌, ◌∙◌, ℕ, arith, drop, refl, subst}
 use Rattle.far_hand.specs.Ranges.{HasRead}
+use Rattle.far_hand.proofs.ByteRows.{drop_further}
 use Rattle.far_hand.proofs.Ranges.{has_none}
 use Rattle.far_table.specs.BookRows.{part_makes, part_view}
 use Rattle.far_table.proofs.BookRows.{leads_none, leads_then, part_on, within_on}
@@ -11,6 +12,7 @@ loop-i-init g c =
     record {
       words = λ logs mutators epoch ok. has_none ⊥ part_view (part_makes here logs mutators epoch) c.args.log c.args.at c.args.seat.now c.args.row.now;
       leads = leads_none here c.args.seat.now;
+      behind = refl;
       long = refl;
     }
 
@@ -56,10 +58,13 @@ loop-i-preserved g c =
     let u = c.get_some.new.seat in
     let h = c.loop-i.invariant in
     let all : 8 * c.loop-i.i + 8 ≡ 8 * (c.loop-i.i + 1) = omega arith in
+    let later : 8 * (8 * c.loop-i.i) ≤ 8 * (8 * c.loop-i.i + 8) = omega arith in
     record {
       words = λ logs mutators epoch ok. subst (λ n. HasRead ⊥ part_view (part_makes here logs mutators epoch) c.args.log c.args.at s u n c.get_some.new.row) all
           (c.get_some.ensures.words logs mutators epoch (h.leads.ok logs mutators epoch ok) s (h.words logs mutators epoch ok));
       leads = leads_then here s t u h.leads c.get_some.ensures.leads;
+      behind = subst (λ n. drop (8 * n) c.get_some.new.row ≡ drop (8 * n) c.args.row.now) all
+          (c.get_some.ensures.behind ∙ drop_further (8 * (8 * c.loop-i.i)) (8 * (8 * c.loop-i.i + 8)) c.loop-i.row c.args.row.now later h.behind);
       long = c.get_some.ensures.length ∙ h.long;
     }
 
@@ -76,3 +81,12 @@ returns-clause-words g c logs mutators epoch ok =
     let before = subst (λ n. HasRead ⊥ part_view (part_makes here logs mutators epoch) c.args.log c.args.at s t n c.loop-i.row) end (h.words logs mutators epoch ok) in
     subst (λ n. HasRead ⊥ part_view (part_makes here logs mutators epoch) c.args.log c.args.at s u n c.get_some-2.new.row) all
     (c.get_some-2.ensures.words logs mutators epoch (h.leads.ok logs mutators epoch ok) s before)
+
+pub returns-clause-behind : goal.returns-clause-behind
+returns-clause-behind g c =
+    let first : ℕ = 8 * (c.args.count / 8) in
+    let end : 8 * c.loop-i.i ≡ first = omega (arith, c.loop-i-test.false, c.loop-i.auto) in
+    let all : first + (c.args.count - first) ≡ c.args.count = omega arith in
+    let later : 8 * (8 * c.loop-i.i) ≤ 8 * (first + (c.args.count - first)) = omega (arith, end) in
+    subst (λ n. drop (8 * n) c.get_some-2.new.row ≡ drop (8 * n) c.args.row.now) all
+    (c.get_some-2.ensures.behind ∙ drop_further (8 * (8 * c.loop-i.i)) (8 * (first + (c.args.count - first))) c.loop-i.row c.args.row.now later c.loop-i.invariant.behind)

@@ -1,5 +1,6 @@
-use Rattle.std.proofs.Common.{◌+◌, ◌≡◌, ◌∙◌, arith, refl, subst}
+use Rattle.std.proofs.Common.{◌+◌, ◌*◌, ◌≡◌, ◌∙◌, arith, drop, refl, subst}
 use Rattle.far_hand.specs.Ranges.{HasRead}
+use Rattle.far_hand.proofs.ByteRows.{behind_more}
 use Rattle.far_hand.proofs.Ranges.{has_more}
 use Rattle.far_table.specs.BookRows.{part_makes, part_view}
 use Rattle.far_table.proofs.BookRows.{leads_none, leads_then, part_on, reads_lead, within_on}
@@ -12,6 +13,7 @@ loop-i-init g c =
     record {
       words = λ logs mutators epoch ok s h. subst (λ n. HasRead ⊥ part_view (part_makes here logs mutators epoch) c.args.log c.args.at s c.args.seat.now n c.args.row.now) first h;
       leads = leads_none here c.args.seat.now;
+      behind = refl;
       long = refl;
     }
 
@@ -42,6 +44,8 @@ loop-i-preserved g c =
           (has_more ⊥ part_view (part_makes here logs mutators epoch) c.args.log c.args.at (c.args.first + c.loop-i.i) c.get_at-word.result x t u c.loop-i.row c.unpack_word.new.bytes
           (h.words logs mutators epoch ok x before) (c.get_at-word.ensures logs mutators epoch (h.leads.ok logs mutators epoch ok)) c.unpack_word.ensures.front);
       leads = leads_then here s t u h.leads (reads_lead here t u (part_on here s t h.leads c.requires.part) c.args.log (c.args.at + (c.args.first + c.loop-i.i)) c.get_at-word.result c.get_at-word.ensures);
+      behind = subst (λ n. drop (8 * n) c.unpack_word.new.bytes ≡ drop (8 * n) c.args.row.now) at
+          (behind_more (c.args.first + c.loop-i.i) c.args.row.now c.loop-i.row c.unpack_word.new.bytes h.behind c.unpack_word.ensures.behind);
       long = c.unpack_word.ensures.length ∙ h.long;
     }
 
@@ -49,3 +53,8 @@ pub returns-clause-words : goal.returns-clause-words
 returns-clause-words g c logs mutators epoch ok x before =
     let all : c.loop-i.i ≡ c.args.count = omega (arith, c.loop-i-test.false, c.loop-i.auto) in
     subst (λ n. HasRead ⊥ part_view (part_makes c.args.shared.now.table_id logs mutators epoch) c.args.log c.args.at x c.loop-i.seat (c.args.first + n) c.loop-i.row) all (c.loop-i.invariant.words logs mutators epoch ok x before)
+
+pub returns-clause-behind : goal.returns-clause-behind
+returns-clause-behind g c =
+    let all : c.loop-i.i ≡ c.args.count = omega (arith, c.loop-i-test.false, c.loop-i.auto) in
+    subst (λ n. drop (8 * (c.args.first + n)) c.loop-i.row ≡ drop (8 * (c.args.first + n)) c.args.row.now) all c.loop-i.invariant.behind

@@ -13,9 +13,9 @@ use Rattle.far_book.specs.book.BookOf.{BookOf}
 use Rattle.far_hand.specs.Quiet.{IsQuietNear}
 use Rattle.far_book.specs.book.Dealing as dealing
 use Rattle.far_book.specs.book.Effects.{order_after}
-use Rattle.far_book.specs.book.Ledger.{Fills, Loses, MayFill, filled_of}
+use Rattle.far_book.specs.book.Ledger.{TakesAgain, Loses, MayTakeAgain, filled_of}
 use Rattle.far_book.specs.book.Own.{own_part}
-use Rattle.far_book.proofs.region.Carrying.{LiesIn, carried_by, drop_keeps, may_copy, may_fill, may_lose, order_carried}
+use Rattle.far_book.proofs.region.Carrying.{LiesIn, carried_by, drop_keeps, may_copy, may_take_again, may_lose, order_carried}
 use Rattle.far_book.proofs.region.Moved.{evac_of, goal_there, quiet_here}
 
 -- ---- once the book was opened
@@ -82,13 +82,13 @@ lose-requires g c =
 pub take_again-requires : goal.take_again-requires
 take_again-requires g c =
     let h = goal.at.take_again-requires g c in
-    subst (λ n. MayFill c.lose.new.self n c.in-Some.to) (sym c.size_of-size.ensures) (may_fill (lies g h.After-room) c.in-Some.to (told g h.After-room ∙ c.in-Some.is) c.lose.new.self (lost g h.After-lose))
+    subst (λ n. MayTakeAgain c.lose.new.self n c.in-Some.to) (sym c.size_of-size.ensures) (may_take_again (lies g h.After-room) c.in-Some.to (told g h.After-room ∙ c.in-Some.is) c.lose.new.self (lost g h.After-lose))
 
 pub invariant_of-self-2 : goal.invariant_of-self-2
 invariant_of-self-2 g c =
     let h = goal.at.invariant_of-self-2 g c in (
       carried_by (lies g h.After-room) (g.N.Near.view c.move_object.new.near) c.in-Some.to (c.move_object.ensures.moved c.if-not-move_object.false) (told g h.After-room ∙ c.in-Some.is) (wanted g h.After-room)
-          c.lose.new.self (lost g h.After-lose) c.take_again.new.self (subst (λ n. Fills c.lose.new.self c.take_again.new.self n c.in-Some.to) c.size_of-size.ensures c.take_again.ensures),
+          c.lose.new.self (lost g h.After-lose) c.take_again.new.self (subst (λ n. TakesAgain c.lose.new.self c.take_again.new.self n c.in-Some.to) c.size_of-size.ensures c.take_again.ensures),
       c.self.invariant.1,
     )
 
@@ -99,5 +99,5 @@ pub returns-clause-order : goal.returns-clause-order
 returns-clause-order g c =
     let h = goal.at.returns-clause-order g c in
     order_carried (lies g h.After-room) c.in-Some.to (told g h.After-room ∙ c.in-Some.is) c.lose.new.self (lost g h.After-lose) c.take_again.new.self
-    (subst (λ n. Fills c.lose.new.self c.take_again.new.self n c.in-Some.to) c.size_of-size.ensures c.take_again.ensures)
+    (subst (λ n. TakesAgain c.lose.new.self c.take_again.new.self n c.in-Some.to) c.size_of-size.ensures c.take_again.ensures)
     ∙ ap (λ (b : BookOf g.row.N.Denot g.row.D.Denot). order_after (g.N.Near.view b.near) b.order c.in-Some.to) c.self.view_is

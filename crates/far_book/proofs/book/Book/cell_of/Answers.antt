@@ -27,3 +27,9 @@ returns-in-Some-clause-exact g c still = given g (goal.at.returns-in-Some-clause
 pub returns-in-None-clause-now : goal.returns-in-None-clause-now
 returns-in-None-clause-now g c =
     sym (ap (λ (x : State). x.cell c.args.pointer) c.see.ensures.kept ∙ put_same (g.N.Near.view c.args.self.now.near).cell c.args.pointer c.see.result c.args.pointer refl)
+
+pub returns-in-Some-clause-unseen : goal.returns-in-Some-clause-unseen
+returns-in-Some-clause-unseen g c = subst (λ o. IfSome o (λ (w : ℕ). (c.in-Some.word ≡ w) × (c.args.self.now ≡ c.args.self.now))) (sym c.in-Some.is) (refl, refl)
+
+pub returns-in-None-clause-unseen : goal.returns-in-None-clause-unseen
+returns-in-None-clause-unseen g c = subst (λ o. IfSome o (λ (w : ℕ). (c.see.result ≡ w) × (c.see.new.self ≡ c.args.self.now))) (sym c.in-None.is) tt

@@ -1,9 +1,13 @@
 use Rattle.far_book.proofs.book.Book.evict_by.Given.{Over}
 use Rattle.far_book.proofs.book.Book.evict_by.Goals.{After-send, In-Some}
 use Rattle.far_book.proofs.book.Book.evict_by.Goals as goal
-use Rattle.std.proofs.Common.{rules, ◌≡◌, ◌+◌, ◌∙◌, ℕ, true, false, ap, sym, subst, arith, refl, inl, inr, Some, ◌<◌}
-use Rattle.std.specs.Prelude.{Ok, Err}
+use Rattle.std.proofs.Common.{rules, ◌≡◌, ◌+◌, ◌∙◌, ℕ, Bool, true, false, ap, sym, subst, arith, refl, inl, inr, Some, ◌<◌}
+use Rattle.std.specs.Prelude.{Result, Ok, Err, is_ok, not}
+use Rattle.std.proofs.lemmas.Bool.{false_from_ne_true, false≢true}
+use Rattle.far_device.specs.Following.{Follows, other_than}
+use Rattle.far_device.proofs.Following.{follows_on}
 use Rattle.far_word.specs.declared.pointer.PtrWord.TheVariants.{Near, Far}
+use Rattle.far_word.specs.declared.refused.Refused.{Refused}
 use Rattle.far_word.specs.Bytes.{bytes_of}
 use Rattle.far_word.specs.Pointer.{IsPtr, read_of}
 use Rattle.far_word.specs.Sizes.{words_for}
@@ -21,12 +25,12 @@ use Rattle.far_book.specs.book.Dealing.{Leaves, LeavesSpans}
 use Rattle.far_book.specs.book.Effects.{evicted, retired}
 use Rattle.far_book.specs.book.Renaming.{seen}
 use Rattle.far_book.proofs.region.Calls.{put_put}
+use Rattle.far_book.proofs.region.Dirt.{up_by}
 use Rattle.far_book.proofs.region.Dropping.{retired_by}
 use Rattle.far_book.specs.book.Evicting.{IsQuietIn}
 use Rattle.far_book.proofs.region.Evicted.{goes_far, gone_keeps, has_bytes, is_gone, keeps_read, quiet_known, quiet_read, quiet_seen, read_is, was_alive}
 use Rattle.far_book.proofs.region.Renamings.{same_seen}
 use Rattle.far_book.proofs.region.RenamingsNear.{stopped_by}
-use Rattle.std.proofs.lemmas.Bool.{false≢true}
 
 -- no word is learned or forgotten
 leaves_all : (t : State) → Leaves t t
@@ -71,136 +75,266 @@ own g c =
 far_layout : (g : Over) (c : In-Some g) → IsPtr (Far c.in-Near.len c.in-Near.ds no_marks)
 far_layout g c = let says = read_says c.cell_of-found.result (Near c.in-Near.len c.in-Near.ds c.in-Near.place c.in-Near.marks) (omega arith) (near g c) in (says.0.0, says.0.1, says.0.2, refl, refl)
 
--- ---- it went without a write
-pub returns-in_default-leave_clean-clause-far : goal.returns-in_default-leave_clean-clause-far
-returns-in_default-leave_clean-clause-far g c _ =
-    let x = c.in-Near in
-    let near : read_of c.cell_of-found.result ≡ Some (Near x.len x.ds x.place x.marks) = search rules in
-    let says = read_says c.cell_of-found.result (Near x.len x.ds x.place x.marks) (omega arith) near in
-    let same = c.cell_of-found.ensures.kept in
-    let left = c.in_default-leave_clean.ensures in
-    let t = g.N.Near.view c.cell_of-found.new.self.near in
-    goes_far (g.N.Near.view c.args.self.now.near) t t c.args.pointer c.cell_of-found.result same (leaves_all t)
-    (g.N.Near.view c.leave_clean.new.self.near) x.len x.ds x.place x.marks c.cell_of-found.ensures.found near c.if-marks.false c.requires.evac (says.0.0, says.0.1, says.0.2, refl, refl) (left.left refl) (left.far refl).1
-    (λ i lt known. subst IsKnown (sym (ap (λ (y : State). y.word (addr x.place + 1 + i)) same)) known)
+-- over a hand that is still the word is the cell's
+won : (g : Over) (c : In-Some g) → g.N.Near.still → c.in-Some.word ≡ (g.N.Near.view c.args.self.now.near).cell c.args.pointer
+won g c still = c.in-Some.ensures.won still ∙ c.cell_of-found.ensures.exact still
 
-pub returns-in_default-leave_clean-clause-came : goal.returns-in_default-leave_clean-clause-came
-returns-in_default-leave_clean-clause-came g c = then_came c.cell_of-found.ensures.came (came_only _ c.leave_clean.ensures.names)
+-- ---- one answer isn't another
+which : Result Bool Refused → Bool
+which (Ok far) = far
+which (Err why) = false
 
--- ---- its owner was found to have dropped it
-pub returns-then-marks-clause-gone : goal.returns-then-marks-clause-gone
-returns-then-marks-clause-gone g c _ =
-    let s = g.N.Near.view c.args.self.now.near in
-    let t = g.N.Near.view c.cell_of-found.new.self.near in
-    let dropped : is_dropped (read_of c.cell_of-found.result) ≡ true = search rules in
-    retired_by g.N.Near.still s t (g.N.Near.view c.retire.new.self.near) c.args.pointer c.cell_of-found.result c.cell_of-found.ensures.found dropped
-    (spans_seen s t c.args.pointer c.cell_of-found.result c.cell_of-found.ensures.kept)
-    c.retire.ensures.kept c.retire.ensures.forgot
-    (λ still. ap (λ v. is_dropped (read_of v)) (sym (c.cell_of-found.ensures.exact still)) ∙ dropped)
-    (λ still. c.retire.ensures.exact still ∙ ap (λ (x : State). retired x c.args.pointer) (c.cell_of-found.ensures.set still))
+not_false : (r : Result Bool Refused) → which r ≡ true → r ≡ Ok false → ⊥
+not_false r is e = false≢true (sym (ap which e) ∙ is)
 
-pub returns-then-marks-clause-came : goal.returns-then-marks-clause-came
-returns-then-marks-clause-came g c = then_came c.cell_of-found.ensures.came c.retire.ensures.came
+not_true : (r : Result Bool Refused) → which r ≡ false → r ≡ Ok true → ⊥
+not_true r is e = false≢true (sym is ∙ ap which e)
 
-pub returns-then-marks-clause-called : goal.returns-then-marks-clause-called
-returns-then-marks-clause-called g c = inl (subst (λ (d : g.row.D.Denot). g.D.Device.lets_go d c.args.pointer c.retire.new.self.device) c.cell_of-found.ensures.device c.retire.ensures.called)
-
-pub returns-then-marks-clause-ran : goal.returns-then-marks-clause-ran
-returns-then-marks-clause-ran g c still =
-    let dropped : is_dropped (read_of c.cell_of-found.result) ≡ true = search rules in
-    record {
-      pointer = c.requires.pointer;
-      dropped = ap (λ v. is_dropped (read_of v)) (sym (c.cell_of-found.ensures.exact still)) ∙ dropped;
-      after = c.retire.ensures.exact still ∙ ap (λ (x : State). retired x c.args.pointer) (c.cell_of-found.ensures.set still);
-    }
-
--- ---- the same once it was to be named
-pub returns-then-is_dropped-clause-gone : goal.returns-then-is_dropped-clause-gone
-returns-then-is_dropped-clause-gone g c _ =
-    let s = g.N.Near.view c.args.self.now.near in
-    let t = g.N.Near.view c.leave_clean.new.self.near in
-    let some = (goal.at.returns-then-is_dropped-clause-gone g c).In-Some in
-    let dropped = sym c.is_dropped.ensures.value ∙ c.if-is_dropped.true in
-    retired_by g.N.Near.still s t (g.N.Near.view c.retire-then-is_dropped.new.self.near) c.args.pointer c.in-Some.word (finds g some) dropped
-    (spans_seen s t c.args.pointer c.in-Some.word (seen_is g some))
-    c.retire-then-is_dropped.ensures.kept c.retire-then-is_dropped.ensures.forgot
-    (λ still. ap (λ v. is_dropped (read_of v)) (sym (c.in-Some.ensures.won still ∙ c.cell_of-found.ensures.exact still)) ∙ dropped)
-    (λ still. c.retire-then-is_dropped.ensures.exact still
-    ∙ ap (λ (x : State). retired x c.args.pointer) (seen_is g some ∙ same_seen s c.args.pointer c.in-Some.word 0 (c.in-Some.ensures.won still ∙ c.cell_of-found.ensures.exact still)))
-
-pub returns-then-is_dropped-clause-came : goal.returns-then-is_dropped-clause-came
-returns-then-is_dropped-clause-came g c = then_came (then_came c.cell_of-found.ensures.came (came_only _ c.leave_clean.ensures.names)) c.retire-then-is_dropped.ensures.came
+not_done : (r : Result Bool Refused) (far : Bool) → is_ok r ≡ false → r ≡ Ok far → ⊥
+not_done r far is e = false≢true (sym is ∙ ap is_ok e)
 
 -- ---- its bytes are sent
 pub send-requires-clause-near : goal.send-requires-clause-near
 send-requires-clause-near g c = quiet g (goal.at.send-requires-clause-near g c).In-Some
-
-pub returns-in-Err-clause-came : goal.returns-in-Err-clause-came
-returns-in-Err-clause-came g c = then_came (then_came c.cell_of-found.ensures.came (came_only _ c.leave_clean.ensures.names)) (came_only _ c.send.ensures.reads)
 
 pub name_far-requires-clause-near : goal.name_far-requires-clause-near
 name_far-requires-clause-near g c =
     quiet_read (g.N.Near.view c.leave_clean.new.self.near) (g.N.Near.view c.send.new.self.near) c.args.pointer c.in-Near.len c.in-Near.ds c.in-Near.place c.send.ensures.kept
     (quiet g (goal.at.name_far-requires-clause-near g c).In-Some)
 
-pub returns-in-Ok-clause-far : goal.returns-in-Ok-clause-far
-returns-in-Ok-clause-far g c _ =
-    let x = c.in-Near in
-    let some = (goal.at.returns-in-Ok-clause-far g c).In-Some in
-    let n = now g some in
-    let alive : is_dropped (read_of c.in-Some.word) ≡ false = search rules in
-    goes_far (g.N.Near.view c.args.self.now.near) (g.N.Near.view c.leave_clean.new.self.near) (g.N.Near.view c.send.new.self.near) c.args.pointer c.in-Some.word (seen_is g some) c.send.ensures.kept
-    (g.N.Near.view c.name_far.new.self.near) x.len x.ds x.place n.marks (finds g some) n.near (sym (ap is_dropped n.near) ∙ alive) c.requires.evac (far_layout g some) c.in-Ok.ensures.far c.in-Ok.ensures.renamed
-    (λ i lt _. (c.send.ensures.words i lt).0)
-
-pub returns-in-Ok-clause-came : goal.returns-in-Ok-clause-came
-returns-in-Ok-clause-came g c = then_came (then_came (then_came c.cell_of-found.ensures.came (came_only _ c.leave_clean.ensures.names)) (came_only _ c.send.ensures.reads)) (came_only _ c.name_far.ensures.names)
-
-pub returns-in-Err-name_far-clause-came : goal.returns-in-Err-name_far-clause-came
-returns-in-Err-name_far-clause-came g c =
-    then_came (then_came (then_came (then_came c.cell_of-found.ensures.came (came_only _ c.leave_clean.ensures.names)) (came_only _ c.send.ensures.reads)) (came_only _ c.name_far.ensures.names)) c.retire-in-Err-name_far.ensures.came
-
--- ---- what a refusal leaves, and a drop that was found last
-pub returns-in-Err-clause-kept : goal.returns-in-Err-clause-kept
-returns-in-Err-clause-kept g c =
+-- ---- it went without a write
+pub returns-in_default-leave_clean : goal.returns-in_default-leave_clean
+returns-in_default-leave_clean g c =
     let s = g.N.Near.view c.args.self.now.near in
-    let some = (goal.at.returns-in-Err-clause-kept g c).In-Some in
-    let alive : is_dropped (read_of c.in-Some.word) ≡ false = search rules in
+    let t = g.N.Near.view c.cell_of-found.new.self.near in
+    let p = c.args.pointer in
+    let x = c.in-Near in
+    let found = c.cell_of-found.ensures in
+    let left = c.in_default-leave_clean.ensures in
+    let near : read_of c.cell_of-found.result ≡ Some (Near x.len x.ds x.place x.marks) = search rules in
+    let says = read_says c.cell_of-found.result (Near x.len x.ds x.place x.marks) (omega arith) near in
+    let far = goes_far s t t p c.cell_of-found.result found.kept (leaves_all t) (g.N.Near.view c.leave_clean.new.self.near) x.len x.ds x.place x.marks found.found near c.if-marks.false c.requires.evac
+    (says.0.0, says.0.1, says.0.2, refl, refl) (left.left refl) (left.far refl).1 (λ i lt known. subst IsKnown (sym (ap (λ (y : State). y.word (addr x.place + 1 + i)) found.kept)) known) in
+    let away : g.N.Near.still → g.N.Near.view c.leave_clean.new.self.near ≡ evicted s p = λ still. left.away still refl ∙ ap (λ (y : State). evicted y p) (found.set still) in
+    let same : c.leave_clean.new.self.device ≡ c.args.self.now.device = c.leave_clean.ensures.device ∙ found.device in
     record {
-      word = c.in-Some.word;
-      found = finds g some;
-      alive = alive;
-      leads = read_is s (g.N.Near.view c.leave_clean.new.self.near) (g.N.Near.view c.send.new.self.near) c.args.pointer c.in-Some.word (seen_is g some) c.send.ensures.kept;
-      keeps = keeps_read s (g.N.Near.view c.leave_clean.new.self.near) (g.N.Near.view c.send.new.self.near) c.args.pointer c.in-Some.word (seen_is g some) c.send.ensures.kept;
+      came = then_came found.came (came_only _ c.leave_clean.ensures.names);
+      far = λ _. far;
+      away = λ still _. away still;
+      gone = λ e. absurd (not_false (Ok true) refl e);
+      freed = λ e. absurd (not_false (Ok true) refl e);
+      asked = λ e. absurd (false≢true (sym far.alive ∙ e));
+      alive = λ _. sym (ap not far.alive);
+      refused = tt;
+      kept = tt;
+      same = λ _. tt;
+      called = inr (same, false_from_ne_true (is_dirty (read_of (s.cell p))) (λ e. false≢true (sym (left.far refl).0 ∙ up_by (read_of (s.cell p)) (read_of c.cell_of-found.result) found.found.body found.found.dirty e)));
+      unasked = λ _ _ _. same;
+      forgotten = λ _ e. absurd (not_false (Ok true) refl e);
+      follows = search rules;
+      order = c.leave_clean.ensures.order ∙ found.order;
+      ran = λ still. record { pointer = c.requires.pointer; quiet = c.requires.quiet; evac = c.requires.evac; alive = far.alive; after = away still };
     }
 
-pub returns-in-Err-name_far-clause-gone : goal.returns-in-Err-name_far-clause-gone
-returns-in-Err-name_far-clause-gone g c _ =
-    let x = c.in-Err-name_far in
-    let z = c.retire-in-Err-name_far in
-    let some = (goal.at.returns-in-Err-name_far-clause-gone g c).In-Some in
+-- ---- its owner was found to have dropped it
+pub returns-then-marks : goal.returns-then-marks
+returns-then-marks g c =
+    let s = g.N.Near.view c.args.self.now.near in
+    let t = g.N.Near.view c.cell_of-found.new.self.near in
+    let p = c.args.pointer in
+    let found = c.cell_of-found.ensures in
+    let z = c.retire.ensures in
+    let dropped : is_dropped (read_of c.cell_of-found.result) ≡ true = search rules in
+    let known : g.N.Near.still → is_dropped (read_of (s.cell p)) ≡ true = λ still. ap (λ v. is_dropped (read_of v)) (sym (found.exact still)) ∙ dropped in
+    let exact : g.N.Near.still → g.N.Near.view c.retire.new.self.near ≡ retired s p = λ still. z.exact still ∙ ap (λ (x : State). retired x p) (found.set still) in
+    record {
+      came = then_came found.came z.came;
+      far = λ e. absurd (not_true (Ok false) refl e);
+      away = λ _ e. absurd (not_true (Ok false) refl e);
+      gone = λ _. retired_by g.N.Near.still s t (g.N.Near.view c.retire.new.self.near) p c.cell_of-found.result found.found dropped (spans_seen s t p c.cell_of-found.result found.kept) z.kept z.forgot known exact;
+      freed = λ _. record {
+        known = λ a old now. z.forgot.known a now ∙ ap (λ (x : State). x.word a) found.kept;
+        headers = λ a begun. z.forgot.headers a begun ∙ ap (λ (x : State). x.word a) found.kept;
+      };
+      asked = λ _. refl;
+      alive = λ still. sym (ap not (known still));
+      refused = tt;
+      kept = tt;
+      same = λ _. tt;
+      called = inl (subst (λ (d : g.row.D.Denot). g.D.Device.lets_go d p c.retire.new.self.device) found.device z.called);
+      unasked = λ _ e _. absurd (not_true (Ok false) refl e);
+      forgotten = λ forgets _. z.gone forgets;
+      follows = subst (λ (d : g.row.D.Denot). Follows g.D.Device.contents g.D.Device.honest g.D.Device.faults g.D.Device.fails_at_most (other_than p) false d c.retire.new.self.device) found.device z.follows;
+      order = z.order ∙ found.order;
+      ran = λ still. record { pointer = c.requires.pointer; dropped = known still; after = exact still };
+    }
+
+-- ---- the same once it was to be named
+pub returns-then-is_dropped : goal.returns-then-is_dropped
+returns-then-is_dropped g c =
+    let s = g.N.Near.view c.args.self.now.near in
+    let t = g.N.Near.view c.leave_clean.new.self.near in
+    let p = c.args.pointer in
+    let some = (goal.at.returns-then-is_dropped g c).In-Some in
+    let found = c.cell_of-found.ensures in
+    let z = c.retire-then-is_dropped.ensures in
+    let dropped = sym c.is_dropped.ensures.value ∙ c.if-is_dropped.true in
+    let known : g.N.Near.still → is_dropped (read_of (s.cell p)) ≡ true = λ still. ap (λ v. is_dropped (read_of v)) (sym (won g some still)) ∙ dropped in
+    let exact : g.N.Near.still → g.N.Near.view c.retire-then-is_dropped.new.self.near ≡ retired s p =
+    λ still. z.exact still ∙ ap (λ (x : State). retired x p) (seen_is g some ∙ same_seen s p c.in-Some.word 0 (won g some still)) in
+    let same : c.leave_clean.new.self.device ≡ c.args.self.now.device = c.leave_clean.ensures.device ∙ found.device in
+    record {
+      came = then_came (then_came found.came (came_only _ c.leave_clean.ensures.names)) z.came;
+      far = λ e. absurd (not_true (Ok false) refl e);
+      away = λ _ e. absurd (not_true (Ok false) refl e);
+      gone = λ _. retired_by g.N.Near.still s t (g.N.Near.view c.retire-then-is_dropped.new.self.near) p c.in-Some.word (finds g some) dropped (spans_seen s t p c.in-Some.word (seen_is g some)) z.kept z.forgot known exact;
+      freed = λ _. record {
+        known = λ a old now. z.forgot.known a now ∙ ap (λ (x : State). x.word a) (seen_is g some);
+        headers = λ a begun. z.forgot.headers a begun ∙ ap (λ (x : State). x.word a) (seen_is g some);
+      };
+      asked = λ _. refl;
+      alive = λ still. sym (ap not (known still));
+      refused = tt;
+      kept = tt;
+      same = λ _. tt;
+      called = inl (subst (λ (d : g.row.D.Denot). g.D.Device.lets_go d p c.retire-then-is_dropped.new.self.device) same z.called);
+      unasked = λ _ e _. absurd (not_true (Ok false) refl e);
+      forgotten = λ forgets _. z.gone forgets;
+      follows = subst (λ (d : g.row.D.Denot). Follows g.D.Device.contents g.D.Device.honest g.D.Device.faults g.D.Device.fails_at_most (other_than p) false d c.retire-then-is_dropped.new.self.device) same z.follows;
+      order = z.order ∙ c.leave_clean.ensures.order ∙ found.order;
+      ran = λ still. record { pointer = c.requires.pointer; dropped = known still; after = exact still };
+    }
+
+-- ---- what a refusal leaves
+pub returns-in-Err : goal.returns-in-Err
+returns-in-Err g c =
+    let h = goal.at.returns-in-Err g c in
+    let s = g.N.Near.view c.args.self.now.near in
+    let t = g.N.Near.view c.leave_clean.new.self.near in
+    let u = g.N.Near.view c.send.new.self.near in
+    let p = c.args.pointer in
+    let x = c.in-Near in
+    let some = h.In-Some in
+    let n = now g some in
+    let found = c.cell_of-found.ensures in
+    let sent = c.in-Err.ensures in
+    let alive : is_dropped (read_of c.in-Some.word) ≡ false = search rules in
+    let before = was_alive s t u p c.in-Some.word (seen_is g some) c.send.ensures.kept x.len x.ds x.place n.marks (finds g some) n.near (sym (ap is_dropped n.near) ∙ alive) in
+    let back : g.N.Near.still → u ≡ s = λ still. c.send.ensures.exact still ∙ seen_is g some ∙ same_seen s p c.in-Some.word 0 (won g some still) in
+    let same : c.leave_clean.new.self.device ≡ c.args.self.now.device = c.leave_clean.ensures.device ∙ found.device in
+    let bytes = bytes_of (data_at u.word x.place) x.len in
+    record {
+      came = then_came (then_came found.came (came_only _ c.leave_clean.ensures.names)) (came_only _ c.send.ensures.reads);
+      far = λ e. absurd (not_done (Err c.in-Err.why) true refl e);
+      away = λ _ e. absurd (not_done (Err c.in-Err.why) true refl e);
+      gone = λ e. absurd (not_done (Err c.in-Err.why) false refl e);
+      freed = λ e. absurd (not_done (Err c.in-Err.why) false refl e);
+      asked = λ e. absurd (false≢true (sym before ∙ e));
+      alive = λ _. tt;
+      refused = sent.refused;
+      kept = record {
+        word = c.in-Some.word;
+        found = finds g some;
+        alive = alive;
+        leads = read_is s t u p c.in-Some.word (seen_is g some) c.send.ensures.kept;
+        keeps = keeps_read s t u p c.in-Some.word (seen_is g some) c.send.ensures.kept;
+      };
+      same = back;
+      called = (bytes, own g h.After-send, subst (λ (d : g.row.D.Denot). g.D.Device.writes d p bytes (Err (fault_of c.in-Err.why)) c.send.new.self.device) same sent.called);
+      unasked = λ _ e _. absurd (not_done (Err c.in-Err.why) true refl e);
+      forgotten = λ _ e. absurd (not_done (Err c.in-Err.why) false refl e);
+      follows = search rules;
+      order = c.send.ensures.order ∙ c.leave_clean.ensures.order ∙ found.order;
+      ran = back;
+    }
+
+-- ---- it went by a write
+pub returns-in-Ok : goal.returns-in-Ok
+returns-in-Ok g c =
+    let h = goal.at.returns-in-Ok g c in
+    let s = g.N.Near.view c.args.self.now.near in
+    let t = g.N.Near.view c.leave_clean.new.self.near in
+    let u = g.N.Near.view c.send.new.self.near in
+    let v = g.N.Near.view c.name_far.new.self.near in
+    let p = c.args.pointer in
+    let x = c.in-Near in
+    let some = h.In-Some in
+    let n = now g some in
+    let found = c.cell_of-found.ensures in
+    let named = c.in-Ok.ensures in
     let alive : is_dropped (read_of c.in-Some.word) ≡ false = search rules in
     let dirty : is_dirty (read_of c.in-Some.word) ≡ true = elim c.in-Some.ensures.marked [ inl dropped ↦ absurd (false≢true (sym alive ∙ dropped)) | inr dirty ↦ dirty ] in
-    is_gone (g.N.Near.view c.args.self.now.near) (g.N.Near.view c.leave_clean.new.self.near) (g.N.Near.view c.send.new.self.near) c.args.pointer c.in-Some.word (seen_is g some) c.send.ensures.kept
-    _ _ x.field-0 (finds g some) x.ensures.found (stopped_by c.in-Some.word x.field-0 dirty x.ensures.stopped) x.ensures.kept z.ensures.kept z.ensures.forgot
-    g.N.Near.still (λ still. absurd (x.ensures.won still)) (λ still. absurd (x.ensures.won still))
-
-pub returns-in-Err-name_far-clause-called : goal.returns-in-Err-name_far-clause-called
-returns-in-Err-name_far-clause-called g c =
-    let h = goal.at.returns-in-Err-name_far-clause-called g c in
-    let s = g.N.Near.view c.args.self.now.near in
-    let u = g.N.Near.view c.send.new.self.near in
-    let x = c.in-Near in
-    let z = c.retire-in-Err-name_far in
-    let n = now g h.In-Some in
+    let far = goes_far s t u p c.in-Some.word (seen_is g some) c.send.ensures.kept v x.len x.ds x.place n.marks (finds g some) n.near (sym (ap is_dropped n.near) ∙ alive) c.requires.evac (far_layout g some) named.far named.renamed
+    (λ i lt _. (c.send.ensures.words i lt).0) in
+    let away : g.N.Near.still → v ≡ evicted s p =
+    λ still. named.set still ∙ ap (λ (y : State). evicted y p) (c.send.ensures.exact still ∙ seen_is g some ∙ same_seen s p c.in-Some.word 0 (won g some still)) in
     let bytes = bytes_of (data_at u.word x.place) x.len in
+    let asked : g.D.Device.writes c.leave_clean.new.self.device p bytes (Ok tt) c.send.new.self.device = search rules in
+    let written : g.D.Device.writes c.args.self.now.device p bytes (Ok tt) c.send.new.self.device =
+    subst (λ (d : g.row.D.Denot). g.D.Device.writes d p bytes (Ok tt) c.send.new.self.device) (c.leave_clean.ensures.device ∙ found.device) asked in
+    record {
+      came = then_came (then_came (then_came found.came (came_only _ c.leave_clean.ensures.names)) (came_only _ c.send.ensures.reads)) (came_only _ c.name_far.ensures.names);
+      far = λ _. far;
+      away = λ still _. away still;
+      gone = λ e. absurd (not_false (Ok true) refl e);
+      freed = λ e. absurd (not_false (Ok true) refl e);
+      asked = λ e. absurd (false≢true (sym far.alive ∙ e));
+      alive = λ _. sym (ap not far.alive);
+      refused = tt;
+      kept = tt;
+      same = λ _. tt;
+      called = inl (bytes, own g h.After-send, subst (λ (d : g.row.D.Denot). g.D.Device.writes c.args.self.now.device p bytes (Ok tt) d) (sym c.name_far.ensures.device) written);
+      unasked = λ still _ clean. absurd (false≢true (sym clean ∙ (ap (λ w. is_dirty (read_of w)) (sym (won g some still)) ∙ dirty)));
+      forgotten = λ _ e. absurd (not_false (Ok true) refl e);
+      follows = search rules;
+      order = c.name_far.ensures.order ∙ c.send.ensures.order ∙ c.leave_clean.ensures.order ∙ found.order;
+      ran = λ still. record { pointer = c.requires.pointer; quiet = c.requires.quiet; evac = c.requires.evac; alive = far.alive; after = away still };
+    }
+
+-- ---- a drop was found last
+pub returns-in-Err-name_far : goal.returns-in-Err-name_far
+returns-in-Err-name_far g c =
+    let h = goal.at.returns-in-Err-name_far g c in
+    let s = g.N.Near.view c.args.self.now.near in
+    let t = g.N.Near.view c.leave_clean.new.self.near in
+    let u = g.N.Near.view c.send.new.self.near in
+    let p = c.args.pointer in
+    let x = c.in-Near in
+    let y = c.in-Err-name_far in
+    let z = c.retire-in-Err-name_far.ensures in
+    let some = h.In-Some in
+    let n = now g some in
+    let found = c.cell_of-found.ensures in
     let alive : is_dropped (read_of c.in-Some.word) ≡ false = search rules in
-    let asked : g.D.Device.writes c.leave_clean.new.self.device c.args.pointer bytes (Ok tt) c.send.new.self.device = search rules in
-    let written : g.D.Device.writes c.args.self.now.device c.args.pointer bytes (Ok tt) c.send.new.self.device =
-    subst (λ (d : g.row.D.Denot). g.D.Device.writes d c.args.pointer bytes (Ok tt) c.send.new.self.device) (c.leave_clean.ensures.device ∙ c.cell_of-found.ensures.device) asked in
-    inr (
-      c.send.new.self.device,
-      (bytes, own g h.After-send, written),
-      subst (λ (d : g.row.D.Denot). g.D.Device.lets_go d c.args.pointer z.new.self.device) c.name_far.ensures.device z.ensures.called,
-      was_alive s (g.N.Near.view c.leave_clean.new.self.near) u c.args.pointer c.in-Some.word (seen_is g h.In-Some) c.send.ensures.kept x.len x.ds x.place n.marks (finds g h.In-Some) n.near (sym (ap is_dropped n.near) ∙ alive),
-    )
+    let dirty : is_dirty (read_of c.in-Some.word) ≡ true = elim c.in-Some.ensures.marked [ inl dropped ↦ absurd (false≢true (sym alive ∙ dropped)) | inr dirty ↦ dirty ] in
+    let stopped = stopped_by c.in-Some.word y.field-0 dirty y.ensures.stopped in
+    let bytes = bytes_of (data_at u.word x.place) x.len in
+    let asked : g.D.Device.writes c.leave_clean.new.self.device p bytes (Ok tt) c.send.new.self.device = search rules in
+    let written : g.D.Device.writes c.args.self.now.device p bytes (Ok tt) c.send.new.self.device =
+    subst (λ (d : g.row.D.Denot). g.D.Device.writes d p bytes (Ok tt) c.send.new.self.device) (c.leave_clean.ensures.device ∙ found.device) asked in
+    let first : Follows g.D.Device.contents g.D.Device.honest g.D.Device.faults g.D.Device.fails_at_most (other_than p) false c.args.self.now.device c.send.new.self.device = search rules in
+    record {
+      came = then_came (then_came (then_came (then_came found.came (came_only _ c.leave_clean.ensures.names)) (came_only _ c.send.ensures.reads)) (came_only _ c.name_far.ensures.names)) z.came;
+      far = λ e. absurd (not_true (Ok false) refl e);
+      away = λ _ e. absurd (not_true (Ok false) refl e);
+      gone = λ _. is_gone s t u p c.in-Some.word (seen_is g some) c.send.ensures.kept _ _ y.field-0 (finds g some) y.ensures.found stopped y.ensures.kept z.kept z.forgot
+          g.N.Near.still (λ still. absurd (y.ensures.won still)) (λ still. absurd (y.ensures.won still));
+      freed = λ _. gone_keeps s t u p c.in-Some.word (seen_is g some) c.send.ensures.kept _ _ y.field-0 (finds g some) y.ensures.found stopped y.ensures.kept z.kept z.forgot;
+      asked = λ _. refl;
+      alive = λ still. absurd (y.ensures.won still);
+      refused = tt;
+      kept = tt;
+      same = λ _. tt;
+      called = inr (
+        c.send.new.self.device,
+        (bytes, own g h.After-send, written),
+        subst (λ (d : g.row.D.Denot). g.D.Device.lets_go d p c.retire-in-Err-name_far.new.self.device) c.name_far.ensures.device z.called,
+        was_alive s t u p c.in-Some.word (seen_is g some) c.send.ensures.kept x.len x.ds x.place n.marks (finds g some) n.near (sym (ap is_dropped n.near) ∙ alive),
+      );
+      unasked = λ _ e _. absurd (not_true (Ok false) refl e);
+      forgotten = λ forgets _. z.gone forgets;
+      follows = follows_on g.D.Device.contents g.D.Device.honest g.D.Device.faults g.D.Device.fails_at_most (other_than p) false c.args.self.now.device c.send.new.self.device c.retire-in-Err-name_far.new.self.device first
+          (subst (λ (d : g.row.D.Denot). Follows g.D.Device.contents g.D.Device.honest g.D.Device.faults g.D.Device.fails_at_most (other_than p) false d c.retire-in-Err-name_far.new.self.device) c.name_far.ensures.device z.follows);
+      order = z.order ∙ c.name_far.ensures.order ∙ c.send.ensures.order ∙ c.leave_clean.ensures.order ∙ found.order;
+      ran = λ still. absurd (y.ensures.won still);
+    }

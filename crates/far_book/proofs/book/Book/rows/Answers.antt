@@ -1,38 +1,21 @@
 use Rattle.far_book.proofs.book.Book.rows.Goals as goal
-use Rattle.std.proofs.Common.{◌∙◌, ap, sym, arith, length, ◌++◌, ◌∷◌, []}
-use Rattle.std.specs.Prelude.{slice_index_or}
-use Rattle.far_book.specs.book.Own.{own_part}
-use Rattle.far_book.specs.book.Rows.{row_of}
-use Rattle.far_book.proofs.region.Calls.{row_own}
-use Rattle.far_book.proofs.region.Gone.{rows_few, rows_gone, rows_kept}
-use Rattle.far_book.proofs.region.NotesKept.{listed_inside}
+use Rattle.std.proofs.Common.{◌∙◌, arith, take_all}
+use Rattle.far_book.proofs.region.Gone.{taken_more}
 
-pub row-requires : goal.row-requires
-row-requires g c =
-    let s = g.N.Near.view c.self.inside.near in
-    let notes = c.self.invariant.0.notes in
-    let stays = sym c.holds.ensures ∙ c.if-holds.false in
-    record { known = (own_part s, (notes, listed_inside (own_part s) c.self.inside.ledger notes c.parts.result.1 c.parts.result.0.now c.parts.ensures.sealed c.loop-log.log-index c.loop-log-test.true stays)) }
-
-pub loop-log-preserved-then-holds : goal.loop-log-preserved-then-holds
-loop-log-preserved-then-holds g c =
-    let away = sym c.holds.ensures ∙ c.if-holds.true in
+pub loop-row-preserved : goal.loop-row-preserved
+loop-row-preserved g c =
+    let h = c.loop-row.invariant in
     record {
-      rows = c.loop-log.invariant.rows ∙ rows_gone (g.N.Near.view c.self.inside.near) c.parts.result.1 c.parts.result.0.now c.loop-log.log-index c.loop-log-test.true away;
-      count = omega (arith, c.loop-log.invariant.count);
-      room = c.loop-log.invariant.room;
+      rows = taken_more c.as_slice-found.result.now c.loop-row.row-index _ c.loop-row.all.items c.push_reserved.new.self.items c.loop-row-test.true h.rows c.push_reserved.ensures.items;
+      count = omega (arith, c.push_reserved.ensures.len, h.count);
+      few = omega (arith, c.loop-row-test.true);
+      room = c.push_reserved.ensures.capacity ∙ h.room;
     }
 
-pub loop-log-preserved : goal.loop-log-preserved
-loop-log-preserved g c =
-    let s = g.N.Near.view c.self.inside.near in
-    let notes = c.self.invariant.0.notes in
-    let i = c.loop-log.log-index in
-    let stays = sym c.holds.ensures ∙ c.if-holds.false in
-    let inside = listed_inside (own_part s) c.self.inside.ledger notes c.parts.result.1 c.parts.result.0.now c.parts.ensures.sealed i c.loop-log-test.true stays in
-    let row = c.row.ensures (own_part s) (notes, inside) ∙ row_own s notes.law (slice_index_or c.parts.result.0.now i 0) in
-    record {
-      rows = c.push_reserved.ensures.items ∙ ap (λ xs. xs ++ c.row.result ∷ []) c.loop-log.invariant.rows ∙ rows_kept s c.parts.result.1 c.parts.result.0.now i c.loop-log-test.true stays c.row.result row;
-      count = omega (arith, c.push_reserved.ensures.len, c.loop-log.invariant.count);
-      room = omega (arith, c.push_reserved.ensures.capacity, c.loop-log.invariant.room);
-    }
+pub returns-clause-rows : goal.returns-clause-rows
+returns-clause-rows g c =
+    let h = c.loop-row.invariant in
+    h.rows ∙ take_all c.loop-row.row-index c.as_slice-found.result.now (omega (arith, c.loop-row-test.false)) ∙ c.as_slice-found.ensures ∙ c.log_rows-rows.ensures
+
+pub returns-clause-room : goal.returns-clause-room
+returns-clause-room g c = let h = c.loop-row.invariant in omega (arith, h.count, h.few, h.room, c.loop-row-test.false)

@@ -1,11 +1,10 @@
-use Rattle.std.proofs.Common.{◌≡◌, ◌≤◌, map, take, length, vec_len, vec_capacity}
-use Rattle.far_book.specs.book.Order.{still_in}
-use Rattle.far_book.specs.book.Rows.{row_of}
+use Rattle.std.proofs.Common.{◌≡◌, ◌≤◌, take, length, vec_len, vec_capacity}
 use Rattle.far_book.proofs.book.Book.rows.Given as goal
 
-abbrev pub invariant-loop-log : goal.invariant-loop-log
-invariant-loop-log g l = record {
-  rows : l.rows.items ≡ map (row_of (g.N.Near.view l.self-inside.near)) (still_in l.gone (take l.log-index l.listed));
-  count : vec_len l.rows ≤ l.log-index;
-  room : length l.listed ≤ vec_capacity l.rows;
+abbrev pub invariant-loop-row : goal.invariant-loop-row
+invariant-loop-row g l = record {
+  rows : l.all.items ≡ take l.row-index l.found;
+  count : vec_len l.all ≡ l.row-index;
+  few : l.row-index ≤ length l.found;
+  room : vec_capacity l.all ≡ length l.found;
 }

@@ -1,11 +1,13 @@
-use Rattle.std.proofs.Common.{◌≡◌, ◌∙◌, arith, refl, subst}
+use Rattle.std.proofs.Common.{◌≡◌, ◌∙◌, ◌*◌, arith, drop, refl, subst}
 use Rattle.far_hand.specs.Ranges.{HasRead}
+use Rattle.far_hand.proofs.ByteRows.{behind_more}
 use Rattle.far_hand.proofs.Ranges.{has_more, has_none, may_get, reads_rest}
 use Rattle.far_hand.proofs.hand.Near.get_words.Goals as goal
 
 pub loop-i-init : goal.loop-i-init
 loop-i-init g c = record {
   words = has_none g.Self.Near.still g.Self.Near.view g.Self.Near.makes c.args.log c.args.at c.args.self.now c.args.row.now;
+  behind = refl;
   long = refl;
 }
 
@@ -28,6 +30,7 @@ loop-i-preserved g c =
         same = e.set;
         made = e.made;
       } c.unpack_word.ensures.front;
+      behind = behind_more c.loop-i.i c.args.row.now c.loop-i.row c.unpack_word.new.bytes c.loop-i.invariant.behind c.unpack_word.ensures.behind;
       long = c.unpack_word.ensures.length ∙ c.loop-i.invariant.long;
     }
 
@@ -35,3 +38,8 @@ pub returns-clause-words : goal.returns-clause-words
 returns-clause-words g c =
     let all : c.loop-i.i ≡ c.args.count = omega (arith, c.loop-i-test.false, c.loop-i.auto) in
     subst (λ n. HasRead g.Self.Near.still g.Self.Near.view g.Self.Near.makes c.args.log c.args.at c.args.self.now c.loop-i.self n c.loop-i.row) all c.loop-i.invariant.words
+
+pub returns-clause-behind : goal.returns-clause-behind
+returns-clause-behind g c =
+    let all : c.loop-i.i ≡ c.args.count = omega (arith, c.loop-i-test.false, c.loop-i.auto) in
+    subst (λ n. drop (8 * n) c.loop-i.row ≡ drop (8 * n) c.args.row.now) all c.loop-i.invariant.behind

@@ -1,4 +1,5 @@
 use Rattle.std.proofs.Common.{◌≡◌, true, ap, subst}
+use Rattle.far_core.proofs.JobLaws.{jobs_stand}
 use Rattle.far_table.specs.declared.book.BookSeat.{BookSeat}
 use Rattle.far_table.specs.BookSeats.{seat_lawful, seat_shown, seat_there, seat_view}
 use Rattle.far_table.proofs.ViewedLogs.{none_is_given_out}
@@ -15,6 +16,9 @@ returns-clause-whole g c = λ x may. is_whole x (seat_lawful c.args.self.now.boo
 
 pub returns-clause-kept : goal.returns-clause-kept
 returns-clause-kept g c = λ x may. none_is_given_out x (seat_lawful c.args.self.now.book.near x may)
+
+pub returns-clause-jobs : goal.returns-clause-jobs
+returns-clause-jobs g c = λ x may. jobs_stand x (seat_lawful c.args.self.now.book.near x may)
 
 pub returns-clause-far : goal.returns-clause-far
 returns-clause-far g c =

@@ -1,6 +1,10 @@
-use Rattle.std.proofs.Common.{refl, ap, arith}
+use Rattle.std.proofs.Common.{refl, ap, subst, arith}
 use Rattle.far_core.specs.declared.event.Event.TheVariants.{PeekJob}
-use Rattle.far_table.proofs.CopySeatLemmas.{copier_stays, peeked_reads, seat_same}
+use Rattle.far_core.specs.declared.event.Reply.TheVariants.{Word}
+use Rattle.far_table.specs.CopierViews.{peeked_view}
+use Rattle.far_table.specs.Seats.{CopierSeated}
+use Rattle.far_table.specs.Tells.{CopierMade}
+use Rattle.far_table.proofs.CopySeatLemmas.{copier_stays, peeked_reads, view_after}
 use Rattle.far_table.proofs.CopySteps.{peeks}
 use Rattle.far_table.proofs.SeatLemmas.{job_inside}
 use Rattle.far_table.proofs.copy_seat.CopySeat.peek.Goals as goal
@@ -14,11 +18,11 @@ load-requires g c =
 pub invariant_of-self : goal.invariant_of-self
 invariant_of-self g c = let h = c.load.ensures in copier_stays _ _ _ _ _ _ _ _ _ _ c.self.invariant h.0 (h.2 c.args.number refl)
 
-pub returns-clause-same : goal.returns-clause-same
-returns-clause-same g c = (seat_same (λ v. PeekJob v.number c.args.number) c.self.view_is c.load.ensures.0 (c.load.ensures.2 c.args.number refl)).0
+pub returns-clause-seen : goal.returns-clause-seen
+returns-clause-seen g c = view_after _ _ _ _ _ (peeked_view c.args.number c.load.result) (ap (λ (z : CopierSeated). z.view) c.self.view_is) (c.load.ensures.2 c.args.number refl)
 
 pub returns-clause-event : goal.returns-clause-event
-returns-clause-event g c = (seat_same (λ v. PeekJob v.number c.args.number) c.self.view_is c.load.ensures.0 (c.load.ensures.2 c.args.number refl)).1
+returns-clause-event g c = subst (λ (z : CopierSeated). CopierMade (PeekJob z.view.number c.args.number) z.view (Word c.load.result) (peeked_view c.args.number c.load.result z.view)) c.self.view_is (c.load.ensures.2 c.args.number refl).made
 
 pub returns-clause-reads : goal.returns-clause-reads
 returns-clause-reads g c = peeked_reads c.args.number _ _ _ (c.load.ensures.2 c.args.number refl).made

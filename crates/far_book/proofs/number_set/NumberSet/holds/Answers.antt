@@ -1,8 +1,0 @@
-use Rattle.far_book.proofs.number_set.NumberSet.holds.Goals as goal
-use Rattle.std.proofs.Common.{◌∙◌, arith, sym}
-use Rattle.std.proofs.lemmas.Bool.{le-ltb}
-use Rattle.far_book.proofs.region.NumberSets.{has_beyond}
-
-pub returns-else-k-lt64 : goal.returns-else-k-lt64
-returns-else-k-lt64 c = let over = c.if-k-lt64.false in
-    le-ltb c.args.k 64 (omega (arith, over)) ∙ sym (has_beyond c.args.self.word c.args.k (omega arith) (omega (arith, over)))
