@@ -7,7 +7,7 @@ use far_word::{Job, Mark, Place};
 /// Owners are numbered below the shape's mutators, pointers below 256 times that (pointer `p` belongs to owner
 /// `p / 256`), logs below the shape's logs, the words of a log below 512. Any other number is out of range, and the
 /// event is refused.
-#[derive(Clone, Copy, Debug, PartialEq, Eq)]
+#[derive(Clone, Copy)]
 pub enum Event {
     /// A closed owner remembers the epoch. Answers `Epoch`.
     ReadEpoch {

@@ -17,7 +17,7 @@ use far_word::JOBS;
 
 /// A core as the hand of a book beside which owners and copiers are at work: before each call of the book they make the
 /// next event of a list. Its view has only what a seat at shared words could know.
-#[derive(Debug, Drop)]
+#[derive(Drop)]
 pub struct Beset {
     pub core: Core,
     /// Each cell's word as the book last found it.
