@@ -85,9 +85,11 @@ which (Ok far) = far
 which (Err why) = false
 
 not_false : (r : Result Bool Refused) → which r ≡ true → r ≡ Ok false → ⊥
+unfolding which
 not_false r is e = false≢true (sym (ap which e) ∙ is)
 
 not_true : (r : Result Bool Refused) → which r ≡ false → r ≡ Ok true → ⊥
+unfolding which
 not_true r is e = false≢true (sym is ∙ ap which e)
 
 not_done : (r : Result Bool Refused) (far : Bool) → is_ok r ≡ false → r ≡ Ok far → ⊥
@@ -104,6 +106,7 @@ name_far-requires-clause-near g c =
 
 -- ---- it went without a write
 pub returns-in_default-leave_clean : goal.returns-in_default-leave_clean
+unfolding which
 returns-in_default-leave_clean g c =
     let s = g.N.Near.view c.args.self.now.near in
     let t = g.N.Near.view c.cell_of-found.new.self.near in
@@ -138,6 +141,7 @@ returns-in_default-leave_clean g c =
 
 -- ---- its owner was found to have dropped it
 pub returns-then-marks : goal.returns-then-marks
+unfolding which
 returns-then-marks g c =
     let s = g.N.Near.view c.args.self.now.near in
     let t = g.N.Near.view c.cell_of-found.new.self.near in
@@ -171,6 +175,7 @@ returns-then-marks g c =
 
 -- ---- the same once it was to be named
 pub returns-then-is_dropped : goal.returns-then-is_dropped
+unfolding which
 returns-then-is_dropped g c =
     let s = g.N.Near.view c.args.self.now.near in
     let t = g.N.Near.view c.leave_clean.new.self.near in
@@ -207,6 +212,7 @@ returns-then-is_dropped g c =
 
 -- ---- what a refusal leaves
 pub returns-in-Err : goal.returns-in-Err
+unfolding which
 returns-in-Err g c =
     let h = goal.at.returns-in-Err g c in
     let s = g.N.Near.view c.args.self.now.near in
@@ -250,6 +256,7 @@ returns-in-Err g c =
 
 -- ---- it went by a write
 pub returns-in-Ok : goal.returns-in-Ok
+unfolding which
 returns-in-Ok g c =
     let h = goal.at.returns-in-Ok g c in
     let s = g.N.Near.view c.args.self.now.near in
@@ -258,6 +265,8 @@ returns-in-Ok g c =
     let v = g.N.Near.view c.name_far.new.self.near in
     let p = c.args.pointer in
     let x = c.in-Near in
+    let bytes = bytes_of (data_at u.word x.place) x.len in
+    let asked : g.D.Device.writes c.leave_clean.new.self.device p bytes (Ok tt) c.send.new.self.device = search rules in
     let some = h.In-Some in
     let n = now g some in
     let found = c.cell_of-found.ensures in
@@ -268,8 +277,6 @@ returns-in-Ok g c =
     (λ i lt _. (c.send.ensures.words i lt).0) in
     let away : g.N.Near.still → v ≡ evicted s p =
     λ still. named.set still ∙ ap (λ (y : State). evicted y p) (c.send.ensures.exact still ∙ seen_is g some ∙ same_seen s p c.in-Some.word 0 (won g some still)) in
-    let bytes = bytes_of (data_at u.word x.place) x.len in
-    let asked : g.D.Device.writes c.leave_clean.new.self.device p bytes (Ok tt) c.send.new.self.device = search rules in
     let written : g.D.Device.writes c.args.self.now.device p bytes (Ok tt) c.send.new.self.device =
     subst (λ (d : g.row.D.Denot). g.D.Device.writes d p bytes (Ok tt) c.send.new.self.device) (c.leave_clean.ensures.device ∙ found.device) asked in
     record {
@@ -293,6 +300,7 @@ returns-in-Ok g c =
 
 -- ---- a drop was found last
 pub returns-in-Err-name_far : goal.returns-in-Err-name_far
+unfolding which
 returns-in-Err-name_far g c =
     let h = goal.at.returns-in-Err-name_far g c in
     let s = g.N.Near.view c.args.self.now.near in
