@@ -321,3 +321,12 @@ module _ (s : State) (ledger : Ledger) (held : ℕ → Option (List ℕ)) (is_ho
 
   pub named_keeps_by : (after : Ledger) → Passes ledger after job.from.log job.to.log (size_of len) → InOrder t after held is_honest
   named_keeps_by after passes = named_keeps then order.notes.law j job r.from len ds job.from first.marks may_then first.near t renamed ledger order.notes after passes held is_honest order.far order.honest
+
+-- a naming by the word that the cell has is the naming to the target
+pub named_exactly : (s u : State) (p cell len ds : ℕ) (to from : Place) (marks : Marks) → cell ≡ s.cell p → read_of cell ≡ Some (Near len ds from marks) →
+    u ≡ after s (events.Name p cell (near_word (is_dirty (read_of cell)) len ds to)) → u ≡ named s p to
+named_exactly s u p cell len ds to from marks found says set =
+    set
+    ∙ ap (λ w. after s (events.Name p cell (near_word (is_dirty w) len ds to))) says
+    ∙ ap (λ v. after s (events.Name p v (near_word marks.dirty len ds to))) found
+    ∙ sym (ap (named_of s p to) (ap read_of (sym found) ∙ says))

@@ -1,19 +1,19 @@
 use Rattle.far_book.proofs.book.Book.name_copy.Given.{Over}
 use Rattle.far_book.proofs.book.Book.name_copy.Goals.{In-Near}
 use Rattle.far_book.proofs.book.Book.name_copy.Goals as goal
-use Rattle.std.proofs.Common.{◌≡◌, ◌∙◌, ap, arith, subst, sym, Some}
+use Rattle.std.proofs.Common.{◌≡◌, ◌∙◌, ap, arith, refl, subst, sym, Some}
 use Rattle.far_word.specs.declared.pointer.PtrWord.TheVariants.{Near}
 use Rattle.far_word.specs.Pointer.{read_of}
 use Rattle.far_core.specs.state.State.{State}
 use Rattle.far_book.specs.book.BookOf.{BookOf}
-use Rattle.far_book.specs.book.Collecting.{IsNamed, MayBeNamed}
+use Rattle.far_book.specs.book.Collecting.{IsNamed, MayBeNamed, named}
 use Rattle.far_book.specs.book.FarSide.{InOrder}
 use Rattle.far_book.specs.book.Ledger.{Passes}
 use Rattle.far_hand.specs.Finds.{Finds}
 use Rattle.far_hand.proofs.Closure.{came_only}
 use Rattle.far_book.proofs.region.Handed.{since_book}
 use Rattle.far_book.proofs.region.InOrders.{found_keeps}
-use Rattle.far_book.proofs.region.NamingCopies.{is_named_by, jobs_stay_by, layout, layout_from, may_rename, named_keeps_by, passes_live, passes_room, passes_to, pointer}
+use Rattle.far_book.proofs.region.NamingCopies.{is_named_by, jobs_stay_by, layout, layout_from, may_rename, named_exactly, named_keeps_by, passes_live, passes_room, passes_to, pointer}
 
 -- ---- the object's length and data structure are known
 module _ (g : Over) (c : In-Near g) where
@@ -116,3 +116,16 @@ returns-clause-jobs g c =
 
 pub returns-clause-came : goal.returns-clause-came
 returns-clause-came g c = since_book c.self.view_is (came_only _ c.rename_near.ensures.names)
+
+pub returns-clause-exact : goal.returns-clause-exact
+returns-clause-exact g c still =
+    let h = (goal.at.returns-clause-exact g c).In-Near in
+    let s = g.N.Near.view c.self.inside.near in
+    let n = c.in-Near in (
+      refl,
+      subst (λ (x : State). g.N.Near.view c.rename_near.new.near ≡ named x c.args.what.pointer c.args.what.to) (same g h)
+          (named_exactly s (g.N.Near.view c.rename_near.new.near) c.args.what.pointer c.args.cell n.len n.ds c.args.what.to n.place n.marks (may g h).found (says g h) (c.in-Ok.ensures.set still)),
+    )
+
+pub returns-in_default-rename_near-clause-exact : goal.returns-in_default-rename_near-clause-exact
+returns-in_default-rename_near-clause-exact g c still = absurd (c.in_default-rename_near.ensures.won still)
