@@ -13,6 +13,7 @@ mod job_word;
 mod layout;
 mod rule;
 mod seat;
+mod seat_rows;
 mod start;
 mod view;
 
