@@ -3,8 +3,8 @@
 use crate::counts::{Count, Counts};
 use crate::gate::Gate;
 use crate::random::Random;
-use crate::rounds::{take, take_refusal};
-use far_device::MemDevice;
+use crate::rounds::{take, take_fault, take_refusal};
+use far_device::Device;
 use far_evac::{EvacFault, Marked, Phase, Polled, Progress};
 use far_heap::{Evacuator, Heap, HeapName};
 use far_word::Refused;
@@ -15,7 +15,7 @@ use std::thread;
 const PATIENCE: u64 = 100_000;
 
 /// Gives up a round that is running.
-pub fn gives_up<K: HeapName>(book: &mut Evacuator<K, MemDevice>, counts: &mut Counts) {
+pub fn gives_up<K: HeapName, D: Device + Drop>(book: &mut Evacuator<K, D>, counts: &mut Counts) {
     if book.phase() == Phase::Idle {
         return;
     }
@@ -62,15 +62,16 @@ fn evacuated(counts: &mut Counts, answer: Result<Progress, EvacFault>) -> Option
             counts.one(Count::ByHand);
             Some(Phase::Idle)
         }
-        Err(fault) => {
-            take(counts, fault.so_far);
-            take_refusal(counts, fault.why)
-        }
+        Err(fault) => take_fault(counts, fault),
     }
 }
 
 // A step by the phase: whether a round is running after it.
-fn step<K: HeapName>(book: &mut Evacuator<K, MemDevice>, n: u64, counts: &mut Counts) -> bool {
+fn step<K: HeapName, D: Device + Drop>(
+    book: &mut Evacuator<K, D>,
+    n: u64,
+    counts: &mut Counts,
+) -> bool {
     let then = match book.phase() {
         Phase::Idle => return false,
         Phase::Marking => marked(counts, book.mark_some(n), n),
@@ -83,9 +84,9 @@ fn step<K: HeapName>(book: &mut Evacuator<K, MemDevice>, n: u64, counts: &mut Co
 }
 
 /// Makes small steps until the round is over, or all are made.
-pub fn goes_on_by_hand<K: HeapName, R: Wait>(
+pub fn goes_on_by_hand<K: HeapName, D: Device + Drop, R: Wait>(
     rt: &R,
-    heap: &Heap<K, MemDevice>,
+    heap: &Heap<K, D>,
     gate: &Gate,
     random: &mut Random,
     counts: &mut Counts,

@@ -2,7 +2,7 @@
 
 use crate::counts::{Count, Counts};
 use far_book::Home;
-use far_device::MemDevice;
+use far_device::Device;
 use far_evac::Census;
 use far_heap::{Evacuator, HeapName};
 use far_word::LOG_BYTES;
@@ -42,8 +42,8 @@ fn is_right(census: &Census, objects: Option<usize>) -> bool {
 }
 
 /// Whether a heap's census is right, and has so many objects, if that is known. `None` where memory was refused.
-pub fn audits<K: HeapName>(
-    book: &mut Evacuator<K, MemDevice>,
+pub fn audits<K: HeapName, D: Device + Drop>(
+    book: &mut Evacuator<K, D>,
     objects: Option<usize>,
 ) -> Option<bool> {
     match book.audit() {
@@ -53,7 +53,7 @@ pub fn audits<K: HeapName>(
 }
 
 /// Counts an audit beside mutators.
-pub fn audit<K: HeapName>(book: &mut Evacuator<K, MemDevice>, counts: &mut Counts) {
+pub fn audit<K: HeapName, D: Device + Drop>(book: &mut Evacuator<K, D>, counts: &mut Counts) {
     let Some(right) = audits(book, None) else {
         counts.one(Count::Faults);
         return;

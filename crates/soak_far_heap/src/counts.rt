@@ -47,12 +47,13 @@ pub enum Count {
     /// Audits, and those that were wrong.
     Audits,
     WrongAudits,
-    /// Calls for which memory was refused.
+    /// Calls for which memory was refused, and those that a device which fails refused.
     Faults,
+    Failed,
 }
 
 /// How many are counted.
-const ALL: usize = 30;
+const ALL: usize = 31;
 
 /// What each is called.
 const NAMES: [&str; ALL] = [
@@ -86,18 +87,29 @@ const NAMES: [&str; ALL] = [
     "audits",
     "wrong_audits",
     "faults",
+    "failed",
 ];
 
 /// What mutators and rounds did.
 #[derive(Drop)]
 pub struct Counts {
     counted: [u64; ALL],
+    /// Whether the device fails at times.
+    fails: bool,
 }
 
 impl Counts {
-    /// Nothing yet.
-    pub fn new() -> Counts {
-        Counts { counted: [0; ALL] }
+    /// Nothing yet, over a device that fails at times or never.
+    pub fn new(fails: bool) -> Counts {
+        Counts {
+            counted: [0; ALL],
+            fails,
+        }
+    }
+
+    /// Whether the device fails at times.
+    pub fn fails(&self) -> bool {
+        self.fails
     }
 
     /// Adds to a count.
@@ -117,6 +129,16 @@ impl Counts {
         if !right {
             self.one(Count::WrongAnswers);
         }
+    }
+
+    /// Counts a call that the device refused, which is wrong of a device that never fails.
+    pub fn failed(&mut self) {
+        let what = if self.fails {
+            Count::Failed
+        } else {
+            Count::WrongAnswers
+        };
+        self.one(what);
     }
 
     /// Counts calls that had to be refused so: whether they were.

@@ -3,7 +3,7 @@
 use crate::counts::{Count, Counts};
 use crate::random::Random;
 use crate::record::{Part, Pick, ROOM, Record};
-use far_device::MemDevice;
+use far_device::Device;
 use far_heap::{HeapName, Mutator, Scope, Tried, View};
 use far_word::{LONGEST, POINTERS, Refused, pointer_len};
 use std::alloc::Global;
@@ -29,15 +29,15 @@ pub struct Desk {
 }
 
 impl Desk {
-    /// One with no object yet.
-    pub fn new(alloc: Global, seed: u64) -> Desk {
+    /// One with no object yet, over a device that fails at times or never.
+    pub fn new(alloc: Global, seed: u64, fails: bool) -> Desk {
         Desk {
             records: Vec::new(alloc),
             scope: 0,
             stale: None,
             short: false,
             random: Random::new(seed),
-            counts: Counts::new(),
+            counts: Counts::new(fails),
         }
     }
 
@@ -47,11 +47,11 @@ impl Desk {
     }
 
     /// A mutator's turn: it makes an object or drops one, at times, and works in a scope.
-    pub fn turn<K: HeapName, R: Wait>(
+    pub fn turn<K: HeapName, D: Device + Drop, R: Wait>(
         &mut self,
         rt: &R,
-        mut mutator: Mutator<K, MemDevice>,
-    ) -> Mutator<K, MemDevice> {
+        mut mutator: Mutator<K, D>,
+    ) -> Mutator<K, D> {
         self.begin_scope();
         self.change(rt, &mut mutator);
         let mut scope = mutator.open();
@@ -74,7 +74,11 @@ impl Desk {
     }
 
     // Makes an object or drops one, at times, before the scope is opened.
-    fn change<K: HeapName, R: Wait>(&mut self, rt: &R, mutator: &mut Mutator<K, MemDevice>) {
+    fn change<K: HeapName, D: Device + Drop, R: Wait>(
+        &mut self,
+        rt: &R,
+        mutator: &mut Mutator<K, D>,
+    ) {
         match self.random.below(16) {
             0 | 1 => {
                 if let Some(len) = self.next_len() {
@@ -100,7 +104,7 @@ impl Desk {
     }
 
     // Uses an object, or asks at times for what may be refused.
-    fn step<K: HeapName, R: Wait>(&mut self, rt: &R, scope: &mut Scope<K, MemDevice>) {
+    fn step<K: HeapName, D: Device + Drop, R: Wait>(&mut self, rt: &R, scope: &mut Scope<K, D>) {
         match self.random.below(64) {
             0 => {
                 if let Some(len) = self.next_len() {
@@ -208,9 +212,9 @@ impl Desk {
     }
 
     // Reads and writes a range that must be refused so.
-    fn use_refused<K: HeapName>(
+    fn use_refused<K: HeapName, D: Device + Drop>(
         &mut self,
-        scope: &mut Scope<K, MemDevice>,
+        scope: &mut Scope<K, D>,
         view: View,
         from: u16,
         bytes: &mut [u8],
@@ -222,7 +226,11 @@ impl Desk {
     }
 
     // Uses a view, of an earlier scope or of an object that was dropped, of a pointer that the open scope doesn't view.
-    fn use_unviewed<K: HeapName>(&mut self, scope: &mut Scope<K, MemDevice>, view: Option<View>) {
+    fn use_unviewed<K: HeapName, D: Device + Drop>(
+        &mut self,
+        scope: &mut Scope<K, D>,
+        view: Option<View>,
+    ) {
         if let Some(view) = view {
             if self.viewed(view.pointer()) != Some(true) {
                 self.use_refused(scope, view, 0, &mut [255; 1], Refused::NotHeld);
@@ -231,7 +239,11 @@ impl Desk {
     }
 
     // Uses a pointer that it doesn't use: another mutator's, or one that is free.
-    fn use_stranger<K: HeapName, R: Wait>(&mut self, rt: &R, scope: &mut Scope<K, MemDevice>) {
+    fn use_stranger<K: HeapName, D: Device + Drop, R: Wait>(
+        &mut self,
+        rt: &R,
+        scope: &mut Scope<K, D>,
+    ) {
         let pointer = self.random.below(POINTERS as u64) as u16;
         if self.viewed(pointer).is_some() {
             return;
@@ -244,7 +256,7 @@ impl Desk {
     }
 
     // Views an object, and reads or writes bytes of it.
-    fn use_one<K: HeapName, R: Wait>(&mut self, rt: &R, scope: &mut Scope<K, MemDevice>) {
+    fn use_one<K: HeapName, D: Device + Drop, R: Wait>(&mut self, rt: &R, scope: &mut Scope<K, D>) {
         let Some(pick) = self.pick() else {
             return;
         };
@@ -267,10 +279,10 @@ impl Desk {
 
     // An object's bytes, in a view of it: the one that this scope made already, or a new one, without the lock if that does, but now and
     // then with it at once.
-    fn view<K: HeapName, R: Wait>(
+    fn view<K: HeapName, D: Device + Drop, R: Wait>(
         &mut self,
         rt: &R,
-        scope: &mut Scope<K, MemDevice>,
+        scope: &mut Scope<K, D>,
         pick: Pick,
     ) -> Option<Part> {
         if pick.viewed && !self.random.once_in(4) {
@@ -304,15 +316,29 @@ impl Desk {
 
     // Takes what came of asking with the lock.
     fn brought(&mut self, pick: Pick, answer: Result<View, Refused>) -> Option<View> {
-        let right = match answer {
-            Ok(view) => return Some(view),
-            Err(Refused::NoRoom | Refused::Memory) => !pick.viewed,
-            Err(_) => false,
-        };
-        self.short = true;
-        self.counts.one(Count::Full);
-        self.counts.expect(right);
-        None
+        match answer {
+            Ok(view) => Some(view),
+            Err(why) => {
+                self.take_unbrought(pick, why);
+                None
+            }
+        }
+    }
+
+    // Takes why an object isn't brought near, which only one that isn't viewed may be: for want of room or memory, or since the device failed.
+    fn take_unbrought(&mut self, pick: Pick, why: Refused) {
+        if pick.viewed {
+            self.counts.one(Count::WrongAnswers);
+            return;
+        }
+        match why {
+            Refused::NoRoom | Refused::Memory => {
+                self.short = true;
+                self.counts.one(Count::Full);
+            }
+            Refused::Device => self.counts.failed(),
+            _ => self.counts.one(Count::WrongAnswers),
+        }
     }
 
     // The bytes of an object that is viewed so.
@@ -346,7 +372,7 @@ impl Desk {
     }
 
     // Reads a part, and compares it with the record.
-    fn read<K: HeapName>(&mut self, scope: &mut Scope<K, MemDevice>, part: Part) {
+    fn read<K: HeapName, D: Device + Drop>(&mut self, scope: &mut Scope<K, D>, part: Part) {
         let mut room = [0; ROOM];
         let out = &mut room[..(part.count as usize).min(ROOM)];
         let done = scope.read(&part.view, part.from, out).is_ok();
@@ -366,7 +392,7 @@ impl Desk {
     }
 
     // Writes a part, in its record too.
-    fn write<K: HeapName>(&mut self, scope: &mut Scope<K, MemDevice>, part: Part) {
+    fn write<K: HeapName, D: Device + Drop>(&mut self, scope: &mut Scope<K, D>, part: Part) {
         let Some(record) = self.records.get_mut(part.at) else {
             return;
         };
@@ -384,7 +410,7 @@ impl Desk {
     }
 
     // Reads and writes a range that passes the object's end, or has no byte.
-    fn pass_end<K: HeapName>(&mut self, scope: &mut Scope<K, MemDevice>, view: View) {
+    fn pass_end<K: HeapName, D: Device + Drop>(&mut self, scope: &mut Scope<K, D>, view: View) {
         let len = view.len() as u64;
         let from = self.random.below(len + 8);
         let count = if self.random.once_in(4) {
@@ -398,11 +424,11 @@ impl Desk {
         self.use_refused(scope, view, from, bytes, Refused::Range);
     }
 
-    /// Reads all of an object in a scope of its own: whether there was room to view it.
-    pub fn read_whole<K: HeapName, R: Wait>(
+    /// Reads all of an object in a scope of its own: whether it could be viewed.
+    pub fn read_whole<K: HeapName, D: Device + Drop, R: Wait>(
         &mut self,
         rt: &R,
-        scope: &mut Scope<K, MemDevice>,
+        scope: &mut Scope<K, D>,
         at: usize,
     ) -> bool {
         self.begin_scope();

@@ -10,6 +10,8 @@ mod census;
 mod copier;
 mod counts;
 mod desk;
+mod failing;
+mod far_side;
 mod gate;
 mod random;
 mod record;
@@ -19,12 +21,15 @@ mod writer;
 use census::audits;
 use copier::copy;
 use counts::{Count, Counts};
+use failing::Failing;
 use far_core::Shape;
-use far_device::MemDevice;
+use far_device::{Device, MemDevice};
 use far_heap::{Blank, Copier, Heap, HeapName, Mutator};
+use far_side::{FarSide, on_disk};
 use gate::Gate;
 use rounds::make_rounds;
 use std::alloc::{AllocError, Global};
+use std::fs::{File, Files};
 use std::marker::Brand;
 use std::process::ExitCode;
 use std::sync::Wait;
@@ -42,6 +47,8 @@ struct Asked {
     logs: u64,
     /// If that was said.
     copiers: Option<u8>,
+    /// If the word is one of a device.
+    far_side: Option<FarSide>,
 }
 
 impl Asked {
@@ -52,13 +59,18 @@ impl Asked {
             .wrapping_add(number)
             .wrapping_add(1)
     }
+
+    // Whether the device fails at times.
+    fn fails(self) -> bool {
+        matches!(self.far_side, Some(FarSide::Faulty))
+    }
 }
 
 // What all writers counted together, once all objects were read again, with a wrong audit more where the heap has another number of objects.
-fn judge<K: HeapName, R: Wait>(
+fn judge<K: HeapName, D: Device + Drop, R: Wait>(
     rt: &R,
-    heap: &Heap<K, MemDevice>,
-    writers: Vec<Writer<K>>,
+    heap: &Heap<K, D>,
+    writers: Vec<Writer<K, D>>,
     all: &mut Counts,
 ) {
     let mut objects = 0usize;
@@ -73,13 +85,13 @@ fn judge<K: HeapName, R: Wait>(
 }
 
 // What all mutators did, each in a thread of its own.
-fn write_all<K: HeapName + Send + Sync, R: Threads + Wait + Sync>(
+fn write_all<K: HeapName + Send + Sync, D: Device + Drop + Send, R: Threads + Wait + Sync>(
     rt: &R,
     alloc: Global,
     gate: &Gate,
-    mutators: Vec<Mutator<K, MemDevice>>,
+    mutators: Vec<Mutator<K, D>>,
     asked: Asked,
-) -> Result<Vec<Writer<K>>, AllocError> {
+) -> Result<Vec<Writer<K, D>>, AllocError> {
     thread::map_vec(
         rt,
         mutators,
@@ -88,11 +100,11 @@ fn write_all<K: HeapName + Send + Sync, R: Threads + Wait + Sync>(
 }
 
 // What the mutators and the thread of rounds did with a heap.
-fn work_beside<K: HeapName + Send + Sync, R: Threads + Wait + Sync>(
+fn work_beside<K: HeapName + Send + Sync, D: Device + Drop + Send, R: Threads + Wait + Sync>(
     rt: &R,
     alloc: Global,
-    heap: &Heap<K, MemDevice>,
-    mutators: Vec<Mutator<K, MemDevice>>,
+    heap: &Heap<K, D>,
+    mutators: Vec<Mutator<K, D>>,
     gate: &Gate,
     asked: Asked,
 ) -> Option<Counts> {
@@ -101,7 +113,7 @@ fn work_beside<K: HeapName + Send + Sync, R: Threads + Wait + Sync>(
         gate.end();
         written
     };
-    let rounds = || make_rounds(rt, heap, gate, asked.seed);
+    let rounds = || make_rounds(rt, heap, gate, asked);
     let (written, mut counts) = thread::join(rt, writers, rounds);
     match written {
         Ok(writers) => {
@@ -113,9 +125,9 @@ fn work_beside<K: HeapName + Send + Sync, R: Threads + Wait + Sync>(
 }
 
 // What all copiers did, each in a thread of its own.
-fn copy_all<K: HeapName + Send + Sync, R: Threads + Wait + Sync>(
+fn copy_all<K: HeapName + Send + Sync, D: Device + Drop + Send, R: Threads + Wait + Sync>(
     rt: &R,
-    copiers: Vec<Copier<K, MemDevice>>,
+    copiers: Vec<Copier<K, D>>,
     gate: &Gate,
     asked: Asked,
 ) -> Result<Vec<Counts>, AllocError> {
@@ -131,12 +143,12 @@ fn sum(mut all: Counts, more: &[Counts]) -> Counts {
 }
 
 // What all threads did with a heap, the copiers' too.
-fn work_copied<K: HeapName + Send + Sync, R: Threads + Wait + Sync>(
+fn work_copied<K: HeapName + Send + Sync, D: Device + Drop + Send, R: Threads + Wait + Sync>(
     rt: &R,
     alloc: Global,
-    heap: &Heap<K, MemDevice>,
-    mutators: Vec<Mutator<K, MemDevice>>,
-    copiers: Vec<Copier<K, MemDevice>>,
+    heap: &Heap<K, D>,
+    mutators: Vec<Mutator<K, D>>,
+    copiers: Vec<Copier<K, D>>,
     asked: Asked,
 ) -> Option<Counts> {
     let gate = Gate::new();
@@ -155,40 +167,41 @@ fn work_copied<K: HeapName + Send + Sync, R: Threads + Wait + Sync>(
 }
 
 // The same with a heap of these parts, with copiers.
-fn copied<K: HeapName + Send + Sync, R: Threads + Wait + Sync>(
+fn copied<K: HeapName + Send + Sync, D: Device + Drop + Send, R: Threads + Wait + Sync>(
     rt: &R,
     alloc: Global,
-    blank: Blank<MemDevice>,
+    blank: Blank<D>,
     copiers: u8,
     asked: Asked,
 ) -> Option<Counts>
     requires { with_copiers blank.heap ≡ K.heap }
 {
-    match Heap::<K, MemDevice>::with_copiers(alloc, blank, copiers) {
+    match Heap::<K, D>::with_copiers(alloc, blank, copiers) {
         Ok((heap, mutators, copiers)) => work_copied(rt, alloc, &heap, mutators, copiers, asked),
         Err(_) => None,
     }
 }
 
 // The same without.
-fn beside<K: HeapName + Send + Sync, R: Threads + Wait + Sync>(
+fn beside<K: HeapName + Send + Sync, D: Device + Drop + Send, R: Threads + Wait + Sync>(
     rt: &R,
     alloc: Global,
-    blank: Blank<MemDevice>,
+    blank: Blank<D>,
     asked: Asked,
 ) -> Option<Counts>
     requires { blank.heap ≡ K.heap }
 {
-    match Heap::<K, MemDevice>::new(alloc, blank) {
+    match Heap::<K, D>::new(alloc, blank) {
         Ok((heap, mutators)) => work_beside(rt, alloc, &heap, mutators, &Gate::new(), asked),
         Err(_) => None,
     }
 }
 
-// What all threads did with a new heap of so many copiers.
-fn soak<R: Threads + Wait + Sync>(
+// What all threads did with a new heap of so many copiers over a device.
+fn soak<D: Device + Drop + Send, R: Threads + Wait + Sync>(
     rt: &R,
     alloc: Global,
+    device: D,
     copiers: u8,
     asked: Asked,
 ) -> Option<Counts> {
@@ -197,23 +210,44 @@ fn soak<R: Threads + Wait + Sync>(
         mutators: asked.mutators,
         epoch: 0,
     };
-    let Ok(blank) = Blank::new(alloc, shape, MemDevice::new(alloc)) else {
+    let Ok(blank) = Blank::new(alloc, shape, device) else {
         return None;
     };
     if copiers > 0 {
-        copied::<Brand, _>(rt, alloc, blank, copiers, asked)
+        copied::<Brand, D, R>(rt, alloc, blank, copiers, asked)
     } else {
-        beside::<Brand, _>(rt, alloc, blank, asked)
+        beside::<Brand, D, R>(rt, alloc, blank, asked)
+    }
+}
+
+// The same over the device that was asked for.
+fn soak_over<R: Files<File = File> + Threads + Wait + Sync>(
+    rt: &R,
+    alloc: Global,
+    copiers: u8,
+    asked: Asked,
+) -> Option<Counts> {
+    match asked.far_side? {
+        FarSide::Memory => soak(rt, alloc, MemDevice::new(alloc), copiers, asked),
+        FarSide::Disk => soak(rt, alloc, on_disk(rt, alloc)?, copiers, asked),
+        FarSide::Faulty => {
+            let device = Failing::by_seed(alloc, asked.seed);
+            soak(rt, alloc, device, copiers, asked)
+        }
     }
 }
 
 // The same of each heap that was asked for: of one without copiers and of one with two, unless their number was said.
-fn soak_each<R: Threads + Wait + Sync>(rt: &R, alloc: Global, asked: Asked) -> Option<Counts> {
+fn soak_each<R: Files<File = File> + Threads + Wait + Sync>(
+    rt: &R,
+    alloc: Global,
+    asked: Asked,
+) -> Option<Counts> {
     if let Some(copiers) = asked.copiers {
-        return soak(rt, alloc, copiers, asked);
+        return soak_over(rt, alloc, copiers, asked);
     }
-    let mut all = soak(rt, alloc, 0, asked)?;
-    all.add_all(&soak(rt, alloc, 2, asked)?);
+    let mut all = soak_over(rt, alloc, 0, asked)?;
+    all.add_all(&soak_over(rt, alloc, 2, asked)?);
     Some(all)
 }
 
@@ -231,7 +265,15 @@ fn copiers(words: &[String]) -> Option<u8> {
     Some(word.parse::<u8>().unwrap_or(u8::MAX))
 }
 
-// The turns of each mutator, the seed, whether all counts are to be told, and how large the heap is.
+// The device that the words say, memory if they don't. `None` where the word is none of a device.
+fn far_side_of(words: &[String]) -> Option<FarSide> {
+    match words.get(7) {
+        Some(word) => FarSide::by(word.as_str()),
+        None => Some(FarSide::Memory),
+    }
+}
+
+// The turns of each mutator, the seed, whether all counts are to be told, how large the heap is, and its device.
 fn asked_by(words: &[String]) -> Asked {
     Asked {
         turns: number(words, 1, 0),
@@ -240,6 +282,7 @@ fn asked_by(words: &[String]) -> Asked {
         mutators: number(words, 4, 4),
         logs: number(words, 5, 16),
         copiers: copiers(words),
+        far_side: far_side_of(words),
     }
 }
 

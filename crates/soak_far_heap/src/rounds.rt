@@ -1,11 +1,12 @@
 //! Whole rounds, one after the other, beside mutators.
 
+use crate::Asked;
 use crate::by_hand::{gives_up, goes_on_by_hand};
 use crate::census::audit;
 use crate::counts::{Count, Counts};
 use crate::gate::Gate;
 use crate::random::Random;
-use far_device::MemDevice;
+use far_device::Device;
 use far_evac::{EvacFault, Phase, Progress, RoundEnd};
 use far_heap::{Evacuator, Heap, HeapName};
 use far_policy::{LeastLive, Oldest, Policy, Scripted};
@@ -39,6 +40,25 @@ pub fn take_refusal(counts: &mut Counts, why: Refused) -> Option<Phase> {
     None
 }
 
+/// Takes a part of a round that was refused, as [`take_refusal`] does; a device that fails excuses that too.
+pub fn take_fault(counts: &mut Counts, fault: EvacFault) -> Option<Phase> {
+    take(counts, fault.so_far);
+    if fault.why == Refused::Device {
+        counts.failed();
+        return None;
+    }
+    take_refusal(counts, fault.why)
+}
+
+// A round that stands is given up, or goes on by hand.
+fn stands(random: &mut Random) -> Then {
+    if random.once_in(2) {
+        Then::GoesOn
+    } else {
+        Then::GivesUp
+    }
+}
+
 // A round of so many turns: it is over, or given up, or it may go on by hand.
 fn ended(counts: &mut Counts, random: &mut Random, end: Result<RoundEnd, EvacFault>) -> Then {
     match end {
@@ -54,24 +74,19 @@ fn ended(counts: &mut Counts, random: &mut Random, end: Result<RoundEnd, EvacFau
         Ok(RoundEnd::Limit(phase)) => {
             counts.one(Count::Limits);
             counts.expect(phase != Phase::Idle);
-            if random.once_in(2) {
-                Then::GoesOn
-            } else {
-                Then::GivesUp
-            }
+            stands(random)
         }
         Err(fault) => {
-            take(counts, fault.so_far);
-            take_refusal(counts, fault.why);
-            Then::GivesUp
+            take_fault(counts, fault);
+            stands(random)
         }
     }
 }
 
 // A whole round of a policy, or one that is cut short.
-fn make_with<K: HeapName, R: Wait, P: Policy>(
+fn make_with<K: HeapName, D: Device + Drop, R: Wait, P: Policy>(
     rt: &R,
-    heap: &Heap<K, MemDevice>,
+    heap: &Heap<K, D>,
     random: &mut Random,
     counts: &mut Counts,
     policy: &mut P,
@@ -87,7 +102,7 @@ fn make_with<K: HeapName, R: Wait, P: Policy>(
 }
 
 // The youngest sealed log.
-fn youngest<K: HeapName>(book: &mut Evacuator<K, MemDevice>) -> Option<u8> {
+fn youngest<K: HeapName, D: Device + Drop>(book: &mut Evacuator<K, D>) -> Option<u8> {
     let Ok(mut rows) = book.rows() else {
         return None;
     };
@@ -98,7 +113,7 @@ fn youngest<K: HeapName>(book: &mut Evacuator<K, MemDevice>) -> Option<u8> {
 }
 
 // Begins a round by hand, with the two oldest logs.
-fn select<K: HeapName>(book: &mut Evacuator<K, MemDevice>, counts: &mut Counts) -> Then {
+fn select<K: HeapName, D: Device + Drop>(book: &mut Evacuator<K, D>, counts: &mut Counts) -> Then {
     if let Err(why) = book.select(&mut Oldest, 2) {
         take_refusal(counts, why);
     }
@@ -106,9 +121,9 @@ fn select<K: HeapName>(book: &mut Evacuator<K, MemDevice>, counts: &mut Counts) 
 }
 
 // A round of each policy in its turn, or one by hand, as far as its turns go.
-fn begin_round<K: HeapName, R: Wait>(
+fn begin_round<K: HeapName, D: Device + Drop, R: Wait>(
     rt: &R,
-    heap: &Heap<K, MemDevice>,
+    heap: &Heap<K, D>,
     random: &mut Random,
     counts: &mut Counts,
 ) -> Then {
@@ -127,9 +142,9 @@ fn begin_round<K: HeapName, R: Wait>(
 }
 
 // A whole round.
-fn make_round<K: HeapName, R: Wait>(
+fn make_round<K: HeapName, D: Device + Drop, R: Wait>(
     rt: &R,
-    heap: &Heap<K, MemDevice>,
+    heap: &Heap<K, D>,
     gate: &Gate,
     random: &mut Random,
     counts: &mut Counts,
@@ -143,14 +158,14 @@ fn make_round<K: HeapName, R: Wait>(
 }
 
 /// Makes rounds until all mutators have ended, and audits now and then.
-pub fn make_rounds<K: HeapName, R: Wait>(
+pub fn make_rounds<K: HeapName, D: Device + Drop, R: Wait>(
     rt: &R,
-    heap: &Heap<K, MemDevice>,
+    heap: &Heap<K, D>,
     gate: &Gate,
-    seed: u64,
+    asked: Asked,
 ) -> Counts {
-    let mut counts = Counts::new();
-    let mut random = Random::new(seed);
+    let mut counts = Counts::new(asked.fails());
+    let mut random = Random::new(asked.seed);
     for _ in 0..u64::MAX {
         make_round(rt, heap, gate, &mut random, &mut counts);
         gate.end_round();

@@ -2,34 +2,38 @@
 
 use crate::Asked;
 use crate::by_hand::gives_up;
-use crate::counts::Count;
+use crate::counts::{Count, Counts};
 use crate::desk::Desk;
 use crate::gate::Gate;
-use far_device::MemDevice;
+use crate::rounds::take_fault;
+use far_device::Device;
 use far_heap::{Heap, HeapName, Mutator};
 use far_policy::Oldest;
 use std::alloc::Global;
 use std::sync::Wait;
 
-/// How often an object for which there is no room is tried again, after a round.
-const TRIES: u8 = 16;
+/// How often an object that isn't brought near is tried again, after a round; and over a device that fails.
+const TRIES: u64 = 16;
+
+const TRIES_AT_FAULTS: u64 = 10_000;
 
 /// A mutator with its desk.
 #[derive(Drop)]
-pub struct Writer<K: HeapName> {
-    mutator: Mutator<K, MemDevice>,
+pub struct Writer<K: HeapName, D: Device + Drop> {
+    mutator: Mutator<K, D>,
     desk: Desk,
 }
 
 /// Takes all turns, or fewer if something is wrong.
-pub fn write<K: HeapName, R: Wait>(
+pub fn write<K: HeapName, D: Device + Drop, R: Wait>(
     rt: &R,
     alloc: Global,
     gate: &Gate,
     asked: Asked,
-    mut mutator: Mutator<K, MemDevice>,
-) -> Writer<K> {
-    let mut desk = Desk::new(alloc, asked.seed_of(gate.enter()));
+    mut mutator: Mutator<K, D>,
+) -> Writer<K, D> {
+    let seed = asked.seed_of(gate.enter());
+    let mut desk = Desk::new(alloc, seed, asked.fails());
     for _ in 0..asked.turns {
         mutator = desk.turn(rt, mutator);
         if !gate.goes_on(desk.counts.wrong()) {
@@ -42,21 +46,32 @@ pub fn write<K: HeapName, R: Wait>(
     Writer { mutator, desk }
 }
 
+// How often an object that isn't brought near is tried again.
+fn tries(counts: &Counts) -> u64 {
+    if counts.fails() {
+        TRIES_AT_FAULTS
+    } else {
+        TRIES
+    }
+}
+
 // Makes a round, which is given up where it doesn't end.
-fn make_room<K: HeapName, R: Wait>(rt: &R, heap: &Heap<K, MemDevice>, desk: &mut Desk) {
-    let _end = heap.run_round(rt, &mut Oldest, 4, 100_000);
+fn make_room<K: HeapName, D: Device + Drop, R: Wait>(rt: &R, heap: &Heap<K, D>, desk: &mut Desk) {
+    if let Err(fault) = heap.run_round(rt, &mut Oldest, 4, 100_000) {
+        take_fault(&mut desk.counts, fault);
+    }
     gives_up(&mut *heap.book(rt), &mut desk.counts);
 }
 
-// Reads an object whole, with rounds before it if there is no room.
-fn read_again<K: HeapName, R: Wait>(
+// Reads an object whole, with rounds before it if it isn't brought near.
+fn read_again<K: HeapName, D: Device + Drop, R: Wait>(
     rt: &R,
-    heap: &Heap<K, MemDevice>,
-    mut mutator: Mutator<K, MemDevice>,
+    heap: &Heap<K, D>,
+    mut mutator: Mutator<K, D>,
     desk: &mut Desk,
     at: usize,
-) -> Mutator<K, MemDevice> {
-    for _ in 0..TRIES {
+) -> Mutator<K, D> {
+    for _ in 0..tries(&desk.counts) {
         let mut scope = mutator.open();
         let seen = desk.read_whole(rt, &mut scope, at);
         mutator = scope.close();
@@ -70,10 +85,10 @@ fn read_again<K: HeapName, R: Wait>(
 }
 
 /// Reads all objects once more.
-pub fn read_all<K: HeapName, R: Wait>(
+pub fn read_all<K: HeapName, D: Device + Drop, R: Wait>(
     rt: &R,
-    heap: &Heap<K, MemDevice>,
-    writer: Writer<K>,
+    heap: &Heap<K, D>,
+    writer: Writer<K, D>,
 ) -> Desk {
     let Writer {
         mut mutator,
