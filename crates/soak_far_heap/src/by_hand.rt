@@ -1,5 +1,6 @@
 //! Rounds of small steps, with the lock let go between two.
 
+use crate::calls;
 use crate::counts::{Count, Counts};
 use crate::gate::Gate;
 use crate::random::Random;
@@ -19,7 +20,7 @@ pub fn gives_up<K: HeapName, D: Device + Drop>(book: &mut Evacuator<K, D>, count
     if book.phase() == Phase::Idle {
         return;
     }
-    let right = book.abort().is_ok() && book.phase() == Phase::Idle;
+    let right = calls::abort(book).is_ok() && book.phase() == Phase::Idle;
     counts.one(if right {
         Count::Aborts
     } else {
@@ -66,18 +67,27 @@ fn evacuated(counts: &mut Counts, answer: Result<Progress, EvacFault>) -> Option
     }
 }
 
-// A step by the phase: whether a round is running after it.
+// A step by the phase: the phase that must come then, if that is known.
 fn step<K: HeapName, D: Device + Drop>(
     book: &mut Evacuator<K, D>,
     n: u64,
     counts: &mut Counts,
+) -> Option<Phase> {
+    match book.phase() {
+        Phase::Idle => Some(Phase::Idle),
+        Phase::Marking => marked(counts, calls::mark_some(book, n), n),
+        Phase::Waiting => polled(counts, calls::poll_wait(book)),
+        Phase::Evacuating => evacuated(counts, calls::evacuate_some(book, n)),
+    }
+}
+
+// A step: whether a round is running after it.
+fn goes_on<K: HeapName, D: Device + Drop>(
+    book: &mut Evacuator<K, D>,
+    n: u64,
+    counts: &mut Counts,
 ) -> bool {
-    let then = match book.phase() {
-        Phase::Idle => return false,
-        Phase::Marking => marked(counts, book.mark_some(n), n),
-        Phase::Waiting => polled(counts, book.poll_wait()),
-        Phase::Evacuating => evacuated(counts, book.evacuate_some(n)),
-    };
+    let then = step(book, n, counts);
     let after = book.phase();
     counts.expect(then.unwrap_or(after) == after);
     after != Phase::Idle
@@ -93,7 +103,7 @@ pub fn goes_on_by_hand<K: HeapName, D: Device + Drop, R: Wait>(
 ) {
     for _ in 0..PATIENCE {
         let n = 1 + random.below(3);
-        if !step(&mut *heap.book(rt), n, counts) {
+        if !goes_on(&mut *heap.book(rt), n, counts) {
             return;
         }
         gate.pause();

@@ -1,5 +1,6 @@
 //! What a census of the heap must say.
 
+use crate::calls;
 use crate::counts::{Count, Counts};
 use far_book::Home;
 use far_device::Device;
@@ -46,7 +47,7 @@ pub fn audits<K: HeapName, D: Device + Drop>(
     book: &mut Evacuator<K, D>,
     objects: Option<usize>,
 ) -> Option<bool> {
-    match book.audit() {
+    match calls::audit(book) {
         Ok(census) => Some(is_right(&census, objects)),
         Err(_) => None,
     }

@@ -1,5 +1,6 @@
 //! What a mutator does in a scope, with a record of its own of all that it wrote.
 
+use crate::calls;
 use crate::counts::{Count, Counts};
 use crate::random::Random;
 use crate::record::{Part, Pick, ROOM, Record};
@@ -80,17 +81,33 @@ impl Desk {
         mutator: &mut Mutator<K, D>,
     ) {
         match self.random.below(16) {
-            0 | 1 => {
-                if let Some(len) = self.next_len() {
-                    self.take_made(len, mutator.alloc(rt, len, 1));
-                }
-            }
-            2 if self.may_drop() => {
-                if let Some(pick) = self.pick() {
-                    self.take_dropped(pick, mutator.drop_object(rt, pick.pointer));
-                }
-            }
+            0 | 1 => self.make(rt, mutator),
+            2 if self.may_drop() => self.drop_one(rt, mutator),
             _ => {}
+        }
+    }
+
+    // Makes an object.
+    fn make<K: HeapName, D: Device + Drop, R: Wait>(
+        &mut self,
+        rt: &R,
+        mutator: &mut Mutator<K, D>,
+    ) {
+        if let Some(len) = self.next_len() {
+            let answer = calls::alloc(rt, mutator, len);
+            self.take_made(len, answer);
+        }
+    }
+
+    // Drops one.
+    fn drop_one<K: HeapName, D: Device + Drop, R: Wait>(
+        &mut self,
+        rt: &R,
+        mutator: &mut Mutator<K, D>,
+    ) {
+        if let Some(pick) = self.pick() {
+            let answer = calls::drop_object(rt, mutator, pick.pointer);
+            self.take_dropped(pick, answer);
         }
     }
 
@@ -106,25 +123,37 @@ impl Desk {
     // Uses an object, or asks at times for what may be refused.
     fn step<K: HeapName, D: Device + Drop, R: Wait>(&mut self, rt: &R, scope: &mut Scope<K, D>) {
         match self.random.below(64) {
-            0 => {
-                if let Some(len) = self.next_len() {
-                    self.take_made(len, scope.alloc(rt, len, 1));
-                }
-            }
-            1 if self.may_drop() => {
-                if let Some(pick) = self.pick() {
-                    self.take_dropped(pick, scope.drop_object(rt, pick.pointer));
-                }
-            }
+            0 => self.make_in(rt, scope),
+            1 if self.may_drop() => self.drop_in(rt, scope),
             2 => self.use_unviewed(scope, self.stale),
             3 => self.use_stranger(rt, scope),
             4 | 5 => {
-                if let Some(pick) = self.pick() {
-                    self.use_unviewed(scope, pick.view);
-                }
+                let earlier = self.pick_view();
+                self.use_unviewed(scope, earlier);
             }
             _ => self.use_one(rt, scope),
         }
+    }
+
+    // Makes an object in the open scope.
+    fn make_in<K: HeapName, D: Device + Drop, R: Wait>(&mut self, rt: &R, scope: &mut Scope<K, D>) {
+        if let Some(len) = self.next_len() {
+            let answer = calls::alloc_in(rt, scope, len);
+            self.take_made(len, answer);
+        }
+    }
+
+    // Drops one there.
+    fn drop_in<K: HeapName, D: Device + Drop, R: Wait>(&mut self, rt: &R, scope: &mut Scope<K, D>) {
+        if let Some(pick) = self.pick() {
+            let answer = calls::drop_in(rt, scope, pick.pointer);
+            self.take_dropped(pick, answer);
+        }
+    }
+
+    // The last view of an object at random.
+    fn pick_view(&mut self) -> Option<View> {
+        self.pick()?.view
     }
 
     // Whether an object is to be dropped: seldom, if there are few.
@@ -220,8 +249,8 @@ impl Desk {
         bytes: &mut [u8],
         why: Refused,
     ) {
-        let read = scope.read(&view, from, bytes).err();
-        let written = scope.write(&view, from, bytes).err();
+        let read = calls::read(scope, &view, from, bytes).err();
+        let written = calls::write(scope, &view, from, bytes).err();
         self.counts.judge(&[read, written], why);
     }
 
@@ -248,9 +277,9 @@ impl Desk {
         if self.viewed(pointer).is_some() {
             return;
         }
-        let tried = scope.try_view(pointer).err();
-        let viewed = scope.view(rt, pointer).err();
-        let dropped = scope.drop_object(rt, pointer).err();
+        let tried = calls::try_view(scope, pointer).err();
+        let viewed = calls::view(rt, scope, pointer).err();
+        let dropped = calls::drop_in(rt, scope, pointer).err();
         self.counts
             .judge(&[tried, viewed, dropped], Refused::NotHeld);
     }
@@ -288,17 +317,36 @@ impl Desk {
         if pick.viewed && !self.random.once_in(4) {
             return self.seen(pick, pick.view);
         }
-        let quick = if self.random.once_in(8) {
-            None
-        } else {
-            Some(scope.try_view(pick.pointer))
-        };
+        let quick = self.try_quick(scope, pick.pointer);
         let found = match quick {
             Some(Ok(Tried::View(view))) => Some(view),
-            _ => self.brought(pick, scope.view(rt, pick.pointer)),
+            _ => self.bring(rt, scope, pick),
         };
         self.take_quick(pick, quick);
         self.seen(pick, found)
+    }
+
+    // A view without the lock, but now and then none is asked for.
+    fn try_quick<K: HeapName, D: Device + Drop>(
+        &mut self,
+        scope: &mut Scope<K, D>,
+        pointer: u16,
+    ) -> Option<Result<Tried, Refused>> {
+        if self.random.once_in(8) {
+            return None;
+        }
+        Some(calls::try_view(scope, pointer))
+    }
+
+    // A view with the lock.
+    fn bring<K: HeapName, D: Device + Drop, R: Wait>(
+        &mut self,
+        rt: &R,
+        scope: &mut Scope<K, D>,
+        pick: Pick,
+    ) -> Option<View> {
+        let answer = calls::view(rt, scope, pick.pointer);
+        self.brought(pick, answer)
     }
 
     // Takes what came of asking for a view without the lock, if that was done.
@@ -375,7 +423,7 @@ impl Desk {
     fn read<K: HeapName, D: Device + Drop>(&mut self, scope: &mut Scope<K, D>, part: Part) {
         let mut room = [0; ROOM];
         let out = &mut room[..(part.count as usize).min(ROOM)];
-        let done = scope.read(&part.view, part.from, out).is_ok();
+        let done = calls::read(scope, &part.view, part.from, out).is_ok();
         self.take_read(part, done, out);
     }
 
@@ -401,7 +449,7 @@ impl Desk {
             return;
         };
         self.random.fill(bytes);
-        let written = scope.write(&part.view, part.from, bytes).is_ok();
+        let written = calls::write(scope, &part.view, part.from, bytes).is_ok();
         self.counts.one(if written {
             Count::Writes
         } else {

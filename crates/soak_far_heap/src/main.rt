@@ -6,6 +6,7 @@ ghost use Rattle.std.specs.Prelude.{◌≡◌};
 ghost use Rattle.far_heap.specs.HeapId.{with_copiers};
 
 mod by_hand;
+mod calls;
 mod census;
 mod copier;
 mod counts;
@@ -160,9 +161,9 @@ fn work_copied<K: HeapName + Send + Sync, D: Device + Drop + Send, R: Threads + 
         counts
     };
     let (copied, counts) = thread::join(rt, copies, others);
-    match (copied, counts) {
-        (Ok(copied), Some(counts)) => Some(sum(counts, copied.as_slice())),
-        _ => None,
+    match copied {
+        Ok(copied) => Some(sum(counts?, copied.as_slice())),
+        Err(_) => None,
     }
 }
 

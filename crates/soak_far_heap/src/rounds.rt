@@ -1,11 +1,11 @@
 //! Whole rounds, one after the other, beside mutators.
 
-use crate::Asked;
 use crate::by_hand::{gives_up, goes_on_by_hand};
 use crate::census::audit;
 use crate::counts::{Count, Counts};
 use crate::gate::Gate;
 use crate::random::Random;
+use crate::{Asked, calls};
 use far_device::Device;
 use far_evac::{EvacFault, Phase, Progress, RoundEnd};
 use far_heap::{Evacuator, Heap, HeapName};
@@ -97,7 +97,7 @@ fn make_with<K: HeapName, D: Device + Drop, R: Wait, P: Policy>(
     } else {
         PATIENCE
     };
-    let end = heap.run_round(rt, policy, most, turns);
+    let end = calls::run_round(rt, heap, policy, most, turns);
     ended(counts, random, end)
 }
 
@@ -120,6 +120,20 @@ fn select<K: HeapName, D: Device + Drop>(book: &mut Evacuator<K, D>, counts: &mu
     Then::GoesOn
 }
 
+// A round of the youngest log.
+fn make_youngest<K: HeapName, D: Device + Drop, R: Wait>(
+    rt: &R,
+    heap: &Heap<K, D>,
+    random: &mut Random,
+    counts: &mut Counts,
+) -> Then {
+    let found = youngest(&mut *heap.book(rt));
+    match found {
+        Some(log) => make_with(rt, heap, random, counts, &mut Scripted { logs: &[log] }),
+        None => Then::Over,
+    }
+}
+
 // A round of each policy in its turn, or one by hand, as far as its turns go.
 fn begin_round<K: HeapName, D: Device + Drop, R: Wait>(
     rt: &R,
@@ -130,13 +144,7 @@ fn begin_round<K: HeapName, D: Device + Drop, R: Wait>(
     match random.below(8) {
         0 | 1 => make_with(rt, heap, random, counts, &mut Oldest),
         2 | 3 => make_with(rt, heap, random, counts, &mut LeastLive),
-        4 | 5 => {
-            let found = youngest(&mut *heap.book(rt));
-            match found {
-                Some(log) => { make_with(rt, heap, random, counts, &mut Scripted { logs: &[log] }) }
-                None => Then::Over,
-            }
-        }
+        4 | 5 => make_youngest(rt, heap, random, counts),
         _ => select(&mut *heap.book(rt), counts),
     }
 }

@@ -1,11 +1,11 @@
 //! A mutator at work.
 
-use crate::Asked;
 use crate::by_hand::gives_up;
 use crate::counts::{Count, Counts};
 use crate::desk::Desk;
 use crate::gate::Gate;
 use crate::rounds::take_fault;
+use crate::{Asked, calls};
 use far_device::Device;
 use far_heap::{Heap, HeapName, Mutator};
 use far_policy::Oldest;
@@ -57,7 +57,8 @@ fn tries(counts: &Counts) -> u64 {
 
 // Makes a round, which is given up where it doesn't end.
 fn make_room<K: HeapName, D: Device + Drop, R: Wait>(rt: &R, heap: &Heap<K, D>, desk: &mut Desk) {
-    if let Err(fault) = heap.run_round(rt, &mut Oldest, 4, 100_000) {
+    let end = calls::run_round(rt, heap, &mut Oldest, 4, 100_000);
+    if let Err(fault) = end {
         take_fault(&mut desk.counts, fault);
     }
     gives_up(&mut *heap.book(rt), &mut desk.counts);
