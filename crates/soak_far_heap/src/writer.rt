@@ -12,9 +12,10 @@ use far_policy::Oldest;
 use std::alloc::Global;
 use std::sync::Wait;
 
-/// How often an object that isn't brought near is tried again, after a round; and over a device that fails.
+/// How often an object that isn't brought near is tried again, after a round.
 const TRIES: u64 = 16;
 
+/// The same over a device that fails at times.
 const TRIES_AT_FAULTS: u64 = 10_000;
 
 /// A mutator with its desk.
