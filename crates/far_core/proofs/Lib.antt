@@ -29,6 +29,7 @@ pub mod Observations
 pub mod ObjectFacts
 pub mod Owed
 pub mod Owing
+pub mod PackedRows
 pub mod Put
 pub mod Quieting
 pub mod Ranges

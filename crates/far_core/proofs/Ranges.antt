@@ -1,23 +1,29 @@
--- Rows of stores and of puts: each is legal when it is made, the law stays, and together they write a row of words.
+-- Rows of stores, of puts, and of gets and puts: each is legal when it is made, the law stays, and together they write a row of words.
 use Rattle.std.proofs.Common.{true, ◌≡◌, ℕ, zero, suc, List, refl, sym, ap, subst, ◌∙◌, arith, ◌+◌, ◌-◌, ◌*◌, ◌/◌, ◌^◌, ◌<◌, ◌≤◌, length, cond}
-use Rattle.std.specs.Prelude.{◌≢◌, map, slice_index}
+use Rattle.std.specs.Prelude.{◌≢◌, false, map, slice_index}
+use Rattle.std.specs.Vec.{with_item}
 use Rattle.std.specs.List.{range_with_len}
 use mathlib.Core.Path.{fun_ext}
 use Rattle.far_word.specs.Pointer.{read_of}
 use Rattle.far_word.specs.Sizes.{words_for}
 use Rattle.far_word.specs.declared.sizes.TheConstants.{CELLS, LOG_WORDS}
 use Rattle.far_core.specs.declared.event.Event.{Event}
-use Rattle.far_core.specs.declared.event.Event.TheVariants.{Put, Store}
+use Rattle.far_core.specs.declared.event.Event.TheVariants.{Get, Put, Store}
 use Rattle.far_core.specs.declared.event.Kind.TheVariants.{Sealed}
 use Rattle.far_core.specs.declared.event.Reply.{Reply}
 use Rattle.far_core.specs.declared.event.Reply.TheVariants.{Refused}
+use Rattle.far_core.specs.declared.machine.Core.{Core}
+use Rattle.far_core.specs.declared.memory.Memory.{Memory}
 use Rattle.far_core.specs.events.Legal.{Legal}
-use Rattle.far_core.specs.events.Ranges.{AllLegal, after_events, stores, with_row, zero_puts}
+use Rattle.far_core.specs.events.Ranges.{AllLegal, after_events, copies, puts, stores, with_copy, with_row, zero_puts}
 use Rattle.far_core.specs.events.Step.{after, answer, data_len, data_word, near_data, near_len, step_of}
+use Rattle.far_core.specs.state.CoreState.{core_state}
 use Rattle.far_core.specs.state.Law.{Law}
+use Rattle.far_core.specs.state.Memory.{state_of}
 use Rattle.far_core.specs.state.State.{State, put}
 use Rattle.far_core.proofs.Calls.{store_legal}
 use Rattle.far_core.proofs.Owing.{is_test, keeps}
+use Rattle.far_core.proofs.PackedRows.{copy_first, set_put}
 use Rattle.far_core.proofs.Rows.{row_first, row_none}
 
 -- a row of events, of which event k writes word k of a row; Good stays from one to the next
@@ -96,29 +102,93 @@ module _ (s : State) (law : Law s) (m p first : ℕ) (words : List ℕ) (own : p
   pub stores_end : after_events s (stores m p first words) ≡ record s { word = with_row s.word (data_word s p first) (length words) (λ k. slice_index words k) }
   stores_end = stored.2
 
--- ---- zeros put past a tail
+-- ---- words put past a tail
 module _ (s : State) (law : Law s) (l at count : ℕ) (log : l < s.logs) (unsealed : s.kind l ≢ Sealed) (past : s.tail l ≤ at) (inside : at + count ≤ LOG_WORDS) where
-  abbrev Lies : State → Type 0
-  Lies u = Law u × (l < u.logs) × (u.kind l ≢ Sealed) × (u.tail l ≤ at)
+  module _ (row : ℕ → ℕ) (wide : (k : ℕ) → k < count → row k < 2 ^ 64) where
+    abbrev Lies : State → Type 0
+    Lies u = Law u × (l < u.logs) × (u.kind l ≢ Sealed) × (u.tail l ≤ at)
 
-  zero_legal : (u : State) → Lies u → (k : ℕ) → k < count → Legal u (Put l (at + k) 0)
-  zero_legal u good k lt = (good.1, good.2, omega (arith, good.3), omega arith)
+    one_legal : (u : State) → Lies u → (k : ℕ) → k < count → Legal u (Put l (at + k) (row k))
+    one_legal u good k lt = (good.1, good.2, omega (arith, good.3), omega arith)
 
-  zero_made : (u : State) → Lies u → (k : ℕ) → k < count → after u (Put l (at + k) 0) ≡ record u { word = put u.word (l * LOG_WORDS + at + k) 0 }
-  zero_made u good k lt = let same : l * LOG_WORDS + (at + k) ≡ l * LOG_WORDS + at + k = omega arith in ap (λ a. record u { word = put u.word a 0 }) same
+    one_put : (u : State) → Lies u → (k : ℕ) → k < count → after u (Put l (at + k) (row k)) ≡ record u { word = put u.word (l * LOG_WORDS + at + k) (row k) }
+    one_put u good k lt = let same : l * LOG_WORDS + (at + k) ≡ l * LOG_WORDS + at + k = omega arith in ap (λ a. record u { word = put u.word a (row k) }) same
 
-  zero_stays : (u : State) → Lies u → (k : ℕ) → k < count → Lies (after u (Put l (at + k) 0))
-  zero_stays u good k lt = (keeps u (Put l (at + k) 0) good.0 (omega arith) (zero_legal u good k lt), good.1, good.2, good.3)
+    one_lies : (u : State) → Lies u → (k : ℕ) → k < count → Lies (after u (Put l (at + k) (row k)))
+    one_lies u good k lt = (keeps u (Put l (at + k) (row k)) good.0 (wide k lt) (one_legal u good k lt), good.1, good.2, good.3)
 
-  zeroed : AllLegal s (zero_puts l at count) × Lies (after_events s (zero_puts l at count))
-      × (after_events s (zero_puts l at count) ≡ record s { word = with_row s.word (l * LOG_WORDS + at) count (λ _. 0) })
-  zeroed = row_made (λ k. Put l (at + k) 0) (l * LOG_WORDS + at) count (λ _. 0) Lies zero_legal zero_made zero_stays s (law, log, unsealed, past)
+    all_put : AllLegal s (puts l at count row) × Lies (after_events s (puts l at count row))
+        × (after_events s (puts l at count row) ≡ record s { word = with_row s.word (l * LOG_WORDS + at) count row })
+    all_put = row_made (λ k. Put l (at + k) (row k)) (l * LOG_WORDS + at) count row Lies one_legal one_put one_lies s (law, log, unsealed, past)
+
+    pub puts_legal : AllLegal s (puts l at count row)
+    puts_legal = all_put.0
+
+    pub puts_keep : Law record s { word = with_row s.word (l * LOG_WORDS + at) count row }
+    puts_keep = subst Law all_put.2 all_put.1.0
+
+    pub puts_end : after_events s (puts l at count row) ≡ record s { word = with_row s.word (l * LOG_WORDS + at) count row }
+    puts_end = all_put.2
 
   pub zeros_legal : AllLegal s (zero_puts l at count)
-  zeros_legal = zeroed.0
+  zeros_legal = puts_legal (λ _. 0) (λ _ _. omega arith)
 
   pub zeros_keep : Law record s { word = with_row s.word (l * LOG_WORDS + at) count (λ _. 0) }
-  zeros_keep = subst Law zeroed.2 zeroed.1.0
+  zeros_keep = puts_keep (λ _. 0) (λ _ _. omega arith)
 
   pub zeros_end : after_events s (zero_puts l at count) ≡ record s { word = with_row s.word (l * LOG_WORDS + at) count (λ _. 0) }
-  zeros_end = zeroed.2
+  zeros_end = puts_end (λ _. 0) (λ _ _. omega arith)
+
+-- ---- words got from one log and put past the tail of another
+one_made : (u : State) (e : Event) → Legal u e → (step_of u e).0 ≡ after u e
+one_made u e legal = ap (λ (x : State × Reply). x.0) (ap (λ b. cond b (after u e, answer u e) (u, Refused)) (is_test u e legal))
+
+module _ (l m : ℕ) where
+  all_copied : (n : ℕ) (s : State) (a b : ℕ) → Law s → l < s.logs → a + n ≤ LOG_WORDS → m < s.logs → s.kind m ≢ Sealed → s.tail m ≤ b → b + n ≤ LOG_WORDS →
+      AllLegal s (copies s l a m b n) × Law (after_events s (copies s l a m b n))
+      × (after_events s (copies s l a m b n) ≡ record s { word = with_copy s.word (l * LOG_WORDS + a) (m * LOG_WORDS + b) n })
+  all_copied zero s a b law source within target unsealed past inside = (tt, law, refl)
+  all_copied (suc n) s a b law source within target unsealed past inside =
+      let from : ℕ = l * LOG_WORDS + a in
+      let to : ℕ = m * LOG_WORDS + b in
+      let get : Event = Get l a false in
+      let put_it : Event = Put m b (s.word from) in
+      let may_get : Legal s get = (source, omega arith, tt) in
+      let may_put : Legal s put_it = (target, unsealed, past, omega arith) in
+      let got : (step_of s get).0 ≡ s = one_made s get may_get in
+      let made : (step_of s put_it).0 ≡ after s put_it = one_made s put_it may_put in
+      let more = all_copied n (after s put_it) (a + 1) (b + 1) (keeps s put_it law (law.spans.word_fits from) may_put) source (omega arith) target unsealed (omega arith) (omega arith) in
+      let rest : List Event = copies (after s put_it) l (a + 1) m (b + 1) n in
+      let source_next : l * LOG_WORDS + (a + 1) ≡ from + 1 = omega arith in
+      let target_next : m * LOG_WORDS + (b + 1) ≡ to + 1 = omega arith in
+      let end : (λ (u : State). after_events (step_of u put_it).0 rest) (step_of s get).0 ≡ after_events (after s put_it) rest =
+        ap (λ (u : State). after_events (step_of u put_it).0 rest) got ∙ ap (λ (u : State). after_events u rest) made in (
+        (may_get, subst (λ (u : State). Legal u put_it × AllLegal (step_of u put_it).0 rest) (sym got) (may_put, subst (λ (u : State). AllLegal u rest) (sym made) more.0)),
+        subst Law (sym end) more.1,
+        end ∙ more.2 ∙ ap (λ (f : ℕ → ℕ). record s { word = f })
+          ((λ i. with_copy (put s.word to (s.word from)) (source_next i) (target_next i) n) ∙ copy_first s.word from to n),
+      )
+
+module _ (s : State) (law : Law s) (l a m b n : ℕ) (source : l < s.logs) (within : a + n ≤ LOG_WORDS) (target : m < s.logs) (unsealed : s.kind m ≢ Sealed) (past : s.tail m ≤ b)
+    (inside : b + n ≤ LOG_WORDS) where
+  pub copies_legal : AllLegal s (copies s l a m b n)
+  copies_legal = (all_copied l m n s a b law source within target unsealed past inside).0
+
+  pub copies_end : after_events s (copies s l a m b n) ≡ record s { word = with_copy s.word (l * LOG_WORDS + a) (m * LOG_WORDS + b) n }
+  copies_end = (all_copied l m n s a b law source within target unsealed past inside).2
+
+  pub copies_keep : Law record s { word = with_copy s.word (l * LOG_WORDS + a) (m * LOG_WORDS + b) n }
+  copies_keep = subst Law copies_end (all_copied l m n s a b law source within target unsealed past inside).1
+
+-- ---- there is a core whose state is that after a put
+module _ (c : Core) (l at w : ℕ) (wide : w < 2 ^ 64) (legal : Legal (core_state c) (Put l at w)) where
+  abbrev memory_put : Memory
+  memory_put = record c.memory { words = with_item c.memory.words (l * LOG_WORDS + at) w }
+
+  put_is : state_of memory_put ≡ after (core_state c) (Put l at w)
+  unfolding state_of
+  put_is = ap (λ (f : ℕ → ℕ). record (state_of c.memory) { word = f })
+      (set_put c.memory.words.items (l * LOG_WORDS + at) w (omega (arith, legal.0, legal.3, c.memory.words_sized, c.memory.words.ok.0)))
+
+  pub core_put : (d : Core) × (core_state d ≡ after (core_state c) (Put l at w))
+  core_put = (record { memory = memory_put; law = subst Law (sym put_is) (keeps (core_state c) (Put l at w) c.law wide legal) }, put_is)

@@ -42,6 +42,11 @@ row_is word f a n row inside outside = fun_ext (λ k. elim (cases_lt k a) [
 pub row_none : (word : ℕ → ℕ) (a : ℕ) (row : ℕ → ℕ) → word ≡ with_row word a 0 row
 row_none word a row = row_is word word a 0 row (λ k low high. absurd (omega arith)) (λ k out. refl)
 
+-- rows of the same words
+pub row_same : (word : ℕ → ℕ) (a n : ℕ) (f g : ℕ → ℕ) → ((k : ℕ) → k < n → f k ≡ g k) → with_row word a n f ≡ with_row word a n g
+row_same word a n f g same = row_is word (with_row word a n f) a n g
+    (λ k low high. row_in word a n f k low high ∙ same (k - a) (omega arith)) (λ k out. row_out word a n f k out)
+
 -- a row is its first word, and the row behind it
 pub row_first : (word : ℕ → ℕ) (a n x : ℕ) (row : ℕ → ℕ) → x ≡ row 0 → with_row (put word a x) (a + 1) n (λ i. row (i + 1)) ≡ with_row word a (suc n) row
 row_first word a n x row e = row_is word (with_row (put word a x) (a + 1) n (λ i. row (i + 1))) a (suc n) row

@@ -8,7 +8,7 @@ ghost use Rattle.far_hand.specs.ShapeOf.{shape_of};
 
 use crate::hand::Near;
 use far_core::{Core, Shape};
-use far_word::{EPOCH_END, Place, Refused};
+use far_word::{EPOCH_END, LOG_WORDS, Place, Refused};
 
 /// A core as the book's hand. It is still: what the view says is the state, whose words change by the book's calls alone.
 #[derive(Debug, Drop)]
@@ -55,6 +55,31 @@ impl Near for Plain {
         self.core.put(log, at, word);
     }
 
+    fn copy_words(&mut self, from: Place, to: Place, count: u16) {
+        if count == 0 {
+            return;
+        }
+        self.core.copy_words(behind(from), behind(to), count);
+    }
+
+    fn get_words(&mut self, log: u8, at: u16, count: u16, row: &mut [u8]) {
+        self.core.get_words(Place { log, at }, count, row);
+    }
+
+    fn put_words(&mut self, log: u8, at: u16, bytes: &[u8], count: u16) {
+        if count == 0 {
+            return;
+        }
+        self.core.put_words(Place { log, at }, bytes, count);
+    }
+
+    fn put_zeros(&mut self, log: u8, at: u16, count: u16) {
+        if count == 0 {
+            return;
+        }
+        self.core.put_zeros(Place { log, at }, count);
+    }
+
     #[inline(always)]
     fn name(&mut self, pointer: u16, old: u64, new: u64) -> Result<(), u64> {
         self.core.name(pointer, old, new)
@@ -85,6 +110,18 @@ impl Near for Plain {
 
     fn shape(&self) -> Shape {
         shape_of(&self.core)
+    }
+}
+
+/// The place of the first data word behind a header's. A header stands in a log, or nothing is to be copied behind it.
+fn behind(place: Place) -> Place
+    requires { place.at < LOG_WORDS }
+    ensures log { result.log ≡ place.log }
+    ensures at { result.at ≡ place.at + 1 }
+{
+    Place {
+        log: place.log,
+        at: place.at + 1,
     }
 }
 

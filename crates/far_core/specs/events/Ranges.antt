@@ -1,11 +1,12 @@
 -- Rows of events: the state after them, and the rows that one call stands for.
-use Rattle.std.specs.Prelude.{ℕ, ◌+◌, ◌-◌, ◌&&◌, cond, nat_le, nat_lt, List, [], ◌∷◌, length, map, slice_index}
+use Rattle.std.specs.Prelude.{ℕ, zero, suc, ◌+◌, ◌-◌, ◌*◌, ◌&&◌, false, cond, nat_le, nat_lt, List, [], ◌∷◌, length, map, slice_index}
 use Rattle.std.specs.List.{range_with_len}
 use Rattle.far_core.specs.declared.event.Event.{Event}
-use Rattle.far_core.specs.declared.event.Event.TheVariants.{Store, Put}
+use Rattle.far_word.specs.declared.sizes.TheConstants.{LOG_WORDS}
+use Rattle.far_core.specs.declared.event.Event.TheVariants.{Get, Store, Put}
 use Rattle.far_core.specs.events.Legal.{Legal}
-use Rattle.far_core.specs.events.Step.{step_of}
-use Rattle.far_core.specs.state.State.{State}
+use Rattle.far_core.specs.events.Step.{after, step_of}
+use Rattle.far_core.specs.state.State.{State, put}
 
 -- the state after these events, a step each
 abbrev pub after_events : State → List Event → State
@@ -24,6 +25,20 @@ stores m p first words = map (λ i. Store m p (first + i) (slice_index words i))
 -- zeros that are put into a log's words from one on
 abbrev pub zero_puts : ℕ → ℕ → ℕ → List Event
 zero_puts l at count = map (λ i. Put l (at + i) 0) (range_with_len 0 count)
+
+-- the words of a row that are put into a log's words from one on
+abbrev pub puts : ℕ → ℕ → ℕ → (ℕ → ℕ) → List Event
+puts l at count row = map (λ i. Put l (at + i) (row i)) (range_with_len 0 count)
+
+-- words of a log from one on that are got, and put into a log's words from one on: each as it stands when it is got
+abbrev pub copies : State → ℕ → ℕ → ℕ → ℕ → ℕ → List Event
+copies s l a m b zero = []
+copies s l a m b (suc n) = Get l a false ∷ Put m b (s.word (l * LOG_WORDS + a)) ∷ copies (after s (Put m b (s.word (l * LOG_WORDS + a)))) l (a + 1) m (b + 1) n
+
+-- n words from b on have become those from a on, one after the other
+abbrev pub with_copy : (ℕ → ℕ) → ℕ → ℕ → ℕ → ℕ → ℕ
+with_copy word a b zero = word
+with_copy word a b (suc n) = put (with_copy word a b n) (b + n) (with_copy word a b n (a + n))
 
 -- n words from a on are those of a row
 abbrev pub with_row : (ℕ → ℕ) → ℕ → ℕ → (ℕ → ℕ) → ℕ → ℕ

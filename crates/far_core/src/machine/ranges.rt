@@ -1,9 +1,11 @@
 //! Several events of one kind made at once, as one after the other.
 
-ghost use Rattle.std.specs.Prelude.{◌≡◌, ◌≢◌, ◌+◌, ◌-◌, ◌*◌, ◌/◌, ◌^◌, ◌<◌, ◌≤◌, ℕ, true, length, slice_index, IsSome};
+ghost use Rattle.std.specs.Prelude.{◌≡◌, ◌≢◌, ◌+◌, ◌-◌, ◌*◌, ◌/◌, ◌^◌, ◌<◌, ◌≤◌, ℕ, true, false, length, slice_index, take, drop, IsSome};
 ghost use Rattle.far_word.specs.declared.sizes.TheConstants.{CELLS, LOG_WORDS};
+ghost use Rattle.far_word.specs.Bytes.{bytes_of, packed_word};
 ghost use Rattle.far_word.specs.Sizes.{words_for};
-ghost use Rattle.far_core.specs.events.Ranges.{AllLegal, after_events, stores, zero_puts};
+ghost use Rattle.far_core.specs.events.Ranges.{AllLegal, after_events, copies, puts, stores, zero_puts};
+ghost use Rattle.far_core.specs.events.Legal.{Legal};
 ghost use Rattle.far_core.specs.events.Step.{answer, data_len};
 ghost use Rattle.far_core.specs.state.CoreState.{core_state};
 ghost use Rattle.far_core.specs.state.Law.{Law};
@@ -58,5 +60,51 @@ impl Core {
         ensures legal { AllLegal (core_state self.old) (zero_puts place.log place.at count) }
     {
         self.memory.put_zeros(place, count);
+    }
+    /// The bytes of the `count` words from a place on stand in front of a row, the low byte of each first: a get each. The rest of
+    /// the row stays.
+    #[inline]
+    pub fn get_words(&self, place: Place, count: u16, row: &mut [u8])
+        requires log { place.log < (core_state self.now).logs }
+        requires inside { place.at + count ≤ LOG_WORDS }
+        requires room { 8 * count ≤ length row.old }
+        ensures words { take (8 * count) row.new ≡ bytes_of (λ k. (core_state self.now).word (place.log * LOG_WORDS + (place.at + k))) (8 * count) }
+        ensures legal { (k : ℕ) → k < count → Legal (core_state self.now) (Event.Get place.log (place.at + k) false) }
+        ensures told { (k : ℕ) → answer (core_state self.now) (Event.Get place.log (place.at + k) false) ≡ Reply.Word ((core_state self.now).word (place.log * LOG_WORDS + (place.at + k))) }
+        ensures behind { drop (8 * count) row.new ≡ drop (8 * count) row.old }
+        ensures length { length row.new ≡ length row.old }
+    {
+        self.memory.get_words(place, count, row);
+    }
+
+    /// The `count` words from a place on, of a log that is open or free, at or past its tail, become those of the first bytes of a
+    /// row, the low byte of each first: a put each.
+    #[inline]
+    pub fn put_words(&mut self, place: Place, bytes: &[u8], count: u16)
+        requires log { place.log < (core_state self.old).logs }
+        requires unsealed { (core_state self.old).kind place.log ≢ Kind.Sealed }
+        requires past { (core_state self.old).tail place.log ≤ place.at }
+        requires inside { place.at + count ≤ LOG_WORDS }
+        requires bytes { 8 * count ≤ length bytes.now }
+        ensures state { core_state self.new ≡ after_events (core_state self.old) (puts place.log place.at count (packed_word bytes.now)) }
+        ensures legal { AllLegal (core_state self.old) (puts place.log place.at count (packed_word bytes.now)) }
+    {
+        self.memory.put_words(place, bytes, count);
+    }
+
+    /// The `count` words from a place on, of a log that is open or free, at or past its tail, become those from another place on, one
+    /// after the other: a get and a put each. Where they overlap, what was put is got.
+    #[inline]
+    pub fn copy_words(&mut self, from: Place, to: Place, count: u16)
+        requires source { from.log < (core_state self.old).logs }
+        requires within { from.at + count ≤ LOG_WORDS }
+        requires target { to.log < (core_state self.old).logs }
+        requires unsealed { (core_state self.old).kind to.log ≢ Kind.Sealed }
+        requires past { (core_state self.old).tail to.log ≤ to.at }
+        requires inside { to.at + count ≤ LOG_WORDS }
+        ensures state { core_state self.new ≡ after_events (core_state self.old) (copies (core_state self.old) from.log from.at to.log to.at count) }
+        ensures legal { AllLegal (core_state self.old) (copies (core_state self.old) from.log from.at to.log to.at count) }
+    {
+        self.memory.copy_words(from, to, count);
     }
 }

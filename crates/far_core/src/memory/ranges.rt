@@ -1,10 +1,11 @@
 //! Several words of the memory at once.
 
-ghost use Rattle.std.specs.Prelude.{◌≡◌, ◌*◌, ◌+◌, ◌<◌, ◌≤◌, ℕ, length, slice_index, IsSome};
+ghost use Rattle.std.specs.Prelude.{◌≡◌, ◌*◌, ◌+◌, ◌<◌, ◌≤◌, ℕ, length, slice_index, take, drop, IsSome};
+ghost use Rattle.far_word.specs.Bytes.{bytes_of, packed_word};
 ghost use Rattle.far_word.specs.Pointer.{read_of};
 ghost use Rattle.far_word.specs.Sizes.{words_for};
 ghost use Rattle.far_word.specs.declared.sizes.TheConstants.{LOG_WORDS};
-ghost use Rattle.far_core.specs.events.Ranges.{with_row};
+ghost use Rattle.far_core.specs.events.Ranges.{with_copy, with_row};
 ghost use Rattle.far_core.specs.events.Step.{data_len, data_word, near_data};
 ghost use Rattle.far_core.specs.state.Law.{Law};
 ghost use Rattle.far_core.specs.state.Memory.{state_of};
@@ -12,7 +13,7 @@ ghost use Rattle.far_core.specs.state.State.{State};
 
 use crate::memory::Memory;
 use crate::memory::reading::first_word;
-use far_word::Place;
+use far_word::{Place, pack_bytes, unpack_bytes};
 
 #[tactic(auto, unfolding(crate::specs::state::Memory::state_of))]
 impl Memory {
@@ -38,6 +39,47 @@ impl Memory {
         ensures { state_of self.new ≡ record (state_of self.old) { word = with_row (state_of self.old).word from count (λ _. 0) } }
     {
         self.words[from..from + count].fill(0);
+    }
+
+    /// Unpacks the words from one on over the first bytes of a row.
+    fn unpack_words(&self, from: usize, count: usize, row: &mut [u8])
+        requires words { from + count ≤ LOG_WORDS * (state_of self.now).logs }
+        requires room { 8 * count ≤ length row.old }
+        ensures front { take (8 * count) row.new ≡ bytes_of (λ k. (state_of self.now).word (from + k)) (8 * count) }
+        ensures behind { drop (8 * count) row.new ≡ drop (8 * count) row.old }
+        ensures length { length row.new ≡ length row.old }
+    {
+        unpack_bytes(&self.words[from..from + count], &mut row[..8 * count]);
+    }
+
+    /// Packs the first bytes of a row into the words from one on.
+    fn pack_words(&mut self, from: usize, count: usize, bytes: &[u8])
+        requires words { from + count ≤ LOG_WORDS * (state_of self.old).logs }
+        requires bytes { 8 * count ≤ length bytes.now }
+        ensures { state_of self.new ≡ record (state_of self.old) { word = with_row (state_of self.old).word from count (packed_word bytes.now) } }
+    {
+        pack_bytes(&bytes[..8 * count], &mut self.words[from..from + count]);
+    }
+
+    /// Copies the words from one on over those from another on.
+    fn carry_words(&mut self, source: usize, target: usize, count: usize)
+        requires source { source + count ≤ LOG_WORDS * (state_of self.old).logs }
+        requires target { target + count ≤ LOG_WORDS * (state_of self.old).logs }
+        ensures { state_of self.new ≡ record (state_of self.old) { word = with_copy (state_of self.old).word source target count } }
+    {
+        copy_over(&mut self.words, source, target, count);
+    }
+}
+
+/// Copies the words from one on over those from another on, one after the other.
+fn copy_over(words: &mut [u64], source: usize, target: usize, count: usize)
+    requires source { source + count ≤ length words.old }
+    requires target { target + count ≤ length words.old }
+    ensures words { (λ (a : ℕ). slice_index words.new a) ≡ with_copy (λ a. slice_index words.old a) source target count }
+    ensures length { length words.new ≡ length words.old }
+{
+    for i in 0..count {
+        words[target + i] = words[source + i];
     }
 }
 
@@ -76,5 +118,35 @@ impl Memory {
         ensures { state_of self.new ≡ record (state_of self.old) { word = with_row (state_of self.old).word (place.log * LOG_WORDS + place.at) count (λ _. 0) } }
     {
         self.write_zeros(first_word(place), count as usize);
+    }
+
+    pub(crate) fn get_words(&self, place: Place, count: u16, row: &mut [u8])
+        requires log { place.log < (state_of self.now).logs }
+        requires inside { place.at + count ≤ LOG_WORDS }
+        requires room { 8 * count ≤ length row.old }
+        ensures front { take (8 * count) row.new ≡ bytes_of (λ k. (state_of self.now).word (place.log * LOG_WORDS + place.at + k)) (8 * count) }
+        ensures behind { drop (8 * count) row.new ≡ drop (8 * count) row.old }
+        ensures length { length row.new ≡ length row.old }
+    {
+        self.unpack_words(first_word(place), count as usize, row);
+    }
+
+    pub(crate) fn put_words(&mut self, place: Place, bytes: &[u8], count: u16)
+        requires log { place.log < (state_of self.old).logs }
+        requires inside { place.at + count ≤ LOG_WORDS }
+        requires bytes { 8 * count ≤ length bytes.now }
+        ensures { state_of self.new ≡ record (state_of self.old) { word = with_row (state_of self.old).word (place.log * LOG_WORDS + place.at) count (packed_word bytes.now) } }
+    {
+        self.pack_words(first_word(place), count as usize, bytes);
+    }
+
+    pub(crate) fn copy_words(&mut self, from: Place, to: Place, count: u16)
+        requires source { from.log < (state_of self.old).logs }
+        requires within { from.at + count ≤ LOG_WORDS }
+        requires target { to.log < (state_of self.old).logs }
+        requires inside { to.at + count ≤ LOG_WORDS }
+        ensures { state_of self.new ≡ record (state_of self.old) { word = with_copy (state_of self.old).word (from.log * LOG_WORDS + from.at) (to.log * LOG_WORDS + to.at) count } }
+    {
+        self.carry_words(first_word(from), first_word(to), count as usize);
     }
 }
