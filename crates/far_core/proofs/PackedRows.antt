@@ -18,17 +18,17 @@ use Rattle.far_core.proofs.Rows.{row_same, row_written}
 packs_front : (bs : List ℕ) (m i : ℕ) → 8 * i + 8 ≤ m → packed_word (take m bs) i ≡ packed_word bs i
 packs_front bs m i inside =
     omega (arith, at 0 (omega arith), at 1 (omega arith), at 2 (omega arith), at 3 (omega arith), at 4 (omega arith), at 5 (omega arith), at 6 (omega arith), at 7 (omega arith), first, first_whole) where
-  at : (k : ℕ) → k < 8 → get_or (take m bs) (8 * i + k) 0 ≡ get_or bs (8 * i + k) 0
-  at k lt = get_or-take m bs (8 * i + k) 0 (omega arith)
+      at : (k : ℕ) → k < 8 → get_or (take m bs) (8 * i + k) 0 ≡ get_or bs (8 * i + k) 0
+      at k lt = get_or-take m bs (8 * i + k) 0 (omega arith)
 
-  none : 8 * i + 0 ≡ 8 * i
-  none = omega arith
+      none : 8 * i + 0 ≡ 8 * i
+      none = omega arith
 
-  first : get_or (take m bs) (8 * i + 0) 0 ≡ get_or (take m bs) (8 * i) 0
-  first = ap (λ k. get_or (take m bs) k 0) none
+      first : get_or (take m bs) (8 * i + 0) 0 ≡ get_or (take m bs) (8 * i) 0
+      first = ap (λ k. get_or (take m bs) k 0) none
 
-  first_whole : get_or bs (8 * i + 0) 0 ≡ get_or bs (8 * i) 0
-  first_whole = ap (λ k. get_or bs k 0) none
+      first_whole : get_or bs (8 * i + 0) 0 ≡ get_or bs (8 * i) 0
+      first_whole = ap (λ k. get_or bs k 0) none
 
 -- eight bytes make a word
 pub packed_fits : (bs : List ℕ) (i : ℕ) → ((k : ℕ) → get_or bs k 0 < 2 ^ 8) → packed_word bs i < 2 ^ 64
@@ -43,7 +43,7 @@ packed_written v xs ys a k same bs n is long size fits =
     row_written v xs ys a k same (words_of (take (8 * n) bs)) is (size ∙ sym words) (omega (arith, words))
     ∙ (λ i. with_row (λ q. get_or v.items q 0) a (words i) (λ q. get_or (words_of (take (8 * n) bs)) q 0))
     ∙ row_same (λ q. get_or v.items q 0) a n (λ q. get_or (words_of (take (8 * n) bs)) q 0) (packed_word bs)
-      (λ q lt. words_of-get (take (8 * n) bs) q (omega (arith, front)) ∙ packs_front bs (8 * n) q (omega arith))
+    (λ q lt. words_of-get (take (8 * n) bs) q (omega (arith, front)) ∙ packs_front bs (8 * n) q (omega arith))
 
 -- ---- bytes unpacked
 -- the bytes of the words from a on, written over the first of a row

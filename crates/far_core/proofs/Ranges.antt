@@ -162,11 +162,11 @@ module _ (l m : ℕ) where
       let source_next : l * LOG_WORDS + (a + 1) ≡ from + 1 = omega arith in
       let target_next : m * LOG_WORDS + (b + 1) ≡ to + 1 = omega arith in
       let end : (λ (u : State). after_events (step_of u put_it).0 rest) (step_of s get).0 ≡ after_events (after s put_it) rest =
-        ap (λ (u : State). after_events (step_of u put_it).0 rest) got ∙ ap (λ (u : State). after_events u rest) made in (
+      ap (λ (u : State). after_events (step_of u put_it).0 rest) got ∙ ap (λ (u : State). after_events u rest) made in (
         (may_get, subst (λ (u : State). Legal u put_it × AllLegal (step_of u put_it).0 rest) (sym got) (may_put, subst (λ (u : State). AllLegal u rest) (sym made) more.0)),
         subst Law (sym end) more.1,
         end ∙ more.2 ∙ ap (λ (f : ℕ → ℕ). record s { word = f })
-          ((λ i. with_copy (put s.word to (s.word from)) (source_next i) (target_next i) n) ∙ copy_first s.word from to n),
+            ((λ i. with_copy (put s.word to (s.word from)) (source_next i) (target_next i) n) ∙ copy_first s.word from to n),
       )
 
 module _ (s : State) (law : Law s) (l a m b n : ℕ) (source : l < s.logs) (within : a + n ≤ LOG_WORDS) (target : m < s.logs) (unsealed : s.kind m ≢ Sealed) (past : s.tail m ≤ b)

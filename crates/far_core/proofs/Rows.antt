@@ -65,6 +65,22 @@ row_first word a n x row e = row_is word (with_row (put word a x) (a + 1) n (λ 
       apart k (inl low) h = omega arith
       apart k (inr high) h = omega arith
 
+-- a row is the row before its last word, and that
+pub row_last : (word : ℕ → ℕ) (a n : ℕ) (row : ℕ → ℕ) (at x : ℕ) → at ≡ a + n → x ≡ row n → put (with_row word a n row) at x ≡ with_row word a (n + 1) row
+row_last word a n row at x here is = row_is word (put (with_row word a n row) at x) a (n + 1) row
+    (λ k low high. put_both (λ y. y ≡ row (k - a)) (with_row word a n row) at x k
+    (λ e. let same : n ≡ k - a = omega arith in is ∙ ap row same)
+    (λ ne. row_in word a n row k low (omega arith)))
+    (λ k out. put_both (λ y. y ≡ word k) (with_row word a n row) at x k
+    (λ e. elim out [
+      | inl below ↦ absurd (omega arith)
+      | inr above ↦ absurd (omega arith)
+    ])
+    (λ ne. elim out [
+      | inl below ↦ row_out word a n row k (inl below)
+      | inr above ↦ row_out word a n row k (inr (omega arith))
+    ]))
+
 -- ---- a row written over a part of a list
 written_in : {X : Type 0} (xs ys : List X) (d : X) (a k q : ℕ) → k ≡ length ys → a + k ≤ length xs → a ≤ q → q < a + length ys → get_or (put_mid a k xs ys) q d ≡ get_or ys (q - a) d
 written_in xs ys d a k q n fits low high =

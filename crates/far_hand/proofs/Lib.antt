@@ -11,6 +11,7 @@ pub mod Masking
 pub mod Naming
 pub mod NewSpans
 pub mod Offering
+pub mod PlainRows
 pub mod OthersWork
 pub mod Quietness
 pub mod Ranges

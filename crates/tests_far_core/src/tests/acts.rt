@@ -37,6 +37,12 @@ pub(super) enum Act {
     HasPair([u64; 2]),
     /// So many words of 0 are put at a place.
     PutsZeros(Place, u16),
+    /// So many words of these bytes are put there.
+    PutsWords(Place, &'static [u8], u16),
+    /// So many words are got there, into a row of bytes that reads so then.
+    GetsWords(Place, u16, &'static [u8]),
+    /// So many words are copied from one place to another.
+    CopiesWords(Place, Place, u16),
 
     /// So many logs and owners.
     Sized(u8, u8),

@@ -44,6 +44,49 @@ pub(super) fn puts_zeros(core: &mut Core, place: Place, count: u16) -> bool {
     true
 }
 
+/// Whether so many words of these bytes are put at a place.
+pub(super) fn puts_words(core: &mut Core, place: Place, bytes: &[u8], count: u16) -> bool {
+    if place.log >= core.logs() || place.at >= LOG_WORDS || count > LOG_WORDS - place.at {
+        return false;
+    }
+    if core.kind(place.log) == Kind::Sealed || core.tail(place.log) > place.at {
+        return false;
+    }
+    if bytes.len() < 8 * count as usize {
+        return false;
+    }
+    core.put_words(place, bytes, count);
+    true
+}
+
+/// Whether so many words from a place on, got into a row of other bytes, make it these.
+pub(super) fn gets_words(core: &Core, place: Place, count: u16, bytes: &[u8]) -> bool {
+    if place.log >= core.logs() || place.at >= LOG_WORDS || count > LOG_WORDS - place.at {
+        return false;
+    }
+    let mut row = [0xee; 26];
+    if row.len() < 8 * count as usize {
+        return false;
+    }
+    core.get_words(place, count, &mut row);
+    row.as_slice() == bytes
+}
+
+/// Whether so many words are copied from one place to another.
+pub(super) fn copies_words(core: &mut Core, from: Place, to: Place, count: u16) -> bool {
+    if from.log >= core.logs() || from.at >= LOG_WORDS || count > LOG_WORDS - from.at {
+        return false;
+    }
+    if to.log >= core.logs() || to.at >= LOG_WORDS || count > LOG_WORDS - to.at {
+        return false;
+    }
+    if core.kind(to.log) == Kind::Sealed || core.tail(to.log) > to.at {
+        return false;
+    }
+    core.copy_words(from, to, count);
+    true
+}
+
 const PAIR: u64 = 0x8600_0000_0001_0010;
 
 /// Owner 0 holds an object of two words.
@@ -82,6 +125,63 @@ const ZEROS_PUT: &[Act] = &[
     WordAt(Place { log: 0, at: 6 }, 6),
 ];
 
+/// Twenty bytes.
+#[rattlefmt::skip]
+const BYTES: &[u8] = &[1, 2, 3, 4, 5, 6, 7, 8, 9, 10, 11, 12, 13, 14, 15, 16, 17, 18, 19, 20];
+
+/// The words 3 to 6 of a log are other ones, by an event each.
+#[rattlefmt::skip]
+const FOUR_PUT: &[Act] = &[
+    Does(Put { log: 0, at: 3, word: 3 }, Done),
+    Does(Put { log: 0, at: 4, word: 4 }, Done),
+    Does(Put { log: 0, at: 5, word: 5 }, Done),
+    Does(Put { log: 0, at: 6, word: 0xff00_0000_0000_0006 }, Done),
+];
+
+#[rattlefmt::skip]
+const WORDS_PUT: &[Act] = &[
+    PutsWords(Place { log: 0, at: 4 }, BYTES, 2),
+    Does(Get { log: 0, at: 3, free: false }, Word(3)),
+    Does(Get { log: 0, at: 4, free: false }, Word(0x0807_0605_0403_0201)),
+    Does(Get { log: 0, at: 5, free: false }, Word(0x100f_0e0d_0c0b_0a09)),
+    Does(Get { log: 0, at: 6, free: false }, Word(0xff00_0000_0000_0006)),
+    PutsWords(Place { log: 0, at: 3 }, BYTES, 0),
+    WordAt(Place { log: 0, at: 3 }, 3),
+    PutsWords(Place { log: 3, at: LOG_WORDS - 1 }, BYTES, 1),
+    Does(Get { log: 3, at: LOG_WORDS - 1, free: false }, Word(0x0807_0605_0403_0201)),
+];
+
+#[rattlefmt::skip]
+const WORDS_GOT: &[Act] = &[
+    GetsWords(Place { log: 0, at: 5 }, 2, &[
+        5, 0, 0, 0, 0, 0, 0, 0, 6, 0, 0, 0, 0, 0, 0, 0xff, 0xee, 0xee, 0xee, 0xee, 0xee, 0xee, 0xee, 0xee, 0xee, 0xee,
+    ]),
+    GetsWords(Place { log: 0, at: 5 }, 0, &[0xee; 26]),
+    Does(Get { log: 0, at: 5, free: false }, Word(5)),
+];
+
+/// To another log, and over words that are copied themselves: what was put is got.
+#[rattlefmt::skip]
+const WORDS_COPIED: &[Act] = &[
+    CopiesWords(Place { log: 0, at: 4 }, Place { log: 1, at: 7 }, 3),
+    Does(Get { log: 1, at: 6, free: false }, Word(0)),
+    Does(Get { log: 1, at: 7, free: false }, Word(4)),
+    Does(Get { log: 1, at: 8, free: false }, Word(5)),
+    Does(Get { log: 1, at: 9, free: false }, Word(0xff00_0000_0000_0006)),
+    Does(Get { log: 1, at: 10, free: false }, Word(0)),
+    WordAt(Place { log: 0, at: 4 }, 4),
+    CopiesWords(Place { log: 1, at: 8 }, Place { log: 1, at: 7 }, 2),
+    WordAt(Place { log: 1, at: 7 }, 5),
+    WordAt(Place { log: 1, at: 8 }, 0xff00_0000_0000_0006),
+    WordAt(Place { log: 1, at: 9 }, 0xff00_0000_0000_0006),
+    CopiesWords(Place { log: 0, at: 3 }, Place { log: 0, at: 4 }, 3),
+    WordAt(Place { log: 0, at: 4 }, 3),
+    WordAt(Place { log: 0, at: 5 }, 3),
+    WordAt(Place { log: 0, at: 6 }, 3),
+    CopiesWords(Place { log: 0, at: 0 }, Place { log: 0, at: 3 }, 0),
+    WordAt(Place { log: 0, at: 3 }, 3),
+];
+
 #[rattlefmt::skip]
 const PLAYS: &[Play] = &[
     Play {
@@ -89,6 +189,9 @@ const PLAYS: &[Play] = &[
         parts: &[HOLDING_PAIR, STORED_AND_LOADED],
     },
     Play { name: "zeros_are_put", shape: TWO_OWNERS, honest: true, parts: &[HOLDING_PAIR, ZEROS_PUT] },
+    Play { name: "words_are_put", shape: TWO_OWNERS, honest: true, parts: &[HOLDING_PAIR, FOUR_PUT, WORDS_PUT] },
+    Play { name: "words_are_got", shape: TWO_OWNERS, honest: true, parts: &[HOLDING_PAIR, FOUR_PUT, WORDS_GOT] },
+    Play { name: "words_are_copied", shape: TWO_OWNERS, honest: true, parts: &[HOLDING_PAIR, FOUR_PUT, WORDS_COPIED] },
 ];
 
 #[test]
