@@ -12,7 +12,7 @@ use Rattle.std.proofs.Math.Nat.{div-mul-le_self, lt-div-mul-add}
 use mathlib.Core.Path.{fun_ext}
 use Rattle.far_core.specs.state.State.{put}
 use Rattle.far_core.proofs.Begins.{row_of}
-use Rattle.far_core.proofs.Put.{put_same, put_other}
+use Rattle.far_core.proofs.Put.{put_both, put_same, put_other}
 use Rattle.far_core.specs.events.Ranges.{with_row}
 
 -- a word of the row

@@ -71,7 +71,7 @@ read_row h l at count within (suc n) le =
 module _ (h : Plain) (l at count : ℕ) (past : IsPast (plain_view h) l at count) (w : ℕ → ℕ) (f : ℕ → ℕ → ℕ) (wide : (k : ℕ) → k < count → w k < 2 ^ 64)
     (first : f 0 ≡ (plain_view h).word) (next : (k : ℕ) → k < count → f (suc k) ≡ put (f k) (l * LOG_WORDS + (at + k)) (w k)) where
   -- a hand after k steps
-  record IsAfter (k : ℕ) (u : Plain) : Type 0 where
+  pub record IsAfter (k : ℕ) (u : Plain) : Type 0 where
     pub is : plain_view u ≡ record (plain_view h) { word = f k }
     pub none : k ≡ 0 → u ≡ h
 

@@ -8,7 +8,7 @@ ghost use Rattle.far_hand.specs.ShapeOf.{shape_of};
 
 use crate::hand::Near;
 use far_core::{Core, Shape};
-use far_word::{EPOCH_END, LOG_WORDS, Place, Refused};
+use far_word::{EPOCH_END, Place, Refused};
 
 /// A core as the book's hand. It is still: what the view says is the state, whose words change by the book's calls alone.
 #[derive(Debug, Drop)]
@@ -59,7 +59,15 @@ impl Near for Plain {
         if count == 0 {
             return;
         }
-        self.core.copy_words(behind(from), behind(to), count);
+        let source = Place {
+            log: from.log,
+            at: from.at + 1,
+        };
+        let target = Place {
+            log: to.log,
+            at: to.at + 1,
+        };
+        self.core.copy_words(source, target, count);
     }
 
     fn get_words(&mut self, log: u8, at: u16, count: u16, row: &mut [u8]) {
@@ -110,18 +118,6 @@ impl Near for Plain {
 
     fn shape(&self) -> Shape {
         shape_of(&self.core)
-    }
-}
-
-/// The place of the first data word behind a header's. A header stands in a log, or nothing is to be copied behind it.
-fn behind(place: Place) -> Place
-    requires { place.at < LOG_WORDS }
-    ensures log { result.log ≡ place.log }
-    ensures at { result.at ≡ place.at + 1 }
-{
-    Place {
-        log: place.log,
-        at: place.at + 1,
     }
 }
 
