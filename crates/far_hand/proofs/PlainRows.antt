@@ -1,5 +1,5 @@
 -- Rows of words over a plain hand: a call of its core is as many events, one after the other, and between any two there is a hand.
-use Rattle.std.proofs.Common.{◌≡◌, ℕ, zero, suc, ◌+◌, ◌*◌, ◌<◌, ◌≤◌, ◌^◌, arith, refl, sym, ap, ◌∙◌, subst, false, true, ◌-◌}
+use Rattle.std.proofs.Common.{◌≡◌, ℕ, zero, suc, ◌+◌, ◌*◌, ◌<◌, ◌≤◌, ◌^◌, arith, refl, sym, ap, ◌∙◌, subst, false, ◌-◌}
 use Rattle.std.specs.Prelude.{◌≢◌}
 use Rattle.far_log.specs.Spans.{head_len}
 use Rattle.std.proofs.lemmas.Bool.{false≢true}
@@ -20,7 +20,7 @@ use Rattle.far_core.proofs.Rows.{row_last, row_none}
 use mathlib.Core.Path.{fun_ext}
 use Rattle.far_hand.specs.declared.plain.Plain.{Plain}
 use Rattle.far_hand.specs.MayBe.{Made}
-use Rattle.far_hand.specs.Ranges.{CopiesRow, CopiesWord, Gets, InTurn, IsPast, IsWithin, ReadsRow, ReadsWord, WritesRow, WritesWord}
+use Rattle.far_hand.specs.Ranges.{CopiesRow, CopiesWord, InTurn, IsPast, IsWithin, ReadsRow, ReadsWord, WritesRow, WritesWord}
 use Rattle.far_hand.proofs.Making.{legal_made}
 use Rattle.far_hand.proofs.Ranges.{may_get, may_put}
 

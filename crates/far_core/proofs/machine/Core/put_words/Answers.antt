@@ -1,4 +1,4 @@
-use Rattle.std.proofs.Common.{ℕ, ◌<◌, ◌^◌, sym, ◌∙◌}
+use Rattle.std.proofs.Common.{sym, ◌∙◌}
 use Rattle.far_word.specs.Bytes.{packed_word}
 use Rattle.far_core.specs.state.Memory.{state_of}
 use Rattle.far_core.proofs.PackedRows.{packed_fits}

@@ -1,4 +1,4 @@
-use Rattle.std.proofs.Common.{◌≡◌, ◌∙◌, ◌+◌, ◌-◌, ◌*◌, ℕ, ap, arith, get_or}
+use Rattle.std.proofs.Common.{◌∙◌, ◌+◌, ◌-◌, ◌*◌, ap, arith, get_or}
 use Rattle.far_word.specs.Bytes.{bytes_of}
 use Rattle.far_core.specs.state.Memory.{state_of}
 use Rattle.far_core.proofs.PackedRows.{unpacked_front}
