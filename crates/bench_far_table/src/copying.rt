@@ -3,14 +3,13 @@ ghost use Rattle.std.specs.Prelude.{◌≡◌, ◌<◌, None};
 ghost use Rattle.far_word.specs.Job.{job_of};
 ghost use Rattle.far_word.specs.declared.sizes.TheConstants.{JOBS};
 ghost use Rattle.far_core.specs.events.Collect.{is_loose};
-ghost use Rattle.far_table.specs.BookSeats.{seat_view};
 ghost use Rattle.far_table.specs.CopySeats.{IsJobOf};
 ghost use Rattle.bench_far_table.specs.Copiers.{IsFree, IsWhole};
 
 use crate::turn::Turn;
 use far_device::MemDevice;
 use far_hand::Near;
-use far_table::{BookSeat, CopySeat, Job};
+use far_table::{CopySeat, Job};
 use far_word::JobWord;
 use std::mem;
 
@@ -100,8 +99,8 @@ pub(crate) const COLLECT: u8 = 1;
 
 /// The book's seat, and a job, with the word that was found there.
 #[derive(Drop)]
-pub(crate) struct Collects<const DEED: u8> {
-    pub seat: BookSeat<MemDevice>,
+pub(crate) struct Collects<N: Near + Drop, const DEED: u8> {
+    pub seat: N,
     pub job: u8,
     pub found: u64,
     ghost some: { job < JOBS },
@@ -117,11 +116,11 @@ fn is_loose(word: u64) -> bool
     )
 }
 
-impl<const DEED: u8> Collects<DEED> {
+impl<N: Near + Drop, const DEED: u8> Collects<N, DEED> {
     // Whether the job may be emptied. It is a call, so that the turns with and without an emptying have it alike.
     #[inline(never)]
     fn awaits(&mut self) -> bool
-        ensures seen { (seat_view self.new.seat).copying.word self.new.job ≡ self.new.found }
+        ensures seen { (N.view self.new.seat).copying.word self.new.job ≡ self.new.found }
         ensures loose { result ≡ is_loose (job_of self.new.found) }
     {
         self.found = self.seat.see_job(self.job);
@@ -129,7 +128,7 @@ impl<const DEED: u8> Collects<DEED> {
     }
 }
 
-impl<const DEED: u8> Turn for Collects<DEED> {
+impl<N: Near + Drop, const DEED: u8> Turn for Collects<N, DEED> {
     fn turn(&mut self, _index: u16, _word: u64) -> u64 {
         if !self.awaits() {
             return 0;

@@ -1,31 +1,28 @@
-// The book's seat as a hand, and what is counted on it.
+// The book's seat as a hand, and what is counted on it: over any hand, so that no proof here takes the seat's view apart.
 ghost use Rattle.std.specs.Prelude.{◌≡◌, ◌<◌, true};
-ghost use Rattle.far_table.specs.BookSeats.{seat_view};
 ghost use Rattle.bench_far_table.specs.Hands.{IsReady, IsStay};
 ghost use Rattle.bench_far_table.specs.States.{IsIdle};
 
 use crate::owner::Owner;
 use crate::turn::Turn;
 use far_core::Naming;
-use far_device::MemDevice;
 use far_hand::Near;
-use far_table::BookSeat;
 use far_word::{Mark, without_owner_marks};
 
 /// The book's seat, a pointer whose object lies in a sealed log, an empty log, and an owner.
 #[derive(Drop)]
-pub(crate) struct BookHand {
-    pub seat: BookSeat<MemDevice>,
+pub(crate) struct BookHand<N: Near + Drop> {
+    pub seat: N,
     pub pointer: u16,
     pub log: u8,
     pub owner: u8,
-    ghost ready: { IsReady (seat_view seat) pointer log owner },
+    ghost ready: { IsReady (N.view seat) pointer log owner },
 }
 
-impl BookHand {
+impl<N: Near + Drop> BookHand<N> {
     #[inline(always)]
     fn see(&mut self) -> u64
-        ensures { (seat_view self.new.seat).cell self.new.pointer ≡ result }
+        ensures { (N.view self.new.seat).cell self.new.pointer ≡ result }
     {
         self.seat.see(self.pointer)
     }
@@ -58,7 +55,7 @@ impl BookHand {
     // An object whose owner asked for a move stays where it lies: 0, or the word that was found instead.
     #[inline(always)]
     fn name(&mut self, old: u64, new: u64) -> u64
-        requires seen { (seat_view self.old.seat).cell self.old.pointer ≡ old }
+        requires seen { (N.view self.old.seat).cell self.old.pointer ≡ old }
         requires stays { IsStay old new }
     {
         match self.seat.name(self.pointer, old, new) {
@@ -109,11 +106,11 @@ pub(crate) const SEE_JOB: u8 = 7;
 
 /// Turns of the book alone.
 #[derive(Drop)]
-pub(crate) struct Deeds<const DEED: u8> {
-    pub hand: BookHand,
+pub(crate) struct Deeds<N: Near + Drop, const DEED: u8> {
+    pub hand: BookHand<N>,
 }
 
-impl<const DEED: u8> Turn for Deeds<DEED> {
+impl<N: Near + Drop, const DEED: u8> Turn for Deeds<N, DEED> {
     fn turn(&mut self, index: u16, word: u64) -> u64 {
         match DEED {
             MARK => self.hand.mark(),
@@ -136,8 +133,8 @@ pub(crate) const NAME: u8 = 1;
 /// An owner asks for a move, and the book sees that the object may stay where it lies: the word that it had then, and the same without the owner's
 /// marks.
 #[derive(Drop)]
-pub(crate) struct Asks<const DEED: u8> {
-    pub hand: BookHand,
+pub(crate) struct Asks<N: Near + Drop, const DEED: u8> {
+    pub hand: BookHand<N>,
     pub owner: Owner,
     pub found: u64,
     pub plain: u64,
@@ -151,11 +148,11 @@ fn is_stay(old: u64, new: u64) -> bool
     matches!(Naming::of(old, new), Some(Naming::Stays))
 }
 
-impl<const DEED: u8> Asks<DEED> {
+impl<N: Near + Drop, const DEED: u8> Asks<N, DEED> {
     // Whether the object may stay where it lies. It is a call, so that the turns with and without a naming have it alike.
     #[inline(never)]
     fn asked(&mut self) -> bool
-        ensures seen { result ≡ true → (seat_view self.new.hand.seat).cell self.new.hand.pointer ≡ self.new.found }
+        ensures seen { result ≡ true → (N.view self.new.hand.seat).cell self.new.hand.pointer ≡ self.new.found }
         ensures stays { result ≡ true → IsStay self.new.found self.new.plain }
     {
         self.owner.seat.ask(self.owner.pointer, Mark::Moved);
@@ -166,7 +163,7 @@ impl<const DEED: u8> Asks<DEED> {
     }
 }
 
-impl<const DEED: u8> Turn for Asks<DEED> {
+impl<N: Near + Drop, const DEED: u8> Turn for Asks<N, DEED> {
     fn turn(&mut self, _index: u16, _word: u64) -> u64 {
         if !self.asked() {
             return 0;

@@ -30,6 +30,9 @@ use std::process::ExitCode;
 use std::{env, io};
 use turn::turns;
 
+/// The book's seat.
+type Seat = BookSeat<MemDevice>;
+
 // What is done: a call of an owner's seat, one of the book's, one about a job that is offered, the same by hand, or an operation on a bare table.
 #[derive(Clone, Copy)]
 enum Work {
@@ -89,7 +92,7 @@ enum Step {
 }
 
 // Each work by its name.
-const WORKS: [(&str, Work); 35] = [
+const WORKS: &[(&str, Work)] = &[
     ("share", Work::Seat(Call::Share)),
     ("read_epoch", Work::Seat(Call::ReadEpoch)),
     ("scope", Work::Seat(Call::Scope)),
@@ -129,8 +132,8 @@ const WORKS: [(&str, Work); 35] = [
 
 fn named(name: &str) -> Option<Work> {
     for (word, work) in WORKS {
-        if word == name {
-            return Some(work);
+        if *word == name {
+            return Some(*work);
         }
     }
     None
@@ -163,23 +166,23 @@ fn on_seat(owner: Owner, call: Call, task: Task) -> Option<u64>
     Some(last)
 }
 
-fn on_book(hand: BookHand, owner: Owner, deed: Deed, task: Task) -> u64
+fn on_book(hand: BookHand<Seat>, owner: Owner, deed: Deed, task: Task) -> u64
     requires idle { IsIdle owner.seat.view owner.pointer }
     requires inside { task.index < 8 }
 {
     let (index, count) = (task.index, task.turns);
     let (found, plain) = (0, 0);
     match deed {
-        Deed::See => turns(&mut Deeds::<{ hand::SEE }> { hand }, index, count),
-        Deed::Mark => turns(&mut Deeds::<{ hand::MARK }> { hand }, index, count),
-        Deed::Clear => turns(&mut Deeds::<{ hand::CLEAR }> { hand }, index, count),
-        Deed::Get => turns(&mut Deeds::<{ hand::GET }> { hand }, index, count),
-        Deed::Put => turns(&mut Deeds::<{ hand::PUT }> { hand }, index, count),
-        Deed::Advance => turns(&mut Deeds::<{ hand::ADVANCE }> { hand }, index, count),
-        Deed::Look => turns(&mut Deeds::<{ hand::LOOK }> { hand }, index, count),
-        Deed::SeeJob => turns(&mut Deeds::<{ hand::SEE_JOB }> { hand }, index, count),
+        Deed::See => turns(&mut Deeds::<Seat, { hand::SEE }> { hand }, index, count),
+        Deed::Mark => turns(&mut Deeds::<Seat, { hand::MARK }> { hand }, index, count),
+        Deed::Clear => turns(&mut Deeds::<Seat, { hand::CLEAR }> { hand }, index, count),
+        Deed::Get => turns(&mut Deeds::<Seat, { hand::GET }> { hand }, index, count),
+        Deed::Put => turns(&mut Deeds::<Seat, { hand::PUT }> { hand }, index, count),
+        Deed::Advance => turns(&mut Deeds::<Seat, { hand::ADVANCE }> { hand }, index, count),
+        Deed::Look => turns(&mut Deeds::<Seat, { hand::LOOK }> { hand }, index, count),
+        Deed::SeeJob => turns(&mut Deeds::<Seat, { hand::SEE_JOB }> { hand }, index, count),
         Deed::Ask => turns(
-            &mut Asks::<{ hand::ASK }> {
+            &mut Asks::<Seat, { hand::ASK }> {
                 hand,
                 owner,
                 found,
@@ -189,7 +192,7 @@ fn on_book(hand: BookHand, owner: Owner, deed: Deed, task: Task) -> u64
             count,
         ),
         Deed::Name => turns(
-            &mut Asks::<{ hand::NAME }> {
+            &mut Asks::<Seat, { hand::NAME }> {
                 hand,
                 owner,
                 found,
@@ -202,12 +205,7 @@ fn on_book(hand: BookHand, owner: Owner, deed: Deed, task: Task) -> u64
 }
 
 // `None` where the copier can't do it. The job's number is that of the word.
-fn on_job(
-    book: BookSeat<MemDevice>,
-    copier: CopySeat<MemDevice>,
-    part: Part,
-    task: Task,
-) -> Option<u64>
+fn on_job(book: Seat, copier: CopySeat<MemDevice>, part: Part, task: Task) -> Option<u64>
     requires idle { copier.view.task ≡ None }
     requires inside { task.index < 8 }
 {
@@ -218,12 +216,12 @@ fn on_job(
         Part::Copy => turns(&mut copying(copier)?, index, count),
         Part::Finish => turns(&mut finishing(copying(copier)?)?, index, count),
         Part::Await => turns(
-            &mut Collects::<{ copying::AWAIT }> { seat, job, found },
+            &mut Collects::<Seat, { copying::AWAIT }> { seat, job, found },
             index,
             count,
         ),
         Part::Collect => turns(
-            &mut Collects::<{ copying::COLLECT }> { seat, job, found },
+            &mut Collects::<Seat, { copying::COLLECT }> { seat, job, found },
             index,
             count,
         ),

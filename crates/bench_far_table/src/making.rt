@@ -11,7 +11,7 @@ use crate::hand::BookHand;
 use crate::owner::Owner;
 use far_core::{Core, Event, Kind, Reply, Shape};
 use far_device::MemDevice;
-use far_table::share;
+use far_table::{BookSeat, share};
 use far_word::{CELLS, PtrWord, Refused, ScopeWord};
 use std::alloc::Global;
 use std::snapshot::Snapshot;
@@ -80,7 +80,11 @@ pub(crate) fn is_ready(core: &Core, pointer: u16) -> bool
 }
 
 // The book's seat, and the one owner's.
-fn seats_of(alloc: Global, core: Core, pointer: u16) -> Result<Option<(BookHand, Owner)>, Refused>
+fn seats_of(
+    alloc: Global,
+    core: Core,
+    pointer: u16,
+) -> Result<Option<(BookHand<BookSeat<MemDevice>>, Owner)>, Refused>
     requires { pointer < CELLS }
     ensures { IfOk result (λ found. IfSome found (λ both. IsFresh both.1.seat.view both.1.pointer)) }
 {
@@ -112,7 +116,10 @@ fn adopts(owner: &mut Owner) -> bool
 }
 
 /// The book and owner 0 of a heap that is shared, with an object of 64 bytes; `None` where the pointer isn't one of the owner's.
-pub(crate) fn made(alloc: Global, pointer: u16) -> Result<Option<(BookHand, Owner)>, Refused>
+pub(crate) fn made(
+    alloc: Global,
+    pointer: u16,
+) -> Result<Option<(BookHand<BookSeat<MemDevice>>, Owner)>, Refused>
     ensures { IfOk result (λ found. IfSome found (λ both. IsIdle both.1.seat.view both.1.pointer)) }
 {
     if pointer >= CELLS {

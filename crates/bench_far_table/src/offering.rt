@@ -98,7 +98,10 @@ pub(crate) fn offered(
 }
 
 /// The book's seat of a heap with an object of 64 bytes in log 0, which is in the round, whose owner was seen clear in it; `None` where it can't be.
-pub(crate) fn beginning(alloc: Global, pointer: u16) -> Result<Option<BookHand>, Refused>
+pub(crate) fn beginning(
+    alloc: Global,
+    pointer: u16,
+) -> Result<Option<BookHand<BookSeat<MemDevice>>>, Refused>
     ensures { IfOk result (λ found. IfSome found (λ hand. InRound (seat_view hand.seat) hand.pointer)) }
 {
     if pointer >= CELLS {

@@ -1,15 +1,12 @@
 // The book offers a job, once: its seat's call, and the same by hand on a bare table.
 ghost use Rattle.std.specs.Prelude.{◌≡◌, ◌<◌, false, IfSome};
 ghost use Rattle.far_word.specs.declared.sizes.TheConstants.{JOBS};
-ghost use Rattle.far_table.specs.BookSeats.{seat_view};
 ghost use Rattle.bench_far_table.specs.Offers.{Copyable, InRound};
 
 use crate::bare::{Bare, JOBS_AT};
 use crate::hand::BookHand;
 use crate::turn::Turn;
-use far_device::MemDevice;
 use far_hand::Near;
-use far_table::BookSeat;
 use far_word::{HeadWord, Marks, Place, PtrWord, words_for};
 
 /// A near object, as its cell says.
@@ -23,17 +20,17 @@ struct Object {
 
 /// A job to be offered: the copy of a pointer's object to the start of a log; and whether that is done.
 #[derive(Drop)]
-pub(crate) struct Offers {
-    seat: BookSeat<MemDevice>,
+pub(crate) struct Offers<N: Near + Drop> {
+    seat: N,
     job: u8,
     pointer: u16,
     object: Object,
     log: u8,
     done: bool,
-    ghost ready: { done ≡ false → Copyable (seat_view seat) job pointer object.len object.ds object.place object.marks log },
+    ghost ready: { done ≡ false → Copyable (N.view seat) job pointer object.len object.ds object.place object.marks log },
 }
 
-impl Turn for Offers {
+impl<N: Near + Drop> Turn for Offers<N> {
     fn turn(&mut self, _index: u16, _word: u64) -> u64 {
         if !self.done {
             let to = Place {
@@ -49,9 +46,9 @@ impl Turn for Offers {
 }
 
 /// Writes what an offer asks for to the start of the empty log; `None` where the object can't be copied.
-pub(crate) fn offering(hand: BookHand, job: u8) -> Option<Offers>
+pub(crate) fn offering<N: Near + Drop>(hand: BookHand<N>, job: u8) -> Option<Offers<N>>
     requires job { job < JOBS }
-    requires round { InRound (seat_view hand.seat) hand.pointer }
+    requires round { InRound (N.view hand.seat) hand.pointer }
 {
     let BookHand {
         mut seat,
