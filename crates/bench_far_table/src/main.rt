@@ -25,7 +25,7 @@ use making::made;
 use offering::{beginning, offered};
 use offers::{HandOffers, offering};
 use owner::{Idles, Owner, viewing};
-use std::alloc::{AllocError, Global};
+use std::alloc::Global;
 use std::process::ExitCode;
 use std::{env, io};
 use turn::turns;
@@ -242,12 +242,11 @@ fn on_hand(copier: HandCopier, part: Part, task: Task) -> Option<u64>
     }
 }
 
-fn on_bare(alloc: Global, step: Step, task: Task) -> Result<u64, AllocError>
+fn on_bare(bare: Bare, step: Step, task: Task) -> u64
     requires { task.index < 8 }
 {
     let (index, count) = (task.index, task.turns);
-    let bare = Bare::new(alloc)?;
-    let last = match step {
+    match step {
         Step::Empty => turns(&mut Bares::<{ bare::EMPTY }> { bare }, index, count),
         Step::Load => turns(&mut Bares::<{ bare::LOAD }> { bare }, index, count),
         Step::Store => turns(&mut Bares::<{ bare::STORE }> { bare }, index, count),
@@ -256,8 +255,85 @@ fn on_bare(alloc: Global, step: Step, task: Task) -> Result<u64, AllocError>
         Step::Exchange => turns(&mut Bares::<{ bare::EXCHANGE }> { bare }, index, count),
         Step::Scope => turns(&mut Bares::<{ bare::SCOPE }> { bare }, index, count),
         Step::Pin => turns(&mut Bares::<{ bare::PIN }> { bare }, index, count),
+    }
+}
+
+fn by_bare(alloc: Global, step: Step, task: Task) -> Result<Option<u64>, Refused>
+    requires { task.index < 8 }
+{
+    match Bare::new(alloc) {
+        Ok(bare) => Ok(Some(on_bare(bare, step, task))),
+        Err(_) => Err(Refused::Memory),
+    }
+}
+
+fn by_seat(alloc: Global, call: Call, task: Task) -> Result<Option<u64>, Refused>
+    requires { task.index < 8 }
+{
+    match made(alloc, task.pointer)? {
+        Some((_hand, owner)) => Ok(on_seat(owner, call, task)),
+        None => Ok(None),
+    }
+}
+
+fn by_book(alloc: Global, deed: Deed, task: Task) -> Result<Option<u64>, Refused>
+    requires { task.index < 8 }
+{
+    match made(alloc, task.pointer)? {
+        Some((hand, owner)) => Ok(Some(on_book(hand, owner, deed, task))),
+        None => Ok(None),
+    }
+}
+
+// The job's number is that of the word.
+fn by_offer(alloc: Global, task: Task) -> Result<Option<u64>, Refused>
+    requires { task.index < 8 }
+{
+    let Some(hand) = beginning(alloc, task.pointer)? else {
+        return Ok(None);
     };
-    Ok(last)
+    match offering(hand, task.index as u8) {
+        Some(mut offers) => Ok(Some(turns(&mut offers, task.index, task.turns))),
+        None => Ok(None),
+    }
+}
+
+fn by_bare_offer(alloc: Global, task: Task) -> Result<Option<u64>, Refused>
+    requires { task.index < 8 }
+{
+    let Ok(bare) = Bare::new(alloc) else {
+        return Err(Refused::Memory);
+    };
+    let mut offers = HandOffers {
+        bare,
+        job: task.index as u8,
+        pointer: task.pointer,
+        from: Place { log: 0, at: 0 },
+        to: Place { log: 2, at: 0 },
+        done: false,
+    };
+    Ok(Some(turns(&mut offers, task.index, task.turns)))
+}
+
+fn by_hand_copier(alloc: Global, part: Part, task: Task) -> Result<Option<u64>, Refused>
+    requires { task.index < 8 }
+{
+    if task.pointer >= POINTERS {
+        return Ok(None);
+    }
+    match HandCopier::new(alloc, task.pointer, task.index as usize) {
+        Ok(copier) => Ok(on_hand(copier, part, task)),
+        Err(_) => Err(Refused::Memory),
+    }
+}
+
+fn by_job(alloc: Global, part: Part, task: Task) -> Result<Option<u64>, Refused>
+    requires { task.index < 8 }
+{
+    match offered(alloc, task.pointer, task.index as u8)? {
+        Some((book, copier)) => Ok(on_job(book, copier, part, task)),
+        None => Ok(None),
+    }
 }
 
 // What was found last; `None` where the task can't be done.
@@ -266,61 +342,13 @@ fn done(alloc: Global, task: Task) -> Result<Option<u64>, Refused> {
         return Ok(None);
     }
     match task.work {
-        Work::Bare(step) => match on_bare(alloc, step, task) {
-            Ok(last) => Ok(Some(last)),
-            Err(_) => Err(Refused::Memory),
-        },
-        Work::Seat(call) => {
-            let Some((_hand, owner)) = made(alloc, task.pointer)? else {
-                return Ok(None);
-            };
-            Ok(on_seat(owner, call, task))
-        }
-        Work::Book(deed) => {
-            let Some((hand, owner)) = made(alloc, task.pointer)? else {
-                return Ok(None);
-            };
-            Ok(Some(on_book(hand, owner, deed, task)))
-        }
-        Work::Offer => {
-            let Some(hand) = beginning(alloc, task.pointer)? else {
-                return Ok(None);
-            };
-            let Some(mut offers) = offering(hand, task.index as u8) else {
-                return Ok(None);
-            };
-            Ok(Some(turns(&mut offers, task.index, task.turns)))
-        }
-        Work::BareOffer => match Bare::new(alloc) {
-            Ok(bare) => Ok(Some(turns(
-                &mut HandOffers {
-                    bare,
-                    job: task.index as u8,
-                    pointer: task.pointer,
-                    from: Place { log: 0, at: 0 },
-                    to: Place { log: 2, at: 0 },
-                    done: false,
-                },
-                task.index,
-                task.turns,
-            ))),
-            Err(_) => Err(Refused::Memory),
-        },
-        Work::Hand(part) => {
-            if task.pointer >= POINTERS {
-                return Ok(None);
-            }
-            match HandCopier::new(alloc, task.pointer, task.index as usize) {
-                Ok(copier) => Ok(on_hand(copier, part, task)),
-                Err(_) => Err(Refused::Memory),
-            }
-        }
-        Work::Job(part) => {
-            let Some((book, copier)) = offered(alloc, task.pointer, task.index as u8)? else {
-                return Ok(None);
-            };
-            Ok(on_job(book, copier, part, task))
-        }
+        Work::Seat(call) => by_seat(alloc, call, task),
+        Work::Book(deed) => by_book(alloc, deed, task),
+        Work::Offer => by_offer(alloc, task),
+        Work::BareOffer => by_bare_offer(alloc, task),
+        Work::Job(part) => by_job(alloc, part, task),
+        Work::Hand(part) => by_hand_copier(alloc, part, task),
+        Work::Bare(step) => by_bare(alloc, step, task),
     }
 }
 
