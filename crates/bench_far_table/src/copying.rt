@@ -9,7 +9,7 @@ ghost use Rattle.bench_far_table.specs.Copiers.{IsFree, IsWhole};
 use crate::turn::Turn;
 use far_device::MemDevice;
 use far_hand::Near;
-use far_table::{CopySeat, Job};
+use far_table::{BookSeat, CopySeat, Job};
 use far_word::JobWord;
 use std::mem;
 
@@ -128,8 +128,9 @@ impl<N: Near + Drop, const DEED: u8> Collects<N, DEED> {
     }
 }
 
-impl<N: Near + Drop, const DEED: u8> Turn for Collects<N, DEED> {
-    fn turn(&mut self, _index: u16, _word: u64) -> u64 {
+impl<N: Near + Drop, const DEED: u8> Collects<N, DEED> {
+    #[inline(always)]
+    fn once(&mut self) -> u64 {
         if !self.awaits() {
             return 0;
         }
@@ -140,5 +141,17 @@ impl<N: Near + Drop, const DEED: u8> Turn for Collects<N, DEED> {
             Ok(()) => 0,
             Err(found) => found,
         }
+    }
+}
+
+/// The same of the book's seat, as turns.
+#[derive(Drop)]
+pub(crate) struct CollectTurns<const DEED: u8> {
+    pub collects: Collects<BookSeat<MemDevice>, DEED>,
+}
+
+impl<const DEED: u8> Turn for CollectTurns<DEED> {
+    fn turn(&mut self, _index: u16, _word: u64) -> u64 {
+        self.collects.once()
     }
 }

@@ -6,7 +6,9 @@ ghost use Rattle.bench_far_table.specs.States.{IsIdle};
 use crate::owner::Owner;
 use crate::turn::Turn;
 use far_core::Naming;
+use far_device::MemDevice;
 use far_hand::Near;
+use far_table::BookSeat;
 use far_word::{Mark, without_owner_marks};
 
 /// The book's seat, a pointer whose object lies in a sealed log, an empty log, and an owner.
@@ -110,8 +112,11 @@ pub(crate) struct Deeds<N: Near + Drop, const DEED: u8> {
     pub hand: BookHand<N>,
 }
 
-impl<N: Near + Drop, const DEED: u8> Turn for Deeds<N, DEED> {
-    fn turn(&mut self, index: u16, word: u64) -> u64 {
+impl<N: Near + Drop, const DEED: u8> Deeds<N, DEED> {
+    #[inline(always)]
+    fn once(&mut self, index: u16, word: u64) -> u64
+        requires { index < 8 }
+    {
         match DEED {
             MARK => self.hand.mark(),
             CLEAR => self.hand.clear(),
@@ -163,8 +168,9 @@ impl<N: Near + Drop, const DEED: u8> Asks<N, DEED> {
     }
 }
 
-impl<N: Near + Drop, const DEED: u8> Turn for Asks<N, DEED> {
-    fn turn(&mut self, _index: u16, _word: u64) -> u64 {
+impl<N: Near + Drop, const DEED: u8> Asks<N, DEED> {
+    #[inline(always)]
+    fn once(&mut self) -> u64 {
         if !self.asked() {
             return 0;
         }
@@ -172,5 +178,28 @@ impl<N: Near + Drop, const DEED: u8> Turn for Asks<N, DEED> {
             return self.plain;
         }
         self.hand.name(self.found, self.plain)
+    }
+}
+
+/// The same of the book's seat, as turns.
+#[derive(Drop)]
+pub(crate) struct DeedTurns<const DEED: u8> {
+    pub deeds: Deeds<BookSeat<MemDevice>, DEED>,
+}
+
+impl<const DEED: u8> Turn for DeedTurns<DEED> {
+    fn turn(&mut self, index: u16, word: u64) -> u64 {
+        self.deeds.once(index, word)
+    }
+}
+
+#[derive(Drop)]
+pub(crate) struct AskTurns<const DEED: u8> {
+    pub asks: Asks<BookSeat<MemDevice>, DEED>,
+}
+
+impl<const DEED: u8> Turn for AskTurns<DEED> {
+    fn turn(&mut self, _index: u16, _word: u64) -> u64 {
+        self.asks.once()
     }
 }

@@ -16,14 +16,14 @@ mod turn;
 
 use bare::{Bare, Bares};
 use by_hand::{HandCopier, hand_claiming, hand_copying, hand_finishing};
-use copying::{Collects, claiming, copying, finishing};
+use copying::{CollectTurns, Collects, claiming, copying, finishing};
 use far_device::MemDevice;
 use far_table::{BookSeat, CopySeat};
 use far_word::{POINTERS, Place, Refused};
-use hand::{Asks, BookHand, Deeds};
+use hand::{AskTurns, Asks, BookHand, DeedTurns, Deeds};
 use making::made;
 use offering::{beginning, offered};
-use offers::{HandOffers, offering};
+use offers::{HandOffers, OfferTurns, offering};
 use owner::{Idles, Owner, viewing};
 use std::alloc::Global;
 use std::process::ExitCode;
@@ -166,41 +166,54 @@ fn on_seat(owner: Owner, call: Call, task: Task) -> Option<u64>
     Some(last)
 }
 
+fn deeds<const DEED: u8>(hand: BookHand<Seat>) -> DeedTurns<DEED> {
+    DeedTurns {
+        deeds: Deeds { hand },
+    }
+}
+
+fn asks<const DEED: u8>(hand: BookHand<Seat>, owner: Owner) -> AskTurns<DEED>
+    requires { IsIdle owner.seat.view owner.pointer }
+{
+    let (found, plain) = (0, 0);
+    AskTurns {
+        asks: Asks {
+            hand,
+            owner,
+            found,
+            plain,
+        },
+    }
+}
+
+fn collects<const DEED: u8>(seat: Seat, job: u8) -> CollectTurns<DEED>
+    requires { job < 8 }
+{
+    CollectTurns {
+        collects: Collects {
+            seat,
+            job,
+            found: 0,
+        },
+    }
+}
+
 fn on_book(hand: BookHand<Seat>, owner: Owner, deed: Deed, task: Task) -> u64
     requires idle { IsIdle owner.seat.view owner.pointer }
     requires inside { task.index < 8 }
 {
     let (index, count) = (task.index, task.turns);
-    let (found, plain) = (0, 0);
     match deed {
-        Deed::See => turns(&mut Deeds::<Seat, { hand::SEE }> { hand }, index, count),
-        Deed::Mark => turns(&mut Deeds::<Seat, { hand::MARK }> { hand }, index, count),
-        Deed::Clear => turns(&mut Deeds::<Seat, { hand::CLEAR }> { hand }, index, count),
-        Deed::Get => turns(&mut Deeds::<Seat, { hand::GET }> { hand }, index, count),
-        Deed::Put => turns(&mut Deeds::<Seat, { hand::PUT }> { hand }, index, count),
-        Deed::Advance => turns(&mut Deeds::<Seat, { hand::ADVANCE }> { hand }, index, count),
-        Deed::Look => turns(&mut Deeds::<Seat, { hand::LOOK }> { hand }, index, count),
-        Deed::SeeJob => turns(&mut Deeds::<Seat, { hand::SEE_JOB }> { hand }, index, count),
-        Deed::Ask => turns(
-            &mut Asks::<Seat, { hand::ASK }> {
-                hand,
-                owner,
-                found,
-                plain,
-            },
-            index,
-            count,
-        ),
-        Deed::Name => turns(
-            &mut Asks::<Seat, { hand::NAME }> {
-                hand,
-                owner,
-                found,
-                plain,
-            },
-            index,
-            count,
-        ),
+        Deed::See => turns(&mut deeds::<{ hand::SEE }>(hand), index, count),
+        Deed::Mark => turns(&mut deeds::<{ hand::MARK }>(hand), index, count),
+        Deed::Clear => turns(&mut deeds::<{ hand::CLEAR }>(hand), index, count),
+        Deed::Get => turns(&mut deeds::<{ hand::GET }>(hand), index, count),
+        Deed::Put => turns(&mut deeds::<{ hand::PUT }>(hand), index, count),
+        Deed::Advance => turns(&mut deeds::<{ hand::ADVANCE }>(hand), index, count),
+        Deed::Look => turns(&mut deeds::<{ hand::LOOK }>(hand), index, count),
+        Deed::SeeJob => turns(&mut deeds::<{ hand::SEE_JOB }>(hand), index, count),
+        Deed::Ask => turns(&mut asks::<{ hand::ASK }>(hand, owner), index, count),
+        Deed::Name => turns(&mut asks::<{ hand::NAME }>(hand, owner), index, count),
     }
 }
 
@@ -210,18 +223,14 @@ fn on_job(book: Seat, copier: CopySeat<MemDevice>, part: Part, task: Task) -> Op
     requires inside { task.index < 8 }
 {
     let (index, count) = (task.index, task.turns);
-    let (seat, job, found) = (book, index as u8, 0);
+    let job = index as u8;
     let last = match part {
         Part::Claim => turns(&mut claiming(copier), index, count),
         Part::Copy => turns(&mut copying(copier)?, index, count),
         Part::Finish => turns(&mut finishing(copying(copier)?)?, index, count),
-        Part::Await => turns(
-            &mut Collects::<Seat, { copying::AWAIT }> { seat, job, found },
-            index,
-            count,
-        ),
+        Part::Await => turns(&mut collects::<{ copying::AWAIT }>(book, job), index, count),
         Part::Collect => turns(
-            &mut Collects::<Seat, { copying::COLLECT }> { seat, job, found },
+            &mut collects::<{ copying::COLLECT }>(book, job),
             index,
             count,
         ),
@@ -293,7 +302,7 @@ fn by_offer(alloc: Global, task: Task) -> Result<Option<u64>, Refused>
         return Ok(None);
     };
     match offering(hand, task.index as u8) {
-        Some(mut offers) => Ok(Some(turns(&mut offers, task.index, task.turns))),
+        Some(offers) => Ok(Some(turns(&mut OfferTurns { offers }, task.index, task.turns))),
         None => Ok(None),
     }
 }

@@ -6,7 +6,9 @@ ghost use Rattle.bench_far_table.specs.Offers.{Copyable, InRound};
 use crate::bare::{Bare, JOBS_AT};
 use crate::hand::BookHand;
 use crate::turn::Turn;
+use far_device::MemDevice;
 use far_hand::Near;
+use far_table::BookSeat;
 use far_word::{HeadWord, Marks, Place, PtrWord, words_for};
 
 /// A near object, as its cell says.
@@ -30,8 +32,9 @@ pub(crate) struct Offers<N: Near + Drop> {
     ghost ready: { done ≡ false → Copyable (N.view seat) job pointer object.len object.ds object.place object.marks log },
 }
 
-impl<N: Near + Drop> Turn for Offers<N> {
-    fn turn(&mut self, _index: u16, _word: u64) -> u64 {
+impl<N: Near + Drop> Offers<N> {
+    #[inline(always)]
+    fn once(&mut self) -> u64 {
         if !self.done {
             let to = Place {
                 log: self.log,
@@ -42,6 +45,18 @@ impl<N: Near + Drop> Turn for Offers<N> {
             self.done = true;
         }
         0
+    }
+}
+
+/// The same of the book's seat, as turns.
+#[derive(Drop)]
+pub(crate) struct OfferTurns {
+    pub offers: Offers<BookSeat<MemDevice>>,
+}
+
+impl Turn for OfferTurns {
+    fn turn(&mut self, _index: u16, _word: u64) -> u64 {
+        self.offers.once()
     }
 }
 
