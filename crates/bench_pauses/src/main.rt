@@ -4,6 +4,7 @@
 
 ghost use Rattle.std.specs.Prelude.{◌≡◌};
 
+mod gate;
 mod mutating;
 mod rounds;
 mod times;
@@ -12,13 +13,13 @@ use far_core::Shape;
 use far_device::MemDevice;
 use far_heap::{Blank, Heap, HeapName, Mutator};
 use far_word::Refused;
+use gate::Gate;
 use mutating::{Calls, call_on};
 use rounds::make_rounds;
-use std::alloc::Global;
+use std::alloc::{AllocError, Global};
 use std::marker::Brand;
 use std::process::ExitCode;
 use std::sync::Wait;
-use std::sync::atomic::{AtomicU64, Ordering};
 use std::thread::Threads;
 use std::time::Clock;
 use std::{env, io, thread};
@@ -56,38 +57,60 @@ struct Measured {
 }
 
 impl Measured {
-    fn add_all(&mut self, each: &[Result<Calls, Refused>]) -> Result<(), Refused> {
+    fn add_all(&mut self, each: &[Calls]) {
         for calls in each {
-            match calls {
-                Ok(calls) => {
-                    self.times.add_all(&calls.times);
-                    self.sum = self.sum.wrapping_add(calls.sum);
-                }
-                Err(why) => return Err(*why),
-            }
+            self.times.add_all(&calls.times);
+            self.sum = self.sum.wrapping_add(calls.sum);
         }
-        Ok(())
     }
+}
+
+// What came of rounds and of mutators, unless there was no memory for threads.
+fn sum_up(times: Times, each: Result<Vec<Calls>, AllocError>) -> Measured {
+    let mut all = Measured { times, sum: 0 };
+    match each {
+        Ok(each) => all.add_all(each.as_slice()),
+        Err(_) => all.times.refuse(Refused::Memory),
+    }
+    all
 }
 
 // What came of all mutators, each in a thread of its own.
 fn call_all<K: HeapName + Send + Sync, R: Threads + Wait + Clock + Sync>(
     rt: &R,
     alloc: Global,
+    gate: &Gate,
     mutators: Vec<Mutator<K, MemDevice>>,
     asked: Asked,
-) -> Result<Vec<Result<Calls, Refused>>, Refused> {
-    let each = |mutator: Mutator<K, MemDevice>| {
-        call_on(rt, alloc, mutator, asked.len, asked.count)
-    };
-    match thread::map_vec(rt, mutators, &each) {
-        Ok(all) => Ok(all),
-        Err(_) => Err(Refused::Memory),
-    }
+) -> Result<Vec<Calls>, AllocError> {
+    thread::map_vec(
+        rt,
+        mutators,
+        &|mutator| call_on(rt, alloc, gate, mutator, asked),
+    )
 }
 
 // What came of mutators and of the thread of rounds on a heap.
 fn measure_on<K: HeapName + Send + Sync, R: Threads + Wait + Clock + Sync>(
+    rt: &R,
+    alloc: Global,
+    heap: &Heap<K, MemDevice>,
+    mutators: Vec<Mutator<K, MemDevice>>,
+    gate: &Gate,
+    asked: Asked,
+) -> Measured {
+    let calls = || {
+        let calls = call_all(rt, alloc, gate, mutators, asked);
+        gate.end();
+        calls
+    };
+    let rounds = || make_rounds(rt, alloc, heap, gate);
+    let (calls, times) = thread::join(rt, calls, rounds);
+    sum_up(times, calls)
+}
+
+// The same on a heap of these parts.
+fn begin<K: HeapName + Send + Sync, R: Threads + Wait + Clock + Sync>(
     rt: &R,
     alloc: Global,
     blank: Blank<MemDevice>,
@@ -95,24 +118,10 @@ fn measure_on<K: HeapName + Send + Sync, R: Threads + Wait + Clock + Sync>(
 ) -> Result<Measured, Refused>
     requires { blank.heap ≡ K.heap }
 {
-    let (heap, mutators) = Heap::<K, MemDevice>::new(alloc, blank)?;
-    let over = AtomicU64::new(0);
-    let (ended, of_rounds) = (&over, &heap);
-    let (calls, times) = thread::join(
-        rt,
-        move || {
-            let calls = call_all(rt, alloc, mutators, asked);
-            ended.store(1, Ordering::SeqCst);
-            calls
-        },
-        move || make_rounds(rt, alloc, of_rounds, ended),
-    );
-    let mut all = Measured {
-        times: times?,
-        sum: 0,
-    };
-    all.add_all(&calls?)?;
-    Ok(all)
+    match Heap::<K, MemDevice>::new(alloc, blank) {
+        Ok((heap, mutators)) => Ok(measure_on(rt, alloc, &heap, mutators, &Gate::new(), asked)),
+        Err(why) => Err(why),
+    }
 }
 
 fn measure<R: Threads + Wait + Clock + Sync>(
@@ -125,8 +134,10 @@ fn measure<R: Threads + Wait + Clock + Sync>(
         mutators: asked.mutators,
         epoch: 0,
     };
-    let blank = Blank::new(alloc, shape, MemDevice::new(alloc))?;
-    measure_on::<Brand, _>(rt, alloc, blank, asked)
+    match Blank::new(alloc, shape, MemDevice::new(alloc)) {
+        Ok(blank) => begin::<Brand, _>(rt, alloc, blank, asked),
+        Err(why) => Err(why),
+    }
 }
 
 fn said(rt: &HostRuntime) -> io::Result<Option<Asked>> {
@@ -139,12 +150,27 @@ fn failed(rt: &impl Eprint, text: &str, status: u8) -> ExitCode {
     ExitCode::from(status)
 }
 
+fn refused(rt: &impl Eprint, why: Refused) -> ExitCode {
+    let _ = eprintln!(rt; "{why}");
+    ExitCode::from(1)
+}
+
 fn print<R: Print>(rt: &R, measured: &Measured, quiet: bool) -> io::Result<()> {
     println!(rt; "checksum {:016x}", measured.sum)?;
     if quiet {
         return Ok(());
     }
     measured.times.print(rt)
+}
+
+fn told<R: Print + Eprint>(rt: &R, measured: &Measured, quiet: bool) -> ExitCode {
+    if let Some(why) = measured.times.refused {
+        return refused(rt, why);
+    }
+    match print(rt, measured, quiet) {
+        Ok(()) => ExitCode::SUCCESS,
+        Err(_) => failed(rt, "output", 1),
+    }
 }
 
 fn main(rt: HostRuntime) -> ExitCode {
@@ -155,13 +181,7 @@ fn main(rt: HostRuntime) -> ExitCode {
         return failed(&rt, "usage: bench_pauses MUTATORS LEN COUNT [quiet]", 2);
     };
     match measure(&rt, rt.alloc(), asked) {
-        Ok(measured) => match print(&rt, &measured, asked.quiet) {
-            Ok(()) => ExitCode::SUCCESS,
-            Err(_) => failed(&rt, "output", 1),
-        },
-        Err(why) => {
-            let _ = eprintln!(rt; "{why}");
-            ExitCode::from(1)
-        }
+        Ok(measured) => told(&rt, &measured, asked.quiet),
+        Err(why) => refused(&rt, why),
     }
 }

@@ -51,10 +51,11 @@ pub(crate) fn now<R: Clock>(rt: &R) -> Option<Instant> {
     Instant::now(rt).ok()
 }
 
-/// How often work took how long: a row of buckets for each kind.
+/// How often work took how long: a row of buckets for each kind. And why the work ended early, if it did.
 #[derive(Drop)]
 pub(crate) struct Times {
     counts: Vec<u64>,
+    pub(crate) refused: Option<Refused>,
 }
 
 // The bucket of a time of so many nanoseconds: below 32 each has its own, and from there on sixteen share each doubling.
@@ -108,12 +109,32 @@ fn print_row<R: Print>(rt: &R, name: &str, row: &[u64]) -> io::Result<()> {
 }
 
 impl Times {
-    pub(crate) fn new(alloc: Global) -> Result<Times, Refused> {
-        let mut counts = Vec::new(alloc);
-        match counts.resize(NAMES.len() * BUCKETS, 0) {
-            Ok(()) => Ok(Times { counts }),
-            Err(_) => Err(Refused::Memory),
+    /// None yet; refused at once where there is no memory.
+    pub(crate) fn new(alloc: Global) -> Times {
+        let mut times = Times {
+            counts: Vec::new(alloc),
+            refused: None,
+        };
+        if times.counts.resize(NAMES.len() * BUCKETS, 0).is_err() {
+            times.refused = Some(Refused::Memory);
         }
+        times
+    }
+
+    /// The work ends early.
+    pub(crate) fn refuse(&mut self, why: Refused) {
+        self.refused = Some(why);
+    }
+
+    /// The work ends early if this was refused.
+    pub(crate) fn expect(&mut self, done: Result<(), Refused>) {
+        if let Err(why) = done {
+            self.refuse(why);
+        }
+    }
+
+    pub(crate) fn is_refused(&self) -> bool {
+        self.refused.is_some()
     }
 
     /// Counts what began and ended at these times.
@@ -129,8 +150,11 @@ impl Times {
         }
     }
 
-    /// Counts what others counted too.
+    /// Counts what others counted too; refused if they were.
     pub(crate) fn add_all(&mut self, other: &Times) {
+        if let Some(why) = other.refused {
+            self.refuse(why);
+        }
         for (count, more) in self.counts.iter_mut().zip(other.counts.iter()) {
             *count = count.wrapping_add(*more);
         }

@@ -1,4 +1,4 @@
 use Rattle.bench_pauses.proofs.measure.Given as goal
 
-abbrev pub ghosts-measure_on : goal.ghosts-measure_on
-ghosts-measure_on g a = record { heap = a.blank.heap }
+abbrev pub ghosts-begin : goal.ghosts-begin
+ghosts-begin g a = record { heap = a.blank.heap }
