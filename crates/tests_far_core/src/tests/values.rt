@@ -1,8 +1,6 @@
 //! Whether values of the public types that differ compare as different. All other tests rest on it.
 
-use far_core::Event::*;
-use far_core::{Event, Kind, Naming, Reply, Shape};
-use far_word::Mark::{Dropped, Moved};
+use far_core::{Kind, Naming, Reply, Shape};
 use far_word::Place;
 
 /// Whether a value is equal to that of the same number among these, and to no other.
@@ -30,52 +28,6 @@ const START: Place = Place { log: 0, at: 0 };
 const NEXT_LOG: Place = Place { log: 1, at: 0 };
 
 const NEXT_WORD: Place = Place { log: 0, at: 1 };
-
-/// A row an event: zeros, and each field changed.
-#[rattlefmt::skip]
-const EVENTS: &[Event] = &[
-    ReadEpoch { owner: 0 }, ReadEpoch { owner: 1 },
-    Open { owner: 0 }, Open { owner: 1 },
-    Pin { owner: 0, pointer: 0 }, Pin { owner: 1, pointer: 0 }, Pin { owner: 0, pointer: 1 },
-    Load { owner: 0, pointer: 0, index: 0 }, Load { owner: 1, pointer: 0, index: 0 },
-    Load { owner: 0, pointer: 1, index: 0 }, Load { owner: 0, pointer: 0, index: 1 },
-    Store { owner: 0, pointer: 0, index: 0, word: 0 }, Store { owner: 1, pointer: 0, index: 0, word: 0 },
-    Store { owner: 0, pointer: 1, index: 0, word: 0 }, Store { owner: 0, pointer: 0, index: 1, word: 0 },
-    Store { owner: 0, pointer: 0, index: 0, word: 1 },
-    Soil { owner: 0, pointer: 0 }, Soil { owner: 1, pointer: 0 }, Soil { owner: 0, pointer: 1 },
-    Close { owner: 0 }, Close { owner: 1 },
-    Adopt { owner: 0, pointer: 0 }, Adopt { owner: 1, pointer: 0 }, Adopt { owner: 0, pointer: 1 },
-    Put { log: 0, at: 0, word: 0 }, Put { log: 1, at: 0, word: 0 },
-    Put { log: 0, at: 1, word: 0 }, Put { log: 0, at: 0, word: 1 },
-    Name { pointer: 0, old: 0, new: 0 }, Name { pointer: 1, old: 0, new: 0 },
-    Name { pointer: 0, old: 1, new: 0 }, Name { pointer: 0, old: 0, new: 1 },
-    See { pointer: 0 }, See { pointer: 1 },
-    Mark { pointer: 0 }, Mark { pointer: 1 },
-    Clear { pointer: 0 }, Clear { pointer: 1 },
-    Advance { logs: 0 }, Advance { logs: 1 },
-    Look { owner: 0 }, Look { owner: 1 },
-    Offer { job: 0, pointer: 0, to: START }, Offer { job: 1, pointer: 0, to: START }, Offer { job: 0, pointer: 1, to: START },
-    Offer { job: 0, pointer: 0, to: NEXT_LOG }, Offer { job: 0, pointer: 0, to: NEXT_WORD },
-    PeekJob { copier: 0, job: 0 }, PeekJob { copier: 1, job: 0 }, PeekJob { copier: 0, job: 1 },
-    SeeJob { job: 0 }, SeeJob { job: 1 },
-    Claim { copier: 0, job: 0, old: 0 }, Claim { copier: 1, job: 0, old: 0 },
-    Claim { copier: 0, job: 1, old: 0 }, Claim { copier: 0, job: 0, old: 1 },
-    ReadLength { copier: 0 }, ReadLength { copier: 1 },
-    Read { copier: 0, index: 0 }, Read { copier: 1, index: 0 }, Read { copier: 0, index: 1 },
-    Write { copier: 0, index: 0 }, Write { copier: 1, index: 0 }, Write { copier: 0, index: 1 },
-    Finish { copier: 0 }, Finish { copier: 1 },
-    Collect { job: 0, old: 0 }, Collect { job: 1, old: 0 }, Collect { job: 0, old: 1 },
-    Ask { owner: 0, pointer: 0, mark: Moved }, Ask { owner: 1, pointer: 0, mark: Moved },
-    Ask { owner: 0, pointer: 1, mark: Moved }, Ask { owner: 0, pointer: 0, mark: Dropped },
-    Get { log: 0, at: 0, free: false }, Get { log: 1, at: 0, free: false },
-    Get { log: 0, at: 1, free: false }, Get { log: 0, at: 0, free: true },
-    Name { pointer: 0, old: 1, new: 1 },
-];
-
-#[test]
-fn events_differ(rt: HostRuntime) {
-    assert!(rt; all_differ(EVENTS));
-}
 
 const REPLIES: &[Reply] = &[
     Reply::Refused,
