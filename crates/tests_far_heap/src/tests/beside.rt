@@ -1,21 +1,18 @@
 //! Rounds beside four mutators at work, each in a thread of its own.
 
-ghost use Rattle.std.specs.Prelude.{◌≡◌};
-
 use crate::tests::acts::Act::*;
 use crate::tests::acts::Choice::Eldest;
 use crate::tests::flag::Tally;
-use crate::tests::looks::{new_blank, sized};
-use crate::tests::stage::{Signals, Stage};
+use crate::tests::play::Scene::Beside;
+use crate::tests::play::{ONE, Play, holds};
+use crate::tests::stage::Stage;
 use crate::tests::writers::Writer;
-use far_device::MemDevice;
+use far_device::Device;
 use far_evac::RoundEnd;
-use far_heap::{Blank, Heap, HeapName, Mutator};
-use std::alloc::Global;
-use std::marker::Brand;
+use far_heap::{HeapName, Mutator};
 use std::sync::Wait;
-use std::thread;
 use std::thread::{Threads, join};
+use std::{mem, thread};
 
 /// How many mutators there are.
 const WRITERS: u64 = 4;
@@ -31,13 +28,15 @@ struct Work {
 
 /// What all threads do.
 #[derive(Clone, Copy)]
-struct Plan {
+pub(super) struct Plan {
     work: Work,
     /// How many rounds are made, and how many turns each has.
     rounds: u64,
     turns: u64,
     /// Whether no more are made once the writers have ended.
     stops: bool,
+    /// How many rounds at least should be done while all write.
+    least: u64,
 }
 
 /// How far all are: how many writers have begun and ended, and how many rounds were done while all wrote.
@@ -49,9 +48,9 @@ struct Gate {
 }
 
 // Writes as long as the writer is told to; `false` where something was wrong.
-fn keeps_writing<K: HeapName, R: Wait>(
+fn keeps_writing<K: HeapName, D: Device + Drop, R: Wait>(
     rt: &R,
-    writer: &mut Writer<K>,
+    writer: &mut Writer<K, D>,
     gate: &Gate,
     work: Work,
 ) -> bool {
@@ -67,12 +66,12 @@ fn keeps_writing<K: HeapName, R: Wait>(
 }
 
 // What a mutator does in a thread of its own: it makes objects, writes, and ends; `None` where something was wrong.
-fn writes<K: HeapName, R: Wait>(
+fn writes<K: HeapName, D: Device + Drop, R: Wait>(
     rt: &R,
-    mutator: Mutator<K, MemDevice>,
+    mutator: Mutator<K, D>,
     gate: &Gate,
     work: Work,
-) -> Option<Writer<K>> {
+) -> Option<Writer<K, D>> {
     let mut writer = Writer::new(mutator);
     let made = writer.makes_objects(rt);
     gate.begun.raise();
@@ -82,9 +81,9 @@ fn writes<K: HeapName, R: Wait>(
 }
 
 // Makes a round, which is given up where its turns are over: whether it was done; `None` where something was wrong.
-fn makes_round<K: HeapName, R: Wait>(
+fn makes_round<K: HeapName, D: Device + Drop, R: Wait>(
     rt: &R,
-    stage: &mut Stage<'_, K, MemDevice>,
+    stage: &mut Stage<'_, K, D>,
     turns: u64,
 ) -> Option<bool> {
     match stage.round(rt, Eldest, 2, turns) {
@@ -96,9 +95,9 @@ fn makes_round<K: HeapName, R: Wait>(
 }
 
 // Makes rounds from when all write; `false` where something was wrong.
-fn rounds<K: HeapName, R: Wait>(
+fn rounds<K: HeapName, D: Device + Drop, R: Wait>(
     rt: &R,
-    stage: &mut Stage<'_, K, MemDevice>,
+    stage: &mut Stage<'_, K, D>,
     gate: &Gate,
     plan: Plan,
 ) -> bool {
@@ -119,111 +118,113 @@ fn rounds<K: HeapName, R: Wait>(
 }
 
 // Each mutator writes in a thread of its own; `None` where memory was refused.
-fn all_write<K: HeapName + Send + Sync, R: Threads + Wait + Sync>(
+fn all_write<K: HeapName + Send + Sync, D: Device + Drop + Send + Sync, R: Threads + Wait + Sync>(
     rt: &R,
-    mutators: Vec<Mutator<K, MemDevice>>,
+    mutators: Vec<Mutator<K, D>>,
     gate: &Gate,
     work: Work,
-) -> Option<Vec<Option<Writer<K>>>> {
+) -> Option<Vec<Option<Writer<K, D>>>> {
     thread::map_vec(rt, mutators, &|mutator| writes(rt, mutator, gate, work)).ok()
 }
 
 // Whether nothing was wrong, and each object has what it was filled with last.
-fn are_right<K: HeapName, R: Wait>(rt: &R, written: Vec<Option<Writer<K>>>) -> bool {
+fn is_right<K: HeapName, D: Device + Drop, R: Wait>(rt: &R, written: Option<Writer<K, D>>) -> bool {
+    match written {
+        Some(mut writer) => writer.has_all(rt),
+        None => false,
+    }
+}
+
+// The same of each.
+fn are_right<K: HeapName, D: Device + Drop, R: Wait>(
+    rt: &R,
+    written: Vec<Option<Writer<K, D>>>,
+) -> bool {
     for one in written {
-        match one {
-            Some(mut writer) => {
-                if !writer.has_all(rt) {
-                    return false;
-                }
-            }
-            None => return false,
+        if !is_right(rt, one) {
+            return false;
         }
     }
     true
 }
 
 // Whether one more round is done, or finds nothing to do, and all objects are there.
-fn stands<K: HeapName, R: Wait>(rt: &R, stage: &mut Stage<'_, K, MemDevice>) -> bool {
+fn stands<K: HeapName, D: Device + Drop, R: Wait>(rt: &R, stage: &mut Stage<'_, K, D>) -> bool {
     let end = stage.round(rt, Eldest, 2, 100_000);
     matches!(end, Ok(RoundEnd::Done(_) | RoundEnd::Nothing)) && stage.does(rt, Has(64))
 }
 
-// How many rounds were done while all wrote; `None` where something was wrong.
-fn works_beside<K: HeapName + Send + Sync, R: Threads + Wait + Sync>(
-    rt: &R,
-    stage: &mut Stage<'_, K, MemDevice>,
-    mutators: Vec<Mutator<K, MemDevice>>,
-    plan: Plan,
-) -> Option<u64> {
+/// Whether nothing was wrong, and enough rounds were done while all wrote.
+pub(super) fn plays<
+    K: HeapName + Send + Sync,
+    D: Device + Drop + Send + Sync,
+    R: Threads + Wait + Sync,
+>(rt: &R, stage: &mut Stage<'_, K, D>, plan: &Plan) -> bool {
     let gate = Gate {
         begun: Tally::new(),
         ended: Tally::new(),
         rounds: Tally::new(),
     };
+    let mutators = mem::replace(&mut stage.mutators, Vec::new(stage.alloc));
     let (beside, at_rounds) = (&gate, &mut *stage);
     let (written, came) = join(
         rt,
         move || all_write(rt, mutators, beside, plan.work),
-        move || rounds(rt, at_rounds, beside, plan),
+        move || rounds(rt, at_rounds, beside, *plan),
     );
     let stood = stands(rt, stage);
     let right = match written {
         Some(written) => are_right(rt, written),
         None => false,
     };
-    (came && stood && right).then_some(gate.rounds.count())
+    came && stood && right && gate.rounds.count() >= plan.least
 }
 
-fn made_beside<K: HeapName + Send + Sync, R: Threads + Wait + Sync>(
-    rt: &R,
-    alloc: Global,
-    blank: Blank<MemDevice>,
-    plan: Plan,
-) -> Option<u64>
-    requires { blank.heap ≡ K.heap }
-{
-    match Heap::<K, MemDevice>::new(alloc, blank) {
-        Ok((heap, mutators)) => {
-            let (signals, mut none) = (Signals::new(), Vec::new(alloc));
-            let mut stage = Stage::new(&heap, &signals, &mut none);
-            works_beside(rt, &mut stage, mutators, plan)
-        }
-        Err(_) => None,
-    }
-}
+const FIFTY: Plan = Plan {
+    work: Work {
+        least: 10,
+        most: 10,
+        rounds: 0,
+    },
+    rounds: 50,
+    turns: 100,
+    stops: false,
+    least: 0,
+};
+
+const FOUR: Play = Play {
+    logs: 16,
+    mutators: WRITERS,
+    scene: Beside(&FIFTY),
+    ..ONE
+};
+
+const BESIDE_WRITERS: &[Play] = &[FOUR];
 
 #[test]
 fn rounds_beside_writers(rt: HostRuntime) {
-    let plan = Plan {
-        work: Work {
-            least: 10,
-            most: 10,
-            rounds: 0,
-        },
-        rounds: 50,
-        turns: 100,
-        stops: false,
-    };
-    let blank = new_blank(&rt, rt.alloc(), sized(16, WRITERS));
-    let made = made_beside::<Brand, _>(&rt, rt.alloc(), blank, plan);
-    assert!(rt; made.is_some());
+    holds(&rt, rt.alloc(), BESIDE_WRITERS);
 }
 
 // The writers go on until enough rounds were done, however fast the machine is.
+const TWENTY: Plan = Plan {
+    work: Work {
+        least: 20,
+        most: 100_000,
+        rounds: 20,
+    },
+    rounds: 1_000_000_000,
+    turns: 100_000,
+    stops: true,
+    least: 20,
+};
+
+const WHILE_WRITING: &[Play] = &[Play {
+    scene: Beside(&TWENTY),
+    ..FOUR
+}];
+
 #[test]
 fn rounds_while_writing(rt: HostRuntime) {
-    let plan = Plan {
-        work: Work {
-            least: 20,
-            most: 100_000,
-            rounds: 20,
-        },
-        rounds: 1_000_000_000,
-        turns: 100_000,
-        stops: true,
-    };
-    let blank = new_blank(&rt, rt.alloc(), sized(16, WRITERS));
-    let made = made_beside::<Brand, _>(&rt, rt.alloc(), blank, plan);
-    assert!(rt; matches!(made, Some(rounds) if rounds >= 20), "{made:?}");
+    holds(&rt, rt.alloc(), WHILE_WRITING);
 }

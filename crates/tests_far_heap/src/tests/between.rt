@@ -1,18 +1,16 @@
 //! When the lock is let go, as another thread sees it that keeps taking it: between two turns of a round; not between bringing an object and its pin.
 
-ghost use Rattle.std.specs.Prelude.{◌≡◌};
-
 use crate::tests::acts::Act::*;
 use crate::tests::acts::Choice::Eldest;
 use crate::tests::acts::{Act, End, ZEROS};
 use crate::tests::flag::Tally;
-use crate::tests::looks::{is_marked, is_unpinned, sized};
-use crate::tests::stage::{Signals, Stage};
-use far_device::MemDevice;
+use crate::tests::looks::{is_marked, is_unpinned};
+use crate::tests::play::Scene::Between;
+use crate::tests::play::{ONE, Play, holds};
+use crate::tests::stage::Stage;
+use far_device::Device;
 use far_evac::{LogKind, Phase};
-use far_heap::{Blank, Evacuator, Heap, HeapName};
-use std::alloc::Global;
-use std::marker::Brand;
+use far_heap::{Evacuator, Heap, HeapName};
 use std::sync::Wait;
 use std::thread::{Threads, join};
 
@@ -33,7 +31,7 @@ const TURNS: u64 = 1_000_000;
 
 /// What one thread makes again and again, while another keeps taking the lock.
 #[derive(Clone, Copy)]
-enum Made {
+pub(super) enum Made {
     Rounds,
     Views,
 }
@@ -69,7 +67,7 @@ impl Told {
 }
 
 // Views all objects in a scope, wherever they are.
-fn views_all<K: HeapName, R: Wait>(rt: &R, stage: &mut Stage<'_, K, MemDevice>) -> bool {
+fn views_all<K: HeapName, D: Device + Drop, R: Wait>(rt: &R, stage: &mut Stage<'_, K, D>) -> bool {
     if !stage.does(rt, Opens) {
         return false;
     }
@@ -82,9 +80,9 @@ fn views_all<K: HeapName, R: Wait>(rt: &R, stage: &mut Stage<'_, K, MemDevice>) 
 }
 
 // Makes rounds of all sealed logs, in which each object moves, until one was seen in both: whether each was done.
-fn keeps_rounding<K: HeapName, R: Wait>(
+fn keeps_rounding<K: HeapName, D: Device + Drop, R: Wait>(
     rt: &R,
-    stage: &mut Stage<'_, K, MemDevice>,
+    stage: &mut Stage<'_, K, D>,
     told: &Told,
 ) -> bool {
     for _ in 0..ROUNDS {
@@ -99,7 +97,7 @@ fn keeps_rounding<K: HeapName, R: Wait>(
 }
 
 // Whether some object of a log that is to be emptied has left it.
-fn has_left_some<K: HeapName>(book: &mut Evacuator<K, MemDevice>) -> bool {
+fn has_left_some<K: HeapName, D: Device + Drop>(book: &mut Evacuator<K, D>) -> bool {
     for log in 0..8u8 {
         if (log as u64) < book.shape().logs {
             let state = book.log(log);
@@ -112,7 +110,7 @@ fn has_left_some<K: HeapName>(book: &mut Evacuator<K, MemDevice>) -> bool {
 }
 
 // Whether some object is marked for a round.
-fn has_marked_some<K: HeapName>(book: &mut Evacuator<K, MemDevice>) -> bool {
+fn has_marked_some<K: HeapName, D: Device + Drop>(book: &mut Evacuator<K, D>) -> bool {
     for pointer in 0..OBJECTS {
         if is_marked(book, pointer) {
             return true;
@@ -122,7 +120,7 @@ fn has_marked_some<K: HeapName>(book: &mut Evacuator<K, MemDevice>) -> bool {
 }
 
 // Counts what is seen of a round.
-fn look<K: HeapName>(book: &mut Evacuator<K, MemDevice>, told: &Told) {
+fn look<K: HeapName, D: Device + Drop>(book: &mut Evacuator<K, D>, told: &Told) {
     match book.phase() {
         Phase::Marking => {
             if has_marked_some(book) {
@@ -156,9 +154,9 @@ fn pointer_at(turn: u64) -> u16 {
 }
 
 // Views an object, which is far: that is told as long as the call lasts.
-fn views_far<K: HeapName, R: Wait>(
+fn views_far<K: HeapName, D: Device + Drop, R: Wait>(
     rt: &R,
-    stage: &mut Stage<'_, K, MemDevice>,
+    stage: &mut Stage<'_, K, D>,
     told: &Told,
 ) -> bool {
     let pointer = pointer_at(told.turn.count());
@@ -172,9 +170,9 @@ fn views_far<K: HeapName, R: Wait>(
 }
 
 // Has all objects sent far, and views them in their order.
-fn views_all_far<K: HeapName, R: Wait>(
+fn views_all_far<K: HeapName, D: Device + Drop, R: Wait>(
     rt: &R,
-    stage: &mut Stage<'_, K, MemDevice>,
+    stage: &mut Stage<'_, K, D>,
     told: &Told,
 ) -> bool {
     if !stage.does_all(rt, SENT_FAR) {
@@ -189,9 +187,9 @@ fn views_all_far<K: HeapName, R: Wait>(
 }
 
 // The same many times.
-fn keeps_viewing<K: HeapName, R: Wait>(
+fn keeps_viewing<K: HeapName, D: Device + Drop, R: Wait>(
     rt: &R,
-    stage: &mut Stage<'_, K, MemDevice>,
+    stage: &mut Stage<'_, K, D>,
     told: &Told,
 ) -> bool {
     for _ in 0..PASSES {
@@ -206,7 +204,7 @@ fn keeps_viewing<K: HeapName, R: Wait>(
 }
 
 // Counts where an object is near and not pinned while the view that brought it hasn't returned.
-fn watch<K: HeapName, R: Wait>(rt: &R, heap: &Heap<K, MemDevice>, told: &Told) {
+fn watch<K: HeapName, D: Device + Drop, R: Wait>(rt: &R, heap: &Heap<K, D>, told: &Told) {
     let turn = told.turn.count();
     if turn % 2 == 1
         && is_unpinned(&mut *heap.book(rt), pointer_at(turn))
@@ -217,9 +215,9 @@ fn watch<K: HeapName, R: Wait>(rt: &R, heap: &Heap<K, MemDevice>, told: &Told) {
 }
 
 // Makes all, and tells when no more are made.
-fn makes<K: HeapName, R: Wait>(
+fn makes<K: HeapName, D: Device + Drop, R: Wait>(
     rt: &R,
-    stage: &mut Stage<'_, K, MemDevice>,
+    stage: &mut Stage<'_, K, D>,
     told: &Told,
     made: Made,
 ) -> bool {
@@ -232,7 +230,12 @@ fn makes<K: HeapName, R: Wait>(
 }
 
 // Looks, under the lock, until no more are made.
-fn keeps_looking<K: HeapName, R: Wait>(rt: &R, heap: &Heap<K, MemDevice>, told: &Told, made: Made) {
+fn keeps_looking<K: HeapName, D: Device + Drop, R: Wait>(
+    rt: &R,
+    heap: &Heap<K, D>,
+    told: &Told,
+    made: Made,
+) {
     for _ in 0..LOOKS {
         if told.over.count() > 0 {
             break;
@@ -244,14 +247,17 @@ fn keeps_looking<K: HeapName, R: Wait>(rt: &R, heap: &Heap<K, MemDevice>, told: 
     }
 }
 
-// Both threads.
-fn both<K: HeapName + Send + Sync, R: Threads + Wait + Sync>(
-    rt: &R,
-    heap: &Heap<K, MemDevice>,
-    stage: &mut Stage<'_, K, MemDevice>,
-    told: &Told,
-    made: Made,
-) -> bool {
+/// Whether that comes out as it should, beside another thread.
+pub(super) fn plays<
+    K: HeapName + Send + Sync,
+    D: Device + Drop + Send + Sync,
+    R: Threads + Wait + Sync,
+>(rt: &R, stage: &mut Stage<'_, K, D>, made: Made) -> bool {
+    stage.sets_out();
+    if !stage.does(rt, Fills(OBJECTS, 56)) {
+        return false;
+    }
+    let (heap, told) = (stage.heap, &Told::new());
     let (done, _) = join(
         rt,
         move || makes(rt, stage, told, made),
@@ -263,40 +269,30 @@ fn both<K: HeapName + Send + Sync, R: Threads + Wait + Sync>(
     }
 }
 
-fn play<K: HeapName + Send + Sync, R: Threads + Wait + Sync>(
-    rt: &R,
-    alloc: Global,
-    blank: Blank<MemDevice>,
-    made: Made,
-) -> bool
-    requires { blank.heap ≡ K.heap }
-{
-    match Heap::<K, MemDevice>::new(alloc, blank) {
-        Ok((heap, mut mutators)) => {
-            let (signals, told) = (Signals::new(), Told::new());
-            let mut stage = Stage::new(&heap, &signals, &mut mutators);
-            stage.does(rt, Fills(OBJECTS, 56)) && both(rt, &heap, &mut stage, &told, made)
-        }
-        Err(_) => false,
-    }
-}
-
-// Whether that comes out as it should on a heap of so many logs.
-fn comes_out<R: Threads + Wait + Sync>(rt: &R, alloc: Global, logs: u64, made: Made) -> bool {
-    match Blank::new(alloc, sized(logs, 1), MemDevice::new(alloc)) {
-        Ok(blank) => play::<Brand, R>(rt, alloc, blank, made),
-        Err(_) => false,
-    }
-}
+const ROUNDS_MADE: Play = Play {
+    logs: 8,
+    scene: Between(Made::Rounds),
+    ..ONE
+};
 
 // A log has 64 objects, and a turn deals with 16: so there are moments between two turns.
+const BETWEEN_TURNS: &[Play] = &[ROUNDS_MADE];
+
 #[test]
 fn the_lock_is_let_go_between_turns(rt: HostRuntime) {
-    assert!(rt; comes_out(&rt, rt.alloc(), 8, Made::Rounds));
+    holds(&rt, rt.alloc(), BETWEEN_TURNS);
 }
 
+const VIEWS_MADE: Play = Play {
+    logs: 16,
+    scene: Between(Made::Views),
+    ..ONE
+};
+
 // What a view has brought near is pinned under the same hold of the lock.
+const BETWEEN_VIEWS: &[Play] = &[VIEWS_MADE];
+
 #[test]
 fn a_fetched_object_is_pinned_before_the_lock_is_let_go(rt: HostRuntime) {
-    assert!(rt; comes_out(&rt, rt.alloc(), 16, Made::Views));
+    holds(&rt, rt.alloc(), BETWEEN_VIEWS);
 }

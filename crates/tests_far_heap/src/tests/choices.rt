@@ -3,8 +3,8 @@
 use crate::tests::acts::Act::*;
 use crate::tests::acts::Choice::Named;
 use crate::tests::acts::{Act, End};
-use crate::tests::looks::sized;
-use crate::tests::stage::plays;
+use crate::tests::play::Scene::Acts;
+use crate::tests::play::{ONE, Play, holds};
 use far_evac::{LogKind, Phase};
 use far_word::Refused;
 
@@ -41,12 +41,17 @@ const TWO_TURNS: &[Act] = &[
     In(Phase::Evacuating),
 ];
 
+const A_LIMIT_LEAVES_THE_ROUND_STANDING_PLAYS: &[Play] = &[Play {
+    logs: 6,
+    scene: Acts(&[
+        THREE_LOGS, NO_TURN, STANDS, ONE_TURN, STANDS, TWO_TURNS, STANDS,
+    ]),
+    ..ONE
+}];
+
 #[test]
 fn a_limit_leaves_the_round_standing(rt: HostRuntime) {
-    let parts = [
-        THREE_LOGS, NO_TURN, STANDS, ONE_TURN, STANDS, TWO_TURNS, STANDS,
-    ];
-    assert!(rt; plays(&rt, rt.alloc(), sized(6, 1), &parts));
+    holds(&rt, rt.alloc(), A_LIMIT_LEAVES_THE_ROUND_STANDING_PLAYS);
 }
 
 // A whole round of the second log: that alone is given back, and its object alone goes far.
@@ -62,9 +67,15 @@ const CHOSEN_ALONE: &[Act] = &[
     Near(2, (2, 0), false),
 ];
 
+const A_ROUND_EMPTIES_WHAT_ITS_POLICY_CHOSE_PLAYS: &[Play] = &[Play {
+    logs: 6,
+    scene: Acts(&[THREE_LOGS, CHOSEN_ALONE]),
+    ..ONE
+}];
+
 #[test]
 fn a_round_empties_what_its_policy_chose(rt: HostRuntime) {
-    assert!(rt; plays(&rt, rt.alloc(), sized(6, 1), &[THREE_LOGS, CHOSEN_ALONE]));
+    holds(&rt, rt.alloc(), A_ROUND_EMPTIES_WHAT_ITS_POLICY_CHOSE_PLAYS);
 }
 
 // A policy that names a free log is refused, and one that comes while a round is running is not asked.
@@ -78,7 +89,17 @@ const REFUSED: &[Act] = &[
     In(Phase::Marking),
 ];
 
+const A_POLICY_THAT_IS_REFUSED_IS_NOT_ASKED_AGAIN_PLAYS: &[Play] = &[Play {
+    logs: 6,
+    scene: Acts(&[THREE_LOGS, REFUSED]),
+    ..ONE
+}];
+
 #[test]
 fn a_policy_that_is_refused_is_not_asked_again(rt: HostRuntime) {
-    assert!(rt; plays(&rt, rt.alloc(), sized(6, 1), &[THREE_LOGS, REFUSED]));
+    holds(
+        &rt,
+        rt.alloc(),
+        A_POLICY_THAT_IS_REFUSED_IS_NOT_ASKED_AGAIN_PLAYS,
+    );
 }

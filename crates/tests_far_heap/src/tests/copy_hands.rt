@@ -4,6 +4,7 @@ use crate::tests::acts::Went;
 use crate::tests::flag::Tally;
 use far_device::Device;
 use far_heap::{Copier, Copying, HeapName};
+use std::alloc::{AllocError, Global};
 use std::{mem, thread};
 
 /// How many turns a copier's thread takes at most.
@@ -83,4 +84,16 @@ impl<K: HeapName, D: Device + Drop> CopyHand<K, D> {
         }
         false
     }
+}
+
+/// Copiers as they are at the start, by number.
+pub(super) fn hands_of<K: HeapName, D: Device + Drop>(
+    alloc: Global,
+    copiers: Vec<Copier<K, D>>,
+) -> Result<Vec<CopyHand<K, D>>, AllocError> {
+    let mut hands = Vec::new(alloc);
+    for copier in copiers {
+        hands.push(CopyHand::Free(copier))?;
+    }
+    Ok(hands)
 }

@@ -1,32 +1,23 @@
 //! Copiers, each in a thread of its own, beside rounds.
 
-ghost use Rattle.std.specs.Prelude.{◌≡◌};
-ghost use Rattle.far_heap.specs.HeapId.{with_copiers};
-
 use crate::tests::acts::Act::*;
 use crate::tests::acts::Choice::Eldest;
 use crate::tests::acts::{Act, EIGHT, End, ZEROS};
-use crate::tests::copiers::hands_of;
 use crate::tests::copy_hands::CopyHand;
 use crate::tests::copying::THREE;
 use crate::tests::flag::Tally;
-use crate::tests::looks::sized;
-use crate::tests::stage::{Signals, Stage};
-use far_core::Shape;
-use far_device::MemDevice;
+use crate::tests::play::{ONE, Play, Scene, holds};
+use crate::tests::stage::Stage;
+use far_device::Device;
 use far_evac::Phase;
-use far_heap::{Blank, Heap, HeapName};
-use std::alloc::Global;
-use std::marker::Brand;
+use far_heap::HeapName;
 use std::sync::Wait;
-use std::thread;
 use std::thread::{Threads, join};
+use std::{mem, thread};
 
-/// What is done beside so many copiers on a heap of a shape, and what is done before, and again and again first.
+/// What is done beside copiers, and what is done before, and again and again first.
 #[derive(Clone, Copy)]
-struct Plan {
-    shape: Shape,
-    copiers: u8,
+pub(super) struct Copied {
     before: &'static [Act],
     /// So often.
     times: u64,
@@ -34,27 +25,32 @@ struct Plan {
     acts: &'static [Act],
 }
 
-// Whether all copiers, each in a thread of its own, came to the end.
-fn all_keep_on<K: HeapName + Send + Sync, R: Threads + Wait + Sync>(
-    rt: &R,
-    copiers: Vec<CopyHand<K, MemDevice>>,
-    over: &Tally,
-) -> bool {
-    let Ok(ends) = thread::map_vec(rt, copiers, &|copier| copier.keeps_on(over)) else {
-        return false;
-    };
+// Whether each came to the end.
+fn are_all(ends: &[bool]) -> bool {
     for end in ends {
-        if !end {
+        if !*end {
             return false;
         }
     }
     true
 }
 
-// Whether acts come out as they should so many times.
-fn does_again<K: HeapName, R: Wait>(
+// Whether all copiers, each in a thread of its own, came to the end.
+fn all_keep_on<K: HeapName + Send + Sync, D: Device + Drop + Send + Sync, R: Threads + Wait + Sync>(
     rt: &R,
-    stage: &mut Stage<'_, K, MemDevice>,
+    copiers: Vec<CopyHand<K, D>>,
+    over: &Tally,
+) -> bool {
+    match thread::map_vec(rt, copiers, &|copier| copier.keeps_on(over)) {
+        Ok(ends) => are_all(&ends),
+        Err(_) => false,
+    }
+}
+
+// Whether acts come out as they should so many times.
+fn does_again<K: HeapName, D: Device + Drop, R: Wait>(
+    rt: &R,
+    stage: &mut Stage<'_, K, D>,
     times: u64,
     acts: &[Act],
 ) -> bool {
@@ -67,11 +63,11 @@ fn does_again<K: HeapName, R: Wait>(
 }
 
 // What is done beside the copiers, which are told then that all is over.
-fn plays<K: HeapName, R: Wait>(
+fn plays_beside<K: HeapName, D: Device + Drop, R: Wait>(
     rt: &R,
-    stage: &mut Stage<'_, K, MemDevice>,
+    stage: &mut Stage<'_, K, D>,
     over: &Tally,
-    plan: &Plan,
+    plan: &Copied,
 ) -> bool {
     let came = stage.does_all(rt, plan.before)
         && does_again(rt, stage, plan.times, plan.again)
@@ -80,41 +76,21 @@ fn plays<K: HeapName, R: Wait>(
     came
 }
 
-fn begin<K: HeapName + Send + Sync, R: Threads + Wait + Sync>(
-    rt: &R,
-    alloc: Global,
-    blank: Blank<MemDevice>,
-    plan: &Plan,
-) -> bool
-    requires { with_copiers blank.heap ≡ K.heap }
-{
-    let Ok((heap, mut mutators, copiers)) = Heap::<K, MemDevice>::with_copiers(
-        alloc,
-        blank,
-        plan.copiers,
-    ) else {
-        return false;
-    };
-    let Ok(copiers) = hands_of(alloc, copiers) else {
-        return false;
-    };
-    let (signals, over) = (Signals::new(), Tally::new());
-    let mut stage = Stage::new(&heap, &signals, &mut mutators);
-    let (at_hand, ended) = (&mut stage, &over);
+/// Whether all comes out as it should.
+pub(super) fn plays<
+    K: HeapName + Send + Sync,
+    D: Device + Drop + Send + Sync,
+    R: Threads + Wait + Sync,
+>(rt: &R, stage: &mut Stage<'_, K, D>, plan: &Copied) -> bool {
+    stage.sets_out();
+    let copiers = mem::replace(&mut stage.copiers, Vec::new(stage.alloc));
+    let over = &Tally::new();
     let (copied, came) = join(
         rt,
-        move || all_keep_on(rt, copiers, ended),
-        move || plays(rt, at_hand, ended, plan),
+        move || all_keep_on(rt, copiers, over),
+        move || plays_beside(rt, stage, over, plan),
     );
     copied && came
-}
-
-// Whether a plan comes out as it should.
-fn comes_out<R: Threads + Wait + Sync>(rt: &R, alloc: Global, plan: &Plan) -> bool {
-    match Blank::new(alloc, plan.shape, MemDevice::new(alloc)) {
-        Ok(blank) => begin::<Brand, R>(rt, alloc, blank, plan),
-        Err(_) => false,
-    }
 }
 
 // A round moves the first object by a copier, and sends the second far.
@@ -130,17 +106,22 @@ const COPIED: &[Act] = &[
     Brings(2, ZEROS),
 ];
 
+const ALONE: Copied = Copied {
+    before: THREE,
+    times: 0,
+    again: &[],
+    acts: COPIED,
+};
+
+const COPIER_THREADS: &[Play] = &[Play {
+    copiers: Some(1),
+    scene: Scene::Copied(&ALONE),
+    ..ONE
+}];
+
 #[test]
 fn copier_thread(rt: HostRuntime) {
-    let plan = Plan {
-        shape: sized(4, 1),
-        copiers: 1,
-        before: THREE,
-        times: 0,
-        again: &[],
-        acts: COPIED,
-    };
-    assert!(rt; comes_out(&rt, rt.alloc(), &plan));
+    holds(&rt, rt.alloc(), COPIER_THREADS);
 }
 
 // A round is given up as soon as the copy of its object is offered, which a copier may have claimed by then, or claims meanwhile.
@@ -169,17 +150,23 @@ const DONE: &[Act] = &[
     Brings(1, ZEROS),
 ];
 
+const LOST: Copied = Copied {
+    before: TWO,
+    times: 400,
+    again: GIVEN_UP,
+    acts: DONE,
+};
+
+const LOST_EXCHANGES: &[Play] = &[Play {
+    logs: 16,
+    copiers: Some(4),
+    scene: Scene::Copied(&LOST),
+    ..ONE
+}];
+
 #[test]
 fn an_exchange_may_be_lost(rt: HostRuntime) {
-    let plan = Plan {
-        shape: sized(16, 1),
-        copiers: 4,
-        before: TWO,
-        times: 400,
-        again: GIVEN_UP,
-        acts: DONE,
-    };
-    assert!(rt; comes_out(&rt, rt.alloc(), &plan));
+    holds(&rt, rt.alloc(), LOST_EXCHANGES);
 }
 
 // So many objects fill six logs and a part of the next, and all are written.
@@ -195,15 +182,21 @@ const ALL_MOVED: &[Act] = &[
 
 const ALL_THERE: &[Act] = &[Has(96)];
 
+const EIGHT_COPIERS: Copied = Copied {
+    before: NINETY_SIX,
+    times: 40,
+    again: ALL_MOVED,
+    acts: ALL_THERE,
+};
+
+const EIGHT_COPIERS_PLAYED: &[Play] = &[Play {
+    logs: 32,
+    copiers: Some(8),
+    scene: Scene::Copied(&EIGHT_COPIERS),
+    ..ONE
+}];
+
 #[test]
 fn eight_copiers_in_threads(rt: HostRuntime) {
-    let plan = Plan {
-        shape: sized(32, 1),
-        copiers: 8,
-        before: NINETY_SIX,
-        times: 40,
-        again: ALL_MOVED,
-        acts: ALL_THERE,
-    };
-    assert!(rt; comes_out(&rt, rt.alloc(), &plan));
+    holds(&rt, rt.alloc(), EIGHT_COPIERS_PLAYED);
 }

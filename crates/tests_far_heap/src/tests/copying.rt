@@ -4,8 +4,8 @@ use crate::tests::acts::Act::*;
 use crate::tests::acts::Choice::Eldest;
 use crate::tests::acts::Went::*;
 use crate::tests::acts::{Act, EIGHT, ZEROS};
-use crate::tests::copiers::plays;
-use crate::tests::looks::sized;
+use crate::tests::play::Scene::Acts;
+use crate::tests::play::{ONE, Play, holds};
 use far_evac::{LogKind, Phase, Polled};
 
 /// Two objects lie in a log, of which the first is written, and another fills the next.
@@ -56,10 +56,15 @@ const BOTH_READ: &[Act] = &[
     Has(3),
 ];
 
+const COPIER_BY_HAND_PLAYS: &[Play] = &[Play {
+    copiers: Some(1),
+    scene: Acts(&[THREE, LEAVING, OFFERED, CLAIMED, COPIED, NAMED, BOTH_READ]),
+    ..ONE
+}];
+
 #[test]
 fn copier_by_hand(rt: HostRuntime) {
-    let parts = [THREE, LEAVING, OFFERED, CLAIMED, COPIED, NAMED, BOTH_READ];
-    assert!(rt; plays(&rt, rt.alloc(), sized(4, 1), 1, &parts));
+    holds(&rt, rt.alloc(), COPIER_BY_HAND_PLAYS);
 }
 
 // The copy isn't made yet, or only in part: nothing is left to be done meanwhile, and the round isn't over.
@@ -70,24 +75,34 @@ const COPIES_A_WORD: &[Act] = &[Works(0, Copied)];
 // The copier finishes whatever is left.
 const ENDS: &[Act] = &[Ends(0, true), Ends(0, false), Works(0, Nowhere)];
 
+const A_ROUND_WAITS_FOR_ITS_COPIES_PLAYS: &[Play] = &[
+    Play {
+        copiers: Some(1),
+        scene: Acts(&[
+            THREE,
+            LEAVING,
+            OFFERED,
+            WAITS,
+            CLAIMED,
+            WAITS,
+            COPIES_A_WORD,
+            WAITS,
+            ENDS,
+            NAMED,
+            BOTH_READ,
+        ]),
+        ..ONE
+    },
+    Play {
+        copiers: Some(1),
+        scene: Acts(&[THREE, LEAVING, OFFERED, CLAIMED, ENDS, NAMED, BOTH_READ]),
+        ..ONE
+    },
+];
+
 #[test]
 fn a_round_waits_for_its_copies(rt: HostRuntime) {
-    let slowly = [
-        THREE,
-        LEAVING,
-        OFFERED,
-        WAITS,
-        CLAIMED,
-        WAITS,
-        COPIES_A_WORD,
-        WAITS,
-        ENDS,
-        NAMED,
-        BOTH_READ,
-    ];
-    assert!(rt; plays(&rt, rt.alloc(), sized(4, 1), 1, &slowly));
-    let at_once = [THREE, LEAVING, OFFERED, CLAIMED, ENDS, NAMED, BOTH_READ];
-    assert!(rt; plays(&rt, rt.alloc(), sized(4, 1), 1, &at_once));
+    holds(&rt, rt.alloc(), A_ROUND_WAITS_FOR_ITS_COPIES_PLAYS);
 }
 
 // The owner views the first object, which moves to the next place.
@@ -108,9 +123,9 @@ const OVER: &[Act] = &[
     Log(2, LogKind::Open, [16, 16, 4064]),
 ];
 
-#[test]
-fn owner_first(rt: HostRuntime) {
-    let parts = [
+const OWNER_FIRST_PLAYS: &[Play] = &[Play {
+    copiers: Some(1),
+    scene: Acts(&[
         THREE,
         LEAVING,
         OFFERED,
@@ -120,26 +135,41 @@ fn owner_first(rt: HostRuntime) {
         COPIED,
         OVER,
         BOTH_READ,
-    ];
-    assert!(rt; plays(&rt, rt.alloc(), sized(4, 1), 1, &parts));
+    ]),
+    ..ONE
+}];
+
+#[test]
+fn owner_first(rt: HostRuntime) {
+    holds(&rt, rt.alloc(), OWNER_FIRST_PLAYS);
 }
 
 // The same if the copy was finished before, or nobody claimed the job: it is emptied.
+const OWNER_LATER_PLAYS: &[Play] = &[
+    Play {
+        copiers: Some(1),
+        scene: Acts(&[
+            THREE,
+            LEAVING,
+            OFFERED,
+            CLAIMED,
+            COPIED,
+            OWNER_VIEWS,
+            OVER,
+            BOTH_READ,
+        ]),
+        ..ONE
+    },
+    Play {
+        copiers: Some(1),
+        scene: Acts(&[THREE, LEAVING, OFFERED, OWNER_VIEWS, OVER, BOTH_READ]),
+        ..ONE
+    },
+];
+
 #[test]
 fn owner_later(rt: HostRuntime) {
-    let copied = [
-        THREE,
-        LEAVING,
-        OFFERED,
-        CLAIMED,
-        COPIED,
-        OWNER_VIEWS,
-        OVER,
-        BOTH_READ,
-    ];
-    assert!(rt; plays(&rt, rt.alloc(), sized(4, 1), 1, &copied));
-    let unclaimed = [THREE, LEAVING, OFFERED, OWNER_VIEWS, OVER, BOTH_READ];
-    assert!(rt; plays(&rt, rt.alloc(), sized(4, 1), 1, &unclaimed));
+    holds(&rt, rt.alloc(), OWNER_LATER_PLAYS);
 }
 
 // The owner drops the first object while it is copied, and makes another at its pointer.
@@ -162,29 +192,39 @@ const OTHER_OBJECT: &[Act] = &[
     Has(3),
 ];
 
+const A_COPY_OF_A_DROPPED_OBJECT_IS_DEAD_PLAYS: &[Play] = &[
+    Play {
+        copiers: Some(1),
+        scene: Acts(&[
+            THREE,
+            LEAVING,
+            OFFERED,
+            CLAIMED,
+            OWNER_DROPS,
+            WAITS,
+            COPIED,
+            OTHER_OBJECT,
+        ]),
+        ..ONE
+    },
+    Play {
+        copiers: Some(1),
+        scene: Acts(&[
+            THREE,
+            LEAVING,
+            OFFERED,
+            CLAIMED,
+            COPIED,
+            OWNER_DROPS,
+            OTHER_OBJECT,
+        ]),
+        ..ONE
+    },
+];
+
 #[test]
 fn a_copy_of_a_dropped_object_is_dead(rt: HostRuntime) {
-    let dropped = [
-        THREE,
-        LEAVING,
-        OFFERED,
-        CLAIMED,
-        OWNER_DROPS,
-        WAITS,
-        COPIED,
-        OTHER_OBJECT,
-    ];
-    assert!(rt; plays(&rt, rt.alloc(), sized(4, 1), 1, &dropped));
-    let copied = [
-        THREE,
-        LEAVING,
-        OFFERED,
-        CLAIMED,
-        COPIED,
-        OWNER_DROPS,
-        OTHER_OBJECT,
-    ];
-    assert!(rt; plays(&rt, rt.alloc(), sized(4, 1), 1, &copied));
+    holds(&rt, rt.alloc(), A_COPY_OF_A_DROPPED_OBJECT_IS_DEAD_PLAYS);
 }
 
 // The round is given up; the first object stays, and nothing is offered any more.
@@ -215,9 +255,9 @@ const NAMED_AGAIN: &[Act] = &[
 ];
 
 // A job that nobody has claimed is taken back where the round is given up.
-#[test]
-fn an_offer_is_taken_back(rt: HostRuntime) {
-    let parts = [
+const AN_OFFER_IS_TAKEN_BACK_PLAYS: &[Play] = &[Play {
+    copiers: Some(1),
+    scene: Acts(&[
         THREE,
         LEAVING,
         OFFERED,
@@ -228,55 +268,73 @@ fn an_offer_is_taken_back(rt: HostRuntime) {
         COPIED,
         NAMED_AGAIN,
         BOTH_READ,
-    ];
-    assert!(rt; plays(&rt, rt.alloc(), sized(4, 1), 1, &parts));
+    ]),
+    ..ONE
+}];
+
+#[test]
+fn an_offer_is_taken_back(rt: HostRuntime) {
+    holds(&rt, rt.alloc(), AN_OFFER_IS_TAKEN_BACK_PLAYS);
 }
 
 // A copy that was begun stays, and nobody is named to it, whether it is finished before the round is given up, or after that, or in the next round.
+const A_COPY_OF_AN_EARLIER_ROUND_IS_DEAD_PLAYS: &[Play] = &[
+    Play {
+        copiers: Some(1),
+        scene: Acts(&[
+            THREE,
+            LEAVING,
+            OFFERED,
+            CLAIMED,
+            COPIED,
+            GIVEN_UP,
+            AGAIN,
+            CLAIMED,
+            COPIED,
+            NAMED_AGAIN,
+            BOTH_READ,
+        ]),
+        ..ONE
+    },
+    Play {
+        copiers: Some(1),
+        scene: Acts(&[
+            THREE,
+            LEAVING,
+            OFFERED,
+            CLAIMED,
+            GIVEN_UP,
+            COPIED,
+            AGAIN,
+            CLAIMED,
+            COPIED,
+            NAMED_AGAIN,
+            BOTH_READ,
+        ]),
+        ..ONE
+    },
+    Play {
+        copiers: Some(1),
+        scene: Acts(&[
+            THREE,
+            LEAVING,
+            OFFERED,
+            CLAIMED,
+            GIVEN_UP,
+            AGAIN,
+            ENDS_EARLIER,
+            CLAIMED,
+            COPIED,
+            NAMED_AGAIN,
+            BOTH_READ,
+        ]),
+        ..ONE
+    },
+];
+
 #[test]
 fn a_copy_of_an_earlier_round_is_dead(rt: HostRuntime) {
-    let before = [
-        THREE,
-        LEAVING,
-        OFFERED,
-        CLAIMED,
-        COPIED,
-        GIVEN_UP,
-        AGAIN,
-        CLAIMED,
-        COPIED,
-        NAMED_AGAIN,
-        BOTH_READ,
-    ];
-    assert!(rt; plays(&rt, rt.alloc(), sized(4, 1), 1, &before));
-    let between = [
-        THREE,
-        LEAVING,
-        OFFERED,
-        CLAIMED,
-        GIVEN_UP,
-        COPIED,
-        AGAIN,
-        CLAIMED,
-        COPIED,
-        NAMED_AGAIN,
-        BOTH_READ,
-    ];
-    assert!(rt; plays(&rt, rt.alloc(), sized(4, 1), 1, &between));
-    let within = [
-        THREE,
-        LEAVING,
-        OFFERED,
-        CLAIMED,
-        GIVEN_UP,
-        AGAIN,
-        ENDS_EARLIER,
-        CLAIMED,
-        COPIED,
-        NAMED_AGAIN,
-        BOTH_READ,
-    ];
-    assert!(rt; plays(&rt, rt.alloc(), sized(4, 1), 1, &within));
+    holds(&rt, rt.alloc(), A_COPY_OF_AN_EARLIER_ROUND_IS_DEAD_PLAYS);
 }
 
 // The job of the earlier round is finished where another is offered.
@@ -303,9 +361,9 @@ const LATE: &[Act] = &[
     Near(0, (2, 2), false),
 ];
 
-#[test]
-fn a_log_stays_while_it_is_copied_from(rt: HostRuntime) {
-    let parts = [
+const A_LOG_STAYS_WHILE_IT_IS_COPIED_FROM_PLAYS: &[Play] = &[Play {
+    copiers: Some(2),
+    scene: Acts(&[
         THREE,
         LEAVING,
         OFFERED,
@@ -315,6 +373,11 @@ fn a_log_stays_while_it_is_copied_from(rt: HostRuntime) {
         ANOTHER_COPIES,
         LATE,
         BOTH_READ,
-    ];
-    assert!(rt; plays(&rt, rt.alloc(), sized(4, 1), 2, &parts));
+    ]),
+    ..ONE
+}];
+
+#[test]
+fn a_log_stays_while_it_is_copied_from(rt: HostRuntime) {
+    holds(&rt, rt.alloc(), A_LOG_STAYS_WHILE_IT_IS_COPIED_FROM_PLAYS);
 }

@@ -10,13 +10,11 @@ ghost use Rattle.far_device.specs.Wrapping.{wrapped_below};
 use crate::tests::acts::Act::*;
 use crate::tests::acts::Choice::{Eldest, Named};
 use crate::tests::acts::{Act, EIGHT, End};
-use crate::tests::looks::sized;
-use crate::tests::stage::plays_over;
+use crate::tests::play::Scene::Acts;
+use crate::tests::play::{ONE, Over, Play, holds};
 use far_device::{Device, DeviceFault, MemDevice, hand_over};
 use far_evac::{LogKind, Phase};
 use far_word::Refused;
-use std::alloc::Global;
-use std::sync::Wait;
 
 // One read of what is in memory, with its answer taken apart.
 fn read_inner(inner: &mut MemDevice, id: u32) -> Result<Vec<u8>, DeviceFault>
@@ -47,7 +45,7 @@ fn read_short(inner: &mut MemDevice, id: u32) -> Result<Vec<u8>, DeviceFault>
 
 /// What one of its calls does in place of what was asked.
 #[derive(Clone, Copy)]
-enum Fault {
+pub(super) enum Fault {
     /// It fails so.
     Fails(DeviceFault),
     /// It gives one byte less.
@@ -56,7 +54,7 @@ enum Fault {
 
 /// A device in memory of which one call, a write or a read, has a fault.
 #[derive(Drop)]
-struct Faulty {
+pub(super) struct Faulty {
     inner: MemDevice,
     // How many calls come before that.
     before: u64,
@@ -65,6 +63,16 @@ struct Faulty {
 }
 
 impl Faulty {
+    /// One whose call after so many has this fault.
+    pub(super) fn new(inner: MemDevice, before: u64, fault: Fault) -> Faulty {
+        Faulty {
+            inner,
+            before,
+            fault: Some(fault),
+            faults: 0,
+        }
+    }
+
     // The fault of this call, if it is the one.
     fn next_fault(&mut self) -> Option<Fault>
         ensures inner { self.new.inner ≡ self.old.inner }
@@ -142,16 +150,6 @@ impl Device for Faulty {
     }
 }
 
-// One whose call after so many has this fault.
-fn faulty_device(alloc: Global, before: u64, fault: Fault) -> Faulty {
-    Faulty {
-        inner: MemDevice::new(alloc),
-        before,
-        fault: Some(fault),
-        faults: 0,
-    }
-}
-
 // The first object is written, and a round has moved it to log 2, which is sealed then.
 pub(super) const IN_LOG_TWO: &[Act] = &[
     Makes(8, Ok(0)),
@@ -172,20 +170,54 @@ pub(super) const SENT_FAR: &[Act] = &[
 // A view that was refused in this scope is given, with what was written.
 pub(super) const COMES_BACK: &[Act] = &[IsSlow(0), Brings(0, EIGHT), Reads(0, EIGHT)];
 
-// Whether a view is refused for this reason, once, where the device's read, its second call, has this fault; the object stays far then.
-fn view_comes_out<R: Wait>(rt: &R, alloc: Global, fault: Fault, why: Refused) -> bool {
-    let device = faulty_device(alloc, 1, fault);
-    let refused = [Opens, IsSlow(0), ViewsNone(0, why), Far(0, true)];
-    let parts = [IN_LOG_TWO, SENT_FAR, &refused, COMES_BACK];
-    plays_over(rt, alloc, sized(4, 1), device, &parts)
-}
+// A view is refused once for this reason, and the object stays far then.
+const NO_DEVICE: &[Act] = &[
+    Opens,
+    IsSlow(0),
+    ViewsNone(0, Refused::Device),
+    Far(0, true),
+];
+
+const NO_MEMORY: &[Act] = &[
+    Opens,
+    IsSlow(0),
+    ViewsNone(0, Refused::Memory),
+    Far(0, true),
+];
+
+const DAMAGED: &[Act] = &[
+    Opens,
+    IsSlow(0),
+    ViewsNone(0, Refused::Damaged),
+    Far(0, true),
+];
+
+const FAILS: Fault = Fault::Fails(DeviceFault::Device);
+
+const LACKS_MEMORY: Fault = Fault::Fails(DeviceFault::Memory);
+
+// The device's read, its second call, has a fault.
+const VIEWS: &[Play] = &[
+    Play {
+        over: Over::Faulty(1, FAILS),
+        scene: Acts(&[IN_LOG_TWO, SENT_FAR, NO_DEVICE, COMES_BACK]),
+        ..ONE
+    },
+    Play {
+        over: Over::Faulty(1, LACKS_MEMORY),
+        scene: Acts(&[IN_LOG_TWO, SENT_FAR, NO_MEMORY, COMES_BACK]),
+        ..ONE
+    },
+    Play {
+        over: Over::Faulty(1, Fault::Short),
+        scene: Acts(&[IN_LOG_TWO, SENT_FAR, DAMAGED, COMES_BACK]),
+        ..ONE
+    },
+];
 
 #[test]
 fn a_refused_view_may_be_tried_again(rt: HostRuntime) {
-    let (fails, lacks) = (DeviceFault::Device, DeviceFault::Memory);
-    assert!(rt; view_comes_out(&rt, rt.alloc(), Fault::Fails(fails), Refused::Device));
-    assert!(rt; view_comes_out(&rt, rt.alloc(), Fault::Fails(lacks), Refused::Memory));
-    assert!(rt; view_comes_out(&rt, rt.alloc(), Fault::Short, Refused::Damaged));
+    holds(&rt, rt.alloc(), VIEWS);
 }
 
 // The round goes on, and the object goes far.
@@ -205,31 +237,46 @@ const IS_GIVEN_UP: &[Act] = &[
     Brings(0, EIGHT),
 ];
 
-// Whether a round is refused for this reason, once, where the device's write, its first call, fails so: the round stands where the object is to leave, which is
-// there, and ends like this.
-fn round_comes_out<R: Wait>(
-    rt: &R,
-    alloc: Global,
-    (fault, why): (DeviceFault, Refused),
-    end: &[Act],
-) -> bool {
-    let device = faulty_device(alloc, 0, Fault::Fails(fault));
-    let stands = [
-        Runs(Named(&[2]), 9, 9, End::Refused(why)),
-        In(Phase::Evacuating),
-        Log(2, LogKind::Chosen, [16, 0, 4080]),
-    ];
-    plays_over(rt, alloc, sized(4, 1), device, &[IN_LOG_TWO, &stands, end])
-}
+// A round is refused once for this reason, where the device's write, its first call, fails so: the round stands where the object is to leave, which is
+// there.
+const ROUND_WITHOUT_DEVICE: &[Act] = &[
+    Runs(Named(&[2]), 9, 9, End::Refused(Refused::Device)),
+    In(Phase::Evacuating),
+    Log(2, LogKind::Chosen, [16, 0, 4080]),
+];
+
+const ROUND_WITHOUT_MEMORY: &[Act] = &[
+    Runs(Named(&[2]), 9, 9, End::Refused(Refused::Memory)),
+    In(Phase::Evacuating),
+    Log(2, LogKind::Chosen, [16, 0, 4080]),
+];
+
+const ROUNDS: &[Play] = &[
+    Play {
+        over: Over::Faulty(0, FAILS),
+        scene: Acts(&[IN_LOG_TWO, ROUND_WITHOUT_DEVICE, GOES_ON]),
+        ..ONE
+    },
+    Play {
+        over: Over::Faulty(0, FAILS),
+        scene: Acts(&[IN_LOG_TWO, ROUND_WITHOUT_DEVICE, IS_GIVEN_UP]),
+        ..ONE
+    },
+    Play {
+        over: Over::Faulty(0, LACKS_MEMORY),
+        scene: Acts(&[IN_LOG_TWO, ROUND_WITHOUT_MEMORY, GOES_ON]),
+        ..ONE
+    },
+    Play {
+        over: Over::Faulty(0, LACKS_MEMORY),
+        scene: Acts(&[IN_LOG_TWO, ROUND_WITHOUT_MEMORY, IS_GIVEN_UP]),
+        ..ONE
+    },
+];
 
 #[test]
 fn a_refused_round_may_go_on(rt: HostRuntime) {
-    let fails = (DeviceFault::Device, Refused::Device);
-    assert!(rt; round_comes_out(&rt, rt.alloc(), fails, GOES_ON));
-    assert!(rt; round_comes_out(&rt, rt.alloc(), fails, IS_GIVEN_UP));
-    let lacks = (DeviceFault::Memory, Refused::Memory);
-    assert!(rt; round_comes_out(&rt, rt.alloc(), lacks, GOES_ON));
-    assert!(rt; round_comes_out(&rt, rt.alloc(), lacks, IS_GIVEN_UP));
+    holds(&rt, rt.alloc(), ROUNDS);
 }
 
 // The object comes near by the device's second call, and moves as a viewed one, to a log that is sealed then.
@@ -273,18 +320,32 @@ const WRITTEN_AGAIN: &[Act] = &[
 
 const NINES: [u8; 8] = [9; 8];
 
+const SIX: Play = Play {
+    logs: 6,
+    over: Over::Faulty(2, FAILS),
+    ..ONE
+};
+
+const LEAVES_UNWRITTEN: Play = Play {
+    scene: Acts(&[IN_LOG_TWO, SENT_FAR, BACK_AGAIN, UNWRITTEN]),
+    ..SIX
+};
+
+const UNWRITTEN_PLAYS: &[Play] = &[LEAVES_UNWRITTEN];
+
 #[test]
 fn what_was_not_written_since_leaves_without_a_write(rt: HostRuntime) {
-    let fails = Fault::Fails(DeviceFault::Device);
-    let device = faulty_device(rt.alloc(), 2, fails);
-    let parts = [IN_LOG_TWO, SENT_FAR, BACK_AGAIN, UNWRITTEN];
-    assert!(rt; plays_over(&rt, rt.alloc(), sized(6, 1), device, &parts));
+    holds(&rt, rt.alloc(), UNWRITTEN_PLAYS);
 }
+
+const IS_WRITTEN_BACK: Play = Play {
+    scene: Acts(&[IN_LOG_TWO, SENT_FAR, WRITTEN_AGAIN]),
+    ..SIX
+};
+
+const WRITTEN_PLAYS: &[Play] = &[IS_WRITTEN_BACK];
 
 #[test]
 fn what_was_written_since_is_written_back(rt: HostRuntime) {
-    let fails = Fault::Fails(DeviceFault::Device);
-    let device = faulty_device(rt.alloc(), 2, fails);
-    let parts = [IN_LOG_TWO, SENT_FAR, WRITTEN_AGAIN];
-    assert!(rt; plays_over(&rt, rt.alloc(), sized(6, 1), device, &parts));
+    holds(&rt, rt.alloc(), WRITTEN_PLAYS);
 }

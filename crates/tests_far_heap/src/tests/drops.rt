@@ -3,8 +3,8 @@
 use crate::tests::acts::Act;
 use crate::tests::acts::Act::*;
 use crate::tests::acts::Choice::Eldest;
-use crate::tests::looks::sized;
-use crate::tests::stage::plays;
+use crate::tests::play::Scene::Acts;
+use crate::tests::play::{ONE, Play, holds};
 use far_evac::{Phase, Polled};
 
 // Six objects lie in the first log, and one fills the next; a round of the first has marked one object.
@@ -54,8 +54,12 @@ const TWO_AT_LAST: &[Act] = &[
     Deals(9, Ok([0, 0, 0, 1])),
 ];
 
+const A_DROP_BESIDE_A_ROUND_FREES_ITS_CELL_PLAYS: &[Play] = &[Play {
+    scene: Acts(&[MARKING, TWO_WHILE_MARKING, TWO_WHILE_WAITING, TWO_AT_LAST]),
+    ..ONE
+}];
+
 #[test]
 fn a_drop_beside_a_round_frees_its_cell(rt: HostRuntime) {
-    let parts = [MARKING, TWO_WHILE_MARKING, TWO_WHILE_WAITING, TWO_AT_LAST];
-    assert!(rt; plays(&rt, rt.alloc(), sized(4, 1), &parts));
+    holds(&rt, rt.alloc(), A_DROP_BESIDE_A_ROUND_FREES_ITS_CELL_PLAYS);
 }

@@ -1,28 +1,25 @@
 //! Eight mutators, in the smallest heap and in the largest.
 
-ghost use Rattle.std.specs.Prelude.{◌≡◌};
-
 use crate::tests::acts::Act::*;
 use crate::tests::acts::Choice::Eldest;
 use crate::tests::acts::{Act, End};
 use crate::tests::hands::Hand;
-use crate::tests::looks::sized;
-use crate::tests::stage::{Signals, Stage};
-use far_device::MemDevice;
+use crate::tests::play::{ONE, Play, Scene, holds};
+use crate::tests::stage::Stage;
+use far_device::Device;
 use far_evac::LogKind;
-use far_heap::{Blank, Heap, HeapName, Mutator};
+use far_heap::{HeapName, Mutator};
 use far_word::Refused;
-use std::alloc::{AllocError, Global};
-use std::marker::Brand;
+use std::alloc::Global;
 use std::sync::Wait;
-use std::thread;
 use std::thread::Threads;
+use std::{mem, thread};
 
 /// A mutator, with its number; and whether all came out as it should.
 #[derive(Drop)]
-struct Numbered<K: HeapName> {
+struct Numbered<K: HeapName, D: Device + Drop> {
     number: u16,
-    hand: Hand<K, MemDevice>,
+    hand: Hand<K, D>,
     well: bool,
 }
 
@@ -39,37 +36,39 @@ enum Work {
 
 /// What all do: each fills its objects, the book comes out like this, each reads its objects, and is refused another.
 #[derive(Clone, Copy)]
-struct Plan {
-    logs: u64,
+pub(super) struct Filled {
     objects: u16,
     len: u16,
     book: &'static [Act],
     why: Refused,
 }
 
-fn with_numbers<K: HeapName>(
+// Each with its number; fewer where memory was refused.
+fn with_numbers<K: HeapName, D: Device + Drop>(
     alloc: Global,
-    mutators: Vec<Mutator<K, MemDevice>>,
-) -> Result<Vec<Numbered<K>>, AllocError> {
+    mutators: Vec<Mutator<K, D>>,
+) -> Vec<Numbered<K, D>> {
     let mut all = Vec::new(alloc);
     let mut number = 0u16;
     for mutator in mutators {
         let (hand, well) = (Hand::Closed(mutator), true);
-        all.push(Numbered { number, hand, well })?;
+        if all.push(Numbered { number, hand, well }).is_err() {
+            break;
+        }
         number = number.saturating_add(1);
     }
-    Ok(all)
+    all
 }
 
 // Whether an act comes out as it should.
-fn does<K: HeapName, R: Wait>(rt: &R, hand: &mut Hand<K, MemDevice>, act: Act) -> bool {
+fn does<K: HeapName, D: Device + Drop, R: Wait>(rt: &R, hand: &mut Hand<K, D>, act: Act) -> bool {
     hand.does(rt, None, act) == Some(true)
 }
 
 // Whether the work on one object comes out as it should.
-fn does_one<K: HeapName, R: Wait>(
+fn does_one<K: HeapName, D: Device + Drop, R: Wait>(
     rt: &R,
-    hand: &mut Hand<K, MemDevice>,
+    hand: &mut Hand<K, D>,
     pointer: u16,
     work: Work,
 ) -> bool {
@@ -84,9 +83,9 @@ fn does_one<K: HeapName, R: Wait>(
 }
 
 // The same of so many objects of a mutator, by number.
-fn does_each<K: HeapName, R: Wait>(
+fn does_each<K: HeapName, D: Device + Drop, R: Wait>(
     rt: &R,
-    hand: &mut Hand<K, MemDevice>,
+    hand: &mut Hand<K, D>,
     (number, objects): (u16, u16),
     work: Work,
 ) -> bool {
@@ -100,7 +99,12 @@ fn does_each<K: HeapName, R: Wait>(
 }
 
 // The same in a scope of its own.
-fn worked<K: HeapName, R: Wait>(rt: &R, one: Numbered<K>, objects: u16, work: Work) -> Numbered<K> {
+fn worked<K: HeapName, D: Device + Drop, R: Wait>(
+    rt: &R,
+    one: Numbered<K, D>,
+    objects: u16,
+    work: Work,
+) -> Numbered<K, D> {
     let Numbered {
         number,
         mut hand,
@@ -113,18 +117,21 @@ fn worked<K: HeapName, R: Wait>(rt: &R, one: Numbered<K>, objects: u16, work: Wo
     Numbered { number, hand, well }
 }
 
-// The same of all, each in a thread of its own.
-fn all_worked<K: HeapName + Send + Sync, R: Threads + Wait + Sync>(
-    rt: &R,
-    all: Vec<Numbered<K>>,
+// The same of all, each in a thread of its own; none where memory was refused.
+fn all_worked<K: HeapName + Send + Sync, D: Device + Drop + Send + Sync, R: Threads + Wait + Sync>(
+    (rt, alloc): (&R, Global),
+    all: Vec<Numbered<K, D>>,
     objects: u16,
     work: Work,
-) -> Result<Vec<Numbered<K>>, AllocError> {
-    thread::map_vec(rt, all, &|one| worked(rt, one, objects, work))
+) -> Vec<Numbered<K, D>> {
+    match thread::map_vec(rt, all, &|one| worked(rt, one, objects, work)) {
+        Ok(all) => all,
+        Err(_) => Vec::new(alloc),
+    }
 }
 
 // Whether there are eight, and all came out as it should.
-fn are_well<K: HeapName>(all: &[Numbered<K>]) -> bool {
+fn are_well<K: HeapName, D: Device + Drop>(all: &[Numbered<K, D>]) -> bool {
     for one in all {
         if !one.well {
             return false;
@@ -133,50 +140,24 @@ fn are_well<K: HeapName>(all: &[Numbered<K>]) -> bool {
     all.len() == 8
 }
 
-// What each did; or memory was refused.
-fn all_played<K: HeapName + Send + Sync, R: Threads + Wait + Sync>(
-    rt: &R,
-    all: Vec<Numbered<K>>,
-    stage: &mut Stage<'_, K, MemDevice>,
-    plan: &Plan,
-) -> Result<bool, AllocError> {
-    let all = all_worked(rt, all, plan.objects, Work::Fill(plan.len))?;
+/// Whether a plan comes out as it should.
+pub(super) fn plays<
+    K: HeapName + Send + Sync,
+    D: Device + Drop + Send + Sync,
+    R: Threads + Wait + Sync,
+>(rt: &R, stage: &mut Stage<'_, K, D>, plan: &Filled) -> bool {
+    let by = (rt, stage.alloc);
+    let mutators = mem::replace(&mut stage.mutators, Vec::new(stage.alloc));
+    let all = with_numbers(stage.alloc, mutators);
+    let all = all_worked(by, all, plan.objects, Work::Fill(plan.len));
     let came = stage.does_all(rt, plan.book);
-    let all = all_worked(rt, all, plan.objects, Work::Read)?;
-    let all = all_worked(rt, all, 1, Work::Refuse(plan.why))?;
-    Ok(came && are_well(&all))
-}
-
-fn begin<K: HeapName + Send + Sync, R: Threads + Wait + Sync>(
-    rt: &R,
-    alloc: Global,
-    blank: Blank<MemDevice>,
-    plan: &Plan,
-) -> bool
-    requires { blank.heap ≡ K.heap }
-{
-    let Ok((heap, mutators)) = Heap::<K, MemDevice>::new(alloc, blank) else {
-        return false;
-    };
-    let (signals, mut none) = (Signals::new(), Vec::new(alloc));
-    let mut stage = Stage::new(&heap, &signals, &mut none);
-    match with_numbers(alloc, mutators) {
-        Ok(all) => all_played(rt, all, &mut stage, plan) == Ok(true),
-        Err(_) => false,
-    }
-}
-
-// Whether a plan comes out as it should.
-fn comes_out<R: Threads + Wait + Sync>(rt: &R, alloc: Global, plan: &Plan) -> bool {
-    match Blank::new(alloc, sized(plan.logs, 8), MemDevice::new(alloc)) {
-        Ok(blank) => begin::<Brand, R>(rt, alloc, blank, plan),
-        Err(_) => false,
-    }
+    let all = all_worked(by, all, plan.objects, Work::Read);
+    let all = all_worked(by, all, 1, Work::Refuse(plan.why));
+    came && are_well(&all)
 }
 
 // Eight objects fill the one log of two that isn't kept back, and no round begins.
-const TWO_LOGS: Plan = Plan {
-    logs: 2,
+const TWO_LOGS: Filled = Filled {
     objects: 1,
     len: 504,
     book: &[
@@ -188,15 +169,21 @@ const TWO_LOGS: Plan = Plan {
     why: Refused::NoRoom,
 };
 
+const IN_TWO_LOGS: &[Play] = &[Play {
+    logs: 2,
+    mutators: 8,
+    scene: Scene::Filled(&TWO_LOGS),
+    ..ONE
+}];
+
 #[test]
 fn eight_mutators_in_two_logs(rt: HostRuntime) {
-    assert!(rt; comes_out(&rt, rt.alloc(), &TWO_LOGS));
+    holds(&rt, rt.alloc(), IN_TWO_LOGS);
 }
 
 // All pointers are used; a round of all sealed logs moves or sends far all but the 32 objects of the open log; the next sends objects far,
 // since nobody has viewed them meanwhile, and all are there; each mutator has its objects brought back.
-const MOST_LOGS: Plan = Plan {
-    logs: 64,
+const MOST_LOGS: Filled = Filled {
     objects: 256,
     len: 104,
     book: &[
@@ -208,7 +195,14 @@ const MOST_LOGS: Plan = Plan {
     why: Refused::NoPointer,
 };
 
+const IN_MOST_LOGS: &[Play] = &[Play {
+    logs: 64,
+    mutators: 8,
+    scene: Scene::Filled(&MOST_LOGS),
+    ..ONE
+}];
+
 #[test]
 fn eight_mutators_in_most_logs(rt: HostRuntime) {
-    assert!(rt; comes_out(&rt, rt.alloc(), &MOST_LOGS));
+    holds(&rt, rt.alloc(), IN_MOST_LOGS);
 }

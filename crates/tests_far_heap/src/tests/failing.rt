@@ -4,15 +4,11 @@ use crate::tests::acts::Act::*;
 use crate::tests::acts::Choice::Eldest;
 use crate::tests::acts::Went::*;
 use crate::tests::acts::{Act, EIGHT, End, ZEROS};
-use crate::tests::copiers;
 use crate::tests::copying::{LEAVING, OFFERED, THREE};
-use crate::tests::looks::sized;
-use crate::tests::stage::plays_over;
-use far_device::{FailAt, MemDevice};
+use crate::tests::play::Scene::Acts;
+use crate::tests::play::{ONE, Over, Play, holds};
 use far_evac::{Phase, Polled};
 use far_word::Refused;
-use std::alloc::Global;
-use std::sync::Wait;
 
 // A round moves the first object, and sends the second far.
 const ROUND: &[Act] = &[Runs(Eldest, 1, 9, End::Done([1, 1, 0, 1])), In(Phase::Idle)];
@@ -85,37 +81,43 @@ const ALL_HOT_THREE: &[Act] = &[
     Has(3),
 ];
 
-// Whether this comes out so where the device's k-th call fails.
-fn comes_out<R: Wait>(rt: &R, alloc: Global, k: u64, parts: &[&[Act]]) -> bool {
-    let device = FailAt::new(MemDevice::new(alloc), k);
-    plays_over(rt, alloc, sized(4, 1), device, parts)
-}
-
 // Each run makes two calls, by which an object goes far and comes back: the first fails, the second, or none.
+const WITHOUT_COPIERS: &[Play] = &[
+    Play {
+        over: Over::FailAt(1),
+        scene: Acts(&[THREE, STOPPED_ROUND, BYTES, ALL_THREE]),
+        ..ONE
+    },
+    Play {
+        over: Over::FailAt(2),
+        scene: Acts(&[THREE, ROUND, LATER_BYTES, ALL_THREE]),
+        ..ONE
+    },
+    Play {
+        over: Over::FailAt(3),
+        scene: Acts(&[THREE, ROUND, BYTES, ALL_THREE]),
+        ..ONE
+    },
+    Play {
+        over: Over::FailAt(1),
+        scene: Acts(&[HOT_THREE, STOPPED_HOT_ROUND, HOT_BYTES, ALL_HOT_THREE]),
+        ..ONE
+    },
+    Play {
+        over: Over::FailAt(2),
+        scene: Acts(&[HOT_THREE, HOT_ROUND, LATER_HOT_BYTES, ALL_HOT_THREE]),
+        ..ONE
+    },
+    Play {
+        over: Over::FailAt(3),
+        scene: Acts(&[HOT_THREE, HOT_ROUND, HOT_BYTES, ALL_HOT_THREE]),
+        ..ONE
+    },
+];
+
 #[test]
 fn fail_each_without_copiers(rt: HostRuntime) {
-    assert!(rt;
-        comes_out(
-            &rt,
-            rt.alloc(),
-            1,
-            &[THREE, STOPPED_ROUND, BYTES, ALL_THREE]
-        )
-    );
-    assert!(rt; comes_out(&rt, rt.alloc(), 2, &[THREE, ROUND, LATER_BYTES, ALL_THREE]));
-    assert!(rt; comes_out(&rt, rt.alloc(), 3, &[THREE, ROUND, BYTES, ALL_THREE]));
-    let hot = [HOT_THREE, STOPPED_HOT_ROUND, HOT_BYTES, ALL_HOT_THREE];
-    assert!(rt; comes_out(&rt, rt.alloc(), 1, &hot));
-    let hot = [HOT_THREE, HOT_ROUND, LATER_HOT_BYTES, ALL_HOT_THREE];
-    assert!(rt; comes_out(&rt, rt.alloc(), 2, &hot));
-    let hot = [HOT_THREE, HOT_ROUND, HOT_BYTES, ALL_HOT_THREE];
-    assert!(rt; comes_out(&rt, rt.alloc(), 3, &hot));
-}
-
-// The same of a heap with a copier.
-fn comes_out_copied<R: Wait>(rt: &R, alloc: Global, k: u64, parts: &[&[Act]]) -> bool {
-    let device = FailAt::new(MemDevice::new(alloc), k);
-    copiers::plays_over(rt, alloc, (sized(4, 1), 1), device, parts)
+    holds(&rt, rt.alloc(), WITHOUT_COPIERS);
 }
 
 // The second object was to go far, which is refused, once the copy of the first was offered.
@@ -144,59 +146,99 @@ const COPIED: &[Act] = &[
 ];
 
 // A device's first call, or its second, fails where the copy of an object is offered and another one goes far; or none does.
+const WITH_A_COPIER: &[Play] = &[
+    Play {
+        copiers: Some(1),
+        over: Over::FailAt(1),
+        scene: Acts(&[THREE, LEAVING, STOPPED, GIVEN_UP, BYTES, ALL_THREE]),
+        ..ONE
+    },
+    Play {
+        copiers: Some(1),
+        over: Over::FailAt(1),
+        scene: Acts(&[THREE, LEAVING, STOPPED, CLAIMED, FINISHED, BYTES, ALL_THREE]),
+        ..ONE
+    },
+    Play {
+        copiers: Some(1),
+        over: Over::FailAt(1),
+        scene: Acts(&[
+            THREE, LEAVING, STOPPED, OFFERED, CLAIMED, COPIED, BYTES, ALL_THREE,
+        ]),
+        ..ONE
+    },
+    Play {
+        copiers: Some(1),
+        over: Over::FailAt(2),
+        scene: Acts(&[
+            THREE,
+            LEAVING,
+            OFFERED,
+            CLAIMED,
+            COPIED,
+            LATER_BYTES,
+            ALL_THREE,
+        ]),
+        ..ONE
+    },
+    Play {
+        copiers: Some(1),
+        over: Over::FailAt(3),
+        scene: Acts(&[THREE, LEAVING, OFFERED, CLAIMED, COPIED, BYTES, ALL_THREE]),
+        ..ONE
+    },
+];
+
 #[test]
 fn fail_each_on_heap(rt: HostRuntime) {
-    let parts = [THREE, LEAVING, STOPPED, GIVEN_UP, BYTES, ALL_THREE];
-    assert!(rt; comes_out_copied(&rt, rt.alloc(), 1, &parts));
-    let parts = [THREE, LEAVING, STOPPED, CLAIMED, FINISHED, BYTES, ALL_THREE];
-    assert!(rt; comes_out_copied(&rt, rt.alloc(), 1, &parts));
-    let parts = [
-        THREE, LEAVING, STOPPED, OFFERED, CLAIMED, COPIED, BYTES, ALL_THREE,
-    ];
-    assert!(rt; comes_out_copied(&rt, rt.alloc(), 1, &parts));
-    let parts = [
-        THREE,
-        LEAVING,
-        OFFERED,
-        CLAIMED,
-        COPIED,
-        LATER_BYTES,
-        ALL_THREE,
-    ];
-    assert!(rt; comes_out_copied(&rt, rt.alloc(), 2, &parts));
-    let parts = [THREE, LEAVING, OFFERED, CLAIMED, COPIED, BYTES, ALL_THREE];
-    assert!(rt; comes_out_copied(&rt, rt.alloc(), 3, &parts));
+    holds(&rt, rt.alloc(), WITH_A_COPIER);
 }
 
 // No copy of a hot object can be offered, since there is no room.
 const NOTHING_OFFERED: &[Act] = &[Works(0, Nowhere)];
 
 // The same where a hot object goes far.
+const WITHOUT_ROOM: &[Play] = &[
+    Play {
+        copiers: Some(1),
+        over: Over::FailAt(1),
+        scene: Acts(&[
+            HOT_THREE,
+            NOTHING_OFFERED,
+            STOPPED_HOT_ROUND,
+            NOTHING_OFFERED,
+            HOT_BYTES,
+            ALL_HOT_THREE,
+        ]),
+        ..ONE
+    },
+    Play {
+        copiers: Some(1),
+        over: Over::FailAt(2),
+        scene: Acts(&[
+            HOT_THREE,
+            HOT_ROUND,
+            NOTHING_OFFERED,
+            LATER_HOT_BYTES,
+            ALL_HOT_THREE,
+        ]),
+        ..ONE
+    },
+    Play {
+        copiers: Some(1),
+        over: Over::FailAt(3),
+        scene: Acts(&[
+            HOT_THREE,
+            HOT_ROUND,
+            NOTHING_OFFERED,
+            HOT_BYTES,
+            ALL_HOT_THREE,
+        ]),
+        ..ONE
+    },
+];
+
 #[test]
 fn fail_each_without_room(rt: HostRuntime) {
-    let parts = [
-        HOT_THREE,
-        NOTHING_OFFERED,
-        STOPPED_HOT_ROUND,
-        NOTHING_OFFERED,
-        HOT_BYTES,
-        ALL_HOT_THREE,
-    ];
-    assert!(rt; comes_out_copied(&rt, rt.alloc(), 1, &parts));
-    let parts = [
-        HOT_THREE,
-        HOT_ROUND,
-        NOTHING_OFFERED,
-        LATER_HOT_BYTES,
-        ALL_HOT_THREE,
-    ];
-    assert!(rt; comes_out_copied(&rt, rt.alloc(), 2, &parts));
-    let parts = [
-        HOT_THREE,
-        HOT_ROUND,
-        NOTHING_OFFERED,
-        HOT_BYTES,
-        ALL_HOT_THREE,
-    ];
-    assert!(rt; comes_out_copied(&rt, rt.alloc(), 3, &parts));
+    holds(&rt, rt.alloc(), WITHOUT_ROOM);
 }

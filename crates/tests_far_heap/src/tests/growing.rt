@@ -1,49 +1,35 @@
 //! Memory that is refused. `rt try --test --fail-alloc N` refuses growth N.
 
-ghost use Rattle.std.specs.Prelude.{◌≡◌};
-
-use crate::tests::copiers;
-use crate::tests::looks::{blank, sized};
-use far_device::MemDevice;
-use far_heap::{Blank, Heap, HeapName};
+use crate::tests::play::Scene::Begins;
+use crate::tests::play::{ONE, Play, holds};
 use far_word::Refused;
-use std::alloc::Global;
-use std::marker::Brand;
 
-// Whether a heap with its mutators is begun, or memory was refused.
-fn begins<K: HeapName>(alloc: Global, blank: Blank<MemDevice>) -> bool
-    requires { blank.heap ≡ K.heap }
-{
-    match Heap::<K, MemDevice>::new(alloc, blank) {
-        Ok((_heap, mutators)) => mutators.len() == 2,
-        Err(why) => why == Refused::Memory,
-    }
-}
+// A heap with its mutators is begun, or memory was refused: both endings are lawful.
+const BEGUN: Play = Play {
+    logs: 2,
+    mutators: 2,
+    scene: Begins(2, 0),
+    refused: Some(Refused::Memory),
+    ..ONE
+};
 
-// Whether the parts of a heap are made, and it is begun, or memory was refused.
-fn ends_lawfully(rt: &HostRuntime) -> bool {
-    match blank(rt, sized(2, 2)) {
-        Ok(blank) => begins::<Brand>(rt.alloc(), blank),
-        Err(why) => why == Refused::Memory,
-    }
-}
+const HEAPS: &[Play] = &[BEGUN];
 
-// Both endings are lawful.
 #[test]
 fn a_heap_is_made_or_memory_is_refused(rt: HostRuntime) {
-    assert!(rt; ends_lawfully(&rt));
+    holds(&rt, rt.alloc(), HEAPS);
 }
 
 // The same with copiers.
-fn ends_lawfully_with_copiers(rt: &HostRuntime) -> bool {
-    let begun = match blank(rt, sized(2, 2)) {
-        Ok(blank) => copiers::begins::<Brand>(rt.alloc(), blank, 8),
-        Err(why) => Err(why),
-    };
-    begun == Ok(true) || begun == Err(Refused::Memory)
-}
+const BEGUN_WITH_COPIERS: Play = Play {
+    copiers: Some(8),
+    scene: Begins(2, 8),
+    ..BEGUN
+};
+
+const HEAPS_WITH_COPIERS: &[Play] = &[BEGUN_WITH_COPIERS];
 
 #[test]
 fn a_heap_with_copiers_is_made_or_memory_is_refused(rt: HostRuntime) {
-    assert!(rt; ends_lawfully_with_copiers(&rt));
+    holds(&rt, rt.alloc(), HEAPS_WITH_COPIERS);
 }

@@ -3,8 +3,8 @@
 use crate::tests::acts::Act::*;
 use crate::tests::acts::Choice::Eldest;
 use crate::tests::acts::{Act, EIGHT, End};
-use crate::tests::looks::sized;
-use crate::tests::stage::plays;
+use crate::tests::play::Scene::Acts;
+use crate::tests::play::{ONE, Play, holds};
 use far_evac::{Phase, Polled};
 
 // The first mutator drops its scope unclosed, with a view. The other writes an object, and another one fills the next log.
@@ -47,14 +47,14 @@ const NEXT_ROUND: &[Act] = &[
     Reads(256, EIGHT),
 ];
 
+const SCOPE_LEFT_OPEN_PLAYS: &[Play] = &[Play {
+    logs: 6,
+    mutators: 2,
+    scene: Acts(&[LEFT_OPEN, FIRST_ROUND, NEXT_ROUND]),
+    ..ONE
+}];
+
 #[test]
 fn scope_left_open(rt: HostRuntime) {
-    assert!(rt;
-        plays(
-            &rt,
-            rt.alloc(),
-            sized(6, 2),
-            &[LEFT_OPEN, FIRST_ROUND, NEXT_ROUND]
-        )
-    );
+    holds(&rt, rt.alloc(), SCOPE_LEFT_OPEN_PLAYS);
 }

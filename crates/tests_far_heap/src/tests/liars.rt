@@ -4,9 +4,8 @@ use crate::tests::acts::Act::*;
 use crate::tests::acts::Choice::Eldest;
 use crate::tests::acts::{Act, End};
 use crate::tests::devices::{COMES_BACK, IN_LOG_TWO, SENT_FAR};
-use crate::tests::looks::sized;
-use crate::tests::stage::plays_over;
-use far_device::{Liar, MemDevice};
+use crate::tests::play::Scene::Acts;
+use crate::tests::play::{ONE, Over, Play, holds};
 use far_evac::LogKind;
 use far_word::Refused;
 
@@ -40,11 +39,20 @@ const DAMAGED: &[Act] = &[
 const STILL_THREE: &[Act] = &[Closes, Has(3)];
 
 // A device gives inverted bytes once, and another one byte less once.
+const LIES: &[Play] = &[
+    Play {
+        over: Over::Flip,
+        scene: Acts(&[FLIPPED]),
+        ..ONE
+    },
+    Play {
+        over: Over::Short,
+        scene: Acts(&[IN_LOG_TWO, SENT_FAR, DAMAGED, COMES_BACK, STILL_THREE]),
+        ..ONE
+    },
+];
+
 #[test]
 fn liar_on_heap(rt: HostRuntime) {
-    let flip = Liar::flip(MemDevice::new(rt.alloc()), 1);
-    assert!(rt; plays_over(&rt, rt.alloc(), sized(4, 1), flip, &[FLIPPED]));
-    let short = Liar::short(MemDevice::new(rt.alloc()), 1);
-    let parts = [IN_LOG_TWO, SENT_FAR, DAMAGED, COMES_BACK, STILL_THREE];
-    assert!(rt; plays_over(&rt, rt.alloc(), sized(4, 1), short, &parts));
+    holds(&rt, rt.alloc(), LIES);
 }

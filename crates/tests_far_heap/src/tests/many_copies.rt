@@ -4,11 +4,10 @@ use crate::tests::acts::Act::*;
 use crate::tests::acts::Choice::Eldest;
 use crate::tests::acts::Went::*;
 use crate::tests::acts::{Act, End};
-use crate::tests::copiers::{begins, plays};
-use crate::tests::looks::{blank, sized};
+use crate::tests::play::Scene::{Acts, Begins, Never};
+use crate::tests::play::{ONE, Play, holds};
 use far_evac::{LogKind, Phase, Polled};
 use far_word::Refused;
-use std::marker::Brand;
 
 // Eighteen objects lie in a log, all of which are written; another fills the next.
 const EIGHTEEN: &[Act] = &[
@@ -62,16 +61,21 @@ const ALL_COPIED: &[Act] = &[
 
 const ALL_READ: &[Act] = &[Opens, HasNumbers(18), Closes, Has(19)];
 
-#[test]
-fn eight_copiers_by_hand(rt: HostRuntime) {
-    let parts = [
+const EIGHT_COPIERS_BY_HAND_PLAYS: &[Play] = &[Play {
+    copiers: Some(8),
+    scene: Acts(&[
         EIGHTEEN,
         SIXTEEN_OFFERED,
         EIGHT_COPIED,
         ALL_COPIED,
         ALL_READ,
-    ];
-    assert!(rt; plays(&rt, rt.alloc(), sized(4, 1), 8, &parts));
+    ]),
+    ..ONE
+}];
+
+#[test]
+fn eight_copiers_by_hand(rt: HostRuntime) {
+    holds(&rt, rt.alloc(), EIGHT_COPIERS_BY_HAND_PLAYS);
 }
 
 // A few objects are dealt with at a time, offered ones too.
@@ -103,10 +107,15 @@ const FEW_FINISHED: &[Act] = &[
     Near(17, (0, 34), true),
 ];
 
+const A_FEW_ARE_OFFERED_AT_A_TIME_PLAYS: &[Play] = &[Play {
+    copiers: Some(8),
+    scene: Acts(&[EIGHTEEN, FEW_AT_A_TIME, FEW_FINISHED, ALL_READ]),
+    ..ONE
+}];
+
 #[test]
 fn a_few_are_offered_at_a_time(rt: HostRuntime) {
-    let parts = [EIGHTEEN, FEW_AT_A_TIME, FEW_FINISHED, ALL_READ];
-    assert!(rt; plays(&rt, rt.alloc(), sized(4, 1), 8, &parts));
+    holds(&rt, rt.alloc(), A_FEW_ARE_OFFERED_AT_A_TIME_PLAYS);
 }
 
 // Three objects have a log each. The first is viewed, and its copy is offered; the round isn't done.
@@ -146,25 +155,87 @@ const LOST: &[Act] = &[
     Brings(0, [7; 8]),
 ];
 
+const A_LOST_COPIER_KEEPS_TWO_LOGS_PLAYS: &[Play] = &[Play {
+    logs: 8,
+    copiers: Some(2),
+    scene: Acts(&[ONE_TAKEN, LOST]),
+    ..ONE
+}];
+
 #[test]
 fn a_lost_copier_keeps_two_logs(rt: HostRuntime) {
-    assert!(rt; plays(&rt, rt.alloc(), sized(8, 1), 2, &[ONE_TAKEN, LOST]));
+    holds(&rt, rt.alloc(), A_LOST_COPIER_KEEPS_TWO_LOGS_PLAYS);
 }
 
-// Whether a heap has so many copiers; or why there is none.
-fn begun(rt: &HostRuntime, copiers: u8) -> Result<bool, Refused> {
-    match blank(rt, sized(2, 2)) {
-        Ok(blank) => begins::<Brand>(rt.alloc(), blank, copiers),
-        Err(why) => Err(why),
-    }
-}
+const TWO: Play = Play {
+    logs: 2,
+    mutators: 2,
+    ..ONE
+};
+
+// A heap has one to eight copiers, and no other number.
+const HOW_MANY: &[Play] = &[
+    Play {
+        copiers: Some(1),
+        scene: Begins(2, 1),
+        ..TWO
+    },
+    Play {
+        copiers: Some(2),
+        scene: Begins(2, 2),
+        ..TWO
+    },
+    Play {
+        copiers: Some(3),
+        scene: Begins(2, 3),
+        ..TWO
+    },
+    Play {
+        copiers: Some(4),
+        scene: Begins(2, 4),
+        ..TWO
+    },
+    Play {
+        copiers: Some(5),
+        scene: Begins(2, 5),
+        ..TWO
+    },
+    Play {
+        copiers: Some(6),
+        scene: Begins(2, 6),
+        ..TWO
+    },
+    Play {
+        copiers: Some(7),
+        scene: Begins(2, 7),
+        ..TWO
+    },
+    Play {
+        copiers: Some(8),
+        scene: Begins(2, 8),
+        ..TWO
+    },
+    Play {
+        copiers: Some(0),
+        scene: Never,
+        refused: Some(Refused::Shape),
+        ..TWO
+    },
+    Play {
+        copiers: Some(9),
+        scene: Never,
+        refused: Some(Refused::Shape),
+        ..TWO
+    },
+    Play {
+        copiers: Some(255),
+        scene: Never,
+        refused: Some(Refused::Shape),
+        ..TWO
+    },
+];
 
 #[test]
 fn a_heap_has_eight_copiers_at_most(rt: HostRuntime) {
-    for copiers in 1..9u8 {
-        assert!(rt; begun(&rt, copiers) == Ok(true));
-    }
-    for copiers in [0, 9, 255] {
-        assert!(rt; begun(&rt, copiers) == Err(Refused::Shape));
-    }
+    holds(&rt, rt.alloc(), HOW_MANY);
 }

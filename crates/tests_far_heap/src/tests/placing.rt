@@ -3,8 +3,8 @@
 use crate::tests::acts::Act;
 use crate::tests::acts::Act::*;
 use crate::tests::acts::Choice::Eldest;
-use crate::tests::looks::sized;
-use crate::tests::stage::plays;
+use crate::tests::play::Scene::Acts;
+use crate::tests::play::{ONE, Play, holds};
 use far_evac::{Phase, Polled};
 use far_word::Refused;
 
@@ -56,32 +56,44 @@ const NO_POINTER_LEFT: &[Act] = &[
 const POINTERLESS_WAITING: &[Act] = &[Marks(128, Ok((127, Some(1)))), In(Phase::Waiting)];
 
 // In each phase of a round.
+const A_REFUSED_OBJECT_LEAVES_A_ROUND_AS_IT_IS_PLAYS: &[Play] = &[
+    Play {
+        logs: 3,
+        scene: Acts(&[
+            NO_ROOM_LEFT,
+            NO_ROOM,
+            MARKING,
+            NO_ROOM,
+            ROOMLESS_WAITING,
+            NO_ROOM,
+            LEAVING,
+            NO_ROOM,
+        ]),
+        ..ONE
+    },
+    Play {
+        logs: 6,
+        scene: Acts(&[
+            NO_POINTER_LEFT,
+            NO_POINTER,
+            MARKING,
+            NO_POINTER,
+            POINTERLESS_WAITING,
+            NO_POINTER,
+            LEAVING,
+            NO_POINTER,
+        ]),
+        ..ONE
+    },
+];
+
 #[test]
 fn a_refused_object_leaves_a_round_as_it_is(rt: HostRuntime) {
-    let none = NO_ROOM;
-    let parts = [
-        NO_ROOM_LEFT,
-        none,
-        MARKING,
-        none,
-        ROOMLESS_WAITING,
-        none,
-        LEAVING,
-        none,
-    ];
-    assert!(rt; plays(&rt, rt.alloc(), sized(3, 1), &parts));
-    let none = NO_POINTER;
-    let parts = [
-        NO_POINTER_LEFT,
-        none,
-        MARKING,
-        none,
-        POINTERLESS_WAITING,
-        none,
-        LEAVING,
-        none,
-    ];
-    assert!(rt; plays(&rt, rt.alloc(), sized(6, 1), &parts));
+    holds(
+        &rt,
+        rt.alloc(),
+        A_REFUSED_OBJECT_LEAVES_A_ROUND_AS_IT_IS_PLAYS,
+    );
 }
 
 // Objects of 9 bytes are made where no round is running, by a mutator and by its scope, each time one alone of 24 with its header; and one
@@ -135,15 +147,20 @@ const PLACED_LEAVING: &[Act] = &[
     OneMore(24),
 ];
 
-#[test]
-fn a_new_object_is_placed_once(rt: HostRuntime) {
-    let parts = [
+const A_NEW_OBJECT_IS_PLACED_ONCE_PLAYS: &[Play] = &[Play {
+    logs: 6,
+    scene: Acts(&[
         PLACED_IDLE,
         MARKING,
         PLACED_MARKING,
         PLACED_WAITING,
         LEAVING,
         PLACED_LEAVING,
-    ];
-    assert!(rt; plays(&rt, rt.alloc(), sized(6, 1), &parts));
+    ]),
+    ..ONE
+}];
+
+#[test]
+fn a_new_object_is_placed_once(rt: HostRuntime) {
+    holds(&rt, rt.alloc(), A_NEW_OBJECT_IS_PLACED_ONCE_PLAYS);
 }

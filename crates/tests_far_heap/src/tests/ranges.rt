@@ -2,8 +2,8 @@
 
 use crate::tests::acts::Act::*;
 use crate::tests::acts::{Act, EIGHT, ZEROS};
-use crate::tests::looks::sized;
-use crate::tests::stage::plays;
+use crate::tests::play::Scene::Acts;
+use crate::tests::play::{ONE, Play, holds};
 use far_word::Refused;
 
 // All twelve bytes of an object, written in three parts across words, are read in two.
@@ -30,9 +30,14 @@ const PAST_TWELVE: &[Act] = &[
     ReadsAt(0, &[1, 2, 3, 4, 5, 6, 7, 8]),
 ];
 
+const RANGES_END_WITH_THE_OBJECT_PLAYS: &[Play] = &[Play {
+    scene: Acts(&[TWELVE, PAST_TWELVE]),
+    ..ONE
+}];
+
 #[test]
 fn ranges_end_with_the_object(rt: HostRuntime) {
-    assert!(rt; plays(&rt, rt.alloc(), sized(4, 1), &[TWELVE, PAST_TWELVE]));
+    holds(&rt, rt.alloc(), RANGES_END_WITH_THE_OBJECT_PLAYS);
 }
 
 // The last bytes of the longest object are read and written as the first ones are.
@@ -49,9 +54,14 @@ const LAST_BYTES: &[Act] = &[
     Bars(4088, 1, Refused::Range),
 ];
 
+const THE_LONGEST_OBJECT_IS_READ_TO_ITS_END_PLAYS: &[Play] = &[Play {
+    scene: Acts(&[LAST_BYTES]),
+    ..ONE
+}];
+
 #[test]
 fn the_longest_object_is_read_to_its_end(rt: HostRuntime) {
-    assert!(rt; plays(&rt, rt.alloc(), sized(4, 1), &[LAST_BYTES]));
+    holds(&rt, rt.alloc(), THE_LONGEST_OBJECT_IS_READ_TO_ITS_END_PLAYS);
 }
 
 // A view of a scope that is closed then.
@@ -71,16 +81,14 @@ const LATER_SCOPE: &[Act] = &[
     Reads(0, [1, 2, 3, 4, 9, 6, 7, 8]),
 ];
 
+const A_VIEW_ENDS_WITH_ITS_SCOPE_PLAYS: &[Play] = &[Play {
+    scene: Acts(&[EARLIER_VIEW, WRITTEN, LATER_SCOPE]),
+    ..ONE
+}];
+
 #[test]
 fn a_view_ends_with_its_scope(rt: HostRuntime) {
-    assert!(rt;
-        plays(
-            &rt,
-            rt.alloc(),
-            sized(4, 1),
-            &[EARLIER_VIEW, WRITTEN, LATER_SCOPE]
-        )
-    );
+    holds(&rt, rt.alloc(), A_VIEW_ENDS_WITH_ITS_SCOPE_PLAYS);
 }
 
 // The view of an object that is gone is a view of the pointer's next object, which is longer.
@@ -95,14 +103,12 @@ const NEXT_OBJECT: &[Act] = &[
     Bars(16, 1, Refused::Range),
 ];
 
+const A_VIEW_IS_OF_A_POINTER_PLAYS: &[Play] = &[Play {
+    scene: Acts(&[EARLIER_VIEW, WRITTEN, NEXT_OBJECT]),
+    ..ONE
+}];
+
 #[test]
 fn a_view_is_of_a_pointer(rt: HostRuntime) {
-    assert!(rt;
-        plays(
-            &rt,
-            rt.alloc(),
-            sized(4, 1),
-            &[EARLIER_VIEW, WRITTEN, NEXT_OBJECT]
-        )
-    );
+    holds(&rt, rt.alloc(), A_VIEW_IS_OF_A_POINTER_PLAYS);
 }

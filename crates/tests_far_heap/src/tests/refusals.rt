@@ -3,38 +3,74 @@
 use crate::tests::acts::Act::*;
 use crate::tests::acts::Choice::Eldest;
 use crate::tests::acts::{Act, End, ZEROS};
-use crate::tests::looks::{blank, sized};
-use crate::tests::stage::plays;
-use far_core::Shape;
+use crate::tests::play::Scene::{Acts, Begins, Never};
+use crate::tests::play::{ONE, Play, holds};
 use far_evac::LogKind;
 use far_word::Refused;
 
-// Whether no heap has this shape.
-fn has_no_heap(rt: &HostRuntime, logs: u64, mutators: u64, epoch: u64) -> bool {
-    let shape = Shape {
-        logs,
-        mutators,
-        epoch,
-    };
-    matches!(blank(rt, shape), Err(Refused::Shape))
-}
+const NO_HEAP: Play = Play {
+    scene: Never,
+    refused: Some(Refused::Shape),
+    ..ONE
+};
 
-// Whether a heap may have this shape.
-fn has_heap(rt: &HostRuntime, logs: u64, mutators: u64, epoch: u64) -> bool {
-    let shape = Shape {
-        logs,
-        mutators,
-        epoch,
-    };
-    blank(rt, shape).is_ok()
-}
+// Shapes that no heap has, and two that a heap may have.
+const SHAPES: &[Play] = &[
+    Play {
+        logs: 1,
+        mutators: 1,
+        epoch: 0,
+        ..NO_HEAP
+    },
+    Play {
+        logs: 65,
+        mutators: 1,
+        epoch: 0,
+        ..NO_HEAP
+    },
+    Play {
+        logs: 4,
+        mutators: 0,
+        epoch: 0,
+        ..NO_HEAP
+    },
+    Play {
+        logs: 4,
+        mutators: 9,
+        epoch: 0,
+        ..NO_HEAP
+    },
+    Play {
+        logs: 4,
+        mutators: 1,
+        epoch: 1 << 62,
+        ..NO_HEAP
+    },
+    Play {
+        logs: u64::MAX,
+        mutators: u64::MAX,
+        epoch: u64::MAX,
+        ..NO_HEAP
+    },
+    Play {
+        logs: 2,
+        mutators: 1,
+        epoch: 0,
+        scene: Begins(1, 0),
+        ..ONE
+    },
+    Play {
+        logs: 64,
+        mutators: 8,
+        epoch: (1 << 62) - 1,
+        scene: Begins(8, 0),
+        ..ONE
+    },
+];
 
 #[test]
 fn a_shape_is_in_range(rt: HostRuntime) {
-    assert!(rt; has_no_heap(&rt, 1, 1, 0) && has_no_heap(&rt, 65, 1, 0));
-    assert!(rt; has_no_heap(&rt, 4, 0, 0) && has_no_heap(&rt, 4, 9, 0));
-    assert!(rt; has_no_heap(&rt, 4, 1, 1 << 62) && has_no_heap(&rt, u64::MAX, u64::MAX, u64::MAX));
-    assert!(rt; has_heap(&rt, 2, 1, 0) && has_heap(&rt, 64, 8, (1 << 62) - 1));
+    holds(&rt, rt.alloc(), SHAPES);
 }
 
 // Two logs are full of one mutator's objects of 24 bytes, which take four words each, and all its pointers are used.
@@ -66,10 +102,16 @@ const NO_ROOM: &[Act] = &[
     Makes(1, Err(Refused::NoRoom)),
 ];
 
+const A_NEW_OBJECT_IS_REFUSED_IN_ORDER_PLAYS: &[Play] = &[Play {
+    logs: 3,
+    mutators: 2,
+    scene: Acts(&[TWO_FULL_LOGS, BAD_LENGTHS, NO_POINTER, BAD_LENGTHS, NO_ROOM]),
+    ..ONE
+}];
+
 #[test]
 fn a_new_object_is_refused_in_order(rt: HostRuntime) {
-    let parts = [TWO_FULL_LOGS, BAD_LENGTHS, NO_POINTER, BAD_LENGTHS, NO_ROOM];
-    assert!(rt; plays(&rt, rt.alloc(), sized(3, 2), &parts));
+    holds(&rt, rt.alloc(), A_NEW_OBJECT_IS_REFUSED_IN_ORDER_PLAYS);
 }
 
 // Each mutator makes an object. The first can't drop a pointer that it never used, one of the other mutator, and one that nobody has.
@@ -100,16 +142,15 @@ const DROPPED_OBJECTS: &[Act] = &[
     Log(0, LogKind::Open, [16, 32, 4048]),
 ];
 
+const A_DROP_IS_REFUSED_IN_ORDER_PLAYS: &[Play] = &[Play {
+    mutators: 2,
+    scene: Acts(&[ONE_FOR_EACH, DROPPED_OBJECTS]),
+    ..ONE
+}];
+
 #[test]
 fn a_drop_is_refused_in_order(rt: HostRuntime) {
-    assert!(rt;
-        plays(
-            &rt,
-            rt.alloc(),
-            sized(4, 2),
-            &[ONE_FOR_EACH, DROPPED_OBJECTS]
-        )
-    );
+    holds(&rt, rt.alloc(), A_DROP_IS_REFUSED_IN_ORDER_PLAYS);
 }
 
 // A mutator views only what it uses.
@@ -124,16 +165,15 @@ const UNHELD_OBJECTS: &[Act] = &[
     Lacks(0),
 ];
 
+const AN_UNHELD_POINTER_HAS_NO_VIEW_PLAYS: &[Play] = &[Play {
+    mutators: 2,
+    scene: Acts(&[ONE_FOR_EACH, UNHELD_OBJECTS]),
+    ..ONE
+}];
+
 #[test]
 fn an_unheld_pointer_has_no_view(rt: HostRuntime) {
-    assert!(rt;
-        plays(
-            &rt,
-            rt.alloc(),
-            sized(4, 2),
-            &[ONE_FOR_EACH, UNHELD_OBJECTS]
-        )
-    );
+    holds(&rt, rt.alloc(), AN_UNHELD_POINTER_HAS_NO_VIEW_PLAYS);
 }
 
 // An object is far, and all room but the log that is kept back is taken.
@@ -160,7 +200,12 @@ const FAR_WITHOUT_ROOM: &[Act] = &[
 ];
 
 // A far object isn't viewed while no log has room for it, and is after a round that gave a log back.
+const A_FAR_OBJECT_WAITS_FOR_ROOM_PLAYS: &[Play] = &[Play {
+    scene: Acts(&[FILLED_UP, FAR_WITHOUT_ROOM]),
+    ..ONE
+}];
+
 #[test]
 fn a_far_object_waits_for_room(rt: HostRuntime) {
-    assert!(rt; plays(&rt, rt.alloc(), sized(4, 1), &[FILLED_UP, FAR_WITHOUT_ROOM]));
+    holds(&rt, rt.alloc(), A_FAR_OBJECT_WAITS_FOR_ROOM_PLAYS);
 }

@@ -3,9 +3,8 @@
 use crate::tests::acts::Act::*;
 use crate::tests::acts::Choice::{Eldest, Named};
 use crate::tests::acts::{Act, End};
-use crate::tests::looks::sized;
-use crate::tests::stage::plays;
-use far_core::Shape;
+use crate::tests::play::Scene::Acts;
+use crate::tests::play::{ONE, Play, holds};
 use far_evac::{LogKind, Phase, Polled};
 use far_word::Refused;
 
@@ -62,9 +61,8 @@ const LEAVING: &[Act] = &[
 const ALL_MARKED: &[Act] = &[Marks(9, Ok((1, Some(1))))];
 
 // Each phase has its call, and is refused the others.
-#[test]
-fn a_call_belongs_to_a_phase(rt: HostRuntime) {
-    let parts = [
+const A_CALL_BELONGS_TO_A_PHASE_PLAYS: &[Play] = &[Play {
+    scene: Acts(&[
         FIRST_SEALED,
         IDLE,
         MARKING,
@@ -72,8 +70,13 @@ fn a_call_belongs_to_a_phase(rt: HostRuntime) {
         WAITING,
         LEAVING,
         IDLE,
-    ];
-    assert!(rt; plays(&rt, rt.alloc(), sized(4, 1), &parts));
+    ]),
+    ..ONE
+}];
+
+#[test]
+fn a_call_belongs_to_a_phase(rt: HostRuntime) {
+    holds(&rt, rt.alloc(), A_CALL_BELONGS_TO_A_PHASE_PLAYS);
 }
 
 // Scripts of logs that aren't sealed, or of a log that is named twice, are refused for that log, as a choice and as a whole round.
@@ -90,10 +93,14 @@ const BAD_CHOICES: &[Act] = &[
 
 const STILL_SEALED: &[Act] = &[Log(0, LogKind::Sealed, [16, 0, 4080])];
 
+const A_BAD_SCRIPT_BEGINS_NO_ROUND_PLAYS: &[Play] = &[Play {
+    scene: Acts(&[FIRST_SEALED, BAD_CHOICES, IDLE, STILL_SEALED]),
+    ..ONE
+}];
+
 #[test]
 fn a_bad_script_begins_no_round(rt: HostRuntime) {
-    let parts = [FIRST_SEALED, BAD_CHOICES, IDLE, STILL_SEALED];
-    assert!(rt; plays(&rt, rt.alloc(), sized(4, 1), &parts));
+    holds(&rt, rt.alloc(), A_BAD_SCRIPT_BEGINS_NO_ROUND_PLAYS);
 }
 
 // A round reaches the last epoch.
@@ -109,14 +116,15 @@ const AFTER_THE_LAST: &[Act] = &[
     Runs(Eldest, 9, 9, End::Refused(Refused::EpochsSpent)),
 ];
 
+const THE_LAST_EPOCH_PLAYS: &[Play] = &[Play {
+    epoch: (1 << 62) - 2,
+    scene: Acts(&[FIRST_SEALED, IN_THE_LAST, WAITING, AFTER_THE_LAST, IDLE]),
+    ..ONE
+}];
+
 #[test]
 fn the_last_epoch_begins_no_round(rt: HostRuntime) {
-    let last_but_one = Shape {
-        epoch: (1 << 62) - 2,
-        ..sized(4, 1)
-    };
-    let parts = [FIRST_SEALED, IN_THE_LAST, WAITING, AFTER_THE_LAST, IDLE];
-    assert!(rt; plays(&rt, rt.alloc(), last_but_one, &parts));
+    holds(&rt, rt.alloc(), THE_LAST_EPOCH_PLAYS);
 }
 
 // Rounds of none, one and two turns go so far, and stand there.
@@ -132,7 +140,12 @@ const TURN_BY_TURN: &[Act] = &[
     GivesUp(Ok(())),
 ];
 
+const A_ROUND_MAKES_NO_TURN_MORE_PLAYS: &[Play] = &[Play {
+    scene: Acts(&[FIRST_SEALED, TURN_BY_TURN]),
+    ..ONE
+}];
+
 #[test]
 fn a_round_makes_no_turn_more(rt: HostRuntime) {
-    assert!(rt; plays(&rt, rt.alloc(), sized(4, 1), &[FIRST_SEALED, TURN_BY_TURN]));
+    holds(&rt, rt.alloc(), A_ROUND_MAKES_NO_TURN_MORE_PLAYS);
 }

@@ -3,8 +3,8 @@
 use crate::tests::acts::Act::*;
 use crate::tests::acts::Choice::Eldest;
 use crate::tests::acts::{Act, EIGHT, End, ZEROS};
-use crate::tests::looks::sized;
-use crate::tests::stage::plays;
+use crate::tests::play::Scene::Acts;
+use crate::tests::play::{ONE, Play, holds};
 use far_evac::{LogKind, Polled};
 use far_word::Refused;
 
@@ -67,18 +67,24 @@ const WAITING_ROUND: &[Act] = &[
     Deals(9, Ok([1, 0, 0, 1])),
 ];
 
+const HEAP_ROWS_PLAYS: &[Play] = &[
+    Play {
+        scene: Acts(&[NEW_OBJECT]),
+        ..ONE
+    },
+    Play {
+        scene: Acts(&[PLAIN_ROUND, AFTER_ROUND, BROUGHT_BACK]),
+        ..ONE
+    },
+    Play {
+        scene: Acts(&[WAITING_ROUND]),
+        ..ONE
+    },
+];
+
 #[test]
 fn heap_rows(rt: HostRuntime) {
-    assert!(rt; plays(&rt, rt.alloc(), sized(4, 1), &[NEW_OBJECT]));
-    assert!(rt;
-        plays(
-            &rt,
-            rt.alloc(),
-            sized(4, 1),
-            &[PLAIN_ROUND, AFTER_ROUND, BROUGHT_BACK]
-        )
-    );
-    assert!(rt; plays(&rt, rt.alloc(), sized(4, 1), &[WAITING_ROUND]));
+    holds(&rt, rt.alloc(), HEAP_ROWS_PLAYS);
 }
 
 // The owner's own move takes the last free log, so that a round of the first two logs has no room for a viewed object, which goes far.
@@ -99,9 +105,14 @@ const HOT_ROUND: &[Act] = &[
     Far(0, false),
 ];
 
+const A_VIEWED_OBJECT_WITHOUT_ROOM_GOES_FAR_PLAYS: &[Play] = &[Play {
+    scene: Acts(&[HOT_ROUND]),
+    ..ONE
+}];
+
 #[test]
 fn a_viewed_object_without_room_goes_far(rt: HostRuntime) {
-    assert!(rt; plays(&rt, rt.alloc(), sized(4, 1), &[HOT_ROUND]));
+    holds(&rt, rt.alloc(), A_VIEWED_OBJECT_WITHOUT_ROOM_GOES_FAR_PLAYS);
 }
 
 // One step finds the word of a marked object, and a view has the object moved; the round has nothing to do then but to give the log back.
@@ -120,7 +131,12 @@ const MARKED_OBJECT: &[Act] = &[
     Deals(9, Ok([0, 0, 0, 1])),
 ];
 
+const A_MARKED_OBJECT_IS_MOVED_FOR_A_VIEW_PLAYS: &[Play] = &[Play {
+    scene: Acts(&[MARKED_OBJECT]),
+    ..ONE
+}];
+
 #[test]
 fn a_marked_object_is_moved_for_a_view(rt: HostRuntime) {
-    assert!(rt; plays(&rt, rt.alloc(), sized(4, 1), &[MARKED_OBJECT]));
+    holds(&rt, rt.alloc(), A_MARKED_OBJECT_IS_MOVED_FOR_A_VIEW_PLAYS);
 }

@@ -1,18 +1,16 @@
 //! A heap on which a test is played, act by act.
 
-ghost use Rattle.std.specs.Prelude.{◌≡◌};
-
-use crate::tests::acts::{Act, Choice};
+use crate::tests::acts::{Act, Choice, Went};
+use crate::tests::copy_hands::CopyHand;
 use crate::tests::flag::Tally;
 use crate::tests::hands::Hand;
 use crate::tests::looks::{Counted, count_of};
 use crate::tests::steps::{By, comes_to, steps};
 use far_core::Shape;
-use far_device::{Device, MemDevice};
+use far_device::Device;
 use far_evac::{Census, EvacFault, Phase, RoundEnd};
-use far_heap::{Blank, Evacuator, Heap, HeapName, Mutator, View};
+use far_heap::{Evacuator, Heap, HeapName, Mutator, View};
 use std::alloc::Global;
-use std::marker::Brand;
 use std::mem;
 use std::sync::Wait;
 
@@ -69,11 +67,15 @@ impl Signals {
     }
 }
 
-/// A heap and its mutators, two at most, of which one is at hand; and what was kept of them.
+/// A heap, with its mutators and copiers; two mutators at most play, of which one is at hand; and what was kept of them.
 #[derive(Drop)]
 pub(super) struct Stage<'h, K: HeapName, D: Device + Drop> {
-    heap: &'h Heap<K, D>,
-    signals: &'h Signals,
+    pub heap: &'h Heap<K, D>,
+    pub signals: &'h Signals,
+    pub alloc: Global,
+    /// Those that don't play.
+    pub mutators: Vec<Mutator<K, D>>,
+    pub copiers: Vec<CopyHand<K, D>>,
     at_hand: Hand<K, D>,
     other: Hand<K, D>,
     view: Option<View>,
@@ -83,20 +85,69 @@ pub(super) struct Stage<'h, K: HeapName, D: Device + Drop> {
 }
 
 impl<'h, K: HeapName, D: Device + Drop> Stage<'h, K, D> {
-    /// One whose first mutator is at hand.
+    /// One on which none plays yet.
     pub(super) fn new(
-        heap: &'h Heap<K, D>,
-        signals: &'h Signals,
-        mutators: &mut Vec<Mutator<K, D>>,
+        (heap, signals): (&'h Heap<K, D>, &'h Signals),
+        alloc: Global,
+        mutators: Vec<Mutator<K, D>>,
+        copiers: Vec<CopyHand<K, D>>,
     ) -> Stage<'h, K, D> {
         Stage {
             heap,
             signals,
-            at_hand: Hand::first_of(mutators),
-            other: Hand::first_of(mutators),
+            alloc,
+            mutators,
+            copiers,
+            at_hand: Hand::Gone,
+            other: Hand::Gone,
             view: None,
             asked: 0,
             noted: None,
+        }
+    }
+
+    /// The first mutator is at hand, and the second is the other.
+    pub(super) fn sets_out(&mut self) {
+        self.at_hand = Hand::first_of(&mut self.mutators);
+        self.other = Hand::first_of(&mut self.mutators);
+    }
+
+    /// Whether there are so many mutators that don't play, and so many copiers.
+    pub(super) fn has(&self, mutators: usize, copiers: usize) -> bool {
+        self.mutators.len() == mutators && self.copiers.len() == copiers
+    }
+
+    // Whether a copier goes on so.
+    fn works(&mut self, number: usize, went: Went) -> bool {
+        match self.copiers.get_mut(number) {
+            Some(hand) => hand.goes_on() == went,
+            None => false,
+        }
+    }
+
+    // Whether each of so many does.
+    fn all_work(&mut self, copiers: usize, went: Went) -> bool {
+        for number in 0..copiers {
+            if !self.works(number, went) {
+                return false;
+            }
+        }
+        true
+    }
+
+    // Whether a copier had a job, which is finished then.
+    fn ends(&mut self, number: usize) -> bool {
+        match self.copiers.get_mut(number) {
+            Some(hand) => hand.ends(),
+            None => false,
+        }
+    }
+
+    // Drops a copier; whether it was there.
+    fn loses(&mut self, number: usize) -> bool {
+        match self.copiers.get_mut(number) {
+            Some(hand) => hand.is_lost(),
+            None => false,
         }
     }
 
@@ -167,6 +218,10 @@ impl<'h, K: HeapName, D: Device + Drop> Stage<'h, K, D> {
             Act::Notes => self.notes(rt),
             Act::AsNoted => self.is_as_noted(rt, None),
             Act::OneMore(size) => self.is_as_noted(rt, Some(size)),
+            Act::Works(number, went) => self.works(number, went),
+            Act::AllWork(copiers, went) => self.all_work(copiers, went),
+            Act::Ends(number, had) => self.ends(number) == had,
+            Act::Loses(number) => self.loses(number),
             _ => self.does_at_hand(rt, act),
         }
     }
@@ -190,8 +245,9 @@ impl<'h, K: HeapName, D: Device + Drop> Stage<'h, K, D> {
         true
     }
 
-    // The same of each part.
-    fn plays<R: Wait>(&mut self, rt: &R, parts: &[&[Act]]) -> bool {
+    /// The same of each part, with the first mutator at hand.
+    pub(super) fn plays<R: Wait>(&mut self, rt: &R, parts: &[&[Act]]) -> bool {
+        self.sets_out();
         for part in parts {
             if !self.does_all(rt, part) {
                 return false;
@@ -199,51 +255,4 @@ impl<'h, K: HeapName, D: Device + Drop> Stage<'h, K, D> {
         }
         true
     }
-}
-
-fn play_on<K: HeapName, D: Device + Drop, R: Wait>(
-    rt: &R,
-    alloc: Global,
-    blank: Blank<D>,
-    parts: &[&[Act]],
-) -> bool
-    requires { blank.heap ≡ K.heap }
-{
-    match Heap::<K, D>::new(alloc, blank) {
-        Ok((heap, mut mutators)) => {
-            let signals = Signals::new();
-            let mut stage = Stage::new(&heap, &signals, &mut mutators);
-            stage.plays(rt, parts)
-        }
-        Err(_) => false,
-    }
-}
-
-// Whether each act comes out as it should on a heap of these parts.
-fn play_named<D: Device + Drop, R: Wait>(
-    rt: &R,
-    alloc: Global,
-    blank: Blank<D>,
-    parts: &[&[Act]],
-) -> bool {
-    play_on::<Brand, D, R>(rt, alloc, blank, parts)
-}
-
-/// Whether each act, part by part, comes out as it should on a new heap of this shape over this device. The first mutator is at hand.
-pub(super) fn plays_over<D: Device + Drop, R: Wait>(
-    rt: &R,
-    alloc: Global,
-    shape: Shape,
-    device: D,
-    parts: &[&[Act]],
-) -> bool {
-    match Blank::new(alloc, shape, device) {
-        Ok(blank) => play_named(rt, alloc, blank, parts),
-        Err(_) => false,
-    }
-}
-
-/// The same over a device in memory.
-pub(super) fn plays<R: Wait>(rt: &R, alloc: Global, shape: Shape, parts: &[&[Act]]) -> bool {
-    plays_over(rt, alloc, shape, MemDevice::new(alloc), parts)
 }

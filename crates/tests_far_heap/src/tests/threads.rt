@@ -1,20 +1,18 @@
 //! What a thread does while another has the lock, or has taken a scope over, or ends its round.
 
-ghost use Rattle.std.specs.Prelude.{◌≡◌};
-
 use crate::tests::acts::Act::*;
 use crate::tests::acts::Choice::Eldest;
 use crate::tests::acts::{Act, EIGHT, End, ZEROS};
-use crate::tests::looks::{is_dropped, new_blank, sized};
+use crate::tests::looks::is_dropped;
+use crate::tests::play::Scene::Moves;
+use crate::tests::play::{ONE, Play, Scene, holds};
 use crate::tests::scopes::{has, reads, viewed, writes};
 use crate::tests::stage::{Signals, Stage};
 use crate::tests::steps::steps;
-use far_device::MemDevice;
+use far_device::Device;
 use far_evac::{Phase, Polled};
-use far_heap::{Blank, Evacuator, Heap, HeapName, Mutator, Scope, View};
+use far_heap::{Evacuator, Heap, HeapName, Mutator, Scope, View};
 use far_word::Refused;
-use std::alloc::Global;
-use std::marker::Brand;
 use std::sync::Wait;
 use std::thread;
 use std::thread::{Threads, join};
@@ -32,7 +30,7 @@ enum Beside {
 
 /// What two threads do, and before and after that one of them.
 #[derive(Clone, Copy)]
-struct Duet {
+pub(super) struct Duet {
     before: &'static [Act],
     beside: Beside,
     acts: &'static [Act],
@@ -40,14 +38,18 @@ struct Duet {
 }
 
 // Has the book until the hold is ended: whether that came.
-fn holds<K: HeapName, R: Wait>(rt: &R, heap: &Heap<K, MemDevice>, signals: &Signals) -> bool {
+fn keeps_book<K: HeapName, D: Device + Drop, R: Wait>(
+    rt: &R,
+    heap: &Heap<K, D>,
+    signals: &Signals,
+) -> bool {
     let book = heap.book(rt);
     signals.held.raise();
     signals.ended.wait_for(1) && book.shape().logs == 4
 }
 
 // Whether each act of the book comes out as it should, under one hold of the lock.
-fn does_all<K: HeapName>(book: &mut Evacuator<K, MemDevice>, acts: &[Act]) -> bool {
+fn does_all<K: HeapName, D: Device + Drop>(book: &mut Evacuator<K, D>, acts: &[Act]) -> bool {
     for act in acts {
         if !steps(book, *act) {
             return false;
@@ -57,9 +59,9 @@ fn does_all<K: HeapName>(book: &mut Evacuator<K, MemDevice>, acts: &[Act]) -> bo
 }
 
 // Has the book until the first object is dropped, and goes on before its owner gets the lock.
-fn holds_till_dropped<K: HeapName, R: Wait>(
+fn holds_till_dropped<K: HeapName, D: Device + Drop, R: Wait>(
     rt: &R,
-    heap: &Heap<K, MemDevice>,
+    heap: &Heap<K, D>,
     signals: &Signals,
     acts: &[Act],
 ) -> bool {
@@ -76,12 +78,12 @@ fn holds_till_dropped<K: HeapName, R: Wait>(
 }
 
 // Gives up a round that waits; whether one did.
-fn ends_waiting<K: HeapName>(book: &mut Evacuator<K, MemDevice>) -> bool {
+fn ends_waiting<K: HeapName, D: Device + Drop>(book: &mut Evacuator<K, D>) -> bool {
     book.phase() == Phase::Waiting && book.abort() == Ok(())
 }
 
 // Gives up the round of another thread as soon as it waits.
-fn gives_up_waiting<K: HeapName, R: Wait>(rt: &R, heap: &Heap<K, MemDevice>) -> bool {
+fn gives_up_waiting<K: HeapName, D: Device + Drop, R: Wait>(rt: &R, heap: &Heap<K, D>) -> bool {
     for _ in 0..1_000_000_000u64 {
         if ends_waiting(&mut *heap.book(rt)) {
             return true;
@@ -92,61 +94,36 @@ fn gives_up_waiting<K: HeapName, R: Wait>(rt: &R, heap: &Heap<K, MemDevice>) -> 
 }
 
 // What the other thread does.
-fn plays_beside<K: HeapName, R: Wait>(
+fn plays_beside<K: HeapName, D: Device + Drop, R: Wait>(
     rt: &R,
-    heap: &Heap<K, MemDevice>,
+    heap: &Heap<K, D>,
     signals: &Signals,
     beside: Beside,
 ) -> bool {
     match beside {
-        Beside::Holds => holds(rt, heap, signals),
+        Beside::Holds => keeps_book(rt, heap, signals),
         Beside::HoldsTillDropped(acts) => holds_till_dropped(rt, heap, signals, acts),
         Beside::GivesUpWaiting => gives_up_waiting(rt, heap),
     }
 }
 
-// Both threads.
-fn both<K: HeapName + Send + Sync, R: Threads + Wait + Sync>(
-    rt: &R,
-    heap: &Heap<K, MemDevice>,
-    signals: &Signals,
-    stage: &mut Stage<'_, K, MemDevice>,
-    duet: &Duet,
-) -> bool {
-    let (there, here) = join(
+/// Whether a duet comes out as it should.
+pub(super) fn plays<
+    K: HeapName + Send + Sync,
+    D: Device + Drop + Send + Sync,
+    R: Threads + Wait + Sync,
+>(rt: &R, stage: &mut Stage<'_, K, D>, duet: &Duet) -> bool {
+    stage.sets_out();
+    if !stage.does_all(rt, duet.before) {
+        return false;
+    }
+    let (heap, signals, here) = (stage.heap, stage.signals, &mut *stage);
+    let (there, came) = join(
         rt,
         move || plays_beside(rt, heap, signals, duet.beside),
-        move || stage.does_all(rt, duet.acts),
+        move || here.does_all(rt, duet.acts),
     );
-    there && here
-}
-
-fn play<K: HeapName + Send + Sync, R: Threads + Wait + Sync>(
-    rt: &R,
-    alloc: Global,
-    blank: Blank<MemDevice>,
-    duet: &Duet,
-) -> bool
-    requires { blank.heap ≡ K.heap }
-{
-    match Heap::<K, MemDevice>::new(alloc, blank) {
-        Ok((heap, mut mutators)) => {
-            let signals = Signals::new();
-            let mut stage = Stage::new(&heap, &signals, &mut mutators);
-            stage.does_all(rt, duet.before)
-                && both(rt, &heap, &signals, &mut stage, duet)
-                && stage.does_all(rt, duet.after)
-        }
-        Err(_) => false,
-    }
-}
-
-// Whether a duet comes out as it should on a heap of four logs and one mutator.
-fn comes_out<R: Threads + Wait + Sync>(rt: &R, alloc: Global, duet: &Duet) -> bool {
-    match Blank::new(alloc, sized(4, 1), MemDevice::new(alloc)) {
-        Ok(blank) => play::<Brand, R>(rt, alloc, blank, duet),
-        Err(_) => false,
-    }
+    there && came && stage.does_all(rt, duet.after)
 }
 
 // An object is viewed, written and read while another thread has the book.
@@ -165,9 +142,14 @@ const HELD_BOOK: Duet = Duet {
     after: &[],
 };
 
+const UNDER_HELD_BOOK: &[Play] = &[Play {
+    scene: Scene::Duet(&HELD_BOOK),
+    ..ONE
+}];
+
 #[test]
 fn read_under_held_book(rt: HostRuntime) {
-    assert!(rt; comes_out(&rt, rt.alloc(), &HELD_BOOK));
+    holds(&rt, rt.alloc(), UNDER_HELD_BOOK);
 }
 
 // A round may retire an object between its owner's mark and the lock; another is made at its pointer then.
@@ -183,9 +165,14 @@ const DROPPED_BESIDE: Duet = Duet {
     after: &[Has(1), Makes(8, Ok(0))],
 };
 
+const RETIRED_BESIDE: &[Play] = &[Play {
+    scene: Scene::Duet(&DROPPED_BESIDE),
+    ..ONE
+}];
+
 #[test]
 fn a_round_may_retire_what_is_dropped(rt: HostRuntime) {
-    assert!(rt; comes_out(&rt, rt.alloc(), &DROPPED_BESIDE));
+    holds(&rt, rt.alloc(), RETIRED_BESIDE);
 }
 
 // A round that waits for a scope, which stays open, is refused once another thread has ended it.
@@ -196,16 +183,21 @@ const ENDED_ROUND: Duet = Duet {
     after: &[Reads(0, ZEROS)],
 };
 
+const ENDED_BESIDE: &[Play] = &[Play {
+    scene: Scene::Duet(&ENDED_ROUND),
+    ..ONE
+}];
+
 #[test]
 fn a_round_may_be_ended_by_another(rt: HostRuntime) {
-    assert!(rt; comes_out(&rt, rt.alloc(), &ENDED_ROUND));
+    holds(&rt, rt.alloc(), ENDED_BESIDE);
 }
 
 // Reads by a view that another thread made, and closes the scope.
-fn ends_scope<K: HeapName>(
-    mut scope: Scope<K, MemDevice>,
+fn ends_scope<K: HeapName, D: Device + Drop>(
+    mut scope: Scope<K, D>,
     view: View,
-) -> Option<Mutator<K, MemDevice>> {
+) -> Option<Mutator<K, D>> {
     if has(&mut scope, &view, EIGHT) && reads(&mut scope, 0, EIGHT) {
         Some(scope.close())
     } else {
@@ -214,7 +206,10 @@ fn ends_scope<K: HeapName>(
 }
 
 // A view of a new object that is written.
-fn written<K: HeapName, R: Wait>(rt: &R, scope: &mut Scope<K, MemDevice>) -> Option<View> {
+fn written<K: HeapName, D: Device + Drop, R: Wait>(
+    rt: &R,
+    scope: &mut Scope<K, D>,
+) -> Option<View> {
     if scope.alloc(rt, 8, 1) == Ok(0) && writes(scope, 0, EIGHT) {
         viewed(scope, 0)
     } else {
@@ -222,41 +217,48 @@ fn written<K: HeapName, R: Wait>(rt: &R, scope: &mut Scope<K, MemDevice>) -> Opt
     }
 }
 
-// A scope with a view goes to another thread, and its mutator comes back and reads.
-fn moves_there<K: HeapName + Send + Sync + 'static, R: Threads + Wait>(
-    rt: &R,
-    mut scope: Scope<K, MemDevice>,
-) -> bool {
-    let Some(view) = written(rt, &mut scope) else {
-        return false;
-    };
-    let Ok(there) = thread::spawn(rt, move || ends_scope(scope, view)) else {
-        return false;
-    };
-    match there.join(rt) {
+// Whether a mutator came back, and reads.
+fn reads_back<K: HeapName, D: Device + Drop>(back: Option<Mutator<K, D>>) -> bool {
+    match back {
         Some(back) => reads(&mut back.open(), 0, EIGHT),
         None => false,
     }
 }
 
-fn moved_scope<K: HeapName + Send + Sync + 'static, R: Threads + Wait>(
-    rt: &R,
-    alloc: Global,
-    blank: Blank<MemDevice>,
-) -> bool
-    requires { blank.heap ≡ K.heap }
-{
-    match Heap::<K, MemDevice>::new(alloc, blank) {
-        Ok((_heap, mut mutators)) => match mutators.pop() {
-            Some(mutator) => moves_there(rt, mutator.open()),
-            None => false,
-        },
+// A scope with a view goes to another thread, and its mutator comes back and reads.
+fn moves_there<
+    K: HeapName + Send + Sync + 'static,
+    D: Device + Drop + Send + Sync + 'static,
+    R: Threads + Wait,
+>(rt: &R, scope: Scope<K, D>, view: View) -> bool {
+    match thread::spawn(rt, move || ends_scope(scope, view)) {
+        Ok(there) => reads_back(there.join(rt)),
         Err(_) => false,
     }
 }
 
+/// Whether that comes out as it should with the first mutator.
+pub(super) fn moves<
+    K: HeapName + Send + Sync + 'static,
+    D: Device + Drop + Send + Sync + 'static,
+    R: Threads + Wait,
+>(rt: &R, stage: &mut Stage<'_, K, D>) -> bool {
+    let Some(mutator) = stage.mutators.pop() else {
+        return false;
+    };
+    let mut scope = mutator.open();
+    match written(rt, &mut scope) {
+        Some(view) => moves_there(rt, scope, view),
+        None => false,
+    }
+}
+
+const MOVED: &[Play] = &[Play {
+    scene: Moves,
+    ..ONE
+}];
+
 #[test]
 fn moves_between_threads(rt: HostRuntime) {
-    let alloc = rt.alloc();
-    assert!(rt; moved_scope::<Brand, _>(&rt, alloc, new_blank(&rt, alloc, sized(4, 1))));
+    holds(&rt, rt.alloc(), MOVED);
 }

@@ -2,8 +2,8 @@
 
 use crate::tests::acts::Act;
 use crate::tests::acts::Act::*;
-use crate::tests::looks::sized;
-use crate::tests::stage::plays;
+use crate::tests::play::Scene::Acts;
+use crate::tests::play::{ONE, Play, holds};
 
 // Two new objects of different lengths and data structures are told as they were made.
 const TOLD_OBJECTS: &[Act] = &[
@@ -31,7 +31,12 @@ const TOLD_IN_SCOPE: &[Act] = &[
 ];
 
 // A mutator tells the length and the data structure of what it uses, and so does its scope.
+const AN_OBJECT_IS_TOLD_AS_IT_WAS_MADE_PLAYS: &[Play] = &[Play {
+    scene: Acts(&[TOLD_OBJECTS, TOLD_IN_SCOPE]),
+    ..ONE
+}];
+
 #[test]
 fn an_object_is_told_as_it_was_made(rt: HostRuntime) {
-    assert!(rt; plays(&rt, rt.alloc(), sized(4, 1), &[TOLD_OBJECTS, TOLD_IN_SCOPE]));
+    holds(&rt, rt.alloc(), AN_OBJECT_IS_TOLD_AS_IT_WAS_MADE_PLAYS);
 }

@@ -1,18 +1,18 @@
 //! Integers and records in an object, at even and odd bytes, and scopes that are lent.
 
-ghost use Rattle.std.specs.Prelude.{◌≡◌, [], ◌++◌, ◌∷◌, drop, slice_index};
+ghost use Rattle.std.specs.Prelude.{[], ◌++◌, ◌∷◌, drop, slice_index};
 ghost use Rattle.std.proofs.Common.{arith};
 ghost use Rattle.byteorder.specs.Endian.{big_bytes, big_number, little_bytes, little_number};
 
-use crate::tests::looks::{new_blank, sized};
+use crate::tests::play::Scene::Values;
+use crate::tests::play::{ONE, Play, holds};
+use crate::tests::stage::Stage;
 use byteorder::{BigEndian, ByteOrder, LittleEndian};
-use far_device::MemDevice;
+use far_device::Device;
 use far_evac::RoundEnd;
-use far_heap::{Blank, FixedRecord, Heap, HeapName, Mutator, Scope, View, lend};
+use far_heap::{FixedRecord, Heap, HeapName, Mutator, Scope, View, lend};
 use far_policy::Oldest;
 use far_word::Refused;
-use std::alloc::Global;
-use std::marker::Brand;
 use std::sync::Wait;
 
 /// A record of seven bytes: two and four, the highest first, and the lowest first.
@@ -54,8 +54,8 @@ const READING: Reading = Reading {
 };
 
 // Whether these bytes stand from one of an object's on.
-fn stand<K: HeapName>(
-    scope: &mut Scope<K, MemDevice>,
+fn stand<K: HeapName, D: Device + Drop>(
+    scope: &mut Scope<K, D>,
     view: &View,
     from: u16,
     want: &[u8; 8],
@@ -65,7 +65,7 @@ fn stand<K: HeapName>(
 }
 
 // Eight bytes from byte 3 on, written as one integer, are read as integers of each width, in both orders, from odd and from even bytes on.
-fn are_read<K: HeapName>(scope: &mut Scope<K, MemDevice>, view: &View) -> bool {
+fn are_read<K: HeapName, D: Device + Drop>(scope: &mut Scope<K, D>, view: &View) -> bool {
     scope
         .write_u64::<LittleEndian>(view, 3, 0x0102030405060708)
         .is_ok()
@@ -79,7 +79,7 @@ fn are_read<K: HeapName>(scope: &mut Scope<K, MemDevice>, view: &View) -> bool {
 }
 
 // Each width is written, in both orders, and nothing beside it.
-fn are_written<K: HeapName>(scope: &mut Scope<K, MemDevice>, view: &View) -> bool {
+fn are_written<K: HeapName, D: Device + Drop>(scope: &mut Scope<K, D>, view: &View) -> bool {
     scope
         .write_u64::<BigEndian>(view, 17, 0x0102030405060708)
         .is_ok()
@@ -100,7 +100,7 @@ fn are_written<K: HeapName>(scope: &mut Scope<K, MemDevice>, view: &View) -> boo
 }
 
 // A record is the bytes that its layout says, and comes back from them.
-fn records_come_back<K: HeapName>(scope: &mut Scope<K, MemDevice>, view: &View) -> bool {
+fn records_come_back<K: HeapName, D: Device + Drop>(scope: &mut Scope<K, D>, view: &View) -> bool {
     scope.write_record(view, 29, READING).is_ok()
         && stand(scope, view, 28, &[0, 1, 2, 6, 5, 4, 3, 7])
         && scope.read_record(view, 29) == Ok(READING)
@@ -109,7 +109,7 @@ fn records_come_back<K: HeapName>(scope: &mut Scope<K, MemDevice>, view: &View) 
 }
 
 // What passes the end of 64 bytes is refused, and what stood there stays.
-fn pass_the_end<K: HeapName>(scope: &mut Scope<K, MemDevice>, view: &View) -> bool {
+fn pass_the_end<K: HeapName, D: Device + Drop>(scope: &mut Scope<K, D>, view: &View) -> bool {
     scope.write_u64::<LittleEndian>(view, 57, 1) == Err(Refused::Range)
         && scope.write_u32::<LittleEndian>(view, 61, 1) == Err(Refused::Range)
         && scope.write_u16::<LittleEndian>(view, 63, 1) == Err(Refused::Range)
@@ -117,7 +117,7 @@ fn pass_the_end<K: HeapName>(scope: &mut Scope<K, MemDevice>, view: &View) -> bo
         && stand(scope, view, 56, &[0, 1, 2, 6, 5, 4, 3, 7])
 }
 
-fn read_past<K: HeapName>(scope: &mut Scope<K, MemDevice>, view: &View) -> bool {
+fn read_past<K: HeapName, D: Device + Drop>(scope: &mut Scope<K, D>, view: &View) -> bool {
     let past: Result<Reading, Refused> = scope.read_record(view, 58);
     past == Err(Refused::Range)
         && scope.read_u64::<BigEndian>(view, 57) == Err(Refused::Range)
@@ -127,7 +127,7 @@ fn read_past<K: HeapName>(scope: &mut Scope<K, MemDevice>, view: &View) -> bool 
 }
 
 // By a view of an earlier scope nothing is read or written.
-fn not_held<K: HeapName>(scope: &mut Scope<K, MemDevice>, view: &View) -> bool {
+fn not_held<K: HeapName, D: Device + Drop>(scope: &mut Scope<K, D>, view: &View) -> bool {
     let gone: Result<Reading, Refused> = scope.read_record(view, 0);
     gone == Err(Refused::NotHeld)
         && scope.read_u64::<BigEndian>(view, 0) == Err(Refused::NotHeld)
@@ -136,9 +136,9 @@ fn not_held<K: HeapName>(scope: &mut Scope<K, MemDevice>, view: &View) -> bool {
 }
 
 // All of it in one scope, lent: the view, or what refused it.
-fn in_one_scope<K: HeapName, R: Wait>(
+fn in_one_scope<K: HeapName, D: Device + Drop, R: Wait>(
     rt: &R,
-    scope: &mut Scope<K, MemDevice>,
+    scope: &mut Scope<K, D>,
 ) -> Result<Option<View>, Refused> {
     let pointer = scope.alloc(rt, 64, 1)?;
     let view = scope.view(rt, pointer)?;
@@ -152,15 +152,15 @@ fn in_one_scope<K: HeapName, R: Wait>(
 }
 
 // An early return by `?` ends what was lent alone: the scope is closed, so that the mutator drops what it viewed, and a round ends.
-fn closed_by_lend<K: HeapName, R: Wait>(
+fn closed_by_lend<K: HeapName, D: Device + Drop, R: Wait>(
     rt: &R,
-    heap: &Heap<K, MemDevice>,
-    mutator: Mutator<K, MemDevice>,
+    heap: &Heap<K, D>,
+    mutator: Mutator<K, D>,
     view: View,
 ) -> bool {
     let (mut mutator, refused) = lend(
         mutator.open(),
-        |scope: &mut Scope<K, MemDevice>| -> Result<u16, Refused> {
+        |scope: &mut Scope<K, D>| -> Result<u16, Refused> {
             let seen = scope.view(rt, view.pointer())?;
             let other = scope.view(rt, 255)?;
             scope.read_u16::<BigEndian>(&seen, other.len())
@@ -175,39 +175,42 @@ fn closed_by_lend<K: HeapName, R: Wait>(
         && mutator.drop_object(rt, view.pointer()) == Ok(())
 }
 
-fn works<K: HeapName, R: Wait>(
+fn works<K: HeapName, D: Device + Drop, R: Wait>(
     rt: &R,
-    heap: &Heap<K, MemDevice>,
-    mutator: Mutator<K, MemDevice>,
+    heap: &Heap<K, D>,
+    mutator: Mutator<K, D>,
 ) -> bool {
     let (mutator, told) = lend(
         mutator.open(),
-        |scope: &mut Scope<K, MemDevice>| in_one_scope(rt, scope),
+        |scope: &mut Scope<K, D>| in_one_scope(rt, scope),
     );
     let Ok(Some(view)) = told else {
         return false;
     };
     let (mutator, unheld) = lend(
         mutator.open(),
-        |scope: &mut Scope<K, MemDevice>| not_held(scope, &view),
+        |scope: &mut Scope<K, D>| not_held(scope, &view),
     );
     unheld && closed_by_lend(rt, heap, mutator, view)
 }
 
-fn begun<K: HeapName, R: Wait>(rt: &R, alloc: Global, blank: Blank<MemDevice>) -> bool
-    requires { blank.heap ≡ K.heap }
-{
-    match Heap::<K, _>::new(alloc, blank) {
-        Ok((heap, mut mutators)) => match mutators.pop() {
-            Some(mutator) => works(rt, &heap, mutator),
-            None => false,
-        },
-        Err(_) => false,
+/// Whether all that comes out as it should with the first mutator.
+pub(super) fn has_values<K: HeapName, D: Device + Drop, R: Wait>(
+    rt: &R,
+    stage: &mut Stage<'_, K, D>,
+) -> bool {
+    match stage.mutators.pop() {
+        Some(mutator) => works(rt, stage.heap, mutator),
+        None => false,
     }
 }
 
+const IN_LENT_SCOPES: &[Play] = &[Play {
+    scene: Values,
+    ..ONE
+}];
+
 #[test]
 fn values_in_lent_scopes(rt: HostRuntime) {
-    let blank = new_blank(&rt, rt.alloc(), sized(4, 1));
-    assert!(rt; begun::<Brand, _>(&rt, rt.alloc(), blank));
+    holds(&rt, rt.alloc(), IN_LENT_SCOPES);
 }

@@ -2,7 +2,7 @@
 
 use crate::tests::acts::Act;
 use crate::tests::hands::Hand;
-use far_device::MemDevice;
+use far_device::Device;
 use far_heap::{HeapName, Mutator, Scope, View};
 use far_word::Refused;
 use std::sync::Wait;
@@ -24,9 +24,9 @@ struct Filled {
 }
 
 // A view of an object, as soon as there is room for it.
-fn viewed<K: HeapName, R: Wait>(
+fn viewed<K: HeapName, D: Device + Drop, R: Wait>(
     rt: &R,
-    scope: &mut Scope<K, MemDevice>,
+    scope: &mut Scope<K, D>,
     pointer: u16,
 ) -> Option<View> {
     for _ in 0..TRIES {
@@ -40,15 +40,19 @@ fn viewed<K: HeapName, R: Wait>(
 }
 
 // Whether each byte of an object is this.
-fn is_filled<K: HeapName>(scope: &mut Scope<K, MemDevice>, view: &View, byte: u8) -> bool {
+fn is_filled<K: HeapName, D: Device + Drop>(
+    scope: &mut Scope<K, D>,
+    view: &View,
+    byte: u8,
+) -> bool {
     let mut found = [0; BYTES as usize];
     scope.read(view, 0, &mut found).is_ok() && found == [byte; BYTES as usize]
 }
 
 // Whether an object has what it was filled with last, and, if there is another byte, is filled with that, and has that.
-fn fills<K: HeapName, R: Wait>(
+fn fills<K: HeapName, D: Device + Drop, R: Wait>(
     rt: &R,
-    scope: &mut Scope<K, MemDevice>,
+    scope: &mut Scope<K, D>,
     object: Filled,
     byte: Option<u8>,
 ) -> bool {
@@ -67,16 +71,16 @@ fn fills<K: HeapName, R: Wait>(
 
 /// A mutator with objects of its own.
 #[derive(Drop)]
-pub(super) struct Writer<K: HeapName> {
-    hand: Hand<K, MemDevice>,
+pub(super) struct Writer<K: HeapName, D: Device + Drop> {
+    hand: Hand<K, D>,
     objects: [Filled; OBJECTS],
     // How many scopes it has opened.
     scopes: u64,
 }
 
-impl<K: HeapName> Writer<K> {
+impl<K: HeapName, D: Device + Drop> Writer<K, D> {
     /// One that has no object yet.
-    pub(super) fn new(mutator: Mutator<K, MemDevice>) -> Writer<K> {
+    pub(super) fn new(mutator: Mutator<K, D>) -> Writer<K, D> {
         let none = Filled {
             pointer: 0,
             byte: 0,

@@ -1,4 +1,0 @@
-use Rattle.tests_far_heap.proofs.tests.beside.rounds_while_writing.Given as goal
-
-abbrev pub ghosts-made_beside : goal.ghosts-made_beside
-ghosts-made_beside g a = record { heap = a.blank.heap }

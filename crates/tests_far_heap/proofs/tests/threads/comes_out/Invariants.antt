@@ -1,4 +1,0 @@
-use Rattle.tests_far_heap.proofs.tests.threads.comes_out.Given as goal
-
-abbrev pub ghosts-play : goal.ghosts-play
-ghosts-play g a = record { heap = a.blank.heap }
