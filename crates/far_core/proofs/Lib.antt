@@ -40,6 +40,7 @@ pub mod RoomLaws
 pub mod RoundFacts
 pub mod Rows
 pub mod SpanFrames
+pub mod StoredAlready
 pub mod StoredRows
 pub mod Steps
 pub mod TakingCopies

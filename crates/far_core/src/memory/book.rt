@@ -1,14 +1,14 @@
 //! The events of the book.
 
 ghost use Rattle.std.specs.Prelude.{◌≡◌, ◌<◌, ◌≤◌, ◌+◌, ◌*◌, ℕ, true, IfErr, IfOk, IsSome, None, Some};
-ghost use Rattle.far_core.specs.state.State.{State, addr};
+ghost use Rattle.far_core.specs.state.State.{State, addr, put};
 ghost use Rattle.far_core.specs.declared.event.Event.{Event};
 ghost use Rattle.far_core.specs.declared.event.Reply.{Reply};
 ghost use Rattle.far_core.specs.state.Law.{Law};
 ghost use Rattle.far_core.specs.events.Clear.{is_near};
 ghost use Rattle.far_core.specs.events.Name.{after_naming};
 ghost use Rattle.far_core.specs.events.Naming.{IsOnLayout, naming_of, naming_row, no_marks};
-ghost use Rattle.far_core.specs.events.namings.Evicts.{evicts_row, IsAt};
+ghost use Rattle.far_core.specs.events.namings.Evicts.{evicts_row, with_kept, IsAt};
 ghost use Rattle.far_core.specs.events.NewSpans.{goes_at, is_new_span, with_begun, with_span};
 ghost use Rattle.far_core.specs.events.Next.{next_state};
 ghost use Rattle.far_core.specs.events.Step.{answer, is_legal, is_past};
@@ -21,7 +21,7 @@ ghost use Rattle.far_log.specs.Spans.{pointer_in};
 ghost use Rattle.far_word.specs.Header.{head_of};
 ghost use Rattle.far_core.specs.state.Memory.{state_of};
 ghost use Rattle.far_word.specs.Pointer.{IsPtr, read_of, view_place};
-ghost use Rattle.far_word.specs.Sizes.{size_of};
+ghost use Rattle.far_word.specs.Sizes.{size_of, words_for};
 
 use crate::event::Kind;
 use crate::memory::Memory;
@@ -247,8 +247,25 @@ impl Memory {
         requires near { IsAt (state_of self.old) pointer len place }
         ensures { state_of self.new ≡ (evicts_row (state_of self.old) pointer new len place).after }
     {
-        self.store_away(pointer, first_word(place) + 1, words_for(len));
+        self.store_object(pointer, len, place);
         self.set_cell(pointer, new);
+    }
+
+    /// Stores an object's words. Those of one that wasn't written since it came from an honest far side are stored already.
+    #[inline(always)]
+    fn store_object(&mut self, pointer: u16, len: u16, place: Place)
+        requires pointer { pointer < CELLS * (state_of self.old).mutators }
+        requires law { Law (state_of self.old) }
+        requires near { IsAt (state_of self.old) pointer len place }
+        ensures { state_of self.new ≡ record (state_of self.old) { stored = put (state_of self.old).stored pointer (with_kept (state_of self.old).word (state_of self.old).stored pointer (addr place + 1) (words_for len)) } }
+    {
+        let PtrWord::Near { marks, .. } = PtrWord::known(self.cell_at(pointer)) else {
+            unreachable!()
+        };
+        if self.is_honest() && !marks.dirty {
+            return;
+        }
+        self.store_away(pointer, first_word(place) + 1, words_for(len));
     }
 
     pub(crate) fn may_clear(&self, pointer: u16) -> bool
