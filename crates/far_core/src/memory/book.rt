@@ -324,6 +324,7 @@ impl Memory {
         requires pointer { pointer < CELLS * (state_of self.old).mutators }
         requires log { place.log < (state_of self.old).logs }
         requires fits { place.at + size_of len ≤ LOG_WORDS }
+        requires open { (state_of self.old).kind (state_of self.old).current ≡ Kind.Open }
         ensures { state_of self.new ≡ with_span (state_of self.old) pointer new len place }
     {
         self.set_cell(pointer, new);
@@ -334,13 +335,26 @@ impl Memory {
     pub(crate) fn begin(&mut self, len: u16, place: Place)
         requires log { place.log < (state_of self.old).logs }
         requires fits { place.at + size_of len ≤ LOG_WORDS }
+        requires open { (state_of self.old).kind (state_of self.old).current ≡ Kind.Open }
         ensures { state_of self.new ≡ with_begun (state_of self.old) len place }
     {
         self.begin_span(first_word(place));
         self.set_tail(place.log, place.at + size_of(len));
+        self.open_log(place.log);
+    }
+
+    /// A log is the open one; the one that was open is sealed, if it is another.
+    fn open_log(&mut self, log: u8)
+        requires log { log < (state_of self.old).logs }
+        requires open { (state_of self.old).kind (state_of self.old).current ≡ Kind.Open }
+        ensures { state_of self.new ≡ record (state_of self.old) { kind = put (put (state_of self.old).kind (state_of self.old).current Kind.Sealed) log Kind.Open; current = log } }
+    {
+        if log == self.current() {
+            return;
+        }
         self.set_kind(self.current(), Kind::Sealed);
-        self.set_kind(place.log, Kind::Open);
-        self.set_current(place.log);
+        self.set_kind(log, Kind::Open);
+        self.set_current(log);
     }
 
     /// Whether a header for the pointer is written where the next span of a log may stand.
