@@ -1,11 +1,12 @@
 -- Rows of stores, of puts, and of gets and puts: each is legal when it is made, the law stays, and together they write a row of words.
-use Rattle.std.proofs.Common.{true, ◌≡◌, ℕ, zero, suc, List, refl, sym, ap, subst, ◌∙◌, arith, ◌+◌, ◌-◌, ◌*◌, ◌/◌, ◌^◌, ◌<◌, ◌≤◌, length, cond}
+use Rattle.std.proofs.Common.{true, ◌≡◌, ◌⊎◌, ℕ, zero, suc, List, Some, refl, sym, ap, subst, ◌∙◌, arith, ◌+◌, ◌-◌, ◌*◌, ◌/◌, ◌^◌, ◌<◌, ◌≤◌, length, cond}
 use Rattle.std.specs.Prelude.{◌≢◌, false, map, slice_index}
 use Rattle.std.specs.Vec.{with_item}
 use Rattle.std.specs.List.{range_with_len}
 use mathlib.Core.Path.{fun_ext}
 use Rattle.far_word.specs.Pointer.{read_of}
 use Rattle.far_word.specs.Sizes.{words_for}
+use Rattle.far_word.specs.declared.pointer.Place.{Place}
 use Rattle.far_word.specs.declared.sizes.TheConstants.{CELLS, LOG_WORDS}
 use Rattle.far_core.specs.declared.event.Event.{Event}
 use Rattle.far_core.specs.declared.event.Event.TheVariants.{Get, Put, Store}
@@ -20,11 +21,11 @@ use Rattle.far_core.specs.events.Step.{after, answer, data_len, data_word, near_
 use Rattle.far_core.specs.state.CoreState.{core_state}
 use Rattle.far_core.specs.state.Law.{Law}
 use Rattle.far_core.specs.state.Memory.{state_of}
-use Rattle.far_core.specs.state.State.{State, put}
-use Rattle.far_core.proofs.Calls.{store_legal}
+use Rattle.far_core.specs.state.State.{State, addr, put}
+use Rattle.far_core.proofs.Calls.{store_legal, word_behind}
 use Rattle.far_core.proofs.Owing.{is_test, keeps}
 use Rattle.far_core.proofs.PackedRows.{copy_first, set_put}
-use Rattle.far_core.proofs.Rows.{row_first, row_none}
+use Rattle.far_core.proofs.Rows.{row_first, row_in, row_none, row_out}
 
 -- a row of events, of which event k writes word k of a row; Good stays from one to the next
 module _ (e : ℕ → Event) (d n : ℕ) (w : ℕ → ℕ) (Good : State → Type 0)
@@ -101,6 +102,20 @@ module _ (s : State) (law : Law s) (m p first : ℕ) (words : List ℕ) (own : p
 
   pub stores_end : after_events s (stores m p first words) ≡ record s { word = with_row s.word (data_word s p first) (length words) (λ k. slice_index words k) }
   stores_end = stored.2
+
+-- ---- a row written over data words of an object that is held, by the addresses behind its place
+module _ (s : State) (law : Law s) (p first n : ℕ) (row : ℕ → ℕ) (t : State) (is : t ≡ record s { word = with_row s.word (data_word s p first) n row }) (place : Place) (held : s.held p ≡ Some place) where
+  as_row : t.word ≡ with_row s.word (addr place + 1 + first) n row
+  as_row = ap (λ (u : State). u.word) is ∙ ap (λ a. with_row s.word a n row) (word_behind s law p first place held)
+
+  pub stored_at : (k : ℕ) → k < n → t.word (addr place + 1 + (first + k)) ≡ row k
+  stored_at k lt =
+      let here : addr place + 1 + (first + k) - (addr place + 1 + first) ≡ k = omega arith in
+      ap (λ (f : ℕ → ℕ). f (addr place + 1 + (first + k))) as_row
+      ∙ row_in s.word (addr place + 1 + first) n row (addr place + 1 + (first + k)) (omega arith) (omega arith) ∙ ap row here
+
+  pub stored_beside : (a : ℕ) → (a < addr place + 1 + first) ⊎ (addr place + 1 + first + n ≤ a) → t.word a ≡ s.word a
+  stored_beside a out = ap (λ (f : ℕ → ℕ). f a) as_row ∙ row_out s.word (addr place + 1 + first) n row a out
 
 -- ---- words put past a tail
 module _ (s : State) (law : Law s) (l at count : ℕ) (log : l < s.logs) (unsealed : s.kind l ≢ Sealed) (past : s.tail l ≤ at) (inside : at + count ≤ LOG_WORDS) where

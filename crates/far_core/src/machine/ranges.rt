@@ -1,16 +1,17 @@
 //! Several events of one kind made at once, as one after the other.
 
-ghost use Rattle.std.specs.Prelude.{◌≡◌, ◌≢◌, ◌+◌, ◌-◌, ◌*◌, ◌/◌, ◌^◌, ◌<◌, ◌≤◌, ℕ, true, false, length, slice_index, take, drop, IsSome};
+ghost use Rattle.std.specs.Prelude.{◌≡◌, ◌≢◌, ◌⊎◌, ◌+◌, ◌-◌, ◌*◌, ◌/◌, ◌^◌, ◌<◌, ◌≤◌, ℕ, true, false, length, slice_index, take, drop, Some, IsSome};
 ghost use Rattle.far_word.specs.declared.sizes.TheConstants.{CELLS, LOG_WORDS};
 ghost use Rattle.far_word.specs.Bytes.{bytes_of, packed_word};
 ghost use Rattle.far_word.specs.Sizes.{words_for};
+ghost use Rattle.far_word.specs.declared.pointer.Place.{Place};
 ghost use Rattle.far_core.specs.events.Ranges.{AllLegal, after_events, copies, puts, stores, zero_puts};
 ghost use Rattle.far_core.specs.events.Legal.{Legal};
 ghost use Rattle.far_core.specs.events.Step.{answer, data_len};
 ghost use Rattle.far_core.specs.state.CoreState.{core_state};
 ghost use Rattle.far_core.specs.state.Law.{Law};
 ghost use Rattle.far_core.specs.state.Memory.{state_of};
-ghost use Rattle.far_core.specs.state.State.{State};
+ghost use Rattle.far_core.specs.state.State.{State, addr};
 ghost use Rattle.far_core.specs.declared.event.Event.{Event};
 ghost use Rattle.far_core.specs.declared.event.Kind.{Kind};
 ghost use Rattle.far_core.specs.declared.event.Reply.{Reply};
@@ -45,6 +46,10 @@ impl Core {
         requires padding { (k : ℕ) → k < length words.now → slice_index words.now k < 2 ^ (8 * (data_len (core_state self.old) pointer - 8 * (first + k))) }
         ensures state { core_state self.new ≡ after_events (core_state self.old) (stores owner pointer first words.now) }
         ensures legal { AllLegal (core_state self.old) (stores owner pointer first words.now) }
+        // the same by addresses: these words are the object's now, each at its own place, and all others stay
+        ensures words { (place : Place) → (core_state self.old).held pointer ≡ Some place → (k : ℕ) → k < length words.now → (core_state self.new).word (addr place + 1 + (first + k)) ≡ slice_index words.now k }
+        ensures others { (place : Place) → (core_state self.old).held pointer ≡ Some place → (a : ℕ) → (a < addr place + 1 + first) ⊎ (addr place + 1 + first + length words.now ≤ a)
+            → (core_state self.new).word a ≡ (core_state self.old).word a }
     {
         self.memory.store_all(pointer, first, words);
     }

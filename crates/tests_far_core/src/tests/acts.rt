@@ -33,6 +33,8 @@ pub(super) enum Act {
 
     /// Owner 0 stores a word in the first object, of 16 bytes, at this index.
     StoresAt(u16, u64),
+    /// It stores both words of that object at once.
+    StoresPair([u64; 2]),
     /// The first object has these two words.
     HasPair([u64; 2]),
     /// So many words of 0 are put at a place.

@@ -19,6 +19,17 @@ pub(super) fn stores_at(core: &mut Core, pointer: u16, index: u16, word: u64) ->
     false
 }
 
+/// Whether owner 0 stores both words of a pointer's object, of two words, at once.
+pub(super) fn stores_pair(core: &mut Core, pointer: u16, words: [u64; 2]) -> bool {
+    if pointer < CELLS && core.is_soiled(pointer) {
+        if let Some(PtrWord::Near { len: 16, .. }) = PtrWord::read(core.cell(pointer)) {
+            core.store_all(0, pointer, 0, &words);
+            return true;
+        }
+    }
+    false
+}
+
 /// Whether pointer 0's object has these two words.
 pub(super) fn has_pair(core: &Core, words: [u64; 2]) -> bool {
     if !core.is_held(0) {
@@ -110,6 +121,13 @@ const STORED_AND_LOADED: &[Act] = &[
     HasPair([u64::MAX, 7]),
     Does(Load { owner: 0, pointer: 0, index: 0 }, Word(u64::MAX)),
     Does(Load { owner: 0, pointer: 0, index: 1 }, Word(7)),
+    StoresPair([7, 9]),
+    HasPair([7, 9]),
+    Does(Load { owner: 0, pointer: 0, index: 0 }, Word(7)),
+    WordAt(Place { log: 0, at: 0 }, 0xa200_0000_0100_0010),
+    WordAt(Place { log: 0, at: 1 }, 7),
+    WordAt(Place { log: 0, at: 2 }, 9),
+    WordAt(Place { log: 0, at: 3 }, 0),
 ];
 
 #[rattlefmt::skip]

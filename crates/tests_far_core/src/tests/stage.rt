@@ -3,7 +3,7 @@
 use crate::tests::acts::{Act, Play};
 use crate::tests::looks::{all_shown, shows};
 use crate::tests::own_calls::{called, may};
-use crate::tests::ranges::{copies_words, gets_words, has_pair, puts_words, puts_zeros, stores_at};
+use crate::tests::ranges::{copies_words, gets_words, has_pair, puts_words, puts_zeros, stores_at, stores_pair};
 use far_core::{Core, Event, Reply};
 use std::alloc::Global;
 use std::process::Abort;
@@ -33,6 +33,7 @@ fn does(core: &mut Core, act: Act) -> bool {
         Act::Calls(event, reply) => called(core, event) == reply,
         Act::May(event, legal) => may(core, event) == legal,
         Act::StoresAt(index, word) => stores_at(core, 0, index, word),
+        Act::StoresPair(words) => stores_pair(core, 0, words),
         Act::HasPair(words) => has_pair(core, words),
         Act::PutsZeros(place, count) => puts_zeros(core, place, count),
         Act::PutsWords(place, bytes, count) => puts_words(core, place, bytes, count),

@@ -1,6 +1,7 @@
-use Rattle.std.proofs.Common.{sym, ◌∙◌}
+use Rattle.std.proofs.Common.{length, sym, ◌∙◌}
+use Rattle.std.specs.Prelude.{slice_index}
 use Rattle.far_core.specs.state.Memory.{state_of}
-use Rattle.far_core.proofs.Ranges.{stores_end, stores_keep, stores_legal}
+use Rattle.far_core.proofs.Ranges.{stored_at, stored_beside, stores_end, stores_keep, stores_legal}
 use Rattle.far_core.proofs.machine.Core.store_all.Goals as goal
 
 pub invariant_of-self : goal.invariant_of-self
@@ -11,3 +12,9 @@ returns-clause-state c = c.store_all.ensures ∙ sym (stores_end (state_of c.arg
 
 pub returns-clause-legal : goal.returns-clause-legal
 returns-clause-legal c = stores_legal (state_of c.args.self.now.memory) c.args.self.now.law c.args.owner c.args.pointer c.args.first c.args.words.now c.requires.own c.requires.soiled c.requires.inside c.requires.padding (λ k. (c.type_inv.words k).fits)
+
+pub returns-clause-words : goal.returns-clause-words
+returns-clause-words c = λ place held k lt. stored_at (state_of c.args.self.now.memory) c.args.self.now.law c.args.pointer c.args.first (length c.args.words.now) (λ i. slice_index c.args.words.now i) _ c.store_all.ensures place held k lt
+
+pub returns-clause-others : goal.returns-clause-others
+returns-clause-others c = λ place held a out. stored_beside (state_of c.args.self.now.memory) c.args.self.now.law c.args.pointer c.args.first (length c.args.words.now) (λ i. slice_index c.args.words.now i) _ c.store_all.ensures place held a out
