@@ -9,7 +9,7 @@ use Rattle.far_word.proofs.PointerLaws.{read_says}
 use Rattle.far_word.specs.declared.pointer.Place.{Place}
 use Rattle.far_word.specs.declared.pointer.PtrWord.TheVariants.{Near}
 use Rattle.far_core.specs.declared.event.Event.{Event}
-use Rattle.far_core.specs.declared.event.Event.TheVariants.{Store}
+use Rattle.far_core.specs.declared.event.Event.TheVariants.{Load, Store}
 use Rattle.far_core.specs.events.Legal.{Legal}
 use Rattle.far_core.specs.events.Next.{next_state}
 use Rattle.far_core.specs.events.Step.{Fits, after, data_len, data_word, holds, is_legal, near_data, near_len}
@@ -61,6 +61,14 @@ soiled_held s law p h = law.soils.soiled_held p h
 -- what is held is one of the heap's pointers
 pub held_range : (s : State) → Law s → (p : ℕ) → IsSome (s.held p) → p < CELLS * s.mutators
 held_range s law p h = law.cells.cell_range p (in_use_nonzero (s.cell p) (law.views.used_cell p (law.views.held_used p h)))
+
+-- the guard of a load by what its caller knows
+pub load_legal : (s : State) (m p i : ℕ) → Law s → p / CELLS ≡ m → IsSome (s.held p) → i < words_for (data_len s p) → Legal s (Load m p i)
+load_legal s m p i law own held inside =
+    let some : is_some (s.held p) ≡ true = held in
+    let h : holds s m p ≡ true = grind (arith, nat_tests) in
+    let legal : is_legal s (Load m p i) ≡ true = grind (arith, nat_tests) in
+    is_fact s (Load m p i) law legal
 
 -- the guard of a store by what its caller knows
 pub store_legal : (s : State) (m p i w : ℕ) → Law s → p / CELLS ≡ m → s.soiled p ≡ true → i < words_for (data_len s p) → w < 2 ^ (8 * (data_len s p - 8 * i)) → Legal s (Store m p i w)

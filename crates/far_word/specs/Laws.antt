@@ -52,7 +52,7 @@ abbrev pub OwnerMarksAreCleared : Type 0
 OwnerMarksAreCleared = (v : PtrWord) → IsPtr v →
     (bit_and (word_of v) (2 ^ 64 - 1 - 2 ^ 59 - 2 ^ 60 - 2 ^ 62) ≡ word_of (without_owner_marks v)) × IsPtr (without_owner_marks v)
 
--- a new view may rest on a near object, hot or not, that has no other mark; nowhere else
+-- a new view may rest on a near object that has no mark but HOT and DIRTY, and nowhere else
 pub record ViewsRest : Type 0 where
   pub near : (len ds : ℕ) (place : Place) (hot dirty : Bool) → view_place (Near len ds place record { hot = hot; evac = false; moved = false; dropped = false; dirty = dirty }) ≡ Some place
   pub marked : (k : Mark) (v : PtrWord) → k ≢ Hot → k ≢ Dirty → view_place (with_mark k v) ≡ None

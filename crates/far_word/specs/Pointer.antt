@@ -41,7 +41,7 @@ far_of w = if far_fits w then Some (Far (field w 0 16) (field w 16 8) (marks_of 
 unfoldable pub read_of : ℕ → Option PtrWord
 read_of w = if w == 0 then Some Free else (if names_object w then (if is_set w 63 then near_of w else far_of w) else None)
 
--- whether a pointer may take a mark: a free cell takes none, a far one no EVAC
+-- whether a pointer may take a mark: a free cell takes none, a far one neither EVAC nor DIRTY
 abbrev pub takes_mark : Mark → PtrWord → Bool
 takes_mark k Free = false
 takes_mark k (Near len ds place marks) = true

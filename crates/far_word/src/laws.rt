@@ -20,7 +20,7 @@ pub fn pointer_words()
 /// - or-ing a mark's bit into the word of a pointer that takes the mark gives the word of the pointer with that mark,
 ///   said of the pointer and of what the word reads as; a mark that it doesn't take would put the word off the layout;
 /// - and-ing EVAC's bit out, or those of HOT, MOVE and DROP, gives the word of the pointer without them;
-/// - a new view may rest on a near object that has no mark but HOT, and nowhere else.
+/// - a new view may rest on a near object that has no mark but HOT and DIRTY, and nowhere else.
 pub fn pointer_marks()
     ensures set { MarkIsSet }
     ensures read { MarkIsRead }

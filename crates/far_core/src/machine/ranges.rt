@@ -30,6 +30,7 @@ impl Core {
         requires held { IsSome ((core_state self.now).held pointer) }
         requires inside { first + length words.old ≤ words_for (data_len (core_state self.now) pointer) }
         ensures words { (k : ℕ) → k < length words.old → answer (core_state self.now) (Event.Load owner pointer (first + k)) ≡ Reply.Word (slice_index words.new k) }
+        ensures legal { (k : ℕ) → k < length words.old → Legal (core_state self.now) (Event.Load owner pointer (first + k)) }
     {
         self.memory.load_all(pointer, first, words);
     }
