@@ -16,7 +16,7 @@ use Rattle.far_core.specs.declared.event.Reply.TheVariants.{Refused}
 use Rattle.far_core.specs.declared.machine.Core.{Core}
 use Rattle.far_core.specs.declared.memory.Memory.{Memory}
 use Rattle.far_core.specs.events.Legal.{Legal}
-use Rattle.far_core.specs.events.Ranges.{AllLegal, after_events, copies, puts, stores, with_copy, with_row, zero_puts}
+use Rattle.far_core.specs.events.Ranges.{AllLegal, after_events, copies, puts, stores, with_copy, with_row}
 use Rattle.far_core.specs.events.Step.{after, answer, data_len, data_word, near_data, near_len, step_of}
 use Rattle.far_core.specs.state.CoreState.{core_state}
 use Rattle.far_core.specs.state.Law.{Law}
@@ -145,13 +145,13 @@ module _ (s : State) (law : Law s) (l at count : ℕ) (log : l < s.logs) (unseal
     pub puts_end : after_events s (puts l at count row) ≡ record s { word = with_row s.word (l * LOG_WORDS + at) count row }
     puts_end = all_put.2
 
-  pub zeros_legal : AllLegal s (zero_puts l at count)
+  pub zeros_legal : AllLegal s (puts l at count (λ _. 0))
   zeros_legal = puts_legal (λ _. 0) (λ _ _. omega arith)
 
   pub zeros_keep : Law record s { word = with_row s.word (l * LOG_WORDS + at) count (λ _. 0) }
   zeros_keep = puts_keep (λ _. 0) (λ _ _. omega arith)
 
-  pub zeros_end : after_events s (zero_puts l at count) ≡ record s { word = with_row s.word (l * LOG_WORDS + at) count (λ _. 0) }
+  pub zeros_end : after_events s (puts l at count (λ _. 0)) ≡ record s { word = with_row s.word (l * LOG_WORDS + at) count (λ _. 0) }
   zeros_end = puts_end (λ _. 0) (λ _ _. omega arith)
 
 -- ---- words got from one log and put past the tail of another

@@ -8,14 +8,13 @@ use Rattle.far_core.specs.declared.event.Event.{Event}
 use Rattle.far_core.specs.declared.event.Reply.{Reply}
 use Rattle.far_core.specs.events.Ranges.{with_row}
 use Rattle.far_core.specs.state.State.{State, addr, put}
-use Rattle.far_core.proofs.Rows.{row_none}
+use Rattle.far_core.proofs.Rows.{row_last, row_none}
 use Rattle.far_hand.specs.Came.{Came, only}
 use Rattle.far_hand.specs.Ranges.{WritesRow, WritesWord}
 use Rattle.far_hand.proofs.Closure.{first_call}
 use Rattle.far_hand.proofs.Ranges.{turns_came, turns_lead}
 use Rattle.far_book.specs.book.Effects.{with_written_span}
 use Rattle.far_book.specs.book.Only.{Writes}
-use Rattle.far_book.proofs.region.Copying.{row_last}
 
 -- these words are those of a row
 abbrev pub with_words : State → ℕ → ℕ → ℕ → (ℕ → ℕ) → State

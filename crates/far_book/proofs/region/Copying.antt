@@ -19,7 +19,7 @@ use Rattle.far_core.proofs.Bounds.{near_inside, span_len}
 use Rattle.far_core.proofs.NewSpans.{at_tail}
 use Rattle.far_core.proofs.Observations.{in_range}
 use Rattle.far_core.proofs.Put.{put_both, put_same, put_other}
-use Rattle.far_core.proofs.Rows.{row_in, row_out, row_is}
+use Rattle.far_core.proofs.Rows.{row_in, row_last}
 use Rattle.far_hand.specs.Known.{IsKnown, IsPaddedAt}
 use Rattle.far_hand.specs.Quiet.{IsQuietAt, is_quiet}
 use Rattle.far_book.specs.book.Moving.{MayCopy, Copied, Copying}
@@ -28,22 +28,6 @@ use Rattle.far_book.proofs.region.Owns.{own_header}
 use Rattle.far_book.proofs.region.Places.{next_unsealed}
 use Rattle.far_book.proofs.region.Readings.{headers_known}
 use Rattle.far_book.proofs.region.Written.{row_other}
-
--- a row with one word more
-pub row_last : (word : ℕ → ℕ) (a n : ℕ) (row : ℕ → ℕ) (at x : ℕ) → at ≡ a + n → x ≡ row n → put (with_row word a n row) at x ≡ with_row word a (n + 1) row
-row_last word a n row at x here is = row_is word (put (with_row word a n row) at x) a (n + 1) row
-    (λ k low high. put_both (λ y. y ≡ row (k - a)) (with_row word a n row) at x k
-    (λ e. let same : n ≡ k - a = omega arith in is ∙ ap row same)
-    (λ ne. row_in word a n row k low (omega arith)))
-    (λ k out. put_both (λ y. y ≡ word k) (with_row word a n row) at x k
-    (λ e. elim out [
-      | inl below ↦ absurd (omega arith)
-      | inr above ↦ absurd (omega arith)
-    ])
-    (λ ne. elim out [
-      | inl below ↦ row_out word a n row k (inl below)
-      | inr above ↦ row_out word a n row k (inr (omega arith))
-    ]))
 
 module _ (s : State) (p len ds : ℕ) (from to : Place) (h : MayCopy s p len ds from to) where
   layout : IsPtr (Near len ds from h.marks)

@@ -22,10 +22,6 @@ AllLegal s (e ∷ es) = Legal s e × AllLegal (step_of s e).0 es
 abbrev pub stores : ℕ → ℕ → ℕ → List ℕ → List Event
 stores m p first words = map (λ i. Store m p (first + i) (slice_index words i)) (range_with_len 0 (length words))
 
--- zeros that are put into a log's words from one on
-abbrev pub zero_puts : ℕ → ℕ → ℕ → List Event
-zero_puts l at count = map (λ i. Put l (at + i) 0) (range_with_len 0 count)
-
 -- the words of a row that are put into a log's words from one on
 abbrev pub puts : ℕ → ℕ → ℕ → (ℕ → ℕ) → List Event
 puts l at count row = map (λ i. Put l (at + i) (row i)) (range_with_len 0 count)

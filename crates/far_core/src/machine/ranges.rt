@@ -5,7 +5,7 @@ ghost use Rattle.far_word.specs.declared.sizes.TheConstants.{CELLS, LOG_WORDS};
 ghost use Rattle.far_word.specs.Bytes.{bytes_of, packed_word};
 ghost use Rattle.far_word.specs.Sizes.{words_for};
 ghost use Rattle.far_word.specs.declared.pointer.Place.{Place};
-ghost use Rattle.far_core.specs.events.Ranges.{AllLegal, after_events, copies, puts, stores, zero_puts};
+ghost use Rattle.far_core.specs.events.Ranges.{AllLegal, after_events, copies, puts, stores};
 ghost use Rattle.far_core.specs.events.Legal.{Legal};
 ghost use Rattle.far_core.specs.events.Step.{answer, data_len};
 ghost use Rattle.far_core.specs.state.CoreState.{core_state};
@@ -62,8 +62,8 @@ impl Core {
         requires unsealed { (core_state self.old).kind place.log ≢ Kind.Sealed }
         requires past { (core_state self.old).tail place.log ≤ place.at }
         requires inside { place.at + count ≤ LOG_WORDS }
-        ensures state { core_state self.new ≡ after_events (core_state self.old) (zero_puts place.log place.at count) }
-        ensures legal { AllLegal (core_state self.old) (zero_puts place.log place.at count) }
+        ensures state { core_state self.new ≡ after_events (core_state self.old) (puts place.log place.at count (λ _. 0)) }
+        ensures legal { AllLegal (core_state self.old) (puts place.log place.at count (λ _. 0)) }
     {
         self.memory.put_zeros(place, count);
     }
