@@ -170,6 +170,7 @@ impl Ledger {
     }
 
     /// A span of so many words is taken at a place, for a pointer that had none: its cell isn't free from then on.
+    #[inline(always)]
     pub(crate) fn take(&mut self, pointer: u16, size: u16, place: Place)
         requires { MayTake self.old pointer size place }
         ensures { Takes self.old self.new pointer size place }

@@ -42,8 +42,11 @@ impl<D: Device + Drop> FailAt<D> {
         ensures left { self.new.left ≡ self.old.left - 1 }
         ensures own { self.new.own ≡ cond result ((self.old.own + 1) % 2 ^ 64) self.old.own }
     {
+        if self.left == 0 {
+            return false;
+        }
         let fails = self.left == 1;
-        self.left = self.left.saturating_sub(1);
+        self.left -= 1;
         if fails {
             self.own = self.own.wrapping_add(1);
         }

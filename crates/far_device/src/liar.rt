@@ -69,8 +69,11 @@ impl<D: Device + Drop> Liar<D> {
         ensures lie { self.new.lie ≡ self.old.lie }
         ensures left { self.new.left ≡ self.old.left - 1 }
     {
+        if self.left == 0 {
+            return false;
+        }
         let lies = self.left == 1;
-        self.left = self.left.saturating_sub(1);
+        self.left -= 1;
         lies
     }
 }
