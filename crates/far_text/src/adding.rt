@@ -99,28 +99,33 @@ fn add_entry<'a>(
     ensures lines { IfOk result (λ found. IfSome found (λ after. lines_left after ≡ lines_after_first text.now)) }
     ensures bad { IfOk result (λ found. IfNone found (with_line commands.old (line_of (first_line text.now)) ≡ None)) }
 {
-    if let [b'r', b'e', b'a', b'd', b' ', rest @ ..] = text {
-        return add_spelled(commands, text, read_spelled(Rest::Words(rest)));
+    match text {
+        [b'r', b'e', b'a', b'd', b' ', rest @ ..] => {
+            add_spelled(commands, text, read_spelled(Rest::Words(rest)))
+        }
+        [b'w', b'r', b'i', b't', b'e', b' ', rest @ ..] => {
+            add_spelled(commands, text, write_spelled(Rest::Words(rest)))
+        }
+        [b'v', b'i', b'e', b'w', b' ', rest @ ..] => {
+            add_spelled(commands, text, view_spelled(Rest::Words(rest)))
+        }
+        [b'n', b'e', b'w', b' ', rest @ ..] => {
+            add_spelled(commands, text, new_spelled(Rest::Words(rest)))
+        }
+        [b'd', b'r', b'o', b'p', b' ', rest @ ..] => {
+            add_spelled(commands, text, drop_spelled(Rest::Words(rest)))
+        }
+        [b'o', b'p', b'e', b'n', b' ', rest @ ..] => {
+            add_spelled(commands, text, open_spelled(Rest::Words(rest)))
+        }
+        [b'c', b'l', b'o', b's', b'e', b' ', rest @ ..] => {
+            add_spelled(commands, text, close_spelled(Rest::Words(rest)))
+        }
+        _ => match add_by_first_word(commands, text) {
+            Ok(added) => Ok(added),
+            Err(error) => Err(error),
+        },
     }
-    if let [b'w', b'r', b'i', b't', b'e', b' ', rest @ ..] = text {
-        return add_spelled(commands, text, write_spelled(Rest::Words(rest)));
-    }
-    if let [b'v', b'i', b'e', b'w', b' ', rest @ ..] = text {
-        return add_spelled(commands, text, view_spelled(Rest::Words(rest)));
-    }
-    if let [b'n', b'e', b'w', b' ', rest @ ..] = text {
-        return add_spelled(commands, text, new_spelled(Rest::Words(rest)));
-    }
-    if let [b'd', b'r', b'o', b'p', b' ', rest @ ..] = text {
-        return add_spelled(commands, text, drop_spelled(Rest::Words(rest)));
-    }
-    if let [b'o', b'p', b'e', b'n', b' ', rest @ ..] = text {
-        return add_spelled(commands, text, open_spelled(Rest::Words(rest)));
-    }
-    if let [b'c', b'l', b'o', b's', b'e', b' ', rest @ ..] = text {
-        return add_spelled(commands, text, close_spelled(Rest::Words(rest)));
-    }
-    add_by_first_word(commands, text)
 }
 
 /// Adds the command of the first line of a text, if it says one, and nothing where it is passed over. The lines after it;

@@ -19,22 +19,7 @@ pub enum Rest<'a> {
     Lines(Option<&'a [u8]>),
 }
 
-// What is left after a word that ends before this byte of a text, or None where it goes on.
-#[inline(always)]
-fn rest_before(text: &[u8], at: usize) -> Option<Rest<'_>>
-    requires { at < length text.now }
-    ensures words { IfSome result (λ rest. words_in (drop at text.now) ≡ [] ∷ words_left rest) }
-    ensures lines { IfSome result (λ rest. lines_after_first (drop at text.now) ≡ lines_after rest) }
-    ensures longer { IfNone result (is_end (slice_index text.now at) ≡ false) }
-{
-    match text[at] {
-        b' ' => Some(Rest::Words(&text[at + 1..])),
-        b'\n' => Some(Rest::Lines(Some(&text[at + 1..]))),
-        _ => None,
-    }
-}
-
-// The same of a word that may be the last of the text.
+// What is left after a word that ends before this byte, or None where it goes on.
 #[inline(always)]
 fn rest_at(text: &[u8], at: usize) -> Option<Rest<'_>>
     requires { at ≤ length text.now }
@@ -45,7 +30,11 @@ fn rest_at(text: &[u8], at: usize) -> Option<Rest<'_>>
     if at == text.len() {
         return Some(Rest::Lines(None));
     }
-    rest_before(text, at)
+    match text[at] {
+        b' ' => Some(Rest::Words(&text[at + 1..])),
+        b'\n' => Some(Rest::Lines(Some(&text[at + 1..]))),
+        _ => None,
+    }
 }
 
 #[inline(always)]
@@ -90,7 +79,9 @@ fn printed_number(text: &[u8], len: usize, n: u64) -> Option<(u64, Rest<'_>)>
     Some((n, rest))
 }
 
-// The digits in front of a text: the number that they print, modulo 2^64, and how many they are.
+// The digits in front of a text: the number that they print, modulo 2^64, and how many they are. It stands apart, since
+// most numbers are read without it.
+#[inline(never)]
 fn digits_first(text: &[u8]) -> (u64, usize)
     ensures fits { result.1 ≤ length text.now }
     ensures digits { (k : ℕ) → k < result.1 → IsInRange 48 57 (slice_index text.now k) }
@@ -141,65 +132,48 @@ fn one_digit_more(text: &[u8], len: usize, n: u64) -> Option<u64>
     }
 }
 
-// The number that a few digits in front of a text print, behind which the text goes on, and what is left after it.
+// The same as `digits_first`, sooner where they are at most four.
 #[inline(always)]
-fn short_number(text: &[u8], len: usize, n: u64) -> Option<(u64, Rest<'_>)>
-    requires some { 0 < len }
-    requires inside { len < length text.now }
-    requires digits { (k : ℕ) → k < len → IsInRange 48 57 (slice_index text.now k) }
-    requires lead { slice_index text.now 0 ≡ 48 → len ≡ 1 }
-    requires value { n ≡ digits_value 10 (take len text.now) }
-    requires stops { is_ascii_digit (slice_index text.now len) ≡ false }
-    ensures number { option_map (λ found. (found.0, words_left found.1)) result ≡ next_number (words_in text.now) }
-    ensures lines { IfSome result (λ found. lines_after_first text.now ≡ lines_after found.1) }
+fn few_digits_first(text: &[u8]) -> (u64, usize)
+    ensures fits { result.1 ≤ length text.now }
+    ensures digits { (k : ℕ) → k < result.1 → IsInRange 48 57 (slice_index text.now k) }
+    ensures value { result.0 ≡ digits_value 10 (take result.1 text.now) % 2 ^ 64 }
+    ensures stops { result.1 < length text.now → is_ascii_digit (slice_index text.now result.1) ≡ false }
 {
-    let rest = rest_before(text, len)?;
-    Some((n, rest))
+    if text.len() <= 4 {
+        return digits_first(text);
+    }
+    let Some(one) = one_digit_more(text, 0, 0) else {
+        return (0, 0);
+    };
+    let Some(two) = one_digit_more(text, 1, one) else {
+        return (one, 1);
+    };
+    let Some(three) = one_digit_more(text, 2, two) else {
+        return (two, 2);
+    };
+    let Some(four) = one_digit_more(text, 3, three) else {
+        return (three, 3);
+    };
+    if text[4].is_ascii_digit() {
+        return digits_first(text);
+    }
+    (four, 4)
 }
 
-// The same as `number_first`, of however many digits. It stands apart, since most numbers are read without it.
-#[inline(never)]
-fn any_number(text: &[u8]) -> Option<(u64, Rest<'_>)>
+/// The number that the first word of a text prints, and what is left after it.
+#[inline(always)]
+pub fn number_first(text: &[u8]) -> Option<(u64, Rest<'_>)>
     ensures number { option_map (λ found. (found.0, words_left found.1)) result ≡ next_number (words_in text.now) }
     ensures lines { IfSome result (λ found. lines_after_first text.now ≡ lines_after found.1) }
 {
-    let (n, len) = digits_first(text);
+    let (n, len) = few_digits_first(text);
     // Nineteen digits are always below 2^64.
     if len < 20 {
         return printed_number(text, len, n);
     }
     let n = long_number(&text[..len])?;
     printed_number(text, len, n)
-}
-
-/// The number that the first word of a text prints, and what is left after it. One of at most four digits is read sooner.
-#[inline(always)]
-pub fn number_first(text: &[u8]) -> Option<(u64, Rest<'_>)>
-    ensures number { option_map (λ found. (found.0, words_left found.1)) result ≡ next_number (words_in text.now) }
-    ensures lines { IfSome result (λ found. lines_after_first text.now ≡ lines_after found.1) }
-{
-    if text.len() <= 4 {
-        return any_number(text);
-    }
-    let Some(one) = one_digit_more(text, 0, 0) else {
-        return None;
-    };
-    let Some(two) = one_digit_more(text, 1, one) else {
-        return short_number(text, 1, one);
-    };
-    if one == 0 {
-        return None;
-    }
-    let Some(three) = one_digit_more(text, 2, two) else {
-        return short_number(text, 2, two);
-    };
-    let Some(four) = one_digit_more(text, 3, three) else {
-        return short_number(text, 3, three);
-    };
-    if text[4].is_ascii_digit() {
-        return any_number(text);
-    }
-    short_number(text, 4, four)
 }
 
 /// The number that the next word prints, and what is left after it.

@@ -1,17 +1,17 @@
-use Rattle.std.proofs.Common.{◌≡◌, ◌<◌, ◌-◌, get_or, sym, ◌∙◌, arith}
-use Rattle.std.proofs.lemmas.Int.Digits.{digits_value_more}
-use Rattle.far_text.proofs.Numbers.{digit_value_is, other_tells}
-use Rattle.far_text.proofs.WordLemmas.{none_at, zero_at}
+use Rattle.std.proofs.Common.{arith, ap, sym, ◌∙◌}
+use Rattle.std.specs.Option.{option_map}
+use Rattle.far_text.specs.Cursor.{words_left}
+use Rattle.far_text.proofs.WordLemmas.{large_at, nineteen_fit}
 use Rattle.far_text.proofs.cursor.number_first.Goals as goal
 
-pub returns-in_default-clause-number : goal.returns-in_default-clause-number
-returns-in_default-clause-number c = sym (none_at c.args.text.now (λ some. other_tells (get_or c.args.text.now 0 0) c.in_default.ensures.stops))
+pub printed_number-requires-clause-value : goal.printed_number-requires-clause-value
+printed_number-requires-clause-value c =
+    let h = c.few_digits_first-n.ensures in
+    let small = nineteen_fit c.args.text.now c.few_digits_first-n.result.1 h.fits h.digits c.if-len-lt20.true in
+    omega (arith, h.value)
 
-pub returns-then-one-eq0-clause-number : goal.returns-then-one-eq0-clause-number
-returns-then-one-eq0-clause-number c =
-    let text = c.args.text.now in
-    let digit = c.in-Some.ensures.digits 0 (omega arith) in
-    let value = digit_value_is (get_or text 0 0) digit in
-    let one = digits_value_more 10 text 0 (omega arith) in
-    let lead : get_or text 0 0 ≡ 48 = omega (arith, c.in-Some.ensures.value) in
-    sym (zero_at text 2 (omega arith) c.in-Some-one_digit_more.ensures.digits lead (omega arith))
+pub returns-in_err-n-clause-number : goal.returns-in_err-n-clause-number
+returns-in_err-n-clause-number c =
+    let h = c.few_digits_first-n.ensures in
+    ap (option_map (λ found. (found.0, words_left found.1))) c.from_residual.ensures
+    ∙ sym (large_at c.args.text.now c.few_digits_first-n.result.1 h.fits h.digits c.in_err-n.ensures.large)
