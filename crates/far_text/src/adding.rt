@@ -84,6 +84,26 @@ fn add_by_first_word<'a>(
     add_spelled(commands, text, entry_by_first_word(text))
 }
 
+// The same, its answer taken apart, so that what the others answer need not stand in memory.
+#[inline(always)]
+fn add_rarer<'a>(
+    commands: &mut Commands,
+    text: &'a [u8],
+) -> Result<Option<Option<&'a [u8]>>, AllocError>
+    requires few { length commands.old ≤ LONGEST_TEXT }
+    requires some { 0 < length text.now }
+    requires content { (slice_index text.now 0 == 10) ≡ false }
+    requires other { (slice_index text.now 0 == 35) ≡ false }
+    ensures added { IfOk result (λ found. IfSome found (λ _. with_line commands.old (line_of (first_line text.now)) ≡ Some commands.new)) }
+    ensures lines { IfOk result (λ found. IfSome found (λ after. lines_left after ≡ lines_after_first text.now)) }
+    ensures bad { IfOk result (λ found. IfNone found (with_line commands.old (line_of (first_line text.now)) ≡ None)) }
+{
+    match add_by_first_word(commands, text) {
+        Ok(added) => Ok(added),
+        Err(error) => Err(error),
+    }
+}
+
 // Adds the command of the first line of a text. Those that traces are full of are known by their first bytes, and each is
 // added where it is read.
 #[inline(always)]
@@ -121,10 +141,7 @@ fn add_entry<'a>(
         [b'c', b'l', b'o', b's', b'e', b' ', rest @ ..] => {
             add_spelled(commands, text, close_spelled(Rest::Words(rest)))
         }
-        _ => match add_by_first_word(commands, text) {
-            Ok(added) => Ok(added),
-            Err(error) => Err(error),
-        },
+        _ => add_rarer(commands, text),
     }
 }
 
