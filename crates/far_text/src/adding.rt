@@ -84,6 +84,26 @@ fn add_by_first_word<'a>(
     add_spelled(commands, text, entry_by_first_word(text))
 }
 
+// The same, its answer taken apart, so that what the others answer need not stand in memory.
+#[inline(always)]
+fn add_rarer<'a>(
+    commands: &mut Commands,
+    text: &'a [u8],
+) -> Result<Option<Option<&'a [u8]>>, AllocError>
+    requires few { length commands.old ≤ LONGEST_TEXT }
+    requires some { 0 < length text.now }
+    requires content { (slice_index text.now 0 == 10) ≡ false }
+    requires other { (slice_index text.now 0 == 35) ≡ false }
+    ensures added { IfOk result (λ found. IfSome found (λ _. with_line commands.old (line_of (first_line text.now)) ≡ Some commands.new)) }
+    ensures lines { IfOk result (λ found. IfSome found (λ after. lines_left after ≡ lines_after_first text.now)) }
+    ensures bad { IfOk result (λ found. IfNone found (with_line commands.old (line_of (first_line text.now)) ≡ None)) }
+{
+    match add_by_first_word(commands, text) {
+        Ok(added) => Ok(added),
+        Err(error) => Err(error),
+    }
+}
+
 // Adds the command of the first line of a text. Those that traces are full of are known by their first bytes, and each is
 // added where it is read.
 #[inline(always)]
@@ -99,28 +119,30 @@ fn add_entry<'a>(
     ensures lines { IfOk result (λ found. IfSome found (λ after. lines_left after ≡ lines_after_first text.now)) }
     ensures bad { IfOk result (λ found. IfNone found (with_line commands.old (line_of (first_line text.now)) ≡ None)) }
 {
-    if let [b'r', b'e', b'a', b'd', b' ', rest @ ..] = text {
-        return add_spelled(commands, text, read_spelled(Rest::Words(rest)));
+    match text {
+        [b'r', b'e', b'a', b'd', b' ', rest @ ..] => {
+            add_spelled(commands, text, read_spelled(Rest::Words(rest)))
+        }
+        [b'w', b'r', b'i', b't', b'e', b' ', rest @ ..] => {
+            add_spelled(commands, text, write_spelled(Rest::Words(rest)))
+        }
+        [b'v', b'i', b'e', b'w', b' ', rest @ ..] => {
+            add_spelled(commands, text, view_spelled(Rest::Words(rest)))
+        }
+        [b'n', b'e', b'w', b' ', rest @ ..] => {
+            add_spelled(commands, text, new_spelled(Rest::Words(rest)))
+        }
+        [b'd', b'r', b'o', b'p', b' ', rest @ ..] => {
+            add_spelled(commands, text, drop_spelled(Rest::Words(rest)))
+        }
+        [b'o', b'p', b'e', b'n', b' ', rest @ ..] => {
+            add_spelled(commands, text, open_spelled(Rest::Words(rest)))
+        }
+        [b'c', b'l', b'o', b's', b'e', b' ', rest @ ..] => {
+            add_spelled(commands, text, close_spelled(Rest::Words(rest)))
+        }
+        _ => add_rarer(commands, text),
     }
-    if let [b'w', b'r', b'i', b't', b'e', b' ', rest @ ..] = text {
-        return add_spelled(commands, text, write_spelled(Rest::Words(rest)));
-    }
-    if let [b'v', b'i', b'e', b'w', b' ', rest @ ..] = text {
-        return add_spelled(commands, text, view_spelled(Rest::Words(rest)));
-    }
-    if let [b'n', b'e', b'w', b' ', rest @ ..] = text {
-        return add_spelled(commands, text, new_spelled(Rest::Words(rest)));
-    }
-    if let [b'd', b'r', b'o', b'p', b' ', rest @ ..] = text {
-        return add_spelled(commands, text, drop_spelled(Rest::Words(rest)));
-    }
-    if let [b'o', b'p', b'e', b'n', b' ', rest @ ..] = text {
-        return add_spelled(commands, text, open_spelled(Rest::Words(rest)));
-    }
-    if let [b'c', b'l', b'o', b's', b'e', b' ', rest @ ..] = text {
-        return add_spelled(commands, text, close_spelled(Rest::Words(rest)));
-    }
-    add_by_first_word(commands, text)
 }
 
 /// Adds the command of the first line of a text, if it says one, and nothing where it is passed over. The lines after it;

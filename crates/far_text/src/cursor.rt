@@ -132,7 +132,7 @@ fn one_digit_more(text: &[u8], len: usize, n: u64) -> Option<u64>
     }
 }
 
-// The same as `digits_first`, sooner where they are at most three.
+// The same as `digits_first`, sooner where they are at most four.
 #[inline(always)]
 fn few_digits_first(text: &[u8]) -> (u64, usize)
     ensures fits { result.1 ≤ length text.now }
@@ -140,7 +140,7 @@ fn few_digits_first(text: &[u8]) -> (u64, usize)
     ensures value { result.0 ≡ digits_value 10 (take result.1 text.now) % 2 ^ 64 }
     ensures stops { result.1 < length text.now → is_ascii_digit (slice_index text.now result.1) ≡ false }
 {
-    if text.len() <= 3 {
+    if text.len() <= 4 {
         return digits_first(text);
     }
     let Some(one) = one_digit_more(text, 0, 0) else {
@@ -152,10 +152,13 @@ fn few_digits_first(text: &[u8]) -> (u64, usize)
     let Some(three) = one_digit_more(text, 2, two) else {
         return (two, 2);
     };
-    if text[3].is_ascii_digit() {
+    let Some(four) = one_digit_more(text, 3, three) else {
+        return (three, 3);
+    };
+    if text[4].is_ascii_digit() {
         return digits_first(text);
     }
-    (three, 3)
+    (four, 4)
 }
 
 /// The number that the first word of a text prints, and what is left after it.

@@ -8,6 +8,7 @@ mod adding;
 mod command;
 mod commands;
 mod cursor;
+mod digits;
 mod hex_word;
 mod laws;
 mod line;

@@ -4,13 +4,13 @@ use Rattle.far_text.specs.Cursor.{words_in, lines_after_first, lines_left}
 use Rattle.far_text.specs.Grammar.{entry_of}
 use Rattle.far_text.proofs.adding.add_entry.Goals as goal
 
-pub add_spelled-requires-clause-value : goal.add_spelled-requires-clause-value
-add_spelled-requires-clause-value c =
+pub add_spelled-requires-in-114-clause-value : goal.add_spelled-requires-in-114-clause-value
+add_spelled-requires-in-114-clause-value c =
     let words : words_in c.args.text.now ≡ codes "read" ∷ words_in (take (length c.args.text.now - 5) (drop 5 c.args.text.now)) = grind (arith, common_steps) in
     c.read_spelled.ensures.value ∙ sym (ap entry_of words)
 
-pub add_spelled-requires-in-119-clause-value : goal.add_spelled-requires-in-119-clause-value
-add_spelled-requires-in-119-clause-value c =
+pub add_spelled-requires-clause-value : goal.add_spelled-requires-clause-value
+add_spelled-requires-clause-value c =
     let words : words_in c.args.text.now ≡ codes "write" ∷ words_in (take (length c.args.text.now - 6) (drop 6 c.args.text.now)) = grind (arith, common_steps) in
     c.write_spelled.ensures.value ∙ sym (ap entry_of words)
 
@@ -39,13 +39,13 @@ add_spelled-requires-in-99-clause-value c =
     let words : words_in c.args.text.now ≡ codes "close" ∷ words_in (take (length c.args.text.now - 6) (drop 6 c.args.text.now)) = grind (arith, common_steps) in
     c.close_spelled.ensures.value ∙ sym (ap entry_of words)
 
-pub add_spelled-requires-clause-lines : goal.add_spelled-requires-clause-lines
-add_spelled-requires-clause-lines c =
+pub add_spelled-requires-in-114-clause-lines : goal.add_spelled-requires-in-114-clause-lines
+add_spelled-requires-in-114-clause-lines c =
     let lines : lines_after_first (take (length c.args.text.now - 5) (drop 5 c.args.text.now)) ≡ lines_after_first c.args.text.now = grind (arith, common_steps) in
     subst (λ z. IfSome c.read_spelled.result (λ found. lines_left found.1 ≡ z)) lines c.read_spelled.ensures.lines
 
-pub add_spelled-requires-in-119-clause-lines : goal.add_spelled-requires-in-119-clause-lines
-add_spelled-requires-in-119-clause-lines c =
+pub add_spelled-requires-clause-lines : goal.add_spelled-requires-clause-lines
+add_spelled-requires-clause-lines c =
     let lines : lines_after_first (take (length c.args.text.now - 6) (drop 6 c.args.text.now)) ≡ lines_after_first c.args.text.now = grind (arith, common_steps) in
     subst (λ z. IfSome c.write_spelled.result (λ found. lines_left found.1 ≡ z)) lines c.write_spelled.ensures.lines
 
