@@ -1,0 +1,60 @@
+#!/usr/bin/env python3
+"""How often each instruction of a function ran, beside its code: callgrind's counts over objdump's lines.
+
+usage: counts.py PROGRAM INPUT FUNCTION LEAST [WORD ..]
+INPUT is a file for standard input, `-` for none; FUNCTION a part of its name; lines that ran less often than LEAST are left out; WORDs
+are the program's arguments. The first line is the sum. It needs valgrind and objdump.
+"""
+import collections
+import re
+import subprocess
+import sys
+import tempfile
+
+COST = re.compile(r"(0x[0-9a-f]+|\+\d+|-\d+|\*)\s+\S+\s+(\d+)")
+HEAD = re.compile(r"[0-9a-f]+ <(.*)>:")
+LINE = re.compile(r"\s*([0-9a-f]+):\s+(.*)")
+BASES = (0, 0x400000, 0x4000000, 0x108000, 0x109000, 0x10A000, 0x555555554000)  # (where a program may be loaded)
+
+
+def counted(command: list, given) -> collections.Counter:
+    """How often the instruction at each address ran; what a call costs counts where it is spent."""
+    with tempfile.NamedTemporaryFile("r", encoding="utf-8") as out:
+        tool = ["valgrind", "--tool=callgrind", "--dump-instr=yes", f"--callgrind-out-file={out.name}", *command]
+        subprocess.run(tool, stdin=given, stdout=subprocess.DEVNULL, stderr=subprocess.DEVNULL, check=False)
+        ran, at, is_call = collections.Counter(), 0, False
+        for line in out:
+            if line.startswith("calls="):
+                is_call = True
+            elif found := COST.match(line):
+                place = found[1]
+                at = at if place == "*" else int(place, 16) if place.startswith("0x") else at + int(place)
+                ran[at] += 0 if is_call else int(found[2])
+                is_call = False
+    return ran
+
+
+def lines_of(program: str, function: str):
+    """The addresses and texts of the instructions of all functions whose name has this part."""
+    told, inside = subprocess.run(["objdump", "-d", "--no-show-raw-insn", program], capture_output=True, text=True, check=True).stdout, False
+    for line in told.splitlines():
+        if found := HEAD.match(line):
+            inside = function in found[1]
+        elif inside and (found := LINE.match(line)):
+            yield int(found[1], 16), found[2]
+
+
+def main() -> None:
+    program, given, function, least, *words = sys.argv[1:]
+    with open("/dev/null" if given == "-" else given, "rb") as file:
+        ran = counted([program, *words], file)
+    rows = [(next((ran[at + base] for base in BASES if at + base in ran), 0), at, text) for at, text in lines_of(program, function)]
+    print(sum(count for count, _, _ in rows))
+    for before, (count, at, text) in zip([(0,), *rows], rows):
+        if count >= int(least):
+            print(f"{count:10} {at:x} {text}")
+        elif before[0] >= int(least):
+            print("       ...")
+
+
+main()
