@@ -55,15 +55,12 @@ impl Storage for MemStorage {
 }
 
 // Makes bytes reach a position, by zeros. After `false`, where memory was refused, they may not.
-#[tactic(auto, using(crate::proofs::Rows::zero_after))]
 fn lengthen(bytes: &mut Vec<u8>, end: usize) -> bool
     ensures long { IsTrue result → end ≤ vec_len bytes.new }
     ensures same { (k : ℕ) → slice_index bytes.new.items k ≡ slice_index bytes.old.items k }
 {
-    for _ in bytes.len()..end {
-        let Ok(()) = bytes.push(0) else {
-            return false;
-        };
+    if end <= bytes.len() {
+        return true;
     }
-    true
+    bytes.resize(end, 0).is_ok()
 }

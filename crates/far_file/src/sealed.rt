@@ -274,6 +274,7 @@ impl<F: Storage + Drop, L: Seal> Device for SealedDevice<F, L> {
         ensures as_honest { is_honest self.new ≡ is_honest self.old }
         ensures left { OnErr result ((bytes_at self.new id ≡ None) ⊎ (bytes_at self.new id ≡ bytes_at self.old id)) }
         ensures no_slot { (KEYS ≤ id) ⊎ (SLOT < length bytes.now) → (result ≡ Err Failed) × (self.new.told ≡ Some record { key = id; why = NoSlot }) × (bytes_at self.new ≡ bytes_at self.old) }
+        ensures gone { id < KEYS → length bytes.now ≤ SLOT → is_fault result ≡ true → bytes_at self.new id ≡ None }
         ensures memory { result ≡ Err Memory → (q : ℕ) → bytes_at self.new q ≡ bytes_at self.old q }
         ensures told { id < KEYS → length bytes.now ≤ SLOT → is_fault result ≡ true → StoppedWrite id self.new.told }
         ensures kept_told { is_fault result ≡ false → self.new.told ≡ self.old.told }

@@ -1,4 +1,5 @@
 pub mod FarSides
+pub mod BookSaid
 pub mod BookTold
 pub mod Here
 pub mod Jobs

@@ -1,5 +1,6 @@
-//! What the law of a mutator's replies has to do with that of the plain program.
+//! What the law of a mutator's replies has to do with that of the plain program, and what the book's are in other words.
 
+ghost use Rattle.far_split.specs.BookSaid.{BookIsToldSo, RoundsAreRefusedSo};
 ghost use Rattle.far_split.specs.Here.{AloneIsAloneHere, AloneOnIsAloneHere, HonestIsAllowed, UnhinderedIsAlone};
 ghost use Rattle.far_split.specs.Served.{HinderedIsRefused, NeverDamaged, ReadsAreAsLong, RefusalsAreLawful, ServedIsAlone, UnrefusedIsAlone};
 
@@ -18,4 +19,12 @@ pub fn mutators_are_alone()
     ensures lying { HonestIsAllowed }
     ensures lawful { RefusalsAreLawful }
     ensures as_long { ReadsAreAsLong }
+{}
+
+/// What the book's lines are told, by what is asked and told alone: each is told one thing. A round that is refused tells no counts where its refusal is 12 or 13, and 13 tells that at
+/// some moment no epoch was left; it tells counts where that is 1 or 10, or 12 and it had done something. One log is refused 8 exactly where the heap has none of its number, an audit is
+/// refused 1 alone, and each line of a log makes 4,096 bytes.
+pub fn book_is_told_so()
+    ensures rounds { RoundsAreRefusedSo }
+    ensures lines { BookIsToldSo }
 {}
