@@ -1,14 +1,14 @@
 -- What a word in hex decodes to.
-use Rattle.std.proofs.Common.{◌≡◌, ℕ, ◌*◌, ◌%◌, ◌<◌, ◌≤◌, ◌==◌, ◌&&◌, nat_lt, nat_le, List, [], length, true, Ok, Err, Result, Some, None, cond, eq-eqb, sym, ◌∙◌, ap, refl, arith}
+use Rattle.std.proofs.Common.{◌≡◌, ℕ, ◌*◌, ◌%◌, ◌<◌, ◌≤◌, ◌==◌, ◌&&◌, nat_lt, nat_le, List, [], length, true, Ok, Err, Result, Some, None, eq-eqb, sym, ◌∙◌, ap, refl, arith}
 use Rattle.std.specs.List.{list_all}
-use Rattle.std.specs.Result.{result_unwrap_or, MatchResult, is_ok}
+use Rattle.std.specs.Result.{result_unwrap_or}
 use Rattle.hex.specs.declared.error.FromHexError.{FromHexError}
 use Rattle.std.proofs.lemmas.Bool.{cond_both}
 use Rattle.std.proofs.lemmas.Bool.{and_parts, eqb-true, leb-true, le-leb}
 use Rattle.std.proofs.lemmas.Bool.Decides.{Decides-ltb}
 use Rattle.std.proofs.lemmas.List.Sums.{AllPass-from_list_all, list_all-from_AllPass}
-use Rattle.hex.specs.Hex.{decode_of, decode_sized, is_hex_digit}
-use Rattle.hex.proofs.HexLemmas.{decode_of-digits, decode_of-ok, decode_sized-twice}
+use Rattle.hex.specs.Hex.{decode_of, is_hex_digit}
+use Rattle.hex.proofs.HexLemmas.{decode_of-digits, decode_of-ok}
 use Rattle.far_text.specs.declared.hex_word.TheConstants.{LONGEST_LINE}
 use Rattle.far_text.specs.HexWord.{is_hex_word, hex_bytes}
 use Rattle.far_text.specs.Grammar.{bytes_in}
