@@ -3,7 +3,9 @@
 use crate::tests::acts::{Act, Play};
 use crate::tests::looks::{all_shown, shows};
 use crate::tests::own_calls::{called, may};
-use crate::tests::ranges::{copies_words, gets_words, has_pair, puts_words, puts_zeros, stores_at, stores_pair};
+use crate::tests::ranges::{
+    copies_words, gets_words, has_pair, puts_words, puts_zeros, stores_at, stores_pair,
+};
 use far_core::{Core, Event, Reply};
 use std::alloc::Global;
 use std::process::Abort;
