@@ -4,7 +4,7 @@ use Rattle.std.specs.Prelude.{◌⊎◌, codes, decimal, if◌then◌else◌}
 use Rattle.std.specs.Bool.{MatchBool}
 use Rattle.std.specs.Fmt.{digits}
 use Rattle.std.specs.List.{flat_map}
-use Rattle.std.proofs.lemmas.Bool.{MatchBool-at_false}
+use Rattle.std.proofs.lemmas.Bool.{MatchBool-at_false, MatchBool-at_true}
 use Rattle.far_word.specs.declared.refused.Refused.TheVariants.{Shape, Syntax}
 use Rattle.far_core.specs.state.Shape.{is_shape}
 use Rattle.far_text.specs.Command.{Command, Device, Trace, Nothing, Heap}
@@ -15,7 +15,6 @@ use Rattle.far_reply.specs.Reply.{Reply, Done, Refused, detail, reply_text}
 use Rattle.far_replay.specs.declared.running.End.{End}
 use Rattle.far_replay.specs.declared.running.End.TheVariants.{Ran, Refused as Turned}
 use Rattle.far_replay_laws.specs.Ends.{BeginsWith, EndsAreSaid, EndsAreTold, IsInRange, said}
-use Rattle.far_replay_laws.proofs.Failures.{flaws_are_said}
 use Rattle.far_replay_laws.proofs.TakingRoom.{shapes_are}
 
 abbrev IsRan : End → Type 0
@@ -77,7 +76,7 @@ ends_said text output answers = (
         let told : output ≡ reply_text (Refused Shape) = MatchBool-at_false _ _ none (read_as (Ok (Heap logs mutators epoch device cs)) e) in
         told ∙ shape_said),
     (λ within.
-        let (os, rs, moments, made, printed, fails, lies) = flaws_are_said text output logs mutators epoch device cs answers e ((shapes_are logs mutators epoch).1 within) in
+        let (os, rs, moments, by, made, printed) = MatchBool-at_true _ _ ((shapes_are logs mutators epoch).1 within) (read_as (Ok (Heap logs mutators epoch device cs)) e) in
         (rs, as_many os (first_moment logs mutators epoch (is_true device)) cs rs moments made, printed ∙ said_first device rs)),
   )),
 ) where
