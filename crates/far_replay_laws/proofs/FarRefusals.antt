@@ -1,12 +1,20 @@
--- The device refuses what is far, which stays so.
-use Rattle.std.proofs.Common.{◌≡◌, ℕ, sym, ◌∙◌, subst, Option, Some, None, List, length}
+-- The device refuses what is far, which stays so, and has room to come to.
+use Rattle.std.proofs.Common.{◌≡◌, ℕ, Bool, true, false, not, nat_lt, is_some, refl, sym, ap, ◌∙◌, subst, Option, Some, None, List, length}
+use Rattle.std.specs.Prelude.{◌&&◌}
 use Rattle.std.specs.List.{find, range_with_len}
+use Rattle.std.proofs.lemmas.Bool.{cond_both, not-false}
 use Rattle.far_word.specs.declared.mark.Marks.{Marks}
 use Rattle.far_word.specs.declared.pointer.PtrWord.{PtrWord}
-use Rattle.far_word.specs.declared.pointer.PtrWord.TheVariants.{Far}
+use Rattle.far_word.specs.declared.pointer.PtrWord.TheVariants.{Near, Far}
 use Rattle.far_word.specs.declared.refused.Refused.{Refused as Refusal}
-use Rattle.far_word.specs.declared.refused.Refused.TheVariants.{Marked}
+use Rattle.far_word.specs.declared.refused.Refused.TheVariants.{Closed, Marked, NoRoom, NotHeld, Range}
 use Rattle.far_word.specs.Pointer.{read_of}
+use Rattle.far_word.specs.Sizes.{size_of}
+use Rattle.far_core.specs.events.Step.{after_pin, is_opened}
+use Rattle.far_core.specs.state.Law.{Law}
+use Rattle.far_core.specs.state.Room.{room}
+use Rattle.far_core.specs.state.State.{State}
+use Rattle.far_core.proofs.Bounds.{some_of}
 use Rattle.far_evac.specs.declared.answers.Polled.{Polled}
 use Rattle.far_evac.specs.declared.answers.Polled.TheVariants as polls
 use Rattle.far_evac.specs.Waiting.{polled}
@@ -14,12 +22,19 @@ use Rattle.far_policy.specs.Scripted.{is_bad, judged}
 use Rattle.far_text.specs.Command.{Command, New, Write, Read, Drop, View, Try, Logs, Log, Audit, Mutator, Book, Evacuator, Step, By, Script, Select, Wait, Round}
 use Rattle.far_replay.specs.Answers.{IsMoment, Served, Unbrought}
 use Rattle.far_replay.specs.Commanded.{KeepsFar, LiesFar}
+use Rattle.far_replay.specs.Dereference.{comes_to, has_no_room, sought, sought_of}
+use Rattle.far_replay.specs.Effects.{is_slow, with_view}
 use Rattle.far_replay.specs.Moment.{Moment}
+use Rattle.far_replay.specs.Objects.{uses}
 use Rattle.far_reply.specs.Reply.{Reply, Refused}
 use Rattle.far_replay.specs.Rounds.{choice_causes, rows_in, step_causes, wait_causes}
 use Rattle.far_replay.specs.Turn.{causes, refusal, turn_reply}
+use Rattle.far_replay.proofs.Dereferences.{sought_word}
+use Rattle.far_replay.proofs.Lasting.{moment_lasts}
 use Rattle.far_replay.proofs.Outcomes.{by_outcome}
-use Rattle.far_replay_laws.specs.FromOutside.{DeviceRefusesFar, IsFarFor}
+use Rattle.far_replay.proofs.TakingView.{asked_word, comes_place, place_by}
+use Rattle.far_replay.proofs.Turns.{access_fact, marked_last, tried}
+use Rattle.far_replay_laws.specs.FromOutside.{ComesSomewhere, DeviceRefusesFar, HasRoomFor, IsFarFor}
 use Rattle.far_replay_laws.specs.LeftMarks.{GainsHot}
 use Rattle.far_replay_laws.proofs.LeavingMarks.{served_leaves}
 use Rattle.far_replay_laws.proofs.Refusals.{not_halted, EachFirst, among, from_cause, turn_is_no_refusal}
@@ -63,18 +78,50 @@ served_never now c r next why h e = among NeverFar (causes now c) why (command_n
 still_far : (o n : Option PtrWord) (len ds : ℕ) (marks : Marks) → o ≡ Some (Far len ds marks) → GainsHot o n → (k d : ℕ) × (m : Marks) × (n ≡ Some (Far k d m))
 still_far o n len ds marks is gains = (len, ds, _, subst (λ x. GainsHot x n) is gains)
 
-far_both : (why : Refusal) (now : Moment) (c : Command) (m p : ℕ) (r : Reply) (next : Moment) → IsMoment now → Unbrought why now c m p r next → LiesFar now.core p × LiesFar next.core p
-far_both why now c m p r next is h =
-    let left = served_leaves now (Mutator m (Try p)) (Refused (Marked (now.core.cell p))) next is h.tried in
-    let (len, ds, marks, far) = h.far in
-    (h.far, still_far (read_of (now.core.cell p)) (read_of (next.core.cell p)) len ds marks far left.1)
+-- ---- and there is room for it
+-- a pin, and the asking, leave room where it was
+pinned_room : (s : State) (p n : ℕ) (reserve : Bool) → room (with_view s p) n reserve ≡ room s n reserve
+pinned_room s p n reserve = cond_both (is_some (s.held p)) s (after_pin s p) (λ (t : State). room t n reserve ≡ room s n reserve) (λ _. refl) (λ _. refl)
+
+asked_room : (s : State) (m p n : ℕ) (reserve : Bool) (o : Option PtrWord) → room (sought_of s m p o) n reserve ≡ room s n reserve
+asked_room s m p n reserve (Some (Near len ds place marks)) = refl
+asked_room s m p n reserve _ = refl
+
+sought_room : (s : State) (m p n : ℕ) (reserve : Bool) → room (sought s m p) n reserve ≡ room s n reserve
+sought_room s m p n reserve = asked_room (with_view s p) m p n reserve (read_of ((with_view s p).cell p)) ∙ pinned_room s p n reserve
+
+comes_somewhere : (s : State) (m p : ℕ) → Law s → is_opened s m ≡ true → uses s m p ≡ true → is_slow s p ≡ true → has_no_room s m p ≡ false → ComesSomewhere s p
+comes_somewhere s m p law opened ours slow some len ds marks far =
+    let t : State = sought s m p in
+    let full : not (is_some (comes_to t p)) ≡ false = ap (λ (b : Bool). b && not (is_some (comes_to t p))) (sym slow) ∙ some in
+    let at = some_of (comes_to t p) (not-false (is_some (comes_to t p)) full) in
+    let there : comes_to t p ≡ room t (size_of len) true =
+    comes_place t p (asked_word (read_of (s.cell p))) (sought_word s m p law opened ours slow) ∙ ap (λ (o : Option PtrWord). place_by t (asked_word o)) far in
+    (at.0, sym (sought_room s m p (size_of len) true) ∙ sym there ∙ at.1)
+
+-- a pin of it gave no view, and want of room was no cause
+far_both : (why : Refusal) (now : Moment) (c : Command) (m p : ℕ) (r : Reply) (next : Moment) → IsMoment now → Unbrought why now c m p r next → has_no_room now.core m p ≡ false →
+    LiesFar now.core p × LiesFar next.core p × ComesSomewhere now.core p
+far_both why now c m p r next is h some =
+    let s : State = now.core in
+    let d : Command = Mutator m (Try p) in
+    let mark : Refusal = Marked (s.cell p) in
+    let left = served_leaves now d (Refused mark) next is h.tried in
+    let found = marked_last (nat_lt m s.mutators) (is_opened s m) (uses s m p) (is_slow s p) (s.cell p) (s.cell p)
+    (from_cause (refusal now d) (turn_reply now d) mark (turn_is_no_refusal now d mark) (sym h.tried.reply)) in
+    let (len, ds, marks, far) = h.far in (
+      h.far,
+      still_far (read_of (s.cell p)) (read_of (next.core.cell p)) len ds marks far left.1,
+      comes_somewhere s m p (moment_lasts now is).law found.1 found.2 found.3 some,
+    )
 
 pub device_refuses_far : DeviceRefusesFar
-device_refuses_far now c r next why is h e keeps = by_outcome now r next (λ d. IsFarFor now.core d × IsFarFor next.core d)
+device_refuses_far now c r next why is h e keeps = by_outcome now r next (λ d. IsFarFor now.core d × IsFarFor next.core d × HasRoomFor now.core d)
     (λ d h. absurd (served_never now d r next why h e keeps))
-    (λ cause m p from bytes h. far_both cause now (Mutator m (Write p from bytes)) m p r next is h)
-    (λ cause m p from len h. far_both cause now (Mutator m (Read p from len)) m p r next is h)
-    (λ cause m p h. far_both cause now (Mutator m (View p)) m p r next is h)
+    (λ cause m p from bytes h. far_both cause now (Mutator m (Write p from bytes)) m p r next is h (access_fact now.core m p from (length bytes) h.allowed).room)
+    (λ cause m p from len h. far_both cause now (Mutator m (Read p from len)) m p r next is h (access_fact now.core m p from len h.allowed).room)
+    (λ cause m p h. far_both cause now (Mutator m (View p)) m p r next is h
+    (tried (nat_lt m now.core.mutators) (is_opened now.core m) (uses now.core m p) (has_no_room now.core m p) Range Closed NotHeld NoRoom h.allowed).3)
     (λ cause objects count h. absurd (not_halted why cause h.progress r h.reply e))
     (λ cause turns objects policy most count h. absurd (not_halted why cause _ r h.reply e))
     (λ row m p d asks h. absurd (h.answered why e))

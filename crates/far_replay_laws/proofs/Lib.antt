@@ -18,6 +18,7 @@ pub mod EpochLaws
 pub mod EpochsSpent
 pub mod Failures
 pub mod FarRefusals
+pub mod FaultsLeft
 pub mod GivenBytes
 pub mod GivenFree
 pub mod HeldBeside

@@ -1,8 +1,14 @@
--- What a refusal of the device, or of memory, is about: an object that is far, and stays so, or objects that leave; and how often the device refuses, and how often it gives other bytes.
+-- What a refusal of the device, or of memory, is about: a far object that has room to come to, and stays far, or objects that leave; and how often the device refuses, and how often it gives other bytes.
 use Rattle.std.specs.Prelude.{◌≡◌, ℕ, suc, ◌+◌, ◌≤◌, ◌==◌, Bool, true, false, Ok, Option, Some, None, List, [], ◌∷◌, ◌++◌}
 use Rattle.std.specs.List.{flat_map}
+use Rattle.far_word.specs.declared.mark.Marks.{Marks}
+use Rattle.far_word.specs.declared.pointer.Place.{Place}
+use Rattle.far_word.specs.declared.pointer.PtrWord.TheVariants.{Far}
 use Rattle.far_word.specs.declared.refused.Refused.{Refused as Refusal}
 use Rattle.far_word.specs.declared.refused.Refused.TheVariants.{Damaged, Device as Failed, Memory}
+use Rattle.far_word.specs.Pointer.{read_of}
+use Rattle.far_word.specs.Sizes.{size_of}
+use Rattle.far_core.specs.state.Room.{room}
 use Rattle.far_core.specs.state.Shape.{is_shape}
 use Rattle.far_core.specs.state.State.{State}
 use Rattle.far_evac.specs.declared.phase.Phase.TheVariants.{Idle, Evacuating}
@@ -21,19 +27,31 @@ IsFarFor s (Mutator m (Read p from len)) = LiesFar s p
 IsFarFor s (Mutator m (View p)) = LiesFar s p
 IsFarFor s c = ⊥
 
--- a command is refused as memory was refused, the device failed, or gave another number of bytes, only where its object is far before and after it
-abbrev pub DeviceRefusesFar : Type 0
-DeviceRefusesFar = (now : Moment) (c : Command) (r : Reply) (after : Moment) (why : Refusal) → IsMoment now → Commanded now c r after → r ≡ Refused why → KeepsFar why → IsFarFor now.core c × IsFarFor after.core c
+-- there is a place to which a far object would come: in the open log, or in a free one, but not the last
+abbrev pub ComesSomewhere : State → ℕ → Type 0
+ComesSomewhere s p = (len ds : ℕ) (marks : Marks) → read_of (s.cell p) ≡ Some (Far len ds marks) → (place : Place) × (room s (size_of len) true ≡ Some place)
 
--- a reply says that memory was refused only so: of a read, a write or a view, whose object is far before and after it; with counts, of an evacuation in its phase, in which it
--- stays; and of a round that had chosen its logs, and after which objects leave
+-- there is one for the object that a command is to reach
+abbrev pub HasRoomFor : State → Command → Type 0
+HasRoomFor s (Mutator m (Write p from bytes)) = ComesSomewhere s p
+HasRoomFor s (Mutator m (Read p from len)) = ComesSomewhere s p
+HasRoomFor s (Mutator m (View p)) = ComesSomewhere s p
+HasRoomFor s c = ⊥
+
+-- a command is refused as memory was refused, the device failed, or gave another number of bytes, only where its object is far before and after it, and there was room for it
+abbrev pub DeviceRefusesFar : Type 0
+DeviceRefusesFar = (now : Moment) (c : Command) (r : Reply) (after : Moment) (why : Refusal) → IsMoment now → Commanded now c r after → r ≡ Refused why → KeepsFar why →
+    IsFarFor now.core c × IsFarFor after.core c × HasRoomFor now.core c
+
+-- a reply says that memory was refused only so: of a read, a write or a view, whose object is far before and after it, and for which there was room; with counts, of an evacuation
+-- in its phase, in which it stays; and of a round that had chosen its logs, and after which objects leave
 abbrev pub HaltsThere : Moment → Command → Moment → Type 0
 HaltsThere now (Evacuator (Evacuate count)) after = (now.phase ≡ Evacuating) × (after.phase ≡ Evacuating)
 HaltsThere now (Evacuator (Round policy most turns)) after = (now.phase ≡ Idle) × (after.phase ≡ Evacuating)
 HaltsThere now c after = ⊥
 
 abbrev pub LacksThere : Moment → Command → Reply → Moment → Type 0
-LacksThere now c (Refused Memory) after = IsFarFor now.core c × IsFarFor after.core c
+LacksThere now c (Refused Memory) after = IsFarFor now.core c × IsFarFor after.core c × HasRoomFor now.core c
 LacksThere now c (Halted Memory progress) after = HaltsThere now c after
 LacksThere now c r after = Unit {0}
 

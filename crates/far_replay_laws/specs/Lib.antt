@@ -4,6 +4,7 @@ pub mod Census
 pub mod Chosen
 pub mod Ends
 pub mod Epochs
+pub mod Faults
 pub mod FromOutside
 pub mod Headline
 pub mod HowMany

@@ -16,7 +16,7 @@ use Rattle.far_replay_laws.specs.Along.{AllAlong}
 use Rattle.far_replay_laws.specs.Ages.{KeepsAges}
 use Rattle.far_replay_laws.specs.Epochs.{StepSpends}
 use Rattle.far_replay_laws.specs.Headline.{AnswersDrop, AnswersEpoch, AnswersLog, AnswersNew, AnswersTry, AnswersWhere, IsAtHandFor, IsLowest, IsSound, MakesObject, MayRefuse, OpensAt, TakesRoom, TellsAll, ViewsAfter}
-use Rattle.far_replay_laws.specs.FromOutside.{IsFarFor}
+use Rattle.far_replay_laws.specs.FromOutside.{HasRoomFor, IsFarFor}
 use Rattle.far_replay_laws.specs.LeftBeside.{LeavesBeside}
 use Rattle.far_replay_laws.specs.LeftMarks.{LeavesMarks, ViewedAreHot}
 
@@ -41,7 +41,7 @@ pub record Said (now : Moment) (c : Command) (r : Reply) (after : Moment) : Type
   pub ages : KeepsAges now c after
   pub spends : (step : Step) → c ≡ Evacuator step → StepSpends now step r after
   pub stays : (why : Refusal) → r ≡ Refused why → Stays c why now after
-  pub far : (why : Refusal) → r ≡ Refused why → KeepsFar why → IsFarFor now.core c × IsFarFor after.core c
+  pub far : (why : Refusal) → r ≡ Refused why → KeepsFar why → IsFarFor now.core c × IsFarFor after.core c × HasRoomFor now.core c
   pub causes : (why : Refusal) → IsAtHandFor now c → r ≡ Refused why → MayRefuse c why
 
 abbrev pub AllSaid : Moment → List Command → List Reply → List Moment → Type 0

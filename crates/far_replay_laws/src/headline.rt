@@ -1,7 +1,8 @@
 //! What outputs say, over whole texts and whole lists of commands. No function here does anything when it runs.
 
 ghost use Rattle.far_replay_laws.specs.Said.{TextsSayAll};
-ghost use Rattle.far_replay_laws.specs.Ends.{EndsAreTold};
+ghost use Rattle.far_replay_laws.specs.Ends.{EndsAreSaid, EndsAreTold};
+ghost use Rattle.far_replay_laws.specs.Faults.{FaultsLeave};
 ghost use Rattle.far_replay_laws.specs.Census.{AuditsByCensus};
 ghost use Rattle.far_replay_laws.specs.Chosen.{RoundsAreChosen};
 ghost use Rattle.far_replay_laws.specs.Epochs.{StepsSpendEpochs};
@@ -26,7 +27,8 @@ pub fn outputs_are_sound()
     ensures each { TextsSayAll }
 {}
 
-/// Each text has an output in which no reply says `refused 1`, and one such alone, unless it says a device that is to fail or to lie. Whatever the outside makes of commands, which it may refuse in their midst, memory too, or give other bytes, their replies and the output follow from it. A text that ends as refused begins it with `refused`; one that ran has none, or begins with `ok`. Its commands that write, write bytes. Among lines that say commands, a
+/// Each text has an output in which no reply says `refused 1`, and one such alone, unless it says a device that is to fail or to lie. Whatever the outside makes of commands, which it may refuse in their midst, memory too, or give other bytes, their replies and the output follow from it. A text that ends as refused begins it with `refused`; one that ran has none, or begins with `ok`. Off the grammar it is `refused 16` with the line, of a
+/// text that says nothing it is nothing, and of a heap out of range it is `refused 15`; else it begins with `ok`, and another `ok` where a device is said, and has a reply for each command then. Its commands that write, write bytes. Among lines that say commands, a
 /// mutator's are those that have its number after the name, but for `log`, after which a log's number stands, and for `mark` and
 /// `evacuate`, after which a number of objects stands.
 pub fn texts_are_answered()
@@ -37,6 +39,13 @@ pub fn texts_are_answered()
     ensures bytes { TextsWriteBytes }
     ensures numbered { LinesAreNumbered }
     ensures ends { EndsAreTold }
+    ensures said { EndsAreSaid }
+{}
+
+/// What a fault of a run leaves on its output: a failed read nothing; a failed write a front of an output of the text, and not all of it; want of memory before the first command nothing, or, of a
+/// text that is a heap in range, a front of the line `refused 1`, or all of it. Where it is known what stood there before, it is known what stands there after.
+pub fn faults_leave()
+    ensures { FaultsLeave }
 {}
 
 /// A heap line may say 2 to 64 logs, 1 to 8 mutators and a first epoch below 2^62. The heap begins with them, over a device that may lie or may not, with the law and with nothing in it.
@@ -71,7 +80,7 @@ pub fn views_last()
 /// counts, and keeps what was done (`steps_are_told`, `steps_leave`). A line of a
 /// mutator that the heap hasn't is refused 8. Where the object that it reads, writes, views or tries is near and unmarked, no command after the
 /// heap is refused for want of memory, by a device or for a mark, but those two with counts; for want of a pointer or of room a new object alone is
-/// refused. For want of memory, as the device failed, or as it gave another number of bytes, a mutator's command is refused only where its object is far, which it stays. With counts
+/// refused. For want of memory, as the device failed, or as it gave another number of bytes, a mutator's command is refused only where its object is far, which it stays, and there was room for it. With counts
 /// 1 is told of an `evacuate` in its phase alone, and of a `round` that had chosen its logs; after both, objects leave. No other command is refused 1. From a text on: no more
 /// replies, those with counts among them, say that the device failed, or that it gave another number of bytes, than its line says, one at most; and no more commands are given inverted bytes, after which at most one is given the true ones again.
 pub fn refusals_leave_all()
