@@ -1,10 +1,20 @@
--- Operations that are shared out, and added up again.
-use Rattle.std.proofs.Common.{◌≡◌, ℕ, ◌+◌, ◌-◌, ◌/◌, ◌<◌, ◌≤◌, List, [], ◌∷◌, ◌++◌, length, get_or, take, Result, Ok, sym, ap, ◌∙◌, arith}
-use Rattle.std.proofs.lemmas.List.Sums.{sum_by_more, sum_by_push}
+-- Operations and records that are shared out, and added up again.
+use Rattle.std.proofs.Common.{◌≡◌, inl, inr, ℕ, ◌+◌, ◌-◌, ◌*◌, ◌/◌, ◌%◌, ◌^◌, ◌<◌, ◌≤◌, min, List, [], ◌∷◌, ◌++◌, length, length-append, get_or, Result, Ok, Err, sym, ap, subst, ◌∙◌, arith}
+use Rattle.std.specs.Prelude.{map, IfOk}
+use denote.Param.Members.{Shared}
+use Rattle.std.specs.Fn.{FnReturns}
+use Rattle.std.specs.Fork.{GivesJobs}
+use Rattle.std.proofs.lemmas.Bool.{cases_lt}
+use Rattle.std.proofs.lemmas.List.{get_or-map, get_or_append_left, get_or_push, length-map}
+use Rattle.std.proofs.lemmas.List.Sums.{sum-map, sum_by_push}
+use Rattle.std.proofs.lemmas.Nat.{div-add-mod', div-mul-add, mod_below}
 use native.Mathlib.Nat.{div-le_self, div-one}
 use Rattle.far_store.specs.Counting.{told}
-use Rattle.far_store.specs.Kept.{made_by, made_in, sum_over}
+use Rattle.far_store.specs.Kept.{AreMade, IsMade, sum_over}
+use Rattle.far_store.specs.Part.{AreParts, IsPart}
+use Rattle.far_store.specs.declared.asked.Asked.{Asked}
 use Rattle.far_store.specs.declared.desk.Told.{Told}
+use Rattle.far_store.specs.declared.layout.Part.{Part}
 
 pub share_most : (left sharers : ℕ) → left / sharers ≤ left
 share_most left sharers = div-le_self left sharers
@@ -13,16 +23,90 @@ share_most left sharers = div-le_self left sharers
 pub share_all : (left sharers : ℕ) → sharers ≡ 1 → left / sharers ≡ left
 share_all left sharers one = ap (λ n. left / n) one ∙ div-one left
 
+sum_more : {X : Type 0} (of : X → ℕ) (xs ys : List X) (x : X) → ys ≡ xs ++ x ∷ [] → sum_over ys of ≡ sum_over xs of + of x
+sum_more of xs ys x is = ap (λ zs. sum_over zs of) is ∙ sum-map of (xs ++ x ∷ []) ∙ sum_by_push of xs x ∙ ap (λ n. n + of x) (sym (sum-map of xs))
+
 -- one more has its share
 pub share_more : {X : Type 0} (of : X → ℕ) (xs ys : List X) (x : X) (left all : ℕ) → ys ≡ xs ++ x ∷ [] → of x ≤ left → sum_over xs of + left ≡ all → sum_over ys of + (left - of x) ≡ all
 share_more of xs ys x left all is most sum =
-    let more : sum_over ys of ≡ sum_over xs of + of x = ap (λ zs. sum_over zs of) is ∙ sum_by_push of xs x in
+    let more : sum_over ys of ≡ sum_over xs of + of x = sum_more of xs ys x is in
     omega (arith, more, most, sum)
 
--- one more has told of its own
-pub made_more : {E : Type 0} (shards : List (Result Told E)) (i : ℕ) (x : Result Told E) (t : Told) (n : ℕ) → i < length shards → x ≡ get_or shards i x → x ≡ Ok t → n ≡ told (made_in (take i shards))
-    → told (n + t.operations) ≡ told (made_in (take (i + 1) shards))
-made_more shards i x t n lt read ok is =
-    let more = sum_by_more made_by shards i x lt in
-    let own : made_by (get_or shards i x) ≡ t.operations = ap made_by (sym read ∙ ok) in
-    omega (arith, more, own, is)
+-- ---- what was made
+-- a sum that can be told is told as it is
+pub made_told : {E : Type 0} (result : Result Told E) (due operations : ℕ) → due ≡ operations → operations < 2 ^ 64 → IsMade (told due) result → IsMade operations result
+made_told (Ok all) due operations same few made = omega (arith, same, few, made)
+made_told (Err why) due operations same few made = tt
+
+-- each job was done by a call that made what it was to make
+made_by : {F J E : Type 0} (jobs : List J) (due : J → ℕ) (p : Shared F (J × Unit {0}) (Result Told E)) (f : F) (shards : List (Result Told E)) → length shards ≡ length jobs → GivesJobs p f jobs shards
+    → ((job : J) (shard : Result Told E) → FnReturns p f (job, tt) shard → IsMade (due job) shard) → AreMade (map due jobs) shards
+made_by jobs due p f shards many gives makes = record {
+  many = many ∙ sym (length-map jobs due);
+  each = λ at other lt.
+      let below : at < length jobs = omega (arith, lt, length-map jobs due) in
+      let gave = (gives at other below).1 in
+      let own : get_or (map due jobs) at 0 ≡ due gave.job = get_or-map due jobs at gave.job 0 below ∙ ap due (gave.job_is gave.job) in
+      subst (λ n. IsMade n (get_or shards at other)) (sym own) (makes gave.job (get_or shards at other) gave.call);
+}
+
+pub all_made_by : {F J E V A : Type 0} (jobs : List J) (result : Result V A) (items : V → List (Result Told E)) (many : V → ℕ) (count : ℕ) (due : J → ℕ) (p : Shared F (J × Unit {0}) (Result Told E)) (f : F)
+    → ((v : V) → many v ≡ length (items v)) → count ≡ length jobs → IfOk result (λ v. many v ≡ count) → IfOk result (λ v. GivesJobs p f jobs (items v))
+    → ((job : J) (shard : Result Told E) → FnReturns p f (job, tt) shard → IsMade (due job) shard) → IfOk result (λ v. AreMade (map due jobs) (items v))
+all_made_by jobs (Ok v) items many count due p f is all len gives makes = made_by jobs due p f (items v) (sym (is v) ∙ len ∙ all) gives makes
+all_made_by jobs (Err e) items many count due p f is all len gives makes = tt
+
+-- ---- records
+-- how many records the first n of so many shards have
+abbrev pub first_records : ℕ → ℕ → ℕ → ℕ
+first_records records shards n = records / shards * n + min n (records % shards)
+
+-- q is how many each has, and the first k have one more
+low_step : (q k n : ℕ) → n < k → q * (n + 1) + min (n + 1) k ≡ q * n + min n k + (q + 1)
+low_step q k n lt = omega arith
+
+high_step : (q k n : ℕ) → k ≤ n → q * (n + 1) + min (n + 1) k ≡ q * n + min n k + q
+high_step q k n le = omega arith
+
+low_count : (r m q k n : ℕ) → q * m + k ≡ r → k < m → n < k → (r + (m - 1 - n)) / m ≡ q + 1
+low_count r m q k n all left lt =
+    let is : r + (m - 1 - n) ≡ (q + 1) * m + (k - 1 - n) = omega arith in
+    ap (λ a. a / m) is ∙ div-mul-add (q + 1) m (k - 1 - n) (omega arith)
+
+high_count : (r m q k n : ℕ) → q * m + k ≡ r → n < m → k ≤ n → (r + (m - 1 - n)) / m ≡ q
+high_count r m q k n all lt le =
+    let is : r + (m - 1 - n) ≡ q * m + (k + (m - 1 - n)) = omega arith in
+    ap (λ a. a / m) is ∙ div-mul-add q m (k + (m - 1 - n)) (omega arith)
+
+whole : (r m q k : ℕ) → q * m + k ≡ r → k < m → q * m + min m k ≡ r
+whole r m q k all left = omega arith
+
+module _ (r m : ℕ) where
+  records_more : (n : ℕ) → n < m → first_records r m (n + 1) ≡ first_records r m n + (r + (m - 1 - n)) / m
+  records_more n lt =
+      let some : 0 < m = omega arith in
+      elim (cases_lt n (r % m)) [
+        | inl sooner ↦ low_step (r / m) (r % m) n sooner ∙ ap (λ c. first_records r m n + c) (sym (low_count r m (r / m) (r % m) n (div-add-mod' r m) (mod_below r m some) sooner))
+        | inr after ↦ high_step (r / m) (r % m) n after ∙ ap (λ c. first_records r m n + c) (sym (high_count r m (r / m) (r % m) n (div-add-mod' r m) lt after))
+      ]
+
+  -- together they have all
+  pub all_records : 0 < m → first_records r m m ≡ r
+  all_records some = whole r m (r / m) (r % m) (div-add-mod' r m) (mod_below r m some)
+
+module _ {J : Type 0} (part : J → Part) (asked : Asked) (n : ℕ) (jobs more : List J) (job : J) (is : IsPart asked n (part job)) (pushed : more ≡ jobs ++ job ∷ []) where
+  -- one more has its records
+  pub counts_more : n < asked.mutators → sum_over jobs (λ j. (part j).count) ≡ first_records asked.records asked.mutators n → sum_over more (λ j. (part j).count) ≡ first_records asked.records asked.mutators (n + 1)
+  counts_more lt before =
+      sum_more (λ j. (part j).count) jobs more job pushed ∙ ap (λ k. k + (part job).count) before ∙ ap (λ k. first_records asked.records asked.mutators n + k) is.count ∙ sym (records_more asked.records asked.mutators n lt)
+
+  part_at : AreParts asked n jobs part → (at : ℕ) (other : J) → at < n + 1 → IsPart asked at (part (get_or (jobs ++ job ∷ []) at other))
+  part_at are at other lt = elim (cases_lt at n) [
+    | inl sooner ↦ subst (λ (j : J). IsPart asked at (part j)) (sym (get_or_append_left jobs (job ∷ []) other at (omega (arith, sooner, are.all)))) (are.each at other sooner)
+    | inr after ↦
+        let here : at ≡ n = omega (arith, after, lt) in
+        subst (λ (j : J). IsPart asked at (part j)) (sym (get_or_push jobs job other at (are.all ∙ sym here))) (subst (λ k. IsPart asked k (part job)) (sym here) is)
+  ]
+
+  pub parts_more : AreParts asked n jobs part → AreParts asked (n + 1) more part
+  parts_more are = subst (λ (js : List J). AreParts asked (n + 1) js part) (sym pushed) record { all = omega (arith, length-append jobs (job ∷ []), are.all); each = part_at are }

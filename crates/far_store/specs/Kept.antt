@@ -1,6 +1,6 @@
 -- What a store's threads kept of what they put, and what they found.
-use Rattle.std.specs.Prelude.{◌≡◌, ℕ, ◌<◌, List, slice_get, Result, Ok, Err, IfOk}
-use Rattle.std.specs.List.{All, sum_by}
+use Rattle.std.specs.Prelude.{◌≡◌, ℕ, ◌<◌, List, length, map, slice_get, slice_index, slice_index_or, sum, Result, IfOk}
+use Rattle.std.specs.List.{All}
 use Rattle.far_store.specs.Part.{number_at}
 use Rattle.far_store.specs.Records.{Records, held}
 use Rattle.far_store.specs.declared.desk.Told.{Told}
@@ -18,14 +18,15 @@ IsRight result = IfOk result (λ told. told.wrong ≡ 0)
 abbrev pub AreRight : List (Result Told StoreFault) → Type 0
 AreRight shards = All IsRight shards
 
--- how many operations shards tell of together
-abbrev pub made_by : {E : Type 0} → Result Told E → ℕ
-made_by (Ok told) = told.operations
-made_by (Err why) = 0
+-- it made so many operations, if all was done
+abbrev pub IsMade : {E : Type 0} → ℕ → Result Told E → Type 0
+IsMade due result = IfOk result (λ told. told.operations ≡ due)
 
-abbrev pub made_in : {E : Type 0} → List (Result Told E) → ℕ
-made_in shards = sum_by made_by shards
+-- so it is of each shard, which were to make so many each
+pub record AreMade {E : Type 0} (due : List ℕ) (shards : List (Result Told E)) : Type 0 where
+  pub many : length shards ≡ length due
+  pub each : (at : ℕ) (other : Result Told E) → at < length due → IsMade (slice_index due at) (slice_index_or shards at other)
 
 -- the sum of what each has
 abbrev pub sum_over : {X : Type 0} → List X → (X → ℕ) → ℕ
-sum_over xs of = sum_by of xs
+sum_over xs of = sum (map of xs)

@@ -1,5 +1,6 @@
 -- Which records a shard has, and where they stand.
-use Rattle.std.specs.Prelude.{ℕ, ◌+◌, ◌*◌, ◌/◌, ◌%◌, ◌==◌, Bool, ◌&&◌, nat_lt}
+use Rattle.std.specs.Prelude.{◌≡◌, ◌↔◌, ℕ, ◌+◌, ◌-◌, ◌*◌, ◌/◌, ◌%◌, ◌<◌, ◌==◌, Bool, true, ◌&&◌, nat_lt, List, length, slice_index_or}
+use Rattle.far_store.specs.declared.asked.Asked.{Asked}
 use Rattle.far_store.specs.declared.layout.Part.{Part}
 use Rattle.far_store.specs.declared.layout.TheConstants.{PER_OBJECT, RECORD}
 
@@ -17,3 +18,16 @@ object_for part number = number / part.shards / PER_OBJECT
 
 abbrev pub from_for : Part → ℕ → ℕ
 from_for part number = number / part.shards % PER_OBJECT * RECORD
+
+-- ---- which records a store's shards have
+-- a shard's part, by its number: each record below the number of all that leaves the shard's number when it is divided by that of the shards, and no other
+pub record IsPart (asked : Asked) (shard : ℕ) (part : Part) : Type 0 where
+  pub own : part.shard ≡ shard
+  pub shards : part.shards ≡ asked.mutators
+  pub count : part.count ≡ (asked.records + (asked.mutators - 1 - shard)) / asked.mutators
+  pub holds : (number : ℕ) → (has part number ≡ true) ↔ ((number < asked.records) × (number % asked.mutators ≡ shard))
+
+-- so many jobs, in order, each with the part of the shard of its number
+pub record AreParts {J : Type 0} (asked : Asked) (many : ℕ) (jobs : List J) (part : J → Part) : Type 0 where
+  pub all : length jobs ≡ many
+  pub each : (shard : ℕ) (other : J) → shard < many → IsPart asked shard (part (slice_index_or jobs shard other))

@@ -1,7 +1,8 @@
 //! What the program is asked for.
 
-ghost use Rattle.std.specs.Prelude.{◌≡◌, ◌≤◌, ◌<◌, IfSome};
+ghost use Rattle.std.specs.Prelude.{◌≡◌, ◌*◌, ◌≤◌, ◌<◌, IfSome};
 ghost use Rattle.far_word.specs.declared.sizes.TheConstants.{MOST_MUTATORS};
+ghost use Rattle.far_store.specs.declared.layout.TheConstants.{MOST_RECORDS};
 
 use crate::layout::MOST_RECORDS;
 use far_word::MOST_MUTATORS;
@@ -23,6 +24,7 @@ pub struct Asked {
     ghost records_some: { 0 < records },
     ghost some: { 0 < mutators },
     ghost few: { mutators ≤ MOST_MUTATORS },
+    ghost records_few: { records ≤ mutators * MOST_RECORDS },
 }
 
 // A number of a range.

@@ -30,7 +30,8 @@ impl<K: HeapName, D: Device + Drop> Job<K, D> {
     /// Only a shard that has records gets operations.
     pub fn new(mutator: Mutator<K, D>, part: Part, operations: u64, seed: u64) -> Job<K, D>
         requires { 0 < operations → 0 < part.count }
-        ensures { result.operations ≡ operations }
+        ensures part { result.part ≡ part }
+        ensures operations { result.operations ≡ operations }
     {
         Job {
             mutator,

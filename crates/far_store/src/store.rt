@@ -1,10 +1,10 @@
 //! A store: shards in threads, and a thread that keeps logs free for them.
 
-ghost use Rattle.std.specs.Prelude.{◌≡◌, ◌≤◌, ◌<◌, ◌+◌, min, true, IfOk, OnOk};
-ghost use Rattle.std.specs.List.{All};
+ghost use Rattle.std.specs.Prelude.{◌≡◌, ◌≤◌, ◌<◌, ◌+◌, ℕ, min, true, List, map, sum, IfOk};
 ghost use Rattle.std.specs.Vec.{vec_len};
 ghost use Rattle.far_store.specs.Counting.{told};
-ghost use Rattle.far_store.specs.Kept.{AreRight, IsRight, made_in, sum_over};
+ghost use Rattle.far_store.specs.Kept.{AreMade, AreRight, IsMade, IsRight, sum_over};
+ghost use Rattle.far_store.specs.Part.{AreParts, IsPart};
 
 use crate::asked::Asked;
 use crate::counts::Counts;
@@ -93,6 +93,7 @@ fn job_of<K: HeapName, D: Device + Drop>(
     left: u64,
 ) -> Job<K, D>
     requires { shard < asked.mutators }
+    ensures part { IsPart asked shard result.part }
     ensures most { result.operations ≤ left }
     ensures all { shard + 1 ≡ min asked.mutators asked.records → result.operations ≡ left }
 {
@@ -102,14 +103,16 @@ fn job_of<K: HeapName, D: Device + Drop>(
     Job::new(mutator, part, operations, seed)
 }
 
-// What is to be done by each shard: together what is asked for.
+// What is to be done by each shard: together what is asked for, with all records.
 fn jobs_of<K: HeapName, D: Device + Drop>(
     alloc: Global,
     mut mutators: Vec<Mutator<K, D>>,
     asked: Asked,
 ) -> Result<Vec<Job<K, D>>, AllocError>
     requires { vec_len mutators ≡ asked.mutators }
-    ensures { IfOk result (λ jobs. sum_over jobs.items (λ job. job.operations) ≡ asked.operations) }
+    ensures parts { IfOk result (λ jobs. AreParts asked asked.mutators jobs.items (λ job. job.part)) }
+    ensures records { IfOk result (λ jobs. sum_over jobs.items (λ job. job.part.count) ≡ asked.records) }
+    ensures operations { IfOk result (λ jobs. sum_over jobs.items (λ job. job.operations) ≡ asked.operations) }
 {
     let mut jobs = Vec::with_capacity(alloc, asked.mutators as usize)?;
     let mut left = asked.operations;
@@ -121,10 +124,10 @@ fn jobs_of<K: HeapName, D: Device + Drop>(
     Ok(jobs)
 }
 
-// What all shards were told, if none was refused anything.
+// What all shards were told, if none was refused anything: as many operations as they were to make together.
 fn sum_of(shards: &[Result<Told, StoreFault>]) -> Result<Told, StoreFault>
     ensures right { AreRight shards.now → IsRight result }
-    ensures made { IfOk result (λ all. all.operations ≡ told (made_in shards.now)) }
+    ensures made { (due : List ℕ) → AreMade due shards.now → IsMade (told (sum due)) result }
 {
     let mut all = Told {
         operations: 0,
@@ -155,7 +158,7 @@ fn ended(
     kept: Result<(), EvacFault>,
 ) -> Result<Told, RunFault>
     ensures right { IfOk worked (λ shards. AreRight shards.items) → IsRight result }
-    ensures made { IfOk worked (λ shards. IfOk result (λ all. all.operations ≡ told (made_in shards.items))) }
+    ensures made { (due : List ℕ) → IfOk worked (λ shards. AreMade due shards.items) → IsMade (told (sum due)) result }
 {
     if let Err(fault) = kept {
         return Err(RunFault::Round(fault));
@@ -179,10 +182,12 @@ fn work_all<K: HeapName + Send + Sync, D: Device + Drop + Send, R: Threads + Wai
     signs: &Signs,
     jobs: Vec<Job<K, D>>,
 ) -> Result<Vec<Result<Told, StoreFault>>, AllocError>
-    ensures { K.heap.honest ≡ true → IfOk result (λ shards. AreRight shards.items) }
+    ensures right { K.heap.honest ≡ true → IfOk result (λ shards. AreRight shards.items) }
+    ensures made { IfOk result (λ shards. AreMade (map (λ job. job.operations) jobs.items) shards.items) }
 {
     let each = |job: Job<K, D>| -> Result<Told, StoreFault>
-        ensures { K.heap.honest ≡ true → IsRight result }
+        ensures right { K.heap.honest ≡ true → IsRight result }
+        ensures made { IsMade job.operations result }
     { work(rt, alloc, signs, job) };
     thread::map_vec(rt, jobs, &each)
 }
@@ -195,7 +200,9 @@ fn beside<K: HeapName + Send + Sync, D: Device + Drop + Send, R: Threads + Wait 
     jobs: Vec<Job<K, D>>,
     asked: Asked,
 ) -> Result<Told, RunFault>
-    ensures { K.heap.honest ≡ true → IsRight result }
+    requires { sum_over jobs.items (λ job. job.operations) ≡ asked.operations }
+    ensures right { K.heap.honest ≡ true → IsRight result }
+    ensures made { IsMade asked.operations result }
 {
     let signs = Signs::new();
     let passed = &signs;
@@ -204,7 +211,8 @@ fn beside<K: HeapName + Send + Sync, D: Device + Drop + Send, R: Threads + Wait 
         thread::scope_env(),
         rt,
         |scope| -> Result<Told, RunFault>
-            ensures { K.heap.honest ≡ true → IsRight result }
+            ensures right { K.heap.honest ≡ true → IsRight result }
+            ensures made { IsMade (told (sum_over jobs.items (λ job. job.operations))) result }
         {
             let keeper = move || {
                 let kept = keep_free(rt, heap, &mut Oldest, free, MOST_LOGS, || passed.is_done());
@@ -230,7 +238,8 @@ fn begun<K: HeapName + Send + Sync, D: Device + Drop + Send, R: Threads + Wait +
 ) -> Result<Told, RunFault>
     requires name { blank.heap ≡ K.heap }
     requires many { blank.heap.mutators ≡ asked.mutators }
-    ensures { K.heap.honest ≡ true → IsRight result }
+    ensures right { K.heap.honest ≡ true → IsRight result }
+    ensures made { IsMade asked.operations result }
 {
     let (heap, mutators) = match Heap::<K, D>::new(alloc, blank) {
         Ok(made) => made,
@@ -242,14 +251,16 @@ fn begun<K: HeapName + Send + Sync, D: Device + Drop + Send, R: Threads + Wait +
     beside(rt, alloc, &heap, jobs, asked)
 }
 
-/// Does a store's work over a device: how many records had other bytes than were put last, when they were read. If the device is honest none had.
+/// Does a store's work over a device: as many operations as are asked for, and how many records had other bytes than were put last, when they were read. If the
+/// device is honest none had.
 pub fn over<D: Device + Drop + Send, R: Threads + Wait + Sync>(
     rt: &R,
     alloc: Global,
     device: D,
     asked: Asked,
 ) -> Result<Told, RunFault>
-    ensures { D.honest device ≡ true → IsRight result }
+    ensures right { D.honest device ≡ true → IsRight result }
+    ensures made { IsMade asked.operations result }
 {
     let shape = Shape {
         logs: asked.logs,
@@ -264,7 +275,8 @@ pub fn over<D: Device + Drop + Send, R: Threads + Wait + Sync>(
 
 // With the device's own reason, if it refused something.
 fn with_reason(ended: Result<Told, RunFault>, last: &LastFault) -> Result<Told, RunFault>
-    ensures { IsRight ended → IsRight result }
+    ensures right { IsRight ended → IsRight result }
+    ensures made { (due : ℕ) → IsMade due ended → IsMade due result }
 {
     if let Err(fault) = ended {
         if fault.is_of_device() {
@@ -283,7 +295,8 @@ pub fn over_storage<F: Storage + Drop + Send, R: Threads + Wait + Sync>(
     storage: F,
     asked: Asked,
 ) -> Result<Told, RunFault>
-    ensures { F.Storage.honest storage ≡ true → IsRight result }
+    ensures right { F.Storage.honest storage ≡ true → IsRight result }
+    ensures made { IsMade asked.operations result }
 {
     let mut device = FileDevice::<F>::new(alloc, storage);
     let Ok(last) = device.last_fault() else {

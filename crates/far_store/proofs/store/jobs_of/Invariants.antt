@@ -1,6 +1,8 @@
 use Rattle.std.proofs.Common.{◌≡◌, ◌+◌, ◌≤◌, min, vec_capacity}
 use Rattle.std.specs.Vec.{vec_len}
 use Rattle.far_store.specs.Kept.{sum_over}
+use Rattle.far_store.specs.Part.{AreParts}
+use Rattle.far_store.proofs.Shares.{first_records}
 use Rattle.far_store.proofs.store.jobs_of.Given as goal
 
 abbrev pub invariant-loop-shard : goal.invariant-loop-shard
@@ -10,4 +12,6 @@ invariant-loop-shard g l = record {
   all : min l.asked.mutators l.asked.records ≤ l.shard → l.left ≡ 0;
   made : vec_len l.jobs ≡ l.shard;
   room : l.asked.mutators ≤ vec_capacity l.jobs;
+  parts : AreParts l.asked l.shard l.jobs.items (λ job. job.part);
+  records : sum_over l.jobs.items (λ job. job.part.count) ≡ first_records l.asked.records l.asked.mutators l.shard;
 }

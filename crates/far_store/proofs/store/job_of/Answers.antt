@@ -1,0 +1,9 @@
+use Rattle.std.proofs.Common.{subst, sym}
+use Rattle.far_store.specs.Part.{IsPart}
+use Rattle.far_store.proofs.Parts.{part_is}
+use Rattle.far_store.proofs.store.job_of.Goals as goal
+
+pub returns-clause-part : goal.returns-clause-part
+returns-clause-part g c =
+    let p = c.new-part in
+    subst (IsPart c.args.asked c.args.shard) (sym c.new.ensures.part) (part_is c.args.asked p.result c.args.shard c.requires p.ensures.shard p.ensures.shards p.ensures.count)
