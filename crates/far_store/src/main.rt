@@ -84,9 +84,19 @@ fn usage(rt: &impl Eprint) -> ExitCode {
     ExitCode::from(2)
 }
 
+// The words weren't read: memory was refused, or one of them is no text.
+fn unread(rt: &impl Eprint, why: io::Error) -> ExitCode {
+    if why.kind() == io::ErrorKind::OutOfMemory {
+        let _ = eprintln!(rt; "far_store: memory");
+        return ExitCode::from(4);
+    }
+    usage(rt)
+}
+
 fn main(rt: HostRuntime) -> ExitCode {
-    let Ok(words) = words(&rt) else {
-        return usage(&rt);
+    let words = match words(&rt) {
+        Ok(words) => words,
+        Err(why) => return unread(&rt, why),
     };
     let Some(asked) = Asked::by(&words) else {
         return usage(&rt);
