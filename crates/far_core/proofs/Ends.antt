@@ -1,5 +1,5 @@
 -- What a memory's rows say past their ends, and that a state is what it says within them.
-use Rattle.std.proofs.Common.{◌≡◌, ℕ, ◌+◌, ◌*◌, ◌<◌, ◌≤◌, ◌∙◌, Bool, true, false, cond, nat_lt, arith, ap, refl, sym, inl, inr, None}
+use Rattle.std.proofs.Common.{◌≡◌, ℕ, ◌+◌, ◌*◌, ◌<◌, ◌≤◌, ◌∙◌, Bool, true, false, cond, nat_lt, arith, ap, refl, sym, inl, inr, get_or, Some, None}
 use Rattle.std.specs.Prelude.{◌⊎◌}
 use Rattle.std.proofs.lemmas.Bool.{cases_lt, false≢true, le-ltb}
 use Rattle.std.proofs.lemmas.List.{get_or_past}
@@ -59,7 +59,7 @@ has_nothing_past c = record {
   clears = λ m le. get_or_past c.clear.items m false (omega (arith, le, c.clear.ok.0, c.clear_sized));
   cells = λ p le. get_or_past c.cells.items p 0 (omega (arith, le, c.cells.ok.0, c.cells_sized));
   uses = λ p le. get_or_past c.used.items p false (omega (arith, le, c.used.ok.0, c.used_sized));
-  holds = λ p le. get_or_past c.held.items p None (omega (arith, le, c.held.ok.0, c.held_sized));
+  holds = λ p le. ap (λ b. cond b (Some (get_or c.places.items p record { log = 0; at = 0 })) None) (get_or_past c.held.items p false (omega (arith, le, c.held.ok.0, c.held_sized)));
   soils = λ p le. get_or_past c.soiled.items p false (omega (arith, le, c.soiled.ok.0, c.soiled_sized));
   stores = λ p i le. stored_past c.stored p i (omega (arith, le, c.stored.row_of.ok.0, c.stored_sized));
   rows = λ p i le. stored_behind c.stored p i le;

@@ -9,6 +9,7 @@ pub mod CopierRows
 pub mod Ends
 pub mod Frames
 pub mod Guards
+pub mod HeldRows
 pub mod Items
 pub mod JobLaws
 pub mod JobPlaces

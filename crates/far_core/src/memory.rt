@@ -34,7 +34,9 @@ pub(crate) struct Memory {
     // The owners' views.
     pub(crate) remembered: Vec<Option<u64>>,
     pub(crate) used: Vec<bool>,
-    pub(crate) held: Vec<Option<Place>>,
+    // Which pointers are held, and at which places.
+    pub(crate) held: Vec<bool>,
+    pub(crate) places: Vec<Place>,
     pub(crate) soiled: Vec<bool>,
     // The book's view.
     pub(crate) kinds: Vec<Kind>,
@@ -58,6 +60,7 @@ pub(crate) struct Memory {
     ghost starts_sized: { vec_len starts ≡ LOG_WORDS * vec_len tails },
     ghost used_sized: { vec_len used ≡ CELLS * vec_len scopes },
     ghost held_sized: { vec_len held ≡ CELLS * vec_len scopes },
+    ghost places_sized: { vec_len places ≡ CELLS * vec_len scopes },
     ghost soiled_sized: { vec_len soiled ≡ CELLS * vec_len scopes },
     ghost round_sized: { vec_len round ≡ vec_len tails },
     ghost clear_sized: { vec_len clear ≡ vec_len scopes },

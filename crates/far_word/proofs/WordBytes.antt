@@ -1,5 +1,5 @@
 -- The eight bytes of a word as they lie in a list, little end first.
-use Rattle.std.proofs.Common.{◌≡◌, ◌≢◌, ℕ, suc, zero, ◌+◌, ◌-◌, ◌*◌, ◌/◌, ◌%◌, ◌<◌, ◌≤◌, ◌^◌, ◌++◌, cond, nat_eq, [], arith, sym, refl, ap, ◌∙◌, List, length, take, drop, get_or, inl, inr}
+use Rattle.std.proofs.Common.{◌≡◌, ◌≢◌, ℕ, suc, zero, ◌+◌, ◌-◌, ◌*◌, ◌/◌, ◌%◌, ◌<◌, ◌≤◌, ◌^◌, ◌++◌, cond, nat_eq, [], arith, sym, refl, ap, ◌∙◌, List, length, take, drop, get_or, shr-shr, inl, inr}
 use Rattle.std.specs.Prelude.{replicate}
 use Rattle.std.specs.List.{range_with_len}
 use Rattle.std.specs.Int.{bytes_low_first}
@@ -115,13 +115,44 @@ zeros_after new n k long le lt =
     let at : n + (k - n) ≡ k = omega arith in
     get_or-append_right new (drop n (replicate 8 0)) n k 0 long le ∙ get_or-drop n (replicate 8 0) (k - n) 0 ∙ ap (λ q. get_or (replicate 8 0) q 0) at ∙ get_or-replicate 8 k 0 0 lt
 
--- read as a number it is the word of the bytes that are left
-pub read_part : (bs new : List ℕ) (i n r : ℕ) → n < 8 → n ≡ length (take (length bs - 8 * i) (drop (8 * i) bs)) → new ≡ take (length bs - 8 * i) (drop (8 * i) bs) →
-    r ≡ little_number 8 (put_mid 0 n (replicate 8 0) new) → r ≡ packed_word bs i
-read_part bs new i n r short len e read =
-    let long : length new ≡ n = ap length e ∙ sym len in
-    let left : n ≡ length bs - 8 * i = len ∙ length-rest bs (8 * i) in
-    read ∙ read_word bs (new ++ drop n (replicate 8 0)) i (λ k lt. elim (cases_lt k n) [
-      | inl below ↦ (get_or_append_left new (drop n (replicate 8 0)) 0 k (omega arith) ∙ ap (λ xs. get_or xs k 0) e ∙ rest-get bs (8 * i) k (omega arith))
-      | inr above ↦ (zeros_after new n k long above lt ∙ sym (get_or_past bs (8 * i + k) 0 (omega arith)))
+-- read as a number it is the word of a list that is shorter than a word
+pub read_short : (bs new : List ℕ) (i r : ℕ) → length bs < 8 → 8 * i < length bs → new ≡ bs →
+    r ≡ little_number 8 (new ++ drop (length bs) (replicate 8 0)) → r ≡ packed_word bs i
+read_short bs new i r short some e read =
+    let long : length new ≡ length bs = ap length e in
+    let at : (k : ℕ) → k ≡ 8 * i + k = (λ k. omega arith) in
+    read ∙ read_word bs (new ++ drop (length bs) (replicate 8 0)) i (λ k lt. elim (cases_lt k (length bs)) [
+      | inl below ↦ (get_or_append_left new (drop (length bs) (replicate 8 0)) 0 k (omega arith) ∙ ap (λ xs. get_or xs k 0) e ∙ ap (λ q. get_or bs q 0) (at k))
+      | inr above ↦ (zeros_after new (length bs) k long above lt ∙ sym (get_or_past bs (8 * i + k) 0 (omega arith)))
     ])
+
+-- ---- the eight bytes that end a list, those before its last word shifted out
+abbrev eight : (ℕ → ℕ) → ℕ
+eight f = f 0 + f 1 * 2 ^ 8 + f 2 * 2 ^ 16 + f 3 * 2 ^ 24 + f 4 * 2 ^ 32 + f 5 * 2 ^ 40 + f 6 * 2 ^ 48 + f 7 * 2 ^ 56
+
+one_out : (f : ℕ → ℕ) → f 0 < 256 → f 8 ≡ 0 → eight f / 2 ^ 8 ≡ eight (λ k. f (suc k))
+one_out f low none = omega (arith, low, none)
+
+shifted_out : (d : ℕ) (f : ℕ → ℕ) → ((k : ℕ) → f k < 256) → ((k : ℕ) → 8 ≤ k → f k ≡ 0) → eight f / 2 ^ (8 * d) ≡ eight (λ k. f (k + d))
+shifted_out zero f low none = div-one (eight f) ∙ (let at : (k : ℕ) → k ≡ k + 0 = (λ k. omega arith) in
+    omega (arith, ap f (at 0), ap f (at 1), ap f (at 2), ap f (at 3), ap f (at 4), ap f (at 5), ap f (at 6), ap f (at 7)))
+shifted_out (suc d) f low none =
+    let longer : 8 * suc d ≡ 8 + 8 * d = omega arith in
+    let at : (k : ℕ) → suc (k + d) ≡ k + suc d = (λ k. omega arith) in
+    ap (λ q. eight f / 2 ^ q) longer ∙ sym (shr-shr (eight f) 8 (8 * d)) ∙ ap (λ x. x / 2 ^ (8 * d)) (one_out f (low 0) (none 8 (omega arith)))
+    ∙ shifted_out d (λ k. f (suc k)) (λ k. low (suc k)) (λ k le. none (suc k) (omega arith))
+    ∙ omega (arith, ap f (at 0), ap f (at 1), ap f (at 2), ap f (at 3), ap f (at 4), ap f (at 5), ap f (at 6), ap f (at 7))
+
+-- the last eight bytes read as a number, shifted, are the word of the bytes that are left
+pub read_shifted : (bs : List ℕ) (i r : ℕ) → ((k : ℕ) → get_or bs k 0 < 256) → 8 ≤ length bs → length bs < 8 * i + 8 → 8 * i < length bs →
+    r ≡ little_number 8 (take (length bs - (length bs - 8)) (drop (length bs - 8) bs)) → r / 2 ^ (8 * (8 * i + 8 - length bs)) ≡ packed_word bs i
+read_shifted bs i r low long few some read =
+    let f : ℕ → ℕ = (λ k. get_or (drop (length bs - 8) bs) k 0) in
+    let is : (k : ℕ) → f k ≡ get_or bs (length bs - 8 + k) 0 = (λ k. get_or-drop (length bs - 8) bs k 0) in
+    let d : ℕ = 8 * i + 8 - length bs in
+    let moved : (k : ℕ) → f (k + d) ≡ get_or bs (8 * i + k) 0 = (λ k. is (k + d) ∙ ap (λ q. get_or bs q 0) (omega arith)) in
+    let end : List ℕ = take (length bs - (length bs - 8)) (drop (length bs - 8) bs) in
+    let same : (k : ℕ) → k < 8 → get_or end k 0 ≡ f k = (λ k lt. rest-get bs (length bs - 8) k (omega arith) ∙ sym (is k)) in
+    let whole : r ≡ eight f = read ∙ omega (arith, same 0, same 1, same 2, same 3, same 4, same 5, same 6, same 7) in
+    ap (λ x. x / 2 ^ (8 * d)) whole ∙ shifted_out d f (λ k. omega (arith, is k, low (length bs - 8 + k))) (λ k le. is k ∙ get_or_past bs (length bs - 8 + k) 0 (omega arith))
+    ∙ omega (arith, moved 0 ∙ (let same : 8 * i + 0 ≡ 8 * i = omega arith in ap (λ q. get_or bs q 0) same), moved 1, moved 2, moved 3, moved 4, moved 5, moved 6, moved 7)

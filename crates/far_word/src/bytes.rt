@@ -35,15 +35,20 @@ pub fn unpack_bytes(words: &[u64], bytes: &mut [u8])
     }
 }
 
-// The word of the bytes from 8i on, of which fewer than eight are left.
-fn last_word(bytes: &[u8], i: usize) -> u64
+/// The word of the bytes from 8i on, of which fewer than eight are left, with zeros after them: the last that
+/// [`pack_bytes`] packs.
+#[inline]
+pub fn last_word(bytes: &[u8], i: usize) -> u64
     requires some { 8 * i < length bytes.now }
     requires few { length bytes.now < 8 * i + 8 }
     ensures { result ≡ packed_word bytes.now i }
 {
-    let rest = &bytes[8 * i..];
+    let len = bytes.len();
+    if len >= 8 {
+        return LittleEndian::read_u64(&bytes[len - 8..]) >> (8 * (8 * i + 8 - len));
+    }
     let mut last = [0; 8];
-    last[..rest.len()].copy_from_slice(rest);
+    last[..len].copy_from_slice(bytes);
     LittleEndian::read_u64(&last)
 }
 

@@ -15,7 +15,7 @@ mod scope;
 mod sizes;
 mod version;
 
-pub use bytes::{pack_bytes, unpack_bytes};
+pub use bytes::{last_word, pack_bytes, unpack_bytes};
 pub use header::{HeadWord, HeadWordV1};
 pub use job::{Job, JobWord};
 pub use laws::{

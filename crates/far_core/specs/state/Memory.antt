@@ -1,5 +1,5 @@
 -- The state that a core's memory has.
-use Rattle.std.specs.Prelude.{◌+◌, ◌*◌, false, cond, nat_lt, None, slice_index, slice_index_or}
+use Rattle.std.specs.Prelude.{◌+◌, ◌*◌, false, cond, nat_lt, None, Some, slice_index, slice_index_or}
 use Rattle.std.specs.Vec.{vec_len}
 use Rattle.far_word.specs.declared.sizes.TheConstants.{LOG_WORDS}
 use Rattle.far_core.specs.declared.event.Kind.TheVariants.{Free}
@@ -31,7 +31,7 @@ state_of c = record {
   word = λ a. slice_index c.words.items a;
   remembered = λ m. slice_index_or c.remembered.items m None;
   used = λ p. slice_index_or c.used.items p false;
-  held = λ p. slice_index_or c.held.items p None;
+  held = λ p. cond (slice_index_or c.held.items p false) (Some (slice_index_or c.places.items p record { log = 0; at = 0 })) None;
   soiled = λ p. slice_index_or c.soiled.items p false;
   kind = λ l. slice_index_or c.kinds.items l Free;
   tail = λ l. slice_index c.tails.items l;

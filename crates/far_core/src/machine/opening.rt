@@ -17,7 +17,7 @@ use crate::memory::Memory;
 use crate::memory::jobs::Jobs;
 use crate::memory::stored_rows::StoredRows;
 use crate::shape::Shape;
-use far_word::{CELLS, LOG_WORDS, Refused};
+use far_word::{CELLS, LOG_WORDS, Place, Refused};
 use std::alloc::{AllocError, Global};
 
 // How many words are filled at once.
@@ -55,7 +55,8 @@ impl Memory {
             words: zero_words(alloc, words)?,
             remembered: vec![in alloc; None; mutators]?,
             used: vec![in alloc; false; cells]?,
-            held: vec![in alloc; None; cells]?,
+            held: vec![in alloc; false; cells]?,
+            places: vec![in alloc; Place { log: 0, at: 0 }; cells]?,
             soiled: vec![in alloc; false; cells]?,
             kinds: vec![in alloc; Kind::Free; logs]?,
             tails: vec![in alloc; 0; logs]?,

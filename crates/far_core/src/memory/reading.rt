@@ -123,14 +123,17 @@ impl Memory {
     pub(crate) fn held(&self, pointer: u16) -> Option<Place>
         ensures { result ≡ (state_of self.now).held pointer }
     {
-        self.held.get(pointer as usize).copied().flatten()
+        if !self.is_held(pointer) {
+            return None;
+        }
+        Some(self.places[pointer as usize])
     }
 
     #[tactic(auto, unfolding(crate::specs::state::Memory::state_of))]
     pub(crate) fn is_held(&self, pointer: u16) -> bool
         ensures { result ≡ is_some ((state_of self.now).held pointer) }
     {
-        (pointer as usize) < self.held.len() && self.held[pointer as usize].is_some()
+        self.held.get(pointer as usize).copied().unwrap_or(false)
     }
 
     #[tactic(auto, unfolding(crate::specs::state::Memory::state_of))]
@@ -145,10 +148,7 @@ impl Memory {
         requires { IsSome ((state_of self.now).held pointer) }
         ensures { (state_of self.now).held pointer ≡ Some result }
     {
-        match &self.held[pointer as usize] {
-            Some(place) => *place,
-            None => unreachable!(),
-        }
+        self.places[pointer as usize]
     }
 
     #[tactic(auto, unfolding(crate::specs::state::Memory::state_of))]

@@ -55,7 +55,10 @@ impl Memory {
         requires { pointer < CELLS * (state_of self.old).mutators }
         ensures { state_of self.new ≡ record (state_of self.old) { held = put (state_of self.old).held pointer place } }
     {
-        self.held[pointer] = place;
+        self.held[pointer] = place.is_some();
+        if let Some(place) = place {
+            self.places[pointer] = place;
+        }
     }
 
     #[tactic(auto, unfolding(crate::specs::state::Memory::state_of))]
@@ -176,7 +179,7 @@ impl Memory {
         ensures { state_of self.new ≡ record (state_of self.old) { held = λ p. cond (p / CELLS == owner) None ((state_of self.old).held p) } }
     {
         let from = owner as usize * CELLS as usize;
-        self.held[from..from + CELLS as usize].fill(None);
+        self.held[from..from + CELLS as usize].fill(false);
     }
 
     /// The owner has soiled nothing from now on.
