@@ -10,7 +10,7 @@ ghost use Rattle.far_core.specs.state.Shape.{is_shape};
 ghost use Rattle.far_core.specs.state.State.{State};
 ghost use Rattle.far_book.specs.book.Effects.{with_free_cell};
 ghost use Rattle.far_book.specs.book.Ledger.{Notes, KnowsLog, filled_of, is_noted_free, MayBegin, MayTakeAgain, MayTake, MayRetire, Begins, TakesAgain, Opens, Passes, Takes, Loses, Frees, IsLowestFree};
-ghost use Rattle.far_book.specs.book.NumberSet.{HasNoneLeft, IsLowestLeft};
+ghost use Rattle.far_book.specs.book.NumberSet.{HasNoneLeft, IsLowestLeft, has};
 ghost use Rattle.far_book.specs.book.Own.{own_part};
 ghost use Rattle.far_book.specs.book.Releasing.{GivesBack};
 ghost use Rattle.far_book.specs.book.Rows.{row_of};
@@ -203,13 +203,14 @@ impl Ledger {
     fn open(&mut self, log: u8)
         requires few { log < 64 }
         requires order { log ≢ self.old.current → length self.old.order < MOST_LOGS }
+        requires taken { has self.old.free_logs self.old.current ≡ false }
         ensures { Opens self.old self.new log }
     {
         if log != self.current {
             self.order.push(self.current);
             self.current = log;
+            self.free_logs.remove(log);
         }
-        self.free_logs.remove(log);
     }
 
     // A log has one live span of so many words more.

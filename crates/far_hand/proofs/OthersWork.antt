@@ -1,13 +1,14 @@
 -- What an owner's event changes, and a copier's.
 use Rattle.std.proofs.Common.{◌≡◌, ℕ, ◌+◌, ◌^◌, Bool, true, false, Option, Some, None, inl, inr, refl, sym, ap, ◌∙◌, subst, bit_or}
-use Rattle.std.specs.Prelude.{◌==◌}
+use Rattle.std.specs.Prelude.{◌==◌, is_some}
 use Rattle.std.proofs.lemmas.Bool.{false≢true, cond_both, eqb-true, false_from_ne_true}
 use Rattle.far_word.specs.declared.job.JobWord.TheVariants.{Offered, Taken, Finished}
 use Rattle.far_word.specs.declared.mark.Mark.{Mark as MarkKind}
 use Rattle.far_word.specs.declared.mark.Mark.TheVariants.{Hot, Evac, Moved, Dropped, Dirty}
 use Rattle.far_word.specs.declared.mark.Marks.{Marks}
 use Rattle.far_word.specs.declared.pointer.Place.{Place}
-use Rattle.far_word.specs.declared.pointer.PtrWord.TheVariants.{Near}
+use Rattle.far_word.specs.declared.pointer.PtrWord.{PtrWord}
+use Rattle.far_word.specs.declared.pointer.PtrWord.TheVariants.{Free, Near, Far}
 use Rattle.far_word.specs.Job.{job_of, job_word}
 use Rattle.far_word.specs.Mark.{position}
 use Rattle.far_word.specs.Pointer.{read_of}
@@ -22,9 +23,10 @@ use Rattle.far_core.specs.events.Claim.{claimed}
 use Rattle.far_core.specs.events.Legal.{Legal}
 use Rattle.far_core.specs.events.Step.{after, answer, is_legal, step_of, data_word}
 use Rattle.far_core.specs.state.Jobs.{is_finished}
-use Rattle.far_core.specs.state.Law.{Law}
+use Rattle.far_core.specs.state.Law.{Law, is_dirty}
 use Rattle.far_core.specs.state.State.{State, addr, put}
 use Rattle.far_core.proofs.Calls.{word_behind}
+use Rattle.far_core.proofs.Cells.{map_mark}
 use Rattle.far_core.proofs.KeepJobs.{task_at}
 use Rattle.far_core.proofs.Marking as marking
 use Rattle.far_core.proofs.Marking.{read_mark}
@@ -39,7 +41,7 @@ use Rattle.far_hand.specs.FindsJob.{FindsJob}
 use Rattle.far_hand.specs.Makers.{is_others}
 use Rattle.far_hand.specs.MayBe.{job_itself}
 use Rattle.far_hand.specs.Others.{IsLoudAt, OthersChange}
-use Rattle.far_hand.specs.Quiet.{is_quiet}
+use Rattle.far_hand.specs.Quiet.{IsQuietNear, is_quiet}
 use Rattle.far_hand.proofs.Finding.{finds_is, finds_same, finds_mark, finds_dirty}
 use Rattle.far_hand.proofs.JobsFound.{finished_found, job_is, taken_found}
 
@@ -48,10 +50,22 @@ module _ (s t : State) (cells : t.cell ≡ s.cell) (words : t.word ≡ s.word) (
   stays : OthersChange s t
   stays = record {
     cells = λ p. finds_is (s.cell p) (t.cell p) (ap (λ f. f p) cells);
+    clean = λ p _. ap (λ (f : ℕ → ℕ). is_dirty (read_of (f p))) cells;
     words = λ a _. ap (λ f. f a) words;
     jobs = λ j. job_is (s.copying.word j) (t.copying.word j) (ap (λ f. f j) jobs);
     rest = rest;
   }
+
+-- an owner's mark leaves DIRTY as it was
+dirty_mark : (k : MarkKind) (o : Option PtrWord) → marking.is_owners k ≡ true → is_dirty (map_mark k o) ≡ is_dirty o
+dirty_mark k None h = refl
+dirty_mark k (Some Free) h = refl
+dirty_mark Hot (Some (Near len ds place m)) h = refl
+dirty_mark Evac (Some (Near len ds place m)) h = absurd (false≢true h)
+dirty_mark Moved (Some (Near len ds place m)) h = refl
+dirty_mark Dropped (Some (Near len ds place m)) h = refl
+dirty_mark Dirty (Some (Near len ds place m)) h = absurd (false≢true h)
+dirty_mark k (Some (Far len ds m)) h = refl
 
 -- the cell of a pointer that is used takes a mark more
 module _ (s t : State) (law : Law s) (p : ℕ) (k : MarkKind) (own : marking.is_owners k ≡ true) (used : s.used p ≡ true)
@@ -62,8 +76,13 @@ module _ (s t : State) (law : Law s) (p : ℕ) (k : MarkKind) (own : marking.is_
       (finds_mark k (s.cell p) (bit_or (s.cell p) (2 ^ position k)) own (read_mark k (s.cell p) own (law.cells.cell_read p).0 (law.views.used_cell p used)).0))
       (λ _. finds_same (s.cell q))
 
+  as_dirty : (q : ℕ) → is_dirty (read_of (put s.cell p (bit_or (s.cell p) (2 ^ position k)) q)) ≡ is_dirty (read_of (s.cell q))
+  as_dirty q = put_both (λ w. is_dirty (read_of w) ≡ is_dirty (read_of (s.cell q))) s.cell p (bit_or (s.cell p) (2 ^ position k)) q
+      (λ e. ap is_dirty (read_mark k (s.cell p) own (law.cells.cell_read p).0 (law.views.used_cell p used)).0 ∙ dirty_mark k (read_of (s.cell p)) own ∙ ap (λ x. is_dirty (read_of (s.cell x))) (sym e))
+      (λ _. refl)
+
   marks : OthersChange s t
-  marks = record { cells = λ q. subst (λ (f : ℕ → ℕ). Finds (s.cell q) (f q)) (sym cells) (marked q); words = λ a _. ap (λ f. f a) words; jobs = λ j. job_is (s.copying.word j) (t.copying.word j) (ap (λ f. f j) jobs); rest = rest }
+  marks = record { cells = λ q. subst (λ (f : ℕ → ℕ). Finds (s.cell q) (f q)) (sym cells) (marked q); clean = λ q _. ap (λ (f : ℕ → ℕ). is_dirty (read_of (f q))) cells ∙ as_dirty q; words = λ a _. ap (λ f. f a) words; jobs = λ j. job_is (s.copying.word j) (t.copying.word j) (ap (λ f. f j) jobs); rest = rest }
 
 -- what is held isn't quiet
 held_loud : (s : State) → Law s → (p len ds : ℕ) (place : Place) (m : Marks) → s.held p ≡ Some place → read_of (s.cell p) ≡ Some (Near len ds place m) →
@@ -90,6 +109,7 @@ module _ (s : State) (law : Law s) (m p i w : ℕ) (legal : Legal s (Store m p i
   stores : OthersChange s (after s (Store m p i w))
   stores = record {
     cells = λ q. finds_same (s.cell q);
+    clean = λ _ _. refl;
     words = λ a quiet. put_other s.word (data_word s p i) w a (λ e. quiet (subst (IsLoudAt s) (sym e) loud));
     jobs = λ j. job_itself (s.copying.word j);
     rest = refl;
@@ -102,11 +122,17 @@ requests Moved h = refl
 requests Dropped h = refl
 requests Dirty h = absurd (false≢true h)
 
+-- a quiet object isn't held
+unheld : (s : State) → Law s → (p : ℕ) → IsQuietNear s p → s.held p ≡ None
+unheld s law p q = quiet_unheld s law p (quiet_fact s p (ap (is_quiet_cell s p) q.near ∙ q.quiet))
+
 -- the cell of an object that is held gets DIRTY
 soils : (s : State) → Law s → (m p : ℕ) → Legal s (Soil m p) → OthersChange s (after s (Soil m p))
 soils s law m p legal = record {
   cells = λ q. put_both (λ w. Finds (s.cell q) w) s.cell p (soiled_word (s.cell p)) q
       (λ e. subst (λ v. Finds v (soiled_word (s.cell p))) (ap s.cell (sym e)) (finds_dirty (s.cell p) (soiled_word (s.cell p)) (reads s law p legal.1).0)) (λ _. finds_same (s.cell q));
+  clean = λ q quiet. put_both (λ w. is_dirty (read_of w) ≡ is_dirty (read_of (s.cell q))) s.cell p (soiled_word (s.cell p)) q
+      (λ e. absurd (false≢true (sym (ap is_some (unheld s law q quiet)) ∙ ap (λ x. is_some (s.held x)) e ∙ legal.1))) (λ _. refl);
   words = λ a _. refl;
   jobs = λ j. job_itself (s.copying.word j);
   rest = refl;
@@ -118,6 +144,7 @@ went_on : (s : State) (j w : ℕ) (task : ℕ → Option Task) (length : ℕ →
     OthersChange s record s { copying = record s.copying { word = put s.copying.word j w; task = task; length = length; read = read; written = written } }
 went_on s j w task length read written found = record {
   cells = λ p. finds_same (s.cell p);
+  clean = λ _ _. refl;
   words = λ a _. refl;
   jobs = λ i. put_both (λ x. FindsJob (s.copying.word i) x) s.copying.word j w i (λ e. subst (λ k. FindsJob (s.copying.word k) w) (sym e) found) (λ _. job_itself (s.copying.word i));
   rest = refl;
@@ -143,6 +170,7 @@ finishes s law c (t, has, all) =
 writes : (s : State) → Law s → (c i : ℕ) → Legal s (Write c i) → OthersChange s (after s (Write c i))
 writes s law c i (t, w, has, got) = rw (has, got) (record {
   cells = λ p. finds_same (s.cell p);
+  clean = λ _ _. refl;
   words = λ a quiet. put_other s.word (addr t.job.to + 1 + i) w a (λ e. quiet (inr (record {
     number = t.number;
     job = t.job;

@@ -12,14 +12,15 @@ use Rattle.far_core.specs.state.Law.{Law, head_len}
 use Rattle.far_core.specs.state.State.{State, addr}
 use Rattle.far_core.proofs.Owing.{is_fact, keeps}
 use Rattle.far_hand.specs.Beside.{beside}
+use Rattle.far_hand.specs.Finds.{marks_in}
 use Rattle.far_hand.specs.Makers.{is_others}
 use Rattle.far_hand.specs.Masked.{masked, AllFind, AllFindJobs, CountsOnRest}
 use Rattle.far_hand.specs.MayBe.{MayBeBeside, Shows, masked_shows}
 use Rattle.far_hand.specs.Others.{IsLoudAt, OthersChange}
-use Rattle.far_hand.specs.Quiet.{is_quiet}
-use Rattle.far_hand.proofs.Finding.{finds_more}
+use Rattle.far_hand.specs.Quiet.{IsQuietNear, is_quiet}
+use Rattle.far_hand.proofs.Finding.{finds_more, near_found}
 use Rattle.far_hand.proofs.JobsFound.{job_more, same_job}
-use Rattle.far_hand.proofs.Masking.{header_still, known_loud, same_finds, same_jobs, same_view}
+use Rattle.far_hand.proofs.Masking.{header_still, known_loud, quiet_found, same_finds, same_jobs, same_view}
 use Rattle.far_hand.proofs.OthersWork.{step_changes}
 
 -- two changes, one after the other
@@ -46,9 +47,23 @@ module _ (s t u : State) (law : Law s) (one : OthersChange s t) (two : OthersCha
         here = x.here;
       }
 
+  -- what was quiet is quiet still
+  quiet_then : (p : ℕ) → IsQuietNear s p → IsQuietNear t p
+  quiet_then p q =
+      let x = near_found (s.cell p) (t.cell p) (one.cells p) q.len q.ds q.place q.marks q.near in
+      let moved : q.marks.moved ≡ true → x.marks.moved ≡ true = (λ h. sym (ap (λ o. (marks_in o).moved) x.near) ∙ (one.cells p).moved (ap (λ o. (marks_in o).moved) q.near ∙ h)) in record {
+        len = q.len;
+        ds = q.ds;
+        place = q.place;
+        marks = x.marks;
+        near = x.near;
+        quiet = subst (λ (v : State). is_quiet v.round v.clear p q.place x.marks ≡ true) (sym one.rest) (quiet_found s.round s.clear p q.place q.marks x.marks (sym x.same) moved q.quiet);
+      }
+
   pub changes_join : OthersChange s u
   changes_join = record {
     cells = λ p. finds_more (s.cell p) (t.cell p) (u.cell p) (one.cells p) (two.cells p);
+    clean = λ p quiet. two.clean p (quiet_then p quiet) ∙ one.clean p quiet;
     words = λ a quiet. two.words a (λ x. quiet (loud_before a x)) ∙ one.words a quiet;
     jobs = λ j. job_more (s.copying.word j) (t.copying.word j) (u.copying.word j) (one.jobs j) (two.jobs j);
     rest = two.rest ∙ ap (λ (v : State). beside v u) one.rest;

@@ -81,7 +81,7 @@ job_itself w = record { body = refl; rises = le_refl (rank (job_of w)); taker = 
 pub beside_itself : (s : State) (found : ℕ → ℕ) (counted : ℕ → Bool) (jobs : ℕ → ℕ) → Law s → AllFind found s.cell → AllFindJobs jobs s.copying.word → MayBeBeside (masked s found counted jobs) s s
 beside_itself s found counted jobs law finds going = record {
   law = law;
-  change = record { cells = λ p. finds_itself (s.cell p); words = λ _ _. refl; jobs = λ j. job_itself (s.copying.word j); rest = refl };
+  change = record { cells = λ p. finds_itself (s.cell p); clean = λ _ _. refl; words = λ _ _. refl; jobs = λ j. job_itself (s.copying.word j); rest = refl };
   shown = masked_shows s found counted jobs finds going;
 }
 

@@ -10,12 +10,13 @@ use Rattle.far_word.specs.Sizes.{words_for}
 use Rattle.far_core.specs.declared.event.Event.{Event}
 use Rattle.far_core.specs.events.Step.{step_of}
 use Rattle.far_core.specs.state.Jobs.{is_finished, job_at, job_words}
+use Rattle.far_core.specs.state.Law.{is_dirty}
 use Rattle.far_core.specs.state.State.{State, addr}
 use Rattle.far_hand.specs.Beside.{IsBeside}
 use Rattle.far_hand.specs.Finds.{Finds}
 use Rattle.far_hand.specs.FindsJob.{FindsJob}
 use Rattle.far_hand.specs.Makers.{is_others}
-use Rattle.far_hand.specs.Quiet.{is_quiet}
+use Rattle.far_hand.specs.Quiet.{IsQuietNear, is_quiet}
 
 -- the state once others had the turn for the next event of a list: an owner's event or a copier's is made, if it is legal, any
 -- other passed over
@@ -49,10 +50,11 @@ pub record IsCopiersAt (s : State) (a : ℕ) : Type 0 where
 abbrev pub IsLoudAt : State → ℕ → Type 0
 IsLoudAt s a = IsOwnersAt s a ⊎ IsCopiersAt s a
 
--- owners add marks to cells, and store into objects that aren't quiet; copiers go on with jobs, and write to the targets of those that aren't finished; both
+-- owners add marks to cells, but DIRTY to none whose object is quiet, and store into objects that aren't; copiers go on with jobs, and write to the targets of those that aren't finished; both
 -- change what they alone have; all else stays
 pub record OthersChange (s t : State) : Type 0 where
   pub cells : (p : ℕ) → Finds (s.cell p) (t.cell p)
+  pub clean : (p : ℕ) → IsQuietNear s p → is_dirty (read_of (t.cell p)) ≡ is_dirty (read_of (s.cell p))
   pub words : (a : ℕ) → ¬ IsLoudAt s a → t.word a ≡ s.word a
   pub jobs : (j : ℕ) → FindsJob (s.copying.word j) (t.copying.word j)
   pub rest : IsBeside s t

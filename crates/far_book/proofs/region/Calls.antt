@@ -1,7 +1,8 @@
 -- What the book's calls are allowed, and what they leave, by a ledger that is right.
 use Rattle.std.proofs.Common.{◌≡◌, ◌≢◌, ℕ, ◌+◌, ◌*◌, ◌<◌, ◌≤◌, ◌^◌, Bool, true, false, cond, arith, sym, refl, ap, subst, ◌∙◌, Option, Some, None, inl, inr}
-use Rattle.std.specs.Prelude.{IsSome}
-use Rattle.std.proofs.lemmas.Bool.{cases_lt, false≢true}
+use Rattle.std.specs.Prelude.{◌==◌, ◌&&◌, not, IsSome}
+use Rattle.std.specs.Vec.{vec_len}
+use Rattle.std.proofs.lemmas.Bool.{cases_eq, cases_lt, eq-eqb, ne_eqb, false≢true}
 use mathlib.Core.Path.{fun_ext}
 use Rattle.far_word.specs.declared.mark.Marks.{Marks}
 use Rattle.far_word.specs.declared.pointer.Place.{Place}
@@ -30,12 +31,12 @@ use Rattle.far_core.proofs.Rows.{row_in, row_out}
 use Rattle.far_book.specs.declared.ledger.Ledger.{Ledger}
 use Rattle.far_hand.specs.Finds.{Finds, body_of, marks_in}
 use Rattle.far_book.specs.book.Effects.{retired, order_after, with_free_cell, with_blank_span, near_word}
-use Rattle.far_book.specs.book.Ledger.{Notes, IsLowestFree, MayTake, Takes}
+use Rattle.far_book.specs.book.Ledger.{Notes, IsLowestFree, MayTake, MayTakeAgain, Takes, TakesAgain, is_noted_free}
 use Rattle.far_book.specs.book.Own.{own_part}
 use Rattle.far_book.specs.book.Placeable.{Placeable}
 use Rattle.far_book.specs.book.Rows.{row_of}
 use Rattle.far_book.proofs.region.Founds.{drop_found}
-use Rattle.far_book.proofs.region.NotesKept.{order_short}
+use Rattle.far_book.proofs.region.NotesKept.{current_taken, order_short}
 use Rattle.far_book.proofs.region.Notings.{live_small}
 use Rattle.far_book.proofs.region.Owns.{own_bare, own_live, own_dead}
 use Rattle.far_book.proofs.region.Places.{at_end}
@@ -88,8 +89,34 @@ module _ {s : State} {ledger : Ledger} {p len ds : ℕ} {place : Place} (x : Has
     tail = omega (arith, x.notes.tails place.log is_room.next.0, ends, is_room.fits);
     live = live_small (own_part s) ledger place.log (x.notes, is_room.next.0);
     order = λ _. order_short (own_part s) ledger x.notes;
+    taken = current_taken (own_part s) ledger x.notes;
     cell = omega (arith, x.notes.cells, x.pointer);
   }
+
+  pub may_take_again : MayTakeAgain ledger (size_of len) place
+  may_take_again = record { few = may_take.few; log = may_take.log; tail = may_take.tail; live = may_take.live; order = may_take.order; taken = may_take.taken }
+
+  -- a pointer whose cell isn't free may be taken again
+  pub taken_again : (s.cell p == 0) ≡ false → (new : Ledger) → TakesAgain ledger new (size_of len) place → Takes ledger new p (size_of len) place
+  taken_again used new again = record {
+    current = again.current;
+    free = again.free;
+    order = again.order;
+    logs = again.logs;
+    here = again.here;
+    there = again.there;
+    cells = ap (λ (n : Ledger). vec_len n.free_cells) again.rest;
+    cell = λ q. ap (λ (n : Ledger). is_noted_free n q) again.rest ∙ still q;
+    jobs = ap (λ (n : Ledger). n.jobs) again.rest;
+  } where
+    here_used : is_noted_free ledger p ≡ false
+    here_used = x.notes.cell p x.pointer ∙ used
+
+    still : (q : ℕ) → is_noted_free ledger q ≡ (not (q == p) && is_noted_free ledger q)
+    still q = elim (cases_eq q p) [
+      | inl e ↦ ap (is_noted_free ledger) e ∙ here_used ∙ sym (ap (λ b. not b && is_noted_free ledger q) (eq-eqb q p e))
+      | inr ne ↦ sym (ap (λ b. not b && is_noted_free ledger q) (ne_eqb q p ne))
+    ]
 
   pub order_taken : (new : Ledger) → Takes ledger new p (size_of len) place → new.order ≡ order_after s ledger.order place
   order_taken new takes = takes.order ∙ ap (λ c. order_after (record s { current = c }) ledger.order place) x.notes.current

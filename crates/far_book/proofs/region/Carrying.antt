@@ -34,6 +34,7 @@ use Rattle.far_book.specs.book.Dealing.{FindsDrop, Leaves, MovedBy, has_evac}
 use Rattle.far_book.specs.book.Effects.{moved, near_word, order_after, stayed, with_free_cell, with_written_span}
 use Rattle.far_book.specs.book.FarSide.{InOrder, kept_len}
 use Rattle.far_book.specs.book.Ledger.{Notes, MayTakeAgain, MayRetire, TakesAgain, Loses, filled_of}
+use Rattle.far_book.specs.book.NumberSet.{has}
 use Rattle.far_book.specs.book.Moving.{MayCopy, MayStay}
 use Rattle.far_book.specs.book.Own.{own_part}
 use Rattle.far_book.specs.book.Placeable.{Placeable, with_object}
@@ -45,7 +46,7 @@ use Rattle.far_book.proofs.region.Founds.{near_used, notes_found, notes_seen}
 use Rattle.far_book.proofs.region.InOrders.{found_keeps, headers_keep}
 use Rattle.far_book.proofs.region.Leaving.{loses_live, loses_log, loses_size}
 use Rattle.far_book.proofs.region.Moved.{drop_of, evac_of, is_stayed, layout_here, moved_is, named_stays, no_copy}
-use Rattle.far_book.proofs.region.NotesKept.{notes_carried, order_short}
+use Rattle.far_book.proofs.region.NotesKept.{current_taken, notes_carried, order_short}
 use Rattle.far_book.proofs.region.Notings.{live_small}
 use Rattle.far_book.proofs.region.Owns.{own_bare, own_headers, own_written}
 use Rattle.far_book.proofs.region.Places.{at_end, law_then}
@@ -144,6 +145,7 @@ module _ {s : State} {ledger : Ledger} {held : ℕ → Option (List ℕ)} {is_ho
             tail = omega (arith, here.0, x.order.notes.tails to.log is_room.next.0, ends, is_room.fits);
             live = omega (arith, here.0, here.1, live_small (own_part s) ledger to.log (x.order.notes, is_room.next.0));
             order = λ _. subst (λ (n : Ledger). length n.order < MOST_LOGS) (sym loses.rest) (order_short (own_part s) ledger x.order.notes);
+            taken = subst (λ (n : Ledger). has n.free_logs n.current ≡ false) (sym loses.rest) (current_taken (own_part s) ledger x.order.notes);
           }
 
       module _ (after : Ledger) (fills : TakesAgain mid after (size_of len) to) where

@@ -63,6 +63,9 @@ only_zero w e = elim (cases_eq w 0) [ inl is ↦ is | inr ne ↦ absurd (not_fre
 pub near_used : (w len ds : ℕ) (place : Place) (m : Marks) → read_of w ≡ Some (Near len ds place m) → (w == 0) ≡ false
 near_used w len ds place m e = ne_eqb w 0 (λ z. let both : Some Free ≡ Some (Near len ds place m) = sym unused ∙ (ap read_of (sym z) ∙ e) in absurd cc)
 
+pub far_used : (w len ds : ℕ) (m : Marks) → read_of w ≡ Some (Far len ds m) → (w == 0) ≡ false
+far_used w len ds m e = ne_eqb w 0 (λ z. let both : Some Free ≡ Some (Far len ds m) = sym unused ∙ (ap read_of (sym z) ∙ e) in absurd cc)
+
 module _ (v w : ℕ) (f : Finds v w) where
   pub drop_found : is_dropped (read_of v) ≡ true → is_dropped (read_of w) ≡ true
   drop_found h = drop_mark (read_of w) ∙ f.dropped (sym (drop_mark (read_of v)) ∙ h)

@@ -39,6 +39,10 @@ use Rattle.far_book.proofs.region.Founds.{near_used}
 use Rattle.far_book.proofs.region.Places as places
 use Rattle.far_book.proofs.region.Retires as retires
 
+and_false : (b : Bool) → (b && false) ≡ false
+and_false true = refl
+and_false false = refl
+
 or_false : (b : Bool) → (b || false) ≡ b
 or_false true = refl
 or_false false = refl
@@ -66,6 +70,11 @@ module _ (s : State) (ledger : Ledger) (notes : Notes s ledger) where
     last : (l : ℕ) → l ≢ s.current → (list_any (eqb l) ledger.order || list_any (eqb l) (s.current ∷ [])) ≡ list_any (eqb l) ledger.order
     last l ne = ap (λ b. list_any (eqb l) ledger.order || (b || false)) (ne_eqb l s.current ne) ∙ or_false (list_any (eqb l) ledger.order)
 
+  -- the open log isn't free
+  pub current_taken : has ledger.free_logs ledger.current ≡ false
+  current_taken = ap (has ledger.free_logs) notes.current ∙ notes.free s.current (omega (arith, current_inside, notes.law.shape.few_logs))
+      ∙ ap (λ k. nat_lt s.current s.logs && is_free k) notes.law.logs.is_open ∙ and_false (nat_lt s.current s.logs)
+
   pub order_short : length ledger.order < MOST_LOGS
   order_short = omega (arith, length-le_from_distinct_below (ledger.order ++ s.current ∷ []) s.logs with_current all_inside, length_push ledger.order s.current, notes.law.shape.few_logs)
 
@@ -77,10 +86,6 @@ listed_inside s ledger notes gone listed is i lt stays =
     let there : list_any (eqb l) listed ≡ true = list_any_at (eqb l) listed i 0 lt (eq-eqb l l refl) in
     let kept : list_any (eqb l) (still_in gone listed) ≡ (true && list_any (eqb l) listed) = any-filter_same (eqb l) (λ k. not (has gone k)) true (λ k h. ap (λ x. not (has gone x)) (sym (eqb-true l k h)) ∙ ap not stays) listed in
     sealed_inside s ledger notes (s.kind l) l refl (sym (notes.sealed l) ∙ ap (list_any (eqb l)) (sym is) ∙ kept ∙ there)
-
-and_false : (b : Bool) → (b && false) ≡ false
-and_false true = refl
-and_false false = refl
 
 -- ---- a log is the open one
 module _ (s : State) (ledger : Ledger) (notes : Notes s ledger) (place : Place) (next : IsNext s place) where

@@ -45,7 +45,7 @@ use Rattle.far_book.proofs.region.Calls.{free_unplaced, put_put}
 use Rattle.far_book.proofs.region.Carrying.{LiesIn, dropped, may_leave, notes_dropped}
 use Rattle.far_book.proofs.region.JobNotes.{notes_wrote}
 use Rattle.far_book.proofs.region.JobSteps.{untaken_put}
-use Rattle.far_book.proofs.region.NotesKept.{free_then, once_then, order_short, sealed_then, tail_then}
+use Rattle.far_book.proofs.region.NotesKept.{current_taken, free_then, once_then, order_short, sealed_then, tail_then}
 use Rattle.far_book.proofs.region.Owns.{own_bare, own_forgets}
 use Rattle.far_book.proofs.region.Places as places
 use Rattle.far_book.proofs.region.Places.{law_then, next_unsealed}
@@ -246,6 +246,7 @@ module _ (s : State) (ledger : Ledger) (held : ℕ → Option (List ℕ)) (is_ho
     log = omega (arith, h.next.0, order.notes.logs);
     tail = omega (arith, order.notes.tails to.log h.next.0, at, h.layout);
     order = λ _. order_short o ledger order.notes;
+    taken = current_taken o ledger order.notes;
   }
 
   module _ (begun : Ledger) (b : Begins ledger begun (size_of len) to) (jobs : Jobs) (writes : WritesJob begun.jobs jobs j (Some record { job = job; good = true })) where

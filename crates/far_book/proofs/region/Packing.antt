@@ -1,29 +1,9 @@
--- Bytes are packed into words one by one: each is the word of the bytes' part, and has zeros after the last byte.
-use Rattle.std.proofs.Common.{◌≡◌, ℕ, zero, suc, ◌+◌, ◌-◌, ◌*◌, ◌<◌, ◌≤◌, ◌^◌, arith, sym, ◌∙◌, List, length, take, drop, get_or, inl, inr}
-use Rattle.std.specs.Prelude.{min}
-use Rattle.std.proofs.lemmas.Bool.{cases_lt}
-use Rattle.std.proofs.lemmas.List.{get_or-take, get_or-drop, get_or_past, length-take-le, length-drop}
+-- Words of bytes have zeros after the last byte.
+use Rattle.std.proofs.Common.{◌≡◌, ℕ, zero, suc, ◌+◌, ◌-◌, ◌*◌, ◌<◌, ◌≤◌, ◌^◌, arith, List, length, get_or}
+use Rattle.std.proofs.lemmas.List.{get_or_past}
 use lib.Pow.{pow_mono}
 use Rattle.far_word.specs.Bytes.{packed_word, word_at}
 use Rattle.far_word.specs.Sizes.{words_for}
-use Rattle.far_hand.proofs.ByteRows.{packs_part}
-
--- the same, as code slices them
-module _ (bs : List ℕ) (i m : ℕ) (inside : 8 * i < length bs) where
-  abbrev behind : List ℕ
-  behind = take (length bs - 8 * i) (drop (8 * i) bs)
-
-  pub rest_length : length behind ≡ length bs - 8 * i
-  rest_length = length-take-le (length bs - 8 * i) (drop (8 * i) bs) (omega (arith, length-drop (8 * i) bs))
-
-  pub part_length : m ≡ min (length behind) 8 → length (take m behind) ≡ m
-  part_length least = length-take-le m behind (omega (arith, least))
-
-  pub packs_slice : m ≡ min (length behind) 8 → packed_word (take m behind) 0 ≡ packed_word bs i
-  packs_slice least = packs_part bs (take m behind) i (λ k lt. elim (cases_lt k m) [
-    | inl below ↦ get_or-take m behind k 0 below ∙ get_or-take (length bs - 8 * i) (drop (8 * i) bs) k 0 (omega (arith, least, rest_length)) ∙ get_or-drop (8 * i) bs k 0
-    | inr past ↦ get_or_past (take m behind) k 0 (omega (arith, part_length least)) ∙ sym (get_or_past bs (8 * i + k) 0 (omega (arith, least, rest_length)))
-  ])
 
 -- a word of eight bytes is 64 bits wide
 word_wide : (byte : ℕ → ℕ) (i : ℕ) → ((k : ℕ) → byte k < 256) → word_at byte i < 2 ^ 64

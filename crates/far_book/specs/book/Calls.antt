@@ -149,6 +149,8 @@ module _ {N D : Type 0} (still : Type 0) (view : N → State) (makes : N → Eve
       pub refused : IfErr result (λ why. (why ≡ Memory) ⊎ (why ≡ Device))
       pub kept : IfErr result (λ _. IsSeen (view old.near) (view new.near) p)
       pub same : still → IfErr result (λ _. view new.near ≡ view old.near)
+      -- and it has DIRTY, as it was found last
+      pub owed : IfErr result (λ _. is_dirty (read_of ((view new.near).cell p)) ≡ true)
       -- what the device was asked; it forgets the bytes of what is retired
       pub called : AsksToEvict D writes lets_go (view old.near) p result old.device new.device
       pub unasked : still → result ≡ Ok true → is_dirty (read_of ((view old.near).cell p)) ≡ false → new.device ≡ old.device

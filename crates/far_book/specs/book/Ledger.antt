@@ -1,5 +1,5 @@
 -- What the book has written down of a state, and how that changes.
-use Rattle.std.specs.Prelude.{◌≡◌, ◌≢◌, ℕ, ◌+◌, ◌*◌, ◌/◌, ◌%◌, ◌<◌, ◌≤◌, ◌==◌, ◌&&◌, ◌||◌, Bool, true, not, eqb, nat_lt, Option, Some, None, [], ◌∷◌, ◌++◌, length, slice_index_or, if◌then◌else◌}
+use Rattle.std.specs.Prelude.{◌≡◌, ◌≢◌, ℕ, ◌+◌, ◌*◌, ◌/◌, ◌%◌, ◌<◌, ◌≤◌, ◌==◌, ◌&&◌, ◌||◌, Bool, true, false, not, eqb, nat_lt, Option, Some, None, [], ◌∷◌, ◌++◌, length, slice_index_or, if◌then◌else◌}
 use Rattle.std.specs.List.{IsDistinct, list_any}
 use Rattle.std.specs.Vec.{vec_len}
 use Rattle.far_word.specs.declared.pointer.Place.{Place}
@@ -56,13 +56,14 @@ IsLowestFree s m None = (p : ℕ) → p / CELLS ≡ m → s.cell p ≢ 0
 IsLowestFree s m (Some p) = (p / CELLS ≡ m) × (s.cell p ≡ 0) × ((q : ℕ) → q / CELLS ≡ m → q < p → s.cell q ≢ 0)
 
 -- ---- changes
--- a span may be written down as taken: there is its log, with room for it, and room for one sealed log more
+-- a span may be written down as taken: there is its log, with room for it, and room for one sealed log more; the open log isn't free
 pub record MayTake (ledger : Ledger) (p size : ℕ) (place : Place) : Type 0 where
   pub few : place.log < 64
   pub log : place.log < vec_len ledger.filled
   pub tail : (filled_of ledger place.log).tail + size ≤ LOG_WORDS
   pub live : (filled_of ledger place.log).live ≤ 8 * (filled_of ledger place.log).tail
   pub order : place.log ≢ ledger.current → length ledger.order < MOST_LOGS
+  pub taken : has ledger.free_logs ledger.current ≡ false
   pub cell : p / 64 < vec_len ledger.free_cells
 
 -- an object may be retired: its cell has DROP, and says this of it but for its owner's marks
@@ -98,6 +99,7 @@ pub record MayTakeAgain (ledger : Ledger) (size : ℕ) (place : Place) : Type 0 
   pub tail : (filled_of ledger place.log).tail + size ≤ LOG_WORDS
   pub live : (filled_of ledger place.log).live ≤ 8 * (filled_of ledger place.log).tail
   pub order : place.log ≢ ledger.current → length ledger.order < MOST_LOGS
+  pub taken : has ledger.free_logs ledger.current ≡ false
 
 -- a live span is taken: its log is the open one, ends later and has more live bytes; a log that was open is sealed, the youngest
 pub record TakesAgain (old new : Ledger) (size : ℕ) (place : Place) : Type 0 where
@@ -115,6 +117,7 @@ pub record MayBegin (ledger : Ledger) (size : ℕ) (place : Place) : Type 0 wher
   pub log : place.log < vec_len ledger.filled
   pub tail : (filled_of ledger place.log).tail + size ≤ LOG_WORDS
   pub order : place.log ≢ ledger.current → length ledger.order < MOST_LOGS
+  pub taken : has ledger.free_logs ledger.current ≡ false
 
 -- a dead span is taken: its log is the open one, and ends later; a log that was open is sealed, the youngest
 pub record Begins (old new : Ledger) (size : ℕ) (place : Place) : Type 0 where

@@ -25,7 +25,7 @@ use crate::book::renaming::rename;
 use crate::book::words::near_word;
 use far_device::{Device, DeviceFault};
 use far_hand::Near;
-use far_word::{HeadWord, Place, PtrWord, Refused, pack_bytes, size_of, words_for};
+use far_word::{HeadWord, Place, PtrWord, Refused, last_word, size_of, words_for};
 use std::mem;
 
 impl<N: Near + Drop, D: Device + Drop> Book<N, D> {
@@ -82,7 +82,7 @@ impl<N: Near + Drop, D: Device + Drop> Book<N, D> {
             return Ok(None);
         };
         self.buffer = bytes;
-        self.ledger.take(pointer, size, place);
+        self.ledger.take_again(size, place);
         Ok(Some(place))
     }
 }
@@ -139,19 +139,7 @@ fn put_object<N: Near>(near: &mut N, pointer: u16, len: u16, ds: u8, place: Plac
         near.put(
             place.log,
             place.at + 1 + whole,
-            packed(bytes, whole as usize),
+            last_word(bytes, whole as usize),
         );
     }
-}
-
-// The word of the eight bytes from 8i on, or of those that are left.
-#[inline]
-fn packed(bytes: &[u8], i: usize) -> u64
-    requires { 8 * i < length bytes.now }
-    ensures { result ≡ packed_word bytes.now i }
-{
-    let rest = &bytes[8 * i..];
-    let mut word = [0];
-    pack_bytes(&rest[..rest.len().min(8)], &mut word);
-    word[0]
 }

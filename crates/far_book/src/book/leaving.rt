@@ -31,9 +31,9 @@ use std::mem;
 
 impl<N: Near + Drop, D: Device + Drop> Book<N, D> {
     /// Sends a quiet near object with EVAC far: the device holds its bytes, its cell says far, without marks, and its span is
-    /// dead. Of one without DIRTY the device has held the bytes since: no word is read and it isn't asked, unless DIRTY is found at the
-    /// naming. `false` where its owner was found to have dropped it: it is retired then, and the device forgets its bytes.
-    /// Refused [`Refused::Memory`] or [`Refused::Device`] where the device is, and the object is as it was.
+    /// dead. Of one without DIRTY the device has held the bytes since, and isn't asked, unless DIRTY is found at the naming. `false`
+    /// where its owner was found to have dropped it: it is retired then, and the device forgets its bytes.
+    /// Refused [`Refused::Memory`] or [`Refused::Device`] where the device is: the object is as it was, and has DIRTY.
     #[inline(always)]
     pub fn evict(&mut self, pointer: u16) -> Result<bool, Refused>
         requires pointer { pointer < CELLS * (N.view self.old.near).mutators }

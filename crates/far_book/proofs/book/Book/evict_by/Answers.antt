@@ -16,6 +16,7 @@ use Rattle.far_core.specs.events.Copies.{data_at}
 use Rattle.far_core.specs.events.Naming.{is_dropped, no_marks}
 use Rattle.far_core.specs.state.Law.{is_dirty}
 use Rattle.far_core.specs.state.State.{State, addr}
+use Rattle.far_core.proofs.Put.{put_same}
 use Rattle.far_hand.specs.Finds.{Finds}
 use Rattle.far_hand.specs.Known.{IsKnown}
 use Rattle.far_hand.proofs.Closure.{then_came, came_only}
@@ -131,6 +132,7 @@ returns-in_default-leave_clean g c =
       refused = tt;
       kept = tt;
       same = λ _. tt;
+      owed = tt;
       called = inr (same, false_from_ne_true (is_dirty (read_of (s.cell p))) (λ e. false≢true (sym (left.far refl).0 ∙ up_by (read_of (s.cell p)) (read_of c.cell_of-found.result) found.found.body found.found.dirty e)));
       unasked = λ _ _ _. same;
       forgotten = λ _ e. absurd (not_false (Ok true) refl e);
@@ -165,6 +167,7 @@ returns-then-marks g c =
       refused = tt;
       kept = tt;
       same = λ _. tt;
+      owed = tt;
       called = inl (subst (λ (d : g.row.D.Denot). g.D.Device.lets_go d p c.retire.new.self.device) found.device z.called);
       unasked = λ _ e _. absurd (not_true (Ok false) refl e);
       forgotten = λ forgets _. z.gone forgets;
@@ -202,6 +205,7 @@ returns-then-is_dropped g c =
       refused = tt;
       kept = tt;
       same = λ _. tt;
+      owed = tt;
       called = inl (subst (λ (d : g.row.D.Denot). g.D.Device.lets_go d p c.retire-then-is_dropped.new.self.device) same z.called);
       unasked = λ _ e _. absurd (not_true (Ok false) refl e);
       forgotten = λ forgets _. z.gone forgets;
@@ -225,6 +229,7 @@ returns-in-Err g c =
     let found = c.cell_of-found.ensures in
     let sent = c.in-Err.ensures in
     let alive : is_dropped (read_of c.in-Some.word) ≡ false = search rules in
+    let dirty : is_dirty (read_of c.in-Some.word) ≡ true = elim c.in-Some.ensures.marked [ inl dropped ↦ absurd (false≢true (sym alive ∙ dropped)) | inr dirty ↦ dirty ] in
     let before = was_alive s t u p c.in-Some.word (seen_is g some) c.send.ensures.kept x.len x.ds x.place n.marks (finds g some) n.near (sym (ap is_dropped n.near) ∙ alive) in
     let back : g.N.Near.still → u ≡ s = λ still. c.send.ensures.exact still ∙ seen_is g some ∙ same_seen s p c.in-Some.word 0 (won g some still) in
     let same : c.leave_clean.new.self.device ≡ c.args.self.now.device = c.leave_clean.ensures.device ∙ found.device in
@@ -246,6 +251,7 @@ returns-in-Err g c =
         keeps = keeps_read s t u p c.in-Some.word (seen_is g some) c.send.ensures.kept;
       };
       same = back;
+      owed = ap (λ (x : State). is_dirty (read_of (x.cell p))) (read_is s t u p c.in-Some.word (seen_is g some) c.send.ensures.kept) ∙ ap (λ w. is_dirty (read_of w)) (put_same s.cell p c.in-Some.word p refl) ∙ dirty;
       called = (bytes, own g h.After-send, subst (λ (d : g.row.D.Denot). g.D.Device.writes d p bytes (Err (fault_of c.in-Err.why)) c.send.new.self.device) same sent.called);
       unasked = λ _ e _. absurd (not_done (Err c.in-Err.why) true refl e);
       forgotten = λ _ e. absurd (not_done (Err c.in-Err.why) false refl e);
@@ -290,6 +296,7 @@ returns-in-Ok g c =
       refused = tt;
       kept = tt;
       same = λ _. tt;
+      owed = tt;
       called = inl (bytes, own g h.After-send, subst (λ (d : g.row.D.Denot). g.D.Device.writes c.args.self.now.device p bytes (Ok tt) d) (sym c.name_far.ensures.device) written);
       unasked = λ still _ clean. absurd (false≢true (sym clean ∙ (ap (λ w. is_dirty (read_of w)) (sym (won g some still)) ∙ dirty)));
       forgotten = λ _ e. absurd (not_false (Ok true) refl e);
@@ -333,6 +340,7 @@ returns-in-Err-name_far g c =
       refused = tt;
       kept = tt;
       same = λ _. tt;
+      owed = tt;
       called = inr (
         c.send.new.self.device,
         (bytes, own g h.After-send, written),

@@ -21,13 +21,14 @@ use Rattle.far_book.specs.book.BookOf.{BookOf}
 use Rattle.far_book.specs.book.Effects.{retired}
 use Rattle.far_book.specs.book.FarSide.{InOrder}
 use Rattle.far_book.specs.book.Fetching.{far_len}
-use Rattle.far_book.specs.book.Ledger.{MayTake, Takes}
+use Rattle.far_book.specs.book.Ledger.{MayTakeAgain, TakesAgain}
 use Rattle.far_book.specs.book.Own.{own_part}
 use Rattle.far_hand.proofs.Finding.{finds_more}
 use Rattle.far_hand.proofs.Closure.{then_came}
-use Rattle.far_book.proofs.region.Calls.{ends, may_take, placeable}
+use Rattle.far_book.proofs.region.Calls.{ends, may_take_again, placeable, taken_again}
 use Rattle.far_book.proofs.region.Dropping.{retired_by}
 use Rattle.far_book.proofs.region.Fetched.{come_in_order}
+use Rattle.far_book.proofs.region.Founds.{far_used}
 use Rattle.far_book.proofs.region.Fetching.{FarFound, RoomTold, as_long, as_stored, has_given, has_room, holds_all, is_fetched, is_held, is_seen, layout, left_here, left_written, now, order_written, pointer, room_was, some_room, unasked, unread_written, was_alive, was_long, words_same}
 use Rattle.far_book.proofs.region.Handed.{since_book}
 
@@ -100,9 +101,9 @@ pub come_near-requires-clause-stored : goal.come_near-requires-clause-stored
 come_near-requires-clause-stored g c promised i lt =
     ap (λ b. packed_word b i) c.as_slice.ensures.value ∙ as_stored (told g (goal.at.come_near-requires-clause-stored g c).After-room) c.read_into.new.buffer.items (c.in-Ok.ensures.given (c.self.invariant.0.honest promised)) promised i lt
 
-pub take-requires : goal.take-requires
-take-requires g c =
-    subst (λ n. MayTake c.self.inside.ledger c.args.pointer n c.in-Some.place) (sym c.size_of-size.ensures) (may_take (has_room (told g (goal.at.take-requires g c).After-room) c.in-Some.place c.in-Some.is))
+pub take_again-requires : goal.take_again-requires
+take_again-requires g c =
+    subst (λ n. MayTakeAgain c.self.inside.ledger n c.in-Some.place) (sym c.size_of-size.ensures) (may_take_again (has_room (told g (goal.at.take_again-requires g c).After-room) c.in-Some.place c.in-Some.is))
 
 pub invariant_of-self : goal.invariant_of-self
 invariant_of-self g c = (
@@ -136,10 +137,11 @@ invariant_of-self-in_default-come_near g c =
 pub invariant_of-self-2 : goal.invariant_of-self-2
 invariant_of-self-2 g c =
     let h = told g (goal.at.invariant_of-self-2 g c).After-room in
-    let able = placeable (has_room h c.in-Some.place c.in-Some.is) in (
-      subst (λ e. InOrder (g.N.Near.view c.come_near.new.near) c.take.new.self (g.D.Device.contents c.read_into.new.self) e) (sym (g.met.D.Device.read_follows _ _ _ _ c.read_into.ensures.called).honest)
+    let able = placeable (has_room h c.in-Some.place c.in-Some.is) in
+    let again = taken_again (has_room h c.in-Some.place c.in-Some.is) (far_used ((g.N.Near.view c.self.inside.near).cell c.args.pointer) c.in-Far.len c.in-Far.ds c.in-Far.marks (now h.found)) in (
+      subst (λ e. InOrder (g.N.Near.view c.come_near.new.near) c.take_again.new.self (g.D.Device.contents c.read_into.new.self) e) (sym (g.met.D.Device.read_follows _ _ _ _ c.read_into.ensures.called).honest)
           (come_in_order (g.N.Near.view c.self.inside.near) (g.N.Near.view c.come_near.new.near) c.args.pointer c.in-Far.len c.in-Far.ds c.in-Some.place (packed_word c.as_slice.result.now) c.in-Far.marks (now h.found) c.if-marks.false able.layout c.in-Ok-come_near.ensures.done
-          c.self.inside.ledger c.take.new.self _ _ _ c.self.invariant.0 able (subst (λ n. Takes c.self.inside.ledger c.take.new.self c.args.pointer n c.in-Some.place) c.size_of-size.ensures c.take.ensures) (λ q. ap (λ (h : ℕ → Option (List ℕ)). h q) c.read_into.ensures.kept)),
+          c.self.inside.ledger c.take_again.new.self _ _ _ c.self.invariant.0 able (again c.take_again.new.self (subst (λ n. TakesAgain c.self.inside.ledger c.take_again.new.self n c.in-Some.place) c.size_of-size.ensures c.take_again.ensures)) (λ q. ap (λ (h : ℕ → Option (List ℕ)). h q) c.read_into.ensures.kept)),
       enough c.self.inside.buffer c.replace-bytes.result c.read_into.new.buffer c.replace-bytes.ensures.value c.self.invariant.1 c.read_into.ensures.room,
     )
 

@@ -30,7 +30,7 @@ put-requires-then-whole-words_for g c =
     let more = writes_rest g.N.Near.still g.N.Near.view g.N.Near.makes place.log (place.at + 1) (packed_word c.args.bytes.now) 0 (c.args.len / 8) c.put.new.self c.put_words.new.self c.put_words.ensures in
     let is = words_again s t u (word_rest s t (addr place) c.pack.result c.put.ensures.set) more in
     record {
-      legal = may_put s u is place.log (place.at + 1) (words_for c.args.len) (c.args.len / 8) c.packed.result
+      legal = may_put s u is place.log (place.at + 1) (words_for c.args.len) (c.args.len / 8) c.last_word.result
           (c.requires.next.0, next_unsealed s place c.requires.next, omega (arith, c.requires.tail), omega (arith, c.requires.layout.4)) (omega (arith, c.words_for.ensures, c.if-whole-words_for.true));
     }
 
@@ -43,8 +43,8 @@ returns-then-whole-words_for-clause-set g c =
     let place = c.args.place in
     let row = packed_word c.args.bytes.now in
     let all : n + 1 ≡ words_for c.args.len = omega (arith, c.words_for.ensures, c.if-whole-words_for.true) in
-    let last = word_then t (g.N.Near.view c.put_words.new.self) u place.log (place.at + 1) n (place.log * LOG_WORDS + (place.at + 1 + n)) c.packed.result row
-    (whole g (goal.at.returns-then-whole-words_for-clause-set g c).After-put_words) (omega arith) c.packed.ensures c.put-then-whole-words_for.ensures.set in
+    let last = word_then t (g.N.Near.view c.put_words.new.self) u place.log (place.at + 1) n (place.log * LOG_WORDS + (place.at + 1 + n)) c.last_word.result row
+    (whole g (goal.at.returns-then-whole-words_for-clause-set g c).After-put_words) (omega arith) c.last_word.ensures c.put-then-whole-words_for.ensures.set in
     span_set s t u c.args.pointer c.args.len c.args.ds c.pack.result (n + 1) place row c.put.ensures.set c.pack.ensures all last
 
 pub returns-then-whole-words_for-clause-puts : goal.returns-then-whole-words_for-clause-puts
