@@ -22,7 +22,7 @@ use Rattle.far_core.specs.events.Legal.{Legal}
 use Rattle.far_core.specs.events.Naming.{is_dropped}
 use Rattle.far_core.specs.events.Quiet.{has_move}
 use Rattle.far_core.specs.events.Step.{after}
-use Rattle.far_core.specs.state.Law.{in_use}
+use Rattle.far_core.specs.state.Law.{in_use, is_dirty}
 use Rattle.far_core.specs.state.State.{State, put}
 use Rattle.far_core.specs.world.World.{World}
 use Rattle.far_core.specs.world.WorldOf.{world_of}
@@ -34,9 +34,9 @@ use Rattle.far_table.specs.View.{BookView, ObjectView, OwnerView, View, Owner, O
 use Rattle.far_table.specs.Layout.{cell_at, cell_in}
 use Rattle.far_table.specs.Plays.{Asked}
 use Rattle.far_table.specs.Rule.{Facts, Running}
-use Rattle.far_table.specs.StateOf.{cooled_at, retired_at, state_of, taken_at}
+use Rattle.far_table.specs.StateOf.{cleaned_at, cooled_at, retired_at, state_of, taken_at}
 use Rattle.far_table.specs.Tells.{Tells, owner_of}
-use Rattle.far_table.specs.Views.{asked_at, asked_view, dropped_at, drops, has_hot, held_at, hots, moves, object_at, uses, soiled_at}
+use Rattle.far_table.specs.Views.{asked_at, asked_view, dirts, dropped_at, drops, has_hot, held_at, hots, moves, object_at, uses, soiled_at}
 use Rattle.far_table.proofs.Lift.{owner_makes}
 use Rattle.far_table.proofs.Owners.{known_by, pointers_put, pointers_same, remembered_same}
 use Rattle.far_table.proofs.OwnSteps.{OwnStep, has_on, is_mutator, state_is}
@@ -77,6 +77,18 @@ dropped_hots None = refl
 dropped_hots (Some Free) = refl
 dropped_hots (Some (Near len ds place m)) = refl
 dropped_hots (Some (Far len ds m)) = refl
+
+moved_dirts : (x : Option PtrWord) → is_dirty (map_mark Moved x) ≡ is_dirty x
+moved_dirts None = refl
+moved_dirts (Some Free) = refl
+moved_dirts (Some (Near len ds place m)) = refl
+moved_dirts (Some (Far len ds m)) = refl
+
+dropped_dirts : (x : Option PtrWord) → is_dirty (map_mark Dropped x) ≡ is_dirty x
+dropped_dirts None = refl
+dropped_dirts (Some Free) = refl
+dropped_dirts (Some (Near len ds place m)) = refl
+dropped_dirts (Some (Far len ds m)) = refl
 
 -- what is in use hasn't DROP, until it gets it
 by_not : (t : Bool) → not t ≡ true → t ≡ false
@@ -127,6 +139,15 @@ module _ (ws : List ℕ) (b : BookView) (os : OtherViews) (f : Facts ws b os) (o
   drop_hots q = put_both (λ v. hots v ≡ hots (s.cell q)) s.cell p (bit_or c (2 ^ position Dropped)) q
       (λ e. ap (λ t. cond t 1 0) (ap has_hot drop_read ∙ dropped_hots (read_of c)) ∙ ap (λ z. hots (s.cell z)) (sym e)) (λ _. refl)
 
+  -- and so does DIRTY
+  move_dirts : (q : ℕ) → dirts (put s.cell p (bit_or c (2 ^ position Moved)) q) ≡ dirts (s.cell q)
+  move_dirts q = put_both (λ v. dirts v ≡ dirts (s.cell q)) s.cell p (bit_or c (2 ^ position Moved)) q
+      (λ e. ap (λ t. cond t 1 0) (ap is_dirty move_read ∙ moved_dirts (read_of c)) ∙ ap (λ z. dirts (s.cell z)) (sym e)) (λ _. refl)
+
+  drop_dirts : (q : ℕ) → dirts (put s.cell p (bit_or c (2 ^ position Dropped)) q) ≡ dirts (s.cell q)
+  drop_dirts q = put_both (λ v. dirts v ≡ dirts (s.cell q)) s.cell p (bit_or c (2 ^ position Dropped)) q
+      (λ e. ap (λ t. cond t 1 0) (ap is_dirty drop_read ∙ dropped_dirts (read_of c)) ∙ ap (λ z. dirts (s.cell z)) (sym e)) (λ _. refl)
+
   move_step : OwnStep ws b os o (Ask m p Moved) (Word c) (set ws (cell_at p) (bit_or c (2 ^ position Moved))) (asked_view p Moved c o)
   move_step =
       let w : OwnerView = asked_view p Moved c o in
@@ -152,6 +173,7 @@ module _ (ws : List ℕ) (b : BookView) (os : OtherViews) (f : Facts ws b os) (o
           drops = λ q mine. ties.drops q mine ∙ ap (λ v. retired_at b q + v) (sym (put_both (λ v. drops v ≡ drops (s.cell q)) s.cell p new q
               (λ e. ap (λ t. cond t 1 0) (ap is_dropped move_read ∙ moved_drops (read_of c)) ∙ ap (λ z. drops (s.cell z)) (sym e)) (λ _. refl)));
           hots = λ q mine. ties.hots q mine ∙ ap (λ v. cooled_at b q + v) (sym (move_hots q));
+          soils = λ q mine. ties.soils q mine ∙ ap (λ v. cleaned_at b q + v) (sym (move_dirts q));
           warm = λ q mine pinned. let x = ties.warm q mine pinned in (x.0, move_hots q ∙ x.1);
         };
       }
@@ -188,6 +210,7 @@ module _ (ws : List ℕ) (b : BookView) (os : OtherViews) (f : Facts ws b os) (o
               sum ∙ (ap (λ z. retired_at b z + drops new) (sym e) ∙ ap (λ v. retired_at b q + drops v) (sym (put_same s.cell p new q e)))))
               (λ ne. put_other (dropped_at o) p n q ne ∙ (ties.drops q mine ∙ ap (λ v. retired_at b q + drops v) (sym (put_other s.cell p new q ne))));
           hots = λ q mine. ties.hots q mine ∙ ap (λ v. cooled_at b q + v) (sym (drop_hots q));
+          soils = λ q mine. ties.soils q mine ∙ ap (λ v. cleaned_at b q + v) (sym (drop_dirts q));
           warm = λ q mine pinned. let x = ties.warm q mine pinned in (x.0, drop_hots q ∙ x.1);
         };
       }

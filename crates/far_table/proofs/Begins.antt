@@ -1,5 +1,5 @@
 -- The rule holds at the start: for the words and the views of any core.
-use Rattle.std.proofs.Common.{◌≡◌, ◌≢◌, ◌*◌, ◌/◌, ◌%◌, ◌<◌, ◌≤◌, ◌^◌, ℕ, Bool, true, false, cond, nat_lt, List, [], sym, refl, ap, ◌∙◌, subst, arith, inl, inr, Option, Some, None}
+use Rattle.std.proofs.Common.{◌≡◌, ◌≢◌, ◌+◌, ◌*◌, ◌/◌, ◌%◌, ◌<◌, ◌≤◌, ◌^◌, ℕ, Bool, true, false, cond, nat_lt, List, [], sym, refl, ap, ◌∙◌, subst, arith, inl, inr, Option, Some, None}
 use Rattle.std.specs.Prelude.{is_some, slice_index, ◌||◌, ◌&&◌, ◌==◌}
 use Rattle.std.proofs.lemmas.Bool.{cases_lt, false≢true, le-ltb, lt-ltb}
 use Rattle.std.proofs.lemmas.List.{get_or_past}
@@ -13,7 +13,7 @@ use Rattle.far_word.specs.Pointer.{read_of}
 use Rattle.far_core.specs.declared.event.Kind.TheVariants as kinds
 use Rattle.far_core.specs.events.Advance.{is_among}
 use Rattle.far_core.specs.laws.Ends.{HasNothingPast}
-use Rattle.far_core.specs.state.Law.{BlankLaw, CleanLaw, Law}
+use Rattle.far_core.specs.state.Law.{BlankLaw, CleanLaw, Law, is_dirty}
 use Rattle.far_core.specs.state.State.{State}
 use Rattle.far_core.proofs.Cells.{unused}
 use Rattle.far_core.proofs.Steps.{agrees}
@@ -28,10 +28,10 @@ use Rattle.far_table.specs.First.{IsTableOf, first_book, first_copier, first_oth
 use Rattle.far_table.specs.Layout.{cell_at, cell_in, data_at, job_at, job_in, scope_at, scope_in, word_in}
 use Rattle.far_table.specs.Rows.{over}
 use Rattle.far_table.specs.Rule.{BookTies, Facts, OwnerTies, Running}
-use Rattle.far_table.specs.StateOf.{book_state, head_at, held_by, known_word, remembered_by, soiled_by, state_of, stored_word, used_by}
+use Rattle.far_table.specs.StateOf.{book_state, head_at, held_by, known_word, remembered_by, soiled_by, stained_at, state_of, stored_word, used_by}
 use Rattle.far_table.specs.CopierViews.{words_read, words_written}
 use Rattle.far_table.specs.Stands.{SaysCopier}
-use Rattle.far_table.specs.Views.{held_at, soiled_at, uses}
+use Rattle.far_table.specs.Views.{dirts, held_at, soiled_at, uses}
 use Rattle.far_table.proofs.FirstViews.{copier_stands, copiers_first, eight_copiers, first_asked, first_dropped, first_has, first_heated, first_held, first_scope, first_soiled, first_uses, many_owners, over_all, over_beside, over_within, owner_here, owner_past, owner_stands, pointers_first}
 
 -- a part of the words makes a function, if past its end that is 0
@@ -61,7 +61,7 @@ other_rest ws b os rest f = record {
   law = f.law;
   agrees = f.agrees;
   book = record { shown = f.book.shown; rests = f.book.rests };
-  owners = λ m o at. let ties = f.owners m o at in record { number = ties.number; honest = ties.honest; logs = ties.logs; scope = ties.scope; objects = ties.objects; asks = ties.asks; drops = ties.drops; hots = ties.hots; warm = ties.warm };
+  owners = λ m o at. let ties = f.owners m o at in record { number = ties.number; honest = ties.honest; logs = ties.logs; scope = ties.scope; objects = ties.objects; asks = ties.asks; drops = ties.drops; hots = ties.hots; soils = ties.soils; warm = ties.warm };
   copiers = f.copiers;
   copier_logs = f.copier_logs;
   many = f.many;
@@ -148,6 +148,9 @@ module _ (s : State) (honest : Bool) (law : Law s) (past : HasNothingPast s) whe
 
   cells_first : over b.cells (λ _. 0) ≡ s.cell
   cells_first = over_all s.cell (λ _. 0) POINTERS (λ p le. past.cells p (omega (arith, law.shape.few_mutators)))
+
+  stained_first : stained_at b ≡ (λ p. dirts (s.cell p))
+  stained_first = over_all (λ p. dirts (s.cell p)) (λ _. 0) POINTERS (λ p le. ap dirts (past.cells p (omega (arith, law.shape.few_mutators))) ∙ ap (λ x. cond (is_dirty x) 1 0) unused)
 
   -- ---- the book's view is the core's state, of whose words it knows the headers alone
   pub first_book_state : book_state b ≡ masked s' s.cell (λ _. false) s.copying.word
@@ -251,7 +254,7 @@ module _ (s : State) (honest : Bool) (law : Law s) (past : HasNothingPast s) whe
     pub first_book_ties : BookTies b s'
     first_book_ties = record { shown = first_shows; rests = subst (λ (o : State). (a : ℕ) → IsKnown (o.word a) → o.starts a ≡ false → RestsAt o a) (sym first_book_state) rests_first }
 
-    -- MOVE, DROP and HOT count as set once where they stand, and as never taken away
+    -- MOVE, DROP and HOT count as set once where they stand, and as never taken away; DIRTY as left once by a naming
     pub first_owner_ties : (m : ℕ) → OwnerTies b s' m (first_owner s honest m)
     first_owner_ties m = record {
       number = refl;
@@ -262,6 +265,7 @@ module _ (s : State) (honest : Bool) (law : Law s) (past : HasNothingPast s) whe
       asks = λ p own. first_asked s honest m p own ∙ omega arith;
       drops = λ p own. first_dropped s honest m p own ∙ omega arith;
       hots = λ p own. first_heated s honest m p own ∙ omega arith;
+      soils = λ p own. ap (λ (f : ℕ → ℕ). 0 + f p) stained_first;
       warm = λ p own pinned. absurd (false≢true pinned);
     }
 

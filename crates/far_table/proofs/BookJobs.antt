@@ -91,7 +91,7 @@ module _ (ws : List ℕ) (b : BookView) (os : OtherViews) (f : Facts ws b os) (p
     says = refl;
     becomes = reads f s (saw_job_view j n b) os refl refl;
     book = λ law. ties ws (saw_job_view j n b) os law (counts b) (words_are ws b os f plain) (finds ws b os f) (rests ws b os f) (epoch_is ws b os f) (jobs_put o.copying.word (job_in ws) j n (going ws b os f) refl);
-    leaves = cells_stay refl refl refl (λ _ _. (refl, refl, refl));
+    leaves = cells_stay refl refl refl (λ _ _. (refl, refl, refl, refl, refl));
   }
 
   -- the book leaves x in it; of all that its view has, what is read of cells, the epoch and the counts of marks stay
@@ -100,7 +100,7 @@ module _ (ws : List ℕ) (b : BookView) (os : OtherViews) (f : Facts ws b os) (p
       CountsOnRest (book_state b') (over b'.cells (λ _. 0)) counted → over b'.cells (λ _. 0) ≡ o.cell → over b'.jobs (λ _. 0) ≡ put o.copying.word j x → b'.epoch ≡ b.epoch → counts_of b' ≡ counts_of b → CountsNone e Done →
       BookStep ws b os e Done (set ws (job_at j) x) b'
   job_set e b' x counted low legal says is words rest cells jobs epoch marks left = let later : List ℕ = set ws (job_at j) x in let are = job_word_set b.logs ws f.wide j x low in
-      let sized = subst (λ n. WordsAre n later (epoch_in ws) (scope_in ws) (cell_in ws) (word_in ws) (put (job_in ws) j x)) (sym (ap (λ (z : Counted). z.6) marks)) are in record {
+      let sized = subst (λ n. WordsAre n later (epoch_in ws) (scope_in ws) (cell_in ws) (word_in ws) (put (job_in ws) j x)) (sym (ap (λ (z : Counted). z.8) marks)) are in record {
         legal = legal;
         says = says;
         becomes = led_by is (state_is later b' os sized refl refl refl refl);
@@ -113,7 +113,7 @@ module _ (ws : List ℕ) (b : BookView) (os : OtherViews) (f : Facts ws b os) (p
   -- ---- one is emptied
   module _ (old : ℕ) (h : Legal o (Collect j old)) where
     won_step : n ≡ old → BookStep ws b os (Collect j old) Done (set ws (job_at j) 0) (saw_job_view j 0 b)
-    won_step won = job_set (Collect j old) (saw_job_view j 0 b) 0 (counts b) h.0 h (won_says n old won) (collect_empties s j old won) (words_are ws b os f plain) (rests ws b os f) refl refl refl refl (λ _ _. (refl, refl, refl))
+    won_step won = job_set (Collect j old) (saw_job_view j 0 b) 0 (counts b) h.0 h (won_says n old won) (collect_empties s j old won) (words_are ws b os f plain) (rests ws b os f) refl refl refl refl (λ _ _. (refl, refl, refl, refl, refl))
 
     lost_step : n ≢ old → BookStep ws b os (Collect j old) (Word n) ws (saw_job_view j n b)
     lost_step lost = record {
@@ -121,7 +121,7 @@ module _ (ws : List ℕ) (b : BookView) (os : OtherViews) (f : Facts ws b os) (p
       says = lost_says n old lost;
       becomes = reads f (after s (Collect j old)) (saw_job_view j n b) os (collect_stays s j old lost) refl;
       book = (see_job_step h.0).book;
-      leaves = cells_stay refl refl refl (λ _ _. (refl, refl, refl));
+      leaves = cells_stay refl refl refl (λ _ _. (refl, refl, refl, refl, refl));
     }
 
     pub collect_step : BookStep ws b os (Collect j old) (exchange_reply old n) (set ws (job_at j) (either (n == old) 0 n)) (collected_view j old n b)
@@ -144,7 +144,7 @@ module _ (ws : List ℕ) (b : BookView) (os : OtherViews) (f : Facts ws b os) (p
     pub offer_step : BookStep ws b os (Offer j job.pointer job.to) Done (set ws (job_at j) (job_word (Offered job))) (next b j job h lies)
     offer_step = let b' : BookView = next b j job h lies in job_set (Offer j job.pointer job.to) b' (job_word (Offered job)) (λ _. false) h.0 legal refl
         (ap (after_offer s j job.pointer job.to) cell.near ∙ (λ i. record (offered s j h.3.0 job) { starts = sym (begins_put (head_at b) (addr job.to) (head_word job.pointer h.3.0 h.3.1)) i }))
-        (heads_words b' s.word (span_heads b job.pointer s.word (known_heads ws b os f) h.3.0 h.3.1 job.to head)) (counts_none (book_state b') o.cell) refl refl refl refl (λ _ _. (refl, refl, refl))
+        (heads_words b' s.word (span_heads b job.pointer s.word (known_heads ws b os f) h.3.0 h.3.1 job.to head)) (counts_none (book_state b') o.cell) refl refl refl refl (λ _ _. (refl, refl, refl, refl, refl))
 
 -- ---- what a step on the table asks
 module _ {S : Type 0} (slots id : ℕ) (me : Me S View) (is : me.0 ≡ Book (book_of me.0)) (plain : IsPlain (book_of me.0)) (j : ℕ) where

@@ -19,6 +19,7 @@ use Rattle.far_core.specs.events.Look.{shows_clear}
 use Rattle.far_core.specs.events.Naming.{is_dropped}
 use Rattle.far_core.specs.events.Quiet.{has_move}
 use Rattle.far_core.specs.events.Step.{after}
+use Rattle.far_core.specs.state.Law.{is_dirty}
 use Rattle.far_core.specs.state.State.{State}
 use Rattle.far_hand.specs.Cleared.{cleared}
 use Rattle.far_hand.specs.Known.{Forgets, unknown}
@@ -37,8 +38,8 @@ use Rattle.far_table.specs.Rows.{over}
 use Rattle.far_table.specs.Rule.{Facts, Running}
 use Rattle.far_table.specs.Stands.{IsPlain, book_of}
 use Rattle.far_table.specs.StateOf.{book_state, head_at, head_or, known_word, state_of}
-use Rattle.far_table.specs.Views.{drops, has_hot, hots, moves}
-use Rattle.far_table.proofs.BookFrames.{BookStep, cells_stay, marks_stay}
+use Rattle.far_table.specs.Views.{has_hot}
+use Rattle.far_table.proofs.BookFrames.{BookStep, MarksAs, cells_stay, marks_stay}
 use Rattle.far_table.proofs.BookKnown.{forgets, forgotten, head_same}
 use Rattle.far_table.proofs.BookLift.{book_makes, book_reads}
 use Rattle.far_table.proofs.BookSees.{cell_after, cells_few, epoch_after, finds_after, found_at, marks_as, going_after}
@@ -81,7 +82,7 @@ module _ (ws : List ℕ) (b : BookView) (os : OtherViews) (f : Facts ws b os) wh
     becomes = reads f (after s (Look m)) (looked_view m (scope_in ws m) b) os refl refl;
     book = λ law. ties ws (looked_view m (scope_in ws m) b) os law (counts b) (words_are ws b os f plain) (finds ws b os f)
         (counts_looked s o.cell (counts b) m (shows_clear b.epoch (scope_of (scope_in ws m))) (rests ws b os f)) (epoch_is ws b os f) (going ws b os f);
-    leaves = cells_stay refl refl refl (λ _ _. (refl, refl, refl));
+    leaves = cells_stay refl refl refl (λ _ _. (refl, refl, refl, refl, refl));
   }
 
   look_scope : (m : ℕ) → IsScopeAt b.epoch (scope_in ws m)
@@ -100,13 +101,14 @@ module _ (ws : List ℕ) (b : BookView) (os : OtherViews) (f : Facts ws b os) wh
     few : p < POINTERS
     few = cells_few ws b os f p h.0
 
-    same_marks : (moves w ≡ moves n) × (drops w ≡ drops n) × (hots w ≡ hots n)
+    same_marks : MarksAs w n
     same_marks =
         let near = clear_legal.1 in
         let read = without_evac_read n (Near near.0 near.1 near.2 near.3) (f.law.cells.cell_read p).0 near.4 in (
           ap (λ x. cond (has_move x) 1 0) read ∙ sym (ap (λ x. cond (has_move x) 1 0) near.4),
           ap (λ x. cond (is_dropped x) 1 0) read ∙ sym (ap (λ x. cond (is_dropped x) 1 0) near.4),
           ap (λ x. cond (has_hot x) 1 0) read ∙ sym (ap (λ x. cond (has_hot x) 1 0) near.4),
+          ap (λ x. cond (is_dirty x) 1 0) read ∙ sym (ap (λ x. cond (is_dirty x) 1 0) near.4),
         )
 
     clear_step : BookStep ws b os (Clear p) (Word n) (set ws (cell_at p) w) (cleared_view p n b)
@@ -118,7 +120,7 @@ module _ (ws : List ℕ) (b : BookView) (os : OtherViews) (f : Facts ws b os) wh
           becomes = led_by (λ i. record (after s (Clear p)) { round = sym (round_rows b.round (is_among b.chosen) (read_of n)) i }) (state_is later b' os (cell_after ws b os f p w few) refl refl refl refl);
           book = λ law. ties later b' os law (λ _. false) (heads_left (word_in later) (cell_after ws b os f p w few).word_is) (finds_after ws b os f p w few)
               (counts_none (book_state b') (book_state b').cell) (epoch_after ws b os f p w few) (going_after ws b os f p w few);
-          leaves = marks_stay (marks_as ws b os f p w few same_marks) (cell_after ws b os f p w few).scope_is refl (λ _ _. (refl, refl, refl));
+          leaves = marks_stay (marks_as ws b os f p w few same_marks) (cell_after ws b os f p w few).scope_is refl (λ _ _. (refl, refl, refl, refl, refl));
         }
 
   module _ (logs : ℕ) (h : MayChoose o logs) (below : b.epoch + 1 < EPOCH_END) where
@@ -136,7 +138,7 @@ module _ (ws : List ℕ) (b : BookView) (os : OtherViews) (f : Facts ws b os) wh
           becomes = led_by (λ i. record (after s (Advance logs)) { epoch = up i; round_epoch = up i }) (state_is later b' os are refl refl refl refl);
           book = λ law. ties later b' os law (λ _. false) (heads_left (word_in later) are.word_is) (subst (AllFind o.cell) (sym are.cell_is) (finds ws b os f))
               (counts_none (book_state b') o.cell) are.epoch_is (subst (AllFindJobs o.copying.word) (sym are.job_is) (going ws b os f));
-          leaves = cells_stay are.cell_is are.scope_is refl (λ _ _. (refl, refl, refl));
+          leaves = cells_stay are.cell_is are.scope_is refl (λ _ _. (refl, refl, refl, refl, refl));
         }
 
 module _ {S : Type 0} (slots id : ℕ) (me : Me S View) (is : me.0 ≡ Book (book_of me.0)) where

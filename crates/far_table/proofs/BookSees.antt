@@ -14,6 +14,7 @@ use Rattle.far_core.specs.events.Legal.{Legal}
 use Rattle.far_core.specs.events.Naming.{is_dropped}
 use Rattle.far_core.specs.events.Quiet.{has_move}
 use Rattle.far_core.specs.events.Step.{after}
+use Rattle.far_core.specs.state.Law.{is_dirty}
 use Rattle.far_core.specs.state.State.{State, put}
 use Rattle.far_core.proofs.Put.{put_both}
 use Rattle.far_hand.specs.Finds.{Finds}
@@ -28,8 +29,8 @@ use Rattle.far_table.specs.Layout.{cell_at, cell_in, epoch_in, job_in, scope_in,
 use Rattle.far_table.specs.Rule.{Facts, Running}
 use Rattle.far_table.specs.Stands.{IsPlain, book_of}
 use Rattle.far_table.specs.StateOf.{book_state, known_word, state_of}
-use Rattle.far_table.specs.Views.{drops, has_hot, hots, moves}
-use Rattle.far_table.proofs.BookFrames.{BookStep, cells_stay, marks_stay}
+use Rattle.far_table.specs.Views.{dirts, drops, has_hot, hots, moves}
+use Rattle.far_table.proofs.BookFrames.{BookStep, MarksAs, cells_stay, marks_stay}
 use Rattle.far_table.proofs.BookLift.{book_makes, book_reads}
 use Rattle.far_table.proofs.Masks.{counts, epoch_is, finds, going, rests, ties, words_are}
 use Rattle.far_table.proofs.OwnSteps.{reads, state_is}
@@ -62,9 +63,8 @@ module _ (ws : List ℕ) (b : BookView) (os : OtherViews) (f : Facts ws b os) (p
   counts_as count same q = ap (λ c. count (c q)) cell_after.cell_is ∙ put_both (λ v. count v ≡ count (cell_in ws q)) (cell_in ws) p w q
       (λ e. same ∙ ap (λ z. count (cell_in ws z)) (sym e)) (λ _. refl)
 
-  pub marks_as : (moves w ≡ moves (cell_in ws p)) × (drops w ≡ drops (cell_in ws p)) × (hots w ≡ hots (cell_in ws p)) → (q : ℕ) →
-      (moves (cell_in later q) ≡ moves (cell_in ws q)) × (drops (cell_in later q) ≡ drops (cell_in ws q)) × (hots (cell_in later q) ≡ hots (cell_in ws q))
-  marks_as same q = (counts_as moves same.0 q, counts_as drops same.1 q, counts_as hots same.2 q)
+  pub marks_as : MarksAs w (cell_in ws p) → (q : ℕ) → MarksAs (cell_in later q) (cell_in ws q)
+  marks_as same q = (counts_as moves same.0 q, counts_as drops same.1 q, counts_as hots same.2 q, counts_as dirts same.3 q)
 
 pub cells_few : (ws : List ℕ) (b : BookView) (os : OtherViews) → Facts ws b os → (p : ℕ) → p < CELLS * b.mutators → p < POINTERS
 cells_few ws b os f p low = let most = f.law.shape.few_mutators in omega arith
@@ -86,7 +86,7 @@ module _ (ws : List ℕ) (b : BookView) (os : OtherViews) (f : Facts ws b os) (p
     becomes = reads f (after s (See p)) (saw_view p n b) os refl refl;
     book = λ law. ties ws (saw_view p n b) os law (counts b) (words_are ws b os f plain) (finds_put o.cell s.cell p n (finds ws b os f) refl)
         (counts_found s o.cell (counts b) p n (rests ws b os f) (finds ws b os f p)) (epoch_is ws b os f) (going ws b os f);
-    leaves = cells_stay refl refl refl (λ _ _. (refl, refl, refl));
+    leaves = cells_stay refl refl refl (λ _ _. (refl, refl, refl, refl, refl));
   }
 
   module _ (h : Legal o (Mark p)) where
@@ -99,13 +99,14 @@ module _ (ws : List ℕ) (b : BookView) (os : OtherViews) (f : Facts ws b os) (p
     few : p < POINTERS
     few = cells_few ws b os f p h.0
 
-    same_marks : (moves w ≡ moves n) × (drops w ≡ drops n) × (hots w ≡ hots n)
+    same_marks : MarksAs w n
     same_marks =
         let near = legal.1 in
         let read = with_mark_read Evac n (Near near.0 near.1 near.2 near.3) (f.law.cells.cell_read p).0 near.4 refl in (
           ap (λ x. cond (has_move x) 1 0) read ∙ sym (ap (λ x. cond (has_move x) 1 0) near.4),
           ap (λ x. cond (is_dropped x) 1 0) read ∙ sym (ap (λ x. cond (is_dropped x) 1 0) near.4),
           ap (λ x. cond (has_hot x) 1 0) read ∙ sym (ap (λ x. cond (has_hot x) 1 0) near.4),
+          ap (λ x. cond (is_dirty x) 1 0) read ∙ sym (ap (λ x. cond (is_dirty x) 1 0) near.4),
         )
 
     mark_step : BookStep ws b os (Mark p) (Word n) (set ws (cell_at p) w) (marked_view p n b)
@@ -115,7 +116,7 @@ module _ (ws : List ℕ) (b : BookView) (os : OtherViews) (f : Facts ws b os) (p
       becomes = state_is (set ws (cell_at p) w) (marked_view p n b) os (cell_after ws b os f p w few) refl refl refl refl;
       book = λ law. ties (set ws (cell_at p) w) (marked_view p n b) os law (counts b) (words_after ws b os f p w few plain) (finds_after ws b os f p w few)
           (counts_marked s f.law o.cell (counts b) (finds ws b os f) p h (rests ws b os f)) (epoch_after ws b os f p w few) (going_after ws b os f p w few);
-      leaves = marks_stay (marks_as ws b os f p w few same_marks) (cell_after ws b os f p w few).scope_is refl (λ _ _. (refl, refl, refl));
+      leaves = marks_stay (marks_as ws b os f p w few same_marks) (cell_after ws b os f p w few).scope_is refl (λ _ _. (refl, refl, refl, refl, refl));
     }
 
 module _ {S : Type 0} (slots id : ℕ) (me : Me S View) (is : me.0 ≡ Book (book_of me.0)) (plain : IsPlain (book_of me.0)) (p : ℕ) where

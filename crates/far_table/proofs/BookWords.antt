@@ -126,14 +126,14 @@ module _ (ws : List ℕ) (b : BookView) (os : OtherViews) (f : Facts ws b os) (p
     becomes = reads f s (put_view a n b) os refl refl;
     book = λ law. ties ws (put_view a n b) os law (put (counts b) a true) (got_words (quiet_so quiet)) seen
         (counts_read s o.cell (counts b) l a false true (λ _. quiet_so quiet) (rests ws b os f)) epoch (going ws b os f);
-    leaves = cells_stay refl refl refl (λ _ _. (refl, refl, refl));
+    leaves = cells_stay refl refl refl (λ _ _. (refl, refl, refl, refl, refl));
   }
   get_step low false quiet = record {
     legal = (low, inside, tt);
     says = refl;
     becomes = reads f s b os refl refl;
     book = λ _. f.book;
-    leaves = cells_stay refl refl refl (λ _ _. (refl, refl, refl));
+    leaves = cells_stay refl refl refl (λ _ _. (refl, refl, refl, refl, refl));
   }
 
   -- what far_hand says of a beset hand's view, of this one
@@ -166,7 +166,7 @@ module _ (ws : List ℕ) (b : BookView) (os : OtherViews) (f : Facts ws b os) (p
     says = refl;
     becomes = reads f (with_free_log s l) left os free_becomes refl;
     book = λ law. ties ws left os law (λ _. false) free_words seen (counts_none (book_state left) o.cell) epoch (going ws b os f);
-    leaves = cells_stay refl refl refl (λ _ _. (refl, refl, refl));
+    leaves = cells_stay refl refl refl (λ _ _. (refl, refl, refl, refl, refl));
   }
 
   free_gets : Gets o (book_state left) l at true n
@@ -193,7 +193,7 @@ module _ (ws : List ℕ) (b : BookView) (os : OtherViews) (f : Facts ws b os) (p
               ∙ (sym (count_word s.word s.starts (counts b) a w) ∙ ap (λ v. masked_word v o.starts (put (counts b) a true)) (sym are.word_is))))
               (subst (AllFind o.cell) (sym are.cell_is) seen)
               (counts_past s o.cell (counts b) l at h.2 inside (rests ws b os f)) (are.epoch_is ∙ epoch) (subst (AllFindJobs o.copying.word) (sym are.job_is) (going ws b os f));
-          leaves = cells_stay are.cell_is are.scope_is refl (λ _ _. (refl, refl, refl));
+          leaves = cells_stay are.cell_is are.scope_is refl (λ _ _. (refl, refl, refl, refl, refl));
         }
 
 -- what is put is known

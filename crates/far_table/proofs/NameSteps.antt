@@ -36,15 +36,15 @@ use Rattle.far_hand.proofs.Counting.{counts_none}
 use Rattle.far_hand.proofs.Naming.{job_too, left_words, legal_name, lost_state, stores_leaving, won_state}
 use Rattle.far_table.specs.View.{BookView, View, Book, OtherViews}
 use Rattle.far_table.specs.BookPlays.{Named}
-use Rattle.far_table.specs.BookTells.{BookTells, cooled_by, retired_by, taken_by}
+use Rattle.far_table.specs.BookTells.{BookTells, cleaned_by, cooled_by, retired_by, stained_by, taken_by}
 use Rattle.far_table.specs.BookViews.{saw_view}
 use Rattle.far_table.specs.Layout.{cell_at, cell_in, epoch_in, job_in, scope_in, word_in}
 use Rattle.far_table.specs.NameViews.{exchange_reply, exchanged_view, form_view, formed_view, move_view, named_view, retires, span_view, view_by}
 use Rattle.far_table.specs.Rows.{over}
 use Rattle.far_table.specs.Rule.{Facts, Running}
 use Rattle.far_table.specs.Stands.{IsPlain, book_of}
-use Rattle.far_table.specs.StateOf.{book_state, cooled_at, head_at, head_or, held_by, known_word, retired_at, state_of, stored_word, taken_at}
-use Rattle.far_table.specs.Views.{drops, has_hot, hots, moves}
+use Rattle.far_table.specs.StateOf.{book_state, cleaned_at, cooled_at, head_at, head_or, held_by, known_word, retired_at, stained_at, state_of, stored_word, taken_at}
+use Rattle.far_table.specs.Views.{dirts, drops, has_hot, hots, moves}
 use Rattle.far_table.proofs.BookFrames.{BookStep, book_facts, book_made, cells_stay}
 use Rattle.far_table.proofs.BookKnown.{forgets, forgotten}
 use Rattle.far_table.proofs.BookLift.{book_allows}
@@ -226,6 +226,8 @@ module _ (b : BookView) (p old new : ℕ) where
     taken = (p, taken_at b p + moves old) ∷ b.taken;
     retired = (p, retired_at b p + 0) ∷ b.retired;
     cooled = (p, cooled_at b p + hots old) ∷ b.cooled;
+    stained = (p, stained_at b p + dirts new) ∷ b.stained;
+    cleaned = (p, cleaned_at b p + dirts old) ∷ b.cleaned;
     known = [];
   }
 
@@ -356,15 +358,33 @@ module _ (ws : List ℕ) (b : BookView) (os : OtherViews) (f : Facts ws b os) (p
       (λ ne. let same : count (cell_in later q) ≡ count (cell_in ws q) = ap count (cells ∙ put_other (cell_in ws) p new q ne) in
       let more : put before p (before p + count old) q ≡ before q = put_other before p (before p + count old) q ne in omega arith)
 
+  -- a mark that is counted where it is left, and where it was found
+  counted_both : (count left found : ℕ → ℕ) → cell_in ws p ≡ old → (q : ℕ) →
+      put left p (left p + count new) q + (found q + count (cell_in ws q)) ≡ left q + (put found p (found p + count old) q + count (cell_in later q))
+  counted_both count left found won q =
+      let cells : cell_in later q ≡ put (cell_in ws) p new q = ap (λ g. g q) (cell_after ws b os f p new few).cell_is in
+      dite (ℕ_discrete q p)
+      (λ e. let was : count (cell_in ws q) ≡ count old = ap count (ap (cell_in ws) e ∙ won) in
+      let is : count (cell_in later q) ≡ count new = ap count (cells ∙ put_same (cell_in ws) p new q e) in
+      let more : put left p (left p + count new) q ≡ left p + count new = put_same left p (left p + count new) q e in
+      let met : put found p (found p + count old) q ≡ found p + count old = put_same found p (found p + count old) q e in
+      let here : left q ≡ left p = ap left e in
+      let there : found q ≡ found p = ap found e in omega arith)
+      (λ ne. let same : count (cell_in later q) ≡ count (cell_in ws q) = ap count (cells ∙ put_other (cell_in ws) p new q ne) in
+      let more : put left p (left p + count new) q ≡ left q = put_other left p (left p + count new) q ne in
+      let met : put found p (found p + count old) q ≡ found q = put_other found p (found p + count old) q ne in omega arith)
+
   drops_old : retired_at b' ≡ put (retired_at b) p (retired_at b p + drops old)
   drops_old = ap (λ n. put (retired_at b) p (retired_at b p + n)) (sym (old_drops form old new by_view.1.1))
 
   counts_named : cell_in ws p ≡ old → (q : ℕ) → (taken_at b q + moves (cell_in ws q) ≡ taken_at b' q + moves (cell_in later q)) × (retired_at b q + drops (cell_in ws q) ≡ retired_at b' q + drops (cell_in later q))
       × (cooled_at b q + hots (cell_in ws q) ≡ cooled_at b' q + hots (cell_in later q))
+      × (stained_at b' q + (cleaned_at b q + dirts (cell_in ws q)) ≡ stained_at b q + (cleaned_at b' q + dirts (cell_in later q)))
   counts_named won q = (
     counted moves (taken_at b) (new_moves form old new by_view.1.1) won q,
     counted drops (retired_at b) (new_drops form old new by_view.1.1) won q ∙ ap (λ g. g q + drops (cell_in later q)) (sym drops_old),
     counted hots (cooled_at b) (new_hots form old new by_view.1.1) won q,
+    counted_both dirts (stained_at b) (cleaned_at b) won q,
   )
 
   -- what is held has HOT as it had
@@ -376,12 +396,19 @@ module _ (ws : List ℕ) (b : BookView) (os : OtherViews) (f : Facts ws b os) (p
 
   -- so says the step
   told_named : (q : ℕ) → (taken_at b' q ≡ taken_by (Name p old new) Done q (taken_at b q)) × (retired_at b' q ≡ retired_by (Name p old new) Done q (retired_at b q))
-      × (cooled_at b' q ≡ cooled_by (Name p old new) Done q (cooled_at b q))
-  told_named q = (said moves (taken_at b) q, ap (λ g. g q) drops_old ∙ said drops (retired_at b) q, said hots (cooled_at b) q) where
-    said : (count before : ℕ → ℕ) (q : ℕ) → put before p (before p + count old) q ≡ cond (p == q) (before q + count old) (before q)
-    said count before q = dite (ℕ_discrete q p)
-        (λ e. put_same before p (before p + count old) q e ∙ (ap (λ z. before z + count old) (sym e) ∙ sym (ap (λ t. cond t (before q + count old) (before q)) (eq-eqb p q (sym e)))))
-        (λ ne. put_other before p (before p + count old) q ne ∙ sym (ap (λ t. cond t (before q + count old) (before q)) (ne_eqb p q (λ e. ne (sym e)))))
+      × (cooled_at b' q ≡ cooled_by (Name p old new) Done q (cooled_at b q)) × (stained_at b' q ≡ stained_by (Name p old new) Done q (stained_at b q))
+      × (cleaned_at b' q ≡ cleaned_by (Name p old new) Done q (cleaned_at b q))
+  told_named q = (
+    said (moves old) (taken_at b) q,
+    ap (λ g. g q) drops_old ∙ said (drops old) (retired_at b) q,
+    said (hots old) (cooled_at b) q,
+    said (dirts new) (stained_at b) q,
+    said (dirts old) (cleaned_at b) q,
+  ) where
+    said : (more : ℕ) (before : ℕ → ℕ) (q : ℕ) → put before p (before p + more) q ≡ cond (p == q) (before q + more) (before q)
+    said more before q = dite (ℕ_discrete q p)
+        (λ e. put_same before p (before p + more) q e ∙ (ap (λ z. before z + more) (sym e) ∙ sym (ap (λ t. cond t (before q + more) (before q)) (eq-eqb p q (sym e)))))
+        (λ ne. put_other before p (before p + more) q ne ∙ sym (ap (λ t. cond t (before q + more) (before q)) (ne_eqb p q (λ e. ne (sym e)))))
 
   -- no naming changes a job's word
   going_named : (x : Naming) → AllFindJobs (over (formed_view s.word p old new x b).jobs (λ _. 0)) (job_in later)
@@ -416,7 +443,7 @@ module _ (ws : List ℕ) (b : BookView) (os : OtherViews) (f : Facts ws b os) (p
     says = lost_says (cell_in ws p) old ne;
     becomes = reads f (after s (Name p old new)) (saw_view p (cell_in ws p) b) os (lost_state s p old new ne) refl;
     book = seen.book;
-    leaves = cells_stay refl refl refl (λ _ _. (refl, refl, refl));
+    leaves = cells_stay refl refl refl (λ _ _. (refl, refl, refl, refl, refl));
   }
 
   pub exchange_step : BookStep ws b os (Name p old new) (exchange_reply old (cell_in ws p)) (set ws (cell_at p) (either (cell_in ws p == old) new (cell_in ws p))) (exchanged_view s.word p old new (cell_in ws p) b)

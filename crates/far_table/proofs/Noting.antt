@@ -35,6 +35,7 @@ module _ (ws : List ℕ) (b : BookView) (os : OtherViews) (f : Facts ws b os) (o
     drops = ties.drops;
     warm = ties.warm;
     hots = ties.hots;
+    soils = ties.soils;
   }
 
   each : (j : ℕ) (y : OwnerView) → get_elem? (set os.owners o.number w) j ≡ some y → OwnerTies b (state_of ws b os) j y

@@ -22,9 +22,9 @@ use Rattle.far_hand.proofs.OthersWork.{change}
 use Rattle.far_table.specs.View.{BookView, ObjectView, OtherViews, OwnerView, with_owner}
 use Rattle.far_table.specs.Layout.{table_words}
 use Rattle.far_table.specs.Rule.{BookTies, Facts, Has, OwnerTies}
-use Rattle.far_table.specs.StateOf.{cooled_at, copying_of, held_by, remembered_by, retired_at, soiled_by, state_of, taken_at, used_by}
+use Rattle.far_table.specs.StateOf.{cleaned_at, cooled_at, copying_of, held_by, remembered_by, retired_at, soiled_by, stained_at, state_of, taken_at, used_by}
 use Rattle.far_table.specs.Tells.{OwnerMade, OwnerMayBe}
-use Rattle.far_table.specs.Views.{asked_at, dropped_at, drops, heated_at, held_at, hots, moves, object_at, pinned_at, soiled_at}
+use Rattle.far_table.specs.Views.{asked_at, dirtied_at, dirts, dropped_at, drops, heated_at, held_at, hots, moves, object_at, pinned_at, soiled_at}
 use Rattle.far_table.proofs.BookKept.{book_on}
 use Rattle.far_table.proofs.Owners.{known_by}
 use Rattle.far_table.proofs.Others.{KeepsBy, KeepsOwner, keeps_others}
@@ -77,15 +77,17 @@ owner_on b s t j y keep ties = record {
   asks = λ p own. ties.asks p own ∙ ap (λ w. taken_at b p + moves w) (sym (keep.cell p own));
   drops = λ p own. ties.drops p own ∙ ap (λ w. retired_at b p + drops w) (sym (keep.cell p own));
   hots = λ p own. ties.hots p own ∙ ap (λ w. cooled_at b p + hots w) (sym (keep.cell p own));
+  soils = λ p own. ties.soils p own ∙ ap (λ w. cleaned_at b p + dirts w) (sym (keep.cell p own));
   warm = λ p own pinned. let x = ties.warm p own pinned in (x.0, ap hots (keep.cell p own) ∙ x.1);
 }
 
--- the ties of the owner itself, where no object of it changes, and no count but of HOT
+-- the ties of the owner itself, where no object of it changes, and no count but of HOT and DIRTY
 pub mine_on : (b : BookView) (s t : State) (m : ℕ) (o w : OwnerView) → OwnerTies b s m o → w.number ≡ o.number → w.honest ≡ o.honest → w.logs ≡ o.logs → t.honest ≡ s.honest →
     t.scope m ≡ scope_word_of w.open_at → object_at w ≡ object_at o → asked_at w ≡ asked_at o → dropped_at w ≡ dropped_at o → (world_of t).object ≡ (world_of s).object →
     ((p : ℕ) → (moves (t.cell p) ≡ moves (s.cell p)) × (drops (t.cell p) ≡ drops (s.cell p))) → ((p : ℕ) → p / CELLS ≡ m → heated_at w p ≡ cooled_at b p + hots (t.cell p)) →
+    ((p : ℕ) → p / CELLS ≡ m → dirtied_at w p + stained_at b p ≡ cleaned_at b p + dirts (t.cell p)) →
     ((p : ℕ) → p / CELLS ≡ m → pinned_at w p ≡ true → IsSome (held_at w p) × (hots (t.cell p) ≡ 1)) → OwnerTies b t m w
-mine_on b s t m o w ties number honest logs same scope objects asked dropped world marks heats warm = record {
+mine_on b s t m o w ties number honest logs same scope objects asked dropped world marks heats soils warm = record {
   number = number ∙ ties.number;
   honest = honest ∙ (ties.honest ∙ sym same);
   logs = logs ∙ ties.logs;
@@ -94,6 +96,7 @@ mine_on b s t m o w ties number honest logs same scope objects asked dropped wor
   asks = λ p own. ap (λ f. f p) asked ∙ (ties.asks p own ∙ ap (λ n. taken_at b p + n) (sym (marks p).0));
   drops = λ p own. ap (λ f. f p) dropped ∙ (ties.drops p own ∙ ap (λ n. retired_at b p + n) (sym (marks p).1));
   hots = heats;
+  soils = soils;
   warm = warm;
 }
 

@@ -22,7 +22,7 @@ use Rattle.far_core.specs.events.Pin.{place_to_view, with_hold, pin_answer}
 use Rattle.far_core.specs.events.Naming.{is_dropped}
 use Rattle.far_core.specs.events.Quiet.{has_move}
 use Rattle.far_core.specs.events.Step.{after}
-use Rattle.far_core.specs.state.Law.{in_use}
+use Rattle.far_core.specs.state.Law.{in_use, is_dirty}
 use Rattle.far_core.specs.state.State.{State, put}
 use Rattle.far_core.proofs.Cells.{map_mark}
 use Rattle.far_core.proofs.KeepOwner.{hot_read}
@@ -32,9 +32,9 @@ use Rattle.far_table.specs.View.{BookView, OwnerView, View, Owner, OtherViews, w
 use Rattle.far_table.specs.Layout.{cell_at, cell_in}
 use Rattle.far_table.specs.Plays.{Pinned, Lies}
 use Rattle.far_table.specs.Rule.{Facts, Running}
-use Rattle.far_table.specs.StateOf.{cooled_at, held_by, state_of}
+use Rattle.far_table.specs.StateOf.{cleaned_at, cooled_at, held_by, stained_at, state_of}
 use Rattle.far_table.specs.Tells.{Tells, owner_of}
-use Rattle.far_table.specs.Views.{asked_at, dropped_at, drops, has_hot, heated_at, held_at, held_view, hots, len_of, moves, object_at, pinned_at, pinned_view, soiled_at, uses, warmed_view, with_place}
+use Rattle.far_table.specs.Views.{asked_at, dirtied_at, dirts, dropped_at, drops, has_hot, heated_at, held_at, held_view, hots, len_of, moves, object_at, pinned_at, pinned_view, soiled_at, uses, warmed_view, with_place}
 use Rattle.far_table.proofs.HeldFacts.{may_hold, near_facts}
 use Rattle.far_table.proofs.Lift.{owner_makes}
 use Rattle.far_table.proofs.Others.{pin_objects}
@@ -54,6 +54,12 @@ hot_drops None = refl
 hot_drops (Some Free) = refl
 hot_drops (Some (Near len ds place m)) = refl
 hot_drops (Some (Far len ds m)) = refl
+
+hot_dirts : (x : Option PtrWord) → is_dirty (map_mark Hot x) ≡ is_dirty x
+hot_dirts None = refl
+hot_dirts (Some Free) = refl
+hot_dirts (Some (Near len ds place m)) = refl
+hot_dirts (Some (Far len ds m)) = refl
 
 -- what is in use has HOT from now on
 used_hots : (x : Option PtrWord) → in_use x ≡ true → cond (has_hot (map_mark Hot x)) 1 0 ≡ cond (has_hot x) 1 0 + cond (has_hot x) 0 1
@@ -112,6 +118,10 @@ module _ (ws : List ℕ) (b : BookView) (os : OtherViews) (f : Facts ws b os) (o
       ))
       (λ _. (refl, refl))
 
+  dirts_after : (q : ℕ) → dirts (put s.cell p (bit_or c (2 ^ position Hot)) q) ≡ dirts (s.cell q)
+  dirts_after q = put_both (λ v. dirts v ≡ dirts (s.cell q)) s.cell p (bit_or c (2 ^ position Hot)) q
+      (λ e. ap (λ t. cond t 1 0) (ap is_dirty (hot_read s f.law p used_so) ∙ hot_dirts (read_of c)) ∙ ap (λ z. dirts (s.cell z)) (sym e)) (λ _. refl)
+
   heats_after : (q : ℕ) → q / CELLS ≡ m → heated_at warm q ≡ cooled_at b q + hots (put s.cell p (bit_or c (2 ^ position Hot)) q)
   heats_after q mine =
       let new : ℕ = bit_or c (2 ^ position Hot) in
@@ -158,6 +168,7 @@ module _ (ws : List ℕ) (b : BookView) (os : OtherViews) (f : Facts ws b os) (o
         mine = mine_on b s (after s (Pin m p)) m o w (f.owners m o at) (placed_same (λ y. y.number) p warm (λ _. refl) x) (placed_same (λ y. y.honest) p warm (λ _. refl) x) (placed_same (λ y. y.logs) p warm (λ _. refl) x) refl
             ((f.owners m o at).scope ∙ ap scope_word_of (sym opens)) (placed_same object_at p warm (λ _. refl) x) (placed_same asked_at p warm (λ _. refl) x) (placed_same dropped_at p warm (λ _. refl) x)
             (pin_objects c x m p _ _ (does s (Pin m p) f.law tt legal)) marks_after (λ q mine. ap (λ g. g q) (placed_same heated_at p warm (λ _. refl) x) ∙ heats_after q mine)
+            (λ q mine. ap (λ g. g q + stained_at b q) (placed_same dirtied_at p warm (λ _. refl) x) ∙ ((f.owners m o at).soils q mine ∙ ap (λ v. cleaned_at b q + v) (sym (dirts_after q))))
             (warm_after x);
       }
 

@@ -1,7 +1,9 @@
 -- An owner's soiling is its event of the core.
-use Rattle.std.proofs.Common.{◌≡◌, ◌+◌, ◌/◌, ◌<◌, ◌^◌, ℕ, true, cond, bit_or, List, set, sym, refl, ap, ◌∙◌, subst, arith, Option, Some, None}
+use Rattle.std.proofs.Common.{◌≡◌, ◌+◌, ◌/◌, ◌<◌, ◌^◌, ℕ, Bool, true, false, cond, bit_or, List, set, sym, refl, ap, ◌∙◌, subst, arith, Option, Some, None}
 use Rattle.std.specs.Prelude.{slice_index, IsSome}
+use mathlib.Core.Logic.{dite}
 use mathlib.Core.Option.{some, none}
+use native.Mathlib.Decide.{ℕ_discrete}
 use lib.ListN.{get_elem?}
 use Rattle.atomic_table.specs.Table.{Me, step, Allows}
 use Rattle.far_word.specs.declared.mark.Mark.TheVariants.{Dirty}
@@ -17,19 +19,20 @@ use Rattle.far_core.specs.events.Legal.{Legal}
 use Rattle.far_core.specs.events.Naming.{is_dropped}
 use Rattle.far_core.specs.events.Quiet.{has_move}
 use Rattle.far_core.specs.events.Step.{after}
+use Rattle.far_core.specs.state.Law.{is_dirty}
 use Rattle.far_core.specs.state.State.{State, put}
 use Rattle.far_core.specs.world.World.{World}
 use Rattle.far_core.proofs.Cells.{map_mark}
 use Rattle.far_core.proofs.Owing.{does}
-use Rattle.far_core.proofs.Put.{put_both}
+use Rattle.far_core.proofs.Put.{put_both, put_other, put_same}
 use Rattle.far_core.proofs.events.Soil as soiling
 use Rattle.far_table.specs.View.{BookView, OwnerView, View, Owner, OtherViews, with_owner}
 use Rattle.far_table.specs.Layout.{cell_at, cell_in}
 use Rattle.far_table.specs.Plays.{Soiled}
 use Rattle.far_table.specs.Rule.{Facts, Running}
-use Rattle.far_table.specs.StateOf.{cooled_at, state_of}
+use Rattle.far_table.specs.StateOf.{cleaned_at, cooled_at, stained_at, state_of}
 use Rattle.far_table.specs.Tells.{Tells, owner_of}
-use Rattle.far_table.specs.Views.{drops, has_hot, held_at, hots, moves, soiled_at, soiled_view, uses}
+use Rattle.far_table.specs.Views.{dirtied_at, dirts, drops, has_hot, held_at, hots, moves, soiled_at, soiled_view, uses}
 use Rattle.far_table.proofs.Lift.{owner_makes}
 use Rattle.far_table.proofs.Owners.{known_by, pointers_put, pointers_same, remembered_same}
 use Rattle.far_table.proofs.OwnSteps.{OwnStep, mine_on, state_is}
@@ -52,6 +55,15 @@ dirty_hots None = refl
 dirty_hots (Some Free) = refl
 dirty_hots (Some (Near len ds place m)) = refl
 dirty_hots (Some (Far len ds m)) = refl
+
+-- DIRTY stands there from now on
+one_more : (t : Bool) → 1 ≡ cond t 1 0 + cond t 0 1
+one_more true = refl
+one_more false = refl
+
+-- it is set anew where it didn't stand
+dirt_set : (set left found was more now : ℕ) → set + left ≡ found + was → now ≡ was + more → set + more + left ≡ found + now
+dirt_set set left found was more now tie is = omega arith
 
 module _ (ws : List ℕ) (b : BookView) (os : OtherViews) (f : Facts ws b os) (o : OwnerView) (at : get_elem? os.owners o.number ≡ some o)
     (p : ℕ) (small : p < POINTERS) (own : p / CELLS ≡ o.number) (held : IsSome (held_at o p)) where
@@ -89,6 +101,19 @@ module _ (ws : List ℕ) (b : BookView) (os : OtherViews) (f : Facts ws b os) (o
   hots_after q = put_both (λ v. hots v ≡ hots (s.cell q)) s.cell p new q
       (λ e. ap (λ t. cond t 1 0) (ap has_hot read ∙ dirty_hots (read_of c)) ∙ ap (λ z. hots (s.cell z)) (sym e)) (λ _. refl)
 
+  -- DIRTY is counted where it is set anew
+  dirts_here : dirtied_at o p + cond (is_dirty (read_of c)) 0 1 + stained_at b p ≡ cleaned_at b p + dirts new
+  dirts_here =
+      let now : dirts new ≡ 1 = ap (λ t. cond t 1 0) (ap is_dirty read ∙ (soiling.reads s f.law p rests).2) in
+      dirt_set (dirtied_at o p) (stained_at b p) (cleaned_at b p) (dirts c) (cond (is_dirty (read_of c)) 0 1) (dirts new) ((f.owners m o at).soils p own) (now ∙ one_more (is_dirty (read_of c)))
+
+  dirts_after : (q : ℕ) → q / CELLS ≡ m → dirtied_at (soiled_view p c o) q + stained_at b q ≡ cleaned_at b q + dirts (put s.cell p new q)
+  dirts_after q mine =
+      let n : ℕ = dirtied_at o p + cond (is_dirty (read_of c)) 0 1 in dite (ℕ_discrete q p)
+      (λ e. ap (λ v. v + stained_at b q) (put_same (dirtied_at o) p n q e) ∙ (ap (λ z. n + stained_at b z) e ∙ (dirts_here ∙ (ap (λ z. cleaned_at b z + dirts new) (sym e)
+      ∙ ap (λ v. cleaned_at b q + dirts v) (sym (put_same s.cell p new q e))))))
+      (λ ne. ap (λ v. v + stained_at b q) (put_other (dirtied_at o) p n q ne) ∙ ((f.owners m o at).soils q mine ∙ ap (λ v. cleaned_at b q + dirts v) (sym (put_other s.cell p new q ne))))
+
   pub soil_step : OwnStep ws b os o (Soil m p) (Word c) (set ws (cell_at p) new) (soiled_view p c o)
   soil_step =
       let w : OwnerView = soiled_view p c o in
@@ -98,7 +123,7 @@ module _ (ws : List ℕ) (b : BookView) (os : OtherViews) (f : Facts ws b os) (o
         becomes = state_is (set ws (cell_at p) new) b (with_owner os m w) (cell_word_set b.logs ws f.wide p new small) (remembered_same os.owners m o w at refl)
             (pointers_same os.owners m o w at uses refl) (pointers_same os.owners m o w at held_at refl) (pointers_put os.owners m o w at soiled_at p true own refl);
         mine = mine_on b s (after s (Soil m p)) m o w ties refl refl refl refl ties.scope refl refl refl (ap (λ (z : World). z.object) (does s (Soil m p) f.law tt legal)) marks_after
-            (λ q mine. ties.hots q mine ∙ ap (λ v. cooled_at b q + v) (sym (hots_after q)))
+            (λ q mine. ties.hots q mine ∙ ap (λ v. cooled_at b q + v) (sym (hots_after q))) dirts_after
             (λ q mine pinned. let x = ties.warm q mine pinned in (x.0, hots_after q ∙ x.1));
       }
 

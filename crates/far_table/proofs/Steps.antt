@@ -50,7 +50,7 @@ module _ (ws : List ℕ) (b : BookView) (os : OtherViews) (f : Facts ws b os) (o
     says = refl;
     becomes = state_is ws b (with_owner os m w) (no_word b.logs ws f.wide) (remembered_set os.owners m o w at) (pointers_same os.owners m o w at uses refl) (pointers_same os.owners m o w at held_at refl) (pointers_same os.owners m o w at soiled_at refl);
     mine = mine_on b (state_of ws b os) (after (state_of ws b os) (ReadEpoch m)) m o w (f.owners m o at) refl refl refl refl (f.owners m o at).scope refl refl refl
-        (ap (λ (z : World). z.object) (does (state_of ws b os) (ReadEpoch m) f.law tt legal)) (λ _. (refl, refl)) (f.owners m o at).hots (f.owners m o at).warm;
+        (ap (λ (z : World). z.object) (does (state_of ws b os) (ReadEpoch m) f.law tt legal)) (λ _. (refl, refl)) (f.owners m o at).hots (f.owners m o at).soils (f.owners m o at).warm;
   }
 
   pub open_step : (x : ℕ) → o.open_at ≡ None → IsSome o.epoch → x ≡ scope_word_of o.epoch → OwnStep ws b os o (Open m) Done (set ws (scope_at m) x) (opened_view o)
@@ -65,7 +65,7 @@ module _ (ws : List ℕ) (b : BookView) (os : OtherViews) (f : Facts ws b os) (o
             (remembered_same os.owners m o w at refl) (pointers_same os.owners m o w at uses refl) (pointers_same os.owners m o w at held_at refl) (pointers_same os.owners m o w at soiled_at refl);
         mine = mine_on b (state_of ws b os) (after (state_of ws b os) (Open m)) m o w (f.owners m o at) refl refl refl refl
             (put_same (scope_in ws) m (scope_word_of (remembered_by os.owners m)) m refl ∙ ap scope_word_of known) refl refl refl
-            (ap (λ (z : World). z.object) (does (state_of ws b os) (Open m) f.law tt legal).after) (λ _. (refl, refl)) (f.owners m o at).hots (f.owners m o at).warm;
+            (ap (λ (z : World). z.object) (does (state_of ws b os) (Open m) f.law tt legal).after) (λ _. (refl, refl)) (f.owners m o at).hots (f.owners m o at).soils (f.owners m o at).warm;
       }
 
   pub close_step : IsSome o.open_at → OwnStep ws b os o (Close m) Done (set ws (scope_at m) 0) (closed_view o)
@@ -78,7 +78,7 @@ module _ (ws : List ℕ) (b : BookView) (os : OtherViews) (f : Facts ws b os) (o
         (pointers_set os.owners m o w at soiled_at (λ p. cond (p / CELLS == m) false (soiled_by os.owners p))
         (λ p e. sym (ap (λ t. cond t false (soiled_by os.owners p)) (eq-eqb (p / CELLS) m e))) (λ p ne. sym (ap (λ t. cond t false (soiled_by os.owners p)) (ne_eqb (p / CELLS) m ne))));
     mine = mine_on b (state_of ws b os) (after (state_of ws b os) (Close m)) m o w (f.owners m o at) refl refl refl refl (put_same (scope_in ws) m 0 m refl) refl refl refl
-        (ap (λ (z : World). z.object) (does (state_of ws b os) (Close m) f.law tt legal).after) (λ _. (refl, refl)) (f.owners m o at).hots
+        (ap (λ (z : World). z.object) (does (state_of ws b os) (Close m) f.law tt legal).after) (λ _. (refl, refl)) (f.owners m o at).hots (f.owners m o at).soils
         (λ p own pinned. absurd (false≢true pinned));
   }
 

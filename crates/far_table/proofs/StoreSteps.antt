@@ -135,6 +135,7 @@ module _ (ws : List ℕ) (b : BookView) (os : OtherViews) (f : Facts ws b os) (o
           asks = ties.asks;
           drops = ties.drops;
           hots = ties.hots;
+          soils = ties.soils;
           warm = ties.warm;
         };
       }

@@ -10,8 +10,8 @@ use Rattle.far_hand.specs.MayBe.{Made}
 use Rattle.far_table.specs.View.{BookView, OtherViews, View, Book}
 use Rattle.far_table.specs.Rule.{Facts}
 use Rattle.far_table.specs.Stands.{book_of}
-use Rattle.far_table.specs.StateOf.{cooled_at, retired_at, state_of, taken_at}
-use Rattle.far_table.specs.Views.{drops, hots, moves}
+use Rattle.far_table.specs.StateOf.{cleaned_at, cooled_at, retired_at, stained_at, state_of, taken_at}
+use Rattle.far_table.specs.Views.{dirts, drops, hots, moves}
 
 -- how often MOVE was taken away from p's cell, its object retired, and HOT taken away, once this event had this answer, by how often before it: once more where an
 -- exchange won of a word of p's that has MOVE; of one that has DROP; and of one that has HOT
@@ -27,8 +27,17 @@ abbrev pub cooled_by : Event → Reply → ℕ → ℕ → ℕ
 cooled_by (Name q old new) Done p n = cond (q == p) (n + hots old) n
 cooled_by e r p n = n
 
+-- how often DIRTY was left in p's cell by a naming, and how often one found it: once more where an exchange won of which the new word has it, or the old
+abbrev pub stained_by : Event → Reply → ℕ → ℕ → ℕ
+stained_by (Name q old new) Done p n = cond (q == p) (n + dirts new) n
+stained_by e r p n = n
+
+abbrev pub cleaned_by : Event → Reply → ℕ → ℕ → ℕ
+cleaned_by (Name q old new) Done p n = cond (q == p) (n + dirts old) n
+cleaned_by e r p n = n
+
 -- the event was made: in some state that met the rule, with this view of the book, it was legal, and this was its answer; the words after and the view b'
--- are the state that the core's step makes, and meet the rule; the view counts what it took away
+-- are the state that the core's step makes, and meet the rule; the view counts what it took away, and where it left and found DIRTY
 pub record BookMade (e : Event) (b : BookView) (r : Reply) (b' : BookView) : Type 0 where
   pub words : List ℕ
   pub others : OtherViews
@@ -41,6 +50,8 @@ pub record BookMade (e : Event) (b : BookView) (r : Reply) (b' : BookView) : Typ
   pub taken : (p : ℕ) → taken_at b' p ≡ taken_by e r p (taken_at b p)
   pub retired : (p : ℕ) → retired_at b' p ≡ retired_by e r p (retired_at b p)
   pub cooled : (p : ℕ) → cooled_at b' p ≡ cooled_by e r p (cooled_at b p)
+  pub stained : (p : ℕ) → stained_at b' p ≡ stained_by e r p (stained_at b p)
+  pub cleaned : (p : ℕ) → cleaned_at b' p ≡ cleaned_by e r p (cleaned_at b p)
   pub call : Made (state_of words b others) e r (state_of later b' others)
 
 -- the seat's view before and after the step: the event was made

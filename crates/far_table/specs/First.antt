@@ -12,7 +12,7 @@ use Rattle.far_core.specs.world.World.{Object}
 use Rattle.far_core.specs.world.WorldOf.{world_of}
 use Rattle.far_table.specs.View.{BookView, CopierView, ObjectView, OtherViews, OwnerView, AsCopier, AsOwner, roles}
 use Rattle.far_table.specs.Layout.{table_words, cell_at, data_at, epoch_in, job_at, scope_at}
-use Rattle.far_table.specs.Views.{drops, hots, moves}
+use Rattle.far_table.specs.Views.{dirts, drops, hots, moves}
 
 -- the words are those of the state, each at its place. A word of nobody may be any
 pub record IsTableOf (ws : List ℕ) (s : State) : Type 0 where
@@ -45,8 +45,8 @@ abbrev pub seen_object : Option Object → Option ObjectView
 seen_object None = None
 seen_object (Some object) = Some (seen object)
 
--- an owner's view: what the core says of it. MOVE counts as set once, where it stands, and so do DROP and HOT; and what
--- it holds is by no pin on the table
+-- an owner's view: what the core says of it. MOVE counts as set once, where it stands, and so do DROP and HOT; DIRTY
+-- as never, since the book's view counts it; and what it holds is by no pin on the table
 abbrev pub first_owner : State → Bool → ℕ → OwnerView
 first_owner s honest m = record {
   number = m;
@@ -59,6 +59,7 @@ first_owner s honest m = record {
   asked = rows_from (CELLS * m) CELLS (λ p. moves (s.cell p));
   dropped = rows_from (CELLS * m) CELLS (λ p. drops (s.cell p));
   heated = rows_from (CELLS * m) CELLS (λ p. hots (s.cell p));
+  dirtied = [];
   pinned = [];
   soiled = rows_from (CELLS * m) CELLS s.soiled;
   found = [];
@@ -85,7 +86,7 @@ first_copiers s = map (first_copier s) (range_with_len 0 MOST_COPIERS)
 abbrev pub first_others : State → Bool → OtherViews
 first_others s honest = record { owners = first_owners s honest; copiers = first_copiers s }
 
--- the book's view: the core's state, of whose words it knows the headers alone
+-- the book's view: the core's state, of whose words it knows the headers alone. DIRTY counts as left once by a naming, where it stands
 abbrev pub first_book : State → Bool → BookView
 first_book s honest = record {
   mutators = s.mutators;
@@ -105,6 +106,8 @@ first_book s honest = record {
   taken = [];
   retired = [];
   cooled = [];
+  stained = rows_from 0 POINTERS (λ p. dirts (s.cell p));
+  cleaned = [];
   jobs = rows_from 0 JOBS s.copying.word;
   since = rows_from 0 JOBS s.copying.since;
   named = rows_from 0 JOBS s.copying.named;

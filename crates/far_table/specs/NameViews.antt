@@ -19,8 +19,8 @@ use Rattle.far_table.specs.View.{BookView}
 use Rattle.far_table.specs.BookViews.{saw_view}
 use Rattle.far_table.specs.First.{rows_from}
 use Rattle.far_table.specs.Rows.{over}
-use Rattle.far_table.specs.StateOf.{book_state, cooled_at, retired_at, taken_at}
-use Rattle.far_table.specs.Views.{hots, moves}
+use Rattle.far_table.specs.StateOf.{book_state, cleaned_at, cooled_at, retired_at, stained_at, taken_at}
+use Rattle.far_table.specs.Views.{dirts, hots, moves}
 
 -- the next span of a log is taken, for p: the log ends behind it and is the open one
 abbrev pub span_view : ℕ → ℕ → ℕ → Place → BookView → BookView
@@ -58,13 +58,16 @@ retires Stays = 0
 retires (Moves len ds from to) = 0
 retires (Fetches len ds place) = 0
 
--- the cell is the new word, MOVE and HOT are counted where they were taken away, and what is retired, and no word is known any more but headers
+-- the cell is the new word, MOVE and HOT are counted where they were taken away, and what is retired, DIRTY where it is left, and where it was found, and no word is
+-- known any more but headers
 abbrev pub formed_view : (ℕ → ℕ) → ℕ → ℕ → ℕ → Naming → BookView → BookView
 formed_view word p old new form b = record (form_view word p form b) {
   cells = (p, new) ∷ b.cells;
   taken = (p, taken_at b p + moves old) ∷ b.taken;
   retired = (p, retired_at b p + retires form) ∷ b.retired;
   cooled = (p, cooled_at b p + hots old) ∷ b.cooled;
+  stained = (p, stained_at b p + dirts new) ∷ b.stained;
+  cleaned = (p, cleaned_at b p + dirts old) ∷ b.cleaned;
   known = [];
 }
 

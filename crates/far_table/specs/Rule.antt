@@ -17,8 +17,8 @@ use Rattle.far_hand.specs.MayBe.{Shows}
 use Rattle.far_hand.specs.Quiet.{RestsAt}
 use Rattle.far_table.specs.View.{BookView, CopierView, ObjectView, OtherViews, OwnerView, Role, View, Book, roles, seat_of}
 use Rattle.far_table.specs.Layout.{table_words}
-use Rattle.far_table.specs.StateOf.{book_state, cooled_at, retired_at, state_of, taken_at}
-use Rattle.far_table.specs.Views.{object_at, asked_at, dropped_at, drops, heated_at, held_at, hots, moves, pinned_at, word_of}
+use Rattle.far_table.specs.StateOf.{book_state, cleaned_at, cooled_at, retired_at, stained_at, state_of, taken_at}
+use Rattle.far_table.specs.Views.{object_at, asked_at, dirtied_at, dirts, dropped_at, drops, heated_at, held_at, hots, moves, pinned_at, word_of}
 
 -- what the book's view says is so: the object, the place and EVAC of each cell, and marks at least where it has them; each word that it
 -- knows, and the headers of all spans; and its own, exactly. Each word that it knows and is no header rests, by the view: it stands at or past its log's end, or is of an
@@ -37,7 +37,8 @@ pub record Has (s : State) (p : ℕ) (x : ObjectView) : Type 0 where
 
 -- what an owner's view says is so: how many logs there are, its scope word, and the objects that it uses; and of each of its cells how often MOVE was set anew is how
 -- often it was taken away, and once more where it stands, how often DROP was set how often an object was retired, and once more where it stands,
--- and how often HOT was set anew how often it was taken away, and once more where it stands. HOT stands in each cell whose place it holds by a pin
+-- and how often HOT was set anew how often it was taken away, and once more where it stands. HOT stands in each cell whose place it holds by a pin. How often DIRTY was
+-- set anew, and left by a naming, is how often a naming found it, and once more where it stands
 pub record OwnerTies (b : BookView) (s : State) (m : ℕ) (o : OwnerView) : Type 0 where
   pub number : o.number ≡ m
   pub honest : o.honest ≡ s.honest
@@ -48,6 +49,7 @@ pub record OwnerTies (b : BookView) (s : State) (m : ℕ) (o : OwnerView) : Type
   pub drops : (p : ℕ) → p / CELLS ≡ m → dropped_at o p ≡ retired_at b p + drops (s.cell p)
   pub warm : (p : ℕ) → p / CELLS ≡ m → pinned_at o p ≡ true → IsSome (held_at o p) × (hots (s.cell p) ≡ 1)
   pub hots : (p : ℕ) → p / CELLS ≡ m → heated_at o p ≡ cooled_at b p + hots (s.cell p)
+  pub soils : (p : ℕ) → p / CELLS ≡ m → dirtied_at o p + stained_at b p ≡ cleaned_at b p + dirts (s.cell p)
 
 -- what holds of the words and all views between any two steps. Of a copier nothing but its number and how many logs there are: all else that is so of its view, the law has
 pub record Facts (ws : List ℕ) (b : BookView) (os : OtherViews) : Type 0 where

@@ -52,6 +52,13 @@ retired_at b = over b.retired (λ _. 0)
 abbrev pub cooled_at : BookView → ℕ → ℕ
 cooled_at b = over b.cooled (λ _. 0)
 
+-- how often its namings of a pointer have left DIRTY, and how often they have found it
+abbrev pub stained_at : BookView → ℕ → ℕ
+stained_at b = over b.stained (λ _. 0)
+
+abbrev pub cleaned_at : BookView → ℕ → ℕ
+cleaned_at b = over b.cleaned (λ _. 0)
+
 -- the jobs: it knows nothing of what copiers do but by the jobs' words
 abbrev pub jobs_known : BookView → Copying
 jobs_known b = record {

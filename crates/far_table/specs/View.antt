@@ -30,6 +30,8 @@ pub record OwnerView : Type 0 where
   pub dropped : List (ℕ × ℕ)
   -- how often it has set HOT anew, by pointers
   pub heated : List (ℕ × ℕ)
+  -- how often it has set DIRTY anew, by pointers
+  pub dirtied : List (ℕ × ℕ)
   -- the pointers whose places it holds by a pin, since its scope was opened
   pub pinned : List (ℕ × Bool)
   -- the pointers whose objects it has soiled, since its scope was opened
@@ -85,6 +87,9 @@ pub record BookView : Type 0 where
   pub retired : List (ℕ × ℕ)
   -- how often it has taken HOT away, by pointers
   pub cooled : List (ℕ × ℕ)
+  -- how often a naming of it left DIRTY, and how often one found it, by pointers
+  pub stained : List (ℕ × ℕ)
+  pub cleaned : List (ℕ × ℕ)
   -- the word last found or left in each job, the epoch of the round in which it was offered, and whether its pointer was named to its target
   pub jobs : List (ℕ × ℕ)
   pub since : List (ℕ × ℕ)

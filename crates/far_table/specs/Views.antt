@@ -9,6 +9,7 @@ use Rattle.far_word.specs.Pointer.{read_of, pointer_len}
 use Rattle.far_core.specs.events.Naming.{is_dropped}
 use Rattle.far_core.specs.events.Pin.{place_to_view}
 use Rattle.far_core.specs.events.Quiet.{has_move}
+use Rattle.far_core.specs.state.Law.{is_dirty}
 use Rattle.far_table.specs.View.{ObjectView, OwnerView}
 use Rattle.far_table.specs.Rows.{over}
 
@@ -38,6 +39,10 @@ dropped_at o = over o.dropped (λ _. 0)
 -- how often HOT was
 abbrev pub heated_at : OwnerView → ℕ → ℕ
 heated_at o = over o.heated (λ _. 0)
+
+-- how often DIRTY was
+abbrev pub dirtied_at : OwnerView → ℕ → ℕ
+dirtied_at o = over o.dirtied (λ _. 0)
 
 -- whether it is held by a pin
 abbrev pub pinned_at : OwnerView → ℕ → Bool
@@ -99,9 +104,9 @@ warmed_view p found o = record o { heated = (p, heated_at o p + cond (has_hot (r
 abbrev pub pinned_view : ℕ → ℕ → OwnerView → OwnerView
 pinned_view p found o = with_place p (place_to_view (read_of found)) (warmed_view p found o)
 
--- an object is soiled
+-- an object is soiled, and DIRTY set anew where the word found hasn't got it
 abbrev pub soiled_view : ℕ → ℕ → OwnerView → OwnerView
-soiled_view p found o = record o { soiled = (p, true) ∷ o.soiled; found = (p, found) ∷ o.found }
+soiled_view p found o = record o { soiled = (p, true) ∷ o.soiled; dirtied = (p, dirtied_at o p + cond (is_dirty (read_of found)) 0 1) ∷ o.dirtied; found = (p, found) ∷ o.found }
 
 -- the object with another word
 abbrev pub with_word : ℕ → ℕ → Option ObjectView → Option ObjectView
@@ -131,7 +136,7 @@ fresh found = record { len = said_len (read_of found); ds = said_ds (read_of fou
 abbrev pub adopted_view : ℕ → ℕ → OwnerView → OwnerView
 adopted_view p found o = record o { objects = (p, Some (fresh found)) ∷ o.objects; found = (p, found) ∷ o.found }
 
--- 1 where a word has MOVE, where it has DROP, and where it has HOT
+-- 1 where a word has MOVE, where it has DROP, where it has HOT, and where it has DIRTY
 abbrev pub moves : ℕ → ℕ
 moves w = cond (has_move (read_of w)) 1 0
 
@@ -140,6 +145,9 @@ drops w = cond (is_dropped (read_of w)) 1 0
 
 abbrev pub hots : ℕ → ℕ
 hots w = cond (has_hot (read_of w)) 1 0
+
+abbrev pub dirts : ℕ → ℕ
+dirts w = cond (is_dirty (read_of w)) 1 0
 
 -- MOVE is set anew where the word found hasn't got it. Of what is used DROP is set anew always, and it is used no longer
 abbrev pub asked_view : ℕ → Mark → ℕ → OwnerView → OwnerView
@@ -152,7 +160,7 @@ asked_view p Dropped found o = record o { objects = (p, None) ∷ o.objects; dro
 -- ---- many owners
 -- one who knows nothing
 abbrev pub nobody : OwnerView
-nobody = record { number = 0; honest = false; logs = 0; epoch = None; open_at = None; objects = []; held = []; asked = []; dropped = []; heated = []; pinned = []; soiled = []; found = [] }
+nobody = record { number = 0; honest = false; logs = 0; epoch = None; open_at = None; objects = []; held = []; asked = []; dropped = []; heated = []; dirtied = []; pinned = []; soiled = []; found = [] }
 
 abbrev pub owner_at : List OwnerView → ℕ → OwnerView
 owner_at os m = slice_index_or os m nobody
