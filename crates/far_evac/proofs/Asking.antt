@@ -21,8 +21,9 @@ use Rattle.far_book.specs.book.Renaming.{seen}
 use Rattle.far_hand.proofs.Finding.{finds_more, near_known}
 use Rattle.far_book.proofs.region.Founds.{drop_found}
 use Rattle.far_evac.specs.declared.evac.evacuating.Fate.{Fate}
+use Rattle.far_evac.specs.declared.evac.evacuating.Fate.TheVariants as fates
 use Rattle.far_evac.specs.AnyHand.{KnowsWalked, WalksTo}
-use Rattle.far_evac.specs.Asked.{AsksAsKnown, AsksFirst, AsksSo, WalksAsking, first_live}
+use Rattle.far_evac.specs.Asked.{AsksAsKnown, AsksExactly, AsksFirst, AsksSo, SparesClean, WalksAsking, first_live}
 use Rattle.far_evac.specs.Leaving.{AsksAs, fate_by, near_fate}
 use Rattle.far_evac.specs.Live.{live_among}
 use Rattle.far_evac.specs.Moment.{Moment, Tally}
@@ -74,6 +75,11 @@ fate_counted w p (Moves place) Goes e = absurd (one_is_more w.tally.moved (ap (�
 fate_counted w p Goes Drops e = absurd (one_is_more w.tally.far (ap (λ (t : Tally). t.far) e))
 fate_counted w p Goes (Moves other) e = absurd (one_is_more w.tally.far (ap (λ (t : Tally). t.far) e))
 
+-- one that was to move isn't far
+pub near_not_far : (o : Option Place) → near_fate o ≢ fates.Far
+near_not_far None e = cc
+near_not_far (Some place) e = cc
+
 module _ (D : Type 0) (writes : D → ℕ → List ℕ → Result (Unit {0}) DeviceFault → D → Type 0) (lets_go : D → ℕ → D → Type 0) where
   -- one object more
   asks_by : (w : Walked) (p : ℕ) (rest : List ℕ) (word : ℕ) (ps : List ℕ) (old new : D) → ps ≡ p ∷ rest → AsksSo D writes lets_go w.moment.core p (way_of w.moment.core (read_of word)) old new → AsksFirst D writes lets_go w word ps old new
@@ -87,11 +93,12 @@ module _ (D : Type 0) (writes : D → ℕ → List ℕ → Result (Unit {0}) Dev
   asks_alike s p _ _ old new e asks = absurd cc
 
   -- the same where no word changes but by it: two ways that are counted alike are one
-  asks_known : (w : Walked) (p : ℕ) (rest ps : List ℕ) (old new : D) → ps ≡ p ∷ rest → AsksSo D writes lets_go w.moment.core p (way_of w.moment.core (read_of (w.moment.core.cell p))) old new → AsksAsKnown D writes lets_go w ps old new
+  asks_known : (w : Walked) (p : ℕ) (rest ps : List ℕ) (old new : D) → ps ≡ p ∷ rest → AsksExactly D writes lets_go w.moment.core p old new → AsksAsKnown D writes lets_go w ps old new
   asks_known w p rest ps old new e asks = subst (λ qs. AsksAsKnown D writes lets_go w qs old new) (sym e) asks
 
   pub asks_more : (still : Type 0) (m : Moment) (k : ℕ) (w v t : Walked) (p : ℕ) (rest : List ℕ) (word : ℕ) (a b c : D) → left w ≡ p ∷ rest → Finds (w.moment.core.cell p) word → KnowsWalked (dealt_as w p (read_of word)) v → KnowsWalked (settled v) t →
-      AsksSo D writes lets_go w.moment.core p (way_of w.moment.core (read_of word)) b c → (still → (v ≡ dealt_as w p (read_of (w.moment.core.cell p))) × (t ≡ settled v)) →
+      AsksSo D writes lets_go w.moment.core p (way_of w.moment.core (read_of word)) b c →
+      (still → (v ≡ dealt_as w p (read_of (w.moment.core.cell p))) × (t ≡ settled v) × (way_of w.moment.core (read_of (w.moment.core.cell p)) ≡ Goes → SparesClean D w.moment.core p b c)) →
       WalksAsking still D writes lets_go m k w a b → WalksAsking still D writes lets_go m (k + 1) t a c
   asks_more still m k w v t p rest word a b c e finds dealt then asks exact walks = subst (λ n. WalksAsking still D writes lets_go m n t a c) (one_more k) (
     w,
@@ -103,8 +110,11 @@ module _ (D : Type 0) (writes : D → ℕ → List ℕ → Result (Unit {0}) Dev
       asks_by w p rest word (left w) b c e asks,
       λ h. let same = exact h in (
         same.1 ∙ ap settled same.0 ∙ sym (ap (dealt_first w) e),
-        asks_known w p rest (left w) b c e (asks_alike w.moment.core p (way_of w.moment.core (read_of word)) (way_of w.moment.core (read_of (w.moment.core.cell p))) b c
-            (fate_counted w p (way_of w.moment.core (read_of word)) (way_of w.moment.core (read_of (w.moment.core.cell p))) (sym dealt.tally ∙ ap (λ (x : Walked). x.tally) same.0)) asks),
+        asks_known w p rest (left w) b c e (
+          asks_alike w.moment.core p (way_of w.moment.core (read_of word)) (way_of w.moment.core (read_of (w.moment.core.cell p))) b c
+              (fate_counted w p (way_of w.moment.core (read_of word)) (way_of w.moment.core (read_of (w.moment.core.cell p))) (sym dealt.tally ∙ ap (λ (x : Walked). x.tally) same.0)) asks,
+          same.2,
+        ),
       ),
     ),
   )

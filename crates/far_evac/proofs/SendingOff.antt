@@ -9,7 +9,7 @@ use Rattle.far_word.specs.Pointer.{IsPtr, read_of}
 use Rattle.far_word.specs.Sizes.{size_of}
 use Rattle.far_word.proofs.PointerLaws.{read_says}
 use Rattle.far_core.specs.events.Naming.{is_dropped, no_marks}
-use Rattle.far_core.specs.state.Law.{Law}
+use Rattle.far_core.specs.state.Law.{Law, is_dirty}
 use Rattle.far_core.specs.state.Room.{room}
 use Rattle.far_core.specs.state.State.{State}
 use Rattle.far_core.proofs.Copied.{NoCopy}
@@ -32,6 +32,7 @@ use Rattle.far_evac.specs.declared.evac.evacuating.Fate.{Fate}
 use Rattle.far_evac.specs.declared.evac.evacuating.Fate.TheVariants as fates
 use Rattle.far_evac.specs.declared.phase.Phase.TheVariants.{Evacuating}
 use Rattle.far_evac.specs.AnyHand.{Knows}
+use Rattle.far_evac.specs.Asked.{IsToBeWritten}
 use Rattle.far_evac.specs.Leaving.{GoesAway, LeavesBy, core_by, fate_by, goes_near, near_fate, order_by}
 use Rattle.far_evac.specs.Live.{live_in, live_among}
 use Rattle.far_evac.specs.Moment.{Moment}
@@ -94,6 +95,10 @@ module _ (s : State) (p : ℕ) (q : IsQuietNear s p) (law : Law (own_part s)) (e
     cold h =
         let none = or_parts found.marks.dropped found.marks.hot (sym (ap goes_near found.near) ∙ h) in
         ap (way_of s) found.near ∙ ap (λ b. cond b Drops (cond found.marks.hot hot_one Goes)) none.0 ∙ ap (λ b. cond b hot_one Goes) none.1
+
+    -- it was to go far at once, and its write was refused
+    pub owed_cold : goes_near (read_of w) ≡ false → (still : Type 0) → (still → w ≡ s.cell p) → (t : State) → is_dirty (read_of (t.cell p)) ≡ true → IsToBeWritten still s t p
+    owed_cold h still exact t dirty = record { word = w; found = finds; goes = cold h; dirty = dirty; exact = exact }
 
     cold_alive : goes_near (read_of w) ≡ false → is_dropped (read_of w) ≡ false
     cold_alive h = ap is_dropped found.near ∙ (or_parts found.marks.dropped found.marks.hot (sym (ap goes_near found.near) ∙ h)).0
@@ -205,12 +210,21 @@ module _ (s : State) (p : ℕ) (q : IsQuietNear s p) (law : Law (own_part s)) (e
         sent_near h (λ d. let odd : Ok (Some place) ≡ Ok None = asked (Ok (Some place)) (Ok None) refl refl d in absurd cc) place to new leaves (subst (λ order. after ≡ order_moved u p order place) same sealed)
     sent_there still h None before same asked to new leaves gone sealed = sent_dropped still new gone (sealed ∙ same)
 
-    -- there was no room: v is where it was sent far from then
+    -- there was no room
+    found_alive : (is_dropped (read_of (u.cell p)) ≡ true → ⊥) → is_dropped (read_of w) ≡ false
+    found_alive undropped = false_from_ne_true (is_dropped (read_of w)) (λ d. undropped (ap (λ (x : State). is_dropped (read_of (x.cell p))) is ∙ ap (λ x. is_dropped (read_of x)) (word_here w finds) ∙ d))
+
+    crowded : goes_near (read_of w) ≡ true → (is_dropped (read_of (u.cell p)) ≡ true → ⊥) → goal u p ≡ None → way_of s (read_of w) ≡ Goes
+    crowded near undropped none = hot w finds near (found_alive undropped) ∙ ap hot_way (sym goal_is ∙ none)
+
+    pub owed_away : goes_near (read_of w) ≡ true → (is_dropped (read_of (u.cell p)) ≡ true → ⊥) → goal u p ≡ None → (still : Type 0) → (still → w ≡ s.cell p) → is_dirty (read_of (t.cell p)) ≡ true → IsToBeWritten still s t p
+    owed_away near undropped none still exact dirty = record { word = w; found = finds; goes = crowded near undropped none; dirty = dirty; exact = exact }
+
+    -- v is where it was sent far from then
     pub sent_away : goes_near (read_of w) ≡ true → (is_dropped (read_of (u.cell p)) ≡ true → ⊥) → goal u p ≡ None → (v : State) (h : IsSeen u v p) → v.word ≡ u.word → after ≡ order → (fate : Fate) →
         GoesAway v t p fate → LeavesBy s order t after p fate
     sent_away near undropped none v h words same fate goes =
-        let alive : is_dropped (read_of w) ≡ false = false_from_ne_true (is_dropped (read_of w)) (λ d. undropped (ap (λ (x : State). is_dropped (read_of (x.cell p))) is ∙ ap (λ x. is_dropped (read_of x)) (word_here w finds) ∙ d)) in
-        let way : way_of s (read_of w) ≡ Goes = hot w finds near alive ∙ ap hot_way (sym goal_is ∙ none) in
+        let way : way_of s (read_of w) ≡ Goes = crowded near undropped none in
         let later : Finds (s.cell p) h.word = later_found w finds h.word (subst (λ (x : State). Finds (x.cell p) h.word) is h.found) in
         away w h.word finds later h.alive way t order after same fate (subst (λ (x : State). GoesAway x t p fate) (seen_again v h words) goes) where
           seen_again : (v : State) (h : IsSeen u v p) → v.word ≡ u.word → v ≡ seen s p h.word

@@ -4,7 +4,9 @@ use Rattle.far_word.specs.declared.refused.Refused.{Refused}
 use Rattle.far_word.specs.Pointer.{read_of}
 use Rattle.far_device.specs.declared.fault.DeviceFault.{DeviceFault}
 use Rattle.far_device.specs.Following.{none_of}
+use Rattle.far_core.specs.state.Law.{is_dirty}
 use Rattle.far_core.specs.state.State.{State}
+use Rattle.far_hand.specs.Finds.{Finds}
 use Rattle.far_book.specs.book.Asking.{AsksToEvict}
 use Rattle.far_evac.specs.declared.answers.EvacFault.{EvacFault}
 use Rattle.far_evac.specs.declared.answers.Progress.{Progress}
@@ -31,6 +33,10 @@ asked_by tally (Err why) = objects_in tally + 1
 abbrev pub KeepsKeys : List ℕ → (ℕ → Option (List ℕ)) → (ℕ → Option (List ℕ)) → Type 0
 KeepsKeys objects old new = (p : ℕ) → none_of objects p → new p ≡ old p
 
+-- if an object has no DIRTY, nothing was asked
+abbrev pub SparesClean : (D : Type 0) → State → ℕ → D → D → Type 0
+SparesClean D s p old new = is_dirty (read_of (s.cell p)) ≡ false → new ≡ old
+
 module _ (D : Type 0) (writes : D → ℕ → List ℕ → Result (Unit {0}) DeviceFault → D → Type 0) (lets_go : D → ℕ → D → Type 0) where
   -- an object left its log so: nothing was asked where it moved; it went far by one write of its bytes, which was done, or without a call, if it had no DIRTY; where it was retired its key was let go of,
   -- after at most one such write
@@ -44,10 +50,13 @@ module _ (D : Type 0) (writes : D → ℕ → List ℕ → Result (Unit {0}) Dev
   AsksFirst w word [] old new = ⊥
   AsksFirst w word (p ∷ ps) old new = AsksSo w.moment.core p (way_of w.moment.core (read_of word)) old new
 
-  -- the same, as its cell says
+  -- the same, as its cell says: nothing was asked for one without DIRTY that went far
+  abbrev pub AsksExactly : State → ℕ → D → D → Type 0
+  AsksExactly s p old new = AsksSo s p (way_of s (read_of (s.cell p))) old new × (way_of s (read_of (s.cell p)) ≡ Goes → SparesClean D s p old new)
+
   abbrev pub AsksAsKnown : Walked → List ℕ → D → D → Type 0
   AsksAsKnown w [] old new = ⊥
-  AsksAsKnown w (p ∷ ps) old new = AsksSo w.moment.core p (way_of w.moment.core (read_of (w.moment.core.cell p))) old new
+  AsksAsKnown w (p ∷ ps) old new = AsksExactly w.moment.core p old new
 
 -- where no word changes but by the walk, each object is dealt with as its cell says, and asks for that
 module _ (still : Type 0) (D : Type 0) (writes : D → ℕ → List ℕ → Result (Unit {0}) DeviceFault → D → Type 0) (lets_go : D → ℕ → D → Type 0) where
@@ -63,6 +72,15 @@ module _ (still : Type 0) (D : Type 0) (writes : D → ℕ → List ℕ → Resu
   abbrev pub AsksOnItsWay : Moment → Moment → Tally → D → D → Type 0
   AsksOnItsWay m t tally old new = (w : Walked) × WalksAsking m (objects_in tally) w old new × (t ≡ ended w) × (tally ≡ w.tally)
 
+-- from s to t an object was to go far as a word says that was found in its cell, and had DIRTY, as it was found last: there was something to write. Where no word changes but by the walk
+-- that word is its cell's
+pub record IsToBeWritten (still : Type 0) (s t : State) (p : ℕ) : Type 0 where
+  pub word : ℕ
+  pub found : Finds (s.cell p) word
+  pub goes : way_of s (read_of word) ≡ Goes
+  pub dirty : is_dirty (read_of (t.cell p)) ≡ true
+  pub exact : still → word ≡ s.cell p
+
 -- a walk was refused: it had dealt with as many objects as it has counted, and asked for them; then it asked for one write of the bytes of the next one, which was
 -- refused so, and t is where it stopped
 pub record IsRefusedWrite (still : Type 0) (D : Type 0) (writes : D → ℕ → List ℕ → Result (Unit {0}) DeviceFault → D → Type 0) (lets_go : D → ℕ → D → Type 0) (m t : Moment) (tally : Tally) (why : Refused) (old new : D) : Type 0 where
@@ -74,5 +92,6 @@ pub record IsRefusedWrite (still : Type 0) (D : Type 0) (writes : D → ℕ → 
   pub rest : List ℕ
   pub is : left stood ≡ next ∷ rest
   pub write : AsksToEvict D writes lets_go stood.moment.core next (Err why) between new
+  pub owed : IsToBeWritten still stood.moment.core t.core next
   pub stops : KnowsMoment stood.moment t
   pub exact : still → t ≡ stood.moment

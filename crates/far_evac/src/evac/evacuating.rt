@@ -6,6 +6,7 @@ ghost use Rattle.far_word.specs.declared.refused.Refused.TheVariants.{Device as 
 ghost use Rattle.far_word.specs.declared.sizes.TheConstants.{CELLS};
 ghost use Rattle.far_word.specs.Pointer.{read_of};
 ghost use Rattle.far_core.specs.events.Naming.{is_dropped};
+ghost use Rattle.far_core.specs.state.Law.{is_dirty};
 ghost use Rattle.far_hand.specs.Came.{Came};
 ghost use Rattle.far_hand.specs.Finds.{Finds};
 ghost use Rattle.far_book.specs.book.Asking.{AsksToEvict};
@@ -14,7 +15,7 @@ ghost use Rattle.far_hand.specs.Quiet.{IsQuietNear};
 ghost use Rattle.far_book.specs.book.Effects.{evicted};
 ghost use Rattle.far_book.specs.book.Releasing.{order_without, released};
 ghost use Rattle.far_evac.specs.AnyHand.{Knows, KnowsMoment, KnowsWalked, StopsAt, Walks};
-ghost use Rattle.far_evac.specs.Asked.{AsksSo, IsRefusedWrite, WalksAsking, asked_by, first_live};
+ghost use Rattle.far_evac.specs.Asked.{AsksSo, IsRefusedWrite, IsToBeWritten, SparesClean, WalksAsking, asked_by, first_live};
 ghost use Rattle.far_evac.specs.ByCopying.{AsksBy, EvacuatesBy, RefusesBy, StopsBy, asked_live};
 ghost use Rattle.far_evac.specs.Calls.{DealsWithObjects};
 ghost use Rattle.far_evac.specs.Cursor.{IsNextLeaving};
@@ -24,7 +25,7 @@ ghost use Rattle.far_evac.specs.Live.{is_empty, live_in};
 ghost use Rattle.far_evac.specs.Moment.{nothing, objects_in, progress_of, tally_of};
 ghost use Rattle.far_evac.specs.MomentLaw.{is_idle};
 ghost use Rattle.far_evac.specs.Turning.{IsBounded, IsBoundedBy};
-ghost use Rattle.far_evac.specs.Walk.{dealt_as, ended, is_done, left, settled, walked, way_of};
+ghost use Rattle.far_evac.specs.Walk.{Goes, dealt_as, ended, is_done, left, settled, walked, way_of};
 ghost use Rattle.far_evac.specs.declared.evac.evacuating.Fate.TheVariants as fates;
 ghost use Rattle.far_evac.specs.declared.phase.Phase.TheVariants as phase;
 
@@ -54,7 +55,8 @@ impl<N: Near + Drop, D: Device + Drop> Evac<N, D> {
     /// that it comes to, the log is given back if nothing lies in it then, and no job reads or writes it.
     ///
     /// Refused [`Refused::Phase`] exactly where objects don't leave now, and nothing has changed; or [`Refused::Memory`] or
-    /// [`Refused::Device`] as the device is, at an object that is as before. What was done before it stays, and is counted in `so_far`.
+    /// [`Refused::Device`] as the device is, at an object that is as before; where no copy may be offered it was to go far, and has DIRTY. What was done before it
+    /// stays, and is counted in `so_far`.
     ///
     /// [`Refused::Phase`]: far_word::Refused::Phase
     /// [`Refused::Memory`]: far_word::Refused::Memory
@@ -270,7 +272,10 @@ impl<N: Near + Drop, D: Device + Drop> Evac<N, D> {
         ensures uncounted { IfErr result (λ _. progress.new ≡ progress.old) }
         ensures round { SameRound self.old self.new }
         ensures rest { (progress.new.freed ≡ progress.old.freed) × (progress.new.done ≡ progress.old.done) }
+        ensures unasked { N.still → IfOk result (λ _. way_of (N.view self.old.book.near) (read_of ((N.view self.old.book.near).cell span.p)) ≡ Goes
+            → SparesClean D (N.view self.old.book.near) span.p self.old.book.device self.new.book.device) }
         ensures refused { IfErr result (λ why. AsksToEvict D D.writes D.lets_go (N.view self.old.book.near) span.p (Err why) self.old.book.device self.new.book.device) }
+        ensures owed { IfErr result (λ _. IsToBeWritten N.still (N.view self.old.book.near) (N.view self.new.book.near) span.p) }
         ensures follows { Follows D.contents D.honest D.faults D.fails_at_most (other_than span.p) (is_failure result) self.old.book.device self.new.book.device }
         ensures why { IfErr result (λ why. (why ≡ Memory) ⊎ (why ≡ Failed)) }
     {
@@ -318,7 +323,9 @@ pub(super) fn send_off<N: Near + Drop, D: Device + Drop>(
     ensures same { N.still → IfErr result (λ _. N.view book.new.near ≡ N.view book.old.near) }
     ensures order { IfErr result (λ _. book.new.order ≡ book.old.order) }
     ensures asked { IfOk result (λ fate. AsksAs D D.writes D.lets_go (N.view book.old.near) pointer fate book.old.device book.new.device) }
+    ensures unasked { N.still → IfOk result (λ fate. fate ≡ fates.Far → SparesClean D (N.view book.old.near) pointer book.old.device book.new.device) }
     ensures refused { IfErr result (λ why. AsksToEvict D D.writes D.lets_go (N.view book.old.near) pointer (Err why) book.old.device book.new.device) }
+    ensures owed { IfErr result (λ _. IsToBeWritten N.still (N.view book.old.near) (N.view book.new.near) pointer) }
     ensures follows { Follows D.contents D.honest D.faults D.fails_at_most (other_than pointer) (is_failure result) book.old.device book.new.device }
     ensures why { IfErr result (λ why. (why ≡ Memory) ⊎ (why ≡ Failed)) }
 {
@@ -364,7 +371,9 @@ pub(super) fn send_far<N: Near + Drop, D: Device + Drop>(
     ensures same { N.still → IfErr result (λ _. N.view book.new.near ≡ N.view book.old.near) }
     ensures order { book.new.order ≡ book.old.order }
     ensures asked { IfOk result (λ fate. AsksAs D D.writes D.lets_go (N.view book.old.near) pointer fate book.old.device book.new.device) }
+    ensures unasked { N.still → IfOk result (λ fate. fate ≡ fates.Far → SparesClean D (N.view book.old.near) pointer book.old.device book.new.device) }
     ensures refused { IfErr result (λ why. AsksToEvict D D.writes D.lets_go (N.view book.old.near) pointer (Err why) book.old.device book.new.device) }
+    ensures owed { IfErr result (λ _. is_dirty (read_of ((N.view book.new.near).cell pointer)) ≡ true) }
     ensures follows { Follows D.contents D.honest D.faults D.fails_at_most (other_than pointer) (is_failure result) book.old.device book.new.device }
     ensures why { IfErr result (λ why. (why ≡ Memory) ⊎ (why ≡ Failed)) }
 {

@@ -5,9 +5,10 @@ use Rattle.far_core.specs.state.Law.{Law}
 use Rattle.far_book.specs.book.Asking.{AsksToEvict}
 use Rattle.far_book.specs.book.Own.{own_part}
 use Rattle.far_evac.specs.declared.phase.Phase.TheVariants.{Evacuating}
+use Rattle.far_evac.specs.Asked.{IsToBeWritten, SparesClean}
 use Rattle.far_evac.specs.Cursor.{IsNextLeaving}
 use Rattle.far_evac.specs.EvacOf.{EvacOf, moment}
-use Rattle.far_evac.specs.Leaving.{AsksAs, LeavesAs, LeavesBy, standing}
+use Rattle.far_evac.specs.Leaving.{AsksAs, LeavesAs, LeavesBy, fate_by, standing}
 use Rattle.far_evac.specs.Moment.{tally_of}
 use Rattle.far_evac.specs.MomentLaw.{has_risen}
 use Rattle.far_evac.specs.Ready.{Ready}
@@ -86,3 +87,16 @@ returns-in-Ok-clause-exact g c still =
 pub returns-in-Err-clause-refused : goal.returns-in-Err-clause-refused
 returns-in-Err-clause-refused g c =
     subst (λ (e : EvacOf g.row.N.Denot g.row.D.Denot). AsksToEvict g.row.D.Denot g.D.Device.writes g.D.Device.lets_go (g.N.Near.view e.book.near) c.args.span.p (Err c.in-Err.why) e.book.device c.send_off.new.book.device) c.self.view_is c.in-Err.ensures.refused
+
+pub returns-in-Err-clause-owed : goal.returns-in-Err-clause-owed
+returns-in-Err-clause-owed g c =
+    subst (λ (e : EvacOf g.row.N.Denot g.row.D.Denot). IsToBeWritten g.N.Near.still (g.N.Near.view e.book.near) (g.N.Near.view c.send_off.new.book.near) c.args.span.p) c.self.view_is c.in-Err.ensures.owed
+
+pub returns-in-Ok-clause-unasked : goal.returns-in-Ok-clause-unasked
+returns-in-Ok-clause-unasked g c = λ still goes.
+    let view = g.N.Near.view in
+    let p = c.args.span.p in
+    let leaves = subst (λ (e : EvacOf g.row.N.Denot g.row.D.Denot). LeavesAs (view e.book.near) e.book.order (view c.send_off.new.book.near) c.send_off.new.book.order p ((view e.book.near).cell p) c.in-Ok.fate) c.self.view_is
+    (c.in-Ok.ensures.exact still) in
+    subst (λ (e : EvacOf g.row.N.Denot g.row.D.Denot). SparesClean g.row.D.Denot (view e.book.near) p e.book.device c.send_off.new.book.device) c.self.view_is
+    (c.in-Ok.ensures.unasked still (leaves.is ∙ ap fate_by goes))

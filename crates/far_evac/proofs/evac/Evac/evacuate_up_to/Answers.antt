@@ -81,7 +81,7 @@ loop-preserved g c =
       freed = omega (arith, c.settle.ensures.freed, did.rest.0, long, before.freed);
       done = did.rest.1 ∙ c.settle.ensures.done ∙ before.done;
       asked = λ (t : Walked) known same.
-          asks_more g.row.D.Denot g.D.Device.writes g.D.Device.lets_go g.N.Near.still m c.loop.counter w v t c.in-Some.first.span.p some.0 did.dealt.0 old now c.deal.new.self.book.device some.1 did.dealt.1 did.dealt.2 known did.dealt.3 (λ still. (did.exact still, same still))
+          asks_more g.row.D.Denot g.D.Device.writes g.D.Device.lets_go g.N.Near.still m c.loop.counter w v t c.in-Some.first.span.p some.0 did.dealt.0 old now c.deal.new.self.book.device some.1 did.dealt.1 did.dealt.2 known did.dealt.3 (λ still. (did.exact still, same still, did.unasked still))
           (asked g h c.loop.counter c.settle.new.self c.settle.new.progress walks c.settle.ensures.device refl (before.asked w c.settle.ensures.known c.settle.ensures.exact));
       follows = follows_more g.D.Device.contents g.D.Device.honest g.D.Device.faults g.D.Device.fails_at_most m c.loop.counter w c.in-Some.first.span.p some.0 false old now c.deal.new.self.book.device ready walks some.1
           (follows g h c.loop.counter c.settle.new.self c.settle.new.progress walks c.settle.ensures.device refl before.follows) did.follows;
@@ -170,6 +170,7 @@ returns-in-Err-clause-refused g c =
       rest = some.0;
       is = some.1;
       write = c.in-Err.ensures.refused;
+      owed = c.in-Err.ensures.owed;
       stops = subst (λ (now : Phase). KnowsMoment (record (moment view c.settle.new.self) { phase = now }) (moment view c.deal.new.self)) leaving c.in-Err.ensures.kept;
       exact = λ still. c.in-Err.ensures.same still ∙ ap (λ (now : Phase). record (moment view c.settle.new.self) { phase = now }) leaving;
     }

@@ -1,8 +1,9 @@
-use Rattle.std.proofs.Common.{◌∙◌, Ok, ap, refl, subst}
+use Rattle.std.proofs.Common.{◌≡◌, ◌∙◌, Ok, ap, refl, subst}
 use Rattle.std.specs.Prelude.{Bool, Result}
 use Rattle.far_word.specs.declared.refused.Refused.{Refused}
 use Rattle.far_book.specs.book.Asking.{AsksToEvict}
 use Rattle.far_book.specs.book.Effects.{with_free_cell}
+use Rattle.far_evac.specs.declared.evac.evacuating.Fate.TheVariants.{Dropped, Far}
 use Rattle.far_evac.specs.Walk.{Drops, Goes}
 use Rattle.far_evac.proofs.Hands.{knows_spans}
 use Rattle.far_evac.proofs.SendingOff.{far_known, seen_known}
@@ -37,3 +38,9 @@ returns-in-Ok-false-clause-asked g c = (
   subst (λ (r : Result Bool Refused). AsksToEvict g.row.D.Denot g.D.Device.writes g.D.Device.lets_go (g.N.Near.view c.args.book.now.near) c.args.pointer r c.args.book.now.device c.evict_by-answer.new.self.device)
       (c.in-Ok-false.is ∙ ap (λ far. Ok far) c.in-Ok-false.field-0-test) c.evict_by-answer.ensures.called,
 )
+
+pub returns-in-Ok-true-clause-unasked : goal.returns-in-Ok-true-clause-unasked
+returns-in-Ok-true-clause-unasked g c = λ still is clean. c.evict_by-answer.ensures.unasked still (c.in-Ok-true.is ∙ ap (λ far. Ok far) c.in-Ok-true.field-0-test) clean
+
+pub returns-in-Ok-false-clause-unasked : goal.returns-in-Ok-false-clause-unasked
+returns-in-Ok-false-clause-unasked g c = λ still is clean. let odd : Dropped ≡ Far = is in absurd cc

@@ -1,11 +1,13 @@
 use Rattle.std.proofs.Common.{◌∙◌, None, ap, sym, subst}
 use Rattle.far_book.specs.book.BookOf.{BookOf}
+use Rattle.far_word.specs.Pointer.{read_of}
+use Rattle.far_core.specs.state.Law.{is_dirty}
 use Rattle.far_core.specs.state.State.{State}
 use Rattle.far_hand.proofs.Closure.{then_came}
 use Rattle.far_evac.specs.Leaving.{AsksAs, LeavesBy, near_fate}
-use Rattle.far_evac.proofs.Asking.{asked_before, asked_there, finds_seen, finds_then, refused_before}
+use Rattle.far_evac.proofs.Asking.{asked_before, asked_there, finds_seen, finds_then, near_not_far, refused_before}
 use Rattle.far_evac.proofs.Hands.{knows_more}
-use Rattle.far_evac.proofs.SendingOff.{err_map, found_here, ok_map, no_answer, quiet_here, quiet_still, seen_known, sent_away, sent_cold, sent_there}
+use Rattle.far_evac.proofs.SendingOff.{err_map, found_here, ok_map, no_answer, owed_away, owed_cold, quiet_here, quiet_still, seen_known, sent_away, sent_cold, sent_there}
 use Rattle.far_evac.proofs.evac.evacuating.send_off.Goals as goal
 
 pub send_far-requires-clause-quiet : goal.send_far-requires-clause-quiet
@@ -102,6 +104,34 @@ returns-in-Err-clause-refused g c =
     let same = ap (λ (b : BookOf g.row.N.Denot g.row.D.Denot). b.device) missed.kept ∙ c.cell_of-found.ensures.device in
     err_map c.send_far-in-Err.result (λ why asks. refused_before g.row.D.Denot g.D.Device.writes g.D.Device.lets_go s v c.args.pointer (finds_then s u v c.args.pointer c.cell_of-found.result c.cell_of-found.ensures.found c.cell_of-found.ensures.kept missed.seen)
     (missed.words ∙ ap (λ (x : State). x.word) c.cell_of-found.ensures.kept) c.args.book.now.device c.move_by-answer.new.self.device same why c.send_far-in-Err.new.book.device asks) c.send_far-in-Err.ensures.refused
+
+pub returns-then-not-goes_near-clause-owed : goal.returns-then-not-goes_near-clause-owed
+returns-then-not-goes_near-clause-owed g c =
+    let cold = sym c.goes_near.ensures ∙ c.if-not-goes_near.true in
+    err_map c.send_far.result (λ _ dirty. owed_cold (g.N.Near.view c.args.book.now.near) c.args.pointer c.requires.quiet c.keeps_law.ensures.law c.requires.evac c.cell_of-found.result c.cell_of-found.ensures.found
+    cold g.N.Near.still c.cell_of-found.ensures.exact (g.N.Near.view c.send_far.new.book.near) dirty) c.send_far.ensures.owed
+
+pub returns-in-Err-clause-owed : goal.returns-in-Err-clause-owed
+returns-in-Err-clause-owed g c =
+    let near = sym c.goes_near.ensures ∙ c.if-not-goes_near.false in
+    let done = c.move_by-answer.ensures in
+    err_map c.send_far-in-Err.result (λ _ dirty. owed_away (g.N.Near.view c.args.book.now.near) c.args.pointer c.requires.quiet c.keeps_law.ensures.law c.requires.evac c.cell_of-found.result c.cell_of-found.ensures.found
+    (g.N.Near.view c.cell_of-found.new.self.near) c.cell_of-found.ensures.kept (g.N.Near.view c.send_far-in-Err.new.book.near) c.args.book.now.order c.send_far-in-Err.new.book.order near
+    (no_answer c.move_by-answer.result c.in-Err.field-0 None c.in-Err.is done.asked) c.in-Err.ensures.none g.N.Near.still c.cell_of-found.ensures.exact dirty) c.send_far-in-Err.ensures.owed
+
+pub returns-then-not-goes_near-clause-unasked : goal.returns-then-not-goes_near-clause-unasked
+returns-then-not-goes_near-clause-unasked g c = λ still.
+    let clean = ap (λ (x : State). is_dirty (read_of (x.cell c.args.pointer))) (c.cell_of-found.ensures.set still) in
+    ok_map c.send_far.result (λ fate spares is none. spares is (clean ∙ none) ∙ c.cell_of-found.ensures.device) (c.send_far.ensures.unasked still)
+
+pub returns-in-Ok-clause-unasked : goal.returns-in-Ok-clause-unasked
+returns-in-Ok-clause-unasked g c = λ still is none. absurd (near_not_far c.in-Ok.place (sym c.near_fate.ensures ∙ is))
+
+pub returns-in-Err-clause-unasked : goal.returns-in-Err-clause-unasked
+returns-in-Err-clause-unasked g c = λ still.
+    let clean = ap (λ (x : State). is_dirty (read_of (x.cell c.args.pointer))) (c.in-Err.ensures.unchanged still ∙ c.cell_of-found.ensures.set still) in
+    let same = ap (λ (b : BookOf g.row.N.Denot g.row.D.Denot). b.device) c.in-Err.ensures.kept ∙ c.cell_of-found.ensures.device in
+    ok_map c.send_far-in-Err.result (λ fate spares is none. spares is (clean ∙ none) ∙ same) (c.send_far-in-Err.ensures.unasked still)
 
 pub returns-then-not-goes_near-clause-came : goal.returns-then-not-goes_near-clause-came
 returns-then-not-goes_near-clause-came g c = then_came c.cell_of-found.ensures.came c.send_far.ensures.came
