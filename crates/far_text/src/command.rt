@@ -537,33 +537,3 @@ pub fn entry_by_first_word(text: &[u8]) -> Option<Spelled<'_>>
     let (name, rest) = word_first(text);
     entry_by_name(name, rest)
 }
-
-/// What the first line of a text spells. The commands that traces are full of are known by their first bytes.
-#[inline(always)]
-pub fn entry_first(text: &[u8]) -> Option<Spelled<'_>>
-    ensures value { option_and_then (λ found. entry_spelled found.0) result ≡ entry_of (words_in text.now) }
-    ensures lines { IfSome result (λ found. lines_left found.1 ≡ lines_after_first text.now) }
-{
-    if let [b'r', b'e', b'a', b'd', b' ', rest @ ..] = text {
-        return read_spelled(Rest::Words(rest));
-    }
-    if let [b'w', b'r', b'i', b't', b'e', b' ', rest @ ..] = text {
-        return write_spelled(Rest::Words(rest));
-    }
-    if let [b'v', b'i', b'e', b'w', b' ', rest @ ..] = text {
-        return view_spelled(Rest::Words(rest));
-    }
-    if let [b'n', b'e', b'w', b' ', rest @ ..] = text {
-        return new_spelled(Rest::Words(rest));
-    }
-    if let [b'd', b'r', b'o', b'p', b' ', rest @ ..] = text {
-        return drop_spelled(Rest::Words(rest));
-    }
-    if let [b'o', b'p', b'e', b'n', b' ', rest @ ..] = text {
-        return open_spelled(Rest::Words(rest));
-    }
-    if let [b'c', b'l', b'o', b's', b'e', b' ', rest @ ..] = text {
-        return close_spelled(Rest::Words(rest));
-    }
-    entry_by_first_word(text)
-}

@@ -6,7 +6,7 @@ ghost use Rattle.far_text.specs.Spelled.{entry_spelled, as_line};
 ghost use Rattle.far_text.specs.Grammar.{entry_of, line_of, Bad, Skipped};
 ghost use Rattle.far_text.specs.Cursor.{first_line, lines_after_first, lines_left, words_in};
 
-use crate::command::{Entry, Spelled, entry_by_first_word, entry_first};
+use crate::command::{Entry, Spelled, entry_by_first_word};
 use crate::cursor::line_end;
 use crate::hex_word::LONGEST_LINE;
 
@@ -106,26 +106,6 @@ fn line_len(text: &[u8], lines: Option<&[u8]>) -> usize
     }
 }
 
-/// Where a line stands: the few lines as far as the heap's go by their first word, so that the code for the many after it
-/// stands in one place.
-#[derive(Clone, Copy)]
-pub enum Part {
-    AsFarAsTheHeap,
-    AfterTheHeap,
-}
-
-// What the first line of a text spells.
-#[inline(always)]
-fn spelled_first(text: &[u8], part: Part) -> Option<Spelled<'_>>
-    ensures value { option_and_then (λ found. entry_spelled found.0) result ≡ entry_of (words_in text.now) }
-    ensures lines { IfSome result (λ found. lines_left found.1 ≡ lines_after_first text.now) }
-{
-    match part {
-        Part::AsFarAsTheHeap => entry_by_first_word(text),
-        Part::AfterTheHeap => entry_first(text),
-    }
-}
-
 /// The line that a text begins with, where this is what its words spell.
 #[inline(always)]
 pub fn line_spelled<'a>(
@@ -152,7 +132,7 @@ pub fn line_spelled<'a>(
 
 /// What the first line of a text says, and the lines after it; None where it is off the grammar.
 #[inline(always)]
-pub fn line_first(text: &[u8], part: Part) -> Option<(Line<'_>, Option<&[u8]>)>
+pub fn line_first(text: &[u8]) -> Option<(Line<'_>, Option<&[u8]>)>
     ensures bad { IfNone result (line_of (first_line text.now) ≡ Bad) }
     ensures line { IfSome result (λ found. as_line found.0 ≡ line_of (first_line text.now)) }
     ensures lines { IfSome result (λ found. lines_left found.1 ≡ lines_after_first text.now) }
@@ -166,5 +146,5 @@ pub fn line_first(text: &[u8], part: Part) -> Option<(Line<'_>, Option<&[u8]>)>
     if text[0] == b'#' {
         return comment_first(text);
     }
-    line_spelled(text, spelled_first(text, part))
+    line_spelled(text, entry_by_first_word(text))
 }

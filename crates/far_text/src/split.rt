@@ -10,7 +10,7 @@ ghost use Rattle.far_text.specs.declared.text.TheConstants.{LONGEST_TEXT};
 ghost use Rattle.far_text.specs.declared.text.ParseError;
 
 use crate::command::{Device, Entry};
-use crate::line::{Line, Part, line_first};
+use crate::line::{Line, line_first};
 use crate::split_text::SplitText;
 use crate::text::{LONGEST_TEXT, ParseError, device_line, heap_line};
 use std::alloc::Global;
@@ -46,7 +46,7 @@ fn split_after(
     let mut lines = lines;
     while let Some(text) = lines {
         number += 1;
-        let Some((line, after)) = line_first(text, Part::AfterTheHeap) else {
+        let Some((line, after)) = line_first(text) else {
             return Err(ParseError::Syntax(number));
         };
         if let Line::Said(entry) = line {

@@ -12,7 +12,7 @@ ghost use Rattle.far_text.specs.HeapSought.{NoHeap, HeapAt, heap_sought};
 use crate::adding::add_line;
 use crate::command::{Device, Entry};
 use crate::commands::Commands;
-use crate::line::{Line, Part, line_first, skipped_first};
+use crate::line::{Line, line_first, skipped_first};
 use std::alloc::{AllocError, AllocFailed, Global};
 use thiserror::Error;
 
@@ -88,7 +88,7 @@ pub fn heap_line(text: &[u8]) -> Result<Option<HeapLine<'_>>, ParseError>
     let mut lines = Some(text);
     while let Some(text) = lines {
         number += 1;
-        let Some((line, after)) = line_first(text, Part::AsFarAsTheHeap) else {
+        let Some((line, after)) = line_first(text) else {
             return Err(ParseError::Syntax(number));
         };
         if let Line::Said(entry) = line {
@@ -124,7 +124,7 @@ pub fn device_line(number: u64, lines: Option<&[u8]>) -> (Option<Device>, u64, O
     let mut left = lines;
     while let Some(text) = left {
         at += 1;
-        let Some((line, after)) = line_first(text, Part::AsFarAsTheHeap) else {
+        let Some((line, after)) = line_first(text) else {
             return (None, number, lines);
         };
         if let Line::Said(entry) = line {
