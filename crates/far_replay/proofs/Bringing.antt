@@ -149,12 +149,12 @@ module _ (s : State) (m p : ℕ) (law : Law s) (used : s.used p ≡ true) (far :
   pub far_here : comes_to (asked_for s m p) p ≡ room_for s p
   far_here = ap (λ (x : State). comes_to x p) far_unasked ∙ far_comes
 
-  pub far_refused : (t : State) (why : Refusal) (honest : Bool) → RefusesFetch why (room_for s p) honest → t ≡ s → RefusesBringing (asked_for s m p) p why t
-  far_refused t NoRoom honest h same = (far_here ∙ h, same ∙ sym far_unasked)
-  far_refused t Memory honest h same = (ap is_some far_here ∙ h, same ∙ sym far_unasked)
-  far_refused t Device honest h same = (ap is_some far_here ∙ h, same ∙ sym far_unasked)
-  far_refused t Damaged honest h same = (ap is_some far_here ∙ h.0, same ∙ sym far_unasked)
-  far_refused t why honest h same = absurd h
+  pub far_refused : (t : State) (why : Refusal) (honest : Bool) → why ≢ Memory → RefusesFetch why (room_for s p) honest → t ≡ s → RefusesBringing (asked_for s m p) p why t
+  far_refused t NoRoom honest never h same = (far_here ∙ h, same ∙ sym far_unasked)
+  far_refused t Memory honest never h same = absurd (never refl)
+  far_refused t Device honest never h same = (ap is_some far_here ∙ h, same ∙ sym far_unasked)
+  far_refused t Damaged honest never h same = (ap is_some far_here ∙ h.0, same ∙ sym far_unasked)
+  far_refused t why honest never h same = absurd h
 
 -- ---- owners stay as they are, and so do all cells but p's
 pub record KeepsOwners (p : ℕ) (s t : State) : Type 0 where
@@ -245,6 +245,9 @@ came_opened t u m p came opened =
     let k = brought_keeps t m p in
     let same : is_opened (come (asked_for t m p) p) m ≡ is_opened t m = (λ i. nat_lt m (k.mutators i) && not (k.scope i m == 0)) in
     ap (λ (x : State). is_opened x m) came ∙ same ∙ opened
+
+pub came_unheld : (t u : State) (m p : ℕ) → u ≡ come (asked_for t m p) p → t.held p ≡ None → u.held p ≡ None
+came_unheld t u m p came unheld = ap (λ (x : State). x.held p) came ∙ ap (λ (f : ℕ → Option Place). f p) (brought_keeps t m p).held ∙ unheld
 
 pub came_used : (t u : State) (m p : ℕ) → u ≡ come (asked_for t m p) p → t.used p ≡ true → u.used p ≡ true
 came_used t u m p came used = ap (λ (x : State). x.used p) came ∙ ap (λ (f : ℕ → Bool). f p) (brought_keeps t m p).used ∙ used

@@ -271,13 +271,11 @@ module _ (old new : EvacOf Plain FarSide) (m p : ℕ) (law : Law (state_in old))
   refused_leaves Damaged h = read_leaves d new.book.device p (Ok h.0) h.1
   refused_leaves why h = absurd h
 
-  pub refused_spends : (why : Refusal) → AsksToFetch FarSide FarReads FarLetsGo (Unit {0}) s (state_in new) p (Err why) d new.book.device → SpentBy (refuser why) old new
-  refused_spends NoRoom h = spent_same old new h
-  refused_spends Memory h = spent_none old new (read_no_more d new.book.device p (Err fault.Memory) h (λ odd. let no : fault.Memory ≡ fault.Device = err_is odd in absurd cc)) where
-    err_is : read_fault fault.Memory ≡ read_fault fault.Device → fault.Memory ≡ fault.Device
-    err_is e = cc
-  refused_spends Device h =
+  pub refused_spends : (why : Refusal) → why ≢ Memory → AsksToFetch FarSide FarReads FarLetsGo (Unit {0}) s (state_in new) p (Err why) d new.book.device → SpentBy (refuser why) old new
+  refused_spends NoRoom never h = spent_same old new h
+  refused_spends Memory never h = absurd (never refl)
+  refused_spends Device never h =
       let failed = read_failed d new.book.device p held there h in
       spent_failed old new d (same_no_more d) (read_fault fault.Device) _ failed.0 refl failed.1 h.3
-  refused_spends Damaged h = damaged_spends h.0 h.1 h.2
-  refused_spends why h = absurd h
+  refused_spends Damaged never h = damaged_spends h.0 h.1 h.2
+  refused_spends why never h = absurd h

@@ -9,7 +9,7 @@ use Rattle.far_word.specs.declared.refused.Refused.{Refused as Refusal}
 use Rattle.far_word.specs.declared.refused.Refused.TheVariants.{Device, Memory, Phase as WrongPhase}
 use Rattle.far_word.specs.Bytes.{bytes_of}
 use Rattle.far_word.specs.Pointer.{read_of}
-use Rattle.far_core.specs.state.Law.{Law}
+use Rattle.far_core.specs.state.Law.{Law, is_dirty}
 use Rattle.far_core.specs.state.State.{State}
 use Rattle.far_book.specs.book.FarSide.{kept_len}
 use Rattle.far_hand.specs.declared.plain.Plain.{Plain}
@@ -37,7 +37,7 @@ use Rattle.far_evac.proofs.Marks.{marking_frame, marking_like}
 use Rattle.far_replay.specs.Far.{FarBytes, HoldsAs, far_in, far_of}
 use Rattle.far_replay.specs.Moment.{FarSide, moment_in, state_in}
 use Rattle.far_replay.proofs.FarReads.{FarLetsGo, FarWrites}
-use Rattle.far_replay.proofs.Holding.{holds_beside, holds_on, stop_holds, way_holds}
+use Rattle.far_replay.proofs.Holding.{HoldsStill, holds_beside, holds_on, stop_holds, way_holds}
 use Rattle.far_replay.proofs.Stopping.{evacuating_or}
 
 -- ---- EVAC aside, a cell says what it said
@@ -54,10 +54,16 @@ far_but (Some (Far n d k)) len ds m e =
     (k, rw (lens, structures) refl)
 far_but _ len ds m e = absurd cc
 
-marks_hold : (s0 s t : State) (held c now : FarBytes) (q : ℕ) → but_evac (read_of (t.cell q)) ≡ but_evac (read_of (s.cell q)) → t.stored q ≡ s.stored q → now q ≡ c q → HoldsAs s0 s held c q → HoldsAs s0 t held now q
+dirty_but : (o : Option PtrWord) → is_dirty (but_evac o) ≡ is_dirty o
+dirty_but None = refl
+dirty_but (Some Free) = refl
+dirty_but (Some (Near len ds place marks)) = refl
+dirty_but (Some (Far len ds marks)) = refl
+
+marks_hold : (s0 s t : State) (held c now : FarBytes) (q : ℕ) → but_evac (read_of (t.cell q)) ≡ but_evac (read_of (s.cell q)) → t.stored q ≡ s.stored q → now q ≡ c q → HoldsStill s0 s held c q → HoldsStill s0 t held now q
 marks_hold s0 s t held c now q but stored same h =
     let kept : kept_len (read_of (t.cell q)) ≡ kept_len (read_of (s.cell q)) = sym (kept_but (read_of (t.cell q))) ∙ ap kept_len but ∙ kept_but (read_of (s.cell q)) in
-    holds_on s0 s held c t now q (λ len k. sym kept ∙ k)
+    holds_on s0 s held c t now q (λ dirty. sym (dirty_but (read_of (s.cell q))) ∙ ap is_dirty (sym but) ∙ dirty_but (read_of (t.cell q)) ∙ dirty) (λ len k. sym kept ∙ k)
     (λ len ds m far. let x = far_but (read_of (t.cell q)) len ds m (but ∙ ap but_evac far) in (x.0, x.1, ap (λ (f : ℕ → ℕ). bytes_of f len) stored)) same h
 
 -- looks leave cells, and what is stored
@@ -71,7 +77,7 @@ far_bytes = far_of
 -- ---- of what was so from a state on
 module _ (s0 : State) (held : FarBytes) where
   abbrev pub HoldsIn : Moment → FarSide → Type 0
-  HoldsIn m d = (q : ℕ) → HoldsAs s0 m.core held (far_of d) q
+  HoldsIn m d = (q : ℕ) → HoldsStill s0 m.core held (far_of d) q
 
   marked_hold : (u : Moment) → Law u.core → (d e : FarSide) → e ≡ d → HoldsIn u d → HoldsIn (turned (begun_turns u) Marking).moment e
   marked_hold u law d e same h q =
@@ -137,6 +143,9 @@ HoldsCall old new = (q : ℕ) → HoldsAs (state_in old) (state_in new) (far_in 
 begun_held : (old : EvacOf Plain FarSide) → HoldsCall old old
 begun_held old q len k = inl (refl, k)
 
+begun_still : (old : EvacOf Plain FarSide) (q : ℕ) → HoldsStill (state_in old) (state_in old) (far_in old) (far_in old) q
+begun_still old q = (λ dirty. dirty, begun_held old q)
+
 -- nothing has changed
 same_held : (old new : EvacOf Plain FarSide) → new ≡ old → HoldsCall old new
 same_held old new same = subst (HoldsCall old) (sym same) (begun_held old)
@@ -144,22 +153,22 @@ same_held old new same = subst (HoldsCall old) (sym same) (begun_held old)
 -- an evacuation
 pub evacuated_holds : (old new : EvacOf Plain FarSide) → Law (state_in old) → MomentLaw (moment_in old) → (moment_in old).copying ≡ false → (moment_in old).phase ≡ Evacuating → (n : ℕ) (tally : Tally) →
     AsksBy (Unit {0}) FarSide FarWrites FarLetsGo far_bytes (moment_in old) n (moment_in new) tally old.book.device new.book.device → HoldsCall old new
-evacuated_holds old new law moment alone phase n tally asks =
-    way_holds (state_in old) (far_in old) (moment_in old) law moment alone phase old.book.device (begun_held old) (moment_in new) tally new.book.device (asks.alone alone)
+evacuated_holds old new law moment alone phase n tally asks q =
+    (way_holds (state_in old) (far_in old) (moment_in old) law moment alone phase old.book.device (begun_still old) (moment_in new) tally new.book.device (asks.alone alone) q).1
 
 -- one that was refused
 pub halted_holds : {X : Type 0} (old new : EvacOf Plain FarSide) → Law (state_in old) → MomentLaw (moment_in old) → (moment_in old).copying ≡ false → (n : ℕ) (fault : EvacFault) →
     ((moment_in old).phase ≢ Evacuating → (fault.why ≡ WrongPhase) × X × (new ≡ old)) →
     ((moment_in old).phase ≡ Evacuating → RefusesBy (Unit {0}) FarSide FarWrites FarLetsGo far_bytes (moment_in old) n (moment_in new) (tally_of fault.so_far) fault.why old.book.device new.book.device) → HoldsCall old new
 halted_holds old new law moment alone n fault barred refused = elim (evacuating_or (moment_in old).phase) [
-  | inl phase ↦ stop_holds (state_in old) (far_in old) (moment_in old) law moment alone phase old.book.device (begun_held old) (moment_in new) (tally_of fault.so_far) fault.why new.book.device ((refused phase).alone alone)
+  | inl phase ↦ λ q. (stop_holds (state_in old) (far_in old) (moment_in old) law moment alone phase old.book.device (begun_still old) (moment_in new) (tally_of fault.so_far) fault.why new.book.device ((refused phase).alone alone) q).1
   | inr other ↦ same_held old new (barred other).2
 ]
 
 -- a whole round
 module _ (old new : EvacOf Plain FarSide) (law : Law (state_in old)) (single : (moment_in old).copying ≡ false) (turns : ℕ) where
   begun : Stands (state_in old) (far_in old) (moment_in old) old.book.device
-  begun = record { law = law; alone = single; holds = begun_held old }
+  begun = record { law = law; alone = single; holds = begun_still old }
 
   abbrev First : (EvacFault → Type 0) → (EvacFault → Type 0) → EvacFault → Type 0
   First Counts X fault = Counts fault × (new ≡ old) × IsBadChoice fault.why × X fault
@@ -171,14 +180,14 @@ module _ (old new : EvacOf Plain FarSide) (law : Law (state_in old)) (single : (
   module _ (Gives : List ℕ → Type 0) (Ended : List ℕ → RoundEnd → Type 0) (Counts X : EvacFault → Type 0) (Halts : List ℕ → EvacFault → Type 0) (K : Type 0) (so_far : Progress) where
     refused_keeps : (fault : EvacFault) → First Counts X fault ⊎ Broken Gives Halts fault → HoldsCall old new
     refused_keeps fault (inl (counts, same, bad, gave)) = same_held old new same
-    refused_keeps fault (inr (logs, gives, why, halts, asked)) =
-        broken_holds (state_in old) (far_in old) (moment_in old) old.book.device begun logs turns fault.so_far fault.why (moment_in new) new.book.device asked
+    refused_keeps fault (inr (logs, gives, why, halts, asked)) = λ q.
+        (broken_holds (state_in old) (far_in old) (moment_in old) old.book.device begun logs turns fault.so_far fault.why (moment_in new) new.book.device asked q).1
 
     pub round_keeps : (r : Result RoundEnd EvacFault) →
         IfOk r (λ end. (logs : List ℕ) × Gives logs × Ended logs end × RoundAsking (Unit {0}) FarSide FarWrites FarLetsGo far_bytes (moment_in old) logs turns true end (moment_in new) old.book.device new.book.device) →
         ((why : Refusal) → unselectable (moment_in old) ≡ Some why → (r ≡ Err (record { so_far = so_far; why = why })) × (new ≡ old) × K) →
         (unselectable (moment_in old) ≡ None → IfErr r (λ fault. First Counts X fault ⊎ Broken Gives Halts fault)) → HoldsCall old new
-    round_keeps (Ok end) (logs, gives, ended, asks) bars refused = round_holds (state_in old) (far_in old) (moment_in old) old.book.device begun logs turns true end (moment_in new) new.book.device asks
+    round_keeps (Ok end) (logs, gives, ended, asks) bars refused = λ q. (round_holds (state_in old) (far_in old) (moment_in old) old.book.device begun logs turns true end (moment_in new) new.book.device asks q).1
     round_keeps (Err fault) asked bars refused = elim (unselectable (moment_in old)) as (λ o. unselectable (moment_in old) ≡ o → HoldsCall old new) [
       | Some why ↦ λ is. same_held old new (bars why is).1
       | None ↦ λ free. refused_keeps fault (refused free)

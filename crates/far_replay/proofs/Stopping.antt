@@ -4,6 +4,9 @@ use Rattle.std.specs.Prelude.{IfErr}
 use Rattle.std.proofs.lemmas.Bool.{false≢true}
 use Rattle.far_word.specs.declared.refused.Refused.{Refused as Refusal}
 use Rattle.far_word.specs.declared.refused.Refused.TheVariants.{BadChoice, Device, Memory, Phase as WrongPhase, EpochsSpent}
+use Rattle.far_word.specs.Pointer.{read_of}
+use Rattle.far_core.specs.state.Law.{is_dirty}
+use Rattle.far_device.specs.declared.fault.DeviceFault.{DeviceFault}
 use Rattle.far_policy.specs.Choice.{IsBadChoice}
 use Rattle.far_evac.specs.declared.answers.EvacFault.{EvacFault}
 use Rattle.far_evac.specs.declared.answers.Progress.{Progress}
@@ -12,14 +15,15 @@ use Rattle.far_evac.specs.declared.answers.RoundEnd.TheVariants.{Done, Limit}
 use Rattle.far_evac.specs.declared.phase.Phase.{Phase}
 use Rattle.far_evac.specs.declared.phase.Phase.TheVariants.{Idle, Evacuating}
 use Rattle.far_evac.specs.AnyHand.{StopsAt}
+use Rattle.far_evac.specs.Asked.{IsRefusedWrite}
 use Rattle.far_evac.specs.Choosing.{after_selecting, is_spent}
 use Rattle.far_evac.specs.Moment.{Moment, Tally, nothing, plus, progress_of, tally_of}
 use Rattle.far_evac.specs.MomentLaw.{is_idle}
 use Rattle.far_evac.specs.Refusals.{unselectable}
 use Rattle.far_evac.specs.Turns.{HaltsTurns, Turned, turned, turns_made}
-use Rattle.far_evac.specs.Walk.{Walked, is_done, walked}
+use Rattle.far_evac.specs.Walk.{Walked, is_done, walked, way_of}
 use Rattle.far_text.specs.Command.{Command, Evacuate, Evacuator, Policy, Round}
-use Rattle.far_replay.specs.Commanded.{KeepsNear, Served, StopsLeaving, StopsRound, StopsSo}
+use Rattle.far_replay.specs.Commanded.{KeepsNear, Served, StopsAtWrite, StopsLeaving, StopsRound, StopsSo}
 use Rattle.far_replay.specs.Outcome.{IsOutside}
 use Rattle.far_reply.specs.Reply.{Ended, Evacuated, Halted}
 use Rattle.far_replay.specs.Rounds.{after_round, chosen_by, is_evacuating, round_told, rows_in}
@@ -49,15 +53,28 @@ module _ (now : Moment) (phase : now.phase ≡ Evacuating) (k : ℕ) (undone : i
     moment = ap (λ b. cond b (record (walked now k).moment { phase = Idle }) (walked now k).moment) (sym undone) ∙ ap (λ o. unless o (refused_effect now stops) (turn_effect now stops)) (sym allowed);
   }
 
+-- where a write was refused an object is to be written
+pub to_write : (D : Type 0) (writes : D → ℕ → List ℕ → Result (Unit {0}) DeviceFault → D → Type 0) (lets_go : D → ℕ → D → Type 0) (m t : Moment) (tally : Tally) (why : Refusal) (d e : D) →
+    IsRefusedWrite (Unit {0}) D writes lets_go m t tally why d e → StopsAtWrite t
+to_write D writes lets_go m t tally why d e h =
+    let same : t ≡ h.stood.moment = h.exact tt in
+    subst StopsAtWrite (sym same) record {
+      next = h.next;
+      rest = h.rest;
+      first = h.is;
+      goes = ap (λ w. way_of h.stood.moment.core (read_of w)) (sym (h.owed.exact tt)) ∙ h.owed.goes;
+      owed = ap (λ (x : Moment). is_dirty (read_of (x.core.cell h.next))) (sym same) ∙ h.owed.dirty;
+    }
+
 -- what is refused so leaves an object near
 keeps_near : (why : Refusal) → IsOutside why → KeepsNear why
 keeps_near why (inl memory) = subst KeepsNear (sym memory) tt
 keeps_near why (inr failed) = subst KeepsNear (sym failed) tt
 
 -- an evacuation of so many
-pub leaving_stops : (why : Refusal) → KeepsNear why → (now t : Moment) (count : ℕ) (so_far : Progress) → now.phase ≡ Evacuating → StopsAt now count t (tally_of so_far) →
+pub leaving_stops : (why : Refusal) → KeepsNear why → (now t : Moment) (count : ℕ) (so_far : Progress) → now.phase ≡ Evacuating → StopsAt now count t (tally_of so_far) → StopsAtWrite t →
     (k : ℕ) × (k < count) × (t ≡ (walked now k).moment) × (so_far ≡ progress_of (walked now k).tally false) → StopsSo why now (Evacuator (Evacuate count)) (Halted why so_far) t
-leaving_stops why keeps now t count so_far phase stops (k, before, is, counts) =
+leaving_stops why keeps now t count so_far phase stops write (k, before, is, counts) =
     let undone : is_done (walked now k) ≡ false = still_open now t count (tally_of so_far) stops (walked now k) is in
     let made : StopsLeaving why k now count (Halted why so_far) t = record {
       cause = keeps;
@@ -65,6 +82,7 @@ leaving_stops why keeps now t count so_far phase stops (k, before, is, counts) =
       progress = progress_of (walked now k).tally (is_done (walked now k));
       left = subst (Served now (Evacuator (Evacuate k)) (Evacuated (progress_of (walked now k).tally (is_done (walked now k))))) (sym is) (left now phase k undone);
       unfinished = undone;
+      at = write;
       reply = ap (Halted why) (counts ∙ ap (progress_of (walked now k).tally) (sym undone));
     } in
     (0, k, made)
@@ -77,11 +95,11 @@ pub evacuating_or : (p : Phase) → (p ≡ Evacuating) ⊎ (p ≢ Evacuating)
 evacuating_or Evacuating = inl refl
 evacuating_or _ = inr (λ e. cc)
 
-pub evacuate_stops : (now t : Moment) (count : ℕ) (fault : EvacFault) → (now.phase ≢ Evacuating → fault.why ≡ WrongPhase) → (now.phase ≡ Evacuating → StopsAt now count t (tally_of fault.so_far)) →
+pub evacuate_stops : (now t : Moment) (count : ℕ) (fault : EvacFault) → (now.phase ≢ Evacuating → fault.why ≡ WrongPhase) → (now.phase ≡ Evacuating → StopsAt now count t (tally_of fault.so_far)) → (now.phase ≡ Evacuating → StopsAtWrite t) →
     (now.phase ≡ Evacuating → (k : ℕ) × (k < count) × (t ≡ (walked now k).moment) × (fault.so_far ≡ progress_of (walked now k).tally false)) →
     IsOutside fault.why → StopsSo fault.why now (Evacuator (Evacuate count)) (Halted fault.why fault.so_far) t
-evacuate_stops now t count fault barred stops exact either = elim (evacuating_or now.phase) [
-  | inl phase ↦ leaving_stops fault.why (keeps_near fault.why either) now t count fault.so_far phase (stops phase) (exact phase)
+evacuate_stops now t count fault barred stops write exact either = elim (evacuating_or now.phase) [
+  | inl phase ↦ leaving_stops fault.why (keeps_near fault.why either) now t count fault.so_far phase (stops phase) (write phase) (exact phase)
   | inr other ↦ absurd (phase_inside (subst IsOutside (barred other) either))
 ]
 
@@ -123,7 +141,7 @@ idle_turns m idle zero = refl
 idle_turns m idle (suc n) =
     ap (λ (r : Turned). cond r.over r (turned r r.moment.phase)) (idle_turns m idle n) ∙ ap (turned (turns_made m 0)) idle
 
-module _ (now t : Moment) (policy : Policy) (most turns : ℕ) (so_far : Progress) (why : Refusal) (keeps : KeepsNear why) (free : unselectable now ≡ None) (u : Moment) (many : ℕ) (counted : Tally) (stops : StopsAt u many t counted) where
+module _ (now t : Moment) (policy : Policy) (most turns : ℕ) (so_far : Progress) (why : Refusal) (keeps : KeepsNear why) (free : unselectable now ≡ None) (u : Moment) (many : ℕ) (counted : Tally) (stops : StopsAt u many t counted) (write : StopsAtWrite t) where
   abbrev stands : List ℕ → ℕ → Turned
   stands logs n = turns_made (after_selecting now logs) n
 
@@ -156,6 +174,7 @@ module _ (now t : Moment) (policy : Policy) (most turns : ℕ) (so_far : Progres
         progress = progress_of (walked stood k).tally (is_done (walked stood k));
         left = subst (Served stood (Evacuator (Evacuate k)) (Evacuated (progress_of (walked stood k).tally (is_done (walked stood k))))) (sym at) (left stood phase k undone);
         unfinished = undone;
+        at = write;
         reply = ap (Halted why) (sum ∙ ap (λ (x : Tally). progress_of (plus (stands logs n).tally x) false) counts
             ∙ ap (λ ls. progress_of (plus (stands ls n).tally (walked stood k).tally) false) is);
       } in
@@ -184,9 +203,9 @@ pub never_first : (fault : EvacFault) → IsBadChoice fault.why → ¬ IsOutside
 never_first fault bad (inl memory) = let odd : Memory ≡ BadChoice bad.0 = sym memory ∙ bad.1 in cc
 never_first fault bad (inr failed) = let odd : Device ≡ BadChoice bad.0 = sym failed ∙ bad.1 in cc
 
--- somewhere it stopped, where it wasn't done
+-- somewhere it stopped, where it wasn't done and an object is to be written
 abbrev pub StopsSomewhere : Moment → Type 0
-StopsSomewhere t = (u : Moment) × (many : ℕ) × (counted : Tally) × StopsAt u many t counted
+StopsSomewhere t = (u : Moment) × (many : ℕ) × (counted : Tally) × StopsAt u many t counted × StopsAtWrite t
 
 module _ (now t : Moment) (policy : Policy) (most turns : ℕ) (Gives : List ℕ → Type 0) (given : (logs : List ℕ) → Gives logs → logs ≡ chosen_by policy (rows_in now) most)
     (Asked : List ℕ → EvacFault → Type 0) (stands : (logs : List ℕ) (fault : EvacFault) → Asked logs fault → StopsSomewhere t) where
@@ -196,8 +215,8 @@ module _ (now t : Moment) (policy : Policy) (most turns : ℕ) (Gives : List ℕ
 
   broken_stops : (fault : EvacFault) → unselectable now ≡ None → Broken fault → StopsSo fault.why now (Evacuator (Round policy most turns)) (Halted fault.why fault.so_far) t
   broken_stops fault free (logs, gives, why, halts, asked) =
-      let (u, many, counted, stops) = stands logs fault asked in
-      round_stops now t policy most turns fault.so_far fault.why (keeps_near fault.why why) free u many counted stops logs (given logs gives) halts
+      let (u, many, counted, stops, write) = stands logs fault asked in
+      round_stops now t policy most turns fault.so_far fault.why (keeps_near fault.why why) free u many counted stops write logs (given logs gives) halts
 
   -- or not
   pub round_breaks : (First : EvacFault → Type 0) → ((fault : EvacFault) → First fault → ¬ IsOutside fault.why) → (r : Result RoundEnd EvacFault) →

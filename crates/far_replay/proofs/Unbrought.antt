@@ -1,11 +1,11 @@
--- Where memory is refused, or the device fails or gives another number of bytes, a command that is to reach a far object is left with what a try of that object leaves; and where there is no room it is refused.
+-- Where the device fails or gives another number of bytes, a command that is to reach a far object is left with what a try of that object leaves; and where there is no room it is refused.
 use Rattle.std.proofs.Common.{◌≡◌, ◌⊎◌, inl, inr, ℕ, ◌/◌, Bool, true, false, not, IsSome, [], ◌∷◌, Option, Some, None, if◌then◌else◌, refl, sym, ap, subst, ◌∙◌}
 use Rattle.std.proofs.lemmas.Bool.{false≢true}
 use Rattle.far_word.specs.declared.mark.Mark.TheVariants.{Hot}
 use Rattle.far_word.specs.declared.pointer.PtrWord.{PtrWord}
 use Rattle.far_word.specs.declared.pointer.PtrWord.TheVariants.{Free}
 use Rattle.far_word.specs.declared.refused.Refused.{Refused as Refusal}
-use Rattle.far_word.specs.declared.refused.Refused.TheVariants.{Damaged, Device, Memory, NoRoom, Range, Closed, NotHeld, Marked}
+use Rattle.far_word.specs.declared.refused.Refused.TheVariants.{Damaged, Device, NoRoom, Range, Closed, NotHeld, Marked}
 use Rattle.far_word.specs.declared.sizes.TheConstants.{CELLS}
 use Rattle.far_word.specs.Pointer.{read_of}
 use Rattle.far_core.specs.events.Step.{is_opened}
@@ -60,25 +60,22 @@ module _ (s : State) (m p : ℕ) (law : Law s) (opened : is_opened s m ≡ true)
   far_sought o = ap (sought_of (with_view s p) m p) (pinned ∙ ap (map_mark Hot) o.is)
 
 -- ---- a refusal from outside
--- the outside refuses memory, or by its device
+-- the outside refuses by its device
 refuser_stops : (why : Refusal) (now : Moment) (c : Command) (r : Reply) (next : Moment) → KeepsFar why → Stopped why 0 0 now c r next → CommandedBy (refuser why) now c r next
 refuser_stops Device now c r next keeps h = h
 refuser_stops Damaged now c r next keeps h = h
-refuser_stops Memory now c r next keeps h = h
 refuser_stops why now c r next keeps h = absurd keeps
 
 -- and tells nothing then
 refuser_told : (why : Refusal) (now : Moment) (c : Command) (held : FarBytes) → KeepsFar why → ToldBy (refuser why) now c held
 refuser_told Device now c held keeps = tt
 refuser_told Damaged now c held keeps = tt
-refuser_told Memory now c held keeps = tt
 refuser_told why now c held keeps = absurd keeps
 
 -- there was room, and nothing has changed but by the pin and the asking
 kept_far : (s t : State) (p : ℕ) (why : Refusal) → KeepsFar why → RefusesBringing s p why t → IsSome (comes_to s p) × (t ≡ s)
 kept_far s t p Device keeps h = h
 kept_far s t p Damaged keeps h = h
-kept_far s t p Memory keeps h = h
 kept_far s t p why keeps h = absurd keeps
 
 module _ (now next : Moment) (m p : ℕ) (law : Law now.core) (opened : is_opened now.core m ≡ true) (own : p / CELLS ≡ m) (used : now.core.used p ≡ true) (why : Refusal) (keeps : KeepsFar why)
@@ -132,7 +129,6 @@ unplaced now next m p c cause leaves refuses order phase held copying = record {
 -- the book refuses an object for want of room, or it is refused from outside
 room_or_far : (s t : State) (m p : ℕ) (why : Refusal) → RefusesView s m p why t → (why ≡ NoRoom) ⊎ KeepsFar why
 room_or_far s t m p NoRoom h = inl refl
-room_or_far s t m p Memory h = inr tt
 room_or_far s t m p Device h = inr tt
 room_or_far s t m p Damaged h = inr tt
 room_or_far s t m p why h = absurd h.1

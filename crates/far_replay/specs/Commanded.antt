@@ -1,18 +1,20 @@
 -- What one command comes to: it is served; or what is outside the heap, its device or the memory that there is, refuses it in its midst, or gives it other bytes than were stored; and the run goes on.
-use Rattle.std.specs.Prelude.{◌≡◌, ◌≢◌, ℕ, ◌<◌, Bool, false, Some, None, IsSome}
+use Rattle.std.specs.Prelude.{◌≡◌, ◌≢◌, ℕ, ◌<◌, Bool, true, false, Some, None, IsSome, List, ◌∷◌}
 use Rattle.far_word.specs.declared.mark.Marks.{Marks}
 use Rattle.far_word.specs.declared.pointer.PtrWord.TheVariants.{Far}
 use Rattle.far_word.specs.declared.refused.Refused.{Refused as Refusal}
 use Rattle.far_word.specs.declared.refused.Refused.TheVariants.{Damaged, Device, Marked, Memory}
 use Rattle.far_word.specs.Pointer.{read_of}
-use Rattle.far_core.specs.state.Law.{IsStored}
+use Rattle.far_core.specs.state.Law.{IsStored, is_dirty}
 use Rattle.far_core.specs.state.State.{State}
 use Rattle.far_evac.specs.declared.answers.Progress.{Progress}
 use Rattle.far_evac.specs.declared.answers.RoundEnd.TheVariants.{Limit}
 use Rattle.far_evac.specs.declared.phase.Phase.TheVariants.{Evacuating}
 use Rattle.far_evac.specs.Choosing.{after_selecting}
+use Rattle.far_evac.specs.Live.{live_among}
 use Rattle.far_evac.specs.Moment.{plus, progress_of, tally_of}
 use Rattle.far_evac.specs.Turns.{turn_size, turns_made}
+use Rattle.far_evac.specs.Walk.{Goes, way_of}
 use Rattle.far_text.specs.Command.{Command, Write, Read, View, Try, Mutator, Evacuator, Evacuate, Policy, Round}
 use Rattle.far_replay.specs.Moment.{Moment, as_if_stored}
 use Rattle.far_reply.specs.Reply.{Reply, Ended, Evacuated, Halted, Refused}
@@ -33,10 +35,10 @@ pub data Outside : Type 0 where
   Gives : (row : ℕ → ℕ) (inverts : Bool) → Outside
   Lacks : (turns objects : ℕ) → Outside
 
--- why an object isn't brought: memory was refused, the device failed, or gave another number of bytes. Why one doesn't leave: memory was refused, or the device failed
+-- why an object isn't brought: the device failed, or gave another number of bytes; memory it never lacks, since it reads into room that the heap has. Why one doesn't leave: memory was
+-- refused, or the device failed
 abbrev pub KeepsFar : Refusal → Type 0
 KeepsFar Device = Unit {0}
-KeepsFar Memory = Unit {0}
 KeepsFar Damaged = Unit {0}
 KeepsFar why = ⊥
 
@@ -56,16 +58,26 @@ pub record Unbrought (why : Refusal) (now : Moment) (c : Command) (m p : ℕ) (r
   pub tried : Served now (Mutator m (Try p)) (Refused (Marked (now.core.cell p))) after
   pub reply : r ≡ Refused why
 
--- an evacuation is left with what one of fewer objects leaves, which isn't done, and tells what that would
+-- of the objects that are left the first is to go far, and has DIRTY: it is to be written
+pub record StopsAtWrite (t : Moment) : Type 0 where
+  pub next : ℕ
+  pub rest : List ℕ
+  pub first : live_among t.core t.collection ≡ next ∷ rest
+  pub goes : way_of t.core (read_of (t.core.cell next)) ≡ Goes
+  pub owed : is_dirty (read_of (t.core.cell next)) ≡ true
+
+-- an evacuation is left with what one of fewer objects leaves, which isn't done, where an object is to be written, and tells what that would
 pub record StopsLeaving (why : Refusal) (objects : ℕ) (now : Moment) (count : ℕ) (r : Reply) (after : Moment) : Type 0 where
   pub cause : KeepsNear why
   pub before : objects < count
   pub progress : Progress
   pub left : Served now (Evacuator (Evacuate objects)) (Evacuated progress) after
   pub unfinished : progress.done ≡ false
+  pub at : StopsAtWrite after
   pub reply : r ≡ Halted why progress
 
--- a round is left with what one of fewer turns leaves, after which objects leave, and then an evacuation of fewer objects than a turn deals with, which isn't done; it tells what all turns did
+-- a round is left with what one of fewer turns leaves, after which objects leave, and then an evacuation of fewer objects than a turn deals with, which isn't done, where an object is to be written; it tells what
+-- all turns did
 pub record StopsRound (why : Refusal) (turns objects : ℕ) (now : Moment) (policy : Policy) (most count : ℕ) (r : Reply) (after : Moment) : Type 0 where
   pub cause : KeepsNear why
   pub before : turns < count
@@ -75,6 +87,7 @@ pub record StopsRound (why : Refusal) (turns objects : ℕ) (now : Moment) (poli
   pub progress : Progress
   pub left : Served stood (Evacuator (Evacuate objects)) (Evacuated progress) after
   pub unfinished : progress.done ≡ false
+  pub at : StopsAtWrite after
   pub reply : r ≡ Halted why (progress_of (plus (turns_made (after_selecting now (chosen_by policy (rows_in now) most)) turns).tally (tally_of progress)) false)
 
 -- a command is refused so. No other command asks the outside for anything

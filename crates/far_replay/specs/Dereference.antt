@@ -5,7 +5,7 @@ use Rattle.far_word.specs.declared.pointer.Place.{Place}
 use Rattle.far_word.specs.declared.pointer.PtrWord.{PtrWord}
 use Rattle.far_word.specs.declared.pointer.PtrWord.TheVariants.{Free, Near, Far}
 use Rattle.far_word.specs.declared.refused.Refused.{Refused as Refusal}
-use Rattle.far_word.specs.declared.refused.Refused.TheVariants.{NoRoom, Memory, Device, Damaged}
+use Rattle.far_word.specs.declared.refused.Refused.TheVariants.{NoRoom, Device, Damaged}
 use Rattle.far_word.specs.Pointer.{read_of}
 use Rattle.far_core.specs.declared.event.Event.TheVariants.{Ask}
 use Rattle.far_core.specs.events.Step.{after}
@@ -65,11 +65,9 @@ dereferenced s m p = if is_slow s p then with_view (come (sought s m p) p) p els
 abbrev pub has_no_room : State → ℕ → ℕ → Bool
 has_no_room s m p = is_slow s p && not (is_some (comes_to (sought s m p) p))
 
--- why an object that was asked for doesn't come, from s to t: there is no place; or there is, and its words were refused memory, or the device failed, or gave another number of bytes.
--- Nothing has changed then
+-- why an object that was asked for doesn't come, from s to t: there is no place; or there is, and the device failed, or gave another number of bytes. Nothing has changed then
 abbrev pub RefusesBringing : State → ℕ → Refusal → State → Type 0
 RefusesBringing s p NoRoom t = (comes_to s p ≡ None) × (t ≡ s)
-RefusesBringing s p Memory t = IsSome (comes_to s p) × (t ≡ s)
 RefusesBringing s p Device t = IsSome (comes_to s p) × (t ≡ s)
 RefusesBringing s p Damaged t = IsSome (comes_to s p) × (t ≡ s)
 RefusesBringing s p why t = ⊥

@@ -4,6 +4,7 @@ use Rattle.far_word.specs.declared.mark.Marks.{Marks}
 use Rattle.far_word.specs.declared.pointer.PtrWord.TheVariants.{Far}
 use Rattle.far_word.specs.Bytes.{bytes_of}
 use Rattle.far_word.specs.Pointer.{read_of}
+use Rattle.far_core.specs.state.Law.{is_dirty}
 use Rattle.far_core.specs.state.State.{State}
 use Rattle.hex.specs.Hex.{IsBytes}
 use Rattle.far_device.specs.Liar.{inverted}
@@ -30,13 +31,13 @@ far_in evac = far_of evac.book.device
 abbrev pub HoldsSame : EvacOf Plain FarSide → EvacOf Plain FarSide → Type 0
 HoldsSame old new = (q : ℕ) → far_in new q ≡ far_in old q
 
--- an object is far, and what is stored of it was written
-abbrev pub WentFar : State → FarBytes → ℕ → Type 0
-WentFar t now p = (len ds : ℕ) × (m : Marks) × (read_of (t.cell p) ≡ Some (Far len ds m)) × (now p ≡ Some (bytes_of (t.stored p) len))
+-- an object that had DIRTY is far, and what is stored of it was written
+abbrev pub WentFar : State → State → FarBytes → ℕ → Type 0
+WentFar s t now p = (is_dirty (read_of (s.cell p)) ≡ true) × (len ds : ℕ) × (m : Marks) × (read_of (t.cell p) ≡ Some (Far len ds m)) × (now p ≡ Some (bytes_of (t.stored p) len))
 
--- once objects have left from s on: of what the device is to hold under a key it held the same, and was to hold as many bytes; or the object went far, and was written
+-- once objects have left from s on: of what the device is to hold under a key it held the same, and was to hold as many bytes; or the object had DIRTY, went far, and was written
 abbrev pub HoldsAs : State → State → FarBytes → FarBytes → ℕ → Type 0
-HoldsAs s t held now p = (len : ℕ) → kept_len (read_of (t.cell p)) ≡ Some len → ((now p ≡ held p) × (kept_len (read_of (s.cell p)) ≡ Some len)) ⊎ WentFar t now p
+HoldsAs s t held now p = (len : ℕ) → kept_len (read_of (t.cell p)) ≡ Some len → ((now p ≡ held p) × (kept_len (read_of (s.cell p)) ≡ Some len)) ⊎ WentFar s t now p
 
 -- so it is after a command by which objects may leave; any other leaves under each key what was there, but a drop, which does so where bytes are to be held
 abbrev pub HoldsBy : Command → State → State → FarBytes → FarBytes → Type 0

@@ -111,7 +111,6 @@ pub record Comes (old new : EvacOf Plain FarSide) (m p : ℕ) (o : Outside) : Ty
 abbrev pub refuser : Refusal → Outside
 refuser Device = Refuses Device 0 0
 refuser Damaged = Refuses Damaged 0 0
-refuser Memory = Lacks 0 0
 refuser why = Serves
 
 -- or it is refused a place, or refused by what is outside the heap, and nothing has changed but that it was asked for

@@ -12,6 +12,7 @@ pub mod Far
 pub mod Interpreter
 pub mod Lawful
 pub mod Moment
+pub mod NotCome
 pub mod Objects
 pub mod Outcome
 pub mod Rounds

@@ -4,7 +4,7 @@ use Rattle.far_word.specs.declared.mark.Marks.{Marks}
 use Rattle.far_word.specs.declared.pointer.PtrWord.{PtrWord}
 use Rattle.far_word.specs.declared.pointer.PtrWord.TheVariants.{Free, Near, Far}
 use Rattle.far_word.specs.declared.refused.Refused.{Refused as Refusal}
-use Rattle.far_word.specs.declared.refused.Refused.TheVariants.{NoRoom, Device, Damaged, Marked, Memory, StillOpen}
+use Rattle.far_word.specs.declared.refused.Refused.TheVariants.{NoRoom, Device, Damaged, Marked, StillOpen}
 use Rattle.far_word.specs.Pointer.{read_of}
 use Rattle.far_core.specs.world.WorldOf.{world_of}
 use Rattle.far_text.specs.Command.{Command, Write, Read, View, Try, Wait, Mutator, Evacuator}
@@ -31,15 +31,12 @@ abbrev pub MayMark : Command → Refusal → ℕ → Type 0
 MayMark (Mutator m (Write p from bytes)) NoRoom q = q ≡ p
 MayMark (Mutator m (Write p from bytes)) Device q = q ≡ p
 MayMark (Mutator m (Write p from bytes)) Damaged q = q ≡ p
-MayMark (Mutator m (Write p from bytes)) Memory q = q ≡ p
 MayMark (Mutator m (Read p from len)) NoRoom q = q ≡ p
 MayMark (Mutator m (Read p from len)) Device q = q ≡ p
 MayMark (Mutator m (Read p from len)) Damaged q = q ≡ p
-MayMark (Mutator m (Read p from len)) Memory q = q ≡ p
 MayMark (Mutator m (View p)) NoRoom q = q ≡ p
 MayMark (Mutator m (View p)) Device q = q ≡ p
 MayMark (Mutator m (View p)) Damaged q = q ≡ p
-MayMark (Mutator m (View p)) Memory q = q ≡ p
 MayMark (Mutator m (Try p)) (Marked word) q = q ≡ p
 MayMark c why q = ⊥
 

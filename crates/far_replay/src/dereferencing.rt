@@ -6,6 +6,7 @@ ghost use Rattle.far_core.specs.events.Step.{is_opened};
 ghost use Rattle.far_word.specs.Pointer.{read_of};
 ghost use Rattle.far_replay.specs.Commanded.{KeepsFar, Outside};
 ghost use Rattle.far_replay.specs.Dereference.{RefusesBringing, RefusesView, asked_for, says_near};
+ghost use Rattle.far_replay.specs.NotCome.{IsWhyNot, as_refused, why_of};
 ghost use Rattle.far_replay.specs.Effects.{is_slow, with_view};
 ghost use Rattle.far_replay.specs.EventRows.{after_events};
 ghost use Rattle.far_replay.specs.Events.{open_events};
@@ -49,6 +50,23 @@ pub fn try_view(evac: &mut Evac<Plain, FarSide>, owner: u8, pointer: u16) -> Res
     if core_of(evac).is_held(pointer) {
         return Ok(());
     }
+    pin(evac, owner, pointer)
+}
+
+// Pins an owner's object that isn't held. `Err` with the cell as it was, where the pin gave no view.
+#[inline(always)]
+fn pin(evac: &mut Evac<Plain, FarSide>, owner: u8, pointer: u16) -> Result<(), u64>
+    requires opened { is_opened (state_in evac.old) owner ≡ true }
+    requires own { pointer / CELLS ≡ owner }
+    requires used { (state_in evac.old).used pointer ≡ true }
+    requires unheld { (state_in evac.old).held pointer ≡ None }
+    ensures state { state_in evac.new ≡ with_view (state_in evac.old) pointer }
+    ensures viewed { IfOk result (λ _. is_slow (state_in evac.old) pointer ≡ false) }
+    ensures word { IfErr result (λ word. (is_slow (state_in evac.old) pointer ≡ true) × (word ≡ (state_in evac.old).cell pointer)) }
+    ensures order { evac.new.book.order ≡ evac.old.book.order }
+    ensures round { KeepsRound evac.old evac.new }
+    ensures device { evac.new.book.device ≡ evac.old.book.device }
+{
     match evac.pin(owner, pointer) {
         Ok(_) => Ok(()),
         Err(word) => Err(word),
@@ -59,8 +77,8 @@ pub fn try_view(evac: &mut Evac<Plain, FarSide>, owner: u8, pointer: u16) -> Res
 /// again. What is viewed already stays so. A far object comes with the bytes that the device gives, whatever was stored.
 ///
 /// Refused [`Refused::NoRoom`] where there is no place for it: HOT is left then, and, where the object is near, MOVE. Refused
-/// [`Refused::Memory`] or [`Refused::Device`] as the device is, or [`Refused::Damaged`] where what it gave isn't as long as the object: the object
-/// is far still, and HOT is left.
+/// [`Refused::Device`] where the device failed, or [`Refused::Damaged`] where what it gave isn't as long as the object: the object is far still, and HOT
+/// is left. A fetch takes no memory.
 #[inline]
 pub fn dereference(evac: &mut Evac<Plain, FarSide>, owner: u8, pointer: u16) -> Result<(), Refused>
     requires opened { is_opened (state_in evac.old) owner ≡ true }
@@ -80,9 +98,84 @@ pub fn dereference(evac: &mut Evac<Plain, FarSide>, owner: u8, pointer: u16) -> 
     bring_and_view(evac, owner, pointer)
 }
 
-// Brings an object to where a view may rest, and pins it there. It stands apart from the common case, which is made in place.
-#[inline(never)]
+// Why an object doesn't come to where a view may rest. It is a byte: [`Refused`] would go through memory at each fetch.
+#[derive(Clone, Copy)]
+enum NotCome {
+    NoRoom,
+    Device,
+    Damaged,
+}
+
+impl NotCome {
+    #[inline(always)]
+    fn of(why: Refused) -> NotCome
+        requires { IsWhyNot why }
+        ensures { why_of result ≡ why }
+    {
+        match why {
+            Refused::Device => NotCome::Device,
+            Refused::Damaged => NotCome::Damaged,
+            _ => NotCome::NoRoom,
+        }
+    }
+
+    #[inline(always)]
+    fn why(self) -> Refused
+        ensures { result ≡ why_of self }
+    {
+        match self {
+            NotCome::NoRoom => Refused::NoRoom,
+            NotCome::Device => Refused::Device,
+            NotCome::Damaged => Refused::Damaged,
+        }
+    }
+}
+
+// Brings an object to where a view may rest, and pins it there.
+#[inline(always)]
 fn bring_and_view(evac: &mut Evac<Plain, FarSide>, owner: u8, pointer: u16) -> Result<(), Refused>
+    requires opened { is_opened (state_in evac.old) owner ≡ true }
+    requires own { pointer / CELLS ≡ owner }
+    requires used { (state_in evac.old).used pointer ≡ true }
+    requires unheld { (state_in evac.old).held pointer ≡ None }
+    ensures done { IfOk result (λ _. (o : Outside) × Views evac.old evac.new owner pointer o) }
+    ensures refused { IfErr result (λ why. RefusesBringing (asked_for (state_in evac.old) owner pointer) pointer why (state_in evac.new)) }
+    ensures shut { IfErr result (λ _. evac.new.book.order ≡ evac.old.book.order) }
+    ensures round { KeepsRound evac.old evac.new }
+    ensures spent { IfErr result (λ why. SpentBy (refuser why) evac.old evac.new) }
+    ensures same { HoldsSame evac.old evac.new }
+    ensures far { IfErr result (λ why. KeepsFar why → says_near (read_of ((state_in evac.old).cell pointer)) ≡ false) }
+{
+    match bring_apart(evac, owner, pointer) {
+        Ok(()) => Ok(()),
+        Err(why) => Err(why.why()),
+    }
+}
+
+// The same. It stands apart from the common case, which is made in place.
+#[inline(never)]
+fn bring_apart(evac: &mut Evac<Plain, FarSide>, owner: u8, pointer: u16) -> Result<(), NotCome>
+    requires opened { is_opened (state_in evac.old) owner ≡ true }
+    requires own { pointer / CELLS ≡ owner }
+    requires used { (state_in evac.old).used pointer ≡ true }
+    requires unheld { (state_in evac.old).held pointer ≡ None }
+    ensures done { IfOk (as_refused result) (λ _. (o : Outside) × Views evac.old evac.new owner pointer o) }
+    ensures refused { IfErr (as_refused result) (λ why. RefusesBringing (asked_for (state_in evac.old) owner pointer) pointer why (state_in evac.new)) }
+    ensures shut { IfErr (as_refused result) (λ _. evac.new.book.order ≡ evac.old.book.order) }
+    ensures round { KeepsRound evac.old evac.new }
+    ensures spent { IfErr (as_refused result) (λ why. SpentBy (refuser why) evac.old evac.new) }
+    ensures same { HoldsSame evac.old evac.new }
+    ensures far { IfErr (as_refused result) (λ why. KeepsFar why → says_near (read_of ((state_in evac.old).cell pointer)) ≡ false) }
+{
+    match bring_and_pin(evac, owner, pointer) {
+        Ok(()) => Ok(()),
+        Err(why) => Err(NotCome::of(why)),
+    }
+}
+
+// The same, told by any refusal.
+#[inline(always)]
+fn bring_and_pin(evac: &mut Evac<Plain, FarSide>, owner: u8, pointer: u16) -> Result<(), Refused>
     requires opened { is_opened (state_in evac.old) owner ≡ true }
     requires own { pointer / CELLS ≡ owner }
     requires used { (state_in evac.old).used pointer ≡ true }
@@ -97,7 +190,7 @@ fn bring_and_view(evac: &mut Evac<Plain, FarSide>, owner: u8, pointer: u16) -> R
 {
     match bring(evac, owner, pointer) {
         Ok(()) => {
-            let _ = try_view(evac, owner, pointer);
+            let _ = pin(evac, owner, pointer);
             Ok(())
         }
         Err(why) => Err(why),

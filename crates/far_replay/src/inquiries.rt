@@ -8,7 +8,6 @@ ghost use Rattle.far_replay.specs.Audit.{bytes_by_log, lies_near, lies_far, poin
 ghost use Rattle.far_text.specs.Command.{Mutator, Book as AsksBook, Where, Log, Audit};
 ghost use Rattle.far_replay.specs.Events.{events_for};
 ghost use Rattle.far_replay.specs.EventRows.{after_events};
-ghost use Rattle.far_replay.specs.Interpreter.{StandsFor};
 ghost use Rattle.far_replay.specs.Moment.{KeepsRound, moment_in, state_in};
 ghost use Rattle.far_replay.specs.Outcome.{reply_by, IsInScratch};
 ghost use Rattle.far_replay.specs.Turn.{log_line, reply_to};
@@ -21,11 +20,16 @@ use far_reply::{Counts, LogLine};
 use far_word::{Refused, object_counts};
 
 /// Tells where an owner's object is.
-pub fn find_object(evac: &mut Evac<Plain, FarSide>, owner: u8, pointer: u64) -> Outcome
+pub fn find_object(
+    evac: &mut Evac<Plain, FarSide>,
+    scratch: &mut Scratch,
+    owner: u8,
+    pointer: u64,
+) -> Outcome
     requires known { owner < (state_in evac.old).mutators }
     requires law { Law (state_in evac.old) }
     ensures state { state_in evac.new ≡ after_events (state_in evac.old) (events_for (moment_in evac.old) (Mutator owner (Where pointer))) }
-    ensures reply { StandsFor result (reply_to (moment_in evac.old) (Mutator owner (Where pointer))) }
+    ensures reply { reply_by scratch.new result ≡ reply_to (moment_in evac.old) (Mutator owner (Where pointer)) }
     ensures fits { IsInScratch result }
     ensures order { evac.new.book.order ≡ evac.old.book.order }
     ensures round { KeepsRound evac.old evac.new }
@@ -37,7 +41,8 @@ pub fn find_object(evac: &mut Evac<Plain, FarSide>, owner: u8, pointer: u64) -> 
     let Some(home) = evac.locate(pointer) else {
         unreachable!()
     };
-    Outcome::Lies(home)
+    scratch.home = home;
+    Outcome::Lies
 }
 
 // What is told of a log.
@@ -105,11 +110,12 @@ fn count_bytes(evac: &Evac<Plain, FarSide>) -> u64
 }
 
 /// Counts all objects, and the bytes that they take.
-pub fn audit(evac: &Evac<Plain, FarSide>) -> Outcome
-    ensures reply { StandsFor result (reply_to (moment_in evac.now) (AsksBook Audit)) }
+pub fn audit(evac: &Evac<Plain, FarSide>, scratch: &mut Scratch) -> Outcome
+    ensures reply { reply_by scratch.new result ≡ reply_to (moment_in evac.now) (AsksBook Audit) }
     ensures fits { IsInScratch result }
 {
     let (near, far) = count_objects(evac);
     let live = count_bytes(evac);
-    Outcome::Audited(Counts { near, far, live })
+    scratch.counts = Counts { near, far, live };
+    Outcome::Audited
 }

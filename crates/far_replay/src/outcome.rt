@@ -7,7 +7,7 @@ ghost use Rattle.far_replay.specs.Outcome.{reply_by, told_by, IsInScratch};
 use far_book::Home;
 use far_evac::{LogKind, Marked, Progress, RoundEnd};
 use far_reply::{Counts, LogLine, Reply};
-use far_word::{LOG_WORDS, MOST_LOGS, Refused};
+use far_word::{LOG_WORDS, MOST_LOGS, Marks, Refused};
 
 /// What a command comes to. What a reply tells at length stands in the buffers.
 #[derive(Clone, Copy)]
@@ -18,9 +18,10 @@ pub enum Outcome {
     Data { from: u16, count: u16 },
     /// The first log lines of the buffers, so many.
     Logs(u8),
-    /// Where an object is.
-    Lies(Home),
-    Audited(Counts),
+    /// Where an object is stands in the buffers.
+    Lies,
+    /// What was counted stands in the buffers.
+    Audited,
     /// The epoch that a mutator read.
     EpochRead(u64),
     /// What a step of the evacuator comes to stands in the buffers.
@@ -46,7 +47,7 @@ pub enum Stepped {
     Halted(Refused),
 }
 
-/// Buffers for the words and bytes of an object, for a line of each log, and for what a round's step tells.
+/// Buffers for the words and bytes of an object, for a line of each log, and for what is told of an object, of all and of a round's step.
 #[derive(Clone, Copy)]
 pub struct Scratch {
     pub words: [u64; LOG_WORDS as usize],
@@ -56,6 +57,8 @@ pub struct Scratch {
     pub progress: Progress,
     pub end: RoundEnd,
     pub stepped: Stepped,
+    pub home: Home,
+    pub counts: Counts,
 }
 
 impl Scratch {
@@ -85,6 +88,20 @@ impl Scratch {
             },
             end: RoundEnd::Nothing,
             stepped: Stepped::Done,
+            home: Home::Far {
+                marks: Marks {
+                    hot: false,
+                    evac: false,
+                    moved: false,
+                    dropped: false,
+                    dirty: false,
+                },
+            },
+            counts: Counts {
+                near: 0,
+                far: 0,
+                live: 0,
+            },
         }
     }
 
@@ -104,8 +121,8 @@ impl Scratch {
                 Reply::Data(&self.bytes[from..from + usize::from(count)])
             }
             Outcome::Logs(count) => Reply::Logs(&self.lines[..usize::from(count)]),
-            Outcome::Lies(home) => Reply::Lies(home),
-            Outcome::Audited(counts) => Reply::Audited(counts),
+            Outcome::Lies => Reply::Lies(self.home),
+            Outcome::Audited => Reply::Audited(self.counts),
             Outcome::EpochRead(epoch) => Reply::EpochRead(epoch),
             Outcome::Stepped => unreachable!(),
             Outcome::Refused(why) => Reply::Refused(why),

@@ -303,12 +303,12 @@ fn answer_text<W: Write>(
 
 /// Reads a text, runs its commands, and writes their replies.
 ///
-/// All memory but the heap's, and that of the device where objects go far or come back, is taken before the first command is made. A text that is off the
-/// grammar, or whose heap's shape is out of range, is answered by that one refusal, and nothing else is run. A command that is refused memory in its midst is answered so,
+/// All memory but the heap's, and that of the device where objects go far, is taken before the first command is made. A text that is off the
+/// grammar, or whose heap's shape is out of range, is answered by that one refusal, and nothing else is run. An `evacuate` or a `round` that is refused memory in its midst is answered so,
 /// and the run goes on.
 ///
 /// Faults: [`RunFault::Read`] where the reader fails, any error of it; [`RunFault::Memory`] where memory is refused before the first command: then
-/// nothing was written, but `refused 1` where it was the heap's; [`RunFault::Write`] where the writer fails or takes nothing: what was written is a proper prefix of the output.
+/// nothing was written, but all or part of `refused 1` where it was the heap's; [`RunFault::Write`] where the writer fails or takes nothing: what was written is a proper prefix of the output.
 pub fn run<R: Read, W: Write>(
     alloc: Global,
     reader: &mut R,

@@ -453,7 +453,7 @@ fn make_request(
             read_range(evac, scratch, owner, pointer, from, len)
         }
         Request::Close => close_scope(evac, owner),
-        Request::Where { pointer } => find_object(evac, owner, pointer),
+        Request::Where { pointer } => find_object(evac, scratch, owner, pointer),
         Request::Drop { pointer } => drop_object(evac, owner, pointer),
         Request::View { pointer } => view_object(evac, owner, pointer),
         Request::Try { pointer } => try_object(evac, owner, pointer),
@@ -481,7 +481,7 @@ pub fn turn(evac: &mut Evac<Plain, FarSide>, scratch: &mut Scratch, command: &Co
             Outcome::Logs(core_of(evac).logs())
         }
         Command::Book(Inquiry::Log { log }) => tell_log(evac, scratch, log),
-        Command::Book(Inquiry::Audit) => audit(evac),
+        Command::Book(Inquiry::Audit) => audit(evac, scratch),
         Command::Evacuator(step) => {
             make_step(evac, scratch, step);
             Outcome::Stepped

@@ -118,13 +118,13 @@ known s m c r t h = known_by (is_by m (speaker c)) s.honest m (own_of (world_of 
 
 -- one that the device refuses tells what a try would, and that nothing else refuses it
 known_write : (k : ℕ) (o q : Own) (p from : ℕ) (new all : List ℕ) (why : Refusal) → KeepsFar why → o.opened ≡ true → o.viewed p ≡ false → q ≡ o → o.object p ≡ Some all → IsIn all from (length new) → Knows k o (Mutator k (Write p from new)) (Refused why) q
-known_write k o q p from new all why h opened free same is inside = of_far (λ x. Knows k o (Mutator k (Write p from new)) (Refused x) q) why h (opened, free, same, (all, is, inside)) (opened, free, same, (all, is, inside)) (opened, free, same, (all, is, inside))
+known_write k o q p from new all why h opened free same is inside = of_far (λ x. Knows k o (Mutator k (Write p from new)) (Refused x) q) why h (opened, free, same, (all, is, inside)) (opened, free, same, (all, is, inside))
 
 known_read : (k : ℕ) (o q : Own) (p from len : ℕ) (all : List ℕ) (why : Refusal) → KeepsFar why → o.opened ≡ true → o.viewed p ≡ false → q ≡ o → o.object p ≡ Some all → IsIn all from len → Knows k o (Mutator k (Read p from len)) (Refused why) q
-known_read k o q p from len all why h opened free same is inside = of_far (λ x. Knows k o (Mutator k (Read p from len)) (Refused x) q) why h (opened, free, same, (all, is, inside)) (opened, free, same, (all, is, inside)) (opened, free, same, (all, is, inside))
+known_read k o q p from len all why h opened free same is inside = of_far (λ x. Knows k o (Mutator k (Read p from len)) (Refused x) q) why h (opened, free, same, (all, is, inside)) (opened, free, same, (all, is, inside))
 
 known_view : (k : ℕ) (o q : Own) (p : ℕ) (all : List ℕ) (why : Refusal) → KeepsFar why → o.opened ≡ true → o.viewed p ≡ false → q ≡ o → o.object p ≡ Some all → Knows k o (Mutator k (View p)) (Refused why) q
-known_view k o q p all why h opened free same is = of_far (λ x. Knows k o (Mutator k (View p)) (Refused x) q) why h (opened, free, same, (all, is)) (opened, free, same, (all, is)) (opened, free, same, (all, is))
+known_view k o q p all why h opened free same is = of_far (λ x. Knows k o (Mutator k (View p)) (Refused x) q) why h (opened, free, same, (all, is)) (opened, free, same, (all, is))
 
 try_teaches : (why : Refusal) (now : Moment) (c : Command) (k p : ℕ) (r : Reply) (next : Moment) → Lasts now → Unbrought why now c k p r next → Teaches now.core k (Mutator k (Try p)) (Refused (Marked (now.core.cell p))) next.core
 try_teaches why now c k p r next lasts h =

@@ -56,7 +56,7 @@ module _ (row : ℕ → ℕ) (now : Moment) (c : Command) (r : Reply) (next : Mo
 
 -- ---- along a run in which nothing is inverted
 given_own : (less : ℕ) (owes : Option ℕ) (p : ℕ) (own bytes : List ℕ) → GivenOf 0 None p own bytes less owes → (bytes ≡ own) × (less ≡ 0) × (owes ≡ None)
-given_own less owes p own bytes (inl h) = h
+given_own less owes p own bytes (inl h) = (h.0, h.2, h.3)
 given_own less owes p own bytes (inr (inl (bytes_are, one, none, owed))) = let odd : 0 ≡ suc less = one in absurd cc
 given_own less owes p own bytes (inr (inr (own_is, same, owed, none))) = let odd : None ≡ Some p = owed in absurd cc
 

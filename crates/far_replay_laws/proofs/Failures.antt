@@ -14,7 +14,6 @@ use Rattle.far_device.specs.declared.liar.Lie.TheVariants.{Never, Short as Short
 use Rattle.far_evac.specs.declared.answers.Progress.{Progress}
 use Rattle.far_text.specs.Command.{Command, Device, Flawed, Fail, Short, Flip, Trace, New, Where, Logs, Mutator, Book, Evacuator, Select}
 use Rattle.far_replay.specs.Answers.{AnsweredBy, ByDevice, FlawedAtMost, IsOutput, Outside, Serves, Refuses, Gives, Lacks, Served, Stopped, MisledBy, first_moment, flaws, is_true, lie_of, opened, shape_of}
-use Rattle.far_replay.specs.Commanded.{KeepsFar}
 use Rattle.far_replay.specs.Moment.{Moment, as_if_stored}
 use Rattle.far_replay.specs.Objects.{lowest_cell}
 use Rattle.far_reply.specs.Reply.{Reply, Refused, Halted, reply_text}
@@ -28,6 +27,7 @@ use Rattle.far_replay_laws.proofs.AloneLaw.{next_honest}
 use Rattle.far_replay.proofs.Outcomes.{by_lie, by_stop}
 use Rattle.far_replay_laws.specs.FromOutside.{FailsAsSaid, FlawsAreSaid, damages, failures, lies, one_if, says_damaged, says_failed, says_lacking}
 use Rattle.far_replay_laws.proofs.FarRefusals.{served_never}
+use Rattle.far_replay_laws.proofs.Refusals.{IsFromOutside}
 use Rattle.far_replay_laws.proofs.LyingOnce.{lies_few, lies_once}
 
 -- ---- a reply that says none of it
@@ -54,13 +54,13 @@ unless_unhalted : (o : Option Refusal) (r : Reply) (why : Refusal) (progress : P
 unless_unhalted None r why progress other e = other e
 unless_unhalted (Some cause) r why progress other e = cc
 
-refused_silent : (why : Refusal) → ¬ KeepsFar why → Silent (Refused why)
+refused_silent : (why : Refusal) → ¬ IsFromOutside why → Silent (Refused why)
 refused_silent Failed other = absurd (other tt)
 refused_silent Damaged other = absurd (other tt)
 refused_silent Memory other = absurd (other tt)
 refused_silent why other = (refl, refl, refl)
 
-silent_of : (r : Reply) → ((why : Refusal) → r ≡ Refused why → ¬ KeepsFar why) → ((why : Refusal) (progress : Progress) → r ≢ Halted why progress) → Silent r
+silent_of : (r : Reply) → ((why : Refusal) → r ≡ Refused why → ¬ IsFromOutside why) → ((why : Refusal) (progress : Progress) → r ≢ Halted why progress) → Silent r
 silent_of (Refused why) refused halted = refused_silent why (refused why refl)
 silent_of (Halted why progress) refused halted = absurd (halted why progress refl)
 silent_of _ refused halted = (refl, refl, refl)

@@ -21,7 +21,7 @@ use Rattle.far_evac.specs.Waiting.{polled}
 use Rattle.far_policy.specs.Scripted.{is_bad, judged}
 use Rattle.far_text.specs.Command.{Command, New, Write, Read, Drop, View, Try, Logs, Log, Audit, Mutator, Book, Evacuator, Step, By, Script, Select, Wait, Round}
 use Rattle.far_replay.specs.Answers.{IsMoment, Served, Unbrought}
-use Rattle.far_replay.specs.Commanded.{KeepsFar, LiesFar}
+use Rattle.far_replay.specs.Commanded.{LiesFar}
 use Rattle.far_replay.specs.Dereference.{comes_to, has_no_room, sought, sought_of}
 use Rattle.far_replay.specs.Effects.{is_slow, with_view}
 use Rattle.far_replay.specs.Moment.{Moment}
@@ -37,11 +37,11 @@ use Rattle.far_replay.proofs.Turns.{access_fact, marked_last, tried}
 use Rattle.far_replay_laws.specs.FromOutside.{ComesSomewhere, DeviceRefusesFar, HasRoomFor, IsFarFor}
 use Rattle.far_replay_laws.specs.LeftMarks.{GainsHot}
 use Rattle.far_replay_laws.proofs.LeavingMarks.{served_leaves}
-use Rattle.far_replay_laws.proofs.Refusals.{not_halted, EachFirst, among, from_cause, turn_is_no_refusal}
+use Rattle.far_replay_laws.proofs.Refusals.{not_halted, EachFirst, IsFromOutside, among, from_cause, keeps_outside, turn_is_no_refusal}
 
 -- ---- a command that is served is never refused so
 abbrev NeverFar : Refusal → Type 0
-NeverFar why = ¬ KeepsFar why
+NeverFar why = ¬ IsFromOutside why
 
 wait_never : (o : Polled) → EachFirst NeverFar (wait_causes o)
 wait_never polls.Clear = tt
@@ -71,7 +71,7 @@ command_never now (Book Audit) = tt
 command_never now (Evacuator step) = step_never now step
 command_never now _ = ((λ _ k. k), λ _. ((λ _ k. k), λ _. tt))
 
-pub served_never : (now : Moment) (c : Command) (r : Reply) (next : Moment) (why : Refusal) → Served now c r next → r ≡ Refused why → ¬ KeepsFar why
+pub served_never : (now : Moment) (c : Command) (r : Reply) (next : Moment) (why : Refusal) → Served now c r next → r ≡ Refused why → ¬ IsFromOutside why
 served_never now c r next why h e = among NeverFar (causes now c) why (command_never now c) (from_cause (refusal now c) (turn_reply now c) why (turn_is_no_refusal now c why) (sym h.reply ∙ e))
 
 -- ---- and what is far stays so, with HOT
@@ -117,7 +117,7 @@ far_both why now c m p r next is h some =
 
 pub device_refuses_far : DeviceRefusesFar
 device_refuses_far now c r next why is h e keeps = by_outcome now r next (λ d. IsFarFor now.core d × IsFarFor next.core d × HasRoomFor now.core d)
-    (λ d h. absurd (served_never now d r next why h e keeps))
+    (λ d h. absurd (served_never now d r next why h e (keeps_outside why keeps)))
     (λ cause m p from bytes h. far_both cause now (Mutator m (Write p from bytes)) m p r next is h (access_fact now.core m p from (length bytes) h.allowed).room)
     (λ cause m p from len h. far_both cause now (Mutator m (Read p from len)) m p r next is h (access_fact now.core m p from len h.allowed).room)
     (λ cause m p h. far_both cause now (Mutator m (View p)) m p r next is h

@@ -147,7 +147,6 @@ refused_clean s t q NotHeld h = all_clean s t h
 refused_clean s t q NoRoom h = apart_clean s t q h.1 (λ clean. sym (room_dirt (read_of (s.cell q)) (read_of (t.cell q)) h.0) ∙ clean)
 refused_clean s t q Device h = gained_clean s t q h.0 h.1
 refused_clean s t q Damaged h = gained_clean s t q h.0 h.1
-refused_clean s t q Memory h = gained_clean s t q h.0 h.1
 refused_clean s t q _ h = absurd h
 
 try_clean : (s t : State) (q : ℕ) (why : Refusal) → TryLeaves s q why t → (p : ℕ) → Clean t p → Clean s p

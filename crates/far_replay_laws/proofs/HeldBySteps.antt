@@ -1,6 +1,6 @@
 -- Steps of the evacuator keep what the device is to hold.
 use Rattle.std.proofs.Common.{◌≡◌, ◌≢◌, ◌⊎◌, ℕ, Bool, true, false, cond, Option, Some, None, List, [], ◌∷◌, length, inl, inr, ap, sym, refl, ◌∙◌, subst}
-use Rattle.std.proofs.lemmas.Bool.{not-true}
+use Rattle.std.proofs.lemmas.Bool.{false≢true, not-true}
 use Rattle.far_word.specs.declared.mark.Marks.{Marks}
 use Rattle.far_word.specs.declared.pointer.PtrWord.{PtrWord}
 use Rattle.far_word.specs.declared.pointer.PtrWord.TheVariants.{Free, Near, Far}
@@ -8,7 +8,7 @@ use Rattle.far_word.specs.Bytes.{bytes_of}
 use Rattle.far_word.specs.Pointer.{read_of}
 use Rattle.far_word.proofs.ByteLaws.{length-bytes_of}
 use Rattle.far_book.specs.book.FarSide.{kept_len}
-use Rattle.far_core.specs.state.Law.{in_use}
+use Rattle.far_core.specs.state.Law.{in_use, is_dirty}
 use Rattle.far_core.specs.state.State.{State}
 use Rattle.far_core.specs.world.World.{Object}
 use Rattle.far_core.specs.world.WorldOf.{world_of}
@@ -71,21 +71,28 @@ cell_kept step r _ _ h = absurd h
 put_kept : (now : Moment) (step : Step) (r : Reply) (after : Moment) (held later : FarBytes) → ((p : ℕ) → later p ≡ held p) → ((p : ℕ) → bytes_in after p ≡ bytes_in now p) → AllStayPut now.core step r after.core → KeepsHeld now held after later
 put_kept now step r after held later same bytes stays p (len, kept) = inl (same p, (len, sym (cell_kept step r (read_of (now.core.cell p)) (read_of (after.core.cell p)) (stays.cells p)) ∙ kept), bytes p)
 
+-- of what has DIRTY nothing is kept
+dirty_unkept : (o : Option PtrWord) → is_dirty o ≡ true → (len : ℕ) → kept_len o ≡ Some len → ⊥
+dirty_unkept (Some (Near n ds place m)) dirty len kept = let odd : None ≡ Some len = ap (λ b. cond b None (Some n)) (sym dirty) ∙ kept in cc
+dirty_unkept (Some (Far n ds m)) dirty len kept = false≢true dirty
+dirty_unkept (Some Free) dirty len kept = false≢true dirty
+dirty_unkept None dirty len kept = false≢true dirty
+
 -- ---- each step
 module _ (now : Moment) (r : Reply) (after : Moment) (held later : FarBytes) (is : IsMoment now) where
   bytes_stay : (step : Step) → Commanded now (Evacuator step) r after → (p : ℕ) → bytes_in after p ≡ bytes_in now p
   bytes_stay step made p = anywhere_bytes ((world_of now.core).object p) ((world_of after.core).object p) ((steps_left now step r after is made).objects p)
 
-  went_far : Lasts after → (p : ℕ) → WentFar after.core later p → later p ≡ bytes_in after p
-  went_far lasts p (len, ds, m, far, there) =
+  went_far : Lasts after → (p : ℕ) → WentFar now.core after.core later p → later p ≡ bytes_in after p
+  went_far lasts p (dirty, len, ds, m, far, there) =
       let used : in_use (read_of (after.core.cell p)) ≡ true = used_in after lasts p (λ none. let odd : Some (Far len ds m) ≡ Some Free = sym far ∙ ap read_of none ∙ unused in cc) in
       there ∙ sym (far_bytes after.core p len ds m far (not-true m.dropped (subst (λ o. in_use o ≡ true) far used)))
 
   module _ (step : Step) (made : Commanded now (Evacuator step) r after) (lasts : Lasts after) where
-    pub leaving_kept : ((p : ℕ) → (len : ℕ) → kept_len (read_of (after.core.cell p)) ≡ Some len → ((later p ≡ held p) × (kept_len (read_of (now.core.cell p)) ≡ Some len)) ⊎ WentFar after.core later p) → KeepsHeld now held after later
+    pub leaving_kept : ((p : ℕ) → (len : ℕ) → kept_len (read_of (after.core.cell p)) ≡ Some len → ((later p ≡ held p) × (kept_len (read_of (now.core.cell p)) ≡ Some len)) ⊎ WentFar now.core after.core later p) → KeepsHeld now held after later
     leaving_kept holds p (len, kept) = elim (holds p len kept) [
       | inl (same, before) ↦ inl (same, (len, before), bytes_stay step made p)
-      | inr went ↦ inr (went_far lasts p went)
+      | inr went ↦ inr ((λ before. dirty_unkept (read_of (now.core.cell p)) went.0 before.0 before.1), went_far lasts p went)
     ]
 
   pub kept_by_step : (step : Step) → Commanded now (Evacuator step) r after → Lasts after → HoldsBy (Evacuator step) now.core after.core held later → KeepsHeld now held after later

@@ -5,13 +5,14 @@ use Rattle.far_word.specs.declared.refused.Refused.TheVariants.{Memory}
 use Rattle.far_evac.specs.declared.answers.Progress.{Progress}
 use Rattle.far_text.specs.Command.{Command, Evacuator, Evacuate, Round}
 use Rattle.far_replay.specs.Answers.{Commanded, IsMoment, Refuses}
+use Rattle.far_replay.specs.Commanded.{KeepsFar}
 use Rattle.far_replay.specs.Moment.{Moment, as_if_stored}
 use Rattle.far_reply.specs.Reply.{Reply, Halted, Refused}
 use Rattle.far_replay.proofs.Outcomes.{by_outcome}
 use Rattle.far_replay_laws.specs.FromOutside.{HaltsThere, MemoryIsRefusedThere}
 use Rattle.far_replay_laws.specs.Steps.{TellsStep}
 use Rattle.far_replay_laws.proofs.Failures.{served_unhalted}
-use Rattle.far_replay_laws.proofs.FarRefusals.{device_refuses_far}
+use Rattle.far_replay_laws.proofs.FarRefusals.{served_never}
 use Rattle.far_replay_laws.proofs.TurnsTell.{steps_told}
 
 halted_no : (why cause : Refusal) (progress : Progress) → Refused cause ≢ Halted why progress
@@ -36,7 +37,25 @@ halts_there now c r next progress is h e = by_outcome now r next (λ d. HaltsThe
     (λ row m p d asks h. absurd (served_unhalted (as_if_stored now p row) d r (as_if_stored next p row) Memory progress h.served e))
     c h
 
+-- without counts it is never refused: what is served isn't refused so, and no object stays far for want of memory
+refusals_alike : (a b : Refusal) → Refused a ≡ Refused b → a ≡ b
+refusals_alike a b e = cc
+
+kept_never : (why : Refusal) (r : Reply) → KeepsFar why → r ≡ Refused why → r ≢ Refused Memory
+kept_never why r keeps is e = subst KeepsFar (refusals_alike why Memory (sym is ∙ e)) keeps
+
+never_refused : (now : Moment) (c : Command) (r : Reply) (next : Moment) → Commanded now c r next → r ≢ Refused Memory
+never_refused now c r next h e = by_outcome now r next (λ d. ⊥)
+    (λ d h. served_never now d r next Memory h e tt)
+    (λ why m p from bytes h. kept_never why r h.cause h.reply e)
+    (λ why m p from len h. kept_never why r h.cause h.reply e)
+    (λ why m p h. kept_never why r h.cause h.reply e)
+    (λ why objects count h. halted_is why Memory _ (sym h.reply ∙ e))
+    (λ why turns objects policy most count h. halted_is why Memory _ (sym h.reply ∙ e))
+    (λ row m p d asks h. h.answered Memory e)
+    c h
+
 pub memory_is_refused_there : MemoryIsRefusedThere
-memory_is_refused_there now c (Refused Memory) next is h = device_refuses_far now c (Refused Memory) next Memory is h refl tt
+memory_is_refused_there now c (Refused Memory) next is h = never_refused now c (Refused Memory) next h refl
 memory_is_refused_there now c (Halted Memory progress) next is h = halts_there now c (Halted Memory progress) next progress is h refl
 memory_is_refused_there now c r next is h = tt

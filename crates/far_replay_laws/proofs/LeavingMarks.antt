@@ -260,7 +260,7 @@ served_leaves now c r next is h =
 
 -- one that the device refuses leaves HOT, as a try does
 far_leaves : (s t : State) (p : ℕ) (why : Refusal) → KeepsFar why → GainsHot (read_of (s.cell p)) (read_of (t.cell p)) × OthersStay s t p → RefusedLeaves s p why t
-far_leaves s t p why h gains = of_far (λ x. RefusedLeaves s p x t) why h gains gains gains
+far_leaves s t p why h gains = of_far (λ x. RefusedLeaves s p x t) why h gains gains
 
 tried_leaves : (now : Moment) (c : Command) (why : Refusal) (m p : ℕ) (r : Reply) (next : Moment) → IsMoment now → Unbrought why now c m p r next → RefusedLeaves now.core p why next.core
 tried_leaves now c why m p r next is h =

@@ -46,6 +46,7 @@ pub mod SaidBy
 pub mod SealedAside
 pub mod Standing
 pub mod StepsTell
+pub mod StoppedAt
 pub mod Stops
 pub mod StoredApart
 pub mod TakingRoom

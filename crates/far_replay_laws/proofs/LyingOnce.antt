@@ -47,23 +47,22 @@ Owed now held q = (own : List ℕ) × (held q ≡ Some own) × (bytes_in now q �
 record Has (n : ℕ) (owed : Option ℕ) (now : Moment) (held : FarBytes) : Type 0 where
   pub apart : (q : ℕ) → owed ≢ Some q → IsKept now q → held q ≡ bytes_in now q
   pub over : (q : ℕ) → owed ≡ Some q → n ≡ 0
-  pub owes : (q : ℕ) → owed ≡ Some q → IsKept now q → Owed now held q ⊎ (held q ≡ bytes_in now q)
+  pub owes : (q : ℕ) → owed ≡ Some q → IsKept now q → Owed now held q
 
--- what was owed is owed then, or is there
-still_owed : (now after : Moment) (held later : FarBytes) (q : ℕ) → later q ≡ held q → bytes_in after q ≡ bytes_in now q → Owed now held q ⊎ (held q ≡ bytes_in now q) → Owed after later q ⊎ (later q ≡ bytes_in after q)
-still_owed now after held later q same bytes (inl (own, has, is, small)) = inl (own, same ∙ has, bytes ∙ is, small)
-still_owed now after held later q same bytes (inr agrees) = inr (same ∙ agrees ∙ sym bytes)
+-- what was owed is owed then
+still_owed : (now after : Moment) (held later : FarBytes) (q : ℕ) → later q ≡ held q → bytes_in after q ≡ bytes_in now q → Owed now held q → Owed after later q
+still_owed now after held later q same bytes (own, has, is, small) = (own, same ∙ has, bytes ∙ is, small)
 
-has_still : (n : ℕ) (owed : Option ℕ) (now after : Moment) (held later : FarBytes) → KeepsHeld now held after later → Has n owed now held → Has n owed after later
-has_still n owed now after held later keeps h = record {
+has_still : (n : ℕ) (owed : Option ℕ) (now after : Moment) (held later : FarBytes) → ((q : ℕ) → owed ≡ Some q → IsKept now q) → KeepsHeld now held after later → Has n owed now held → Has n owed after later
+has_still n owed now after held later counts keeps h = record {
   apart = λ q other kept. elim (keeps q kept) [
     | inl (same, before, bytes) ↦ same ∙ h.apart q other before ∙ sym bytes
-    | inr agrees ↦ agrees
+    | inr (fresh, agrees) ↦ agrees
   ];
   over = h.over;
   owes = λ q is kept. elim (keeps q kept) [
     | inl (same, before, bytes) ↦ still_owed now after held later q same bytes (h.owes q is before)
-    | inr agrees ↦ inr agrees
+    | inr (fresh, agrees) ↦ absurd (fresh (counts q is))
   ];
 }
 
@@ -83,6 +82,15 @@ owed_still n (Some p) now held h = by (kept_len (read_of (now.core.cell p))) ref
       over = λ q e. let odd : None ≡ Some q = e in absurd cc;
       owes = λ q e. let odd : None ≡ Some q = e in absurd cc;
     }
+
+-- what is owed is to be held
+owed_kept : (now : Moment) (owed : Option ℕ) (q : ℕ) → owed_in now owed ≡ Some q → IsKept now q
+owed_kept now None q e = let odd : None ≡ Some q = e in absurd cc
+owed_kept now (Some p) q e = by (kept_len (read_of (now.core.cell p))) refl e
+  where
+    by : (o : Option ℕ) → kept_len (read_of (now.core.cell p)) ≡ o → if_kept p o ≡ Some q → IsKept now q
+    by (Some len) is owes = subst (IsKept now) (same_pointer p q owes) (len, is)
+    by None is owes = let odd : None ≡ Some q = owes in absurd cc
 
 inverts_bytes : (bytes : List ℕ) → IsBytes (map inverted bytes)
 inverts_bytes [] k = omega arith
@@ -153,7 +161,7 @@ module _ (now : Moment) (c : Command) (r : Reply) (after : Moment) (held later :
   module _ (n : ℕ) (owed : Option ℕ) (h : Has n owed now held) where
     -- all others are as they were
     others : (less : ℕ) (owes : Option ℕ) → ((q : ℕ) → owes ≢ Some q → q ≢ p → owed ≢ Some q) → ((q : ℕ) → owes ≡ Some q → q ≢ p → owed ≡ Some q) → ((q : ℕ) → owes ≡ Some q → less ≡ 0) →
-        (owes ≢ Some p → IsKept after p → later p ≡ bytes_in after p) → (owes ≡ Some p → IsKept after p → Owed after later p ⊎ (later p ≡ bytes_in after p)) → Has less owes after later
+        (owes ≢ Some p → IsKept after p → later p ≡ bytes_in after p) → (owes ≡ Some p → IsKept after p → Owed after later p) → Has less owes after later
     others less owes aside owing over here owed_here = record {
       apart = λ q other kept. elim (cases_eq q p) [
         | inl at ↦ subst (λ k. later k ≡ bytes_in after k) (sym at) (here (subst (λ k. owes ≢ Some k) at other) (subst (IsKept after) at kept))
@@ -161,7 +169,7 @@ module _ (now : Moment) (c : Command) (r : Reply) (after : Moment) (held later :
       ];
       over = over;
       owes = λ q is kept. elim (cases_eq q p) [
-        | inl at ↦ subst (λ k. Owed after later k ⊎ (later k ≡ bytes_in after k)) (sym at) (owed_here (subst (λ k. owes ≡ Some k) at is) (subst (IsKept after) at kept))
+        | inl at ↦ subst (Owed after later) (sym at) (owed_here (subst (λ k. owes ≡ Some k) at is) (subst (IsKept after) at kept))
         | inr away ↦ still_owed now after held later q (same q) (x.others q away) (h.owes q (owing q is away) (beside q away kept))
       ];
     }
@@ -170,11 +178,11 @@ module _ (now : Moment) (c : Command) (r : Reply) (after : Moment) (held later :
     Goes less = (owes : Option ℕ) × GivenOf n owed p x.old given less owes × Has less owes after later
 
     -- its own bytes
-    gave_own : held p ≡ bytes_in now p → given ≡ x.old → Goes n
-    gave_own agrees own = (
+    gave_own : owed ≢ Some p → held p ≡ bytes_in now p → given ≡ x.old → Goes n
+    gave_own free agrees own = (
       owed,
-      inl (own, refl, refl),
-      others n owed (λ q other _. other) (λ q is _. is) h.over (λ _ kept. here kept) (λ _ kept. inr (here kept)),
+      inl (own, free, refl, refl),
+      others n owed (λ q other _. other) (λ q is _. is) h.over (λ _ kept. here kept) (λ is _. absurd (free is)),
     )
       where
         here : IsKept after p → later p ≡ bytes_in after p
@@ -200,24 +208,23 @@ module _ (now : Moment) (c : Command) (r : Reply) (after : Moment) (held later :
           Some p,
           inr (inl (gives ∙ ap (map inverted) old, one, none, refl)),
           others less (Some p) (λ q _ _ e. let odd : None ≡ Some q = sym none ∙ e in cc) (λ q e away. absurd (away (sym (same_pointer p q e)))) (λ _ _. last) (λ other. absurd (other refl))
-              (λ _ kept. inl (own, same p ∙ has, has_given kept ∙ ap (λ bs. Some bs) gives, subst IsBytes (sym old) are_bytes)),
+              (λ _ kept. (own, same p ∙ has, has_given kept ∙ ap (λ bs. Some bs) gives, subst IsBytes (sym old) are_bytes)),
         )
 
     -- where it has the object's bytes they are what it tells as they are
-    told_own : held p ≡ bytes_in now p → IsTold false (held p) given → Goes n
-    told_own agrees (raw, there, tells) =
+    told_own : owed ≢ Some p → held p ≡ bytes_in now p → IsTold false (held p) given → Goes n
+    told_own free agrees (raw, there, tells) =
         let alike : raw ≡ x.old = same_bytes raw x.old (sym there ∙ agrees ∙ x.had) in
-        gave_own agrees (tells (subst IsBytes (sym alike) are_bytes) ∙ alike)
+        gave_own free agrees (tells (subst IsBytes (sym alike) are_bytes) ∙ alike)
 
     -- to whomever it owes
     told_by : (o : Option ℕ) → owed ≡ o → IsTold false (held p) given → Goes n
-    told_by None none told = told_own (h.apart p (λ e. let odd : None ≡ Some p = sym none ∙ e in cc) is_kept) told
+    told_by None none told =
+        let free : owed ≢ Some p = (λ e. let odd : None ≡ Some p = sym none ∙ e in cc) in
+        told_own free (h.apart p free is_kept) told
     told_by (Some q) some told = elim (cases_eq q p) [
-      | inl at ↦ (let is : owed ≡ Some p = some ∙ ap (λ k. Some k) at in elim (h.owes p is is_kept) [
-        | inl owing ↦ gave_owed is owing told
-        | inr agrees ↦ told_own agrees told
-      ])
-      | inr away ↦ told_own (h.apart p (λ e. away (same_pointer q p (sym some ∙ e))) is_kept) told
+      | inl at ↦ (let is : owed ≡ Some p = some ∙ ap (λ k. Some k) at in gave_owed is (h.owes p is is_kept) told)
+      | inr away ↦ told_own (λ e. away (same_pointer q p (sym some ∙ e))) (h.apart p (λ e. away (same_pointer q p (sym some ∙ e))) is_kept) told
     ]
 
     owes_none : (o : Option ℕ) → owed ≡ o → (less : ℕ) → n ≡ suc less → owed ≡ None
@@ -271,10 +278,10 @@ module _ (lie : Lie) where
   run n owed now (o ∷ os) (c ∷ cs) (r ∷ rs) [] held one is small few h along has = absurd h
   run n owed now (Serves ∷ os) (c ∷ cs) (r ∷ rs) (after ∷ ms) held one is small few h (later, holds, told, rest) has =
       run n (owed_in now owed) after os cs rs ms later one (next_is_moment now c r after is small.0 (Serves, h.0)) small.1 few h.1 rest
-      (has_still (inverts_of lie n) (owed_in now owed) now after held later (keeps Serves tt now c r after held later is small.0 h.0 holds) (owed_still (inverts_of lie n) owed now held has))
+      (has_still (inverts_of lie n) (owed_in now owed) now after held later (owed_kept now owed) (keeps Serves tt now c r after held later is small.0 h.0 holds) (owed_still (inverts_of lie n) owed now held has))
   run n owed now (Lacks turns objects ∷ os) (c ∷ cs) (r ∷ rs) (after ∷ ms) held one is small few h (later, holds, told, rest) has =
       run n (owed_in now owed) after os cs rs ms later one (next_is_moment now c r after is small.0 (Lacks turns objects, h.0)) small.1 few h.1 rest
-      (has_still (inverts_of lie n) (owed_in now owed) now after held later (keeps (Lacks turns objects) tt now c r after held later is small.0 h.0 holds) (owed_still (inverts_of lie n) owed now held has))
+      (has_still (inverts_of lie n) (owed_in now owed) now after held later (owed_kept now owed) (keeps (Lacks turns objects) tt now c r after held later is small.0 h.0 holds) (owed_still (inverts_of lie n) owed now held has))
   run n owed now (Gives row false ∷ os) (c ∷ cs) (r ∷ rs) (after ∷ ms) held one is small few h (later, holds, told, rest) has =
       let (m, p, x) = lies_change row false now c r after is small.0 h.0 in
       let k = inverts_of lie n in
@@ -293,7 +300,7 @@ module _ (lie : Lie) where
       let left = refused_left lie why turns objects n few.0 in
       subst (λ k. LiesOnce k (owed_in now owed) after os cs ms) left
       (run n (owed_in now owed) after os cs rs ms later (subst (λ k. k ≤ 1) (sym left) one) (next_is_moment now c r after is small.0 (Refuses why turns objects, h.0)) small.1 few.1 h.1 rest
-      (has_still (inverts_of lie n) (owed_in now owed) now after held later (keeps (Refuses why turns objects) tt now c r after held later is small.0 h.0 holds)
+      (has_still (inverts_of lie n) (owed_in now owed) now after held later (owed_kept now owed) (keeps (Refuses why turns objects) tt now c r after held later is small.0 h.0 holds)
       (subst (λ k. Has k (owed_in now owed) now held) (sym left) (owed_still (inverts_of lie (suc n)) owed now held has))))
   run (suc n) owed now (Gives row true ∷ os) (c ∷ cs) (r ∷ rs) (after ∷ ms) held one is small few h (later, holds, told, rest) has =
       let (m, p, x) = lies_change row true now c r after is small.0 h.0 in

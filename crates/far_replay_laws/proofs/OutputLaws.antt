@@ -130,13 +130,13 @@ same_refusal why cause r h e = refusals_alike cause why (sym h ∙ e) where
   refusals_alike a b e = cc
 
 write_marks : (why : Refusal) (m p from : ℕ) (bytes : List ℕ) → KeepsFar why → MayMark (Mutator m (Write p from bytes)) why p
-write_marks why m p from bytes h = of_far (λ x. MayMark (Mutator m (Write p from bytes)) x p) why h refl refl refl
+write_marks why m p from bytes h = of_far (λ x. MayMark (Mutator m (Write p from bytes)) x p) why h refl refl
 
 read_marks : (why : Refusal) (m p from len : ℕ) → KeepsFar why → MayMark (Mutator m (Read p from len)) why p
-read_marks why m p from len h = of_far (λ x. MayMark (Mutator m (Read p from len)) x p) why h refl refl refl
+read_marks why m p from len h = of_far (λ x. MayMark (Mutator m (Read p from len)) x p) why h refl refl
 
 view_marks : (why : Refusal) (m p : ℕ) → KeepsFar why → MayMark (Mutator m (View p)) why p
-view_marks why m p h = of_far (λ x. MayMark (Mutator m (View p)) x p) why h refl refl refl
+view_marks why m p h = of_far (λ x. MayMark (Mutator m (View p)) x p) why h refl refl
 
 pub refused_stays : (now : Moment) (c : Command) (r : Reply) (next : Moment) (why : Refusal) → ((p : ℕ) → ¬ MayMark c why p) → ¬ MaySee c why → Commanded now c r next → r ≡ Refused why → next ≡ now
 refused_stays now c r next why none blind h e = by_outcome now r next (λ d. ((p : ℕ) → ¬ MayMark d why p) → ¬ MaySee d why → next ≡ now)

@@ -135,7 +135,7 @@ plain_reply now c law moment alone bytes = plain_unless now c (refusal now c) la
 
 -- of a command that was served or refused in its midst
 far_told : (why : Refusal) → KeepsFar why → IsRefusalToldInFull why
-far_told why h = of_far IsRefusalToldInFull why h tt tt tt
+far_told why h = of_far IsRefusalToldInFull why h tt tt
 
 served_plain : (now : Moment) (c : Command) (r : Reply) (next : Moment) → Lasts now → WritesBytes c → Served now c r next → IsToldInFull r
 served_plain now c r next lasts bytes h = subst IsToldInFull (sym h.reply) (plain_reply now c lasts.law lasts.round lasts.alone bytes)

@@ -54,12 +54,19 @@ among P (c ∷ cs) why h = cond_both c.0 (Some c.1) (first_cause cs) (λ (x : Op
     (λ holds e. let same : c.1 ≡ why = cc in subst P same (h.0 holds))
     (λ no e. among P cs why (h.1 no) e)
 
--- what is so where memory was refused, where the device failed, and where it gave another number of bytes, is so of each refusal that leaves an object far
-pub of_far : (P : Refusal → Type 0) (why : Refusal) → KeepsFar why → P Memory → P Device → P Damaged → P why
-of_far P Memory h lacks failed short = lacks
-of_far P Device h lacks failed short = failed
-of_far P Damaged h lacks failed short = short
-of_far P why h lacks failed short = absurd h
+-- what is so where the device failed, and where it gave another number of bytes, is so of each refusal that leaves an object far
+pub of_far : (P : Refusal → Type 0) (why : Refusal) → KeepsFar why → P Device → P Damaged → P why
+of_far P Device h failed short = failed
+of_far P Damaged h failed short = short
+of_far P why h failed short = absurd h
+
+-- what only the outside refuses: that, and memory
+abbrev pub IsFromOutside : Refusal → Type 0
+IsFromOutside Memory = Unit {0}
+IsFromOutside why = KeepsFar why
+
+pub keeps_outside : (why : Refusal) → KeepsFar why → IsFromOutside why
+keeps_outside why h = of_far IsFromOutside why h tt tt
 
 -- an object at hand needs no mark taken away before it is viewed
 fast_at : (s : State) (m p : ℕ) → Law s → (s.cell p ≢ 0 → AtHand s p) → not (uses s m p) ≡ false → is_slow s p ≡ false

@@ -178,13 +178,13 @@ far_takes : (now : Moment) (c : Command) (m p : ℕ) (why : Refusal) (r : Reply)
 far_takes now c m p why r next is h = served_take now (Mutator m (Try p)) (Refused (Marked (now.core.cell p))) next is h.tried
 
 write_takes_none : (now next : Moment) (m p from : ℕ) (bytes : List ℕ) (why : Refusal) → KeepsFar why → TakesNone now.core next.core → TakesRoom now (Mutator m (Write p from bytes)) (Refused why) next
-write_takes_none now next m p from bytes why h none = of_far (λ x. TakesRoom now (Mutator m (Write p from bytes)) (Refused x) next) why h none none none
+write_takes_none now next m p from bytes why h none = of_far (λ x. TakesRoom now (Mutator m (Write p from bytes)) (Refused x) next) why h none none
 
 read_takes_none : (now next : Moment) (m p from len : ℕ) (why : Refusal) → KeepsFar why → TakesNone now.core next.core → TakesRoom now (Mutator m (Read p from len)) (Refused why) next
-read_takes_none now next m p from len why h none = of_far (λ x. TakesRoom now (Mutator m (Read p from len)) (Refused x) next) why h none none none
+read_takes_none now next m p from len why h none = of_far (λ x. TakesRoom now (Mutator m (Read p from len)) (Refused x) next) why h none none
 
 view_takes_none : (now next : Moment) (m p : ℕ) (why : Refusal) → KeepsFar why → TakesNone now.core next.core → TakesRoom now (Mutator m (View p)) (Refused why) next
-view_takes_none now next m p why h none = of_far (λ x. TakesRoom now (Mutator m (View p)) (Refused x) next) why h none none none
+view_takes_none now next m p why h none = of_far (λ x. TakesRoom now (Mutator m (View p)) (Refused x) next) why h none none
 
 -- one that was given other words takes what it would if they were stored
 as_bool : {A B C D : Type 0} (b : Bool) → (A → C) → (B → D) → MatchBool b A B → MatchBool b C D

@@ -25,6 +25,7 @@ use Rattle.far_evac.specs.declared.phase.Phase.TheVariants.{Idle, Marking, Waiti
 use Rattle.far_text.specs.Command.{Command, Evacuator, Choice, By, Script, Policy, Step, Select, Mark, Wait, Evacuate, Abort, Round}
 use Rattle.far_replay.specs.Answers.{Commanded, Served, StopsLeaving, StopsRound, IsMoment}
 use Rattle.far_replay.proofs.Outcomes.{by_outcome}
+use Rattle.far_replay_laws.proofs.StoppedAt.{stopped_at}
 use Rattle.far_replay_laws.proofs.Stops.{starts, stood_so}
 use Rattle.far_reply.specs.Reply.{Reply, Selected, Clear, Evacuated, Ended, Refused, Halted}
 use Rattle.far_replay.specs.Rounds.{after_round, choice_causes, chosen_by, given_by, is_evacuating, is_marking, is_waiting, logs_given, refused_step, round_told, rows_in, step_causes, step_effect, step_reply, wait_causes}
@@ -305,7 +306,7 @@ stop_told : (now : Moment) (why : Refusal) (objects count : ℕ) (r : Reply) (ne
 stop_told now why objects count r next lasts h =
     let x = served_told now (Evacuate objects) (Evacuated h.progress) next lasts h.left in
     subst (λ y. TellsStep now (Evacuate count) y next) (sym h.reply) record {
-      tells = record { objects = objects; before = h.before; left = x.tells; unfinished = h.unfinished };
+      tells = record { objects = objects; before = h.before; left = x.tells; unfinished = h.unfinished; at = stopped_at next (after_step now (Evacuate objects) (Evacuated h.progress) next lasts h.left) h.at };
       phase = x.phase ∙ ap (λ b. if b then Idle else now.phase) h.unfinished;
       time = λ _. x.time (evacuated_not h.progress);
     }
@@ -344,6 +345,7 @@ round_told_so now why turns objects policy most count r next lasts h later =
         last = h.progress;
         left = h.left;
         unfinished = h.unfinished;
+        at = stopped_at next (after_step h.stood (Evacuate objects) (Evacuated h.progress) next later h.left) h.at;
         sums = record {
           moved = ap (λ k. k + h.progress.moved) run.moved;
           far = ap (λ k. k + h.progress.far) run.far;

@@ -390,13 +390,13 @@ module _ (row : ℕ → ℕ) (now : Moment) (c : Command) (m p : ℕ) (r : Reply
   }
 
 write_as : (why : Refusal) (m p from : ℕ) (bytes : List ℕ) → KeepsFar why → carried_as (Mutator m (Write p from bytes)) (Refused why) ≡ Mutator m (Try p)
-write_as why m p from bytes h = of_far (λ x. carried_as (Mutator m (Write p from bytes)) (Refused x) ≡ Mutator m (Try p)) why h refl refl refl
+write_as why m p from bytes h = of_far (λ x. carried_as (Mutator m (Write p from bytes)) (Refused x) ≡ Mutator m (Try p)) why h refl refl
 
 read_as : (why : Refusal) (m p from len : ℕ) → KeepsFar why → carried_as (Mutator m (Read p from len)) (Refused why) ≡ Mutator m (Try p)
-read_as why m p from len h = of_far (λ x. carried_as (Mutator m (Read p from len)) (Refused x) ≡ Mutator m (Try p)) why h refl refl refl
+read_as why m p from len h = of_far (λ x. carried_as (Mutator m (Read p from len)) (Refused x) ≡ Mutator m (Try p)) why h refl refl
 
 view_as : (why : Refusal) (m p : ℕ) → KeepsFar why → carried_as (Mutator m (View p)) (Refused why) ≡ Mutator m (Try p)
-view_as why m p h = of_far (λ x. carried_as (Mutator m (View p)) (Refused x) ≡ Mutator m (Try p)) why h refl refl refl
+view_as why m p h = of_far (λ x. carried_as (Mutator m (View p)) (Refused x) ≡ Mutator m (Try p)) why h refl refl
 
 reach : (now : Moment) (c : Command) (r : Reply) (next : Moment) → Lasts now → WritesBytes c → Commanded now c r next → Reaches now c r next
 reach now c r next lasts bytes h = by_outcome now r next (λ d. WritesBytes d → Reaches now d r next)

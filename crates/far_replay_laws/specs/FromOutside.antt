@@ -38,20 +38,19 @@ HasRoomFor s (Mutator m (Read p from len)) = ComesSomewhere s p
 HasRoomFor s (Mutator m (View p)) = ComesSomewhere s p
 HasRoomFor s c = ⊥
 
--- a command is refused as memory was refused, the device failed, or gave another number of bytes, only where its object is far before and after it, and there was room for it
+-- a command is refused as the device failed, or gave another number of bytes, only where its object is far before and after it, and there was room for it
 abbrev pub DeviceRefusesFar : Type 0
 DeviceRefusesFar = (now : Moment) (c : Command) (r : Reply) (after : Moment) (why : Refusal) → IsMoment now → Commanded now c r after → r ≡ Refused why → KeepsFar why →
     IsFarFor now.core c × IsFarFor after.core c × HasRoomFor now.core c
 
--- a reply says that memory was refused only so: of a read, a write or a view, whose object is far before and after it, and for which there was room; with counts, of an evacuation
--- in its phase, in which it stays; and of a round that had chosen its logs, and after which objects leave
+-- a reply says that memory was refused only with counts: of an evacuation in its phase, in which it stays; and of a round that had chosen its logs, and after which objects leave
 abbrev pub HaltsThere : Moment → Command → Moment → Type 0
 HaltsThere now (Evacuator (Evacuate count)) after = (now.phase ≡ Evacuating) × (after.phase ≡ Evacuating)
 HaltsThere now (Evacuator (Round policy most turns)) after = (now.phase ≡ Idle) × (after.phase ≡ Evacuating)
 HaltsThere now c after = ⊥
 
 abbrev pub LacksThere : Moment → Command → Reply → Moment → Type 0
-LacksThere now c (Refused Memory) after = IsFarFor now.core c × IsFarFor after.core c × HasRoomFor now.core c
+LacksThere now c (Refused Memory) after = ⊥
 LacksThere now c (Halted Memory progress) after = HaltsThere now c after
 LacksThere now c r after = Unit {0}
 
@@ -127,7 +126,7 @@ abbrev pub gives_stored : Option Device → Bool
 gives_stored device = to_lie device == 0
 
 -- where what is read of a device is always what was written, no command is given other bytes. From its first moment on no more commands are given inverted ones than it is said to invert, and
--- then at most one what the device owes it; all others are given their objects' own
+-- then the next of the same object, unwritten since, what the device owes it; all others are given their objects' own
 pub record LiesAsSaid (device : Option Device) (outside : List Outside) (now : Moment) (cs : List Command) (moments : List Moment) : Type 0 where
   pub lied : is_true device ≡ true → lies outside ≡ 0
   pub once : LiesOnce (to_lie device) None now outside cs moments

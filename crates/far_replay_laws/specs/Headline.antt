@@ -9,7 +9,7 @@ use Rattle.far_word.specs.declared.pointer.Place.{Place}
 use Rattle.far_word.specs.declared.pointer.PtrWord.{PtrWord}
 use Rattle.far_word.specs.declared.pointer.PtrWord.TheVariants as pointer
 use Rattle.far_word.specs.declared.refused.Refused.{Refused as Refusal}
-use Rattle.far_word.specs.declared.refused.Refused.TheVariants.{NoRoom, NoPointer, Length, Closed, AlreadyOpen, NotHeld, Range, Held, Device, Damaged, Memory, Marked as MarkFound, Shape, Syntax, BadChoice, StillOpen, Phase as WrongPhase, EpochsSpent}
+use Rattle.far_word.specs.declared.refused.Refused.TheVariants.{NoRoom, NoPointer, Length, Closed, AlreadyOpen, NotHeld, Range, Held, Device, Damaged, Marked as MarkFound, Shape, Syntax, BadChoice, StillOpen, Phase as WrongPhase, EpochsSpent}
 use Rattle.far_word.specs.declared.sizes.TheConstants.{CELLS, LOG_WORDS, LONGEST}
 use Rattle.far_word.specs.Pointer.{read_of, with_mark}
 use Rattle.far_word.specs.Sizes.{size_of}
@@ -63,17 +63,14 @@ IsAtHandFor now (Mutator m (View p)) = now.core.cell p ≢ 0 → AtHand now.core
 IsAtHandFor now (Mutator m (Try p)) = now.core.cell p ≢ 0 → AtHand now.core p
 IsAtHandFor now c = Unit {0}
 
--- the command whose events carry a command out, by its reply: where the object of a read, a write or a view isn't brought, as memory is refused or by the device, a try of it
+-- the command whose events carry a command out, by its reply: where the object of a read, a write or a view isn't brought, by the device, a try of it
 abbrev pub carried_as : Command → Reply → Command
 carried_as (Mutator m (Write p from bytes)) (Refused Device) = Mutator m (Try p)
 carried_as (Mutator m (Write p from bytes)) (Refused Damaged) = Mutator m (Try p)
-carried_as (Mutator m (Write p from bytes)) (Refused Memory) = Mutator m (Try p)
 carried_as (Mutator m (Read p from len)) (Refused Device) = Mutator m (Try p)
 carried_as (Mutator m (Read p from len)) (Refused Damaged) = Mutator m (Try p)
-carried_as (Mutator m (Read p from len)) (Refused Memory) = Mutator m (Try p)
 carried_as (Mutator m (View p)) (Refused Device) = Mutator m (Try p)
 carried_as (Mutator m (View p)) (Refused Damaged) = Mutator m (Try p)
-carried_as (Mutator m (View p)) (Refused Memory) = Mutator m (Try p)
 carried_as c r = c
 
 -- these are a command's events; or, where the device may lie, those that it has in a moment in which other words, as many, are stored of the far object that it asks for

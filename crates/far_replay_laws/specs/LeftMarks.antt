@@ -4,7 +4,7 @@ use Rattle.far_word.specs.declared.pointer.Place.{Place}
 use Rattle.far_word.specs.declared.pointer.PtrWord.{PtrWord}
 use Rattle.far_word.specs.declared.pointer.PtrWord.TheVariants.{Free, Near, Far}
 use Rattle.far_word.specs.declared.refused.Refused.{Refused as Refusal}
-use Rattle.far_word.specs.declared.refused.Refused.TheVariants.{NoRoom, Closed, NotHeld, Range, Device, Damaged, Memory, Marked as MarkFound}
+use Rattle.far_word.specs.declared.refused.Refused.TheVariants.{NoRoom, Closed, NotHeld, Range, Device, Damaged, Marked as MarkFound}
 use Rattle.far_word.specs.Pointer.{read_of}
 use Rattle.far_core.specs.state.Law.{is_dirty}
 use Rattle.far_core.specs.state.Shape.{is_shape}
@@ -78,7 +78,6 @@ RefusedLeaves s p NotHeld t = t.cell ≡ s.cell
 RefusedLeaves s p NoRoom t = GainsForRoom (read_of (s.cell p)) (read_of (t.cell p)) × OthersStay s t p
 RefusedLeaves s p Device t = GainsHot (read_of (s.cell p)) (read_of (t.cell p)) × OthersStay s t p
 RefusedLeaves s p Damaged t = GainsHot (read_of (s.cell p)) (read_of (t.cell p)) × OthersStay s t p
-RefusedLeaves s p Memory t = GainsHot (read_of (s.cell p)) (read_of (t.cell p)) × OthersStay s t p
 RefusedLeaves s p why t = ⊥
 
 -- and a try: after the pin, for a mark or a far object alone, with the word from before the pin

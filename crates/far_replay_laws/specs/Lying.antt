@@ -1,5 +1,5 @@
--- What a device that inverts one read tells over a run: one command is given inverted bytes of its object, and at most one later one, of the same object, if it wasn't written since, what was stored before.
-use Rattle.std.specs.Prelude.{◌≡◌, ◌⊎◌, ℕ, suc, Option, Some, None, List, [], ◌∷◌, length, map}
+-- What a device that inverts one read tells over a run: one command is given inverted bytes of its object; the next that asks for the same object, if it wasn't written since, is given what was stored before.
+use Rattle.std.specs.Prelude.{◌≡◌, ◌≢◌, ◌⊎◌, ℕ, suc, Option, Some, None, List, [], ◌∷◌, length, map}
 use Rattle.far_word.specs.Bytes.{bytes_of}
 use Rattle.far_word.specs.Pointer.{read_of}
 use Rattle.far_book.specs.book.FarSide.{kept_len}
@@ -20,11 +20,11 @@ bytes_in now p = bytes_in_world ((world_of now.core).object p)
 abbrev pub IsKept : Moment → ℕ → Type 0
 IsKept now p = (len : ℕ) × (kept_len (read_of (now.core.cell p)) ≡ Some len)
 
--- what a command was given of an object with these bytes, while so many reads may yet be inverted, and the device owes an object its bytes, if one: they are its own; or inverted, for the one
+-- what a command was given of an object with these bytes, while so many reads may yet be inverted, and the device owes an object its bytes, if one: they are its own, if none are owed to it; or inverted, for the one
 -- lie, and are owed to it since; or its own are inverted, since they were owed to it
 abbrev pub GivenOf : ℕ → Option ℕ → ℕ → List ℕ → List ℕ → ℕ → Option ℕ → Type 0
 GivenOf n owed p own bytes less owes =
-    ((bytes ≡ own) × (less ≡ n) × (owes ≡ owed))
+    ((bytes ≡ own) × (owed ≢ Some p) × (less ≡ n) × (owes ≡ owed))
     ⊎ (((bytes ≡ map inverted own) × (n ≡ suc less) × (owed ≡ None) × (owes ≡ Some p))
     ⊎ ((own ≡ map inverted bytes) × (less ≡ n) × (owed ≡ Some p) × (owes ≡ None)))
 
@@ -45,6 +45,6 @@ LiesOnce n owed now (o ∷ os) (c ∷ cs) (after ∷ moments) = LiesOnce n (owed
 LiesOnce n owed now os cs moments = Unit {0}
 
 -- ---- what a step keeps
--- of each object that the device is to hold after a command it held the same, and was to hold some, and the object has the bytes that it had; or it holds the object's
+-- of each object that the device is to hold after a command it held the same, and was to hold some, and the object has the bytes that it had; or it was to hold none, and holds the object's
 abbrev pub KeepsHeld : Moment → FarBytes → Moment → FarBytes → Type 0
-KeepsHeld now held after later = (p : ℕ) → IsKept after p → ((later p ≡ held p) × IsKept now p × (bytes_in after p ≡ bytes_in now p)) ⊎ (later p ≡ bytes_in after p)
+KeepsHeld now held after later = (p : ℕ) → IsKept after p → ((later p ≡ held p) × IsKept now p × (bytes_in after p ≡ bytes_in now p)) ⊎ ((¬ IsKept now p) × (later p ≡ bytes_in after p))

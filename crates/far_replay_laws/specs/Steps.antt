@@ -7,10 +7,12 @@ use Rattle.far_word.specs.declared.refused.Refused.{Refused as Refusal}
 use Rattle.far_word.specs.declared.refused.Refused.TheVariants.{BadChoice, EpochsSpent, Phase as WrongPhase, StillOpen}
 use Rattle.far_word.specs.declared.sizes.TheConstants.{EPOCH_END}
 use Rattle.far_word.specs.Pointer.{read_of, without_evac}
+use Rattle.far_word.specs.Sizes.{size_of}
 use Rattle.far_log.specs.declared.row.LogRow.{LogRow}
 use Rattle.far_policy.specs.LeastLive.{TakesLeast}
 use Rattle.far_policy.specs.Logs.{logs_of}
 use Rattle.far_policy.specs.Scripted.{FollowsScript}
+use Rattle.far_core.specs.state.Room.{room}
 use Rattle.far_core.specs.state.State.{State}
 use Rattle.far_book.specs.book.Rows.{row_of}
 use Rattle.far_evac.specs.Census.{kind_in}
@@ -207,15 +209,30 @@ TellsRound now policy most turns end after =
     (l : ℕ) × (ls : List ℕ) × (chosen : Moment) × (rs : List Reply) × Served now (Evacuator (Select (By policy) most)) (Selected (l ∷ ls)) chosen × AreTurns chosen rs after × Ends turns rs end after × CountsAtEnd now (l ∷ ls) end after
 
 -- ---- a step that the device stops
--- at an object, before as many have left as were asked for: what is told of those that did is so, and a log is left
+-- at this object, which was to go far and to be written: it lies in a chosen log, before all others that lie in those, and has DIRTY. Its owner hasn't dropped it; and if it is hot there is no room for it, not even in
+-- the last free log
+pub record IsStoppedAt (after : Moment) (p : ℕ) : Type 0 where
+  pub len : ℕ
+  pub ds : ℕ
+  pub place : Place
+  pub marks : Marks
+  pub lies : read_of (after.core.cell p) ≡ Some (pointer.Near len ds place marks)
+  pub chosen : IsChosen after place.log
+  pub first : (q : ℕ) (at : Place) → q ≢ p → IsAt after.core q at → IsChosen after at.log → StandsFirst after.collection place at
+  pub written : marks.dirty ≡ true
+  pub kept : marks.dropped ≡ false
+  pub cold : marks.hot ≡ true → room after.core (size_of len) false ≡ None
+
+-- at such an object, before as many have left as were asked for: what is told of those that did is so, and a log is left
 pub record TellsStop (now : Moment) (count : ℕ) (progress : Progress) (after : Moment) : Type 0 where
   pub objects : ℕ
   pub before : objects < count
   pub left : TellsLeaving now objects progress after
   pub unfinished : progress.done ≡ false
+  pub at : (p : ℕ) × IsStoppedAt after p
 
--- some logs were chosen, as `select` would, and fewer turns were made than were asked for, none of which was done. In the next, in which objects leave, fewer did than a turn deals with. The
--- counts are the sums
+-- some logs were chosen, as `select` would, and fewer turns were made than were asked for, none of which was done. In the next, in which objects leave, fewer did than a turn deals with, and it stopped at such an
+-- object. The counts are the sums
 pub record TellsRoundStop (now : Moment) (policy : Policy) (most turns : ℕ) (progress : Progress) (after : Moment) : Type 0 where
   pub log : ℕ
   pub logs : List ℕ
@@ -232,6 +249,7 @@ pub record TellsRoundStop (now : Moment) (policy : Policy) (most turns : ℕ) (p
   pub last : Progress
   pub left : Served stood (Evacuator (Evacuate objects)) (Evacuated last) after
   pub unfinished : last.done ≡ false
+  pub at : (p : ℕ) × IsStoppedAt after p
   pub sums : AddsUp (Evacuated last ∷ replies) progress
 
 -- ---- the phase

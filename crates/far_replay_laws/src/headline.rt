@@ -18,7 +18,7 @@ ghost use Rattle.far_replay_laws.specs.Steps.{StepsAreTold};
 /// and a moment for each command. Each moment has the law, and in it objects are whole; through them the logs in which
 /// views rest stay; each mutator's replies are what its own lines alone say; each step of the evacuator tells what has happened,
 /// and leaves objects as `steps_leave` says; and any other command leaves the round, as `rounds_stand` says.
-/// The device fails, gives a byte too few, or inverts bytes no more often than it is said to. An object whose bytes came inverted may go far unwritten: then at most one later command is given the true
+/// The device fails, gives a byte too few, or inverts bytes no more often than it is said to. An object whose bytes came inverted may go far unwritten: then the next command that asks for it is given the true
 /// ones again. Any other command is given its object's own. Where other bytes of an object were given, the object has these, as
 /// `lies_change_one_object` says. Of the same replies and moments all is so that the laws below say of one command: what it is
 /// answered, which views there are then, and which marks, what it leaves beside, what it takes of the logs, what a refusal leaves; and in each moment what is viewed has HOT.
@@ -27,7 +27,7 @@ pub fn outputs_are_sound()
     ensures each { TextsSayAll }
 {}
 
-/// Each text has an output in which no reply says `refused 1`, and one such alone, unless it says a device that is to fail or to lie. Whatever the outside makes of commands, which it may refuse in their midst, memory too, or give other bytes, their replies and the output follow from it. A text that ends as refused begins it with `refused`; one that ran has none, or begins with `ok`. Off the grammar it is `refused 16` with the line, of a
+/// Each text has an output in which no reply says `refused 1`, and one such alone, unless it says a device that is to fail or to lie. Whatever the outside makes of commands, which it may refuse in their midst, of `evacuate` and `round` memory too, or give other bytes, their replies and the output follow from it. A text that ends as refused begins it with `refused`; one that ran has none, or begins with `ok`. Off the grammar it is `refused 16` with the line, of a
 /// text that says nothing it is nothing, and of a heap out of range it is `refused 15`; else it begins with `ok`, and another `ok` where a device is said, and has a reply for each command then. Its commands that write, write bytes. Among lines that say commands, a
 /// mutator's are those that have its number after the name, but for `log`, after which a log's number stands, and for `mark` and
 /// `evacuate`, after which a number of objects stands.
@@ -75,14 +75,14 @@ pub fn views_last()
 {}
 
 /// A mutator's refused command leaves objects, bytes, places and all else as they were, but for HOT and MOVE in its object's cell,
-/// which it may add for want of room or of memory, by the device or where a try finds a mark. A `wait` that is refused 18 has seen clear the mutators before the
+/// which it may add for want of room, by the device or where a try finds a mark. A `wait` that is refused 18 has seen clear the mutators before the
 /// one that it names, and no others. Any other refusal leaves the moment as it is. Not meant is an `evacuate` or a `round` that is refused memory, or that the device stops: it is refused 1 or 10 with
 /// counts, and keeps what was done (`steps_are_told`, `steps_leave`). A line of a
 /// mutator that the heap hasn't is refused 8. Where the object that it reads, writes, views or tries is near and unmarked, no command after the
 /// heap is refused for want of memory, by a device or for a mark, but those two with counts; for want of a pointer or of room a new object alone is
-/// refused. For want of memory, as the device failed, or as it gave another number of bytes, a mutator's command is refused only where its object is far, which it stays, and there was room for it. With counts
-/// 1 is told of an `evacuate` in its phase alone, and of a `round` that had chosen its logs; after both, objects leave. No other command is refused 1. From a text on: no more
-/// replies, those with counts among them, say that the device failed, or that it gave another number of bytes, than its line says, one at most; and no more commands are given inverted bytes, after which at most one is given the true ones again.
+/// refused. As the device failed, or as it gave another number of bytes, a mutator's command is refused only where its object is far, which it stays, and there was room for it. With counts
+/// 1 is told of an `evacuate` in its phase alone, and of a `round` that had chosen its logs; after both, objects leave. No other command is refused 1, none without counts. From a text on: no more
+/// replies, those with counts among them, say that the device failed, or that it gave another number of bytes, than its line says, one at most; and no more commands are given inverted bytes, after which the next of the same object, unwritten since, is given the true ones again.
 pub fn refusals_leave_all()
     ensures stay { RefusalsStay }
     ensures nothing { RefusalsChangeNothing }
@@ -160,8 +160,8 @@ pub fn drops_end_objects()
 /// back, from the front on: the first that is still chosen has an object, and what left stood before all that lies there still. It is
 /// done where no log is chosen any more. `round` is a `select` and turns, each answered as `mark 16`, `wait` or `evacuate 16`
 /// would be, by the phase, and its counts are their sums, and where it is done of what has changed so from its first moment to
-/// its last. An `evacuate` or a `round` that is refused memory, or that the device stops, is refused 1 or 10 with counts: of what has changed so before the object at which it stopped, which
-/// `steps_leave` says is as before. What was done stays, a log is still chosen, and objects go on leaving. The phase follows from commands and replies, and 12 is answered
+/// its last. An `evacuate` or a `round` that is refused memory, or that the device stops, is refused 1 or 10 with counts: of what has changed so before the object at which it stopped. That is the first
+/// that lies in a chosen log then; it has DIRTY and isn't dropped, and there is no room for it if it is hot; `steps_leave` says that it is as before. What was done stays, a log is still chosen, and objects go on leaving. The phase follows from commands and replies, and 12 is answered
 /// exactly out of phase. Through any command the sealed logs keep their order, but for those that were given back, and those sealed
 /// since come last; so of two that were sealed by different commands the first is the older. The heap's epoch is the one that a
 /// marking tells, and no other step but a round spends one; in the last epoch, idle, a choice of logs is refused 13, whatever is sealed.

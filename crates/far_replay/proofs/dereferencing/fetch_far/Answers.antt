@@ -1,4 +1,6 @@
-use Rattle.std.proofs.Common.{◌≡◌, ℕ, true, rules, subst}
+use Rattle.std.proofs.Common.{◌≡◌, ℕ, true, Err, ap, rules, subst}
+use Rattle.far_word.specs.declared.refused.Refused.{Refused as Refusal}
+use Rattle.far_word.specs.declared.refused.Refused.TheVariants.{Memory}
 use Rattle.far_device.specs.Liar.{is_honest}
 use Rattle.far_core.specs.state.CoreState.{core_state}
 use Rattle.far_device.specs.Mem.{bytes_at}
@@ -32,14 +34,14 @@ returns-in-Ok-Some-clause-brought c = record {
 }
 
 pub returns-in-Err-clause-brought : goal.returns-in-Err-clause-brought
-returns-in-Err-clause-brought c = record {
+returns-in-Err-clause-brought c = let never = λ (e : c.in-Err.why ≡ Memory). c.in-Err.ensures.fetched.in_place tt (ap (λ (why : Refusal). Err why) e) in record {
   comes = tt;
-  refused = far_refused (state_in c.args.evac.now) c.args.owner c.args.pointer c.args.evac.now.book.near.core.law c.requires.used c.requires.far (state_in c.fetch.new.self) c.in-Err.why _
+  refused = far_refused (state_in c.args.evac.now) c.args.owner c.args.pointer c.args.evac.now.book.near.core.law c.requires.used c.requires.far (state_in c.fetch.new.self) c.in-Err.why _ never
       c.in-Err.ensures.fetched.refused (c.in-Err.ensures.fetched.exact tt);
   shut = search rules;
   round = search rules;
   spent = refused_spends c.args.evac.now c.fetch.new.self c.args.owner c.args.pointer c.args.evac.now.book.near.core.law c.requires.used c.requires.far
-      (subst (λ (b : BookOf Plain FarSide). HoldsFar (core_state b.near.core) (λ (q : ℕ). bytes_at b.device.inner.inner q)) c.book.ensures c.keeps_law.ensures.far) c.in-Err.why c.in-Err.ensures.fetched.called;
+      (subst (λ (b : BookOf Plain FarSide). HoldsFar (core_state b.near.core) (λ (q : ℕ). bytes_at b.device.inner.inner q)) c.book.ensures c.keeps_law.ensures.far) c.in-Err.why never c.in-Err.ensures.fetched.called;
   same = refused_leaves c.args.evac.now c.fetch.new.self c.args.owner c.args.pointer c.args.evac.now.book.near.core.law c.requires.used c.requires.far
       (subst (λ (b : BookOf Plain FarSide). HoldsFar (core_state b.near.core) (λ (q : ℕ). bytes_at b.device.inner.inner q)) c.book.ensures c.keeps_law.ensures.far) c.in-Err.why c.in-Err.ensures.fetched.called;
 }

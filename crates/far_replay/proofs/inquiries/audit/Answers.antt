@@ -4,4 +4,4 @@ use Rattle.far_replay.proofs.inquiries.audit.Goals as goal
 
 pub returns-clause-reply : goal.returns-clause-reply
 unfolding counts_of
-returns-clause-reply c scratch = λ i. Audited record { near = c.count_objects-near.ensures.near i; far = c.count_objects-near.ensures.far i; live = c.count_bytes-live.ensures i }
+returns-clause-reply c = λ i. Audited record { near = c.count_objects-near.ensures.near i; far = c.count_objects-near.ensures.far i; live = c.count_bytes-live.ensures i }

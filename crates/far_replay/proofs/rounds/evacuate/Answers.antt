@@ -5,9 +5,10 @@ use Rattle.far_text.specs.Command.{Evacuate, Evacuator}
 use Rattle.far_reply.specs.Reply.{Evacuated}
 use Rattle.far_replay.specs.Moment.{FarSide, Moment, moment_in}
 use Rattle.far_replay.specs.Outcome.{told_by}
+use Rattle.far_replay.proofs.FarReads.{FarLetsGo, FarWrites}
 use Rattle.far_replay.proofs.HoldingRounds.{evacuated_holds, halted_holds}
 use Rattle.far_replay.proofs.Made.{allowed_served, step_refused, step_served}
-use Rattle.far_replay.proofs.Stopping.{evacuate_allowed, evacuate_barred, evacuate_stops}
+use Rattle.far_replay.proofs.Stopping.{evacuate_allowed, evacuate_barred, evacuate_stops, to_write}
 use Rattle.far_replay.proofs.Walking.{evacuated_spends, halted_spends}
 use Rattle.far_replay.proofs.rounds.evacuate.Goals as goal
 
@@ -36,6 +37,7 @@ returns-in-Err c = record {
       step_refused old new (Evacuate c.args.count) (halted_holds old new old.book.near.core.law law.moment (law.exact tt) c.args.count c.in-Err.fault call.barred call.refused)
       (told_by c.refused_step.new.scratch c.refused_step.result) c.in-Err.fault c.refused_step.ensures.halted c.refused_step.ensures.refused
       (halted_spends old new now (law.exact tt) c.args.count next c.in-Err.fault call.barred call.why call.refused)
-      (evacuate_stops now next c.args.count c.in-Err.fault (λ other. (call.barred other).0) (λ phase. (call.stops phase).alone (law.exact tt)) (call.stops_exact tt))
+      (evacuate_stops now next c.args.count c.in-Err.fault (λ other. (call.barred other).0) (λ phase. (call.stops phase).alone (law.exact tt))
+      (λ phase. to_write FarSide FarWrites FarLetsGo _ _ _ _ _ _ ((call.refused phase).alone (law.exact tt))) (call.stops_exact tt))
       (evacuate_barred now next c.args.count c.in-Err.fault.why (λ other. ((call.barred other).0, ap (λ (x : EvacOf Plain FarSide). moment_in x) (call.barred other).2)) call.why);
 }

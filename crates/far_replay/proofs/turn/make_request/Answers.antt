@@ -33,8 +33,8 @@ returns-in-Close-clause-made c =
 pub returns-in-Where-clause-made : goal.returns-in-Where-clause-made
 returns-in-Where-clause-made c =
     let call = c.find_object.ensures in
-    request_made c.args.evac.now c.find_object.new.evac c.args.owner _ (Where c.in-Where.pointer) (reply_by c.args.scratch.now c.find_object.result) (ap as_request (sym c.in-Where.is)) tt c.requires.law c.requires.between
-    call.state (call.order ∙ sym (where_keeps (moment_in c.args.evac.now) c.args.owner c.in-Where.pointer)) call.round (call.reply c.args.scratch.now) (spent_same c.args.evac.now c.find_object.new.evac call.device)
+    request_made c.args.evac.now c.find_object.new.evac c.args.owner _ (Where c.in-Where.pointer) (reply_by c.find_object.new.scratch c.find_object.result) (ap as_request (sym c.in-Where.is)) tt c.requires.law c.requires.between
+    call.state (call.order ∙ sym (where_keeps (moment_in c.args.evac.now) c.args.owner c.in-Where.pointer)) call.round call.reply (spent_same c.args.evac.now c.find_object.new.evac call.device)
     (same_holds c.args.evac.now c.find_object.new.evac call.device) (λ k p asks. asks)
 
 pub returns-in-Drop-clause-made : goal.returns-in-Drop-clause-made
