@@ -1,6 +1,6 @@
 -- A mutator after bytes of an object were stored.
-use Rattle.std.proofs.Common.{◌≡◌, ℕ, ◌+◌, ◌/◌, ◌<◌, ◌≤◌, Bool, true, false, Option, Some, None, nat_lt, is_some, List, length, refl, sym, ap, ◌∙◌, inl, inr, arith}
-use Rattle.std.specs.Prelude.{option_map}
+use Rattle.std.proofs.Common.{◌≡◌, ℕ, ◌+◌, ◌/◌, ◌%◌, ◌<◌, ◌≤◌, Bool, true, false, Option, Some, None, nat_lt, is_some, List, length, refl, sym, ap, ◌∙◌, inl, inr, arith}
+use Rattle.std.specs.Prelude.{option_map, slice_set}
 use Rattle.std.proofs.lemmas.Bool.{cases_eq, false≢true}
 use Rattle.atomic_table.specs.Seated.{TableId}
 use Rattle.far_word.specs.Bytes.{byte_at, bytes_of}
@@ -9,7 +9,7 @@ use Rattle.far_table.specs.View.{ObjectView, OwnerView}
 use Rattle.far_table.specs.Seats.{Seated}
 use Rattle.far_table.specs.Views.{ds_of as seat_ds, held_at, len_of as seat_len, object_at, soiled_at, uses as seat_uses, word_in_view, word_of}
 use Rattle.far_heap.specs.declared.rows.Rows.{Rows}
-use Rattle.far_heap.specs.Mine.{Object, OwnOk, StructuresOk, mine_of, object_of, rewritten, seen, with_range, writing}
+use Rattle.far_heap.specs.Mine.{Mine, Object, OwnOk, StructuresOk, mine_of, object_of, rewritten, seen, with_range}
 use Rattle.far_table.specs.Ranges.{HasBytes, Wrote}
 use Rattle.far_heap.proofs.Mines.{object_own}
 use Rattle.far_heap.proofs.OwnRows.{own_row-one}
@@ -28,8 +28,12 @@ rewrite_so true (Some x) (Some y) from bytes there len ds fits inside before aft
     ap (bytes_of (word_of y)) len ∙ bytes_wrote (word_of x) (word_of y) x.len from bytes fits (inside refl) (before refl) (after refl) in
     λ i. Some record { len = len i; ds = ds i; bytes = Some (all i) }
 
+-- a mutator after a store, before which it soiled the object
+abbrev pub storing : ℕ → ℕ → List ℕ → Mine → Mine
+storing p from new m = record m { objects = slice_set m.objects (p % CELLS) (option_map (rewritten from new) (object_of m p)) }
+
 pub wrote_mine : (s t : Seated) (p from : ℕ) (bytes : List ℕ) → p / CELLS ≡ s.view.number → from + length bytes ≤ seat_len (object_at s.view p) → t.table ≡ s.table →
-    Wrote p from bytes s.view t.view → mine_of t ≡ writing p from bytes (mine_of s)
+    Wrote p from bytes s.view t.view → mine_of t ≡ storing p from bytes (mine_of s)
 wrote_mine s t p from bytes own fits same w =
     let h : Bool = s.view.honest in
     let f : ℕ → Option Object = λ q. seen s.view.honest (object_at s.view q) in

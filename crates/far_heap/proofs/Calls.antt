@@ -55,7 +55,9 @@ stays_well (Asks p n) m may w = record { many = w.many; honest = w.honest; all =
 stays_well (Views p) m may w = record { many = w.many; honest = w.honest; all = w.all }
 stays_well (Makes p len ds) m may w = well_with m w p may (Some record { len = len; ds = ds; bytes = zeros_known m.honest len }) (zeros_well m.honest len ds w.honest)
 stays_well (Drops p) m may w = well_with m w p may None tt
-stays_well (Writes p from bytes) m may w = well_with m w p may.0 (option_map (rewritten from bytes) (object_of m p)) (rewritten_well (object_of m p) from bytes (w.all p) may.1)
+stays_well (Writes p from bytes) m may w =
+    let stored = well_with m w p may.0 (option_map (rewritten from bytes) (object_of m p)) (rewritten_well (object_of m p) from bytes (w.all p) may.1) in
+    record { many = stored.many; honest = stored.honest; all = stored.all }
 
 -- ---- byte k of an object is b
 abbrev HasIn : Option Object → ℕ → ℕ → Type 0

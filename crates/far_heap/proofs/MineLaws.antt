@@ -10,7 +10,7 @@ use Rattle.far_word.specs.Bytes.{bytes_of}
 use Rattle.far_word.proofs.ByteLaws.{bytes_of-small, length-bytes_of}
 use Rattle.far_table.specs.View.{ObjectView}
 use Rattle.far_table.specs.Seats.{Seated}
-use Rattle.far_table.specs.Views.{asked_at, held_at, len_of as seat_len, object_at, word_of}
+use Rattle.far_table.specs.Views.{asked_at, held_at, len_of as seat_len, object_at, soiled_at, word_of}
 use Rattle.far_heap.specs.Mine.{Mine, Object, OwnOk, bytes_in, drop_refusal, known_bytes, len_in, len_of, mine_of, seen, uses, views}
 use Rattle.far_heap.specs.declared.rows.Rows.{Rows}
 use Rattle.far_heap.specs.MineLaw.{MineLaw}
@@ -60,7 +60,7 @@ module _ (s : Seated) (name : TableId) (number : ℕ) (rows : Rows) (ok : OwnOk 
   pub mine_law : MineLaw (mine_of s)
   mine_law = record {
     few = omega (arith, ok.number_is, ok.few);
-    many = (length-own_row (λ p. seen s.view.honest (object_at s.view p)) s.view.number, length-own_row (λ p. is_some (held_at s.view p)) s.view.number, length-own_row (λ p. asked_at s.view p) s.view.number);
+    many = (length-own_row (λ p. seen s.view.honest (object_at s.view p)) s.view.number, length-own_row (λ p. is_some (held_at s.view p)) s.view.number, length-own_row (λ p. soiled_at s.view p) s.view.number, length-own_row (λ p. asked_at s.view p) s.view.number);
     used = viewed_used s name number rows ok;
     closed = none_viewed;
     some = len_some;

@@ -8,7 +8,7 @@ use Rattle.far_word.specs.declared.sizes.TheConstants.{CELLS}
 use Rattle.far_core.proofs.Put.{put_other, put_same}
 use Rattle.far_table.specs.View.{ObjectView}
 use Rattle.far_table.specs.Seats.{Seated}
-use Rattle.far_table.specs.Views.{asked_at, closed_view, ds_of as seat_ds, held_at, held_view, len_of as seat_len, object_at, uses as seat_uses, warmed_view}
+use Rattle.far_table.specs.Views.{asked_at, closed_view, ds_of as seat_ds, held_at, held_view, len_of as seat_len, object_at, soiled_at, uses as seat_uses, warmed_view}
 use Rattle.far_heap.specs.Mine.{asking, bytes_in, closing, ds_in, ds_of, known_bytes, len_in, len_of, mine_of, object_of, own_row, seen, uses, viewing, views}
 use Rattle.far_heap.proofs.OwnRows.{own_row-const, own_row-get, own_row-one}
 
@@ -94,4 +94,6 @@ pub closed_mine : (s : Seated) → mine_of record { table = s.table; view = clos
 closed_mine s =
     let f : ℕ → Bool = λ q. is_some (held_at s.view q) in
     let g : ℕ → Bool = λ q. is_some (held_at (closed_view s.view) q) in
-    ap (λ (row : List Bool). record (mine_of s) { opened = false; viewed = row }) (own_row-const f g s.view.number false (λ q. refl))
+    let views = own_row-const f g s.view.number false (λ q. refl) in
+    let soils = own_row-const (λ q. soiled_at s.view q) (λ q. soiled_at (closed_view s.view) q) s.view.number false (λ q. refl) in
+    λ i. record (mine_of s) { opened = false; viewed = views i; soiled = soils i }

@@ -18,13 +18,13 @@ use Rattle.far_heap.specs.Mine.{IsNew}
 use Rattle.far_hand.specs.Masked.{masked}
 use Rattle.far_hand.specs.ShapeOf.{shape_of}
 use Rattle.far_book.specs.book.Own.{HasNoJob, IsAtStart}
-use Rattle.far_heap.proofs.Newcomers.{new_owner, none_asked}
+use Rattle.far_heap.proofs.Newcomers.{new_owner, none_asked, none_soiled}
 
 -- ---- as they are shared
 module _ (table : TableId) (s : State) (honest : Bool) (shape : Shape) (opens : s ≡ opening shape false) (says : (m : ℕ) → SaysOwner s honest m (first_owner s honest m)) where
   one_new : (m : ℕ) → IsNew m (first_owner s honest m)
   one_new m = new_owner shape false honest m (first_owner s honest m) (subst (λ (t : State). SaysOwner t honest m (first_owner s honest m)) opens (says m))
-      (λ p. none_asked s honest m p (ap (λ (t : State). t.cell p) opens))
+      (λ p. none_soiled s honest m p (ap (λ (t : State). t.soiled p) opens)) (λ p. none_asked s honest m p (ap (λ (t : State). t.cell p) opens))
 
   all_new : (n first : ℕ) → AreNew table honest first (map (λ m. record { table = table; view = first_owner s honest m }) (range_with_len first n))
   all_new zero first = tt

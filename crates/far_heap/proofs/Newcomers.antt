@@ -1,5 +1,5 @@
 -- A mutator of a new heap.
-use Rattle.std.proofs.Common.{◌≡◌, ℕ, ◌*◌, ◌/◌, Bool, cond, Option, Some, None, is_some, refl, ap, ◌∙◌, inl, inr, arith}
+use Rattle.std.proofs.Common.{◌≡◌, ℕ, ◌*◌, ◌/◌, Bool, false, cond, Option, Some, None, is_some, refl, ap, ◌∙◌, inl, inr, arith}
 use Rattle.std.proofs.lemmas.Bool.{cases_eq}
 use Rattle.far_word.specs.declared.sizes.TheConstants.{CELLS}
 use Rattle.far_core.specs.declared.shape.Shape.{Shape}
@@ -12,8 +12,8 @@ use Rattle.far_core.specs.events.Quiet.{has_move}
 use Rattle.far_core.proofs.Cells.{unused}
 use Rattle.far_core.specs.state.State.{State}
 use Rattle.far_table.specs.First.{first_owner}
-use Rattle.far_table.specs.Views.{asked_at, moves, object_at}
-use Rattle.far_table.proofs.FirstViews.{first_asked, over_beside}
+use Rattle.far_table.specs.Views.{asked_at, moves, object_at, soiled_at}
+use Rattle.far_table.proofs.FirstViews.{first_asked, first_soiled, over_beside}
 use Rattle.far_heap.specs.Mine.{IsNew, mine_of, newcomer, own_row, seen}
 use Rattle.far_heap.proofs.Mines.{none_there}
 
@@ -25,6 +25,7 @@ new_mine s number new = λ i. record {
   opened = is_some (new.closed i);
   objects = own_row (λ p. seen s.view.honest (new.unused p i)) (new.number_is i);
   viewed = own_row (λ p. is_some (new.free p i)) (new.number_is i);
+  soiled = own_row (λ p. new.unsoiled p i) (new.number_is i);
   asked = own_row (λ p. new.unasked p i) (new.number_is i);
 }
 
@@ -39,9 +40,16 @@ none_asked s honest m p free = elim (cases_eq (p / CELLS) m) [
   | inr ne ↦ over_beside (λ q. moves (s.cell q)) (λ _. 0) CELLS (CELLS * m) p (λ ge lt. ne (omega arith))
 ]
 
+-- nor of one that has soiled nothing has soiled anything
+pub none_soiled : (s : State) (honest : Bool) (m p : ℕ) → s.soiled p ≡ false → soiled_at (first_owner s honest m) p ≡ false
+none_soiled s honest m p clean = elim (cases_eq (p / CELLS) m) [
+  | inl own ↦ first_soiled s honest m p own ∙ clean
+  | inr ne ↦ over_beside s.soiled (λ _. false) CELLS (CELLS * m) p (λ ge lt. ne (omega arith))
+]
+
 -- what `share` leaves an owner of a new core knowing
-pub new_owner : (shape : Shape) (far honest : Bool) (m : ℕ) (o : OwnerView) → SaysOwner (opening shape far) honest m o → ((p : ℕ) → asked_at o p ≡ 0) → IsNew m o
-new_owner shape far honest m o says unasked = record {
+pub new_owner : (shape : Shape) (far honest : Bool) (m : ℕ) (o : OwnerView) → SaysOwner (opening shape far) honest m o → ((p : ℕ) → soiled_at o p ≡ false) → ((p : ℕ) → asked_at o p ≡ 0) → IsNew m o
+new_owner shape far honest m o says unsoiled unasked = record {
   number_is = says.number;
   closed = closed_at_first o.open_at says.scope;
   unused = λ p. elim (cases_eq (p / CELLS) m) [
@@ -52,5 +60,6 @@ new_owner shape far honest m o says unasked = record {
     | inl own ↦ says.held p own
     | inr ne ↦ (says.others p ne).1
   ];
+  unsoiled = unsoiled;
   unasked = unasked;
 }

@@ -1,6 +1,6 @@
 -- What a mutator knows by itself after each step.
-use Rattle.std.proofs.Common.{◌≡◌, ◌≢◌, ℕ, ◌/◌, ◌<◌, ◌≤◌, true, false, nat_lt, Option, Some, None, is_some, List, length, get_or, refl, sym, subst, ap, ◌∙◌, inl, inr, arith}
-use Rattle.std.specs.Prelude.{◌==◌, IfSome, replicate}
+use Rattle.std.proofs.Common.{◌≡◌, ◌≢◌, ℕ, ◌/◌, ◌%◌, ◌<◌, ◌≤◌, Bool, true, false, nat_lt, Option, Some, None, is_some, List, length, get_or, refl, sym, subst, ap, ◌∙◌, inl, inr, arith}
+use Rattle.std.specs.Prelude.{◌==◌, IfSome, replicate, slice_set}
 use Rattle.std.proofs.lemmas.Bool.{cases_eq, cases_lt, eq-eqb, ne_eqb, lt-ltb, le-ltb, eqb-true, false≢true}
 use Rattle.std.proofs.lemmas.List.{length-replicate, get_or-replicate, get_or_past}
 use Rattle.atomic_table.specs.Seated.{TableId}
@@ -15,6 +15,7 @@ use Rattle.far_heap.specs.declared.rows.Rows.{Rows}
 use Rattle.far_heap.specs.Rows.{EndsScope, HasRow, HasSoil, IsBlank, RowsOk, blank, row_of, soiled_of}
 use Rattle.far_heap.specs.Mine.{IsNew, OwnOk, StructuresOk, ds_in, len_in, mine_of, uses, views}
 use Rattle.far_heap.proofs.Mines.{ds_own, len_own, other_uses, other_views, uses_own, uses_so, views_own, views_so}
+use Rattle.far_heap.proofs.OwnRows.{own_row-one}
 use Rattle.far_heap.proofs.Soils.{Soils}
 
 pub seated_is : (t : Seated) (id : TableId) (v : OwnerView) → t.table ≡ id → t.view ≡ v → t ≡ record { table = id; view = v }
@@ -97,15 +98,14 @@ pub soils_so : (p found : ℕ) (o : OwnerView) → Soils p o (soiled_view p foun
 soils_so p found o = record {
   rest = refl;
   here = put_same (soiled_at o) p true p refl;
-  kept = λ q h. elim (cases_eq q p) [
-    | inl e ↦ put_same (soiled_at o) p true q e
-    | inr ne ↦ put_other (soiled_at o) p true q ne ∙ h
-  ];
+  others = put_other (soiled_at o) p true;
 }
 
--- what a mutator is stays as it soils
-pub soiled_mine : (s : Seated) (p : ℕ) (t : Seated) → t.table ≡ s.table → Soils p s.view t.view → mine_of t ≡ mine_of s
-soiled_mine s p t same soils = ap mine_of (seated_is t s.table (record s.view { soiled = t.view.soiled; found = t.view.found }) same soils.rest)
+-- what a mutator is stays as it soils, but for that
+pub soiled_mine : (s : Seated) (p : ℕ) (t : Seated) → p / CELLS ≡ s.view.number → t.table ≡ s.table → Soils p s.view t.view → mine_of t ≡ record (mine_of s) { soiled = slice_set (mine_of s).soiled (p % CELLS) true }
+soiled_mine s p t own same soils =
+    ap mine_of (seated_is t s.table (record s.view { soiled = t.view.soiled; dirtied = t.view.dirtied; found = t.view.found }) same soils.rest)
+    ∙ ap (λ (row : List Bool). record (mine_of s) { soiled = row }) (own_row-one (λ q. soiled_at s.view q) (λ q. soiled_at t.view q) s.view.number p true own soils.others soils.here)
 
 -- the rows of a new mutator
 pub new_ok : (s : Seated) (name : TableId) (number : ℕ) (rows : Rows) → s.table ≡ name → IsNew number s.view → number < MOST_MUTATORS → IsBlank rows → OwnOk s name number rows
@@ -300,7 +300,7 @@ module _ (s : Seated) (name : TableId) (number : ℕ) (rows : Rows) (ok : OwnOk 
     held_open = λ q mine held. ap (λ (x : OwnerView). is_some x.open_at) soils.rest ∙ ok.held_open q mine (sym (ap (λ (x : OwnerView). is_some (held_at x q)) soils.rest) ∙ held);
     soils_are = λ q mine e. elim (cases_eq q p) [
       | inl e' ↦ ap (soiled_at t.view) e' ∙ soils.here
-      | inr ne ↦ soils.kept q (ok.soils_are q mine (sym (h.there q ne) ∙ e ∙ counts))
+      | inr ne ↦ soils.others q ne ∙ ok.soils_are q mine (sym (h.there q ne) ∙ e ∙ counts)
     ];
     other_lens = λ q ne. ap (λ (x : Rows). (row_of x q).len) h.rest ∙ ok.other_lens q ne;
     other_views = λ q ne. ap (λ (x : Rows). (row_of x q).viewed) h.rest ∙ ok.other_views q ne;
@@ -316,7 +316,7 @@ module _ (s : Seated) (name : TableId) (number : ℕ) (rows : Rows) (ok : OwnOk 
     soils = record {
       rest = refl;
       here = ok.soils_are p own (eqb-true (soiled_of rows p) rows.scope is);
-      kept = λ q h. h;
+      others = λ q ne. refl;
     };
     kept = λ q. refl;
     ok = ok;

@@ -28,7 +28,7 @@ pub record Object : Type 0 where
   pub bytes : Option (List ℕ)
 
 -- a mutator: the table that it steps and its number; whether the far side is honest, and whether its scope is open; of each of its pointers, from the lowest
--- on, the object, if it uses the pointer, whether the scope views it, and how often the mutator set MOVE anew in its cell
+-- on, the object, if it uses the pointer, whether the scope views it and has soiled it, and how often the mutator set MOVE anew in its cell
 pub record Mine : Type 0 where
   pub table : TableId
   pub number : ℕ
@@ -36,6 +36,7 @@ pub record Mine : Type 0 where
   pub opened : Bool
   pub objects : List (Option Object)
   pub viewed : List Bool
+  pub soiled : List Bool
   pub asked : List ℕ
 
 -- it is one of a heap's mutators, of its table, and knows what is so of its far side
@@ -81,9 +82,9 @@ bytes_in m p = known_bytes (object_of m p)
 abbrev pub opening : Mine → Mine
 opening m = record m { opened = true }
 
--- it views nothing
+-- it views nothing, and has soiled nothing
 abbrev pub closing : Mine → Mine
-closing m = record m { opened = false; viewed = map (λ _. false) m.viewed }
+closing m = record m { opened = false; viewed = map (λ _. false) m.viewed; soiled = map (λ _. false) m.soiled }
 
 abbrev pub viewing : ℕ → Mine → Mine
 viewing p m = record m { viewed = slice_set m.viewed (p % CELLS) true }
@@ -105,8 +106,12 @@ with_range bytes from new = take from bytes ++ new ++ drop (from + length new) b
 abbrev pub rewritten : ℕ → List ℕ → Object → Object
 rewritten from new x = record { len = x.len; ds = x.ds; bytes = option_map (λ bytes. with_range bytes from new) x.bytes }
 
+-- the scope has soiled what it writes
 abbrev pub writing : ℕ → ℕ → List ℕ → Mine → Mine
-writing p from new m = record m { objects = slice_set m.objects (p % CELLS) (option_map (rewritten from new) (object_of m p)) }
+writing p from new m = record m {
+  objects = slice_set m.objects (p % CELLS) (option_map (rewritten from new) (object_of m p));
+  soiled = slice_set m.soiled (p % CELLS) true;
+}
 
 -- it uses an object more, of so many zeros and a data structure, or one less
 abbrev pub zeros_known : Bool → ℕ → Option (List ℕ)
@@ -198,6 +203,7 @@ mine_of s = record {
   opened = is_some s.view.open_at;
   objects = own_row (λ p. seen s.view.honest (object_at s.view p)) s.view.number;
   viewed = own_row (λ p. is_some (held_at s.view p)) s.view.number;
+  soiled = own_row (λ p. soiled_at s.view p) s.view.number;
   asked = own_row (λ p. asked_at s.view p) s.view.number;
 }
 
@@ -210,6 +216,7 @@ newcomer table number honest = record {
   opened = false;
   objects = own_row (λ _. None) number;
   viewed = own_row (λ _. false) number;
+  soiled = own_row (λ _. false) number;
   asked = own_row (λ _. 0) number;
 }
 
@@ -234,10 +241,11 @@ pub record OwnOk (s : Seated) (name : TableId) (number : ℕ) (rows : Rows) : Ty
 pub record StructuresOk (o : OwnerView) (number : ℕ) (rows : Rows) : Type 0 where
   pub are : (p : ℕ) → p / CELLS ≡ number → seat_uses o p ≡ true → (row_of rows p).structure ≡ seat_ds (object_at o p)
 
--- the seat of a mutator of a new heap: it uses nothing, views nothing, has asked for nothing, and its scope is closed
+-- the seat of a mutator of a new heap: it uses nothing, views nothing, has soiled nothing, has asked for nothing, and its scope is closed
 pub record IsNew (number : ℕ) (o : OwnerView) : Type 0 where
   pub number_is : o.number ≡ number
   pub closed : o.open_at ≡ None
   pub unused : (p : ℕ) → object_at o p ≡ None
   pub free : (p : ℕ) → held_at o p ≡ None
+  pub unsoiled : (p : ℕ) → soiled_at o p ≡ false
   pub unasked : (p : ℕ) → asked_at o p ≡ 0

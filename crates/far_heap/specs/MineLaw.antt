@@ -10,7 +10,7 @@ KnowsBytes m p = (bytes : List ℕ) × (bytes_in m p ≡ Some bytes) × (length 
 pub record MineLaw (m : Mine) : Type 0 where
   -- it is one of eight, with 256 pointers
   pub few : m.number < MOST_MUTATORS
-  pub many : (length m.objects ≡ CELLS) × (length m.viewed ≡ CELLS) × (length m.asked ≡ CELLS)
+  pub many : (length m.objects ≡ CELLS) × (length m.viewed ≡ CELLS) × (length m.soiled ≡ CELLS) × (length m.asked ≡ CELLS)
   -- what is viewed is used, and nothing is viewed while the scope is closed
   pub used : (p : ℕ) → views m p ≡ true → uses m p ≡ true
   pub closed : m.opened ≡ false → (p : ℕ) → views m p ≡ false

@@ -165,7 +165,8 @@ impl<K: HeapName, D: Device + Drop> Scope<K, D> {
     }
 
     /// Writes bytes over those of an object from one on. All others stay. The scope's first write of an object sets DIRTY in its cell before, by one step
-    /// more. That what was fetched and lacks DIRTY goes far without a write to the device is tested. Refused as [`Scope::read`] is; then nothing changes.
+    /// more; after no other call has the scope soiled one more. That what was fetched and lacks DIRTY goes far without a write to the device is tested.
+    /// Refused as [`Scope::read`] is; then nothing changes.
     #[inline(always)]
     pub fn write(&mut self, view: &View, from: u16, bytes: &[u8]) -> Result<(), Refused>
         ensures refused { IfErr result (λ why. (access_refusal self.old view.now.pointer from (length bytes.now) ≡ Some why) × (self.new ≡ self.old)) }

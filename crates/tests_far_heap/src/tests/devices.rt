@@ -279,10 +279,14 @@ fn a_refused_round_may_go_on(rt: HostRuntime) {
     holds(&rt, rt.alloc(), ROUNDS);
 }
 
-// The object comes near by the device's second call, and moves as a viewed one, to a log that is sealed then.
+// The object comes near by the device's second call, and moves as a viewed one, to a log that is sealed then. Neither a read nor a refused write soils it.
 const BACK_AGAIN: &[Act] = &[
     Opens,
     Brings(0, EIGHT),
+    Keeps(0),
+    Bars(8, 1, Refused::Range),
+    Bars(0, 0, Refused::Range),
+    ReadsAt(0, &EIGHT),
     Clean(0, (2, 0), true),
     Closes,
     Makes(4088, Ok(3)),

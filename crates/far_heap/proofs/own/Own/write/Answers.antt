@@ -5,7 +5,7 @@ use Rattle.far_heap.specs.declared.rows.Rows.{Rows}
 use Rattle.far_table.specs.View.{OwnerView}
 use Rattle.far_table.specs.Views.{held_at, len_of, object_at}
 use Rattle.far_heap.specs.Mine.{Mine, OwnOk, StructuresOk, len_in, mine_of, views, writing}
-use Rattle.far_heap.proofs.Accesses.{wrote_mine, wrote_ok, wrote_structures}
+use Rattle.far_heap.proofs.Accesses.{storing, wrote_mine, wrote_ok, wrote_structures}
 use Rattle.far_heap.proofs.Mines.{len_own, views_so}
 use Rattle.far_heap.proofs.OwnSteps.{HasSoiled, first_soiled, soiled_before, soiled_mine, structures_move, used_below, viewed_used}
 use Rattle.far_heap.proofs.own.Own.write.Goals as goal
@@ -98,5 +98,5 @@ returns-clause-done g c =
     let len = ap (λ (o : OwnerView). len_of (object_at o p)) so.soils.rest ∙ sym (len_own s p own) ∙ ap (λ (m : Mine). len_in m p) c.self.view_is ∙ sym done.2 in (
       done.0,
       wrote_mine t c.store_range.new.seat p c.args.from c.args.bytes.now own' (omega (arith, len, done.4)) c.store_range.ensures.table c.store_range.ensures.wrote
-          ∙ ap (writing p c.args.from c.args.bytes.now) (soiled_mine s p t so.table so.soils ∙ c.self.view_is),
+          ∙ ap (storing p c.args.from c.args.bytes.now) (soiled_mine s p t own so.table so.soils) ∙ ap (writing p c.args.from c.args.bytes.now) c.self.view_is,
     )
