@@ -1,5 +1,5 @@
 -- Why a device over storage failed, and which fault a word tells.
-use Rattle.std.specs.Prelude.{◌≡◌, ◌≢◌, ◌⊎◌, ℕ, ◌/◌, ◌%◌, Bool, false, Option, Some, None}
+use Rattle.std.specs.Prelude.{◌≡◌, ◌≢◌, ◌⊎◌, ℕ, ◌/◌, ◌%◌, Bool, false, List, Option, Some, None, Result, Err}
 use Rattle.std.specs.declared.io.ErrorKind.{ErrorKind}
 use Rattle.std.specs.declared.io.ErrorKind.TheVariants.{FileTooLarge, QuotaExceeded, StorageFull, UnexpectedEof, WriteZero}
 use Rattle.far_file.specs.declared.fault.FileFault.{FileFault}
@@ -33,25 +33,25 @@ pub record IsTold (kind : ErrorKind) (fault : StorageFault) : Type 0 where
   pub full : IsOfRoom kind → fault ≡ Full
   pub failed : kind ≢ UnexpectedEof → (IsOfRoom kind → ⊥) → fault ≡ Failed
 
--- why a write may fail whose key has a slot with room for the bytes
-abbrev pub CanStopWrite : FileFault → Type 0
-CanStopWrite NoSlot = ⊥
-CanStopWrite Nothing = ⊥
-CanStopWrite Misfit = ⊥
-CanStopWrite (Storage of) = Unit {0}
+-- why a write may fail whose key has a slot with room for the bytes, if the storage's call answered so
+abbrev pub CanStopWrite : (Result (Unit {0}) StorageFault → Type 0) → FileFault → Type 0
+CanStopWrite answers NoSlot = ⊥
+CanStopWrite answers Nothing = ⊥
+CanStopWrite answers Misfit = ⊥
+CanStopWrite answers (Storage of) = answers (Err of)
 
--- why a read may fail of a key under which something is; storage that is honest gives no other bytes
-abbrev pub CanStopRead : Bool → FileFault → Type 0
-CanStopRead honest NoSlot = ⊥
-CanStopRead honest Nothing = ⊥
-CanStopRead honest Misfit = honest ≡ false
-CanStopRead honest (Storage of) = Unit {0}
+-- why a read may fail of a key under which something is, if the storage's call gave this; storage that is honest gives no other bytes
+abbrev pub CanStopRead : Bool → (Result (List ℕ) StorageFault → Type 0) → FileFault → Type 0
+CanStopRead honest gives NoSlot = ⊥
+CanStopRead honest gives Nothing = ⊥
+CanStopRead honest gives Misfit = honest ≡ false
+CanStopRead honest gives (Storage of) = gives (Err of)
 
 -- so a write, or a read, of this key failed
-abbrev pub StoppedWrite : ℕ → Option KeyFault → Type 0
-StoppedWrite key None = ⊥
-StoppedWrite key (Some told) = (told.key ≡ key) × CanStopWrite told.why
+abbrev pub StoppedWrite : (Result (Unit {0}) StorageFault → Type 0) → ℕ → Option KeyFault → Type 0
+StoppedWrite answers key None = ⊥
+StoppedWrite answers key (Some told) = (told.key ≡ key) × CanStopWrite answers told.why
 
-abbrev pub StoppedRead : Bool → ℕ → Option KeyFault → Type 0
-StoppedRead honest key None = ⊥
-StoppedRead honest key (Some told) = (told.key ≡ key) × CanStopRead honest told.why
+abbrev pub StoppedRead : Bool → (Result (List ℕ) StorageFault → Type 0) → ℕ → Option KeyFault → Type 0
+StoppedRead honest gives key None = ⊥
+StoppedRead honest gives key (Some told) = (told.key ≡ key) × CanStopRead honest gives told.why

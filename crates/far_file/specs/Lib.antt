@@ -1,5 +1,6 @@
 pub mod Digests
 pub mod Faults
+pub mod Gave
 pub mod Positions
 pub mod Row
 pub mod SealedCalls

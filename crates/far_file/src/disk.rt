@@ -16,6 +16,10 @@ impl Storage for File {
 
     ghost honest = { λ _. false };
 
+    ghost puts = { λ _ _ _ _ _. Unit {0} };
+
+    ghost gets = { λ _ _ _ _. Unit {0} };
+
     fn put(&mut self, at: u64, bytes: &[u8]) -> Result<(), StorageFault> {
         match self.write_all_at(bytes, at) {
             Ok(()) => Ok(()),

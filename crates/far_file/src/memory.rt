@@ -1,7 +1,8 @@
 //! Storage in memory.
 
-ghost use Rattle.std.specs.Prelude.{◌≡◌, ◌+◌, ◌<◌, ◌≤◌, ℕ, true, length, slice_index, IsTrue, OnOk};
+ghost use Rattle.std.specs.Prelude.{◌≡◌, ◌⊎◌, ◌+◌, ◌<◌, ◌≤◌, ℕ, true, length, slice_index, IsTrue, IfErr, OnOk};
 ghost use Rattle.std.specs.Vec.{vec_len};
+ghost use Rattle.far_file.specs.declared.fault.StorageFault.TheVariants.{Memory, Short, Full};
 
 use crate::fault::StorageFault;
 use crate::storage::Storage;
@@ -28,6 +29,10 @@ impl Storage for MemStorage {
     ghost seen = { λ m. slice_index m.bytes.items };
 
     ghost honest = { λ _. true };
+
+    ghost puts = { λ _ _ _ answer _. IfErr answer (λ why. (why ≡ Memory) ⊎ (why ≡ Full)) };
+
+    ghost gets = { λ _ _ _ answer. IfErr answer (λ why. why ≡ Short) };
 
     /// Refused [`StorageFault::Memory`], or [`StorageFault::Full`] if no position has the number of the last byte.
     fn put(&mut self, at: u64, bytes: &[u8]) -> Result<(), StorageFault> {

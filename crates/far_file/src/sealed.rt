@@ -90,6 +90,7 @@ impl<F: Storage + Drop, L: Seal> SealedDevice<F, L> {
         ensures storage { self.new.storage ≡ self.old.storage }
         ensures faults { faults_of self.new ≡ faults_of self.old }
         ensures told { self.new.told ≡ self.old.told }
+        ensures asked { IfOk result (λ _. IsSome self.new.asked) }
     {
         if let Some(last) = &self.asked {
             return last.try_clone();
@@ -141,7 +142,7 @@ impl<F: Storage + Drop, L: Seal> SealedDevice<F, L> {
         requires { IfSome (bytes_at self.now id) (λ stored. length stored ≡ vec_len buffer.old) }
         ensures by_storage { F.Storage.honest self.now.storage ≡ true → OnOk result (IfSome (bytes_at self.now id) (λ stored. buffer.new.items ≡ stored)) }
         ensures by_seal { L.Seal.exact ≡ true → OnOk result (IfSome (bytes_at self.now id) (λ stored. buffer.new.items ≡ stored)) }
-        ensures why { IfSome (bytes_at self.now id) (λ _. IfErr result (CanStopRead (F.Storage.honest self.now.storage))) }
+        ensures why { IfSome (bytes_at self.now id) (λ stored. IfErr result (CanStopRead (F.Storage.honest self.now.storage) (F.Storage.gets self.now.storage (id * SLOT) (length stored)))) }
         ensures room { vec_capacity buffer.old ≤ vec_capacity buffer.new }
     {
         let Some(held) = self.held(id) else {
@@ -176,6 +177,7 @@ impl<F: Storage + Drop, L: Seal> SealedDevice<F, L> {
     fn put(&mut self, id: u32, bytes: &[u8]) -> Result<(), StorageFault>
         requires free { bytes_at self.old id ≡ None }
         requires few { length bytes.now ≤ SLOT }
+        ensures called { F.Storage.puts self.old.storage (id * SLOT) bytes.now result self.new.storage }
         ensures put { F.Storage.honest self.old.storage ≡ true → OnOk result (HoldsAt (F.Storage.seen self.new.storage) (SLOT * id) bytes.now) }
         ensures honest { F.Storage.honest self.new.storage ≡ F.Storage.honest self.old.storage }
         ensures same { (q : ℕ) → bytes_at self.new q ≡ bytes_at self.old q }
@@ -276,7 +278,7 @@ impl<F: Storage + Drop, L: Seal> Device for SealedDevice<F, L> {
         ensures no_slot { (KEYS ≤ id) ⊎ (SLOT < length bytes.now) → (result ≡ Err Failed) × (self.new.told ≡ Some record { key = id; why = NoSlot }) × (bytes_at self.new ≡ bytes_at self.old) }
         ensures gone { id < KEYS → length bytes.now ≤ SLOT → is_fault result ≡ true → bytes_at self.new id ≡ None }
         ensures memory { result ≡ Err Memory → (q : ℕ) → bytes_at self.new q ≡ bytes_at self.old q }
-        ensures told { id < KEYS → length bytes.now ≤ SLOT → is_fault result ≡ true → StoppedWrite id self.new.told }
+        ensures told { id < KEYS → length bytes.now ≤ SLOT → is_fault result ≡ true → StoppedWrite (λ answer. F.Storage.puts self.old.storage (id * SLOT) bytes.now answer self.new.storage) id self.new.told }
         ensures kept_told { is_fault result ≡ false → self.new.told ≡ self.old.told }
     {
         if id >= KEYS || bytes.len() as u64 > SLOT {
@@ -301,7 +303,7 @@ impl<F: Storage + Drop, L: Seal> Device for SealedDevice<F, L> {
     fn read(&mut self, id: u32) -> Result<Vec<u8>, DeviceFault>
         ensures given { is_honest self.old ≡ true → IfOk result (λ bytes. IfSome (bytes_at self.old id) (λ stored. bytes.items ≡ stored)) }
         ensures nothing { IfNone (bytes_at self.old id) ((result ≡ Err Failed) × (self.new.told ≡ Some record { key = id; why = Nothing })) }
-        ensures told { IfSome (bytes_at self.old id) (λ _. is_fault result ≡ true → StoppedRead (F.Storage.honest self.old.storage) id self.new.told) }
+        ensures told { IfSome (bytes_at self.old id) (λ stored. is_fault result ≡ true → StoppedRead (F.Storage.honest self.old.storage) (F.Storage.gets self.old.storage (id * SLOT) (length stored)) id self.new.told) }
         ensures kept_told { is_fault result ≡ false → self.new.told ≡ self.old.told }
         ensures kept { bytes_at self.new ≡ bytes_at self.old }
         ensures faults { faults_of self.new ≡ counted (is_fault result) (faults_of self.old) }
@@ -319,7 +321,7 @@ impl<F: Storage + Drop, L: Seal> Device for SealedDevice<F, L> {
     fn read_into(&mut self, id: u32, buffer: &mut Vec<u8>) -> Result<(), DeviceFault>
         ensures given { is_honest self.old ≡ true → OnOk result (IfSome (bytes_at self.old id) (λ stored. buffer.new.items ≡ stored)) }
         ensures nothing { IfNone (bytes_at self.old id) ((result ≡ Err Failed) × (self.new.told ≡ Some record { key = id; why = Nothing })) }
-        ensures told { IfSome (bytes_at self.old id) (λ _. is_fault result ≡ true → StoppedRead (F.Storage.honest self.old.storage) id self.new.told) }
+        ensures told { IfSome (bytes_at self.old id) (λ stored. is_fault result ≡ true → StoppedRead (F.Storage.honest self.old.storage) (F.Storage.gets self.old.storage (id * SLOT) (length stored)) id self.new.told) }
         ensures kept_told { is_fault result ≡ false → self.new.told ≡ self.old.told }
         ensures kept { bytes_at self.new ≡ bytes_at self.old }
         ensures room { vec_capacity buffer.old ≤ vec_capacity buffer.new }

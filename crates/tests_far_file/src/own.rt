@@ -34,6 +34,10 @@ impl<F: Storage + Drop> Storage for Breaking<F> {
 
     ghost honest = { λ s. F.Storage.honest s.inner };
 
+    ghost puts = { λ _ _ _ _ _. Unit {0} };
+
+    ghost gets = { λ _ _ _ _. Unit {0} };
+
     fn put(&mut self, at: u64, bytes: &[u8]) -> Result<(), StorageFault> {
         if self.breaks() {
             return Err(self.why);
@@ -60,6 +64,10 @@ impl<F: Storage + Drop> Storage for Crooked<F> {
     ghost seen = { λ s. F.Storage.seen s.inner };
 
     ghost honest = { λ _. false };
+
+    ghost puts = { λ _ _ _ _ _. Unit {0} };
+
+    ghost gets = { λ _ _ _ _. Unit {0} };
 
     fn put(&mut self, at: u64, bytes: &[u8]) -> Result<(), StorageFault> {
         self.inner.put(at, bytes)

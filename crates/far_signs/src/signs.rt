@@ -1,0 +1,160 @@
+//! Who asked for room, and who was told of some.
+
+use std::sync::atomic::{AtomicU64, Ordering};
+use std::sync::{Condvar, Mutex, Wait};
+
+/// What a step of the one that makes room came to.
+#[derive(Clone, Copy, Debug, PartialEq, Eq)]
+pub enum Found {
+    /// There was enough.
+    Enough,
+    /// It made some.
+    Made,
+    /// Neither.
+    Less,
+}
+
+// How often room was asked for and made, and who has ended.
+#[derive(Clone, Copy, Debug)]
+struct State {
+    asked: u64,
+    // How often it had been asked for before the step that is made now, and how much of that was answered.
+    heard: u64,
+    answered: u64,
+    made: u64,
+    // Whether some was taken, so that it is to be seen whether there is enough.
+    look: bool,
+    done: bool,
+    left: bool,
+}
+
+impl State {
+    // Whether there is something to do for the one that makes room, though it found enough.
+    fn is_wanted(&self) -> bool {
+        self.asked != self.heard || self.look || self.done
+    }
+}
+
+/// What threads that want room and the one that makes it tell one another.
+#[derive(Drop)]
+pub struct Signs {
+    state: Mutex<State>,
+    wanted: Condvar,
+    made: Condvar,
+}
+
+impl Signs {
+    /// Nobody asked, nothing was made, and nobody has ended.
+    pub fn new() -> Signs {
+        Signs {
+            state: Mutex::new(State {
+                asked: 0,
+                heard: 0,
+                answered: 0,
+                made: 0,
+                look: false,
+                done: false,
+                left: false,
+            }),
+            wanted: Condvar::new(),
+            made: Condvar::new(),
+        }
+    }
+
+    /// No more room will be wanted.
+    pub fn end_work<R: Wait>(&self, rt: &R) {
+        let mut state = self.state.lock(rt);
+        state.done = true;
+        self.wanted.notify_all();
+    }
+
+    /// No more room will be made.
+    pub fn end_rounds<R: Wait>(&self, rt: &R) {
+        let mut state = self.state.lock(rt);
+        state.left = true;
+        self.made.notify_all();
+    }
+
+    /// Wakes the one that makes room, to see whether there is enough. Nobody waits for that.
+    pub fn look<R: Wait>(&self, rt: &R) {
+        let mut state = self.state.lock(rt);
+        state.look = true;
+        self.wanted.notify_all();
+    }
+
+    /// Whether [`Signs::rest`] would not sleep now.
+    pub fn is_wanted<R: Wait>(&self, rt: &R) -> bool {
+        self.state.lock(rt).is_wanted()
+    }
+
+    /// For the one that makes room, before each step: what the last came to, if there was one. All who wait are woken where that made room, or found enough
+    /// and somebody had asked before it. Where it found enough, and nobody has asked since it began, this sleeps until somebody does or has it look, or the
+    /// work is done. Whether the work is done.
+    pub fn rest<R: Wait>(&self, rt: &R, last: Option<Found>) -> bool {
+        let mut state = self.state.lock(rt);
+        let enough = last == Some(Found::Enough);
+        if last == Some(Found::Made) || (enough && state.answered != state.heard) {
+            state.made = state.made.wrapping_add(1);
+            state.answered = state.heard;
+            self.made.notify_all();
+        }
+        if enough {
+            state = self.wanted.wait_while(rt, state, |now| !now.is_wanted());
+        }
+        state.heard = state.asked;
+        state.look = false;
+        state.done
+    }
+
+    // Asks for room, unless some was made since that count, and sleeps until some is, or none will be: the count then, and whether none will be.
+    fn wait_past<R: Wait>(&self, rt: &R, seen: u64) -> (u64, bool) {
+        let mut state = self.state.lock(rt);
+        if state.made == seen && !state.left {
+            state.asked = state.asked.wrapping_add(1);
+            self.wanted.notify_all();
+            state = self
+                .made
+                .wait_while(rt, state, |now| now.made == seen && !now.left);
+        }
+        (state.made, state.left)
+    }
+}
+
+/// How many pieces of room a thread takes before it has the one that makes room look.
+pub const EVERY: u64 = 8;
+
+/// A thread that wants room, now and then.
+#[derive(Drop)]
+pub struct Waiter<'a> {
+    signs: &'a Signs,
+    // How often room had been made when it looked last: before it tried what was refused since.
+    seen: AtomicU64,
+    // How many pieces of room it had taken when it last had the one that makes room look.
+    told: AtomicU64,
+}
+
+impl<'a> Waiter<'a> {
+    /// It hears of all room that was ever made.
+    pub fn new(signs: &'a Signs) -> Waiter<'a> {
+        Waiter {
+            signs,
+            seen: AtomicU64::new(0),
+            told: AtomicU64::new(0),
+        }
+    }
+
+    /// For one that got room, so that some is made ahead: how many pieces it has taken so far. At each [`EVERY`] more it calls [`Signs::look`].
+    pub fn took<R: Wait>(&self, rt: &R, pieces: u64) {
+        if pieces.wrapping_sub(self.told.load(Ordering::SeqCst)) >= EVERY {
+            self.told.store(pieces, Ordering::SeqCst);
+            self.signs.look(rt);
+        }
+    }
+
+    /// For one that was refused room: sleeps until some was made since the last call came back, or none will be. Whether none will be.
+    pub fn wait<R: Wait>(&self, rt: &R) -> bool {
+        let (made, left) = self.signs.wait_past(rt, self.seen.load(Ordering::SeqCst));
+        self.seen.store(made, Ordering::SeqCst);
+        left
+    }
+}
