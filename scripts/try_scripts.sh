@@ -1,6 +1,7 @@
 #!/usr/bin/env bash
 # Tries the scripts that a user calls: far_trace and try, over a made-up tree whose rt is made up too, and draw, over the built
-# program; and whether docs/round.svg shows what the program replies (of the pages: pages.py). Prints only what is wrong.
+# program; whether each wrong edit can still be made; and whether docs/round.svg shows what the program replies (of the pages:
+# pages.py). Prints only what is wrong.
 set -euo pipefail
 here="$(cd "$(dirname "${BASH_SOURCE[0]}")" && pwd)"
 program="${1:-$here/../crates/far_trace/out/far_trace}"
@@ -96,6 +97,17 @@ touch -d tomorrow "$tree/crates/far_word/src/lib.rt"
 launch 'a call with a source of tomorrow' 0 'run far_trace' "$launcher"
 launch 'a call after that' 0 '' "$work/linked/trace"
 silent 'a call after that'
+
+cp "$here/edits_stand.py" "$tree/scripts/"
+mkdir "$tree/crates/far_word/planted"
+edit() { # the text of the one edit of the made-up tree that is to be replaced
+    printf 'file: src/lib.rt\nold: %s\nnew: // nothing\n' "$1" >"$tree/crates/far_word/planted/nothing.edit"
+}
+edit '// far_word'
+"$tree/scripts/edits_stand.py" || fail 'edits_stand: an edit that can be made'
+edit '// far_text'
+! "$tree/scripts/edits_stand.py" >"$work/out" || fail 'edits_stand: an edit of a text that is nowhere'
+"$here/edits_stand.py" || fail 'an edit can no longer be made'
 
 "$program" --help 2>"$work/err" || true
 tells 'usage: far_trace [split]'
