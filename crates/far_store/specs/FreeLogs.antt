@@ -1,5 +1,5 @@
 -- How many logs were free, and what was done about it, while a heap's lock was held.
-use Rattle.std.specs.Prelude.{◌≡◌, ◌≢◌, ◌⊎◌, ◌<◌, ◌≤◌, ℕ, zero, suc, ◌+◌, true, false, List, [], ◌∷◌, Result, Ok, Err}
+use Rattle.std.specs.Prelude.{◌≡◌, ◌≢◌, ◌⊎◌, ◌<◌, ◌≤◌, ℕ, zero, suc, ◌+◌, true, false, Option, Some, None, List, [], ◌∷◌, Result, Ok, Err}
 use Rattle.far_log.specs.declared.row.LogRow.{LogRow}
 use Rattle.far_word.specs.declared.refused.Refused.{Refused}
 use Rattle.far_word.specs.declared.refused.Refused.TheVariants as refused
@@ -87,6 +87,11 @@ module _ {P : Type 0} (gives : P → List LogRow → ℕ → Result (List ℕ) R
   abbrev pub EndsSteps : P → Result (Unit {0}) EvacFault → P → Type 0
   EndsSteps before (Ok x) after = after ≡ before
   EndsSteps before (Err fault) after = IsUnmade before fault after
+
+-- what the last of these steps did, if one was made
+abbrev pub newest : List Made → Option Made
+newest [] = None
+newest (made ∷ steps) = Some made
 
 -- why no object was made: the length is out of range; or, as the lock was held, none of the mutator's cells was free; or there was no room, and nobody is to
 -- wait for it any longer

@@ -9,9 +9,9 @@ use crate::counts::Counts;
 use crate::layout::{Part, RECORD};
 use crate::random::Random;
 use crate::shard::{Shard, StoreFault};
-use crate::signs::Signs;
 use far_device::Device;
 use far_heap::{HeapName, Mutator};
+use far_signs::{Signs, Waiter};
 use far_word::Refused;
 use std::alloc::Global;
 use std::sync::Wait;
@@ -71,14 +71,14 @@ impl<K: HeapName, D: Device + Drop> Desk<K, D> {
         alloc: Global,
         mutator: Mutator<K, D>,
         part: Part,
-        signs: &Signs,
+        waiter: &Waiter<'_>,
     ) -> Result<Desk<K, D>, StoreFault>
         ensures { IfOk result (λ desk. desk.shard.part ≡ part) }
     {
         let Ok(kept) = zeros(alloc, part.count) else {
             return Err(StoreFault::Heap(Refused::Memory));
         };
-        match Shard::new(rt, alloc, mutator, part, || signs.has_no_rounds()) {
+        match Shard::new(rt, alloc, mutator, part, || waiter.wait(rt)) {
             Ok(shard) => Ok(Desk {
                 shard,
                 kept,
@@ -93,7 +93,7 @@ impl<K: HeapName, D: Device + Drop> Desk<K, D> {
     fn put<R: Wait>(
         &mut self,
         rt: &R,
-        signs: &Signs,
+        waiter: &Waiter<'_>,
         at: u32,
         bytes: [u8; RECORD],
     ) -> Result<(), StoreFault>
@@ -102,26 +102,28 @@ impl<K: HeapName, D: Device + Drop> Desk<K, D> {
         ensures made { OnOk result (self.new.made ≡ told (self.old.made + 1)) }
     {
         let number = self.shard.part().number(at);
-        let done = self.shard.put(rt, number, &bytes, || signs.has_no_rounds());
+        let done = self.shard.put(rt, number, &bytes, || waiter.wait(rt));
         if done.is_err() {
             return done;
         }
+        waiter.took(rt, self.shard.counts().fetches);
         self.kept[at as usize] = bytes;
         self.made = self.made.saturating_add(1);
         Ok(())
     }
 
     // Reads a record, counts that, and also if it is wrong.
-    fn check<R: Wait>(&mut self, rt: &R, signs: &Signs, at: u32) -> Result<(), StoreFault>
+    fn check<R: Wait>(&mut self, rt: &R, waiter: &Waiter<'_>, at: u32) -> Result<(), StoreFault>
         requires { at < self.old.shard.part.count }
         ensures part { self.new.shard.part ≡ self.old.shard.part }
         ensures made { OnOk result (self.new.made ≡ told (self.old.made + 1)) }
     {
         let number = self.shard.part().number(at);
-        let found = match self.shard.get(rt, number, || signs.has_no_rounds()) {
+        let found = match self.shard.get(rt, number, || waiter.wait(rt)) {
             Ok(found) => found,
             Err(why) => return Err(why),
         };
+        waiter.took(rt, self.shard.counts().fetches);
         self.made = self.made.saturating_add(1);
         if found != self.kept[at as usize] {
             self.wrong = self.wrong.saturating_add(1);
@@ -133,14 +135,14 @@ impl<K: HeapName, D: Device + Drop> Desk<K, D> {
     fn fill<R: Wait>(
         &mut self,
         rt: &R,
-        signs: &Signs,
+        waiter: &Waiter<'_>,
         random: &mut Random,
     ) -> Result<(), StoreFault>
         ensures { self.new.shard.part ≡ self.old.shard.part }
     {
         let count = self.shard.part().count;
         for at in 0..count {
-            if let Err(why) = self.put(rt, signs, at, random.bytes()) {
+            if let Err(why) = self.put(rt, waiter, at, random.bytes()) {
                 return Err(why);
             }
         }
@@ -151,7 +153,7 @@ impl<K: HeapName, D: Device + Drop> Desk<K, D> {
     fn use_one<R: Wait>(
         &mut self,
         rt: &R,
-        signs: &Signs,
+        waiter: &Waiter<'_>,
         random: &mut Random,
     ) -> Result<(), StoreFault>
         requires { 0 < self.old.shard.part.count }
@@ -160,16 +162,16 @@ impl<K: HeapName, D: Device + Drop> Desk<K, D> {
     {
         let at = random.below(self.shard.part().count);
         if random.below(2) == 0 {
-            return self.put(rt, signs, at, random.bytes());
+            return self.put(rt, waiter, at, random.bytes());
         }
-        self.check(rt, signs, at)
+        self.check(rt, waiter, at)
     }
 
     // The same so many times: how often it was done.
     fn use_some<R: Wait>(
         &mut self,
         rt: &R,
-        signs: &Signs,
+        waiter: &Waiter<'_>,
         random: &mut Random,
         operations: u64,
     ) -> Result<u64, StoreFault>
@@ -178,7 +180,7 @@ impl<K: HeapName, D: Device + Drop> Desk<K, D> {
     {
         self.made = 0;
         for _ in 0..operations {
-            match self.use_one(rt, signs, random) {
+            match self.use_one(rt, waiter, random) {
                 Ok(()) => {}
                 Err(why) => return Err(why),
             }
@@ -187,10 +189,10 @@ impl<K: HeapName, D: Device + Drop> Desk<K, D> {
     }
 
     // Reads each record.
-    fn check_all<R: Wait>(&mut self, rt: &R, signs: &Signs) -> Result<(), StoreFault> {
+    fn check_all<R: Wait>(&mut self, rt: &R, waiter: &Waiter<'_>) -> Result<(), StoreFault> {
         let count = self.shard.part().count;
         for at in 0..count {
-            if let Err(why) = self.check(rt, signs, at) {
+            if let Err(why) = self.check(rt, waiter, at) {
                 return Err(why);
             }
         }
@@ -239,18 +241,19 @@ pub fn work<K: HeapName, D: Device + Drop, R: Wait>(
     ensures made { IfOk result (λ told. told.operations ≡ job.operations) }
 {
     let mut random = Random::new(job.seed);
-    let mut desk = match Desk::new(rt, alloc, job.mutator, job.part, signs) {
+    let waiter = Waiter::new(signs);
+    let mut desk = match Desk::new(rt, alloc, job.mutator, job.part, &waiter) {
         Ok(desk) => desk,
         Err(why) => return Err(why),
     };
-    if let Err(why) = desk.fill(rt, signs, &mut random) {
+    if let Err(why) = desk.fill(rt, &waiter, &mut random) {
         return Err(why);
     }
-    let operations = match desk.use_some(rt, signs, &mut random, job.operations) {
+    let operations = match desk.use_some(rt, &waiter, &mut random, job.operations) {
         Ok(made) => made,
         Err(why) => return Err(why),
     };
-    if let Err(why) = desk.check_all(rt, signs) {
+    if let Err(why) = desk.check_all(rt, &waiter) {
         return Err(why);
     }
     Ok(Told {

@@ -9,7 +9,6 @@ mod layout;
 mod random;
 mod room;
 mod shard;
-mod signs;
 mod store;
 
 use asked::Asked;

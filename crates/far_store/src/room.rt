@@ -9,7 +9,7 @@ ghost use Rattle.far_evac.specs.declared.phase.Phase.TheVariants.{Idle};
 ghost use Rattle.far_heap.specs.BookHad.{BookHad, HasRoom};
 ghost use Rattle.far_heap.specs.Mine.{adopting, is_length, owns, uses};
 ghost use Rattle.far_store.specs.Counting.{counts_of, turns_in, turns_of};
-ghost use Rattle.far_store.specs.FreeLogs.{AreSteps, EndsSteps, IsGivenUp, IsStep, IsUnmade, Stopped, Turned, free_in};
+ghost use Rattle.far_store.specs.FreeLogs.{AreSteps, EndsSteps, IsGivenUp, IsStep, IsUnmade, Stopped, Turned, free_in, newest};
 ghost use Rattle.far_store.specs.declared.room.Made.{Made as made};
 
 use crate::counts::Counts;
@@ -170,11 +170,12 @@ fn counted(counts: Counts, made: Made) -> Counts
 
 /// For a thread of its own, until `until` answers true: steps, each under the lock anew, between which other threads may run. A step goes on with a round
 /// that stands, by a turn, whoever began it. If none stands it begins one, of at most `most` logs that the policy chooses, where fewer than `free` logs are
-/// free, and else does nothing. So it takes a whole processor. What its turns did is told, but for one that was refused in its midst: that is in the fault.
+/// free, and else does nothing. `until` is told what the last step did, and may sleep: by [`far_signs::Signs::rest`] until somebody was refused room, or
+/// took so much that it is to look. What its turns did is told, but for one that was refused in its midst: that is in the fault.
 ///
 /// `free` is 2 to the number of logs less 2, and `most` at least 1; with other numbers those who wait for room may wait for ever. Refused as
 /// [`Evacuator::select`] and [`Evacuator::turn`] are. The round that stands then goes on if the call is made again.
-pub fn keep_free<K: HeapName, D: Device + Drop, R: Wait, P: Policy, U: Fn() -> bool>(
+pub fn keep_free<K: HeapName, D: Device + Drop, R: Wait, P: Policy, U: Fn(Option<Made>) -> bool>(
     rt: &R,
     heap: &Heap<K, D>,
     policy: &mut P,
@@ -183,17 +184,18 @@ pub fn keep_free<K: HeapName, D: Device + Drop, R: Wait, P: Policy, U: Fn() -> b
     until: U,
 ) -> (Counts, Result<(), EvacFault>)
     requires { U.IsAlwaysCallable until }
-    ensures told { IfOk result.1 (λ _. U.post until true) }
-    ensures steps { (steps : List made) × (last : P) × AreSteps P.gives D K.heap free most policy.old steps last × EndsSteps P.gives D K.heap free most last result.1 policy.new × (result.0 ≡ counts_of (turns_in steps)) }
+    ensures { (steps : List made) × (last : P) × AreSteps P.gives D K.heap free most policy.old steps last × EndsSteps P.gives D K.heap free most last result.1 policy.new × (result.0 ≡ counts_of (turns_in steps)) × IfOk result.1 (λ _. U.post until (newest steps) true) }
 {
     let mut counts = Counts::none();
+    let mut last: Option<Made> = None;
     for _ in rt.forever() {
-        if until() {
+        if until(last) {
             return (counts, Ok(()));
         }
         match make_step(rt, heap, policy, free, most) {
             Ok(made) => {
                 counts = counted(counts, made);
+                last = Some(made);
                 thread::yield_now();
             }
             Err(fault) => return (counts, Err(fault)),

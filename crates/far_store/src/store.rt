@@ -10,15 +10,15 @@ use crate::asked::Asked;
 use crate::counts::Counts;
 use crate::desk::{Job, Told, work};
 use crate::layout::Part;
-use crate::room::keep_free;
+use crate::room::{Made, keep_free};
 use crate::shard::StoreFault;
-use crate::signs::Signs;
 use far_core::Shape;
 use far_device::Device;
 use far_evac::EvacFault;
 use far_file::{FileDevice, FileFault, LastFault, Storage};
 use far_heap::{Blank, Heap, HeapName, Mutator};
 use far_policy::Oldest;
+use far_signs::{Found, Signs};
 use far_word::Refused;
 use std::alloc::{AllocError, Global};
 use std::marker::Brand;
@@ -192,6 +192,15 @@ fn work_all<K: HeapName + Send + Sync, D: Device + Drop + Send, R: Threads + Wai
     thread::map_vec(rt, jobs, &each)
 }
 
+// What a step of the thread that keeps logs free came to: a turn that gave logs back, or ended its round, made room.
+fn found(made: Made) -> Found {
+    match made {
+        Made::Enough => Found::Enough,
+        Made::Turned(turn) if turn.freed > 0 || turn.done => Found::Made,
+        _ => Found::Less,
+    }
+}
+
 // All threads' work over a heap: each shard has one, and one keeps logs free. Without that nothing is begun.
 fn beside<K: HeapName + Send + Sync, D: Device + Drop + Send, R: Threads + Wait + Sync>(
     rt: &R,
@@ -215,15 +224,17 @@ fn beside<K: HeapName + Send + Sync, D: Device + Drop + Send, R: Threads + Wait 
             ensures made { IsMade (told (sum_over jobs.items (λ job. job.operations))) result }
         {
             let keeper = move || {
-                let kept = keep_free(rt, heap, &mut Oldest, free, MOST_LOGS, || passed.is_done());
-                passed.end_rounds();
+                let kept = keep_free(rt, heap, &mut Oldest, free, MOST_LOGS, |last| {
+                    passed.rest(rt, last.map(found))
+                });
+                passed.end_rounds(rt);
                 kept
             };
             let Ok(keeper) = scope.spawn(keeper) else {
                 return Err(RunFault::Thread);
             };
             let worked = work_all(rt, alloc, passed, jobs);
-            passed.end_work();
+            passed.end_work(rt);
             let (counts, kept) = keeper.join(rt);
             ended(worked, counts, kept)
         },
