@@ -67,11 +67,11 @@ def gone(states: set) -> set:
 
 
 class Alone(Heap):
-    """A mutator as its own lines tell it. Room is what others leave: a reply tells whether there was any, or enough memory, or whether the device failed or lied."""
+    """A mutator as its own lines tell it. Room is what others leave: a reply tells whether there was any, or whether the device failed or lied."""
 
-    def __init__(self, logs: int, mutators: int, is_short: bool = False, flaw: Flaw = Flaw()):
+    def __init__(self, logs: int, mutators: int, flaw: Flaw = Flaw()):
         super().__init__(logs, mutators)
-        self.logs, self.reply, self.may_lack, self.lacks = logs, "", ("refused 1",) * is_short, ()
+        self.logs, self.reply, self.lacks = logs, "", ()
         self.flaw_of, self.near = flaw, {}  # (the states of each object that was asked for, if it didn't go far since)
 
     def place(self, found: Thing, kept: int) -> bool:
@@ -142,7 +142,7 @@ class Alone(Heap):
 
     def expected(self, name: str, operands: list, reply: str) -> str:
         """The reply, where it may come; else one that may."""
-        self.reply, self.lacks = reply, ("refused 2",) + (self.may_lack + self.flaw_of.refused if name != "new" else ())
+        self.reply, self.lacks = reply, ("refused 2",) + (self.flaw_of.refused if name != "new" else ())
         said = self.answer(name, operands)
         return reply if said == "refused 2" and reply in self.lacks else said
 
@@ -210,7 +210,7 @@ def wrong_reply(shape: list, commands: list, output: str, is_short: bool):
     for m, mine in enumerate(own):
         if (line := next(lines, None)) != f"mutator {m}":
             return line, f"mutator {m}"
-        alone = Alone(*shape[:2], is_short, flaw)
+        alone = Alone(*shape[:2], flaw)
         for made in mine:
             line = next(lines, "")
             if line != (plain.answer(*made) if plain else alone.expected(*made, line)):

@@ -2,8 +2,8 @@
 """Refuses each growth of `far_trace split` in turn, on a text whose rounds and audits take memory.
 
 usage: refuse_split.py PROGRAM
-A run must end with status 0 and replies that follow from each mutator's own lines, of which some may be refused for want of
-memory, as may an audit, and a round with its counts; or with `memory`, status 1, and nothing written. Both must come, a round and an
+A run must end with status 0 and replies that follow from each mutator's own lines, of which none is refused for want of
+memory, as an audit may be, and a round with its counts; or with `memory`, status 1, and nothing written. Both must come, a round and an
 audit that are refused, and the whole output. Prints only what is wrong.
 
 The book's thread begins first, and is alone for a while: so the text asks it for much before and between rounds.

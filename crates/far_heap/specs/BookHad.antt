@@ -1,5 +1,5 @@
 -- Why an object was made, dropped or brought, or wasn't: what was so of the heap's book, while its lock was held.
-use Rattle.std.specs.Prelude.{◌≡◌, ℕ, true, false, Option, Some, None, IsSome, Result, Ok, Err, IfOk, IfErr}
+use Rattle.std.specs.Prelude.{◌≡◌, ◌≢◌, ℕ, true, false, Option, Some, None, IsSome, List, length, Result, Ok, Err, IfOk, IfErr}
 use Rattle.far_word.specs.declared.pointer.PtrWord.{PtrWord}
 use Rattle.far_word.specs.declared.pointer.PtrWord.TheVariants.{Free, Near, Far}
 use Rattle.far_word.specs.declared.refused.Refused.{Refused}
@@ -7,14 +7,17 @@ use Rattle.far_word.specs.declared.refused.Refused.TheVariants as why
 use Rattle.far_word.specs.Pointer.{read_of}
 use Rattle.far_word.specs.Sizes.{size_of}
 use Rattle.far_core.specs.state.Room.{room}
+use Rattle.far_device.specs.declared.fault.DeviceFault.{DeviceFault}
+use Rattle.far_device.specs.declared.fault.DeviceFault.TheVariants as fault
 use Rattle.far_core.specs.state.State.{State}
 use Rattle.far_table.specs.declared.book.BookSeat.{BookSeat}
 use Rattle.far_hand.specs.Came.{Came}
 use Rattle.far_table.specs.BookSeats.{seat_makes, seat_may_be, seat_view}
+use Rattle.far_book.specs.book.Fetching.{far_len}
 use Rattle.far_book.specs.book.Ledger.{IsLowestFree}
 use Rattle.far_evac.specs.EvacOf.{EvacOf, moment}
 use Rattle.far_evac.specs.MomentLaw.{IsLawful}
-use Rattle.far_heap.specs.Helping.{PlacesNew, core_of}
+use Rattle.far_heap.specs.Helping.{PlacesNew, cell_in, core_of, says_far}
 use Rattle.far_heap.specs.HeapId.{HeapId, heap_of}
 use Rattle.far_heap.specs.Mine.{IsNoObject, Mine, adopting, is_length, owns, uses}
 
@@ -110,3 +113,19 @@ IsCause other s o = ⊥
 -- of a pointer's
 abbrev pub Unbrought : ℕ → Refused → State → Type 0
 Unbrought p why s = IsCause why s (read_of (s.cell p))
+
+-- what the device answered to the one read of a far object that it didn't give: it was refused memory, or failed, or gave another number of bytes than the object has
+abbrev pub AnswersRead : {D : Type 0} → (D → ℕ → Result (List ℕ) DeviceFault → D → Type 0) → ℕ → Refused → Option PtrWord → D → D → Type 0
+AnswersRead reads p why.Memory o d t = reads d p (Err fault.Memory) t
+AnswersRead reads p why.Device o d t = reads d p (Err fault.Device) t
+AnswersRead reads p why.Damaged o d t = (bytes : List ℕ) × reads d p (Ok bytes) t × (length bytes ≢ far_len o)
+AnswersRead reads p other o d t = ⊥
+
+-- a pointer's cell said far, and so the device answered; it was asked nothing else
+abbrev pub RefusesRead : {D : Type 0} → (D → ℕ → Result (List ℕ) DeviceFault → D → Type 0) → ℕ → Refused → EvacOf (BookSeat D) D → EvacOf (BookSeat D) D → Type 0
+RefusesRead {D} reads p why e f = (says_far (cell_in e p) ≡ true) × AnswersRead reads p why (cell_in e p) e.book.device f.book.device
+
+-- where an object isn't brought, but for want of room, the device answered so
+abbrev pub IsAnswered : (D : Type 0) → HeapId → (D → ℕ → Result (List ℕ) DeviceFault → D → Type 0) → ℕ → Refused → Type 0
+IsAnswered D heap reads p why.NoRoom = Unit {0}
+IsAnswered D heap reads p other = BookDid D heap (RefusesRead reads p other)

@@ -1,13 +1,13 @@
 // A mutator whose scope is open.
-ghost use Rattle.std.specs.Prelude.{◌≡◌, ◌⊎◌, ◌+◌, ◌<◌, ◌≤◌, true, false, length, slice_range, None, Some, Ok, Err, IfOk, IfErr, IfSome};
+ghost use Rattle.std.specs.Prelude.{◌≡◌, ◌≢◌, ◌⊎◌, ◌+◌, ◌<◌, ◌≤◌, true, false, length, slice_range, None, Some, Ok, Err, IfOk, IfErr, IfSome};
 ghost use Rattle.far_heap.specs.Made.{IsFoundSlow, Pinned};
 ghost use Rattle.far_heap.specs.declared.view.Tried.{Tried as any_tried};
 ghost use Rattle.far_heap.specs.MineLaw.{MineLaw};
 ghost use Rattle.far_heap.specs.LogsStay.{LogsStay};
 ghost use Rattle.far_heap.specs.Mine.{Asks, AsksToView, IsNoView, IsOf, TriedSo, access_refusal, bytes_in, closing, drop_refusal, dropping, ds_in, len_in, uses, view_of, viewing, views, writing};
-ghost use Rattle.far_heap.specs.BookHad.{Allocates, BookHad, IsFreed, Unbrought};
+ghost use Rattle.far_heap.specs.BookHad.{Allocates, BookHad, IsAnswered, IsFreed, Unbrought};
 ghost use Rattle.far_word.specs.declared.refused.Refused.{Refused as any_refusal};
-ghost use Rattle.far_word.specs.declared.refused.Refused.TheVariants.{Damaged, NoRoom};
+ghost use Rattle.far_word.specs.declared.refused.Refused.TheVariants.{Damaged, Memory, NoRoom};
 ghost use Rattle.far_word.specs.declared.sizes.TheConstants.{LONGEST};
 
 use crate::heap::Lock;
@@ -112,15 +112,18 @@ impl<K: HeapName, D: Device + Drop> Scope<K, D> {
     /// one is fetched, and one that a round wants is moved to another log.
     ///
     /// Refused [`Refused::NotHeld`] exactly where this mutator doesn't use the pointer; and, never where the scope views it already, [`Refused::NoRoom`]
-    /// only where, as the lock was held, there was no room for it where it was to come; where there was, [`Refused::Memory`] or [`Refused::Device`] as
-    /// the device is, and [`Refused::Damaged`] only where the far side isn't honest. The scope views what it did then. MOVE may have been set anew in the
-    /// cell of an object that isn't viewed yet, by no other call, and only where one pin, before all else, found a word on which no view may rest.
+    /// only where, as the lock was held, there was no room for it where it was to come; where there was, and it was far, [`Refused::Memory`] or
+    /// [`Refused::Device`] as the one read of the device was answered, the first never by one that reads in place, and [`Refused::Damaged`] only where the
+    /// far side isn't honest. The scope views what it did then. MOVE may have been set anew in the cell of an object that isn't viewed yet, by no other
+    /// call, and only where one pin, before all else, found a word on which no view may rest.
     #[inline(always)]
     pub fn view<R: Wait>(&mut self, rt: &R, p: u16) -> Result<View, Refused>
         ensures refused { IfErr result (λ why. IsNoView self.old p why × Asks p self.old self.new) }
         ensures unasked { IfErr result (λ why. (why ≡ NoRoom) ⊎ (self.new ≡ self.old)) }
         ensures viewed { IfOk result (λ view. (uses self.old p ≡ true) × (view ≡ view_of p self.old) × AsksToView p self.old self.new) }
         ensures cause { uses self.old p ≡ true → IfErr result (λ why. BookHad D K.heap (Unbrought p why)) }
+        ensures answered { uses self.old p ≡ true → IfErr result (IsAnswered D K.heap D.reads p) }
+        ensures in_place { D.reads_in_place → result ≢ Err Memory }
         ensures damaged { result ≡ Err Damaged → self.old.honest ≡ false }
         ensures again { views self.old p ≡ true → (result ≡ Ok (view_of p self.old)) × (self.new ≡ self.old) }
         ensures quick { views self.old p ≡ false → IfOk result (λ _. (self.new ≡ viewing p self.old) ⊎ IsFoundSlow p self.old) }

@@ -1,11 +1,11 @@
 // What a mutator does with the lock.
-ghost use Rattle.std.specs.Prelude.{◌≡◌, ◌⊎◌, ◌/◌, ◌<◌, ◌≤◌, true, false, Ok, Err, Some, None, IfOk, IfErr, IfSome, IfNone};
+ghost use Rattle.std.specs.Prelude.{◌≡◌, ◌≢◌, ◌⊎◌, ◌/◌, ◌<◌, ◌≤◌, true, false, Ok, Err, Some, None, IfOk, IfErr, IfSome, IfNone};
 ghost use Rattle.far_heap.specs.Mine.{Asks, AsksToView, IsUnbrought, drop_refusal, dropping, refusal_of, uses, viewing, views};
 ghost use Rattle.far_evac.specs.EvacOf.{SameRound};
 ghost use Rattle.far_heap.specs.Helping.{IsBrought};
-ghost use Rattle.far_heap.specs.BookHad.{Allocates, BookDid, BookHad, HasRoom, IsFreed, LacksRoom, NoneFree, Places, Unbrought};
+ghost use Rattle.far_heap.specs.BookHad.{Allocates, BookDid, BookHad, HasRoom, IsAnswered, IsFreed, LacksRoom, NoneFree, Places, Unbrought};
 ghost use Rattle.far_word.specs.declared.refused.Refused.{Refused as any_refusal};
-ghost use Rattle.far_word.specs.declared.refused.Refused.TheVariants.{NoPointer, NoRoom};
+ghost use Rattle.far_word.specs.declared.refused.Refused.TheVariants.{Memory, NoPointer, NoRoom};
 ghost use Rattle.far_word.specs.declared.sizes.TheConstants.{CELLS, LONGEST};
 
 use crate::evacuator::Evacuator;
@@ -115,6 +115,8 @@ pub(crate) fn view<K: HeapName, D: Device + Drop, R: Wait>(
     requires unviewed { views own.old p ≡ false }
     ensures refused { IfSome (refusal_of result) (λ why. IsUnbrought why × Asks p own.old own.new) }
     ensures cause { IfSome (refusal_of result) (λ why. BookHad D K.heap (Unbrought p why)) }
+    ensures answered { IfSome (refusal_of result) (IsAnswered D K.heap D.reads p) }
+    ensures in_place { D.reads_in_place → refusal_of result ≢ Some Memory }
     ensures unasked { IfSome (refusal_of result) (λ why. (why ≡ NoRoom) ⊎ (own.new ≡ own.old)) }
     ensures viewed { IfNone (refusal_of result) (AsksToView p own.old own.new) }
 {
@@ -147,6 +149,8 @@ fn bring<K: HeapName, D: Device + Drop>(
     requires unviewed { views own.old p ≡ false }
     ensures refused { IfErr result (λ why. IsUnbrought why × Asks p own.old own.new × ((why ≡ NoRoom) ⊎ (own.new ≡ own.old))) }
     ensures cause { IfErr result (λ why. BookHad D K.heap (Unbrought p why)) }
+    ensures answered { IfErr result (IsAnswered D K.heap D.reads p) }
+    ensures in_place { D.reads_in_place → result ≢ Err Memory }
     ensures viewed { result ≡ Ok true → AsksToView p own.old own.new }
     ensures slow { result ≡ Ok false → Asks p own.old own.new }
     ensures round { SameRound book.old book.new }
@@ -189,6 +193,8 @@ fn fetch_or_move<K: HeapName, D: Device + Drop>(
     requires unviewed { views own.old p ≡ false }
     ensures refused { IfErr result (λ why. IsUnbrought why × ((why ≡ NoRoom) ⊎ (own.new ≡ own.old))) }
     ensures cause { IfErr result (λ why. BookHad D K.heap (Unbrought p why)) }
+    ensures answered { IfErr result (IsAnswered D K.heap D.reads p) }
+    ensures in_place { D.reads_in_place → result ≢ Err Memory }
     ensures brought { result ≡ Ok true → IsBrought D.contents D.honest D.faults D.fails_at_most D.lets_go D.forgets D.reads D.reads_in_place book.new p }
     ensures asks { Asks p own.old own.new }
     ensures round { SameRound book.old book.new }

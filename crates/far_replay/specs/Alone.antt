@@ -1,7 +1,7 @@
 -- The replies to one mutator's lines, by its own lines alone.
 use Rattle.std.specs.Prelude.{◌≡◌, ◌≢◌, ℕ, ◌+◌, ◌/◌, ◌<◌, ◌≤◌, ◌⊎◌, Bool, true, false, cond, ◌==◌, ◌&&◌, Option, Some, None, List, [], ◌∷◌, length, replicate, slice_range}
 use Rattle.std.specs.Bool.{MatchBool}
-use Rattle.far_word.specs.declared.refused.Refused.TheVariants.{NoRoom, NoPointer, Length, Closed, AlreadyOpen, NotHeld, Range, Held, Device, Damaged, Marked, Memory}
+use Rattle.far_word.specs.declared.refused.Refused.TheVariants.{NoRoom, NoPointer, Length, Closed, AlreadyOpen, NotHeld, Range, Held, Device, Damaged, Marked}
 use Rattle.far_word.specs.declared.sizes.TheConstants.{CELLS, LONGEST}
 use Rattle.far_core.specs.state.State.{State, put}
 use Rattle.far_core.specs.world.World.{World, Object}
@@ -62,11 +62,9 @@ Knows m o (Mutator _ (Read p from len)) (Refused Range) q = (o.opened ≡ true) 
 Knows m o (Mutator _ (Read p from len)) (Refused NoRoom) q = (o.opened ≡ true) × (o.viewed p ≡ false) × (q ≡ o) × ((all : List ℕ) × (o.object p ≡ Some all) × IsIn all from len)
 Knows m o (Mutator _ (Read p from len)) (Refused Device) q = (o.opened ≡ true) × (o.viewed p ≡ false) × (q ≡ o) × ((all : List ℕ) × (o.object p ≡ Some all) × IsIn all from len)
 Knows m o (Mutator _ (Read p from len)) (Refused Damaged) q = (o.opened ≡ true) × (o.viewed p ≡ false) × (q ≡ o) × ((all : List ℕ) × (o.object p ≡ Some all) × IsIn all from len)
-Knows m o (Mutator _ (Read p from len)) (Refused Memory) q = (o.opened ≡ true) × (o.viewed p ≡ false) × (q ≡ o) × ((all : List ℕ) × (o.object p ≡ Some all) × IsIn all from len)
 Knows m o (Mutator _ (Write p from new)) (Refused NoRoom) q = (o.opened ≡ true) × (o.viewed p ≡ false) × (q ≡ o) × ((all : List ℕ) × (o.object p ≡ Some all) × IsIn all from (length new))
 Knows m o (Mutator _ (Write p from new)) (Refused Device) q = (o.opened ≡ true) × (o.viewed p ≡ false) × (q ≡ o) × ((all : List ℕ) × (o.object p ≡ Some all) × IsIn all from (length new))
 Knows m o (Mutator _ (Write p from new)) (Refused Damaged) q = (o.opened ≡ true) × (o.viewed p ≡ false) × (q ≡ o) × ((all : List ℕ) × (o.object p ≡ Some all) × IsIn all from (length new))
-Knows m o (Mutator _ (Write p from new)) (Refused Memory) q = (o.opened ≡ true) × (o.viewed p ≡ false) × (q ≡ o) × ((all : List ℕ) × (o.object p ≡ Some all) × IsIn all from (length new))
 Knows m o (Mutator _ (Write p from new)) Done q = (o.opened ≡ true) × ((all : List ℕ) × (o.object p ≡ Some all) × IsIn all from (length new) × (q ≡ record o { object = put o.object p (Some (with_range all from new)); viewed = put o.viewed p true }))
 Knows m o (Mutator _ (Write p from new)) (Refused Closed) q = (o.opened ≡ false) × (q ≡ o)
 Knows m o (Mutator _ (Write p from new)) (Refused NotHeld) q = (o.opened ≡ true) × (o.object p ≡ None) × (q ≡ o)
@@ -82,7 +80,6 @@ Knows m o (Mutator _ (View p)) (Refused NotHeld) q = (o.opened ≡ true) × (o.o
 Knows m o (Mutator _ (View p)) (Refused NoRoom) q = (o.opened ≡ true) × (o.viewed p ≡ false) × (q ≡ o) × ((all : List ℕ) × (o.object p ≡ Some all))
 Knows m o (Mutator _ (View p)) (Refused Device) q = (o.opened ≡ true) × (o.viewed p ≡ false) × (q ≡ o) × ((all : List ℕ) × (o.object p ≡ Some all))
 Knows m o (Mutator _ (View p)) (Refused Damaged) q = (o.opened ≡ true) × (o.viewed p ≡ false) × (q ≡ o) × ((all : List ℕ) × (o.object p ≡ Some all))
-Knows m o (Mutator _ (View p)) (Refused Memory) q = (o.opened ≡ true) × (o.viewed p ≡ false) × (q ≡ o) × ((all : List ℕ) × (o.object p ≡ Some all))
 Knows m o (Mutator _ (Try p)) Done q = (o.opened ≡ true) × (q ≡ record o { viewed = put o.viewed p true }) × ((all : List ℕ) × (o.object p ≡ Some all))
 Knows m o (Mutator _ (Try p)) (Refused Closed) q = (o.opened ≡ false) × (q ≡ o)
 Knows m o (Mutator _ (Try p)) (Refused NotHeld) q = (o.opened ≡ true) × (o.object p ≡ None) × (q ≡ o)

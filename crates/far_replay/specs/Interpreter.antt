@@ -24,7 +24,7 @@ use Rattle.far_word.specs.declared.refused.Refused.TheVariants.{Damaged, Device,
 use Rattle.far_replay.specs.Dereference.{RefusesBringing, asked_for, come, comes_to, dereferenced, has_no_room, says_near, sought}
 use Rattle.far_replay.specs.Effects.{is_slow, with_view}
 use Rattle.far_core.specs.state.Law.{StoresBack}
-use Rattle.far_replay.specs.Commanded.{Outside, Serves, Refuses, Gives, Lacks}
+use Rattle.far_replay.specs.Commanded.{KeepsFar, Outside, Serves, Refuses, Gives, Lacks}
 use Rattle.far_replay.specs.Far.{FarBytes, HoldsSame, IsTold, far_in}
 use Rattle.far_replay.specs.Moment.{FarSide, KeepsRound, state_in, with_stored}
 use Rattle.far_replay.specs.Spent.{SpentBy}
@@ -139,6 +139,16 @@ pub record Views (old new : EvacOf Plain FarSide) (m p : ℕ) (o : Outside) : Ty
   pub order : new.book.order ≡ order_come (asked_for (as_given o (state_in old) p (state_in old)) m p) old.book.order p
   pub stored : (state_in new).stored ≡ (state_in old).stored
   pub spent : SpentBy o old new
+
+-- it comes near and is viewed there; or it is refused as above, and then a reason that far objects alone have is of a far one
+pub record BringsToView (old new : EvacOf Plain FarSide) (m p : ℕ) (result : Result (Unit {0}) Refusal) : Type 0 where
+  pub done : IfOk result (λ _. (o : Outside) × Views old new m p o)
+  pub refused : IfErr result (λ why. RefusesBringing (asked_for (state_in old) m p) p why (state_in new))
+  pub shut : IfErr result (λ _. new.book.order ≡ old.book.order)
+  pub round : KeepsRound old new
+  pub spent : IfErr result (λ why. SpentBy (refuser why) old new)
+  pub same : HoldsSame old new
+  pub far : IfErr result (λ why. KeepsFar why → says_near (read_of ((state_in old).cell p)) ≡ false)
 
 -- what the outside made of a step that the evacuator answered so
 abbrev pub stopper_of : Refusal → Outside

@@ -1,17 +1,17 @@
 //! How an owner opens its scope and views an object.
 
-ghost use Rattle.std.specs.Prelude.{◌≡◌, ◌/◌, ℕ, true, false, None, IsSome, IfOk, IfErr};
+ghost use Rattle.std.specs.Prelude.{◌≡◌, ◌/◌, true, false, None, IsSome, IfOk, IfErr};
 ghost use Rattle.far_word.specs.declared.sizes.TheConstants.{CELLS};
 ghost use Rattle.far_core.specs.events.Step.{is_opened};
 ghost use Rattle.far_word.specs.Pointer.{read_of};
 ghost use Rattle.far_replay.specs.Commanded.{KeepsFar, Outside};
-ghost use Rattle.far_replay.specs.Dereference.{RefusesBringing, RefusesView, asked_for, says_near};
+ghost use Rattle.far_replay.specs.Dereference.{RefusesView, says_near};
 ghost use Rattle.far_replay.specs.NotCome.{IsWhyNot, as_refused, why_of};
 ghost use Rattle.far_replay.specs.Effects.{is_slow, with_view};
 ghost use Rattle.far_replay.specs.EventRows.{after_events};
 ghost use Rattle.far_replay.specs.Events.{open_events};
 ghost use Rattle.far_replay.specs.Far.{HoldsSame};
-ghost use Rattle.far_replay.specs.Interpreter.{Brings, Dereferences, Views, refuser};
+ghost use Rattle.far_replay.specs.Interpreter.{Brings, BringsToView, Dereferences, refuser};
 ghost use Rattle.far_replay.specs.Moment.{KeepsRound, state_in};
 ghost use Rattle.far_replay.specs.Spent.{SpentBy};
 
@@ -138,13 +138,7 @@ fn bring_and_view(evac: &mut Evac<Plain, FarSide>, owner: u8, pointer: u16) -> R
     requires own { pointer / CELLS ≡ owner }
     requires used { (state_in evac.old).used pointer ≡ true }
     requires unheld { (state_in evac.old).held pointer ≡ None }
-    ensures done { IfOk result (λ _. (o : Outside) × Views evac.old evac.new owner pointer o) }
-    ensures refused { IfErr result (λ why. RefusesBringing (asked_for (state_in evac.old) owner pointer) pointer why (state_in evac.new)) }
-    ensures shut { IfErr result (λ _. evac.new.book.order ≡ evac.old.book.order) }
-    ensures round { KeepsRound evac.old evac.new }
-    ensures spent { IfErr result (λ why. SpentBy (refuser why) evac.old evac.new) }
-    ensures same { HoldsSame evac.old evac.new }
-    ensures far { IfErr result (λ why. KeepsFar why → says_near (read_of ((state_in evac.old).cell pointer)) ≡ false) }
+    ensures viewed { BringsToView evac.old evac.new owner pointer result }
 {
     match bring_apart(evac, owner, pointer) {
         Ok(()) => Ok(()),
@@ -159,13 +153,7 @@ fn bring_apart(evac: &mut Evac<Plain, FarSide>, owner: u8, pointer: u16) -> Resu
     requires own { pointer / CELLS ≡ owner }
     requires used { (state_in evac.old).used pointer ≡ true }
     requires unheld { (state_in evac.old).held pointer ≡ None }
-    ensures done { IfOk (as_refused result) (λ _. (o : Outside) × Views evac.old evac.new owner pointer o) }
-    ensures refused { IfErr (as_refused result) (λ why. RefusesBringing (asked_for (state_in evac.old) owner pointer) pointer why (state_in evac.new)) }
-    ensures shut { IfErr (as_refused result) (λ _. evac.new.book.order ≡ evac.old.book.order) }
-    ensures round { KeepsRound evac.old evac.new }
-    ensures spent { IfErr (as_refused result) (λ why. SpentBy (refuser why) evac.old evac.new) }
-    ensures same { HoldsSame evac.old evac.new }
-    ensures far { IfErr (as_refused result) (λ why. KeepsFar why → says_near (read_of ((state_in evac.old).cell pointer)) ≡ false) }
+    ensures viewed { BringsToView evac.old evac.new owner pointer (as_refused result) }
 {
     match bring_and_pin(evac, owner, pointer) {
         Ok(()) => Ok(()),
@@ -180,13 +168,7 @@ fn bring_and_pin(evac: &mut Evac<Plain, FarSide>, owner: u8, pointer: u16) -> Re
     requires own { pointer / CELLS ≡ owner }
     requires used { (state_in evac.old).used pointer ≡ true }
     requires unheld { (state_in evac.old).held pointer ≡ None }
-    ensures done { IfOk result (λ _. (o : Outside) × Views evac.old evac.new owner pointer o) }
-    ensures refused { IfErr result (λ why. RefusesBringing (asked_for (state_in evac.old) owner pointer) pointer why (state_in evac.new)) }
-    ensures shut { IfErr result (λ _. evac.new.book.order ≡ evac.old.book.order) }
-    ensures round { KeepsRound evac.old evac.new }
-    ensures spent { IfErr result (λ why. SpentBy (refuser why) evac.old evac.new) }
-    ensures same { HoldsSame evac.old evac.new }
-    ensures far { IfErr result (λ why. KeepsFar why → says_near (read_of ((state_in evac.old).cell pointer)) ≡ false) }
+    ensures viewed { BringsToView evac.old evac.new owner pointer result }
 {
     match bring(evac, owner, pointer) {
         Ok(()) => {

@@ -5,7 +5,7 @@ use Rattle.std.proofs.lemmas.Bool.{cases_eq, eq-eqb, false≢true, ltb-true}
 use Rattle.far_word.specs.declared.pointer.PtrWord.{PtrWord}
 use Rattle.far_word.specs.declared.pointer.PtrWord.TheVariants.{Free, Near, Far}
 use Rattle.far_word.specs.declared.refused.Refused.{Refused as Refusal}
-use Rattle.far_word.specs.declared.refused.Refused.TheVariants.{NoRoom, NoPointer, Length, Closed, AlreadyOpen, NotHeld, Range, Held, Device, Damaged, Marked, Memory}
+use Rattle.far_word.specs.declared.refused.Refused.TheVariants.{NoRoom, NoPointer, Length, Closed, AlreadyOpen, NotHeld, Range, Held, Device, Damaged, Marked}
 use Rattle.far_word.specs.declared.sizes.TheConstants.{CELLS}
 use Rattle.far_word.specs.Pointer.{read_of}
 use Rattle.far_book.specs.book.FarSide.{kept_len}
@@ -64,11 +64,9 @@ knows_objects m o q (Mutator k (Read p from len)) (Refused Range) h x ne = ap (�
 knows_objects m o q (Mutator k (Read p from len)) (Refused NoRoom) h x ne = ap (λ (y : Own). y.object x) h.2
 knows_objects m o q (Mutator k (Read p from len)) (Refused Device) h x ne = ap (λ (y : Own). y.object x) h.2
 knows_objects m o q (Mutator k (Read p from len)) (Refused Damaged) h x ne = ap (λ (y : Own). y.object x) h.2
-knows_objects m o q (Mutator k (Read p from len)) (Refused Memory) h x ne = ap (λ (y : Own). y.object x) h.2
 knows_objects m o q (Mutator k (Write p from new)) (Refused NoRoom) h x ne = ap (λ (y : Own). y.object x) h.2
 knows_objects m o q (Mutator k (Write p from new)) (Refused Device) h x ne = ap (λ (y : Own). y.object x) h.2
 knows_objects m o q (Mutator k (Write p from new)) (Refused Damaged) h x ne = ap (λ (y : Own). y.object x) h.2
-knows_objects m o q (Mutator k (Write p from new)) (Refused Memory) h x ne = ap (λ (y : Own). y.object x) h.2
 knows_objects m o q (Mutator k (Write p from new)) Done (opened, (all, is, inside, then)) x ne = ap (λ (y : Own). y.object x) then ∙ put_other o.object p (Some (with_range all from new)) x ne
 knows_objects m o q (Mutator k (Write p from new)) (Refused Closed) h x ne = ap (λ (y : Own). y.object x) h.1
 knows_objects m o q (Mutator k (Write p from new)) (Refused NotHeld) h x ne = ap (λ (y : Own). y.object x) h.2
@@ -84,7 +82,6 @@ knows_objects m o q (Mutator k (View p)) (Refused NotHeld) h x ne = ap (λ (y : 
 knows_objects m o q (Mutator k (View p)) (Refused NoRoom) h x ne = ap (λ (y : Own). y.object x) h.2
 knows_objects m o q (Mutator k (View p)) (Refused Device) h x ne = ap (λ (y : Own). y.object x) h.2
 knows_objects m o q (Mutator k (View p)) (Refused Damaged) h x ne = ap (λ (y : Own). y.object x) h.2
-knows_objects m o q (Mutator k (View p)) (Refused Memory) h x ne = ap (λ (y : Own). y.object x) h.2
 knows_objects m o q (Mutator k (Try p)) Done h x ne = ap (λ (y : Own). y.object x) h.1
 knows_objects m o q (Mutator k (Try p)) (Refused Closed) h x ne = ap (λ (y : Own). y.object x) h.1
 knows_objects m o q (Mutator k (Try p)) (Refused NotHeld) h x ne = ap (λ (y : Own). y.object x) h.2

@@ -1,5 +1,5 @@
 -- Answers of the heap's calls are those of a mutator that is alone with its lines, or is hindered, or is given other bytes than it wrote.
-use Rattle.std.proofs.Common.{◌≡◌, ◌⊎◌, ℕ, ◌+◌, ◌-◌, ◌/◌, ◌<◌, ◌≤◌, Bool, true, false, Option, Some, None, List, ◌++◌, length, take, drop, get_or, replicate, refl, sym, ap, subst, ◌∙◌, inl, inr, arith}
+use Rattle.std.proofs.Common.{◌≡◌, ◌≢◌, ◌⊎◌, ℕ, ◌+◌, ◌-◌, ◌/◌, ◌<◌, ◌≤◌, Bool, true, false, Option, Some, None, List, ◌++◌, length, take, drop, get_or, replicate, refl, sym, ap, subst, ◌∙◌, inl, inr, arith}
 use Rattle.std.specs.Prelude.{◌&&◌, IfSome, if◌then◌else◌, nat_le, slice_range}
 use Rattle.std.proofs.Math.Seq.{take-append_seam}
 use Rattle.std.proofs.lemmas.Bool.{eqb-true, false≢true, le-leb}
@@ -53,16 +53,15 @@ no_view false v why h = inl (refl, h)
 
 -- an object that isn't viewed can't be brought
 module _ {heap : HeapId} (m : Mine) (o : Own) (opened : o.opened ≡ true) (p : ℕ) (all : List ℕ) (known : o.object p ≡ Some all) (why : Refusal) (unviewed : o.viewed p ≡ false) (is : IsUnbrought why)
-    (honestly : why ≡ Damaged → m.honest ≡ false) (cause : BookHad FarSide heap (Unbrought p why)) where
-  unbrought : (request : Request) → (BookHad FarSide heap (Unbrought p NoRoom) → IsToldSo heap m o request NoRoom) → (BookHad FarSide heap (Unbrought p Memory) → IsToldSo heap m o request Memory)
-      → (BookHad FarSide heap (Unbrought p Device) → IsToldSo heap m o request Device) → ((m.honest ≡ true → IsUndamaged (Refused Damaged)) → BookHad FarSide heap (Unbrought p Damaged) → IsToldSo heap m o request Damaged)
+    (honestly : why ≡ Damaged → m.honest ≡ false) (never : why ≢ Memory) (cause : BookHad FarSide heap (Unbrought p why)) where
+  unbrought : (request : Request) → (BookHad FarSide heap (Unbrought p NoRoom) → IsToldSo heap m o request NoRoom) → (BookHad FarSide heap (Unbrought p Device) → IsToldSo heap m o request Device) → ((m.honest ≡ true → IsUndamaged (Refused Damaged)) → BookHad FarSide heap (Unbrought p Damaged) → IsToldSo heap m o request Damaged)
       → IsToldSo heap m o request why
-  unbrought request buffer memory device damaged =
+  unbrought request buffer device damaged =
       let by : (other : Refusal) → why ≡ other → (BookHad FarSide heap (Unbrought p other) → IsToldSo heap m o request other) → IsToldSo heap m o request why
       = λ other e told. subst (IsToldSo heap m o request) (sym e) (told (subst (λ (x : Refusal). BookHad FarSide heap (Unbrought p x)) e cause)) in
       elim is [
         | inl e ↦ by NoRoom e buffer
-        | inr (inl e) ↦ by Memory e memory
+        | inr (inl e) ↦ absurd (never e)
         | inr (inr (inl e)) ↦ by Device e device
         | inr (inr (inr e)) ↦ by Damaged e (damaged (λ honest. false≢true (sym (honestly e) ∙ honest)))
       ]
@@ -71,7 +70,6 @@ module _ {heap : HeapId} (m : Mine) (o : Own) (opened : o.opened ≡ true) (p : 
   unbrought_view =
       unbrought (View p)
       (λ had. (plainly m.honest m.number o (Mutator m.number (View p)) (Refused NoRoom) o (opened, unviewed, refl, (all, known)) (λ _. tt), had))
-      (λ had. (plainly m.honest m.number o (Mutator m.number (View p)) (Refused Memory) o (opened, unviewed, refl, (all, known)) (λ _. tt), had))
       (λ had. (plainly m.honest m.number o (Mutator m.number (View p)) (Refused Device) o (opened, unviewed, refl, (all, known)) (λ _. tt), had))
       (λ whole had. (plainly m.honest m.number o (Mutator m.number (View p)) (Refused Damaged) o (opened, unviewed, refl, (all, known)) whole, had))
 
@@ -80,7 +78,6 @@ module _ {heap : HeapId} (m : Mine) (o : Own) (opened : o.opened ≡ true) (p : 
     unbrought_read count some fits =
         unbrought (Read p from count)
         (λ had. (plainly m.honest m.number o (Mutator m.number (Read p from count)) (Refused NoRoom) o (opened, unviewed, refl, (all, known, (some, fits))) (λ _. tt), had))
-        (λ had. (plainly m.honest m.number o (Mutator m.number (Read p from count)) (Refused Memory) o (opened, unviewed, refl, (all, known, (some, fits))) (λ _. tt), had))
         (λ had. (plainly m.honest m.number o (Mutator m.number (Read p from count)) (Refused Device) o (opened, unviewed, refl, (all, known, (some, fits))) (λ _. tt), had))
         (λ whole had. (plainly m.honest m.number o (Mutator m.number (Read p from count)) (Refused Damaged) o (opened, unviewed, refl, (all, known, (some, fits))) whole, had))
 
@@ -88,7 +85,6 @@ module _ {heap : HeapId} (m : Mine) (o : Own) (opened : o.opened ≡ true) (p : 
     unbrought_write new some fits =
         unbrought (Write p from new)
         (λ had. (plainly m.honest m.number o (Mutator m.number (Write p from new)) (Refused NoRoom) o (opened, unviewed, refl, (all, known, (some, fits))) (λ _. tt), had))
-        (λ had. (plainly m.honest m.number o (Mutator m.number (Write p from new)) (Refused Memory) o (opened, unviewed, refl, (all, known, (some, fits))) (λ _. tt), had))
         (λ had. (plainly m.honest m.number o (Mutator m.number (Write p from new)) (Refused Device) o (opened, unviewed, refl, (all, known, (some, fits))) (λ _. tt), had))
         (λ whole had. (plainly m.honest m.number o (Mutator m.number (Write p from new)) (Refused Damaged) o (opened, unviewed, refl, (all, known, (some, fits))) whole, had))
 
@@ -221,7 +217,7 @@ module _ {heap : HeapId} (m : Mine) (law : MineLaw m) where
           (known.all, known.is, (ds_in m p, subst (λ l. IsSlow l (ds_in m p) (read_of word)) (sym known.long) slow)),
         )))
 
-    module _ (n : Mine) (why : Refusal) (no : IsNoView m p why) (asks : Asks p m n) (honestly : why ≡ Damaged → m.honest ≡ false) (cause : uses m p ≡ true → BookHad FarSide heap (Unbrought p why)) where
+    module _ (n : Mine) (why : Refusal) (no : IsNoView m p why) (asks : Asks p m n) (honestly : why ≡ Damaged → m.honest ≡ false) (never : why ≢ Memory) (cause : uses m p ≡ true → BookHad FarSide heap (Unbrought p why)) where
       unanswered : (request : Request) → ((o : Own) → IsOwn m o → IsToldSo heap m o request why) → Answers heap m request (Refused why) n
       unanswered request told = subst (λ (z : Mine). Answers heap m request (Refused why) z) (sym asks.1) (record {
         learns = λ o is. (let both = told o is in record { own = o; is = record { opened = is.opened; viewed = is.viewed; object = is.object }; knows = both.0; tells = both.1 });
@@ -234,7 +230,7 @@ module _ {heap : HeapId} (m : Mine) (law : MineLaw m) where
       pub unviewed : Answers heap m (View p) (Refused why) n
       unviewed = unanswered (View p) (λ o is. elim (no_view (uses m p) (views m p) why no) [
         | inl h ↦ subst (IsToldSo heap m o (View p)) (sym h.1) (plainly m.honest m.number o (Mutator m.number (View p)) (Refused NotHeld) o (is.opened ∙ opened, unused_none m o is p h.0, refl) (λ _. tt), tt)
-        | inr h ↦ (let known = used_known m o is p h.0 in unbrought_view m o (is.opened ∙ opened) p known.all known.is why (is.viewed p ∙ h.1) h.2 honestly (cause h.0))
+        | inr h ↦ (let known = used_known m o is p h.0 in unbrought_view m o (is.opened ∙ opened) p known.all known.is why (is.viewed p ∙ h.1) h.2 honestly never (cause h.0))
       ])
 
       module _ (used : uses m p ≡ true) (from : ℕ) where
@@ -242,14 +238,14 @@ module _ {heap : HeapId} (m : Mine) (law : MineLaw m) where
         unread count some fits = unanswered (Read p from count) (λ o is. elim (no_view (uses m p) (views m p) why no) [
           | inl h ↦ absurd (false≢true (sym h.0 ∙ used))
           | inr h ↦ (let known = used_known m o is p used in
-              unbrought_read m o (is.opened ∙ opened) p known.all known.is why (is.viewed p ∙ h.1) h.2 honestly (cause used) from count some (omega (arith, fits, known.long)))
+              unbrought_read m o (is.opened ∙ opened) p known.all known.is why (is.viewed p ∙ h.1) h.2 honestly never (cause used) from count some (omega (arith, fits, known.long)))
         ])
 
         unwritten : (new : List ℕ) → 0 < length new → from + length new ≤ len_in m p → Answers heap m (Write p from new) (Refused why) n
         unwritten new some fits = unanswered (Write p from new) (λ o is. elim (no_view (uses m p) (views m p) why no) [
           | inl h ↦ absurd (false≢true (sym h.0 ∙ used))
           | inr h ↦ (let known = used_known m o is p used in
-              unbrought_write m o (is.opened ∙ opened) p known.all known.is why (is.viewed p ∙ h.1) h.2 honestly (cause used) from new some (omega (arith, fits, known.long)))
+              unbrought_write m o (is.opened ∙ opened) p known.all known.is why (is.viewed p ∙ h.1) h.2 honestly never (cause used) from new some (omega (arith, fits, known.long)))
         ])
 
     -- the object is viewed, and some of its bytes are read or written
@@ -326,10 +322,10 @@ whole out items n e = subst (λ k. take k (out ++ drop (length out) items) ≡ o
 -- ---- what they answer of a range that was looked at first
 module _ {heap : HeapId} (m : Mine) (law : MineLaw m) (opened : m.opened ≡ true) (p from : ℕ) where
   module _ (count : ℕ) (a : Access) (is : IsReached m p from count a) (n : Mine) where
-    pub unread_at : (why : Refusal) → IsNoView m a.pointer why → Asks a.pointer m n → (why ≡ Damaged → m.honest ≡ false) → (uses m a.pointer ≡ true → BookHad FarSide heap (Unbrought a.pointer why))
+    pub unread_at : (why : Refusal) → IsNoView m a.pointer why → Asks a.pointer m n → (why ≡ Damaged → m.honest ≡ false) → why ≢ Memory → (uses m a.pointer ≡ true → BookHad FarSide heap (Unbrought a.pointer why))
         → Answers heap m (Read p from count) (Refused why) n
-    unread_at why failed asks honestly cause =
-        unread m law opened p n why (subst (λ q. IsNoView m q why) is.0 failed) (subst (λ q. Asks q m n) is.0 asks) honestly
+    unread_at why failed asks honestly never cause =
+        unread m law opened p n why (subst (λ q. IsNoView m q why) is.0 failed) (subst (λ q. Asks q m n) is.0 asks) honestly never
         (subst (λ q. uses m q ≡ true → BookHad FarSide heap (Unbrought q why)) is.0 cause) is.3 from count is.4 is.5
 
     -- the room has as many bytes as were asked for
@@ -344,10 +340,10 @@ module _ {heap : HeapId} (m : Mine) (law : MineLaw m) (opened : m.opened ≡ tru
         (has_read m law opened p is.3 n (subst (λ q. AsksToView q m n) is.0 views) from count out is.4 is.5 (long ∙ many ∙ is.2) ended))
 
   module _ (new : List ℕ) (a : Access) (is : IsReached m p from (length new) a) (n : Mine) where
-    pub unwritten_at : (why : Refusal) → IsNoView m a.pointer why → Asks a.pointer m n → (why ≡ Damaged → m.honest ≡ false) → (uses m a.pointer ≡ true → BookHad FarSide heap (Unbrought a.pointer why))
+    pub unwritten_at : (why : Refusal) → IsNoView m a.pointer why → Asks a.pointer m n → (why ≡ Damaged → m.honest ≡ false) → why ≢ Memory → (uses m a.pointer ≡ true → BookHad FarSide heap (Unbrought a.pointer why))
         → Answers heap m (Write p from new) (Refused why) n
-    unwritten_at why failed asks honestly cause =
-        unwritten m law opened p n why (subst (λ q. IsNoView m q why) is.0 failed) (subst (λ q. Asks q m n) is.0 asks) honestly
+    unwritten_at why failed asks honestly never cause =
+        unwritten m law opened p n why (subst (λ q. IsNoView m q why) is.0 failed) (subst (λ q. Asks q m n) is.0 asks) honestly never
         (subst (λ q. uses m q ≡ true → BookHad FarSide heap (Unbrought q why)) is.0 cause) is.3 from new is.4 is.5
 
     pub written_at : (v : ℕ) (later : Mine) → AsksToView a.pointer m n → v ≡ a.pointer → later ≡ writing v a.from new n → Answers heap m (Write p from new) Done later

@@ -2,7 +2,7 @@
 use Rattle.std.proofs.Common.{◌≡◌, inl, inr, ℕ, ◌+◌, Some, None, Option, List, length, refl, sym, ap, ◌∙◌, arith}
 use Rattle.std.specs.Prelude.{slice_range}
 use Rattle.std.proofs.lemmas.Option.{none-some}
-use Rattle.far_word.specs.declared.refused.Refused.TheVariants.{Closed, Damaged, Device, Memory, NoRoom, NotHeld, Range}
+use Rattle.far_word.specs.declared.refused.Refused.TheVariants.{Closed, Damaged, Device, NoRoom, NotHeld, Range}
 use Rattle.far_core.specs.state.State.{put}
 use Rattle.far_core.proofs.Put.{put_same}
 use Rattle.far_text.specs.Command.{Mutator, Read, View, Write}
@@ -43,20 +43,17 @@ refusals_lawful m o (Mutator j (Read k from len)) Range q (inr (inr g)) = inl (o
 refusals_lawful m o (Mutator j (Read k from len)) NoRoom q (inr (inr g)) = inl (o, (g.knows.0, g.knows.1, refl, still_in o g.p k g.asks.1 g.old g.new g.had g.long from len g.knows.3))
 refusals_lawful m o (Mutator j (Read k from len)) Device q (inr (inr g)) = inl (o, (g.knows.0, g.knows.1, refl, still_in o g.p k g.asks.1 g.old g.new g.had g.long from len g.knows.3))
 refusals_lawful m o (Mutator j (Read k from len)) Damaged q (inr (inr g)) = inl (o, (g.knows.0, g.knows.1, refl, still_in o g.p k g.asks.1 g.old g.new g.had g.long from len g.knows.3))
-refusals_lawful m o (Mutator j (Read k from len)) Memory q (inr (inr g)) = inl (o, (g.knows.0, g.knows.1, refl, still_in o g.p k g.asks.1 g.old g.new g.had g.long from len g.knows.3))
 refusals_lawful m o (Mutator j (Write k from bytes)) Closed q (inr (inr g)) = inl (o, (g.knows.0, refl))
 refusals_lawful m o (Mutator j (Write k from bytes)) NotHeld q (inr (inr g)) = absurd (never_none o g.p k g.asks.1 g.old g.new g.had g.long g.knows.1)
 refusals_lawful m o (Mutator j (Write k from bytes)) Range q (inr (inr g)) = inl (o, (g.knows.0, refl, still_out o g.p k g.asks.1 g.old g.new g.had g.long from (length bytes) g.knows.2))
 refusals_lawful m o (Mutator j (Write k from bytes)) NoRoom q (inr (inr g)) = inl (o, (g.knows.0, g.knows.1, refl, still_in o g.p k g.asks.1 g.old g.new g.had g.long from (length bytes) g.knows.3))
 refusals_lawful m o (Mutator j (Write k from bytes)) Device q (inr (inr g)) = inl (o, (g.knows.0, g.knows.1, refl, still_in o g.p k g.asks.1 g.old g.new g.had g.long from (length bytes) g.knows.3))
 refusals_lawful m o (Mutator j (Write k from bytes)) Damaged q (inr (inr g)) = inl (o, (g.knows.0, g.knows.1, refl, still_in o g.p k g.asks.1 g.old g.new g.had g.long from (length bytes) g.knows.3))
-refusals_lawful m o (Mutator j (Write k from bytes)) Memory q (inr (inr g)) = inl (o, (g.knows.0, g.knows.1, refl, still_in o g.p k g.asks.1 g.old g.new g.had g.long from (length bytes) g.knows.3))
 refusals_lawful m o (Mutator j (View k)) Closed q (inr (inr g)) = inl (o, (g.knows.0, refl))
 refusals_lawful m o (Mutator j (View k)) NotHeld q (inr (inr g)) = absurd (never_none o g.p k g.asks.1 g.old g.new g.had g.long g.knows.1)
 refusals_lawful m o (Mutator j (View k)) NoRoom q (inr (inr g)) = inl (o, (g.knows.0, g.knows.1, refl, (g.old, was o g.p k g.asks.1 g.old g.new g.had g.long)))
 refusals_lawful m o (Mutator j (View k)) Device q (inr (inr g)) = inl (o, (g.knows.0, g.knows.1, refl, (g.old, was o g.p k g.asks.1 g.old g.new g.had g.long)))
 refusals_lawful m o (Mutator j (View k)) Damaged q (inr (inr g)) = inl (o, (g.knows.0, g.knows.1, refl, (g.old, was o g.p k g.asks.1 g.old g.new g.had g.long)))
-refusals_lawful m o (Mutator j (View k)) Memory q (inr (inr g)) = inl (o, (g.knows.0, g.knows.1, refl, (g.old, was o g.p k g.asks.1 g.old g.new g.had g.long)))
 refusals_lawful m o (Mutator j (Read k from len)) why q (inr (inr g)) = absurd g.knows
 refusals_lawful m o (Mutator j (Write k from bytes)) why q (inr (inr g)) = absurd g.knows
 refusals_lawful m o (Mutator j (View k)) why q (inr (inr g)) = absurd g.knows

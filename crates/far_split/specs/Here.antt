@@ -1,14 +1,14 @@
 -- The replies to one mutator's own lines, on a heap that others use beside it.
 use Rattle.std.specs.Prelude.{◌≡◌, ℕ, ◌<◌, ◌≤◌, ◌⊎◌, Bool, true, false, Some, List, [], ◌∷◌, length, map}
 use Rattle.far_word.specs.Pointer.{read_of}
-use Rattle.far_word.specs.declared.refused.Refused.TheVariants.{Damaged, Device, Marked, Memory, NoPointer, NoRoom}
+use Rattle.far_word.specs.declared.refused.Refused.TheVariants.{Damaged, Device, Marked, NoPointer, NoRoom}
 use Rattle.far_word.specs.declared.sizes.TheConstants.{LONGEST}
 use Rattle.far_core.specs.state.State.{put}
 use Rattle.far_heap.specs.BookHad.{BookHad, HasRoom, LacksRoom, NoneFree, Unbrought}
 use Rattle.far_heap.specs.HeapId.{HeapId}
 use Rattle.far_heap.specs.Mine.{IsSlow}
 use Rattle.far_text.specs.Command.{Command, Mutator, New, Read, Try, View, Write}
-use Rattle.far_replay.specs.Alone.{Alone, IsIn, Knows, KnowsBy, Own, is_by, speaker}
+use Rattle.far_replay.specs.Alone.{Alone, Knows, KnowsBy, Own, is_by, speaker}
 use Rattle.far_replay.specs.Commanded.{AsksFor}
 use Rattle.far_reply.specs.Reply.{Reply, Pointer, Refused}
 use Rattle.far_split.specs.FarSides.{FarSide}
@@ -16,7 +16,7 @@ use Rattle.far_split.specs.FarSides.{FarSide}
 -- a command is refused by what others, rounds and the system do meanwhile, and what the mutator knows stays as it is. No earlier refusal of the command's row
 -- applies, with one gap: of a new object that finds no room it isn't said that the mutator has a pointer without an object by its own lines (`HasLeft` of `Knows`), but
 -- only that a cell of one of its pointers was free (`TellsOfHeap`). A new object may want a pointer although one is unused, since the cell of a dropped object is free
--- only once a round came by; or room. What a plain heap refuses too, for want of room or of memory, or by its device or a mark, is in `Knows`
+-- only once a round came by; or room. What a plain heap refuses too, for want of room, or by its device or a mark, is in `Knows`
 abbrev pub Hindered : Own → Command → Reply → Own → Type 0
 Hindered o (Mutator _ (New len ds)) (Refused NoPointer) q = (ds < 256) × (0 < len) × (len ≤ LONGEST) × (q ≡ o)
 Hindered o (Mutator _ (New len ds)) (Refused NoRoom) q = (ds < 256) × (0 < len) × (len ≤ LONGEST) × (q ≡ o)
@@ -57,21 +57,18 @@ IsWordOf all word = (ds : ℕ) × IsSlow (length all) ds (read_of word)
 
 -- what a reply tells of the heap, beside what the mutator knows: what was so of its book while its lock was held. A new object has the lowest of the mutator's pointers
 -- whose cell was free; it is refused 3 where none was, 2 where one was and there was no room for it. An object isn't brought where there was no room, or there was and the
--- device had no memory, failed, or gave another number of bytes. What 14 tells is a word of the object
+-- device failed, or gave another number of bytes. What 14 tells is a word of the object
 abbrev pub TellsOfHeap : HeapId → ℕ → Own → Command → Reply → Type 0
 TellsOfHeap heap m o (Mutator _ (New len ds)) (Pointer p) = BookHad FarSide heap (HasRoom m len p)
 TellsOfHeap heap m o (Mutator _ (New len ds)) (Refused NoPointer) = BookHad FarSide heap (NoneFree m)
 TellsOfHeap heap m o (Mutator _ (New len ds)) (Refused NoRoom) = BookHad FarSide heap (LacksRoom m len)
 TellsOfHeap heap m o (Mutator _ (Read p from len)) (Refused NoRoom) = BookHad FarSide heap (Unbrought p NoRoom)
-TellsOfHeap heap m o (Mutator _ (Read p from len)) (Refused Memory) = BookHad FarSide heap (Unbrought p Memory)
 TellsOfHeap heap m o (Mutator _ (Read p from len)) (Refused Device) = BookHad FarSide heap (Unbrought p Device)
 TellsOfHeap heap m o (Mutator _ (Read p from len)) (Refused Damaged) = BookHad FarSide heap (Unbrought p Damaged)
 TellsOfHeap heap m o (Mutator _ (Write p from new)) (Refused NoRoom) = BookHad FarSide heap (Unbrought p NoRoom)
-TellsOfHeap heap m o (Mutator _ (Write p from new)) (Refused Memory) = BookHad FarSide heap (Unbrought p Memory)
 TellsOfHeap heap m o (Mutator _ (Write p from new)) (Refused Device) = BookHad FarSide heap (Unbrought p Device)
 TellsOfHeap heap m o (Mutator _ (Write p from new)) (Refused Damaged) = BookHad FarSide heap (Unbrought p Damaged)
 TellsOfHeap heap m o (Mutator _ (View p)) (Refused NoRoom) = BookHad FarSide heap (Unbrought p NoRoom)
-TellsOfHeap heap m o (Mutator _ (View p)) (Refused Memory) = BookHad FarSide heap (Unbrought p Memory)
 TellsOfHeap heap m o (Mutator _ (View p)) (Refused Device) = BookHad FarSide heap (Unbrought p Device)
 TellsOfHeap heap m o (Mutator _ (View p)) (Refused Damaged) = BookHad FarSide heap (Unbrought p Damaged)
 TellsOfHeap heap m o (Mutator _ (Try p)) (Refused (Marked word)) = (all : List ℕ) × (o.object p ≡ Some all) × IsWordOf all word

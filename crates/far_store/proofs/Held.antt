@@ -1,16 +1,18 @@
 -- What is known of a shard's records after its mutator's calls.
 use Rattle.std.proofs.Common.{◌≡◌, ◌≢◌, ℕ, ◌+◌, ◌*◌, ◌/◌, ◌<◌, ◌≤◌, Bool, true, false, Option, Some, None, List, length, slice_index, slice_range, refl, sym, ap, subst, ◌∙◌, inl, inr, arith}
-use Rattle.std.specs.Prelude.{Err, Ok, OnErr, OnOk, Result, if◌then◌else◌, option_map, replicate}
+use Rattle.std.specs.Prelude.{◌⊎◌, Err, IfErr, Ok, OnErr, OnOk, Result, if◌then◌else◌, option_map, replicate}
 use Rattle.std.proofs.lemmas.Bool.{cases_eq}
 use Rattle.far_heap.specs.HeapId.{HeapId}
 use Rattle.far_heap.specs.Mine.{IsOf, Mine, bytes_in, known_bytes, len_in, with_range}
 use Rattle.far_heap.specs.MineLaw.{MineLaw}
 use Rattle.far_store.specs.Part.{from_for, has, object_for}
-use Rattle.far_store.specs.Records.{AreZeros, IsShard, IsWhole, Rewrites, SameObjects, held_by, held_in, record_in}
+use Rattle.far_store.specs.Records.{AreZeros, IsOutOfReach, IsShard, IsWhole, Rewrites, SameObjects, held_by, held_in, record_in}
 use Rattle.far_word.specs.declared.refused.Refused.{Refused}
 use Rattle.far_store.specs.declared.access.Place.{Place}
 use Rattle.far_store.specs.declared.layout.Part.{Part}
 use Rattle.far_store.specs.declared.layout.TheConstants.{OBJECT, PER_OBJECT, RECORD}
+use Rattle.far_store.specs.declared.shard.StoreFault.{StoreFault}
+use Rattle.far_store.specs.declared.shard.StoreFault.TheVariants as fault
 use Rattle.far_store.proofs.Objects.{bytes_same, bytes_written, len_kept, len_same, uses_kept, uses_same}
 use Rattle.far_store.proofs.Parts.{froms_apart, object_below, places_apart}
 use Rattle.far_store.proofs.Slices.{range_apart, range_written, range_zeros}
@@ -163,3 +165,16 @@ of_err {X} {E} P result why is h = subst (λ (r : Result X E). OnErr r P) is h
 
 pub err_by : {X E : Type 0} (P : Type 0) {result other : Result X E} → other ≡ result → OnErr other P → OnErr result P
 err_by {X} {E} P is h = subst (λ (r : Result X E). OnErr r P) is h
+
+-- ---- the heap's refusal of a record is told as it is
+abbrev TellsOf : {X : Type 0} → (Refused → Type 0) → Result X StoreFault → Type 0
+TellsOf P (Err (fault.Heap why)) = P why
+TellsOf P result = Unit {0}
+
+-- of the object in which the record stands
+pub reached : {X Y : Type 0} {honest : Bool} {over : Type 0} {p q : ℕ} (told : ℕ → Refused → Type 0) (found : Result Y Refused) (result : Result X StoreFault) (why : Refused) → result ≡ Err (fault.Heap why) → p ≡ q
+    → IfErr found (IsOutOfReach honest (told p) over) → ((x : X) × (result ≡ Ok x)) ⊎ ((because : Refused) × (found ≡ Err because) × (result ≡ Err (fault.Heap because))) → IsOutOfReach honest (told q) over why
+reached {X} {Y} {honest} {over} {p} {q} told found result why e at out (inl done) = subst (λ (r : Result X StoreFault). TellsOf (IsOutOfReach honest (told q) over) r) e (subst (λ (r : Result X StoreFault). TellsOf (IsOutOfReach honest (told q) over) r) (sym done.1) tt)
+reached {X} {Y} {honest} {over} {p} {q} told found result why e at out (inr (because, is, tells)) =
+    subst (λ (r : Result X StoreFault). TellsOf (IsOutOfReach honest (told q) over) r) e (subst (λ (r : Result X StoreFault). TellsOf (IsOutOfReach honest (told q) over) r) (sym tells)
+    (subst (λ (r : ℕ). IsOutOfReach honest (told r) over because) at (subst (λ (r : Result Y Refused). IfErr r (IsOutOfReach honest (told p) over)) is out)))

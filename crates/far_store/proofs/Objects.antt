@@ -1,13 +1,13 @@
 -- What a mutator's calls leave of its objects.
-use Rattle.std.proofs.Common.{◌≡◌, ◌≢◌, ℕ, ◌/◌, ◌%◌, ◌+◌, ◌≤◌, Bool, true, false, Option, Some, None, is_some, List, length, refl, sym, ap, subst, ◌∙◌, inl, inr, arith, eqb}
-use Rattle.std.specs.Prelude.{Err, IfErr, Ok, OnErr, Result, if◌then◌else◌, option_map, slice_index_or, slice_set}
-use Rattle.std.proofs.lemmas.Bool.{cases_eq, eqb-true, ne_eqb}
+use Rattle.std.proofs.Common.{◌≡◌, ◌≢◌, ℕ, ◌/◌, ◌%◌, ◌+◌, Bool, true, false, Option, Some, None, is_some, List, length, refl, sym, ap, subst, ◌∙◌, inl, inr, arith, eqb}
+use Rattle.std.specs.Prelude.{◌&&◌, Err, IfErr, Ok, OnErr, Result, if◌then◌else◌, nat_le, option_map, slice_index_or, slice_set}
+use Rattle.std.proofs.lemmas.Bool.{cases_eq, eqb-true, false≢true, le-leb, ne_eqb}
 use Rattle.std.proofs.lemmas.Grind.{get_or-set_at}
 use Rattle.std.proofs.lemmas.List.{get_or-set_other}
 use Rattle.far_word.specs.declared.refused.Refused.{Refused}
 use Rattle.far_word.specs.declared.refused.Refused.TheVariants.{Damaged, NoRoom}
 use Rattle.far_word.specs.declared.sizes.TheConstants.{CELLS}
-use Rattle.far_heap.specs.Mine.{IsUnbrought, Mine, Object, adopting, bytes_in, closing, known_bytes, len_in, len_of, object_of, opening, owns, rewritten, uses, with_range, zeros_known}
+use Rattle.far_heap.specs.Mine.{IsUnbrought, Mine, Object, access_refusal, adopting, bytes_in, closing, is_range, known_bytes, len_in, len_of, object_of, opening, owns, rewritten, uses, views, with_range, zeros_known}
 use Rattle.far_store.specs.declared.access.Place.{Place}
 use Rattle.far_store.specs.declared.layout.TheConstants.{RECORD}
 use Rattle.far_store.specs.Records.{IsOutOfReach, IsPlace, Reads, Rewrites, SameObjects, Writes}
@@ -42,6 +42,16 @@ module _ (m n : Mine) (same : SameObjects m n) (place : Place) where
   pub place_same : IsPlace m place → IsPlace n place
   place_same is = (uses_same m n same place.pointer ∙ is.0, omega (arith, len_same m n same place.pointer, is.1))
 
+-- a record whose object is viewed is in reach of reads and writes
+module _ (m n : Mine) (same : SameObjects m n) (place : Place) (is : IsPlace m place) (viewed : views n place.pointer ≡ true) where
+  pub in_reach : (count : ℕ) (why : Refused) → count ≡ RECORD → access_refusal n place.pointer place.from count ≡ Some why → ⊥
+  in_reach count why whole refused =
+      let there = place_same m n same place is in
+      let fits : is_range (len_in n place.pointer) place.from count ≡ true =
+      ap (λ b. b && nat_le (place.from + count) (len_in n place.pointer)) (le-leb 1 count (omega (arith, whole))) ∙ le-leb (place.from + count) (len_in n place.pointer) (omega (arith, whole, there.1)) in
+      let none : access_refusal n place.pointer place.from count ≡ None = rw viewed (rw fits refl) in
+      false≢true (sym (ap is_some none) ∙ ap is_some refused)
+
 -- ---- a scope was opened, lent, and closed
 module _ (m after n : Mine) (closed : n ≡ closing after) where
   closed_same : SameObjects (opening m) after → SameObjects m n
@@ -53,26 +63,29 @@ module _ (m after n : Mine) (closed : n ≡ closing after) where
     others = λ q ne. ap (λ (o : Mine). object_of o q) closed ∙ wrote.others q ne;
   }
 
-  module _ (honest : Bool) (place : Place) where
-    pub read_closed : (result : Result (List ℕ × Bool) Refused) → Reads honest place (opening m) after result → Reads honest place m n result
+  module _ (honest : Bool) (told : ℕ → Refused → Type 0) (place : Place) where
+    pub read_closed : (result : Result (List ℕ × Bool) Refused) → Reads honest told place (opening m) after result → Reads honest told place m n result
     read_closed result reads = record {
       same = closed_same reads.same;
       read = reads.read;
       refused = reads.refused;
+      cause = reads.cause;
       damaged = reads.damaged;
     }
 
-    pub written_closed : (new : List ℕ) (result : Result Bool Refused) → Writes honest place new (opening m) after result → Writes honest place new m n result
+    pub written_closed : (new : List ℕ) (result : Result Bool Refused) → Writes honest told place new (opening m) after result → Writes honest told place new m n result
     written_closed new (Ok x) writes = record {
       written = closed_wrote place.pointer place.from new writes.written;
       same = writes.same;
       refused = writes.refused;
+      cause = writes.cause;
       damaged = writes.damaged;
     }
     written_closed new (Err why) writes = record {
       written = writes.written;
       same = closed_same writes.same;
       refused = writes.refused;
+      cause = writes.cause;
       damaged = writes.damaged;
     }
 
@@ -87,23 +100,25 @@ same_rewrites m k n p from new same wrote = record {
 }
 
 -- ---- a record was refused
-module _ (honest : Bool) (over : Type 0) (m : Mine) (place : Place) (why : Refused) where
-  pub read_in_vain : (n : Mine) (result : Result (List ℕ × Bool) Refused) → Reads honest place m n result → IsPlace m place → result ≡ Err why → (why ≡ NoRoom → over) → IsOutOfReach honest over why
+module _ (honest : Bool) (told : ℕ → Refused → Type 0) (over : Type 0) (m : Mine) (place : Place) (why : Refused) where
+  pub read_in_vain : (n : Mine) (result : Result (List ℕ × Bool) Refused) → Reads honest told place m n result → IsPlace m place → result ≡ Err why → (why ≡ NoRoom → over) → IsOutOfReach honest (told place.pointer) over why
   read_in_vain n result reads is e room = record {
     unbrought = subst (λ (r : Result (List ℕ × Bool) Refused). IfErr r IsUnbrought) e (reads.refused is);
+    cause = subst (λ (r : Result (List ℕ × Bool) Refused). IfErr r (told place.pointer)) e (reads.cause is);
     room = room;
     damaged = subst (λ (r : Result (List ℕ × Bool) Refused). IfErr r (λ x. x ≡ Damaged → honest ≡ false)) e reads.damaged;
   }
 
-  pub written_in_vain : (n : Mine) (new : List ℕ) (result : Result Bool Refused) → Writes honest place new m n result → IsPlace m place → length new ≡ RECORD → result ≡ Err why → (why ≡ NoRoom → over) → IsOutOfReach honest over why
+  pub written_in_vain : (n : Mine) (new : List ℕ) (result : Result Bool Refused) → Writes honest told place new m n result → IsPlace m place → length new ≡ RECORD → result ≡ Err why → (why ≡ NoRoom → over) → IsOutOfReach honest (told place.pointer) over why
   written_in_vain n new result writes is whole e room = record {
     unbrought = subst (λ (r : Result Bool Refused). IfErr r IsUnbrought) e (writes.refused is whole);
+    cause = subst (λ (r : Result Bool Refused). IfErr r (told place.pointer)) e (writes.cause is whole);
     room = room;
     damaged = subst (λ (r : Result Bool Refused). IfErr r (λ x. x ≡ Damaged → honest ≡ false)) e writes.damaged;
   }
 
-pub unwritten : (honest : Bool) (place : Place) (new : List ℕ) (m n : Mine) (result : Result Bool Refused) (why : Refused) → Writes honest place new m n result → result ≡ Err why → SameObjects m n
-unwritten honest place new m n result why writes is = subst (λ (r : Result Bool Refused). OnErr r (SameObjects m n)) is writes.same
+pub unwritten : (honest : Bool) (told : ℕ → Refused → Type 0) (place : Place) (new : List ℕ) (m n : Mine) (result : Result Bool Refused) (why : Refused) → Writes honest told place new m n result → result ≡ Err why → SameObjects m n
+unwritten honest told place new m n result why writes is = subst (λ (r : Result Bool Refused). OnErr r (SameObjects m n)) is writes.same
 
 -- ---- one is written
 used_rewritten : (x : Option Object) (from : ℕ) (new : List ℕ) → is_some (option_map (rewritten from new) x) ≡ is_some x

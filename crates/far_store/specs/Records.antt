@@ -2,7 +2,8 @@
 use Rattle.std.specs.Prelude.{◌≡◌, ◌≢◌, ◌⊎◌, ℕ, ◌+◌, ◌*◌, ◌<◌, ◌≤◌, Bool, true, false, Option, Some, None, option_map, List, length, replicate, slice_index, slice_range, if◌then◌else◌, Result, IfOk, IfErr, IfSome, OnErr, OnOk}
 use Rattle.far_word.specs.declared.refused.Refused.{Refused}
 use Rattle.far_word.specs.declared.refused.Refused.TheVariants.{Damaged, Memory, NoPointer, NoRoom}
-use Rattle.far_heap.specs.BookHad.{BookHad, LacksRoom, NoneFree}
+use Rattle.far_device.specs.declared.fault.DeviceFault.{DeviceFault}
+use Rattle.far_heap.specs.BookHad.{BookHad, IsAnswered, LacksRoom, NoneFree, Unbrought}
 use Rattle.far_heap.specs.HeapId.{HeapId}
 use Rattle.far_heap.specs.Mine.{IsOf, IsUnbrought, Mine, bytes_in, len_in, object_of, rewritten, uses}
 use Rattle.far_store.specs.Part.{from_for, has, object_for}
@@ -29,23 +30,30 @@ IsPlace m place = (uses m place.pointer ≡ true) × (place.from + RECORD ≤ le
 abbrev pub AreRead : Mine → Place → List ℕ → Type 0
 AreRead m place found = IfSome (bytes_in m place.pointer) (λ bytes. found ≡ slice_range bytes place.from (place.from + RECORD))
 
--- in an open scope. All objects are as before, and a refusal is that it can't be brought near
-pub record Reads (honest : Bool) (place : Place) (m n : Mine) (result : Result (List ℕ × Bool) Refused) : Type 0 where
+-- why an object can't be brought near: what was so of the heap's book while its lock was held, and what the device answered to its one read
+abbrev pub IsToldOf : (D : Type 0) → HeapId → (D → ℕ → Result (List ℕ) DeviceFault → D → Type 0) → ℕ → Refused → Type 0
+IsToldOf D heap reads p why = BookHad D heap (Unbrought p why) × IsAnswered D heap reads p why
+
+-- in an open scope. All objects are as before, and a refusal is that it can't be brought near, and why
+pub record Reads (honest : Bool) (told : ℕ → Refused → Type 0) (place : Place) (m n : Mine) (result : Result (List ℕ × Bool) Refused) : Type 0 where
   pub same : SameObjects m n
   pub read : IfOk result (λ found. AreRead m place found.0)
   pub refused : IsPlace m place → IfErr result IsUnbrought
+  pub cause : IsPlace m place → IfErr result (told place.pointer)
   pub damaged : IfErr result (λ why. why ≡ Damaged → honest ≡ false)
 
 -- it has these bytes, or all objects are as before
-pub record Writes (honest : Bool) (place : Place) (new : List ℕ) (m n : Mine) (result : Result Bool Refused) : Type 0 where
+pub record Writes (honest : Bool) (told : ℕ → Refused → Type 0) (place : Place) (new : List ℕ) (m n : Mine) (result : Result Bool Refused) : Type 0 where
   pub written : OnOk result (Rewrites place.pointer place.from new m n)
   pub same : OnErr result (SameObjects m n)
   pub refused : IsPlace m place → length new ≡ RECORD → IfErr result IsUnbrought
+  pub cause : IsPlace m place → length new ≡ RECORD → IfErr result (told place.pointer)
   pub damaged : IfErr result (λ why. why ≡ Damaged → honest ≡ false)
 
--- why a record can't be brought near: there is no room, and nobody is to wait for it any longer; or as the device is
-pub record IsOutOfReach (honest : Bool) (over : Type 0) (why : Refused) : Type 0 where
+-- why a record can't be brought near: there is no room, and nobody is to wait for it any longer; or as the device answered
+pub record IsOutOfReach (honest : Bool) (told : Refused → Type 0) (over : Type 0) (why : Refused) : Type 0 where
   pub unbrought : IsUnbrought why
+  pub cause : told why
   pub room : why ≡ NoRoom → over
   pub damaged : why ≡ Damaged → honest ≡ false
 

@@ -3,7 +3,7 @@
 ghost use Rattle.std.specs.Prelude.{◌≡◌, true, false, length, IfOk, IfErr, OnErr, OnOk};
 ghost use Rattle.far_heap.specs.Mine.{IsUnbrought, uses, view_of, views};
 ghost use Rattle.far_word.specs.declared.refused.Refused.TheVariants.{Damaged};
-ghost use Rattle.far_store.specs.Records.{AreRead, IsOutOfReach, IsPlace, Reads, Rewrites, SameObjects, Writes};
+ghost use Rattle.far_store.specs.Records.{AreRead, IsOutOfReach, IsPlace, IsToldOf, Reads, Rewrites, SameObjects, Writes};
 
 use crate::layout::RECORD;
 use far_device::Device;
@@ -52,6 +52,7 @@ fn view<K: HeapName, D: Device + Drop, R: Wait>(
     ensures same { SameObjects scope.old scope.new }
     ensures viewed { IfOk result (λ found. (found.0 ≡ view_of pointer scope.old) × (views scope.new pointer ≡ true) × (uses scope.old pointer ≡ true)) }
     ensures refused { uses scope.old pointer ≡ true → IfErr result IsUnbrought }
+    ensures cause { uses scope.old pointer ≡ true → IfErr result (IsToldOf D K.heap D.reads pointer) }
     ensures damaged { IfErr result (λ why. why ≡ Damaged → K.heap.honest ≡ false) }
 {
     scope.keeps_law();
@@ -71,7 +72,7 @@ fn read<K: HeapName, D: Device + Drop, R: Wait>(
     scope: &mut Scope<K, D>,
     place: Place,
 ) -> Result<([u8; RECORD], bool), Refused>
-    ensures { Reads K.heap.honest place scope.old scope.new result }
+    ensures { Reads K.heap.honest (IsToldOf D K.heap D.reads) place scope.old scope.new result }
 {
     let (view, fetched) = match view(rt, scope, place.pointer) {
         Ok(viewed) => viewed,
@@ -91,7 +92,7 @@ fn write<K: HeapName, D: Device + Drop, R: Wait>(
     place: Place,
     bytes: &[u8],
 ) -> Result<bool, Refused>
-    ensures { Writes K.heap.honest place bytes.now scope.old scope.new result }
+    ensures { Writes K.heap.honest (IsToldOf D K.heap D.reads) place bytes.now scope.old scope.new result }
 {
     let (view, fetched) = match view(rt, scope, place.pointer) {
         Ok(viewed) => viewed,
@@ -111,12 +112,12 @@ fn read_once<K: HeapName, D: Device + Drop, R: Wait>(
     mutator: Mutator<K, D>,
     place: Place,
 ) -> (Mutator<K, D>, Result<([u8; RECORD], bool), Refused>)
-    ensures { Reads K.heap.honest place mutator result.0 result.1 }
+    ensures { Reads K.heap.honest (IsToldOf D K.heap D.reads) place mutator result.0 result.1 }
 {
     lend(
         mutator.open(),
         |scope: &mut Scope<K, D>| -> Result<([u8; RECORD], bool), Refused>
-            ensures { Reads K.heap.honest place scope.old scope.new result }
+            ensures { Reads K.heap.honest (IsToldOf D K.heap D.reads) place scope.old scope.new result }
         { read(rt, scope, place) },
     )
 }
@@ -129,12 +130,12 @@ fn write_once<K: HeapName, D: Device + Drop, R: Wait>(
     place: Place,
     bytes: &[u8],
 ) -> (Mutator<K, D>, Result<bool, Refused>)
-    ensures { Writes K.heap.honest place bytes.now mutator result.0 result.1 }
+    ensures { Writes K.heap.honest (IsToldOf D K.heap D.reads) place bytes.now mutator result.0 result.1 }
 {
     lend(
         mutator.open(),
         |scope: &mut Scope<K, D>| -> Result<bool, Refused>
-            ensures { Writes K.heap.honest place bytes.entry.now scope.old scope.new result }
+            ensures { Writes K.heap.honest (IsToldOf D K.heap D.reads) place bytes.entry.now scope.old scope.new result }
         { write(rt, scope, place, bytes) },
     )
 }
@@ -151,7 +152,7 @@ pub(crate) fn read_waiting<K: HeapName, D: Device + Drop, R: Wait, U: Fn() -> bo
     requires place { IsPlace mutator place }
     ensures same { SameObjects mutator result.0 }
     ensures read { IfOk result.2 (AreRead mutator place) }
-    ensures refused { IfErr result.2 (IsOutOfReach K.heap.honest (U.post until true)) }
+    ensures refused { IfErr result.2 (IsOutOfReach K.heap.honest (IsToldOf D K.heap D.reads place.pointer) (U.post until true)) }
 {
     let mut waits = 0u64;
     for _ in rt.forever() {
@@ -162,14 +163,13 @@ pub(crate) fn read_waiting<K: HeapName, D: Device + Drop, R: Wait, U: Fn() -> bo
                 let (bytes, fetched) = found;
                 return (mutator, Took { fetched, waits }, Ok(bytes));
             }
-            Err(Refused::NoRoom) => {
-                if until() {
-                    return (mutator, Took::in_vain(waits), Err(Refused::NoRoom));
+            Err(why) => {
+                if why != Refused::NoRoom || until() {
+                    return (mutator, Took::in_vain(waits), Err(why));
                 }
                 waits = waits.saturating_add(1);
                 thread::yield_now();
             }
-            Err(why) => return (mutator, Took::in_vain(waits), Err(why)),
         }
     }
     unreachable!()
@@ -188,7 +188,7 @@ pub(crate) fn write_waiting<K: HeapName, D: Device + Drop, R: Wait, U: Fn() -> b
     requires whole { length bytes.now ≡ RECORD }
     ensures written { OnOk result.2 (Rewrites place.pointer place.from bytes.now mutator result.0) }
     ensures same { OnErr result.2 (SameObjects mutator result.0) }
-    ensures refused { IfErr result.2 (IsOutOfReach K.heap.honest (U.post until true)) }
+    ensures refused { IfErr result.2 (IsOutOfReach K.heap.honest (IsToldOf D K.heap D.reads place.pointer) (U.post until true)) }
 {
     let mut waits = 0u64;
     for _ in rt.forever() {
@@ -196,14 +196,13 @@ pub(crate) fn write_waiting<K: HeapName, D: Device + Drop, R: Wait, U: Fn() -> b
         mutator = closed;
         match done {
             Ok(fetched) => return (mutator, Took { fetched, waits }, Ok(())),
-            Err(Refused::NoRoom) => {
-                if until() {
-                    return (mutator, Took::in_vain(waits), Err(Refused::NoRoom));
+            Err(why) => {
+                if why != Refused::NoRoom || until() {
+                    return (mutator, Took::in_vain(waits), Err(why));
                 }
                 waits = waits.saturating_add(1);
                 thread::yield_now();
             }
-            Err(why) => return (mutator, Took::in_vain(waits), Err(why)),
         }
     }
     unreachable!()

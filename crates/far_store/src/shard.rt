@@ -4,7 +4,7 @@ ghost use Rattle.std.specs.Prelude.{◌≡◌, ◌≢◌, ◌↔◌, ◌⊎◌, 
 ghost use Rattle.far_word.specs.declared.refused.Refused.{Refused as refusal};
 ghost use Rattle.far_heap.specs.Mine.{IsOf};
 ghost use Rattle.far_store.specs.Part.{from_for, has, object_for};
-ghost use Rattle.far_store.specs.Records.{AreZeros, IsNoShard, IsOutOfReach, held};
+ghost use Rattle.far_store.specs.Records.{AreZeros, IsNoShard, IsOutOfReach, IsToldOf, held};
 ghost use Rattle.far_store.specs.declared.shard.StoreFault.{StoreFault as any_fault};
 ghost use Rattle.far_store.specs.declared.shard.StoreFault.TheVariants as fault;
 
@@ -156,9 +156,9 @@ impl<K: HeapName, D: Device + Drop> Shard<K, D> {
     /// The bytes of the record of a number: over a heap whose far side is honest, those that were put last. While there is no room for its object
     /// near, other threads run, with the scope closed, unless `until` answers true.
     ///
-    /// Refused, in this order: `Number` exactly where the shard has no record of the number; `Heap` with [`Refused::NoRoom`] only if `until` answered
-    /// true, with [`Refused::Memory`] or [`Refused::Device`] as the device is, and with [`Refused::Damaged`] only where that isn't honest. All records
-    /// are as before.
+    /// Refused, in this order: `Number` exactly where the shard has no record of the number; `Heap` with [`Refused::NoRoom`] only if there was no room
+    /// under the lock and `until` answered true, with [`Refused::Memory`] or [`Refused::Device`] as the device answered its one read, and with
+    /// [`Refused::Damaged`] only where that isn't honest. All records are as before.
     pub fn get<R: Wait, U: Fn() -> bool>(
         &mut self,
         rt: &R,
@@ -171,7 +171,7 @@ impl<K: HeapName, D: Device + Drop> Shard<K, D> {
         ensures same { (q : ℕ) → held self.new q ≡ held self.old q }
         ensures number { (result ≡ Err fault.Number) ↔ (has self.old.part number ≡ false) }
         ensures length { result ≢ Err fault.Length }
-        ensures refused { (why : refusal) → result ≡ Err (fault.Heap why) → IsOutOfReach K.heap.honest (U.post until true) why }
+        ensures refused { (why : refusal) → result ≡ Err (fault.Heap why) → IsOutOfReach K.heap.honest (IsToldOf D K.heap D.reads (slice_index self.old.objects (object_for self.old.part number))) (U.post until true) why }
     {
         let Some(place) = place(self.part, self.objects.as_slice(), number) else {
             return Err(StoreFault::Number);
@@ -206,7 +206,7 @@ impl<K: HeapName, D: Device + Drop> Shard<K, D> {
         ensures same { OnErr result (held self.new number ≡ held self.old number) }
         ensures number { (result ≡ Err fault.Number) ↔ (has self.old.part number ≡ false) }
         ensures length { (result ≡ Err fault.Length) ↔ ((has self.old.part number ≡ true) × (length bytes.now ≢ RECORD)) }
-        ensures refused { (why : refusal) → result ≡ Err (fault.Heap why) → IsOutOfReach K.heap.honest (U.post until true) why }
+        ensures refused { (why : refusal) → result ≡ Err (fault.Heap why) → IsOutOfReach K.heap.honest (IsToldOf D K.heap D.reads (slice_index self.old.objects (object_for self.old.part number))) (U.post until true) why }
     {
         let Some(place) = place(self.part, self.objects.as_slice(), number) else {
             return Err(StoreFault::Number);

@@ -1,6 +1,8 @@
-use Rattle.std.proofs.Common.{ℕ, ◌<◌, ◌*◌, inl, inr, refl, rules, subst, sym}
+use Rattle.std.proofs.Common.{◌≡◌, ℕ, ◌<◌, ◌*◌, Some, Err, ap, inl, inr, refl, rules, subst, sym, ◌∙◌}
 use Rattle.std.specs.Prelude.{IfErr}
+use Rattle.far_word.specs.declared.refused.Refused.TheVariants.{Memory, NoRoom}
 use Rattle.far_word.specs.declared.sizes.TheConstants.{CELLS}
+use Rattle.far_heap.specs.BookHad.{IsAnswered}
 use Rattle.far_heap.specs.Helping.{IsBrought}
 use Rattle.far_heap.specs.Mine.{IsUnbrought}
 use Rattle.far_heap.proofs.Asking.{asks_none}
@@ -15,6 +17,21 @@ returns-in-Err-clause-asks g c = asks_none c.args.p c.args.own.now
 
 pub returns-in-Err-clause-refused : goal.returns-in-Err-clause-refused
 returns-in-Err-clause-refused g c = (subst (λ a. IfErr a IsUnbrought) c.in-Err.is c.in-Some.ensures.refused, inr refl)
+
+pub returns-in-Err-clause-in_place : goal.returns-in-Err-clause-in_place
+returns-in-Err-clause-in_place g c = λ kind is.
+    let same : c.in-Err.why ≡ Memory = cc in
+    c.fetch_far.ensures.in_place kind (c.in-Some.is ∙ ap Some (c.in-Err.is ∙ ap Err same))
+
+pub returns-in-Some-Err-clause-answered : goal.returns-in-Some-Err-clause-answered
+returns-in-Some-Err-clause-answered g c =
+    let none : c.in-Some-Err.why ≡ NoRoom = subst (λ a. IfErr a (λ why. why ≡ NoRoom)) c.in-Some-Err.field-0-is c.in-Some-Err.ensures.refused in
+    subst (IsAnswered g.row.D.Denot g.K.HeapName.heap g.D.Device.reads c.args.p) (sym none) tt
+
+pub returns-in-Some-Err-clause-in_place : goal.returns-in-Some-Err-clause-in_place
+returns-in-Some-Err-clause-in_place g c = λ kind is.
+    let none : c.in-Some-Err.why ≡ NoRoom = subst (λ a. IfErr a (λ why. why ≡ NoRoom)) c.in-Some-Err.field-0-is c.in-Some-Err.ensures.refused in
+    absurd cc
 
 pub returns-in-Ok-clause-brought : goal.returns-in-Ok-clause-brought
 returns-in-Ok-clause-brought g c = λ h.

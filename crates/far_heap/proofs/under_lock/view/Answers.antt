@@ -1,7 +1,9 @@
-use Rattle.std.proofs.Common.{Option, Ok, refl, subst, sym}
+use Rattle.std.proofs.Common.{◌≡◌, Option, Ok, Err, ap, refl, subst, sym, ◌∙◌}
 use Rattle.std.specs.Prelude.{IfSome}
 use Rattle.std.proofs.lemmas.Bool.{false≢true}
 use Rattle.far_word.specs.declared.refused.Refused.{Refused}
+use Rattle.far_word.specs.declared.refused.Refused.TheVariants.{Memory}
+use Rattle.far_heap.specs.BookHad.{IsAnswered}
 use Rattle.far_heap.specs.Mine.{Asks, IsUnbrought}
 use Rattle.far_heap.proofs.Asking.{asks_and_views, asks_none, asks_refused, asks_then}
 use Rattle.far_heap.proofs.under_lock.view.Goals as goal
@@ -25,3 +27,13 @@ pub returns-then-first-clause-refused : goal.returns-then-first-clause-refused
 returns-then-first-clause-refused g c = let r = c.in-Err.ensures.refused in
     subst (λ (o : Option Refused). IfSome o (λ why. IsUnbrought why × Asks c.args.p c.args.own.now c.bring-brought.new.own)) (sym c.of.ensures)
     (asks_refused c.args.p c.args.own.now c.loop.own c.bring-brought.new.own c.loop.invariant.2 c.in-Err.why r.0 r.1)
+
+pub returns-then-first-clause-answered : goal.returns-then-first-clause-answered
+returns-then-first-clause-answered g c =
+    subst (λ (o : Option Refused). IfSome o (IsAnswered g.row.D.Denot g.K.HeapName.heap g.D.Device.reads c.args.p)) (sym c.of.ensures) c.in-Err.ensures.answered
+
+pub returns-then-first-clause-in_place : goal.returns-then-first-clause-in_place
+returns-then-first-clause-in_place g c = λ kind is.
+    let told = sym c.of.ensures ∙ is in
+    let same : c.in-Err.why ≡ Memory = cc in
+    c.in-Err.ensures.in_place kind (ap Err same)

@@ -1,3 +1,4 @@
+use Rattle.std.proofs.Common.{rules}
 use Rattle.far_replay.specs.Interpreter.{as_given}
 use Rattle.far_replay.specs.Moment.{state_in}
 use Rattle.far_replay.proofs.Bringing.{came_opened, came_unheld, came_used}
@@ -23,13 +24,30 @@ pin-requires-clause-unheld c =
     let s = state_in c.args.evac.now in
     came_unheld (as_given o s c.args.pointer s) (as_given o s c.args.pointer (state_in c.bring.new.evac)) c.args.owner c.args.pointer came.state c.requires.unheld
 
-pub returns-in-Ok-clause-done : goal.returns-in-Ok-clause-done
-returns-in-Ok-clause-done c =
+pub returns-in-Ok : goal.returns-in-Ok
+returns-in-Ok c =
     let (o, came) = c.in-Ok.ensures.brought.comes in
-    (o, came_views c.args.evac.now c.bring.new.evac c.pin.new.evac c.args.owner c.args.pointer o came c.pin.ensures.state c.pin.ensures.order c.pin.ensures.device)
+    record {
+      viewed = record {
+        done = (o, came_views c.args.evac.now c.bring.new.evac c.pin.new.evac c.args.owner c.args.pointer o came c.pin.ensures.state c.pin.ensures.order c.pin.ensures.device);
+        refused = tt;
+        shut = tt;
+        round = search rules;
+        spent = tt;
+        same = holds_both c.args.evac.now c.bring.new.evac c.pin.new.evac c.in-Ok.ensures.brought.same (same_holds c.bring.new.evac c.pin.new.evac c.pin.ensures.device);
+        far = tt;
+      };
+    }
 
-pub returns-in-Ok-clause-same : goal.returns-in-Ok-clause-same
-returns-in-Ok-clause-same c = holds_both c.args.evac.now c.bring.new.evac c.pin.new.evac c.in-Ok.ensures.brought.same (same_holds c.bring.new.evac c.pin.new.evac c.pin.ensures.device)
-
-pub returns-in-Err-clause-same : goal.returns-in-Err-clause-same
-returns-in-Err-clause-same c = c.in-Err.ensures.brought.same
+pub returns-in-Err : goal.returns-in-Err
+returns-in-Err c = record {
+  viewed = record {
+    done = tt;
+    refused = c.in-Err.ensures.brought.refused;
+    shut = c.in-Err.ensures.brought.shut;
+    round = c.in-Err.ensures.brought.round;
+    spent = c.in-Err.ensures.brought.spent;
+    same = c.in-Err.ensures.brought.same;
+    far = c.in-Err.ensures.far;
+  };
+}

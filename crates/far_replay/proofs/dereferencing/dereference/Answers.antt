@@ -9,15 +9,15 @@ returns-in_default-clause-done c = (Serves, derefs_at_once c.args.evac.now c.try
 pub returns-clause-done : goal.returns-clause-done
 returns-clause-done c =
     derefs_or c.args.evac.now c.try_view.new.evac c.bring_and_view.new.evac c.args.owner c.args.pointer c.bring_and_view.result c.args.evac.now.book.near.core.law c.requires.opened c.requires.own c.requires.used c.in-Err.ensures.word.0
-    c.try_view.ensures.state c.try_view.ensures.order c.try_view.ensures.device c.bring_and_view.ensures.done
+    c.try_view.ensures.state c.try_view.ensures.order c.try_view.ensures.device c.bring_and_view.ensures.viewed.done
 
 pub returns-clause-far : goal.returns-clause-far
 returns-clause-far c =
     far_or c.args.evac.now c.try_view.new.evac c.args.owner c.args.pointer c.bring_and_view.result c.args.evac.now.book.near.core.law c.requires.opened c.requires.own c.requires.used c.in-Err.ensures.word.0 c.try_view.ensures.state
-    c.bring_and_view.ensures.far
+    c.bring_and_view.ensures.viewed.far
 
 pub returns-in_default-clause-same : goal.returns-in_default-clause-same
 returns-in_default-clause-same c = same_holds c.args.evac.now c.try_view.new.evac c.try_view.ensures.device
 
 pub returns-clause-same : goal.returns-clause-same
-returns-clause-same c = holds_both c.args.evac.now c.try_view.new.evac c.bring_and_view.new.evac (same_holds c.args.evac.now c.try_view.new.evac c.try_view.ensures.device) c.bring_and_view.ensures.same
+returns-clause-same c = holds_both c.args.evac.now c.try_view.new.evac c.bring_and_view.new.evac (same_holds c.args.evac.now c.try_view.new.evac c.try_view.ensures.device) c.bring_and_view.ensures.viewed.same

@@ -1,9 +1,9 @@
-use Rattle.std.proofs.Common.{◌≡◌, Some, ap, subst, sym, ◌∙◌}
+use Rattle.std.proofs.Common.{◌≡◌, Some, ap, inl, inr, subst, sym, ◌∙◌}
 use Rattle.std.specs.Prelude.{OnOk, Result, slice_index}
 use Rattle.far_store.specs.Part.{object_for}
-use Rattle.far_store.specs.Records.{Records, Rewrites, SameObjects, held, held_in}
+use Rattle.far_store.specs.Records.{IsToldOf, Records, Rewrites, SameObjects, held, held_in}
 use Rattle.far_store.specs.declared.shard.StoreFault.{StoreFault}
-use Rattle.far_store.proofs.Held.{err_by, of_err, of_ok, put_held, put_kept, put_others, shard_same}
+use Rattle.far_store.proofs.Held.{err_by, of_err, of_ok, put_held, put_kept, put_others, reached, shard_same}
 use Rattle.far_store.proofs.shard.Shard.put.Goals as goal
 use Rattle.far_store.proofs.shard.Shard.put.Goals.{in-Ok, in-Err}
 
@@ -51,3 +51,12 @@ returns-clause-same g c =
           (of_err (SameObjects m n) c.write_waiting-mutator.result.2 w.in-Err.why w.in-Err.is c.write_waiting-mutator.ensures.same) c.args.number
           ∙ ap (λ (s : Records). held s c.args.number) c.self.view_is)
     ]
+
+pub returns-clause-refused : goal.returns-clause-refused
+returns-clause-refused g c = λ why e.
+    let stands = c.in-Some.ensures.object.1 ∙ ap (λ xs. slice_index xs (object_for c.self.inside.part c.args.number)) c.as_slice.ensures.value in
+    reached (IsToldOf g.row.D.Denot g.K.HeapName.heap g.D.Device.reads) c.write_waiting-mutator.result.2 _ why e (stands ∙ ap (λ (s : Records). slice_index s.objects (object_for s.part c.args.number)) c.self.view_is)
+    c.write_waiting-mutator.ensures.refused (elim c.match-wrote.branch [
+      | in-Ok w ↦ inl (_, w.result-is)
+      | in-Err w ↦ inr (w.in-Err.why, w.in-Err.is, w.result-is)
+    ])
