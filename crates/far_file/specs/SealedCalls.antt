@@ -1,10 +1,11 @@
 -- What a device over storage was given, what it counts, and what its calls are.
-use Rattle.std.specs.Prelude.{◌≡◌, ℕ, ◌+◌, ◌%◌, ◌^◌, Bool, ◌||◌, cond, List, Option, Some, None, Result, OnOk}
+use Rattle.std.specs.Prelude.{◌≡◌, ℕ, ◌+◌, ◌*◌, ◌%◌, ◌^◌, Bool, ◌||◌, cond, List, length, Option, Some, None, IfSome, Result, Ok, IfOk, OnOk}
 use Rattle.far_device.specs.Contents.{KeepsOthers}
 use Rattle.far_device.specs.Faults.{is_fault}
 use Rattle.far_file.specs.Row.{bytes_in}
 use Rattle.far_device.specs.declared.fault.DeviceFault.{DeviceFault}
 use Rattle.far_file.specs.declared.sealed.SealedDevice.{SealedDevice}
+use Rattle.far_file.specs.declared.sealed.TheConstants.{SLOT}
 use Rattle.far_file.specs.declared.storage.Storage.{Ghosts}
 use Rattle.far_file.specs.declared.seal.Seal as seal
 
@@ -25,14 +26,17 @@ module _ {F L : Type 0} {g : Ghosts F} {l : seal.Ghosts L} where
   abbrev pub is_honest : SealedDevice F L g l → Bool
   is_honest d = l.exact || g.honest d.storage
 
-  -- a write: the bytes are under the key if it succeeded; all other keys keep what they had
+  -- a write: the bytes are under the key if it succeeded, by one call of the storage; all other keys keep what they had
   abbrev pub SealedWrites : SealedDevice F L g l → ℕ → List ℕ → Result (Unit {0}) DeviceFault → SealedDevice F L g l → Type 0
   SealedWrites old id bytes answer new =
       KeepsOthers (bytes_at old) (bytes_at new) id × (faults_of new ≡ counted (is_fault answer) (faults_of old)) × (is_honest new ≡ is_honest old) × OnOk answer (bytes_at new id ≡ Some bytes)
+      × IfOk answer (λ done. g.puts old.storage (id * SLOT) bytes (Ok done) new.storage)
 
-  -- a read: all keys keep what they had
+  -- a read: all keys keep what they had; the bytes that it gives are those of one call of the storage
   abbrev pub SealedReads : SealedDevice F L g l → ℕ → Result (List ℕ) DeviceFault → SealedDevice F L g l → Type 0
-  SealedReads old id answer new = (bytes_at new ≡ bytes_at old) × (faults_of new ≡ counted (is_fault answer) (faults_of old)) × (new.storage ≡ old.storage)
+  SealedReads old id answer new =
+      (bytes_at new ≡ bytes_at old) × (faults_of new ≡ counted (is_fault answer) (faults_of old)) × (new.storage ≡ old.storage)
+      × IfSome (bytes_at old id) (λ stored. IfOk answer (λ bytes. g.gets old.storage (id * SLOT) (length stored) (Ok bytes)))
 
   -- a key let go of
   abbrev pub SealedLetsGo : SealedDevice F L g l → ℕ → SealedDevice F L g l → Type 0

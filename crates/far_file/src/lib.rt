@@ -17,7 +17,7 @@ mod storage;
 
 pub use fault::{FileFault, StorageFault};
 pub use last_fault::{KeyFault, LastFault, words_tell_one_fault};
-pub use memory::MemStorage;
+pub use memory::{MemStorage, what_is_put_is_there};
 pub use new_file::NewFile;
 pub use seal::{Digest, NoSeal, Seal, WholeCopy};
 pub use sealed::{FileDevice, SealedDevice, slots_are};

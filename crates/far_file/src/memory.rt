@@ -1,8 +1,8 @@
 //! Storage in memory.
 
-ghost use Rattle.std.specs.Prelude.{◌≡◌, ◌⊎◌, ◌+◌, ◌<◌, ◌≤◌, ℕ, true, length, slice_index, IsTrue, IfErr, OnOk};
-ghost use Rattle.std.specs.Vec.{vec_len};
-ghost use Rattle.far_file.specs.declared.fault.StorageFault.TheVariants.{Memory, Short, Full};
+ghost use Rattle.std.specs.Prelude.{◌≡◌, ◌+◌, ◌<◌, ◌≤◌, ℕ, max, true, length, slice_index, IsFalse, IsTrue, OnOk};
+ghost use Rattle.std.specs.Vec.{vec_capacity, vec_len};
+ghost use Rattle.far_file.specs.Mem.{PutIsThere};
 
 use crate::fault::StorageFault;
 use crate::storage::Storage;
@@ -26,15 +26,18 @@ impl MemStorage {
 }
 
 impl Storage for MemStorage {
+    ghost use Rattle.far_file.specs.Mem.{MemGets, MemPuts};
+
     ghost seen = { λ m. slice_index m.bytes.items };
 
     ghost honest = { λ _. true };
 
-    ghost puts = { λ _ _ _ answer _. IfErr answer (λ why. (why ≡ Memory) ⊎ (why ≡ Full)) };
+    ghost puts = { MemPuts };
 
-    ghost gets = { λ _ _ _ answer. IfErr answer (λ why. why ≡ Short) };
+    ghost gets = { MemGets };
 
-    /// Refused [`StorageFault::Memory`], or [`StorageFault::Full`] if no position has the number of the last byte.
+    /// Refused [`StorageFault::Full`] exactly if the position behind the last byte has no number, or else [`StorageFault::Memory`], if it has no room. Then all is as
+    /// it was.
     fn put(&mut self, at: u64, bytes: &[u8]) -> Result<(), StorageFault> {
         let start = at as usize;
         let Some(end) = start.checked_add(bytes.len()) else {
@@ -47,7 +50,7 @@ impl Storage for MemStorage {
         Ok(())
     }
 
-    /// Refused [`StorageFault::Short`] alone.
+    /// Refused [`StorageFault::Short`] exactly if it has too few bytes.
     fn get(&self, at: u64, buffer: &mut [u8]) -> Result<(), StorageFault> {
         let start = at as usize;
         let end = start.saturating_add(buffer.len());
@@ -59,10 +62,16 @@ impl Storage for MemStorage {
     }
 }
 
-// Makes bytes reach a position, by zeros. After `false`, where memory was refused, they may not.
+/// What is put is there: a `get` of as many bytes from the same position gives those, and no fault.
+pub fn what_is_put_is_there()
+    ensures { PutIsThere }
+{}
+
+// Makes bytes reach a position, by zeros. After `false`, where memory was refused, they are as before.
 fn lengthen(bytes: &mut Vec<u8>, end: usize) -> bool
-    ensures long { IsTrue result → end ≤ vec_len bytes.new }
+    ensures long { IsTrue result → vec_len bytes.new ≡ max (vec_len bytes.old) end }
     ensures same { (k : ℕ) → slice_index bytes.new.items k ≡ slice_index bytes.old.items k }
+    ensures refused { IsFalse result → (vec_capacity bytes.old < end) × (bytes.new.items ≡ bytes.old.items) }
 {
     if end <= bytes.len() {
         return true;

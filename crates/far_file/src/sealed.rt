@@ -1,6 +1,6 @@
 //! A device over positioned storage.
 
-ghost use Rattle.std.specs.Prelude.{ℕ, ◌≡◌, ◌+◌, ◌*◌, ◌%◌, ◌^◌, ◌<◌, ◌≤◌, ◌≢◌, ◌⊎◌, Err, true, IsTrue, false, length, Some, None, IfOk, IfErr, IfSome, IfNone, IsSome, OnErr, OnOk, option_map};
+ghost use Rattle.std.specs.Prelude.{ℕ, ◌≡◌, ◌+◌, ◌*◌, ◌%◌, ◌^◌, ◌<◌, ◌≤◌, ◌≢◌, ◌⊎◌, Ok, Err, true, IsTrue, false, length, Some, None, IfOk, IfErr, IfSome, IfNone, IsSome, OnErr, OnOk, option_map};
 ghost use Rattle.std.specs.Vec.{vec_capacity, vec_len};
 ghost use Rattle.far_device.specs.Contents.{KeepsOthers};
 ghost use Rattle.far_device.specs.Faults.{is_fault};
@@ -143,6 +143,8 @@ impl<F: Storage + Drop, L: Seal> SealedDevice<F, L> {
         ensures by_storage { F.Storage.honest self.now.storage ≡ true → OnOk result (IfSome (bytes_at self.now id) (λ stored. buffer.new.items ≡ stored)) }
         ensures by_seal { L.Seal.exact ≡ true → OnOk result (IfSome (bytes_at self.now id) (λ stored. buffer.new.items ≡ stored)) }
         ensures why { IfSome (bytes_at self.now id) (λ stored. IfErr result (CanStopRead (F.Storage.honest self.now.storage) (F.Storage.gets self.now.storage (id * SLOT) (length stored)))) }
+        ensures called { IfSome (bytes_at self.now id) (λ stored. OnOk result (F.Storage.gets self.now.storage (id * SLOT) (length stored) (Ok buffer.new.items))) }
+        ensures len { vec_len buffer.new ≡ vec_len buffer.old }
         ensures room { vec_capacity buffer.old ≤ vec_capacity buffer.new }
     {
         let Some(held) = self.held(id) else {
@@ -267,7 +269,8 @@ impl<F: Storage + Drop, L: Seal> Device for SealedDevice<F, L> {
 
     ghost forget_follows = { forget_leaves };
 
-    /// Refused memory, or a key or bytes without a slot, all is as it was; after any other fault nothing is under the key.
+    /// Refused memory, or a key or bytes without a slot, all is as it was; after any other fault nothing is under the key. One that succeeds is one call of the
+    /// storage, and one that is refused so is none.
     fn write(&mut self, id: u32, bytes: &[u8]) -> Result<(), DeviceFault>
         ensures set { OnOk result (bytes_at self.new id ≡ Some bytes.now) }
         ensures others { KeepsOthers (bytes_at self.old) (bytes_at self.new) id }
@@ -275,7 +278,9 @@ impl<F: Storage + Drop, L: Seal> Device for SealedDevice<F, L> {
         ensures honest { F.Storage.honest self.new.storage ≡ F.Storage.honest self.old.storage }
         ensures as_honest { is_honest self.new ≡ is_honest self.old }
         ensures left { OnErr result ((bytes_at self.new id ≡ None) ⊎ (bytes_at self.new id ≡ bytes_at self.old id)) }
-        ensures no_slot { (KEYS ≤ id) ⊎ (SLOT < length bytes.now) → (result ≡ Err Failed) × (self.new.told ≡ Some record { key = id; why = NoSlot }) × (bytes_at self.new ≡ bytes_at self.old) }
+        ensures called { IfOk result (λ done. F.Storage.puts self.old.storage (id * SLOT) bytes.now (Ok done) self.new.storage) }
+        ensures unasked { result ≡ Err Memory → self.new.storage ≡ self.old.storage }
+        ensures no_slot { (KEYS ≤ id) ⊎ (SLOT < length bytes.now) → (result ≡ Err Failed) × (self.new.told ≡ Some record { key = id; why = NoSlot }) × (bytes_at self.new ≡ bytes_at self.old) × (self.new.storage ≡ self.old.storage) }
         ensures gone { id < KEYS → length bytes.now ≤ SLOT → is_fault result ≡ true → bytes_at self.new id ≡ None }
         ensures memory { result ≡ Err Memory → (q : ℕ) → bytes_at self.new q ≡ bytes_at self.old q }
         ensures told { id < KEYS → length bytes.now ≤ SLOT → is_fault result ≡ true → StoppedWrite (λ answer. F.Storage.puts self.old.storage (id * SLOT) bytes.now answer self.new.storage) id self.new.told }
@@ -300,7 +305,10 @@ impl<F: Storage + Drop, L: Seal> Device for SealedDevice<F, L> {
         }
     }
 
+    /// One that succeeds gives as many bytes as were written, those that a call of the storage gave.
     fn read(&mut self, id: u32) -> Result<Vec<u8>, DeviceFault>
+        ensures called { IfSome (bytes_at self.old id) (λ stored. IfOk result (λ bytes. F.Storage.gets self.old.storage (id * SLOT) (length stored) (Ok bytes.items))) }
+        ensures len { IfSome (bytes_at self.old id) (λ stored. IfOk result (λ bytes. vec_len bytes ≡ length stored)) }
         ensures given { is_honest self.old ≡ true → IfOk result (λ bytes. IfSome (bytes_at self.old id) (λ stored. bytes.items ≡ stored)) }
         ensures nothing { IfNone (bytes_at self.old id) ((result ≡ Err Failed) × (self.new.told ≡ Some record { key = id; why = Nothing })) }
         ensures told { IfSome (bytes_at self.old id) (λ stored. is_fault result ≡ true → StoppedRead (F.Storage.honest self.old.storage) (F.Storage.gets self.old.storage (id * SLOT) (length stored)) id self.new.told) }
@@ -319,6 +327,8 @@ impl<F: Storage + Drop, L: Seal> Device for SealedDevice<F, L> {
     /// Takes no memory if the buffer has room for the bytes.
     #[tactic(auto, using(crate::proofs::Rows::either))]
     fn read_into(&mut self, id: u32, buffer: &mut Vec<u8>) -> Result<(), DeviceFault>
+        ensures called { IfSome (bytes_at self.old id) (λ stored. OnOk result (F.Storage.gets self.old.storage (id * SLOT) (length stored) (Ok buffer.new.items))) }
+        ensures len { IfSome (bytes_at self.old id) (λ stored. OnOk result (vec_len buffer.new ≡ length stored)) }
         ensures given { is_honest self.old ≡ true → OnOk result (IfSome (bytes_at self.old id) (λ stored. buffer.new.items ≡ stored)) }
         ensures nothing { IfNone (bytes_at self.old id) ((result ≡ Err Failed) × (self.new.told ≡ Some record { key = id; why = Nothing })) }
         ensures told { IfSome (bytes_at self.old id) (λ stored. is_fault result ≡ true → StoppedRead (F.Storage.honest self.old.storage) (F.Storage.gets self.old.storage (id * SLOT) (length stored)) id self.new.told) }
