@@ -3,6 +3,7 @@ pub mod Mines
 pub mod Soils
 pub mod OwnSteps
 pub mod MineLaws
+pub mod Soiling
 pub mod Slow
 pub mod Spliced
 pub mod Parts

@@ -10,6 +10,7 @@ use Rattle.far_word.specs.Bytes.{bytes_of}
 use Rattle.far_word.proofs.ByteLaws.{bytes_of-small, length-bytes_of}
 use Rattle.far_table.specs.View.{ObjectView}
 use Rattle.far_table.specs.Seats.{Seated}
+use Rattle.far_table.specs.Tells.{HasState}
 use Rattle.far_table.specs.Views.{asked_at, held_at, len_of as seat_len, object_at, soiled_at, word_of}
 use Rattle.far_heap.specs.Mine.{Mine, Object, OwnOk, bytes_in, drop_refusal, known_bytes, len_in, len_of, mine_of, seen, uses, views}
 use Rattle.far_heap.specs.declared.rows.Rows.{Rows}
@@ -17,6 +18,7 @@ use Rattle.far_heap.specs.MineLaw.{MineLaw}
 use Rattle.far_heap.proofs.Mines.{bytes_own, len_own, object_own, uses_so, views_so}
 use Rattle.far_heap.proofs.OwnRows.{length-own_row}
 use Rattle.far_heap.proofs.OwnSteps.{viewed_used}
+use Rattle.far_heap.proofs.Soiling.{soiled_viewed}
 
 -- an object's bytes, as many as it has
 abbrev HasBytes : Option Object → Type 0
@@ -57,12 +59,13 @@ module _ (s : Seated) (name : TableId) (number : ℕ) (rows : Rows) (ok : OwnOk 
     | inr h ↦ h
   ]
 
-  pub mine_law : MineLaw (mine_of s)
-  mine_law = record {
+  pub mine_law : HasState s.view → MineLaw (mine_of s)
+  mine_law there = record {
     few = omega (arith, ok.number_is, ok.few);
     many = (length-own_row (λ p. seen s.view.honest (object_at s.view p)) s.view.number, length-own_row (λ p. is_some (held_at s.view p)) s.view.number, length-own_row (λ p. soiled_at s.view p) s.view.number, length-own_row (λ p. asked_at s.view p) s.view.number);
     used = viewed_used s name number rows ok;
     closed = none_viewed;
+    soiled = soiled_viewed s there;
     some = len_some;
     most = len_most;
     known = λ honest p h. subst HasBytes (sym (object_own s p (uses_so s p h).0)) (all_known honest p h);

@@ -10,5 +10,6 @@ pub mod Calls
 pub mod Helping
 pub mod BookHad
 pub mod LogsStay
+pub mod SoiledIsDirty
 pub mod Refusals
 pub mod Values

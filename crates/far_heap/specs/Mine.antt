@@ -56,6 +56,9 @@ uses m p = is_some (object_of m p)
 abbrev pub views : Mine → ℕ → Bool
 views m p = if owns m p then slice_index_or m.viewed (p % CELLS) false else false
 
+abbrev pub soils : Mine → ℕ → Bool
+soils m p = if owns m p then slice_index_or m.soiled (p % CELLS) false else false
+
 abbrev pub len_of : Option Object → ℕ
 len_of None = 0
 len_of (Some x) = x.len
@@ -112,6 +115,10 @@ writing p from new m = record m {
   objects = slice_set m.objects (p % CELLS) (option_map (rewritten from new) (object_of m p));
   soiled = slice_set m.soiled (p % CELLS) true;
 }
+
+-- from then on it has soiled that object, and of others those that it had
+abbrev pub SoilsOne : ℕ → Mine → Mine → Type 0
+SoilsOne p m n = (soils n p ≡ true) × ((q : ℕ) → q ≢ p → soils n q ≡ soils m q)
 
 -- it uses an object more, of so many zeros and a data structure, or one less
 abbrev pub zeros_known : Bool → ℕ → Option (List ℕ)

@@ -1,7 +1,7 @@
 -- What is true of each mutator between any two of its calls.
 use Rattle.std.specs.Prelude.{◌≡◌, ℕ, ◌<◌, ◌≤◌, true, false, Some, None, List, length, slice_index}
 use Rattle.far_word.specs.declared.sizes.TheConstants.{CELLS, LONGEST, MOST_MUTATORS}
-use Rattle.far_heap.specs.Mine.{Mine, bytes_in, len_in, uses, views}
+use Rattle.far_heap.specs.Mine.{Mine, bytes_in, len_in, soils, uses, views}
 
 -- the bytes of a pointer's object are known: as many as it has, each below 256
 abbrev pub KnowsBytes : Mine → ℕ → Type 0
@@ -14,6 +14,8 @@ pub record MineLaw (m : Mine) : Type 0 where
   -- what is viewed is used, and nothing is viewed while the scope is closed
   pub used : (p : ℕ) → views m p ≡ true → uses m p ≡ true
   pub closed : m.opened ≡ false → (p : ℕ) → views m p ≡ false
+  -- what is soiled is viewed
+  pub soiled : (p : ℕ) → soils m p ≡ true → views m p ≡ true
   -- an object has 1 to 4,088 bytes
   pub some : (p : ℕ) → uses m p ≡ true → 0 < len_in m p
   pub most : (p : ℕ) → uses m p ≡ true → len_in m p ≤ LONGEST

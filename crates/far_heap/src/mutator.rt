@@ -65,7 +65,7 @@ impl<K: HeapName, D: Device + Drop> Mutator<K, D> {
     }
 
     /// What holds of a mutator between any two calls: each object that it uses has 1 to 4,088 bytes, which it knows where the far side is honest; its
-    /// scope is closed, and it views nothing. The call does nothing.
+    /// scope is closed, it views nothing, and has soiled nothing. The call does nothing.
     pub fn keeps_law(&self)
         ensures law { MineLaw self.now }
         ensures closed { self.now.opened ≡ false }

@@ -6,8 +6,9 @@ ghost use Rattle.far_core.specs.events.Quiet.{has_move};
 ghost use Rattle.far_heap.specs.Made.{Pinned};
 ghost use Rattle.far_heap.specs.MineLaw.{MineLaw};
 ghost use Rattle.far_heap.specs.LogsStay.{LogsStay};
+ghost use Rattle.far_heap.specs.SoiledIsDirty.{SoiledIsDirty};
 ghost use Rattle.far_heap.specs.declared.view.Tried.{Tried as any_tried};
-ghost use Rattle.far_heap.specs.Mine.{IsNew, TriedSo, access_refusal, adopting, asking, bytes_in, closing, dropping, ds_in, len_in, newcomer, opening, owns, uses, view_of, views, viewing, writing};
+ghost use Rattle.far_heap.specs.Mine.{IsNew, SoilsOne, TriedSo, access_refusal, adopting, asking, bytes_in, closing, dropping, ds_in, len_in, newcomer, opening, owns, uses, view_of, views, viewing, writing};
 ghost use Rattle.far_word.specs.declared.refused.Refused.{Refused as any_refusal};
 ghost use Rattle.far_word.specs.declared.sizes.TheConstants.{LONGEST, MOST_MUTATORS};
 
@@ -105,7 +106,7 @@ impl<K: HeapName, D: Device> Own<K, D> {
     pub(crate) fn keeps_law(&self)
         ensures { MineLaw self.now }
     {
-        let _number = self.number;
+        self.seat.no_log_is_given_out_under_a_view();
     }
 
     // No log is given out in which an object lies that the scope views.
@@ -113,6 +114,14 @@ impl<K: HeapName, D: Device> Own<K, D> {
         ensures { LogsStay K.heap self.now }
     {
         self.seat.no_log_is_given_out_under_a_view();
+    }
+
+    // What the scope has soiled has DIRTY in its cell.
+    pub(crate) fn what_it_soiled_is_dirty(&self)
+        ensures { SoiledIsDirty K.heap self.now }
+    {
+        self.seat.no_log_is_given_out_under_a_view();
+        self.seat.what_it_soiled_is_dirty();
     }
 
     // Opens the scope.
@@ -321,6 +330,7 @@ impl<K: HeapName, D: Device> Own<K, D> {
     pub(crate) fn write(&mut self, view: View, from: u16, bytes: &[u8]) -> Result<(), Refused>
         ensures refused { IfErr result (λ why. (access_refusal self.old view.pointer from (length bytes.now) ≡ Some why) × (self.new ≡ self.old)) }
         ensures done { IfOk result (λ _. (access_refusal self.old view.pointer from (length bytes.now) ≡ None) × (self.new ≡ writing view.pointer from bytes.now self.old)) }
+        ensures soiled { IfOk result (λ _. SoilsOne view.pointer self.old self.new) }
     {
         let len = match self.access(view, from, bytes.len()) {
             Ok(len) => len,

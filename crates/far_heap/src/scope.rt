@@ -1,10 +1,11 @@
 // A mutator whose scope is open.
-ghost use Rattle.std.specs.Prelude.{◌≡◌, ◌≢◌, ◌⊎◌, ◌+◌, ◌<◌, ◌≤◌, true, false, length, slice_range, None, Some, Ok, Err, IfOk, IfErr, IfSome};
+ghost use Rattle.std.specs.Prelude.{◌≡◌, ◌≢◌, ◌⊎◌, ◌+◌, ◌<◌, ◌≤◌, ℕ, true, false, length, slice_range, None, Some, Ok, Err, IfOk, IfErr, IfSome};
 ghost use Rattle.far_heap.specs.Made.{IsFoundSlow, Pinned};
 ghost use Rattle.far_heap.specs.declared.view.Tried.{Tried as any_tried};
 ghost use Rattle.far_heap.specs.MineLaw.{MineLaw};
 ghost use Rattle.far_heap.specs.LogsStay.{LogsStay};
-ghost use Rattle.far_heap.specs.Mine.{Asks, AsksToView, IsNoView, IsOf, TriedSo, access_refusal, bytes_in, closing, drop_refusal, dropping, ds_in, len_in, uses, view_of, viewing, views, writing};
+ghost use Rattle.far_heap.specs.SoiledIsDirty.{SoiledIsDirty};
+ghost use Rattle.far_heap.specs.Mine.{Asks, AsksToView, IsNoView, IsOf, SoilsOne, TriedSo, access_refusal, bytes_in, closing, drop_refusal, dropping, ds_in, len_in, soils, uses, view_of, viewing, views, writing};
 ghost use Rattle.far_heap.specs.BookHad.{Allocates, BookHad, IsAnswered, IsFreed, Unbrought};
 ghost use Rattle.far_word.specs.declared.refused.Refused.{Refused as any_refusal};
 ghost use Rattle.far_word.specs.declared.refused.Refused.TheVariants.{Damaged, Memory, NoRoom};
@@ -51,8 +52,8 @@ impl<K: HeapName, D: Device + Drop> Scope<K, D> {
         Scope { own, lock }
     }
 
-    /// What holds of an open scope between any two calls: what it views its mutator uses, and each object that this uses has 1 to 4,088 bytes, which it
-    /// knows where the far side is honest. The call does nothing.
+    /// What holds of an open scope between any two calls: what it has soiled it views, what it views its mutator uses, and each object that this uses has
+    /// 1 to 4,088 bytes, which it knows where the far side is honest. The call does nothing.
     pub fn keeps_law(&self)
         ensures law { MineLaw self.now }
         ensures opened { self.now.opened ≡ true }
@@ -67,6 +68,14 @@ impl<K: HeapName, D: Device + Drop> Scope<K, D> {
         ensures { LogsStay K.heap self.now }
     {
         self.own.no_log_is_given_out_under_a_view();
+    }
+
+    /// What the scope has soiled has DIRTY in its cell, whatever others do: in each state that the words and all views may be in beside the seat of the
+    /// scope's mutator. The call does nothing.
+    pub fn what_it_soiled_is_dirty(&self)
+        ensures { SoiledIsDirty K.heap self.now }
+    {
+        self.own.what_it_soiled_is_dirty();
     }
 
     /// Makes a new object, as [`Mutator::alloc`] does. The scope doesn't view it yet.
@@ -174,14 +183,16 @@ impl<K: HeapName, D: Device + Drop> Scope<K, D> {
     pub fn write(&mut self, view: &View, from: u16, bytes: &[u8]) -> Result<(), Refused>
         ensures refused { IfErr result (λ why. (access_refusal self.old view.now.pointer from (length bytes.now) ≡ Some why) × (self.new ≡ self.old)) }
         ensures done { IfOk result (λ _. (access_refusal self.old view.now.pointer from (length bytes.now) ≡ None) × (self.new ≡ writing view.now.pointer from bytes.now self.old)) }
+        ensures soiled { IfOk result (λ _. SoilsOne view.now.pointer self.old self.new) }
     {
         self.own.write(*view, from, bytes)
     }
 
-    /// Closes the scope, which views nothing from then on. Always.
+    /// Closes the scope, which views nothing from then on, and has soiled nothing. Always.
     #[inline(always)]
     pub fn close(self) -> Mutator<K, D>
-        ensures { result ≡ closing self }
+        ensures closed { result ≡ closing self }
+        ensures clean { (p : ℕ) → soils result p ≡ false }
     {
         let Scope { mut own, lock } = self;
         own.close();

@@ -65,6 +65,15 @@ one_more false = refl
 dirt_set : (set left found was more now : ℕ) → set + left ≡ found + was → now ≡ was + more → set + more + left ≡ found + now
 dirt_set set left found was more now tie is = omega arith
 
+pub dirtied_anew : (p found : ℕ) (o : OwnerView) → is_dirty (read_of found) ≡ false → dirtied_at (soiled_view p found o) p ≡ dirtied_at o p + 1
+dirtied_anew p found o clean = put_same (dirtied_at o) p (dirtied_at o p + cond (is_dirty (read_of found)) 0 1) p refl ∙ ap (λ b. dirtied_at o p + cond b 0 1) clean
+
+pub dirtied_again : (p found : ℕ) (o : OwnerView) → is_dirty (read_of found) ≡ true → dirtied_at (soiled_view p found o) p ≡ dirtied_at o p
+dirtied_again p found o dirty =
+    let more : ℕ = cond (is_dirty (read_of found)) 0 1 in
+    let none_more : more ≡ 0 = ap (λ b. cond b 0 1) dirty in
+    put_same (dirtied_at o) p (dirtied_at o p + more) p refl ∙ omega (arith, none_more)
+
 module _ (ws : List ℕ) (b : BookView) (os : OtherViews) (f : Facts ws b os) (o : OwnerView) (at : get_elem? os.owners o.number ≡ some o)
     (p : ℕ) (small : p < POINTERS) (own : p / CELLS ≡ o.number) (held : IsSome (held_at o p)) where
   abbrev s : State

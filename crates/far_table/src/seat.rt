@@ -1,5 +1,5 @@
 // An owner's seat.
-ghost use Rattle.std.specs.Prelude.{if◌then◌else◌, ◌≡◌, ◌+◌, ◌-◌, ◌*◌, ◌/◌, ◌%◌, ◌^◌, ◌<◌, ◌≤◌, true, ℕ, length, map, Some, None, IsSome, IfOk, IfErr, IfSome};
+ghost use Rattle.std.specs.Prelude.{if◌then◌else◌, ◌≡◌, ◌+◌, ◌-◌, ◌*◌, ◌/◌, ◌%◌, ◌^◌, ◌<◌, ◌≤◌, true, false, ℕ, length, map, Some, None, IsSome, IfOk, IfErr, IfSome};
 ghost use Rattle.std.specs.Arc.{arc_value};
 ghost use Rattle.far_core.specs.declared.event.Event.{Event as any_event};
 ghost use Rattle.far_core.specs.declared.event.Reply.{Reply as any_reply};
@@ -20,7 +20,7 @@ ghost use Rattle.far_core.specs.events.Pin.{pin_answer, place_to_view};
 ghost use Rattle.far_table.specs.Ranges.{HasBytes, Wrote};
 ghost use Rattle.far_table.specs.RowTells.{LoadedEach, StoredEach};
 ghost use Rattle.far_table.specs.Seats.{data_begin, pin_reply};
-ghost use Rattle.far_table.specs.Views.{adopted_view, asked_view, closed_view, held_at, held_view, hots, len_of, noted_view, object_at, opened_view, pinned_at, read_view, soiled_at, soiled_view, stored_view, uses, warmed_view, word_in_view};
+ghost use Rattle.far_table.specs.Views.{adopted_view, asked_view, closed_view, dirtied_at, held_at, held_view, hots, len_of, noted_view, object_at, opened_view, pinned_at, read_view, soiled_at, soiled_view, stored_view, uses, warmed_view, word_in_view};
 ghost use Rattle.far_word.specs.Bytes.{packed_word};
 ghost use Rattle.far_word.specs.Sizes.{words_for};
 
@@ -221,12 +221,15 @@ impl<D: Device> MutSeat<D> {
         self.table.shared.load::<rule::Load>(&mut self.seat, word)
     }
 
-    /// Sets DIRTY in the cell of an object that is held: the word found. The object is soiled from then on, until the scope is closed.
+    /// Sets DIRTY in the cell of an object that is held: the word found. The object is soiled from then on, until the scope is closed. The view counts DIRTY
+    /// as set anew exactly where the word found hasn't got it.
     pub fn soil(&mut self, p: u16) -> u64
         requires held { IsSome (held_at self.old.view p) }
         ensures table { self.new.table ≡ self.old.table }
         ensures view { self.new.view ≡ soiled_view p result self.old.view }
         ensures soiled { soiled_at self.new.view p ≡ true }
+        ensures anew { is_dirty (read_of result) ≡ false → dirtied_at self.new.view p ≡ dirtied_at self.old.view p + 1 }
+        ensures again { is_dirty (read_of result) ≡ true → dirtied_at self.new.view p ≡ dirtied_at self.old.view p }
         ensures found { Found p result self.old.view self.new.view }
         ensures event { OwnerMade (Event.Soil self.old.view.number p) self.old.view (Reply.Word result) self.new.view }
     {

@@ -11,7 +11,7 @@ use Rattle.far_split.proofs.slot.answer_open.Goals.{in-Open, in-New, in-Drop, in
 
 pub returns-in-Close : goal.returns-in-Close
 returns-in-Close g c = subst (λ (r : Request). Answers g.K.HeapName.heap c.args.scope (as_request r) Done c.close.result) (sym c.in-Close.is)
-    (subst (λ (n : Mine). Answers g.K.HeapName.heap c.args.scope Close Done n) (sym c.close.ensures) (closes c.args.scope c.keeps_law.ensures.law c.keeps_law.ensures.opened))
+    (subst (λ (n : Mine). Answers g.K.HeapName.heap c.args.scope Close Done n) (sym c.close.ensures.closed) (closes c.args.scope c.keeps_law.ensures.law c.keeps_law.ensures.opened))
 
 pub returns : goal.returns
 returns g c =

@@ -1,13 +1,16 @@
 use Rattle.std.proofs.Common.{◌≡◌, ◌<◌, ℕ, true, length, is_some, refl, ap, sym, subst, ◌∙◌, arith}
 use Rattle.atomic_table.specs.Seated.{TableId}
+use Rattle.far_word.specs.declared.sizes.TheConstants.{CELLS}
 use Rattle.far_table.specs.Seats.{Seated}
 use Rattle.far_heap.specs.declared.rows.Rows.{Rows}
 use Rattle.far_table.specs.View.{OwnerView}
-use Rattle.far_table.specs.Views.{held_at, len_of, object_at}
-use Rattle.far_heap.specs.Mine.{Mine, OwnOk, StructuresOk, len_in, mine_of, views, writing}
+use Rattle.far_table.specs.Views.{held_at, len_of, object_at, soiled_at}
+use Rattle.far_heap.specs.Mine.{Mine, OwnOk, SoilsOne, StructuresOk, len_in, mine_of, views, writing}
 use Rattle.far_heap.proofs.Accesses.{storing, wrote_mine, wrote_ok, wrote_structures}
 use Rattle.far_heap.proofs.Mines.{len_own, views_so}
+use Rattle.far_heap.proofs.OwnRows.{length-own_row}
 use Rattle.far_heap.proofs.OwnSteps.{HasSoiled, first_soiled, soiled_before, soiled_mine, structures_move, used_below, viewed_used}
+use Rattle.far_heap.proofs.Soiling.{viewed_own, writing_soils}
 use Rattle.far_heap.proofs.own.Own.write.Goals as goal
 use Rattle.far_heap.proofs.own.Own.write.Given.{Over}
 use Rattle.far_heap.proofs.own.Own.write.Goals.{then-not-has_soiled, else-not-has_soiled}
@@ -100,3 +103,11 @@ returns-clause-done g c =
       wrote_mine t c.store_range.new.seat p c.args.from c.args.bytes.now own' (omega (arith, len, done.4)) c.store_range.ensures.table c.store_range.ensures.wrote
           ∙ ap (storing p c.args.from c.args.bytes.now) (soiled_mine s p t own so.table so.soils) ∙ ap (writing p c.args.from c.args.bytes.now) c.self.view_is,
     )
+
+pub returns-clause-soiled : goal.returns-clause-soiled
+returns-clause-soiled g c =
+    let p : ℕ = c.args.view.pointer in
+    let m : Mine = c.args.self.now in
+    let o : OwnerView = c.self.inside.seat.view in
+    let many : length m.soiled ≡ CELLS = ap (λ (x : Mine). length x.soiled) (sym c.self.view_is) ∙ length-own_row (λ q. soiled_at o q) o.number in
+    subst (SoilsOne p m) (sym (returns-clause-done g c).1) (writing_soils m many p c.args.from c.args.bytes.now (viewed_own m p c.in-Ok.ensures.done.1))

@@ -7,9 +7,9 @@ use Rattle.far_table.specs.View.{OwnerView}
 use Rattle.far_table.specs.Layout.{cell_at}
 use Rattle.far_table.specs.Seats.{Seated}
 use Rattle.far_table.specs.Tells.{owner_of}
-use Rattle.far_table.specs.Views.{held_at, soiled_at, soiled_view}
+use Rattle.far_table.specs.Views.{dirtied_at, held_at, soiled_at, soiled_view}
 use Rattle.far_table.proofs.HeldFacts.{some_there}
-use Rattle.far_table.proofs.SoilSteps.{soils}
+use Rattle.far_table.proofs.SoilSteps.{dirtied_again, dirtied_anew, soils}
 use Rattle.far_table.proofs.SeatLemmas.{inside, places_same, seat_made, seat_stays}
 use Rattle.far_table.proofs.seat.MutSeat.soil.Goals as goal
 
@@ -38,6 +38,12 @@ pub returns-clause-soiled : goal.returns-clause-soiled
 returns-clause-soiled g c =
     let o : OwnerView = owner_of c.self.inside.seat.me.0 in
     ap (λ z. soiled_at (owner_of z) c.args.p) (c.fetch_or.ensures.2.1 c.args.p refl).after_is ∙ put_same (soiled_at o) c.args.p true c.args.p refl
+
+pub returns-clause-anew : goal.returns-clause-anew
+returns-clause-anew g c = λ clean. ap (λ (o : OwnerView). dirtied_at o c.args.p) (returns-clause-view g c) ∙ dirtied_anew c.args.p c.fetch_or.result c.args.self.now.view clean
+
+pub returns-clause-again : goal.returns-clause-again
+returns-clause-again g c = λ dirty. ap (λ (o : OwnerView). dirtied_at o c.args.p) (returns-clause-view g c) ∙ dirtied_again c.args.p c.fetch_or.result c.args.self.now.view dirty
 
 pub returns-clause-found : goal.returns-clause-found
 returns-clause-found g c =
