@@ -21,6 +21,7 @@ pub mod RoundTurns
 pub mod RoundRests
 pub mod RoundChoices
 pub mod Causes
+pub mod Leaving
 pub mod Bringing
 pub mod Resting
 pub mod Refusals
