@@ -1,5 +1,5 @@
 -- What the book knows of free cells, of room and of what it can't bring is so in each state that the words may be in.
-use Rattle.std.proofs.Common.{◌≡◌, ◌⊎◌, inl, inr, ℕ, Bool, true, false, cond, refl, ap, subst, sym, ◌∙◌, Option, Some, None, is_some, List, Result, Ok, Err}
+use Rattle.std.proofs.Common.{◌≡◌, ◌⊎◌, inl, inr, ℕ, Bool, true, false, cond, refl, ap, subst, sym, ◌∙◌, Option, Some, None, is_some, Result, Ok, Err}
 use Rattle.std.specs.Prelude.{IfOk, IfErr, IsSome}
 use Rattle.std.proofs.lemmas.Bool.{false≢true, true≢false}
 use Rattle.far_word.specs.declared.pointer.Place.{Place}
@@ -11,13 +11,10 @@ use Rattle.far_word.specs.Pointer.{read_of}
 use Rattle.far_word.specs.Sizes.{size_of}
 use Rattle.far_core.specs.state.Room.{room}
 use Rattle.far_core.specs.state.State.{State}
-use Rattle.far_device.specs.declared.fault.DeviceFault.{DeviceFault}
-use Rattle.far_hand.specs.Came.{Came}
 use Rattle.far_hand.specs.Finds.{body_of, marks_in}
 use Rattle.far_hand.specs.MayBe.{Shows}
 use Rattle.far_table.specs.declared.book.BookSeat.{BookSeat}
-use Rattle.far_table.specs.BookSeats.{seat_makes, seat_shown, seat_there, seat_view}
-use Rattle.far_book.specs.book.Asking.{AsksToFetch}
+use Rattle.far_table.specs.BookSeats.{seat_shown, seat_there, seat_view}
 use Rattle.far_book.specs.book.Dealing.{goal, goal_of}
 use Rattle.far_book.specs.book.Fetching.{RefusesFetch, far_len, room_for}
 use Rattle.far_book.specs.book.Ledger.{IsLowestFree}
@@ -26,10 +23,9 @@ use Rattle.far_book.proofs.region.Retires.{retired_is}
 use Rattle.far_book.specs.book.Effects.{retired}
 use Rattle.far_core.proofs.Put.{put_same}
 use Rattle.far_core.specs.events.Naming.{is_dropped}
-use Rattle.far_evac.specs.EvacOf.{EvacOf, moment}
-use Rattle.far_evac.specs.MomentLaw.{IsLawful}
-use Rattle.far_heap.specs.BookHad.{AnswersRead, BookDid, BookHad, HasNowhere, HasRoom, IsAnswered, IsCause, IsFreed, LacksRoom, MayCome, NoneFree, Places, RefusesRead, Unbrought}
-use Rattle.far_heap.specs.Helping.{PlacesNew, asks_move, cell_in, core_of, says_far}
+use Rattle.far_evac.specs.EvacOf.{EvacOf}
+use Rattle.far_heap.specs.BookHad.{BookHad, HasNowhere, HasRoom, IsCause, IsFreed, LacksRoom, MayCome, NoneFree, Places, Unbrought}
+use Rattle.far_heap.specs.Helping.{PlacesNew, asks_move, core_of, says_far}
 use Rattle.far_heap.specs.HeapId.{HeapId, heap_of}
 use Rattle.far_heap.proofs.Named.{named_alone}
 
@@ -203,29 +199,3 @@ module _ {D : Type 0} (m len ds : ℕ) (e f : EvacOf (BookSeat D) D) where
       IfErr r (λ why. (why ≡ NoPointer) ⊎ (why ≡ NoRoom)) → (r ≡ Err NoPointer → NoneFree m (core_of e)) → (r ≡ Err NoRoom → LacksRoom m len (core_of e)) → IfErr r (λ _. f ≡ e) → Places m len ds r e f
   places (Ok p) free room made why none full same = (record { free = free; room = room }, made)
   places (Err r) free room made why none full same = no_place (Err r) r refl why none full same
-
--- ---- what the device answered to a fetch that was refused
-module _ {D : Type 0} (heap : HeapId) (reads : D → ℕ → Result (List ℕ) DeviceFault → D → Type 0) (e f : EvacOf (BookSeat D) D) (p : ℕ) (named : heap_of e.copying e.book.near ≡ heap)
-    (lawful : IsLawful (moment seat_view e)) (far : says_far (cell_in e p) ≡ true) (came : Came seat_makes e.book.near f.book.near) where
-  read_refused : (why : Refused) → AnswersRead reads p why (cell_in e p) e.book.device f.book.device → BookDid D heap (RefusesRead reads p why)
-  read_refused why answers = record {
-    before = e;
-    later = f;
-    named = named;
-    lawful = lawful;
-    came = came;
-    there = seat_there e.book.near;
-    did = (far, answers);
-  }
-
-  module _ (lets_go : D → ℕ → D → Type 0) where
-    refused_answered : (why : Refused) → AsksToFetch D reads lets_go ⊥ (core_of e) (core_of f) p (Err why) e.book.device f.book.device → IsAnswered D heap reads p why
-    refused_answered NoRoom asked = tt
-    refused_answered Memory asked = read_refused Memory asked
-    refused_answered Device asked = read_refused Device asked
-    refused_answered Damaged asked = read_refused Damaged asked
-    refused_answered why asked = absurd asked
-
-    pub fetch_answered : (answer : Result (Option Place) Refused) → AsksToFetch D reads lets_go ⊥ (core_of e) (core_of f) p answer e.book.device f.book.device → IfErr answer (IsAnswered D heap reads p)
-    fetch_answered (Ok place) asked = tt
-    fetch_answered (Err why) asked = refused_answered why asked

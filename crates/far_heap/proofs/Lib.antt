@@ -22,6 +22,7 @@ pub mod RoundTurns
 pub mod RoundRests
 pub mod RoundChoices
 pub mod Causes
+pub mod Leaving
 pub mod Bringing
 pub mod Resting
 pub mod Refusals

@@ -17,7 +17,7 @@ use Rattle.far_book.specs.book.Fetching.{far_len}
 use Rattle.far_book.specs.book.Ledger.{IsLowestFree}
 use Rattle.far_evac.specs.EvacOf.{EvacOf, moment}
 use Rattle.far_evac.specs.MomentLaw.{IsLawful}
-use Rattle.far_heap.specs.Helping.{PlacesNew, cell_in, core_of, says_far}
+use Rattle.far_heap.specs.Helping.{OnlyFinds, PlacesNew, cell_in, core_of, says_far}
 use Rattle.far_heap.specs.HeapId.{HeapId, heap_of}
 use Rattle.far_heap.specs.Mine.{IsNoObject, Mine, adopting, is_length, owns, uses}
 
@@ -121,11 +121,21 @@ AnswersRead reads p why.Device o d t = reads d p (Err fault.Device) t
 AnswersRead reads p why.Damaged o d t = (bytes : List ℕ) × reads d p (Ok bytes) t × (length bytes ≢ far_len o)
 AnswersRead reads p other o d t = ⊥
 
--- a pointer's cell said far, and so the device answered; it was asked nothing else
+-- a pointer's cell said far, and says so still; and so the device answered. It was asked nothing else
 abbrev pub RefusesRead : {D : Type 0} → (D → ℕ → Result (List ℕ) DeviceFault → D → Type 0) → ℕ → Refused → EvacOf (BookSeat D) D → EvacOf (BookSeat D) D → Type 0
-RefusesRead {D} reads p why e f = (says_far (cell_in e p) ≡ true) × AnswersRead reads p why (cell_in e p) e.book.device f.book.device
+RefusesRead {D} reads p why e f = (says_far (cell_in e p) ≡ true) × (says_far (cell_in f p) ≡ true) × AnswersRead reads p why (cell_in e p) e.book.device f.book.device
 
--- where an object isn't brought, but for want of room, the device answered so
+-- what the device was asked for an object that it didn't give: nothing, for want of room
+abbrev pub AsksInVain : {D : Type 0} → (D → ℕ → Result (List ℕ) DeviceFault → D → Type 0) → ℕ → Refused → EvacOf (BookSeat D) D → EvacOf (BookSeat D) D → Type 0
+AsksInVain reads p why.NoRoom e f = f.book.device ≡ e.book.device
+AsksInVain reads p other e f = RefusesRead reads p other e f
+
+-- an object wasn't brought, and all is left as it was, but that marks may have been found in its cell
+module _ {D : Type 0} (reads : D → ℕ → Result (List ℕ) DeviceFault → D → Type 0) (p : ℕ) where
+  pub record LeavesIt (why : Refused) (e f : EvacOf (BookSeat D) D) : Type 0 where
+    pub book : OnlyFinds e f p
+    pub asked : AsksInVain reads p why e f
+
+-- a book of this heap left it so
 abbrev pub IsAnswered : (D : Type 0) → HeapId → (D → ℕ → Result (List ℕ) DeviceFault → D → Type 0) → ℕ → Refused → Type 0
-IsAnswered D heap reads p why.NoRoom = Unit {0}
-IsAnswered D heap reads p other = BookDid D heap (RefusesRead reads p other)
+IsAnswered D heap reads p why = BookDid D heap (LeavesIt reads p why)

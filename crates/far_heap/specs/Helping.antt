@@ -9,6 +9,7 @@ use Rattle.far_device.specs.declared.fault.DeviceFault.{DeviceFault}
 use Rattle.far_core.specs.declared.event.Event.TheVariants.{See}
 use Rattle.far_core.specs.declared.event.Reply.TheVariants.{Word}
 use Rattle.far_core.specs.state.State.{State, put}
+use Rattle.far_hand.specs.Came.{Came}
 use Rattle.far_hand.specs.Finds.{Finds}
 use Rattle.far_table.specs.declared.book.BookSeat.{BookSeat}
 use Rattle.far_table.specs.BookSeats.{seat_makes, seat_view}
@@ -45,6 +46,14 @@ module _ {D : Type 0} where
     pub kept : core_of f ≡ record (core_of e) { cell = put (core_of e).cell p ((core_of f).cell p) }
     pub order : f.book.order ≡ e.book.order
     pub device : f.book.device ≡ e.book.device
+    pub round : SameRound e f
+
+  -- its hand was called, and nothing else put in its place; nothing of it has changed, but that marks may have been found in a pointer's cell
+  pub record OnlyFinds (e f : EvacOf (BookSeat D) D) (p : ℕ) : Type 0 where
+    pub came : Came seat_makes e.book.near f.book.near
+    pub found : Finds ((core_of e).cell p) ((core_of f).cell p)
+    pub kept : core_of f ≡ record (core_of e) { cell = put (core_of e).cell p ((core_of f).cell p) }
+    pub order : f.book.order ≡ e.book.order
     pub round : SameRound e f
 
   -- a new object of so many zeros was placed for a pointer

@@ -123,8 +123,9 @@ impl<K: HeapName, D: Device + Drop> Scope<K, D> {
     /// Refused [`Refused::NotHeld`] exactly where this mutator doesn't use the pointer; and, never where the scope views it already, [`Refused::NoRoom`]
     /// only where, as the lock was held, there was no room for it where it was to come; where there was, and it was far, [`Refused::Memory`] or
     /// [`Refused::Device`] as the one read of the device was answered, the first never by one that reads in place, and [`Refused::Damaged`] only where the
-    /// far side isn't honest. The scope views what it did then. MOVE may have been set anew in the cell of an object that isn't viewed yet, by no other
-    /// call, and only where one pin, before all else, found a word on which no view may rest.
+    /// far side isn't honest. All else was left as it was then, but that marks may have been found in the object's cell: what was far is far. The scope views
+    /// what it did. MOVE may have been set anew in the cell of an object that isn't viewed yet, by no other call, and only where one pin, before all else,
+    /// found a word on which no view may rest.
     #[inline(always)]
     pub fn view<R: Wait>(&mut self, rt: &R, p: u16) -> Result<View, Refused>
         ensures refused { IfErr result (λ why. IsNoView self.old p why × Asks p self.old self.new) }

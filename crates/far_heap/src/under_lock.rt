@@ -3,7 +3,7 @@ ghost use Rattle.std.specs.Prelude.{◌≡◌, ◌≢◌, ◌⊎◌, ◌/◌, �
 ghost use Rattle.far_heap.specs.Mine.{Asks, AsksToView, IsUnbrought, drop_refusal, dropping, refusal_of, uses, viewing, views};
 ghost use Rattle.far_evac.specs.EvacOf.{SameRound};
 ghost use Rattle.far_heap.specs.Helping.{IsBrought};
-ghost use Rattle.far_heap.specs.BookHad.{Allocates, BookDid, BookHad, HasRoom, IsAnswered, IsFreed, LacksRoom, NoneFree, Places, Unbrought};
+ghost use Rattle.far_heap.specs.BookHad.{Allocates, BookDid, BookHad, HasRoom, IsAnswered, IsFreed, LacksRoom, LeavesIt, NoneFree, Places, Unbrought};
 ghost use Rattle.far_word.specs.declared.refused.Refused.{Refused as any_refusal};
 ghost use Rattle.far_word.specs.declared.refused.Refused.TheVariants.{Memory, NoPointer, NoRoom};
 ghost use Rattle.far_word.specs.declared.sizes.TheConstants.{CELLS, LONGEST};
@@ -137,7 +137,8 @@ pub(crate) fn view<K: HeapName, D: Device + Drop, R: Wait>(
     unreachable!()
 }
 
-// Brings an object that isn't viewed where it can be, and pins it there while the lock is held: whether it is viewed then.
+// Brings an object that isn't viewed where it can be, and pins it there while the lock is held: whether it is viewed then. Where that is refused all is left
+// as it was: what was far is far.
 fn bring<K: HeapName, D: Device + Drop>(
     book: &mut Evacuator<K, D>,
     own: &mut Own<K, D>,
@@ -149,12 +150,14 @@ fn bring<K: HeapName, D: Device + Drop>(
     requires unviewed { views own.old p ≡ false }
     ensures refused { IfErr result (λ why. IsUnbrought why × Asks p own.old own.new × ((why ≡ NoRoom) ⊎ (own.new ≡ own.old))) }
     ensures cause { IfErr result (λ why. BookHad D K.heap (Unbrought p why)) }
+    ensures left { IfErr result (λ why. LeavesIt D.reads p why book.old book.new) }
     ensures answered { IfErr result (IsAnswered D K.heap D.reads p) }
     ensures in_place { D.reads_in_place → result ≢ Err Memory }
     ensures viewed { result ≡ Ok true → AsksToView p own.old own.new }
     ensures slow { result ≡ Ok false → Asks p own.old own.new }
     ensures round { SameRound book.old book.new }
 {
+    book.keeps_law();
     match fetch_or_move(book, own, p) {
         Ok(true) => Ok(pin_brought(book, own, p)),
         Ok(false) => Ok(false),
@@ -182,7 +185,7 @@ fn pin_brought<K: HeapName, D: Device + Drop>(
 }
 
 // Has an object that isn't viewed brought where it can be: a far one is fetched; of a near one the owner sets MOVE, and the book moves it, or takes MOVE
-// away. Whether the book did so.
+// away. Whether the book did so. Where that is refused all is left as it was.
 fn fetch_or_move<K: HeapName, D: Device + Drop>(
     book: &mut Evacuator<K, D>,
     own: &mut Own<K, D>,
@@ -193,7 +196,7 @@ fn fetch_or_move<K: HeapName, D: Device + Drop>(
     requires unviewed { views own.old p ≡ false }
     ensures refused { IfErr result (λ why. IsUnbrought why × ((why ≡ NoRoom) ⊎ (own.new ≡ own.old))) }
     ensures cause { IfErr result (λ why. BookHad D K.heap (Unbrought p why)) }
-    ensures answered { IfErr result (IsAnswered D K.heap D.reads p) }
+    ensures left { IfErr result (λ why. LeavesIt D.reads p why book.old book.new) }
     ensures in_place { D.reads_in_place → result ≢ Err Memory }
     ensures brought { result ≡ Ok true → IsBrought D.contents D.honest D.faults D.fails_at_most D.lets_go D.forgets D.reads D.reads_in_place book.new p }
     ensures asks { Asks p own.old own.new }

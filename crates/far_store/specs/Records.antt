@@ -30,7 +30,7 @@ IsPlace m place = (uses m place.pointer ≡ true) × (place.from + RECORD ≤ le
 abbrev pub AreRead : Mine → Place → List ℕ → Type 0
 AreRead m place found = IfSome (bytes_in m place.pointer) (λ bytes. found ≡ slice_range bytes place.from (place.from + RECORD))
 
--- why an object can't be brought near: what was so of the heap's book while its lock was held, and what the device answered to its one read
+-- why an object can't be brought near: what was so of the heap's book while its lock was held, and what the device answered to its one read; it is left as it was
 abbrev pub IsToldOf : (D : Type 0) → HeapId → (D → ℕ → Result (List ℕ) DeviceFault → D → Type 0) → ℕ → Refused → Type 0
 IsToldOf D heap reads p why = BookHad D heap (Unbrought p why) × IsAnswered D heap reads p why
 

@@ -80,15 +80,13 @@ pub(crate) fn place_new<N: Near + Drop, D: Device + Drop>(
     }
 }
 
-// Fetches a far object, over a lawful book and a device that is honest where the words say that the far side is.
+// Fetches a far object, over a device that is honest where the words say that the far side is.
 pub(crate) fn fetch<N: Near + Drop, D: Device + Drop>(
     evac: &mut Evac<N, D>,
     pointer: u16,
 ) -> Result<Option<Place>, Refused>
     requires pointer { pointer < CELLS * (N.view evac.old.book.near).mutators }
     requires far { IsFar (N.view evac.old.book.near) pointer }
-    ensures law { Law (own_part (N.view evac.old.book.near)) }
-    ensures moment { MomentLaw (moment N.view evac.old) }
     ensures honest { (N.view evac.old.book.near).honest ≡ true → D.honest evac.old.book.device ≡ true }
     ensures fetched { FetchesObject N.still N.view N.makes D.contents D.honest D.faults D.fails_at_most D.lets_go D.forgets D.reads D.reads_in_place evac.old.book evac.new.book pointer result }
     ensures round { SameRound evac.old evac.new }

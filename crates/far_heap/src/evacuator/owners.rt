@@ -15,7 +15,7 @@ ghost use Rattle.far_book.specs.book.Ledger.{IsLowestFree};
 ghost use Rattle.far_evac.specs.EvacOf.{EvacOf, SameRound};
 ghost use Rattle.far_heap.specs.Helping.{FetchesIt, Looks, MovesIt, PlacesNew, RetiresIt, asks_move, cell_in, says_far};
 ghost use Rattle.far_heap.specs.Mine.{IsUnbrought};
-ghost use Rattle.far_heap.specs.BookHad.{BookHad, IsAnswered, IsFreed, LacksRoom, NoneFree, Unbrought};
+ghost use Rattle.far_heap.specs.BookHad.{BookHad, IsFreed, LacksRoom, NoneFree, Unbrought};
 
 use crate::evacuator::{Evacuator, held};
 use crate::name::HeapName;
@@ -80,7 +80,6 @@ impl<K: HeapName, D: Device + Drop> Evacuator<K, D> {
         ensures round { SameRound self.old self.new }
         ensures refused { IfSome result (λ answer. IfErr answer IsUnbrought) }
         ensures cause { IfSome result (λ answer. IfErr answer (λ why. BookHad D K.heap (Unbrought pointer why))) }
-        ensures answered { IfSome result (λ answer. IfErr answer (IsAnswered D K.heap D.reads pointer)) }
         ensures in_place { D.reads_in_place → result ≢ Some (Err Memory) }
         ensures fetched { (found : EvacOf (seat_of D) D) × Looks self.old found pointer
             × MatchOption result ((says_far (cell_in found pointer) ≡ false) × (self.new ≡ found))

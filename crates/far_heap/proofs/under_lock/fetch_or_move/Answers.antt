@@ -2,11 +2,14 @@ use Rattle.std.proofs.Common.{◌≡◌, ℕ, ◌<◌, ◌*◌, Some, Err, ap, i
 use Rattle.std.specs.Prelude.{IfErr}
 use Rattle.far_word.specs.declared.refused.Refused.TheVariants.{Memory, NoRoom}
 use Rattle.far_word.specs.declared.sizes.TheConstants.{CELLS}
-use Rattle.far_heap.specs.BookHad.{IsAnswered}
-use Rattle.far_heap.specs.Helping.{IsBrought}
+use Rattle.far_table.specs.declared.book.BookSeat.{BookSeat}
+use Rattle.far_evac.specs.EvacOf.{EvacOf}
+use Rattle.far_heap.specs.BookHad.{LeavesIt}
+use Rattle.far_heap.specs.Helping.{IsBrought, Looks}
 use Rattle.far_heap.specs.Mine.{IsUnbrought}
 use Rattle.far_heap.proofs.Asking.{asks_none}
 use Rattle.far_heap.proofs.Bringing.{brought_by}
+use Rattle.far_heap.proofs.Leaving.{fetch_leaves, move_leaves}
 use Rattle.far_heap.proofs.under_lock.fetch_or_move.Goals as goal
 
 pub returns-in-Ok-clause-asks : goal.returns-in-Ok-clause-asks
@@ -18,15 +21,27 @@ returns-in-Err-clause-asks g c = asks_none c.args.p c.args.own.now
 pub returns-in-Err-clause-refused : goal.returns-in-Err-clause-refused
 returns-in-Err-clause-refused g c = (subst (λ a. IfErr a IsUnbrought) c.in-Err.is c.in-Some.ensures.refused, inr refl)
 
+pub returns-in-Err-clause-left : goal.returns-in-Err-clause-left
+returns-in-Err-clause-left g c =
+    let d = g.D.Device in
+    let f = c.in-Some.ensures.fetched in
+    subst (λ a. IfErr a (λ why. LeavesIt d.reads c.args.p why c.args.book.now c.fetch_far.new.self)) c.in-Err.is
+    (fetch_leaves d.reads c.args.book.now f.0 c.args.p f.1 d.contents d.honest d.faults d.fails_at_most d.lets_go d.forgets c.fetch_far.new.self f.2.0 d.reads_in_place c.in-Some.fetched f.2.1)
+
+pub returns-in-Some-Err-clause-left : goal.returns-in-Some-Err-clause-left
+returns-in-Some-Err-clause-left g c =
+    let d = g.D.Device in
+    let p : ℕ = c.args.p in
+    let other = c.in_default.ensures.fetched in
+    let looks = subst (λ (e : EvacOf (BookSeat g.row.D.Denot) g.row.D.Denot). Looks c.args.book.now e p) (sym other.2.1) other.1 in
+    let m = c.in-Some-Err.ensures.moved in
+    subst (λ a. IfErr a (λ why. LeavesIt d.reads p why c.args.book.now c.move_asked.new.self)) c.in-Some-Err.field-0-is
+    (move_leaves d.reads c.args.book.now c.fetch_far.new.self p looks d.contents d.honest d.faults d.fails_at_most d.lets_go d.forgets c.move_asked.new.self _ c.ask_move-asked.ensures.pointer m.0 m.1 c.in-Some-Err.field-0 m.2.1)
+
 pub returns-in-Err-clause-in_place : goal.returns-in-Err-clause-in_place
 returns-in-Err-clause-in_place g c = λ kind is.
     let same : c.in-Err.why ≡ Memory = cc in
     c.fetch_far.ensures.in_place kind (c.in-Some.is ∙ ap Some (c.in-Err.is ∙ ap Err same))
-
-pub returns-in-Some-Err-clause-answered : goal.returns-in-Some-Err-clause-answered
-returns-in-Some-Err-clause-answered g c =
-    let none : c.in-Some-Err.why ≡ NoRoom = subst (λ a. IfErr a (λ why. why ≡ NoRoom)) c.in-Some-Err.field-0-is c.in-Some-Err.ensures.refused in
-    subst (IsAnswered g.row.D.Denot g.K.HeapName.heap g.D.Device.reads c.args.p) (sym none) tt
 
 pub returns-in-Some-Err-clause-in_place : goal.returns-in-Some-Err-clause-in_place
 returns-in-Some-Err-clause-in_place g c = λ kind is.

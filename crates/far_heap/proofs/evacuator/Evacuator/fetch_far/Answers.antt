@@ -3,7 +3,7 @@ use Rattle.far_word.specs.declared.refused.Refused.TheVariants.{Memory}
 use Rattle.far_table.specs.declared.book.BookSeat.{BookSeat}
 use Rattle.far_evac.specs.EvacOf.{EvacOf, SameRound}
 use Rattle.far_heap.specs.Helping.{Looks}
-use Rattle.far_heap.proofs.Causes.{fetch_answered, fetch_cause}
+use Rattle.far_heap.proofs.Causes.{fetch_cause}
 use Rattle.far_heap.proofs.Named.{stays_named}
 use Rattle.far_heap.proofs.Under.{is_far}
 use Rattle.far_heap.proofs.evacuator.Evacuator.fetch_far.Goals as goal
@@ -57,11 +57,3 @@ returns-clause-round g c =
 
 pub returns-clause-in_place : goal.returns-clause-in_place
 returns-clause-in_place g c = λ kind is. let same : c.fetch.result ≡ Err Memory = cc in c.fetch.ensures.fetched.in_place kind same
-
-pub returns-clause-answered : goal.returns-clause-answered
-returns-clause-answered g c =
-    let found = c.locate.new.self in
-    let named = stays_named g.K.HeapName.heap c.self.inside.evac found c.locate.ensures.found.came c.locate.ensures.round.2 c.self.invariant in
-    let f = c.fetch.ensures in
-    fetch_answered g.K.HeapName.heap g.D.Device.reads found c.fetch.new.evac c.args.pointer named (f.law, f.moment) (sym (c.is_far.ensures _ c.locate.ensures.found.home) ∙ c.if-not-is_far.false)
-    f.fetched.came g.D.Device.lets_go c.fetch.result f.fetched.called
