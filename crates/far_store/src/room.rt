@@ -173,8 +173,9 @@ fn counted(counts: Counts, made: Made) -> Counts
 /// free, and else does nothing. `until` is told what the last step did, and may sleep: by [`far_signs::Signs::rest`] until somebody was refused room, or
 /// took so much that it is to look. What its turns did is told, but for one that was refused in its midst: that is in the fault.
 ///
-/// `free` is 2 to the number of logs less 2, and `most` at least 1; with other numbers those who wait for room may wait for ever. Refused as
-/// [`Evacuator::select`] and [`Evacuator::turn`] are. The round that stands then goes on if the call is made again.
+/// `free` is 2 to the number of logs less 2, and `most` at least 1; with other numbers those who wait for room may wait for ever. Refused where
+/// [`Evacuator::select`] is, or [`Evacuator::turn`], by that with [`Refused::Memory`] or [`Refused::Device`]. The round that stands then goes on if the
+/// call is made again.
 pub fn keep_free<K: HeapName, D: Device + Drop, R: Wait, P: Policy, U: Fn(Option<Made>) -> bool>(
     rt: &R,
     heap: &Heap<K, D>,
