@@ -2,14 +2,17 @@
 
 ghost use Rattle.std.specs.Prelude.{◌≡◌, ◌≢◌, ◌++◌, List, true, false, IfOk, IfErr, OnErr};
 ghost use Rattle.far_table.specs.BookSeats.{seat_view};
+ghost use Rattle.far_evac.specs.AnyTurns.{TurnsTo};
+ghost use Rattle.far_evac.specs.ByCopying.{StopsBy};
 ghost use Rattle.far_evac.specs.EvacOf.{moment};
-ghost use Rattle.far_evac.specs.Moment.{nothing, progress_of};
+ghost use Rattle.far_evac.specs.Moment.{nothing, progress_of, tally_of};
+ghost use Rattle.far_evac.specs.Turns.{turn_size};
 ghost use Rattle.far_evac.specs.declared.answers.Progress.{Progress as progress};
 ghost use Rattle.far_evac.specs.declared.phase.Phase.TheVariants.{Idle};
 ghost use Rattle.far_heap.specs.BookHad.{BookHad, HasRoom};
 ghost use Rattle.far_heap.specs.Mine.{adopting, is_length, owns, uses};
 ghost use Rattle.far_store.specs.Counting.{counts_of, turns_in, turns_of};
-ghost use Rattle.far_store.specs.FreeLogs.{AreSteps, EndsSteps, IsGivenUp, IsStep, IsUnmade, Stopped, Turned, free_in, newest};
+ghost use Rattle.far_store.specs.FreeLogs.{AreSteps, Begins, EndsSteps, IsGivenUp, IsStep, IsUnmade, LacksInVain, Stopped, Turned, free_in, newest};
 ghost use Rattle.far_store.specs.declared.room.Made.{Made as made};
 
 use crate::counts::Counts;
@@ -97,6 +100,9 @@ fn go_on<K: HeapName, D: Device + Drop>(book: &mut Evacuator<K, D>) -> Result<Pr
     requires { book.old.phase ≢ Idle }
     ensures turned { IfOk result (Turned D K.heap) }
     ensures refused { IfErr result (Stopped D K.heap) }
+    ensures turns { IfOk result (λ made. TurnsTo (moment seat_view book.old) book.old.phase (tally_of made) made.done (moment seat_view book.new)) }
+    ensures stops { IfErr result (λ fault. StopsBy (moment seat_view book.old) turn_size (moment seat_view book.new) (tally_of fault.so_far)) }
+    ensures stays { IfErr result (λ _. book.new.phase ≡ book.old.phase) }
 {
     book.keeps_law();
     match book.turn() {
@@ -113,8 +119,8 @@ fn begin<K: HeapName, D: Device + Drop, P: Policy>(
     most: usize,
 ) -> Result<Made, EvacFault>
     requires { book.old.phase ≡ Idle }
-    ensures made { IfOk result (λ made. IsStep P.gives D K.heap free most policy.old made policy.new) }
-    ensures refused { IfErr result (λ fault. IsUnmade P.gives D K.heap free most policy.old fault policy.new) }
+    ensures made { IfOk result (λ made. Begins P.gives K.heap free most policy.old made policy.new book.old book.new) }
+    ensures refused { IfErr result (λ fault. (fault.so_far ≡ progress_of nothing false) × LacksInVain P.gives K.heap free most policy.old fault.why policy.new book.old book.new) }
 {
     book.keeps_law();
     if free_logs(book) >= free {
