@@ -1,5 +1,5 @@
 -- A step of the thread that keeps logs free.
-use Rattle.std.proofs.Common.{◌≡◌, ℕ, false, true, List, [], ◌∷◌, Result, Ok, Err, length, nat_eq, refl, arith, eqb, inl}
+use Rattle.std.proofs.Common.{◌≡◌, ℕ, false, true, List, [], ◌∷◌, Result, Ok, Err, length, nat_eq, refl, arith, inl}
 use Rattle.std.specs.Prelude.{IfErr, IfOk}
 use Rattle.std.proofs.lemmas.Bool.{eqb-true}
 use Rattle.far_log.specs.declared.row.LogRow.{LogRow}
