@@ -39,6 +39,7 @@ module _ (part : Part) (objects : List ℕ) where
   pub whole_same : (m n : Mine) → SameObjects m n → IsWhole part objects m → IsWhole part objects n
   whole_same m n same whole = record {
     enough = whole.enough;
+    few = whole.few;
     used = λ i lt. uses_same m n same (slice_index objects i) ∙ whole.used i lt;
     long = λ i lt. len_same m n same (slice_index objects i) ∙ whole.long i lt;
     apart = whole.apart;
@@ -105,6 +106,7 @@ module _ (part : Part) (objects : List ℕ) where
       pub whole_written : IsWhole part objects n
       whole_written = record {
         enough = whole.enough;
+        few = whole.few;
         used = λ i lt. uses_kept m n (pointer number) from new wrote (slice_index objects i) ∙ whole.used i lt;
         long = λ i lt. len_kept m n (pointer number) from new wrote (slice_index objects i) ∙ whole.long i lt;
         apart = whole.apart;
@@ -112,8 +114,8 @@ module _ (part : Part) (objects : List ℕ) where
 
   -- ---- a new shard
   module _ (m : Mine) (new : AreZeros m objects) (enough : part.count ≤ length objects * PER_OBJECT) where
-    pub whole_new : IsWhole part objects m
-    whole_new = record { enough = enough; used = new.used; long = new.long; apart = new.apart }
+    pub whole_new : length objects * PER_OBJECT < part.count + PER_OBJECT → IsWhole part objects m
+    whole_new few = record { enough = enough; few = few; used = new.used; long = new.long; apart = new.apart }
 
     pub record_new : m.honest ≡ true → (number : ℕ) → has part number ≡ true → held_in part objects m number ≡ Some (replicate RECORD 0)
     record_new honest number mine =

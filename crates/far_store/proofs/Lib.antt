@@ -1,3 +1,4 @@
+pub mod FreeRoom
 pub mod Held
 pub mod Keeping
 pub mod Newcomers

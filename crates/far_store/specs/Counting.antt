@@ -1,5 +1,5 @@
 -- Counts of what was done.
-use Rattle.std.specs.Prelude.{ℕ, ◌+◌, ◌-◌, ◌^◌, min, List, [], ◌∷◌, ◌++◌}
+use Rattle.std.specs.Prelude.{◌≡◌, ℕ, ◌+◌, ◌-◌, ◌^◌, min, true, false, List, [], ◌∷◌, ◌++◌}
 use Rattle.std.specs.List.{count_by, sum_by}
 use Rattle.far_evac.specs.declared.answers.Progress.{Progress}
 use Rattle.far_store.specs.declared.counts.Counts.{Counts}
@@ -40,3 +40,20 @@ turns_of (Turned turn) = turn ∷ []
 abbrev pub turns_in : List Made → List Progress
 turns_in [] = []
 turns_in (made ∷ steps) = turns_in steps ++ turns_of made
+
+-- ---- worked: two turns, the second the round's last
+abbrev pub first_turn : Progress
+first_turn = record { moved = 3; far = 20; dropped = 100; freed = 1000; done = false }
+
+abbrev pub last_turn : Progress
+last_turn = record { moved = 4; far = 30; dropped = 200; freed = 2000; done = true }
+
+-- what these count as, alone, together, and with those of threads; and in which order they are counted
+pub record CountsAreSo : Type 0 where
+  pub none : counts_of [] ≡ record { fetches = 0; evictions = 0; moves = 0; rounds = 0; waits = 0 }
+  pub one : counts_of (first_turn ∷ []) ≡ record { fetches = 0; evictions = 20; moves = 3; rounds = 0; waits = 0 }
+  pub both : counts_of (first_turn ∷ last_turn ∷ []) ≡ record { fetches = 0; evictions = 50; moves = 7; rounds = 1; waits = 0 }
+  pub with_others : counted_with (counts_of (first_turn ∷ last_turn ∷ [])) (record { fetches = 600; evictions = 0; moves = 0; rounds = 0; waits = 8000 })
+      ≡ record { fetches = 600; evictions = 50; moves = 7; rounds = 1; waits = 8000 }
+  pub steps : turns_in (Enough ∷ Turned last_turn ∷ Begun ∷ Unchosen ∷ Turned first_turn ∷ []) ≡ first_turn ∷ last_turn ∷ []
+  pub most : told 18446744073709551616 ≡ 18446744073709551615

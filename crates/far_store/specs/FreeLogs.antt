@@ -43,9 +43,26 @@ free_in e = free_below (moment seat_view e) (seat_view e.book.near).logs
 abbrev pub IsBookOf : {D : Type 0} → HeapId → EvacOf (BookSeat D) D → Type 0
 IsBookOf heap e = (heap_of e.copying e.book.near ≡ heap) × IsLawful (moment seat_view e)
 
--- there was a book of this heap in no round, of whose logs so many were free, or more
-abbrev pub HadFree : (D : Type 0) → HeapId → ℕ → Type 0
-HadFree D heap free = (e : EvacOf (BookSeat D) D) × IsBookOf heap e × (e.phase ≡ Idle) × (free ≤ free_in e)
+-- ---- what a step makes of a book of this heap that is in no round, and of the policy that chooses, at most so many logs: it leads from e to f
+module _ {P D : Type 0} (gives : P → List LogRow → ℕ → Result (List ℕ) Refused → P → Type 0) (heap : HeapId) (free most : ℕ) where
+  -- fewer logs are free. The policy was asked, and chose these: in f their round is begun, if they are any
+  pub record LacksAndChooses (before : P) (logs : List ℕ) (after : P) (e f : EvacOf (BookSeat D) D) : Type 0 where
+    pub idle : e.phase ≡ Idle
+    pub few : free_in e < free
+    pub chooses : Chooses gives heap before most after logs e f
+
+  -- or none was begun, since the epochs are spent, or by the policy's refusal: f is e
+  pub record LacksInVain (before : P) (why : Refused) (after : P) (e f : EvacOf (BookSeat D) D) : Type 0 where
+    pub idle : e.phase ≡ Idle
+    pub few : free_in e < free
+    pub refuses : ChoosesNone gives heap before most after why e f
+
+  -- where enough are free f is e
+  abbrev pub Begins : P → Made → P → EvacOf (BookSeat D) D → EvacOf (BookSeat D) D → Type 0
+  Begins before step.Enough after e f = IsBookOf heap e × (e.phase ≡ Idle) × (free ≤ free_in e) × (f ≡ e) × (after ≡ before)
+  Begins before step.Unchosen after e f = LacksAndChooses before [] after e f
+  Begins before step.Begun after e f = (logs : List ℕ) × (logs ≢ []) × LacksAndChooses before logs after e f
+  Begins before (step.Turned turn) after e f = ⊥
 
 -- there was a book of this heap in a round, and one turn of that, by the book's own calls alone, did this
 abbrev pub Turned : (D : Type 0) → HeapId → Progress → Type 0
@@ -60,18 +77,17 @@ Stopped D heap fault = (e : EvacOf (BookSeat D) D) × IsBookOf heap e × (e.phas
 
 -- ---- steps of who keeps logs free, and what became of the policy that chooses, at most so many logs
 module _ {P : Type 0} (gives : P → List LogRow → ℕ → Result (List ℕ) Refused → P → Type 0) (D : Type 0) (heap : HeapId) (free most : ℕ) where
-  -- no round stood, and fewer logs were free. The policy was asked, and chose these: their round was begun, if they are any
-  abbrev pub LackedAndChose : P → List ℕ → P → Type 0
-  LackedAndChose before logs after = (e : EvacOf (BookSeat D) D) × (f : EvacOf (BookSeat D) D) × (e.phase ≡ Idle) × (free_in e < free) × Chooses gives heap before most after logs e f
+  -- so it was of some book, while the lock was held
+  abbrev pub Began : P → Made → P → Type 0
+  Began before made after = (e : EvacOf (BookSeat D) D) × (f : EvacOf (BookSeat D) D) × Begins gives heap free most before made after e f
 
-  -- or none was begun, since the epochs are spent, or by the policy's refusal
   abbrev pub LackedInVain : P → Refused → P → Type 0
-  LackedInVain before why after = (e : EvacOf (BookSeat D) D) × (e.phase ≡ Idle) × (free_in e < free) × ChoosesNone gives heap before most after why e e
+  LackedInVain before why after = (e : EvacOf (BookSeat D) D) × (f : EvacOf (BookSeat D) D) × LacksInVain gives heap free most before why after e f
 
   abbrev pub IsStep : P → Made → P → Type 0
-  IsStep before step.Enough after = HadFree D heap free × (after ≡ before)
-  IsStep before step.Unchosen after = LackedAndChose before [] after
-  IsStep before step.Begun after = (logs : List ℕ) × (logs ≢ []) × LackedAndChose before logs after
+  IsStep before step.Enough after = Began before step.Enough after
+  IsStep before step.Unchosen after = Began before step.Unchosen after
+  IsStep before step.Begun after = Began before step.Begun after
   IsStep before (step.Turned turn) after = Turned D heap turn × (after ≡ before)
 
   -- why a step wasn't made

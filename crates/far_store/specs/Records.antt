@@ -79,9 +79,10 @@ pub record Records : Type 0 where
 abbrev pub held : Records → ℕ → Option (List ℕ)
 held shard number = held_by shard.part shard.objects shard.mutator number
 
--- each object is one that the mutator uses, and no other's; they are enough
+-- each object is one that the mutator uses, and no other's; they are enough, and none is there that no record needs
 pub record IsWhole (part : Part) (objects : List ℕ) (m : Mine) : Type 0 where
   pub enough : part.count ≤ length objects * PER_OBJECT
+  pub few : length objects * PER_OBJECT < part.count + PER_OBJECT
   pub used : (i : ℕ) → i < length objects → uses m (slice_index objects i) ≡ true
   pub long : (i : ℕ) → i < length objects → len_in m (slice_index objects i) ≡ OBJECT
   pub apart : (i j : ℕ) → i < length objects → j < length objects → slice_index objects i ≡ slice_index objects j → i ≡ j

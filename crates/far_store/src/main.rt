@@ -5,6 +5,7 @@ mod access;
 mod asked;
 mod counts;
 mod desk;
+mod laws;
 mod layout;
 mod random;
 mod room;

@@ -2,14 +2,17 @@
 
 ghost use Rattle.std.specs.Prelude.{◌≡◌, ◌≢◌, ◌++◌, List, true, false, IfOk, IfErr, OnErr};
 ghost use Rattle.far_table.specs.BookSeats.{seat_view};
+ghost use Rattle.far_evac.specs.AnyTurns.{TurnsTo};
+ghost use Rattle.far_evac.specs.ByCopying.{StopsBy};
 ghost use Rattle.far_evac.specs.EvacOf.{moment};
-ghost use Rattle.far_evac.specs.Moment.{nothing, progress_of};
+ghost use Rattle.far_evac.specs.Moment.{nothing, progress_of, tally_of};
+ghost use Rattle.far_evac.specs.Turns.{turn_size};
 ghost use Rattle.far_evac.specs.declared.answers.Progress.{Progress as progress};
 ghost use Rattle.far_evac.specs.declared.phase.Phase.TheVariants.{Idle};
 ghost use Rattle.far_heap.specs.BookHad.{BookHad, HasRoom};
 ghost use Rattle.far_heap.specs.Mine.{adopting, is_length, owns, uses};
 ghost use Rattle.far_store.specs.Counting.{counts_of, turns_in, turns_of};
-ghost use Rattle.far_store.specs.FreeLogs.{AreSteps, EndsSteps, IsGivenUp, IsStep, IsUnmade, Stopped, Turned, free_in, newest};
+ghost use Rattle.far_store.specs.FreeLogs.{AreSteps, Begins, EndsSteps, IsGivenUp, IsStep, IsUnmade, LacksInVain, Stopped, Turned, free_in, newest};
 ghost use Rattle.far_store.specs.declared.room.Made.{Made as made};
 
 use crate::counts::Counts;
@@ -97,6 +100,9 @@ fn go_on<K: HeapName, D: Device + Drop>(book: &mut Evacuator<K, D>) -> Result<Pr
     requires { book.old.phase ≢ Idle }
     ensures turned { IfOk result (Turned D K.heap) }
     ensures refused { IfErr result (Stopped D K.heap) }
+    ensures turns { IfOk result (λ made. TurnsTo (moment seat_view book.old) book.old.phase (tally_of made) made.done (moment seat_view book.new)) }
+    ensures stops { IfErr result (λ fault. StopsBy (moment seat_view book.old) turn_size (moment seat_view book.new) (tally_of fault.so_far)) }
+    ensures stays { IfErr result (λ _. book.new.phase ≡ book.old.phase) }
 {
     book.keeps_law();
     match book.turn() {
@@ -113,8 +119,8 @@ fn begin<K: HeapName, D: Device + Drop, P: Policy>(
     most: usize,
 ) -> Result<Made, EvacFault>
     requires { book.old.phase ≡ Idle }
-    ensures made { IfOk result (λ made. IsStep P.gives D K.heap free most policy.old made policy.new) }
-    ensures refused { IfErr result (λ fault. IsUnmade P.gives D K.heap free most policy.old fault policy.new) }
+    ensures made { IfOk result (λ made. Begins P.gives K.heap free most policy.old made policy.new book.old book.new) }
+    ensures refused { IfErr result (λ fault. (fault.so_far ≡ progress_of nothing false) × LacksInVain P.gives K.heap free most policy.old fault.why policy.new book.old book.new) }
 {
     book.keeps_law();
     if free_logs(book) >= free {
@@ -173,8 +179,9 @@ fn counted(counts: Counts, made: Made) -> Counts
 /// free, and else does nothing. `until` is told what the last step did, and may sleep: by [`far_signs::Signs::rest`] until somebody was refused room, or
 /// took so much that it is to look. What its turns did is told, but for one that was refused in its midst: that is in the fault.
 ///
-/// `free` is 2 to the number of logs less 2, and `most` at least 1; with other numbers those who wait for room may wait for ever. Refused as
-/// [`Evacuator::select`] and [`Evacuator::turn`] are. The round that stands then goes on if the call is made again.
+/// `free` is 2 to the number of logs less 2, and `most` at least 1; with other numbers those who wait for room may wait for ever. Refused where
+/// [`Evacuator::select`] is, or [`Evacuator::turn`], by that with [`Refused::Memory`] or [`Refused::Device`]. The round that stands then goes on if the
+/// call is made again.
 pub fn keep_free<K: HeapName, D: Device + Drop, R: Wait, P: Policy, U: Fn(Option<Made>) -> bool>(
     rt: &R,
     heap: &Heap<K, D>,

@@ -9,3 +9,12 @@ returns-in-Err-clause-refused g c =
     let law = c.keeps_law.ensures in
     let (leaves, stops) = c.in-Err.ensures.stops c.requires in
     (c.args.book.now, (law.named, (law.law, law.moment)), leaves, c.turn.new.self, c.turn.ensures.came, stops, c.in-Err.ensures.why c.requires)
+
+pub returns-in-Ok-clause-turns : goal.returns-in-Ok-clause-turns
+returns-in-Ok-clause-turns g c = c.in-Ok.ensures.turns
+
+pub returns-in-Err-clause-stops : goal.returns-in-Err-clause-stops
+returns-in-Err-clause-stops g c = (c.in-Err.ensures.stops c.requires).1
+
+pub returns-in-Err-clause-stays : goal.returns-in-Err-clause-stays
+returns-in-Err-clause-stays g c = c.in-Err.ensures.stays
