@@ -32,9 +32,10 @@ pub fn mutators_are_told_so()
     ensures memory { NoneLacksMemory }
 {}
 
-/// What the book's lines are told, by what is asked and told alone: each is told one thing. A round that is refused tells no counts where its refusal is 12 or 13, and 13 tells that at
-/// some moment no epoch was left; it tells counts where that is 1 or 10, or 12 and it had done something. One log is refused 8 exactly where the heap has none of its number, an audit is
-/// refused 1 alone, and each line of a log makes 4,096 bytes.
+/// What the book's lines are told, by what is asked and told alone: each is told one thing. Logs are told by number, from 0 on, or the one that is asked for, and each line of a log
+/// makes 4,096 bytes; one log is refused 8 exactly where the heap has none of its number. An audit tells how many cells said near and how many said far, each pointer counted once, and
+/// the live bytes of all logs, of one moment; it is refused 1 alone. A round is told `none` only where it was to choose none, or no log was sealed, `done` only after a turn. A round that is
+/// refused tells no counts where its refusal is 12 or 13, and 13 tells that at some moment no epoch was left; it tells counts where that is 1 or 10, or 12 and it had done something.
 pub fn book_is_told_so()
     ensures rounds { RoundsAreRefusedSo }
     ensures lines { BookIsToldSo }
