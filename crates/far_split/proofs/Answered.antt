@@ -10,7 +10,7 @@ use Rattle.far_word.specs.declared.refused.Refused.TheVariants.{AlreadyOpen, Clo
 use Rattle.far_word.specs.declared.sizes.TheConstants.{CELLS, LONGEST}
 use Rattle.far_core.specs.state.State.{put}
 use Rattle.far_core.proofs.Put.{put_same}
-use Rattle.far_heap.specs.BookHad.{BookHad, HasRoom, LacksRoom, NoneFree, Unbrought}
+use Rattle.far_heap.specs.BookHad.{BookHad, HasRoom, LacksRoom, NoneFree}
 use Rattle.far_heap.specs.HeapId.{HeapId}
 use Rattle.far_heap.specs.Mine.{Asks, AsksToView, IsNoObject, IsNoView, IsRefusedNew, IsRefusedView, IsSlow, IsUnbrought, Mine, adopting, asking, bytes_in, closing, drop_refusal, dropping, ds_in, is_length, len_in, opening, owns, uses, viewing, views, with_range, writing}
 use Rattle.far_heap.specs.MineLaw.{MineLaw}
@@ -20,7 +20,7 @@ use Rattle.far_replay.specs.Alone.{Knows, Own}
 use Rattle.far_reply.specs.Reply.{Data, Done, Pointer, Refused, Reply}
 use Rattle.far_replay.proofs.Fronts.{ranges_same}
 use Rattle.far_split.specs.FarSides.{FarSide}
-use Rattle.far_split.specs.Here.{Hindered, IsUndamaged, KnowsHere, TellsOfHeap}
+use Rattle.far_split.specs.Here.{Hindered, IsToldOf, IsUndamaged, KnowsHere, TellsOfHeap}
 use Rattle.far_split.specs.Slots.{Answers, AreSizes, IsOwn, IsReached, Learns, needs_scope}
 use Rattle.far_split.specs.declared.access.Access.{Access}
 use Rattle.far_split.proofs.Owns.{is_adopting, is_closing, is_dropping, is_opening, is_otherwise, is_viewing, is_writing, unused_none, used_known, used_own}
@@ -53,12 +53,12 @@ no_view false v why h = inl (refl, h)
 
 -- an object that isn't viewed can't be brought
 module _ {heap : HeapId} (m : Mine) (o : Own) (opened : o.opened ≡ true) (p : ℕ) (all : List ℕ) (known : o.object p ≡ Some all) (why : Refusal) (unviewed : o.viewed p ≡ false) (is : IsUnbrought why)
-    (honestly : why ≡ Damaged → m.honest ≡ false) (never : why ≢ Memory) (cause : BookHad FarSide heap (Unbrought p why)) where
-  unbrought : (request : Request) → (BookHad FarSide heap (Unbrought p NoRoom) → IsToldSo heap m o request NoRoom) → (BookHad FarSide heap (Unbrought p Device) → IsToldSo heap m o request Device) → ((m.honest ≡ true → IsUndamaged (Refused Damaged)) → BookHad FarSide heap (Unbrought p Damaged) → IsToldSo heap m o request Damaged)
+    (honestly : why ≡ Damaged → m.honest ≡ false) (never : why ≢ Memory) (cause : IsToldOf heap p why) where
+  unbrought : (request : Request) → (IsToldOf heap p NoRoom → IsToldSo heap m o request NoRoom) → (IsToldOf heap p Device → IsToldSo heap m o request Device) → ((m.honest ≡ true → IsUndamaged (Refused Damaged)) → IsToldOf heap p Damaged → IsToldSo heap m o request Damaged)
       → IsToldSo heap m o request why
   unbrought request buffer device damaged =
-      let by : (other : Refusal) → why ≡ other → (BookHad FarSide heap (Unbrought p other) → IsToldSo heap m o request other) → IsToldSo heap m o request why
-      = λ other e told. subst (IsToldSo heap m o request) (sym e) (told (subst (λ (x : Refusal). BookHad FarSide heap (Unbrought p x)) e cause)) in
+      let by : (other : Refusal) → why ≡ other → (IsToldOf heap p other → IsToldSo heap m o request other) → IsToldSo heap m o request why
+      = λ other e told. subst (IsToldSo heap m o request) (sym e) (told (subst (λ (x : Refusal). IsToldOf heap p x) e cause)) in
       elim is [
         | inl e ↦ by NoRoom e buffer
         | inr (inl e) ↦ absurd (never e)
@@ -217,7 +217,7 @@ module _ {heap : HeapId} (m : Mine) (law : MineLaw m) where
           (known.all, known.is, (ds_in m p, subst (λ l. IsSlow l (ds_in m p) (read_of word)) (sym known.long) slow)),
         )))
 
-    module _ (n : Mine) (why : Refusal) (no : IsNoView m p why) (asks : Asks p m n) (honestly : why ≡ Damaged → m.honest ≡ false) (never : why ≢ Memory) (cause : uses m p ≡ true → BookHad FarSide heap (Unbrought p why)) where
+    module _ (n : Mine) (why : Refusal) (no : IsNoView m p why) (asks : Asks p m n) (honestly : why ≡ Damaged → m.honest ≡ false) (never : why ≢ Memory) (cause : uses m p ≡ true → IsToldOf heap p why) where
       unanswered : (request : Request) → ((o : Own) → IsOwn m o → IsToldSo heap m o request why) → Answers heap m request (Refused why) n
       unanswered request told = subst (λ (z : Mine). Answers heap m request (Refused why) z) (sym asks.1) (record {
         learns = λ o is. (let both = told o is in record { own = o; is = record { opened = is.opened; viewed = is.viewed; object = is.object }; knows = both.0; tells = both.1 });
@@ -322,11 +322,11 @@ whole out items n e = subst (λ k. take k (out ++ drop (length out) items) ≡ o
 -- ---- what they answer of a range that was looked at first
 module _ {heap : HeapId} (m : Mine) (law : MineLaw m) (opened : m.opened ≡ true) (p from : ℕ) where
   module _ (count : ℕ) (a : Access) (is : IsReached m p from count a) (n : Mine) where
-    pub unread_at : (why : Refusal) → IsNoView m a.pointer why → Asks a.pointer m n → (why ≡ Damaged → m.honest ≡ false) → why ≢ Memory → (uses m a.pointer ≡ true → BookHad FarSide heap (Unbrought a.pointer why))
+    pub unread_at : (why : Refusal) → IsNoView m a.pointer why → Asks a.pointer m n → (why ≡ Damaged → m.honest ≡ false) → why ≢ Memory → (uses m a.pointer ≡ true → IsToldOf heap a.pointer why)
         → Answers heap m (Read p from count) (Refused why) n
     unread_at why failed asks honestly never cause =
         unread m law opened p n why (subst (λ q. IsNoView m q why) is.0 failed) (subst (λ q. Asks q m n) is.0 asks) honestly never
-        (subst (λ q. uses m q ≡ true → BookHad FarSide heap (Unbrought q why)) is.0 cause) is.3 from count is.4 is.5
+        (subst (λ q. uses m q ≡ true → IsToldOf heap q why) is.0 cause) is.3 from count is.4 is.5
 
     -- the room has as many bytes as were asked for
     pub read_at : (v buffer k : ℕ) (out items : List ℕ) (later : Mine) → AsksToView a.pointer m n → v ≡ a.pointer → buffer ≡ a.count → length out ≡ buffer → k ≡ buffer → later ≡ n
@@ -340,11 +340,11 @@ module _ {heap : HeapId} (m : Mine) (law : MineLaw m) (opened : m.opened ≡ tru
         (has_read m law opened p is.3 n (subst (λ q. AsksToView q m n) is.0 views) from count out is.4 is.5 (long ∙ many ∙ is.2) ended))
 
   module _ (new : List ℕ) (a : Access) (is : IsReached m p from (length new) a) (n : Mine) where
-    pub unwritten_at : (why : Refusal) → IsNoView m a.pointer why → Asks a.pointer m n → (why ≡ Damaged → m.honest ≡ false) → why ≢ Memory → (uses m a.pointer ≡ true → BookHad FarSide heap (Unbrought a.pointer why))
+    pub unwritten_at : (why : Refusal) → IsNoView m a.pointer why → Asks a.pointer m n → (why ≡ Damaged → m.honest ≡ false) → why ≢ Memory → (uses m a.pointer ≡ true → IsToldOf heap a.pointer why)
         → Answers heap m (Write p from new) (Refused why) n
     unwritten_at why failed asks honestly never cause =
         unwritten m law opened p n why (subst (λ q. IsNoView m q why) is.0 failed) (subst (λ q. Asks q m n) is.0 asks) honestly never
-        (subst (λ q. uses m q ≡ true → BookHad FarSide heap (Unbrought q why)) is.0 cause) is.3 from new is.4 is.5
+        (subst (λ q. uses m q ≡ true → IsToldOf heap q why) is.0 cause) is.3 from new is.4 is.5
 
     pub written_at : (v : ℕ) (later : Mine) → AsksToView a.pointer m n → v ≡ a.pointer → later ≡ writing v a.from new n → Answers heap m (Write p from new) Done later
     written_at v later views at e =

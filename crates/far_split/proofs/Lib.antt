@@ -2,6 +2,7 @@ pub mod Allowed
 pub mod Answered
 pub mod Beginning
 pub mod BookSaid
+pub mod CellsSaid
 pub mod Faults
 pub mod Joining
 pub mod Keeping

@@ -1,13 +1,23 @@
 -- What the book's lines are told, in other words: by what is asked and told alone, and in digits.
-use Rattle.std.specs.Prelude.{◌≡◌, ◌⊎◌, ℕ, ◌+◌, ◌^◌, ◌<◌, ◌≤◌, List, length}
-use Rattle.std.specs.List.{AllByRecursion, AllZip}
+use Rattle.std.specs.Prelude.{◌≡◌, ◌≢◌, ◌⊎◌, ◌↔◌, ℕ, ◌+◌, ◌^◌, ◌<◌, ◌≤◌, false, true, Some, List, [], ◌∷◌, Contains, length, map, sum}
+use Rattle.std.specs.List.{AllByRecursion, AllZip, range_with_len}
+use Rattle.far_word.specs.declared.mark.Marks.{Marks}
+use Rattle.far_word.specs.declared.pointer.Place.{Place}
+use Rattle.far_word.specs.declared.pointer.PtrWord.TheVariants as pointer
 use Rattle.far_word.specs.declared.refused.Refused.{Refused as Refusal}
+use Rattle.far_word.specs.Pointer.{read_of}
 use Rattle.far_word.specs.Refused.{refusal_number}
+use Rattle.far_core.specs.declared.event.Kind.TheVariants as kinds
+use Rattle.far_core.specs.laws.Observed.{live_bytes}
+use Rattle.far_core.specs.state.State.{State}
 use Rattle.far_evac.specs.declared.answers.Progress.{Progress}
+use Rattle.far_evac.specs.declared.answers.RoundEnd.TheVariants as ends
 use Rattle.far_evac.specs.declared.phase.Phase.TheVariants.{Idle}
+use Rattle.far_evac.specs.LiveLaws.{IsInTurn}
 use Rattle.far_evac.specs.Moment.{Moment}
 use Rattle.far_heap.specs.HeapId.{HeapId}
 use Rattle.far_text.specs.Command.{Command, Book, Evacuator, Logs as AsksLogs, Log as AsksLog, Audit as AsksAudit, Policy, Round}
+use Rattle.far_reply.specs.declared.reply.Counts.{Counts}
 use Rattle.far_reply.specs.declared.reply.LogLine.{LogLine}
 use Rattle.far_reply.specs.Reply.{Reply, Audited, Ended, Halted, Logs, Refused}
 use Rattle.far_split.specs.BookTold.{BookStood, BookTold, TellsLine}
@@ -30,20 +40,48 @@ abbrev pub RoundsAreRefusedSo : Type 0
 RoundsAreRefusedSo = (heap : HeapId) (policy : Policy) (most turns : ℕ) (why : Refusal) (so_far : Progress) → (TellsLine heap (Evacuator (Round policy most turns)) (Refused why) → IsRefusedBare heap why)
     × (TellsLine heap (Evacuator (Round policy most turns)) (Halted why so_far) → IsRefusedWithCounts why so_far)
 
+-- ---- a round that ends
+-- no log was sealed, so there was none to choose
+abbrev pub HasNoneSealed : Moment → Type 0
+HasNoneSealed now = (l : ℕ) → l < now.core.logs → now.core.kind l ≢ kinds.Sealed
+
+-- ---- an audit
+-- a pointer's cell says that its object is near, or that it is far, and lacks DROP
+abbrev pub SaysNear : State → ℕ → Type 0
+SaysNear s p = (len structure : ℕ) × (place : Place) × (marks : Marks) × (read_of (s.cell p) ≡ Some (pointer.Near len structure place marks)) × (marks.dropped ≡ false)
+
+abbrev pub SaysFar : State → ℕ → Type 0
+SaysFar s p = (len structure : ℕ) × (marks : Marks) × (read_of (s.cell p) ≡ Some (pointer.Far len structure marks)) × (marks.dropped ≡ false)
+
+-- so many pointers are so: a list has each of them, once, and no other
+abbrev pub AreSoMany : (ℕ → Type 0) → ℕ → Type 0
+AreSoMany P many = (pointers : List ℕ) × (length pointers ≡ many) × IsInTurn (λ p q. p < q) pointers × ((p : ℕ) → Contains pointers p ↔ P p)
+
+-- all is counted: so many cells say near, so many far, and the logs have so many live bytes
+abbrev pub CountsAll : Counts → Moment → Type 0
+CountsAll counts now = AreSoMany (SaysNear now.core) counts.near × AreSoMany (SaysFar now.core) counts.far
+    × (counts.live ≡ sum (map (live_bytes now.core) (range_with_len 0 now.core.logs)))
+
 -- ---- all lines
 -- a log's three numbers make its bytes
 abbrev pub MakesBytes : LogLine → Type 0
 MakesBytes line = line.live + line.dead + line.unused ≡ 4096
 
--- what a line may be told: a line for each log, or for the one that is asked for; 8 where the heap has no such log; of an audit 1, and no other refusal; of a round the refusals above. A mutator's
--- line, and any other step of a round, is told nothing
+-- the logs that lines are of
+abbrev pub numbers_of : List LogLine → List ℕ
+numbers_of lines = map (λ (line : LogLine). line.log) lines
+
+-- what a line may be told: a line for each log from 0 on, or for the one that is asked for; 8 where the heap has no such log; of an audit what was counted of one moment, or 1, and no other
+-- refusal; of a round that no log was chosen, where none was to be or none was sealed, or how one ended that had turns, or the refusals above. A mutator's line, and any other step of a round, is told nothing
 abbrev pub IsToldSo : HeapId → Command → Reply → Type 0
-IsToldSo heap (Book AsksLogs) (Logs lines) = (length lines ≡ heap.logs) × AllByRecursion MakesBytes lines
-IsToldSo heap (Book (AsksLog log)) (Logs lines) = (log < heap.logs) × (length lines ≡ 1) × AllByRecursion MakesBytes lines
+IsToldSo heap (Book AsksLogs) (Logs lines) = (numbers_of lines ≡ range_with_len 0 heap.logs) × AllByRecursion MakesBytes lines
+IsToldSo heap (Book (AsksLog log)) (Logs lines) = (log < heap.logs) × (numbers_of lines ≡ log ∷ []) × AllByRecursion MakesBytes lines
 IsToldSo heap (Book (AsksLog log)) (Refused why) = (heap.logs ≤ log) × (refusal_number why ≡ 8)
-IsToldSo heap (Book AsksAudit) (Audited counts) = Unit {0}
+IsToldSo heap (Book AsksAudit) (Audited counts) = BookStood heap (CountsAll counts)
 IsToldSo heap (Book AsksAudit) (Refused why) = refusal_number why ≡ 1
-IsToldSo heap (Evacuator (Round policy most turns)) (Ended end) = Unit {0}
+IsToldSo heap (Evacuator (Round policy most turns)) (Ended ends.Nothing) = (most ≡ 0) ⊎ BookStood heap HasNoneSealed
+IsToldSo heap (Evacuator (Round policy most turns)) (Ended (ends.Done progress)) = (0 < most) × (0 < turns) × (progress.done ≡ true)
+IsToldSo heap (Evacuator (Round policy most turns)) (Ended (ends.Limit phase)) = (0 < most) × (phase ≢ Idle)
 IsToldSo heap (Evacuator (Round policy most turns)) (Refused why) = IsRefusedBare heap why
 IsToldSo heap (Evacuator (Round policy most turns)) (Halted why so_far) = IsRefusedWithCounts why so_far
 IsToldSo heap _ _ = ⊥

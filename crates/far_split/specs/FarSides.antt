@@ -1,8 +1,12 @@
 -- The far side of the heap that a split text runs on, and which of its calls is to fail or to lie, as the text says it.
-use Rattle.std.specs.Prelude.{◌≡◌, ℕ, Option, Some, None}
+use Rattle.std.specs.Prelude.{◌≡◌, ℕ, ◌-◌, ◌==◌, List, Option, Some, None, Result}
 use Rattle.far_device.specs.declared.fail_at.FailAt.{FailAt}
+use Rattle.far_device.specs.declared.fault.DeviceFault.{DeviceFault}
 use Rattle.far_device.specs.declared.liar.Liar.{Liar}
 use Rattle.far_device.specs.declared.mem.MemDevice.{MemDevice}
+use Rattle.far_device.specs.FailAt.{Counts}
+use Rattle.far_device.specs.Liar.{told}
+use Rattle.far_device.specs.Mem.{MemReads}
 use Rattle.far_text.specs.Command.{Device, Flawed, Fail, Short, Flip}
 use Rattle.far_replay.specs.Answers.{lie_of}
 
@@ -29,3 +33,9 @@ pub record IsFlawed (device : Option Device) (side : FarSide) : Type 0 where
   pub fails : side.inner.left ≡ failing device
   pub lies : side.left ≡ lying device
   pub lie : side.lie ≡ lie_of device
+
+-- one read of it: the device in memory was asked, unless this call was to fail; its answer was told, or a lie of it if this read was to lie; and one read is gone
+abbrev pub FarReads : FarSide → ℕ → Result (List ℕ) DeviceFault → FarSide → Type 0
+FarReads d id answer e = (given : Result (List ℕ) DeviceFault)
+    × Counts d.inner.left d.inner.own d.inner.inner given e.inner.left e.inner.own e.inner.inner (MemReads d.inner.inner id given e.inner.inner)
+    × (answer ≡ told (d.left == 1) d.lie given) × (e.lie ≡ d.lie) × (e.left ≡ d.left - 1)

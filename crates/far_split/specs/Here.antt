@@ -1,17 +1,18 @@
 -- The replies to one mutator's own lines, on a heap that others use beside it.
 use Rattle.std.specs.Prelude.{◌≡◌, ℕ, ◌<◌, ◌≤◌, ◌⊎◌, Bool, true, false, Some, List, [], ◌∷◌, length, map}
 use Rattle.far_word.specs.Pointer.{read_of}
+use Rattle.far_word.specs.declared.refused.Refused.{Refused as Refusal}
 use Rattle.far_word.specs.declared.refused.Refused.TheVariants.{Damaged, Device, Marked, NoPointer, NoRoom}
 use Rattle.far_word.specs.declared.sizes.TheConstants.{LONGEST}
 use Rattle.far_core.specs.state.State.{put}
-use Rattle.far_heap.specs.BookHad.{BookHad, HasRoom, LacksRoom, NoneFree, Unbrought}
+use Rattle.far_heap.specs.BookHad.{BookHad, HasRoom, IsAnswered, LacksRoom, NoneFree, Unbrought}
 use Rattle.far_heap.specs.HeapId.{HeapId}
 use Rattle.far_heap.specs.Mine.{IsSlow}
 use Rattle.far_text.specs.Command.{Command, Mutator, New, Read, Try, View, Write}
 use Rattle.far_replay.specs.Alone.{Alone, Knows, KnowsBy, Own, is_by, speaker}
 use Rattle.far_replay.specs.Commanded.{AsksFor}
 use Rattle.far_reply.specs.Reply.{Reply, Pointer, Refused}
-use Rattle.far_split.specs.FarSides.{FarSide}
+use Rattle.far_split.specs.FarSides.{FarReads, FarSide}
 
 -- a command is refused by what others, rounds and the system do meanwhile, and what the mutator knows stays as it is. No earlier refusal of the command's row
 -- applies, with one gap: of a new object that finds no room it isn't said that the mutator has a pointer without an object by its own lines (`HasLeft` of `Knows`), but
@@ -55,22 +56,26 @@ AloneHere honest m o _ _ = ⊥
 abbrev pub IsWordOf : List ℕ → ℕ → Type 0
 IsWordOf all word = (ds : ℕ) × IsSlow (length all) ds (read_of word)
 
+-- why an object wasn't brought: what was so of the heap's book while its lock was held, and what the device answered to its one read, where that was asked
+abbrev pub IsToldOf : HeapId → ℕ → Refusal → Type 0
+IsToldOf heap p why = BookHad FarSide heap (Unbrought p why) × IsAnswered FarSide heap FarReads p why
+
 -- what a reply tells of the heap, beside what the mutator knows: what was so of its book while its lock was held. A new object has the lowest of the mutator's pointers
 -- whose cell was free; it is refused 3 where none was, 2 where one was and there was no room for it. An object isn't brought where there was no room, or there was and the
--- device failed, or gave another number of bytes. What 14 tells is a word of the object
+-- device answered its one read by a failure, or with another number of bytes. What 14 tells is a word of the object
 abbrev pub TellsOfHeap : HeapId → ℕ → Own → Command → Reply → Type 0
 TellsOfHeap heap m o (Mutator _ (New len ds)) (Pointer p) = BookHad FarSide heap (HasRoom m len p)
 TellsOfHeap heap m o (Mutator _ (New len ds)) (Refused NoPointer) = BookHad FarSide heap (NoneFree m)
 TellsOfHeap heap m o (Mutator _ (New len ds)) (Refused NoRoom) = BookHad FarSide heap (LacksRoom m len)
-TellsOfHeap heap m o (Mutator _ (Read p from len)) (Refused NoRoom) = BookHad FarSide heap (Unbrought p NoRoom)
-TellsOfHeap heap m o (Mutator _ (Read p from len)) (Refused Device) = BookHad FarSide heap (Unbrought p Device)
-TellsOfHeap heap m o (Mutator _ (Read p from len)) (Refused Damaged) = BookHad FarSide heap (Unbrought p Damaged)
-TellsOfHeap heap m o (Mutator _ (Write p from new)) (Refused NoRoom) = BookHad FarSide heap (Unbrought p NoRoom)
-TellsOfHeap heap m o (Mutator _ (Write p from new)) (Refused Device) = BookHad FarSide heap (Unbrought p Device)
-TellsOfHeap heap m o (Mutator _ (Write p from new)) (Refused Damaged) = BookHad FarSide heap (Unbrought p Damaged)
-TellsOfHeap heap m o (Mutator _ (View p)) (Refused NoRoom) = BookHad FarSide heap (Unbrought p NoRoom)
-TellsOfHeap heap m o (Mutator _ (View p)) (Refused Device) = BookHad FarSide heap (Unbrought p Device)
-TellsOfHeap heap m o (Mutator _ (View p)) (Refused Damaged) = BookHad FarSide heap (Unbrought p Damaged)
+TellsOfHeap heap m o (Mutator _ (Read p from len)) (Refused NoRoom) = IsToldOf heap p NoRoom
+TellsOfHeap heap m o (Mutator _ (Read p from len)) (Refused Device) = IsToldOf heap p Device
+TellsOfHeap heap m o (Mutator _ (Read p from len)) (Refused Damaged) = IsToldOf heap p Damaged
+TellsOfHeap heap m o (Mutator _ (Write p from new)) (Refused NoRoom) = IsToldOf heap p NoRoom
+TellsOfHeap heap m o (Mutator _ (Write p from new)) (Refused Device) = IsToldOf heap p Device
+TellsOfHeap heap m o (Mutator _ (Write p from new)) (Refused Damaged) = IsToldOf heap p Damaged
+TellsOfHeap heap m o (Mutator _ (View p)) (Refused NoRoom) = IsToldOf heap p NoRoom
+TellsOfHeap heap m o (Mutator _ (View p)) (Refused Device) = IsToldOf heap p Device
+TellsOfHeap heap m o (Mutator _ (View p)) (Refused Damaged) = IsToldOf heap p Damaged
 TellsOfHeap heap m o (Mutator _ (Try p)) (Refused (Marked word)) = (all : List ℕ) × (o.object p ≡ Some all) × IsWordOf all word
 TellsOfHeap heap m o c r = Unit {0}
 

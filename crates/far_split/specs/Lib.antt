@@ -1,6 +1,7 @@
 pub mod FarSides
 pub mod BookSaid
 pub mod BookTold
+pub mod CellsSaid
 pub mod Here
 pub mod Jobs
 pub mod Joined

@@ -1,6 +1,7 @@
-//! What the law of a mutator's replies has to do with that of the plain program, and what the book's are in other words.
+//! What the law of a mutator's replies has to do with that of the plain program, and what they and the book's tell in other words.
 
 ghost use Rattle.far_split.specs.BookSaid.{BookIsToldSo, RoundsAreRefusedSo};
+ghost use Rattle.far_split.specs.CellsSaid.{MutatorsAreToldSo, NoneLacksMemory, WordsAreOfObjects};
 ghost use Rattle.far_split.specs.Here.{AloneIsAloneHere, AloneOnIsAloneHere, HonestIsAllowed, UnhinderedIsAlone};
 ghost use Rattle.far_split.specs.Served.{HinderedIsRefused, NeverDamaged, ReadsAreAsLong, RefusalsAreLawful, ServedIsAlone, UnrefusedIsAlone};
 
@@ -21,9 +22,20 @@ pub fn mutators_are_alone()
     ensures as_long { ReadsAreAsLong }
 {}
 
-/// What the book's lines are told, by what is asked and told alone: each is told one thing. A round that is refused tells no counts where its refusal is 12 or 13, and 13 tells that at
-/// some moment no epoch was left; it tells counts where that is 1 or 10, or 12 and it had done something. One log is refused 8 exactly where the heap has none of its number, an audit is
-/// refused 1 alone, and each line of a log makes 4,096 bytes.
+/// What a mutator's replies tell of cells, by the numbers of refusals and by what a cell's word says. A new object has the lowest of the mutator's 256 cells that was free; it is refused 3
+/// where none was, and 2 where one was, and the object passes the end of the open log, and no two logs were free. An object isn't brought, and that is refused 2, where its cell said far
+/// and there was as little room, or near with EVAC and MOVE and no log was free; 10 where it said far, and the one read of it failed; 11 where that gave another number of bytes, over a
+/// far side that isn't honest. A word that 14 tells is far, or near with EVAC or MOVE, of an object as long as the mutator knows. No line is refused 1.
+pub fn mutators_are_told_so()
+    ensures cells { MutatorsAreToldSo }
+    ensures words { WordsAreOfObjects }
+    ensures memory { NoneLacksMemory }
+{}
+
+/// What the book's lines are told, by what is asked and told alone: each is told one thing. Logs are told by number, from 0 on, or the one that is asked for, and each line of a log
+/// makes 4,096 bytes; one log is refused 8 exactly where the heap has none of its number. An audit tells how many cells said near and how many said far, each pointer counted once, and
+/// the live bytes of all logs, of one moment; it is refused 1 alone. A round is told `none` only where it was to choose none, or no log was sealed, `done` only after a turn. A round that is
+/// refused tells no counts where its refusal is 12 or 13, and 13 tells that at some moment no epoch was left; it tells counts where that is 1 or 10, or 12 and it had done something.
 pub fn book_is_told_so()
     ensures rounds { RoundsAreRefusedSo }
     ensures lines { BookIsToldSo }

@@ -54,7 +54,7 @@ fn room_for(lines: &Lines<'_>) -> Room {
 /// first line. A scope that is open after the last line, or where the thread stops, stays open.
 ///
 /// [`Stop::Gate`] where the gate says no to a line; [`Stop::Memory`] where there is no room for the list, or for the bytes that a read is to tell, which
-/// is asked for before the read. Where the heap has no memory to bring an object, that is the line's answer.
+/// is asked for before the read. No line is refused 1: to bring an object takes no memory.
 pub(crate) fn make_lines<K: HeapName, R: Wait, G: Gate>(
     alloc: Global,
     rt: &R,

@@ -250,7 +250,7 @@ fn run_on<R: Threads + Wait + Sync, G: Gate>(
 /// is too long is off the grammar, and takes no memory.
 ///
 /// Faults, once all threads have ended: [`SplitFault::Gate`] where the gate ended threads, with the least of them, by a no to one of its lines; else [`SplitFault::Memory`] where memory was
-/// refused to the call itself, for the heap, lists or replies. Where a line can't be made without memory, that is the line's reply.
+/// refused to the call itself, for the heap, lists or replies. Where an audit or a round is refused memory, that is its reply; no other line is answered so.
 ///
 /// Where the system can't begin a thread, its lines are made in another's, before or after that one's.
 pub fn run_split<R: Threads + Wait + Sync, G: Gate>(

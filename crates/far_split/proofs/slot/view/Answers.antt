@@ -12,4 +12,4 @@ returns-in-Ok g c = subst (λ (p : ℕ). Answers g.K.HeapName.heap c.args.scope.
 pub returns-in-Err : goal.returns-in-Err
 returns-in-Err g c = subst (λ (p : ℕ). Answers g.K.HeapName.heap c.args.scope.now (View p) (Refused c.in-Err.why) c.view.new.self) c.in-Some.ensures.some
     (unviewed c.args.scope.now c.keeps_law.ensures.law c.keeps_law.ensures.opened c.in-Some.pointer c.view.new.self c.in-Err.why c.in-Err.ensures.refused.0 c.in-Err.ensures.refused.1
-    (λ e. c.in-Err.ensures.damaged (ap Err e)) (λ e. c.in-Err.ensures.in_place tt (ap Err e)) c.in-Err.ensures.cause)
+    (λ e. c.in-Err.ensures.damaged (ap Err e)) (λ e. c.in-Err.ensures.in_place tt (ap Err e)) (λ used. (c.in-Err.ensures.cause used, c.in-Err.ensures.answered used)))

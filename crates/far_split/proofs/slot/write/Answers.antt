@@ -7,7 +7,7 @@ pub returns-in-Err-view : goal.returns-in-Err-view
 returns-in-Err-view g c =
     let no = c.in-Err-view.ensures in
     unwritten_at c.args.scope.now c.keeps_law.ensures.law c.keeps_law.ensures.opened c.args.pointer c.args.from c.args.bytes.now c.in-Ok.access c.in-Ok.ensures.reached c.view.new.self
-    c.in-Err-view.why no.refused.0 no.refused.1 (λ e. no.damaged (ap Err e)) (λ e. no.in_place tt (ap Err e)) no.cause
+    c.in-Err-view.why no.refused.0 no.refused.1 (λ e. no.damaged (ap Err e)) (λ e. no.in_place tt (ap Err e)) (λ used. (no.cause used, no.answered used))
 
 pub returns : goal.returns
 returns g c =
