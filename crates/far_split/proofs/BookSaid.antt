@@ -21,7 +21,7 @@ use Rattle.far_heap.specs.Rounds.{ChoseNone, IsUnchosen, StopsTurn, is_round_of,
 use Rattle.far_text.specs.Command.{Command, Book, Evacuator, Logs as AsksLogs, Log as AsksLog, Audit as AsksAudit, Policy, LeastLive, Oldest, Round}
 use Rattle.far_reply.specs.Reply.{Reply, Audited, Ended, Halted, Logs, Refused}
 use Rattle.far_replay.specs.Turn.{log_line}
-use Rattle.far_split.specs.FarSides.{FarSide}
+use Rattle.far_split.specs.FarSides.{FarLetsGo, FarSide, FarWrites, far_bytes}
 use Rattle.far_split.specs.BookTold.{Gives, TellsLine, none_done}
 use Rattle.far_split.specs.BookSaid.{BookIsToldSo, IsRefusedBare, IsRefusedWithCounts, IsToldSo, RoundsAreRefusedSo}
 
@@ -64,7 +64,7 @@ bare_not heap why (inr (thirteen, stood)) (inl memory) = let one : refusal_numbe
 bare_not heap why (inr (thirteen, stood)) (inr device) = let ten : refusal_number why ≡ 10 = ap refusal_number device in omega (arith, thirteen, ten)
 
 -- ---- a turn was refused
-turn_refused : (heap : HeapId) (logs : List ℕ) (tally : Tally) (why : Refusal) (e f : EvacOf (BookSeat FarSide) FarSide) → StopsTurn heap logs tally why e f
+turn_refused : (heap : HeapId) (logs : List ℕ) (tally : Tally) (why : Refusal) (e f : EvacOf (BookSeat FarSide) FarSide) → StopsTurn FarWrites FarLetsGo far_bytes heap logs tally why e f
     → (why ≡ refused.Phase) ⊎ ((why ≡ refused.Memory) ⊎ (why ≡ refused.Device))
 turn_refused heap logs tally why e f stops = elim (cases_Bool (is_round_of e.copying logs e.collection)) [
   | inl running ↦ inr (stops.stops running).0

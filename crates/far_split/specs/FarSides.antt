@@ -1,6 +1,9 @@
--- The far side of the heap that a split text runs on, and which of its calls is to fail or to lie, as the text says it.
-use Rattle.std.specs.Prelude.{◌≡◌, ℕ, Option, Some, None}
+-- The far side of the heap that a split text runs on, what its calls are, and which of them is to fail or to lie, as the text says it.
+use Rattle.std.specs.Prelude.{◌≡◌, ℕ, List, Option, Some, None, Result}
+use Rattle.far_device.specs.FailAt.{Counts}
+use Rattle.far_device.specs.Mem.{MemLetsGo, MemWrites, bytes_at}
 use Rattle.far_device.specs.declared.fail_at.FailAt.{FailAt}
+use Rattle.far_device.specs.declared.fault.DeviceFault.{DeviceFault}
 use Rattle.far_device.specs.declared.liar.Liar.{Liar}
 use Rattle.far_device.specs.declared.mem.MemDevice.{MemDevice}
 use Rattle.far_text.specs.Command.{Device, Flawed, Fail, Short, Flip}
@@ -9,6 +12,18 @@ use Rattle.far_replay.specs.Answers.{lie_of}
 -- a device in memory, of which one call may fail, or one read lie
 abbrev pub FarSide : Type 0
 FarSide = Liar (FailAt MemDevice)
+
+-- one write: it fails if it is the call that is to; else the memory is asked. A lie stays as near as it was
+abbrev pub FarWrites : FarSide → ℕ → List ℕ → Result (Unit {0}) DeviceFault → FarSide → Type 0
+FarWrites d id bytes answer e = Counts d.inner.left d.inner.own d.inner.inner answer e.inner.left e.inner.own e.inner.inner (MemWrites d.inner.inner id bytes answer e.inner.inner) × (e.lie ≡ d.lie) × (e.left ≡ d.left)
+
+-- a key let go of
+abbrev pub FarLetsGo : FarSide → ℕ → FarSide → Type 0
+FarLetsGo d id e = (MemLetsGo d.inner.inner id e.inner.inner × (e.inner.left ≡ d.inner.left) × (e.inner.own ≡ d.inner.own)) × (e.lie ≡ d.lie) × (e.left ≡ d.left)
+
+-- what is under a key
+abbrev pub far_bytes : FarSide → ℕ → Option (List ℕ)
+far_bytes d = bytes_at d.inner.inner
 
 -- the write or read that is to fail, by its number, counted together from 1; 0 is none
 abbrev pub failing : Option Device → ℕ
