@@ -1,8 +1,9 @@
 -- What a round by turns, each under the lock anew, may answer.
-use Rattle.std.specs.Prelude.{◌≡◌, ◌≢◌, ◌⊎◌, ◌-◌, ◌^◌, ◌<◌, ◌≤◌, ℕ, min, Bool, true, false, not, ◌&&◌, eqb, Some, None, List, [], ◌∷◌, drop, length, map, Result, Ok, Err}
+use Rattle.std.specs.Prelude.{◌≡◌, ◌≢◌, ◌⊎◌, ◌-◌, ◌^◌, ◌<◌, ◌≤◌, ℕ, min, Bool, true, false, not, ◌&&◌, eqb, Some, None, List, [], ◌∷◌, drop, length, map, Option, Result, Ok, Err}
 use Rattle.std.specs.List.{ends_with, list_all}
 use Rattle.far_log.specs.declared.row.LogRow.{LogRow}
 use Rattle.far_policy.specs.Choice.{IsBadChoice, IsChoice}
+use Rattle.far_device.specs.declared.fault.DeviceFault.{DeviceFault}
 use Rattle.far_word.specs.declared.refused.Refused.{Refused}
 use Rattle.far_word.specs.declared.refused.Refused.TheVariants as refused
 use Rattle.far_hand.specs.Came.{Came}
@@ -14,8 +15,8 @@ use Rattle.far_evac.specs.declared.answers.RoundEnd.{RoundEnd}
 use Rattle.far_evac.specs.declared.answers.RoundEnd.TheVariants.{Done, Nothing, Limit}
 use Rattle.far_evac.specs.declared.phase.Phase.{Phase}
 use Rattle.far_evac.specs.declared.phase.Phase.TheVariants.{Evacuating, Idle, Marking}
-use Rattle.far_evac.specs.AnyTurns.{TurnsTo, sum_of}
-use Rattle.far_evac.specs.ByCopying.{StopsBy}
+use Rattle.far_evac.specs.AnyTurns.{AsksInTurn, TurnsTo, sum_of}
+use Rattle.far_evac.specs.ByCopying.{RefusesBy, StopsBy}
 use Rattle.far_evac.specs.Choosing.{after_selecting}
 use Rattle.far_evac.specs.EvacOf.{EvacOf, moment}
 use Rattle.far_evac.specs.Live.{is_empty}
@@ -81,44 +82,6 @@ is_rest true logs left = list_all (among logs) left
 abbrev pub is_round_of : Bool → List ℕ → List ℕ → Bool
 is_round_of copying logs left = not (is_empty left) && is_rest copying logs left
 
-module _ {D : Type 0} (heap : HeapId) (logs : List ℕ) where
-  -- e is a book of this heap in which the round of these logs is running. One turn led from it to f, by the book's own calls alone; it counted this, and left
-  -- the round in this phase, or over, exactly where the last of the logs was given back
-  pub record Turns (tally : Tally) (over : Bool) (phase : Phase) (e f : EvacOf (BookSeat D) D) : Type 0 where
-    pub named : heap_of e.copying e.book.near ≡ heap
-    pub lawful : IsLawful (moment seat_view e)
-    pub running : is_round_of e.copying logs e.collection ≡ true
-    pub came : Came seat_makes e.book.near f.book.near
-    pub turns : TurnsTo (moment seat_view e) e.phase tally over (moment seat_view f)
-    pub left : IsRest e.copying logs f.collection
-    pub none : is_empty f.collection ≡ over
-    pub stands : f.phase ≡ phase
-    pub ends : is_idle phase ≡ over
-
-  -- one that was refused: the round of these logs wasn't running, or not any more; or objects were leaving, and it stopped at one
-  pub record StopsTurn (tally : Tally) (why : Refused) (e f : EvacOf (BookSeat D) D) : Type 0 where
-    pub named : heap_of e.copying e.book.near ≡ heap
-    pub lawful : IsLawful (moment seat_view e)
-    pub came : Came seat_makes e.book.near f.book.near
-    pub barred : is_round_of e.copying logs e.collection ≡ false → (why ≡ refused.Phase) × (tally ≡ nothing) × (f ≡ e)
-    pub stops : is_round_of e.copying logs e.collection ≡ true → ((why ≡ refused.Memory) ⊎ (why ≡ refused.Device)) × (e.phase ≡ Evacuating) × (f.phase ≡ Evacuating) × IsRest e.copying logs f.collection
-        × StopsBy (moment seat_view e) turn_size (moment seat_view f) tally
-
-pub record TurnMade (D : Type 0) (heap : HeapId) (logs : List ℕ) (tally : Tally) (over : Bool) (phase : Phase) : Type 0 where
-  pub before : EvacOf (BookSeat D) D
-  pub later : EvacOf (BookSeat D) D
-  pub turns : Turns heap logs tally over phase before later
-
-pub record TurnRefused (D : Type 0) (heap : HeapId) (logs : List ℕ) (tally : Tally) (why : Refused) : Type 0 where
-  pub before : EvacOf (BookSeat D) D
-  pub later : EvacOf (BookSeat D) D
-  pub stops : StopsTurn heap logs tally why before later
-
--- turns one after the other, the last one first in the list, by what each counted. Others may have had the lock between any two
-abbrev pub TurnsMade : (D : Type 0) → HeapId → List ℕ → List Tally → Bool → Phase → Type 0
-TurnsMade D heap logs [] over phase = (over ≡ false) × (phase ≡ Marking)
-TurnsMade D heap logs (tally ∷ tallies) over phase = ((earlier : Phase) × TurnsMade D heap logs tallies false earlier) × TurnMade D heap logs tally over phase
-
 -- a sum as it is told: the greatest number stands for all above it
 abbrev pub told : ℕ → ℕ
 told n = min n (2 ^ 64 - 1)
@@ -126,31 +89,74 @@ told n = min n (2 ^ 64 - 1)
 abbrev pub told_of : Tally → Tally
 told_of t = record { moved = told t.moved; far = told t.far; dropped = told t.dropped; freed = told t.freed }
 
--- ---- how a round of these logs ends
--- after turns of it, at most so many: done at the last, in which the last of the logs was given back; or after all, with the round in the phase in which the
--- last turn left it, or in which the choice did
-abbrev pub EndsTurns : (D : Type 0) → HeapId → List ℕ → ℕ → RoundEnd → Type 0
-EndsTurns D heap logs turns (Done progress) = (tallies : List Tally) × (length tallies ≤ turns) × TurnsMade D heap logs tallies true Idle × (progress ≡ progress_of (told_of (sum_of tallies)) true)
-EndsTurns D heap logs turns Nothing = ⊥
-EndsTurns D heap logs turns (Limit phase) = (tallies : List Tally) × (length tallies ≡ turns) × TurnsMade D heap logs tallies false phase × (phase ≢ Idle)
+-- over the device's writes, the keys that it lets go of, and what it holds
+module _ {D : Type 0} (writes : D → ℕ → List ℕ → Result (Unit {0}) DeviceFault → D → Type 0) (lets_go : D → ℕ → D → Type 0) (contents : D → ℕ → Option (List ℕ)) (heap : HeapId) where
+  module _ (logs : List ℕ) where
+    -- e is a book of this heap in which the round of these logs is running. One turn led from it to f, by the book's own calls alone; it counted this, asked the device
+    -- for that and nothing else, and left the round in this phase, or over, exactly where the last of the logs was given back
+    pub record Turns (tally : Tally) (over : Bool) (phase : Phase) (e f : EvacOf (BookSeat D) D) : Type 0 where
+      pub named : heap_of e.copying e.book.near ≡ heap
+      pub lawful : IsLawful (moment seat_view e)
+      pub running : is_round_of e.copying logs e.collection ≡ true
+      pub came : Came seat_makes e.book.near f.book.near
+      pub turns : TurnsTo (moment seat_view e) e.phase tally over (moment seat_view f)
+      pub asked : AsksInTurn ⊥ D writes lets_go contents (moment seat_view e) e.phase (moment seat_view f) tally e.book.device f.book.device
+      pub left : IsRest e.copying logs f.collection
+      pub none : is_empty f.collection ≡ over
+      pub stands : f.phase ≡ phase
+      pub ends : is_idle phase ≡ over
 
--- after a policy chose these logs: with nothing exactly where it chose none
-abbrev pub EndsAfter : (D : Type 0) → HeapId → List ℕ → ℕ → RoundEnd → Type 0
-EndsAfter D heap [] turns end = end ≡ Nothing
-EndsAfter D heap (l ∷ ls) turns end = EndsTurns D heap (l ∷ ls) turns end
+    -- one that was refused: the round of these logs wasn't running, or not any more; or objects were leaving, and it stopped at one. What was counted was asked of the
+    -- device, and at last one write of that object's bytes, which was answered so
+    pub record StopsTurn (tally : Tally) (why : Refused) (e f : EvacOf (BookSeat D) D) : Type 0 where
+      pub named : heap_of e.copying e.book.near ≡ heap
+      pub lawful : IsLawful (moment seat_view e)
+      pub came : Came seat_makes e.book.near f.book.near
+      pub barred : is_round_of e.copying logs e.collection ≡ false → (why ≡ refused.Phase) × (tally ≡ nothing) × (f ≡ e)
+      pub stops : is_round_of e.copying logs e.collection ≡ true → ((why ≡ refused.Memory) ⊎ (why ≡ refused.Device)) × (e.phase ≡ Evacuating) × (f.phase ≡ Evacuating) × IsRest e.copying logs f.collection
+          × StopsBy (moment seat_view e) turn_size (moment seat_view f) tally
+      pub asked : is_round_of e.copying logs e.collection ≡ true → RefusesBy ⊥ D writes lets_go contents (moment seat_view e) turn_size (moment seat_view f) tally why e.book.device f.book.device
 
--- one of so many turns was refused, after these
-pub record StopsTurns (D : Type 0) (heap : HeapId) (logs : List ℕ) (turns : ℕ) (fault : EvacFault) : Type 0 where
-  pub tallies : List Tally
-  pub phase : Phase
-  pub last : Tally
-  pub few : length tallies < turns
-  pub made : TurnsMade D heap logs tallies false phase
-  pub refused : TurnRefused D heap logs last fault.why
-  pub sum : fault.so_far ≡ progress_of (told_of (plus (sum_of tallies) last)) false
+    pub record TurnMade (tally : Tally) (over : Bool) (phase : Phase) : Type 0 where
+      pub before : EvacOf (BookSeat D) D
+      pub later : EvacOf (BookSeat D) D
+      pub turns : Turns tally over phase before later
 
--- a round was refused: no logs were chosen, and nothing was done; or some were, and a turn was refused
-abbrev pub RefusesRound : {P : Type 0} → (P → List LogRow → ℕ → Result (List ℕ) Refused → P → Type 0) → (D : Type 0) → HeapId → P → ℕ → P → ℕ → EvacFault → Type 0
-RefusesRound gives D heap before most after turns fault =
-    ((fault.so_far ≡ progress_of nothing false) × ChoseNone gives D heap before most after fault.why)
-    ⊎ ((logs : List ℕ) × Chose gives D heap before most after logs × (logs ≢ []) × StopsTurns D heap logs turns fault)
+    pub record TurnRefused (tally : Tally) (why : Refused) : Type 0 where
+      pub before : EvacOf (BookSeat D) D
+      pub later : EvacOf (BookSeat D) D
+      pub stops : StopsTurn tally why before later
+
+    -- turns one after the other, the last one first in the list, by what each counted. Others may have had the lock between any two
+    abbrev pub TurnsMade : List Tally → Bool → Phase → Type 0
+    TurnsMade [] over phase = (over ≡ false) × (phase ≡ Marking)
+    TurnsMade (tally ∷ tallies) over phase = ((earlier : Phase) × TurnsMade tallies false earlier) × TurnMade tally over phase
+
+    -- ---- how a round of these logs ends
+    -- after turns of it, at most so many: done at the last, in which the last of the logs was given back; or after all, with the round in the phase in which the
+    -- last turn left it, or in which the choice did
+    abbrev pub EndsTurns : ℕ → RoundEnd → Type 0
+    EndsTurns turns (Done progress) = (tallies : List Tally) × (length tallies ≤ turns) × TurnsMade tallies true Idle × (progress ≡ progress_of (told_of (sum_of tallies)) true)
+    EndsTurns turns Nothing = ⊥
+    EndsTurns turns (Limit phase) = (tallies : List Tally) × (length tallies ≡ turns) × TurnsMade tallies false phase × (phase ≢ Idle)
+
+    -- one of so many turns was refused, after these
+    pub record StopsTurns (turns : ℕ) (fault : EvacFault) : Type 0 where
+      pub tallies : List Tally
+      pub phase : Phase
+      pub last : Tally
+      pub few : length tallies < turns
+      pub made : TurnsMade tallies false phase
+      pub refused : TurnRefused last fault.why
+      pub sum : fault.so_far ≡ progress_of (told_of (plus (sum_of tallies) last)) false
+
+  -- after a policy chose these logs: with nothing exactly where it chose none
+  abbrev pub EndsAfter : List ℕ → ℕ → RoundEnd → Type 0
+  EndsAfter [] turns end = end ≡ Nothing
+  EndsAfter (l ∷ ls) turns end = EndsTurns (l ∷ ls) turns end
+
+  -- a round was refused: no logs were chosen, and nothing was done; or some were, and a turn was refused
+  abbrev pub RefusesRound : {P : Type 0} → (P → List LogRow → ℕ → Result (List ℕ) Refused → P → Type 0) → P → ℕ → P → ℕ → EvacFault → Type 0
+  RefusesRound gives before most after turns fault =
+      ((fault.so_far ≡ progress_of nothing false) × ChoseNone gives D heap before most after fault.why)
+      ⊎ ((logs : List ℕ) × Chose gives D heap before most after logs × (logs ≢ []) × StopsTurns logs turns fault)

@@ -155,8 +155,9 @@ impl<K: HeapName, D: Device + Drop> Heap<K, D> {
     /// [`RoundEnd::Limit`], with the phase after the last turn: the round goes on by [`Evacuator::turn`], or is given up by [`Evacuator::abort`]. What the
     /// turns did is summed. A policy is offered sealed logs alone, those that were full when another was opened.
     ///
-    /// Refused as [`Evacuator::select`] and [`Evacuator::turn`] are; [`Refused::Phase`] also where another caller ended the round meanwhile, or gave it up and
-    /// began one of other logs, which stays as it is; `so_far` is then the sum of what was done.
+    /// Refused as [`Evacuator::select`] and [`Evacuator::turn`] are: [`Refused::Memory`] or [`Refused::Device`] as the device answered one write, of an object that
+    /// was to leave. [`Refused::Phase`] also where another caller ended the round meanwhile, or gave it up and began one of other logs, which stays as it is. `so_far`
+    /// is then the sum of what was done.
     pub fn run_round<R: Wait, P: Policy>(
         &self,
         rt: &R,
@@ -164,8 +165,8 @@ impl<K: HeapName, D: Device + Drop> Heap<K, D> {
         most: usize,
         turns: u64,
     ) -> Result<RoundEnd, EvacFault>
-        ensures ended { IfOk result (λ end. (logs : List ℕ) × Chose P.gives D K.heap policy.old most policy.new logs × EndsAfter D K.heap logs turns end) }
-        ensures refused { IfErr result (λ fault. RefusesRound P.gives D K.heap policy.old most policy.new turns fault) }
+        ensures ended { IfOk result (λ end. (logs : List ℕ) × Chose P.gives D K.heap policy.old most policy.new logs × EndsAfter D.writes D.lets_go D.contents K.heap logs turns end) }
+        ensures refused { IfErr result (λ fault. RefusesRound D.writes D.lets_go D.contents K.heap P.gives policy.old most policy.new turns fault) }
     {
         let chosen = match self.book(rt).choose(policy, most) {
             Ok(chosen) => chosen,
@@ -189,8 +190,8 @@ impl<K: HeapName, D: Device + Drop> Heap<K, D> {
         chosen: &Chosen,
         turns: u64,
     ) -> Result<RoundEnd, EvacFault>
-        ensures ended { IfOk result (EndsTurns D K.heap chosen.now turns) }
-        ensures refused { IfErr result (StopsTurns D K.heap chosen.now turns) }
+        ensures ended { IfOk result (EndsTurns D.writes D.lets_go D.contents K.heap chosen.now turns) }
+        ensures refused { IfErr result (StopsTurns D.writes D.lets_go D.contents K.heap chosen.now turns) }
     {
         let mut total = nothing_done();
         let mut phase = Phase::Marking;
@@ -221,8 +222,8 @@ impl<K: HeapName, D: Device + Drop> Heap<K, D> {
         chosen: &Chosen,
         before: Progress,
     ) -> Result<(Progress, Phase), EvacFault>
-        ensures made { IfOk result (λ made. (tally : Tally) × TurnMade D K.heap chosen.now tally made.0.done made.1 × (made.0 ≡ progress_of (told_of (plus (tally_of before) tally)) made.0.done)) }
-        ensures refused { IfErr result (λ fault. (tally : Tally) × TurnRefused D K.heap chosen.now tally fault.why × (fault.so_far ≡ progress_of (told_of (plus (tally_of before) tally)) false)) }
+        ensures made { IfOk result (λ made. (tally : Tally) × TurnMade D.writes D.lets_go D.contents K.heap chosen.now tally made.0.done made.1 × (made.0 ≡ progress_of (told_of (plus (tally_of before) tally)) made.0.done)) }
+        ensures refused { IfErr result (λ fault. (tally : Tally) × TurnRefused D.writes D.lets_go D.contents K.heap chosen.now tally fault.why × (fault.so_far ≡ progress_of (told_of (plus (tally_of before) tally)) false)) }
     {
         let turned = self.book(rt).turn_of(chosen);
         match turned {

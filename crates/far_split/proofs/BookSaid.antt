@@ -40,7 +40,7 @@ use Rattle.far_text.specs.Command.{Command, Book, Evacuator, Logs as AsksLogs, L
 use Rattle.far_reply.specs.declared.reply.Counts.{Counts}
 use Rattle.far_reply.specs.Reply.{Reply, Audited, Ended, Halted, Logs, Refused}
 use Rattle.far_replay.specs.Turn.{log_line}
-use Rattle.far_split.specs.FarSides.{FarSide}
+use Rattle.far_split.specs.FarSides.{FarLetsGo, FarSide, FarWrites, far_bytes}
 use Rattle.far_split.specs.BookTold.{BookStood, Gives, TellsCensus, TellsLine, counted as counted_in, lies_far, lies_near, none_done}
 use Rattle.far_split.specs.BookSaid.{AreSoMany, BookIsToldSo, CountsAll, HasNoneSealed, IsRefusedBare, IsRefusedWithCounts, IsToldSo, RoundsAreRefusedSo, SaysFar, SaysNear, numbers_of}
 
@@ -83,7 +83,7 @@ bare_not heap why (inr (thirteen, stood)) (inl memory) = let one : refusal_numbe
 bare_not heap why (inr (thirteen, stood)) (inr device) = let ten : refusal_number why ≡ 10 = ap refusal_number device in omega (arith, thirteen, ten)
 
 -- ---- a turn was refused
-turn_refused : (heap : HeapId) (logs : List ℕ) (tally : Tally) (why : Refusal) (e f : EvacOf (BookSeat FarSide) FarSide) → StopsTurn heap logs tally why e f
+turn_refused : (heap : HeapId) (logs : List ℕ) (tally : Tally) (why : Refusal) (e f : EvacOf (BookSeat FarSide) FarSide) → StopsTurn FarWrites FarLetsGo far_bytes heap logs tally why e f
     → (why ≡ refused.Phase) ⊎ ((why ≡ refused.Memory) ⊎ (why ≡ refused.Device))
 turn_refused heap logs tally why e f stops = elim (cases_Bool (is_round_of e.copying logs e.collection)) [
   | inl running ↦ inr (stops.stops running).0

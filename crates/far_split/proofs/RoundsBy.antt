@@ -12,7 +12,7 @@ use Rattle.far_table.specs.declared.book.BookSeat.{BookSeat}
 use Rattle.far_heap.specs.HeapId.{HeapId}
 use Rattle.far_heap.specs.Rounds.{Chose, ChoseNone, EndsAfter, IsUnchosen, RefusesRound, rows_of}
 use Rattle.far_text.specs.Command.{Policy}
-use Rattle.far_split.specs.FarSides.{FarSide}
+use Rattle.far_split.specs.FarSides.{FarLetsGo, FarSide, FarWrites, far_bytes}
 use Rattle.far_split.specs.BookTold.{EndsRound, Gives, StopsRound, none_done}
 
 module _ {P : Type 0} (gives : P → List LogRow → ℕ → Result (List ℕ) Refusal → P → Type 0) (policy : Policy)
@@ -33,12 +33,12 @@ module _ {P : Type 0} (gives : P → List LogRow → ℕ → Result (List ℕ) R
         };
       }
 
-  ended_by : (heap : HeapId) (before after : P) (most n turns : ℕ) (end : RoundEnd) → most ≡ n → ((logs : List ℕ) × Chose gives FarSide heap before most after logs × EndsAfter FarSide heap logs turns end)
+  ended_by : (heap : HeapId) (before after : P) (most n turns : ℕ) (end : RoundEnd) → most ≡ n → ((logs : List ℕ) × Chose gives FarSide heap before most after logs × EndsAfter FarWrites FarLetsGo far_bytes heap logs turns end)
       → EndsRound heap policy n turns end
   ended_by heap before after most n turns end same (logs, chose, ends) = subst (λ k. EndsRound heap policy k turns end) same (logs, chosen_by heap before after most logs chose, ends)
 
   pub all_ended_by : (heap : HeapId) (before after : P) (most n turns : ℕ) (result : Result RoundEnd EvacFault) → most ≡ n
-      → IfOk result (λ end. (logs : List ℕ) × Chose gives FarSide heap before most after logs × EndsAfter FarSide heap logs turns end) → IfOk result (EndsRound heap policy n turns)
+      → IfOk result (λ end. (logs : List ℕ) × Chose gives FarSide heap before most after logs × EndsAfter FarWrites FarLetsGo far_bytes heap logs turns end) → IfOk result (EndsRound heap policy n turns)
   all_ended_by heap before after most n turns (Ok end) same ended = ended_by heap before after most n turns end same ended
   all_ended_by heap before after most n turns (Err fault) same ended = tt
 
@@ -54,13 +54,13 @@ module _ {P : Type 0} (gives : P → List LogRow → ℕ → Result (List ℕ) R
         refuses = record { named = n.named; lawful = n.lawful; cause = cause_by heap before after most none.book why n.cause; same = n.same };
       }
 
-  stopped_by : (heap : HeapId) (before after : P) (most n turns : ℕ) (fault : EvacFault) → most ≡ n → RefusesRound gives FarSide heap before most after turns fault → StopsRound heap policy n turns fault.why fault.so_far
+  stopped_by : (heap : HeapId) (before after : P) (most n turns : ℕ) (fault : EvacFault) → most ≡ n → RefusesRound FarWrites FarLetsGo far_bytes heap gives before most after turns fault → StopsRound heap policy n turns fault.why fault.so_far
   stopped_by heap before after most n turns fault same (inl (nothing, unchosen)) =
       subst (λ k. StopsRound heap policy k turns fault.why fault.so_far) same (inl (nothing, unchosen_by heap before after most fault.why unchosen))
   stopped_by heap before after most n turns fault same (inr (logs, chose, some, stops)) =
       subst (λ k. StopsRound heap policy k turns fault.why fault.so_far) same (inr (logs, chosen_by heap before after most logs chose, some, stops))
 
-  pub all_stopped_by : (heap : HeapId) (before after : P) (most n turns : ℕ) (result : Result RoundEnd EvacFault) → most ≡ n → IfErr result (RefusesRound gives FarSide heap before most after turns) → IfErr result (λ fault. StopsRound heap policy n turns fault.why fault.so_far)
+  pub all_stopped_by : (heap : HeapId) (before after : P) (most n turns : ℕ) (result : Result RoundEnd EvacFault) → most ≡ n → IfErr result (RefusesRound FarWrites FarLetsGo far_bytes heap gives before most after turns) → IfErr result (λ fault. StopsRound heap policy n turns fault.why fault.so_far)
   all_stopped_by heap before after most n turns (Ok end) same refused = tt
   all_stopped_by heap before after most n turns (Err fault) same refused = stopped_by heap before after most n turns fault same refused
 

@@ -26,7 +26,7 @@ use Rattle.far_reply.specs.declared.reply.Counts.{Counts}
 use Rattle.far_reply.specs.declared.reply.LogLine.{LogLine}
 use Rattle.far_reply.specs.Reply.{Reply, Audited, Ended, Halted, Logs, Refused}
 use Rattle.far_replay.specs.Turn.{log_line}
-use Rattle.far_split.specs.FarSides.{FarSide}
+use Rattle.far_split.specs.FarSides.{FarLetsGo, FarSide, FarWrites, far_bytes}
 
 -- at some moment, while the lock was held, this was so of the heap's book. It was lawful then
 pub record BookStood (heap : HeapId) (P : Moment → Type 0) : Type 0 where
@@ -83,11 +83,11 @@ Gives LeastLive before rows most outcome after = (taken : List LogRow) × TakesL
 
 -- a round of the logs that the policy chose ended so
 abbrev pub EndsRound : HeapId → Policy → ℕ → ℕ → RoundEnd → Type 0
-EndsRound heap policy most turns end = (logs : List ℕ) × Chose (Gives policy) FarSide heap tt most tt logs × EndsAfter FarSide heap logs turns end
+EndsRound heap policy most turns end = (logs : List ℕ) × Chose (Gives policy) FarSide heap tt most tt logs × EndsAfter FarWrites FarLetsGo far_bytes heap logs turns end
 
--- no logs were chosen; or some were, and one of the turns was refused: this was done until then
+-- no logs were chosen; or some were, and one of the turns was refused, by the device too as a write was answered: this was done until then
 abbrev pub StopsRound : HeapId → Policy → ℕ → ℕ → Refusal → Progress → Type 0
-StopsRound heap policy most turns why so_far = RefusesRound (Gives policy) FarSide heap tt most tt turns record { so_far = so_far; why = why }
+StopsRound heap policy most turns why so_far = RefusesRound FarWrites FarLetsGo far_bytes heap (Gives policy) tt most tt turns record { so_far = so_far; why = why }
 
 -- nothing was done
 abbrev pub none_done : Progress

@@ -57,10 +57,10 @@ impl<K: HeapName, D: Device + Drop> Evacuator<K, D> {
     }
 
     // Makes one turn of the round of these logs, as `turn` does: with the phase after it. Refused Phase also where another round is running, which stays as
-    // it is.
+    // it is; else as the device answered a write.
     pub(crate) fn turn_of(&mut self, chosen: &Chosen) -> Result<(Progress, Phase), EvacFault>
-        ensures made { IfOk result (λ made. Turns K.heap chosen.now (tally_of made.0) made.0.done made.1 self.old self.new) }
-        ensures refused { IfErr result (λ fault. StopsTurn K.heap chosen.now (tally_of fault.so_far) fault.why self.old self.new) }
+        ensures made { IfOk result (λ made. Turns D.writes D.lets_go D.contents K.heap chosen.now (tally_of made.0) made.0.done made.1 self.old self.new) }
+        ensures refused { IfErr result (λ fault. StopsTurn D.writes D.lets_go D.contents K.heap chosen.now (tally_of fault.so_far) fault.why self.old self.new) }
     {
         self.keeps_law();
         if !self.is_round_of(chosen) {

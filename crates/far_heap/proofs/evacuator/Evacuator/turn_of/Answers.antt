@@ -16,6 +16,7 @@ returns-then-not-is_round_of-clause-refused g c =
       came = record { calls = []; runs = refl };
       barred = λ _. (refl, ap tally_of c.nothing_done.ensures, refl);
       stops = λ runs. absurd (false≢true (sym other ∙ runs));
+      asked = λ runs. absurd (false≢true (sym other ∙ runs));
     }
 
 pub returns-in-Ok-clause-made : goal.returns-in-Ok-clause-made
@@ -31,6 +32,7 @@ returns-in-Ok-clause-made g c =
       running = runs;
       came = t.came;
       turns = t.turns;
+      asked = t.asked;
       left = rest_turned c.args.chosen.now (moment seat_view now) (moment seat_view then) k.law k.moment rest (tally_of c.in-Ok.made) c.in-Ok.made.done t.turns;
       none = c.keeps_law-in-Ok.ensures.moment.runs ∙ t.goes_on;
       stands = sym c.phase.ensures;
@@ -58,4 +60,5 @@ returns-in-Err-clause-refused g c =
         rest_stopped c.args.chosen.now (moment seat_view now) (moment seat_view then) k.law k.moment rest _ (tally_of c.in-Err.fault.so_far) stop.0 stop.1,
         stop.1,
       );
+      asked = λ _. t.refused busy;
     }

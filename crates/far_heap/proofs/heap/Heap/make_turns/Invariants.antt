@@ -6,4 +6,4 @@ use Rattle.far_heap.specs.Rounds.{TurnsMade, told_of}
 use Rattle.far_heap.proofs.heap.Heap.make_turns.Given as goal
 
 abbrev pub invariant-loop : goal.invariant-loop
-invariant-loop g l = (tallies : List Tally) × (length tallies ≡ l.counter) × TurnsMade g.row.D.Denot g.K.HeapName.heap l.fn.chosen tallies false l.phase × (l.total ≡ progress_of (told_of (sum_of tallies)) false)
+invariant-loop g l = (tallies : List Tally) × (length tallies ≡ l.counter) × TurnsMade g.D.Device.writes g.D.Device.lets_go g.D.Device.contents g.K.HeapName.heap l.fn.chosen tallies false l.phase × (l.total ≡ progress_of (told_of (sum_of tallies)) false)

@@ -9,7 +9,7 @@ returns-in-Ok-clause-made g c =
     let tally = tally_of c.in-Ok.made in
     let over : c.sum.result.done ≡ c.in-Ok.made.done = ap (λ (p : Progress). p.done) c.sum.ensures in (
       tally,
-      subst (λ done. TurnMade g.row.D.Denot g.K.HeapName.heap c.args.chosen.now tally done c.in-Ok.after) (sym over) record { before = _; later = _; turns = c.in-Ok.ensures.made },
+      subst (λ done. TurnMade g.D.Device.writes g.D.Device.lets_go g.D.Device.contents g.K.HeapName.heap c.args.chosen.now tally done c.in-Ok.after) (sym over) record { before = _; later = _; turns = c.in-Ok.ensures.made },
       c.sum.ensures ∙ ap (progress_of (told_of (plus (tally_of c.args.before) tally))) (sym over),
     )
 
