@@ -251,7 +251,7 @@ is_nothing (ends.Done progress) = false
 is_nothing (ends.Limit phase) = false
 
 module _ (heap : HeapId) (policy : Policy) (most turns : ℕ) where
-  none_told : (logs : List ℕ) → Chose (Gives policy) FarSide heap tt most tt logs → EndsAfter FarSide heap logs turns ends.Nothing → (most ≡ 0) ⊎ BookStood heap HasNoneSealed
+  none_told : (logs : List ℕ) → Chose (Gives policy) FarSide heap tt most tt logs → EndsAfter FarWrites FarLetsGo far_bytes heap logs turns ends.Nothing → (most ≡ 0) ⊎ BookStood heap HasNoneSealed
   none_told [] chose is =
       let c = chose.chooses in
       elim (none_given policy tt tt (rows_of chose.book) most c.given) [
@@ -260,15 +260,15 @@ module _ (heap : HeapId) (policy : Policy) (most turns : ℕ) where
       ]
   none_told (l ∷ ls) chose is = absurd is
 
-  some_turns : (tallies : List Tally) (logs : List ℕ) (phase : Phase) → length tallies ≤ turns → TurnsMade FarSide heap logs tallies true phase → 0 < turns
+  some_turns : (tallies : List Tally) (logs : List ℕ) (phase : Phase) → length tallies ≤ turns → TurnsMade FarWrites FarLetsGo far_bytes heap logs tallies true phase → 0 < turns
   some_turns [] logs phase few made = absurd (false≢true (sym made.0))
   some_turns (tally ∷ tallies) logs phase few made = omega (arith, few)
 
-  done_told : (progress : Progress) (logs : List ℕ) → Chose (Gives policy) FarSide heap tt most tt logs → EndsAfter FarSide heap logs turns (ends.Done progress) → (0 < most) × (0 < turns) × (progress.done ≡ true)
+  done_told : (progress : Progress) (logs : List ℕ) → Chose (Gives policy) FarSide heap tt most tt logs → EndsAfter FarWrites FarLetsGo far_bytes heap logs turns (ends.Done progress) → (0 < most) × (0 < turns) × (progress.done ≡ true)
   done_told progress [] chose is = absurd (false≢true (ap is_nothing is))
   done_told progress (l ∷ ls) chose (tallies, few, made, is) = (omega (arith, chose.chooses.choice.few), some_turns tallies (l ∷ ls) Idle few made, ap (λ (p : Progress). p.done) is)
 
-  limit_told : (phase : Phase) (logs : List ℕ) → Chose (Gives policy) FarSide heap tt most tt logs → EndsAfter FarSide heap logs turns (ends.Limit phase) → (0 < most) × (phase ≢ Idle)
+  limit_told : (phase : Phase) (logs : List ℕ) → Chose (Gives policy) FarSide heap tt most tt logs → EndsAfter FarWrites FarLetsGo far_bytes heap logs turns (ends.Limit phase) → (0 < most) × (phase ≢ Idle)
   limit_told phase [] chose is = absurd (false≢true (ap is_nothing is))
   limit_told phase (l ∷ ls) chose (tallies, few, made, runs) = (omega (arith, chose.chooses.choice.few), runs)
 

@@ -26,7 +26,7 @@ use Rattle.far_evac.specs.EvacOf.{EvacOf}
 use Rattle.far_evac.specs.LiveLaws.{IsInTurn}
 use Rattle.far_evac.proofs.Fronts.{kept_in, was_kept}
 use Rattle.far_evac.proofs.Marks.{all_filter}
-use Rattle.far_heap.specs.BookHad.{BookDid, BookHad, HasNowhere, HasRoom, LacksRoom, MayCome, NoneFree, RefusesRead, Unbrought}
+use Rattle.far_heap.specs.BookHad.{BookDid, BookHad, HasNowhere, HasRoom, LacksRoom, MayCome, NoneFree, LeavesIt, RefusesRead, Unbrought}
 use Rattle.far_heap.specs.Helping.{cell_in, says_far}
 use Rattle.far_heap.specs.HeapId.{HeapId}
 use Rattle.far_heap.specs.Mine.{IsSlow}
@@ -196,11 +196,11 @@ module _ (heap : HeapId) (p : ℕ) where
   fails_so : IsToldOf heap p Device → BookHad FarSide heap (HasFarAndRoom p) × BookDid FarSide heap (FailsToRead p)
   fails_so (had, did) = (
     had_so (Unbrought p Device) (HasFarAndRoom p) (λ s is. may_come s p (read_of (s.cell p)) refl is) had,
-    did_so (RefusesRead FarReads p Device) (FailsToRead p) (λ e f is. (far_says (seat_view e.book.near) p (cell_in e p) refl is.0, is.1)) did,
+    did_so (LeavesIt FarReads p Device) (FailsToRead p) (λ e f is. (far_says (seat_view e.book.near) p (cell_in e p) refl is.asked.0, is.asked.2)) did,
   )
 
   reads_others : (e f : EvacOf (BookSeat FarSide) FarSide) → RefusesRead FarReads p Damaged e f → ReadsOthers p e f
-  reads_others e f (far, (bytes, read, differs)) = by (cell_in e p) refl far differs
+  reads_others e f (far, still, (bytes, read, differs)) = by (cell_in e p) refl far differs
     where
       by : (o : Option PtrWord) → cell_in e p ≡ o → says_far o ≡ true → length bytes ≢ far_len o → ReadsOthers p e f
       by None is none odd = absurd (false≢true none)
@@ -211,7 +211,7 @@ module _ (heap : HeapId) (p : ℕ) where
   others_so : IsToldOf heap p Damaged → BookHad FarSide heap (λ s. HasFarAndRoom p s × (s.honest ≡ false)) × BookDid FarSide heap (ReadsOthers p)
   others_so (had, did) = (
     had_so (Unbrought p Damaged) (λ s. HasFarAndRoom p s × (s.honest ≡ false)) (λ s is. (may_come s p (read_of (s.cell p)) refl is.0, is.1)) had,
-    did_so (RefusesRead FarReads p Damaged) (ReadsOthers p) reads_others did,
+    did_so (LeavesIt FarReads p Damaged) (ReadsOthers p) (λ e f is. reads_others e f is.asked) did,
   )
 
   nowhere_so : IsToldOf heap p NoRoom → BookHad FarSide heap (HasNowhereFor p)
