@@ -46,7 +46,7 @@ pub(crate) struct Memory {
     pub(crate) round: Vec<bool>,
     pub(crate) round_epoch: u64,
     pub(crate) clear: Vec<bool>,
-    // The words of far objects, as they were stored.
+    // The words of objects that are far, or near without DIRTY, as they were stored.
     pub(crate) stored: StoredRows,
     // The jobs and the copiers.
     pub(crate) jobs: Jobs,

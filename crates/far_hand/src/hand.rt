@@ -32,8 +32,8 @@ use far_word::{Place, Refused};
 /// The book's hand on the shared words. Each call but `shape` is one event of [`far_core`] on at most one word, or a row of such events, takes
 /// no memory and always answers.
 ///
-/// Between any two events, and before each one, owners may add HOT, MOVE, DROP or DIRTY to a cell, change their scope words,
-/// and store into objects that aren't quiet; and copiers may take jobs that are offered, finish those that they took, and
+/// Between any two events, and before each one, owners may add HOT, MOVE or DROP to a cell, change their scope words, and
+/// store into objects that aren't quiet, whose cells may get DIRTY; and copiers may take jobs that are offered, finish those that they took, and
 /// write to the targets of jobs that aren't finished.
 pub trait Near {
     /// What the book knows of the state. Kinds, tails, spans, the round and the epoch are its own, and exact; of a cell the

@@ -5,7 +5,9 @@ use Rattle.std.specs.Prelude.{IfErr, IfOk, ◌^◌, ◌<◌, ◌&&◌, ◌||◌,
 use Rattle.far_word.specs.declared.pointer.PtrWord.{PtrWord}
 use Rattle.far_word.specs.declared.pointer.PtrWord.TheVariants.{Free, Near, Far}
 use Rattle.far_word.specs.Pointer.{read_of}
+use Rattle.far_core.specs.declared.event.Event.{Event}
 use Rattle.far_core.specs.declared.event.Event.TheVariants.{Name}
+use Rattle.far_core.specs.declared.event.Reply.{Reply}
 use Rattle.far_core.specs.events.Legal.{Legal}
 use Rattle.far_core.specs.events.Naming.{is_dropped}
 use Rattle.far_core.specs.events.Step.{after}
@@ -14,7 +16,7 @@ use Rattle.far_core.specs.state.State.{State}
 use Rattle.far_core.proofs.Put.{put_old, put_same}
 use Rattle.far_hand.specs.Finds.{Finds, body_of, marks_in}
 use Rattle.far_hand.specs.Known.{Forgets, KnowsLeaving, StoresLeaving}
-use Rattle.far_book.specs.book.Renaming.{MayRename, Renamed, seen, stops}
+use Rattle.far_book.specs.book.Renaming.{IsWonBy, MayRename, Renamed, seen, stops}
 use Rattle.far_hand.proofs.Finding.{finds_is, finds_more}
 use Rattle.far_book.proofs.region.Calls.{put_put}
 use Rattle.far_book.proofs.region.Dirt.{no_more, up_by}
@@ -22,6 +24,10 @@ use Rattle.far_book.proofs.region.Dirt.{no_more, up_by}
 never : (b : Bool) → (b && not b) ≡ false
 never true = refl
 never false = refl
+
+-- a word without DROP doesn't end a naming by itself
+pub not_by_itself : (o : Option PtrWord) → is_dropped o ≡ false → stops o o ≡ false
+not_by_itself o alive = ap (λ b. b || (is_dirty o && not (is_dirty o))) alive ∙ never (is_dirty o)
 
 -- the word that is known there is found
 module _ (s : State) (p w new : ℕ) (is : w ≡ s.cell p) where
@@ -58,6 +64,17 @@ on_by false true false m up h = sym (ap not (up refl)) ∙ h
 
 pub chain : (o m n : Option PtrWord) → stops o m ≡ false → stops m n ≡ false → stops o n ≡ false
 chain o m n a b = on_by (is_dropped n) (is_dirty n) (is_dirty o) (is_dirty m) (no_more (is_dropped m) (is_dirty m) (is_dirty o) a) b
+
+-- what won it after such a word, won it
+pub won_after : {A N : Type 0} (makes : N → Event → Reply → N → Type 0) (next : N) (r : Result A ℕ) (p w v new : ℕ) → Finds w v → stops (read_of w) (read_of v) ≡ false → IfOk r (λ _. IsWonBy makes next p v new) → IfOk r (λ _. IsWonBy makes next p w new)
+won_after makes next (Err x) p w v new found on h = h
+won_after makes next (Ok x) p w v new found on h = record {
+  before = h.before;
+  word = h.word;
+  found = finds_more w v h.word found h.found;
+  goes_on = chain (read_of w) (read_of v) (read_of h.word) on h.goes_on;
+  made = h.made;
+}
 
 -- what stops it after a word that doesn't, stops it at once: that word has DIRTY no more than the first
 stops_by : (d a k m : Bool) → (k ≡ true → m ≡ true) → (d || (a && not m)) ≡ true → (d || (a && not k)) ≡ true

@@ -9,9 +9,9 @@ use Rattle.far_word.specs.Pointer.{read_of}
 use Rattle.far_word.specs.Sizes.{size_of}
 use Rattle.far_log.specs.declared.span.Span.{Span}
 use Rattle.far_core.specs.declared.event.Event.{Event}
-use Rattle.far_core.specs.declared.event.Event.TheVariants.{See}
+use Rattle.far_core.specs.declared.event.Event.TheVariants.{Name, See}
 use Rattle.far_core.specs.declared.event.Reply.{Reply}
-use Rattle.far_core.specs.declared.event.Reply.TheVariants.{Word}
+use Rattle.far_core.specs.declared.event.Reply.TheVariants.{Done, Word}
 use Rattle.far_core.specs.events.Naming.{is_dropped}
 use Rattle.far_core.specs.state.Law.{is_dirty}
 use Rattle.far_core.specs.state.Room as rooms
@@ -23,7 +23,7 @@ use Rattle.far_hand.specs.Came.{Came, only}
 use Rattle.far_hand.specs.Finds.{Finds}
 use Rattle.far_hand.specs.Known.{Forgets, KeepsKnown}
 use Rattle.far_book.specs.book.Actions.{Does, Evicts, Fetches, Moves, Places, Retires}
-use Rattle.far_book.specs.book.Asking.{AsksToEvict, AsksToFetch}
+use Rattle.far_book.specs.book.Asking.{AsksToEvict, AsksToFetch, WritesIt}
 use Rattle.far_book.specs.book.BookOf.{BookOf}
 use Rattle.far_book.specs.book.Dealing.{IsRetired, IsSeen, LearnsNone, MovedBy, goal, is_failure, moved_now, order_moved}
 use Rattle.far_book.specs.book.Effects.{evicted, order_after, placed, retired}
@@ -133,12 +133,22 @@ module _ {N D : Type 0} (still : Type 0) (view : N → State) (makes : N → Eve
       -- the action that this is
       pub ran : still → Does (view old.near) (Moves p result) (view new.near)
 
+    -- p's object went far by one exchange, for the word that its cell had until then: if that says DIRTY, its bytes were written before; else the device was asked nothing
+    pub record LeavesBy (writes : D → ℕ → List ℕ → Result (Unit {0}) DeviceFault → D → Type 0) (old new : BookOf N D) (p : ℕ) : Type 0 where
+      pub before : N
+      pub word : ℕ
+      pub far : ℕ
+      pub named : makes before (Name p word far) Done new.near
+      pub dirty : is_dirty (read_of word) ≡ true → WritesIt D writes lets_go (view old.near) p old.device (Ok tt) new.device
+      pub clean : is_dirty (read_of word) ≡ false → new.device ≡ old.device
+
     -- p's quiet near object with EVAC goes far; or is retired, where its owner has dropped it, and the answer is false; or that is refused
     pub record EvictsObject (writes : D → ℕ → List ℕ → Result (Unit {0}) DeviceFault → D → Type 0) (old new : BookOf N D) (p : ℕ) (result : Result Bool Refused) : Type 0 where
       pub came : Came makes old.near new.near
       -- it has gone far; over a hand that is still that is all
       pub far : result ≡ Ok true → GoesFar (view old.near) (view new.near) p
       pub away : still → result ≡ Ok true → view new.near ≡ evicted (view old.near) p
+      pub left_by : result ≡ Ok true → LeavesBy writes old new p
       -- it is retired, and no word is learned
       pub gone : result ≡ Ok false → IsRetired still (view old.near) (view new.near) p
       pub freed : result ≡ Ok false → KeepsKnown (view old.near) (view new.near)

@@ -6,6 +6,7 @@ use Rattle.far_word.specs.Pointer.{read_of}
 use Rattle.far_core.specs.declared.event.Event.{Event}
 use Rattle.far_core.specs.declared.event.Event.TheVariants.{Name}
 use Rattle.far_core.specs.declared.event.Reply.{Reply}
+use Rattle.far_core.specs.declared.event.Reply.TheVariants.{Done}
 use Rattle.far_core.specs.events.Legal.{Legal}
 use Rattle.far_core.specs.events.Naming.{is_dropped}
 use Rattle.far_core.specs.events.Step.{after}
@@ -40,11 +41,20 @@ pub record Renamed (s t : State) (p new : ℕ) : Type 0 where
   pub stored : StoresLeaving (seen s p word) t p word new
   pub forgot : Forgets (seen s p word) t
 
+-- one exchange gave the cell the new word, and nothing came after it: the cell had this word until then, which was found there and doesn't end the naming
+pub record IsWonBy {N : Type 0} (makes : N → Event → Reply → N → Type 0) (next : N) (p old new : ℕ) : Type 0 where
+  pub before : N
+  pub word : ℕ
+  pub found : Finds old word
+  pub goes_on : stops (read_of old) (read_of word) ≡ false
+  pub made : makes before (Name p word new) Done next
+
 -- from one hand to another the cell was to get the new word, by the old one or one with marks added. It has got it; or the answer is the word that was
 -- found, with DROP, or with DIRTY where the old one had none. Over a hand that is still no mark was added
 pub record Renames {N : Type 0} (still : Type 0) (view : N → State) (makes : N → Event → Reply → N → Type 0) (hand next : N) (p old new : ℕ) (result : Result (Unit {0}) ℕ) : Type 0 where
   pub done : IfOk result (λ _. Renamed (view hand) (view next) p new)
   pub set : still → IfOk result (λ _. view next ≡ after (view hand) (Name p old new))
+  pub won_by : IfOk result (λ _. IsWonBy makes next p old new)
   pub won : still → IfErr result (λ _. ⊥)
   pub fits : IfErr result (λ word. word < 2 ^ 64)
   pub found : IfErr result (λ word. Finds old word)

@@ -18,7 +18,7 @@ ghost use Rattle.far_hand.specs.Quiet.{IsQuietNear};
 ghost use Rattle.far_book.specs.book.Effects.{evicted, far_word};
 ghost use Rattle.far_book.specs.book.Evicting.{IsQuietData, IsQuietIn, Learns};
 ghost use Rattle.far_book.specs.book.Only.{Names, Reads};
-ghost use Rattle.far_book.specs.book.Renaming.{Renamed, seen, stops};
+ghost use Rattle.far_book.specs.book.Renaming.{IsWonBy, Renamed, seen, stops};
 ghost use Rattle.far_book.specs.book.Sending.{Sends};
 
 use crate::book::Book;
@@ -31,7 +31,7 @@ use std::mem;
 
 impl<N: Near + Drop, D: Device + Drop> Book<N, D> {
     /// Sends a quiet near object with EVAC far: the device holds its bytes, its cell says far, without marks, and its span is
-    /// dead. Of one without DIRTY the device has held the bytes since, and isn't asked, unless DIRTY is found at the naming. `false`
+    /// dead. Of one whose word has no DIRTY as it leaves the device has held the bytes since, and isn't asked. `false`
     /// where its owner was found to have dropped it: it is retired then, and the device forgets its bytes.
     /// Refused [`Refused::Memory`] or [`Refused::Device`] where the device is: the object is as it was, and has DIRTY.
     #[inline(always)]
@@ -104,6 +104,7 @@ impl<N: Near + Drop, D: Device + Drop> Book<N, D> {
         requires alive { is_dropped (read_of found) ≡ false }
         ensures left { result ≡ None → N.view self.new.near ≡ record (evicted (N.view self.old.near) pointer) { word = (N.view self.new.near).word; stored = (N.view self.new.near).stored } }
         ensures far { result ≡ None → (is_dirty (read_of found) ≡ false) × Renamed (N.view self.old.near) (N.view self.new.near) pointer (far_word len ds) }
+        ensures won_by { result ≡ None → IsWonBy N.makes self.new.near pointer found (far_word len ds) }
         ensures away { N.still → result ≡ None → N.view self.new.near ≡ evicted (N.view self.old.near) pointer }
         ensures found { IfSome result (λ word. Finds found word) }
         ensures kept { IfSome result (λ word. N.view self.new.near ≡ seen (N.view self.old.near) pointer word) }
@@ -163,6 +164,7 @@ impl<N: Near + Drop, D: Device + Drop> Book<N, D> {
         requires held { is_dirty (read_of found) ≡ true → D.contents self.old.device pointer ≡ Some (bytes_of (data_at (N.view self.old.near).word place) len) }
         ensures far { IfOk result (λ _. N.view self.new.near ≡ record (evicted (N.view self.old.near) pointer) { word = (N.view self.new.near).word; stored = (N.view self.new.near).stored }) }
         ensures renamed { IfOk result (λ _. Renamed (N.view self.old.near) (N.view self.new.near) pointer (far_word len ds)) }
+        ensures won_by { IfOk result (λ _. IsWonBy N.makes self.new.near pointer found (far_word len ds)) }
         ensures forgot { IfOk result (λ _. Forgets (N.view self.old.near) (N.view self.new.near)) }
         ensures set { N.still → IfOk result (λ _. N.view self.new.near ≡ evicted (N.view self.old.near) pointer) }
         ensures won { N.still → IfErr result (λ _. ⊥) }

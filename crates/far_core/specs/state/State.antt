@@ -45,7 +45,7 @@ pub record State : Type 0 where
   pub round : ℕ → Bool
   pub round_epoch : ℕ
   pub clear : ℕ → Bool
-  -- the words of each far object, as they were stored: word i of pointer p
+  -- the words of each object that is far, or near without DIRTY, as they were stored: word i of pointer p
   pub stored : ℕ → ℕ → ℕ
   -- the jobs and the copiers
   pub copying : Copying

@@ -23,10 +23,10 @@ use Rattle.far_hand.proofs.Closure.{then_came, came_only}
 use Rattle.far_hand.proofs.Finding.{IsNearTo, finds_more, near_found}
 use Rattle.far_book.specs.book.Asking.{HasBytes, fault_of}
 use Rattle.far_book.specs.book.Dealing.{Leaves, LeavesSpans}
-use Rattle.far_book.specs.book.Effects.{evicted, retired}
+use Rattle.far_book.specs.book.Effects.{evicted, far_word, retired}
 use Rattle.far_book.specs.book.Renaming.{seen}
 use Rattle.far_book.proofs.region.Calls.{put_put}
-use Rattle.far_book.proofs.region.Dirt.{up_by}
+use Rattle.far_book.proofs.region.Dirt.{same_dirt, up_by}
 use Rattle.far_book.proofs.region.Dropping.{retired_by}
 use Rattle.far_book.specs.book.Evicting.{IsQuietIn}
 use Rattle.far_book.proofs.region.Evicted.{goes_far, gone_keeps, has_bytes, is_gone, keeps_read, quiet_known, quiet_read, quiet_seen, read_is, was_alive}
@@ -125,6 +125,14 @@ returns-in_default-leave_clean g c =
       came = then_came found.came (came_only _ c.leave_clean.ensures.names);
       far = λ _. far;
       away = λ still _. away still;
+      left_by = λ _. (let won = left.won_by refl in record {
+        before = won.before;
+        word = won.word;
+        far = far_word x.len x.ds;
+        named = won.made;
+        dirty = λ e. absurd (false≢true (sym (left.far refl).0 ∙ sym (same_dirt c.cell_of-found.result won.word won.found won.goes_on) ∙ e));
+        clean = λ _. same;
+      });
       gone = λ e. absurd (not_false (Ok true) refl e);
       freed = λ e. absurd (not_false (Ok true) refl e);
       asked = λ e. absurd (false≢true (sym far.alive ∙ e));
@@ -157,6 +165,7 @@ returns-then-marks g c =
       came = then_came found.came z.came;
       far = λ e. absurd (not_true (Ok false) refl e);
       away = λ _ e. absurd (not_true (Ok false) refl e);
+      left_by = λ e. absurd (not_true (Ok false) refl e);
       gone = λ _. retired_by g.N.Near.still s t (g.N.Near.view c.retire.new.self.near) p c.cell_of-found.result found.found dropped (spans_seen s t p c.cell_of-found.result found.kept) z.kept z.forgot known exact;
       freed = λ _. record {
         known = λ a old now. z.forgot.known a now ∙ ap (λ (x : State). x.word a) found.kept;
@@ -195,6 +204,7 @@ returns-then-is_dropped g c =
       came = then_came (then_came found.came (came_only _ c.leave_clean.ensures.names)) z.came;
       far = λ e. absurd (not_true (Ok false) refl e);
       away = λ _ e. absurd (not_true (Ok false) refl e);
+      left_by = λ e. absurd (not_true (Ok false) refl e);
       gone = λ _. retired_by g.N.Near.still s t (g.N.Near.view c.retire-then-is_dropped.new.self.near) p c.in-Some.word (finds g some) dropped (spans_seen s t p c.in-Some.word (seen_is g some)) z.kept z.forgot known exact;
       freed = λ _. record {
         known = λ a old now. z.forgot.known a now ∙ ap (λ (x : State). x.word a) (seen_is g some);
@@ -238,6 +248,7 @@ returns-in-Err g c =
       came = then_came (then_came found.came (came_only _ c.leave_clean.ensures.names)) (came_only _ c.send.ensures.reads);
       far = λ e. absurd (not_done (Err c.in-Err.why) true refl e);
       away = λ _ e. absurd (not_done (Err c.in-Err.why) true refl e);
+      left_by = λ e. absurd (not_done (Err c.in-Err.why) true refl e);
       gone = λ e. absurd (not_done (Err c.in-Err.why) false refl e);
       freed = λ e. absurd (not_done (Err c.in-Err.why) false refl e);
       asked = λ e. absurd (false≢true (sym before ∙ e));
@@ -272,7 +283,7 @@ returns-in-Ok g c =
     let p = c.args.pointer in
     let x = c.in-Near in
     let bytes = bytes_of (data_at u.word x.place) x.len in
-    let asked : g.D.Device.writes c.leave_clean.new.self.device p bytes (Ok tt) c.send.new.self.device = search rules in
+    let asked : g.D.Device.writes c.leave_clean.new.self.device p bytes (Ok tt) c.send.new.self.device = c.in_default-send.ensures.called in
     let some = h.In-Some in
     let n = now g some in
     let found = c.cell_of-found.ensures in
@@ -289,6 +300,14 @@ returns-in-Ok g c =
       came = then_came (then_came (then_came found.came (came_only _ c.leave_clean.ensures.names)) (came_only _ c.send.ensures.reads)) (came_only _ c.name_far.ensures.names);
       far = λ _. far;
       away = λ still _. away still;
+      left_by = λ _. (let won = named.won_by in record {
+        before = won.before;
+        word = won.word;
+        far = far_word x.len x.ds;
+        named = won.made;
+        dirty = λ _. (bytes, own g h.After-send, subst (λ (d : g.row.D.Denot). g.D.Device.writes c.args.self.now.device p bytes (Ok tt) d) (sym c.name_far.ensures.device) written);
+        clean = λ e. absurd (false≢true (sym e ∙ same_dirt c.in-Some.word won.word won.found won.goes_on ∙ dirty));
+      });
       gone = λ e. absurd (not_false (Ok true) refl e);
       freed = λ e. absurd (not_false (Ok true) refl e);
       asked = λ e. absurd (false≢true (sym far.alive ∙ e));
@@ -332,6 +351,7 @@ returns-in-Err-name_far g c =
       came = then_came (then_came (then_came (then_came found.came (came_only _ c.leave_clean.ensures.names)) (came_only _ c.send.ensures.reads)) (came_only _ c.name_far.ensures.names)) z.came;
       far = λ e. absurd (not_true (Ok false) refl e);
       away = λ _ e. absurd (not_true (Ok false) refl e);
+      left_by = λ e. absurd (not_true (Ok false) refl e);
       gone = λ _. is_gone s t u p c.in-Some.word (seen_is g some) c.send.ensures.kept _ _ y.field-0 (finds g some) y.ensures.found stopped y.ensures.kept z.kept z.forgot
           g.N.Near.still (λ still. absurd (y.ensures.won still)) (λ still. absurd (y.ensures.won still));
       freed = λ _. gone_keeps s t u p c.in-Some.word (seen_is g some) c.send.ensures.kept _ _ y.field-0 (finds g some) y.ensures.found stopped y.ensures.kept z.kept z.forgot;

@@ -3,8 +3,9 @@ use Rattle.std.proofs.Common.{◌≡◌, ◌∙◌, arith, false, refl, rules, s
 use Rattle.far_word.specs.Pointer.{read_of}
 use Rattle.far_book.specs.book.Renaming.{stops}
 use Rattle.far_hand.specs.Finds.{Finds}
-use Rattle.far_book.proofs.region.Renamings.{done_after, found_after, kept_after, may_after, may_now, renamed_now, stopped_after}
+use Rattle.far_book.proofs.region.Renamings.{done_after, found_after, kept_after, may_after, may_now, not_by_itself, renamed_now, stopped_after, won_after}
 use Rattle.far_hand.proofs.Closure.{first_call, then_came}
+use Rattle.far_hand.proofs.Finding.{finds_is}
 
 pub name-requires-clause-legal : goal.name-requires-clause-legal
 name-requires-clause-legal g c = may_now (g.N.Near.view c.args.near.now) c.args.pointer c.args.found c.args.new c.requires.found (omega arith) c.requires.alive c.requires.may
@@ -18,6 +19,13 @@ pub returns-in-Ok : goal.returns-in-Ok
 returns-in-Ok g c = record {
   done = renamed_now (g.N.Near.view c.args.near.now) c.args.pointer c.args.found c.args.new c.requires.found (g.N.Near.view c.name.new.self) c.requires.alive c.in-Ok.ensures.done c.in-Ok.ensures.stored c.in-Ok.ensures.forgot;
   set = c.in-Ok.ensures.set;
+  won_by = record {
+    before = c.args.near.now;
+    word = c.args.found;
+    found = finds_is c.args.found c.args.found refl;
+    goes_on = not_by_itself (read_of c.args.found) c.requires.alive;
+    made = c.in-Ok.ensures.made;
+  };
   won = λ still. tt;
   fits = tt;
   found = tt;
@@ -30,6 +38,7 @@ pub returns-then-stops : goal.returns-then-stops
 returns-then-stops g c = record {
   done = tt;
   set = λ still. tt;
+  won_by = tt;
   won = c.in-Err.ensures.won;
   fits = c.stops.ensures.fits;
   found = search rules;
@@ -46,6 +55,7 @@ returns-else-stops g c =
     record {
       done = done_after s (g.N.Near.view c.name.new.self) c.args.pointer c.in-Err.other c.in-Err.ensures.kept found on c.rename_marked.result c.args.new (g.N.Near.view c.rename_marked.new.near) c.rename_marked.ensures.done;
       set = λ still. absurd (c.in-Err.ensures.won still);
+      won_by = won_after g.N.Near.makes c.rename_marked.new.near c.rename_marked.result c.args.pointer c.args.found c.in-Err.other c.args.new c.in-Err.ensures.found (sym c.stops.ensures.value ∙ c.if-stops.false) c.rename_marked.ensures.won_by;
       won = c.rename_marked.ensures.won;
       fits = c.rename_marked.ensures.fits;
       found = found_after c.rename_marked.result c.args.found c.in-Err.other c.in-Err.ensures.found c.rename_marked.ensures.found;

@@ -38,6 +38,13 @@ returns-in-Ok g c =
           ∙ ap (λ (u : State). after u (Name c.args.pointer c.loop.word c.args.new)) h.kept
           ∙ ap (λ (w : ℕ). after (seen s c.args.pointer w) (Name c.args.pointer w c.args.new)) (h.same still)
           ∙ ap (λ (u : State). after u (Name c.args.pointer c.args.found c.args.new)) (same_seen s c.args.pointer c.args.found c.args.new c.requires.found);
+      won_by = record {
+        before = c.loop.near;
+        word = c.loop.word;
+        found = search rules;
+        goes_on = h.alive;
+        made = c.in-Ok.ensures.made;
+      };
       won = λ still. tt;
       fits = tt;
       found = tt;
@@ -50,6 +57,7 @@ pub returns-then-stops : goal.returns-then-stops
 returns-then-stops g c = record {
   done = tt;
   set = λ still. tt;
+  won_by = tt;
   won = c.in-Err.ensures.won;
   fits = c.stops.ensures.fits;
   found = search rules;
