@@ -1,9 +1,10 @@
 -- A step of the thread that keeps logs free.
-use Rattle.std.proofs.Common.{◌≡◌, ℕ, false, true, List, [], ◌∷◌, Result, Ok, Err, length, nat_eq, refl, arith, inl}
+use Rattle.std.proofs.Common.{◌≡◌, ℕ, false, true, Option, List, [], ◌∷◌, Result, Ok, Err, length, nat_eq, refl, arith, inl}
 use Rattle.std.specs.Prelude.{IfErr, IfOk}
 use Rattle.std.proofs.lemmas.Bool.{eqb-true}
 use Rattle.far_log.specs.declared.row.LogRow.{LogRow}
 use Rattle.far_word.specs.declared.refused.Refused.{Refused}
+use Rattle.far_device.specs.declared.fault.DeviceFault.{DeviceFault}
 use Rattle.far_table.specs.declared.book.BookSeat.{BookSeat}
 use Rattle.far_evac.specs.EvacOf.{EvacOf}
 use Rattle.far_evac.specs.Moment.{nothing, progress_of}
@@ -19,8 +20,8 @@ none_of [] none = refl
 none_of (l ∷ ls) none = absurd (omega (arith, eqb-true (length (l ∷ ls)) 0 none))
 
 -- what was so of a book was so of some book
-module _ {P : Type 0} (gives : P → List LogRow → ℕ → Result (List ℕ) Refused → P → Type 0) (D : Type 0) (heap : HeapId) (free most : ℕ) (before after : P) (e f : EvacOf (BookSeat D) D) where
-  pub some_step : (result : Result Made EvacFault) → IfOk result (λ made. Begins gives heap free most before made after e f) → IfOk result (λ made. IsStep gives D heap free most before made after)
+module _ {P D : Type 0} (gives : P → List LogRow → ℕ → Result (List ℕ) Refused → P → Type 0) (writes : D → ℕ → List ℕ → Result (Unit {0}) DeviceFault → D → Type 0) (lets_go : D → ℕ → D → Type 0) (contents : D → ℕ → Option (List ℕ)) (heap : HeapId) (free most : ℕ) (before after : P) (e f : EvacOf (BookSeat D) D) where
+  pub some_step : (result : Result Made EvacFault) → IfOk result (λ made. Begins gives heap free most before made after e f) → IfOk result (λ made. IsStep gives writes lets_go contents heap free most before made after)
   some_step (Ok step.Enough) begins = (e, f, begins)
   some_step (Ok step.Unchosen) begins = (e, f, begins)
   some_step (Ok step.Begun) begins = (e, f, begins)
@@ -28,6 +29,6 @@ module _ {P : Type 0} (gives : P → List LogRow → ℕ → Result (List ℕ) R
   some_step (Err fault) begins = tt
 
   pub some_refusal : (result : Result Made EvacFault) → IfErr result (λ fault. (fault.so_far ≡ progress_of nothing false) × LacksInVain gives heap free most before fault.why after e f)
-      → IfErr result (λ fault. IsUnmade gives D heap free most before fault after)
+      → IfErr result (λ fault. IsUnmade gives writes lets_go contents heap free most before fault after)
   some_refusal (Ok made) lacks = tt
   some_refusal (Err fault) lacks = inl (lacks.0, (e, f, lacks.1))

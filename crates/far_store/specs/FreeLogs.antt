@@ -3,11 +3,12 @@ use Rattle.std.specs.Prelude.{◌≡◌, ◌≢◌, ◌⊎◌, ◌<◌, ◌≤�
 use Rattle.far_log.specs.declared.row.LogRow.{LogRow}
 use Rattle.far_word.specs.declared.refused.Refused.{Refused}
 use Rattle.far_word.specs.declared.refused.Refused.TheVariants as refused
+use Rattle.far_device.specs.declared.fault.DeviceFault.{DeviceFault}
 use Rattle.far_table.specs.declared.book.BookSeat.{BookSeat}
 use Rattle.far_table.specs.BookSeats.{seat_makes, seat_view}
 use Rattle.far_hand.specs.Came.{Came}
-use Rattle.far_evac.specs.AnyTurns.{TurnsTo}
-use Rattle.far_evac.specs.ByCopying.{StopsBy}
+use Rattle.far_evac.specs.AnyTurns.{AsksInTurn, TurnsTo}
+use Rattle.far_evac.specs.ByCopying.{RefusesBy, StopsBy}
 use Rattle.far_evac.specs.Census.{kind_in}
 use Rattle.far_evac.specs.EvacOf.{EvacOf, moment}
 use Rattle.far_evac.specs.Moment.{Moment, nothing, progress_of, tally_of}
@@ -64,19 +65,23 @@ module _ {P D : Type 0} (gives : P → List LogRow → ℕ → Result (List ℕ)
   Begins before step.Begun after e f = (logs : List ℕ) × (logs ≢ []) × LacksAndChooses before logs after e f
   Begins before (step.Turned turn) after e f = ⊥
 
--- there was a book of this heap in a round, and one turn of that, by the book's own calls alone, did this
-abbrev pub Turned : (D : Type 0) → HeapId → Progress → Type 0
-Turned D heap made = (e : EvacOf (BookSeat D) D) × IsBookOf heap e × (e.phase ≢ Idle)
-    × (f : EvacOf (BookSeat D) D) × Came seat_makes e.book.near f.book.near × TurnsTo (moment seat_view e) e.phase (tally_of made) made.done (moment seat_view f)
+-- ---- turns, over the device's writes, the keys that it lets go of, and what it holds
+module _ {D : Type 0} (writes : D → ℕ → List ℕ → Result (Unit {0}) DeviceFault → D → Type 0) (lets_go : D → ℕ → D → Type 0) (contents : D → ℕ → Option (List ℕ)) (heap : HeapId) where
+  -- there was a book of this heap in a round, and one turn of that, by the book's own calls alone, did this, and asked the device for that and nothing else
+  abbrev pub Turned : Progress → Type 0
+  Turned made = (e : EvacOf (BookSeat D) D) × IsBookOf heap e × (e.phase ≢ Idle)
+      × (f : EvacOf (BookSeat D) D) × Came seat_makes e.book.near f.book.near × TurnsTo (moment seat_view e) e.phase (tally_of made) made.done (moment seat_view f)
+      × AsksInTurn ⊥ D writes lets_go contents (moment seat_view e) e.phase (moment seat_view f) (tally_of made) e.book.device f.book.device
 
--- or it stopped at an object that was to leave, for want of memory or by a failure of the device, after it had done this
-abbrev pub Stopped : (D : Type 0) → HeapId → EvacFault → Type 0
-Stopped D heap fault = (e : EvacOf (BookSeat D) D) × IsBookOf heap e × (e.phase ≡ Evacuating)
-    × (f : EvacOf (BookSeat D) D) × Came seat_makes e.book.near f.book.near × StopsBy (moment seat_view e) turn_size (moment seat_view f) (tally_of fault.so_far)
-    × ((fault.why ≡ refused.Memory) ⊎ (fault.why ≡ refused.Device))
+  -- or it stopped at an object that was to leave, after it had done this: one write of the object's bytes was refused memory, or failed
+  abbrev pub Stopped : EvacFault → Type 0
+  Stopped fault = (e : EvacOf (BookSeat D) D) × IsBookOf heap e × (e.phase ≡ Evacuating)
+      × (f : EvacOf (BookSeat D) D) × Came seat_makes e.book.near f.book.near × StopsBy (moment seat_view e) turn_size (moment seat_view f) (tally_of fault.so_far)
+      × ((fault.why ≡ refused.Memory) ⊎ (fault.why ≡ refused.Device))
+      × RefusesBy ⊥ D writes lets_go contents (moment seat_view e) turn_size (moment seat_view f) (tally_of fault.so_far) fault.why e.book.device f.book.device
 
 -- ---- steps of who keeps logs free, and what became of the policy that chooses, at most so many logs
-module _ {P : Type 0} (gives : P → List LogRow → ℕ → Result (List ℕ) Refused → P → Type 0) (D : Type 0) (heap : HeapId) (free most : ℕ) where
+module _ {P D : Type 0} (gives : P → List LogRow → ℕ → Result (List ℕ) Refused → P → Type 0) (writes : D → ℕ → List ℕ → Result (Unit {0}) DeviceFault → D → Type 0) (lets_go : D → ℕ → D → Type 0) (contents : D → ℕ → Option (List ℕ)) (heap : HeapId) (free most : ℕ) where
   -- so it was of some book, while the lock was held
   abbrev pub Began : P → Made → P → Type 0
   Began before made after = (e : EvacOf (BookSeat D) D) × (f : EvacOf (BookSeat D) D) × Begins gives heap free most before made after e f
@@ -88,11 +93,11 @@ module _ {P : Type 0} (gives : P → List LogRow → ℕ → Result (List ℕ) R
   IsStep before step.Enough after = Began before step.Enough after
   IsStep before step.Unchosen after = Began before step.Unchosen after
   IsStep before step.Begun after = Began before step.Begun after
-  IsStep before (step.Turned turn) after = Turned D heap turn × (after ≡ before)
+  IsStep before (step.Turned turn) after = Turned writes lets_go contents heap turn × (after ≡ before)
 
   -- why a step wasn't made
   abbrev pub IsUnmade : P → EvacFault → P → Type 0
-  IsUnmade before fault after = ((fault.so_far ≡ progress_of nothing false) × LackedInVain before fault.why after) ⊎ (Stopped D heap fault × (after ≡ before))
+  IsUnmade before fault after = ((fault.so_far ≡ progress_of nothing false) × LackedInVain before fault.why after) ⊎ (Stopped writes lets_go contents heap fault × (after ≡ before))
 
   -- steps one after the other, of which the last stands first. Others may have had the lock between any two
   abbrev pub AreSteps : P → List Made → P → Type 0

@@ -98,8 +98,8 @@ fn nothing() -> Progress
 // A round that stands goes on by a turn, whoever began it.
 fn go_on<K: HeapName, D: Device + Drop>(book: &mut Evacuator<K, D>) -> Result<Progress, EvacFault>
     requires { book.old.phase ≢ Idle }
-    ensures turned { IfOk result (Turned D K.heap) }
-    ensures refused { IfErr result (Stopped D K.heap) }
+    ensures turned { IfOk result (Turned D.writes D.lets_go D.contents K.heap) }
+    ensures refused { IfErr result (Stopped D.writes D.lets_go D.contents K.heap) }
     ensures turns { IfOk result (λ made. TurnsTo (moment seat_view book.old) book.old.phase (tally_of made) made.done (moment seat_view book.new)) }
     ensures stops { IfErr result (λ fault. StopsBy (moment seat_view book.old) turn_size (moment seat_view book.new) (tally_of fault.so_far)) }
     ensures stays { IfErr result (λ _. book.new.phase ≡ book.old.phase) }
@@ -144,8 +144,8 @@ fn make_step<K: HeapName, D: Device + Drop, R: Wait, P: Policy>(
     free: u64,
     most: usize,
 ) -> Result<Made, EvacFault>
-    ensures made { IfOk result (λ made. IsStep P.gives D K.heap free most policy.old made policy.new) }
-    ensures refused { IfErr result (λ fault. IsUnmade P.gives D K.heap free most policy.old fault policy.new) }
+    ensures made { IfOk result (λ made. IsStep P.gives D.writes D.lets_go D.contents K.heap free most policy.old made policy.new) }
+    ensures refused { IfErr result (λ fault. IsUnmade P.gives D.writes D.lets_go D.contents K.heap free most policy.old fault policy.new) }
 {
     let mut guard = heap.book(rt);
     let book = &mut *guard;
@@ -180,7 +180,7 @@ fn counted(counts: Counts, made: Made) -> Counts
 /// took so much that it is to look. What its turns did is told, but for one that was refused in its midst: that is in the fault.
 ///
 /// `free` is 2 to the number of logs less 2, and `most` at least 1; with other numbers those who wait for room may wait for ever. Refused where
-/// [`Evacuator::select`] is, or [`Evacuator::turn`], by that with [`Refused::Memory`] or [`Refused::Device`]. The round that stands then goes on if the
+/// [`Evacuator::select`] is, or [`Evacuator::turn`], by that with [`Refused::Memory`] or [`Refused::Device`], as one write was answered. The round that stands then goes on if the
 /// call is made again.
 pub fn keep_free<K: HeapName, D: Device + Drop, R: Wait, P: Policy, U: Fn(Option<Made>) -> bool>(
     rt: &R,
@@ -191,7 +191,7 @@ pub fn keep_free<K: HeapName, D: Device + Drop, R: Wait, P: Policy, U: Fn(Option
     until: U,
 ) -> (Counts, Result<(), EvacFault>)
     requires { U.IsAlwaysCallable until }
-    ensures { (steps : List made) × (last : P) × AreSteps P.gives D K.heap free most policy.old steps last × EndsSteps P.gives D K.heap free most last result.1 policy.new × (result.0 ≡ counts_of (turns_in steps)) × IfOk result.1 (λ _. U.post until (newest steps) true) }
+    ensures { (steps : List made) × (last : P) × AreSteps P.gives D.writes D.lets_go D.contents K.heap free most policy.old steps last × EndsSteps P.gives D.writes D.lets_go D.contents K.heap free most last result.1 policy.new × (result.0 ≡ counts_of (turns_in steps)) × IfOk result.1 (λ _. U.post until (newest steps) true) }
 {
     let mut counts = Counts::none();
     let mut last: Option<Made> = None;

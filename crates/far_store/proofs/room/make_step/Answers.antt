@@ -4,11 +4,11 @@ use Rattle.far_store.proofs.room.make_step.Goals as goal
 
 pub returns-in-Idle-clause-made : goal.returns-in-Idle-clause-made
 returns-in-Idle-clause-made g c =
-    some_step g.P.Policy.gives g.row.D.Denot g.K.HeapName.heap c.args.free c.args.most c.args.policy.now c.begin.new.policy _ _ c.begin.result c.begin.ensures.made
+    some_step g.P.Policy.gives g.D.Device.writes g.D.Device.lets_go g.D.Device.contents g.K.HeapName.heap c.args.free c.args.most c.args.policy.now c.begin.new.policy _ _ c.begin.result c.begin.ensures.made
 
 pub returns-in-Idle-clause-refused : goal.returns-in-Idle-clause-refused
 returns-in-Idle-clause-refused g c =
-    some_refusal g.P.Policy.gives g.row.D.Denot g.K.HeapName.heap c.args.free c.args.most c.args.policy.now c.begin.new.policy _ _ c.begin.result c.begin.ensures.refused
+    some_refusal g.P.Policy.gives g.D.Device.writes g.D.Device.lets_go g.D.Device.contents g.K.HeapName.heap c.args.free c.args.most c.args.policy.now c.begin.new.policy _ _ c.begin.result c.begin.ensures.refused
 
 pub returns-in-Ok-clause-made : goal.returns-in-Ok-clause-made
 returns-in-Ok-clause-made g c = (c.in-Ok.ensures.turned, refl)
