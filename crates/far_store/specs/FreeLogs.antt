@@ -65,39 +65,46 @@ module _ {P D : Type 0} (gives : P → List LogRow → ℕ → Result (List ℕ)
   Begins before step.Begun after e f = (logs : List ℕ) × (logs ≢ []) × LacksAndChooses before logs after e f
   Begins before (step.Turned turn) after e f = ⊥
 
--- ---- turns, over the device's writes, the keys that it lets go of, and what it holds
+-- ---- a turn of a book of this heap that is in a round, over the device's writes, the keys that it lets go of, and what it holds: it leads from e to f
 module _ {D : Type 0} (writes : D → ℕ → List ℕ → Result (Unit {0}) DeviceFault → D → Type 0) (lets_go : D → ℕ → D → Type 0) (contents : D → ℕ → Option (List ℕ)) (heap : HeapId) where
-  -- there was a book of this heap in a round, and one turn of that, by the book's own calls alone, did this, and asked the device for that and nothing else
-  abbrev pub Turned : Progress → Type 0
-  Turned made = (e : EvacOf (BookSeat D) D) × IsBookOf heap e × (e.phase ≢ Idle)
-      × (f : EvacOf (BookSeat D) D) × Came seat_makes e.book.near f.book.near × TurnsTo (moment seat_view e) e.phase (tally_of made) made.done (moment seat_view f)
-      × AsksInTurn ⊥ D writes lets_go contents (moment seat_view e) e.phase (moment seat_view f) (tally_of made) e.book.device f.book.device
+  -- by the book's own calls alone it did this, and asked the device for that and nothing else
+  pub record Turned (made : Progress) (e f : EvacOf (BookSeat D) D) : Type 0 where
+    pub is : IsBookOf heap e
+    pub runs : e.phase ≢ Idle
+    pub came : Came seat_makes e.book.near f.book.near
+    pub turns : TurnsTo (moment seat_view e) e.phase (tally_of made) made.done (moment seat_view f)
+    pub asked : AsksInTurn ⊥ D writes lets_go contents (moment seat_view e) e.phase (moment seat_view f) (tally_of made) e.book.device f.book.device
 
-  -- or it stopped at an object that was to leave, after it had done this: one write of the object's bytes was refused memory, or failed
-  abbrev pub Stopped : EvacFault → Type 0
-  Stopped fault = (e : EvacOf (BookSeat D) D) × IsBookOf heap e × (e.phase ≡ Evacuating)
-      × (f : EvacOf (BookSeat D) D) × Came seat_makes e.book.near f.book.near × StopsBy (moment seat_view e) turn_size (moment seat_view f) (tally_of fault.so_far)
-      × ((fault.why ≡ refused.Memory) ⊎ (fault.why ≡ refused.Device))
-      × RefusesBy ⊥ D writes lets_go contents (moment seat_view e) turn_size (moment seat_view f) (tally_of fault.so_far) fault.why e.book.device f.book.device
+  -- or it stopped at an object that was to leave, after it had done this: one write of the object's bytes was refused memory, or failed. The round stands
+  pub record Stopped (fault : EvacFault) (e f : EvacOf (BookSeat D) D) : Type 0 where
+    pub is : IsBookOf heap e
+    pub leaving : e.phase ≡ Evacuating
+    pub stands : f.phase ≡ Evacuating
+    pub came : Came seat_makes e.book.near f.book.near
+    pub stops : StopsBy (moment seat_view e) turn_size (moment seat_view f) (tally_of fault.so_far)
+    pub why : (fault.why ≡ refused.Memory) ⊎ (fault.why ≡ refused.Device)
+    pub asked : RefusesBy ⊥ D writes lets_go contents (moment seat_view e) turn_size (moment seat_view f) (tally_of fault.so_far) fault.why e.book.device f.book.device
 
 -- ---- steps of who keeps logs free, and what became of the policy that chooses, at most so many logs
 module _ {P D : Type 0} (gives : P → List LogRow → ℕ → Result (List ℕ) Refused → P → Type 0) (writes : D → ℕ → List ℕ → Result (Unit {0}) DeviceFault → D → Type 0) (lets_go : D → ℕ → D → Type 0) (contents : D → ℕ → Option (List ℕ)) (heap : HeapId) (free most : ℕ) where
-  -- so it was of some book, while the lock was held
-  abbrev pub Began : P → Made → P → Type 0
-  Began before made after = (e : EvacOf (BookSeat D) D) × (f : EvacOf (BookSeat D) D) × Begins gives heap free most before made after e f
-
-  abbrev pub LackedInVain : P → Refused → P → Type 0
-  LackedInVain before why after = (e : EvacOf (BookSeat D) D) × (f : EvacOf (BookSeat D) D) × LacksInVain gives heap free most before why after e f
-
-  abbrev pub IsStep : P → Made → P → Type 0
-  IsStep before step.Enough after = Began before step.Enough after
-  IsStep before step.Unchosen after = Began before step.Unchosen after
-  IsStep before step.Begun after = Began before step.Begun after
-  IsStep before (step.Turned turn) after = Turned writes lets_go contents heap turn × (after ≡ before)
+  -- what a step makes of a book of this heap: it leads from e to f. A round that stands goes on by a turn, and the policy isn't asked; where none stands one may be begun
+  abbrev pub Steps : P → Made → P → EvacOf (BookSeat D) D → EvacOf (BookSeat D) D → Type 0
+  Steps before step.Enough after e f = Begins gives heap free most before step.Enough after e f
+  Steps before step.Unchosen after e f = Begins gives heap free most before step.Unchosen after e f
+  Steps before step.Begun after e f = Begins gives heap free most before step.Begun after e f
+  Steps before (step.Turned turn) after e f = Turned writes lets_go contents heap turn e f × (after ≡ before)
 
   -- why a step wasn't made
+  abbrev pub Unmakes : P → EvacFault → P → EvacOf (BookSeat D) D → EvacOf (BookSeat D) D → Type 0
+  Unmakes before fault after e f = ((fault.so_far ≡ progress_of nothing false) × LacksInVain gives heap free most before fault.why after e f)
+      ⊎ (Stopped writes lets_go contents heap fault e f × (after ≡ before))
+
+  -- so it was of some book, while the lock was held
+  abbrev pub IsStep : P → Made → P → Type 0
+  IsStep before made after = (e : EvacOf (BookSeat D) D) × (f : EvacOf (BookSeat D) D) × Steps before made after e f
+
   abbrev pub IsUnmade : P → EvacFault → P → Type 0
-  IsUnmade before fault after = ((fault.so_far ≡ progress_of nothing false) × LackedInVain before fault.why after) ⊎ (Stopped writes lets_go contents heap fault × (after ≡ before))
+  IsUnmade before fault after = (e : EvacOf (BookSeat D) D) × (f : EvacOf (BookSeat D) D) × Unmakes before fault after e f
 
   -- steps one after the other, of which the last stands first. Others may have had the lock between any two
   abbrev pub AreSteps : P → List Made → P → Type 0

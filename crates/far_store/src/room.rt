@@ -1,18 +1,13 @@
 //! Room that another thread makes.
 
 ghost use Rattle.std.specs.Prelude.{◌≡◌, ◌≢◌, ◌++◌, List, true, false, IfOk, IfErr, OnErr};
-ghost use Rattle.far_table.specs.BookSeats.{seat_view};
-ghost use Rattle.far_evac.specs.AnyTurns.{TurnsTo};
-ghost use Rattle.far_evac.specs.ByCopying.{StopsBy};
-ghost use Rattle.far_evac.specs.EvacOf.{moment};
-ghost use Rattle.far_evac.specs.Moment.{nothing, progress_of, tally_of};
-ghost use Rattle.far_evac.specs.Turns.{turn_size};
+ghost use Rattle.far_evac.specs.Moment.{nothing, progress_of};
 ghost use Rattle.far_evac.specs.declared.answers.Progress.{Progress as progress};
 ghost use Rattle.far_evac.specs.declared.phase.Phase.TheVariants.{Idle};
 ghost use Rattle.far_heap.specs.BookHad.{BookHad, HasRoom};
 ghost use Rattle.far_heap.specs.Mine.{adopting, is_length, owns, uses};
 ghost use Rattle.far_store.specs.Counting.{counts_of, turns_in, turns_of};
-ghost use Rattle.far_store.specs.FreeLogs.{AreSteps, Begins, EndsSteps, IsGivenUp, IsStep, IsUnmade, LacksInVain, Stopped, Turned, free_in, newest};
+ghost use Rattle.far_store.specs.FreeLogs.{AreSteps, Begins, EndsSteps, IsGivenUp, IsStep, IsUnmade, LacksInVain, Steps, Stopped, Turned, Unmakes, free_in, newest};
 ghost use Rattle.far_store.specs.declared.room.Made.{Made as made};
 
 use crate::counts::Counts;
@@ -98,11 +93,8 @@ fn nothing() -> Progress
 // A round that stands goes on by a turn, whoever began it.
 fn go_on<K: HeapName, D: Device + Drop>(book: &mut Evacuator<K, D>) -> Result<Progress, EvacFault>
     requires { book.old.phase ≢ Idle }
-    ensures turned { IfOk result (Turned D.writes D.lets_go D.contents K.heap) }
-    ensures refused { IfErr result (Stopped D.writes D.lets_go D.contents K.heap) }
-    ensures turns { IfOk result (λ made. TurnsTo (moment seat_view book.old) book.old.phase (tally_of made) made.done (moment seat_view book.new)) }
-    ensures stops { IfErr result (λ fault. StopsBy (moment seat_view book.old) turn_size (moment seat_view book.new) (tally_of fault.so_far)) }
-    ensures stays { IfErr result (λ _. book.new.phase ≡ book.old.phase) }
+    ensures turned { IfOk result (λ made. Turned D.writes D.lets_go D.contents K.heap made book.old book.new) }
+    ensures refused { IfErr result (λ fault. Stopped D.writes D.lets_go D.contents K.heap fault book.old book.new) }
 {
     book.keeps_law();
     match book.turn() {
@@ -136,6 +128,25 @@ fn begin<K: HeapName, D: Device + Drop, P: Policy>(
     }
 }
 
+// One step, of a book whose lock is held.
+fn step_on<K: HeapName, D: Device + Drop, P: Policy>(
+    book: &mut Evacuator<K, D>,
+    policy: &mut P,
+    free: u64,
+    most: usize,
+) -> Result<Made, EvacFault>
+    ensures made { IfOk result (λ made. Steps P.gives D.writes D.lets_go D.contents K.heap free most policy.old made policy.new book.old book.new) }
+    ensures refused { IfErr result (λ fault. Unmakes P.gives D.writes D.lets_go D.contents K.heap free most policy.old fault policy.new book.old book.new) }
+{
+    if let Phase::Idle = book.phase() {
+        return begin(book, policy, free, most);
+    }
+    match go_on(book) {
+        Ok(turn) => Ok(Made::Turned(turn)),
+        Err(fault) => Err(fault),
+    }
+}
+
 // One step under the lock.
 fn make_step<K: HeapName, D: Device + Drop, R: Wait, P: Policy>(
     rt: &R,
@@ -148,14 +159,7 @@ fn make_step<K: HeapName, D: Device + Drop, R: Wait, P: Policy>(
     ensures refused { IfErr result (λ fault. IsUnmade P.gives D.writes D.lets_go D.contents K.heap free most policy.old fault policy.new) }
 {
     let mut guard = heap.book(rt);
-    let book = &mut *guard;
-    if let Phase::Idle = book.phase() {
-        return begin(book, policy, free, most);
-    }
-    match go_on(book) {
-        Ok(turn) => Ok(Made::Turned(turn)),
-        Err(fault) => Err(fault),
-    }
+    step_on(&mut *guard, policy, free, most)
 }
 
 // Counts what a step did.
