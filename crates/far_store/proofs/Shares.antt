@@ -7,11 +7,11 @@ use Rattle.std.specs.Fork.{GivesJobs}
 use Rattle.std.proofs.lemmas.Bool.{cases_lt}
 use Rattle.std.proofs.lemmas.List.{get_or-map, get_or_append_left, get_or_push, length-map}
 use Rattle.std.proofs.lemmas.List.Sums.{sum-map, sum_by_push}
-use Rattle.std.proofs.lemmas.Nat.{div-add-mod', div-mul-add, mod_below}
+use Rattle.std.proofs.lemmas.Nat.{div-add-mod', div-mul-add, mod_below, mul-le}
 use native.Mathlib.Nat.{div-le_self, div-one}
 use Rattle.far_store.specs.Counting.{told}
 use Rattle.far_store.specs.Kept.{AreMade, IsMade, sum_over}
-use Rattle.far_store.specs.Part.{AreParts, IsPart}
+use Rattle.far_store.specs.Part.{AreEven, AreParts, IsEvenShare, IsPart, sharers}
 use Rattle.far_store.specs.declared.asked.Asked.{Asked}
 use Rattle.far_store.specs.declared.desk.Told.{Told}
 use Rattle.far_store.specs.declared.layout.Part.{Part}
@@ -31,6 +31,129 @@ pub share_more : {X : Type 0} (of : X → ℕ) (xs ys : List X) (x : X) (left al
 share_more of xs ys x left all is most sum =
     let more : sum_over ys of ≡ sum_over xs of + of x = sum_more of xs ys x is in
     omega (arith, more, most, sum)
+
+-- ---- operations, evenly
+-- a quotient, taken as often as one divided by: no more than all, and less than one such round short of it
+quotient_most : (a k : ℕ) → a / k * k ≤ a
+quotient_most a k = omega (arith, div-add-mod' a k)
+
+quotient_least : (a k : ℕ) → 0 < k → a < (a / k + 1) * k
+quotient_least a k some = omega (arith, div-add-mod' a k, mod_below a k some)
+
+-- where what is left lies between q and q + 1 for each of many, an even share r is one of these two, and so it stays for those after it
+module _ (q r left many after : ℕ) (one : many ≡ after + 1) (enough : q * many ≤ left) (few : left ≤ (q + 1) * many) (most : r * many ≤ left) (least : left < (r + 1) * many) where
+  -- the share itself
+  own_least : q ≤ r
+  own_least = elim (cases_lt r q) [
+    | inl less ↦ omega (arith, enough, least, mul-le (r + 1) many q many (omega (arith, less)) (omega arith))
+    | inr le ↦ le
+  ]
+
+  own_most : r ≤ q + 1
+  own_most = elim (cases_lt (q + 1) r) [
+    | inl more ↦ omega (arith, one, few, most, mul-le (q + 2) many r many (omega (arith, more)) (omega arith))
+    | inr le ↦ le
+  ]
+
+  -- what is left for those after it
+  after_enough : q * after ≤ left - r
+  after_enough = elim (cases_lt q r) [
+    | inl more ↦
+        let above : r ≡ q + 1 = omega (arith, more, own_most) in
+        omega (arith, above, one, most, ap (λ n. n * many) above, ap (λ n. q * n) one)
+    | inr le ↦ omega (arith, le, enough, ap (λ n. q * n) one)
+  ]
+
+  after_few : left - r ≤ (q + 1) * after
+  after_few = elim (cases_lt q r) [
+    | inl more ↦ omega (arith, more, one, few, ap (λ n. q * n) one)
+    | inr le ↦
+        let same : r ≡ q = omega (arith, le, own_least) in
+        omega (arith, same, one, least, ap (λ n. n * many) same, ap (λ n. q * n) one)
+  ]
+
+-- the first n jobs have q operations each, or one more, and so it can be of those after them that share; the others have none
+pub record SharedOut {J : Type 0} (sharing q n left : ℕ) (jobs : List J) (of : J → ℕ) : Type 0 where
+  pub enough : q * (sharing - n) ≤ left
+  pub few : left ≤ (q + 1) * (sharing - n)
+  pub least : (at : ℕ) (other : J) → at < n → at < sharing → q ≤ of (get_or jobs at other)
+  pub most : (at : ℕ) (other : J) → at < n → at < sharing → of (get_or jobs at other) ≤ q + 1
+  pub none : (at : ℕ) (other : J) → at < n → sharing ≤ at → of (get_or jobs at other) ≡ 0
+
+-- before the first has its share
+pub none_shared : {J : Type 0} (of : J → ℕ) (sharing all : ℕ) (jobs : List J) → 0 < sharing → SharedOut sharing (all / sharing) 0 all jobs of
+none_shared of sharing all jobs some =
+    let same : sharing ≡ sharing - 0 = omega arith in
+    let few : all ≤ (all / sharing + 1) * sharing = omega (arith, quotient_least all sharing some) in
+    record {
+      enough = subst (λ k. all / sharing * k ≤ all) same (quotient_most all sharing);
+      few = subst (λ k. all ≤ (all / sharing + 1) * k) same few;
+      least = λ at other lt one. omega (arith, lt);
+      most = λ at other lt one. omega (arith, lt);
+      none = λ at other lt past. omega (arith, lt);
+    }
+
+module _ {J : Type 0} (of : J → ℕ) (sharing q n left : ℕ) (jobs more : List J) (job : J) (pushed : more ≡ jobs ++ job ∷ []) (long : length jobs ≡ n)
+    (share : IsEvenShare sharing n left (of job)) (before : SharedOut sharing q n left jobs of) where
+  -- how many still share, from the n-th on and after it
+  fewer : n < sharing → sharing - n ≡ sharing - (n + 1) + 1
+  fewer one = omega (arith, one)
+
+  no_more : sharing ≤ n → sharing - n ≡ 0
+  no_more past = omega (arith, past)
+
+  none_after : sharing ≤ n → sharing - (n + 1) ≡ 0
+  none_after past = omega (arith, past)
+
+  none_left : sharing ≤ n → left ≤ 0
+  none_left past = let few : left ≤ (q + 1) * 0 = subst (λ k. left ≤ (q + 1) * k) (no_more past) before.few in omega (arith, few)
+
+  -- the new one's share
+  own_enough : n < sharing → q ≤ of job
+  own_enough one = own_least q (of job) left (sharing - n) (sharing - (n + 1)) (fewer one) before.enough before.few (share.most one) (share.least one)
+
+  own_few : n < sharing → of job ≤ q + 1
+  own_few one = own_most q (of job) left (sharing - n) (sharing - (n + 1)) (fewer one) before.enough before.few (share.most one) (share.least one)
+
+  -- what is left for the others
+  still_enough : q * (sharing - (n + 1)) ≤ left - of job
+  still_enough = elim (cases_lt n sharing) [
+    | inl one ↦ after_enough q (of job) left (sharing - n) (sharing - (n + 1)) (fewer one) before.enough before.few (share.most one) (share.least one)
+    | inr past ↦ let none : q * 0 ≤ left - of job = omega arith in subst (λ k. q * k ≤ left - of job) (sym (none_after past)) none
+  ]
+
+  still_few : left - of job ≤ (q + 1) * (sharing - (n + 1))
+  still_few = elim (cases_lt n sharing) [
+    | inl one ↦ after_few q (of job) left (sharing - n) (sharing - (n + 1)) (fewer one) before.enough before.few (share.most one) (share.least one)
+    | inr past ↦ let none : left - of job ≤ (q + 1) * 0 = omega (arith, none_left past) in subst (λ k. left - of job ≤ (q + 1) * k) (sym (none_after past)) none
+  ]
+
+  -- what is so of each job before, and of the one that is new, is so of each
+  at_each : (P : ℕ → Type 0) (at : ℕ) (other : J) → at < n + 1 → (at < n → P (of (get_or jobs at other))) → (at ≡ n → P (of job)) → P (of (get_or more at other))
+  at_each P at other lt of_those of_it = subst (λ (js : List J). P (of (get_or js at other))) (sym pushed) (elim (cases_lt at n) [
+    | inl sooner ↦ subst (λ (j : J). P (of j)) (sym (get_or_append_left jobs (job ∷ []) other at (omega (arith, sooner, long)))) (of_those sooner)
+    | inr after ↦
+        let here : at ≡ n = omega (arith, after, lt) in
+        subst (λ (j : J). P (of j)) (sym (get_or_push jobs job other at (long ∙ sym here))) (of_it here)
+  ])
+
+  -- one more has its share
+  pub shared_more : SharedOut sharing q (n + 1) (left - of job) more of
+  shared_more = record {
+    enough = still_enough;
+    few = still_few;
+    least = λ at other lt one. at_each (λ k. q ≤ k) at other lt (λ sooner. before.least at other sooner one) (λ here. own_enough (omega (arith, here, one)));
+    most = λ at other lt one. at_each (λ k. k ≤ q + 1) at other lt (λ sooner. before.most at other sooner one) (λ here. own_few (omega (arith, here, one)));
+    none = λ at other lt past. at_each (λ k. k ≡ 0) at other lt (λ sooner. before.none at other sooner past) (λ here. share.none (omega (arith, here, past)));
+  }
+
+-- once all have theirs none has two more than another
+pub all_even : {J : Type 0} (of : J → ℕ) (asked : Asked) (q n left : ℕ) (jobs : List J) → n ≡ asked.mutators → length jobs ≡ n → SharedOut (sharers asked) q n left jobs of → AreEven asked jobs of
+all_even of asked q n left jobs all long shared = record {
+  within_one = λ shard another other one two.
+      omega (arith, shared.most shard other (omega (arith, one, all)) one, shared.least another other (omega (arith, two, all)) two);
+  none = λ shard other past lt. shared.none shard other (omega (arith, lt, long)) past;
+}
 
 -- ---- what was made
 -- a sum that can be told is told as it is

@@ -1,5 +1,5 @@
 -- Which records a shard has, and where they stand.
-use Rattle.std.specs.Prelude.{◌≡◌, ◌↔◌, ℕ, ◌+◌, ◌-◌, ◌*◌, ◌/◌, ◌%◌, ◌<◌, ◌==◌, Bool, true, ◌&&◌, nat_lt, List, length, slice_index_or}
+use Rattle.std.specs.Prelude.{◌≡◌, ◌↔◌, ℕ, ◌+◌, ◌-◌, ◌*◌, ◌/◌, ◌%◌, min, ◌<◌, ◌≤◌, ◌==◌, Bool, true, ◌&&◌, nat_lt, List, length, slice_index_or}
 use Rattle.far_store.specs.declared.asked.Asked.{Asked}
 use Rattle.far_store.specs.declared.layout.Part.{Part}
 use Rattle.far_store.specs.declared.layout.TheConstants.{PER_OBJECT, RECORD}
@@ -31,3 +31,21 @@ pub record IsPart (asked : Asked) (shard : ℕ) (part : Part) : Type 0 where
 pub record AreParts {J : Type 0} (asked : Asked) (many : ℕ) (jobs : List J) (part : J → Part) : Type 0 where
   pub all : length jobs ≡ many
   pub each : (shard : ℕ) (other : J) → shard < many → IsPart asked shard (part (slice_index_or jobs shard other))
+
+-- ---- how many of the operations each shard makes
+-- the shards that have records share the operations out: so many, those of the lowest numbers
+abbrev pub sharers : Asked → ℕ
+sharers asked = min asked.mutators asked.records
+
+-- how many a shard makes, of those that are left for it and all after it: enough are left for each of these that shares to make as many, and too few for each to
+-- make one more
+pub record IsEvenShare (sharing shard left operations : ℕ) : Type 0 where
+  pub most : shard < sharing → operations * (sharing - shard) ≤ left
+  pub least : shard < sharing → left < (operations + 1) * (sharing - shard)
+  pub none : sharing ≤ shard → operations ≡ 0
+
+-- of the shards that share none makes two operations more than another, and each other shard makes none
+pub record AreEven {J : Type 0} (asked : Asked) (jobs : List J) (operations : J → ℕ) : Type 0 where
+  pub within_one : (shard another : ℕ) (other : J) → shard < sharers asked → another < sharers asked
+      → operations (slice_index_or jobs shard other) ≤ operations (slice_index_or jobs another other) + 1
+  pub none : (shard : ℕ) (other : J) → sharers asked ≤ shard → shard < length jobs → operations (slice_index_or jobs shard other) ≡ 0

@@ -4,7 +4,7 @@ ghost use Rattle.std.specs.Prelude.{◌≡◌, ◌≤◌, ◌<◌, ◌+◌, ℕ,
 ghost use Rattle.std.specs.Vec.{vec_len};
 ghost use Rattle.far_store.specs.Counting.{told};
 ghost use Rattle.far_store.specs.Kept.{AreMade, AreRight, IsMade, IsRight, sum_over};
-ghost use Rattle.far_store.specs.Part.{AreParts, IsPart};
+ghost use Rattle.far_store.specs.Part.{AreEven, AreParts, IsEvenShare, IsPart, sharers};
 
 use crate::asked::Asked;
 use crate::counts::Counts;
@@ -70,13 +70,14 @@ fn kept_free(logs: u64) -> u64
     logs / 16 + 2
 }
 
-// How many of the operations that are left a shard makes: those from it on that have records share them out.
+// How many of the operations that are left a shard makes: those from it on that have records share them out, each as many or one more.
 #[tactic(auto, using(crate::proofs::Shares::share_most, crate::proofs::Shares::share_all))]
 fn share(asked: Asked, shard: u32, left: u64) -> u64
     requires { shard < asked.mutators }
     ensures most { result ≤ left }
     ensures some { 0 < result → shard < asked.records }
     ensures all { shard + 1 ≡ min asked.mutators asked.records → result ≡ left }
+    ensures even { IsEvenShare (sharers asked) shard left result }
 {
     let sharers = asked.mutators.min(asked.records);
     if shard >= sharers {
@@ -96,6 +97,7 @@ fn job_of<K: HeapName, D: Device + Drop>(
     ensures part { IsPart asked shard result.part }
     ensures most { result.operations ≤ left }
     ensures all { shard + 1 ≡ min asked.mutators asked.records → result.operations ≡ left }
+    ensures even { IsEvenShare (sharers asked) shard left result.operations }
 {
     let part = Part::new(shard, asked.mutators, asked.records);
     let operations = share(asked, shard, left);
@@ -103,7 +105,7 @@ fn job_of<K: HeapName, D: Device + Drop>(
     Job::new(mutator, part, operations, seed)
 }
 
-// What is to be done by each shard: together what is asked for, with all records.
+// What is to be done by each shard: together what is asked for, with all records, and the operations shared out evenly.
 fn jobs_of<K: HeapName, D: Device + Drop>(
     alloc: Global,
     mut mutators: Vec<Mutator<K, D>>,
@@ -113,6 +115,7 @@ fn jobs_of<K: HeapName, D: Device + Drop>(
     ensures parts { IfOk result (λ jobs. AreParts asked asked.mutators jobs.items (λ job. job.part)) }
     ensures records { IfOk result (λ jobs. sum_over jobs.items (λ job. job.part.count) ≡ asked.records) }
     ensures operations { IfOk result (λ jobs. sum_over jobs.items (λ job. job.operations) ≡ asked.operations) }
+    ensures even { IfOk result (λ jobs. AreEven asked jobs.items (λ job. job.operations)) }
 {
     let mut jobs = Vec::with_capacity(alloc, asked.mutators as usize)?;
     let mut left = asked.operations;

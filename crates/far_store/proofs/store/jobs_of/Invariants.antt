@@ -1,8 +1,8 @@
-use Rattle.std.proofs.Common.{◌≡◌, ◌+◌, ◌≤◌, min, vec_capacity}
+use Rattle.std.proofs.Common.{◌≡◌, ◌+◌, ◌/◌, ◌≤◌, min, vec_capacity}
 use Rattle.std.specs.Vec.{vec_len}
 use Rattle.far_store.specs.Kept.{sum_over}
-use Rattle.far_store.specs.Part.{AreParts}
-use Rattle.far_store.proofs.Shares.{first_records}
+use Rattle.far_store.specs.Part.{AreParts, sharers}
+use Rattle.far_store.proofs.Shares.{SharedOut, first_records}
 use Rattle.far_store.proofs.store.jobs_of.Given as goal
 
 abbrev pub invariant-loop-shard : goal.invariant-loop-shard
@@ -14,4 +14,5 @@ invariant-loop-shard g l = record {
   room : l.asked.mutators ≤ vec_capacity l.jobs;
   parts : AreParts l.asked l.shard l.jobs.items (λ job. job.part);
   records : sum_over l.jobs.items (λ job. job.part.count) ≡ first_records l.asked.records l.asked.mutators l.shard;
+  even : SharedOut (sharers l.asked) (l.asked.operations / sharers l.asked) l.shard l.left l.jobs.items (λ job. job.operations);
 }
