@@ -1,6 +1,6 @@
 -- What the book's lines are told, in other words: by what is asked and told alone, and in digits.
-use Rattle.std.specs.Prelude.{◌≡◌, ◌≢◌, ◌⊎◌, ◌↔◌, ℕ, ◌+◌, ◌^◌, ◌<◌, ◌≤◌, false, true, Some, List, [], ◌∷◌, Contains, length, map, sum}
-use Rattle.std.specs.List.{AllByRecursion, AllZip, range_with_len}
+use Rattle.std.specs.Prelude.{◌≡◌, ◌≢◌, ◌⊎◌, ◌↔◌, ℕ, ◌+◌, ◌*◌, ◌^◌, ◌<◌, ◌≤◌, false, true, Some, List, [], ◌∷◌, Contains, length, map, sum}
+use Rattle.std.specs.List.{AllByRecursion, AllZip, range_with_len, sum_by}
 use Rattle.far_word.specs.declared.mark.Marks.{Marks}
 use Rattle.far_word.specs.declared.pointer.Place.{Place}
 use Rattle.far_word.specs.declared.pointer.PtrWord.TheVariants as pointer
@@ -12,15 +12,37 @@ use Rattle.far_core.specs.laws.Observed.{live_bytes}
 use Rattle.far_core.specs.state.State.{State}
 use Rattle.far_evac.specs.declared.answers.Progress.{Progress}
 use Rattle.far_evac.specs.declared.answers.RoundEnd.TheVariants as ends
-use Rattle.far_evac.specs.declared.phase.Phase.TheVariants.{Idle}
+use Rattle.far_evac.specs.declared.phase.Phase.{Phase}
+use Rattle.far_evac.specs.declared.phase.Phase.TheVariants.{Idle, Marking, Waiting, Evacuating}
+use Rattle.far_evac.specs.AnyTurns.{sum_of}
 use Rattle.far_evac.specs.LiveLaws.{IsInTurn}
-use Rattle.far_evac.specs.Moment.{Moment}
+use Rattle.far_evac.specs.Moment.{Moment, Tally}
 use Rattle.far_heap.specs.HeapId.{HeapId}
+use Rattle.far_heap.specs.Rounds.{TurnRefused, TurnsMade, told_of}
 use Rattle.far_text.specs.Command.{Command, Book, Evacuator, Logs as AsksLogs, Log as AsksLog, Audit as AsksAudit, Policy, Round}
 use Rattle.far_reply.specs.declared.reply.Counts.{Counts}
 use Rattle.far_reply.specs.declared.reply.LogLine.{LogLine}
 use Rattle.far_reply.specs.Reply.{Reply, Audited, Ended, Halted, Logs, Refused}
 use Rattle.far_split.specs.BookTold.{BookStood, BookTold, TellsLine}
+use Rattle.far_split.specs.FarSides.{FarLetsGo, FarWrites, far_bytes}
+
+-- ---- what a round counts
+-- a count of a round is the sum of what its turns counted, or 2^64 - 1, where that sum is greater
+abbrev pub IsSumOf : (Tally → ℕ) → List Tally → ℕ → Type 0
+IsSumOf count tallies told = ((sum_by count tallies < 2 ^ 64) × (told ≡ sum_by count tallies)) ⊎ ((2 ^ 64 ≤ sum_by count tallies) × (told ≡ 18446744073709551615))
+
+-- each of its four counts is
+pub record AddsUp (tallies : List Tally) (progress : Progress) : Type 0 where
+  pub moved : IsSumOf (λ (t : Tally). t.moved) tallies progress.moved
+  pub far : IsSumOf (λ (t : Tally). t.far) tallies progress.far
+  pub dropped : IsSumOf (λ (t : Tally). t.dropped) tallies progress.dropped
+  pub freed : IsSumOf (λ (t : Tally). t.freed) tallies progress.freed
+
+-- in numerals: two turns, of which the later one stands first, tell their sums, and none above 2^64 - 1
+abbrev pub SumsAreTold : Type 0
+SumsAreTold = (told_of (sum_of (record { moved = 10; far = 20; dropped = 30; freed = 40 } ∷ record { moved = 1; far = 2; dropped = 3; freed = 4 } ∷ [])) ≡ record { moved = 11; far = 22; dropped = 33; freed = 44 })
+    × (told_of (sum_of (record { moved = 1; far = 2; dropped = 0; freed = 5 } ∷ record { moved = 18446744073709551614; far = 18446744073709551614; dropped = 18446744073709551615; freed = 18446744073709551615 } ∷ []))
+        ≡ record { moved = 18446744073709551615; far = 18446744073709551615; dropped = 18446744073709551615; freed = 18446744073709551615 })
 
 -- ---- a round that is refused
 -- no round ran, and the next epoch would have been the one that never comes
@@ -35,6 +57,18 @@ IsRefusedBare heap why = (refusal_number why ≡ 12) ⊎ ((refusal_number why �
 abbrev pub IsRefusedWithCounts : Refusal → Progress → Type 0
 IsRefusedWithCounts why so_far = (refusal_number why ≡ 1) ⊎ (refusal_number why ≡ 10) ⊎ ((refusal_number why ≡ 12) × (0 < so_far.moved + so_far.far + so_far.dropped + so_far.freed))
 
+-- fewer turns than so many were made of a round of some logs, and then one that was refused so; they counted so much together
+pub record IsStoppedBy (heap : HeapId) (turns : ℕ) (why : Refusal) (so_far : Progress) : Type 0 where
+  pub logs : List ℕ
+  pub tallies : List Tally
+  pub last : Tally
+  pub phase : Phase
+  pub few : length tallies < turns
+  pub made : TurnsMade FarWrites FarLetsGo far_bytes heap logs tallies false phase
+  pub refused : TurnRefused FarWrites FarLetsGo far_bytes heap logs last why
+  pub sums : AddsUp (last ∷ tallies) so_far
+  pub objects : heap.copying ≡ false → so_far.moved + so_far.far + so_far.dropped ≤ 16 * turns
+
 -- there are no other refusals of a round, whatever the policy
 abbrev pub RoundsAreRefusedSo : Type 0
 RoundsAreRefusedSo = (heap : HeapId) (policy : Policy) (most turns : ℕ) (why : Refusal) (so_far : Progress) → (TellsLine heap (Evacuator (Round policy most turns)) (Refused why) → IsRefusedBare heap why)
@@ -44,6 +78,34 @@ RoundsAreRefusedSo = (heap : HeapId) (policy : Policy) (most turns : ℕ) (why :
 -- no log was sealed, so there was none to choose
 abbrev pub HasNoneSealed : Moment → Type 0
 HasNoneSealed now = (l : ℕ) → l < now.core.logs → now.core.kind l ≢ kinds.Sealed
+
+-- at most so many turns of a round of some logs were made, and it was over with the last of them; they counted so much together. At the last one objects were leaving, and a log was given
+-- back at least. Where no copy may be offered each turn deals with 16 objects at most
+pub record IsDoneBy (heap : HeapId) (turns : ℕ) (progress : Progress) : Type 0 where
+  pub logs : List ℕ
+  pub tallies : List Tally
+  pub few : length tallies ≤ turns
+  pub made : TurnsMade FarWrites FarLetsGo far_bytes heap logs tallies true Idle
+  pub sums : AddsUp tallies progress
+  pub stood : BookStood heap (λ now. now.phase ≡ Evacuating)
+  pub freed : 0 < progress.freed
+  pub objects : heap.copying ≡ false → progress.moved + progress.far + progress.dropped ≤ 16 * turns
+
+-- ---- a round that stands at its limit
+-- the phase before another: none is running before objects are marked, and objects leave before none is
+abbrev pub phase_before : Phase → Phase
+phase_before Idle = Evacuating
+phase_before Marking = Idle
+phase_before Waiting = Marking
+phase_before Evacuating = Waiting
+
+-- a round was running in this phase, or in the one before it
+abbrev pub RanInOrBefore : Phase → Moment → Type 0
+RanInOrBefore phase now = (now.phase ≢ Idle) × ((now.phase ≡ phase) ⊎ (now.phase ≡ phase_before phase))
+
+-- where no turn was to be made, objects are to be marked; else the last turn found the round in the phase that is told, or in the one before it
+abbrev pub IsAtLimit : HeapId → ℕ → Phase → Type 0
+IsAtLimit heap turns phase = ((turns ≡ 0) × (phase ≡ Marking)) ⊎ ((0 < turns) × BookStood heap (RanInOrBefore phase))
 
 -- ---- an audit
 -- a pointer's cell says that its object is near, or that it is far, and lacks DROP
@@ -80,10 +142,10 @@ IsToldSo heap (Book (AsksLog log)) (Refused why) = (heap.logs ≤ log) × (refus
 IsToldSo heap (Book AsksAudit) (Audited counts) = BookStood heap (CountsAll counts)
 IsToldSo heap (Book AsksAudit) (Refused why) = refusal_number why ≡ 1
 IsToldSo heap (Evacuator (Round policy most turns)) (Ended ends.Nothing) = (most ≡ 0) ⊎ BookStood heap HasNoneSealed
-IsToldSo heap (Evacuator (Round policy most turns)) (Ended (ends.Done progress)) = (0 < most) × (0 < turns) × (progress.done ≡ true)
-IsToldSo heap (Evacuator (Round policy most turns)) (Ended (ends.Limit phase)) = (0 < most) × (phase ≢ Idle)
+IsToldSo heap (Evacuator (Round policy most turns)) (Ended (ends.Done progress)) = (0 < most) × (0 < turns) × (progress.done ≡ true) × IsDoneBy heap turns progress
+IsToldSo heap (Evacuator (Round policy most turns)) (Ended (ends.Limit phase)) = (0 < most) × (phase ≢ Idle) × IsAtLimit heap turns phase
 IsToldSo heap (Evacuator (Round policy most turns)) (Refused why) = IsRefusedBare heap why
-IsToldSo heap (Evacuator (Round policy most turns)) (Halted why so_far) = IsRefusedWithCounts why so_far
+IsToldSo heap (Evacuator (Round policy most turns)) (Halted why so_far) = IsRefusedWithCounts why so_far × (so_far.done ≡ false) × IsStoppedBy heap turns why so_far
 IsToldSo heap _ _ = ⊥
 
 -- each line is told one thing, in order

@@ -1,6 +1,6 @@
 //! What the law of a mutator's replies has to do with that of the plain program, and what they and the book's tell in other words.
 
-ghost use Rattle.far_split.specs.BookSaid.{BookIsToldSo, RoundsAreRefusedSo};
+ghost use Rattle.far_split.specs.BookSaid.{BookIsToldSo, RoundsAreRefusedSo, SumsAreTold};
 ghost use Rattle.far_split.specs.CellsSaid.{MutatorsAreToldSo, NoneLacksMemory, WordsAreOfObjects};
 ghost use Rattle.far_split.specs.Here.{AloneIsAloneHere, AloneOnIsAloneHere, HonestIsAllowed, UnhinderedIsAlone};
 ghost use Rattle.far_split.specs.Served.{HinderedIsRefused, NeverDamaged, ReadsAreAsLong, RefusalsAreLawful, ServedIsAlone, UnrefusedIsAlone};
@@ -38,5 +38,6 @@ pub fn mutators_are_told_so()
 /// refused tells no counts where its refusal is 12 or 13, and 13 tells that at some moment no epoch was left; it tells counts where that is 1 or 10, or 12 and it had done something.
 pub fn book_is_told_so()
     ensures rounds { RoundsAreRefusedSo }
+    ensures sums { SumsAreTold }
     ensures lines { BookIsToldSo }
 {}
