@@ -48,10 +48,11 @@ use Rattle.far_evac.proofs.BesideRounds.{walks_so}
 use Rattle.far_evac.proofs.Bools.{by_copying}
 use Rattle.far_evac.proofs.CopiedBack.{copied_comes_back}
 use Rattle.far_evac.proofs.Fronts.{kept_in, was_kept}
-use Rattle.far_evac.proofs.Rounds.{walks_phase}
+use Rattle.far_evac.proofs.Rounds.{turn_ends, walks_phase}
 use Rattle.far_evac.proofs.SmallSteps.{tallies_all, walks_kept}
 use Rattle.far_heap.specs.HeapId.{HeapId, heap_of}
 use Rattle.far_heap.specs.Rounds.{ChoseNone, Chose, EndsAfter, IsUnchosen, StopsTurn, StopsTurns, TurnMade, TurnRefused, TurnsMade, is_round_of, rows_of, told, told_of}
+use Rattle.far_heap.proofs.Named.{stays_named}
 use Rattle.far_heap.proofs.RoundTurns.{not_idle}
 use Rattle.far_text.specs.Command.{Command, Book, Evacuator, Logs as AsksLogs, Log as AsksLog, Audit as AsksAudit, Policy, LeastLive, Oldest, Round}
 use Rattle.far_reply.specs.declared.reply.Counts.{Counts}
@@ -59,7 +60,7 @@ use Rattle.far_reply.specs.Reply.{Reply, Audited, Ended, Halted, Logs, Refused}
 use Rattle.far_replay.specs.Turn.{log_line}
 use Rattle.far_split.specs.FarSides.{FarLetsGo, FarSide, FarWrites, far_bytes}
 use Rattle.far_split.specs.BookTold.{BookStood, Gives, TellsCensus, TellsLine, counted as counted_in, lies_far, lies_near, none_done}
-use Rattle.far_split.specs.BookSaid.{AddsUp, AreSoMany, BookIsToldSo, CountsAll, HasNoneSealed, IsAtLimit, IsDoneBy, IsRefusedBare, IsRefusedWithCounts, IsStoppedBy, IsSumOf, IsToldSo, RanInOrBefore, RoundsAreRefusedSo, SaysFar, SaysNear, SumsAreTold, numbers_of}
+use Rattle.far_split.specs.BookSaid.{AddsUp, AreSoMany, BookIsToldSo, CountsAll, HasNoneSealed, IsAtLimit, IsDoneBy, IsLeftIn, IsRefusedBare, IsRefusedWithCounts, IsStoppedBy, IsSumOf, IsToldSo, RanInOrBefore, RoundsAreRefusedSo, SaysFar, SaysNear, SumsAreTold, numbers_of}
 
 -- ---- no logs were chosen
 idle_is : (phase : Phase) → is_idle phase ≡ true → phase ≡ Idle
@@ -254,7 +255,7 @@ adds_up tallies progress done is = subst (AddsUp tallies) (sym is) record {
 }
 
 pub sums_told : SumsAreTold
-sums_told = (refl, refl)
+sums_told done = (refl, refl)
 
 -- ---- one turn
 -- a walk where no copy may be offered deals with as many objects as were asked for at most, and each log that left the collection set is counted
@@ -297,11 +298,11 @@ unfolding turn_size
 few_barred m t tally alone stops = few_stopped m t 16 tally (stops.alone alone)
 
 -- with which a round is over
-last_by : (m t : Moment) (phase : Phase) (tally : Tally) → m.phase ≡ phase → TurnsTo m phase tally true t → (m.phase ≡ Evacuating) × (tally.freed + length t.collection ≡ length m.collection)
-last_by m t Idle tally is turns = absurd turns
-last_by m t Marking tally is (_, goes, _) = absurd (false≢true (sym goes))
-last_by m t Waiting tally is (_, goes, _) = absurd (false≢true (sym goes))
-last_by m t Evacuating tally is turns = (is, back_counted m t turn_size tally true turns)
+last_by : (m t : Moment) (phase : Phase) (tally : Tally) → TurnsTo m phase tally true t → tally.freed + length t.collection ≡ length m.collection
+last_by m t Idle tally turns = absurd turns
+last_by m t Marking tally (_, goes, _) = absurd (false≢true (sym goes))
+last_by m t Waiting tally (_, goes, _) = absurd (false≢true (sym goes))
+last_by m t Evacuating tally turns = back_counted m t turn_size tally true turns
 
 -- which leaves a round running
 going : (w : Walked) → is_done w ≡ false → (ended w).phase ≡ w.moment.phase
@@ -323,12 +324,48 @@ polled_from : (m t : Moment) (answer : Polled) → m.phase ≡ Waiting → Polls
 polled_from m t Clear is leaves = subst (λ (phase : Phase). RanInOrBefore phase m) (sym (ap (λ (x : Moment). x.phase) leaves.rest)) (not_idle m.phase (ap is_idle is), inr is)
 polled_from m t (StillOpen k epoch) is held_up = subst (λ (phase : Phase). RanInOrBefore phase m) (sym (ap (λ (x : Moment). x.phase) held_up.leaves.rest)) (not_idle m.phase (ap is_idle is), inl refl)
 
-left_by : (m t : Moment) (phase : Phase) (tally : Tally) → m.phase ≡ phase → TurnsTo m phase tally false t → RanInOrBefore t.phase m
-left_by m t Idle tally is turns = absurd turns
-left_by m t Marking tally is (_, _, (count, waiting, marks)) =
-    subst (λ (phase : Phase). RanInOrBefore phase m) (sym (ap (λ (x : Moment). x.phase) marks.leaves.rest)) (marked_from m turn_size is)
-left_by m t Waiting tally is (_, _, (answer, polls)) = polled_from m t answer is polls
-left_by m t Evacuating tally is turns = (not_idle m.phase (ap is_idle is), inl (is ∙ sym (evacuated_phase m t turn_size tally is turns)))
+evacuated_from : (m t : Moment) (tally : Tally) (over : Bool) → m.phase ≡ Evacuating → TurnsTo m Evacuating tally over t → RanInOrBefore t.phase m
+evacuated_from m t tally true is turns =
+    subst (λ (phase : Phase). RanInOrBefore phase m) (sym (idle_is t.phase (turn_ends m t Evacuating tally true is turns))) (not_idle m.phase (ap is_idle is), inr is)
+evacuated_from m t tally false is turns = (not_idle m.phase (ap is_idle is), inl (is ∙ sym (evacuated_phase m t turn_size tally is turns)))
+
+left_by : (m t : Moment) (phase : Phase) (tally : Tally) (over : Bool) → m.phase ≡ phase → TurnsTo m phase tally over t → RanInOrBefore t.phase m
+left_by m t Idle tally over is turns = absurd turns
+left_by m t Marking tally over is (_, _, (count, waiting, marks)) = subst (λ (phase : Phase). RanInOrBefore phase m) (sym (ap (λ (x : Moment). x.phase) marks.leaves.rest)) (marked_from m turn_size is)
+left_by m t Waiting tally over is (_, _, (answer, polls)) = polled_from m t answer is polls
+left_by m t Evacuating tally over is turns = evacuated_from m t tally over is turns
+
+-- copies may be offered after it exactly where they might be before
+ended_copying : (w : Walked) → (ended w).copying ≡ w.moment.copying
+ended_copying w = cond_both (is_done w) (record w.moment { phase = Idle }) w.moment (λ (t : Moment). t.copying ≡ w.moment.copying) (λ _. refl) (λ _. refl)
+
+marked_copying : (m : Moment) (n : ℕ) → (after_marking m n).copying ≡ m.copying
+marked_copying m n = cond_both (leaves_some m n) (record m { core = marked_core m n }) (record m { core = advanced (marked_core m n) m.collection; phase = Waiting }) (λ (t : Moment). t.copying ≡ m.copying) (λ _. refl) (λ _. refl)
+
+polled_copying : (m t : Moment) (answer : Polled) → Polls m t answer → t.copying ≡ m.copying
+polled_copying m t Clear leaves = ap (λ (x : Moment). x.copying) leaves.rest
+polled_copying m t (StillOpen k epoch) held_up = ap (λ (x : Moment). x.copying) held_up.leaves.rest
+
+walked_copying : (m : Moment) (k : ℕ) (w : Walked) → WalksTo m k w → w.moment.copying ≡ m.copying
+walked_copying m k w walks = (walks_kept false (λ k w. w.moment.copying ≡ m.copying) record {
+  learns = λ k w t known h. ap (λ (x : Moment). x.copying) known.moment.rest ∙ h;
+  gives = λ k w l ls none h. h;
+  deals = λ k w l ls p ps word here finds h. h;
+} m refl k w walks).0
+
+evacuated_copying : (m t : Moment) (n : ℕ) (tally : Tally) (over : Bool) → EvacuatesBy m n t tally over → t.copying ≡ m.copying
+evacuated_copying m t n tally over evacuates = by_copying m.copying (λ alone. stays_alone (evacuates.alone alone)) (λ copying. stays_beside (evacuates.beside copying)) where
+  stays_alone : Evacuates m n t tally over → t.copying ≡ m.copying
+  stays_alone (k, w, walks, is, counts, more) = ap (λ (x : Moment). x.copying) is ∙ ended_copying w ∙ walked_copying m k w walks.walks
+
+  stays_beside : EvacuatesBeside m n t tally over → t.copying ≡ m.copying
+  stays_beside h = ap (λ (x : Moment). x.copying) h.ends ∙ ended_copying h.stood ∙ (walks_so m n h.stood h.end h.walks).1
+
+copying_by : (m t : Moment) (phase : Phase) (tally : Tally) (over : Bool) → TurnsTo m phase tally over t → t.copying ≡ m.copying
+copying_by m t Idle tally over turns = absurd turns
+copying_by m t Marking tally over (_, _, (count, waiting, marks)) = ap (λ (x : Moment). x.copying) marks.leaves.rest ∙ marked_copying m turn_size
+copying_by m t Waiting tally over (_, _, (answer, polls)) = polled_copying m t answer polls
+copying_by m t Evacuating tally over turns = evacuated_copying m t turn_size tally over turns
 
 -- ---- turns
 some_held : (copying : Bool) (logs held : List ℕ) → is_round_of copying logs held ≡ true → 0 < length held
@@ -366,26 +403,39 @@ module _ (heap : HeapId) (logs : List ℕ) where
         | inr other ↦ none_of_nothing tally 16 (refused.stops.barred other).1
       ]
 
-  last_frees : (tally : Tally) → (made : TurnMade FarWrites FarLetsGo far_bytes heap logs tally true Idle) → (made.before.phase ≡ Evacuating) × (0 < tally.freed)
+  last_frees : (tally : Tally) → (made : TurnMade FarWrites FarLetsGo far_bytes heap logs tally true Idle) → 0 < tally.freed
   last_frees tally made =
-      let (leaves, counted) = last_by (moment seat_view made.before) (moment seat_view made.later) made.before.phase tally refl made.turns.turns in
-      (leaves, omega (arith, counted, some_held made.before.copying logs made.before.collection made.turns.running, none_held made.later.collection made.turns.none))
+      let counted = last_by (moment seat_view made.before) (moment seat_view made.later) made.before.phase tally made.turns.turns in
+      omega (arith, counted, some_held made.before.copying logs made.before.collection made.turns.running, none_held made.later.collection made.turns.none)
+
+  left_in : (tally : Tally) (over : Bool) (phase : Phase) → TurnMade FarWrites FarLetsGo far_bytes heap logs tally over phase → IsLeftIn heap phase
+  left_in tally over phase made =
+      let m = moment seat_view made.before in
+      let t = moment seat_view made.later in
+      let turns = made.turns in
+      let found : RanInOrBefore t.phase m = left_by m t made.before.phase tally over refl turns.turns in
+      record {
+        stood = record { book = made.before; named = turns.named; lawful = turns.lawful; is = subst (λ (p : Phase). RanInOrBefore p m) turns.stands found };
+        later = made.later;
+        named = stays_named heap made.before made.later turns.came (copying_by m t made.before.phase tally over turns.turns) turns.named;
+        came = turns.came;
+        left = turns.stands;
+      }
 
   done_by : (turns : ℕ) (progress : Progress) (tallies : List Tally) → length tallies ≤ turns → TurnsMade FarWrites FarLetsGo far_bytes heap logs tallies true Idle → progress ≡ progress_of (told_of (sum_of tallies)) true →
       IsDoneBy heap turns progress
   done_by turns progress [] few made is = absurd (false≢true (sym made.0))
   done_by turns progress (tally ∷ tallies) few made is =
       let last = made.1 in
-      let (leaves, frees) = last_frees tally last in
       record {
         logs = logs;
         tallies = tally ∷ tallies;
         few = few;
         made = made;
         sums = adds_up (tally ∷ tallies) progress true is;
-        stood = record { book = last.before; named = last.turns.named; lawful = last.turns.lawful; is = leaves };
-        freed = some_told (sum_of tallies) tally progress true is frees;
+        freed = some_told (sum_of tallies) tally progress true is (last_frees tally last);
         objects = λ alone. few_told (sum_of (tally ∷ tallies)) progress true (length (tally ∷ tallies)) turns is (few_turns (tally ∷ tallies) true Idle made alone) few;
+        over = left_in tally true Idle last;
       }
 
   stopped_by : (turns : ℕ) (why : Refusal) (so_far : Progress) → (stops : StopsTurns FarWrites FarLetsGo far_bytes heap logs turns record { so_far = so_far; why = why }) → IsStoppedBy heap turns why so_far
@@ -404,14 +454,13 @@ module _ (heap : HeapId) (logs : List ℕ) where
         objects = λ alone. few_told (sum_of all) so_far false (length all) turns stops.sum (few alone) (omega (arith, stops.few));
       }
 
+  stands_in : (turns : ℕ) (phase : Phase) (tallies : List Tally) → length tallies ≡ turns → TurnsMade FarWrites FarLetsGo far_bytes heap logs tallies false phase →
+      ((turns ≡ 0) × (phase ≡ Marking)) ⊎ ((0 < turns) × IsLeftIn heap phase)
+  stands_in turns phase [] all made = inl (sym all, made.1)
+  stands_in turns phase (tally ∷ tallies) all (_, last) = inr (omega (arith, all), left_in tally false phase last)
+
   at_limit : (turns : ℕ) (phase : Phase) (tallies : List Tally) → length tallies ≡ turns → TurnsMade FarWrites FarLetsGo far_bytes heap logs tallies false phase → IsAtLimit heap turns phase
-  at_limit turns phase [] all made = inl (sym all, made.1)
-  at_limit turns phase (tally ∷ tallies) all (_, last) =
-      let found = left_by (moment seat_view last.before) (moment seat_view last.later) last.before.phase tally refl last.turns.turns in
-      inr (
-        omega (arith, all),
-        record { book = last.before; named = last.turns.named; lawful = last.turns.lawful; is = subst (λ (p : Phase). RanInOrBefore p (moment seat_view last.before)) last.turns.stands found },
-      )
+  at_limit turns phase tallies all made = record { logs = logs; tallies = tallies; all = all; made = made; stands = stands_in turns phase tallies all made }
 
 -- ---- a round that ends
 map_none : {X Y : Type 0} (f : X → Y) (xs : List X) → length (map f xs) ≡ 0 → length xs ≡ 0
