@@ -277,11 +277,12 @@ few_evacuated m t n tally over (k, w, walks, is, counts, done) = omega (arith, a
 
 -- those that are left and those that are counted make those that were there
 back_counted : (m t : Moment) (n : ℕ) (tally : Tally) (over : Bool) → EvacuatesBy m n t tally over → tally.freed + length t.collection ≡ length m.collection
-back_counted m t n tally over evacuates = by_copying m.copying (λ alone. counted_alone (evacuates.alone alone)) (λ copying. ((copied_comes_back m t n tally).0 over (evacuates.beside copying)).counted) where
-  counted_alone : Evacuates m n t tally over → tally.freed + length t.collection ≡ length m.collection
-  counted_alone (k, w, walks, is, counts, done) =
-      ap (λ (c : Tally). c.freed + length t.collection) counts ∙ ap (λ (x : Moment). w.tally.freed + length x.collection) is ∙ ap (λ (ls : List ℕ). w.tally.freed + length ls) (ended_held w)
-      ∙ held_counted m k w walks.walks
+back_counted m t n tally over evacuates =
+    by_copying m.copying (λ alone. counted_alone (evacuates.alone alone)) (λ copying. ((copied_comes_back m t n tally).0 over (evacuates.beside copying)).counted) where
+      counted_alone : Evacuates m n t tally over → tally.freed + length t.collection ≡ length m.collection
+      counted_alone (k, w, walks, is, counts, done) =
+          ap (λ (c : Tally). c.freed + length t.collection) counts ∙ ap (λ (x : Moment). w.tally.freed + length x.collection) is ∙ ap (λ (ls : List ℕ). w.tally.freed + length ls) (ended_held w)
+          ∙ held_counted m k w walks.walks
 
 none_of_nothing : (tally : Tally) (n : ℕ) → tally ≡ nothing → objects_in tally ≤ n
 none_of_nothing tally n none = omega (arith, ap objects_in none)
@@ -316,9 +317,13 @@ evacuated_phase m t n tally leaves evacuates = by_copying m.copying (λ alone. s
   stays_beside : EvacuatesBeside m n t tally false → t.phase ≡ Evacuating
   stays_beside h = ap (λ (x : Moment). x.phase) h.ends ∙ going h.stood (sym h.over) ∙ (walks_so m n h.stood h.end h.walks).0 ∙ leaves
 
+after_marking_both : (m : Moment) (n : ℕ) (P : Moment → Type 0) → P (record m { core = marked_core m n }) → P (record m { core = advanced (marked_core m n) m.collection; phase = Waiting }) →
+    P (after_marking m n)
+after_marking_both m n P goes rises =
+    cond_both (leaves_some m n) (record m { core = marked_core m n }) (record m { core = advanced (marked_core m n) m.collection; phase = Waiting }) P (λ _. goes) (λ _. rises)
+
 marked_from : (m : Moment) (n : ℕ) → m.phase ≡ Marking → RanInOrBefore (after_marking m n).phase m
-marked_from m n is = cond_both (leaves_some m n) (record m { core = marked_core m n }) (record m { core = advanced (marked_core m n) m.collection; phase = Waiting }) (λ (t : Moment). RanInOrBefore t.phase m)
-    (λ _. (not_idle m.phase (ap is_idle is), inl refl)) (λ _. (not_idle m.phase (ap is_idle is), inr is))
+marked_from m n is = let runs : m.phase ≢ Idle = not_idle m.phase (ap is_idle is) in after_marking_both m n (λ (t : Moment). RanInOrBefore t.phase m) (runs, inl refl) (runs, inr is)
 
 polled_from : (m t : Moment) (answer : Polled) → m.phase ≡ Waiting → Polls m t answer → RanInOrBefore t.phase m
 polled_from m t Clear is leaves = subst (λ (phase : Phase). RanInOrBefore phase m) (sym (ap (λ (x : Moment). x.phase) leaves.rest)) (not_idle m.phase (ap is_idle is), inr is)
@@ -331,7 +336,8 @@ evacuated_from m t tally false is turns = (not_idle m.phase (ap is_idle is), inl
 
 left_by : (m t : Moment) (phase : Phase) (tally : Tally) (over : Bool) → m.phase ≡ phase → TurnsTo m phase tally over t → RanInOrBefore t.phase m
 left_by m t Idle tally over is turns = absurd turns
-left_by m t Marking tally over is (_, _, (count, waiting, marks)) = subst (λ (phase : Phase). RanInOrBefore phase m) (sym (ap (λ (x : Moment). x.phase) marks.leaves.rest)) (marked_from m turn_size is)
+left_by m t Marking tally over is (_, _, (count, waiting, marks)) =
+    subst (λ (phase : Phase). RanInOrBefore phase m) (sym (ap (λ (x : Moment). x.phase) marks.leaves.rest)) (marked_from m turn_size is)
 left_by m t Waiting tally over is (_, _, (answer, polls)) = polled_from m t answer is polls
 left_by m t Evacuating tally over is turns = evacuated_from m t tally over is turns
 
@@ -340,7 +346,7 @@ ended_copying : (w : Walked) → (ended w).copying ≡ w.moment.copying
 ended_copying w = cond_both (is_done w) (record w.moment { phase = Idle }) w.moment (λ (t : Moment). t.copying ≡ w.moment.copying) (λ _. refl) (λ _. refl)
 
 marked_copying : (m : Moment) (n : ℕ) → (after_marking m n).copying ≡ m.copying
-marked_copying m n = cond_both (leaves_some m n) (record m { core = marked_core m n }) (record m { core = advanced (marked_core m n) m.collection; phase = Waiting }) (λ (t : Moment). t.copying ≡ m.copying) (λ _. refl) (λ _. refl)
+marked_copying m n = after_marking_both m n (λ (t : Moment). t.copying ≡ m.copying) refl refl
 
 polled_copying : (m t : Moment) (answer : Polled) → Polls m t answer → t.copying ≡ m.copying
 polled_copying m t Clear leaves = ap (λ (x : Moment). x.copying) leaves.rest
@@ -376,7 +382,8 @@ none_held : (held : List ℕ) → is_empty held ≡ true → length held ≡ 0
 none_held [] none = refl
 none_held (l ∷ ls) none = absurd (false≢true none)
 
-few_told : (sum : Tally) (progress : Progress) (done : Bool) (most turns : ℕ) → progress ≡ progress_of (told_of sum) done → objects_in sum ≤ 16 * most → most ≤ turns → progress.moved + progress.far + progress.dropped ≤ 16 * turns
+few_told : (sum : Tally) (progress : Progress) (done : Bool) (most turns : ℕ) → progress ≡ progress_of (told_of sum) done → objects_in sum ≤ 16 * most → most ≤ turns →
+    progress.moved + progress.far + progress.dropped ≤ 16 * turns
 few_told sum progress done most turns is few within =
     let moved : progress.moved ≤ sum.moved = omega (arith, ap (λ (p : Progress). p.moved) is) in
     let far : progress.far ≤ sum.far = omega (arith, ap (λ (p : Progress). p.far) is) in
@@ -387,11 +394,17 @@ some_told : (before last : Tally) (progress : Progress) (done : Bool) → progre
 some_told before last progress done is some = omega (arith, ap (λ (p : Progress). p.freed) is, some)
 
 module _ (heap : HeapId) (logs : List ℕ) where
-  few_turn : (tally : Tally) (over : Bool) (phase : Phase) → TurnMade FarWrites FarLetsGo far_bytes heap logs tally over phase → heap.copying ≡ false → objects_in tally ≤ 16
+  abbrev Made : Tally → Bool → Phase → Type 0
+  Made = TurnMade FarWrites FarLetsGo far_bytes heap logs
+
+  abbrev AllMade : List Tally → Bool → Phase → Type 0
+  AllMade = TurnsMade FarWrites FarLetsGo far_bytes heap logs
+
+  few_turn : (tally : Tally) (over : Bool) (phase : Phase) → Made tally over phase → heap.copying ≡ false → objects_in tally ≤ 16
   few_turn tally over phase made alone =
       few_by (moment seat_view made.before) (moment seat_view made.later) made.before.phase tally over (ap (λ (h : HeapId). h.copying) made.turns.named ∙ alone) made.turns.turns
 
-  few_turns : (tallies : List Tally) (over : Bool) (phase : Phase) → TurnsMade FarWrites FarLetsGo far_bytes heap logs tallies over phase → heap.copying ≡ false → objects_in (sum_of tallies) ≤ 16 * length tallies
+  few_turns : (tallies : List Tally) (over : Bool) (phase : Phase) → AllMade tallies over phase → heap.copying ≡ false → objects_in (sum_of tallies) ≤ 16 * length tallies
   few_turns [] over phase made alone = omega arith
   few_turns (tally ∷ tallies) over phase ((earlier, before), last) alone = omega (arith, few_turns tallies false earlier before alone, few_turn tally over phase last alone)
 
@@ -403,12 +416,12 @@ module _ (heap : HeapId) (logs : List ℕ) where
         | inr other ↦ none_of_nothing tally 16 (refused.stops.barred other).1
       ]
 
-  last_frees : (tally : Tally) → (made : TurnMade FarWrites FarLetsGo far_bytes heap logs tally true Idle) → 0 < tally.freed
+  last_frees : (tally : Tally) → (made : Made tally true Idle) → 0 < tally.freed
   last_frees tally made =
       let counted = last_by (moment seat_view made.before) (moment seat_view made.later) made.before.phase tally made.turns.turns in
       omega (arith, counted, some_held made.before.copying logs made.before.collection made.turns.running, none_held made.later.collection made.turns.none)
 
-  left_in : (tally : Tally) (over : Bool) (phase : Phase) → TurnMade FarWrites FarLetsGo far_bytes heap logs tally over phase → IsLeftIn heap phase
+  left_in : (tally : Tally) (over : Bool) (phase : Phase) → Made tally over phase → IsLeftIn heap phase
   left_in tally over phase made =
       let m = moment seat_view made.before in
       let t = moment seat_view made.later in
@@ -422,7 +435,7 @@ module _ (heap : HeapId) (logs : List ℕ) where
         left = turns.stands;
       }
 
-  done_by : (turns : ℕ) (progress : Progress) (tallies : List Tally) → length tallies ≤ turns → TurnsMade FarWrites FarLetsGo far_bytes heap logs tallies true Idle → progress ≡ progress_of (told_of (sum_of tallies)) true →
+  done_by : (turns : ℕ) (progress : Progress) (tallies : List Tally) → length tallies ≤ turns → AllMade tallies true Idle → progress ≡ progress_of (told_of (sum_of tallies)) true →
       IsDoneBy heap turns progress
   done_by turns progress [] few made is = absurd (false≢true (sym made.0))
   done_by turns progress (tally ∷ tallies) few made is =
@@ -438,10 +451,12 @@ module _ (heap : HeapId) (logs : List ℕ) where
         over = left_in tally true Idle last;
       }
 
-  stopped_by : (turns : ℕ) (why : Refusal) (so_far : Progress) → (stops : StopsTurns FarWrites FarLetsGo far_bytes heap logs turns record { so_far = so_far; why = why }) → IsStoppedBy heap turns why so_far
+  stopped_by : (turns : ℕ) (why : Refusal) (so_far : Progress) → (stops : StopsTurns FarWrites FarLetsGo far_bytes heap logs turns record { so_far = so_far; why = why }) →
+      IsStoppedBy heap turns why so_far
   stopped_by turns why so_far stops =
       let all : List Tally = stops.last ∷ stops.tallies in
-      let few : heap.copying ≡ false → objects_in (sum_of all) ≤ 16 * length all = λ alone. omega (arith, few_turns stops.tallies false stops.phase stops.made alone, few_refused stops.last why stops.refused alone) in
+      let few : heap.copying ≡ false → objects_in (sum_of all) ≤ 16 * length all =
+      λ alone. omega (arith, few_turns stops.tallies false stops.phase stops.made alone, few_refused stops.last why stops.refused alone) in
       record {
         logs = logs;
         tallies = stops.tallies;
@@ -454,12 +469,12 @@ module _ (heap : HeapId) (logs : List ℕ) where
         objects = λ alone. few_told (sum_of all) so_far false (length all) turns stops.sum (few alone) (omega (arith, stops.few));
       }
 
-  stands_in : (turns : ℕ) (phase : Phase) (tallies : List Tally) → length tallies ≡ turns → TurnsMade FarWrites FarLetsGo far_bytes heap logs tallies false phase →
+  stands_in : (turns : ℕ) (phase : Phase) (tallies : List Tally) → length tallies ≡ turns → AllMade tallies false phase →
       ((turns ≡ 0) × (phase ≡ Marking)) ⊎ ((0 < turns) × IsLeftIn heap phase)
   stands_in turns phase [] all made = inl (sym all, made.1)
   stands_in turns phase (tally ∷ tallies) all (_, last) = inr (omega (arith, all), left_in tally false phase last)
 
-  at_limit : (turns : ℕ) (phase : Phase) (tallies : List Tally) → length tallies ≡ turns → TurnsMade FarWrites FarLetsGo far_bytes heap logs tallies false phase → IsAtLimit heap turns phase
+  at_limit : (turns : ℕ) (phase : Phase) (tallies : List Tally) → length tallies ≡ turns → AllMade tallies false phase → IsAtLimit heap turns phase
   at_limit turns phase tallies all made = record { logs = logs; tallies = tallies; all = all; made = made; stands = stands_in turns phase tallies all made }
 
 -- ---- a round that ends
@@ -511,12 +526,14 @@ module _ (heap : HeapId) (policy : Policy) (most turns : ℕ) where
   some_turns [] logs phase few made = absurd (false≢true (sym made.0))
   some_turns (tally ∷ tallies) logs phase few made = omega (arith, few)
 
-  done_told : (progress : Progress) (logs : List ℕ) → Chose (Gives policy) FarSide heap tt most tt logs → EndsAfter FarWrites FarLetsGo far_bytes heap logs turns (ends.Done progress) → (0 < most) × (0 < turns) × (progress.done ≡ true) × IsDoneBy heap turns progress
+  done_told : (progress : Progress) (logs : List ℕ) → Chose (Gives policy) FarSide heap tt most tt logs → EndsAfter FarWrites FarLetsGo far_bytes heap logs turns (ends.Done progress) →
+      (0 < most) × (0 < turns) × (progress.done ≡ true) × IsDoneBy heap turns progress
   done_told progress [] chose is = absurd (false≢true (ap is_nothing is))
   done_told progress (l ∷ ls) chose (tallies, few, made, is) =
       (omega (arith, chose.chooses.choice.few), some_turns tallies (l ∷ ls) Idle few made, ap (λ (p : Progress). p.done) is, done_by heap (l ∷ ls) turns progress tallies few made is)
 
-  limit_told : (phase : Phase) (logs : List ℕ) → Chose (Gives policy) FarSide heap tt most tt logs → EndsAfter FarWrites FarLetsGo far_bytes heap logs turns (ends.Limit phase) → (0 < most) × (phase ≢ Idle) × IsAtLimit heap turns phase
+  limit_told : (phase : Phase) (logs : List ℕ) → Chose (Gives policy) FarSide heap tt most tt logs → EndsAfter FarWrites FarLetsGo far_bytes heap logs turns (ends.Limit phase) →
+      (0 < most) × (phase ≢ Idle) × IsAtLimit heap turns phase
   limit_told phase [] chose is = absurd (false≢true (ap is_nothing is))
   limit_told phase (l ∷ ls) chose (tallies, all, made, runs) = (omega (arith, chose.chooses.choice.few), runs, at_limit heap (l ∷ ls) turns phase tallies all made)
 
