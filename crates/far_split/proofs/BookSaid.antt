@@ -1,9 +1,10 @@
 -- What the book's lines are told, by what is asked and told alone.
-use Rattle.std.proofs.Common.{◌≡◌, ◌≢◌, ◌⊎◌, inl, inr, ℕ, zero, suc, ◌+◌, ◌^◌, ◌<◌, ◌≤◌, Bool, true, false, cond, Some, None, Result, Ok, Err, List, [], ◌∷◌, filter, length, map, sum, take, refl, ap, sym, subst, ◌∙◌, arith}
+use Rattle.std.proofs.Common.{◌≡◌, ◌≢◌, ◌⊎◌, inl, inr, ℕ, zero, suc, ◌+◌, ◌*◌, ◌^◌, ◌<◌, ◌≤◌, Bool, true, false, cond, Some, None, Result, Ok, Err, List, [], ◌∷◌, filter, length, map, sum, take, refl, ap, sym, subst, ◌∙◌, arith}
 use Rattle.std.specs.Prelude.{Contains}
-use Rattle.std.specs.List.{AllByRecursion, range_with_len}
+use Rattle.std.specs.List.{AllByRecursion, range_with_len, sum_by}
 use Rattle.std.proofs.lemmas.Bool.{cases_Bool, cases_lt, cond_both, eqb-true, false≢true}
 use Rattle.std.proofs.lemmas.List.{length-map, length-take}
+use Rattle.std.proofs.lemmas.List.Sums.{sum_by-cons}
 use Rattle.std.proofs.lemmas.Option.{none-some, same_Some}
 use Rattle.far_word.specs.declared.refused.Refused.{Refused as Refusal}
 use Rattle.far_word.specs.declared.refused.Refused.TheVariants as refused
@@ -19,6 +20,8 @@ use Rattle.far_table.specs.BookSeats.{seat_view}
 use Rattle.far_book.specs.book.Rows.{row_of}
 use Rattle.far_book.specs.declared.home.Home.{Home}
 use Rattle.far_book.specs.declared.home.Home.TheVariants.{Near, Far}
+use Rattle.far_evac.specs.declared.answers.Polled.{Polled}
+use Rattle.far_evac.specs.declared.answers.Polled.TheVariants.{Clear, StillOpen}
 use Rattle.far_evac.specs.declared.answers.Progress.{Progress}
 use Rattle.far_evac.specs.declared.answers.RoundEnd.{RoundEnd}
 use Rattle.far_evac.specs.declared.answers.RoundEnd.TheVariants as ends
@@ -26,23 +29,38 @@ use Rattle.far_evac.specs.declared.census.Housed.{Housed}
 use Rattle.far_evac.specs.declared.census.LogState.{LogState}
 use Rattle.far_evac.specs.declared.phase.Phase.{Phase}
 use Rattle.far_evac.specs.declared.phase.Phase.TheVariants.{Idle, Marking, Waiting, Evacuating}
+use Rattle.far_evac.specs.AnyHand.{Evacuates, Polls, StopsAt, WalksTo}
+use Rattle.far_evac.specs.AnyTurns.{TurnsTo, sum_of}
+use Rattle.far_evac.specs.Beside.{EvacuatesBeside}
+use Rattle.far_evac.specs.ByCopying.{EvacuatesBy, StopsBy}
 use Rattle.far_evac.specs.Choosing.{is_spent}
 use Rattle.far_evac.specs.EvacOf.{EvacOf, moment}
 use Rattle.far_evac.specs.Listing.{IsAt, ListsEach, TellsState, listed_pointers}
+use Rattle.far_evac.specs.Live.{is_empty}
 use Rattle.far_evac.specs.LiveLaws.{IsInTurn}
-use Rattle.far_evac.specs.Moment.{Moment, Tally}
+use Rattle.far_evac.specs.Marking.{after_marking, leaves_some, marked_core}
+use Rattle.far_evac.specs.Moment.{Moment, Tally, nothing, objects_in, plus, progress_of}
 use Rattle.far_evac.specs.MomentLaw.{IsLawful, is_idle}
-use Rattle.far_evac.specs.RoundSteps.{among}
+use Rattle.far_evac.specs.RoundSteps.{advanced, among}
+use Rattle.far_evac.specs.Turns.{turn_size}
+use Rattle.far_evac.specs.Walk.{Walked, ended, is_done}
+use Rattle.far_evac.proofs.BesideRounds.{walks_so}
+use Rattle.far_evac.proofs.Bools.{by_copying}
+use Rattle.far_evac.proofs.CopiedBack.{copied_comes_back}
 use Rattle.far_evac.proofs.Fronts.{kept_in, was_kept}
+use Rattle.far_evac.proofs.Rounds.{turn_ends, walks_phase}
+use Rattle.far_evac.proofs.SmallSteps.{tallies_all, walks_kept}
 use Rattle.far_heap.specs.HeapId.{HeapId, heap_of}
-use Rattle.far_heap.specs.Rounds.{ChoseNone, Chose, EndsAfter, IsUnchosen, StopsTurn, TurnsMade, is_round_of, rows_of}
+use Rattle.far_heap.specs.Rounds.{ChoseNone, Chose, EndsAfter, IsUnchosen, StopsTurn, StopsTurns, TurnMade, TurnRefused, TurnsMade, is_round_of, rows_of, told, told_of}
+use Rattle.far_heap.proofs.Named.{stays_named}
+use Rattle.far_heap.proofs.RoundTurns.{not_idle}
 use Rattle.far_text.specs.Command.{Command, Book, Evacuator, Logs as AsksLogs, Log as AsksLog, Audit as AsksAudit, Policy, LeastLive, Oldest, Round}
 use Rattle.far_reply.specs.declared.reply.Counts.{Counts}
 use Rattle.far_reply.specs.Reply.{Reply, Audited, Ended, Halted, Logs, Refused}
 use Rattle.far_replay.specs.Turn.{log_line}
 use Rattle.far_split.specs.FarSides.{FarLetsGo, FarSide, FarWrites, far_bytes}
 use Rattle.far_split.specs.BookTold.{BookStood, Gives, TellsCensus, TellsLine, counted as counted_in, lies_far, lies_near, none_done}
-use Rattle.far_split.specs.BookSaid.{AreSoMany, BookIsToldSo, CountsAll, HasNoneSealed, IsRefusedBare, IsRefusedWithCounts, IsToldSo, RoundsAreRefusedSo, SaysFar, SaysNear, numbers_of}
+use Rattle.far_split.specs.BookSaid.{AddsUp, AreSoMany, BookIsToldSo, CountsAll, HasNoneSealed, IsAtLimit, IsDoneBy, IsLeftIn, IsRefusedBare, IsRefusedWithCounts, IsStoppedBy, IsSumOf, IsToldSo, RanInOrBefore, RoundsAreRefusedSo, SaysFar, SaysNear, SumsAreTold, numbers_of}
 
 -- ---- no logs were chosen
 idle_is : (phase : Phase) → is_idle phase ≡ true → phase ≡ Idle
@@ -215,6 +233,250 @@ audit_so heap counts told =
     let (homes, logs, lists, same) = told.is in
     record { book = told.book; named = told.named; lawful = told.lawful; is = counts_all (moment seat_view told.book) counts homes logs lists same }
 
+-- ---- what a round counts
+-- a sum as it is told
+sum_told : (count : Tally → ℕ) (tallies : List Tally) (n : ℕ) → n ≡ sum_by count tallies → IsSumOf count tallies (told n)
+sum_told count tallies n is = elim (cases_lt (sum_by count tallies) (2 ^ 64)) [
+  | inl below ↦ inl (below, omega (arith, is, below))
+  | inr above ↦ inr (above, omega (arith, is, above))
+]
+
+module _ (count : Tally → ℕ) (none : count nothing ≡ 0) (adds : (a b : Tally) → count (plus a b) ≡ count a + count b) where
+  summed : (tallies : List Tally) → count (sum_of tallies) ≡ sum_by count tallies
+  summed [] = none
+  summed (tally ∷ tallies) = omega (arith, adds (sum_of tallies) tally, summed tallies, sum_by-cons count tally tallies)
+
+adds_up : (tallies : List Tally) (progress : Progress) (done : Bool) → progress ≡ progress_of (told_of (sum_of tallies)) done → AddsUp tallies progress
+adds_up tallies progress done is = subst (AddsUp tallies) (sym is) record {
+  moved = sum_told (λ (t : Tally). t.moved) tallies (sum_of tallies).moved (summed (λ (t : Tally). t.moved) refl (λ a b. refl) tallies);
+  far = sum_told (λ (t : Tally). t.far) tallies (sum_of tallies).far (summed (λ (t : Tally). t.far) refl (λ a b. refl) tallies);
+  dropped = sum_told (λ (t : Tally). t.dropped) tallies (sum_of tallies).dropped (summed (λ (t : Tally). t.dropped) refl (λ a b. refl) tallies);
+  freed = sum_told (λ (t : Tally). t.freed) tallies (sum_of tallies).freed (summed (λ (t : Tally). t.freed) refl (λ a b. refl) tallies);
+}
+
+pub sums_told : SumsAreTold
+sums_told done = (refl, refl)
+
+-- ---- one turn
+-- a walk where no copy may be offered deals with as many objects as were asked for at most, and each log that left the collection set is counted
+held_counted : (m : Moment) (k : ℕ) (w : Walked) → WalksTo m k w → w.tally.freed + length w.moment.collection ≡ length m.collection
+held_counted m k w walks = (walks_kept false (λ k w. w.tally.freed + length w.moment.collection ≡ length m.collection) record {
+  learns = λ k w t known h. ap (λ (c : Tally). c.freed + length t.moment.collection) known.tally ∙ ap (λ (x : Moment). w.tally.freed + length x.collection) known.moment.rest ∙ h;
+  gives = λ k w l ls none h. omega (arith, h);
+  deals = λ k w l ls p ps word here finds h. h;
+} m (let same : 0 + length m.collection ≡ length m.collection = omega arith in same) k w walks).0
+
+ended_held : (w : Walked) → (ended w).collection ≡ w.moment.collection
+ended_held w = cond_both (is_done w) (record w.moment { phase = Idle }) w.moment (λ (t : Moment). t.collection ≡ w.moment.collection) (λ _. refl) (λ _. refl)
+
+few_stopped : (m t : Moment) (n : ℕ) (tally : Tally) → StopsAt m n t tally → objects_in tally ≤ n
+few_stopped m t n tally (k, w, walks, few, more, known, counts) = omega (arith, ap objects_in counts, tallies_all m k w walks, few)
+
+few_evacuated : (m t : Moment) (n : ℕ) (tally : Tally) (over : Bool) → Evacuates m n t tally over → objects_in tally ≤ n
+few_evacuated m t n tally over (k, w, walks, is, counts, done) = omega (arith, ap objects_in counts, tallies_all m k w walks.walks, walks.most)
+
+-- those that are left and those that are counted make those that were there
+back_counted : (m t : Moment) (n : ℕ) (tally : Tally) (over : Bool) → EvacuatesBy m n t tally over → tally.freed + length t.collection ≡ length m.collection
+back_counted m t n tally over evacuates =
+    by_copying m.copying (λ alone. counted_alone (evacuates.alone alone)) (λ copying. ((copied_comes_back m t n tally).0 over (evacuates.beside copying)).counted) where
+      counted_alone : Evacuates m n t tally over → tally.freed + length t.collection ≡ length m.collection
+      counted_alone (k, w, walks, is, counts, done) =
+          ap (λ (c : Tally). c.freed + length t.collection) counts ∙ ap (λ (x : Moment). w.tally.freed + length x.collection) is ∙ ap (λ (ls : List ℕ). w.tally.freed + length ls) (ended_held w)
+          ∙ held_counted m k w walks.walks
+
+none_of_nothing : (tally : Tally) (n : ℕ) → tally ≡ nothing → objects_in tally ≤ n
+none_of_nothing tally n none = omega (arith, ap objects_in none)
+
+few_by : (m t : Moment) (phase : Phase) (tally : Tally) (over : Bool) → m.copying ≡ false → TurnsTo m phase tally over t → objects_in tally ≤ 16
+unfolding turn_size
+few_by m t Idle tally over alone turns = absurd turns
+few_by m t Marking tally over alone (none, _, _) = none_of_nothing tally 16 none
+few_by m t Waiting tally over alone (none, _, _) = none_of_nothing tally 16 none
+few_by m t Evacuating tally over alone turns = few_evacuated m t 16 tally over (turns.alone alone)
+
+few_barred : (m t : Moment) (tally : Tally) → m.copying ≡ false → StopsBy m turn_size t tally → objects_in tally ≤ 16
+unfolding turn_size
+few_barred m t tally alone stops = few_stopped m t 16 tally (stops.alone alone)
+
+-- with which a round is over
+last_by : (m t : Moment) (phase : Phase) (tally : Tally) → TurnsTo m phase tally true t → tally.freed + length t.collection ≡ length m.collection
+last_by m t Idle tally turns = absurd turns
+last_by m t Marking tally (_, goes, _) = absurd (false≢true (sym goes))
+last_by m t Waiting tally (_, goes, _) = absurd (false≢true (sym goes))
+last_by m t Evacuating tally turns = back_counted m t turn_size tally true turns
+
+-- which leaves a round running
+going : (w : Walked) → is_done w ≡ false → (ended w).phase ≡ w.moment.phase
+going w more = ap (λ b. (cond b (record w.moment { phase = Idle }) w.moment).phase) more
+
+evacuated_phase : (m t : Moment) (n : ℕ) (tally : Tally) → m.phase ≡ Evacuating → EvacuatesBy m n t tally false → t.phase ≡ Evacuating
+evacuated_phase m t n tally leaves evacuates = by_copying m.copying (λ alone. stays_alone (evacuates.alone alone)) (λ copying. stays_beside (evacuates.beside copying)) where
+  stays_alone : Evacuates m n t tally false → t.phase ≡ Evacuating
+  stays_alone (k, w, walks, is, counts, more) = ap (λ (x : Moment). x.phase) is ∙ going w (sym more) ∙ walks_phase m k w walks.walks ∙ leaves
+
+  stays_beside : EvacuatesBeside m n t tally false → t.phase ≡ Evacuating
+  stays_beside h = ap (λ (x : Moment). x.phase) h.ends ∙ going h.stood (sym h.over) ∙ (walks_so m n h.stood h.end h.walks).0 ∙ leaves
+
+after_marking_both : (m : Moment) (n : ℕ) (P : Moment → Type 0) → P (record m { core = marked_core m n }) → P (record m { core = advanced (marked_core m n) m.collection; phase = Waiting }) →
+    P (after_marking m n)
+after_marking_both m n P goes rises =
+    cond_both (leaves_some m n) (record m { core = marked_core m n }) (record m { core = advanced (marked_core m n) m.collection; phase = Waiting }) P (λ _. goes) (λ _. rises)
+
+marked_from : (m : Moment) (n : ℕ) → m.phase ≡ Marking → RanInOrBefore (after_marking m n).phase m
+marked_from m n is = let runs : m.phase ≢ Idle = not_idle m.phase (ap is_idle is) in after_marking_both m n (λ (t : Moment). RanInOrBefore t.phase m) (runs, inl refl) (runs, inr is)
+
+polled_from : (m t : Moment) (answer : Polled) → m.phase ≡ Waiting → Polls m t answer → RanInOrBefore t.phase m
+polled_from m t Clear is leaves = subst (λ (phase : Phase). RanInOrBefore phase m) (sym (ap (λ (x : Moment). x.phase) leaves.rest)) (not_idle m.phase (ap is_idle is), inr is)
+polled_from m t (StillOpen k epoch) is held_up = subst (λ (phase : Phase). RanInOrBefore phase m) (sym (ap (λ (x : Moment). x.phase) held_up.leaves.rest)) (not_idle m.phase (ap is_idle is), inl refl)
+
+evacuated_from : (m t : Moment) (tally : Tally) (over : Bool) → m.phase ≡ Evacuating → TurnsTo m Evacuating tally over t → RanInOrBefore t.phase m
+evacuated_from m t tally true is turns =
+    subst (λ (phase : Phase). RanInOrBefore phase m) (sym (idle_is t.phase (turn_ends m t Evacuating tally true is turns))) (not_idle m.phase (ap is_idle is), inr is)
+evacuated_from m t tally false is turns = (not_idle m.phase (ap is_idle is), inl (is ∙ sym (evacuated_phase m t turn_size tally is turns)))
+
+left_by : (m t : Moment) (phase : Phase) (tally : Tally) (over : Bool) → m.phase ≡ phase → TurnsTo m phase tally over t → RanInOrBefore t.phase m
+left_by m t Idle tally over is turns = absurd turns
+left_by m t Marking tally over is (_, _, (count, waiting, marks)) =
+    subst (λ (phase : Phase). RanInOrBefore phase m) (sym (ap (λ (x : Moment). x.phase) marks.leaves.rest)) (marked_from m turn_size is)
+left_by m t Waiting tally over is (_, _, (answer, polls)) = polled_from m t answer is polls
+left_by m t Evacuating tally over is turns = evacuated_from m t tally over is turns
+
+-- copies may be offered after it exactly where they might be before
+ended_copying : (w : Walked) → (ended w).copying ≡ w.moment.copying
+ended_copying w = cond_both (is_done w) (record w.moment { phase = Idle }) w.moment (λ (t : Moment). t.copying ≡ w.moment.copying) (λ _. refl) (λ _. refl)
+
+marked_copying : (m : Moment) (n : ℕ) → (after_marking m n).copying ≡ m.copying
+marked_copying m n = after_marking_both m n (λ (t : Moment). t.copying ≡ m.copying) refl refl
+
+polled_copying : (m t : Moment) (answer : Polled) → Polls m t answer → t.copying ≡ m.copying
+polled_copying m t Clear leaves = ap (λ (x : Moment). x.copying) leaves.rest
+polled_copying m t (StillOpen k epoch) held_up = ap (λ (x : Moment). x.copying) held_up.leaves.rest
+
+walked_copying : (m : Moment) (k : ℕ) (w : Walked) → WalksTo m k w → w.moment.copying ≡ m.copying
+walked_copying m k w walks = (walks_kept false (λ k w. w.moment.copying ≡ m.copying) record {
+  learns = λ k w t known h. ap (λ (x : Moment). x.copying) known.moment.rest ∙ h;
+  gives = λ k w l ls none h. h;
+  deals = λ k w l ls p ps word here finds h. h;
+} m refl k w walks).0
+
+evacuated_copying : (m t : Moment) (n : ℕ) (tally : Tally) (over : Bool) → EvacuatesBy m n t tally over → t.copying ≡ m.copying
+evacuated_copying m t n tally over evacuates = by_copying m.copying (λ alone. stays_alone (evacuates.alone alone)) (λ copying. stays_beside (evacuates.beside copying)) where
+  stays_alone : Evacuates m n t tally over → t.copying ≡ m.copying
+  stays_alone (k, w, walks, is, counts, more) = ap (λ (x : Moment). x.copying) is ∙ ended_copying w ∙ walked_copying m k w walks.walks
+
+  stays_beside : EvacuatesBeside m n t tally over → t.copying ≡ m.copying
+  stays_beside h = ap (λ (x : Moment). x.copying) h.ends ∙ ended_copying h.stood ∙ (walks_so m n h.stood h.end h.walks).1
+
+copying_by : (m t : Moment) (phase : Phase) (tally : Tally) (over : Bool) → TurnsTo m phase tally over t → t.copying ≡ m.copying
+copying_by m t Idle tally over turns = absurd turns
+copying_by m t Marking tally over (_, _, (count, waiting, marks)) = ap (λ (x : Moment). x.copying) marks.leaves.rest ∙ marked_copying m turn_size
+copying_by m t Waiting tally over (_, _, (answer, polls)) = polled_copying m t answer polls
+copying_by m t Evacuating tally over turns = evacuated_copying m t turn_size tally over turns
+
+-- ---- turns
+some_held : (copying : Bool) (logs held : List ℕ) → is_round_of copying logs held ≡ true → 0 < length held
+some_held copying logs [] running = absurd (false≢true running)
+some_held copying logs (l ∷ ls) running = omega arith
+
+none_held : (held : List ℕ) → is_empty held ≡ true → length held ≡ 0
+none_held [] none = refl
+none_held (l ∷ ls) none = absurd (false≢true none)
+
+few_told : (sum : Tally) (progress : Progress) (done : Bool) (most turns : ℕ) → progress ≡ progress_of (told_of sum) done → objects_in sum ≤ 16 * most → most ≤ turns →
+    progress.moved + progress.far + progress.dropped ≤ 16 * turns
+few_told sum progress done most turns is few within =
+    let moved : progress.moved ≤ sum.moved = omega (arith, ap (λ (p : Progress). p.moved) is) in
+    let far : progress.far ≤ sum.far = omega (arith, ap (λ (p : Progress). p.far) is) in
+    let dropped : progress.dropped ≤ sum.dropped = omega (arith, ap (λ (p : Progress). p.dropped) is) in
+    omega (arith, moved, far, dropped, few, within)
+
+some_told : (before last : Tally) (progress : Progress) (done : Bool) → progress ≡ progress_of (told_of (plus before last)) done → 0 < last.freed → 0 < progress.freed
+some_told before last progress done is some = omega (arith, ap (λ (p : Progress). p.freed) is, some)
+
+module _ (heap : HeapId) (logs : List ℕ) where
+  abbrev Made : Tally → Bool → Phase → Type 0
+  Made = TurnMade FarWrites FarLetsGo far_bytes heap logs
+
+  abbrev AllMade : List Tally → Bool → Phase → Type 0
+  AllMade = TurnsMade FarWrites FarLetsGo far_bytes heap logs
+
+  few_turn : (tally : Tally) (over : Bool) (phase : Phase) → Made tally over phase → heap.copying ≡ false → objects_in tally ≤ 16
+  few_turn tally over phase made alone =
+      few_by (moment seat_view made.before) (moment seat_view made.later) made.before.phase tally over (ap (λ (h : HeapId). h.copying) made.turns.named ∙ alone) made.turns.turns
+
+  few_turns : (tallies : List Tally) (over : Bool) (phase : Phase) → AllMade tallies over phase → heap.copying ≡ false → objects_in (sum_of tallies) ≤ 16 * length tallies
+  few_turns [] over phase made alone = omega arith
+  few_turns (tally ∷ tallies) over phase ((earlier, before), last) alone = omega (arith, few_turns tallies false earlier before alone, few_turn tally over phase last alone)
+
+  few_refused : (tally : Tally) (why : Refusal) → TurnRefused FarWrites FarLetsGo far_bytes heap logs tally why → heap.copying ≡ false → objects_in tally ≤ 16
+  few_refused tally why refused alone =
+      let e = refused.before in
+      elim (cases_Bool (is_round_of e.copying logs e.collection)) [
+        | inl running ↦ few_barred (moment seat_view e) (moment seat_view refused.later) tally (ap (λ (h : HeapId). h.copying) refused.stops.named ∙ alone) (refused.stops.stops running).4
+        | inr other ↦ none_of_nothing tally 16 (refused.stops.barred other).1
+      ]
+
+  last_frees : (tally : Tally) → (made : Made tally true Idle) → 0 < tally.freed
+  last_frees tally made =
+      let counted = last_by (moment seat_view made.before) (moment seat_view made.later) made.before.phase tally made.turns.turns in
+      omega (arith, counted, some_held made.before.copying logs made.before.collection made.turns.running, none_held made.later.collection made.turns.none)
+
+  left_in : (tally : Tally) (over : Bool) (phase : Phase) → Made tally over phase → IsLeftIn heap phase
+  left_in tally over phase made =
+      let m = moment seat_view made.before in
+      let t = moment seat_view made.later in
+      let turns = made.turns in
+      let found : RanInOrBefore t.phase m = left_by m t made.before.phase tally over refl turns.turns in
+      record {
+        stood = record { book = made.before; named = turns.named; lawful = turns.lawful; is = subst (λ (p : Phase). RanInOrBefore p m) turns.stands found };
+        later = made.later;
+        named = stays_named heap made.before made.later turns.came (copying_by m t made.before.phase tally over turns.turns) turns.named;
+        came = turns.came;
+        left = turns.stands;
+      }
+
+  done_by : (turns : ℕ) (progress : Progress) (tallies : List Tally) → length tallies ≤ turns → AllMade tallies true Idle → progress ≡ progress_of (told_of (sum_of tallies)) true →
+      IsDoneBy heap turns progress
+  done_by turns progress [] few made is = absurd (false≢true (sym made.0))
+  done_by turns progress (tally ∷ tallies) few made is =
+      let last = made.1 in
+      record {
+        logs = logs;
+        tallies = tally ∷ tallies;
+        few = few;
+        made = made;
+        sums = adds_up (tally ∷ tallies) progress true is;
+        freed = some_told (sum_of tallies) tally progress true is (last_frees tally last);
+        objects = λ alone. few_told (sum_of (tally ∷ tallies)) progress true (length (tally ∷ tallies)) turns is (few_turns (tally ∷ tallies) true Idle made alone) few;
+        over = left_in tally true Idle last;
+      }
+
+  stopped_by : (turns : ℕ) (why : Refusal) (so_far : Progress) → (stops : StopsTurns FarWrites FarLetsGo far_bytes heap logs turns record { so_far = so_far; why = why }) →
+      IsStoppedBy heap turns why so_far
+  stopped_by turns why so_far stops =
+      let all : List Tally = stops.last ∷ stops.tallies in
+      let few : heap.copying ≡ false → objects_in (sum_of all) ≤ 16 * length all =
+      λ alone. omega (arith, few_turns stops.tallies false stops.phase stops.made alone, few_refused stops.last why stops.refused alone) in
+      record {
+        logs = logs;
+        tallies = stops.tallies;
+        last = stops.last;
+        phase = stops.phase;
+        few = stops.few;
+        made = stops.made;
+        refused = stops.refused;
+        sums = adds_up all so_far false stops.sum;
+        objects = λ alone. few_told (sum_of all) so_far false (length all) turns stops.sum (few alone) (omega (arith, stops.few));
+      }
+
+  stands_in : (turns : ℕ) (phase : Phase) (tallies : List Tally) → length tallies ≡ turns → AllMade tallies false phase →
+      ((turns ≡ 0) × (phase ≡ Marking)) ⊎ ((0 < turns) × IsLeftIn heap phase)
+  stands_in turns phase [] all made = inl (sym all, made.1)
+  stands_in turns phase (tally ∷ tallies) all (_, last) = inr (omega (arith, all), left_in tally false phase last)
+
+  at_limit : (turns : ℕ) (phase : Phase) (tallies : List Tally) → length tallies ≡ turns → AllMade tallies false phase → IsAtLimit heap turns phase
+  at_limit turns phase tallies all made = record { logs = logs; tallies = tallies; all = all; made = made; stands = stands_in turns phase tallies all made }
+
 -- ---- a round that ends
 map_none : {X Y : Type 0} (f : X → Y) (xs : List X) → length (map f xs) ≡ 0 → length xs ≡ 0
 map_none f xs none = sym (length-map xs f) ∙ none
@@ -264,13 +526,24 @@ module _ (heap : HeapId) (policy : Policy) (most turns : ℕ) where
   some_turns [] logs phase few made = absurd (false≢true (sym made.0))
   some_turns (tally ∷ tallies) logs phase few made = omega (arith, few)
 
-  done_told : (progress : Progress) (logs : List ℕ) → Chose (Gives policy) FarSide heap tt most tt logs → EndsAfter FarWrites FarLetsGo far_bytes heap logs turns (ends.Done progress) → (0 < most) × (0 < turns) × (progress.done ≡ true)
+  done_told : (progress : Progress) (logs : List ℕ) → Chose (Gives policy) FarSide heap tt most tt logs → EndsAfter FarWrites FarLetsGo far_bytes heap logs turns (ends.Done progress) →
+      (0 < most) × (0 < turns) × (progress.done ≡ true) × IsDoneBy heap turns progress
   done_told progress [] chose is = absurd (false≢true (ap is_nothing is))
-  done_told progress (l ∷ ls) chose (tallies, few, made, is) = (omega (arith, chose.chooses.choice.few), some_turns tallies (l ∷ ls) Idle few made, ap (λ (p : Progress). p.done) is)
+  done_told progress (l ∷ ls) chose (tallies, few, made, is) =
+      (omega (arith, chose.chooses.choice.few), some_turns tallies (l ∷ ls) Idle few made, ap (λ (p : Progress). p.done) is, done_by heap (l ∷ ls) turns progress tallies few made is)
 
-  limit_told : (phase : Phase) (logs : List ℕ) → Chose (Gives policy) FarSide heap tt most tt logs → EndsAfter FarWrites FarLetsGo far_bytes heap logs turns (ends.Limit phase) → (0 < most) × (phase ≢ Idle)
+  limit_told : (phase : Phase) (logs : List ℕ) → Chose (Gives policy) FarSide heap tt most tt logs → EndsAfter FarWrites FarLetsGo far_bytes heap logs turns (ends.Limit phase) →
+      (0 < most) × (phase ≢ Idle) × IsAtLimit heap turns phase
   limit_told phase [] chose is = absurd (false≢true (ap is_nothing is))
-  limit_told phase (l ∷ ls) chose (tallies, few, made, runs) = (omega (arith, chose.chooses.choice.few), runs)
+  limit_told phase (l ∷ ls) chose (tallies, all, made, runs) = (omega (arith, chose.chooses.choice.few), runs, at_limit heap (l ∷ ls) turns phase tallies all made)
+
+-- ---- a round that is refused with counts
+halted : (heap : HeapId) (policy : Policy) (most turns : ℕ) (why : Refusal) (so_far : Progress) → TellsLine heap (Evacuator (Round policy most turns)) (Halted why so_far) →
+    IsRefusedWithCounts why so_far × (so_far.done ≡ false) × IsStoppedBy heap turns why so_far
+halted heap policy most turns why so_far (inl (none, unchosen), inl some) = absurd (some none)
+halted heap policy most turns why so_far (inl (none, unchosen), inr lacks) = absurd (bare_not heap why (unchosen_so heap policy most why unchosen) lacks)
+halted heap policy most turns why so_far (inr (logs, chose, some, stops), shown) =
+    (counted heap policy most turns why so_far (inr (logs, chose, some, stops), shown), ap (λ (p : Progress). p.done) stops.sum, stopped_by heap logs turns why so_far stops)
 
 -- ---- all lines
 line_so : (heap : HeapId) (line : Command) (reply : Reply) → TellsLine heap line reply → IsToldSo heap line reply
@@ -283,7 +556,7 @@ line_so heap (Evacuator (Round policy most turns)) (Ended ends.Nothing) (logs, c
 line_so heap (Evacuator (Round policy most turns)) (Ended (ends.Done progress)) (logs, chose, is) = done_told heap policy most turns progress logs chose is
 line_so heap (Evacuator (Round policy most turns)) (Ended (ends.Limit phase)) (logs, chose, is) = limit_told heap policy most turns phase logs chose is
 line_so heap (Evacuator (Round policy most turns)) (Refused why) told = bare heap policy most turns why told
-line_so heap (Evacuator (Round policy most turns)) (Halted why so_far) told = counted heap policy most turns why so_far told
+line_so heap (Evacuator (Round policy most turns)) (Halted why so_far) told = halted heap policy most turns why so_far told
 line_so heap line reply told = absurd told
 
 pub book_told_so : BookIsToldSo

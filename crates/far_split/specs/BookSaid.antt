@@ -1,6 +1,6 @@
 -- What the book's lines are told, in other words: by what is asked and told alone, and in digits.
-use Rattle.std.specs.Prelude.{◌≡◌, ◌≢◌, ◌⊎◌, ◌↔◌, ℕ, ◌+◌, ◌^◌, ◌<◌, ◌≤◌, false, true, Some, List, [], ◌∷◌, Contains, length, map, sum}
-use Rattle.std.specs.List.{AllByRecursion, AllZip, range_with_len}
+use Rattle.std.specs.Prelude.{◌≡◌, ◌≢◌, ◌⊎◌, ◌↔◌, ℕ, ◌+◌, ◌*◌, ◌^◌, ◌<◌, ◌≤◌, Bool, false, true, Some, List, [], ◌∷◌, Contains, length, map, sum}
+use Rattle.std.specs.List.{AllByRecursion, AllZip, range_with_len, sum_by}
 use Rattle.far_word.specs.declared.mark.Marks.{Marks}
 use Rattle.far_word.specs.declared.pointer.Place.{Place}
 use Rattle.far_word.specs.declared.pointer.PtrWord.TheVariants as pointer
@@ -10,17 +10,47 @@ use Rattle.far_word.specs.Refused.{refusal_number}
 use Rattle.far_core.specs.declared.event.Kind.TheVariants as kinds
 use Rattle.far_core.specs.laws.Observed.{live_bytes}
 use Rattle.far_core.specs.state.State.{State}
+use Rattle.far_hand.specs.Came.{Came}
+use Rattle.far_table.specs.declared.book.BookSeat.{BookSeat}
+use Rattle.far_table.specs.BookSeats.{seat_makes}
 use Rattle.far_evac.specs.declared.answers.Progress.{Progress}
 use Rattle.far_evac.specs.declared.answers.RoundEnd.TheVariants as ends
-use Rattle.far_evac.specs.declared.phase.Phase.TheVariants.{Idle}
+use Rattle.far_evac.specs.declared.phase.Phase.{Phase}
+use Rattle.far_evac.specs.declared.phase.Phase.TheVariants.{Idle, Marking, Waiting, Evacuating}
+use Rattle.far_evac.specs.AnyTurns.{sum_of}
+use Rattle.far_evac.specs.EvacOf.{EvacOf}
 use Rattle.far_evac.specs.LiveLaws.{IsInTurn}
-use Rattle.far_evac.specs.Moment.{Moment}
-use Rattle.far_heap.specs.HeapId.{HeapId}
+use Rattle.far_evac.specs.Moment.{Moment, Tally, progress_of}
+use Rattle.far_heap.specs.HeapId.{HeapId, heap_of}
+use Rattle.far_heap.specs.Rounds.{TurnRefused, TurnsMade, told_of}
 use Rattle.far_text.specs.Command.{Command, Book, Evacuator, Logs as AsksLogs, Log as AsksLog, Audit as AsksAudit, Policy, Round}
 use Rattle.far_reply.specs.declared.reply.Counts.{Counts}
 use Rattle.far_reply.specs.declared.reply.LogLine.{LogLine}
 use Rattle.far_reply.specs.Reply.{Reply, Audited, Ended, Halted, Logs, Refused}
 use Rattle.far_split.specs.BookTold.{BookStood, BookTold, TellsLine}
+use Rattle.far_split.specs.FarSides.{FarLetsGo, FarSide, FarWrites, far_bytes}
+
+-- ---- what a round counts
+-- a count of a round is the sum of what its turns counted, or 2^64 - 1, where that sum is greater
+abbrev pub IsSumOf : (Tally → ℕ) → List Tally → ℕ → Type 0
+IsSumOf count tallies told = ((sum_by count tallies < 2 ^ 64) × (told ≡ sum_by count tallies)) ⊎ ((2 ^ 64 ≤ sum_by count tallies) × (told ≡ 18446744073709551615))
+
+-- each of its four counts is
+pub record AddsUp (tallies : List Tally) (progress : Progress) : Type 0 where
+  pub moved : IsSumOf (λ (t : Tally). t.moved) tallies progress.moved
+  pub far : IsSumOf (λ (t : Tally). t.far) tallies progress.far
+  pub dropped : IsSumOf (λ (t : Tally). t.dropped) tallies progress.dropped
+  pub freed : IsSumOf (λ (t : Tally). t.freed) tallies progress.freed
+
+-- in numerals: two turns, of which the later one stands first, tell their sums, and 2^64 - 1 for what is greater
+abbrev pub a_tally : ℕ → ℕ → ℕ → ℕ → Tally
+a_tally moved far dropped freed = record { moved = moved; far = far; dropped = dropped; freed = freed }
+
+abbrev pub SumsAreTold : Type 0
+SumsAreTold = (done : Bool) →
+    (progress_of (told_of (sum_of (a_tally 10 20 30 40 ∷ a_tally 1 2 3 4 ∷ []))) done ≡ record { moved = 11; far = 22; dropped = 33; freed = 44; done = done })
+    × (progress_of (told_of (sum_of (a_tally 0 1 2 9 ∷ a_tally 18446744073709551614 18446744073709551614 18446744073709551614 18446744073709551614 ∷ []))) done
+    ≡ record { moved = 18446744073709551614; far = 18446744073709551615; dropped = 18446744073709551615; freed = 18446744073709551615; done = done })
 
 -- ---- a round that is refused
 -- no round ran, and the next epoch would have been the one that never comes
@@ -35,6 +65,19 @@ IsRefusedBare heap why = (refusal_number why ≡ 12) ⊎ ((refusal_number why �
 abbrev pub IsRefusedWithCounts : Refusal → Progress → Type 0
 IsRefusedWithCounts why so_far = (refusal_number why ≡ 1) ⊎ (refusal_number why ≡ 10) ⊎ ((refusal_number why ≡ 12) × (0 < so_far.moved + so_far.far + so_far.dropped + so_far.freed))
 
+-- fewer turns than so many were made of a round of some logs, and then one that was refused so; they counted so much together, of 16 objects at most each, where no
+-- copy may be offered
+pub record IsStoppedBy (heap : HeapId) (turns : ℕ) (why : Refusal) (so_far : Progress) : Type 0 where
+  pub logs : List ℕ
+  pub tallies : List Tally
+  pub last : Tally
+  pub phase : Phase
+  pub few : length tallies < turns
+  pub made : TurnsMade FarWrites FarLetsGo far_bytes heap logs tallies false phase
+  pub refused : TurnRefused FarWrites FarLetsGo far_bytes heap logs last why
+  pub sums : AddsUp (last ∷ tallies) so_far
+  pub objects : heap.copying ≡ false → so_far.moved + so_far.far + so_far.dropped ≤ 16 * turns
+
 -- there are no other refusals of a round, whatever the policy
 abbrev pub RoundsAreRefusedSo : Type 0
 RoundsAreRefusedSo = (heap : HeapId) (policy : Policy) (most turns : ℕ) (why : Refusal) (so_far : Progress) → (TellsLine heap (Evacuator (Round policy most turns)) (Refused why) → IsRefusedBare heap why)
@@ -44,6 +87,45 @@ RoundsAreRefusedSo = (heap : HeapId) (policy : Policy) (most turns : ℕ) (why :
 -- no log was sealed, so there was none to choose
 abbrev pub HasNoneSealed : Moment → Type 0
 HasNoneSealed now = (l : ℕ) → l < now.core.logs → now.core.kind l ≢ kinds.Sealed
+
+-- the phase before another: before objects are marked no round is running, and before none is objects leave
+abbrev pub phase_before : Phase → Phase
+phase_before Idle = Evacuating
+phase_before Marking = Idle
+phase_before Waiting = Marking
+phase_before Evacuating = Waiting
+
+-- a round was running in this phase, or in the one before it
+abbrev pub RanInOrBefore : Phase → Moment → Type 0
+RanInOrBefore phase now = (now.phase ≢ Idle) × ((now.phase ≡ phase) ⊎ (now.phase ≡ phase_before phase))
+
+-- a turn found a round running in this phase, or in the one before it, and left the book in this phase
+pub record IsLeftIn (heap : HeapId) (phase : Phase) : Type 0 where
+  pub stood : BookStood heap (RanInOrBefore phase)
+  pub later : EvacOf (BookSeat FarSide) FarSide
+  pub named : heap_of later.copying later.book.near ≡ heap
+  pub came : Came seat_makes stood.book.book.near later.book.near
+  pub left : later.phase ≡ phase
+
+-- at most so many turns were made of a round of some logs, and it was over with the last of them; they counted so much together, and gave a log back at least.
+-- Where no copy may be offered each of them dealt with 16 objects at most
+pub record IsDoneBy (heap : HeapId) (turns : ℕ) (progress : Progress) : Type 0 where
+  pub logs : List ℕ
+  pub tallies : List Tally
+  pub few : length tallies ≤ turns
+  pub made : TurnsMade FarWrites FarLetsGo far_bytes heap logs tallies true Idle
+  pub sums : AddsUp tallies progress
+  pub freed : 0 < progress.freed
+  pub objects : heap.copying ≡ false → progress.moved + progress.far + progress.dropped ≤ 16 * turns
+  pub over : IsLeftIn heap Idle
+
+-- all turns were made of a round of some logs, and it is in the phase in which the last of them left it; where none was to be made, objects are to be marked
+pub record IsAtLimit (heap : HeapId) (turns : ℕ) (phase : Phase) : Type 0 where
+  pub logs : List ℕ
+  pub tallies : List Tally
+  pub all : length tallies ≡ turns
+  pub made : TurnsMade FarWrites FarLetsGo far_bytes heap logs tallies false phase
+  pub stands : ((turns ≡ 0) × (phase ≡ Marking)) ⊎ ((0 < turns) × IsLeftIn heap phase)
 
 -- ---- an audit
 -- a pointer's cell says that its object is near, or that it is far, and lacks DROP
@@ -80,10 +162,10 @@ IsToldSo heap (Book (AsksLog log)) (Refused why) = (heap.logs ≤ log) × (refus
 IsToldSo heap (Book AsksAudit) (Audited counts) = BookStood heap (CountsAll counts)
 IsToldSo heap (Book AsksAudit) (Refused why) = refusal_number why ≡ 1
 IsToldSo heap (Evacuator (Round policy most turns)) (Ended ends.Nothing) = (most ≡ 0) ⊎ BookStood heap HasNoneSealed
-IsToldSo heap (Evacuator (Round policy most turns)) (Ended (ends.Done progress)) = (0 < most) × (0 < turns) × (progress.done ≡ true)
-IsToldSo heap (Evacuator (Round policy most turns)) (Ended (ends.Limit phase)) = (0 < most) × (phase ≢ Idle)
+IsToldSo heap (Evacuator (Round policy most turns)) (Ended (ends.Done progress)) = (0 < most) × (0 < turns) × (progress.done ≡ true) × IsDoneBy heap turns progress
+IsToldSo heap (Evacuator (Round policy most turns)) (Ended (ends.Limit phase)) = (0 < most) × (phase ≢ Idle) × IsAtLimit heap turns phase
 IsToldSo heap (Evacuator (Round policy most turns)) (Refused why) = IsRefusedBare heap why
-IsToldSo heap (Evacuator (Round policy most turns)) (Halted why so_far) = IsRefusedWithCounts why so_far
+IsToldSo heap (Evacuator (Round policy most turns)) (Halted why so_far) = IsRefusedWithCounts why so_far × (so_far.done ≡ false) × IsStoppedBy heap turns why so_far
 IsToldSo heap _ _ = ⊥
 
 -- each line is told one thing, in order

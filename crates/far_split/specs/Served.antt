@@ -2,7 +2,7 @@
 use Rattle.std.specs.Prelude.{◌≡◌, ◌⊎◌, ℕ, true, false, List, [], ◌∷◌, ◌++◌, length, map}
 use Rattle.far_word.specs.declared.refused.Refused.{Refused as Refusal}
 use Rattle.far_word.specs.Refused.{refusal_number}
-use Rattle.far_text.specs.Command.{Command, Mutator, New, Read, View, Write}
+use Rattle.far_text.specs.Command.{Command, Mutator, New, Read}
 use Rattle.far_replay.specs.Alone.{Alone, Knows, Own}
 use Rattle.far_reply.specs.Reply.{Reply, Data, Refused}
 use Rattle.far_split.specs.Here.{AloneHere, AreBy, Hindered, KnowsHere}
