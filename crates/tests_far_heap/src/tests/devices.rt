@@ -73,16 +73,6 @@ impl Faulty {
         }
     }
 
-    /// One without a fault.
-    pub(super) fn sound(inner: MemDevice) -> Faulty {
-        Faulty {
-            inner,
-            before: 0,
-            fault: None,
-            faults: 0,
-        }
-    }
-
     // The fault of this call, if it is the one.
     fn next_fault(&mut self) -> Option<Fault>
         ensures inner { self.new.inner ≡ self.old.inner }

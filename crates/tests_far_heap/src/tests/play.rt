@@ -168,34 +168,38 @@ fn over_parts<D: Device + Drop + Send + Sync + 'static, R: Threads + Wait + Sync
     }
 }
 
-// The device of a play, of one type, so that all that stands on it is built once.
-fn device_of(alloc: Global, over: Over) -> Liar<FailAt<Faulty>> {
-    let inner = MemDevice::new(alloc);
-    let faulty = match over {
-        Over::Faulty(before, fault) => Faulty::new(inner, before, fault),
-        _ => Faulty::sound(inner),
-    };
-    let failing = match over {
-        Over::FailAt(k) => FailAt::new(faulty, k),
-        _ => FailAt::new(faulty, 0),
-    };
-    match over {
-        Over::Flip => Liar::flip(failing, 1),
-        Over::Short => Liar::short(failing, 1),
-        _ => Liar::flip(failing, 0),
-    }
-}
-
-// Whether what a play does comes out as it should.
-fn comes_out<R: Threads + Wait + Sync>(rt: &R, alloc: Global, play: &Play) -> bool {
+// The same over this device.
+fn over_device<D: Device + Drop + Send + Sync + 'static, R: Threads + Wait + Sync>(
+    rt: &R,
+    alloc: Global,
+    device: D,
+    play: &Play,
+) -> bool {
     let shape = Shape {
         logs: play.logs,
         mutators: play.mutators,
         epoch: play.epoch,
     };
-    match Blank::new(alloc, shape, device_of(alloc, play.over)) {
+    match Blank::new(alloc, shape, device) {
         Ok(blank) => over_parts(rt, alloc, blank, play),
         Err(why) => play.refused == Some(why),
+    }
+}
+
+// Whether what a play does comes out as it should.
+fn comes_out<R: Threads + Wait + Sync>(rt: &R, alloc: Global, play: &Play) -> bool {
+    let device = MemDevice::new(alloc);
+    match play.over {
+        Over::Memory => over_device(rt, alloc, device, play),
+        Over::FailAt(k) => over_device(rt, alloc, FailAt::new(device, k), play),
+        Over::Flip => over_device(rt, alloc, Liar::flip(device, 1), play),
+        Over::Short => over_device(rt, alloc, Liar::short(device, 1), play),
+        Over::Faulty(before, fault) => over_device(
+            rt,
+            alloc,
+            Faulty::new(device, before, fault),
+            play,
+        ),
     }
 }
 
