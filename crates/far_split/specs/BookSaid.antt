@@ -42,6 +42,10 @@ pub record AddsUp (tallies : List Tally) (progress : Progress) : Type 0 where
   pub dropped : IsSumOf (λ (t : Tally). t.dropped) tallies progress.dropped
   pub freed : IsSumOf (λ (t : Tally). t.freed) tallies progress.freed
 
+-- a turn dealt with 16 objects at most
+abbrev pub IsOf16 : Tally → Type 0
+IsOf16 tally = tally.moved + tally.far + tally.dropped ≤ 16
+
 -- in numerals: two turns, of which the later one stands first, tell their sums, and 2^64 - 1 for what is greater
 abbrev pub a_tally : ℕ → ℕ → ℕ → ℕ → Tally
 a_tally moved far dropped freed = record { moved = moved; far = far; dropped = dropped; freed = freed }
@@ -65,8 +69,8 @@ IsRefusedBare heap why = (refusal_number why ≡ 12) ⊎ ((refusal_number why �
 abbrev pub IsRefusedWithCounts : Refusal → Progress → Type 0
 IsRefusedWithCounts why so_far = (refusal_number why ≡ 1) ⊎ (refusal_number why ≡ 10) ⊎ ((refusal_number why ≡ 12) × (0 < so_far.moved + so_far.far + so_far.dropped + so_far.freed))
 
--- fewer turns than so many were made of a round of some logs, and then one that was refused so; they counted so much together, of 16 objects at most each, where no
--- copy may be offered
+-- fewer turns than so many were made of a round of some logs, and then one that was refused so; they counted so much together. Where no copy may be offered each of
+-- them, the refused one too, dealt with 16 objects at most; so no more objects are told than 16 for each turn that was to be made
 pub record IsStoppedBy (heap : HeapId) (turns : ℕ) (why : Refusal) (so_far : Progress) : Type 0 where
   pub logs : List ℕ
   pub tallies : List Tally
@@ -76,7 +80,8 @@ pub record IsStoppedBy (heap : HeapId) (turns : ℕ) (why : Refusal) (so_far : P
   pub made : TurnsMade FarWrites FarLetsGo far_bytes heap logs tallies false phase
   pub refused : TurnRefused FarWrites FarLetsGo far_bytes heap logs last why
   pub sums : AddsUp (last ∷ tallies) so_far
-  pub objects : heap.copying ≡ false → so_far.moved + so_far.far + so_far.dropped ≤ 16 * turns
+  pub objects : heap.copying ≡ false → AllByRecursion IsOf16 (last ∷ tallies)
+  pub total : heap.copying ≡ false → so_far.moved + so_far.far + so_far.dropped ≤ 16 * turns
 
 -- there are no other refusals of a round, whatever the policy
 abbrev pub RoundsAreRefusedSo : Type 0
@@ -108,7 +113,7 @@ pub record IsLeftIn (heap : HeapId) (phase : Phase) : Type 0 where
   pub left : later.phase ≡ phase
 
 -- at most so many turns were made of a round of some logs, and it was over with the last of them; they counted so much together, and gave a log back at least.
--- Where no copy may be offered each of them dealt with 16 objects at most
+-- Where no copy may be offered each of them dealt with 16 objects at most; so no more objects are told than 16 for each turn that was to be made
 pub record IsDoneBy (heap : HeapId) (turns : ℕ) (progress : Progress) : Type 0 where
   pub logs : List ℕ
   pub tallies : List Tally
@@ -116,7 +121,8 @@ pub record IsDoneBy (heap : HeapId) (turns : ℕ) (progress : Progress) : Type 0
   pub made : TurnsMade FarWrites FarLetsGo far_bytes heap logs tallies true Idle
   pub sums : AddsUp tallies progress
   pub freed : 0 < progress.freed
-  pub objects : heap.copying ≡ false → progress.moved + progress.far + progress.dropped ≤ 16 * turns
+  pub objects : heap.copying ≡ false → AllByRecursion IsOf16 tallies
+  pub total : heap.copying ≡ false → progress.moved + progress.far + progress.dropped ≤ 16 * turns
   pub over : IsLeftIn heap Idle
 
 -- all turns were made of a round of some logs, and it is in the phase in which the last of them left it; where none was to be made, objects are to be marked
