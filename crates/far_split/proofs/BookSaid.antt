@@ -421,10 +421,13 @@ module _ (heap : HeapId) (logs : List ℕ) where
         | inr other ↦ none_of_nothing tally 16 (refused.stops.barred other).1
       ]
 
-  last_frees : (tally : Tally) → (made : Made tally true Idle) → 0 < tally.freed
-  last_frees tally made =
+  last_gives : (tally : Tally) (made : Made tally true Idle) → tally.freed ≡ length made.before.collection
+  last_gives tally made =
       let counted = last_by (moment seat_view made.before) (moment seat_view made.later) made.before.phase tally made.turns.turns in
-      omega (arith, counted, some_held made.before.copying logs made.before.collection made.turns.running, none_held made.later.collection made.turns.none)
+      omega (arith, counted, none_held made.later.collection made.turns.none)
+
+  last_frees : (tally : Tally) → Made tally true Idle → 0 < tally.freed
+  last_frees tally made = omega (arith, last_gives tally made, some_held made.before.copying logs made.before.collection made.turns.running)
 
   left_in : (tally : Tally) (over : Bool) (phase : Phase) → Made tally over phase → IsLeftIn heap phase
   left_in tally over phase made =
@@ -442,19 +445,22 @@ module _ (heap : HeapId) (logs : List ℕ) where
 
   done_by : (turns : ℕ) (progress : Progress) (tallies : List Tally) → length tallies ≤ turns → AllMade tallies true Idle → progress ≡ progress_of (told_of (sum_of tallies)) true →
       IsDoneBy heap turns progress
+  unfolding left_in
   done_by turns progress [] few made is = absurd (false≢true (sym made.0))
   done_by turns progress (tally ∷ tallies) few made is =
       let last = made.1 in
       record {
         logs = logs;
-        tallies = tally ∷ tallies;
-        few = few;
+        tallies = tallies;
+        last = tally;
+        few = omega (arith, few);
         made = made;
         sums = adds_up (tally ∷ tallies) progress true is;
         freed = some_told (sum_of tallies) tally progress true is (last_frees tally last);
         objects = few_turns (tally ∷ tallies) true Idle made;
         total = λ alone. few_told (tally ∷ tallies) progress true turns is few (few_turns (tally ∷ tallies) true Idle made alone);
         over = left_in tally true Idle last;
+        back = last_gives tally last;
       }
 
   stopped_by : (turns : ℕ) (why : Refusal) (so_far : Progress) → (stops : StopsTurns FarWrites FarLetsGo far_bytes heap logs turns record { so_far = so_far; why = why }) →

@@ -112,18 +112,21 @@ pub record IsLeftIn (heap : HeapId) (phase : Phase) : Type 0 where
   pub came : Came seat_makes stood.book.book.near later.book.near
   pub left : later.phase ≡ phase
 
--- at most so many turns were made of a round of some logs, and it was over with the last of them; they counted so much together, and gave a log back at least.
+-- at most so many turns were made of a round of some logs, and it was over with the last of them, which gave back all logs that the round had left, and counted them;
+-- they counted so much together, and gave a log back at least.
 -- Where no copy may be offered each of them dealt with 16 objects at most; so no more objects are told than 16 for each turn that was to be made
 pub record IsDoneBy (heap : HeapId) (turns : ℕ) (progress : Progress) : Type 0 where
   pub logs : List ℕ
   pub tallies : List Tally
-  pub few : length tallies ≤ turns
-  pub made : TurnsMade FarWrites FarLetsGo far_bytes heap logs tallies true Idle
-  pub sums : AddsUp tallies progress
+  pub last : Tally
+  pub few : length tallies < turns
+  pub made : TurnsMade FarWrites FarLetsGo far_bytes heap logs (last ∷ tallies) true Idle
+  pub sums : AddsUp (last ∷ tallies) progress
   pub freed : 0 < progress.freed
-  pub objects : heap.copying ≡ false → AllByRecursion IsOf16 tallies
+  pub objects : heap.copying ≡ false → AllByRecursion IsOf16 (last ∷ tallies)
   pub total : heap.copying ≡ false → progress.moved + progress.far + progress.dropped ≤ 16 * turns
   pub over : IsLeftIn heap Idle
+  pub back : last.freed ≡ length over.stood.book.collection
 
 -- all turns were made of a round of some logs, and it is in the phase in which the last of them left it; where none was to be made, objects are to be marked
 pub record IsAtLimit (heap : HeapId) (turns : ℕ) (phase : Phase) : Type 0 where
