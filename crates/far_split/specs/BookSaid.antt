@@ -31,11 +31,11 @@ use Rattle.far_split.specs.BookTold.{BookStood, BookTold, TellsLine}
 use Rattle.far_split.specs.FarSides.{FarLetsGo, FarSide, FarWrites, far_bytes}
 
 -- ---- what a round counts
--- a count of a round is the sum of what its turns counted, or 2^64 - 1, where that sum is greater
+-- a number is the sum of what turns counted of one kind, or 2^64 - 1, where that sum is greater
 abbrev pub IsSumOf : (Tally → ℕ) → List Tally → ℕ → Type 0
-IsSumOf count tallies told = ((sum_by count tallies < 2 ^ 64) × (told ≡ sum_by count tallies)) ⊎ ((2 ^ 64 ≤ sum_by count tallies) × (told ≡ 18446744073709551615))
+IsSumOf count tallies number = ((sum_by count tallies < 2 ^ 64) × (number ≡ sum_by count tallies)) ⊎ ((2 ^ 64 ≤ sum_by count tallies) × (number ≡ 18446744073709551615))
 
--- each of its four counts is
+-- each of a round's four counts is such a sum of its turns
 pub record AddsUp (tallies : List Tally) (progress : Progress) : Type 0 where
   pub moved : IsSumOf (λ (t : Tally). t.moved) tallies progress.moved
   pub far : IsSumOf (λ (t : Tally). t.far) tallies progress.far
@@ -93,7 +93,7 @@ RoundsAreRefusedSo = (heap : HeapId) (policy : Policy) (most turns : ℕ) (why :
 abbrev pub HasNoneSealed : Moment → Type 0
 HasNoneSealed now = (l : ℕ) → l < now.core.logs → now.core.kind l ≢ kinds.Sealed
 
--- the phase before another: before objects are marked no round is running, and before none is objects leave
+-- the phase before another: a round begins in Marking, goes on in Waiting and Evacuating, and after that none is running
 abbrev pub phase_before : Phase → Phase
 phase_before Idle = Evacuating
 phase_before Marking = Idle
@@ -128,7 +128,8 @@ pub record IsDoneBy (heap : HeapId) (turns : ℕ) (progress : Progress) : Type 0
   pub over : IsLeftIn heap Idle
   pub back : last.freed ≡ length over.stood.book.collection
 
--- all turns were made of a round of some logs, and it is in the phase in which the last of them left it; where none was to be made, objects are to be marked
+-- of a round of some logs as many turns are told as were to be made, of which one may stand for several: no book is told to be that of the turn before. The round is in
+-- the phase in which the last of them left it; where none was to be made, objects are to be marked
 pub record IsAtLimit (heap : HeapId) (turns : ℕ) (phase : Phase) : Type 0 where
   pub logs : List ℕ
   pub tallies : List Tally
@@ -163,7 +164,7 @@ abbrev pub numbers_of : List LogLine → List ℕ
 numbers_of lines = map (λ (line : LogLine). line.log) lines
 
 -- what a line may be told: a line for each log from 0 on, or for the one that is asked for; 8 where the heap has no such log; of an audit what was counted of one moment, or 1, and no other
--- refusal; of a round that no log was chosen, where none was to be or none was sealed, or how one ended that had turns, or the refusals above. A mutator's line, and any other step of a round, is told nothing
+-- refusal; of a round that no log was chosen, where none was to be or none was sealed, or how a round of some logs ended, or the refusals above. A mutator's line, and any other step of a round, is told nothing
 abbrev pub IsToldSo : HeapId → Command → Reply → Type 0
 IsToldSo heap (Book AsksLogs) (Logs lines) = (numbers_of lines ≡ range_with_len 0 heap.logs) × AllByRecursion MakesBytes lines
 IsToldSo heap (Book (AsksLog log)) (Logs lines) = (log < heap.logs) × (numbers_of lines ≡ log ∷ []) × AllByRecursion MakesBytes lines
