@@ -60,7 +60,7 @@ use Rattle.far_reply.specs.Reply.{Reply, Audited, Ended, Halted, Logs, Refused}
 use Rattle.far_replay.specs.Turn.{log_line}
 use Rattle.far_split.specs.FarSides.{FarLetsGo, FarSide, FarWrites, far_bytes}
 use Rattle.far_split.specs.BookTold.{BookStood, Gives, TellsCensus, TellsLine, counted as counted_in, lies_far, lies_near, none_done}
-use Rattle.far_split.specs.BookSaid.{AddsUp, AreSoMany, BookIsToldSo, CountsAll, HasNoneSealed, IsAtLimit, IsDoneBy, IsLeftIn, IsRefusedBare, IsRefusedWithCounts, IsStoppedBy, IsSumOf, IsToldSo, RanInOrBefore, RoundsAreRefusedSo, SaysFar, SaysNear, SumsAreTold, numbers_of}
+use Rattle.far_split.specs.BookSaid.{AddsUp, AreSoMany, BookIsToldSo, CountsAll, HasNoneSealed, IsAtLimit, IsDoneBy, IsLeftIn, IsOf16, IsRefusedBare, IsRefusedWithCounts, IsStoppedBy, IsSumOf, IsToldSo, RanInOrBefore, RoundsAreRefusedSo, SaysFar, SaysNear, SumsAreTold, numbers_of}
 
 -- ---- no logs were chosen
 idle_is : (phase : Phase) → is_idle phase ≡ true → phase ≡ Idle
@@ -382,13 +382,18 @@ none_held : (held : List ℕ) → is_empty held ≡ true → length held ≡ 0
 none_held [] none = refl
 none_held (l ∷ ls) none = absurd (false≢true none)
 
-few_told : (sum : Tally) (progress : Progress) (done : Bool) (most turns : ℕ) → progress ≡ progress_of (told_of sum) done → objects_in sum ≤ 16 * most → most ≤ turns →
+sum_few : (tallies : List Tally) → AllByRecursion IsOf16 tallies → objects_in (sum_of tallies) ≤ 16 * length tallies
+sum_few [] few = omega arith
+sum_few (tally ∷ tallies) (last, few) = omega (arith, sum_few tallies few, last)
+
+few_told : (tallies : List Tally) (progress : Progress) (done : Bool) (turns : ℕ) → progress ≡ progress_of (told_of (sum_of tallies)) done → length tallies ≤ turns → AllByRecursion IsOf16 tallies →
     progress.moved + progress.far + progress.dropped ≤ 16 * turns
-few_told sum progress done most turns is few within =
+few_told tallies progress done turns is within few =
+    let sum = sum_of tallies in
     let moved : progress.moved ≤ sum.moved = omega (arith, ap (λ (p : Progress). p.moved) is) in
     let far : progress.far ≤ sum.far = omega (arith, ap (λ (p : Progress). p.far) is) in
     let dropped : progress.dropped ≤ sum.dropped = omega (arith, ap (λ (p : Progress). p.dropped) is) in
-    omega (arith, moved, far, dropped, few, within)
+    omega (arith, moved, far, dropped, sum_few tallies few, within)
 
 some_told : (before last : Tally) (progress : Progress) (done : Bool) → progress ≡ progress_of (told_of (plus before last)) done → 0 < last.freed → 0 < progress.freed
 some_told before last progress done is some = omega (arith, ap (λ (p : Progress). p.freed) is, some)
@@ -404,9 +409,9 @@ module _ (heap : HeapId) (logs : List ℕ) where
   few_turn tally over phase made alone =
       few_by (moment seat_view made.before) (moment seat_view made.later) made.before.phase tally over (ap (λ (h : HeapId). h.copying) made.turns.named ∙ alone) made.turns.turns
 
-  few_turns : (tallies : List Tally) (over : Bool) (phase : Phase) → AllMade tallies over phase → heap.copying ≡ false → objects_in (sum_of tallies) ≤ 16 * length tallies
-  few_turns [] over phase made alone = omega arith
-  few_turns (tally ∷ tallies) over phase ((earlier, before), last) alone = omega (arith, few_turns tallies false earlier before alone, few_turn tally over phase last alone)
+  few_turns : (tallies : List Tally) (over : Bool) (phase : Phase) → AllMade tallies over phase → heap.copying ≡ false → AllByRecursion IsOf16 tallies
+  few_turns [] over phase made alone = tt
+  few_turns (tally ∷ tallies) over phase ((earlier, before), last) alone = (few_turn tally over phase last alone, few_turns tallies false earlier before alone)
 
   few_refused : (tally : Tally) (why : Refusal) → TurnRefused FarWrites FarLetsGo far_bytes heap logs tally why → heap.copying ≡ false → objects_in tally ≤ 16
   few_refused tally why refused alone =
@@ -416,10 +421,13 @@ module _ (heap : HeapId) (logs : List ℕ) where
         | inr other ↦ none_of_nothing tally 16 (refused.stops.barred other).1
       ]
 
-  last_frees : (tally : Tally) → (made : Made tally true Idle) → 0 < tally.freed
-  last_frees tally made =
+  last_gives : (tally : Tally) (made : Made tally true Idle) → tally.freed ≡ length made.before.collection
+  last_gives tally made =
       let counted = last_by (moment seat_view made.before) (moment seat_view made.later) made.before.phase tally made.turns.turns in
-      omega (arith, counted, some_held made.before.copying logs made.before.collection made.turns.running, none_held made.later.collection made.turns.none)
+      omega (arith, counted, none_held made.later.collection made.turns.none)
+
+  last_frees : (tally : Tally) → Made tally true Idle → 0 < tally.freed
+  last_frees tally made = omega (arith, last_gives tally made, some_held made.before.copying logs made.before.collection made.turns.running)
 
   left_in : (tally : Tally) (over : Bool) (phase : Phase) → Made tally over phase → IsLeftIn heap phase
   left_in tally over phase made =
@@ -437,26 +445,30 @@ module _ (heap : HeapId) (logs : List ℕ) where
 
   done_by : (turns : ℕ) (progress : Progress) (tallies : List Tally) → length tallies ≤ turns → AllMade tallies true Idle → progress ≡ progress_of (told_of (sum_of tallies)) true →
       IsDoneBy heap turns progress
+  unfolding left_in
   done_by turns progress [] few made is = absurd (false≢true (sym made.0))
   done_by turns progress (tally ∷ tallies) few made is =
       let last = made.1 in
       record {
         logs = logs;
-        tallies = tally ∷ tallies;
-        few = few;
+        tallies = tallies;
+        last = tally;
+        few = omega (arith, few);
         made = made;
         sums = adds_up (tally ∷ tallies) progress true is;
         freed = some_told (sum_of tallies) tally progress true is (last_frees tally last);
-        objects = λ alone. few_told (sum_of (tally ∷ tallies)) progress true (length (tally ∷ tallies)) turns is (few_turns (tally ∷ tallies) true Idle made alone) few;
+        objects = few_turns (tally ∷ tallies) true Idle made;
+        total = λ alone. few_told (tally ∷ tallies) progress true turns is few (few_turns (tally ∷ tallies) true Idle made alone);
         over = left_in tally true Idle last;
+        back = last_gives tally last;
       }
 
   stopped_by : (turns : ℕ) (why : Refusal) (so_far : Progress) → (stops : StopsTurns FarWrites FarLetsGo far_bytes heap logs turns record { so_far = so_far; why = why }) →
       IsStoppedBy heap turns why so_far
   stopped_by turns why so_far stops =
       let all : List Tally = stops.last ∷ stops.tallies in
-      let few : heap.copying ≡ false → objects_in (sum_of all) ≤ 16 * length all =
-      λ alone. omega (arith, few_turns stops.tallies false stops.phase stops.made alone, few_refused stops.last why stops.refused alone) in
+      let few : heap.copying ≡ false → AllByRecursion IsOf16 all =
+      λ alone. (few_refused stops.last why stops.refused alone, few_turns stops.tallies false stops.phase stops.made alone) in
       record {
         logs = logs;
         tallies = stops.tallies;
@@ -466,7 +478,8 @@ module _ (heap : HeapId) (logs : List ℕ) where
         made = stops.made;
         refused = stops.refused;
         sums = adds_up all so_far false stops.sum;
-        objects = λ alone. few_told (sum_of all) so_far false (length all) turns stops.sum (few alone) (omega (arith, stops.few));
+        objects = few;
+        total = λ alone. few_told all so_far false turns stops.sum (omega (arith, stops.few)) (few alone);
       }
 
   stands_in : (turns : ℕ) (phase : Phase) (tallies : List Tally) → length tallies ≡ turns → AllMade tallies false phase →

@@ -31,16 +31,20 @@ use Rattle.far_split.specs.BookTold.{BookStood, BookTold, TellsLine}
 use Rattle.far_split.specs.FarSides.{FarLetsGo, FarSide, FarWrites, far_bytes}
 
 -- ---- what a round counts
--- a count of a round is the sum of what its turns counted, or 2^64 - 1, where that sum is greater
+-- a number is the sum of what turns counted of one kind, or 2^64 - 1, where that sum is greater
 abbrev pub IsSumOf : (Tally → ℕ) → List Tally → ℕ → Type 0
-IsSumOf count tallies told = ((sum_by count tallies < 2 ^ 64) × (told ≡ sum_by count tallies)) ⊎ ((2 ^ 64 ≤ sum_by count tallies) × (told ≡ 18446744073709551615))
+IsSumOf count tallies number = ((sum_by count tallies < 2 ^ 64) × (number ≡ sum_by count tallies)) ⊎ ((2 ^ 64 ≤ sum_by count tallies) × (number ≡ 18446744073709551615))
 
--- each of its four counts is
+-- each of a round's four counts is such a sum of its turns
 pub record AddsUp (tallies : List Tally) (progress : Progress) : Type 0 where
   pub moved : IsSumOf (λ (t : Tally). t.moved) tallies progress.moved
   pub far : IsSumOf (λ (t : Tally). t.far) tallies progress.far
   pub dropped : IsSumOf (λ (t : Tally). t.dropped) tallies progress.dropped
   pub freed : IsSumOf (λ (t : Tally). t.freed) tallies progress.freed
+
+-- a turn dealt with 16 objects at most
+abbrev pub IsOf16 : Tally → Type 0
+IsOf16 tally = tally.moved + tally.far + tally.dropped ≤ 16
 
 -- in numerals: two turns, of which the later one stands first, tell their sums, and 2^64 - 1 for what is greater
 abbrev pub a_tally : ℕ → ℕ → ℕ → ℕ → Tally
@@ -65,8 +69,8 @@ IsRefusedBare heap why = (refusal_number why ≡ 12) ⊎ ((refusal_number why �
 abbrev pub IsRefusedWithCounts : Refusal → Progress → Type 0
 IsRefusedWithCounts why so_far = (refusal_number why ≡ 1) ⊎ (refusal_number why ≡ 10) ⊎ ((refusal_number why ≡ 12) × (0 < so_far.moved + so_far.far + so_far.dropped + so_far.freed))
 
--- fewer turns than so many were made of a round of some logs, and then one that was refused so; they counted so much together, of 16 objects at most each, where no
--- copy may be offered
+-- fewer turns than so many were made of a round of some logs, and then one that was refused so; they counted so much together. Where no copy may be offered each of
+-- them, the refused one too, dealt with 16 objects at most; so no more objects are told than 16 for each turn that was to be made
 pub record IsStoppedBy (heap : HeapId) (turns : ℕ) (why : Refusal) (so_far : Progress) : Type 0 where
   pub logs : List ℕ
   pub tallies : List Tally
@@ -76,7 +80,8 @@ pub record IsStoppedBy (heap : HeapId) (turns : ℕ) (why : Refusal) (so_far : P
   pub made : TurnsMade FarWrites FarLetsGo far_bytes heap logs tallies false phase
   pub refused : TurnRefused FarWrites FarLetsGo far_bytes heap logs last why
   pub sums : AddsUp (last ∷ tallies) so_far
-  pub objects : heap.copying ≡ false → so_far.moved + so_far.far + so_far.dropped ≤ 16 * turns
+  pub objects : heap.copying ≡ false → AllByRecursion IsOf16 (last ∷ tallies)
+  pub total : heap.copying ≡ false → so_far.moved + so_far.far + so_far.dropped ≤ 16 * turns
 
 -- there are no other refusals of a round, whatever the policy
 abbrev pub RoundsAreRefusedSo : Type 0
@@ -88,7 +93,7 @@ RoundsAreRefusedSo = (heap : HeapId) (policy : Policy) (most turns : ℕ) (why :
 abbrev pub HasNoneSealed : Moment → Type 0
 HasNoneSealed now = (l : ℕ) → l < now.core.logs → now.core.kind l ≢ kinds.Sealed
 
--- the phase before another: before objects are marked no round is running, and before none is objects leave
+-- the phase before another: a round begins in Marking, goes on in Waiting and Evacuating, and after that none is running
 abbrev pub phase_before : Phase → Phase
 phase_before Idle = Evacuating
 phase_before Marking = Idle
@@ -107,19 +112,24 @@ pub record IsLeftIn (heap : HeapId) (phase : Phase) : Type 0 where
   pub came : Came seat_makes stood.book.book.near later.book.near
   pub left : later.phase ≡ phase
 
--- at most so many turns were made of a round of some logs, and it was over with the last of them; they counted so much together, and gave a log back at least.
--- Where no copy may be offered each of them dealt with 16 objects at most
+-- at most so many turns were made of a round of some logs, and it was over with the last of them, which gave back all logs that the round had left, and counted them;
+-- they counted so much together, and gave a log back at least.
+-- Where no copy may be offered each of them dealt with 16 objects at most; so no more objects are told than 16 for each turn that was to be made
 pub record IsDoneBy (heap : HeapId) (turns : ℕ) (progress : Progress) : Type 0 where
   pub logs : List ℕ
   pub tallies : List Tally
-  pub few : length tallies ≤ turns
-  pub made : TurnsMade FarWrites FarLetsGo far_bytes heap logs tallies true Idle
-  pub sums : AddsUp tallies progress
+  pub last : Tally
+  pub few : length tallies < turns
+  pub made : TurnsMade FarWrites FarLetsGo far_bytes heap logs (last ∷ tallies) true Idle
+  pub sums : AddsUp (last ∷ tallies) progress
   pub freed : 0 < progress.freed
-  pub objects : heap.copying ≡ false → progress.moved + progress.far + progress.dropped ≤ 16 * turns
+  pub objects : heap.copying ≡ false → AllByRecursion IsOf16 (last ∷ tallies)
+  pub total : heap.copying ≡ false → progress.moved + progress.far + progress.dropped ≤ 16 * turns
   pub over : IsLeftIn heap Idle
+  pub back : last.freed ≡ length over.stood.book.collection
 
--- all turns were made of a round of some logs, and it is in the phase in which the last of them left it; where none was to be made, objects are to be marked
+-- of a round of some logs as many turns are told as were to be made, of which one may stand for several: no book is told to be that of the turn before. The round is in
+-- the phase in which the last of them left it; where none was to be made, objects are to be marked
 pub record IsAtLimit (heap : HeapId) (turns : ℕ) (phase : Phase) : Type 0 where
   pub logs : List ℕ
   pub tallies : List Tally
@@ -154,7 +164,7 @@ abbrev pub numbers_of : List LogLine → List ℕ
 numbers_of lines = map (λ (line : LogLine). line.log) lines
 
 -- what a line may be told: a line for each log from 0 on, or for the one that is asked for; 8 where the heap has no such log; of an audit what was counted of one moment, or 1, and no other
--- refusal; of a round that no log was chosen, where none was to be or none was sealed, or how one ended that had turns, or the refusals above. A mutator's line, and any other step of a round, is told nothing
+-- refusal; of a round that no log was chosen, where none was to be or none was sealed, or how a round of some logs ended, or the refusals above. A mutator's line, and any other step of a round, is told nothing
 abbrev pub IsToldSo : HeapId → Command → Reply → Type 0
 IsToldSo heap (Book AsksLogs) (Logs lines) = (numbers_of lines ≡ range_with_len 0 heap.logs) × AllByRecursion MakesBytes lines
 IsToldSo heap (Book (AsksLog log)) (Logs lines) = (log < heap.logs) × (numbers_of lines ≡ log ∷ []) × AllByRecursion MakesBytes lines

@@ -32,13 +32,14 @@ pub fn mutators_are_told_so()
     ensures memory { NoneLacksMemory }
 {}
 
-/// What the book's lines are told, by what is asked and told alone: each is told one thing. Logs are told by number, from 0 on, or the one that is asked for, and each line of a log
-/// makes 4,096 bytes; one log is refused 8 exactly where the heap has none of its number. An audit tells how many cells said near and how many said far, each pointer counted once, and
-/// the live bytes of all logs, of one moment; it is refused 1 alone. A round is told `none` only where it was to choose none, or no log was sealed. It is told `done` only after a turn
-/// that found objects leaving and left no round running: its four counts are the sums of what its turns counted, or 2^64 - 1 where a sum is greater, and a log was given back. It is told
-/// its limit only after all turns that were to be made, with the phase in which the last one left the round, which found it there or in the phase before; where none was to be made, marking. A round
-/// that is refused tells no counts where its refusal is 12 or 13, and 13 tells that at some moment no epoch was left; it tells counts where that is 1 or 10, or 12 and it had done
-/// something, and they are sums as those of one that is done. Where no copy may be offered a turn deals with 16 objects at most. Sums are told in numerals too.
+/// What the book's lines are told, by what is asked and told alone: each is told one thing. Logs are told by number, from 0 on, or the one that is asked for, and each line of a
+/// log makes 4,096 bytes; one log is refused 8 exactly where the heap has none of its number. An audit tells how many cells said near and how many said far, each pointer counted
+/// once, and the live bytes of all logs, of one moment; it is refused 1 alone. A round is told `none` only where it was to choose none, or no log was sealed. It is told `done`
+/// only after a turn that found objects leaving, gave back all logs that the round had left, and left none running: its four counts are the sums of what its turns counted, or
+/// 2^64 - 1 where a sum is greater, and a log was given back. At its limit as many turns are told as were to be made, of which one may stand for several, with the phase in which
+/// the last one left the round, which found it there or in the phase before; where none was to be made, marking. A round that is refused tells no counts where its refusal is 12 or
+/// 13, and 13 tells that at some moment no epoch was left; it tells counts where that is 1 or 10, or 12 and it had done something, and they are sums as those of one that is done.
+/// Where no copy may be offered a turn deals with 16 objects at most. Sums are told in numerals too.
 pub fn book_is_told_so()
     ensures rounds { RoundsAreRefusedSo }
     ensures sums { SumsAreTold }
