@@ -113,8 +113,8 @@ pub record IsLeftIn (heap : HeapId) (phase : Phase) : Type 0 where
   pub left : later.phase ≡ phase
 
 -- at most so many turns were made of a round of some logs, and it was over with the last of them, which gave back all logs that the round had left, and counted them;
--- they counted so much together, and gave a log back at least.
--- Where no copy may be offered each of them dealt with 16 objects at most; so no more objects are told than 16 for each turn that was to be made
+-- they counted so much together, and gave a log back at least. Where no copy may be offered each of them dealt with 16 objects at most; so no more objects are told than
+-- 16 for each turn that was to be made
 pub record IsDoneBy (heap : HeapId) (turns : ℕ) (progress : Progress) : Type 0 where
   pub logs : List ℕ
   pub tallies : List Tally
