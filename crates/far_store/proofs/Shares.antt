@@ -7,7 +7,7 @@ use Rattle.std.specs.Fork.{GivesJobs}
 use Rattle.std.proofs.lemmas.Bool.{cases_lt}
 use Rattle.std.proofs.lemmas.List.{get_or-map, get_or_append_left, get_or_push, length-map}
 use Rattle.std.proofs.lemmas.List.Sums.{sum-map, sum_by_push}
-use Rattle.std.proofs.lemmas.Nat.{div-add-mod', div-mul-add, mod_below, mul-le}
+use Rattle.std.proofs.lemmas.Nat.{div-add-mod', div-mul-add, div_below, mod_below, mul-le}
 use native.Mathlib.Nat.{div-le_self, div-one}
 use Rattle.far_store.specs.Counting.{told}
 use Rattle.far_store.specs.Kept.{AreMade, IsMade, sum_over}
@@ -15,6 +15,7 @@ use Rattle.far_store.specs.Part.{AreEven, AreParts, IsEvenShare, IsPart, sharers
 use Rattle.far_store.specs.declared.asked.Asked.{Asked}
 use Rattle.far_store.specs.declared.desk.Told.{Told}
 use Rattle.far_store.specs.declared.layout.Part.{Part}
+use Rattle.far_store.proofs.Parts.{some_of}
 
 pub share_most : (left sharers : ℕ) → left / sharers ≤ left
 share_most left sharers = div-le_self left sharers
@@ -147,13 +148,35 @@ module _ {J : Type 0} (of : J → ℕ) (sharing q n left : ℕ) (jobs more : Lis
     none = λ at other lt past. at_each (λ k. k ≡ 0) at other lt (λ sooner. before.none at other sooner past) (λ here. share.none (omega (arith, here, past)));
   }
 
+-- those that share are those whose part has a record
+shares : (asked : Asked) (shard : ℕ) (part : Part) → IsPart asked shard part → shard < asked.mutators → 0 < part.count → shard < sharers asked
+shares asked shard part is one some = elim (cases_lt shard asked.records) [
+  | inl sooner ↦ omega (arith, one, sooner)
+  | inr past ↦
+      let none : (asked.records + (asked.mutators - 1 - shard)) / asked.mutators < 1 = div_below (asked.records + (asked.mutators - 1 - shard)) asked.mutators 1 (omega (arith, one)) (omega (arith, one, past)) in
+      absurd (omega (arith, some, is.count, none))
+]
+
+shares_not : (asked : Asked) (shard : ℕ) (part : Part) → IsPart asked shard part → shard < asked.mutators → part.count ≡ 0 → sharers asked ≤ shard
+shares_not asked shard part is one none = elim (cases_lt shard asked.records) [
+  | inl sooner ↦ absurd (omega (arith, none, is.count, some_of asked.records shard asked.mutators one sooner))
+  | inr past ↦ omega (arith, past)
+]
+
 -- once all have theirs none has two more than another
-pub all_even : {J : Type 0} (of : J → ℕ) (asked : Asked) (q n left : ℕ) (jobs : List J) → n ≡ asked.mutators → length jobs ≡ n → SharedOut (sharers asked) q n left jobs of → AreEven asked jobs of
-all_even of asked q n left jobs all long shared = record {
-  within_one = λ shard another other one two.
-      omega (arith, shared.most shard other (omega (arith, one, all)) one, shared.least another other (omega (arith, two, all)) two);
-  none = λ shard other past lt. shared.none shard other (omega (arith, lt, long)) past;
-}
+pub all_even : {J : Type 0} (part : J → Part) (of : J → ℕ) (asked : Asked) (q n left : ℕ) (jobs : List J) → n ≡ asked.mutators → AreParts asked n jobs part → SharedOut (sharers asked) q n left jobs of
+    → AreEven jobs part of
+all_even part of asked q n left jobs all parts shared =
+    let below : (at : ℕ) → at < length jobs → at < n = λ at lt. omega (arith, lt, parts.all) in
+    let own : (at : ℕ) → at < length jobs → at < asked.mutators = λ at lt. omega (arith, lt, parts.all, all) in
+    record {
+      within_one = λ job another other lt under some some_too.
+          let one = shares asked job (part (get_or jobs job other)) (parts.each job other (below job lt)) (own job lt) some in
+          let two = shares asked another (part (get_or jobs another other)) (parts.each another other (below another under)) (own another under) some_too in
+          omega (arith, shared.most job other (below job lt) one, shared.least another other (below another under) two);
+      none = λ job other lt none.
+          shared.none job other (below job lt) (shares_not asked job (part (get_or jobs job other)) (parts.each job other (below job lt)) (own job lt) none);
+    }
 
 -- ---- what was made
 -- a sum that can be told is told as it is

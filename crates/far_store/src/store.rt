@@ -115,7 +115,7 @@ fn jobs_of<K: HeapName, D: Device + Drop>(
     ensures parts { IfOk result (λ jobs. AreParts asked asked.mutators jobs.items (λ job. job.part)) }
     ensures records { IfOk result (λ jobs. sum_over jobs.items (λ job. job.part.count) ≡ asked.records) }
     ensures operations { IfOk result (λ jobs. sum_over jobs.items (λ job. job.operations) ≡ asked.operations) }
-    ensures even { IfOk result (λ jobs. AreEven asked jobs.items (λ job. job.operations)) }
+    ensures even { IfOk result (λ jobs. AreEven jobs.items (λ job. job.part) (λ job. job.operations)) }
 {
     let mut jobs = Vec::with_capacity(alloc, asked.mutators as usize)?;
     let mut left = asked.operations;
