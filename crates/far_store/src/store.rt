@@ -62,12 +62,11 @@ impl RunFault {
 const MOST_LOGS: usize = 4;
 
 // How many logs are kept free: as long as one alone is, no object comes near.
-fn kept_free(logs: u64) -> u64
-    requires { 8 ≤ logs }
+fn kept_free(asked: Asked) -> u64
     ensures least { 2 ≤ result }
-    ensures most { result + 2 ≤ logs }
+    ensures most { result + 2 ≤ asked.logs }
 {
-    logs / 16 + 2
+    asked.logs / 16 + 2
 }
 
 // How many of the operations that are left a shard makes: those from it on that have records share them out, each as many or one more.
@@ -218,7 +217,6 @@ fn beside<K: HeapName + Send + Sync, D: Device + Drop + Send, R: Threads + Wait 
 {
     let signs = Signs::new();
     let passed = &signs;
-    let free = kept_free(asked.logs);
     thread::scope(
         thread::scope_env(),
         rt,
@@ -227,6 +225,7 @@ fn beside<K: HeapName + Send + Sync, D: Device + Drop + Send, R: Threads + Wait 
             ensures made { IsMade (told (sum_over jobs.items (λ job. job.operations))) result }
         {
             let keeper = move || {
+                let free = kept_free(asked);
                 let kept = keep_free(rt, heap, &mut Oldest, free, MOST_LOGS, |last| {
                     passed.rest(rt, last.map(found))
                 });
