@@ -211,7 +211,9 @@ fn beside<K: HeapName + Send + Sync, D: Device + Drop + Send, R: Threads + Wait 
     jobs: Vec<Job<K, D>>,
     asked: Asked,
 ) -> Result<Told, RunFault>
-    requires { sum_over jobs.items (λ job. job.operations) ≡ asked.operations }
+    requires parts { AreParts asked asked.mutators jobs.items (λ job. job.part) }
+    requires operations { sum_over jobs.items (λ job. job.operations) ≡ asked.operations }
+    requires even { AreEven jobs.items (λ job. job.part) (λ job. job.operations) }
     ensures right { K.heap.honest ≡ true → IsRight result }
     ensures made { IsMade asked.operations result }
 {

@@ -8,4 +8,4 @@ pub returns-clause-made : goal.returns-clause-made
 returns-clause-made g c =
     let all : ℕ = sum_over c.args.jobs.items (λ job. job.operations) in
     let made : IsMade (told all) c.scoped.result = search rules in
-    made_told c.scoped.result all c.args.asked.operations c.requires (search rules) made
+    made_told c.scoped.result all c.args.asked.operations c.requires.operations (search rules) made
