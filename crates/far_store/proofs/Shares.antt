@@ -1,20 +1,21 @@
 -- Operations and records that are shared out, and added up again.
 use Rattle.std.proofs.Common.{◌≡◌, inl, inr, ℕ, ◌+◌, ◌-◌, ◌*◌, ◌/◌, ◌%◌, ◌^◌, ◌<◌, ◌≤◌, min, List, [], ◌∷◌, ◌++◌, length, length-append, get_or, Result, Ok, Err, sym, ap, subst, ◌∙◌, arith}
-use Rattle.std.specs.Prelude.{map, IfOk}
+use Rattle.std.specs.Prelude.{map, sum, take, IfOk}
 use denote.Param.Members.{Shared}
 use Rattle.std.specs.Fn.{FnReturns}
 use Rattle.std.specs.Fork.{GivesJobs}
 use Rattle.std.proofs.lemmas.Bool.{cases_lt}
-use Rattle.std.proofs.lemmas.List.{get_or-map, get_or_append_left, get_or_push, length-map}
-use Rattle.std.proofs.lemmas.List.Sums.{sum-map, sum_by_push}
-use Rattle.std.proofs.lemmas.Nat.{div-add-mod', div-mul-add, mod_below, mul-le}
+use Rattle.std.proofs.lemmas.List.{get_or-map, get_or_append_left, get_or_push, length-map, take_all}
+use Rattle.std.proofs.lemmas.List.Sums.{sum-map, sum_by_more, sum_by_push}
+use Rattle.std.proofs.lemmas.Nat.{div-add-mod', div-mul-add, div_below, mod_below, mul-le}
 use native.Mathlib.Nat.{div-le_self, div-one}
 use Rattle.far_store.specs.Counting.{told}
-use Rattle.far_store.specs.Kept.{AreMade, IsMade, sum_over}
+use Rattle.far_store.specs.Kept.{AreTold, sum_over}
 use Rattle.far_store.specs.Part.{AreEven, AreParts, IsEvenShare, IsPart, sharers}
 use Rattle.far_store.specs.declared.asked.Asked.{Asked}
 use Rattle.far_store.specs.declared.desk.Told.{Told}
 use Rattle.far_store.specs.declared.layout.Part.{Part}
+use Rattle.far_store.proofs.Parts.{some_of}
 
 pub share_most : (left sharers : ℕ) → left / sharers ≤ left
 share_most left sharers = div-le_self left sharers
@@ -147,37 +148,72 @@ module _ {J : Type 0} (of : J → ℕ) (sharing q n left : ℕ) (jobs more : Lis
     none = λ at other lt past. at_each (λ k. k ≡ 0) at other lt (λ sooner. before.none at other sooner past) (λ here. share.none (omega (arith, here, past)));
   }
 
+-- those that share are those whose part has a record
+shares : (asked : Asked) (shard : ℕ) (part : Part) → IsPart asked shard part → shard < asked.mutators → 0 < part.count → shard < sharers asked
+shares asked shard part is one some = elim (cases_lt shard asked.records) [
+  | inl sooner ↦ omega (arith, one, sooner)
+  | inr past ↦
+      let none : (asked.records + (asked.mutators - 1 - shard)) / asked.mutators < 1 = div_below (asked.records + (asked.mutators - 1 - shard)) asked.mutators 1 (omega (arith, one)) (omega (arith, one, past)) in
+      absurd (omega (arith, some, is.count, none))
+]
+
+shares_not : (asked : Asked) (shard : ℕ) (part : Part) → IsPart asked shard part → shard < asked.mutators → part.count ≡ 0 → sharers asked ≤ shard
+shares_not asked shard part is one none = elim (cases_lt shard asked.records) [
+  | inl sooner ↦ absurd (omega (arith, none, is.count, some_of asked.records shard asked.mutators one sooner))
+  | inr past ↦ omega (arith, past)
+]
+
 -- once all have theirs none has two more than another
-pub all_even : {J : Type 0} (of : J → ℕ) (asked : Asked) (q n left : ℕ) (jobs : List J) → n ≡ asked.mutators → length jobs ≡ n → SharedOut (sharers asked) q n left jobs of → AreEven asked jobs of
-all_even of asked q n left jobs all long shared = record {
-  within_one = λ shard another other one two.
-      omega (arith, shared.most shard other (omega (arith, one, all)) one, shared.least another other (omega (arith, two, all)) two);
-  none = λ shard other past lt. shared.none shard other (omega (arith, lt, long)) past;
-}
+pub all_even : {J : Type 0} (part : J → Part) (of : J → ℕ) (asked : Asked) (q n left : ℕ) (jobs : List J) → n ≡ asked.mutators → AreParts asked n jobs part → SharedOut (sharers asked) q n left jobs of
+    → AreEven jobs part of
+all_even part of asked q n left jobs all parts shared =
+    let below : (at : ℕ) → at < length jobs → at < n = λ at lt. omega (arith, lt, parts.all) in
+    let own : (at : ℕ) → at < length jobs → at < asked.mutators = λ at lt. omega (arith, lt, parts.all, all) in
+    record {
+      within_one = λ job another other lt under some some_too.
+          let one = shares asked job (part (get_or jobs job other)) (parts.each job other (below job lt)) (own job lt) some in
+          let two = shares asked another (part (get_or jobs another other)) (parts.each another other (below another under)) (own another under) some_too in
+          omega (arith, shared.most job other (below job lt) one, shared.least another other (below another under) two);
+      none = λ job other lt none.
+          shared.none job other (below job lt) (shares_not asked job (part (get_or jobs job other)) (parts.each job other (below job lt)) (own job lt) none);
+    }
 
--- ---- what was made
+-- ---- what was told
 -- a sum that can be told is told as it is
-pub made_told : {E : Type 0} (result : Result Told E) (due operations : ℕ) → due ≡ operations → operations < 2 ^ 64 → IsMade (told due) result → IsMade operations result
-made_told (Ok all) due operations same few made = omega (arith, same, few, made)
-made_told (Err why) due operations same few made = tt
+pub all_told : {E : Type 0} (of : Told → ℕ) (result : Result Told E) (due all : ℕ) → due ≡ all → all < 2 ^ 64 → IfOk result (λ found. of found ≡ told due) → IfOk result (λ found. of found ≡ all)
+all_told of (Ok found) due all same few is = omega (arith, same, few, is)
+all_told of (Err why) due all same few is = tt
 
--- each job was done by a call that made what it was to make
-made_by : {F J E : Type 0} (jobs : List J) (due : J → ℕ) (p : Shared F (J × Unit {0}) (Result Told E)) (f : F) (shards : List (Result Told E)) → length shards ≡ length jobs → GivesJobs p f jobs shards
-    → ((job : J) (shard : Result Told E) → FnReturns p f (job, tt) shard → IsMade (due job) shard) → AreMade (map due jobs) shards
-made_by jobs due p f shards many gives makes = record {
+-- the sum of what shards told, and of one more
+pub told_more : {E : Type 0} (of : Told → ℕ) (due : List ℕ) (shards : List (Result Told E)) (at : ℕ) (other : Result Told E) (found : Told) (all : ℕ) → at < length shards → get_or shards at other ≡ Ok found
+    → AreTold of due shards → all ≡ told (sum (take at due)) → told (all + of found) ≡ told (sum (take (at + 1) due))
+told_more of due shards at other found all lt is are sum_is =
+    let below : at < length due = omega (arith, lt, are.many) in
+    let own : of found ≡ get_or due at 0 = subst (λ r. IfOk r (λ one. of one ≡ get_or due at 0)) is (are.each at other below) in
+    let more : sum (take (at + 1) due) ≡ sum (take at due) + get_or due at 0 = sum_by_more (λ n. n) due at 0 below in
+    omega (arith, own, more, sum_is)
+
+-- of all
+pub told_whole : {E : Type 0} (of : Told → ℕ) (due : List ℕ) (shards : List (Result Told E)) (at all : ℕ) → length shards ≤ at → AreTold of due shards → all ≡ told (sum (take at due)) → all ≡ told (sum due)
+told_whole of due shards at all whole are sum_is = sum_is ∙ ap (λ xs. told (sum xs)) (take_all at due (omega (arith, whole, are.many)))
+
+-- each job was done by a call that told what it was to tell
+told_by : {F J E : Type 0} (of : Told → ℕ) (jobs : List J) (due : J → ℕ) (p : Shared F (J × Unit {0}) (Result Told E)) (f : F) (shards : List (Result Told E)) → length shards ≡ length jobs → GivesJobs p f jobs shards
+    → ((job : J) (shard : Result Told E) → FnReturns p f (job, tt) shard → IfOk shard (λ found. of found ≡ due job)) → AreTold of (map due jobs) shards
+told_by of jobs due p f shards many gives tells = record {
   many = many ∙ sym (length-map jobs due);
   each = λ at other lt.
       let below : at < length jobs = omega (arith, lt, length-map jobs due) in
       let gave = (gives at other below).1 in
       let own : get_or (map due jobs) at 0 ≡ due gave.job = get_or-map due jobs at gave.job 0 below ∙ ap due (gave.job_is gave.job) in
-      subst (λ n. IsMade n (get_or shards at other)) (sym own) (makes gave.job (get_or shards at other) gave.call);
+      subst (λ n. IfOk (get_or shards at other) (λ found. of found ≡ n)) (sym own) (tells gave.job (get_or shards at other) gave.call);
 }
 
-pub all_made_by : {F J E V A : Type 0} (jobs : List J) (result : Result V A) (items : V → List (Result Told E)) (many : V → ℕ) (count : ℕ) (due : J → ℕ) (p : Shared F (J × Unit {0}) (Result Told E)) (f : F)
+pub all_told_by : {F J E V A : Type 0} (of : Told → ℕ) (jobs : List J) (result : Result V A) (items : V → List (Result Told E)) (many : V → ℕ) (count : ℕ) (due : J → ℕ) (p : Shared F (J × Unit {0}) (Result Told E)) (f : F)
     → ((v : V) → many v ≡ length (items v)) → count ≡ length jobs → IfOk result (λ v. many v ≡ count) → IfOk result (λ v. GivesJobs p f jobs (items v))
-    → ((job : J) (shard : Result Told E) → FnReturns p f (job, tt) shard → IsMade (due job) shard) → IfOk result (λ v. AreMade (map due jobs) (items v))
-all_made_by jobs (Ok v) items many count due p f is all len gives makes = made_by jobs due p f (items v) (sym (is v) ∙ len ∙ all) gives makes
-all_made_by jobs (Err e) items many count due p f is all len gives makes = tt
+    → ((job : J) (shard : Result Told E) → FnReturns p f (job, tt) shard → IfOk shard (λ found. of found ≡ due job)) → IfOk result (λ v. AreTold of (map due jobs) (items v))
+all_told_by of jobs (Ok v) items many count due p f is all len gives tells = told_by of jobs due p f (items v) (sym (is v) ∙ len ∙ all) gives tells
+all_told_by of jobs (Err e) items many count due p f is all len gives tells = tt
 
 -- ---- records
 -- how many records the first n of so many shards have

@@ -46,11 +46,12 @@ IsBookOf heap e = (heap_of e.copying e.book.near ≡ heap) × IsLawful (moment s
 
 -- ---- what a step makes of a book of this heap that is in no round, and of the policy that chooses, at most so many logs: it leads from e to f
 module _ {P D : Type 0} (gives : P → List LogRow → ℕ → Result (List ℕ) Refused → P → Type 0) (heap : HeapId) (free most : ℕ) where
-  -- fewer logs are free. The policy was asked, and chose these: in f their round is begun, if they are any
+  -- fewer logs are free. The policy was asked, and chose these: in f their round is begun, if they are any. The device is as it was
   pub record LacksAndChooses (before : P) (logs : List ℕ) (after : P) (e f : EvacOf (BookSeat D) D) : Type 0 where
     pub idle : e.phase ≡ Idle
     pub few : free_in e < free
     pub chooses : Chooses gives heap before most after logs e f
+    pub device : f.book.device ≡ e.book.device
 
   -- or none was begun, since the epochs are spent, or by the policy's refusal: f is e
   pub record LacksInVain (before : P) (why : Refused) (after : P) (e f : EvacOf (BookSeat D) D) : Type 0 where

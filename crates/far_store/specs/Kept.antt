@@ -22,10 +22,20 @@ AreRight shards = All IsRight shards
 abbrev pub IsMade : {E : Type 0} → ℕ → Result Told E → Type 0
 IsMade due result = IfOk result (λ told. told.operations ≡ due)
 
--- so it is of each shard, which were to make so many each
-pub record AreMade {E : Type 0} (due : List ℕ) (shards : List (Result Told E)) : Type 0 where
+-- it read so many records at the end, beside what was put last, if all was done
+abbrev pub IsRead : {E : Type 0} → ℕ → Result Told E → Type 0
+IsRead due result = IfOk result (λ told. told.records ≡ due)
+
+-- so it is of a number that each shard told, which were to tell so many each
+pub record AreTold {E : Type 0} (of : Told → ℕ) (due : List ℕ) (shards : List (Result Told E)) : Type 0 where
   pub many : length shards ≡ length due
-  pub each : (at : ℕ) (other : Result Told E) → at < length due → IsMade (slice_index due at) (slice_index_or shards at other)
+  pub each : (at : ℕ) (other : Result Told E) → at < length due → IfOk (slice_index_or shards at other) (λ told. of told ≡ slice_index due at)
+
+abbrev pub AreMade : {E : Type 0} → List ℕ → List (Result Told E) → Type 0
+AreMade due shards = AreTold (λ (told : Told). told.operations) due shards
+
+abbrev pub AreRead : {E : Type 0} → List ℕ → List (Result Told E) → Type 0
+AreRead due shards = AreTold (λ (told : Told). told.records) due shards
 
 -- the sum of what each has
 abbrev pub sum_over : {X : Type 0} → List X → (X → ℕ) → ℕ

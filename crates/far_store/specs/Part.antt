@@ -44,8 +44,9 @@ pub record IsEvenShare (sharing shard left operations : ℕ) : Type 0 where
   pub least : shard < sharing → left < (operations + 1) * (sharing - shard)
   pub none : sharing ≤ shard → operations ≡ 0
 
--- of the shards that share none makes two operations more than another, and each other shard makes none
-pub record AreEven {J : Type 0} (asked : Asked) (jobs : List J) (operations : J → ℕ) : Type 0 where
-  pub within_one : (shard another : ℕ) (other : J) → shard < sharers asked → another < sharers asked
-      → operations (slice_index_or jobs shard other) ≤ operations (slice_index_or jobs another other) + 1
-  pub none : (shard : ℕ) (other : J) → sharers asked ≤ shard → shard < length jobs → operations (slice_index_or jobs shard other) ≡ 0
+-- of the jobs whose part has a record none makes two operations more than another, and each other job makes none
+pub record AreEven {J : Type 0} (jobs : List J) (part : J → Part) (operations : J → ℕ) : Type 0 where
+  pub within_one : (at another : ℕ) (other : J) → at < length jobs → another < length jobs
+      → 0 < (part (slice_index_or jobs at other)).count → 0 < (part (slice_index_or jobs another other)).count
+      → operations (slice_index_or jobs at other) ≤ operations (slice_index_or jobs another other) + 1
+  pub none : (at : ℕ) (other : J) → at < length jobs → (part (slice_index_or jobs at other)).count ≡ 0 → operations (slice_index_or jobs at other) ≡ 0

@@ -45,6 +45,8 @@ impl<K: HeapName, D: Device + Drop> Job<K, D> {
 /// What came of it.
 #[derive(Clone, Copy, Debug)]
 pub struct Told {
+    /// How many records were read at the end, each beside what was put into it last.
+    pub records: u64,
     /// How many records were read or written at random.
     pub operations: u64,
     /// How many records had other bytes than were put last, when they were read.
@@ -176,7 +178,8 @@ impl<K: HeapName, D: Device + Drop> Desk<K, D> {
         operations: u64,
     ) -> Result<u64, StoreFault>
         requires { 0 < operations → 0 < self.old.shard.part.count }
-        ensures { IfOk result (λ made. made ≡ operations) }
+        ensures part { self.new.shard.part ≡ self.old.shard.part }
+        ensures made { IfOk result (λ made. made ≡ operations) }
     {
         self.made = 0;
         for _ in 0..operations {
@@ -188,9 +191,12 @@ impl<K: HeapName, D: Device + Drop> Desk<K, D> {
         Ok(self.made)
     }
 
-    // Reads each record.
-    fn check_all<R: Wait>(&mut self, rt: &R, waiter: &Waiter<'_>) -> Result<(), StoreFault> {
+    // Reads each record, and counts that from 0 on.
+    fn check_all<R: Wait>(&mut self, rt: &R, waiter: &Waiter<'_>) -> Result<(), StoreFault>
+        ensures { OnOk result (self.new.made ≡ self.old.shard.part.count) }
+    {
         let count = self.shard.part().count;
+        self.made = 0;
         for at in 0..count {
             if let Err(why) = self.check(rt, waiter, at) {
                 return Err(why);
@@ -239,6 +245,7 @@ pub fn work<K: HeapName, D: Device + Drop, R: Wait>(
 ) -> Result<Told, StoreFault>
     ensures right { K.heap.honest ≡ true → IfOk result (λ told. told.wrong ≡ 0) }
     ensures made { IfOk result (λ told. told.operations ≡ job.operations) }
+    ensures records { IfOk result (λ told. told.records ≡ job.part.count) }
 {
     let mut random = Random::new(job.seed);
     let waiter = Waiter::new(signs);
@@ -257,6 +264,7 @@ pub fn work<K: HeapName, D: Device + Drop, R: Wait>(
         return Err(why);
     }
     Ok(Told {
+        records: desk.made,
         operations,
         wrong: desk.wrong,
         digest: desk.digest(),

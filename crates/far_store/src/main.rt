@@ -28,10 +28,10 @@ fn words(rt: &HostRuntime) -> io::Result<Vec<String>> {
 }
 
 // What came of it, and with `tells` what it took: whether all values were right.
-fn tell(rt: &impl Print, asked: Asked, told: &Told, tells: bool) -> io::Result<bool> {
+fn tell(rt: &impl Print, told: &Told, tells: bool) -> io::Result<bool> {
     println!(rt;
         "records {} operations {} wrong {}",
-        asked.records, told.operations, told.wrong
+        told.records, told.operations, told.wrong
     )?;
     if tells {
         println!(rt; "{}\ndigest {}", told.counts, told.digest)?;
@@ -39,12 +39,7 @@ fn tell(rt: &impl Print, asked: Asked, told: &Told, tells: bool) -> io::Result<b
     Ok(told.wrong == 0)
 }
 
-fn status(
-    rt: &(impl Print + Eprint),
-    asked: Asked,
-    ended: Result<Told, RunFault>,
-    tells: bool,
-) -> ExitCode {
+fn status(rt: &(impl Print + Eprint), ended: Result<Told, RunFault>, tells: bool) -> ExitCode {
     let told = match ended {
         Ok(told) => told,
         Err(fault) => {
@@ -52,7 +47,7 @@ fn status(
             return ExitCode::from(4);
         }
     };
-    match tell(rt, asked, &told, tells) {
+    match tell(rt, &told, tells) {
         Ok(true) => ExitCode::SUCCESS,
         _ => ExitCode::FAILURE,
     }
@@ -74,7 +69,7 @@ fn over_file<R: Files<File = File> + AllocGlobal + Print + Eprint + Threads + Wa
     };
     let _ = fs::remove_file(rt, name);
     let ended = over_storage(rt, rt.alloc(), file, asked);
-    status(rt, asked, ended, tells)
+    status(rt, ended, tells)
 }
 
 fn usage(rt: &impl Eprint) -> ExitCode {
@@ -109,7 +104,7 @@ fn main(rt: HostRuntime) -> ExitCode {
     match words.get(1) {
         Some(word) if word.as_str() == "memory" => {
             let ended = over_storage(&rt, rt.alloc(), MemStorage::new(rt.alloc()), asked);
-            status(&rt, asked, ended, tells)
+            status(&rt, ended, tells)
         }
         Some(word) => over_file(&rt, word.as_str(), asked, tells),
         None => usage(&rt),

@@ -1,6 +1,6 @@
 //! Room that another thread makes.
 
-ghost use Rattle.std.specs.Prelude.{◌≡◌, ◌≢◌, ◌++◌, List, true, false, IfOk, IfErr, OnErr};
+ghost use Rattle.std.specs.Prelude.{◌≡◌, ◌≢◌, ◌<◌, ◌≤◌, ◌++◌, List, true, false, IfOk, IfErr, OnErr};
 ghost use Rattle.far_evac.specs.Moment.{nothing, progress_of};
 ghost use Rattle.far_evac.specs.declared.answers.Progress.{Progress as progress};
 ghost use Rattle.far_evac.specs.declared.phase.Phase.TheVariants.{Idle};
@@ -183,7 +183,7 @@ fn counted(counts: Counts, made: Made) -> Counts
 /// free, and else does nothing. `until` is told what the last step did, and may sleep: by [`far_signs::Signs::rest`] until somebody was refused room, or
 /// took so much that it is to look. What its turns did is told, but for one that was refused in its midst: that is in the fault.
 ///
-/// `free` is 2 to the number of logs less 2, and `most` at least 1; with other numbers those who wait for room may wait for ever. Refused where
+/// `free` is at most the number of logs less 2; with a greater those who wait for room may wait for ever. Refused where
 /// [`Evacuator::select`] is, or [`Evacuator::turn`], by that with [`Refused::Memory`] or [`Refused::Device`], as one write was answered. The round that stands then goes on if the
 /// call is made again.
 pub fn keep_free<K: HeapName, D: Device + Drop, R: Wait, P: Policy, U: Fn(Option<Made>) -> bool>(
@@ -194,7 +194,9 @@ pub fn keep_free<K: HeapName, D: Device + Drop, R: Wait, P: Policy, U: Fn(Option
     most: usize,
     until: U,
 ) -> (Counts, Result<(), EvacFault>)
-    requires { U.IsAlwaysCallable until }
+    requires least { 2 ≤ free }
+    requires some { 0 < most }
+    requires callable { U.IsAlwaysCallable until }
     ensures { (steps : List made) × (last : P) × AreSteps P.gives D.writes D.lets_go D.contents K.heap free most policy.old steps last × EndsSteps P.gives D.writes D.lets_go D.contents K.heap free most last result.1 policy.new × (result.0 ≡ counts_of (turns_in steps)) × IfOk result.1 (λ _. U.post until (newest steps) true) }
 {
     let mut counts = Counts::none();

@@ -3,7 +3,7 @@
 ghost use Rattle.std.specs.Prelude.{◌≡◌, ◌≤◌, ◌<◌, ◌+◌, ℕ, min, true, List, map, sum, IfOk};
 ghost use Rattle.std.specs.Vec.{vec_len};
 ghost use Rattle.far_store.specs.Counting.{told};
-ghost use Rattle.far_store.specs.Kept.{AreMade, AreRight, IsMade, IsRight, sum_over};
+ghost use Rattle.far_store.specs.Kept.{AreMade, AreRead, AreRight, IsMade, IsRead, IsRight, sum_over};
 ghost use Rattle.far_store.specs.Part.{AreEven, AreParts, IsEvenShare, IsPart, sharers};
 
 use crate::asked::Asked;
@@ -62,12 +62,11 @@ impl RunFault {
 const MOST_LOGS: usize = 4;
 
 // How many logs are kept free: as long as one alone is, no object comes near.
-fn kept_free(logs: u64) -> u64
-    requires { 8 ≤ logs }
+fn kept_free(asked: Asked) -> u64
     ensures least { 2 ≤ result }
-    ensures most { result + 2 ≤ logs }
+    ensures most { result + 2 ≤ asked.logs }
 {
-    logs / 16 + 2
+    asked.logs / 16 + 2
 }
 
 // How many of the operations that are left a shard makes: those from it on that have records share them out, each as many or one more.
@@ -115,7 +114,7 @@ fn jobs_of<K: HeapName, D: Device + Drop>(
     ensures parts { IfOk result (λ jobs. AreParts asked asked.mutators jobs.items (λ job. job.part)) }
     ensures records { IfOk result (λ jobs. sum_over jobs.items (λ job. job.part.count) ≡ asked.records) }
     ensures operations { IfOk result (λ jobs. sum_over jobs.items (λ job. job.operations) ≡ asked.operations) }
-    ensures even { IfOk result (λ jobs. AreEven asked jobs.items (λ job. job.operations)) }
+    ensures even { IfOk result (λ jobs. AreEven jobs.items (λ job. job.part) (λ job. job.operations)) }
 {
     let mut jobs = Vec::with_capacity(alloc, asked.mutators as usize)?;
     let mut left = asked.operations;
@@ -127,12 +126,14 @@ fn jobs_of<K: HeapName, D: Device + Drop>(
     Ok(jobs)
 }
 
-// What all shards were told, if none was refused anything: as many operations as they were to make together.
+// What all shards were told, if none was refused anything: as many operations as they were to make together, and as many records as they have.
 fn sum_of(shards: &[Result<Told, StoreFault>]) -> Result<Told, StoreFault>
     ensures right { AreRight shards.now → IsRight result }
     ensures made { (due : List ℕ) → AreMade due shards.now → IsMade (told (sum due)) result }
+    ensures records { (due : List ℕ) → AreRead due shards.now → IsRead (told (sum due)) result }
 {
     let mut all = Told {
+        records: 0,
         operations: 0,
         wrong: 0,
         digest: 0,
@@ -142,6 +143,7 @@ fn sum_of(shards: &[Result<Told, StoreFault>]) -> Result<Told, StoreFault>
         match shard {
             Ok(told) => {
                 all = Told {
+                    records: all.records.saturating_add(told.records),
                     operations: all.operations.saturating_add(told.operations),
                     wrong: all.wrong.saturating_add(told.wrong),
                     digest: all.digest.wrapping_add(told.digest),
@@ -162,6 +164,7 @@ fn ended(
 ) -> Result<Told, RunFault>
     ensures right { IfOk worked (λ shards. AreRight shards.items) → IsRight result }
     ensures made { (due : List ℕ) → IfOk worked (λ shards. AreMade due shards.items) → IsMade (told (sum due)) result }
+    ensures records { (due : List ℕ) → IfOk worked (λ shards. AreRead due shards.items) → IsRead (told (sum due)) result }
 {
     if let Err(fault) = kept {
         return Err(RunFault::Round(fault));
@@ -187,10 +190,12 @@ fn work_all<K: HeapName + Send + Sync, D: Device + Drop + Send, R: Threads + Wai
 ) -> Result<Vec<Result<Told, StoreFault>>, AllocError>
     ensures right { K.heap.honest ≡ true → IfOk result (λ shards. AreRight shards.items) }
     ensures made { IfOk result (λ shards. AreMade (map (λ job. job.operations) jobs.items) shards.items) }
+    ensures records { IfOk result (λ shards. AreRead (map (λ job. job.part.count) jobs.items) shards.items) }
 {
     let each = |job: Job<K, D>| -> Result<Told, StoreFault>
         ensures right { K.heap.honest ≡ true → IsRight result }
         ensures made { IsMade job.operations result }
+        ensures records { IsRead job.part.count result }
     { work(rt, alloc, signs, job) };
     thread::map_vec(rt, jobs, &each)
 }
@@ -212,21 +217,26 @@ fn beside<K: HeapName + Send + Sync, D: Device + Drop + Send, R: Threads + Wait 
     jobs: Vec<Job<K, D>>,
     asked: Asked,
 ) -> Result<Told, RunFault>
-    requires { sum_over jobs.items (λ job. job.operations) ≡ asked.operations }
+    requires parts { AreParts asked asked.mutators jobs.items (λ job. job.part) }
+    requires records { sum_over jobs.items (λ job. job.part.count) ≡ asked.records }
+    requires operations { sum_over jobs.items (λ job. job.operations) ≡ asked.operations }
+    requires even { AreEven jobs.items (λ job. job.part) (λ job. job.operations) }
     ensures right { K.heap.honest ≡ true → IsRight result }
     ensures made { IsMade asked.operations result }
+    ensures records { IsRead asked.records result }
 {
     let signs = Signs::new();
     let passed = &signs;
-    let free = kept_free(asked.logs);
     thread::scope(
         thread::scope_env(),
         rt,
         |scope| -> Result<Told, RunFault>
             ensures right { K.heap.honest ≡ true → IsRight result }
             ensures made { IsMade (told (sum_over jobs.items (λ job. job.operations))) result }
+            ensures records { IsRead (told (sum_over jobs.items (λ job. job.part.count))) result }
         {
             let keeper = move || {
+                let free = kept_free(asked);
                 let kept = keep_free(rt, heap, &mut Oldest, free, MOST_LOGS, |last| {
                     passed.rest(rt, last.map(found))
                 });
@@ -254,6 +264,7 @@ fn begun<K: HeapName + Send + Sync, D: Device + Drop + Send, R: Threads + Wait +
     requires many { blank.heap.mutators ≡ asked.mutators }
     ensures right { K.heap.honest ≡ true → IsRight result }
     ensures made { IsMade asked.operations result }
+    ensures records { IsRead asked.records result }
 {
     let (heap, mutators) = match Heap::<K, D>::new(alloc, blank) {
         Ok(made) => made,
@@ -265,8 +276,8 @@ fn begun<K: HeapName + Send + Sync, D: Device + Drop + Send, R: Threads + Wait +
     beside(rt, alloc, &heap, jobs, asked)
 }
 
-/// Does a store's work over a device: as many operations as are asked for, and how many records had other bytes than were put last, when they were read. If the
-/// device is honest none had.
+/// Does a store's work over a device: as many records and operations as are asked for, and how many records had other bytes than were put last, when they were
+/// read. If the device is honest none had.
 pub fn over<D: Device + Drop + Send, R: Threads + Wait + Sync>(
     rt: &R,
     alloc: Global,
@@ -275,6 +286,7 @@ pub fn over<D: Device + Drop + Send, R: Threads + Wait + Sync>(
 ) -> Result<Told, RunFault>
     ensures right { D.honest device ≡ true → IsRight result }
     ensures made { IsMade asked.operations result }
+    ensures records { IsRead asked.records result }
 {
     let shape = Shape {
         logs: asked.logs,
@@ -291,6 +303,7 @@ pub fn over<D: Device + Drop + Send, R: Threads + Wait + Sync>(
 fn with_reason(ended: Result<Told, RunFault>, last: &LastFault) -> Result<Told, RunFault>
     ensures right { IsRight ended → IsRight result }
     ensures made { (due : ℕ) → IsMade due ended → IsMade due result }
+    ensures records { (due : ℕ) → IsRead due ended → IsRead due result }
 {
     if let Err(fault) = ended {
         if fault.is_of_device() {
@@ -311,6 +324,7 @@ pub fn over_storage<F: Storage + Drop + Send, R: Threads + Wait + Sync>(
 ) -> Result<Told, RunFault>
     ensures right { F.Storage.honest storage ≡ true → IsRight result }
     ensures made { IsMade asked.operations result }
+    ensures records { IsRead asked.records result }
 {
     let mut device = FileDevice::<F>::new(alloc, storage);
     let Ok(last) = device.last_fault() else {

@@ -19,6 +19,7 @@ returns-in-Ok-clause-made g c =
       few = subst (λ (n : ℕ). n < c.args.free) c.free_logs.ensures c.if-free_logs-free.false;
       chooses = subst (λ (logs : List ℕ). Chooses g.P.Policy.gives g.K.HeapName.heap c.args.policy.now c.args.most c.select.new.policy logs c.args.book.now c.select.new.self)
           (none_of c.in-Ok.chosen (sym c.is_empty.ensures ∙ c.if-is_empty.true)) chooses;
+      device = s.device;
     }
 
 pub returns-in-Ok-2-clause-made : goal.returns-in-Ok-2-clause-made
@@ -29,7 +30,7 @@ returns-in-Ok-2-clause-made g c =
     s.gives s.chosen in (
       c.in-Ok.chosen,
       λ none. false≢true (sym c.if-is_empty.false ∙ c.is_empty.ensures ∙ ap (λ xs. nat_eq (length xs) 0) none),
-      record { idle = c.requires; few = subst (λ (n : ℕ). n < c.args.free) c.free_logs.ensures c.if-free_logs-free.false; chooses = chooses },
+      record { idle = c.requires; few = subst (λ (n : ℕ). n < c.args.free) c.free_logs.ensures c.if-free_logs-free.false; chooses = chooses; device = s.device },
     )
 
 pub returns-in-Err-clause-refused : goal.returns-in-Err-clause-refused

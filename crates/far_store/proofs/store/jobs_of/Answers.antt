@@ -50,4 +50,4 @@ returns-clause-records g c =
 pub returns-clause-even : goal.returns-clause-even
 returns-clause-even g c =
     let i = c.loop-shard.invariant in
-    all_even (λ job. job.operations) c.args.asked (c.args.asked.operations / sharers c.args.asked) c.loop-shard.shard c.loop-shard.left c.loop-shard.jobs.items (omega arith) i.parts.all i.even
+    all_even (λ job. job.part) (λ job. job.operations) c.args.asked (c.args.asked.operations / sharers c.args.asked) c.loop-shard.shard c.loop-shard.left c.loop-shard.jobs.items (omega arith) i.parts i.even

@@ -1,0 +1,29 @@
+use Rattle.std.proofs.Common.{◌<◌, ◌≤◌, arith, length, rules}
+use Rattle.far_store.specs.declared.desk.Told.{Told}
+use Rattle.far_store.proofs.Shares.{told_more, told_whole}
+use Rattle.far_store.proofs.store.sum_of.Goals as goal
+
+pub loop-shard-preserved : goal.loop-shard-preserved
+loop-shard-preserved c =
+    let i = c.loop-shard.invariant in
+    let shards = c.args.shards.now in
+    let lt : c.loop-shard.shard-index < length shards = omega arith in
+    record {
+      right = search rules;
+      made = λ due are.
+          let more = told_more (λ (told : Told). told.operations) due shards c.loop-shard.shard-index _ c.in-Ok.told c.loop-shard.all.operations lt c.in-Ok.is are (i.made due are) in
+          omega (arith, more, c.saturating_add-in-Ok.ensures);
+      records = λ due are.
+          let more = told_more (λ (told : Told). told.records) due shards c.loop-shard.shard-index _ c.in-Ok.told c.loop-shard.all.records lt c.in-Ok.is are (i.records due are) in
+          omega (arith, more, c.saturating_add.ensures);
+    }
+
+pub returns-clause-made : goal.returns-clause-made
+returns-clause-made c =
+    let whole : length c.args.shards.now ≤ c.loop-shard.shard-index = omega arith in
+    λ due are. told_whole (λ (told : Told). told.operations) due c.args.shards.now c.loop-shard.shard-index c.loop-shard.all.operations whole are (c.loop-shard.invariant.made due are)
+
+pub returns-clause-records : goal.returns-clause-records
+returns-clause-records c =
+    let whole : length c.args.shards.now ≤ c.loop-shard.shard-index = omega arith in
+    λ due are. told_whole (λ (told : Told). told.records) due c.args.shards.now c.loop-shard.shard-index c.loop-shard.all.records whole are (c.loop-shard.invariant.records due are)
