@@ -1,5 +1,5 @@
 -- An owner whose object came into view and was soiled.
-use Rattle.std.proofs.Common.{◌≡◌, ℕ, true, Option, None, Some, refl, sym, subst}
+use Rattle.std.proofs.Common.{◌≡◌, ℕ, true, Option, Some, refl, sym, subst}
 use Rattle.std.specs.Prelude.{IsSome}
 use Rattle.far_word.specs.declared.pointer.Place.{Place}
 use Rattle.far_core.proofs.Put.{put_same}

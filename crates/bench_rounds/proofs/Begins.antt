@@ -1,5 +1,5 @@
 -- A new core is at the start, and what follows from where an object was found.
-use Rattle.std.proofs.Common.{◌≡◌, ℕ, Bool, true, false, sym, refl, ap, subst, ◌∙◌, Option, Some, None, ◌/◌}
+use Rattle.std.proofs.Common.{◌≡◌, ℕ, Bool, true, sym, refl, ap, subst, ◌∙◌, Option, Some, None, ◌/◌}
 use Rattle.far_book.specs.book.Fetching.{IsFar}
 use Rattle.far_book.specs.book.Home.{home_of}
 use Rattle.far_book.specs.book.Own.{IsAtStart}

@@ -1,5 +1,5 @@
 -- What calls leave of a device, one after another.
-use Rattle.std.proofs.Common.{◌≡◌, ◌≢◌, ◌∙◌, ℕ, suc, Bool, true, false, List, Option, refl, subst}
+use Rattle.std.proofs.Common.{◌∙◌, ℕ, suc, Bool, true, false, List, Option, refl, subst}
 use Rattle.far_device.specs.Faults.{CountsFault, SpendsFault}
 use Rattle.far_device.specs.Following.{Follows, any_key}
 

@@ -27,7 +27,7 @@ use Rattle.far_core.specs.events.Finish.{after_finish}
 use Rattle.far_core.specs.events.Offer.{after_offer}
 use Rattle.far_core.specs.events.Legal.{Legal}
 use Rattle.far_core.specs.events.Name.{after_naming}
-use Rattle.far_core.specs.events.Naming.{IsNaming, naming_of, naming_row, no_marks, unmarked}
+use Rattle.far_core.specs.events.Naming.{IsNaming, naming_of, naming_row, no_marks}
 use Rattle.far_core.specs.events.namings.Moves.{MayMove, after_move}
 use Rattle.far_core.specs.events.NewSpans.{IsNext, with_span}
 use Rattle.far_core.specs.events.Ranges.{after_events}

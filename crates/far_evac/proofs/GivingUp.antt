@@ -1,12 +1,12 @@
 -- A round is given up: what of its jobs is taken back first, and then the live objects of the collection set lose EVAC.
-use Rattle.std.proofs.Common.{◌≡◌, Bool, true, false, List, [], ℕ, ap, sym, refl, ◌∙◌, subst}
+use Rattle.std.proofs.Common.{◌≡◌, true, false, List, [], ℕ, ap, ◌∙◌, subst}
 use Rattle.std.specs.Prelude.{fold}
 use Rattle.far_word.specs.declared.sizes.TheConstants.{JOBS}
 use Rattle.far_core.specs.state.State.{State}
 use Rattle.far_book.specs.book.Collecting.{TakesBack}
 use Rattle.far_evac.specs.declared.phase.Phase.TheVariants.{Idle}
-use Rattle.far_evac.specs.AnyHand.{GivesUp, Knows, KnowsMoment}
-use Rattle.far_evac.specs.ByCopying.{GivesUpBeside, GivesUpBy}
+use Rattle.far_evac.specs.AnyHand.{GivesUp, Knows}
+use Rattle.far_evac.specs.ByCopying.{GivesUpBy}
 use Rattle.far_evac.specs.Choosing.{after_aborting}
 use Rattle.far_evac.specs.EvacOf.{EvacOf, SameRound, moment}
 use Rattle.far_evac.specs.Live.{live_among}

@@ -15,7 +15,7 @@ use Rattle.far_core.specs.state.State.{State}
 use Rattle.far_core.proofs.Copied.{NoCopy}
 use Rattle.far_core.proofs.Put.{put_same}
 use Rattle.far_hand.specs.Finds.{Finds, marks_in}
-use Rattle.far_book.specs.book.Dealing.{IsRetired, IsSeen, Leaves, goal, has_evac, moved_now, order_moved, MovedBy}
+use Rattle.far_book.specs.book.Dealing.{IsRetired, IsSeen, goal, has_evac, moved_now, order_moved, MovedBy}
 use Rattle.far_hand.specs.Quiet.{IsQuietNear}
 use Rattle.far_book.specs.book.Effects.{evicted, moved, order_after, stayed, with_free_cell}
 use Rattle.far_book.specs.book.Evicting.{GoesFar}

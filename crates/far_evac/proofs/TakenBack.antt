@@ -13,7 +13,7 @@ use Rattle.far_core.proofs.KeepJobs.{unworded}
 use Rattle.far_core.proofs.Put.{put_both}
 use Rattle.far_hand.specs.FindsJob.{FindsJob}
 use Rattle.far_hand.proofs.JobsFound.{same_job}
-use Rattle.far_book.specs.book.Collecting.{BackKnown, GoesBack, TakesBack, taken_back}
+use Rattle.far_book.specs.book.Collecting.{BackKnown, TakesBack, taken_back}
 use Rattle.far_evac.specs.declared.round.Round.{Round}
 use Rattle.far_evac.specs.Standing.{IsSound}
 use Rattle.far_evac.specs.StillCopies.{StillCopies}

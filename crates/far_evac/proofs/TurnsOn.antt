@@ -1,5 +1,5 @@
 -- One turn more: its chain over any hand with what was asked, and the function where no word changes.
-use Rattle.std.proofs.Common.{◌≡◌, ◌≢◌, ℕ, zero, suc, ◌+◌, ◌-◌, ◌<◌, ◌≤◌, Bool, true, false, cond, Option, List, [], ◌∷◌, length, drop, arith, ap, sym, refl, ◌∙◌, subst}
+use Rattle.std.proofs.Common.{◌≡◌, ◌≢◌, ℕ, zero, suc, ◌+◌, ◌-◌, ◌<◌, ◌≤◌, Bool, true, false, cond, Option, List, [], ◌∷◌, length, arith, ap, sym, refl, ◌∙◌, subst}
 use Rattle.far_evac.proofs.LiveOnce.{one_more}
 use Rattle.std.proofs.lemmas.Bool.{false≢true, true≢false}
 use Rattle.std.specs.Prelude.{Result}
@@ -12,7 +12,6 @@ use Rattle.far_evac.specs.declared.phase.Phase.TheVariants.{Evacuating, Idle, Ma
 use Rattle.far_evac.specs.AnyTurns.{AsksInTurn, TurnsMade, TurnsTo, sum_of}
 use Rattle.far_evac.specs.Asked.{KeepsKeys, first_live}
 use Rattle.far_evac.specs.ByCopying.{RefusesBy, StopsBy}
-use Rattle.far_evac.specs.Live.{live_among}
 use Rattle.far_evac.specs.Moment.{Moment, Tally, nothing, objects_in, plus, progress_of}
 use Rattle.far_evac.specs.MomentLaw.{IsLawful, is_idle}
 use Rattle.far_evac.specs.RoundAsked.{EndsAsking, StopsAsking, TurnsAsking}

@@ -5,7 +5,7 @@ use Rattle.std.proofs.lemmas.Bool.{cases_lt}
 use Rattle.std.proofs.lemmas.Grind.{get_or-set_at}
 use Rattle.std.proofs.lemmas.List.{get_or-set_other}
 use Rattle.std.proofs.lemmas.List.Elements.{All-contains, All-head, All-map, All-push, All-tail}
-use Rattle.far_word.specs.Header.{IsHeadOf, head_of_v1, head_word, log_words, version_of, word_by}
+use Rattle.far_word.specs.Header.{IsHeadOf, head_of_v1, head_word, log_words, version_of}
 use Rattle.far_word.specs.Mark.{field}
 use Rattle.far_word.specs.Sizes.{size_of, words_for}
 use Rattle.far_word.specs.declared.header.HeadWordV1.{HeadWordV1}

@@ -1,6 +1,6 @@
 -- What one read of a heap's far side gave, and what its calls leave of the flaw that is to come.
-use Rattle.std.proofs.Common.{◌≡◌, ◌≢◌, ℕ, zero, suc, ◌-◌, ◌==◌, ◌⊎◌, inl, inr, Bool, true, false, cond, arith, sym, refl, ap, subst, ◌∙◌, Option, Some, None, List, Result, Ok, Err}
-use Rattle.std.proofs.lemmas.Bool.{cases_eq, eqb-true}
+use Rattle.std.proofs.Common.{◌≡◌, ◌≢◌, ℕ, zero, suc, ◌-◌, ◌==◌, Bool, true, false, cond, arith, sym, refl, ap, subst, ◌∙◌, Option, Some, None, List, Result, Ok, Err}
+use Rattle.std.proofs.lemmas.Bool.{eqb-true}
 use Rattle.far_device.specs.FailAt.{Counts, IsFailed, IsPassedOn, MayFail}
 use Rattle.far_device.specs.Liar.{lied, told}
 use Rattle.far_device.specs.Mem.{bytes_at, MemLetsGo, MemReads, MemWrites}

@@ -11,7 +11,7 @@ use Rattle.far_core.specs.world.WorldOf.{world_of}
 use Rattle.far_core.proofs.Leaving.{events_leave}
 use Rattle.far_replay.specs.Moment.{Moment, moment_of, as_if_stored}
 use Rattle.far_replay.specs.Alone.{IsIn, Own, Knows, Alone, Learns, own_of, is_by, speaker, KnowsBy}
-use Rattle.far_replay.specs.Answers.{Answered, Commanded, Served, Stopped, Unbrought, IsMoment, AnsweredBy, CommandedBy, Outside, Serves, Refuses, Gives, Lacks}
+use Rattle.far_replay.specs.Answers.{Answered, Commanded, Served, Stopped, Unbrought, IsMoment, CommandedBy, Outside, Serves, Refuses, Gives, Lacks}
 use Rattle.far_replay.specs.Commanded.{KeepsFar, AsksFor, Misled}
 use Rattle.far_replay.specs.Objects.{object_len}
 use Rattle.far_evac.specs.declared.answers.RoundEnd.TheVariants.{Limit}
@@ -34,7 +34,6 @@ use Rattle.far_replay_laws.proofs.AloneTurns.{Teaches, Turns, turns_open, turns_
 use Rattle.far_replay_laws.proofs.Refusals.{of_far}
 use Rattle.far_replay_laws.proofs.AloneLies.{misled_tells}
 use Rattle.far_replay_laws.proofs.Misleading.{by_asked, misled_allowed, misled_uses}
-use Rattle.far_replay_laws.specs.FromOutside.{lies}
 
 -- ---- no event changes how many mutators there are
 step_mutators : (s : State) (e : Event) → (step_of s e).0.mutators ≡ s.mutators

@@ -1,22 +1,16 @@
 -- A command that was given its object's own bytes tells its mutator what it does without a device.
-use Rattle.std.proofs.Common.{◌≡◌, ◌≢◌, ◌⊎◌, ℕ, zero, suc, ◌/◌, ◌<◌, Bool, true, false, nat_eq, Option, Some, None, List, [], ◌∷◌, length, inl, inr, ap, sym, refl, ◌∙◌, subst}
+use Rattle.std.proofs.Common.{◌≡◌, ℕ, suc, ◌/◌, ◌<◌, true, nat_eq, Option, Some, None, List, [], ◌∷◌, length, inl, inr, ap, sym, ◌∙◌, subst}
 use Rattle.std.specs.Bool.{MatchBool}
-use Rattle.std.proofs.lemmas.Bool.{and_parts, cases_eq, not-true}
+use Rattle.std.proofs.lemmas.Bool.{and_parts, cases_eq}
 use Rattle.far_word.specs.Bytes.{bytes_of}
-use Rattle.far_word.specs.declared.pointer.PtrWord.TheVariants.{Far, Free}
 use Rattle.far_word.specs.declared.sizes.TheConstants.{CELLS}
-use Rattle.far_word.specs.Pointer.{read_of}
-use Rattle.far_word.proofs.ByteLaws.{length-bytes_of}
-use Rattle.far_core.specs.state.Law.{in_use}
-use Rattle.far_core.specs.state.State.{State, put}
 use Rattle.far_core.specs.world.WorldOf.{world_of}
-use Rattle.far_core.proofs.Cells.{unused}
 use Rattle.far_core.proofs.Put.{put_old}
 use Rattle.far_text.specs.Command.{Command}
 use Rattle.far_text.specs.Written.{AllWriteBytes, WritesBytes}
-use Rattle.far_replay.specs.Alone.{Alone, Knows, Own, bytes_in_world, is_by, own_of, speaker}
+use Rattle.far_replay.specs.Alone.{Alone, Knows, Own, is_by, own_of, speaker}
 use Rattle.far_replay.specs.Answers.{AnsweredBy, CommandedBy, Outside, Serves, Refuses, Gives, Lacks}
-use Rattle.far_replay.specs.Commanded.{AsksFor, LiesFar, Misled}
+use Rattle.far_replay.specs.Commanded.{AsksFor, Misled}
 use Rattle.far_replay.specs.Moment.{Moment, as_if_stored}
 use Rattle.far_replay.specs.Objects.{uses}
 use Rattle.far_reply.specs.Reply.{Reply}

@@ -1,7 +1,7 @@
 -- What a device holds stays by a command of a mutator that is given no other words: each object that it is to hold afterwards it was to hold before, and its bytes are the same.
-use Rattle.std.proofs.Common.{◌≡◌, ◌≢◌, ℕ, ◌/◌, ◌<◌, Bool, true, false, not, nat_lt, nat_eq, arith, cond, sym, refl, ap, subst, ◌∙◌, is_some, Option, Some, None, List, [], ◌∷◌, length, replicate, inl, inr}
+use Rattle.std.proofs.Common.{◌≡◌, ◌≢◌, ℕ, ◌/◌, ◌<◌, Bool, true, false, not, nat_lt, arith, cond, sym, refl, ap, subst, ◌∙◌, is_some, Option, Some, None, List, [], ◌∷◌, replicate, inl, inr}
 use Rattle.std.specs.Bool.{MatchBool}
-use Rattle.std.proofs.lemmas.Bool.{cases_eq, eq-eqb, false≢true, ltb-true}
+use Rattle.std.proofs.lemmas.Bool.{cases_eq, false≢true, ltb-true}
 use Rattle.far_word.specs.declared.pointer.PtrWord.{PtrWord}
 use Rattle.far_word.specs.declared.pointer.PtrWord.TheVariants.{Free, Near, Far}
 use Rattle.far_word.specs.declared.refused.Refused.{Refused as Refusal}
@@ -11,7 +11,6 @@ use Rattle.far_word.specs.Pointer.{read_of}
 use Rattle.far_book.specs.book.FarSide.{kept_len}
 use Rattle.far_core.specs.state.Law.{Law, is_dirty}
 use Rattle.far_core.specs.state.State.{State, put}
-use Rattle.far_core.specs.world.World.{World}
 use Rattle.far_core.specs.world.WorldOf.{object_of, world_of}
 use Rattle.far_core.proofs.Cells.{unused}
 use Rattle.far_core.proofs.Put.{put_other, put_same}
@@ -19,7 +18,7 @@ use Rattle.far_text.specs.Command.{Command, New, Open, Write, Read, Close, Where
 use Rattle.far_text.specs.Written.{WritesBytes}
 use Rattle.far_reply.specs.Reply.{Reply, Done, Pointer, Data, Lies, EpochRead, Refused}
 use Rattle.far_replay.specs.Alone.{Knows, Own, bytes_in_world, is_by, own_of, speaker}
-use Rattle.far_replay.specs.Answers.{Commanded, CommandedBy, IsMoment, Outside, Serves, Refuses, Gives, Lacks, Served}
+use Rattle.far_replay.specs.Answers.{CommandedBy, IsMoment, Outside, Serves, Refuses, Gives, Lacks, Served}
 use Rattle.far_replay.specs.Effects.{without_object}
 use Rattle.far_replay.specs.Events.{IsNoStep}
 use Rattle.far_replay.specs.Far.{FarBytes, HoldsBy}
@@ -29,9 +28,9 @@ use Rattle.far_replay.specs.Turn.{first_cause, refusal, refused_effect, turn_eff
 use Rattle.far_replay.proofs.AloneStates.{object_used}
 use Rattle.far_replay.proofs.Drops.{drop_is, unheld_is}
 use Rattle.far_replay.proofs.Lasting.{moment_lasts, next_is_moment}
-use Rattle.far_replay_laws.specs.LeftBeside.{AllButObject, AllButScope, LeavesBeside}
+use Rattle.far_replay_laws.specs.LeftBeside.{LeavesBeside}
 use Rattle.far_replay_laws.specs.LeftMarks.{GainsDirty, GainsForRoom, GainsHot, LeavesHot, LeavesMarks, LeavesWritten, OthersStay, RefusedLeaves, TryLeaves}
-use Rattle.far_replay_laws.specs.Lying.{IsKept, KeepsHeld, bytes_in}
+use Rattle.far_replay_laws.specs.Lying.{KeepsHeld, bytes_in}
 use Rattle.far_replay_laws.proofs.AloneLaw.{GivesNone, next_mutators, taught_by}
 use Rattle.far_replay_laws.proofs.GivenBytes.{own_object}
 use Rattle.far_replay_laws.proofs.LeavingMarks.{commands_leave}

@@ -1,5 +1,5 @@
 -- Steps of the evacuator keep what the device is to hold.
-use Rattle.std.proofs.Common.{◌≡◌, ◌≢◌, ◌⊎◌, ℕ, Bool, true, false, cond, Option, Some, None, List, [], ◌∷◌, length, inl, inr, ap, sym, refl, ◌∙◌, subst}
+use Rattle.std.proofs.Common.{◌≡◌, ◌≢◌, ◌⊎◌, ℕ, true, false, cond, Option, Some, None, List, length, inl, inr, ap, sym, refl, ◌∙◌, subst}
 use Rattle.std.proofs.lemmas.Bool.{false≢true, not-true}
 use Rattle.far_word.specs.declared.mark.Marks.{Marks}
 use Rattle.far_word.specs.declared.pointer.PtrWord.{PtrWord}
@@ -13,16 +13,16 @@ use Rattle.far_core.specs.state.State.{State}
 use Rattle.far_core.specs.world.World.{Object}
 use Rattle.far_core.specs.world.WorldOf.{world_of}
 use Rattle.far_core.proofs.Cells.{unused}
-use Rattle.far_text.specs.Command.{Command, Evacuator, Step, Select, Mark, Wait, Evacuate, Abort, Round}
+use Rattle.far_text.specs.Command.{Evacuator, Step, Mark, Evacuate, Abort, Round}
 use Rattle.far_replay.specs.Alone.{bytes_in_world}
 use Rattle.far_replay.specs.Answers.{Commanded, IsMoment}
 use Rattle.far_replay.specs.Commanded.{LiesFar}
 use Rattle.far_replay.specs.Far.{FarBytes, HoldsBy, WentFar}
 use Rattle.far_replay.specs.Moment.{Moment}
 use Rattle.far_reply.specs.Reply.{Reply, Done, Marked}
-use Rattle.far_replay.proofs.Lasting.{Lasts, moment_lasts, next_is_moment}
-use Rattle.far_replay_laws.specs.Left.{AllStayPut, CellBy, IsAnywhere, LeavesRest, MarksBy}
-use Rattle.far_replay_laws.specs.Lying.{IsKept, KeepsHeld, bytes_in}
+use Rattle.far_replay.proofs.Lasting.{Lasts}
+use Rattle.far_replay_laws.specs.Left.{AllStayPut, CellBy, IsAnywhere, MarksBy}
+use Rattle.far_replay_laws.specs.Lying.{KeepsHeld, bytes_in}
 use Rattle.far_replay_laws.proofs.GivenBytes.{same_bytes}
 use Rattle.far_replay_laws.proofs.LeftBySteps.{steps_left}
 

@@ -3,7 +3,7 @@ use Rattle.std.proofs.Common.{◌≡◌, ◌≢◌, ◌∙◌, refl, subst, sym}
 use Rattle.far_word.specs.declared.refused.Refused.{Refused as Refusal}
 use Rattle.far_word.specs.declared.refused.Refused.TheVariants.{Memory}
 use Rattle.far_evac.specs.declared.answers.Progress.{Progress}
-use Rattle.far_text.specs.Command.{Command, Evacuator, Evacuate, Round}
+use Rattle.far_text.specs.Command.{Command, Evacuate, Round}
 use Rattle.far_replay.specs.Answers.{Commanded, IsMoment, Refuses}
 use Rattle.far_replay.specs.Commanded.{KeepsFar}
 use Rattle.far_replay.specs.Moment.{Moment, as_if_stored}

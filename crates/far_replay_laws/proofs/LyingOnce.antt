@@ -1,15 +1,12 @@
 -- A device that inverts one read lies once, and gives the true bytes at most once later.
-use Rattle.std.proofs.Common.{◌≡◌, ◌≢◌, ◌⊎◌, ◌≤◌, ℕ, zero, suc, Bool, true, false, arith, get_or, Option, Some, None, List, [], ◌∷◌, length, map, inl, inr, ap, sym, refl, ◌∙◌, subst}
-use Rattle.std.proofs.lemmas.Bool.{cases_eq, false≢true, not-true}
+use Rattle.std.proofs.Common.{◌≡◌, ◌≢◌, ◌≤◌, ℕ, zero, suc, Bool, true, false, arith, Option, Some, None, List, [], ◌∷◌, length, map, inl, inr, ap, sym, refl, ◌∙◌, subst}
+use Rattle.std.proofs.lemmas.Bool.{cases_eq, false≢true}
 use Rattle.hex.specs.Hex.{IsBytes}
 use Rattle.far_word.specs.declared.refused.Refused.{Refused as Refusal}
 use Rattle.far_word.specs.Bytes.{bytes_of}
 use Rattle.far_word.specs.Pointer.{read_of}
-use Rattle.far_word.specs.declared.mark.Marks.{Marks}
-use Rattle.far_word.specs.declared.pointer.PtrWord.TheVariants.{Free, Near, Far}
-use Rattle.far_word.proofs.ByteLaws.{bytes_of-small, length-bytes_of}
+use Rattle.far_word.proofs.ByteLaws.{bytes_of-small}
 use Rattle.far_book.specs.book.FarSide.{kept_len}
-use Rattle.far_core.specs.state.Law.{in_use}
 use Rattle.far_core.specs.state.Shape.{is_shape}
 use Rattle.far_core.specs.state.State.{State}
 use Rattle.far_core.specs.world.WorldOf.{world_of}
@@ -19,12 +16,11 @@ use Rattle.far_device.specs.declared.liar.Lie.{Lie}
 use Rattle.far_device.specs.declared.liar.Lie.TheVariants.{Never, Short as Shortens, Flip as Inverts}
 use Rattle.far_text.specs.Command.{Book, Command, Device, Evacuator, Fail, Flawed, Flip, Mutator, Read, Short, View, Write}
 use Rattle.far_text.specs.Written.{AllWriteBytes, WritesBytes}
-use Rattle.far_replay.specs.Alone.{bytes_in_world}
-use Rattle.far_replay.specs.Answers.{AnsweredBy, Commanded, CommandedBy, ByDevice, FarAlong, FlawedAtMost, IsFlaw, IsMoment, first_moment, flaws, gives_some, is_true, lie_of, shape_of, Outside, Serves, Refuses, Gives, Lacks}
+use Rattle.far_replay.specs.Answers.{AnsweredBy, CommandedBy, ByDevice, FarAlong, FlawedAtMost, IsFlaw, IsMoment, first_moment, flaws, gives_some, is_true, lie_of, shape_of, Outside, Serves, Refuses, Gives, Lacks}
 use Rattle.far_replay.specs.Commanded.{AsksFor, LiesFar}
 use Rattle.far_replay.specs.Far.{FarBytes, HoldsBy, IsTold, ToldBy}
 use Rattle.far_replay.specs.Moment.{Moment}
-use Rattle.far_reply.specs.Reply.{Reply, Done}
+use Rattle.far_reply.specs.Reply.{Reply}
 use Rattle.far_replay.proofs.Lasting.{Lasts, first_is_moment, moment_lasts, next_is_moment}
 use Rattle.far_replay_laws.specs.FromOutside.{to_lie}
 use Rattle.far_replay_laws.specs.LeftBeside.{AllButObject, LeavesBeside}

@@ -1,5 +1,5 @@
 -- Where a step stops an object is to be written: it stands first of those that are left.
-use Rattle.std.proofs.Common.{◌≡◌, ◌≢◌, ℕ, Bool, true, false, cond, Option, Some, None, List, ◌∷◌, ap, sym, refl, ◌∙◌, subst, inl, inr}
+use Rattle.std.proofs.Common.{◌≡◌, ◌≢◌, ℕ, Bool, true, false, cond, Option, Some, None, ◌∷◌, ap, sym, refl, ◌∙◌, subst, inl, inr}
 use Rattle.std.specs.Prelude.{Contains}
 use Rattle.std.proofs.lemmas.Bool.{false≢true}
 use Rattle.far_word.specs.declared.pointer.Place.{Place}
@@ -12,7 +12,7 @@ use Rattle.far_book.proofs.region.Owns.{own_law}
 use Rattle.far_evac.specs.Live.{live_among}
 use Rattle.far_evac.specs.LiveLaws.{ComesFirst, IsInTurn, IsNearIn, ListsLive}
 use Rattle.far_evac.specs.RoundSteps.{among}
-use Rattle.far_evac.specs.Walk.{Drops, Goes, Moves, hot_way, way_of}
+use Rattle.far_evac.specs.Walk.{Drops, Goes, hot_way, way_of}
 use Rattle.far_evac.proofs.LiveOrder.{live_in_order}
 use Rattle.far_replay.specs.Commanded.{StopsAtWrite}
 use Rattle.far_replay.specs.Moment.{Moment}

@@ -1,5 +1,5 @@
 -- Steps of the book's seat in a row: what each asks and tells by the address of its word, and that rows of them are rows of its struct's calls.
-use Rattle.std.proofs.Common.{◌≡◌, ◌≢◌, ◌∙◌, ℕ, zero, suc, ◌+◌, ◌-◌, ◌*◌, ◌<◌, ◌≤◌, ◌^◌, arith, refl, sym, ap, subst, List}
+use Rattle.std.proofs.Common.{◌≡◌, ◌≢◌, ◌∙◌, ℕ, zero, suc, ◌+◌, ◌*◌, ◌<◌, ◌≤◌, ◌^◌, arith, refl, sym, ap, subst, List}
 use Rattle.std.specs.Arc.{arc_value}
 use mathlib.Core.Option.{none}
 use Rattle.atomic_table.specs.declared.shared.Seat.{Seat}

@@ -7,7 +7,6 @@ use native.Mathlib.Decide.{ℕ_discrete}
 use lib.ListN.{get_elem?}
 use Rattle.atomic_table.specs.Table.{Me, step, Allows}
 use Rattle.far_word.specs.declared.mark.Mark.TheVariants.{Dirty}
-use Rattle.far_word.specs.declared.pointer.Place.{Place}
 use Rattle.far_word.specs.declared.pointer.PtrWord.{PtrWord}
 use Rattle.far_word.specs.declared.pointer.PtrWord.TheVariants.{Free, Near, Far}
 use Rattle.far_word.specs.declared.sizes.TheConstants.{CELLS, POINTERS}

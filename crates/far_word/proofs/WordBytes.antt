@@ -1,7 +1,6 @@
 -- The eight bytes of a word as they lie in a list, little end first.
 use Rattle.std.proofs.Common.{◌≡◌, ◌≢◌, ℕ, suc, zero, ◌+◌, ◌-◌, ◌*◌, ◌/◌, ◌%◌, ◌<◌, ◌≤◌, ◌^◌, ◌++◌, cond, nat_eq, [], arith, sym, refl, ap, ◌∙◌, List, length, take, drop, get_or, shr-shr, inl, inr}
 use Rattle.std.specs.Prelude.{replicate}
-use Rattle.std.specs.List.{range_with_len}
 use Rattle.std.specs.Int.{bytes_low_first}
 use Rattle.std.proofs.Math.Nat.{div-one}
 use Rattle.std.proofs.lemmas.List.{get_or-replicate, get_or_past, get_or-take, get_or_append_left, get_or-append_right, get_or-drop, length-take-le, length-append, length-drop, drop_all, append-nil}

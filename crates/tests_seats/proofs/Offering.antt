@@ -1,13 +1,13 @@
 -- Why the book's calls about jobs are legal, and what is known after them.
-use Rattle.std.proofs.Common.{◌≡◌, ◌≢◌, ◌+◌, ◌-◌, ◌*◌, ◌/◌, ◌^◌, ◌<◌, ◌≤◌, ℕ, Bool, true, false, suc, zero, refl, sym, ap, ◌∙◌, subst, arith, inl, inr, Option, Some, None, Result, Ok, Err}
-use Rattle.std.specs.Prelude.{◌⊎◌, ◌&&◌, ◌||◌, ◌==◌, IfOk, IfErr, cond, is_some, not}
+use Rattle.std.proofs.Common.{◌≡◌, ◌≢◌, ◌+◌, ◌-◌, ◌/◌, ◌^◌, ◌<◌, ◌≤◌, ℕ, Bool, true, false, refl, sym, ap, ◌∙◌, subst, arith, inl, inr, Option, Some, None, Result, Ok, Err}
+use Rattle.std.specs.Prelude.{◌&&◌, ◌||◌, ◌==◌, IfOk, IfErr, is_some, not}
 use Rattle.std.proofs.lemmas.Bool.{eqb-true, false≢true}
 use Rattle.far_word.specs.declared.job.Job.{Job}
 use Rattle.far_word.specs.declared.job.JobWord.TheVariants.{Finished}
 use Rattle.far_word.specs.declared.mark.Marks.{Marks}
 use Rattle.far_word.specs.declared.pointer.Place.{Place}
 use Rattle.far_word.specs.declared.pointer.PtrWord.TheVariants.{Near}
-use Rattle.far_word.specs.declared.sizes.TheConstants.{CELLS, JOBS, LOG_WORDS}
+use Rattle.far_word.specs.declared.sizes.TheConstants.{CELLS, JOBS}
 use Rattle.far_word.specs.Header.{head_word}
 use Rattle.far_word.specs.Job.{job_of}
 use Rattle.far_word.specs.Pointer.{read_of}
@@ -16,7 +16,7 @@ use Rattle.far_core.specs.declared.event.Event.TheVariants.{Name, Offer}
 use Rattle.far_core.specs.declared.event.Kind.{Kind}
 use Rattle.far_core.specs.declared.event.Kind.TheVariants.{Free, Open, Sealed}
 use Rattle.far_core.specs.declared.naming.Naming.TheVariants.{Moves}
-use Rattle.far_core.specs.events.Copied.{IsCopied, WasCopied, copied_job, with_named}
+use Rattle.far_core.specs.events.Copied.{WasCopied, copied_job, with_named}
 use Rattle.far_core.specs.events.Copies.{data_at}
 use Rattle.far_core.specs.events.Legal.{IsNext, Legal}
 use Rattle.far_core.specs.events.Naming.{IsNaming, is_stay}

@@ -42,7 +42,7 @@ use Rattle.far_hand.specs.FindsJob.{job_found}
 use Rattle.far_hand.proofs.Finding.{finds_same, near_found}
 use Rattle.far_hand.proofs.JobsFound.{same_job}
 use Rattle.far_book.specs.book.Collecting as fate
-use Rattle.far_book.specs.book.Collecting.{BackKnown, CollectsJob, CollectsKnown, Collects, EmptiedAreVoid, Fate, GoesAsFound, GoesBack, IsCopyNamed, MayBeNamed, NamedAreCopies, NoneFinished, NoneOffered, TakesBack, fate_in, fate_of, found_so, is_named, is_void, made_of, named, named_of, taken_back}
+use Rattle.far_book.specs.book.Collecting.{BackKnown, CollectsKnown, Collects, EmptiedAreVoid, Fate, GoesAsFound, IsCopyNamed, MayBeNamed, NamedAreCopies, NoneFinished, NoneOffered, TakesBack, fate_in, fate_of, found_so, is_named, is_void, made_of, named, named_of, taken_back}
 use Rattle.far_book.specs.book.Effects.{near_word}
 use Rattle.far_book.specs.book.Jobs.{is_good}
 use Rattle.far_book.specs.book.Offering.{IsOffered, OffersAreJobs, OffersCopy, offered, offered_of, with_ends}

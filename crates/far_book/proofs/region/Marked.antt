@@ -1,7 +1,7 @@
 -- EVAC is set on an object of a sealed log: a book stays in order.
 use Rattle.std.proofs.Common.{◌≡◌, ℕ, ◌<◌, ◌^◌, Bool, refl, sym, ap, ◌∙◌, subst, Option, Some, List}
 use Rattle.far_word.specs.declared.mark.Mark.TheVariants.{Evac}
-use Rattle.far_word.specs.declared.pointer.PtrWord.TheVariants.{Near, Far}
+use Rattle.far_word.specs.declared.pointer.PtrWord.TheVariants.{Near}
 use Rattle.far_word.specs.Mark.{marks_with}
 use Rattle.far_word.specs.Pointer.{read_of}
 use Rattle.far_word.proofs.PointerLaws.{with_mark_read}

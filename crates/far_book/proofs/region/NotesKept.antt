@@ -1,5 +1,5 @@
 -- A ledger that was right is right again after a span was taken, or a cell freed.
-use Rattle.std.proofs.Common.{◌≡◌, ◌≢◌, ℕ, ◌+◌, ◌*◌, ◌<◌, ◌≤◌, Bool, true, false, arith, sym, refl, ap, subst, ◌∙◌, Some, List, [], ◌∷◌, ◌++◌, length, inl, inr, nat_lt}
+use Rattle.std.proofs.Common.{◌≡◌, ◌≢◌, ℕ, ◌+◌, ◌*◌, ◌<◌, Bool, true, false, arith, sym, refl, ap, subst, ◌∙◌, Some, List, [], ◌∷◌, ◌++◌, length, inl, inr, nat_lt}
 use Rattle.std.specs.Prelude.{◌&&◌, ◌||◌, ◌==◌, not, cond, eqb, slice_index_or}
 use Rattle.std.specs.Cmp.{nat_eq_equiv}
 use Rattle.std.specs.List.{IsDistinct, list_any}

@@ -18,7 +18,7 @@ use Rattle.far_word.proofs.PointerLaws.{read_back}
 use Rattle.far_core.specs.declared.event.Event.TheVariants as events
 use Rattle.far_core.specs.events.Copies.{data_at}
 use Rattle.far_core.specs.events.Legal.{Legal}
-use Rattle.far_core.specs.events.Naming.{no_marks, unmarked}
+use Rattle.far_core.specs.events.Naming.{unmarked}
 use Rattle.far_core.specs.events.Offer as core
 use Rattle.far_core.specs.events.Offer.{MayOffer, after_offer, with_job}
 use Rattle.far_core.specs.events.Step.{after}

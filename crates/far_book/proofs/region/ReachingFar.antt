@@ -14,7 +14,7 @@ use Rattle.far_core.specs.declared.event.Event.TheVariants as events
 use Rattle.far_core.specs.declared.naming.Naming.TheVariants as naming
 use Rattle.far_core.specs.events.Copies.{Alike}
 use Rattle.far_core.specs.events.Legal.{Legal}
-use Rattle.far_core.specs.events.Naming.{is_dropped, no_marks, naming_of}
+use Rattle.far_core.specs.events.Naming.{no_marks, naming_of}
 use Rattle.far_book.specs.book.Renaming.{stops}
 use Rattle.std.specs.Prelude.{◌||◌}
 use Rattle.far_core.specs.laws.Rooms.{IsRoom, RoomIs}

@@ -1,5 +1,5 @@
 -- A log without live objects is given back: a book stays in order.
-use Rattle.std.proofs.Common.{◌≡◌, ◌≢◌, ℕ, ◌/◌, ◌<◌, ◌≤◌, Bool, true, false, cond, arith, nat_lt, refl, sym, ap, ◌∙◌, subst, inl, inr, Option, List, [], ◌∷◌}
+use Rattle.std.proofs.Common.{◌≡◌, ◌≢◌, ℕ, ◌/◌, ◌<◌, Bool, true, false, cond, arith, nat_lt, refl, sym, ap, ◌∙◌, subst, inl, inr, Option, List, [], ◌∷◌}
 use Rattle.std.specs.Prelude.{◌==◌, ◌&&◌, ◌||◌, not, eqb, Contains}
 use Rattle.std.specs.List.{AllByRecursion, IsDistinct, filter, list_any}
 use Rattle.std.specs.Vec.{vec_len}

@@ -1,9 +1,8 @@
 -- A cell gets a new word once another was found in it than was known: as from the state that was known before.
-use Rattle.std.proofs.Common.{◌≡◌, ℕ, ap, refl, subst, sym, ◌∙◌, Result, Ok, Err, Bool, Option, Some, None, true, false}
-use Rattle.std.proofs.lemmas.Bool.{false≢true, true≢false}
+use Rattle.std.proofs.Common.{◌≡◌, ℕ, ap, refl, subst, sym, ◌∙◌, Result, Ok, Err, Bool, Option, true, false}
+use Rattle.std.proofs.lemmas.Bool.{false≢true}
 use Rattle.std.specs.Prelude.{IfErr, IfOk, ◌^◌, ◌<◌, ◌&&◌, ◌||◌, not}
 use Rattle.far_word.specs.declared.pointer.PtrWord.{PtrWord}
-use Rattle.far_word.specs.declared.pointer.PtrWord.TheVariants.{Free, Near, Far}
 use Rattle.far_word.specs.Pointer.{read_of}
 use Rattle.far_core.specs.declared.event.Event.{Event}
 use Rattle.far_core.specs.declared.event.Event.TheVariants.{Name}
@@ -14,7 +13,7 @@ use Rattle.far_core.specs.events.Step.{after}
 use Rattle.far_core.specs.state.Law.{is_dirty}
 use Rattle.far_core.specs.state.State.{State}
 use Rattle.far_core.proofs.Put.{put_old, put_same}
-use Rattle.far_hand.specs.Finds.{Finds, body_of, marks_in}
+use Rattle.far_hand.specs.Finds.{Finds}
 use Rattle.far_hand.specs.Known.{Forgets, KnowsLeaving, StoresLeaving}
 use Rattle.far_book.specs.book.Renaming.{IsWonBy, MayRename, Renamed, seen, stops}
 use Rattle.far_hand.proofs.Finding.{finds_is, finds_more}

@@ -1,5 +1,5 @@
 -- The ledger of a heap at the start is right.
-use Rattle.std.proofs.Common.{inl, inr, ◌≡◌, ℕ, ◌*◌, ◌/◌, ◌%◌, ◌<◌, ◌≤◌, Bool, true, false, arith, sym, refl, ap, subst, ◌∙◌, [], nat_lt, None}
+use Rattle.std.proofs.Common.{inl, inr, ◌≡◌, ℕ, ◌*◌, ◌/◌, ◌%◌, ◌<◌, Bool, true, false, arith, sym, refl, ap, subst, ◌∙◌, [], nat_lt, None}
 use Rattle.std.specs.Prelude.{◌&&◌, ◌==◌, not, replicate, slice_index_or, eqb, length}
 use Rattle.std.specs.List.{list_any, IsDistinct}
 use Rattle.std.specs.Vec.{vec_len}

@@ -1,4 +1,3 @@
-use Rattle.std.proofs.Common.{◌*◌, ◌+◌, arith, refl}
 use Rattle.far_word.proofs.WordBytes.{read_short, read_shifted}
 use Rattle.far_word.proofs.bytes.last_word.Goals as goal
 

@@ -1,7 +1,7 @@
 use Rattle.far_book.proofs.book.Book.evict_by.Given.{Over}
 use Rattle.far_book.proofs.book.Book.evict_by.Goals.{After-send, In-Some}
 use Rattle.far_book.proofs.book.Book.evict_by.Goals as goal
-use Rattle.std.proofs.Common.{rules, ◌≡◌, ◌+◌, ◌∙◌, ℕ, Bool, true, false, ap, sym, subst, arith, refl, inl, inr, Some, ◌<◌}
+use Rattle.std.proofs.Common.{rules, ◌≡◌, ◌+◌, ◌∙◌, ℕ, Bool, true, false, ap, sym, subst, arith, refl, inl, inr, Some}
 use Rattle.std.specs.Prelude.{Result, Ok, Err, is_ok, not}
 use Rattle.std.proofs.lemmas.Bool.{false_from_ne_true, false≢true}
 use Rattle.far_device.specs.Following.{Follows, other_than}
@@ -10,7 +10,6 @@ use Rattle.far_word.specs.declared.pointer.PtrWord.TheVariants.{Near, Far}
 use Rattle.far_word.specs.declared.refused.Refused.{Refused}
 use Rattle.far_word.specs.Bytes.{bytes_of}
 use Rattle.far_word.specs.Pointer.{IsPtr, read_of}
-use Rattle.far_word.specs.Sizes.{words_for}
 use Rattle.far_word.proofs.PointerLaws.{read_says}
 use Rattle.far_core.specs.events.Copies.{data_at}
 use Rattle.far_core.specs.events.Naming.{is_dropped, no_marks}

@@ -2,7 +2,6 @@ use Rattle.far_book.proofs.book.Book.log_rows.Goals as goal
 use Rattle.std.proofs.Common.{◌∙◌, ap, sym, arith, length, ◌++◌, ◌∷◌, []}
 use Rattle.std.specs.Prelude.{slice_index_or}
 use Rattle.far_book.specs.book.Own.{own_part}
-use Rattle.far_book.specs.book.Rows.{row_of}
 use Rattle.far_book.proofs.region.Calls.{row_own}
 use Rattle.far_book.proofs.region.Gone.{rows_few, rows_gone, rows_kept}
 use Rattle.far_book.proofs.region.NotesKept.{listed_inside}

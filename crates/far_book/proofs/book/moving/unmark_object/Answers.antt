@@ -1,5 +1,5 @@
 use Rattle.far_book.proofs.book.moving.unmark_object.Goals as goal
-use Rattle.std.proofs.Common.{◌≡◌, ◌<◌, ◌^◌, ap, sym, subst, ◌∙◌, false, arith}
+use Rattle.std.proofs.Common.{◌≡◌, ◌<◌, ◌^◌, ap, sym, ◌∙◌, false, arith}
 use Rattle.far_word.specs.Pointer.{read_of}
 use Rattle.far_core.specs.events.Naming.{is_dropped}
 use Rattle.far_book.proofs.region.Moved.{layout_here, may_unmark, stayed_by}

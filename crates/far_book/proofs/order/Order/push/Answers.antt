@@ -1,6 +1,5 @@
 use Rattle.far_book.proofs.order.Order.push.Goals as goal
 use Rattle.std.proofs.Common.{ap, arith, length, ◌∙◌, ◌++◌, ◌∷◌, []}
-use Rattle.far_book.specs.book.Order.{still_in}
 use Rattle.far_book.proofs.region.Gone.{all_still}
 
 pub push_reserved-requires : goal.push_reserved-requires

@@ -1,4 +1,4 @@
-use Rattle.std.proofs.Common.{◌∙◌, ℕ, ap, arith, sym, is_some, get_or, set, Bool, Option, None, true, false}
+use Rattle.std.proofs.Common.{◌∙◌, ℕ, ap, arith, sym, is_some, set, Bool, Option}
 use Rattle.far_word.specs.declared.pointer.Place.{Place}
 use Rattle.far_core.specs.state.Memory.{state_of}
 use Rattle.far_core.specs.state.State.{put}

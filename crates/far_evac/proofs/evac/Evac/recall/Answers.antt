@@ -1,4 +1,4 @@
-use Rattle.std.proofs.Common.{◌≡◌, true, subst}
+use Rattle.std.proofs.Common.{true, subst}
 use Rattle.far_word.specs.declared.sizes.TheConstants.{JOBS}
 use Rattle.far_book.specs.book.Collecting.{TakesBack}
 use Rattle.far_evac.specs.EvacOf.{EvacOf}

@@ -1,6 +1,4 @@
-use Rattle.std.proofs.Common.{◌+◌, ◌∙◌, ap, sym, subst, arith}
-use Rattle.std.specs.Prelude.{IsSome}
-use Rattle.far_word.specs.Pointer.{read_of}
+use Rattle.std.proofs.Common.{◌+◌, ◌∙◌, sym, subst, arith}
 use Rattle.far_book.specs.book.NextLive.{IsBoundary}
 use Rattle.far_hand.proofs.Closure.{then_came}
 use Rattle.far_evac.specs.Standing.{MarkedBefore}

@@ -3,12 +3,12 @@ use Rattle.far_core.specs.events.Step.{after}
 use Rattle.far_core.specs.state.State.{State}
 use Rattle.far_core.specs.declared.event.Event.TheVariants.{Name}
 use Rattle.far_hand.specs.Finds.{Finds}
-use Rattle.far_hand.specs.Known.{Forgets, StoresLeaving}
+use Rattle.far_hand.specs.Known.{StoresLeaving}
 use Rattle.far_table.specs.Layout.{cell_at}
 use Rattle.far_table.specs.Stands.{book_of}
 use Rattle.far_table.specs.StateOf.{book_state}
 use Rattle.far_table.specs.View.{BookView}
-use Rattle.far_table.proofs.BookSeatLemmas.{cell_inside, seat_forgets, seat_kept, seat_keeps, seat_made, view_is}
+use Rattle.far_table.proofs.BookSeatLemmas.{cell_inside, seat_forgets, seat_keeps, seat_made, view_is}
 use Rattle.far_table.proofs.Exchanges.{book_lost, book_won}
 use Rattle.far_table.proofs.NameSteps.{exchanged_keeps, exchanges, named_done, named_forgets}
 use Rattle.far_table.proofs.SeatLemmas.{inside}

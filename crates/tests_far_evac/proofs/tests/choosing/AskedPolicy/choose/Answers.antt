@@ -1,4 +1,4 @@
-use Rattle.std.proofs.Common.{◌≡◌, ℕ, false, true, [], eqb, List, sym, subst, arith}
+use Rattle.std.proofs.Common.{ℕ, false, true, [], eqb, List, sym, subst, arith}
 use Rattle.std.proofs.lemmas.Bool.{false≢true}
 use Rattle.std.proofs.lemmas.Map.Keys.{IsDistinct-from_apart}
 use Rattle.far_policy.specs.Choice.{IsChoice}

@@ -1,5 +1,4 @@
-use Rattle.std.proofs.Common.{◌≡◌, ◌+◌, ◌<◌, sym, ap, subst, ◌∙◌, arith}
-use Rattle.far_word.specs.declared.pointer.Place.{Place}
+use Rattle.std.proofs.Common.{◌≡◌, sym, ap, subst, ◌∙◌, arith}
 use Rattle.far_core.specs.declared.shape.Shape.{Shape}
 use Rattle.far_core.specs.state.State.{State}
 use Rattle.tests_seats.specs.Offers.{HasRoom, HasRound, IsMarked, KnowsJobs}
