@@ -61,8 +61,8 @@ use std::marker::Model;
 
 /// The region book: where each object of a heap lies, and what each of its logs has.
 ///
-/// It touches the shared words through the hand that it is lent, and keeps the bytes of far objects in its device. All its room is taken when it is made, so that later
-/// only the calls that answer lists take memory, and its device.
+/// It touches the shared words through the hand that it was given, and keeps the bytes of far objects in its device. All its room is taken when it is made: later
+/// only the calls that answer lists, and those of its device, take memory.
 #[derive(Drop)]
 pub struct Book<N: Near + Drop, D: Device + Drop> {
     near: N,
@@ -123,7 +123,7 @@ impl<N: Near + Drop, D: Device + Drop> Book<N, D> {
         self.near.shape()
     }
 
-    /// An empty list with room for so many, of the book's own allocator. Refused [`Refused::Memory`] alone.
+    /// An empty list with room for `count` elements, from the book's own allocator. Refused [`Refused::Memory`] alone.
     pub fn empty_list<T: Drop>(&self, count: usize) -> Result<Vec<T>, Refused>
         ensures empty { IfOk result (λ list. list.items ≡ []) }
         ensures room { IfOk result (λ list. count ≤ vec_capacity list) }
@@ -135,7 +135,7 @@ impl<N: Near + Drop, D: Device + Drop> Book<N, D> {
         Ok(list)
     }
 
-    /// The lowest free cell of a mutator; `None` where it uses all of them.
+    /// The lowest pointer of a mutator that has a free cell; `None` if none of its 256 cells is free.
     pub fn free_cell(&self, owner: u8) -> Option<u16>
         requires owner { owner < (N.view self.now.near).mutators }
         ensures { IsLowestFree (N.view self.now.near) owner result }
@@ -143,8 +143,9 @@ impl<N: Near + Drop, D: Device + Drop> Book<N, D> {
         self.ledger.free_cell(owner)
     }
 
-    /// Places a new object of zeros for a pointer whose cell is free, and answers where. A refusal is
-    /// [`Refused::NoRoom`]: nothing has changed then, and no log was sealed.
+    /// Places a new object of `len` bytes, all 0, and of data structure `ds`, for a pointer whose cell is free, and answers where.
+    /// A refusal is [`Refused::NoRoom`]: the open log has no room for it, and one log at most is free. Nothing has changed then, and no
+    /// log was sealed.
     pub fn place(&mut self, pointer: u16, len: u16, ds: u8) -> Result<Place, Refused>
         requires pointer { pointer < CELLS * (N.view self.old.near).mutators }
         requires free { (N.view self.old.near).cell pointer ≡ 0 }
@@ -161,8 +162,8 @@ impl<N: Near + Drop, D: Device + Drop> Book<N, D> {
         Ok(place)
     }
 
-    /// Frees the cell of an object that its owner dropped; its span is dead from then on, if it lay near, and the device
-    /// forgets its bytes.
+    /// Frees the cell of an object that its owner dropped; its span is dead from then on, if it lay near, and the device is
+    /// told to forget its bytes.
     pub fn retire(&mut self, pointer: u16)
         requires pointer { pointer < CELLS * (N.view self.old.near).mutators }
         requires dropped { is_dropped (read_of ((N.view self.old.near).cell pointer)) ≡ true }
@@ -269,9 +270,9 @@ impl<N: Near + Drop, D: Device + Drop> Book<N, D> {
         listed(self.alloc, &words, tail)
     }
 
-    /// What the book knows keeps its part of the law of the core, and its order names each sealed log, once. Its device holds
-    /// bytes of its length of each far object, and of each near one without DIRTY: those that were stored where the words say that
-    /// the far side is honest; and it is honest there.
+    /// What the book knows keeps its part of the law of the core, and its order names each sealed log, once. Of each far object, and of
+    /// each near one without DIRTY, the device holds as many bytes as the object has. If the words say that the far side is honest,
+    /// these are the bytes that were stored, and the device is honest.
     pub fn keeps_law(&self)
         ensures law { Law (own_part (N.view self.now.near)) }
         ensures sealed { (l : ℕ) → (list_any (eqb l) self.now.order ≡ true) ↔ ((N.view self.now.near).kind l ≡ Sealed) }

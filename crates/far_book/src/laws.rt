@@ -46,7 +46,7 @@ pub fn moving_is_legal()
     ensures { MovingIsLegal }
 {}
 
-/// Taking the marks of a near object with MOVE and without EVAC is one legal event of the core; the law of the core is kept, and in the
+/// Taking the marks but DIRTY of a near object with MOVE and without EVAC is one legal event of the core; the law of the core is kept, and in the
 /// world the object is marked no more. No other cell, no word, tail or kind of a log changes.
 pub fn staying_is_legal()
     ensures { StayingIsLegal }
@@ -75,7 +75,7 @@ pub fn order_is_by_age()
 {}
 
 /// A job that is offered says whose object a copier may copy, from where to where. Once jobs were collected none is known to be
-/// finished; one that was named was found finished and stood, and its pointer names its target from then on. One that was emptied and not
+/// finished; one that was named was found finished and wasn't void, and its pointer names its target then. One that was emptied and not
 /// named is void, or was found finished, and its object dropped. Once jobs were taken back none is known to be offered.
 pub fn jobs_come_and_go()
     ensures offered { OffersAreJobs }

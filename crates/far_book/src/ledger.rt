@@ -1,4 +1,5 @@
-//! What the book has written down of logs, cells and jobs, so that none of its calls searches, but one over the sealed logs when a log is sealed.
+//! What the book has written down of logs, cells and jobs. So no call of the ledger searches more than a mutator's 4 sets of free cells, or 16 jobs, but that
+//! sealing a log goes over the list of sealed logs.
 
 ghost use Rattle.std.specs.Prelude.{◌≡◌, ◌≢◌, ℕ, ◌+◌, ◌-◌, ◌*◌, ◌/◌, ◌<◌, ◌≤◌, ◌==◌, true, false, length, Some, None, List, [], IfOk, MatchOption};
 ghost use Rattle.std.specs.Vec.{vec_len};

@@ -1,6 +1,6 @@
 //! The region book: what knows where each object lies and what each log has, over any hand on the shared words.
 //!
-//! The book touches words only through [`Near`], a hand that it is lent.
+//! The book touches words only through [`Near`], a hand that it was given.
 #![tactic(auto)]
 
 mod book;

@@ -1,5 +1,5 @@
 -- What each call of the evacuator leaves over any hand. The core of a moment is what the book knows then: where each object lies, EVAC, spans and
--- logs exactly; of HOT, MOVE and DROP those that were found; of scopes who was seen clear; of data words what was read.
+-- logs exactly; of HOT, MOVE, DROP and DIRTY those that were found; of scopes who was seen clear; of data words what was read.
 use Rattle.std.specs.Prelude.{◌≡◌, ℕ, ◌<◌, ◌≤◌, zero, suc, Bool, true, false, Option, Some, List, [], ◌∷◌, length}
 use Rattle.far_word.specs.declared.mark.Marks.{Marks}
 use Rattle.far_word.specs.declared.pointer.PtrWord.TheVariants.{Far}

@@ -24,7 +24,7 @@ abbrev pub anywhere : Option Object → Option Object
 anywhere None = None
 anywhere (Some o) = Some (with_home o FarSide)
 
--- from s to t nothing has changed that owners do, and each object is what it was, though it may be elsewhere. A pointer that isn't dropped isn't
+-- from s to t owners' scopes stay, and what they remember, use and hold, and each object is what it was, though it may be elsewhere. A pointer that isn't dropped isn't
 -- dropped then, and its cell is free exactly where it was
 pub record KeepsObjects (s t : State) : Type 0 where
   pub mutators : t.mutators ≡ s.mutators

@@ -28,7 +28,7 @@ pub record IsBounded (total : Tally) : Type 0 where
   pub objects : objects_in total ≤ most_objects
   pub logs : total.freed ≤ MOST_LOGS
 
--- so does a call, which counts those too that were collected, where copies may be offered
+-- the most objects that a call counts: where copies may be offered, those too that were collected
 abbrev pub most_counted : Bool → ℕ
 most_counted copying = cond copying (most_objects + JOBS) most_objects
 
@@ -36,7 +36,7 @@ pub record IsBoundedBy (copying : Bool) (total : Tally) : Type 0 where
   pub objects : objects_in total ≤ most_counted copying
   pub logs : total.freed ≤ MOST_LOGS
 
--- so many turns count no more than that, where copies may be offered
+-- where copies may be offered, so many turns count no more than so many times that
 pub record IsCountedIn (turns : ℕ) (total : Tally) : Type 0 where
   pub objects : objects_in total ≤ turns * most_counted true
   pub logs : total.freed ≤ turns * MOST_LOGS

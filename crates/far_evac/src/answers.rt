@@ -48,7 +48,7 @@ impl fmt::Display for Progress {
     }
 }
 
-/// A refusal in the midst of a call: the object at which it came is as before.
+/// A refusal, and what the call had done before. If it came at an object, that is as before.
 #[derive(Clone, Copy, Debug, PartialEq, Eq, Error)]
 #[error("{why}; done before: {so_far}")]
 pub struct EvacFault {
@@ -64,6 +64,6 @@ pub enum RoundEnd {
     Done(Progress),
     /// No log was chosen.
     Nothing,
-    /// All turns were made; the round stands in this phase.
+    /// The round isn't over: all turns were made, or, in `run_round_alone`, a scope keeps it waiting. It stands in this phase.
     Limit(Phase),
 }

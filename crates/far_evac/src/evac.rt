@@ -31,7 +31,7 @@ use std::marker::Model;
 
 /// An evacuator: a region book, and the round that empties some of its logs.
 ///
-/// All calls of the book that keep a round's marks are handed on. No call blocks.
+/// Calls of the book that leave the round where it stands are handed on. No call blocks.
 #[derive(Drop)]
 pub struct Evac<N: Near + Drop, D: Device + Drop> {
     book: Book<N, D>,
@@ -52,7 +52,7 @@ impl<N: Near + Drop, D: Device + Drop> Model for Evac<N, D> {
 }
 
 impl<N: Near + Drop, D: Device + Drop> Evac<N, D> {
-    /// An evacuator over a book, in no round. It leaves nothing to copiers.
+    /// An evacuator over a book without jobs, in no round. It leaves nothing to copiers.
     pub fn new(book: Book<N, D>) -> Evac<N, D>
         requires alone { HasNoJob (N.view book.near) }
         ensures book { result.book ≡ book }
@@ -63,7 +63,7 @@ impl<N: Near + Drop, D: Device + Drop> Evac<N, D> {
         Evac::in_no_round(book, false)
     }
 
-    /// An evacuator over a book, in no round, whose hot objects are offered to copiers while they leave. Its hand isn't still, as copiers act beside it.
+    /// An evacuator over a book without jobs, in no round, whose hot objects are offered to copiers while they leave. Its hand isn't still, as copiers act beside it.
     pub fn copying(book: Book<N, D>) -> Evac<N, D>
         requires moves { N.still → ⊥ }
         requires alone { HasNoJob (N.view book.near) }

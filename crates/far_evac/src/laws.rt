@@ -62,7 +62,7 @@ pub fn dealing_is_in_order()
 {}
 
 /// The object that k live ones stand before is dealt with by the marks that it had when the evacuation began, where no word changes but by it: a dropped one is
-/// retired, a cold one goes far, and a hot one to where there is room then, or far where there is none. It has no marks after.
+/// retired, a cold one goes far, and a hot one to where there is room then, or far if there is none. It has no marks after, but DIRTY if it moved with DIRTY.
 pub fn objects_go_their_way()
     ensures { ObjectsGoTheirWay }
 {}
@@ -75,10 +75,10 @@ pub fn objects_go_beside_copiers()
     ensures passed_over { JobsArePassedOver }
 {}
 
-/// Over any hand: the room that dealing with objects takes is that of those that moved. In a log outside the collection set dead bytes stay, live ones rise by the objects
-/// that came, and unused ones fall by as much; in one that is still in it what left is dead; one that was given back has what came since. Of all logs together
-/// live bytes fall by the objects that went far or were retired. So it is with each call of a round, with turns one after the other, and with whole rounds, also
-/// with those that stop at an object.
+/// Over any hand, if no copy may be offered: the room that dealing with objects takes is that of those that moved. In a log outside the collection set dead bytes
+/// stay, live ones rise by the objects that came, and unused ones fall by as much; in one that is still in it what left is dead; one that was given back has what came
+/// since. Of all logs together live bytes fall by the objects that went far or were retired. So it is with each call of a round, with turns one after the other, and with
+/// whole rounds, also with those that stop at an object.
 pub fn walks_take_room()
     ensures walking { WalkTakesRoom }
     ensures call { CallTakesRoom }

@@ -106,10 +106,10 @@ module _ {N D : Type 0} (still : Type 0) (view : N → State) (makes : N → Eve
       -- the action that this is
       pub ran : still → Does (view old.near) (Retires p) (view new.near)
 
-    -- p's quiet near object is moved, or stays without marks; or is retired, where its owner has dropped it, and the answer is none; or there is no room
+    -- p's quiet near object is moved, or stays, without marks but DIRTY; or is retired, where its owner has dropped it, and the answer is none; or there is no room
     pub record MovesObject (old new : BookOf N D) (p : ℕ) (result : Result (Option Place) Refused) : Type 0 where
       pub came : Came makes old.near new.near
-      -- where it was to go, as far as the words are known it lies there now; over a hand that is still that is all
+      -- it lies where it was to go, as far as the words are known; over a hand that is still that is all
       pub place : IfOk result (λ o. IfSome o (λ place. goal (view old.near) p ≡ Some place))
       pub moved : IfOk result (λ o. IfSome o (λ place. MovedBy (view old.near) (view new.near) p place))
       pub exact : still → IfOk result (λ o. IfSome o (λ place. view new.near ≡ moved_now (view old.near) p place))
@@ -149,7 +149,7 @@ module _ {N D : Type 0} (still : Type 0) (view : N → State) (makes : N → Eve
       pub far : result ≡ Ok true → GoesFar (view old.near) (view new.near) p
       pub away : still → result ≡ Ok true → view new.near ≡ evicted (view old.near) p
       pub left_by : result ≡ Ok true → LeavesBy writes old new p
-      -- it is retired, and no word is learned
+      -- it is retired; words may have been learned and forgotten, and no known word is another
       pub gone : result ≡ Ok false → IsRetired still (view old.near) (view new.near) p
       pub freed : result ≡ Ok false → KeepsKnown (view old.near) (view new.near)
       -- a drop that was known before is found

@@ -36,7 +36,7 @@ module _ {N D : Type 0} (still : Type 0) (view : N → State) (makes : N → Eve
     -- over a hand that is still as they were known
     pub exact : still → all_collected (view old.near) JOBS ≡ (view new.near, count)
     pub most : count ≤ JOBS
-    -- where none is offered nothing has changed
+    -- if every job is empty, nothing has changed
     pub unoffered : HasNoJob (view old.near) → (new ≡ old) × (count ≡ 0)
     pub order : new.order ≡ old.order
     pub device : new.device ≡ old.device

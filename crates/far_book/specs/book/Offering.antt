@@ -25,7 +25,7 @@ use Rattle.far_book.specs.book.Dealing.{goal}
 use Rattle.far_book.specs.book.Own.{own_part}
 use Rattle.far_book.specs.book.Renaming.{seen}
 
--- every job waits or is finished
+-- no job is empty
 abbrev pub NoneEmpty : State → Type 0
 NoneEmpty s = (j : ℕ) → j < JOBS → s.copying.word j ≢ 0
 

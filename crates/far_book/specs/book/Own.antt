@@ -8,7 +8,7 @@ use Rattle.far_core.specs.state.State.{Copying, State}
 use Rattle.far_hand.specs.Beside.{hidden, uncopied}
 use Rattle.far_hand.specs.ShapeOf.{shape_of}
 
--- a job's word without its copier: one that is taken is as it was offered
+-- a job's word, but that one that is taken is as it was offered, without its copier
 abbrev pub untaken_of : ℕ → Option JobWord → ℕ
 untaken_of w None = w
 untaken_of w (Some Empty) = w
@@ -23,7 +23,7 @@ untaken w = untaken_of w (job_of w)
 abbrev pub unread : Copying → Copying
 unread k = uncopied k (λ j. untaken (k.word j))
 
--- no job is offered
+-- every job is empty
 abbrev pub HasNoJob : State → Type 0
 HasNoJob s = (j : ℕ) → s.copying.word j ≡ 0
 

@@ -25,7 +25,7 @@ use far_word::{JOBS, Job, JobWord, PtrWord, size_of};
 
 impl<N: Near + Drop, D: Device + Drop> Book<N, D> {
     /// Looks at each job that isn't empty. The pointer of one that is found finished is named to the copy, unless the job is void
-    /// or the object dropped; then the job is emptied. One that is found offered and is void is emptied too. Words may be
+    /// or the object dropped; either way the job is emptied. One that is found offered and is void is emptied too. Words may be
     /// forgotten.
     ///
     /// Answers how many were named, 16 at most.
@@ -173,7 +173,7 @@ impl<N: Near + Drop, D: Device + Drop> Book<N, D> {
         }
         let word = self.see_job(job);
         if is_offered(word) {
-            // Where that is lost a copier has taken the job.
+            // If the exchange fails, a copier has taken the job.
             let _ = self.empty_job(job, word);
         }
     }

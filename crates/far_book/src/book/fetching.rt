@@ -29,12 +29,12 @@ use far_word::{HeadWord, Place, PtrWord, Refused, last_word, size_of, words_for}
 use std::mem;
 
 impl<N: Near + Drop, D: Device + Drop> Book<N, D> {
-    /// Brings a far object near, and answers where it lies; the device keeps its bytes, which are its own until it is written.
-    /// Where its owner has dropped it, it is retired instead, and the answer is `None`.
+    /// Brings a far object near, and answers where it lies. The device keeps the bytes: until the object is written, it can leave
+    /// without a write. If its owner has dropped it, it is retired instead, and the answer is `None`.
     ///
     /// Refused, in this order, [`Refused::NoRoom`]; [`Refused::Memory`] or [`Refused::Device`], which are the device's; and
-    /// [`Refused::Damaged`], where what it gave isn't as long as the object. Nothing has changed then but that the view has
-    /// the marks that were found, and no log was sealed.
+    /// [`Refused::Damaged`], if the device gave more or fewer bytes than the object has. The device holds then what it held, the
+    /// hand knows the marks that were found, nothing else of the heap has changed, and no log was sealed.
     pub fn fetch(&mut self, pointer: u16) -> Result<Option<Place>, Refused>
         requires pointer { pointer < CELLS * (N.view self.old.near).mutators }
         requires far { IsFar (N.view self.old.near) pointer }

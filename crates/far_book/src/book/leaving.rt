@@ -31,9 +31,9 @@ use std::mem;
 
 impl<N: Near + Drop, D: Device + Drop> Book<N, D> {
     /// Sends a quiet near object with EVAC far: the device holds its bytes, its cell says far, without marks, and its span is
-    /// dead. Of one whose word has no DIRTY as it leaves the device has held the bytes since, and isn't asked. `false`
-    /// where its owner was found to have dropped it: it is retired then, and the device forgets its bytes.
-    /// Refused [`Refused::Memory`] or [`Refused::Device`] where the device is: the object is as it was, and has DIRTY.
+    /// dead. If the object's word has no DIRTY as it leaves, the device holds the bytes already, and isn't asked. `false` if the
+    /// owner was found to have dropped the object: the object is retired then, and the device is told to forget its bytes.
+    /// Refused [`Refused::Memory`] or [`Refused::Device`] as the write was: the object is as before, and has DIRTY.
     #[inline(always)]
     pub fn evict(&mut self, pointer: u16) -> Result<bool, Refused>
         requires pointer { pointer < CELLS * (N.view self.old.near).mutators }
@@ -144,8 +144,8 @@ impl<N: Near + Drop, D: Device + Drop> Book<N, D> {
         }
     }
 
-    // Names an object far whose bytes the device holds. `Err` with the word that was found, where its owner has dropped it
-    // meanwhile.
+    // Names an object far whose bytes the device holds. `Err` with the word that was found, if that has DROP, or DIRTY that the
+    // word before hadn't.
     #[inline(always)]
     fn name_far(
         &mut self,

@@ -1,4 +1,4 @@
-//! How a near object that is to move does: to another place, where the book wants its log, or nowhere.
+//! How a near object moves: to another place, if it has EVAC; else it stays where it lies.
 
 ghost use Rattle.std.specs.Prelude.{◌≡◌, ◌+◌, ◌*◌, ◌<◌, true, false, Some, None, Ok, IsSome, IfOk, IfErr, IfSome, IfNone, MatchOption};
 ghost use Rattle.far_word.specs.declared.refused.Refused.TheVariants.{NoRoom};
@@ -21,10 +21,10 @@ use far_hand::Near;
 use far_word::{HeadWord, Place, PtrWord, Refused, size_of, words_for};
 
 impl<N: Near + Drop, D: Device + Drop> Book<N, D> {
-    /// Moves a near object that nobody stores into, and answers where it lies then, without marks. Where the book wants its log,
-    /// by EVAC, it goes to a place where room is, in the last free log too; else it stays where it lies.
+    /// Moves a near object that nobody stores into, and answers where it lies then, without marks but DIRTY. If the object has
+    /// EVAC, it goes to a place where room is, in the last free log too; else it stays where it lies.
     ///
-    /// `None` where its owner has dropped it: it is retired then. A refusal is [`Refused::NoRoom`]: the object lies as before.
+    /// `None` if its owner has dropped it: it is retired then. A refusal is [`Refused::NoRoom`]: the object lies as before.
     #[inline(always)]
     pub fn move_now(&mut self, pointer: u16) -> Result<Option<Place>, Refused>
         requires pointer { pointer < CELLS * (N.view self.old.near).mutators }
@@ -118,7 +118,7 @@ impl<N: Near + Drop, D: Device + Drop> Book<N, D> {
         Ok(Some(to))
     }
 
-    // Takes the marks of an object, which stays where it lies. `None` where its owner has dropped it meanwhile, as its cell says
+    // Takes the marks but DIRTY of an object, which stays where it lies. `None` where its owner has dropped it meanwhile, as its cell says
     // then.
     fn stay(&mut self, pointer: u16, found: u64) -> Option<Place>
         requires pointer { pointer < CELLS * (N.view self.old.near).mutators }
@@ -187,7 +187,7 @@ fn move_object<N: Near>(
     }
 }
 
-// Takes the marks of an object that stays where it lies. `false` where its owner has dropped it meanwhile, as its cell says
+// Takes the marks but DIRTY of an object that stays where it lies. `false` where its owner has dropped it meanwhile, as its cell says
 // then.
 fn unmark_object<N: Near>(
     near: &mut N,

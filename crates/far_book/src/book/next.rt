@@ -23,8 +23,8 @@ impl<N: Near + Drop, D: Device + Drop> Book<N, D> {
     /// `None` where there is none. At `at` a span begins, or the log's spans end: so it is of word 0, and of the word behind the span
     /// that was answered, from which the next call goes on.
     ///
-    /// Of each span that is passed, up to the one that is answered, it reads the header and the cell that the header names; of no
-    /// other cell anything, and nothing at all where no object lives in the log. It takes no memory.
+    /// The call reads the header of each span up to the one that it answers, and the cell that the header names, and no other cell. If
+    /// no object lives in the log, it reads nothing. It takes no memory.
     pub fn next_live(&mut self, log: u8, at: u16) -> Option<Span>
         requires log { log < (N.view self.old.near).logs }
         requires begins { IsBoundary (N.view self.old.near) log at }

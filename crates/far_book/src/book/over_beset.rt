@@ -16,10 +16,10 @@ use far_device::Device;
 use far_hand::Beset;
 
 impl<D: Device + Drop> Book<Beset, D> {
-    /// The core keeps the whole law, what owners change included, and its views rest on words that it says they may. It is a
-    /// state that the words may be in, as far as the hand knows: so the book's view is right about it.
+    /// The core keeps the whole law, what owners change included. Each place that is held is an open owner's, and its pointer names the
+    /// place, with neither MOVE nor DROP. The core's state is one that the words may be in, as far as the hand knows.
     ///
-    /// An owner who was seen clear views nothing in the round's logs; where all were, nobody does. What an owner makes of a state that may be is one too.
+    /// An owner who was seen clear views nothing in the round's logs; if all were, nobody does. An owner's event leads from a state that the words may be in to another such.
     pub fn core_keeps_law(&self)
         ensures law { Law (core_state self.now.near.core) }
         ensures agrees { Agrees (core_state self.now.near.core) }

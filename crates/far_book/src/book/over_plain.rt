@@ -29,7 +29,8 @@ impl<D: Device + Drop> Book<Plain, D> {
         &self.near.core
     }
 
-    /// The core keeps the whole law, what owners change included, and its views rest on words that it says they may.
+    /// The core keeps the whole law, what owners change included. Each place that is held is an open owner's, and its pointer names the
+    /// place, with neither MOVE nor DROP.
     pub fn core_keeps_law(&self)
         ensures law { Law (core_state self.now.near.core) }
         ensures agrees { Agrees (core_state self.now.near.core) }
@@ -56,7 +57,7 @@ impl<D: Device + Drop> Book<Plain, D> {
     }
 
     /// An open owner sets HOT on a pointer that it uses and doesn't hold. `Ok` with the object's place, which it holds
-    /// from then on; `Err` with the old word, where that isn't present or has EVAC, MOVE or DROP.
+    /// from then on; `Err` with the old word, if that isn't near or has EVAC, MOVE or DROP.
     #[inline]
     pub fn pin(&mut self, owner: u8, pointer: u16) -> Result<Place, u64>
         requires legal { Legal (core_state self.old.near.core) (Event.Pin owner pointer) }

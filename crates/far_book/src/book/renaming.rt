@@ -63,11 +63,11 @@ pub(crate) fn rename_near<N: Near>(
     if is_dropped(word) {
         return Err(word);
     }
-    // It was written before its owner was seen clear, and now it is known to be.
+    // Its owner soiled the object before it was quiet, and only now DIRTY is found.
     rename(near, pointer, word, near_word(true, len, ds, place))
 }
 
-// The same, where marks were just found added: as often as more of them are found.
+// As `rename`, if marks were just found added: the exchange is tried again as often as more of them are found.
 #[cold]
 fn rename_marked<N: Near>(near: &mut N, pointer: u16, found: u64, new: u64) -> Result<(), u64>
     requires pointer { pointer < CELLS * (N.view near.old).mutators }

@@ -29,7 +29,7 @@ impl<N: Near + Drop, D: Device + Drop> Book<N, D> {
         found
     }
 
-    /// The epoch rises by 1, and a round begins of the logs whose bit is 1 in `logs`: the new epoch. Words may be forgotten then.
+    /// The epoch rises by 1, and a round begins of each log l for which bit l of `logs` is 1. Answers the new epoch. Words may be forgotten then.
     /// A refusal is [`Refused::EpochsSpent`], where there is no later epoch: nothing has changed then.
     pub fn advance(&mut self, logs: u64) -> Result<u64, Refused>
         requires chosen { MayChoose (N.view self.old.near) logs }

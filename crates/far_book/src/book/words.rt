@@ -1,4 +1,4 @@
-//! The words of cells whose objects have no marks.
+//! The words of cells whose objects have no marks but DIRTY.
 
 ghost use Rattle.std.specs.Prelude.{◌≡◌};
 ghost use Rattle.far_word.specs.declared.pointer.PtrWord.TheVariants.{Near as near_at, Far as far_at};

@@ -41,7 +41,7 @@ enum Warmth {
     Dropped,
 }
 
-// Deals with n objects of a log that have no job, or with all, and counts them: how many may be dealt with yet.
+// Deals with n objects of a log that have no job but void ones, or with all, and counts them: how many may be dealt with yet.
 pub(super) fn walk_log<N: Near + Drop, D: Device + Drop>(
     book: &mut Book<N, D>,
     log: u8,

@@ -51,11 +51,11 @@ impl<N: Near + Drop, D: Device + Drop> Evac<N, D> {
     /// objects is given back at once; after the last the round is over, and the answer says `done`.
     ///
     /// Where copies may be offered the jobs are collected first, and the objects that were copied are counted as moved. Then it deals with the first n
-    /// that have no job, or with all: the copy of a hot one is offered, where a job is empty and there is room, which counts nothing. At the end of each log
-    /// that it comes to, the log is given back if nothing lies in it then, and no job reads or writes it.
+    /// that have no job but void ones, or with all: the copy of a hot one is offered, if a job is empty and there is room. An offer is one of the n, and isn't counted in
+    /// the answer. At the end of each log that it comes to, the log is given back if nothing lies in it then, and no job reads or writes it.
     ///
     /// Refused [`Refused::Phase`] exactly where objects don't leave now, and nothing has changed; or [`Refused::Memory`] or
-    /// [`Refused::Device`] as the device is, at an object that is as before; where no copy may be offered it was to go far, and has DIRTY. What was done before it
+    /// [`Refused::Device`] as a write was, at an object that is as before; if no copy may be offered, it was to go far, and has DIRTY. What was done before it
     /// stays, and is counted in `so_far`.
     ///
     /// [`Refused::Phase`]: far_word::Refused::Phase

@@ -25,8 +25,9 @@ impl<N: Near + Drop, D: Device + Drop> Evac<N, D> {
         &self.book
     }
 
-    /// Places a new object of zeros for a pointer whose cell is free, and answers where. A refusal is
-    /// [`Refused::NoRoom`]: nothing has changed then, and no log was sealed.
+    /// Places a new object of `len` bytes, all 0, and of data structure `ds`, for a pointer whose cell is free, and answers where.
+    /// A refusal is [`Refused::NoRoom`]: the open log has no room for it, and one log at most is free. Nothing has changed then, and no
+    /// log was sealed.
     pub fn place(&mut self, pointer: u16, len: u16, ds: u8) -> Result<Place, Refused>
         requires pointer { pointer < CELLS * (N.view self.old.book.near).mutators }
         requires free { (N.view self.old.book.near).cell pointer ≡ 0 }
@@ -41,10 +42,10 @@ impl<N: Near + Drop, D: Device + Drop> Evac<N, D> {
         answer
     }
 
-    /// Moves a near object that nobody stores into, and answers where it lies then, without marks. Where the book wants its log,
-    /// by EVAC, it goes to a place where room is, in the last free log too; else it stays where it lies.
+    /// Moves a near object that nobody stores into, and answers where it lies then, without marks but DIRTY. If the object has
+    /// EVAC, it goes to a place where room is, in the last free log too; else it stays where it lies.
     ///
-    /// `None` where its owner has dropped it: it is retired then. A refusal is [`Refused::NoRoom`]: the object lies as before.
+    /// `None` if its owner has dropped it: it is retired then. A refusal is [`Refused::NoRoom`]: the object lies as before.
     pub fn move_now(&mut self, pointer: u16) -> Result<Option<Place>, Refused>
         requires pointer { pointer < CELLS * (N.view self.old.book.near).mutators }
         requires quiet { IsQuietNear (N.view self.old.book.near) pointer }
@@ -57,12 +58,12 @@ impl<N: Near + Drop, D: Device + Drop> Evac<N, D> {
         answer
     }
 
-    /// Brings a far object near, and answers where it lies; the device forgets its bytes then. Where its owner has dropped
-    /// it, it is retired instead, and the answer is `None`.
+    /// Brings a far object near, and answers where it lies. The device keeps the bytes: until the object is written, it can leave
+    /// without a write. If its owner has dropped it, it is retired instead, and the answer is `None`.
     ///
     /// Refused, in this order, [`Refused::NoRoom`]; [`Refused::Memory`] or [`Refused::Device`], which are the device's; and
-    /// [`Refused::Damaged`], where what it gave isn't as long as the object. Nothing has changed then but that the view has
-    /// the marks that were found, and no log was sealed.
+    /// [`Refused::Damaged`], if the device gave more or fewer bytes than the object has. The device holds then what it held, the
+    /// hand knows the marks that were found, nothing else of the heap has changed, and no log was sealed.
     pub fn fetch(&mut self, pointer: u16) -> Result<Option<Place>, Refused>
         requires pointer { pointer < CELLS * (N.view self.old.book.near).mutators }
         requires far { IsFar (N.view self.old.book.near) pointer }
@@ -75,8 +76,8 @@ impl<N: Near + Drop, D: Device + Drop> Evac<N, D> {
         answer
     }
 
-    /// Frees the cell of an object that its owner dropped; its span is dead from then on, if it lay near, and the device
-    /// forgets its bytes.
+    /// Frees the cell of an object that its owner dropped; its span is dead from then on, if it lay near, and the device is
+    /// told to forget its bytes.
     pub fn retire(&mut self, pointer: u16)
         requires pointer { pointer < CELLS * (N.view self.old.book.near).mutators }
         requires dropped { is_dropped (read_of ((N.view self.old.book.near).cell pointer)) ≡ true }

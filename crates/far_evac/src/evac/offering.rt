@@ -75,8 +75,8 @@ impl<N: Near + Drop, D: Device + Drop> Evac<N, D> {
     }
 }
 
-// Walks over logs in turn: deals with n objects that have no job, or with all, and counts them. A log where nothing lies then, and which no
-// job reads or writes, is given back; the others are kept.
+// Walks over logs in turn: deals with n objects that have no job but void ones, or with all, and counts them. A log where nothing lies
+// then, and which no job reads or writes, is given back; the others are kept.
 fn walk_logs<N: Near + Drop, D: Device + Drop>(
     book: &mut Book<N, D>,
     logs: &[u8],
