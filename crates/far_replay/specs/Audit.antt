@@ -16,7 +16,7 @@ lies_near (Some Free) = false
 lies_near (Some (Near len ds place m)) = not m.dropped
 lies_near (Some (Far len ds m)) = false
 
--- it says far, and its object isn't dropped
+-- a cell says far, and its object isn't dropped
 abbrev pub lies_far : Option PtrWord → Bool
 lies_far None = false
 lies_far (Some Free) = false

@@ -115,7 +115,7 @@ pub record Misled (row : ℕ → ℕ) (now : Moment) (c : Command) (p : ℕ) (r 
   pub viewed : IsSome (after.core.held p)
   pub kept : after.core.stored p ≡ now.core.stored p
 
--- a mutator's command asks for an object's words, unless it views it
+-- a command of mutator m writes, reads or views the object of pointer p, whether m views that object already or not
 abbrev pub AsksFor : ℕ → ℕ → Command → Type 0
 AsksFor m p (Mutator k (Write q from bytes)) = (k ≡ m) × (q ≡ p)
 AsksFor m p (Mutator k (Read q from len)) = (k ≡ m) × (q ≡ p)

@@ -67,8 +67,8 @@ span_events p len ds place row = Puts place.log place.at (head_word p len ds) �
 abbrev pub name_events : State → ℕ → Bool → ℕ → ℕ → Place → List Event
 name_events s p dirty len ds place = Names p (s.cell p) (near_word dirty len ds place) ∷ []
 
--- an object is brought there: near, its words are written there and its cell is named, with EVAC; without, its cell alone; far, the words that were stored
--- are written, and its cell is named. What the book looks at before, which changes nothing, isn't told
+-- an object is brought to a place: of a near one with EVAC its words are written there, and its cell is named; of a near one without EVAC the cell alone is named; of a far one the
+-- words that were stored are written there, and its cell is named. What the book looks at before, which changes nothing, isn't told
 abbrev pub come_events_of : State → ℕ → Option Place → Option PtrWord → List Event
 come_events_of s p None o = []
 come_events_of s p (Some place) None = []

@@ -60,7 +60,7 @@ pub record IsViewed (s : State) (a : Access) : Type 0 where
 abbrev pub StandsFor : Outcome → Reply → Type 0
 StandsFor outcome reply = (scratch : Scratch) → reply_by scratch outcome ≡ reply
 
--- the sealed logs once it has come, oldest first: where it opened another log, the one that was open is the youngest
+-- the sealed logs once an object has come to a place, oldest first: if another log was opened for it, the one that was open is the youngest
 abbrev pub order_come_of : State → List ℕ → ℕ → Option Place → Option PtrWord → List ℕ
 order_come_of s order p None o = order
 order_come_of s order p (Some place) None = order
@@ -113,7 +113,7 @@ refuser Device = Refuses Device 0 0
 refuser Damaged = Refuses Damaged 0 0
 refuser why = Serves
 
--- or it is refused a place, or refused by what is outside the heap, and nothing has changed but that it was asked for
+-- an object that its owner asks for comes so; or it is refused a place, or refused by what is outside the heap, and nothing has changed but that it was asked for
 pub record Brings (old new : EvacOf Plain FarSide) (m p : ℕ) (result : Result (Unit {0}) Refusal) : Type 0 where
   pub comes : IfOk result (λ _. (o : Outside) × Comes old new m p o)
   pub refused : IfErr result (λ why. RefusesBringing (asked_for (state_in old) m p) p why (state_in new))

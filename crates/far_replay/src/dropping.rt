@@ -22,7 +22,8 @@ use far_core::Event;
 use far_evac::Evac;
 use far_word::{Mark, Refused};
 
-/// Drops an owner's object: its owner asks, and the book retires it.
+/// Drops an owner's object: its owner asks, and the book retires it. Refused [`Refused::NotHeld`] if the owner doesn't use the
+/// pointer, [`Refused::Held`] if it views the object.
 pub fn drop_object(evac: &mut Evac<Plain, FarSide>, owner: u8, pointer: u64) -> Outcome
     requires known { owner < (state_in evac.old).mutators }
     requires law { Law (state_in evac.old) }

@@ -109,7 +109,7 @@ fn count_bytes(evac: &Evac<Plain, FarSide>) -> u64
     live
 }
 
-/// Counts all objects, and the bytes that they take.
+/// Counts the objects that are near and those that are far, and the live bytes of all logs.
 pub fn audit(evac: &Evac<Plain, FarSide>, scratch: &mut Scratch) -> Outcome
     ensures reply { reply_by scratch.new result ≡ reply_to (moment_in evac.now) (AsksBook Audit) }
     ensures fits { IsInScratch result }

@@ -38,7 +38,7 @@ use thiserror::Error;
 /// How a run ended.
 #[derive(Clone, Copy, Debug, PartialEq, Eq)]
 pub enum End {
-    /// Each command ran.
+    /// Each command was answered, if only by a refusal; or the text says nothing.
     Ran,
     /// The text or the heap's shape was refused, and nothing ran.
     Refused,

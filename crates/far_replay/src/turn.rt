@@ -58,7 +58,7 @@ fn object_len(cell: u64) -> u16
     pointer_len(cell)
 }
 
-// Whether an owner may reach some bytes of a pointer's object, or why not.
+// The range of a pointer's object that an owner asks for, or why the owner may not reach it.
 fn reach(
     evac: &Evac<Plain, FarSide>,
     owner: u8,
@@ -306,7 +306,7 @@ fn write(
     }
 }
 
-// Makes a new object, or answers why not: its pointer.
+// Makes a new object: its pointer, or why there is none.
 fn place_new(evac: &mut Evac<Plain, FarSide>, owner: u8, len: u64, ds: u64) -> Result<u16, Refused>
     requires known { owner < (state_in evac.old).mutators }
     ensures refusal { refused_in result ≡ refusal (moment_in evac.old) (Mutator owner (New len ds)) }

@@ -72,7 +72,7 @@ abbrev pub to_lie : Option Device → ℕ
 to_lie (Some (Flawed Flip (suc call))) = 1
 to_lie device = 0
 
--- how many replies say that the device failed
+-- a reply says that the device failed
 abbrev pub says_failed : Reply → Bool
 says_failed (Refused Failed) = true
 says_failed (Halted Failed progress) = true
@@ -90,7 +90,7 @@ says_lacking (Refused Memory) = true
 says_lacking (Halted Memory progress) = true
 says_lacking r = false
 
--- none of them does
+-- none of these replies says that memory was refused
 abbrev pub NoneLacks : List Reply → Type 0
 NoneLacks [] = Unit {0}
 NoneLacks (r ∷ rs) = (says_lacking r ≡ false) × NoneLacks rs
@@ -107,7 +107,7 @@ abbrev pub damages : List Reply → ℕ
 damages [] = 0
 damages (r ∷ rs) = one_if (says_damaged r) + damages rs
 
--- how many commands were given other bytes
+-- how many commands were given words by a device that may lie, also if they are the object's own
 abbrev pub lies : List Outside → ℕ
 lies [] = 0
 lies (Serves ∷ os) = lies os

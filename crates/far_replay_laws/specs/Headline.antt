@@ -55,7 +55,7 @@ use Rattle.far_replay.specs.Changes.{LogStays, StayThrough, EndsObject, ViewsObj
 use Rattle.far_replay.specs.Lawful.{Lawful}
 use Rattle.far_replay.specs.Taking.{TakesNone, TakesSpan, DereferenceTakes, DereferenceLacks, DropTakes}
 
--- the object that a command reads, writes or views, if there is one, may be dereferenced at once
+-- the object that a command reads, writes, views or tries, if there is one, may be dereferenced at once
 abbrev pub IsAtHandFor : Moment → Command → Type 0
 IsAtHandFor now (Mutator m (Write p from bytes)) = now.core.cell p ≢ 0 → AtHand now.core p
 IsAtHandFor now (Mutator m (Read p from len)) = now.core.cell p ≢ 0 → AtHand now.core p
@@ -380,11 +380,11 @@ MomentsLast = (now : Moment) (cs : List Command) (rs : List Reply) (moments : Li
 abbrev pub EventsReach : Type 0
 EventsReach = (now : Moment) (c : Command) (r : Reply) (after : Moment) → IsMoment now → WritesBytes c → Commanded now c r after → Reaches now c r after
 
--- a refused command leaves objects, bytes, places and all else as they were, but for marks that it may add to its object's cell
+-- a refused command leaves objects, bytes, places and all else as they were, but for marks that it may add to its object's cell, and whom a refused wait has seen clear
 abbrev pub RefusalsStay : Type 0
 RefusalsStay = (now : Moment) (c : Command) (r : Reply) (after : Moment) (why : Refusal) → Law now.core → Commanded now c r after → r ≡ Refused why → Stays c why now after
 
--- a refusal that comes before any pin leaves all, but that of a wait which goes on
+-- a refusal that comes before any pin leaves all, but for that of a wait since a scope is open
 abbrev pub RefusalsChangeNothing : Type 0
 RefusalsChangeNothing = (now : Moment) (c : Command) (r : Reply) (after : Moment) (why : Refusal) → ((p : ℕ) → ¬ MayMark c why p) → ¬ MaySee c why → Commanded now c r after → r ≡ Refused why → after ≡ now
 
@@ -424,7 +424,7 @@ OpensAt now m r after =
 abbrev pub ScopesOpenAtEpochs : Type 0
 ScopesOpenAtEpochs = (now : Moment) (m : ℕ) (r : Reply) (after : Moment) → m < now.core.mutators → is_opened now.core m ≡ false → Commanded now (Mutator m Open) r after → OpensAt now m r after
 
--- a close forgets it
+-- a close forgets the epoch that its mutator remembers
 abbrev pub ClosesForget : Type 0
 ClosesForget = (now : Moment) (m : ℕ) (after : Moment) → Commanded now (Mutator m Close) Done after → after.core.remembered m ≡ None
 
@@ -534,7 +534,7 @@ abbrev pub TriesAreAnswered : Type 0
 TriesAreAnswered = (now : Moment) (m p : ℕ) (r : Reply) (after : Moment) → Law now.core → m < now.core.mutators → is_opened now.core m ≡ true → uses now.core m p ≡ true →
     Commanded now (Mutator m (Try p)) r after → AnswersTry now m p r after
 
--- what is read, written or tried is viewed until its mutator closes its scope; nothing else makes a view or takes one away
+-- what is read, written, viewed or tried is viewed until its mutator closes its scope; nothing else makes a view or takes one away
 abbrev pub ViewsLast : Type 0
 ViewsLast = (now : Moment) (c : Command) (r : Reply) (after : Moment) → IsMoment now → WritesBytes c → Commanded now c r after → ViewsAfter now.core c r after.core
 

@@ -77,7 +77,8 @@ pub record SomeStay (Stays : State → State → ℕ → Type 0) (s t : State) :
   pub scope : t.scope ≡ s.scope
   pub remembered : t.remembered ≡ s.remembered
 
--- objects may leave by an evacuation and by a round, also by one that the device stops, and by no other step. What an evacuation hasn't reached stays under its very word; a round marks objects before
+-- objects may leave by an evacuation and by a round, also by one that is refused in its midst, and by no other step. What an evacuation hasn't reached stays under its very
+-- word; a round marks objects before
 -- it deals with them
 abbrev pub LeavesRest : Moment → Step → Reply → Moment → Type 0
 LeavesRest now (Evacuate count) (Evacuated progress) after = SomeStay StaysPut now.core after.core

@@ -16,7 +16,7 @@ use Rattle.far_replay.specs.Moment.{Moment}
 abbrev pub bytes_in : Moment → ℕ → Option (List ℕ)
 bytes_in now p = bytes_in_world ((world_of now.core).object p)
 
--- the device is to hold bytes under its key: it is far, or near without DIRTY
+-- the device is to hold bytes under a pointer's key: the object is far, or near without DIRTY
 abbrev pub IsKept : Moment → ℕ → Type 0
 IsKept now p = (len : ℕ) × (kept_len (read_of (now.core.cell p)) ≡ Some len)
 

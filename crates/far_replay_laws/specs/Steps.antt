@@ -208,7 +208,7 @@ TellsRound now policy most turns ends.Nothing after = Takes now (By policy) most
 TellsRound now policy most turns end after =
     (l : ℕ) × (ls : List ℕ) × (chosen : Moment) × (rs : List Reply) × Served now (Evacuator (Select (By policy) most)) (Selected (l ∷ ls)) chosen × AreTurns chosen rs after × Ends turns rs end after × CountsAtEnd now (l ∷ ls) end after
 
--- ---- a step that the device stops
+-- ---- a step that is stopped by the device, or for want of memory
 -- at this object, which was to go far and to be written: it lies in a chosen log, before all others that lie in those, and has DIRTY. Its owner hasn't dropped it; and if it is hot there is no room for it, not even in
 -- the last free log
 pub record IsStoppedAt (after : Moment) (p : ℕ) : Type 0 where

@@ -27,7 +27,9 @@ pub fn outputs_are_sound()
     ensures each { TextsSayAll }
 {}
 
-/// Each text has an output in which no reply says `refused 1`, and one such alone, unless it says a device that is to fail or to lie. Whatever the outside makes of commands, which it may refuse in their midst, of `evacuate` and `round` memory too, or give other bytes, their replies and the output follow from it. A text that ends as refused begins it with `refused`; one that ran has none, or begins with `ok`. Off the grammar it is `refused 16` with the line, of a
+/// Each text has an output in which no reply says `refused 1`, and one such alone, unless it says a device that is to fail or to lie. Whatever the outside makes of commands,
+/// which it may refuse in their midst, of `evacuate` and `round` memory too, or give other bytes, their replies and the output follow from it. The output of a text that ends
+/// as refused begins with `refused`; that of one that ran is empty, or begins with `ok`. Off the grammar it is `refused 16` with the line, of a
 /// text that says nothing it is nothing, and of a heap out of range it is `refused 15`; else it begins with `ok`, and another `ok` where a device is said, and has a reply for each command then. Its commands that write, write bytes. Among lines that say commands, a
 /// mutator's are those that have its number after the name, but for `log`, after which a log's number stands, and for `mark` and
 /// `evacuate`, after which a number of objects stands.
@@ -52,7 +54,8 @@ pub fn faults_leave()
 /// After commands each moment has the law, what it names is used, and its objects are whole: each in use has exactly one
 /// place, each log's bytes are 4,096 in all, and no two pointers name one place. Each command is carried out by its events,
 /// those of a dereference among them, whatever marks its object has and wherever it is: they are legal, none is refused,
-/// they keep the law and what views rest on, and end in the moment after it. Where the device gave other bytes they are those that the command has where these are stored. Where its object is at hand, a pin among them
+/// they keep the law and what views rest on, and end in the moment after it. Where the device gave other bytes, the events are those that the command has where these bytes are
+/// stored. Where its object is at hand, a pin among them
 /// gives a view, and a naming wins. While a round waits, and while objects leave, the logs of the core's round are the chosen ones; else
 /// what a round that was given up has left there has no object in it.
 pub fn moments_are_lawful()
@@ -95,7 +98,8 @@ pub fn refusals_leave_all()
 
 /// The replies to one mutator's lines are what its own lines alone say: its own, and no others, say what it knows. What
 /// it knows then, its scope, its objects' bytes and which of them it views, is so in the heap after each command. So `new` in
-/// range is refused 3 exactly where all its 256 objects exist. Where the device tells what was written, so a read gives what was written last. Where it may lie, an object that its mutator
+/// range is refused 3 exactly where all 256 objects of its mutator exist. Where the device tells what was written, a read gives what was written last. Where the device may
+/// lie, an object that its mutator
 /// doesn't view may have other bytes, as many, when it is read, written or viewed; all else is as before. From a text on (`outputs_are_sound`) that is so under a line `flip` alone.
 pub fn mutators_are_alone()
     ensures alone { MutatorsAreAlone }

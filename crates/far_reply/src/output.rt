@@ -37,7 +37,7 @@ impl Output {
     /// The most bytes that the text has.
     pub const CAPACITY: usize = 65_536;
 
-    /// An empty text. It takes all its buffer at once, and is refused where memory is.
+    /// An empty text. All its buffer is taken at once; `Err` if there is no memory for that.
     pub fn new(alloc: Global) -> Result<Output, AllocError>
         ensures { IfOk result (λ o. o ≡ []) }
     {

@@ -15,8 +15,8 @@ use far_word::{Marks, Refused};
 /// Room for any reply, in bytes: none is printed with more.
 pub const LONGEST_REPLY: usize = 16_384;
 
-/// What is told of one log: its number, its kind, and its bytes: those of objects in use, those of dropped ones, and those
-/// that no object takes.
+/// What is told of one log: its number, its kind, and its bytes: live ones, of objects that lie there; dead ones, of objects that
+/// were dropped, or have moved or gone far; and those that no object takes.
 #[derive(Clone, Copy)]
 pub struct LogLine {
     pub log: u8,
@@ -53,7 +53,7 @@ pub enum Reply<'a> {
     EpochRead(u64),
     /// The logs that were chosen for a round, fewer than 256 where they are printed.
     Selected(&'a [u8]),
-    /// How many objects were marked for a round, and the epoch that it waits for.
+    /// How many objects were marked for a round, and, once all are marked, the epoch that the round waits for.
     Marked(&'a Marked),
     /// No mutator holds the round up.
     Clear,
@@ -311,7 +311,7 @@ fn push_refused(why: Refused, out: &mut Output)
 
 impl Reply<'_> {
     /// Adds the reply's lines to the output, each with its newline, as the plain program prints them: [`LONGEST_REPLY`] bytes
-    /// at most. Bytes are told of one object at most, log lines of 64 logs, and a choice of fewer than 256.
+    /// at most, for which there must be room. A reply may tell 4,088 bytes, lines of 64 logs, or a choice of 255 logs, and no more.
     #[inline(always)]
     pub fn print_to(&self, out: &mut Output)
         requires short { IsShort (reply_of self.now) }

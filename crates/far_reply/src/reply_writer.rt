@@ -61,7 +61,8 @@ impl ReplyWriter {
         }
     }
 
-    /// Adds a reply to those that wait.
+    /// Adds a reply to those that wait. They are written first if there may be no room for it; [`ReplyWriter::finish`] tells if
+    /// that failed.
     #[inline(always)]
     pub fn add<W: Write>(&mut self, writer: &mut W, reply: &Reply)
         requires { IsShort (reply_of reply.now) }
@@ -72,7 +73,7 @@ impl ReplyWriter {
         reply.print_to(&mut self.waiting);
     }
 
-    /// Writes what waits. `Err` where a write has failed since the replies began.
+    /// Writes what waits. `Err` if that write fails, or one has failed since the writer was made or last cleared.
     pub fn finish<W: Write>(&mut self, writer: &mut W) -> Result<(), WriteFault>
         ensures { (start : Option (List ℕ)) (bytes : List ℕ) → Holds start (W.contents writer.old) self.old.waiting self.old.written bytes
             → Writes start (W.contents writer.new) result bytes }

@@ -65,7 +65,7 @@ HasNoEpoch now = (now.phase ≡ Idle) × (now.core.epoch + 1 ≡ 2 ^ 62)
 abbrev pub IsRefusedBare : HeapId → Refusal → Type 0
 IsRefusedBare heap why = (refusal_number why ≡ 12) ⊎ ((refusal_number why ≡ 13) × BookStood heap HasNoEpoch)
 
--- it tells counts: memory was refused in a turn, or its device was, whatever it had done; or another ended it, and it had done something
+-- it tells counts: memory was refused in a turn, or the device failed, whatever the round had done; or another ended the round, which had done something
 abbrev pub IsRefusedWithCounts : Refusal → Progress → Type 0
 IsRefusedWithCounts why so_far = (refusal_number why ≡ 1) ⊎ (refusal_number why ≡ 10) ⊎ ((refusal_number why ≡ 12) × (0 < so_far.moved + so_far.far + so_far.dropped + so_far.freed))
 
@@ -164,7 +164,8 @@ abbrev pub numbers_of : List LogLine → List ℕ
 numbers_of lines = map (λ (line : LogLine). line.log) lines
 
 -- what a line may be told: a line for each log from 0 on, or for the one that is asked for; 8 where the heap has no such log; of an audit what was counted of one moment, or 1, and no other
--- refusal; of a round that no log was chosen, where none was to be or none was sealed, or how a round of some logs ended, or the refusals above. A mutator's line, and any other step of a round, is told nothing
+-- refusal; of a round that no log was chosen, where none was to be or none was sealed, or how a round of some logs ended, or the refusals above. No mutator's line, and no
+-- step that isn't a round, is one that the book answers
 abbrev pub IsToldSo : HeapId → Command → Reply → Type 0
 IsToldSo heap (Book AsksLogs) (Logs lines) = (numbers_of lines ≡ range_with_len 0 heap.logs) × AllByRecursion MakesBytes lines
 IsToldSo heap (Book (AsksLog log)) (Logs lines) = (log < heap.logs) × (numbers_of lines ≡ log ∷ []) × AllByRecursion MakesBytes lines

@@ -95,7 +95,7 @@ none_done = progress_of nothing false
 
 -- ---- lines
 -- a line was answered so. One log is refused where the heap has no such log; an audit where memory is. A refusal of a round tells what it had done where that is
--- anything, and always where its device was refused, or memory: no memory is taken for a choice of logs, so a turn was refused then
+-- anything, and always if the device failed, or memory was refused: a choice of logs calls no device and takes no memory, so a turn was refused then
 abbrev pub TellsLine : HeapId → Command → Reply → Type 0
 TellsLine heap (Book AsksLogs) (Logs lines) = TellsLogs heap (range_with_len 0 heap.logs) lines
 TellsLine heap (Book (AsksLog log)) (Logs lines) = (log < heap.logs) × TellsLogs heap (log ∷ []) lines

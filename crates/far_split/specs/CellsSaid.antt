@@ -50,12 +50,12 @@ abbrev pub HasCellAlone : ℕ → ℕ → State → Type 0
 HasCellAlone m len s = ((p : ℕ) × (p / 256 ≡ m) × (s.cell p ≡ 0)) × PassesOpen s len × HasNoTwoFree s
 
 -- ---- an object that isn't brought
--- its cell says far, and a log for it would have been the last free one; or near, with EVAC and MOVE, and no log was free
+-- the object passes the end of the open log; and its cell says far, and no two logs were free; or near, with EVAC and MOVE, and no log was free
 abbrev pub HasNowhereFor : ℕ → State → Type 0
 HasNowhereFor p s = ((len structure : ℕ) × (marks : Marks) × (read_of (s.cell p) ≡ Some (Far len structure marks)) × PassesOpen s len × HasNoTwoFree s)
     ⊎ ((len structure : ℕ) × (place : Place) × (marks : Marks) × (read_of (s.cell p) ≡ Some (Near len structure place marks)) × (marks.evac ≡ true) × (marks.moved ≡ true) × PassesOpen s len × HasNoneFree s)
 
--- its cell says far, and there was room
+-- its cell says far; and there was room too
 abbrev pub HasFar : ℕ → State → Type 0
 HasFar p s = (len structure : ℕ) × (marks : Marks) × (read_of (s.cell p) ≡ Some (Far len structure marks))
 

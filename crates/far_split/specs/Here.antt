@@ -23,7 +23,7 @@ Hindered o (Mutator _ (New len ds)) (Refused NoPointer) q = (ds < 256) × (0 < l
 Hindered o (Mutator _ (New len ds)) (Refused NoRoom) q = (ds < 256) × (0 < len) × (len ≤ LONGEST) × (q ≡ o)
 Hindered o _ _ q = ⊥
 
--- the far side gave no other bytes than it was given
+-- the reply doesn't say that the far side gave another number of bytes
 abbrev pub IsUndamaged : Reply → Type 0
 IsUndamaged (Refused Damaged) = ⊥
 IsUndamaged r = Unit {0}

@@ -47,7 +47,7 @@ AreShort (Ran mutators book) = AllByRecursion (AllByRecursion IsShort) mutators 
 abbrev pub commands_in : Thread → List (ℕ × Command) → List Command
 commands_in thread lines = commands_of (lines_in thread lines)
 
--- a heap was begun so: without copiers; nobody had used its parts, whose shape was this, the first epoch too; and its device had the flaw that is said, in the call of which it is
+-- a heap was begun so: without copiers; nobody had used its parts, whose shape was this, the first epoch too; and its device had the flaw that is said, in the call that is said
 pub record BeganSo (heap : HeapId) (shape : Size) (device : Option Device) : Type 0 where
   pub blank : BlankOf FarSide
   pub named : blank.heap ≡ heap

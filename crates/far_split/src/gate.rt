@@ -3,7 +3,7 @@
 ghost use Rattle.std.specs.Prelude.{◌≡◌, ℕ, true, false};
 
 /// Asked in each thread before each of its lines, and told after each. `who` is a mutator's number, or [`THE_BOOK`](crate::THE_BOOK) for the book's thread; `turn` is how many of
-/// that thread's lines stand before this one. It is shared by all threads.
+/// that thread's lines stand before this one. One gate is shared by all threads.
 pub trait Gate: Sync {
     /// To which lines the gate may say no: of which thread, and how many of that thread's lines stand before it.
     ghost refuses: { Self → ℕ → ℕ → Type 0 };

@@ -24,7 +24,8 @@ pub fn mutators_are_alone()
 
 /// What a mutator's replies tell of cells, by the numbers of refusals and by what a cell's word says. A new object has the lowest of the mutator's 256 cells that was free; it is refused 3
 /// where none was, and 2 where one was, and the object passes the end of the open log, and no two logs were free. An object isn't brought, and that is refused 2, where its cell said far
-/// and there was as little room, or near with EVAC and MOVE and no log was free; 10 where it said far, and the one read of it failed; 11 where that gave another number of bytes, over a
+/// and there was as little room, or near with EVAC and MOVE, and it passes that end too and no log was free; 10 where it said far, and the one read of it failed; 11 where that
+/// gave another number of bytes, over a
 /// far side that isn't honest. A word that 14 tells is far, or near with EVAC or MOVE, of an object as long as the mutator knows. No line is refused 1.
 pub fn mutators_are_told_so()
     ensures cells { MutatorsAreToldSo }

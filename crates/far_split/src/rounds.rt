@@ -35,8 +35,8 @@ fn run_by<K: HeapName, R: Wait>(
     }
 }
 
-// Whether a round was refused in one of its turns, and not while its logs were chosen, for which no device is called and no memory is taken: a turn leaves
-// it standing.
+// Whether a refusal is the device's or for want of memory. A round has such a one in a turn alone, since no device is called and no memory is taken while its logs
+// are chosen; the turn leaves the round standing.
 fn stands_after(why: Refused) -> bool
     ensures causes { result ≡ true → (why ≡ Memory) ⊎ (why ≡ Failed) }
     ensures device { why ≡ Failed → result ≡ true }
@@ -55,8 +55,8 @@ fn did_nothing(so_far: &Progress) -> bool
     so_far.moved == 0 && so_far.far == 0 && so_far.dropped == 0 && so_far.freed == 0
 }
 
-/// Makes a round, turn by turn, each under the heap's lock anew, and tells how it ends. Where the device, or memory for it, is refused in a turn, it tells
-/// what had been done; the round stands then.
+/// Makes a round, turn by turn, each under the heap's lock anew, and tells how it ends. If the device fails in a turn, or memory is refused, what had been done
+/// is told, and the round stands then. What had been done, if anything, is told too if another thread ended the round.
 pub(crate) fn make_round<K: HeapName, R: Wait>(
     rt: &R,
     heap: &Heap<K, FarSide>,

@@ -36,7 +36,7 @@ use std::thread::Threads;
 pub enum SplitFault {
     /// The gate ended the thread of this mutator, or of the book, which is [`THE_BOOK`].
     Gate(u8),
-    /// Memory was refused, but not to a line.
+    /// Memory was refused for the text, the heap, lists or replies. Which of them isn't told, and no replies are given.
     Memory,
 }
 

@@ -152,8 +152,9 @@ fn print_book<W: Write>(
 
 impl SplitOut {
     /// Writes the text: for each mutator by number the line `mutator M` and its replies, then the line `book` and the book's; or the one line of the
-    /// refusal. What was in the room is taken away; it is written as often as it is full, and at the end. Refused [`WriteFault`] where the writer
-    /// fails or takes nothing: what was written is a proper prefix of the text.
+    /// refusal. What the buffer had is taken away; the buffer is written as often as it may have no room for one reply more, and at the end. Each reply must be
+    /// short enough to be printed, as those of [`run_split`](crate::run_split) are. Refused [`WriteFault`] if the writer fails or takes nothing: what was written is a
+    /// proper prefix of the text.
     pub fn print<W: Write>(&self, buffer: &mut Output, writer: &mut W) -> Result<(), WriteFault>
         requires short { AreShort (as_joined self.now) }
         ensures { Writes (W.contents writer.old) (W.contents writer.new) result (split_text (as_joined self.now)) }

@@ -9,7 +9,8 @@ use far_reply::{Counts, LogLine, Reply};
 use far_word::{LOG_BYTES, Refused};
 use std::marker::Model;
 
-/// What a log has, in words of eight bytes: those of objects in use, and those of dropped ones. The others of its words no object takes.
+/// What a log has, in words of eight bytes: live ones, of objects that lie there, and dead ones, of objects that were dropped, or have moved or gone far. The
+/// others of its 512 words no object takes.
 #[derive(Clone, Copy)]
 pub(crate) struct LogWords {
     pub(crate) kind: LogKind,

@@ -65,7 +65,7 @@ pub data Flaw : Type 0 where
   Short : Flaw
   Flip : Flaw
 
--- a heap's device: what is wrong, and in which of the calls that are counted for it, from 1; 0 is none
+-- a heap's device: what is wrong, and in which of the calls that are counted for that flaw, from 1; 0 is none
 pub data Device : Type 0 where
   Flawed : (flaw : Flaw) (call : ℕ) → Device
 

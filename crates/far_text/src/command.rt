@@ -18,7 +18,8 @@ pub const MOST_CHOSEN: u8 = 64;
 /// How many numbers may name a log in a script: those below this, which a byte holds.
 pub const LOG_NAMES: u64 = 256;
 
-/// What a mutator asks for. The bytes of a write are digits in hex as far as they are only read, and not yet kept.
+/// What a mutator asks for. The bytes of a write are still digits in hex in a request that was only read; in one that was kept,
+/// as [`Commands`](crate::Commands) gives it, they are the bytes themselves.
 #[derive(Clone, Copy)]
 pub enum Request<'a> {
     New {
@@ -73,7 +74,7 @@ pub enum Policy {
 #[derive(Clone, Copy)]
 pub enum Choice<'a> {
     By(Policy),
-    /// These logs, one at least, a byte for each. They are words as far as they are only read, and not yet kept.
+    /// These logs, one at least, a byte for each. In a step that was only read, and not yet kept, they are the words that print them.
     Script(&'a [u8]),
 }
 
@@ -119,7 +120,7 @@ pub enum Flaw {
     Flip,
 }
 
-/// A heap's device: what is wrong, and in which of the calls that are counted for it, from 1; 0 is none.
+/// A heap's device: what is wrong, and in which of the calls that are counted for that flaw, from 1; 0 is none.
 #[derive(Clone, Copy)]
 pub struct Device {
     pub flaw: Flaw,

@@ -34,7 +34,7 @@ fn digit(byte: u8) -> Option<u8>
     if value < 16 { Some(value) } else { None }
 }
 
-/// The byte that two digits spell, if both are digits. The first of them stands anywhere.
+/// The byte that two digits in hex spell, if both are digits, at whatever place of a text they stand.
 #[inline(always)]
 pub fn pair(high: u8, low: u8) -> Option<u8>
     ensures some { IfSome result (λ byte. (at : ℕ) → pair_value high low at ≡ Ok byte) }

@@ -129,7 +129,7 @@ impl HexBytes {
         &self.buffer[..self.len]
     }
 
-    /// Takes all away but the first.
+    /// Takes all bytes away but the first `len`.
     pub fn truncate(&mut self, len: usize)
         requires { len ≤ length self.old }
         ensures { self.new ≡ take len self.old }

@@ -63,8 +63,8 @@ fn split_after(
 }
 
 /// What a text says whose commands are split among threads; or its first line off the grammar, or whose
-/// command has no thread: one that asks where an object is, or for the epoch, a step of the evacuator, or a mutator's that the
-/// heap hasn't.
+/// command has no thread: one that asks where an object is, or for the epoch, a step of the evacuator that isn't a `round`, or
+/// one of a mutator that the heap hasn't. Refused [`ParseError::Memory`] if there is no memory for the commands.
 pub fn parse_split(alloc: Global, text: &[u8]) -> Result<SplitTrace, ParseError>
     ensures trace { IfOk result (λ split. split_of text.now ≡ Ok (as_split split)) }
     ensures fault { IfErr result (λ e. IsFault e (split_of text.now)) }

@@ -74,7 +74,7 @@ impl SplitText {
         self.numbers.len()
     }
 
-    /// The number of the line at a place, and its command.
+    /// The number that the line at a place has in the text, from 1, and its command.
     pub fn at(&self, at: usize) -> (u64, Command<'_>)
         requires { at < length self.now }
         ensures value { drop at self.now ≡ (result.0, as_command result.1) ∷ drop (at + 1) self.now }
@@ -134,7 +134,7 @@ impl<'a> Lines<'a> {
         self.places.len()
     }
 
-    /// The number of the line at a place, and its command.
+    /// The number that the line at a place has in the text, from 1, and its command.
     pub fn at(&self, at: usize) -> (u64, Command<'_>)
         requires { at < length self.now }
         ensures value { drop at self.now ≡ (result.0, as_command result.1) ∷ drop (at + 1) self.now }

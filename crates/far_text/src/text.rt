@@ -113,8 +113,8 @@ pub fn heap_line(text: &[u8]) -> Result<Option<HeapLine<'_>>, ParseError>
     Ok(None)
 }
 
-/// What the first lines after the heap's say: its device, if they do; the number of the last line before the commands, and
-/// the lines after it.
+/// The heap's device, if the first of these lines that says anything says one; the number of the device's line, or, if no device
+/// is said, `number`, which is that of the line before these; and the lines after that line.
 pub fn device_line(number: u64, lines: Option<&[u8]>) -> (Option<Device>, u64, Option<&[u8]>)
     requires counted { number + length (lines_left lines) ≤ LONGEST_TEXT + 1 }
     ensures value { beside (number + 1) (lines_left lines.entry) ≡ (option_map as_device result.0, result.1 + 1, lines_left result.2) }
@@ -193,7 +193,8 @@ fn commands_after(alloc: Global, number: u64, lines: Option<&[u8]>) -> Result<Co
     Ok(commands)
 }
 
-/// What a text says, or its first line off the grammar: a heap comes first, and nowhere else; directly after it its device may.
+/// What a text says, or its first line off the grammar: a heap comes first, and nowhere else; directly after the heap its device
+/// may come. Refused [`ParseError::Memory`] if there is no memory for the commands.
 pub fn parse(alloc: Global, text: &[u8]) -> Result<Trace, ParseError>
     ensures trace { IfOk result (λ trace. trace_of text.now ≡ Ok (as_trace trace)) }
     ensures fault { IfErr result (λ e. IsFault e (trace_of text.now)) }

@@ -13,7 +13,7 @@ pub enum Thread {
     Book,
 }
 
-// Whether a mutator may ask for it in a thread of its own, where nobody tells it of the rest of the heap.
+// Whether a mutator may make this request in a thread of its own, where nobody tells the mutator of the rest of the heap.
 fn is_own(request: Request<'_>) -> bool
     ensures { result ≡ is_own (as_request request.entry) }
 {
