@@ -118,7 +118,7 @@ fn count_bytes(logs: &[LogState]) -> u64
     live
 }
 
-// Counts all objects, and the bytes that they take.
+// Counts the near objects, the far ones, and the live bytes of all logs.
 fn audit_told<K: HeapName>(book: &mut Evacuator<K, FarSide>) -> Answer
     ensures told { TellsLine K.heap (Book Audit) (as_reply result) }
     ensures short { IsShort (as_reply result) }
