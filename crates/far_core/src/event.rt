@@ -67,7 +67,8 @@ pub enum Event {
     },
     /// The cell of a pointer goes from `old` to `new`, where it is `old`. Answers `Done` then, and `Word` with the
     /// cell, which stays, else. The two words make one of these forms. A new span stands where the next span may stand,
-    /// with a header for the pointer written there and zeros after the last byte; `new` has no marks.
+    /// with a header for the pointer written there and zeros after the last byte. `new` has no mark but DIRTY: always after
+    /// Place; after Move and Stay exactly if `old` has DIRTY; never after Fetch and Evict.
     ///
     /// - Place: `old` is 0, and `new` near at a new span, whose data words are 0.
     /// - Retire: `old` has DROP, and `new` is 0.
@@ -79,7 +80,7 @@ pub enum Event {
     ///   data words are those that were stored, if the far side is honest.
     /// - Evict: `old` is near with EVAC and without DROP, and `new` is of the same length and data structure, far and
     ///   without marks. The object is quiet; its data words are stored.
-    /// - Stay: `old` is near with MOVE, without EVAC and DROP, and `new` is the same without marks.
+    /// - Stay: `old` is near with MOVE, without EVAC and DROP, and `new` is the same without HOT and MOVE.
     Name {
         pointer: u16,
         old: u64,

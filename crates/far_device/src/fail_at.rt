@@ -6,7 +6,7 @@ ghost use Rattle.far_device.specs.FailAt.{in_all, Counts, MayFail};
 use crate::device::Device;
 use crate::fault::DeviceFault;
 
-/// A device of which one call fails, once: the k-th write or read, counted together from 1. It answers
+/// A device of which one call fails, once: the k-th write or read, counted together from 1. That call answers
 /// [`DeviceFault::Device`], and the inner device isn't asked. All other calls are the inner device's.
 ///
 /// It is honest where the inner device is, and forgets where that forgets. Calls of `forget` and `faults` aren't counted,

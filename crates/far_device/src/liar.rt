@@ -20,9 +20,9 @@ pub(crate) enum Lie {
     Flip,
 }
 
-/// A device of which one read is a lie: the k-th that is asked for, counted from 1. Of the bytes that the inner device gives it
-/// lacks the last, or has each inverted; where there are none it gives none. A fault of the inner device is handed on, and that
-/// read counts too. All other calls are the inner device's.
+/// A device of which one read is a lie: the k-th that is asked for, counted from 1. That read gives the inner device's bytes
+/// without the last, or with each inverted; no bytes if the inner device gives none. A fault of the inner device is handed on,
+/// and that read counts too. All other calls are the inner device's.
 ///
 /// It is honest where the inner device is and k is 0; it forgets where the inner device forgets, and counts its faults.
 #[derive(Debug, Drop)]

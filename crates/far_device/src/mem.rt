@@ -17,7 +17,8 @@ use std::collections::hash_map::Entry;
 /// Keys below this one, as the numbers of a heap's pointers are, stand in a row, where each is found by its number.
 pub(crate) const ROW: u32 = 2048;
 
-/// A device in memory. It is honest, and its one fault is a read of a key under which nothing is.
+/// A device in memory. It is honest, answers [`DeviceFault::Device`] only to a read of a key under which nothing is, and
+/// [`DeviceFault::Memory`] only to a write or read for which memory was refused.
 #[derive(Debug, Drop)]
 pub struct MemDevice {
     pub(crate) alloc: Global,
@@ -148,8 +149,8 @@ impl Device for MemDevice {
 
     ghost forget_follows = { Prim.search rules };
 
-    /// Refused [`DeviceFault::Memory`] alone, and then nothing has changed. Under a key below 2,048 no more bytes than are there
-    /// take no memory.
+    /// Refused [`DeviceFault::Memory`] alone, and then nothing has changed. A write under a key below 2,048 of no more bytes than
+    /// are there takes no memory.
     #[inline(always)]
     fn write(&mut self, id: u32, bytes: &[u8]) -> Result<(), DeviceFault>
         ensures set { OnOk result (bytes_at self.new id ≡ Some bytes.now) }
@@ -166,7 +167,7 @@ impl Device for MemDevice {
         }
     }
 
-    /// Answers [`DeviceFault::Device`] exactly where nothing is under the key.
+    /// Answers [`DeviceFault::Device`] exactly if nothing is under the key, and else no fault but [`DeviceFault::Memory`].
     fn read(&mut self, id: u32) -> Result<Vec<u8>, DeviceFault>
         ensures given { IfOk result (λ bytes. bytes_at self.old id ≡ Some bytes.items) }
         ensures nothing { IfNone (bytes_at self.old id) (result ≡ Err Failed) }

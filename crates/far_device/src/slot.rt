@@ -6,7 +6,7 @@ ghost use Rattle.std.specs.Vec.{vec_capacity};
 
 use std::alloc::Global;
 
-/// How long a buffer is at least that isn't kept once nothing is under its key.
+/// A buffer with room for so many bytes, or more, isn't kept once nothing is under its key.
 const LONG: usize = 128;
 
 /// Bytes, or nothing, and then a buffer, no long one, into which bytes may be put.

@@ -38,7 +38,7 @@ impl LastFault {
         }
     }
 
-    /// Another handle on the same.
+    /// Another handle, on the last fault of the same device.
     pub fn try_clone(&self) -> Result<LastFault, AllocError> {
         let word = Arc::try_clone(&self.word)?;
         Ok(LastFault { word })

@@ -8,7 +8,7 @@ use crate::fault::StorageFault;
 use crate::storage::Storage;
 use std::alloc::Global;
 
-/// Storage in memory. It is honest. Bytes that were never put are zeros up to the last that were put, and none are there behind it.
+/// Storage in memory. It is honest. It has bytes up to the highest position at which a `put` ended; those of them that were never put are zeros.
 #[derive(Debug, Drop)]
 pub struct MemStorage {
     pub(crate) bytes: Vec<u8>,
@@ -36,8 +36,8 @@ impl Storage for MemStorage {
 
     ghost gets = { MemGets };
 
-    /// Refused [`StorageFault::Full`] exactly if the position behind the last byte has no number, or else [`StorageFault::Memory`], if it has no room. Then all is as
-    /// it was.
+    /// Refused [`StorageFault::Full`] exactly if the position behind the last byte is 2^64 or more, else [`StorageFault::Memory`], only if there was no room up to
+    /// there. Then all is as it was.
     fn put(&mut self, at: u64, bytes: &[u8]) -> Result<(), StorageFault> {
         let start = at as usize;
         let Some(end) = start.checked_add(bytes.len()) else {

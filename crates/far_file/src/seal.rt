@@ -13,7 +13,7 @@ pub trait Seal: Drop {
     /// What a seal keeps.
     ghost kept: { Self → List ℕ };
 
-    /// No two lists of bytes have the same kept of them.
+    /// Whether no two lists of bytes have the same kept of them.
     ghost exact: { Bool };
 
     /// A seal of these bytes; `None` if memory was refused.
@@ -64,7 +64,7 @@ pub struct Digest {
 impl Digest {
     ghost use Rattle.far_file.specs.Digests.{digest_of};
 
-    /// That of these bytes.
+    /// The digest of these bytes.
     pub fn of(bytes: &[u8]) -> Digest
         ensures { result.digest ≡ digest_of bytes.now }
     {
@@ -75,7 +75,7 @@ impl Digest {
         }
     }
 
-    /// As a number.
+    /// The digest as a number.
     pub fn number(self) -> u64
         ensures { result ≡ self.digest }
     {

@@ -84,7 +84,8 @@ impl<F: Storage + Drop, L: Seal> SealedDevice<F, L> {
         }
     }
 
-    /// A handle that tells the last fault from its first call on, also once a heap has the device. It takes memory once; each later handle is on the same.
+    /// A handle that tells the last fault since the first call of `last_fault`, also once a heap has the device. The first call takes memory; each later handle
+    /// tells the same.
     pub fn last_fault(&mut self) -> Result<LastFault, AllocError>
         ensures contents { bytes_at self.new ≡ bytes_at self.old }
         ensures storage { self.new.storage ≡ self.old.storage }
@@ -269,8 +270,8 @@ impl<F: Storage + Drop, L: Seal> Device for SealedDevice<F, L> {
 
     ghost forget_follows = { forget_leaves };
 
-    /// Refused memory, or a key or bytes without a slot, all is as it was; after any other fault nothing is under the key. One that succeeds is one call of the
-    /// storage, and one that is refused so is none.
+    /// Refused memory, or a key or bytes without a slot, all is as it was; after any other fault nothing is under the key. A write that succeeds makes one call
+    /// of the storage; one that is refused memory, or has no slot, makes none.
     fn write(&mut self, id: u32, bytes: &[u8]) -> Result<(), DeviceFault>
         ensures set { OnOk result (bytes_at self.new id ≡ Some bytes.now) }
         ensures others { KeepsOthers (bytes_at self.old) (bytes_at self.new) id }
@@ -305,7 +306,8 @@ impl<F: Storage + Drop, L: Seal> Device for SealedDevice<F, L> {
         }
     }
 
-    /// One that succeeds gives as many bytes as were written, those that a call of the storage gave.
+    /// A read that succeeds gives as many bytes as were written, those that a call of the storage gave. Refused [`DeviceFault::Device`] if nothing is under the
+    /// key, the storage failed, or the bytes don't fit their seal; the contents stay.
     fn read(&mut self, id: u32) -> Result<Vec<u8>, DeviceFault>
         ensures called { IfSome (bytes_at self.old id) (λ stored. IfOk result (λ bytes. F.Storage.gets self.old.storage (id * SLOT) (length stored) (Ok bytes.items))) }
         ensures len { IfSome (bytes_at self.old id) (λ stored. IfOk result (λ bytes. vec_len bytes ≡ length stored)) }

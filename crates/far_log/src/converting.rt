@@ -14,9 +14,9 @@ use far_word::{CELLS, HeadWord, HeadWordV1, Version};
 
 /// Writes the version 2 image of the log whose image `words` is, of either version, and answers its tail, which is `tail`:
 /// the same spans, whose headers name the pointers of this heap, the same cell of the same mutator; all data words stay. The
-/// words of `out` from the tail on stay as they are. An image of version 2 is copied.
+/// words of `out`, which has `tail` words or more, stay as they are from the tail on. An image of version 2 is copied.
 ///
-/// Where the image is none the answer is the first bad word, that which [`crate::walk`] names, and all of `out` stays as it
+/// If the words are no image the answer is the first bad word, that which [`crate::walk`] names, and all of `out` stays as it
 /// is. No memory is taken.
 pub fn convert(words: &[u64], tail: usize, out: &mut [u64]) -> Result<usize, BadWord>
     requires within { tail ≤ length words.now }

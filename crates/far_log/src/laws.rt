@@ -3,8 +3,8 @@
 ghost use Rattle.far_log.specs.Laws.{WalksAreOne, WalksOrBad, NeverBoth, FirstBadIsOne, SpansAreListed, SpansSayVersion, ImagesAreShort, ConvertedIsOne, ConvertedIsSaid, ConvertedWalks, PointersAreRenumbered, TailEndsWalk, BadEndsWalk, BadIsFirst, BadIsRead, WordsHaveOneSpan, WordsPastHaveNone, SpansHoldBytes, SpansTakeAll, TakenIsSum};
 
 /// The words below a tail have one list of spans, or a first bad word, never both and never two; and the list is the one
-/// that the headers spell. It is the same list in whatever version it is one: the first header says that version, and where
-/// the log ends, by which all spans end.
+/// that the headers spell. A list of spans in either version is this list: the first word says the version, 512 words are the
+/// most that the spans of a log take, and 128 the most in version 1.
 pub fn walks_are_one()
     ensures one { WalksAreOne }
     ensures either { WalksOrBad }
@@ -28,9 +28,9 @@ pub fn bad_words_are_first()
     ensures read { BadIsRead }
 {}
 
-/// What is converted has the spans of the image that it is made of, with their pointers renumbered, and no two different images
-/// are that. Pointer 128m + k of version 1 is pointer 256m + k here. Its words in numerals: headers are written anew, each with
-/// the top byte a2, and the words behind them stay; one of version 2 stays whole.
+/// The converted image has the spans of the old one, with their pointers renumbered, and no two converted images of one image
+/// differ below the tail. Pointer 128m + k of version 1, k below 128, is pointer 256m + k here. In numerals: the headers of an
+/// image of version 1 are written anew, each with the top byte a2, and the words behind them stay; one of version 2 stays whole.
 pub fn images_are_converted()
     ensures walks { ConvertedWalks }
     ensures one { ConvertedIsOne }

@@ -48,7 +48,8 @@ impl From<BadWord> for WalkFault {
 ///
 /// Where the words have no such list the fault names the first that is bad: a word at a header's place that is off the
 /// layout of the version, or whose span passes the tail or the end of the version's log, or the last data word of a span
-/// that hasn't zeros behind its last byte. All memory is taken at once, first: half as many spans as the tail has words.
+/// that hasn't zeros behind its last byte. All memory is taken first, for half as many spans as `tail` has words; if it is
+/// refused the fault is [`WalkFault::Memory`].
 pub fn walk(alloc: Global, words: &[u64], tail: usize) -> Result<Vec<Span>, WalkFault>
     requires within { tail ≤ length words.now }
     requires log { length words.now ≤ LOG_WORDS }

@@ -46,7 +46,7 @@ impl Chosen {
         }
     }
 
-    /// Puts a log at the end.
+    /// Puts a log at the end of a list that has fewer than [`MOST_CHOSEN`].
     pub fn push(&mut self, log: u8)
         requires room { length self.old < MOST_CHOSEN }
         ensures { self.new ≡ self.old ++ log ∷ [] }

@@ -6,11 +6,11 @@ use std::sync::{Condvar, Mutex, Wait};
 /// What a step of the one that makes room came to.
 #[derive(Clone, Copy, Debug, PartialEq, Eq)]
 pub enum Found {
-    /// There was enough.
+    /// There was enough room.
     Enough,
-    /// It made some.
+    /// The step made some room.
     Made,
-    /// Neither.
+    /// Neither: the step made no room, and didn't find enough.
     Less,
 }
 
@@ -82,14 +82,14 @@ impl Signs {
         self.wanted.notify_all();
     }
 
-    /// Whether [`Signs::rest`] would not sleep now.
+    /// Whether [`Signs::rest`] would not sleep now if the last step found enough. After any other step `rest` never sleeps.
     pub fn is_wanted<R: Wait>(&self, rt: &R) -> bool {
         self.state.lock(rt).is_wanted()
     }
 
-    /// For the one that makes room, before each step: what the last came to, if there was one. All who wait are woken where that made room, or found enough
-    /// and somebody had asked before it. Where it found enough, and nobody has asked since it began, this sleeps until somebody does or has it look, or the
-    /// work is done. Whether the work is done.
+    /// For the one that makes room, before each step: `last` is what the last step came to, if there was one. All who wait are woken if that step made room, or
+    /// if it found enough and somebody who had asked before it wasn't woken yet. If it found enough, and since it began nobody has asked or called
+    /// [`Signs::look`], this call sleeps until somebody does, or the work is done. Answers whether the work is done.
     pub fn rest<R: Wait>(&self, rt: &R, last: Option<Found>) -> bool {
         let mut state = self.state.lock(rt);
         let enough = last == Some(Found::Enough);
@@ -134,7 +134,7 @@ pub struct Waiter<'a> {
 }
 
 impl<'a> Waiter<'a> {
-    /// It hears of all room that was ever made.
+    /// A waiter whose first [`Waiter::wait`] comes back at once if room was ever made, before this call too.
     pub fn new(signs: &'a Signs) -> Waiter<'a> {
         Waiter {
             signs,
@@ -151,7 +151,7 @@ impl<'a> Waiter<'a> {
         }
     }
 
-    /// For one that was refused room: sleeps until some was made since the last call came back, or none will be. Whether none will be.
+    /// For one that was refused room: sleeps until some was made since the last call came back, or none will be. Answers whether none will be.
     pub fn wait<R: Wait>(&self, rt: &R) -> bool {
         let (made, left) = self.signs.wait_past(rt, self.seen.load(Ordering::SeqCst));
         self.seen.store(made, Ordering::SeqCst);

@@ -79,7 +79,7 @@ pub record Records : Type 0 where
 abbrev pub held : Records → ℕ → Option (List ℕ)
 held shard number = held_by shard.part shard.objects shard.mutator number
 
--- each object is one that the mutator uses, and no other's; they are enough, and none is there that no record needs
+-- the mutator uses each object, each has OBJECT bytes, and no two are one; they are enough, and none is there that no record needs
 pub record IsWhole (part : Part) (objects : List ℕ) (m : Mine) : Type 0 where
   pub enough : part.count ≤ length objects * PER_OBJECT
   pub few : length objects * PER_OBJECT < part.count + PER_OBJECT

@@ -24,7 +24,7 @@ pub(crate) struct Place {
 pub(crate) struct Took {
     /// Whether it was found far first.
     pub fetched: bool,
-    /// How often there was no room for it.
+    /// How often there was no room for it, and the call was made again.
     pub waits: u64,
 }
 

@@ -14,9 +14,9 @@ pub struct Asked {
     pub logs: u64,
     /// 1 to 8.
     pub mutators: u32,
-    /// 1 to [`MOST_RECORDS`] for each mutator.
+    /// 1 to [`MOST_RECORDS`] times the mutators.
     pub records: u32,
-    /// All shards' gets and puts together.
+    /// All shards' gets and puts at random together. The puts that fill the records and the gets that read each at the end aren't among these.
     pub operations: u64,
     pub seed: u64,
     ghost logs_some: { 8 ≤ logs },
@@ -39,7 +39,8 @@ fn number(words: &[String], at: usize, least: u64, most: u64) -> Option<u64>
 }
 
 impl Asked {
-    /// What words say, from the second on: logs, mutators, records, operations, the seed.
+    /// What the words from number 2 on say, the first being number 0: logs, mutators, records, operations, the seed. `None` if one of them is missing, is no
+    /// number, or is out of its range.
     pub fn by(words: &[String]) -> Option<Asked> {
         let logs = number(words, 2, 8, 64)?;
         let mutators = number(words, 3, 1, MOST_MUTATORS as u64)?;

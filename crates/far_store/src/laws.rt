@@ -14,7 +14,7 @@ pub fn counts_are_so()
     ensures { CountsAreSo }
 {}
 
-/// As many logs count as free as a book may give out, each once; and where they are two there is room for an object of any length.
+/// As many logs count as free as a book may give out, each once; and if they are two or more there is room for an object of any length.
 pub fn two_free_logs_are_room<K: HeapName, D: Device + Drop>(book: &Evacuator<K, D>)
     ensures each { free_in book.now ≡ length (free_logs (seat_view book.now.book.near)) }
     ensures room { 2 ≤ free_in book.now → (size : ℕ) → IsSome (room (seat_view book.now.book.near) size true) }

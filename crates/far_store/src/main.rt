@@ -53,7 +53,7 @@ fn status(rt: &(impl Print + Eprint), ended: Result<Told, RunFault>, tells: bool
     }
 }
 
-// Over a file of a name that no file has yet, nor has it once the file is open.
+// Over a new file: no file may have the name before, and the name is taken away once the file is open.
 fn over_file<R: Files<File = File> + AllocGlobal + Print + Eprint + Threads + Wait + Sync>(
     rt: &R,
     name: &str,

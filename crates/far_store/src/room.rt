@@ -20,7 +20,7 @@ use std::sync::Wait;
 use std::thread;
 
 /// As [`Mutator::alloc`], but while that is refused for want of room other threads run, with the scope closed, and it is tried again, unless `until`
-/// answers true. `waits` counts how often. If nobody makes rounds, or another scope stays open, and `until` never answers true, it never ends.
+/// answers true. `waits` counts how often. If nobody makes rounds, or another scope stays open, and `until` never answers true, the call may never end.
 pub fn alloc_waiting<K: HeapName, D: Device + Drop, R: Wait, U: Fn() -> bool>(
     rt: &R,
     mutator: &mut Mutator<K, D>,
@@ -183,7 +183,7 @@ fn counted(counts: Counts, made: Made) -> Counts
 /// free, and else does nothing. `until` is told what the last step did, and may sleep: by [`far_signs::Signs::rest`] until somebody was refused room, or
 /// took so much that it is to look. What its turns did is told, but for one that was refused in its midst: that is in the fault.
 ///
-/// `free` is at most the number of logs less 2; with a greater those who wait for room may wait for ever. Refused where
+/// `free` is 2 or more, and `most` 1 or more. `free` is at most the number of logs less 2; with a greater those who wait for room may wait for ever. Refused where
 /// [`Evacuator::select`] is, or [`Evacuator::turn`], by that with [`Refused::Memory`] or [`Refused::Device`], as one write was answered. The round that stands then goes on if the
 /// call is made again.
 pub fn keep_free<K: HeapName, D: Device + Drop, R: Wait, P: Policy, U: Fn(Option<Made>) -> bool>(

@@ -111,8 +111,8 @@ fn counted(counts: Counts, took: Took) -> Counts {
 
 impl<K: HeapName, D: Device + Drop> Shard<K, D> {
     /// Makes the objects of a part's records, which are zeros first. While there is no room for one, other threads run, unless `until` answers true.
-    /// Refused `Heap` alone, with [`Refused::Memory`], with [`Refused::NoPointer`] only where none of the mutator's cells was free, or as that. The mutator is
-    /// dropped then.
+    /// Refused `Heap` alone, with [`Refused::Memory`], with [`Refused::NoPointer`] only if none of the mutator's cells was free, or with [`Refused::NoRoom`] only
+    /// if there was no room under the lock and `until` answered true. The mutator is dropped then.
     pub fn new<R: Wait, U: Fn() -> bool>(
         rt: &R,
         alloc: Global,

@@ -36,13 +36,13 @@ pub enum RunFault {
     /// A shard's call was refused.
     #[error("{0}")]
     Shard(StoreFault),
-    /// A round was.
+    /// A step of the thread that makes rounds was refused.
     #[error("{0}")]
     Round(EvacFault),
-    /// One of those was refused by the device, for this reason.
+    /// A shard's call, or a step of the thread that makes rounds, was refused by the device, whose last fault this is.
     #[error("{0}")]
     Far(FileFault),
-    /// The one that makes rounds has none: nobody would make room.
+    /// No thread could be made to make rounds: nobody would make room.
     #[error("no thread could be made")]
     Thread,
 }

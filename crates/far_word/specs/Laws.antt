@@ -1,4 +1,4 @@
--- What holds of every pointer, header and scope word, of marks, sizes, refusals, and of bytes in words.
+-- What holds of every pointer, header, scope and job word, of marks, sizes, refusals, and of bytes in words.
 use Rattle.std.specs.Prelude.{◌≡◌, ◌≢◌, ℕ, ◌+◌, ◌-◌, ◌*◌, ◌^◌, ◌<◌, ◌≤◌, Bool, true, false, Some, None, IfSome, bit_or, bit_and, List, [], ◌∷◌, map, length, slice_index}
 use Rattle.std.specs.List.{range_with_len}
 use Rattle.far_word.specs.Bytes.{bytes_of, words_of, packed_word, with_word}

@@ -1,4 +1,4 @@
-//! The job word of a copier: which object is copied, from where to where, and how far that is.
+//! The job word: which object is copied, from where to where, and whether the copy is offered, taken or finished.
 
 ghost use Rattle.std.specs.Prelude.{◌≡◌, ◌<◌, IfSome, Some};
 ghost use Rattle.far_word.specs.declared.job.JobWord.{JobWord};

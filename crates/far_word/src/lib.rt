@@ -1,4 +1,4 @@
-//! The words of a far memory heap: a pointer cell, an object's header, a mutator's scope, a copier's job.
+//! The words of a far memory heap: a pointer cell, an object's header, a mutator's scope, a job of copying.
 //!
 //! This crate alone knows where a bit stands. It takes no memory.
 #![tactic(auto)]

@@ -26,7 +26,7 @@ pub enum Mark {
     Moved,
     /// DROP: the owner dropped the object.
     Dropped,
-    /// DIRTY: the owner may have written since the device was given its bytes.
+    /// DIRTY: the owner may have written the object since it was fetched, or the object was never far.
     Dirty,
 }
 

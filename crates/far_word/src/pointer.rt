@@ -51,7 +51,7 @@ pub enum PtrWord {
         place: Place,
         marks: Marks,
     },
-    /// The object lies on the far side. Its length is 1 to [`LONGEST`] bytes, and it has no EVAC.
+    /// The object lies on the far side. Its length is 1 to [`LONGEST`] bytes, and it has neither EVAC nor DIRTY.
     Far {
         len: u16,
         ds: u8,

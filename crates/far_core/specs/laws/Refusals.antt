@@ -57,7 +57,7 @@ pub record PointersAreRefused (s : State) : Type 0 where
   pub ask_evac : (m p : ℕ) → IsRefused s (event.Ask m p Evac)
   pub ask_dirty : (m p : ℕ) → IsRefused s (event.Ask m p Dirty)
 
--- and about an object's words: under a closed scope; another owner's; one that isn't held, or to store into, soiled; to soil, one that is quiet; a word that
+-- and about an object's words: under a closed scope; another owner's; of one that isn't held; to store into one that isn't soiled; to soil one that is quiet; a word that
 -- begins at the object's end or past it; a word in which byte k or a later one isn't 0, where byte k is past that end
 pub record WordsAreRefused (s : State) : Type 0 where
   pub load_closed : (m p i : ℕ) → s.scope m ≡ 0 → IsRefused s (event.Load m p i)

@@ -18,7 +18,7 @@ use Rattle.far_core.specs.declared.event.Kind.TheVariants.{Free, Open, Sealed}
 use Rattle.far_core.specs.state.Jobs.{CopyLaw}
 use Rattle.far_core.specs.state.State.{State, addr}
 
--- a span of this length stands at a: it ends below its log's tail, no other span begins in it, and the next follows it
+-- a span of this length stands at a: it ends at its log's tail or before it, no other span begins in it, and the next follows it
 pub record SpanAt (tail : ℕ → ℕ) (starts : ℕ → Bool) (a len : ℕ) : Type 0 where
   pub some : 0 < len
   pub most : len ≤ LONGEST

@@ -172,8 +172,8 @@ pub fn steps_keep_views()
     ensures lying { LyingIsOpen }
 {}
 
-/// What an event changes of the words and views is what its rule says that it touches: one shared word at most, and the
-/// view of its own mutator alone, or of the book.
+/// What an event changes of the words and views is what its rule says that it touches: one shared word at most, and a part
+/// of one view at most: that of its own mutator, of its own copier or of the book.
 pub fn events_leave_others()
     ensures { EventsLeave }
 {}

@@ -1,4 +1,4 @@
-//! The stored words of far objects.
+//! The stored words of objects that are far, or near without DIRTY.
 
 ghost use Rattle.std.specs.Prelude.{◌≡◌, ◌+◌, ◌*◌, ◌<◌, ◌≤◌, ℕ, length, slice_index};
 ghost use Rattle.std.specs.List.{sum_by};
