@@ -13,7 +13,8 @@ marks_in (Some Free) = no_marks
 marks_in (Some (Near len ds place marks)) = marks
 marks_in (Some (Far len ds marks)) = marks
 
--- what a pointer says, but for the marks that an owner may add: HOT, MOVE, DROP and DIRTY; DIRTY only until the object is quiet, which the word known may be older than
+-- what a pointer says, but for the marks that an owner may add: HOT, MOVE, DROP and DIRTY. No owner adds DIRTY to a quiet object, but the known word may be from before the object
+-- was quiet
 abbrev pub bare : PtrWord → PtrWord
 bare Free = Free
 bare (Near len ds place marks) = Near len ds place record { hot = false; evac = marks.evac; moved = false; dropped = false; dirty = false }

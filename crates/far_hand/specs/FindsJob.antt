@@ -41,8 +41,8 @@ pub record FindsJob (known found : ℕ) : Type 0 where
   pub taker : (c : ℕ) → copier_in (job_of known) ≡ Some c → copier_in (job_of found) ≡ Some c
   pub ended : is_finished (job_of known) ≡ true → found ≡ known
 
--- what copiers may have made of a job whose word said so: no job, and a word that says nothing, stay. One that is offered may be so still, or a copier has taken it, or has finished
--- it too; one that a copier has taken is taken by that one, or finished by it; a finished one stays
+-- what copiers may have made of a job whose word said so: no job, and a word that says nothing, stay. One that is offered may be so still, or a copier has taken it, or has
+-- finished it too; one that a copier has taken is taken by that one, or finished by it; a finished one stays
 abbrev pub GoesOn : Option JobWord → Option JobWord → Type 0
 GoesOn None found = found ≡ None
 GoesOn (Some Empty) found = found ≡ Some Empty

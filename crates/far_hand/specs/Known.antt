@@ -30,7 +30,7 @@ pub record KeepsKnown (s t : State) : Type 0 where
   pub known : (a : ℕ) → IsKnown (s.word a) → IsKnown (t.word a) → t.word a ≡ s.word a
   pub headers : (a : ℕ) → t.starts a ≡ true → t.word a ≡ s.word a
 
--- a word that was read at an address, where it is a data word of a span, has zeros after the span's last byte
+-- a word that was read at an address, if it is a data word of a span, has zeros after the object's last byte
 abbrev pub IsPaddedAt : State → ℕ → ℕ → Type 0
 IsPaddedAt s a word = (b i : ℕ) → s.starts b ≡ true → i < words_for (head_len (s.word b)) → a ≡ b + 1 + i →
     word < 2 ^ (8 * (head_len (s.word b) - 8 * i))

@@ -36,7 +36,7 @@ word_at found p = slice_index found p
 abbrev pub is_counted : List Bool → ℕ → Bool
 is_counted counted a = slice_index_or counted a false
 
--- what is counted on after a read: nothing, where the log was given back; the word too, where its object is quiet
+-- what is counted on after a read: nothing, if the log was given back; the word too, if its object is quiet; else what was counted on before
 abbrev pub recounted : (ℕ → Bool) → Bool → Bool → ℕ → ℕ → Bool
 recounted counted true quiet a = λ _. false
 recounted counted false true a = put counted a true

@@ -50,8 +50,8 @@ pub record IsCopiersAt (s : State) (a : ℕ) : Type 0 where
 abbrev pub IsLoudAt : State → ℕ → Type 0
 IsLoudAt s a = IsOwnersAt s a ⊎ IsCopiersAt s a
 
--- owners add marks to cells, but DIRTY to none whose object is quiet, and store into objects that aren't; copiers go on with jobs, and write to the targets of those that aren't finished; both
--- change what they alone have; all else stays
+-- owners add marks to cells, but DIRTY to none whose object is quiet, and store into objects that aren't quiet; copiers go on with jobs, and write to the targets of jobs that
+-- aren't finished; owners and copiers change what they alone have; all else stays
 pub record OthersChange (s t : State) : Type 0 where
   pub cells : (p : ℕ) → Finds (s.cell p) (t.cell p)
   pub clean : (p : ℕ) → IsQuietNear s p → is_dirty (read_of (t.cell p)) ≡ is_dirty (read_of (s.cell p))

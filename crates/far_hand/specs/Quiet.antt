@@ -32,7 +32,7 @@ pub record IsQuietBy (mutators : ℕ) (round clear : ℕ → Bool) (cell : ℕ �
   pub inside : index < words_for len
   pub here : a ≡ addr place + 1 + index
 
--- of one that the state shows to be quiet
+-- the same by the cells, the round and the clear owners of a state
 abbrev pub IsQuietAt : State → ℕ → Type 0
 IsQuietAt s a = IsQuietBy s.mutators s.round s.clear s.cell a
 

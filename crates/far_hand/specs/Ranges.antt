@@ -17,7 +17,7 @@ use Rattle.far_hand.specs.Quiet.{IsQuietAt}
 abbrev pub IsWithin : State → ℕ → ℕ → ℕ → Type 0
 IsWithin s l at count = (l < s.logs) × (at + count ≤ LOG_WORDS)
 
--- so many words from one on lie in a log that isn't sealed, past its tail
+-- so many words from one on lie in a log that isn't sealed, at or past its tail
 abbrev pub IsPast : State → ℕ → ℕ → ℕ → Type 0
 IsPast s l at count = (l < s.logs) × (s.kind l ≢ Sealed) × (s.tail l ≤ at) × (at + count ≤ LOG_WORDS)
 
@@ -48,7 +48,7 @@ module _ {S : Type 0} where
       pub same : still → view t ≡ view s
       pub made : makes s (Get l at false) (Word w) t
 
-    -- one call wrote it
+    -- one call wrote w to this word of a log
     pub record WritesWord (l at w : ℕ) (s t : S) : Type 0 where
       pub set : view t ≡ record (view s) { word = put (view s).word (l * LOG_WORDS + at) w }
       pub made : makes s (Put l at w) Done t

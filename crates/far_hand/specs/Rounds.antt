@@ -9,7 +9,7 @@ use Rattle.far_core.specs.events.Look.{shows_clear}
 use Rattle.far_core.specs.state.Law.{HasEvac}
 use Rattle.far_core.specs.state.State.{State, put}
 
--- these logs may be the round's: each is sealed, and whatever lies there has EVAC, with DROP too
+-- these logs may be the round's: each is sealed, and whatever lies there has EVAC, also under DROP
 pub record MayChoose (s : State) (logs : ℕ) : Type 0 where
   pub shut : (l : ℕ) → is_among logs l ≡ true → (l < s.logs) × (s.kind l ≡ Sealed)
   pub marked : (p : ℕ) → HasEvac (is_among logs) (read_of (s.cell p))

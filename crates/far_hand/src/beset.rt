@@ -20,14 +20,15 @@ use far_word::JOBS;
 #[derive(Drop)]
 pub struct Beset {
     pub core: Core,
-    /// Each cell's word as the book last found it.
+    /// Each cell's word as the book last found or left it, by pointer.
     pub found: Vec<u64>,
-    /// Each job's word as the book last found it.
+    /// Each job's word as the book last found or left it, by the job's number.
     pub jobs: [u64; JOBS as usize],
-    /// The words of the logs that the book may count on, beside headers.
+    /// Whether the book may count on a word of the logs, beside headers, by address: 512 times the log's number, and the word's number in the log.
     pub counted: Vec<bool>,
-    /// The others' events, and how many had their turn.
+    /// A list of events. Each has its turn in order: an owner's or a copier's is made then, if it is legal.
     pub events: Vec<Event>,
+    /// How many of these events had their turn.
     pub made: usize,
     ghost found_sized: { vec_len found ≡ CELLS * (core_state core).mutators },
     ghost counted_sized: { vec_len counted ≡ LOG_WORDS * (core_state core).logs },

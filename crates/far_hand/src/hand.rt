@@ -201,8 +201,8 @@ pub trait Near {
         ensures made { makes self.old (Event.Look owner) (Reply.Word result) self.new }
         ensures saw { ∥ ((x : State) × may_be self.new x × (x.scope owner ≡ result)) ∥₁ };
 
-    /// An empty job is offered from then on: the copy of a quiet object, which lies at `from`, to `to`, where a header for it
-    /// and a last data word of 0 were put. The span at `to` is taken. Words may be forgotten then: copiers write there.
+    /// An empty job is offered from then on: the copy of an object that is quiet by the round (it has EVAC, its log is in the round, its owner was seen clear), from
+    /// `from`, where it lies, to `to`, where a header for it and a last data word of 0 were put. The span at `to` is taken. Words may be forgotten then: copiers write there.
     fn offer(&mut self, job: u8, pointer: u16, from: Place, to: Place)
         requires legal { Legal (view self.old) (Event.Offer job pointer to) }
         requires lies { near_place (read_of ((view self.old).cell pointer)) ≡ Some from }
@@ -239,13 +239,13 @@ pub trait Near {
         ensures is { result ≡ shape_of (view self.now) }
         ensures range { is_shape result ≡ true };
 
-    /// Each state that the words may be in keeps the whole law of the core, and the view is right about it: so whoever it says was seen clear views
-    /// nothing there in the logs of the round.
+    /// Each state that the words may be in keeps the whole law of the core, and the view is right about that state: so an owner that was seen clear, as the view
+    /// says, views nothing in the logs of the round.
     ghost lawful: { (s : Self) (x : State) → may_be s x → Law x };
 
     ghost shown: { (s : Self) (x : State) → may_be s x → Shows (view s) x };
 
-    /// There is one at every moment; where the hand is still, it is the view and no other.
+    /// There is such a state at every moment; if the hand is still, that state is the view and no other.
     ghost there: { (s : Self) → ∥ ((x : State) × may_be s x) ∥₁ };
 
     ghost alone: { (s : Self) → still → (x : State) → may_be s x → x ≡ view s };

@@ -1,4 +1,4 @@
-//! The hand on the shared words of a heap: each call is one event on one word.
+//! The hand on the shared words of a heap: each call but `shape` is one event on at most one word, or a row of such events.
 //!
 //! [`Near`] is what may be counted on, of a hand beside which owners and copiers act too; [`Plain`] is a core that nobody
 //! else steps, [`Beset`] one whose owners and copiers act before each call.

@@ -101,8 +101,8 @@ MayCome s (Some Free) = ⊥
 MayCome s (Some (Near len ds place marks)) = ⊥
 MayCome s (Some (Far len ds marks)) = IsSome (room s (size_of len) true)
 
--- why that was refused of the object whose word this is: there was no room; or there was, and the device wanted memory, or failed, or gave other bytes, which
--- an honest one doesn't
+-- why that was refused of the object whose word this is: there was no room; or there was, and the device wanted memory, or failed, or gave
+-- another number of bytes than the object has, which an honest one doesn't
 abbrev pub IsCause : Refused → State → Option PtrWord → Type 0
 IsCause why.NoRoom s o = HasNowhere s o
 IsCause why.Memory s o = MayCome s o

@@ -11,7 +11,7 @@ use Rattle.far_table.specs.Tells.{CopierMade}
 use Rattle.far_table.specs.View.{CopierView}
 use Rattle.far_heap.specs.HeapId.{HeapId}
 
--- a heap has 1 to 8 of them, or none
+-- a heap with copiers has 1 to 8
 abbrev pub is_many : ℕ → Bool
 is_many n = nat_lt 0 n && nat_le n MOST_COPIERS
 

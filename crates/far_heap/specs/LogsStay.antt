@@ -9,8 +9,8 @@ use Rattle.far_table.specs.Views.{held_at}
 use Rattle.far_heap.specs.HeapId.{HeapId}
 use Rattle.far_heap.specs.Mine.{Mine, mine_of, views}
 
--- a mutator is a seat of the heap's table, and the words and all views may be in some state beside that seat. Each object that it views lies at a place which the seat holds, and so it is in whatever state they
--- may be in: there the log of that place isn't free, to give it back isn't legal, and after any event it isn't free either
+-- a mutator is a seat of the heap's table, and the words and all views may be in some state beside that seat. Each object that the mutator views lies at a place which the seat
+-- holds, in whatever state they may be in: there the log of that place isn't free, to give the log back isn't legal, and after any event the log isn't free either
 pub record LogsStay (heap : HeapId) (m : Mine) : Type 0 where
   pub seat : Seated
   pub mine : mine_of seat ≡ m

@@ -8,8 +8,8 @@ use Rattle.far_heap.specs.Mine.{Mine, access_refusal, drop_refusal, is_length, l
 abbrev pub PassesEnd : Mine → ℕ → ℕ → ℕ → Type 0
 PassesEnd m p from count = (k : ℕ) × (from ≤ k) × (k < from + count) × (len_in m p ≤ k)
 
--- a heap with copiers has 1 to 8; an object has 1 to 4,088 bytes; bytes are read and written of what is viewed, at least one, and none past the object's end; and what is used is dropped
--- that isn't viewed
+-- a heap with copiers has 1 to 8; an object has 1 to 4,088 bytes; bytes are read and written of an object that is viewed, at least one, and none past the object's end; and an
+-- object is dropped that is used and isn't viewed
 pub record RefusalsAreSo : Type 0 where
   pub copiers : (n : ℕ) → (is_many n ≡ true) ↔ ((1 ≤ n) × (n ≤ 8))
   pub lengths : (len : ℕ) → (is_length len ≡ true) ↔ ((1 ≤ len) × (len ≤ 4088))

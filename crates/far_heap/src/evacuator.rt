@@ -1,4 +1,4 @@
-//! What the lock of a heap keeps: its evacuator, with the book over the one seat of the named heap's table.
+//! What the lock of a heap keeps: its evacuator, with the book over the one book's seat of the named heap's table.
 
 ghost use Rattle.std.specs.Prelude.{◌≡◌, ◌*◌, ◌<◌, [], false, true, IfOk, IfErr, map};
 ghost use Rattle.far_word.specs.declared.refused.Refused.TheVariants.{Memory};
@@ -88,11 +88,12 @@ impl<K: HeapName, D: Device + Drop> Evacuator<K, D> {
         }
     }
 
-    /// What holds whenever the lock is got, whatever any policy chose: the book is of the heap that the name names, with its size and its honesty, and offers copies exactly where that has copiers; what it knows keeps its part of
-    /// the law of the core, and the round agrees with it. In every state that the words and all views may be in objects and logs are whole: each object in
-    /// use has one place, its pointer and the header there name each other, and a log's live, dead and unused bytes make its size. No log is given out
-    /// in which an owner holds a place, and none is free that a job reads or writes; a finished copy, if it isn't void, has its source's words. The device holds bytes of its length of each far object, and of each near one without DIRTY: if the far side is
-    /// honest, those that were stored, and of a near one its own; and it is honest where the owners are told so. And there is such a state.
+    /// What holds whenever the lock is got, whatever any policy chose: the book is of the heap that the name names, with its size and its honesty, and offers copies
+    /// exactly if that heap has copiers; what the book knows keeps its part of the law of the core, and the round agrees with it. In every state that the words and all
+    /// views may be in objects and logs are whole: each object in use has one place, its pointer and the header there name each other, and a log's live, dead and
+    /// unused bytes make its size. No log is given out in which an owner holds a place, and none is free that a job reads or writes; a finished copy, if it isn't void,
+    /// has its source's words. The device holds bytes of its length of each far object, and of each near one without DIRTY: if the far side is honest, those that were
+    /// stored, and of a near one its own; and the device is honest if the owners are told that the far side is. And there is such a state.
     pub fn keeps_law(&self)
         ensures named { heap_of self.now.copying self.now.book.near ≡ K.heap }
         ensures law { Law (own_part (seat_view self.now.book.near)) }

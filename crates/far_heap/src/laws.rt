@@ -9,8 +9,8 @@ pub fn reads_give_last_writes()
     ensures { ReadsGiveLastWrites }
 {}
 
-/// What refuses a call by its own numbers: the number of copiers, 1 to 8; the length of a new object, 1 to 4,088 bytes; the range of an access, which wants a byte at least and none
-/// past the end of an object that is viewed; a drop, of what is used and isn't viewed.
+/// Which numbers refuse a call: of copiers, any but 1 to 8; of bytes of a new object, any but 1 to 4,088; for an access, the pointer of an object that isn't viewed, and a
+/// range that has no byte or passes the object's end; for a drop, a pointer that isn't used, or whose object is viewed. No others do.
 pub fn refusals_are_so()
     ensures { RefusalsAreSo }
 {}

@@ -1,8 +1,9 @@
 //! The running heap, as threads use it.
 //!
 //! A [`Heap`] has a lock, which keeps the book and the [`Evacuator`], and [`Mutator`]s, one for each thread. A mutator makes and drops objects, opens its
-//! [`Scope`], views objects, and reads and writes their bytes. To open, to view what is near and unmarked, to read, to write and to close take neither lock
-//! nor runtime nor memory: each is a few single atomic steps on the shared words.
+//! [`Scope`], views objects, and reads and writes their bytes. To open, to view what is near with none of EVAC, MOVE and DROP, to read, to write and to close
+//! take neither lock nor runtime nor memory: each is single atomic steps on the shared words, at most two, or to read or write at most two for each word, and one more
+//! before a scope's first write of an object.
 #![tactic(auto)]
 
 mod blank;

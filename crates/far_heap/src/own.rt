@@ -175,7 +175,7 @@ impl<K: HeapName, D: Device> Own<K, D> {
         self.rows.viewed_len(p)
     }
 
-    // Its number.
+    // The mutator's number.
     pub(crate) fn number(&self) -> u8
         ensures { result ≡ self.now.number }
     {
@@ -248,7 +248,8 @@ impl<K: HeapName, D: Device> Own<K, D> {
         Some((len, ds))
     }
 
-    // Uses a new object of this length and data structure from then on, if its cell says so; else nothing changes.
+    // Uses a new object of this length and data structure from then on, if its cell says so. Else the mutator is as before, and an object of another length or
+    // data structure that was found there gets DROP.
     pub(crate) fn adopt_new(&mut self, p: u16, len: u16, ds: u8) -> bool
         requires { owns self.old p ≡ true }
         ensures adopted { result ≡ true → (uses self.old p ≡ false) × (self.new ≡ adopting p len ds self.old) }

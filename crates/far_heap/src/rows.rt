@@ -17,7 +17,7 @@ pub(crate) struct Row {
     pub(crate) structure: u8,
 }
 
-// Twelve bytes of each pointer of the largest heap: so whose a pointer is needs no test of its own, since those of others stay blank.
+// Twelve bytes for each pointer of the largest heap: so no test is needed of whose a pointer is, since the rows of others' pointers stay blank.
 #[derive(Drop)]
 pub(crate) struct Rows {
     pub(crate) each: Vec<Row>,
@@ -39,7 +39,7 @@ fn forget_views(each: &mut [Row])
     }
 }
 
-// None has been soiled.
+// No object has been soiled.
 #[cold]
 #[inline(never)]
 fn forget_soils(soiled: &mut [u32])
@@ -52,7 +52,7 @@ fn forget_soils(soiled: &mut [u32])
 }
 
 impl Rows {
-    // Those of a mutator that uses nothing, before its first scope.
+    // The rows of a mutator that uses nothing, before its first scope.
     pub(crate) fn new(alloc: Global) -> Result<Rows, AllocError>
         ensures { IfOk result IsBlank }
     {
@@ -103,7 +103,7 @@ impl Rows {
         Some(row.len)
     }
 
-    // The length that stands there.
+    // The length in the row of a pointer.
     #[inline(always)]
     pub(crate) fn len_at(&self, p: u16) -> u16
         requires { p < length self.now.each.items }
@@ -112,7 +112,7 @@ impl Rows {
         self.each[p as usize].len
     }
 
-    // The data structure that stands there.
+    // The data structure in the row of a pointer.
     #[inline(always)]
     pub(crate) fn structure_at(&self, p: u16) -> u8
         requires { p < length self.now.each.items }
@@ -141,7 +141,7 @@ impl Rows {
         row.structure = structure;
     }
 
-    // It is used no longer.
+    // A pointer is used no longer.
     #[inline(always)]
     pub(crate) fn note_unused(&mut self, p: u16)
         requires { p < length self.old.each.items }
@@ -159,7 +159,7 @@ impl Rows {
         self.soiled[p as usize] == self.scope
     }
 
-    // It has soiled it.
+    // The open scope has soiled the object of a pointer.
     #[inline(always)]
     pub(crate) fn note_soiled(&mut self, p: u16)
         requires { p < length self.old.soiled.items }
@@ -182,7 +182,7 @@ impl Rows {
         self.forget_scopes();
     }
 
-    // The counts begin anew. What is called has the rows alone, not where they stand: so a mutator that is closed needn't lie in memory.
+    // The counts begin anew. The functions called here get the rows alone, not where they stand: so a mutator that is closed needn't lie in memory.
     #[inline(always)]
     fn forget_scopes(&mut self)
         requires { RowsOk self.old }

@@ -23,8 +23,8 @@ use far_word::Refused;
 use std::marker::Model;
 use std::sync::Wait;
 
-/// A mutator whose scope is open. An object that it views isn't moved before the scope is closed. One that is dropped unclosed leaves the
-/// scope's word open: no round ends that waits for it.
+/// A mutator whose scope is open. An object that the scope views isn't moved before the scope is closed. A `Scope` that is dropped unclosed leaves its
+/// scope word open for ever: no round ends that waits for this mutator.
 #[derive(Drop)]
 pub struct Scope<K: HeapName, D: Device + Drop> {
     own: Own<K, D>,
@@ -52,8 +52,8 @@ impl<K: HeapName, D: Device + Drop> Scope<K, D> {
         Scope { own, lock }
     }
 
-    /// What holds of an open scope between any two calls: what it has soiled it views, what it views its mutator uses, and each object that this uses has
-    /// 1 to 4,088 bytes, which it knows where the far side is honest. The call does nothing.
+    /// What holds of an open scope between any two calls: the scope views what it has soiled, its mutator uses what the scope views, and each object that the
+    /// mutator uses has 1 to 4,088 bytes, which the mutator knows if the far side is honest. The call does nothing.
     pub fn keeps_law(&self)
         ensures law { MineLaw self.now }
         ensures opened { self.now.opened ≡ true }
@@ -122,7 +122,7 @@ impl<K: HeapName, D: Device + Drop> Scope<K, D> {
     ///
     /// Refused [`Refused::NotHeld`] exactly where this mutator doesn't use the pointer; and, never where the scope views it already, [`Refused::NoRoom`]
     /// only where, as the lock was held, there was no room for it where it was to come; where there was, and it was far, [`Refused::Memory`] or
-    /// [`Refused::Device`] as the one read of the device was answered, the first never by one that reads in place, and [`Refused::Damaged`] only where the
+    /// [`Refused::Device`] as the one read of the device was answered, `Memory` never by a device that reads in place, and [`Refused::Damaged`] only where the
     /// far side isn't honest. All else was left as it was then, but that marks may have been found in the object's cell: what was far is far. The scope views
     /// what it did. MOVE may have been set anew in the cell of an object that isn't viewed yet, by no other call, and only where one pin, before all else,
     /// found a word on which no view may rest.
@@ -152,9 +152,9 @@ impl<K: HeapName, D: Device + Drop> Scope<K, D> {
         Ok(self.own.view_of(p))
     }
 
-    /// Dereferences a pointer without the lock. Refused [`Refused::NotHeld`] exactly where this mutator doesn't use it. An object that the
-    /// scope views already is viewed again, whatever marks have come since, without a step. Else one step sets HOT and finds a word: the
-    /// object is viewed where it rests by that word; else the answer is that word, and the scope views what it did.
+    /// Dereferences a pointer without the lock. Refused [`Refused::NotHeld`] exactly where this mutator doesn't use the pointer. An object that
+    /// the scope views already is viewed again, whatever marks have come since, without a step. Else one step sets HOT and finds a word: the object is viewed if
+    /// that word is near with none of EVAC, MOVE and DROP; else the answer is that word, and the scope views what it did.
     #[inline(always)]
     pub fn try_view(&mut self, p: u16) -> Result<Tried, Refused>
         ensures refused { IfErr result (λ why. (why ≡ Refused.NotHeld) × (uses self.old p ≡ false) × (self.new ≡ self.old)) }
@@ -165,8 +165,9 @@ impl<K: HeapName, D: Device + Drop> Scope<K, D> {
         self.own.try_view(p)
     }
 
-    /// Reads the bytes of an object from one on. Refused first [`Refused::NotHeld`] exactly where this scope doesn't view the pointer, then
-    /// [`Refused::Range`] exactly where there are none, or they pass the object's end.
+    /// Reads bytes of an object to `out`, from byte `from` on, as many as `out` has: as the mutator wrote them last, 0 before, if the far side is
+    /// honest. Refused first [`Refused::NotHeld`] exactly where this scope doesn't view the pointer, then
+    /// [`Refused::Range`] exactly where `out` has none, or they pass the object's end; `out` is as before then.
     #[inline(always)]
     pub fn read(&mut self, view: &View, from: u16, out: &mut [u8]) -> Result<(), Refused>
         ensures same { self.new ≡ self.old }
@@ -177,8 +178,8 @@ impl<K: HeapName, D: Device + Drop> Scope<K, D> {
         self.own.read(*view, from, out)
     }
 
-    /// Writes bytes over those of an object from one on. All others stay. The scope's first write of an object sets DIRTY in its cell before, by one step
-    /// more; after no other call has the scope soiled one more. That what was fetched and lacks DIRTY goes far without a write to the device is tested.
+    /// Writes bytes over those of an object, from byte `from` on. All others stay. The scope's first write of an object sets DIRTY in its cell before, by one step
+    /// more; no other call soils an object. It is tested that an object which was fetched and lacks DIRTY goes far without a write to the device.
     /// Refused as [`Scope::read`] is; then nothing changes.
     #[inline(always)]
     pub fn write(&mut self, view: &View, from: u16, bytes: &[u8]) -> Result<(), Refused>

@@ -137,8 +137,8 @@ pub(crate) fn view<K: HeapName, D: Device + Drop, R: Wait>(
     unreachable!()
 }
 
-// Brings an object that isn't viewed where it can be, and pins it there while the lock is held: whether it is viewed then. Where that is refused all is left
-// as it was: what was far is far.
+// Brings an object that isn't viewed where it can be, and pins it there while the lock is held: whether it is viewed then. If that is refused all is left as
+// it was, and what was far is far; but MOVE may stay in the object's cell, after NoRoom alone.
 fn bring<K: HeapName, D: Device + Drop>(
     book: &mut Evacuator<K, D>,
     own: &mut Own<K, D>,
@@ -185,7 +185,7 @@ fn pin_brought<K: HeapName, D: Device + Drop>(
 }
 
 // Has an object that isn't viewed brought where it can be: a far one is fetched; of a near one the owner sets MOVE, and the book moves it, or takes MOVE
-// away. Whether the book did so. Where that is refused all is left as it was.
+// away. Whether the book did so. If that is refused all is left as it was; but MOVE may stay in the object's cell, after NoRoom alone.
 fn fetch_or_move<K: HeapName, D: Device + Drop>(
     book: &mut Evacuator<K, D>,
     own: &mut Own<K, D>,

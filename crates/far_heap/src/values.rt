@@ -18,7 +18,7 @@ pub trait FixedRecord<const N: usize> {
     /// The value that bytes are read as.
     ghost value_of: { List ℕ → Self };
 
-    /// Its bytes, which are read as itself.
+    /// The bytes of this value; read again, they are the value.
     fn to_bytes(self) -> [u8; N]
         ensures bytes { result ≡ bytes_of self }
         ensures back { value_of (bytes_of self) ≡ self };
@@ -45,7 +45,7 @@ impl<K: HeapName, D: Device + Drop> Scope<K, D> {
         }
     }
 
-    /// The integer of 16 bits whose bytes, in the order `B`, stand from one of an object's on. Refused as [`Scope::read`] of two bytes is.
+    /// The integer of 16 bits whose bytes, in the order `B`, stand in an object from byte `from` on. Refused as [`Scope::read`] of two bytes is.
     #[inline(always)]
     pub fn read_u16<B: ByteOrder>(&mut self, view: &View, from: u16) -> Result<u16, Refused>
         ensures same { self.new ≡ self.old }
@@ -81,7 +81,7 @@ impl<K: HeapName, D: Device + Drop> Scope<K, D> {
         }
     }
 
-    /// The value of a record whose bytes stand from one of an object's on. Refused as [`Scope::read`] of `N` bytes is.
+    /// The value of a record whose bytes stand in an object from byte `from` on. Refused as [`Scope::read`] of `N` bytes is.
     #[inline(always)]
     pub fn read_record<const N: usize, V: FixedRecord<N>>(
         &mut self,
@@ -97,7 +97,7 @@ impl<K: HeapName, D: Device + Drop> Scope<K, D> {
         }
     }
 
-    /// Writes an integer of 16 bits, its bytes in the order `B`, over those of an object from one on. Refused as [`Scope::write`] of two bytes is.
+    /// Writes an integer of 16 bits, its bytes in the order `B`, over those of an object from byte `from` on. Refused as [`Scope::write`] of two bytes is.
     #[inline(always)]
     pub fn write_u16<B: ByteOrder>(
         &mut self,
@@ -142,7 +142,7 @@ impl<K: HeapName, D: Device + Drop> Scope<K, D> {
         self.write(view, from, &bytes)
     }
 
-    /// Writes a record's bytes over those of an object from one on; read again, they are the record. Refused as [`Scope::write`] of `N` bytes is.
+    /// Writes a record's bytes over those of an object from byte `from` on; read again, they are the record. Refused as [`Scope::write`] of `N` bytes is.
     #[inline(always)]
     pub fn write_record<const N: usize, V: FixedRecord<N>>(
         &mut self,

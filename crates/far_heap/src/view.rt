@@ -19,7 +19,7 @@ impl View {
         self.pointer
     }
 
-    /// How many bytes the object has.
+    /// How many bytes the object had when it was viewed.
     pub fn len(self) -> u16
         ensures { result ≡ self.len }
     {

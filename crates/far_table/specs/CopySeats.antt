@@ -93,7 +93,7 @@ pub record Measured (job : CopyJob) (v v' : CopierView) : Type 0 where
   pub words : job.words ≡ words_for (head_len head)
   pub copied : job.copied ≡ 0
 
--- the jobs below were looked at and not got; then both, one after the other
+-- the jobs of lower numbers were looked at and not got; then this job was taken, and the header of its source read
 abbrev pub Claimed : CopyJob → CopierView → CopierView → Type 0
 Claimed job v v' = (looked taken : CopierView) × MissedFirst job.task.number v looked × Took job.task looked taken × Measured job taken v'
 

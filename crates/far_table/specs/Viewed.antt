@@ -9,8 +9,8 @@ use Rattle.far_core.specs.events.Legal.{Legal}
 use Rattle.far_core.specs.events.Step.{Fits, after}
 use Rattle.far_core.specs.state.State.{State}
 
--- its owner's scope is open, and the log isn't free. To give that log back isn't legal, and whatever event is made, an owner's or the book's, the log isn't
--- free after it: so it can't be taken anew either, since only a free log can
+-- its owner's scope is open, and the log isn't free. To give that log back isn't legal, and whatever event is made, an owner's, a copier's or the book's, the log
+-- isn't free after it: so the log can't be taken anew either, since only a free log can
 pub record StaysGiven (s : State) (p : ℕ) (place : Place) : Type 0 where
   pub opened : s.scope (p / CELLS) ≢ 0
   pub taken : s.kind place.log ≢ Free

@@ -85,7 +85,7 @@ abbrev pub with_place : ℕ → Option Place → OwnerView → OwnerView
 with_place p None o = o
 with_place p (Some place) o = held_view p place o
 
--- HOT is set
+-- whether a word has HOT
 abbrev pub has_hot : Option PtrWord → Bool
 has_hot None = false
 has_hot (Some Free) = false
@@ -100,7 +100,7 @@ noted_view p found o = record o { found = (p, found) ∷ o.found }
 abbrev pub warmed_view : ℕ → ℕ → OwnerView → OwnerView
 warmed_view p found o = record o { heated = (p, heated_at o p + cond (has_hot (read_of found)) 0 1) ∷ o.heated; found = (p, found) ∷ o.found }
 
--- it is, whether or not the pin holds the place
+-- after a pin: HOT counts as set anew if the word found hasn't got it, whether or not the pin holds the place
 abbrev pub pinned_view : ℕ → ℕ → OwnerView → OwnerView
 pinned_view p found o = with_place p (place_to_view (read_of found)) (warmed_view p found o)
 
@@ -132,7 +132,7 @@ said_ds (Some (Far len ds marks)) = ds
 abbrev pub fresh : ℕ → ObjectView
 fresh found = record { len = said_len (read_of found); ds = said_ds (read_of found); words = [] }
 
--- the object is the owner's from now on
+-- the owner uses the object from now on
 abbrev pub adopted_view : ℕ → ℕ → OwnerView → OwnerView
 adopted_view p found o = record o { objects = (p, Some (fresh found)) ∷ o.objects; found = (p, found) ∷ o.found }
 

@@ -178,17 +178,17 @@ impl<D: Device> BookSeat<D> {
     }
 
     /// No log is given out under a view. In every state that the words and all views may be in, while an owner holds a place:
-    /// its scope is open, the log of that place isn't free, to give it back isn't legal, and after any event, an owner's or the
-    /// book's, it isn't free either.
+    /// its scope is open, the log of that place isn't free, to give it back isn't legal, and after any event, an owner's, a
+    /// copier's or the book's, it isn't free either.
     pub fn no_log_is_given_out_under_a_view(&self)
         ensures { (x : State) → seat_may_be self.now x → NoneIsGivenOut x }
     {
         let _logs = self.logs;
     }
 
-    /// What holds of jobs. In every state that the words and all views may be in: no log that a job reads or writes is free, and no pointer is named to a job's
-    /// target before the book has written so down; until then both places of a finished job have the same words, as long as the round of its offer lasts
-    /// and the source's log is in it. A job that is taken is of one copier, which has no other.
+    /// What holds of jobs. In every state that the words and all views may be in: no log that a job reads or writes is free, no two jobs write at one place, and no
+    /// pointer is named to a job's target before the book has written so down; until then both places of a finished job have the same words, as long as the round of
+    /// its offer lasts and the source's log is in it. A job that is taken is of one copier, which has no other.
     pub fn jobs_stand(&self)
         ensures { (x : State) → seat_may_be self.now x → JobsStand x }
     {

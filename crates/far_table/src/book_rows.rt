@@ -91,8 +91,8 @@ fn copy_some<D: Device>(
     }
 }
 
-// Copies the first so many data words: by eight, since a loop of so many is none for the machine, and then the rest. By the remainder,
-// which is the number itself, eight words have one address.
+// Copies the first so many data words: by eight, since the compiler unrolls a loop of eight, and then the rest. The remainder changes no address; with it
+// the compiler has one address for eight words.
 pub(crate) fn copy_all<D: Device>(
     shared: &Shared<u64, View, Plan<D>, FarRule>,
     seat: &mut Seat<u64, View>,

@@ -1,7 +1,7 @@
-//! Owners on shared words.
+//! Owners, copiers and the book on shared words.
 //!
-//! The words of a heap lie in one shared table. A seat is a token with a view, what its holder knows; each call of a seat is one
-//! atomic step on one word. A rule about all words and all views holds between any two steps: together they are a state of
+//! The words of a heap lie in one shared table. A seat is a token with a view, what its holder knows; a call of a seat makes one
+//! atomic step on one word, or several, one after the other. A rule about all words and all views holds between any two steps: together they are a state of
 //! [`far_core`] under its law, and each view is right about the words.
 #![tactic(auto)]
 

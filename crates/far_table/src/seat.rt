@@ -37,8 +37,8 @@ use std::alloc::{AllocError, Global};
 use std::marker::Model;
 use std::sync::Arc;
 
-/// An owner's seat on the shared words. Each call is one event of [`far_core`], one atomic step; it takes no memory and always
-/// answers.
+/// An owner's seat on the shared words. Each call is one event of [`far_core`], one atomic step; [`MutSeat::load_words`] and [`MutSeat::store_words`] make one for each
+/// word. No call takes memory, and each always answers.
 #[derive(Drop)]
 pub struct MutSeat<D: Device> {
     table: Arc<FarTable<D>, Global>,
@@ -209,7 +209,7 @@ impl<D: Device> MutSeat<D> {
         Ok(place)
     }
 
-    /// Word `i` of an object that is held.
+    /// Data word `i`, counted from 0, of an object that is held: as the view has it, if the far side is honest.
     pub fn load(&mut self, p: u16, i: u16) -> u64
         requires held { IsSome (held_at self.old.view p) }
         requires inside { i < words_for (len_of (object_at self.old.view p)) }
@@ -240,7 +240,7 @@ impl<D: Device> MutSeat<D> {
         )
     }
 
-    /// Word `i` of an object that is held and soiled is this word from then on. It leaves the bytes after the object's end 0.
+    /// Data word `i`, counted from 0, of an object that is held and soiled is this word from then on. The bytes of `word` after the object's end have to be 0.
     pub fn store(&mut self, p: u16, i: u16, word: u64)
         requires held { IsSome (held_at self.old.view p) }
         requires soiled { soiled_at self.old.view p ≡ true }
@@ -256,7 +256,7 @@ impl<D: Device> MutSeat<D> {
             .store::<rule::Store>(&mut self.seat, at, word);
     }
 
-    /// Words of an object that is held, from word `first` on, as bytes, the low byte of each first. Each word is a load of its own.
+    /// Words of an object that is held, from word `first` on, as bytes, the low byte of each first: `out` has a multiple of 8. Each word is a load of its own.
     pub fn load_words(&mut self, p: u16, first: u16, out: &mut [u8])
         requires held { IsSome (held_at self.old.view p) }
         requires short { len_of (object_at self.old.view p) ≤ LONGEST }
@@ -276,8 +276,8 @@ impl<D: Device> MutSeat<D> {
         );
     }
 
-    /// Words of an object that is held and soiled, from word `first` on, are these bytes from then on, the low byte of each first. Each word is a
-    /// store of its own.
+    /// Words of an object that is held and soiled, from word `first` on, are these bytes from then on, a multiple of 8, the low byte of each first. Each word
+    /// is a store of its own.
     pub fn store_words(&mut self, p: u16, first: u16, bytes: &[u8])
         requires held { IsSome (held_at self.old.view p) }
         requires soiled { soiled_at self.old.view p ≡ true }
@@ -298,7 +298,8 @@ impl<D: Device> MutSeat<D> {
         );
     }
 
-    /// Uses a pointer of the owner's own from then on, whose cell is in use: the word found. `None` where the word found isn't; then nothing changes.
+    /// Uses a pointer of the owner's own from then on, whose cell is near or far without DROP: the word found. `None` if the word found is free or has DROP; then
+    /// nothing changes, and the view notes that word.
     pub fn adopt(&mut self, p: u16) -> Option<u64>
         requires own { p / CELLS ≡ self.old.view.number }
         requires unused { object_at self.old.view p ≡ None }
@@ -314,7 +315,7 @@ impl<D: Device> MutSeat<D> {
         if is_in_use(found) { Some(found) } else { None }
     }
 
-    /// Asks for an object to be moved, or drops it, which is used no longer then: the word found in its cell.
+    /// Sets `mark`, which is MOVE or DROP, in the cell of an object that is used and not held: the word found there. After DROP the owner uses the object no longer.
     pub fn ask(&mut self, p: u16, mark: Mark) -> u64
         requires request { is_request mark ≡ true }
         requires own { p / CELLS ≡ self.old.view.number }

@@ -51,8 +51,8 @@ fn load_some<D: Device>(
     }
 }
 
-// Loads the words that are left over, at most seven: four at one address where there are so many, and the rest one by one. By the remainder, which is the
-// number itself, words have one address.
+// Loads the words that are left over, at most seven: four at one address if there are so many, and the rest one by one. The remainder changes no address;
+// with it the compiler has one address for the four.
 #[inline(always)]
 fn load_rest<D: Device>(
     shared: &Shared<u64, View, Plan<D>, FarRule>,
@@ -169,7 +169,7 @@ fn load_to_thirty_one<D: Device>(
     load_to_fifteen::<D>(shared, seat, places, p, start + 16, first + 16, left);
 }
 
-// Loads thirty-two words, by sixteen: a loop of so many is none for the machine.
+// Loads thirty-two words, by sixteen: the compiler unrolls a loop of sixteen.
 #[inline(always)]
 fn load_thirty_two<D: Device>(
     shared: &Shared<u64, View, Plan<D>, FarRule>,
@@ -199,7 +199,7 @@ fn load_thirty_two<D: Device>(
     load_some::<D>(shared, seat, places, p, start + 16, first + 16, 16, left);
 }
 
-// Loads words by thirty-two. By the remainder, which is the number itself, these have one address.
+// Loads words by thirty-two. The remainder changes no address; with it the compiler has one address for the thirty-two.
 #[inline(always)]
 fn load_blocks<D: Device>(
     shared: &Shared<u64, View, Plan<D>, FarRule>,
@@ -231,7 +231,7 @@ fn load_blocks<D: Device>(
     }
 }
 
-// Loads as many words as leave blocks of thirty-two, and then these. It is a call, so that what has few words is done where it is asked for.
+// Loads as many words as leave blocks of thirty-two, and then these. This function isn't inlined, so that the load of few words can be.
 #[inline(never)]
 fn load_long<D: Device>(
     shared: &Shared<u64, View, Plan<D>, FarRule>,

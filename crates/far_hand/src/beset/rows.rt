@@ -44,7 +44,7 @@ pub(crate) fn none_counted(alloc: Global, words: usize) -> Result<Vec<bool>, All
     Ok(vec![in alloc; false; words]?)
 }
 
-/// The word last found in a pointer's cell.
+/// The word last found or left in a pointer's cell.
 pub(crate) fn found_in(found: &Vec<u64>, pointer: usize) -> u64
     requires { pointer < vec_len found.now }
     ensures { result ≡ word_at found.now.items pointer }
@@ -52,7 +52,7 @@ pub(crate) fn found_in(found: &Vec<u64>, pointer: usize) -> u64
     found[pointer]
 }
 
-/// A word was found in a pointer's cell.
+/// A word was found in a pointer's cell, or left there.
 pub(crate) fn find(found: &mut Vec<u64>, pointer: u16, word: u64)
     requires { pointer < vec_len found.old }
     ensures len { vec_len found.new ≡ vec_len found.old }
@@ -61,7 +61,7 @@ pub(crate) fn find(found: &mut Vec<u64>, pointer: u16, word: u64)
     found[pointer as usize] = word;
 }
 
-/// A word was found of a job.
+/// A word was found of a job, or left there.
 pub(crate) fn find_job(jobs: &mut [u64; JOBS as usize], job: u8, word: u64)
     requires { job < JOBS }
     ensures { word_at jobs.new ≡ put (word_at jobs.old) job word }
@@ -86,7 +86,7 @@ pub(crate) fn forget(counted: &mut Vec<bool>)
     counted.fill(false);
 }
 
-/// What is counted on once a word was read: nothing, where its log was given back; the word too, where its object is quiet.
+/// What is counted on once a word was read: nothing, if its log was given back; the word too, if its object is quiet; else what was counted on before.
 pub(crate) fn recount(counted: &mut Vec<bool>, free: bool, quiet: bool, log: u8, at: u16)
     requires { log * LOG_WORDS + at < vec_len counted.old }
     ensures len { vec_len counted.new ≡ vec_len counted.old }

@@ -95,7 +95,7 @@ pub(crate) fn fetch<N: Near + Drop, D: Device + Drop>(
     evac.fetch(pointer)
 }
 
-// Whether a round of these logs is running: its logs that aren't given back are the last of them. Beside copiers they may be any of them.
+// Whether a round of these logs is running: the round's logs that aren't given back are the last of these logs, or, in a heap with copiers, any of these.
 pub(crate) fn is_round_of<N: Near + Drop, D: Device + Drop>(
     evac: &Evac<N, D>,
     chosen: &Chosen,

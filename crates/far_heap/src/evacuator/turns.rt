@@ -36,7 +36,7 @@ pub(crate) fn has_each(chosen: &Chosen, logs: &[u8]) -> bool
 }
 
 impl<K: HeapName, D: Device + Drop> Evacuator<K, D> {
-    // Whether a round of these logs is running: its logs that aren't given back are the last of them. Beside copiers they may be any of them.
+    // Whether a round of these logs is running: the round's logs that aren't given back are the last of these logs, or, in a heap with copiers, any of these.
     fn is_round_of(&self, chosen: &Chosen) -> bool
         ensures { result ≡ is_round_of self.now.copying chosen.now self.now.collection }
     {
