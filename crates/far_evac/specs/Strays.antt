@@ -104,6 +104,6 @@ ComersJoin = (s t u : State) → NoneComes s t → NoneComes t u → NoneComes s
 abbrev pub OwnersBringNone : Type 0
 OwnersBringNone = (s t : State) → OthersChange s t → NoneComes s t
 
--- and any row of events, an owner's or the book's, that leaves the epoch as it is
+-- and any row of events, an owner's, a copier's or the book's, that leaves the epoch as it is
 abbrev pub EventsBringNone : Type 0
 EventsBringNone = (s : State) (es : List Event) → Law s → AllByRecursion Fits es → (after_events s es).epoch ≡ s.epoch → NoneComes s (after_events s es)

@@ -119,6 +119,7 @@ impl<N: Near + Drop, D: Device + Drop> Evac<N, D> {
     {
         self.book.keeps_law();
     }
+
     /// Once a poll has answered that all owners are clear, nobody views anything in the collection set, in whatever state the words may be beside the hand.
     /// While owners are waited for, none does who was seen clear.
     pub fn nobody_views(&self)

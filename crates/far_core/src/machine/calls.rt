@@ -44,7 +44,7 @@ impl Core {
     }
 
     /// An open owner sets HOT on a pointer that it uses and doesn't hold. `Ok` with the object's place, which it holds
-    /// from then on; `Err` with the old word, where that isn't present or has EVAC, MOVE or DROP.
+    /// from then on; `Err` with the old word, if that isn't near or has EVAC, MOVE or DROP.
     #[inline]
     pub fn pin(&mut self, owner: u8, pointer: u16) -> Result<Place, u64>
         requires legal { Legal (core_state self.old) (Event.Pin owner pointer) }
