@@ -16,8 +16,8 @@ use Rattle.far_split.specs.FarSides.{FarReads, FarSide}
 
 -- a command is refused by what others, rounds and the system do meanwhile, and what the mutator knows stays as it is. No earlier refusal of the command's row
 -- applies, with one gap: of a new object that finds no room it isn't said that the mutator has a pointer without an object by its own lines (`HasLeft` of `Knows`), but
--- only that a cell of one of its pointers was free (`TellsOfHeap`). A new object may want a pointer although one is unused, since the cell of a dropped object is free
--- only once a round came by; or room. What a plain heap refuses too, for want of room, or by its device or a mark, is in `Knows`
+-- only that a cell of one of its pointers was free (`TellsOfHeap`). A new object may be refused for want of a pointer although one is unused by these lines, or for want of
+-- room, since no said moment is that of the book which had no other. What a plain heap refuses too, for want of room, or by its device or a mark, is in `Knows`
 abbrev pub Hindered : Own → Command → Reply → Own → Type 0
 Hindered o (Mutator _ (New len ds)) (Refused NoPointer) q = (ds < 256) × (0 < len) × (len ≤ LONGEST) × (q ≡ o)
 Hindered o (Mutator _ (New len ds)) (Refused NoRoom) q = (ds < 256) × (0 < len) × (len ≤ LONGEST) × (q ≡ o)
