@@ -5,6 +5,8 @@ usage: pages.py [--readme] [PROGRAM]     PROGRAM: a built far_trace; without it 
 
 - A relative link leads to a file or folder that is there, and to a heading that is there.
 - What stands in backquotes and looks like a file or folder of the repository is one; so is each path from crates/, docs/, scripts/, bench/ or .ci/ on.
+- A name with an underscore in backquotes stands in some file of the repository that is no page, or is such a file's or folder's; but one of ABROAD,
+  or one with a part of a single letter, which stands for others.
 - A command after `$ ` in a block that calls far_trace, or draws, is run at the top: the lines beneath it are its output, all of them. The built
   program is run in the place of scripts/far_trace and scripts/try. A command that calls anything but PLAIN, or writes a file, isn't run.
 - A row of a trace in backquotes, with ` / ` for a newline, gives the replies that stand after it, behind 'prints' or 'at last'.
@@ -25,10 +27,12 @@ README_LINES, README_WORDS, README_LINE = 130, 1_400, 200
 PLAIN = {"printf", "echo", "cat", "head", "tail", "scripts/far_trace", "scripts/try", "scripts/draw"}
 LINK = re.compile(r"\[[^\]]*\]\(([^)\s]+)\)")
 SPAN = re.compile(r"`([^`\n]+)`")
+NAME = re.compile(r"[A-Za-z]\w*_\w+")
 FROM_TOP = re.compile(r"(?<![\w/.*-])(?:crates|docs|scripts|bench|\.ci)/[\w./*-]*[\w/*]")
 NAMED = re.compile(r"[\w.*-]+(?:/[\w.*-]*)*")
 SUFFIXES = (".rt", ".antt", ".md", ".py", ".sh", ".c", ".trace", ".svg", ".txt", ".edit")
 ROW = re.compile(r"`(heap [^`]*)`(?:,? and)?\s+prints\s+`([^`]*)`|`(heap [^`]*)`: at last\s+`([^`]*)`")
+ABROAD = {"decode_to_slice", "try_lock"}  # of std and hex, called nowhere here
 wrong = []
 
 
@@ -118,6 +122,21 @@ def check_paths(page: pathlib.Path, prose: str, known: list) -> None:
             fail(page, f"{name} isn't there")
 
 
+def words(known: list) -> set:
+    """All names that stand in a file, a page excepted, or in a path."""
+    found = {name for path in known for name in NAME.findall(path)}
+    for path in known:
+        if path.endswith((".rt", ".antt", ".py", ".sh", ".edit")):
+            found.update(NAME.findall((TOP / path).read_text()))
+    return found
+
+
+def check_names(page: pathlib.Path, prose: str, named: set) -> None:
+    for name in sorted({name for span in SPAN.findall(prose) for name in NAME.findall(span)} - named - ABROAD):
+        if all(len(part) != 1 for part in name.split("_")):
+            fail(page, f"`{name}` stands nowhere else")
+
+
 def may_run(command: str) -> bool:
     lexer = shlex.shlex(command, posix=True, punctuation_chars="|&;()<>")
     lexer.whitespace_split = True
@@ -172,11 +191,13 @@ def main() -> int:
     program = str(pathlib.Path(given[0]).resolve()) if given else str(TOP / "crates/far_trace/out/far_trace")
     pages = [TOP / "README.md", TOP / "bench/README.md", *sorted(TOP.glob("docs/*.md")), *sorted(TOP.glob("crates/*/README.md"))]
     known = tree()
+    named = words(known)
     for page in pages:
         text = page.read_text()
         prose, blocks = parts(text)
         check_links(page, prose)
         check_paths(page, prose, known)
+        check_names(page, prose, named)
         check_rows(page, prose, program)
         for block in blocks:
             check_paths(page, "\n".join(block), known)

@@ -14,10 +14,10 @@ pub use census::{Census, Housed, LogKind, LogState};
 pub use evac::Evac;
 pub use laws::{
     callers_keep, callers_keep_order, census_is_exact, clear_is_shown, clear_means_unviewed,
-    dealing_is_in_order, exact_is_allowed, giving_up_is_right, live_objects_are_in_order,
-    looks_see_clear, marking_is_right, none_strays, objects_go_beside_copiers,
-    objects_go_their_way, poll_is_allowed, poll_is_once, risen_is_ready, round_is_allowed,
-    round_is_event, rounds_are_so, rounds_keep_objects, rounds_lead, rounds_retire_none,
-    waiting_stays, walk_is_tour, walks_join, walks_take_room,
+    copied_comes_back, copied_is_allowed, copies_are_so, dealing_is_in_order, exact_is_allowed,
+    giving_up_is_right, live_objects_are_in_order, looks_see_clear, marking_is_right, none_strays,
+    objects_go_beside_copiers, objects_go_their_way, poll_is_allowed, poll_is_once, risen_is_ready,
+    round_is_allowed, round_is_event, rounds_are_so, rounds_keep_objects, rounds_lead,
+    rounds_retire_none, turns_have_16, waiting_stays, walk_is_tour, walks_join, walks_take_room,
 };
 pub use phase::Phase;
