@@ -122,7 +122,7 @@ def check_paths(page: pathlib.Path, prose: str, known: list) -> None:
             fail(page, f"{name} isn't there")
 
 
-def words(known: list) -> set:
+def names_in(known: list) -> set:
     """All names that stand in a file, a page excepted, or in a path."""
     found = {name for path in known for name in NAME.findall(path)}
     for path in known:
@@ -191,7 +191,7 @@ def main() -> int:
     program = str(pathlib.Path(given[0]).resolve()) if given else str(TOP / "crates/far_trace/out/far_trace")
     pages = [TOP / "README.md", TOP / "bench/README.md", *sorted(TOP.glob("docs/*.md")), *sorted(TOP.glob("crates/*/README.md"))]
     known = tree()
-    named = words(known)
+    named = names_in(known)
     for page in pages:
         text = page.read_text()
         prose, blocks = parts(text)
