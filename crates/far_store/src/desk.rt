@@ -1,6 +1,6 @@
 //! A shard at work, beside a record of its own of all that was put.
 
-ghost use Rattle.std.specs.Prelude.{◌≡◌, ◌+◌, ◌<◌, true, replicate, IfOk, OnOk};
+ghost use Rattle.std.specs.Prelude.{◌≡◌, ◌≢◌, ◌+◌, ◌<◌, true, replicate, IfOk, OnOk};
 ghost use Rattle.std.specs.Vec.{vec_len};
 ghost use Rattle.far_store.specs.Counting.{told};
 ghost use Rattle.far_store.specs.Kept.{AreKept};
@@ -45,7 +45,7 @@ impl<K: HeapName, D: Device + Drop> Job<K, D> {
 /// What came of it.
 #[derive(Clone, Copy, Debug)]
 pub struct Told {
-    /// How many records were read at the end, each beside what was put into it last.
+    /// How many records were read at the end, one after the other from the first on, each beside what was put into it last.
     pub records: u64,
     /// How many records were read or written at random.
     pub operations: u64,
@@ -56,13 +56,15 @@ pub struct Told {
     pub counts: Counts,
 }
 
-/// A shard, what was put into each of its records last, how many records had other bytes, and how often one was read or written.
+/// A shard, what was put into each of its records last, how many records had other bytes when they were read, how often a record was read or written
+/// since that was 0, and how many were read one after the other, from record 0 on.
 #[derive(Drop)]
 struct Desk<K: HeapName, D: Device + Drop> {
     shard: Shard<K, D>,
     kept: Vec<[u8; RECORD]>,
     wrong: u64,
     made: u64,
+    read: u64,
     ghost many: { vec_len kept ≡ shard.part.count },
     ghost right: { K.heap.honest ≡ true → AreKept shard kept.items × (wrong ≡ 0) },
 }
@@ -86,6 +88,7 @@ impl<K: HeapName, D: Device + Drop> Desk<K, D> {
                 kept,
                 wrong: 0,
                 made: 0,
+                read: 0,
             }),
             Err(why) => Err(why),
         }
@@ -114,11 +117,13 @@ impl<K: HeapName, D: Device + Drop> Desk<K, D> {
         Ok(())
     }
 
-    // Reads a record, counts that, and also if it is wrong.
+    // Reads a record, counts that, and also if it is wrong, and if it is the one behind those that were read one after the other.
     fn check<R: Wait>(&mut self, rt: &R, waiter: &Waiter<'_>, at: u32) -> Result<(), StoreFault>
         requires { at < self.old.shard.part.count }
         ensures part { self.new.shard.part ≡ self.old.shard.part }
         ensures made { OnOk result (self.new.made ≡ told (self.old.made + 1)) }
+        ensures next { OnOk result (at ≡ self.old.read → self.new.read ≡ self.old.read + 1) }
+        ensures other { OnOk result (at ≢ self.old.read → self.new.read ≡ self.old.read) }
     {
         let number = self.shard.part().number(at);
         let found = match self.shard.get(rt, number, || waiter.wait(rt)) {
@@ -127,6 +132,7 @@ impl<K: HeapName, D: Device + Drop> Desk<K, D> {
         };
         waiter.took(rt, self.shard.counts().fetches);
         self.made = self.made.saturating_add(1);
+        self.read = read_on(self.read, at);
         if found != self.kept[at as usize] {
             self.wrong = self.wrong.saturating_add(1);
         }
@@ -191,12 +197,12 @@ impl<K: HeapName, D: Device + Drop> Desk<K, D> {
         Ok(self.made)
     }
 
-    // Reads each record, and counts that from 0 on.
+    // Reads all records, one after the other.
     fn check_all<R: Wait>(&mut self, rt: &R, waiter: &Waiter<'_>) -> Result<(), StoreFault>
-        ensures { OnOk result (self.new.made ≡ self.old.shard.part.count) }
+        ensures { OnOk result (self.new.read ≡ self.old.shard.part.count) }
     {
         let count = self.shard.part().count;
-        self.made = 0;
+        self.read = 0;
         for at in 0..count {
             if let Err(why) = self.check(rt, waiter, at) {
                 return Err(why);
@@ -212,6 +218,18 @@ impl<K: HeapName, D: Device + Drop> Desk<K, D> {
             digest = digested(digest, record);
         }
         digest
+    }
+}
+
+// How many records were read one after the other once this one is read too, if so many were before.
+fn read_on(read: u64, at: u32) -> u64
+    ensures next { at ≡ read → result ≡ read + 1 }
+    ensures other { at ≢ read → result ≡ read }
+{
+    if u64::from(at) == read {
+        read + 1
+    } else {
+        read
     }
 }
 
@@ -264,7 +282,7 @@ pub fn work<K: HeapName, D: Device + Drop, R: Wait>(
         return Err(why);
     }
     Ok(Told {
-        records: desk.made,
+        records: desk.read,
         operations,
         wrong: desk.wrong,
         digest: desk.digest(),

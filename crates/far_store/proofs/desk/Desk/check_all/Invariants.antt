@@ -5,5 +5,5 @@ abbrev pub invariant-loop-at : goal.invariant-loop-at
 invariant-loop-at g l = record {
   part : l.self.shard.part ≡ l.fn.self.shard.part;
   count : l.self.shard.part.count ≡ l.count;
-  made : l.self.made ≡ l.at;
+  read : l.self.read ≡ l.at;
 }
