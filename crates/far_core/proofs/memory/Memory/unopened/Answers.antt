@@ -1,9 +1,43 @@
-use Rattle.std.proofs.Common.{false, cond, Some, None, rules}
+use Rattle.std.proofs.Common.{◌≡◌, ◌≤◌, ◌<◌, ◌*◌, ◌∙◌, ℕ, ap, arith, false, cond, subst, sym, Some, None, rules}
+use Rattle.far_word.specs.declared.sizes.TheConstants.{CELLS, LEAST_LOGS, LOG_WORDS, MOST_LOGS, MOST_MUTATORS, POINTERS}
+use Rattle.std.specs.Vec.{vec_len}
 use Rattle.far_word.specs.declared.pointer.Place.{Place}
 use Rattle.far_core.specs.declared.event.Kind.TheVariants.{Free}
 use Rattle.far_core.specs.state.Memory.{state_of}
-use Rattle.far_core.proofs.Begins.{row_of}
+use Rattle.far_core.proofs.Begins.{InRange, in_range, row_of}
 use Rattle.far_core.proofs.memory.Memory.unopened.Goals as goal
+
+few_pointers : (n : ℕ) → n ≤ MOST_MUTATORS → CELLS * n ≤ POINTERS
+few_pointers n few = omega arith
+
+some_log : (n : ℕ) → LEAST_LOGS ≤ n → 0 < n
+some_log n two = omega arith
+
+pub new-requires : goal.new-requires
+new-requires c = few_pointers _ (in_range c.args.shape c.requires).few_mutators
+
+pub invariant_of-result : goal.invariant_of-result
+invariant_of-result c =
+    let range : InRange c.args.shape = in_range c.args.shape c.requires in
+    let mutators : c.args.shape.mutators ≡ vec_len c.in_ok-vec.field-0 = sym c.in_ok-vec.ensures.len in
+    let logs : c.args.shape.logs ≡ vec_len c.in_ok-vec-9.field-0 = sym c.in_ok-vec-9.ensures.len in
+    record {
+      remembered_sized = c.in_ok-vec-3.ensures.len ∙ mutators;
+      kinds_sized = c.in_ok-vec-8.ensures.len ∙ logs;
+      current_within = subst (λ n. 0 < n) logs (some_log _ range.two_logs);
+      few_logs = subst (λ n. n ≤ MOST_LOGS) logs range.few_logs;
+      few_mutators = subst (λ n. n ≤ MOST_MUTATORS) mutators range.few_mutators;
+      cells_sized = c.in_ok-vec-2.ensures.len ∙ ap (λ n. CELLS * n) mutators;
+      words_sized = c.in_ok-zero_words.ensures.len ∙ ap (λ n. LOG_WORDS * n) logs;
+      starts_sized = c.in_ok-vec-10.ensures.len ∙ ap (λ n. LOG_WORDS * n) logs;
+      used_sized = c.in_ok-vec-4.ensures.len ∙ ap (λ n. CELLS * n) mutators;
+      held_sized = c.in_ok-vec-5.ensures.len ∙ ap (λ n. CELLS * n) mutators;
+      places_sized = c.in_ok-vec-6.ensures.len ∙ ap (λ n. CELLS * n) mutators;
+      soiled_sized = c.in_ok-vec-7.ensures.len ∙ ap (λ n. CELLS * n) mutators;
+      round_sized = c.in_ok-vec-11.ensures.len ∙ logs;
+      clear_sized = c.in_ok-vec-12.ensures.len ∙ mutators;
+      stored_sized = c.in_ok-new.ensures.sized ∙ ap (λ n. CELLS * n) mutators;
+    }
 
 pub returns : goal.returns
 unfolding state_of
