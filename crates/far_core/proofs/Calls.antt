@@ -28,6 +28,10 @@ pub next_keeps_law : (s : State) (e : Event) → Law s → Legal s e → Fits e 
 unfolding next_state
 next_keeps_law s e law legal fits = keeps s e law fits legal
 
+-- the same of a state that is known to be the next
+pub law_after : (s t : State) (e : Event) → t ≡ next_state s e → Law s → Legal s e → Fits e → Law t
+law_after s t e next law legal fits = rw next (next_keeps_law s e law legal fits)
+
 -- what the test of a step answers is whether the event is legal
 pub test_is_guard : (s : State) (e : Event) (b : Bool) → Law s → b ≡ is_legal s e → IsTrue b ↔ Legal s e
 test_is_guard s e b law is = (λ h. is_fact s e law (sym is ∙ h), λ h. is ∙ is_test s e h)

@@ -1,0 +1,14 @@
+use Rattle.std.proofs.Common.{◌∙◌}
+use Rattle.far_core.specs.declared.event.Event.TheVariants.{ReadEpoch}
+use Rattle.far_core.specs.state.Memory.{state_of}
+use Rattle.far_core.proofs.Calls.{law_after, next_is_after}
+use Rattle.far_core.proofs.machine.Core.read_epoch.Goals as goal
+
+pub invariant_of-self : goal.invariant_of-self
+invariant_of-self c = record { law = law_after (state_of c.args.self.now.memory) _ (ReadEpoch c.args.owner) c.read_epoch.ensures.state c.args.self.now.law c.requires.legal tt }
+
+pub returns-clause-state : goal.returns-clause-state
+returns-clause-state c = c.read_epoch.ensures.state ∙ next_is_after _ _
+
+pub returns-clause-epoch : goal.returns-clause-epoch
+returns-clause-epoch c = c.read_epoch.ensures.epoch
