@@ -1,7 +1,12 @@
-use Rattle.std.proofs.Common.{◌++◌, [], ◌∷◌, arith}
-use Rattle.std.proofs.lemmas.List.{take_more}
+use Rattle.std.proofs.Common.{List, ◌++◌, [], ◌∷◌, arith, subst}
+use Rattle.std.proofs.lemmas.List.{take_all, take_more}
+use Rattle.std.specs.Prelude.{map}
+use Rattle.far_core.specs.declared.event.Event.{Event}
 use Rattle.far_core.specs.declared.event.Event.TheVariants.{ReadEpoch}
 use Rattle.far_core.specs.state.CoreState.{core_state}
+use Rattle.far_core.specs.state.State.{State}
+use Rattle.far_core.specs.world.Runs.{Leads, Runs}
+use Rattle.far_core.specs.world.WorldOf.{world_of}
 use Rattle.far_core.proofs.Steps.{leads_more, runs_more}
 use Rattle.far_core.proofs.machine.Core.run.Goals as goal
 
@@ -19,3 +24,9 @@ loop-event-preserved c =
             (runs_more _ _ _ h.0 _ _ _ _ h.1 h.2 c.step-reply.ensures.world),
       );
     }
+
+pub returns-clause-runs : goal.returns-clause-runs
+returns-clause-runs c =
+    subst (λ (es : List Event). (states : List State) × Leads (core_state c.args.self.now) es c.loop-event.replies.items states (core_state c.loop-event.self)
+        × Runs (world_of (core_state c.args.self.now)) es c.loop-event.replies.items (map world_of states))
+    (take_all c.loop-event.event-index c.args.events.now c.loop-event-test.false) c.loop-event.invariant.leads
