@@ -19,13 +19,20 @@ impl Beset {
         ensures next { self.new.made ≡ passed (next_event self.old) self.old.made }
         ensures change { OthersChange (core_state self.old.core) (core_state self.new.core) }
     {
-        let Some(event) = self.events.get(self.made).copied() else {
+        let Some(event) = self.next_event() else {
             return;
         };
         self.made += 1;
         if is_others(event) {
             step_other(&mut self.core, event);
         }
+    }
+
+    /// The event whose turn is next.
+    fn next_event(&self) -> Option<Event>
+        ensures { result ≡ next_event self.now }
+    {
+        self.events.get(self.made).copied()
     }
 }
 
