@@ -19,8 +19,10 @@ pub adopt-requires : goal.adopt-requires
 adopt-requires c = own_below _ _ _ c.requires.owner c.requires.own
 
 pub invariant_of-self : goal.invariant_of-self
-invariant_of-self c = record { law = law_after (state_of c.args.self.now.memory) _ (Adopt c.args.owner c.args.pointer) c.adopt.ensures.state c.args.self.now.law
-    (c.requires.owner, c.requires.own, c.requires.unused, sym c.is_in_use.ensures ∙ c.if-not-is_in_use.false) tt }
+invariant_of-self c = record {
+  law = law_after (state_of c.args.self.now.memory) _ (Adopt c.args.owner c.args.pointer) c.adopt.ensures.state c.args.self.now.law
+      (c.requires.owner, c.requires.own, c.requires.unused, sym c.is_in_use.ensures ∙ c.if-not-is_in_use.false) tt;
+}
 
 pub returns-clause-legal : goal.returns-clause-legal
 returns-clause-legal c = (λ _. (c.requires.owner, c.requires.own, c.requires.unused, sym c.is_in_use.ensures ∙ c.if-not-is_in_use.false), λ _. refl)

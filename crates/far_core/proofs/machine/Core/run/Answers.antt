@@ -28,5 +28,5 @@ loop-event-preserved c =
 pub returns-clause-runs : goal.returns-clause-runs
 returns-clause-runs c =
     subst (λ (es : List Event). (states : List State) × Leads (core_state c.args.self.now) es c.loop-event.replies.items states (core_state c.loop-event.self)
-        × Runs (world_of (core_state c.args.self.now)) es c.loop-event.replies.items (map world_of states))
+    × Runs (world_of (core_state c.args.self.now)) es c.loop-event.replies.items (map world_of states))
     (take_all c.loop-event.event-index c.args.events.now c.loop-event-test.false) c.loop-event.invariant.leads

@@ -22,8 +22,8 @@ not_all first v marked is fails = fails ∙ ap (λ b. b && marked) (sym fails �
 pub returns-then-all_sealed : goal.returns-then-all_sealed
 returns-then-all_sealed c = all_hold _ _ _ _
     (elim c.if-epoch-lt-EPOCH_END.branch [
-      then-epoch-lt-EPOCH_END w ↦ low_then _ _ _ _ _ _ c.epoch.ensures w.if-epoch-lt-EPOCH_END.true w.value-is w.all_sealed.ensures
-    | else-epoch-lt-EPOCH_END w ↦ low_else _ _ _ _ _ c.epoch.ensures w.if-epoch-lt-EPOCH_END.false w.value-is
+      | then-epoch-lt-EPOCH_END w ↦ low_then _ _ _ _ _ _ c.epoch.ensures w.if-epoch-lt-EPOCH_END.true w.value-is w.all_sealed.ensures
+      | else-epoch-lt-EPOCH_END w ↦ low_else _ _ _ _ _ c.epoch.ensures w.if-epoch-lt-EPOCH_END.false w.value-is
     ])
     c.if-all_sealed.true
     (c.all_marked.ensures ∙ ap (λ n. all_marked (state_of c.args.self.now) c.args.logs (CELLS * n)) c.mutators.ensures)
@@ -31,7 +31,7 @@ returns-then-all_sealed c = all_hold _ _ _ _
 pub returns-else-all_sealed : goal.returns-else-all_sealed
 returns-else-all_sealed c = not_all _ _ _
     (elim c.if-epoch-lt-EPOCH_END.branch [
-      then-epoch-lt-EPOCH_END w ↦ low_then _ _ _ _ _ _ c.epoch.ensures w.if-epoch-lt-EPOCH_END.true w.value-is w.all_sealed.ensures
-    | else-epoch-lt-EPOCH_END w ↦ low_else _ _ _ _ _ c.epoch.ensures w.if-epoch-lt-EPOCH_END.false w.value-is
+      | then-epoch-lt-EPOCH_END w ↦ low_then _ _ _ _ _ _ c.epoch.ensures w.if-epoch-lt-EPOCH_END.true w.value-is w.all_sealed.ensures
+      | else-epoch-lt-EPOCH_END w ↦ low_else _ _ _ _ _ c.epoch.ensures w.if-epoch-lt-EPOCH_END.false w.value-is
     ])
     c.if-all_sealed.false

@@ -1,7 +1,23 @@
-use Rattle.std.proofs.Common.{ap, ◌∙◌, Some}
+use Rattle.std.proofs.Common.{ℕ, ap, subst, ◌∙◌, Some}
+use Rattle.std.specs.Prelude.{IsSome}
+use Rattle.far_word.specs.Pointer.{read_of}
+use Rattle.far_core.specs.declared.event.Event.TheVariants.{Name}
 use Rattle.far_core.specs.state.Memory.{state_of}
+use Rattle.far_core.proofs.Owing.{is_fact}
 use Rattle.far_core.proofs.MadeNamings.{away_freed, away_near, away_far}
 use Rattle.far_core.proofs.memory.Memory.name_away.Goals as goal
+
+pub set_cell-requires : goal.set_cell-requires
+set_cell-requires c = (is_fact (state_of c.args.self.now) (Name c.args.pointer c.args.old c.args.new) c.requires.law c.requires.legal).0
+
+pub known-requires : goal.known-requires
+known-requires c = subst (λ (w : ℕ). IsSome (read_of w)) c.requires.cell (c.requires.law.cells.cell_read c.args.pointer).1
+
+pub evict-requires-clause-pointer : goal.evict-requires-clause-pointer
+evict-requires-clause-pointer c = (is_fact (state_of c.args.self.now) (Name c.args.pointer c.args.old c.args.new) c.requires.law c.requires.legal).0
+
+pub evict-requires-clause-near : goal.evict-requires-clause-near
+evict-requires-clause-near c = (c.in-Near.ds, c.in-Near.marks, ap read_of c.requires.cell ∙ (c.known.ensures ∙ ap Some c.in-Near.is))
 
 pub returns-then-new-eq0 : goal.returns-then-new-eq0
 returns-then-new-eq0 c =

@@ -1,13 +1,26 @@
-use Rattle.std.proofs.Common.{◌≡◌, ◌≢◌, ◌∙◌, ℕ, true, sym, ap, refl, Option, Some, None}
+use Rattle.std.proofs.Common.{◌≡◌, ◌≢◌, ◌∙◌, ℕ, true, sym, ap, refl, subst, Option, Some, None}
+use Rattle.std.specs.Prelude.{IsSome}
+use Rattle.far_word.specs.Pointer.{read_of}
+use Rattle.far_core.specs.declared.event.Event.TheVariants.{Name}
 use Rattle.far_core.specs.state.Memory.{state_of}
 use Rattle.far_core.specs.state.State.{State, put}
 use Rattle.far_core.proofs.Copied.{copied_fact}
+use Rattle.far_core.proofs.Owing.{is_fact}
 use Rattle.far_core.proofs.MadeNamings.{placed_is, placed_near, with_job}
 use Rattle.far_core.proofs.memory.Memory.name_placed.Goals as goal
 
 none_else : (o : Option ℕ) → ((j : ℕ) → o ≢ Some j) → o ≡ None
 none_else None h = refl
 none_else (Some j) h = absurd (h j refl)
+
+pub known-requires : goal.known-requires
+known-requires c = subst (λ (w : ℕ). IsSome (read_of w)) c.requires.cell (c.requires.law.cells.cell_read c.args.pointer).1
+
+pub copied_job-job-requires-clause-pointer : goal.copied_job-job-requires-clause-pointer
+copied_job-job-requires-clause-pointer c = (is_fact (state_of c.args.self.now) (Name c.args.pointer c.args.old c.args.new) c.requires.law c.requires.legal).0
+
+pub set_cell-requires : goal.set_cell-requires
+set_cell-requires c = (is_fact (state_of c.args.self.now) (Name c.args.pointer c.args.old c.args.new) c.requires.law c.requires.legal).0
 
 pub unreachable-requires : goal.unreachable-requires
 unreachable-requires c =
