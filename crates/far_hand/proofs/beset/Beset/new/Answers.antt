@@ -1,7 +1,7 @@
-use Rattle.std.proofs.Common.{sym, subst, ap, ◌∙◌, ◌*◌, ℕ, Bool}
+use Rattle.std.proofs.Common.{false, sym, subst, ap, ◌∙◌, ◌*◌, ℕ, Bool}
 use Rattle.far_word.specs.declared.sizes.TheConstants.{LOG_WORDS}
 use Rattle.far_core.specs.state.CoreState.{core_state}
-use Rattle.far_hand.specs.Masked.{word_at, CountsOnRest}
+use Rattle.far_hand.specs.Masked.{is_counted, masked, word_at, CountsOnRest}
 use Rattle.far_hand.proofs.Counting.{counts_none}
 use Rattle.far_hand.proofs.Finding.{finds_is}
 use Rattle.far_hand.proofs.JobsFound.{job_is}
@@ -18,3 +18,10 @@ invariant_of-result c =
       finds_jobs = λ j. job_is (word_at c.jobs_of-jobs.result j) (s.copying.word j) (ap (λ (f : ℕ → ℕ). f j) (sym c.jobs_of-jobs.ensures));
       counts = subst (λ (k : ℕ → Bool). CountsOnRest s found k) (sym c.in-Ok-none_counted.ensures.none) (counts_none s found);
     }
+
+pub returns-clause-view : goal.returns-clause-view
+returns-clause-view c =
+    let s = core_state c.args.core in
+    let jobs = word_at c.jobs_of-jobs.result in
+    ap (λ (f : ℕ → ℕ). masked s f (is_counted c.in-Ok-none_counted.counted.items) jobs) c.in-Ok.ensures.words
+    ∙ ap (λ (k : ℕ → Bool). masked s s.cell k jobs) c.in-Ok-none_counted.ensures.none ∙ ap (λ (f : ℕ → ℕ). masked s s.cell (λ _. false) f) c.jobs_of-jobs.ensures

@@ -32,3 +32,6 @@ pub returns-clause-lost : goal.returns-clause-lost
 returns-clause-lost c =
     let s = core_state c.args.self.now.core in
     IfErr-weaker c.name.result _ _ (λ w told. legal_made s (core_state c.name.new.self) (Name c.args.pointer c.args.old c.args.new) (Word w) c.requires.legal c.name.ensures.state told) c.name.ensures.found
+
+pub returns-clause-set : goal.returns-clause-set
+returns-clause-set c = λ _. c.name.ensures.state

@@ -1,4 +1,4 @@
-use Rattle.std.proofs.Common.{sym, subst, ap, ◌∙◌, ◌≡◌, ◌*◌, ◌-◌, ◌^◌, ℕ, Bool, false, refl, bit_and}
+use Rattle.std.proofs.Common.{sym, subst, ap, ◌∙◌, ◌≡◌, ◌*◌, ◌-◌, ◌^◌, ◌<◌, ℕ, Bool, false, refl, bit_and}
 use Rattle.far_word.specs.declared.sizes.TheConstants.{CELLS, LOG_WORDS}
 use Rattle.far_core.specs.declared.event.Event.TheVariants.{Clear}
 use Rattle.far_core.specs.events.Clear.{evac_cleared}
@@ -58,3 +58,23 @@ returns-clause-made c =
     let x = near_found (word_at hand.found.items p) (s.cell p) (hand.finds p) near.0 near.1 near.2 near.3 near.4 in
     let own : Legal s (Clear p) = (legal.0, (near.0, near.1, near.2, x.marks, x.near)) in
     turn_then c.args.self.now hand (Clear p) (Word c.clear-cell.result) c.turn.ensures.view c.turn.ensures.made c.turn.ensures.change c.turn.ensures.events c.turn.ensures.next own c.clear-cell.ensures.state c.clear-cell.ensures.word refl refl
+
+pub clear-cell-requires : goal.clear-cell-requires
+clear-cell-requires c =
+    let hand = c.turn.new.self in
+    let p = c.args.pointer in
+    let legal : Legal (beset_view hand) (Clear p) = subst (λ (u : State). Legal u (Clear p)) (sym c.turn.ensures.view) c.requires.legal in
+    let near = legal.1 in
+    let x = near_found (word_at hand.found.items p) ((core_state hand.core).cell p) (hand.finds p) near.0 near.1 near.2 near.3 near.4 in
+    record { legal = (legal.0, (near.0, near.1, near.2, x.marks, x.near)) }
+
+pub find-requires : goal.find-requires
+find-requires c =
+    let legal : Legal (beset_view c.turn.new.self) (Clear c.args.pointer) = subst (λ (u : State). Legal u (Clear c.args.pointer)) (sym c.turn.ensures.view) c.requires.legal in
+    subst (λ n. c.args.pointer < n) (sym c.turn.new.self.found_sized) legal.0
+
+pub returns-clause-exact : goal.returns-clause-exact
+returns-clause-exact c = λ still. absurd still
+
+pub returns-clause-set : goal.returns-clause-set
+returns-clause-set c = λ still. absurd still

@@ -34,3 +34,9 @@ pub returns-in-Err-clause-lost : goal.returns-in-Err-clause-lost
 returns-in-Err-clause-lost c =
     let turn = c.turn.ensures in
     turn_then c.args.self.now c.turn.new.self _ _ turn.view turn.made turn.change turn.events turn.next c.requires.legal c.collect.ensures.state c.in-Err.ensures.found refl refl
+
+pub returns-in-Ok-clause-set : goal.returns-in-Ok-clause-set
+returns-in-Ok-clause-set c = λ still. absurd still
+
+pub returns-in-Err-clause-set : goal.returns-in-Err-clause-set
+returns-in-Err-clause-set c = λ still. absurd still

@@ -1,4 +1,4 @@
-use Rattle.std.proofs.Common.{refl, sym, subst, ap, ◌∙◌, ◌≡◌, ◌*◌, ℕ, bit_or}
+use Rattle.std.proofs.Common.{refl, sym, subst, ap, ◌∙◌, ◌≡◌, ◌*◌, ◌<◌, ℕ, bit_or}
 use Rattle.far_word.specs.declared.sizes.TheConstants.{CELLS, LOG_WORDS}
 use Rattle.far_core.specs.declared.event.Event.TheVariants.{Mark}
 use Rattle.far_core.specs.events.Legal.{Legal}
@@ -39,3 +39,20 @@ returns-clause-made c =
     let legal : Legal (beset_view hand) (Mark c.args.pointer) = subst (λ (u : State). Legal u (Mark c.args.pointer)) (sym c.turn.ensures.view) c.requires.legal in
     let own = legal_mark (core_state hand.core) hand.core.law (word_at hand.found.items) (is_counted hand.counted.items) hand.finds c.args.pointer legal in
     turn_then c.args.self.now hand (Mark c.args.pointer) (Word c.mark-cell.result) c.turn.ensures.view c.turn.ensures.made c.turn.ensures.change c.turn.ensures.events c.turn.ensures.next own c.mark-cell.ensures.state c.mark-cell.ensures.word refl refl
+
+pub mark-cell-requires : goal.mark-cell-requires
+mark-cell-requires c =
+    let hand = c.turn.new.self in
+    let legal : Legal (beset_view hand) (Mark c.args.pointer) = subst (λ (u : State). Legal u (Mark c.args.pointer)) (sym c.turn.ensures.view) c.requires.legal in
+    record { legal = legal_mark (core_state hand.core) hand.core.law (word_at hand.found.items) (is_counted hand.counted.items) hand.finds c.args.pointer legal }
+
+pub find-requires : goal.find-requires
+find-requires c =
+    let legal : Legal (beset_view c.turn.new.self) (Mark c.args.pointer) = subst (λ (u : State). Legal u (Mark c.args.pointer)) (sym c.turn.ensures.view) c.requires.legal in
+    subst (λ n. c.args.pointer < n) (sym c.turn.new.self.found_sized) legal.0
+
+pub returns-clause-exact : goal.returns-clause-exact
+returns-clause-exact c = λ still. absurd still
+
+pub returns-clause-set : goal.returns-clause-set
+returns-clause-set c = λ still. absurd still

@@ -149,3 +149,9 @@ returns-in-Err-clause-lost c =
     let legal : Legal (beset_view hand) (Name p c.args.old c.args.new) = subst (λ (u : State). Legal u (Name p c.args.old c.args.new)) (sym c.turn.ensures.view) c.requires.legal in
     let own = legal_name s hand.core.law (word_at hand.found.items) (is_counted hand.counted.items) (word_at hand.jobs) hand.finds hand.finds_jobs p c.args.old c.args.new legal.0 c.ranges.new.fits legal in
     turn_then c.args.self.now hand (Name p c.args.old c.args.new) (Word c.in-Err.found) c.turn.ensures.view c.turn.ensures.made c.turn.ensures.change c.turn.ensures.events c.turn.ensures.next own c.name.ensures.state c.in-Err.ensures.found refl refl
+
+pub returns-in-Ok-clause-set : goal.returns-in-Ok-clause-set
+returns-in-Ok-clause-set c = λ still. absurd still
+
+pub returns-in-Err-clause-set : goal.returns-in-Err-clause-set
+returns-in-Err-clause-set c = λ still. absurd still
