@@ -13,3 +13,9 @@ pub returns-clause-made : goal.returns-clause-made
 returns-clause-made c =
     let turn = c.turn.ensures in
     turn_then c.args.self.now c.turn.new.self _ _ turn.view turn.made turn.change turn.events turn.next c.requires.legal refl c.see_job-word.ensures.word refl refl
+
+pub returns-clause-exact : goal.returns-clause-exact
+returns-clause-exact c = λ still. absurd still
+
+pub returns-clause-set : goal.returns-clause-set
+returns-clause-set c = λ still. absurd still
