@@ -13,7 +13,7 @@ invariant_of-self g c =
     let few : length device.last.items ≤ SLOT = omega (arith, c.requires.len, c.requires.few) in
     record {
       stands = λ honest. stands_written seen device.row.items c.args.id _ (device.stands honest)
-      (λ bytes is. as_others seen (SLOT * c.args.id) SLOT device.last.items bytes (sym (ap (λ last. Some last.items) c.of.ensures) ∙ is) (c.requires.there honest) few);
+          (λ bytes is. as_others seen (SLOT * c.args.id) SLOT device.last.items bytes (sym (ap (λ last. Some last.items) c.of.ensures) ∙ is) (c.requires.there honest) few);
     }
 
 pub returns-clause-set : goal.returns-clause-set
