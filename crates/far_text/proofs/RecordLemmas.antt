@@ -18,7 +18,7 @@ use Rattle.far_text.specs.declared.steps.StepRecord.TheVariants.{Select as Selec
 use Rattle.far_text.proofs.Reading.{map_append}
 
 -- the front of a buffer that new bytes were put into
-put_in_front : (buffer new rest : List ℕ) (len n : ℕ) → len ≤ length buffer → length new ≡ n → take (len + n) (take len buffer ++ (new ++ rest)) ≡ take len buffer ++ new
+pub put_in_front : (buffer new rest : List ℕ) (len n : ℕ) → len ≤ length buffer → length new ≡ n → take (len + n) (take len buffer ++ (new ++ rest)) ≡ take len buffer ++ new
 put_in_front buffer new rest len n fits long =
     let front : length (take len buffer) ≡ len = length-take-le len buffer fits in
     let whole : length (take len buffer ++ new) ≡ len + n = omega (arith, length-append (take len buffer) new) in

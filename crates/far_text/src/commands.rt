@@ -50,7 +50,10 @@ fn write_record(
     ensures fault { IfErr result (λ _. bytes.new ≡ bytes.old) }
 {
     let start = bytes.len() as u32;
-    if !bytes.add(word)? {
+    let Ok(spelled) = bytes.add(word) else {
+        return Err(AllocError);
+    };
+    if !spelled {
         return Ok(None);
     }
     let count = bytes.len() as u32 - start;
@@ -121,10 +124,11 @@ fn evacuator_record(bytes: &mut HexBytes, step: Step) -> Result<Option<Record>, 
     ensures none { result ≡ Ok None → bytes.new ≡ bytes.old }
     ensures fault { IfErr result (λ _. bytes.new ≡ bytes.old) }
 {
-    let Some(step) = step_record(bytes, step)? else {
-        return Ok(None);
-    };
-    Ok(Some(Record::Evacuator(step)))
+    match step_record(bytes, step) {
+        Ok(Some(step)) => Ok(Some(Record::Evacuator(step))),
+        Ok(None) => Ok(None),
+        Err(AllocError) => Err(AllocError),
+    }
 }
 
 // The record of a command that was read, unless it writes what is no word in hex, or chooses what can't be chosen. The bytes

@@ -143,7 +143,9 @@ impl HexBytes {
         ensures fault { IfErr result (λ _. self.new ≡ self.old) }
     {
         let len = self.len + 1;
-        make_room(&mut self.buffer, len)?;
+        let Ok(()) = make_room(&mut self.buffer, len) else {
+            return Err(AllocError);
+        };
         self.buffer[self.len] = byte;
         self.len = len;
         Ok(())
@@ -160,7 +162,9 @@ impl HexBytes {
             return Ok(false);
         }
         let end = self.len + word.len() / 2;
-        make_room(&mut self.buffer, end)?;
+        let Ok(()) = make_room(&mut self.buffer, end) else {
+            return Err(AllocError);
+        };
         if !decode(word, &mut self.buffer[self.len..end]) {
             return Ok(false);
         }
