@@ -129,7 +129,7 @@ fn comes_back<R: Threads + Wait + Sync>(rt: &R, case: Case, ended: bool) -> bool
     })
 }
 
-// One that asks while a step is made. Refused so: `heard` written before the sleep, as `state.heard = state.asked` above `if enough`.
+// One that asks while a step is made. Refused so: `heard` written before the sleep, as `state.heard = state.asked` above `if matches!`.
 #[test]
 fn one_that_asked_during_a_step_is_woken(rt: HostRuntime) {
     assert!(rt; comes_back(&rt, Case::EndsAStep, false));

@@ -447,12 +447,16 @@ fn fails_first<D: Device + Drop>(mut device: D, bytes: &[u8], answers: &[&[u8]])
     first_fails(&mut device, bytes) && reads_all(&mut device, answers) && last_fails(&mut device)
 }
 
+// The same of two devices that lie in their first read and in their second, after the failure.
+fn both_fail_first<D: Device + Drop>(short: D, flip: D) -> bool {
+    fails_first(short, &[1, 2], &[&[1, 2]]) && fails_first(flip, &[0], &[&[255], &[0]])
+}
+
 #[test]
 fn a_lie_over_a_failure(rt: HostRuntime) {
     let short = Liar::short(FailAt::new(MemDevice::new(rt.alloc()), 2), 1);
-    assert!(rt; fails_first(short, &[1, 2], &[&[1, 2]]));
     let flip = Liar::flip(FailAt::new(MemDevice::new(rt.alloc()), 2), 2);
-    assert!(rt; fails_first(flip, &[0], &[&[255], &[0]]));
+    assert!(rt; both_fail_first(short, flip));
 }
 
 // Whether this is what a fault is told as.
