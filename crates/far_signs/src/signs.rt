@@ -15,7 +15,7 @@ pub enum Found {
 }
 
 // How often room was asked for and made, and who has ended.
-#[derive(Clone, Copy, Debug)]
+#[derive(Clone, Copy)]
 struct State {
     asked: u64,
     // How often it had been asked for before the step that is made now, and how much of that was answered.
@@ -32,6 +32,41 @@ impl State {
     // Whether there is something to do for the one that makes room, though it found enough.
     fn is_wanted(&self) -> bool {
         self.asked != self.heard || self.look || self.done
+    }
+
+    // What the last step came to: whether all who wait are to be woken.
+    fn ends_step(&mut self, last: Option<Found>) -> bool {
+        let wakes = match last {
+            Some(Found::Made) => true,
+            Some(Found::Enough) => self.answered != self.heard,
+            Some(Found::Less) | None => false,
+        };
+        if wakes {
+            self.made = self.made.wrapping_add(1);
+            self.answered = self.heard;
+        }
+        wakes
+    }
+
+    // A step begins, unless the work is done: whether it is.
+    fn begins_step(&mut self) -> bool {
+        self.heard = self.asked;
+        self.look = false;
+        self.done
+    }
+
+    // Whether no room was made since that count, and some will be.
+    fn is_short(&self, seen: u64) -> bool {
+        self.made == seen && !self.left
+    }
+
+    // Asks for room where there is none: whether it did.
+    fn asks(&mut self, seen: u64) -> bool {
+        let is_short = self.is_short(seen);
+        if is_short {
+            self.asked = self.asked.wrapping_add(1);
+        }
+        is_short
     }
 }
 
@@ -92,29 +127,21 @@ impl Signs {
     /// [`Signs::look`], this call sleeps until somebody does, or the work is done. Answers whether the work is done.
     pub fn rest<R: Wait>(&self, rt: &R, last: Option<Found>) -> bool {
         let mut state = self.state.lock(rt);
-        let enough = last == Some(Found::Enough);
-        if last == Some(Found::Made) || (enough && state.answered != state.heard) {
-            state.made = state.made.wrapping_add(1);
-            state.answered = state.heard;
+        if state.ends_step(last) {
             self.made.notify_all();
         }
-        if enough {
+        if matches!(last, Some(Found::Enough)) {
             state = self.wanted.wait_while(rt, state, |now| !now.is_wanted());
         }
-        state.heard = state.asked;
-        state.look = false;
-        state.done
+        state.begins_step()
     }
 
     // Asks for room, unless some was made since that count, and sleeps until some is, or none will be: the count then, and whether none will be.
     fn wait_past<R: Wait>(&self, rt: &R, seen: u64) -> (u64, bool) {
         let mut state = self.state.lock(rt);
-        if state.made == seen && !state.left {
-            state.asked = state.asked.wrapping_add(1);
+        if state.asks(seen) {
             self.wanted.notify_all();
-            state = self
-                .made
-                .wait_while(rt, state, |now| now.made == seen && !now.left);
+            state = self.made.wait_while(rt, state, |now| now.is_short(seen));
         }
         (state.made, state.left)
     }

@@ -6,15 +6,21 @@ use std::sync::atomic::{AtomicBool, Ordering};
 use std::thread;
 use std::thread::Threads;
 
-// Room that was made after the last look, and before the wait. Refused so: `seen` read when the wait begins.
-#[test]
-fn room_made_before_the_wait_is_heard(rt: HostRuntime) {
+fn hears_room<R: Wait>(rt: &R) -> bool {
     let signs = Signs::new();
     let waiter = Waiter::new(&signs);
     for _ in 0..3u8 {
-        assert!(rt; !signs.rest(&rt, Some(Found::Made)));
-        assert!(rt; !waiter.wait(&rt));
+        if signs.rest(rt, Some(Found::Made)) || waiter.wait(rt) {
+            return false;
+        }
     }
+    true
+}
+
+// Room that was made after the last look, and before the wait. Refused so: `seen` read when the wait begins.
+#[test]
+fn room_made_before_the_wait_is_heard(rt: HostRuntime) {
+    assert!(rt; hears_room(&rt));
 }
 
 // Other threads run until one has asked for room, which then sleeps, or is about to.
@@ -27,32 +33,6 @@ fn wait_till_asked<R: Wait>(rt: &R, signs: &Signs) {
     }
 }
 
-// One that asks while a step is made. Refused so: `heard` written before the sleep, as `state.heard = state.asked` above `if enough`.
-fn woken<R: Threads + Wait + Sync>(rt: &R) -> bool {
-    let signs = Signs::new();
-    let passed = &signs;
-    thread::scope(thread::scope_env(), rt, |scope| -> bool {
-        if passed.rest(rt, None) {
-            return false;
-        }
-        let Ok(one) = scope.spawn(move || Waiter::new(passed).wait(rt)) else {
-            return false;
-        };
-        wait_till_asked(rt, passed);
-        // the step that ends here began before that: this doesn't sleep, and the next step's end wakes it
-        let early = passed.rest(rt, Some(Found::Enough));
-        passed.end_work(rt);
-        let done = passed.rest(rt, Some(Found::Enough));
-        let left = one.join(rt);
-        !early && done && !left
-    })
-}
-
-#[test]
-fn one_that_asked_during_a_step_is_woken(rt: HostRuntime) {
-    assert!(rt; woken(&rt));
-}
-
 // Other threads have had time to go on, if nothing holds them.
 fn let_others_run() {
     for _ in 0..2_000u16 {
@@ -60,48 +40,133 @@ fn let_others_run() {
     }
 }
 
-// The one that makes room sleeps, though others run, until it is to look. Refused so: `rest` that sleeps never; `look` that notifies nobody.
-fn sleeps_until_wanted<R: Threads + Wait + Sync>(rt: &R) -> bool {
+// What one thread does while another sleeps, or is about to.
+#[derive(Clone, Copy)]
+enum Case {
+    EndsAStep,
+    Looks,
+    EndsWork,
+    MakesRoomTwice,
+    EndsRounds,
+}
+
+fn waits_twice<R: Wait>(rt: &R, signs: &Signs) -> bool {
+    let waiter = Waiter::new(signs);
+    let first = waiter.wait(rt);
+    let second = waiter.wait(rt);
+    first || second
+}
+
+// The thread that sleeps. It sets `back` once it has come back.
+fn sleeps<R: Wait>(rt: &R, signs: &Signs, back: &AtomicBool, case: Case) -> bool {
+    let answer = match case {
+        Case::Looks | Case::EndsWork => signs.rest(rt, Some(Found::Enough)),
+        Case::EndsAStep | Case::EndsRounds => Waiter::new(signs).wait(rt),
+        Case::MakesRoomTwice => waits_twice(rt, signs),
+    };
+    back.store(true, Ordering::SeqCst);
+    answer
+}
+
+// The step that ends here first began before one asked: this doesn't sleep, and the next step's end wakes that one.
+fn ends_a_step<R: Wait>(rt: &R, signs: &Signs) -> bool {
+    wait_till_asked(rt, signs);
+    let early = signs.rest(rt, Some(Found::Enough));
+    signs.end_work(rt);
+    let done = signs.rest(rt, Some(Found::Enough));
+    !early && done
+}
+
+fn looks<R: Wait>(rt: &R, signs: &Signs, back: &AtomicBool) -> bool {
+    let_others_run();
+    let slept = !back.load(Ordering::SeqCst);
+    signs.look(rt);
+    slept
+}
+
+fn makes_room_twice<R: Wait>(rt: &R, signs: &Signs, back: &AtomicBool) -> bool {
+    wait_till_asked(rt, signs);
+    let _ = signs.rest(rt, Some(Found::Made));
+    wait_till_asked(rt, signs);
+    let_others_run();
+    let slept = !back.load(Ordering::SeqCst);
+    let _ = signs.rest(rt, Some(Found::Made));
+    slept
+}
+
+// What the other thread does: whether it found what it was to find.
+fn goes_on<R: Wait>(rt: &R, signs: &Signs, back: &AtomicBool, case: Case) -> bool {
+    match case {
+        Case::EndsAStep => ends_a_step(rt, signs),
+        Case::Looks => looks(rt, signs, back),
+        Case::EndsWork => {
+            let_others_run();
+            signs.end_work(rt);
+            true
+        }
+        Case::MakesRoomTwice => makes_room_twice(rt, signs, back),
+        Case::EndsRounds => {
+            wait_till_asked(rt, signs);
+            signs.end_rounds(rt);
+            true
+        }
+    }
+}
+
+// Whether the thread that sleeps comes back in this case, and answers `ended`.
+fn comes_back<R: Threads + Wait + Sync>(rt: &R, case: Case, ended: bool) -> bool {
     let signs = Signs::new();
     let came_back = AtomicBool::new(false);
     let (passed, back) = (&signs, &came_back);
     thread::scope(thread::scope_env(), rt, |scope| -> bool {
-        let Ok(one) = scope.spawn(move || {
-            let done = passed.rest(rt, Some(Found::Enough));
-            back.store(true, Ordering::SeqCst);
-            done
-        }) else {
+        let begun = passed.rest(rt, None);
+        let Ok(one) = scope.spawn(move || sleeps(rt, passed, back, case)) else {
             return false;
         };
-        let_others_run();
-        let slept = !back.load(Ordering::SeqCst);
-        passed.look(rt);
-        slept && !one.join(rt)
+        let found = goes_on(rt, passed, back, case);
+        let answer = one.join(rt);
+        !begun && found && answer == ended
     })
 }
 
+// One that asks while a step is made. Refused so: `heard` written before the sleep, as `state.heard = state.asked` above `if matches!`.
+#[test]
+fn one_that_asked_during_a_step_is_woken(rt: HostRuntime) {
+    assert!(rt; comes_back(&rt, Case::EndsAStep, false));
+}
+
+// The one that makes room sleeps, though others run, until it is to look. Refused so: `rest` that sleeps never; `look` that notifies nobody.
 #[test]
 fn rest_sleeps_until_it_is_wanted(rt: HostRuntime) {
-    assert!(rt; sleeps_until_wanted(&rt));
+    assert!(rt; comes_back(&rt, Case::Looks, false));
 }
 
 // It hears that the work is done, while it sleeps. Refused so: `end_work` that notifies nobody.
-fn hears_the_end<R: Threads + Wait + Sync>(rt: &R) -> bool {
-    let signs = Signs::new();
-    let passed = &signs;
-    thread::scope(thread::scope_env(), rt, |scope| -> bool {
-        let Ok(one) = scope.spawn(move || passed.rest(rt, Some(Found::Enough))) else {
-            return false;
-        };
-        let_others_run();
-        passed.end_work(rt);
-        one.join(rt)
-    })
-}
-
 #[test]
 fn end_work_wakes_the_one_that_sleeps(rt: HostRuntime) {
-    assert!(rt; hears_the_end(&rt));
+    assert!(rt; comes_back(&rt, Case::EndsWork, true));
+}
+
+// One that was woken, and is refused room again, asks and sleeps again. Refused so: `wait_past` that sleeps only where `seen` is 0.
+#[test]
+fn one_that_was_woken_sleeps_again(rt: HostRuntime) {
+    assert!(rt; comes_back(&rt, Case::MakesRoomTwice, false));
+}
+
+// One that sleeps hears that none will be made. Refused so: `end_rounds` that notifies nobody.
+#[test]
+fn one_that_sleeps_gives_up(rt: HostRuntime) {
+    assert!(rt; comes_back(&rt, Case::EndsRounds, true));
+}
+
+// Wakes both, once the second has asked.
+fn wakes_both<R: Wait>(rt: &R, signs: &Signs, ends: bool) {
+    wait_till_asked(rt, signs);
+    if ends {
+        signs.end_rounds(rt);
+    } else {
+        let _ = signs.rest(rt, Some(Found::Made));
+    }
 }
 
 // Two sleep: room that is made wakes both, and so does the end of it. Refused so: `notify_one` in `rest`, in `end_rounds`.
@@ -119,12 +184,7 @@ fn two_are_woken<R: Threads + Wait + Sync>(rt: &R, ends: bool) -> bool {
             passed.end_rounds(rt);
             return false;
         };
-        wait_till_asked(rt, passed);
-        if ends {
-            passed.end_rounds(rt);
-        } else {
-            let _ = passed.rest(rt, Some(Found::Made));
-        }
+        wakes_both(rt, passed, ends);
         let (first, second) = (one.join(rt), other.join(rt));
         first == ends && second == ends
     })
@@ -132,79 +192,35 @@ fn two_are_woken<R: Threads + Wait + Sync>(rt: &R, ends: bool) -> bool {
 
 #[test]
 fn two_that_sleep_are_woken(rt: HostRuntime) {
-    assert!(rt; two_are_woken(&rt, false));
-    assert!(rt; two_are_woken(&rt, true));
+    assert!(rt; two_are_woken(&rt, false) && two_are_woken(&rt, true));
 }
 
-// One that was woken, and is refused room again, asks and sleeps again. Refused so: `wait_past` that sleeps only where `seen` is 0.
-fn sleeps_again<R: Threads + Wait + Sync>(rt: &R) -> bool {
+fn hears_ends<R: Wait>(rt: &R) -> bool {
     let signs = Signs::new();
-    let came_back = AtomicBool::new(false);
-    let (passed, back) = (&signs, &came_back);
-    thread::scope(thread::scope_env(), rt, |scope| -> bool {
-        let Ok(one) = scope.spawn(move || {
-            let waiter = Waiter::new(passed);
-            let first = waiter.wait(rt);
-            let second = waiter.wait(rt);
-            back.store(true, Ordering::SeqCst);
-            first || second
-        }) else {
-            return false;
-        };
-        wait_till_asked(rt, passed);
-        let _ = passed.rest(rt, Some(Found::Made));
-        wait_till_asked(rt, passed);
-        let_others_run();
-        let slept = !back.load(Ordering::SeqCst);
-        let _ = passed.rest(rt, Some(Found::Made));
-        slept && !one.join(rt)
-    })
-}
-
-#[test]
-fn one_that_was_woken_sleeps_again(rt: HostRuntime) {
-    assert!(rt; sleeps_again(&rt));
-}
-
-// One that sleeps hears that none will be made. Refused so: `end_rounds` that notifies nobody.
-fn gives_up<R: Threads + Wait + Sync>(rt: &R) -> bool {
-    let signs = Signs::new();
-    let passed = &signs;
-    thread::scope(thread::scope_env(), rt, |scope| -> bool {
-        let Ok(one) = scope.spawn(move || Waiter::new(passed).wait(rt)) else {
-            return false;
-        };
-        wait_till_asked(rt, passed);
-        passed.end_rounds(rt);
-        one.join(rt)
-    })
-}
-
-#[test]
-fn one_that_sleeps_gives_up(rt: HostRuntime) {
-    assert!(rt; gives_up(&rt));
+    signs.end_rounds(rt);
+    signs.end_work(rt);
+    Waiter::new(&signs).wait(rt) && signs.rest(rt, Some(Found::Enough))
 }
 
 // Who waits gives up once nobody makes room, and who makes it ends once the work is done.
 #[test]
 fn ends_are_heard(rt: HostRuntime) {
+    assert!(rt; hears_ends(&rt));
+}
+
+fn looks_now_and_then<R: Wait>(rt: &R) -> bool {
     let signs = Signs::new();
-    signs.end_rounds(&rt);
-    signs.end_work(&rt);
-    assert!(rt; Waiter::new(&signs).wait(&rt));
-    assert!(rt; signs.rest(&rt, Some(Found::Enough)));
+    let waiter = Waiter::new(&signs);
+    waiter.took(rt, EVERY - 1);
+    let early = signs.is_wanted(rt);
+    waiter.took(rt, EVERY);
+    let looked = !early && signs.is_wanted(rt) && !signs.rest(rt, Some(Found::Enough));
+    waiter.took(rt, EVERY + 1);
+    looked && !signs.is_wanted(rt)
 }
 
 // One that takes room has the one that makes it look now and then, which doesn't sleep then. Refused so: a `took` that never does, or each time.
 #[test]
 fn room_that_is_taken_is_looked_after(rt: HostRuntime) {
-    let signs = Signs::new();
-    let waiter = Waiter::new(&signs);
-    waiter.took(&rt, EVERY - 1);
-    assert!(rt; !signs.is_wanted(&rt));
-    waiter.took(&rt, EVERY);
-    assert!(rt; signs.is_wanted(&rt));
-    assert!(rt; !signs.rest(&rt, Some(Found::Enough)));
-    waiter.took(&rt, EVERY + 1);
-    assert!(rt; !signs.is_wanted(&rt));
+    assert!(rt; looks_now_and_then(&rt));
 }

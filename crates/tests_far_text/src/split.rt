@@ -34,6 +34,10 @@ fn runs_lines(alloc: Global, text: &[u8], thread: Thread, numbers: &[u64]) -> bo
     }
 }
 
+fn are_same(said: (u64, u64, u64), wanted: (u64, u64, u64)) -> bool {
+    said.0 == wanted.0 && said.1 == wanted.1 && said.2 == wanted.2
+}
+
 // Whether a text says this heap.
 fn says_heap(alloc: Global, text: &[u8], heap: (u64, u64, u64)) -> bool {
     match parse_split(alloc, text) {
@@ -44,7 +48,7 @@ fn says_heap(alloc: Global, text: &[u8], heap: (u64, u64, u64)) -> bool {
                 epoch,
                 ..
             },
-        ) => logs == heap.0 && mutators == heap.1 && epoch == heap.2,
+        ) => are_same((logs, mutators, epoch), heap),
         Ok(SplitTrace::Nothing) | Err(_) => false,
     }
 }
@@ -93,42 +97,52 @@ fn has_known_at(alloc: Global, text: &[u8], thread: Thread, at: usize) -> bool {
     }
 }
 
-#[test]
-fn each_mutator_has_its_own_lines(rt: HostRuntime) -> Result<(), Fail> {
-    let text =
-        b"heap 4 2\nnew 0 8 1\nnew 1 8 1\nopen 0\nwrite 0 0 0 0a\nread 0 0 0 1\nopen 1\nread 1 256 0 1";
-    assert!(rt; runs_lines(rt.alloc(), text, Thread::Mutator(0), &[2, 4, 5, 6]));
-    assert!(rt; has_known_at(rt.alloc(), text, Thread::Mutator(0), 2));
-    assert!(rt; runs_lines(rt.alloc(), text, Thread::Mutator(1), &[3, 7, 8]));
-    assert!(rt; runs_lines(rt.alloc(), text, Thread::Mutator(2), &[]));
-    assert!(rt; runs_lines(rt.alloc(), text, Thread::Book, &[]));
-    Ok(())
+// A text of two mutators.
+const MUTATORS: &[u8] =
+    b"heap 4 2\nnew 0 8 1\nnew 1 8 1\nopen 0\nwrite 0 0 0 0a\nread 0 0 0 1\nopen 1\nread 1 256 0 1";
+
+fn runs_mutators(alloc: Global) -> bool {
+    runs_lines(alloc, MUTATORS, Thread::Mutator(0), &[2, 4, 5, 6])
+        && has_known_at(alloc, MUTATORS, Thread::Mutator(0), 2)
+        && runs_lines(alloc, MUTATORS, Thread::Mutator(1), &[3, 7, 8])
+        && runs_lines(alloc, MUTATORS, Thread::Mutator(2), &[])
+        && runs_lines(alloc, MUTATORS, Thread::Book, &[])
 }
 
 #[test]
-fn the_books_lines_stand_among_them(rt: HostRuntime) -> Result<(), Fail> {
-    // comments and empty lines are counted
-    let text =
-        b"# first\n\nheap 4 8 5\nlogs\nview 7 900\nround leastlive 2 9\n\nlog 3\ntry 7 900\n# the last\naudit\ndrop 7 900\nclose 7\n";
-    assert!(rt; says_heap(rt.alloc(), text, (4, 8, 5)));
-    assert!(rt; runs_lines(rt.alloc(), text, Thread::Book, &[4, 6, 8, 11]));
-    assert!(rt; has_known_at(rt.alloc(), text, Thread::Book, 1));
-    assert!(rt; has_known_at(rt.alloc(), text, Thread::Book, 2));
-    assert!(rt; runs_lines(rt.alloc(), text, Thread::Mutator(7), &[5, 9, 12, 13]));
-    assert!(rt; runs_lines(rt.alloc(), text, Thread::Mutator(6), &[]));
-    Ok(())
+fn each_mutator_has_its_own_lines(rt: HostRuntime) {
+    assert!(rt; runs_mutators(rt.alloc()));
+}
+
+// A text of the book and one mutator. Comments and empty lines are counted.
+const BOOK: &[u8] =
+    b"# first\n\nheap 4 8 5\nlogs\nview 7 900\nround leastlive 2 9\n\nlog 3\ntry 7 900\n# the last\naudit\ndrop 7 900\nclose 7\n";
+
+fn runs_book(alloc: Global) -> bool {
+    says_heap(alloc, BOOK, (4, 8, 5))
+        && runs_lines(alloc, BOOK, Thread::Book, &[4, 6, 8, 11])
+        && has_known_at(alloc, BOOK, Thread::Book, 1)
+        && has_known_at(alloc, BOOK, Thread::Book, 2)
+        && runs_lines(alloc, BOOK, Thread::Mutator(7), &[5, 9, 12, 13])
+        && runs_lines(alloc, BOOK, Thread::Mutator(6), &[])
 }
 
 #[test]
-fn a_text_may_say_nothing(rt: HostRuntime) -> Result<(), Fail> {
-    assert!(rt; says_nothing(rt.alloc(), b""));
-    assert!(rt; says_nothing(rt.alloc(), b"\n# a comment\n"));
-    // a heap has threads without lines too
-    assert!(rt; runs_lines(rt.alloc(), b"heap 4 1\n", Thread::Book, &[]));
-    Ok(())
+fn the_books_lines_stand_among_them(rt: HostRuntime) {
+    assert!(rt; runs_book(rt.alloc()));
 }
 
-fn is_flaw(flaw: Flaw, wanted: Flaw) -> bool {
+#[test]
+fn a_text_may_say_nothing(rt: HostRuntime) {
+    assert!(rt;
+        says_nothing(rt.alloc(), b"")
+            && says_nothing(rt.alloc(), b"\n# a comment\n")
+            // a heap has threads without lines too
+            && runs_lines(rt.alloc(), b"heap 4 1\n", Thread::Book, &[])
+    );
+}
+
+pub(crate) fn is_flaw(flaw: Flaw, wanted: Flaw) -> bool {
     matches!(
         (flaw, wanted),
         (Flaw::Fail, Flaw::Fail) | (Flaw::Short, Flaw::Short) | (Flaw::Flip, Flaw::Flip)
@@ -148,54 +162,32 @@ fn says_device(alloc: Global, text: &[u8], flaw: Flaw, call: u64) -> bool {
     }
 }
 
-#[test]
-fn a_device_may_fail_or_lie(rt: HostRuntime) -> Result<(), Fail> {
-    assert!(rt;
-        says_device(
-            rt.alloc(),
-            b"heap 4 1\n\ndevice fail 3\nlogs",
-            Flaw::Fail,
-            3
-        )
-    );
-    assert!(rt;
-        says_device(
-            rt.alloc(),
-            b"heap 4 1\n# it\ndevice short 0",
-            Flaw::Short,
-            0
-        )
-    );
-    assert!(rt;
-        says_device(
-            rt.alloc(),
+fn says_devices(alloc: Global) -> bool {
+    says_device(alloc, b"heap 4 1\n\ndevice fail 3\nlogs", Flaw::Fail, 3)
+        && says_device(alloc, b"heap 4 1\n# it\ndevice short 0", Flaw::Short, 0)
+        && says_device(
+            alloc,
             b"heap 4 1\ndevice flip 18446744073709551615\n",
             Flaw::Flip,
-            u64::MAX
+            u64::MAX,
         )
-    );
-    // its line is none of a thread's
-    assert!(rt;
-        runs_lines(
-            rt.alloc(),
-            b"heap 4 1\n\ndevice short 1\nopen 0\nlogs",
-            Thread::Mutator(0),
-            &[4]
-        )
-    );
-    assert!(rt;
-        runs_lines(
-            rt.alloc(),
-            b"heap 4 1\n\ndevice flip 1\nopen 0\nlogs",
-            Thread::Book,
-            &[5]
-        )
-    );
-    Ok(())
+}
+
+// A device's line is none of a thread's.
+fn passes_devices(alloc: Global) -> bool {
+    let short = b"heap 4 1\n\ndevice short 1\nopen 0\nlogs";
+    let flip = b"heap 4 1\n\ndevice flip 1\nopen 0\nlogs";
+    runs_lines(alloc, short, Thread::Mutator(0), &[4])
+        && runs_lines(alloc, flip, Thread::Book, &[5])
 }
 
 #[test]
-fn lines_of_nobody_are_refused(rt: HostRuntime) -> Result<(), Fail> {
+fn a_device_may_fail_or_lie(rt: HostRuntime) {
+    assert!(rt; says_devices(rt.alloc()) && passes_devices(rt.alloc()));
+}
+
+#[test]
+fn lines_of_nobody_are_refused(rt: HostRuntime) {
     let lines: [&[u8]; 20] = [
         b"heap 4 1\nnew 0 8 1\nround oldest 1 9\nepoch 0",
         b"heap 4 1\nnew 0 8 1\nlogs\nwhere 0 0\nepoch 0",
@@ -224,16 +216,20 @@ fn lines_of_nobody_are_refused(rt: HostRuntime) -> Result<(), Fail> {
     for text in lines {
         assert!(rt; is_refused_at(rt.alloc(), text, 4));
     }
-    Ok(())
+}
+
+// Whether a heap may have so many mutators isn't asked.
+fn runs_any_mutator(alloc: Global) -> bool {
+    let text = b"heap 4 18446744073709551615\nopen 18446744073709551614\nopen 8";
+    runs_lines(alloc, text, Thread::Mutator(u64::MAX - 1), &[2])
+        && runs_lines(alloc, text, Thread::Mutator(8), &[3])
 }
 
 #[test]
-fn mutators_are_those_of_the_heaps_line(rt: HostRuntime) -> Result<(), Fail> {
-    // whether a heap may have so many isn't asked
-    let text = b"heap 4 18446744073709551615\nopen 18446744073709551614\nopen 8";
-    assert!(rt; runs_lines(rt.alloc(), text, Thread::Mutator(u64::MAX - 1), &[2]));
-    assert!(rt; runs_lines(rt.alloc(), text, Thread::Mutator(8), &[3]));
-    assert!(rt; is_refused_at(rt.alloc(), b"heap 1 1\nnew 1 8 1", 2));
-    assert!(rt; is_refused_at(rt.alloc(), b"heap 4 0\nopen 0", 2));
-    Ok(())
+fn mutators_are_those_of_the_heaps_line(rt: HostRuntime) {
+    assert!(rt;
+        runs_any_mutator(rt.alloc())
+            && is_refused_at(rt.alloc(), b"heap 1 1\nnew 1 8 1", 2)
+            && is_refused_at(rt.alloc(), b"heap 4 0\nopen 0", 2)
+    );
 }

@@ -4,13 +4,12 @@ use far_text::{Choice, Command, Commands, ParseError, Policy, Step, Trace, parse
 use std::alloc::{AllocGlobal, Global};
 use std::test::*;
 
-// The commands of a heap's text; None where it is off the grammar.
-fn commands_of(alloc: Global, text: &[u8]) -> Result<Option<Commands>, Fail> {
-    match parse(alloc, text) {
-        Ok(Trace::Heap { commands, .. }) => Ok(Some(commands)),
-        Ok(Trace::Nothing) | Err(ParseError::Syntax(_)) => Ok(None),
-        Err(ParseError::Memory) => Err("no memory".into()),
-    }
+// Whether a text is off the grammar, or says no heap.
+fn says_nothing(alloc: Global, text: &[u8]) -> bool {
+    matches!(
+        parse(alloc, text),
+        Ok(Trace::Nothing) | Err(ParseError::Syntax(_))
+    )
 }
 
 fn chooses(command: Command, by_age: bool, logs: &[u8], wanted: u8) -> bool {
@@ -57,29 +56,42 @@ fn evacuates(command: Command, wanted: u64) -> bool {
     count == wanted
 }
 
-#[test]
-fn each_step_is_read(rt: HostRuntime) -> Result<(), Fail> {
-    let text =
-        b"heap 4 2\nselect oldest 0\nselect leastlive 64\nselect script 2 0 255 7\nwrite 0 1 2 c0ff\nmark 7\nwait\nevacuate 18446744073709551615\nabort\nround oldest 64 0\nround leastlive 1 9";
-    let Some(commands) = commands_of(rt.alloc(), text)? else {
-        return Err("each line says something".into());
-    };
-    assert!(rt; commands.len() == 10);
-    assert!(rt; chooses(commands.at(0), true, &[], 0));
-    assert!(rt; chooses(commands.at(1), false, &[], 64));
-    // the logs stand among the bytes of writes
-    assert!(rt; chooses(commands.at(2), true, &[0, 255, 7], 2));
-    assert!(rt; marks(commands.at(4), 7));
-    assert!(rt; matches!(commands.at(5), Command::Evacuator(Step::Wait)));
-    assert!(rt; evacuates(commands.at(6), u64::MAX));
-    assert!(rt; matches!(commands.at(7), Command::Evacuator(Step::Abort)));
-    assert!(rt; goes_round(commands.at(8), true, 64, 0));
-    assert!(rt; goes_round(commands.at(9), false, 1, 9));
-    Ok(())
+// Whether the choices of the text below stand in their places.
+fn has_choices(commands: &Commands) -> bool {
+    commands.len() == 10
+        && chooses(commands.at(0), true, &[], 0)
+        && chooses(commands.at(1), false, &[], 64)
+        // the logs stand among the bytes of writes
+        && chooses(commands.at(2), true, &[0, 255, 7], 2)
+        && goes_round(commands.at(8), true, 64, 0)
+        && goes_round(commands.at(9), false, 1, 9)
+}
+
+// The same of its other steps.
+fn has_others(commands: &Commands) -> bool {
+    commands.len() == 10
+        && marks(commands.at(4), 7)
+        && matches!(commands.at(5), Command::Evacuator(Step::Wait))
+        && evacuates(commands.at(6), u64::MAX)
+        && matches!(commands.at(7), Command::Evacuator(Step::Abort))
+}
+
+fn says_steps(alloc: Global, text: &[u8]) -> bool {
+    match parse(alloc, text) {
+        Ok(Trace::Heap { commands, .. }) => has_choices(&commands) && has_others(&commands),
+        Ok(Trace::Nothing) | Err(_) => false,
+    }
 }
 
 #[test]
-fn lines_beside_them_say_nothing(rt: HostRuntime) -> Result<(), Fail> {
+fn each_step_is_read(rt: HostRuntime) {
+    let text =
+        b"heap 4 2\nselect oldest 0\nselect leastlive 64\nselect script 2 0 255 7\nwrite 0 1 2 c0ff\nmark 7\nwait\nevacuate 18446744073709551615\nabort\nround oldest 64 0\nround leastlive 1 9";
+    assert!(rt; says_steps(rt.alloc(), text));
+}
+
+#[test]
+fn lines_beside_them_say_nothing(rt: HostRuntime) {
     let lines: [&[u8]; 12] = [
         b"heap 1 1\nselect oldest 65",
         b"heap 1 1\nselect script 65 0",
@@ -95,7 +107,6 @@ fn lines_beside_them_say_nothing(rt: HostRuntime) -> Result<(), Fail> {
         b"heap 1 1\nwait 0",
     ];
     for line in lines {
-        assert!(rt; commands_of(rt.alloc(), line)?.is_none());
+        assert!(rt; says_nothing(rt.alloc(), line));
     }
-    Ok(())
 }

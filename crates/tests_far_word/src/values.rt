@@ -1,6 +1,6 @@
 //! Values of each public type that differ in one field compare as different, and each is equal to itself.
 
-use super::NO_MARKS;
+use super::{HOT, NO_MARKS};
 use far_word::{HeadWord, HeadWordV1, Mark, Marks, Place, PtrWord, Refused, ScopeWord, Version};
 use std::test::*;
 
@@ -74,76 +74,107 @@ fn marks(rt: HostRuntime) {
     );
 }
 
-fn near(len: u16, ds: u8, place: Place, marks: Marks) -> PtrWord {
+// Near ones that differ in one field, and far ones.
+const NEAR: [PtrWord; 6] = [
     PtrWord::Near {
-        len,
-        ds,
-        place,
-        marks,
-    }
-}
+        len: 8,
+        ds: 1,
+        place: PLACE,
+        marks: NO_MARKS,
+    },
+    PtrWord::Near {
+        len: 9,
+        ds: 1,
+        place: PLACE,
+        marks: NO_MARKS,
+    },
+    PtrWord::Near {
+        len: 8,
+        ds: 2,
+        place: PLACE,
+        marks: NO_MARKS,
+    },
+    PtrWord::Near {
+        len: 8,
+        ds: 1,
+        place: Place { log: 4, ..PLACE },
+        marks: NO_MARKS,
+    },
+    PtrWord::Near {
+        len: 8,
+        ds: 1,
+        place: Place { at: 6, ..PLACE },
+        marks: NO_MARKS,
+    },
+    PtrWord::Near {
+        len: 8,
+        ds: 1,
+        place: PLACE,
+        marks: HOT,
+    },
+];
 
-fn far(len: u16, ds: u8, marks: Marks) -> PtrWord {
-    PtrWord::Far { len, ds, marks }
-}
+const FAR: [PtrWord; 4] = [
+    PtrWord::Far {
+        len: 8,
+        ds: 1,
+        marks: NO_MARKS,
+    },
+    PtrWord::Far {
+        len: 9,
+        ds: 1,
+        marks: NO_MARKS,
+    },
+    PtrWord::Far {
+        len: 8,
+        ds: 2,
+        marks: NO_MARKS,
+    },
+    PtrWord::Far {
+        len: 8,
+        ds: 1,
+        marks: HOT,
+    },
+];
 
-// Near ones that differ in one field, and far ones, and none.
 #[test]
 fn pointers(rt: HostRuntime) {
-    let base = near(8, 1, PLACE, NO_MARKS);
-    let gone = far(8, 1, NO_MARKS);
-    assert!(rt;
-        all_differ(&[
-            base,
-            near(9, 1, PLACE, NO_MARKS),
-            near(8, 2, PLACE, NO_MARKS),
-            near(8, 1, Place { log: 4, ..PLACE }, NO_MARKS),
-            near(8, 1, Place { at: 6, ..PLACE }, NO_MARKS),
-            near(8, 1, PLACE, MARKS[1]),
-        ])
-    );
-    assert!(rt;
-        all_differ(&[
-            gone,
-            far(9, 1, NO_MARKS),
-            far(8, 2, NO_MARKS),
-            far(8, 1, MARKS[1]),
-        ])
-    );
-    assert!(rt; all_differ(&[PtrWord::Free, base, gone]));
+    assert!(rt; all_differ(&NEAR) && all_differ(&FAR));
+    assert!(rt; all_differ(&[PtrWord::Free, NEAR[0], FAR[0]]));
 }
+
+const HEAD: HeadWord = HeadWord {
+    pointer: 5,
+    len: 8,
+    ds: 1,
+};
+
+const HEADS: [HeadWord; 4] = [
+    HEAD,
+    HeadWord { pointer: 6, ..HEAD },
+    HeadWord { len: 9, ..HEAD },
+    HeadWord { ds: 2, ..HEAD },
+];
+
+const OLDER: HeadWordV1 = HeadWordV1 {
+    pointer: 5,
+    len: 8,
+    ds: 1,
+};
+
+const OLDER_HEADS: [HeadWordV1; 4] = [
+    OLDER,
+    HeadWordV1 {
+        pointer: 6,
+        ..OLDER
+    },
+    HeadWordV1 { len: 9, ..OLDER },
+    HeadWordV1 { ds: 2, ..OLDER },
+];
 
 #[test]
 fn headers(rt: HostRuntime) {
-    let head = HeadWord {
-        pointer: 5,
-        len: 8,
-        ds: 1,
-    };
-    assert!(rt;
-        all_differ(&[
-            head,
-            HeadWord { pointer: 6, ..head },
-            HeadWord { len: 9, ..head },
-            HeadWord { ds: 2, ..head },
-        ])
-    );
-    let older = HeadWordV1 {
-        pointer: 5,
-        len: 8,
-        ds: 1,
-    };
-    assert!(rt;
-        all_differ(&[
-            older,
-            HeadWordV1 {
-                pointer: 6,
-                ..older
-            },
-            HeadWordV1 { len: 9, ..older },
-            HeadWordV1 { ds: 2, ..older },
-        ])
-    );
+    assert!(rt; all_differ(&HEADS) && all_differ(&OLDER_HEADS));
     assert!(rt; all_differ(&[Version::First, Version::Second]));
 }
 

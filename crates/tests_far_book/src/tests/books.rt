@@ -32,7 +32,7 @@ const FILLS_A_LOG: &[Act] = &[
 
 #[test]
 fn the_largest_object_fills_a_log(rt: HostRuntime) {
-    assert!(rt; plays(&rt, &[FILLS_A_LOG]));
+    assert!(rt; plays(&rt, FILLS_A_LOG));
 }
 
 const LOAD_SECOND: Event = Event::Load {
@@ -66,7 +66,7 @@ const TAKES_WHOLE_WORDS: &[Act] = &[
 
 #[test]
 fn an_odd_length_takes_whole_words(rt: HostRuntime) {
-    assert!(rt; plays(&rt, &[TAKES_WHOLE_WORDS]));
+    assert!(rt; plays(&rt, TAKES_WHOLE_WORDS));
 }
 
 // The words of an object that is held are stored and loaded, and aren't reached any more after a close.
@@ -87,7 +87,7 @@ const STORES_AND_LOADS: &[Act] = &[
 
 #[test]
 fn words_are_stored_and_loaded(rt: HostRuntime) {
-    assert!(rt; plays(&rt, &[STORES_AND_LOADS]));
+    assert!(rt; plays(&rt, STORES_AND_LOADS));
 }
 
 // One of three logs stays free where both others are full.
@@ -146,7 +146,7 @@ const MAKES_DEAD: &[Act] = &[
 
 #[test]
 fn a_dropped_object_is_dead(rt: HostRuntime) {
-    assert!(rt; plays(&rt, &[MAKES_DEAD]));
+    assert!(rt; plays(&rt, MAKES_DEAD));
 }
 
 // Of 256 objects of 16 bytes with their headers two are dropped, and new ones get their cells, the lowest first.
@@ -164,7 +164,7 @@ const TAKES_THE_LOWEST: &[Act] = &[
 
 #[test]
 fn the_lowest_free_cell_is_taken(rt: HostRuntime) {
-    assert!(rt; plays(&rt, &[TAKES_THE_LOWEST]));
+    assert!(rt; plays(&rt, TAKES_THE_LOWEST));
 }
 
 // An object is marked once its log is sealed, twice, and no other.
@@ -182,7 +182,7 @@ const MARKS_WHEN_SEALED: &[Act] = &[
 
 #[test]
 fn an_object_of_a_sealed_log_is_marked(rt: HostRuntime) {
-    assert!(rt; plays(&rt, &[MARKS_WHEN_SEALED]));
+    assert!(rt; plays(&rt, MARKS_WHEN_SEALED));
 }
 
 // A new object is found as it was placed, then with HOT, then dropped, and is retired.

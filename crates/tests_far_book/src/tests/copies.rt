@@ -2,7 +2,7 @@
 
 use crate::tests::acts::Act::*;
 use crate::tests::acts::{ADOPT, Act, DROP, HAS_EVAC, IS_DROPPED, MOVE, NO_MARKS};
-use crate::tests::stage::{ByTurns, plays, plays_by_turns};
+use crate::tests::stage::{ByTurns, plays_by_turns, plays_parts};
 use far_core::{Event, Kind};
 use far_word::{Mark, Marks, Place};
 
@@ -50,9 +50,11 @@ const EMPTIES_THEM: &[Act] = &[
     Log(2, Kind::Open, [0, 272, 3824]),
 ];
 
+const SIXTEEN_COPIES: &[&[Act]] = &[MARKS_SEVENTEEN, OFFERS_SIXTEEN, EMPTIES_THEM];
+
 #[test]
 fn sixteen_copies_are_offered(rt: HostRuntime) {
-    assert!(rt; plays(&rt, &[MARKS_SEVENTEEN, OFFERS_SIXTEEN, EMPTIES_THEM]));
+    assert!(rt; plays_parts(&rt, SIXTEEN_COPIES));
 }
 
 // No log is free: objects fill three, and one of them has moved to the last.
@@ -77,9 +79,11 @@ const OFFERS_WHERE_ROOM_IS: &[Act] = &[
     Log(1, Kind::Open, [0, 16, 4080]),
 ];
 
+const COPIES_IN_ROOM: &[&[Act]] = &[FILLS_FOUR, OFFERS_WHERE_ROOM_IS];
+
 #[test]
 fn a_copy_is_offered_where_room_is(rt: HostRuntime) {
-    assert!(rt; plays(&rt, &[FILLS_FOUR, OFFERS_WHERE_ROOM_IS]));
+    assert!(rt; plays_parts(&rt, COPIES_IN_ROOM));
 }
 
 // The copy of pointer 0 to log 2 is offered, and a move to log 3 seals that.
@@ -106,9 +110,11 @@ const GIVES_THE_TARGET_BACK: &[Act] = &[
     Near(0, (0, 0), NO_MARKS),
 ];
 
+const TARGET_SEALED: &[&[Act]] = &[SEALS_THE_TARGET, GIVES_THE_TARGET_BACK];
+
 #[test]
 fn a_target_isnt_given_back(rt: HostRuntime) {
-    assert!(rt; plays(&rt, &[SEALS_THE_TARGET, GIVES_THE_TARGET_BACK]));
+    assert!(rt; plays_parts(&rt, TARGET_SEALED));
 }
 
 // Pointer 0 is an object of log 0, which another one seals; job 0 is its copy to log 2.

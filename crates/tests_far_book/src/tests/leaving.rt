@@ -65,17 +65,16 @@ const MOVES: &[Act] = &[
     Loads(0, 8),
 ];
 
+const LEFT_AND_MOVED: &[&[Act]] = &[REFUSED_DEVICE, IS_LEFT, MOVES];
+
+const REFUSED_AND_LEFT: &[&[Act]] = &[REFUSED_MEMORY, IS_LEFT];
+
 // Alone against an eviction that failed and goes far all the same, or takes a failure for want of memory.
 #[test]
 fn a_refused_eviction_leaves_the_object(rt: HostRuntime) {
-    assert!(rt; plays_over(&rt, SMALL, Flaw::Starved, &[REFUSED_MEMORY, IS_LEFT]));
     assert!(rt;
-        plays_over(
-            &rt,
-            SMALL,
-            Flaw::Picky(7),
-            &[REFUSED_DEVICE, IS_LEFT, MOVES]
-        )
+        plays_over(&rt, SMALL, Flaw::Starved, REFUSED_AND_LEFT)
+            && plays_over(&rt, SMALL, Flaw::Picky(7), LEFT_AND_MOVED)
     );
 }
 
@@ -151,5 +150,5 @@ const LEAVES_DROPPED: &[Act] = &[
 
 #[test]
 fn a_dropped_object_is_retired(rt: HostRuntime) {
-    assert!(rt; plays(&rt, &[LEAVES_DROPPED]));
+    assert!(rt; plays(&rt, LEAVES_DROPPED));
 }

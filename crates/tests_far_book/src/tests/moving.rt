@@ -2,7 +2,7 @@
 
 use crate::tests::acts::Act::*;
 use crate::tests::acts::{Act, DROP, HOT, IS_ASKED, NO_MARKS, Placed};
-use crate::tests::stage::{Beside, plays, plays_rows};
+use crate::tests::stage::{Beside, plays, plays_parts, plays_rows};
 use far_core::Kind;
 use far_word::{LOG_BYTES, Mark, Place, Refused};
 
@@ -25,7 +25,7 @@ const STAYS: &[Act] = &[
 
 #[test]
 fn an_object_stays_where_it_lies(rt: HostRuntime) {
-    assert!(rt; plays(&rt, &[STAYS]));
+    assert!(rt; plays(&rt, STAYS));
 }
 
 // Whether an object of so many bytes moves to log 2 with them, and takes so many bytes there.
@@ -39,16 +39,23 @@ fn moves_whole(rt: &HostRuntime, len: u16, size: u16) -> bool {
         Log(2, Kind::Open, [size, 0, rest]),
         Loads(0, len),
     ];
-    plays(rt, &[&moves])
+    plays(rt, &moves)
+}
+
+const SIZES: &[(u16, u16)] = &[(1, 16), (7, 16), (8, 16), (9, 24), (4088, 4096)];
+
+fn all_move(rt: &HostRuntime) -> bool {
+    for (len, size) in SIZES {
+        if !moves_whole(rt, *len, *size) {
+            return false;
+        }
+    }
+    true
 }
 
 #[test]
 fn an_object_moves_to_another_log(rt: HostRuntime) {
-    assert!(rt; moves_whole(&rt, 1, 16));
-    assert!(rt; moves_whole(&rt, 7, 16));
-    assert!(rt; moves_whole(&rt, 8, 16));
-    assert!(rt; moves_whole(&rt, 9, 24));
-    assert!(rt; moves_whole(&rt, 4088, 4096));
+    assert!(rt; all_move(&rt));
 }
 
 /// Pointers 0 and 1 are objects of sealed logs with EVAC and MOVE, the second with counted bytes; of four logs only the last is free, and the one
@@ -75,9 +82,11 @@ const TAKES_THE_LAST: &[Act] = &[
     Log(3, Kind::Open, [16, 0, 4080]),
 ];
 
+const LAST_LOG_TAKEN: &[&[Act]] = &[ASKS_TWO, TAKES_THE_LAST];
+
 #[test]
 fn a_move_takes_the_last_free_log(rt: HostRuntime) {
-    assert!(rt; plays(&rt, &[ASKS_TWO, TAKES_THE_LAST]));
+    assert!(rt; plays_parts(&rt, LAST_LOG_TAKEN));
 }
 
 // An object that was asked to move and dropped is retired instead.
@@ -92,7 +101,7 @@ const MOVES_NOWHERE: &[Act] = &[
 
 #[test]
 fn a_dropped_object_moves_nowhere(rt: HostRuntime) {
-    assert!(rt; plays(&rt, &[MOVES_NOWHERE]));
+    assert!(rt; plays(&rt, MOVES_NOWHERE));
 }
 
 // An object of one word with EVAC and MOVE comes to log 2, or is found dropped.

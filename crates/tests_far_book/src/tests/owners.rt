@@ -5,9 +5,10 @@ use crate::tests::acts::{
     ADOPT, Act, CLOSE, DROP, HOT, LOAD, MARKED, MOVE, NEAR, NO_MARKS, OPEN, READ, SMALL, SOIL,
     STORE, WAS_HOT,
 };
-use crate::tests::stage::plays;
+use crate::tests::stage::plays_parts;
 use far_core::{Core, Event, Kind, Reply};
 use far_word::Place;
+use std::alloc::Global;
 
 const FIRST: Place = Place { log: 0, at: 0 };
 
@@ -32,10 +33,12 @@ const DROPS_AFTER_A_CLOSE: &[Act] = &[
     Owns(DROP, Reply::Refused),
 ];
 
+const VIEWS_AND_DROPS: &[&[Act]] = &[VIEWS, DROPS_AFTER_A_CLOSE];
+
 // Alone against a core in which what its owner holds may be dropped.
 #[test]
 fn an_object_that_is_viewed_is_not_dropped(rt: HostRuntime) {
-    assert!(rt; plays(&rt, &[VIEWS, DROPS_AFTER_A_CLOSE]));
+    assert!(rt; plays_parts(&rt, VIEWS_AND_DROPS));
 }
 
 /// Whether each of these events is answered so.
@@ -96,12 +99,16 @@ const VIEWS_NOTHING: &[(Event, Reply)] = &[
     (SEE, Reply::Word(0xf600_0000_0001_0008)),
 ];
 
+fn views_nothing(alloc: Global) -> bool {
+    match Core::new(alloc, SMALL, true) {
+        Ok(mut core) => answers_all(&mut core, VIEWS_NOTHING),
+        Err(_) => false,
+    }
+}
+
 #[test]
 fn a_marked_object_is_not_viewed(rt: HostRuntime) {
-    let Ok(mut core) = Core::new(rt.alloc(), SMALL, true) else {
-        panic!(rt; "no core is made");
-    };
-    assert!(rt; answers_all(&mut core, VIEWS_NOTHING));
+    assert!(rt; views_nothing(rt.alloc()));
 }
 
 // An owner stores a word into what it views and closes; another object seals its log then. The owner isn't given the object once it is marked, and asks for it
@@ -128,7 +135,9 @@ const IS_GIVEN_IT: &[Act] = &[
     Owns(LOAD, Reply::Word(0xaa)),
 ];
 
+const VIEWS_AND_MOVES: &[&[Act]] = &[VIEWS, ASKS_FOR_A_MOVE, IS_GIVEN_IT];
+
 #[test]
 fn an_owner_moves_what_is_marked(rt: HostRuntime) {
-    assert!(rt; plays(&rt, &[VIEWS, ASKS_FOR_A_MOVE, IS_GIVEN_IT]));
+    assert!(rt; plays_parts(&rt, VIEWS_AND_MOVES));
 }

@@ -6,7 +6,7 @@ use crate::tests::acts::{
     READ, SMALL, SOIL, STORE, WAS_HOT, WENT,
 };
 use crate::tests::devices::Flaw;
-use crate::tests::stage::{Beside, plays, plays_over, plays_rows};
+use crate::tests::stage::{Beside, plays, plays_over, plays_parts, plays_rows};
 use far_core::{Kind, Reply};
 use far_device::DeviceFault;
 use far_word::{LOG_BYTES, Mark, Place, Refused};
@@ -36,7 +36,7 @@ const GOES_AND_COMES: &[Act] = &[
 // The cells are words here, which no other test of a fetch looks at.
 #[test]
 fn away_and_back(rt: HostRuntime) {
-    assert!(rt; plays(&rt, &[GOES_AND_COMES]));
+    assert!(rt; plays(&rt, GOES_AND_COMES));
 }
 
 // Whether an object of so many bytes goes far, and comes back with them in a span of so many bytes; the device has its bytes then.
@@ -50,17 +50,24 @@ fn comes_back(rt: &HostRuntime, len: u16, size: u16) -> bool {
         Loads(0, len),
         Holds(true),
     ];
-    plays(rt, &[&comes])
+    plays(rt, &comes)
+}
+
+const SIZES: &[(u16, u16)] = &[(1, 16), (7, 16), (8, 16), (9, 24), (4088, 4096)];
+
+fn all_come_back(rt: &HostRuntime) -> bool {
+    for (len, size) in SIZES {
+        if !comes_back(rt, *len, *size) {
+            return false;
+        }
+    }
+    true
 }
 
 // Alone against a fetch that copies two words at most, and one that takes a word more where the object fills a log.
 #[test]
 fn an_object_comes_back_with_its_bytes(rt: HostRuntime) {
-    assert!(rt; comes_back(&rt, 1, 16));
-    assert!(rt; comes_back(&rt, 7, 16));
-    assert!(rt; comes_back(&rt, 8, 16));
-    assert!(rt; comes_back(&rt, 9, 24));
-    assert!(rt; comes_back(&rt, 4088, 4096));
+    assert!(rt; all_come_back(&rt));
 }
 
 const GOES: &[Act] = &[Leaves(9), Evicts(0, WENT)];
@@ -88,21 +95,36 @@ fn is_refused(rt: &HostRuntime, flaw: Flaw, why: Refused) -> bool {
     )
 }
 
+const FAILED: &[(Flaw, Refused)] = &[
+    (Flaw::Stumbling(DeviceFault::Memory), Refused::Memory),
+    (Flaw::Stumbling(DeviceFault::Device), Refused::Device),
+];
+
+const DAMAGED: &[(Flaw, Refused)] = &[
+    (Flaw::Lying(0), Refused::Damaged),
+    (Flaw::Lying(8), Refused::Damaged),
+    (Flaw::Lying(10), Refused::Damaged),
+];
+
+fn are_refused(rt: &HostRuntime, rows: &[(Flaw, Refused)]) -> bool {
+    for (flaw, why) in rows {
+        if !is_refused(rt, *flaw, *why) {
+            return false;
+        }
+    }
+    true
+}
+
 // Alone against a fetch that forgets the key of what failed or was damaged, judges a length by `<`, or takes one fault for the other.
 #[test]
 fn a_refused_fetch_may_be_made_again(rt: HostRuntime) {
-    assert!(rt; is_refused(&rt, Flaw::Stumbling(DeviceFault::Memory), Refused::Memory));
-    assert!(rt; is_refused(&rt, Flaw::Stumbling(DeviceFault::Device), Refused::Device));
-    assert!(rt; is_refused(&rt, Flaw::Lying(0), Refused::Damaged));
-    assert!(rt; is_refused(&rt, Flaw::Lying(8), Refused::Damaged));
-    assert!(rt; is_refused(&rt, Flaw::Lying(10), Refused::Damaged));
+    assert!(rt; are_refused(&rt, FAILED) && are_refused(&rt, DAMAGED));
 }
 
 // Alone against a fetch that lets its buffer go where the read is refused: the next one takes memory then.
 #[test]
 fn a_refused_fetch_keeps_its_buffer(rt: HostRuntime) {
-    assert!(rt; is_refused(&rt, Flaw::Stumbling(DeviceFault::Memory), Refused::Memory));
-    assert!(rt; is_refused(&rt, Flaw::Stumbling(DeviceFault::Device), Refused::Device));
+    assert!(rt; are_refused(&rt, FAILED));
 }
 
 // Pointer 0 is far and pointer 1 has EVAC and MOVE; of four logs only the last is free, and the one before it is open and full.
@@ -140,24 +162,19 @@ const COMES_AFTER_A_MOVE: &[Act] = &[
     Holds(true),
 ];
 
+const ROOM_FOR_A_MOVE: &[&[Act]] = &[
+    CROWDS,
+    IS_CROWDED,
+    FINDS_NO_ROOM,
+    IS_CROWDED,
+    COMES_AFTER_A_MOVE,
+];
+
 // Alone against a fetch that takes the last free log, asks the device before there is room, or forgets the key where there is none.
 #[test]
 fn a_fetch_keeps_the_last_free_log(rt: HostRuntime) {
     let flaw = Flaw::Stumbling(DeviceFault::Device);
-    assert!(rt;
-        plays_over(
-            &rt,
-            SMALL,
-            flaw,
-            &[
-                CROWDS,
-                IS_CROWDED,
-                FINDS_NO_ROOM,
-                IS_CROWDED,
-                COMES_AFTER_A_MOVE
-            ]
-        )
-    );
+    assert!(rt; plays_over(&rt, SMALL, flaw, ROOM_FOR_A_MOVE));
 }
 
 const DROPS_FAR: &[Act] = &[
@@ -179,15 +196,12 @@ const FINDS_DROP: &[Act] = &[Fetches(0, NOWHERE)];
 
 const TAKES_ITS_CELL: &[Act] = &[Holds(false), Makes(8, 0, (2, 0))];
 
+const DROPPED_FAR: &[&[Act]] = &[DROPS_FAR, HAS_LEFT, FINDS_DROP, HAS_LEFT, TAKES_ITS_CELL];
+
 // Alone against a ledger in which the cell of a retired object stays taken if that was far.
 #[test]
 fn a_dropped_far_object_is_retired(rt: HostRuntime) {
-    assert!(rt;
-        plays(
-            &rt,
-            &[DROPS_FAR, HAS_LEFT, FINDS_DROP, HAS_LEFT, TAKES_ITS_CELL]
-        )
-    );
+    assert!(rt; plays_parts(&rt, DROPPED_FAR));
 }
 
 // An object of one word goes far and comes back, with these marks, and the device has its bytes then.

@@ -7,7 +7,7 @@ use crate::tests::acts::{
 };
 use crate::tests::devices::Flaw;
 use crate::tests::moving::ASKS_TWO;
-use crate::tests::stage::{plays, plays_beside, plays_over};
+use crate::tests::stage::{plays_beside, plays_over, plays_parts};
 use far_core::{Kind, Reply, Shape};
 use far_log::{LogRow, Span};
 use far_word::{Mark, Place, Refused, ScopeWord};
@@ -43,9 +43,11 @@ const HAS_ROOM: &[Act] = &[
     Log(2, Kind::Open, [4096, 0, 0]),
 ];
 
+const REFUSED_AT_FIRST: &[&[Act]] = &[ASKS_TWO, HAS_NO_ROOM, HAS_ROOM];
+
 #[test]
 fn a_refused_move_is_made_once_there_is_room(rt: HostRuntime) {
-    assert!(rt; plays(&rt, &[ASKS_TWO, HAS_NO_ROOM, HAS_ROOM]));
+    assert!(rt; plays_parts(&rt, REFUSED_AT_FIRST));
 }
 
 // Two objects lie in log 0, and one fills each of the next two.
@@ -87,9 +89,11 @@ const OPENS_ANEW: &[Act] = &[
     Log(1, Kind::Free, [0, 0, 4096]),
 ];
 
+const GIVEN_BACK_AND_OPENED: &[&[Act]] = &[FILLS_THREE, GIVES_THE_FIRST_BACK, OPENS_ANEW];
+
 #[test]
 fn a_log_given_back_opens_anew(rt: HostRuntime) {
-    assert!(rt; plays(&rt, &[FILLS_THREE, GIVES_THE_FIRST_BACK, OPENS_ANEW]));
+    assert!(rt; plays_parts(&rt, GIVEN_BACK_AND_OPENED));
 }
 
 // An object lies in log 0, which the next one seals; no round begins before it is marked.
@@ -111,9 +115,11 @@ const TAKES_EVAC_BACK: &[Act] = &[
     Clears(2, None),
 ];
 
+const EVAC_IN_A_ROUND: &[&[Act]] = &[SEALS_THE_FIRST, TAKES_EVAC_BACK];
+
 #[test]
 fn evac_is_taken_back_in_a_round(rt: HostRuntime) {
-    assert!(rt; plays(&rt, &[SEALS_THE_FIRST, TAKES_EVAC_BACK]));
+    assert!(rt; plays_parts(&rt, EVAC_IN_A_ROUND));
 }
 
 const AT_LAST: Shape = Shape {
@@ -134,20 +140,15 @@ const GOES_ON_TO_THE_END: &[Act] = &[
     Log(0, Kind::Sealed, [16, 0, 4080]),
 ];
 
+const LAST_EPOCH: &[&[Act]] = &[SEALS_THE_FIRST, GOES_ON_TO_THE_END];
+
 #[test]
 fn the_last_epoch_is_the_last(rt: HostRuntime) {
     let shape = Shape {
         epoch: LAST - 1,
         ..SMALL
     };
-    assert!(rt;
-        plays_over(
-            &rt,
-            shape,
-            Flaw::Nothing,
-            &[SEALS_THE_FIRST, GOES_ON_TO_THE_END]
-        )
-    );
+    assert!(rt; plays_over(&rt, shape, Flaw::Nothing, LAST_EPOCH));
 }
 
 // The owner, in a scope from before the round, is seen clear once it is closed and looked at.
@@ -172,9 +173,11 @@ const IS_CLEAR_IN_A_NEW_SCOPE: &[Act] = &[
     Looks(1, None),
 ];
 
+const CLEAR_IN_ROUNDS: &[&[Act]] = &[IS_CLEAR_ONCE_CLOSED, IS_CLEAR_IN_A_NEW_SCOPE];
+
 #[test]
 fn scopes_are_looked_at(rt: HostRuntime) {
-    assert!(rt; plays(&rt, &[IS_CLEAR_ONCE_CLOSED, IS_CLEAR_IN_A_NEW_SCOPE]));
+    assert!(rt; plays_parts(&rt, CLEAR_IN_ROUNDS));
 }
 
 const AT_FIRST: Shape = Shape { epoch: 1, ..SMALL };
@@ -265,14 +268,11 @@ const FINDS_IN_OTHERS: &[Act] = &[
     Log(0, Kind::Sealed, [24, 56, 4016]),
 ];
 
+const LIVE_SPANS: &[&[Act]] = &[PLACES_FOUR, PASSES_TWO, FINDS_FROM_EACH, FINDS_IN_OTHERS];
+
 #[test]
 fn live_spans_come_one_after_the_other(rt: HostRuntime) {
-    assert!(rt;
-        plays(
-            &rt,
-            &[PLACES_FOUR, PASSES_TWO, FINDS_FROM_EACH, FINDS_IN_OTHERS]
-        )
-    );
+    assert!(rt; plays_parts(&rt, LIVE_SPANS));
 }
 
 const EIGHT: Span = Span { len: 8, ..SECOND };

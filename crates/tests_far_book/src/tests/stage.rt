@@ -65,18 +65,23 @@ fn beset<'s>(
     Book::new(rt.alloc(), hand, device)
 }
 
+// Whether a call answers what it should.
+fn same<T: PartialEq + Copy>(found: T, wanted: T) -> bool {
+    found == wanted
+}
+
 // Whether a call of the book comes out as it should.
 fn book_does<N: Near + Drop, D: Device + Drop>(book: &mut Book<N, D>, act: Act) -> bool {
     match act {
         Act::Makes(len, pointer, (log, at)) => {
-            place_next(book, len, 1) == Ok((pointer, Place { log, at }))
+            same(place_next(book, len, 1), Ok((pointer, Place { log, at })))
         }
         Act::MakesMany(objects, len, ds) => places_many(book, objects, len, ds),
-        Act::MakesNone(why) => place_next(book, 8, 1) == Err(why),
+        Act::MakesNone(why) => same(place_next(book, 8, 1), Err(why)),
         Act::Retires(pointer, done) => retires(book, pointer) == done,
-        Act::Moves(pointer, placed) => moves(book, pointer) == placed,
-        Act::Evicts(pointer, far) => evicts(book, pointer) == far,
-        Act::Fetches(pointer, placed) => fetches(book, pointer) == placed,
+        Act::Moves(pointer, placed) => same(moves(book, pointer), placed),
+        Act::Evicts(pointer, far) => same(evicts(book, pointer), far),
+        Act::Fetches(pointer, placed) => same(fetches(book, pointer), placed),
         _ => round_does(book, act),
     }
 }
@@ -84,11 +89,11 @@ fn book_does<N: Near + Drop, D: Device + Drop>(book: &mut Book<N, D>, act: Act) 
 // The same of a call of a round.
 fn round_does<N: Near + Drop, D: Device + Drop>(book: &mut Book<N, D>, act: Act) -> bool {
     match act {
-        Act::Marks(pointer, word) => marks(book, pointer) == word,
-        Act::Clears(pointer, word) => clears(book, pointer) == word,
-        Act::Releases(log, given) => releases(book, log) == given,
-        Act::BeginsNone(epoch) => begins_none(book) == epoch,
-        Act::Looks(owner, scope) => looks(book, owner) == scope,
+        Act::Marks(pointer, word) => same(marks(book, pointer), word),
+        Act::Clears(pointer, word) => same(clears(book, pointer), word),
+        Act::Releases(log, given) => same(releases(book, log), given),
+        Act::BeginsNone(epoch) => same(begins_none(book), epoch),
+        Act::Looks(owner, scope) => same(looks(book, owner), scope),
         Act::Live(log, spans) => has_live(book, log, spans),
         Act::From(number, span) => finds_from(book, number, span),
         _ => jobs_do(book, act),
@@ -102,28 +107,38 @@ fn jobs_do<N: Near + Drop, D: Device + Drop>(book: &mut Book<N, D>, act: Act) ->
         Act::Offers(wanted) => offers_in_round(book, wanted),
         Act::Collects(named) => book.collect() == named,
         Act::TakesBack => takes_back(book),
-        Act::HasJob(pointer, has) => has_job(book, pointer) == has,
+        Act::HasJob(pointer, has) => same(has_job(book, pointer), has),
         Act::Waits(turns) => waits(book, turns),
         _ => shows(book, act),
     }
 }
 
+// Whether an object is near, at a place of a log and with these marks.
+fn is_near<N: Near + Drop, D: Device + Drop>(
+    book: &mut Book<N, D>,
+    pointer: u16,
+    lies: (u8, u16),
+    marks: Marks,
+) -> bool {
+    let (log, at) = lies;
+    let place = Place { log, at };
+    same(home(book, pointer), Some(Home::Near { place, marks }))
+}
+
 // The same of a look at the book.
 fn shows<N: Near + Drop, D: Device + Drop>(book: &mut Book<N, D>, act: Act) -> bool {
     match act {
-        Act::Near(pointer, (log, at), marks) => {
-            let place = Place { log, at };
-            let marks = Marks {
+        Act::Near(pointer, at, marks) => is_near(
+            book,
+            pointer,
+            at,
+            Marks {
                 dirty: true,
                 ..marks
-            };
-            home(book, pointer) == Some(Home::Near { place, marks })
-        }
-        Act::Clean(pointer, (log, at), marks) => {
-            let place = Place { log, at };
-            home(book, pointer) == Some(Home::Near { place, marks })
-        }
-        Act::Far(pointer, marks) => home(book, pointer) == Some(Home::Far { marks }),
+            },
+        ),
+        Act::Clean(pointer, at, marks) => is_near(book, pointer, at, marks),
+        Act::Far(pointer, marks) => same(home(book, pointer), Some(Home::Far { marks })),
         Act::Gone(pointer) => home(book, pointer).is_none(),
         Act::Log(log, kind, bytes) => is_log(book, log, kind, bytes),
         Act::Rows(rows) => has_rows(book, rows),
@@ -136,14 +151,14 @@ fn shows<N: Near + Drop, D: Device + Drop>(book: &mut Book<N, D>, act: Act) -> b
 // Whether an act of the first owner comes out as it should, or one of the book.
 fn owner_does<D: Device + Drop>(book: &mut Book<Plain, D>, act: Act) -> bool {
     match act {
-        Act::Owns(event, reply) => book.owner(event) == reply,
+        Act::Owns(event, reply) => same(book.owner(event), reply),
         Act::Does(events) => makes_all(book, events),
         Act::Asks(pointer, mark) => asks(book, pointer, mark),
         Act::Stores(pointer, len) => stores(book, pointer, len),
         Act::Loads(pointer, len) => loads(book, pointer, len),
         Act::Leaves(len) => leaves(book, len),
         Act::StoresOne(index, word, done) => store_word(book, 0, index, word) == done,
-        Act::Words(words) => words_of(book, 0) == words,
+        Act::Words(words) => same(words_of(book, 0), words),
         _ => core_shows(book, act),
     }
 }
@@ -155,7 +170,7 @@ fn core_shows<D: Device + Drop>(book: &mut Book<Plain, D>, act: Act) -> bool {
         Act::Cell(pointer, word) => book.core().cell(pointer) == word,
         Act::InRound(log, is_in) => book.core().is_in_round(log) == is_in,
         Act::IsClear(owner, is_clear) => book.core().is_clear(owner) == is_clear,
-        Act::Begins(logs, epoch) => begins(book, logs) == epoch,
+        Act::Begins(logs, epoch) => same(begins(book, logs), epoch),
         _ => book_does(book, act),
     }
 }
@@ -230,8 +245,13 @@ pub(super) fn plays_over(rt: &HostRuntime, shape: Shape, flaw: Flaw, parts: &[&[
 }
 
 /// The same of four logs and a device without a flaw.
-pub(super) fn plays(rt: &HostRuntime, parts: &[&[Act]]) -> bool {
+pub(super) fn plays_parts(rt: &HostRuntime, parts: &[&[Act]]) -> bool {
     plays_over(rt, SMALL, Flaw::Nothing, parts)
+}
+
+/// The same of one part.
+pub(super) fn plays(rt: &HostRuntime, acts: &[Act]) -> bool {
+    plays_parts(rt, &[acts])
 }
 
 // The same beside owners that make these events.

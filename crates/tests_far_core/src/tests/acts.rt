@@ -79,11 +79,13 @@ pub(super) enum Act {
     Listed(usize, u64),
 }
 
-/// A test: its name, the shape of the core that it is played on, whether its far side is honest, and its parts.
+/// A test: its name, the shape of the core that it is played on, whether its far side is honest, how many of the parts come first that tests
+/// have in common, and its own parts. What is in common is said once, since a constant is proved wherever it is named.
 #[derive(Clone, Copy)]
 pub(super) struct Play {
     pub name: &'static str,
     pub shape: Shape,
     pub honest: bool,
+    pub after: usize,
     pub parts: &'static [&'static [Act]],
 }

@@ -93,18 +93,21 @@ const GIVEN_BACK: &[Act] = &[
     Log(0, Kind::Free, 0),
 ];
 
+/// The parts that come first.
+const FIRSTS: &[&[Act]] = &[PEOPLED];
+
 #[rattlefmt::skip]
 const PLAYS: &[Play] = &[
-    Play { name: "object_is_made_and_viewed", shape: TWO_OWNERS, honest: true, parts: &[FIRST_MADE, FIRST_VIEWED] },
-    Play { name: "marked_object_is_not_viewed", shape: TWO_OWNERS, honest: true, parts: &[PEOPLED, MARKED] },
-    Play { name: "named_cell_is_found", shape: TWO_OWNERS, honest: true, parts: &[PEOPLED, CELL_FOUND] },
+    Play { name: "object_is_made_and_viewed", shape: TWO_OWNERS, honest: true, after: 0, parts: &[FIRST_MADE, FIRST_VIEWED] },
+    Play { name: "marked_object_is_not_viewed", shape: TWO_OWNERS, honest: true, after: 1, parts: &[MARKED] },
+    Play { name: "named_cell_is_found", shape: TWO_OWNERS, honest: true, after: 1, parts: &[CELL_FOUND] },
     Play {
-        name: "log_of_a_dropped_object_is_given_back", shape: SMALL, honest: true,
+        name: "log_of_a_dropped_object_is_given_back", shape: SMALL, honest: true, after: 0,
         parts: &[FIRST_FILLED, GIVEN_BACK],
     },
 ];
 
 #[test]
 fn events_by_their_own_calls(rt: HostRuntime) {
-    play(&rt, rt.alloc(), PLAYS);
+    play(&rt, rt.alloc(), FIRSTS, PLAYS);
 }

@@ -180,52 +180,55 @@ const DROPPED_FIRST: &[Act] = &[
     ]),
 ];
 
+/// The parts that come first.
+const FIRSTS: &[&[Act]] = &[MADE, OFFER_MADE, BEGUN, WRITTEN, ENDED];
+
 #[rattlefmt::skip]
 const PLAYS: &[Play] = &[
     // A job is one copier's. It writes no word that it hasn't read, and reads none past the object's end; it finishes behind its last word.
-    Play { name: "a_job_is_one_copiers", shape: SMALL, honest: true, parts: &[MADE, OFFER_MADE, BEGUN, ONE_COPIERS] },
+    Play { name: "a_job_is_one_copiers", shape: SMALL, honest: true, after: 3, parts: &[ONE_COPIERS] },
     // The pointer is named to the copy once; its owner finds its bytes there. No log is given back before the job is emptied, and the
     // source's log is then. The open log ends where it ended.
     Play {
-        name: "a_copy_is_named", shape: SMALL, honest: true,
-        parts: &[MADE, OFFER_MADE, BEGUN, WRITTEN, ENDED, NAMED, GIVEN_BACK],
+        name: "a_copy_is_named", shape: SMALL, honest: true, after: 5,
+        parts: &[NAMED, GIVEN_BACK],
     },
     // Before it is finished no copy is named, and no other pointer ever.
-    Play { name: "an_offered_copy_is_not_named", shape: SMALL, honest: true, parts: &[MADE, OFFER_MADE, TOO_EARLY] },
+    Play { name: "an_offered_copy_is_not_named", shape: SMALL, honest: true, after: 2, parts: &[TOO_EARLY] },
     Play {
-        name: "an_unfinished_copy_is_not_named", shape: SMALL, honest: true,
-        parts: &[MADE, OFFER_MADE, BEGUN, TOO_EARLY, WRITTEN, TOO_EARLY],
+        name: "an_unfinished_copy_is_not_named", shape: SMALL, honest: true, after: 3,
+        parts: &[TOO_EARLY, WRITTEN, TOO_EARLY],
     },
     Play {
-        name: "no_other_pointer_is_named", shape: SMALL, honest: true,
-        parts: &[MADE, OFFER_MADE, BEGUN, WRITTEN, ENDED, OTHERS_NAMED],
+        name: "no_other_pointer_is_named", shape: SMALL, honest: true, after: 5,
+        parts: &[OTHERS_NAMED],
     },
     // The source's log has left the round, or another round has begun: the copy isn't named.
     Play {
-        name: "a_cleared_copy_is_not_named", shape: SMALL, honest: true,
-        parts: &[MADE, OFFER_MADE, BEGUN, WRITTEN, ENDED, CLEARED],
+        name: "a_cleared_copy_is_not_named", shape: SMALL, honest: true, after: 5,
+        parts: &[CLEARED],
     },
     Play {
-        name: "a_late_copy_is_not_named", shape: SMALL, honest: true,
-        parts: &[MADE, OFFER_MADE, BEGUN, WRITTEN, ENDED, ADVANCED],
+        name: "a_late_copy_is_not_named", shape: SMALL, honest: true, after: 5,
+        parts: &[ADVANCED],
     },
     // What its owner has asked to be moved may still be named to its copy; once it was moved elsewhere it may not.
     Play {
-        name: "a_move_is_asked_for", shape: SMALL, honest: true,
-        parts: &[MADE, OFFER_MADE, BEGUN, WRITTEN, ENDED, ASKED_AND_NAMED],
+        name: "a_move_is_asked_for", shape: SMALL, honest: true, after: 5,
+        parts: &[ASKED_AND_NAMED],
     },
     Play {
-        name: "a_move_goes_first", shape: SMALL, honest: true,
-        parts: &[MADE, OFFER_MADE, BEGUN, WRITTEN, ENDED, MOVED_ELSEWHERE],
+        name: "a_move_goes_first", shape: SMALL, honest: true, after: 5,
+        parts: &[MOVED_ELSEWHERE],
     },
     // What was dropped isn't named to its copy; its cell is free as ever.
     Play {
-        name: "a_dropped_object_keeps_no_copy", shape: SMALL, honest: true,
-        parts: &[MADE, OFFER_MADE, BEGUN, WRITTEN, ENDED, DROPPED_FIRST],
+        name: "a_dropped_object_keeps_no_copy", shape: SMALL, honest: true, after: 5,
+        parts: &[DROPPED_FIRST],
     },
 ];
 
 #[test]
 fn copies_are_named(rt: HostRuntime) {
-    play(&rt, rt.alloc(), PLAYS);
+    play(&rt, rt.alloc(), FIRSTS, PLAYS);
 }

@@ -384,58 +384,60 @@ const DROPPED_OFFERED: &[Act] = &[
     Does(SeeJob { job: 15 }, Word(0)),
 ];
 
+/// The parts that come first.
+const FIRSTS: &[&[Act]] = &[MADE, IN_ROUND, OFFERS, LONG_BEGUN];
+
 #[rattlefmt::skip]
 const PLAYS: &[Play] = &[
     Play {
-        name: "two_copiers_have_a_job_each", shape: SMALL, honest: true,
-        parts: &[MADE, IN_ROUND, OFFERS, BOTH_TAKEN, BOTH_COPY, LONG_ENDED, BOTH_NAMED, BOTH_COLLECTED],
+        name: "two_copiers_have_a_job_each", shape: SMALL, honest: true, after: 3,
+        parts: &[BOTH_TAKEN, BOTH_COPY, LONG_ENDED, BOTH_NAMED, BOTH_COLLECTED],
     },
     Play {
-        name: "a_copier_has_one_job_after_the_other", shape: SMALL, honest: true,
-        parts: &[MADE, IN_ROUND, OFFERS, SHORT_COPIED, THEN_LONG],
+        name: "a_copier_has_one_job_after_the_other", shape: SMALL, honest: true, after: 3,
+        parts: &[SHORT_COPIED, THEN_LONG],
     },
     // The owner's move goes first, before the job is taken, and while it is: it is void, and the copier finishes all the same.
     Play {
-        name: "a_move_goes_before_a_claim", shape: SMALL, honest: true,
+        name: "a_move_goes_before_a_claim", shape: SMALL, honest: true, after: 3,
         parts: &[
-            MADE, IN_ROUND, OFFERS, LONG_MOVED, MOVED_ALREADY, SHORT_COPIED, SHORT_NAMED, SOURCE_KEPT, LONG_BEGUN, SOURCE_KEPT,
-            LONG_ENDED, MOVED_ALREADY, SOURCE_KEPT, SOURCE_GIVEN_BACK,
+            LONG_MOVED, MOVED_ALREADY, SHORT_COPIED, SHORT_NAMED, SOURCE_KEPT, LONG_BEGUN, SOURCE_KEPT, LONG_ENDED,
+            MOVED_ALREADY, SOURCE_KEPT, SOURCE_GIVEN_BACK,
         ],
     },
     Play {
-        name: "a_move_goes_before_the_last_word", shape: SMALL, honest: true,
+        name: "a_move_goes_before_the_last_word", shape: SMALL, honest: true, after: 4,
         parts: &[
-            MADE, IN_ROUND, OFFERS, LONG_BEGUN, LONG_MOVED, MOVED_ALREADY, SHORT_COPIED, SHORT_NAMED, SOURCE_KEPT,
-            LONG_ENDED, MOVED_ALREADY, SOURCE_KEPT, SOURCE_GIVEN_BACK,
+            LONG_MOVED, MOVED_ALREADY, SHORT_COPIED, SHORT_NAMED, SOURCE_KEPT, LONG_ENDED, MOVED_ALREADY,
+            SOURCE_KEPT, SOURCE_GIVEN_BACK,
         ],
     },
     // The same of an owner that drops the object.
     Play {
-        name: "a_drop_goes_before_the_last_word", shape: SMALL, honest: true,
+        name: "a_drop_goes_before_the_last_word", shape: SMALL, honest: true, after: 4,
         parts: &[
-            MADE, IN_ROUND, OFFERS, LONG_BEGUN, LONG_RETIRED, RETIRED_ALREADY, SHORT_COPIED, SHORT_NAMED, SOURCE_KEPT,
-            LONG_ENDED, RETIRED_ALREADY, SOURCE_KEPT, SOURCE_GIVEN_BACK,
+            LONG_RETIRED, RETIRED_ALREADY, SHORT_COPIED, SHORT_NAMED, SOURCE_KEPT, LONG_ENDED, RETIRED_ALREADY,
+            SOURCE_KEPT, SOURCE_GIVEN_BACK,
         ],
     },
     Play {
-        name: "a_round_ends_with_jobs_left", shape: SMALL, honest: true,
-        parts: &[MADE, IN_ROUND, OFFERS, LONG_BEGUN, CLEARED, LONG_ENDED, SHORT_COPIED, ABORTED],
+        name: "a_round_ends_with_jobs_left", shape: SMALL, honest: true, after: 4,
+        parts: &[CLEARED, LONG_ENDED, SHORT_COPIED, ABORTED],
     },
     Play {
-        name: "a_round_begins_with_jobs_left", shape: SMALL, honest: true,
-        parts: &[MADE, IN_ROUND, OFFERS, LONG_BEGUN, ADVANCED, LONG_ENDED, OFFERED_ANEW, COPIED_ANEW],
+        name: "a_round_begins_with_jobs_left", shape: SMALL, honest: true, after: 4,
+        parts: &[ADVANCED, LONG_ENDED, OFFERED_ANEW, COPIED_ANEW],
     },
     Play {
-        name: "the_targets_log_is_kept", shape: SMALL, honest: true,
+        name: "the_targets_log_is_kept", shape: SMALL, honest: true, after: 3,
         parts: &[
-            MADE, IN_ROUND, OFFERS, TARGET_SEALED, TARGET_KEPT, LONG_BEGUN, TARGET_KEPT, LONG_ENDED, TARGET_KEPT,
-            TARGET_GIVEN_BACK,
+            TARGET_SEALED, TARGET_KEPT, LONG_BEGUN, TARGET_KEPT, LONG_ENDED, TARGET_KEPT, TARGET_GIVEN_BACK,
         ],
     },
-    Play { name: "a_copy_opens_a_log", shape: SMALL, honest: true, parts: &[MADE, IN_ROUND, DROPPED_OFFERED] },
+    Play { name: "a_copy_opens_a_log", shape: SMALL, honest: true, after: 2, parts: &[DROPPED_OFFERED] },
 ];
 
 #[test]
 fn copiers_go_beside_one_another(rt: HostRuntime) {
-    play(&rt, rt.alloc(), PLAYS);
+    play(&rt, rt.alloc(), FIRSTS, PLAYS);
 }

@@ -39,13 +39,16 @@ const RETIRED: &[Act] = &[
     Used(2, false),
 ];
 
+/// The parts that come first.
+const FIRSTS: &[&[Act]] = &[PEOPLED];
+
 #[rattlefmt::skip]
 const PLAYS: &[Play] = &[
-    Play { name: "a_request_of_what_may_not_be_asked", shape: TWO_OWNERS, honest: true, parts: &[PEOPLED, NOT_ASKED] },
-    Play { name: "an_object_is_dropped_and_retired", shape: TWO_OWNERS, honest: true, parts: &[PEOPLED, RETIRED] },
+    Play { name: "a_request_of_what_may_not_be_asked", shape: TWO_OWNERS, honest: true, after: 1, parts: &[NOT_ASKED] },
+    Play { name: "an_object_is_dropped_and_retired", shape: TWO_OWNERS, honest: true, after: 1, parts: &[RETIRED] },
 ];
 
 #[test]
 fn objects_are_dropped(rt: HostRuntime) {
-    play(&rt, rt.alloc(), PLAYS);
+    play(&rt, rt.alloc(), FIRSTS, PLAYS);
 }

@@ -7,6 +7,7 @@ use crate::tests::stage::{does_all, play};
 use far_core::Event::*;
 use far_core::Reply::*;
 use far_core::{Core, Event, Kind};
+use std::alloc::Global;
 
 #[rattlefmt::skip]
 const LONGEST_FILLS: &[Act] = &[
@@ -63,12 +64,16 @@ const FULL: &[Act] = &[
     OpenLog(3),
 ];
 
+fn is_filled(alloc: Global) -> bool {
+    match Core::new(alloc, TWO_OWNERS, true) {
+        Ok(mut core) => places_all(&mut core) && does_all(&mut core, FULL),
+        Err(_) => false,
+    }
+}
+
 #[test]
 fn shortest_objects_fill_a_log(rt: HostRuntime) {
-    let Ok(mut core) = Core::new(rt.alloc(), TWO_OWNERS, true) else {
-        panic!(rt; "no core is made");
-    };
-    assert!(rt; places_all(&mut core) && does_all(&mut core, FULL));
+    assert!(rt; is_filled(rt.alloc()));
 }
 
 #[rattlefmt::skip]
@@ -81,12 +86,12 @@ const NAMED_LATE: &[Act] = &[
 
 #[rattlefmt::skip]
 const PLAYS: &[Play] = &[
-    Play { name: "longest_object_fills_a_log", shape: SMALL, honest: true, parts: &[LONGEST_FILLS] },
+    Play { name: "longest_object_fills_a_log", shape: SMALL, honest: true, after: 0, parts: &[LONGEST_FILLS] },
     // A naming that comes too late answers the cell, and neither takes the span nor opens the log.
-    Play { name: "named_cell_is_not_named_again", shape: TWO_OWNERS, honest: true, parts: &[PEOPLED, NAMED_LATE] },
+    Play { name: "named_cell_is_not_named_again", shape: TWO_OWNERS, honest: true, after: 0, parts: &[PEOPLED, NAMED_LATE] },
 ];
 
 #[test]
 fn logs_are_filled(rt: HostRuntime) {
-    play(&rt, rt.alloc(), PLAYS);
+    play(&rt, rt.alloc(), &[], PLAYS);
 }

@@ -96,15 +96,18 @@ const COME_BACK: &[Act] = &[
     Does(Load { owner: 0, pointer: 0, index: 510 }, Word(5)),
 ];
 
+/// The parts that come first.
+const FIRSTS: &[&[Act]] = &[SEALED];
+
 #[rattlefmt::skip]
 const PLAYS: &[Play] = &[
-    Play { name: "a_log_that_may_not_be_given_back", shape: SMALL, honest: true, parts: &[SEALED, NOT_GIVEN_BACK] },
-    Play { name: "a_pointer_that_may_not_be_marked", shape: SMALL, honest: true, parts: &[SEALED, NOT_MARKED] },
-    Play { name: "a_log_is_given_back", shape: SMALL, honest: true, parts: &[SEALED, GIVEN_BACK] },
-    Play { name: "the_longest_object_goes_away", shape: SMALL, honest: true, parts: &[SEALED, SENT_FAR, COME_BACK] },
+    Play { name: "a_log_that_may_not_be_given_back", shape: SMALL, honest: true, after: 1, parts: &[NOT_GIVEN_BACK] },
+    Play { name: "a_pointer_that_may_not_be_marked", shape: SMALL, honest: true, after: 1, parts: &[NOT_MARKED] },
+    Play { name: "a_log_is_given_back", shape: SMALL, honest: true, after: 1, parts: &[GIVEN_BACK] },
+    Play { name: "the_longest_object_goes_away", shape: SMALL, honest: true, after: 1, parts: &[SENT_FAR, COME_BACK] },
 ];
 
 #[test]
 fn logs_are_given_back(rt: HostRuntime) {
-    play(&rt, rt.alloc(), PLAYS);
+    play(&rt, rt.alloc(), FIRSTS, PLAYS);
 }

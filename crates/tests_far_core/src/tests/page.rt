@@ -4,7 +4,6 @@ use crate::tests::acts::SMALL;
 use far_core::{Core, Event, Reply};
 use far_word::{Place, Refused};
 use std::alloc::Global;
-use std::process::Abort;
 
 const OWNER: u8 = 0;
 
@@ -43,17 +42,17 @@ fn is_placed(alloc: Global, core: &mut Core) -> bool {
 }
 
 // The owner takes the pointer over, opens its scope and views the object.
-fn views(rt: &impl Abort, core: &mut Core) {
+fn views(core: &mut Core) -> bool {
     let (owner, pointer) = (OWNER, POINTER);
     let place = Place { log: 0, at: 0 };
-    assert!(rt; core.step(Event::Adopt { owner, pointer }) == Reply::Word(NEAR));
-    assert!(rt; core.step(Event::ReadEpoch { owner }) == Reply::Epoch(0));
-    assert!(rt; core.step(Event::Open { owner }) == Reply::Done);
-    assert!(rt; core.step(Event::Pin { owner, pointer }) == Reply::Held(place));
+    core.step(Event::Adopt { owner, pointer }) == Reply::Word(NEAR)
+        && core.step(Event::ReadEpoch { owner }) == Reply::Epoch(0)
+        && core.step(Event::Open { owner }) == Reply::Done
+        && core.step(Event::Pin { owner, pointer }) == Reply::Held(place)
 }
 
 // It writes a word and reads it back; after its close a load isn't legal.
-fn writes_and_reads(rt: &impl Abort, core: &mut Core) {
+fn writes_and_reads(core: &mut Core) -> bool {
     let (owner, pointer, index) = (OWNER, POINTER, 0);
     let store = Event::Store {
         owner,
@@ -66,19 +65,25 @@ fn writes_and_reads(rt: &impl Abort, core: &mut Core) {
         pointer,
         index,
     };
-    assert!(rt; core.step(Event::Soil { owner, pointer }) == Reply::Word(VIEWED));
-    assert!(rt; core.step(store) == Reply::Done);
-    assert!(rt; core.step(load) == Reply::Word(7));
-    assert!(rt; core.step(Event::Close { owner }) == Reply::Done);
-    assert!(rt; core.step(load) == Reply::Refused);
+    core.step(Event::Soil { owner, pointer }) == Reply::Word(VIEWED)
+        && core.step(store) == Reply::Done
+        && core.step(load) == Reply::Word(7)
+        && core.step(Event::Close { owner }) == Reply::Done
+        && core.step(load) == Reply::Refused
+}
+
+fn goes_so(alloc: Global, core: &mut Core) -> bool {
+    is_placed(alloc, core) && views(core) && writes_and_reads(core)
+}
+
+fn is_told(alloc: Global) -> bool {
+    match Core::new(alloc, SMALL, true) {
+        Ok(mut core) => goes_so(alloc, &mut core),
+        Err(_) => false,
+    }
 }
 
 #[test]
 fn the_page_of_the_crate(rt: HostRuntime) {
-    let Ok(mut core) = Core::new(rt.alloc(), SMALL, true) else {
-        panic!(rt; "no core is made");
-    };
-    assert!(rt; is_placed(rt.alloc(), &mut core));
-    views(&rt, &mut core);
-    writes_and_reads(&rt, &mut core);
+    assert!(rt; is_told(rt.alloc()));
 }

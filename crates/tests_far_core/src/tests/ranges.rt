@@ -200,19 +200,22 @@ const WORDS_COPIED: &[Act] = &[
     WordAt(Place { log: 0, at: 3 }, 3),
 ];
 
+/// The parts that come first.
+const FIRSTS: &[&[Act]] = &[HOLDING_PAIR, FOUR_PUT];
+
 #[rattlefmt::skip]
 const PLAYS: &[Play] = &[
     Play {
-        name: "words_are_stored_and_loaded", shape: TWO_OWNERS, honest: true,
-        parts: &[HOLDING_PAIR, STORED_AND_LOADED],
+        name: "words_are_stored_and_loaded", shape: TWO_OWNERS, honest: true, after: 1,
+        parts: &[STORED_AND_LOADED],
     },
-    Play { name: "zeros_are_put", shape: TWO_OWNERS, honest: true, parts: &[HOLDING_PAIR, ZEROS_PUT] },
-    Play { name: "words_are_put", shape: TWO_OWNERS, honest: true, parts: &[HOLDING_PAIR, FOUR_PUT, WORDS_PUT] },
-    Play { name: "words_are_got", shape: TWO_OWNERS, honest: true, parts: &[HOLDING_PAIR, FOUR_PUT, WORDS_GOT] },
-    Play { name: "words_are_copied", shape: TWO_OWNERS, honest: true, parts: &[HOLDING_PAIR, FOUR_PUT, WORDS_COPIED] },
+    Play { name: "zeros_are_put", shape: TWO_OWNERS, honest: true, after: 1, parts: &[ZEROS_PUT] },
+    Play { name: "words_are_put", shape: TWO_OWNERS, honest: true, after: 2, parts: &[WORDS_PUT] },
+    Play { name: "words_are_got", shape: TWO_OWNERS, honest: true, after: 2, parts: &[WORDS_GOT] },
+    Play { name: "words_are_copied", shape: TWO_OWNERS, honest: true, after: 2, parts: &[WORDS_COPIED] },
 ];
 
 #[test]
 fn several_words_at_once(rt: HostRuntime) {
-    play(&rt, rt.alloc(), PLAYS);
+    play(&rt, rt.alloc(), FIRSTS, PLAYS);
 }

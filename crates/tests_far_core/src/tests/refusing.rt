@@ -161,20 +161,23 @@ const SEALED: &[Act] = &[
     ]),
 ];
 
+/// The parts that come first.
+const FIRSTS: &[&[Act]] = &[PEOPLED];
+
 #[rattlefmt::skip]
 const PLAYS: &[Play] = &[
-    Play { name: "scopes_refuse", shape: TWO_OWNERS, honest: true, parts: &[PEOPLED, SCOPES] },
-    Play { name: "views_refuse", shape: TWO_OWNERS, honest: true, parts: &[PEOPLED, VIEWS] },
-    Play { name: "stores_refuse", shape: TWO_OWNERS, honest: true, parts: &[PEOPLED, STORES] },
-    Play { name: "adoptions_refuse", shape: TWO_OWNERS, honest: true, parts: &[PEOPLED, ADOPTIONS] },
-    Play { name: "puts_refuse", shape: TWO_OWNERS, honest: true, parts: &[PEOPLED, PUTS] },
-    Play { name: "words_that_name_nothing_refuse", shape: TWO_OWNERS, honest: true, parts: &[PEOPLED, NAMES_NOTHING] },
-    Play { name: "places_that_are_not_next_refuse", shape: TWO_OWNERS, honest: true, parts: &[PEOPLED, NOT_NEXT] },
-    Play { name: "data_that_is_not_zero_refuses", shape: TWO_OWNERS, honest: true, parts: &[PEOPLED, NOT_ZERO] },
-    Play { name: "sealed_log_refuses", shape: TWO_OWNERS, honest: true, parts: &[PEOPLED, SEALED] },
+    Play { name: "scopes_refuse", shape: TWO_OWNERS, honest: true, after: 1, parts: &[SCOPES] },
+    Play { name: "views_refuse", shape: TWO_OWNERS, honest: true, after: 1, parts: &[VIEWS] },
+    Play { name: "stores_refuse", shape: TWO_OWNERS, honest: true, after: 1, parts: &[STORES] },
+    Play { name: "adoptions_refuse", shape: TWO_OWNERS, honest: true, after: 1, parts: &[ADOPTIONS] },
+    Play { name: "puts_refuse", shape: TWO_OWNERS, honest: true, after: 1, parts: &[PUTS] },
+    Play { name: "words_that_name_nothing_refuse", shape: TWO_OWNERS, honest: true, after: 1, parts: &[NAMES_NOTHING] },
+    Play { name: "places_that_are_not_next_refuse", shape: TWO_OWNERS, honest: true, after: 1, parts: &[NOT_NEXT] },
+    Play { name: "data_that_is_not_zero_refuses", shape: TWO_OWNERS, honest: true, after: 1, parts: &[NOT_ZERO] },
+    Play { name: "sealed_log_refuses", shape: TWO_OWNERS, honest: true, after: 1, parts: &[SEALED] },
 ];
 
 #[test]
 fn events_are_refused(rt: HostRuntime) {
-    play(&rt, rt.alloc(), PLAYS);
+    play(&rt, rt.alloc(), FIRSTS, PLAYS);
 }

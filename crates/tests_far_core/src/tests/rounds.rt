@@ -141,24 +141,27 @@ const CLEARED: &[Act] = &[
     Refuses(&[Name { pointer: 0, old: WITH_EVAC, new: FAR }]),
 ];
 
+/// The parts that come first.
+const FIRSTS: &[&[Act]] = &[SETTLED];
+
 #[rattlefmt::skip]
 const PLAYS: &[Play] = &[
-    Play { name: "a_round_begins", shape: SMALL, honest: true, parts: &[SETTLED, BEGINS] },
-    Play { name: "a_dropped_object_is_marked_too", shape: SMALL, honest: true, parts: &[SETTLED, DROPPED_TOO] },
-    Play { name: "the_epoch_stays_below_its_end", shape: LAST_BUT_ONE, honest: true, parts: &[LAST_EPOCH] },
+    Play { name: "a_round_begins", shape: SMALL, honest: true, after: 1, parts: &[BEGINS] },
+    Play { name: "a_dropped_object_is_marked_too", shape: SMALL, honest: true, after: 1, parts: &[DROPPED_TOO] },
+    Play { name: "the_epoch_stays_below_its_end", shape: LAST_BUT_ONE, honest: true, after: 0, parts: &[LAST_EPOCH] },
     Play {
-        name: "who_is_seen_clear", shape: TWO_OWNERS, honest: true,
-        parts: &[SETTLED, ONE_IS_CLEAR, BOTH_ARE_CLEAR],
+        name: "who_is_seen_clear", shape: TWO_OWNERS, honest: true, after: 1,
+        parts: &[ONE_IS_CLEAR, BOTH_ARE_CLEAR],
     },
     // An owner reads the epoch before it rises and opens its scope at it after: it was seen clear, and its pin finds EVAC.
-    Play { name: "a_stale_epoch_views_nothing", shape: SMALL, honest: true, parts: &[SETTLED, STALE] },
+    Play { name: "a_stale_epoch_views_nothing", shape: SMALL, honest: true, after: 1, parts: &[STALE] },
     // A whole round: its object goes far once its owner is seen clear, and its log is given back.
-    Play { name: "a_round_sends_an_object_far", shape: SMALL, honest: true, parts: &[SETTLED, SENT_FAR] },
-    Play { name: "a_round_moves_an_object", shape: SMALL, honest: true, parts: &[SETTLED, MOVED_BY_ROUND] },
-    Play { name: "a_cleared_log_leaves_the_round", shape: SMALL, honest: true, parts: &[SETTLED, CLEARED] },
+    Play { name: "a_round_sends_an_object_far", shape: SMALL, honest: true, after: 1, parts: &[SENT_FAR] },
+    Play { name: "a_round_moves_an_object", shape: SMALL, honest: true, after: 1, parts: &[MOVED_BY_ROUND] },
+    Play { name: "a_cleared_log_leaves_the_round", shape: SMALL, honest: true, after: 1, parts: &[CLEARED] },
 ];
 
 #[test]
 fn rounds_are_made(rt: HostRuntime) {
-    play(&rt, rt.alloc(), PLAYS);
+    play(&rt, rt.alloc(), FIRSTS, PLAYS);
 }

@@ -65,17 +65,24 @@ fn does_parts(core: &mut Core, parts: &[&[Act]]) -> bool {
     true
 }
 
-// The same of a whole test, on a new core.
-fn comes_out(alloc: Global, test: &Play) -> bool {
+// The same of a whole test: so many of these parts come first.
+fn does_play(core: &mut Core, firsts: &[&[Act]], test: &Play) -> bool {
+    test.after <= firsts.len()
+        && does_parts(core, &firsts[..test.after])
+        && does_parts(core, test.parts)
+}
+
+// The same on a new core.
+fn comes_out(alloc: Global, firsts: &[&[Act]], test: &Play) -> bool {
     match Core::new(alloc, test.shape, test.honest) {
-        Ok(mut core) => does_parts(&mut core, test.parts),
+        Ok(mut core) => does_play(&mut core, firsts, test),
         Err(_) => false,
     }
 }
 
 /// Each test comes out as it should.
-pub(super) fn play(rt: &impl Abort, alloc: Global, tests: &[Play]) {
+pub(super) fn play(rt: &impl Abort, alloc: Global, firsts: &[&[Act]], tests: &[Play]) {
     for test in tests {
-        assert!(rt; comes_out(alloc, test), "{}", test.name);
+        assert!(rt; comes_out(alloc, firsts, test), "{}", test.name);
     }
 }

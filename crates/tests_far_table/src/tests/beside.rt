@@ -98,15 +98,31 @@ fn both_take_turns<R: Threads>(rt: &R, first: Owner, second: Owner) -> bool {
     a && b
 }
 
+// The same of the last of some, and the one before it.
+fn last_take_turns<R: Threads>(rt: &R, mut owners: Vec<Owner>) -> bool {
+    match owners.pop() {
+        Some(first) => take_turns_after(rt, first, owners.pop()),
+        None => false,
+    }
+}
+
+fn take_turns_after<R: Threads>(rt: &R, first: Owner, second: Option<Owner>) -> bool {
+    match second {
+        Some(second) => both_take_turns(rt, first, second),
+        None => false,
+    }
+}
+
+fn two_take_turns<R: Threads>(rt: &R, alloc: Global) -> bool {
+    match made(alloc, 2) {
+        Ok(owners) => last_take_turns(rt, owners),
+        Err(_) => false,
+    }
+}
+
 #[test]
 fn owners_side_by_side(rt: HostRuntime) {
-    let Ok(mut owners) = made(rt.alloc(), 2) else {
-        panic!(rt; "no owner is made");
-    };
-    let (Some(first), Some(second)) = (owners.pop(), owners.pop()) else {
-        panic!(rt; "two seats");
-    };
-    assert!(rt; both_take_turns(&rt, first, second));
+    assert!(rt; two_take_turns(&rt, rt.alloc()));
 }
 
 // Whether eight owners take turns, each in a thread of its own.
@@ -117,12 +133,16 @@ fn all_take_turns<R: Threads + Sync>(rt: &R, owners: Vec<Owner>) -> bool {
     done.as_slice() == [true; 8].as_slice()
 }
 
+fn eight_take_turns<R: Threads + Sync>(rt: &R, alloc: Global) -> bool {
+    match made(alloc, 8) {
+        Ok(owners) => all_take_turns(rt, owners),
+        Err(_) => false,
+    }
+}
+
 #[test]
 fn eight_owners_in_eight_threads(rt: HostRuntime) {
-    let Ok(owners) = made(rt.alloc(), 8) else {
-        panic!(rt; "no owner is made");
-    };
-    assert!(rt; all_take_turns(&rt, owners));
+    assert!(rt; eight_take_turns(&rt, rt.alloc()));
 }
 
 // The next of a row of numbers that look chosen at random.
@@ -170,11 +190,19 @@ fn go_alike(owners: &mut Vec<Owner>, core: &mut Core) -> bool {
     true
 }
 
+// The same of owners that are made.
+fn are_as(alloc: Global, core: &mut Core) -> bool {
+    match made(alloc, 8) {
+        Ok(mut owners) => go_alike(&mut owners, core),
+        Err(_) => false,
+    }
+}
+
 // The same of owners and a core that are made.
 fn are_alike(alloc: Global) -> bool {
-    match (placed(alloc, 8), made(alloc, 8)) {
-        (Ok(mut core), Ok(mut owners)) => go_alike(&mut owners, &mut core),
-        _ => false,
+    match placed(alloc, 8) {
+        Ok(mut core) => are_as(alloc, &mut core),
+        Err(_) => false,
     }
 }
 

@@ -3,6 +3,7 @@
 
 ghost use Rattle.std.specs.Prelude.{◌≡◌, ◌*◌, ◌<◌};
 ghost use Rattle.far_word.specs.Pointer.{read_of};
+ghost use Rattle.far_core.specs.events.Ask.{is_request};
 ghost use Rattle.far_core.specs.events.Owners.{keeps_padding};
 ghost use Rattle.far_core.specs.state.CoreState.{core_state};
 ghost use Rattle.far_table.specs.Views.{said_len};
@@ -196,12 +197,7 @@ impl Owner {
     }
 
     fn ask(&mut self, mark: Mark) -> Reply {
-        if !self.known.used
-            || self.known.held
-            || mark == Mark::Hot
-            || mark == Mark::Evac
-            || mark == Mark::Dirty
-        {
+        if !self.known.used || self.known.held || !is_request(mark) {
             return Reply::Refused;
         }
         let word = self.seat.ask(self.pointer, mark);
@@ -226,6 +222,12 @@ impl Owner {
             Act::Ask(mark) => self.ask(mark),
         }
     }
+}
+
+fn is_request(mark: Mark) -> bool
+    ensures { result ≡ is_request mark }
+{
+    matches!(mark, Mark::Moved | Mark::Dropped)
 }
 
 // The length that a word says; 0 where it says none.
