@@ -1,5 +1,5 @@
 use Rattle.far_book.proofs.book.Book.name_copy.Given.{Over}
-use Rattle.far_book.proofs.book.Book.name_copy.Goals.{In-Near}
+use Rattle.far_book.proofs.book.Book.name_copy.Goals.{After-self}
 use Rattle.far_book.proofs.book.Book.name_copy.Goals as goal
 use Rattle.std.proofs.Common.{◌≡◌, ◌∙◌, ℕ, ap, arith, refl, subst, sym, true, Option, Some, None}
 use Rattle.std.specs.Prelude.{IsSome}
@@ -42,7 +42,7 @@ unreachable-requires g c =
     is_near c.known.result from.log from.at (subst (λ o. names_place o from.log from.at ≡ true) c.known.ensures c.requires.lies) c.in_default.not-Near
 
 -- ---- the object's length and data structure are known
-module _ (g : Over) (c : In-Near g) where
+module _ (g : Over) (c : After-self g) where
   same : g.N.Near.view c.self.inside.near ≡ g.N.Near.view c.args.self.now.near
   same = ap (λ (b : BookOf g.row.N.Denot g.row.D.Denot). g.N.Near.view b.near) c.self.view_is
 
@@ -54,25 +54,25 @@ module _ (g : Over) (c : In-Near g) where
 
 pub rename_near-requires-clause-layout : goal.rename_near-requires-clause-layout
 rename_near-requires-clause-layout g c =
-    let h = (goal.at.rename_near-requires-clause-layout g c).In-Near in
+    let h = (goal.at.rename_near-requires-clause-layout g c).After-self in
     let n = c.in-Near in
     layout (g.N.Near.view c.self.inside.near) c.self.invariant.0.notes.law c.args.job c.args.what c.args.cell n.len n.ds n.place n.marks (may g h) (says g h)
 
 pub rename_near-requires-clause-pointer : goal.rename_near-requires-clause-pointer
 rename_near-requires-clause-pointer g c =
-    let h = (goal.at.rename_near-requires-clause-pointer g c).In-Near in
+    let h = (goal.at.rename_near-requires-clause-pointer g c).After-self in
     let n = c.in-Near in
     pointer (g.N.Near.view c.self.inside.near) c.self.invariant.0.notes.law c.args.job c.args.what c.args.cell n.len n.ds n.place n.marks (may g h) (says g h)
 
 pub rename_near-requires-clause-may : goal.rename_near-requires-clause-may
 rename_near-requires-clause-may g c =
-    let h = (goal.at.rename_near-requires-clause-may g c).In-Near in
+    let h = (goal.at.rename_near-requires-clause-may g c).After-self in
     let s = g.N.Near.view c.self.inside.near in
     let n = c.in-Near in
     may_rename s c.self.invariant.0.notes.law c.args.job c.args.what c.args.cell n.len n.ds n.place n.marks (may g h) (says g h)
 
 pub rename_near-requires-clause-found : goal.rename_near-requires-clause-found
-rename_near-requires-clause-found g c = (may g (goal.at.rename_near-requires-clause-found g c).In-Near).found
+rename_near-requires-clause-found g c = (may g (goal.at.rename_near-requires-clause-found g c).After-self).found
 
 pub rename_near-requires-clause-readable : goal.rename_near-requires-clause-readable
 rename_near-requires-clause-readable g c = read_so (read_of c.args.cell) c.args.what.from.log c.args.what.from.at c.requires.lies
@@ -83,7 +83,7 @@ rename_near-requires-clause-alive g c = c.requires.alive
 -- ---- its owner has dropped it
 pub invariant_of-self : goal.invariant_of-self
 invariant_of-self g c =
-    let h = (goal.at.invariant_of-self g c).In-Near in
+    let h = (goal.at.invariant_of-self g c).After-self in
     let s = g.N.Near.view c.self.inside.near in
     let e = c.in_default-rename_near in
     let found = subst (λ v. Finds v e.field-0) (may g h).found e.ensures.found in (
@@ -97,7 +97,7 @@ returns-in_default-rename_near-clause-named g c odd = absurd (false≢true odd)
 
 pub returns-in_default-rename_near-clause-dropped : goal.returns-in_default-rename_near-clause-dropped
 returns-in_default-rename_near-clause-dropped g c _ =
-    let h = (goal.at.returns-in_default-rename_near-clause-dropped g c).In-Near in
+    let h = (goal.at.returns-in_default-rename_near-clause-dropped g c).After-self in
     let e = c.in_default-rename_near in
     record {
       cell = e.field-0;
@@ -108,7 +108,7 @@ returns-in_default-rename_near-clause-dropped g c _ =
 
 pub returns-in_default-rename_near-clause-jobs : goal.returns-in_default-rename_near-clause-jobs
 returns-in_default-rename_near-clause-jobs g c =
-    ap (λ (x : State). x.copying.word) (c.in_default-rename_near.ensures.kept ∙ ap (λ (x : State). seen x c.args.what.pointer c.in_default-rename_near.field-0) (same g (goal.at.returns-in_default-rename_near-clause-jobs g c).In-Near))
+    ap (λ (x : State). x.copying.word) (c.in_default-rename_near.ensures.kept ∙ ap (λ (x : State). seen x c.args.what.pointer c.in_default-rename_near.field-0) (same g (goal.at.returns-in_default-rename_near-clause-jobs g c).After-self))
 
 pub returns-in_default-rename_near-clause-order : goal.returns-in_default-rename_near-clause-order
 returns-in_default-rename_near-clause-order g c = ap (λ (b : BookOf g.row.N.Denot g.row.D.Denot). b.order) c.self.view_is
@@ -121,46 +121,46 @@ returns-in_default-rename_near-clause-came g c = since_book c.self.view_is (came
 
 pub pass-requires-clause-from : goal.pass-requires-clause-from
 pass-requires-clause-from g c =
-    let h = (goal.at.pass-requires-clause-from g c).In-Near in
+    let h = (goal.at.pass-requires-clause-from g c).After-self in
     let n = c.in-Near in
     passes_from (g.N.Near.view c.self.inside.near) c.self.invariant.0.notes.law c.args.job c.args.what c.args.cell n.len n.ds n.place n.marks (may g h) (says g h) c.self.inside.ledger c.self.invariant.0.notes
 
 pub pass-requires-clause-other : goal.pass-requires-clause-other
 pass-requires-clause-other g c =
-    let h = (goal.at.pass-requires-clause-other g c).In-Near in
+    let h = (goal.at.pass-requires-clause-other g c).After-self in
     let n = c.in-Near in
     apart (g.N.Near.view c.self.inside.near) c.self.invariant.0.notes.law c.args.job c.args.what c.args.cell n.len n.ds n.place n.marks (may g h) (says g h)
 
 pub pass-requires-clause-to : goal.pass-requires-clause-to
 pass-requires-clause-to g c =
-    let h = (goal.at.pass-requires-clause-to g c).In-Near in
+    let h = (goal.at.pass-requires-clause-to g c).After-self in
     let n = c.in-Near in
     passes_to (g.N.Near.view c.self.inside.near) c.self.invariant.0.notes.law c.args.job c.args.what c.args.cell n.len n.ds n.place n.marks (may g h) (says g h) c.self.inside.ledger c.self.invariant.0.notes
 
 pub pass-requires-clause-live : goal.pass-requires-clause-live
 pass-requires-clause-live g c =
-    let h = (goal.at.pass-requires-clause-live g c).In-Near in
+    let h = (goal.at.pass-requires-clause-live g c).After-self in
     let n = c.in-Near in
     let live = passes_live (g.N.Near.view c.self.inside.near) c.self.invariant.0.notes.law c.args.job c.args.what c.args.cell n.len n.ds n.place n.marks (may g h) (says g h) c.self.inside.ledger c.self.invariant.0.notes in
     omega (arith, live, c.size_of.ensures)
 
 pub pass-requires-clause-size : goal.pass-requires-clause-size
 pass-requires-clause-size g c =
-    let h = (goal.at.pass-requires-clause-size g c).In-Near in
+    let h = (goal.at.pass-requires-clause-size g c).After-self in
     let n = c.in-Near in
     let fits = layout_from (g.N.Near.view c.self.inside.near) c.self.invariant.0.notes.law c.args.job c.args.what c.args.cell n.len n.ds n.place n.marks (may g h) (says g h) in
     omega (arith, c.size_of.ensures, fits)
 
 pub pass-requires-clause-room : goal.pass-requires-clause-room
 pass-requires-clause-room g c =
-    let h = (goal.at.pass-requires-clause-room g c).In-Near in
+    let h = (goal.at.pass-requires-clause-room g c).After-self in
     let n = c.in-Near in
     passes_room (g.N.Near.view c.self.inside.near) c.self.invariant.0.notes.law c.args.job c.args.what c.args.cell n.len n.ds n.place n.marks (may g h) (says g h) c.self.inside.ledger c.self.invariant.0.notes
 
 -- ---- it was named
 pub invariant_of-self-2 : goal.invariant_of-self-2
 invariant_of-self-2 g c =
-    let h = (goal.at.invariant_of-self-2 g c).In-Near in
+    let h = (goal.at.invariant_of-self-2 g c).After-self in
     let s = g.N.Near.view c.self.inside.near in
     let n = c.in-Near in
     let passes = subst (Passes c.self.inside.ledger c.pass.new.self c.args.what.from.log c.args.what.to.log) c.size_of.ensures c.pass.ensures in (
@@ -171,7 +171,7 @@ invariant_of-self-2 g c =
 
 pub returns-clause-named : goal.returns-clause-named
 returns-clause-named g c _ =
-    let h = (goal.at.returns-clause-named g c).In-Near in
+    let h = (goal.at.returns-clause-named g c).After-self in
     let s = g.N.Near.view c.self.inside.near in
     let n = c.in-Near in
     subst (λ (x : State). IsNamed x (g.N.Near.view c.rename_near.new.near) c.args.what) (same g h)
@@ -183,7 +183,7 @@ returns-clause-dropped g c odd = absurd (true≢false odd)
 
 pub returns-clause-jobs : goal.returns-clause-jobs
 returns-clause-jobs g c =
-    let h = (goal.at.returns-clause-jobs g c).In-Near in
+    let h = (goal.at.returns-clause-jobs g c).After-self in
     let s = g.N.Near.view c.self.inside.near in
     let n = c.in-Near in
     jobs_stay_by s c.self.inside.ledger (g.D.Device.contents c.self.inside.device) (g.D.Device.honest c.self.inside.device) c.self.invariant.0 c.args.job c.args.what c.args.cell n.len n.ds n.place n.marks (may g h) (says g h)
@@ -200,7 +200,7 @@ returns-clause-device g c = ap (λ (b : BookOf g.row.N.Denot g.row.D.Denot). b.d
 
 pub returns-clause-exact : goal.returns-clause-exact
 returns-clause-exact g c still =
-    let h = (goal.at.returns-clause-exact g c).In-Near in
+    let h = (goal.at.returns-clause-exact g c).After-self in
     let s = g.N.Near.view c.self.inside.near in
     let n = c.in-Near in (
       refl,
