@@ -1,7 +1,7 @@
 use Rattle.far_book.proofs.book.Book.settle.Given.{Over}
 use Rattle.far_book.proofs.book.Book.settle.Goals.{After-has_evac}
 use Rattle.far_book.proofs.book.Book.settle.Goals as goal
-use Rattle.std.proofs.Common.{◌≡◌, ◌∙◌, ◌*◌, ◌^◌, ◌<◌, ℕ, Bool, true, false, cond, ap, refl, sym, subst, Option, Some, None, List}
+use Rattle.std.proofs.Common.{◌≡◌, ◌∙◌, ◌*◌, ◌<◌, ℕ, Bool, true, false, cond, ap, refl, sym, subst, Option, Some, None, List}
 use Rattle.std.specs.Prelude.{Result, Ok, Err, IfErr, IfNone, IfOk, MatchOption, is_some}
 use Rattle.std.proofs.lemmas.Bool.{false≢true}
 use Rattle.far_word.specs.declared.pointer.Place.{Place}
@@ -13,7 +13,7 @@ use Rattle.far_word.specs.Pointer.{read_of}
 use Rattle.far_core.specs.events.Naming.{is_dropped}
 use Rattle.far_core.specs.state.State.{State}
 use Rattle.far_book.specs.book.Dealing as dealing
-use Rattle.far_book.specs.book.Dealing.{FindsDrop, IsSeen, LeavesSpans, MovedBy, has_evac, moved_now, order_moved}
+use Rattle.far_book.specs.book.Dealing.{FindsDrop, IsSeen, MovedBy, has_evac, moved_now, order_moved}
 use Rattle.far_book.specs.book.BookOf.{BookOf}
 use Rattle.far_book.specs.book.Effects.{moved, order_after, stayed}
 use Rattle.far_book.specs.book.Renaming.{seen}
@@ -22,7 +22,7 @@ use Rattle.far_hand.proofs.Finding.{some_found}
 use Rattle.far_book.proofs.region.Founds.{drop_found}
 use Rattle.far_hand.specs.Quiet.{IsQuietNear}
 use Rattle.far_hand.proofs.RoundSteps.{quiet_seen}
-use Rattle.far_book.proofs.region.Settled.{both_of, drop_by, goal_seen, moved_by_found, none_of, some_of}
+use Rattle.far_book.proofs.region.Settled.{both_of, drop_by, drop_here, goal_seen, moved_by_found, none_of, some_of}
 use Rattle.far_hand.proofs.Closure.{then_came}
 
 -- ---- what follows of an answer, by what it may be
@@ -65,19 +65,6 @@ module _ (s t : State) (p w : ℕ) (f : Finds (s.cell p) w) (is : t ≡ seen s p
         keeps = record { known = λ a _ _. ap (λ (v : ℕ → ℕ). v a) word; headers = λ a _. ap (λ (v : ℕ → ℕ). v a) word };
       }
 
-  spans_left : LeavesSpans (seen s p w) t
-  spans_left =
-      let word = ap (λ (x : State). x.word) is in
-      record { is = is ∙ ap (λ v. record (seen s p w) { word = v }) (sym word); known = λ a _ _ _. ap (λ (v : ℕ → ℕ). v a) word; headers = λ a _. ap (λ (v : ℕ → ℕ). v a) word }
-
-  drop_here : w ≡ t.cell p → w < 2 ^ 64 → is_dropped (read_of w) ≡ true → FindsDrop s t p
-  drop_here now fits dropped = record {
-    fits = subst (λ v. v < 2 ^ 64) now fits;
-    found = subst (Finds (s.cell p)) now f;
-    dropped = ap (λ v. is_dropped (read_of v)) (sym now) ∙ dropped;
-    leaves = subst (λ v. LeavesSpans (seen s p v) t) now spans_left;
-  }
-
   -- the order after a move, and where the object stayed
   order_carried : has_evac (read_of w) ≡ true → (after mid old : List ℕ) → mid ≡ old → (r : Result (Option Place) Refused) →
       IfOk r (λ o. MatchOption o (after ≡ mid) (λ place. after ≡ order_after t mid place)) → IfOk r (λ o. MatchOption o (after ≡ old) (λ place. after ≡ order_moved s p old place))
@@ -102,6 +89,12 @@ module _ (s t : State) (p w : ℕ) (f : Finds (s.cell p) w) (is : t ≡ seen s p
   now_stays unwanted set u (Some place) h = h ∙ ap (λ (x : State). stayed x p) set ∙ ap (λ b. cond b (moved s p place) (stayed s p)) (sym (evac_known false unwanted))
 
 -- ---- its owner has dropped it
+pub cell_of-found-requires-clause-pointer : goal.cell_of-found-requires-clause-pointer
+cell_of-found-requires-clause-pointer g c = c.requires.pointer
+
+pub cell_of-found-requires-clause-known : goal.cell_of-found-requires-clause-known
+cell_of-found-requires-clause-known g c = c.requires.known
+
 pub is_dropped-requires : goal.is_dropped-requires
 is_dropped-requires g c = some_found ((g.N.Near.view c.args.self.now.near).cell c.args.pointer) c.cell_of-found.result c.cell_of-found.ensures.found (ap is_some c.requires.quiet.near)
 
@@ -117,7 +110,7 @@ returns-then-is_dropped-clause-asked g c _ = refl
 pub returns-then-is_dropped-clause-found : goal.returns-then-is_dropped-clause-found
 returns-then-is_dropped-clause-found g c =
     let found = c.cell_of-found.ensures in
-    drop_here (g.N.Near.view c.args.self.now.near) (g.N.Near.view c.cell_of-found.new.self.near) c.args.pointer c.cell_of-found.result found.found found.kept found.now c.is_dropped.ensures.fits
+    drop_here (g.N.Near.view c.args.self.now.near) (g.N.Near.view c.cell_of-found.new.self.near) c.args.pointer c.cell_of-found.result found.found found.kept c.is_dropped.ensures.fits
     (sym c.is_dropped.ensures.value ∙ c.if-is_dropped.true)
 
 pub returns-then-is_dropped-clause-exact : goal.returns-then-is_dropped-clause-exact
@@ -287,3 +280,46 @@ returns-clause-exact g c still =
 pub returns-clause-dropped : goal.returns-clause-dropped
 returns-clause-dropped g c still =
     none_never c.stay.result _ (λ _. g.N.Near.view c.stay.new.self.near ≡ stayed (g.N.Near.view c.cell_of-found.new.self.near) c.args.pointer) (c.stay.ensures.exact still)
+
+-- ---- clauses that say nothing of this answer
+pub returns-then-is_dropped-clause-place : goal.returns-then-is_dropped-clause-place
+returns-then-is_dropped-clause-place g c = tt
+
+pub returns-then-is_dropped-clause-moved : goal.returns-then-is_dropped-clause-moved
+returns-then-is_dropped-clause-moved g c = tt
+
+pub returns-then-is_dropped-clause-refused : goal.returns-then-is_dropped-clause-refused
+returns-then-is_dropped-clause-refused g c = tt
+
+pub returns-then-is_dropped-clause-none : goal.returns-then-is_dropped-clause-none
+returns-then-is_dropped-clause-none g c = tt
+
+pub returns-then-is_dropped-clause-seen : goal.returns-then-is_dropped-clause-seen
+returns-then-is_dropped-clause-seen g c = tt
+
+pub returns-then-is_dropped-clause-words : goal.returns-then-is_dropped-clause-words
+returns-then-is_dropped-clause-words g c = tt
+
+pub returns-then-is_dropped-clause-kept : goal.returns-then-is_dropped-clause-kept
+returns-then-is_dropped-clause-kept g c = tt
+
+pub returns-then-is_dropped-clause-unchanged : goal.returns-then-is_dropped-clause-unchanged
+returns-then-is_dropped-clause-unchanged g c still = tt
+
+pub returns-clause-refused : goal.returns-clause-refused
+returns-clause-refused g c = tt
+
+pub returns-clause-none : goal.returns-clause-none
+returns-clause-none g c = tt
+
+pub returns-clause-seen : goal.returns-clause-seen
+returns-clause-seen g c = tt
+
+pub returns-clause-words : goal.returns-clause-words
+returns-clause-words g c = tt
+
+pub returns-clause-kept : goal.returns-clause-kept
+returns-clause-kept g c = tt
+
+pub returns-clause-unchanged : goal.returns-clause-unchanged
+returns-clause-unchanged g c still = tt
