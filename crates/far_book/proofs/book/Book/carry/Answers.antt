@@ -178,3 +178,46 @@ returns-clause-came g c = came g (goal.at.returns-clause-came g c).After-move_ob
 
 pub returns-clause-device : goal.returns-clause-device
 returns-clause-device g c = ap (λ (b : BookOf g.row.N.Denot g.row.D.Denot). b.device) c.self.view_is
+
+-- ---- clauses that say nothing of this answer
+pub returns-in_default-room-clause-place : goal.returns-in_default-room-clause-place
+returns-in_default-room-clause-place g c = tt
+
+pub returns-in_default-room-clause-moved : goal.returns-in_default-room-clause-moved
+returns-in_default-room-clause-moved g c = tt
+
+pub returns-in_default-room-clause-order : goal.returns-in_default-room-clause-order
+returns-in_default-room-clause-order g c = tt
+
+pub returns-in_default-room-clause-dropped : goal.returns-in_default-room-clause-dropped
+returns-in_default-room-clause-dropped g c = tt
+
+pub returns-in_default-room-clause-exact : goal.returns-in_default-room-clause-exact
+returns-in_default-room-clause-exact g c still = tt
+
+pub returns-then-not-move_object-clause-place : goal.returns-then-not-move_object-clause-place
+returns-then-not-move_object-clause-place g c = tt
+
+pub returns-then-not-move_object-clause-moved : goal.returns-then-not-move_object-clause-moved
+returns-then-not-move_object-clause-moved g c = tt
+
+pub returns-then-not-move_object-clause-refused : goal.returns-then-not-move_object-clause-refused
+returns-then-not-move_object-clause-refused g c = tt
+
+pub returns-then-not-move_object-clause-none : goal.returns-then-not-move_object-clause-none
+returns-then-not-move_object-clause-none g c = tt
+
+pub returns-then-not-move_object-clause-unchanged : goal.returns-then-not-move_object-clause-unchanged
+returns-then-not-move_object-clause-unchanged g c = tt
+
+pub returns-clause-dropped : goal.returns-clause-dropped
+returns-clause-dropped g c = tt
+
+pub returns-clause-refused : goal.returns-clause-refused
+returns-clause-refused g c = tt
+
+pub returns-clause-none : goal.returns-clause-none
+returns-clause-none g c = tt
+
+pub returns-clause-unchanged : goal.returns-clause-unchanged
+returns-clause-unchanged g c = tt
