@@ -162,3 +162,31 @@ returns-clause-order g c = ap (λ (n : Ledger). n.order) c.lose.ensures.rest ∙
 
 pub returns-clause-device : goal.returns-clause-device
 returns-clause-device g c = ap (λ (b : BookOf g.row.N.Denot g.row.D.Denot). b.device) c.self.view_is
+
+-- ---- clauses that say nothing of this answer
+pub returns-in-Err-clause-far : goal.returns-in-Err-clause-far
+returns-in-Err-clause-far g c = tt
+
+pub returns-in-Err-clause-renamed : goal.returns-in-Err-clause-renamed
+returns-in-Err-clause-renamed g c = tt
+
+pub returns-in-Err-clause-won_by : goal.returns-in-Err-clause-won_by
+returns-in-Err-clause-won_by g c = tt
+
+pub returns-in-Err-clause-forgot : goal.returns-in-Err-clause-forgot
+returns-in-Err-clause-forgot g c = tt
+
+pub returns-in-Err-clause-set : goal.returns-in-Err-clause-set
+returns-in-Err-clause-set g c still = tt
+
+pub returns-clause-won : goal.returns-clause-won
+returns-clause-won g c still = tt
+
+pub returns-clause-found : goal.returns-clause-found
+returns-clause-found g c = tt
+
+pub returns-clause-stopped : goal.returns-clause-stopped
+returns-clause-stopped g c = tt
+
+pub returns-clause-kept : goal.returns-clause-kept
+returns-clause-kept g c = tt
