@@ -131,3 +131,16 @@ returns-in-Err-clause-order g c = c.name_far.ensures.order
 
 pub returns-in-Err-clause-device : goal.returns-in-Err-clause-device
 returns-in-Err-clause-device g c = c.name_far.ensures.device
+
+-- ---- clauses that say nothing of this answer
+pub returns-in-Ok-clause-found : goal.returns-in-Ok-clause-found
+returns-in-Ok-clause-found g c = tt
+
+pub returns-in-Ok-clause-kept : goal.returns-in-Ok-clause-kept
+returns-in-Ok-clause-kept g c = tt
+
+pub returns-in-Ok-clause-marked : goal.returns-in-Ok-clause-marked
+returns-in-Ok-clause-marked g c = tt
+
+pub returns-in-Ok-clause-won : goal.returns-in-Ok-clause-won
+returns-in-Ok-clause-won g c still = tt
