@@ -81,3 +81,19 @@ returns-in-Err-clause-order g c = ap (λ (b : BookOf g.row.N.Denot g.row.D.Denot
 
 pub returns-in-Err-clause-device : goal.returns-in-Err-clause-device
 returns-in-Err-clause-device g c = ap (λ (b : BookOf g.row.N.Denot g.row.D.Denot). b.device) c.self.view_is
+
+-- ---- clauses that say nothing of this answer
+pub returns-in-Ok-clause-other : goal.returns-in-Ok-clause-other
+returns-in-Ok-clause-other g c = tt
+
+pub returns-in-Ok-clause-found : goal.returns-in-Ok-clause-found
+returns-in-Ok-clause-found g c = tt
+
+pub returns-in-Ok-clause-kept : goal.returns-in-Ok-clause-kept
+returns-in-Ok-clause-kept g c = tt
+
+pub returns-in-Ok-clause-won : goal.returns-in-Ok-clause-won
+returns-in-Ok-clause-won g c still = tt
+
+pub returns-in-Err-clause-done : goal.returns-in-Err-clause-done
+returns-in-Err-clause-done g c = tt
