@@ -61,6 +61,12 @@ module _ (g : Over) (c : After-cell_of-found g) where
 says : (g : Over) (c : In-Near g) → read_of c.cell_of-found.result ≡ Some (Near c.in-Near.len c.in-Near.ds c.in-Near.place c.in-Near.marks)
 says g c = c.known.ensures ∙ ap (λ v. Some v) c.in-Near.is
 
+pub cell_of-found-requires-clause-pointer : goal.cell_of-found-requires-clause-pointer
+cell_of-found-requires-clause-pointer g c = c.requires.pointer
+
+pub cell_of-found-requires-clause-known : goal.cell_of-found-requires-clause-known
+cell_of-found-requires-clause-known g c = c.requires.known
+
 pub known-requires : goal.known-requires
 known-requires g c = ap is_some (near_so g (goal.at.known-requires g c).After-cell_of-found).near
 
