@@ -175,3 +175,37 @@ returns-clause-order g c = c.loop-at.invariant.order
 
 pub returns-clause-device : goal.returns-clause-device
 returns-clause-device g c = c.loop-at.invariant.device
+
+-- ---- clauses that say nothing of this answer
+pub returns-then-none_lives-clause-first : goal.returns-then-none_lives-clause-first
+returns-then-none_lives-clause-first g c = tt
+
+pub returns-then-none_lives-clause-next : goal.returns-then-none_lives-clause-next
+returns-then-none_lives-clause-next g c = tt
+
+pub returns-then-none_lives-clause-inside : goal.returns-then-none_lives-clause-inside
+returns-then-none_lives-clause-inside g c = tt
+
+pub returns-then-none_lives-clause-lies : goal.returns-then-none_lives-clause-lies
+returns-then-none_lives-clause-lies g c = tt
+
+pub returns-then-none_lives-clause-cell : goal.returns-then-none_lives-clause-cell
+returns-then-none_lives-clause-cell g c = tt
+
+pub returns-then-names_place-clause-none : goal.returns-then-names_place-clause-none
+returns-then-names_place-clause-none g c = tt
+
+pub returns-clause-first : goal.returns-clause-first
+returns-clause-first g c = tt
+
+pub returns-clause-next : goal.returns-clause-next
+returns-clause-next g c = tt
+
+pub returns-clause-inside : goal.returns-clause-inside
+returns-clause-inside g c = tt
+
+pub returns-clause-lies : goal.returns-clause-lies
+returns-clause-lies g c = tt
+
+pub returns-clause-cell : goal.returns-clause-cell
+returns-clause-cell g c = tt
