@@ -63,12 +63,21 @@ impl Ledger {
         let sets = SETS * shape.mutators as usize;
         let mut free_logs = NumberSet::below(shape.logs as u8);
         free_logs.remove(0);
+        let Ok(filled) = vec![in alloc; Filled { tail: 0, live: 0 }; logs] else {
+            return Err(AllocError);
+        };
+        let Ok(order) = Order::new(alloc) else {
+            return Err(AllocError);
+        };
+        let Ok(free_cells) = vec![in alloc; NumberSet::below(64); sets] else {
+            return Err(AllocError);
+        };
         Ok(Ledger {
             current: 0,
             free_logs,
-            filled: vec![in alloc; Filled { tail: 0, live: 0 }; logs]?,
-            order: Order::new(alloc)?,
-            free_cells: vec![in alloc; NumberSet::below(64); sets]?,
+            filled,
+            order,
+            free_cells,
             jobs: Jobs::new(),
         })
     }
