@@ -28,7 +28,7 @@ use std::alloc::{AllocError, Global};
 pub(crate) const SETS: usize = CELLS as usize / 64;
 
 /// What one log has.
-#[derive(Clone, Copy, Debug, PartialEq, Eq)]
+#[derive(Clone, Copy)]
 pub(crate) struct Filled {
     /// Where its spans end, in words.
     pub(crate) tail: u16,
@@ -37,7 +37,7 @@ pub(crate) struct Filled {
 }
 
 /// What the book has written down of logs, cells and jobs. All its room is taken when it is made.
-#[derive(Debug, Drop)]
+#[derive(Drop)]
 pub(crate) struct Ledger {
     /// The open log.
     pub(crate) current: u8,
