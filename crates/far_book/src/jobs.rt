@@ -10,7 +10,7 @@ use crate::number_set::NumberSet;
 use far_word::{JOBS, Job, Place, PtrWord};
 
 /// What is written down of a job that isn't empty.
-#[derive(Clone, Copy, Debug, PartialEq, Eq)]
+#[derive(Clone, Copy)]
 pub(crate) struct Noted {
     /// Whose object is copied, from where to where.
     pub(crate) job: Job,
@@ -19,7 +19,7 @@ pub(crate) struct Noted {
 }
 
 /// What is written down of all jobs.
-#[derive(Debug, Drop)]
+#[derive(Drop)]
 pub(crate) struct Jobs {
     pub(crate) noted: [Option<Noted>; JOBS as usize],
     /// The jobs that aren't empty.

@@ -28,7 +28,7 @@ use std::alloc::{AllocError, Global};
 pub(crate) const SETS: usize = CELLS as usize / 64;
 
 /// What one log has.
-#[derive(Clone, Copy, Debug, PartialEq, Eq)]
+#[derive(Clone, Copy)]
 pub(crate) struct Filled {
     /// Where its spans end, in words.
     pub(crate) tail: u16,
@@ -37,7 +37,7 @@ pub(crate) struct Filled {
 }
 
 /// What the book has written down of logs, cells and jobs. All its room is taken when it is made.
-#[derive(Debug, Drop)]
+#[derive(Drop)]
 pub(crate) struct Ledger {
     /// The open log.
     pub(crate) current: u8,
@@ -63,12 +63,21 @@ impl Ledger {
         let sets = SETS * shape.mutators as usize;
         let mut free_logs = NumberSet::below(shape.logs as u8);
         free_logs.remove(0);
+        let Ok(filled) = vec![in alloc; Filled { tail: 0, live: 0 }; logs] else {
+            return Err(AllocError);
+        };
+        let Ok(order) = Order::new(alloc) else {
+            return Err(AllocError);
+        };
+        let Ok(free_cells) = vec![in alloc; NumberSet::below(64); sets] else {
+            return Err(AllocError);
+        };
         Ok(Ledger {
             current: 0,
             free_logs,
-            filled: vec![in alloc; Filled { tail: 0, live: 0 }; logs]?,
-            order: Order::new(alloc)?,
-            free_cells: vec![in alloc; NumberSet::below(64); sets]?,
+            filled,
+            order,
+            free_cells,
             jobs: Jobs::new(),
         })
     }

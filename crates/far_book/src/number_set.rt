@@ -4,7 +4,7 @@ ghost use Rattle.std.specs.Prelude.{◌≡◌, ◌<◌, ◌≤◌, ◌==◌, ◌
 ghost use Rattle.far_book.specs.book.NumberSet.{has, IsLowest};
 
 /// A set of numbers below 64: bit `k` of the word is set where `k` is in the set.
-#[derive(Clone, Copy, Debug, PartialEq, Eq)]
+#[derive(Clone, Copy)]
 pub(crate) struct NumberSet {
     word: u64,
 }

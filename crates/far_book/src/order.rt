@@ -15,7 +15,7 @@ use std::marker::Model;
 const MOST_SEALED: usize = MOST_LOGS as usize;
 
 /// The sealed logs, oldest first. One that leaves is noted as gone; the next one that is sealed takes all such out of the list at once.
-#[derive(Debug, Drop)]
+#[derive(Drop)]
 pub(crate) struct Order {
     listed: Vec<u8>,
     gone: NumberSet,

@@ -1,5 +1,5 @@
 -- What is done by the word found in a cell is what the word known of it says.
-use Rattle.std.proofs.Common.{◌≡◌, ℕ, sym, refl, ap, subst, ◌∙◌, Option, Some, None, Ok, Err}
+use Rattle.std.proofs.Common.{◌≡◌, ◌^◌, ◌<◌, ℕ, true, sym, refl, ap, subst, ◌∙◌, Option, Some, None, Ok, Err}
 use Rattle.std.specs.Prelude.{IfOk, IfSome, IfNone}
 use Rattle.std.specs.declared.result.Result.{Result}
 use Rattle.far_word.specs.declared.pointer.Place.{Place}
@@ -7,10 +7,11 @@ use Rattle.far_word.specs.declared.pointer.PtrWord.{PtrWord}
 use Rattle.far_word.specs.declared.pointer.PtrWord.TheVariants.{Free}
 use Rattle.far_word.specs.declared.refused.Refused.{Refused}
 use Rattle.far_word.specs.Pointer.{read_of}
+use Rattle.far_core.specs.events.Naming.{is_dropped}
 use Rattle.far_core.specs.state.State.{State}
 use Rattle.far_core.proofs.Put.{put_same}
 use Rattle.far_hand.specs.Finds.{Finds, body_of}
-use Rattle.far_book.specs.book.Dealing.{FindsDrop, Leaves, MovedBy, goal, goal_of, moved_now}
+use Rattle.far_book.specs.book.Dealing.{FindsDrop, Leaves, LeavesSpans, MovedBy, goal, goal_of, moved_now}
 use Rattle.far_book.specs.book.Renaming.{seen}
 use Rattle.far_hand.proofs.Finding.{finds_more}
 use Rattle.far_book.proofs.region.Calls.{put_put}
@@ -75,3 +76,20 @@ module _ (s : State) (p w : ℕ) (f : Finds (s.cell p) w) where
 
   pub moved_by_found : (t u : State) (place : Place) → t ≡ then → MovedBy t u p place → MovedBy s u p place
   moved_by_found t u place is x = moved_seen u place (subst (λ (y : State). MovedBy y u p place) is x)
+
+-- a word with DROP was found, and nothing else has changed
+module _ (s t : State) (p w : ℕ) (f : Finds (s.cell p) w) (is : t ≡ seen s p w) where
+  spans_left : LeavesSpans (seen s p w) t
+  spans_left =
+      let word = ap (λ (x : State). x.word) is in
+      record { is = is ∙ ap (λ v. record (seen s p w) { word = v }) (sym word); known = λ a _ _ _. ap (λ (v : ℕ → ℕ). v a) word; headers = λ a _. ap (λ (v : ℕ → ℕ). v a) word }
+
+  pub drop_here : w < 2 ^ 64 → is_dropped (read_of w) ≡ true → FindsDrop s t p
+  drop_here fits dropped =
+      let now : w ≡ t.cell p = sym (ap (λ (x : State). x.cell p) is ∙ put_same s.cell p w p refl) in
+      record {
+        fits = subst (λ v. v < 2 ^ 64) now fits;
+        found = subst (Finds (s.cell p)) now f;
+        dropped = ap (λ v. is_dropped (read_of v)) (sym now) ∙ dropped;
+        leaves = subst (λ v. LeavesSpans (seen s p v) t) now spans_left;
+      }

@@ -147,7 +147,6 @@ impl<N: Near + Drop, D: Device + Drop> Book<N, D> {
         ensures order { self.new.order ≡ self.old.order }
         ensures device { self.new.device ≡ self.old.device }
     {
-        self.keeps_law();
         let PtrWord::Near { len, ds, .. } = PtrWord::known(cell) else {
             unreachable!()
         };

@@ -73,7 +73,6 @@ impl<N: Near + Drop, D: Device + Drop> Book<N, D> {
         ensures unchanged { N.still → IfErr result (λ _. N.view self.new.near ≡ N.view self.old.near) }
         ensures came { Came N.makes self.old.near self.new.near }
     {
-        self.keeps_law();
         let found = self.cell_of(pointer, known);
         if is_dropped(found) {
             return Ok(None);

@@ -1,5 +1,5 @@
 use Rattle.far_book.proofs.book.free_cell.Goals as goal
-use Rattle.std.proofs.Common.{◌∙◌, ◌*◌, ◌<◌, ◌^◌, ap, sym, subst, arith, rules}
+use Rattle.std.proofs.Common.{◌∙◌, ◌*◌, ◌<◌, ◌^◌, ap, sym, subst, arith}
 use Rattle.far_word.specs.declared.sizes.TheConstants.{CELLS}
 use Rattle.far_word.specs.Pointer.{read_of}
 use Rattle.far_word.proofs.PointerLaws.{word_fits}
@@ -63,12 +63,12 @@ name-requires-clause-known g c len place n i lt = absurd (not_to_free _ len plac
 
 pub loop-init : goal.loop-init
 loop-init g c = record {
-  found = search rules;
-  kept = search rules;
+  found = c.see-word.ensures.found;
+  kept = c.see-word.ensures.kept;
   came = first_call _ _ c.see-word.ensures.made;
-  is = search rules;
-  layout = search rules;
-  word = search rules;
+  is = c.says-was.ensures.is;
+  layout = c.says-was.ensures.layout;
+  word = c.says-was.ensures.word;
   tries = dropped_counts (read_of c.see-word.result) (drop_found _ c.see-word.result c.see-word.ensures.found c.requires.dropped);
 }
 

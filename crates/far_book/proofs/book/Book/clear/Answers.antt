@@ -1,5 +1,6 @@
 use Rattle.far_book.proofs.book.Book.clear.Goals as goal
-use Rattle.std.proofs.Common.{refl, rules, sym, subst, arith}
+use Rattle.std.proofs.Common.{refl, sym, subst, arith}
+use Rattle.far_book.specs.book.HandedOn.{ClearsCell}
 use Rattle.far_core.specs.declared.event.Event.TheVariants.{Clear}
 use Rattle.far_core.specs.events.Legal.{Legal}
 use Rattle.far_book.specs.book.BookOf.{BookOf}
@@ -7,7 +8,6 @@ use Rattle.far_book.proofs.region.JobNotes.{idle}
 use Rattle.far_book.proofs.region.Rounding.{cleared_keeps}
 use Rattle.far_hand.proofs.Closure.{first_call}
 use Rattle.far_hand.proofs.Finding.{near_found}
-use Rattle.far_book.proofs.region.Handed.{since_book}
 
 pub leave_round-requires : goal.leave_round-requires
 leave_round-requires g c =
@@ -31,15 +31,19 @@ invariant_of-self g c =
     )
 
 pub returns : goal.returns
-returns g c = record {
-  made = search rules;
-  came = since_book c.self.view_is (first_call _ _ c.clear-found.ensures.made);
-  found = search rules;
-  kept = search rules;
-  forgot = search rules;
-  exact = search rules;
-  set = search rules;
-  ran = search rules;
-  order = search rules;
-  device = search rules;
-}
+returns g c =
+    let told = c.clear-found.ensures in
+    let legal = subst (λ (b : BookOf g.row.N.Denot g.row.D.Denot). Legal (g.N.Near.view b.near) (Clear c.args.pointer)) (sym c.self.view_is) c.requires.legal in
+    let new : BookOf g.row.N.Denot g.row.D.Denot = record { near = c.clear-found.new.self; device = c.self.inside.device; order = c.self.inside.ledger.order } in
+    subst (λ (b : BookOf g.row.N.Denot g.row.D.Denot). ClearsCell g.N.Near.still g.N.Near.view g.N.Near.makes b new c.args.pointer c.clear-found.result) c.self.view_is record {
+      made = told.made;
+      came = first_call _ _ told.made;
+      found = told.found;
+      kept = told.kept;
+      forgot = told.forgot;
+      exact = told.exact;
+      set = told.set;
+      ran = λ still. record { rounds = refl; legal = legal; after = told.set still };
+      order = refl;
+      device = refl;
+    }

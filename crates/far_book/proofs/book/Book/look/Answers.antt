@@ -1,10 +1,13 @@
 use Rattle.far_book.proofs.book.Book.look.Goals as goal
-use Rattle.std.proofs.Common.{rules, sym, subst}
+use Rattle.std.proofs.Common.{refl, sym, subst}
+use Rattle.far_core.specs.declared.event.Event.TheVariants.{Look}
+use Rattle.far_core.specs.events.Legal.{Legal}
+use Rattle.far_book.specs.book.BookOf.{BookOf}
+use Rattle.far_book.specs.book.HandedOn.{LooksAtScope}
 use Rattle.far_core.specs.state.State.{State}
 use Rattle.far_book.specs.book.FarSide.{InOrder}
 use Rattle.far_book.proofs.region.Rounding.{looked_keeps}
 use Rattle.far_hand.proofs.Closure.{first_call}
-use Rattle.far_book.proofs.region.Handed.{since_book}
 
 pub invariant_of-self : goal.invariant_of-self
 invariant_of-self g c = (
@@ -14,15 +17,19 @@ invariant_of-self g c = (
 )
 
 pub returns : goal.returns
-returns g c = record {
-  made = search rules;
-  came = since_book c.self.view_is (first_call _ _ c.look.ensures.made);
-  scope = search rules;
-  kept = search rules;
-  exact = search rules;
-  set = search rules;
-  saw = search rules;
-  ran = search rules;
-  order = search rules;
-  device = search rules;
-}
+returns g c =
+    let told = c.look.ensures in
+    let legal = subst (λ (b : BookOf g.row.N.Denot g.row.D.Denot). Legal (g.N.Near.view b.near) (Look c.args.owner)) (sym c.self.view_is) c.requires.legal in
+    let new : BookOf g.row.N.Denot g.row.D.Denot = record { near = c.look.new.self; device = c.self.inside.device; order = c.self.inside.ledger.order } in
+    subst (λ (b : BookOf g.row.N.Denot g.row.D.Denot). LooksAtScope g.N.Near.still g.N.Near.view g.N.Near.makes g.N.Near.may_be b new c.args.owner c.look.result) c.self.view_is record {
+      made = told.made;
+      came = first_call _ _ told.made;
+      scope = told.scope;
+      kept = told.kept;
+      exact = told.exact;
+      set = told.set;
+      saw = told.saw;
+      ran = λ still. record { rounds = refl; legal = legal; after = told.set still };
+      order = refl;
+      device = refl;
+    }

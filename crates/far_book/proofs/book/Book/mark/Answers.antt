@@ -1,5 +1,6 @@
 use Rattle.far_book.proofs.book.Book.mark.Goals as goal
-use Rattle.std.proofs.Common.{rules, sym, subst, arith}
+use Rattle.std.proofs.Common.{refl, sym, subst, arith}
+use Rattle.far_book.specs.book.HandedOn.{MarksCell}
 use Rattle.far_core.specs.declared.event.Event.TheVariants.{Mark}
 use Rattle.far_core.specs.events.Legal.{Legal}
 use Rattle.far_core.specs.state.State.{State}
@@ -7,7 +8,6 @@ use Rattle.far_book.specs.book.BookOf.{BookOf}
 use Rattle.far_book.specs.book.FarSide.{InOrder}
 use Rattle.far_book.proofs.region.Marked.{found_marked}
 use Rattle.far_hand.proofs.Closure.{first_call}
-use Rattle.far_book.proofs.region.Handed.{since_book}
 
 pub invariant_of-self : goal.invariant_of-self
 invariant_of-self g c =
@@ -21,14 +21,18 @@ invariant_of-self g c =
     )
 
 pub returns : goal.returns
-returns g c = record {
-  made = search rules;
-  came = since_book c.self.view_is (first_call _ _ c.mark.ensures.made);
-  found = search rules;
-  kept = search rules;
-  exact = search rules;
-  set = search rules;
-  ran = search rules;
-  order = search rules;
-  device = search rules;
-}
+returns g c =
+    let told = c.mark.ensures in
+    let legal = subst (λ (b : BookOf g.row.N.Denot g.row.D.Denot). Legal (g.N.Near.view b.near) (Mark c.args.pointer)) (sym c.self.view_is) c.requires.legal in
+    let new : BookOf g.row.N.Denot g.row.D.Denot = record { near = c.mark.new.self; device = c.self.inside.device; order = c.self.inside.ledger.order } in
+    subst (λ (b : BookOf g.row.N.Denot g.row.D.Denot). MarksCell g.N.Near.still g.N.Near.view g.N.Near.makes b new c.args.pointer c.mark.result) c.self.view_is record {
+      made = told.made;
+      came = first_call _ _ told.made;
+      found = told.found;
+      kept = told.kept;
+      exact = told.exact;
+      set = told.set;
+      ran = λ still. record { rounds = refl; legal = legal; after = told.set still };
+      order = refl;
+      device = refl;
+    }

@@ -1,18 +1,21 @@
 use Rattle.far_book.proofs.book.Book.place.Given.{Over}
 use Rattle.far_book.proofs.book.Book.place.Goals.{After-room, In-Some}
 use Rattle.far_book.proofs.book.Book.place.Goals as goal
-use Rattle.std.proofs.Common.{◌≡◌, ◌∙◌, ◌*◌, ◌<◌, ap, refl, rules, sym, subst}
+use Rattle.std.proofs.Common.{◌≡◌, ◌∙◌, ◌*◌, ◌<◌, ap, refl, sym, subst}
 use Rattle.std.specs.Prelude.{Some, true, false}
 use Rattle.std.proofs.lemmas.Bool.{false≢true}
 use Rattle.far_word.specs.declared.sizes.TheConstants.{CELLS}
 use Rattle.far_word.specs.Sizes.{size_of}
 use Rattle.far_core.specs.state.Room.{room}
 use Rattle.far_core.specs.state.State.{State}
+use Rattle.far_hand.specs.Known.{Forgets}
+use Rattle.far_hand.proofs.Closure.{no_call}
 use Rattle.far_book.specs.book.BookOf.{BookOf}
-use Rattle.far_book.specs.book.Effects.{placed}
+use Rattle.far_book.specs.book.Effects.{order_after, placed}
 use Rattle.far_book.specs.book.Ledger.{Notes, MayTake, Takes}
 use Rattle.far_book.specs.book.Own.{own_part}
 use Rattle.far_book.proofs.region.Calls.{HasRoom, ends, free_unplaced, may_take, placeable}
+use Rattle.far_book.proofs.region.Handed.{since_book}
 use Rattle.far_book.proofs.region.InOrders.{placed_far, placed_honest}
 use Rattle.far_book.proofs.region.NotesKept.{notes_placed}
 use Rattle.far_book.proofs.region.Owns.{own_named}
@@ -75,18 +78,18 @@ invariant_of-self g c =
 
 pub returns-in_default : goal.returns-in_default
 returns-in_default g c = record {
-  came = search rules;
+  came = no_call refl;
   room = tt;
   kept = tt;
   forgot = tt;
   exact = λ _. tt;
   order = tt;
-  device = search rules;
-  refused = search rules;
+  device = refl;
+  refused = refl;
   none = let h = (goal.at.returns-in_default g c).After-room in
       ap (λ (s : State). room s (size_of c.args.len) true) (sym (same g h)) ∙ told g h ∙ c.in_default.is;
-  unchanged = search rules;
-  ran = search rules;
+  unchanged = refl;
+  ran = λ _. refl;
 }
 
 pub returns : goal.returns
@@ -94,14 +97,16 @@ returns g c =
     let same = ap (λ (b : BookOf g.row.N.Denot g.row.D.Denot). g.N.Near.view b.near) c.self.view_is in
     let h = (goal.at.returns g c).After-room in
     let found : room (g.N.Near.view c.args.self.now.near) (size_of c.args.len) true ≡ Some c.in-Some.place = ap (λ (t : State). room t (size_of c.args.len) true) (sym same) ∙ told g h ∙ c.in-Some.is in
+    let exact = λ (still : g.N.Near.still). c.name_blank.ensures.exact still ∙ ap (λ (t : State). placed t c.args.pointer c.args.len c.args.ds c.in-Some.place) same in
     record {
-      came = search rules;
+      came = since_book c.self.view_is c.name_blank.ensures.came;
       room = found;
-      kept = search rules;
-      forgot = search rules;
-      exact = search rules;
-      order = search rules;
-      device = search rules;
+      kept = c.name_blank.ensures.kept ∙ ap (λ (t : State). record (placed t c.args.pointer c.args.len c.args.ds c.in-Some.place) { word = (g.N.Near.view c.name_blank.new.near).word }) same;
+      forgot = subst (λ (t : State). Forgets (placed t c.args.pointer c.args.len c.args.ds c.in-Some.place) (g.N.Near.view c.name_blank.new.near)) same c.name_blank.ensures.forgot;
+      exact = exact;
+      order = c.take.ensures.order ∙ ap (λ n. order_after (record (g.N.Near.view c.self.inside.near) { current = n }) c.self.inside.ledger.order c.in-Some.place) c.self.invariant.0.notes.current
+          ∙ ap (λ (b : BookOf g.row.N.Denot g.row.D.Denot). order_after (g.N.Near.view b.near) b.order c.in-Some.place) c.self.view_is;
+      device = ap (λ (b : BookOf g.row.N.Denot g.row.D.Denot). b.device) c.self.view_is;
       refused = tt;
       none = tt;
       unchanged = tt;
@@ -112,6 +117,6 @@ returns g c =
         most = c.requires.most;
         structure = c.ranges.ds.fits;
         found = found;
-        after = c.name_blank.ensures.exact still ∙ ap (λ (t : State). placed t c.args.pointer c.args.len c.args.ds c.in-Some.place) same;
+        after = exact still;
       };
     }

@@ -2,7 +2,7 @@ use Rattle.far_book.proofs.book.Book.release.Given.{Over}
 use Rattle.far_book.proofs.book.Book.release.Goals.{After-copies_at}
 use Rattle.far_book.proofs.book.Book.release.Goals as goal
 use Rattle.std.proofs.Common.{◌≡◌, ◌<◌, ◌∙◌, ap, arith, refl, subst, sym, true, false}
-use Rattle.std.proofs.lemmas.Bool.{eq-eqb, eqb-true, false≢true}
+use Rattle.std.proofs.lemmas.Bool.{eq-eqb, eqb-true, false≢true, true≢false}
 use Rattle.far_core.specs.declared.event.Event.TheVariants.{Get}
 use Rattle.far_core.specs.declared.event.Kind.TheVariants.{Sealed}
 use Rattle.far_core.specs.events.Get.{IsUncopied, IsVacant}
@@ -11,9 +11,11 @@ use Rattle.far_core.specs.laws.Observed.{live_bytes}
 use Rattle.far_core.specs.state.State.{State}
 use Rattle.far_book.specs.book.BookOf.{BookOf}
 use Rattle.far_book.specs.book.Own.{own_part}
+use Rattle.far_book.specs.book.Releasing.{order_without, released}
+use Rattle.far_hand.specs.Known.{Forgets}
 use Rattle.far_book.proofs.region.JobNotes.{idle, none_copies, some_copies}
 use Rattle.far_book.proofs.region.Releasing.{released_keeps, vacant_fact, vacant_test}
-use Rattle.far_hand.proofs.Closure.{first_call}
+use Rattle.far_hand.proofs.Closure.{first_call, no_call}
 use Rattle.far_book.proofs.region.Handed.{since_book}
 
 -- ---- once it was asked for jobs
@@ -34,6 +36,11 @@ module _ (g : Over) (c : After-copies_at g) where
 
 uncopied : (g : Over) (c : After-copies_at g) → c.copies_at.result ≡ false → IsUncopied (g.N.Near.view c.self.inside.near).copying c.args.log
 uncopied g c none = none_copies (g.N.Near.view c.self.inside.near) c.self.inside.ledger c.self.invariant.0.notes c.args.log (c.copies_at.ensures.none none)
+
+pub is_vacant-requires : goal.is_vacant-requires
+is_vacant-requires g c =
+    let low = subst (λ (b : BookOf g.row.N.Denot g.row.D.Denot). c.args.log < (g.N.Near.view b.near).logs) (sym c.self.view_is) c.requires.log in
+    record { known = (own_part (g.N.Near.view c.self.inside.near), (c.self.invariant.0.notes, low)) }
 
 pub copies_at-requires : goal.copies_at-requires
 copies_at-requires g c =
@@ -69,6 +76,33 @@ returns-then-not-is_vacant-clause-vacant g c =
           ∙ eq-eqb (live_bytes (own_part s) c.args.log) 0 (vacant_test (own_part s) c.self.invariant.0.notes.law c.args.log (subst (λ (u : State). IsVacant u c.args.log) (sym same) free.0)))),
     )
 
+pub returns-then-not-is_vacant-clause-kept : goal.returns-then-not-is_vacant-clause-kept
+returns-then-not-is_vacant-clause-kept g c odd = absurd (false≢true odd)
+
+pub returns-then-not-is_vacant-clause-forgot : goal.returns-then-not-is_vacant-clause-forgot
+returns-then-not-is_vacant-clause-forgot g c odd = absurd (false≢true odd)
+
+pub returns-then-not-is_vacant-clause-exact : goal.returns-then-not-is_vacant-clause-exact
+returns-then-not-is_vacant-clause-exact g c still odd = absurd (false≢true odd)
+
+pub returns-then-not-is_vacant-clause-ran : goal.returns-then-not-is_vacant-clause-ran
+returns-then-not-is_vacant-clause-ran g c still odd = absurd (false≢true odd)
+
+pub returns-then-not-is_vacant-clause-order : goal.returns-then-not-is_vacant-clause-order
+returns-then-not-is_vacant-clause-order g c odd = absurd (false≢true odd)
+
+pub returns-then-not-is_vacant-clause-gives : goal.returns-then-not-is_vacant-clause-gives
+returns-then-not-is_vacant-clause-gives g c = no_call refl
+
+pub returns-then-not-is_vacant-clause-came : goal.returns-then-not-is_vacant-clause-came
+returns-then-not-is_vacant-clause-came g c = no_call refl
+
+pub returns-then-not-is_vacant-clause-device : goal.returns-then-not-is_vacant-clause-device
+returns-then-not-is_vacant-clause-device g c = refl
+
+pub returns-then-not-is_vacant-clause-unchanged : goal.returns-then-not-is_vacant-clause-unchanged
+returns-then-not-is_vacant-clause-unchanged g c _ = refl
+
 pub returns-then-copies_at-clause-vacant : goal.returns-then-copies_at-clause-vacant
 returns-then-copies_at-clause-vacant g c =
     let h = (goal.at.returns-then-copies_at-clause-vacant g c).After-copies_at in
@@ -76,6 +110,33 @@ returns-then-copies_at-clause-vacant g c =
       λ e. absurd (false≢true e),
       λ free. absurd (some_copies (g.N.Near.view c.self.inside.near) c.self.inside.ledger c.self.invariant.0.notes c.args.log x.0 x.2 (subst (λ (u : State). IsUncopied u.copying c.args.log) (sym (same g h)) free.1)),
     )
+
+pub returns-then-copies_at-clause-kept : goal.returns-then-copies_at-clause-kept
+returns-then-copies_at-clause-kept g c odd = absurd (false≢true odd)
+
+pub returns-then-copies_at-clause-forgot : goal.returns-then-copies_at-clause-forgot
+returns-then-copies_at-clause-forgot g c odd = absurd (false≢true odd)
+
+pub returns-then-copies_at-clause-exact : goal.returns-then-copies_at-clause-exact
+returns-then-copies_at-clause-exact g c still odd = absurd (false≢true odd)
+
+pub returns-then-copies_at-clause-ran : goal.returns-then-copies_at-clause-ran
+returns-then-copies_at-clause-ran g c still odd = absurd (false≢true odd)
+
+pub returns-then-copies_at-clause-order : goal.returns-then-copies_at-clause-order
+returns-then-copies_at-clause-order g c odd = absurd (false≢true odd)
+
+pub returns-then-copies_at-clause-gives : goal.returns-then-copies_at-clause-gives
+returns-then-copies_at-clause-gives g c = no_call refl
+
+pub returns-then-copies_at-clause-came : goal.returns-then-copies_at-clause-came
+returns-then-copies_at-clause-came g c = no_call refl
+
+pub returns-then-copies_at-clause-device : goal.returns-then-copies_at-clause-device
+returns-then-copies_at-clause-device g c = refl
+
+pub returns-then-copies_at-clause-unchanged : goal.returns-then-copies_at-clause-unchanged
+returns-then-copies_at-clause-unchanged g c _ = refl
 
 pub returns-clause-vacant : goal.returns-clause-vacant
 returns-clause-vacant g c =
@@ -97,3 +158,21 @@ returns-clause-gives g c = since_book c.self.view_is (first_call _ _ (refl, c.ge
 
 pub returns-clause-came : goal.returns-clause-came
 returns-clause-came g c = since_book c.self.view_is (first_call _ _ c.get.ensures.made)
+
+pub returns-clause-kept : goal.returns-clause-kept
+returns-clause-kept g c _ = c.get.ensures.rest ∙ ap (λ (u : State). record (released u c.args.log) { word = (g.N.Near.view c.get.new.self).word }) (same g (goal.at.returns-clause-kept g c).After-copies_at)
+
+pub returns-clause-forgot : goal.returns-clause-forgot
+returns-clause-forgot g c _ = subst (λ (u : State). Forgets u (g.N.Near.view c.get.new.self)) (same g (goal.at.returns-clause-forgot g c).After-copies_at) (c.get.ensures.forgot refl)
+
+pub returns-clause-exact : goal.returns-clause-exact
+returns-clause-exact g c still _ = c.get.ensures.set still ∙ ap (λ (u : State). released u c.args.log) (same g (goal.at.returns-clause-exact g c).After-copies_at)
+
+pub returns-clause-order : goal.returns-clause-order
+returns-clause-order g c _ = c.give_back.ensures.order ∙ ap (λ (b : BookOf g.row.N.Denot g.row.D.Denot). order_without c.args.log b.order) c.self.view_is
+
+pub returns-clause-device : goal.returns-clause-device
+returns-clause-device g c = ap (λ (b : BookOf g.row.N.Denot g.row.D.Denot). b.device) c.self.view_is
+
+pub returns-clause-unchanged : goal.returns-clause-unchanged
+returns-clause-unchanged g c odd = absurd (true≢false odd)

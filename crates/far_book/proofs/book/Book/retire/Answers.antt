@@ -1,5 +1,5 @@
 use Rattle.far_book.proofs.book.Book.retire.Goals as goal
-use Rattle.std.proofs.Common.{◌≡◌, ◌∙◌, ◌<◌, ◌*◌, ap, rules, sym, subst, false, true}
+use Rattle.std.proofs.Common.{◌≡◌, ◌∙◌, ◌<◌, ◌*◌, ap, sym, subst, false, true}
 use Rattle.far_word.specs.declared.sizes.TheConstants.{CELLS}
 use Rattle.far_word.specs.Pointer.{read_of}
 use Rattle.far_core.specs.events.Naming.{is_dropped}
@@ -46,7 +46,7 @@ returns g c =
       kept = c.free_cell-was.ensures.kept ∙ ap (λ (s : State). record (retired s c.args.pointer) { word = freed.word }) same;
       forgot = subst (λ (s : State). Forgets s freed) same c.free_cell-was.ensures.forgot;
       exact = λ still. c.free_cell-was.ensures.exact still ∙ ap (λ (s : State). retired s c.args.pointer) same;
-      order = search rules;
+      order = c.retire.ensures.order ∙ ap (λ (b : BookOf g.row.N.Denot g.row.D.Denot). b.order) c.self.view_is;
       called = subst (λ (d : g.row.D.Denot). g.D.Device.lets_go d c.args.pointer c.forget.new.self) device c.forget.ensures.called;
       gone = c.forget.ensures.gone;
       follows = subst (λ (d : g.row.D.Denot). Follows g.D.Device.contents g.D.Device.honest g.D.Device.faults g.D.Device.fails_at_most (other_than c.args.pointer) false d c.forget.new.self) device

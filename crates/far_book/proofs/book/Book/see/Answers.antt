@@ -1,11 +1,12 @@
 use Rattle.far_book.proofs.book.Book.see.Goals as goal
-use Rattle.std.proofs.Common.{rules, sym, subst, arith}
+use Rattle.std.proofs.Common.{refl, sym, subst, arith}
+use Rattle.far_book.specs.book.BookOf.{BookOf}
+use Rattle.far_book.specs.book.HandedOn.{SeesCell}
 use Rattle.far_core.specs.state.State.{State}
 use Rattle.far_book.specs.book.FarSide.{InOrder}
 use Rattle.far_book.proofs.region.InOrders.{found_keeps}
 use Rattle.far_hand.proofs.Closure.{first_call}
 use Rattle.far_hand.proofs.Sight.{told_cell}
-use Rattle.far_book.proofs.region.Handed.{since_book}
 
 pub invariant_of-self : goal.invariant_of-self
 invariant_of-self g c = (
@@ -16,14 +17,17 @@ invariant_of-self g c = (
 )
 
 pub returns : goal.returns
-returns g c = record {
-  made = search rules;
-  came = since_book c.self.view_is (first_call _ _ c.see.ensures.made);
-  found = search rules;
-  kept = search rules;
-  exact = search rules;
-  set = search rules;
-  saw = told_cell (g.N.Near.may_be c.self.inside.near) (g.N.Near.may_be c.see.new.self) c.args.pointer c.see.result (g.met.N.Near.told c.self.inside.near c.see.new.self _ _ c.see.ensures.made);
-  order = search rules;
-  device = search rules;
-}
+returns g c =
+    let told = c.see.ensures in
+    let new : BookOf g.row.N.Denot g.row.D.Denot = record { near = c.see.new.self; device = c.self.inside.device; order = c.self.inside.ledger.order } in
+    subst (λ (b : BookOf g.row.N.Denot g.row.D.Denot). SeesCell g.N.Near.still g.N.Near.view g.N.Near.makes g.N.Near.may_be b new c.args.pointer c.see.result) c.self.view_is record {
+      made = told.made;
+      came = first_call _ _ told.made;
+      found = told.found;
+      kept = told.kept;
+      exact = told.exact;
+      set = told.set;
+      saw = told_cell (g.N.Near.may_be c.self.inside.near) (g.N.Near.may_be c.see.new.self) c.args.pointer c.see.result (g.met.N.Near.told c.self.inside.near c.see.new.self _ _ told.made);
+      order = refl;
+      device = refl;
+    }

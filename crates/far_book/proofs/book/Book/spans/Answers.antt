@@ -1,5 +1,5 @@
 use Rattle.far_book.proofs.book.Book.spans.Goals as goal
-use Rattle.std.proofs.Common.{◌≡◌, ◌<◌, ap, rules, sym, subst, ℕ, true}
+use Rattle.std.proofs.Common.{◌≡◌, ◌∙◌, ◌<◌, ap, sym, subst, ℕ, true}
 use Rattle.std.specs.Prelude.{slice_index, IfOk}
 use Rattle.far_log.specs.Walk.{IsWalk}
 use Rattle.far_core.specs.state.Spans.{spans_of}
@@ -44,11 +44,12 @@ returns g c = record {
       subst (λ n. IsWalk (λ i. slice_index c.read_words-words.result i) n (spans_of s c.args.log)) (sym tail)
       (row_walks s c.self.invariant.0.notes.law c.args.log (λ i. slice_index c.read_words-words.result i) (λ i lt. c.read_words-words.ensures.words i (subst (λ n. i < n) (sym tail) lt))) in
       subst (λ (t : State). IfOk c.listed.result (λ spans. spans.items ≡ spans_of t c.args.log)) same (c.listed.ensures.spans (spans_of s c.args.log) walk);
-  refused = search rules;
-  kept = search rules;
+  refused = c.listed.ensures.refused;
+  kept = c.read_words-words.ensures.kept
+      ∙ ap (λ (b : BookOf g.row.N.Denot g.row.D.Denot). record (g.N.Near.view b.near) { word = (g.N.Near.view c.read_words-words.new.near).word }) c.self.view_is;
   headers = subst (λ (s : State). (a : ℕ) → s.starts a ≡ true → (g.N.Near.view c.read_words-words.new.near).word a ≡ s.word a) (ap (λ (b : BookOf g.row.N.Denot g.row.D.Denot). g.N.Near.view b.near) c.self.view_is)
       c.read_words-words.ensures.headers;
-  exact = search rules;
-  order = search rules;
-  device = search rules;
+  exact = λ still. c.read_words-words.ensures.exact still ∙ ap (λ (b : BookOf g.row.N.Denot g.row.D.Denot). g.N.Near.view b.near) c.self.view_is;
+  order = ap (λ (b : BookOf g.row.N.Denot g.row.D.Denot). b.order) c.self.view_is;
+  device = ap (λ (b : BookOf g.row.N.Denot g.row.D.Denot). b.device) c.self.view_is;
 }

@@ -1,5 +1,5 @@
 use Rattle.far_book.proofs.book.renaming.rename.Goals as goal
-use Rattle.std.proofs.Common.{◌≡◌, ◌∙◌, arith, false, refl, rules, subst, sym}
+use Rattle.std.proofs.Common.{◌≡◌, ◌∙◌, arith, false, refl, subst, sym}
 use Rattle.far_word.specs.Pointer.{read_of}
 use Rattle.far_book.specs.book.Renaming.{stops}
 use Rattle.far_hand.specs.Finds.{Finds}
@@ -41,8 +41,8 @@ returns-then-stops g c = record {
   won_by = tt;
   won = c.in-Err.ensures.won;
   fits = c.stops.ensures.fits;
-  found = search rules;
-  stopped = search rules;
+  found = c.in-Err.ensures.found;
+  stopped = sym c.stops.ensures.value ∙ c.if-stops.true;
   kept = c.in-Err.ensures.kept;
   names = first_call _ _ ((c.args.found, refl), c.in-Err.ensures.lost);
 }

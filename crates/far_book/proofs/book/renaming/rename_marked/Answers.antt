@@ -1,9 +1,11 @@
-use Rattle.std.proofs.Common.{◌∙◌, sym, ℕ, ap, arith, refl, rules}
+use Rattle.std.proofs.Common.{◌≡◌, ◌∙◌, sym, subst, ℕ, ap, arith, false, refl}
 use Rattle.far_core.specs.declared.event.Event.TheVariants.{Name}
 use Rattle.far_core.specs.events.Step.{after}
 use Rattle.far_core.specs.state.State.{State, put}
 use Rattle.far_hand.proofs.Finding.{finds_more, some_found}
-use Rattle.far_book.specs.book.Renaming.{seen}
+use Rattle.far_book.specs.book.Renaming.{seen, stops}
+use Rattle.far_hand.specs.Finds.{Finds}
+use Rattle.far_hand.specs.Known.{Forgets, StoresLeaving}
 use Rattle.far_book.proofs.region.Calls.{put_put, count_more}
 use Rattle.far_word.specs.Pointer.{read_of}
 use Rattle.far_book.proofs.region.Renamings.{chain, same_seen, stops_too}
@@ -32,8 +34,16 @@ pub returns-in-Ok : goal.returns-in-Ok
 returns-in-Ok g c =
     let h = c.loop.invariant in
     let s = g.N.Near.view c.args.near.now in
+    let t = g.N.Near.view c.name.new.self in
     record {
-      done = search rules;
+      done = record {
+        word = c.loop.word;
+        found = h.found;
+        alive = subst (λ v. stops (read_of v) (read_of c.loop.word) ≡ false) c.requires.found h.alive;
+        leads = c.in-Ok.ensures.done ∙ ap (λ (u : State). record (after u (Name c.args.pointer c.loop.word c.args.new)) { word = t.word; stored = t.stored }) h.kept;
+        stored = subst (λ (u : State). StoresLeaving u t c.args.pointer c.loop.word c.args.new) h.kept c.in-Ok.ensures.stored;
+        forgot = subst (λ (u : State). Forgets u t) h.kept c.in-Ok.ensures.forgot;
+      };
       set = λ still. c.in-Ok.ensures.set still
           ∙ ap (λ (u : State). after u (Name c.args.pointer c.loop.word c.args.new)) h.kept
           ∙ ap (λ (w : ℕ). after (seen s c.args.pointer w) (Name c.args.pointer w c.args.new)) (h.same still)
@@ -41,7 +51,7 @@ returns-in-Ok g c =
       won_by = record {
         before = c.loop.near;
         word = c.loop.word;
-        found = search rules;
+        found = subst (λ v. Finds v c.loop.word) (sym c.requires.found) h.found;
         goes_on = h.alive;
         made = c.in-Ok.ensures.made;
       };
@@ -60,8 +70,9 @@ returns-then-stops g c = record {
   won_by = tt;
   won = c.in-Err.ensures.won;
   fits = c.stops.ensures.fits;
-  found = search rules;
+  found = finds_more c.args.found c.loop.word c.in-Err.more (subst (λ v. Finds v c.loop.word) (sym c.requires.found) c.loop.invariant.found) c.in-Err.ensures.found;
   stopped = stops_too (read_of c.args.found) (read_of c.loop.word) (read_of c.in-Err.more) c.loop.invariant.dirty (sym c.stops.ensures.value ∙ c.if-stops.true);
-  kept = search rules;
+  kept = c.in-Err.ensures.kept ∙ ap (λ (u : State). record u { cell = put u.cell c.args.pointer c.in-Err.more }) c.loop.invariant.kept
+      ∙ (λ i. record (g.N.Near.view c.args.near.now) { cell = put_put (g.N.Near.view c.args.near.now).cell c.args.pointer c.loop.word c.in-Err.more i });
   names = then_call _ _ c.loop.invariant.names ((c.loop.word, refl), c.in-Err.ensures.lost);
 }

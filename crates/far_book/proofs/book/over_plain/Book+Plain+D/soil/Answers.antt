@@ -1,7 +1,9 @@
 use Rattle.far_book.proofs.book.over_plain.Book+Plain+D.soil.Goals as goal
-use Rattle.std.proofs.Common.{refl, subst, sym}
+use Rattle.std.proofs.Common.{◌≡◌, ◌∙◌, ap, refl, subst, sym}
 use Rattle.far_core.specs.declared.event.Event.TheVariants.{Soil}
+use Rattle.far_core.specs.declared.event.Reply.TheVariants.{Word}
 use Rattle.far_core.specs.events.Legal.{Legal}
+use Rattle.far_core.specs.events.Step.{after, answer}
 use Rattle.far_core.specs.state.CoreState.{core_state}
 use Rattle.far_core.specs.state.State.{State}
 use Rattle.far_hand.specs.Others.{OthersChange}
@@ -29,3 +31,18 @@ returns-clause-changes g c =
     subst (λ (b : BookOf Plain g.row.D.Denot). Legal (core_state b.near.core) (Soil c.args.owner c.args.pointer)) (sym c.self.view_is) c.requires.legal in
     subst (λ (b : BookOf Plain g.row.D.Denot). OthersChange (core_state b.near.core) (core_state c.soil.new.self)) c.self.view_is
     (subst (λ (t : State). OthersChange (core_state core) t) (sym c.soil.ensures.state) (change (core_state core) (Soil c.args.owner c.args.pointer) core.law refl legal))
+
+pub soil-requires : goal.soil-requires
+soil-requires g c = record { legal = subst (λ (b : BookOf Plain g.row.D.Denot). Legal (core_state b.near.core) (Soil c.args.owner c.args.pointer)) (sym c.self.view_is) c.requires.legal }
+
+pub returns-clause-state : goal.returns-clause-state
+returns-clause-state g c = c.soil.ensures.state ∙ ap (λ (b : BookOf Plain g.row.D.Denot). after (core_state b.near.core) (Soil c.args.owner c.args.pointer)) c.self.view_is
+
+pub returns-clause-word : goal.returns-clause-word
+returns-clause-word g c = subst (λ (b : BookOf Plain g.row.D.Denot). answer (core_state b.near.core) (Soil c.args.owner c.args.pointer) ≡ Word c.soil.result) c.self.view_is c.soil.ensures.word
+
+pub returns-clause-order : goal.returns-clause-order
+returns-clause-order g c = ap (λ (b : BookOf Plain g.row.D.Denot). b.order) c.self.view_is
+
+pub returns-clause-device : goal.returns-clause-device
+returns-clause-device g c = ap (λ (b : BookOf Plain g.row.D.Denot). b.device) c.self.view_is
