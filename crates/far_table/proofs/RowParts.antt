@@ -1,5 +1,5 @@
 -- A row of whole words of an object that two calls load or store: the first so many words, and then all others.
-use Rattle.std.proofs.Common.{◌≡◌, ℕ, ◌+◌, ◌-◌, ◌*◌, ◌/◌, ◌%◌, ◌<◌, ◌≤◌, true, arith, sym, ap, subst, ◌∙◌, List, length, get_or, take, drop, Fits}
+use Rattle.std.proofs.Common.{◌≡◌, ℕ, ◌+◌, ◌-◌, ◌*◌, ◌/◌, ◌%◌, ◌<◌, ◌≤◌, true, arith, refl, sym, ap, subst, ◌∙◌, List, [], length, get_or, take, drop, Fits}
 use Rattle.std.specs.Prelude.{IsSome, slice_index}
 use Rattle.std.proofs.lemmas.List.{length-drop, length-take-le}
 use mir.Syntax.{w64}
@@ -43,6 +43,62 @@ module _ (list : List ℕ) (o : OwnerView) (p start first n : ℕ) (has : HasPla
   pub start_stays : (a : ℕ) → 0 < a → 8 * a ≤ n → start % (MOST_LOGS * LOG_WORDS) ≡ slice_index list (p % CELLS) + first
   start_stays a some le = let end = ends a le in omega (arith, is)
 
+  pub start_beyond : (a k : ℕ) → 8 * a ≤ n → k < 65536 → Fits w64 (start + a + k)
+  start_beyond a k le small = let end = ends a le in record { fits = omega arith }
+
+  pub bytes_fit : (a : ℕ) → 8 * a ≤ n → Fits w64 (8 * a)
+  bytes_fit a le = let end = ends a le in record { fits = omega arith }
+
+-- the same, where the address of the object's first data word is at hand
+module _ (list : List ℕ) (o : OwnerView) (p begin first n : ℕ) (has : HasPlaces o list) (held : IsSome (held_at o p)) (is : begin ≡ slice_index list (p % CELLS)) (inside : 8 * first + n ≤ len_of (object_at o p)) where
+  all_within : begin + first + n / 8 ≤ MOST_LOGS * LOG_WORDS
+  all_within = let within = places_within p list o has held in omega (arith, within)
+
+  pub begin_fits : Fits w64 (begin + first)
+  begin_fits = let end = all_within in record { fits = omega arith }
+
+  pub past_fits : (a : ℕ) → 8 * a ≤ n → Fits w64 (first + a)
+  past_fits a le = let end = all_within in record { fits = omega arith }
+
+  -- a block of thirty-two words
+  module _ (block : ℕ) (below : block < n / 256) where
+    pub block_words : Fits w64 (32 * block)
+    block_words = let end = all_within in record { fits = omega arith }
+
+    pub block_first : Fits w64 (first + 32 * block)
+    block_first = let end = all_within in record { fits = omega arith }
+
+    pub block_start : Fits w64 (begin + (first + 32 * block))
+    block_start = let end = all_within in record { fits = omega arith }
+
+    pub block_stays : (begin + (first + 32 * block)) % (MOST_LOGS * LOG_WORDS) ≡ slice_index list (p % CELLS) + (first + 32 * block)
+    block_stays = let end = all_within in omega (arith, is)
+
+    pub block_byte : Fits w64 (256 * block)
+    block_byte = let end = all_within in record { fits = omega arith }
+
+    pub block_end : Fits w64 (256 * block + 256)
+    block_end = let end = all_within in record { fits = omega arith }
+
+pub block_ends : (block n m : ℕ) → block < n / 256 → m ≡ n → 256 * block + 256 ≤ m
+block_ends block n m below same = omega arith
+
+pub block_begins : (block : ℕ) → 256 * block ≤ 256 * block + 256
+block_begins block = omega arith
+
+pub block_long : (block : ℕ) (xs : List ℕ) → 256 * block + 256 ≤ length xs → length (take (256 * block + 256 - 256 * block) (drop (256 * block) xs)) ≡ 256
+block_long block xs fits =
+    let k : ℕ = 256 * block + 256 - 256 * block in
+    let long = length-drop (256 * block) xs in
+    let few : k ≡ 256 = omega arith in
+    length-take-le k (drop (256 * block) xs) (omega arith) ∙ few
+
+pub block_inside : (block first : ℕ) (xs : List ℕ) (n : ℕ) → 256 * block + 256 ≤ length xs → length xs ≡ n → 8 * (first + 32 * block) + length (take (256 * block + 256 - 256 * block) (drop (256 * block) xs)) ≤ 8 * first + n
+block_inside block first xs n fits same = let long = block_long block xs fits in omega arith
+
+pub fewer : (n block : ℕ) → block < n → n - (block + 1) < n - block
+fewer n block below = omega arith
+
 -- ---- what a load or a store of so many bytes asks of a seat, but for the address
 pub record LoadsRow (id here : TableId) (v : View) (list : List ℕ) (p first n : ℕ) : Type 0 where
   pub table : (id ≡ here) × (id.words ≡ table_words (owner_of v).logs)
@@ -81,6 +137,19 @@ stores_on id later here v v' list p first next n m from bytes r same owner w par
       inside = omega arith;
     }
 
+-- nothing is stored yet
+pub wrote_none : (p from : ℕ) (o : OwnerView) → Wrote p from [] o o
+wrote_none p from o = record {
+  rest = refl;
+  others = λ q ne. refl;
+  there = refl;
+  len = refl;
+  ds = refl;
+  inside = λ h k lt. absurd (omega arith);
+  before = λ h k lt. refl;
+  after = λ h k le lt. refl;
+}
+
 -- ---- the bytes of a part
 pub head_long : (m : ℕ) (xs : List ℕ) → m ≤ length xs → length (take m xs) ≡ m
 head_long m xs fits = length-take-le m xs fits
@@ -100,12 +169,18 @@ left_words a m xs fits count whole = let long = left_long m xs in omega arith
 pub left_whole : (m : ℕ) (xs : List ℕ) → m ≤ length xs → m % 8 ≡ 0 → length xs % 8 ≡ 0 → length (take (length xs - m) (drop m xs)) % 8 ≡ 0
 left_whole m xs fits even whole = let long = left_long m xs in omega arith
 
+pub word_left : (i : ℕ) (xs : List ℕ) → 8 * i + 8 ≤ length xs → 8 ≤ length (take (length xs - 8 * i) (drop (8 * i) xs))
+word_left i xs fits = let long = left_long (8 * i) xs in omega arith
+
 pub left_blocks : (m : ℕ) (xs : List ℕ) → m ≡ length xs % 256 → length (take (length xs - m) (drop m xs)) % 256 ≡ 0
 left_blocks m xs over = let long = left_long m xs in omega arith
 
 -- the head of whole words, and where the others begin
 pub head_words : (m : ℕ) (xs : List ℕ) → m ≤ length xs → m % 8 ≡ 0 → m ≡ 8 * (length (take m xs) / 8)
 head_words m xs fits whole = let long = head_long m xs fits in omega arith
+
+pub head_whole : (m : ℕ) (xs : List ℕ) → m ≤ length xs → m % 8 ≡ 0 → length (take m xs) % 8 ≡ 0
+head_whole m xs fits whole = let long = head_long m xs fits in omega arith
 
 pub head_next : (first m : ℕ) (xs : List ℕ) → m ≤ length xs → first + m / 8 ≡ first + length (take m xs) / 8
 head_next first m xs fits = ap (λ k. first + k / 8) (sym (head_long m xs fits))
