@@ -11,11 +11,11 @@ use Rattle.far_table.proofs.seat_rows.store_blocks.Goals as goal
 
 pub loop-block-init : goal.loop-block-init
 loop-block-init g c = record {
-      table = refl;
-      owner = c.requires.owner;
-      wrote = wrote_none c.args.p (8 * c.args.first) (owner_of c.args.seat.now.me.0);
-      events = stored_none c.args.p c.args.first (packed_word c.args.bytes.now) (owner_of c.args.seat.now.me.0);
-    }
+  table = refl;
+  owner = c.requires.owner;
+  wrote = wrote_none c.args.p (8 * c.args.first) (owner_of c.args.seat.now.me.0);
+  events = stored_none c.args.p c.args.first (packed_word c.args.bytes.now) (owner_of c.args.seat.now.me.0);
+}
 
 pub overflow_mul-start : goal.overflow_mul-start
 overflow_mul-start g c = block_words c.args.places.now.items (owner_of c.args.seat.now.me.0) c.args.p c.args.begin c.args.first (length c.args.bytes.now) c.requires.places c.requires.held c.requires.begin c.requires.inside c.loop-block.block c.loop-block-test.true

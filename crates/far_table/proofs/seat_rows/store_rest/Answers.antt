@@ -10,16 +10,16 @@ use Rattle.far_table.proofs.seat_rows.store_rest.Goals as goal
 
 pub store_some-requires : goal.store_some-requires
 store_some-requires g c = record {
-      table = c.requires.table;
-      owner = c.requires.owner;
-      places = c.requires.places;
-      start = c.requires.start;
-      held = c.requires.held;
-      soiled = c.requires.soiled;
-      short = c.requires.short;
-      inside = c.requires.inside;
-      count = omega (arith, c.requires.whole);
-    }
+  table = c.requires.table;
+  owner = c.requires.owner;
+  places = c.requires.places;
+  start = c.requires.start;
+  held = c.requires.held;
+  soiled = c.requires.soiled;
+  short = c.requires.short;
+  inside = c.requires.inside;
+  count = omega (arith, c.requires.whole);
+}
 
 pub returns-then-count-lt4-clause-table : goal.returns-then-count-lt4-clause-table
 returns-then-count-lt4-clause-table g c = c.store_some.ensures.table

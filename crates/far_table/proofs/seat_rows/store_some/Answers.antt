@@ -20,11 +20,11 @@ use Rattle.far_table.proofs.seat_rows.store_some.Goals as goal
 
 pub loop-i-init : goal.loop-i-init
 loop-i-init g c = record {
-      table = refl;
-      owner = c.requires.owner;
-      wrote = wrote_none c.args.p (8 * c.args.first) (owner_of c.args.seat.now.me.0);
-      events = stored_none c.args.p c.args.first (packed_word c.args.bytes.now) (owner_of c.args.seat.now.me.0);
-    }
+  table = refl;
+  owner = c.requires.owner;
+  wrote = wrote_none c.args.p (8 * c.args.first) (owner_of c.args.seat.now.me.0);
+  events = stored_none c.args.p c.args.first (packed_word c.args.bytes.now) (owner_of c.args.seat.now.me.0);
+}
 
 pub overflow_add-at : goal.overflow_add-at
 overflow_add-at g c = start_fits c.args.places.now.items (owner_of c.args.seat.now.me.0) c.args.p c.args.start c.args.first (length c.args.bytes.now) c.requires.places c.requires.held c.requires.start c.requires.inside c.loop-i.i (omega (arith, c.requires.count, c.loop-i-test.true))

@@ -10,16 +10,16 @@ use Rattle.far_table.proofs.seat_rows.store_to_fifteen.Goals as goal
 
 pub store_rest-requires : goal.store_rest-requires
 store_rest-requires g c = record {
-      table = c.requires.table;
-      owner = c.requires.owner;
-      places = c.requires.places;
-      start = c.requires.start;
-      held = c.requires.held;
-      soiled = c.requires.soiled;
-      short = c.requires.short;
-      inside = c.requires.inside;
-      whole = c.requires.whole;
-    }
+  table = c.requires.table;
+  owner = c.requires.owner;
+  places = c.requires.places;
+  start = c.requires.start;
+  held = c.requires.held;
+  soiled = c.requires.soiled;
+  short = c.requires.short;
+  inside = c.requires.inside;
+  whole = c.requires.whole;
+}
 
 pub returns-then-count-lt8-clause-table : goal.returns-then-count-lt8-clause-table
 returns-then-count-lt8-clause-table g c = c.store_rest.ensures.table

@@ -10,16 +10,16 @@ use Rattle.far_table.proofs.seat_rows.store_to_thirty_one.Goals as goal
 
 pub store_to_fifteen-requires : goal.store_to_fifteen-requires
 store_to_fifteen-requires g c = record {
-      table = c.requires.table;
-      owner = c.requires.owner;
-      places = c.requires.places;
-      start = c.requires.start;
-      held = c.requires.held;
-      soiled = c.requires.soiled;
-      short = c.requires.short;
-      inside = c.requires.inside;
-      whole = c.requires.whole;
-    }
+  table = c.requires.table;
+  owner = c.requires.owner;
+  places = c.requires.places;
+  start = c.requires.start;
+  held = c.requires.held;
+  soiled = c.requires.soiled;
+  short = c.requires.short;
+  inside = c.requires.inside;
+  whole = c.requires.whole;
+}
 
 pub returns-then-count-lt16-clause-table : goal.returns-then-count-lt16-clause-table
 returns-then-count-lt16-clause-table g c = c.store_to_fifteen.ensures.table
