@@ -45,3 +45,4 @@ pub mod WholeLogs
 pub mod WholeWords
 pub mod RowEvents
 pub mod RowParts
+pub mod RowSteps
